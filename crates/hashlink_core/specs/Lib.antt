@@ -1,0 +1,4 @@
+-- What the contracts of the keyed list cite.
+pub mod Hashing
+pub mod Keyed
+pub mod Walk

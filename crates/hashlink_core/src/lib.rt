@@ -1,0 +1,13 @@
+//! A keyed list: a ring of nodes whose keys are pairwise unequal, and the default hashers.
+#![tactic(auto)]
+
+mod find;
+mod hash_builder;
+mod hasher;
+mod iter;
+mod keyed_list;
+
+pub use hash_builder::DefaultHashBuilder;
+pub use hasher::DefaultHasher;
+pub use iter::Iter;
+pub use keyed_list::KeyedList;

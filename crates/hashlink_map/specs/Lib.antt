@@ -1,0 +1,1 @@
+-- The map's contracts cite `hashlink_model` alone.

@@ -1,0 +1,19 @@
+-- Lemmas on the definitions, which the crates above cite too.
+pub mod Splits
+pub mod Distinct
+pub mod Finds
+pub mod Puts
+pub mod Afterwards
+pub mod Places
+pub mod Cursors
+pub mod Walks
+pub mod Occupied
+pub mod Members
+pub mod Comparisons
+pub mod Retains
+pub mod LazyWalks
+pub mod Caches
+pub mod Weighted
+pub mod Extends
+pub mod NodeCounts
+pub mod SetViews

@@ -1,0 +1,21 @@
+-- A set seen as a map, and a map with nothing as value seen as a set.
+use Rattle.std.proofs.Common.{◌≡◌, ℕ, Bool, List, [], ◌∷◌, refl, sym, ap}
+use Rattle.std.specs.Map.{keys_of}
+use Rattle.hashlink_model.specs.Entries.{put}
+use Rattle.hashlink_model.specs.MapState.{MapState, map_state}
+use Rattle.hashlink_model.specs.Sets.{pairs_of, put_element, as_map, set_of}
+
+module _ {T : Type 0} where
+  pub pairs_of-keys_of : (es : List (T × Unit {0})) → pairs_of (keys_of es) ≡ es
+  pairs_of-keys_of [] = refl
+  pairs_of-keys_of (e ∷ es) = ap (λ r. e ∷ r) (pairs_of-keys_of es)
+
+  pub keys_of-pairs_of : (ts : List T) → keys_of (pairs_of ts) ≡ ts
+  keys_of-pairs_of [] = refl
+  keys_of-pairs_of (t ∷ ts) = ap (λ r. t ∷ r) (keys_of-pairs_of ts)
+
+  pub keys_of-put : (eq : T → T → Bool) (es : List (T × Unit {0})) (t : T) (b : ℕ) → keys_of (put eq es t tt b) ≡ put_element eq (keys_of es) t b
+  keys_of-put eq es t b = ap (λ zs. keys_of (put eq zs t tt b)) (sym (pairs_of-keys_of es))
+
+pub as_map-set_of : {T S : Type 0} (m : MapState T (Unit {0}) S) → as_map (set_of m) ≡ m
+as_map-set_of m = ap (λ es. map_state es m.spare m.room m.hasher) (pairs_of-keys_of m.entries)

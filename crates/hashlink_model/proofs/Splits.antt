@@ -1,0 +1,108 @@
+-- A list of entries at the first key that passes a test: `xs ++ e ∷ ys`, where e passes and none of xs does; or no key passes.
+use Rattle.std.proofs.Common.{◌≡◌, ℕ, Bool, true, false, List, [], ◌∷◌, ◌++◌, length, None, Some, ◌⊎◌, inl, inr, refl, sym, ap, ◌∙◌, add-one}
+use Rattle.std.specs.Map.{lookup, lookup_entry, lookup_key, remove_entry, set_value, set_key}
+use Rattle.std.proofs.lemmas.Map.{NonePasses, none_passes_from_lookup}
+use Rattle.std.proofs.lemmas.Option.{none-some, same_Some}
+use Rattle.hashlink_model.specs.Entries.{place_of}
+
+module _ {K V : Type 0} (test : K → Bool) where
+  -- e is the first entry of es whose key passes, xs stands before it and ys after it
+  pub record StandsAt (es xs : List (K × V)) (e : K × V) (ys : List (K × V)) : Type 0 where
+    pub is : es ≡ xs ++ e ∷ ys
+    pub passes : test e.0 ≡ true
+    pub before : NonePasses test xs
+
+  -- some key passes
+  abbrev pub Stands : List (K × V) → Type 0
+  Stands es = (xs : List (K × V)) × (e : K × V) × (ys : List (K × V)) × StandsAt es xs e ys
+
+  stands_later : (x : K × V) (es : List (K × V)) → test x.0 ≡ false → Stands es → Stands (x ∷ es)
+  stands_later x es f s = (x ∷ s.0, s.1, s.2, record { is = ap (λ r. x ∷ r) s.3.is; passes = s.3.passes; before = (f, s.3.before) })
+
+  either_by : (x : K × V) (es : List (K × V)) (b : Bool) → test x.0 ≡ b → NonePasses test es ⊎ Stands es → NonePasses test (x ∷ es) ⊎ Stands (x ∷ es)
+  either_by x es true t s = inr ([], x, es, record { is = refl; passes = t; before = tt })
+  either_by x es false t (inl n) = inl (t, n)
+  either_by x es false t (inr s) = inr (stands_later x es t s)
+
+  -- no key passes, or the list is taken apart at the first that does
+  pub splits : (es : List (K × V)) → NonePasses test es ⊎ Stands es
+  splits [] = inl tt
+  splits (x ∷ es) = either_by x es (test x.0) refl (splits es)
+
+  -- ---- where no key passes
+
+  pub place_of-none : (es : List (K × V)) → NonePasses test es → place_of test es ≡ None
+  place_of-none [] n = refl
+  place_of-none (x ∷ es) n = rw (n.0, place_of-none es n.1) refl
+
+  pub lookup_entry-none : (es : List (K × V)) → NonePasses test es → lookup_entry test es ≡ None
+  lookup_entry-none [] n = refl
+  lookup_entry-none (x ∷ es) n = rw n.0 (lookup_entry-none es n.1)
+
+  pub lookup_key-none : (es : List (K × V)) → NonePasses test es → lookup_key test es ≡ None
+  lookup_key-none [] n = refl
+  lookup_key-none (x ∷ es) n = rw n.0 (lookup_key-none es n.1)
+
+  pub lookup-none : (es : List (K × V)) → NonePasses test es → lookup test es ≡ None
+  lookup-none [] n = refl
+  lookup-none (x ∷ es) n = rw n.0 (lookup-none es n.1)
+
+  pub remove_entry-none : (es : List (K × V)) → NonePasses test es → remove_entry test es ≡ es
+  remove_entry-none [] n = refl
+  remove_entry-none (x ∷ es) n = rw n.0 (ap (λ r. x ∷ r) (remove_entry-none es n.1))
+
+  pub set_value-none : (es : List (K × V)) (v : V) → NonePasses test es → set_value test es v ≡ es
+  set_value-none [] v n = refl
+  set_value-none (x ∷ es) v n = rw n.0 (ap (λ r. x ∷ r) (set_value-none es v n.1))
+
+  -- ---- where e is the first entry whose key passes
+
+  module _ (e : K × V) (ys : List (K × V)) (t : test e.0 ≡ true) where
+    pub place_of-here : (xs : List (K × V)) → NonePasses test xs → place_of test (xs ++ e ∷ ys) ≡ Some (length xs)
+    place_of-here [] n = rw t refl
+    place_of-here (x ∷ xs) n = rw (n.0, place_of-here xs n.1) (ap Some (add-one (length xs)))
+
+    pub lookup_entry-here : (xs : List (K × V)) → NonePasses test xs → lookup_entry test (xs ++ e ∷ ys) ≡ Some e
+    lookup_entry-here [] n = rw t refl
+    lookup_entry-here (x ∷ xs) n = rw n.0 (lookup_entry-here xs n.1)
+
+    pub lookup_key-here : (xs : List (K × V)) → NonePasses test xs → lookup_key test (xs ++ e ∷ ys) ≡ Some e.0
+    lookup_key-here [] n = rw t refl
+    lookup_key-here (x ∷ xs) n = rw n.0 (lookup_key-here xs n.1)
+
+    pub lookup-here : (xs : List (K × V)) → NonePasses test xs → lookup test (xs ++ e ∷ ys) ≡ Some e.1
+    lookup-here [] n = rw t refl
+    lookup-here (x ∷ xs) n = rw n.0 (lookup-here xs n.1)
+
+    pub remove_entry-here : (xs : List (K × V)) → NonePasses test xs → remove_entry test (xs ++ e ∷ ys) ≡ xs ++ ys
+    remove_entry-here [] n = rw t refl
+    remove_entry-here (x ∷ xs) n = rw n.0 (ap (λ r. x ∷ r) (remove_entry-here xs n.1))
+
+    pub set_value-here : (v : V) (xs : List (K × V)) → NonePasses test xs → set_value test (xs ++ e ∷ ys) v ≡ xs ++ (e.0, v) ∷ ys
+    set_value-here v [] n = rw t refl
+    set_value-here v (x ∷ xs) n = rw n.0 (ap (λ r. x ∷ r) (set_value-here v xs n.1))
+
+    pub set_key-here : (k : K) (xs : List (K × V)) → NonePasses test xs → set_key test (xs ++ e ∷ ys) k ≡ xs ++ (k, e.1) ∷ ys
+    set_key-here k [] n = rw t refl
+    set_key-here k (x ∷ xs) n = rw n.0 (ap (λ r. x ∷ r) (set_key-here k xs n.1))
+
+  -- ---- from what a look-up found
+
+  pub none_from_lookup : (es : List (K × V)) → lookup test es ≡ None → NonePasses test es
+  none_from_lookup es l = none_passes_from_lookup test es l
+
+  found_by : (es : List (K × V)) (w : V) → lookup test es ≡ Some w → NonePasses test es ⊎ Stands es → Stands es
+  found_by es w l (inl n) = absurd (none-some w (sym (lookup-none es n) ∙ l))
+  found_by es w l (inr s) = s
+
+  pub stands_from_lookup : (es : List (K × V)) (w : V) → lookup test es ≡ Some w → Stands es
+  stands_from_lookup es w l = found_by es w l (splits es)
+
+  placed_by : (es : List (K × V)) (j : ℕ) → place_of test es ≡ Some j → NonePasses test es ⊎ Stands es → (xs : List (K × V)) × (e : K × V) × (ys : List (K × V)) × StandsAt es xs e ys × (length xs ≡ j)
+  placed_by es j p (inl n) = absurd (none-some j (sym (place_of-none es n) ∙ p))
+  placed_by es j p (inr s) =
+      let here = place_of-here s.1 s.2 s.3.passes s.0 s.3.before in
+      (s.0, s.1, s.2, s.3, same_Some (length s.0) j (sym here ∙ (ap (place_of test) (sym s.3.is) ∙ p)))
+
+  pub stands_from_place : (es : List (K × V)) (j : ℕ) → place_of test es ≡ Some j → (xs : List (K × V)) × (e : K × V) × (ys : List (K × V)) × StandsAt es xs e ys × (length xs ≡ j)
+  stands_from_place es j p = placed_by es j p (splits es)

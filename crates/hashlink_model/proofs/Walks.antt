@@ -1,0 +1,97 @@
+-- What a walk from both ends gives and leaves.
+use Rattle.std.proofs.Common.{◌≡◌, ℕ, zero, suc, ◌+◌, ◌-◌, ◌≤◌, ◌<◌, Bool, true, false, cond, List, [], ◌∷◌, ◌++◌, length, take, drop, slice_get, Option, None, Some, option_to_list, refl, sym, ap, ap₂, ◌∙◌, ◌⊎◌, inl, inr, subst, arith, append_assoc}
+use Rattle.std.specs.List.{cons_option}
+use Rattle.std.specs.Map.{lookup, lookup_entry, lookup_key, set_value, keys_of}
+use Rattle.std.specs.Map.Iter.{TakesFirst, TakesLast}
+use Rattle.std.proofs.lemmas.List.{append-nil, length-append, length-take, length-drop, nil_from_length}
+use Rattle.hashlink_model.specs.Entries.{place_of}
+use Rattle.hashlink_model.specs.Walk.{End, Front, Back, first_of, after_first_of, last_of, before_last_of, step_gives, step_leaves, walk_gives, walk_leaves, given_front, given_back, with_value_at}
+use Rattle.hashlink_model.proofs.Splits.{stands_from_place, set_value-here}
+
+module _ {X : Type 0} where
+  pub takes_first : (xs : List X) → TakesFirst (λ x. x) xs (first_of xs) (after_first_of xs)
+  takes_first [] = (refl, refl)
+  takes_first (x ∷ xs) = refl
+
+  pub first_splits : (xs : List X) → cons_option (first_of xs) (after_first_of xs) ≡ xs
+  first_splits [] = refl
+  first_splits (x ∷ xs) = refl
+
+  last_step : (x y : X) (xs : List X) → length (x ∷ y ∷ xs) - 1 ≡ suc (length (y ∷ xs) - 1)
+  last_step x y xs = omega arith
+
+  pub last_splits : (xs : List X) → before_last_of xs ++ option_to_list (last_of xs) ≡ xs
+  last_splits [] = refl
+  last_splits (x ∷ []) = refl
+  last_splits (x ∷ y ∷ xs) = rw (last_step x y xs) (ap (λ r. x ∷ r) (last_splits (y ∷ xs)))
+
+  last_none : (xs : List X) → before_last_of xs ++ [] ≡ xs → xs ≡ []
+  last_none xs s =
+      let a = ap length s in
+      let b = length-append (before_last_of xs) [] in
+      let c = length-take (length xs - 1) xs in
+      nil_from_length xs (omega arith)
+
+  last_by : (xs : List X) (o : Option X) → before_last_of xs ++ option_to_list o ≡ xs → TakesLast (λ x. x) xs o (before_last_of xs)
+  last_by xs None s = (last_none xs s, ap before_last_of (last_none xs s))
+  last_by xs (Some x) s = sym s
+
+  pub takes_last : (xs : List X) → TakesLast (λ x. x) xs (last_of xs) (before_last_of xs)
+  takes_last xs = last_by xs (last_of xs) (last_splits xs)
+
+  -- ---- runs of steps
+
+  cons_append : (o : Option X) (xs ys : List X) → cons_option o xs ++ ys ≡ cons_option o (xs ++ ys)
+  cons_append None xs ys = refl
+  cons_append (Some x) xs ys = refl
+
+  -- what was given from either end and what is left are the list: each entry comes once
+  pub walk_splits : (ss : List End) (xs : List X) → given_front ss xs ++ (walk_leaves ss xs ++ given_back ss xs) ≡ xs
+  walk_splits [] xs = append-nil xs
+  walk_splits (Front ∷ ss) xs =
+      cons_append (first_of xs) (given_front ss (after_first_of xs)) _ ∙ ap (cons_option (first_of xs)) (walk_splits ss (after_first_of xs)) ∙ first_splits xs
+  walk_splits (Back ∷ ss) xs =
+      ap (λ r. given_front ss (before_last_of xs) ++ r) (sym (append_assoc (walk_leaves ss (before_last_of xs)) (given_back ss (before_last_of xs)) (option_to_list (last_of xs))))
+      ∙ sym (append_assoc (given_front ss (before_last_of xs)) _ (option_to_list (last_of xs)))
+      ∙ ap (λ r. r ++ option_to_list (last_of xs)) (walk_splits ss (before_last_of xs))
+      ∙ last_splits xs
+
+  length_step : (s : End) (xs : List X) → length (step_leaves s xs) ≡ length xs - 1
+  length_step Front xs = length-drop 1 xs
+  length_step Back xs = let c = length-take (length xs - 1) xs in omega arith
+
+  -- the size hint is what is left: each step takes one off, and none where nothing is left
+  pub length-walk_leaves : (ss : List End) (xs : List X) → length (walk_leaves ss xs) ≡ length xs - length ss
+  length-walk_leaves [] xs = omega arith
+  length-walk_leaves (s ∷ ss) xs =
+      let a = length-walk_leaves ss (step_leaves s xs) in
+      let b = length_step s xs in
+      let c : length (s ∷ ss) ≡ suc (length ss) = refl in
+      omega arith
+
+  -- of an empty part both ends give None for good
+  pub empty_gives : (s : End) → step_gives {X = X} s [] ≡ None
+  empty_gives Front = refl
+  empty_gives Back = refl
+
+  pub empty_leaves : (s : End) → step_leaves {X = X} s [] ≡ []
+  empty_leaves Front = refl
+  empty_leaves Back = refl
+
+module _ {K V : Type 0} where
+  -- ---- a value that is written at a place
+
+  pub with_value_at-here : (xs : List (K × V)) (e : K × V) (ys : List (K × V)) (w : V) → with_value_at (xs ++ e ∷ ys) (length xs) w ≡ xs ++ (e.0, w) ∷ ys
+  with_value_at-here [] e ys w = refl
+  with_value_at-here (x ∷ xs) e ys w = ap (λ r. x ∷ r) (with_value_at-here xs e ys w)
+
+  pub with_value_at-place : (test : K → Bool) (es : List (K × V)) (j : ℕ) (w : V) → place_of test es ≡ Some j → with_value_at es j w ≡ set_value test es w
+  with_value_at-place test es j w p =
+      let s = stands_from_place test es j p in
+      ap (λ zs. with_value_at zs j w) s.3.is ∙ ap (λ n. with_value_at (s.0 ++ s.1 ∷ s.2) n w) (sym s.4) ∙ with_value_at-here s.0 s.1 s.2 w
+      ∙ sym (set_value-here test s.1 s.2 s.3.passes w s.0 s.3.before) ∙ ap (λ zs. set_value test zs w) (sym s.3.is)
+
+  pub keys-with_value_at : (es : List (K × V)) (j : ℕ) (w : V) → keys_of (with_value_at es j w) ≡ keys_of es
+  keys-with_value_at [] j w = refl
+  keys-with_value_at (e ∷ es) zero w = refl
+  keys-with_value_at (e ∷ es) (suc j) w = ap (λ r. e.0 ∷ r) (keys-with_value_at es j w)

@@ -1,0 +1,41 @@
+-- The longest end of the entries that a budget allows.
+use Rattle.std.proofs.Common.{◌≡◌, ℕ, suc, ◌+◌, ◌-◌, ◌≤◌, ◌<◌, Bool, true, false, cond, List, [], ◌∷◌, ◌++◌, length, drop, nat_le, sum_by, refl, sym, ap, ap₂, ◌∙◌, ◌⊎◌, inl, inr, subst, arith, le_refl, leb-true, leb-false, zero-le, le-leb}
+use Rattle.std.proofs.lemmas.List.{length-append}
+use Rattle.std.proofs.lemmas.List.Sums.{sum_by-append}
+use Rattle.hashlink_model.specs.Weights.{total_weight, fitting}
+
+module _ {K V : Type 0} where
+  -- it fits
+  fits_by : (e : K × (V × ℕ)) (es : List (K × (V × ℕ))) (budget : ℕ) (b : Bool) → nat_le (total_weight (e ∷ es)) budget ≡ b → total_weight (fitting es budget) ≤ budget → total_weight (cond b (e ∷ es) (fitting es budget)) ≤ budget
+  fits_by e es budget true t h = leb-true _ _ t
+  fits_by e es budget false t h = h
+
+  pub fitting-fits : (es : List (K × (V × ℕ))) (budget : ℕ) → total_weight (fitting es budget) ≤ budget
+  fitting-fits [] budget = zero-le
+  fitting-fits (e ∷ es) budget = fits_by e es budget (nat_le (total_weight (e ∷ es)) budget) refl (fitting-fits es budget)
+
+  -- it is an end
+  end_by : (e : K × (V × ℕ)) (es : List (K × (V × ℕ))) (budget : ℕ) (b : Bool) → (xs : List (K × (V × ℕ))) × (es ≡ xs ++ fitting es budget) → (xs : List (K × (V × ℕ))) × (e ∷ es ≡ xs ++ cond b (e ∷ es) (fitting es budget))
+  end_by e es budget true s = ([], refl)
+  end_by e es budget false s = (e ∷ s.0, ap (λ r. e ∷ r) s.1)
+
+  pub fitting-end : (es : List (K × (V × ℕ))) (budget : ℕ) → (xs : List (K × (V × ℕ))) × (es ≡ xs ++ fitting es budget)
+  fitting-end [] budget = ([], refl)
+  fitting-end (e ∷ es) budget = end_by e es budget (nat_le (total_weight (e ∷ es)) budget) (fitting-end es budget)
+
+  -- ---- no longer end fits
+
+  end_fits : (xs ys : List (K × (V × ℕ))) (budget : ℕ) → total_weight (xs ++ ys) ≤ budget → total_weight ys ≤ budget
+  end_fits xs ys budget h = let a = sum_by-append (λ e. e.1.1) xs ys in omega arith
+
+  pub fitting-whole : (es : List (K × (V × ℕ))) (budget : ℕ) → total_weight es ≤ budget → fitting es budget ≡ es
+  fitting-whole [] budget h = refl
+  fitting-whole (e ∷ es) budget h = rw (le-leb (total_weight (e ∷ es)) budget h) refl
+
+  longest_by : (x : K × (V × ℕ)) (xs ys : List (K × (V × ℕ))) (budget : ℕ) (b : Bool) → length ys ≤ length (fitting (xs ++ ys) budget) → length ys ≤ length (cond b (x ∷ (xs ++ ys)) (fitting (xs ++ ys) budget))
+  longest_by x xs ys budget true h = let a = length-append xs ys in omega arith
+  longest_by x xs ys budget false h = h
+
+  pub fitting-longest : (xs ys : List (K × (V × ℕ))) (budget : ℕ) → total_weight ys ≤ budget → length ys ≤ length (fitting (xs ++ ys) budget)
+  fitting-longest [] ys budget h = rw (fitting-whole ys budget h) (le_refl (length ys))
+  fitting-longest (x ∷ xs) ys budget h = longest_by x xs ys budget (nat_le (total_weight (x ∷ (xs ++ ys))) budget) (fitting-longest xs ys budget h)

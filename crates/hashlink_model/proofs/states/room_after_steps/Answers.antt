@@ -1,0 +1,13 @@
+use Rattle.hashlink_model.proofs.NodeCounts.{HasRoom-puts, HasRoom-removes, HasRoom-keeps, HasRoom-reserves, HasRoom-shrinks}
+use Rattle.std.proofs.Common.{rules}
+use Rattle.hashlink_model.proofs.states.room_after_steps.Goals as goal
+
+pub returns : goal.returns
+returns g c = record {
+  empty = λ s. search rules;
+  puts = HasRoom-puts;
+  removes = HasRoom-removes;
+  keeps = HasRoom-keeps;
+  reserves = λ old new n r. HasRoom-reserves old new n r;
+  shrinks = λ old new r. HasRoom-shrinks old new r;
+}

@@ -1,0 +1,45 @@
+-- The entries of a map: a list of pairs, front first, whose keys are pairwise unequal.
+-- The equality `eq` of the keys is any equivalence: equal keys may be different objects, so it matters which one the list keeps.
+use Rattle.std.specs.Prelude.{ℕ, ◌-◌, ◌+◌, Bool, List, [], ◌∷◌, length, Option, None, Some, cond, if◌then◌else◌, nat_lt, unwrap_or, insert, fold}
+use Rattle.std.specs.List.{IsDistinct}
+use Rattle.std.specs.Option.{option_map, option_map_or}
+use Rattle.std.specs.Map.{keys_of, lookup, lookup_key, remove_entry}
+
+module _ {K V : Type 0} where
+  -- the place, counted from 0, of the first entry whose key passes the test
+  abbrev pub place_of : (K → Bool) → List (K × V) → Option ℕ
+  place_of test [] = None
+  place_of test (e ∷ es) = cond (test e.0) (Some 0) (option_map (λ j. j + 1) (place_of test es))
+
+  module _ (eq : K → K → Bool) where
+    -- no two keys are equal
+    abbrev pub IsEntries : List (K × V) → Type 0
+    IsEntries es = IsDistinct eq (keys_of es)
+
+    -- the entries without the key
+    abbrev pub without : List (K × V) → K → List (K × V)
+    without es k = remove_entry (eq k) es
+
+    -- the key object that the list holds for the key: its own where the key is there, else the given one
+    abbrev pub stored_key : List (K × V) → K → K
+    stored_key es k = unwrap_or (lookup_key (eq k) es) k
+
+    -- where the place b is once the key is taken out: one place nearer to the front where the key stands before it
+    abbrev pub place_without : List (K × V) → K → ℕ → ℕ
+    place_without es k b = option_map_or (λ j. if nat_lt j b then b - 1 else b) (place_of (eq k) es) b
+
+    -- the entries after the key is put at the place b with the value: a key that is there moves to b and keeps its key object
+    abbrev pub put : List (K × V) → K → V → ℕ → List (K × V)
+    put es k v b = insert (without es k) (place_without es k b) (stored_key es k, v)
+
+    -- the place of the key, or the length where it is absent
+    abbrev pub place_or_end : List (K × V) → K → ℕ
+    place_or_end es k = unwrap_or (place_of (eq k) es) (length es)
+
+    -- the entries after the key is moved to the place b with the value that stands; of an absent key nothing
+    abbrev pub moved : List (K × V) → K → ℕ → List (K × V)
+    moved es k b = option_map_or (λ v. put es k v b) (lookup (eq k) es) es
+
+    -- the entries after each pair is inserted at the end in turn
+    abbrev pub extended : List (K × V) → List (K × V) → List (K × V)
+    extended es pairs = fold (λ zs p. put zs p.0 p.1 (length zs)) es pairs

@@ -1,0 +1,45 @@
+-- Histories: the keys that were used, in order, and what any rule of replacement can make of them.
+use Rattle.std.specs.Prelude.{◌≡◌, ℕ, ◌+◌, ◌≤◌, max, Bool, true, ◌||◌, cond, List, [], ◌∷◌, length}
+use Rattle.std.specs.List.{AllByRecursion, after_last}
+use Rattle.std.specs.Set.{is_member, distinct_count}
+
+module _ {K : Type 0} (eq : K → K → Bool) where
+  -- how many other keys were used since the last use of k, those that are equal counted once
+  abbrev pub reuse_distance : List K → K → ℕ
+  reuse_distance used k = distinct_count eq (after_last (eq k) used)
+
+  -- what a schedule of h places may hold after k was used, where it held `before`: k, else only keys that it held, and at most h
+  pub record MayHold (h : ℕ) (before : List K) (k : K) (after : List K) : Type 0 where
+    pub size : length after ≤ h
+    pub holds : is_member eq after k ≡ true
+    pub others : AllByRecursion (λ q. (eq k q || is_member eq before q) ≡ true) after
+
+  -- what is held after each key of a history, from `before` on
+  abbrev pub IsSchedule : ℕ → List K → List K → List (List K) → Type 0
+  IsSchedule h before [] [] = Unit {0}
+  IsSchedule h before [] (s ∷ ss) = ⊥
+  IsSchedule h before (k ∷ used) [] = ⊥
+  IsSchedule h before (k ∷ used) (s ∷ ss) = MayHold h before k s × IsSchedule h s used ss
+
+  -- a schedule that begins with nothing
+  abbrev pub Schedule : ℕ → List K → List (List K) → Type 0
+  Schedule h used held = IsSchedule h [] used held
+
+  -- how many keys of the history were not held when they came
+  abbrev pub misses_from : List K → List K → List (List K) → ℕ
+  misses_from before [] held = 0
+  misses_from before (k ∷ used) [] = 0
+  misses_from before (k ∷ used) (s ∷ ss) = cond (is_member eq before k) 0 1 + misses_from s used ss
+
+  abbrev pub misses : List K → List (List K) → ℕ
+  misses used held = misses_from [] used held
+
+-- what a run passes: a length, or a shrink at a length
+pub data Passed : Type 0 where
+  Length Shrunk : ℕ → Passed
+
+-- how many nodes a run needs at most, from n on: the greatest length that it passed, and a shrink starts it anew
+abbrev pub peak : ℕ → List Passed → ℕ
+peak n [] = n
+peak n (Length m ∷ ps) = peak (max n m) ps
+peak n (Shrunk m ∷ ps) = peak m ps

@@ -1,0 +1,17 @@
+-- What every contract of the containers cites: lists of entries, and the steps that a map may take.
+pub mod Algebra
+pub mod Cache
+pub mod Compare
+pub mod Cursor
+pub mod Entries
+pub mod Entry
+pub mod History
+pub mod Labels
+pub mod MapState
+pub mod Numbers
+pub mod Retain
+pub mod RetainRows
+pub mod Sets
+pub mod Steps
+pub mod Walk
+pub mod Weights

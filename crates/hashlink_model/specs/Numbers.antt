@@ -1,0 +1,146 @@
+-- The definitions at keys, values and elements that are numbers, for rows that they compute to.
+use Rattle.std.specs.Prelude.{ℕ, Bool, true, not, List, length, Option, nat_eq}
+use Rattle.std.specs.Map as map
+use Rattle.std.specs.Ordering.{nat_cmp}
+use Rattle.std.specs.Set.{is_member}
+use Rattle.std.specs.declared.cmp.Ordering.{Ordering}
+use Rattle.hashlink_model.specs.Algebra as algebra
+use Rattle.hashlink_model.specs.Cache as cache
+use Rattle.hashlink_model.specs.Compare as compare
+use Rattle.hashlink_model.specs.Cursor as cursor
+use Rattle.hashlink_model.specs.Entries as entries
+use Rattle.hashlink_model.specs.Entry as entry
+use Rattle.hashlink_model.specs.History as history
+use Rattle.hashlink_model.specs.Sets as sets
+use Rattle.hashlink_model.specs.Walk as walk
+use Rattle.hashlink_model.specs.Weights as weights
+
+-- entries whose keys and values are numbers
+abbrev pub Pairs : Type 0
+Pairs = List (ℕ × ℕ)
+
+abbrev pub lookup : Pairs → ℕ → Option ℕ
+lookup es k = map.lookup (nat_eq k) es
+
+abbrev pub place_of : Pairs → ℕ → Option ℕ
+place_of es k = entries.place_of (nat_eq k) es
+
+abbrev pub put : Pairs → ℕ → ℕ → ℕ → Pairs
+put = entries.put nat_eq
+
+-- the map's insert, insert at the front and replace
+abbrev pub insert : Pairs → ℕ → ℕ → Pairs
+insert es k v = put es k v (length es)
+
+abbrev pub insert_front : Pairs → ℕ → ℕ → Pairs
+insert_front es k v = put es k v 0
+
+abbrev pub replace : Pairs → ℕ → ℕ → Pairs
+replace es k v = put es k v (entries.place_or_end nat_eq es k)
+
+abbrev pub to_back : Pairs → ℕ → Pairs
+to_back es k = entries.moved nat_eq es k (length es)
+
+abbrev pub to_front : Pairs → ℕ → Pairs
+to_front es k = entries.moved nat_eq es k 0
+
+abbrev pub remove : Pairs → ℕ → Pairs
+remove = entries.without nat_eq
+
+abbrev pub extend : Pairs → Pairs → Pairs
+extend = entries.extended nat_eq
+
+-- cursors
+abbrev pub insert_before : Pairs → ℕ → ℕ → ℕ → Pairs
+insert_before = cursor.put_before nat_eq
+
+abbrev pub insert_after : Pairs → ℕ → ℕ → ℕ → Pairs
+insert_after = cursor.put_after nat_eq
+
+abbrev pub entry_at : Pairs → ℕ → Option (ℕ × ℕ)
+entry_at = cursor.entry_at
+
+abbrev pub place_after : Pairs → Pairs → ℕ → ℕ
+place_after = cursor.place_after nat_eq
+
+-- entries
+abbrev pub insert_value : Pairs → ℕ × ℕ → ℕ → Pairs
+insert_value = entry.insert_value nat_eq
+
+abbrev pub insert_entry : Pairs → ℕ × ℕ → ℕ → ℕ → Pairs
+insert_entry = entry.insert_entry nat_eq
+
+abbrev pub or_insert : Pairs → ℕ → ℕ → Pairs
+or_insert = entry.or_insert nat_eq
+
+abbrev pub replace_entry : Pairs → ℕ → ℕ → ℕ → Pairs
+replace_entry = entry.replace_entry
+
+abbrev pub replace_value : Pairs → ℕ → ℕ × ℕ → ℕ → Pairs
+replace_value = entry.replace_value
+
+-- walks
+abbrev pub write : Pairs → ℕ → ℕ → Pairs
+write = walk.with_value_at
+
+-- sets
+abbrev pub union : List ℕ → List ℕ → List ℕ
+union = algebra.union_of nat_eq
+
+abbrev pub difference : List ℕ → List ℕ → List ℕ
+difference = algebra.difference_of nat_eq
+
+abbrev pub intersection : List ℕ → List ℕ → List ℕ
+intersection = algebra.intersection_of nat_eq
+
+abbrev pub symmetric_difference : List ℕ → List ℕ → List ℕ
+symmetric_difference = algebra.symmetric_difference_of nat_eq
+
+abbrev pub put_element : List ℕ → ℕ → ℕ → List ℕ
+put_element = sets.put_element nat_eq
+
+abbrev pub replaced : List ℕ → ℕ → List ℕ
+replaced = sets.replaced nat_eq
+
+-- the set's insert
+abbrev pub insert_element : List ℕ → ℕ → List ℕ
+insert_element ts t = put_element ts t (length ts)
+
+-- one step of the lazy walk over a union, whose left set is xs
+abbrev pub union_step : List ℕ → algebra.PairWalk ℕ → Option ℕ × algebra.PairWalk ℕ
+union_step xs = algebra.pair_step (λ _. true) (λ y. not (is_member nat_eq xs y))
+
+-- comparisons
+abbrev pub equal : Pairs → Pairs → Bool
+equal = compare.entries_eq nat_eq nat_eq
+
+abbrev pub order : Pairs → Pairs → Ordering
+order = compare.entries_cmp nat_cmp nat_cmp
+
+-- caches
+abbrev pub cache_insert : Pairs → ℕ → ℕ → ℕ → Pairs
+cache_insert = cache.cache_put nat_eq
+
+abbrev pub cache_get : Pairs → ℕ → Pairs
+cache_get = cache.cache_get nat_eq
+
+-- the cache's entry for a key that is looked up after the trim, and its `or_insert`
+abbrev pub cache_or_insert : Pairs → ℕ → ℕ → ℕ → Pairs
+cache_or_insert es cap k v = or_insert (cache.trimmed es cap) k v
+
+-- histories
+abbrev pub reuse_distance : List ℕ → ℕ → ℕ
+reuse_distance = history.reuse_distance nat_eq
+
+abbrev pub misses : List ℕ → List (List ℕ) → ℕ
+misses = history.misses nat_eq
+
+-- entries of (key, (value, weight))
+abbrev pub Weighted : Type 0
+Weighted = List (ℕ × (ℕ × ℕ))
+
+abbrev pub weighted_insert : Weighted → ℕ → ℕ → ℕ → ℕ → Weighted
+weighted_insert = weights.weighted_put nat_eq
+
+abbrev pub total : Weighted → ℕ
+total = weights.total_weight

@@ -1,0 +1,51 @@
+-- More steps between two states of a map: changes within the list, removals of several entries, and the calls that speak of memory alone.
+use Rattle.std.specs.Prelude.{◌≡◌, ℕ, ◌+◌, ◌≤◌, List, [], length, Result, IsOk, OnOk}
+use Rattle.hashlink_model.specs.MapState.{MapState}
+
+module _ {K V S : Type 0} where
+  -- no entry went in or left, and the entries are now `es`: a move, or a key or a value that was written
+  pub record Changes (old new : MapState K V S) (es : List (K × V)) : Type 0 where
+    pub entries : new.entries ≡ es
+    pub spare : new.spare ≡ old.spare
+    pub room : new.room ≡ old.room
+    pub hasher : new.hasher ≡ old.hasher
+
+  -- only the entries `es` are left, and each node that left is spare
+  pub record KeepsOnly (old new : MapState K V S) (es : List (K × V)) : Type 0 where
+    pub entries : new.entries ≡ es
+    pub spare : new.spare + length es ≡ old.spare + length old.entries
+    pub room : new.room ≡ old.room
+    pub hasher : new.hasher ≡ old.hasher
+
+  -- the end of a drain, early or not
+  abbrev pub Drains : MapState K V S → MapState K V S → Type 0
+  Drains old new = KeepsOnly old new []
+
+  -- a clear gives the nodes of the entries back and leaves the spare ones
+  abbrev pub Clears : MapState K V S → MapState K V S → Type 0
+  Clears old new = Changes old new []
+
+  -- a reserve for n more entries: the room alone changes, and after an Ok it is enough
+  pub record Reserves {E : Type 0} (old new : MapState K V S) (n : ℕ) (r : Result (Unit {0}) E) : Type 0 where
+    pub entries : new.entries ≡ old.entries
+    pub spare : new.spare ≡ old.spare
+    pub room : old.room ≤ new.room
+    pub enough : OnOk r (length new.entries + n ≤ new.room)
+    pub hasher : new.hasher ≡ old.hasher
+
+  -- a shrink gives the spare nodes back, refused or not; of an empty map it is not refused and leaves no room
+  pub record Shrinks {E : Type 0} (old new : MapState K V S) (r : Result (Unit {0}) E) : Type 0 where
+    pub entries : new.entries ≡ old.entries
+    pub spare : new.spare ≡ 0
+    pub fits : length new.entries ≤ new.room
+    pub empty_shrinks : old.entries ≡ [] → IsOk r
+    pub empty_room : old.entries ≡ [] → new.room ≡ 0
+    pub hasher : new.hasher ≡ old.hasher
+
+  -- how many nodes a map keeps: those of its entries and the spare ones
+  abbrev pub nodes_of : MapState K V S → ℕ
+  nodes_of m = length m.entries + m.spare
+
+  -- there is room for each node
+  abbrev pub HasRoom : MapState K V S → Type 0
+  HasRoom m = nodes_of m ≤ m.room

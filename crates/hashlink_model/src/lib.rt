@@ -1,0 +1,16 @@
+//! The definitions that the contracts of the containers cite, tried by rows that they compute to and by their laws.
+//! Each function has an empty body: its contract is the statement.
+#![tactic(auto)]
+
+pub mod algebra;
+pub mod cache;
+pub mod compare;
+pub mod cursor;
+pub mod entries;
+pub mod entry;
+pub mod history;
+pub mod retain;
+pub mod sets;
+pub mod states;
+pub mod walk;
+pub mod weights;

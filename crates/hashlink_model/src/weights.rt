@@ -1,0 +1,24 @@
+//! Rows and laws of entries with weights.
+ghost use Rattle.std.specs.Prelude.{◌≡◌, ℕ, ◌+◌, ◌^◌, ◌-◌, ◌≤◌, List, [], ◌∷◌, ◌++◌, length};
+ghost use Rattle.hashlink_model.specs.Weights.{total_weight, fitting};
+ghost use Rattle.hashlink_model.specs.Numbers as numbers;
+
+/// Inserts into a cache of budget 10, of budget 5, and of the greatest budget.
+pub fn inserts_within_a_budget()
+    ensures three { numbers.weighted_insert ((1, (10, 4)) ∷ (2, (20, 4)) ∷ []) 10 3 30 4 ≡ (2, (20, 4)) ∷ (3, (30, 4)) ∷ [] }
+    ensures total { numbers.total ((2, (20, 4)) ∷ (3, (30, 4)) ∷ []) ≡ 8 }
+    ensures new_weight { numbers.weighted_insert ((2, (20, 4)) ∷ (3, (30, 4)) ∷ []) 10 2 21 9 ≡ (2, (21, 9)) ∷ [] }
+    ensures weightless { numbers.weighted_insert ((1, (10, 0)) ∷ (2, (20, 5)) ∷ []) 5 3 30 0 ≡ (1, (10, 0)) ∷ (2, (20, 5)) ∷ (3, (30, 0)) ∷ [] }
+    ensures after_weightless { numbers.weighted_insert ((1, (10, 0)) ∷ (2, (20, 5)) ∷ (3, (30, 0)) ∷ []) 5 4 40 1 ≡ (3, (30, 0)) ∷ (4, (40, 1)) ∷ [] }
+    ensures greatest { numbers.weighted_insert ((1, (10, 2 ^ 64 - 1)) ∷ []) (2 ^ 64 - 1) 2 20 (2 ^ 64 - 1) ≡ (2, (20, 2 ^ 64 - 1)) ∷ [] }
+    ensures nothing { numbers.weighted_insert [] 0 1 10 0 ≡ (1, (10, 0)) ∷ [] }
+{
+}
+
+/// The fitting end fits, it is an end, and no longer end fits.
+pub fn fitting_is_the_longest_end_that_fits<K, V>()
+    ensures fits { (es : List (K × (V × ℕ))) (budget : ℕ) → total_weight (fitting es budget) ≤ budget }
+    ensures end { (es : List (K × (V × ℕ))) (budget : ℕ) → (xs : List (K × (V × ℕ))) × (es ≡ xs ++ fitting es budget) }
+    ensures longest { (xs ys : List (K × (V × ℕ))) (budget : ℕ) → total_weight ys ≤ budget → length ys ≤ length (fitting (xs ++ ys) budget) }
+{
+}

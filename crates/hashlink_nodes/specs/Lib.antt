@@ -1,0 +1,4 @@
+-- What the contracts of the ring of nodes cite.
+pub mod Node
+pub mod Ring
+pub mod Shape

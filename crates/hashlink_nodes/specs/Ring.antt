@@ -1,0 +1,60 @@
+-- What a contract sees of a ring of nodes: its entries in order, each with its node, and the spare nodes.
+-- A place of the ring is a node of it, or None for the guard, which stands between the last entry and the first.
+pub use Rattle.hashlink_nodes.specs.declared.held.Held.{Held}
+use Rattle.std.specs.Prelude.{◌≡◌, ℕ, Bool, cond, List, [], ◌∷◌, ◌++◌, slice_get, Option, None, Some, IsSome, IfSome}
+use Rattle.std.specs.Map.{lookup, lookup_entry, remove_entry}
+use Rattle.hashlink_nodes.specs.declared.node.Node.{Node}
+use Rattle.hashlink_nodes.specs.Node.{same_node}
+
+-- the entries in ring order, and the spare nodes, the next to be used first
+pub record Ring (K V : Type 0) : Type 0 where
+  pub entries : List (Node × Held K V)
+  pub free : List Node
+
+-- the node that comes right after n, or None where n is the last
+abbrev pub node_after : Node → List Node → Option Node
+node_after n [] = None
+node_after n (m ∷ ns) = cond (same_node n m) (slice_get ns 0) (node_after n ns)
+
+-- the place after a place: from the guard the first node
+abbrev pub next_place : List Node → Option Node → Option Node
+next_place ns None = slice_get ns 0
+next_place ns (Some n) = node_after n ns
+
+module _ {X : Type 0} where
+  -- with x right before the entry of n
+  abbrev pub put_before_node : Node → Node × X → List (Node × X) → List (Node × X)
+  put_before_node n x [] = x ∷ []
+  put_before_node n x (e ∷ es) = cond (same_node n e.0) (x ∷ e ∷ es) (e ∷ put_before_node n x es)
+
+  -- with x right before the place: before the guard is the end
+  abbrev pub put_before : Option Node → Node × X → List (Node × X) → List (Node × X)
+  put_before None x es = es ++ x ∷ []
+  put_before (Some n) x es = put_before_node n x es
+
+  -- n is a node of the ring
+  abbrev pub Holds : List (Node × X) → Node → Type 0
+  Holds es n = IsSome (lookup (same_node n) es)
+
+  -- the guard, or a node of the ring
+  abbrev pub IsPlace : List (Node × X) → Option Node → Type 0
+  IsPlace es None = Unit {0}
+  IsPlace es (Some n) = Holds es n
+
+  -- the entry of n is taken out and put in right before the place
+  abbrev pub MovesBefore : List (Node × X) → Node → Option Node → List (Node × X) → Type 0
+  MovesBefore old n place new = IfSome (lookup_entry (same_node n) old) (λ e. new ≡ put_before place e (remove_entry (same_node n) old))
+
+module _ {K V : Type 0} where
+  abbrev pub held : ℕ → K → V → Held K V
+  held i k v = record { number = i; key = k; value = v }
+
+  abbrev pub ring : List (Node × Held K V) → List Node → Ring K V
+  ring es fs = record { entries = es; free = fs }
+
+  abbrev pub pair_of : Held K V → K × V
+  pair_of h = (h.key, h.value)
+
+  -- the same with another value
+  abbrev pub with_value : Held K V → V → Held K V
+  with_value h v = held h.number h.key v
