@@ -1,14 +1,14 @@
 -- A node that holds a key, and what the ring's steps at the node are for the list of pairs.
-use Rattle.std.proofs.Common.{◌≡◌, ℕ, zero, suc, ◌+◌, ◌-◌, ◌<◌, ◌≤◌, Bool, true, false, cond, List, [], ◌∷◌, ◌++◌, length, drop, Option, None, Some, IsSome, refl, ap, sym, subst, ◌∙◌, arith, length-append}
+use Rattle.std.proofs.Common.{◌≡◌, ◌+◌, Bool, true, false, List, [], ◌∷◌, ◌++◌, length, Option, None, Some, refl, ap, sym, subst, ◌∙◌, arith, length-append}
 use Rattle.std.specs.Prelude.{is_some}
 use Rattle.std.specs.Option.{option_map, IfSome}
-use Rattle.std.specs.Map.{lookup, lookup_entry, remove_entry, set_value, keys_of, values_of}
+use Rattle.std.specs.Map.{lookup, lookup_entry, remove_entry, set_value}
 use Rattle.std.specs.Cmp.{IsEquivalence}
 use Rattle.std.proofs.lemmas.Map.{NonePasses}
 use Rattle.hashlink_model.specs.Entries.{IsEntries, without, put}
-use Rattle.hashlink_model.proofs.Distinct.{each-left, none_others, none_equal, IsEntries-middle, IsEntries-insert}
-use Rattle.hashlink_model.proofs.Splits.{stands_from_lookup, lookup-here, lookup_entry-here, remove_entry-here, set_value-here, remove_entry-none}
-use Rattle.hashlink_model.proofs.Puts.{put_back_here, put_back_absent, IsEntries-put, IsEntries-without}
+use Rattle.hashlink_model.proofs.Distinct.{each-left, none_others, none_equal}
+use Rattle.hashlink_model.proofs.Splits.{stands_from_lookup, lookup-here, lookup_entry-here, remove_entry-here, set_value-here}
+use Rattle.hashlink_model.proofs.Puts.{put_back_here, put_back_absent}
 use Rattle.hashlink_nodes.specs.declared.node.Node.{Node}
 use Rattle.hashlink_nodes.specs.declared.held.Held.{Held}
 use Rattle.hashlink_nodes.specs.Node.{same_node, same_node_equiv, eq-same_node}
@@ -100,7 +100,7 @@ module _ {K V : Type 0} where
         put-holds = ap (λ fs. is_some (lookup (same_node n) fs)) value-set ∙ ap is_some (lookup-here (same_node n) (n, with_value s.held v) s.ys itself s.xs s.before)
 
         module _ (m : MovesBefore with n None moved) where
-          moved-is : moved ≡ (s.xs ++ s.ys) ++ (n, with_value s.held v) ∷ []
+          pub moved-is : moved ≡ (s.xs ++ s.ys) ++ (n, with_value s.held v) ∷ []
           moved-is =
               let here : lookup_entry (same_node n) with ≡ Some (n, with_value s.held v) =
               ap (lookup_entry (same_node n)) value-set ∙ lookup_entry-here (same_node n) (n, with_value s.held v) s.ys itself s.xs s.before in

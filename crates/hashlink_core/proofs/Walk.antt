@@ -1,16 +1,16 @@
 -- Walks along a ring, by the index of the node at which they stand.
-use Rattle.std.proofs.Common.{◌≡◌, ℕ, zero, suc, ◌+◌, ◌-◌, ◌<◌, ◌≤◌, Bool, true, false, cond, List, [], ◌∷◌, ◌++◌, length, take, drop, Option, None, Some, IsSome, refl, ap, sym, subst, ◌∙◌, arith}
+use Rattle.std.proofs.Common.{◌≡◌, ℕ, zero, suc, ◌-◌, ◌<◌, ◌≤◌, Bool, true, false, cond, List, [], ◌∷◌, ◌++◌, length, take, drop, Option, None, Some, IsSome, refl, ap, sym, subst, ◌∙◌, arith}
 use Rattle.std.specs.Prelude.{slice_get, is_some}
 use Rattle.std.specs.List.{AllByRecursion, IsDistinct}
 use Rattle.std.specs.Option.{option_map}
-use Rattle.std.specs.Map.{lookup, keys_of, values_of}
+use Rattle.std.specs.Map.{lookup, keys_of}
 use Rattle.std.proofs.lemmas.Map.{NonePasses, lookup-none}
 use Rattle.std.proofs.lemmas.Map.Keys.{IsDistinct-head, IsDistinct-tail}
 use Rattle.std.proofs.lemmas.Map.Entries.{lookup_from_place, length-keys_of}
 use Rattle.hashlink_model.proofs.Distinct.{each-append, each-left}
 use Rattle.hashlink_nodes.specs.declared.node.Node.{Node}
 use Rattle.hashlink_nodes.specs.declared.held.Held.{Held}
-use Rattle.hashlink_nodes.specs.Node.{same_node, same_node_equiv, eq-same_node}
+use Rattle.hashlink_nodes.specs.Node.{same_node, same_node_equiv}
 use Rattle.hashlink_nodes.specs.Ring.{node_after, next_place, Holds, pair_of}
 use Rattle.hashlink_core.specs.Keyed.{nodes_of, pairs_in}
 use Rattle.hashlink_core.specs.Walk.{nodes_from, nodes_left, StandsAtFirst}
@@ -121,6 +121,10 @@ module _ {K V : Type 0} where
   pub length-pairs_in : (es : List (Node × Held K V)) → length (pairs_in es) ≡ length es
   length-pairs_in [] = refl
   length-pairs_in (e ∷ es) = ap suc (length-pairs_in es)
+
+  pub length-nodes_of : (es : List (Node × Held K V)) → length (nodes_of es) ≡ length es
+  length-nodes_of [] = refl
+  length-nodes_of (e ∷ es) = ap suc (length-nodes_of es)
 
   pub keys-nodes_of : (es : List (Node × Held K V)) → keys_of (nodes_of es) ≡ keys_of es
   keys-nodes_of [] = refl

@@ -1,5 +1,5 @@
 -- What a contract sees of a keyed list: the entries in order, each with its node, and a map's numbers and hasher.
-use Rattle.std.specs.Prelude.{◌≡◌, ℕ, Bool, true, List, [], map, Some}
+use Rattle.std.specs.Prelude.{◌≡◌, ℕ, Bool, true, List, map, Some}
 use Rattle.std.specs.Map.{values_of, lookup}
 use Rattle.hashlink_model.specs.MapState.{MapState, map_state}
 use Rattle.hashlink_nodes.specs.declared.node.Node.{Node}

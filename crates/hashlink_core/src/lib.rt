@@ -1,7 +1,6 @@
 //! A keyed list: a ring of nodes whose keys are pairwise unequal, and the default hashers.
 #![tactic(auto)]
 
-mod find;
 mod hash_builder;
 mod hasher;
 mod iter;

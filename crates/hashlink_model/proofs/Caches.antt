@@ -1,11 +1,10 @@
 -- What a cache holds after its steps.
-use Rattle.std.proofs.Common.{◌≡◌, ℕ, suc, ◌+◌, ◌-◌, ◌≤◌, ◌<◌, Bool, true, false, cond, min, List, [], ◌∷◌, ◌++◌, length, drop, take, nat_lt, Option, None, Some, refl, sym, ap, ap₂, ◌∙◌, ◌⊎◌, inl, inr, subst, arith, zero, length-drop, lt-ltb, le-ltb, take-append-drop}
+use Rattle.std.proofs.Common.{◌≡◌, ℕ, suc, ◌+◌, ◌-◌, ◌≤◌, ◌<◌, Bool, true, false, cond, min, List, [], ◌∷◌, ◌++◌, length, drop, take, nat_lt, Option, None, Some, refl, ap, ◌∙◌, ◌⊎◌, inl, inr, arith, zero, length-drop, lt-ltb, le-ltb, take-append-drop}
 use Rattle.std.specs.Cmp.{IsEquivalence}
 use Rattle.std.specs.Map.{lookup}
 use Rattle.std.proofs.lemmas.Bool.{cases_lt}
-use Rattle.std.proofs.lemmas.List.{drop_all}
 use Rattle.hashlink_model.specs.Entries.{IsEntries, put}
-use Rattle.hashlink_model.specs.Cache.{trimmed, last_entries, cache_put, cache_get}
+use Rattle.hashlink_model.specs.Cache.{trimmed, last_entries, cache_put}
 use Rattle.hashlink_model.proofs.Distinct.{IsEntries-tail}
 use Rattle.hashlink_model.proofs.Puts.{IsEntries-put}
 use Rattle.hashlink_model.proofs.Afterwards.{length-put_absent, length-put_there}

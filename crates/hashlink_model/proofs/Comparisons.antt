@@ -1,12 +1,12 @@
 -- The laws of the comparisons of maps, from those of their keys and values.
-use Rattle.std.proofs.Common.{◌≡◌, ℕ, Bool, true, false, ◌&&◌, List, [], ◌∷◌, ◌++◌, Option, Some, refl, sym, ap, ap₂, ◌∙◌, true≢false}
+use Rattle.std.proofs.Common.{ap, Option, Some, ◌≡◌, Bool, true, ◌&&◌, List, [], ◌∷◌, ◌++◌, refl, sym, ap₂, ◌∙◌, true≢false}
 use Rattle.std.specs.Cmp.{IsEquivalence, IsTotalOrder, on_equiv, on_total, and_equiv, then_total}
-use Rattle.std.specs.Cmp.Lexicographic.{lists_equiv, lists_total, lists_ties, pointwise}
+use Rattle.std.specs.Cmp.Lexicographic.{lists_equiv, lists_total, lists_ties}
 use Rattle.std.proofs.lemmas.Bool.{and_parts}
 use Rattle.std.specs.declared.cmp.Ordering.TheVariants.{Less, Equal, Greater}
-use Rattle.std.specs.Ordering.{is_eq, eq_by_cmp, on, eq_of_both, then_cmp, ordering_then}
+use Rattle.std.specs.Ordering.{partial_ordering_then, is_eq, eq_by_cmp, ordering_then}
 use Rattle.std.specs.declared.cmp.Ordering.{Ordering}
-use Rattle.hashlink_model.specs.Compare.{entries_eq, entries_cmp, entries_hash_input}
+use Rattle.hashlink_model.specs.Compare.{entries_eq, entries_cmp, entries_partial_cmp, entries_hash_input, elements_eq, elements_hash_input}
 
 module _ {K V : Type 0} where
   pub entries_eq_equiv : (eqk : K → K → Bool) (eqv : V → V → Bool) → IsEquivalence eqk → IsEquivalence eqv → IsEquivalence (entries_eq eqk eqv)
@@ -45,3 +45,30 @@ module _ {K V : Type 0} where
       let parts = and_parts (eqk x.0 y.0 && eqv x.1 y.1) (entries_eq eqk eqv xs ys) e in
       let pair = and_parts (eqk x.0 y.0) (eqv x.1 y.1) parts.0 in
       λ i. (a x.0 y.0 pair.0 i, b x.1 y.1 pair.1 i) ∷ entries_eq_same eqk eqv a b xs ys parts.1 i
+
+  pub entries_partial : (partk : K → K → Option Ordering) (partv : V → V → Option Ordering) (cmpk : K → K → Ordering) (cmpv : V → V → Ordering) → ((x y : K) → partk x y ≡ Some (cmpk x y)) → ((x y : V) → partv x y ≡ Some (cmpv x y))
+      → (xs ys : List (K × V)) → entries_partial_cmp partk partv xs ys ≡ Some (entries_cmp cmpk cmpv xs ys)
+  entries_partial partk partv cmpk cmpv a b [] [] = refl
+  entries_partial partk partv cmpk cmpv a b [] (y ∷ ys) = refl
+  entries_partial partk partv cmpk cmpv a b (x ∷ xs) [] = refl
+  entries_partial partk partv cmpk cmpv a b (x ∷ xs) (y ∷ ys) =
+      ap₂ (λ p q. partial_ordering_then (partial_ordering_then p q) (entries_partial_cmp partk partv xs ys)) (a x.0 y.0) (b x.1 y.1)
+      ∙ ap (partial_ordering_then (partial_ordering_then (Some (cmpk x.0 y.0)) (Some (cmpv x.1 y.1)))) (entries_partial partk partv cmpk cmpv a b xs ys)
+      ∙ by (cmpk x.0 y.0) (cmpv x.1 y.1) (entries_cmp cmpk cmpv xs ys)
+    where
+      by : (p q r : Ordering) → partial_ordering_then (partial_ordering_then (Some p) (Some q)) (Some r) ≡ Some (ordering_then (ordering_then p q) r)
+      by Less q r = refl
+      by Greater q r = refl
+      by Equal Less r = refl
+      by Equal Equal r = refl
+      by Equal Greater r = refl
+
+module _ {T : Type 0} where
+  pub elements_eq_equiv : (eq : T → T → Bool) → IsEquivalence eq → IsEquivalence (elements_eq eq)
+  elements_eq_equiv eq laws = lists_equiv laws
+
+  pub elements_alike : {W : Type 0} (eq : T → T → Bool) (hash : T → List W) → ((x y : T) → eq x y ≡ true → hash x ≡ hash y) → (xs ys : List T) → elements_eq eq xs ys ≡ true → elements_hash_input hash xs ≡ elements_hash_input hash ys
+  elements_alike eq hash a [] [] e = refl
+  elements_alike eq hash a [] (y ∷ ys) e = absurd (true≢false (sym e))
+  elements_alike eq hash a (x ∷ xs) [] e = absurd (true≢false (sym e))
+  elements_alike eq hash a (x ∷ xs) (y ∷ ys) e = let parts = and_parts (eq x y) (elements_eq eq xs ys) e in ap₂ ◌++◌ (a x y parts.0) (elements_alike eq hash a xs ys parts.1)

@@ -1,18 +1,17 @@
 -- Where a cursor stands after a move, and after an insert.
-use Rattle.std.proofs.Common.{◌≡◌, ℕ, zero, suc, ◌+◌, ◌-◌, ◌%◌, ◌≤◌, ◌<◌, Bool, true, false, cond, List, [], ◌∷◌, ◌++◌, length, slice_get, Option, None, Some, refl, sym, ap, ◌∙◌, ◌⊎◌, inl, inr, subst, arith, mod-eq_of_lt, append_assoc}
-use Rattle.std.specs.Prelude.{unwrap_or, insert}
+use Rattle.std.proofs.Common.{◌≡◌, ℕ, zero, suc, ◌+◌, ◌%◌, ◌≤◌, ◌<◌, Bool, true, false, cond, List, [], ◌∷◌, ◌++◌, length, slice_get, Option, None, Some, refl, sym, ap, ◌∙◌, arith, mod-eq_of_lt, append_assoc}
+use Rattle.std.specs.Prelude.{insert}
 use Rattle.std.specs.Cmp.{IsEquivalence}
 use Rattle.std.specs.Option.{option_map_or}
 use Rattle.std.proofs.Common.{ap₂, le_refl, le_antisymm, zero-le, suc-le-suc}
 use Rattle.std.proofs.Math.Nat.{mod_self, add-mod_right}
-use Rattle.std.specs.Map.{lookup, lookup_entry, lookup_key, set_value}
 use Rattle.std.proofs.lemmas.Map.{NonePasses}
 use Rattle.std.proofs.lemmas.List.{take_at, drop_at, length-append}
-use Rattle.std.proofs.lemmas.Option.{none-some, same_Some, slice_get_past, slice_get_within}
-use Rattle.hashlink_model.specs.Entries.{IsEntries, place_of, place_or_end, put, stored_key}
+use Rattle.std.proofs.lemmas.Option.{none-some, slice_get_past}
+use Rattle.hashlink_model.specs.Entries.{IsEntries, place_or_end, put, stored_key}
 use Rattle.hashlink_model.specs.Cursor.{entry_at, place_after, next_place, previous_place, put_before, put_after}
-use Rattle.hashlink_model.proofs.Puts.{put-absent, IsEntries-put, lookup_entry-put}
-use Rattle.hashlink_model.proofs.Places.{slice_get_here, split_at, slice_get-place_or_end, place_or_end-here,  none_before, place_of_its_key, lookup_entry_at, stored_key_at}
+use Rattle.hashlink_model.proofs.Puts.{put-absent, lookup_entry-put}
+use Rattle.hashlink_model.proofs.Places.{slice_get-place_or_end, place_or_end-here, none_before, place_of_its_key, lookup_entry_at, stored_key_at}
 
 -- ---- moves
 

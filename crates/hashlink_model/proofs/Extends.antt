@@ -1,9 +1,8 @@
 -- What stands after many inserts at the end.
-use Rattle.std.proofs.Common.{◌≡◌, ℕ, Bool, true, false, cond, List, [], ◌∷◌, ◌++◌, length, Option, None, Some, fold, refl, sym, ap, ap₂, ◌∙◌, append_assoc, append-nil}
+use Rattle.std.proofs.Common.{◌≡◌, Bool, List, [], ◌∷◌, ◌++◌, length, sym, ap, ◌∙◌, append_assoc, append-nil}
 use Rattle.std.specs.Cmp.{IsEquivalence}
-use Rattle.std.proofs.lemmas.Map.{NonePasses}
 use Rattle.hashlink_model.specs.Entries.{IsEntries, put, extended}
-use Rattle.hashlink_model.proofs.Distinct.{none_others, IsEntries-middle, each-left}
+use Rattle.hashlink_model.proofs.Distinct.{none_others, each-left}
 use Rattle.hashlink_model.proofs.Puts.{IsEntries-put, put_back_absent}
 
 module _ {K V : Type 0} (eq : K → K → Bool) (laws : IsEquivalence eq) where

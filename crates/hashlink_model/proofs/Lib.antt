@@ -17,3 +17,14 @@ pub mod Weighted
 pub mod Extends
 pub mod NodeCounts
 pub mod SetViews
+pub mod Recency
+pub mod Reuse
+pub mod Ends
+pub mod Peaks
+pub mod Potential
+pub mod Pursuit
+pub mod Pursued
+pub mod Competitive
+pub mod Pops
+pub mod CacheSteps
+pub mod Clones

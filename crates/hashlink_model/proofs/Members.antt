@@ -1,10 +1,10 @@
 -- What set algebra gives: its members, its order, and that its elements stay pairwise unequal.
-use Rattle.std.proofs.Common.{◌≡◌, ℕ, suc, ◌+◌, ◌≤◌, ◌<◌, Bool, true, false, not, ◌&&◌, ◌||◌, cond, List, [], ◌∷◌, ◌++◌, length, filter, Option, None, Some, refl, sym, ap, ap₂, ◌∙◌, ◌⊎◌, inl, inr, subst, arith, nat_lt, true≢false}
+use Rattle.std.proofs.Common.{◌≡◌, Bool, true, false, not, ◌&&◌, ◌||◌, cond, List, [], ◌∷◌, ◌++◌, filter, refl, sym, ap, ap₂, ◌∙◌, true≢false}
 use Rattle.std.specs.Cmp.{IsEquivalence}
-use Rattle.std.specs.List.{IsDistinct, AllByRecursion, list_any}
+use Rattle.std.specs.List.{IsDistinct, AllByRecursion}
 use Rattle.std.specs.Set.{is_member, IsUnion, IsIntersection, IsDifference, IsSymmetricDifference}
 use Rattle.std.proofs.lemmas.Map.Made.{is_member-filter}
-use Rattle.std.proofs.lemmas.Bool.{both_ways, not-true, not-false}
+use Rattle.std.proofs.lemmas.Bool.{both_ways, not-true}
 use Rattle.std.proofs.lemmas.Map.Made.{All-is_member}
 use Rattle.std.proofs.lemmas.List.Elements.{recursion_from_All, filter_passes}
 use Rattle.hashlink_model.proofs.Distinct.{each-append, each-weaker}
@@ -59,6 +59,7 @@ module _ {T : Type 0} (eq : T → T → Bool) (laws : IsEquivalence eq) where
       first : (b : Bool) → (b || is_member eq xs q) ≡ false → b ≡ false
       first true e = e
       first false e = refl
+
       rest : (b : Bool) → (b || is_member eq xs q) ≡ false → is_member eq xs q ≡ false
       rest true e = absurd (true≢false e)
       rest false e = e

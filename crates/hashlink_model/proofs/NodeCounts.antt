@@ -1,5 +1,5 @@
 -- What follows from the steps between two states of a map.
-use Rattle.std.proofs.Common.{◌≡◌, ℕ, ◌+◌, ◌-◌, ◌≤◌, max, List, [], length, Bool, Option, None, Some, Result, refl, sym, ap, ◌∙◌, arith}
+use Rattle.std.proofs.Common.{◌≡◌, ℕ, ◌+◌, max, List, [], length, Bool, Some, Result, ap, ◌∙◌, arith}
 use Rattle.std.specs.Map.{lookup}
 use Rattle.hashlink_model.specs.Entries.{without}
 use Rattle.hashlink_model.specs.MapState.{MapState, Removes, AddsEntry, PutsEntry}

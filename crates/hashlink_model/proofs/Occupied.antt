@@ -1,16 +1,14 @@
 -- What stands after the steps on an occupied entry.
-use Rattle.std.proofs.Common.{◌≡◌, ℕ, ◌+◌, ◌≤◌, ◌<◌, Bool, true, false, cond, List, [], ◌∷◌, ◌++◌, length, slice_get, slice_set, Option, None, Some, refl, sym, ap, ap₂, ◌∙◌, ◌⊎◌, inl, inr, subst, arith, append_assoc, option_map}
+use Rattle.std.proofs.Common.{◌≡◌, ℕ, ◌+◌, Bool, true, cond, List, [], ◌∷◌, ◌++◌, length, slice_get, None, Some, refl, sym, ap, ap₂, ◌∙◌, subst, option_map}
 use Rattle.std.specs.Cmp.{IsEquivalence}
-use Rattle.std.specs.Map.{lookup, lookup_entry, lookup_key}
+use Rattle.std.specs.Map.{lookup, lookup_entry}
 use Rattle.std.proofs.lemmas.Map.{NonePasses}
-use Rattle.std.proofs.lemmas.Bool.{both_ways}
 use Rattle.std.proofs.lemmas.List.{set_at, append-nil}
 use Rattle.hashlink_model.specs.Entries.{IsEntries, place_of, put, moved, without}
-use Rattle.hashlink_model.specs.Entry.{insert_value, insert_entry, or_insert, replace_entry, replace_key, replace_value}
+use Rattle.hashlink_model.specs.Entry.{insert_entry, or_insert, replace_entry}
 use Rattle.hashlink_model.proofs.Distinct.{none_equal, none_others, IsEntries-middle, IsEntries-insert}
 use Rattle.hashlink_model.proofs.Finds.{lookup_entry-middle, lookup_entry-without}
 use Rattle.hashlink_model.proofs.Puts.{cond-same_test, none_without, IsEntries-without}
-use Rattle.hashlink_model.proofs.Afterwards.{moved-there}
 use Rattle.hashlink_model.proofs.Places.{split_at}
 
 module _ {K V : Type 0} where
@@ -64,9 +62,9 @@ module _ {K V : Type 0} (eq : K → K → Bool) (laws : IsEquivalence eq) where
       ∙ lookup_entry-middle eq laws q (h, v) s.1 s.0 (others_apart s.0 e s.1 h there t)
       ∙ sym (cond-same_test (eq h q) _ (Some e) _)
       ∙ ap (cond (eq h q) (Some (h, v)))
-        (ap (λ b. cond b (Some e) (lookup_entry (eq q) (s.0 ++ s.1))) (laws.congr h e.0 q t)
-        ∙ sym (lookup_entry-middle eq laws q e s.1 s.0 (none_others eq laws s.0 e s.1 there))
-        ∙ ap (lookup_entry (eq q)) (sym s.2))
+      (ap (λ b. cond b (Some e) (lookup_entry (eq q) (s.0 ++ s.1))) (laws.congr h e.0 q t)
+      ∙ sym (lookup_entry-middle eq laws q e s.1 s.0 (none_others eq laws s.0 e s.1 there))
+      ∙ ap (lookup_entry (eq q)) (sym s.2))
 
   pub place_of-replace_entry : (q : K) (es : List (K × V)) (j : ℕ) (e : K × V) (h : K) (v : V) → IsEntries eq es → slice_get es j ≡ Some e → eq h e.0 ≡ true
       → place_of (eq q) (replace_entry es j h v) ≡ place_of (eq q) es

@@ -1,15 +1,13 @@
 -- Entries by their places.
-use Rattle.std.proofs.Common.{le_refl, ◌≡◌, ℕ, zero, suc, ◌+◌, ◌-◌, ◌≤◌, ◌<◌, Bool, true, false, cond, List, [], ◌∷◌, ◌++◌, length, slice_get, Option, None, Some, refl, sym, ap, ◌∙◌, ◌⊎◌, inl, inr, subst, arith}
-use Rattle.std.specs.Prelude.{unwrap_or}
+use Rattle.std.proofs.Common.{le_refl, ◌≡◌, ℕ, zero, suc, Bool, true, List, [], ◌∷◌, ◌++◌, length, slice_get, Some, refl, ap, ◌∙◌, ◌⊎◌, inl, inr, subst}
 use Rattle.std.specs.Cmp.{IsEquivalence}
-use Rattle.std.specs.Map.{lookup, lookup_entry, lookup_key, set_value, keys_of}
+use Rattle.std.specs.Map.{lookup_entry}
 use Rattle.std.proofs.lemmas.Map.{NonePasses}
 use Rattle.std.proofs.lemmas.Option.{none-some, same_Some, slice_get_past}
-use Rattle.hashlink_model.specs.Entries.{IsEntries, place_of, place_or_end, put, stored_key}
-use Rattle.hashlink_model.specs.Cursor.{entry_at, place_after}
-use Rattle.hashlink_model.proofs.Splits.{StandsAt, Stands, splits, stands_from_place, place_of-none, place_of-here, lookup_entry-none, lookup_entry-here}
+use Rattle.hashlink_model.specs.Entries.{IsEntries, place_of, place_or_end, stored_key}
+use Rattle.hashlink_model.proofs.Splits.{Stands, splits, place_of-none, place_of-here, lookup_entry-none, lookup_entry-here}
 use Rattle.hashlink_model.proofs.Distinct.{none_equal, none_others, each-left}
-use Rattle.hashlink_model.proofs.Finds.{lookup_entry-equal, lookup_key_is}
+use Rattle.hashlink_model.proofs.Finds.{lookup_key_is}
 
 module _ {X : Type 0} where
   pub slice_get_here : (xs : List X) (x : X) (ys : List X) → slice_get (xs ++ x ∷ ys) (length xs) ≡ Some x

@@ -1,20 +1,19 @@
 -- What a retain leaves: in the list's own order, with keys pairwise unequal, and a filter where the closure is a predicate.
-use Rattle.std.proofs.Common.{◌≡◌, ℕ, ◌<◌, Bool, true, false, cond, List, [], ◌∷◌, ◌++◌, length, slice_get, Option, None, Some, filter, All, Contains, refl, sym, ap, ap₂, ◌∙◌, subst, IsPermutation, filter_map}
+use Rattle.std.proofs.Common.{◌≡◌, Bool, true, false, cond, List, [], ◌∷◌, ◌++◌, Option, None, Some, filter, Contains, refl, sym, ap, ap₂, ◌∙◌, subst, IsPermutation}
 use Rattle.std.specs.Cmp.{IsEquivalence}
-use Rattle.std.specs.List.{AllByRecursion, cons_option, IsDistinct}
+use Rattle.std.specs.List.{AllByRecursion, cons_option}
 use Rattle.std.specs.Map.{lookup_entry, keys_of}
-use Rattle.std.specs.Map.Calls.{RetainsPairs}
 use Rattle.std.proofs.lemmas.Map.{NonePasses}
 use Rattle.std.proofs.lemmas.Map.Keys.{IsDistinct-IsPermutation}
 use Rattle.std.proofs.lemmas.Map.Entries.{filter_from_retain_pairs}
 use Rattle.std.proofs.lemmas.List.Elements.{recursion_from_All, All-contains_itself, filter-append}
-use Rattle.std.proofs.lemmas.List.Sorted.{IsPermutation-map, IsPermutation-sym, Contains-permutation, IsPermutation-refl}
+use Rattle.std.proofs.lemmas.List.Sorted.{IsPermutation-map, Contains-permutation, IsPermutation-refl}
 use Rattle.std.proofs.lemmas.Option.{slice_get-get_or, none-some, same_Some}
 use Rattle.hashlink_model.specs.Entries.{IsEntries}
 use Rattle.hashlink_model.specs.Retain.{Keeps, KeepsInOrder, in_order_of}
-use Rattle.hashlink_model.proofs.Distinct.{IsEntries-cons, IsEntries-head, IsEntries-tail, IsEntries-nil, each-append, each-left, each-right, each-weaker, none_equal, none_others}
+use Rattle.hashlink_model.proofs.Distinct.{IsEntries-cons, IsEntries-head, IsEntries-tail, each-append, each-left, each-right, each-weaker, none_equal, none_others}
 use Rattle.hashlink_model.proofs.Splits.{lookup_entry-none, lookup_entry-here}
-use Rattle.hashlink_model.proofs.Places.{split_at, none_before}
+use Rattle.hashlink_model.proofs.Places.{split_at}
 
 module _ {K V : Type 0} where
   -- an entry that a look-up finds passes the test

@@ -1,11 +1,11 @@
 -- What a walk from both ends gives and leaves.
-use Rattle.std.proofs.Common.{◌≡◌, ℕ, zero, suc, ◌+◌, ◌-◌, ◌≤◌, ◌<◌, Bool, true, false, cond, List, [], ◌∷◌, ◌++◌, length, take, drop, slice_get, Option, None, Some, option_to_list, refl, sym, ap, ap₂, ◌∙◌, ◌⊎◌, inl, inr, subst, arith, append_assoc}
+use Rattle.std.proofs.Common.{◌≡◌, ℕ, zero, suc, ◌-◌, Bool, List, [], ◌∷◌, ◌++◌, length, Option, None, Some, option_to_list, refl, sym, ap, ◌∙◌, arith, append_assoc}
 use Rattle.std.specs.List.{cons_option}
-use Rattle.std.specs.Map.{lookup, lookup_entry, lookup_key, set_value, keys_of}
+use Rattle.std.specs.Map.{set_value, keys_of}
 use Rattle.std.specs.Map.Iter.{TakesFirst, TakesLast}
 use Rattle.std.proofs.lemmas.List.{append-nil, length-append, length-take, length-drop, nil_from_length}
 use Rattle.hashlink_model.specs.Entries.{place_of}
-use Rattle.hashlink_model.specs.Walk.{End, Front, Back, first_of, after_first_of, last_of, before_last_of, step_gives, step_leaves, walk_gives, walk_leaves, given_front, given_back, with_value_at}
+use Rattle.hashlink_model.specs.Walk.{End, Front, Back, first_of, after_first_of, last_of, before_last_of, step_gives, step_leaves, walk_leaves, given_front, given_back, with_value_at}
 use Rattle.hashlink_model.proofs.Splits.{stands_from_place, set_value-here}
 
 module _ {X : Type 0} where

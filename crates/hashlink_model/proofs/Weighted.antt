@@ -1,8 +1,12 @@
 -- The longest end of the entries that a budget allows.
-use Rattle.std.proofs.Common.{◌≡◌, ℕ, suc, ◌+◌, ◌-◌, ◌≤◌, ◌<◌, Bool, true, false, cond, List, [], ◌∷◌, ◌++◌, length, drop, nat_le, sum_by, refl, sym, ap, ap₂, ◌∙◌, ◌⊎◌, inl, inr, subst, arith, le_refl, leb-true, leb-false, zero-le, le-leb}
+use Rattle.std.proofs.Common.{◌≡◌, ℕ, ◌≤◌, Bool, true, false, cond, List, [], ◌∷◌, ◌++◌, length, nat_le, refl, ap, arith, le_refl, leb-true, zero-le, le-leb}
 use Rattle.std.proofs.lemmas.List.{length-append}
 use Rattle.std.proofs.lemmas.List.Sums.{sum_by-append}
-use Rattle.hashlink_model.specs.Weights.{total_weight, fitting}
+use Rattle.hashlink_model.specs.Entries.{IsEntries, put, without, stored_key}
+use Rattle.hashlink_model.proofs.Distinct.{IsEntries-tail}
+use Rattle.std.specs.Cmp.{IsEquivalence}
+use Rattle.hashlink_model.proofs.Puts.{IsEntries-put, put_back}
+use Rattle.hashlink_model.specs.Weights.{total_weight, fitting, weighted_put}
 
 module _ {K V : Type 0} where
   -- it fits
@@ -39,3 +43,26 @@ module _ {K V : Type 0} where
   pub fitting-longest : (xs ys : List (K × (V × ℕ))) (budget : ℕ) → total_weight ys ≤ budget → length ys ≤ length (fitting (xs ++ ys) budget)
   fitting-longest [] ys budget h = rw (fitting-whole ys budget h) (le_refl (length ys))
   fitting-longest (x ∷ xs) ys budget h = longest_by x xs ys budget (nat_le (total_weight (x ∷ (xs ++ ys))) budget) (fitting-longest xs ys budget h)
+
+  -- no two keys are equal, as before
+  unequal_by : (eq : K → K → Bool) (e : K × (V × ℕ)) (es : List (K × (V × ℕ))) (budget : ℕ) (b : Bool) → IsEntries eq (e ∷ es) → IsEntries eq (fitting es budget) → IsEntries eq (cond b (e ∷ es) (fitting es budget))
+  unequal_by eq e es budget true d h = d
+  unequal_by eq e es budget false d h = h
+
+  pub IsEntries-fitting : (eq : K → K → Bool) (es : List (K × (V × ℕ))) (budget : ℕ) → IsEntries eq es → IsEntries eq (fitting es budget)
+  IsEntries-fitting eq [] budget d = d
+  IsEntries-fitting eq (e ∷ es) budget d = unequal_by eq e es budget (nat_le (total_weight (e ∷ es)) budget) d (IsEntries-fitting eq es budget (IsEntries-tail eq e es d))
+
+module _ {K V : Type 0} (eq : K → K → Bool) where
+  pub IsEntries-weighted_put : IsEquivalence eq → (es : List (K × (V × ℕ))) (budget : ℕ) (k : K) (v : V) (weight : ℕ) → IsEntries eq es → IsEntries eq (weighted_put eq es budget k v weight)
+  IsEntries-weighted_put laws es budget k v weight d = IsEntries-fitting eq (put eq es k (v, weight) (length es)) budget (IsEntries-put eq laws es k (v, weight) (length es) d)
+
+  pub total_weight-weighted_put : (es : List (K × (V × ℕ))) (budget : ℕ) (k : K) (v : V) (weight : ℕ) → total_weight (weighted_put eq es budget k v weight) ≤ budget
+  total_weight-weighted_put es budget k v weight = fitting-fits (put eq es k (v, weight) (length es)) budget
+
+  -- a pair that is not too heavy stays
+  pub length-weighted_put : (es : List (K × (V × ℕ))) (budget : ℕ) (k : K) (v : V) (weight : ℕ) → weight ≤ budget → 1 ≤ length (weighted_put eq es budget k v weight)
+  length-weighted_put es budget k v weight l =
+      let last = (stored_key eq es k, (v, weight)) ∷ [] in
+      let fits : total_weight last ≤ budget = omega arith in
+      rw (put_back eq es k (v, weight)) (fitting-longest (without eq es k) ((stored_key eq es k, (v, weight)) ∷ []) budget fits)

@@ -1,6 +1,7 @@
 -- Caches: a map and how many entries it may have.
-use Rattle.std.specs.Prelude.{◌≡◌, ℕ, ◌-◌, Bool, List, [], length, drop, if◌then◌else◌, nat_lt, Option, Result, MatchOption, MatchResult}
+use Rattle.std.specs.Prelude.{◌≡◌, ℕ, ◌+◌, ◌-◌, Bool, cond, List, [], ◌∷◌, length, drop, if◌then◌else◌, nat_lt, is_some, Option, Result, MatchOption, MatchResult, fold}
 use Rattle.std.specs.Map.{lookup}
+use Rattle.std.specs.Option.{option_map_or}
 use Rattle.hashlink_model.specs.Entries.{put, moved}
 use Rattle.hashlink_model.specs.MapState.{MapState, AddsEntry, PutsEntry, RefusesEntry}
 use Rattle.hashlink_model.specs.Steps.{Changes, KeepsOnly}
@@ -24,9 +25,26 @@ module _ {K V : Type 0} where
     abbrev pub cache_put : List (K × V) → ℕ → K → V → List (K × V)
     cache_put es cap k v = trimmed (put eq es k v (length es)) cap
 
+    -- the entries after the cache's insert of each pair in turn
+    abbrev pub cache_extended : List (K × V) → ℕ → List (K × V) → List (K × V)
+    cache_extended es cap pairs = fold (λ zs p. cache_put zs cap p.0 p.1) es pairs
+
     -- the entries after `get`: a hit moves its entry last
     abbrev pub cache_get : List (K × V) → K → List (K × V)
     cache_get es k = moved eq es k (length es)
+
+    -- the entries after a use: a hit moves its entry last with the value that stands, a miss inserts the pair
+    abbrev pub cache_use : List (K × V) → ℕ → K → V → List (K × V)
+    cache_use es cap k v = option_map_or (λ w. cache_get es k) (lookup (eq k) es) (cache_put es cap k v)
+
+    -- the entries after a use of each pair in turn, from none on
+    abbrev pub cache_uses : ℕ → List (K × V) → List (K × V)
+    cache_uses cap pairs = fold (λ es p. cache_use es cap p.0 p.1) [] pairs
+
+    -- how many of those uses were misses
+    abbrev pub missed_uses : ℕ → List (K × V) → List (K × V) → ℕ
+    missed_uses cap es [] = 0
+    missed_uses cap es (p ∷ pairs) = cond (is_some (lookup (eq p.0) es)) 0 1 + missed_uses cap (cache_use es cap p.0 p.1) pairs
 
 module _ {K V S : Type 0} where
   -- as many entries at the front were dropped as the trim says, and each left its node spare

@@ -1,12 +1,20 @@
 -- Histories: the keys that were used, in order, and what any rule of replacement can make of them.
-use Rattle.std.specs.Prelude.{◌≡◌, ℕ, ◌+◌, ◌≤◌, max, Bool, true, ◌||◌, cond, List, [], ◌∷◌, length}
-use Rattle.std.specs.List.{AllByRecursion, after_last}
-use Rattle.std.specs.Set.{is_member, distinct_count}
+use Rattle.std.specs.Prelude.{◌≡◌, ℕ, ◌+◌, ◌-◌, ◌≤◌, max, drop, Bool, true, ◌||◌, ◌&&◌, cond, nat_lt, ◌++◌, List, [], ◌∷◌, length}
+use Rattle.std.specs.List.{AllByRecursion, AllZip, after_last}
+use Rattle.std.specs.Set.{is_member, unique_keys, distinct_count}
 
 module _ {K : Type 0} (eq : K → K → Bool) where
   -- how many other keys were used since the last use of k, those that are equal counted once
   abbrev pub reuse_distance : List K → K → ℕ
   reuse_distance used k = distinct_count eq (after_last (eq k) used)
+
+  -- the last c of the keys used, each once, in the order of their last use
+  abbrev pub recent_keys : ℕ → List K → List K
+  recent_keys c used = drop (distinct_count eq used - c) (unique_keys eq used)
+
+  -- the entries have the last c keys, up to equality and in that order
+  abbrev pub HoldsRecent : {V : Type 0} → ℕ → List K → List (K × V) → Type 0
+  HoldsRecent c used es = AllZip (λ e k. eq e.0 k ≡ true) es (recent_keys c used)
 
   -- what a schedule of h places may hold after k was used, where it held `before`: k, else only keys that it held, and at most h
   pub record MayHold (h : ℕ) (before : List K) (k : K) (after : List K) : Type 0 where
@@ -33,6 +41,14 @@ module _ {K : Type 0} (eq : K → K → Bool) where
 
   abbrev pub misses : List K → List (List K) → ℕ
   misses used held = misses_from [] used held
+
+  -- how many keys of the history a cache of c places did not hold when they came, where those of `before` were used first
+  abbrev pub cache_misses_from : ℕ → List K → List K → ℕ
+  cache_misses_from c before [] = 0
+  cache_misses_from c before (k ∷ used) = cond (is_member eq before k && nat_lt (reuse_distance before k) c) 0 1 + cache_misses_from c (before ++ k ∷ []) used
+
+  abbrev pub cache_misses : ℕ → List K → ℕ
+  cache_misses c used = cache_misses_from c [] used
 
 -- what a run passes: a length, or a shrink at a length
 pub data Passed : Type 0 where

@@ -6,6 +6,7 @@ pub mod Cursor
 pub mod Entries
 pub mod Entry
 pub mod History
+pub mod Inclusion
 pub mod Labels
 pub mod MapState
 pub mod Numbers

@@ -1,5 +1,5 @@
 -- What a contract sees of a map, and the steps between two such states. A call's contract names the step that it takes.
-use Rattle.std.specs.Prelude.{◌≡◌, ℕ, ◌-◌, ◌+◌, ◌≤◌, Bool, List, [], length, Option, None, Some, Result, MatchOption, MatchResult, refl}
+use Rattle.std.specs.Prelude.{◌≡◌, ℕ, ◌-◌, ◌+◌, ◌≤◌, Bool, List, [], Option, None, Some, Result, MatchOption, MatchResult, refl}
 use Rattle.std.specs.Coded.{Coded, code_by, coded×, coded_list, coded_ℕ}
 use Rattle.std.specs.Map.{lookup}
 use Rattle.hashlink_model.specs.Entries.{put}

@@ -124,6 +124,15 @@ cache_insert = cache.cache_put nat_eq
 abbrev pub cache_get : Pairs → ℕ → Pairs
 cache_get = cache.cache_get nat_eq
 
+abbrev pub cache_use : Pairs → ℕ → ℕ → ℕ → Pairs
+cache_use = cache.cache_use nat_eq
+
+abbrev pub cache_uses : ℕ → Pairs → Pairs
+cache_uses = cache.cache_uses nat_eq
+
+abbrev pub last_entries : Pairs → ℕ → Pairs
+last_entries = cache.last_entries
+
 -- the cache's entry for a key that is looked up after the trim, and its `or_insert`
 abbrev pub cache_or_insert : Pairs → ℕ → ℕ → ℕ → Pairs
 cache_or_insert es cap k v = or_insert (cache.trimmed es cap) k v
@@ -134,6 +143,12 @@ reuse_distance = history.reuse_distance nat_eq
 
 abbrev pub misses : List ℕ → List (List ℕ) → ℕ
 misses = history.misses nat_eq
+
+abbrev pub cache_misses : ℕ → List ℕ → ℕ
+cache_misses = history.cache_misses nat_eq
+
+abbrev pub missed_uses : ℕ → Pairs → Pairs → ℕ
+missed_uses = cache.missed_uses nat_eq
 
 -- entries of (key, (value, weight))
 abbrev pub Weighted : Type 0

@@ -1,5 +1,5 @@
 -- Retention. T f k v b w g says that a call of the closure f at the key k and the value v may answer b, leave the value w, and leave the closure as g.
-use Rattle.std.specs.Prelude.{◌≡◌, ℕ, Bool, List, IsPermutation}
+use Rattle.std.specs.Prelude.{◌≡◌, Bool, List, IsPermutation}
 use Rattle.std.specs.List.{filter_map}
 use Rattle.std.specs.Map.{lookup_entry}
 use Rattle.std.specs.Map.Calls.{RetainsPairs}

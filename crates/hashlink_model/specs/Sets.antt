@@ -1,5 +1,5 @@
 -- Sets: a set is the map with nothing as value, so its steps are the map's steps between `as_map` of the two states.
-use Rattle.std.specs.Prelude.{◌≡◌, ℕ, Bool, cond, List, [], ◌∷◌, ◌++◌, map, refl}
+use Rattle.std.specs.Prelude.{ℕ, Bool, cond, List, [], ◌∷◌, ◌++◌, map, refl}
 use Rattle.std.specs.Coded.{Coded, code_by, coded×, coded_list, coded_ℕ}
 use Rattle.std.specs.Map.{keys_of}
 use Rattle.std.specs.Set.{is_member, swap_key}
@@ -34,7 +34,7 @@ module _ {T S : Type 0} where
   -- a state is stored as the tuple of its fields
   abbrev pub set_state_code : Coded T → Coded S → Coded (SetState T S)
   set_state_code t s = code_by (List T × (ℕ × (ℕ × S))) (coded× (coded_list t) (coded× coded_ℕ (coded× coded_ℕ s)))
-    (λ m. (m.elements, (m.spare, (m.room, m.hasher)))) (λ p. set_state p.0 p.1.0 p.1.1.0 p.1.1.1) (λ _. refl)
+      (λ m. (m.elements, (m.spare, (m.room, m.hasher)))) (λ p. set_state p.0 p.1.0 p.1.1.0 p.1.1.1) (λ _. refl)
 
   -- the set as a map, and the set that a map with nothing as value is
   abbrev pub as_map : SetState T S → MapState T (Unit {0}) S

@@ -1,9 +1,12 @@
 -- More steps between two states of a map: changes within the list, removals of several entries, and the calls that speak of memory alone.
-use Rattle.std.specs.Prelude.{◌≡◌, ℕ, ◌+◌, ◌≤◌, List, [], length, Result, IsOk, OnOk}
-use Rattle.hashlink_model.specs.MapState.{MapState}
+use Rattle.std.specs.Prelude.{◌≡◌, ℕ, ◌+◌, ◌≤◌, Bool, List, [], length, Option, MatchOption, Result, IsOk, OnOk}
+use Rattle.std.specs.Map.{set_value}
+use Rattle.hashlink_model.specs.Entries.{moved}
+use Rattle.hashlink_model.specs.MapState.{MapState, Removes}
+use Rattle.hashlink_model.specs.Walk.{first_of, after_first_of, last_of, before_last_of}
 
 module _ {K V S : Type 0} where
-  -- no entry went in or left, and the entries are now `es`: a move, or a key or a value that was written
+  -- the entries are now `es`, and as many nodes are spare as before: a move, or a key or a value that was written
   pub record Changes (old new : MapState K V S) (es : List (K × V)) : Type 0 where
     pub entries : new.entries ≡ es
     pub spare : new.spare ≡ old.spare
@@ -16,6 +19,22 @@ module _ {K V S : Type 0} where
     pub spare : new.spare + length es ≡ old.spare + length old.entries
     pub room : new.room ≡ old.room
     pub hasher : new.hasher ≡ old.hasher
+
+  -- a pop from the front and one from the back, by the answer
+  abbrev pub PopsFront : MapState K V S → MapState K V S → Option (K × V) → Type 0
+  PopsFront old new r = (r ≡ first_of old.entries) × MatchOption r (new ≡ old) (λ _. Removes old new (after_first_of old.entries))
+
+  abbrev pub PopsBack : MapState K V S → MapState K V S → Option (K × V) → Type 0
+  PopsBack old new r = (r ≡ last_of old.entries) × MatchOption r (new ≡ old) (λ _. Removes old new (before_last_of old.entries))
+
+  module _ (eq : K → K → Bool) where
+    -- a key that is there keeps its place and takes the value v
+    abbrev pub Writes : MapState K V S → MapState K V S → K → V → Type 0
+    Writes old new k v = Changes old new (set_value (eq k) old.entries v)
+
+    -- a key that is there moves to the place b with the value that stands; of an absent key nothing changes
+    abbrev pub Moves : MapState K V S → MapState K V S → K → ℕ → Type 0
+    Moves old new k b = Changes old new (moved eq old.entries k b)
 
   -- the end of a drain, early or not
   abbrev pub Drains : MapState K V S → MapState K V S → Type 0

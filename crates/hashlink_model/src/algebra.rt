@@ -14,8 +14,7 @@ pub fn sets_together()
     ensures symmetric_difference { numbers.symmetric_difference (1 ∷ 2 ∷ []) (3 ∷ 1 ∷ []) ≡ 2 ∷ 3 ∷ [] }
     ensures intersection { numbers.intersection (1 ∷ 2 ∷ []) (3 ∷ 1 ∷ []) ≡ 1 ∷ [] }
     ensures difference { numbers.difference (1 ∷ 2 ∷ []) (3 ∷ 1 ∷ []) ≡ 2 ∷ [] }
-{
-}
+{}
 
 /// The size hints along the union of `1 2` and `3 1`: at the start, after one step, and at its end before and after the step that gives None.
 pub fn hints_along_a_union()
@@ -28,8 +27,7 @@ pub fn hints_along_a_union()
     ensures after_four { union_hint {T = ℕ} (record { left = []; right = [] }) ≡ (0, Some 0) }
     ensures symmetric_difference { symmetric_difference_hint {T = ℕ} (record { left = 1 ∷ 2 ∷ []; right = 3 ∷ 1 ∷ [] }) ≡ (0, Some 4) }
     ensures too_many { at_most_both (2 ^ 64 - 1) 1 ≡ None }
-{
-}
+{}
 
 /// The members are those that the words say.
 pub fn members_of_set_algebra<T>()
@@ -37,8 +35,7 @@ pub fn members_of_set_algebra<T>()
     ensures intersection { (eq : T → T → Bool) → IsEquivalence eq → (xs ys : List T) → IsIntersection eq xs ys (intersection_of eq xs ys) }
     ensures difference { (eq : T → T → Bool) → IsEquivalence eq → (xs ys : List T) → IsDifference eq xs ys (difference_of eq xs ys) }
     ensures symmetric_difference { (eq : T → T → Bool) → IsEquivalence eq → (xs ys : List T) → IsSymmetricDifference eq xs ys (symmetric_difference_of eq xs ys) }
-{
-}
+{}
 
 /// No two elements of what two sets give together are equal.
 pub fn set_algebra_keeps_elements_unequal<T>()
@@ -46,8 +43,7 @@ pub fn set_algebra_keeps_elements_unequal<T>()
     ensures intersection { (eq : T → T → Bool) → IsEquivalence eq → (xs ys : List T) → IsDistinct eq xs → IsDistinct eq (intersection_of eq xs ys) }
     ensures difference { (eq : T → T → Bool) → IsEquivalence eq → (xs ys : List T) → IsDistinct eq xs → IsDistinct eq (difference_of eq xs ys) }
     ensures symmetric_difference { (eq : T → T → Bool) → IsEquivalence eq → (xs ys : List T) → IsDistinct eq xs → IsDistinct eq ys → IsDistinct eq (symmetric_difference_of eq xs ys) }
-{
-}
+{}
 
 /// A subset has only members of the other set; disjoint sets share none.
 pub fn subset_and_disjoint_by_membership<T>()
@@ -55,20 +51,17 @@ pub fn subset_and_disjoint_by_membership<T>()
     ensures subset_from { (eq : T → T → Bool) → IsEquivalence eq → (xs ys : List T) → ((q : T) → is_member eq xs q ≡ true → is_member eq ys q ≡ true) → is_subset eq xs ys ≡ true }
     ensures disjoint { (eq : T → T → Bool) → IsEquivalence eq → (xs ys : List T) → is_disjoint eq xs ys ≡ true → (q : T) → is_member eq xs q ≡ true → is_member eq ys q ≡ false }
     ensures disjoint_from { (eq : T → T → Bool) → IsEquivalence eq → (xs ys : List T) → ((q : T) → is_member eq xs q ≡ true → is_member eq ys q ≡ false) → is_disjoint eq xs ys ≡ true }
-{
-}
+{}
 
 /// A lazy walk begins with all that the two sets give together, and each step takes the first of what is left.
 pub fn lazy_walks_give_set_algebra<T>()
     ensures union { (eq : T → T → Bool) (xs ys : List T) → left_to_give (λ _. true) (λ y. not (is_member eq xs y)) (record { left = xs; right = ys }) ≡ union_of eq xs ys }
     ensures symmetric_difference { (eq : T → T → Bool) (xs ys : List T) → left_to_give (λ x. not (is_member eq ys x)) (λ y. not (is_member eq xs y)) (record { left = xs; right = ys }) ≡ symmetric_difference_of eq xs ys }
     ensures step { (p q : T → Bool) (w : PairWalk T) → TakesFirst (λ y. y) (left_to_give p q w) (pair_step p q w).0 (left_to_give p q (pair_step p q w).1) }
-{
-}
+{}
 
 /// The size hints are bounds of what is left.
 pub fn hints_are_bounds<T>()
     ensures above { (p q : T → Bool) (w : PairWalk T) → length (left_to_give p q w) ≤ length w.left + length w.right }
     ensures union_below { (q : T → Bool) (w : PairWalk T) → length w.left ≤ length (left_to_give (λ _. true) q w) }
-{
-}
+{}

@@ -1,8 +1,11 @@
 //! Rows and laws of caches.
-ghost use Rattle.std.specs.Prelude.{◌≡◌, ℕ, ◌+◌, ◌≤◌, ◌<◌, min, Bool, List, [], ◌∷◌, ◌++◌, Option, None, Some, length, drop, take, ◌-◌};
+ghost use Rattle.std.specs.Prelude.{◌≡◌, ℕ, ◌+◌, ◌-◌, ◌≤◌, ◌<◌, min, max, Bool, List, [], ◌∷◌, ◌++◌, Option, None, Some, Result, Ok, Err, length, drop, take};
 ghost use Rattle.std.specs.Cmp.{IsEquivalence};
 ghost use Rattle.hashlink_model.specs.Entries.{IsEntries, put};
-ghost use Rattle.hashlink_model.specs.Cache.{trimmed, last_entries, cache_put, cache_get};
+ghost use Rattle.hashlink_model.specs.Cache.{CacheState, CacheInserts, trimmed, last_entries, cache_put, cache_get};
+ghost use Rattle.std.specs.Map.{lookup};
+ghost use Rattle.hashlink_model.specs.Steps.{nodes_of};
+ghost use Rattle.hashlink_model.specs.Labels as labels;
 ghost use Rattle.hashlink_model.specs.Numbers as numbers;
 
 /// A cache of capacity 0 is empty after its insert, and an entry holds one pair in it.
@@ -11,8 +14,7 @@ pub fn a_cache_without_places()
     ensures insert { numbers.cache_insert ((1, 10) ∷ []) 0 1 11 ≡ [] }
     ensures again { numbers.cache_or_insert [] 0 1 12 ≡ (1, 12) ∷ [] }
     ensures entry { trimmed {K = ℕ} {V = ℕ} ((1, 12) ∷ []) 0 ≡ [] }
-{
-}
+{}
 
 /// An entry can pass the capacity by one, an insert then drops one pair at the front, and the next entry drops one more.
 pub fn an_entry_passes_the_capacity_by_one()
@@ -21,17 +23,15 @@ pub fn an_entry_passes_the_capacity_by_one()
     ensures drops_one { numbers.cache_insert ((1, 10) ∷ (2, 20) ∷ []) 1 3 30 ≡ (2, 20) ∷ (3, 30) ∷ [] }
     ensures entry { trimmed {K = ℕ} {V = ℕ} ((2, 20) ∷ (3, 30) ∷ []) 1 ≡ (3, 30) ∷ [] }
     ensures two_too_many { numbers.cache_insert ((1, 10) ∷ (3, 30) ∷ (2, 20) ∷ []) 1 4 40 ≡ (3, 30) ∷ (2, 20) ∷ (4, 40) ∷ [] }
-{
-}
+{}
 
 /// A hit moves its entry last, and the oldest is dropped; a smaller capacity keeps the last pairs.
 pub fn a_hit_is_kept()
     ensures hit { numbers.cache_get ((1, 10) ∷ (2, 20) ∷ []) 1 ≡ (2, 20) ∷ (1, 10) ∷ [] }
     ensures insert { numbers.cache_insert ((2, 20) ∷ (1, 10) ∷ []) 2 3 30 ≡ (1, 10) ∷ (3, 30) ∷ [] }
-    ensures set_capacity { last_entries {K = ℕ} {V = ℕ} ((1, 10) ∷ (3, 30) ∷ []) 1 ≡ (3, 30) ∷ [] }
-    ensures last_five { last_entries {K = ℕ} {V = ℕ} ((6, 60) ∷ (7, 70) ∷ (8, 80) ∷ []) 5 ≡ (6, 60) ∷ (7, 70) ∷ (8, 80) ∷ [] }
-{
-}
+    ensures set_capacity { numbers.last_entries ((1, 10) ∷ (3, 30) ∷ []) 1 ≡ (3, 30) ∷ [] }
+    ensures last_five { numbers.last_entries ((6, 60) ∷ (7, 70) ∷ (8, 80) ∷ []) 5 ≡ (6, 60) ∷ (7, 70) ∷ (8, 80) ∷ [] }
+{}
 
 /// Uses keep the keys of the smaller cache an end of the larger one's, and plain reads do not.
 pub fn uses_keep_an_end_and_reads_do_not()
@@ -40,8 +40,42 @@ pub fn uses_keep_an_end_and_reads_do_not()
     ensures small_use { numbers.cache_insert ((2, 20) ∷ []) 1 1 30 ≡ (1, 30) ∷ [] }
     ensures large_use { numbers.cache_get ((1, 10) ∷ (2, 20) ∷ []) 1 ≡ (2, 20) ∷ (1, 10) ∷ [] }
     ensures small_read { numbers.cache_get ((2, 20) ∷ []) 1 ≡ (2, 20) ∷ [] }
-{
-}
+{}
+
+/// Inserts up to 6 in a cache of four, six more through entries, and what is left of them.
+pub fn entries_leave_one_more_than_the_capacity()
+    ensures inserts { numbers.cache_insert (numbers.cache_insert ((1, 10) ∷ (2, 20) ∷ (3, 30) ∷ (4, 40) ∷ []) 4 5 50) 4 6 60 ≡ (3, 30) ∷ (4, 40) ∷ (5, 50) ∷ (6, 60) ∷ [] }
+    ensures three { numbers.cache_or_insert (numbers.cache_or_insert (numbers.cache_or_insert ((3, 30) ∷ (4, 40) ∷ (5, 50) ∷ (6, 60) ∷ []) 4 7 70) 4 8 80) 4 9 90 ≡ (5, 50) ∷ (6, 60) ∷ (7, 70) ∷ (8, 80) ∷ (9, 90) ∷ [] }
+    ensures six { numbers.cache_or_insert (numbers.cache_or_insert (numbers.cache_or_insert ((5, 50) ∷ (6, 60) ∷ (7, 70) ∷ (8, 80) ∷ (9, 90) ∷ []) 4 10 100) 4 11 110) 4 12 120 ≡ (8, 80) ∷ (9, 90) ∷ (10, 100) ∷ (11, 110) ∷ (12, 120) ∷ [] }
+{}
+
+/// The least recently used pair is the first one: reads that move nothing leave it, a hit of `get` does not.
+pub fn the_first_is_the_least_recently_used()
+    ensures peeked { numbers.lookup ((2, 20) ∷ (3, 30) ∷ (4, 40) ∷ (5, 50) ∷ (6, 60) ∷ []) 2 ≡ Some 20 }
+    ensures hit { numbers.cache_get ((4, 40) ∷ (5, 50) ∷ (6, 60) ∷ []) 4 ≡ (5, 50) ∷ (6, 60) ∷ (4, 40) ∷ [] }
+{}
+
+/// Uses of 1, 2, 1, 3 in a cache of two leave 1 and 3; in a cache of none nothing is left.
+pub fn uses_in_a_row()
+    ensures two { numbers.cache_uses 2 ((1, 10) ∷ (2, 20) ∷ (1, 30) ∷ (3, 40) ∷ []) ≡ (1, 10) ∷ (3, 40) ∷ [] }
+    ensures none { numbers.cache_uses 0 ((1, 10) ∷ (1, 10) ∷ []) ≡ [] }
+    ensures three { numbers.cache_uses 3 ((1, 10) ∷ (2, 20) ∷ (3, 30) ∷ (4, 40) ∷ (1, 11) ∷ (2, 21) ∷ (5, 50) ∷ []) ≡ (1, 11) ∷ (2, 21) ∷ (5, 50) ∷ [] }
+    ensures four { numbers.cache_uses 4 ((1, 10) ∷ (2, 20) ∷ (3, 30) ∷ (4, 40) ∷ (1, 11) ∷ (2, 21) ∷ (5, 50) ∷ []) ≡ (4, 40) ∷ (1, 10) ∷ (2, 20) ∷ (5, 50) ∷ [] }
+{}
+
+/// Two caches of one and of two places, with equal keys that are different objects: an end up to equality.
+pub fn an_end_up_to_equality()
+    ensures small { labels.cache_insert (labels.cache_insert (labels.cache_insert [] 1 (7, 1) 1) 1 (8, 1) 2) 1 (7, 2) 3 ≡ ((7, 2), 3) ∷ [] }
+    ensures large { labels.cache_insert (labels.cache_insert (labels.cache_insert [] 2 (7, 1) 1) 2 (8, 1) 2) 2 (7, 2) 3 ≡ ((8, 1), 2) ∷ ((7, 1), 3) ∷ [] }
+{}
+
+/// A removal from both caches keeps the smaller an end of the larger.
+pub fn a_removal_from_both_caches()
+    ensures small { numbers.remove (numbers.cache_insert (numbers.cache_insert [] 1 1 10) 1 2 20) 2 ≡ [] }
+    ensures large { numbers.remove (numbers.cache_insert (numbers.cache_insert [] 2 1 10) 2 2 20) 2 ≡ (1, 10) ∷ [] }
+    ensures small_again { numbers.cache_insert [] 1 1 11 ≡ (1, 11) ∷ [] }
+    ensures large_again { numbers.cache_insert ((1, 10) ∷ []) 2 1 11 ≡ (1, 11) ∷ [] }
+{}
 
 /// A trim drops at most one entry, at the front, and only where there are more than the capacity.
 pub fn a_trim_drops_at_most_one<K, V>()
@@ -49,20 +83,25 @@ pub fn a_trim_drops_at_most_one<K, V>()
     ensures above { (es : List (K × V)) (cap : ℕ) → cap < length es → trimmed es cap ≡ drop 1 es }
     ensures at_most { (es : List (K × V)) (cap n : ℕ) → cap ≤ n → length es ≤ n + 1 → length (trimmed es cap) ≤ n }
     ensures last_ones { (es : List (K × V)) (cap : ℕ) → length es ≤ cap + 1 → trimmed es cap ≡ last_entries es cap }
-{
-}
+{}
 
 /// The last entries are an end of the list, as many as there are, and at most n.
 pub fn the_last_entries<K, V>()
     ensures length { (es : List (K × V)) (n : ℕ) → length (last_entries es n) ≡ min n (length es) }
     ensures end { (es : List (K × V)) (n : ℕ) → take (length es - n) es ++ last_entries es n ≡ es }
-{
-}
+{}
 
 /// A cache of at most n entries, where n is no less than its capacity, has at most n after its insert, and its keys are pairwise unequal.
 pub fn an_insert_stays_within_the_bound<K, V>()
     ensures at_most { (eq : K → K → Bool) (es : List (K × V)) (cap n : ℕ) (k : K) (v : V) → cap ≤ n → length es ≤ n → length (cache_put eq es cap k v) ≤ n }
     ensures keys { (eq : K → K → Bool) → IsEquivalence eq → (es : List (K × V)) (cap : ℕ) (k : K) (v : V) → IsEntries eq es → IsEntries eq (cache_put eq es cap k v) }
     ensures drops { (eq : K → K → Bool) (es : List (K × V)) (n : ℕ) → IsEntries eq es → IsEntries eq (drop n es) }
-{
-}
+{}
+
+/// A cache's insert answers the old value and leaves the trimmed list; a refused one names an absent key without a spare node and drops nothing.
+pub fn what_a_cache_insert_leaves<K, V, S>()
+    ensures answer { (eq : K → K → Bool) (old new : CacheState K V S) (k : K) (v : V) (w : Option V) → CacheInserts eq old new k v (Ok w) → w ≡ lookup (eq k) old.map.entries }
+    ensures entries { (eq : K → K → Bool) (old new : CacheState K V S) (k : K) (v : V) (w : Option V) → CacheInserts eq old new k v (Ok w) → new.map.entries ≡ cache_put eq old.map.entries old.cap k v }
+    ensures refused { (eq : K → K → Bool) (old new : CacheState K V S) (k : K) (v : V) (pair : K × V) → CacheInserts eq old new k v (Err pair) → (new.map.entries ≡ old.map.entries) × (new.map.spare ≡ old.map.spare) × (lookup (eq k) old.map.entries ≡ None) × (old.map.spare ≡ 0) }
+    ensures nodes { (eq : K → K → Bool) (old new : CacheState K V S) (k : K) (v : V) → CacheInserts eq old new k v (Ok None) → nodes_of new.map ≡ max (nodes_of old.map) (length (put eq old.map.entries k v (length old.map.entries))) }
+{}

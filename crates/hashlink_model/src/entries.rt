@@ -17,42 +17,36 @@ pub fn insert_moves_and_replace_stays()
     ensures insert { numbers.insert ((1, 1) ∷ (2, 2) ∷ (3, 3) ∷ (4, 4) ∷ []) 3 5 ≡ (1, 1) ∷ (2, 2) ∷ (4, 4) ∷ (3, 5) ∷ [] }
     ensures replace { numbers.replace ((1, 1) ∷ (2, 2) ∷ (4, 4) ∷ (3, 5) ∷ []) 2 6 ≡ (1, 1) ∷ (2, 6) ∷ (4, 4) ∷ (3, 5) ∷ [] }
     ensures replace_absent { numbers.replace ((1, 10) ∷ []) 2 20 ≡ (1, 10) ∷ (2, 20) ∷ [] }
-{
-}
+{}
 
 /// Inserts at both ends in turn, and one at the front of a key that is there.
 pub fn inserts_at_both_ends()
     ensures three { numbers.insert_front (numbers.insert (numbers.insert_front [] 1 1) 2 2) 3 3 ≡ (3, 3) ∷ (1, 1) ∷ (2, 2) ∷ [] }
     ensures again { numbers.insert_front ((3, 3) ∷ (1, 1) ∷ (2, 2) ∷ []) 2 4 ≡ (2, 4) ∷ (3, 3) ∷ (1, 1) ∷ [] }
     ensures old_value { numbers.lookup ((3, 3) ∷ (1, 1) ∷ (2, 2) ∷ []) 2 ≡ Some 2 }
-{
-}
+{}
 
 /// A whole run: inserts at both ends, a replace, a move, and the first pair taken out.
 pub fn a_run_of_steps()
     ensures { numbers.remove (numbers.to_back (numbers.replace (numbers.insert_front (numbers.insert_front (numbers.insert (numbers.insert_front [] 1 1) 2 2) 3 3) 2 4) 3 5) 2) 3 ≡ (1, 1) ∷ (2, 4) ∷ [] }
-{
-}
+{}
 
 /// A key that is put before its own place, and one that is put after it: the places between close up.
 pub fn places_close_up()
     ensures forward { numbers.put ((1, 1) ∷ (2, 2) ∷ (3, 3) ∷ (4, 4) ∷ []) 1 9 3 ≡ (2, 2) ∷ (3, 3) ∷ (1, 9) ∷ (4, 4) ∷ [] }
     ensures backward { numbers.put ((1, 1) ∷ (2, 2) ∷ (3, 3) ∷ (4, 4) ∷ []) 4 9 1 ≡ (1, 1) ∷ (4, 9) ∷ (2, 2) ∷ (3, 3) ∷ [] }
     ensures taken_out { numbers.to_front (numbers.insert (numbers.remove ((1, 10) ∷ (2, 20) ∷ (3, 30) ∷ (4, 40) ∷ (5, 50) ∷ (6, 60) ∷ []) 3) 7 70) 5 ≡ (5, 50) ∷ (1, 10) ∷ (2, 20) ∷ (4, 40) ∷ (6, 60) ∷ (7, 70) ∷ [] }
-{
-}
+{}
 
 /// An insert keeps the key object that is there and takes the value that is given.
 pub fn insert_keeps_the_stored_key()
     ensures { labels.insert (((7, 1), 10) ∷ ((8, 1), 20) ∷ []) (7, 2) 11 ≡ ((8, 1), 20) ∷ ((7, 1), 11) ∷ [] }
-{
-}
+{}
 
 /// Inserts of many pairs in a row: the last of two with one key moves it and decides the value.
 pub fn extend_is_inserts_in_a_row()
     ensures { numbers.extend [] ((1, 10) ∷ (2, 20) ∷ (1, 11) ∷ []) ≡ (2, 20) ∷ (1, 11) ∷ [] }
-{
-}
+{}
 
 /// After a key is put anywhere, taken out or moved, no two keys are equal, as before.
 pub fn steps_keep_keys_unequal<K, V>()
@@ -120,12 +114,10 @@ pub fn move_twice_is_once<K, V>()
 pub fn the_end_after_an_insert<K, V>()
     ensures back { (eq : K → K → Bool) → IsEquivalence eq → (es : List (K × V)) (k : K) (v : V) → (xs : List (K × V)) × (k0 : K) × (put eq es k v (length es) ≡ xs ++ (k0, v) ∷ []) × (eq k k0 ≡ true) }
     ensures front { (eq : K → K → Bool) → IsEquivalence eq → (es : List (K × V)) (k : K) (v : V) → (xs : List (K × V)) × (k0 : K) × (put eq es k v 0 ≡ (k0, v) ∷ xs) × (eq k k0 ≡ true) }
-{
-}
+{}
 
 /// Many inserts keep the keys pairwise unequal, and a list's own pairs inserted in turn into an empty one give the list.
 pub fn extend_from_empty<K, V>()
     ensures keys { (eq : K → K → Bool) → IsEquivalence eq → (es pairs : List (K × V)) → IsEntries eq es → IsEntries eq (extended eq es pairs) }
     ensures own { (eq : K → K → Bool) → IsEquivalence eq → (es : List (K × V)) → IsEntries eq es → extended eq [] es ≡ es }
-{
-}
+{}

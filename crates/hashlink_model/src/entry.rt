@@ -3,7 +3,8 @@ ghost use Rattle.std.specs.Prelude.{◌≡◌, ℕ, Bool, true, List, [], ◌∷
 ghost use Rattle.std.specs.Cmp.{IsEquivalence};
 ghost use Rattle.std.specs.Map.{lookup, lookup_entry};
 ghost use Rattle.hashlink_model.specs.Entries.{IsEntries, place_of, put, moved};
-ghost use Rattle.hashlink_model.specs.Entry.{insert_entry, or_insert, replace_entry};
+ghost use Rattle.hashlink_model.specs.Entry.{entry_of, insert_entry, or_insert, replace_entry};
+ghost use Rattle.hashlink_model.specs.MapState.{MapState};
 ghost use Rattle.hashlink_model.specs.Labels as labels;
 ghost use Rattle.hashlink_model.specs.Numbers as numbers;
 
@@ -13,48 +14,48 @@ pub fn key_in_hand_goes_in()
     ensures last { labels.insert_entry (((7, 1), 10) ∷ ((8, 1), 20) ∷ []) ((7, 1), 10) (7, 2) 11 ≡ ((8, 1), 20) ∷ ((7, 2), 11) ∷ [] }
     ensures stored { labels.stored_key (((7, 1), 10) ∷ ((8, 1), 20) ∷ []) (7, 2) ≡ (7, 1) }
     ensures in_place { labels.replace_key (((7, 1), 10) ∷ ((8, 1), 20) ∷ []) 0 ((7, 1), 10) (7, 2) ≡ ((7, 2), 10) ∷ ((8, 1), 20) ∷ [] }
-{
-}
+{}
 
 /// A raw entry's value is replaced where it stands; `or_insert` moves a key that is there and puts an absent one last.
 pub fn raw_entries_write_and_move()
     ensures value { numbers.replace_value ((1, 10) ∷ (2, 20) ∷ []) 1 (2, 20) 21 ≡ (1, 10) ∷ (2, 21) ∷ [] }
     ensures absent { numbers.or_insert ((1, 10) ∷ (2, 21) ∷ []) 3 30 ≡ (1, 10) ∷ (2, 21) ∷ (3, 30) ∷ [] }
     ensures there { numbers.or_insert ((1, 10) ∷ (2, 20) ∷ []) 1 99 ≡ (2, 20) ∷ (1, 10) ∷ [] }
-{
-}
+{}
 
 /// The steps on occupied entries one after another.
 pub fn entry_steps_in_a_row()
     ensures insert_entry { numbers.insert_entry ((1, 10) ∷ (2, 20) ∷ []) (1, 10) 1 11 ≡ (2, 20) ∷ (1, 11) ∷ [] }
     ensures replace_entry { numbers.replace_entry ((2, 20) ∷ (1, 11) ∷ []) 0 2 22 ≡ (2, 22) ∷ (1, 11) ∷ [] }
     ensures insert { numbers.insert_value ((2, 22) ∷ (1, 11) ∷ []) (2, 22) 23 ≡ (1, 11) ∷ (2, 23) ∷ [] }
-{
-}
+{}
 
 /// `or_insert` moves a key that is there to the back with the value that stands, and puts an absent one there with the value given.
 pub fn or_insert_is_a_move_or_an_insert<K, V>()
     ensures there { (eq : K → K → Bool) (es : List (K × V)) (k : K) (v w : V) → lookup (eq k) es ≡ Some w → or_insert eq es k v ≡ moved eq es k (length es) }
     ensures absent { (eq : K → K → Bool) (es : List (K × V)) (k : K) (v : V) → lookup (eq k) es ≡ None → or_insert eq es k v ≡ put eq es k v (length es) }
-{
-}
+{}
 
 /// A key that goes in for an equal one keeps the keys pairwise unequal.
 pub fn entries_keep_keys_unequal<K, V>()
     ensures insert_entry { (eq : K → K → Bool) → IsEquivalence eq → (es : List (K × V)) (e : K × V) (h : K) (v : V) → IsEntries eq es → eq h e.0 ≡ true → IsEntries eq (insert_entry eq es e h v) }
     ensures replace_entry { (eq : K → K → Bool) → IsEquivalence eq → (es : List (K × V)) (j : ℕ) (e : K × V) (h : K) (v : V) → IsEntries eq es → slice_get es j ≡ Some e → eq h e.0 ≡ true → IsEntries eq (replace_entry es j h v) }
-{
-}
+{}
 
 /// After `insert_entry` and `replace_entry` the key has the key object in hand and the new value, and every other key has what it had.
 pub fn lookup_after_entry_steps<K, V>()
     ensures insert_entry { (eq : K → K → Bool) → IsEquivalence eq → (q : K) (es : List (K × V)) (e : K × V) (h : K) (v : V) → IsEntries eq es → eq h e.0 ≡ true → lookup_entry (eq q) (insert_entry eq es e h v) ≡ cond (eq h q) (Some (h, v)) (lookup_entry (eq q) es) }
     ensures replace_entry { (eq : K → K → Bool) → IsEquivalence eq → (q : K) (es : List (K × V)) (j : ℕ) (e : K × V) (h : K) (v : V) → IsEntries eq es → slice_get es j ≡ Some e → eq h e.0 ≡ true → lookup_entry (eq q) (replace_entry es j h v) ≡ cond (eq h q) (Some (h, v)) (lookup_entry (eq q) es) }
-{
-}
+{}
 
 /// What is replaced changes no place.
 pub fn replacing_leaves_every_place<K, V>()
     ensures { (eq : K → K → Bool) → IsEquivalence eq → (q : K) (es : List (K × V)) (j : ℕ) (e : K × V) (h : K) (v : V) → IsEntries eq es → slice_get es j ≡ Some e → eq h e.0 ≡ true → place_of (eq q) (replace_entry es j h v) ≡ place_of (eq q) es }
-{
-}
+{}
+
+/// An entry is vacant exactly where a look-up finds nothing.
+pub fn vacant_where_nothing_is_found<K, V>()
+    ensures vacant { (eq : K → K → Bool) → IsEquivalence eq → (k : K) (es : List (K × V)) → place_of (eq k) es ≡ None → lookup (eq k) es ≡ None }
+    ensures absent { (eq : K → K → Bool) → IsEquivalence eq → (k : K) (es : List (K × V)) → lookup (eq k) es ≡ None → place_of (eq k) es ≡ None }
+    ensures entry { (eq : K → K → Bool) (m : MapState K V ℕ) (k : K) → (entry_of eq m k).place ≡ place_of (eq k) m.entries }
+{}

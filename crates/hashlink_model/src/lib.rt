@@ -9,6 +9,7 @@ pub mod cursor;
 pub mod entries;
 pub mod entry;
 pub mod history;
+pub mod inclusion;
 pub mod retain;
 pub mod sets;
 pub mod states;

@@ -14,8 +14,7 @@ ghost use Rattle.hashlink_model.specs.Numbers as numbers;
 pub fn which_object_a_set_keeps()
     ensures replace { labels.replaced ((7, 1) ∷ []) (7, 2) ≡ (7, 2) ∷ [] }
     ensures insert { labels.insert_element ((7, 1) ∷ (8, 1) ∷ []) (7, 2) ≡ (8, 1) ∷ (7, 1) ∷ [] }
-{
-}
+{}
 
 /// Inserts move elements that are there, replaces leave them, and what is drained comes from both ends.
 pub fn a_set_in_order()
@@ -23,8 +22,7 @@ pub fn a_set_in_order()
     ensures absent { numbers.insert_element (2 ∷ 3 ∷ 1 ∷ []) 4 ≡ 2 ∷ 3 ∷ 1 ∷ 4 ∷ [] }
     ensures replace { numbers.replaced (2 ∷ 3 ∷ 1 ∷ 4 ∷ []) 3 ≡ 2 ∷ 3 ∷ 1 ∷ 4 ∷ [] }
     ensures from_items { numbers.insert_element (numbers.insert_element (numbers.insert_element [] 1) 2) 1 ≡ 2 ∷ 1 ∷ [] }
-{
-}
+{}
 
 /// A set is the map with nothing as value: the two views are one, and an element is put as a key is.
 pub fn a_set_is_a_map<T, S>()
@@ -32,5 +30,4 @@ pub fn a_set_is_a_map<T, S>()
     ensures elements { (ts : List T) → keys_of (pairs_of ts) ≡ ts }
     ensures state { (m : MapState T (Unit {0}) S) → as_map (set_of m) ≡ m }
     ensures put { (eq : T → T → Bool) (es : List (T × Unit {0})) (t : T) (b : ℕ) → keys_of (put eq es t tt b) ≡ put_element eq (keys_of es) t b }
-{
-}
+{}

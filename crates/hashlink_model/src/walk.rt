@@ -11,39 +11,33 @@ pub fn a_walk_from_both_ends()
     ensures gives { walk_gives {X = ℕ} (Front ∷ Front ∷ Back ∷ Back ∷ Back ∷ Front ∷ []) (1 ∷ 2 ∷ 3 ∷ 4 ∷ []) ≡ Some 1 ∷ Some 2 ∷ Some 4 ∷ Some 3 ∷ None ∷ None ∷ [] }
     ensures leaves { walk_leaves {X = ℕ} (Front ∷ Front ∷ Back ∷ Back ∷ Back ∷ Front ∷ []) (1 ∷ 2 ∷ 3 ∷ 4 ∷ []) ≡ [] }
     ensures one_left { walk_leaves {X = ℕ × ℕ} (Front ∷ Back ∷ []) ((1, 10) ∷ (3, 30) ∷ (2, 20) ∷ []) ≡ (3, 30) ∷ [] }
-{
-}
+{}
 
 /// A writing walk changes the values at the places that it lent.
 pub fn a_walk_writes_in_place()
     ensures { numbers.write (numbers.write ((1, 10) ∷ (3, 30) ∷ (2, 20) ∷ []) 0 17) 2 23 ≡ (1, 17) ∷ (3, 30) ∷ (2, 23) ∷ [] }
-{
-}
+{}
 
 /// A step from the front takes the first of what is left, one from the back the last.
 pub fn a_step_takes_an_end<X>()
     ensures front { (xs : List X) → TakesFirst (λ x. x) xs (first_of xs) (after_first_of xs) }
     ensures back { (xs : List X) → TakesLast (λ x. x) xs (last_of xs) (before_last_of xs) }
-{
-}
+{}
 
 /// However a walk goes, each entry comes once: what the front gave, what is left and what the back gave are the list.
 pub fn a_walk_gives_each_entry_once<X>()
     ensures { (steps : List End) (xs : List X) → given_front steps xs ++ (walk_leaves steps xs ++ given_back steps xs) ≡ xs }
-{
-}
+{}
 
 /// The size hint is what is left, and of an empty part both ends give None for good.
 pub fn a_walk_ends<X>()
     ensures hint { (steps : List End) (xs : List X) → length (walk_leaves steps xs) ≡ length xs - length steps }
     ensures gives_none { (end : End) → ◌≡◌ {A = Option X} (step_gives end []) None }
     ensures for_good { (end : End) → ◌≡◌ {A = List X} (step_leaves end []) [] }
-{
-}
+{}
 
 /// A value that is written at the place of a key is the key's value, and no key changes.
 pub fn a_write_changes_one_value<K, V>()
     ensures value { (test : K → Bool) (es : List (K × V)) (j : ℕ) (w : V) → place_of test es ≡ Some j → with_value_at es j w ≡ set_value test es w }
     ensures keys { (es : List (K × V)) (j : ℕ) (w : V) → keys_of (with_value_at es j w) ≡ keys_of es }
-{
-}
+{}

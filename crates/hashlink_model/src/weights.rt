@@ -1,6 +1,8 @@
 //! Rows and laws of entries with weights.
-ghost use Rattle.std.specs.Prelude.{◌≡◌, ℕ, ◌+◌, ◌^◌, ◌-◌, ◌≤◌, List, [], ◌∷◌, ◌++◌, length};
-ghost use Rattle.hashlink_model.specs.Weights.{total_weight, fitting};
+ghost use Rattle.std.specs.Prelude.{Bool, ◌≡◌, ℕ, ◌+◌, ◌^◌, ◌-◌, ◌≤◌, List, [], ◌∷◌, ◌++◌, length};
+ghost use Rattle.std.specs.Cmp.{IsEquivalence};
+ghost use Rattle.hashlink_model.specs.Entries.{IsEntries};
+ghost use Rattle.hashlink_model.specs.Weights.{total_weight, fitting, weighted_put};
 ghost use Rattle.hashlink_model.specs.Numbers as numbers;
 
 /// Inserts into a cache of budget 10, of budget 5, and of the greatest budget.
@@ -12,13 +14,18 @@ pub fn inserts_within_a_budget()
     ensures after_weightless { numbers.weighted_insert ((1, (10, 0)) ∷ (2, (20, 5)) ∷ (3, (30, 0)) ∷ []) 5 4 40 1 ≡ (3, (30, 0)) ∷ (4, (40, 1)) ∷ [] }
     ensures greatest { numbers.weighted_insert ((1, (10, 2 ^ 64 - 1)) ∷ []) (2 ^ 64 - 1) 2 20 (2 ^ 64 - 1) ≡ (2, (20, 2 ^ 64 - 1)) ∷ [] }
     ensures nothing { numbers.weighted_insert [] 0 1 10 0 ≡ (1, (10, 0)) ∷ [] }
-{
-}
+{}
 
 /// The fitting end fits, it is an end, and no longer end fits.
 pub fn fitting_is_the_longest_end_that_fits<K, V>()
     ensures fits { (es : List (K × (V × ℕ))) (budget : ℕ) → total_weight (fitting es budget) ≤ budget }
     ensures end { (es : List (K × (V × ℕ))) (budget : ℕ) → (xs : List (K × (V × ℕ))) × (es ≡ xs ++ fitting es budget) }
     ensures longest { (xs ys : List (K × (V × ℕ))) (budget : ℕ) → total_weight ys ≤ budget → length ys ≤ length (fitting (xs ++ ys) budget) }
-{
-}
+{}
+
+/// After an insert within a budget no two keys are equal, the pair is the last one, and the weights sum to at most the budget.
+pub fn what_an_insert_within_a_budget_leaves<K, V>()
+    ensures keys { (eq : K → K → Bool) → IsEquivalence eq → (es : List (K × (V × ℕ))) (budget : ℕ) (k : K) (v : V) (weight : ℕ) → IsEntries eq es → IsEntries eq (weighted_put eq es budget k v weight) }
+    ensures total { (eq : K → K → Bool) (es : List (K × (V × ℕ))) (budget : ℕ) (k : K) (v : V) (weight : ℕ) → total_weight (weighted_put eq es budget k v weight) ≤ budget }
+    ensures kept { (eq : K → K → Bool) (es : List (K × (V × ℕ))) (budget : ℕ) (k : K) (v : V) (weight : ℕ) → weight ≤ budget → 1 ≤ length (weighted_put eq es budget k v weight) }
+{}

@@ -58,3 +58,7 @@ module _ {K V : Type 0} where
   -- the same with another value
   abbrev pub with_value : Held K V → V → Held K V
   with_value h v = held h.number h.key v
+
+  -- the same with another number
+  abbrev pub with_number : Held K V → ℕ → Held K V
+  with_number h i = held i h.key h.value

@@ -4,7 +4,7 @@ ghost use Rattle.std.specs.Option.{option_map};
 ghost use Rattle.std.specs.List.{IsDistinct};
 ghost use Rattle.std.specs.Map.{keys_of, lookup, remove_entry, set_value};
 ghost use Rattle.hashlink_nodes.specs.Node.{same_node};
-ghost use Rattle.hashlink_nodes.specs.Ring.{ring, held, with_value, pair_of, put_before, next_place, Holds, IsPlace, MovesBefore};
+ghost use Rattle.hashlink_nodes.specs.Ring.{ring, held, with_value, with_number, pair_of, put_before, next_place, Holds, IsPlace, MovesBefore};
 
 use crate::entries::{index_of, index_of_place, place_after};
 use crate::held::Held;
@@ -70,6 +70,7 @@ impl<K, V> Nodes<K, V> {
         requires { IsPlace self.old.entries place }
         ensures entries { IfOk result (λ n. self.new.entries ≡ put_before place (n, held number key value) self.old.entries) }
         ensures free { OnOk result (self.new.free ≡ drop 1 self.old.free) }
+        ensures apart { OnOk result (IsDistinct same_node (keys_of self.new.entries ++ self.new.free)) }
         ensures handed_back { IfErr result (λ pair. pair ≡ (key, value)) }
         ensures refused { OnErr result (self.new ≡ self.old) }
         ensures succeeds { 0 < length self.old.free → IsOk result }
@@ -162,6 +163,25 @@ impl<K, V> Nodes<K, V> {
         let index = index_of(&self.entries, node);
         let held = &self.entries[index].1;
         (&held.key, &held.value)
+    }
+
+    /// The number that the owner gave the node's entry.
+    pub fn number(&self, node: Node) -> usize
+        requires { Holds self.now.entries node }
+        ensures { option_map (λ h. h.number) (lookup (same_node node) self.now.entries) ≡ Some result }
+    {
+        let index = index_of(&self.entries, node);
+        self.entries[index].1.number
+    }
+
+    /// Gives the node's entry another number.
+    pub fn set_number(&mut self, node: Node, number: usize)
+        requires { Holds self.old.entries node }
+        ensures entries { IfSome (lookup (same_node node) self.old.entries) (λ h. self.new.entries ≡ set_value (same_node node) self.old.entries (with_number h number)) }
+        ensures free { self.new.free ≡ self.old.free }
+    {
+        let index = index_of(&self.entries, node);
+        self.entries[index].1.number = number;
     }
 
     /// Puts a value into the node's entry, and answers the old one.

@@ -1,7 +1,6 @@
-use Rattle.std.proofs.Common.{◌≡◌, ◌<◌, ◌-◌, ◌∷◌, [], length, drop, Some, None, ap, sym, ◌∙◌, subst, arith, rules}
-use Rattle.std.specs.List.{IsDistinct}
+use Rattle.std.proofs.Common.{◌≡◌, ◌-◌, ◌∷◌, [], length, drop, sym, ◌∙◌, rules}
 use Rattle.std.specs.Map.{keys_of}
-use Rattle.std.specs.Map.Iter.{TakesFirst, deref_pair}
+use Rattle.std.specs.Map.Iter.{deref_pair}
 use Rattle.hashlink_core.specs.Keyed.{pairs_in}
 use Rattle.hashlink_core.proofs.Walk.{holds-at, distinct-left, none-left, first-left, some-left, stands-next, item-left}
 use Rattle.hashlink_core.proofs.iter.IterIterator.next.Goals as goal

@@ -1,105 +1,177 @@
-use Rattle.std.proofs.Common.{◌≡◌, ◌+◌, ◌-◌, ◌≤◌, ℕ, List, [], length, drop, ◌∷◌, ◌++◌, None, Some, ap, sym, ◌∙◌, subst, refl, arith, length-append, length-drop}
-use Rattle.std.specs.Option.{option_map, IfSome}
-use Rattle.std.specs.Map.{lookup, lookup_entry, set_value}
-use Rattle.std.proofs.lemmas.Map.{none_passes_from_lookup}
+use Rattle.std.proofs.Common.{◌≡◌, ◌+◌, ◌-◌, ◌≤◌, [], length, drop, None, Some, ap, sym, ◌∙◌, subst, refl, arith, rules, length-drop}
+use Rattle.std.specs.Option.{option_map}
+use Rattle.std.specs.List.{IsDistinct}
+use Rattle.std.specs.Map.{lookup, keys_of, values_of}
+use Rattle.std.specs.FinMap.{insert}
 use Rattle.hashlink_nodes.specs.Node.{same_node}
-use Rattle.hashlink_nodes.specs.Ring.{pair_of, held, MovesBefore, with_value}
-use Rattle.hashlink_model.specs.Entries.{IsEntries, put}
-use Rattle.hashlink_model.specs.MapState.{PutsEntry, AddsEntry, MapState, map_state}
-use Rattle.hashlink_model.proofs.Puts.{IsEntries-put}
-use Rattle.hashlink_core.specs.Keyed.{pairs_in, entries_of, state_of}
-use Rattle.hashlink_core.proofs.Standing.{standing, standing-holds, standing-lookup, standing-value, put-holds, put-last, put-length, added-last}
+use Rattle.hashlink_model.specs.Entries.{put}
+use Rattle.hashlink_model.specs.MapState.{MapState, map_state, PutsEntry}
+use Rattle.hashlink_core.specs.Keyed.{nodes_of, pairs_in, entries_of, state_of}
+use Rattle.hashlink_core.specs.Tied.{hash_with, IsInStep}
+use Rattle.hashlink_core.proofs.Finding.{ring-standing, ring-apart}
+use Rattle.hashlink_core.proofs.Standing.{standing-holds, standing-lookup, standing-value, put-holds, put-last}
+use Rattle.hashlink_core.proofs.Stepping.{step-put, step-added, new-holds, new-last}
+use Rattle.hashlink_core.proofs.Walk.{distinct-left, length-nodes_of}
 use Rattle.hashlink_core.proofs.keyed_list.KeyedList.put_last.Goals as goal
 
 pub replace_value-old-requires : goal.replace_value-old-requires
 replace_value-old-requires g c =
-    let s = standing g.K.PartialEq.eq g.met.K.Eq.laws c.self.inside.nodes.entries c.args.key c.in-Some.node c.self.invariant c.in-Some.ensures in
-    standing-holds g.K.PartialEq.eq g.met.K.Eq.laws c.self.inside.nodes.entries c.args.key c.in-Some.node s
+    let eq = g.K.PartialEq.eq in
+    let laws = g.met.K.Eq.laws in
+    let hash = hash_with g.S.BuildHasher.build_hasher g.S.Hasher.Hasher.write g.S.Hasher.Hasher.finish g.K.Hash.hash_input c.self.inside.hash_builder in
+    let r = c.self.inside.nodes in
+    let k = c.args.key in
+    let v = c.args.value in
+    let n = c.in-Some.node in
+    let s = ring-standing eq laws r.entries c.args.self.now.nodes (ap (λ m. m.nodes) c.self.view_is) k n c.self.invariant.distinct c.in-Some.ensures.found in
+    standing-holds eq laws r.entries k n s
 
 pub move_before-requires-clause-node : goal.move_before-requires-clause-node
 move_before-requires-clause-node g c =
-    let s = standing g.K.PartialEq.eq g.met.K.Eq.laws c.self.inside.nodes.entries c.args.key c.in-Some.node c.self.invariant c.in-Some.ensures in
-    put-holds g.K.PartialEq.eq g.met.K.Eq.laws c.self.inside.nodes.entries c.args.key c.in-Some.node s c.args.value c.replace_value-old.new.self.entries [] c.replace_value-old.ensures.entries
+    let eq = g.K.PartialEq.eq in
+    let laws = g.met.K.Eq.laws in
+    let hash = hash_with g.S.BuildHasher.build_hasher g.S.Hasher.Hasher.write g.S.Hasher.Hasher.finish g.K.Hash.hash_input c.self.inside.hash_builder in
+    let r = c.self.inside.nodes in
+    let k = c.args.key in
+    let v = c.args.value in
+    let n = c.in-Some.node in
+    let s = ring-standing eq laws r.entries c.args.self.now.nodes (ap (λ m. m.nodes) c.self.view_is) k n c.self.invariant.distinct c.in-Some.ensures.found in
+    put-holds eq laws r.entries k n s v c.replace_value-old.new.self.entries [] c.replace_value-old.ensures.entries
 
 pub invariant_of-self : goal.invariant_of-self
 invariant_of-self g c =
     let eq = g.K.PartialEq.eq in
-    let es = c.self.inside.nodes.entries in
-    let s = standing eq g.met.K.Eq.laws es c.args.key c.in-Some.node c.self.invariant c.in-Some.ensures in
-    let is : pairs_in c.move_before.new.self.entries ≡ put eq (pairs_in es) c.args.key c.args.value (length (pairs_in es)) =
-    put-last eq g.met.K.Eq.laws es c.args.key c.in-Some.node s c.args.value c.replace_value-old.new.self.entries c.move_before.new.self.entries c.replace_value-old.ensures.entries c.move_before.ensures.moved in
-    subst (IsEntries eq) (sym is) (IsEntries-put eq g.met.K.Eq.laws (pairs_in es) c.args.key c.args.value (length (pairs_in es)) c.self.invariant)
-
-pub invariant_of-self-in-None : goal.invariant_of-self-in-None
-invariant_of-self-in-None g c =
-    let eq = g.K.PartialEq.eq in
-    let es = c.self.inside.nodes.entries in
-    let absent = none_passes_from_lookup (eq c.args.key) (pairs_in es) c.in-None.ensures in
-    let is : pairs_in c.push_before.new.self.entries ≡ put eq (pairs_in es) c.args.key c.args.value (length (pairs_in es)) =
-    added-last eq es c.push_before.new.self.entries c.in_ok-push_before-in-None.field-0 (held 0 c.args.key c.args.value) absent c.in_ok-push_before-in-None.ensures.entries in
-    subst (IsEntries eq) (sym is) (IsEntries-put eq g.met.K.Eq.laws (pairs_in es) c.args.key c.args.value (length (pairs_in es)) c.self.invariant)
+    let laws = g.met.K.Eq.laws in
+    let hash = hash_with g.S.BuildHasher.build_hasher g.S.Hasher.Hasher.write g.S.Hasher.Hasher.finish g.K.Hash.hash_input c.self.inside.hash_builder in
+    let r = c.self.inside.nodes in
+    let k = c.args.key in
+    let v = c.args.value in
+    let n = c.in-Some.node in
+    let s = ring-standing eq laws r.entries c.args.self.now.nodes (ap (λ m. m.nodes) c.self.view_is) k n c.self.invariant.distinct c.in-Some.ensures.found in
+    let apart = ring-apart eq laws r.entries c.args.self.now.nodes (ap (λ m. m.nodes) c.self.view_is) c.in-Some.ensures.apart in
+    step-put eq laws hash r c.self.inside.table k n s apart c.self.invariant v c.replace_value-old.new.self.entries c.move_before.new.self c.replace_value-old.ensures.entries c.move_before.ensures.moved
+    (c.move_before.ensures.free ∙ c.replace_value-old.ensures.free)
 
 pub returns-in-Some-clause-inserts : goal.returns-in-Some-clause-inserts
 returns-in-Some-clause-inserts g c =
     let eq = g.K.PartialEq.eq in
-    let es = c.self.inside.nodes.entries in
+    let laws = g.met.K.Eq.laws in
+    let hash = hash_with g.S.BuildHasher.build_hasher g.S.Hasher.Hasher.write g.S.Hasher.Hasher.finish g.K.Hash.hash_input c.self.inside.hash_builder in
+    let r = c.self.inside.nodes in
     let k = c.args.key in
     let v = c.args.value in
     let n = c.in-Some.node in
-    let s = standing eq g.met.K.Eq.laws es k n c.self.invariant c.in-Some.ensures in
+    let s = ring-standing eq laws r.entries c.args.self.now.nodes (ap (λ m. m.nodes) c.self.view_is) k n c.self.invariant.distinct c.in-Some.ensures.found in
     let with = c.replace_value-old.new.self.entries in
-    let moved = c.move_before.new.self.entries in
-    let old : Some s.held.value ≡ Some c.replace_value-old.result = sym (ap (option_map (λ h. h.value)) (standing-lookup eq g.met.K.Eq.laws es k n s)) ∙ c.replace_value-old.ensures.value in
-    let free : length c.move_before.new.self.free ≡ length c.self.inside.nodes.free = ap length (c.move_before.ensures.free ∙ c.replace_value-old.ensures.free) in
-    let count : length moved ≡ length es = put-length eq g.met.K.Eq.laws es k n s v with moved c.replace_value-old.ensures.entries c.move_before.ensures.moved in
-    let same_room : length moved + length c.move_before.new.self.free ≡ length es + length c.self.inside.nodes.free = omega (arith, free, count) in
     let left = c.move_before.new.self in
-    let new : MapState g.row.K.Denot g.row.V.Denot g.row.S.Denot = map_state (pairs_in left.entries) (length left.free) (length left.entries + length left.free) c.self.inside.hash_builder in
+    let old : Some s.held.value ≡ Some c.replace_value-old.result = sym (ap (option_map (λ h. h.value)) (standing-lookup eq laws r.entries k n s)) ∙ c.replace_value-old.ensures.value in
+    let new : MapState g.row.K.Denot g.row.V.Denot g.row.S.Denot = map_state (pairs_in left.entries) (length left.free) c.self.inside.table.room c.self.inside.hash_builder in
     subst (λ m. PutsEntry eq (state_of m) new k v (length (entries_of m)) c.replace_value-old.result) c.self.view_is
     (record {
-      old_value = standing-value eq g.met.K.Eq.laws es k n s ∙ old;
-      entries = put-last eq g.met.K.Eq.laws es k n s v with moved c.replace_value-old.ensures.entries c.move_before.ensures.moved;
-      spare = free;
-      room = same_room;
-      hasher = refl;
-    })
-
-pub returns-in_ok-push_before-in-None-clause-inserts : goal.returns-in_ok-push_before-in-None-clause-inserts
-returns-in_ok-push_before-in-None-clause-inserts g c =
-    let eq = g.K.PartialEq.eq in
-    let es = c.self.inside.nodes.entries in
-    let k = c.args.key in
-    let v = c.args.value in
-    let absent = none_passes_from_lookup (eq k) (pairs_in es) c.in-None.ensures in
-    let added = c.push_before.new.self in
-    let grown : added.entries ≡ es ++ (c.in_ok-push_before-in-None.field-0, held 0 k v) ∷ [] = c.in_ok-push_before-in-None.ensures.entries in
-    let free : length added.free ≡ length c.self.inside.nodes.free - 1 = ap length c.in_ok-push_before-in-None.ensures.free ∙ length-drop 1 c.self.inside.nodes.free in
-    let count : length added.entries ≡ length es + 1 = ap length grown ∙ length-append es ((c.in_ok-push_before-in-None.field-0, held 0 k v) ∷ []) in
-    let more_room : length es + length c.self.inside.nodes.free ≤ length added.entries + length added.free = omega (arith, free, count) in
-    let new : MapState g.row.K.Denot g.row.V.Denot g.row.S.Denot = map_state (pairs_in added.entries) (length added.free) (length added.entries + length added.free) c.self.inside.hash_builder in
-    subst (λ m. AddsEntry eq (state_of m) new k v (length (entries_of m))) c.self.view_is
-    (record {
-      absent = c.in-None.ensures;
-      entries = added-last eq es added.entries c.in_ok-push_before-in-None.field-0 (held 0 k v) absent grown;
-      spare = free;
-      room = more_room;
+      old_value = standing-value eq laws r.entries k n s ∙ old;
+      entries = put-last eq laws r.entries k n s v with left.entries c.replace_value-old.ensures.entries c.move_before.ensures.moved;
+      spare = ap length (c.move_before.ensures.free ∙ c.replace_value-old.ensures.free);
+      room = refl;
       hasher = refl;
     })
 
 pub returns-in-Some-clause-distinct : goal.returns-in-Some-clause-distinct
 returns-in-Some-clause-distinct g c =
     let eq = g.K.PartialEq.eq in
-    let es = c.self.inside.nodes.entries in
-    let s = standing eq g.met.K.Eq.laws es c.args.key c.in-Some.node c.self.invariant c.in-Some.ensures in
-    let is : pairs_in c.move_before.new.self.entries ≡ put eq (pairs_in es) c.args.key c.args.value (length (pairs_in es)) =
-    put-last eq g.met.K.Eq.laws es c.args.key c.in-Some.node s c.args.value c.replace_value-old.new.self.entries c.move_before.new.self.entries c.replace_value-old.ensures.entries c.move_before.ensures.moved in
-    subst (IsEntries eq) (sym is) (IsEntries-put eq g.met.K.Eq.laws (pairs_in es) c.args.key c.args.value (length (pairs_in es)) c.self.invariant)
+    let laws = g.met.K.Eq.laws in
+    let hash = hash_with g.S.BuildHasher.build_hasher g.S.Hasher.Hasher.write g.S.Hasher.Hasher.finish g.K.Hash.hash_input c.self.inside.hash_builder in
+    let r = c.self.inside.nodes in
+    let k = c.args.key in
+    let v = c.args.value in
+    let n = c.in-Some.node in
+    let s = ring-standing eq laws r.entries c.args.self.now.nodes (ap (λ m. m.nodes) c.self.view_is) k n c.self.invariant.distinct c.in-Some.ensures.found in
+    let apart = ring-apart eq laws r.entries c.args.self.now.nodes (ap (λ m. m.nodes) c.self.view_is) c.in-Some.ensures.apart in
+    let step = step-put eq laws hash r c.self.inside.table k n s apart c.self.invariant v c.replace_value-old.new.self.entries c.move_before.new.self c.replace_value-old.ensures.entries c.move_before.ensures.moved
+    (c.move_before.ensures.free ∙ c.replace_value-old.ensures.free) in
+    step.distinct
 
-pub returns-in_ok-push_before-in-None-clause-distinct : goal.returns-in_ok-push_before-in-None-clause-distinct
-returns-in_ok-push_before-in-None-clause-distinct g c =
+pub set_number-requires : goal.set_number-requires
+set_number-requires g c =
+    let k = c.args.key in
+    let v = c.args.value in
+    let n = c.in_ok-node.node in
+    let r = c.self-2.inside.nodes in
+    let apart : IsDistinct same_node (keys_of c.push_before.new.self.entries) = distinct-left (keys_of c.push_before.new.self.entries) c.push_before.new.self.free c.in_ok-node.ensures.apart in
+    new-holds r c.push_before.new.self k v n c.in_ok-node.ensures.entries apart
+
+pub invariant_of-self-2 : goal.invariant_of-self-2
+invariant_of-self-2 g c =
     let eq = g.K.PartialEq.eq in
-    let es = c.self.inside.nodes.entries in
-    let absent = none_passes_from_lookup (eq c.args.key) (pairs_in es) c.in-None.ensures in
-    let is : pairs_in c.push_before.new.self.entries ≡ put eq (pairs_in es) c.args.key c.args.value (length (pairs_in es)) =
-    added-last eq es c.push_before.new.self.entries c.in_ok-push_before-in-None.field-0 (held 0 c.args.key c.args.value) absent c.in_ok-push_before-in-None.ensures.entries in
-    subst (IsEntries eq) (sym is) (IsEntries-put eq g.met.K.Eq.laws (pairs_in es) c.args.key c.args.value (length (pairs_in es)) c.self.invariant)
+    let laws = g.met.K.Eq.laws in
+    let hash = hash_with g.S.BuildHasher.build_hasher g.S.Hasher.Hasher.write g.S.Hasher.Hasher.finish g.K.Hash.hash_input c.self-2.inside.hash_builder in
+    let r = c.self-2.inside.nodes in
+    let t = c.self-2.inside.table in
+    let k = c.args.key in
+    let v = c.args.value in
+    let n = c.in_ok-node.node in
+    let cell = c.insert_reserved-cell.result in
+    let same : nodes_of r.entries ≡ c.args.self.now.nodes = ap (λ m. m.nodes) c.self-2.view_is ∙ c.make_room.ensures.nodes in
+    let absent : lookup (eq k) (pairs_in r.entries) ≡ None = ap (λ ns. lookup (eq k) (values_of ns)) same ∙ c.in_default.ensures.found in
+    let apart : IsDistinct same_node (keys_of c.push_before.new.self.entries) = distinct-left (keys_of c.push_before.new.self.entries) c.push_before.new.self.free c.in_ok-node.ensures.apart in
+    let freed : c.set_number.new.self.free ≡ drop 1 r.free = c.set_number.ensures.free ∙ c.in_ok-node.ensures.free in
+    let ok : length c.make_room.new.self.nodes + 1 ≤ c.make_room.new.self.room = search rules in
+    let count : length (nodes_of r.entries) ≡ length r.entries = length-nodes_of r.entries in
+    let room : length r.entries + 1 ≤ t.room = omega (arith, ok, count, ap (λ m. length m.nodes) c.self-2.view_is, ap (λ m. m.room) c.self-2.view_is) in
+    let asked : hash k ≡ c.hash_of-hash.result =
+    ap (λ h. hash_with g.S.BuildHasher.build_hasher g.S.Hasher.Hasher.write g.S.Hasher.Hasher.finish g.K.Hash.hash_input h k) (ap (λ m. m.hasher) c.self-2.view_is ∙ c.make_room.ensures.hasher) ∙ sym c.hash_of-hash.ensures in
+    let step = step-added eq laws hash r c.push_before.new.self c.set_number.new.self t k v n cell absent c.in_ok-node.ensures.entries apart c.set_number.ensures.entries
+    c.self-2.invariant c.insert_reserved-cell.ensures.was_free room freed in
+    subst (IsInStep eq hash c.set_number.new.self) (sym c.insert_reserved-cell.ensures.inserted)
+    (subst (λ h. IsInStep eq hash c.set_number.new.self (record t { nodes = insert t.nodes cell (record { hash = h; node = n }) })) asked step)
+
+pub returns-clause-inserts : goal.returns-clause-inserts
+returns-clause-inserts g c =
+    let eq = g.K.PartialEq.eq in
+    let laws = g.met.K.Eq.laws in
+    let hash = hash_with g.S.BuildHasher.build_hasher g.S.Hasher.Hasher.write g.S.Hasher.Hasher.finish g.K.Hash.hash_input c.self-2.inside.hash_builder in
+    let r = c.self-2.inside.nodes in
+    let t = c.self-2.inside.table in
+    let k = c.args.key in
+    let v = c.args.value in
+    let n = c.in_ok-node.node in
+    let cell = c.insert_reserved-cell.result in
+    let same : nodes_of r.entries ≡ c.args.self.now.nodes = ap (λ m. m.nodes) c.self-2.view_is ∙ c.make_room.ensures.nodes in
+    let absent : lookup (eq k) (pairs_in r.entries) ≡ None = ap (λ ns. lookup (eq k) (values_of ns)) same ∙ c.in_default.ensures.found in
+    let apart : IsDistinct same_node (keys_of c.push_before.new.self.entries) = distinct-left (keys_of c.push_before.new.self.entries) c.push_before.new.self.free c.in_ok-node.ensures.apart in
+    let freed : c.set_number.new.self.free ≡ drop 1 r.free = c.set_number.ensures.free ∙ c.in_ok-node.ensures.free in
+    let pairs : pairs_in r.entries ≡ entries_of c.args.self.now = ap values_of same in
+    let last : pairs_in c.set_number.new.self.entries ≡ put eq (pairs_in r.entries) k v (length (pairs_in r.entries)) =
+    new-last eq laws hash r c.push_before.new.self c.set_number.new.self t k v n cell absent c.in_ok-node.ensures.entries apart c.set_number.ensures.entries in
+    let kept_room : c.insert_reserved-cell.new.self.room ≡ t.room = ap (λ u. u.room) c.insert_reserved-cell.ensures.inserted in
+    let more_room : c.args.self.now.room ≤ c.insert_reserved-cell.new.self.room = omega (arith, c.make_room.ensures.room, kept_room, ap (λ m. m.room) c.self-2.view_is) in
+    record {
+      absent = c.in_default.ensures.found;
+      entries = last ∙ ap (λ ps. put eq ps k v (length ps)) pairs;
+      spare = ap length freed ∙ length-drop 1 r.free ∙ ap (λ i. i - 1) (ap (λ m. m.spare) c.self-2.view_is ∙ c.make_room.ensures.spare);
+      room = more_room;
+      hasher = ap (λ m. m.hasher) c.self-2.view_is ∙ c.make_room.ensures.hasher;
+    }
+
+pub returns-clause-distinct : goal.returns-clause-distinct
+returns-clause-distinct g c =
+    let eq = g.K.PartialEq.eq in
+    let laws = g.met.K.Eq.laws in
+    let hash = hash_with g.S.BuildHasher.build_hasher g.S.Hasher.Hasher.write g.S.Hasher.Hasher.finish g.K.Hash.hash_input c.self-2.inside.hash_builder in
+    let r = c.self-2.inside.nodes in
+    let t = c.self-2.inside.table in
+    let k = c.args.key in
+    let v = c.args.value in
+    let n = c.in_ok-node.node in
+    let cell = c.insert_reserved-cell.result in
+    let same : nodes_of r.entries ≡ c.args.self.now.nodes = ap (λ m. m.nodes) c.self-2.view_is ∙ c.make_room.ensures.nodes in
+    let absent : lookup (eq k) (pairs_in r.entries) ≡ None = ap (λ ns. lookup (eq k) (values_of ns)) same ∙ c.in_default.ensures.found in
+    let apart : IsDistinct same_node (keys_of c.push_before.new.self.entries) = distinct-left (keys_of c.push_before.new.self.entries) c.push_before.new.self.free c.in_ok-node.ensures.apart in
+    let freed : c.set_number.new.self.free ≡ drop 1 r.free = c.set_number.ensures.free ∙ c.in_ok-node.ensures.free in
+    let ok : length c.make_room.new.self.nodes + 1 ≤ c.make_room.new.self.room = search rules in
+    let count : length (nodes_of r.entries) ≡ length r.entries = length-nodes_of r.entries in
+    let room : length r.entries + 1 ≤ t.room = omega (arith, ok, count, ap (λ m. length m.nodes) c.self-2.view_is, ap (λ m. m.room) c.self-2.view_is) in
+    let asked : hash k ≡ c.hash_of-hash.result =
+    ap (λ h. hash_with g.S.BuildHasher.build_hasher g.S.Hasher.Hasher.write g.S.Hasher.Hasher.finish g.K.Hash.hash_input h k) (ap (λ m. m.hasher) c.self-2.view_is ∙ c.make_room.ensures.hasher) ∙ sym c.hash_of-hash.ensures in
+    let step = step-added eq laws hash r c.push_before.new.self c.set_number.new.self t k v n cell absent c.in_ok-node.ensures.entries apart c.set_number.ensures.entries
+    c.self-2.invariant c.insert_reserved-cell.ensures.was_free room freed in
+    step.distinct

@@ -1,0 +1,18 @@
+-- When the entries of a smaller cache are an end of a larger one's.
+use Rattle.std.specs.Prelude.{◌≡◌, Bool, true, List, ◌++◌}
+use Rattle.std.specs.List.{AllZip}
+
+module _ {K V : Type 0} (eq : K → K → Bool) where
+  -- equal keys; and the same value besides
+  abbrev pub SameKey : K × V → K × V → Type 0
+  SameKey p q = eq p.0 q.0 ≡ true
+
+  abbrev pub SameEntry : K × V → K × V → Type 0
+  SameEntry p q = (eq p.0 q.0 ≡ true) × (p.1 ≡ q.1)
+
+-- the entries of `large` are some in front, and then as many as `small` has, each alike by R
+pub record IsEndOf {K V : Type 0} (R : K × V → K × V → Type 0) (small large : List (K × V)) : Type 0 where
+  pub front : List (K × V)
+  pub back : List (K × V)
+  pub is : large ≡ front ++ back
+  pub alike : AllZip R small back

@@ -1,0 +1,6 @@
+-- Lemmas on texts that are read from their front.
+pub mod Cutting
+pub mod Digits
+pub mod Lists
+pub mod Runs
+pub mod Spelled

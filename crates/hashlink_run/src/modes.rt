@@ -1,0 +1,18 @@
+ghost use Rattle.std.specs.Prelude.{◌≡◌};
+ghost use Rattle.hashlink_run.specs.Says.{mode_said};
+
+// What the lines after the first speak to.
+#[derive(Clone, Copy)]
+pub(crate) enum Mode {
+    Map,
+}
+
+// The mode that the line names, or nothing where it is bad.
+pub(crate) fn mode_of(line: &[u8]) -> Option<Mode>
+    ensures { result ≡ mode_said line.now }
+{
+    match line {
+        b"map" => Some(Mode::Map),
+        _ => None,
+    }
+}

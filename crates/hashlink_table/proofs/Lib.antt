@@ -1,0 +1,10 @@
+pub mod Agreeing
+pub mod Callers
+pub mod Cells
+pub mod Linking
+pub mod Paths
+pub mod Results
+pub mod Sound
+pub mod Threads
+pub mod Views
+pub mod Walks

@@ -1,0 +1,9 @@
+use Rattle.std.proofs.Common.{length, take, ◌++◌, ◌∷◌, []}
+use Rattle.hashlink_table.specs.Chains.{next_at, chain_at, IsThreaded, SameNodes}
+use Rattle.hashlink_table.proofs.links.relink.Given as goal
+
+-- the cells so far are chained, and each cell has its node
+abbrev pub invariant-loop-at : goal.invariant-loop-at
+invariant-loop-at g l =
+    IsThreaded (l.heads ++ l.free ∷ []) (next_at l.cells) (chain_at (length l.heads) (take l.at l.cells))
+    × SameNodes l.fn.cells l.cells

@@ -1,0 +1,72 @@
+use Rattle.std.proofs.Common.{ℕ, ◌<◌, length, sym, ◌∙◌, subst, inl, inr, arith}
+use Rattle.std.proofs.lemmas.List.{get_or_default}
+use Rattle.hashlink_table.specs.declared.cell.TheConstants.{END}
+use Rattle.hashlink_table.specs.Chains.{next_at, chain_at, Among}
+use Rattle.hashlink_table.proofs.Cells.{within_by_chain, kept_at_read, next_at_read}
+use Rattle.hashlink_table.proofs.Linking.{unlinked_first, unlinked_next}
+use Rattle.hashlink_table.proofs.Walks.{IsWalk, walk_of, walk_on, walk_at, walk_goes, steps_left, steps_left-falls}
+use Rattle.hashlink_table.proofs.links.unlink.Goals as goal
+
+pub returns-then-at-cell-clause-unlinked : goal.returns-then-at-cell-clause-unlinked
+returns-then-at-cell-clause-unlinked g c =
+    let heads = c.args.heads.now in let cells = c.args.cells.now in
+    let within : c.args.cell < length cells = within_by_chain (length heads) cells c.args.cell c.args.bucket c.requires.on_chain (omega arith) in
+    λ free linked. rw (next_at_read cells c.args.cell c.index-cells-cell.result within)
+    (unlinked_first heads cells free c.args.bucket c.args.cell c.requires.within
+    (get_or_default heads c.args.bucket END 0 c.requires.within ∙ c.if-at-cell.true)
+    (λ e. omega arith) c.requires.on_chain linked)
+
+pub loop-at-init : goal.loop-at-init
+loop-at-init g c =
+    let heads = c.args.heads.now in let cells = c.args.cells.now in
+    let start = get_or_default heads c.args.bucket END 0 c.requires.within in
+    let w = walk_of heads cells c.requires.linked.0 c.args.bucket c.requires.linked.1 c.requires.within in
+    let From : ℕ → Type 0 = λ at. (v : IsWalk (next_at cells) (chain_at (length heads) cells) c.args.bucket at (length cells)) × Among v.path c.args.cell in
+    let v = subst From start (w.0, w.1 c.args.cell c.requires.on_chain) in
+    record {
+      walk = v.0;
+      to_come = v.1;
+      apart = c.if-at-cell.false;
+      within = within_by_chain (length heads) cells _ c.args.bucket (walk_at v.0 (walk_goes v.0 c.args.cell v.1)) (omega arith);
+    }
+
+pub loop-at-smaller : goal.loop-at-smaller
+loop-at-smaller g c =
+    let cells = c.args.cells.now in
+    let w = c.loop-at.invariant.walk in
+    let next = next_at_read cells c.loop-at.at c.index-cells-at-in-loop-at.result c.loop-at.invariant.within in
+    subst (λ n. steps_left (next_at cells) (length cells) n < steps_left (next_at cells) (length cells) c.loop-at.at) (sym next)
+    (steps_left-falls w (walk_goes w c.args.cell c.loop-at.invariant.to_come))
+
+pub loop-at-preserved : goal.loop-at-preserved
+loop-at-preserved g c =
+    let heads = c.args.heads.now in let cells = c.args.cells.now in
+    let w = c.loop-at.invariant.walk in
+    let r = walk_on w (walk_goes w c.args.cell c.loop-at.invariant.to_come) in
+    let next = next_at_read cells c.loop-at.at c.index-cells-at-in-loop-at.result c.loop-at.invariant.within in
+    let to_come : Among r.rest.path c.args.cell = elim (r.cases c.args.cell c.loop-at.invariant.to_come) as (λ _. Among r.rest.path c.args.cell) [
+      | inl e ↦ absurd (c.loop-at.invariant.apart e)
+      | inr m ↦ m
+    ] in
+    let From : ℕ → Type 0 = λ at. (v : IsWalk (next_at cells) (chain_at (length heads) cells) c.args.bucket at (length cells)) × Among v.path c.args.cell in
+    let v = subst From (sym next) (r.rest, to_come) in
+    record {
+      walk = v.0;
+      to_come = v.1;
+      apart = λ e. c.loop-at-test.true (next_at_read cells c.loop-at.at c.index-cells-at.result c.loop-at.invariant.within ∙ sym next ∙ e);
+      within = within_by_chain (length heads) cells _ c.args.bucket (walk_at v.0 (walk_goes v.0 c.args.cell v.1)) (omega arith);
+    }
+
+pub returns-clause-unlinked : goal.returns-clause-unlinked
+returns-clause-unlinked g c =
+    let heads = c.args.heads.now in let cells = c.args.cells.now in
+    let w = c.loop-at.invariant.walk in
+    let within = c.loop-at.invariant.within in
+    let there : c.args.cell < length cells = within_by_chain (length heads) cells c.args.cell c.args.bucket c.requires.on_chain (omega arith) in
+    λ free linked. unlinked_next heads cells free c.loop-at.at c.args.cell _ within
+    (sym (next_at_read cells c.loop-at.at c.index-cells-at.result within) ∙ c.loop-at-test.false)
+    (next_at_read cells c.args.cell c.index-cells-cell.result there)
+    (kept_at_read cells c.loop-at.at c.index-cells-at-2.result within)
+    (λ e. omega arith)
+    (c.requires.on_chain ∙ sym (walk_at w (walk_goes w c.args.cell c.loop-at.invariant.to_come)))
+    linked

@@ -1,0 +1,5 @@
+use Rattle.hashlink_table.proofs.Views.{contents-nil}
+use Rattle.hashlink_table.proofs.table.Table.new.Goals as goal
+
+pub returns : goal.returns
+returns g c = rw c.new-2.ensures.items (contents-nil 0)

@@ -1,0 +1,101 @@
+-- How a `Table` chains its cells. No public clause cites this module.
+use Rattle.std.specs.Prelude.{◌≡◌, ◌≢◌, ℕ, suc, ◌+◌, ◌%◌, ◌^◌, ◌<◌, ◌≤◌, ◌⊎◌, List, [], ◌∷◌, ◌++◌, map, length, Option, Some, None, is_some, count_by, slice_index_or, slice_set}
+use Rattle.std.specs.FinMap.{from_sorted}
+use Rattle.std.specs.Int.{IsPowerOfTwo}
+use Rattle.hashlink_table.specs.Contents.{Contents}
+use Rattle.hashlink_table.specs.declared.kept.Kept.{Kept}
+use Rattle.hashlink_table.specs.declared.cell.Cell.{Cell}
+use Rattle.hashlink_table.specs.declared.cell.TheConstants.{END}
+
+module _ {N : Type 0} where
+  -- what a read past the last cell gives
+  abbrev pub no_cell : Cell N
+  no_cell = record { kept = None; next = END }
+
+  abbrev pub kept_at : List (Cell N) → ℕ → Option (Kept N)
+  kept_at cells i = (slice_index_or cells i no_cell).kept
+
+  abbrev pub next_at : List (Cell N) → ℕ → ℕ
+  next_at cells i = (slice_index_or cells i no_cell).next
+
+  -- the chain of a cell: that of its bucket, and after the buckets' chains that of the free cells
+  abbrev pub chain_of : ℕ → Option (Kept N) → ℕ
+  chain_of buckets None = buckets
+  chain_of buckets (Some k) = k.hash % buckets
+
+  -- the chain of the cell with this number; past the last cell there is none
+  abbrev pub chain_at : ℕ → List (Cell N) → ℕ → ℕ
+  chain_at buckets cells i = slice_index_or (map (λ c. chain_of buckets c.kept) cells) i (suc buckets)
+
+  -- the entry of a cell, before the entries of later cells
+  abbrev pub with_entry : ℕ → Option (Kept N) → List (ℕ × Kept N) → List (ℕ × Kept N)
+  with_entry i None es = es
+  with_entry i (Some k) es = (i, k) ∷ es
+
+  -- the nodes of these cells, where the first has this number
+  abbrev pub entries_from : ℕ → List (Cell N) → List (ℕ × Kept N)
+  entries_from i [] = []
+  entries_from i (c ∷ cs) = with_entry i c.kept (entries_from (suc i) cs)
+
+  -- what a contract sees of a table with these cells
+  unfoldable pub contents : List (Cell N) → ℕ → Contents N
+  contents cells room = record { nodes = from_sorted (entries_from 0 cells); room = room }
+
+  -- how many cells have a node
+  abbrev pub taken : List (Cell N) → ℕ
+  taken cells = count_by (λ c. is_some c.kept) cells
+
+-- i is one of the list
+abbrev pub Among : List ℕ → ℕ → Type 0
+Among [] i = ⊥
+Among (x ∷ xs) i = (x ≡ i) ⊎ Among xs i
+
+-- the links lead from this cell over the cells of the list to the end
+abbrev pub IsPath : (ℕ → ℕ) → ℕ → List ℕ → Type 0
+IsPath next from [] = from ≡ END
+IsPath next from (i ∷ is) = (from ≡ i) × (i ≢ END) × IsPath next (next i) is
+
+-- the links lead from this cell over exactly the cells of chain b
+pub record IsChain (next chain : ℕ → ℕ) (from b : ℕ) : Type 0 where
+  pub path : List ℕ
+  pub linked : IsPath next from path
+  pub inside : (i : ℕ) → Among path i → chain i ≡ b
+  pub whole : (i : ℕ) → chain i ≡ b → Among path i
+
+-- each chain starts where the list says
+abbrev pub IsThreaded : List ℕ → (ℕ → ℕ) → (ℕ → ℕ) → Type 0
+IsThreaded starts next chain =
+    (b : ℕ) → b < length starts → IsChain next chain (slice_index_or starts b END) b
+
+-- the heads start the buckets' chains, and `free` the chain of the free cells
+abbrev pub IsLinked : {N : Type 0} → List ℕ → List (Cell N) → ℕ → Type 0
+IsLinked heads cells free =
+    IsThreaded (heads ++ free ∷ []) (next_at cells) (chain_at (length heads) cells)
+
+-- the same, but that the cell i is on no chain, whatever else is said of it
+abbrev pub IsLinkedBut : {N : Type 0} → List ℕ → List (Cell N) → ℕ → ℕ → Type 0
+IsLinkedBut heads cells free i =
+    (now : ℕ → ℕ) → ((b : ℕ) → b < length heads + 1 → now i ≢ b)
+    → ((j : ℕ) → j ≢ i → now j ≡ chain_at (length heads) cells j)
+    → IsThreaded (heads ++ free ∷ []) (next_at cells) now
+
+-- each cell keeps its node
+abbrev pub SameNodes : {N : Type 0} → List (Cell N) → List (Cell N) → Type 0
+SameNodes old new = (i : ℕ) → kept_at new i ≡ kept_at old i
+
+-- the cell went to the first free place, or after the last cell where none was free
+abbrev pub IsPlaced : {N : Type 0} → List (Cell N) → List (Cell N) → ℕ → ℕ → Cell N → ℕ → Type 0
+IsPlaced old new free now cell at =
+    ((free ≡ END) × (at ≡ length old) × (new ≡ old ++ cell ∷ []) × (now ≡ END))
+    ⊎ ((free ≢ END) × (at ≡ free) × (new ≡ slice_set old at cell) × (now ≡ next_at old at))
+
+-- the fields of a table agree
+pub record IsSound {N : Type 0} (heads : List ℕ) (cells : List (Cell N)) (capacity free len room : ℕ) : Type 0 where
+  pub linked : IsLinked heads cells free
+  pub counted : len ≡ taken cells
+  pub held : len ≤ room
+  pub headed : room ≤ length heads
+  pub reserved : room ≤ capacity
+  pub small : length heads ≤ 2 ^ 62
+  pub cells_small : length cells ≤ 2 ^ 62
+  pub masked : 0 < length heads → IsPowerOfTwo (length heads)

@@ -1,0 +1,20 @@
+//! A hash table of nodes: which node stands under which hash, and in which cell.
+//!
+//! The table holds small handles and the hashes that it was given with them. It never hashes, and never compares keys:
+//! a find asks its caller's closure. All growth happens in `reserve`, so that an insert takes no memory.
+#![tactic(auto)]
+
+mod bucket;
+mod cell;
+mod error;
+mod kept;
+mod links;
+mod steps;
+mod table;
+#[cfg(test)]
+mod tests;
+
+pub use error::TryReserveError;
+pub use kept::Kept;
+pub use steps::Steps;
+pub use table::{MAX_ROOM, Table};

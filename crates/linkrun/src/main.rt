@@ -1,0 +1,15 @@
+//! Reads a text of lines from standard input and answers it on standard output.
+#![tactic(auto)]
+
+use hashlink_run::serve;
+use std::process::ExitCode;
+
+fn main(rt: HostRuntime) -> ExitCode {
+    match serve(rt.alloc(), &mut rt.stdin(), &mut rt.stdout()) {
+        Ok(()) => ExitCode::SUCCESS,
+        Err(fault) => {
+            let _ = eprintln!(rt; "{fault}");
+            ExitCode::FAILURE
+        }
+    }
+}
