@@ -2,5 +2,6 @@
 pub mod Finding
 pub mod Standing
 pub mod Stepping
+pub mod Stores
 pub mod Tying
 pub mod Walk

@@ -25,11 +25,11 @@ use Rattle.hashlink_core.proofs.Standing.{IsStanding, standing-lookup, standing-
 use Rattle.hashlink_core.proofs.Tying.{tied-none, tied-added, tied-taken, tied-changed, with-middle, with-last}
 
 module _ {K V : Type 0} (eq : K → K → Bool) (laws : IsEquivalence eq) (hash : K → ℕ) where
-  pub step-none : (r : Ring K V) (t : Contents Node) → r ≡ ring [] [] → t ≡ record { nodes = empty; room = 0 } → IsInStep eq hash r t
+  pub step-none : (r : Ring K V) (t : Contents Node) → r ≡ ring [] [] 0 → t ≡ record { nodes = empty; room = 0 } → IsInStep eq hash r t
   step-none r t none bare =
-      let start : IsInStep {V = V} eq hash (ring [] []) (record { nodes = empty; room = 0 }) =
+      let start : IsInStep {V = V} eq hash (ring [] [] 0) (record { nodes = empty; room = 0 }) =
       record { distinct = IsEntries-nil V eq; tied = tied-none hash 0; count = len-empty nat_cmp (Kept Node); fits = omega arith } in
-      subst (λ s. IsInStep eq hash s t) (sym none) (subst (IsInStep eq hash (ring [] [])) (sym bare) start)
+      subst (λ s. IsInStep eq hash s t) (sym none) (subst (IsInStep eq hash (ring [] [] 0)) (sym bare) start)
 
   -- more room, and the same nodes
   pub step-roomier : (r : Ring K V) (t u : Contents Node) → u.nodes ≡ t.nodes → t.room ≤ u.room → IsInStep eq hash r t → IsInStep eq hash r u

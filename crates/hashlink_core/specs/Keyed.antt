@@ -7,11 +7,12 @@ use Rattle.hashlink_nodes.specs.Node.{same_node}
 use Rattle.hashlink_nodes.specs.declared.held.Held.{Held}
 use Rattle.hashlink_nodes.specs.Ring.{pair_of}
 
--- the pairs with their nodes, how many nodes are spare, for how many there is room, and the hasher
+-- the pairs with their nodes, how many nodes are spare, for how many there is room, how many links were stored, and the hasher
 pub record Keyed (K V S : Type 0) : Type 0 where
   pub nodes : List (Node × (K × V))
   pub spare : ℕ
   pub room : ℕ
+  pub link_writes : ℕ
   pub hasher : S
 
 module _ {K V : Type 0} where
@@ -30,8 +31,8 @@ module _ {K V : Type 0} where
     pub equal : eq k pair.0 ≡ true
 
 module _ {K V S : Type 0} where
-  abbrev pub keyed : List (Node × (K × V)) → ℕ → ℕ → S → Keyed K V S
-  keyed ns n r s = record { nodes = ns; spare = n; room = r; hasher = s }
+  abbrev pub keyed : List (Node × (K × V)) → ℕ → ℕ → ℕ → S → Keyed K V S
+  keyed ns n r w s = record { nodes = ns; spare = n; room = r; link_writes = w; hasher = s }
 
   -- the pairs, in order
   abbrev pub entries_of : Keyed K V S → List (K × V)
@@ -39,4 +40,4 @@ module _ {K V S : Type 0} where
 
   -- the same without the nodes
   abbrev pub state_of : Keyed K V S → MapState K V S
-  state_of m = map_state (entries_of m) m.spare m.room m.hasher
+  state_of m = map_state (entries_of m) m.spare m.room m.link_writes m.hasher

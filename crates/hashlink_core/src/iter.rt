@@ -1,6 +1,7 @@
 //! A walk over the entries of a keyed list.
-ghost use Rattle.std.specs.Prelude.{length};
-ghost use Rattle.std.specs.Iterator.{at_most};
+ghost use Rattle.std.specs.Prelude.{◌≡◌, Some, IfSome, length};
+ghost use Rattle.std.specs.Iterator.{at_most, UpTo};
+ghost use Rattle.std.specs.Iterator.SizeHint.{IsWithinCount};
 ghost use Rattle.std.specs.Map.Iter.{TakesFirst, deref_pair};
 
 use hashlink_nodes::{Node, Nodes};
@@ -57,7 +58,11 @@ impl<'a, K, V> Iterator for Iter<'a, K, V> {
         Some(nodes.entry(node))
     }
 
-    fn size_hint(&self) -> (usize, Option<usize>) {
+    fn size_hint(&self) -> (usize, Option<usize>)
+        ensures lower { IsWithinCount result.0 (at_most (length self.now)) }
+        ensures upper { IfSome result.1 (UpTo (at_most (length self.now))) }
+        ensures exact { result ≡ (length self.now, Some (length self.now)) }
+    {
         (self.left, Some(self.left))
     }
 }

@@ -6,6 +6,7 @@ ghost use Rattle.std.specs.Map.{lookup, lookup_entry, keys_of};
 ghost use Rattle.std.specs.Map.Iter.{deref_pair};
 ghost use Rattle.hashlink_model.specs.Entries.{IsEntries, without};
 ghost use Rattle.hashlink_model.specs.MapState.{Inserts, Removes};
+ghost use Rattle.hashlink_model.specs.Steps.{HasRoom};
 ghost use Rattle.hashlink_nodes.specs.Node.{same_node};
 ghost use Rattle.hashlink_nodes.specs.Ring.{Holds};
 ghost use Rattle.hashlink_core.specs.Keyed.{keyed, entries_of, state_of, HoldsKey};
@@ -33,7 +34,7 @@ impl<K: Eq + Hash, V, S: BuildHasher> Model for KeyedList<K, V, S> {
 
     ghost Value = { Keyed K V S };
 
-    ghost view = { λ m. keyed (nodes_of m.nodes.entries) (length m.nodes.free) m.table.room m.hash_builder };
+    ghost view = { λ m. keyed (nodes_of m.nodes.entries) (length m.nodes.free) m.table.room m.nodes.link_writes m.hash_builder };
 
     ghost invariant = { λ m. IsInStep K.eq (hash_with S.build_hasher S.Hasher.write S.Hasher.finish K.hash_input m.hash_builder) m.nodes m.table };
 }
@@ -41,7 +42,7 @@ impl<K: Eq + Hash, V, S: BuildHasher> Model for KeyedList<K, V, S> {
 impl<K: Eq + Hash, V, S: BuildHasher> KeyedList<K, V, S> {
     /// An empty list. It takes no memory.
     pub fn with_hasher(alloc: Global, hash_builder: S) -> Self
-        ensures { result ≡ keyed [] 0 0 hash_builder }
+        ensures { result ≡ keyed [] 0 0 0 hash_builder }
     {
         KeyedList {
             nodes: Nodes::new(alloc),
@@ -55,6 +56,7 @@ impl<K: Eq + Hash, V, S: BuildHasher> KeyedList<K, V, S> {
         ensures len { result ≡ length (entries_of self.now) }
         ensures small { result < 2 ^ 63 }
         ensures distinct { IsEntries K.eq (entries_of self.now) }
+        ensures room { HasRoom (state_of self.now) }
     {
         self.nodes.len()
     }
@@ -104,6 +106,7 @@ impl<K: Eq + Hash, V, S: BuildHasher> KeyedList<K, V, S> {
         ensures spare { self.new.spare ≡ self.old.spare }
         ensures hasher { self.new.hasher ≡ self.old.hasher }
         ensures room { self.old.room ≤ self.new.room }
+        ensures link_writes { self.new.link_writes ≡ self.old.link_writes }
         ensures ok { OnOk result (length self.new.nodes + 1 ≤ self.new.room) }
         ensures err { OnErr result (self.old.spare ≡ 0) }
     {

@@ -3,6 +3,7 @@ ghost use Rattle.std.specs.Prelude.{◌≡◌, ◌^◌, ◌<◌, ◌↔◌, leng
 ghost use Rattle.std.specs.Map.{lookup};
 ghost use Rattle.hashlink_model.specs.Entries.{IsEntries, without};
 ghost use Rattle.hashlink_model.specs.MapState.{empty_map, Inserts, Removes};
+ghost use Rattle.hashlink_model.specs.Steps.{HasRoom};
 
 use hashlink_core::{DefaultHashBuilder, Iter, KeyedList};
 use std::alloc::Global;
@@ -52,6 +53,9 @@ impl<K: Eq + Hash, V, S: BuildHasher> LinkedHashMap<K, V, S> {
 
         // No two keys are equal, of this map as of every map.
         ensures distinct { IsEntries K.eq self.now.entries }
+
+        // There is room for every node, in use and spare.
+        ensures room { HasRoom self.now }
     {
         self.list.len()
     }
@@ -70,7 +74,7 @@ impl<K: Eq + Hash, V, S: BuildHasher> LinkedHashMap<K, V, S> {
         self.list.hasher()
     }
 
-    /// The value of the key. It looks at each entry from the front until it finds the key, and leaves the order as it is.
+    /// The value of the key. It hashes the key once and looks at the entries of one bucket. The order stays as it is.
     pub fn get(&self, key: &K) -> Option<&V>
         ensures { option_copied result ≡ lookup (K.eq key.now) self.now.entries }
     {
@@ -81,7 +85,7 @@ impl<K: Eq + Hash, V, S: BuildHasher> LinkedHashMap<K, V, S> {
     /// Puts the pair last, and answers the key's old value. A key that is there keeps its key object, takes the new value and moves to the end.
     ///
     /// It takes memory only for an absent key where no node is spare. Where that is refused, the pair is handed back and no entry changes.
-    /// It looks for the key as `get` does.
+    /// It hashes the key once, looks for it as `get` does, and stores at most six links for a key that is there and four for an absent one.
     pub fn insert(&mut self, key: K, value: V) -> Result<Option<V>, (K, V)>
     where
         K: Drop,
@@ -92,7 +96,7 @@ impl<K: Eq + Hash, V, S: BuildHasher> LinkedHashMap<K, V, S> {
     }
 
     /// Takes the key's entry out and answers its value. The other entries keep their order, and the node serves the next new pair.
-    /// It takes no memory, and looks for the key as `get` does.
+    /// It takes no memory, looks for the key as `get` does, and stores at most three links.
     pub fn remove(&mut self, key: &K) -> Option<V>
     where
         K: Drop,
@@ -105,7 +109,7 @@ impl<K: Eq + Hash, V, S: BuildHasher> LinkedHashMap<K, V, S> {
         Some(value)
     }
 
-    /// A walk over the entries, front first. It takes no memory, and each step takes as long as finding the node does.
+    /// A walk over the entries, front first. It takes no memory, and each step takes constant time.
     pub fn iter(&self) -> Iter<'_, K, V>
         ensures { result ≡ self.now.entries }
     {

@@ -18,4 +18,4 @@ module _ {T : Type 0} where
   keys_of-put eq es t b = ap (λ zs. keys_of (put eq zs t tt b)) (sym (pairs_of-keys_of es))
 
 pub as_map-set_of : {T S : Type 0} (m : MapState T (Unit {0}) S) → as_map (set_of m) ≡ m
-as_map-set_of m = ap (λ es. map_state es m.spare m.room m.hasher) (pairs_of-keys_of m.entries)
+as_map-set_of m = ap (λ es. map_state es m.spare m.room m.link_writes m.hasher) (pairs_of-keys_of m.entries)

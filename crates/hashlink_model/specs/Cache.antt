@@ -73,5 +73,5 @@ module _ {K V S : Type 0} where
     -- `get` and `get_mut`
     pub record CacheGets (old new : CacheState K V S) (k : K) (r : Option V) : Type 0 where
       pub answer : r ≡ lookup (eq k) old.map.entries
-      pub map : Changes old.map new.map (cache_get eq old.map.entries k)
+      pub map : Changes old.map new.map (cache_get eq old.map.entries k) 6
       pub cap : new.cap ≡ old.cap

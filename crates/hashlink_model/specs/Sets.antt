@@ -11,6 +11,7 @@ pub record SetState (T S : Type 0) : Type 0 where
   pub elements : List T
   pub spare : ℕ
   pub room : ℕ
+  pub link_writes : ℕ
   pub hasher : S
 
 module _ {T : Type 0} where
@@ -28,17 +29,17 @@ module _ {T : Type 0} where
     replaced ts t = cond (is_member eq ts t) (swap_key (eq t) ts t) (ts ++ t ∷ [])
 
 module _ {T S : Type 0} where
-  abbrev pub set_state : List T → ℕ → ℕ → S → SetState T S
-  set_state ts n r s = record { elements = ts; spare = n; room = r; hasher = s }
+  abbrev pub set_state : List T → ℕ → ℕ → ℕ → S → SetState T S
+  set_state ts n r w s = record { elements = ts; spare = n; room = r; link_writes = w; hasher = s }
 
   -- a state is stored as the tuple of its fields
   abbrev pub set_state_code : Coded T → Coded S → Coded (SetState T S)
-  set_state_code t s = code_by (List T × (ℕ × (ℕ × S))) (coded× (coded_list t) (coded× coded_ℕ (coded× coded_ℕ s)))
-      (λ m. (m.elements, (m.spare, (m.room, m.hasher)))) (λ p. set_state p.0 p.1.0 p.1.1.0 p.1.1.1) (λ _. refl)
+  set_state_code t s = code_by (List T × (ℕ × (ℕ × (ℕ × S)))) (coded× (coded_list t) (coded× coded_ℕ (coded× coded_ℕ (coded× coded_ℕ s))))
+      (λ m. (m.elements, (m.spare, (m.room, (m.link_writes, m.hasher))))) (λ p. set_state p.0 p.1.0 p.1.1.0 p.1.1.1.0 p.1.1.1.1) (λ _. refl)
 
   -- the set as a map, and the set that a map with nothing as value is
   abbrev pub as_map : SetState T S → MapState T (Unit {0}) S
-  as_map m = map_state (pairs_of m.elements) m.spare m.room m.hasher
+  as_map m = map_state (pairs_of m.elements) m.spare m.room m.link_writes m.hasher
 
   abbrev pub set_of : MapState T (Unit {0}) S → SetState T S
-  set_of m = set_state (keys_of m.entries) m.spare m.room m.hasher
+  set_of m = set_state (keys_of m.entries) m.spare m.room m.link_writes m.hasher

@@ -8,7 +8,7 @@ ghost use Rattle.hashlink_model.specs.Steps.{PopsFront, PopsBack, KeepsOnly, Cle
 
 /// A map as it is made has no entry, no spare node and no room.
 pub fn an_empty_map_takes_no_memory<K, V, S>()
-    ensures { (s : S) → empty_map {K = K} {V = V} s ≡ map_state [] 0 0 s }
+    ensures { (s : S) → empty_map {K = K} {V = V} s ≡ map_state [] 0 0 0 s }
 {}
 
 /// An insert is refused only for an absent key without a spare node; the pair is handed back, and no entry and no spare node changes.

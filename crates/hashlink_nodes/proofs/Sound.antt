@@ -1,143 +1,198 @@
--- The lists of a ring fit together through each step: a step only moves nodes, but for a new node that is named by their number.
-use Rattle.std.proofs.Common.{◌≡◌, ℕ, zero, suc, ◌+◌, ◌-◌, ◌^◌, ◌<◌, ◌≤◌, Bool, true, false, cond, ◌||◌, List, [], ◌∷◌, ◌++◌, length, take, drop, set, get_or, refl, ap, sym, subst, ◌∙◌, arith, length-append}
-use Rattle.std.specs.List.{All, IsDistinct, insert, remove, list_any}
-use Rattle.std.specs.List.Sorted.{IsPermutation}
-use Rattle.std.specs.Map.{keys_of}
-use Rattle.std.proofs.lemmas.List.Sorted.{IsPermutation-refl, IsPermutation-sym, IsPermutation-trans, IsPermutation-cons, IsPermutation-append_left, IsPermutation-middle, IsPermutation-insert, IsPermutation-remove, All-permutation, length_permutation}
-use Rattle.std.proofs.lemmas.Map.Keys.{IsDistinct-IsPermutation, IsDistinct-push}
-use Rattle.std.proofs.lemmas.List.Elements.{All-head, All-tail, All-weaker, All-push, All-nil}
-use Rattle.std.proofs.lemmas.List.{append-nil}
-use Rattle.std.proofs.lemmas.Bool.{ne_eqb}
-use Rattle.std.proofs.lemmas.Map.Entries.{length-keys_of}
+-- A sound ring: how it is seen, and what it says of its nodes.
+use Rattle.std.proofs.Common.{◌≡◌, ℕ, zero, suc, ◌+◌, ◌-◌, ◌^◌, ◌<◌, true, false, List, [], ◌∷◌, ◌++◌, length, Option, None, Some, refl, sym, ap, ◌∙◌, subst, arith}
+use Rattle.std.specs.Prelude.{IfSome}
+use Rattle.std.specs.List.{AllByRecursion, IsDistinct}
+use Rattle.std.specs.Map.{lookup, keys_of}
+use Rattle.std.proofs.lemmas.List.{length-append, append_assoc}
 use Rattle.hashlink_nodes.specs.declared.node.Node.{Node}
-use Rattle.hashlink_nodes.specs.Node.{same_node, same_node_equiv, same_node-index}
-use Rattle.hashlink_nodes.specs.Shape.{IsSound}
+use Rattle.hashlink_nodes.specs.declared.held.Held.{Held}
+use Rattle.hashlink_nodes.specs.Node.{same_node}
+use Rattle.hashlink_nodes.specs.State.{State, store_next, store_prev, hold, detached, attached}
+use Rattle.hashlink_nodes.specs.Shape.{IsShaped, IsSound, ring_of, walk, entries_of}
+use Rattle.hashlink_nodes.specs.Ring.{Ring, Holds}
+use Rattle.hashlink_nodes.proofs.Paths.{head_or, last_or, set_at_here, set_at_other, all_left, all_right, all_middle, distinct_tail, path_at, back_at, length-walk, walk-chain, walk-path}
+use Rattle.hashlink_nodes.proofs.Entries.{cut_at, says_at, keys-entries, length-entries}
 
-IsDistinct-nil : IsDistinct same_node []
-unfolding IsDistinct
-IsDistinct-nil = tt
+pub walk-more : (f : Node → Node) (a : Node) (count : ℕ) → 0 < count → walk f a count ≡ a ∷ walk f (f a) (count - 1)
+unfolding walk
+walk-more f a zero h = absurd (omega arith)
+walk-more f a (suc count) h = let e : suc count - 1 ≡ count = omega arith in ap (λ k. a ∷ walk f (f a) k) (sym e)
 
--- the first of a list that is not empty
-pub first-is : (fs : List Node) (n : Node) → 0 < length fs → n ≡ get_or fs 0 n → fs ≡ n ∷ drop 1 fs
-first-is [] n lt is = absurd (omega (arith, lt))
-first-is (f ∷ fs) n lt is = ap (λ m. m ∷ fs) (sym is)
+module _ (P : Node → Type 0) where
+  pub of_last : (a : Node) (xs ys : List Node) → AllByRecursion P (a ∷ (xs ++ ys)) → P (last_or a xs)
+  of_last a [] ys h = h.0
+  of_last a (x ∷ xs) ys h = of_last x xs ys h.1
 
-pub none-left : {A : Type 0} (fs : List A) → length fs ≡ 0 → fs ≡ []
-none-left [] e = refl
-none-left (f ∷ fs) e = absurd (omega (arith, e))
+  pub of_head : (b : Node) (xs ys : List Node) → P b → AllByRecursion P (xs ++ ys) → P (head_or b ys)
+  of_head b xs [] p h = p
+  of_head b xs (y ∷ ys) p h = (all_right P xs (y ∷ ys) h).0
 
--- no node that is numbered below n is n
-none-named : (ns : List Node) (n : Node) → All (λ m. m.index < n.index) ns → list_any (same_node n) ns ≡ false
-none-named [] n below = refl
-none-named (m ∷ ns) n below =
-    let lt : m.index < n.index = All-head (λ (k : Node). k.index < n.index) m ns below in
-    let apart : same_node n m ≡ false = sym (same_node-index n m) ∙ ne_eqb n.index m.index (λ same. omega (arith, same, lt)) in
-    ap (λ b. b || list_any (same_node n) ns) apart ∙ none-named ns n (All-tail (λ k. k.index < n.index) m ns below)
+pub none_some : {X : Type 0} {x : X} → None ≡ Some x → ⊥
+none_some e = cc
 
-module _ {X : Type 0} where
-  keys-insert : (es : List (Node × X)) (i : ℕ) (e : Node × X) → keys_of (insert es i e) ≡ insert (keys_of es) i e.0
-  keys-insert [] zero e = refl
-  keys-insert [] (suc i) e = refl
-  keys-insert (f ∷ es) zero e = refl
-  keys-insert (f ∷ es) (suc i) e = ap (λ ns. f.0 ∷ ns) (keys-insert es i e)
+pub same_some : {X : Type 0} {x y : X} → Some x ≡ Some y → x ≡ y
+same_some e = cc
 
-  keys-remove : (es : List (Node × X)) (i : ℕ) → keys_of (remove es i) ≡ remove (keys_of es) i
-  keys-remove [] zero = refl
-  keys-remove [] (suc i) = refl
-  keys-remove (f ∷ es) zero = refl
-  keys-remove (f ∷ es) (suc i) = ap (λ ns. f.0 ∷ ns) (keys-remove es i)
+module _ {K V : Type 0} where
+  -- a shaped ring of the nodes ns and the spare fs is sound, and is seen so
+  pub record Presents (s : State K V) (g first : Node) (len spare : ℕ) (ns fs : List Node) : Type 0 where
+    pub sound : IsSound s (Some g) first len spare
+    pub entries : (ring_of s (Some g) first len spare).entries ≡ entries_of s.held ns
+    pub free : (ring_of s (Some g) first len spare).free ≡ fs
 
-  get_or-keys : (es : List (Node × X)) (i : ℕ) (e : Node × X) → get_or (keys_of es) i e.0 ≡ (get_or es i e).0
-  get_or-keys [] i e = refl
-  get_or-keys (f ∷ es) zero e = refl
-  get_or-keys (f ∷ es) (suc i) e = get_or-keys es i e
-
-  -- the nodes before and after a step are the same, in some order
-  count-nodes : (es : List (Node × X)) (fs : List Node) → length (keys_of es ++ fs) ≡ length es + length fs
-  count-nodes es fs = length-append (keys_of es) fs ∙ ap (λ m. m + length fs) (length-keys_of es)
-
-  same-count : (es gs : List (Node × X)) (fs hs : List Node) → IsPermutation (keys_of es ++ fs) (keys_of gs ++ hs) → length gs + length hs ≡ length es + length fs
-  same-count es gs fs hs p = sym (count-nodes gs hs) ∙ length_permutation _ _ p ∙ count-nodes es fs
-
-  pub sound-moved : (es gs : List (Node × X)) (fs hs : List Node) (c d c' d' : ℕ) → IsPermutation (keys_of es ++ fs) (keys_of gs ++ hs) → c ≤ c' → d ≤ d' → IsSound es fs c d → IsSound gs hs c' d'
-  sound-moved es gs fs hs c d c' d' p more_c more_d s =
-      let n : length gs + length hs ≡ length es + length fs = same-count es gs fs hs p in
+  pub presents : (s : State K V) (g first : Node) (len spare : ℕ) (ns fs : List Node) → IsShaped s g first ns fs → length ns ≡ len → length fs ≡ spare → Presents s g first len spare ns fs
+  presents s g first len spare ns fs h is_len is_spare =
+      let along : walk s.next (s.next g) len ≡ ns = ap (walk s.next (s.next g)) (sym is_len) ∙ walk-path s.next g ns g h.forward in
+      let spares : walk s.next first spare ≡ fs = ap (walk s.next first) (sym is_spare) ∙ walk-chain s.next first fs h.chain in
       record {
-        apart = IsDistinct-IsPermutation same_node same_node_equiv.symm _ _ p s.apart;
-        numbered = subst (λ m. All (λ (k : Node). k.index < m) (keys_of gs ++ hs)) (sym n) (All-permutation (λ k. k.index < length es + length fs) _ _ p s.numbered);
-        few = omega (arith, s.few);
-        entries_room = omega (arith, s.entries_room);
-        free_room = omega (arith, s.free_room);
+        sound = subst (λ (l : List Node × List Node). IsShaped s g first l.0 l.1) (λ i. (sym along i, sym spares i)) h;
+        entries = ap (entries_of s.held) along;
+        free = spares;
       }
 
-  -- the node e.0 goes from the spare ones into the ring
-  pub moved-push : (es : List (Node × X)) (i : ℕ) (e : Node × X) (fs : List Node) → IsPermutation (keys_of es ++ e.0 ∷ fs) (keys_of (insert es i e) ++ fs)
-  moved-push es i e fs =
-      IsPermutation-trans _ _ _ (IsPermutation-middle (keys_of es) e.0 fs)
-      (IsPermutation-append_left fs (e.0 ∷ keys_of es) (keys_of (insert es i e))
-      (subst (IsPermutation (e.0 ∷ keys_of es)) (sym (keys-insert es i e)) (IsPermutation-insert (keys_of es) i e.0)))
+  -- ---- what a sound ring says
+  module _ (s : State K V) (first : Node) (len spare : ℕ) where
+    pub length-ring : (guard : Option Node) → IsSound s guard first len spare → length (ring_of s guard first len spare).entries ≡ len
+    unfolding entries_of
+    length-ring None h = sym h.0
+    length-ring (Some g) h = length-entries s.held _ h.full ∙ length-walk s.next (s.next g) len
 
-  out-of-ring : (es : List (Node × X)) (i : ℕ) (e : Node × X) → i < length es → e ≡ get_or es i e → IsPermutation (keys_of es) (e.0 ∷ keys_of (remove es i))
-  out-of-ring es i e lt is =
-      subst (λ ns. IsPermutation (keys_of es) (e.0 ∷ ns)) (sym (keys-remove es i))
-      (IsPermutation-remove (keys_of es) i e.0 (omega (arith, lt, length-keys_of es)) (ap (λ (f : Node × X). f.0) is ∙ sym (get_or-keys es i e)))
+    pub length-spare : (guard : Option Node) → IsSound s guard first len spare → length (ring_of s guard first len spare).free ≡ spare
+    length-spare None h = sym h.1
+    length-spare (Some g) h = length-walk s.next first spare
 
-  -- the entry at i leaves the ring, and its node is spare
-  pub moved-detach : (es : List (Node × X)) (i : ℕ) (e : Node × X) (fs : List Node) → i < length es → e ≡ get_or es i e → IsPermutation (keys_of es ++ fs) (keys_of (remove es i) ++ e.0 ∷ fs)
-  moved-detach es i e fs lt is =
-      IsPermutation-trans _ _ _ (IsPermutation-append_left fs _ _ (out-of-ring es i e lt is))
-      (IsPermutation-sym _ _ (IsPermutation-middle (keys_of (remove es i)) e.0 fs))
+    pub few : (guard : Option Node) → IsSound s guard first len spare → len + spare < 2 ^ 63
+    few None h = let e = h.0 in let k = h.1 in omega (arith, e, k)
+    few (Some g) h = omega (arith, h.few, length-walk s.next (s.next g) len, length-walk s.next first spare)
 
-  -- the entry at i goes to j
-  pub moved-within : (es : List (Node × X)) (i j : ℕ) (e : Node × X) (fs : List Node) → i < length es → e ≡ get_or es i e → IsPermutation (keys_of es ++ fs) (keys_of (insert (remove es i) j e) ++ fs)
-  moved-within es i j e fs lt is =
-      IsPermutation-append_left fs _ _ (IsPermutation-trans _ _ _ (out-of-ring es i e lt is)
-      (subst (IsPermutation (e.0 ∷ keys_of (remove es i))) (sym (keys-insert (remove es i) j e)) (IsPermutation-insert (keys_of (remove es i)) j e.0)))
+    pub apart : (guard : Option Node) → IsSound s guard first len spare → IsDistinct same_node (keys_of (ring_of s guard first len spare).entries ++ (ring_of s guard first len spare).free)
+    unfolding IsDistinct entries_of
+    apart None h = tt
+    apart (Some g) h = subst (λ l. IsDistinct same_node (l ++ walk s.next first spare)) (sym (keys-entries s.held _ h.full)) (distinct_tail g _ h.apart)
 
-  pub sound-push : (es gs : List (Node × X)) (fs hs : List Node) (i : ℕ) (e : Node × X) (c d c' d' : ℕ) → gs ≡ insert es i e → fs ≡ e.0 ∷ hs → c ≤ c' → d ≤ d' → IsSound es fs c d → IsSound gs hs c' d'
-  sound-push es gs fs hs i e c d c' d' inserted first more_c more_d s =
-      sound-moved es gs fs hs c d c' d'
-      (subst (λ ms. IsPermutation (keys_of es ++ ms) (keys_of gs ++ hs)) (sym first) (subst (λ ns. IsPermutation (keys_of es ++ e.0 ∷ hs) (keys_of ns ++ hs)) (sym inserted) (moved-push es i e hs)))
-      more_c more_d s
+  -- a node of the ring has a block, and so have its neighbours
 
-  pub sound-detach : (es gs : List (Node × X)) (fs hs : List Node) (i : ℕ) (e : Node × X) (c d c' d' : ℕ) → i < length es → e ≡ get_or es i e → gs ≡ remove es i → hs ≡ e.0 ∷ fs → c ≤ c' → d ≤ d' → IsSound es fs c d → IsSound gs hs c' d'
-  sound-detach es gs fs hs i e c d c' d' lt is removed first more_c more_d s =
-      sound-moved es gs fs hs c d c' d'
-      (subst (λ ms. IsPermutation (keys_of es ++ fs) (keys_of gs ++ ms)) (sym first) (subst (λ ns. IsPermutation (keys_of es ++ fs) (keys_of ns ++ e.0 ∷ fs)) (sym removed) (moved-detach es i e fs lt is)))
-      more_c more_d s
+  pub record Leaves (s' : State K V) (guard : Option Node) (first : Node) (len spare : ℕ) (es : List (Node × Held K V)) (fs : List Node) : Type 0 where
+    pub sound : IsSound s' guard first len spare
+    pub entries : (ring_of s' guard first len spare).entries ≡ es
+    pub free : (ring_of s' guard first len spare).free ≡ fs
 
-  pub sound-move : (es rest gs : List (Node × X)) (fs : List Node) (i j : ℕ) (e : Node × X) (c d c' d' : ℕ) → i < length es → e ≡ get_or es i e → rest ≡ remove es i → gs ≡ insert rest j e → c ≤ c' → d ≤ d' → IsSound es fs c d → IsSound gs fs c' d'
-  sound-move es rest gs fs i j e c d c' d' lt is removed inserted more_c more_d s =
-      sound-moved es gs fs fs c d c' d'
-      (subst (λ ns. IsPermutation (keys_of es ++ fs) (keys_of ns ++ fs)) (sym (inserted ∙ ap (λ (ns : List (Node × X)). insert ns j e) removed)) (moved-within es i j e fs lt is))
-      more_c more_d s
+  abbrev pub entries_in : State K V → Option Node → Node → ℕ → ℕ → List (Node × Held K V)
+  entries_in s guard first len spare = (ring_of s guard first len spare).entries
 
-  pub keys-set : (es : List (Node × X)) (i : ℕ) (e : Node × X) (w : X) → e ≡ get_or es i e → keys_of (set es i (e.0, w)) ≡ keys_of es
-  keys-set [] i e w is = refl
-  keys-set (f ∷ es) zero e w is = ap (λ (d : Node × X). d.0 ∷ keys_of es) is
-  keys-set (f ∷ es) (suc i) e w is = ap (λ ns. f.0 ∷ ns) (keys-set es i e w is)
+  abbrev pub free_in : State K V → Option Node → Node → ℕ → ℕ → List Node
+  free_in s guard first len spare = (ring_of s guard first len spare).free
 
-  -- other values under the same nodes
-  pub sound-set : (es gs : List (Node × X)) (fs : List Node) (c d c' d' : ℕ) → keys_of gs ≡ keys_of es → c ≤ c' → d ≤ d' → IsSound es fs c d → IsSound gs fs c' d'
-  sound-set es gs fs c d c' d' same more_c more_d s =
-      sound-moved es gs fs fs c d c' d' (subst (λ ns. IsPermutation (keys_of es ++ fs) (ns ++ fs)) (sym same) (IsPermutation-refl (keys_of es ++ fs))) more_c more_d s
+  pub no_entry : (s : State K V) (first n : Node) (len spare : ℕ) → Holds (entries_in s None first len spare) n → ⊥
+  unfolding entries_of
+  no_entry s first n len spare h = cc h
 
-  -- the first node that is made where none is spare
-  pub sound-spare : (es : List (Node × X)) (hs : List Node) (n : Node) (c d c' d' : ℕ) → n.index ≡ length es → hs ≡ n ∷ [] → length es + 1 < 2 ^ 63 → length es + 1 ≤ c' → length es + 1 ≤ d' → IsSound es [] c d → IsSound es hs c' d'
-  sound-spare es hs n c d c' d' index only few room_c room_d s =
-      let below : All (λ m. m.index < length es) (keys_of es) =
-      subst (All (λ m. m.index < length es)) (append-nil (keys_of es)) (All-weaker (λ (m : Node). m.index < length es + 0) (λ m. m.index < length es) (λ m lt. omega (arith, lt)) (keys_of es ++ []) s.numbered) in
-      let count : length hs ≡ 1 = ap length only in
+  -- ---- what is held after a step
+  pub held_here : (t : State K V) (m : Node) (o : Option (Held K V)) → (hold m o t).held m ≡ o
+  unfolding hold
+  held_here t m o = set_at_here t.held m o
+
+  pub held_apart : (t : State K V) (m a : Node) (k : Node) → same_node k m ≡ false → (store_next m a (hold m None (detached m t))).held k ≡ t.held k
+  unfolding store_next store_prev hold detached
+  held_apart t m a k h = set_at_other t.held m k None h
+
+  pub held_detached : (t : State K V) (m : Node) → (detached m t).held ≡ t.held
+  unfolding store_next store_prev detached
+  held_detached t m = refl
+
+  pub has_detached : (t : State K V) (m : Node) → (detached m t).has ≡ t.has
+  unfolding store_next store_prev detached
+  has_detached t m = refl
+
+  pub has_held : (t : State K V) (m : Node) (o : Option (Held K V)) → (hold m o t).has ≡ t.has
+  unfolding hold
+  has_held t m o = refl
+
+  pub prev_held : (t : State K V) (m : Node) (o : Option (Held K V)) → (hold m o t).prev ≡ t.prev
+  unfolding hold
+  prev_held t m o = refl
+
+  pub held_moved : (t : State K V) (m p q : Node) → (attached m p q (detached m t)).held ≡ t.held
+  unfolding store_next store_prev detached attached
+  held_moved t m p q = refl
+
+  pub writes_moved : (t : State K V) (m p q : Node) → (attached m p q (detached m t)).link_writes ≡ t.link_writes + 6
+  unfolding store_next store_prev detached attached
+  writes_moved t m p q = omega arith
+
+  pub writes_freed : (t : State K V) (m a : Node) → (store_next m a (hold m None (detached m t))).link_writes ≡ t.link_writes + 3
+  unfolding store_next store_prev hold detached
+  writes_freed t m a = omega arith
+
+  -- ---- a node of the ring
+  pub record InRing (s : State K V) (guard : Option Node) (first : Node) (len spare : ℕ) (n : Node) : Type 0 where
+    pub value : Held K V
+    pub has_node : s.has n ≡ true
+    pub has_next : s.has (s.next n) ≡ true
+    pub has_prev : s.has (s.prev n) ≡ true
+    pub holds : s.held n ≡ Some value
+    pub looked : lookup (same_node n) (entries_in s guard first len spare) ≡ Some value
+    pub some : 0 < len
+
+  pub in_the_ring : (s : State K V) (guard : Option Node) (first : Node) (len spare : ℕ) (n : Node) → IsSound s guard first len spare → Holds (entries_in s guard first len spare) n → InRing s guard first len spare n
+  in_the_ring s None first len spare n sound there = absurd (no_entry s first n len spare there)
+  in_the_ring s (Some g) first len spare n sound there =
+      let ns = walk s.next (s.next g) len in let fs = walk s.next first spare in let H : Node → Type 0 = λ m. s.has m ≡ true in
+      let c = cut_at s.held n ns sound.full there in let says = says_at s.held n ns c in
+      let shaped = subst (λ l. IsShaped s g first l fs) c.is sound in
+      let all = all_left H (c.before ++ n ∷ c.after) fs shaped.there.1 in
+      let len_ns = length-walk s.next (s.next g) len in
       record {
-        apart = subst (λ ms. IsDistinct same_node (keys_of es ++ ms)) (sym only)
-            (IsDistinct-push same_node_equiv (keys_of es) n (subst (IsDistinct same_node) (append-nil (keys_of es)) s.apart)
-            (none-named (keys_of es) n (subst (λ k. All (λ (m : Node). m.index < k) (keys_of es)) (sym index) below)));
-        numbered = subst (λ ms. All (λ (m : Node). m.index < length es + length ms) (keys_of es ++ ms)) (sym only)
-            (All-push (λ m. m.index < length es + 1) (keys_of es) n (All-weaker (λ m. m.index < length es) (λ m. m.index < length es + 1) (λ m lt. omega (arith, lt)) (keys_of es) below) (omega (arith, index)));
-        few = omega (arith, few, count);
-        entries_room = omega (arith, room_c, count);
-        free_room = omega (arith, room_d, count);
+        value = c.value;
+        has_node = all_middle H c.before n c.after all;
+        has_next = ap s.has (path_at s.next n g c.before c.after g shaped.forward) ∙ of_head H g (c.before ++ n ∷ []) c.after shaped.there.0 (subst (AllByRecursion H) (sym (append_assoc c.before (n ∷ []) c.after)) all);
+        has_prev = ap s.has (back_at s.prev n g c.before c.after g shaped.backward) ∙ of_last H g c.before (n ∷ c.after) (shaped.there.0, all);
+        holds = c.holds;
+        looked = says.looked;
+        some = omega (arith, len_ns, ap length c.is, length-append c.before (n ∷ c.after));
       }
 
-  pub sound-none : (c d : ℕ) → IsSound {X = X} [] [] c d
-  sound-none c d = record { apart = IsDistinct-nil; numbered = All-nil (λ m. m.index < 0); few = omega arith; entries_room = omega arith; free_room = omega arith }
+  -- ---- how a closed ring is seen
+  pub record Facts (len spare : ℕ) (v : Ring K V) : Type 0 where
+    pub is_len : length v.entries ≡ len
+    pub is_spare : length v.free ≡ spare
+    pub small : len + spare < 2 ^ 63
+    pub differ : IsDistinct same_node (keys_of v.entries ++ v.free)
+
+  pub facts : (s : State K V) (guard : Option Node) (first : Node) (len spare : ℕ) → IsSound s guard first len spare → (v : Ring K V) → ring_of s guard first len spare ≡ v → Facts len spare v
+  facts s guard first len spare sound v view = subst (Facts len spare) view (record { is_len = length-ring s first len spare guard sound; is_spare = length-spare s first len spare guard sound; small = few s first len spare guard sound; differ = apart s first len spare guard sound })
+
+  -- a sound ring with its guard named
+  pub record Opened (s : State K V) (guard : Option Node) (g first : Node) (len spare : ℕ) (v : Ring K V) : Type 0 where
+    pub sound : IsSound s (Some g) first len spare
+    pub view : ring_of s (Some g) first len spare ≡ v
+    pub is : guard ≡ Some g
+
+  pub opened : (s : State K V) (guard : Option Node) (g first : Node) (len spare : ℕ) → IsSound s guard first len spare → guard ≡ Some g → (v : Ring K V) → ring_of s guard first len spare ≡ v → Opened s guard g first len spare v
+  opened s guard g first len spare sound is v view = record {
+    sound = subst (λ o. IsSound s o first len spare) is sound;
+    view = ap (λ o. ring_of s o first len spare) (sym is) ∙ view;
+    is = is;
+  }
+
+  -- and the name forgotten
+  pub closed : (s : State K V) (guard : Option Node) (g first : Node) (len spare : ℕ) (es : List (Node × Held K V)) (fs : List Node) → guard ≡ Some g → Leaves s (Some g) first len spare es fs → Leaves s guard first len spare es fs
+  closed s guard g first len spare es fs is l = subst (λ o. Leaves s o first len spare es fs) (sym is) l
+
+  -- the steps of a push
+
+  pub no_spare : (s : State K V) (guard : Option Node) (first : Node) (len spare : ℕ) (v : Ring K V) → ring_of s guard first len spare ≡ v → guard ≡ None → 0 < length v.free → ⊥
+  no_spare s guard first len spare v view is some =
+      let e : 0 ≡ length v.free = ap (λ o. length (free_in s o first len spare)) (sym is) ∙ ap (λ (r : Ring K V). length r.free) view in omega (arith, e, some)
+
+  -- the steps of a removal
+
+  pub node_of : (s : State K V) (guard : Option Node) (first : Node) (len spare : ℕ) → IsSound s guard first len spare → (v : Ring K V) → ring_of s guard first len spare ≡ v → (n : Node) → Holds v.entries n → InRing s guard first len spare n
+  node_of s guard first len spare sound v view n there = in_the_ring s guard first len spare n sound (subst (λ (r : Ring K V). Holds r.entries n) (sym view) there)
+
+  pub guard_there : (s : State K V) (guard : Option Node) (first : Node) (len spare : ℕ) (v : Ring K V) → ring_of s guard first len spare ≡ v → (n : Node) → Holds v.entries n → guard ≡ None → ⊥
+  guard_there s guard first len spare v view n there is =
+      no_entry s first n len spare (subst (λ o. Holds (entries_in s o first len spare) n) is (subst (λ (r : Ring K V). Holds r.entries n) (sym view) there))
+
+pub if_some : {X : Type 0} {o : Option X} {x : X} (P : X → Type 0) → o ≡ Some x → P x → IfSome o P
+if_some P e p = subst (λ o. IfSome o P) (sym e) p

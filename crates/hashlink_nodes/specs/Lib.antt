@@ -1,4 +1,12 @@
 -- What the contracts of the ring of nodes cite.
 pub mod Node
+pub mod Ownership
+pub mod ArenaLends
+pub mod Links
+pub mod State
+pub mod Cells
 pub mod Ring
 pub mod Shape
+pub mod BlockLends
+pub mod CellsLends
+pub mod NodesLends

@@ -1,15 +1,16 @@
--- What a contract sees of a ring of nodes: its entries in order, each with its node, and the spare nodes.
+-- What a contract sees of a ring of nodes: its entries in order, each with its node, the spare nodes, and how many links were stored.
 -- A place of the ring is a node of it, or None for the guard, which stands between the last entry and the first.
 pub use Rattle.hashlink_nodes.specs.declared.held.Held.{Held}
-use Rattle.std.specs.Prelude.{◌≡◌, ℕ, Bool, cond, List, [], ◌∷◌, ◌++◌, slice_get, Option, None, Some, IsSome, IfSome}
+use Rattle.std.specs.Prelude.{◌≡◌, ℕ, cond, List, [], ◌∷◌, ◌++◌, slice_get, Option, None, Some, IsSome, IfSome}
 use Rattle.std.specs.Map.{lookup, lookup_entry, remove_entry}
 use Rattle.hashlink_nodes.specs.declared.node.Node.{Node}
 use Rattle.hashlink_nodes.specs.Node.{same_node}
 
--- the entries in ring order, and the spare nodes, the next to be used first
+-- the entries in ring order, the spare nodes, the next to be used first, and how many links of either were stored
 pub record Ring (K V : Type 0) : Type 0 where
   pub entries : List (Node × Held K V)
   pub free : List Node
+  pub link_writes : ℕ
 
 -- the node that comes right after n, or None where n is the last
 abbrev pub node_after : Node → List Node → Option Node
@@ -21,6 +22,21 @@ abbrev pub next_place : List Node → Option Node → Option Node
 next_place ns None = slice_get ns 0
 next_place ns (Some n) = node_after n ns
 
+-- the last of the nodes, which come after the place before
+abbrev pub last_node : Option Node → List Node → Option Node
+last_node before [] = before
+last_node before (m ∷ ns) = last_node (Some m) ns
+
+-- the node right before n, among nodes that come after the place before
+abbrev pub node_before : Node → Option Node → List Node → Option Node
+node_before n before [] = None
+node_before n before (m ∷ ns) = cond (same_node n m) before (node_before n (Some m) ns)
+
+-- the place before a place: from the guard the last node
+abbrev pub prev_place : List Node → Option Node → Option Node
+prev_place ns None = last_node None ns
+prev_place ns (Some n) = node_before n None ns
+
 module _ {X : Type 0} where
   -- with x right before the entry of n
   abbrev pub put_before_node : Node → Node × X → List (Node × X) → List (Node × X)
@@ -31,6 +47,16 @@ module _ {X : Type 0} where
   abbrev pub put_before : Option Node → Node × X → List (Node × X) → List (Node × X)
   put_before None x es = es ++ x ∷ []
   put_before (Some n) x es = put_before_node n x es
+
+  -- with x right after the entry of n
+  abbrev pub put_after_node : Node → Node × X → List (Node × X) → List (Node × X)
+  put_after_node n x [] = x ∷ []
+  put_after_node n x (e ∷ es) = cond (same_node n e.0) (e ∷ x ∷ es) (e ∷ put_after_node n x es)
+
+  -- with x right after the place: after the guard is the front
+  abbrev pub put_after : Option Node → Node × X → List (Node × X) → List (Node × X)
+  put_after None x es = x ∷ es
+  put_after (Some n) x es = put_after_node n x es
 
   -- n is a node of the ring
   abbrev pub Holds : List (Node × X) → Node → Type 0
@@ -45,12 +71,16 @@ module _ {X : Type 0} where
   abbrev pub MovesBefore : List (Node × X) → Node → Option Node → List (Node × X) → Type 0
   MovesBefore old n place new = IfSome (lookup_entry (same_node n) old) (λ e. new ≡ put_before place e (remove_entry (same_node n) old))
 
+  -- the entry of n is taken out and put in right after the place
+  abbrev pub MovesAfter : List (Node × X) → Node → Option Node → List (Node × X) → Type 0
+  MovesAfter old n place new = IfSome (lookup_entry (same_node n) old) (λ e. new ≡ put_after place e (remove_entry (same_node n) old))
+
 module _ {K V : Type 0} where
   abbrev pub held : ℕ → K → V → Held K V
   held i k v = record { number = i; key = k; value = v }
 
-  abbrev pub ring : List (Node × Held K V) → List Node → Ring K V
-  ring es fs = record { entries = es; free = fs }
+  abbrev pub ring : List (Node × Held K V) → List Node → ℕ → Ring K V
+  ring es fs writes = record { entries = es; free = fs; link_writes = writes }
 
   abbrev pub pair_of : Held K V → K × V
   pair_of h = (h.key, h.value)
@@ -58,6 +88,10 @@ module _ {K V : Type 0} where
   -- the same with another value
   abbrev pub with_value : Held K V → V → Held K V
   with_value h v = held h.number h.key v
+
+  -- the same with another key
+  abbrev pub with_key : Held K V → K → Held K V
+  with_key h k = held h.number k h.value
 
   -- the same with another number
   abbrev pub with_number : Held K V → ℕ → Held K V

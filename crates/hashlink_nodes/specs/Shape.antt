@@ -1,24 +1,68 @@
--- How the two lists of a ring fit together.
-use Rattle.std.specs.Prelude.{◌≡◌, ℕ, suc, cond, ◌+◌, ◌^◌, ◌<◌, ◌≤◌, List, [], ◌∷◌, ◌++◌, length, Option, None, Some}
-use Rattle.std.specs.List.{All, IsDistinct}
-use Rattle.std.specs.Map.{keys_of}
+-- How the links of the blocks make a ring and a chain of spare nodes.
+use Rattle.std.specs.Prelude.{◌≡◌, ℕ, zero, suc, ◌+◌, ◌^◌, ◌<◌, true, List, [], ◌∷◌, ◌++◌, length, Option, None, Some, is_some}
+use Rattle.std.specs.List.{AllByRecursion, IsDistinct}
 use Rattle.hashlink_nodes.specs.declared.node.Node.{Node}
+use Rattle.hashlink_nodes.specs.declared.held.Held.{Held}
 use Rattle.hashlink_nodes.specs.Node.{same_node}
+use Rattle.hashlink_nodes.specs.Ring.{Ring}
+use Rattle.hashlink_nodes.specs.State.{State}
 
--- the node's place among the entries, or their number
-abbrev pub index_of : {X : Type 0} → Node → List (Node × X) → ℕ
-index_of n [] = 0
-index_of n (e ∷ es) = cond (same_node n e.0) 0 (suc (index_of n es))
+-- f leads from a along the nodes to b
+abbrev pub IsPath : (Node → Node) → Node → List Node → Node → Type 0
+IsPath f a [] b = f a ≡ b
+IsPath f a (n ∷ ns) b = (f a ≡ n) × IsPath f n ns b
 
--- no node comes twice, each is numbered below their number, and both lists have room for all of them
-pub record IsSound {X : Type 0} (es : List (Node × X)) (free : List Node) (room free_slots : ℕ) : Type 0 where
-  pub apart : IsDistinct same_node (keys_of es ++ free)
-  pub numbered : All (λ n. n.index < length es + length free) (keys_of es ++ free)
-  pub few : length es + length free < 2 ^ 63
-  pub entries_room : length es + length free ≤ room
-  pub free_room : length es + length free ≤ free_slots
+-- f leads back from b along the nodes to a
+abbrev pub IsWayBack : (Node → Node) → Node → List Node → Node → Type 0
+IsWayBack f a [] b = f b ≡ a
+IsWayBack f a (n ∷ ns) b = (f n ≡ a) × IsWayBack f n ns b
 
--- where a new entry goes to stand right before the place
-abbrev pub index_of_place : {X : Type 0} → Option Node → List (Node × X) → ℕ
-index_of_place None es = length es
-index_of_place (Some n) es = index_of n es
+-- f leads from a, the first, along the nodes
+abbrev pub IsChain : (Node → Node) → Node → List Node → Type 0
+IsChain f a [] = Unit {0}
+IsChain f a (n ∷ ns) = (a ≡ n) × IsChain f (f n) ns
+
+-- the count nodes that f leads to from a, the first
+unfoldable pub walk : (Node → Node) → Node → ℕ → List Node
+walk f a zero = []
+walk f a (suc count) = a ∷ walk f (f a) count
+
+module _ {K V : Type 0} where
+  abbrev pub entry_of : Node → Option (Held K V) → List (Node × Held K V) → List (Node × Held K V)
+  entry_of n None es = es
+  entry_of n (Some h) es = (n, h) ∷ es
+
+  -- the nodes with what they hold
+  unfoldable pub entries_of : (Node → Option (Held K V)) → List Node → List (Node × Held K V)
+  entries_of held [] = []
+  entries_of held (n ∷ ns) = entry_of n (held n) (entries_of held ns)
+
+  -- the ring goes from the guard along the nodes and back to it, and the spare ones are chained; no other node has a block
+  pub record IsShaped (s : State K V) (guard first : Node) (nodes free : List Node) : Type 0 where
+    pub forward : IsPath s.next guard nodes guard
+    pub backward : IsWayBack s.prev guard nodes guard
+    pub chain : IsChain s.next first free
+    pub apart : IsDistinct same_node (guard ∷ (nodes ++ free))
+    pub full : AllByRecursion (λ n. is_some (s.held n) ≡ true) nodes
+    pub bare : AllByRecursion (λ n. s.held n ≡ None) (guard ∷ free)
+    pub there : AllByRecursion (λ n. s.has n ≡ true) (guard ∷ (nodes ++ free))
+    pub size : s.size ≡ length nodes + length free + 1
+    pub few : length nodes + length free < 2 ^ 63
+
+  -- the nodes in use, and the spare ones
+  abbrev pub nodes_of : State K V → Option Node → ℕ → List Node
+  nodes_of s None len = []
+  nodes_of s (Some guard) len = walk s.next (s.next guard) len
+
+  abbrev pub free_of : State K V → Option Node → Node → ℕ → List Node
+  free_of s None first spare = []
+  free_of s (Some guard) first spare = walk s.next first spare
+
+  -- before the guard is made there is no block
+  abbrev pub IsSound : State K V → Option Node → Node → ℕ → ℕ → Type 0
+  IsSound s None first len spare = (len ≡ 0) × (spare ≡ 0) × (s.size ≡ 0)
+  IsSound s (Some guard) first len spare = IsShaped s guard first (walk s.next (s.next guard) len) (walk s.next first spare)
+
+  -- what a contract sees
+  abbrev pub ring_of : State K V → Option Node → Node → ℕ → ℕ → Ring K V
+  ring_of s guard first len spare = record { entries = entries_of s.held (nodes_of s guard len); free = free_of s guard first spare; link_writes = s.link_writes }

@@ -1,10 +1,17 @@
-//! Nodes in a ring, with a guard between the last and the first, and a list of spare ones.
+//! The ring of nodes under a list in linked order.
 #![tactic(auto)]
 
-mod entries;
+mod arena;
+mod block;
+mod cells;
 mod held;
+mod link_writes;
+mod links;
+mod loose;
 mod node;
 mod nodes;
+#[cfg(test)]
+mod tests;
 
 pub use held::Held;
 pub use node::Node;

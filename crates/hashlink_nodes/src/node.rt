@@ -1,19 +1,17 @@
-//! Handles to nodes.
-ghost use Rattle.std.specs.Prelude.{◌≡◌};
+//! Nodes.
+use std::ptr;
 
-/// A handle to a node. It says nothing of where the node stands or what it holds.
+/// A node of a ring: where its block lies. It owns nothing, and only the ring that made it can use it.
 #[derive(Clone, Copy)]
 pub struct Node {
-    pub(crate) index: usize,
+    pub(crate) at: *mut u8,
 }
 
 impl Node {
-    ghost use Rattle.hashlink_nodes.specs.Node.{same_node};
-
-    /// Whether both are handles of one node.
-    pub(crate) fn is(self, other: Node) -> bool
-        ensures { result ≡ same_node self other }
-    {
-        self.index == other.index
+    /// No node of any ring.
+    pub(crate) fn nowhere() -> Node {
+        Node {
+            at: ptr::null_mut(),
+        }
     }
 }

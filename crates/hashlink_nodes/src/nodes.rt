@@ -1,65 +1,64 @@
 //! The ring of nodes.
-ghost use Rattle.std.specs.Prelude.{◌≡◌, ◌+◌, ◌^◌, ◌<◌, ◌≤◌, [], ◌∷◌, ◌++◌, length, drop, Some, IsOk, IfOk, IfErr, OnOk, OnErr, IfSome};
+ghost use Rattle.std.specs.Prelude.{◌≡◌, ◌+◌, ◌<◌, [], ◌∷◌, ◌++◌, length, drop, Some, IsOk, IfOk, IfErr, OnOk, OnErr};
 ghost use Rattle.std.specs.Option.{option_map};
 ghost use Rattle.std.specs.List.{IsDistinct};
-ghost use Rattle.std.specs.Map.{keys_of, lookup, remove_entry, set_value};
+ghost use Rattle.std.specs.Map.{keys_of, lookup, remove_entry};
 ghost use Rattle.hashlink_nodes.specs.Node.{same_node};
-ghost use Rattle.hashlink_nodes.specs.Ring.{ring, held, with_value, with_number, pair_of, put_before, next_place, Holds, IsPlace, MovesBefore};
+ghost use Rattle.hashlink_nodes.specs.Ring.{ring, held, pair_of, put_before, Holds, IsPlace};
 
-use crate::entries::{index_of, index_of_place, place_after};
+mod ends;
+mod moves;
+mod reads;
+mod values;
+
+use crate::cells::Cells;
 use crate::held::Held;
 use crate::node::Node;
 use std::alloc::{AllocError, Global};
 use std::marker::Model;
-use std::mem;
 
-/// Entries in a ring of nodes, and spare nodes that serve the next new entries.
-#[derive(Drop)]
+/// Entries in a ring of nodes, and spare nodes that serve the next new entries. Each node is a block of its own.
 pub struct Nodes<K, V> {
-    entries: Vec<(Node, Held<K, V>)>,
-    free: Vec<Node>,
+    cells: Cells<K, V>,
+    // The guard links the last entry to the first. The first push makes it.
+    guard: Option<Node>,
+    // The spare nodes are chained by their links to the next. With none, this means nothing.
+    first_spare: Node,
+    len: usize,
+    spare: usize,
+    alloc: Global,
 }
 
 impl<K, V> Model for Nodes<K, V> {
-    ghost use Rattle.std.specs.Vec.{vec_capacity};
-    ghost use Rattle.hashlink_nodes.specs.Ring.{Ring, ring};
-    ghost use Rattle.hashlink_nodes.specs.Shape.{IsSound};
+    ghost use Rattle.hashlink_nodes.specs.Ring.{Ring};
 
     ghost Value = { Ring K V };
 
-    ghost view = { λ n. ring n.entries.items n.free.items };
+    ghost use Rattle.hashlink_nodes.specs.Cells.{state_of};
+    ghost use Rattle.hashlink_nodes.specs.Shape.{ring_of, IsSound};
 
-    ghost invariant = { λ n. IsSound n.entries.items n.free.items (vec_capacity n.entries) (vec_capacity n.free) };
+    ghost view = { λ n. ring_of (state_of n.cells) n.guard n.first_spare n.len n.spare };
+
+    ghost invariant = { λ n. IsSound (state_of n.cells) n.guard n.first_spare n.len n.spare };
 }
 
 impl<K, V> Nodes<K, V> {
     /// An empty ring. It takes no memory.
     pub fn new(alloc: Global) -> Self
-        ensures { result ≡ ring [] [] }
+        ensures { result ≡ ring [] [] 0 }
     {
         Nodes {
-            entries: Vec::new(alloc),
-            free: Vec::new(alloc),
+            cells: Cells::new(),
+            guard: None,
+            first_spare: Node::nowhere(),
+            len: 0,
+            spare: 0,
+            alloc,
         }
     }
 
-    /// How many entries there are.
-    pub fn len(&self) -> usize
-        ensures len { result ≡ length self.now.entries }
-        ensures small { length self.now.entries + length self.now.free < 2 ^ 63 }
-        ensures apart { IsDistinct same_node (keys_of self.now.entries ++ self.now.free) }
-    {
-        self.entries.len()
-    }
-
-    /// How many nodes are spare.
-    pub fn spare(&self) -> usize
-        ensures { result ≡ length self.now.free }
-    {
-        self.free.len()
-    }
-
     /// Puts an entry in right before the place, and takes memory only where no node is spare: then a refusal hands the pair back, and no entry and no spare node changes.
+    /// It stores four links; the two that the guard gets as it is made are not counted.
     pub fn push_before(
         &mut self,
         place: Option<Node>,
@@ -71,57 +70,72 @@ impl<K, V> Nodes<K, V> {
         ensures entries { IfOk result (λ n. self.new.entries ≡ put_before place (n, held number key value) self.old.entries) }
         ensures free { OnOk result (self.new.free ≡ drop 1 self.old.free) }
         ensures apart { OnOk result (IsDistinct same_node (keys_of self.new.entries ++ self.new.free)) }
+        ensures link_writes { OnOk result (self.new.link_writes ≡ self.old.link_writes + 4) }
         ensures handed_back { IfErr result (λ pair. pair ≡ (key, value)) }
         ensures refused { OnErr result (self.new ≡ self.old) }
         ensures succeeds { 0 < length self.old.free → IsOk result }
     {
-        if self.make_spare().is_err() {
-            return Err((key, value));
+        match self.make_spare() {
+            Ok(()) => {}
+            Err(_) => return Err((key, value)),
         }
-        let node = self.free.remove(0);
-        let index = index_of_place(&self.entries, place);
-        let held = Held { number, key, value };
-        match self.entries.insert(index, (node, held)) {
-            Ok(()) => Ok(node),
-            Err(_) => unreachable!(),
+        let guard = match self.guard {
+            Some(guard) => guard,
+            None => unreachable!(),
+        };
+        let node = self.first_spare;
+        let first_spare = self.cells.next(node);
+        match self.cells.hold(node, Some(Held { number, key, value })) {
+            None => {}
+            Some(_) => unreachable!(),
         }
+        let next = place.unwrap_or(guard);
+        let prev = self.cells.prev(next);
+        self.cells.attach(node, prev, next);
+        self.first_spare = first_spare;
+        self.spare -= 1;
+        self.len += 1;
+        Ok(node)
     }
 
-    /// Sees that a node is spare, and that both lists have room for it.
+    /// Sees that a node is spare: of two blocks that this may take, the guard's comes first.
     fn make_spare(&mut self) -> Result<(), AllocError>
         ensures entries { self.new.entries ≡ self.old.entries }
         ensures free { OnOk result ((0 < length self.new.free) × (drop 1 self.new.free ≡ drop 1 self.old.free)) }
+        ensures link_writes { self.new.link_writes ≡ self.old.link_writes }
         ensures refused { OnErr result (self.new ≡ self.old) }
         ensures succeeds { 0 < length self.old.free → IsOk result }
     {
-        if !self.free.is_empty() {
+        if self.spare > 0 {
             return Ok(());
         }
-        let index = self.entries.len();
-        if index >= MOST {
+        if self.len >= MOST {
             return Err(AllocError);
         }
-        self.entries.reserve(1)?;
-        self.free.reserve(index + 1)?;
-        match self.free.push(Node { index }) {
-            Ok(()) => Ok(()),
-            Err(_) => unreachable!(),
-        }
+        let guard = self.cells.guard(self.guard, self.alloc)?;
+        self.guard = Some(guard);
+        self.first_spare = self.cells.make(self.alloc)?;
+        self.spare = 1;
+        Ok(())
     }
 
-    /// Takes the node's entry out of the ring. The node is the next spare one.
+    /// Takes the node's entry out of the ring. The node is the next spare one. It stores three links.
     pub fn detach_into_free(&mut self, node: Node) -> (K, V)
         requires { Holds self.old.entries node }
         ensures pair { option_map pair_of (lookup (same_node node) self.old.entries) ≡ Some result }
         ensures entries { self.new.entries ≡ remove_entry (same_node node) self.old.entries }
         ensures free { self.new.free ≡ node ∷ self.old.free }
+        ensures link_writes { self.new.link_writes ≡ self.old.link_writes + 3 }
     {
-        let index = index_of(&self.entries, node);
-        let (node, held) = self.entries.remove(index);
-        match self.free.insert(0, node) {
-            Ok(()) => {}
-            Err(_) => unreachable!(),
-        }
+        self.cells.detach(node);
+        let held = match self.cells.hold(node, None) {
+            Some(held) => held,
+            None => unreachable!(),
+        };
+        self.cells.store_next(node, self.first_spare);
+        self.first_spare = node;
+        self.len -= 1;
+        self.spare += 1;
         let Held {
             number: _,
             key,
@@ -129,70 +143,14 @@ impl<K, V> Nodes<K, V> {
         } = held;
         (key, value)
     }
+}
 
-    /// Moves the node's entry right before another place.
-    pub fn move_before(&mut self, node: Node, place: Option<Node>)
-        requires node { Holds self.old.entries node }
-        requires place { IsPlace (remove_entry (same_node node) self.old.entries) place }
-        ensures moved { MovesBefore self.old.entries node place self.new.entries }
-        ensures free { self.new.free ≡ self.old.free }
-    {
-        let from = index_of(&self.entries, node);
-        let entry = self.entries.remove(from);
-        let to = index_of_place(&self.entries, place);
-        match self.entries.insert(to, entry) {
-            Ok(()) => {}
-            Err(_) => unreachable!(),
-        }
-    }
-
-    /// The place after a place: after the guard comes the first node, and after the last node the guard.
-    pub fn next(&self, place: Option<Node>) -> Option<Node>
-        requires { IsPlace self.now.entries place }
-        ensures place { result ≡ next_place (keys_of self.now.entries) place }
-        ensures apart { IsDistinct same_node (keys_of self.now.entries ++ self.now.free) }
-    {
-        place_after(&self.entries, place)
-    }
-
-    /// The node's key and value.
-    pub fn entry(&self, node: Node) -> (&K, &V)
-        requires { Holds self.now.entries node }
-        ensures { option_map pair_of (lookup (same_node node) self.now.entries) ≡ Some (result.0.now, result.1.now) }
-    {
-        let index = index_of(&self.entries, node);
-        let held = &self.entries[index].1;
-        (&held.key, &held.value)
-    }
-
-    /// The number that the owner gave the node's entry.
-    pub fn number(&self, node: Node) -> usize
-        requires { Holds self.now.entries node }
-        ensures { option_map (λ h. h.number) (lookup (same_node node) self.now.entries) ≡ Some result }
-    {
-        let index = index_of(&self.entries, node);
-        self.entries[index].1.number
-    }
-
-    /// Gives the node's entry another number.
-    pub fn set_number(&mut self, node: Node, number: usize)
-        requires { Holds self.old.entries node }
-        ensures entries { IfSome (lookup (same_node node) self.old.entries) (λ h. self.new.entries ≡ set_value (same_node node) self.old.entries (with_number h number)) }
-        ensures free { self.new.free ≡ self.old.free }
-    {
-        let index = index_of(&self.entries, node);
-        self.entries[index].1.number = number;
-    }
-
-    /// Puts a value into the node's entry, and answers the old one.
-    pub fn replace_value(&mut self, node: Node, value: V) -> V
-        requires { Holds self.old.entries node }
-        ensures value { option_map (λ h. h.value) (lookup (same_node node) self.old.entries) ≡ Some result }
-        ensures entries { IfSome (lookup (same_node node) self.old.entries) (λ h. self.new.entries ≡ set_value (same_node node) self.old.entries (with_value h value)) }
-        ensures free { self.new.free ≡ self.old.free }
-    {
-        let index = index_of(&self.entries, node);
-        mem::replace(&mut self.entries[index].1.value, value)
+/// Drops the entries, and gives every node back, one after another.
+impl<K: Drop, V: Drop> Drop for Nodes<K, V> {
+    fn drop(mut self) {
+        self.release_all();
+        self.release_free();
+        self.end();
     }
 }
 

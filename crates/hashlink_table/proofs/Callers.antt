@@ -54,6 +54,10 @@ module _ {X : Type 0} where
       ]
 
 module _ {N : Type 0} where
+  -- a cell that keeps a node is taken
+  pub taken_by_keeps : (t : Contents N) (cell hash : ℕ) (node : N) → Keeps t cell hash node → IsSome (get t.nodes cell)
+  taken_by_keeps t cell hash node here = subst IsSome (sym here) refl
+
   pub after_insert : (old new : Contents N) (at hash : ℕ) (node : N) → get old.nodes at ≡ None → new ≡ record old { nodes = insert old.nodes at (record { hash = hash; node = node }) } → AfterInsert old new at hash node
   after_insert old new at hash node free is =
       let kept : Kept N = record { hash = hash; node = node } in

@@ -2,6 +2,7 @@ pub mod Agreeing
 pub mod Callers
 pub mod Cells
 pub mod Linking
+pub mod Numbered
 pub mod Paths
 pub mod Results
 pub mod Sound

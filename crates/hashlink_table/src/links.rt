@@ -70,7 +70,8 @@ pub fn unlink<N: Copy>(heads: &mut [usize], cells: &mut [Cell<N>], bucket: usize
     requires on_chain { chain_at (length heads.old) cells.old cell ≡ bucket }
     requires linked { (free : ℕ) × IsLinked heads.old cells.old free }
     requires small { length cells.old < 2 ^ 63 }
-    ensures unlinked { (free : ℕ) → IsLinked heads.old cells.old free → IsLinkedBut heads.new cells.new free cell }
+    ensures unlinked { (free : ℕ) → IsLinked heads.old cells.old free
+        → IsLinkedBut heads.new cells.new free cell }
     ensures nodes { SameNodes cells.old cells.new }
 {
     let after = cells[cell].next;
@@ -90,7 +91,8 @@ pub fn unlink<N: Copy>(heads: &mut [usize], cells: &mut [Cell<N>], bucket: usize
 fn look<N: Copy, L: Ledger>(cell: &Cell<N>, hash: u64, steps: &mut Steps<L>) -> Option<N>
     ensures step { steps.new ≡ steps.old + 1 }
     ensures here { IfSome result (λ node. cell.now.kept ≡ Some (record { hash = hash; node = node })) }
-    ensures not_here { IfNone result ((node : N) → cell.now.kept ≢ Some (record { hash = hash; node = node })) }
+    ensures not_here { IfNone result
+        ((node : N) → cell.now.kept ≢ Some (record { hash = hash; node = node })) }
 {
     steps.tick();
     match cell.kept {
@@ -110,9 +112,15 @@ pub fn seek<N: Copy, F: Fn(N) -> bool, L: Ledger>(
 ) -> Option<N>
     requires masked { IsPowerOfTwo (length heads.now) }
     requires linked { (free : ℕ) × IsLinked heads.now cells.now free }
-    requires callable { (cell : ℕ) (node : N) → kept_at cells.now cell ≡ Some (record { hash = hash; node = node }) → F.pre is_match node }
-    ensures found { IfSome result (λ node. (cell : ℕ) × (kept_at cells.now cell ≡ Some (record { hash = hash; node = node })) × F.post is_match node true) }
-    ensures none { IfNone result ((cell : ℕ) (node : N) → kept_at cells.now cell ≡ Some (record { hash = hash; node = node }) → F.post is_match node false) }
+    requires callable { (cell : ℕ) (node : N)
+        → kept_at cells.now cell ≡ Some (record { hash = hash; node = node })
+        → F.pre is_match node }
+    ensures found { IfSome result (λ node. (cell : ℕ)
+        × (kept_at cells.now cell ≡ Some (record { hash = hash; node = node }))
+        × F.post is_match node true) }
+    ensures none { IfNone result ((cell : ℕ) (node : N)
+        → kept_at cells.now cell ≡ Some (record { hash = hash; node = node })
+        → F.post is_match node false) }
     ensures goes_on { steps.old ≤ steps.new }
     ensures cost { let m = length heads.now in
         steps.new ≤ steps.old + count_by (λ c. chain_of m c.kept == hash % m) cells.now }

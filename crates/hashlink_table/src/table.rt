@@ -1,4 +1,4 @@
-ghost use Rattle.std.specs.Prelude.{◌≡◌, ◌≢◌, ℕ, ◌+◌, ◌%◌, ◌^◌, ◌<◌, ◌≤◌, ◌↔◌, false, true, IfNone, IfOk, IfSome, IsOk, IsSome, IsTrue, OnErr, OnOk, None, Some, Ok, Err};
+ghost use Rattle.std.specs.Prelude.{◌≡◌, ℕ, ◌+◌, ◌^◌, ◌<◌, ◌≤◌, ◌↔◌, false, true, IfNone, IfOk, IfSome, IsOk, IsSome, IsTrue, OnErr, OnOk, None, Ok, Err};
 ghost use Rattle.std.specs.FinMap.{empty, get, insert, remove};
 ghost use Rattle.std.specs.Int.{IsPowerOfTwo};
 ghost use Rattle.hashlink_table.specs.declared.error.TryReserveError.TheVariants.{CapacityOverflow};
@@ -117,7 +117,9 @@ impl<N: Copy> Table<N> {
     pub fn insert_reserved(&mut self, hash: u64, node: N) -> usize
         requires { len_of self.old < self.old.room }
         ensures was_free { get self.old.nodes result ≡ None }
-        ensures inserted { self.new ≡ record self.old { nodes = insert self.old.nodes result (record { hash = hash; node = node }) } }
+        ensures inserted { self.new ≡ record self.old {
+          nodes = insert self.old.nodes result (record { hash = hash; node = node });
+        } }
         ensures small { result < 2 ^ 62 }
     {
         let bucket = bucket_of(hash, self.heads.len());
@@ -157,10 +159,13 @@ impl<N: Copy> Table<N> {
         steps: &mut Steps<L>,
     ) -> Option<N>
         requires { (cell : ℕ) (node : N) → Keeps self.now cell hash node → F.pre is_match node }
-        ensures found { IfSome result (λ node. (cell : ℕ) × Keeps self.now cell hash node × F.post is_match node true) }
-        ensures none { IfNone result ((cell : ℕ) (node : N) → Keeps self.now cell hash node → F.post is_match node false) }
+        ensures found { IfSome result
+            (λ node. (cell : ℕ) × Keeps self.now cell hash node × F.post is_match node true) }
+        ensures none { IfNone result
+            ((cell : ℕ) (node : N) → Keeps self.now cell hash node → F.post is_match node false) }
         ensures goes_on { steps.old ≤ steps.new }
-        ensures cost { (m : ℕ) × (0 < m) × (self.now.room ≤ m) × (steps.new ≤ steps.old + agreeing self.now hash m) }
+        ensures cost { (m : ℕ) × (0 < m) × (self.now.room ≤ m)
+            × (steps.new ≤ steps.old + agreeing self.now hash m) }
     {
         if self.len == 0 {
             return None;
@@ -172,8 +177,10 @@ impl<N: Copy> Table<N> {
     #[inline]
     pub fn look_up<F: Fn(N) -> bool>(&self, hash: u64, is_match: F) -> Option<N>
         requires { (cell : ℕ) (node : N) → Keeps self.now cell hash node → F.pre is_match node }
-        ensures found { IfSome result (λ node. (cell : ℕ) × Keeps self.now cell hash node × F.post is_match node true) }
-        ensures none { IfNone result ((cell : ℕ) (node : N) → Keeps self.now cell hash node → F.post is_match node false) }
+        ensures found { IfSome result
+            (λ node. (cell : ℕ) × Keeps self.now cell hash node × F.post is_match node true) }
+        ensures none { IfNone result
+            ((cell : ℕ) (node : N) → Keeps self.now cell hash node → F.post is_match node false) }
     {
         self.find_from::<F, Brand>(hash, is_match, Blank::new(1))
     }
@@ -190,8 +197,10 @@ impl<N: Copy> Table<N> {
         requires parts { blank.parts ≡ L.parts }
         requires some_part { 0 < blank.parts }
         requires callable { (cell : ℕ) (node : N) → Keeps self.now cell hash node → F.pre is_match node }
-        ensures found { IfSome result (λ node. (cell : ℕ) × Keeps self.now cell hash node × F.post is_match node true) }
-        ensures none { IfNone result ((cell : ℕ) (node : N) → Keeps self.now cell hash node → F.post is_match node false) }
+        ensures found { IfSome result
+            (λ node. (cell : ℕ) × Keeps self.now cell hash node × F.post is_match node true) }
+        ensures none { IfNone result
+            ((cell : ℕ) (node : N) → Keeps self.now cell hash node → F.post is_match node false) }
     {
         let mut steps = Steps::<L>::new(blank);
         self.find(hash, is_match, &mut steps)

@@ -3,7 +3,7 @@ use Rattle.std.specs.Ordering.{nat_cmp}
 use Rattle.std.specs.FinMap.{FinMap, len, len-empty}
 use Rattle.hashlink_table.specs.declared.kept.Kept.{Kept}
 use Rattle.hashlink_table.specs.Contents.{Contents}
-use Rattle.hashlink_table.proofs.Agreeing.{numbered_none, numbered_more, numbered_few}
+use Rattle.hashlink_table.proofs.Numbered.{numbered_none, numbered_more, numbered_few}
 use Rattle.hashlink_table.proofs.Callers.{after_insert}
 use Rattle.hashlink_table.proofs.tests.numbered.Goals as goal
 

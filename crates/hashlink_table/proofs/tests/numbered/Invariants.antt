@@ -1,6 +1,6 @@
 use Rattle.std.proofs.Common.{◌≤◌}
 use Rattle.hashlink_table.specs.Contents.{len_of}
-use Rattle.hashlink_table.proofs.Agreeing.{IsNumbered}
+use Rattle.hashlink_table.proofs.Numbered.{IsNumbered}
 use Rattle.hashlink_table.proofs.tests.numbered.Given as goal
 
 abbrev pub invariant-loop-number : goal.invariant-loop-number

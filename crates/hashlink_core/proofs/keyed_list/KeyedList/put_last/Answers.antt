@@ -5,13 +5,14 @@ use Rattle.std.specs.Map.{lookup, keys_of, values_of}
 use Rattle.std.specs.FinMap.{insert}
 use Rattle.hashlink_nodes.specs.Node.{same_node}
 use Rattle.hashlink_model.specs.Entries.{put}
-use Rattle.hashlink_model.specs.MapState.{MapState, map_state, PutsEntry}
+use Rattle.hashlink_model.specs.MapState.{MapState, map_state, StoresAtMost, PutsEntry}
 use Rattle.hashlink_core.specs.Keyed.{nodes_of, pairs_in, entries_of, state_of}
 use Rattle.hashlink_core.specs.Tied.{hash_with, IsInStep}
 use Rattle.hashlink_core.proofs.Finding.{ring-standing, ring-apart}
 use Rattle.hashlink_core.proofs.Standing.{standing-holds, standing-lookup, standing-value, put-holds, put-last}
 use Rattle.hashlink_core.proofs.Stepping.{step-put, step-added, new-holds, new-last}
 use Rattle.hashlink_core.proofs.Walk.{distinct-left, length-nodes_of}
+use Rattle.hashlink_core.proofs.Stores.{stores-exactly}
 use Rattle.hashlink_core.proofs.keyed_list.KeyedList.put_last.Goals as goal
 
 pub replace_value-old-requires : goal.replace_value-old-requires
@@ -65,13 +66,16 @@ returns-in-Some-clause-inserts g c =
     let with = c.replace_value-old.new.self.entries in
     let left = c.move_before.new.self in
     let old : Some s.held.value ≡ Some c.replace_value-old.result = sym (ap (option_map (λ h. h.value)) (standing-lookup eq laws r.entries k n s)) ∙ c.replace_value-old.ensures.value in
-    let new : MapState g.row.K.Denot g.row.V.Denot g.row.S.Denot = map_state (pairs_in left.entries) (length left.free) c.self.inside.table.room c.self.inside.hash_builder in
+    let new : MapState g.row.K.Denot g.row.V.Denot g.row.S.Denot = map_state (pairs_in left.entries) (length left.free) c.self.inside.table.room left.link_writes c.self.inside.hash_builder in
+    let few : StoresAtMost 6 r.link_writes left.link_writes =
+    stores-exactly 6 r.link_writes left.link_writes (c.move_before.ensures.link_writes ∙ ap (λ w. w + 6) c.replace_value-old.ensures.link_writes) in
     subst (λ m. PutsEntry eq (state_of m) new k v (length (entries_of m)) c.replace_value-old.result) c.self.view_is
     (record {
       old_value = standing-value eq laws r.entries k n s ∙ old;
       entries = put-last eq laws r.entries k n s v with left.entries c.replace_value-old.ensures.entries c.move_before.ensures.moved;
       spare = ap length (c.move_before.ensures.free ∙ c.replace_value-old.ensures.free);
       room = refl;
+      link_writes = few;
       hasher = refl;
     })
 
@@ -144,11 +148,15 @@ returns-clause-inserts g c =
     new-last eq laws hash r c.push_before.new.self c.set_number.new.self t k v n cell absent c.in_ok-node.ensures.entries apart c.set_number.ensures.entries in
     let kept_room : c.insert_reserved-cell.new.self.room ≡ t.room = ap (λ u. u.room) c.insert_reserved-cell.ensures.inserted in
     let more_room : c.args.self.now.room ≤ c.insert_reserved-cell.new.self.room = omega (arith, c.make_room.ensures.room, kept_room, ap (λ m. m.room) c.self-2.view_is) in
+    let stored : c.set_number.new.self.link_writes ≡ c.args.self.now.link_writes + 4 =
+    c.set_number.ensures.link_writes ∙ c.in_ok-node.ensures.link_writes ∙ ap (λ w. w + 4) (ap (λ m. m.link_writes) c.self-2.view_is ∙ c.make_room.ensures.link_writes) in
+    let few : StoresAtMost 4 c.args.self.now.link_writes c.set_number.new.self.link_writes = stores-exactly 4 c.args.self.now.link_writes c.set_number.new.self.link_writes stored in
     record {
       absent = c.in_default.ensures.found;
       entries = last ∙ ap (λ ps. put eq ps k v (length ps)) pairs;
       spare = ap length freed ∙ length-drop 1 r.free ∙ ap (λ i. i - 1) (ap (λ m. m.spare) c.self-2.view_is ∙ c.make_room.ensures.spare);
       room = more_room;
+      link_writes = few;
       hasher = ap (λ m. m.hasher) c.self-2.view_is ∙ c.make_room.ensures.hasher;
     }
 

@@ -3,13 +3,14 @@ use Rattle.std.specs.Option.{option_map}
 use Rattle.std.specs.Map.{lookup_entry}
 use Rattle.hashlink_nodes.specs.Ring.{pair_of}
 use Rattle.hashlink_model.specs.Entries.{without}
-use Rattle.hashlink_model.specs.MapState.{MapState, map_state, Removes}
+use Rattle.hashlink_model.specs.MapState.{MapState, map_state, StoresAtMost, Removes}
 use Rattle.hashlink_model.proofs.Splits.{none_from_lookup, lookup_entry-none}
 use Rattle.hashlink_core.specs.Keyed.{pairs_in, entries_of, state_of}
 use Rattle.hashlink_core.specs.Tied.{hash_with, IsInStep}
 use Rattle.hashlink_core.proofs.Finding.{ring-standing, ring-apart}
 use Rattle.hashlink_core.proofs.Standing.{standing-holds, standing-lookup, standing-stored, standing-without}
 use Rattle.hashlink_core.proofs.Stepping.{step-taken}
+use Rattle.hashlink_core.proofs.Stores.{stores-exactly}
 use Rattle.hashlink_core.proofs.keyed_list.KeyedList.remove_entry.Goals as goal
 
 pub returns-in_err-node-clause-pair : goal.returns-in_err-node-clause-pair
@@ -66,12 +67,14 @@ returns-clause-removed g c =
     let s = ring-standing eq laws r.entries c.args.self.now.nodes (ap (λ m. m.nodes) c.self.view_is) k n c.self.invariant.distinct c.in_ok-node.ensures.found in
     let left = c.detach_into_free.new.self in
     let freed : length left.free ≡ length r.free + 1 = omega (arith, ap length c.detach_into_free.ensures.free) in
-    let new : MapState g.row.K.Denot g.row.V.Denot g.row.S.Denot = map_state (pairs_in left.entries) (length left.free) c.remove.new.self.room c.self.inside.hash_builder in
+    let new : MapState g.row.K.Denot g.row.V.Denot g.row.S.Denot = map_state (pairs_in left.entries) (length left.free) c.remove.new.self.room left.link_writes c.self.inside.hash_builder in
+    let few : StoresAtMost 3 r.link_writes left.link_writes = stores-exactly 3 r.link_writes left.link_writes c.detach_into_free.ensures.link_writes in
     subst (λ m. Removes (state_of m) new (without eq (entries_of m) k)) c.self.view_is
     (record {
       entries = ap pairs_in c.detach_into_free.ensures.entries ∙ standing-without eq laws r.entries k n s;
       spare = freed;
       room = ap (λ t. t.room) c.remove.ensures;
+      link_writes = few;
       hasher = refl;
     })
 

@@ -1,34 +1,42 @@
-use Rattle.std.proofs.Common.{ap, sym, ◌∙◌, arith, rules, length, Some, ◌≡◌, ◌<◌, ◌∷◌, subst}
-use Rattle.std.specs.Option.{option_map, IfSome}
-use Rattle.std.specs.Map.{lookup, lookup_entry, remove_entry}
-use Rattle.hashlink_nodes.specs.Node.{same_node}
-use Rattle.hashlink_nodes.specs.Ring.{Holds, pair_of, put_before}
-use Rattle.hashlink_nodes.specs.Shape.{index_of, index_of_place}
-use Rattle.hashlink_nodes.proofs.Index.{index_of-lt, index_of_place-le, put_before-step, Found, found}
-use Rattle.hashlink_nodes.proofs.Sound.{sound-move}
+use Rattle.std.proofs.Common.{ap, ◌∙◌}
+use Rattle.hashlink_nodes.specs.Cells.{state_of}
+use Rattle.hashlink_nodes.specs.State.{State}
+use Rattle.hashlink_nodes.proofs.Sound.{node_of, has_detached, guard_there, opened}
+use Rattle.hashlink_nodes.proofs.Moving.{before_steps, move_before_done}
 use Rattle.hashlink_nodes.proofs.nodes.Nodes.move_before.Goals as goal
 
-pub remove-entry-requires : goal.remove-entry-requires
-remove-entry-requires g c =
-    let held : Holds c.self.inside.entries.items c.args.node = subst (λ r. Holds r.entries c.args.node) (sym c.self.view_is) c.requires.node in
-    omega (arith, index_of-lt c.args.node c.self.inside.entries.items held, c.index_of-from.ensures, ap (index_of c.args.node) c.deref.ensures.value)
+pub unreachable-requires : goal.unreachable-requires
+unreachable-requires g c = guard_there (state_of c.self.inside.cells) c.self.inside.guard c.self.inside.first_spare c.self.inside.len c.self.inside.spare c.args.self.now c.self.view_is c.args.node c.requires.node c.in-None.is
 
-pub insert-requires : goal.insert-requires
-insert-requires g c = omega (arith, index_of_place-le c.args.place c.deref-2.result.now, c.index_of_place-to.ensures, c.deref-2.ensures.len)
+pub detach-requires-clause-node : goal.detach-requires-clause-node
+detach-requires-clause-node g c = (node_of (state_of c.self.inside.cells) c.self.inside.guard c.self.inside.first_spare c.self.inside.len c.self.inside.spare c.self.invariant c.args.self.now c.self.view_is c.args.node c.requires.node).has_node
+
+pub detach-requires-clause-next : goal.detach-requires-clause-next
+detach-requires-clause-next g c = (node_of (state_of c.self.inside.cells) c.self.inside.guard c.self.inside.first_spare c.self.inside.len c.self.inside.spare c.self.invariant c.args.self.now c.self.view_is c.args.node c.requires.node).has_next
+
+pub detach-requires-clause-prev : goal.detach-requires-clause-prev
+detach-requires-clause-prev g c = (node_of (state_of c.self.inside.cells) c.self.inside.guard c.self.inside.first_spare c.self.inside.len c.self.inside.spare c.self.invariant c.args.self.now c.self.view_is c.args.node c.requires.node).has_prev
+
+pub prev-prev-requires : goal.prev-prev-requires
+prev-prev-requires g c = let S : Type 0 = State g.row.K.Denot g.row.V.Denot in ((ap (λ (s : S). s.has c.unwrap_or-next.result) c.detach.ensures ∙ ap (λ f. f c.unwrap_or-next.result) (has_detached (state_of c.self.inside.cells) c.args.node)) ∙ ap (state_of c.self.inside.cells).has c.unwrap_or-next.ensures ∙ (before_steps (state_of c.self.inside.cells) c.self.inside.guard c.in-Some.guard c.self.inside.first_spare c.self.inside.len c.self.inside.spare c.args.self.now (opened (state_of c.self.inside.cells) c.self.inside.guard c.in-Some.guard c.self.inside.first_spare c.self.inside.len c.self.inside.spare c.self.invariant c.in-Some.is c.args.self.now c.self.view_is) c.args.node c.requires.node c.args.place c.requires.place).has_next)
+
+pub attach-requires-clause-node : goal.attach-requires-clause-node
+attach-requires-clause-node g c = let S : Type 0 = State g.row.K.Denot g.row.V.Denot in (ap (λ (s : S). s.has c.args.node) c.detach.ensures ∙ ap (λ f. f c.args.node) (has_detached (state_of c.self.inside.cells) c.args.node)) ∙ (node_of (state_of c.self.inside.cells) c.self.inside.guard c.self.inside.first_spare c.self.inside.len c.self.inside.spare c.self.invariant c.args.self.now c.self.view_is c.args.node c.requires.node).has_node
+
+pub attach-requires-clause-prev : goal.attach-requires-clause-prev
+attach-requires-clause-prev g c = let S : Type 0 = State g.row.K.Denot g.row.V.Denot in ((ap (λ (s : S). s.has c.prev-prev.result) c.detach.ensures ∙ ap (λ f. f c.prev-prev.result) (has_detached (state_of c.self.inside.cells) c.args.node)) ∙ ap (state_of c.self.inside.cells).has (c.prev-prev.ensures ∙ (λ i. (c.detach.ensures i).prev (c.unwrap_or-next.ensures i))) ∙ (before_steps (state_of c.self.inside.cells) c.self.inside.guard c.in-Some.guard c.self.inside.first_spare c.self.inside.len c.self.inside.spare c.args.self.now (opened (state_of c.self.inside.cells) c.self.inside.guard c.in-Some.guard c.self.inside.first_spare c.self.inside.len c.self.inside.spare c.self.invariant c.in-Some.is c.args.self.now c.self.view_is) c.args.node c.requires.node c.args.place c.requires.place).has_prev)
+
+pub attach-requires-clause-next : goal.attach-requires-clause-next
+attach-requires-clause-next g c = let S : Type 0 = State g.row.K.Denot g.row.V.Denot in ((ap (λ (s : S). s.has c.unwrap_or-next.result) c.detach.ensures ∙ ap (λ f. f c.unwrap_or-next.result) (has_detached (state_of c.self.inside.cells) c.args.node)) ∙ ap (state_of c.self.inside.cells).has c.unwrap_or-next.ensures ∙ (before_steps (state_of c.self.inside.cells) c.self.inside.guard c.in-Some.guard c.self.inside.first_spare c.self.inside.len c.self.inside.spare c.args.self.now (opened (state_of c.self.inside.cells) c.self.inside.guard c.in-Some.guard c.self.inside.first_spare c.self.inside.len c.self.inside.spare c.self.invariant c.in-Some.is c.args.self.now c.self.view_is) c.args.node c.requires.node c.args.place c.requires.place).has_next)
 
 pub invariant_of-self : goal.invariant_of-self
-invariant_of-self g c =
-    let held : Holds c.self.inside.entries.items c.args.node = subst (λ r. Holds r.entries c.args.node) (sym c.self.view_is) c.requires.node in
-    let f = found c.args.node c.self.inside.entries.items c.index_of-from.result c.remove-entry.result held (c.index_of-from.ensures ∙ ap (index_of c.args.node) c.deref.ensures.value) c.remove-entry.ensures.value in
-    sound-move _ _ _ _ _ _ _ _ _ _ _ f.within c.remove-entry.ensures.value c.remove-entry.ensures.items c.in-Ok.ensures.items
-    (omega (arith, c.remove-entry.ensures.capacity, c.in-Ok.ensures.capacity)) (omega arith) c.self.invariant
+invariant_of-self g c = (move_before_done (state_of c.self.inside.cells) c.self.inside.guard c.in-Some.guard c.self.inside.first_spare c.self.inside.len c.self.inside.spare c.args.self.now (opened (state_of c.self.inside.cells) c.self.inside.guard c.in-Some.guard c.self.inside.first_spare c.self.inside.len c.self.inside.spare c.self.invariant c.in-Some.is c.args.self.now c.self.view_is) c.args.node c.requires.node c.args.place c.requires.place (state_of c.detach.new.self) (state_of c.attach.new.self) c.prev-prev.result c.unwrap_or-next.result c.detach.ensures c.unwrap_or-next.ensures c.prev-prev.ensures c.attach.ensures).sound
 
 pub returns-clause-moved : goal.returns-clause-moved
-returns-clause-moved g c =
-    let held : Holds c.self.inside.entries.items c.args.node = subst (λ r. Holds r.entries c.args.node) (sym c.self.view_is) c.requires.node in
-    let f = found c.args.node c.self.inside.entries.items c.index_of-from.result c.remove-entry.result held (c.index_of-from.ensures ∙ ap (index_of c.args.node) c.deref.ensures.value) c.remove-entry.ensures.value in
-    let moved : c.insert.new.self.items ≡ put_before c.args.place c.remove-entry.result (remove_entry (same_node c.args.node) c.self.inside.entries.items) =
-    put_before-step _ _ _ _ _ _ c.in-Ok.ensures.items (c.remove-entry.ensures.items ∙ sym f.rest)
-    (c.index_of_place-to.ensures ∙ ap (index_of_place c.args.place) c.deref-2.ensures.value) in
-    subst (λ r. IfSome (lookup_entry (same_node c.args.node) r.entries) (λ e. c.insert.new.self.items ≡ put_before c.args.place e (remove_entry (same_node c.args.node) r.entries))) c.self.view_is
-    (subst (λ o. IfSome o (λ e. c.insert.new.self.items ≡ put_before c.args.place e (remove_entry (same_node c.args.node) c.self.inside.entries.items))) (sym f.entry) moved)
+returns-clause-moved g c = (move_before_done (state_of c.self.inside.cells) c.self.inside.guard c.in-Some.guard c.self.inside.first_spare c.self.inside.len c.self.inside.spare c.args.self.now (opened (state_of c.self.inside.cells) c.self.inside.guard c.in-Some.guard c.self.inside.first_spare c.self.inside.len c.self.inside.spare c.self.invariant c.in-Some.is c.args.self.now c.self.view_is) c.args.node c.requires.node c.args.place c.requires.place (state_of c.detach.new.self) (state_of c.attach.new.self) c.prev-prev.result c.unwrap_or-next.result c.detach.ensures c.unwrap_or-next.ensures c.prev-prev.ensures c.attach.ensures).moved
+
+pub returns-clause-free : goal.returns-clause-free
+returns-clause-free g c = (move_before_done (state_of c.self.inside.cells) c.self.inside.guard c.in-Some.guard c.self.inside.first_spare c.self.inside.len c.self.inside.spare c.args.self.now (opened (state_of c.self.inside.cells) c.self.inside.guard c.in-Some.guard c.self.inside.first_spare c.self.inside.len c.self.inside.spare c.self.invariant c.in-Some.is c.args.self.now c.self.view_is) c.args.node c.requires.node c.args.place c.requires.place (state_of c.detach.new.self) (state_of c.attach.new.self) c.prev-prev.result c.unwrap_or-next.result c.detach.ensures c.unwrap_or-next.ensures c.prev-prev.ensures c.attach.ensures).free
+
+pub returns-clause-link_writes : goal.returns-clause-link_writes
+returns-clause-link_writes g c = (move_before_done (state_of c.self.inside.cells) c.self.inside.guard c.in-Some.guard c.self.inside.first_spare c.self.inside.len c.self.inside.spare c.args.self.now (opened (state_of c.self.inside.cells) c.self.inside.guard c.in-Some.guard c.self.inside.first_spare c.self.inside.len c.self.inside.spare c.self.invariant c.in-Some.is c.args.self.now c.self.view_is) c.args.node c.requires.node c.args.place c.requires.place (state_of c.detach.new.self) (state_of c.attach.new.self) c.prev-prev.result c.unwrap_or-next.result c.detach.ensures c.unwrap_or-next.ensures c.prev-prev.ensures c.attach.ensures).writes

@@ -1,8 +1,8 @@
-use Rattle.std.proofs.Common.{sym, subst}
-use Rattle.std.specs.Vec.{vec_capacity}
-use Rattle.hashlink_nodes.specs.Shape.{IsSound}
-use Rattle.hashlink_nodes.proofs.Sound.{sound-none}
+use Rattle.std.proofs.Common.{[], ap}
+use Rattle.hashlink_nodes.specs.State.{State}
+use Rattle.hashlink_nodes.specs.Shape.{entries_of}
 use Rattle.hashlink_nodes.proofs.nodes.Nodes.new.Goals as goal
 
-pub invariant_of-result : goal.invariant_of-result
-invariant_of-result g c = rw (c.new.ensures.items, c.new-2.ensures.items) (sound-none _ _)
+pub returns : goal.returns
+unfolding entries_of
+returns g c = let S : Type 0 = State g.row.K.Denot g.row.V.Denot in ap (λ (s : S). record { entries = []; free = []; link_writes = s.link_writes }) c.new.ensures

@@ -1,30 +1,30 @@
-use Rattle.std.proofs.Common.{ap, sym, ◌∙◌, arith, rules, length, Some, set, ◌≡◌, ◌<◌, ◌∷◌, subst}
-use Rattle.std.specs.Option.{option_map, IfSome}
+use Rattle.std.proofs.Common.{◌≡◌, ap, sym, ◌∙◌}
+use Rattle.std.specs.Prelude.{is_some}
+use Rattle.std.specs.Option.{option_map}
 use Rattle.std.specs.Map.{lookup, set_value}
+use Rattle.hashlink_nodes.specs.Shape.{ring_of}
 use Rattle.hashlink_nodes.specs.Node.{same_node}
-use Rattle.hashlink_nodes.specs.Ring.{Holds, with_number}
-use Rattle.hashlink_nodes.specs.Shape.{index_of}
-use Rattle.hashlink_nodes.proofs.Index.{index_of-lt, Found, found}
-use Rattle.hashlink_nodes.proofs.Sound.{sound-set, keys-set}
+use Rattle.hashlink_nodes.specs.Cells.{state_of}
+use Rattle.hashlink_nodes.specs.State.{hold}
+use Rattle.hashlink_nodes.specs.Ring.{Ring, Held, with_number}
+use Rattle.hashlink_nodes.proofs.Sound.{node_of, if_some}
+use Rattle.hashlink_nodes.proofs.Changing.{held_anew, held_writes}
 use Rattle.hashlink_nodes.proofs.nodes.Nodes.set_number.Goals as goal
 
-pub index_mut-requires : goal.index_mut-requires
-index_mut-requires g c =
-    let held : Holds c.self.inside.entries.items c.args.node = subst (λ r. Holds r.entries c.args.node) (sym c.self.view_is) c.requires in
-    omega (arith, index_of-lt c.args.node c.self.inside.entries.items held, c.index_of-index.ensures, ap (index_of c.args.node) c.deref.ensures.value)
+pub set_number-requires-clause-has : goal.set_number-requires-clause-has
+set_number-requires-clause-has g c = (node_of (state_of c.self.inside.cells) c.self.inside.guard c.self.inside.first_spare c.self.inside.len c.self.inside.spare c.self.invariant c.args.self.now c.self.view_is c.args.node c.requires).has_node
+
+pub set_number-requires-clause-held : goal.set_number-requires-clause-held
+set_number-requires-clause-held g c = ap is_some (node_of (state_of c.self.inside.cells) c.self.inside.guard c.self.inside.first_spare c.self.inside.len c.self.inside.spare c.self.invariant c.args.self.now c.self.view_is c.args.node c.requires).holds
 
 pub invariant_of-self : goal.invariant_of-self
-invariant_of-self g c =
-    sound-set _ _ _ _ _ _ _ (keys-set c.self.inside.entries.items c.index_of-index.result c.index_mut.result.now _ c.index_mut.ensures.value) (omega arith) (omega arith) c.self.invariant
+invariant_of-self g c = let H : Type 0 = Held g.row.K.Denot g.row.V.Denot in let R : Type 0 = Ring g.row.K.Denot g.row.V.Denot in (held_anew (state_of c.self.inside.cells) (state_of c.set_number.new.self) c.self.inside.guard c.self.inside.first_spare c.self.inside.len c.self.inside.spare c.self.invariant c.args.self.now c.self.view_is c.args.node c.requires (node_of (state_of c.self.inside.cells) c.self.inside.guard c.self.inside.first_spare c.self.inside.len c.self.inside.spare c.self.invariant c.args.self.now c.self.view_is c.args.node c.requires).value (with_number (node_of (state_of c.self.inside.cells) c.self.inside.guard c.self.inside.first_spare c.self.inside.len c.self.inside.spare c.self.invariant c.args.self.now c.self.view_is c.args.node c.requires).value c.args.number) (node_of (state_of c.self.inside.cells) c.self.inside.guard c.self.inside.first_spare c.self.inside.len c.self.inside.spare c.self.invariant c.args.self.now c.self.view_is c.args.node c.requires).holds (c.set_number.ensures ∙ ap (λ o. hold c.args.node (option_map (λ (h : H). with_number h c.args.number) o) (state_of c.self.inside.cells)) (node_of (state_of c.self.inside.cells) c.self.inside.guard c.self.inside.first_spare c.self.inside.len c.self.inside.spare c.self.invariant c.args.self.now c.self.view_is c.args.node c.requires).holds)).sound
 
 pub returns-clause-entries : goal.returns-clause-entries
-returns-clause-entries g c =
-    let held : Holds c.self.inside.entries.items c.args.node = subst (λ r. Holds r.entries c.args.node) (sym c.self.view_is) c.requires in
-    let f = found c.args.node c.self.inside.entries.items c.index_of-index.result c.index_mut.result.now held (c.index_of-index.ensures ∙ ap (index_of c.args.node) c.deref.ensures.value) c.index_mut.ensures.value in
-    let items = c.self.inside.entries.items in
-    let i = c.index_of-index.result in
-    let now = c.index_mut.result.now in
-    let left = set items i (now.0, with_number now.1 c.args.number) in
-    let is : left ≡ set_value (same_node c.args.node) items (with_number now.1 c.args.number) = sym (f.with (with_number now.1 c.args.number)) in
-    subst (λ r. IfSome (lookup (same_node c.args.node) r.entries) (λ h. left ≡ set_value (same_node c.args.node) r.entries (with_number h c.args.number))) c.self.view_is
-    (subst (λ o. IfSome o (λ h. left ≡ set_value (same_node c.args.node) items (with_number h c.args.number))) (sym f.here) is)
+returns-clause-entries g c = let H : Type 0 = Held g.row.K.Denot g.row.V.Denot in let R : Type 0 = Ring g.row.K.Denot g.row.V.Denot in if_some (λ (h : H). (ring_of (state_of c.set_number.new.self) c.self.inside.guard c.self.inside.first_spare c.self.inside.len c.self.inside.spare).entries ≡ set_value (same_node c.args.node) c.args.self.now.entries (with_number h c.args.number)) (ap (λ (r : R). lookup (same_node c.args.node) r.entries) (sym c.self.view_is) ∙ (node_of (state_of c.self.inside.cells) c.self.inside.guard c.self.inside.first_spare c.self.inside.len c.self.inside.spare c.self.invariant c.args.self.now c.self.view_is c.args.node c.requires).looked) (held_anew (state_of c.self.inside.cells) (state_of c.set_number.new.self) c.self.inside.guard c.self.inside.first_spare c.self.inside.len c.self.inside.spare c.self.invariant c.args.self.now c.self.view_is c.args.node c.requires (node_of (state_of c.self.inside.cells) c.self.inside.guard c.self.inside.first_spare c.self.inside.len c.self.inside.spare c.self.invariant c.args.self.now c.self.view_is c.args.node c.requires).value (with_number (node_of (state_of c.self.inside.cells) c.self.inside.guard c.self.inside.first_spare c.self.inside.len c.self.inside.spare c.self.invariant c.args.self.now c.self.view_is c.args.node c.requires).value c.args.number) (node_of (state_of c.self.inside.cells) c.self.inside.guard c.self.inside.first_spare c.self.inside.len c.self.inside.spare c.self.invariant c.args.self.now c.self.view_is c.args.node c.requires).holds (c.set_number.ensures ∙ ap (λ o. hold c.args.node (option_map (λ (h : H). with_number h c.args.number) o) (state_of c.self.inside.cells)) (node_of (state_of c.self.inside.cells) c.self.inside.guard c.self.inside.first_spare c.self.inside.len c.self.inside.spare c.self.invariant c.args.self.now c.self.view_is c.args.node c.requires).holds)).entries
+
+pub returns-clause-free : goal.returns-clause-free
+returns-clause-free g c = let H : Type 0 = Held g.row.K.Denot g.row.V.Denot in let R : Type 0 = Ring g.row.K.Denot g.row.V.Denot in (held_anew (state_of c.self.inside.cells) (state_of c.set_number.new.self) c.self.inside.guard c.self.inside.first_spare c.self.inside.len c.self.inside.spare c.self.invariant c.args.self.now c.self.view_is c.args.node c.requires (node_of (state_of c.self.inside.cells) c.self.inside.guard c.self.inside.first_spare c.self.inside.len c.self.inside.spare c.self.invariant c.args.self.now c.self.view_is c.args.node c.requires).value (with_number (node_of (state_of c.self.inside.cells) c.self.inside.guard c.self.inside.first_spare c.self.inside.len c.self.inside.spare c.self.invariant c.args.self.now c.self.view_is c.args.node c.requires).value c.args.number) (node_of (state_of c.self.inside.cells) c.self.inside.guard c.self.inside.first_spare c.self.inside.len c.self.inside.spare c.self.invariant c.args.self.now c.self.view_is c.args.node c.requires).holds (c.set_number.ensures ∙ ap (λ o. hold c.args.node (option_map (λ (h : H). with_number h c.args.number) o) (state_of c.self.inside.cells)) (node_of (state_of c.self.inside.cells) c.self.inside.guard c.self.inside.first_spare c.self.inside.len c.self.inside.spare c.self.invariant c.args.self.now c.self.view_is c.args.node c.requires).holds)).free
+
+pub returns-clause-link_writes : goal.returns-clause-link_writes
+returns-clause-link_writes g c = let H : Type 0 = Held g.row.K.Denot g.row.V.Denot in let R : Type 0 = Ring g.row.K.Denot g.row.V.Denot in held_writes (state_of c.self.inside.cells) (state_of c.set_number.new.self) c.args.node _ c.args.self.now.link_writes (ap (λ (r : R). r.link_writes) c.self.view_is) c.set_number.ensures

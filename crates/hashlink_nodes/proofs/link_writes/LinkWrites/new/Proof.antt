@@ -1,0 +1,35 @@
+-- A count begins at 0.
+use Rattle.std.proofs.Common.{◌≡◌, [], ◌∷◌, refl}
+use base.Logic.{SProp, emp}
+use base.Fml.{ftrue}
+use mir.Val.{Val}
+use types.Kit.{‵, raw, ◌⊛◌, ◌$◌, ◌∵◌, !, qed, by, keep, drop, split, use0, fjoin}
+use types.Run.{no_more, and_then, returns, enter}
+use types.ByLocal.{alloc_all, pass_all, free_all, look_at, get, sets}
+use types.Part.{agg}
+use contract.Monad.{fact, fact_i}
+use contract.Running.{tables}
+use denote.Steps.{nothing}
+use denote.Triple.Walked.{walk_of}
+use Rattle.std.proofs.raw_atomic.Walks.{proved_at, leaves}
+use Rattle.hashlink_nodes.proofs.ArenaSteps.{mark}
+use Rattle.hashlink_nodes.proofs.CountSteps.{Mark, mark_made}
+use Rattle.hashlink_nodes.specs.declared.link_writes.LinkWrites.{LinkWrites}
+use Rattle.hashlink_nodes.specs.contracts.link_writes.LinkWrites.new.{ended, clauses}
+use Rattle.hashlink_nodes.specs.contracts.link_writes.LinkWrites.new.Key.{name as #self}
+use Rattle.hashlink_nodes.proofs.link_writes.LinkWrites.new.Statement.{statement}
+use Rattle.hashlink_nodes.proofs.link_writes.LinkWrites.new.Code as code
+
+pub new_spec : {M : Type 1} → statement M
+new_spec 𝓤 𝓛 𝓜 𝓡 wired =
+    let H = 𝓛.H in let 𝓣 = tables 𝓤 H 𝓜 𝓡 𝓡.env in let c = clauses 𝓛 𝓜.mem 𝓡.returns in
+    let fn = code.function in
+    proved_at 𝓛 ended tt c 𝓜 𝓡 tt #self fn (code.unfolded 𝓤 H 𝓜 𝓡 wired) (λ z are.
+    let Post : Val → SProp 𝓤 = (walk_of 𝓛 ended tt c).post z in
+    let made : LinkWrites = record { mark = record {}; count = 0 } in
+    qed 𝓛 ((‵ ftrue ⊛ ‵ ftrue) ∷ raw ((c z.0.0 z.0.3).requires z.1) ∷ []) ∵ split ! $ drop ! $ drop ! $ drop ! $
+    enter ! 𝓣.C 𝓣.Λ fn [] Post $ alloc_all ! (λ l. pass_all ! refl tt $
+    sets ! (agg ! (no_more !)) refl (tt, tt) $ sets ! (agg ! (and_then ! (get ! refl) (no_more !))) refl (tt, (tt, tt)) $
+    nothing ! $ use0 𝓛 (‵ (Mark.own_val (tt, tt) (mark ∷ []))) (mark_made 𝓛) $ fjoin ! $
+    use0 𝓛 (raw (fact 𝓤 (made.count ≡ 0))) (fact_i 𝓤 (made.count ≡ 0) (emp 𝓤) refl) $ nothing ! $ nothing ! $
+    returns ! (look_at ! 0 refl) $ free_all ! refl $ keep ! (0 ∷ 1 ∷ 3 ∷ 2 ∷ []) $ by ! (leaves 𝓛 ended tt c z mark made tt tt)))

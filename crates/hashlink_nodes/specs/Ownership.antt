@@ -1,0 +1,20 @@
+-- What an arena owns and lends, at values of the row R.
+use Rattle.std.specs.Prelude.{List, [], ◌∷◌}
+use base.Fml.{Lft, Fml, ftrue, fsep}
+use denote.RattleType.{RattleType}
+use denote.Sharing.{nothing, beside}
+use denote.Struct.Lending.{lent_at}
+use Rattle.std.specs.Box.Ownership.{box_owns}
+use Rattle.libc.specs.Heap.{chunk}
+use Rattle.hashlink_nodes.specs.declared.node.Node.{Node}
+
+module _ (R : RattleType) where
+  -- each value at its node, and the right to give its block back
+  abbrev pub blocks_own : List (Node × R.Denot) → Fml
+  blocks_own [] = ftrue
+  blocks_own (b ∷ bs) = fsep (box_owns chunk R b.0.at b.1) (blocks_own bs)
+
+  -- what a `&` to the arena reaches
+  abbrev pub blocks_lent : List (Node × R.Denot) → Lft → Fml
+  blocks_lent [] = nothing
+  blocks_lent (b ∷ bs) = beside (lent_at R b.0.at b.1) (blocks_lent bs)

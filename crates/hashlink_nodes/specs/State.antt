@@ -1,0 +1,86 @@
+-- What the blocks of a ring say, read at any node: its links and what it holds.
+use Rattle.std.specs.Prelude.{ℕ, ◌+◌, ◌≡◌, Bool, true, false, cond, List, length, Option, None, Some, is_some}
+use Rattle.std.specs.Map.{lookup}
+use Rattle.std.specs.declared.mem.ManuallyDrop.{ManuallyDrop}
+use Rattle.hashlink_nodes.specs.Node.{same_node}
+use Rattle.hashlink_nodes.specs.declared.node.Node.{Node}
+use Rattle.hashlink_nodes.specs.declared.held.Held.{Held}
+use Rattle.hashlink_nodes.specs.declared.block.Block.{Block}
+
+pub record State (K V : Type 0) : Type 0 where
+  pub next : Node → Node
+  pub prev : Node → Node
+  pub held : Node → Option (Held K V)
+  -- whether a node has a block
+  pub has : Node → Bool
+  -- how many blocks there are
+  pub size : ℕ
+  pub link_writes : ℕ
+
+-- the function f, but x at n
+abbrev pub set_at : {X : Type 0} → (Node → X) → Node → X → Node → X
+set_at f n x m = cond (same_node m n) x (f m)
+
+abbrev pub Blocks : Type 0 → Type 0 → Type 0
+Blocks K V = List (Node × ManuallyDrop (Block K V))
+
+module _ {K V : Type 0} where
+  -- a node without a block reads as one that links to itself and holds nothing
+  abbrev pub next_in : Node → Option (ManuallyDrop (Block K V)) → Node
+  next_in n None = n
+  next_in n (Some b) = b.value.links.next
+
+  abbrev pub prev_in : Node → Option (ManuallyDrop (Block K V)) → Node
+  prev_in n None = n
+  prev_in n (Some b) = b.value.links.prev
+
+  abbrev pub held_in : Option (ManuallyDrop (Block K V)) → Option (Held K V)
+  held_in None = None
+  held_in (Some b) = b.value.held
+
+  abbrev pub state : Blocks K V → ℕ → State K V
+  state bs writes = record {
+    next = λ n. next_in n (lookup (same_node n) bs);
+    prev = λ n. prev_in n (lookup (same_node n) bs);
+    held = λ n. held_in (lookup (same_node n) bs);
+    has = λ n. is_some (lookup (same_node n) bs);
+    size = length bs;
+    link_writes = writes;
+  }
+
+  -- a link was stored
+  unfoldable pub store_next : Node → Node → State K V → State K V
+  store_next n to s = record s { next = set_at s.next n to; link_writes = s.link_writes + 1 }
+
+  unfoldable pub store_prev : Node → Node → State K V → State K V
+  store_prev n to s = record s { prev = set_at s.prev n to; link_writes = s.link_writes + 1 }
+
+  -- n holds something else
+  unfoldable pub hold : Node → Option (Held K V) → State K V → State K V
+  hold n h s = record s { held = set_at s.held n h }
+
+  -- n is new: it links to itself, and holds nothing
+  unfoldable pub add : Node → State K V → State K V
+  add n s = record s { next = set_at s.next n n; prev = set_at s.prev n n; held = set_at s.held n None; has = set_at s.has n true; size = s.size + 1 }
+
+  -- the neighbours of n link past it
+  unfoldable pub detached : Node → State K V → State K V
+  detached n s = store_prev (s.next n) (s.prev n) (store_next (s.prev n) (s.next n) s)
+
+  -- n stands between p and q
+  unfoldable pub attached : Node → Node → Node → State K V → State K V
+  attached n p q s = store_prev q n (store_next p n (store_prev n p (store_next n q s)))
+
+  -- n has no block any more, and no other node changed
+  pub record Drops (n : Node) (old new : State K V) : Type 0 where
+    pub next : (m : Node) → same_node m n ≡ false → new.next m ≡ old.next m
+    pub prev : (m : Node) → same_node m n ≡ false → new.prev m ≡ old.prev m
+    pub held : (m : Node) → same_node m n ≡ false → new.held m ≡ old.held m
+    pub has : (m : Node) → same_node m n ≡ false → new.has m ≡ old.has m
+    pub size : new.size + 1 ≡ old.size
+    pub link_writes : new.link_writes ≡ old.link_writes
+
+  -- the guard is there, or it was made
+  abbrev pub GuardIs : State K V → State K V → Option Node → Node → Type 0
+  GuardIs s s' None g = s' ≡ add g s
+  GuardIs s s' (Some x) g = (g ≡ x) × (s' ≡ s)

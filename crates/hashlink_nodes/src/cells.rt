@@ -1,0 +1,225 @@
+//! The blocks of a ring, by their nodes: safe code over the arena.
+ghost use Rattle.std.specs.Prelude.{◌≡◌, true, false, [], IfOk, OnErr, MatchOption, None, Some, IsSome};
+ghost use Rattle.hashlink_nodes.specs.State.{state, store_next, store_prev, hold, add, detached, attached, Drops, GuardIs};
+ghost use Rattle.std.specs.Option.{option_map};
+ghost use Rattle.std.specs.Borrow.{sem};
+ghost use Rattle.hashlink_nodes.specs.Ring.{with_value, with_key, with_number};
+ghost use Rattle.hashlink_nodes.specs.Cells.{state_of};
+
+use crate::arena::Arena;
+use crate::block::Block;
+use crate::held::Held;
+use crate::link_writes::LinkWrites;
+use crate::links::{Links, Side};
+use crate::loose::Loose;
+use crate::node::Node;
+use std::alloc::{AllocError, Global};
+use std::mem::{self, ManuallyDrop};
+
+/// The blocks of the nodes, and the count of the links that were stored in them.
+pub(crate) struct Cells<K, V> {
+    arena: Arena<ManuallyDrop<Block<K, V>>>,
+    writes: LinkWrites,
+}
+
+impl<K, V> Cells<K, V> {
+    ghost use Rattle.hashlink_nodes.specs.CellsLends.{LendsCellValue};
+
+    pub(crate) fn new() -> Self
+        ensures { state_of result ≡ state [] 0 }
+    {
+        Cells {
+            arena: Arena::new(),
+            writes: LinkWrites::new(),
+        }
+    }
+
+    #[inline]
+    pub(crate) fn next(&self, node: Node) -> Node
+        requires { (state_of self.now).has node ≡ true }
+        ensures { result ≡ (state_of self.now).next node }
+    {
+        let block: &Block<K, V> = self.arena.get(node);
+        block.links.next()
+    }
+
+    #[inline]
+    pub(crate) fn prev(&self, node: Node) -> Node
+        requires { (state_of self.now).has node ≡ true }
+        ensures { result ≡ (state_of self.now).prev node }
+    {
+        let block: &Block<K, V> = self.arena.get(node);
+        block.links.prev()
+    }
+
+    /// What the node holds.
+    #[inline]
+    pub(crate) fn held(&self, node: Node) -> Option<&Held<K, V>>
+        requires { (state_of self.now).has node ≡ true }
+        ensures { MatchOption result ((state_of self.now).held node ≡ None) (λ h. (state_of self.now).held node ≡ Some h.now) }
+    {
+        let block: &Block<K, V> = self.arena.get(node);
+        block.held.as_ref()
+    }
+
+    #[inline]
+    pub(crate) fn store_next(&mut self, node: Node, to: Node)
+        requires { (state_of self.old).has node ≡ true }
+        ensures { state_of self.new ≡ store_next node to (state_of self.old) }
+    {
+        let block: &mut Block<K, V> = self.arena.get_mut(node);
+        block.links.store(Side::Next, to, &mut self.writes);
+    }
+
+    #[inline]
+    pub(crate) fn store_prev(&mut self, node: Node, to: Node)
+        requires { (state_of self.old).has node ≡ true }
+        ensures { state_of self.new ≡ store_prev node to (state_of self.old) }
+    {
+        let block: &mut Block<K, V> = self.arena.get_mut(node);
+        block.links.store(Side::Prev, to, &mut self.writes);
+    }
+
+    /// Puts something else into the node, and answers what it held.
+    #[inline]
+    pub(crate) fn hold(&mut self, node: Node, held: Option<Held<K, V>>) -> Option<Held<K, V>>
+        requires { (state_of self.old).has node ≡ true }
+        ensures was { result ≡ (state_of self.old).held node }
+        ensures is { state_of self.new ≡ hold node held (state_of self.old) }
+    {
+        let block: &mut Block<K, V> = self.arena.get_mut(node);
+        mem::replace(&mut block.held, held)
+    }
+
+    /// Lends the value.
+    #[inline]
+    pub(crate) fn value_mut(&mut self, node: Node) -> &mut V
+        requires has { (state_of self.old).has node ≡ true }
+        requires held { IsSome ((state_of self.old).held node) }
+        ensures* lends { sem 𝓛 (LendsCellValue K.row V.row self.entry node result) }
+        ensures value { option_map (λ h. h.value) ((state_of self.old).held node) ≡ Some result.now }
+    {
+        let block: &mut Block<K, V> = self.arena.get_mut(node);
+        block.value_mut()
+    }
+
+    /// Puts a value in, and answers the old one.
+    #[inline]
+    pub(crate) fn replace_value(&mut self, node: Node, value: V) -> V
+        requires has { (state_of self.old).has node ≡ true }
+        requires held { IsSome ((state_of self.old).held node) }
+        ensures value { option_map (λ h. h.value) ((state_of self.old).held node) ≡ Some result }
+        ensures is { state_of self.new ≡ hold node (option_map (λ h. with_value h value) ((state_of self.old).held node)) (state_of self.old) }
+    {
+        let block: &mut Block<K, V> = self.arena.get_mut(node);
+        match &mut block.held {
+            Some(held) => mem::replace(&mut held.value, value),
+            None => unreachable!(),
+        }
+    }
+
+    /// Puts a key in, and answers the old one.
+    pub(crate) fn replace_key(&mut self, node: Node, key: K) -> K
+        requires has { (state_of self.old).has node ≡ true }
+        requires held { IsSome ((state_of self.old).held node) }
+        ensures key { option_map (λ h. h.key) ((state_of self.old).held node) ≡ Some result }
+        ensures is { state_of self.new ≡ hold node (option_map (λ h. with_key h key) ((state_of self.old).held node)) (state_of self.old) }
+    {
+        let block: &mut Block<K, V> = self.arena.get_mut(node);
+        match &mut block.held {
+            Some(held) => mem::replace(&mut held.key, key),
+            None => unreachable!(),
+        }
+    }
+
+    pub(crate) fn set_number(&mut self, node: Node, number: usize)
+        requires has { (state_of self.old).has node ≡ true }
+        requires held { IsSome ((state_of self.old).held node) }
+        ensures { state_of self.new ≡ hold node (option_map (λ h. with_number h number) ((state_of self.old).held node)) (state_of self.old) }
+    {
+        let block: &mut Block<K, V> = self.arena.get_mut(node);
+        match &mut block.held {
+            Some(held) => held.number = number,
+            None => unreachable!(),
+        }
+    }
+
+    /// Makes a node that holds nothing and links to itself. These two links are not counted.
+    pub(crate) fn make(&mut self, alloc: Global) -> Result<Node, AllocError>
+        ensures made { IfOk result (λ n. state_of self.new ≡ add n (state_of self.old)) }
+        ensures apart { IfOk result (λ n. (state_of self.old).has n ≡ false) }
+        ensures refused { OnErr result (self.new ≡ self.old) }
+    {
+        let block = Block {
+            links: Links::around(Node::nowhere()),
+            held: None,
+        };
+        match Box::new(alloc, unsafe { ManuallyDrop::new_unchecked(block) }) {
+            Ok(boxed) => {
+                let node = self.arena.keep(Loose::of(boxed));
+                let block: &mut Block<K, V> = self.arena.get_mut(node);
+                block.links = Links::around(node);
+                Ok(node)
+            }
+            Err(_) => Err(AllocError),
+        }
+    }
+
+    /// The guard, which is made where there is none.
+    pub(crate) fn guard(&mut self, guard: Option<Node>, alloc: Global) -> Result<Node, AllocError>
+        ensures made { IfOk result (λ g. GuardIs (state_of self.old) (state_of self.new) guard g) }
+        ensures refused { OnErr result (self.new ≡ self.old) }
+    {
+        match guard {
+            Some(guard) => Ok(guard),
+            None => self.make(alloc),
+        }
+    }
+
+    /// Gives the node's block back, and answers what the node held.
+    pub(crate) fn give_back(&mut self, node: Node, alloc: Global) -> Option<Held<K, V>>
+        requires { (state_of self.old).has node ≡ true }
+        ensures held { result ≡ (state_of self.old).held node }
+        ensures dropped { Drops node (state_of self.old) (state_of self.new) }
+    {
+        let boxed = self.arena.give_back(node, alloc).into_box();
+        let Block { links: _, held } = ManuallyDrop::into_inner(Box::into_inner(boxed));
+        held
+    }
+
+    /// Links the neighbours of the node past it.
+    #[inline]
+    pub(crate) fn detach(&mut self, node: Node)
+        requires node { (state_of self.old).has node ≡ true }
+        requires next { (state_of self.old).has ((state_of self.old).next node) ≡ true }
+        requires prev { (state_of self.old).has ((state_of self.old).prev node) ≡ true }
+        ensures { state_of self.new ≡ detached node (state_of self.old) }
+    {
+        let next = self.next(node);
+        let prev = self.prev(node);
+        self.store_next(prev, next);
+        self.store_prev(next, prev);
+    }
+
+    /// Links the node in between two others.
+    #[inline]
+    pub(crate) fn attach(&mut self, node: Node, prev: Node, next: Node)
+        requires node { (state_of self.old).has node ≡ true }
+        requires prev { (state_of self.old).has prev ≡ true }
+        requires next { (state_of self.old).has next ≡ true }
+        ensures { state_of self.new ≡ attached node prev next (state_of self.old) }
+    {
+        self.store_next(node, next);
+        self.store_prev(node, prev);
+        self.store_next(prev, node);
+        self.store_prev(next, node);
+    }
+
+    /// The end, once no block is left.
+    pub(crate) fn end(self)
+        requires { (state_of self).size ≡ 0 }
+    {
+        let Cells { arena, writes: _ } = self;
+        arena.end();
+    }
+}

@@ -1,0 +1,36 @@
+//! The count of stored links.
+ghost use Rattle.std.specs.Prelude.{◌≡◌, ℕ, ◌+◌};
+ghost use base.Fml.{ftrue};
+
+use std::marker::{Model, PhantomData};
+
+/// How many links were stored. It is a number of the contracts alone: it has no bytes, and no greatest value.
+pub(crate) struct LinkWrites {
+    mark: PhantomData<*mut u8>,
+    pub(crate) ghost count: { ℕ },
+}
+
+impl Model for LinkWrites {
+    ghost also_owns = { λ _. ftrue };
+
+    ghost also_shares = { λ _ _ _. ftrue };
+}
+
+impl Drop for LinkWrites {
+    fn drop(self) {
+        let LinkWrites { mark: _ } = self;
+    }
+}
+
+impl LinkWrites {
+    pub(crate) fn new() -> LinkWrites
+        ensures { result.count ≡ 0 }
+    {
+        LinkWrites { mark: PhantomData }
+    }
+
+    /// Counts one stored link.
+    pub(crate) fn raise(&mut self)
+        ensures { self.new.count ≡ self.old.count + 1 }
+    {}
+}

@@ -1,0 +1,94 @@
+//! How nodes are given back.
+ghost use Rattle.std.specs.Prelude.{◌≡◌, ◌+◌, ◌*◌, ◌<◌, [], length, drop, slice_get, Some};
+ghost use Rattle.std.specs.Option.{option_map};
+
+use super::Nodes;
+use crate::held::Held;
+
+impl<K, V> Nodes<K, V> {
+    /// Gives the spare nodes back.
+    pub fn release_free(&mut self)
+        ensures entries { self.new.entries ≡ self.old.entries }
+        ensures free { self.new.free ≡ [] }
+        ensures link_writes { self.new.link_writes ≡ self.old.link_writes }
+    {
+        while self.spare() > 0 {
+            self.give_back_spare();
+        }
+    }
+
+    fn give_back_spare(&mut self)
+        requires { 0 < length self.old.free }
+        ensures entries { self.new.entries ≡ self.old.entries }
+        ensures free { self.new.free ≡ drop 1 self.old.free }
+        ensures link_writes { self.new.link_writes ≡ self.old.link_writes }
+    {
+        let node = self.first_spare;
+        let first_spare = self.cells.next(node);
+        match self.cells.give_back(node, self.alloc) {
+            None => {}
+            Some(_) => unreachable!(),
+        }
+        self.first_spare = first_spare;
+        self.spare -= 1;
+    }
+
+    /// Drops the entries and gives their nodes back. The spare nodes stay. It stores two links for each entry.
+    pub fn release_all(&mut self)
+    where
+        K: Drop,
+        V: Drop,
+        ensures entries { self.new.entries ≡ [] }
+        ensures free { self.new.free ≡ self.old.free }
+        ensures link_writes { self.new.link_writes ≡ self.old.link_writes + 2 * length self.old.entries }
+    {
+        while self.len() > 0 {
+            let _held = self.give_back_first();
+        }
+    }
+
+    fn give_back_first(&mut self) -> Held<K, V>
+        requires { 0 < length self.old.entries }
+        ensures held { option_map (λ e. e.1) (slice_get self.old.entries 0) ≡ Some result }
+        ensures entries { self.new.entries ≡ drop 1 self.old.entries }
+        ensures free { self.new.free ≡ self.old.free }
+        ensures link_writes { self.new.link_writes ≡ self.old.link_writes + 2 }
+    {
+        let guard = match self.guard {
+            Some(guard) => guard,
+            None => unreachable!(),
+        };
+        let node = self.cells.next(guard);
+        self.cells.detach(node);
+        let held = match self.cells.give_back(node, self.alloc) {
+            Some(held) => held,
+            None => unreachable!(),
+        };
+        self.len -= 1;
+        held
+    }
+
+    /// The end of a ring without nodes: the guard's block goes back.
+    pub(super) fn end(self)
+        requires entries { self.entries ≡ [] }
+        requires free { self.free ≡ [] }
+    {
+        let Nodes {
+            mut cells,
+            guard,
+            first_spare: _,
+            len: _,
+            spare: _,
+            alloc,
+        } = self;
+        if let Some(guard) = guard {
+            match cells.give_back(guard, alloc) {
+                None => {}
+                Some(_) => unreachable!(),
+            }
+            cells.end();
+        } else {
+            cells.end();
+        }
+    }
+}

@@ -1,0 +1,46 @@
+//! How an entry moves.
+ghost use Rattle.std.specs.Prelude.{◌≡◌, ◌+◌};
+ghost use Rattle.std.specs.Map.{remove_entry};
+ghost use Rattle.hashlink_nodes.specs.Node.{same_node};
+ghost use Rattle.hashlink_nodes.specs.Ring.{Holds, IsPlace, MovesBefore, MovesAfter};
+
+use super::Nodes;
+use crate::node::Node;
+
+impl<K, V> Nodes<K, V> {
+    /// Moves the node's entry right before another place. It stores six links.
+    pub fn move_before(&mut self, node: Node, place: Option<Node>)
+        requires node { Holds self.old.entries node }
+        requires place { IsPlace (remove_entry (same_node node) self.old.entries) place }
+        ensures moved { MovesBefore self.old.entries node place self.new.entries }
+        ensures free { self.new.free ≡ self.old.free }
+        ensures link_writes { self.new.link_writes ≡ self.old.link_writes + 6 }
+    {
+        let guard = match self.guard {
+            Some(guard) => guard,
+            None => unreachable!(),
+        };
+        self.cells.detach(node);
+        let next = place.unwrap_or(guard);
+        let prev = self.cells.prev(next);
+        self.cells.attach(node, prev, next);
+    }
+
+    /// Moves the node's entry right after another place. It stores six links.
+    pub fn move_after(&mut self, node: Node, place: Option<Node>)
+        requires node { Holds self.old.entries node }
+        requires place { IsPlace (remove_entry (same_node node) self.old.entries) place }
+        ensures moved { MovesAfter self.old.entries node place self.new.entries }
+        ensures free { self.new.free ≡ self.old.free }
+        ensures link_writes { self.new.link_writes ≡ self.old.link_writes + 6 }
+    {
+        let guard = match self.guard {
+            Some(guard) => guard,
+            None => unreachable!(),
+        };
+        self.cells.detach(node);
+        let before = place.unwrap_or(guard);
+        let after = self.cells.next(before);
+        self.cells.attach(node, before, after);
+    }
+}

@@ -1,0 +1,98 @@
+//! What a ring shows.
+ghost use Rattle.std.specs.Prelude.{◌≡◌, ◌+◌, ◌++◌, ◌^◌, ◌<◌, length, Some};
+ghost use Rattle.std.specs.Option.{option_map};
+ghost use Rattle.std.specs.List.{IsDistinct};
+ghost use Rattle.std.specs.Map.{keys_of, lookup};
+ghost use Rattle.hashlink_nodes.specs.Node.{same_node};
+ghost use Rattle.hashlink_nodes.specs.Ring.{pair_of, next_place, prev_place, Holds, IsPlace};
+
+use super::Nodes;
+use crate::node::Node;
+
+impl<K, V> Nodes<K, V> {
+    /// How many entries there are.
+    #[inline]
+    pub fn len(&self) -> usize
+        ensures len { result ≡ length self.now.entries }
+        ensures small { length self.now.entries + length self.now.free < 2 ^ 63 }
+        ensures apart { IsDistinct same_node (keys_of self.now.entries ++ self.now.free) }
+    {
+        self.len
+    }
+
+    /// No node stands twice in the ring and among the spare ones together. The call does nothing but say so.
+    #[inline]
+    pub fn are_distinct(&self)
+        ensures { IsDistinct same_node (keys_of self.now.entries ++ self.now.free) }
+    {
+        let _first = self.first_spare;
+    }
+
+    /// How many nodes are spare.
+    #[inline]
+    pub fn spare(&self) -> usize
+        ensures { result ≡ length self.now.free }
+    {
+        self.spare
+    }
+
+    /// The place after a place: after the guard comes the first node, and after the last node the guard.
+    #[inline]
+    pub fn next(&self, place: Option<Node>) -> Option<Node>
+        requires { IsPlace self.now.entries place }
+        ensures place { result ≡ next_place (keys_of self.now.entries) place }
+        ensures apart { IsDistinct same_node (keys_of self.now.entries ++ self.now.free) }
+    {
+        let guard = match self.guard {
+            Some(guard) => guard,
+            None => return None,
+        };
+        let next = self.cells.next(place.unwrap_or(guard));
+        match self.cells.held(next) {
+            Some(_) => Some(next),
+            None => None,
+        }
+    }
+
+    /// The place before a place: before the guard comes the last node, and before the first node the guard.
+    #[inline]
+    pub fn prev(&self, place: Option<Node>) -> Option<Node>
+        requires { IsPlace self.now.entries place }
+        ensures place { result ≡ prev_place (keys_of self.now.entries) place }
+        ensures apart { IsDistinct same_node (keys_of self.now.entries ++ self.now.free) }
+    {
+        let guard = match self.guard {
+            Some(guard) => guard,
+            None => return None,
+        };
+        let prev = self.cells.prev(place.unwrap_or(guard));
+        match self.cells.held(prev) {
+            Some(_) => Some(prev),
+            None => None,
+        }
+    }
+
+    /// The node's key and value.
+    #[inline]
+    pub fn entry(&self, node: Node) -> (&K, &V)
+        requires { Holds self.now.entries node }
+        ensures { option_map pair_of (lookup (same_node node) self.now.entries) ≡ Some (result.0.now, result.1.now) }
+    {
+        match self.cells.held(node) {
+            Some(held) => (&held.key, &held.value),
+            None => unreachable!(),
+        }
+    }
+
+    /// The number that the owner gave the node's entry.
+    #[inline]
+    pub fn number(&self, node: Node) -> usize
+        requires { Holds self.now.entries node }
+        ensures { option_map (λ h. h.number) (lookup (same_node node) self.now.entries) ≡ Some result }
+    {
+        match self.cells.held(node) {
+            Some(held) => held.number,
+            None => unreachable!(),
+        }
+    }
+}

@@ -1,0 +1,56 @@
+//! What can be changed in an entry that stays where it is.
+ghost use Rattle.std.specs.Prelude.{◌≡◌, Some, IfSome};
+ghost use Rattle.std.specs.Option.{option_map};
+ghost use Rattle.std.specs.Borrow.{sem};
+ghost use Rattle.std.specs.Map.{lookup, set_value};
+ghost use Rattle.hashlink_nodes.specs.Node.{same_node};
+ghost use Rattle.hashlink_nodes.specs.Ring.{with_value, with_key, with_number, Holds};
+
+use super::Nodes;
+use crate::node::Node;
+
+impl<K, V> Nodes<K, V> {
+    ghost use Rattle.hashlink_nodes.specs.NodesLends.{LendsValueAt};
+
+    /// Gives the node's entry another number.
+    pub fn set_number(&mut self, node: Node, number: usize)
+        requires { Holds self.old.entries node }
+        ensures entries { IfSome (lookup (same_node node) self.old.entries) (λ h. self.new.entries ≡ set_value (same_node node) self.old.entries (with_number h number)) }
+        ensures free { self.new.free ≡ self.old.free }
+        ensures link_writes { self.new.link_writes ≡ self.old.link_writes }
+    {
+        self.cells.set_number(node, number);
+    }
+
+    /// Puts a value into the node's entry, and answers the old one.
+    pub fn replace_value(&mut self, node: Node, value: V) -> V
+        requires { Holds self.old.entries node }
+        ensures value { option_map (λ h. h.value) (lookup (same_node node) self.old.entries) ≡ Some result }
+        ensures entries { IfSome (lookup (same_node node) self.old.entries) (λ h. self.new.entries ≡ set_value (same_node node) self.old.entries (with_value h value)) }
+        ensures free { self.new.free ≡ self.old.free }
+        ensures link_writes { self.new.link_writes ≡ self.old.link_writes }
+    {
+        self.cells.replace_value(node, value)
+    }
+
+    /// Puts a key into the node's entry, and answers the old one.
+    pub fn set_key(&mut self, node: Node, key: K) -> K
+        requires { Holds self.old.entries node }
+        ensures key { option_map (λ h. h.key) (lookup (same_node node) self.old.entries) ≡ Some result }
+        ensures entries { IfSome (lookup (same_node node) self.old.entries) (λ h. self.new.entries ≡ set_value (same_node node) self.old.entries (with_key h key)) }
+        ensures free { self.new.free ≡ self.old.free }
+        ensures link_writes { self.new.link_writes ≡ self.old.link_writes }
+    {
+        self.cells.replace_key(node, key)
+    }
+
+    /// Lends the value of the node's entry.
+    #[inline]
+    pub fn value_mut(&mut self, node: Node) -> &mut V
+        requires { Holds self.old.entries node }
+        ensures* lends { sem 𝓛 (LendsValueAt K.row V.row self.entry node result) }
+        ensures value { option_map (λ h. h.value) (lookup (same_node node) self.old.entries) ≡ Some result.now }
+    {
+        self.cells.value_mut(node)
+    }
+}

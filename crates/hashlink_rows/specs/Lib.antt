@@ -1,0 +1,2 @@
+-- What the hashers of the tests compute.
+pub mod OwnHashers
