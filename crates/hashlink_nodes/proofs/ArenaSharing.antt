@@ -12,11 +12,10 @@ use denote.SharingLaws.{beside_shr_laws, nothing_shr_laws}
 use denote.Shares.{Shares-less}
 use denote.Struct.Lending.{Lends, lent_at, lent_at_shr_laws, Lends-lies, Lends-first, Lends-both, Lends-nothing}
 use Rattle.std.specs.Box.Ownership.{box_owns}
-use Rattle.libc.specs.Heap.{chunk}
+use Rattle.hashlink_nodes.specs.Ownership.{blocks_lent, blocks_own, free_right}
 use mir.Raw.{raw}
 use denote.Memory.{lone}
 use Rattle.hashlink_nodes.specs.declared.node.Node.{Node}
-use Rattle.hashlink_nodes.specs.Ownership.{blocks_own, blocks_lent}
 
 module _ (R : RattleType) (L : RowLaws R) where
   pub blocks_lent_laws : (bs : List (Node × R.Denot)) → ShrLaws (blocks_lent R bs)
@@ -27,6 +26,6 @@ module _ {M : Type 1} {𝓤 : Ura M} (𝓛 : Logic 𝓤) (l : Lft) (R : RattleTy
   pub Lends-blocks : (bs : List (Node × R.Denot)) → Lends 𝓛 (blocks_own R bs) (blocks_lent R bs) l
   Lends-blocks [] = Lends-nothing 𝓛 ftrue l
   Lends-blocks (b ∷ bs) =
-      Lends-both 𝓛 (box_owns chunk R b.0.at b.1) (blocks_own R bs) (lent_at R b.0.at b.1) (blocks_lent R bs) l
-      (Lends-first 𝓛 (lies_at R full_share b.0.at b.1) (chunk (raw (lone R.mir)) b.0.at) (lent_at R b.0.at b.1) l
+      Lends-both 𝓛 (box_owns free_right R b.0.at b.1) (blocks_own R bs) (lent_at R b.0.at b.1) (blocks_lent R bs) l
+      (Lends-first 𝓛 (lies_at R full_share b.0.at b.1) (free_right (raw (lone R.mir)) b.0.at) (lent_at R b.0.at b.1) l
       (Lends-lies 𝓛 R l b.0.at b.1 (Shares-less 𝓛 R R.lives l inc (L.shares 𝓛) b.1))) (Lends-blocks bs)

@@ -28,13 +28,12 @@ use denote.Signature.{types_at, plain, mut_ref_to}
 use denote.Param.{param, layouts}
 use denote.Steps.{nothing, heard, opens}
 use denote.Triple.Walked.{Stays, stay_dropped, walk_of, Goes-dropped, Goes-spent_ref}
-use Rattle.libc.specs.Heap.{chunk}
+use Rattle.hashlink_nodes.specs.Ownership.{blocks_own, free_right}
 use Rattle.std.specs.Box.Ownership.{box_owns}
 use Rattle.std.proofs.alloc.Shapes.{after}
 use Rattle.std.proofs.RcSteps.{word, word-Good}
 use Rattle.std.proofs.raw_atomic.Walks.{proved_at, leaves}
 use Rattle.hashlink_nodes.specs.Node.{same_node}
-use Rattle.hashlink_nodes.specs.Ownership.{blocks_own}
 use Rattle.hashlink_nodes.specs.ArenaLends.{with_value}
 use Rattle.hashlink_nodes.specs.declared.node.Node.{Node}
 use Rattle.hashlink_nodes.specs.declared.arena.Arena.{Arena}
@@ -49,14 +48,14 @@ use Rattle.hashlink_nodes.proofs.arena.Arena.get_mut.Code as code
 module _ (R : RattleType) {M : Type 1} {𝓤 : Ura M} (𝓛 : Logic 𝓤) (a : Arena R.Denot) (n : Node) (rb ro b o : ℕ) (vs : List Val) where
   -- all but the value
   abbrev Rest : Fml
-  Rest = fsep (chunk (bare (lone R.mir)) (block_ptr b o)) (fsep (blocks_own R (remove_entry (same_node n) a.blocks)) (fsep ((Mark R).own_val (tt, tt) vs) (cell_at full_share (the_row R).mir vs rb ro)))
+  Rest = fsep (free_right (bare (lone R.mir)) (block_ptr b o)) (fsep (blocks_own R (remove_entry (same_node n) a.blocks)) (fsep ((Mark R).own_val (tt, tt) vs) (cell_at full_share (the_row R).mir vs rb ro)))
 
   back : (x : R.Denot) → lookup (same_node n) a.blocks ≡ Some x → n.at ≡ block_ptr b o
       → (w : R.Denot) → ent 𝓤 (sep 𝓤 (sem 𝓛 ((mem R).own_at w b o)) (sem 𝓛 Rest)) (sem 𝓛 ((mem (the_row R)).own_at (with_value a n w) rb ro))
   unfolding part_of
   back x is_x e w =
       qed 𝓛 (‵ (part_at R full_share w b o) ∷ ‵ Rest ∷ []) ∵ move ! (1 ∷ []) $ fsplit3 ! $ move ! (2 ∷ []) $ fsplit ! $ move ! (4 ∷ 2 ∷ []) $ fjoin ! $
-      rewrite ! 0 (λ (p : Ptr). ‵ (box_owns chunk R p w)) (sym e) refl $ move ! (0 ∷ 3 ∷ []) $
+      rewrite ! 0 (λ (p : Ptr). ‵ (box_owns free_right R p w)) (sym e) refl $ move ! (0 ∷ 3 ∷ []) $
       use2 𝓛 (‵ (blocks_own R (set_value (same_node n) a.blocks w))) (blocks_glue R 𝓛 n a.blocks x w is_x) $ move ! (1 ∷ 0 ∷ []) $ fjoin ! $ move ! (1 ∷ 0 ∷ []) $ fjoin ! $
       fpack ! (List Val) (λ us. fsep (cell_at full_share (the_row R).mir us rb ro) ((the_row R).own_val (with_value a n w) us)) vs $ done !
 
@@ -79,8 +78,8 @@ get_mut_spec 𝓤 𝓛 𝓜 𝓡 wired T L =
     move ! (2 ∷ []) $ split3 ! $ move ! (3 ∷ 4 ∷ 0 ∷ []) $
     enter ! 𝓣.C 𝓣.Λ fn (vptr rb ro ∷ word n.at ∷ []) Post $ alloc_all ! (λ l. pass_all ! refl ((tt, tt), (word-Good [] n.at, tt)) $ let Ev = env fn.locals l in
     opens ! tt Ar {h = a} rb ro (λ vs. move ! (1 ∷ []) $ fsplit ! $ move ! (1 ∷ []) $
-    use1 𝓛 (‵ (box_owns chunk R n.at x) ⊛ ‵ (blocks_own R (remove_entry (same_node n) a.blocks))) (blocks_cut R 𝓛 n a.blocks x is_x) $ split ! $
-    in_a_block ! n.at (λ p. box_owns chunk R p x) (fst∗ 𝓤 (never 𝓤) (sem 𝓛 (chunk (bare (lone R.mir)) null_ptr))) (λ b o e. fsplit ! $
+    use1 𝓛 (‵ (box_owns free_right R n.at x) ⊛ ‵ (blocks_own R (remove_entry (same_node n) a.blocks))) (blocks_cut R 𝓛 n a.blocks x is_x) $ split ! $
+    in_a_block ! n.at (λ p. box_owns free_right R p x) (fst∗ 𝓤 (never 𝓤) (sem 𝓛 (free_right (bare (lone R.mir)) null_ptr))) (λ b o e. fsplit ! $
     -- [the value; its deed; the other blocks; the mark; its cell; the open borrow; obs; auth; the other tokens]
     let way = back R 𝓛 a n rb ro b o vs x is_x e in let new = with_value a n in let Left = sem 𝓛 (Rest R 𝓛 a n rb ro b o vs) in
     first ! $ blocks ! $ sets ! (is ! (of_opd ! (get_in ! (fld ! refl (stop !)) (sub ! 0 refl (whole !)))) (ap ptr_val e)) refl (tt, tt) $ sets_last ! (addr ! (through ! refl (stop !))) refl (tt, tt) $

@@ -24,7 +24,7 @@ use denote.Signature.{types_at, plain}
 use denote.Param.{param, layouts}
 use denote.Steps.{nothing, heard, opens, closes}
 use denote.Triple.Walked.{Stays, stay_dropped, stay_ref, walk_of, Goes-ref, Goes-dropped}
-use Rattle.libc.specs.Heap.{chunk}
+use Rattle.hashlink_nodes.specs.Ownership.{blocks_own, free_right}
 use Rattle.std.specs.Box.Ownership.{box_owns}
 use Rattle.std.proofs.alloc.Calls.{handle_tells}
 use Rattle.std.proofs.RcSteps.{word, word-Good}
@@ -33,7 +33,6 @@ use Rattle.std.specs.contracts.alloc.Global as heap
 use Rattle.std.proofs.alloc.Global.TheLaws as heap_laws
 use Rattle.std.specs.contracts.impls.GlobalAllocator.TheImpl.{ghosts}
 use Rattle.hashlink_nodes.specs.Node.{same_node}
-use Rattle.hashlink_nodes.specs.Ownership.{blocks_own}
 use Rattle.hashlink_nodes.specs.declared.arena.Arena.{Arena}
 use Rattle.hashlink_nodes.specs.contracts.arena.Arena.{the_row}
 use Rattle.hashlink_nodes.proofs.ArenaSteps.{Nd, word_had}
@@ -64,8 +63,8 @@ give_back_spec 𝓤 𝓛 𝓜 𝓡 wired T L =
     suffices ! (Run (vptr rb ro ∷ word n.at ∷ h ∷ [])) (subst (λ (us : List Val × List Val × List Val). ent 𝓤 (Run (vptr rb ro ∷ word n.at ∷ h ∷ [])) (Run (us.0 ++ (us.1 ++ (us.2 ++ []))))) (λ j. (sym e0 j, sym e1 j, sym e2 j)) (id⊢ 𝓤 _)) $
     enter ! 𝓣.C 𝓣.Λ fn (vptr rb ro ∷ word n.at ∷ h ∷ []) Post $ alloc_all ! (λ l. pass_all ! refl ((tt, tt), (word-Good [] n.at, (fits, tt))) $
     move ! (4 ∷ 5 ∷ 0 ∷ []) $ opens ! tt Ar {h = a} rb ro (λ vs. move ! (1 ∷ []) $ fsplit ! $ move ! (1 ∷ []) $
-    use1 𝓛 (‵ (box_owns chunk R n.at x) ⊛ ‵ (blocks_own R (remove_entry (same_node n) a.blocks))) (blocks_cut R 𝓛 n a.blocks x is_x) $ split ! $
-    in_a_block ! n.at (λ p. box_owns chunk R p x) (fst∗ 𝓤 (never 𝓤) (sem 𝓛 (chunk (bare (lone R.mir)) null_ptr))) (λ b o e.
+    use1 𝓛 (‵ (box_owns free_right R n.at x) ⊛ ‵ (blocks_own R (remove_entry (same_node n) a.blocks))) (blocks_cut R 𝓛 n a.blocks x is_x) $ split ! $
+    in_a_block ! n.at (λ p. box_owns free_right R p x) (fst∗ 𝓤 (never 𝓤) (sem 𝓛 (free_right (bare (lone R.mir)) null_ptr))) (λ b o e.
     let out : Lr.Denot = record { at = block_ptr b o; alloc = alloc; value = x } in
     -- [the block; the others; the mark; its cell; the open borrow; obs; auth; a token; nothing; the handle]
     sets ! (is ! (of_opd ! (get_in ! (fld ! refl (stop !)) (sub ! 0 refl (whole !)))) (ap ptr_val e)) refl (tt, tt) $
