@@ -16,6 +16,12 @@ pub fn sets_together()
     ensures difference { numbers.difference (1 ∷ 2 ∷ []) (3 ∷ 1 ∷ []) ≡ 2 ∷ [] }
 {}
 
+/// What a walk over one side has left may all be passed over, or may all be given.
+pub fn hints_along_one_side()
+    ensures two { part_hint {T = ℕ} (1 ∷ 2 ∷ []) ≡ (0, Some 2) }
+    ensures none { part_hint {T = ℕ} [] ≡ (0, Some 0) }
+{}
+
 /// The size hints along the union of `1 2` and `3 1`: at the start, after one step, and at its end before and after the step that gives None.
 pub fn hints_along_a_union()
     ensures start { union_hint {T = ℕ} (record { left = 1 ∷ 2 ∷ []; right = 3 ∷ 1 ∷ [] }) ≡ (2, Some 4) }

@@ -1,8 +1,8 @@
 //! Rows and laws of caches.
-ghost use Rattle.std.specs.Prelude.{◌≡◌, ℕ, ◌+◌, ◌-◌, ◌≤◌, ◌<◌, min, max, Bool, List, [], ◌∷◌, ◌++◌, Option, None, Some, Result, Ok, Err, length, drop, take};
+ghost use Rattle.std.specs.Prelude.{◌≡◌, ℕ, ◌+◌, ◌-◌, ◌≤◌, ◌<◌, min, max, Bool, nat_eq, List, [], ◌∷◌, ◌++◌, Option, None, Some, Result, Ok, Err, length, drop, take};
 ghost use Rattle.std.specs.Cmp.{IsEquivalence};
 ghost use Rattle.hashlink_model.specs.Entries.{IsEntries, put};
-ghost use Rattle.hashlink_model.specs.Cache.{CacheState, CacheInserts, trimmed, last_entries, cache_put, cache_get};
+ghost use Rattle.hashlink_model.specs.Cache.{CacheState, CacheInserts, CacheGets, SetsCapacity, trimmed, last_entries, cache_put, cache_get, cache_extended};
 ghost use Rattle.std.specs.Map.{lookup};
 ghost use Rattle.hashlink_model.specs.Steps.{nodes_of};
 ghost use Rattle.hashlink_model.specs.Labels as labels;
@@ -47,6 +47,20 @@ pub fn entries_leave_one_more_than_the_capacity()
     ensures inserts { numbers.cache_insert (numbers.cache_insert ((1, 10) ∷ (2, 20) ∷ (3, 30) ∷ (4, 40) ∷ []) 4 5 50) 4 6 60 ≡ (3, 30) ∷ (4, 40) ∷ (5, 50) ∷ (6, 60) ∷ [] }
     ensures three { numbers.cache_or_insert (numbers.cache_or_insert (numbers.cache_or_insert ((3, 30) ∷ (4, 40) ∷ (5, 50) ∷ (6, 60) ∷ []) 4 7 70) 4 8 80) 4 9 90 ≡ (5, 50) ∷ (6, 60) ∷ (7, 70) ∷ (8, 80) ∷ (9, 90) ∷ [] }
     ensures six { numbers.cache_or_insert (numbers.cache_or_insert (numbers.cache_or_insert ((5, 50) ∷ (6, 60) ∷ (7, 70) ∷ (8, 80) ∷ (9, 90) ∷ []) 4 10 100) 4 11 110) 4 12 120 ≡ (8, 80) ∷ (9, 90) ∷ (10, 100) ∷ (11, 110) ∷ (12, 120) ∷ [] }
+{}
+
+/// Four pairs extend a cache of two: each is inserted in turn, so one that is there moves last and the oldest are dropped.
+pub fn an_extend_inserts_in_turn()
+    ensures two { cache_extended {V = ℕ} nat_eq ((1, 10) ∷ (2, 20) ∷ []) 2 ((3, 30) ∷ (2, 21) ∷ (4, 40) ∷ (2, 22) ∷ []) ≡ (4, 40) ∷ (2, 22) ∷ [] }
+    ensures none { cache_extended {V = ℕ} nat_eq ((1, 10) ∷ []) 0 ((1, 11) ∷ []) ≡ [] }
+{}
+
+/// A hit of `get` answers the value and moves its entry last, a miss changes no entry; a capacity that is set keeps the last entries and drops the others.
+pub fn what_a_get_and_a_capacity_leave<S>()
+    ensures hit { (old new : CacheState ℕ ℕ S) (r : Option ℕ) → old.map.entries ≡ (1, 10) ∷ (2, 20) ∷ [] → CacheGets nat_eq old new 1 r → (r ≡ Some 10) × (new.map.entries ≡ (2, 20) ∷ (1, 10) ∷ []) }
+    ensures miss { (old new : CacheState ℕ ℕ S) (r : Option ℕ) → old.map.entries ≡ (1, 10) ∷ (2, 20) ∷ [] → CacheGets nat_eq old new 3 r → (r ≡ None) × (new.map.entries ≡ old.map.entries) }
+    ensures capacity { (old new : CacheState ℕ ℕ S) → old.map.entries ≡ (1, 10) ∷ (2, 20) ∷ (3, 30) ∷ [] → SetsCapacity old new 1 → (new.map.entries ≡ (3, 30) ∷ []) × (new.cap ≡ 1) }
+    ensures spare { (old new : CacheState ℕ ℕ S) → old.map.entries ≡ (1, 10) ∷ (2, 20) ∷ (3, 30) ∷ [] → SetsCapacity old new 1 → new.map.spare ≡ old.map.spare + 2 }
 {}
 
 /// The least recently used pair is the first one: reads that move nothing leave it, a hit of `get` does not.

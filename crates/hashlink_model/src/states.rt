@@ -4,7 +4,7 @@ ghost use Rattle.std.specs.Cmp.{IsEquivalence};
 ghost use Rattle.std.specs.Map.{lookup};
 ghost use Rattle.hashlink_model.specs.Entries.{IsEntries, without};
 ghost use Rattle.hashlink_model.specs.MapState.{MapState, map_state, empty_map, MayRefuse, Removes, AddsEntry, PutsEntry, Inserts};
-ghost use Rattle.hashlink_model.specs.Steps.{PopsFront, PopsBack, KeepsOnly, Clears, Drains, Reserves, Shrinks, nodes_of, HasRoom};
+ghost use Rattle.hashlink_model.specs.Steps.{PopsFront, PopsBack, KeepsOnly, Writes, Moves, Clears, Drains, Reserves, Shrinks, nodes_of, HasRoom};
 
 /// A map as it is made has no entry, no spare node and no room.
 pub fn an_empty_map_takes_no_memory<K, V, S>()
@@ -30,6 +30,13 @@ pub fn a_spare_node_serves_the_next_key<S>()
 pub fn what_a_drain_and_a_clear_leave<K, V, S>()
     ensures drained { (old new : MapState K V S) → Drains old new → (new.entries ≡ []) × (new.spare ≡ old.spare + length old.entries) }
     ensures cleared { (old new : MapState K V S) → Clears old new → (new.entries ≡ []) × (new.spare ≡ old.spare) }
+{}
+
+/// A value that is written keeps its entry's place, a move keeps the value, and neither makes a node spare; a move of an absent key moves nothing.
+pub fn what_a_write_and_a_move_leave<S>()
+    ensures written { (old new : MapState ℕ ℕ S) → old.entries ≡ (1, 10) ∷ (2, 20) ∷ [] → Writes nat_eq old new 1 11 → (new.entries ≡ (1, 11) ∷ (2, 20) ∷ []) × (new.spare ≡ old.spare) }
+    ensures moved { (old new : MapState ℕ ℕ S) → old.entries ≡ (1, 10) ∷ (2, 20) ∷ (3, 30) ∷ [] → Moves nat_eq old new 1 3 → (new.entries ≡ (2, 20) ∷ (3, 30) ∷ (1, 10) ∷ []) × (new.spare ≡ old.spare) }
+    ensures absent { (old new : MapState ℕ ℕ S) → old.entries ≡ (1, 10) ∷ (2, 20) ∷ [] → Moves nat_eq old new 3 0 → new.entries ≡ old.entries }
 {}
 
 /// A reserve for a hundred more entries on a map of two leaves the entries and makes room for 102; a refused one leaves the entries too.
