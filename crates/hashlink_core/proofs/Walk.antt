@@ -4,14 +4,13 @@ use Rattle.std.specs.Prelude.{slice_get, is_some}
 use Rattle.std.specs.List.{AllByRecursion, IsDistinct}
 use Rattle.std.specs.Option.{option_map}
 use Rattle.std.specs.Map.{lookup, keys_of}
-use Rattle.std.proofs.lemmas.Map.{NonePasses, lookup-none}
 use Rattle.std.proofs.lemmas.Map.Keys.{IsDistinct-head, IsDistinct-tail}
 use Rattle.std.proofs.lemmas.Map.Entries.{lookup_from_place, length-keys_of}
-use Rattle.hashlink_model.proofs.Distinct.{each-append, each-left}
+use Rattle.hashlink_model.proofs.Distinct.{each-left}
 use Rattle.hashlink_nodes.specs.declared.node.Node.{Node}
 use Rattle.hashlink_nodes.specs.declared.held.Held.{Held}
 use Rattle.hashlink_nodes.specs.Node.{same_node, same_node_equiv}
-use Rattle.hashlink_nodes.specs.Ring.{node_after, next_place, Holds, pair_of}
+use Rattle.hashlink_nodes.specs.Ring.{node_after, Holds, pair_of}
 use Rattle.hashlink_core.specs.Keyed.{nodes_of, pairs_in}
 use Rattle.hashlink_core.specs.Walk.{nodes_from, nodes_left, StandsAtFirst}
 
@@ -135,36 +134,6 @@ module _ {K V : Type 0} where
   lookup-nodes_of test (e ∷ es) =
       elim (test e.0) as (λ b. cond b (Some (pair_of e.1)) (lookup test (nodes_of es)) ≡ option_map pair_of (cond b (Some e.1) (lookup test es)))
       [ true ↦ refl | false ↦ lookup-nodes_of test es ]
-
-  -- how far a search from the front has come: none of the keys that it has passed is equal to k
-  pub record IsWalked (eq : K → K → Bool) (es : List (Node × Held K V)) (k : K) (place : Option Node) : Type 0 where
-    pub count : ℕ
-    pub at : place ≡ slice_get (keys_of es) count
-    pub unlike : NonePasses (eq k) (pairs_in (take count es))
-
-  pub walked-none : (eq : K → K → Bool) (es : List (Node × Held K V)) (k : K) (place : Option Node) → place ≡ next_place (keys_of es) None → IsWalked eq es k place
-  walked-none eq es k place first = record { count = 0; at = first; unlike = tt }
-
-  pub walked-more : (eq : K → K → Bool) (es : List (Node × Held K V)) (k : K) (p q : Option Node) (n : Node) (pair : K × V) → IsDistinct same_node (keys_of es) → IsWalked eq es k p → p ≡ Some n
-      → option_map pair_of (lookup (same_node n) es) ≡ Some pair → eq k pair.0 ≡ false → q ≡ next_place (keys_of es) (Some n) → IsWalked eq es k q
-  walked-more eq es k p q n pair d w is here unlike next =
-      let at : slice_get (keys_of es) w.count ≡ Some n = place-known es w.count p n w.at is in
-      let e = entry-at es w.count n at in
-      let found : lookup (same_node n) es ≡ Some e.0 = lookup_from_place same_node_equiv es w.count n e.0 d e.1 in
-      let same : pair_of e.0 ≡ pair = cc (sym (ap (option_map pair_of) found) ∙ here) in
-      let grown : pairs_in (take (suc w.count) es) ≡ pairs_in (take w.count es) ++ pair ∷ [] =
-      ap pairs_in (take-at es w.count (n, e.0) e.1) ∙ pairs_in-append (take w.count es) ((n, e.0) ∷ []) ∙ ap (λ f. pairs_in (take w.count es) ++ f ∷ []) same in
-      record {
-        count = suc w.count;
-        at = next ∙ node_after-at (keys_of es) w.count n d at;
-        unlike = subst (NonePasses (eq k)) (sym grown) (each-append (λ (f : K × V). eq k f.0 ≡ false) (pairs_in (take w.count es)) (pair ∷ []) w.unlike (unlike, tt));
-      }
-
-  -- where the walk has come round to the guard, no key is equal to k
-  pub walked-all : (eq : K → K → Bool) (es : List (Node × Held K V)) (k : K) (p : Option Node) → IsWalked eq es k p → p ≡ None → lookup (eq k) (pairs_in es) ≡ None
-  walked-all eq es k p w is =
-      let past : length es ≤ w.count = omega (arith, none-at (keys_of es) w.count (sym w.at ∙ is), length-keys_of es) in
-      lookup-none (eq k) (pairs_in es) (subst (λ fs. NonePasses (eq k) (pairs_in fs)) (take-past es w.count past) w.unlike)
 
   -- ---- a walk with so many entries left
   module _ (es : List (Node × Held K V)) (p : Option Node) (left : ℕ) (w : StandsAtFirst es p left) where

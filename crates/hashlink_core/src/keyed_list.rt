@@ -56,9 +56,16 @@ impl<K: Eq + Hash, V, S: BuildHasher> KeyedList<K, V, S> {
         ensures len { result ≡ length (entries_of self.now) }
         ensures small { result < 2 ^ 63 }
         ensures distinct { IsEntries K.eq (entries_of self.now) }
-        ensures room { HasRoom (state_of self.now) }
     {
         self.nodes.len()
+    }
+
+    /// How many entries and spare nodes together there is room for.
+    pub fn capacity(&self) -> usize
+        ensures capacity { result ≡ self.now.room }
+        ensures enough { HasRoom (state_of self.now) }
+    {
+        self.table.room()
     }
 
     /// The hasher's builder.
@@ -110,9 +117,6 @@ impl<K: Eq + Hash, V, S: BuildHasher> KeyedList<K, V, S> {
         ensures ok { OnOk result (length self.new.nodes + 1 ≤ self.new.room) }
         ensures err { OnErr result (self.old.spare ≡ 0) }
     {
-        if self.nodes.spare() > 0 {
-            return Ok(());
-        }
         self.table.reserve(1)
     }
 

@@ -53,9 +53,6 @@ impl<K: Eq + Hash, V, S: BuildHasher> LinkedHashMap<K, V, S> {
 
         // No two keys are equal, of this map as of every map.
         ensures distinct { IsEntries K.eq self.now.entries }
-
-        // There is room for every node, in use and spare.
-        ensures room { HasRoom self.now }
     {
         self.list.len()
     }
@@ -65,6 +62,16 @@ impl<K: Eq + Hash, V, S: BuildHasher> LinkedHashMap<K, V, S> {
         ensures { IsTrue result ↔ (length self.now.entries ≡ 0) }
     {
         self.list.len() == 0
+    }
+
+    /// How many entries the map can have before its table has to grow. It takes constant time, and no memory.
+    pub fn capacity(&self) -> usize
+        ensures capacity { result ≡ self.now.room }
+
+        // There is room for every node, in use and spare, of this map as of every map.
+        ensures enough { HasRoom self.now }
+    {
+        self.list.capacity()
     }
 
     /// What makes the map's hashers.

@@ -9,7 +9,7 @@ use Rattle.std.proofs.lemmas.List.{take-append-drop, length-append}
 use Rattle.hashlink_model.specs.Entries.{IsEntries, place_without, without, stored_key, put, moved}
 use Rattle.hashlink_model.proofs.Splits.{Stands, stands_from_lookup, none_from_lookup, remove_entry-none, remove_entry-here}
 use Rattle.hashlink_model.proofs.Distinct.{each-left}
-use Rattle.hashlink_model.proofs.Finds.{lookup_is, lookup_key_is, option_map-cond, stored_key-equal, lookup_entry-without, lookup_entry-equal}
+use Rattle.hashlink_model.proofs.Finds.{lookup_is, lookup_key_is, option_map-cond, stored_key-equal, lookup_entry-without, lookup-equal}
 use Rattle.hashlink_model.proofs.Puts.{put_back, put_front, lookup_entry-put, none_without, IsEntries-put}
 
 module _ {K V : Type 0} (eq : K → K → Bool) where
@@ -128,7 +128,7 @@ module _ {K V : Type 0} (eq : K → K → Bool) (laws : IsEquivalence eq) where
     where
       same : (w : V) → lookup (eq k) es ≡ Some w → (c : Bool) → eq k q ≡ c → cond c (Some w) (lookup (eq q) es) ≡ lookup (eq q) es
       same w l false t = refl
-      same w l true t = sym l ∙ lookup_is (eq k) es ∙ ap (option_map (λ e. e.1)) (lookup_entry-equal eq laws k q es t) ∙ sym (lookup_is (eq q) es)
+      same w l true t = sym l ∙ lookup-equal eq laws k q es t
 
       found : (o : Option V) → lookup (eq k) es ≡ o → lookup (eq q) (moved eq es k b) ≡ lookup (eq q) es
       found None l = ap (lookup (eq q)) (moved-absent eq es k b l)

@@ -1,10 +1,13 @@
 -- What follows from the steps between two states of a cache.
-use Rattle.std.proofs.Common.{◌≡◌, max, Bool, length, Option, None, Some, Ok, Err, sym, ap, ◌∙◌, arith}
+use Rattle.std.proofs.Common.{◌≡◌, ℕ, ◌-◌, ◌≤◌, min, max, Bool, [], ◌∷◌, ◌++◌, length, drop, take, Option, None, Some, Ok, Err, sym, ap, ◌∙◌, arith}
 use Rattle.std.specs.Map.{lookup}
-use Rattle.hashlink_model.specs.Entries.{put}
+use Rattle.hashlink_model.specs.Entries.{put, without, stored_key}
 use Rattle.hashlink_model.specs.Steps.{nodes_of}
-use Rattle.hashlink_model.specs.Cache.{CacheState, CacheInserts, trimmed, cache_put}
-use Rattle.hashlink_model.proofs.NodeCounts.{nodes_of-adds, nodes_of-keeps}
+use Rattle.hashlink_model.specs.Cache.{CacheState, CacheInserts, CacheGets, SetsCapacity, trimmed, last_entries, cache_put, cache_get}
+use Rattle.hashlink_model.proofs.Puts.{put_back}
+use Rattle.hashlink_model.proofs.Afterwards.{moved-there, moved-absent, length-moved}
+use Rattle.hashlink_model.proofs.Caches.{length-last_entries, last_entries-end}
+use Rattle.hashlink_model.proofs.NodeCounts.{nodes_of-adds, nodes_of-keeps, nodes_of-changes}
 
 module _ {K V S : Type 0} (eq : K → K → Bool) (old new : CacheState K V S) (k : K) (v : V) where
   pub inserts_answer : (w : Option V) → CacheInserts eq old new k v (Ok w) → w ≡ lookup (eq k) old.map.entries
@@ -25,3 +28,26 @@ module _ {K V S : Type 0} (eq : K → K → Bool) (old new : CacheState K V S) (
       let b = nodes_of-adds eq old.map s.map.between k v (length old.map.entries) s.map.inserts in
       let c = ap length s.map.inserts.entries in
       omega arith
+
+module _ {K V S : Type 0} (eq : K → K → Bool) (old new : CacheState K V S) (k : K) where
+  pub gets_hit : (w : V) → CacheGets eq old new k (Some w) → new.map.entries ≡ without eq old.map.entries k ++ (stored_key eq old.map.entries k, w) ∷ []
+  gets_hit w s = s.map.entries ∙ moved-there eq old.map.entries k (length old.map.entries) w (sym s.answer) ∙ put_back eq old.map.entries k w
+
+  pub gets_miss : CacheGets eq old new k None → new.map.entries ≡ old.map.entries
+  gets_miss s = s.map.entries ∙ moved-absent eq old.map.entries k (length old.map.entries) (sym s.answer)
+
+  pub gets_nodes : (r : Option V) → CacheGets eq old new k r → nodes_of new.map ≡ nodes_of old.map
+  gets_nodes r s = nodes_of-changes old.map new.map (cache_get eq old.map.entries k) 6 s.map (length-moved eq old.map.entries k (length old.map.entries))
+
+module _ {K V S : Type 0} (old new : CacheState K V S) (n : ℕ) where
+  pub sets_length : SetsCapacity old new n → length new.map.entries ≡ min n (length old.map.entries)
+  sets_length s = ap length s.map.entries ∙ length-last_entries old.map.entries n
+
+  pub sets_end : SetsCapacity old new n → take (length old.map.entries - n) old.map.entries ++ new.map.entries ≡ old.map.entries
+  sets_end s = ap (λ es. take (length old.map.entries - n) old.map.entries ++ es) s.map.entries ∙ last_entries-end old.map.entries n
+
+  pub sets_nodes : SetsCapacity old new n → nodes_of new.map ≡ nodes_of old.map
+  sets_nodes s = nodes_of-keeps old.map new.map (last_entries old.map.entries n) s.map
+
+  pub sets_within : length old.map.entries ≤ n → SetsCapacity old new n → new.map.entries ≡ old.map.entries
+  sets_within l s = let none : length old.map.entries - n ≡ 0 = omega arith in s.map.entries ∙ ap (λ m. drop m old.map.entries) none

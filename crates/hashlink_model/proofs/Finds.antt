@@ -36,6 +36,9 @@ module _ {K V : Type 0} (eq : K → K → Bool) (laws : IsEquivalence eq) where
   lookup_entry-equal k q [] t = refl
   lookup_entry-equal k q (x ∷ es) t = rw (laws.congr k q x.0 t) (ap (cond (eq q x.0) (Some x)) (lookup_entry-equal k q es t))
 
+  pub lookup-equal : (k q : K) (es : List (K × V)) → eq k q ≡ true → lookup (eq k) es ≡ lookup (eq q) es
+  lookup-equal k q es t = lookup_is (eq k) es ∙ ap (option_map (λ e. e.1)) (lookup_entry-equal k q es t) ∙ sym (lookup_is (eq q) es)
+
   -- ---- with one entry more
 
   past : (q : K) (e x : K × V) (zs : List (K × V)) (b c : Bool) → eq q x.0 ≡ b → eq e.0 q ≡ c → eq e.0 x.0 ≡ false

@@ -7,6 +7,7 @@ pub mod Afterwards
 pub mod Places
 pub mod Cursors
 pub mod Walks
+pub mod Remaining
 pub mod Occupied
 pub mod Members
 pub mod Comparisons
@@ -17,6 +18,7 @@ pub mod Weighted
 pub mod Extends
 pub mod NodeCounts
 pub mod SetViews
+pub mod SetSteps
 pub mod Recency
 pub mod Reuse
 pub mod Ends

@@ -1,15 +1,16 @@
 -- What stands after the steps on an occupied entry.
 use Rattle.std.proofs.Common.{◌≡◌, ℕ, ◌+◌, Bool, true, cond, List, [], ◌∷◌, ◌++◌, length, slice_get, None, Some, refl, sym, ap, ap₂, ◌∙◌, subst, option_map}
 use Rattle.std.specs.Cmp.{IsEquivalence}
+use Rattle.std.specs.Option.{option_map_or}
 use Rattle.std.specs.Map.{lookup, lookup_entry}
 use Rattle.std.proofs.lemmas.Map.{NonePasses}
 use Rattle.std.proofs.lemmas.List.{set_at, append-nil}
 use Rattle.hashlink_model.specs.Entries.{IsEntries, place_of, put, moved, without}
-use Rattle.hashlink_model.specs.Entry.{insert_entry, or_insert, replace_entry}
+use Rattle.hashlink_model.specs.Entry.{insert_value, insert_entry, or_insert, replace_entry, replace_key, replace_value}
 use Rattle.hashlink_model.proofs.Distinct.{none_equal, none_others, IsEntries-middle, IsEntries-insert}
 use Rattle.hashlink_model.proofs.Finds.{lookup_entry-middle, lookup_entry-without}
-use Rattle.hashlink_model.proofs.Puts.{cond-same_test, none_without, IsEntries-without}
-use Rattle.hashlink_model.proofs.Places.{split_at}
+use Rattle.hashlink_model.proofs.Puts.{cond-same_test, none_without, IsEntries-without, IsEntries-put, lookup_entry-put}
+use Rattle.hashlink_model.proofs.Places.{split_at, stored_key_at}
 
 module _ {K V : Type 0} where
   pub or_insert-there : (eq : K → K → Bool) (es : List (K × V)) (k : K) (v w : V) → lookup (eq k) es ≡ Some w → or_insert eq es k v ≡ moved eq es k (length es)
@@ -74,3 +75,30 @@ module _ {K V : Type 0} (eq : K → K → Bool) (laws : IsEquivalence eq) where
       ∙ ap (place_of (eq q)) (replace_entry-here s.0 e s.1 h v)
       ∙ same_places (h, v) e (eq q) s.0 s.1 (laws.symm q h ∙ laws.congr h e.0 q t ∙ laws.symm e.0 q)
       ∙ ap (place_of (eq q)) (sym s.2)
+
+  -- ---- a new value last with the stored key, and a key or a value alone in its place
+
+  pub IsEntries-insert_value : (es : List (K × V)) (e : K × V) (v : V) → IsEntries eq es → IsEntries eq (insert_value eq es e v)
+  IsEntries-insert_value es e v d = IsEntries-put eq laws es e.0 v (length es) d
+
+  pub IsEntries-or_insert : (es : List (K × V)) (k : K) (v : V) → IsEntries eq es → IsEntries eq (or_insert eq es k v)
+  IsEntries-or_insert es k v d = IsEntries-put eq laws es k (option_map_or (λ w. w) (lookup (eq k) es) v) (length es) d
+
+  pub IsEntries-replace_key : (es : List (K × V)) (j : ℕ) (e : K × V) (k : K) → IsEntries eq es → slice_get es j ≡ Some e → eq k e.0 ≡ true → IsEntries eq (replace_key es j e k)
+  IsEntries-replace_key es j e k d at t = IsEntries-replace_entry es j e k e.1 d at t
+
+  pub IsEntries-replace_value : (es : List (K × V)) (j : ℕ) (e : K × V) (v : V) → IsEntries eq es → slice_get es j ≡ Some e → IsEntries eq (replace_value es j e v)
+  IsEntries-replace_value es j e v d at = IsEntries-replace_entry es j e e.0 v d at (laws.refl e.0)
+
+  pub lookup_entry-insert_value : (q : K) (es : List (K × V)) (j : ℕ) (e : K × V) (v : V) → IsEntries eq es → slice_get es j ≡ Some e
+      → lookup_entry (eq q) (insert_value eq es e v) ≡ cond (eq e.0 q) (Some (e.0, v)) (lookup_entry (eq q) es)
+  lookup_entry-insert_value q es j e v d at =
+      lookup_entry-put eq laws q es e.0 v (length es) d ∙ ap (λ k. cond (eq e.0 q) (Some (k, v)) (lookup_entry (eq q) es)) (stored_key_at eq laws es j e e.0 d at (laws.refl e.0))
+
+  pub lookup_entry-replace_key : (q : K) (es : List (K × V)) (j : ℕ) (e : K × V) (k : K) → IsEntries eq es → slice_get es j ≡ Some e → eq k e.0 ≡ true
+      → lookup_entry (eq q) (replace_key es j e k) ≡ cond (eq k q) (Some (k, e.1)) (lookup_entry (eq q) es)
+  lookup_entry-replace_key q es j e k d at t = lookup_entry-replace_entry q es j e k e.1 d at t
+
+  pub lookup_entry-replace_value : (q : K) (es : List (K × V)) (j : ℕ) (e : K × V) (v : V) → IsEntries eq es → slice_get es j ≡ Some e
+      → lookup_entry (eq q) (replace_value es j e v) ≡ cond (eq e.0 q) (Some (e.0, v)) (lookup_entry (eq q) es)
+  lookup_entry-replace_value q es j e v d at = lookup_entry-replace_entry q es j e e.0 v d at (laws.refl e.0)

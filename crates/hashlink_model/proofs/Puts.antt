@@ -1,5 +1,5 @@
 -- The entries after a key is put at a place.
-use Rattle.std.proofs.Common.{option_map, ap, ◌≡◌, ℕ, ◌+◌, ◌-◌, ◌≤◌, ◌<◌, Bool, true, false, cond, List, [], ◌∷◌, ◌++◌, length, Option, None, Some, refl, ◌∙◌, ◌⊎◌, inl, inr, subst, arith, take, drop}
+use Rattle.std.proofs.Common.{option_map, ap, ◌≡◌, ℕ, ◌+◌, ◌-◌, ◌≤◌, ◌<◌, Bool, true, false, cond, List, [], ◌∷◌, ◌++◌, length, Option, None, Some, refl, sym, ◌∙◌, ◌⊎◌, inl, inr, subst, arith, take, drop}
 use Rattle.std.specs.Prelude.{insert, nat_lt}
 use Rattle.std.specs.Option.{option_map_or}
 use Rattle.std.specs.Cmp.{IsEquivalence}
@@ -137,6 +137,20 @@ module _ {K V : Type 0} (test : K → Bool) where
   pub place_of-set_value : (other : K → Bool) (es : List (K × V)) (v : V) → place_of other (set_value test es v) ≡ place_of other es
   place_of-set_value other [] v = refl
   place_of-set_value other (e ∷ es) v = same_places_by other e es v (test e.0) refl (place_of-set_value other es v)
+
+-- ---- and what every other key has
+
+module _ {K V : Type 0} (eq : K → K → Bool) (laws : IsEquivalence eq) where
+  others_by : (q : K) (e : K × V) (es : List (K × V)) (k : K) (v : V) (b : Bool) → eq k e.0 ≡ b → eq k q ≡ false → lookup_entry (eq q) (set_value (eq k) es v) ≡ lookup_entry (eq q) es
+      → lookup_entry (eq q) (cond b ((e.0, v) ∷ es) (e ∷ set_value (eq k) es v)) ≡ lookup_entry (eq q) (e ∷ es)
+  others_by q e es k v true p t h =
+      let apart : eq q e.0 ≡ false = laws.symm q e.0 ∙ sym (laws.congr k e.0 q p) ∙ t in
+      rw apart refl
+  others_by q e es k v false p t h = ap (cond (eq q e.0) (Some e)) h
+
+  pub lookup_entry-set_value_other : (q : K) (es : List (K × V)) (k : K) (v : V) → eq k q ≡ false → lookup_entry (eq q) (set_value (eq k) es v) ≡ lookup_entry (eq q) es
+  lookup_entry-set_value_other q [] k v t = refl
+  lookup_entry-set_value_other q (e ∷ es) k v t = others_by q e es k v (eq k e.0) refl t (lookup_entry-set_value_other q es k v t)
 
 -- ---- the end after an insert
 

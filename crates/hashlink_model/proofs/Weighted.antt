@@ -1,11 +1,13 @@
 -- The longest end of the entries that a budget allows.
-use Rattle.std.proofs.Common.{◌≡◌, ℕ, ◌≤◌, Bool, true, false, cond, List, [], ◌∷◌, ◌++◌, length, nat_le, refl, ap, arith, le_refl, leb-true, zero-le, le-leb}
+use Rattle.std.proofs.Common.{◌≡◌, ℕ, ◌≤◌, Bool, true, false, cond, List, [], ◌∷◌, ◌++◌, length, nat_le, Some, refl, ap, arith, le_refl, leb-true, zero-le, le-leb}
 use Rattle.std.proofs.lemmas.List.{length-append}
 use Rattle.std.proofs.lemmas.List.Sums.{sum_by-append}
+use Rattle.std.specs.Map.{lookup, lookup_entry}
 use Rattle.hashlink_model.specs.Entries.{IsEntries, put, without, stored_key}
 use Rattle.hashlink_model.proofs.Distinct.{IsEntries-tail}
 use Rattle.std.specs.Cmp.{IsEquivalence}
 use Rattle.hashlink_model.proofs.Puts.{IsEntries-put, put_back}
+use Rattle.hashlink_model.proofs.Remaining.{lookup-put_remaining, lookup_entry-put_remaining}
 use Rattle.hashlink_model.specs.Weights.{total_weight, fitting, weighted_put}
 
 module _ {K V : Type 0} where
@@ -66,3 +68,17 @@ module _ {K V : Type 0} (eq : K → K → Bool) where
       let last = (stored_key eq es k, (v, weight)) ∷ [] in
       let fits : total_weight last ≤ budget = omega arith in
       rw (put_back eq es k (v, weight)) (fitting-longest (without eq es k) ((stored_key eq es k, (v, weight)) ∷ []) budget fits)
+
+-- ---- look-ups after an insert
+
+module _ {K V : Type 0} (eq : K → K → Bool) (laws : IsEquivalence eq) where
+  pub lookup-weighted_put : (q : K) (es : List (K × (V × ℕ))) (budget : ℕ) (k : K) (v : V) (weight : ℕ) → IsEntries eq es → weight ≤ budget → eq k q ≡ true → lookup (eq q) (weighted_put eq es budget k v weight) ≡ Some (v, weight)
+  lookup-weighted_put q es budget k v weight d l t =
+      let s = fitting-end (put eq es k (v, weight) (length es)) budget in
+      lookup-put_remaining eq laws q es k (v, weight) s.0 (weighted_put eq es budget k v weight) d s.1 (length-weighted_put eq es budget k v weight l) t
+
+  pub lookup_entry-weighted_put : (q : K) (es : List (K × (V × ℕ))) (budget : ℕ) (k : K) (v : V) (weight : ℕ) (e : K × (V × ℕ)) → IsEntries eq es → eq k q ≡ false → lookup_entry (eq q) (weighted_put eq es budget k v weight) ≡ Some e
+      → lookup_entry (eq q) es ≡ Some e
+  lookup_entry-weighted_put q es budget k v weight e d t l =
+      let s = fitting-end (put eq es k (v, weight) (length es)) budget in
+      lookup_entry-put_remaining eq laws q es k (v, weight) s.0 (weighted_put eq es budget k v weight) d s.1 e t l

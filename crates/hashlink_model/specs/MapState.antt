@@ -1,5 +1,5 @@
 -- What a contract sees of a map, and the steps between two such states. A call's contract names the step that it takes.
-use Rattle.std.specs.Prelude.{◌≡◌, ℕ, ◌-◌, ◌+◌, ◌≤◌, Bool, List, [], Option, None, Some, Result, MatchOption, MatchResult, refl}
+use Rattle.std.specs.Prelude.{◌≡◌, ℕ, ◌-◌, ◌+◌, ◌≤◌, Bool, List, [], length, Option, None, Some, Result, MatchOption, MatchResult, refl}
 use Rattle.std.specs.Coded.{Coded, code_by, coded×, coded_list, coded_ℕ}
 use Rattle.std.specs.Map.{lookup}
 use Rattle.hashlink_model.specs.Entries.{put}
@@ -44,12 +44,13 @@ module _ {K V S : Type 0} where
       pub absent : lookup (eq k) old.entries ≡ None
       pub no_spare : old.spare ≡ 0
 
-    -- a new pair went in at the place b, into a spare node where there was one
+    -- a new pair went in at the place b, into a spare node where there was one, and there is room for each node
     pub record AddsEntry (old new : MapState K V S) (k : K) (v : V) (b : ℕ) : Type 0 where
       pub absent : lookup (eq k) old.entries ≡ None
       pub entries : new.entries ≡ put eq old.entries k v b
       pub spare : new.spare ≡ old.spare - 1
       pub room : old.room ≤ new.room
+      pub fits : length new.entries + new.spare ≤ new.room
       pub link_writes : StoresAtMost 4 old.link_writes new.link_writes
       pub hasher : new.hasher ≡ old.hasher
 

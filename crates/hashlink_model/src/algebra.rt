@@ -1,10 +1,11 @@
 //! Rows and laws of set algebra.
-ghost use Rattle.std.specs.Prelude.{◌≡◌, ℕ, ◌+◌, ◌-◌, ◌^◌, ◌≤◌, Bool, true, false, not, List, [], ◌∷◌, Option, None, Some, length};
+ghost use Rattle.std.specs.Prelude.{◌≡◌, ℕ, ◌+◌, ◌-◌, ◌^◌, ◌≤◌, Bool, true, false, not, List, [], ◌∷◌, Option, None, Some, length, filter};
 ghost use Rattle.std.specs.Cmp.{IsEquivalence};
 ghost use Rattle.std.specs.List.{IsDistinct};
+ghost use Rattle.std.specs.Option.{IsSomeAnd};
 ghost use Rattle.std.specs.Map.Iter.{TakesFirst};
 ghost use Rattle.std.specs.Set.{is_member, IsUnion, IsIntersection, IsDifference, IsSymmetricDifference};
-ghost use Rattle.hashlink_model.specs.Algebra.{PairWalk, difference_of, intersection_of, union_of, symmetric_difference_of, is_subset, is_disjoint, left_to_give, pair_step, at_most_both, union_hint, symmetric_difference_hint, part_hint};
+ghost use Rattle.hashlink_model.specs.Algebra.{PairWalk, first_passing, difference_of, intersection_of, union_of, symmetric_difference_of, is_subset, is_disjoint, left_to_give, pair_step, at_most_both, union_hint, symmetric_difference_hint, part_hint};
 ghost use Rattle.hashlink_model.specs.Numbers as numbers;
 
 /// `1 2` and `3 1` together, from either side.
@@ -70,4 +71,11 @@ pub fn lazy_walks_give_set_algebra<T>()
 pub fn hints_are_bounds<T>()
     ensures above { (p q : T → Bool) (w : PairWalk T) → length (left_to_give p q w) ≤ length w.left + length w.right }
     ensures union_below { (q : T → Bool) (w : PairWalk T) → length w.left ≤ length (left_to_give (λ _. true) q w) }
+{}
+
+/// A walk over one side gives, step by step, the first of what passes, and what it has left to give is within its size hint.
+pub fn a_walk_over_one_side<T>()
+    ensures step { (p : T → Bool) (xs : List T) → TakesFirst (λ y. y) (filter p xs) (first_passing p xs).0 (filter p (first_passing p xs).1) }
+    ensures below { (p : T → Bool) (xs : List T) → (part_hint xs).0 ≤ length (filter p xs) }
+    ensures above { (p : T → Bool) (xs : List T) → IsSomeAnd (part_hint xs).1 (λ most. length (filter p xs) ≤ most) }
 {}

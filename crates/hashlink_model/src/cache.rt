@@ -1,9 +1,9 @@
 //! Rows and laws of caches.
-ghost use Rattle.std.specs.Prelude.{◌≡◌, ℕ, ◌+◌, ◌-◌, ◌≤◌, ◌<◌, min, max, Bool, nat_eq, List, [], ◌∷◌, ◌++◌, Option, None, Some, Result, Ok, Err, length, drop, take};
+ghost use Rattle.std.specs.Prelude.{◌≡◌, ℕ, ◌+◌, ◌-◌, ◌≤◌, ◌<◌, min, max, Bool, true, false, nat_eq, List, [], ◌∷◌, ◌++◌, Option, None, Some, Result, Ok, Err, length, drop, take, unwrap_or};
 ghost use Rattle.std.specs.Cmp.{IsEquivalence};
-ghost use Rattle.hashlink_model.specs.Entries.{IsEntries, put};
-ghost use Rattle.hashlink_model.specs.Cache.{CacheState, CacheInserts, CacheGets, SetsCapacity, trimmed, last_entries, cache_put, cache_get, cache_extended};
-ghost use Rattle.std.specs.Map.{lookup};
+ghost use Rattle.hashlink_model.specs.Entries.{IsEntries, put, without, stored_key};
+ghost use Rattle.hashlink_model.specs.Cache.{CacheState, CacheInserts, CacheGets, SetsCapacity, trimmed, last_entries, cache_put, cache_get, cache_use, cache_extended};
+ghost use Rattle.std.specs.Map.{lookup, lookup_entry};
 ghost use Rattle.hashlink_model.specs.Steps.{nodes_of};
 ghost use Rattle.hashlink_model.specs.Labels as labels;
 ghost use Rattle.hashlink_model.specs.Numbers as numbers;
@@ -118,4 +118,47 @@ pub fn what_a_cache_insert_leaves<K, V, S>()
     ensures entries { (eq : K → K → Bool) (old new : CacheState K V S) (k : K) (v : V) (w : Option V) → CacheInserts eq old new k v (Ok w) → new.map.entries ≡ cache_put eq old.map.entries old.cap k v }
     ensures refused { (eq : K → K → Bool) (old new : CacheState K V S) (k : K) (v : V) (pair : K × V) → CacheInserts eq old new k v (Err pair) → (new.map.entries ≡ old.map.entries) × (new.map.spare ≡ old.map.spare) × (lookup (eq k) old.map.entries ≡ None) × (old.map.spare ≡ 0) }
     ensures nodes { (eq : K → K → Bool) (old new : CacheState K V S) (k : K) (v : V) → CacheInserts eq old new k v (Ok None) → nodes_of new.map ≡ max (nodes_of old.map) (length (put eq old.map.entries k v (length old.map.entries))) }
+{}
+
+/// A hit of `get` leaves its entry last with the stored key and the value that stands, a miss leaves every entry; neither makes a node or sets the capacity.
+pub fn what_a_hit_and_a_miss_leave<K, V, S>()
+    ensures hit { (eq : K → K → Bool) (old new : CacheState K V S) (k : K) (w : V) → CacheGets eq old new k (Some w) → new.map.entries ≡ without eq old.map.entries k ++ (stored_key eq old.map.entries k, w) ∷ [] }
+    ensures miss { (eq : K → K → Bool) (old new : CacheState K V S) (k : K) → CacheGets eq old new k None → new.map.entries ≡ old.map.entries }
+    ensures nodes { (eq : K → K → Bool) (old new : CacheState K V S) (k : K) (r : Option V) → CacheGets eq old new k r → nodes_of new.map ≡ nodes_of old.map }
+    ensures capacity { (eq : K → K → Bool) (old new : CacheState K V S) (k : K) (r : Option V) → CacheGets eq old new k r → new.cap ≡ old.cap }
+{}
+
+/// A capacity n that is set leaves the last n entries, or all where there are no more, and every node.
+pub fn what_a_capacity_leaves<K, V, S>()
+    ensures length { (old new : CacheState K V S) (n : ℕ) → SetsCapacity old new n → length new.map.entries ≡ min n (length old.map.entries) }
+    ensures end { (old new : CacheState K V S) (n : ℕ) → SetsCapacity old new n → take (length old.map.entries - n) old.map.entries ++ new.map.entries ≡ old.map.entries }
+    ensures nodes { (old new : CacheState K V S) (n : ℕ) → SetsCapacity old new n → nodes_of new.map ≡ nodes_of old.map }
+    ensures within { (old new : CacheState K V S) (n : ℕ) → length old.map.entries ≤ n → SetsCapacity old new n → new.map.entries ≡ old.map.entries }
+{}
+
+/// After a hit, a use, inserts in turn, a trim and a smaller capacity no two keys are equal, as before.
+pub fn a_cache_keeps_keys_unequal<K, V>()
+    ensures get { (eq : K → K → Bool) → IsEquivalence eq → (es : List (K × V)) (k : K) → IsEntries eq es → IsEntries eq (cache_get eq es k) }
+    ensures use_step { (eq : K → K → Bool) → IsEquivalence eq → (es : List (K × V)) (cap : ℕ) (k : K) (v : V) → IsEntries eq es → IsEntries eq (cache_use eq es cap k v) }
+    ensures extended { (eq : K → K → Bool) → IsEquivalence eq → (es : List (K × V)) (cap : ℕ) (pairs : List (K × V)) → IsEntries eq es → IsEntries eq (cache_extended eq es cap pairs) }
+    ensures trimmed { (eq : K → K → Bool) (es : List (K × V)) (cap : ℕ) → IsEntries eq es → IsEntries eq (trimmed es cap) }
+    ensures last_entries { (eq : K → K → Bool) (es : List (K × V)) (n : ℕ) → IsEntries eq es → IsEntries eq (last_entries es n) }
+{}
+
+/// After the insert into a cache with a place the key has the new value, and what is still there of the others is what was there.
+pub fn lookup_after_a_cache_insert<K, V>()
+    ensures at_key { (eq : K → K → Bool) → IsEquivalence eq → (q : K) (es : List (K × V)) (cap : ℕ) (k : K) (v : V) → IsEntries eq es → 1 ≤ cap → eq k q ≡ true → lookup (eq q) (cache_put eq es cap k v) ≡ Some v }
+    ensures at_others { (eq : K → K → Bool) → IsEquivalence eq → (q : K) (es : List (K × V)) (cap : ℕ) (k : K) (v : V) (e : K × V) → IsEntries eq es → eq k q ≡ false → lookup_entry (eq q) (cache_put eq es cap k v) ≡ Some e → lookup_entry (eq q) es ≡ Some e }
+{}
+
+/// After a use in a cache with a place the key has the value that it had, or the one given where it was absent, and what is still there of the others is what was there.
+pub fn lookup_after_a_use<K, V>()
+    ensures at_key { (eq : K → K → Bool) → IsEquivalence eq → (q : K) (es : List (K × V)) (cap : ℕ) (k : K) (v : V) → IsEntries eq es → 1 ≤ cap → eq k q ≡ true → lookup (eq q) (cache_use eq es cap k v) ≡ Some (unwrap_or (lookup (eq k) es) v) }
+    ensures at_others { (eq : K → K → Bool) → IsEquivalence eq → (q : K) (es : List (K × V)) (cap : ℕ) (k : K) (v : V) (e : K × V) → IsEntries eq es → eq k q ≡ false → lookup_entry (eq q) (cache_use eq es cap k v) ≡ Some e → lookup_entry (eq q) es ≡ Some e }
+{}
+
+/// Pairs that extend a cache may come in two parts, and a cache of at most n entries, where n is no less than its capacity, has at most n after them.
+pub fn a_cache_extended_in_two_parts<K, V>()
+    ensures parts { (eq : K → K → Bool) (es : List (K × V)) (cap : ℕ) (xs ys : List (K × V)) → cache_extended eq es cap (xs ++ ys) ≡ cache_extended eq (cache_extended eq es cap xs) cap ys }
+    ensures at_most { (eq : K → K → Bool) (es : List (K × V)) (cap n : ℕ) (pairs : List (K × V)) → cap ≤ n → length es ≤ n → length (cache_extended eq es cap pairs) ≤ n }
 {}

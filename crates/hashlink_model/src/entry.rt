@@ -3,7 +3,7 @@ ghost use Rattle.std.specs.Prelude.{◌≡◌, ℕ, Bool, true, List, [], ◌∷
 ghost use Rattle.std.specs.Cmp.{IsEquivalence};
 ghost use Rattle.std.specs.Map.{lookup, lookup_entry};
 ghost use Rattle.hashlink_model.specs.Entries.{IsEntries, place_of, put, moved};
-ghost use Rattle.hashlink_model.specs.Entry.{entry_of, insert_entry, or_insert, replace_entry};
+ghost use Rattle.hashlink_model.specs.Entry.{entry_of, insert_value, insert_entry, or_insert, replace_entry, replace_key, replace_value};
 ghost use Rattle.hashlink_model.specs.MapState.{MapState};
 ghost use Rattle.hashlink_model.specs.Labels as labels;
 ghost use Rattle.hashlink_model.specs.Numbers as numbers;
@@ -36,16 +36,27 @@ pub fn or_insert_is_a_move_or_an_insert<K, V>()
     ensures absent { (eq : K → K → Bool) (es : List (K × V)) (k : K) (v : V) → lookup (eq k) es ≡ None → or_insert eq es k v ≡ put eq es k v (length es) }
 {}
 
-/// A key that goes in for an equal one keeps the keys pairwise unequal.
+/// A key that goes in for an equal one keeps the keys pairwise unequal, and so does every other step on an entry.
 pub fn entries_keep_keys_unequal<K, V>()
     ensures insert_entry { (eq : K → K → Bool) → IsEquivalence eq → (es : List (K × V)) (e : K × V) (h : K) (v : V) → IsEntries eq es → eq h e.0 ≡ true → IsEntries eq (insert_entry eq es e h v) }
     ensures replace_entry { (eq : K → K → Bool) → IsEquivalence eq → (es : List (K × V)) (j : ℕ) (e : K × V) (h : K) (v : V) → IsEntries eq es → slice_get es j ≡ Some e → eq h e.0 ≡ true → IsEntries eq (replace_entry es j h v) }
+    ensures insert_value { (eq : K → K → Bool) → IsEquivalence eq → (es : List (K × V)) (e : K × V) (v : V) → IsEntries eq es → IsEntries eq (insert_value eq es e v) }
+    ensures replace_key { (eq : K → K → Bool) → IsEquivalence eq → (es : List (K × V)) (j : ℕ) (e : K × V) (k : K) → IsEntries eq es → slice_get es j ≡ Some e → eq k e.0 ≡ true → IsEntries eq (replace_key es j e k) }
+    ensures replace_value { (eq : K → K → Bool) → IsEquivalence eq → (es : List (K × V)) (j : ℕ) (e : K × V) (v : V) → IsEntries eq es → slice_get es j ≡ Some e → IsEntries eq (replace_value es j e v) }
+    ensures or_insert { (eq : K → K → Bool) → IsEquivalence eq → (es : List (K × V)) (k : K) (v : V) → IsEntries eq es → IsEntries eq (or_insert eq es k v) }
 {}
 
 /// After `insert_entry` and `replace_entry` the key has the key object in hand and the new value, and every other key has what it had.
 pub fn lookup_after_entry_steps<K, V>()
     ensures insert_entry { (eq : K → K → Bool) → IsEquivalence eq → (q : K) (es : List (K × V)) (e : K × V) (h : K) (v : V) → IsEntries eq es → eq h e.0 ≡ true → lookup_entry (eq q) (insert_entry eq es e h v) ≡ cond (eq h q) (Some (h, v)) (lookup_entry (eq q) es) }
     ensures replace_entry { (eq : K → K → Bool) → IsEquivalence eq → (q : K) (es : List (K × V)) (j : ℕ) (e : K × V) (h : K) (v : V) → IsEntries eq es → slice_get es j ≡ Some e → eq h e.0 ≡ true → lookup_entry (eq q) (replace_entry es j h v) ≡ cond (eq h q) (Some (h, v)) (lookup_entry (eq q) es) }
+{}
+
+/// A step that lets in a key or a value alone keeps the other one of its entry, and every other key has what it had.
+pub fn lookup_after_a_key_or_a_value_alone<K, V>()
+    ensures insert_value { (eq : K → K → Bool) → IsEquivalence eq → (q : K) (es : List (K × V)) (j : ℕ) (e : K × V) (v : V) → IsEntries eq es → slice_get es j ≡ Some e → lookup_entry (eq q) (insert_value eq es e v) ≡ cond (eq e.0 q) (Some (e.0, v)) (lookup_entry (eq q) es) }
+    ensures replace_key { (eq : K → K → Bool) → IsEquivalence eq → (q : K) (es : List (K × V)) (j : ℕ) (e : K × V) (k : K) → IsEntries eq es → slice_get es j ≡ Some e → eq k e.0 ≡ true → lookup_entry (eq q) (replace_key es j e k) ≡ cond (eq k q) (Some (k, e.1)) (lookup_entry (eq q) es) }
+    ensures replace_value { (eq : K → K → Bool) → IsEquivalence eq → (q : K) (es : List (K × V)) (j : ℕ) (e : K × V) (v : V) → IsEntries eq es → slice_get es j ≡ Some e → lookup_entry (eq q) (replace_value es j e v) ≡ cond (eq e.0 q) (Some (e.0, v)) (lookup_entry (eq q) es) }
 {}
 
 /// What is replaced changes no place.

@@ -1,5 +1,5 @@
 //! Rows and laws of sets.
-ghost use Rattle.std.specs.Prelude.{◌≡◌, ℕ, Bool, true, List, [], ◌∷◌, length, cond};
+ghost use Rattle.std.specs.Prelude.{◌≡◌, ℕ, ◌+◌, Bool, true, false, ◌||◌, List, [], ◌∷◌, ◌++◌, Some, length, cond, slice_get, slice_set};
 ghost use Rattle.std.specs.Cmp.{IsEquivalence};
 ghost use Rattle.std.specs.List.{IsDistinct};
 ghost use Rattle.std.specs.Map.{keys_of};
@@ -30,4 +30,27 @@ pub fn a_set_is_a_map<T, S>()
     ensures elements { (ts : List T) → keys_of (pairs_of ts) ≡ ts }
     ensures state { (m : MapState T (Unit {0}) S) → as_map (set_of m) ≡ m }
     ensures put { (eq : T → T → Bool) (es : List (T × Unit {0})) (t : T) (b : ℕ) → keys_of (put eq es t tt b) ≡ put_element eq (keys_of es) t b }
+{}
+
+/// After an element is put anywhere or replaced, no two elements are equal, as before.
+pub fn set_steps_keep_elements_unequal<T>()
+    ensures put { (eq : T → T → Bool) → IsEquivalence eq → (ts : List T) (t : T) (b : ℕ) → IsDistinct eq ts → IsDistinct eq (put_element eq ts t b) }
+    ensures replaced { (eq : T → T → Bool) → IsEquivalence eq → (ts : List T) (t : T) → IsDistinct eq ts → IsDistinct eq (replaced eq ts t) }
+{}
+
+/// After an element is put or replaced the members are the ones that were there and the one given, and the set is longer by one exactly where it was new.
+pub fn members_after_set_steps<T>()
+    ensures put { (eq : T → T → Bool) → IsEquivalence eq → (ts : List T) (t : T) (b : ℕ) (q : T) → is_member eq (put_element eq ts t b) q ≡ (eq t q || is_member eq ts q) }
+    ensures put_absent { (eq : T → T → Bool) (ts : List T) (t : T) (b : ℕ) → is_member eq ts t ≡ false → length (put_element eq ts t b) ≡ length ts + 1 }
+    ensures put_there { (eq : T → T → Bool) (ts : List T) (t : T) (b : ℕ) → is_member eq ts t ≡ true → length (put_element eq ts t b) ≡ length ts }
+    ensures replaced { (eq : T → T → Bool) → IsEquivalence eq → (ts : List T) (t q : T) → is_member eq (replaced eq ts t) q ≡ (eq t q || is_member eq ts q) }
+    ensures replaced_absent { (eq : T → T → Bool) (ts : List T) (t : T) → is_member eq ts t ≡ false → length (replaced eq ts t) ≡ length ts + 1 }
+    ensures replaced_there { (eq : T → T → Bool) (ts : List T) (t : T) → is_member eq ts t ≡ true → length (replaced eq ts t) ≡ length ts }
+{}
+
+/// A replace lets the element given in at the place of the equal one, and an absent one last; every other element stays at its place.
+pub fn replacing_leaves_every_element<T>()
+    ensures there { (eq : T → T → Bool) → IsEquivalence eq → (ts : List T) (t x : T) (j : ℕ) → IsDistinct eq ts → slice_get ts j ≡ Some x → eq t x ≡ true → replaced eq ts t ≡ slice_set ts j t }
+    ensures absent { (eq : T → T → Bool) (ts : List T) (t : T) → is_member eq ts t ≡ false → replaced eq ts t ≡ ts ++ t ∷ [] }
+    ensures others { (eq : T → T → Bool) (ts : List T) (t x : T) (i : ℕ) → slice_get ts i ≡ Some x → eq t x ≡ false → slice_get (replaced eq ts t) i ≡ Some x }
 {}

@@ -1,10 +1,10 @@
 //! Rows and laws of the states of a map and the steps between them.
 ghost use Rattle.std.specs.Prelude.{◌≡◌, ℕ, ◌+◌, ◌≤◌, max, Bool, true, false, List, [], ◌∷◌, ◌++◌, Option, None, Some, Result, Ok, Err, IsOk, length, ◌^◌, ◌-◌, nat_eq};
 ghost use Rattle.std.specs.Cmp.{IsEquivalence};
-ghost use Rattle.std.specs.Map.{lookup};
+ghost use Rattle.std.specs.Map.{keys_of, lookup, lookup_entry};
 ghost use Rattle.hashlink_model.specs.Entries.{IsEntries, without};
 ghost use Rattle.hashlink_model.specs.MapState.{MapState, map_state, empty_map, MayRefuse, Removes, AddsEntry, PutsEntry, Inserts};
-ghost use Rattle.hashlink_model.specs.Steps.{PopsFront, PopsBack, KeepsOnly, Writes, Moves, Clears, Drains, Reserves, Shrinks, nodes_of, HasRoom};
+ghost use Rattle.hashlink_model.specs.Steps.{PopsFront, PopsBack, Changes, KeepsOnly, Writes, Moves, Clears, Drains, Reserves, Shrinks, nodes_of, HasRoom};
 
 /// A map as it is made has no entry, no spare node and no room.
 pub fn an_empty_map_takes_no_memory<K, V, S>()
@@ -39,6 +39,18 @@ pub fn what_a_write_and_a_move_leave<S>()
     ensures absent { (old new : MapState ℕ ℕ S) → old.entries ≡ (1, 10) ∷ (2, 20) ∷ [] → Moves nat_eq old new 3 0 → new.entries ≡ old.entries }
 {}
 
+/// A write keeps every key and its place and changes one value, a move changes no value, and both keep every node.
+pub fn writes_and_moves_keep_the_keys<K, V, S>()
+    ensures written_keys { (eq : K → K → Bool) (old new : MapState K V S) (k : K) (v : V) → Writes eq old new k v → keys_of new.entries ≡ keys_of old.entries }
+    ensures written_nodes { (eq : K → K → Bool) (old new : MapState K V S) (k : K) (v : V) → Writes eq old new k v → nodes_of new ≡ nodes_of old }
+    ensures written_value { (eq : K → K → Bool) → IsEquivalence eq → (q : K) (old new : MapState K V S) (k : K) (v w : V) → Writes eq old new k v → lookup (eq k) old.entries ≡ Some w → eq k q ≡ true → lookup (eq q) new.entries ≡ Some v }
+    ensures written_others { (eq : K → K → Bool) → IsEquivalence eq → (q : K) (old new : MapState K V S) (k : K) (v : V) → Writes eq old new k v → eq k q ≡ false → lookup_entry (eq q) new.entries ≡ lookup_entry (eq q) old.entries }
+    ensures moved_values { (eq : K → K → Bool) → IsEquivalence eq → (q : K) (old new : MapState K V S) (k : K) (b : ℕ) → Moves eq old new k b → IsEntries eq old.entries → lookup (eq q) new.entries ≡ lookup (eq q) old.entries }
+    ensures moved_keys { (eq : K → K → Bool) → IsEquivalence eq → (old new : MapState K V S) (k : K) (b : ℕ) → Moves eq old new k b → IsEntries eq old.entries → IsEntries eq new.entries }
+    ensures moved_length { (eq : K → K → Bool) (old new : MapState K V S) (k : K) (b : ℕ) → Moves eq old new k b → length new.entries ≡ length old.entries }
+    ensures moved_nodes { (eq : K → K → Bool) (old new : MapState K V S) (k : K) (b : ℕ) → Moves eq old new k b → nodes_of new ≡ nodes_of old }
+{}
+
 /// A reserve for a hundred more entries on a map of two leaves the entries and makes room for 102; a refused one leaves the entries too.
 pub fn what_a_reserve_leaves<S, E>()
     ensures enough { (old new : MapState ℕ ℕ S) → old.entries ≡ (1, 10) ∷ (2, 20) ∷ [] → Reserves {E = E} old new 100 (Ok tt) → (new.entries ≡ (1, 10) ∷ (2, 20) ∷ []) × (102 ≤ new.room) }
@@ -69,10 +81,11 @@ pub fn nodes_after_steps<K, V, S, E>()
     ensures shrinks { (old new : MapState K V S) (r : Result (Unit {0}) E) → Shrinks old new r → nodes_of new ≡ length old.entries }
 {}
 
-/// There is room for each node after every step but an insert, whose own contract says it.
+/// There is room for each node in a map as it is made, and after every step of one where there was.
 pub fn room_after_steps<K, V, S, E>()
     ensures empty { (s : S) → HasRoom (empty_map {K = K} {V = V} s) }
-    ensures puts { (eq : K → K → Bool) (old new : MapState K V S) (k : K) (v : V) (b : ℕ) (w : V) → PutsEntry eq old new k v b w → HasRoom old → HasRoom new }
+    ensures inserts { (eq : K → K → Bool) (old new : MapState K V S) (k : K) (v : V) (b : ℕ) (r : Result (Option V) (K × V)) → Inserts eq old new k v b r → HasRoom old → HasRoom new }
+    ensures changes { (old new : MapState K V S) (es : List (K × V)) (most : ℕ) → Changes old new es most → length es ≤ length old.entries → HasRoom old → HasRoom new }
     ensures removes { (eq : K → K → Bool) (old new : MapState K V S) (k : K) (w : V) → lookup (eq k) old.entries ≡ Some w → Removes old new (without eq old.entries k) → HasRoom old → HasRoom new }
     ensures keeps { (old new : MapState K V S) (es : List (K × V)) → KeepsOnly old new es → HasRoom old → HasRoom new }
     ensures reserves { (old new : MapState K V S) (n : ℕ) (r : Result (Unit {0}) E) → Reserves old new n r → HasRoom old → HasRoom new }

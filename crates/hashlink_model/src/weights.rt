@@ -1,6 +1,7 @@
 //! Rows and laws of entries with weights.
-ghost use Rattle.std.specs.Prelude.{Bool, ◌≡◌, ℕ, ◌+◌, ◌^◌, ◌-◌, ◌≤◌, List, [], ◌∷◌, ◌++◌, length};
+ghost use Rattle.std.specs.Prelude.{Bool, true, false, ◌≡◌, ℕ, ◌+◌, ◌^◌, ◌-◌, ◌≤◌, List, [], ◌∷◌, ◌++◌, Some, length};
 ghost use Rattle.std.specs.Cmp.{IsEquivalence};
+ghost use Rattle.std.specs.Map.{lookup, lookup_entry};
 ghost use Rattle.hashlink_model.specs.Entries.{IsEntries};
 ghost use Rattle.hashlink_model.specs.Weights.{total_weight, fitting, weighted_put};
 ghost use Rattle.hashlink_model.specs.Numbers as numbers;
@@ -28,4 +29,10 @@ pub fn what_an_insert_within_a_budget_leaves<K, V>()
     ensures keys { (eq : K → K → Bool) → IsEquivalence eq → (es : List (K × (V × ℕ))) (budget : ℕ) (k : K) (v : V) (weight : ℕ) → IsEntries eq es → IsEntries eq (weighted_put eq es budget k v weight) }
     ensures total { (eq : K → K → Bool) (es : List (K × (V × ℕ))) (budget : ℕ) (k : K) (v : V) (weight : ℕ) → total_weight (weighted_put eq es budget k v weight) ≤ budget }
     ensures kept { (eq : K → K → Bool) (es : List (K × (V × ℕ))) (budget : ℕ) (k : K) (v : V) (weight : ℕ) → weight ≤ budget → 1 ≤ length (weighted_put eq es budget k v weight) }
+{}
+
+/// After an insert within a budget of a pair that is not too heavy the key has the new value and weight, and what is still there of the others is what was there.
+pub fn lookup_after_an_insert_within_a_budget<K, V>()
+    ensures at_key { (eq : K → K → Bool) → IsEquivalence eq → (q : K) (es : List (K × (V × ℕ))) (budget : ℕ) (k : K) (v : V) (weight : ℕ) → IsEntries eq es → weight ≤ budget → eq k q ≡ true → lookup (eq q) (weighted_put eq es budget k v weight) ≡ Some (v, weight) }
+    ensures at_others { (eq : K → K → Bool) → IsEquivalence eq → (q : K) (es : List (K × (V × ℕ))) (budget : ℕ) (k : K) (v : V) (weight : ℕ) (e : K × (V × ℕ)) → IsEntries eq es → eq k q ≡ false → lookup_entry (eq q) (weighted_put eq es budget k v weight) ≡ Some e → lookup_entry (eq q) es ≡ Some e }
 {}

@@ -15,6 +15,22 @@ fn a_new_map_is_empty(rt: HostRuntime) {
 }
 
 #[test]
+fn capacity_is_enough_for_every_node_and_stays_at_a_removal(rt: HostRuntime) -> Result<(), Fail> {
+    let mut map = LinkedHashMap::new(rt.alloc());
+    assert_eq!(rt; map.capacity(), 0);
+    for key in 1u32..6 {
+        map.insert(key, key)?;
+    }
+    let capacity = map.capacity();
+    assert!(rt; capacity >= 5);
+    assert_eq!(rt; map.remove(&2), Some(2));
+    assert_eq!(rt; map.capacity(), capacity);
+    map.insert(6, 6)?;
+    assert_eq!(rt; map.capacity(), capacity);
+    Ok(())
+}
+
+#[test]
 fn insert_of_a_new_key_puts_it_last(rt: HostRuntime) -> Result<(), Fail> {
     let mut map = LinkedHashMap::new(rt.alloc());
     assert_eq!(rt; map.insert(2u32, 20u32), Ok(None));

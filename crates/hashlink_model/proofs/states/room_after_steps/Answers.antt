@@ -1,11 +1,12 @@
-use Rattle.hashlink_model.proofs.NodeCounts.{HasRoom-puts, HasRoom-removes, HasRoom-keeps, HasRoom-reserves, HasRoom-shrinks}
+use Rattle.hashlink_model.proofs.NodeCounts.{HasRoom-inserts, HasRoom-changes, HasRoom-removes, HasRoom-keeps, HasRoom-reserves, HasRoom-shrinks}
 use Rattle.std.proofs.Common.{rules}
 use Rattle.hashlink_model.proofs.states.room_after_steps.Goals as goal
 
 pub returns : goal.returns
 returns g c = record {
   empty = λ s. search rules;
-  puts = HasRoom-puts;
+  inserts = HasRoom-inserts;
+  changes = HasRoom-changes;
   removes = HasRoom-removes;
   keeps = HasRoom-keeps;
   reserves = λ old new n r. HasRoom-reserves old new n r;
