@@ -12,7 +12,7 @@ use Rattle.hashlink_nodes.specs.declared.held.Held.{Held}
 use Rattle.hashlink_nodes.specs.Node.{same_node, same_node_equiv}
 use Rattle.hashlink_nodes.specs.Ring.{node_after, Holds, pair_of}
 use Rattle.hashlink_core.specs.Keyed.{nodes_of, pairs_in}
-use Rattle.hashlink_core.specs.Walk.{nodes_from, nodes_left, StandsAtFirst}
+use Rattle.hashlink_core.specs.Walk.{nodes_from, StandsAtFirst}
 
 -- ---- any list, by index
 module _ {X : Type 0} where
@@ -81,11 +81,6 @@ nodes_from-at (m ∷ ns) zero n d at =
 nodes_from-at (m ∷ ns) (suc i) n d at =
     ap (λ b. cond b (suc (length ns)) (nodes_from n ns)) (other-at m ns i n d at) ∙ nodes_from-at ns i n (IsDistinct-tail same_node m ns d) at ∙ omega arith
 
-pub nodes_left-at : (ns : List Node) (i : ℕ) → IsDistinct same_node ns → nodes_left ns (slice_get ns i) ≡ length ns - i
-nodes_left-at ns i d =
-    elim (slice_get ns i) as (λ o. slice_get ns i ≡ o → nodes_left ns o ≡ length ns - i)
-    [ None ↦ λ at. omega (arith, none-at ns i at) | Some n ↦ λ at. nodes_from-at ns i n d at ] refl
-
 -- ---- entries with their nodes
 module _ {X : Type 0} where
   pub entry-at : (es : List (Node × X)) (i : ℕ) (n : Node) → slice_get (keys_of es) i ≡ Some n → (x : X) × (slice_get es i ≡ Some (n, x))
@@ -100,17 +95,6 @@ module _ {X : Type 0} where
       ap (λ b. is_some (cond b (Some e.1) (lookup (same_node n) es))) (same-itself n e.0 same)
   holds-at (e ∷ es) (suc i) n at =
       elim (same_node n e.0) as (λ b. IsSome (cond b (Some e.1) (lookup (same_node n) es))) [ true ↦ refl | false ↦ holds-at es i n at ]
-
-  -- what a look-up finds at the node is what stands at its index
-  pub lookup-at : (es : List (Node × X)) (i : ℕ) (n : Node) (x : X) → IsDistinct same_node (keys_of es) → slice_get (keys_of es) i ≡ Some n → lookup (same_node n) es ≡ Some x → slice_get es i ≡ Some (n, x)
-  lookup-at es i n x d at found =
-      let e = entry-at es i n at in
-      let there : lookup (same_node n) es ≡ Some e.0 = lookup_from_place same_node_equiv es i n e.0 d e.1 in
-      let same : e.0 ≡ x = cc (sym there ∙ found) in
-      e.1 ∙ ap (λ y. Some (n, y)) same
-
-  pub place-known : (es : List (Node × X)) (i : ℕ) (p : Option Node) (n : Node) → p ≡ slice_get (keys_of es) i → p ≡ Some n → slice_get (keys_of es) i ≡ Some n
-  place-known es i p n at is = sym at ∙ is
 
 module _ {K V : Type 0} where
   pub pairs_in-append : (xs ys : List (Node × Held K V)) → pairs_in (xs ++ ys) ≡ pairs_in xs ++ pairs_in ys

@@ -122,6 +122,3 @@ module _ {K V : Type 0} where
       let a : len ≡ 0 = sym (length-ring s first len spare (Some g) o.sound) ∙ ap (λ (r : Ring K V). length r.entries) o.view ∙ ap length no_entries in
       let b : spare ≡ 0 = sym (length-walk s.next first spare) ∙ ap (λ (r : Ring K V). length r.free) o.view ∙ ap length no_free in
       omega (arith, a, b, o.sound.size, drops.size, length-walk s.next (s.next g) len, length-walk s.next first spare)
-
-  pub no_blocks : (s : State K V) (guard : Option Node) (first : Node) (len spare : ℕ) → IsSound s guard first len spare → guard ≡ None → s.size ≡ 0
-  no_blocks s guard first len spare sound is = (subst (λ o. IsSound s o first len spare) is sound).2

@@ -52,9 +52,6 @@ module _ {K V : Type 0} where
   abbrev Full : (Node → Option (Held K V)) → Node → Type 0
   Full f n = is_some (f n) ≡ true
 
-  abbrev Bare : (Node → Option (Held K V)) → Node → Type 0
-  Bare f n = f n ≡ None
-
   -- n has a block, and is neither in the ring nor spare
   pub record IsLoose (s : State K V) (guard first : Node) (nodes free : List Node) (n : Node) : Type 0 where
     pub forward : IsPath s.next guard nodes guard

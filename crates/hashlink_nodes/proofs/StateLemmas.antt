@@ -160,10 +160,6 @@ module _ {K V : Type 0} where
   unfolding store_next
   has_after_next n to s = refl
 
-  pub has_after_prev : (n to : Node) (s : State K V) → (store_prev n to s).has ≡ s.has
-  unfolding store_prev
-  has_after_prev n to s = refl
-
 pub alter_is : {K X : Type 0} (test : K → Bool) (f : X → X) (es : List (K × X)) (b : X) → lookup test es ≡ Some b → alter test f es ≡ set_value test es (f b)
 alter_is test f [] b e = absurd (cc e)
 alter_is test f (x ∷ es) b e = (elim (test x.0) as (λ (y : Bool). cond y (Some x.1) (lookup test es) ≡ Some b → cond y ((x.0, f x.1) ∷ es) (x ∷ alter test f es) ≡ cond y ((x.0, f b) ∷ es) (x ∷ set_value test es (f b))) [
