@@ -1,8 +1,11 @@
 ghost use Rattle.std.specs.Prelude.{IfSome};
 ghost use Rattle.hashlink_nodes.specs.Ring.{Holds};
 
+use crate::block::Block;
+use crate::link_writes::LinkWrites;
 use crate::{Node, Nodes};
 use std::cell::Cell;
+use std::mem::size_of;
 
 /// Counts that it was dropped.
 struct Counted<'a> {
@@ -119,4 +122,11 @@ fn a_long_ring_ends(rt: HostRuntime) {
         assert!(rt; nodes.push_before(None, 0, number, number).is_ok());
     }
     assert_eq!(rt; nodes.len(), 100_000);
+}
+
+#[test]
+fn a_block_takes_32_bytes_and_its_pair(rt: HostRuntime) {
+    assert_eq!(rt; size_of::<Block<u64, u64>>(), 48);
+    assert_eq!(rt; size_of::<Node>(), 8);
+    assert_eq!(rt; size_of::<LinkWrites>(), 0);
 }

@@ -1,9 +1,11 @@
 ghost use Rattle.std.specs.Prelude.{◌≡◌, ℕ, ◌+◌, ◌<◌, ◌≤◌, IfOk};
 ghost use Rattle.hashlink_table.specs.Contents.{agreeing};
 
+use super::cell::Cell;
 use super::{Steps, Table, TryReserveError};
 use std::alloc::Global;
 use std::marker::Brand;
+use std::mem::size_of;
 use std::sync::ledger::{Blank, Ledger};
 use std::test::Fail;
 
@@ -163,4 +165,9 @@ fn refuses_an_absurd_room(rt: HostRuntime) -> Result<(), Fail> {
     assert_eq!(rt; refused, Some(TryReserveError::CapacityOverflow));
     assert_eq!(rt; Table::<u32>::with_room(rt.alloc(), 0)?.room(), 0);
     Ok(())
+}
+
+#[test]
+fn a_cell_takes_32_bytes(rt: HostRuntime) {
+    assert_eq!(rt; size_of::<Cell<u64>>(), 32);
 }
