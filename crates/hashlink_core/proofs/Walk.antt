@@ -12,7 +12,7 @@ use Rattle.hashlink_nodes.specs.declared.held.Held.{Held}
 use Rattle.hashlink_nodes.specs.Node.{same_node, same_node_equiv}
 use Rattle.hashlink_nodes.specs.Ring.{node_after, Holds, pair_of}
 use Rattle.hashlink_core.specs.Keyed.{nodes_of, pairs_in}
-use Rattle.hashlink_core.specs.Walk.{nodes_from, StandsAtFirst}
+use Rattle.hashlink_core.specs.Walk.{StandsAtFirst}
 
 -- ---- any list, by index
 module _ {X : Type 0} where
@@ -72,14 +72,6 @@ node_after-at (m ∷ ns) zero n d at =
     ap (λ b. cond b (slice_get ns 0) (node_after n ns)) (same-itself n m same)
 node_after-at (m ∷ ns) (suc i) n d at =
     ap (λ b. cond b (slice_get ns 0) (node_after n ns)) (other-at m ns i n d at) ∙ node_after-at ns i n (IsDistinct-tail same_node m ns d) at
-
-pub nodes_from-at : (ns : List Node) (i : ℕ) (n : Node) → IsDistinct same_node ns → slice_get ns i ≡ Some n → nodes_from n ns ≡ length ns - i
-nodes_from-at [] i n d at = absurd (cc)
-nodes_from-at (m ∷ ns) zero n d at =
-    let same : m ≡ n = cc in
-    ap (λ b. cond b (suc (length ns)) (nodes_from n ns)) (same-itself n m same) ∙ omega arith
-nodes_from-at (m ∷ ns) (suc i) n d at =
-    ap (λ b. cond b (suc (length ns)) (nodes_from n ns)) (other-at m ns i n d at) ∙ nodes_from-at ns i n (IsDistinct-tail same_node m ns d) at ∙ omega arith
 
 -- ---- entries with their nodes
 module _ {X : Type 0} where

@@ -88,10 +88,36 @@ pub worked_answer : IsTranscript (codes "map\ninsert 1 10\ninsert 2 20\ninsert 1
 unfolding digits
 worked_answer =
     let listed : Run (state ((1, 11) ∷ []) 1 2 17) (codes "iter" ∷ []) (codes "1:11\n") (state ((1, 11) ∷ []) 1 2 17) =
-    (codes "1:11", state ((1, 11) ∷ []) 1 2 17, [], (refl, refl), (refl, refl), refl) in
-    (default_builder, state ((1, 11) ∷ []) 1 2 17,
-    (codes "-", state ((1, 10) ∷ []) 0 1 4, codes "-\n10\n11\n20\n1:11\n", (Value None, first_insert, refl),
-    (codes "-", state ((1, 10) ∷ (2, 20) ∷ []) 0 2 8, codes "10\n11\n20\n1:11\n", (Value None, second_insert, refl),
-    (codes "10", state ((2, 20) ∷ (1, 11) ∷ []) 0 2 14, codes "11\n20\n1:11\n", (Value (Some 10), insert_again, refl),
-    (codes "11", state ((2, 20) ∷ (1, 11) ∷ []) 0 2 14, codes "20\n1:11\n", (Value (Some 11), (refl, refl), refl),
-    (codes "20", state ((1, 11) ∷ []) 1 2 17, codes "1:11\n", (Value (Some 20), removal, refl), listed, refl), refl), refl), refl), refl))
+    (codes "1:11", state ((1, 11) ∷ []) 1 2 17, [], (refl, refl), (refl, refl), refl) in (
+      default_builder,
+      state ((1, 11) ∷ []) 1 2 17,
+      (
+        codes "-",
+        state ((1, 10) ∷ []) 0 1 4,
+        codes "-\n10\n11\n20\n1:11\n",
+        (Value None, first_insert, refl),
+        (
+          codes "-",
+          state ((1, 10) ∷ (2, 20) ∷ []) 0 2 8,
+          codes "10\n11\n20\n1:11\n",
+          (Value None, second_insert, refl),
+          (
+            codes "10",
+            state ((2, 20) ∷ (1, 11) ∷ []) 0 2 14,
+            codes "11\n20\n1:11\n",
+            (Value (Some 10), insert_again, refl),
+            (
+              codes "11",
+              state ((2, 20) ∷ (1, 11) ∷ []) 0 2 14,
+              codes "20\n1:11\n",
+              (Value (Some 11), (refl, refl), refl),
+              (codes "20", state ((1, 11) ∷ []) 1 2 17, codes "1:11\n", (Value (Some 20), removal, refl), listed, refl),
+              refl,
+            ),
+            refl,
+          ),
+          refl,
+        ),
+        refl,
+      ),
+    )
