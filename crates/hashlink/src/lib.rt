@@ -1,16 +1,19 @@
-//! Linked hash containers under the names of hashlink: hash maps that keep their entries in an order which the caller controls.
+//! Linked hash containers under the names of hashlink: hash maps that keep their entries in an order which the caller
+//! controls.
 #![tactic(auto)]
 
 /// The linked hash map.
 pub mod linked_hash_map {
-    pub use hashlink_map::{Iter, LinkedHashMap};
+    pub use hashlink_map::{
+        Entry, Iter, LinkedHashMap, OccupiedEntry, TryReserveError, VacantEntry,
+    };
     pub use std::alloc::AllocError;
 }
 
-/// Commands to the containers, and the text form in which a program reads and answers them.
+/// Lists of commands to the containers, and the text form in which a program reads and answers them.
 pub mod run {
-    pub use hashlink_run::{Command, Fault, Reply, run_text, serve};
+    pub use hashlink_run::{Command, Fault, Reply, run, run_text, serve};
 }
 
-pub use hashlink_map::{DefaultHashBuilder, DefaultHasher, LinkedHashMap};
+pub use hashlink_map::{DefaultHashBuilder, DefaultHasher, LinkedHashMap, TryReserveError};
 pub use std::alloc::AllocError;

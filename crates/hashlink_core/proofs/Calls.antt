@@ -1,126 +1,392 @@
--- What the calls of the keyed list leave, from the clauses of the ring and of the table: an entry renewed, taken out, or added.
-use Rattle.std.proofs.Common.{◌≡◌, ℕ, ◌+◌, ◌-◌, ◌≤◌, Bool, List, [], ◌∷◌, ◌++◌, length, drop, None, Some, refl, ap, sym, subst, ◌∙◌, arith, length-drop}
+-- What the calls of the keyed list leave, from the clauses of the ring and of the table.
+use Rattle.std.proofs.Common.{◌≡◌, Result, Ok, Err, OnOk, OnErr, ℕ, ◌+◌, ◌-◌, ◌≤◌, Bool, true, List, ◌∷◌, ◌++◌}
+use Rattle.std.proofs.Common.{length, drop, Option, None, Some, refl, ap, sym, subst, ◌∙◌, arith, length-drop}
+use Rattle.std.specs.Prelude.{slice_get, insert, remove}
 use Rattle.std.specs.List.{IsDistinct}
-use Rattle.std.specs.Option.{option_map, IfSome}
-use Rattle.std.specs.FinMap.{get, insert, remove}
+use Rattle.std.specs.Option.{option_map, option_map_or, IfSome}
 use Rattle.std.specs.Cmp.{IsEquivalence}
-use Rattle.std.specs.Map.{lookup, lookup_entry, remove_entry, set_value, keys_of, values_of}
-use Rattle.hashlink_model.specs.Entries.{without, put}
-use Rattle.hashlink_model.specs.MapState.{MapState, map_state, AddsEntry, PutsEntry, Removes}
+use Rattle.std.specs.FinMap.{get, insert as put_in, remove as take_out}
+use Rattle.std.specs.Map.{lookup, remove_entry, set_value, keys_of, values_of}
+use Rattle.std.proofs.lemmas.Map.{NonePasses, lookup-none}
+use Rattle.std.proofs.lemmas.Option.{slice_get-map}
+use Rattle.hashlink_model.specs.Cursor.{following_place, preceding_place}
+use Rattle.hashlink_model.specs.MapState.{HasRoom}
+use Rattle.hashlink_model.specs.Entries.{IsEntries, place_of, moved_at, place_left}
 use Rattle.hashlink_nodes.specs.declared.node.Node.{Node}
 use Rattle.hashlink_nodes.specs.declared.held.Held.{Held}
-use Rattle.hashlink_nodes.specs.Node.{same_node}
-use Rattle.hashlink_nodes.specs.Ring.{Holds, Ring, held, pair_of, with_value, with_number, MovesBefore}
-use Rattle.hashlink_table.specs.Contents.{Contents}
-use Rattle.hashlink_core.specs.Keyed.{Keyed, keyed, nodes_of, pairs_in, entries_of, state_of, HoldsKey}
+use Rattle.hashlink_nodes.specs.Node.{same_node, same_node_equiv}
+use Rattle.hashlink_nodes.specs.Ring.{Holds, IsPlace, next_place, prev_place, Ring, held, pair_of, with_value}
+use Rattle.hashlink_nodes.specs.Ring.{with_key, with_number, MovesBefore, MovesAfter, put_before}
+use Rattle.hashlink_nodes.specs.NodesLends.{with_value_at as ring_with_value_at}
+use Rattle.hashlink_table.specs.Contents.{Contents, len_of}
+use Rattle.hashlink_core.specs.Keyed.{Keyed, nodes_of, pairs_in, entries_of, state_of, keyed, seen_as}
+use Rattle.hashlink_core.specs.Keyed.{pair_with_value, pair_with_key, IsKeyed, HoldsKey}
+use Rattle.hashlink_core.specs.KeyedLends.{with_value_at}
+use Rattle.hashlink_core.specs.Places.{place_number, IsPlaceAt, renewed_at}
+use Rattle.hashlink_core.specs.Steps.{AddsNode, RemovesNode, MovesNode, WritesNode, SetsNodeKey, GrowsRoom}
 use Rattle.hashlink_core.specs.Tied.{IsInStep}
-use Rattle.hashlink_core.proofs.Finding.{ring-standing, ring-apart}
-use Rattle.hashlink_core.proofs.Standing.{IsStanding, standing-holds, standing-lookup, standing-stored, standing-value, standing-without, put-holds, put-last}
-use Rattle.hashlink_core.proofs.Stepping.{step-put, step-taken, step-added, new-last, new-length}
+use Rattle.hashlink_core.proofs.Edits.{insert-map, remove-map, length-inserted, length-removed, remove_entry-at}
+use Rattle.hashlink_core.proofs.Edits.{moved_at-is, none-inserted, none_from_place, passes-at}
+use Rattle.hashlink_core.proofs.Mapped.{length-mapped, remove_entry-mapped, keys-mapped, lookup-mapped, holds-mapped}
+use Rattle.hashlink_core.proofs.Mapped.{place_number-mapped, renewed-mapped, moved-map, values-renewed_value}
+use Rattle.hashlink_core.proofs.Mapped.{values-renewed_key}
+use Rattle.hashlink_core.proofs.Neighbours.{distinct-left, next-number, prev-number}
+use Rattle.hashlink_core.proofs.Places.{IsNodeAt, node-at, put_before-at, set_value-at, renewed_at-is}
+use Rattle.hashlink_core.proofs.Places.{moves_before-at, moves_after-at, renumbered-at, place_number-most}
+use Rattle.hashlink_core.proofs.Stepping.{pair-at, length-pairs, step-in, step-out, step-renewed}
 use Rattle.hashlink_core.proofs.Stores.{stores-exactly}
-use Rattle.hashlink_core.proofs.Walk.{distinct-left, length-nodes_of, length-pairs_in}
 
--- a list with the ring r and the table t inside it, which is seen as `seen`
-module _ {K V S : Type 0} {eq : K → K → Bool} (laws : IsEquivalence eq) {hash : K → ℕ} {hasher : S} {r : Ring K V} {t : Contents Node} {seen : Keyed K V S}
-    (view : keyed (nodes_of r.entries) (length r.free) t.room r.link_writes hasher ≡ seen) (step : IsInStep eq hash r t) where
-  -- ---- at the node of a key
-  module _ {k : K} {n : Node} (found : HoldsKey eq seen.nodes k n) where
-    stands : IsStanding eq r.entries k n
-    stands = ring-standing eq laws r.entries seen.nodes (ap (λ m. m.nodes) view) k n step.distinct found
+or-some : {X Y : Type 0} (f : X → Y) (d : Y) (o : Option X) → IfSome o (λ x. option_map_or f o d ≡ f x)
+or-some f d None = tt
+or-some f d (Some x) = refl
 
-    pub found-holds : Holds r.entries n
-    found-holds = standing-holds eq laws r.entries k n stands
+abbrev with_nodes : {K V S : Type 0} → List (Node × (K × V)) → Keyed K V S → Keyed K V S
+with_nodes ns m = record m { nodes = ns }
 
-    -- the pair that is stored under the key is the node's
-    pub found-stored : option_map pair_of (lookup (same_node n) r.entries) ≡ lookup_entry (eq k) (entries_of seen)
-    found-stored =
-        ap (option_map pair_of) (standing-lookup eq laws r.entries k n stands) ∙ sym (standing-stored eq laws r.entries k n stands) ∙ ap (λ m. lookup_entry (eq k) (entries_of m)) view
+-- ---- the step of a map that an edit of the nodes is
+module _ {K V S : Type 0} (old new : Keyed K V S) (room : new.room ≡ old.room) (hasher : new.hasher ≡ old.hasher) where
+  removes-node : (j : ℕ) (e : Node × (K × V)) → slice_get old.nodes j ≡ Some e → new.nodes ≡ remove old.nodes j
+      → new.spare ≡ old.spare + 1 → new.link_writes ≡ old.link_writes + 3 → RemovesNode old new j
+  removes-node j e at nodes more stored = record {
+    nodes = nodes;
+    state = record {
+      entries = ap values_of nodes ∙ remove-map (λ e. e.1) old.nodes j;
+      fewer = length-removed (entries_of old) j e.1 (slice_get-map (λ e. e.1) old.nodes j
+          ∙ ap (option_map (λ e. e.1)) at);
+      spare = more;
+      room = room;
+      link_writes = stores-exactly 3 old.link_writes new.link_writes stored;
+      hasher = hasher;
+    };
+  }
 
-    -- the node's entry got a new value
-    pub renewed-holds : (v : V) (with : List (Node × Held K V)) → IfSome (lookup (same_node n) r.entries) (λ h. with ≡ set_value (same_node n) r.entries (with_value h v)) → Holds with n
-    renewed-holds v with valued = put-holds eq laws r.entries k n stands v with [] valued
+  moves-node : (j b : ℕ) → new.nodes ≡ moved_at old.nodes j b → new.spare ≡ old.spare
+      → new.link_writes ≡ old.link_writes + 6 → MovesNode old new j b
+  moves-node j b nodes same stored = record {
+    nodes = nodes;
+    state = record {
+      entries = ap values_of nodes ∙ moved-map (λ e. e.1) old.nodes j b;
+      spare = same;
+      room = room;
+      link_writes = stores-exactly 6 old.link_writes new.link_writes stored;
+      hasher = hasher;
+    };
+  }
 
-    module _ (apart : IsDistinct same_node (keys_of seen.nodes)) where
-      inner-apart : IsDistinct same_node (keys_of r.entries)
-      inner-apart = ring-apart eq laws r.entries seen.nodes (ap (λ m. m.nodes) view) apart
+  writes-node : (j : ℕ) (v : V) → new.nodes ≡ renewed_at (pair_with_value v) old.nodes j → new.spare ≡ old.spare
+      → new.link_writes ≡ old.link_writes → WritesNode old new j v
+  writes-node j v nodes same stored = record {
+    nodes = nodes;
+    state = record {
+      entries = ap values_of nodes ∙ values-renewed_value old.nodes j v;
+      spare = same;
+      room = room;
+      link_writes = stores-exactly 0 old.link_writes new.link_writes (omega (arith, stored));
+      hasher = hasher;
+    };
+  }
 
-      -- and then moved last
-      module _ (v : V) (with : List (Node × Held K V)) (left : Ring K V) (valued : IfSome (lookup (same_node n) r.entries) (λ h. with ≡ set_value (same_node n) r.entries (with_value h v)))
-          (moved : MovesBefore with n None left.entries) (free : left.free ≡ r.free) where
-        pub renewed-step : IsInStep eq hash left t
-        renewed-step = step-put eq laws hash r t k n stands inner-apart step v with left valued moved free
+  sets-key : (j : ℕ) (k : K) → new.nodes ≡ renewed_at (pair_with_key k) old.nodes j → new.spare ≡ old.spare
+      → new.link_writes ≡ old.link_writes → SetsNodeKey old new j k
+  sets-key j k nodes same stored = record {
+    nodes = nodes;
+    state = record {
+      entries = ap values_of nodes ∙ values-renewed_key old.nodes j k;
+      spare = same;
+      room = room;
+      link_writes = stores-exactly 0 old.link_writes new.link_writes (omega (arith, stored));
+      hasher = hasher;
+    };
+  }
 
-        pub renewed-puts : {w : V} → option_map (λ h. h.value) (lookup (same_node n) r.entries) ≡ Some w → left.link_writes ≡ r.link_writes + 6
-            → PutsEntry eq (state_of seen) (map_state (pairs_in left.entries) (length left.free) t.room left.link_writes hasher) k v (length (entries_of seen)) w
-        renewed-puts {w} old stored =
-            let new : MapState K V S = map_state (pairs_in left.entries) (length left.free) t.room left.link_writes hasher in
-            let was : Some stands.held.value ≡ Some w = sym (ap (option_map (λ h. h.value)) (standing-lookup eq laws r.entries k n stands)) ∙ old in
-            subst (λ m. PutsEntry eq (state_of m) new k v (length (entries_of m)) w) view
-            (record {
-              old_value = standing-value eq laws r.entries k n stands ∙ was;
-              entries = put-last eq laws r.entries k n stands v with left.entries valued moved;
-              spare = ap length free;
-              room = refl;
-              link_writes = stores-exactly 6 r.link_writes left.link_writes stored;
-              hasher = refl;
-            })
+-- ---- with the ring r and the table t inside, the list is seen as `seen`
+module _ {K V S : Type 0} {eq : K → K → Bool} (laws : IsEquivalence eq) {hash : K → ℕ} {s : S} {r : Ring K V}
+    {t : Contents Node} {seen : Keyed K V S} (view : seen_as r t s ≡ seen) (step : IsInStep eq hash r t) where
+  seen-fits : (r' : Ring K V) (t' : Contents Node) → IsInStep eq hash r' t' → HasRoom (state_of (seen_as r' t' s))
+  seen-fits r' t' step' = omega (arith, step'.fits, length-pairs r'.entries)
 
-      -- the node left the table, and then the ring
-      module _ (left : Ring K V) {u : Contents Node} {number : ℕ} (numbered : option_map (λ h. h.number) (lookup (same_node n) r.entries) ≡ Some number) (untied : u ≡ record t { nodes = remove t.nodes number })
-          (removed : left.entries ≡ remove_entry (same_node n) r.entries) (freed : left.free ≡ n ∷ r.free) where
-        pub taken-step : IsInStep eq hash left u
-        taken-step = subst (IsInStep eq hash left) (sym untied) (step-taken eq laws hash r t k n stands inner-apart step left number numbered removed freed)
+  pub sound : IsKeyed eq seen
+  sound = subst (IsKeyed eq) view (record {
+    distinct = step.distinct;
+    apart = subst (IsDistinct same_node) (sym (keys-mapped pair_of r.entries)) step.apart;
+    fits = seen-fits r t step;
+  })
 
-        pub taken-removes : left.link_writes ≡ r.link_writes + 3
-            → Removes (state_of seen) (map_state (pairs_in left.entries) (length left.free) u.room left.link_writes hasher) (without eq (entries_of seen) k)
-        taken-removes stored =
-            let new : MapState K V S = map_state (pairs_in left.entries) (length left.free) u.room left.link_writes hasher in
-            subst (λ m. Removes (state_of m) new (without eq (entries_of m) k)) view
-            (record {
-              entries = ap pairs_in removed ∙ standing-without eq laws r.entries k n stands;
-              spare = omega (arith, ap length freed);
-              room = ap (λ c. c.room) untied;
-              link_writes = stores-exactly 3 r.link_writes left.link_writes stored;
-              hasher = refl;
-            })
+  pub number-inside : (p : Option Node) → place_number seen.nodes p ≡ place_number r.entries p
+  number-inside p = ap (λ m. place_number m.nodes p) (sym view) ∙ place_number-mapped pair_of r.entries p
 
-  -- ---- a new node for an absent key
-  -- before room was made for it the list was `old`
-  module _ (old : Keyed K V S) (k : K) (v : V) (n : Node) (cell asked : ℕ) {u : Contents Node} (nodes : seen.nodes ≡ old.nodes) (absent : lookup (eq k) (entries_of old) ≡ None) (ready : length seen.nodes + 1 ≤ seen.room)
-      (r1 r2 : Ring K V) (grown : r1.entries ≡ r.entries ++ (n, held 0 k v) ∷ []) (apart : IsDistinct same_node (keys_of r1.entries ++ r1.free))
-      (numbered : IfSome (lookup (same_node n) r1.entries) (λ h. r2.entries ≡ set_value (same_node n) r1.entries (with_number h cell))) (freed : r2.free ≡ drop 1 r.free)
-      (was_free : get t.nodes cell ≡ None) (tied : u ≡ record t { nodes = insert t.nodes cell (record { hash = asked; node = n }) }) where
-    inside : pairs_in r.entries ≡ entries_of old
-    inside = ap entries_of view ∙ ap values_of nodes
+  pub place-inside : (p : Option Node) → IsPlace seen.nodes p → IsPlace r.entries p
+  place-inside None within = tt
+  place-inside (Some m) within = holds-mapped pair_of r.entries m (subst (λ m'. Holds m'.nodes m) (sym view) within)
 
-    none-inside : lookup (eq k) (pairs_in r.entries) ≡ None
-    none-inside = ap (lookup (eq k)) inside ∙ absent
+  -- a place of the list without the node
+  pub rest-inside : (n : Node) (p : Option Node) → IsPlace (remove_entry (same_node n) seen.nodes) p
+      → IsPlace (remove_entry (same_node n) r.entries) p
+  rest-inside n None within = tt
+  rest-inside n (Some m) within =
+      holds-mapped pair_of (remove_entry (same_node n) r.entries) m
+      (subst (λ ns. Holds ns m) (sym (remove_entry-mapped pair_of (same_node n) r.entries))
+      (subst (λ l. Holds (remove_entry (same_node n) l.nodes) m) (sym view) within))
 
-    r1-apart : IsDistinct same_node (keys_of r1.entries)
-    r1-apart = distinct-left (keys_of r1.entries) r1.free apart
+  pub apart-seen : IsEntries same_node seen.nodes
+  apart-seen = sound.apart
 
-    room-inside : length r.entries + 1 ≤ t.room
-    room-inside = omega (arith, ready, length-nodes_of r.entries, ap (λ m. length m.nodes) view, ap (λ m. m.room) view)
+  -- the nodes, as the ring has them
+  pub keys-inside : keys_of seen.nodes ≡ keys_of r.entries
+  keys-inside = ap (λ m. keys_of m.nodes) (sym view) ∙ keys-mapped pair_of r.entries
 
-    pub added-step : hash k ≡ asked → IsInStep eq hash r2 u
+  -- the place that the ring answers
+  pub next-inside : (p q : Option Node) → IsPlace seen.nodes p → q ≡ next_place (keys_of r.entries) p
+      → IsPlaceAt seen.nodes q (following_place (length seen.nodes) (place_number seen.nodes p))
+  next-inside p q within is =
+      subst (λ o. IsPlaceAt seen.nodes o (following_place (length seen.nodes) (place_number seen.nodes p)))
+      (sym (is ∙ ap (λ ns. next_place ns p) (sym keys-inside))) (next-number seen.nodes apart-seen p within)
+
+  pub prev-inside : (p q : Option Node) → IsPlace seen.nodes p → q ≡ prev_place (keys_of r.entries) p
+      → IsPlaceAt seen.nodes q (preceding_place (length seen.nodes) (place_number seen.nodes p))
+  prev-inside p q within is =
+      subst (λ o. IsPlaceAt seen.nodes o (preceding_place (length seen.nodes) (place_number seen.nodes p)))
+      (sym (is ∙ ap (λ ns. prev_place ns p) (sym keys-inside))) (prev-number seen.nodes apart-seen p within)
+
+  module _ (n : Node) (within : Holds seen.nodes n) where
+    pub held-inside : Holds r.entries n
+    held-inside = holds-mapped pair_of r.entries n (subst (λ m. Holds m.nodes n) (sym view) within)
+
+    -- what the node holds, and where it stands
+    at : (h : Held K V) × IsNodeAt r.entries n h
+    at = node-at r.entries n held-inside
+
+    pub stored : slice_get (entries_of seen) (place_number seen.nodes (Some n))
+        ≡ option_map pair_of (lookup (same_node n) r.entries)
+    stored =
+        subst (λ m. slice_get (entries_of m) (place_number m.nodes (Some n))
+        ≡ option_map pair_of (lookup (same_node n) r.entries)) view
+        (ap (slice_get (pairs_in r.entries)) (place_number-mapped pair_of r.entries (Some n))
+        ∙ pair-at r.entries (place_number r.entries (Some n)) n at.0 at.1.at
+        ∙ sym (ap (option_map pair_of) at.1.found))
+
+    -- a part of what it holds
+    pub part-stored : {Y : Type 0} (f : Held K V → Y) (g : K × V → Y) → ((h : Held K V) → f h ≡ g (pair_of h))
+        → (y : Y) → option_map f (lookup (same_node n) r.entries) ≡ Some y
+        → option_map g (slice_get (entries_of seen) (place_number seen.nodes (Some n))) ≡ Some y
+    part-stored f g same y is =
+        let held : f at.0 ≡ y = cc (sym (ap (option_map f) at.1.found) ∙ is) in
+        ap (option_map g) (stored ∙ ap (option_map pair_of) at.1.found) ∙ ap Some (sym (same at.0) ∙ held)
+
+    -- its key is equal to the one at whose place it stands
+    pub key-equal : (k : K) → HoldsKey eq seen.nodes k n → (h : Held K V) → lookup (same_node n) r.entries ≡ Some h
+        → eq k h.key ≡ true
+    key-equal k holds h is = passes-at (eq k) (entries_of seen) (place_number seen.nodes (Some n)) (pair_of h)
+        holds.place (stored ∙ ap (option_map pair_of) is)
+
+    -- ---- the node left the table, and then the ring
+    module _ (s' : Ring K V) (u : Contents Node) (number : ℕ)
+        (numbered : option_map (λ h. h.number) (lookup (same_node n) r.entries) ≡ Some number)
+        (untied : u ≡ record t { nodes = take_out t.nodes number })
+        (removed : s'.entries ≡ remove_entry (same_node n) r.entries) (freed : s'.free ≡ n ∷ r.free) where
+      pub removed-step : IsInStep eq hash s' u
+      removed-step =
+          let same : at.0.number ≡ number = cc (sym (ap (option_map (λ h. h.number)) at.1.found) ∙ numbered) in
+          let more : length s'.free ≡ length r.free + 1 = omega (arith, ap length freed) in
+          subst (IsInStep eq hash s') (ap (λ i. record t { nodes = take_out t.nodes i }) same ∙ sym untied)
+          (step-out laws r s' t n at.0 step (place_number r.entries (Some n)) at.1.at (removed
+          ∙ remove_entry-at same_node r.entries n) more)
+
+      pub removed-node : s'.link_writes ≡ r.link_writes + 3
+          → RemovesNode seen (seen_as s' u s) (place_number seen.nodes (Some n))
+      removed-node stored =
+          let new = seen_as s' u s in
+          let e = node-at (nodes_of r.entries) n (subst (λ m. Holds m.nodes n) (sym view) within) in
+          let left : nodes_of s'.entries ≡ remove (nodes_of r.entries) (place_number (nodes_of r.entries) (Some n)) =
+          ap nodes_of (removed ∙ remove_entry-at same_node r.entries n)
+          ∙ remove-map (λ (e : Node × Held K V). (e.0, pair_of e.1)) r.entries (place_number r.entries (Some n))
+          ∙ ap (remove (nodes_of r.entries)) (sym (place_number-mapped pair_of r.entries (Some n))) in
+          let more : length s'.free ≡ length r.free + 1 = omega (arith, ap length freed) in
+          subst (λ m. RemovesNode m new (place_number m.nodes (Some n))) view
+          (removes-node (seen_as r t s) new (ap (λ c. c.room) untied) refl
+          (place_number (nodes_of r.entries) (Some n)) (n, e.0) e.1.at left more stored)
+
+    -- ---- the node moved right before, or right after, another place
+    module _ (p : Option Node) (place : IsPlace (remove_entry (same_node n) seen.nodes) p)
+        (es : List (Node × Held K V)) where
+      pub to-before : MovesBefore r.entries n p es
+          → es ≡ moved_at r.entries (place_number r.entries (Some n)) (place_number seen.nodes p)
+      to-before m =
+          moves_before-at r.entries n p step.apart held-inside (rest-inside n p place) es m
+          ∙ ap (moved_at r.entries (place_number r.entries (Some n))) (sym (number-inside p))
+
+      pub to-after : MovesAfter r.entries n p es
+          → es ≡ moved_at r.entries (place_number r.entries (Some n))
+          (following_place (length seen.nodes) (place_number seen.nodes p))
+      to-after m =
+          moves_after-at r.entries n p step.apart held-inside (rest-inside n p place) es m
+          ∙ ap (λ b. moved_at r.entries (place_number r.entries (Some n)) (following_place (length r.entries) b))
+          (sym (number-inside p))
+          ∙ ap (λ c. moved_at r.entries (place_number r.entries (Some n))
+          (following_place c (place_number seen.nodes p))) (sym (number-inside None))
+
+    -- to the place b
+    module _ (s' : Ring K V) (b : ℕ) (moved : s'.entries ≡ moved_at r.entries (place_number r.entries (Some n)) b)
+        (free : s'.free ≡ r.free) where
+      pub moved-step : IsInStep eq hash s' t
+      moved-step = step-renewed laws r s' t n at.0 step (place_number r.entries (Some n)) at.1.at
+          (place_left (place_number r.entries (Some n)) b) at.0
+          (moved ∙ moved_at-is r.entries (place_number r.entries (Some n)) b (n, at.0) at.1.at) refl
+          (laws.refl at.0.key) refl (ap length free)
+
+      pub moved-node : s'.link_writes ≡ r.link_writes + 6
+          → MovesNode seen (seen_as s' t s) (place_number seen.nodes (Some n)) b
+      moved-node stored =
+          let new = seen_as s' t s in
+          let there : nodes_of s'.entries
+          ≡ moved_at (nodes_of r.entries) (place_number (nodes_of r.entries) (Some n)) b =
+          ap nodes_of moved ∙ moved-map (λ (e : Node × Held K V). (e.0, pair_of e.1)) r.entries
+          (place_number r.entries (Some n)) b
+          ∙ ap (λ i. moved_at (nodes_of r.entries) i b) (sym (place_number-mapped pair_of r.entries (Some n))) in
+          subst (λ m. MovesNode m new (place_number m.nodes (Some n)) b) view
+          (moves-node (seen_as r t s) new refl refl (place_number (nodes_of r.entries) (Some n)) b there
+          (ap length free) stored)
+
+    -- ---- its entry was changed where it stands
+    module _ (s' : Ring K V) (f : Held K V
+        → Held K V) (set : IfSome (lookup (same_node n) r.entries)
+        (λ h. s'.entries ≡ set_value (same_node n) r.entries (f h))) (free : s'.free ≡ r.free) where
+      renewed : s'.entries ≡ renewed_at f r.entries (place_number r.entries (Some n))
+      renewed = subst (λ o. IfSome o (λ h. s'.entries ≡ set_value (same_node n) r.entries (f h))) at.1.found set
+          ∙ set_value-at f r.entries n at.0 at.1.found
+
+      pub renewed-step : ((h : Held K V) → (f h).number ≡ h.number)
+          → ((h : Held K V) → lookup (same_node n) r.entries ≡ Some h → (eq h.key (f h).key ≡ true)
+          × (hash (f h).key ≡ hash h.key)) → IsInStep eq hash s' t
+      renewed-step number key =
+          step-renewed laws r s' t n at.0 step (place_number r.entries (Some n)) at.1.at
+          (place_number r.entries (Some n)) (f at.0)
+          (renewed ∙ renewed_at-is f r.entries (place_number r.entries (Some n)) (n, at.0) at.1.at) (number at.0)
+          (key at.0 at.1.found).0 (key at.0 at.1.found).1 (ap length free)
+
+      pub renewed-nodes : (g : K × V → K × V) → ((h : Held K V) → pair_of (f h) ≡ g (pair_of h))
+          → nodes_of s'.entries ≡ renewed_at g seen.nodes (place_number seen.nodes (Some n))
+      renewed-nodes g same =
+          subst (λ m. nodes_of s'.entries ≡ renewed_at g m.nodes (place_number m.nodes (Some n))) view
+          (ap nodes_of renewed ∙ renewed-mapped pair_of f g same r.entries (place_number r.entries (Some n))
+          ∙ ap (renewed_at g (nodes_of r.entries)) (sym (place_number-mapped pair_of r.entries (Some n))))
+
+      module _ (stored : s'.link_writes ≡ r.link_writes) where
+        pub written-node : (v : V) → ((h : Held K V) → pair_of (f h) ≡ pair_with_value v (pair_of h))
+            → WritesNode seen (seen_as s' t s) (place_number seen.nodes (Some n)) v
+        written-node v same =
+            writes-node seen (seen_as s' t s) (ap (λ m. m.room) view) (ap (λ m. m.hasher) view)
+            (place_number seen.nodes (Some n)) v (renewed-nodes (pair_with_value v) same)
+            (ap length free ∙ ap (λ m. m.spare) view) (stored ∙ ap (λ m. m.link_writes) view)
+
+        pub key-node : (k : K) → ((h : Held K V) → pair_of (f h) ≡ pair_with_key k (pair_of h))
+            → SetsNodeKey seen (seen_as s' t s) (place_number seen.nodes (Some n)) k
+        key-node k same =
+            sets-key seen (seen_as s' t s) (ap (λ m. m.room) view) (ap (λ m. m.hasher) view)
+            (place_number seen.nodes (Some n)) k (renewed-nodes (pair_with_key k) same)
+            (ap length free ∙ ap (λ m. m.spare) view) (stored ∙ ap (λ m. m.link_writes) view)
+
+    -- ---- its key became an equal one
+    pub rekeyed-step : (s' : Ring K V) (k : K) → HoldsKey eq seen.nodes k n
+        → ((x : K) → eq k x ≡ true → hash x ≡ hash k)
+        → IfSome (lookup (same_node n) r.entries)
+        (λ h. s'.entries ≡ set_value (same_node n) r.entries (with_key h k)) → s'.free ≡ r.free
+        → IsInStep eq hash s' t
+    rekeyed-step s' k holds alike set free = renewed-step s' (λ h. with_key h k) set free (λ h. refl)
+        (λ h is. let e : eq k h.key ≡ true = key-equal k holds h is in (laws.symm h.key k ∙ e, sym (alike h.key e)))
+
+    -- ---- its value was lent, and w written there
+    module _ (w : V) where
+      lent-set : IfSome (lookup (same_node n) r.entries) (λ h. (ring_with_value_at r n w).entries
+          ≡ set_value (same_node n) r.entries (with_value h w))
+      lent-set = or-some (λ (h : Held K V). set_value (same_node n) r.entries (with_value h w)) r.entries
+          (lookup (same_node n) r.entries)
+
+      pub lent-step : IsInStep eq hash (ring_with_value_at r n w) t
+      lent-step = renewed-step (ring_with_value_at r n w) (λ h. with_value h w) lent-set refl (λ h. refl)
+          (λ h is. (laws.refl h.key, refl))
+
+      pub lent-value : seen_as (ring_with_value_at r n w) t s ≡ with_value_at seen n w
+      lent-value = ap (λ ns. keyed ns (length r.free) t.room r.link_writes s)
+          (renewed-nodes (ring_with_value_at r n w) (λ h. with_value h w) lent-set refl (pair_with_value w)
+          (λ h. refl))
+          ∙ ap (with_nodes (renewed_at (pair_with_value w) seen.nodes (place_number seen.nodes (Some n)))) view
+
+  -- ---- a new node n for the absent key k went in right before the place p; before room was made for it the list
+  -- was `old`
+  module _ (old : Keyed K V S) (grown : GrowsRoom old seen) (k : K) (v : V)
+      (absent : place_of (eq k) (entries_of old) ≡ None) (ready : length old.nodes + 1 ≤ seen.room)
+      (p : Option Node) (n : Node) (cell asked : ℕ) (r1 r2 : Ring K V) (u : Contents Node)
+      (put : r1.entries ≡ put_before p (n, held 0 k v) r.entries)
+      (apart : IsDistinct same_node (keys_of r1.entries ++ r1.free))
+      (numbered : IfSome (lookup (same_node n) r1.entries)
+      (λ h. r2.entries ≡ set_value (same_node n) r1.entries (with_number h cell))) (freed : r2.free ≡ drop 1 r.free)
+      (vacant : get t.nodes cell ≡ None)
+      (tied : u ≡ record t { nodes = put_in t.nodes cell (record { hash = asked; node = n }) }) where
+    put-at : r1.entries ≡ insert r.entries (place_number r.entries p) (n, held 0 k v)
+    put-at = put ∙ put_before-at r.entries p (n, held 0 k v)
+
+    still-apart : IsEntries same_node r1.entries
+    still-apart = distinct-left (keys_of r1.entries) r1.free apart
+
+    numbered-at : r2.entries ≡ insert r.entries (place_number r.entries p) (n, held cell k v)
+    numbered-at = renumbered-at (λ h. with_number h cell) r.entries r1.entries r2.entries (place_number r.entries p)
+        n (held 0 k v) (place_number-most r.entries p) put-at still-apart numbered
+
+    same-nodes : nodes_of r.entries ≡ old.nodes
+    same-nodes = ap (λ m. m.nodes) (view ∙ grown.rest)
+
+    fresh-inside : NonePasses (same_node n) r.entries
+    fresh-inside = none-inserted same_node same_node_equiv r1.entries still-apart r.entries
+        (place_number r.entries p) (n, held 0 k v) put-at
+
+    fewer-free : length r2.free ≡ length r.free - 1
+    fewer-free = ap length freed ∙ length-drop 1 r.free
+
+    pub added-step : asked ≡ hash k → IsInStep eq hash r2 u
     added-step is =
-        subst (IsInStep eq hash r2) (sym tied)
-        (subst (λ h. IsInStep eq hash r2 (record t { nodes = insert t.nodes cell (record { hash = h; node = n }) })) is
-        (step-added eq laws hash r r1 r2 t k v n cell none-inside grown r1-apart numbered step was_free room-inside freed))
+        let none : NonePasses (eq k) (pairs_in r.entries) =
+        none_from_place (eq k) (pairs_in r.entries) (ap (λ ns. place_of (eq k) (values_of ns)) same-nodes
+        ∙ absent) in
+        let room : length r.entries + 1 ≤ t.room =
+        omega (arith, ready, length-mapped pair_of r.entries, ap length same-nodes, ap (λ m. m.room) view) in
+        subst (IsInStep eq hash r2)
+        (ap (λ a. record t { nodes = put_in t.nodes cell (record { hash = a; node = n }) }) (sym is) ∙ sym tied)
+        (step-in laws r r2 t n (held cell k v) step (place_number r.entries p) none fresh-inside numbered-at vacant
+        room fewer-free)
 
-    pub added-adds : seen.spare ≡ old.spare → old.room ≤ seen.room → seen.link_writes ≡ old.link_writes → seen.hasher ≡ old.hasher → r2.link_writes ≡ r.link_writes + 4
-        → AddsEntry eq (state_of old) (map_state (pairs_in r2.entries) (length r2.free) u.room r2.link_writes hasher) k v (length (entries_of old))
-    added-adds spare more writes same_hasher stored =
-        let kept_room : u.room ≡ t.room = ap (λ c. c.room) tied in
-        let fewer : length r2.free ≡ length r.free - 1 = ap length freed ∙ length-drop 1 r.free in
-        let last : pairs_in r2.entries ≡ put eq (pairs_in r.entries) k v (length (pairs_in r.entries)) = new-last eq laws hash r r1 r2 t k v n cell none-inside grown r1-apart numbered in
-        let long : length r2.entries ≡ length r.entries + 1 = new-length eq laws hash r r1 r2 t k v n cell none-inside grown r1-apart numbered in
+    pub added-node : IsInStep eq hash r2 u → r2.link_writes ≡ r.link_writes + 4
+        → AddsNode old (seen_as r2 u s) (place_number old.nodes p) n k v
+    added-node after stored =
+        let before : seen_as r t s ≡ record old { room = seen.room } = view ∙ grown.rest in
+        let gone_in : nodes_of r2.entries ≡ insert old.nodes (place_number old.nodes p) (n, (k, v)) =
+        ap nodes_of numbered-at ∙ insert-map (λ (e : Node × Held K V). (e.0, pair_of e.1)) r.entries
+        (place_number r.entries p) (n, held cell k v)
+        ∙ ap (λ i. insert (nodes_of r.entries) i (n, (k, v))) (sym (place_number-mapped pair_of r.entries p))
+        ∙ ap (λ ns. insert ns (place_number ns p) (n, (k, v))) same-nodes in
+        let entries : pairs_in r2.entries ≡ insert (entries_of old) (place_number old.nodes p) (k, v) =
+        ap values_of gone_in ∙ insert-map (λ (e : Node × (K × V)). e.1) old.nodes (place_number old.nodes p)
+        (n, (k, v)) in
+        let room : u.room ≡ seen.room = ap (λ c. c.room) tied ∙ ap (λ m. m.room) view in
         record {
-          absent = absent;
-          entries = last ∙ ap (λ ps. put eq ps k v (length ps)) inside;
-          spare = fewer ∙ ap (λ i. i - 1) (ap (λ m. m.spare) view ∙ spare);
-          room = omega (arith, more, kept_room, ap (λ m. m.room) view);
-          fits = omega (arith, step.fits, room-inside, long, length-pairs_in r2.entries, fewer, kept_room);
-          link_writes = stores-exactly 4 old.link_writes r2.link_writes (stored ∙ ap (λ w. w + 4) (ap (λ m. m.link_writes) view ∙ writes));
-          hasher = ap (λ m. m.hasher) view ∙ same_hasher;
+          fresh = ap (λ ns. lookup (same_node n) ns) (sym same-nodes)
+              ∙ lookup-mapped pair_of (same_node n) r.entries
+              ∙ ap (option_map pair_of) (lookup-none (same_node n) r.entries fresh-inside);
+          nodes = gone_in;
+          state = record {
+            entries = entries;
+            more = length-inserted (entries_of old) (place_number old.nodes p) (k, v);
+            spare = fewer-free ∙ ap (λ i. i - 1) (ap (λ m. m.spare) before);
+            room = omega (arith, grown.more, room);
+            fits = seen-fits r2 u after;
+            link_writes = stores-exactly 4 old.link_writes r2.link_writes (stored
+                ∙ ap (λ w. w + 4) (ap (λ m. m.link_writes) before));
+            hasher = ap (λ m. m.hasher) before;
+          };
         }
+
+-- a table that shrank to its nodes, or was refused that
+pub shrunk-table : {E : Type 0} (t u : Contents Node) (o : Result (Unit {0}) E) → len_of t ≤ t.room
+    → OnOk o (u ≡ record t { room = len_of t }) → OnErr o (u ≡ t) → (u.nodes ≡ t.nodes) × (len_of t ≤ u.room)
+shrunk-table t u (Ok x) fits ok err = (ap (λ c. c.nodes) ok, omega (arith, ap (λ c. c.room) ok))
+shrunk-table t u (Err e) fits ok err = (ap (λ c. c.nodes) err, omega (arith, fits, ap (λ c. c.room) err))

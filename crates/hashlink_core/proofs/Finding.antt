@@ -1,48 +1,74 @@
--- Finding a key's node by the table.
-use Rattle.std.proofs.Common.{◌≡◌, ℕ, Bool, true, false, List, Option, None, Some, ap, sym, subst, ◌∙◌}
+-- Finding a key's node by the table, and telling two nodes apart.
+use Rattle.std.proofs.Common.{◌≡◌, ℕ, Bool, true, false, Option, None, Some, ap, sym, subst, ◌∙◌}
 use Rattle.std.specs.Option.{option_map, is_some, IfSome, IfNone, MatchOption}
-use Rattle.std.specs.List.{IsDistinct}
-use Rattle.std.specs.Map.{lookup, keys_of}
-use Rattle.std.proofs.lemmas.Map.{lookup-none}
+use Rattle.std.specs.Cmp.{IsEquivalence}
+use Rattle.std.specs.Map.{lookup}
+use Rattle.hashlink_model.specs.Entries.{place_of}
+use Rattle.hashlink_model.proofs.Places.{place_of_its_key}
+use Rattle.hashlink_model.proofs.Splits.{place_of-none}
 use Rattle.hashlink_nodes.specs.declared.node.Node.{Node}
-use Rattle.hashlink_nodes.specs.declared.held.Held.{Held}
 use Rattle.hashlink_nodes.specs.Node.{same_node}
-use Rattle.hashlink_nodes.specs.Ring.{pair_of, Holds}
+use Rattle.hashlink_nodes.specs.Ring.{Ring, pair_of, Holds}
 use Rattle.hashlink_table.specs.Contents.{Contents, Keeps}
 use Rattle.hashlink_core.specs.Keyed.{nodes_of, pairs_in, HoldsKey}
-use Rattle.hashlink_core.specs.Tied.{IsTied}
-use Rattle.hashlink_core.proofs.Tying.{untied-absent}
-use Rattle.hashlink_core.proofs.Walk.{lookup-nodes_of, keys-nodes_of}
-use Rattle.hashlink_core.proofs.Standing.{IsStanding, standing}
-use Rattle.hashlink_model.specs.Entries.{IsEntries}
-use Rattle.std.specs.Cmp.{IsEquivalence}
+use Rattle.hashlink_core.specs.Places.{place_number}
+use Rattle.hashlink_core.specs.Tied.{IsInStep}
+use Rattle.hashlink_core.proofs.Mapped.{lookup-mapped, place_number-mapped}
+use Rattle.hashlink_core.proofs.Places.{node-at}
+use Rattle.hashlink_core.proofs.Stepping.{pair-at}
+use Rattle.hashlink_core.proofs.Tying.{untied-absent, kept}
+use Rattle.std.specs.FinMap.{get}
+use Rattle.hashlink_table.specs.declared.kept.Kept.{Kept}
 
-module _ {K V : Type 0} (eq : K → K → Bool) (hash : K → ℕ) (es : List (Node × Held K V)) (t : Contents Node) (tied : IsTied hash es t) (k : K) where
+module _ {K V : Type 0} {eq : K → K → Bool} (laws : IsEquivalence eq) {hash : K
+    → ℕ} {r : Ring K V} {t : Contents Node} (step : IsInStep eq hash r t) where
   -- each node that the table has is of the ring
-  pub listed-holds : (cell found : ℕ) (n : Node) → Keeps t cell found n → Holds es n
-  listed-holds cell found n there = ap is_some (tied.listed cell found n there).here
+  pub listed-holds : (cell found : ℕ) (n : Node) → Keeps t cell found n → Holds r.entries n
+  listed-holds cell found n there = ap is_some (step.tied.listed cell found n there).here
 
-  pub found-by_table : IsDistinct same_node (keys_of es) → ((x : K) → eq k x ≡ true → hash x ≡ hash k) → (asked : ℕ) → asked ≡ hash k → (r : Option Node)
-      → IfSome r (λ n. (cell : ℕ) × Keeps t cell asked n × IfSome (lookup (same_node n) es) (λ h. true ≡ eq k h.key))
-      → IfNone r ((cell : ℕ) (n : Node) → Keeps t cell asked n → IfSome (lookup (same_node n) es) (λ h. false ≡ eq k h.key))
-      → MatchOption r (lookup (eq k) (pairs_in es) ≡ None) (HoldsKey eq (nodes_of es) k)
-  found-by_table d alike asked is None some none =
-      lookup-none (eq k) (pairs_in es) (untied-absent hash eq es t k d tied alike
+  pub found-by_table : (k : K) → ((x : K) → eq k x ≡ true → hash x ≡ hash k) → (asked : ℕ) → asked ≡ hash k
+      → (o : Option Node)
+      → IfSome o (λ n. (cell : ℕ) × Keeps t cell asked n
+      × IfSome (lookup (same_node n) r.entries) (λ h. true ≡ eq k h.key))
+      → IfNone o ((cell : ℕ) (n : Node) → Keeps t cell asked n
+      → IfSome (lookup (same_node n) r.entries) (λ h. false ≡ eq k h.key))
+      → MatchOption o (place_of (eq k) (pairs_in r.entries) ≡ None) (HoldsKey eq (nodes_of r.entries) k)
+  found-by_table k alike asked is None some none =
+      place_of-none (eq k) (pairs_in r.entries) (untied-absent hash eq r.entries t k step.apart step.tied alike
       (λ cell n there h here.
-      let unlike : IfSome (lookup (same_node n) es) (λ g. false ≡ eq k g.key) = none cell n (subst (λ a. Keeps t cell a n) (sym is) there) in
+      let unlike : IfSome (lookup (same_node n) r.entries) (λ g. false ≡ eq k g.key) =
+      none cell n (subst (λ a. Keeps t cell a n) (sym is) there) in
       sym (subst (λ o. IfSome o (λ g. false ≡ eq k g.key)) here unlike)))
-  found-by_table d alike asked is (Some n) some none =
-      let old = tied.listed some.0 asked n some.1 in
+  found-by_table k alike asked is (Some n) some none =
+      let old = step.tied.listed some.0 asked n some.1 in
+      let x = node-at r.entries n (ap is_some old.here) in
+      let equal : eq k x.0.key ≡ true = sym (subst (λ o. IfSome o (λ g. true ≡ eq k g.key)) x.1.found some.2) in
       record {
-        pair = pair_of old.held;
-        here = lookup-nodes_of (same_node n) es ∙ ap (option_map pair_of) old.here;
-        equal = sym (subst (λ o. IfSome o (λ g. true ≡ eq k g.key)) old.here some.2);
+        within = ap is_some (lookup-mapped pair_of (same_node n) r.entries ∙ ap (option_map pair_of) x.1.found);
+        place = place_of_its_key eq laws (pairs_in r.entries) (place_number r.entries (Some n)) (pair_of x.0) k
+            step.distinct (pair-at r.entries (place_number r.entries (Some n)) n x.0 x.1.at) equal
+            ∙ ap Some (sym (place_number-mapped pair_of r.entries (Some n)));
       }
 
--- ---- from what `find` says of the list to the ring inside it
-module _ {K V : Type 0} (eq : K → K → Bool) (laws : IsEquivalence eq) (es : List (Node × Held K V)) (seen : List (Node × (K × V))) (same : nodes_of es ≡ seen) where
-  pub ring-apart : IsDistinct same_node (keys_of seen) → IsDistinct same_node (keys_of es)
-  ring-apart d = subst (IsDistinct same_node) (keys-nodes_of es) (subst (λ ns. IsDistinct same_node (keys_of ns)) (sym same) d)
+  -- two nodes with one number are the same
+  pub same-number : (a b : Node) (i j : ℕ) → option_map (λ h. h.number) (lookup (same_node a) r.entries) ≡ Some i
+      → option_map (λ h. h.number) (lookup (same_node b) r.entries) ≡ Some j → Holds r.entries a → Holds r.entries b
+      → i ≡ j → a ≡ b
+  same-number a b i j at_a at_b held_a held_b same =
+      let x = node-at r.entries a held_a in
+      let y = node-at r.entries b held_b in
+      let number_a : x.0.number ≡ i = cc (sym (ap (option_map (λ h. h.number)) x.1.found) ∙ at_a) in
+      let number_b : y.0.number ≡ j = cc (sym (ap (option_map (λ h. h.number)) y.1.found) ∙ at_b) in
+      let kept_a = step.tied.kept a x.0 x.1.found in
+      let kept_b = step.tied.kept b y.0 y.1.found in
+      let one : Some (kept (hash x.0.key) a) ≡ Some (kept (hash y.0.key) b) = sym kept_a
+      ∙ ap (get t.nodes) (number_a ∙ same ∙ sym number_b) ∙ kept_b in
+      let whole : kept (hash x.0.key) a ≡ kept (hash y.0.key) b = cc one in
+      ap (λ (k : Kept Node). k.node) whole
 
-  pub ring-standing : (k : K) (n : Node) → IsEntries eq (pairs_in es) → HoldsKey eq seen k n → IsStanding eq es k n
-  ring-standing k n d at = standing eq laws es k n d (subst (λ ns. HoldsKey eq ns k n) (sym same) at)
+  pub number-of_same : (a b : Node) (i j : ℕ) → option_map (λ h. h.number) (lookup (same_node a) r.entries) ≡ Some i
+      → option_map (λ h. h.number) (lookup (same_node b) r.entries) ≡ Some j → a ≡ b → i ≡ j
+  number-of_same a b i j at_a at_b same =
+      let one : Some i ≡ Some j = sym at_a
+      ∙ ap (λ n. option_map (λ h. h.number) (lookup (same_node n) r.entries)) same ∙ at_b in
+      cc one

@@ -1,7 +1,11 @@
--- Lemmas on walks along a ring, on entries with their nodes, on the ring and the table in step, and on what each call leaves.
+-- Lemmas on lists by places, on the ring and the table in step, on what each call leaves, and on walks along a ring.
+pub mod Edits
 pub mod Calls
 pub mod Finding
-pub mod Standing
+pub mod Holding
+pub mod Mapped
+pub mod Neighbours
+pub mod Places
 pub mod Stepping
 pub mod Stores
 pub mod Tying

@@ -1,13 +1,17 @@
 -- What a contract sees of a keyed list: the entries in order, each with its node, and a map's numbers and hasher.
-use Rattle.std.specs.Prelude.{◌≡◌, ℕ, Bool, true, List, map, Some}
-use Rattle.std.specs.Map.{values_of, lookup}
-use Rattle.hashlink_model.specs.MapState.{MapState, map_state}
+use Rattle.std.specs.Prelude.{◌≡◌, ℕ, Bool, List, length, map, Some}
+use Rattle.std.specs.Map.{values_of}
+use Rattle.hashlink_model.specs.Entries.{IsEntries, place_of}
+use Rattle.hashlink_model.specs.MapState.{MapState, map_state, HasRoom}
 use Rattle.hashlink_nodes.specs.declared.node.Node.{Node}
 use Rattle.hashlink_nodes.specs.Node.{same_node}
 use Rattle.hashlink_nodes.specs.declared.held.Held.{Held}
-use Rattle.hashlink_nodes.specs.Ring.{pair_of}
+use Rattle.hashlink_nodes.specs.Ring.{Ring, Holds, pair_of}
+use Rattle.hashlink_table.specs.Contents.{Contents}
+use Rattle.hashlink_core.specs.Places.{place_number}
 
--- the pairs with their nodes, how many nodes are spare, for how many there is room, how many links were stored, and the hasher
+-- the pairs with their nodes, how many nodes are spare, for how many there is room, how many links were stored, and
+-- the hasher
 pub record Keyed (K V S : Type 0) : Type 0 where
   pub nodes : List (Node × (K × V))
   pub spare : ℕ
@@ -24,15 +28,25 @@ module _ {K V : Type 0} where
   abbrev pub pairs_in : List (Node × Held K V) → List (K × V)
   pairs_in es = values_of (nodes_of es)
 
-  -- the node holds a pair whose key is equal to k
+  -- the node is of the list, and stands at the place of the key
   pub record HoldsKey (eq : K → K → Bool) (nodes : List (Node × (K × V))) (k : K) (n : Node) : Type 0 where
-    pub pair : K × V
-    pub here : lookup (same_node n) nodes ≡ Some pair
-    pub equal : eq k pair.0 ≡ true
+    pub within : Holds nodes n
+    pub place : place_of (eq k) (values_of nodes) ≡ Some (place_number nodes (Some n))
+
+  -- a pair with another value, and with another key
+  abbrev pub pair_with_value : V → K × V → K × V
+  pair_with_value v p = (p.0, v)
+
+  abbrev pub pair_with_key : K → K × V → K × V
+  pair_with_key k p = (k, p.1)
 
 module _ {K V S : Type 0} where
   abbrev pub keyed : List (Node × (K × V)) → ℕ → ℕ → ℕ → S → Keyed K V S
   keyed ns n r w s = record { nodes = ns; spare = n; room = r; link_writes = w; hasher = s }
+
+  -- a ring of nodes, a table's contents and a hasher, as a keyed list
+  abbrev pub seen_as : Ring K V → Contents Node → S → Keyed K V S
+  seen_as r t s = keyed (nodes_of r.entries) (length r.free) t.room r.link_writes s
 
   -- the pairs, in order
   abbrev pub entries_of : Keyed K V S → List (K × V)
@@ -41,3 +55,9 @@ module _ {K V S : Type 0} where
   -- the same without the nodes
   abbrev pub state_of : Keyed K V S → MapState K V S
   state_of m = map_state (entries_of m) m.spare m.room m.link_writes m.hasher
+
+  -- what holds of every keyed list: no two keys are equal, no node stands twice, and there is room for each node
+  pub record IsKeyed (eq : K → K → Bool) (m : Keyed K V S) : Type 0 where
+    pub distinct : IsEntries eq (entries_of m)
+    pub apart : IsEntries same_node m.nodes
+    pub fits : HasRoom (state_of m)

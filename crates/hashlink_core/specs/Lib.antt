@@ -1,5 +1,8 @@
 -- What the contracts of the keyed list cite.
 pub mod Hashing
 pub mod Keyed
+pub mod KeyedLends
+pub mod Places
+pub mod Steps
 pub mod Tied
 pub mod Walk

@@ -8,5 +8,7 @@ mod keyed_list;
 
 pub use hash_builder::DefaultHashBuilder;
 pub use hasher::DefaultHasher;
+pub use hashlink_nodes::Node;
+pub use hashlink_table::TryReserveError;
 pub use iter::Iter;
 pub use keyed_list::KeyedList;

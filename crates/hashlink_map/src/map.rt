@@ -1,28 +1,35 @@
-//! The map. A clause sees it as its state: the entries, front first, and the numbers of spare nodes and of room.
-ghost use Rattle.std.specs.Prelude.{◌≡◌, ◌^◌, ◌<◌, ◌↔◌, length, IsTrue, OnSome, IfNone, option_copied};
-ghost use Rattle.std.specs.Map.{lookup};
-ghost use Rattle.hashlink_model.specs.Entries.{IsEntries, without};
-ghost use Rattle.hashlink_model.specs.MapState.{empty_map, Inserts, Removes};
-ghost use Rattle.hashlink_model.specs.Steps.{HasRoom};
+//! The map. A clause sees it as its state: the entries, front first, and the numbers of spare nodes, of room and of
+//! stored links.
+ghost use Rattle.std.specs.Prelude.{◌≡◌, ◌^◌, ◌<◌, ◌↔◌, length, IfOk, IsOk, IsTrue, Err};
+ghost use Rattle.hashlink_model.specs.Entries.{IsEntries};
+ghost use Rattle.hashlink_model.specs.MapState.{empty_map, HasRoom};
+ghost use Rattle.hashlink_model.specs.Steps.{IsMadeWith};
+ghost use Rattle.hashlink_core.specs.Keyed.{state_of, entries_of};
 
-use hashlink_core::{DefaultHashBuilder, Iter, KeyedList};
+mod inserts;
+mod memory;
+mod moves;
+mod reads;
+mod removals;
+
+use hashlink_core::{DefaultHashBuilder, Iter, KeyedList, TryReserveError};
 use std::alloc::Global;
 use std::hash::{BuildHasher, Hash};
 use std::marker::Model;
 
-/// A hash map whose entries stand in one order, front first. An insert puts its pair last, and moves a key that is there to the end.
+/// A hash map whose entries stand in one order, front first. An insert puts its pair last, and moves a key that is
+/// there to the end.
 #[derive(Drop)]
 pub struct LinkedHashMap<K: Eq + Hash, V, S: BuildHasher = DefaultHashBuilder> {
-    list: KeyedList<K, V, S>,
+    pub(crate) list: KeyedList<K, V, S>,
 }
 
 impl<K: Eq + Hash, V, S: BuildHasher> Model for LinkedHashMap<K, V, S> {
-    ghost use Rattle.hashlink_model.specs.MapState.{MapState};
-    ghost use Rattle.hashlink_core.specs.Keyed.{state_of};
+    ghost use Rattle.hashlink_core.specs.Keyed.{Keyed};
 
-    ghost Value = { MapState K V S };
+    ghost Value = { Keyed K V S };
 
-    ghost view = { λ m. state_of m.list };
+    ghost view = { λ m. m.list };
 }
 
 impl<K: Eq + Hash, V> LinkedHashMap<K, V, DefaultHashBuilder> {
@@ -30,36 +37,67 @@ impl<K: Eq + Hash, V> LinkedHashMap<K, V, DefaultHashBuilder> {
 
     /// An empty map, which hashes by `DefaultHasher`. It takes no memory.
     pub fn new(alloc: Global) -> Self
-        ensures { result ≡ empty_map default_builder }
+        ensures { state_of result ≡ empty_map default_builder }
     {
         LinkedHashMap::with_hasher(alloc, DefaultHashBuilder)
+    }
+
+    /// An empty map with room for so many entries, which hashes by `DefaultHasher`. For none it takes no memory.
+    ///
+    /// It answers `CapacityOverflow` for more than 2 to the power of 62 entries, and `AllocError` where the memory is
+    /// refused.
+    pub fn with_capacity(alloc: Global, capacity: usize) -> Result<Self, TryReserveError>
+        ensures made { IfOk result (λ map. IsMadeWith capacity default_builder (state_of map)) }
+        ensures none { capacity ≡ 0 → IsOk result }
+        ensures overflow { (result ≡ Err TryReserveError.CapacityOverflow) ↔ (2 ^ 62 < capacity) }
+    {
+        LinkedHashMap::with_capacity_and_hasher(alloc, capacity, DefaultHashBuilder)
     }
 }
 
 impl<K: Eq + Hash, V, S: BuildHasher> LinkedHashMap<K, V, S> {
     /// An empty map that hashes by `hash_builder`. It takes no memory.
     pub fn with_hasher(alloc: Global, hash_builder: S) -> Self
-        ensures { result ≡ empty_map hash_builder }
+        ensures { state_of result ≡ empty_map hash_builder }
     {
         LinkedHashMap {
             list: KeyedList::with_hasher(alloc, hash_builder),
         }
     }
 
+    /// An empty map with room for so many entries that hashes by `hash_builder`. For none it takes no memory.
+    ///
+    /// It answers `CapacityOverflow` for more than 2 to the power of 62 entries, and `AllocError` where the memory is
+    /// refused.
+    pub fn with_capacity_and_hasher(
+        alloc: Global,
+        capacity: usize,
+        hash_builder: S,
+    ) -> Result<Self, TryReserveError>
+    where
+        S: Drop,
+        ensures made { IfOk result (λ map. IsMadeWith capacity hash_builder (state_of map)) }
+        ensures none { capacity ≡ 0 → IsOk result }
+        ensures overflow { (result ≡ Err TryReserveError.CapacityOverflow) ↔ (2 ^ 62 < capacity) }
+    {
+        let list = KeyedList::with_room(alloc, capacity, hash_builder)?;
+        Ok(LinkedHashMap { list })
+    }
+
     /// How many entries there are. It takes constant time.
     pub fn len(&self) -> usize
-        ensures len { result ≡ length self.now.entries }
+        ensures len { result ≡ length (entries_of self.now) }
         ensures small { result < 2 ^ 63 }
 
         // No two keys are equal, of this map as of every map.
-        ensures distinct { IsEntries K.eq self.now.entries }
+        ensures distinct { IsEntries K.eq (entries_of self.now) }
     {
         self.list.len()
     }
 
     /// Whether there is no entry. It takes constant time.
     pub fn is_empty(&self) -> bool
-        ensures { IsTrue result ↔ (length self.now.entries ≡ 0) }
+        ensures { IsTrue result ↔ (length (entries_of self.now) ≡ 0) }
     {
         self.list.len() == 0
     }
@@ -69,7 +107,7 @@ impl<K: Eq + Hash, V, S: BuildHasher> LinkedHashMap<K, V, S> {
         ensures capacity { result ≡ self.now.room }
 
         // There is room for every node, in use and spare, of this map as of every map.
-        ensures enough { HasRoom self.now }
+        ensures enough { HasRoom (state_of self.now) }
     {
         self.list.capacity()
     }
@@ -81,44 +119,9 @@ impl<K: Eq + Hash, V, S: BuildHasher> LinkedHashMap<K, V, S> {
         self.list.hasher()
     }
 
-    /// The value of the key. It hashes the key once and looks at the entries of one bucket. The order stays as it is.
-    pub fn get(&self, key: &K) -> Option<&V>
-        ensures { option_copied result ≡ lookup (K.eq key.now) self.now.entries }
-    {
-        let (_, value) = self.list.get_key_value(key)?;
-        Some(value)
-    }
-
-    /// Puts the pair last, and answers the key's old value. A key that is there keeps its key object, takes the new value and moves to the end.
-    ///
-    /// It takes memory only for an absent key where no node is spare. Where that is refused, the pair is handed back and no entry changes.
-    /// It hashes the key once, looks for it as `get` does, and stores at most six links for a key that is there and four for an absent one.
-    pub fn insert(&mut self, key: K, value: V) -> Result<Option<V>, (K, V)>
-    where
-        K: Drop,
-        ensures inserts { Inserts K.eq self.old self.new key value (length self.old.entries) result }
-        ensures distinct { IsEntries K.eq self.new.entries }
-    {
-        self.list.put_last(key, value)
-    }
-
-    /// Takes the key's entry out and answers its value. The other entries keep their order, and the node serves the next new pair.
-    /// It takes no memory, looks for the key as `get` does, and stores at most three links.
-    pub fn remove(&mut self, key: &K) -> Option<V>
-    where
-        K: Drop,
-        ensures value { result ≡ lookup (K.eq key.now) self.old.entries }
-        ensures removed { OnSome result (Removes self.old self.new (without K.eq self.old.entries key.now)) }
-        ensures unchanged { IfNone result (self.new ≡ self.old) }
-        ensures distinct { IsEntries K.eq self.new.entries }
-    {
-        let (_, value) = self.list.remove_entry(key)?;
-        Some(value)
-    }
-
     /// A walk over the entries, front first. It takes no memory, and each step takes constant time.
     pub fn iter(&self) -> Iter<'_, K, V>
-        ensures { result ≡ self.now.entries }
+        ensures { result ≡ entries_of self.now }
     {
         self.list.iter()
     }

@@ -1,5 +1,6 @@
 -- What stands after a key was put, moved or taken out: lengths, look-ups, and the same step once more.
-use Rattle.std.proofs.Common.{ap₂, ◌≡◌, ℕ, ◌+◌, Bool, true, false, cond, List, [], ◌∷◌, ◌++◌, length, Option, None, Some, refl, sym, ap, ◌∙◌, arith, take, drop}
+use Rattle.std.proofs.Common.{ap₂, ◌≡◌, ℕ, ◌+◌, Bool, true, false, cond, List, [], ◌∷◌, ◌++◌, length, Option, None}
+use Rattle.std.proofs.Common.{Some, refl, sym, ap, ◌∙◌, arith, take, drop}
 use Rattle.std.specs.Prelude.{unwrap_or}
 use Rattle.std.specs.Option.{option_map}
 use Rattle.std.specs.Cmp.{IsEquivalence}
@@ -7,15 +8,18 @@ use Rattle.std.specs.Map.{lookup, lookup_entry, lookup_key}
 use Rattle.std.proofs.lemmas.Map.{NonePasses}
 use Rattle.std.proofs.lemmas.List.{take-append-drop, length-append}
 use Rattle.hashlink_model.specs.Entries.{IsEntries, place_without, without, stored_key, put, moved}
-use Rattle.hashlink_model.proofs.Splits.{Stands, stands_from_lookup, none_from_lookup, remove_entry-none, remove_entry-here}
+use Rattle.hashlink_model.proofs.Splits.{Stands, stands_from_lookup, none_from_lookup, remove_entry-none}
+use Rattle.hashlink_model.proofs.Splits.{remove_entry-here}
 use Rattle.hashlink_model.proofs.Distinct.{each-left}
-use Rattle.hashlink_model.proofs.Finds.{lookup_is, lookup_key_is, option_map-cond, stored_key-equal, lookup_entry-without, lookup-equal}
+use Rattle.hashlink_model.proofs.Finds.{lookup_is, lookup_key_is, option_map-cond, stored_key-equal}
+use Rattle.hashlink_model.proofs.Finds.{lookup_entry-without, lookup-equal}
 use Rattle.hashlink_model.proofs.Puts.{put_back, put_front, lookup_entry-put, none_without, IsEntries-put}
 
 module _ {K V : Type 0} (eq : K → K → Bool) where
   -- ---- lengths
 
-  pub length-without_absent : (es : List (K × V)) (k : K) → lookup (eq k) es ≡ None → length (without eq es k) ≡ length es
+  pub length-without_absent : (es : List (K × V)) (k : K) → lookup (eq k) es ≡ None
+      → length (without eq es k) ≡ length es
   length-without_absent es k l = ap length (remove_entry-none (eq k) es (none_from_lookup (eq k) es l))
 
   length_here : (es : List (K × V)) (k : K) → Stands (eq k) es → length (without eq es k) + 1 ≡ length es
@@ -24,11 +28,13 @@ module _ {K V : Type 0} (eq : K → K → Bool) where
       let b = length-append s.0 s.2 in
       rw (s.3.is, remove_entry-here (eq k) s.1 s.2 s.3.passes s.0 s.3.before) (omega arith)
 
-  pub length-without_there : (es : List (K × V)) (k : K) (w : V) → lookup (eq k) es ≡ Some w → length (without eq es k) + 1 ≡ length es
+  pub length-without_there : (es : List (K × V)) (k : K) (w : V) → lookup (eq k) es ≡ Some w
+      → length (without eq es k) + 1 ≡ length es
   length-without_there es k w l = length_here es k (stands_from_lookup (eq k) es w l)
 
   -- one entry more than without the key, wherever it is put
-  pub length-put : (es : List (K × V)) (k : K) (v : V) (b : ℕ) → length (put eq es k v b) ≡ length (without eq es k) + 1
+  pub length-put : (es : List (K × V)) (k : K) (v : V) (b : ℕ)
+      → length (put eq es k v b) ≡ length (without eq es k) + 1
   length-put es k v b =
       let j = place_without eq es k b in
       let zs = without eq es k in
@@ -37,21 +43,25 @@ module _ {K V : Type 0} (eq : K → K → Bool) where
       let d = ap length (take-append-drop j zs) in
       omega arith
 
-  pub length-put_absent : (es : List (K × V)) (k : K) (v : V) (b : ℕ) → lookup (eq k) es ≡ None → length (put eq es k v b) ≡ length es + 1
+  pub length-put_absent : (es : List (K × V)) (k : K) (v : V) (b : ℕ) → lookup (eq k) es ≡ None
+      → length (put eq es k v b) ≡ length es + 1
   length-put_absent es k v b l = length-put es k v b ∙ ap (λ n. n + 1) (length-without_absent es k l)
 
-  pub length-put_there : (es : List (K × V)) (k : K) (v : V) (b : ℕ) (w : V) → lookup (eq k) es ≡ Some w → length (put eq es k v b) ≡ length es
+  pub length-put_there : (es : List (K × V)) (k : K) (v : V) (b : ℕ) (w : V) → lookup (eq k) es ≡ Some w
+      → length (put eq es k v b) ≡ length es
   length-put_there es k v b w l = length-put es k v b ∙ length-without_there es k w l
 
   -- ---- a move is a put of the value that stands
 
-  pub moved-there : (es : List (K × V)) (k : K) (b : ℕ) (w : V) → lookup (eq k) es ≡ Some w → moved eq es k b ≡ put eq es k w b
+  pub moved-there : (es : List (K × V)) (k : K) (b : ℕ) (w : V) → lookup (eq k) es ≡ Some w
+      → moved eq es k b ≡ put eq es k w b
   moved-there es k b w l = rw l refl
 
   pub moved-absent : (es : List (K × V)) (k : K) (b : ℕ) → lookup (eq k) es ≡ None → moved eq es k b ≡ es
   moved-absent es k b l = rw l refl
 
-  length_moved_by : (es : List (K × V)) (k : K) (b : ℕ) (o : Option V) → lookup (eq k) es ≡ o → length (moved eq es k b) ≡ length es
+  length_moved_by : (es : List (K × V)) (k : K) (b : ℕ) (o : Option V) → lookup (eq k) es ≡ o
+      → length (moved eq es k b) ≡ length es
   length_moved_by es k b None l = ap length (moved-absent es k b l)
   length_moved_by es k b (Some w) l = ap length (moved-there es k b w l) ∙ length-put_there es k w b w l
 
@@ -61,53 +71,59 @@ module _ {K V : Type 0} (eq : K → K → Bool) where
 module _ {K V : Type 0} (eq : K → K → Bool) (laws : IsEquivalence eq) where
   -- ---- look-ups after a put
 
-  pub lookup-put : (q : K) (es : List (K × V)) (k : K) (v : V) (b : ℕ) → IsEntries eq es → lookup (eq q) (put eq es k v b) ≡ cond (eq k q) (Some v) (lookup (eq q) es)
+  pub lookup-put : (q : K) (es : List (K × V)) (k : K) (v : V) (b : ℕ) → IsEntries eq es
+      → lookup (eq q) (put eq es k v b) ≡ cond (eq k q) (Some v) (lookup (eq q) es)
   lookup-put q es k v b d =
       lookup_is (eq q) (put eq es k v b) ∙ ap (option_map (λ e. e.1)) (lookup_entry-put eq laws q es k v b d)
       ∙ option_map-cond (λ e. e.1) (eq k q) _ _ ∙ ap (cond (eq k q) (Some v)) (sym (lookup_is (eq q) es))
 
-  pub lookup_key-put : (q : K) (es : List (K × V)) (k : K) (v : V) (b : ℕ) → IsEntries eq es → lookup_key (eq q) (put eq es k v b) ≡ cond (eq k q) (Some (stored_key eq es k)) (lookup_key (eq q) es)
+  pub lookup_key-put : (q : K) (es : List (K × V)) (k : K) (v : V) (b : ℕ) → IsEntries eq es
+      → lookup_key (eq q) (put eq es k v b) ≡ cond (eq k q) (Some (stored_key eq es k)) (lookup_key (eq q) es)
   lookup_key-put q es k v b d =
       lookup_key_is (eq q) (put eq es k v b) ∙ ap (option_map (λ e. e.0)) (lookup_entry-put eq laws q es k v b d)
-      ∙ option_map-cond (λ e. e.0) (eq k q) _ _ ∙ ap (cond (eq k q) (Some (stored_key eq es k))) (sym (lookup_key_is (eq q) es))
+      ∙ option_map-cond (λ e. e.0) (eq k q) _ _
+      ∙ ap (cond (eq k q) (Some (stored_key eq es k))) (sym (lookup_key_is (eq q) es))
 
-  pub lookup-put_same : (q : K) (es : List (K × V)) (k : K) (v : V) (b : ℕ) → IsEntries eq es → eq k q ≡ true → lookup (eq q) (put eq es k v b) ≡ Some v
+  pub lookup-put_same : (q : K) (es : List (K × V)) (k : K) (v : V) (b : ℕ) → IsEntries eq es → eq k q ≡ true
+      → lookup (eq q) (put eq es k v b) ≡ Some v
   lookup-put_same q es k v b d t = lookup-put q es k v b d ∙ rw t refl
 
-  pub lookup-put_other : (q : K) (es : List (K × V)) (k : K) (v : V) (b : ℕ) → IsEntries eq es → eq k q ≡ false → lookup (eq q) (put eq es k v b) ≡ lookup (eq q) es
-  lookup-put_other q es k v b d t = lookup-put q es k v b d ∙ rw t refl
-
-  pub lookup_entry-put_other : (q : K) (es : List (K × V)) (k : K) (v : V) (b : ℕ) → IsEntries eq es → eq k q ≡ false → lookup_entry (eq q) (put eq es k v b) ≡ lookup_entry (eq q) es
+  pub lookup_entry-put_other : (q : K) (es : List (K × V)) (k : K) (v : V) (b : ℕ) → IsEntries eq es → eq k q ≡ false
+      → lookup_entry (eq q) (put eq es k v b) ≡ lookup_entry (eq q) es
   lookup_entry-put_other q es k v b d t = lookup_entry-put eq laws q es k v b d ∙ rw t refl
 
   -- the stored key stays
-  pub stored_key-put : (es : List (K × V)) (k : K) (v : V) (b : ℕ) → IsEntries eq es → stored_key eq (put eq es k v b) k ≡ stored_key eq es k
+  pub stored_key-put : (es : List (K × V)) (k : K) (v : V) (b : ℕ) → IsEntries eq es
+      → stored_key eq (put eq es k v b) k ≡ stored_key eq es k
   stored_key-put es k v b d = ap (λ o. unwrap_or o k) (lookup_key-put k es k v b d) ∙ rw (laws.refl k) refl
 
   -- ---- look-ups after a removal
 
-  pub lookup-without : (q : K) (es : List (K × V)) (k : K) → IsEntries eq es → lookup (eq q) (without eq es k) ≡ cond (eq k q) None (lookup (eq q) es)
+  pub lookup-without : (q : K) (es : List (K × V)) (k : K) → IsEntries eq es
+      → lookup (eq q) (without eq es k) ≡ cond (eq k q) None (lookup (eq q) es)
   lookup-without q es k d =
       lookup_is (eq q) (without eq es k) ∙ ap (option_map (λ e. e.1)) (lookup_entry-without eq laws q k es d)
       ∙ option_map-cond (λ e. e.1) (eq k q) _ _ ∙ ap (cond (eq k q) None) (sym (lookup_is (eq q) es))
 
-  pub lookup-without_same : (q : K) (es : List (K × V)) (k : K) → IsEntries eq es → eq k q ≡ true → lookup (eq q) (without eq es k) ≡ None
+  pub lookup-without_same : (q : K) (es : List (K × V)) (k : K) → IsEntries eq es → eq k q ≡ true
+      → lookup (eq q) (without eq es k) ≡ None
   lookup-without_same q es k d t = lookup-without q es k d ∙ rw t refl
 
-  pub lookup-without_other : (q : K) (es : List (K × V)) (k : K) → IsEntries eq es → eq k q ≡ false → lookup (eq q) (without eq es k) ≡ lookup (eq q) es
-  lookup-without_other q es k d t = lookup-without q es k d ∙ rw t refl
-
-  pub lookup_entry-without_other : (q : K) (es : List (K × V)) (k : K) → IsEntries eq es → eq k q ≡ false → lookup_entry (eq q) (without eq es k) ≡ lookup_entry (eq q) es
+  pub lookup_entry-without_other : (q : K) (es : List (K × V)) (k : K) → IsEntries eq es → eq k q ≡ false
+      → lookup_entry (eq q) (without eq es k) ≡ lookup_entry (eq q) es
   lookup_entry-without_other q es k d t = lookup_entry-without eq laws q k es d ∙ rw t refl
 
   -- ---- the same key once more
 
-  pub without-put : (es : List (K × V)) (k : K) (v : V) (b : ℕ) → IsEntries eq es → without eq (put eq es k v b) k ≡ without eq es k
+  pub without-put : (es : List (K × V)) (k : K) (v : V) (b : ℕ) → IsEntries eq es
+      → without eq (put eq es k v b) k ≡ without eq es k
   without-put es k v b d =
       let j = place_without eq es k b in
       let zs = without eq es k in
-      let none : NonePasses (eq k) (take j zs ++ drop j zs) = rw (take-append-drop j zs) (none_without eq laws es k d) in
-      remove_entry-here (eq k) (stored_key eq es k, v) (drop j zs) (stored_key-equal eq laws k es) (take j zs) (each-left _ (take j zs) (drop j zs) none)
+      let none : NonePasses (eq k) (take j zs ++ drop j zs)
+      = rw (take-append-drop j zs) (none_without eq laws es k d) in
+      remove_entry-here (eq k) (stored_key eq es k, v) (drop j zs) (stored_key-equal eq laws k es) (take j zs)
+      (each-left _ (take j zs) (drop j zs) none)
       ∙ take-append-drop j zs
 
   pub put_back_twice : (es : List (K × V)) (k : K) (v w : V) → IsEntries eq es
@@ -117,22 +133,26 @@ module _ {K V : Type 0} (eq : K → K → Bool) (laws : IsEquivalence eq) where
       ∙ ap₂ (λ zs k0. zs ++ (k0, w) ∷ []) (without-put es k v (length es) d) (stored_key-put es k v (length es) d)
       ∙ sym (put_back eq es k w)
 
-  pub put_front_twice : (es : List (K × V)) (k : K) (v w : V) → IsEntries eq es → put eq (put eq es k v 0) k w 0 ≡ put eq es k w 0
+  pub put_front_twice : (es : List (K × V)) (k : K) (v w : V) → IsEntries eq es
+      → put eq (put eq es k v 0) k w 0 ≡ put eq es k w 0
   put_front_twice es k v w d =
       put_front eq (put eq es k v 0) k w
       ∙ ap₂ (λ zs k0. (k0, w) ∷ zs) (without-put es k v 0 d) (stored_key-put es k v 0 d)
       ∙ sym (put_front eq es k w)
 
-  pub lookup-moved : (q : K) (es : List (K × V)) (k : K) (b : ℕ) → IsEntries eq es → lookup (eq q) (moved eq es k b) ≡ lookup (eq q) es
+  pub lookup-moved : (q : K) (es : List (K × V)) (k : K) (b : ℕ) → IsEntries eq es
+      → lookup (eq q) (moved eq es k b) ≡ lookup (eq q) es
   lookup-moved q es k b d = found (lookup (eq k) es) refl
     where
-      same : (w : V) → lookup (eq k) es ≡ Some w → (c : Bool) → eq k q ≡ c → cond c (Some w) (lookup (eq q) es) ≡ lookup (eq q) es
+      same : (w : V) → lookup (eq k) es ≡ Some w → (c : Bool) → eq k q ≡ c
+          → cond c (Some w) (lookup (eq q) es) ≡ lookup (eq q) es
       same w l false t = refl
       same w l true t = sym l ∙ lookup-equal eq laws k q es t
 
       found : (o : Option V) → lookup (eq k) es ≡ o → lookup (eq q) (moved eq es k b) ≡ lookup (eq q) es
       found None l = ap (lookup (eq q)) (moved-absent eq es k b l)
-      found (Some w) l = ap (lookup (eq q)) (moved-there eq es k b w l) ∙ lookup-put q es k w b d ∙ same w l (eq k q) refl
+      found (Some w) l =
+          ap (lookup (eq q)) (moved-there eq es k b w l) ∙ lookup-put q es k w b d ∙ same w l (eq k q) refl
 
   pub IsEntries-moved : (es : List (K × V)) (k : K) (b : ℕ) → IsEntries eq es → IsEntries eq (moved eq es k b)
   IsEntries-moved es k b d = found (lookup (eq k) es) refl
@@ -142,20 +162,24 @@ module _ {K V : Type 0} (eq : K → K → Bool) (laws : IsEquivalence eq) where
       found (Some w) l = rw (moved-there eq es k b w l) (IsEntries-put eq laws es k w b d)
 
   -- a second move to the back, or to the front, leaves the list as it is
-  pub moved_back_twice : (es : List (K × V)) (k : K) → IsEntries eq es → moved eq (moved eq es k (length es)) k (length es) ≡ moved eq es k (length es)
+  pub moved_back_twice : (es : List (K × V)) (k : K) → IsEntries eq es
+      → moved eq (moved eq es k (length es)) k (length es) ≡ moved eq es k (length es)
   moved_back_twice es k d = found (lookup (eq k) es) refl
     where
-      found : (o : Option V) → lookup (eq k) es ≡ o → moved eq (moved eq es k (length es)) k (length es) ≡ moved eq es k (length es)
+      found : (o : Option V) → lookup (eq k) es ≡ o
+          → moved eq (moved eq es k (length es)) k (length es) ≡ moved eq es k (length es)
       found None l = ap (λ zs. moved eq zs k (length es)) (moved-absent eq es k (length es) l)
       found (Some w) l =
           let once = moved-there eq es k (length es) w l in
           let long = length-put_there eq es k w (length es) w l in
           ap (λ zs. moved eq zs k (length es)) once
-          ∙ moved-there eq (put eq es k w (length es)) k (length es) w (lookup-put_same k es k w (length es) d (laws.refl k))
+          ∙ moved-there eq (put eq es k w (length es)) k (length es) w
+          (lookup-put_same k es k w (length es) d (laws.refl k))
           ∙ ap (put eq (put eq es k w (length es)) k w) (sym long)
           ∙ put_back_twice es k w w d ∙ sym once
 
-  pub moved_front_twice : (es : List (K × V)) (k : K) → IsEntries eq es → moved eq (moved eq es k 0) k 0 ≡ moved eq es k 0
+  pub moved_front_twice : (es : List (K × V)) (k : K) → IsEntries eq es
+      → moved eq (moved eq es k 0) k 0 ≡ moved eq es k 0
   moved_front_twice es k d = found (lookup (eq k) es) refl
     where
       found : (o : Option V) → lookup (eq k) es ≡ o → moved eq (moved eq es k 0) k 0 ≡ moved eq es k 0

@@ -1,53 +1,100 @@
 -- What follows from the steps between two states of a cache.
-use Rattle.std.proofs.Common.{◌≡◌, ℕ, ◌-◌, ◌≤◌, min, max, Bool, [], ◌∷◌, ◌++◌, length, drop, take, Option, None, Some, Ok, Err, sym, ap, ◌∙◌, arith}
+use Rattle.std.proofs.Common.{◌≡◌, ℕ, ◌-◌, ◌≤◌, min, max, Bool, [], ◌∷◌, ◌++◌, length, drop, take, Option, None, Some}
+use Rattle.std.proofs.Common.{Ok, Err, sym, ap, ◌∙◌, arith}
+use Rattle.std.specs.Prelude.{MatchOption, Result, refl}
+use Rattle.std.specs.Option.{option_map_or}
 use Rattle.std.specs.Map.{lookup}
 use Rattle.hashlink_model.specs.Entries.{put, without, stored_key}
-use Rattle.hashlink_model.specs.Steps.{nodes_of}
-use Rattle.hashlink_model.specs.Cache.{CacheState, CacheInserts, CacheGets, SetsCapacity, trimmed, last_entries, cache_put, cache_get}
+use Rattle.hashlink_model.specs.MapState.{MapState, node_count}
+use Rattle.hashlink_model.specs.Cache.{cache_get}
+use Rattle.hashlink_model.specs.Cache.{CacheState, InsertsLast, CacheUses, cache_use, CacheInserts, CacheGets}
+use Rattle.hashlink_model.specs.Cache.{SetsCapacity, front_evicted, last_entries}
+use Rattle.hashlink_model.specs.Cache.{cache_put}
 use Rattle.hashlink_model.proofs.Puts.{put_back}
-use Rattle.hashlink_model.proofs.Afterwards.{moved-there, moved-absent, length-moved}
+use Rattle.hashlink_model.proofs.Afterwards.{moved-there}
 use Rattle.hashlink_model.proofs.Caches.{length-last_entries, last_entries-end}
-use Rattle.hashlink_model.proofs.NodeCounts.{nodes_of-adds, nodes_of-keeps, nodes_of-changes}
+use Rattle.hashlink_model.proofs.NodeCounts.{node_count-adds, node_count-keeps, moves_nodes}
+
+-- the insert at the length
+pub put_entries : {K V S : Type 0} (eq : K → K → Bool) (old new : MapState K V S) (k : K) (v : V) (w : Option V)
+    → InsertsLast eq k v w old new
+    → new.entries ≡ put eq old.entries k v (length old.entries)
+put_entries eq old new k v None s = s.adds.entries
+put_entries eq old new k v (Some x) s = s.puts.entries
+
+pub put_answer : {K V S : Type 0} (eq : K → K → Bool) (old new : MapState K V S) (k : K) (v : V) (w : Option V)
+    → InsertsLast eq k v w old new → w ≡ lookup (eq k) old.entries
+put_answer eq old new k v None s = sym s.absent
+put_answer eq old new k v (Some x) s = sym s.old_value
 
 module _ {K V S : Type 0} (eq : K → K → Bool) (old new : CacheState K V S) (k : K) (v : V) where
   pub inserts_answer : (w : Option V) → CacheInserts eq old new k v (Ok w) → w ≡ lookup (eq k) old.map.entries
-  inserts_answer None s = sym s.map.inserts.absent
-  inserts_answer (Some x) s = sym s.map.inserts.old_value
+  inserts_answer w s = put_answer eq old.map s.map.between k v w s.map.inserts
 
-  pub inserts_entries : (w : Option V) → CacheInserts eq old new k v (Ok w) → new.map.entries ≡ cache_put eq old.map.entries old.cap k v
-  inserts_entries None s = s.map.trims.entries ∙ ap (λ es. trimmed es old.cap) s.map.inserts.entries
-  inserts_entries (Some x) s = s.map.trims.entries ∙ ap (λ es. trimmed es old.cap) s.map.inserts.entries
+  pub inserts_entries : (w : Option V) → CacheInserts eq old new k v (Ok w)
+      → new.map.entries ≡ cache_put eq old.map.entries old.cap k v
+  inserts_entries w s =
+      s.map.evicts.entries
+      ∙ ap (λ es. front_evicted es old.cap) (put_entries eq old.map s.map.between k v w s.map.inserts)
 
-  pub inserts_refused : (pair : K × V) → CacheInserts eq old new k v (Err pair) → (new.map.entries ≡ old.map.entries) × (new.map.spare ≡ old.map.spare) × (lookup (eq k) old.map.entries ≡ None) × (old.map.spare ≡ 0)
-  inserts_refused pair s = (s.map.entries, s.map.spare, s.map.may_refuse.absent, s.map.may_refuse.no_spare)
+  pub inserts_refused : (pair : K × V) → CacheInserts eq old new k v (Err pair)
+      → (new.map.entries ≡ old.map.entries) × (new.map.spare ≡ old.map.spare) × (lookup (eq k) old.map.entries ≡ None)
+      × (old.map.spare ≡ 0)
+  inserts_refused pair s = (s.map.grows.entries, s.map.grows.spare, s.map.may_refuse.absent, s.map.may_refuse.no_spare)
 
   -- an insert of a new key needs one node where none is spare; what it drops leaves its node spare
-  pub inserts_nodes : CacheInserts eq old new k v (Ok None) → nodes_of new.map ≡ max (nodes_of old.map) (length (put eq old.map.entries k v (length old.map.entries)))
+  pub inserts_nodes : CacheInserts eq old new k v (Ok None)
+      → node_count new.map ≡ max (node_count old.map) (length (put eq old.map.entries k v (length old.map.entries)))
   inserts_nodes s =
-      let a = nodes_of-keeps s.map.between new.map (trimmed s.map.between.entries old.cap) s.map.trims in
-      let b = nodes_of-adds eq old.map s.map.between k v (length old.map.entries) s.map.inserts in
-      let c = ap length s.map.inserts.entries in
+      let a = node_count-keeps s.map.between new.map (front_evicted s.map.between.entries old.cap) s.map.evicts in
+      let b = node_count-adds old.map s.map.between (put eq old.map.entries k v (length old.map.entries))
+      s.map.inserts.adds in
+      let c = ap length s.map.inserts.adds.entries in
       omega arith
 
 module _ {K V S : Type 0} (eq : K → K → Bool) (old new : CacheState K V S) (k : K) where
-  pub gets_hit : (w : V) → CacheGets eq old new k (Some w) → new.map.entries ≡ without eq old.map.entries k ++ (stored_key eq old.map.entries k, w) ∷ []
-  gets_hit w s = s.map.entries ∙ moved-there eq old.map.entries k (length old.map.entries) w (sym s.answer) ∙ put_back eq old.map.entries k w
+  pub gets_hit : (w : V) → CacheGets eq old new k (Some w)
+      → new.map.entries ≡ without eq old.map.entries k ++ (stored_key eq old.map.entries k, w) ∷ []
+  gets_hit w s =
+      s.map.step.entries ∙ moved-there eq old.map.entries k (length old.map.entries) w (sym s.map.answer)
+      ∙ put_back eq old.map.entries k w
 
-  pub gets_miss : CacheGets eq old new k None → new.map.entries ≡ old.map.entries
-  gets_miss s = s.map.entries ∙ moved-absent eq old.map.entries k (length old.map.entries) (sym s.answer)
+  pub gets_miss : CacheGets eq old new k None → new.map ≡ old.map
+  gets_miss s = s.map.step
 
-  pub gets_nodes : (r : Option V) → CacheGets eq old new k r → nodes_of new.map ≡ nodes_of old.map
-  gets_nodes r s = nodes_of-changes old.map new.map (cache_get eq old.map.entries k) 6 s.map (length-moved eq old.map.entries k (length old.map.entries))
+  pub gets_nodes : (r : Option V) → CacheGets eq old new k r → node_count new.map ≡ node_count old.map
+  gets_nodes r s = moves_nodes eq old.map new.map k (length old.map.entries) r s.map
+
+-- ---- a use
+
+module _ {K V S : Type 0} (eq : K → K → Bool) (old new : CacheState K V S) (k : K) (v : V) where
+  uses_by : (o w : Option V) → lookup (eq k) old.map.entries ≡ o
+      → MatchOption o (CacheInserts eq old new k v (Ok w))
+      (λ x. (◌≡◌ {A = Result (Option V) (K × V)} (Ok w) (Ok (Some x))) × CacheGets eq old new k (Some x))
+      → (w ≡ o)
+      ×
+      (new.map.entries
+      ≡ option_map_or (λ x. cache_get eq old.map.entries k) o (cache_put eq old.map.entries old.cap k v))
+  uses_by None w l s = (inserts_answer eq old new k v w s ∙ l, inserts_entries eq old new k v w s)
+  uses_by (Some x) w l s = (cc (s.0), s.1.map.step.entries)
+
+  pub uses_entries : (w : Option V) → CacheUses eq old new k v (Ok w)
+      → (w ≡ lookup (eq k) old.map.entries) × (new.map.entries ≡ cache_use eq old.map.entries old.cap k v)
+  uses_entries w s = uses_by (lookup (eq k) old.map.entries) w refl s
 
 module _ {K V S : Type 0} (old new : CacheState K V S) (n : ℕ) where
   pub sets_length : SetsCapacity old new n → length new.map.entries ≡ min n (length old.map.entries)
   sets_length s = ap length s.map.entries ∙ length-last_entries old.map.entries n
 
-  pub sets_end : SetsCapacity old new n → take (length old.map.entries - n) old.map.entries ++ new.map.entries ≡ old.map.entries
-  sets_end s = ap (λ es. take (length old.map.entries - n) old.map.entries ++ es) s.map.entries ∙ last_entries-end old.map.entries n
+  pub sets_end : SetsCapacity old new n
+      → take (length old.map.entries - n) old.map.entries ++ new.map.entries ≡ old.map.entries
+  sets_end s =
+      ap (λ es. take (length old.map.entries - n) old.map.entries ++ es) s.map.entries
+      ∙ last_entries-end old.map.entries n
 
-  pub sets_nodes : SetsCapacity old new n → nodes_of new.map ≡ nodes_of old.map
-  sets_nodes s = nodes_of-keeps old.map new.map (last_entries old.map.entries n) s.map
+  pub sets_nodes : SetsCapacity old new n → node_count new.map ≡ node_count old.map
+  sets_nodes s = node_count-keeps old.map new.map (last_entries old.map.entries n) s.map
 
   pub sets_within : length old.map.entries ≤ n → SetsCapacity old new n → new.map.entries ≡ old.map.entries
-  sets_within l s = let none : length old.map.entries - n ≡ 0 = omega arith in s.map.entries ∙ ap (λ m. drop m old.map.entries) none
+  sets_within l s =
+      let none : length old.map.entries - n ≡ 0 = omega arith in s.map.entries ∙ ap (λ m. drop m old.map.entries) none

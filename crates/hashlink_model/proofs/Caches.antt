@@ -1,47 +1,48 @@
 -- What a cache holds after its steps.
-use Rattle.std.proofs.Common.{◌≡◌, ℕ, suc, ◌+◌, ◌-◌, ◌≤◌, ◌<◌, Bool, true, false, cond, min, List, [], ◌∷◌, ◌++◌, length, drop, take, nat_lt, unwrap_or, Option, None, Some, refl, sym, ap, ◌∙◌, ◌⊎◌, inl, inr, arith, zero, length-drop, lt-ltb, le-ltb, take-append-drop}
+use Rattle.std.proofs.Common.{◌≡◌, ℕ, suc, ◌+◌, ◌-◌, ◌≤◌, ◌<◌, Bool, true, false, cond, min, List, [], ◌∷◌, ◌++◌}
+use Rattle.std.proofs.Common.{length, drop, take, nat_lt, unwrap_or, Option, None, Some, refl, sym, ap, ◌∙◌, ◌⊎◌, inl}
+use Rattle.std.proofs.Common.{inr, arith, zero, length-drop, lt-ltb, le-ltb, take-append-drop}
 use Rattle.std.specs.Cmp.{IsEquivalence}
 use Rattle.std.specs.Map.{lookup, lookup_entry}
 use Rattle.std.specs.Option.{option_map_or}
 use Rattle.std.proofs.lemmas.Bool.{cases_lt}
 use Rattle.hashlink_model.specs.Entries.{IsEntries, put}
-use Rattle.hashlink_model.specs.Cache.{trimmed, last_entries, cache_put, cache_get, cache_extended, cache_use}
+use Rattle.hashlink_model.specs.Cache.{front_evicted, last_entries, cache_put, cache_get, cache_extended, cache_use}
 use Rattle.hashlink_model.proofs.Distinct.{IsEntries-tail}
 use Rattle.hashlink_model.proofs.Puts.{IsEntries-put}
 use Rattle.hashlink_model.proofs.Finds.{lookup-equal}
-use Rattle.hashlink_model.proofs.Afterwards.{length-put, length-put_absent, length-put_there, moved-there, lookup-moved, lookup_entry-put_other, IsEntries-moved}
+use Rattle.hashlink_model.proofs.Afterwards.{length-put, length-put_absent, length-put_there, moved-there}
+use Rattle.hashlink_model.proofs.Afterwards.{lookup-moved, lookup_entry-put_other, IsEntries-moved}
 use Rattle.hashlink_model.proofs.Remaining.{lookup-put_remaining, lookup_entry-put_remaining}
 
 module _ {K V : Type 0} where
-  pub trimmed-within : (es : List (K × V)) (cap : ℕ) → length es ≤ cap → trimmed es cap ≡ es
-  trimmed-within es cap l = rw (le-ltb cap (length es) l) refl
+  pub front_evicted-within : (es : List (K × V)) (cap : ℕ) → length es ≤ cap → front_evicted es cap ≡ es
+  front_evicted-within es cap l = rw (le-ltb cap (length es) l) refl
 
-  pub trimmed-above : (es : List (K × V)) (cap : ℕ) → cap < length es → trimmed es cap ≡ drop 1 es
-  trimmed-above es cap l = rw (lt-ltb cap (length es) l) refl
+  pub front_evicted-above : (es : List (K × V)) (cap : ℕ) → cap < length es → front_evicted es cap ≡ drop 1 es
+  front_evicted-above es cap l = rw (lt-ltb cap (length es) l) refl
 
-  -- at most one entry is dropped
-  length_trimmed_by : (es : List (K × V)) (cap : ℕ) → (cap < length es) ⊎ (length es ≤ cap) → length (trimmed es cap) ≡ cond (nat_lt cap (length es)) (length es - 1) (length es)
-  length_trimmed_by es cap (inl l) = rw (lt-ltb cap (length es) l) (length-drop 1 es)
-  length_trimmed_by es cap (inr l) = rw (le-ltb cap (length es) l) refl
+  within_by : (es : List (K × V)) (cap n : ℕ) → (cap < length es) ⊎ (length es ≤ cap) → cap ≤ n → length es ≤ n + 1
+      → length (front_evicted es cap) ≤ n
+  within_by es cap n (inl l) c m = rw (front_evicted-above es cap l, length-drop 1 es) (omega arith)
+  within_by es cap n (inr l) c m = rw (front_evicted-within es cap l) (omega arith)
 
-  pub length-trimmed : (es : List (K × V)) (cap : ℕ) → length (trimmed es cap) ≡ cond (nat_lt cap (length es)) (length es - 1) (length es)
-  length-trimmed es cap = length_trimmed_by es cap (cases_lt cap (length es))
+  -- one entry more than n at most, and after an eviction to a cap of at most n there are at most n
+  pub front_evicted-at_most : (es : List (K × V)) (cap n : ℕ) → cap ≤ n → length es ≤ n + 1
+      → length (front_evicted es cap) ≤ n
+  front_evicted-at_most es cap n c m = within_by es cap n (cases_lt cap (length es)) c m
 
-  within_by : (es : List (K × V)) (cap n : ℕ) → (cap < length es) ⊎ (length es ≤ cap) → cap ≤ n → length es ≤ n + 1 → length (trimmed es cap) ≤ n
-  within_by es cap n (inl l) c m = rw (trimmed-above es cap l, length-drop 1 es) (omega arith)
-  within_by es cap n (inr l) c m = rw (trimmed-within es cap l) (omega arith)
+  last_by : (es : List (K × V)) (cap : ℕ) → (cap < length es) ⊎ (length es ≤ cap) → length es ≤ cap + 1
+      → front_evicted es cap ≡ last_entries es cap
+  last_by es cap (inl l) m =
+      let one : 1 ≡ length es - cap = omega arith in front_evicted-above es cap l ∙ ap (λ n. drop n es) one
+  last_by es cap (inr l) m =
+      let none : 0 ≡ length es - cap = omega arith in front_evicted-within es cap l ∙ ap (λ n. drop n es) none
 
-  -- one entry more than n at most, and after a trim to a cap of at most n there are at most n
-  pub trimmed-at_most : (es : List (K × V)) (cap n : ℕ) → cap ≤ n → length es ≤ n + 1 → length (trimmed es cap) ≤ n
-  trimmed-at_most es cap n c m = within_by es cap n (cases_lt cap (length es)) c m
-
-  last_by : (es : List (K × V)) (cap : ℕ) → (cap < length es) ⊎ (length es ≤ cap) → length es ≤ cap + 1 → trimmed es cap ≡ last_entries es cap
-  last_by es cap (inl l) m = let one : 1 ≡ length es - cap = omega arith in trimmed-above es cap l ∙ ap (λ n. drop n es) one
-  last_by es cap (inr l) m = let none : 0 ≡ length es - cap = omega arith in trimmed-within es cap l ∙ ap (λ n. drop n es) none
-
-  -- where there is at most one entry too many, a trim keeps the last ones
-  pub trimmed-last_entries : (es : List (K × V)) (cap : ℕ) → length es ≤ cap + 1 → trimmed es cap ≡ last_entries es cap
-  trimmed-last_entries es cap m = last_by es cap (cases_lt cap (length es)) m
+  -- where there is at most one entry too many, an eviction keeps the last ones
+  pub front_evicted-last_entries : (es : List (K × V)) (cap : ℕ) → length es ≤ cap + 1
+      → front_evicted es cap ≡ last_entries es cap
+  front_evicted-last_entries es cap m = last_by es cap (cases_lt cap (length es)) m
 
   pub length-last_entries : (es : List (K × V)) (n : ℕ) → length (last_entries es n) ≡ min n (length es)
   length-last_entries es n = let a = length-drop (length es - n) es in omega arith
@@ -54,91 +55,122 @@ module _ {K V : Type 0} where
   IsEntries-drop eq (suc n) [] d = d
   IsEntries-drop eq (suc n) (e ∷ es) d = IsEntries-drop eq n es (IsEntries-tail eq e es d)
 
-  trimmed_unequal_by : (eq : K → K → Bool) (es : List (K × V)) (b : Bool) → IsEntries eq es → IsEntries eq (cond b (drop 1 es) es)
-  trimmed_unequal_by eq es true d = IsEntries-drop eq 1 es d
-  trimmed_unequal_by eq es false d = d
+  evicted_unequal_by : (eq : K → K → Bool) (es : List (K × V)) (b : Bool) → IsEntries eq es
+      → IsEntries eq (cond b (drop 1 es) es)
+  evicted_unequal_by eq es true d = IsEntries-drop eq 1 es d
+  evicted_unequal_by eq es false d = d
 
-  pub IsEntries-trimmed : (eq : K → K → Bool) (es : List (K × V)) (cap : ℕ) → IsEntries eq es → IsEntries eq (trimmed es cap)
-  IsEntries-trimmed eq es cap d = trimmed_unequal_by eq es (nat_lt cap (length es)) d
+  pub IsEntries-front_evicted : (eq : K → K → Bool) (es : List (K × V)) (cap : ℕ) → IsEntries eq es
+      → IsEntries eq (front_evicted es cap)
+  IsEntries-front_evicted eq es cap d = evicted_unequal_by eq es (nat_lt cap (length es)) d
 
   -- ---- the cache's insert
 
-  grown_by : (eq : K → K → Bool) (es : List (K × V)) (k : K) (v : V) (o : Option V) → lookup (eq k) es ≡ o → length (put eq es k v (length es)) ≤ length es + 1
+  grown_by : (eq : K → K → Bool) (es : List (K × V)) (k : K) (v : V) (o : Option V) → lookup (eq k) es ≡ o
+      → length (put eq es k v (length es)) ≤ length es + 1
   grown_by eq es k v None l = let a = length-put_absent eq es k v (length es) l in omega arith
   grown_by eq es k v (Some w) l = let a = length-put_there eq es k v (length es) w l in omega arith
 
   -- a cache of at most n entries, n no less than its capacity, has at most n afterwards
-  pub cache_put-at_most : (eq : K → K → Bool) (es : List (K × V)) (cap n : ℕ) (k : K) (v : V) → cap ≤ n → length es ≤ n → length (cache_put eq es cap k v) ≤ n
+  pub cache_put-at_most : (eq : K → K → Bool) (es : List (K × V)) (cap n : ℕ) (k : K) (v : V) → cap ≤ n
+      → length es ≤ n
+      → length (cache_put eq es cap k v) ≤ n
   cache_put-at_most eq es cap n k v c m =
       let g = grown_by eq es k v (lookup (eq k) es) refl in
-      trimmed-at_most (put eq es k v (length es)) cap n c (omega arith)
+      front_evicted-at_most (put eq es k v (length es)) cap n c (omega arith)
 
-  pub IsEntries-cache_put : (eq : K → K → Bool) → IsEquivalence eq → (es : List (K × V)) (cap : ℕ) (k : K) (v : V) → IsEntries eq es → IsEntries eq (cache_put eq es cap k v)
-  IsEntries-cache_put eq laws es cap k v d = IsEntries-trimmed eq (put eq es k v (length es)) cap (IsEntries-put eq laws es k v (length es) d)
+  pub IsEntries-cache_put : (eq : K → K → Bool) → IsEquivalence eq → (es : List (K × V)) (cap : ℕ) (k : K) (v : V)
+      → IsEntries eq es
+      → IsEntries eq (cache_put eq es cap k v)
+  IsEntries-cache_put eq laws es cap k v d =
+      IsEntries-front_evicted eq (put eq es k v (length es)) cap (IsEntries-put eq laws es k v (length es) d)
 
   -- ---- an insert of each pair in turn
 
-  pub cache_extended-at_most : (eq : K → K → Bool) (es : List (K × V)) (cap n : ℕ) (pairs : List (K × V)) → cap ≤ n → length es ≤ n → length (cache_extended eq es cap pairs) ≤ n
+  pub cache_extended-at_most : (eq : K → K → Bool) (es : List (K × V)) (cap n : ℕ) (pairs : List (K × V)) → cap ≤ n
+      → length es ≤ n
+      → length (cache_extended eq es cap pairs) ≤ n
   cache_extended-at_most eq es cap n [] c m = m
-  cache_extended-at_most eq es cap n (p ∷ pairs) c m = cache_extended-at_most eq (cache_put eq es cap p.0 p.1) cap n pairs c (cache_put-at_most eq es cap n p.0 p.1 c m)
+  cache_extended-at_most eq es cap n (p ∷ pairs) c m =
+      cache_extended-at_most eq (cache_put eq es cap p.0 p.1) cap n pairs c
+      (cache_put-at_most eq es cap n p.0 p.1 c m)
 
-  pub IsEntries-cache_extended : (eq : K → K → Bool) → IsEquivalence eq → (es : List (K × V)) (cap : ℕ) (pairs : List (K × V)) → IsEntries eq es → IsEntries eq (cache_extended eq es cap pairs)
+  pub IsEntries-cache_extended : (eq : K → K → Bool) → IsEquivalence eq
+      → (es : List (K × V)) (cap : ℕ) (pairs : List (K × V)) → IsEntries eq es
+      → IsEntries eq (cache_extended eq es cap pairs)
   IsEntries-cache_extended eq laws es cap [] d = d
-  IsEntries-cache_extended eq laws es cap (p ∷ pairs) d = IsEntries-cache_extended eq laws (cache_put eq es cap p.0 p.1) cap pairs (IsEntries-cache_put eq laws es cap p.0 p.1 d)
+  IsEntries-cache_extended eq laws es cap (p ∷ pairs) d =
+      IsEntries-cache_extended eq laws (cache_put eq es cap p.0 p.1) cap pairs
+      (IsEntries-cache_put eq laws es cap p.0 p.1 d)
 
   -- ---- look-ups after an insert
 
-  -- a trim leaves an end, and the last entry where there is a place
-  trimmed-end : (es : List (K × V)) (cap : ℕ) → (xs : List (K × V)) × (es ≡ xs ++ trimmed es cap)
-  trimmed-end es cap = by (nat_lt cap (length es))
+  -- an eviction leaves an end, and the last entry where there is a place
+  front_evicted-end : (es : List (K × V)) (cap : ℕ) → (xs : List (K × V)) × (es ≡ xs ++ front_evicted es cap)
+  front_evicted-end es cap = by (nat_lt cap (length es))
     where
       by : (b : Bool) → (xs : List (K × V)) × (es ≡ xs ++ cond b (drop 1 es) es)
       by true = (take 1 es, sym (take-append-drop 1 es))
       by false = ([], refl)
 
-  trimmed-some : (es : List (K × V)) (cap : ℕ) → 1 ≤ cap → 1 ≤ length es → 1 ≤ length (trimmed es cap)
-  trimmed-some es cap c m = by (cases_lt cap (length es))
+  front_evicted-some : (es : List (K × V)) (cap : ℕ) → 1 ≤ cap → 1 ≤ length es → 1 ≤ length (front_evicted es cap)
+  front_evicted-some es cap c m = by (cases_lt cap (length es))
     where
-      by : (cap < length es) ⊎ (length es ≤ cap) → 1 ≤ length (trimmed es cap)
-      by (inl l) = rw (trimmed-above es cap l, length-drop 1 es) (omega arith)
-      by (inr l) = rw (trimmed-within es cap l) m
+      by : (cap < length es) ⊎ (length es ≤ cap) → 1 ≤ length (front_evicted es cap)
+      by (inl l) = rw (front_evicted-above es cap l, length-drop 1 es) (omega arith)
+      by (inr l) = rw (front_evicted-within es cap l) m
 
 module _ {K V : Type 0} (eq : K → K → Bool) (laws : IsEquivalence eq) where
-  pub lookup-cache_put : (q : K) (es : List (K × V)) (cap : ℕ) (k : K) (v : V) → IsEntries eq es → 1 ≤ cap → eq k q ≡ true → lookup (eq q) (cache_put eq es cap k v) ≡ Some v
+  pub lookup-cache_put : (q : K) (es : List (K × V)) (cap : ℕ) (k : K) (v : V) → IsEntries eq es → 1 ≤ cap
+      → eq k q ≡ true
+      → lookup (eq q) (cache_put eq es cap k v) ≡ Some v
   lookup-cache_put q es cap k v d c t =
       let zs = put eq es k v (length es) in
-      let s = trimmed-end zs cap in
+      let s = front_evicted-end zs cap in
       let long = length-put eq es k v (length es) in
-      lookup-put_remaining eq laws q es k v s.0 (trimmed zs cap) d s.1 (trimmed-some zs cap c (omega arith)) t
+      lookup-put_remaining eq laws q es k v s.0 (front_evicted zs cap) d s.1
+      (front_evicted-some zs cap c (omega arith)) t
 
-  pub lookup_entry-cache_put : (q : K) (es : List (K × V)) (cap : ℕ) (k : K) (v : V) (e : K × V) → IsEntries eq es → eq k q ≡ false → lookup_entry (eq q) (cache_put eq es cap k v) ≡ Some e → lookup_entry (eq q) es ≡ Some e
+  pub lookup_entry-cache_put : (q : K) (es : List (K × V)) (cap : ℕ) (k : K) (v : V) (e : K × V) → IsEntries eq es
+      → eq k q ≡ false → lookup_entry (eq q) (cache_put eq es cap k v) ≡ Some e
+      → lookup_entry (eq q) es ≡ Some e
   lookup_entry-cache_put q es cap k v e d t l =
       let zs = put eq es k v (length es) in
-      let s = trimmed-end zs cap in
-      lookup_entry-put_remaining eq laws q es k v s.0 (trimmed zs cap) d s.1 e t l
+      let s = front_evicted-end zs cap in
+      lookup_entry-put_remaining eq laws q es k v s.0 (front_evicted zs cap) d s.1 e t l
 
   -- ---- a use: of a key that is there a move, of any other an insert
 
   pub IsEntries-cache_get : (es : List (K × V)) (k : K) → IsEntries eq es → IsEntries eq (cache_get eq es k)
   IsEntries-cache_get es k d = IsEntries-moved eq laws es k (length es) d
 
-  pub IsEntries-cache_use : (es : List (K × V)) (cap : ℕ) (k : K) (v : V) → IsEntries eq es → IsEntries eq (cache_use eq es cap k v)
+  pub IsEntries-cache_use : (es : List (K × V)) (cap : ℕ) (k : K) (v : V) → IsEntries eq es
+      → IsEntries eq (cache_use eq es cap k v)
   IsEntries-cache_use es cap k v d = by (lookup (eq k) es)
     where
       by : (o : Option V) → IsEntries eq (option_map_or (λ w. cache_get eq es k) o (cache_put eq es cap k v))
       by None = IsEntries-cache_put eq laws es cap k v d
       by (Some w) = IsEntries-cache_get es k d
 
-  pub lookup-cache_use : (q : K) (es : List (K × V)) (cap : ℕ) (k : K) (v : V) → IsEntries eq es → 1 ≤ cap → eq k q ≡ true → lookup (eq q) (cache_use eq es cap k v) ≡ Some (unwrap_or (lookup (eq k) es) v)
+  pub lookup-cache_use : (q : K) (es : List (K × V)) (cap : ℕ) (k : K) (v : V) → IsEntries eq es → 1 ≤ cap
+      → eq k q ≡ true
+      → lookup (eq q) (cache_use eq es cap k v) ≡ Some (unwrap_or (lookup (eq k) es) v)
   lookup-cache_use q es cap k v d c t = by (lookup (eq k) es) refl
     where
-      by : (o : Option V) → lookup (eq k) es ≡ o → lookup (eq q) (option_map_or (λ w. cache_get eq es k) o (cache_put eq es cap k v)) ≡ Some (unwrap_or o v)
+      by : (o : Option V) → lookup (eq k) es ≡ o
+          → lookup (eq q) (option_map_or (λ w. cache_get eq es k) o (cache_put eq es cap k v)) ≡ Some (unwrap_or o v)
       by None l = lookup-cache_put q es cap k v d c t
       by (Some w) l = lookup-moved eq laws q es k (length es) d ∙ sym (lookup-equal eq laws k q es t) ∙ l
 
-  pub lookup_entry-cache_use : (q : K) (es : List (K × V)) (cap : ℕ) (k : K) (v : V) (e : K × V) → IsEntries eq es → eq k q ≡ false → lookup_entry (eq q) (cache_use eq es cap k v) ≡ Some e → lookup_entry (eq q) es ≡ Some e
+  pub lookup_entry-cache_use : (q : K) (es : List (K × V)) (cap : ℕ) (k : K) (v : V) (e : K × V) → IsEntries eq es
+      → eq k q ≡ false → lookup_entry (eq q) (cache_use eq es cap k v) ≡ Some e
+      → lookup_entry (eq q) es ≡ Some e
   lookup_entry-cache_use q es cap k v e d t = by (lookup (eq k) es) refl
     where
-      by : (o : Option V) → lookup (eq k) es ≡ o → lookup_entry (eq q) (option_map_or (λ w. cache_get eq es k) o (cache_put eq es cap k v)) ≡ Some e → lookup_entry (eq q) es ≡ Some e
+      by : (o : Option V) → lookup (eq k) es ≡ o
+          → lookup_entry (eq q) (option_map_or (λ w. cache_get eq es k) o (cache_put eq es cap k v)) ≡ Some e
+          → lookup_entry (eq q) es ≡ Some e
       by None l f = lookup_entry-cache_put q es cap k v e d t f
-      by (Some w) l f = sym (lookup_entry-put_other eq laws q es k w (length es) d t) ∙ ap (lookup_entry (eq q)) (sym (moved-there eq es k (length es) w l)) ∙ f
+      by (Some w) l f =
+          sym (lookup_entry-put_other eq laws q es k w (length es) d t)
+          ∙ ap (lookup_entry (eq q)) (sym (moved-there eq es k (length es) w l)) ∙ f

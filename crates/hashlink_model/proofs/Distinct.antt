@@ -7,11 +7,13 @@ use Rattle.std.proofs.lemmas.Map.{NonePasses}
 use Rattle.hashlink_model.specs.Entries.{IsEntries}
 
 module _ {X : Type 0} (P : X → Type 0) where
-  pub each-middle : (xs : List X) (y : X) (ys : List X) → AllByRecursion P (xs ++ y ∷ ys) → P y × AllByRecursion P (xs ++ ys)
+  pub each-middle : (xs : List X) (y : X) (ys : List X) → AllByRecursion P (xs ++ y ∷ ys)
+      → P y × AllByRecursion P (xs ++ ys)
   each-middle [] y ys a = a
   each-middle (x ∷ xs) y ys a = let r = each-middle xs y ys a.1 in (r.0, (a.0, r.1))
 
-  pub each-insert : (xs : List X) (y : X) (ys : List X) → P y → AllByRecursion P (xs ++ ys) → AllByRecursion P (xs ++ y ∷ ys)
+  pub each-insert : (xs : List X) (y : X) (ys : List X) → P y → AllByRecursion P (xs ++ ys)
+      → AllByRecursion P (xs ++ y ∷ ys)
   each-insert [] y ys p a = (p, a)
   each-insert (x ∷ xs) y ys p a = (a.0, each-insert xs y ys p a.1)
 
@@ -27,7 +29,8 @@ module _ {X : Type 0} (P : X → Type 0) where
   each-right [] ys a = a
   each-right (x ∷ xs) ys a = each-right xs ys a.1
 
-pub each-weaker : {X : Type 0} (P Q : X → Type 0) → ((x : X) → P x → Q x) → (xs : List X) → AllByRecursion P xs → AllByRecursion Q xs
+pub each-weaker : {X : Type 0} (P Q : X → Type 0) → ((x : X) → P x → Q x) → (xs : List X) → AllByRecursion P xs
+    → AllByRecursion Q xs
 each-weaker P Q f [] a = tt
 each-weaker P Q f (x ∷ xs) a = (f x a.0, each-weaker P Q f xs a.1)
 
@@ -44,7 +47,8 @@ module _ {K V : Type 0} (eq : K → K → Bool) where
   from_keys k [] n = tt
   from_keys k (e ∷ es) n = (n.0, from_keys k es n.1)
 
-  pub IsEntries-cons : (e : K × V) (es : List (K × V)) → NonePasses (eq e.0) es → IsEntries eq es → IsEntries eq (e ∷ es)
+  pub IsEntries-cons : (e : K × V) (es : List (K × V)) → NonePasses (eq e.0) es → IsEntries eq es
+      → IsEntries eq (e ∷ es)
   unfolding IsDistinct
   IsEntries-cons e es n d = (to_keys e.0 es n, d)
 
@@ -57,25 +61,32 @@ module _ {K V : Type 0} (eq : K → K → Bool) where
   IsEntries-tail e es d = d.1
 
   -- an equal key passes the same test
-  pub none_equal : IsEquivalence eq → (k q : K) (es : List (K × V)) → eq k q ≡ true → NonePasses (eq k) es → NonePasses (eq q) es
+  pub none_equal : IsEquivalence eq → (k q : K) (es : List (K × V)) → eq k q ≡ true → NonePasses (eq k) es
+      → NonePasses (eq q) es
   none_equal laws k q es t n = each-weaker _ _ (λ x h. sym (laws.congr k q x.0 t) ∙ h) es n
 
   -- ---- in the middle of a list
 
   module _ (laws : IsEquivalence eq) where
-    pub none_others : (xs : List (K × V)) (e : K × V) (ys : List (K × V)) → IsEntries eq (xs ++ e ∷ ys) → NonePasses (eq e.0) (xs ++ ys)
+    pub none_others : (xs : List (K × V)) (e : K × V) (ys : List (K × V)) → IsEntries eq (xs ++ e ∷ ys)
+        → NonePasses (eq e.0) (xs ++ ys)
     none_others [] e ys d = IsEntries-head e ys d
     none_others (x ∷ xs) e ys d =
         let apart = (each-middle _ xs e ys (IsEntries-head x (xs ++ e ∷ ys) d)).0 in
         (laws.symm e.0 x.0 ∙ apart, none_others xs e ys (IsEntries-tail x (xs ++ e ∷ ys) d))
 
-    pub IsEntries-middle : (xs : List (K × V)) (e : K × V) (ys : List (K × V)) → IsEntries eq (xs ++ e ∷ ys) → IsEntries eq (xs ++ ys)
+    pub IsEntries-middle : (xs : List (K × V)) (e : K × V) (ys : List (K × V)) → IsEntries eq (xs ++ e ∷ ys)
+        → IsEntries eq (xs ++ ys)
     IsEntries-middle [] e ys d = IsEntries-tail e ys d
     IsEntries-middle (x ∷ xs) e ys d =
-        IsEntries-cons x (xs ++ ys) (each-middle _ xs e ys (IsEntries-head x (xs ++ e ∷ ys) d)).1 (IsEntries-middle xs e ys (IsEntries-tail x (xs ++ e ∷ ys) d))
+        IsEntries-cons x (xs ++ ys) (each-middle _ xs e ys (IsEntries-head x (xs ++ e ∷ ys) d)).1
+        (IsEntries-middle xs e ys (IsEntries-tail x (xs ++ e ∷ ys) d))
 
-    pub IsEntries-insert : (xs : List (K × V)) (e : K × V) (ys : List (K × V)) → NonePasses (eq e.0) (xs ++ ys) → IsEntries eq (xs ++ ys) → IsEntries eq (xs ++ e ∷ ys)
+    pub IsEntries-insert : (xs : List (K × V)) (e : K × V) (ys : List (K × V)) → NonePasses (eq e.0) (xs ++ ys)
+        → IsEntries eq (xs ++ ys)
+        → IsEntries eq (xs ++ e ∷ ys)
     IsEntries-insert [] e ys n d = IsEntries-cons e ys n d
     IsEntries-insert (x ∷ xs) e ys n d =
-        IsEntries-cons x (xs ++ e ∷ ys) (each-insert _ xs e ys (laws.symm x.0 e.0 ∙ n.0) (IsEntries-head x (xs ++ ys) d))
+        IsEntries-cons x (xs ++ e ∷ ys)
+        (each-insert _ xs e ys (laws.symm x.0 e.0 ∙ n.0) (IsEntries-head x (xs ++ ys) d))
         (IsEntries-insert xs e ys n.1 (IsEntries-tail x (xs ++ ys) d))

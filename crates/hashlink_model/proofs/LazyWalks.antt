@@ -1,40 +1,52 @@
 -- What a lazy walk over two sets gives, and its size hints.
-use Rattle.std.proofs.Common.{◌≡◌, ◌+◌, ◌≤◌, Bool, true, false, not, cond, List, [], ◌∷◌, ◌++◌, length, filter, Option, None, Some, refl, ap, arith}
+use Rattle.std.proofs.Common.{◌≡◌, ◌+◌, ◌≤◌, Bool, true, false, not, cond, List, [], ◌∷◌, ◌++◌, length, filter}
+use Rattle.std.proofs.Common.{Option, None, Some, refl, ap, arith}
 use Rattle.std.specs.Map.Iter.{TakesFirst}
 use Rattle.std.specs.Set.{is_member}
 use Rattle.std.proofs.Common.{length-append, le_refl, suc-le-suc}
-use Rattle.hashlink_model.specs.Algebra.{PairWalk, first_passing, left_to_give, left_or_right, pair_step, union_of, difference_of, symmetric_difference_of}
+use Rattle.hashlink_model.specs.Algebra.{PairWalk, first_passing, left_to_give, left_or_right, pair_step, union_of}
+use Rattle.hashlink_model.specs.Algebra.{difference_of, symmetric_difference_of}
 
 module _ {T : Type 0} where
   pub filter-all : (xs : List T) → filter (λ _. true) xs ≡ xs
   filter-all [] = refl
   filter-all (x ∷ xs) = ap (λ r. x ∷ r) (filter-all xs)
 
-  passing_by : (p : T → Bool) (x : T) (xs : List T) (b : Bool) → TakesFirst (λ y. y) (filter p xs) (first_passing p xs).0 (filter p (first_passing p xs).1)
-      → TakesFirst (λ y. y) (cond b (x ∷ filter p xs) (filter p xs)) (cond b (Some x, xs) (first_passing p xs)).0 (filter p (cond b (Some x, xs) (first_passing p xs)).1)
+  passing_by : (p : T → Bool) (x : T) (xs : List T) (b : Bool)
+      → TakesFirst (λ y. y) (filter p xs) (first_passing p xs).0 (filter p (first_passing p xs).1)
+      → TakesFirst (λ y. y) (cond b (x ∷ filter p xs) (filter p xs)) (cond b (Some x, xs) (first_passing p xs)).0
+      (filter p (cond b (Some x, xs) (first_passing p xs)).1)
   passing_by p x xs true h = refl
   passing_by p x xs false h = h
 
-  pub first_passing-takes : (p : T → Bool) (xs : List T) → TakesFirst (λ y. y) (filter p xs) (first_passing p xs).0 (filter p (first_passing p xs).1)
+  pub first_passing-takes : (p : T → Bool) (xs : List T)
+      → TakesFirst (λ y. y) (filter p xs) (first_passing p xs).0 (filter p (first_passing p xs).1)
   first_passing-takes p [] = (refl, refl)
   first_passing-takes p (x ∷ xs) = passing_by p x xs (p x) (first_passing-takes p xs)
 
-  step_by : (p q : T → Bool) (ls ys : List T) (o : Option T) (xs : List T) → TakesFirst (λ y. y) (filter p ls) o (filter p xs)
-      → TakesFirst (λ y. y) (filter p ls ++ filter q ys) (left_or_right q ys o xs).0 (left_to_give p q (left_or_right q ys o xs).1)
+  step_by : (p q : T → Bool) (ls ys : List T) (o : Option T) (xs : List T)
+      → TakesFirst (λ y. y) (filter p ls) o (filter p xs)
+      → TakesFirst (λ y. y) (filter p ls ++ filter q ys) (left_or_right q ys o xs).0
+      (left_to_give p q (left_or_right q ys o xs).1)
   step_by p q ls ys (Some x) xs h = ap (λ r. r ++ filter q ys) h
   step_by p q ls ys None xs h = rw (h.0, h.1) (first_passing-takes q ys)
 
   -- a step gives the first of what is left to give
-  pub pair_step-takes : (p q : T → Bool) (w : PairWalk T) → TakesFirst (λ y. y) (left_to_give p q w) (pair_step p q w).0 (left_to_give p q (pair_step p q w).1)
-  pair_step-takes p q w = step_by p q w.left w.right (first_passing p w.left).0 (first_passing p w.left).1 (first_passing-takes p w.left)
+  pub pair_step-takes : (p q : T → Bool) (w : PairWalk T)
+      → TakesFirst (λ y. y) (left_to_give p q w) (pair_step p q w).0 (left_to_give p q (pair_step p q w).1)
+  pair_step-takes p q w =
+      step_by p q w.left w.right (first_passing p w.left).0 (first_passing p w.left).1 (first_passing-takes p w.left)
 
   -- ---- the four walks begin with all that they give
 
   module _ (eq : T → T → Bool) (xs ys : List T) where
-    pub union_walk : left_to_give (λ _. true) (λ y. not (is_member eq xs y)) (record { left = xs; right = ys }) ≡ union_of eq xs ys
+    pub union_walk : left_to_give (λ _. true) (λ y. not (is_member eq xs y)) (record { left = xs; right = ys })
+        ≡ union_of eq xs ys
     union_walk = ap (λ r. r ++ difference_of eq ys xs) (filter-all xs)
 
-    pub symmetric_difference_walk : left_to_give (λ x. not (is_member eq ys x)) (λ y. not (is_member eq xs y)) (record { left = xs; right = ys }) ≡ symmetric_difference_of eq xs ys
+    pub symmetric_difference_walk : left_to_give (λ x. not (is_member eq ys x)) (λ y. not (is_member eq xs y))
+        (record { left = xs; right = ys })
+        ≡ symmetric_difference_of eq xs ys
     symmetric_difference_walk = refl
 
   -- ---- size hints
@@ -43,11 +55,13 @@ module _ {T : Type 0} where
   length-filter-le p [] = le_refl 0
   length-filter-le p (x ∷ xs) = by (p x) (length-filter-le p xs)
     where
-      by : (b : Bool) → length (filter p xs) ≤ length xs → length (cond b (x ∷ filter p xs) (filter p xs)) ≤ length (x ∷ xs)
+      by : (b : Bool) → length (filter p xs) ≤ length xs
+          → length (cond b (x ∷ filter p xs) (filter p xs)) ≤ length (x ∷ xs)
       by true h = suc-le-suc h
       by false h = omega arith
 
-  pub left_to_give-at_most : (p q : T → Bool) (w : PairWalk T) → length (left_to_give p q w) ≤ length w.left + length w.right
+  pub left_to_give-at_most : (p q : T → Bool) (w : PairWalk T)
+      → length (left_to_give p q w) ≤ length w.left + length w.right
   left_to_give-at_most p q w =
       let a = length-append (filter p w.left) (filter q w.right) in
       let b = length-filter-le p w.left in

@@ -5,6 +5,7 @@ pub mod Finds
 pub mod Puts
 pub mod Afterwards
 pub mod Places
+pub mod ByPlace
 pub mod Cursors
 pub mod Walks
 pub mod Remaining
@@ -17,6 +18,7 @@ pub mod Caches
 pub mod Weighted
 pub mod Extends
 pub mod NodeCounts
+pub mod KeptNodes
 pub mod SetViews
 pub mod SetSteps
 pub mod Recency
@@ -29,4 +31,8 @@ pub mod Pursued
 pub mod Competitive
 pub mod Pops
 pub mod CacheSteps
+pub mod CacheBounds
+pub mod CacheRuns
+pub mod InTurn
 pub mod Clones
+pub mod SetElements

@@ -1,59 +1,125 @@
 -- What stands after the steps on an occupied entry.
-use Rattle.std.proofs.Common.{◌≡◌, ℕ, ◌+◌, Bool, true, cond, List, [], ◌∷◌, ◌++◌, length, slice_get, None, Some, refl, sym, ap, ap₂, ◌∙◌, subst, option_map}
+use Rattle.std.specs.Prelude.{insert, remove, zero, suc, ◌<◌, MatchOption, Option}
+use Rattle.std.proofs.Common.{arith, take, drop, length-append, length-take, length-drop, ◌≡◌, ℕ, ◌+◌, Bool, true}
+use Rattle.std.proofs.Common.{cond, List, [], ◌∷◌, ◌++◌, length, slice_get, None, Some, refl, sym, ap, ap₂, ◌∙◌}
+use Rattle.std.proofs.Common.{subst, option_map}
 use Rattle.std.specs.Cmp.{IsEquivalence}
 use Rattle.std.specs.Option.{option_map_or}
 use Rattle.std.specs.Map.{lookup, lookup_entry}
 use Rattle.std.proofs.lemmas.Map.{NonePasses}
-use Rattle.std.proofs.lemmas.List.{set_at, append-nil}
-use Rattle.hashlink_model.specs.Entries.{IsEntries, place_of, put, moved, without}
-use Rattle.hashlink_model.specs.Entry.{insert_value, insert_entry, or_insert, replace_entry, replace_key, replace_value}
+use Rattle.std.proofs.lemmas.List.{append-nil}
+use Rattle.hashlink_model.specs.Entries.{IsEntries, place_of, place_left, put, moved, moved_at, without, set_value_at}
+use Rattle.hashlink_model.specs.Entries.{set_key_at}
+use Rattle.hashlink_model.specs.Entry.{EntryState, IsEntry, IsRawEntry, raw_entry_of, insert_value, insert_entry}
+use Rattle.hashlink_model.specs.Entry.{or_insert, replace_entry}
+use Rattle.hashlink_model.specs.MapState.{MapState}
 use Rattle.hashlink_model.proofs.Distinct.{none_equal, none_others, IsEntries-middle, IsEntries-insert}
 use Rattle.hashlink_model.proofs.Finds.{lookup_entry-middle, lookup_entry-without}
-use Rattle.hashlink_model.proofs.Puts.{cond-same_test, none_without, IsEntries-without, IsEntries-put, lookup_entry-put}
-use Rattle.hashlink_model.proofs.Places.{split_at, stored_key_at}
+use Rattle.hashlink_model.proofs.Puts.{cond-same_test, none_without, IsEntries-without, IsEntries-put}
+use Rattle.hashlink_model.proofs.Puts.{lookup_entry-put}
+use Rattle.hashlink_model.proofs.Places.{slice_get_here, split_at, place_of_its_key, stored_key_at}
+use Rattle.hashlink_model.proofs.ByPlace.{set_value_at-here, set_key_at-here, remove-here, moved_at-last}
+use Rattle.hashlink_model.proofs.ByPlace.{moved_at-put, remove-place, length-set_value_at}
+use Rattle.hashlink_model.proofs.Splits.{stands_from_place}
 
 module _ {K V : Type 0} where
-  pub or_insert-there : (eq : K → K → Bool) (es : List (K × V)) (k : K) (v w : V) → lookup (eq k) es ≡ Some w → or_insert eq es k v ≡ moved eq es k (length es)
+  pub or_insert-there : (eq : K → K → Bool) (es : List (K × V)) (k : K) (v w : V) → lookup (eq k) es ≡ Some w
+      → or_insert eq es k v ≡ moved eq es k (length es)
   or_insert-there eq es k v w l = rw l refl
 
-  pub or_insert-absent : (eq : K → K → Bool) (es : List (K × V)) (k : K) (v : V) → lookup (eq k) es ≡ None → or_insert eq es k v ≡ put eq es k v (length es)
+  pub or_insert-absent : (eq : K → K → Bool) (es : List (K × V)) (k : K) (v : V) → lookup (eq k) es ≡ None
+      → or_insert eq es k v ≡ put eq es k v (length es)
   or_insert-absent eq es k v l = rw l refl
 
   -- in a list taken apart at the entry
-  pub replace_entry-here : (xs : List (K × V)) (e : K × V) (ys : List (K × V)) (h : K) (v : V) → replace_entry (xs ++ e ∷ ys) (length xs) h v ≡ xs ++ (h, v) ∷ ys
-  replace_entry-here xs e ys h v = set_at xs e ys (h, v) (length xs) refl
+  pub replace_entry-here : (xs : List (K × V)) (e : K × V) (ys : List (K × V)) (h : K) (v : V)
+      → replace_entry (xs ++ e ∷ ys) (length xs) h v ≡ xs ++ (h, v) ∷ ys
+  replace_entry-here xs e ys h v =
+      ap (λ zs. set_key_at zs (length xs) h) (set_value_at-here xs e ys v) ∙ set_key_at-here xs (e.0, v) ys h
 
-  same_places : (p q : K × V) (test : K → Bool) (xs ys : List (K × V)) → test p.0 ≡ test q.0 → place_of test (xs ++ p ∷ ys) ≡ place_of test (xs ++ q ∷ ys)
+  -- a key or a value alone is the entry with the other part as it was
+  pub set_key_at-entry : (es : List (K × V)) (j : ℕ) (e : K × V) (k : K) → slice_get es j ≡ Some e
+      → set_key_at es j k ≡ replace_entry es j k e.1
+  set_key_at-entry es j e k at =
+      let s = split_at es j e at in
+      ap₂ (λ zs i. set_key_at zs i k) s.2 (sym s.3) ∙ set_key_at-here s.0 e s.1 k
+      ∙ sym (replace_entry-here s.0 e s.1 k e.1) ∙ ap₂ (λ zs i. replace_entry zs i k e.1) (sym s.2) s.3
+
+  pub set_value_at-entry : (es : List (K × V)) (j : ℕ) (e : K × V) (v : V) → slice_get es j ≡ Some e
+      → set_value_at es j v ≡ replace_entry es j e.0 v
+  set_value_at-entry es j e v at =
+      let s = split_at es j e at in
+      ap₂ (λ zs i. set_value_at zs i v) s.2 (sym s.3) ∙ set_value_at-here s.0 e s.1 v
+      ∙ sym (replace_entry-here s.0 e s.1 e.0 v) ∙ ap₂ (λ zs i. replace_entry zs i e.0 v) (sym s.2) s.3
+
+  same_places : (p q : K × V) (test : K → Bool) (xs ys : List (K × V)) → test p.0 ≡ test q.0
+      → place_of test (xs ++ p ∷ ys) ≡ place_of test (xs ++ q ∷ ys)
   same_places p q test [] ys t = ap (λ b. cond b (Some 0) (option_map (λ j. j + 1) (place_of test ys))) t
-  same_places p q test (x ∷ xs) ys t = ap (λ o. cond (test x.0) (Some 0) (option_map (λ j. j + 1) o)) (same_places p q test xs ys t)
+  same_places p q test (x ∷ xs) ys t =
+      ap (λ o. cond (test x.0) (Some 0) (option_map (λ j. j + 1) o)) (same_places p q test xs ys t)
 
 module _ {K V : Type 0} (eq : K → K → Bool) (laws : IsEquivalence eq) where
-  none_last : (es : List (K × V)) (e : K × V) (h : K) → IsEntries eq es → eq h e.0 ≡ true → NonePasses (eq h) (without eq es e.0 ++ [])
-  none_last es e h d t = rw (append-nil (without eq es e.0)) (none_equal eq laws e.0 h (without eq es e.0) (laws.symm e.0 h ∙ t) (none_without eq laws es e.0 d))
+  -- the entry at j leaves, and h stands last with the value
+  pub insert_entry-last : (es : List (K × V)) (j : ℕ) (e : K × V) (h : K) (v : V) → IsEntries eq es
+      → slice_get es j ≡ Some e
+      → insert_entry es j h v ≡ without eq es e.0 ++ (h, v) ∷ []
+  insert_entry-last es j e h v d at =
+      let s = split_at es j e at in
+      let long : length (s.0 ++ e ∷ s.1) ≡ length (s.0 ++ (h, v) ∷ s.1)
+      = omega (arith, length-append s.0 (e ∷ s.1), length-append s.0 ((h, v) ∷ s.1)) in
+      ap₂ (λ zs i. insert_entry zs i h v) s.2 (sym s.3)
+      ∙ ap₂ (λ zs n. moved_at zs (length s.0) n) (replace_entry-here s.0 e s.1 h v) long
+      ∙ moved_at-last s.0 (h, v) s.1
+      ∙ ap (λ zs. zs ++ (h, v) ∷ [])
+      (sym (remove-here s.0 e s.1) ∙ ap₂ remove (sym s.2) s.3
+      ∙ remove-place eq es e.0 j (place_of_its_key eq laws es j e e.0 d at (laws.refl e.0)))
 
-  pub IsEntries-insert_entry : (es : List (K × V)) (e : K × V) (h : K) (v : V) → IsEntries eq es → eq h e.0 ≡ true → IsEntries eq (insert_entry eq es e h v)
-  IsEntries-insert_entry es e h v d t =
-      IsEntries-insert eq laws (without eq es e.0) (h, v) [] (none_last es e h d t) (rw (append-nil (without eq es e.0)) (IsEntries-without eq laws es e.0 d))
+  none_last : (es : List (K × V)) (e : K × V) (h : K) → IsEntries eq es → eq h e.0 ≡ true
+      → NonePasses (eq h) (without eq es e.0 ++ [])
+  none_last es e h d t =
+      rw (append-nil (without eq es e.0))
+      (none_equal eq laws e.0 h (without eq es e.0) (laws.symm e.0 h ∙ t) (none_without eq laws es e.0 d))
 
-  pub lookup_entry-insert_entry : (q : K) (es : List (K × V)) (e : K × V) (h : K) (v : V) → IsEntries eq es → eq h e.0 ≡ true
-      → lookup_entry (eq q) (insert_entry eq es e h v) ≡ cond (eq h q) (Some (h, v)) (lookup_entry (eq q) es)
-  lookup_entry-insert_entry q es e h v d t =
-      lookup_entry-middle eq laws q (h, v) [] (without eq es e.0) (none_last es e h d t)
-      ∙ rw (append-nil (without eq es e.0), lookup_entry-without eq laws q e.0 es d, laws.congr h e.0 q t) (cond-same_test (eq e.0 q) _ _ _)
+  pub IsEntries-insert_entry : (es : List (K × V)) (j : ℕ) (e : K × V) (h : K) (v : V) → IsEntries eq es
+      → slice_get es j ≡ Some e → eq h e.0 ≡ true
+      → IsEntries eq (insert_entry es j h v)
+  IsEntries-insert_entry es j e h v d at t =
+      rw (insert_entry-last es j e h v d at)
+      (IsEntries-insert eq laws (without eq es e.0) (h, v) [] (none_last es e h d t)
+      (rw (append-nil (without eq es e.0)) (IsEntries-without eq laws es e.0 d)))
+
+  pub lookup_entry-insert_entry : (q : K) (es : List (K × V)) (j : ℕ) (e : K × V) (h : K) (v : V) → IsEntries eq es
+      → slice_get es j ≡ Some e
+      → eq h e.0 ≡ true
+      → lookup_entry (eq q) (insert_entry es j h v) ≡ cond (eq h q) (Some (h, v)) (lookup_entry (eq q) es)
+  lookup_entry-insert_entry q es j e h v d at t =
+      ap (lookup_entry (eq q)) (insert_entry-last es j e h v d at)
+      ∙ lookup_entry-middle eq laws q (h, v) [] (without eq es e.0) (none_last es e h d t)
+      ∙ rw (append-nil (without eq es e.0), lookup_entry-without eq laws q e.0 es d, laws.congr h e.0 q t)
+      (cond-same_test (eq e.0 q) _ _ _)
 
   -- ---- h in the place of e
 
-  others_apart : (xs : List (K × V)) (e : K × V) (ys : List (K × V)) (h : K) → IsEntries eq (xs ++ e ∷ ys) → eq h e.0 ≡ true → NonePasses (eq h) (xs ++ ys)
-  others_apart xs e ys h d t = none_equal eq laws e.0 h (xs ++ ys) (laws.symm e.0 h ∙ t) (none_others eq laws xs e ys d)
+  others_apart : (xs : List (K × V)) (e : K × V) (ys : List (K × V)) (h : K) → IsEntries eq (xs ++ e ∷ ys)
+      → eq h e.0 ≡ true
+      → NonePasses (eq h) (xs ++ ys)
+  others_apart xs e ys h d t =
+      none_equal eq laws e.0 h (xs ++ ys) (laws.symm e.0 h ∙ t) (none_others eq laws xs e ys d)
 
-  pub IsEntries-replace_entry : (es : List (K × V)) (j : ℕ) (e : K × V) (h : K) (v : V) → IsEntries eq es → slice_get es j ≡ Some e → eq h e.0 ≡ true → IsEntries eq (replace_entry es j h v)
+  pub IsEntries-replace_entry : (es : List (K × V)) (j : ℕ) (e : K × V) (h : K) (v : V) → IsEntries eq es
+      → slice_get es j ≡ Some e → eq h e.0 ≡ true
+      → IsEntries eq (replace_entry es j h v)
   IsEntries-replace_entry es j e h v d at t =
       let s = split_at es j e at in
       let there = subst (IsEntries eq) s.2 d in
-      subst (IsEntries eq) (sym (replace_entry-here s.0 e s.1 h v) ∙ ap₂ (λ zs i. replace_entry zs i h v) (sym s.2) s.3)
-      (IsEntries-insert eq laws s.0 (h, v) s.1 (others_apart s.0 e s.1 h there t) (IsEntries-middle eq laws s.0 e s.1 there))
+      subst (IsEntries eq)
+      (sym (replace_entry-here s.0 e s.1 h v) ∙ ap₂ (λ zs i. replace_entry zs i h v) (sym s.2) s.3)
+      (IsEntries-insert eq laws s.0 (h, v) s.1 (others_apart s.0 e s.1 h there t)
+      (IsEntries-middle eq laws s.0 e s.1 there))
 
-  pub lookup_entry-replace_entry : (q : K) (es : List (K × V)) (j : ℕ) (e : K × V) (h : K) (v : V) → IsEntries eq es → slice_get es j ≡ Some e → eq h e.0 ≡ true
+  pub lookup_entry-replace_entry : (q : K) (es : List (K × V)) (j : ℕ) (e : K × V) (h : K) (v : V) → IsEntries eq es
+      → slice_get es j ≡ Some e
+      → eq h e.0 ≡ true
       → lookup_entry (eq q) (replace_entry es j h v) ≡ cond (eq h q) (Some (h, v)) (lookup_entry (eq q) es)
   lookup_entry-replace_entry q es j e h v d at t =
       let s = split_at es j e at in
@@ -67,7 +133,9 @@ module _ {K V : Type 0} (eq : K → K → Bool) (laws : IsEquivalence eq) where
       ∙ sym (lookup_entry-middle eq laws q e s.1 s.0 (none_others eq laws s.0 e s.1 there))
       ∙ ap (lookup_entry (eq q)) (sym s.2))
 
-  pub place_of-replace_entry : (q : K) (es : List (K × V)) (j : ℕ) (e : K × V) (h : K) (v : V) → IsEntries eq es → slice_get es j ≡ Some e → eq h e.0 ≡ true
+  pub place_of-replace_entry : (q : K) (es : List (K × V)) (j : ℕ) (e : K × V) (h : K) (v : V) → IsEntries eq es
+      → slice_get es j ≡ Some e
+      → eq h e.0 ≡ true
       → place_of (eq q) (replace_entry es j h v) ≡ place_of (eq q) es
   place_of-replace_entry q es j e h v d at t =
       let s = split_at es j e at in
@@ -78,27 +146,100 @@ module _ {K V : Type 0} (eq : K → K → Bool) (laws : IsEquivalence eq) where
 
   -- ---- a new value last with the stored key, and a key or a value alone in its place
 
-  pub IsEntries-insert_value : (es : List (K × V)) (e : K × V) (v : V) → IsEntries eq es → IsEntries eq (insert_value eq es e v)
-  IsEntries-insert_value es e v d = IsEntries-put eq laws es e.0 v (length es) d
+  pub insert_value-put : (es : List (K × V)) (j : ℕ) (e : K × V) (v : V) → IsEntries eq es → slice_get es j ≡ Some e
+      → insert_value es j v ≡ put eq es e.0 v (length es)
+  insert_value-put es j e v d at =
+      moved_at-put eq es e.0 j (place_of_its_key eq laws es j e e.0 d at (laws.refl e.0)) v (length es)
+
+  pub IsEntries-insert_value : (es : List (K × V)) (j : ℕ) (e : K × V) (v : V) → IsEntries eq es
+      → slice_get es j ≡ Some e
+      → IsEntries eq (insert_value es j v)
+  IsEntries-insert_value es j e v d at =
+      rw (insert_value-put es j e v d at) (IsEntries-put eq laws es e.0 v (length es) d)
 
   pub IsEntries-or_insert : (es : List (K × V)) (k : K) (v : V) → IsEntries eq es → IsEntries eq (or_insert eq es k v)
   IsEntries-or_insert es k v d = IsEntries-put eq laws es k (option_map_or (λ w. w) (lookup (eq k) es) v) (length es) d
 
-  pub IsEntries-replace_key : (es : List (K × V)) (j : ℕ) (e : K × V) (k : K) → IsEntries eq es → slice_get es j ≡ Some e → eq k e.0 ≡ true → IsEntries eq (replace_key es j e k)
-  IsEntries-replace_key es j e k d at t = IsEntries-replace_entry es j e k e.1 d at t
+  pub IsEntries-set_key_at : (es : List (K × V)) (j : ℕ) (e : K × V) (k : K) → IsEntries eq es
+      → slice_get es j ≡ Some e → eq k e.0 ≡ true
+      → IsEntries eq (set_key_at es j k)
+  IsEntries-set_key_at es j e k d at t =
+      rw (set_key_at-entry es j e k at) (IsEntries-replace_entry es j e k e.1 d at t)
 
-  pub IsEntries-replace_value : (es : List (K × V)) (j : ℕ) (e : K × V) (v : V) → IsEntries eq es → slice_get es j ≡ Some e → IsEntries eq (replace_value es j e v)
-  IsEntries-replace_value es j e v d at = IsEntries-replace_entry es j e e.0 v d at (laws.refl e.0)
+  pub IsEntries-set_value_at : (es : List (K × V)) (j : ℕ) (e : K × V) (v : V) → IsEntries eq es
+      → slice_get es j ≡ Some e
+      → IsEntries eq (set_value_at es j v)
+  IsEntries-set_value_at es j e v d at =
+      rw (set_value_at-entry es j e v at) (IsEntries-replace_entry es j e e.0 v d at (laws.refl e.0))
 
-  pub lookup_entry-insert_value : (q : K) (es : List (K × V)) (j : ℕ) (e : K × V) (v : V) → IsEntries eq es → slice_get es j ≡ Some e
-      → lookup_entry (eq q) (insert_value eq es e v) ≡ cond (eq e.0 q) (Some (e.0, v)) (lookup_entry (eq q) es)
+  pub lookup_entry-insert_value : (q : K) (es : List (K × V)) (j : ℕ) (e : K × V) (v : V) → IsEntries eq es
+      → slice_get es j ≡ Some e
+      → lookup_entry (eq q) (insert_value es j v) ≡ cond (eq e.0 q) (Some (e.0, v)) (lookup_entry (eq q) es)
   lookup_entry-insert_value q es j e v d at =
-      lookup_entry-put eq laws q es e.0 v (length es) d ∙ ap (λ k. cond (eq e.0 q) (Some (k, v)) (lookup_entry (eq q) es)) (stored_key_at eq laws es j e e.0 d at (laws.refl e.0))
+      ap (lookup_entry (eq q)) (insert_value-put es j e v d at) ∙ lookup_entry-put eq laws q es e.0 v (length es) d
+      ∙ ap (λ k. cond (eq e.0 q) (Some (k, v)) (lookup_entry (eq q) es))
+      (stored_key_at eq laws es j e e.0 d at (laws.refl e.0))
 
-  pub lookup_entry-replace_key : (q : K) (es : List (K × V)) (j : ℕ) (e : K × V) (k : K) → IsEntries eq es → slice_get es j ≡ Some e → eq k e.0 ≡ true
-      → lookup_entry (eq q) (replace_key es j e k) ≡ cond (eq k q) (Some (k, e.1)) (lookup_entry (eq q) es)
-  lookup_entry-replace_key q es j e k d at t = lookup_entry-replace_entry q es j e k e.1 d at t
+  pub lookup_entry-set_key_at : (q : K) (es : List (K × V)) (j : ℕ) (e : K × V) (k : K) → IsEntries eq es
+      → slice_get es j ≡ Some e
+      → eq k e.0 ≡ true
+      → lookup_entry (eq q) (set_key_at es j k) ≡ cond (eq k q) (Some (k, e.1)) (lookup_entry (eq q) es)
+  lookup_entry-set_key_at q es j e k d at t =
+      ap (lookup_entry (eq q)) (set_key_at-entry es j e k at) ∙ lookup_entry-replace_entry q es j e k e.1 d at t
 
-  pub lookup_entry-replace_value : (q : K) (es : List (K × V)) (j : ℕ) (e : K × V) (v : V) → IsEntries eq es → slice_get es j ≡ Some e
-      → lookup_entry (eq q) (replace_value es j e v) ≡ cond (eq e.0 q) (Some (e.0, v)) (lookup_entry (eq q) es)
-  lookup_entry-replace_value q es j e v d at = lookup_entry-replace_entry q es j e e.0 v d at (laws.refl e.0)
+  pub lookup_entry-set_value_at : (q : K) (es : List (K × V)) (j : ℕ) (e : K × V) (v : V) → IsEntries eq es
+      → slice_get es j ≡ Some e
+      → lookup_entry (eq q) (set_value_at es j v) ≡ cond (eq e.0 q) (Some (e.0, v)) (lookup_entry (eq q) es)
+  lookup_entry-set_value_at q es j e v d at =
+      ap (lookup_entry (eq q)) (set_value_at-entry es j e v at)
+      ∙ lookup_entry-replace_entry q es j e e.0 v d at (laws.refl e.0)
+
+-- ---- lengths
+
+module _ {K V : Type 0} where
+  length-set_key_at : (es : List (K × V)) (j : ℕ) (k : K) → length (set_key_at es j k) ≡ length es
+  length-set_key_at [] j k = refl
+  length-set_key_at (e ∷ es) zero k = refl
+  length-set_key_at (e ∷ es) (suc j) k = ap suc (length-set_key_at es j k)
+
+  length-inserted : (es : List (K × V)) (b : ℕ) (e : K × V) → length (insert es b e) ≡ length es + 1
+  length-inserted es b e = omega (arith, length-append (take b es) (e ∷ drop b es), length-take b es, length-drop b es)
+
+  pub length-moved_at : (es : List (K × V)) (j b : ℕ) → length (moved_at es j b) ≡ length es
+  length-moved_at es j b = by (slice_get es j) refl
+    where
+      by : (o : Option (K × V)) → slice_get es j ≡ o
+          → length (option_map_or (λ e. insert (remove es j) (place_left j b) e) o es) ≡ length es
+      by None at = refl
+      by (Some e) at =
+          let s = split_at es j e at in
+          length-inserted (remove es j) (place_left j b) e
+          ∙ ap (λ zs. length zs + 1) (ap₂ remove s.2 (sym s.3) ∙ remove-here s.0 e s.1)
+          ∙ omega (arith, length-append s.0 s.1, length-append s.0 (e ∷ s.1), ap length s.2)
+
+  pub length-replace_entry : (es : List (K × V)) (j : ℕ) (h : K) (v : V) → length (replace_entry es j h v) ≡ length es
+  length-replace_entry es j h v = length-set_key_at (set_value_at es j v) j h ∙ length-set_value_at es j v
+
+  pub length-insert_value : (es : List (K × V)) (j : ℕ) (v : V) → length (insert_value es j v) ≡ length es
+  length-insert_value es j v = length-moved_at (set_value_at es j v) j (length es) ∙ length-set_value_at es j v
+
+  pub length-insert_entry : (es : List (K × V)) (j : ℕ) (h : K) (v : V) → length (insert_entry es j h v) ≡ length es
+  length-insert_entry es j h v = length-moved_at (replace_entry es j h v) j (length es) ∙ length-replace_entry es j h v
+
+-- ---- where an entry stands
+
+module _ {K V S : Type 0} (eq : K → K → Bool) where
+  pub entry_stands : (e : EntryState K V S) (j : ℕ) → IsEntry eq e → e.place ≡ Some j
+      → (x : K × V) × (slice_get e.map.entries j ≡ Some x) × (eq e.key x.0 ≡ true)
+  entry_stands e j i p =
+      let s = stands_from_place (eq e.key) e.map.entries j (sym i ∙ p) in
+      (s.1, ap₂ slice_get s.3.is (sym s.4) ∙ slice_get_here s.0 s.1 s.2, s.3.passes)
+
+  pub raw_entry_stands : (m : MapState K V S) (k : K) → IsRawEntry (raw_entry_of eq m k)
+  raw_entry_stands m k = by (place_of (eq k) m.entries) refl
+    where
+      by : (o : Option ℕ) → place_of (eq k) m.entries ≡ o → MatchOption o (Unit {0}) (λ j. j < length m.entries)
+      by None p = tt
+      by (Some j) p =
+          let s = stands_from_place (eq k) m.entries j p in
+          omega (arith, s.4, ap length s.3.is, length-append s.0 (s.1 ∷ s.2))

@@ -1,5 +1,6 @@
 -- The first and the last entry taken out, and cursors and entries of a map's state.
-use Rattle.std.proofs.Common.{◌≡◌, ℕ, ◌+◌, ◌≤◌, Bool, List, [], ◌∷◌, ◌++◌, length, None, Some, Err, refl, sym, ap, ◌∙◌, ◌⊎◌, inl, inr, subst, append-nil}
+use Rattle.std.proofs.Common.{◌≡◌, ℕ, ◌+◌, ◌≤◌, Bool, List, [], ◌∷◌, ◌++◌, length, None, Some, Err, refl, sym, ap}
+use Rattle.std.proofs.Common.{◌∙◌, ◌⊎◌, inl, inr, subst, append-nil}
 use Rattle.std.specs.Cmp.{IsEquivalence}
 use Rattle.std.specs.Map.{lookup}
 use Rattle.std.proofs.lemmas.Map.{NonePasses}
@@ -10,22 +11,29 @@ use Rattle.std.specs.Map.Iter.{TakesFirst, TakesLast}
 use Rattle.hashlink_model.specs.Steps.{PopsFront, PopsBack}
 use Rattle.hashlink_model.specs.Walk.{after_first_of, before_last_of}
 use Rattle.hashlink_model.proofs.Walks.{takes_first, takes_last}
-use Rattle.hashlink_model.specs.Cursor.{CursorState, CursorInserts, place_after}
-use Rattle.hashlink_model.proofs.Splits.{Stands, splits, remove_entry-here, place_of-none, place_of-here, lookup-none, lookup-here}
+use Rattle.hashlink_model.specs.Cursor.{CursorState, CursorInserts, place_kept}
+use Rattle.hashlink_model.proofs.Splits.{Stands, splits, remove_entry-here, place_of-none, place_of-here, lookup-none}
+use Rattle.hashlink_model.proofs.Splits.{lookup-here}
 use Rattle.hashlink_model.proofs.Places.{none_before}
-use Rattle.hashlink_model.proofs.Cursors.{place_after-same}
+use Rattle.hashlink_model.proofs.Cursors.{place_kept-same}
 
 module _ {K V : Type 0} (eq : K → K → Bool) (laws : IsEquivalence eq) where
   pub without-first : (e : K × V) (es : List (K × V)) → without eq (e ∷ es) e.0 ≡ es
   without-first e es = rw (laws.refl e.0) refl
 
   pub without-last : (es : List (K × V)) (e : K × V) → IsEntries eq (es ++ e ∷ []) → without eq (es ++ e ∷ []) e.0 ≡ es
-  without-last es e d = remove_entry-here (eq e.0) e [] (laws.refl e.0) es (none_before eq laws es e [] e.0 d (laws.refl e.0)) ∙ append-nil es
+  without-last es e d =
+      remove_entry-here (eq e.0) e [] (laws.refl e.0) es (none_before eq laws es e [] e.0 d (laws.refl e.0))
+      ∙ append-nil es
 
   -- a key has a place exactly where a look-up finds it
-  vacant_by : (k : K) (es : List (K × V)) → NonePasses (eq k) es ⊎ Stands (eq k) es → place_of (eq k) es ≡ None → lookup (eq k) es ≡ None
+  vacant_by : (k : K) (es : List (K × V)) → NonePasses (eq k) es ⊎ Stands (eq k) es → place_of (eq k) es ≡ None
+      → lookup (eq k) es ≡ None
   vacant_by k es (inl n) p = lookup-none (eq k) es n
-  vacant_by k es (inr s) p = absurd (none-some (length s.0) (sym p ∙ (ap (place_of (eq k)) s.3.is ∙ place_of-here (eq k) s.1 s.2 s.3.passes s.0 s.3.before)))
+  vacant_by k es (inr s) p =
+      absurd
+      (none-some (length s.0)
+      (sym p ∙ (ap (place_of (eq k)) s.3.is ∙ place_of-here (eq k) s.1 s.2 s.3.passes s.0 s.3.before)))
 
   pub vacant : (k : K) (es : List (K × V)) → place_of (eq k) es ≡ None → lookup (eq k) es ≡ None
   vacant k es p = vacant_by k es (splits (eq k) es) p
@@ -35,21 +43,33 @@ module _ {K V : Type 0} (eq : K → K → Bool) (laws : IsEquivalence eq) where
     where
       absent_by : NonePasses (eq k) es ⊎ Stands (eq k) es → place_of (eq k) es ≡ None
       absent_by (inl n) = place_of-none (eq k) es n
-      absent_by (inr s) = absurd (none-some s.1.1 (sym l ∙ (ap (lookup (eq k)) s.3.is ∙ lookup-here (eq k) s.1 s.2 s.3.passes s.0 s.3.before)))
+      absent_by (inr s) =
+          absurd
+          (none-some s.1.1
+          (sym l ∙ (ap (lookup (eq k)) s.3.is ∙ lookup-here (eq k) s.1 s.2 s.3.passes s.0 s.3.before)))
 
   -- a refused insert of a cursor leaves the entries and the cursor
-  pub cursor_refused : {S : Type 0} (old new : CursorState K V S) (k : K) (v : V) (b : ℕ) (pair : K × V) → IsEntries eq old.map.entries → old.place ≤ length old.map.entries → CursorInserts eq old new k v b (Err pair)
+  pub cursor_refused : {S : Type 0} (old new : CursorState K V S) (k : K) (v : V) (b : ℕ) (pair : K × V)
+      → IsEntries eq old.map.entries → old.place ≤ length old.map.entries
+      → CursorInserts eq old new k v b (Err pair)
       → (new.map.entries ≡ old.map.entries) × (new.place ≡ old.place)
-  cursor_refused old new k v b pair d l s =
-      (s.map.entries, s.place ∙ ap (λ es. place_after eq old.map.entries es old.place) s.map.entries ∙ place_after-same eq laws old.map.entries old.place d l)
+  cursor_refused old new k v b pair d l s = (
+    s.map.grows.entries,
+    s.place ∙ ap (λ es. place_kept eq old.map.entries es old.place) s.map.grows.entries
+        ∙ place_kept-same eq laws old.map.entries old.place d l,
+  )
 
 module _ {K V S : Type 0} (old new : MapState K V S) (e : K × V) where
   pub pops_front : PopsFront old new (Some e) → (old.entries ≡ e ∷ new.entries) × (new.spare ≡ old.spare + 1)
   pops_front s =
-      let taken : TakesFirst (λ x. x) old.entries (Some e) (after_first_of old.entries) = subst (λ o. TakesFirst (λ x. x) old.entries o (after_first_of old.entries)) (sym s.0) (takes_first old.entries) in
-      (taken ∙ ap (λ r. e ∷ r) (sym s.1.entries), s.1.spare)
+      let taken : TakesFirst (λ x. x) old.entries (Some e) (after_first_of old.entries)
+      = subst (λ o. TakesFirst (λ x. x) old.entries o (after_first_of old.entries)) (sym s.answer)
+      (takes_first old.entries) in
+      (taken ∙ ap (λ r. e ∷ r) (sym s.step.entries), s.step.spare)
 
   pub pops_back : PopsBack old new (Some e) → (old.entries ≡ new.entries ++ e ∷ []) × (new.spare ≡ old.spare + 1)
   pops_back s =
-      let taken : TakesLast (λ x. x) old.entries (Some e) (before_last_of old.entries) = subst (λ o. TakesLast (λ x. x) old.entries o (before_last_of old.entries)) (sym s.0) (takes_last old.entries) in
-      (taken ∙ ap (λ r. r ++ e ∷ []) (sym s.1.entries), s.1.spare)
+      let taken : TakesLast (λ x. x) old.entries (Some e) (before_last_of old.entries)
+      = subst (λ o. TakesLast (λ x. x) old.entries o (before_last_of old.entries)) (sym s.answer)
+      (takes_last old.entries) in
+      (taken ∙ ap (λ r. r ++ e ∷ []) (sym s.step.entries), s.step.spare)

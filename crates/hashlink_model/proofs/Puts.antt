@@ -1,5 +1,7 @@
 -- The entries after a key is put at a place.
-use Rattle.std.proofs.Common.{option_map, ap, ◌≡◌, ℕ, ◌+◌, ◌-◌, ◌≤◌, ◌<◌, Bool, true, false, cond, List, [], ◌∷◌, ◌++◌, length, Option, None, Some, refl, sym, ◌∙◌, ◌⊎◌, inl, inr, subst, arith, take, drop}
+use Rattle.std.proofs.Common.{option_map, ap, ◌≡◌, ℕ, ◌+◌, ◌-◌, ◌≤◌, ◌<◌, Bool, true, false, cond, List, [], ◌∷◌}
+use Rattle.std.proofs.Common.{◌++◌, length, Option, None, Some, refl, sym, ◌∙◌, ◌⊎◌, inl, inr, subst, arith, take}
+use Rattle.std.proofs.Common.{drop}
 use Rattle.std.specs.Prelude.{insert, nat_lt}
 use Rattle.std.specs.Option.{option_map_or}
 use Rattle.std.specs.Cmp.{IsEquivalence}
@@ -8,7 +10,9 @@ use Rattle.std.proofs.lemmas.Map.{NonePasses}
 use Rattle.std.proofs.lemmas.List.{take-append-drop, length-append, take_at, drop_at}
 use Rattle.std.proofs.lemmas.List.Edits.{insert_end}
 use Rattle.hashlink_model.specs.Entries.{IsEntries, place_of, place_without, without, stored_key, put}
-use Rattle.hashlink_model.proofs.Splits.{StandsAt, Stands, splits, stands_from_place, place_of-none, place_of-here, lookup_key-none, lookup_key-here, remove_entry-none, remove_entry-here, set_value-here}
+use Rattle.hashlink_model.proofs.Splits.{StandsAt, Stands, splits, stands_from_place, place_of-none, place_of-here}
+use Rattle.hashlink_model.proofs.Splits.{lookup_key-none, lookup_key-here, remove_entry-none, remove_entry-here}
+use Rattle.hashlink_model.proofs.Splits.{set_value-here}
 use Rattle.std.proofs.Common.{lt-ltb, le-ltb, zero-le}
 use Rattle.hashlink_model.proofs.Distinct.{none_equal, none_others, IsEntries-middle, IsEntries-insert}
 use Rattle.hashlink_model.proofs.Finds.{stored_key-equal, lookup_entry-middle, lookup_entry-without}
@@ -23,21 +27,36 @@ cond-same_test false x y z = refl
 
 module _ {K V : Type 0} (eq : K → K → Bool) where
   -- an absent key goes in at the place
-  pub put-absent : (es : List (K × V)) (k : K) (v : V) (b : ℕ) → NonePasses (eq k) es → put eq es k v b ≡ insert es b (k, v)
-  put-absent es k v b n = rw (remove_entry-none (eq k) es n, place_of-none (eq k) es n, lookup_key-none (eq k) es n) refl
+  pub put-absent : (es : List (K × V)) (k : K) (v : V) (b : ℕ) → NonePasses (eq k) es
+      → put eq es k v b ≡ insert es b (k, v)
+  put-absent es k v b n =
+      rw (remove_entry-none (eq k) es n, place_of-none (eq k) es n, lookup_key-none (eq k) es n) refl
 
   -- a key that is there leaves its place, and goes in with its own key object
-  pub put-here : (xs : List (K × V)) (e : K × V) (ys : List (K × V)) (k : K) (v : V) (b : ℕ) → eq k e.0 ≡ true → NonePasses (eq k) xs
+  pub put-here : (xs : List (K × V)) (e : K × V) (ys : List (K × V)) (k : K) (v : V) (b : ℕ) → eq k e.0 ≡ true
+      → NonePasses (eq k) xs
       → put eq (xs ++ e ∷ ys) k v b ≡ insert (xs ++ ys) (cond (nat_lt (length xs) b) (b - 1) b) (e.0, v)
-  put-here xs e ys k v b t n = rw (remove_entry-here (eq k) e ys t xs n, place_of-here (eq k) e ys t xs n, lookup_key-here (eq k) e ys t xs n) refl
+  put-here xs e ys k v b t n =
+      rw (remove_entry-here (eq k) e ys t xs n, place_of-here (eq k) e ys t xs n, lookup_key-here (eq k) e ys t xs n)
+      refl
 
   -- ---- at the ends, and where the key stands already
 
-  end_by : (es : List (K × V)) (k : K) → NonePasses (eq k) es ⊎ Stands (eq k) es → place_without eq es k (length es) ≡ length (without eq es k)
+  end_by : (es : List (K × V)) (k : K) → NonePasses (eq k) es ⊎ Stands (eq k) es
+      → place_without eq es k (length es) ≡ length (without eq es k)
   end_by es k (inl n) = rw (remove_entry-none (eq k) es n, place_of-none (eq k) es n) refl
-  end_by es k (inr s) = rw (s.3.is, remove_entry-here (eq k) s.1 s.2 s.3.passes s.0 s.3.before, place_of-here (eq k) s.1 s.2 s.3.passes s.0 s.3.before) (last s.0 s.1 s.2)
+  end_by es k (inr s) =
+      rw (
+        s.3.is,
+        remove_entry-here (eq k) s.1 s.2 s.3.passes s.0 s.3.before,
+        place_of-here (eq k) s.1 s.2 s.3.passes
+            s.0 s.3.before,
+      )
+      (last s.0 s.1 s.2)
     where
-      last : (xs : List (K × V)) (e : K × V) (ys : List (K × V)) → cond (nat_lt (length xs) (length (xs ++ e ∷ ys))) (length (xs ++ e ∷ ys) - 1) (length (xs ++ e ∷ ys)) ≡ length (xs ++ ys)
+      last : (xs : List (K × V)) (e : K × V) (ys : List (K × V))
+          → cond (nat_lt (length xs) (length (xs ++ e ∷ ys))) (length (xs ++ e ∷ ys) - 1) (length (xs ++ e ∷ ys))
+          ≡ length (xs ++ ys)
       last xs e ys =
           let a = length-append xs (e ∷ ys) in
           let b = length-append xs ys in
@@ -51,7 +70,8 @@ module _ {K V : Type 0} (eq : K → K → Bool) where
   place_without-front es k = front_by (place_of (eq k) es)
 
   -- put at the end is last, with the key object that was there
-  pub put_back : (es : List (K × V)) (k : K) (v : V) → put eq es k v (length es) ≡ without eq es k ++ (stored_key eq es k, v) ∷ []
+  pub put_back : (es : List (K × V)) (k : K) (v : V)
+      → put eq es k v (length es) ≡ without eq es k ++ (stored_key eq es k, v) ∷ []
   put_back es k v = rw (place_without-end es k) (insert_end (without eq es k) (stored_key eq es k, v))
 
   -- put at 0 is first
@@ -59,47 +79,56 @@ module _ {K V : Type 0} (eq : K → K → Bool) where
   put_front es k v = rw (place_without-front es k) refl
 
   -- put where the key stands, or directly after it, changes the value alone
-  kept_by : (es : List (K × V)) (k : K) (v : V) (j b : ℕ) → (b ≡ j) ⊎ (b ≡ j + 1) → (xs : List (K × V)) × (e : K × V) × (ys : List (K × V)) × StandsAt (eq k) es xs e ys × (length xs ≡ j)
+  kept_by : (es : List (K × V)) (k : K) (v : V) (j b : ℕ) → (b ≡ j) ⊎ (b ≡ j + 1)
+      → (xs : List (K × V)) × (e : K × V) × (ys : List (K × V)) × StandsAt (eq k) es xs e ys × (length xs ≡ j)
       → put eq es k v b ≡ set_value (eq k) es v
   kept_by es k v j b at s =
-      rw (s.3.is, put-here s.0 s.1 s.2 k v b s.3.passes s.3.before, set_value-here (eq k) s.1 s.2 s.3.passes v s.0 s.3.before, same_place at)
+      rw (
+        s.3.is,
+        put-here s.0 s.1 s.2 k v b s.3.passes s.3.before,
+        set_value-here (eq k) s.1 s.2 s.3.passes v s.0
+            s.3.before,
+        same_place at,
+      )
       (rw (take_at s.0 s.2 (length s.0) refl, drop_at s.0 s.2 (length s.0) refl) refl)
     where
       same_place : (b ≡ j) ⊎ (b ≡ j + 1) → cond (nat_lt (length s.0) b) (b - 1) b ≡ length s.0
       same_place (inl e) = let le : b ≤ length s.0 = omega arith in rw (le-ltb _ _ le) (omega arith)
       same_place (inr e) = let lt : length s.0 < b = omega arith in rw (lt-ltb _ _ lt) (omega arith)
 
-  pub put_at_its_place : (es : List (K × V)) (k : K) (v : V) (j : ℕ) → place_of (eq k) es ≡ Some j → put eq es k v j ≡ set_value (eq k) es v
+  pub put_at_its_place : (es : List (K × V)) (k : K) (v : V) (j : ℕ) → place_of (eq k) es ≡ Some j
+      → put eq es k v j ≡ set_value (eq k) es v
   put_at_its_place es k v j p = kept_by es k v j j (inl refl) (stands_from_place (eq k) es j p)
 
-  pub put_after_its_place : (es : List (K × V)) (k : K) (v : V) (j : ℕ) → place_of (eq k) es ≡ Some j → put eq es k v (j + 1) ≡ set_value (eq k) es v
+  pub put_after_its_place : (es : List (K × V)) (k : K) (v : V) (j : ℕ) → place_of (eq k) es ≡ Some j
+      → put eq es k v (j + 1) ≡ set_value (eq k) es v
   put_after_its_place es k v j p = kept_by es k v j (j + 1) (inr refl) (stands_from_place (eq k) es j p)
 
   -- ---- in a list taken apart at the key
 
-  pub put_back_absent : (es : List (K × V)) (k : K) (v : V) → NonePasses (eq k) es → put eq es k v (length es) ≡ es ++ (k, v) ∷ []
+  pub put_back_absent : (es : List (K × V)) (k : K) (v : V) → NonePasses (eq k) es
+      → put eq es k v (length es) ≡ es ++ (k, v) ∷ []
   put_back_absent es k v n = put-absent es k v (length es) n ∙ insert_end es (k, v)
 
-  pub put_back_here : (xs : List (K × V)) (e : K × V) (ys : List (K × V)) (k : K) (v : V) → eq k e.0 ≡ true → NonePasses (eq k) xs
+  pub put_back_here : (xs : List (K × V)) (e : K × V) (ys : List (K × V)) (k : K) (v : V) → eq k e.0 ≡ true
+      → NonePasses (eq k) xs
       → put eq (xs ++ e ∷ ys) k v (length (xs ++ e ∷ ys)) ≡ (xs ++ ys) ++ (e.0, v) ∷ []
-  put_back_here xs e ys k v t n = put_back (xs ++ e ∷ ys) k v ∙ rw (remove_entry-here (eq k) e ys t xs n, lookup_key-here (eq k) e ys t xs n) refl
-
-  pub put_front_absent : (es : List (K × V)) (k : K) (v : V) → NonePasses (eq k) es → put eq es k v 0 ≡ (k, v) ∷ es
-  put_front_absent es k v n = put-absent es k v 0 n
-
-  pub put_front_here : (xs : List (K × V)) (e : K × V) (ys : List (K × V)) (k : K) (v : V) → eq k e.0 ≡ true → NonePasses (eq k) xs
-      → put eq (xs ++ e ∷ ys) k v 0 ≡ (e.0, v) ∷ (xs ++ ys)
-  put_front_here xs e ys k v t n = put_front (xs ++ e ∷ ys) k v ∙ rw (remove_entry-here (eq k) e ys t xs n, lookup_key-here (eq k) e ys t xs n) refl
+  put_back_here xs e ys k v t n =
+      put_back (xs ++ e ∷ ys) k v ∙ rw (remove_entry-here (eq k) e ys t xs n, lookup_key-here (eq k) e ys t xs n) refl
 
 module _ {K V : Type 0} (eq : K → K → Bool) (laws : IsEquivalence eq) where
   -- ---- keys stay pairwise unequal
 
-  unequal_by : (es : List (K × V)) (k : K) → IsEntries eq es → NonePasses (eq k) es ⊎ Stands (eq k) es → IsEntries eq (without eq es k) × NonePasses (eq k) (without eq es k)
+  unequal_by : (es : List (K × V)) (k : K) → IsEntries eq es → NonePasses (eq k) es ⊎ Stands (eq k) es
+      → IsEntries eq (without eq es k) × NonePasses (eq k) (without eq es k)
   unequal_by es k d (inl n) = rw (remove_entry-none (eq k) es n) (d, n)
   unequal_by es k d (inr s) =
       let there = subst (IsEntries eq) s.3.is d in
-      rw (s.3.is, remove_entry-here (eq k) s.1 s.2 s.3.passes s.0 s.3.before)
-      (IsEntries-middle eq laws s.0 s.1 s.2 there, none_equal eq laws s.1.0 k (s.0 ++ s.2) (laws.symm s.1.0 k ∙ s.3.passes) (none_others eq laws s.0 s.1 s.2 there))
+      rw (s.3.is, remove_entry-here (eq k) s.1 s.2 s.3.passes s.0 s.3.before) (
+        IsEntries-middle eq laws s.0 s.1 s.2 there,
+        none_equal eq laws s.1.0 k (s.0 ++ s.2)
+            (laws.symm s.1.0 k ∙ s.3.passes) (none_others eq laws s.0 s.1 s.2 there),
+      )
 
   pub IsEntries-without : (es : List (K × V)) (k : K) → IsEntries eq es → IsEntries eq (without eq es k)
   IsEntries-without es k d = (unequal_by es k d (splits (eq k) es)).0
@@ -109,54 +138,74 @@ module _ {K V : Type 0} (eq : K → K → Bool) (laws : IsEquivalence eq) where
   none_without es k d = (unequal_by es k d (splits (eq k) es)).1
 
   -- no entry without the key is equal to the stored key
-  none_stored : (es : List (K × V)) (k : K) (j : ℕ) → IsEntries eq es → NonePasses (eq (stored_key eq es k)) (take j (without eq es k) ++ drop j (without eq es k))
+  none_stored : (es : List (K × V)) (k : K) (j : ℕ) → IsEntries eq es
+      → NonePasses (eq (stored_key eq es k)) (take j (without eq es k) ++ drop j (without eq es k))
   none_stored es k j d =
-      rw (take-append-drop j (without eq es k)) (none_equal eq laws k (stored_key eq es k) (without eq es k) (stored_key-equal eq laws k es) (none_without es k d))
+      rw (take-append-drop j (without eq es k))
+      (none_equal eq laws k (stored_key eq es k) (without eq es k) (stored_key-equal eq laws k es)
+      (none_without es k d))
 
   pub IsEntries-put : (es : List (K × V)) (k : K) (v : V) (b : ℕ) → IsEntries eq es → IsEntries eq (put eq es k v b)
   IsEntries-put es k v b d =
       let j = place_without eq es k b in
-      IsEntries-insert eq laws (take j (without eq es k)) (stored_key eq es k, v) (drop j (without eq es k)) (none_stored es k j d)
+      IsEntries-insert eq laws (take j (without eq es k)) (stored_key eq es k, v) (drop j (without eq es k))
+      (none_stored es k j d)
       (rw (take-append-drop j (without eq es k)) (IsEntries-without es k d))
 
   -- ---- what a look-up finds afterwards
 
-  pub lookup_entry-put : (q : K) (es : List (K × V)) (k : K) (v : V) (b : ℕ) → IsEntries eq es → lookup_entry (eq q) (put eq es k v b) ≡ cond (eq k q) (Some (stored_key eq es k, v)) (lookup_entry (eq q) es)
+  pub lookup_entry-put : (q : K) (es : List (K × V)) (k : K) (v : V) (b : ℕ) → IsEntries eq es
+      → lookup_entry (eq q) (put eq es k v b) ≡ cond (eq k q) (Some (stored_key eq es k, v)) (lookup_entry (eq q) es)
   lookup_entry-put q es k v b d =
       let j = place_without eq es k b in
-      lookup_entry-middle eq laws q (stored_key eq es k, v) (drop j (without eq es k)) (take j (without eq es k)) (none_stored es k j d)
-      ∙ rw (take-append-drop j (without eq es k), lookup_entry-without eq laws q k es d, ← laws.congr k (stored_key eq es k) q (stored_key-equal eq laws k es)) (cond-same_test (eq k q) _ _ _)
+      lookup_entry-middle eq laws q (stored_key eq es k, v) (drop j (without eq es k)) (take j (without eq es k))
+      (none_stored es k j d)
+      ∙ rw (
+        take-append-drop j (without eq es k),
+        lookup_entry-without eq laws q k es d,
+        ← laws.congr k
+            (stored_key eq es k) q (stored_key-equal eq laws k es),
+      )
+      (cond-same_test (eq k q) _ _ _)
 
 -- ---- a value that is changed leaves every place
 
 module _ {K V : Type 0} (test : K → Bool) where
-  same_places_by : (other : K → Bool) (e : K × V) (es : List (K × V)) (v : V) (b : Bool) → test e.0 ≡ b → place_of other (set_value test es v) ≡ place_of other es → place_of other (set_value test (e ∷ es) v) ≡ place_of other (e ∷ es)
+  same_places_by : (other : K → Bool) (e : K × V) (es : List (K × V)) (v : V) (b : Bool) → test e.0 ≡ b
+      → place_of other (set_value test es v) ≡ place_of other es
+      → place_of other (set_value test (e ∷ es) v) ≡ place_of other (e ∷ es)
   same_places_by other e es v true t h = rw t refl
   same_places_by other e es v false t h = rw t (ap (λ o. cond (other e.0) (Some 0) (option_map (λ j. j + 1) o)) h)
 
-  pub place_of-set_value : (other : K → Bool) (es : List (K × V)) (v : V) → place_of other (set_value test es v) ≡ place_of other es
+  pub place_of-set_value : (other : K → Bool) (es : List (K × V)) (v : V)
+      → place_of other (set_value test es v) ≡ place_of other es
   place_of-set_value other [] v = refl
   place_of-set_value other (e ∷ es) v = same_places_by other e es v (test e.0) refl (place_of-set_value other es v)
 
 -- ---- and what every other key has
 
 module _ {K V : Type 0} (eq : K → K → Bool) (laws : IsEquivalence eq) where
-  others_by : (q : K) (e : K × V) (es : List (K × V)) (k : K) (v : V) (b : Bool) → eq k e.0 ≡ b → eq k q ≡ false → lookup_entry (eq q) (set_value (eq k) es v) ≡ lookup_entry (eq q) es
+  others_by : (q : K) (e : K × V) (es : List (K × V)) (k : K) (v : V) (b : Bool) → eq k e.0 ≡ b → eq k q ≡ false
+      → lookup_entry (eq q) (set_value (eq k) es v) ≡ lookup_entry (eq q) es
       → lookup_entry (eq q) (cond b ((e.0, v) ∷ es) (e ∷ set_value (eq k) es v)) ≡ lookup_entry (eq q) (e ∷ es)
   others_by q e es k v true p t h =
       let apart : eq q e.0 ≡ false = laws.symm q e.0 ∙ sym (laws.congr k e.0 q p) ∙ t in
       rw apart refl
   others_by q e es k v false p t h = ap (cond (eq q e.0) (Some e)) h
 
-  pub lookup_entry-set_value_other : (q : K) (es : List (K × V)) (k : K) (v : V) → eq k q ≡ false → lookup_entry (eq q) (set_value (eq k) es v) ≡ lookup_entry (eq q) es
+  pub lookup_entry-set_value_other : (q : K) (es : List (K × V)) (k : K) (v : V) → eq k q ≡ false
+      → lookup_entry (eq q) (set_value (eq k) es v) ≡ lookup_entry (eq q) es
   lookup_entry-set_value_other q [] k v t = refl
-  lookup_entry-set_value_other q (e ∷ es) k v t = others_by q e es k v (eq k e.0) refl t (lookup_entry-set_value_other q es k v t)
+  lookup_entry-set_value_other q (e ∷ es) k v t =
+      others_by q e es k v (eq k e.0) refl t (lookup_entry-set_value_other q es k v t)
 
 -- ---- the end after an insert
 
 module _ {K V : Type 0} (eq : K → K → Bool) (laws : IsEquivalence eq) where
-  pub last_after_put : (es : List (K × V)) (k : K) (v : V) → (xs : List (K × V)) × (k0 : K) × (put eq es k v (length es) ≡ xs ++ (k0, v) ∷ []) × (eq k k0 ≡ true)
+  pub last_after_put : (es : List (K × V)) (k : K) (v : V)
+      → (xs : List (K × V)) × (k0 : K) × (put eq es k v (length es) ≡ xs ++ (k0, v) ∷ []) × (eq k k0 ≡ true)
   last_after_put es k v = (without eq es k, stored_key eq es k, put_back eq es k v, stored_key-equal eq laws k es)
 
-  pub first_after_put : (es : List (K × V)) (k : K) (v : V) → (xs : List (K × V)) × (k0 : K) × (put eq es k v 0 ≡ (k0, v) ∷ xs) × (eq k k0 ≡ true)
+  pub first_after_put : (es : List (K × V)) (k : K) (v : V)
+      → (xs : List (K × V)) × (k0 : K) × (put eq es k v 0 ≡ (k0, v) ∷ xs) × (eq k k0 ≡ true)
   first_after_put es k v = (without eq es k, stored_key eq es k, put_front eq es k v, stored_key-equal eq laws k es)

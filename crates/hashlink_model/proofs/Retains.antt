@@ -1,8 +1,11 @@
--- What a retain leaves: in the list's own order, with keys pairwise unequal, and a filter where the closure is a predicate.
-use Rattle.std.proofs.Common.{◌≡◌, Bool, true, false, cond, List, [], ◌∷◌, ◌++◌, Option, None, Some, filter, Contains, refl, sym, ap, ap₂, ◌∙◌, subst, IsPermutation}
+-- What a retain leaves: in the list's own order, with keys pairwise unequal, and a filter where the closure is a
+-- predicate.
+use Rattle.std.proofs.Common.{◌≡◌, Bool, true, false, cond, List, [], ◌∷◌, ◌++◌, Option, None, Some, filter, Contains}
+use Rattle.std.proofs.Common.{refl, sym, ap, ap₂, ◌∙◌, subst, IsPermutation}
 use Rattle.std.specs.Cmp.{IsEquivalence}
 use Rattle.std.specs.List.{AllByRecursion, cons_option}
 use Rattle.std.specs.Map.{lookup_entry, keys_of}
+use Rattle.std.specs.Map.Calls.{RetainsPairs}
 use Rattle.std.proofs.lemmas.Map.{NonePasses}
 use Rattle.std.proofs.lemmas.Map.Keys.{IsDistinct-IsPermutation}
 use Rattle.std.proofs.lemmas.Map.Entries.{filter_from_retain_pairs}
@@ -10,22 +13,33 @@ use Rattle.std.proofs.lemmas.List.Elements.{recursion_from_All, All-contains_its
 use Rattle.std.proofs.lemmas.List.Sorted.{IsPermutation-map, Contains-permutation, IsPermutation-refl}
 use Rattle.std.proofs.lemmas.Option.{slice_get-get_or, none-some, same_Some}
 use Rattle.hashlink_model.specs.Entries.{IsEntries}
-use Rattle.hashlink_model.specs.Retain.{Keeps, KeepsInOrder, in_order_of}
-use Rattle.hashlink_model.proofs.Distinct.{IsEntries-cons, IsEntries-head, IsEntries-tail, each-append, each-left, each-right, each-weaker, none_equal, none_others}
+use Rattle.hashlink_model.specs.Retain.{KeepsInSomeOrder, KeepsInOrder, in_order_of}
+use Rattle.hashlink_model.proofs.Distinct.{IsEntries-cons, IsEntries-head, IsEntries-tail, each-append, each-left}
+use Rattle.hashlink_model.proofs.Distinct.{each-right, each-weaker, none_equal, none_others}
 use Rattle.hashlink_model.proofs.Splits.{lookup_entry-none, lookup_entry-here}
 use Rattle.hashlink_model.proofs.Places.{split_at}
 
+module _ {F K V : Type 0} (T : F → K → V → Bool → V → F → Type 0) where
+  -- the calls along a list, without the state in which they leave the closure
+  pub retains-called : (f : F) (es kept : List (K × V)) (g : F) → KeepsInOrder T f es kept g → RetainsPairs T f es kept
+  retains-called f [] kept g r = r.0
+  retains-called f (e ∷ es) kept g r = (r.0, r.1, r.2, r.3, r.4, retains-called r.2 es r.3 g r.5, r.6)
+
 module _ {K V : Type 0} where
   -- an entry that a look-up finds passes the test
-  found_by : (test : K → Bool) (e : K × V) (es : List (K × V)) (f : K × V) (b : Bool) → test e.0 ≡ b → (lookup_entry test es ≡ Some f → test f.0 ≡ true) → cond b (Some e) (lookup_entry test es) ≡ Some f → test f.0 ≡ true
+  found_by : (test : K → Bool) (e : K × V) (es : List (K × V)) (f : K × V) (b : Bool) → test e.0 ≡ b
+      → (lookup_entry test es ≡ Some f → test f.0 ≡ true) → cond b (Some e) (lookup_entry test es) ≡ Some f
+      → test f.0 ≡ true
   found_by test e es f true t h l = subst (λ x. test x.0 ≡ true) (same_Some e f l) t
   found_by test e es f false t h l = h l
 
-  pub found_passes : (test : K → Bool) (es : List (K × V)) (f : K × V) → lookup_entry test es ≡ Some f → test f.0 ≡ true
+  pub found_passes : (test : K → Bool) (es : List (K × V)) (f : K × V) → lookup_entry test es ≡ Some f
+      → test f.0 ≡ true
   found_passes test [] f l = absurd (none-some f l)
   found_passes test (e ∷ es) f l = found_by test e es f (test e.0) refl (found_passes test es f) l
 
-  pub none_filtered : (test : K → Bool) (p : K × V → Bool) (es : List (K × V)) → NonePasses test es → NonePasses test (filter p es)
+  pub none_filtered : (test : K → Bool) (p : K × V → Bool) (es : List (K × V)) → NonePasses test es
+      → NonePasses test (filter p es)
   none_filtered test p [] n = tt
   none_filtered test p (e ∷ es) n = by (p e) (none_filtered test p es n.1)
     where
@@ -36,35 +50,50 @@ module _ {K V : Type 0} where
 module _ {K V : Type 0} (eq : K → K → Bool) (laws : IsEquivalence eq) where
   -- ---- keys stay pairwise unequal
 
-  apart_by : (q : K) (e : K × V) (o : Option (K × V)) (zs : List (K × V)) → eq q e.0 ≡ false → ((f : K × V) → o ≡ Some f → eq e.0 f.0 ≡ true) → NonePasses (eq q) zs → NonePasses (eq q) (cons_option o zs)
+  apart_by : (q : K) (e : K × V) (o : Option (K × V)) (zs : List (K × V)) → eq q e.0 ≡ false
+      → ((f : K × V) → o ≡ Some f → eq e.0 f.0 ≡ true) → NonePasses (eq q) zs
+      → NonePasses (eq q) (cons_option o zs)
   apart_by q e None zs a t n = n
   apart_by q e (Some f) zs a t n = (laws.symm q f.0 ∙ sym (laws.congr e.0 f.0 q (t f refl)) ∙ laws.symm e.0 q ∙ a, n)
 
-  pub none_in_order : (q : K) (es kept : List (K × V)) → NonePasses (eq q) es → NonePasses (eq q) (in_order_of eq es kept)
+  pub none_in_order : (q : K) (es kept : List (K × V)) → NonePasses (eq q) es
+      → NonePasses (eq q) (in_order_of eq es kept)
   none_in_order q [] kept n = tt
-  none_in_order q (e ∷ es) kept n = apart_by q e (lookup_entry (eq e.0) kept) (in_order_of eq es kept) n.0 (found_passes (eq e.0) kept) (none_in_order q es kept n.1)
+  none_in_order q (e ∷ es) kept n =
+      apart_by q e (lookup_entry (eq e.0) kept) (in_order_of eq es kept) n.0 (found_passes (eq e.0) kept)
+      (none_in_order q es kept n.1)
 
-  distinct_by : (e : K × V) (o : Option (K × V)) (zs : List (K × V)) → ((f : K × V) → o ≡ Some f → eq e.0 f.0 ≡ true) → NonePasses (eq e.0) zs → IsEntries eq zs → IsEntries eq (cons_option o zs)
+  distinct_by : (e : K × V) (o : Option (K × V)) (zs : List (K × V)) → ((f : K × V) → o ≡ Some f → eq e.0 f.0 ≡ true)
+      → NonePasses (eq e.0) zs → IsEntries eq zs
+      → IsEntries eq (cons_option o zs)
   distinct_by e None zs t n d = d
   distinct_by e (Some f) zs t n d = IsEntries-cons eq f zs (none_equal eq laws e.0 f.0 zs (t f refl) n) d
 
   pub IsEntries-in_order_of : (es kept : List (K × V)) → IsEntries eq es → IsEntries eq (in_order_of eq es kept)
   IsEntries-in_order_of [] kept d = d
   IsEntries-in_order_of (e ∷ es) kept d =
-      distinct_by e (lookup_entry (eq e.0) kept) (in_order_of eq es kept) (found_passes (eq e.0) kept) (none_in_order e.0 es kept (IsEntries-head eq e es d))
+      distinct_by e (lookup_entry (eq e.0) kept) (in_order_of eq es kept) (found_passes (eq e.0) kept)
+      (none_in_order e.0 es kept (IsEntries-head eq e es d))
       (IsEntries-in_order_of es kept (IsEntries-tail eq e es d))
 
-  pub IsEntries-keeps : {F : Type 0} (T : F → K → V → Bool → V → F → Type 0) (f : F) (es new : List (K × V)) → IsEntries eq es → Keeps T eq f es new → IsEntries eq new
-  IsEntries-keeps T f es new d r = rw (r.entries) (IsEntries-in_order_of es r.kept d)
+  pub IsEntries-keeps : {F : Type 0} (T : F → K → V → Bool → V → F → Type 0) (f : F) (es new : List (K × V)) (h : F)
+      → IsEntries eq es → KeepsInSomeOrder T eq f es new h
+      → IsEntries eq new
+  IsEntries-keeps T f es new h d r = rw (r.entries) (IsEntries-in_order_of es r.kept d)
 
   -- ---- a predicate
 
-  at_by : (p : K × V → Bool) (us : List (K × V)) (e : K × V) (vs : List (K × V)) (b : Bool) → NonePasses (eq e.0) us → NonePasses (eq e.0) vs
+  at_by : (p : K × V → Bool) (us : List (K × V)) (e : K × V) (vs : List (K × V)) (b : Bool) → NonePasses (eq e.0) us
+      → NonePasses (eq e.0) vs
       → lookup_entry (eq e.0) (filter p us ++ cond b (e ∷ filter p vs) (filter p vs)) ≡ cond b (Some e) None
-  at_by p us e vs true n m = lookup_entry-here (eq e.0) e (filter p vs) (laws.refl e.0) (filter p us) (none_filtered (eq e.0) p us n)
-  at_by p us e vs false n m = lookup_entry-none (eq e.0) (filter p us ++ filter p vs) (each-append _ (filter p us) (filter p vs) (none_filtered (eq e.0) p us n) (none_filtered (eq e.0) p vs m))
+  at_by p us e vs true n m =
+      lookup_entry-here (eq e.0) e (filter p vs) (laws.refl e.0) (filter p us) (none_filtered (eq e.0) p us n)
+  at_by p us e vs false n m =
+      lookup_entry-none (eq e.0) (filter p us ++ filter p vs)
+      (each-append _ (filter p us) (filter p vs) (none_filtered (eq e.0) p us n) (none_filtered (eq e.0) p vs m))
 
-  lookup_filtered : (p : K × V → Bool) (es : List (K × V)) (e : K × V) → IsEntries eq es → Contains es e → lookup_entry (eq e.0) (filter p es) ≡ cond (p e) (Some e) None
+  lookup_filtered : (p : K × V → Bool) (es : List (K × V)) (e : K × V) → IsEntries eq es → Contains es e
+      → lookup_entry (eq e.0) (filter p es) ≡ cond (p e) (Some e) None
   lookup_filtered p es e d c =
       let s = split_at es c.0 e (slice_get-get_or es c.0 e c.1 ∙ ap Some c.2) in
       let apart = none_others eq laws s.0 e s.1 (subst (IsEntries eq) s.2 d) in
@@ -72,7 +101,9 @@ module _ {K V : Type 0} (eq : K → K → Bool) (laws : IsEquivalence eq) where
       ∙ ap (lookup_entry (eq e.0)) (filter-append p s.0 (e ∷ s.1))
       ∙ at_by p s.0 e s.1 (p e) (each-left _ s.0 s.1 apart) (each-right _ s.0 s.1 apart)
 
-  in_order_by : (p : K × V → Bool) (kept es : List (K × V)) → AllByRecursion (λ e. lookup_entry (eq e.0) kept ≡ cond (p e) (Some e) None) es → in_order_of eq es kept ≡ filter p es
+  in_order_by : (p : K × V → Bool) (kept es : List (K × V))
+      → AllByRecursion (λ e. lookup_entry (eq e.0) kept ≡ cond (p e) (Some e) None) es
+      → in_order_of eq es kept ≡ filter p es
   in_order_by p kept [] a = refl
   in_order_by p kept (e ∷ es) a = ap₂ cons_option a.0 (in_order_by p kept es a.1) ∙ one (p e)
     where
@@ -80,36 +111,53 @@ module _ {K V : Type 0} (eq : K → K → Bool) (laws : IsEquivalence eq) where
       one true = refl
       one false = refl
 
-  pub in_order_of-filter : (p : K × V → Bool) (es order : List (K × V)) → IsEntries eq es → IsPermutation es order → in_order_of eq es (filter p order) ≡ filter p es
+  pub in_order_of-filter : (p : K × V → Bool) (es order : List (K × V)) → IsEntries eq es → IsPermutation es order
+      → in_order_of eq es (filter p order) ≡ filter p es
   in_order_of-filter p es order d m =
-      let e = IsDistinct-IsPermutation eq laws.symm (keys_of es) (keys_of order) (IsPermutation-map (λ x. x.0) es order m) d in
+      let e = IsDistinct-IsPermutation eq laws.symm (keys_of es) (keys_of order)
+      (IsPermutation-map (λ x. x.0) es order m) d in
       in_order_by p (filter p order) es
-      (each-weaker _ _ (λ x c. lookup_filtered p order x e (Contains-permutation es order x m c)) es (recursion_from_All (Contains es) es (All-contains_itself es)))
+      (each-weaker _ _ (λ x c. lookup_filtered p order x e (Contains-permutation es order x m c)) es
+      (recursion_from_All (Contains es) es (All-contains_itself es)))
 
-  pub keeps_is_filter : {F : Type 0} (T : F → K → V → Bool → V → F → Type 0) (p : K × V → Bool) → ((g : F) (k : K) (v : V) (b : Bool) (w : V) (h : F) → T g k v b w h → (b ≡ p (k, v)) × (w ≡ v))
-      → (f : F) (es new : List (K × V)) → IsEntries eq es → Keeps T eq f es new → new ≡ filter p es
-  keeps_is_filter T p says f es new d r =
-      let kept = filter_from_retain_pairs T (λ _. Unit {0}) p (λ g k v b w h _ t. let s = says g k v b w h t in (s.0, s.1, tt)) f r.order r.kept tt r.called in
+  pub keeps_is_filter : {F : Type 0} (T : F → K → V → Bool → V → F → Type 0) (p : K × V → Bool)
+      → ((g : F) (k : K) (v : V) (b : Bool) (w : V) (h : F) → T g k v b w h → (b ≡ p (k, v)) × (w ≡ v))
+      → (f : F) (es new : List (K × V)) (h : F) → IsEntries eq es → KeepsInSomeOrder T eq f es new h
+      → new ≡ filter p es
+  keeps_is_filter T p says f es new h d r =
+      let kept = filter_from_retain_pairs T (λ _. Unit {0}) p
+      (λ g k v b w h _ t. let s = says g k v b w h t in (s.0, s.1, tt)) f r.order r.kept tt
+      (retains-called T f r.order r.kept h r.called) in
       r.entries ∙ ap (in_order_of eq es) kept ∙ in_order_of-filter p es r.order d r.each_once
 
 module _ {F K V : Type 0} (T : F → K → V → Bool → V → F → Type 0) where
-  pub keeps_in_order_is_filter : (p : K × V → Bool) → ((g : F) (k : K) (v : V) (b : Bool) (w : V) (h : F) → T g k v b w h → (b ≡ p (k, v)) × (w ≡ v))
-      → (f : F) (es new : List (K × V)) → KeepsInOrder T f es new → new ≡ filter p es
-  keeps_in_order_is_filter p says f es new r = filter_from_retain_pairs T (λ _. Unit {0}) p (λ g k v b w h _ t. let s = says g k v b w h t in (s.0, s.1, tt)) f es new tt r
+  pub keeps_in_order_is_filter : (p : K × V → Bool)
+      → ((g : F) (k : K) (v : V) (b : Bool) (w : V) (h : F) → T g k v b w h → (b ≡ p (k, v)) × (w ≡ v))
+      → (f : F) (es new : List (K × V)) (h : F) → KeepsInOrder T f es new h → new ≡ filter p es
+  keeps_in_order_is_filter p says f es new h r =
+      filter_from_retain_pairs T (λ _. Unit {0}) p (λ g k v b w h _ t. let s = says g k v b w h t in (s.0, s.1, tt)) f
+      es new tt (retains-called T f es new h r)
 
   -- no key comes in
-  pub none_kept : (test : K → Bool) (f : F) (es new : List (K × V)) → KeepsInOrder T f es new → NonePasses test es → NonePasses test new
-  none_kept test f [] new r n = rw r tt
-  none_kept test f (e ∷ es) new r n = rw r.6 (by r.0 (none_kept test r.2 es r.3 r.5 n.1))
+  pub none_kept : (test : K → Bool) (f : F) (es new : List (K × V)) (g : F) → KeepsInOrder T f es new g
+      → NonePasses test es
+      → NonePasses test new
+  none_kept test f [] new g r n = rw r.0 tt
+  none_kept test f (e ∷ es) new g r n = rw r.6 (by r.0 (none_kept test r.2 es r.3 g r.5 n.1))
     where
       by : (b : Bool) → NonePasses test r.3 → NonePasses test (cond b ((e.0, r.1) ∷ r.3) r.3)
       by true h = (n.0, h)
       by false h = h
 
   module _ (eq : K → K → Bool) (laws : IsEquivalence eq) where
-    pub IsEntries-keeps_in_order : (f : F) (es new : List (K × V)) → IsEntries eq es → KeepsInOrder T f es new → IsEntries eq new
-    IsEntries-keeps_in_order f [] new d r = rw r d
-    IsEntries-keeps_in_order f (e ∷ es) new d r = rw r.6 (by r.0 (IsEntries-keeps_in_order r.2 es r.3 (IsEntries-tail eq e es d) r.5) (none_kept (eq e.0) r.2 es r.3 r.5 (IsEntries-head eq e es d)))
+    pub IsEntries-keeps_in_order : (f : F) (es new : List (K × V)) (g : F) → IsEntries eq es
+        → KeepsInOrder T f es new g
+        → IsEntries eq new
+    IsEntries-keeps_in_order f [] new g d r = rw r.0 d
+    IsEntries-keeps_in_order f (e ∷ es) new g d r =
+        rw r.6
+        (by r.0 (IsEntries-keeps_in_order r.2 es r.3 g (IsEntries-tail eq e es d) r.5)
+        (none_kept (eq e.0) r.2 es r.3 g r.5 (IsEntries-head eq e es d)))
       where
         by : (b : Bool) → IsEntries eq r.3 → NonePasses (eq e.0) r.3 → IsEntries eq (cond b ((e.0, r.1) ∷ r.3) r.3)
         by true h n = IsEntries-cons eq (e.0, r.1) r.3 n h
@@ -117,22 +165,80 @@ module _ {F K V : Type 0} (T : F → K → V → Bool → V → F → Type 0) wh
 
     -- ---- in the list's own order is one of the orders
 
-    skip : (x : K × V) (es kept : List (K × V)) → AllByRecursion (λ e. eq e.0 x.0 ≡ false) es → in_order_of eq es (x ∷ kept) ≡ in_order_of eq es kept
+    skip : (x : K × V) (es kept : List (K × V)) → AllByRecursion (λ e. eq e.0 x.0 ≡ false) es
+        → in_order_of eq es (x ∷ kept) ≡ in_order_of eq es kept
     skip x [] kept a = refl
-    skip x (e ∷ es) kept a = ap₂ cons_option (ap (λ b. cond b (Some x) (lookup_entry (eq e.0) kept)) a.0) (skip x es kept a.1)
+    skip x (e ∷ es) kept a =
+        ap₂ cons_option (ap (λ b. cond b (Some x) (lookup_entry (eq e.0) kept)) a.0) (skip x es kept a.1)
 
-    in_own_order_by : (e : K × V) (w : V) (b : Bool) (es rest : List (K × V)) → NonePasses (eq e.0) es → NonePasses (eq e.0) rest → in_order_of eq es rest ≡ rest
+    in_own_order_by : (e : K × V) (w : V) (b : Bool) (es rest : List (K × V)) → NonePasses (eq e.0) es
+        → NonePasses (eq e.0) rest
+        → in_order_of eq es rest ≡ rest
         → in_order_of eq (e ∷ es) (cond b ((e.0, w) ∷ rest) rest) ≡ cond b ((e.0, w) ∷ rest) rest
     in_own_order_by e w true es rest n m h =
-        ap (λ b. cons_option (cond b (Some (e.0, w)) (lookup_entry (eq e.0) rest)) (in_order_of eq es ((e.0, w) ∷ rest))) (laws.refl e.0)
+        ap
+        (λ b. cons_option (cond b (Some (e.0, w)) (lookup_entry (eq e.0) rest))
+        (in_order_of eq es ((e.0, w) ∷ rest)))
+        (laws.refl e.0)
         ∙ ap (λ r. (e.0, w) ∷ r) (skip (e.0, w) es rest (each-weaker _ _ (λ x a. laws.symm x.0 e.0 ∙ a) es n) ∙ h)
-    in_own_order_by e w false es rest n m h = ap (λ o. cons_option o (in_order_of eq es rest)) (lookup_entry-none (eq e.0) rest m) ∙ h
+    in_own_order_by e w false es rest n m h =
+        ap (λ o. cons_option o (in_order_of eq es rest)) (lookup_entry-none (eq e.0) rest m) ∙ h
 
-    pub in_own_order : (f : F) (es new : List (K × V)) → IsEntries eq es → KeepsInOrder T f es new → in_order_of eq es new ≡ new
-    in_own_order f [] new d r = sym r
-    in_own_order f (e ∷ es) new d r =
+    pub in_own_order : (f : F) (es new : List (K × V)) (g : F) → IsEntries eq es → KeepsInOrder T f es new g
+        → in_order_of eq es new ≡ new
+    in_own_order f [] new g d r = sym r.0
+    in_own_order f (e ∷ es) new g d r =
         let n = IsEntries-head eq e es d in
-        subst (λ zs. in_order_of eq (e ∷ es) zs ≡ zs) (sym r.6) (in_own_order_by e r.1 r.0 es r.3 n (none_kept (eq e.0) r.2 es r.3 r.5 n) (in_own_order r.2 es r.3 (IsEntries-tail eq e es d) r.5))
+        subst (λ zs. in_order_of eq (e ∷ es) zs ≡ zs) (sym r.6)
+        (in_own_order_by e r.1 r.0 es r.3 n (none_kept (eq e.0) r.2 es r.3 g r.5 n)
+        (in_own_order r.2 es r.3 g (IsEntries-tail eq e es d) r.5))
 
-    pub keeps_from_in_order : (f : F) (es new : List (K × V)) → IsEntries eq es → KeepsInOrder T f es new → Keeps T eq f es new
-    keeps_from_in_order f es new d r = record { order = es; kept = new; each_once = IsPermutation-refl es; called = r; entries = sym (in_own_order f es new d r) }
+    pub keeps_from_in_order : (f : F) (es new : List (K × V)) (g : F) → IsEntries eq es → KeepsInOrder T f es new g
+        → KeepsInSomeOrder T eq f es new g
+    keeps_from_in_order f es new g d r =
+        record {
+          order = es;
+          kept = new;
+          each_once = IsPermutation-refl es;
+          called = r;
+          entries = sym (in_own_order f es new g d r);
+        }
+
+-- ---- how the closure ends
+
+module _ {F K V : Type 0} (T : F → K → V → Bool → V → F → Type 0) (Stays : F → Type 0)
+    (keeps : (f : F) (k : K) (v : V) (b : Bool) (w : V) (g : F) → T f k v b w g → Stays f → Stays g) where
+  pub stays_in_order : (f : F) (es kept : List (K × V)) (g : F) → KeepsInOrder T f es kept g → Stays f → Stays g
+  stays_in_order f [] kept g r s = subst Stays (sym r.1) s
+  stays_in_order f (e ∷ es) kept g r s = stays_in_order r.2 es r.3 g r.5 (keeps f e.0 e.1 r.0 r.1 r.2 r.4 s)
+
+  pub stays_in_some_order : (eq : K → K → Bool) (f : F) (es new : List (K × V)) (g : F)
+      → KeepsInSomeOrder T eq f es new g → Stays f
+      → Stays g
+  stays_in_some_order eq f es new g r s = stays_in_order f r.order r.kept g r.called s
+
+-- where each call is determined, so is what is kept and how the closure ends
+module _ {F K V : Type 0} (T : F → K → V → Bool → V → F → Type 0) (answer : F → K → V → Bool)
+    (written : F → K → V → V) (next : F → K → V → F) where
+  abbrev pub kept_by : F → List (K × V) → List (K × V)
+  kept_by f [] = []
+  kept_by f (e ∷ es) =
+      cond (answer f e.0 e.1) ((e.0, written f e.0 e.1) ∷ kept_by (next f e.0 e.1) es) (kept_by (next f e.0 e.1) es)
+
+  abbrev pub ends_by : F → List (K × V) → F
+  ends_by f [] = f
+  ends_by f (e ∷ es) = ends_by (next f e.0 e.1) es
+
+  pub
+      determined : ((f : F) (k : K) (v : V) (b : Bool) (w : V) (g : F) → T f k v b w g
+      → (b ≡ answer f k v) × (w ≡ written f k v) × (g ≡ next f k v))
+      → (f : F) (es kept : List (K × V)) (g : F) → KeepsInOrder T f es kept g
+      → (kept ≡ kept_by f es) × (g ≡ ends_by f es)
+  determined says f [] kept g r = r
+  determined says f (e ∷ es) kept g r =
+      let call = says f e.0 e.1 r.0 r.1 r.2 r.4 in
+      let rest = determined says r.2 es r.3 g r.5 in
+      let same : r.3 ≡ kept_by (next f e.0 e.1) es = rest.0 ∙ ap (λ f'. kept_by f' es) call.2 in (
+        r.6 ∙ (λ i. cond (call.0 i) ((e.0, call.1 i) ∷ same i) (same i)),
+        rest.1 ∙ ap (λ f'. ends_by f' es) call.2,
+      )

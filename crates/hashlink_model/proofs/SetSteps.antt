@@ -1,5 +1,7 @@
 -- What stands after the steps of a set.
-use Rattle.std.proofs.Common.{◌≡◌, ℕ, zero, suc, ◌+◌, Bool, true, false, cond, ◌||◌, List, [], ◌∷◌, ◌++◌, length, take, drop, slice_get, slice_set, is_some, Option, None, Some, refl, sym, ap, ap₂, ◌∙◌, ◌⊎◌, inl, inr, subst}
+use Rattle.std.proofs.Common.{◌≡◌, ℕ, zero, suc, ◌+◌, Bool, true, false, cond, ◌||◌, List, [], ◌∷◌, ◌++◌, length}
+use Rattle.std.proofs.Common.{take, drop, slice_get, slice_set, is_some, Option, None, Some, refl, sym, ap, ap₂, ◌∙◌}
+use Rattle.std.proofs.Common.{◌⊎◌, inl, inr, subst}
 use Rattle.std.specs.Cmp.{IsEquivalence}
 use Rattle.std.specs.List.{IsDistinct, AllByRecursion}
 use Rattle.std.specs.Map.{keys_of, lookup}
@@ -30,17 +32,24 @@ module _ {T : Type 0} (eq : T → T → Bool) where
   is_some-lookup_pairs : (ts : List T) (t : T) → is_some (lookup (eq t) (pairs_of ts)) ≡ is_member eq ts t
   is_some-lookup_pairs ts t = is_some-lookup (eq t) (pairs_of ts) ∙ ap (λ zs. is_member eq zs t) (keys_of-pairs_of ts)
 
-  pub length-put_element : (ts : List T) (t : T) (b : ℕ) → length (put_element eq ts t b) ≡ cond (is_member eq ts t) (length ts) (length ts + 1)
-  length-put_element ts t b = length-keys_of (put eq (pairs_of ts) t tt b) ∙ by (lookup (eq t) (pairs_of ts)) refl ∙ ap (λ c. cond c (length ts) (length ts + 1)) (is_some-lookup_pairs ts t)
+  pub length-put_element : (ts : List T) (t : T) (b : ℕ)
+      → length (put_element eq ts t b) ≡ cond (is_member eq ts t) (length ts) (length ts + 1)
+  length-put_element ts t b =
+      length-keys_of (put eq (pairs_of ts) t tt b) ∙ by (lookup (eq t) (pairs_of ts)) refl
+      ∙ ap (λ c. cond c (length ts) (length ts + 1)) (is_some-lookup_pairs ts t)
     where
-      by : (o : Option (Unit {0})) → lookup (eq t) (pairs_of ts) ≡ o → length (put eq (pairs_of ts) t tt b) ≡ cond (is_some (lookup (eq t) (pairs_of ts))) (length ts) (length ts + 1)
+      by : (o : Option (Unit {0})) → lookup (eq t) (pairs_of ts) ≡ o
+          → length (put eq (pairs_of ts) t tt b)
+          ≡ cond (is_some (lookup (eq t) (pairs_of ts))) (length ts) (length ts + 1)
       by None l = length-put_absent eq (pairs_of ts) t tt b l ∙ ap (λ n. n + 1) (length_pairs_of ts) ∙ rw l refl
       by (Some w) l = length-put_there eq (pairs_of ts) t tt b w l ∙ length_pairs_of ts ∙ rw l refl
 
-  pub length-put_element_absent : (ts : List T) (t : T) (b : ℕ) → is_member eq ts t ≡ false → length (put_element eq ts t b) ≡ length ts + 1
+  pub length-put_element_absent : (ts : List T) (t : T) (b : ℕ) → is_member eq ts t ≡ false
+      → length (put_element eq ts t b) ≡ length ts + 1
   length-put_element_absent ts t b m = length-put_element ts t b ∙ rw m refl
 
-  pub length-put_element_there : (ts : List T) (t : T) (b : ℕ) → is_member eq ts t ≡ true → length (put_element eq ts t b) ≡ length ts
+  pub length-put_element_there : (ts : List T) (t : T) (b : ℕ) → is_member eq ts t ≡ true
+      → length (put_element eq ts t b) ≡ length ts
   length-put_element_there ts t b m = length-put_element ts t b ∙ rw m refl
 
   pub replaced-absent : (ts : List T) (t : T) → is_member eq ts t ≡ false → replaced eq ts t ≡ ts ++ t ∷ []
@@ -53,11 +62,13 @@ module _ {T : Type 0} (eq : T → T → Bool) where
   length_swap_key test [] t = refl
   length_swap_key test (x ∷ ts) t = by (test x) (length_swap_key test ts t)
     where
-      by : (b : Bool) → length (swap_key test ts t) ≡ length ts → length (cond b (t ∷ ts) (x ∷ swap_key test ts t)) ≡ length (x ∷ ts)
+      by : (b : Bool) → length (swap_key test ts t) ≡ length ts
+          → length (cond b (t ∷ ts) (x ∷ swap_key test ts t)) ≡ length (x ∷ ts)
       by true h = refl
       by false h = ap suc h
 
-  pub length-replaced_absent : (ts : List T) (t : T) → is_member eq ts t ≡ false → length (replaced eq ts t) ≡ length ts + 1
+  pub length-replaced_absent : (ts : List T) (t : T) → is_member eq ts t ≡ false
+      → length (replaced eq ts t) ≡ length ts + 1
   length-replaced_absent ts t m = ap length (replaced-absent ts t m) ∙ length-append ts (t ∷ [])
 
   pub length-replaced_there : (ts : List T) (t : T) → is_member eq ts t ≡ true → length (replaced eq ts t) ≡ length ts
@@ -65,12 +76,14 @@ module _ {T : Type 0} (eq : T → T → Bool) where
 
   -- ---- every other element stays at its place
 
-  swapped_others : (t x : T) → eq t x ≡ false → (ts : List T) (i : ℕ) → slice_get ts i ≡ Some x → slice_get (swap_key (eq t) ts t) i ≡ Some x
+  swapped_others : (t x : T) → eq t x ≡ false → (ts : List T) (i : ℕ) → slice_get ts i ≡ Some x
+      → slice_get (swap_key (eq t) ts t) i ≡ Some x
   swapped_others t x f [] i e = absurd (none-some x e)
   swapped_others t x f (y ∷ ts) zero e = rw (ap (eq t) (same_Some y x e) ∙ f) e
   swapped_others t x f (y ∷ ts) (suc i) e = by (eq t y) (swapped_others t x f ts i e)
     where
-      by : (b : Bool) → slice_get (swap_key (eq t) ts t) i ≡ Some x → slice_get (cond b (t ∷ ts) (y ∷ swap_key (eq t) ts t)) (suc i) ≡ Some x
+      by : (b : Bool) → slice_get (swap_key (eq t) ts t) i ≡ Some x
+          → slice_get (cond b (t ∷ ts) (y ∷ swap_key (eq t) ts t)) (suc i) ≡ Some x
       by true h = e
       by false h = h
 
@@ -79,7 +92,8 @@ module _ {T : Type 0} (eq : T → T → Bool) where
   pushed_others t x (y ∷ ts) zero e = e
   pushed_others t x (y ∷ ts) (suc i) e = pushed_others t x ts i e
 
-  pub replaced-others : (ts : List T) (t x : T) (i : ℕ) → slice_get ts i ≡ Some x → eq t x ≡ false → slice_get (replaced eq ts t) i ≡ Some x
+  pub replaced-others : (ts : List T) (t x : T) (i : ℕ) → slice_get ts i ≡ Some x → eq t x ≡ false
+      → slice_get (replaced eq ts t) i ≡ Some x
   replaced-others ts t x i e f = by (is_member eq ts t)
     where
       by : (b : Bool) → slice_get (cond b (swap_key (eq t) ts t) (ts ++ t ∷ [])) i ≡ Some x
@@ -95,14 +109,19 @@ module _ {T : Type 0} (eq : T → T → Bool) (laws : IsEquivalence eq) where
   -- ---- members after an element was put
 
   module _ {V : Type 0} (q : T) where
-    member_middle : (xs : List (T × V)) (e : T × V) (ys : List (T × V)) → is_member eq (keys_of (xs ++ e ∷ ys)) q ≡ (eq q e.0 || is_member eq (keys_of (xs ++ ys)) q)
+    member_middle : (xs : List (T × V)) (e : T × V) (ys : List (T × V))
+        → is_member eq (keys_of (xs ++ e ∷ ys)) q ≡ (eq q e.0 || is_member eq (keys_of (xs ++ ys)) q)
     member_middle [] e ys = refl
-    member_middle (x ∷ xs) e ys = ap (λ b. eq q x.0 || b) (member_middle xs e ys) ∙ or_turn (eq q x.0) (eq q e.0) (is_member eq (keys_of (xs ++ ys)) q)
+    member_middle (x ∷ xs) e ys =
+        ap (λ b. eq q x.0 || b) (member_middle xs e ys)
+        ∙ or_turn (eq q x.0) (eq q e.0) (is_member eq (keys_of (xs ++ ys)) q)
 
-    member_without : (es : List (T × V)) (k : T) → eq k q ≡ false → is_member eq (keys_of (without eq es k)) q ≡ is_member eq (keys_of es) q
+    member_without : (es : List (T × V)) (k : T) → eq k q ≡ false
+        → is_member eq (keys_of (without eq es k)) q ≡ is_member eq (keys_of es) q
     member_without es k f = by (splits (eq k) es)
       where
-        by : NonePasses (eq k) es ⊎ Stands (eq k) es → is_member eq (keys_of (without eq es k)) q ≡ is_member eq (keys_of es) q
+        by : NonePasses (eq k) es ⊎ Stands (eq k) es
+            → is_member eq (keys_of (without eq es k)) q ≡ is_member eq (keys_of es) q
         by (inl n) = ap (λ zs. is_member eq (keys_of zs) q) (remove_entry-none (eq k) es n)
         by (inr s) =
             let apart : eq q s.1.0 ≡ false = laws.symm q s.1.0 ∙ sym (laws.congr k s.1.0 q s.3.passes) ∙ f in
@@ -112,21 +131,26 @@ module _ {T : Type 0} (eq : T → T → Bool) (laws : IsEquivalence eq) where
             ∙ sym (member_middle s.0 s.1 s.2)
             ∙ ap (λ zs. is_member eq (keys_of zs) q) (sym s.3.is)
 
-    pub is_member-put : (es : List (T × V)) (k : T) (v : V) (b : ℕ) → is_member eq (keys_of (put eq es k v b)) q ≡ (eq k q || is_member eq (keys_of es) q)
+    pub is_member-put : (es : List (T × V)) (k : T) (v : V) (b : ℕ)
+        → is_member eq (keys_of (put eq es k v b)) q ≡ (eq k q || is_member eq (keys_of es) q)
     is_member-put es k v b =
         let j = place_without eq es k b in
         let zs = without eq es k in
         let k0 = stored_key eq es k in
         member_middle (take j zs) (k0, v) (drop j zs)
-        ∙ ap₂ (λ c ys. c || is_member eq (keys_of ys) q) (laws.symm q k0 ∙ sym (laws.congr k k0 q (stored_key-equal eq laws k es))) (take-append-drop j zs)
+        ∙ ap₂ (λ c ys. c || is_member eq (keys_of ys) q)
+        (laws.symm q k0 ∙ sym (laws.congr k k0 q (stored_key-equal eq laws k es))) (take-append-drop j zs)
         ∙ by (eq k q) refl
       where
-        by : (c : Bool) → eq k q ≡ c → (c || is_member eq (keys_of (without eq es k)) q) ≡ (c || is_member eq (keys_of es) q)
+        by : (c : Bool) → eq k q ≡ c
+            → (c || is_member eq (keys_of (without eq es k)) q) ≡ (c || is_member eq (keys_of es) q)
         by true t = refl
         by false t = member_without es k t
 
-  pub is_member-put_element : (ts : List T) (t : T) (b : ℕ) (q : T) → is_member eq (put_element eq ts t b) q ≡ (eq t q || is_member eq ts q)
-  is_member-put_element ts t b q = is_member-put q (pairs_of ts) t tt b ∙ ap (λ zs. eq t q || is_member eq zs q) (keys_of-pairs_of ts)
+  pub is_member-put_element : (ts : List T) (t : T) (b : ℕ) (q : T)
+      → is_member eq (put_element eq ts t b) q ≡ (eq t q || is_member eq ts q)
+  is_member-put_element ts t b q =
+      is_member-put q (pairs_of ts) t tt b ∙ ap (λ zs. eq t q || is_member eq zs q) (keys_of-pairs_of ts)
 
   pub IsDistinct-put_element : (ts : List T) (t : T) (b : ℕ) → IsDistinct eq ts → IsDistinct eq (put_element eq ts t b)
   IsDistinct-put_element ts t b d = IsEntries-put eq laws (pairs_of ts) t tt b (rw (keys_of-pairs_of ts) d)
@@ -137,7 +161,8 @@ module _ {T : Type 0} (eq : T → T → Bool) (laws : IsEquivalence eq) where
   member_swap_key t q [] = refl
   member_swap_key t q (x ∷ ts) = by (eq t x) refl (member_swap_key t q ts)
     where
-      by : (b : Bool) → eq t x ≡ b → is_member eq (swap_key (eq t) ts t) q ≡ is_member eq ts q → is_member eq (cond b (t ∷ ts) (x ∷ swap_key (eq t) ts t)) q ≡ (eq q x || is_member eq ts q)
+      by : (b : Bool) → eq t x ≡ b → is_member eq (swap_key (eq t) ts t) q ≡ is_member eq ts q
+          → is_member eq (cond b (t ∷ ts) (x ∷ swap_key (eq t) ts t)) q ≡ (eq q x || is_member eq ts q)
       by true e h = ap (λ c. c || is_member eq ts q) (laws.symm q t ∙ laws.congr t x q e ∙ laws.symm x q)
       by false e h = ap (λ c. eq q x || c) h
 
@@ -154,21 +179,28 @@ module _ {T : Type 0} (eq : T → T → Bool) (laws : IsEquivalence eq) where
       last false true = refl
       last false false = refl
 
-      by : (b : Bool) → is_member eq ts t ≡ b → is_member eq (cond b (swap_key (eq t) ts t) (ts ++ t ∷ [])) q ≡ (eq t q || is_member eq ts q)
+      by : (b : Bool) → is_member eq ts t ≡ b
+          → is_member eq (cond b (swap_key (eq t) ts t) (ts ++ t ∷ [])) q ≡ (eq t q || is_member eq ts q)
       by true m = member_swap_key t q ts ∙ there (eq t q) refl m
-      by false m = is_member-append eq laws ts (t ∷ []) q ∙ last (is_member eq ts q) (eq q t) ∙ ap (λ c. c || is_member eq ts q) (laws.symm q t)
+      by false m =
+          is_member-append eq laws ts (t ∷ []) q ∙ last (is_member eq ts q) (eq q t)
+          ∙ ap (λ c. c || is_member eq ts q) (laws.symm q t)
 
   -- ---- replaced elements stay pairwise unequal
 
-  each_swap_key : (P : T → Type 0) (test : T → Bool) (t : T) (ts : List T) → P t → AllByRecursion P ts → AllByRecursion P (swap_key test ts t)
+  each_swap_key : (P : T → Type 0) (test : T → Bool) (t : T) (ts : List T) → P t → AllByRecursion P ts
+      → AllByRecursion P (swap_key test ts t)
   each_swap_key P test t [] p a = tt
   each_swap_key P test t (x ∷ ts) p a = by (test x) (each_swap_key P test t ts p a.1)
     where
-      by : (b : Bool) → AllByRecursion P (swap_key test ts t) → AllByRecursion P (cond b (t ∷ ts) (x ∷ swap_key test ts t))
+      by : (b : Bool) → AllByRecursion P (swap_key test ts t)
+          → AllByRecursion P (cond b (t ∷ ts) (x ∷ swap_key test ts t))
       by true h = (p, a.1)
       by false h = (a.0, h)
 
-  unequal_by : (t x : T) (ts : List T) (b : Bool) → eq t x ≡ b → IsDistinct eq (x ∷ ts) → IsDistinct eq (swap_key (eq t) ts t) → IsDistinct eq (cond b (t ∷ ts) (x ∷ swap_key (eq t) ts t))
+  unequal_by : (t x : T) (ts : List T) (b : Bool) → eq t x ≡ b → IsDistinct eq (x ∷ ts)
+      → IsDistinct eq (swap_key (eq t) ts t)
+      → IsDistinct eq (cond b (t ∷ ts) (x ∷ swap_key (eq t) ts t))
   unfolding IsDistinct
   unequal_by t x ts true e d h = (each-weaker _ _ (λ y n. laws.congr t x y e ∙ n) ts d.0, d.1)
   unequal_by t x ts false e d h = (each_swap_key _ (eq t) t ts (laws.symm x t ∙ e) d.0, h)
@@ -187,11 +219,15 @@ module _ {T : Type 0} (eq : T → T → Bool) (laws : IsEquivalence eq) where
     where
       by : (b : Bool) → is_member eq ts t ≡ b → IsDistinct eq (cond b (swap_key (eq t) ts t) (ts ++ t ∷ []))
       by true m = IsDistinct_swap_key t ts d
-      by false m = IsDistinct-append eq laws ts (t ∷ []) d (one_distinct t) (each-weaker _ _ (λ x n. ap (λ c. c || false) (laws.symm x t ∙ n)) ts (none_from_is_member eq laws ts t m))
+      by false m =
+          IsDistinct-append eq laws ts (t ∷ []) d (one_distinct t)
+          (each-weaker _ _ (λ x n. ap (λ c. c || false) (laws.symm x t ∙ n)) ts
+          (none_from_is_member eq laws ts t m))
 
   -- ---- an element that is equal leaves, and the one given takes its place
 
-  swapped_here : (t x : T) (us vs : List T) → IsDistinct eq (us ++ x ∷ vs) → eq t x ≡ true → swap_key (eq t) (us ++ x ∷ vs) t ≡ us ++ t ∷ vs
+  swapped_here : (t x : T) (us vs : List T) → IsDistinct eq (us ++ x ∷ vs) → eq t x ≡ true
+      → swap_key (eq t) (us ++ x ∷ vs) t ≡ us ++ t ∷ vs
   unfolding IsDistinct
   swapped_here t x [] vs d e = rw e refl
   swapped_here t x (u ∷ us) vs d e =
@@ -206,7 +242,8 @@ module _ {T : Type 0} (eq : T → T → Bool) (laws : IsEquivalence eq) where
       by true h = refl
       by false h = h
 
-  pub replaced-at : (ts : List T) (t x : T) (j : ℕ) → IsDistinct eq ts → slice_get ts j ≡ Some x → eq t x ≡ true → replaced eq ts t ≡ slice_set ts j t
+  pub replaced-at : (ts : List T) (t x : T) (j : ℕ) → IsDistinct eq ts → slice_get ts j ≡ Some x → eq t x ≡ true
+      → replaced eq ts t ≡ slice_set ts j t
   replaced-at ts t x j d at e =
       let s = split_at ts j x at in
       ap (λ zs. replaced eq zs t) s.2

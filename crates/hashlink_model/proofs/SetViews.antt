@@ -1,9 +1,8 @@
--- A set seen as a map, and a map with nothing as value seen as a set.
+-- The elements of a set and its entries.
 use Rattle.std.proofs.Common.{◌≡◌, ℕ, Bool, List, [], ◌∷◌, refl, sym, ap}
 use Rattle.std.specs.Map.{keys_of}
 use Rattle.hashlink_model.specs.Entries.{put}
-use Rattle.hashlink_model.specs.MapState.{MapState, map_state}
-use Rattle.hashlink_model.specs.Sets.{pairs_of, put_element, as_map, set_of}
+use Rattle.hashlink_model.specs.Sets.{pairs_of, put_element}
 
 module _ {T : Type 0} where
   pub pairs_of-keys_of : (es : List (T × Unit {0})) → pairs_of (keys_of es) ≡ es
@@ -14,8 +13,6 @@ module _ {T : Type 0} where
   keys_of-pairs_of [] = refl
   keys_of-pairs_of (t ∷ ts) = ap (λ r. t ∷ r) (keys_of-pairs_of ts)
 
-  pub keys_of-put : (eq : T → T → Bool) (es : List (T × Unit {0})) (t : T) (b : ℕ) → keys_of (put eq es t tt b) ≡ put_element eq (keys_of es) t b
+  pub keys_of-put : (eq : T → T → Bool) (es : List (T × Unit {0})) (t : T) (b : ℕ)
+      → keys_of (put eq es t tt b) ≡ put_element eq (keys_of es) t b
   keys_of-put eq es t b = ap (λ zs. keys_of (put eq zs t tt b)) (sym (pairs_of-keys_of es))
-
-pub as_map-set_of : {T S : Type 0} (m : MapState T (Unit {0}) S) → as_map (set_of m) ≡ m
-as_map-set_of m = ap (λ es. map_state es m.spare m.room m.link_writes m.hasher) (pairs_of-keys_of m.entries)

@@ -1,6 +1,8 @@
--- A list of entries at the first key that passes a test: `xs ++ e ∷ ys`, where e passes and none of xs does; or no key passes.
-use Rattle.std.proofs.Common.{◌≡◌, ℕ, Bool, true, false, List, [], ◌∷◌, ◌++◌, length, None, Some, ◌⊎◌, inl, inr, refl, sym, ap, ◌∙◌, add-one}
-use Rattle.std.specs.Map.{lookup, lookup_entry, lookup_key, remove_entry, set_value, set_key}
+-- A list of entries at the first key that passes a test: `xs ++ e ∷ ys`, where e passes and none of xs does; or no
+-- key passes.
+use Rattle.std.proofs.Common.{◌≡◌, ℕ, Bool, true, false, List, [], ◌∷◌, ◌++◌, length, None, Some, ◌⊎◌, inl, inr, refl}
+use Rattle.std.proofs.Common.{sym, ap, ◌∙◌, add-one}
+use Rattle.std.specs.Map.{lookup, lookup_entry, lookup_key, remove_entry, set_value}
 use Rattle.std.proofs.lemmas.Map.{NonePasses, none_passes_from_lookup}
 use Rattle.std.proofs.lemmas.Option.{none-some, same_Some}
 use Rattle.hashlink_model.specs.Entries.{place_of}
@@ -17,9 +19,11 @@ module _ {K V : Type 0} (test : K → Bool) where
   Stands es = (xs : List (K × V)) × (e : K × V) × (ys : List (K × V)) × StandsAt es xs e ys
 
   stands_later : (x : K × V) (es : List (K × V)) → test x.0 ≡ false → Stands es → Stands (x ∷ es)
-  stands_later x es f s = (x ∷ s.0, s.1, s.2, record { is = ap (λ r. x ∷ r) s.3.is; passes = s.3.passes; before = (f, s.3.before) })
+  stands_later x es f s =
+      (x ∷ s.0, s.1, s.2, record { is = ap (λ r. x ∷ r) s.3.is; passes = s.3.passes; before = (f, s.3.before) })
 
-  either_by : (x : K × V) (es : List (K × V)) (b : Bool) → test x.0 ≡ b → NonePasses test es ⊎ Stands es → NonePasses test (x ∷ es) ⊎ Stands (x ∷ es)
+  either_by : (x : K × V) (es : List (K × V)) (b : Bool) → test x.0 ≡ b → NonePasses test es ⊎ Stands es
+      → NonePasses test (x ∷ es) ⊎ Stands (x ∷ es)
   either_by x es true t s = inr ([], x, es, record { is = refl; passes = t; before = tt })
   either_by x es false t (inl n) = inl (t, n)
   either_by x es false t (inr s) = inr (stands_later x es t s)
@@ -51,10 +55,6 @@ module _ {K V : Type 0} (test : K → Bool) where
   remove_entry-none [] n = refl
   remove_entry-none (x ∷ es) n = rw n.0 (ap (λ r. x ∷ r) (remove_entry-none es n.1))
 
-  pub set_value-none : (es : List (K × V)) (v : V) → NonePasses test es → set_value test es v ≡ es
-  set_value-none [] v n = refl
-  set_value-none (x ∷ es) v n = rw n.0 (ap (λ r. x ∷ r) (set_value-none es v n.1))
-
   -- ---- where e is the first entry whose key passes
 
   module _ (e : K × V) (ys : List (K × V)) (t : test e.0 ≡ true) where
@@ -78,13 +78,10 @@ module _ {K V : Type 0} (test : K → Bool) where
     remove_entry-here [] n = rw t refl
     remove_entry-here (x ∷ xs) n = rw n.0 (ap (λ r. x ∷ r) (remove_entry-here xs n.1))
 
-    pub set_value-here : (v : V) (xs : List (K × V)) → NonePasses test xs → set_value test (xs ++ e ∷ ys) v ≡ xs ++ (e.0, v) ∷ ys
+    pub set_value-here : (v : V) (xs : List (K × V)) → NonePasses test xs
+        → set_value test (xs ++ e ∷ ys) v ≡ xs ++ (e.0, v) ∷ ys
     set_value-here v [] n = rw t refl
     set_value-here v (x ∷ xs) n = rw n.0 (ap (λ r. x ∷ r) (set_value-here v xs n.1))
-
-    pub set_key-here : (k : K) (xs : List (K × V)) → NonePasses test xs → set_key test (xs ++ e ∷ ys) k ≡ xs ++ (k, e.1) ∷ ys
-    set_key-here k [] n = rw t refl
-    set_key-here k (x ∷ xs) n = rw n.0 (ap (λ r. x ∷ r) (set_key-here k xs n.1))
 
   -- ---- from what a look-up found
 
@@ -98,11 +95,13 @@ module _ {K V : Type 0} (test : K → Bool) where
   pub stands_from_lookup : (es : List (K × V)) (w : V) → lookup test es ≡ Some w → Stands es
   stands_from_lookup es w l = found_by es w l (splits es)
 
-  placed_by : (es : List (K × V)) (j : ℕ) → place_of test es ≡ Some j → NonePasses test es ⊎ Stands es → (xs : List (K × V)) × (e : K × V) × (ys : List (K × V)) × StandsAt es xs e ys × (length xs ≡ j)
+  placed_by : (es : List (K × V)) (j : ℕ) → place_of test es ≡ Some j → NonePasses test es ⊎ Stands es
+      → (xs : List (K × V)) × (e : K × V) × (ys : List (K × V)) × StandsAt es xs e ys × (length xs ≡ j)
   placed_by es j p (inl n) = absurd (none-some j (sym (place_of-none es n) ∙ p))
   placed_by es j p (inr s) =
       let here = place_of-here s.1 s.2 s.3.passes s.0 s.3.before in
       (s.0, s.1, s.2, s.3, same_Some (length s.0) j (sym here ∙ (ap (place_of test) (sym s.3.is) ∙ p)))
 
-  pub stands_from_place : (es : List (K × V)) (j : ℕ) → place_of test es ≡ Some j → (xs : List (K × V)) × (e : K × V) × (ys : List (K × V)) × StandsAt es xs e ys × (length xs ≡ j)
+  pub stands_from_place : (es : List (K × V)) (j : ℕ) → place_of test es ≡ Some j
+      → (xs : List (K × V)) × (e : K × V) × (ys : List (K × V)) × StandsAt es xs e ys × (length xs ≡ j)
   stands_from_place es j p = placed_by es j p (splits es)

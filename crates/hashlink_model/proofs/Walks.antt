@@ -1,12 +1,11 @@
 -- What a walk from both ends gives and leaves.
-use Rattle.std.proofs.Common.{◌≡◌, ℕ, zero, suc, ◌-◌, Bool, List, [], ◌∷◌, ◌++◌, length, Option, None, Some, option_to_list, refl, sym, ap, ◌∙◌, arith, append_assoc}
+use Rattle.std.proofs.Common.{◌≡◌, suc, ◌-◌, List, [], ◌∷◌, ◌++◌, length, Option, None, Some, option_to_list, refl}
+use Rattle.std.proofs.Common.{sym, ap, ◌∙◌, arith, append_assoc}
 use Rattle.std.specs.List.{cons_option}
-use Rattle.std.specs.Map.{set_value, keys_of}
 use Rattle.std.specs.Map.Iter.{TakesFirst, TakesLast}
 use Rattle.std.proofs.lemmas.List.{append-nil, length-append, length-take, length-drop, nil_from_length}
-use Rattle.hashlink_model.specs.Entries.{place_of}
-use Rattle.hashlink_model.specs.Walk.{End, Front, Back, first_of, after_first_of, last_of, before_last_of, step_gives, step_leaves, walk_leaves, given_front, given_back, with_value_at}
-use Rattle.hashlink_model.proofs.Splits.{stands_from_place, set_value-here}
+use Rattle.hashlink_model.specs.Walk.{End, Front, Back, first_of, after_first_of, last_of, before_last_of, step_gives}
+use Rattle.hashlink_model.specs.Walk.{step_leaves, walk_leaves, given_front, given_back}
 
 module _ {X : Type 0} where
   pub takes_first : (xs : List X) → TakesFirst (λ x. x) xs (first_of xs) (after_first_of xs)
@@ -32,7 +31,8 @@ module _ {X : Type 0} where
       let c = length-take (length xs - 1) xs in
       nil_from_length xs (omega arith)
 
-  last_by : (xs : List X) (o : Option X) → before_last_of xs ++ option_to_list o ≡ xs → TakesLast (λ x. x) xs o (before_last_of xs)
+  last_by : (xs : List X) (o : Option X) → before_last_of xs ++ option_to_list o ≡ xs
+      → TakesLast (λ x. x) xs o (before_last_of xs)
   last_by xs None s = (last_none xs s, ap before_last_of (last_none xs s))
   last_by xs (Some x) s = sym s
 
@@ -49,9 +49,13 @@ module _ {X : Type 0} where
   pub walk_splits : (ss : List End) (xs : List X) → given_front ss xs ++ (walk_leaves ss xs ++ given_back ss xs) ≡ xs
   walk_splits [] xs = append-nil xs
   walk_splits (Front ∷ ss) xs =
-      cons_append (first_of xs) (given_front ss (after_first_of xs)) _ ∙ ap (cons_option (first_of xs)) (walk_splits ss (after_first_of xs)) ∙ first_splits xs
+      cons_append (first_of xs) (given_front ss (after_first_of xs)) _
+      ∙ ap (cons_option (first_of xs)) (walk_splits ss (after_first_of xs)) ∙ first_splits xs
   walk_splits (Back ∷ ss) xs =
-      ap (λ r. given_front ss (before_last_of xs) ++ r) (sym (append_assoc (walk_leaves ss (before_last_of xs)) (given_back ss (before_last_of xs)) (option_to_list (last_of xs))))
+      ap (λ r. given_front ss (before_last_of xs) ++ r)
+      (sym
+      (append_assoc (walk_leaves ss (before_last_of xs)) (given_back ss (before_last_of xs))
+      (option_to_list (last_of xs))))
       ∙ sym (append_assoc (given_front ss (before_last_of xs)) _ (option_to_list (last_of xs)))
       ∙ ap (λ r. r ++ option_to_list (last_of xs)) (walk_splits ss (before_last_of xs))
       ∙ last_splits xs
@@ -77,21 +81,3 @@ module _ {X : Type 0} where
   pub empty_leaves : (s : End) → step_leaves {X = X} s [] ≡ []
   empty_leaves Front = refl
   empty_leaves Back = refl
-
-module _ {K V : Type 0} where
-  -- ---- a value that is written at a place
-
-  pub with_value_at-here : (xs : List (K × V)) (e : K × V) (ys : List (K × V)) (w : V) → with_value_at (xs ++ e ∷ ys) (length xs) w ≡ xs ++ (e.0, w) ∷ ys
-  with_value_at-here [] e ys w = refl
-  with_value_at-here (x ∷ xs) e ys w = ap (λ r. x ∷ r) (with_value_at-here xs e ys w)
-
-  pub with_value_at-place : (test : K → Bool) (es : List (K × V)) (j : ℕ) (w : V) → place_of test es ≡ Some j → with_value_at es j w ≡ set_value test es w
-  with_value_at-place test es j w p =
-      let s = stands_from_place test es j p in
-      ap (λ zs. with_value_at zs j w) s.3.is ∙ ap (λ n. with_value_at (s.0 ++ s.1 ∷ s.2) n w) (sym s.4) ∙ with_value_at-here s.0 s.1 s.2 w
-      ∙ sym (set_value-here test s.1 s.2 s.3.passes w s.0 s.3.before) ∙ ap (λ zs. set_value test zs w) (sym s.3.is)
-
-  pub keys-with_value_at : (es : List (K × V)) (j : ℕ) (w : V) → keys_of (with_value_at es j w) ≡ keys_of es
-  keys-with_value_at [] j w = refl
-  keys-with_value_at (e ∷ es) zero w = refl
-  keys-with_value_at (e ∷ es) (suc j) w = ap (λ r. e.0 ∷ r) (keys-with_value_at es j w)

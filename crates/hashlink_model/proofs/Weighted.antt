@@ -1,27 +1,34 @@
 -- The longest end of the entries that a budget allows.
-use Rattle.std.proofs.Common.{◌≡◌, ℕ, ◌≤◌, Bool, true, false, cond, List, [], ◌∷◌, ◌++◌, length, nat_le, Some, refl, ap, arith, le_refl, leb-true, zero-le, le-leb}
+use Rattle.std.proofs.Common.{◌≡◌, ℕ, ◌≤◌, Bool, true, false, cond, List, [], ◌∷◌, ◌++◌, length, nat_le, Some, refl}
+use Rattle.std.proofs.Common.{◌∙◌, ap, arith, le_refl, leb-true, zero-le, le-leb}
 use Rattle.std.proofs.lemmas.List.{length-append}
-use Rattle.std.proofs.lemmas.List.Sums.{sum_by-append}
 use Rattle.std.specs.Map.{lookup, lookup_entry}
 use Rattle.hashlink_model.specs.Entries.{IsEntries, put, without, stored_key}
 use Rattle.hashlink_model.proofs.Distinct.{IsEntries-tail}
 use Rattle.std.specs.Cmp.{IsEquivalence}
 use Rattle.hashlink_model.proofs.Puts.{IsEntries-put, put_back}
 use Rattle.hashlink_model.proofs.Remaining.{lookup-put_remaining, lookup_entry-put_remaining}
-use Rattle.hashlink_model.specs.Weights.{total_weight, fitting, weighted_put}
+use Rattle.std.specs.Prelude.{Option}
+use Rattle.hashlink_model.specs.Weights.{WeightedState, WeightedInserts, total_weight, fitting, weighted_put}
+use Rattle.hashlink_model.proofs.CacheSteps.{put_entries, put_answer}
 
 module _ {K V : Type 0} where
   -- it fits
-  fits_by : (e : K × (V × ℕ)) (es : List (K × (V × ℕ))) (budget : ℕ) (b : Bool) → nat_le (total_weight (e ∷ es)) budget ≡ b → total_weight (fitting es budget) ≤ budget → total_weight (cond b (e ∷ es) (fitting es budget)) ≤ budget
+  fits_by : (e : K × (V × ℕ)) (es : List (K × (V × ℕ))) (budget : ℕ) (b : Bool)
+      → nat_le (total_weight (e ∷ es)) budget ≡ b → total_weight (fitting es budget) ≤ budget
+      → total_weight (cond b (e ∷ es) (fitting es budget)) ≤ budget
   fits_by e es budget true t h = leb-true _ _ t
   fits_by e es budget false t h = h
 
   pub fitting-fits : (es : List (K × (V × ℕ))) (budget : ℕ) → total_weight (fitting es budget) ≤ budget
   fitting-fits [] budget = zero-le
-  fitting-fits (e ∷ es) budget = fits_by e es budget (nat_le (total_weight (e ∷ es)) budget) refl (fitting-fits es budget)
+  fitting-fits (e ∷ es) budget =
+      fits_by e es budget (nat_le (total_weight (e ∷ es)) budget) refl (fitting-fits es budget)
 
   -- it is an end
-  end_by : (e : K × (V × ℕ)) (es : List (K × (V × ℕ))) (budget : ℕ) (b : Bool) → (xs : List (K × (V × ℕ))) × (es ≡ xs ++ fitting es budget) → (xs : List (K × (V × ℕ))) × (e ∷ es ≡ xs ++ cond b (e ∷ es) (fitting es budget))
+  end_by : (e : K × (V × ℕ)) (es : List (K × (V × ℕ))) (budget : ℕ) (b : Bool)
+      → (xs : List (K × (V × ℕ))) × (es ≡ xs ++ fitting es budget)
+      → (xs : List (K × (V × ℕ))) × (e ∷ es ≡ xs ++ cond b (e ∷ es) (fitting es budget))
   end_by e es budget true s = ([], refl)
   end_by e es budget false s = (e ∷ s.0, ap (λ r. e ∷ r) s.1)
 
@@ -31,54 +38,92 @@ module _ {K V : Type 0} where
 
   -- ---- no longer end fits
 
-  end_fits : (xs ys : List (K × (V × ℕ))) (budget : ℕ) → total_weight (xs ++ ys) ≤ budget → total_weight ys ≤ budget
-  end_fits xs ys budget h = let a = sum_by-append (λ e. e.1.1) xs ys in omega arith
-
   pub fitting-whole : (es : List (K × (V × ℕ))) (budget : ℕ) → total_weight es ≤ budget → fitting es budget ≡ es
   fitting-whole [] budget h = refl
   fitting-whole (e ∷ es) budget h = rw (le-leb (total_weight (e ∷ es)) budget h) refl
 
-  longest_by : (x : K × (V × ℕ)) (xs ys : List (K × (V × ℕ))) (budget : ℕ) (b : Bool) → length ys ≤ length (fitting (xs ++ ys) budget) → length ys ≤ length (cond b (x ∷ (xs ++ ys)) (fitting (xs ++ ys) budget))
+  longest_by : (x : K × (V × ℕ)) (xs ys : List (K × (V × ℕ))) (budget : ℕ) (b : Bool)
+      → length ys ≤ length (fitting (xs ++ ys) budget)
+      → length ys ≤ length (cond b (x ∷ (xs ++ ys)) (fitting (xs ++ ys) budget))
   longest_by x xs ys budget true h = let a = length-append xs ys in omega arith
   longest_by x xs ys budget false h = h
 
-  pub fitting-longest : (xs ys : List (K × (V × ℕ))) (budget : ℕ) → total_weight ys ≤ budget → length ys ≤ length (fitting (xs ++ ys) budget)
+  pub fitting-longest : (xs ys : List (K × (V × ℕ))) (budget : ℕ) → total_weight ys ≤ budget
+      → length ys ≤ length (fitting (xs ++ ys) budget)
   fitting-longest [] ys budget h = rw (fitting-whole ys budget h) (le_refl (length ys))
-  fitting-longest (x ∷ xs) ys budget h = longest_by x xs ys budget (nat_le (total_weight (x ∷ (xs ++ ys))) budget) (fitting-longest xs ys budget h)
+  fitting-longest (x ∷ xs) ys budget h =
+      longest_by x xs ys budget (nat_le (total_weight (x ∷ (xs ++ ys))) budget) (fitting-longest xs ys budget h)
 
   -- no two keys are equal, as before
-  unequal_by : (eq : K → K → Bool) (e : K × (V × ℕ)) (es : List (K × (V × ℕ))) (budget : ℕ) (b : Bool) → IsEntries eq (e ∷ es) → IsEntries eq (fitting es budget) → IsEntries eq (cond b (e ∷ es) (fitting es budget))
+  unequal_by : (eq : K → K → Bool) (e : K × (V × ℕ)) (es : List (K × (V × ℕ))) (budget : ℕ) (b : Bool)
+      → IsEntries eq (e ∷ es) → IsEntries eq (fitting es budget)
+      → IsEntries eq (cond b (e ∷ es) (fitting es budget))
   unequal_by eq e es budget true d h = d
   unequal_by eq e es budget false d h = h
 
-  pub IsEntries-fitting : (eq : K → K → Bool) (es : List (K × (V × ℕ))) (budget : ℕ) → IsEntries eq es → IsEntries eq (fitting es budget)
+  pub IsEntries-fitting : (eq : K → K → Bool) (es : List (K × (V × ℕ))) (budget : ℕ) → IsEntries eq es
+      → IsEntries eq (fitting es budget)
   IsEntries-fitting eq [] budget d = d
-  IsEntries-fitting eq (e ∷ es) budget d = unequal_by eq e es budget (nat_le (total_weight (e ∷ es)) budget) d (IsEntries-fitting eq es budget (IsEntries-tail eq e es d))
+  IsEntries-fitting eq (e ∷ es) budget d =
+      unequal_by eq e es budget (nat_le (total_weight (e ∷ es)) budget) d
+      (IsEntries-fitting eq es budget (IsEntries-tail eq e es d))
 
 module _ {K V : Type 0} (eq : K → K → Bool) where
-  pub IsEntries-weighted_put : IsEquivalence eq → (es : List (K × (V × ℕ))) (budget : ℕ) (k : K) (v : V) (weight : ℕ) → IsEntries eq es → IsEntries eq (weighted_put eq es budget k v weight)
-  IsEntries-weighted_put laws es budget k v weight d = IsEntries-fitting eq (put eq es k (v, weight) (length es)) budget (IsEntries-put eq laws es k (v, weight) (length es) d)
+  pub IsEntries-weighted_put : IsEquivalence eq → (es : List (K × (V × ℕ))) (budget : ℕ) (k : K) (v : V) (weight : ℕ)
+      → IsEntries eq es
+      → IsEntries eq (weighted_put eq es budget k v weight)
+  IsEntries-weighted_put laws es budget k v weight d =
+      IsEntries-fitting eq (put eq es k (v, weight) (length es)) budget
+      (IsEntries-put eq laws es k (v, weight) (length es) d)
 
-  pub total_weight-weighted_put : (es : List (K × (V × ℕ))) (budget : ℕ) (k : K) (v : V) (weight : ℕ) → total_weight (weighted_put eq es budget k v weight) ≤ budget
+  pub total_weight-weighted_put : (es : List (K × (V × ℕ))) (budget : ℕ) (k : K) (v : V) (weight : ℕ)
+      → total_weight (weighted_put eq es budget k v weight) ≤ budget
   total_weight-weighted_put es budget k v weight = fitting-fits (put eq es k (v, weight) (length es)) budget
 
   -- a pair that is not too heavy stays
-  pub length-weighted_put : (es : List (K × (V × ℕ))) (budget : ℕ) (k : K) (v : V) (weight : ℕ) → weight ≤ budget → 1 ≤ length (weighted_put eq es budget k v weight)
+  pub length-weighted_put : (es : List (K × (V × ℕ))) (budget : ℕ) (k : K) (v : V) (weight : ℕ) → weight ≤ budget
+      → 1 ≤ length (weighted_put eq es budget k v weight)
   length-weighted_put es budget k v weight l =
       let last = (stored_key eq es k, (v, weight)) ∷ [] in
       let fits : total_weight last ≤ budget = omega arith in
-      rw (put_back eq es k (v, weight)) (fitting-longest (without eq es k) ((stored_key eq es k, (v, weight)) ∷ []) budget fits)
+      rw (put_back eq es k (v, weight))
+      (fitting-longest (without eq es k) ((stored_key eq es k, (v, weight)) ∷ []) budget fits)
 
 -- ---- look-ups after an insert
 
 module _ {K V : Type 0} (eq : K → K → Bool) (laws : IsEquivalence eq) where
-  pub lookup-weighted_put : (q : K) (es : List (K × (V × ℕ))) (budget : ℕ) (k : K) (v : V) (weight : ℕ) → IsEntries eq es → weight ≤ budget → eq k q ≡ true → lookup (eq q) (weighted_put eq es budget k v weight) ≡ Some (v, weight)
+  pub lookup-weighted_put : (q : K) (es : List (K × (V × ℕ))) (budget : ℕ) (k : K) (v : V) (weight : ℕ)
+      → IsEntries eq es → weight ≤ budget → eq k q ≡ true
+      → lookup (eq q) (weighted_put eq es budget k v weight) ≡ Some (v, weight)
   lookup-weighted_put q es budget k v weight d l t =
       let s = fitting-end (put eq es k (v, weight) (length es)) budget in
-      lookup-put_remaining eq laws q es k (v, weight) s.0 (weighted_put eq es budget k v weight) d s.1 (length-weighted_put eq es budget k v weight l) t
+      lookup-put_remaining eq laws q es k (v, weight) s.0 (weighted_put eq es budget k v weight) d s.1
+      (length-weighted_put eq es budget k v weight l) t
 
-  pub lookup_entry-weighted_put : (q : K) (es : List (K × (V × ℕ))) (budget : ℕ) (k : K) (v : V) (weight : ℕ) (e : K × (V × ℕ)) → IsEntries eq es → eq k q ≡ false → lookup_entry (eq q) (weighted_put eq es budget k v weight) ≡ Some e
+  pub lookup_entry-weighted_put : (q : K) (es : List (K × (V × ℕ))) (budget : ℕ) (k : K) (v : V) (weight : ℕ)
+      (e : K × (V × ℕ))
+      → IsEntries eq es → eq k q ≡ false
+      → lookup_entry (eq q) (weighted_put eq es budget k v weight) ≡ Some e
       → lookup_entry (eq q) es ≡ Some e
   lookup_entry-weighted_put q es budget k v weight e d t l =
       let s = fitting-end (put eq es k (v, weight) (length es)) budget in
       lookup_entry-put_remaining eq laws q es k (v, weight) s.0 (weighted_put eq es budget k v weight) d s.1 e t l
+
+-- ---- the steps
+
+module _ {K V S : Type 0} (eq : K → K → Bool) (old new : WeightedState K V S) (k : K) (v : V) (weight : ℕ)
+    (w : Option (V × ℕ)) where
+  pub weighted_entries : WeightedInserts eq old new k v weight w
+      → new.map.entries ≡ weighted_put eq old.map.entries old.budget k v weight
+  weighted_entries s =
+      s.keeps.entries ∙ ap (λ es. fitting es old.budget) (put_entries eq old.map s.between k (v, weight) w s.inserts)
+
+  pub weighted_answer : WeightedInserts eq old new k v weight w → w ≡ lookup (eq k) old.map.entries
+  weighted_answer s = put_answer eq old.map s.between k (v, weight) w s.inserts
+
+  pub weighted_total : WeightedInserts eq old new k v weight w → total_weight new.map.entries ≤ new.budget
+  weighted_total s =
+      let same = ap total_weight s.keeps.entries in
+      let fits = fitting-fits s.between.entries old.budget in
+      let b = s.budget in
+      omega arith

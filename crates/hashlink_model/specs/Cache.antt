@@ -1,10 +1,13 @@
 -- Caches: a map and how many entries it may have.
-use Rattle.std.specs.Prelude.{◌≡◌, ℕ, ◌+◌, ◌-◌, Bool, cond, List, [], ◌∷◌, length, drop, if◌then◌else◌, nat_lt, is_some, Option, Result, MatchOption, MatchResult, fold}
+use Rattle.std.specs.Prelude.{◌≡◌, ℕ, ◌+◌, ◌-◌, ◌≤◌, ◌<◌, Bool, cond, List, [], ◌∷◌, length, drop, if◌then◌else◌}
+use Rattle.std.specs.Prelude.{nat_lt, is_some}
+use Rattle.std.specs.Prelude.{Option, Some, Result, Ok, MatchOption, MatchResult, fold}
 use Rattle.std.specs.Map.{lookup}
 use Rattle.std.specs.Option.{option_map_or}
 use Rattle.hashlink_model.specs.Entries.{put, moved}
-use Rattle.hashlink_model.specs.MapState.{MapState, AddsEntry, PutsEntry, RefusesEntry}
-use Rattle.hashlink_model.specs.Steps.{Changes, KeepsOnly}
+use Rattle.hashlink_model.specs.Entry.{EntryState, entry_of}
+use Rattle.hashlink_model.specs.MapState.{MapState, node_count, AddsEntry, PutsEntry, RefusesEntry}
+use Rattle.hashlink_model.specs.Steps.{KeepsOnly, Moves, MovesAndWrites}
 
 -- the map's state and the capacity
 pub record CacheState (K V S : Type 0) : Type 0 where
@@ -13,8 +16,8 @@ pub record CacheState (K V S : Type 0) : Type 0 where
 
 module _ {K V : Type 0} where
   -- without the first entry where there are more than `cap`
-  abbrev pub trimmed : List (K × V) → ℕ → List (K × V)
-  trimmed es cap = if nat_lt cap (length es) then drop 1 es else es
+  abbrev pub front_evicted : List (K × V) → ℕ → List (K × V)
+  front_evicted es cap = if nat_lt cap (length es) then drop 1 es else es
 
   -- the last n entries, or all where there are fewer
   abbrev pub last_entries : List (K × V) → ℕ → List (K × V)
@@ -23,7 +26,7 @@ module _ {K V : Type 0} where
   module _ (eq : K → K → Bool) where
     -- the entries after the cache's insert: the map's, and then at most one entry at the front is dropped
     abbrev pub cache_put : List (K × V) → ℕ → K → V → List (K × V)
-    cache_put es cap k v = trimmed (put eq es k v (length es)) cap
+    cache_put es cap k v = front_evicted (put eq es k v (length es)) cap
 
     -- the entries after the cache's insert of each pair in turn
     abbrev pub cache_extended : List (K × V) → ℕ → List (K × V) → List (K × V)
@@ -44,34 +47,68 @@ module _ {K V : Type 0} where
     -- how many of those uses were misses
     abbrev pub missed_uses : ℕ → List (K × V) → List (K × V) → ℕ
     missed_uses cap es [] = 0
-    missed_uses cap es (p ∷ pairs) = cond (is_some (lookup (eq p.0) es)) 0 1 + missed_uses cap (cache_use es cap p.0 p.1) pairs
+    missed_uses cap es (p ∷ pairs) =
+        cond (is_some (lookup (eq p.0) es)) 0 1 + missed_uses cap (cache_use es cap p.0 p.1) pairs
 
 module _ {K V S : Type 0} where
-  -- as many entries at the front were dropped as the trim says, and each left its node spare
-  abbrev pub Trims : MapState K V S → MapState K V S → ℕ → Type 0
-  Trims old new cap = KeepsOnly old new (trimmed old.entries cap)
+  -- a step of the map, at the same capacity
+  pub record OnMap (step : MapState K V S → MapState K V S → Type 0) (old new : CacheState K V S) : Type 0 where
+    pub map : step old.map new.map
+    pub cap : new.cap ≡ old.cap
+
+  -- at most n entries more than the capacity
+  abbrev pub IsWithin : CacheState K V S → ℕ → Type 0
+  IsWithin c n = length c.map.entries ≤ c.cap + n
+
+  -- more nodes than the capacity, and a spare one among them
+  pub record HasNodeToSpare (c : CacheState K V S) : Type 0 where
+    pub beyond : c.cap < node_count c.map
+    pub spare : 1 ≤ c.map.spare
+
+  -- the first entry was dropped where there were more than `cap`, and left its node spare
+  abbrev pub EvictsFront : MapState K V S → MapState K V S → ℕ → Type 0
+  EvictsFront old new cap = KeepsOnly old new (front_evicted old.entries cap)
 
   -- a capacity n that is set: the last n entries stay
   pub record SetsCapacity (old new : CacheState K V S) (n : ℕ) : Type 0 where
     pub map : KeepsOnly old.map new.map (last_entries old.map.entries n)
     pub cap : new.cap ≡ n
 
+  -- the map's insert led to the state `between`, of which the first entry was dropped where there were too many
+  pub record InsertsThenEvicts (step : MapState K V S → MapState K V S → Type 0) (cap : ℕ)
+      (old new : MapState K V S) : Type 0 where
+    pub between : MapState K V S
+    pub inserts : step old between
+    pub evicts : EvictsFront between new cap
+
   module _ (eq : K → K → Bool) where
-    -- the map's insert led to the state `between`, which was then trimmed
-    pub record InsertsThenTrims (step : MapState K V S → MapState K V S → Type 0) (old new : CacheState K V S) : Type 0 where
-      pub between : MapState K V S
-      pub inserts : step old.map between
-      pub trims : Trims between new.map old.cap
+    -- the map's insert of the pair at the length, by what it answers where it is not refused
+    abbrev pub InsertsLast : K → V → Option V → MapState K V S → MapState K V S → Type 0
+    InsertsLast k v w old new =
+        MatchOption w (AddsEntry eq old new k v (length old.entries)) (PutsEntry eq old new k v (length old.entries))
 
     -- the cache's insert, by its answer: a refusal drops nothing
-    pub record CacheInserts (old new : CacheState K V S) (k : K) (v : V) (r : Result (Option V) (K × V)) : Type 0 where
-      pub map : MatchResult r
-          (λ w. InsertsThenTrims (λ a b. MatchOption w (AddsEntry eq a b k v (length a.entries)) (PutsEntry eq a b k v (length a.entries))) old new)
-          (RefusesEntry eq old.map new.map k v)
-      pub cap : new.cap ≡ old.cap
+    abbrev pub CacheInserts : CacheState K V S → CacheState K V S → K → V → Result (Option V) (K × V) → Type 0
+    CacheInserts old new k v r =
+        OnMap
+        (λ a b. MatchResult r (λ w. InsertsThenEvicts (InsertsLast k v w) old.cap a b) (RefusesEntry eq a b k v))
+        old new
 
-    -- `get` and `get_mut`
-    pub record CacheGets (old new : CacheState K V S) (k : K) (r : Option V) : Type 0 where
-      pub answer : r ≡ lookup (eq k) old.map.entries
-      pub map : Changes old.map new.map (cache_get eq old.map.entries k) 6
-      pub cap : new.cap ≡ old.cap
+    -- `get`: a hit moves its entry last, a miss changes nothing
+    abbrev pub CacheGets : CacheState K V S → CacheState K V S → K → Option V → Type 0
+    CacheGets old new k r = OnMap (λ a b. Moves eq a b k (length a.entries) r) old new
+
+    -- a hit of `get_mut`, once w was written through what it lent
+    abbrev pub CacheGetsAndWrites : CacheState K V S → CacheState K V S → K → V → Type 0
+    CacheGetsAndWrites old new k w = OnMap (λ a b. MovesAndWrites eq a b k (length a.entries) w) old new
+
+    -- `entry`: the first entry is dropped where there are too many, and then the key is looked up
+    pub record EntersCache (old : CacheState K V S) (k : K) (e : EntryState K V S) : Type 0 where
+      pub evicts : EvictsFront old.map e.map old.cap
+      pub entry : e ≡ entry_of eq e.map k
+
+    -- a use, by its answer: a hit of `get`, or the insert of an absent key
+    abbrev pub CacheUses : CacheState K V S → CacheState K V S → K → V → Result (Option V) (K × V) → Type 0
+    CacheUses old new k v r =
+        MatchOption (lookup (eq k) old.map.entries)
+        (CacheInserts old new k v r) (λ w. (r ≡ Ok (Some w)) × CacheGets old new k (Some w))

@@ -1,46 +1,61 @@
 -- Cursors. The places of a list of n entries are 0 to n, in a ring: the entries' places, and n for the guard.
-use Rattle.std.specs.Prelude.{◌≡◌, ℕ, ◌+◌, ◌%◌, Bool, List, length, slice_get, Option, Result}
+use Rattle.std.specs.Prelude.{◌≡◌, ℕ, ◌+◌, ◌%◌, ◌≤◌, Bool, List, length, slice_get, Option, Result}
 use Rattle.std.specs.Option.{option_map_or}
-use Rattle.hashlink_model.specs.Entries.{place_or_end, put}
-use Rattle.hashlink_model.specs.MapState.{MapState, Inserts}
+use Rattle.hashlink_model.specs.Entries.{place_or_end}
+use Rattle.hashlink_model.specs.MapState.{MapState, Inserts, with_value}
 
 -- the place after i, and the one before it, in a list of n entries
-abbrev pub next_place : ℕ → ℕ → ℕ
-next_place n i = (i + 1) % (n + 1)
+abbrev pub following_place : ℕ → ℕ → ℕ
+following_place n i = (i + 1) % (n + 1)
 
-abbrev pub previous_place : ℕ → ℕ → ℕ
-previous_place n i = (i + n) % (n + 1)
+abbrev pub preceding_place : ℕ → ℕ → ℕ
+preceding_place n i = (i + n) % (n + 1)
 
 -- a map, and the place of a cursor in it
 pub record CursorState (K V S : Type 0) : Type 0 where
   pub map : MapState K V S
   pub place : ℕ
 
-module _ {K V : Type 0} where
-  -- the entry at the place, and None at the guard
-  abbrev pub entry_at : List (K × V) → ℕ → Option (K × V)
-  entry_at es i = slice_get es i
+-- where a cursor at the place i of the list `old` stands in the list `new`: on its entry, wherever that is now, or on
+-- the guard
+abbrev pub place_kept : {K V : Type 0} → (K → K → Bool) → List (K × V) → List (K × V) → ℕ → ℕ
+place_kept eq old new i = option_map_or (λ e. place_or_end eq new e.0) (slice_get old i) (length new)
+
+module _ {K V S : Type 0} where
+  -- the cursor stands on an entry or on the guard
+  abbrev pub IsCursor : CursorState K V S → Type 0
+  IsCursor c = c.place ≤ length c.map.entries
+
+  -- the entry at a place of the cursor's map, and none at the guard
+  abbrev pub entry_in : CursorState K V S → ℕ → Option (K × V)
+  entry_in c i = slice_get c.map.entries i
+
+  -- the places next to the cursor's
+  abbrev pub place_next : CursorState K V S → ℕ
+  place_next c = following_place (length c.map.entries) c.place
+
+  abbrev pub place_previous : CursorState K V S → ℕ
+  place_previous c = preceding_place (length c.map.entries) c.place
+
+  -- the cursor on the place i, in the same map
+  abbrev pub at_place : CursorState K V S → ℕ → CursorState K V S
+  at_place c i = record c { place = i }
+
+  -- the same cursor, after w was written as the value at the place i of its map
+  abbrev pub with_value_in : CursorState K V S → ℕ → V → CursorState K V S
+  with_value_in c i w = record c { map = with_value c.map i w }
 
   module _ (eq : K → K → Bool) where
-    -- where a cursor at the place i of the list `old` stands in the list `new`: on its entry, wherever that is now, or on the guard
-    abbrev pub place_after : List (K × V) → List (K × V) → ℕ → ℕ
-    place_after old new i = option_map_or (λ e. place_or_end eq new e.0) (entry_at old i) (length new)
+    -- a cursor's insert at the place b, by its answer: the map's insert there, after which the cursor stands on its
+    -- entry or on the guard
+    pub record CursorInserts (old new : CursorState K V S) (k : K) (v : V) (b : ℕ)
+        (r : Result (Option V) (K × V)) : Type 0 where
+      pub map : Inserts eq old.map new.map k v b r
+      pub place : new.place ≡ place_kept eq old.map.entries new.map.entries old.place
 
-    -- the entries after an insert directly before, and directly after, the place i
-    abbrev pub put_before : List (K × V) → K → V → ℕ → List (K × V)
-    put_before es k v i = put eq es k v i
+    -- an insert directly before the cursor's place, and one directly after it
+    abbrev pub InsertsBefore : CursorState K V S → CursorState K V S → K → V → Result (Option V) (K × V) → Type 0
+    InsertsBefore old new k v r = CursorInserts old new k v old.place r
 
-    abbrev pub put_after : List (K × V) → K → V → ℕ → List (K × V)
-    put_after es k v i = put eq es k v (next_place (length es) i)
-
-module _ {K V S : Type 0} (eq : K → K → Bool) where
-  -- a cursor's insert at the place b, by its answer: the map's insert there, after which the cursor stands on its entry or on the guard
-  pub record CursorInserts (old new : CursorState K V S) (k : K) (v : V) (b : ℕ) (r : Result (Option V) (K × V)) : Type 0 where
-    pub map : Inserts eq old.map new.map k v b r
-    pub place : new.place ≡ place_after eq old.map.entries new.map.entries old.place
-
-  abbrev pub InsertsBefore : CursorState K V S → CursorState K V S → K → V → Result (Option V) (K × V) → Type 0
-  InsertsBefore old new k v r = CursorInserts old new k v old.place r
-
-  abbrev pub InsertsAfter : CursorState K V S → CursorState K V S → K → V → Result (Option V) (K × V) → Type 0
-  InsertsAfter old new k v r = CursorInserts old new k v (next_place (length old.map.entries) old.place) r
+    abbrev pub InsertsAfter : CursorState K V S → CursorState K V S → K → V → Result (Option V) (K × V) → Type 0
+    InsertsAfter old new k v r = CursorInserts old new k v (place_next old) r

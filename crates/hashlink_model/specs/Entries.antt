@@ -1,15 +1,37 @@
 -- The entries of a map: a list of pairs, front first, whose keys are pairwise unequal.
--- The equality `eq` of the keys is any equivalence: equal keys may be different objects, so it matters which one the list keeps.
-use Rattle.std.specs.Prelude.{ℕ, ◌-◌, ◌+◌, Bool, List, [], ◌∷◌, length, Option, None, Some, cond, if◌then◌else◌, nat_lt, unwrap_or, insert, fold}
+-- The equality `eq` of the keys is any equivalence: equal keys may be different objects, so it matters which one the
+-- list keeps.
+use Rattle.std.specs.Prelude.{ℕ, zero, suc, ◌-◌, ◌+◌, Bool, List, [], ◌∷◌, length, Option, None, Some, cond}
+use Rattle.std.specs.Prelude.{if◌then◌else◌, nat_lt, unwrap_or, insert, remove, slice_get, fold}
 use Rattle.std.specs.List.{IsDistinct}
 use Rattle.std.specs.Option.{option_map, option_map_or}
 use Rattle.std.specs.Map.{keys_of, lookup, lookup_key, remove_entry}
+
+-- where the place b is once the entry at the place j is taken out: one place nearer to the front where it stood
+-- before b
+abbrev pub place_left : ℕ → ℕ → ℕ
+place_left j b = if nat_lt j b then b - 1 else b
 
 module _ {K V : Type 0} where
   -- the place, counted from 0, of the first entry whose key passes the test
   abbrev pub place_of : (K → Bool) → List (K × V) → Option ℕ
   place_of test [] = None
   place_of test (e ∷ es) = cond (test e.0) (Some 0) (option_map (λ j. j + 1) (place_of test es))
+
+  -- the entries with w as the value at the place j, and with k as the key there
+  abbrev pub set_value_at : List (K × V) → ℕ → V → List (K × V)
+  set_value_at [] j w = []
+  set_value_at (e ∷ es) zero w = (e.0, w) ∷ es
+  set_value_at (e ∷ es) (suc j) w = e ∷ set_value_at es j w
+
+  abbrev pub set_key_at : List (K × V) → ℕ → K → List (K × V)
+  set_key_at [] j k = []
+  set_key_at (e ∷ es) zero k = (k, e.1) ∷ es
+  set_key_at (e ∷ es) (suc j) k = e ∷ set_key_at es j k
+
+  -- the entries after the one at the place j is moved to the place b
+  abbrev pub moved_at : List (K × V) → ℕ → ℕ → List (K × V)
+  moved_at es j b = option_map_or (λ e. insert (remove es j) (place_left j b) e) (slice_get es j) es
 
   module _ (eq : K → K → Bool) where
     -- no two keys are equal
@@ -24,11 +46,12 @@ module _ {K V : Type 0} where
     abbrev pub stored_key : List (K × V) → K → K
     stored_key es k = unwrap_or (lookup_key (eq k) es) k
 
-    -- where the place b is once the key is taken out: one place nearer to the front where the key stands before it
+    -- where the place b is once the key is taken out
     abbrev pub place_without : List (K × V) → K → ℕ → ℕ
-    place_without es k b = option_map_or (λ j. if nat_lt j b then b - 1 else b) (place_of (eq k) es) b
+    place_without es k b = option_map_or (λ j. place_left j b) (place_of (eq k) es) b
 
-    -- the entries after the key is put at the place b with the value: a key that is there moves to b and keeps its key object
+    -- the entries after the key is put at the place b with the value: a key that is there moves to b and keeps its
+    -- key object
     abbrev pub put : List (K × V) → K → V → ℕ → List (K × V)
     put es k v b = insert (without es k) (place_without es k b) (stored_key es k, v)
 

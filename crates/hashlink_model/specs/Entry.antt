@@ -1,9 +1,11 @@
--- Entries: a place in a map that was looked up for a key, taken or vacant.
-use Rattle.std.specs.Prelude.{ℕ, Bool, List, [], ◌∷◌, ◌++◌, length, slice_set, Option}
-use Rattle.std.specs.Option.{option_map_or}
+-- Entries: a place in a map that was looked up for a key, taken or vacant, and what is done at it.
+use Rattle.std.specs.Prelude.{◌≡◌, ℕ, ◌<◌, Bool, List, length, slice_get, Option, Some, MatchOption, Result}
+use Rattle.std.specs.Prelude.{MatchResult}
+use Rattle.std.specs.Option.{option_map, option_map_or}
 use Rattle.std.specs.Map.{lookup}
-use Rattle.hashlink_model.specs.Entries.{place_of, without, put}
-use Rattle.hashlink_model.specs.MapState.{MapState}
+use Rattle.hashlink_model.specs.Entries.{place_of, put, set_value_at, set_key_at, moved_at}
+use Rattle.hashlink_model.specs.MapState.{MapState, Changes, AddsEntry, RefusesEntry}
+use Rattle.hashlink_model.specs.MapState.{RemovesAt, MovesAt, WritesAt, SetsKeyAt}
 
 -- the map, the place of the entry or none where it is vacant, and the key in hand
 pub record EntryState (K V S : Type 0) : Type 0 where
@@ -16,36 +18,81 @@ pub record RawEntryState (K V S : Type 0) : Type 0 where
   pub map : MapState K V S
   pub place : Option ℕ
 
-module _ {K V S : Type 0} (eq : K → K → Bool) where
-  -- what `entry` answers for a key
-  abbrev pub entry_of : MapState K V S → K → EntryState K V S
-  entry_of m k = record { map = m; place = place_of (eq k) m.entries; key = k }
-
-  abbrev pub raw_entry_of : MapState K V S → K → RawEntryState K V S
-  raw_entry_of m k = record { map = m; place = place_of (eq k) m.entries }
-
 module _ {K V : Type 0} where
-  module _ (eq : K → K → Bool) where
-    -- `insert` on the occupied entry e: the new value goes last with the stored key
-    abbrev pub insert_value : List (K × V) → K × V → V → List (K × V)
-    insert_value es e v = put eq es e.0 v (length es)
+  -- the key object and the value at the place j
+  abbrev pub key_at : List (K × V) → ℕ → Option K
+  key_at es j = option_map (λ e. e.0) (slice_get es j)
 
-    -- `insert_entry` on e with the key h in hand: h and the value go last in place of e
-    abbrev pub insert_entry : List (K × V) → K × V → K → V → List (K × V)
-    insert_entry es e h v = without eq es e.0 ++ (h, v) ∷ []
+  abbrev pub value_at : List (K × V) → ℕ → Option V
+  value_at es j = option_map (λ e. e.1) (slice_get es j)
 
-    -- `or_insert`, by the key: one that is there moves last with the value that stands, an absent one goes last with the value given
-    abbrev pub or_insert : List (K × V) → K → V → List (K × V)
-    or_insert es k v = put eq es k (option_map_or (λ w. w) (lookup (eq k) es) v) (length es)
-
-  -- `replace_entry` at the place j with the key h in hand
+  -- `replace_entry` at the place j with the key h in hand: h and the value stand there
   abbrev pub replace_entry : List (K × V) → ℕ → K → V → List (K × V)
-  replace_entry es j h v = slice_set es j (h, v)
+  replace_entry es j h v = set_key_at (set_value_at es j v) j h
 
-  -- `replace_key` on the entry e at the place j: k is its key object from now on
-  abbrev pub replace_key : List (K × V) → ℕ → K × V → K → List (K × V)
-  replace_key es j e k = slice_set es j (k, e.1)
+  -- `insert` at the place j: the stored key goes last with the value
+  abbrev pub insert_value : List (K × V) → ℕ → V → List (K × V)
+  insert_value es j v = moved_at (set_value_at es j v) j (length es)
 
-  -- `replace_value` on the entry e at the place j
-  abbrev pub replace_value : List (K × V) → ℕ → K × V → V → List (K × V)
-  replace_value es j e v = slice_set es j (e.0, v)
+  -- `insert_entry` at the place j with the key h in hand: h and the value go last in place of the entry
+  abbrev pub insert_entry : List (K × V) → ℕ → K → V → List (K × V)
+  insert_entry es j h v = moved_at (replace_entry es j h v) j (length es)
+
+  -- `or_insert`, by the key: one that is there moves last with the value that stands, an absent one goes last with
+  -- the value given
+  abbrev pub or_insert : (K → K → Bool) → List (K × V) → K → V → List (K × V)
+  or_insert eq es k v = put eq es k (option_map_or (λ w. w) (lookup (eq k) es) v) (length es)
+
+module _ {K V S : Type 0} where
+  -- a raw entry is vacant or stands on an entry
+  abbrev pub IsRawEntry : RawEntryState K V S → Type 0
+  IsRawEntry r = MatchOption r.place (Unit {0}) (λ j. j < length r.map.entries)
+
+  -- ---- steps on an occupied entry at the place j, each with what it answers
+
+  pub record InsertsValue (old new : MapState K V S) (j : ℕ) (v w : V) : Type 0 where
+    pub answer : value_at old.entries j ≡ Some w
+    pub step : Changes old new (insert_value old.entries j v) 6
+
+  pub record InsertsEntry (old new : MapState K V S) (j : ℕ) (h : K) (v : V) (e : K × V) : Type 0 where
+    pub answer : slice_get old.entries j ≡ Some e
+    pub step : Changes old new (insert_entry old.entries j h v) 6
+
+  pub record ReplacesEntry (old new : MapState K V S) (j : ℕ) (h : K) (v : V) (e : K × V) : Type 0 where
+    pub answer : slice_get old.entries j ≡ Some e
+    pub step : Changes old new (replace_entry old.entries j h v) 0
+
+  pub record ReplacesKey (old new : MapState K V S) (j : ℕ) (h k : K) : Type 0 where
+    pub answer : key_at old.entries j ≡ Some k
+    pub step : SetsKeyAt old new j h
+
+  pub record ReplacesValue (old new : MapState K V S) (j : ℕ) (v w : V) : Type 0 where
+    pub answer : value_at old.entries j ≡ Some w
+    pub step : WritesAt old new j v
+
+  -- the entry leaves and is the answer
+  pub record TakesEntry (old new : MapState K V S) (j : ℕ) (e : K × V) : Type 0 where
+    pub answer : slice_get old.entries j ≡ Some e
+    pub step : RemovesAt old new j
+
+  -- the entry moves to the place b, and its value is the answer
+  pub record MovesEntry (old new : MapState K V S) (j b : ℕ) (w : V) : Type 0 where
+    pub answer : value_at old.entries j ≡ Some w
+    pub step : MovesAt old new j b
+
+  module _ (eq : K → K → Bool) where
+    -- what `entry` answers for a key
+    abbrev pub entry_of : MapState K V S → K → EntryState K V S
+    entry_of m k = record { map = m; place = place_of (eq k) m.entries; key = k }
+
+    abbrev pub raw_entry_of : MapState K V S → K → RawEntryState K V S
+    raw_entry_of m k = record { map = m; place = place_of (eq k) m.entries }
+
+    -- an entry stands at the place of its key
+    abbrev pub IsEntry : EntryState K V S → Type 0
+    IsEntry e = e.place ≡ place_of (eq e.key) e.map.entries
+
+    -- a vacant entry's insert, by its answer: the key goes last with the value, or the pair is handed back
+    abbrev pub VacantInserts : {A : Type 0} → MapState K V S → MapState K V S → K → V → Result A (K × V) → Type 0
+    VacantInserts old new k v r =
+        MatchResult r (λ _. AddsEntry eq old new k v (length old.entries)) (RefusesEntry eq old new k v)

@@ -1,5 +1,5 @@
 -- When the entries of a smaller cache are an end of a larger one's.
-use Rattle.std.specs.Prelude.{◌≡◌, Bool, true, List, ◌++◌}
+use Rattle.std.specs.Prelude.{◌≡◌, Bool, true, List, ◌++◌, Option, Some, is_some}
 use Rattle.std.specs.List.{AllZip}
 
 module _ {K V : Type 0} (eq : K → K → Bool) where
@@ -16,3 +16,11 @@ pub record IsEndOf {K V : Type 0} (R : K × V → K × V → Type 0) (small larg
   pub back : List (K × V)
   pub is : large ≡ front ++ back
   pub alike : AllZip R small back
+
+-- the answers of the two caches to one call: where the smaller one found something the larger one did, and it found
+-- the same
+abbrev pub AlsoFinds : {V : Type 0} → Option V → Option V → Type 0
+AlsoFinds small large = is_some small ≡ true → is_some large ≡ true
+
+abbrev pub FindsTheSame : {V : Type 0} → Option V → Option V → Type 0
+FindsTheSame {V} small large = (w : V) → small ≡ Some w → large ≡ Some w

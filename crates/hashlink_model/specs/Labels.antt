@@ -1,4 +1,5 @@
--- The definitions at keys that are a text and a number and are compared by the text alone, so that equal keys may be different objects. Texts are numbered.
+-- The definitions at keys that are a text and a number and are compared by the text alone, so that equal keys may be
+-- different objects. Texts are numbered.
 use Rattle.std.specs.Prelude.{ℕ, Bool, List, length, nat_eq}
 use Rattle.hashlink_model.specs.Cache as cache
 use Rattle.hashlink_model.specs.Entries as entries
@@ -22,11 +23,11 @@ insert es k v = entries.put same_text es k v (length es)
 abbrev pub stored_key : Labelled → Label → Label
 stored_key = entries.stored_key same_text
 
-abbrev pub insert_entry : Labelled → Label × ℕ → Label → ℕ → Labelled
-insert_entry = entry.insert_entry same_text
+abbrev pub insert_entry : Labelled → ℕ → Label → ℕ → Labelled
+insert_entry = entry.insert_entry
 
-abbrev pub replace_key : Labelled → ℕ → Label × ℕ → Label → Labelled
-replace_key es j e k = entry.replace_key es j e k
+abbrev pub set_key_at : Labelled → ℕ → Label → Labelled
+set_key_at = entries.set_key_at
 
 -- sets of labels: insert, replace, and the pair of caches
 abbrev pub insert_element : List Label → Label → List Label

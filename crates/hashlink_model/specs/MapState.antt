@@ -1,10 +1,13 @@
--- What a contract sees of a map, and the steps between two such states. A call's contract names the step that it takes.
-use Rattle.std.specs.Prelude.{◌≡◌, ℕ, ◌-◌, ◌+◌, ◌≤◌, Bool, List, [], length, Option, None, Some, Result, MatchOption, MatchResult, refl}
+-- What a contract sees of a map, and the steps between two such states. A call's contract names the step that it
+-- takes.
+use Rattle.std.specs.Prelude.{◌≡◌, ℕ, ◌-◌, ◌+◌, ◌≤◌, Bool, List, [], length, Option, None, Some, Result}
+use Rattle.std.specs.Prelude.{MatchOption, MatchResult, insert, remove, refl}
 use Rattle.std.specs.Coded.{Coded, code_by, coded×, coded_list, coded_ℕ}
 use Rattle.std.specs.Map.{lookup}
-use Rattle.hashlink_model.specs.Entries.{put}
+use Rattle.hashlink_model.specs.Entries.{put, moved_at, set_value_at, set_key_at}
 
--- the entries, how many spare nodes there are, for how many nodes there is room, how many links of nodes were stored so far, and the hasher
+-- the entries, how many spare nodes there are, for how many nodes there is room, how many links of nodes were stored
+-- so far, and the hasher
 pub record MapState (K V S : Type 0) : Type 0 where
   pub entries : List (K × V)
   pub spare : ℕ
@@ -23,20 +26,87 @@ module _ {K V S : Type 0} where
 
   -- a state is stored as the tuple of its fields
   abbrev pub map_state_code : Coded K → Coded V → Coded S → Coded (MapState K V S)
-  map_state_code k v s = code_by (List (K × V) × (ℕ × (ℕ × (ℕ × S)))) (coded× (coded_list (coded× k v)) (coded× coded_ℕ (coded× coded_ℕ (coded× coded_ℕ s))))
-      (λ m. (m.entries, (m.spare, (m.room, (m.link_writes, m.hasher))))) (λ p. map_state p.0 p.1.0 p.1.1.0 p.1.1.1.0 p.1.1.1.1) (λ _. refl)
+  map_state_code k v s = code_by (List (K × V) × (ℕ × (ℕ × (ℕ × S))))
+      (coded× (coded_list (coded× k v)) (coded× coded_ℕ (coded× coded_ℕ (coded× coded_ℕ s))))
+      (λ m. (m.entries, (m.spare, (m.room, (m.link_writes, m.hasher)))))
+      (λ p. map_state p.0 p.1.0 p.1.1.0 p.1.1.1.0 p.1.1.1.1) (λ _. refl)
 
   -- a map as it is made: nothing in it, and no memory taken
   abbrev pub empty_map : S → MapState K V S
   empty_map s = map_state [] 0 0 0 s
 
-  -- an entry left, the entries are now `es`, and its node is spare
+  -- how many nodes a map keeps: those of its entries and the spare ones
+  abbrev pub node_count : MapState K V S → ℕ
+  node_count m = length m.entries + m.spare
+
+  -- there is room for each node
+  abbrev pub HasRoom : MapState K V S → Type 0
+  HasRoom m = node_count m ≤ m.room
+
+  -- ---- what may become of a state, by the entries `es` that it has now
+
+  -- as many nodes are spare as before, and `most` links were stored at most: a move, or a key or a value that was
+  -- written
+  pub record Changes (old new : MapState K V S) (es : List (K × V)) (most : ℕ) : Type 0 where
+    pub entries : new.entries ≡ es
+    pub spare : new.spare ≡ old.spare
+    pub room : new.room ≡ old.room
+    pub link_writes : StoresAtMost most old.link_writes new.link_writes
+    pub hasher : new.hasher ≡ old.hasher
+
+  -- a new pair went in, into a spare node where there was one, and there is room for each node
+  pub record Adds (old new : MapState K V S) (es : List (K × V)) : Type 0 where
+    pub entries : new.entries ≡ es
+    pub more : length es ≡ length old.entries + 1
+    pub spare : new.spare ≡ old.spare - 1
+    pub room : old.room ≤ new.room
+    pub fits : HasRoom new
+    pub link_writes : StoresAtMost 4 old.link_writes new.link_writes
+    pub hasher : new.hasher ≡ old.hasher
+
+  -- an entry left, and its node is spare
   pub record Removes (old new : MapState K V S) (es : List (K × V)) : Type 0 where
     pub entries : new.entries ≡ es
+    pub fewer : length es + 1 ≡ length old.entries
     pub spare : new.spare ≡ old.spare + 1
     pub room : new.room ≡ old.room
     pub link_writes : StoresAtMost 3 old.link_writes new.link_writes
     pub hasher : new.hasher ≡ old.hasher
+
+  -- nothing changed but the room, which did not shrink
+  pub record Grows (old new : MapState K V S) : Type 0 where
+    pub entries : new.entries ≡ old.entries
+    pub spare : new.spare ≡ old.spare
+    pub room : old.room ≤ new.room
+    pub link_writes : new.link_writes ≡ old.link_writes
+    pub hasher : new.hasher ≡ old.hasher
+
+  -- ---- by places, which count from 0
+
+  -- a new pair went in at the place b
+  abbrev pub AddsAt : MapState K V S → MapState K V S → ℕ → K → V → Type 0
+  AddsAt old new b k v = Adds old new (insert old.entries b (k, v))
+
+  -- the entry at the place j left
+  abbrev pub RemovesAt : MapState K V S → MapState K V S → ℕ → Type 0
+  RemovesAt old new j = Removes old new (remove old.entries j)
+
+  -- the entry at the place j moved to the place b
+  abbrev pub MovesAt : MapState K V S → MapState K V S → ℕ → ℕ → Type 0
+  MovesAt old new j b = Changes old new (moved_at old.entries j b) 6
+
+  -- the entry at the place j has the value v now, or the key k
+  abbrev pub WritesAt : MapState K V S → MapState K V S → ℕ → V → Type 0
+  WritesAt old new j v = Changes old new (set_value_at old.entries j v) 0
+
+  abbrev pub SetsKeyAt : MapState K V S → MapState K V S → ℕ → K → Type 0
+  SetsKeyAt old new j k = Changes old new (set_key_at old.entries j k) 0
+
+  -- the state with v as the value at the place j, as a write through what was lent leaves it
+  abbrev pub with_value : MapState K V S → ℕ → V → MapState K V S
+  with_value m j v = record m { entries = set_value_at m.entries j v }
+
+  -- ---- an insert, by its answer
 
   module _ (eq : K → K → Bool) where
     -- the only case in which an insert may be refused for memory: the key is absent, and no node is spare
@@ -44,35 +114,25 @@ module _ {K V S : Type 0} where
       pub absent : lookup (eq k) old.entries ≡ None
       pub no_spare : old.spare ≡ 0
 
-    -- a new pair went in at the place b, into a spare node where there was one, and there is room for each node
+    -- an absent key went in at the place b
     pub record AddsEntry (old new : MapState K V S) (k : K) (v : V) (b : ℕ) : Type 0 where
       pub absent : lookup (eq k) old.entries ≡ None
-      pub entries : new.entries ≡ put eq old.entries k v b
-      pub spare : new.spare ≡ old.spare - 1
-      pub room : old.room ≤ new.room
-      pub fits : length new.entries + new.spare ≤ new.room
-      pub link_writes : StoresAtMost 4 old.link_writes new.link_writes
-      pub hasher : new.hasher ≡ old.hasher
+      pub adds : Adds old new (put eq old.entries k v b)
 
-    -- the pair that was there was put at the place b with a new value, and its old value was w
+    -- the key that was there was put at the place b with a new value, and its old value was w
     pub record PutsEntry (old new : MapState K V S) (k : K) (v : V) (b : ℕ) (w : V) : Type 0 where
       pub old_value : lookup (eq k) old.entries ≡ Some w
-      pub entries : new.entries ≡ put eq old.entries k v b
-      pub spare : new.spare ≡ old.spare
-      pub room : new.room ≡ old.room
-      pub link_writes : StoresAtMost 6 old.link_writes new.link_writes
-      pub hasher : new.hasher ≡ old.hasher
+      pub puts : Changes old new (put eq old.entries k v b) 6
 
-    -- an insert that was refused, which only the rule allows: the pair is handed back, and no entry and no spare node changed
+    -- an insert that was refused, which only the rule allows: the pair is handed back, and no entry and no spare node
+    -- changed
     pub record RefusesEntry (old new : MapState K V S) (k : K) (v : V) (pair : K × V) : Type 0 where
       pub may_refuse : MayRefuse old k
       pub handed_back : pair ≡ (k, v)
-      pub entries : new.entries ≡ old.entries
-      pub spare : new.spare ≡ old.spare
-      pub room : old.room ≤ new.room
-      pub link_writes : new.link_writes ≡ old.link_writes
-      pub hasher : new.hasher ≡ old.hasher
+      pub grows : Grows old new
 
-    -- an insert at the place b, by its answer
+    -- an insert at the place b
     abbrev pub Inserts : MapState K V S → MapState K V S → K → V → ℕ → Result (Option V) (K × V) → Type 0
-    Inserts old new k v b r = MatchResult r (λ w. MatchOption w (AddsEntry old new k v b) (PutsEntry old new k v b)) (RefusesEntry old new k v)
+    Inserts old new k v b r =
+        MatchResult r (λ w. MatchOption w (AddsEntry old new k v b) (PutsEntry old new k v b))
+        (RefusesEntry old new k v)

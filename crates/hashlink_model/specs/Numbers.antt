@@ -1,18 +1,18 @@
 -- The definitions at keys, values and elements that are numbers, for rows that they compute to.
-use Rattle.std.specs.Prelude.{ℕ, Bool, true, not, List, length, Option, nat_eq}
+use Rattle.std.specs.Prelude.{ℕ, Bool, true, not, List, [], length, fold, Option, nat_eq}
 use Rattle.std.specs.Map as map
 use Rattle.std.specs.Ordering.{nat_cmp}
 use Rattle.std.specs.Set.{is_member}
 use Rattle.std.specs.declared.cmp.Ordering.{Ordering}
 use Rattle.hashlink_model.specs.Algebra as algebra
 use Rattle.hashlink_model.specs.Cache as cache
+use Rattle.hashlink_model.specs.CacheRuns as runs
 use Rattle.hashlink_model.specs.Compare as compare
 use Rattle.hashlink_model.specs.Cursor as cursor
 use Rattle.hashlink_model.specs.Entries as entries
 use Rattle.hashlink_model.specs.Entry as entry
 use Rattle.hashlink_model.specs.History as history
 use Rattle.hashlink_model.specs.Sets as sets
-use Rattle.hashlink_model.specs.Walk as walk
 use Rattle.hashlink_model.specs.Weights as weights
 
 -- entries whose keys and values are numbers
@@ -52,36 +52,29 @@ extend = entries.extended nat_eq
 
 -- cursors
 abbrev pub insert_before : Pairs → ℕ → ℕ → ℕ → Pairs
-insert_before = cursor.put_before nat_eq
+insert_before = put
 
 abbrev pub insert_after : Pairs → ℕ → ℕ → ℕ → Pairs
-insert_after = cursor.put_after nat_eq
+insert_after es k v i = put es k v (cursor.following_place (length es) i)
 
-abbrev pub entry_at : Pairs → ℕ → Option (ℕ × ℕ)
-entry_at = cursor.entry_at
+abbrev pub place_kept : Pairs → Pairs → ℕ → ℕ
+place_kept = cursor.place_kept nat_eq
 
-abbrev pub place_after : Pairs → Pairs → ℕ → ℕ
-place_after = cursor.place_after nat_eq
+-- entries, by their places
+abbrev pub insert_value : Pairs → ℕ → ℕ → Pairs
+insert_value = entry.insert_value
 
--- entries
-abbrev pub insert_value : Pairs → ℕ × ℕ → ℕ → Pairs
-insert_value = entry.insert_value nat_eq
-
-abbrev pub insert_entry : Pairs → ℕ × ℕ → ℕ → ℕ → Pairs
-insert_entry = entry.insert_entry nat_eq
-
-abbrev pub or_insert : Pairs → ℕ → ℕ → Pairs
-or_insert = entry.or_insert nat_eq
+abbrev pub insert_entry : Pairs → ℕ → ℕ → ℕ → Pairs
+insert_entry = entry.insert_entry
 
 abbrev pub replace_entry : Pairs → ℕ → ℕ → ℕ → Pairs
 replace_entry = entry.replace_entry
 
-abbrev pub replace_value : Pairs → ℕ → ℕ × ℕ → ℕ → Pairs
-replace_value = entry.replace_value
+abbrev pub set_value_at : Pairs → ℕ → ℕ → Pairs
+set_value_at = entries.set_value_at
 
--- walks
-abbrev pub write : Pairs → ℕ → ℕ → Pairs
-write = walk.with_value_at
+abbrev pub or_insert : Pairs → ℕ → ℕ → Pairs
+or_insert = entry.or_insert nat_eq
 
 -- sets
 abbrev pub union : List ℕ → List ℕ → List ℕ
@@ -133,9 +126,20 @@ cache_uses = cache.cache_uses nat_eq
 abbrev pub last_entries : Pairs → ℕ → Pairs
 last_entries = cache.last_entries
 
--- the cache's entry for a key that is looked up after the trim, and its `or_insert`
+-- the cache's entry for a key that is looked up after an eviction, and its `or_insert`
 abbrev pub cache_or_insert : Pairs → ℕ → ℕ → ℕ → Pairs
-cache_or_insert es cap k v = or_insert (cache.trimmed es cap) k v
+cache_or_insert es cap k v = or_insert (cache.front_evicted es cap) k v
+
+-- the same of each pair in turn
+abbrev pub cache_or_inserts : Pairs → ℕ → Pairs → Pairs
+cache_or_inserts es cap pairs = fold (λ zs p. cache_or_insert zs cap p.0 p.1) es pairs
+
+-- calls of a cache that starts empty
+abbrev pub answers : ℕ → List (runs.CacheEvent ℕ ℕ) → List (Option ℕ)
+answers cap events = runs.answers nat_eq cap [] events
+
+abbrev pub after_events : ℕ → List (runs.CacheEvent ℕ ℕ) → Pairs
+after_events cap events = runs.after_events nat_eq cap [] events
 
 -- histories
 abbrev pub reuse_distance : List ℕ → ℕ → ℕ

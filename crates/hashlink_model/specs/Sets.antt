@@ -1,18 +1,19 @@
--- Sets: a set is the map with nothing as value, so its steps are the map's steps between `as_map` of the two states.
-use Rattle.std.specs.Prelude.{ℕ, Bool, cond, List, [], ◌∷◌, ◌++◌, map, refl}
-use Rattle.std.specs.Coded.{Coded, code_by, coded×, coded_list, coded_ℕ}
+-- Sets: a set is the map with nothing as value, so its state is a map's, and its steps are the map's steps.
+use Rattle.std.specs.Prelude.{◌≡◌, ℕ, Bool, cond, List, [], ◌∷◌, ◌++◌, length, map, unwrap_or}
+use Rattle.std.specs.Prelude.{Option, None, Some, Result, Ok, Err, MatchOption, MatchResult}
+use Rattle.std.specs.List.{find}
 use Rattle.std.specs.Map.{keys_of}
 use Rattle.std.specs.Set.{is_member, swap_key}
-use Rattle.hashlink_model.specs.Entries.{put}
-use Rattle.hashlink_model.specs.MapState.{MapState, map_state}
+use Rattle.hashlink_model.specs.Entries.{place_of, put}
+use Rattle.hashlink_model.specs.Entry.{ReplacesKey}
+use Rattle.hashlink_model.specs.MapState.{MapState, AddsEntry, RefusesEntry, Inserts}
 
--- the elements, and the numbers and the hasher that a map has
-pub record SetState (T S : Type 0) : Type 0 where
-  pub elements : List T
-  pub spare : ℕ
-  pub room : ℕ
-  pub link_writes : ℕ
-  pub hasher : S
+-- a set as a contract sees it, and its elements, front first
+abbrev pub SetState : Type 0 → Type 0 → Type 0
+SetState T S = MapState T (Unit {0}) S
+
+abbrev pub elements_of : {T S : Type 0} → SetState T S → List T
+elements_of m = keys_of m.entries
 
 module _ {T : Type 0} where
   -- the elements as entries
@@ -20,26 +21,49 @@ module _ {T : Type 0} where
   pairs_of ts = map (λ t. (t, tt)) ts
 
   module _ (eq : T → T → Bool) where
-    -- the elements after one is put at the place b: an equal one that is there moves to b and stays the object that it is
+    -- the elements after one is put at the place b: an equal one that is there moves to b and stays the object that
+    -- it is
     abbrev pub put_element : List T → T → ℕ → List T
     put_element ts t b = keys_of (put eq (pairs_of ts) t tt b)
 
-    -- the elements after `replace`: an equal one that is there leaves, and the one given takes its place; an absent one goes last
+    -- the elements after `replace`: an equal one that is there leaves, and the one given takes its place; an absent
+    -- one goes last
     abbrev pub replaced : List T → T → List T
     replaced ts t = cond (is_member eq ts t) (swap_key (eq t) ts t) (ts ++ t ∷ [])
 
-module _ {T S : Type 0} where
-  abbrev pub set_state : List T → ℕ → ℕ → ℕ → S → SetState T S
-  set_state ts n r w s = record { elements = ts; spare = n; room = r; link_writes = w; hasher = s }
+    -- the element object that the set has for t: its own where an equal one is there, else t
+    abbrev pub stored_element : List T → T → T
+    stored_element ts t = unwrap_or (find (eq t) ts) t
 
-  -- a state is stored as the tuple of its fields
-  abbrev pub set_state_code : Coded T → Coded S → Coded (SetState T S)
-  set_state_code t s = code_by (List T × (ℕ × (ℕ × (ℕ × S)))) (coded× (coded_list t) (coded× coded_ℕ (coded× coded_ℕ (coded× coded_ℕ s))))
-      (λ m. (m.elements, (m.spare, (m.room, (m.link_writes, m.hasher))))) (λ p. set_state p.0 p.1.0 p.1.1.0 p.1.1.1.0 p.1.1.1.1) (λ _. refl)
+module _ {T S : Type 0} (eq : T → T → Bool) where
+  -- `insert`, by its answer, which says whether the element was new: it goes last, and one that was there stays the
+  -- object that it is
+  abbrev pub SetInserts : SetState T S → SetState T S → T → Result Bool T → Type 0
+  SetInserts old new t r =
+      MatchResult r
+      (λ b. Inserts eq old new t tt (length old.entries) (Ok (cond b None (Some tt))))
+      (λ x. Inserts eq old new t tt (length old.entries) (Err (x, tt)))
 
-  -- the set as a map, and the set that a map with nothing as value is
-  abbrev pub as_map : SetState T S → MapState T (Unit {0}) S
-  as_map m = map_state (pairs_of m.elements) m.spare m.room m.link_writes m.hasher
+  -- `get_or_insert`: the same, and the object that now stands last is lent
+  abbrev pub GetsOrInserts : SetState T S → SetState T S → T → Result T T → Type 0
+  GetsOrInserts old new t r =
+      MatchResult r
+      (λ x. (b : Bool) × SetInserts old new t (Ok b) × (x ≡ stored_element eq (elements_of old) t))
+      (λ x. SetInserts old new t (Err x))
 
-  abbrev pub set_of : MapState T (Unit {0}) S → SetState T S
-  set_of m = set_state (keys_of m.entries) m.spare m.room m.link_writes m.hasher
+  -- the element that was equal to t was x, and t stands in its place
+  pub record SwapsElement (old new : SetState T S) (t x : T) : Type 0 where
+    pub place : ℕ
+    pub there : place_of (eq t) old.entries ≡ Some place
+    pub swaps : ReplacesKey old new place t x
+
+  -- `replace`, by its answer: the element that it took out, if one was there
+  abbrev pub SetReplaces : SetState T S → SetState T S → T → Result (Option T) T → Type 0
+  SetReplaces old new t r =
+      MatchResult r
+      (λ o. MatchOption o (AddsEntry eq old new t tt (length old.entries)) (λ x. SwapsElement old new t x))
+      (λ x. RefusesEntry eq old new t tt (x, tt))
+
+-- the calls of a closure that sees an element alone, as calls at an entry: a retain of a set is the map's with these
+abbrev pub at_element : {F T : Type 0} → (F → T → Bool → F → Type 0) → F → T → Unit {0} → Bool → Unit {0} → F → Type 0
+at_element U f t v b w g = U f t b g

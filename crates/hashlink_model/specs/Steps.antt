@@ -1,42 +1,22 @@
--- More steps between two states of a map: changes within the list, removals of several entries, and the calls that speak of memory alone.
-use Rattle.std.specs.Prelude.{◌≡◌, ℕ, ◌+◌, ◌-◌, ◌*◌, ◌≤◌, Bool, List, [], length, Option, MatchOption, Result, IsOk, OnOk}
-use Rattle.std.specs.Map.{set_value}
-use Rattle.hashlink_model.specs.Entries.{moved}
-use Rattle.hashlink_model.specs.MapState.{MapState, StoresAtMost, Removes}
+-- The steps of a map's calls, by their answers, and what they are made of: changes within the list, and entries that
+-- are taken away.
+use Rattle.std.specs.Prelude.{◌≡◌, ℕ, ◌+◌, ◌-◌, ◌*◌, ◌≤◌, Bool, List, [], length}
+use Rattle.std.specs.Prelude.{Option, Some, MatchOption, Result, MatchResult, IsOk, OnOk, OnErr}
+use Rattle.std.specs.Map.{lookup, lookup_entry, set_value}
+use Rattle.hashlink_model.specs.Entries.{without, moved}
+use Rattle.hashlink_model.specs.MapState.{MapState, empty_map, StoresAtMost, Changes, Removes, Grows}
+use Rattle.hashlink_model.specs.MapState.{AddsEntry, RefusesEntry}
 use Rattle.hashlink_model.specs.Walk.{first_of, after_first_of, last_of, before_last_of}
 
 module _ {K V S : Type 0} where
-  -- the entries are now `es`, as many nodes are spare as before, and `most` links were stored at most: a move, or a key or a value that was written
-  pub record Changes (old new : MapState K V S) (es : List (K × V)) (most : ℕ) : Type 0 where
-    pub entries : new.entries ≡ es
-    pub spare : new.spare ≡ old.spare
-    pub room : new.room ≡ old.room
-    pub link_writes : StoresAtMost most old.link_writes new.link_writes
-    pub hasher : new.hasher ≡ old.hasher
-
-  -- only the entries `es` are left, and each node that left is spare
+  -- only the entries `es` are left, no more than there were, and each node that left is spare
   pub record KeepsOnly (old new : MapState K V S) (es : List (K × V)) : Type 0 where
     pub entries : new.entries ≡ es
+    pub no_more : length es ≤ length old.entries
     pub spare : new.spare + length es ≡ old.spare + length old.entries
     pub room : new.room ≡ old.room
     pub link_writes : StoresAtMost (3 * (length old.entries - length es)) old.link_writes new.link_writes
     pub hasher : new.hasher ≡ old.hasher
-
-  -- a pop from the front and one from the back, by the answer
-  abbrev pub PopsFront : MapState K V S → MapState K V S → Option (K × V) → Type 0
-  PopsFront old new r = (r ≡ first_of old.entries) × MatchOption r (new ≡ old) (λ _. Removes old new (after_first_of old.entries))
-
-  abbrev pub PopsBack : MapState K V S → MapState K V S → Option (K × V) → Type 0
-  PopsBack old new r = (r ≡ last_of old.entries) × MatchOption r (new ≡ old) (λ _. Removes old new (before_last_of old.entries))
-
-  module _ (eq : K → K → Bool) where
-    -- a key that is there keeps its place and takes the value v
-    abbrev pub Writes : MapState K V S → MapState K V S → K → V → Type 0
-    Writes old new k v = Changes old new (set_value (eq k) old.entries v) 0
-
-    -- a key that is there moves to the place b with the value that stands; of an absent key nothing changes
-    abbrev pub Moves : MapState K V S → MapState K V S → K → ℕ → Type 0
-    Moves old new k b = Changes old new (moved eq old.entries k b) 6
 
   -- the end of a drain, early or not
   abbrev pub Drains : MapState K V S → MapState K V S → Type 0
@@ -46,29 +26,78 @@ module _ {K V S : Type 0} where
   abbrev pub Clears : MapState K V S → MapState K V S → Type 0
   Clears old new = Changes old new [] (3 * length old.entries)
 
-  -- a reserve for n more entries: the room alone changes, and after an Ok it is enough
-  pub record Reserves {E : Type 0} (old new : MapState K V S) (n : ℕ) (r : Result (Unit {0}) E) : Type 0 where
-    pub entries : new.entries ≡ old.entries
-    pub spare : new.spare ≡ old.spare
-    pub room : old.room ≤ new.room
-    pub enough : OnOk r (length new.entries + n ≤ new.room)
-    pub link_writes : new.link_writes ≡ old.link_writes
-    pub hasher : new.hasher ≡ old.hasher
+  -- a pop from the front, and one from the back: the entry that leaves is the answer, and of an empty map nothing
+  -- changes
+  pub record PopsFront (old new : MapState K V S) (r : Option (K × V)) : Type 0 where
+    pub answer : r ≡ first_of old.entries
+    pub step : MatchOption r (new ≡ old) (λ _. Removes old new (after_first_of old.entries))
 
-  -- a shrink gives the spare nodes back, refused or not; of an empty map it is not refused and leaves no room
+  pub record PopsBack (old new : MapState K V S) (r : Option (K × V)) : Type 0 where
+    pub answer : r ≡ last_of old.entries
+    pub step : MatchOption r (new ≡ old) (λ _. Removes old new (before_last_of old.entries))
+
+  -- a reserve for n more entries: the room alone grows, and after an Ok it is enough. Where it was enough before, the
+  -- reserve
+  -- is not refused and changes nothing, and nor does one that is refused
+  pub record Reserves {E : Type 0} (old new : MapState K V S) (n : ℕ) (r : Result (Unit {0}) E) : Type 0 where
+    pub grows : Grows old new
+    pub enough : OnOk r (length new.entries + n ≤ new.room)
+    pub refused : OnErr r (new ≡ old)
+    pub was_enough : length old.entries + n ≤ old.room → IsOk r × (new ≡ old)
+
+  -- a shrink gives the spare nodes back, refused or not, and the room does not grow: after an Ok it is the length. A
+  -- refused one keeps the room; of an empty map it is not refused and leaves no room
   pub record Shrinks {E : Type 0} (old new : MapState K V S) (r : Result (Unit {0}) E) : Type 0 where
     pub entries : new.entries ≡ old.entries
     pub spare : new.spare ≡ 0
     pub fits : length new.entries ≤ new.room
-    pub empty_shrinks : old.entries ≡ [] → IsOk r
-    pub empty_room : old.entries ≡ [] → new.room ≡ 0
+    pub room : new.room ≤ old.room
+    pub fitted : OnOk r (new.room ≡ length new.entries)
+    pub refused : OnErr r (new.room ≡ old.room)
+    pub empty : old.entries ≡ [] → IsOk r × (new.room ≡ 0)
     pub link_writes : new.link_writes ≡ old.link_writes
     pub hasher : new.hasher ≡ old.hasher
 
-  -- how many nodes a map keeps: those of its entries and the spare ones
-  abbrev pub nodes_of : MapState K V S → ℕ
-  nodes_of m = length m.entries + m.spare
+  -- a map that is made with room for n entries and with the hasher s: without entries, and for none without memory
+  pub record IsMadeWith (n : ℕ) (s : S) (m : MapState K V S) : Type 0 where
+    pub entries : m.entries ≡ []
+    pub spare : m.spare ≡ 0
+    pub room : n ≤ m.room
+    pub link_writes : m.link_writes ≡ 0
+    pub hasher : m.hasher ≡ s
+    pub nothing : n ≡ 0 → m ≡ empty_map s
 
-  -- there is room for each node
-  abbrev pub HasRoom : MapState K V S → Type 0
-  HasRoom m = nodes_of m ≤ m.room
+  module _ (eq : K → K → Bool) where
+    -- the state with v as the value of the key, as a write through what was lent leaves it; of an absent key the same
+    -- state
+    abbrev pub with_value_of : MapState K V S → K → V → MapState K V S
+    with_value_of m k v = record m { entries = set_value (eq k) m.entries v }
+
+    -- the key that was there keeps its place and took the value v, and its old value was w. No link was stored
+    pub record WritesEntry (old new : MapState K V S) (k : K) (v w : V) : Type 0 where
+      pub old_value : lookup (eq k) old.entries ≡ Some w
+      pub writes : Changes old new (set_value (eq k) old.entries v) 0
+
+    -- a replace: a key that is there keeps its place and takes the value, an absent one goes last
+    abbrev pub Replaces : MapState K V S → MapState K V S → K → V → Result (Option V) (K × V) → Type 0
+    Replaces old new k v r =
+        MatchResult r
+        (λ w. MatchOption w (AddsEntry eq old new k v (length old.entries)) (WritesEntry old new k v))
+        (RefusesEntry eq old new k v)
+
+    -- a key that is there moves to the place b with the value that stands, which is the answer; of an absent key
+    -- nothing changes
+    pub record Moves (old new : MapState K V S) (k : K) (b : ℕ) (r : Option V) : Type 0 where
+      pub answer : r ≡ lookup (eq k) old.entries
+      pub step : MatchOption r (new ≡ old) (λ _. Changes old new (moved eq old.entries k b) 6)
+
+    -- what a call leaves that moves a key to the place b and lends its value, once w was written there
+    pub record MovesAndWrites (old new : MapState K V S) (k : K) (b : ℕ) (w : V) : Type 0 where
+      pub between : MapState K V S
+      pub moves : Changes old between (moved eq old.entries k b) 6
+      pub writes : new ≡ with_value_of between k w
+
+    -- the key's entry leaves and is the answer; of an absent key nothing changes
+    pub record RemovesKey (old new : MapState K V S) (k : K) (r : Option (K × V)) : Type 0 where
+      pub answer : r ≡ lookup_entry (eq k) old.entries
+      pub step : MatchOption r (new ≡ old) (λ _. Removes old new (without eq old.entries k))

@@ -1,5 +1,5 @@
 -- Walks. A walk is the part of a list that it has not given yet.
-use Rattle.std.specs.Prelude.{ℕ, ◌-◌, zero, suc, List, [], ◌∷◌, length, take, drop, slice_get, Option, ◌++◌, option_to_list}
+use Rattle.std.specs.Prelude.{◌-◌, List, [], ◌∷◌, length, take, drop, slice_get, Option, ◌++◌, option_to_list}
 use Rattle.std.specs.List.{cons_option}
 
 -- the ends that a walk gives from
@@ -49,10 +49,3 @@ module _ {X : Type 0} where
   given_back [] xs = []
   given_back (Front ∷ ss) xs = given_back ss (after_first_of xs)
   given_back (Back ∷ ss) xs = given_back ss (before_last_of xs) ++ option_to_list (last_of xs)
-
-module _ {K V : Type 0} where
-  -- the entries with w as the value at the place j, as a writing walk leaves them
-  abbrev pub with_value_at : List (K × V) → ℕ → V → List (K × V)
-  with_value_at [] j w = []
-  with_value_at (e ∷ es) zero w = (e.0, w) ∷ es
-  with_value_at (e ∷ es) (suc j) w = e ∷ with_value_at es j w

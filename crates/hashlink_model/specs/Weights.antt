@@ -1,6 +1,9 @@
 -- Entries whose values carry a weight, and the longest end of them that a budget allows.
-use Rattle.std.specs.Prelude.{ℕ, Bool, List, [], ◌∷◌, length, sum_by, if◌then◌else◌, nat_le}
+use Rattle.std.specs.Prelude.{◌≡◌, ◌≤◌, ◌<◌, Option, ℕ, Bool, List, [], ◌∷◌, length, sum_by, if◌then◌else◌, nat_le}
+use Rattle.hashlink_model.specs.Cache.{InsertsLast}
 use Rattle.hashlink_model.specs.Entries.{put}
+use Rattle.hashlink_model.specs.MapState.{MapState, RefusesEntry}
+use Rattle.hashlink_model.specs.Steps.{KeepsOnly}
 
 module _ {K V : Type 0} where
   -- the sum of the weights
@@ -15,3 +18,31 @@ module _ {K V : Type 0} where
   -- the entries after an insert that is not too heavy
   abbrev pub weighted_put : (K → K → Bool) → List (K × (V × ℕ)) → ℕ → K → V → ℕ → List (K × (V × ℕ))
   weighted_put eq es budget k v weight = fitting (put eq es k (v, weight) (length es)) budget
+
+-- a map whose values carry weights, and the budget
+pub record WeightedState (K V S : Type 0) : Type 0 where
+  pub map : MapState K (V × ℕ) S
+  pub budget : ℕ
+
+-- an insert of a pair that is too heavy changes nothing
+pub record IsTooHeavy {K V S : Type 0} (old new : WeightedState K V S) (weight : ℕ) : Type 0 where
+  pub too_heavy : old.budget < weight
+  pub unchanged : new ≡ old
+
+module _ {K V S : Type 0} (eq : K → K → Bool) where
+  -- an insert that was accepted: the map's insert of the pair with its weight, and then the fitting end is kept; w is
+  -- the old value
+  -- with its weight
+  pub record WeightedInserts (old new : WeightedState K V S) (k : K) (v : V) (weight : ℕ) (w : Option (V × ℕ)) : Type
+      0 where
+    pub not_too_heavy : weight ≤ old.budget
+    pub between : MapState K (V × ℕ) S
+    pub inserts : InsertsLast eq k (v, weight) w old.map between
+    pub keeps : KeepsOnly between new.map (fitting between.entries old.budget)
+    pub budget : new.budget ≡ old.budget
+
+  -- one that memory was refused for
+  pub record WeightedRefuses (old new : WeightedState K V S) (k : K) (v : V) (weight : ℕ) : Type 0 where
+    pub not_too_heavy : weight ≤ old.budget
+    pub refuses : RefusesEntry eq old.map new.map k (v, weight) (k, (v, weight))
+    pub budget : new.budget ≡ old.budget

@@ -1,10 +1,18 @@
 //! Rows and laws of caches.
-ghost use Rattle.std.specs.Prelude.{◌≡◌, ℕ, ◌+◌, ◌-◌, ◌≤◌, ◌<◌, min, max, Bool, true, false, nat_eq, List, [], ◌∷◌, ◌++◌, Option, None, Some, Result, Ok, Err, length, drop, take, unwrap_or};
+ghost use Rattle.std.specs.Prelude.{◌≡◌, ℕ, ◌+◌, ◌-◌, ◌*◌, ◌≤◌, ◌<◌, min, max, Bool, true, false, nat_eq, List, []};
+ghost use Rattle.std.specs.Prelude.{◌∷◌, ◌++◌, Option, None, Some, Result, Ok, Err, length, drop, take, unwrap_or};
 ghost use Rattle.std.specs.Cmp.{IsEquivalence};
 ghost use Rattle.hashlink_model.specs.Entries.{IsEntries, put, without, stored_key};
-ghost use Rattle.hashlink_model.specs.Cache.{CacheState, CacheInserts, CacheGets, SetsCapacity, trimmed, last_entries, cache_put, cache_get, cache_use, cache_extended};
+ghost use Rattle.hashlink_model.specs.Cache.{CacheState, OnMap, IsWithin, HasNodeToSpare, InsertsLast, CacheInserts};
+ghost use Rattle.hashlink_model.specs.Cache.{CacheGets, CacheGetsAndWrites, SetsCapacity, EntersCache, CacheUses};
+ghost use Rattle.hashlink_model.specs.Cache.{front_evicted};
+ghost use Rattle.hashlink_model.specs.Cache.{last_entries, cache_put, cache_get, cache_use, cache_extended};
 ghost use Rattle.std.specs.Map.{lookup, lookup_entry};
-ghost use Rattle.hashlink_model.specs.Steps.{nodes_of};
+ghost use Rattle.hashlink_model.specs.MapState.{MapState, StoresAtMost, Changes, node_count};
+ghost use Rattle.hashlink_model.specs.Steps.{KeepsOnly, Clears, RemovesKey, PopsFront, PopsBack};
+ghost use Rattle.hashlink_model.specs.Entry.{EntryState, VacantInserts};
+ghost use Rattle.hashlink_model.specs.History.{Length};
+ghost use Rattle.hashlink_model.specs.Peak.{PassesInTurn};
 ghost use Rattle.hashlink_model.specs.Labels as labels;
 ghost use Rattle.hashlink_model.specs.Numbers as numbers;
 
@@ -13,16 +21,18 @@ pub fn a_cache_without_places()
     ensures or_insert { numbers.cache_or_insert [] 0 1 10 ≡ (1, 10) ∷ [] }
     ensures insert { numbers.cache_insert ((1, 10) ∷ []) 0 1 11 ≡ [] }
     ensures again { numbers.cache_or_insert [] 0 1 12 ≡ (1, 12) ∷ [] }
-    ensures entry { trimmed {K = ℕ} {V = ℕ} ((1, 12) ∷ []) 0 ≡ [] }
+    ensures entry { front_evicted {K = ℕ} {V = ℕ} ((1, 12) ∷ []) 0 ≡ [] }
 {}
 
-/// An entry can pass the capacity by one, an insert then drops one pair at the front, and the next entry drops one more.
+/// An entry can pass the capacity by one, an insert then drops one pair at the front, and the next entry drops one
+/// more.
 pub fn an_entry_passes_the_capacity_by_one()
     ensures insert { numbers.cache_insert [] 1 1 10 ≡ (1, 10) ∷ [] }
     ensures or_insert { numbers.cache_or_insert ((1, 10) ∷ []) 1 2 20 ≡ (1, 10) ∷ (2, 20) ∷ [] }
     ensures drops_one { numbers.cache_insert ((1, 10) ∷ (2, 20) ∷ []) 1 3 30 ≡ (2, 20) ∷ (3, 30) ∷ [] }
-    ensures entry { trimmed {K = ℕ} {V = ℕ} ((2, 20) ∷ (3, 30) ∷ []) 1 ≡ (3, 30) ∷ [] }
-    ensures two_too_many { numbers.cache_insert ((1, 10) ∷ (3, 30) ∷ (2, 20) ∷ []) 1 4 40 ≡ (3, 30) ∷ (2, 20) ∷ (4, 40) ∷ [] }
+    ensures entry { front_evicted {K = ℕ} {V = ℕ} ((2, 20) ∷ (3, 30) ∷ []) 1 ≡ (3, 30) ∷ [] }
+    ensures two_too_many { numbers.cache_insert ((1, 10) ∷ (3, 30) ∷ (2, 20) ∷ []) 1 4 40
+        ≡ (3, 30) ∷ (2, 20) ∷ (4, 40) ∷ [] }
 {}
 
 /// A hit moves its entry last, and the oldest is dropped; a smaller capacity keeps the last pairs.
@@ -37,30 +47,51 @@ pub fn a_hit_is_kept()
 pub fn uses_keep_an_end_and_reads_do_not()
     ensures small { numbers.cache_insert (numbers.cache_insert [] 1 1 10) 1 2 20 ≡ (2, 20) ∷ [] }
     ensures large { numbers.cache_insert (numbers.cache_insert [] 2 1 10) 2 2 20 ≡ (1, 10) ∷ (2, 20) ∷ [] }
-    ensures small_use { numbers.cache_insert ((2, 20) ∷ []) 1 1 30 ≡ (1, 30) ∷ [] }
-    ensures large_use { numbers.cache_get ((1, 10) ∷ (2, 20) ∷ []) 1 ≡ (2, 20) ∷ (1, 10) ∷ [] }
+    ensures small_use { numbers.cache_use ((2, 20) ∷ []) 1 1 30 ≡ (1, 30) ∷ [] }
+    ensures large_use { numbers.cache_use ((1, 10) ∷ (2, 20) ∷ []) 2 1 30 ≡ (2, 20) ∷ (1, 10) ∷ [] }
     ensures small_read { numbers.cache_get ((2, 20) ∷ []) 1 ≡ (2, 20) ∷ [] }
 {}
 
 /// Inserts up to 6 in a cache of four, six more through entries, and what is left of them.
 pub fn entries_leave_one_more_than_the_capacity()
-    ensures inserts { numbers.cache_insert (numbers.cache_insert ((1, 10) ∷ (2, 20) ∷ (3, 30) ∷ (4, 40) ∷ []) 4 5 50) 4 6 60 ≡ (3, 30) ∷ (4, 40) ∷ (5, 50) ∷ (6, 60) ∷ [] }
-    ensures three { numbers.cache_or_insert (numbers.cache_or_insert (numbers.cache_or_insert ((3, 30) ∷ (4, 40) ∷ (5, 50) ∷ (6, 60) ∷ []) 4 7 70) 4 8 80) 4 9 90 ≡ (5, 50) ∷ (6, 60) ∷ (7, 70) ∷ (8, 80) ∷ (9, 90) ∷ [] }
-    ensures six { numbers.cache_or_insert (numbers.cache_or_insert (numbers.cache_or_insert ((5, 50) ∷ (6, 60) ∷ (7, 70) ∷ (8, 80) ∷ (9, 90) ∷ []) 4 10 100) 4 11 110) 4 12 120 ≡ (8, 80) ∷ (9, 90) ∷ (10, 100) ∷ (11, 110) ∷ (12, 120) ∷ [] }
+    ensures inserts { cache_extended {V = ℕ} nat_eq ((1, 10) ∷ (2, 20) ∷ (3, 30) ∷ (4, 40) ∷ []) 4
+        ((5, 50) ∷ (6, 60) ∷ [])
+        ≡ (3, 30) ∷ (4, 40) ∷ (5, 50) ∷ (6, 60) ∷ [] }
+    ensures three { numbers.cache_or_inserts ((3, 30) ∷ (4, 40) ∷ (5, 50) ∷ (6, 60) ∷ []) 4
+        ((7, 70) ∷ (8, 80) ∷ (9, 90) ∷ [])
+        ≡ (5, 50) ∷ (6, 60) ∷ (7, 70) ∷ (8, 80) ∷ (9, 90) ∷ [] }
+    ensures six { numbers.cache_or_inserts ((5, 50) ∷ (6, 60) ∷ (7, 70) ∷ (8, 80) ∷ (9, 90) ∷ []) 4
+        ((10, 100) ∷ (11, 110) ∷ (12, 120) ∷ [])
+        ≡ (8, 80) ∷ (9, 90) ∷ (10, 100) ∷ (11, 110) ∷ (12, 120) ∷ [] }
 {}
 
-/// Four pairs extend a cache of two: each is inserted in turn, so one that is there moves last and the oldest are dropped.
+/// Four pairs extend a cache of two: each is inserted in turn, so one that is there moves last and the oldest are
+/// dropped.
 pub fn an_extend_inserts_in_turn()
-    ensures two { cache_extended {V = ℕ} nat_eq ((1, 10) ∷ (2, 20) ∷ []) 2 ((3, 30) ∷ (2, 21) ∷ (4, 40) ∷ (2, 22) ∷ []) ≡ (4, 40) ∷ (2, 22) ∷ [] }
+    ensures two { cache_extended {V = ℕ} nat_eq ((1, 10) ∷ (2, 20) ∷ []) 2
+        ((3, 30) ∷ (2, 21) ∷ (4, 40) ∷ (2, 22) ∷ [])
+        ≡ (4, 40) ∷ (2, 22) ∷ [] }
     ensures none { cache_extended {V = ℕ} nat_eq ((1, 10) ∷ []) 0 ((1, 11) ∷ []) ≡ [] }
 {}
 
-/// A hit of `get` answers the value and moves its entry last, a miss changes no entry; a capacity that is set keeps the last entries and drops the others.
+/// A hit of `get` answers the value and moves its entry last, a miss changes no entry; a capacity that is set keeps
+/// the last entries and drops the others.
 pub fn what_a_get_and_a_capacity_leave<S>()
-    ensures hit { (old new : CacheState ℕ ℕ S) (r : Option ℕ) → old.map.entries ≡ (1, 10) ∷ (2, 20) ∷ [] → CacheGets nat_eq old new 1 r → (r ≡ Some 10) × (new.map.entries ≡ (2, 20) ∷ (1, 10) ∷ []) }
-    ensures miss { (old new : CacheState ℕ ℕ S) (r : Option ℕ) → old.map.entries ≡ (1, 10) ∷ (2, 20) ∷ [] → CacheGets nat_eq old new 3 r → (r ≡ None) × (new.map.entries ≡ old.map.entries) }
-    ensures capacity { (old new : CacheState ℕ ℕ S) → old.map.entries ≡ (1, 10) ∷ (2, 20) ∷ (3, 30) ∷ [] → SetsCapacity old new 1 → (new.map.entries ≡ (3, 30) ∷ []) × (new.cap ≡ 1) }
-    ensures spare { (old new : CacheState ℕ ℕ S) → old.map.entries ≡ (1, 10) ∷ (2, 20) ∷ (3, 30) ∷ [] → SetsCapacity old new 1 → new.map.spare ≡ old.map.spare + 2 }
+    ensures hit { (old new : CacheState ℕ ℕ S) (r : Option ℕ) → old.map.entries ≡ (1, 10) ∷ (2, 20) ∷ []
+        → CacheGets nat_eq old new 1 r
+        → (r ≡ Some 10) × (new.map.entries ≡ (2, 20) ∷ (1, 10) ∷ []) }
+    ensures miss { (old new : CacheState ℕ ℕ S) (r : Option ℕ) → old.map.entries ≡ (1, 10) ∷ (2, 20) ∷ []
+        → CacheGets nat_eq old new 3 r
+        → (r ≡ None) × (new.map ≡ old.map) }
+    ensures lent { (old new : CacheState ℕ ℕ S) → old.map.entries ≡ (1, 10) ∷ (2, 20) ∷ []
+        → CacheGetsAndWrites nat_eq old new 1 11
+        → new.map.entries ≡ (2, 20) ∷ (1, 11) ∷ [] }
+    ensures capacity { (old new : CacheState ℕ ℕ S) → old.map.entries ≡ (1, 10) ∷ (2, 20) ∷ (3, 30) ∷ []
+        → SetsCapacity old new 1
+        → (new.map.entries ≡ (3, 30) ∷ []) × (new.cap ≡ 1) }
+    ensures spare { (old new : CacheState ℕ ℕ S) → old.map.entries ≡ (1, 10) ∷ (2, 20) ∷ (3, 30) ∷ []
+        → SetsCapacity old new 1
+        → new.map.spare ≡ old.map.spare + 2 }
 {}
 
 /// The least recently used pair is the first one: reads that move nothing leave it, a hit of `get` does not.
@@ -73,14 +104,20 @@ pub fn the_first_is_the_least_recently_used()
 pub fn uses_in_a_row()
     ensures two { numbers.cache_uses 2 ((1, 10) ∷ (2, 20) ∷ (1, 30) ∷ (3, 40) ∷ []) ≡ (1, 10) ∷ (3, 40) ∷ [] }
     ensures none { numbers.cache_uses 0 ((1, 10) ∷ (1, 10) ∷ []) ≡ [] }
-    ensures three { numbers.cache_uses 3 ((1, 10) ∷ (2, 20) ∷ (3, 30) ∷ (4, 40) ∷ (1, 11) ∷ (2, 21) ∷ (5, 50) ∷ []) ≡ (1, 11) ∷ (2, 21) ∷ (5, 50) ∷ [] }
-    ensures four { numbers.cache_uses 4 ((1, 10) ∷ (2, 20) ∷ (3, 30) ∷ (4, 40) ∷ (1, 11) ∷ (2, 21) ∷ (5, 50) ∷ []) ≡ (4, 40) ∷ (1, 10) ∷ (2, 20) ∷ (5, 50) ∷ [] }
+    ensures three { numbers.cache_uses 3 ((1, 10) ∷ (2, 20) ∷ (3, 30) ∷ (4, 40) ∷ (1, 11) ∷ (2, 21) ∷ (5, 50) ∷ [])
+        ≡ (1, 11) ∷ (2, 21) ∷ (5, 50) ∷ [] }
+    ensures four { numbers.cache_uses 4 ((1, 10) ∷ (2, 20) ∷ (3, 30) ∷ (4, 40) ∷ (1, 11) ∷ (2, 21) ∷ (5, 50) ∷ [])
+        ≡ (4, 40) ∷ (1, 10) ∷ (2, 20) ∷ (5, 50) ∷ [] }
 {}
 
 /// Two caches of one and of two places, with equal keys that are different objects: an end up to equality.
 pub fn an_end_up_to_equality()
-    ensures small { labels.cache_insert (labels.cache_insert (labels.cache_insert [] 1 (7, 1) 1) 1 (8, 1) 2) 1 (7, 2) 3 ≡ ((7, 2), 3) ∷ [] }
-    ensures large { labels.cache_insert (labels.cache_insert (labels.cache_insert [] 2 (7, 1) 1) 2 (8, 1) 2) 2 (7, 2) 3 ≡ ((8, 1), 2) ∷ ((7, 1), 3) ∷ [] }
+    ensures small { labels.cache_insert (labels.cache_insert (labels.cache_insert [] 1 (7, 1) 1) 1 (8, 1) 2) 1 (7, 2)
+        3
+        ≡ ((7, 2), 3) ∷ [] }
+    ensures large { labels.cache_insert (labels.cache_insert (labels.cache_insert [] 2 (7, 1) 1) 2 (8, 1) 2) 2 (7, 2)
+        3
+        ≡ ((8, 1), 2) ∷ ((7, 1), 3) ∷ [] }
 {}
 
 /// A removal from both caches keeps the smaller an end of the larger.
@@ -91,12 +128,14 @@ pub fn a_removal_from_both_caches()
     ensures large_again { numbers.cache_insert ((1, 10) ∷ []) 2 1 11 ≡ (1, 11) ∷ [] }
 {}
 
-/// A trim drops at most one entry, at the front, and only where there are more than the capacity.
-pub fn a_trim_drops_at_most_one<K, V>()
-    ensures within { (es : List (K × V)) (cap : ℕ) → length es ≤ cap → trimmed es cap ≡ es }
-    ensures above { (es : List (K × V)) (cap : ℕ) → cap < length es → trimmed es cap ≡ drop 1 es }
-    ensures at_most { (es : List (K × V)) (cap n : ℕ) → cap ≤ n → length es ≤ n + 1 → length (trimmed es cap) ≤ n }
-    ensures last_ones { (es : List (K × V)) (cap : ℕ) → length es ≤ cap + 1 → trimmed es cap ≡ last_entries es cap }
+/// An eviction drops at most one entry, at the front, and only where there are more than the capacity.
+pub fn an_eviction_drops_at_most_one<K, V>()
+    ensures within { (es : List (K × V)) (cap : ℕ) → length es ≤ cap → front_evicted es cap ≡ es }
+    ensures above { (es : List (K × V)) (cap : ℕ) → cap < length es → front_evicted es cap ≡ drop 1 es }
+    ensures at_most { (es : List (K × V)) (cap n : ℕ) → cap ≤ n → length es ≤ n + 1
+        → length (front_evicted es cap) ≤ n }
+    ensures last_ones { (es : List (K × V)) (cap : ℕ) → length es ≤ cap + 1
+        → front_evicted es cap ≡ last_entries es cap }
 {}
 
 /// The last entries are an end of the list, as many as there are, and at most n.
@@ -105,60 +144,220 @@ pub fn the_last_entries<K, V>()
     ensures end { (es : List (K × V)) (n : ℕ) → take (length es - n) es ++ last_entries es n ≡ es }
 {}
 
-/// A cache of at most n entries, where n is no less than its capacity, has at most n after its insert, and its keys are pairwise unequal.
+/// A cache of at most n entries, where n is no less than its capacity, has at most n after its insert, and its keys
+/// are pairwise unequal.
 pub fn an_insert_stays_within_the_bound<K, V>()
-    ensures at_most { (eq : K → K → Bool) (es : List (K × V)) (cap n : ℕ) (k : K) (v : V) → cap ≤ n → length es ≤ n → length (cache_put eq es cap k v) ≤ n }
-    ensures keys { (eq : K → K → Bool) → IsEquivalence eq → (es : List (K × V)) (cap : ℕ) (k : K) (v : V) → IsEntries eq es → IsEntries eq (cache_put eq es cap k v) }
+    ensures at_most { (eq : K → K → Bool) (es : List (K × V)) (cap n : ℕ) (k : K) (v : V) → cap ≤ n → length es ≤ n
+        → length (cache_put eq es cap k v) ≤ n }
+    ensures keys { (eq : K → K → Bool) → IsEquivalence eq → (es : List (K × V)) (cap : ℕ) (k : K) (v : V)
+        → IsEntries eq es
+        → IsEntries eq (cache_put eq es cap k v) }
     ensures drops { (eq : K → K → Bool) (es : List (K × V)) (n : ℕ) → IsEntries eq es → IsEntries eq (drop n es) }
 {}
 
-/// A cache's insert answers the old value and leaves the trimmed list; a refused one names an absent key without a spare node and drops nothing.
+/// A cache's insert answers the old value and leaves what the eviction does; a refused one names an absent key
+/// without a spare node and drops nothing.
 pub fn what_a_cache_insert_leaves<K, V, S>()
-    ensures answer { (eq : K → K → Bool) (old new : CacheState K V S) (k : K) (v : V) (w : Option V) → CacheInserts eq old new k v (Ok w) → w ≡ lookup (eq k) old.map.entries }
-    ensures entries { (eq : K → K → Bool) (old new : CacheState K V S) (k : K) (v : V) (w : Option V) → CacheInserts eq old new k v (Ok w) → new.map.entries ≡ cache_put eq old.map.entries old.cap k v }
-    ensures refused { (eq : K → K → Bool) (old new : CacheState K V S) (k : K) (v : V) (pair : K × V) → CacheInserts eq old new k v (Err pair) → (new.map.entries ≡ old.map.entries) × (new.map.spare ≡ old.map.spare) × (lookup (eq k) old.map.entries ≡ None) × (old.map.spare ≡ 0) }
-    ensures nodes { (eq : K → K → Bool) (old new : CacheState K V S) (k : K) (v : V) → CacheInserts eq old new k v (Ok None) → nodes_of new.map ≡ max (nodes_of old.map) (length (put eq old.map.entries k v (length old.map.entries))) }
+    ensures answer { (eq : K → K → Bool) (old new : CacheState K V S) (k : K) (v : V) (w : Option V)
+        → CacheInserts eq old new k v (Ok w)
+        → w ≡ lookup (eq k) old.map.entries }
+    ensures entries { (eq : K → K → Bool) (old new : CacheState K V S) (k : K) (v : V) (w : Option V)
+        → CacheInserts eq old new k v (Ok w)
+        → new.map.entries ≡ cache_put eq old.map.entries old.cap k v }
+    ensures refused { (eq : K → K → Bool) (old new : CacheState K V S) (k : K) (v : V) (pair : K × V)
+        → CacheInserts eq old new k v (Err pair)
+        → (new.map.entries ≡ old.map.entries) × (new.map.spare ≡ old.map.spare)
+        × (lookup (eq k) old.map.entries ≡ None) × (old.map.spare ≡ 0) }
+    ensures nodes { (eq : K → K → Bool) (old new : CacheState K V S) (k : K) (v : V)
+        → CacheInserts eq old new k v (Ok None)
+        → node_count new.map
+        ≡ max (node_count old.map) (length (put eq old.map.entries k v (length old.map.entries))) }
 {}
 
-/// A hit of `get` leaves its entry last with the stored key and the value that stands, a miss leaves every entry; neither makes a node or sets the capacity.
+/// A hit of `get` leaves its entry last with the stored key and the value that stands, a miss leaves every entry;
+/// neither makes a node or sets the capacity.
 pub fn what_a_hit_and_a_miss_leave<K, V, S>()
-    ensures hit { (eq : K → K → Bool) (old new : CacheState K V S) (k : K) (w : V) → CacheGets eq old new k (Some w) → new.map.entries ≡ without eq old.map.entries k ++ (stored_key eq old.map.entries k, w) ∷ [] }
-    ensures miss { (eq : K → K → Bool) (old new : CacheState K V S) (k : K) → CacheGets eq old new k None → new.map.entries ≡ old.map.entries }
-    ensures nodes { (eq : K → K → Bool) (old new : CacheState K V S) (k : K) (r : Option V) → CacheGets eq old new k r → nodes_of new.map ≡ nodes_of old.map }
-    ensures capacity { (eq : K → K → Bool) (old new : CacheState K V S) (k : K) (r : Option V) → CacheGets eq old new k r → new.cap ≡ old.cap }
+    ensures hit { (eq : K → K → Bool) (old new : CacheState K V S) (k : K) (w : V) → CacheGets eq old new k (Some w)
+        → new.map.entries ≡ without eq old.map.entries k ++ (stored_key eq old.map.entries k, w) ∷ [] }
+    ensures miss { (eq : K → K → Bool) (old new : CacheState K V S) (k : K) → CacheGets eq old new k None
+        → new.map ≡ old.map }
+    ensures nodes { (eq : K → K → Bool) (old new : CacheState K V S) (k : K) (r : Option V) → CacheGets eq old new k r
+        → node_count new.map ≡ node_count old.map }
+    ensures capacity { (eq : K → K → Bool) (old new : CacheState K V S) (k : K) (r : Option V)
+        → CacheGets eq old new k r
+        → new.cap ≡ old.cap }
 {}
 
 /// A capacity n that is set leaves the last n entries, or all where there are no more, and every node.
 pub fn what_a_capacity_leaves<K, V, S>()
-    ensures length { (old new : CacheState K V S) (n : ℕ) → SetsCapacity old new n → length new.map.entries ≡ min n (length old.map.entries) }
-    ensures end { (old new : CacheState K V S) (n : ℕ) → SetsCapacity old new n → take (length old.map.entries - n) old.map.entries ++ new.map.entries ≡ old.map.entries }
-    ensures nodes { (old new : CacheState K V S) (n : ℕ) → SetsCapacity old new n → nodes_of new.map ≡ nodes_of old.map }
-    ensures within { (old new : CacheState K V S) (n : ℕ) → length old.map.entries ≤ n → SetsCapacity old new n → new.map.entries ≡ old.map.entries }
+    ensures length { (old new : CacheState K V S) (n : ℕ) → SetsCapacity old new n
+        → length new.map.entries ≡ min n (length old.map.entries) }
+    ensures end { (old new : CacheState K V S) (n : ℕ) → SetsCapacity old new n
+        → take (length old.map.entries - n) old.map.entries ++ new.map.entries ≡ old.map.entries }
+    ensures nodes { (old new : CacheState K V S) (n : ℕ) → SetsCapacity old new n
+        → node_count new.map ≡ node_count old.map }
+    ensures within { (old new : CacheState K V S) (n : ℕ) → length old.map.entries ≤ n → SetsCapacity old new n
+        → new.map.entries ≡ old.map.entries }
 {}
 
-/// After a hit, a use, inserts in turn, a trim and a smaller capacity no two keys are equal, as before.
+/// After a hit, a use, inserts in turn, an eviction and a smaller capacity no two keys are equal, as before.
 pub fn a_cache_keeps_keys_unequal<K, V>()
-    ensures get { (eq : K → K → Bool) → IsEquivalence eq → (es : List (K × V)) (k : K) → IsEntries eq es → IsEntries eq (cache_get eq es k) }
-    ensures use_step { (eq : K → K → Bool) → IsEquivalence eq → (es : List (K × V)) (cap : ℕ) (k : K) (v : V) → IsEntries eq es → IsEntries eq (cache_use eq es cap k v) }
-    ensures extended { (eq : K → K → Bool) → IsEquivalence eq → (es : List (K × V)) (cap : ℕ) (pairs : List (K × V)) → IsEntries eq es → IsEntries eq (cache_extended eq es cap pairs) }
-    ensures trimmed { (eq : K → K → Bool) (es : List (K × V)) (cap : ℕ) → IsEntries eq es → IsEntries eq (trimmed es cap) }
-    ensures last_entries { (eq : K → K → Bool) (es : List (K × V)) (n : ℕ) → IsEntries eq es → IsEntries eq (last_entries es n) }
+    ensures get { (eq : K → K → Bool) → IsEquivalence eq → (es : List (K × V)) (k : K) → IsEntries eq es
+        → IsEntries eq (cache_get eq es k) }
+    ensures use_step { (eq : K → K → Bool) → IsEquivalence eq → (es : List (K × V)) (cap : ℕ) (k : K) (v : V)
+        → IsEntries eq es
+        → IsEntries eq (cache_use eq es cap k v) }
+    ensures extended { (eq : K → K → Bool) → IsEquivalence eq → (es : List (K × V)) (cap : ℕ) (pairs : List (K × V))
+        → IsEntries eq es
+        → IsEntries eq (cache_extended eq es cap pairs) }
+    ensures front_evicted { (eq : K → K → Bool) (es : List (K × V)) (cap : ℕ) → IsEntries eq es
+        → IsEntries eq (front_evicted es cap) }
+    ensures last_entries { (eq : K → K → Bool) (es : List (K × V)) (n : ℕ) → IsEntries eq es
+        → IsEntries eq (last_entries es n) }
 {}
 
-/// After the insert into a cache with a place the key has the new value, and what is still there of the others is what was there.
+/// After the insert into a cache with a place the key has the new value, and what is still there of the others is
+/// what was there.
 pub fn lookup_after_a_cache_insert<K, V>()
-    ensures at_key { (eq : K → K → Bool) → IsEquivalence eq → (q : K) (es : List (K × V)) (cap : ℕ) (k : K) (v : V) → IsEntries eq es → 1 ≤ cap → eq k q ≡ true → lookup (eq q) (cache_put eq es cap k v) ≡ Some v }
-    ensures at_others { (eq : K → K → Bool) → IsEquivalence eq → (q : K) (es : List (K × V)) (cap : ℕ) (k : K) (v : V) (e : K × V) → IsEntries eq es → eq k q ≡ false → lookup_entry (eq q) (cache_put eq es cap k v) ≡ Some e → lookup_entry (eq q) es ≡ Some e }
+    ensures at_key { (eq : K → K → Bool) → IsEquivalence eq → (q : K) (es : List (K × V)) (cap : ℕ) (k : K) (v : V)
+        → IsEntries eq es → 1 ≤ cap → eq k q ≡ true
+        → lookup (eq q) (cache_put eq es cap k v) ≡ Some v }
+    ensures at_others { (eq : K → K → Bool) → IsEquivalence eq
+        → (q : K) (es : List (K × V)) (cap : ℕ) (k : K) (v : V) (e : K × V) → IsEntries eq es → eq k q ≡ false
+        → lookup_entry (eq q) (cache_put eq es cap k v) ≡ Some e
+        → lookup_entry (eq q) es ≡ Some e }
 {}
 
-/// After a use in a cache with a place the key has the value that it had, or the one given where it was absent, and what is still there of the others is what was there.
+/// After a use in a cache with a place the key has the value that it had, or the one given where it was absent, and
+/// what is still there of the others is what was there.
 pub fn lookup_after_a_use<K, V>()
-    ensures at_key { (eq : K → K → Bool) → IsEquivalence eq → (q : K) (es : List (K × V)) (cap : ℕ) (k : K) (v : V) → IsEntries eq es → 1 ≤ cap → eq k q ≡ true → lookup (eq q) (cache_use eq es cap k v) ≡ Some (unwrap_or (lookup (eq k) es) v) }
-    ensures at_others { (eq : K → K → Bool) → IsEquivalence eq → (q : K) (es : List (K × V)) (cap : ℕ) (k : K) (v : V) (e : K × V) → IsEntries eq es → eq k q ≡ false → lookup_entry (eq q) (cache_use eq es cap k v) ≡ Some e → lookup_entry (eq q) es ≡ Some e }
+    ensures at_key { (eq : K → K → Bool) → IsEquivalence eq → (q : K) (es : List (K × V)) (cap : ℕ) (k : K) (v : V)
+        → IsEntries eq es → 1 ≤ cap → eq k q ≡ true
+        → lookup (eq q) (cache_use eq es cap k v) ≡ Some (unwrap_or (lookup (eq k) es) v) }
+    ensures at_others { (eq : K → K → Bool) → IsEquivalence eq
+        → (q : K) (es : List (K × V)) (cap : ℕ) (k : K) (v : V) (e : K × V) → IsEntries eq es → eq k q ≡ false
+        → lookup_entry (eq q) (cache_use eq es cap k v) ≡ Some e
+        → lookup_entry (eq q) es ≡ Some e }
 {}
 
-/// Pairs that extend a cache may come in two parts, and a cache of at most n entries, where n is no less than its capacity, has at most n after them.
+/// Pairs that extend a cache may come in two parts, and a cache of at most n entries, where n is no less than its
+/// capacity, has at most n after them.
 pub fn a_cache_extended_in_two_parts<K, V>()
-    ensures parts { (eq : K → K → Bool) (es : List (K × V)) (cap : ℕ) (xs ys : List (K × V)) → cache_extended eq es cap (xs ++ ys) ≡ cache_extended eq (cache_extended eq es cap xs) cap ys }
-    ensures at_most { (eq : K → K → Bool) (es : List (K × V)) (cap n : ℕ) (pairs : List (K × V)) → cap ≤ n → length es ≤ n → length (cache_extended eq es cap pairs) ≤ n }
+    ensures parts { (eq : K → K → Bool) (es : List (K × V)) (cap : ℕ) (xs ys : List (K × V))
+        → cache_extended eq es cap (xs ++ ys) ≡ cache_extended eq (cache_extended eq es cap xs) cap ys }
+    ensures at_most { (eq : K → K → Bool) (es : List (K × V)) (cap n : ℕ) (pairs : List (K × V)) → cap ≤ n
+        → length es ≤ n
+        → length (cache_extended eq es cap pairs) ≤ n }
+{}
+
+/// A cache of at most n entries beyond its capacity stays so under each of its calls that is made of these steps;
+/// after a capacity that is set there is none beyond it.
+pub fn a_bound_beyond_the_capacity_is_kept<K, V, S>()
+    ensures insert { (old new : CacheState K V S) (n : ℕ) (eq : K → K → Bool) (k : K) (v : V)
+        (r : Result (Option V) (K × V))
+        → CacheInserts eq old new k v r → IsWithin old n
+        → IsWithin new n }
+    ensures get { (old new : CacheState K V S) (n : ℕ) (eq : K → K → Bool) (k : K) (r : Option V)
+        → CacheGets eq old new k r → IsWithin old n
+        → IsWithin new n }
+    ensures get_mut { (old new : CacheState K V S) (n : ℕ) (eq : K → K → Bool) (k : K) (w : V)
+        → CacheGetsAndWrites eq old new k w → IsWithin old n
+        → IsWithin new n }
+    ensures remove { (old new : CacheState K V S) (n : ℕ) (eq : K → K → Bool) (k : K) (r : Option (K × V))
+        → OnMap (λ a b. RemovesKey eq a b k r) old new → IsWithin old n
+        → IsWithin new n }
+    ensures pop_front { (old new : CacheState K V S) (n : ℕ) (r : Option (K × V))
+        → OnMap (λ a b. PopsFront a b r) old new → IsWithin old n
+        → IsWithin new n }
+    ensures pop_back { (old new : CacheState K V S) (n : ℕ) (r : Option (K × V))
+        → OnMap (λ a b. PopsBack a b r) old new → IsWithin old n
+        → IsWithin new n }
+    ensures change { (old new : CacheState K V S) (n : ℕ) (es : List (K × V)) (most : ℕ)
+        → OnMap (λ a b. Changes a b es most) old new → length es ≡ length old.map.entries → IsWithin old n
+        → IsWithin new n }
+    ensures keeps_only { (old new : CacheState K V S) (n : ℕ) (es : List (K × V))
+        → OnMap (λ a b. KeepsOnly a b es) old new → IsWithin old n
+        → IsWithin new n }
+    ensures clear { (old new : CacheState K V S) (n : ℕ) → OnMap Clears old new → IsWithin old n → IsWithin new n }
+    ensures set_capacity { (old new : CacheState K V S) (n cap : ℕ) → SetsCapacity old new cap → IsWithin new 0 }
+    ensures use_step { (eq : K → K → Bool) (es : List (K × V)) (cap n : ℕ) (k : K) (v : V) → cap ≤ n → length es ≤ n
+        → length (cache_use eq es cap k v) ≤ n }
+{}
+
+/// An entry of a cache first drops what is one too many, so one insert through it stays within a bound above the
+/// capacity; and where something was dropped, its node is spare, and that insert is not refused.
+pub fn what_an_entry_of_a_cache_lets_in<K, V, S, A>()
+    ensures entered { (eq : K → K → Bool) (old : CacheState K V S) (k : K) (e : EntryState K V S)
+        → EntersCache eq old k e → (n : ℕ) → IsWithin old n
+        → length e.map.entries ≤ old.cap + n }
+    ensures inserted { (eq : K → K → Bool) (old : CacheState K V S) (k : K) (e : EntryState K V S)
+        → EntersCache eq old k e → (new : MapState K V S) (n : ℕ) (v : V) (r : Result A (K × V))
+        → VacantInserts eq e.map new k v r → IsWithin old (n + 1)
+        → length new.entries ≤ old.cap + (n + 1) }
+    ensures not_refused { (eq : K → K → Bool) (old : CacheState K V S) (k : K) (e : EntryState K V S)
+        → EntersCache eq old k e → (new : MapState K V S) (v : V) (pair : K × V) → old.cap < length old.map.entries
+        → VacantInserts eq {A = A} e.map new k v (Err pair)
+        → ⊥ }
+    ensures row { (old : CacheState ℕ ℕ S) (e : EntryState ℕ ℕ S) → old.cap ≡ 1
+        → old.map.entries ≡ (1, 10) ∷ (2, 20) ∷ [] → EntersCache nat_eq old 1 e
+        → (e.map.entries ≡ (2, 20) ∷ []) × (e.place ≡ None) × (e.key ≡ 1) }
+{}
+
+/// How many links an insert stores at most: seven where a new key drops an entry, nine where one that was there does,
+/// and four where there is a place. What drops more entries stores three links for each of them.
+pub fn links_of_a_cache_insert<K, V, S>()
+    ensures new_key { (eq : K → K → Bool) (old new : CacheState K V S) (k : K) (v : V)
+        → CacheInserts eq old new k v (Ok None)
+        → StoresAtMost 7 old.map.link_writes new.map.link_writes }
+    ensures there { (eq : K → K → Bool) (old new : CacheState K V S) (k : K) (v w : V)
+        → CacheInserts eq old new k v (Ok (Some w))
+        → StoresAtMost 9 old.map.link_writes new.map.link_writes }
+    ensures with_a_place { (eq : K → K → Bool) (old new : CacheState K V S) (k : K) (v : V)
+        → CacheInserts eq old new k v (Ok None) → length old.map.entries < old.cap
+        → StoresAtMost 4 old.map.link_writes new.map.link_writes }
+    ensures new_key_then_kept { (eq : K → K → Bool) (a b c : MapState K V S) (k : K) (v : V) (es : List (K × V))
+        → KeepsOnly b c es → InsertsLast eq k v None a b
+        → StoresAtMost (4 + 3 * (length b.entries - length es)) a.link_writes c.link_writes }
+    ensures there_then_kept { (eq : K → K → Bool) (a b c : MapState K V S) (k : K) (v : V) (es : List (K × V))
+        → KeepsOnly b c es → (w : V) → InsertsLast eq k v (Some w) a b
+        → StoresAtMost (6 + 3 * (length b.entries - length es)) a.link_writes c.link_writes }
+    ensures set_capacity { (old new : CacheState K V S) (n : ℕ) → SetsCapacity old new n
+        → StoresAtMost (3 * (length old.map.entries - n)) old.map.link_writes new.map.link_writes }
+{}
+
+/// An insert that is not refused passes two lengths: that of the map's insert, and that after what was too many was
+/// dropped.
+pub fn lengths_that_a_cache_insert_passes<K, V, S>()
+    ensures { (eq : K → K → Bool) (old new : CacheState K V S) (k : K) (v : V) (w : Option V)
+        → CacheInserts eq old new k v (Ok w)
+        → PassesInTurn old.map
+        (Length (length (put eq old.map.entries k v (length old.map.entries))) ∷ Length (length new.map.entries) ∷ [])
+        new.map }
+{}
+
+/// An insert that drops an entry leaves more nodes than the capacity and a spare one among them; while nothing but an
+/// entry lengthens the cache and no node is given back it stays so, and no insert is refused.
+pub fn no_refusal_once_an_entry_was_dropped<K, V, S>()
+    ensures dropped { (old new : CacheState K V S) (eq : K → K → Bool) (k : K) (v : V) (w : Option V)
+        → CacheInserts eq old new k v (Ok w) → old.cap < length (put eq old.map.entries k v (length old.map.entries))
+        → HasNodeToSpare new }
+    ensures not_refused { (old new : CacheState K V S) (eq : K → K → Bool) (k : K) (v : V) (pair : K × V)
+        → HasNodeToSpare old → CacheInserts eq old new k v (Err pair)
+        → ⊥ }
+    ensures insert { (old new : CacheState K V S) (eq : K → K → Bool) (k : K) (v : V) (r : Result (Option V) (K × V))
+        → CacheInserts eq old new k v r → HasNodeToSpare old
+        → HasNodeToSpare new }
+    ensures others { (old new : CacheState K V S) → new.cap ≡ old.cap → node_count old.map ≤ node_count new.map
+        → length new.map.entries ≤ length old.map.entries → HasNodeToSpare old
+        → HasNodeToSpare new }
+{}
+
+/// A use answers the value that its key had, and leaves what a hit or an insert leaves.
+pub fn what_a_use_leaves<K, V, S>()
+    ensures entries { (eq : K → K → Bool) (old new : CacheState K V S) (k : K) (v : V) (w : Option V)
+        → CacheUses eq old new k v (Ok w)
+        → (w ≡ lookup (eq k) old.map.entries) × (new.map.entries ≡ cache_use eq old.map.entries old.cap k v) }
+    ensures row { (old new : CacheState ℕ ℕ S) (w : Option ℕ) → old.cap ≡ 1 → old.map.entries ≡ (2, 20) ∷ []
+        → CacheUses nat_eq old new 1 30 (Ok w)
+        → (w ≡ None) × (new.map.entries ≡ (1, 30) ∷ []) }
 {}

@@ -1,12 +1,13 @@
 //! Rows and laws of comparisons and of what is hashed.
-ghost use Rattle.std.specs.Prelude.{◌≡◌, ℕ, Bool, true, false, List, [], ◌∷◌, Option, Some};
-ghost use Rattle.std.specs.Cmp.{IsEquivalence, IsTotalOrder};
+ghost use Rattle.std.specs.Prelude.{◌≡◌, ℕ, Bool, true, false, nat_eq, List, [], ◌∷◌, Option, None, Some};
+ghost use Rattle.std.specs.Cmp.{IsEquivalence, IsPartialEquivalence, IsPartialOrder, IsTotalOrder};
 ghost use Rattle.std.specs.List.{AllZip};
-ghost use Rattle.std.specs.Ordering.{eq_by_cmp};
+ghost use Rattle.std.specs.Ordering.{eq_by_cmp, nat_cmp};
 ghost use Rattle.std.specs.declared.cmp.Ordering.{Ordering};
-ghost use Rattle.std.specs.declared.cmp.Ordering.TheVariants.{Less, Equal, Greater};
+ghost use Rattle.std.specs.declared.cmp.Ordering.TheVariants.{Less, Greater};
 ghost use Rattle.hashlink_model.specs.Entries.{IsEntries, extended};
-ghost use Rattle.hashlink_model.specs.Compare.{entries_eq, entries_cmp, entries_partial_cmp, entries_hash_input, elements_eq, elements_hash_input};
+ghost use Rattle.hashlink_model.specs.Compare.{entries_eq, entries_cmp, entries_partial_cmp, entries_hash_input};
+ghost use Rattle.hashlink_model.specs.Compare.{elements_eq, elements_hash_input};
 ghost use Rattle.hashlink_model.specs.Numbers as numbers;
 
 /// The order of the entries counts, and so do the values.
@@ -14,8 +15,11 @@ pub fn equality_sees_the_order()
     ensures turned { numbers.equal ((1, 1) ∷ (2, 2) ∷ []) ((2, 2) ∷ (1, 1) ∷ []) ≡ false }
     ensures same { numbers.equal ((1, 1) ∷ (2, 2) ∷ []) ((1, 1) ∷ (2, 2) ∷ []) ≡ true }
     ensures values { numbers.equal ((1, 1) ∷ []) ((1, 2) ∷ []) ≡ false }
-    ensures moved { numbers.equal (numbers.to_front ((1, 1) ∷ (2, 2) ∷ (3, 3) ∷ []) 2) ((1, 1) ∷ (2, 2) ∷ (3, 3) ∷ []) ≡ false }
-    ensures both_moved { numbers.equal (numbers.to_front ((1, 1) ∷ (2, 2) ∷ (3, 3) ∷ []) 2) (numbers.to_front ((1, 1) ∷ (2, 2) ∷ (3, 3) ∷ []) 2) ≡ true }
+    ensures moved { numbers.equal (numbers.to_front ((1, 1) ∷ (2, 2) ∷ (3, 3) ∷ []) 2) ((1, 1) ∷ (2, 2) ∷ (3, 3) ∷ [])
+        ≡ false }
+    ensures both_moved { numbers.equal (numbers.to_front ((1, 1) ∷ (2, 2) ∷ (3, 3) ∷ []) 2)
+        (numbers.to_front ((1, 1) ∷ (2, 2) ∷ (3, 3) ∷ []) 2)
+        ≡ true }
 {}
 
 /// The first place that differs decides, and not the length; a proper beginning is less.
@@ -28,38 +32,84 @@ pub fn order_is_by_place_and_not_by_length()
 
 /// A hasher is fed key, value, key, value and no length.
 pub fn entries_are_hashed_in_order()
-    ensures { entries_hash_input {K = ℕ} {V = ℕ} (λ k. k ∷ []) (λ v. v ∷ []) ((1, 10) ∷ (2, 20) ∷ []) ≡ 1 ∷ 10 ∷ 2 ∷ 20 ∷ [] }
+    ensures { entries_hash_input {K = ℕ} {V = ℕ} (λ k. k ∷ []) (λ v. v ∷ []) ((1, 10) ∷ (2, 20) ∷ [])
+        ≡ 1 ∷ 10 ∷ 2 ∷ 20 ∷ [] }
 {}
 
-/// Equality of maps is an equivalence, and where that of keys and of values means the same object, that of maps means the same list.
+/// Equality of maps is an equivalence, and where that of keys and of values means the same object, that of maps means
+/// the same list.
 pub fn equality_of_entries<K, V>()
-    ensures equivalence { (eqk : K → K → Bool) (eqv : V → V → Bool) → IsEquivalence eqk → IsEquivalence eqv → IsEquivalence (entries_eq eqk eqv) }
-    ensures same_lists { (eqk : K → K → Bool) (eqv : V → V → Bool) → ((x y : K) → eqk x y ≡ true → x ≡ y) → ((x y : V) → eqv x y ≡ true → x ≡ y) → (xs ys : List (K × V)) → entries_eq eqk eqv xs ys ≡ true → xs ≡ ys }
+    ensures equivalence { (eqk : K → K → Bool) (eqv : V → V → Bool) → IsEquivalence eqk → IsEquivalence eqv
+        → IsEquivalence (entries_eq eqk eqv) }
+    ensures same_lists { (eqk : K → K → Bool) (eqv : V → V → Bool) → ((x y : K) → eqk x y ≡ true → x ≡ y)
+        → ((x y : V) → eqv x y ≡ true → x ≡ y) → (xs ys : List (K × V)) → entries_eq eqk eqv xs ys ≡ true
+        → xs ≡ ys }
 {}
 
 /// The order of maps is total and agrees with equality where those of keys and values are and do.
 pub fn order_of_entries<K, V>()
-    ensures total { (cmpk : K → K → Ordering) (cmpv : V → V → Ordering) → IsTotalOrder cmpk → IsTotalOrder cmpv → IsTotalOrder (entries_cmp cmpk cmpv) }
-    ensures agrees { (eqk : K → K → Bool) (eqv : V → V → Bool) (cmpk : K → K → Ordering) (cmpv : V → V → Ordering) → ((x y : K) → eqk x y ≡ eq_by_cmp cmpk x y) → ((x y : V) → eqv x y ≡ eq_by_cmp cmpv x y) → (xs ys : List (K × V)) → entries_eq eqk eqv xs ys ≡ eq_by_cmp (entries_cmp cmpk cmpv) xs ys }
+    ensures total { (cmpk : K → K → Ordering) (cmpv : V → V → Ordering) → IsTotalOrder cmpk → IsTotalOrder cmpv
+        → IsTotalOrder (entries_cmp cmpk cmpv) }
+    ensures agrees { (eqk : K → K → Bool) (eqv : V → V → Bool) (cmpk : K → K → Ordering) (cmpv : V → V → Ordering)
+        → ((x y : K) → eqk x y ≡ eq_by_cmp cmpk x y) → ((x y : V) → eqv x y ≡ eq_by_cmp cmpv x y)
+        → (xs ys : List (K × V))
+        → entries_eq eqk eqv xs ys ≡ eq_by_cmp (entries_cmp cmpk cmpv) xs ys }
 {}
 
 /// Equal maps feed a hasher alike where equal keys and equal values do.
 pub fn equal_entries_are_hashed_alike<K, V, W>()
-    ensures { (eqk : K → K → Bool) (eqv : V → V → Bool) (hashk : K → List W) (hashv : V → List W) → ((x y : K) → eqk x y ≡ true → hashk x ≡ hashk y) → ((x y : V) → eqv x y ≡ true → hashv x ≡ hashv y) → (xs ys : List (K × V)) → entries_eq eqk eqv xs ys ≡ true → entries_hash_input hashk hashv xs ≡ entries_hash_input hashk hashv ys }
+    ensures { (eqk : K → K → Bool) (eqv : V → V → Bool) (hashk : K → List W) (hashv : V → List W)
+        → ((x y : K) → eqk x y ≡ true → hashk x ≡ hashk y) → ((x y : V) → eqv x y ≡ true → hashv x ≡ hashv y)
+        → (xs ys : List (K × V)) → entries_eq eqk eqv xs ys ≡ true
+        → entries_hash_input hashk hashv xs ≡ entries_hash_input hashk hashv ys }
 {}
 
 /// Clones that are equal to their sources, inserted in turn into an empty list, give an equal list.
 pub fn a_clone_is_equal<K, V>()
-    ensures { (eqk : K → K → Bool) → IsEquivalence eqk → (eqv : V → V → Bool) (es clones : List (K × V)) → IsEntries eqk es → AllZip (λ p q. (eqk p.0 q.0 ≡ true) × (eqv p.1 q.1 ≡ true)) es clones → entries_eq eqk eqv es (extended eqk [] clones) ≡ true }
+    ensures { (eqk : K → K → Bool) → IsEquivalence eqk → (eqv : V → V → Bool) (es clones : List (K × V))
+        → IsEntries eqk es → AllZip (λ p q. (eqk p.0 q.0 ≡ true) × (eqv p.1 q.1 ≡ true)) es clones
+        → entries_eq eqk eqv es (extended eqk [] clones) ≡ true }
 {}
 
 /// Where comparisons of keys and values always have an answer, that of maps is the total one's.
 pub fn partial_order_of_entries<K, V>()
-    ensures { (partk : K → K → Option Ordering) (partv : V → V → Option Ordering) (cmpk : K → K → Ordering) (cmpv : V → V → Ordering) → ((x y : K) → partk x y ≡ Some (cmpk x y)) → ((x y : V) → partv x y ≡ Some (cmpv x y)) → (xs ys : List (K × V)) → entries_partial_cmp partk partv xs ys ≡ Some (entries_cmp cmpk cmpv xs ys) }
+    ensures { (partk : K → K → Option Ordering) (partv : V → V → Option Ordering) (cmpk : K → K → Ordering)
+        (cmpv : V → V → Ordering)
+        → ((x y : K) → partk x y ≡ Some (cmpk x y)) → ((x y : V) → partv x y ≡ Some (cmpv x y))
+        → (xs ys : List (K × V))
+        → entries_partial_cmp partk partv xs ys ≡ Some (entries_cmp cmpk cmpv xs ys) }
 {}
 
-/// Sets are compared and hashed by their elements in order: equality is an equivalence, and equal sets feed a hasher alike.
+/// Sets are compared and hashed by their elements in order: equality is an equivalence, and equal sets feed a hasher
+/// alike.
 pub fn sets_compare_in_order<T, W>()
     ensures equivalence { (eq : T → T → Bool) → IsEquivalence eq → IsEquivalence (elements_eq eq) }
-    ensures hashed_alike { (eq : T → T → Bool) (hash : T → List W) → ((x y : T) → eq x y ≡ true → hash x ≡ hash y) → (xs ys : List T) → elements_eq eq xs ys ≡ true → elements_hash_input hash xs ≡ elements_hash_input hash ys }
+    ensures hashed_alike { (eq : T → T → Bool) (hash : T → List W) → ((x y : T) → eq x y ≡ true → hash x ≡ hash y)
+        → (xs ys : List T) → elements_eq eq xs ys ≡ true
+        → elements_hash_input hash xs ≡ elements_hash_input hash ys }
+{}
+
+/// Keys and values may have only a partial equality and a partial order: those of maps are then partial ones too, and
+/// agree. So are those of sets.
+pub fn partial_comparisons<K, V>()
+    ensures equality { (eqk : K → K → Bool) (eqv : V → V → Bool) → IsPartialEquivalence eqk → IsPartialEquivalence eqv
+        → IsPartialEquivalence (entries_eq eqk eqv) }
+    ensures order { (eqk : K → K → Bool) (eqv : V → V → Bool) (partk : K → K → Option Ordering)
+        (partv : V → V → Option Ordering)
+        → IsPartialOrder eqk partk → IsPartialOrder eqv partv
+        → IsPartialOrder (entries_eq eqk eqv) (entries_partial_cmp partk partv) }
+    ensures elements { (eq : K → K → Bool) → IsPartialEquivalence eq → IsPartialEquivalence (elements_eq eq) }
+{}
+
+/// Values that are equal to nothing, and compare with nothing: a map of one is not equal to itself, and is ordered by
+/// its first key alone.
+pub fn values_without_comparison()
+    ensures unequal { entries_eq nat_eq (λ (v w : ℕ). false) ((1, 1) ∷ []) ((1, 1) ∷ []) ≡ false }
+    ensures unordered { entries_partial_cmp (λ k j. Some (nat_cmp k j)) (λ (v w : ℕ). None) ((1, 1) ∷ [])
+        ((1, 2) ∷ [])
+        ≡ None }
+    ensures by_keys { entries_partial_cmp (λ k j. Some (nat_cmp k j)) (λ (v w : ℕ). None) ((1, 1) ∷ []) ((2, 1) ∷ [])
+        ≡ Some Less }
+    ensures beginning { entries_partial_cmp (λ k j. Some (nat_cmp k j)) (λ (v w : ℕ). None) [] ((2, 1) ∷ [])
+        ≡ Some Less }
 {}

@@ -10,6 +10,7 @@ pub mod entries;
 pub mod entry;
 pub mod history;
 pub mod inclusion;
+pub mod many;
 pub mod retain;
 pub mod sets;
 pub mod states;

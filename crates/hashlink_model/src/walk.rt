@@ -2,20 +2,24 @@
 ghost use Rattle.std.specs.Prelude.{◌≡◌, ℕ, ◌-◌, Bool, List, [], ◌∷◌, ◌++◌, Option, None, Some, length};
 ghost use Rattle.std.specs.Map.{keys_of, set_value};
 ghost use Rattle.std.specs.Map.Iter.{TakesFirst, TakesLast};
-ghost use Rattle.hashlink_model.specs.Entries.{place_of};
-ghost use Rattle.hashlink_model.specs.Walk.{End, Front, Back, first_of, after_first_of, last_of, before_last_of, step_gives, step_leaves, walk_gives, walk_leaves, given_front, given_back, with_value_at};
+ghost use Rattle.hashlink_model.specs.Entries.{place_of, set_value_at};
+ghost use Rattle.hashlink_model.specs.Walk.{End, Front, Back, first_of, after_first_of, last_of, before_last_of};
+ghost use Rattle.hashlink_model.specs.Walk.{step_gives, step_leaves, walk_gives, walk_leaves, given_front};
+ghost use Rattle.hashlink_model.specs.Walk.{given_back};
 ghost use Rattle.hashlink_model.specs.Numbers as numbers;
 
 /// Two from the front, two from the back, and then None from both.
 pub fn a_walk_from_both_ends()
-    ensures gives { walk_gives {X = ℕ} (Front ∷ Front ∷ Back ∷ Back ∷ Back ∷ Front ∷ []) (1 ∷ 2 ∷ 3 ∷ 4 ∷ []) ≡ Some 1 ∷ Some 2 ∷ Some 4 ∷ Some 3 ∷ None ∷ None ∷ [] }
+    ensures gives { walk_gives {X = ℕ} (Front ∷ Front ∷ Back ∷ Back ∷ Back ∷ Front ∷ []) (1 ∷ 2 ∷ 3 ∷ 4 ∷ [])
+        ≡ Some 1 ∷ Some 2 ∷ Some 4 ∷ Some 3 ∷ None ∷ None ∷ [] }
     ensures leaves { walk_leaves {X = ℕ} (Front ∷ Front ∷ Back ∷ Back ∷ Back ∷ Front ∷ []) (1 ∷ 2 ∷ 3 ∷ 4 ∷ []) ≡ [] }
     ensures one_left { walk_leaves {X = ℕ × ℕ} (Front ∷ Back ∷ []) ((1, 10) ∷ (3, 30) ∷ (2, 20) ∷ []) ≡ (3, 30) ∷ [] }
 {}
 
 /// A writing walk changes the values at the places that it lent.
 pub fn a_walk_writes_in_place()
-    ensures { numbers.write (numbers.write ((1, 10) ∷ (3, 30) ∷ (2, 20) ∷ []) 0 17) 2 23 ≡ (1, 17) ∷ (3, 30) ∷ (2, 23) ∷ [] }
+    ensures { numbers.set_value_at (numbers.set_value_at ((1, 10) ∷ (3, 30) ∷ (2, 20) ∷ []) 0 17) 2 23
+        ≡ (1, 17) ∷ (3, 30) ∷ (2, 23) ∷ [] }
 {}
 
 /// A step from the front takes the first of what is left, one from the back the last.
@@ -26,7 +30,8 @@ pub fn a_step_takes_an_end<X>()
 
 /// However a walk goes, each entry comes once: what the front gave, what is left and what the back gave are the list.
 pub fn a_walk_gives_each_entry_once<X>()
-    ensures { (steps : List End) (xs : List X) → given_front steps xs ++ (walk_leaves steps xs ++ given_back steps xs) ≡ xs }
+    ensures { (steps : List End) (xs : List X)
+        → given_front steps xs ++ (walk_leaves steps xs ++ given_back steps xs) ≡ xs }
 {}
 
 /// The size hint is what is left, and of an empty part both ends give None for good.
@@ -38,6 +43,7 @@ pub fn a_walk_ends<X>()
 
 /// A value that is written at the place of a key is the key's value, and no key changes.
 pub fn a_write_changes_one_value<K, V>()
-    ensures value { (test : K → Bool) (es : List (K × V)) (j : ℕ) (w : V) → place_of test es ≡ Some j → with_value_at es j w ≡ set_value test es w }
-    ensures keys { (es : List (K × V)) (j : ℕ) (w : V) → keys_of (with_value_at es j w) ≡ keys_of es }
+    ensures value { (test : K → Bool) (es : List (K × V)) (j : ℕ) (w : V) → place_of test es ≡ Some j
+        → set_value_at es j w ≡ set_value test es w }
+    ensures keys { (es : List (K × V)) (j : ℕ) (w : V) → keys_of (set_value_at es j w) ≡ keys_of es }
 {}

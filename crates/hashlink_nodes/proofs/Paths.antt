@@ -55,28 +55,37 @@ module _ {X : Type 0} (P : X → Type 0) where
   pub all_without : (xs : List X) (n : X) (ys : List X) → AllByRecursion P (xs ++ n ∷ ys) → AllByRecursion P (xs ++ ys)
   all_without xs n ys h = all_both xs ys (all_left xs (n ∷ ys) h) (all_right xs (n ∷ ys) h).1
 
-  pub all_with : (xs : List X) (n : X) (ys : List X) → P n → AllByRecursion P (xs ++ ys) → AllByRecursion P (xs ++ n ∷ ys)
+  pub all_with : (xs : List X) (n : X) (ys : List X) → P n → AllByRecursion P (xs ++ ys)
+      → AllByRecursion P (xs ++ n ∷ ys)
   all_with xs n ys p h = all_both xs (n ∷ ys) (all_left xs ys h) (p, all_right xs ys h)
 
   pub all_middle : (xs : List X) (n : X) (ys : List X) → AllByRecursion P (xs ++ n ∷ ys) → P n
   all_middle xs n ys h = (all_right xs (n ∷ ys) h).0
 
-pub all_as : {X : Type 0} {P Q : X → Type 0} → ((x : X) → P x → Q x) → (xs : List X) → AllByRecursion P xs → AllByRecursion Q xs
+pub all_as : {X : Type 0} {P Q : X → Type 0} → ((x : X) → P x → Q x) → (xs : List X) → AllByRecursion P xs
+    → AllByRecursion Q xs
 all_as f [] h = tt
 all_as f (x ∷ xs) h = (f x h.0, all_as f xs h.1)
 
 -- two facts of each make a third
-pub all_zip : {X : Type 0} {P Q R : X → Type 0} → ((x : X) → P x → Q x → R x) → (xs : List X) → AllByRecursion P xs → AllByRecursion Q xs → AllByRecursion R xs
+pub all_zip : {X : Type 0} {P Q R : X → Type 0} → ((x : X) → P x → Q x → R x) → (xs : List X) → AllByRecursion P xs
+    → AllByRecursion Q xs
+    → AllByRecursion R xs
 all_zip f [] h k = tt
 all_zip f (x ∷ xs) h k = (f x h.0 k.0, all_zip f xs h.1 k.1)
 
 -- the node in the middle stands first
-pub distinct_front : (xs : List Node) (n : Node) (ys : List Node) → IsDistinct same_node (xs ++ n ∷ ys) → IsOff n (xs ++ ys) × IsDistinct same_node (xs ++ ys)
+pub distinct_front : (xs : List Node) (n : Node) (ys : List Node) → IsDistinct same_node (xs ++ n ∷ ys)
+    → IsOff n (xs ++ ys) × IsDistinct same_node (xs ++ ys)
 unfolding IsDistinct
 distinct_front [] n ys d = d
-distinct_front (x ∷ xs) n ys d = let rest = distinct_front xs n ys d.1 in ((flip x n (all_middle (Off x) xs n ys d.0), rest.0), (all_without (Off x) xs n ys d.0, rest.1))
+distinct_front (x ∷ xs) n ys d =
+    let rest = distinct_front xs n ys d.1 in
+    ((flip x n (all_middle (Off x) xs n ys d.0), rest.0), (all_without (Off x) xs n ys d.0, rest.1))
 
-pub distinct_middle : (xs : List Node) (n : Node) (ys : List Node) → IsOff n (xs ++ ys) → IsDistinct same_node (xs ++ ys) → IsDistinct same_node (xs ++ n ∷ ys)
+pub distinct_middle : (xs : List Node) (n : Node) (ys : List Node) → IsOff n (xs ++ ys)
+    → IsDistinct same_node (xs ++ ys)
+    → IsDistinct same_node (xs ++ n ∷ ys)
 unfolding IsDistinct
 distinct_middle [] n ys o d = (o, d)
 distinct_middle (x ∷ xs) n ys o d = (all_with (Off x) xs n ys (flip n x o.0) d.0, distinct_middle xs n ys o.1 d.1)
@@ -108,7 +117,8 @@ module _ (f' f : Node → Node) where
   path_same a [] b h p = h.0 ∙ p
   path_same a (n ∷ ns) b h p = (h.0 ∙ p.0, path_same n ns b h.1 p.1)
 
-  pub back_same : (a : Node) (ns : List Node) (b : Node) → Agrees f' f ns → f' b ≡ f b → IsWayBack f a ns b → IsWayBack f' a ns b
+  pub back_same : (a : Node) (ns : List Node) (b : Node) → Agrees f' f ns → f' b ≡ f b → IsWayBack f a ns b
+      → IsWayBack f' a ns b
   back_same a [] b h k p = k ∙ p
   back_same a (n ∷ ns) b h k p = (h.0 ∙ p.0, back_same n ns b h.1 k p.1)
 
@@ -117,63 +127,111 @@ module _ (f' f : Node → Node) where
   chain_same a (n ∷ ns) h c = (c.0, subst (λ m. IsChain f' m ns) (sym h.0) (chain_same (f n) ns h.1 c.1))
 
 -- f' and f agree but at some nodes, which are none of these
-pub agrees_off : {X : Type 0} (f' f : Node → X) (p : Node) (ns : List Node) → ((m : Node) → same_node m p ≡ false → f' m ≡ f m) → IsOff p ns → Agrees f' f ns
+pub agrees_off : {X : Type 0} (f' f : Node → X) (p : Node) (ns : List Node)
+    → ((m : Node) → same_node m p ≡ false → f' m ≡ f m) → IsOff p ns
+    → Agrees f' f ns
 agrees_off f' f p ns others o = all_as (λ m h. others m (flip p m h)) ns o
 
-pub agrees_off_two : {X : Type 0} (f' f : Node → X) (n p : Node) (ns : List Node) → ((m : Node) → same_node m n ≡ false → same_node m p ≡ false → f' m ≡ f m) → IsOff n ns → IsOff p ns → Agrees f' f ns
+pub agrees_off_two : {X : Type 0} (f' f : Node → X) (n p : Node) (ns : List Node)
+    → ((m : Node) → same_node m n ≡ false → same_node m p ≡ false → f' m ≡ f m) → IsOff n ns → IsOff p ns
+    → Agrees f' f ns
 agrees_off_two f' f n p ns others o q = all_zip (λ m h k. others m (flip n m h) (flip p m k)) ns o q
 
 -- the node in the middle is cut out: the one before it leads to the one after it
-pub path_detach : (f' f : Node → Node) (n a : Node) (xs ys : List Node) (b : Node) → IsPath f a (xs ++ n ∷ ys) b → f' (last_or a xs) ≡ head_or b ys → ((m : Node) → same_node m (last_or a xs) ≡ false → f' m ≡ f m)
+pub path_detach : (f' f : Node → Node) (n a : Node) (xs ys : List Node) (b : Node) → IsPath f a (xs ++ n ∷ ys) b
+    → f' (last_or a xs) ≡ head_or b ys
+    → ((m : Node) → same_node m (last_or a xs) ≡ false → f' m ≡ f m)
     → IsDistinct same_node (a ∷ (xs ++ n ∷ ys)) → IsPath f' a (xs ++ ys) b
 path_detach f' f n a [] [] b p here others d = here
-path_detach f' f n a [] (y ∷ ys) b p here others d = (here, path_same f' f y ys b (agrees_off f' f a (y ∷ ys) others (distinct_head a _ d).1) p.1.1)
-path_detach f' f n a (x ∷ xs) ys b p here others d = (others a (off_last a x xs (n ∷ ys) (distinct_head a _ d)) ∙ p.0, path_detach f' f n x xs ys b p.1 here others (distinct_tail a _ d))
+path_detach f' f n a [] (y ∷ ys) b p here others d =
+    (here, path_same f' f y ys b (agrees_off f' f a (y ∷ ys) others (distinct_head a _ d).1) p.1.1)
+path_detach f' f n a (x ∷ xs) ys b p here others d = (
+  others a (off_last a x xs (n ∷ ys) (distinct_head a _ d))
+      ∙ p.0,
+  path_detach f' f n x xs ys b p.1 here others (distinct_tail a _ d),
+)
 
 -- a node goes in between
-pub path_attach : (f' f : Node → Node) (n a : Node) (xs ys : List Node) (b : Node) → IsPath f a (xs ++ ys) b → f' (last_or a xs) ≡ n → f' n ≡ head_or b ys
-    → ((m : Node) → same_node m n ≡ false → same_node m (last_or a xs) ≡ false → f' m ≡ f m) → IsDistinct same_node (n ∷ a ∷ (xs ++ ys)) → IsPath f' a (xs ++ n ∷ ys) b
+pub path_attach : (f' f : Node → Node) (n a : Node) (xs ys : List Node) (b : Node) → IsPath f a (xs ++ ys) b
+    → f' (last_or a xs) ≡ n
+    → f' n ≡ head_or b ys
+    → ((m : Node) → same_node m n ≡ false → same_node m (last_or a xs) ≡ false → f' m ≡ f m)
+    → IsDistinct same_node (n ∷ a ∷ (xs ++ ys)) → IsPath f' a (xs ++ n ∷ ys) b
 path_attach f' f n a [] [] b p here there others d = (here, there)
-path_attach f' f n a [] (y ∷ ys) b p here there others d =
-    (here, (there, path_same f' f y ys b (agrees_off_two f' f n a (y ∷ ys) others (distinct_head n _ d).1 (distinct_head a _ (distinct_tail n _ d))) p.1))
+path_attach f' f n a [] (y ∷ ys) b p here there others d = (
+  here,
+  (
+    there,
+    path_same f' f y ys b
+        (agrees_off_two f' f n a (y ∷ ys) others (distinct_head n _ d).1 (distinct_head a _ (distinct_tail n _ d))) p.1,
+  ),
+)
 path_attach f' f n a (x ∷ xs) ys b p here there others d =
-    let o = distinct_head n _ d in let e = distinct_tail n _ d in
-    (others a (flip n a o.0) (off_last a x xs ys (distinct_head a _ e)) ∙ p.0, path_attach f' f n x xs ys b p.1 here there others (distinct_cons n _ o.1 (distinct_tail a _ e)))
+    let o = distinct_head n _ d in let e = distinct_tail n _ d in (
+      others a (flip n a o.0) (off_last a x xs ys (distinct_head a _ e))
+          ∙ p.0,
+      path_attach f' f n x xs ys b p.1 here there others (distinct_cons n _ o.1 (distinct_tail a _ e)),
+    )
 
-pub off_head : (x : Node) (ys : List Node) (b : Node) → IsOff x ys → same_node x b ≡ false → same_node x (head_or b ys) ≡ false
+pub off_head : (x : Node) (ys : List Node) (b : Node) → IsOff x ys → same_node x b ≡ false
+    → same_node x (head_or b ys) ≡ false
 off_head x [] b o h = h
 off_head x (y ∷ ys) b o h = o.0
 
 -- the same for the links back
-pub back_detach : (f' f : Node → Node) (n a : Node) (xs ys : List Node) (b : Node) → IsWayBack f a (xs ++ n ∷ ys) b → f' (head_or b ys) ≡ last_or a xs → ((m : Node) → same_node m (head_or b ys) ≡ false → f' m ≡ f m)
+pub back_detach : (f' f : Node → Node) (n a : Node) (xs ys : List Node) (b : Node) → IsWayBack f a (xs ++ n ∷ ys) b
+    → f' (head_or b ys) ≡ last_or a xs
+    → ((m : Node) → same_node m (head_or b ys) ≡ false → f' m ≡ f m)
     → IsDistinct same_node (b ∷ (xs ++ n ∷ ys)) → IsWayBack f' a (xs ++ ys) b
 back_detach f' f n a [] [] b p here others d = here
 back_detach f' f n a [] (y ∷ ys) b p here others d =
-    let o = distinct_head b _ d in
-    (here, back_same f' f y ys b (agrees_off f' f y ys others (distinct_head y ys (distinct_tail n _ (distinct_tail b _ d)))) (others b o.1.0) p.1.1)
+    let o = distinct_head b _ d in (
+      here,
+      back_same f' f y ys b
+          (agrees_off f' f y ys others (distinct_head y ys (distinct_tail n _ (distinct_tail b _ d)))) (others b o.1.0)
+          p.1.1,
+    )
 back_detach f' f n a (x ∷ xs) ys b p here others d =
-    let o = distinct_head b _ d in let e = distinct_tail b _ d in
-    (others x (off_head x ys b (all_right (Off x) xs ys (all_without (Off x) xs n ys (distinct_head x _ e))) (flip b x o.0)) ∙ p.0, back_detach f' f n x xs ys b p.1 here others (distinct_cons b _ o.1 (distinct_tail x _ e)))
+    let o = distinct_head b _ d in let e = distinct_tail b _ d in (
+      others x
+          (off_head x ys b (all_right (Off x) xs ys (all_without (Off x) xs n ys (distinct_head x _ e))) (flip b x o.0))
+          ∙ p.0,
+      back_detach f' f n x xs ys b p.1 here others (distinct_cons b _ o.1 (distinct_tail x _ e)),
+    )
 
-pub back_attach : (f' f : Node → Node) (n a : Node) (xs ys : List Node) (b : Node) → IsWayBack f a (xs ++ ys) b → f' (head_or b ys) ≡ n → f' n ≡ last_or a xs
-    → ((m : Node) → same_node m n ≡ false → same_node m (head_or b ys) ≡ false → f' m ≡ f m) → IsDistinct same_node (n ∷ b ∷ (xs ++ ys)) → IsWayBack f' a (xs ++ n ∷ ys) b
+pub back_attach : (f' f : Node → Node) (n a : Node) (xs ys : List Node) (b : Node) → IsWayBack f a (xs ++ ys) b
+    → f' (head_or b ys) ≡ n
+    → f' n ≡ last_or a xs
+    → ((m : Node) → same_node m n ≡ false → same_node m (head_or b ys) ≡ false → f' m ≡ f m)
+    → IsDistinct same_node (n ∷ b ∷ (xs ++ ys)) → IsWayBack f' a (xs ++ n ∷ ys) b
 back_attach f' f n a [] [] b p here there others d = (there, here)
 back_attach f' f n a [] (y ∷ ys) b p here there others d =
-    let o = distinct_head n _ d in let e = distinct_tail n _ d in
-    (there, (here, back_same f' f y ys b (agrees_off_two f' f n y ys others o.1.1 (distinct_head y ys (distinct_tail b _ e))) (others b (flip n b o.0) (distinct_head b _ e).0) p.1))
+    let o = distinct_head n _ d in let e = distinct_tail n _ d in (
+      there,
+      (
+        here,
+        back_same f' f y ys b (agrees_off_two f' f n y ys others o.1.1 (distinct_head y ys (distinct_tail b _ e)))
+            (others b (flip n b o.0) (distinct_head b _ e).0) p.1,
+      ),
+    )
 back_attach f' f n a (x ∷ xs) ys b p here there others d =
     let o = distinct_head n _ d in let e = distinct_tail n _ d in let ob = distinct_head b _ e in (
-      others x (flip n x o.1.0) (off_head x ys b (all_right (Off x) xs ys (distinct_head x _ (distinct_tail b _ e))) (flip b x ob.0)) ∙ p.0,
-      back_attach f' f n x xs ys b p.1 here there others (distinct_cons n _ (o.0, o.1.1) (distinct_cons b _ ob.1 (distinct_tail x _ (distinct_tail b _ e)))),
+      others x (flip n x o.1.0)
+          (off_head x ys b (all_right (Off x) xs ys (distinct_head x _ (distinct_tail b _ e))) (flip b x ob.0))
+          ∙ p.0,
+      back_attach f' f n x xs ys b p.1 here there others
+          (distinct_cons n _ (o.0, o.1.1) (distinct_cons b _ ob.1 (distinct_tail x _ (distinct_tail b _ e)))),
     )
 
 -- what the links of a node in the middle are
-pub path_at : (f : Node → Node) (n a : Node) (xs ys : List Node) (b : Node) → IsPath f a (xs ++ n ∷ ys) b → f n ≡ head_or b ys
+pub path_at : (f : Node → Node) (n a : Node) (xs ys : List Node) (b : Node) → IsPath f a (xs ++ n ∷ ys) b
+    → f n ≡ head_or b ys
 path_at f n a [] [] b p = p.1
 path_at f n a [] (y ∷ ys) b p = p.1.0
 path_at f n a (x ∷ xs) ys b p = path_at f n x xs ys b p.1
 
-pub back_at : (f : Node → Node) (n a : Node) (xs ys : List Node) (b : Node) → IsWayBack f a (xs ++ n ∷ ys) b → f n ≡ last_or a xs
+pub back_at : (f : Node → Node) (n a : Node) (xs ys : List Node) (b : Node) → IsWayBack f a (xs ++ n ∷ ys) b
+    → f n ≡ last_or a xs
 back_at f n a [] ys b p = p.0
 back_at f n a (x ∷ xs) ys b p = back_at f n x xs ys b p.1
 
@@ -186,12 +244,14 @@ back_last f a [] b p = p
 back_last f a (n ∷ ns) b p = back_last f n ns b p.1
 
 -- what stands right before the first of the rest
-pub back_cut : (f : Node → Node) (a : Node) (xs ys : List Node) (b : Node) → IsWayBack f a (xs ++ ys) b → f (head_or b ys) ≡ last_or a xs
+pub back_cut : (f : Node → Node) (a : Node) (xs ys : List Node) (b : Node) → IsWayBack f a (xs ++ ys) b
+    → f (head_or b ys) ≡ last_or a xs
 back_cut f a xs [] b p = back_last f a xs b (subst (λ ns. IsWayBack f a ns b) (append-nil xs) p)
 back_cut f a xs (y ∷ ys) b p = back_at f y a xs ys b p
 
 -- what stands right after the last of the first
-pub path_cut : (f : Node → Node) (a : Node) (xs ys : List Node) (b : Node) → IsPath f a (xs ++ ys) b → f (last_or a xs) ≡ head_or b ys
+pub path_cut : (f : Node → Node) (a : Node) (xs ys : List Node) (b : Node) → IsPath f a (xs ++ ys) b
+    → f (last_or a xs) ≡ head_or b ys
 path_cut f a [] ys b p = path_first f a ys b p
 path_cut f a (x ∷ xs) ys b p = path_cut f x xs ys b p.1
 
@@ -210,7 +270,8 @@ chain_of_path : (f : Node → Node) (a : Node) (ns : List Node) (b : Node) → I
 chain_of_path f a [] b p = tt
 chain_of_path f a (n ∷ ns) b p = (p.0, chain_of_path f n ns b p.1)
 
-pub walk-path : (f : Node → Node) (a : Node) (ns : List Node) (b : Node) → IsPath f a ns b → walk f (f a) (length ns) ≡ ns
+pub walk-path : (f : Node → Node) (a : Node) (ns : List Node) (b : Node) → IsPath f a ns b
+    → walk f (f a) (length ns) ≡ ns
 walk-path f a ns b p = walk-chain f (f a) ns (chain_of_path f a ns b p)
 
 pub chain-walk : (f : Node → Node) (a : Node) (count : ℕ) → IsChain f a (walk f a count)

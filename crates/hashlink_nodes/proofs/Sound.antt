@@ -1,5 +1,6 @@
 -- A sound ring: how it is seen, and what it says of its nodes.
-use Rattle.std.proofs.Common.{◌≡◌, ℕ, zero, suc, ◌+◌, ◌-◌, ◌^◌, ◌<◌, true, false, List, [], ◌∷◌, ◌++◌, length, Option, None, Some, refl, sym, ap, ◌∙◌, subst, arith}
+use Rattle.std.proofs.Common.{◌≡◌, ℕ, zero, suc, ◌+◌, ◌-◌, ◌^◌, ◌<◌, true, false, List, [], ◌∷◌, ◌++◌, length, Option}
+use Rattle.std.proofs.Common.{None, Some, refl, sym, ap, ◌∙◌, subst, arith}
 use Rattle.std.specs.Prelude.{IfSome}
 use Rattle.std.specs.List.{AllByRecursion, IsDistinct}
 use Rattle.std.specs.Map.{lookup, keys_of}
@@ -10,7 +11,8 @@ use Rattle.hashlink_nodes.specs.Node.{same_node}
 use Rattle.hashlink_nodes.specs.State.{State, store_next, store_prev, hold, detached, attached}
 use Rattle.hashlink_nodes.specs.Shape.{IsShaped, IsSound, ring_of, walk, entries_of}
 use Rattle.hashlink_nodes.specs.Ring.{Ring, Holds}
-use Rattle.hashlink_nodes.proofs.Paths.{head_or, last_or, set_at_here, set_at_other, all_left, all_right, all_middle, distinct_tail, path_at, back_at, length-walk, walk-chain, walk-path}
+use Rattle.hashlink_nodes.proofs.Paths.{head_or, last_or, set_at_here, set_at_other, all_left, all_right, all_middle}
+use Rattle.hashlink_nodes.proofs.Paths.{distinct_tail, path_at, back_at, length-walk, walk-chain, walk-path}
 use Rattle.hashlink_nodes.proofs.Entries.{cut_at, says_at, keys-entries, length-entries}
 
 pub walk-more : (f : Node → Node) (a : Node) (count : ℕ) → 0 < count → walk f a count ≡ a ∷ walk f (f a) (count - 1)
@@ -40,10 +42,14 @@ module _ {K V : Type 0} where
     pub entries : (ring_of s (Some g) first len spare).entries ≡ entries_of s.held ns
     pub free : (ring_of s (Some g) first len spare).free ≡ fs
 
-  pub presents : (s : State K V) (g first : Node) (len spare : ℕ) (ns fs : List Node) → IsShaped s g first ns fs → length ns ≡ len → length fs ≡ spare → Presents s g first len spare ns fs
+  pub presents : (s : State K V) (g first : Node) (len spare : ℕ) (ns fs : List Node) → IsShaped s g first ns fs
+      → length ns ≡ len → length fs ≡ spare
+      → Presents s g first len spare ns fs
   presents s g first len spare ns fs h is_len is_spare =
-      let along : walk s.next (s.next g) len ≡ ns = ap (walk s.next (s.next g)) (sym is_len) ∙ walk-path s.next g ns g h.forward in
-      let spares : walk s.next first spare ≡ fs = ap (walk s.next first) (sym is_spare) ∙ walk-chain s.next first fs h.chain in
+      let along : walk s.next (s.next g) len ≡ ns
+      = ap (walk s.next (s.next g)) (sym is_len) ∙ walk-path s.next g ns g h.forward in
+      let spares : walk s.next first spare ≡ fs
+      = ap (walk s.next first) (sym is_spare) ∙ walk-chain s.next first fs h.chain in
       record {
         sound = subst (λ (l : List Node × List Node). IsShaped s g first l.0 l.1) (λ i. (sym along i, sym spares i)) h;
         entries = ap (entries_of s.held) along;
@@ -52,12 +58,14 @@ module _ {K V : Type 0} where
 
   -- ---- what a sound ring says
   module _ (s : State K V) (first : Node) (len spare : ℕ) where
-    pub length-ring : (guard : Option Node) → IsSound s guard first len spare → length (ring_of s guard first len spare).entries ≡ len
+    pub length-ring : (guard : Option Node) → IsSound s guard first len spare
+        → length (ring_of s guard first len spare).entries ≡ len
     unfolding entries_of
     length-ring None h = sym h.0
     length-ring (Some g) h = length-entries s.held _ h.full ∙ length-walk s.next (s.next g) len
 
-    pub length-spare : (guard : Option Node) → IsSound s guard first len spare → length (ring_of s guard first len spare).free ≡ spare
+    pub length-spare : (guard : Option Node) → IsSound s guard first len spare
+        → length (ring_of s guard first len spare).free ≡ spare
     length-spare None h = sym h.1
     length-spare (Some g) h = length-walk s.next first spare
 
@@ -65,14 +73,19 @@ module _ {K V : Type 0} where
     few None h = let e = h.0 in let k = h.1 in omega (arith, e, k)
     few (Some g) h = omega (arith, h.few, length-walk s.next (s.next g) len, length-walk s.next first spare)
 
-    pub apart : (guard : Option Node) → IsSound s guard first len spare → IsDistinct same_node (keys_of (ring_of s guard first len spare).entries ++ (ring_of s guard first len spare).free)
+    pub apart : (guard : Option Node) → IsSound s guard first len spare
+        → IsDistinct same_node
+        (keys_of (ring_of s guard first len spare).entries ++ (ring_of s guard first len spare).free)
     unfolding IsDistinct entries_of
     apart None h = tt
-    apart (Some g) h = subst (λ l. IsDistinct same_node (l ++ walk s.next first spare)) (sym (keys-entries s.held _ h.full)) (distinct_tail g _ h.apart)
+    apart (Some g) h =
+        subst (λ l. IsDistinct same_node (l ++ walk s.next first spare)) (sym (keys-entries s.held _ h.full))
+        (distinct_tail g _ h.apart)
 
   -- a node of the ring has a block, and so have its neighbours
 
-  pub record Leaves (s' : State K V) (guard : Option Node) (first : Node) (len spare : ℕ) (es : List (Node × Held K V)) (fs : List Node) : Type 0 where
+  pub record Leaves (s' : State K V) (guard : Option Node) (first : Node) (len spare : ℕ)
+      (es : List (Node × Held K V)) (fs : List Node) : Type 0 where
     pub sound : IsSound s' guard first len spare
     pub entries : (ring_of s' guard first len spare).entries ≡ es
     pub free : (ring_of s' guard first len spare).free ≡ fs
@@ -92,7 +105,8 @@ module _ {K V : Type 0} where
   unfolding hold
   held_here t m o = set_at_here t.held m o
 
-  pub held_apart : (t : State K V) (m a : Node) (k : Node) → same_node k m ≡ false → (store_next m a (hold m None (detached m t))).held k ≡ t.held k
+  pub held_apart : (t : State K V) (m a : Node) (k : Node) → same_node k m ≡ false
+      → (store_next m a (hold m None (detached m t))).held k ≡ t.held k
   unfolding store_next store_prev hold detached
   held_apart t m a k h = set_at_other t.held m k None h
 
@@ -120,7 +134,8 @@ module _ {K V : Type 0} where
   unfolding store_next store_prev detached attached
   writes_moved t m p q = omega arith
 
-  pub writes_freed : (t : State K V) (m a : Node) → (store_next m a (hold m None (detached m t))).link_writes ≡ t.link_writes + 3
+  pub writes_freed : (t : State K V) (m a : Node)
+      → (store_next m a (hold m None (detached m t))).link_writes ≡ t.link_writes + 3
   unfolding store_next store_prev hold detached
   writes_freed t m a = omega arith
 
@@ -134,10 +149,13 @@ module _ {K V : Type 0} where
     pub looked : lookup (same_node n) (entries_in s guard first len spare) ≡ Some value
     pub some : 0 < len
 
-  pub in_the_ring : (s : State K V) (guard : Option Node) (first : Node) (len spare : ℕ) (n : Node) → IsSound s guard first len spare → Holds (entries_in s guard first len spare) n → InRing s guard first len spare n
+  pub in_the_ring : (s : State K V) (guard : Option Node) (first : Node) (len spare : ℕ) (n : Node)
+      → IsSound s guard first len spare → Holds (entries_in s guard first len spare) n
+      → InRing s guard first len spare n
   in_the_ring s None first len spare n sound there = absurd (no_entry s first n len spare there)
   in_the_ring s (Some g) first len spare n sound there =
-      let ns = walk s.next (s.next g) len in let fs = walk s.next first spare in let H : Node → Type 0 = λ m. s.has m ≡ true in
+      let ns = walk s.next (s.next g) len in
+      let fs = walk s.next first spare in let H : Node → Type 0 = λ m. s.has m ≡ true in
       let c = cut_at s.held n ns sound.full there in let says = says_at s.held n ns c in
       let shaped = subst (λ l. IsShaped s g first l fs) c.is sound in
       let all = all_left H (c.before ++ n ∷ c.after) fs shaped.there.1 in
@@ -145,8 +163,13 @@ module _ {K V : Type 0} where
       record {
         value = c.value;
         has_node = all_middle H c.before n c.after all;
-        has_next = ap s.has (path_at s.next n g c.before c.after g shaped.forward) ∙ of_head H g (c.before ++ n ∷ []) c.after shaped.there.0 (subst (AllByRecursion H) (sym (append_assoc c.before (n ∷ []) c.after)) all);
-        has_prev = ap s.has (back_at s.prev n g c.before c.after g shaped.backward) ∙ of_last H g c.before (n ∷ c.after) (shaped.there.0, all);
+        has_next =
+            ap s.has (path_at s.next n g c.before c.after g shaped.forward)
+            ∙ of_head H g (c.before ++ n ∷ []) c.after shaped.there.0
+            (subst (AllByRecursion H) (sym (append_assoc c.before (n ∷ []) c.after)) all);
+        has_prev =
+            ap s.has (back_at s.prev n g c.before c.after g shaped.backward)
+            ∙ of_last H g c.before (n ∷ c.after) (shaped.there.0, all);
         holds = c.holds;
         looked = says.looked;
         some = omega (arith, len_ns, ap length c.is, length-append c.before (n ∷ c.after));
@@ -159,16 +182,28 @@ module _ {K V : Type 0} where
     pub small : len + spare < 2 ^ 63
     pub differ : IsDistinct same_node (keys_of v.entries ++ v.free)
 
-  pub facts : (s : State K V) (guard : Option Node) (first : Node) (len spare : ℕ) → IsSound s guard first len spare → (v : Ring K V) → ring_of s guard first len spare ≡ v → Facts len spare v
-  facts s guard first len spare sound v view = subst (Facts len spare) view (record { is_len = length-ring s first len spare guard sound; is_spare = length-spare s first len spare guard sound; small = few s first len spare guard sound; differ = apart s first len spare guard sound })
+  pub facts : (s : State K V) (guard : Option Node) (first : Node) (len spare : ℕ) → IsSound s guard first len spare
+      → (v : Ring K V) → ring_of s guard first len spare ≡ v
+      → Facts len spare v
+  facts s guard first len spare sound v view =
+      subst (Facts len spare) view
+      (record {
+        is_len = length-ring s first len spare guard sound;
+        is_spare = length-spare s first len spare guard sound;
+        small = few s first len spare guard sound;
+        differ = apart s first len spare guard sound;
+      })
 
   -- a sound ring with its guard named
-  pub record Opened (s : State K V) (guard : Option Node) (g first : Node) (len spare : ℕ) (v : Ring K V) : Type 0 where
+  pub record Opened (s : State K V) (guard : Option Node) (g first : Node) (len spare : ℕ) (v : Ring K V) : Type
+      0 where
     pub sound : IsSound s (Some g) first len spare
     pub view : ring_of s (Some g) first len spare ≡ v
     pub is : guard ≡ Some g
 
-  pub opened : (s : State K V) (guard : Option Node) (g first : Node) (len spare : ℕ) → IsSound s guard first len spare → guard ≡ Some g → (v : Ring K V) → ring_of s guard first len spare ≡ v → Opened s guard g first len spare v
+  pub opened : (s : State K V) (guard : Option Node) (g first : Node) (len spare : ℕ)
+      → IsSound s guard first len spare → guard ≡ Some g → (v : Ring K V) → ring_of s guard first len spare ≡ v
+      → Opened s guard g first len spare v
   opened s guard g first len spare sound is v view = record {
     sound = subst (λ o. IsSound s o first len spare) is sound;
     view = ap (λ o. ring_of s o first len spare) (sym is) ∙ view;
@@ -176,23 +211,37 @@ module _ {K V : Type 0} where
   }
 
   -- and the name forgotten
-  pub closed : (s : State K V) (guard : Option Node) (g first : Node) (len spare : ℕ) (es : List (Node × Held K V)) (fs : List Node) → guard ≡ Some g → Leaves s (Some g) first len spare es fs → Leaves s guard first len spare es fs
+  pub closed : (s : State K V) (guard : Option Node) (g first : Node) (len spare : ℕ) (es : List (Node × Held K V))
+      (fs : List Node)
+      → guard ≡ Some g → Leaves s (Some g) first len spare es fs
+      → Leaves s guard first len spare es fs
   closed s guard g first len spare es fs is l = subst (λ o. Leaves s o first len spare es fs) (sym is) l
 
   -- the steps of a push
 
-  pub no_spare : (s : State K V) (guard : Option Node) (first : Node) (len spare : ℕ) (v : Ring K V) → ring_of s guard first len spare ≡ v → guard ≡ None → 0 < length v.free → ⊥
+  pub no_spare : (s : State K V) (guard : Option Node) (first : Node) (len spare : ℕ) (v : Ring K V)
+      → ring_of s guard first len spare ≡ v → guard ≡ None → 0 < length v.free
+      → ⊥
   no_spare s guard first len spare v view is some =
-      let e : 0 ≡ length v.free = ap (λ o. length (free_in s o first len spare)) (sym is) ∙ ap (λ (r : Ring K V). length r.free) view in omega (arith, e, some)
+      let e : 0 ≡ length v.free
+      = ap (λ o. length (free_in s o first len spare)) (sym is) ∙ ap (λ (r : Ring K V). length r.free) view in
+      omega (arith, e, some)
 
   -- the steps of a removal
 
-  pub node_of : (s : State K V) (guard : Option Node) (first : Node) (len spare : ℕ) → IsSound s guard first len spare → (v : Ring K V) → ring_of s guard first len spare ≡ v → (n : Node) → Holds v.entries n → InRing s guard first len spare n
-  node_of s guard first len spare sound v view n there = in_the_ring s guard first len spare n sound (subst (λ (r : Ring K V). Holds r.entries n) (sym view) there)
+  pub node_of : (s : State K V) (guard : Option Node) (first : Node) (len spare : ℕ) → IsSound s guard first len spare
+      → (v : Ring K V) → ring_of s guard first len spare ≡ v → (n : Node) → Holds v.entries n
+      → InRing s guard first len spare n
+  node_of s guard first len spare sound v view n there =
+      in_the_ring s guard first len spare n sound (subst (λ (r : Ring K V). Holds r.entries n) (sym view) there)
 
-  pub guard_there : (s : State K V) (guard : Option Node) (first : Node) (len spare : ℕ) (v : Ring K V) → ring_of s guard first len spare ≡ v → (n : Node) → Holds v.entries n → guard ≡ None → ⊥
+  pub guard_there : (s : State K V) (guard : Option Node) (first : Node) (len spare : ℕ) (v : Ring K V)
+      → ring_of s guard first len spare ≡ v → (n : Node) → Holds v.entries n → guard ≡ None
+      → ⊥
   guard_there s guard first len spare v view n there is =
-      no_entry s first n len spare (subst (λ o. Holds (entries_in s o first len spare) n) is (subst (λ (r : Ring K V). Holds r.entries n) (sym view) there))
+      no_entry s first n len spare
+      (subst (λ o. Holds (entries_in s o first len spare) n) is
+      (subst (λ (r : Ring K V). Holds r.entries n) (sym view) there))
 
 pub if_some : {X : Type 0} {o : Option X} {x : X} (P : X → Type 0) → o ≡ Some x → P x → IfSome o P
 if_some P e p = subst (λ o. IfSome o P) (sym e) p

@@ -1,12 +1,14 @@
 -- What the state of the blocks is after one of them changed, came or went.
-use Rattle.std.proofs.Common.{◌≡◌, ℕ, ◌+◌, Bool, true, false, cond, List, [], ◌∷◌, length, Option, None, Some, IsSome, refl, sym, ap, ◌∙◌, arith}
+use Rattle.std.proofs.Common.{◌≡◌, ℕ, ◌+◌, Bool, true, false, cond, List, [], ◌∷◌, length, Option, None, Some, IsSome}
+use Rattle.std.proofs.Common.{refl, sym, ap, ◌∙◌, arith}
 use Rattle.std.specs.Prelude.{is_some}
 use Rattle.std.specs.Map.{lookup, set_value, remove_entry}
 use Rattle.std.proofs.lemmas.Map.{lookup-set_value, length-set_value}
 use Rattle.std.specs.declared.mem.ManuallyDrop.{ManuallyDrop}
 use Rattle.hashlink_nodes.specs.Node.{same_node, same_node_equiv, eq-same_node, same_node-refl}
 use Rattle.hashlink_nodes.specs.Links.{around, with_link}
-use Rattle.hashlink_nodes.specs.State.{State, Blocks, state, set_at, next_in, prev_in, held_in, store_next, store_prev, hold, add, Drops}
+use Rattle.hashlink_nodes.specs.State.{State, Blocks, state, set_at, next_in, prev_in, held_in, store_next}
+use Rattle.hashlink_nodes.specs.State.{store_prev, hold, add, Drops}
 use Rattle.hashlink_nodes.specs.declared.node.Node.{Node}
 use Rattle.hashlink_nodes.specs.declared.held.Held.{Held}
 use Rattle.hashlink_nodes.specs.declared.links.Links.{Links}
@@ -19,52 +21,74 @@ use Rattle.hashlink_nodes.specs.Ring.{with_value}
 use Rattle.std.specs.Option.{option_map}
 
 module _ {X : Type 0} where
-  lookup_set : (n m : Node) (bs : List (Node × X)) (b w : X) → lookup (same_node n) bs ≡ Some b → lookup (same_node m) (set_value (same_node n) bs w) ≡ cond (same_node m n) (Some w) (lookup (same_node m) bs)
+  lookup_set : (n m : Node) (bs : List (Node × X)) (b w : X) → lookup (same_node n) bs ≡ Some b
+      → lookup (same_node m) (set_value (same_node n) bs w) ≡ cond (same_node m n) (Some w) (lookup (same_node m) bs)
   lookup_set n m bs b w e =
       let there : is_some (lookup (same_node n) bs) ≡ true = ap is_some e in
-      lookup-set_value same_node_equiv (same_node n) (λ x y h. same_node_equiv.congr n x y h) m w bs there ∙ ap (λ y. cond y (Some w) (lookup (same_node m) bs)) (same_node_equiv.symm n m)
+      lookup-set_value same_node_equiv (same_node n) (λ x y h. same_node_equiv.congr n x y h) m w bs there
+      ∙ ap (λ y. cond y (Some w) (lookup (same_node m) bs)) (same_node_equiv.symm n m)
 
-  pub lookup_removed : (n m : Node) (bs : List (Node × X)) → same_node m n ≡ false → lookup (same_node m) (remove_entry (same_node n) bs) ≡ lookup (same_node m) bs
+  pub lookup_removed : (n m : Node) (bs : List (Node × X)) → same_node m n ≡ false
+      → lookup (same_node m) (remove_entry (same_node n) bs) ≡ lookup (same_node m) bs
   lookup_removed n m [] h = refl
-  lookup_removed n m (b ∷ bs) h = (elim (same_node n b.0) as (λ (y : Bool). same_node n b.0 ≡ y → lookup (same_node m) (cond y bs (b ∷ remove_entry (same_node n) bs)) ≡ cond (same_node m b.0) (Some b.1) (lookup (same_node m) bs)) [
-    | true ↦ λ same. let here : same_node m b.0 ≡ false = ap (λ k. same_node m k) (sym (eq-same_node n b.0 same)) ∙ h in sym (ap (λ y. cond y (Some b.1) (lookup (same_node m) bs)) here)
-    | false ↦ λ _. ap (λ o. cond (same_node m b.0) (Some b.1) o) (lookup_removed n m bs h)
-  ]) refl
+  lookup_removed n m (b ∷ bs) h =
+      (elim (same_node n b.0) as
+      (λ (y : Bool). same_node n b.0 ≡ y
+      → lookup (same_node m) (cond y bs (b ∷ remove_entry (same_node n) bs))
+      ≡ cond (same_node m b.0) (Some b.1) (lookup (same_node m) bs)) [
+        | true ↦ λ same. let here : same_node m b.0 ≡ false = ap (λ k. same_node m k) (sym (eq-same_node n b.0 same))
+            ∙ h in sym (ap (λ y. cond y (Some b.1) (lookup (same_node m) bs)) here)
+        | false ↦ λ _. ap (λ o. cond (same_node m b.0) (Some b.1) o) (lookup_removed n m bs h)
+      ]) refl
 
-  pub length_removed : (n : Node) (bs : List (Node × X)) → is_some (lookup (same_node n) bs) ≡ true → length (remove_entry (same_node n) bs) + 1 ≡ length bs
+  pub length_removed : (n : Node) (bs : List (Node × X)) → is_some (lookup (same_node n) bs) ≡ true
+      → length (remove_entry (same_node n) bs) + 1 ≡ length bs
   length_removed n [] h = absurd (cc h)
-  length_removed n (b ∷ bs) h = (elim (same_node n b.0) as (λ (y : Bool). is_some (cond y (Some b.1) (lookup (same_node n) bs)) ≡ true → length (cond y bs (b ∷ remove_entry (same_node n) bs)) + 1 ≡ length (b ∷ bs)) [
-    | true ↦ λ _. omega arith
-    | false ↦ λ k. omega (arith, length_removed n bs k)
-  ]) h
+  length_removed n (b ∷ bs) h =
+      (elim (same_node n b.0) as
+      (λ (y : Bool). is_some (cond y (Some b.1) (lookup (same_node n) bs)) ≡ true
+      → length (cond y bs (b ∷ remove_entry (same_node n) bs)) + 1 ≡ length (b ∷ bs)) [
+        | true ↦ λ _. omega arith
+        | false ↦ λ k. omega (arith, length_removed n bs k)
+      ]) h
 
   -- what is read of a node whose block comes first
-  seen_first : {Y : Type 0} (f : Node → Option X → Y) (n m : Node) (w : X) (o : Option X) → f m (cond (same_node m n) (Some w) o) ≡ cond (same_node m n) (f n (Some w)) (f m o)
-  seen_first f n m w o = (elim (same_node m n) as (λ (y : Bool). same_node m n ≡ y → f m (cond y (Some w) o) ≡ cond y (f n (Some w)) (f m o)) [
-    | true ↦ λ same. ap (λ k. f k (Some w)) (eq-same_node m n same)
-    | false ↦ λ _. refl
-  ]) refl
+  seen_first : {Y : Type 0} (f : Node → Option X → Y) (n m : Node) (w : X) (o : Option X)
+      → f m (cond (same_node m n) (Some w) o) ≡ cond (same_node m n) (f n (Some w)) (f m o)
+  seen_first f n m w o =
+      (elim (same_node m n) as
+      (λ (y : Bool). same_node m n ≡ y → f m (cond y (Some w) o) ≡ cond y (f n (Some w)) (f m o)) [
+        | true ↦ λ same. ap (λ k. f k (Some w)) (eq-same_node m n same)
+        | false ↦ λ _. refl
+      ]) refl
 
   -- what is read of each node
   abbrev reads : {Y : Type 0} → (Node → Option X → Y) → List (Node × X) → Node → Y
   reads f bs m = f m (lookup (same_node m) bs)
 
-  module _ {Y : Type 0} (f : Node → Option X → Y) (n : Node) (bs : List (Node × X)) (b w : X) (e : lookup (same_node n) bs ≡ Some b) where
+  module _ {Y : Type 0} (f : Node → Option X → Y) (n : Node) (bs : List (Node × X)) (b w : X)
+      (e : lookup (same_node n) bs ≡ Some b) where
     -- after a write at n
     seen_at : reads f (set_value (same_node n) bs w) ≡ set_at (reads f bs) n (f n (Some w))
     seen_at = λ i m. (ap (f m) (lookup_set n m bs b w e) ∙ seen_first f n m w (lookup (same_node m) bs)) i
 
-    same_there : f n (Some w) ≡ f n (Some b) → (m : Node) → f m (cond (same_node m n) (Some w) (lookup (same_node m) bs)) ≡ f m (lookup (same_node m) bs)
-    same_there kept m = (elim (same_node m n) as (λ (y : Bool). same_node m n ≡ y → f m (cond y (Some w) (lookup (same_node m) bs)) ≡ f m (lookup (same_node m) bs)) [
-      | true ↦ λ same. let is : m ≡ n = eq-same_node m n same in ap (λ k. f k (Some w)) is ∙ kept ∙ ap (f n) (sym e) ∙ ap (λ k. f k (lookup (same_node k) bs)) (sym is)
-      | false ↦ λ _. refl
-    ]) refl
+    same_there : f n (Some w) ≡ f n (Some b) → (m : Node)
+        → f m (cond (same_node m n) (Some w) (lookup (same_node m) bs)) ≡ f m (lookup (same_node m) bs)
+    same_there kept m =
+        (elim (same_node m n) as
+        (λ (y : Bool). same_node m n ≡ y
+        → f m (cond y (Some w) (lookup (same_node m) bs)) ≡ f m (lookup (same_node m) bs)) [
+          | true ↦ λ same. let is : m ≡ n = eq-same_node m n same in ap (λ k. f k (Some w)) is ∙ kept ∙ ap (f n) (sym e)
+              ∙ ap (λ k. f k (lookup (same_node k) bs)) (sym is)
+          | false ↦ λ _. refl
+        ]) refl
 
     -- where the write changes nothing that is read
     seen_same : f n (Some w) ≡ f n (Some b) → reads f (set_value (same_node n) bs w) ≡ reads f bs
     seen_same kept = λ i m. (ap (f m) (lookup_set n m bs b w e) ∙ same_there kept m) i
 
-module _ {K V : Type 0} (bs : Blocks K V) (count count' : ℕ) (n : Node) (found : ManuallyDrop (Block K V)) (old : Block K V) (e : lookup (same_node n) bs ≡ Some found) (is_old : old ≡ found.value) where
+module _ {K V : Type 0} (bs : Blocks K V) (count count' : ℕ) (n : Node) (found : ManuallyDrop (Block K V))
+    (old : Block K V) (e : lookup (same_node n) bs ≡ Some found) (is_old : old ≡ found.value) where
   abbrev Next_of : Node → Option (ManuallyDrop (Block K V)) → Node
   Next_of = next_in
 
@@ -84,8 +108,13 @@ module _ {K V : Type 0} (bs : Blocks K V) (count count' : ℕ) (n : Node) (found
       → state (set_value (same_node n) bs (written links old.held)) count' ≡ store_next n to (state bs count)
   unfolding store_next
   stored_next to links is_new raised = let w = written links old.held in λ i. record {
-    next = (seen_at Next_of n bs found w e ∙ ap (λ x. set_at (state bs count).next n x) (ap (λ (l : Links). l.next) is_new)) i;
-    prev = seen_same Prev_of n bs found w e (ap (λ (l : Links). l.prev) is_new ∙ ap (λ (o : Block K V). o.links.prev) is_old) i;
+    next =
+        (seen_at Next_of n bs found w e
+        ∙ ap (λ x. set_at (state bs count).next n x) (ap (λ (l : Links). l.next) is_new))
+        i;
+    prev =
+        seen_same Prev_of n bs found w e
+        (ap (λ (l : Links). l.prev) is_new ∙ ap (λ (o : Block K V). o.links.prev) is_old) i;
     held = seen_same Held_of n bs found w e (ap (λ (o : Block K V). o.held) is_old) i;
     has = seen_same Has n bs found w e refl i;
     size = length-set_value (same_node n) bs w i;
@@ -96,15 +125,21 @@ module _ {K V : Type 0} (bs : Blocks K V) (count count' : ℕ) (n : Node) (found
       → state (set_value (same_node n) bs (written links old.held)) count' ≡ store_prev n to (state bs count)
   unfolding store_prev
   stored_prev to links is_new raised = let w = written links old.held in λ i. record {
-    next = seen_same Next_of n bs found w e (ap (λ (l : Links). l.next) is_new ∙ ap (λ (o : Block K V). o.links.next) is_old) i;
-    prev = (seen_at Prev_of n bs found w e ∙ ap (λ x. set_at (state bs count).prev n x) (ap (λ (l : Links). l.prev) is_new)) i;
+    next =
+        seen_same Next_of n bs found w e
+        (ap (λ (l : Links). l.next) is_new ∙ ap (λ (o : Block K V). o.links.next) is_old) i;
+    prev =
+        (seen_at Prev_of n bs found w e
+        ∙ ap (λ x. set_at (state bs count).prev n x) (ap (λ (l : Links). l.prev) is_new))
+        i;
     held = seen_same Held_of n bs found w e (ap (λ (o : Block K V). o.held) is_old) i;
     has = seen_same Has n bs found w e refl i;
     size = length-set_value (same_node n) bs w i;
     link_writes = raised i;
   }
 
-  pub held_anew : (h h' : Option (Held K V)) → h' ≡ h → state (set_value (same_node n) bs (written old.links h')) count ≡ hold n h (state bs count)
+  pub held_anew : (h h' : Option (Held K V)) → h' ≡ h
+      → state (set_value (same_node n) bs (written old.links h')) count ≡ hold n h (state bs count)
   unfolding hold
   held_anew h h' is_new = let w = written old.links h' in λ i. record {
     next = seen_same Next_of n bs found w e (ap (λ (o : Block K V). o.links.next) is_old) i;
@@ -117,35 +152,62 @@ module _ {K V : Type 0} (bs : Blocks K V) (count count' : ℕ) (n : Node) (found
 
 module _ {K V : Type 0} where
   -- n's block is the first, and links to n itself
-  added_first : (bs : Blocks K V) (count : ℕ) (n : Node) (w : ManuallyDrop (Block K V)) → w.value.links ≡ around n → w.value.held ≡ None → state ((n, w) ∷ bs) count ≡ add n (state bs count)
+  added_first : (bs : Blocks K V) (count : ℕ) (n : Node) (w : ManuallyDrop (Block K V)) → w.value.links ≡ around n
+      → w.value.held ≡ None
+      → state ((n, w) ∷ bs) count ≡ add n (state bs count)
   unfolding add
   added_first bs count n w links held =
       λ i. record {
-        next = λ m. (seen_first next_in n m w (lookup (same_node m) bs) ∙ ap (λ x. cond (same_node m n) x ((state bs count).next m)) (ap (λ (l : Links). l.next) links)) i;
-        prev = λ m. (seen_first prev_in n m w (lookup (same_node m) bs) ∙ ap (λ x. cond (same_node m n) x ((state bs count).prev m)) (ap (λ (l : Links). l.prev) links)) i;
-        held = λ m. (seen_first (λ (k : Node). held_in) n m w (lookup (same_node m) bs) ∙ ap (λ x. cond (same_node m n) x ((state bs count).held m)) held) i;
+        next =
+            λ m.
+            (seen_first next_in n m w (lookup (same_node m) bs)
+            ∙ ap (λ x. cond (same_node m n) x ((state bs count).next m)) (ap (λ (l : Links). l.next) links))
+            i;
+        prev =
+            λ m.
+            (seen_first prev_in n m w (lookup (same_node m) bs)
+            ∙ ap (λ x. cond (same_node m n) x ((state bs count).prev m)) (ap (λ (l : Links). l.prev) links))
+            i;
+        held =
+            λ m.
+            (seen_first (λ (k : Node). held_in) n m w (lookup (same_node m) bs)
+            ∙ ap (λ x. cond (same_node m n) x ((state bs count).held m)) held)
+            i;
         has = λ m. seen_first (λ (k : Node). is_some) n m w (lookup (same_node m) bs) i;
         size = (let e : length ((n, w) ∷ bs) ≡ length bs + 1 = omega arith in e) i;
         link_writes = count;
       }
 
-  pub added : (bs bs' : Blocks K V) (count : ℕ) (n : Node) (kept found : ManuallyDrop (Block K V)) (old : Block K V) (links : Links)
-      → bs' ≡ (n, kept) ∷ bs → lookup (same_node n) bs' ≡ Some found → old ≡ found.value → kept.value.held ≡ None → links ≡ around n
-      → state (set_value (same_node n) bs' (record { value = record { links = links; held = old.held } })) count ≡ add n (state bs count)
+  pub added : (bs bs' : Blocks K V) (count : ℕ) (n : Node) (kept found : ManuallyDrop (Block K V)) (old : Block K V)
+      (links : Links)
+      → bs' ≡ (n, kept) ∷ bs → lookup (same_node n) bs' ≡ Some found → old ≡ found.value → kept.value.held ≡ None
+      → links ≡ around n
+      → state (set_value (same_node n) bs' (record { value = record { links = links; held = old.held } })) count
+      ≡ add n (state bs count)
   added bs bs' count n kept found old links is e is_old bare is_around =
       let w : ManuallyDrop (Block K V) = record { value = record { links = links; held = old.held } } in
       let here = same_node-refl n in
-      let first : Some kept ≡ Some found = sym (ap (λ y. cond y (Some kept) (lookup (same_node n) bs)) here) ∙ sym (ap (lookup (same_node n)) is) ∙ e in
+      let first : Some kept ≡ Some found
+      = sym (ap (λ y. cond y (Some kept) (lookup (same_node n) bs)) here) ∙ sym (ap (lookup (same_node n)) is) ∙ e in
       let same : kept ≡ found = cc in
-      let none : old.held ≡ None = ap (λ (o : Block K V). o.held) (is_old ∙ ap (λ (m : ManuallyDrop (Block K V)). m.value) (sym same)) ∙ bare in
-      ap (λ (cs : Blocks K V). state (set_value (same_node n) cs w) count) is ∙ ap (λ y. state (cond y ((n, w) ∷ bs) ((n, kept) ∷ set_value (same_node n) bs w)) count) here ∙ added_first bs count n w is_around none
+      let none : old.held ≡ None
+      = ap (λ (o : Block K V). o.held) (is_old ∙ ap (λ (m : ManuallyDrop (Block K V)). m.value) (sym same)) ∙ bare in
+      ap (λ (cs : Blocks K V). state (set_value (same_node n) cs w) count) is
+      ∙ ap (λ y. state (cond y ((n, w) ∷ bs) ((n, kept) ∷ set_value (same_node n) bs w)) count) here
+      ∙ added_first bs count n w is_around none
 
-  pub kept_first : (bs bs' : Blocks K V) (n : Node) (kept : ManuallyDrop (Block K V)) → bs' ≡ (n, kept) ∷ bs → IsSome (lookup (same_node n) bs')
-  kept_first bs bs' n kept is = ap (λ (cs : Blocks K V). is_some (lookup (same_node n) cs)) is ∙ ap (λ y. is_some (cond y (Some kept) (lookup (same_node n) bs))) (same_node-refl n)
+  pub kept_first : (bs bs' : Blocks K V) (n : Node) (kept : ManuallyDrop (Block K V)) → bs' ≡ (n, kept) ∷ bs
+      → IsSome (lookup (same_node n) bs')
+  kept_first bs bs' n kept is =
+      ap (λ (cs : Blocks K V). is_some (lookup (same_node n) cs)) is
+      ∙ ap (λ y. is_some (cond y (Some kept) (lookup (same_node n) bs))) (same_node-refl n)
 
-  pub dropped : (bs bs' : Blocks K V) (count : ℕ) (n : Node) → is_some (lookup (same_node n) bs) ≡ true → bs' ≡ remove_entry (same_node n) bs → Drops n (state bs count) (state bs' count)
+  pub dropped : (bs bs' : Blocks K V) (count : ℕ) (n : Node) → is_some (lookup (same_node n) bs) ≡ true
+      → bs' ≡ remove_entry (same_node n) bs
+      → Drops n (state bs count) (state bs' count)
   dropped bs bs' count n there is =
-      let at : (m : Node) → same_node m n ≡ false → lookup (same_node m) bs' ≡ lookup (same_node m) bs = λ m h. ap (lookup (same_node m)) is ∙ lookup_removed n m bs h in
+      let at : (m : Node) → same_node m n ≡ false → lookup (same_node m) bs' ≡ lookup (same_node m) bs
+      = λ m h. ap (lookup (same_node m)) is ∙ lookup_removed n m bs h in
       record {
         next = λ m h. ap (next_in m) (at m h);
         prev = λ m h. ap (prev_in m) (at m h);
@@ -160,23 +222,36 @@ module _ {K V : Type 0} where
   unfolding store_next
   has_after_next n to s = refl
 
-pub alter_is : {K X : Type 0} (test : K → Bool) (f : X → X) (es : List (K × X)) (b : X) → lookup test es ≡ Some b → alter test f es ≡ set_value test es (f b)
+pub alter_is : {K X : Type 0} (test : K → Bool) (f : X → X) (es : List (K × X)) (b : X) → lookup test es ≡ Some b
+    → alter test f es ≡ set_value test es (f b)
 alter_is test f [] b e = absurd (cc e)
-alter_is test f (x ∷ es) b e = (elim (test x.0) as (λ (y : Bool). cond y (Some x.1) (lookup test es) ≡ Some b → cond y ((x.0, f x.1) ∷ es) (x ∷ alter test f es) ≡ cond y ((x.0, f b) ∷ es) (x ∷ set_value test es (f b))) [
-  | true ↦ λ k. let same : x.1 ≡ b = cc in ap (λ v. (x.0, f v) ∷ es) same
-  | false ↦ λ k. ap (λ l. x ∷ l) (alter_is test f es b k)
-]) e
+alter_is test f (x ∷ es) b e =
+    (elim (test x.0) as
+    (λ (y : Bool). cond y (Some x.1) (lookup test es) ≡ Some b
+    → cond y ((x.0, f x.1) ∷ es) (x ∷ alter test f es) ≡ cond y ((x.0, f b) ∷ es) (x ∷ set_value test es (f b))) [
+      | true ↦ λ k. let same : x.1 ≡ b = cc in ap (λ v. (x.0, f v) ∷ es) same
+      | false ↦ λ k. ap (λ l. x ∷ l) (alter_is test f es b k)
+    ]) e
 
 -- the blocks with another value at a node that holds one
-pub value_anew : {K V : Type 0} (c : Cells K V) (n : Node) (w : V) (found : ManuallyDrop (Block K V)) (h : Held K V) → lookup (same_node n) c.arena.blocks ≡ Some found → found.value.held ≡ Some h
+pub value_anew : {K V : Type 0} (c : Cells K V) (n : Node) (w : V) (found : ManuallyDrop (Block K V)) (h : Held K V)
+    → lookup (same_node n) c.arena.blocks ≡ Some found
+    → found.value.held ≡ Some h
     → state_of (cells_with c n w) ≡ hold n (Some (with_value h w)) (state_of c)
 value_anew c n w found h e holds =
     ap (λ bs. state bs c.writes.count) (alter_is (same_node n) (kept_with w) c.arena.blocks found e)
-    ∙ held_anew c.arena.blocks c.writes.count 0 n found found.value e refl (Some (with_value h w)) (option_map (λ x. with_value x w) found.value.held) (ap (option_map (λ x. with_value x w)) holds)
+    ∙ held_anew c.arena.blocks c.writes.count 0 n found found.value e refl (Some (with_value h w))
+    (option_map (λ x. with_value x w) found.value.held) (ap (option_map (λ x. with_value x w)) holds)
 
 -- a node that holds something has a block
-pub block_found : {K V : Type 0} (c : Cells K V) (n : Node) (h : Held K V) → (state_of c).held n ≡ Some h → (found : ManuallyDrop (Block K V)) × ((lookup (same_node n) c.arena.blocks ≡ Some found) × (found.value.held ≡ Some h))
-block_found {K} {V} c n h e = (elim (lookup (same_node n) c.arena.blocks) as (λ (o : Option (ManuallyDrop (Block K V))). lookup (same_node n) c.arena.blocks ≡ o → held_in o ≡ Some h → (found : ManuallyDrop (Block K V)) × ((lookup (same_node n) c.arena.blocks ≡ Some found) × (found.value.held ≡ Some h))) [
-  | None ↦ λ _ k. absurd (cc k)
-  | Some b ↦ λ is k. (b, (is, k))
-]) refl e
+pub block_found : {K V : Type 0} (c : Cells K V) (n : Node) (h : Held K V) → (state_of c).held n ≡ Some h
+    → (found : ManuallyDrop (Block K V))
+    × ((lookup (same_node n) c.arena.blocks ≡ Some found) × (found.value.held ≡ Some h))
+block_found {K} {V} c n h e =
+    (elim (lookup (same_node n) c.arena.blocks) as
+    (λ (o : Option (ManuallyDrop (Block K V))). lookup (same_node n) c.arena.blocks ≡ o → held_in o ≡ Some h
+    → (found : ManuallyDrop (Block K V))
+    × ((lookup (same_node n) c.arena.blocks ≡ Some found) × (found.value.held ≡ Some h))) [
+      | None ↦ λ _ k. absurd (cc k)
+      | Some b ↦ λ is k. (b, (is, k))
+    ]) refl e

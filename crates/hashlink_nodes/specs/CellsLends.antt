@@ -7,7 +7,7 @@ use Rattle.hashlink_nodes.specs.declared.block.Block.{Block}
 use Rattle.hashlink_nodes.specs.declared.cells.Cells.{Cells}
 use Rattle.hashlink_nodes.specs.contracts.cells.Cells.{the_row}
 use Rattle.hashlink_nodes.specs.Node.{same_node}
-use Rattle.hashlink_nodes.specs.BlockLends.{block_with}
+use Rattle.hashlink_nodes.specs.BodyLends.{body_with}
 
 -- with f of the value of the first entry whose key passes
 abbrev pub alter : {K X : Type 0} → (K → Bool) → (X → X) → List (K × X) → List (K × X)
@@ -16,11 +16,12 @@ alter test f (e ∷ es) = cond (test e.0) ((e.0, f e.1) ∷ es) (e ∷ alter tes
 
 -- the same block with another value, as the arena keeps it
 abbrev pub kept_with : {K V : Type 0} → V → ManuallyDrop (Block K V) → ManuallyDrop (Block K V)
-kept_with w m = record { value = block_with m.value w }
+kept_with w m = record { value = record { links = m.value.links; held = body_with m.value.held w } }
 
 -- the same blocks with w as the node's value
 abbrev pub cells_with : {K V : Type 0} → Cells K V → Node → V → Cells K V
-cells_with c n w = record c { arena = record { mark = c.arena.mark; blocks = alter (same_node n) (kept_with w) c.arena.blocks } }
+cells_with c n w =
+    record c { arena = record { mark = c.arena.mark; blocks = alter (same_node n) (kept_with w) c.arena.blocks } }
 
 abbrev pub LendsCellValue : (K V : RattleType) → MutBor (Cells K.Denot V.Denot) → Node → MutBor V.Denot → Fml
 LendsCellValue K V c n r = Lends (the_row K V) V c r (cells_with c.now n)

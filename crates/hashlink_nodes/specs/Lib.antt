@@ -7,6 +7,8 @@ pub mod State
 pub mod Cells
 pub mod Ring
 pub mod Shape
-pub mod BlockLends
+pub mod Body
+pub mod SlotLends
+pub mod BodyLends
 pub mod CellsLends
 pub mod NodesLends

@@ -22,7 +22,9 @@ and_both true false e = (refl, e)
 and_both false y e = (e, absurd (cc e))
 
 same_pointer-eq : (p q : Ptr) → same_pointer p q ≡ true → p ≡ q
-same_pointer-eq (block_ptr b o) (block_ptr c p) e = let parts = and_both (nat_eq b c) (nat_eq o p) e in λ i. block_ptr (eqb-true b c parts.0 i) (eqb-true o p parts.1 i)
+same_pointer-eq (block_ptr b o) (block_ptr c p) e =
+    let parts = and_both (nat_eq b c) (nat_eq o p) e in
+    λ i. block_ptr (eqb-true b c parts.0 i) (eqb-true o p parts.1 i)
 same_pointer-eq (block_ptr b o) null_ptr e = cc
 same_pointer-eq null_ptr (block_ptr c p) e = cc
 same_pointer-eq null_ptr null_ptr e = refl
@@ -44,7 +46,8 @@ same_node-symm : (a b : Node) → same_node a b ≡ same_node b a
 same_node-symm a b = (elim (same_node b a) as (λ (y : Bool). same_node b a ≡ y → same_node a b ≡ y) [
   | true ↦ λ e. let same : b ≡ a = eq-same_node b a e in ap (λ n. same_node a n) same ∙ same_node-refl a
   | false ↦ λ e. (elim (same_node a b) as (λ (y : Bool). same_node a b ≡ y → y ≡ false) [
-    | true ↦ λ f. let same : a ≡ b = eq-same_node a b f in sym (same_node-refl b) ∙ ap (λ n. same_node b n) (sym same) ∙ e
+    | true ↦ λ f. let same : a ≡ b = eq-same_node a b f in sym (same_node-refl b) ∙ ap (λ n. same_node b n) (sym same)
+        ∙ e
     | false ↦ λ f. refl
   ]) refl
 ]) refl

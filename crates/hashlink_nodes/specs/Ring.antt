@@ -1,4 +1,5 @@
--- What a contract sees of a ring of nodes: its entries in order, each with its node, the spare nodes, and how many links were stored.
+-- What a contract sees of a ring of nodes: its entries in order, each with its node, the spare nodes, and how many
+-- links were stored.
 -- A place of the ring is a node of it, or None for the guard, which stands between the last entry and the first.
 pub use Rattle.hashlink_nodes.specs.declared.held.Held.{Held}
 use Rattle.std.specs.Prelude.{◌≡◌, ℕ, cond, List, [], ◌∷◌, ◌++◌, slice_get, Option, None, Some, IsSome, IfSome}
@@ -69,11 +70,13 @@ module _ {X : Type 0} where
 
   -- the entry of n is taken out and put in right before the place
   abbrev pub MovesBefore : List (Node × X) → Node → Option Node → List (Node × X) → Type 0
-  MovesBefore old n place new = IfSome (lookup_entry (same_node n) old) (λ e. new ≡ put_before place e (remove_entry (same_node n) old))
+  MovesBefore old n place new =
+      IfSome (lookup_entry (same_node n) old) (λ e. new ≡ put_before place e (remove_entry (same_node n) old))
 
   -- the entry of n is taken out and put in right after the place
   abbrev pub MovesAfter : List (Node × X) → Node → Option Node → List (Node × X) → Type 0
-  MovesAfter old n place new = IfSome (lookup_entry (same_node n) old) (λ e. new ≡ put_after place e (remove_entry (same_node n) old))
+  MovesAfter old n place new =
+      IfSome (lookup_entry (same_node n) old) (λ e. new ≡ put_after place e (remove_entry (same_node n) old))
 
 module _ {K V : Type 0} where
   abbrev pub held : ℕ → K → V → Held K V

@@ -1,5 +1,6 @@
 -- How the links of the blocks make a ring and a chain of spare nodes.
-use Rattle.std.specs.Prelude.{◌≡◌, ℕ, zero, suc, ◌+◌, ◌^◌, ◌<◌, true, List, [], ◌∷◌, ◌++◌, length, Option, None, Some, is_some}
+use Rattle.std.specs.Prelude.{◌≡◌, ℕ, zero, suc, ◌+◌, ◌^◌, ◌<◌, true, List, [], ◌∷◌, ◌++◌, length, Option, None, Some}
+use Rattle.std.specs.Prelude.{is_some}
 use Rattle.std.specs.List.{AllByRecursion, IsDistinct}
 use Rattle.hashlink_nodes.specs.declared.node.Node.{Node}
 use Rattle.hashlink_nodes.specs.declared.held.Held.{Held}
@@ -37,7 +38,8 @@ module _ {K V : Type 0} where
   entries_of held [] = []
   entries_of held (n ∷ ns) = entry_of n (held n) (entries_of held ns)
 
-  -- the ring goes from the guard along the nodes and back to it, and the spare ones are chained; no other node has a block
+  -- the ring goes from the guard along the nodes and back to it, and the spare ones are chained; no other node has a
+  -- block
   pub record IsShaped (s : State K V) (guard first : Node) (nodes free : List Node) : Type 0 where
     pub forward : IsPath s.next guard nodes guard
     pub backward : IsWayBack s.prev guard nodes guard
@@ -61,8 +63,14 @@ module _ {K V : Type 0} where
   -- before the guard is made there is no block
   abbrev pub IsSound : State K V → Option Node → Node → ℕ → ℕ → Type 0
   IsSound s None first len spare = (len ≡ 0) × (spare ≡ 0) × (s.size ≡ 0)
-  IsSound s (Some guard) first len spare = IsShaped s guard first (walk s.next (s.next guard) len) (walk s.next first spare)
+  IsSound s (Some guard) first len spare =
+      IsShaped s guard first (walk s.next (s.next guard) len) (walk s.next first spare)
 
   -- what a contract sees
   abbrev pub ring_of : State K V → Option Node → Node → ℕ → ℕ → Ring K V
-  ring_of s guard first len spare = record { entries = entries_of s.held (nodes_of s guard len); free = free_of s guard first spare; link_writes = s.link_writes }
+  ring_of s guard first len spare =
+      record {
+        entries = entries_of s.held (nodes_of s guard len);
+        free = free_of s guard first spare;
+        link_writes = s.link_writes;
+      }

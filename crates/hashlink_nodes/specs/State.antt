@@ -61,7 +61,14 @@ module _ {K V : Type 0} where
 
   -- n is new: it links to itself, and holds nothing
   unfoldable pub add : Node → State K V → State K V
-  add n s = record s { next = set_at s.next n n; prev = set_at s.prev n n; held = set_at s.held n None; has = set_at s.has n true; size = s.size + 1 }
+  add n s =
+      record s {
+        next = set_at s.next n n;
+        prev = set_at s.prev n n;
+        held = set_at s.held n None;
+        has = set_at s.has n true;
+        size = s.size + 1;
+      }
 
   -- the neighbours of n link past it
   unfoldable pub detached : Node → State K V → State K V

@@ -1,20 +1,22 @@
 //! The blocks of a ring, by their nodes: safe code over the arena.
-ghost use Rattle.std.specs.Prelude.{◌≡◌, true, false, [], IfOk, OnErr, MatchOption, None, Some, IsSome};
-ghost use Rattle.hashlink_nodes.specs.State.{state, store_next, store_prev, hold, add, detached, attached, Drops, GuardIs};
+ghost use Rattle.std.specs.Prelude.{◌≡◌, ◌^◌, ◌<◌, true, false, [], IfOk, OnErr, Some, IsSome, IfSome, is_some};
+ghost use Rattle.hashlink_nodes.specs.State.{state, store_next, store_prev, hold, add, detached, attached, Drops};
+ghost use Rattle.hashlink_nodes.specs.State.{GuardIs};
 ghost use Rattle.std.specs.Option.{option_map};
 ghost use Rattle.std.specs.Borrow.{sem};
-ghost use Rattle.hashlink_nodes.specs.Ring.{with_value, with_key, with_number};
+ghost use Rattle.hashlink_nodes.specs.Ring.{pair_of, with_value, with_key, with_number};
 ghost use Rattle.hashlink_nodes.specs.Cells.{state_of};
 
 use crate::arena::Arena;
 use crate::block::Block;
+use crate::body::Body;
 use crate::held::Held;
 use crate::link_writes::LinkWrites;
 use crate::links::{Links, Side};
 use crate::loose::Loose;
 use crate::node::Node;
 use std::alloc::{AllocError, Global};
-use std::mem::{self, ManuallyDrop};
+use std::mem::ManuallyDrop;
 
 /// The blocks of the nodes, and the count of the links that were stored in them.
 pub(crate) struct Cells<K, V> {
@@ -52,14 +54,34 @@ impl<K, V> Cells<K, V> {
         block.links.prev()
     }
 
-    /// What the node holds.
+    /// Whether the node holds an entry.
     #[inline]
-    pub(crate) fn held(&self, node: Node) -> Option<&Held<K, V>>
+    pub(crate) fn is_full(&self, node: Node) -> bool
         requires { (state_of self.now).has node ≡ true }
-        ensures { MatchOption result ((state_of self.now).held node ≡ None) (λ h. (state_of self.now).held node ≡ Some h.now) }
+        ensures { is_some ((state_of self.now).held node) ≡ result }
     {
         let block: &Block<K, V> = self.arena.get(node);
-        block.held.as_ref()
+        block.held.is_full()
+    }
+
+    #[inline]
+    pub(crate) fn number(&self, node: Node) -> usize
+        requires has { (state_of self.now).has node ≡ true }
+        requires held { IsSome ((state_of self.now).held node) }
+        ensures { option_map (λ h. h.number) ((state_of self.now).held node) ≡ Some result }
+    {
+        let block: &Block<K, V> = self.arena.get(node);
+        block.held.number()
+    }
+
+    #[inline]
+    pub(crate) fn pair(&self, node: Node) -> (&K, &V)
+        requires has { (state_of self.now).has node ≡ true }
+        requires held { IsSome ((state_of self.now).held node) }
+        ensures { option_map pair_of ((state_of self.now).held node) ≡ Some (result.0.now, result.1.now) }
+    {
+        let block: &Block<K, V> = self.arena.get(node);
+        block.held.pair()
     }
 
     #[inline]
@@ -83,12 +105,13 @@ impl<K, V> Cells<K, V> {
     /// Puts something else into the node, and answers what it held.
     #[inline]
     pub(crate) fn hold(&mut self, node: Node, held: Option<Held<K, V>>) -> Option<Held<K, V>>
-        requires { (state_of self.old).has node ≡ true }
+        requires has { (state_of self.old).has node ≡ true }
+        requires small { IfSome held (λ h. h.number < 2 ^ 48) }
         ensures was { result ≡ (state_of self.old).held node }
         ensures is { state_of self.new ≡ hold node held (state_of self.old) }
     {
         let block: &mut Block<K, V> = self.arena.get_mut(node);
-        mem::replace(&mut block.held, held)
+        block.held.put(held)
     }
 
     /// Lends the value.
@@ -100,7 +123,7 @@ impl<K, V> Cells<K, V> {
         ensures value { option_map (λ h. h.value) ((state_of self.old).held node) ≡ Some result.now }
     {
         let block: &mut Block<K, V> = self.arena.get_mut(node);
-        block.value_mut()
+        block.held.value_mut()
     }
 
     /// Puts a value in, and answers the old one.
@@ -109,13 +132,11 @@ impl<K, V> Cells<K, V> {
         requires has { (state_of self.old).has node ≡ true }
         requires held { IsSome ((state_of self.old).held node) }
         ensures value { option_map (λ h. h.value) ((state_of self.old).held node) ≡ Some result }
-        ensures is { state_of self.new ≡ hold node (option_map (λ h. with_value h value) ((state_of self.old).held node)) (state_of self.old) }
+        ensures is { state_of self.new
+            ≡ hold node (option_map (λ h. with_value h value) ((state_of self.old).held node)) (state_of self.old) }
     {
         let block: &mut Block<K, V> = self.arena.get_mut(node);
-        match &mut block.held {
-            Some(held) => mem::replace(&mut held.value, value),
-            None => unreachable!(),
-        }
+        block.held.replace_value(value)
     }
 
     /// Puts a key in, and answers the old one.
@@ -123,25 +144,22 @@ impl<K, V> Cells<K, V> {
         requires has { (state_of self.old).has node ≡ true }
         requires held { IsSome ((state_of self.old).held node) }
         ensures key { option_map (λ h. h.key) ((state_of self.old).held node) ≡ Some result }
-        ensures is { state_of self.new ≡ hold node (option_map (λ h. with_key h key) ((state_of self.old).held node)) (state_of self.old) }
+        ensures is { state_of self.new
+            ≡ hold node (option_map (λ h. with_key h key) ((state_of self.old).held node)) (state_of self.old) }
     {
         let block: &mut Block<K, V> = self.arena.get_mut(node);
-        match &mut block.held {
-            Some(held) => mem::replace(&mut held.key, key),
-            None => unreachable!(),
-        }
+        block.held.replace_key(key)
     }
 
     pub(crate) fn set_number(&mut self, node: Node, number: usize)
         requires has { (state_of self.old).has node ≡ true }
         requires held { IsSome ((state_of self.old).held node) }
-        ensures { state_of self.new ≡ hold node (option_map (λ h. with_number h number) ((state_of self.old).held node)) (state_of self.old) }
+        requires small { number < 2 ^ 48 }
+        ensures { state_of self.new
+            ≡ hold node (option_map (λ h. with_number h number) ((state_of self.old).held node)) (state_of self.old) }
     {
         let block: &mut Block<K, V> = self.arena.get_mut(node);
-        match &mut block.held {
-            Some(held) => held.number = number,
-            None => unreachable!(),
-        }
+        block.held.set_number(number);
     }
 
     /// Makes a node that holds nothing and links to itself. These two links are not counted.
@@ -152,7 +170,7 @@ impl<K, V> Cells<K, V> {
     {
         let block = Block {
             links: Links::around(Node::nowhere()),
-            held: None,
+            held: Body::bare(),
         };
         match Box::new(alloc, unsafe { ManuallyDrop::new_unchecked(block) }) {
             Ok(boxed) => {
@@ -184,7 +202,7 @@ impl<K, V> Cells<K, V> {
     {
         let boxed = self.arena.give_back(node, alloc).into_box();
         let Block { links: _, held } = ManuallyDrop::into_inner(Box::into_inner(boxed));
-        held
+        held.into_held()
     }
 
     /// Links the neighbours of the node past it.

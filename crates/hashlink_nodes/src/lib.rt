@@ -3,6 +3,7 @@
 
 mod arena;
 mod block;
+mod body;
 mod cells;
 mod held;
 mod link_writes;

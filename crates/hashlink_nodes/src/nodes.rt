@@ -1,5 +1,6 @@
 //! The ring of nodes.
-ghost use Rattle.std.specs.Prelude.{◌≡◌, ◌+◌, ◌<◌, [], ◌∷◌, ◌++◌, length, drop, Some, IsOk, IfOk, IfErr, OnOk, OnErr};
+ghost use Rattle.std.specs.Prelude.{◌≡◌, ◌+◌, ◌^◌, ◌<◌, [], ◌∷◌, ◌++◌, length, drop, Some, IsOk, IfOk, IfErr, OnOk};
+ghost use Rattle.std.specs.Prelude.{OnErr};
 ghost use Rattle.std.specs.Option.{option_map};
 ghost use Rattle.std.specs.List.{IsDistinct};
 ghost use Rattle.std.specs.Map.{keys_of, lookup, remove_entry};
@@ -57,8 +58,9 @@ impl<K, V> Nodes<K, V> {
         }
     }
 
-    /// Puts an entry in right before the place, and takes memory only where no node is spare: then a refusal hands the pair back, and no entry and no spare node changes.
-    /// It stores four links; the two that the guard gets as it is made are not counted.
+    /// Puts an entry in right before the place, and takes memory only where no node is spare: then a refusal hands
+    /// the pair back, and no entry and no spare node changes. It stores four links; the two that the guard gets as it
+    /// is made are not counted.
     pub fn push_before(
         &mut self,
         place: Option<Node>,
@@ -66,8 +68,10 @@ impl<K, V> Nodes<K, V> {
         key: K,
         value: V,
     ) -> Result<Node, (K, V)>
-        requires { IsPlace self.old.entries place }
-        ensures entries { IfOk result (λ n. self.new.entries ≡ put_before place (n, held number key value) self.old.entries) }
+        requires place { IsPlace self.old.entries place }
+        requires small { number < 2 ^ 48 }
+        ensures entries { IfOk result
+            (λ n. self.new.entries ≡ put_before place (n, held number key value) self.old.entries) }
         ensures free { OnOk result (self.new.free ≡ drop 1 self.old.free) }
         ensures apart { OnOk result (IsDistinct same_node (keys_of self.new.entries ++ self.new.free)) }
         ensures link_writes { OnOk result (self.new.link_writes ≡ self.old.link_writes + 4) }

@@ -125,8 +125,8 @@ fn a_long_ring_ends(rt: HostRuntime) {
 }
 
 #[test]
-fn a_block_takes_32_bytes_and_its_pair(rt: HostRuntime) {
-    assert_eq!(rt; size_of::<Block<u64, u64>>(), 48);
+fn a_block_takes_24_bytes_and_its_pair(rt: HostRuntime) {
+    assert_eq!(rt; size_of::<Block<u64, u64>>(), 40);
     assert_eq!(rt; size_of::<Node>(), 8);
     assert_eq!(rt; size_of::<LinkWrites>(), 0);
 }

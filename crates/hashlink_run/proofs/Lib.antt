@@ -1,7 +1,7 @@
--- Lemmas on texts that are read from their front.
+-- Lemmas on runs of commands, and on texts in answer to them.
 pub mod Answered
-pub mod Cutting
-pub mod Digits
+pub mod Answering
+pub mod Chains
 pub mod Lists
-pub mod Runs
-pub mod Spelled
+pub mod Moved
+pub mod Progress

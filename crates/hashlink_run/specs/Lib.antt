@@ -1,8 +1,6 @@
--- The text form on whole texts: what lines and words are, what a line says, and what is written in answer.
-pub mod Lines
-pub mod Cuts
-pub mod Says
-pub mod Spelling
+-- What commands do to a map, one by one and in lists, and what is written in answer to a text of them.
+pub mod Step
+pub mod Run
 pub mod Transcript
 pub mod Text
 pub mod Faults

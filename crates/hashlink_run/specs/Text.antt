@@ -2,7 +2,7 @@
 use Rattle.std.specs.Prelude.{ℕ, List, Option}
 use Rattle.std.specs.Io.KnownBytes.{Appends}
 use Rattle.hashlink_core.specs.declared.hash_builder.DefaultHashBuilder.{DefaultHashBuilder}
-use Rattle.hashlink_run.specs.Lines.{lines_of}
+use Rattle.hashlink_commands.specs.Lines.{lines_of}
 use Rattle.hashlink_run.specs.Transcript.{LinesRun}
 
 -- the text is an answer to the input

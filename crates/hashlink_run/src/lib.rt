@@ -1,24 +1,15 @@
-//! Commands to a map, their replies, and the text form in which a program reads and answers them.
+//! Lists of commands to a map, and the text form in which a program reads and answers them.
 #![tactic(auto)]
 
-mod commands;
-mod cuts;
 mod faults;
 pub mod laws;
-mod line;
-mod lines;
-mod modes;
-mod numbers;
-mod replies;
+mod running;
 mod serving;
+mod steps;
 mod text;
-mod words;
 
-pub use commands::Command;
 pub use faults::Fault;
-pub use replies::Reply;
+pub use hashlink_commands::{Command, Reply};
+pub use running::run;
 pub use serving::serve;
 pub use text::run_text;
-
-#[cfg(test)]
-mod tests;

@@ -1,16 +1,14 @@
 ghost use Rattle.std.specs.Prelude.{◌≡◌, ◌++◌, ℕ, List, IfOk, OnOk, string_bytes};
-ghost use Rattle.hashlink_run.specs.Lines.{lines_of};
-ghost use Rattle.hashlink_run.specs.Text.{IsTranscript};
-ghost use Rattle.hashlink_run.specs.Transcript.{ModeRun, Shows, Answers, ended, list_shown, reply_shown};
-ghost use Rattle.hashlink_run.specs.Says.{says};
-ghost use Rattle.hashlink_run.specs.declared.modes.Mode.TheVariants.{Map};
 ghost use Rattle.hashlink_core.specs.declared.hash_builder.DefaultHashBuilder.{DefaultHashBuilder};
+ghost use Rattle.hashlink_core.specs.Keyed.{entries_of, state_of};
+ghost use Rattle.hashlink_commands.specs.Lines.{lines_of};
+ghost use Rattle.hashlink_commands.specs.Says.{says};
+ghost use Rattle.hashlink_commands.specs.declared.modes.Mode.TheVariants.{Map};
+ghost use Rattle.hashlink_run.specs.Text.{IsTranscript};
+ghost use Rattle.hashlink_run.specs.Transcript.{ModeRun, Shows, ended, list_shown, reply_shown, shows_pair};
 
-use crate::commands::Command;
-use crate::line::Line;
-use crate::lines::Lines;
-use crate::modes::{Mode, mode_of};
-use crate::replies::Reply;
+use crate::steps::reply_to;
+use hashlink_commands::{Command, Line, Lines, Mode, Reply, mode_of};
 use hashlink_map::LinkedHashMap;
 use std::alloc::{AllocError, Global};
 
@@ -53,45 +51,50 @@ fn answer(
     out: &mut String,
 ) -> Result<(), AllocError>
     ensures { OnOk result ((text : List ℕ)
-        × Shows map.old (says line.now) text map.new
+        × Shows (state_of map.old) (says line.now) text (state_of map.new)
         × (string_bytes out.new ≡ string_bytes out.old ++ ended text)) }
 {
     match Line::parse(line) {
-        Some(Line::Do(command)) => push_reply(reply_to(map, command), out),
+        Some(Line::Do(command)) => {
+            let reply = reply_to(map, command, &|key: &u64, value: &u64| (*key, *value));
+            push_reply(reply, shows_pair(command), out)
+        }
         Some(Line::Iter) => push_list(map, out),
         None => writeln!(out, "bad"),
     }
 }
 
-// One command to the map.
-fn reply_to(map: &mut LinkedHashMap<u64, u64>, command: Command<u64, u64>) -> Reply<u64, u64>
-    ensures { Answers map.old command result map.new }
+// Whether the command shows the pair that it reads whole.
+fn shows_pair(command: Command<u64, u64>) -> bool
+    ensures { result ≡ shows_pair command }
 {
-    match command {
-        Command::Insert(key, value) => match map.insert(key, value) {
-            Ok(old) => Reply::Value(old),
-            Err((key, value)) => Reply::Refused(key, value),
-        },
-        Command::Get(key) => Reply::Value(map.get(&key).copied()),
-        Command::Remove(key) => Reply::Value(map.remove(&key)),
-    }
+    matches!(command, Command::Front | Command::Back)
 }
 
 // The line that shows a reply.
-fn push_reply(reply: Reply<u64, u64>, out: &mut String) -> Result<(), AllocError>
-    ensures { OnOk result (string_bytes out.new ≡ string_bytes out.old ++ ended (reply_shown reply)) }
+fn push_reply(
+    reply: Reply<u64, u64, (u64, u64)>,
+    whole: bool,
+    out: &mut String,
+) -> Result<(), AllocError>
+    ensures { OnOk result (string_bytes out.new ≡ string_bytes out.old ++ ended (reply_shown whole reply)) }
 {
     match reply {
+        Reply::Done => writeln!(out, "ok"),
+        Reply::Denied | Reply::Refused(..) => writeln!(out, "memory"),
         Reply::Value(Some(value)) => writeln!(out, "{value}"),
-        Reply::Value(None) => writeln!(out, "-"),
-        Reply::Refused(..) => writeln!(out, "memory"),
+        Reply::Pair(Some((key, value))) => writeln!(out, "{key}:{value}"),
+        Reply::Seen(Some((key, value))) if whole => writeln!(out, "{key}:{value}"),
+        Reply::Seen(Some((_, value))) => writeln!(out, "{value}"),
+        Reply::Value(None) | Reply::Pair(None) | Reply::Seen(None) => writeln!(out, "-"),
+        Reply::Length(number) => writeln!(out, "{number}"),
     }
 }
 
 // The line that shows all pairs, front first.
 fn push_list(map: &LinkedHashMap<u64, u64>, out: &mut String) -> Result<(), AllocError>
     ensures { OnOk result (string_bytes out.new
-        ≡ string_bytes out.old ++ ended (list_shown map.now.entries)) }
+        ≡ string_bytes out.old ++ ended (list_shown (entries_of map.now))) }
 {
     let mut pairs = map.iter();
     let Some((key, value)) = pairs.next() else {

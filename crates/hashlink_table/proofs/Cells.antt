@@ -1,7 +1,9 @@
 -- What a write to the cells does to their chains.
-use Rattle.std.proofs.Common.{◌≡◌, ◌≢◌, ℕ, zero, suc, ◌+◌, ◌<◌, ◌≤◌, inl, inr, List, [], ◌∷◌, ◌++◌, map, length, get_or, set, refl, sym, ap, ◌∙◌, arith}
+use Rattle.std.proofs.Common.{◌≡◌, ◌≢◌, ℕ, zero, suc, ◌+◌, ◌<◌, ◌≤◌, inl, inr, List, [], ◌∷◌, ◌++◌, map, length}
+use Rattle.std.proofs.Common.{get_or, set, refl, sym, ap, ◌∙◌, arith}
 use Rattle.std.proofs.lemmas.Bool.{cases_eq, cases_lt}
-use Rattle.std.proofs.lemmas.List.{get_or-set_same, get_or-set_other, get_or_push, get_or-map, get_or_past, get_or_default, length-map, map-set, map_push}
+use Rattle.std.proofs.lemmas.List.{get_or-set_same, get_or-set_other, get_or_push, get_or-map, get_or_past}
+use Rattle.std.proofs.lemmas.List.{get_or_default, length-map, map-set, map_push}
 use Rattle.hashlink_table.specs.declared.cell.Cell.{Cell}
 use Rattle.hashlink_table.specs.Chains.{no_cell, kept_at, next_at, chain_of, chain_at}
 use Rattle.hashlink_table.proofs.Threads.{IsOff, SameBut}
@@ -18,85 +20,110 @@ module _ {N : Type 0} where
   label buckets c = chain_of buckets c.kept
 
   -- after a write
-  pub next_at-set : (cells : List (Cell N)) (i : ℕ) (c : Cell N) → i < length cells → next_at (set cells i c) i ≡ c.next
+  pub next_at-set : (cells : List (Cell N)) (i : ℕ) (c : Cell N) → i < length cells
+      → next_at (set cells i c) i ≡ c.next
   next_at-set cells i c h = ap (λ (d : Cell N). d.next) (get_or-set_same cells i c no_cell h)
 
-  pub next_at-set_other : (cells : List (Cell N)) (i : ℕ) (c : Cell N) → SameBut i (next_at cells) (next_at (set cells i c))
+  pub next_at-set_other : (cells : List (Cell N)) (i : ℕ) (c : Cell N)
+      → SameBut i (next_at cells) (next_at (set cells i c))
   next_at-set_other cells i c j ne = ap (λ (d : Cell N). d.next) (get_or-set_other cells i j c no_cell ne)
 
-  pub kept_at-set : (cells : List (Cell N)) (i : ℕ) (c : Cell N) → i < length cells → kept_at (set cells i c) i ≡ c.kept
+  pub kept_at-set : (cells : List (Cell N)) (i : ℕ) (c : Cell N) → i < length cells
+      → kept_at (set cells i c) i ≡ c.kept
   kept_at-set cells i c h = ap (λ (d : Cell N). d.kept) (get_or-set_same cells i c no_cell h)
 
-  pub kept_at-set_other : (cells : List (Cell N)) (i : ℕ) (c : Cell N) (j : ℕ) → j ≢ i → kept_at (set cells i c) j ≡ kept_at cells j
+  pub kept_at-set_other : (cells : List (Cell N)) (i : ℕ) (c : Cell N) (j : ℕ) → j ≢ i
+      → kept_at (set cells i c) j ≡ kept_at cells j
   kept_at-set_other cells i c j ne = ap (λ (d : Cell N). d.kept) (get_or-set_other cells i j c no_cell ne)
 
   -- a write that changes no node keeps each node
-  pub kept_at-set_same : (cells : List (Cell N)) (i : ℕ) (c : Cell N) → i < length cells → c.kept ≡ kept_at cells i → (j : ℕ) → kept_at (set cells i c) j ≡ kept_at cells j
+  pub kept_at-set_same : (cells : List (Cell N)) (i : ℕ) (c : Cell N) → i < length cells → c.kept ≡ kept_at cells i
+      → (j : ℕ)
+      → kept_at (set cells i c) j ≡ kept_at cells j
   kept_at-set_same cells i c h same j = elim (cases_eq j i) as (λ _. kept_at (set cells i c) j ≡ kept_at cells j) [
     | inl e ↦ ap (kept_at (set cells i c)) e ∙ kept_at-set cells i c h ∙ same ∙ ap (kept_at cells) (sym e)
     | inr ne ↦ kept_at-set_other cells i c j ne
   ]
 
   -- a read under any default
-  pub kept_at_read : (cells : List (Cell N)) (i : ℕ) (d : Cell N) → i < length cells → (get_or cells i d).kept ≡ kept_at cells i
+  pub kept_at_read : (cells : List (Cell N)) (i : ℕ) (d : Cell N) → i < length cells
+      → (get_or cells i d).kept ≡ kept_at cells i
   kept_at_read cells i d h = ap (λ (c : Cell N). c.kept) (get_or_default cells i d no_cell h)
 
-  pub next_at_read : (cells : List (Cell N)) (i : ℕ) (d : Cell N) → i < length cells → (get_or cells i d).next ≡ next_at cells i
+  pub next_at_read : (cells : List (Cell N)) (i : ℕ) (d : Cell N) → i < length cells
+      → (get_or cells i d).next ≡ next_at cells i
   next_at_read cells i d h = ap (λ (c : Cell N). c.next) (get_or_default cells i d no_cell h)
 
-  pub chain_at-set : (buckets : ℕ) (cells : List (Cell N)) (i : ℕ) (c : Cell N) → i < length cells → chain_at buckets (set cells i c) i ≡ chain_of buckets c.kept
+  pub chain_at-set : (buckets : ℕ) (cells : List (Cell N)) (i : ℕ) (c : Cell N) → i < length cells
+      → chain_at buckets (set cells i c) i ≡ chain_of buckets c.kept
   chain_at-set buckets cells i c h =
       ap (λ ls. get_or ls i (suc buckets)) (map-set (label buckets) cells i c)
-      ∙ get_or-set_same (map (label buckets) cells) i (label buckets c) (suc buckets) (omega (arith, length-map cells (label buckets)))
+      ∙ get_or-set_same (map (label buckets) cells) i (label buckets c) (suc buckets)
+      (omega (arith, length-map cells (label buckets)))
 
-  pub chain_at-set_other : (buckets : ℕ) (cells : List (Cell N)) (i : ℕ) (c : Cell N) → SameBut i (chain_at buckets cells) (chain_at buckets (set cells i c))
+  pub chain_at-set_other : (buckets : ℕ) (cells : List (Cell N)) (i : ℕ) (c : Cell N)
+      → SameBut i (chain_at buckets cells) (chain_at buckets (set cells i c))
   chain_at-set_other buckets cells i c j ne =
       ap (λ ls. get_or ls j (suc buckets)) (map-set (label buckets) cells i c)
       ∙ get_or-set_other (map (label buckets) cells) i j (label buckets c) (suc buckets) ne
 
   -- a write that changes no node changes no chain
-  pub chain_at-set_same : (buckets : ℕ) (cells : List (Cell N)) (i : ℕ) (c : Cell N) → i < length cells → c.kept ≡ kept_at cells i → (j : ℕ) → chain_at buckets (set cells i c) j ≡ chain_at buckets cells j
-  chain_at-set_same buckets cells i c h same j = elim (cases_eq j i) as (λ _. chain_at buckets (set cells i c) j ≡ chain_at buckets cells j) [
-    | inl e ↦ ap (chain_at buckets (set cells i c)) e ∙ chain_at-set buckets cells i c h ∙ ap (chain_of buckets) same
-        ∙ sym (get_or-map (label buckets) cells i no_cell (suc buckets) h) ∙ ap (chain_at buckets cells) (sym e)
-    | inr ne ↦ chain_at-set_other buckets cells i c j ne
-  ]
+  pub chain_at-set_same : (buckets : ℕ) (cells : List (Cell N)) (i : ℕ) (c : Cell N) → i < length cells
+      → c.kept ≡ kept_at cells i → (j : ℕ)
+      → chain_at buckets (set cells i c) j ≡ chain_at buckets cells j
+  chain_at-set_same buckets cells i c h same j =
+      elim (cases_eq j i) as (λ _. chain_at buckets (set cells i c) j ≡ chain_at buckets cells j) [
+        | inl e ↦ ap (chain_at buckets (set cells i c)) e ∙ chain_at-set buckets cells i c h ∙ ap (chain_of buckets) same
+            ∙ sym (get_or-map (label buckets) cells i no_cell (suc buckets) h) ∙ ap (chain_at buckets cells) (sym e)
+        | inr ne ↦ chain_at-set_other buckets cells i c j ne
+      ]
 
   -- after a push
   pub next_at-push : (cells : List (Cell N)) (c : Cell N) → next_at (cells ++ c ∷ []) (length cells) ≡ c.next
   next_at-push cells c = ap (λ (d : Cell N). d.next) (get_or_push cells c no_cell (length cells) refl)
 
-  pub next_at-push_other : (cells : List (Cell N)) (c : Cell N) → SameBut (length cells) (next_at cells) (next_at (cells ++ c ∷ []))
+  pub next_at-push_other : (cells : List (Cell N)) (c : Cell N)
+      → SameBut (length cells) (next_at cells) (next_at (cells ++ c ∷ []))
   next_at-push_other cells c j ne = ap (λ (d : Cell N). d.next) (push_other cells c no_cell j ne)
 
   pub kept_at-push : (cells : List (Cell N)) (c : Cell N) → kept_at (cells ++ c ∷ []) (length cells) ≡ c.kept
   kept_at-push cells c = ap (λ (d : Cell N). d.kept) (get_or_push cells c no_cell (length cells) refl)
 
-  pub kept_at-push_other : (cells : List (Cell N)) (c : Cell N) (j : ℕ) → j ≢ length cells → kept_at (cells ++ c ∷ []) j ≡ kept_at cells j
+  pub kept_at-push_other : (cells : List (Cell N)) (c : Cell N) (j : ℕ) → j ≢ length cells
+      → kept_at (cells ++ c ∷ []) j ≡ kept_at cells j
   kept_at-push_other cells c j ne = ap (λ (d : Cell N). d.kept) (push_other cells c no_cell j ne)
 
-  pub chain_at-push : (buckets : ℕ) (cells : List (Cell N)) (c : Cell N) → chain_at buckets (cells ++ c ∷ []) (length cells) ≡ chain_of buckets c.kept
+  pub chain_at-push : (buckets : ℕ) (cells : List (Cell N)) (c : Cell N)
+      → chain_at buckets (cells ++ c ∷ []) (length cells) ≡ chain_of buckets c.kept
   chain_at-push buckets cells c =
       ap (λ ls. get_or ls (length cells) (suc buckets)) (map_push (label buckets) cells c)
-      ∙ get_or_push (map (label buckets) cells) (label buckets c) (suc buckets) (length cells) (length-map cells (label buckets))
+      ∙ get_or_push (map (label buckets) cells) (label buckets c) (suc buckets) (length cells)
+      (length-map cells (label buckets))
 
-  pub chain_at-push_other : (buckets : ℕ) (cells : List (Cell N)) (c : Cell N) → SameBut (length cells) (chain_at buckets cells) (chain_at buckets (cells ++ c ∷ []))
+  pub chain_at-push_other : (buckets : ℕ) (cells : List (Cell N)) (c : Cell N)
+      → SameBut (length cells) (chain_at buckets cells) (chain_at buckets (cells ++ c ∷ []))
   chain_at-push_other buckets cells c j ne =
       ap (λ ls. get_or ls j (suc buckets)) (map_push (label buckets) cells c)
-      ∙ push_other (map (label buckets) cells) (label buckets c) (suc buckets) j (λ e. ne (e ∙ length-map cells (label buckets)))
+      ∙ push_other (map (label buckets) cells) (label buckets c) (suc buckets) j
+      (λ e. ne (e ∙ length-map cells (label buckets)))
 
   -- which cells are on chains
-  pub chain_at_past : (buckets : ℕ) (cells : List (Cell N)) (i : ℕ) → length cells ≤ i → chain_at buckets cells i ≡ suc buckets
-  chain_at_past buckets cells i h = get_or_past (map (label buckets) cells) i (suc buckets) (omega (arith, length-map cells (label buckets)))
+  pub chain_at_past : (buckets : ℕ) (cells : List (Cell N)) (i : ℕ) → length cells ≤ i
+      → chain_at buckets cells i ≡ suc buckets
+  chain_at_past buckets cells i h =
+      get_or_past (map (label buckets) cells) i (suc buckets) (omega (arith, length-map cells (label buckets)))
 
-  pub chain_at_within : (buckets : ℕ) (cells : List (Cell N)) (i : ℕ) → i < length cells → chain_at buckets cells i ≡ chain_of buckets (kept_at cells i)
+  pub chain_at_within : (buckets : ℕ) (cells : List (Cell N)) (i : ℕ) → i < length cells
+      → chain_at buckets cells i ≡ chain_of buckets (kept_at cells i)
   chain_at_within buckets cells i h = get_or-map (label buckets) cells i no_cell (suc buckets) h
 
-  pub within_by_chain : (buckets : ℕ) (cells : List (Cell N)) (i b : ℕ) → chain_at buckets cells i ≡ b → b ≤ buckets → i < length cells
+  pub within_by_chain : (buckets : ℕ) (cells : List (Cell N)) (i b : ℕ) → chain_at buckets cells i ≡ b → b ≤ buckets
+      → i < length cells
   within_by_chain buckets cells i b e low = elim (cases_lt i (length cells)) as (λ _. i < length cells) [
     | inl h ↦ h
     | inr past ↦ absurd (let q = chain_at_past buckets cells i past in omega arith)
   ]
 
-  pub off_past : (chains buckets : ℕ) (cells : List (Cell N)) (i : ℕ) → chains ≡ buckets + 1 → length cells ≤ i → IsOff chains (chain_at buckets cells) i
+  pub off_past : (chains buckets : ℕ) (cells : List (Cell N)) (i : ℕ) → chains ≡ buckets + 1 → length cells ≤ i
+      → IsOff chains (chain_at buckets cells) i
   off_past chains buckets cells i n h b low e = let q = chain_at_past buckets cells i h in omega arith

@@ -1,5 +1,6 @@
 -- Paths of links: they have no choice and no loop, and lose a cell by one link.
-use Rattle.std.proofs.Common.{◌≡◌, ◌≢◌, ℕ, suc, ◌<◌, ◌≤◌, Bool, true, false, cond, inl, inr, List, [], ◌∷◌, length, get_or, set, count_by, refl, sym, ap, ◌∙◌, subst, arith}
+use Rattle.std.proofs.Common.{◌≡◌, ◌≢◌, ℕ, suc, ◌<◌, ◌≤◌, Bool, true, false, cond, inl, inr, List, [], ◌∷◌, length}
+use Rattle.std.proofs.Common.{get_or, set, count_by, refl, sym, ap, ◌∙◌, subst, arith}
 use Rattle.std.proofs.lemmas.Bool.{cases_lt, true≢false}
 use Rattle.std.proofs.lemmas.List.{get_or-set_other, get_or_past}
 use Rattle.std.proofs.lemmas.List.Sums.{sum_by-set}
@@ -18,7 +19,8 @@ path_unique next from (x ∷ xs) (y ∷ ys) p q =
     cc
 
 -- from a cell of a path leads a path that is no longer
-path_from : (next : ℕ → ℕ) (from i : ℕ) (xs : List ℕ) → IsPath next from xs → Among xs i → (zs : List ℕ) × IsPath next i zs × (length zs ≤ length xs)
+path_from : (next : ℕ → ℕ) (from i : ℕ) (xs : List ℕ) → IsPath next from xs → Among xs i
+    → (zs : List ℕ) × IsPath next i zs × (length zs ≤ length xs)
 path_from next from i [] p m = absurd m
 path_from next from i (x ∷ xs) p m =
     elim m as (λ _. (zs : List ℕ) × IsPath next i zs × (length zs ≤ length (x ∷ xs))) [
@@ -34,7 +36,9 @@ no_repeat next from x xs p m =
     omega (arith, r.2, same)
 
 -- a path does not read the links of other cells
-pub path_same : (next later : ℕ → ℕ) (from : ℕ) (xs : List ℕ) → ((j : ℕ) → Among xs j → later j ≡ next j) → IsPath next from xs → IsPath later from xs
+pub path_same : (next later : ℕ → ℕ) (from : ℕ) (xs : List ℕ) → ((j : ℕ) → Among xs j → later j ≡ next j)
+    → IsPath next from xs
+    → IsPath later from xs
 path_same next later from [] same p = p
 path_same next later from (x ∷ xs) same p =
     let Path : ℕ → Type 0 = λ n. IsPath later n xs in
@@ -46,7 +50,8 @@ first_among next from [] p ne = absurd (ne p)
 first_among next from (x ∷ xs) p ne = inl (sym p.0)
 
 -- a path goes on at the link of each of its cells
-next_among : (next : ℕ → ℕ) (from i : ℕ) (xs : List ℕ) → IsPath next from xs → Among xs i → next i ≢ END → Among xs (next i)
+next_among : (next : ℕ → ℕ) (from i : ℕ) (xs : List ℕ) → IsPath next from xs → Among xs i → next i ≢ END
+    → Among xs (next i)
 next_among next from i [] p m ne = absurd m
 next_among next from i (x ∷ xs) p m ne =
     elim m as (λ _. Among (x ∷ xs) (next i)) [
@@ -63,7 +68,8 @@ pub record IsWithout (next : ℕ → ℕ) (from i : ℕ) (xs : List ℕ) : Type 
   pub whole : (j : ℕ) → Among xs j → j ≢ i → Among path j
 
 -- a path without its first cell
-pub path_without_first : (next : ℕ → ℕ) (i : ℕ) (xs : List ℕ) → IsPath next i xs → i ≢ END → IsWithout next (next i) i xs
+pub path_without_first : (next : ℕ → ℕ) (i : ℕ) (xs : List ℕ) → IsPath next i xs → i ≢ END
+    → IsWithout next (next i) i xs
 path_without_first next i [] p ne = absurd (ne p)
 path_without_first next i (x ∷ xs) p ne =
     let Path : ℕ → Type 0 = λ n. IsPath next (next n) xs in
@@ -71,11 +77,14 @@ path_without_first next i (x ∷ xs) p ne =
       path = xs;
       linked = subst Path (sym p.0) p.2;
       inside = λ j m. (inr m, λ e. no_repeat next i x xs p (subst (Among xs) (e ∙ p.0) m));
-      whole = λ j m apart. elim m as (λ _. Among xs j) [ inl e ↦ absurd (apart (sym e ∙ sym p.0)) | inr later ↦ later ];
+      whole =
+          λ j m apart. elim m as (λ _. Among xs j) [ inl e ↦ absurd (apart (sym e ∙ sym p.0)) | inr later ↦ later ];
     }
 
 -- the two last cells of the cut
-cut_here : (next later : ℕ → ℕ) (i from x : ℕ) (xs : List ℕ) → next x ≡ i → later x ≡ next i → ((j : ℕ) → j ≢ x → later j ≡ next j) → i ≢ END → IsPath next from (x ∷ xs) → IsWithout later from i (x ∷ xs)
+cut_here : (next later : ℕ → ℕ) (i from x : ℕ) (xs : List ℕ) → next x ≡ i → later x ≡ next i
+    → ((j : ℕ) → j ≢ x → later j ≡ next j) → i ≢ END → IsPath next from (x ∷ xs)
+    → IsWithout later from i (x ∷ xs)
 cut_here next later i from x [] leads cut others ne p = absurd (ne (sym leads ∙ p.2))
 cut_here next later i from x (y ∷ ys) leads cut others ne p =
     let at : y ≡ i = sym p.2.0 ∙ leads in
@@ -97,11 +106,14 @@ cut_here next later i from x (y ∷ ys) leads cut others ne p =
     }
 
 -- a path without the cell after p, once the link of p leads past it
-pub path_without_next : (next later : ℕ → ℕ) (p i from : ℕ) (xs : List ℕ) → next p ≡ i → later p ≡ next i → ((j : ℕ) → j ≢ p → later j ≡ next j) → i ≢ END → IsPath next from xs → Among xs p → IsWithout later from i xs
+pub path_without_next : (next later : ℕ → ℕ) (p i from : ℕ) (xs : List ℕ) → next p ≡ i → later p ≡ next i
+    → ((j : ℕ) → j ≢ p → later j ≡ next j) → i ≢ END → IsPath next from xs → Among xs p
+    → IsWithout later from i xs
 path_without_next next later p i from [] leads cut others ne path m = absurd m
 path_without_next next later p i from (x ∷ xs) leads cut others ne path m =
     elim m as (λ _. IsWithout later from i (x ∷ xs)) [
-      | inl e ↦ cut_here next later i from x xs (ap next e ∙ leads) (ap later e ∙ cut) (λ j apart. others j (λ q. apart (q ∙ sym e))) ne path
+      | inl e ↦ cut_here next later i from x xs (ap next e ∙ leads) (ap later e ∙ cut)
+          (λ j apart. others j (λ q. apart (q ∙ sym e))) ne path
       | inr m ↦ let once : Among xs x → ⊥ = no_repeat next from x xs path in
           let here : x ≢ p = λ e. once (subst (Among xs) (sym e) m) in
           let rest = path_without_next next later p i (next x) xs leads cut others ne path.2 m in
@@ -111,7 +123,11 @@ path_without_next next later p i from (x ∷ xs) leads cut others ne path m =
             path = x ∷ rest.path;
             linked = (path.0, path.1, subst Path (sym (others x here)) rest.linked);
             inside = λ j k. elim k as (λ _. Among (x ∷ xs) j × (j ≢ i)) [
-              | inl e ↦ (inl e, λ q. once (subst (Among xs) (leads ∙ sym q ∙ sym e) (next_among next (next x) p xs path.2 m goes_on)))
+              | inl e ↦ (
+                inl e,
+                λ q. once
+                    (subst (Among xs) (leads ∙ sym q ∙ sym e) (next_among next (next x) p xs path.2 m goes_on)),
+              )
               | inr k ↦ let r = rest.inside j k in (inr r.0, r.1)
             ];
             whole = λ j k apart. elim k as (λ _. Among (x ∷ rest.path) j) [
@@ -122,7 +138,9 @@ path_without_next next later p i from (x ∷ xs) leads cut others ne path m =
     ]
 
 -- a path over cells that pass is no longer than they are many
-pub path_length : {X : Type 0} (p : X → Bool) (next : ℕ → ℕ) (from : ℕ) (xs : List ℕ) (cells : List X) (d : X) → IsPath next from xs → p d ≡ false → ((j : ℕ) → Among xs j → p (get_or cells j d) ≡ true) → length xs ≤ count_by p cells
+pub path_length : {X : Type 0} (p : X → Bool) (next : ℕ → ℕ) (from : ℕ) (xs : List ℕ) (cells : List X) (d : X)
+    → IsPath next from xs → p d ≡ false → ((j : ℕ) → Among xs j → p (get_or cells j d) ≡ true)
+    → length xs ≤ count_by p cells
 path_length p next from [] cells d path none pass = omega arith
 path_length p next from (x ∷ xs) cells d path none pass =
     let here : x < length cells = elim (cases_lt x (length cells)) as (λ _. x < length cells) [

@@ -13,4 +13,7 @@ same_Err a b e = cc
 
 -- refused memory is no overflow
 pub no_overflow : {T : Type 0} (r : Result T TryReserveError) → r ≡ Err AllocError → r ≡ Err CapacityOverflow → ⊥
-no_overflow r is e = let both : ◌≡◌ {A = TryReserveError} AllocError CapacityOverflow = same_Err AllocError CapacityOverflow (sym is ∙ e) in cc
+no_overflow r is e =
+    let both : ◌≡◌ {A = TryReserveError} AllocError CapacityOverflow
+    = same_Err AllocError CapacityOverflow (sym is ∙ e) in
+    cc

@@ -1,7 +1,10 @@
 -- The fields of a table agree after each of its functions.
-use Rattle.std.proofs.Common.{◌≡◌, ◌≢◌, ℕ, zero, suc, ◌+◌, ◌-◌, ◌%◌, ◌^◌, ◌<◌, ◌≤◌, Bool, true, cond, inl, inr, List, [], ◌∷◌, ◌++◌, length, get_or, set, replicate, Option, Some, None, is_some, count_by, refl, sym, ap, ◌∙◌, subst, arith}
+use Rattle.std.proofs.Common.{◌≡◌, ◌≢◌, ℕ, zero, suc, ◌+◌, ◌-◌, ◌%◌, ◌^◌, ◌<◌, ◌≤◌, Bool, true, cond, inl, inr, List}
+use Rattle.std.proofs.Common.{[], ◌∷◌, ◌++◌, length, get_or, set, replicate, Option, Some, None, is_some, count_by}
+use Rattle.std.proofs.Common.{refl, sym, ap, ◌∙◌, subst, arith}
 use Rattle.std.proofs.lemmas.Bool.{cases_lt}
-use Rattle.std.proofs.lemmas.List.{get_or_at, get_or_past, get_or_append_left, get_or-replicate, length-set, length_push}
+use Rattle.std.proofs.lemmas.List.{get_or_at, get_or_past, get_or_append_left, get_or-replicate, length-set}
+use Rattle.std.proofs.lemmas.List.{length_push}
 use Rattle.std.proofs.lemmas.List.Sums.{sum_by-cons, sum_by-set, sum_by_push}
 use Rattle.std.specs.Int.{IsPowerOfTwo}
 use Rattle.hashlink_table.specs.declared.kept.Kept.{Kept}
@@ -9,13 +12,16 @@ use Rattle.hashlink_table.specs.declared.cell.Cell.{Cell}
 use Rattle.hashlink_table.specs.declared.cell.TheConstants.{END}
 use Rattle.std.specs.FinMap.{len}
 use Rattle.hashlink_table.specs.Contents.{Contents}
-use Rattle.hashlink_table.specs.Chains.{no_cell, kept_at, next_at, chain_of, chain_at, taken, Among, IsPath, IsLinked, IsLinkedBut, IsPlaced, IsSound, SameNodes}
-use Rattle.hashlink_table.proofs.Cells.{kept_at-set, kept_at-set_other, kept_at-push, kept_at-push_other, chain_at_within, within_by_chain}
+use Rattle.hashlink_table.specs.Chains.{no_cell, kept_at, next_at, chain_of, chain_at, taken, Among, IsPath, IsLinked}
+use Rattle.hashlink_table.specs.Chains.{IsLinkedBut, IsPlaced, IsSound, SameNodes}
+use Rattle.hashlink_table.proofs.Cells.{kept_at-set, kept_at-set_other, kept_at-push, kept_at-push_other}
+use Rattle.hashlink_table.proofs.Cells.{chain_at_within, within_by_chain}
 use Rattle.hashlink_table.proofs.Linking.{linked-push, linked-reuse, linked-give, free_on}
 use Rattle.hashlink_table.proofs.Views.{len-contents, contents_kept, within_by_node}
 
 -- where each element passes, as many pass as there are
-count_all : {X : Type 0} (p : X → Bool) (xs : List X) (d : X) → ((i : ℕ) → i < length xs → p (get_or xs i d) ≡ true) → count_by p xs ≡ length xs
+count_all : {X : Type 0} (p : X → Bool) (xs : List X) (d : X) → ((i : ℕ) → i < length xs → p (get_or xs i d) ≡ true)
+    → count_by p xs ≡ length xs
 count_all p [] d pass = refl
 count_all p (x ∷ xs) d pass =
     let here : cond {A = ℕ} (p x) 1 0 ≡ 1 = rw (pass zero (omega arith)) refl in
@@ -23,13 +29,17 @@ count_all p (x ∷ xs) d pass =
     sum_by-cons (λ y. cond (p y) 1 0) x xs ∙ omega arith
 
 -- no path that leads over a cell begins at the end
-none_from_end : (next : ℕ → ℕ) (from : ℕ) (path : List ℕ) → IsPath next from path → from ≡ END → (j : ℕ) → Among path j → ⊥
+none_from_end : (next : ℕ → ℕ) (from : ℕ) (path : List ℕ) → IsPath next from path → from ≡ END → (j : ℕ)
+    → Among path j
+    → ⊥
 none_from_end next from [] linked e j m = m
 none_from_end next from (x ∷ xs) linked e j m = linked.1 (sym linked.0 ∙ e)
 
 module _ {N : Type 0} where
   -- where no cell is free, each has a node
-  all_taken : (heads : List ℕ) (cells : List (Cell N)) (free : ℕ) → IsLinked heads cells free → free ≡ END → (i : ℕ) → i < length cells → is_some (kept_at cells i) ≡ true
+  all_taken : (heads : List ℕ) (cells : List (Cell N)) (free : ℕ) → IsLinked heads cells free → free ≡ END → (i : ℕ)
+      → i < length cells
+      → is_some (kept_at cells i) ≡ true
   all_taken heads cells free linked e i h =
       let c = linked (length heads) (omega (arith, length_push heads free)) in
       let first = get_or_at heads free [] END (length heads) refl in
@@ -42,12 +52,16 @@ module _ {N : Type 0} where
       ] free_chain
 
   -- where no cell is free, there are as many cells as nodes
-  pub full_by_free : {heads : List ℕ} {cells : List (Cell N)} {capacity free len room : ℕ} → IsSound heads cells capacity free len room → free ≡ END → len ≡ length cells
+  pub full_by_free : {heads : List ℕ} {cells : List (Cell N)} {capacity free len room : ℕ}
+      → IsSound heads cells capacity free len room → free ≡ END
+      → len ≡ length cells
   full_by_free {heads} {cells} {free = free} s e =
       s.counted ∙ count_all (λ c. is_some c.kept) cells no_cell (all_taken heads cells free s.linked e)
 
   -- the first free cell is a cell
-  pub within_by_free : {heads : List ℕ} {cells : List (Cell N)} {capacity free len room : ℕ} → IsSound heads cells capacity free len room → free ≢ END → free < length cells
+  pub within_by_free : {heads : List ℕ} {cells : List (Cell N)} {capacity free len room : ℕ}
+      → IsSound heads cells capacity free len room → free ≢ END
+      → free < length cells
   within_by_free {heads} {cells} {free = free} s ne =
       within_by_chain (length heads) cells free (length heads) (free_on heads cells free s.linked ne) (omega arith)
 
@@ -56,7 +70,9 @@ module _ {N : Type 0} where
   chain_none buckets None some e = refl
   chain_none buckets (Some k) some e = absurd (omega arith)
 
-  free_none : {heads : List ℕ} {cells : List (Cell N)} {capacity free len room : ℕ} → IsSound heads cells capacity free len room → 0 < length heads → free ≢ END → kept_at cells free ≡ None
+  free_none : {heads : List ℕ} {cells : List (Cell N)} {capacity free len room : ℕ}
+      → IsSound heads cells capacity free len room → 0 < length heads → free ≢ END
+      → kept_at cells free ≡ None
   free_none {heads} {cells} {free = free} s some ne =
       chain_none (length heads) (kept_at cells free) some
       (sym (chain_at_within (length heads) cells free (within_by_free s ne)) ∙ free_on heads cells free s.linked ne)
@@ -68,7 +84,8 @@ module _ {N : Type 0} where
   -- the same nodes are as many
   pub taken-same : (cells later : List (Cell N)) → SameNodes cells later → taken later ≡ taken cells
   taken-same cells later same =
-      sym (len-contents later 0) ∙ ap (λ (t : Contents N). len t.nodes) (contents_kept cells later 0 0 same) ∙ len-contents cells 0
+      sym (len-contents later 0) ∙ ap (λ (t : Contents N). len t.nodes) (contents_kept cells later 0 0 same)
+      ∙ len-contents cells 0
 
   -- one more or one less
   one : (k : Option (Kept N)) (j : Kept N) → k ≡ Some j → cond {A = ℕ} (is_some k) 1 0 ≡ 1
@@ -78,7 +95,8 @@ module _ {N : Type 0} where
   zero_of k e = rw e refl
 
   -- how many nodes there are after a write
-  taken-set : (cells : List (Cell N)) (i : ℕ) (c : Cell N) → i < length cells → taken (set cells i c) + cond (is_some (kept_at cells i)) 1 0 ≡ taken cells + cond (is_some c.kept) 1 0
+  taken-set : (cells : List (Cell N)) (i : ℕ) (c : Cell N) → i < length cells
+      → taken (set cells i c) + cond (is_some (kept_at cells i)) 1 0 ≡ taken cells + cond (is_some c.kept) 1 0
   taken-set cells i c h = sum_by-set (λ d. cond (is_some d.kept) 1 0) cells i c no_cell h
 
   -- where a new node was put
@@ -86,9 +104,12 @@ module _ {N : Type 0} where
     pub was : kept_at old at ≡ None
     pub is : kept_at new at ≡ Some k
     pub others : (j : ℕ) → j ≢ at → kept_at new j ≡ kept_at old j
-    pub small : at < 2 ^ 62
+    pub small : at < 2 ^ 47
 
-  pub inserted_by : (heads : List ℕ) (cells later : List (Cell N)) (capacity free now len room at : ℕ) (c : Cell N) (k : Kept N) → IsSound heads cells capacity free len room → len < room → IsPlaced cells later free now c at → c.kept ≡ Some k → IsInserted cells later k at
+  pub inserted_by : (heads : List ℕ) (cells later : List (Cell N)) (capacity free now len room at : ℕ) (c : Cell N)
+      (k : Kept N)
+      → IsSound heads cells capacity free len room → len < room → IsPlaced cells later free now c at → c.kept ≡ Some k
+      → IsInserted cells later k at
   inserted_by heads cells later capacity free now len room at c k s more placed kept =
       elim placed as (λ _. IsInserted cells later k at) [
         | inl p ↦ let full = full_by_free s p.0 in
@@ -107,19 +128,25 @@ module _ {N : Type 0} where
             })
       ]
 
-  pub sound-insert : (heads : List ℕ) (cells later : List (Cell N)) (capacity free now len room at b : ℕ) (c : Cell N) (k : Kept N) → IsSound heads cells capacity free len room → len < room → IsPlaced cells later free now c at → c.kept ≡ Some k → b ≡ k.hash % length heads → c.next ≡ get_or heads b END → IsSound (set heads b at) later capacity now (len + 1) room
+  pub sound-insert : (heads : List ℕ) (cells later : List (Cell N)) (capacity free now len room at b : ℕ) (c : Cell N)
+      (k : Kept N)
+      → IsSound heads cells capacity free len room → len < room → IsPlaced cells later free now c at → c.kept ≡ Some k
+      → b ≡ k.hash % length heads → c.next ≡ get_or heads b END
+      → IsSound (set heads b at) later capacity now (len + 1) room
   sound-insert heads cells later capacity free now len room at b c k s more placed kept bucket leads =
       let some : 0 < length heads = omega (arith, more, s.headed) in
       let low : b < length heads = omega arith in
       let on = ap (chain_of (length heads)) kept ∙ sym bucket in
-      let few : length cells < 2 ^ 63 = omega (arith, s.cells_small) in
+      let few : length cells < END = omega (arith, s.cells_small) in
       let added = one c.kept k kept in
       elim placed as (λ _. IsSound (set heads b at) later capacity now (len + 1) room) [
         | inl p ↦ let full = full_by_free s p.0 in
             let e : now ≡ free = p.3 ∙ sym p.0 in
             rw (p.2, p.1, e) (record {
               linked = linked-push heads cells free b c low few leads on s.linked;
-              counted = omega (arith, s.counted, added, sum_by_push (λ (d : Cell N). cond {A = ℕ} (is_some d.kept) 1 0) cells c);
+              counted =
+                  omega
+                  (arith, s.counted, added, sum_by_push (λ (d : Cell N). cond {A = ℕ} (is_some d.kept) 1 0) cells c);
               held = omega arith;
               headed = omega (arith, s.headed, length-set heads b (length cells));
               reserved = s.reserved;
@@ -130,7 +157,15 @@ module _ {N : Type 0} where
         | inr p ↦ let within = within_by_free s p.0 in
             rw (p.2, p.3, p.1) (record {
               linked = linked-reuse heads cells free b c low within few leads on s.linked;
-              counted = omega (arith, s.counted, added, zero_of (kept_at cells free) (free_none s some p.0), taken-set cells free c within);
+              counted =
+                  omega (
+                    arith,
+                    s.counted,
+                    added,
+                    zero_of (kept_at cells free) (free_none s some p.0),
+                    taken-set cells free
+                        c within,
+                  );
               held = omega arith;
               headed = omega (arith, s.headed, length-set heads b free);
               reserved = s.reserved;
@@ -140,12 +175,26 @@ module _ {N : Type 0} where
             })
       ]
 
-  pub sound-remove : (heads later_heads : List ℕ) (cells later : List (Cell N)) (capacity free len room i : ℕ) (c : Cell N) (k : Kept N) → IsSound heads cells capacity free len room → kept_at cells i ≡ Some k → IsLinkedBut later_heads later free i → length later_heads ≡ length heads → length later ≡ length cells → SameNodes cells later → c.next ≡ free → c.kept ≡ None → IsSound later_heads (set later i c) capacity i (len - 1) room
+  pub sound-remove : (heads later_heads : List ℕ) (cells later : List (Cell N)) (capacity free len room i : ℕ)
+      (c : Cell N) (k : Kept N)
+      → IsSound heads cells capacity free len room → kept_at cells i ≡ Some k → IsLinkedBut later_heads later free i
+      → length later_heads ≡ length heads → length later ≡ length cells → SameNodes cells later → c.next ≡ free
+      → c.kept ≡ None
+      → IsSound later_heads (set later i c) capacity i (len - 1) room
   sound-remove heads later_heads cells later capacity free len room i c k s at unlinked hs cs same leads none =
       let within : i < length later = omega (arith, within_by_node cells i k at, cs) in
       record {
         linked = linked-give later_heads later free i c within (omega (arith, s.cells_small, cs)) leads none unlinked;
-        counted = omega (arith, s.counted, taken-same cells later same, one (kept_at later i) k (same i ∙ at), zero_of c.kept none, taken-set later i c within);
+        counted =
+            omega (
+              arith,
+              s.counted,
+              taken-same cells later same,
+              one (kept_at later i) k (same i ∙ at),
+              zero_of c.kept
+                  none,
+              taken-set later i c within,
+            );
         held = omega (arith, s.held);
         headed = omega (arith, s.headed, hs);
         reserved = s.reserved;
@@ -155,16 +204,28 @@ module _ {N : Type 0} where
       }
 
   -- a table without cells, whose heads lead nowhere
-  bare_linked : (heads : List ℕ) (cells : List (Cell N)) → heads ≡ replicate (length heads) END → cells ≡ [] → IsLinked heads cells END
+  bare_linked : (heads : List ℕ) (cells : List (Cell N)) → heads ≡ replicate (length heads) END → cells ≡ []
+      → IsLinked heads cells END
   bare_linked heads cells bare none b h =
       let low : b < length heads + 1 = omega (arith, h, length_push heads END) in
-      let first : get_or (heads ++ END ∷ []) b END ≡ END = elim (cases_lt b (length heads)) as (λ _. get_or (heads ++ END ∷ []) b END ≡ END) [
-        | inl l ↦ get_or_append_left heads (END ∷ []) END b l ∙ ap (λ (hs : List ℕ). get_or hs b END) bare ∙ get_or-replicate (length heads) b END END l
+      let first : get_or (heads ++ END ∷ []) b END ≡ END
+      = elim (cases_lt b (length heads)) as (λ _. get_or (heads ++ END ∷ []) b END ≡ END) [
+        | inl l ↦ get_or_append_left heads (END ∷ []) END b l ∙ ap (λ (hs : List ℕ). get_or hs b END) bare
+            ∙ get_or-replicate (length heads) b END END l
         | inr g ↦ get_or_at heads END [] END b (omega arith)
       ] in
-      record { path = []; linked = first; inside = λ i m. absurd m; whole = λ i e. absurd (let off = ap (λ (cs : List (Cell N)). chain_at (length heads) cs i) none in omega arith) }
+      record {
+        path = [];
+        linked = first;
+        inside = λ i m. absurd m;
+        whole =
+            λ i e. absurd (let off = ap (λ (cs : List (Cell N)). chain_at (length heads) cs i) none in omega arith);
+      }
 
-  pub sound-none : (heads : List ℕ) (cells : List (Cell N)) (capacity room : ℕ) → heads ≡ replicate (length heads) END → cells ≡ [] → room ≤ length heads → room ≤ capacity → length heads ≤ 2 ^ 62 → (0 < length heads → IsPowerOfTwo (length heads)) → IsSound heads cells capacity END 0 room
+  pub sound-none : (heads : List ℕ) (cells : List (Cell N)) (capacity room : ℕ) → heads ≡ replicate (length heads) END
+      → cells ≡ [] → room ≤ length heads → room ≤ capacity → length heads ≤ 2 ^ 47
+      → (0 < length heads → IsPowerOfTwo (length heads))
+      → IsSound heads cells capacity END 0 room
   sound-none heads cells capacity room bare none headed reserved small masked = record {
     linked = bare_linked heads cells bare none;
     counted = rw none refl;
@@ -177,7 +238,12 @@ module _ {N : Type 0} where
   }
 
   -- other cells with the same nodes, chained anew
-  pub sound-relink : (heads now_heads : List ℕ) (cells later : List (Cell N)) (capacity now_capacity free now len room now_room : ℕ) → IsSound heads cells capacity free len room → IsLinked now_heads later now → SameNodes cells later → length later ≤ length cells → len ≤ now_room → now_room ≤ length now_heads → now_room ≤ now_capacity → length now_heads ≤ 2 ^ 62 → IsPowerOfTwo (length now_heads) → IsSound now_heads later now_capacity now len now_room
+  pub sound-relink : (heads now_heads : List ℕ) (cells later : List (Cell N))
+      (capacity now_capacity free now len room now_room : ℕ)
+      → IsSound heads cells capacity free len room → IsLinked now_heads later now → SameNodes cells later
+      → length later ≤ length cells → len ≤ now_room → now_room ≤ length now_heads → now_room ≤ now_capacity
+      → length now_heads ≤ 2 ^ 47 → IsPowerOfTwo (length now_heads)
+      → IsSound now_heads later now_capacity now len now_room
   sound-relink heads now_heads cells later capacity now_capacity free now len room now_room s linked same fewer held headed reserved small power = record {
     linked = linked;
     counted = s.counted ∙ sym (taken-same cells later same);
@@ -190,7 +256,9 @@ module _ {N : Type 0} where
   }
 
   -- memory may be given back down to the room
-  pub sound-capacity : {heads : List ℕ} {cells : List (Cell N)} {capacity free len room : ℕ} → IsSound heads cells capacity free len room → (now : ℕ) → room ≤ now → IsSound heads cells now free len room
+  pub sound-capacity : {heads : List ℕ} {cells : List (Cell N)} {capacity free len room : ℕ}
+      → IsSound heads cells capacity free len room → (now : ℕ) → room ≤ now
+      → IsSound heads cells now free len room
   sound-capacity s now reserved = record {
     linked = s.linked;
     counted = s.counted;

@@ -1,5 +1,6 @@
 -- All chains at once: a cell leaves its chain, and joins another.
-use Rattle.std.proofs.Common.{◌≡◌, ◌≢◌, ℕ, ◌<◌, inl, inr, List, ◌∷◌, length, get_or, set, refl, sym, ap, ◌∙◌, subst, arith}
+use Rattle.std.proofs.Common.{◌≡◌, ◌≢◌, ℕ, ◌<◌, inl, inr, List, ◌∷◌, length, get_or, set, refl, sym, ap, ◌∙◌, subst}
+use Rattle.std.proofs.Common.{arith}
 use Rattle.std.proofs.lemmas.Bool.{cases_eq}
 use Rattle.std.proofs.lemmas.List.{get_or-set_same, get_or-set_other, length-set}
 use Rattle.hashlink_table.specs.declared.cell.TheConstants.{END}
@@ -15,7 +16,9 @@ abbrev pub SameBut : ℕ → (ℕ → ℕ) → (ℕ → ℕ) → Type 0
 SameBut i old new = (j : ℕ) → j ≢ i → new j ≡ old j
 
 -- a chain from which nothing is taken, and to which nothing comes
-chain_same : (next later chain now : ℕ → ℕ) (from b i : ℕ) → IsChain next chain from b → chain i ≢ b → now i ≢ b → SameBut i chain now → ((j : ℕ) → chain j ≡ b → later j ≡ next j) → IsChain later now from b
+chain_same : (next later chain now : ℕ → ℕ) (from b i : ℕ) → IsChain next chain from b → chain i ≢ b → now i ≢ b
+    → SameBut i chain now → ((j : ℕ) → chain j ≡ b → later j ≡ next j)
+    → IsChain later now from b
 chain_same next later chain now from b i c off gone same links = record {
   path = c.path;
   linked = path_same next later from c.path (λ j m. links j (c.inside j m)) c.linked;
@@ -24,7 +27,9 @@ chain_same next later chain now from b i c off gone same links = record {
 }
 
 -- a chain without the cell i
-chain_without : (next later chain now : ℕ → ℕ) (from to b i : ℕ) (c : IsChain next chain from b) → IsWithout later to i c.path → now i ≢ b → SameBut i chain now → IsChain later now to b
+chain_without : (next later chain now : ℕ → ℕ) (from to b i : ℕ) (c : IsChain next chain from b)
+    → IsWithout later to i c.path → now i ≢ b → SameBut i chain now
+    → IsChain later now to b
 chain_without next later chain now from to b i c w gone same = record {
   path = w.path;
   linked = w.linked;
@@ -34,13 +39,16 @@ chain_without next later chain now from to b i c w gone same = record {
 }
 
 -- a chain with the cell i before its first
-chain_with : (next later chain now : ℕ → ℕ) (from b i : ℕ) → IsChain next chain from b → i ≢ END → chain i ≢ b → later i ≡ from → SameBut i next later → now i ≡ b → SameBut i chain now → IsChain later now i b
+chain_with : (next later chain now : ℕ → ℕ) (from b i : ℕ) → IsChain next chain from b → i ≢ END → chain i ≢ b
+    → later i ≡ from → SameBut i next later → now i ≡ b → SameBut i chain now
+    → IsChain later now i b
 chain_with next later chain now from b i c ne off leads links joins same =
     let apart : (j : ℕ) → Among c.path j → j ≢ i = λ j m e. off (ap chain (sym e) ∙ c.inside j m) in
     let Path : ℕ → Type 0 = λ n. IsPath later n c.path in
     record {
       path = i ∷ c.path;
-      linked = (refl, ne, subst Path (sym leads) (path_same next later from c.path (λ j m. links j (apart j m)) c.linked));
+      linked =
+          (refl, ne, subst Path (sym leads) (path_same next later from c.path (λ j m. links j (apart j m)) c.linked));
       inside = λ j m. elim m as (λ _. now j ≡ b) [
         | inl e ↦ ap now (sym e) ∙ joins
         | inr m ↦ same j (apart j m) ∙ c.inside j m
@@ -52,7 +60,9 @@ chain_with next later chain now from b i c ne off leads links joins same =
     }
 
 -- what starts at b after the start of a is set
-start_cases : (P : ℕ → Type 0) (starts : List ℕ) (a b x : ℕ) → b < length starts → (b ≡ a → P x) → (b ≢ a → P (get_or starts b END)) → P (get_or (set starts a x) b END)
+start_cases : (P : ℕ → Type 0) (starts : List ℕ) (a b x : ℕ) → b < length starts → (b ≡ a → P x)
+    → (b ≢ a → P (get_or starts b END))
+    → P (get_or (set starts a x) b END)
 start_cases P starts a b x h here there = elim (cases_eq b a) as (λ _. P (get_or (set starts a x) b END)) [
   | inl e ↦ let within : a < length starts = omega arith in
       subst P (sym (ap (λ n. get_or (set starts a x) n END) e ∙ get_or-set_same starts a x END within)) (here e)
@@ -60,7 +70,10 @@ start_cases P starts a b x h here there = elim (cases_eq b a) as (λ _. P (get_o
 ]
 
 -- the first cell of a chain leaves it
-pub take_first : (starts : List ℕ) (next chain now : ℕ → ℕ) (a i : ℕ) → IsThreaded starts next chain → a < length starts → get_or starts a END ≡ i → i ≢ END → chain i ≡ a → IsOff (length starts) now i → SameBut i chain now → IsThreaded (set starts a (next i)) next now
+pub take_first : (starts : List ℕ) (next chain now : ℕ → ℕ) (a i : ℕ) → IsThreaded starts next chain
+    → a < length starts → get_or starts a END ≡ i → i ≢ END → chain i ≡ a → IsOff (length starts) now i
+    → SameBut i chain now
+    → IsThreaded (set starts a (next i)) next now
 take_first starts next chain now a i t within first ne on off same b h =
     let below : b < length starts = omega (arith, length-set starts a (next i)) in
     start_cases (λ from. IsChain next now from b) starts a b (next i) below
@@ -68,10 +81,14 @@ take_first starts next chain now a i t within first ne on off same b h =
     let From : ℕ → Type 0 = λ n. IsPath next n c.path in
     let w = path_without_first next i c.path (subst From (ap (λ n. get_or starts n END) e ∙ first) c.linked) ne in
     chain_without next next chain now _ _ b i c w (off b below) same)
-    (λ other. chain_same next next chain now _ b i (t b below) (λ e. other (sym e ∙ on)) (off b below) same (λ j _. refl))
+    (λ other. chain_same next next chain now _ b i (t b below) (λ e. other (sym e ∙ on)) (off b below) same
+    (λ j _. refl))
 
 -- the cell after p leaves their chain
-pub take_next : (starts : List ℕ) (next later chain now : ℕ → ℕ) (p i : ℕ) → IsThreaded starts next chain → next p ≡ i → later p ≡ next i → SameBut p next later → i ≢ END → chain i ≡ chain p → IsOff (length starts) now i → SameBut i chain now → IsThreaded starts later now
+pub take_next : (starts : List ℕ) (next later chain now : ℕ → ℕ) (p i : ℕ) → IsThreaded starts next chain → next p ≡ i
+    → later p ≡ next i → SameBut p next later → i ≢ END → chain i ≡ chain p → IsOff (length starts) now i
+    → SameBut i chain now
+    → IsThreaded starts later now
 take_next starts next later chain now p i t leads cut links ne on off same b h =
     let c = t b h in
     elim (cases_eq (chain p) b) as (λ _. IsChain later now (get_or starts b END) b) [
@@ -82,10 +99,14 @@ take_next starts next later chain now p i t leads cut links ne on off same b h =
     ]
 
 -- a cell that is on no chain joins one
-pub put_first : (starts : List ℕ) (next later chain now : ℕ → ℕ) (a i : ℕ) → IsThreaded starts next chain → a < length starts → i ≢ END → IsOff (length starts) chain i → later i ≡ get_or starts a END → SameBut i next later → now i ≡ a → SameBut i chain now → IsThreaded (set starts a i) later now
+pub put_first : (starts : List ℕ) (next later chain now : ℕ → ℕ) (a i : ℕ) → IsThreaded starts next chain
+    → a < length starts → i ≢ END → IsOff (length starts) chain i → later i ≡ get_or starts a END
+    → SameBut i next later → now i ≡ a → SameBut i chain now
+    → IsThreaded (set starts a i) later now
 put_first starts next later chain now a i t within ne off leads links joins same b h =
     let below : b < length starts = omega (arith, length-set starts a i) in
     start_cases (λ from. IsChain later now from b) starts a b i below
-    (λ e. chain_with next later chain now _ b i (t b below) ne (off b below) (leads ∙ ap (λ n. get_or starts n END) (sym e)) links (joins ∙ sym e) same)
+    (λ e. chain_with next later chain now _ b i (t b below) ne (off b below)
+    (leads ∙ ap (λ n. get_or starts n END) (sym e)) links (joins ∙ sym e) same)
     (λ other. chain_same next later chain now _ b i (t b below) (off b below) (λ e. other (sym e ∙ joins)) same
     (λ j e. links j (λ q. off b below (ap chain (sym q) ∙ e))))

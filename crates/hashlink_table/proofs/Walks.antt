@@ -1,9 +1,11 @@
 -- A walk along a chain: it stays in the chain, and ends.
-use Rattle.std.proofs.Common.{◌≡◌, ◌≢◌, ℕ, zero, suc, ◌+◌, ◌%◌, ◌<◌, ◌≤◌, cond, eqb, ◌⊎◌, inl, inr, List, [], ◌∷◌, length, get_or, count_by, refl, sym, ap, ◌∙◌, subst, arith}
+use Rattle.std.proofs.Common.{◌≡◌, ◌≢◌, ℕ, zero, suc, ◌+◌, ◌%◌, ◌<◌, ◌≤◌, cond, eqb, Option, None, Some, IsSome, ◌⊎◌}
+use Rattle.std.proofs.Common.{inl, inr, List, [], ◌∷◌, length, get_or, count_by, refl, sym, ap, ◌∙◌, subst, arith}
 use Rattle.std.proofs.lemmas.Bool.{eq-eqb, ne_eqb}
 use Rattle.std.proofs.lemmas.List.{get_or_append_left, get_or_read, length_push}
 use Rattle.std.proofs.lemmas.List.Sums.{count_by-le-length}
 use Rattle.std.specs.Int.{IsPowerOfTwo}
+use Rattle.hashlink_table.specs.declared.kept.Kept.{Kept}
 use Rattle.hashlink_table.specs.declared.cell.Cell.{Cell}
 use Rattle.hashlink_table.specs.declared.cell.TheConstants.{END}
 use Rattle.hashlink_table.specs.Chains.{no_cell, kept_at, next_at, chain_of, chain_at, Among, IsPath, IsLinked}
@@ -28,12 +30,22 @@ pub record IsRest {next chain : ℕ → ℕ} {b at most : ℕ} (w : IsWalk next 
   pub cases : (j : ℕ) → Among w.path j → (at ≡ j) ⊎ Among rest.path j
   pub shorter : length w.path ≡ length rest.path + 1
 
-rest_of : (next chain : ℕ → ℕ) (b at most : ℕ) (path : List ℕ) (linked : IsPath next at path) (inside : (j : ℕ) → Among path j → chain j ≡ b) (short : length path ≤ most) → at ≢ END → IsRest {next = next} {chain = chain} {b = b} {at = at} {most = most} (record { path = path; linked = linked; inside = inside; short = short })
+rest_of : (next chain : ℕ → ℕ) (b at most : ℕ) (path : List ℕ) (linked : IsPath next at path)
+    (inside : (j : ℕ) → Among path j → chain j ≡ b) (short : length path ≤ most)
+    → at ≢ END
+    → IsRest {next = next} {chain = chain} {b = b} {at = at} {most = most}
+    (record { path = path; linked = linked; inside = inside; short = short })
 rest_of next chain b at most [] linked inside short ne = absurd (ne linked)
 rest_of next chain b at most (x ∷ xs) linked inside short ne =
     let Path : ℕ → Type 0 = λ n. IsPath next (next n) xs in
     record {
-      rest = record { path = xs; linked = subst Path (sym linked.0) linked.2; inside = λ j m. inside j (inr m); short = omega arith };
+      rest =
+          record {
+            path = xs;
+            linked = subst Path (sym linked.0) linked.2;
+            inside = λ j m. inside j (inr m);
+            short = omega arith;
+          };
       cases = λ j m. elim m as (λ _. (at ≡ j) ⊎ Among xs j) [ inl e ↦ inl (linked.0 ∙ e) | inr m ↦ inr m ];
       shorter = omega arith;
     }
@@ -46,10 +58,12 @@ pub walk_at : {next chain : ℕ → ℕ} {b at most : ℕ} → IsWalk next chain
 walk_at {next} {at = at} w ne = w.inside at (first_among next at w.path w.linked ne)
 
 -- a walk with a cell to come has not ended
-pub walk_goes : {next chain : ℕ → ℕ} {b at most : ℕ} (w : IsWalk next chain b at most) (j : ℕ) → Among w.path j → at ≢ END
+pub walk_goes : {next chain : ℕ → ℕ} {b at most : ℕ} (w : IsWalk next chain b at most) (j : ℕ) → Among w.path j
+    → at ≢ END
 walk_goes {next} {at = at} w j m = begun next at w.path w.linked j m
 
--- a walk of a chain that has passed over cells which are not what is sought: where none of those to come is, none of the
+-- a walk of a chain that has passed over cells which are not what is sought: where none of those to come is, none of
+-- the
 -- chain is. It took a step for each cell
 pub record IsSearch (next chain : ℕ → ℕ) (b at most : ℕ) (IsOther : ℕ → Type 0) (all before now : ℕ) : Type 0 where
   pub walk : IsWalk next chain b at most
@@ -58,7 +72,10 @@ pub record IsSearch (next chain : ℕ → ℕ) (b at most : ℕ) (IsOther : ℕ 
   pub cost : now + length walk.path ≤ before + all
 
 -- a search that passes over one more cell
-pub search_on : {next chain : ℕ → ℕ} {b at most : ℕ} {IsOther : ℕ → Type 0} {all before now : ℕ} → IsSearch next chain b at most IsOther all before now → at ≢ END → IsOther at → (to later : ℕ) → next at ≡ to → later ≡ now + 1 → IsSearch next chain b to most IsOther all before later
+pub search_on : {next chain : ℕ → ℕ} {b at most : ℕ} {IsOther : ℕ → Type 0} {all before now : ℕ}
+    → IsSearch next chain b at most IsOther all before now → at ≢ END → IsOther at → (to later : ℕ) → next at ≡ to
+    → later ≡ now + 1
+    → IsSearch next chain b to most IsOther all before later
 search_on {next} {chain} {b} {at} {most} {IsOther} {all} {before} s ne other to later leads e =
     let r = walk_on s.walk ne in
     let Search : ℕ → Type 0 = λ n. IsSearch next chain b n most IsOther all before later in
@@ -73,7 +90,9 @@ search_on {next} {chain} {b} {at} {most} {IsOther} {all} {before} s ne other to 
     })
 
 -- a search that has ended
-pub search_ends : {next chain : ℕ → ℕ} {b at most : ℕ} {IsOther : ℕ → Type 0} {all before now : ℕ} → IsSearch next chain b at most IsOther all before now → at ≡ END → (j : ℕ) → chain j ≡ b → IsOther j
+pub search_ends : {next chain : ℕ → ℕ} {b at most : ℕ} {IsOther : ℕ → Type 0} {all before now : ℕ}
+    → IsSearch next chain b at most IsOther all before now → at ≡ END → (j : ℕ) → chain j ≡ b
+    → IsOther j
 search_ends {next} {at = at} s e = s.none (λ j m. absurd (walk_goes s.walk j m e))
 
 -- how many links lead from a cell to the end, if no more than so many
@@ -81,16 +100,20 @@ abbrev pub steps_left : (ℕ → ℕ) → ℕ → ℕ → ℕ
 steps_left next zero at = zero
 steps_left next (suc most) at = cond (eqb at END) zero (suc (steps_left next most (next at)))
 
-steps_left-path : (next : ℕ → ℕ) (most at : ℕ) (path : List ℕ) → IsPath next at path → length path ≤ most → steps_left next most at ≡ length path
+steps_left-path : (next : ℕ → ℕ) (most at : ℕ) (path : List ℕ) → IsPath next at path → length path ≤ most
+    → steps_left next most at ≡ length path
 steps_left-path next zero at [] linked short = refl
 steps_left-path next zero at (x ∷ xs) linked short = absurd (omega arith)
 steps_left-path next (suc most) at [] linked short = rw (eq-eqb at END linked) refl
 steps_left-path next (suc most) at (x ∷ xs) linked short =
-    let rest : steps_left next most (next x) ≡ length xs = steps_left-path next most (next x) xs linked.2 (omega arith) in
-    rw (ne_eqb at END (λ e. linked.1 (sym linked.0 ∙ e))) (ap suc (ap (λ n. steps_left next most (next n)) linked.0 ∙ rest))
+    let rest : steps_left next most (next x) ≡ length xs
+    = steps_left-path next most (next x) xs linked.2 (omega arith) in
+    rw (ne_eqb at END (λ e. linked.1 (sym linked.0 ∙ e)))
+    (ap suc (ap (λ n. steps_left next most (next n)) linked.0 ∙ rest))
 
 -- each link brings the end nearer
-pub steps_left-falls : {next chain : ℕ → ℕ} {b at most : ℕ} → IsWalk next chain b at most → at ≢ END → steps_left next most (next at) < steps_left next most at
+pub steps_left-falls : {next chain : ℕ → ℕ} {b at most : ℕ} → IsWalk next chain b at most → at ≢ END
+    → steps_left next most (next at) < steps_left next most at
 steps_left-falls {next} {at = at} {most = most} w ne =
     let r = walk_on w ne in
     let here = steps_left-path next most at w.path w.linked w.short in
@@ -103,7 +126,10 @@ module _ {N : Type 0} where
   in_bucket cells buckets b = count_by (λ c. eqb (chain_of buckets c.kept) b) cells
 
   -- the walk along a bucket's chain
-  pub walk_of : (heads : List ℕ) (cells : List (Cell N)) (free b : ℕ) → IsLinked heads cells free → b < length heads → (w : IsWalk (next_at cells) (chain_at (length heads) cells) b (get_or heads b END) (length cells)) × ((j : ℕ) → chain_at (length heads) cells j ≡ b → Among w.path j) × (length w.path ≤ in_bucket cells (length heads) b)
+  pub walk_of : (heads : List ℕ) (cells : List (Cell N)) (free b : ℕ) → IsLinked heads cells free → b < length heads
+      → (w : IsWalk (next_at cells) (chain_at (length heads) cells) b (get_or heads b END) (length cells))
+      × ((j : ℕ) → chain_at (length heads) cells j ≡ b → Among w.path j)
+      × (length w.path ≤ in_bucket cells (length heads) b)
   walk_of heads cells free b linked h =
       let c = linked b (omega (arith, length_push heads free)) in
       let Path : ℕ → Type 0 = λ n. IsPath (next_at cells) n c.path in
@@ -112,24 +138,57 @@ module _ {N : Type 0} where
       path_length (λ d. eqb (chain_of (length heads) d.kept) b) (next_at cells) _ c.path cells no_cell path
       (ne_eqb (length heads) b (λ e. omega arith))
       (λ j m. let e = c.inside j m in
-      eq-eqb _ b (sym (chain_at_within (length heads) cells j (within_by_chain (length heads) cells j b e (omega arith))) ∙ e)) in
-      let short : length c.path ≤ length cells = omega (arith, few, count_by-le-length (λ (d : Cell N). eqb (chain_of (length heads) d.kept) b) cells) in
+      eq-eqb _ b
+      (sym (chain_at_within (length heads) cells j (within_by_chain (length heads) cells j b e (omega arith))) ∙ e))
+      in
+      let short : length c.path ≤ length cells
+      = omega (arith, few, count_by-le-length (λ (d : Cell N). eqb (chain_of (length heads) d.kept) b) cells) in
       (record { path = c.path; linked = path; inside = c.inside; short = short }, c.whole, few)
 
   -- a search from a bucket's head
-  pub search_start : (heads : List ℕ) (cells : List (Cell N)) (free b at : ℕ) {IsOther : ℕ → Type 0} (before : ℕ) → IsLinked heads cells free → b < length heads → get_or heads b END ≡ at → IsSearch (next_at cells) (chain_at (length heads) cells) b at (length cells) IsOther (in_bucket cells (length heads) b) before before
+  pub search_start : (heads : List ℕ) (cells : List (Cell N)) (free b at : ℕ) {IsOther : ℕ → Type 0} (before : ℕ)
+      → IsLinked heads cells free → b < length heads → get_or heads b END ≡ at
+      → IsSearch (next_at cells) (chain_at (length heads) cells) b at (length cells) IsOther
+      (in_bucket cells (length heads) b) before before
   search_start heads cells free b at {IsOther = IsOther} before linked h e =
       let w = walk_of heads cells free b linked h in
-      let Search : ℕ → Type 0 = λ n. IsSearch (next_at cells) (chain_at (length heads) cells) b n (length cells) IsOther (in_bucket cells (length heads) b) before before in
-      subst Search e (record { walk = w.0; none = λ other j q. other j (w.1 j q); goes_on = omega arith; cost = omega (arith, w.2) })
+      let Search : ℕ → Type 0
+      = λ n. IsSearch (next_at cells) (chain_at (length heads) cells) b n (length cells) IsOther
+      (in_bucket cells (length heads) b) before before in
+      subst Search e
+      (record { walk = w.0; none = λ other j q. other j (w.1 j q); goes_on = omega arith; cost = omega (arith, w.2) })
 
   -- a search that has not ended reads a cell
-  pub search_within : (heads : List ℕ) (cells : List (Cell N)) (hash : ℕ) {at most all before now : ℕ} {IsOther : ℕ → Type 0} → IsSearch (next_at cells) (chain_at (length heads) cells) (hash % length heads) at most IsOther all before now → IsPowerOfTwo (length heads) → at ≢ END → at < length cells
+  pub search_within : (heads : List ℕ) (cells : List (Cell N)) (hash : ℕ) {at most all before now : ℕ}
+      {IsOther : ℕ → Type 0}
+      → IsSearch (next_at cells) (chain_at (length heads) cells) (hash % length heads) at most IsOther all before now
+      → IsPowerOfTwo (length heads) → at ≢ END
+      → at < length cells
   search_within heads cells hash {at} s power ne =
       let some = positive_by_power (length heads) power in
       within_by_chain (length heads) cells at (hash % length heads) (walk_at s.walk ne) (omega arith)
 
-  pub search_read : (heads : List ℕ) (cells : List (Cell N)) (hash : ℕ) {at most all before now : ℕ} {IsOther : ℕ → Type 0} → IsSearch (next_at cells) (chain_at (length heads) cells) (hash % length heads) at most IsOther all before now → IsPowerOfTwo (length heads) → at ≢ END → (read : Cell N) → read ≡ get_or cells at read → (kept_at cells at ≡ read.kept) × (next_at cells at ≡ read.next)
+  pub search_read : (heads : List ℕ) (cells : List (Cell N)) (hash : ℕ) {at most all before now : ℕ}
+      {IsOther : ℕ → Type 0}
+      → IsSearch (next_at cells) (chain_at (length heads) cells) (hash % length heads) at most IsOther all before now
+      → IsPowerOfTwo (length heads) → at ≢ END → (read : Cell N) → read ≡ get_or cells at read
+      → (kept_at cells at ≡ read.kept) × (next_at cells at ≡ read.next)
   search_read heads cells hash {at} s power ne read is =
       let same = get_or_read cells at read (search_within heads cells hash s power ne) is no_cell in
       (ap (λ (c : Cell N). c.kept) (sym same), ap (λ (c : Cell N). c.next) (sym same))
+
+  -- where it is on a bucket's chain, a cell has a node
+  some_on : (buckets b : ℕ) (k : Option (Kept N)) → chain_of buckets k ≡ b → b < buckets → IsSome k
+  some_on buckets b None e low = absurd (omega arith)
+  some_on buckets b (Some k) e low = refl
+
+  pub search_some : (heads : List ℕ) (cells : List (Cell N)) (hash : ℕ) {at most all before now : ℕ}
+      {IsOther : ℕ → Type 0}
+      → IsSearch (next_at cells) (chain_at (length heads) cells) (hash % length heads) at most IsOther all before now
+      → IsPowerOfTwo (length heads) → at ≢ END
+      → IsSome (kept_at cells at)
+  search_some heads cells hash {at} s power ne =
+      let some = positive_by_power (length heads) power in
+      some_on (length heads) (hash % length heads) (kept_at cells at)
+      (sym (chain_at_within (length heads) cells at (search_within heads cells hash s power ne)) ∙ walk_at s.walk ne)
+      (omega arith)

@@ -1,5 +1,6 @@
 -- How a `Table` chains its cells. No public clause cites this module.
-use Rattle.std.specs.Prelude.{◌≡◌, ◌≢◌, ℕ, suc, ◌+◌, ◌%◌, ◌^◌, ◌<◌, ◌≤◌, ◌⊎◌, List, [], ◌∷◌, ◌++◌, map, length, Option, Some, None, is_some, count_by, slice_index_or, slice_set}
+use Rattle.std.specs.Prelude.{◌≡◌, ◌≢◌, ℕ, suc, ◌+◌, ◌%◌, ◌^◌, ◌<◌, ◌≤◌, ◌⊎◌, List, [], ◌∷◌, ◌++◌, map, length}
+use Rattle.std.specs.Prelude.{Option, Some, None, is_some, count_by, slice_index_or, slice_set}
 use Rattle.std.specs.FinMap.{from_sorted}
 use Rattle.std.specs.Int.{IsPowerOfTwo}
 use Rattle.hashlink_table.specs.Contents.{Contents}
@@ -96,6 +97,6 @@ pub record IsSound {N : Type 0} (heads : List ℕ) (cells : List (Cell N)) (capa
   pub held : len ≤ room
   pub headed : room ≤ length heads
   pub reserved : room ≤ capacity
-  pub small : length heads ≤ 2 ^ 62
-  pub cells_small : length cells ≤ 2 ^ 62
+  pub small : length heads ≤ 2 ^ 47
+  pub cells_small : length cells ≤ 2 ^ 47
   pub masked : 0 < length heads → IsPowerOfTwo (length heads)

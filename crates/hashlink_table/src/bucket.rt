@@ -1,4 +1,4 @@
-ghost use Rattle.std.specs.Prelude.{◌≡◌, ◌%◌};
+ghost use Rattle.std.specs.Prelude.{◌≡◌, ◌%◌, ◌^◌, ◌≤◌};
 ghost use Rattle.std.specs.Int.{IsPowerOfTwo};
 
 /// Which of so many buckets a hash belongs to.
@@ -8,4 +8,18 @@ pub fn bucket_of(hash: u64, buckets: usize) -> usize
     ensures { result ≡ hash % buckets }
 {
     (hash as usize) & (buckets - 1)
+}
+
+// Up to so many cells the heads lie in a near cache all the same.
+const FEW_CELLS: usize = 1 << 14;
+
+/// How many buckets a table with so many cells has: two for each where they are few, so that fewer nodes share one.
+pub fn buckets_for(cells: usize) -> usize
+    requires power { IsPowerOfTwo cells }
+    requires small { cells ≤ 2 ^ 62 }
+    ensures power { IsPowerOfTwo result }
+    ensures enough { cells ≤ result }
+    ensures small { result ≤ 2 ^ 62 }
+{
+    if cells <= FEW_CELLS { 2 * cells } else { cells }
 }

@@ -1,29 +1,30 @@
 //! The chains that lead through the cells.
-ghost use Rattle.std.specs.Prelude.{◌≡◌, ◌≢◌, ℕ, ◌+◌, ◌%◌, ◌^◌, ◌<◌, ◌≤◌, ◌==◌, length, count_by, false, replicate, true, IfNone, IfSome, IsSome, Some, vec_capacity, vec_len};
+ghost use Rattle.std.specs.Prelude.{◌≡◌, ◌≢◌, ℕ, ◌+◌, ◌%◌, ◌^◌, ◌<◌, ◌≤◌, ◌==◌, length, count_by, false, replicate};
+ghost use Rattle.std.specs.Prelude.{true, IfNone, IfSome, IsSome, Some, vec_capacity, vec_len};
 ghost use Rattle.std.specs.Int.{IsPowerOfTwo};
 ghost use Rattle.hashlink_table.specs.Chains.{chain_at, chain_of, kept_at, IsLinked, IsLinkedBut, IsPlaced, SameNodes};
 
 use super::bucket::bucket_of;
-use super::cell::{Cell, END};
+use super::cell::{END, Stored};
 use super::steps::Steps;
 use std::sync::ledger::Ledger;
 
 // Chains every cell anew, from heads that lead nowhere, and answers with the first free cell.
-pub fn relink<N: Copy>(heads: &mut [usize], cells: &mut [Cell<N>]) -> usize
+pub fn relink<N: Copy>(heads: &mut [usize], cells: &mut [Stored<N>]) -> usize
     requires masked { IsPowerOfTwo (length heads.old) }
     requires bare { heads.old ≡ replicate (length heads.old) END }
-    requires small { length cells.old < 2 ^ 63 }
+    requires small { length cells.old < END }
     ensures linked { IsLinked heads.new cells.new result }
     ensures nodes { SameNodes cells.old cells.new }
 {
     let mut free = END;
     for at in 0..cells.len() {
-        if let Some(kept) = cells[at].kept {
+        if let Some(kept) = cells[at].kept() {
             let bucket = bucket_of(kept.hash, heads.len());
-            cells[at].next = heads[bucket];
+            cells[at].set_next(heads[bucket]);
             heads[bucket] = at;
         } else {
-            cells[at].next = free;
+            cells[at].set_next(free);
             free = at;
         }
     }
@@ -31,14 +32,14 @@ pub fn relink<N: Copy>(heads: &mut [usize], cells: &mut [Cell<N>]) -> usize
 }
 
 // Drops the cells after the last that has a node.
-pub fn trim<N: Copy>(cells: &mut Vec<Cell<N>>)
+pub fn trim<N: Copy>(cells: &mut Vec<Stored<N>>)
     ensures nodes { SameNodes cells.old.items cells.new.items }
     ensures len { vec_len cells.new ≤ vec_len cells.old }
     ensures trimmed { (last : ℕ) → last + 1 ≡ vec_len cells.new → IsSome (kept_at cells.new.items last) }
     ensures capacity { vec_capacity cells.new ≡ vec_capacity cells.old }
 {
     let mut len = cells.len();
-    while len > 0 && cells[len - 1].kept.is_none() {
+    while len > 0 && cells[len - 1].kept().is_none() {
         len -= 1;
     }
     cells.truncate(len);
@@ -46,9 +47,10 @@ pub fn trim<N: Copy>(cells: &mut Vec<Cell<N>>)
 
 // Puts a cell where the first free one is, or after the last where none is free, and answers where.
 #[inline]
-pub fn place<N: Copy>(cells: &mut Vec<Cell<N>>, free: &mut usize, cell: Cell<N>) -> usize
+pub fn place<N: Copy>(cells: &mut Vec<Stored<N>>, free: &mut usize, cell: Stored<N>) -> usize
     requires within { free.old ≢ END → free.old < vec_len cells.old }
     requires reserved { free.old ≡ END → vec_len cells.old < vec_capacity cells.old }
+    requires small { free.old ≡ END → vec_len cells.old < END }
     ensures placed { IsPlaced cells.old.items cells.new.items free.old free.new cell result }
     ensures capacity { vec_capacity cells.new ≡ vec_capacity cells.old }
 {
@@ -58,46 +60,48 @@ pub fn place<N: Copy>(cells: &mut Vec<Cell<N>>, free: &mut usize, cell: Cell<N>)
         return at;
     }
     let at = *free;
-    *free = cells[at].next;
+    *free = cells[at].next();
     cells[at] = cell;
     at
 }
 
 // Takes a cell out of its bucket's chain: the link to it leads past it.
 #[inline]
-pub fn unlink<N: Copy>(heads: &mut [usize], cells: &mut [Cell<N>], bucket: usize, cell: usize)
+pub fn unlink<N: Copy>(heads: &mut [usize], cells: &mut [Stored<N>], bucket: usize, cell: usize)
     requires within { bucket < length heads.old }
     requires on_chain { chain_at (length heads.old) cells.old cell ≡ bucket }
     requires linked { (free : ℕ) × IsLinked heads.old cells.old free }
-    requires small { length cells.old < 2 ^ 63 }
-    ensures unlinked { (free : ℕ) → IsLinked heads.old cells.old free
-        → IsLinkedBut heads.new cells.new free cell }
+    requires small { length cells.old < END }
+    ensures unlinked { (free : ℕ) → IsLinked heads.old cells.old free → IsLinkedBut heads.new cells.new free cell }
     ensures nodes { SameNodes cells.old cells.new }
 {
-    let after = cells[cell].next;
+    let after = cells[cell].next();
     let mut at = heads[bucket];
     if at == cell {
         heads[bucket] = after;
         return;
     }
-    while cells[at].next != cell {
-        at = cells[at].next;
+    while cells[at].next() != cell {
+        at = cells[at].next();
     }
-    cells[at].next = after;
+    cells[at].set_next(after);
 }
 
-// The node of a cell, if its hash is this one. Finds look at a stored hash here alone, and each look takes a step.
+// The node of a cell that has one, if its hash is this one. Finds look at a stored hash here alone, and each look
+// takes a step.
 #[inline]
-fn look<N: Copy, L: Ledger>(cell: &Cell<N>, hash: u64, steps: &mut Steps<L>) -> Option<N>
+fn look<N: Copy, L: Ledger>(cell: &Stored<N>, hash: u64, steps: &mut Steps<L>) -> Option<N>
+    requires { IsSome cell.now.kept }
     ensures step { steps.new ≡ steps.old + 1 }
     ensures here { IfSome result (λ node. cell.now.kept ≡ Some (record { hash = hash; node = node })) }
-    ensures not_here { IfNone result
-        ((node : N) → cell.now.kept ≢ Some (record { hash = hash; node = node })) }
+    ensures not_here { IfNone result ((node : N) → cell.now.kept ≢ Some (record { hash = hash; node = node })) }
 {
     steps.tick();
-    match cell.kept {
-        Some(kept) if kept.hash == hash => Some(kept.node),
-        _ => None,
+    let kept = cell.there();
+    if kept.hash == hash {
+        Some(kept.node)
+    } else {
+        None
     }
 }
 
@@ -105,25 +109,24 @@ fn look<N: Copy, L: Ledger>(cell: &Cell<N>, hash: u64, steps: &mut Steps<L>) -> 
 #[inline]
 pub fn seek<N: Copy, F: Fn(N) -> bool, L: Ledger>(
     heads: &[usize],
-    cells: &[Cell<N>],
+    cells: &[Stored<N>],
     hash: u64,
     is_match: F,
     steps: &mut Steps<L>,
 ) -> Option<N>
     requires masked { IsPowerOfTwo (length heads.now) }
     requires linked { (free : ℕ) × IsLinked heads.now cells.now free }
-    requires callable { (cell : ℕ) (node : N)
-        → kept_at cells.now cell ≡ Some (record { hash = hash; node = node })
+    requires callable { (cell : ℕ) (node : N) → kept_at cells.now cell ≡ Some (record { hash = hash; node = node })
         → F.pre is_match node }
-    ensures found { IfSome result (λ node. (cell : ℕ)
-        × (kept_at cells.now cell ≡ Some (record { hash = hash; node = node }))
+    ensures found { IfSome result
+        (λ node. (cell : ℕ) × (kept_at cells.now cell ≡ Some (record { hash = hash; node = node }))
         × F.post is_match node true) }
-    ensures none { IfNone result ((cell : ℕ) (node : N)
-        → kept_at cells.now cell ≡ Some (record { hash = hash; node = node })
+    ensures none { IfNone result
+        ((cell : ℕ) (node : N) → kept_at cells.now cell ≡ Some (record { hash = hash; node = node })
         → F.post is_match node false) }
     ensures goes_on { steps.old ≤ steps.new }
-    ensures cost { let m = length heads.now in
-        steps.new ≤ steps.old + count_by (λ c. chain_of m c.kept == hash % m) cells.now }
+    ensures cost { let m = length heads.now in steps.new
+        ≤ steps.old + count_by (λ c. chain_of m c.kept == hash % m) cells.now }
 {
     let mut at = heads[bucket_of(hash, heads.len())];
     while at != END {
@@ -133,7 +136,7 @@ pub fn seek<N: Copy, F: Fn(N) -> bool, L: Ledger>(
                 return Some(node);
             }
         }
-        at = cell.next;
+        at = cell.next();
     }
     None
 }

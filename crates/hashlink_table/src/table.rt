@@ -1,11 +1,12 @@
-ghost use Rattle.std.specs.Prelude.{◌≡◌, ℕ, ◌+◌, ◌^◌, ◌<◌, ◌≤◌, ◌↔◌, false, true, IfNone, IfOk, IfSome, IsOk, IsSome, IsTrue, OnErr, OnOk, None, Ok, Err};
+ghost use Rattle.std.specs.Prelude.{◌≡◌, ℕ, ◌+◌, ◌^◌, ◌<◌, ◌≤◌, ◌↔◌, false, true, IfNone, IfOk, IfSome, IsOk, IsSome};
+ghost use Rattle.std.specs.Prelude.{IsTrue, OnErr, OnOk, None, Ok, Err};
 ghost use Rattle.std.specs.FinMap.{empty, get, insert, remove};
 ghost use Rattle.std.specs.Int.{IsPowerOfTwo};
 ghost use Rattle.hashlink_table.specs.declared.error.TryReserveError.TheVariants.{CapacityOverflow};
 ghost use Rattle.hashlink_table.specs.Contents.{agreeing, len_of, Keeps};
 
-use super::bucket::bucket_of;
-use super::cell::{Cell, END};
+use super::bucket::{bucket_of, buckets_for};
+use super::cell::{END, Stored};
 use super::error::TryReserveError;
 use super::kept::Kept;
 use super::links;
@@ -17,17 +18,20 @@ use std::sync::ledger::{Blank, Ledger};
 /// The most nodes that a table can be asked to have room for.
 pub const MAX_ROOM: usize = 1 << 62;
 
-// The fewest buckets that a table with room has.
-const MIN_BUCKETS: usize = 4;
+// The most buckets that a table has. No machine has the memory for as many heads, so the request for it is refused.
+const MAX_BUCKETS: usize = 1 << 47;
+
+// The least room that a table grows to.
+const MIN_ROOM: usize = 4;
 
 /// Nodes by their hashes. A node keeps the number of its cell until it is removed.
 ///
-/// It takes no memory when made, 8 bytes for each bucket's head and 24 bytes and a node for each cell.
+/// It takes no memory when made, 8 bytes for each bucket's head and 16 bytes and a node for each cell.
 #[derive(Drop)]
 pub struct Table<N> {
     // The first cell of each bucket's chain, or `END`. There are none or a power of two.
     heads: Vec<usize>,
-    cells: Vec<Cell<N>>,
+    cells: Vec<Stored<N>>,
     // The first cell without a node, or `END`.
     free: usize,
     // How many cells have a node.
@@ -108,8 +112,7 @@ impl<N: Copy> Table<N> {
         requires { IsSome (get self.now.nodes cell) }
         ensures { IfSome (get self.now.nodes cell) (λ kept. result ≡ kept.hash) }
     {
-        let kept = self.cells[cell].kept.unwrap();
-        kept.hash
+        self.cells[cell].there().hash
     }
 
     /// Puts a node in under its hash, and answers with the number of its cell. It takes no memory.
@@ -120,31 +123,26 @@ impl<N: Copy> Table<N> {
         ensures inserted { self.new ≡ record self.old {
           nodes = insert self.old.nodes result (record { hash = hash; node = node });
         } }
-        ensures small { result < 2 ^ 62 }
+        ensures small { result < 2 ^ 47 }
     {
         let bucket = bucket_of(hash, self.heads.len());
-        let cell = Cell {
-            kept: Some(Kept { hash, node }),
-            next: self.heads[bucket],
-        };
+        let cell = Stored::taken(Kept { hash, node }, self.heads[bucket]);
         let at = links::place(&mut self.cells, &mut self.free, cell);
         self.heads[bucket] = at;
         self.len += 1;
         at
     }
 
-    /// Takes the node out of a cell, which frees its room. It walks the cells of that bucket alone, and compares no keys.
+    /// Takes the node out of a cell, which frees its room. It walks the cells of that bucket alone, and compares no
+    /// keys.
     #[inline]
     pub fn remove(&mut self, cell: usize)
         requires { IsSome (get self.old.nodes cell) }
         ensures { self.new ≡ record self.old { nodes = remove self.old.nodes cell } }
     {
-        let bucket = bucket_of(self.cells[cell].kept.unwrap().hash, self.heads.len());
+        let bucket = bucket_of(self.cells[cell].there().hash, self.heads.len());
         links::unlink(&mut self.heads, &mut self.cells, bucket, cell);
-        self.cells[cell] = Cell {
-            kept: None,
-            next: self.free,
-        };
+        self.cells[cell].set_free(self.free);
         self.free = cell;
         self.len -= 1;
     }
@@ -236,14 +234,14 @@ impl<N: Copy> Table<N> {
             return Err(TryReserveError::CapacityOverflow);
         }
         let needed = self.len + additional;
-        let buckets = needed.max(MIN_BUCKETS).next_power_of_two();
-        self.rebuild(buckets, buckets)?;
+        let room = needed.max(MIN_ROOM).next_power_of_two();
+        self.rebuild(buckets_for(room), room)?;
         Ok(())
     }
 
     /// Gives memory back: the room is the length afterwards, and without nodes the table holds no memory. Each node
-    /// keeps its cell, so that the memory of the cells below the last one with a node stays. A refusal leaves everything
-    /// as it was.
+    /// keeps its cell, so that the memory of the cells below the last one with a node stays. A refusal leaves
+    /// everything as it was.
     pub fn shrink(&mut self) -> Result<(), AllocError>
         ensures ok { OnOk result (self.new ≡ record self.old { room = len_of self.old }) }
         ensures err { OnErr result (self.new ≡ self.old) }
@@ -258,7 +256,7 @@ impl<N: Copy> Table<N> {
             return Ok(());
         }
         let len = self.len;
-        self.rebuild(len.next_power_of_two(), len)?;
+        self.rebuild(buckets_for(len.next_power_of_two()), len)?;
         self.cells.shrink_to(len);
         Ok(())
     }
@@ -275,6 +273,9 @@ impl<N: Copy> Table<N> {
     {
         let alloc = *self.heads.allocator();
         let mut heads = vec![in alloc; END; buckets]?;
+        if buckets > MAX_BUCKETS {
+            return Err(AllocError);
+        }
         let more = room.saturating_sub(self.cells.len());
         self.cells.reserve_exact(more)?;
         links::trim(&mut self.cells);

@@ -1,7 +1,7 @@
 ghost use Rattle.std.specs.Prelude.{◌≡◌, ℕ, ◌+◌, ◌<◌, ◌≤◌, IfOk};
 ghost use Rattle.hashlink_table.specs.Contents.{agreeing};
 
-use super::cell::Cell;
+use super::cell::Stored;
 use super::{Steps, Table, TryReserveError};
 use std::alloc::Global;
 use std::marker::Brand;
@@ -168,6 +168,6 @@ fn refuses_an_absurd_room(rt: HostRuntime) -> Result<(), Fail> {
 }
 
 #[test]
-fn a_cell_takes_32_bytes(rt: HostRuntime) {
-    assert_eq!(rt; size_of::<Cell<u64>>(), 32);
+fn a_cell_takes_24_bytes(rt: HostRuntime) {
+    assert_eq!(rt; size_of::<Stored<u64>>(), 24);
 }

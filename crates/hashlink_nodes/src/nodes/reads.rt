@@ -48,9 +48,10 @@ impl<K, V> Nodes<K, V> {
             None => return None,
         };
         let next = self.cells.next(place.unwrap_or(guard));
-        match self.cells.held(next) {
-            Some(_) => Some(next),
-            None => None,
+        if self.cells.is_full(next) {
+            Some(next)
+        } else {
+            None
         }
     }
 
@@ -66,9 +67,10 @@ impl<K, V> Nodes<K, V> {
             None => return None,
         };
         let prev = self.cells.prev(place.unwrap_or(guard));
-        match self.cells.held(prev) {
-            Some(_) => Some(prev),
-            None => None,
+        if self.cells.is_full(prev) {
+            Some(prev)
+        } else {
+            None
         }
     }
 
@@ -78,10 +80,7 @@ impl<K, V> Nodes<K, V> {
         requires { Holds self.now.entries node }
         ensures { option_map pair_of (lookup (same_node node) self.now.entries) ≡ Some (result.0.now, result.1.now) }
     {
-        match self.cells.held(node) {
-            Some(held) => (&held.key, &held.value),
-            None => unreachable!(),
-        }
+        self.cells.pair(node)
     }
 
     /// The number that the owner gave the node's entry.
@@ -90,9 +89,6 @@ impl<K, V> Nodes<K, V> {
         requires { Holds self.now.entries node }
         ensures { option_map (λ h. h.number) (lookup (same_node node) self.now.entries) ≡ Some result }
     {
-        match self.cells.held(node) {
-            Some(held) => held.number,
-            None => unreachable!(),
-        }
+        self.cells.number(node)
     }
 }

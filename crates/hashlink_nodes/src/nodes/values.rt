@@ -1,5 +1,5 @@
 //! What can be changed in an entry that stays where it is.
-ghost use Rattle.std.specs.Prelude.{◌≡◌, Some, IfSome};
+ghost use Rattle.std.specs.Prelude.{◌≡◌, ◌^◌, ◌<◌, Some, IfSome};
 ghost use Rattle.std.specs.Option.{option_map};
 ghost use Rattle.std.specs.Borrow.{sem};
 ghost use Rattle.std.specs.Map.{lookup, set_value};
@@ -14,8 +14,10 @@ impl<K, V> Nodes<K, V> {
 
     /// Gives the node's entry another number.
     pub fn set_number(&mut self, node: Node, number: usize)
-        requires { Holds self.old.entries node }
-        ensures entries { IfSome (lookup (same_node node) self.old.entries) (λ h. self.new.entries ≡ set_value (same_node node) self.old.entries (with_number h number)) }
+        requires node { Holds self.old.entries node }
+        requires small { number < 2 ^ 48 }
+        ensures entries { IfSome (lookup (same_node node) self.old.entries)
+            (λ h. self.new.entries ≡ set_value (same_node node) self.old.entries (with_number h number)) }
         ensures free { self.new.free ≡ self.old.free }
         ensures link_writes { self.new.link_writes ≡ self.old.link_writes }
     {
@@ -26,7 +28,8 @@ impl<K, V> Nodes<K, V> {
     pub fn replace_value(&mut self, node: Node, value: V) -> V
         requires { Holds self.old.entries node }
         ensures value { option_map (λ h. h.value) (lookup (same_node node) self.old.entries) ≡ Some result }
-        ensures entries { IfSome (lookup (same_node node) self.old.entries) (λ h. self.new.entries ≡ set_value (same_node node) self.old.entries (with_value h value)) }
+        ensures entries { IfSome (lookup (same_node node) self.old.entries)
+            (λ h. self.new.entries ≡ set_value (same_node node) self.old.entries (with_value h value)) }
         ensures free { self.new.free ≡ self.old.free }
         ensures link_writes { self.new.link_writes ≡ self.old.link_writes }
     {
@@ -37,7 +40,8 @@ impl<K, V> Nodes<K, V> {
     pub fn set_key(&mut self, node: Node, key: K) -> K
         requires { Holds self.old.entries node }
         ensures key { option_map (λ h. h.key) (lookup (same_node node) self.old.entries) ≡ Some result }
-        ensures entries { IfSome (lookup (same_node node) self.old.entries) (λ h. self.new.entries ≡ set_value (same_node node) self.old.entries (with_key h key)) }
+        ensures entries { IfSome (lookup (same_node node) self.old.entries)
+            (λ h. self.new.entries ≡ set_value (same_node node) self.old.entries (with_key h key)) }
         ensures free { self.new.free ≡ self.old.free }
         ensures link_writes { self.new.link_writes ≡ self.old.link_writes }
     {

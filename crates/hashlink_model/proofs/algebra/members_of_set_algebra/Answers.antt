@@ -1,4 +1,5 @@
-use Rattle.hashlink_model.proofs.Members.{union_members, intersection_members, difference_members, symmetric_difference_members}
+use Rattle.hashlink_model.proofs.Members.{union_members, intersection_members, difference_members}
+use Rattle.hashlink_model.proofs.Members.{symmetric_difference_members}
 use Rattle.hashlink_model.proofs.algebra.members_of_set_algebra.Goals as goal
 
 pub returns : goal.returns

@@ -5,5 +5,5 @@ returns g c = record {
   absent = λ eq old new k v b pair s. s.may_refuse.absent;
   no_spare = λ eq old new k v b pair s. s.may_refuse.no_spare;
   pair = λ eq old new k v b pair s. s.handed_back;
-  entries = λ eq old new k v b pair s. s.entries;
+  entries = λ eq old new k v b pair s. s.grows.entries;
 }

@@ -1,11 +1,12 @@
-use Rattle.hashlink_model.proofs.NodeCounts.{nodes_of-adds, nodes_of-puts, nodes_of-removes, nodes_of-keeps, nodes_of-shrinks}
+use Rattle.hashlink_model.proofs.NodeCounts.{node_count-adds, node_count-puts, node_count-removes, node_count-keeps}
+use Rattle.hashlink_model.proofs.NodeCounts.{node_count-shrinks}
 use Rattle.hashlink_model.proofs.states.nodes_after_steps.Goals as goal
 
 pub returns : goal.returns
 returns g c = record {
-  adds = nodes_of-adds;
-  puts = nodes_of-puts;
-  removes = nodes_of-removes;
-  keeps = nodes_of-keeps;
-  shrinks = λ old new r. nodes_of-shrinks old new r;
+  adds = node_count-adds;
+  puts = node_count-puts;
+  removes = node_count-removes;
+  keeps = node_count-keeps;
+  shrinks = λ old new r. node_count-shrinks old new r;
 }

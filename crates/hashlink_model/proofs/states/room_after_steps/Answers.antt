@@ -1,4 +1,5 @@
-use Rattle.hashlink_model.proofs.NodeCounts.{HasRoom-inserts, HasRoom-changes, HasRoom-removes, HasRoom-keeps, HasRoom-reserves, HasRoom-shrinks}
+use Rattle.hashlink_model.proofs.NodeCounts.{HasRoom-inserts, HasRoom-changes, HasRoom-removes, HasRoom-grows}
+use Rattle.hashlink_model.proofs.NodeCounts.{HasRoom-keeps, HasRoom-reserves, HasRoom-shrinks}
 use Rattle.std.proofs.Common.{rules}
 use Rattle.hashlink_model.proofs.states.room_after_steps.Goals as goal
 
@@ -8,6 +9,7 @@ returns g c = record {
   inserts = HasRoom-inserts;
   changes = HasRoom-changes;
   removes = HasRoom-removes;
+  grows = HasRoom-grows;
   keeps = HasRoom-keeps;
   reserves = λ old new n r. HasRoom-reserves old new n r;
   shrinks = λ old new r. HasRoom-shrinks old new r;

@@ -5,7 +5,7 @@ pub returns : goal.returns
 returns g c = record {
   front = pops_front;
   back = pops_back;
-  none = λ old new s. s.1;
+  none = λ old new s. s.step;
   first_by_key = without-first;
   last_by_key = without-last;
 }

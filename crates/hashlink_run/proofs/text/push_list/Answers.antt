@@ -6,4 +6,5 @@ pub loop-key-init : goal.loop-key-init
 loop-key-init c =
     let entries = sym c.iter-pairs.ensures ∙ c.in-Some.ensures.steps in
     rw (entries, c.into_iter-key-iterator.ensures.into_iter_gives)
-    (list_shown-first (string_bytes c.args.out.now) (string_bytes c.write.new.self) c.in-Some.key.now c.in-Some.value.now c.next.new.self c.in_ok-write.ensures.bytes)
+    (list_shown-first (string_bytes c.args.out.now) (string_bytes c.write.new.self) c.in-Some.key.now
+    c.in-Some.value.now c.next.new.self c.in_ok-write.ensures.bytes)

@@ -12,7 +12,8 @@ invariant-loop-at g l =
     (l.hash % length l.heads)
     l.at
     (length l.cells)
-    (λ cell. (node : g.row.N.Denot) → kept_at l.cells cell ≡ Some (record { hash = l.hash; node = node }) → goal.F-post g l.is_match node false)
+    (λ cell. (node : g.row.N.Denot) → kept_at l.cells cell ≡ Some (record { hash = l.hash; node = node })
+    → goal.F-post g l.is_match node false)
     (in_bucket l.cells (length l.heads) (l.hash % length l.heads))
     l.initial.steps
     l.steps

@@ -1,4 +1,5 @@
-use Rattle.std.proofs.Common.{ℕ, ◌<◌, length, sym, ◌∙◌, subst, inl, inr, arith}
+use Rattle.hashlink_table.specs.declared.cell.Cell.{Cell}
+use Rattle.std.proofs.Common.{ℕ, ◌<◌, length, sym, ap, ◌∙◌, subst, inl, inr, arith}
 use Rattle.std.proofs.lemmas.List.{get_or_default}
 use Rattle.hashlink_table.specs.declared.cell.TheConstants.{END}
 use Rattle.hashlink_table.specs.Chains.{next_at, chain_at, Among}
@@ -10,63 +11,84 @@ use Rattle.hashlink_table.proofs.links.unlink.Goals as goal
 pub returns-then-at-cell-clause-unlinked : goal.returns-then-at-cell-clause-unlinked
 returns-then-at-cell-clause-unlinked g c =
     let heads = c.args.heads.now in let cells = c.args.cells.now in
-    let within : c.args.cell < length cells = within_by_chain (length heads) cells c.args.cell c.args.bucket c.requires.on_chain (omega arith) in
-    λ free linked. rw (next_at_read cells c.args.cell c.index-cells-cell.result within)
+    let within : c.args.cell < length cells
+    = within_by_chain (length heads) cells c.args.cell c.args.bucket c.requires.on_chain (omega arith) in
+    λ free linked. rw (c.next-after.ensures.value ∙ next_at_read cells c.args.cell c.index-cells-cell.result within)
     (unlinked_first heads cells free c.args.bucket c.args.cell c.requires.within
     (get_or_default heads c.args.bucket END 0 c.requires.within ∙ c.if-at-cell.true)
     (λ e. omega arith) c.requires.on_chain linked)
 
-pub loop-at-init : goal.loop-at-init
-loop-at-init g c =
+pub loop-cells-init : goal.loop-cells-init
+loop-cells-init g c =
     let heads = c.args.heads.now in let cells = c.args.cells.now in
     let start = get_or_default heads c.args.bucket END 0 c.requires.within in
     let w = walk_of heads cells c.requires.linked.0 c.args.bucket c.requires.linked.1 c.requires.within in
-    let From : ℕ → Type 0 = λ at. (v : IsWalk (next_at cells) (chain_at (length heads) cells) c.args.bucket at (length cells)) × Among v.path c.args.cell in
+    let From : ℕ → Type 0
+    = λ at. (v : IsWalk (next_at cells) (chain_at (length heads) cells) c.args.bucket at (length cells))
+    × Among v.path c.args.cell in
     let v = subst From start (w.0, w.1 c.args.cell c.requires.on_chain) in
     record {
       walk = v.0;
       to_come = v.1;
       apart = c.if-at-cell.false;
-      within = within_by_chain (length heads) cells _ c.args.bucket (walk_at v.0 (walk_goes v.0 c.args.cell v.1)) (omega arith);
+      within =
+          within_by_chain (length heads) cells _ c.args.bucket (walk_at v.0 (walk_goes v.0 c.args.cell v.1))
+          (omega arith);
     }
 
-pub loop-at-smaller : goal.loop-at-smaller
-loop-at-smaller g c =
+pub loop-cells-smaller : goal.loop-cells-smaller
+loop-cells-smaller g c =
     let cells = c.args.cells.now in
-    let w = c.loop-at.invariant.walk in
-    let next = next_at_read cells c.loop-at.at c.index-cells-at-in-loop-at.result c.loop-at.invariant.within in
-    subst (λ n. steps_left (next_at cells) (length cells) n < steps_left (next_at cells) (length cells) c.loop-at.at) (sym next)
-    (steps_left-falls w (walk_goes w c.args.cell c.loop-at.invariant.to_come))
+    let w = c.loop-cells.invariant.walk in
+    let next = c.next-at.ensures.value
+    ∙ next_at_read cells c.loop-cells.at c.index-cells-at-in-loop-cells.result c.loop-cells.invariant.within in
+    subst
+    (λ n. steps_left (next_at cells) (length cells) n < steps_left (next_at cells) (length cells) c.loop-cells.at)
+    (sym next)
+    (steps_left-falls w (walk_goes w c.args.cell c.loop-cells.invariant.to_come))
 
-pub loop-at-preserved : goal.loop-at-preserved
-loop-at-preserved g c =
+pub loop-cells-preserved : goal.loop-cells-preserved
+loop-cells-preserved g c =
     let heads = c.args.heads.now in let cells = c.args.cells.now in
-    let w = c.loop-at.invariant.walk in
-    let r = walk_on w (walk_goes w c.args.cell c.loop-at.invariant.to_come) in
-    let next = next_at_read cells c.loop-at.at c.index-cells-at-in-loop-at.result c.loop-at.invariant.within in
-    let to_come : Among r.rest.path c.args.cell = elim (r.cases c.args.cell c.loop-at.invariant.to_come) as (λ _. Among r.rest.path c.args.cell) [
-      | inl e ↦ absurd (c.loop-at.invariant.apart e)
+    let w = c.loop-cells.invariant.walk in
+    let r = walk_on w (walk_goes w c.args.cell c.loop-cells.invariant.to_come) in
+    let next = c.next-at.ensures.value
+    ∙ next_at_read cells c.loop-cells.at c.index-cells-at-in-loop-cells.result c.loop-cells.invariant.within in
+    let to_come : Among r.rest.path c.args.cell
+    = elim (r.cases c.args.cell c.loop-cells.invariant.to_come) as (λ _. Among r.rest.path c.args.cell) [
+      | inl e ↦ absurd (c.loop-cells.invariant.apart e)
       | inr m ↦ m
     ] in
-    let From : ℕ → Type 0 = λ at. (v : IsWalk (next_at cells) (chain_at (length heads) cells) c.args.bucket at (length cells)) × Among v.path c.args.cell in
+    let From : ℕ → Type 0
+    = λ at. (v : IsWalk (next_at cells) (chain_at (length heads) cells) c.args.bucket at (length cells))
+    × Among v.path c.args.cell in
     let v = subst From (sym next) (r.rest, to_come) in
     record {
       walk = v.0;
       to_come = v.1;
-      apart = λ e. c.loop-at-test.true (next_at_read cells c.loop-at.at c.index-cells-at.result c.loop-at.invariant.within ∙ sym next ∙ e);
-      within = within_by_chain (length heads) cells _ c.args.bucket (walk_at v.0 (walk_goes v.0 c.args.cell v.1)) (omega arith);
+      apart =
+          λ e. c.loop-cells-test.true
+          (c.next.ensures.value
+          ∙ next_at_read cells c.loop-cells.at c.index-cells-at.result c.loop-cells.invariant.within ∙ sym next ∙ e);
+      within =
+          within_by_chain (length heads) cells _ c.args.bucket (walk_at v.0 (walk_goes v.0 c.args.cell v.1))
+          (omega arith);
     }
 
 pub returns-clause-unlinked : goal.returns-clause-unlinked
 returns-clause-unlinked g c =
     let heads = c.args.heads.now in let cells = c.args.cells.now in
-    let w = c.loop-at.invariant.walk in
-    let within = c.loop-at.invariant.within in
-    let there : c.args.cell < length cells = within_by_chain (length heads) cells c.args.cell c.args.bucket c.requires.on_chain (omega arith) in
-    λ free linked. unlinked_next heads cells free c.loop-at.at c.args.cell _ within
-    (sym (next_at_read cells c.loop-at.at c.index-cells-at.result within) ∙ c.loop-at-test.false)
-    (next_at_read cells c.args.cell c.index-cells-cell.result there)
-    (kept_at_read cells c.loop-at.at c.index-cells-at-2.result within)
+    let w = c.loop-cells.invariant.walk in
+    let C : Type 0 = Cell g.row.N.Denot in
+    let within = c.loop-cells.invariant.within in
+    let there : c.args.cell < length cells
+    = within_by_chain (length heads) cells c.args.cell c.args.bucket c.requires.on_chain (omega arith) in
+    λ free linked. unlinked_next heads cells free c.loop-cells.at c.args.cell _ within
+    (sym (c.next.ensures.value ∙ next_at_read cells c.loop-cells.at c.index-cells-at.result within)
+    ∙ c.loop-cells-test.false)
+    (ap (λ (d : C). d.next) c.set_next.ensures ∙ c.next-after.ensures.value
+    ∙ next_at_read cells c.args.cell c.index-cells-cell.result there)
+    (ap (λ (d : C). d.kept) c.set_next.ensures ∙ kept_at_read cells c.loop-cells.at c.index-cells-at-2.result within)
     (λ e. omega arith)
-    (c.requires.on_chain ∙ sym (walk_at w (walk_goes w c.args.cell c.loop-at.invariant.to_come)))
+    (c.requires.on_chain ∙ sym (walk_at w (walk_goes w c.args.cell c.loop-cells.invariant.to_come)))
     linked

@@ -4,13 +4,13 @@ use Rattle.hashlink_table.proofs.Walks.{IsWalk, steps_left}
 use Rattle.hashlink_table.proofs.links.unlink.Given as goal
 
 -- the cell is still to come
-abbrev pub invariant-loop-at : goal.invariant-loop-at
-invariant-loop-at g l = record {
+abbrev pub invariant-loop-cells : goal.invariant-loop-cells
+invariant-loop-cells g l = record {
   walk : IsWalk (next_at l.cells) (chain_at (length l.heads) l.cells) l.bucket l.at (length l.cells);
   to_come : Among walk.path l.cell;
   apart : l.at ≢ l.cell;
   within : l.at < length l.cells;
 }
 
-abbrev pub decreases-loop-at : goal.decreases-loop-at
-decreases-loop-at g l = steps_left (next_at l.cells) (length l.cells) l.at
+abbrev pub decreases-loop-cells : goal.decreases-loop-cells
+decreases-loop-cells g l = steps_left (next_at l.cells) (length l.cells) l.at

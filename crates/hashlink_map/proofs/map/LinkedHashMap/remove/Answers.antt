@@ -1,16 +1,15 @@
 use Rattle.std.proofs.Common.{ap, sym, ◌∙◌}
 use Rattle.std.specs.Option.{option_map}
-use Rattle.std.specs.Map.{lookup}
 use Rattle.hashlink_model.proofs.Finds.{lookup_is}
 use Rattle.hashlink_core.specs.Keyed.{entries_of}
 use Rattle.hashlink_map.proofs.map.LinkedHashMap.remove.Goals as goal
 
 pub returns-in_err-value-clause-value : goal.returns-in_err-value-clause-value
 returns-in_err-value-clause-value g c =
-    let test = g.K.PartialEq.eq c.args.key.now in
-    c.from_residual.ensures ∙ ap (option_map (λ e. e.1)) c.in_err-value.ensures.pair ∙ sym (lookup_is test (entries_of c.self.inside.list)) ∙ ap (λ m. lookup test m.entries) c.self.view_is
+    c.from_residual.ensures ∙ ap (option_map (λ e. e.1)) c.in_err-value.ensures.removes.answer
+    ∙ sym (lookup_is (g.K.PartialEq.eq c.args.key.now) (entries_of c.args.self.now))
 
 pub returns-clause-value : goal.returns-clause-value
 returns-clause-value g c =
-    let test = g.K.PartialEq.eq c.args.key.now in
-    ap (option_map (λ e. e.1)) c.in_ok-value.ensures.pair ∙ sym (lookup_is test (entries_of c.self.inside.list)) ∙ ap (λ m. lookup test m.entries) c.self.view_is
+    ap (option_map (λ e. e.1)) c.in_ok-value.ensures.removes.answer
+    ∙ sym (lookup_is (g.K.PartialEq.eq c.args.key.now) (entries_of c.args.self.now))

@@ -1,6 +1,5 @@
-use Rattle.std.proofs.Common.{ap, sym, ◌∙◌, Some}
+use Rattle.std.proofs.Common.{ap, sym, ◌∙◌}
 use Rattle.std.specs.Option.{option_map}
-use Rattle.std.specs.declared.mem.ManuallyDrop.{ManuallyDrop}
 use Rattle.hashlink_nodes.specs.declared.block.Block.{Block}
 use Rattle.std.specs.Map.{lookup}
 use Rattle.hashlink_nodes.specs.Node.{same_node}
@@ -11,5 +10,11 @@ use Rattle.hashlink_nodes.proofs.cells.Cells.replace_value.Goals as goal
 
 pub returns-clause-is : goal.returns-clause-is
 returns-clause-is g c =
-    let H : Type 0 = Held g.row.K.Denot g.row.V.Denot in let B : Type 0 = Block g.row.K.Denot g.row.V.Denot in let M : Type 0 = ManuallyDrop (Block g.row.K.Denot g.row.V.Denot) in
-    held_anew c.args.self.now.arena.blocks c.args.self.now.writes.count 0 c.args.node c.get_mut.result.now c.deref_mut-block.result.now c.get_mut.ensures.value c.deref_mut-block.ensures.value (option_map (λ (h : H). with_value h c.args.value) (held_in (lookup (same_node c.args.node) c.args.self.now.arena.blocks))) _ (ap (λ (x : g.row.V.Denot). Some (record { number = c.in-Some.held.number; key = c.in-Some.held.key; value = x })) c.replace.ensures.after ∙ sym (ap (option_map (λ (h : H). with_value h c.args.value)) (ap held_in c.get_mut.ensures.value ∙ ap (λ (b : B). b.held) (sym c.deref_mut-block.ensures.value) ∙ c.in-Some.is)))
+    let H : Type 0 = Held g.row.K.Denot g.row.V.Denot in let B : Type 0 = Block g.row.K.Denot g.row.V.Denot in
+    let new = option_map (λ (h : H). with_value h c.args.value) in
+    held_anew c.args.self.now.arena.blocks c.args.self.now.writes.count 0 c.args.node c.get_mut.result.now
+    c.deref_mut-block.result.now c.get_mut.ensures.value c.deref_mut-block.ensures.value
+    (new (held_in (lookup (same_node c.args.node) c.args.self.now.arena.blocks))) c.replace_value.new.self
+    (c.replace_value.ensures.is
+    ∙ sym
+    (ap new (ap held_in c.get_mut.ensures.value ∙ ap (λ (b : B). b.held) (sym c.deref_mut-block.ensures.value))))

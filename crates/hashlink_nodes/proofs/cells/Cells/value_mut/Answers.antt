@@ -2,7 +2,7 @@ use Rattle.std.proofs.Common.{ap, sym, ◌∙◌, refl}
 use Rattle.std.specs.Option.{option_map}
 use Rattle.std.specs.Map.{set_value}
 use Rattle.hashlink_nodes.specs.Node.{same_node}
-use Rattle.hashlink_nodes.specs.BlockLends.{block_with}
+use Rattle.hashlink_nodes.specs.BodyLends.{body_with}
 use Rattle.hashlink_nodes.specs.CellsLends.{kept_with}
 use Rattle.hashlink_nodes.specs.State.{held_in}
 use Rattle.hashlink_nodes.specs.Ring.{Held}
@@ -12,18 +12,28 @@ use Rattle.hashlink_nodes.proofs.cells.Cells.value_mut.Goals as goal
 
 pub returns : goal.returns
 returns g c =
-    let H : Type 0 = Held g.row.K.Denot g.row.V.Denot in let B : Type 0 = Block g.row.K.Denot g.row.V.Denot in let bs = c.args.self.now.arena.blocks in (
+    let H : Type 0 = Held g.row.K.Denot g.row.V.Denot in
+    let B : Type 0 = Block g.row.K.Denot g.row.V.Denot in let bs = c.args.self.now.arena.blocks in (
       (
         refl,
         λ w i. record c.args.self.now {
           arena = record c.args.self.now.arena {
             blocks =
-                (ap (λ (b : B). set_value (same_node c.args.node) bs (record { value = block_with b w })) c.deref_mut-block.ensures.value ∙ sym (alter_is (same_node c.args.node) (kept_with w) bs c.get_mut.result.now c.get_mut.ensures.value)) i;
+                (ap
+                (λ (b : B). set_value (same_node c.args.node) bs
+                (record { value = record { links = b.links; held = body_with b.held w } }))
+                c.deref_mut-block.ensures.value
+                ∙ sym
+                (alter_is (same_node c.args.node) (kept_with w) bs c.get_mut.result.now c.get_mut.ensures.value))
+                i;
           };
         },
       ),
       record {
         lends = tt;
-        value = ap (λ o. option_map (λ (h : H). h.value) (held_in o)) c.get_mut.ensures.value ∙ ap (λ (b : B). option_map (λ (h : H). h.value) b.held) (sym c.deref_mut-block.ensures.value) ∙ c.value_mut.ensures.value;
+        value =
+            ap (λ o. option_map (λ (h : H). h.value) (held_in o)) c.get_mut.ensures.value
+            ∙ ap (λ (b : B). option_map (λ (h : H). h.value) b.held) (sym c.deref_mut-block.ensures.value)
+            ∙ c.value_mut.ensures.value;
       },
     )

@@ -10,45 +10,114 @@ use Rattle.hashlink_nodes.proofs.Moving.{remove_done, remove_writes}
 use Rattle.hashlink_nodes.proofs.nodes.Nodes.detach_into_free.Goals as goal
 
 pub detach-requires-clause-node : goal.detach-requires-clause-node
-detach-requires-clause-node g c = (node_of (state_of c.self.inside.cells) c.self.inside.guard c.self.inside.first_spare c.self.inside.len c.self.inside.spare c.self.invariant c.args.self.now c.self.view_is c.args.node c.requires).has_node
+detach-requires-clause-node g c =
+    (node_of (state_of c.self.inside.cells) c.self.inside.guard c.self.inside.first_spare c.self.inside.len
+    c.self.inside.spare c.self.invariant c.args.self.now c.self.view_is c.args.node c.requires).has_node
 
 pub detach-requires-clause-next : goal.detach-requires-clause-next
-detach-requires-clause-next g c = (node_of (state_of c.self.inside.cells) c.self.inside.guard c.self.inside.first_spare c.self.inside.len c.self.inside.spare c.self.invariant c.args.self.now c.self.view_is c.args.node c.requires).has_next
+detach-requires-clause-next g c =
+    (node_of (state_of c.self.inside.cells) c.self.inside.guard c.self.inside.first_spare c.self.inside.len
+    c.self.inside.spare c.self.invariant c.args.self.now c.self.view_is c.args.node c.requires).has_next
 
 pub detach-requires-clause-prev : goal.detach-requires-clause-prev
-detach-requires-clause-prev g c = (node_of (state_of c.self.inside.cells) c.self.inside.guard c.self.inside.first_spare c.self.inside.len c.self.inside.spare c.self.invariant c.args.self.now c.self.view_is c.args.node c.requires).has_prev
+detach-requires-clause-prev g c =
+    (node_of (state_of c.self.inside.cells) c.self.inside.guard c.self.inside.first_spare c.self.inside.len
+    c.self.inside.spare c.self.invariant c.args.self.now c.self.view_is c.args.node c.requires).has_prev
 
-pub hold-requires : goal.hold-requires
-hold-requires g c = let S : Type 0 = State g.row.K.Denot g.row.V.Denot in (ap (λ (s : S). s.has c.args.node) c.detach.ensures ∙ ap (λ f. f c.args.node) (has_detached (state_of c.self.inside.cells) c.args.node) ∙ (node_of (state_of c.self.inside.cells) c.self.inside.guard c.self.inside.first_spare c.self.inside.len c.self.inside.spare c.self.invariant c.args.self.now c.self.view_is c.args.node c.requires).has_node)
+pub hold-requires-clause-has : goal.hold-requires-clause-has
+hold-requires-clause-has g c =
+    let S : Type 0 = State g.row.K.Denot g.row.V.Denot in
+    (ap (λ (s : S). s.has c.args.node) c.detach.ensures
+    ∙ ap (λ f. f c.args.node) (has_detached (state_of c.self.inside.cells) c.args.node)
+    ∙
+    (node_of (state_of c.self.inside.cells) c.self.inside.guard c.self.inside.first_spare c.self.inside.len
+    c.self.inside.spare c.self.invariant c.args.self.now c.self.view_is c.args.node c.requires).has_node)
 
 pub unreachable-requires : goal.unreachable-requires
-unreachable-requires g c = let S : Type 0 = State g.row.K.Denot g.row.V.Denot in none_some (sym c.in-None.is ∙ (c.hold.ensures.was ∙ ap (λ (s : S). s.held c.args.node) c.detach.ensures ∙ ap (λ f. f c.args.node) (held_detached (state_of c.self.inside.cells) c.args.node) ∙ (node_of (state_of c.self.inside.cells) c.self.inside.guard c.self.inside.first_spare c.self.inside.len c.self.inside.spare c.self.invariant c.args.self.now c.self.view_is c.args.node c.requires).holds))
+unreachable-requires g c =
+    let S : Type 0 = State g.row.K.Denot g.row.V.Denot in
+    none_some
+    (sym c.in-None.is
+    ∙
+    (c.hold.ensures.was ∙ ap (λ (s : S). s.held c.args.node) c.detach.ensures
+    ∙ ap (λ f. f c.args.node) (held_detached (state_of c.self.inside.cells) c.args.node)
+    ∙
+    (node_of (state_of c.self.inside.cells) c.self.inside.guard c.self.inside.first_spare c.self.inside.len
+    c.self.inside.spare c.self.invariant c.args.self.now c.self.view_is c.args.node c.requires).holds))
 
 pub store_next-requires : goal.store_next-requires
-store_next-requires g c = let S : Type 0 = State g.row.K.Denot g.row.V.Denot in ap (λ (s : S). s.has c.args.node) c.hold.ensures.is ∙ ap (λ f. f c.args.node) (has_held (state_of c.detach.new.self) c.args.node None) ∙ (ap (λ (s : S). s.has c.args.node) c.detach.ensures ∙ ap (λ f. f c.args.node) (has_detached (state_of c.self.inside.cells) c.args.node) ∙ (node_of (state_of c.self.inside.cells) c.self.inside.guard c.self.inside.first_spare c.self.inside.len c.self.inside.spare c.self.invariant c.args.self.now c.self.view_is c.args.node c.requires).has_node)
+store_next-requires g c =
+    let S : Type 0 = State g.row.K.Denot g.row.V.Denot in
+    ap (λ (s : S). s.has c.args.node) c.hold.ensures.is
+    ∙ ap (λ f. f c.args.node) (has_held (state_of c.detach.new.self) c.args.node None)
+    ∙
+    (ap (λ (s : S). s.has c.args.node) c.detach.ensures
+    ∙ ap (λ f. f c.args.node) (has_detached (state_of c.self.inside.cells) c.args.node)
+    ∙
+    (node_of (state_of c.self.inside.cells) c.self.inside.guard c.self.inside.first_spare c.self.inside.len
+    c.self.inside.spare c.self.invariant c.args.self.now c.self.view_is c.args.node c.requires).has_node)
 
 pub overflow_sub-self : goal.overflow_sub-self
-overflow_sub-self g c = omega (arith, (node_of (state_of c.self.inside.cells) c.self.inside.guard c.self.inside.first_spare c.self.inside.len c.self.inside.spare c.self.invariant c.args.self.now c.self.view_is c.args.node c.requires).some)
+overflow_sub-self g c =
+    omega (
+      arith,
+      (node_of (state_of c.self.inside.cells) c.self.inside.guard c.self.inside.first_spare c.self.inside.len
+          c.self.inside.spare c.self.invariant c.args.self.now c.self.view_is c.args.node c.requires).some,
+    )
 
 pub overflow_add-self : goal.overflow_add-self
-overflow_add-self g c = record { fits = omega (arith, (facts (state_of c.self.inside.cells) c.self.inside.guard c.self.inside.first_spare c.self.inside.len c.self.inside.spare c.self.invariant c.args.self.now c.self.view_is).small) }
+overflow_add-self g c =
+    record {
+      fits =
+          omega (
+            arith,
+            (facts (state_of c.self.inside.cells) c.self.inside.guard c.self.inside.first_spare c.self.inside.len
+                c.self.inside.spare c.self.invariant c.args.self.now c.self.view_is).small,
+          );
+    }
 
 pub invariant_of-self : goal.invariant_of-self
-invariant_of-self g c = (remove_done (state_of c.self.inside.cells) (state_of c.detach.new.self) (state_of c.hold.new.self) (state_of c.store_next.new.self) c.self.inside.guard c.self.inside.first_spare c.self.inside.len c.self.inside.spare c.self.invariant c.args.self.now c.self.view_is c.args.node c.requires c.detach.ensures c.hold.ensures.is c.store_next.ensures).sound
+invariant_of-self g c =
+    (remove_done (state_of c.self.inside.cells) (state_of c.detach.new.self) (state_of c.hold.new.self)
+    (state_of c.store_next.new.self) c.self.inside.guard c.self.inside.first_spare c.self.inside.len
+    c.self.inside.spare c.self.invariant c.args.self.now c.self.view_is c.args.node c.requires c.detach.ensures
+    c.hold.ensures.is c.store_next.ensures).sound
 
 pub returns-clause-pair : goal.returns-clause-pair
 returns-clause-pair g c =
     let S : Type 0 = State g.row.K.Denot g.row.V.Denot in let R : Type 0 = Ring g.row.K.Denot g.row.V.Denot in
-    let e = same_some (sym c.in-Some.is ∙ (c.hold.ensures.was ∙ ap (λ (s : S). s.held c.args.node) c.detach.ensures ∙ ap (λ f. f c.args.node) (held_detached (state_of c.self.inside.cells) c.args.node) ∙ (node_of (state_of c.self.inside.cells) c.self.inside.guard c.self.inside.first_spare c.self.inside.len c.self.inside.spare c.self.invariant c.args.self.now c.self.view_is c.args.node c.requires).holds)) in
-    ap (λ (r : R). option_map pair_of (lookup (same_node c.args.node) r.entries)) (sym c.self.view_is) ∙ ap (option_map pair_of) (node_of (state_of c.self.inside.cells) c.self.inside.guard c.self.inside.first_spare c.self.inside.len c.self.inside.spare c.self.invariant c.args.self.now c.self.view_is c.args.node c.requires).looked ∙ ap (λ (h : Held g.row.K.Denot g.row.V.Denot). Some (pair_of h)) (sym e)
+    let e = same_some
+    (sym c.in-Some.is
+    ∙
+    (c.hold.ensures.was ∙ ap (λ (s : S). s.held c.args.node) c.detach.ensures
+    ∙ ap (λ f. f c.args.node) (held_detached (state_of c.self.inside.cells) c.args.node)
+    ∙
+    (node_of (state_of c.self.inside.cells) c.self.inside.guard c.self.inside.first_spare c.self.inside.len
+    c.self.inside.spare c.self.invariant c.args.self.now c.self.view_is c.args.node c.requires).holds))
+    in
+    ap (λ (r : R). option_map pair_of (lookup (same_node c.args.node) r.entries)) (sym c.self.view_is)
+    ∙ ap (option_map pair_of)
+    (node_of (state_of c.self.inside.cells) c.self.inside.guard c.self.inside.first_spare c.self.inside.len
+    c.self.inside.spare c.self.invariant c.args.self.now c.self.view_is c.args.node c.requires).looked
+    ∙ ap (λ (h : Held g.row.K.Denot g.row.V.Denot). Some (pair_of h)) (sym e)
 
 pub returns-clause-entries : goal.returns-clause-entries
-returns-clause-entries g c = (remove_done (state_of c.self.inside.cells) (state_of c.detach.new.self) (state_of c.hold.new.self) (state_of c.store_next.new.self) c.self.inside.guard c.self.inside.first_spare c.self.inside.len c.self.inside.spare c.self.invariant c.args.self.now c.self.view_is c.args.node c.requires c.detach.ensures c.hold.ensures.is c.store_next.ensures).entries
+returns-clause-entries g c =
+    (remove_done (state_of c.self.inside.cells) (state_of c.detach.new.self) (state_of c.hold.new.self)
+    (state_of c.store_next.new.self) c.self.inside.guard c.self.inside.first_spare c.self.inside.len
+    c.self.inside.spare c.self.invariant c.args.self.now c.self.view_is c.args.node c.requires c.detach.ensures
+    c.hold.ensures.is c.store_next.ensures).entries
 
 pub returns-clause-free : goal.returns-clause-free
-returns-clause-free g c = (remove_done (state_of c.self.inside.cells) (state_of c.detach.new.self) (state_of c.hold.new.self) (state_of c.store_next.new.self) c.self.inside.guard c.self.inside.first_spare c.self.inside.len c.self.inside.spare c.self.invariant c.args.self.now c.self.view_is c.args.node c.requires c.detach.ensures c.hold.ensures.is c.store_next.ensures).free
+returns-clause-free g c =
+    (remove_done (state_of c.self.inside.cells) (state_of c.detach.new.self) (state_of c.hold.new.self)
+    (state_of c.store_next.new.self) c.self.inside.guard c.self.inside.first_spare c.self.inside.len
+    c.self.inside.spare c.self.invariant c.args.self.now c.self.view_is c.args.node c.requires c.detach.ensures
+    c.hold.ensures.is c.store_next.ensures).free
 
 pub returns-clause-link_writes : goal.returns-clause-link_writes
 returns-clause-link_writes g c =
     let R : Type 0 = Ring g.row.K.Denot g.row.V.Denot in
-    remove_writes (state_of c.self.inside.cells) (state_of c.detach.new.self) (state_of c.hold.new.self) (state_of c.store_next.new.self) c.args.node c.self.inside.first_spare c.args.self.now.link_writes (ap (λ (r : R). r.link_writes) c.self.view_is) c.detach.ensures c.hold.ensures.is c.store_next.ensures
+    remove_writes (state_of c.self.inside.cells) (state_of c.detach.new.self) (state_of c.hold.new.self)
+    (state_of c.store_next.new.self) c.args.node c.self.inside.first_spare c.args.self.now.link_writes
+    (ap (λ (r : R). r.link_writes) c.self.view_is) c.detach.ensures c.hold.ensures.is c.store_next.ensures

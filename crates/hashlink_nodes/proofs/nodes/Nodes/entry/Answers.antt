@@ -1,19 +1,28 @@
-use Rattle.std.proofs.Common.{ap, sym, ◌∙◌, Some}
+use Rattle.std.proofs.Common.{ap, sym, ◌∙◌}
+use Rattle.std.specs.Prelude.{is_some}
 use Rattle.std.specs.Option.{option_map}
 use Rattle.std.specs.Map.{lookup}
 use Rattle.hashlink_nodes.specs.Node.{same_node}
 use Rattle.hashlink_nodes.specs.Cells.{state_of}
 use Rattle.hashlink_nodes.specs.Ring.{Ring, Held, pair_of}
-use Rattle.hashlink_nodes.proofs.Sound.{node_of, none_some, same_some}
+use Rattle.hashlink_nodes.proofs.Sound.{node_of}
 use Rattle.hashlink_nodes.proofs.nodes.Nodes.entry.Goals as goal
 
-pub held-requires : goal.held-requires
-held-requires g c = (node_of (state_of c.self.inside.cells) c.self.inside.guard c.self.inside.first_spare c.self.inside.len c.self.inside.spare c.self.invariant c.args.self.now c.self.view_is c.args.node c.requires).has_node
+pub pair-requires-clause-has : goal.pair-requires-clause-has
+pair-requires-clause-has g c =
+    (node_of (state_of c.self.inside.cells) c.self.inside.guard c.self.inside.first_spare c.self.inside.len
+    c.self.inside.spare c.self.invariant c.args.self.now c.self.view_is c.args.node c.requires).has_node
 
-pub unreachable-requires : goal.unreachable-requires
-unreachable-requires g c = none_some (sym c.in-None.ensures ∙ (node_of (state_of c.self.inside.cells) c.self.inside.guard c.self.inside.first_spare c.self.inside.len c.self.inside.spare c.self.invariant c.args.self.now c.self.view_is c.args.node c.requires).holds)
+pub pair-requires-clause-held : goal.pair-requires-clause-held
+pair-requires-clause-held g c =
+    ap is_some
+    (node_of (state_of c.self.inside.cells) c.self.inside.guard c.self.inside.first_spare c.self.inside.len
+    c.self.inside.spare c.self.invariant c.args.self.now c.self.view_is c.args.node c.requires).holds
 
 pub returns : goal.returns
 returns g c =
-    let H : Type 0 = Held g.row.K.Denot g.row.V.Denot in let R : Type 0 = Ring g.row.K.Denot g.row.V.Denot in let e = same_some (sym (node_of (state_of c.self.inside.cells) c.self.inside.guard c.self.inside.first_spare c.self.inside.len c.self.inside.spare c.self.invariant c.args.self.now c.self.view_is c.args.node c.requires).holds ∙ c.in-Some.ensures) in
-    ap (λ (r : R). option_map (λ (h : H). pair_of h) (lookup (same_node c.args.node) r.entries)) (sym c.self.view_is) ∙ ap (option_map (λ (h : H). pair_of h)) (node_of (state_of c.self.inside.cells) c.self.inside.guard c.self.inside.first_spare c.self.inside.len c.self.inside.spare c.self.invariant c.args.self.now c.self.view_is c.args.node c.requires).looked ∙ ap (λ (h : H). Some ((λ (h : H). pair_of h) h)) e
+    let H : Type 0 = Held g.row.K.Denot g.row.V.Denot in let R : Type 0 = Ring g.row.K.Denot g.row.V.Denot in
+    let found = node_of (state_of c.self.inside.cells) c.self.inside.guard c.self.inside.first_spare c.self.inside.len
+    c.self.inside.spare c.self.invariant c.args.self.now c.self.view_is c.args.node c.requires in
+    ap (λ (r : R). option_map (λ (h : H). pair_of h) (lookup (same_node c.args.node) r.entries)) (sym c.self.view_is)
+    ∙ ap (option_map (λ (h : H). pair_of h)) (found.looked ∙ sym found.holds) ∙ c.pair.ensures

@@ -1,32 +1,79 @@
 use Rattle.std.proofs.Common.{ap, sym, ◌∙◌, Some}
-use Rattle.std.specs.Prelude.{unwrap_or}
+use Rattle.std.specs.Prelude.{is_some, unwrap_or}
+use Rattle.hashlink_nodes.specs.declared.node.Node.{Node}
 use Rattle.std.specs.Map.{keys_of}
 use Rattle.hashlink_nodes.specs.Cells.{state_of}
 use Rattle.hashlink_nodes.specs.Ring.{prev_place}
 use Rattle.hashlink_nodes.proofs.Sound.{facts, opened}
-use Rattle.hashlink_nodes.proofs.Neighbours.{prev_to_place, tells_none, tells_some, no_prev}
+use Rattle.hashlink_nodes.proofs.Neighbours.{prev_to_place, tells_bare, tells_full, no_prev}
 use Rattle.hashlink_nodes.proofs.nodes.Nodes.prev.Goals as goal
 
 pub returns-in-None-clause-place : goal.returns-in-None-clause-place
-returns-in-None-clause-place g c = no_prev (state_of c.self.inside.cells) c.self.inside.guard c.self.inside.first_spare c.self.inside.len c.self.inside.spare c.args.self.now c.self.view_is c.in-None.is c.args.place
+returns-in-None-clause-place g c =
+    no_prev (state_of c.self.inside.cells) c.self.inside.guard c.self.inside.first_spare c.self.inside.len
+    c.self.inside.spare c.args.self.now c.self.view_is c.in-None.is c.args.place
 
 pub returns-in-None-clause-apart : goal.returns-in-None-clause-apart
-returns-in-None-clause-apart g c = (facts (state_of c.self.inside.cells) c.self.inside.guard c.self.inside.first_spare c.self.inside.len c.self.inside.spare c.self.invariant c.args.self.now c.self.view_is).differ
+returns-in-None-clause-apart g c =
+    (facts (state_of c.self.inside.cells) c.self.inside.guard c.self.inside.first_spare c.self.inside.len
+    c.self.inside.spare c.self.invariant c.args.self.now c.self.view_is).differ
 
 pub prev-prev-requires : goal.prev-prev-requires
-prev-prev-requires g c = ap (state_of c.self.inside.cells).has c.unwrap_or.ensures ∙ (prev_to_place (state_of c.self.inside.cells) c.self.inside.guard c.in-Some.guard c.self.inside.first_spare c.self.inside.len c.self.inside.spare c.args.self.now (opened (state_of c.self.inside.cells) c.self.inside.guard c.in-Some.guard c.self.inside.first_spare c.self.inside.len c.self.inside.spare c.self.invariant c.in-Some.is c.args.self.now c.self.view_is) c.args.place c.requires).has_place
+prev-prev-requires g c =
+    ap (state_of c.self.inside.cells).has c.unwrap_or.ensures
+    ∙
+    (prev_to_place (state_of c.self.inside.cells) c.self.inside.guard c.in-Some.guard c.self.inside.first_spare
+    c.self.inside.len c.self.inside.spare c.args.self.now
+    (opened (state_of c.self.inside.cells) c.self.inside.guard c.in-Some.guard c.self.inside.first_spare
+    c.self.inside.len c.self.inside.spare c.self.invariant c.in-Some.is c.args.self.now c.self.view_is)
+    c.args.place c.requires).has_place
 
-pub held-requires : goal.held-requires
-held-requires g c = ap (state_of c.self.inside.cells).has (c.prev-prev.ensures ∙ ap (state_of c.self.inside.cells).prev c.unwrap_or.ensures) ∙ (prev_to_place (state_of c.self.inside.cells) c.self.inside.guard c.in-Some.guard c.self.inside.first_spare c.self.inside.len c.self.inside.spare c.args.self.now (opened (state_of c.self.inside.cells) c.self.inside.guard c.in-Some.guard c.self.inside.first_spare c.self.inside.len c.self.inside.spare c.self.invariant c.in-Some.is c.args.self.now c.self.view_is) c.args.place c.requires).has_answer
+pub is_full-requires : goal.is_full-requires
+is_full-requires g c =
+    ap (state_of c.self.inside.cells).has
+    (c.prev-prev.ensures ∙ ap (state_of c.self.inside.cells).prev c.unwrap_or.ensures)
+    ∙
+    (prev_to_place (state_of c.self.inside.cells) c.self.inside.guard c.in-Some.guard c.self.inside.first_spare
+    c.self.inside.len c.self.inside.spare c.args.self.now
+    (opened (state_of c.self.inside.cells) c.self.inside.guard c.in-Some.guard c.self.inside.first_spare
+    c.self.inside.len c.self.inside.spare c.self.invariant c.in-Some.is c.args.self.now c.self.view_is)
+    c.args.place c.requires).has_answer
 
-pub returns-in-Some-held-clause-place : goal.returns-in-Some-held-clause-place
-returns-in-Some-held-clause-place g c = ap Some (c.prev-prev.ensures ∙ ap (state_of c.self.inside.cells).prev c.unwrap_or.ensures) ∙ tells_some (state_of c.self.inside.cells) ((state_of c.self.inside.cells).prev (unwrap_or c.args.place c.in-Some.guard)) (prev_place (keys_of c.args.self.now.entries) c.args.place) c.in-Some-held.field-0.now (prev_to_place (state_of c.self.inside.cells) c.self.inside.guard c.in-Some.guard c.self.inside.first_spare c.self.inside.len c.self.inside.spare c.args.self.now (opened (state_of c.self.inside.cells) c.self.inside.guard c.in-Some.guard c.self.inside.first_spare c.self.inside.len c.self.inside.spare c.self.invariant c.in-Some.is c.args.self.now c.self.view_is) c.args.place c.requires).tells (ap (state_of c.self.inside.cells).held (sym (c.prev-prev.ensures ∙ ap (state_of c.self.inside.cells).prev c.unwrap_or.ensures)) ∙ c.in-Some-held.ensures)
+pub returns-then-is_full-clause-place : goal.returns-then-is_full-clause-place
+returns-then-is_full-clause-place g c =
+    ap Some (c.prev-prev.ensures ∙ ap (state_of c.self.inside.cells).prev c.unwrap_or.ensures)
+    ∙ tells_full (state_of c.self.inside.cells)
+    ((state_of c.self.inside.cells).prev (unwrap_or c.args.place c.in-Some.guard))
+    (prev_place (keys_of c.args.self.now.entries) c.args.place)
+    (prev_to_place (state_of c.self.inside.cells) c.self.inside.guard c.in-Some.guard c.self.inside.first_spare
+    c.self.inside.len c.self.inside.spare c.args.self.now
+    (opened (state_of c.self.inside.cells) c.self.inside.guard c.in-Some.guard c.self.inside.first_spare
+    c.self.inside.len c.self.inside.spare c.self.invariant c.in-Some.is c.args.self.now c.self.view_is)
+    c.args.place c.requires).tells
+    (ap (λ (m : Node). is_some ((state_of c.self.inside.cells).held m))
+    (sym (c.prev-prev.ensures ∙ ap (state_of c.self.inside.cells).prev c.unwrap_or.ensures))
+    ∙ c.is_full.ensures ∙ c.if-is_full.true)
 
-pub returns-in-Some-held-clause-apart : goal.returns-in-Some-held-clause-apart
-returns-in-Some-held-clause-apart g c = (facts (state_of c.self.inside.cells) c.self.inside.guard c.self.inside.first_spare c.self.inside.len c.self.inside.spare c.self.invariant c.args.self.now c.self.view_is).differ
+pub returns-then-is_full-clause-apart : goal.returns-then-is_full-clause-apart
+returns-then-is_full-clause-apart g c =
+    (facts (state_of c.self.inside.cells) c.self.inside.guard c.self.inside.first_spare c.self.inside.len
+    c.self.inside.spare c.self.invariant c.args.self.now c.self.view_is).differ
 
-pub returns-in-None-held-clause-place : goal.returns-in-None-held-clause-place
-returns-in-None-held-clause-place g c = tells_none (state_of c.self.inside.cells) ((state_of c.self.inside.cells).prev (unwrap_or c.args.place c.in-Some.guard)) (prev_place (keys_of c.args.self.now.entries) c.args.place) (prev_to_place (state_of c.self.inside.cells) c.self.inside.guard c.in-Some.guard c.self.inside.first_spare c.self.inside.len c.self.inside.spare c.args.self.now (opened (state_of c.self.inside.cells) c.self.inside.guard c.in-Some.guard c.self.inside.first_spare c.self.inside.len c.self.inside.spare c.self.invariant c.in-Some.is c.args.self.now c.self.view_is) c.args.place c.requires).tells (ap (state_of c.self.inside.cells).held (sym (c.prev-prev.ensures ∙ ap (state_of c.self.inside.cells).prev c.unwrap_or.ensures)) ∙ c.in-None-held.ensures)
+pub returns-else-is_full-clause-place : goal.returns-else-is_full-clause-place
+returns-else-is_full-clause-place g c =
+    tells_bare (state_of c.self.inside.cells)
+    ((state_of c.self.inside.cells).prev (unwrap_or c.args.place c.in-Some.guard))
+    (prev_place (keys_of c.args.self.now.entries) c.args.place)
+    (prev_to_place (state_of c.self.inside.cells) c.self.inside.guard c.in-Some.guard c.self.inside.first_spare
+    c.self.inside.len c.self.inside.spare c.args.self.now
+    (opened (state_of c.self.inside.cells) c.self.inside.guard c.in-Some.guard c.self.inside.first_spare
+    c.self.inside.len c.self.inside.spare c.self.invariant c.in-Some.is c.args.self.now c.self.view_is)
+    c.args.place c.requires).tells
+    (ap (λ (m : Node). is_some ((state_of c.self.inside.cells).held m))
+    (sym (c.prev-prev.ensures ∙ ap (state_of c.self.inside.cells).prev c.unwrap_or.ensures))
+    ∙ c.is_full.ensures ∙ c.if-is_full.false)
 
-pub returns-in-None-held-clause-apart : goal.returns-in-None-held-clause-apart
-returns-in-None-held-clause-apart g c = (facts (state_of c.self.inside.cells) c.self.inside.guard c.self.inside.first_spare c.self.inside.len c.self.inside.spare c.self.invariant c.args.self.now c.self.view_is).differ
+pub returns-else-is_full-clause-apart : goal.returns-else-is_full-clause-apart
+returns-else-is_full-clause-apart g c =
+    (facts (state_of c.self.inside.cells) c.self.inside.guard c.self.inside.first_spare c.self.inside.len
+    c.self.inside.spare c.self.invariant c.args.self.now c.self.view_is).differ

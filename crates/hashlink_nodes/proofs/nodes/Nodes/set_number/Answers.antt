@@ -12,19 +12,91 @@ use Rattle.hashlink_nodes.proofs.Changing.{held_anew, held_writes}
 use Rattle.hashlink_nodes.proofs.nodes.Nodes.set_number.Goals as goal
 
 pub set_number-requires-clause-has : goal.set_number-requires-clause-has
-set_number-requires-clause-has g c = (node_of (state_of c.self.inside.cells) c.self.inside.guard c.self.inside.first_spare c.self.inside.len c.self.inside.spare c.self.invariant c.args.self.now c.self.view_is c.args.node c.requires).has_node
+set_number-requires-clause-has g c =
+    (node_of (state_of c.self.inside.cells) c.self.inside.guard c.self.inside.first_spare c.self.inside.len
+    c.self.inside.spare c.self.invariant c.args.self.now c.self.view_is c.args.node c.requires.node).has_node
 
 pub set_number-requires-clause-held : goal.set_number-requires-clause-held
-set_number-requires-clause-held g c = ap is_some (node_of (state_of c.self.inside.cells) c.self.inside.guard c.self.inside.first_spare c.self.inside.len c.self.inside.spare c.self.invariant c.args.self.now c.self.view_is c.args.node c.requires).holds
+set_number-requires-clause-held g c =
+    ap is_some
+    (node_of (state_of c.self.inside.cells) c.self.inside.guard c.self.inside.first_spare c.self.inside.len
+    c.self.inside.spare c.self.invariant c.args.self.now c.self.view_is c.args.node c.requires.node).holds
 
 pub invariant_of-self : goal.invariant_of-self
-invariant_of-self g c = let H : Type 0 = Held g.row.K.Denot g.row.V.Denot in let R : Type 0 = Ring g.row.K.Denot g.row.V.Denot in (held_anew (state_of c.self.inside.cells) (state_of c.set_number.new.self) c.self.inside.guard c.self.inside.first_spare c.self.inside.len c.self.inside.spare c.self.invariant c.args.self.now c.self.view_is c.args.node c.requires (node_of (state_of c.self.inside.cells) c.self.inside.guard c.self.inside.first_spare c.self.inside.len c.self.inside.spare c.self.invariant c.args.self.now c.self.view_is c.args.node c.requires).value (with_number (node_of (state_of c.self.inside.cells) c.self.inside.guard c.self.inside.first_spare c.self.inside.len c.self.inside.spare c.self.invariant c.args.self.now c.self.view_is c.args.node c.requires).value c.args.number) (node_of (state_of c.self.inside.cells) c.self.inside.guard c.self.inside.first_spare c.self.inside.len c.self.inside.spare c.self.invariant c.args.self.now c.self.view_is c.args.node c.requires).holds (c.set_number.ensures ∙ ap (λ o. hold c.args.node (option_map (λ (h : H). with_number h c.args.number) o) (state_of c.self.inside.cells)) (node_of (state_of c.self.inside.cells) c.self.inside.guard c.self.inside.first_spare c.self.inside.len c.self.inside.spare c.self.invariant c.args.self.now c.self.view_is c.args.node c.requires).holds)).sound
+invariant_of-self g c =
+    let H : Type 0 = Held g.row.K.Denot g.row.V.Denot in
+    let R : Type 0 = Ring g.row.K.Denot g.row.V.Denot in
+    (held_anew (state_of c.self.inside.cells) (state_of c.set_number.new.self) c.self.inside.guard
+    c.self.inside.first_spare c.self.inside.len c.self.inside.spare c.self.invariant c.args.self.now c.self.view_is
+    c.args.node c.requires.node
+    (node_of (state_of c.self.inside.cells) c.self.inside.guard c.self.inside.first_spare c.self.inside.len
+    c.self.inside.spare c.self.invariant c.args.self.now c.self.view_is c.args.node c.requires.node).value
+    (with_number
+    (node_of (state_of c.self.inside.cells) c.self.inside.guard c.self.inside.first_spare c.self.inside.len
+    c.self.inside.spare c.self.invariant c.args.self.now c.self.view_is c.args.node c.requires.node).value
+    c.args.number)
+    (node_of (state_of c.self.inside.cells) c.self.inside.guard c.self.inside.first_spare c.self.inside.len
+    c.self.inside.spare c.self.invariant c.args.self.now c.self.view_is c.args.node c.requires.node).holds
+    (c.set_number.ensures
+    ∙ ap
+    (λ o. hold c.args.node (option_map (λ (h : H). with_number h c.args.number) o) (state_of c.self.inside.cells))
+    (node_of (state_of c.self.inside.cells) c.self.inside.guard c.self.inside.first_spare c.self.inside.len
+    c.self.inside.spare c.self.invariant c.args.self.now c.self.view_is c.args.node c.requires.node).holds)).sound
 
 pub returns-clause-entries : goal.returns-clause-entries
-returns-clause-entries g c = let H : Type 0 = Held g.row.K.Denot g.row.V.Denot in let R : Type 0 = Ring g.row.K.Denot g.row.V.Denot in if_some (λ (h : H). (ring_of (state_of c.set_number.new.self) c.self.inside.guard c.self.inside.first_spare c.self.inside.len c.self.inside.spare).entries ≡ set_value (same_node c.args.node) c.args.self.now.entries (with_number h c.args.number)) (ap (λ (r : R). lookup (same_node c.args.node) r.entries) (sym c.self.view_is) ∙ (node_of (state_of c.self.inside.cells) c.self.inside.guard c.self.inside.first_spare c.self.inside.len c.self.inside.spare c.self.invariant c.args.self.now c.self.view_is c.args.node c.requires).looked) (held_anew (state_of c.self.inside.cells) (state_of c.set_number.new.self) c.self.inside.guard c.self.inside.first_spare c.self.inside.len c.self.inside.spare c.self.invariant c.args.self.now c.self.view_is c.args.node c.requires (node_of (state_of c.self.inside.cells) c.self.inside.guard c.self.inside.first_spare c.self.inside.len c.self.inside.spare c.self.invariant c.args.self.now c.self.view_is c.args.node c.requires).value (with_number (node_of (state_of c.self.inside.cells) c.self.inside.guard c.self.inside.first_spare c.self.inside.len c.self.inside.spare c.self.invariant c.args.self.now c.self.view_is c.args.node c.requires).value c.args.number) (node_of (state_of c.self.inside.cells) c.self.inside.guard c.self.inside.first_spare c.self.inside.len c.self.inside.spare c.self.invariant c.args.self.now c.self.view_is c.args.node c.requires).holds (c.set_number.ensures ∙ ap (λ o. hold c.args.node (option_map (λ (h : H). with_number h c.args.number) o) (state_of c.self.inside.cells)) (node_of (state_of c.self.inside.cells) c.self.inside.guard c.self.inside.first_spare c.self.inside.len c.self.inside.spare c.self.invariant c.args.self.now c.self.view_is c.args.node c.requires).holds)).entries
+returns-clause-entries g c =
+    let H : Type 0 = Held g.row.K.Denot g.row.V.Denot in
+    let R : Type 0 = Ring g.row.K.Denot g.row.V.Denot in
+    if_some
+    (λ (h : H).
+    (ring_of (state_of c.set_number.new.self) c.self.inside.guard c.self.inside.first_spare c.self.inside.len
+    c.self.inside.spare).entries
+    ≡ set_value (same_node c.args.node) c.args.self.now.entries (with_number h c.args.number))
+    (ap (λ (r : R). lookup (same_node c.args.node) r.entries) (sym c.self.view_is)
+    ∙
+    (node_of (state_of c.self.inside.cells) c.self.inside.guard c.self.inside.first_spare c.self.inside.len
+    c.self.inside.spare c.self.invariant c.args.self.now c.self.view_is c.args.node c.requires.node).looked)
+    (held_anew (state_of c.self.inside.cells) (state_of c.set_number.new.self) c.self.inside.guard
+    c.self.inside.first_spare c.self.inside.len c.self.inside.spare c.self.invariant c.args.self.now c.self.view_is
+    c.args.node c.requires.node
+    (node_of (state_of c.self.inside.cells) c.self.inside.guard c.self.inside.first_spare c.self.inside.len
+    c.self.inside.spare c.self.invariant c.args.self.now c.self.view_is c.args.node c.requires.node).value
+    (with_number
+    (node_of (state_of c.self.inside.cells) c.self.inside.guard c.self.inside.first_spare c.self.inside.len
+    c.self.inside.spare c.self.invariant c.args.self.now c.self.view_is c.args.node c.requires.node).value
+    c.args.number)
+    (node_of (state_of c.self.inside.cells) c.self.inside.guard c.self.inside.first_spare c.self.inside.len
+    c.self.inside.spare c.self.invariant c.args.self.now c.self.view_is c.args.node c.requires.node).holds
+    (c.set_number.ensures
+    ∙ ap
+    (λ o. hold c.args.node (option_map (λ (h : H). with_number h c.args.number) o) (state_of c.self.inside.cells))
+    (node_of (state_of c.self.inside.cells) c.self.inside.guard c.self.inside.first_spare c.self.inside.len
+    c.self.inside.spare c.self.invariant c.args.self.now c.self.view_is c.args.node c.requires.node).holds)).entries
 
 pub returns-clause-free : goal.returns-clause-free
-returns-clause-free g c = let H : Type 0 = Held g.row.K.Denot g.row.V.Denot in let R : Type 0 = Ring g.row.K.Denot g.row.V.Denot in (held_anew (state_of c.self.inside.cells) (state_of c.set_number.new.self) c.self.inside.guard c.self.inside.first_spare c.self.inside.len c.self.inside.spare c.self.invariant c.args.self.now c.self.view_is c.args.node c.requires (node_of (state_of c.self.inside.cells) c.self.inside.guard c.self.inside.first_spare c.self.inside.len c.self.inside.spare c.self.invariant c.args.self.now c.self.view_is c.args.node c.requires).value (with_number (node_of (state_of c.self.inside.cells) c.self.inside.guard c.self.inside.first_spare c.self.inside.len c.self.inside.spare c.self.invariant c.args.self.now c.self.view_is c.args.node c.requires).value c.args.number) (node_of (state_of c.self.inside.cells) c.self.inside.guard c.self.inside.first_spare c.self.inside.len c.self.inside.spare c.self.invariant c.args.self.now c.self.view_is c.args.node c.requires).holds (c.set_number.ensures ∙ ap (λ o. hold c.args.node (option_map (λ (h : H). with_number h c.args.number) o) (state_of c.self.inside.cells)) (node_of (state_of c.self.inside.cells) c.self.inside.guard c.self.inside.first_spare c.self.inside.len c.self.inside.spare c.self.invariant c.args.self.now c.self.view_is c.args.node c.requires).holds)).free
+returns-clause-free g c =
+    let H : Type 0 = Held g.row.K.Denot g.row.V.Denot in
+    let R : Type 0 = Ring g.row.K.Denot g.row.V.Denot in
+    (held_anew (state_of c.self.inside.cells) (state_of c.set_number.new.self) c.self.inside.guard
+    c.self.inside.first_spare c.self.inside.len c.self.inside.spare c.self.invariant c.args.self.now c.self.view_is
+    c.args.node c.requires.node
+    (node_of (state_of c.self.inside.cells) c.self.inside.guard c.self.inside.first_spare c.self.inside.len
+    c.self.inside.spare c.self.invariant c.args.self.now c.self.view_is c.args.node c.requires.node).value
+    (with_number
+    (node_of (state_of c.self.inside.cells) c.self.inside.guard c.self.inside.first_spare c.self.inside.len
+    c.self.inside.spare c.self.invariant c.args.self.now c.self.view_is c.args.node c.requires.node).value
+    c.args.number)
+    (node_of (state_of c.self.inside.cells) c.self.inside.guard c.self.inside.first_spare c.self.inside.len
+    c.self.inside.spare c.self.invariant c.args.self.now c.self.view_is c.args.node c.requires.node).holds
+    (c.set_number.ensures
+    ∙ ap
+    (λ o. hold c.args.node (option_map (λ (h : H). with_number h c.args.number) o) (state_of c.self.inside.cells))
+    (node_of (state_of c.self.inside.cells) c.self.inside.guard c.self.inside.first_spare c.self.inside.len
+    c.self.inside.spare c.self.invariant c.args.self.now c.self.view_is c.args.node c.requires.node).holds)).free
 
 pub returns-clause-link_writes : goal.returns-clause-link_writes
-returns-clause-link_writes g c = let H : Type 0 = Held g.row.K.Denot g.row.V.Denot in let R : Type 0 = Ring g.row.K.Denot g.row.V.Denot in held_writes (state_of c.self.inside.cells) (state_of c.set_number.new.self) c.args.node _ c.args.self.now.link_writes (ap (λ (r : R). r.link_writes) c.self.view_is) c.set_number.ensures
+returns-clause-link_writes g c =
+    let H : Type 0 = Held g.row.K.Denot g.row.V.Denot in
+    let R : Type 0 = Ring g.row.K.Denot g.row.V.Denot in
+    held_writes (state_of c.self.inside.cells) (state_of c.set_number.new.self) c.args.node _
+    c.args.self.now.link_writes (ap (λ (r : R). r.link_writes) c.self.view_is) c.set_number.ensures

@@ -4,4 +4,7 @@ use Rattle.hashlink_nodes.proofs.Sound.{facts}
 use Rattle.hashlink_nodes.proofs.nodes.Nodes.spare.Goals as goal
 
 pub returns : goal.returns
-returns g c = sym (facts (state_of c.self.inside.cells) c.self.inside.guard c.self.inside.first_spare c.self.inside.len c.self.inside.spare c.self.invariant c.args.self.now c.self.view_is).is_spare
+returns g c =
+    sym
+    (facts (state_of c.self.inside.cells) c.self.inside.guard c.self.inside.first_spare c.self.inside.len
+    c.self.inside.spare c.self.invariant c.args.self.now c.self.view_is).is_spare

@@ -25,4 +25,5 @@ returns g c =
     let t = c.self.inside in
     rw c.clear.ensures.items
     (contents-nil t.room
-    ∙ ap (λ r. let u : Contents g.row.N.Denot = record { nodes = empty; room = r } in u) (sym (room_by_view _ _ _ c.self.view_is)))
+    ∙ ap (λ r. let u : Contents g.row.N.Denot = record { nodes = empty; room = r } in u)
+    (sym (room_by_view _ _ _ c.self.view_is)))

@@ -21,17 +21,24 @@ seek-requires-clause-linked g c =
 pub seek-requires-clause-callable : goal.seek-requires-clause-callable
 seek-requires-clause-callable g c = λ cell node here.
     c.requires cell node
-    (get_by_view _ _ _ cell c.self.view_is ∙ ap (λ (cells : List (Cell g.row.N.Denot)). kept_at cells cell) (sym c.deref-2.ensures.value) ∙ here)
+    (get_by_view _ _ _ cell c.self.view_is
+    ∙ ap (λ (cells : List (Cell g.row.N.Denot)). kept_at cells cell) (sym c.deref-2.ensures.value) ∙ here)
 
 pub returns-clause-found : goal.returns-clause-found
 returns-clause-found g c =
-    IfSome_then c.seek.result c.seek.ensures.found (λ node p.
-    (p.0, get_by_view _ _ _ p.0 c.self.view_is ∙ ap (λ (cells : List (Cell g.row.N.Denot)). kept_at cells p.0) (sym c.deref-2.ensures.value) ∙ p.1, p.2))
+    IfSome_then c.seek.result c.seek.ensures.found (λ node p. (
+      p.0,
+      get_by_view _ _ _ p.0 c.self.view_is
+          ∙ ap (λ (cells : List (Cell g.row.N.Denot)). kept_at cells p.0) (sym c.deref-2.ensures.value) ∙ p.1,
+      p.2,
+    ))
 
 pub returns-clause-none : goal.returns-clause-none
 returns-clause-none g c =
     IfNone_then c.seek.result c.seek.ensures.none (λ p cell node here.
-    p cell node (ap (λ (cells : List (Cell g.row.N.Denot)). kept_at cells cell) c.deref-2.ensures.value ∙ sym (get_by_view _ _ _ cell c.self.view_is) ∙ here))
+    p cell node
+    (ap (λ (cells : List (Cell g.row.N.Denot)). kept_at cells cell) c.deref-2.ensures.value
+    ∙ sym (get_by_view _ _ _ cell c.self.view_is) ∙ here))
 
 pub returns-clause-cost : goal.returns-clause-cost
 returns-clause-cost g c =

@@ -10,15 +10,20 @@ use Rattle.hashlink_table.proofs.table.Table.hash.Goals as goal
 pub index-requires : goal.index-requires
 index-requires g c =
     let t = c.self.inside in
-    let within = within_by_kept t.cells.items c.args.cell (subst IsSome (get_by_view _ _ _ c.args.cell c.self.view_is) c.requires) in
+    let within = within_by_kept t.cells.items c.args.cell
+    (subst IsSome (get_by_view _ _ _ c.args.cell c.self.view_is) c.requires) in
     omega (arith, within, t.cells.ok.0)
 
-pub unwrap-kept-requires : goal.unwrap-kept-requires
-unwrap-kept-requires g c =
+pub there-requires : goal.there-requires
+there-requires g c =
     let t = c.self.inside in
     let some = subst IsSome (get_by_view _ _ _ c.args.cell c.self.view_is) c.requires in
     let within = within_by_kept t.cells.items c.args.cell some in
-    subst (λ (d : Cell g.row.N.Denot). IsSome d.kept) (sym (get_or_read t.cells.items c.args.cell c.index.result.now within c.index.ensures no_cell)) some
+    subst IsSome
+    (sym
+    (ap (λ (d : Cell g.row.N.Denot). d.kept)
+    (get_or_read t.cells.items c.args.cell c.index.result.now within c.index.ensures no_cell)))
+    some
 
 pub returns : goal.returns
 returns g c =
@@ -26,6 +31,7 @@ returns g c =
     let at = get_by_view _ _ _ c.args.cell c.self.view_is in
     let within = within_by_kept t.cells.items c.args.cell (subst IsSome at c.requires) in
     let read = get_or_read t.cells.items c.args.cell c.index.result.now within c.index.ensures no_cell in
-    let is : get c.args.self.now.nodes c.args.cell ≡ Some c.unwrap-kept.result = at ∙ sym (ap (λ (d : Cell g.row.N.Denot). d.kept) read) ∙ c.unwrap-kept.ensures in
-    let Same : Option (Kept g.row.N.Denot) → Type 0 = λ o. IfSome o (λ kept. c.unwrap-kept.result.hash ≡ kept.hash) in
+    let is : get c.args.self.now.nodes c.args.cell ≡ Some c.there.result
+    = at ∙ sym (ap (λ (d : Cell g.row.N.Denot). d.kept) read) ∙ c.there.ensures in
+    let Same : Option (Kept g.row.N.Denot) → Type 0 = λ o. IfSome o (λ kept. c.there.result.hash ≡ kept.hash) in
     subst Same (sym is) refl

@@ -9,7 +9,9 @@ use Rattle.hashlink_table.proofs.Views.{len_by_view, contents_kept}
 use Rattle.hashlink_table.proofs.table.Table.rebuild.Goals as goal
 
 -- the nodes of the cells, before the memory was reserved and after the cells were chained anew
-nodes_stay : {N : Type 0} (first second third fourth last : List (Cell N)) → second ≡ first → SameNodes second third → fourth ≡ third → SameNodes fourth last → SameNodes first last
+nodes_stay : {N : Type 0} (first second third fourth last : List (Cell N)) → second ≡ first → SameNodes second third
+    → fourth ≡ third → SameNodes fourth last
+    → SameNodes first last
 nodes_stay first second third fourth last a b c d i =
     d i ∙ ap (λ cells. kept_at cells i) c ∙ b i ∙ ap (λ cells. kept_at cells i) a
 
@@ -22,15 +24,24 @@ invariant_of-self-2 g c =
     let hs : length now ≡ heads.len = c.relink-self-inside.auto.heads ∙ c.deref_mut.ensures.len in
     let cs : length later ≡ cells.len = c.relink-self-inside.auto.cells ∙ c.deref_mut-2.ensures.len in
     let buckets : length now ≡ c.args.buckets = hs ∙ c.in_ok-heads.ensures.len in
-    let same = nodes_stay t.cells.items _ _ _ later c.in_ok-reserve_exact.ensures.items c.trim.ensures.nodes c.deref_mut-2.ensures.value c.relink-self-inside.ensures.nodes in
-    let fewer : length later ≤ length t.cells.items = omega (arith, cs, c.trim.ensures.len, c.in_ok-reserve_exact.ensures.len, t.cells.ok.0) in
+    let same = nodes_stay t.cells.items _ _ _ later c.in_ok-reserve_exact.ensures.items c.trim.ensures.nodes
+    c.deref_mut-2.ensures.value c.relink-self-inside.ensures.nodes in
+    let fewer : length later ≤ length t.cells.items
+    = omega (arith, cs, c.trim.ensures.len, c.in_ok-reserve_exact.ensures.len, t.cells.ok.0) in
     rw (with_items_is heads now hs, with_items_is cells later cs)
     (sound-relink t.heads.items now t.cells.items later _ _ t.free _ t.len t.room c.args.room c.self.invariant
     c.relink-self-inside.ensures.linked same fewer
     (omega (arith, c.requires.held, len, c.self.invariant.counted))
     (omega (arith, buckets, c.requires.headed))
-    (omega (arith, c.trim.ensures.capacity, c.in_ok-reserve_exact.ensures.ok, c.in_ok-reserve_exact.ensures.len, c.saturating_sub-more.ensures, c.len.ensures))
-    (omega (arith, buckets, c.requires.small))
+    (omega (
+      arith,
+      c.trim.ensures.capacity,
+      c.in_ok-reserve_exact.ensures.ok,
+      c.in_ok-reserve_exact.ensures.len,
+      c.saturating_sub-more.ensures,
+      c.len.ensures,
+    ))
+    (omega (arith, buckets, c.if-buckets-gt-MAX_BUCKETS.false))
     (subst IsPowerOfTwo (sym buckets) c.requires.power))
 
 pub returns-clause-ok : goal.returns-clause-ok
@@ -39,6 +50,7 @@ returns-clause-ok g c =
     let cells = c.trim.new.cells in
     let later = c.relink-self-inside.new.cells in
     let cs : length later ≡ cells.len = c.relink-self-inside.auto.cells ∙ c.deref_mut-2.ensures.len in
-    let same = nodes_stay t.cells.items _ _ _ later c.in_ok-reserve_exact.ensures.items c.trim.ensures.nodes c.deref_mut-2.ensures.value c.relink-self-inside.ensures.nodes in
+    let same = nodes_stay t.cells.items _ _ _ later c.in_ok-reserve_exact.ensures.items c.trim.ensures.nodes
+    c.deref_mut-2.ensures.value c.relink-self-inside.ensures.nodes in
     rw (with_items_is cells later cs) (contents_kept t.cells.items later t.room c.args.room same)
     ∙ ap (λ (u : Contents g.row.N.Denot). record u { room = c.args.room }) c.self.view_is

@@ -1,6 +1,7 @@
 use Rattle.std.proofs.Common.{sym, ap, ◌∙◌, arith}
 use Rattle.std.specs.FinMap.{empty_of_len}
 use Rattle.hashlink_table.specs.Contents.{Contents}
+use Rattle.hashlink_table.proofs.Linking.{power_within}
 use Rattle.hashlink_table.proofs.Sound.{sound-capacity}
 use Rattle.hashlink_table.proofs.Views.{len_by_view, room_by_view, contents-nil}
 use Rattle.hashlink_table.proofs.table.Table.shrink.Goals as goal
@@ -10,8 +11,15 @@ returns-then-self-eq0-clause-ok g c =
     let none = len_by_view _ _ _ c.self.view_is ∙ sym c.self.invariant.counted ∙ c.if-self-eq0.true in
     rw c.new-then-self-eq0.ensures.items
     (contents-nil 0
-    ∙ ap (λ n. let u : Contents g.row.N.Denot = record { nodes = n; room = 0 } in u) (sym (empty_of_len c.args.self.now.nodes none))
+    ∙ ap (λ n. let u : Contents g.row.N.Denot = record { nodes = n; room = 0 } in u)
+    (sym (empty_of_len c.args.self.now.nodes none))
     ∙ ap (λ r. record c.args.self.now { room = r }) (sym none))
+
+pub buckets_for-requires-clause-small : goal.buckets_for-requires-clause-small
+buckets_for-requires-clause-small g c =
+    let p = c.next_power_of_two.ensures in
+    power_within c.next_power_of_two.result _ p.power p.upper_bound
+    (omega (arith, c.self.invariant.held, c.self.invariant.headed, c.self.invariant.small))
 
 pub rebuild-requires-clause-held : goal.rebuild-requires-clause-held
 rebuild-requires-clause-held g c =
@@ -23,9 +31,11 @@ returns-in_err-rebuild-clause-empty g c = λ h.
 
 pub invariant_of-self-2 : goal.invariant_of-self-2
 invariant_of-self-2 g c =
-    let room = sym (room_by_view _ _ _ c.self-2.view_is) ∙ ap (λ (t : Contents g.row.N.Denot). t.room) c.in_ok-rebuild.ensures.ok in
+    let room = sym (room_by_view _ _ _ c.self-2.view_is)
+    ∙ ap (λ (t : Contents g.row.N.Denot). t.room) c.in_ok-rebuild.ensures.ok in
     rw c.shrink_to.ensures.items
-    (sound-capacity c.self-2.invariant _ (omega (arith, room, c.self-2.invariant.reserved, c.shrink_to.ensures.lower_bound)))
+    (sound-capacity c.self-2.invariant _
+    (omega (arith, room, c.self-2.invariant.reserved, c.shrink_to.ensures.lower_bound)))
 
 pub returns-clause-ok : goal.returns-clause-ok
 returns-clause-ok g c =

@@ -17,8 +17,11 @@ returns-in_err-reserve-clause-overflow g c =
     let none = ap (λ (t : Contents g.row.N.Denot). len t.nodes) c.new-table.ensures ∙ len-empty nat_cmp _ in
     let error = c.in_err-reserve.field-0.0 in
     let is = err_is c.from_residual.result error c.from_residual.ensures.1 in (
-      λ e. let more = c.in_err-reserve.ensures.overflow.0 (ap Err (same_Err error CapacityOverflow (sym is ∙ e))) in omega (arith, more, none),
-      λ h. is ∙ ap Err (same_Err error CapacityOverflow (c.in_err-reserve.ensures.overflow.1 (omega (arith, h, none)))),
+      λ e. let more =
+          c.in_err-reserve.ensures.overflow.0 (ap Err (same_Err error CapacityOverflow (sym is ∙ e))) in omega
+          (arith, more, none),
+      λ h. is
+          ∙ ap Err (same_Err error CapacityOverflow (c.in_err-reserve.ensures.overflow.1 (omega (arith, h, none)))),
     )
 
 pub returns-clause-nothing : goal.returns-clause-nothing

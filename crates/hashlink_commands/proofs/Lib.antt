@@ -1,0 +1,5 @@
+-- Lemmas on texts that are read from their front.
+pub mod Cutting
+pub mod Digits
+pub mod Spelled
+pub mod Tables

@@ -1,0 +1,5 @@
+-- How a text spells commands: what lines and words are, what a line says, and how it is spelled.
+pub mod Lines
+pub mod Cuts
+pub mod Says
+pub mod Spelling

@@ -1,0 +1,163 @@
+-- The place after a place, and the one before it, by number.
+use Rattle.std.proofs.Common.{◌≡◌, ℕ, zero, suc, ◌+◌, ◌-◌, ◌%◌, ◌<◌, ◌≤◌, true, false, cond, List, [], ◌∷◌, ◌++◌}
+use Rattle.std.proofs.Common.{length, Option, None, Some, refl, ap, sym, subst, ◌∙◌, arith}
+use Rattle.std.specs.Prelude.{slice_get, is_some, unwrap_or}
+use Rattle.std.specs.List.{IsDistinct, AllByRecursion}
+use Rattle.std.specs.Map.{keys_of, lookup}
+use Rattle.std.proofs.lemmas.Map.Keys.{IsDistinct-head, IsDistinct-tail}
+use Rattle.std.proofs.lemmas.Map.Entries.{length-keys_of}
+use Rattle.hashlink_model.specs.Cursor.{following_place, preceding_place}
+use Rattle.hashlink_model.specs.Entries.{IsEntries}
+use Rattle.hashlink_model.proofs.Distinct.{each-left}
+use Rattle.hashlink_model.proofs.Places.{place_of_its_key}
+use Rattle.hashlink_nodes.specs.declared.node.Node.{Node}
+use Rattle.hashlink_nodes.specs.Node.{same_node, same_node_equiv}
+use Rattle.hashlink_nodes.specs.Ring.{node_after, node_before, last_node, next_place, prev_place, Holds, IsPlace}
+use Rattle.hashlink_core.specs.Places.{place_number, IsPlaceAt}
+use Rattle.hashlink_core.proofs.Places.{node-at, around, following-within}
+use native.Mathlib.Nat.{mod-eq_of_lt, add-mod_right, zero-add}
+
+-- ---- nodes
+pub distinct-left : (xs ys : List Node) → IsDistinct same_node (xs ++ ys) → IsDistinct same_node xs
+unfolding IsDistinct
+distinct-left [] ys d = tt
+distinct-left (x ∷ xs) ys d = (each-left _ xs ys d.0, distinct-left xs ys d.1)
+
+each-at : (P : Node → Type 0) (xs : List Node) (i : ℕ) (x : Node) → AllByRecursion P xs → slice_get xs i ≡ Some x → P x
+each-at P [] i x all at = absurd (cc)
+each-at P (y ∷ xs) zero x all at = let same : y ≡ x = cc in subst P same all.0
+each-at P (y ∷ xs) (suc i) x all at = each-at P xs i x all.1 at
+
+same-itself : (n m : Node) → m ≡ n → same_node n m ≡ true
+same-itself n m same = ap (same_node n) same ∙ same_node_equiv.refl n
+
+other-at : (m : Node) (ns : List Node) (i : ℕ) (n : Node) → IsDistinct same_node (m ∷ ns) → slice_get ns i ≡ Some n
+    → same_node n m ≡ false
+other-at m ns i n d at = same_node_equiv.symm n m
+    ∙ each-at (λ y. same_node m y ≡ false) ns i n (IsDistinct-head same_node m ns d) at
+
+pub node_after-at : (ns : List Node) (i : ℕ) (n : Node) → IsDistinct same_node ns → slice_get ns i ≡ Some n
+    → node_after n ns ≡ slice_get ns (suc i)
+node_after-at [] i n d at = absurd (cc)
+node_after-at (m ∷ ns) zero n d at =
+    let same : m ≡ n = cc in
+    ap (λ b. cond b (slice_get ns 0) (node_after n ns)) (same-itself n m same)
+node_after-at (m ∷ ns) (suc i) n d at =
+    ap (λ b. cond b (slice_get ns 0) (node_after n ns)) (other-at m ns i n d at)
+    ∙ node_after-at ns i n (IsDistinct-tail same_node m ns d) at
+
+-- the node before the one at i: what stands before the list for the first
+abbrev before_at : Option Node → List Node → ℕ → Option Node
+before_at before ns zero = before
+before_at before ns (suc i) = slice_get ns i
+
+before-later : (m : Node) (ns : List Node) (i : ℕ) → before_at (Some m) ns i ≡ slice_get (m ∷ ns) i
+before-later m ns zero = refl
+before-later m ns (suc i) = refl
+
+node_before-at : (before : Option Node) (ns : List Node) (i : ℕ) (n : Node) → IsDistinct same_node ns
+    → slice_get ns i ≡ Some n → node_before n before ns ≡ before_at before ns i
+node_before-at before [] i n d at = absurd (cc)
+node_before-at before (m ∷ ns) zero n d at =
+    let same : m ≡ n = cc in
+    ap (λ b. cond b before (node_before n (Some m) ns)) (same-itself n m same)
+node_before-at before (m ∷ ns) (suc i) n d at =
+    ap (λ b. cond b before (node_before n (Some m) ns)) (other-at m ns i n d at)
+    ∙ node_before-at (Some m) ns i n (IsDistinct-tail same_node m ns d) at ∙ before-later m ns i
+
+last_node-later : (m : Node) (ns : List Node) → last_node (Some m) ns ≡ slice_get (m ∷ ns) (length ns)
+last_node-later m [] = refl
+last_node-later m (n ∷ ns) = last_node-later n ns
+
+last_node-at : (ns : List Node) → last_node None ns ≡ slice_get ns (length ns - 1)
+last_node-at [] = refl
+last_node-at (m ∷ ns) =
+    let one_less : length ns ≡ suc (length ns) - 1 = omega arith in
+    last_node-later m ns ∙ ap (slice_get (m ∷ ns)) one_less
+
+pub none-past : (xs : List Node) (i : ℕ) → slice_get xs i ≡ None → length xs ≤ i
+none-past [] i at = omega arith
+none-past (y ∷ xs) zero at = absurd (cc)
+none-past (y ∷ xs) (suc i) at = omega (arith, none-past xs i at)
+
+-- ---- the place before, by number
+before-suc : (n i : ℕ) → i ≤ n → preceding_place n (suc i) ≡ i
+before-suc n i le =
+    let more : suc i + n ≡ i + (n + 1) = omega arith in
+    ap (λ m. m % (n + 1)) more ∙ add-mod_right i (n + 1) ∙ mod-eq_of_lt (omega arith)
+
+before-first : (n : ℕ) → preceding_place n 0 ≡ n
+before-first n = ap (λ m. m % (n + 1)) (zero-add n) ∙ mod-eq_of_lt (omega arith)
+
+pub before-guard : (n : ℕ) → preceding_place n n ≡ n - 1
+before-guard zero = refl
+before-guard (suc n) = before-suc (suc n) n (omega arith) ∙ omega arith
+
+-- ---- entries with their nodes
+module _ {X : Type 0} where
+  pub entry-at : (es : List (Node × X)) (i : ℕ) (n : Node) → slice_get (keys_of es) i ≡ Some n → (x : X)
+      × (slice_get es i ≡ Some (n, x))
+  entry-at [] i n at = absurd (cc)
+  entry-at (e ∷ es) zero n at = let same : e.0 ≡ n = cc in (e.1, ap (λ m. Some (m, e.1)) same)
+  entry-at (e ∷ es) (suc i) n at = entry-at es i n at
+
+  pub holds-at : (es : List (Node × X)) (i : ℕ) (n : Node) → slice_get (keys_of es) i ≡ Some n → Holds es n
+  holds-at [] i n at = absurd (cc)
+  holds-at (e ∷ es) zero n at =
+      let same : e.0 ≡ n = cc in
+      ap (λ b. is_some (cond b (Some e.1) (lookup (same_node n) es))) (same-itself n e.0 same)
+  holds-at (e ∷ es) (suc i) n at =
+      elim (same_node n e.0) as (λ b. is_some (cond b (Some e.1) (lookup (same_node n) es)) ≡ true)
+      [ true ↦ refl | false ↦ holds-at es i n at ]
+
+  module _ (es : List (Node × X)) (d : IsEntries same_node es) where
+    place-by : (i : ℕ) → i ≤ length es → (p : Option Node) → slice_get (keys_of es) i ≡ p → IsPlaceAt es p i
+    place-by i le None at =
+        let past : length (keys_of es) ≤ i = none-past (keys_of es) i at in
+        record { within = tt; number = omega (arith, past, length-keys_of es) }
+    place-by i le (Some n) at =
+        let e = entry-at es i n at in
+        record {
+          within = holds-at es i n at;
+          number = ap (λ o. unwrap_or o (length es))
+              (place_of_its_key same_node same_node_equiv es i (n, e.0) n d e.1 (same_node_equiv.refl n));
+        }
+
+    -- what stands at i is a place with the number i
+    pub place-at : (i : ℕ) → i ≤ length es → IsPlaceAt es (slice_get (keys_of es) i) i
+    place-at i le = place-by i le (slice_get (keys_of es) i) refl
+
+    pub next-number : (p : Option Node) → IsPlace es p
+        → IsPlaceAt es (next_place (keys_of es) p) (following_place (length es) (place_number es p))
+    next-number None within =
+        subst (IsPlaceAt es (slice_get (keys_of es) 0)) (sym (around (length es))) (place-at 0 (omega arith))
+    next-number (Some n) within =
+        let x = node-at es n within in
+        let j = place_number es (Some n) in
+        subst (λ i. IsPlaceAt es (node_after n (keys_of es)) i) (sym (following-within (length es) j x.1.within))
+        (subst (λ p. IsPlaceAt es p (suc j)) (sym (node_after-at (keys_of es) j n d x.1.key_at))
+        (place-at (suc j) (omega (arith, x.1.within))))
+
+    last-number : IsPlaceAt es (last_node None (keys_of es)) (length es - 1)
+    last-number =
+        subst (λ p. IsPlaceAt es p (length es - 1))
+        (sym (last_node-at (keys_of es) ∙ ap (λ i. slice_get (keys_of es) (i - 1)) (length-keys_of es)))
+        (place-at (length es - 1) (omega arith))
+
+    before-number : (j : ℕ) (n : Node) → slice_get (keys_of es) j ≡ Some n → j < length es
+        → IsPlaceAt es (node_before n None (keys_of es)) (preceding_place (length es) j)
+    before-number j n at lt =
+        subst (λ p. IsPlaceAt es p (preceding_place (length es) j))
+        (sym (node_before-at None (keys_of es) j n d at)) (by j lt)
+      where
+        by : (j : ℕ) → j < length es → IsPlaceAt es (before_at None (keys_of es) j) (preceding_place (length es) j)
+        by zero lt = record { within = tt; number = sym (before-first (length es)) }
+        by (suc i) lt = subst (IsPlaceAt es (slice_get (keys_of es) i))
+            (sym (before-suc (length es) i (omega arith))) (place-at i (omega arith))
+
+    pub prev-number : (p : Option Node) → IsPlace es p
+        → IsPlaceAt es (prev_place (keys_of es) p) (preceding_place (length es) (place_number es p))
+    prev-number None within =
+        subst (IsPlaceAt es (last_node None (keys_of es))) (sym (before-guard (length es))) last-number
+    prev-number (Some n) within = let x = node-at es n within in
+        before-number (place_number es (Some n)) n x.1.key_at x.1.within

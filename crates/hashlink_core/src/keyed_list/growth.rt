@@ -1,0 +1,56 @@
+//! The room of a keyed list, and its spare nodes.
+ghost use Rattle.std.specs.Prelude.{◌≡◌, ◌+◌, ◌<◌, ◌≤◌, ◌↔◌, [], length, Ok, Err, IsOk, OnOk, OnErr};
+ghost use Rattle.hashlink_core.specs.Keyed.{entries_of, IsKeyed};
+ghost use Rattle.hashlink_core.specs.Steps.{GrowsRoom};
+ghost use Rattle.hashlink_table.specs.declared.error.TryReserveError.TheVariants.{CapacityOverflow};
+ghost use Rattle.hashlink_table.specs.declared.table.TheConstants.{MAX_ROOM};
+
+use super::KeyedList;
+use hashlink_table::TryReserveError;
+use std::alloc::AllocError;
+use std::hash::{BuildHasher, Hash};
+
+impl<K: Eq + Hash, V, S: BuildHasher> KeyedList<K, V, S> {
+    /// Makes room for so many more entries. Where there is the room already it takes no memory. A refusal changes
+    /// nothing.
+    pub fn reserve(&mut self, additional: usize) -> Result<(), TryReserveError>
+        ensures ok { OnOk result (length self.old.nodes + additional ≤ self.new.room) }
+        ensures grown { GrowsRoom self.old self.new }
+        ensures err { OnErr result (self.new ≡ self.old) }
+        ensures enough { length self.old.nodes + additional ≤ self.old.room → IsOk result × (self.new ≡ self.old) }
+        ensures overflow { (result ≡ Err CapacityOverflow) ↔ (MAX_ROOM < length self.old.nodes + additional) }
+        ensures sound { IsKeyed K.eq self.old }
+    {
+        self.table.reserve(additional)
+    }
+
+    /// Gives the spare nodes back. The room stays.
+    pub fn release_spare(&mut self)
+        ensures { self.new ≡ record self.old { spare = 0 } }
+    {
+        self.nodes.release_free();
+    }
+
+    /// Gives the spare nodes back, and then the room beyond the entries. A refusal leaves the room as it was;
+    /// without entries there is none, and no room is left.
+    pub fn shrink(&mut self) -> Result<(), AllocError>
+        ensures ok { OnOk result (self.new ≡ record self.old { spare = 0; room = length self.old.nodes }) }
+        ensures err { OnErr result (self.new ≡ record self.old { spare = 0 }) }
+        ensures empty { self.old.nodes ≡ [] → IsOk result }
+        ensures fits { length (entries_of self.old) ≤ self.old.room }
+    {
+        self.release_spare();
+        self.shrink_table()
+    }
+
+    /// Gives the room beyond the entries back, where no node is spare.
+    fn shrink_table(&mut self) -> Result<(), AllocError>
+        requires { self.old.spare ≡ 0 }
+        ensures ok { OnOk result (self.new ≡ record self.old { room = length self.old.nodes }) }
+        ensures err { OnErr result (self.new ≡ self.old) }
+        ensures empty { self.old.nodes ≡ [] → IsOk result }
+        ensures sound { IsKeyed K.eq self.old }
+    {
+        self.table.shrink()
+    }
+}

@@ -1,0 +1,94 @@
+//! How entries come, move and leave.
+ghost use Rattle.std.specs.Prelude.{◌≡◌, [], length, slice_get, None, Some, IfOk, IfErr, OnErr};
+ghost use Rattle.std.specs.Map.{remove_entry};
+ghost use Rattle.hashlink_model.specs.Cursor.{following_place};
+ghost use Rattle.hashlink_model.specs.Entries.{place_of};
+ghost use Rattle.hashlink_nodes.specs.Node.{same_node};
+ghost use Rattle.hashlink_nodes.specs.Ring.{Holds, IsPlace};
+ghost use Rattle.hashlink_core.specs.Keyed.{entries_of, state_of, IsKeyed};
+ghost use Rattle.hashlink_core.specs.Places.{place_number};
+ghost use Rattle.hashlink_core.specs.Steps.{AddsNode, RemovesNode, MovesNode, GrowsRoom};
+ghost use Rattle.hashlink_core.specs.Tied.{hash_with};
+ghost use Rattle.hashlink_model.specs.Steps.{Clears};
+
+use super::KeyedList;
+use hashlink_nodes::Node;
+use std::hash::{BuildHasher, Hash};
+
+impl<K: Eq + Hash, V, S: BuildHasher> KeyedList<K, V, S> {
+    /// Puts a pair with a new key, which has this hash, right before the place. Where no node is spare it takes
+    /// memory, and changes the list only after that:
+    /// a refusal hands the pair back. It stores four links.
+    pub fn insert_before(
+        &mut self,
+        place: Option<Node>,
+        hash: u64,
+        key: K,
+        value: V,
+    ) -> Result<Node, (K, V)>
+        requires place { IsPlace self.old.nodes place }
+        requires absent { place_of (K.eq key) (entries_of self.old) ≡ None }
+        requires hash { hash ≡ hash_with S.build_hasher S.Hasher.write S.Hasher.finish K.hash_input self.old.hasher
+            key }
+        ensures added { IfOk result (λ n. AddsNode self.old self.new (place_number self.old.nodes place) n key value) }
+        ensures handed_back { IfErr result (λ pair. pair ≡ (key, value)) }
+        ensures refused { OnErr result (GrowsRoom self.old self.new) }
+        ensures no_spare { OnErr result (self.old.spare ≡ 0) }
+        ensures sound { IsKeyed K.eq self.new }
+    {
+        if self.reserve(1).is_err() {
+            return Err((key, value));
+        }
+        let node = self.nodes.push_before(place, 0, key, value)?;
+        let cell = self.table.insert_reserved(hash, node);
+        self.nodes.set_number(node, cell);
+        Ok(node)
+    }
+
+    /// Moves the node's entry right before another place. It stores six links.
+    #[inline]
+    pub fn move_before(&mut self, node: Node, place: Option<Node>)
+        requires node { Holds self.old.nodes node }
+        requires place { IsPlace (remove_entry (same_node node) self.old.nodes) place }
+        ensures moved { MovesNode self.old self.new (place_number self.old.nodes (Some node))
+            (place_number self.old.nodes place) }
+        ensures sound { IsKeyed K.eq self.new }
+    {
+        self.nodes.move_before(node, place);
+    }
+
+    /// Moves the node's entry right after another place. It stores six links.
+    #[inline]
+    pub fn move_after(&mut self, node: Node, place: Option<Node>)
+        requires node { Holds self.old.nodes node }
+        requires place { IsPlace (remove_entry (same_node node) self.old.nodes) place }
+        ensures moved { MovesNode self.old self.new (place_number self.old.nodes (Some node))
+            (following_place (length self.old.nodes) (place_number self.old.nodes place)) }
+        ensures sound { IsKeyed K.eq self.new }
+    {
+        self.nodes.move_after(node, place);
+    }
+
+    /// Takes the node's entry out. The node is then spare. It takes no memory and stores three links.
+    pub fn remove(&mut self, node: Node) -> (K, V)
+        requires { Holds self.old.nodes node }
+        ensures pair { slice_get (entries_of self.old) (place_number self.old.nodes (Some node)) ≡ Some result }
+        ensures removed { RemovesNode self.old self.new (place_number self.old.nodes (Some node)) }
+        ensures sound { IsKeyed K.eq self.new }
+    {
+        self.table.remove(self.nodes.number(node));
+        self.nodes.detach_into_free(node)
+    }
+
+    /// Drops every entry and gives its node back. The spare nodes and the room stay.
+    pub fn clear(&mut self)
+    where
+        K: Drop,
+        V: Drop,
+        ensures nodes { self.new.nodes ≡ [] }
+        ensures cleared { Clears (state_of self.old) (state_of self.new) }
+    {
+        self.table.clear();
+        self.nodes.release_all();
+    }
+}

@@ -1,0 +1,52 @@
+//! What can be changed in an entry that stays where it is.
+ghost use Rattle.std.specs.Prelude.{◌≡◌, slice_get, Some};
+ghost use Rattle.std.specs.Borrow.{sem};
+ghost use Rattle.std.specs.Option.{option_map};
+ghost use Rattle.hashlink_nodes.specs.Ring.{Holds};
+ghost use Rattle.hashlink_core.specs.Keyed.{entries_of, HoldsKey, IsKeyed};
+ghost use Rattle.hashlink_core.specs.Places.{place_number};
+ghost use Rattle.hashlink_core.specs.Steps.{WritesNode, SetsNodeKey};
+
+use super::KeyedList;
+use hashlink_nodes::Node;
+use std::hash::{BuildHasher, Hash};
+
+impl<K: Eq + Hash, V, S: BuildHasher> KeyedList<K, V, S> {
+    ghost use Rattle.hashlink_core.specs.KeyedLends.{LendsValueAt};
+
+    /// Lends the value of the node's entry.
+    #[inline]
+    pub fn value_mut(&mut self, node: Node) -> &mut V
+        requires { Holds self.old.nodes node }
+        ensures* lends { sem 𝓛 (LendsValueAt K.row V.row S.row S.Hasher.row K.Hash S.BuildHasher S.Hasher.Hasher
+            self.entry node result) }
+        ensures value { option_map (λ e. e.1)
+            (slice_get (entries_of self.old) (place_number self.old.nodes (Some node))) ≡ Some result.now }
+    {
+        self.nodes.value_mut(node)
+    }
+
+    /// Puts a value into the node's entry, and answers the old one.
+    #[inline]
+    pub fn replace_value(&mut self, node: Node, value: V) -> V
+        requires { Holds self.old.nodes node }
+        ensures value { option_map (λ e. e.1)
+            (slice_get (entries_of self.old) (place_number self.old.nodes (Some node))) ≡ Some result }
+        ensures written { WritesNode self.old self.new (place_number self.old.nodes (Some node)) value }
+        ensures sound { IsKeyed K.eq self.new }
+    {
+        self.nodes.replace_value(node, value)
+    }
+
+    /// Puts a key into the entry of an equal one, and answers the old one.
+    #[inline]
+    pub fn replace_key(&mut self, node: Node, key: K) -> K
+        requires { HoldsKey K.eq self.old.nodes key node }
+        ensures key { option_map (λ e. e.0)
+            (slice_get (entries_of self.old) (place_number self.old.nodes (Some node))) ≡ Some result }
+        ensures written { SetsNodeKey self.old self.new (place_number self.old.nodes (Some node)) key }
+        ensures sound { IsKeyed K.eq self.new }
+    {
+        self.nodes.set_key(node, key)
+    }
+}

@@ -1,0 +1,325 @@
+-- Where a node stands after a step at it, and steps in a row.
+use Rattle.std.proofs.Common.{[], ◌∷◌, zero, ap₂, ◌++◌, length-append, ◌≡◌, ℕ, suc, ◌+◌, ◌-◌, ◌<◌, ◌≤◌, Bool, true}
+use Rattle.std.proofs.Common.{List, length, Option, None, Some, refl, sym, ap, subst, ◌∙◌, arith}
+use Rattle.std.specs.Prelude.{slice_get, insert, remove, is_some, unwrap_or, Result, Ok, Err, IfOk, IfErr, OnErr}
+use Rattle.std.specs.Prelude.{MatchOption}
+use Rattle.std.specs.Option.{option_map}
+use Rattle.std.specs.Cmp.{IsEquivalence}
+use Rattle.std.specs.Map.{lookup, values_of}
+use Rattle.std.proofs.lemmas.Option.{slice_get-map}
+use Rattle.std.proofs.lemmas.Map.Entries.{length-values_of}
+use Rattle.hashlink_model.specs.Entries.{place_of, place_left, moved_at, put, stored_key, set_value_at, set_key_at}
+use Rattle.hashlink_model.specs.MapState.{MapState, Changes, Grows, AddsEntry, PutsEntry, SetsKeyAt, MovesAt}
+use Rattle.hashlink_model.specs.Entry.{key_at, value_at, replace_entry, VacantInserts}
+use Rattle.hashlink_model.proofs.Places.{split_at, slice_get_here}
+use Rattle.hashlink_model.proofs.ByPlace.{set_value_at-here, moved_at-last, moved_at-put}
+use Rattle.hashlink_model.proofs.Finds.{lookup_key_is}
+use Rattle.hashlink_model.proofs.Puts.{put-absent}
+use Rattle.hashlink_model.proofs.Splits.{none_from_lookup, stands_from_place, lookup_entry-none}
+use Rattle.hashlink_core.specs.Keyed.{Keyed, entries_of, state_of, HoldsKey, IsKeyed}
+use Rattle.hashlink_core.specs.Places.{Node, Holds, place_number, renewed_at}
+use Rattle.hashlink_core.specs.KeyedLends.{with_value_at}
+use Rattle.hashlink_core.specs.Steps.{AddsNode, GrowsRoom}
+use Rattle.hashlink_core.proofs.Edits.{length-inserted, length-removed, slice_get-inserted, moved_at-is}
+use Rattle.hashlink_core.proofs.Edits.{place_left-before, place_left-past, passes-at}
+use Rattle.hashlink_core.proofs.Holding.{number-at, holds-at, holds_key-at}
+use Rattle.hashlink_core.proofs.Mapped.{values-renewed_value}
+use Rattle.hashlink_core.proofs.Places.{IsNodeAt, node-at, renewed_at-is}
+use Rattle.hashlink_map.specs.Standing.{StaysHeld}
+use Rattle.hashlink_map.proofs.Calls.{added, refused}
+use Rattle.hashlink_map.proofs.Steps.{changes_twice, lookup-place, lookup_entry-place, none_passes_from_place}
+
+module _ {K V S : Type 0} {eq : K → K → Bool} (laws : IsEquivalence eq) where
+  -- ---- a step at a node that is held
+
+  module _ (old new : Keyed K V S) (sound : IsKeyed eq new) (n : Node) (held : Holds old.nodes n) where
+    pub stood : (e : K × V) × IsNodeAt old.nodes n e
+    stood = node-at old.nodes n held
+
+    -- the key that it holds
+    key-equal : (k : K) → HoldsKey eq old.nodes k n → eq k stood.0.0 ≡ true
+    key-equal k h = passes-at (eq k) (entries_of old) (place_number old.nodes (Some n)) stood.0 h.place
+        (slice_get-map (λ (x : Node × (K × V)). x.1) old.nodes (place_number old.nodes (Some n))
+        ∙ ap (option_map (λ x. x.1)) stood.1.at)
+
+    stays : (p : ℕ) (e : K × V) → slice_get new.nodes p ≡ Some (n, e)
+        → ((k : K) → eq k stood.0.0 ≡ true → eq k e.0 ≡ true)
+        → StaysHeld eq old new n p
+    stays p e at same = record {
+      within = holds-at laws new sound n p e at;
+      place = number-at laws new sound n p e at;
+      keys = λ k h. holds_key-at laws new sound n p e at k (same k (key-equal k h));
+    }
+
+    fewer : length (remove old.nodes (place_number old.nodes (Some n))) + 1 ≡ length old.nodes
+    fewer = length-removed old.nodes (place_number old.nodes (Some n)) (n, stood.0) stood.1.at
+
+    moved-to : (b p : ℕ) → place_left (place_number old.nodes (Some n)) b ≡ p → p + 1 ≤ length old.nodes
+        → new.nodes ≡ moved_at old.nodes (place_number old.nodes (Some n)) b
+        → StaysHeld eq old new n p
+    moved-to b p left within is =
+        let j = place_number old.nodes (Some n) in
+        stays p stood.0
+        (ap (λ ns. slice_get ns p)
+        (is ∙ moved_at-is old.nodes j b (n, stood.0) stood.1.at
+        ∙ ap (λ i. insert (remove old.nodes j) i (n, stood.0)) left)
+        ∙ slice_get-inserted (remove old.nodes j) p (n, stood.0) (omega (arith, fewer, within)))
+        (λ k t. t)
+
+    -- ---- the step is known of the list as it is inside
+
+    module _ (inside : Keyed K V S) (view : inside ≡ old) where
+      -- to the end, and to the front
+      pub stays-last : new.nodes ≡ moved_at inside.nodes (place_number inside.nodes (Some n)) (length inside.nodes)
+          → StaysHeld eq old new n (length (entries_of old) - 1)
+      stays-last is =
+          let below = stood.1.within in
+          subst (StaysHeld eq old new n) (ap (λ l. l - 1) (sym (length-values_of old.nodes)))
+          (moved-to (length old.nodes) (length old.nodes - 1)
+          (place_left-before (place_number old.nodes (Some n)) (length old.nodes) below) (omega (arith, below))
+          (subst (λ m. new.nodes ≡ moved_at m.nodes (place_number m.nodes (Some n)) (length m.nodes)) view is))
+
+      pub stays-first : new.nodes ≡ moved_at inside.nodes (place_number inside.nodes (Some n)) 0
+          → StaysHeld eq old new n 0
+      stays-first is =
+          let below = stood.1.within in
+          moved-to 0 0 (place_left-past (place_number old.nodes (Some n)) 0 (omega arith)) (omega (arith, below))
+          (subst (λ m. new.nodes ≡ moved_at m.nodes (place_number m.nodes (Some n)) 0) view is)
+
+      -- with its pair renewed
+      pub stays-renewed : (f : K × V → K × V) → ((k : K) → eq k stood.0.0 ≡ true → eq k (f stood.0).0 ≡ true)
+          → new.nodes ≡ renewed_at f inside.nodes (place_number inside.nodes (Some n))
+          → StaysHeld eq old new n (place_number old.nodes (Some n))
+      stays-renewed f same is =
+          let j = place_number old.nodes (Some n) in
+          let below = stood.1.within in
+          let there = subst (λ m. new.nodes ≡ renewed_at f m.nodes (place_number m.nodes (Some n))) view is in
+          stays j (f stood.0)
+          (ap (λ ns. slice_get ns j) (there ∙ renewed_at-is f old.nodes j (n, stood.0) stood.1.at)
+          ∙ slice_get-inserted (remove old.nodes j) j (n, f stood.0) (omega (arith, fewer, below)))
+          same
+
+    -- a key that equals the one held equals what the held one equals
+    pub same-keys : (key : K) → HoldsKey eq old.nodes key n → (k : K) → eq k stood.0.0 ≡ true → eq k key ≡ true
+    same-keys key h k t = laws.symm k key ∙ laws.congr key stood.0.0 k (key-equal key h) ∙ laws.symm stood.0.0 k ∙ t
+
+-- ---- steps in a row
+
+module _ {K V S : Type 0} {eq : K → K → Bool} (a b c : Keyed K V S) (n : Node) where
+  pub stays_twice : (p q : ℕ) → StaysHeld eq a b n p → StaysHeld eq b c n q → StaysHeld eq a c n q
+  stays_twice p q s t = record { within = t.within; place = t.place; keys = λ k h. t.keys k (s.keys k h) }
+
+module _ {K V S : Type 0} (old mid new : MapState K V S) (es : List (K × V)) (s : Changes old mid es 0) where
+  pub then_moves : (j i b d : ℕ) → i ≡ j → b ≡ d → MovesAt mid new i b → Changes old new (moved_at es j d) 6
+  then_moves j i b d here there t =
+      subst (λ zs. Changes old new zs 6)
+      (ap (λ zs. moved_at zs i b) s.entries ∙ ap (λ x. moved_at es x b) here ∙ ap (moved_at es j) there)
+      (changes_twice old mid new es (moved_at mid.entries i b) 0 6 s t)
+
+  pub then_sets_key : (j i : ℕ) (k : K) → i ≡ j → SetsKeyAt mid new i k → Changes old new (set_key_at es j k) 0
+  then_sets_key j i k here t =
+      subst (λ zs. Changes old new zs 0) (ap (λ zs. set_key_at zs i k) s.entries ∙ ap (λ x. set_key_at es x k) here)
+      (changes_twice old mid new es (set_key_at mid.entries i k) 0 0 s t)
+
+module _ {K V : Type 0} where
+  pub key-set_value_at : (es : List (K × V)) (j i : ℕ) (v : V) → key_at (set_value_at es j v) i ≡ key_at es i
+  key-set_value_at [] j i v = refl
+  key-set_value_at (e ∷ es) zero zero v = refl
+  key-set_value_at (e ∷ es) zero (suc i) v = refl
+  key-set_value_at (e ∷ es) (suc j) zero v = refl
+  key-set_value_at (e ∷ es) (suc j) (suc i) v = key-set_value_at es j i v
+
+  pub length-replaced : (es : List (K × V)) (j : ℕ) (k : K) (v : V) → length (replace_entry es j k v) ≡ length es
+  length-replaced [] j k v = refl
+  length-replaced (e ∷ es) zero k v = refl
+  length-replaced (e ∷ es) (suc j) k v = ap suc (length-replaced es j k v)
+
+  both_parts : (o : Option (K × V)) (k : K) (v : V) → option_map (λ e. e.0) o ≡ Some k
+      → option_map (λ e. e.1) o ≡ Some v
+      → o ≡ Some (k, v)
+  both_parts None k v p q = cc
+  both_parts (Some e) k v p q =
+      let first : e.0 ≡ k = cc in let second : e.1 ≡ v = cc in ap₂ (λ x y. Some (x, y)) first second
+
+  pub some_from_part : (o : Option (K × V)) (v : V) → option_map (λ e. e.1) o ≡ Some v → (e : K × V) × (o ≡ Some e)
+  some_from_part None v p = absurd (cc)
+  some_from_part (Some e) v p = (e, refl)
+
+  -- a key and a value at a place are the pair there
+  pub pair_from_parts : (es : List (K × V)) (j : ℕ) (k : K) (v : V) → key_at es j ≡ Some k → value_at es j ≡ Some v
+      → slice_get es j ≡ Some (k, v)
+  pair_from_parts es j k v = both_parts (slice_get es j) k v
+
+-- ---- a pair that goes last
+
+module _ {K V S : Type 0} {eq : K → K → Bool} (laws : IsEquivalence eq) (old new : Keyed K V S) (k : K) (v : V)
+    (absent : place_of (eq k) (entries_of old) ≡ None) where
+  pub pushes : (r : Result Node (K × V)) → IfOk r (λ n. AddsNode old new (length old.nodes) n k v)
+      → IfErr r (λ p. p ≡ (k, v)) → OnErr r (GrowsRoom old new)
+      → OnErr r (old.spare ≡ 0)
+      → VacantInserts eq (state_of old) (state_of new) k v r
+  pushes (Ok n) went_in back grown none =
+      added eq old new k v (length (entries_of old)) (length old.nodes) n (sym (length-values_of old.nodes)) absent
+      went_in
+  pushes (Err p) went_in back grown none = refused eq old new k v p absent none back grown
+
+  module _ (sound : IsKeyed eq new) where
+    stands_last : (n : Node) → AddsNode old new (length old.nodes) n k v
+        → slice_get new.nodes (length old.nodes) ≡ Some (n, (k, v))
+    stands_last n s =
+        ap (λ ns. slice_get ns (length old.nodes)) s.nodes
+        ∙ slice_get-inserted old.nodes (length old.nodes) (n, (k, v)) (omega arith)
+
+    pub pushed-holds : (r : Result Node (K × V)) → IfOk r (λ n. AddsNode old new (length old.nodes) n k v)
+        → IfOk r (HoldsKey eq new.nodes k)
+    pushed-holds (Ok n) added =
+        holds_key-at laws new sound n (length old.nodes) (k, v) (stands_last n added) k (laws.refl k)
+    pushed-holds (Err p) added = tt
+
+    pub pushed-place : (r : Result Node (K × V)) → IfOk r (λ n. AddsNode old new (length old.nodes) n k v)
+        → IfOk r (λ n. place_number new.nodes (Some n) ≡ length (entries_of old))
+    pushed-place (Ok n) added =
+        number-at laws new sound n (length old.nodes) (k, v) (stands_last n added) ∙ sym (length-values_of old.nodes)
+    pushed-place (Err p) added = tt
+
+-- what was written as the value of a pair that went last
+module _ {K V S : Type 0} {eq : K → K → Bool} (laws : IsEquivalence eq) (old : MapState K V S) (new : Keyed K V S)
+    (k : K) (v : V) (n : Node) where
+  last-written : (es : List (K × V)) (w : V)
+      → set_value_at (insert es (length es) (k, v)) (length es) w ≡ insert es (length es) (k, w)
+  last-written [] w = refl
+  last-written (e ∷ es) w = ap (λ r. e ∷ r) (last-written es w)
+
+  pub adds-written : AddsEntry eq old (state_of new) k v (length old.entries)
+      → place_number new.nodes (Some n) ≡ length old.entries → (w : V)
+      → AddsEntry eq old (state_of (with_value_at new n w)) k w (length old.entries)
+  adds-written s place w =
+      let none = none_from_lookup (eq k) old.entries s.absent in
+      let at_end : (u : V)
+      → put eq old.entries k u (length old.entries) ≡ insert old.entries (length old.entries) (k, u)
+      = λ u. put-absent eq old.entries k u (length old.entries) none in
+      let is : entries_of (with_value_at new n w) ≡ put eq old.entries k w (length old.entries) =
+      values-renewed_value new.nodes (place_number new.nodes (Some n)) w
+      ∙ ap₂ (λ zs i. set_value_at zs i w) (s.adds.entries ∙ at_end v) place ∙ last-written old.entries w
+      ∙ sym (at_end w) in
+      let long : length (put eq old.entries k w (length old.entries))
+      ≡ length (put eq old.entries k v (length old.entries))
+      = ap length (at_end w) ∙ length-inserted _ _ _ ∙ sym (length-inserted _ _ (k, v))
+      ∙ sym (ap length (at_end v)) in
+      let kept : length (entries_of (with_value_at new n w)) ≡ length (entries_of new)
+      = ap length is ∙ long ∙ sym (ap length s.adds.entries) in
+      record {
+        absent = s.absent;
+        adds = record {
+          entries = is;
+          more = long ∙ s.adds.more;
+          spare = s.adds.spare;
+          room = s.adds.room;
+          fits = omega (arith, s.adds.fits, kept);
+          link_writes = s.adds.link_writes;
+          hasher = s.adds.hasher;
+        };
+      }
+
+  -- and what stands there before it is written
+  pub added-value : AddsEntry eq old (state_of new) k v (length old.entries)
+      → place_number new.nodes (Some n) ≡ length old.entries
+      → (u : V)
+      → value_at (entries_of new) (place_number new.nodes (Some n)) ≡ Some u → u ≡ v
+  added-value s place u at =
+      let none = none_from_lookup (eq k) old.entries s.absent in
+      let there : value_at (entries_of new) (place_number new.nodes (Some n)) ≡ Some v =
+      ap₂ value_at (s.adds.entries ∙ put-absent eq old.entries k v (length old.entries) none) place
+      ∙ ap (option_map (λ e. e.1)) (slice_get-inserted old.entries (length old.entries) (k, v) (omega arith)) in
+      cc
+
+module _ {K V : Type 0} where
+  -- the entry that moved to the end stands last
+  pub last-moved : (es : List (K × V)) (j : ℕ) (e : K × V) → slice_get es j ≡ Some e
+      → slice_get (moved_at es j (length es)) (length es - 1) ≡ Some e
+  last-moved es j e at =
+      let s = split_at es j e at in
+      let fewer : length (s.0 ++ e ∷ s.1) - 1 ≡ length (s.0 ++ s.1)
+      = omega (arith, length-append s.0 (e ∷ s.1), length-append s.0 s.1) in
+      ap₂ (λ zs i. slice_get (moved_at zs i (length zs)) (length zs - 1)) s.2 (sym s.3)
+      ∙ ap₂ slice_get (moved_at-last s.0 e s.1) fewer ∙ slice_get_here (s.0 ++ s.1) e []
+
+  -- a value that is written after the move to the end is a value that moved there
+  pub moved-written : (es : List (K × V)) (j : ℕ) (e : K × V) (w : V) → slice_get es j ≡ Some e
+      → set_value_at (moved_at es j (length es)) (length es - 1) w ≡ moved_at (set_value_at es j w) j (length es)
+  moved-written es j e w at =
+      let s = split_at es j e at in
+      let xs = s.0 in
+      let ys = s.1 in
+      let fewer : length (xs ++ e ∷ ys) - 1 ≡ length (xs ++ ys)
+      = omega (arith, length-append xs (e ∷ ys), length-append xs ys) in
+      let long : length (xs ++ e ∷ ys) ≡ length (xs ++ (e.0, w) ∷ ys)
+      = omega (arith, length-append xs (e ∷ ys), length-append xs ((e.0, w) ∷ ys)) in
+      ap₂ (λ zs i. set_value_at (moved_at zs i (length zs)) (length zs - 1) w) s.2 (sym s.3)
+      ∙ ap₂ (λ zs i. set_value_at zs i w) (moved_at-last xs e ys) fewer ∙ set_value_at-here (xs ++ ys) e [] w
+      ∙ sym (ap₂ (λ zs i. moved_at zs (length xs) i) (set_value_at-here xs e ys w) long ∙ moved_at-last xs (e.0, w) ys)
+      ∙ ap₂ (λ zs i. moved_at (set_value_at zs i w) i (length zs)) (sym s.2) s.3
+
+-- a node whose key is k moved to the end, and then w was written there
+module _ {K V S : Type 0} (eq : K → K → Bool) (old : MapState K V S) (mid : Keyed K V S) (k : K) (j : ℕ)
+    (p : place_of (eq k) old.entries ≡ Some j) (n : Node) where
+  pub puts-moved : MovesAt old (state_of mid) j (length old.entries)
+      → place_number mid.nodes (Some n) ≡ length old.entries - 1 → (v w : V)
+      → value_at old.entries j ≡ Some v
+      → PutsEntry eq old (state_of (with_value_at mid n w)) k w (length old.entries) v
+  puts-moved s place v w was =
+      let o = some_from_part (slice_get old.entries j) v was in
+      record {
+        old_value = lookup-place (eq k) old.entries j p ∙ was;
+        puts = record {
+          entries =
+              values-renewed_value mid.nodes (place_number mid.nodes (Some n)) w
+              ∙ ap₂ (λ zs i. set_value_at zs i w) s.entries place
+              ∙ moved-written old.entries j o.0 w o.1 ∙ moved_at-put eq old.entries k j p w (length old.entries);
+          spare = s.spare;
+          room = s.room;
+          link_writes = s.link_writes;
+          hasher = s.hasher;
+        };
+      }
+
+  -- the value that stood there
+  stood-there : (v : V) × (value_at old.entries j ≡ Some v)
+  stood-there =
+      let s = stands_from_place (eq k) old.entries j p in
+      (s.1.1, ap₂ value_at s.3.is (sym s.4) ∙ ap (option_map (λ e. e.1)) (slice_get_here s.0 s.1 s.2))
+
+  module _ (s : MovesAt old (state_of mid) j (length old.entries))
+      (place : place_number mid.nodes (Some n) ≡ length old.entries - 1) where
+    -- what an insert at the end of w would leave
+    pub moves-and-writes : (w : V)
+        → MatchOption (lookup (eq k) old.entries)
+        (AddsEntry eq old (state_of (with_value_at mid n w)) k w (length old.entries))
+        (PutsEntry eq old (state_of (with_value_at mid n w)) k w (length old.entries))
+    moves-and-writes w =
+        subst
+        (λ o. MatchOption o (AddsEntry eq old (state_of (with_value_at mid n w)) k w (length old.entries))
+        (PutsEntry eq old (state_of (with_value_at mid n w)) k w (length old.entries)))
+        (sym (lookup-place (eq k) old.entries j p ∙ stood-there.1)) (puts-moved s place stood-there.0 w stood-there.1)
+
+    pub moved-value : (u : V) → value_at (entries_of mid) (place_number mid.nodes (Some n)) ≡ Some u
+        → value_at old.entries j ≡ Some u
+    moved-value u at =
+        let o = some_from_part (slice_get old.entries j) stood-there.0 stood-there.1 in
+        ap (option_map (λ e. e.1)) (o.1 ∙ sym (last-moved old.entries j o.0 o.1)) ∙ sym (ap₂ value_at s.entries place)
+        ∙ at
+
+-- the key object that the list holds for a key that is there, and for one that is absent
+module _ {K V : Type 0} (eq : K → K → Bool) (es : List (K × V)) (k : K) where
+  pub stored-there : (j : ℕ) → place_of (eq k) es ≡ Some j → (s : K) → key_at es j ≡ Some s → s ≡ stored_key eq es k
+  stored-there j p s at =
+      sym
+      (ap (λ o. unwrap_or o k)
+      (lookup_key_is (eq k) es ∙ ap (option_map (λ e. e.0)) (lookup_entry-place (eq k) es j p) ∙ at))
+
+  pub stored-absent : place_of (eq k) es ≡ None → k ≡ stored_key eq es k
+  stored-absent p =
+      sym
+      (ap (λ o. unwrap_or o k)
+      (lookup_key_is (eq k) es
+      ∙ ap (option_map (λ e. e.0)) (lookup_entry-none (eq k) es (none_passes_from_place (eq k) es p))))

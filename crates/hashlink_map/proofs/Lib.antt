@@ -1,0 +1,5 @@
+pub mod Answering
+pub mod AtNode
+pub mod Calls
+pub mod Steps
+pub mod Written

@@ -1,0 +1,18 @@
+use Rattle.std.proofs.Common.{refl, ◌∙◌, sym, subst}
+use Rattle.std.specs.Prelude.{MatchOption}
+use Rattle.hashlink_map.proofs.AtNode.{moves-and-writes, moved-value}
+use Rattle.hashlink_map.proofs.entry.occupied.OccupiedEntry+K+V+S.into_last_mut.Goals as goal
+
+pub returns : goal.returns
+returns g c =
+    let o = c.args.self in
+    let e = c.move_to_back.ensures in
+    let put = moves-and-writes g.K.PartialEq.eq _ c.move_to_back.new.self o.key _ o.stands.place o.node e.moves
+    e.stays.place in (
+      (refl, λ w _. put w, tt),
+      record {
+        lends = tt;
+        value = moved-value g.K.PartialEq.eq _ c.move_to_back.new.self o.key _ o.stands.place o.node e.moves e.stays.place
+            _ c.value_at_mut.ensures.value;
+      },
+    )

@@ -1,0 +1,12 @@
+use Rattle.std.proofs.Common.{sym, rules}
+use Rattle.hashlink_core.specs.Keyed.{entries_of}
+use Rattle.hashlink_map.proofs.Steps.{lookup-place, lookup-unplaced}
+use Rattle.hashlink_map.proofs.map.LinkedHashMap.entry.Goals as goal
+
+pub returns-in-Some-clause-value : goal.returns-in-Some-clause-value
+returns-in-Some-clause-value g c =
+    sym (lookup-place (g.K.PartialEq.eq c.args.key) (entries_of c.args.self.now) _ (search rules))
+
+pub returns-in-None-clause-value : goal.returns-in-None-clause-value
+returns-in-None-clause-value g c =
+    sym (lookup-unplaced (g.K.PartialEq.eq c.args.key) (entries_of c.args.self.now) (search rules))

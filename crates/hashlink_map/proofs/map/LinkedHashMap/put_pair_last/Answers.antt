@@ -1,0 +1,14 @@
+use Rattle.std.proofs.Common.{length, ap, ◌∙◌}
+use Rattle.hashlink_core.specs.Keyed.{entries_of}
+use Rattle.hashlink_map.proofs.AtNode.{then_moves, length-replaced}
+use Rattle.hashlink_map.proofs.map.LinkedHashMap.put_pair_last.Goals as goal
+
+pub returns : goal.returns
+returns g c =
+    let first = c.replace_pair_at-old.ensures in
+    let same = ap length first.replaces.step.entries
+    ∙ length-replaced (entries_of c.args.self.now) _ c.args.key c.args.value in
+    record {
+      answer = first.replaces.answer;
+      step = then_moves _ _ _ _ first.replaces.step _ _ _ _ first.stays.place same c.move_to_back.ensures.moves;
+    }

@@ -1,0 +1,10 @@
+use Rattle.hashlink_core.specs.Keyed.{pair_with_key}
+use Rattle.hashlink_map.proofs.AtNode.{stays-renewed, same-keys}
+use Rattle.hashlink_map.proofs.map.LinkedHashMap.replace_key_at.Goals as goal
+
+pub returns-clause-stays : goal.returns-clause-stays
+returns-clause-stays g c =
+    let laws = g.met.K.Eq.laws in
+    let sound = c.replace_key.ensures.sound in
+    stays-renewed laws _ _ sound c.args.node c.requires.within _ c.self.view_is (pair_with_key c.args.key)
+    (same-keys laws _ _ sound c.args.node c.requires.within c.args.key c.requires) c.replace_key.ensures.written.nodes

@@ -1,0 +1,8 @@
+use Rattle.hashlink_core.specs.Keyed.{pair_with_value}
+use Rattle.hashlink_map.proofs.AtNode.{stays-renewed}
+use Rattle.hashlink_map.proofs.map.LinkedHashMap.replace_value_at.Goals as goal
+
+pub returns-clause-stays : goal.returns-clause-stays
+returns-clause-stays g c =
+    stays-renewed g.met.K.Eq.laws _ _ c.replace_value.ensures.sound c.args.node c.requires _ c.self.view_is
+    (pair_with_value c.args.value) (λ k t. t) c.replace_value.ensures.written.nodes

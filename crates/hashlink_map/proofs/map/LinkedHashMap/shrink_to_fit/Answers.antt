@@ -1,0 +1,11 @@
+use Rattle.hashlink_model.specs.Steps.{Shrinks}
+use Rattle.hashlink_core.specs.Keyed.{state_of}
+use Rattle.hashlink_map.proofs.Calls.{shrinks}
+use Rattle.std.proofs.Common.{subst}
+use Rattle.hashlink_map.proofs.map.LinkedHashMap.shrink_to_fit.Goals as goal
+
+pub returns : goal.returns
+returns g c =
+    let s = c.shrink.ensures in
+    subst (λ l. Shrinks (state_of l) (state_of c.shrink.new.self) c.shrink.result) c.self.view_is
+    (shrinks c.self.inside.list c.shrink.new.self c.shrink.result s.ok s.err s.empty s.fits)

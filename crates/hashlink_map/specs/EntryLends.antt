@@ -1,0 +1,65 @@
+-- What a map or an entry ends as, once a `&mut` to a value that came through an entry has ended.
+use Rattle.std.specs.Prelude.{[], length, Bool, Result, Ok, IfErr}
+use Rattle.std.specs.Borrow.{Fml, RattleType, MutBor, Lends, LendsSoOk}
+use mir.Syntax.{named}
+use Rattle.std.specs.declared.cmp.PartialEq as eq
+use Rattle.std.specs.declared.hash.Hash as hash
+use Rattle.std.specs.declared.hash.Hasher as hasher
+use Rattle.std.specs.declared.hash.BuildHasher as builder
+use Rattle.std.specs.Map.{lookup}
+use Rattle.hashlink_model.specs.MapState.{MapState, Inserts, AddsEntry, RefusesEntry}
+use Rattle.hashlink_core.specs.Keyed.{state_of, entries_of}
+use Rattle.hashlink_core.specs.Places.{Node}
+use Rattle.hashlink_core.specs.KeyedLends.{node_row, with_value_at}
+use Rattle.hashlink_map.specs.contracts.map.LinkedHashMap.{the_row}
+use Rattle.hashlink_map.specs.contracts.entry.OccupiedEntry as occupied
+use Rattle.hashlink_map.specs.declared.as_node.AsNode as as_node
+use Rattle.hashlink_map.specs.declared.entry.Entry.{Entry}
+use Rattle.hashlink_map.specs.declared.entry.OccupiedEntry.{OccupiedEntry}
+use Rattle.hashlink_map.specs.declared.entry.VacantEntry.{VacantEntry}
+use Rattle.hashlink_map.specs.Entry.{occupied_with, entry_map, entry_state}
+
+-- an insert's step at the end: a key that was there moved there, and an absent one went in
+abbrev pub PutsLast : {K V S : Type 0} → (K → K → Bool) → MapState K V S → MapState K V S → K → V → Type 0
+PutsLast eq old new k v = Inserts eq old new k v (length old.entries) (Ok (lookup (eq k) old.entries))
+
+module _ (K V S T : RattleType) {g : eq.Ghosts K.Denot} {h : hash.Ghosts K.Denot} {b : builder.Ghosts S.Denot T.Denot}
+    {w : hasher.Ghosts T.Denot} where
+  module _ {n : as_node.Ghosts Node} where
+    -- the entry with what was written as its value. Its lifetime is the second of the signature
+    abbrev pub LendsFromOccupied : MutBor (OccupiedEntry K.Denot V.Denot S.Denot Node T.Denot g h b w n)
+        → MutBor V.Denot
+        → Fml
+    LendsFromOccupied o r =
+        Lends (occupied.the_row (record { mir = named 1; lft = [] }) K V S node_row T g h b w n) V o r
+        (occupied_with o.now)
+
+  module _ {N : Type 0} {n : as_node.Ghosts N} where
+    -- the map with what was written as the entry's value
+    abbrev pub LendsForGood : OccupiedEntry K.Denot V.Denot S.Denot N T.Denot g h b w n → MutBor V.Denot → Fml
+    LendsForGood o r = Lends (the_row K V S T g h b w) V o.map r (with_value_at o.map.now (n.node o.node))
+
+    -- the map as an insert at the end of what was written leaves it
+    abbrev pub LendsLast : OccupiedEntry K.Denot V.Denot S.Denot N T.Denot g h b w n
+        → Result (MutBor V.Denot) (K.Denot × V.Denot)
+        → Fml
+    LendsLast o r =
+        LendsSoOk (the_row K V S T g h b w) V o.map r
+        (λ new u. PutsLast g.eq (state_of o.map.now) (state_of new) o.key u) (λ _. ⊥)
+
+  -- the map with the key in hand and what was written put last, or as a refusal leaves it
+  abbrev pub LendsNew : VacantEntry K.Denot V.Denot S.Denot T.Denot g h b w → V.Denot
+      → Result (MutBor V.Denot) (K.Denot × V.Denot)
+      → Fml
+  LendsNew e v r =
+      LendsSoOk (the_row K V S T g h b w) V e.map r
+      (λ new u. AddsEntry g.eq (state_of e.map.now) (state_of new) e.key u (length (entries_of e.map.now)))
+      (λ new. IfErr r (RefusesEntry g.eq (state_of e.map.now) (state_of new) e.key v))
+
+  -- the map as an insert at the end of what was written leaves it, or a refusal of what was to go in
+  abbrev pub LendsOrNew : Entry K.Denot V.Denot S.Denot T.Denot g h b w → Result (MutBor V.Denot) (K.Denot × V.Denot)
+      → Fml
+  LendsOrNew e r =
+      LendsSoOk (the_row K V S T g h b w) V (entry_map e) r
+      (λ new u. PutsLast g.eq (entry_state e).map (state_of new) (entry_state e).key u)
+      (λ new. IfErr r (λ pair. RefusesEntry g.eq (entry_state e).map (state_of new) (entry_state e).key pair.1 pair))

@@ -1,0 +1,35 @@
+-- What a map ends as, once a `&mut` to a value has ended.
+use Rattle.std.specs.Prelude.{◌≡◌, ℕ, Option, OnSome}
+use Rattle.std.specs.Borrow.{Fml, RattleType, MutBor, Lends, LendsSo}
+use Rattle.std.specs.declared.hash.Hasher as hasher
+use Rattle.std.specs.declared.hash.BuildHasher as builder
+use Rattle.hashlink_model.specs.Steps.{with_value_of, MovesAndWrites}
+use Rattle.hashlink_core.specs.Keyed.{Keyed, state_of}
+use Rattle.hashlink_core.specs.KeyedLends.{HashMembers, with_value_at}
+use Rattle.hashlink_core.specs.Places.{Node}
+use Rattle.hashlink_map.specs.contracts.map.LinkedHashMap.{the_row}
+
+module _ (K V S T : RattleType) (g : HashMembers K.Denot) (b : builder.Ghosts S.Denot T.Denot)
+    (w : hasher.Ghosts T.Denot) where
+  abbrev pub map_row : RattleType
+  map_row = the_row K V S T (record { eq = g.eq }) (record { hash_input = g.hash_input }) b w
+
+  -- the value of the node is lent: the map ends with what was written there
+  abbrev pub LendsAtNode : MutBor (Keyed K.Denot V.Denot S.Denot) → Node → MutBor V.Denot → Fml
+  LendsAtNode m n r = Lends map_row V m r (with_value_at m.now n)
+
+  module _ (m : MutBor (Keyed K.Denot V.Denot S.Denot)) (k : K.Denot) where
+    -- the value of the key is lent: the map ends with what was written there, and of an absent key as it was
+    abbrev pub LendsValueOf : Option (MutBor V.Denot) → Fml
+    LendsValueOf r =
+        LendsSo map_row V m r
+        (λ new v. OnSome r (state_of new ≡ with_value_of g.eq (state_of m.now) k v))
+        (λ new. state_of new ≡ state_of m.now)
+
+    -- the key moved to the place p, and its value is lent: the map ends with what was written there, and of an absent
+    -- key as it was
+    abbrev pub LendsMoved : ℕ → Option (MutBor V.Denot) → Fml
+    LendsMoved p r =
+        LendsSo map_row V m r
+        (λ new v. OnSome r (MovesAndWrites g.eq (state_of m.now) (state_of new) k p v))
+        (λ new. state_of new ≡ state_of m.now)

@@ -1,0 +1,141 @@
+//! What is done at a node of a map. Entries are a few lines over these.
+ghost use Rattle.std.specs.Prelude.{◌≡◌, ◌-◌, length, slice_get, None, Some, IfOk};
+ghost use Rattle.std.specs.Borrow.{sem};
+ghost use Rattle.std.specs.Map.Iter.{deref_pair};
+ghost use Rattle.hashlink_model.specs.Entries.{place_of};
+ghost use Rattle.hashlink_model.specs.MapState.{MovesAt};
+ghost use Rattle.hashlink_model.specs.Entry.{value_at, InsertsValue, InsertsEntry, ReplacesEntry, ReplacesKey};
+ghost use Rattle.hashlink_model.specs.Entry.{ReplacesValue, TakesEntry, VacantInserts};
+ghost use Rattle.hashlink_core.specs.Keyed.{state_of, entries_of, HoldsKey};
+ghost use Rattle.hashlink_core.specs.Places.{Holds, place_number};
+ghost use Rattle.hashlink_core.specs.Tied.{hash_with};
+
+use crate::map::LinkedHashMap;
+use hashlink_core::Node;
+use std::hash::{BuildHasher, Hash};
+
+impl<K: Eq + Hash, V, S: BuildHasher> LinkedHashMap<K, V, S> {
+    ghost use Rattle.hashlink_map.specs.Standing.{StaysHeld};
+    ghost use Rattle.hashlink_map.specs.Lends.{LendsAtNode};
+
+    /// The pair of the node.
+    #[inline]
+    pub(crate) fn pair_at(&self, node: Node) -> (&K, &V)
+        requires { Holds self.now.nodes node }
+        ensures { slice_get (entries_of self.now) (place_number self.now.nodes (Some node))
+            ≡ Some (deref_pair result) }
+    {
+        self.list.entry(node)
+    }
+
+    /// The value of the node, for writing.
+    #[inline]
+    pub(crate) fn value_at_mut(&mut self, node: Node) -> &mut V
+        requires { Holds self.old.nodes node }
+        ensures* lends { sem 𝓛 (LendsAtNode K.row V.row S.row S.Hasher.row K.Hash S.BuildHasher S.Hasher.Hasher
+            self.entry node result) }
+        ensures value { value_at (entries_of self.old) (place_number self.old.nodes (Some node)) ≡ Some result.now }
+    {
+        self.list.value_mut(node)
+    }
+
+    /// Moves the node to the end.
+    #[inline]
+    pub(crate) fn move_to_back(&mut self, node: Node)
+        requires { Holds self.old.nodes node }
+        ensures moves { MovesAt (state_of self.old) (state_of self.new) (place_number self.old.nodes (Some node))
+            (length (entries_of self.old)) }
+        ensures stays { StaysHeld K.eq self.old self.new node (length (entries_of self.old) - 1) }
+    {
+        self.list.move_before(node, None);
+    }
+
+    /// Moves the node to the front.
+    #[inline]
+    pub(crate) fn move_to_front(&mut self, node: Node)
+        requires { Holds self.old.nodes node }
+        ensures moves { MovesAt (state_of self.old) (state_of self.new) (place_number self.old.nodes (Some node)) 0 }
+        ensures stays { StaysHeld K.eq self.old self.new node 0 }
+    {
+        self.list.move_after(node, None);
+    }
+
+    /// Puts the value in where the node stands, and answers the old one.
+    #[inline]
+    pub(crate) fn replace_value_at(&mut self, node: Node, value: V) -> V
+        requires { Holds self.old.nodes node }
+        ensures replaces { ReplacesValue (state_of self.old) (state_of self.new)
+            (place_number self.old.nodes (Some node)) value result }
+        ensures stays { StaysHeld K.eq self.old self.new node (place_number self.old.nodes (Some node)) }
+    {
+        self.list.replace_value(node, value)
+    }
+
+    /// Puts an equal key in where the node stands, and answers the old one.
+    #[inline]
+    pub(crate) fn replace_key_at(&mut self, node: Node, key: K) -> K
+        requires { HoldsKey K.eq self.old.nodes key node }
+        ensures replaces { ReplacesKey (state_of self.old) (state_of self.new)
+            (place_number self.old.nodes (Some node)) key result }
+        ensures stays { StaysHeld K.eq self.old self.new node (place_number self.old.nodes (Some node)) }
+    {
+        self.list.replace_key(node, key)
+    }
+
+    /// Puts the value in and moves the node to the end, and answers the old value.
+    pub(crate) fn put_value_last(&mut self, node: Node, value: V) -> V
+        requires { Holds self.old.nodes node }
+        ensures inserts { InsertsValue (state_of self.old) (state_of self.new)
+            (place_number self.old.nodes (Some node)) value result }
+        ensures stays { StaysHeld K.eq self.old self.new node (length (entries_of self.old) - 1) }
+    {
+        let old = self.replace_value_at(node, value);
+        self.move_to_back(node);
+        old
+    }
+
+    /// Puts an equal key and the value in where the node stands, and answers the old pair.
+    pub(crate) fn replace_pair_at(&mut self, node: Node, key: K, value: V) -> (K, V)
+        requires { HoldsKey K.eq self.old.nodes key node }
+        ensures replaces { ReplacesEntry (state_of self.old) (state_of self.new)
+            (place_number self.old.nodes (Some node)) key value result }
+        ensures stays { StaysHeld K.eq self.old self.new node (place_number self.old.nodes (Some node)) }
+    {
+        let old_value = self.replace_value_at(node, value);
+        let old_key = self.replace_key_at(node, key);
+        (old_key, old_value)
+    }
+
+    /// Puts an equal key and the value in and moves the node to the end, and answers the old pair.
+    pub(crate) fn put_pair_last(&mut self, node: Node, key: K, value: V) -> (K, V)
+        requires { HoldsKey K.eq self.old.nodes key node }
+        ensures { InsertsEntry (state_of self.old) (state_of self.new) (place_number self.old.nodes (Some node)) key
+            value result }
+    {
+        let old = self.replace_pair_at(node, key, value);
+        self.move_to_back(node);
+        old
+    }
+
+    /// Takes the node's entry out.
+    #[inline]
+    pub(crate) fn take_at(&mut self, node: Node) -> (K, V)
+        requires { Holds self.old.nodes node }
+        ensures { TakesEntry (state_of self.old) (state_of self.new) (place_number self.old.nodes (Some node)) result }
+    {
+        self.list.remove(node)
+    }
+
+    /// Puts a pair with an absent key, which has this hash, last.
+    #[inline]
+    pub(crate) fn push_back(&mut self, hash: u64, key: K, value: V) -> Result<Node, (K, V)>
+        requires absent { place_of (K.eq key) (entries_of self.old) ≡ None }
+        requires hash { hash
+            ≡ hash_with S.build_hasher S.Hasher.write S.Hasher.finish K.hash_input self.old.hasher key }
+        ensures inserts { VacantInserts K.eq (state_of self.old) (state_of self.new) key value result }
+        ensures holds { IfOk result (HoldsKey K.eq self.new.nodes key) }
+        ensures place { IfOk result (λ node. place_number self.new.nodes (Some node) ≡ length (entries_of self.old)) }
+    {
+        self.list.insert_before(None, hash, key, value)
+    }
+}

@@ -1,0 +1,49 @@
+//! A key's place in a map that was looked up with the key in hand: an entry there, or room for one.
+//! A clause sees an entry as the map's state, the place of its node or none, and the key in hand.
+ghost use Rattle.std.specs.Prelude.{◌≡◌, None};
+ghost use Rattle.hashlink_model.specs.Entries.{place_of};
+ghost use Rattle.hashlink_core.specs.Keyed.{entries_of, HoldsKey};
+ghost use Rattle.hashlink_core.specs.Tied.{hash_with};
+
+use crate::as_node::AsNode;
+use crate::map::LinkedHashMap;
+use hashlink_core::{DefaultHashBuilder, Node};
+use std::hash::{BuildHasher, Hash};
+
+mod methods;
+mod occupied;
+mod vacant;
+
+/// The place of a key in a map, with the key in hand.
+#[derive(Drop)]
+pub enum Entry<'a, K: Eq + Hash, V, S: BuildHasher = DefaultHashBuilder> {
+    /// The key is there.
+    Occupied(OccupiedEntry<'a, K, V, S>),
+    /// The key is absent.
+    Vacant(VacantEntry<'a, K, V, S>),
+}
+
+/// An entry that is there, with a key in hand that equals its key.
+#[derive(Drop)]
+pub struct OccupiedEntry<
+    'a,
+    K: Eq + Hash,
+    V,
+    S: BuildHasher = DefaultHashBuilder,
+    N: AsNode = Node,
+> {
+    pub(crate) map: &'a mut LinkedHashMap<K, V, S>,
+    pub(crate) node: N,
+    pub(crate) key: K,
+    ghost stands: { HoldsKey K.eq map.now.nodes key (N.node node) },
+}
+
+/// A key in hand that the map does not have.
+#[derive(Drop)]
+pub struct VacantEntry<'a, K: Eq + Hash, V, S: BuildHasher = DefaultHashBuilder> {
+    pub(crate) map: &'a mut LinkedHashMap<K, V, S>,
+    pub(crate) hash: u64,
+    pub(crate) key: K,
+    ghost hashed: { hash ≡ hash_with S.build_hasher S.Hasher.write S.Hasher.finish K.hash_input map.now.hasher key },
+    ghost absent: { place_of (K.eq key) (entries_of map.now) ≡ None },
+}

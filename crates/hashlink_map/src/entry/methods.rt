@@ -1,0 +1,105 @@
+//! `entry`, and the calls of `Entry`.
+ghost use Rattle.std.specs.Prelude.{◌≡◌, None, Some, Ok, IfOk, IfErr, unwrap_or};
+ghost use Rattle.std.specs.Borrow.{sem, MutBor};
+ghost use Rattle.std.specs.Option.{UnwrapsOrElse};
+ghost use Rattle.std.specs.Map.{lookup};
+ghost use Rattle.hashlink_model.specs.Entries.{IsEntries, stored_key};
+ghost use Rattle.hashlink_model.specs.Entry.{entry_of};
+ghost use Rattle.hashlink_core.specs.Keyed.{state_of, entries_of};
+ghost use Rattle.hashlink_map.specs.Entry.{entry_map, entry_state, entry_value, Modifies};
+ghost use Rattle.hashlink_map.specs.EntryLends.{LendsOrNew};
+
+use super::{Entry, OccupiedEntry, VacantEntry};
+use crate::map::LinkedHashMap;
+use std::hash::{BuildHasher, Hash};
+
+impl<K: Eq + Hash, V, S: BuildHasher> LinkedHashMap<K, V, S> {
+    /// The place of the key, with the key in hand. It looks for the key as `get` does, with one hash; what is done
+    /// through the entry then hashes nothing.
+    pub fn entry(&mut self, key: K) -> Entry<'_, K, V, S>
+        ensures same_map { (entry_map result).ghost_name ≡ self.entry.ghost_name }
+        ensures unchanged { (entry_map result).now ≡ self.old }
+        ensures entry { entry_state result ≡ entry_of K.eq (state_of self.old) key }
+        ensures value { entry_value (entry_state result) ≡ lookup (K.eq key) (entries_of self.old) }
+        ensures distinct { IsEntries K.eq (entries_of self.old) }
+    {
+        let hash = self.list.hash_of(&key);
+        match self.list.find(hash, &key) {
+            Some(node) => Entry::Occupied(OccupiedEntry {
+                map: self,
+                node,
+                key,
+            }),
+            None => Entry::Vacant(VacantEntry {
+                map: self,
+                hash,
+                key,
+            }),
+        }
+    }
+}
+
+impl<'a, K: Eq + Hash, V, S: BuildHasher> Entry<'a, K, V, S> {
+    /// The stored key where the entry is occupied, else the key in hand.
+    pub fn key(&self) -> &K
+        ensures { result.now ≡ stored_key K.eq (entry_state self.now).map.entries (entry_state self.now).key }
+    {
+        match self {
+            Entry::Occupied(entry) => entry.key(),
+            Entry::Vacant(entry) => entry.key(),
+        }
+    }
+
+    /// Lends the value. An occupied entry moves to the end, a vacant one puts the key in hand and the value last. So
+    /// the map ends as an insert of what is written would leave it.
+    ///
+    /// It takes memory only for a vacant entry where no node is spare. Where that is refused, the key in hand and the
+    /// value are handed back, and no entry changes.
+    pub fn or_insert(self, default: V) -> Result<&'a mut V, (K, V)>
+    where
+        K: Drop,
+        V: Drop,
+        ensures* lends { sem 𝓛 (LendsOrNew K.row V.row S.row S.Hasher.row self.entry result) }
+        ensures value { IfOk result (λ v. v.now ≡ unwrap_or (entry_value (entry_state self.entry)) default) }
+        ensures given { IfErr result (λ pair. pair.1 ≡ default) }
+    {
+        match self {
+            Entry::Occupied(entry) => entry.into_last_mut(),
+            Entry::Vacant(entry) => entry.insert(default),
+        }
+    }
+
+    /// `or_insert` of what `default` gives, which is called only where the entry is vacant.
+    pub fn or_insert_with<F: FnOnce() -> V>(self, default: F) -> Result<&'a mut V, (K, V)>
+    where
+        K: Drop,
+        F: Drop,
+        requires { entry_value (entry_state self) ≡ None → F.pre default }
+        ensures* lends { sem 𝓛 (LendsOrNew K.row V.row S.row S.Hasher.row self.entry result) }
+        ensures value { IfOk result
+            (λ v. UnwrapsOrElse (entry_value (entry_state self.entry)) (F.post default) v.now) }
+        ensures made { IfErr result (λ pair. F.post default pair.1) }
+    {
+        match self {
+            Entry::Occupied(entry) => entry.into_last_mut(),
+            Entry::Vacant(entry) => entry.insert(default()),
+        }
+    }
+
+    /// Calls `f` on the value where the entry is occupied. Nothing moves.
+    pub fn and_modify<F: FnOnce(&mut V)>(self, f: F) -> Self
+    where
+        F: Drop,
+        requires { (p : MutBor V) → entry_value (entry_state self) ≡ Some p.now → F.pre f p }
+        ensures same_map { (entry_map result).ghost_name ≡ (entry_map self.entry).ghost_name }
+        ensures modifies { Modifies F.FnOnce f (entry_state self.entry) (entry_state result) }
+    {
+        match self {
+            Entry::Occupied(mut entry) => {
+                f(entry.get_mut());
+                Entry::Occupied(entry)
+            }
+            Entry::Vacant(entry) => Entry::Vacant(entry),
+        }
+    }
+}

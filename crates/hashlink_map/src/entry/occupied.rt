@@ -1,0 +1,157 @@
+//! The calls of `OccupiedEntry`. None of them hashes or takes memory.
+ghost use Rattle.std.specs.Prelude.{◌≡◌, ◌-◌, length, Some, IfOk};
+ghost use Rattle.std.specs.Borrow.{sem};
+ghost use Rattle.hashlink_model.specs.MapState.{RemovesAt, MovesAt};
+ghost use Rattle.hashlink_model.specs.Entry.{key_at, value_at, InsertsValue, InsertsEntry, ReplacesEntry};
+ghost use Rattle.hashlink_model.specs.Entry.{ReplacesKey, TakesEntry};
+ghost use Rattle.hashlink_core.specs.Keyed.{state_of};
+
+use super::OccupiedEntry;
+use std::hash::{BuildHasher, Hash};
+
+impl<'a, K: Eq + Hash, V, S: BuildHasher> OccupiedEntry<'a, K, V, S> {
+    ghost use Rattle.hashlink_map.specs.Entry.{occupied_map, occupied_place, occupied_state, occupied_with, StandsAt};
+    ghost use Rattle.hashlink_map.specs.Entry.{IsWritten};
+    ghost use Rattle.hashlink_map.specs.EntryLends.{LendsFromOccupied, LendsForGood, LendsLast};
+
+    /// The stored key, which may be another object than the key in hand.
+    pub fn key(&self) -> &K
+        ensures { key_at (occupied_state self.now).map.entries (occupied_place self.now) ≡ Some result.now }
+    {
+        self.map.pair_at(self.node).0
+    }
+
+    /// The value.
+    pub fn get(&self) -> &V
+        ensures { value_at (occupied_state self.now).map.entries (occupied_place self.now) ≡ Some result.now }
+    {
+        self.map.pair_at(self.node).1
+    }
+
+    /// The value, for writing.
+    pub fn get_mut(&mut self) -> &mut V
+        ensures* lends { sem 𝓛 (LendsFromOccupied K.row V.row S.row S.Hasher.row self.entry result) }
+        ensures value { value_at (occupied_state self.old).map.entries (occupied_place self.old) ≡ Some result.now }
+        ensures written { (w : V) → IsWritten self.old w (occupied_with self.old w) }
+    {
+        let node = self.node;
+        self.map.value_at_mut(node)
+    }
+
+    /// The value, for writing as long as the map is borrowed.
+    pub fn into_mut(self) -> &'a mut V
+    where
+        K: Drop,
+        ensures* lends { sem 𝓛 (LendsForGood K.row V.row S.row S.Hasher.row self.entry result) }
+        ensures value { value_at (occupied_state self.entry).map.entries (occupied_place self.entry)
+            ≡ Some result.now }
+        ensures written { (w : V) → IsWritten self.entry w (occupied_with self.entry w) }
+    {
+        let OccupiedEntry { map, node, key: _ } = self;
+        map.value_at_mut(node)
+    }
+
+    /// Moves the entry to the end, and lends its value as long as the map is borrowed. The answer is never an `Err`:
+    /// of a `Result` a clause can say by a relation what the map ends as, of a bare reference by a function alone.
+    pub(crate) fn into_last_mut(self) -> Result<&'a mut V, (K, V)>
+    where
+        K: Drop,
+        ensures* lends { sem 𝓛 (LendsLast K.row V.row S.row S.Hasher.row self.entry result) }
+        ensures value { IfOk result
+            (λ v. value_at (occupied_state self.entry).map.entries (occupied_place self.entry) ≡ Some v.now) }
+    {
+        let OccupiedEntry { map, node, key: _ } = self;
+        map.move_to_back(node);
+        Ok(map.value_at_mut(node))
+    }
+
+    /// Moves the entry to the end. It stores at most six links.
+    pub fn to_back(&mut self)
+        ensures same_map { (occupied_map self.new).ghost_name ≡ (occupied_map self.old).ghost_name }
+        ensures moves { MovesAt (occupied_state self.old).map (occupied_state self.new).map (occupied_place self.old)
+            (length (occupied_state self.old).map.entries) }
+        ensures stands { StandsAt self.old self.new (length (occupied_state self.old).map.entries - 1) }
+    {
+        let node = self.node;
+        self.map.move_to_back(node);
+    }
+
+    /// Moves the entry to the front. It stores at most six links.
+    pub fn to_front(&mut self)
+        ensures same_map { (occupied_map self.new).ghost_name ≡ (occupied_map self.old).ghost_name }
+        ensures moves { MovesAt (occupied_state self.old).map (occupied_state self.new).map (occupied_place self.old)
+            0 }
+        ensures stands { StandsAt self.old self.new 0 }
+    {
+        let node = self.node;
+        self.map.move_to_front(node);
+    }
+
+    /// Puts the value in, moves the entry to the end, and answers the old value. The stored key stays. It stores at
+    /// most six links.
+    pub fn insert(&mut self, value: V) -> V
+        ensures same_map { (occupied_map self.new).ghost_name ≡ (occupied_map self.old).ghost_name }
+        ensures inserts { InsertsValue (occupied_state self.old).map (occupied_state self.new).map
+            (occupied_place self.old) value result }
+        ensures stands { StandsAt self.old self.new (length (occupied_state self.old).map.entries - 1) }
+    {
+        let node = self.node;
+        self.map.put_value_last(node, value)
+    }
+
+    /// Puts the key in hand and the value in, moves the entry to the end, and answers the old pair. It stores at most
+    /// six links.
+    pub fn insert_entry(self, value: V) -> (K, V)
+        ensures { InsertsEntry (occupied_state self.entry).map (state_of self.exit.0.now) (occupied_place self.entry)
+            self.entry.key value result }
+    {
+        let node = self.node;
+        let key = self.key;
+        self.map.put_pair_last(node, key, value)
+    }
+
+    /// Puts the key in hand and the value in, and answers the old pair. The entry keeps its place.
+    pub fn replace_entry(self, value: V) -> (K, V)
+        ensures { ReplacesEntry (occupied_state self.entry).map (state_of self.exit.0.now) (occupied_place self.entry)
+            self.entry.key value result }
+    {
+        let node = self.node;
+        let key = self.key;
+        self.map.replace_pair_at(node, key, value)
+    }
+
+    /// Puts the key in hand in, and answers the old key. The entry keeps its place and its value.
+    pub fn replace_key(self) -> K
+        ensures { ReplacesKey (occupied_state self.entry).map (state_of self.exit.0.now) (occupied_place self.entry)
+            self.entry.key result }
+    {
+        let node = self.node;
+        let key = self.key;
+        self.map.replace_key_at(node, key)
+    }
+
+    /// Takes the entry out and answers its value. The key in hand and the stored key are dropped. It stores at most
+    /// three links.
+    pub fn remove(self) -> V
+    where
+        K: Drop,
+        ensures value { value_at (occupied_state self.entry).map.entries (occupied_place self.entry) ≡ Some result }
+        ensures removes { RemovesAt (occupied_state self.entry).map (state_of self.exit.0.now)
+            (occupied_place self.entry) }
+    {
+        let node = self.node;
+        let (_, value) = self.map.take_at(node);
+        value
+    }
+
+    /// Takes the entry out and answers the stored pair. The key in hand is dropped. It stores at most three links.
+    pub fn remove_entry(self) -> (K, V)
+    where
+        K: Drop,
+        ensures { TakesEntry (occupied_state self.entry).map (state_of self.exit.0.now) (occupied_place self.entry)
+            result }
+    {
+        let node = self.node;
+        self.map.take_at(node)
+    }
+}

@@ -1,0 +1,77 @@
+//! How pairs come in. Each insert hashes the key once, and looks for it as a lookup does.
+ghost use Rattle.std.specs.Prelude.{◌≡◌, length};
+ghost use Rattle.hashlink_model.specs.Entries.{IsEntries};
+ghost use Rattle.hashlink_model.specs.MapState.{Inserts};
+ghost use Rattle.hashlink_model.specs.Steps.{Replaces};
+ghost use Rattle.hashlink_core.specs.Keyed.{state_of, entries_of};
+
+use super::LinkedHashMap;
+use std::hash::{BuildHasher, Hash};
+
+impl<K: Eq + Hash, V, S: BuildHasher> LinkedHashMap<K, V, S> {
+    /// Puts the pair last, and answers the key's old value. A key that is there keeps its key object, takes the new
+    /// value and moves to the end.
+    ///
+    /// It takes memory only for an absent key where no node is spare. Where that is refused, the pair is handed back
+    /// and no entry changes.
+    /// It stores at most six links for a key that is there and four for an absent one.
+    pub fn insert(&mut self, key: K, value: V) -> Result<Option<V>, (K, V)>
+    where
+        K: Drop,
+        ensures inserts { Inserts K.eq (state_of self.old) (state_of self.new) key value
+            (length (entries_of self.old)) result }
+        ensures distinct { IsEntries K.eq (entries_of self.new) }
+    {
+        let hash = self.list.hash_of(&key);
+        if let Some(node) = self.list.find(hash, &key) {
+            let old = self.list.replace_value(node, value);
+            self.list.move_before(node, None);
+            return Ok(Some(old));
+        }
+        self.list.insert_before(None, hash, key, value)?;
+        Ok(None)
+    }
+
+    /// Puts the pair first, and answers the key's old value. A key that is there keeps its key object, takes the new
+    /// value and moves to the front.
+    ///
+    /// It takes memory only for an absent key where no node is spare. Where that is refused, the pair is handed back
+    /// and no entry changes.
+    /// It stores at most six links for a key that is there and four for an absent one.
+    pub fn insert_front(&mut self, key: K, value: V) -> Result<Option<V>, (K, V)>
+    where
+        K: Drop,
+        ensures inserts { Inserts K.eq (state_of self.old) (state_of self.new) key value 0 result }
+        ensures distinct { IsEntries K.eq (entries_of self.new) }
+    {
+        let hash = self.list.hash_of(&key);
+        if let Some(node) = self.list.find(hash, &key) {
+            let old = self.list.replace_value(node, value);
+            self.list.move_after(node, None);
+            return Ok(Some(old));
+        }
+        let first = self.list.first();
+        self.list.insert_before(first, hash, key, value)?;
+        Ok(None)
+    }
+
+    /// Gives the key the value, and answers its old one. A key that is there keeps its key object and its place, an
+    /// absent one goes last.
+    ///
+    /// It takes memory only for an absent key where no node is spare. Where that is refused, the pair is handed back
+    /// and no entry changes.
+    /// It stores no link for a key that is there and at most four for an absent one.
+    pub fn replace(&mut self, key: K, value: V) -> Result<Option<V>, (K, V)>
+    where
+        K: Drop,
+        ensures replaces { Replaces K.eq (state_of self.old) (state_of self.new) key value result }
+        ensures distinct { IsEntries K.eq (entries_of self.new) }
+    {
+        let hash = self.list.hash_of(&key);
+        if let Some(node) = self.list.find(hash, &key) {
+            return Ok(Some(self.list.replace_value(node, value)));
+        }
+        self.list.insert_before(None, hash, key, value)?;
+        Ok(None)
+    }
+}

@@ -1,0 +1,48 @@
+//! How an entry moves to either end. A move hashes the key once, takes no memory, and stores at most six links.
+ghost use Rattle.std.specs.Prelude.{◌≡◌, length};
+ghost use Rattle.std.specs.Borrow.{sem};
+ghost use Rattle.std.specs.Option.{option_copied_mut};
+ghost use Rattle.std.specs.Map.{lookup};
+ghost use Rattle.hashlink_core.specs.Keyed.{entries_of};
+ghost use Rattle.hashlink_model.specs.Entries.{IsEntries};
+
+use super::LinkedHashMap;
+use std::hash::{BuildHasher, Hash};
+
+impl<K: Eq + Hash, V, S: BuildHasher> LinkedHashMap<K, V, S> {
+    ghost use Rattle.hashlink_map.specs.Lends.{LendsMoved};
+
+    /// Moves the key's entry to the front and lends its value. Of an absent key it answers none, and nothing changes.
+    pub fn to_front(&mut self, key: &K) -> Option<&mut V>
+        ensures* lends { sem 𝓛 (LendsMoved K.row V.row S.row S.Hasher.row K.Hash S.BuildHasher S.Hasher.Hasher
+            self.entry key.now 0 result) }
+        ensures value { option_copied_mut result ≡ lookup (K.eq key.now) (entries_of self.old) }
+        ensures distinct { IsEntries K.eq (entries_of self.old) }
+    {
+        let hash = self.list.hash_of(key);
+        match self.list.find(hash, key) {
+            Some(node) => {
+                self.list.move_after(node, None);
+                Some(self.list.value_mut(node))
+            }
+            None => None,
+        }
+    }
+
+    /// Moves the key's entry to the end and lends its value. Of an absent key it answers none, and nothing changes.
+    pub fn to_back(&mut self, key: &K) -> Option<&mut V>
+        ensures* lends { sem 𝓛 (LendsMoved K.row V.row S.row S.Hasher.row K.Hash S.BuildHasher S.Hasher.Hasher
+            self.entry key.now (length (entries_of self.old)) result) }
+        ensures value { option_copied_mut result ≡ lookup (K.eq key.now) (entries_of self.old) }
+        ensures distinct { IsEntries K.eq (entries_of self.old) }
+    {
+        let hash = self.list.hash_of(key);
+        match self.list.find(hash, key) {
+            Some(node) => {
+                self.list.move_before(node, None);
+                Some(self.list.value_mut(node))
+            }
+            None => None,
+        }
+    }
+}

@@ -1,0 +1,67 @@
+//! What a map shows. Each lookup hashes the key once, and looks at the entries of one bucket.
+ghost use Rattle.std.specs.Prelude.{◌≡◌, is_some, option_copied};
+ghost use Rattle.std.specs.Borrow.{sem};
+ghost use Rattle.std.specs.Option.{option_map, option_copied_mut};
+ghost use Rattle.std.specs.Map.{lookup, lookup_entry};
+ghost use Rattle.std.specs.Map.Iter.{deref_pair};
+ghost use Rattle.hashlink_model.specs.Walk.{first_of, last_of};
+ghost use Rattle.hashlink_core.specs.Keyed.{entries_of};
+
+use super::LinkedHashMap;
+use std::hash::{BuildHasher, Hash};
+
+impl<K: Eq + Hash, V, S: BuildHasher> LinkedHashMap<K, V, S> {
+    ghost use Rattle.hashlink_map.specs.Lends.{LendsValueOf};
+
+    /// The value of the key. The order stays as it is.
+    pub fn get(&self, key: &K) -> Option<&V>
+        ensures { option_copied result ≡ lookup (K.eq key.now) (entries_of self.now) }
+    {
+        let (_, value) = self.get_key_value(key)?;
+        Some(value)
+    }
+
+    /// The stored pair of the key, whose key object may be another one than the key given. The order stays as it is.
+    pub fn get_key_value(&self, key: &K) -> Option<(&K, &V)>
+        ensures { option_map deref_pair result ≡ lookup_entry (K.eq key.now) (entries_of self.now) }
+    {
+        let node = self.list.find(self.list.hash_of(key), key)?;
+        Some(self.list.entry(node))
+    }
+
+    /// Whether the key is there.
+    pub fn contains_key(&self, key: &K) -> bool
+        ensures { result ≡ is_some (lookup (K.eq key.now) (entries_of self.now)) }
+    {
+        self.get_key_value(key).is_some()
+    }
+
+    /// The value of the key, for writing. The order stays as it is.
+    pub fn get_mut(&mut self, key: &K) -> Option<&mut V>
+        ensures* lends { sem 𝓛 (LendsValueOf K.row V.row S.row S.Hasher.row K.Hash S.BuildHasher S.Hasher.Hasher
+            self.entry key.now result) }
+        ensures value { option_copied_mut result ≡ lookup (K.eq key.now) (entries_of self.old) }
+    {
+        let hash = self.list.hash_of(key);
+        match self.list.find(hash, key) {
+            Some(node) => Some(self.list.value_mut(node)),
+            None => None,
+        }
+    }
+
+    /// The first entry.
+    pub fn front(&self) -> Option<(&K, &V)>
+        ensures { option_map deref_pair result ≡ first_of (entries_of self.now) }
+    {
+        let node = self.list.first()?;
+        Some(self.list.entry(node))
+    }
+
+    /// The last entry.
+    pub fn back(&self) -> Option<(&K, &V)>
+        ensures { option_map deref_pair result ≡ last_of (entries_of self.now) }
+    {
+        let node = self.list.last()?;
+        Some(self.list.entry(node))
+    }
+}

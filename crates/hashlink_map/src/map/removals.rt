@@ -1,0 +1,67 @@
+//! How entries leave. The other entries keep their order, and each node that is freed serves the next new pair. None
+//! of these takes memory.
+ghost use Rattle.std.specs.Prelude.{◌≡◌};
+ghost use Rattle.std.specs.Map.{lookup, lookup_entry};
+ghost use Rattle.hashlink_model.specs.Entries.{IsEntries};
+ghost use Rattle.hashlink_model.specs.Steps.{RemovesKey, PopsFront, PopsBack, Clears};
+ghost use Rattle.hashlink_core.specs.Keyed.{state_of, entries_of};
+
+use super::LinkedHashMap;
+use std::hash::{BuildHasher, Hash};
+
+impl<K: Eq + Hash, V, S: BuildHasher> LinkedHashMap<K, V, S> {
+    /// Takes the key's entry out and answers its value. It looks for the key as `get` does, and stores at most three
+    /// links.
+    pub fn remove(&mut self, key: &K) -> Option<V>
+    where
+        K: Drop,
+        ensures value { result ≡ lookup (K.eq key.now) (entries_of self.old) }
+        ensures removes { RemovesKey K.eq (state_of self.old) (state_of self.new) key.now
+            (lookup_entry (K.eq key.now) (entries_of self.old)) }
+        ensures distinct { IsEntries K.eq (entries_of self.new) }
+    {
+        let (_, value) = self.remove_entry(key)?;
+        Some(value)
+    }
+
+    /// Takes the key's entry out and answers the stored pair. It looks for the key as `get` does, and stores at most
+    /// three links.
+    pub fn remove_entry(&mut self, key: &K) -> Option<(K, V)>
+        ensures removes { RemovesKey K.eq (state_of self.old) (state_of self.new) key.now result }
+        ensures distinct { IsEntries K.eq (entries_of self.new) }
+    {
+        let node = self.list.find(self.list.hash_of(key), key)?;
+        Some(self.list.remove(node))
+    }
+
+    /// Takes the first entry out and answers it. It takes constant time, hashes nothing, and stores at most three
+    /// links.
+    pub fn pop_front(&mut self) -> Option<(K, V)>
+        ensures pops { PopsFront (state_of self.old) (state_of self.new) result }
+        ensures distinct { IsEntries K.eq (entries_of self.new) }
+    {
+        let node = self.list.first()?;
+        Some(self.list.remove(node))
+    }
+
+    /// Takes the last entry out and answers it. It takes constant time, hashes nothing, and stores at most three
+    /// links.
+    pub fn pop_back(&mut self) -> Option<(K, V)>
+        ensures pops { PopsBack (state_of self.old) (state_of self.new) result }
+        ensures distinct { IsEntries K.eq (entries_of self.new) }
+    {
+        let node = self.list.last()?;
+        Some(self.list.remove(node))
+    }
+
+    /// Drops every entry and gives its node back to the allocator. The spare nodes stay, and the room. It takes a
+    /// step for each entry and each bucket.
+    pub fn clear(&mut self)
+    where
+        K: Drop,
+        V: Drop,
+        ensures { Clears (state_of self.old) (state_of self.new) }
+    {
+        self.list.clear();
+    }
+}

@@ -1,0 +1,75 @@
+-- Many items in a row.
+use Rattle.std.proofs.Common.{◌≡◌, ℕ, ◌+◌, ◌-◌, ◌^◌, ◌≤◌, ◌<◌, Bool, List, [], ◌∷◌, ◌++◌, length, Option, None}
+use Rattle.std.proofs.Common.{Some, Result, Ok, ap, ◌∙◌, subst, arith, length-append}
+use Rattle.hashlink_model.specs.Entries.{put, extended}
+use Rattle.hashlink_model.specs.MapState.{MapState}
+use Rattle.hashlink_model.specs.Steps.{Drains}
+use Rattle.hashlink_model.specs.Many.{AcceptsAll, StopsAt, InsertsPair}
+
+module _ {State Item A : Type 0} (step : State → State → Item → Result A Item → Type 0) where
+  pub accepts_in_parts : (a b c : State) (xs ys : List Item) → AcceptsAll step a xs b → AcceptsAll step b ys c
+      → AcceptsAll step a (xs ++ ys) c
+  accepts_in_parts a b c [] ys s t = subst (λ m. AcceptsAll step m ys c) s t
+  accepts_in_parts a b c (x ∷ xs) ys s t = (s.0, s.1, s.2, accepts_in_parts s.0 b c xs ys s.3 t)
+
+module _ {K V S : Type 0} (eq : K → K → Bool) where
+  inserted : (old new : MapState K V S) (p : K × V) (w : Option V) → InsertsPair eq old new p (Ok w)
+      → new.entries ≡ put eq old.entries p.0 p.1 (length old.entries)
+  inserted old new p None s = s.adds.entries
+  inserted old new p (Some v) s = s.puts.entries
+
+  pub accepts_entries : (old new : MapState K V S) (items : List (K × V)) → AcceptsAll (InsertsPair eq) old items new
+      → new.entries ≡ extended eq old.entries items
+  accepts_entries old new [] s = ap (λ m. m.entries) s
+  accepts_entries old new (p ∷ items) s =
+      accepts_entries s.0 new items s.3 ∙ ap (λ es. extended eq es items) (inserted old s.0 p s.1 s.2)
+
+  -- each item uses one spare node at most
+  spare_inserted : (old new : MapState K V S) (p : K × V) (w : Option V) → InsertsPair eq old new p (Ok w)
+      → old.spare ≤ new.spare + 1
+  spare_inserted old new p None s = let e = s.adds.spare in omega arith
+  spare_inserted old new p (Some v) s = let e = s.puts.spare in omega arith
+
+  accepts_spare : (old new : MapState K V S) (items : List (K × V)) → AcceptsAll (InsertsPair eq) old items new
+      → old.spare ≤ new.spare + length items
+  accepts_spare old new [] s = let e = ap (λ m. m.spare) s in omega arith
+  accepts_spare old new (p ∷ items) s =
+      let one = spare_inserted old s.0 p s.1 s.2 in
+      let rest = accepts_spare s.0 new items s.3 in
+      omega arith
+
+  module _ (old new : MapState K V S) (items : List (K × V)) (taken : ℕ) (back : K × V) (left : List (K × V))
+      (s : StopsAt (InsertsPair eq) old items new taken back left) where
+    pub stops_entries : new.entries ≡ extended eq old.entries s.before
+    stops_entries = s.refused.grows.entries ∙ accepts_entries old s.between s.before s.accepted
+
+    pub stops_handed_back : back ≡ s.item
+    stops_handed_back = s.refused.handed_back
+
+    pub stops_taken : (taken ≤ 2 ^ 64 - 1) × (length s.before < 2 ^ 64 → taken ≡ length s.before)
+    stops_taken = let c = s.count in (omega arith, λ l. omega arith)
+
+    -- only where the spare nodes are used up
+    pub stops_late : old.spare < length items
+    stops_late =
+        let used = accepts_spare old s.between s.before s.accepted in
+        let none = s.refused.may_refuse.no_spare in
+        let long = ap length s.is in
+        let parts = length-append s.before (s.item ∷ left) in
+        omega arith
+
+  pub drained_takes : (a old new : MapState K V S) (items : List (K × V)) (taken : ℕ) (back : K × V)
+      (left : List (K × V))
+      → Drains a old
+      → length items ≤ a.spare + length a.entries
+      → StopsAt (InsertsPair eq) old items new taken back left → ⊥
+  drained_takes a old new items taken back left d l s =
+      let late = stops_late old new items taken back left s in
+      let spare = d.spare in
+      omega arith
+
+-- of two items the last one was refused where none is left after it
+pub refused_of_two : {X : Type 0} (xs : List X) (x a b : X) → a ∷ b ∷ [] ≡ xs ++ x ∷ [] → (xs ≡ a ∷ []) × (x ≡ b)
+refused_of_two [] x a b e = let n = ap length e in absurd (omega arith)
+refused_of_two (y ∷ []) x a b e = (cc, cc)
+refused_of_two (y ∷ z ∷ zs) x a b e = let n = ap length e in let m = length-append zs (x ∷ []) in absurd (omega arith)

@@ -1,0 +1,20 @@
+use Rattle.hashlink_model.proofs.CacheRuns.{cache_use-at_most}
+use Rattle.hashlink_model.proofs.CacheBounds.{within-inserts, within-gets, within-gets_and_writes, within-removes}
+use Rattle.hashlink_model.proofs.CacheBounds.{within-pops_front, within-pops_back, within-changes, within-keeps}
+use Rattle.hashlink_model.proofs.CacheBounds.{within-clears, within-sets}
+use Rattle.hashlink_model.proofs.cache.a_bound_beyond_the_capacity_is_kept.Goals as goal
+
+pub returns : goal.returns
+returns g c = record {
+  insert = within-inserts;
+  get = within-gets;
+  get_mut = within-gets_and_writes;
+  remove = within-removes;
+  pop_front = within-pops_front;
+  pop_back = within-pops_back;
+  change = within-changes;
+  keeps_only = within-keeps;
+  clear = within-clears;
+  set_capacity = within-sets;
+  use_step = cache_use-at_most;
+}

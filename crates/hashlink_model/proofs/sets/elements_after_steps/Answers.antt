@@ -1,0 +1,14 @@
+use Rattle.hashlink_model.proofs.SetElements.{inserts_elements, inserts_member, inserts_refused, removes_elements}
+use Rattle.hashlink_model.proofs.SetElements.{moves_elements, pops_front_elements, pops_back_elements}
+use Rattle.hashlink_model.proofs.sets.elements_after_steps.Goals as goal
+
+pub returns : goal.returns
+returns g c = record {
+  insert = inserts_elements;
+  was_there = inserts_member;
+  refused = inserts_refused;
+  remove = removes_elements;
+  moves = moves_elements;
+  pop_front = pops_front_elements;
+  pop_back = pops_back_elements;
+}

@@ -1,0 +1,56 @@
+use Rattle.std.proofs.Common.{length, ap, sym, ◌∙◌, arith}
+use Rattle.std.specs.Vec.Iter.{into_iter_items}
+use Rattle.hashlink_run.proofs.Chains.{stays_within_peak, takes_keys_where_shorter}
+use Rattle.hashlink_run.proofs.Answering.{HasAnswered-none, HasAnswered-more, HasAnswered-all}
+use Rattle.hashlink_run.proofs.running.run.Goals as goal
+
+pub returns-in_err-replies-clause-within_peak : goal.returns-in_err-replies-clause-within_peak
+returns-in_err-replies-clause-within_peak g c = λ answers run. stays_within_peak _ _ _ _ answers run
+
+pub returns-in_err-replies-clause-shorter : goal.returns-in_err-replies-clause-shorter
+returns-in_err-replies-clause-shorter g c = λ answers run. takes_keys_where_shorter _ _ _ _ answers run
+
+pub returns-in_err-push-clause-within_peak : goal.returns-in_err-push-clause-within_peak
+returns-in_err-push-clause-within_peak g c = λ answers run. stays_within_peak _ _ _ _ answers run
+
+pub returns-in_err-push-clause-shorter : goal.returns-in_err-push-clause-shorter
+returns-in_err-push-clause-shorter g c = λ answers run. takes_keys_where_shorter _ _ _ _ answers run
+
+pub returns-clause-within_peak : goal.returns-clause-within_peak
+returns-clause-within_peak g c = λ answers run. stays_within_peak _ _ _ _ answers run
+
+pub returns-clause-shorter : goal.returns-clause-shorter
+returns-clause-shorter g c = λ answers run. takes_keys_where_shorter _ _ _ _ answers run
+
+pub loop-command-init : goal.loop-command-init
+loop-command-init g c =
+    let gives = c.into_iter-command-iterator.ensures.into_iter_gives.0 in (
+      rw (gives, c.in_ok-replies.ensures.items) (HasAnswered-none _ _ _ _),
+      omega (
+        arith,
+        ap length gives,
+        c.in_ok-replies.ensures.len,
+        c.in_ok-replies.ensures.capacity,
+        c.len.ensures,
+        c.args.commands.ok,
+      ),
+    )
+
+pub loop-command-preserved : goal.loop-command-preserved
+loop-command-preserved g c =
+    let so_far = c.loop-command.invariant in
+    let left = c.in-Some.ensures.steps.0 in
+    let pushed = c.in_ok-push.ensures in (
+      rw pushed.items (HasAnswered-more _ _ _ _ _ _ (rw left at so_far.0) c.reply_to.ensures),
+      omega (arith, so_far.1, ap length left, pushed.len, pushed.capacity),
+    )
+
+pub returns-in_err-push-clause-refused : goal.returns-in_err-push-clause-refused
+returns-in_err-push-clause-refused g c =
+    absurd (omega (arith, c.loop-command.invariant.1, ap length c.in-Some.ensures.steps.0, c.in_err-push.ensures.full))
+
+pub returns-clause-ran : goal.returns-clause-ran
+returns-clause-ran g c =
+    let left = c.loop-command.command-iterator in
+    HasAnswered-all _ _ (into_iter_items left) (sym left.rest.ok.0
+    ∙ c.in-None.ensures.steps.0) c.loop-command.invariant.0

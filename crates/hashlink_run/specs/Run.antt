@@ -1,0 +1,78 @@
+-- Lists of commands: a run is a chain of steps, and what holds along it.
+use Rattle.std.specs.Prelude.{◌≡◌, ℕ, ◌<◌, ◌≤◌, Bool, true, false, List, [], ◌∷◌, length, take, drop}
+use Rattle.std.specs.List.{AllPass, flat_map}
+use Rattle.hashlink_model.specs.History.{Passed, Length, Shrunk, peak}
+use Rattle.hashlink_model.specs.MapState.{MapState, node_count, MayRefuse}
+use Rattle.hashlink_commands.specs.declared.commands.Command.{Command}
+use Rattle.hashlink_commands.specs.declared.commands.Command.TheVariants.{Clear, Shrink}
+use Rattle.hashlink_commands.specs.declared.replies.Reply.{Reply}
+use Rattle.hashlink_run.specs.Step.{Step}
+
+-- the replies to a command, and the state that the map goes on to
+pub record Answered (K V B S : Type 0) : Type 0 where
+  pub replies : List (Reply K V B)
+  pub state : MapState K V S
+
+module _ {K V B S : Type 0} where
+  -- the replies, joined
+  abbrev pub replies_of : List (Answered K V B S) → List (Reply K V B)
+  replies_of answers = flat_map (λ a. a.replies) answers
+
+  -- the state at the end, from `old` on
+  abbrev pub state_after : MapState K V S → List (Answered K V B S) → MapState K V S
+  state_after old [] = old
+  state_after old (a ∷ answers) = state_after a.state answers
+
+  module _ (eq : K → K → Bool) (Says : K → V → B → Type 0) where
+    -- from old, the map may answer the commands in turn so
+    abbrev pub Run : MapState K V S → List (Command K V) → List (Answered K V B S) → Type 0
+    Run old [] [] = Unit {0}
+    Run old (command ∷ commands) (a ∷ answers) = Step eq Says old command a.replies a.state
+        × Run a.state commands answers
+    Run old [] (a ∷ answers) = ⊥
+    Run old (command ∷ commands) [] = ⊥
+
+    -- and so by these replies, and go on to new
+    pub record Runs (old : MapState K V S) (commands : List (Command K V)) (replies : List (Reply K V B))
+        (new : MapState K V S) : Type 0 where
+      pub answers : List (Answered K V B S)
+      pub run : Run old commands answers
+      pub joined : replies ≡ replies_of answers
+      pub reached : new ≡ state_after old answers
+
+-- ---- what holds along a run
+
+module _ {K V : Type 0} where
+  -- what a command passes, by the length after it
+  abbrev pub passed_at : Command K V → ℕ → Passed
+  passed_at Shrink n = Shrunk n
+  passed_at command n = Length n
+
+  -- whether a command leaves every node to the map
+  abbrev pub keeps_nodes : Command K V → Bool
+  keeps_nodes Clear = false
+  keeps_nodes Shrink = false
+  keeps_nodes command = true
+
+module _ {K V B S : Type 0} where
+  abbrev pub passed_by : List (Command K V) → List (Answered K V B S) → List Passed
+  passed_by [] answers = []
+  passed_by (command ∷ commands) [] = []
+  passed_by (command ∷ commands) (a ∷ answers) =
+      passed_at command (length a.state.entries) ∷ passed_by commands answers
+
+  module _ (old : MapState K V S) (commands : List (Command K V)) (answers : List (Answered K V B S)) where
+    -- the state after the first n commands
+    abbrev pub after : ℕ → MapState K V S
+    after n = state_after old (take n answers)
+
+    -- after any of the commands the nodes are within the peak
+    abbrev pub StaysWithinPeak : Type 0
+    StaysWithinPeak = (n : ℕ)
+        → node_count (after n) ≤ peak (node_count old) (passed_by (take n commands) (take n answers))
+
+    -- where the map was longer, and no command since gave nodes back, no insert may be refused
+    abbrev pub TakesKeysWhereShorter : (K → K → Bool) → Type 0
+    TakesKeysWhereShorter eq =
+        (i j : ℕ) → i ≤ j → AllPass keeps_nodes (drop i (take j commands))
+        → length (after j).entries < length (after i).entries → (k : K) → ¬ MayRefuse eq (after j) k

@@ -1,0 +1,53 @@
+//! Lists of commands to a map.
+ghost use Rattle.std.specs.Prelude.{◌≡◌, List, IfOk, OnErr};
+ghost use Rattle.hashlink_core.specs.Keyed.{state_of};
+ghost use Rattle.hashlink_run.specs.Run.{Answered, Run, Runs, StaysWithinPeak, TakesKeysWhereShorter};
+ghost use Rattle.hashlink_run.specs.Step.{ClosureSays};
+
+use crate::steps::reply_to;
+use hashlink_commands::{Command, Reply};
+use hashlink_map::LinkedHashMap;
+use std::alloc::AllocError;
+use std::hash::{BuildHasher, Hash};
+
+/// Gives the commands to the map in turn and answers the replies, one for each.
+///
+/// A command that reads a pair is answered by what `keep` says of it. An insert or a shrink that is refused has a
+/// reply
+/// that says so, and the run goes on. Each command costs what the call of the map does that it names.
+///
+/// Room for all replies is made first, from the allocator of the commands. Where that is refused it answers
+/// `AllocError`, the commands are dropped and the map is as it was.
+pub fn run<K, V, S, F>(
+    map: &mut LinkedHashMap<K, V, S>,
+    commands: Vec<Command<K, V>>,
+    keep: &F,
+) -> Result<Vec<Reply<K, V>>, AllocError>
+where
+    K: Eq + Hash + Drop,
+    V: Drop,
+    S: BuildHasher,
+    F: Fn(&K, &V) -> bool,
+    requires { F.IsAlwaysCallable keep.now }
+
+    // The replies and the state at the end are those of a chain of steps.
+    ensures ran { IfOk result
+        (λ replies. Runs K.eq (ClosureSays F.Fn keep.now) (state_of map.old) commands.items replies.items
+        (state_of map.new)) }
+    ensures refused { OnErr result (map.new ≡ map.old) }
+
+    // Of any such chain, and so of this one: the nodes stay within the peak, and no insert may be refused into a map
+    // that was longer and gave no node back since.
+    ensures within_peak { (answers : List (Answered _ _ _ _))
+        → Run K.eq (ClosureSays F.Fn keep.now) (state_of map.old) commands.items answers
+        → StaysWithinPeak (state_of map.old) commands.items answers }
+    ensures shorter { (answers : List (Answered _ _ _ _))
+        → Run K.eq (ClosureSays F.Fn keep.now) (state_of map.old) commands.items answers
+        → TakesKeysWhereShorter (state_of map.old) commands.items answers K.eq }
+{
+    let mut replies = Vec::with_capacity(*commands.allocator(), commands.len())?;
+    for command in commands {
+        replies.push(reply_to(map, command, keep))?;
+    }
+    Ok(replies)
+}

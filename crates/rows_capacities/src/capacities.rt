@@ -1,0 +1,107 @@
+//! Capacities: 0, some, and more than any map can have.
+use hashlink::{DefaultHashBuilder, LinkedHashMap, TryReserveError};
+use rows_keys::NumberItself;
+use std::test::Fail;
+
+#[test]
+fn no_capacity_takes_no_memory(rt: HostRuntime) -> Result<(), Fail> {
+    let mut map = LinkedHashMap::<u32, u32>::new(rt.alloc());
+    assert_eq!(rt; map.capacity(), 0);
+    assert_eq!(rt; map.reserve(0), Ok(()));
+    assert_eq!(rt; map.try_reserve(0), Ok(()));
+    assert_eq!(rt; map.shrink_to_fit(), Ok(()));
+    assert_eq!(rt; map.capacity(), 0);
+    let map = LinkedHashMap::<u32, u32>::with_capacity(rt.alloc(), 0)?;
+    assert_eq!(rt; map.capacity(), 0);
+    Ok(())
+}
+
+#[test]
+fn a_map_can_be_made_with_room(rt: HostRuntime) -> Result<(), Fail> {
+    let map = LinkedHashMap::<u32, u32>::with_capacity(rt.alloc(), 10)?;
+    assert!(rt; map.is_empty());
+    assert!(rt; map.capacity() >= 10);
+    let map = LinkedHashMap::<u16, u32, NumberItself>::with_capacity_and_hasher(
+        rt.alloc(),
+        10,
+        NumberItself::new(),
+    )?;
+    assert!(rt; map.is_empty());
+    assert!(rt; map.capacity() >= 10);
+    Ok(())
+}
+
+#[test]
+fn more_room_than_any_map_can_have_is_an_overflow(rt: HostRuntime) -> Result<(), Fail> {
+    let none = LinkedHashMap::<u32, u32>::with_capacity(rt.alloc(), usize::MAX).err();
+    assert_eq!(rt; none, Some(TryReserveError::CapacityOverflow));
+    let none = LinkedHashMap::<u32, u32>::with_capacity_and_hasher(
+        rt.alloc(),
+        usize::MAX,
+        DefaultHashBuilder,
+    );
+    assert_eq!(rt; none.err(), Some(TryReserveError::CapacityOverflow));
+    let mut map = LinkedHashMap::new(rt.alloc());
+    map.insert(1u32, 1u32)?;
+    let capacity = map.capacity();
+    assert_eq!(rt;
+        map.reserve(usize::MAX),
+        Err(TryReserveError::CapacityOverflow)
+    );
+    assert_eq!(rt;
+        map.try_reserve(usize::MAX),
+        Err(TryReserveError::CapacityOverflow)
+    );
+    assert_eq!(rt; map.capacity(), capacity);
+    assert_eq!(rt; map.len(), 1);
+    assert_eq!(rt; map.front(), Some((&1, &1)));
+    Ok(())
+}
+
+#[test]
+fn room_that_is_reserved_stays_and_is_enough(rt: HostRuntime) -> Result<(), Fail> {
+    let mut map = LinkedHashMap::new(rt.alloc());
+    map.insert(1u32, 10u32)?;
+    map.insert(2, 20)?;
+    assert_eq!(rt; map.reserve(100), Ok(()));
+    let capacity = map.capacity();
+    assert!(rt; capacity >= 102);
+    assert_eq!(rt; map.reserve(100), Ok(()));
+    assert_eq!(rt; map.try_reserve(100), Ok(()));
+    assert_eq!(rt; map.capacity(), capacity);
+    for key in 3u32..103 {
+        map.insert(key, key)?;
+    }
+    assert_eq!(rt; map.capacity(), capacity);
+    assert_eq!(rt; map.front(), Some((&1, &10)));
+    assert_eq!(rt; map.back(), Some((&102, &102)));
+    Ok(())
+}
+
+#[test]
+fn a_shrink_gives_back_what_no_entry_needs(rt: HostRuntime) -> Result<(), Fail> {
+    let mut map = LinkedHashMap::new(rt.alloc());
+    map.insert(1u32, 10u32)?;
+    map.insert(2, 20)?;
+    let capacity = map.capacity();
+    assert_eq!(rt; map.remove(&1), Some(10));
+    assert_eq!(rt; map.capacity(), capacity);
+    assert_eq!(rt; map.remove(&2), Some(20));
+    map.shrink_to_fit()?;
+    assert_eq!(rt; map.capacity(), 0);
+    for key in 1u32..101 {
+        map.insert(key, key)?;
+    }
+    for _ in 0..97 {
+        assert!(rt; map.pop_front().is_some());
+    }
+    map.shrink_to_fit()?;
+    assert!(rt; map.capacity() < 100);
+    assert_eq!(rt; map.front(), Some((&98, &98)));
+    map.clear();
+    assert!(rt; map.is_empty());
+    map.shrink_to_fit()?;
+    assert_eq!(rt; map.capacity(), 0);
+    assert_eq!(rt; map.insert(5, 50), Ok(None));
+    Ok(())
+}

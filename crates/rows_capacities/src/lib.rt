@@ -1,0 +1,5 @@
+//! Capacities, with ample memory, by the public names of `hashlink` alone.
+#![tactic(auto)]
+
+#[cfg(test)]
+mod capacities;

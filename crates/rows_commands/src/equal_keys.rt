@@ -1,0 +1,74 @@
+//! Which of two equal keys a map stores: of each pair that is read, it is said whether its key was the first to come.
+use hashlink::run::Command::{
+    self, Back, Front, Get, Insert, InsertFront, PopBack, Remove, Replace, ToBack, ToFront,
+};
+use hashlink::run::Reply::{Pair, Seen, Value};
+use hashlink::run::{Reply, run};
+use hashlink::{DefaultHashBuilder, LinkedHashMap};
+use rows_keys::{Label, SameHash};
+use std::alloc::Global;
+use std::hash::BuildHasher;
+use std::process::Abort;
+use std::test::Fail;
+
+/// A key that comes first, with the number 1, and an equal one that comes later, with the number 2.
+fn first(text: &'static str) -> Label {
+    Label { text, number: 1 }
+}
+
+fn later(text: &'static str) -> Label {
+    Label { text, number: 2 }
+}
+
+fn keeps_stored_keys<S: BuildHasher + Drop>(
+    rt: &impl Abort,
+    alloc: Global,
+    hasher: S,
+    steps: &[(Command<Label, u32>, Reply<Label, u32>)],
+) -> Result<(), Fail> {
+    let mut map = LinkedHashMap::with_hasher(alloc, hasher);
+    let commands: Vec<Command<Label, u32>> = steps.iter().map(|step| step.0).collect(alloc)?;
+    let wanted: Vec<Reply<Label, u32>> = steps.iter().map(|step| step.1).collect(alloc)?;
+    let replies = run(&mut map, commands, &|key: &Label, _: &u32| key.number == 1)?;
+    assert_eq!(rt; replies.as_slice(), wanted.as_slice());
+    Ok(())
+}
+
+#[test]
+fn a_key_that_is_there_stays_whatever_call_it_comes_by(rt: HostRuntime) -> Result<(), Fail> {
+    let steps = [
+        (Insert(first("a"), 10), Value(None)),
+        (Insert(first("b"), 20), Value(None)),
+        (Insert(later("a"), 11), Value(Some(10))),
+        (Back, Seen(Some(true))),
+        (InsertFront(later("a"), 12), Value(Some(11))),
+        (Front, Seen(Some(true))),
+        (Replace(later("b"), 21), Value(Some(20))),
+        (Back, Seen(Some(true))),
+        (ToBack(later("a")), Seen(Some(true))),
+        (ToFront(later("b")), Seen(Some(true))),
+        (Get(later("a")), Seen(Some(true))),
+        (Remove(later("a")), Value(Some(12))),
+        (Insert(later("a"), 13), Value(None)),
+        (Get(first("a")), Seen(Some(false))),
+        (InsertFront(first("a"), 14), Value(Some(13))),
+        (Front, Seen(Some(false))),
+        (PopBack, Pair(Some((first("b"), 21)))),
+    ];
+    keeps_stored_keys(&rt, rt.alloc(), DefaultHashBuilder, &steps)?;
+    keeps_stored_keys(&rt, rt.alloc(), SameHash, &steps)
+}
+
+#[test]
+fn the_stored_key_is_handed_out(rt: HostRuntime) -> Result<(), Fail> {
+    let mut map = LinkedHashMap::new(rt.alloc());
+    assert!(rt; map.insert(first("a"), 10u32).is_ok());
+    assert!(rt; map.insert(later("a"), 11).is_ok());
+    let stored = map.get_key_value(&later("a")).map(|(key, _)| key.number);
+    assert_eq!(rt; stored, Some(1));
+    let taken = map
+        .remove_entry(&later("a"))
+        .map(|(key, value)| (key.number, value));
+    assert_eq!(rt; taken, Some((1, 11)));
+    Ok(())
+}

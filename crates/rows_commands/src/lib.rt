@@ -1,0 +1,9 @@
+//! Lists of commands and their replies, by the public names of `hashlink` alone.
+#![tactic(auto)]
+
+#[cfg(test)]
+mod both_ends;
+#[cfg(test)]
+mod equal_keys;
+#[cfg(test)]
+mod row;
