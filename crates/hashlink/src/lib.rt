@@ -5,14 +5,16 @@
 /// The linked hash map.
 pub mod linked_hash_map {
     pub use hashlink_map::{
-        Entry, Iter, LinkedHashMap, OccupiedEntry, TryReserveError, VacantEntry,
+        CursorMut, Drain, Entry, IntoIter, Iter, IterMut, Keys, LinkedHashMap, OccupiedEntry,
+        RawEntryBuilder, RawEntryBuilderMut, RawEntryMut, RawOccupiedEntryMut, RawVacantEntryMut,
+        TryReserveError, VacantEntry, Values,
     };
     pub use std::alloc::AllocError;
 }
 
 /// Lists of commands to the containers, and the text form in which a program reads and answers them.
 pub mod run {
-    pub use hashlink_run::{Command, Fault, Reply, run, run_text, serve};
+    pub use hashlink_run::{Command, CursorStep, EntryStep, Fault, Reply, run, run_text, serve};
 }
 
 pub use hashlink_map::{DefaultHashBuilder, DefaultHasher, LinkedHashMap, TryReserveError};

@@ -11,7 +11,7 @@ mod numbers;
 mod replies;
 mod words;
 
-pub use commands::Command;
+pub use commands::{Command, CursorStep, EntryStep};
 pub use line::Line;
 pub use lines::Lines;
 pub use modes::{Mode, mode_of};

@@ -9,6 +9,8 @@ pub enum Reply<K, V, B = bool> {
     Value(Option<V>),
     /// The pair that was there, if any.
     Pair(Option<(K, V)>),
+    /// The stored key that another took the place of, if there was one.
+    Key(Option<K>),
     /// What was said of the pair that was read, if there was one.
     Seen(Option<B>),
     /// How many pairs there are.

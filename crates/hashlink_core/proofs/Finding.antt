@@ -6,12 +6,16 @@ use Rattle.std.specs.Map.{lookup}
 use Rattle.hashlink_model.specs.Entries.{place_of}
 use Rattle.hashlink_model.proofs.Places.{place_of_its_key}
 use Rattle.hashlink_model.proofs.Splits.{place_of-none}
+use Rattle.std.specs.Borrow.{Bor}
+use Rattle.std.specs.Fn.{Shared, FnReturnsAt}
 use Rattle.hashlink_nodes.specs.declared.node.Node.{Node}
+use Rattle.hashlink_nodes.specs.declared.held.Held.{Held}
 use Rattle.hashlink_nodes.specs.Node.{same_node}
 use Rattle.hashlink_nodes.specs.Ring.{Ring, pair_of, Holds}
 use Rattle.hashlink_table.specs.Contents.{Contents, Keeps}
 use Rattle.hashlink_core.specs.Keyed.{nodes_of, pairs_in, HoldsKey}
 use Rattle.hashlink_core.specs.Places.{place_number}
+use Rattle.hashlink_core.specs.Telling.{Tells}
 use Rattle.hashlink_core.specs.Tied.{IsInStep}
 use Rattle.hashlink_core.proofs.Mapped.{lookup-mapped, place_number-mapped}
 use Rattle.hashlink_core.proofs.Places.{node-at}
@@ -20,29 +24,49 @@ use Rattle.hashlink_core.proofs.Tying.{untied-absent, kept}
 use Rattle.std.specs.FinMap.{get}
 use Rattle.hashlink_table.specs.declared.kept.Kept.{Kept}
 
+-- what a call answered at a node's key
+pub answered-at : {K V : Type 0} (P : K → Type 0) (o : Option (Held K V)) (key : K) (value : V)
+    → option_map pair_of o ≡ Some (key, value) → P key
+    → IfSome o (λ h. P h.key)
+answered-at P None key value is p = tt
+answered-at P (Some h) key value is p =
+    let same : pair_of h ≡ (key, value) = cc is in
+    subst P (sym (ap (λ q. q.0) same)) p
+
+-- the answers of a test that tells the keys equal to k from the others
+pub told : {K F : Type 0} {calls : Shared F (Bor K × Unit {0}) Bool} {eq : K → K → Bool} (laws : IsEquivalence eq)
+    {hash : K → ℕ} {test : F} {asked : ℕ} {k : K} → Tells calls eq hash test asked k → (x : K) (b : Bool)
+    → FnReturnsAt calls test x b
+    → b ≡ eq k x
+told {eq = eq} laws {k = k} tells x b r =
+    tells.answers r.shown b r.says.met ∙ ap (λ y. eq y k) r.shows ∙ laws.symm x k
+
 module _ {K V : Type 0} {eq : K → K → Bool} (laws : IsEquivalence eq) {hash : K
     → ℕ} {r : Ring K V} {t : Contents Node} (step : IsInStep eq hash r t) where
   -- each node that the table has is of the ring
   pub listed-holds : (cell found : ℕ) (n : Node) → Keeps t cell found n → Holds r.entries n
   listed-holds cell found n there = ap is_some (step.tied.listed cell found n there).here
 
+  -- what a search of the table answers, by calls that tell the keys equal to k from the others
   pub found-by_table : (k : K) → ((x : K) → eq k x ≡ true → hash x ≡ hash k) → (asked : ℕ) → asked ≡ hash k
+      → (Answers : K → Bool → Type 0) → ((x : K) (b : Bool) → Answers x b → b ≡ eq k x)
       → (o : Option Node)
       → IfSome o (λ n. (cell : ℕ) × Keeps t cell asked n
-      × IfSome (lookup (same_node n) r.entries) (λ h. true ≡ eq k h.key))
+      × IfSome (lookup (same_node n) r.entries) (λ h. Answers h.key true))
       → IfNone o ((cell : ℕ) (n : Node) → Keeps t cell asked n
-      → IfSome (lookup (same_node n) r.entries) (λ h. false ≡ eq k h.key))
+      → IfSome (lookup (same_node n) r.entries) (λ h. Answers h.key false))
       → MatchOption o (place_of (eq k) (pairs_in r.entries) ≡ None) (HoldsKey eq (nodes_of r.entries) k)
-  found-by_table k alike asked is None some none =
+  found-by_table k alike asked is Answers tells None some none =
       place_of-none (eq k) (pairs_in r.entries) (untied-absent hash eq r.entries t k step.apart step.tied alike
       (λ cell n there h here.
-      let unlike : IfSome (lookup (same_node n) r.entries) (λ g. false ≡ eq k g.key) =
+      let unlike : IfSome (lookup (same_node n) r.entries) (λ g. Answers g.key false) =
       none cell n (subst (λ a. Keeps t cell a n) (sym is) there) in
-      sym (subst (λ o. IfSome o (λ g. false ≡ eq k g.key)) here unlike)))
-  found-by_table k alike asked is (Some n) some none =
+      sym (tells h.key false (subst (λ o. IfSome o (λ g. Answers g.key false)) here unlike))))
+  found-by_table k alike asked is Answers tells (Some n) some none =
       let old = step.tied.listed some.0 asked n some.1 in
       let x = node-at r.entries n (ap is_some old.here) in
-      let equal : eq k x.0.key ≡ true = sym (subst (λ o. IfSome o (λ g. true ≡ eq k g.key)) x.1.found some.2) in
+      let equal : eq k x.0.key ≡ true =
+      sym (tells x.0.key true (subst (λ o. IfSome o (λ g. Answers g.key true)) x.1.found some.2)) in
       record {
         within = ap is_some (lookup-mapped pair_of (same_node n) r.entries ∙ ap (option_map pair_of) x.1.found);
         place = place_of_its_key eq laws (pairs_in r.entries) (place_number r.entries (Some n)) (pair_of x.0) k

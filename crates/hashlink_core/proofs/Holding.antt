@@ -1,10 +1,10 @@
 -- Which keys a node holds, by the entry that stands with it, and that it holds them still when it moves.
-use Rattle.std.proofs.Common.{◌≡◌, ◌⊎◌, inl, inr, ℕ, ◌-◌, ◌+◌, ◌<◌, ◌≤◌, Bool, true, List, length, Some, refl, ap}
+use Rattle.std.proofs.Common.{◌≡◌, ◌⊎◌, inl, inr, ℕ, ◌-◌, ◌+◌, ◌<◌, ◌≤◌, Bool, true, List, length, Some, ap}
 use Rattle.std.proofs.Common.{sym, subst, ◌∙◌, arith}
-use Rattle.std.specs.Prelude.{is_some, insert, remove, slice_get, unwrap_or}
+use Rattle.std.specs.Prelude.{is_some, insert, remove, slice_get, unwrap_or, IfSome}
 use Rattle.std.specs.Option.{option_map}
 use Rattle.std.specs.Cmp.{IsEquivalence}
-use Rattle.std.specs.Map.{lookup, values_of}
+use Rattle.std.specs.Map.{lookup}
 use Rattle.std.proofs.lemmas.Bool.{cases_lt}
 use Rattle.std.proofs.lemmas.Option.{slice_get-map}
 use Rattle.hashlink_nodes.specs.declared.node.Node.{Node}
@@ -12,7 +12,7 @@ use Rattle.hashlink_nodes.specs.Node.{same_node, same_node_equiv}
 use Rattle.hashlink_model.specs.Entries.{IsEntries, place_left}
 use Rattle.hashlink_model.proofs.Finds.{lookup_is}
 use Rattle.hashlink_model.proofs.Places.{place_of_its_key, lookup_entry_at}
-use Rattle.hashlink_core.specs.Keyed.{Keyed, entries_of, HoldsKey, IsKeyed}
+use Rattle.hashlink_core.specs.Keyed.{Keyed, entries_of, HoldsKey, EqualsKeyAt, IsKeyed}
 use Rattle.hashlink_core.specs.Places.{Holds, place_number}
 use Rattle.hashlink_core.specs.Steps.{MovesNode}
 use Rattle.hashlink_core.proofs.Edits.{lt-at, length-removed, slice_get-inserted, moved_at-is, place_left-before}
@@ -78,3 +78,31 @@ module _ {K V S : Type 0} {eq : K → K → Bool} (laws : IsEquivalence eq) (m :
         within = holds-at;
         place = place_of_its_key eq laws (entries_of m) p e k sound.distinct stands same ∙ ap Some (sym number-at);
       }
+
+-- the pair of a node that is there
+pub at-node : {K V S : Type 0} (m : Keyed K V S) (n : Node) (held : Holds m.nodes n)
+    → slice_get (entries_of m) (place_number m.nodes (Some n)) ≡ Some (node-at m.nodes n held).0
+at-node m n held =
+    let x = node-at m.nodes n held in
+    slice_get-map (λ e. e.1) m.nodes (place_number m.nodes (Some n)) ∙ ap (option_map (λ e. e.1)) x.1.at
+
+-- it holds each key that equals its own, and no other
+module _ {K V S : Type 0} (eq : K → K → Bool) (m : Keyed K V S) (n : Node) (k : K) where
+  pub equals-stored : (held : Holds m.nodes n) → EqualsKeyAt eq (entries_of m) (place_number m.nodes (Some n)) k
+      → eq k (node-at m.nodes n held).0.0 ≡ true
+  equals-stored held =
+      subst (λ o. IfSome (option_map (λ e. e.0) o) (λ stored. eq k stored ≡ true)) (at-node m n held)
+
+  pub equal-holds : IsEquivalence eq → IsKeyed eq m → Holds m.nodes n
+      → EqualsKeyAt eq (entries_of m) (place_number m.nodes (Some n)) k
+      → HoldsKey eq m.nodes k n
+  equal-holds laws sound held same =
+      let x = node-at m.nodes n held in
+      holds_key-at laws m sound n (place_number m.nodes (Some n)) x.0 x.1.at k (equals-stored held same)
+
+  pub holds-equal : HoldsKey eq m.nodes k n → EqualsKeyAt eq (entries_of m) (place_number m.nodes (Some n)) k
+  holds-equal h =
+      let x = node-at m.nodes n h.within in
+      let j = place_number m.nodes (Some n) in
+      subst (λ o. IfSome (option_map (λ e. e.0) o) (λ stored. eq k stored ≡ true)) (sym (at-node m n h.within))
+      (passes-at (eq k) (entries_of m) j x.0 h.place (at-node m n h.within))

@@ -3,9 +3,11 @@ pub mod Edits
 pub mod Calls
 pub mod Finding
 pub mod Holding
+pub mod Keeping
 pub mod Mapped
 pub mod Neighbours
 pub mod Places
+pub mod Retaining
 pub mod Stepping
 pub mod Stores
 pub mod Tying

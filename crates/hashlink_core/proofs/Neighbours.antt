@@ -81,7 +81,7 @@ none-past (y ∷ xs) zero at = absurd (cc)
 none-past (y ∷ xs) (suc i) at = omega (arith, none-past xs i at)
 
 -- ---- the place before, by number
-before-suc : (n i : ℕ) → i ≤ n → preceding_place n (suc i) ≡ i
+pub before-suc : (n i : ℕ) → i ≤ n → preceding_place n (suc i) ≡ i
 before-suc n i le =
     let more : suc i + n ≡ i + (n + 1) = omega arith in
     ap (λ m. m % (n + 1)) more ∙ add-mod_right i (n + 1) ∙ mod-eq_of_lt (omega arith)

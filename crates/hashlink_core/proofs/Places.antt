@@ -97,7 +97,7 @@ module _ {X : Type 0} where
   place_number-most es None = omega arith
   place_number-most es (Some n) = place_or_end-most same_node es n
 
-  number-cons : (e : Node × X) (es : List (Node × X)) (p : Option Node)
+  pub number-cons : (e : Node × X) (es : List (Node × X)) (p : Option Node)
       → place_number (e ∷ es) p ≡ cond (is_node p e.0) 0 (suc (place_number es p))
   number-cons e es None = refl
   number-cons e es (Some n) = place_or_end-cons same_node e es n

@@ -1,8 +1,9 @@
 -- What a contract sees of a keyed list: the entries in order, each with its node, and a map's numbers and hasher.
-use Rattle.std.specs.Prelude.{◌≡◌, ℕ, Bool, List, length, map, Some}
+use Rattle.std.specs.Prelude.{◌≡◌, ℕ, Bool, true, List, length, map, Some, IfSome}
 use Rattle.std.specs.Map.{values_of}
 use Rattle.hashlink_model.specs.Entries.{IsEntries, place_of}
 use Rattle.hashlink_model.specs.MapState.{MapState, map_state, HasRoom}
+use Rattle.hashlink_model.specs.Entry.{key_at}
 use Rattle.hashlink_nodes.specs.declared.node.Node.{Node}
 use Rattle.hashlink_nodes.specs.Node.{same_node}
 use Rattle.hashlink_nodes.specs.declared.held.Held.{Held}
@@ -32,6 +33,10 @@ module _ {K V : Type 0} where
   pub record HoldsKey (eq : K → K → Bool) (nodes : List (Node × (K × V))) (k : K) (n : Node) : Type 0 where
     pub within : Holds nodes n
     pub place : place_of (eq k) (values_of nodes) ≡ Some (place_number nodes (Some n))
+
+  -- the key equals the one at the place
+  abbrev pub EqualsKeyAt : (K → K → Bool) → List (K × V) → ℕ → K → Type 0
+  EqualsKeyAt eq es j k = IfSome (key_at es j) (λ stored. eq k stored ≡ true)
 
   -- a pair with another value, and with another key
   abbrev pub pair_with_value : V → K × V → K × V

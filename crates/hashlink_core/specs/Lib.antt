@@ -4,5 +4,6 @@ pub mod Keyed
 pub mod KeyedLends
 pub mod Places
 pub mod Steps
+pub mod Telling
 pub mod Tied
 pub mod Walk

@@ -1,11 +1,13 @@
 -- The steps between two states of a keyed list, by the numbers of places: what the list of nodes is afterwards, and
 -- which step of a map it is.
-use Rattle.std.specs.Prelude.{◌≡◌, ℕ, ◌≤◌, insert, remove, None}
+use Rattle.std.specs.Prelude.{◌≡◌, ℕ, ◌≤◌, Bool, insert, remove, Option, None}
 use Rattle.std.specs.Map.{lookup}
 use Rattle.hashlink_nodes.specs.declared.node.Node.{Node}
 use Rattle.hashlink_nodes.specs.Node.{same_node}
-use Rattle.hashlink_core.specs.Places.{renewed_at}
-use Rattle.hashlink_core.specs.Keyed.{Keyed, state_of, pair_with_value, pair_with_key}
+use Rattle.hashlink_model.specs.Cursor.{place_kept}
+use Rattle.std.specs.Option.{option_map}
+use Rattle.hashlink_core.specs.Places.{Holds, IsPlace, place_number, renewed_at}
+use Rattle.hashlink_core.specs.Keyed.{Keyed, entries_of, state_of, pair_with_value, pair_with_key}
 use Rattle.hashlink_model.specs.MapState.{AddsAt, RemovesAt, MovesAt, WritesAt, SetsKeyAt}
 use Rattle.hashlink_model.specs.Entries.{moved_at}
 
@@ -34,6 +36,18 @@ module _ {K V S : Type 0} where
   pub record SetsNodeKey (old new : Keyed K V S) (j : ℕ) (k : K) : Type 0 where
     pub nodes : new.nodes ≡ renewed_at (pair_with_key k) old.nodes j
     pub state : SetsKeyAt (state_of old) (state_of new) j k
+
+  -- the place p is of the list still, and stands where its entry does now, or after the last entry
+  pub record KeepsPlace (eq : K → K → Bool) (old new : Keyed K V S) (p : Option Node) : Type 0 where
+    pub within : IsPlace new.nodes p
+    pub number : place_number new.nodes p
+        ≡ place_kept eq (entries_of old) (entries_of new) (place_number old.nodes p)
+
+  -- each node of the list is there still, with the key that it held
+  abbrev pub KeepsKeys : Keyed K V S → Keyed K V S → Type 0
+  KeepsKeys old new =
+      (m : Node) → Holds old.nodes m
+      → option_map (λ e. e.0) (lookup (same_node m) new.nodes) ≡ option_map (λ e. e.0) (lookup (same_node m) old.nodes)
 
   -- nothing changed but the room, which did not shrink
   pub record GrowsRoom (old new : Keyed K V S) : Type 0 where

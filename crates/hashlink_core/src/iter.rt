@@ -1,43 +1,53 @@
 //! A walk over the entries of a keyed list.
-ghost use Rattle.std.specs.Prelude.{◌≡◌, Some, IfSome, length};
+ghost use Rattle.std.specs.Prelude.{◌≡◌, ◌<◌, ◌^◌, Some, IfSome, length, ⊤};
 ghost use Rattle.std.specs.Iterator.{at_most, UpTo};
 ghost use Rattle.std.specs.Iterator.SizeHint.{IsWithinCount};
-ghost use Rattle.std.specs.Map.Iter.{TakesFirst, deref_pair};
+ghost use Rattle.std.specs.Map.Iter.{TakesFirst, TakesLast, deref_pair};
+
+mod keys;
+mod values;
 
 use hashlink_nodes::{Node, Nodes};
+pub use keys::Keys;
+use std::alloc::AllocError;
+use std::fmt;
+use std::iter::FusedIterator;
 use std::marker::Model;
+pub use values::Values;
 
 /// A walk over the entries, front first. Contracts see it as the list of the pairs that it has left.
 #[derive(Drop)]
 pub struct Iter<'a, K, V> {
     nodes: &'a Nodes<K, V>,
-    place: Option<Node>,
+    // The first and the last node left. Where none is left they mean nothing.
+    first: Option<Node>,
+    last: Option<Node>,
     left: usize,
 }
 
 impl<'a, K, V> Model for Iter<'a, K, V> {
-    ghost use Rattle.std.specs.Prelude.{◌-◌, List, length, drop};
-    ghost use Rattle.hashlink_core.specs.Keyed.{pairs_in};
-    ghost use Rattle.hashlink_core.specs.Walk.{StandsAtFirst};
+    ghost use Rattle.std.specs.Prelude.{List};
+    ghost use Rattle.hashlink_core.specs.Walk.{pairs_from, StandsBetween};
 
     ghost Value = { List (K × V) };
 
-    ghost view = { λ i. pairs_in (drop (length i.nodes.now.entries - i.left) i.nodes.now.entries) };
+    ghost view = { λ i. pairs_from i.nodes.now.entries i.first i.left };
 
-    ghost invariant = { λ i. StandsAtFirst i.nodes.now.entries i.place i.left };
+    ghost invariant = { λ i. StandsBetween i.nodes.now.entries i.first i.last i.left };
 }
 
 impl<'a, K, V> Iter<'a, K, V> {
-    ghost use Rattle.std.specs.Prelude.{◌≡◌};
     ghost use Rattle.hashlink_core.specs.Keyed.{pairs_in};
 
     /// A walk over the whole ring.
     pub(crate) fn new(nodes: &'a Nodes<K, V>) -> Self
-        ensures { result ≡ pairs_in nodes.now.entries }
+        ensures rest { result ≡ pairs_in nodes.now.entries }
+        ensures fits { length nodes.now.entries < 2 ^ 63 }
     {
         Iter {
             nodes,
-            place: nodes.next(None),
+            first: nodes.next(None),
+            last: nodes.prev(None),
             left: nodes.len(),
         }
     }
@@ -51,9 +61,11 @@ impl<'a, K, V> Iterator for Iter<'a, K, V> {
     ghost remaining = { λ s. at_most (length s) };
 
     fn next(&mut self) -> Option<(&'a K, &'a V)> {
-        let nodes = self.nodes;
-        let node = self.place?;
-        self.place = nodes.next(Some(node));
+        if self.left == 0 {
+            return None;
+        }
+        let (nodes, node) = (self.nodes, self.first?);
+        self.first = nodes.next(Some(node));
         self.left -= 1;
         Some(nodes.entry(node))
     }
@@ -64,5 +76,48 @@ impl<'a, K, V> Iterator for Iter<'a, K, V> {
         ensures exact { result ≡ (length self.now, Some (length self.now)) }
     {
         (self.left, Some(self.left))
+    }
+}
+
+impl<'a, K, V> DoubleEndedIterator for Iter<'a, K, V> {
+    ghost next_back_gives = { TakesLast deref_pair };
+
+    fn next_back(&mut self) -> Option<(&'a K, &'a V)> {
+        if self.left == 0 {
+            return None;
+        }
+        let (nodes, node) = (self.nodes, self.last?);
+        self.last = nodes.prev(Some(node));
+        self.left -= 1;
+        Some(nodes.entry(node))
+    }
+}
+
+impl<'a, K, V> ExactSizeIterator for Iter<'a, K, V> {
+    fn len(&self) -> usize {
+        self.left
+    }
+}
+
+impl<'a, K, V> FusedIterator for Iter<'a, K, V> {}
+
+impl<'a, K, V> Clone for Iter<'a, K, V> {
+    ghost is_clone = { λ s r. r ≡ s };
+
+    ghost is_infallible = { λ _. ⊤ };
+
+    fn clone(&self) -> Result<Self, AllocError> {
+        Ok(Iter {
+            nodes: self.nodes,
+            first: self.first,
+            last: self.last,
+            left: self.left,
+        })
+    }
+}
+
+impl<'a, K: fmt::Debug, V: fmt::Debug> fmt::Debug for Iter<'a, K, V> {
+    fn fmt<W: fmt::Write>(&self, f: &mut fmt::Formatter<W>) -> fmt::Result {
+        f.debug_list().entries(self.clone().unwrap()).finish()
     }
 }

@@ -7,6 +7,7 @@ ghost use Rattle.hashlink_table.specs.declared.table.TheConstants.{MAX_ROOM};
 mod growth;
 mod moves;
 mod reads;
+mod retains;
 mod values;
 
 use hashlink_nodes::{Node, Nodes};

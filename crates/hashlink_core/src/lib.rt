@@ -5,10 +5,12 @@ mod hash_builder;
 mod hasher;
 mod iter;
 mod keyed_list;
+#[cfg(test)]
+mod tests;
 
 pub use hash_builder::DefaultHashBuilder;
 pub use hasher::DefaultHasher;
 pub use hashlink_nodes::Node;
 pub use hashlink_table::TryReserveError;
-pub use iter::Iter;
+pub use iter::{Iter, Keys, Values};
 pub use keyed_list::KeyedList;

@@ -2,27 +2,29 @@
 use Rattle.std.proofs.Common.{[], ◌∷◌, zero, ap₂, ◌++◌, length-append, ◌≡◌, ℕ, suc, ◌+◌, ◌-◌, ◌<◌, ◌≤◌, Bool, true}
 use Rattle.std.proofs.Common.{List, length, Option, None, Some, refl, sym, ap, subst, ◌∙◌, arith}
 use Rattle.std.specs.Prelude.{slice_get, insert, remove, is_some, unwrap_or, Result, Ok, Err, IfOk, IfErr, OnErr}
-use Rattle.std.specs.Prelude.{MatchOption}
+use Rattle.std.specs.Prelude.{MatchOption, MatchResult}
 use Rattle.std.specs.Option.{option_map}
 use Rattle.std.specs.Cmp.{IsEquivalence}
 use Rattle.std.specs.Map.{lookup, values_of}
 use Rattle.std.proofs.lemmas.Option.{slice_get-map}
 use Rattle.std.proofs.lemmas.Map.Entries.{length-values_of}
 use Rattle.hashlink_model.specs.Entries.{place_of, place_left, moved_at, put, stored_key, set_value_at, set_key_at}
-use Rattle.hashlink_model.specs.MapState.{MapState, Changes, Grows, AddsEntry, PutsEntry, SetsKeyAt, MovesAt}
+use Rattle.hashlink_model.specs.MapState.{MapState, Changes, Grows, AddsEntry, PutsEntry, RefusesEntry, SetsKeyAt}
+use Rattle.hashlink_model.specs.MapState.{MovesAt}
+use Rattle.hashlink_model.specs.MapState.{with_value}
 use Rattle.hashlink_model.specs.Entry.{key_at, value_at, replace_entry, VacantInserts}
 use Rattle.hashlink_model.proofs.Places.{split_at, slice_get_here}
 use Rattle.hashlink_model.proofs.ByPlace.{set_value_at-here, moved_at-last, moved_at-put}
 use Rattle.hashlink_model.proofs.Finds.{lookup_key_is}
 use Rattle.hashlink_model.proofs.Puts.{put-absent}
 use Rattle.hashlink_model.proofs.Splits.{none_from_lookup, stands_from_place, lookup_entry-none}
-use Rattle.hashlink_core.specs.Keyed.{Keyed, entries_of, state_of, HoldsKey, IsKeyed}
+use Rattle.hashlink_core.specs.Keyed.{Keyed, entries_of, state_of, HoldsKey, EqualsKeyAt, IsKeyed}
 use Rattle.hashlink_core.specs.Places.{Node, Holds, place_number, renewed_at}
 use Rattle.hashlink_core.specs.KeyedLends.{with_value_at}
 use Rattle.hashlink_core.specs.Steps.{AddsNode, GrowsRoom}
 use Rattle.hashlink_core.proofs.Edits.{length-inserted, length-removed, slice_get-inserted, moved_at-is}
 use Rattle.hashlink_core.proofs.Edits.{place_left-before, place_left-past, passes-at}
-use Rattle.hashlink_core.proofs.Holding.{number-at, holds-at, holds_key-at}
+use Rattle.hashlink_core.proofs.Holding.{number-at, holds-at, holds_key-at, equals-stored}
 use Rattle.hashlink_core.proofs.Mapped.{values-renewed_value}
 use Rattle.hashlink_core.proofs.Places.{IsNodeAt, node-at, renewed_at-is}
 use Rattle.hashlink_map.specs.Standing.{StaysHeld}
@@ -100,8 +102,12 @@ module _ {K V S : Type 0} {eq : K → K → Bool} (laws : IsEquivalence eq) wher
           same
 
     -- a key that equals the one held equals what the held one equals
-    pub same-keys : (key : K) → HoldsKey eq old.nodes key n → (k : K) → eq k stood.0.0 ≡ true → eq k key ≡ true
-    same-keys key h k t = laws.symm k key ∙ laws.congr key stood.0.0 k (key-equal key h) ∙ laws.symm stood.0.0 k ∙ t
+    pub same-keys : (key : K) → EqualsKeyAt eq (entries_of old) (place_number old.nodes (Some n)) key
+        → (k : K) → eq k stood.0.0 ≡ true
+        → eq k key ≡ true
+    unfolding stood
+    same-keys key h k t =
+        laws.symm k key ∙ laws.congr key stood.0.0 k (equals-stored eq old n key held h) ∙ laws.symm stood.0.0 k ∙ t
 
 -- ---- steps in a row
 
@@ -154,14 +160,23 @@ module _ {K V : Type 0} where
 
 module _ {K V S : Type 0} {eq : K → K → Bool} (laws : IsEquivalence eq) (old new : Keyed K V S) (k : K) (v : V)
     (absent : place_of (eq k) (entries_of old) ≡ None) where
+  pub pushes-at : (b : ℕ) (r : Result Node (K × V)) → IfOk r (λ n. AddsNode old new b n k v)
+      → IfErr r (λ p. p ≡ (k, v)) → OnErr r (GrowsRoom old new)
+      → OnErr r (old.spare ≡ 0)
+      → MatchResult r (λ _. AddsEntry eq (state_of old) (state_of new) k v b)
+      (RefusesEntry eq (state_of old) (state_of new) k v)
+  pushes-at b (Ok n) went_in back grown none = added eq old new k v b b n refl absent went_in
+  pushes-at b (Err p) went_in back grown none = refused eq old new k v p absent none back grown
+
   pub pushes : (r : Result Node (K × V)) → IfOk r (λ n. AddsNode old new (length old.nodes) n k v)
       → IfErr r (λ p. p ≡ (k, v)) → OnErr r (GrowsRoom old new)
       → OnErr r (old.spare ≡ 0)
       → VacantInserts eq (state_of old) (state_of new) k v r
-  pushes (Ok n) went_in back grown none =
-      added eq old new k v (length (entries_of old)) (length old.nodes) n (sym (length-values_of old.nodes)) absent
-      went_in
-  pushes (Err p) went_in back grown none = refused eq old new k v p absent none back grown
+  pushes r went_in back grown none =
+      subst
+      (λ b. MatchResult r (λ _. AddsEntry eq (state_of old) (state_of new) k v b)
+      (RefusesEntry eq (state_of old) (state_of new) k v))
+      (sym (length-values_of old.nodes)) (pushes-at (length old.nodes) r went_in back grown none)
 
   module _ (sound : IsKeyed eq new) where
     stands_last : (n : Node) → AddsNode old new (length old.nodes) n k v
@@ -183,30 +198,27 @@ module _ {K V S : Type 0} {eq : K → K → Bool} (laws : IsEquivalence eq) (old
     pushed-place (Err p) added = tt
 
 -- what was written as the value of a pair that went last
-module _ {K V S : Type 0} {eq : K → K → Bool} (laws : IsEquivalence eq) (old : MapState K V S) (new : Keyed K V S)
-    (k : K) (v : V) (n : Node) where
+module _ {K V S : Type 0} {eq : K → K → Bool} (laws : IsEquivalence eq) (old mid : MapState K V S) (k : K) (v : V) where
   last-written : (es : List (K × V)) (w : V)
       → set_value_at (insert es (length es) (k, v)) (length es) w ≡ insert es (length es) (k, w)
   last-written [] w = refl
   last-written (e ∷ es) w = ap (λ r. e ∷ r) (last-written es w)
 
-  pub adds-written : AddsEntry eq old (state_of new) k v (length old.entries)
-      → place_number new.nodes (Some n) ≡ length old.entries → (w : V)
-      → AddsEntry eq old (state_of (with_value_at new n w)) k w (length old.entries)
-  adds-written s place w =
+  adds-rewritten : AddsEntry eq old mid k v (length old.entries) → (w : V)
+      → AddsEntry eq old (with_value mid (length old.entries) w) k w (length old.entries)
+  adds-rewritten s w =
       let none = none_from_lookup (eq k) old.entries s.absent in
       let at_end : (u : V)
       → put eq old.entries k u (length old.entries) ≡ insert old.entries (length old.entries) (k, u)
       = λ u. put-absent eq old.entries k u (length old.entries) none in
-      let is : entries_of (with_value_at new n w) ≡ put eq old.entries k w (length old.entries) =
-      values-renewed_value new.nodes (place_number new.nodes (Some n)) w
-      ∙ ap₂ (λ zs i. set_value_at zs i w) (s.adds.entries ∙ at_end v) place ∙ last-written old.entries w
+      let is : set_value_at mid.entries (length old.entries) w ≡ put eq old.entries k w (length old.entries) =
+      ap (λ es. set_value_at es (length old.entries) w) (s.adds.entries ∙ at_end v) ∙ last-written old.entries w
       ∙ sym (at_end w) in
       let long : length (put eq old.entries k w (length old.entries))
       ≡ length (put eq old.entries k v (length old.entries))
       = ap length (at_end w) ∙ length-inserted _ _ _ ∙ sym (length-inserted _ _ (k, v))
       ∙ sym (ap length (at_end v)) in
-      let kept : length (entries_of (with_value_at new n w)) ≡ length (entries_of new)
+      let kept : length (set_value_at mid.entries (length old.entries) w) ≡ length mid.entries
       = ap length is ∙ long ∙ sym (ap length s.adds.entries) in
       record {
         absent = s.absent;
@@ -221,17 +233,49 @@ module _ {K V S : Type 0} {eq : K → K → Bool} (laws : IsEquivalence eq) (old
         };
       }
 
+  pub adds-rewritten-at : (j : ℕ) (new : MapState K V S) (w : V) → AddsEntry eq old mid k v (length old.entries)
+      → j ≡ length old.entries → new ≡ with_value mid j w
+      → AddsEntry eq old new k w (length old.entries)
+  adds-rewritten-at j new w s place is =
+      subst (λ m. AddsEntry eq old m k w (length old.entries)) (sym (is ∙ ap (λ i. with_value mid i w) place))
+      (adds-rewritten s w)
+
+module _ {K V S : Type 0} {eq : K → K → Bool} (laws : IsEquivalence eq) (old : MapState K V S) (new : Keyed K V S)
+    (k : K) (v : V) (n : Node) where
+  pub adds-written : AddsEntry eq old (state_of new) k v (length old.entries)
+      → place_number new.nodes (Some n) ≡ length old.entries → (w : V)
+      → AddsEntry eq old (state_of (with_value_at new n w)) k w (length old.entries)
+  adds-written s place w =
+      let j = place_number new.nodes (Some n) in
+      adds-rewritten-at laws old (state_of new) k v j (state_of (with_value_at new n w)) w s place
+      (ap (λ es. record (state_of new) { entries = es }) (values-renewed_value new.nodes j w))
+
   -- and what stands there before it is written
+  added-pair : AddsEntry eq old (state_of new) k v (length old.entries)
+      → place_number new.nodes (Some n) ≡ length old.entries
+      → slice_get (entries_of new) (place_number new.nodes (Some n)) ≡ Some (k, v)
+  added-pair s place =
+      let none = none_from_lookup (eq k) old.entries s.absent in
+      ap₂ slice_get (s.adds.entries ∙ put-absent eq old.entries k v (length old.entries) none) place
+      ∙ slice_get-inserted old.entries (length old.entries) (k, v) (omega arith)
+
   pub added-value : AddsEntry eq old (state_of new) k v (length old.entries)
       → place_number new.nodes (Some n) ≡ length old.entries
       → (u : V)
       → value_at (entries_of new) (place_number new.nodes (Some n)) ≡ Some u → u ≡ v
   added-value s place u at =
-      let none = none_from_lookup (eq k) old.entries s.absent in
-      let there : value_at (entries_of new) (place_number new.nodes (Some n)) ≡ Some v =
-      ap₂ value_at (s.adds.entries ∙ put-absent eq old.entries k v (length old.entries) none) place
-      ∙ ap (option_map (λ e. e.1)) (slice_get-inserted old.entries (length old.entries) (k, v) (omega arith)) in
+      let there : value_at (entries_of new) (place_number new.nodes (Some n)) ≡ Some v
+      = ap (option_map (λ e. e.1)) (added-pair s place) in
       cc
+
+  pub added-parts : AddsEntry eq old (state_of new) k v (length old.entries)
+      → place_number new.nodes (Some n) ≡ length old.entries
+      → (e : K × V)
+      → slice_get (entries_of new) (place_number new.nodes (Some n)) ≡ Some e → (e.0 ≡ k) × (e.1 ≡ v)
+  added-parts s place e at =
+      let there : Some (k, v) ≡ Some e = sym (added-pair s place) ∙ at in
+      let same : (k, v) ≡ e = cc in
+      (ap (λ p. p.0) (sym same), ap (λ p. p.1) (sym same))
 
 module _ {K V : Type 0} where
   -- the entry that moved to the end stands last

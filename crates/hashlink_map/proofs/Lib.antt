@@ -1,5 +1,14 @@
 pub mod Answering
+pub mod AtKey
 pub mod AtNode
 pub mod Calls
+pub mod CursorPairs
+pub mod LastMoved
+pub mod PairRows
+pub mod PairSteps
+pub mod PairTies
+pub mod PairValues
 pub mod Steps
+pub mod Taking
+pub mod Walking
 pub mod Written

@@ -1,19 +1,24 @@
 -- What an entry is once its value was written.
-use Rattle.std.proofs.Common.{◌≡◌, Bool, List, Some, ap, ap₂}
+use Rattle.std.proofs.Common.{◌≡◌, ◌∙◌, ℕ, Bool, List, Option, None, Some, refl, ap, ap₂}
+use Rattle.std.specs.Option.{option_map}
 use denote.Struct.Props.{props}
 use Rattle.std.specs.declared.cmp.PartialEq as eq
 use Rattle.std.specs.declared.hash.Hash as hash
 use Rattle.std.specs.declared.hash.Hasher as hasher
 use Rattle.std.specs.declared.hash.BuildHasher as builder
 use Rattle.hashlink_model.specs.MapState.{map_state}
-use Rattle.hashlink_core.specs.Keyed.{HoldsKey, pair_with_value}
-use Rattle.hashlink_core.specs.Places.{Node}
+use Rattle.hashlink_model.specs.Cursor.{with_value_in}
+use Rattle.hashlink_model.specs.Entries.{set_value_at}
+use Rattle.hashlink_core.specs.Keyed.{Keyed, HoldsKey, entries_of, state_of, pair_with_value}
+use Rattle.hashlink_core.specs.Places.{Node, Holds, place_number}
 use Rattle.hashlink_core.specs.KeyedLends.{with_value_at}
 use Rattle.hashlink_core.proofs.Mapped.{values-renewed_value}
 use Rattle.hashlink_core.proofs.Places.{place_number-renewed}
 use Rattle.hashlink_map.specs.declared.as_node.AsNode as as_node
 use Rattle.hashlink_map.specs.declared.entry.OccupiedEntry.{OccupiedEntry}
+use Rattle.hashlink_map.specs.declared.raw_entry.RawOccupiedEntryMut.{RawOccupiedEntryMut}
 use Rattle.hashlink_map.specs.Entry.{occupied_place, occupied_with, IsWritten}
+use Rattle.hashlink_map.specs.RawEntry.{raw_place, raw_with, RawIsWritten}
 
 HoldsKey-prop : {K V : Type 0} (eq : K → K → Bool) (ns : List (Node × (K × V))) (k : K) (n : Node)
     → IsProp (HoldsKey eq ns k n)
@@ -42,3 +47,42 @@ module _ {K V S T : Type 0} {g : eq.Ghosts K} {h : hash.Ghosts K} {b : builder.G
       ap (λ q. record (occupied_with o v) { stands = q })
       (HoldsKey-prop g.eq (with_value_at o.map.now (n.node o.node) v).nodes o.key (n.node o.node) p
       (occupied_with o v).stands)
+
+-- the same of a raw entry
+
+Holds-prop : {X : Type 0} (ns : List (Node × X)) (n : Node) → IsProp (Holds ns n)
+Holds-prop ns n = hlevel props
+
+module _ {K V S T : Type 0} {g : eq.Ghosts K} {h : hash.Ghosts K} {b : builder.Ghosts S T} {w : hasher.Ghosts T}
+    {N : Type 0} {n : as_node.Ghosts N} (o : RawOccupiedEntryMut K V S N T g h b w n) (v : V) where
+  pub raw_is_written : RawIsWritten o v (raw_with o v)
+  raw_is_written =
+      let m = o.map.now in
+      ap₂ (λ es i. record { map = map_state es m.spare m.room m.link_writes m.hasher; place = Some i })
+      (values-renewed_value m.nodes (raw_place o) v)
+      (place_number-renewed (pair_with_value v) m.nodes (raw_place o) (Some (n.node o.node)))
+
+  pub raw_with-is : (p : Holds (with_value_at o.map.now (n.node o.node) v).nodes (n.node o.node))
+      → record { map = record o.map { now = with_value_at o.map.now (n.node o.node) v }; node = o.node; stands = p }
+      ≡ raw_with o v
+  raw_with-is p =
+      ap (λ q. record (raw_with o v) { stands = q })
+      (Holds-prop (with_value_at o.map.now (n.node o.node) v).nodes (n.node o.node) p (raw_with o v).stands)
+
+-- a cursor once a value of its map was written
+pub cursor_written : {K V S : Type 0} (m : Keyed K V S) (n : Node) (p : Option Node) (i : ℕ) (v : V)
+    → place_number m.nodes (Some n) ≡ i
+    → record {
+      map = state_of (with_value_at m n v);
+      place = place_number (with_value_at m n v).nodes p;
+    }
+    ≡ with_value_in (record { map = state_of m; place = place_number m.nodes p }) i v
+cursor_written m n p i v at =
+    ap₂ (λ es q. record { map = map_state es m.spare m.room m.link_writes m.hasher; place = q })
+    (values-renewed_value m.nodes (place_number m.nodes (Some n)) v ∙ ap (λ j. set_value_at (entries_of m) j v) at)
+    (place_number-renewed (pair_with_value v) m.nodes (place_number m.nodes (Some n)) p)
+
+-- a node as what stands for one
+pub same_place : (p : Option Node) → option_map (λ n. n) p ≡ p
+same_place None = refl
+same_place (Some n) = refl

@@ -1,6 +1,6 @@
 -- What a map ends as, once a `&mut` to a value has ended.
 use Rattle.std.specs.Prelude.{◌≡◌, ℕ, Option, OnSome}
-use Rattle.std.specs.Borrow.{Fml, RattleType, MutBor, Lends, LendsSo}
+use Rattle.std.specs.Borrow.{Fml, GName, RattleType, MutBor, Lends, LendsSo, follows}
 use Rattle.std.specs.declared.hash.Hasher as hasher
 use Rattle.std.specs.declared.hash.BuildHasher as builder
 use Rattle.hashlink_model.specs.Steps.{with_value_of, MovesAndWrites}
@@ -13,6 +13,10 @@ module _ (K V S T : RattleType) (g : HashMembers K.Denot) (b : builder.Ghosts S.
     (w : hasher.Ghosts T.Denot) where
   abbrev pub map_row : RattleType
   map_row = the_row K V S T (record { eq = g.eq }) (record { hash_input = g.hash_input }) b w
+
+  -- the map ends as what has it under this name leaves it
+  abbrev pub HandsOn : MutBor (Keyed K.Denot V.Denot S.Denot) → GName → Fml
+  HandsOn m name = follows map_row map_row m.ghost_name name (λ new. new)
 
   -- the value of the node is lent: the map ends with what was written there
   abbrev pub LendsAtNode : MutBor (Keyed K.Denot V.Denot S.Denot) → Node → MutBor V.Denot → Fml

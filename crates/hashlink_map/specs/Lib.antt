@@ -1,5 +1,12 @@
 -- What the contracts of the map cite, beside `hashlink_model`.
+pub mod Cursor
+pub mod CursorLends
+pub mod Drain
 pub mod Entry
 pub mod EntryLends
+pub mod IterMut
+pub mod IterMutLends
 pub mod Lends
+pub mod RawEntry
+pub mod RawLends
 pub mod Standing

@@ -1,12 +1,24 @@
 -- Where a node stands after a step, and that it still holds its keys.
-use Rattle.std.specs.Prelude.{◌≡◌, ℕ, zero, suc, ◌+◌, Bool, cond, List, [], ◌∷◌, Some}
+use Rattle.std.specs.Prelude.{◌≡◌, ℕ, zero, suc, ◌+◌, Bool, cond, List, [], ◌∷◌, Option, None, Some}
 use Rattle.std.specs.Option.{option_map}
 use Rattle.std.specs.Map.{values_of}
 use Rattle.std.proofs.Common.{refl, sym, ap, ◌∙◌}
 use Rattle.hashlink_model.specs.Entries.{place_of}
-use Rattle.hashlink_core.specs.Places.{Node, Holds, place_number, renewed_at}
+use Rattle.hashlink_core.specs.Places.{Node, Holds, IsPlace, place_number, renewed_at}
 use Rattle.hashlink_core.specs.Keyed.{Keyed, HoldsKey, pair_with_value}
+use Rattle.hashlink_core.specs.Walk.{StandsBetween}
 use Rattle.hashlink_core.proofs.Places.{place_number-renewed, renewed-holds}
+use denote.Struct.Props.{props}
+
+-- where a walk stands is a fact
+pub StandsBetween-prop : {X : Type 0} (ns : List (Node × X)) (first last : Option Node) (left : ℕ)
+    → IsProp (StandsBetween ns first last left)
+StandsBetween-prop ns first last left = hlevel props
+
+-- that a place is of the list is a fact
+pub IsPlace-prop : {X : Type 0} (ns : List (Node × X)) (p : Option Node) → IsProp (IsPlace ns p)
+IsPlace-prop ns None = hlevel props
+IsPlace-prop ns (Some n) = hlevel props
 
 -- the node is there, at the place p, and holds each key that it held
 pub record StaysHeld {K V S : Type 0} (eq : K → K → Bool) (old new : Keyed K V S) (n : Node) (p : ℕ) : Type 0 where
@@ -22,7 +34,18 @@ module _ {K V : Type 0} (v : V) where
   key_place-renewed test (e ∷ es) (suc j) =
       ap (λ o. cond (test e.1.0) (Some 0) (option_map (λ i. i + 1) o)) (key_place-renewed test es j)
 
-  -- so it is with a value that is written
+  -- a node that is there stays there with a value that is written
+  pub still_holds : (ns : List (Node × (K × V))) (n : Node) → Holds ns n
+      → Holds (renewed_at (pair_with_value v) ns (place_number ns (Some n))) n
+  still_holds ns n h = renewed-holds (pair_with_value v) ns (place_number ns (Some n)) n h
+
+  -- and so does any place
+  pub still_placed : (ns : List (Node × (K × V))) (j : ℕ) (p : Option Node) → IsPlace ns p
+      → IsPlace (renewed_at (pair_with_value v) ns j) p
+  still_placed ns j None within = tt
+  still_placed ns j (Some n) within = renewed-holds (pair_with_value v) ns j n within
+
+  -- and holds the keys that it held
   pub still_holds_key : {eq : K → K → Bool} (ns : List (Node × (K × V))) (k : K) (n : Node) → HoldsKey eq ns k n
       → HoldsKey eq (renewed_at (pair_with_value v) ns (place_number ns (Some n))) k n
   still_holds_key {eq = eq} ns k n h =

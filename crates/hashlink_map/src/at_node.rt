@@ -2,11 +2,11 @@
 ghost use Rattle.std.specs.Prelude.{◌≡◌, ◌-◌, length, slice_get, None, Some, IfOk};
 ghost use Rattle.std.specs.Borrow.{sem};
 ghost use Rattle.std.specs.Map.Iter.{deref_pair};
-ghost use Rattle.hashlink_model.specs.Entries.{place_of};
+ghost use Rattle.hashlink_model.specs.Entries.{place_of, IsEntries};
 ghost use Rattle.hashlink_model.specs.MapState.{MovesAt};
 ghost use Rattle.hashlink_model.specs.Entry.{value_at, InsertsValue, InsertsEntry, ReplacesEntry, ReplacesKey};
 ghost use Rattle.hashlink_model.specs.Entry.{ReplacesValue, TakesEntry, VacantInserts};
-ghost use Rattle.hashlink_core.specs.Keyed.{state_of, entries_of, HoldsKey};
+ghost use Rattle.hashlink_core.specs.Keyed.{state_of, entries_of, HoldsKey, EqualsKeyAt};
 ghost use Rattle.hashlink_core.specs.Places.{Holds, place_number};
 ghost use Rattle.hashlink_core.specs.Tied.{hash_with};
 
@@ -28,6 +28,18 @@ impl<K: Eq + Hash, V, S: BuildHasher> LinkedHashMap<K, V, S> {
         self.list.entry(node)
     }
 
+    /// The key of the node, and its value for writing.
+    #[inline]
+    pub(crate) fn pair_at_mut(&mut self, node: Node) -> (&K, &mut V)
+        requires { Holds self.old.nodes node }
+        ensures* lends { sem 𝓛 (LendsAtNode K.row V.row S.row S.Hasher.row K.Hash S.BuildHasher S.Hasher.Hasher
+            self.entry node result.1) }
+        ensures pair { slice_get (entries_of self.old) (place_number self.old.nodes (Some node))
+            ≡ Some (result.0.now, result.1.now) }
+    {
+        self.list.entry_mut(node)
+    }
+
     /// The value of the node, for writing.
     #[inline]
     pub(crate) fn value_at_mut(&mut self, node: Node) -> &mut V
@@ -46,6 +58,9 @@ impl<K: Eq + Hash, V, S: BuildHasher> LinkedHashMap<K, V, S> {
         ensures moves { MovesAt (state_of self.old) (state_of self.new) (place_number self.old.nodes (Some node))
             (length (entries_of self.old)) }
         ensures stays { StaysHeld K.eq self.old self.new node (length (entries_of self.old) - 1) }
+
+        // No two keys are equal, of this map as of every map.
+        ensures distinct { IsEntries K.eq (entries_of self.old) }
     {
         self.list.move_before(node, None);
     }
@@ -74,7 +89,8 @@ impl<K: Eq + Hash, V, S: BuildHasher> LinkedHashMap<K, V, S> {
     /// Puts an equal key in where the node stands, and answers the old one.
     #[inline]
     pub(crate) fn replace_key_at(&mut self, node: Node, key: K) -> K
-        requires { HoldsKey K.eq self.old.nodes key node }
+        requires held { Holds self.old.nodes node }
+        requires equal { EqualsKeyAt K.eq (entries_of self.old) (place_number self.old.nodes (Some node)) key }
         ensures replaces { ReplacesKey (state_of self.old) (state_of self.new)
             (place_number self.old.nodes (Some node)) key result }
         ensures stays { StaysHeld K.eq self.old self.new node (place_number self.old.nodes (Some node)) }

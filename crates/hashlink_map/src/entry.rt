@@ -24,6 +24,9 @@ pub enum Entry<'a, K: Eq + Hash, V, S: BuildHasher = DefaultHashBuilder> {
 }
 
 /// An entry that is there, with a key in hand that equals its key.
+///
+/// A caller who is generic in the key, and wants to prove what the map is afterwards, ends it by `into_key` or by
+/// another call that takes it by value: of an occupied entry that is dropped a contract says nothing.
 #[derive(Drop)]
 pub struct OccupiedEntry<
     'a,
@@ -39,11 +42,22 @@ pub struct OccupiedEntry<
 }
 
 /// A key in hand that the map does not have.
-#[derive(Drop)]
 pub struct VacantEntry<'a, K: Eq + Hash, V, S: BuildHasher = DefaultHashBuilder> {
     pub(crate) map: &'a mut LinkedHashMap<K, V, S>,
     pub(crate) hash: u64,
     pub(crate) key: K,
     ghost hashed: { hash ≡ hash_with S.build_hasher S.Hasher.write S.Hasher.finish K.hash_input map.now.hasher key },
     ghost absent: { place_of (K.eq key) (entries_of map.now) ≡ None },
+}
+
+impl<K: Eq + Hash + Drop, V, S: BuildHasher> Drop for VacantEntry<'_, K, V, S> {
+    fn drop(self)
+        ensures { self.exit.0.now ≡ self.entry.map.now }
+    {
+        let VacantEntry {
+            map: _,
+            hash: _,
+            key: _,
+        } = self;
+    }
 }

@@ -3,11 +3,25 @@
 
 mod as_node;
 mod at_node;
+mod at_place;
 pub mod callers;
+mod cursor;
+mod drain;
 mod entry;
+mod into_iter;
+mod iter_mut;
 mod map;
+mod raw_entry;
+mod texts;
 
 pub use as_node::AsNode;
+pub use cursor::CursorMut;
+pub use drain::Drain;
 pub use entry::{Entry, OccupiedEntry, VacantEntry};
-pub use hashlink_core::{DefaultHashBuilder, DefaultHasher, Iter, TryReserveError};
+pub use hashlink_core::{DefaultHashBuilder, DefaultHasher, Iter, Keys, TryReserveError, Values};
+pub use into_iter::IntoIter;
+pub use iter_mut::IterMut;
 pub use map::LinkedHashMap;
+pub use raw_entry::{
+    RawEntryBuilder, RawEntryBuilderMut, RawEntryMut, RawOccupiedEntryMut, RawVacantEntryMut,
+};

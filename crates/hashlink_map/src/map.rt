@@ -11,8 +11,10 @@ mod memory;
 mod moves;
 mod reads;
 mod removals;
+mod retains;
+mod walks;
 
-use hashlink_core::{DefaultHashBuilder, Iter, KeyedList, TryReserveError};
+use hashlink_core::{DefaultHashBuilder, KeyedList, TryReserveError};
 use std::alloc::Global;
 use std::hash::{BuildHasher, Hash};
 use std::marker::Model;
@@ -117,12 +119,5 @@ impl<K: Eq + Hash, V, S: BuildHasher> LinkedHashMap<K, V, S> {
         ensures { result.now ≡ self.now.hasher }
     {
         self.list.hasher()
-    }
-
-    /// A walk over the entries, front first. It takes no memory, and each step takes constant time.
-    pub fn iter(&self) -> Iter<'_, K, V>
-        ensures { result ≡ entries_of self.now }
-    {
-        self.list.iter()
     }
 }

@@ -1,6 +1,7 @@
 -- Lemmas on the definitions, which the crates above cite too.
 pub mod Splits
 pub mod Distinct
+pub mod Filtered
 pub mod Finds
 pub mod Puts
 pub mod Afterwards

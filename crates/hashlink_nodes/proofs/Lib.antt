@@ -6,6 +6,7 @@ pub mod Changing
 pub mod CountSteps
 pub mod Ending
 pub mod Entries
+pub mod Lending
 pub mod LooseSteps
 pub mod Moving
 pub mod Neighbours

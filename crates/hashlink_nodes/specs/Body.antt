@@ -7,4 +7,4 @@ use Rattle.hashlink_nodes.specs.declared.held.Held.{Held}
 -- nothing, or a number and a pair
 abbrev pub held_in_slot : {K V : Type 0} → Slot K V → Option (Held K V)
 held_in_slot Bare = None
-held_in_slot (Full high low k v) = Some (record { number = high * 2 ^ 32 + low; key = k; value = v })
+held_in_slot (Full high low p) = Some (record { number = high * 2 ^ 32 + low; key = p.key; value = p.value })

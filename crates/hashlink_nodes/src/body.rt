@@ -23,22 +23,40 @@ pub(crate) enum Slot<K, V> {
     Full {
         number_high: u16,
         number_low: u32,
-        key: K,
-        value: V,
+        pair: Pair<K, V>,
     },
+}
+
+/// A key and its value.
+pub(crate) struct Pair<K, V> {
+    key: K,
+    value: V,
+}
+
+impl<K, V> Pair<K, V> {
+    ghost use Rattle.hashlink_nodes.specs.SlotLends.{LendsValueBeside};
+
+    #[inline]
+    fn entry_mut(&mut self) -> (&K, &mut V)
+        ensures* lends { sem 𝓛 (LendsValueBeside K.row V.row self.entry result.1) }
+        ensures key { result.0.now ≡ self.old.key }
+        ensures value { result.1.now ≡ self.old.value }
+    {
+        (&self.key, &mut self.value)
+    }
 }
 
 impl<K, V> Slot<K, V> {
     ghost use Rattle.hashlink_nodes.specs.SlotLends.{LendsValueIn};
 
     #[inline]
-    fn value_mut(&mut self) -> &mut V
+    fn entry_mut(&mut self) -> (&K, &mut V)
         requires { IsSome (held_in_slot self.old) }
-        ensures* lends { sem 𝓛 (LendsValueIn K.row V.row self.entry result) }
-        ensures value { option_map (λ h. h.value) (held_in_slot self.old) ≡ Some result.now }
+        ensures* lends { sem 𝓛 (LendsValueIn K.row V.row self.entry result.1) }
+        ensures pair { option_map pair_of (held_in_slot self.old) ≡ Some (result.0.now, result.1.now) }
     {
         match self {
-            Slot::Full { value, .. } => value,
+            Slot::Full { pair, .. } => pair.entry_mut(),
             Slot::Bare => unreachable!(),
         }
     }
@@ -94,18 +112,18 @@ impl<K, V> Body<K, V> {
         ensures { option_map pair_of self.now ≡ Some (result.0.now, result.1.now) }
     {
         match &self.slot {
-            Slot::Full { key, value, .. } => (key, value),
+            Slot::Full { pair, .. } => (&pair.key, &pair.value),
             Slot::Bare => unreachable!(),
         }
     }
 
     #[inline]
-    pub(crate) fn value_mut(&mut self) -> &mut V
+    pub(crate) fn entry_mut(&mut self) -> (&K, &mut V)
         requires { IsSome self.old }
-        ensures* lends { sem 𝓛 (LendsValueOf K.row V.row self.entry result) }
-        ensures value { option_map (λ h. h.value) self.old ≡ Some result.now }
+        ensures* lends { sem 𝓛 (LendsValueOf K.row V.row self.entry result.1) }
+        ensures pair { option_map pair_of self.old ≡ Some (result.0.now, result.1.now) }
     {
-        self.slot.value_mut()
+        self.slot.entry_mut()
     }
 
     #[inline]
@@ -115,7 +133,7 @@ impl<K, V> Body<K, V> {
         ensures is { self.new ≡ option_map (λ h. with_value h value) self.old }
     {
         match &mut self.slot {
-            Slot::Full { value: old, .. } => mem::replace(old, value),
+            Slot::Full { pair, .. } => mem::replace(&mut pair.value, value),
             Slot::Bare => unreachable!(),
         }
     }
@@ -126,7 +144,7 @@ impl<K, V> Body<K, V> {
         ensures is { self.new ≡ option_map (λ h. with_key h key) self.old }
     {
         match &mut self.slot {
-            Slot::Full { key: old, .. } => mem::replace(old, key),
+            Slot::Full { pair, .. } => mem::replace(&mut pair.key, key),
             Slot::Bare => unreachable!(),
         }
     }
@@ -161,8 +179,7 @@ impl<K, V> Body<K, V> {
             Some(Held { number, key, value }) => Slot::Full {
                 number_high: (number / LOW) as u16,
                 number_low: (number % LOW) as u32,
-                key,
-                value,
+                pair: Pair { key, value },
             },
             None => Slot::Bare,
         };
@@ -181,8 +198,7 @@ impl<K, V> Body<K, V> {
             Slot::Full {
                 number_high,
                 number_low,
-                key,
-                value,
+                pair: Pair { key, value },
             } => Some(Held {
                 number: number_high as usize * LOW + number_low as usize,
                 key,

@@ -114,16 +114,16 @@ impl<K, V> Cells<K, V> {
         block.held.put(held)
     }
 
-    /// Lends the value.
+    /// Lends the value, beside the key.
     #[inline]
-    pub(crate) fn value_mut(&mut self, node: Node) -> &mut V
+    pub(crate) fn entry_mut(&mut self, node: Node) -> (&K, &mut V)
         requires has { (state_of self.old).has node ≡ true }
         requires held { IsSome ((state_of self.old).held node) }
-        ensures* lends { sem 𝓛 (LendsCellValue K.row V.row self.entry node result) }
-        ensures value { option_map (λ h. h.value) ((state_of self.old).held node) ≡ Some result.now }
+        ensures* lends { sem 𝓛 (LendsCellValue K.row V.row self.entry node result.1) }
+        ensures pair { option_map pair_of ((state_of self.old).held node) ≡ Some (result.0.now, result.1.now) }
     {
         let block: &mut Block<K, V> = self.arena.get_mut(node);
-        block.held.value_mut()
+        block.held.entry_mut()
     }
 
     /// Puts a value in, and answers the old one.

@@ -89,7 +89,9 @@ fn an_entry_is_moved_and_changed(rt: HostRuntime) {
     assert_eq!(rt; nodes.number(node), 7);
     nodes.set_number(node, 8);
     let node = first(&nodes).expect(&rt, "a first node");
-    *nodes.value_mut(node) = 5;
+    let (key, value) = nodes.entry_mut(node);
+    assert_eq!(rt; (*key, *value), (0, 0));
+    *value = 5;
     let node = first(&nodes).expect(&rt, "a first node");
     nodes.move_before(node, None);
     let node = last(&nodes).expect(&rt, "a last node");

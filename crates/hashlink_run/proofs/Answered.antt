@@ -1,5 +1,5 @@
 -- What may answer a text, worked out line by line.
-use Rattle.std.proofs.Common.{◌≡◌, ℕ, ◌+◌, ◌≤◌, ◌++◌, ◌⊎◌, false, List, [], ◌∷◌, Option, None, Some, Result, Ok, Err}
+use Rattle.std.proofs.Common.{◌≡◌, ℕ, ◌+◌, ◌≤◌, ◌++◌, ◌⊎◌, List, [], ◌∷◌, Option, None, Some, Result, Ok, Err}
 use Rattle.std.proofs.Common.{codes}
 use Rattle.std.proofs.Common.{nat_eq, refl, ap, ◌∙◌, inl, inr, ⊎_elim, lit≤}
 use Rattle.std.specs.Fmt.{digits}
@@ -10,18 +10,21 @@ use Rattle.hashlink_core.specs.declared.hash_builder.DefaultHashBuilder.{Default
 use Rattle.hashlink_core.specs.Hashing.{default_builder}
 use Rattle.hashlink_commands.specs.declared.commands.Command.{Command}
 use Rattle.hashlink_commands.specs.declared.commands.Command.TheVariants.{Insert, Get, Remove}
-use Rattle.hashlink_commands.specs.declared.line.Line.TheVariants.{Do, Iter}
+use Rattle.hashlink_commands.specs.Says.{Do, Iter}
 use Rattle.hashlink_commands.specs.declared.replies.Reply.{Reply}
 use Rattle.hashlink_commands.specs.declared.replies.Reply.TheVariants.{Value, Seen}
-use Rattle.hashlink_run.specs.Step.{Step, SaysOf, insert_reply}
+use Rattle.hashlink_run.specs.Reads.{SaysOf}
+use Rattle.hashlink_run.specs.CallReplies.{insert_reply}
+use Rattle.hashlink_run.specs.Step.{Step}
 use Rattle.hashlink_run.specs.Text.{IsTranscript}
-use Rattle.hashlink_run.specs.Transcript.{Shows, ShowsAll, Itself, ended, shown_by, read_shown, list_shown}
+use Rattle.hashlink_run.specs.Transcript.{Shows, ShowsAll, Itself, ended, read_shown, list_shown}
 use Rattle.hashlink_run.specs.Transcript.{reply_shown}
 use Rattle.hashlink_run.specs.Transcript.{replies_shown}
+use Rattle.hashlink_run.specs.declared.shown.Form.TheVariants.{OfValue}
 
 -- the lines that show what is read of the entries by `get 1` and `iter`
 abbrev value_read : List (ℕ × ℕ) → ℕ → List ℕ
-value_read es k = shown_by (read_shown false) (lookup_entry (nat_eq k) es)
+value_read es k = read_shown OfValue (lookup_entry (nat_eq k) es)
 
 abbrev read_lines : List (ℕ × ℕ) → List ℕ
 read_lines es = ended (value_read es 1) ++ (ended (list_shown es) ++ [])
@@ -30,7 +33,7 @@ abbrev Replies : Type 0
 Replies = List (Reply ℕ ℕ (ℕ × ℕ))
 
 -- of a pair that is read, the pair itself is said
-said_itself : (pair said : Option (ℕ × ℕ)) → SaysOf Itself pair said → said ≡ pair
+pub said_itself : (pair said : Option (ℕ × ℕ)) → SaysOf Itself pair said → said ≡ pair
 said_itself None None s = refl
 said_itself None (Some q) s = absurd s
 said_itself (Some p) None s = absurd s
@@ -39,24 +42,24 @@ said_itself (Some p) (Some q) s = ap Some s
 module _ {S : Type 0} where
   got : (old new : MapState ℕ ℕ S) (k : ℕ) (replies : Replies) (answer : List ℕ)
       → Step nat_eq Itself old (Get k) replies new
-      → answer ≡ replies_shown (Get k) replies → (answer ≡ value_read old.entries k) × (new ≡ old)
+      → answer ≡ replies_shown OfValue replies → (answer ≡ value_read old.entries k) × (new ≡ old)
   got old new k replies answer s shown =
-      let said = said_itself (lookup_entry (nat_eq k) old.entries) s.1 s.2 in
-      (shown ∙ ap (replies_shown (Get k)) s.3 ∙ ap (shown_by (read_shown false)) said, s.0)
+      let said = said_itself (lookup_entry (nat_eq k) old.entries) s.1.0 s.1.1 in
+      (shown ∙ ap (replies_shown OfValue) s.1.2 ∙ ap (read_shown OfValue) said, s.0)
 
   -- the first insert is done or refused
   inserted_by : (s : S) (new : MapState ℕ ℕ S) (r : Result (Option ℕ) (ℕ × ℕ)) (answer : List ℕ)
-      → Inserts nat_eq (empty_map s) new 1 10 0 r → answer ≡ reply_shown false (insert_reply r)
+      → Inserts nat_eq (empty_map s) new 1 10 0 r → answer ≡ reply_shown OfValue (insert_reply r)
       → ((answer ≡ codes "-") × (new.entries ≡ (1, 10) ∷ [])) ⊎ ((answer ≡ codes "memory") × (new.entries ≡ []))
   inserted_by s new (Ok None) answer a shown = inl (shown, a.adds.entries)
   inserted_by s new (Ok (Some w)) answer a shown = absurd (cc a.old_value)
   inserted_by s new (Err pair) answer a shown = inr (shown, a.grows.entries)
 
   inserted : (s : S) (new : MapState ℕ ℕ S) (replies : Replies) (answer : List ℕ)
-      → Step nat_eq Itself (empty_map s) (Insert 1 10) replies new → answer ≡ replies_shown (Insert 1 10) replies
+      → Step nat_eq Itself (empty_map s) (Insert 1 10) replies new → answer ≡ replies_shown OfValue replies
       → ((answer ≡ codes "-") × (new.entries ≡ (1, 10) ∷ [])) ⊎ ((answer ≡ codes "memory") × (new.entries ≡ []))
   inserted s new replies answer a shown = inserted_by s new a.0 answer a.1 (shown
-      ∙ ap (replies_shown (Insert 1 10)) a.2)
+      ∙ ap (replies_shown OfValue) a.2)
 
   was_listed : (old new : MapState ℕ ℕ S) (text : List ℕ) → ShowsAll old (codes "iter" ∷ []) text new
       → text ≡ ended (list_shown old.entries) ++ []
@@ -104,17 +107,18 @@ bad_answers text t =
 
 -- ---- a run in which no insert is refused
 
-few : (most old new : ℕ) → old ≤ new → new ≤ old + most → StoresAtMost most old new
+pub few : (most old new : ℕ) → old ≤ new → new ≤ old + most → StoresAtMost most old new
 few most old new grows bound = record { grows = grows; bound = bound }
 
-abbrev state : List (ℕ × ℕ) → ℕ → ℕ → ℕ → MapState ℕ ℕ DefaultHashBuilder
+abbrev pub state : List (ℕ × ℕ) → ℕ → ℕ → ℕ → MapState ℕ ℕ DefaultHashBuilder
 state es spare room writes = map_state es spare room writes default_builder
 
-abbrev Stepped : MapState ℕ ℕ DefaultHashBuilder → Command ℕ ℕ → Reply ℕ ℕ (ℕ × ℕ) → MapState ℕ ℕ DefaultHashBuilder
+abbrev pub Stepped : MapState ℕ ℕ DefaultHashBuilder → Command ℕ ℕ → Reply ℕ ℕ (ℕ × ℕ)
+    → MapState ℕ ℕ DefaultHashBuilder
     → Type 0
 Stepped old command reply new = Step nat_eq Itself old command (reply ∷ []) new
 
-first_insert : Stepped (empty_map default_builder) (Insert 1 10) (Value None) (state ((1, 10) ∷ []) 0 1 4)
+pub first_insert : Stepped (empty_map default_builder) (Insert 1 10) (Value None) (state ((1, 10) ∷ []) 0 1 4)
 first_insert =
     let adds : Adds (empty_map default_builder) (state ((1, 10) ∷ []) 0 1 4) ((1, 10) ∷ []) = record {
       entries = refl;
@@ -156,7 +160,7 @@ insert_again =
 
 read : Stepped (state ((2, 20) ∷ (1, 11) ∷ []) 0 2 14) (Get 1) (Seen (Some (1, 11)))
     (state ((2, 20) ∷ (1, 11) ∷ []) 0 2 14)
-read = (refl, Some (1, 11), refl, refl)
+read = (refl, (Some (1, 11), refl, refl))
 
 removal : Stepped (state ((2, 20) ∷ (1, 11) ∷ []) 0 2 14) (Remove 2) (Value (Some 20)) (state ((1, 11) ∷ []) 1 2 17)
 removal =

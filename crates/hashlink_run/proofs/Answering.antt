@@ -23,20 +23,20 @@ module _ {K V B S : Type 0} (eq : K → K → Bool) (Says : K → V → B → Ty
   HasAnswered-none start all = record { done = []; answers = []; is = refl; run = tt; joined = refl; reached = refl }
 
   module _ {start now : MapState K V S} {all : List (Command K V)} {replies : List (Reply K V B)} where
-    pub HasAnswered-more : (command : Command K V) (rest : List (Command K V)) (reply : Reply K V B)
+    pub HasAnswered-more : (command : Command K V) (rest : List (Command K V)) (more : List (Reply K V B))
         (next : MapState K V S)
-        → HasAnswered start now all (command ∷ rest) replies → Step eq Says now command (reply ∷ []) next
-        → HasAnswered start next all rest (replies ++ reply ∷ [])
-    HasAnswered-more command rest reply next h step =
-        let answered : Answered K V B S = record { replies = reply ∷ []; state = next } in
-        let from : Step eq Says (state_after start h.answers) command (reply ∷ []) next =
-        subst (λ m. Step eq Says m command (reply ∷ []) next) h.reached step in
+        → HasAnswered start now all (command ∷ rest) replies → Step eq Says now command more next
+        → HasAnswered start next all rest (replies ++ more)
+    HasAnswered-more command rest more next h step =
+        let answered : Answered K V B S = record { replies = more; state = next } in
+        let from : Step eq Says (state_after start h.answers) command more next =
+        subst (λ m. Step eq Says m command more next) h.reached step in
         record {
           done = h.done ++ command ∷ [];
           answers = h.answers ++ answered ∷ [];
           is = h.is ∙ sym (append_assoc h.done (command ∷ []) rest);
           run = Run-more eq Says start h.done h.answers command answered h.run from;
-          joined = ap (λ rs. rs ++ reply ∷ []) h.joined ∙ sym (replies_of-more h.answers answered);
+          joined = ap (λ rs. rs ++ more) h.joined ∙ sym (replies_of-more h.answers answered);
           reached = sym (state_after-append start h.answers (answered ∷ []));
         }
 

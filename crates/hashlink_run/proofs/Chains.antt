@@ -1,7 +1,7 @@
 -- Chains of steps: how they grow, and the nodes along them.
 use Rattle.std.proofs.Common.{◌≡◌, ℕ, zero, suc, ◌≤◌, Bool, true, List, [], ◌∷◌, ◌++◌, length}
 use Rattle.std.proofs.Common.{take, drop}
-use Rattle.std.proofs.Common.{Option, None, Some, refl, sym, ap, ◌∙◌, subst, arith, append-nil}
+use Rattle.std.proofs.Common.{refl, sym, ap, ◌∙◌, subst, arith, append-nil}
 use Rattle.std.specs.List.{AllPass}
 use Rattle.std.specs.Map.{lookup_entry}
 use Rattle.std.proofs.lemmas.List.{take-take}
@@ -18,34 +18,36 @@ use Rattle.hashlink_commands.specs.declared.commands.Command.{Command}
 use Rattle.hashlink_commands.specs.declared.commands.Command.TheVariants.{Insert, InsertFront, Replace, Get, Remove}
 use Rattle.hashlink_commands.specs.declared.commands.Command.TheVariants.{RemoveEntry, PopFront, PopBack, ToFront}
 use Rattle.hashlink_commands.specs.declared.commands.Command.TheVariants.{ToBack}
-use Rattle.hashlink_commands.specs.declared.commands.Command.TheVariants.{Front, Back, Len, Clear, Shrink}
+use Rattle.hashlink_commands.specs.declared.commands.Command.TheVariants.{Front, Back, Len, Clear, Shrink, Entry}
+use Rattle.hashlink_commands.specs.declared.commands.Command.TheVariants.{Cursor}
 use Rattle.hashlink_commands.specs.declared.replies.Reply.{Reply}
-use Rattle.hashlink_run.specs.Step.{Step, SaysOf, Reads}
+use Rattle.hashlink_run.specs.Step.{Step}
 use Rattle.hashlink_run.specs.Run.{Answered, Run, replies_of, state_after, passed_at, keeps_nodes, passed_by, after}
 use Rattle.hashlink_run.specs.Run.{StaysWithinPeak, TakesKeysWhereShorter}
+use Rattle.hashlink_run.proofs.CursorNodes.{cursor-keeps, cursor-wider}
+use Rattle.hashlink_run.proofs.EntryNodes.{kept_unchanged, entry-keeps, replies-wider, reads-wider, entry-wider}
 
 -- ---- the nodes at one step
 
 module _ {K V B S : Type 0} (eq : K → K → Bool) (Says : K → V → B → Type 0) (old new : MapState K V S) where
-  kept_unchanged : new ≡ old → KeepsNodes old new
-  kept_unchanged s = let same = ap node_count s in omega arith
-
   -- a command but a clear and a shrink
   step-keeps : (command : Command K V) (replies : List (Reply K V B)) → keeps_nodes command ≡ true
       → Step eq Says old command replies new → KeepsNodes old new
   step-keeps (Insert k v) replies keeps s = kept-inserts old new eq k v (length old.entries) s.0 s.1
   step-keeps (InsertFront k v) replies keeps s = kept-inserts old new eq k v 0 s.0 s.1
   step-keeps (Replace k v) replies keeps s = kept-replaces old new eq k v s.0 s.1
-  step-keeps (Get k) replies keeps s = kept_unchanged s.0
+  step-keeps (Get k) replies keeps s = kept_unchanged old new s.0
   step-keeps (Remove k) replies keeps s = kept-removes_key old new eq k _ s.0
   step-keeps (RemoveEntry k) replies keeps s = kept-removes_key old new eq k _ s.0
   step-keeps PopFront replies keeps s = kept-pops_front old new _ s.0
   step-keeps PopBack replies keeps s = kept-pops_back old new _ s.0
   step-keeps (ToFront k) replies keeps s = kept-moves old new eq k 0 _ s.0
   step-keeps (ToBack k) replies keeps s = kept-moves old new eq k (length old.entries) _ s.0
-  step-keeps Front replies keeps s = kept_unchanged s.0
-  step-keeps Back replies keeps s = kept_unchanged s.0
-  step-keeps Len replies keeps s = kept_unchanged s.0
+  step-keeps Front replies keeps s = kept_unchanged old new s.0
+  step-keeps Back replies keeps s = kept_unchanged old new s.0
+  step-keeps Len replies keeps s = kept_unchanged old new s.0
+  step-keeps (Entry k step) replies keeps s = entry-keeps old new Says replies k eq step s
+  step-keeps (Cursor steps) replies keeps s = cursor-keeps eq Says old new steps.items replies s
   step-keeps Clear replies keeps s = cc
   step-keeps Shrink replies keeps s = cc
 
@@ -67,6 +69,8 @@ module _ {K V B S : Type 0} (eq : K → K → Bool) (Says : K → V → B → Ty
   step-passes Front replies s = passes-kept old new (step-keeps Front replies refl s)
   step-passes Back replies s = passes-kept old new (step-keeps Back replies refl s)
   step-passes Len replies s = passes-kept old new (step-keeps Len replies refl s)
+  step-passes (Entry k step) replies s = passes-kept old new (step-keeps (Entry k step) replies refl s)
+  step-passes (Cursor steps) replies s = passes-kept old new (step-keeps (Cursor steps) replies refl s)
 
 -- ---- chains
 
@@ -158,33 +162,23 @@ module _ {K V B S : Type 0} where
 
 -- ---- what one closure says another may say too
 
-module _ {K V B : Type 0} (P Q : K → V → B → Type 0) (wider : (k : K) (v : V) (b : B) → P k v b → Q k v b) where
-  said-wider : (pair : Option (K × V)) (said : Option B) → SaysOf P pair said → SaysOf Q pair said
-  said-wider None None s = tt
-  said-wider None (Some b) s = absurd s
-  said-wider (Some pair) None s = absurd s
-  said-wider (Some pair) (Some b) s = wider pair.0 pair.1 b s
-
-  module _ {S : Type 0} (eq : K → K → Bool) where
-    reads-wider : (old : MapState K V S) (pair : Option (K × V)) (replies : List (Reply K V B)) (new : MapState K V S)
-        → Reads eq P old pair replies new → Reads eq Q old pair replies new
-    reads-wider old pair replies new s = (s.0, s.1, said-wider pair s.1 s.2, s.3)
-
-    pub step-wider : (old : MapState K V S) (command : Command K V) (replies : List (Reply K V B))
-        (new : MapState K V S)
-        → Step eq P old command replies new → Step eq Q old command replies new
-    step-wider old (Insert k v) replies new s = s
-    step-wider old (InsertFront k v) replies new s = s
-    step-wider old (Replace k v) replies new s = s
-    step-wider old (Get k) replies new s = reads-wider old (lookup_entry (eq k) old.entries) replies new s
-    step-wider old (Remove k) replies new s = s
-    step-wider old (RemoveEntry k) replies new s = s
-    step-wider old PopFront replies new s = s
-    step-wider old PopBack replies new s = s
-    step-wider old (ToFront k) replies new s = (s.0, s.1, said-wider (lookup_entry (eq k) old.entries) s.1 s.2, s.3)
-    step-wider old (ToBack k) replies new s = (s.0, s.1, said-wider (lookup_entry (eq k) old.entries) s.1 s.2, s.3)
-    step-wider old Front replies new s = reads-wider old (first_of old.entries) replies new s
-    step-wider old Back replies new s = reads-wider old (last_of old.entries) replies new s
-    step-wider old Len replies new s = s
-    step-wider old Clear replies new s = s
-    step-wider old Shrink replies new s = s
+module _ {K V B : Type 0} (P Q : K → V → B → Type 0) (wider : (k : K) (v : V) (b : B) → P k v b → Q k v b)
+    {S : Type 0} (eq : K → K → Bool) (old : MapState K V S) (replies : List (Reply K V B)) (new : MapState K V S) where
+  pub step-wider : (command : Command K V) → Step eq P old command replies new → Step eq Q old command replies new
+  step-wider (Insert k v) s = s
+  step-wider (InsertFront k v) s = s
+  step-wider (Replace k v) s = s
+  step-wider (Get k) s = reads-wider P Q wider old replies new (lookup_entry (eq k) old.entries) s
+  step-wider (Remove k) s = s
+  step-wider (RemoveEntry k) s = s
+  step-wider PopFront s = s
+  step-wider PopBack s = s
+  step-wider (ToFront k) s = (s.0, replies-wider P Q wider (lookup_entry (eq k) old.entries) replies s.1)
+  step-wider (ToBack k) s = (s.0, replies-wider P Q wider (lookup_entry (eq k) old.entries) replies s.1)
+  step-wider Front s = reads-wider P Q wider old replies new (first_of old.entries) s
+  step-wider Back s = reads-wider P Q wider old replies new (last_of old.entries) s
+  step-wider Len s = s
+  step-wider Clear s = s
+  step-wider Shrink s = s
+  step-wider (Entry k step) s = entry-wider P Q wider old replies new eq k step s
+  step-wider (Cursor steps) s = cursor-wider P Q wider eq old new steps.items replies s

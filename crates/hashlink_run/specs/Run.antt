@@ -1,10 +1,10 @@
 -- Lists of commands: a run is a chain of steps, and what holds along it.
-use Rattle.std.specs.Prelude.{◌≡◌, ℕ, ◌<◌, ◌≤◌, Bool, true, false, List, [], ◌∷◌, length, take, drop}
+use Rattle.std.specs.Prelude.{◌≡◌, ℕ, ◌+◌, ◌<◌, ◌≤◌, Bool, true, false, List, [], ◌∷◌, length, take, drop}
 use Rattle.std.specs.List.{AllPass, flat_map}
 use Rattle.hashlink_model.specs.History.{Passed, Length, Shrunk, peak}
 use Rattle.hashlink_model.specs.MapState.{MapState, node_count, MayRefuse}
 use Rattle.hashlink_commands.specs.declared.commands.Command.{Command}
-use Rattle.hashlink_commands.specs.declared.commands.Command.TheVariants.{Clear, Shrink}
+use Rattle.hashlink_commands.specs.declared.commands.Command.TheVariants.{Clear, Shrink, Cursor}
 use Rattle.hashlink_commands.specs.declared.replies.Reply.{Reply}
 use Rattle.hashlink_run.specs.Step.{Step}
 
@@ -40,10 +40,20 @@ module _ {K V B S : Type 0} where
       pub joined : replies ≡ replies_of answers
       pub reached : new ≡ state_after old answers
 
+module _ {K V : Type 0} where
+  -- how many replies a command has: one, and a cursor's steps one each
+  abbrev pub reply_count : Command K V → ℕ
+  reply_count (Cursor steps) = length steps.items
+  reply_count command = 1
+
+  abbrev pub reply_total : List (Command K V) → ℕ
+  reply_total [] = 0
+  reply_total (command ∷ commands) = reply_count command + reply_total commands
+
 -- ---- what holds along a run
 
 module _ {K V : Type 0} where
-  -- what a command passes, by the length after it
+  -- what a command passes, by the length after it, which is the greatest along the steps of a cursor
   abbrev pub passed_at : Command K V → ℕ → Passed
   passed_at Shrink n = Shrunk n
   passed_at command n = Length n

@@ -1,22 +1,24 @@
 -- What a text is answered with. A map goes from line to line, and each line has one line in answer.
 -- The map's own choices are open: whether an insert that needs a new node is refused, whether a shrink of a map that
 -- isn't empty is, and for how many nodes there is room.
-use Rattle.std.specs.Prelude.{◌≡◌, ℕ, Bool, true, false, List, [], ◌∷◌, ◌++◌, map, codes, decimal, nat_eq, Option}
-use Rattle.std.specs.Prelude.{None}
-use Rattle.std.specs.Prelude.{Some}
+use Rattle.std.specs.Prelude.{◌≡◌, ℕ, List, [], ◌∷◌, ◌++◌, map, codes, decimal, nat_eq, Option, None, Some}
 use Rattle.std.specs.List.{join_with_byte}
+use Rattle.std.specs.Option.{option_map_or}
 use Rattle.hashlink_model.specs.MapState.{MapState, empty_map}
-use Rattle.hashlink_commands.specs.Says.{says, mode_said}
+use Rattle.hashlink_commands.specs.Says.{Said, Do, Cursor, Iter, says, mode_said}
 use Rattle.hashlink_commands.specs.declared.commands.Command.{Command}
-use Rattle.hashlink_commands.specs.declared.commands.Command.TheVariants.{Front, Back}
+use Rattle.hashlink_commands.specs.declared.commands.Command.TheVariants as command
+use Rattle.hashlink_commands.specs.declared.commands.Command.TheVariants.{Front, Back, Entry}
+use Rattle.hashlink_commands.specs.declared.commands.EntryStep.TheVariants.{OrInsert}
 use Rattle.hashlink_commands.specs.declared.replies.Reply.{Reply}
-use Rattle.hashlink_commands.specs.declared.replies.Reply.TheVariants.{Done, Denied, Value, Pair, Seen, Length}
-use Rattle.hashlink_commands.specs.declared.replies.Reply.TheVariants.{Refused}
-use Rattle.hashlink_commands.specs.declared.line.Line.{Line}
-use Rattle.hashlink_commands.specs.declared.line.Line.TheVariants.{Do, Iter}
+use Rattle.hashlink_commands.specs.declared.replies.Reply.TheVariants.{Done, Denied, Value, Pair, Key, Seen}
+use Rattle.hashlink_commands.specs.declared.replies.Reply.TheVariants.{Length, Refused}
 use Rattle.hashlink_commands.specs.declared.modes.Mode.{Mode}
 use Rattle.hashlink_commands.specs.declared.modes.Mode.TheVariants.{Map}
+use Rattle.hashlink_run.specs.CursorSteps.{CursorSteps}
 use Rattle.hashlink_run.specs.Step.{Step}
+use Rattle.hashlink_run.specs.declared.shown.Form.{Form}
+use Rattle.hashlink_run.specs.declared.shown.Form.TheVariants.{Whole, OfValue, OrGiven}
 
 -- a text with the end of its line
 abbrev pub ended : List ℕ → List ℕ
@@ -37,30 +39,34 @@ abbrev pub list_shown : List (ℕ × ℕ) → List ℕ
 list_shown [] = codes "empty"
 list_shown (pair ∷ pairs) = join_with_byte 32 (map pair_shown (pair ∷ pairs))
 
--- a pair that was read, whole or by its value alone
-abbrev pub read_shown : Bool → ℕ × ℕ → List ℕ
-read_shown true pair = pair_shown pair
-read_shown false pair = decimal pair.1
+-- how a command shows a pair that it read: of either end and of a cursor whole, else by the value that stands there,
+-- which is the one given where it went in as a new pair
+abbrev pub form_of : Command ℕ ℕ → Form
+form_of Front = Whole
+form_of Back = Whole
+form_of (command.Cursor steps) = Whole
+form_of (Entry k (OrInsert v)) = OrGiven v
+form_of command = OfValue
+
+abbrev pub read_shown : Form → Option (ℕ × ℕ) → List ℕ
+read_shown Whole pair = shown_by pair_shown pair
+read_shown OfValue pair = shown_by (λ p. decimal p.1) pair
+read_shown (OrGiven v) pair = decimal (option_map_or (λ p. p.1) pair v)
 
 -- a reply, where what is said of a pair that was read is the pair itself
-abbrev pub reply_shown : Bool → Reply ℕ ℕ (ℕ × ℕ) → List ℕ
-reply_shown whole Done = codes "ok"
-reply_shown whole Denied = codes "memory"
-reply_shown whole (Value value) = shown_by decimal value
-reply_shown whole (Pair pair) = shown_by pair_shown pair
-reply_shown whole (Seen pair) = shown_by (read_shown whole) pair
-reply_shown whole (Length n) = decimal n
-reply_shown whole (Refused key value) = codes "memory"
+abbrev pub reply_shown : Form → Reply ℕ ℕ (ℕ × ℕ) → List ℕ
+reply_shown form Done = codes "ok"
+reply_shown form Denied = codes "memory"
+reply_shown form (Value value) = shown_by decimal value
+reply_shown form (Pair pair) = shown_by pair_shown pair
+reply_shown form (Key key) = shown_by decimal key
+reply_shown form (Seen pair) = read_shown form pair
+reply_shown form (Length n) = decimal n
+reply_shown form (Refused key value) = codes "memory"
 
--- whether a command shows the pair that it reads whole
-abbrev pub shows_pair : Command ℕ ℕ → Bool
-shows_pair Front = true
-shows_pair Back = true
-shows_pair command = false
-
--- the replies to a command, with one space between two
-abbrev pub replies_shown : Command ℕ ℕ → List (Reply ℕ ℕ (ℕ × ℕ)) → List ℕ
-replies_shown command replies = join_with_byte 32 (map (reply_shown (shows_pair command)) replies)
+-- the replies, with one space between two
+abbrev pub replies_shown : Form → List (Reply ℕ ℕ (ℕ × ℕ)) → List ℕ
+replies_shown form replies = join_with_byte 32 (map (reply_shown form) replies)
 
 -- of a pair that is read, the pair itself is said
 abbrev pub Itself : ℕ → ℕ → ℕ × ℕ → Type 0
@@ -70,12 +76,15 @@ Itself k v pair = pair ≡ (k, v)
 
 module _ {S : Type 0} where
   -- from old, this text may answer what a line says, and the map goes on to new; a bad line changes nothing
-  abbrev pub Shows : MapState ℕ ℕ S → Option Line → List ℕ → MapState ℕ ℕ S → Type 0
+  abbrev pub Shows : MapState ℕ ℕ S → Option Said → List ℕ → MapState ℕ ℕ S → Type 0
   Shows old None text new = (text ≡ codes "bad") × (new ≡ old)
   Shows old (Some Iter) text new = (text ≡ list_shown old.entries) × (new ≡ old)
   Shows old (Some (Do command)) text new =
       (replies : List (Reply ℕ ℕ (ℕ × ℕ))) × Step nat_eq Itself old command replies new
-      × (text ≡ replies_shown command replies)
+      × (text ≡ replies_shown (form_of command) replies)
+  Shows old (Some (Cursor steps)) text new =
+      (replies : List (Reply ℕ ℕ (ℕ × ℕ))) × CursorSteps nat_eq Itself old steps replies new
+      × (text ≡ replies_shown Whole replies)
 
   -- from old, this text may answer the lines, a line for each, and the map goes on to new
   abbrev pub ShowsAll : MapState ℕ ℕ S → List (List ℕ) → List ℕ → MapState ℕ ℕ S → Type 0

@@ -1,55 +1,95 @@
 //! One command to a map.
-ghost use Rattle.std.specs.Prelude.{◌≡◌, [], ◌∷◌, length};
+ghost use Rattle.std.specs.Prelude.{◌≡◌, ◌+◌, ◌≤◌, ◌++◌, [], ◌∷◌, List, IfOk, OnOk, IfErr, IsOk, length};
+ghost use Rattle.std.specs.Prelude.{vec_len, vec_capacity};
+ghost use Rattle.hashlink_commands.specs.declared.commands.Command.TheVariants.{Cursor};
 ghost use Rattle.std.specs.Map.{lookup, lookup_entry};
 ghost use Rattle.std.specs.Map.Iter.{deref_pair};
 ghost use Rattle.std.specs.Option.{option_map};
 ghost use Rattle.hashlink_core.specs.Keyed.{entries_of, state_of};
 ghost use Rattle.hashlink_model.specs.Steps.{Moves};
-ghost use Rattle.hashlink_run.specs.Step.{ClosureSays, SaysOf, Step, insert_reply, shrink_reply};
+ghost use Rattle.hashlink_run.specs.Reads.{ClosureSays, SaysOf};
+ghost use Rattle.hashlink_run.specs.CallReplies.{insert_reply, shrink_reply};
+ghost use Rattle.hashlink_run.specs.Run.{reply_count};
+ghost use Rattle.hashlink_run.specs.Step.{Step};
 
-use hashlink_commands::{Command, Reply};
+use crate::cursors::walk_cursor;
+use crate::entries::reply_of_entry;
+use hashlink_commands::{Command, CursorStep, Reply};
 use hashlink_map::LinkedHashMap;
 use std::alloc::AllocError;
 use std::hash::{BuildHasher, Hash};
 
-// What the map answers to the command. Of a pair that is read it has what the closure says.
-pub(crate) fn reply_to<K, V, S, B, F>(
+// Gives the map the command and pushes its replies. Of a pair that is read they have what the closure says.
+pub(crate) fn answer_command<K, V, S, B, F>(
     map: &mut LinkedHashMap<K, V, S>,
     command: Command<K, V>,
     says: &F,
-) -> Reply<K, V, B>
+    replies: &mut Vec<Reply<K, V, B>>,
+) -> Result<(), AllocError>
+where
+    K: Eq + Hash + Drop,
+    V: Drop,
+    S: BuildHasher,
+    B: Drop,
+    F: Fn(&K, &V) -> B,
+    requires { F.IsAlwaysCallable says.now }
+    ensures answered { OnOk result ((more : List (Reply K V B))
+        × Step K.eq (ClosureSays F.Fn says.now) (state_of map.old) command more (state_of map.new)
+        × (replies.new.items ≡ replies.old.items ++ more)) }
+    ensures room { vec_len replies.old + reply_count command ≤ vec_capacity replies.old
+        → IsOk result × (vec_len replies.new ≡ vec_len replies.old + reply_count command)
+        × (vec_capacity replies.old ≤ vec_capacity replies.new) }
+{
+    match reply_to(map, command, says) {
+        Ok(reply) => replies.push(reply)?,
+        Err(steps) => walk_cursor(map, steps, says, replies)?,
+    }
+    Ok(())
+}
+
+// What the map answers to the command, or the steps of a cursor, which are not done yet.
+fn reply_to<K, V, S, B, F>(
+    map: &mut LinkedHashMap<K, V, S>,
+    command: Command<K, V>,
+    says: &F,
+) -> Result<Reply<K, V, B>, Vec<CursorStep<K, V>>>
 where
     K: Eq + Hash + Drop,
     V: Drop,
     S: BuildHasher,
     F: Fn(&K, &V) -> B,
     requires { F.IsAlwaysCallable says.now }
-    ensures { Step K.eq (ClosureSays F.Fn says.now) (state_of map.old) command (result ∷ []) (state_of map.new) }
+    ensures answered { IfOk result (λ reply.
+        Step K.eq (ClosureSays F.Fn says.now) (state_of map.old) command (reply ∷ []) (state_of map.new)) }
+    ensures count { OnOk result (reply_count command ≡ 1) }
+    ensures steps { IfErr result (λ steps. (command ≡ Cursor steps) × (map.new ≡ map.old)) }
 {
     match command {
-        Command::Insert(key, value) => insert_reply(map.insert(key, value)),
-        Command::InsertFront(key, value) => insert_reply(map.insert_front(key, value)),
-        Command::Replace(key, value) => insert_reply(map.replace(key, value)),
-        Command::Get(key) => Reply::Seen(said_of(map.get_key_value(&key), says)),
-        Command::Remove(key) => Reply::Value(map.remove(&key)),
-        Command::RemoveEntry(key) => Reply::Pair(map.remove_entry(&key)),
-        Command::PopFront => Reply::Pair(map.pop_front()),
-        Command::PopBack => Reply::Pair(map.pop_back()),
-        Command::ToFront(key) => Reply::Seen(to_front(map, &key, says)),
-        Command::ToBack(key) => Reply::Seen(to_back(map, &key, says)),
-        Command::Front => Reply::Seen(said_of(map.front(), says)),
-        Command::Back => Reply::Seen(said_of(map.back(), says)),
-        Command::Len => Reply::Length(map.len()),
+        Command::Insert(key, value) => Ok(insert_reply(map.insert(key, value))),
+        Command::InsertFront(key, value) => Ok(insert_reply(map.insert_front(key, value))),
+        Command::Replace(key, value) => Ok(insert_reply(map.replace(key, value))),
+        Command::Get(key) => Ok(Reply::Seen(said_of(map.get_key_value(&key), says))),
+        Command::Remove(key) => Ok(Reply::Value(map.remove(&key))),
+        Command::RemoveEntry(key) => Ok(Reply::Pair(map.remove_entry(&key))),
+        Command::PopFront => Ok(Reply::Pair(map.pop_front())),
+        Command::PopBack => Ok(Reply::Pair(map.pop_back())),
+        Command::ToFront(key) => Ok(Reply::Seen(to_front(map, &key, says))),
+        Command::ToBack(key) => Ok(Reply::Seen(to_back(map, &key, says))),
+        Command::Front => Ok(Reply::Seen(said_of(map.front(), says))),
+        Command::Back => Ok(Reply::Seen(said_of(map.back(), says))),
+        Command::Len => Ok(Reply::Length(map.len())),
         Command::Clear => {
             map.clear();
-            Reply::Done
+            Ok(Reply::Done)
         }
-        Command::Shrink => shrink_reply(map.shrink_to_fit()),
+        Command::Shrink => Ok(shrink_reply(map.shrink_to_fit())),
+        Command::Entry(key, step) => Ok(reply_of_entry(map, key, step, says)),
+        Command::Cursor(steps) => Err(steps),
     }
 }
 
 // The reply to an insert by its answer.
-fn insert_reply<K, V, B>(answer: Result<Option<V>, (K, V)>) -> Reply<K, V, B>
+pub(crate) fn insert_reply<K, V, B>(answer: Result<Option<V>, (K, V)>) -> Reply<K, V, B>
     ensures { result ≡ insert_reply answer }
 {
     match answer {
@@ -69,7 +109,7 @@ fn shrink_reply<K, V, B>(answer: Result<(), AllocError>) -> Reply<K, V, B>
 }
 
 // What the closure says of the pair, if there is one.
-fn said_of<K, V, B, F>(pair: Option<(&K, &V)>, says: &F) -> Option<B>
+pub(crate) fn said_of<K, V, B, F>(pair: Option<(&K, &V)>, says: &F) -> Option<B>
 where
     F: Fn(&K, &V) -> B,
     requires { F.IsAlwaysCallable says.now }

@@ -5,10 +5,12 @@ ghost use Rattle.hashlink_commands.specs.Lines.{lines_of};
 ghost use Rattle.hashlink_commands.specs.Says.{says};
 ghost use Rattle.hashlink_commands.specs.declared.modes.Mode.TheVariants.{Map};
 ghost use Rattle.hashlink_run.specs.Text.{IsTranscript};
-ghost use Rattle.hashlink_run.specs.Transcript.{ModeRun, Shows, ended, list_shown, reply_shown, shows_pair};
+ghost use Rattle.hashlink_run.specs.Transcript.{ModeRun, Shows, ended, list_shown, form_of, read_shown, reply_shown};
+ghost use Rattle.hashlink_run.specs.Transcript.{replies_shown};
 
-use crate::steps::reply_to;
-use hashlink_commands::{Command, Line, Lines, Mode, Reply, mode_of};
+use crate::shown::Form;
+use crate::steps::answer_command;
+use hashlink_commands::{Command, EntryStep, Line, Lines, Mode, Reply, mode_of};
 use hashlink_map::LinkedHashMap;
 use std::alloc::{AllocError, Global};
 
@@ -38,56 +40,102 @@ fn run_map(alloc: Global, lines: Lines<'_>, out: &mut String) -> Result<(), Allo
         × (string_bytes out.new ≡ string_bytes out.old ++ text)) }
 {
     let mut map = LinkedHashMap::new(alloc);
+    let mut replies = Vec::new(alloc);
     for line in lines {
-        answer(&mut map, line, out)?;
+        answer(alloc, &mut map, line, &mut replies, out)?;
     }
     Ok(())
 }
 
-// Answers one line.
+// Answers one line. The replies to it stand in a list of which the memory serves the next line.
 fn answer(
+    alloc: Global,
     map: &mut LinkedHashMap<u64, u64>,
     line: &[u8],
+    replies: &mut Vec<Reply<u64, u64, (u64, u64)>>,
     out: &mut String,
 ) -> Result<(), AllocError>
     ensures { OnOk result ((text : List ℕ)
         × Shows (state_of map.old) (says line.now) text (state_of map.new)
         × (string_bytes out.new ≡ string_bytes out.old ++ ended text)) }
 {
-    match Line::parse(line) {
+    match Line::parse(alloc, line)? {
         Some(Line::Do(command)) => {
-            let reply = reply_to(map, command, &|key: &u64, value: &u64| (*key, *value));
-            push_reply(reply, shows_pair(command), out)
+            let form = form_of(&command);
+            replies.clear();
+            answer_command(
+                map,
+                command,
+                &|key: &u64, value: &u64| (*key, *value),
+                replies,
+            )?;
+            push_replies(form, replies, out)
         }
         Some(Line::Iter) => push_list(map, out),
         None => writeln!(out, "bad"),
     }
 }
 
-// Whether the command shows the pair that it reads whole.
-fn shows_pair(command: Command<u64, u64>) -> bool
-    ensures { result ≡ shows_pair command }
+// How the command shows a pair that it read.
+fn form_of(command: &Command<u64, u64>) -> Form
+    ensures { result ≡ form_of command.now }
 {
-    matches!(command, Command::Front | Command::Back)
+    match command {
+        Command::Front | Command::Back | Command::Cursor(_) => Form::Whole,
+        Command::Entry(_, EntryStep::OrInsert(value)) => Form::OrGiven(*value),
+        _ => Form::OfValue,
+    }
 }
 
-// The line that shows a reply.
-fn push_reply(
-    reply: Reply<u64, u64, (u64, u64)>,
-    whole: bool,
+// The line that shows the replies to a command.
+fn push_replies(
+    form: Form,
+    replies: &[Reply<u64, u64, (u64, u64)>],
     out: &mut String,
 ) -> Result<(), AllocError>
-    ensures { OnOk result (string_bytes out.new ≡ string_bytes out.old ++ ended (reply_shown whole reply)) }
+    ensures { OnOk result (string_bytes out.new ≡ string_bytes out.old ++ ended (replies_shown form replies.now)) }
+{
+    let mut rest = replies.iter();
+    let Some(first) = rest.next() else {
+        return writeln!(out);
+    };
+    push_reply(form, *first, out)?;
+    for reply in rest {
+        write!(out, " ")?;
+        push_reply(form, *reply, out)?;
+    }
+    writeln!(out)
+}
+
+// One reply.
+fn push_reply(
+    form: Form,
+    reply: Reply<u64, u64, (u64, u64)>,
+    out: &mut String,
+) -> Result<(), AllocError>
+    ensures { OnOk result (string_bytes out.new ≡ string_bytes out.old ++ reply_shown form reply) }
 {
     match reply {
-        Reply::Done => writeln!(out, "ok"),
-        Reply::Denied | Reply::Refused(..) => writeln!(out, "memory"),
-        Reply::Value(Some(value)) => writeln!(out, "{value}"),
-        Reply::Pair(Some((key, value))) => writeln!(out, "{key}:{value}"),
-        Reply::Seen(Some((key, value))) if whole => writeln!(out, "{key}:{value}"),
-        Reply::Seen(Some((_, value))) => writeln!(out, "{value}"),
-        Reply::Value(None) | Reply::Pair(None) | Reply::Seen(None) => writeln!(out, "-"),
-        Reply::Length(number) => writeln!(out, "{number}"),
+        Reply::Done => write!(out, "ok"),
+        Reply::Denied | Reply::Refused(..) => write!(out, "memory"),
+        Reply::Value(Some(value)) => write!(out, "{value}"),
+        Reply::Pair(Some((key, value))) => write!(out, "{key}:{value}"),
+        Reply::Key(Some(key)) => write!(out, "{key}"),
+        Reply::Seen(pair) => push_read(form, pair, out),
+        Reply::Value(None) | Reply::Pair(None) | Reply::Key(None) => write!(out, "-"),
+        Reply::Length(number) => write!(out, "{number}"),
+    }
+}
+
+// What a command read.
+fn push_read(form: Form, pair: Option<(u64, u64)>, out: &mut String) -> Result<(), AllocError>
+    ensures { OnOk result (string_bytes out.new ≡ string_bytes out.old ++ read_shown form pair) }
+{
+    match (form, pair) {
+        (Form::Whole, Some((key, value))) => write!(out, "{key}:{value}"),
+        (_, Some((_, value))) => write!(out, "{value}"),
+        (Form::OrGiven(value), None) => write!(out, "{value}"),
+        (_, None) => write!(out, "-"),
     }
 }
 

@@ -4,6 +4,10 @@
 #[cfg(test)]
 mod both_ends;
 #[cfg(test)]
+mod cursors;
+#[cfg(test)]
+mod entries;
+#[cfg(test)]
 mod equal_keys;
 #[cfg(test)]
 mod row;

@@ -19,27 +19,51 @@ pub fn holds(
     steps: &[Step],
     left: &[(u16, u32)],
 ) -> Result<(), Fail> {
-    holds_by(rt, alloc, DefaultHashBuilder, steps, left)?;
-    holds_by(rt, alloc, SameHash, steps, left)?;
-    holds_by(rt, alloc, OddOrEven::new(), steps, left)?;
-    holds_by(rt, alloc, NumberItself::new(), steps, left)
+    let commands = commands_of(alloc, steps)?;
+    let wanted: Vec<Reply<u16, u32>> = steps.iter().map(|step| step.1).collect(alloc)?;
+    answers(rt, alloc, &commands, &wanted, left)
 }
 
-fn holds_by<S: BuildHasher + Drop>(
+/// The same of commands that have these replies in all.
+pub fn answers(
+    rt: &impl Abort,
+    alloc: Global,
+    commands: &Vec<Command<u16, u32>>,
+    wanted: &[Reply<u16, u32>],
+    left: &[(u16, u32)],
+) -> Result<(), Fail> {
+    answers_by(rt, alloc, DefaultHashBuilder, commands, wanted, left)?;
+    answers_by(rt, alloc, SameHash, commands, wanted, left)?;
+    answers_by(rt, alloc, OddOrEven::new(), commands, wanted, left)?;
+    answers_by(rt, alloc, NumberItself::new(), commands, wanted, left)
+}
+
+fn answers_by<S: BuildHasher + Drop>(
     rt: &impl Abort,
     alloc: Global,
     hasher: S,
-    steps: &[Step],
+    commands: &Vec<Command<u16, u32>>,
+    wanted: &[Reply<u16, u32>],
     left: &[(u16, u32)],
 ) -> Result<(), Fail> {
     let mut map = LinkedHashMap::with_hasher(alloc, hasher);
-    let commands: Vec<Command<u16, u32>> = steps.iter().map(|step| step.0).collect(alloc)?;
-    let wanted: Vec<Reply<u16, u32>> = steps.iter().map(|step| step.1).collect(alloc)?;
-    let replies = run(&mut map, commands, &|_: &u16, _: &u32| true)?;
-    assert_eq!(rt; replies.as_slice(), wanted.as_slice());
+    let replies = run(&mut map, commands.clone()?, &|_: &u16, _: &u32| true)?;
+    assert_eq!(rt; replies.as_slice(), wanted);
     let pairs = pairs(alloc, &map)?;
     assert_eq!(rt; pairs.as_slice(), left);
     Ok(())
+}
+
+/// The commands of the rows.
+pub fn commands_of<K: Clone, V: Clone>(
+    alloc: Global,
+    steps: &[(Command<K, V>, Reply<K, V>)],
+) -> Result<Vec<Command<K, V>>, AllocError> {
+    let mut commands = Vec::with_capacity(alloc, steps.len())?;
+    for (command, _) in steps {
+        commands.push(command.clone()?)?;
+    }
+    Ok(commands)
 }
 
 /// The pairs of a map, front first.

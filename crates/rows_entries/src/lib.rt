@@ -2,8 +2,14 @@
 #![tactic(auto)]
 
 #[cfg(test)]
+mod by_value;
+#[cfg(test)]
+mod costs;
+#[cfg(test)]
 mod entries;
+#[cfg(test)]
+mod numbers;
 #[cfg(test)]
 mod occupied;
 #[cfg(test)]
-mod words;
+mod vacant;

@@ -20,6 +20,37 @@ fn a_text_of_commands_is_answered_line_by_line(rt: HostRuntime) -> Result<(), Fa
             "map\ninsert 1 10\ninsert 2 20\ninsert 3 30\nto_front 3\nto_back 1\nto_back 9\niter\nfront\nback\npop_back\nlen\n",
             "-\n-\n-\n30\n10\n-\n3:30 2:20 1:10\n3:30\n1:10\n1:10\n2\n",
         ),
+        // Entries: what is read, put in and replaced where a key stands, and where none does.
+        (
+            "map\ninsert 1 10\ninsert 2 20\nentry 1 get\nentry 1 insert_entry 11\nentry 2 replace_entry 22\nentry 3 replace_entry 30\nentry 3 insert 30\nentry 4 insert_entry 40\nreplace 5 50\nentry 2 to_back\nentry 1 remove\niter\n",
+            "-\n-\n10\n1:10\n2:20\n-\n-\n-\n-\n22\n11\n3:30 4:40 5:50 2:22\n",
+        ),
+        (
+            "map\ninsert 1 10\nentry 1 or_insert 5\nentry 2 or_insert 21\nentry 1 replace_entry 12\niter\n",
+            "-\n10\n21\n1:10\n1:12 2:21\n",
+        ),
+        (
+            "map\nentry 1 insert 10\nentry 2 or_insert 20\nentry 1 insert 11\nentry 2 to_back\nentry 1 to_back\nentry 2 or_insert 0\nentry 2 to_front\niter\nentry 3 get\nentry 3 to_front\nentry 3 to_back\nentry 3 remove\nentry 2 remove\niter\n",
+            "-\n20\n10\n20\n11\n20\n20\n2:20 1:11\n-\n-\n-\n-\n20\n1:11\n",
+        ),
+        // Cursors: what they reach and see, and inserts round them.
+        (
+            "map\ncursor cur next prev peek_next\ncursor before 1 10 after 2 20 cur\niter\n",
+            "- - - -\n- - -\n2:20 1:10\n",
+        ),
+        (
+            "map\ninsert 3 3\ninsert 4 4\ncursor next before 5 5 cur\ncursor prev before 6 6 next\niter\n",
+            "-\n-\n4:4 - 4:4\n- - 3:3\n3:3 5:5 4:4 6:6\n",
+        ),
+        (
+            "map\ninsert 1 10\ninsert 2 20\ninsert 3 30\ncursor peek_prev peek_next next cur peek_prev next next next\ncursor cur\n",
+            "-\n-\n-\n- 2:20 2:20 2:20 1:10 3:30 - 1:10\n1:10\n",
+        ),
+        // A key that is there moves to the cursor with its new value, and the cursor stays on its pair.
+        (
+            "map\ninsert 1 10\ninsert 2 20\ninsert 3 30\ncursor next before 3 31 cur peek_prev after 1 11 cur peek_next before 2 21 cur\niter\n",
+            "-\n-\n-\n2:20 30 2:20 3:31 10 2:20 1:11 20 2:21\n3:31 2:21 1:11\n",
+        ),
         // Nothing is there.
         (
             "map\nfront\nback\npop_front\npop_back\nto_front 1\nto_back 1\nget 1\nremove 1\nlen\nshrink\nclear\niter\n",
@@ -81,6 +112,35 @@ fn bad_lines_change_nothing(rt: HostRuntime) -> Result<(), Fail> {
         "pop_front 1",
         "to_back",
         "lens",
+        "entry",
+        "entry 1",
+        "entry get 1",
+        "entry x get",
+        "entry 01 get",
+        "entry 1 foo",
+        "entry 1 get 2",
+        "entry 1 insert",
+        "entry 1 insert 2 3",
+        "entry 1 insert 02",
+        "entry 1 replace_key",
+        "entry 1 remove_entry",
+        "entry 1 Get",
+        "entry  1 get",
+        "entry 1 get ",
+        "cursor",
+        "cursor ",
+        "cursor next foo",
+        "cursor foo next",
+        "cursor next 1",
+        "cursor before",
+        "cursor before 1",
+        "cursor after x 1",
+        "cursor before 1 10 foo",
+        "cursor before 1 10 2",
+        "cursor after 01 10",
+        "cursor before 3 30 before 4",
+        "cursor next  next",
+        "cursor Next",
         " ",
         "\r",
     ];

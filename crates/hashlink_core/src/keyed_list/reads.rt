@@ -1,7 +1,9 @@
 //! What a keyed list shows.
-ghost use Rattle.std.specs.Prelude.{◌≡◌, ◌-◌, ◌↔◌, length, slice_get, None, Some, IsTrue, MatchOption, IfSome};
-ghost use Rattle.std.specs.Map.{lookup};
-ghost use Rattle.std.specs.Map.Iter.{deref_pair};
+ghost use Rattle.std.specs.Prelude.{◌≡◌, ◌-◌, ◌<◌, ◌^◌, ◌↔◌, length, slice_get, None, Some, IsTrue, MatchOption};
+ghost use Rattle.std.specs.Prelude.{IfSome};
+ghost use Rattle.std.specs.Fn.{FnReturnsAt};
+ghost use Rattle.std.specs.Map.{lookup, keys_of, values_of};
+ghost use Rattle.std.specs.Map.Iter.{ShowsInOrder, ShowsInReverse, deref, deref_pair};
 ghost use Rattle.hashlink_model.specs.Cursor.{following_place, preceding_place};
 ghost use Rattle.hashlink_model.specs.Entries.{place_of};
 ghost use Rattle.hashlink_nodes.specs.Node.{same_node};
@@ -9,9 +11,10 @@ ghost use Rattle.hashlink_nodes.specs.Ring.{Holds, IsPlace};
 ghost use Rattle.hashlink_core.specs.Keyed.{entries_of, HoldsKey, IsKeyed};
 ghost use Rattle.hashlink_core.specs.Places.{place_number, IsPlaceAt};
 ghost use Rattle.hashlink_core.specs.Tied.{hash_with};
+ghost use Rattle.hashlink_core.specs.Telling.{Tells};
 
 use super::KeyedList;
-use crate::iter::Iter;
+use crate::iter::{Iter, Keys, Values};
 use hashlink_nodes::Node;
 use std::hash::{BuildHasher, Hash};
 
@@ -34,16 +37,34 @@ impl<K: Eq + Hash, V, S: BuildHasher> KeyedList<K, V, S> {
             (HoldsKey K.eq self.now.nodes key.now) }
         ensures sound { IsKeyed K.eq self.now }
     {
+        let is_match = |other: &K| -> bool
+            ensures { result ≡ K.eq other.now key.entry.now }
+        { *other == *key };
+        self.find_with(hash, is_match)
+    }
+
+    /// The node that holds a key equal to the one that the hash and the test stand for: the hash has to be that key's,
+    /// and the test has to answer of each key whether it is equal to it. It looks at the nodes of one bucket.
+    #[inline]
+    pub fn find_with<F: Fn(&K) -> bool>(&self, hash: u64, is_match: F) -> Option<Node>
+        requires { (k : K) × Tells F.Fn K.eq
+            (hash_with S.build_hasher S.Hasher.write S.Hasher.finish K.hash_input self.now.hasher) is_match hash k }
+        ensures found { (k : K) → Tells F.Fn K.eq
+            (hash_with S.build_hasher S.Hasher.write S.Hasher.finish K.hash_input self.now.hasher) is_match hash k
+            → MatchOption result (place_of (K.eq k) (entries_of self.now) ≡ None) (HoldsKey K.eq self.now.nodes k) }
+        ensures sound { IsKeyed K.eq self.now }
+    {
         let nodes = &self.nodes;
         if nodes.len() == 0 {
             return None;
         }
-        let holds_key = |node: Node| -> bool
-            requires { Holds nodes.now.entries node }
+        let holds_match = |node: Node| -> bool
+            requires held { Holds nodes.now.entries node }
+            requires callable { (x : _) → F.pre is_match x }
             ensures { IfSome (lookup (same_node node) nodes.entry.now.entries)
-                (λ held. result ≡ K.eq key.entry.now held.key) }
-        { *key == *nodes.entry(node).0 };
-        self.table.look_up(hash, holds_key)
+                (λ held. FnReturnsAt F.Fn is_match held.key result) }
+        { is_match(nodes.entry(node).0) };
+        self.table.look_up(hash, holds_match)
     }
 
     /// The first place: the guard where there is no entry.
@@ -104,10 +125,34 @@ impl<K: Eq + Hash, V, S: BuildHasher> KeyedList<K, V, S> {
         self.nodes.number(a) == self.nodes.number(b)
     }
 
-    /// A walk over the entries, front first.
+    /// A walk over the entries, front first. It takes no memory, and each step takes constant time.
     pub fn iter(&self) -> Iter<'_, K, V>
-        ensures { result ≡ entries_of self.now }
+        ensures rest { result ≡ entries_of self.now }
+        ensures runs { ShowsInOrder (deref_pair {K = K} {X = V}) }
+        ensures runs_back { ShowsInReverse (deref_pair {K = K} {X = V}) }
+        ensures fits { length (entries_of self.now) < 2 ^ 63 }
+        ensures sound { IsKeyed K.eq self.now }
     {
         Iter::new(&self.nodes)
+    }
+
+    /// A walk over the keys, front first. It takes no memory, and each step takes constant time.
+    pub fn keys(&self) -> Keys<'_, K, V>
+        ensures rest { result ≡ keys_of (entries_of self.now) }
+        ensures runs { ShowsInOrder (deref {X = K}) }
+        ensures runs_back { ShowsInReverse (deref {X = K}) }
+        ensures fits { length (entries_of self.now) < 2 ^ 63 }
+    {
+        Keys::new(self.iter())
+    }
+
+    /// A walk over the values, front first. It takes no memory, and each step takes constant time.
+    pub fn values(&self) -> Values<'_, K, V>
+        ensures rest { result ≡ values_of (entries_of self.now) }
+        ensures runs { ShowsInOrder (deref {X = V}) }
+        ensures runs_back { ShowsInReverse (deref {X = V}) }
+        ensures fits { length (entries_of self.now) < 2 ^ 63 }
+    {
+        Values::new(self.iter())
     }
 }

@@ -3,7 +3,7 @@ ghost use Rattle.std.specs.Prelude.{◌≡◌, slice_get, Some};
 ghost use Rattle.std.specs.Borrow.{sem};
 ghost use Rattle.std.specs.Option.{option_map};
 ghost use Rattle.hashlink_nodes.specs.Ring.{Holds};
-ghost use Rattle.hashlink_core.specs.Keyed.{entries_of, HoldsKey, IsKeyed};
+ghost use Rattle.hashlink_core.specs.Keyed.{entries_of, EqualsKeyAt, IsKeyed};
 ghost use Rattle.hashlink_core.specs.Places.{place_number};
 ghost use Rattle.hashlink_core.specs.Steps.{WritesNode, SetsNodeKey};
 
@@ -14,7 +14,19 @@ use std::hash::{BuildHasher, Hash};
 impl<K: Eq + Hash, V, S: BuildHasher> KeyedList<K, V, S> {
     ghost use Rattle.hashlink_core.specs.KeyedLends.{LendsValueAt};
 
-    /// Lends the value of the node's entry.
+    /// Lends the value of the node's entry for writing, beside its key. It takes constant time.
+    #[inline]
+    pub fn entry_mut(&mut self, node: Node) -> (&K, &mut V)
+        requires { Holds self.old.nodes node }
+        ensures* lends { sem 𝓛 (LendsValueAt K.row V.row S.row S.Hasher.row K.Hash S.BuildHasher S.Hasher.Hasher
+            self.entry node result.1) }
+        ensures pair { slice_get (entries_of self.old) (place_number self.old.nodes (Some node))
+            ≡ Some (result.0.now, result.1.now) }
+    {
+        self.nodes.entry_mut(node)
+    }
+
+    /// Lends the value of the node's entry for writing. It takes constant time.
     #[inline]
     pub fn value_mut(&mut self, node: Node) -> &mut V
         requires { Holds self.old.nodes node }
@@ -23,7 +35,8 @@ impl<K: Eq + Hash, V, S: BuildHasher> KeyedList<K, V, S> {
         ensures value { option_map (λ e. e.1)
             (slice_get (entries_of self.old) (place_number self.old.nodes (Some node))) ≡ Some result.now }
     {
-        self.nodes.value_mut(node)
+        let (_, value) = self.entry_mut(node);
+        value
     }
 
     /// Puts a value into the node's entry, and answers the old one.
@@ -41,7 +54,8 @@ impl<K: Eq + Hash, V, S: BuildHasher> KeyedList<K, V, S> {
     /// Puts a key into the entry of an equal one, and answers the old one.
     #[inline]
     pub fn replace_key(&mut self, node: Node, key: K) -> K
-        requires { HoldsKey K.eq self.old.nodes key node }
+        requires held { Holds self.old.nodes node }
+        requires equal { EqualsKeyAt K.eq (entries_of self.old) (place_number self.old.nodes (Some node)) key }
         ensures key { option_map (λ e. e.0)
             (slice_get (entries_of self.old) (place_number self.old.nodes (Some node))) ≡ Some result }
         ensures written { SetsNodeKey self.old self.new (place_number self.old.nodes (Some node)) key }

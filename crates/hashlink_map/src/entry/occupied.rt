@@ -7,11 +7,15 @@ ghost use Rattle.hashlink_model.specs.Entry.{ReplacesKey, TakesEntry};
 ghost use Rattle.hashlink_core.specs.Keyed.{state_of};
 
 use super::OccupiedEntry;
+use crate::cursor::CursorMut;
+use crate::raw_entry::RawOccupiedEntryMut;
 use std::hash::{BuildHasher, Hash};
 
 impl<'a, K: Eq + Hash, V, S: BuildHasher> OccupiedEntry<'a, K, V, S> {
     ghost use Rattle.hashlink_map.specs.Entry.{occupied_map, occupied_place, occupied_state, occupied_with, StandsAt};
     ghost use Rattle.hashlink_map.specs.Entry.{IsWritten};
+    ghost use Rattle.hashlink_map.specs.Cursor.{cursor_map, cursor_state};
+    ghost use Rattle.hashlink_map.specs.RawEntry.{raw_occupied_map, raw_place};
     ghost use Rattle.hashlink_map.specs.EntryLends.{LendsFromOccupied, LendsForGood, LendsLast};
 
     /// The stored key, which may be another object than the key in hand.
@@ -103,7 +107,7 @@ impl<'a, K: Eq + Hash, V, S: BuildHasher> OccupiedEntry<'a, K, V, S> {
     /// six links.
     pub fn insert_entry(self, value: V) -> (K, V)
         ensures { InsertsEntry (occupied_state self.entry).map (state_of self.exit.0.now) (occupied_place self.entry)
-            self.entry.key value result }
+            (occupied_state self.entry).key value result }
     {
         let node = self.node;
         let key = self.key;
@@ -113,7 +117,7 @@ impl<'a, K: Eq + Hash, V, S: BuildHasher> OccupiedEntry<'a, K, V, S> {
     /// Puts the key in hand and the value in, and answers the old pair. The entry keeps its place.
     pub fn replace_entry(self, value: V) -> (K, V)
         ensures { ReplacesEntry (occupied_state self.entry).map (state_of self.exit.0.now) (occupied_place self.entry)
-            self.entry.key value result }
+            (occupied_state self.entry).key value result }
     {
         let node = self.node;
         let key = self.key;
@@ -123,11 +127,51 @@ impl<'a, K: Eq + Hash, V, S: BuildHasher> OccupiedEntry<'a, K, V, S> {
     /// Puts the key in hand in, and answers the old key. The entry keeps its place and its value.
     pub fn replace_key(self) -> K
         ensures { ReplacesKey (occupied_state self.entry).map (state_of self.exit.0.now) (occupied_place self.entry)
-            self.entry.key result }
+            (occupied_state self.entry).key result }
     {
         let node = self.node;
         let key = self.key;
         self.map.replace_key_at(node, key)
+    }
+
+    /// The key in hand, for good. The map stays as it is.
+    pub fn into_key(self) -> K
+        ensures key { result ≡ (occupied_state self.entry).key }
+        ensures unchanged { self.exit.0.now ≡ (occupied_map self.entry).now }
+    {
+        let OccupiedEntry {
+            map: _,
+            node: _,
+            key,
+        } = self;
+        key
+    }
+
+    /// A cursor on this entry. The key in hand is dropped.
+    pub fn cursor_mut(self) -> CursorMut<'a, K, V, S>
+    where
+        K: Drop,
+        ensures same_map { (cursor_map result).ghost_name ≡ (occupied_map self.entry).ghost_name }
+        ensures unchanged { (cursor_map result).now ≡ (occupied_map self.entry).now }
+        ensures stands { (cursor_state result).place ≡ occupied_place self.entry }
+    {
+        let OccupiedEntry { map, node, key: _ } = self;
+        CursorMut {
+            map,
+            place: Some(node),
+        }
+    }
+
+    /// The raw entry of this place. The key in hand is dropped.
+    pub fn raw_entry_mut(self) -> RawOccupiedEntryMut<'a, K, V, S>
+    where
+        K: Drop,
+        ensures same_map { (raw_occupied_map result).ghost_name ≡ (occupied_map self.entry).ghost_name }
+        ensures unchanged { (raw_occupied_map result).now ≡ (occupied_map self.entry).now }
+        ensures stands { raw_place result ≡ occupied_place self.entry }
+    {
+        let OccupiedEntry { map, node, key: _ } = self;
+        RawOccupiedEntryMut { map, node }
     }
 
     /// Takes the entry out and answers its value. The key in hand and the stored key are dropped. It stores at most

@@ -1,14 +1,18 @@
 //! The calls of `VacantEntry`. None of them hashes.
-ghost use Rattle.std.specs.Prelude.{◌≡◌, IfOk};
+ghost use Rattle.std.specs.Prelude.{◌≡◌, IfOk, IfErr, length};
 ghost use Rattle.std.specs.Borrow.{sem};
+ghost use Rattle.hashlink_model.specs.MapState.{AddsEntry};
 ghost use Rattle.hashlink_core.specs.Keyed.{state_of};
 
 use super::VacantEntry;
+use crate::raw_entry::{RawOccupiedEntryMut, RawVacantEntryMut};
 use std::hash::{BuildHasher, Hash};
 
 impl<'a, K: Eq + Hash, V, S: BuildHasher> VacantEntry<'a, K, V, S> {
     ghost use Rattle.hashlink_map.specs.Entry.{vacant_map, vacant_state};
     ghost use Rattle.hashlink_map.specs.EntryLends.{LendsNew};
+    ghost use Rattle.hashlink_map.specs.RawEntry.{raw_occupied_map, raw_vacant_map, raw_place};
+    ghost use Rattle.hashlink_map.specs.RawLends.{HandsOnNew};
 
     /// The key in hand.
     pub fn key(&self) -> &K
@@ -41,5 +45,40 @@ impl<'a, K: Eq + Hash, V, S: BuildHasher> VacantEntry<'a, K, V, S> {
         let VacantEntry { map, hash, key } = self;
         let node = map.push_back(hash, key, value)?;
         Ok(map.value_at_mut(node))
+    }
+
+    /// Puts the key in hand and the value last, and answers the entry. It stores at most four links.
+    ///
+    /// It takes memory only where no node is spare. Where that is refused, the key in hand and the value are handed
+    /// back, and no entry changes.
+    pub fn insert_entry(self, value: V) -> Result<RawOccupiedEntryMut<'a, K, V, S>, (K, V)>
+        ensures* hands_on { sem 𝓛 (HandsOnNew K.row V.row S.row S.Hasher.row (vacant_map self.entry)
+            (vacant_state self.entry).key value result) }
+        ensures same_map { IfOk result
+            (λ o. (raw_occupied_map o).ghost_name ≡ (vacant_map self.entry).ghost_name) }
+        ensures adds { IfOk result (λ o. AddsEntry K.eq (vacant_state self.entry).map
+            (state_of (raw_occupied_map o).now) (vacant_state self.entry).key value
+            (length (vacant_state self.entry).map.entries)) }
+        ensures last { IfOk result (λ o. raw_place o ≡ length (vacant_state self.entry).map.entries) }
+        ensures handed_back { IfErr result (λ p. p ≡ ((vacant_state self.entry).key, value)) }
+    {
+        let VacantEntry { map, hash, key } = self;
+        let node = map.push_back(hash, key, value)?;
+        Ok(RawOccupiedEntryMut { map, node })
+    }
+
+    /// The raw entry of this place. The key in hand is dropped.
+    pub fn raw_entry_mut(self) -> RawVacantEntryMut<'a, K, V, S>
+    where
+        K: Drop,
+        ensures same_map { (raw_vacant_map result).ghost_name ≡ (vacant_map self.entry).ghost_name }
+        ensures unchanged { (raw_vacant_map result).now ≡ (vacant_map self.entry).now }
+    {
+        let VacantEntry {
+            map,
+            hash: _,
+            key: _,
+        } = self;
+        RawVacantEntryMut { map }
     }
 }

@@ -4,7 +4,7 @@ ghost use Rattle.std.specs.Option.{option_map};
 ghost use Rattle.std.specs.Borrow.{sem};
 ghost use Rattle.std.specs.Map.{lookup, set_value};
 ghost use Rattle.hashlink_nodes.specs.Node.{same_node};
-ghost use Rattle.hashlink_nodes.specs.Ring.{with_value, with_key, with_number, Holds};
+ghost use Rattle.hashlink_nodes.specs.Ring.{pair_of, with_value, with_key, with_number, Holds};
 
 use super::Nodes;
 use crate::node::Node;
@@ -48,13 +48,14 @@ impl<K, V> Nodes<K, V> {
         self.cells.replace_key(node, key)
     }
 
-    /// Lends the value of the node's entry.
+    /// Lends the value of the node's entry, beside its key.
     #[inline]
-    pub fn value_mut(&mut self, node: Node) -> &mut V
+    pub fn entry_mut(&mut self, node: Node) -> (&K, &mut V)
         requires { Holds self.old.entries node }
-        ensures* lends { sem 𝓛 (LendsValueAt K.row V.row self.entry node result) }
-        ensures value { option_map (λ h. h.value) (lookup (same_node node) self.old.entries) ≡ Some result.now }
+        ensures* lends { sem 𝓛 (LendsValueAt K.row V.row self.entry node result.1) }
+        ensures pair { option_map pair_of (lookup (same_node node) self.old.entries)
+            ≡ Some (result.0.now, result.1.now) }
     {
-        self.cells.value_mut(node)
+        self.cells.entry_mut(node)
     }
 }

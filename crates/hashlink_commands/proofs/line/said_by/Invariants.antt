@@ -5,5 +5,5 @@ use Rattle.hashlink_commands.specs.Cuts.{words_shown}
 use Rattle.hashlink_commands.proofs.line.said_by.Given as goal
 
 abbrev pub invariant-loop-word : goal.invariant-loop-word
-invariant-loop-word l = lookup (bytes_eq l.name) (words_shown (drop l.word-index l.table))
+invariant-loop-word g l = lookup (bytes_eq l.name) (words_shown (drop l.word-index l.table))
     ≡ lookup (bytes_eq l.name) (words_shown l.table)

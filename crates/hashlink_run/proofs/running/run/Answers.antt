@@ -1,8 +1,15 @@
-use Rattle.std.proofs.Common.{length, ap, sym, ◌∙◌, arith}
+use Rattle.std.proofs.Common.{◌≡◌, true, false, is_ok, ap, sym, ◌∙◌, arith}
 use Rattle.std.specs.Vec.Iter.{into_iter_items}
+use Rattle.hashlink_run.specs.Run.{reply_total}
 use Rattle.hashlink_run.proofs.Chains.{stays_within_peak, takes_keys_where_shorter}
 use Rattle.hashlink_run.proofs.Answering.{HasAnswered-none, HasAnswered-more, HasAnswered-all}
 use Rattle.hashlink_run.proofs.running.run.Goals as goal
+
+pub returns-in_err-reply_total-clause-within_peak : goal.returns-in_err-reply_total-clause-within_peak
+returns-in_err-reply_total-clause-within_peak g c = λ answers run. stays_within_peak _ _ _ _ answers run
+
+pub returns-in_err-reply_total-clause-shorter : goal.returns-in_err-reply_total-clause-shorter
+returns-in_err-reply_total-clause-shorter g c = λ answers run. takes_keys_where_shorter _ _ _ _ answers run
 
 pub returns-in_err-replies-clause-within_peak : goal.returns-in_err-replies-clause-within_peak
 returns-in_err-replies-clause-within_peak g c = λ answers run. stays_within_peak _ _ _ _ answers run
@@ -10,11 +17,11 @@ returns-in_err-replies-clause-within_peak g c = λ answers run. stays_within_pea
 pub returns-in_err-replies-clause-shorter : goal.returns-in_err-replies-clause-shorter
 returns-in_err-replies-clause-shorter g c = λ answers run. takes_keys_where_shorter _ _ _ _ answers run
 
-pub returns-in_err-push-clause-within_peak : goal.returns-in_err-push-clause-within_peak
-returns-in_err-push-clause-within_peak g c = λ answers run. stays_within_peak _ _ _ _ answers run
+pub returns-in_err-answer_command-clause-within_peak : goal.returns-in_err-answer_command-clause-within_peak
+returns-in_err-answer_command-clause-within_peak g c = λ answers run. stays_within_peak _ _ _ _ answers run
 
-pub returns-in_err-push-clause-shorter : goal.returns-in_err-push-clause-shorter
-returns-in_err-push-clause-shorter g c = λ answers run. takes_keys_where_shorter _ _ _ _ answers run
+pub returns-in_err-answer_command-clause-shorter : goal.returns-in_err-answer_command-clause-shorter
+returns-in_err-answer_command-clause-shorter g c = λ answers run. takes_keys_where_shorter _ _ _ _ answers run
 
 pub returns-clause-within_peak : goal.returns-clause-within_peak
 returns-clause-within_peak g c = λ answers run. stays_within_peak _ _ _ _ answers run
@@ -28,11 +35,11 @@ loop-command-init g c =
       rw (gives, c.in_ok-replies.ensures.items) (HasAnswered-none _ _ _ _),
       omega (
         arith,
-        ap length gives,
+        ap reply_total gives,
         c.in_ok-replies.ensures.len,
         c.in_ok-replies.ensures.capacity,
-        c.len.ensures,
-        c.args.commands.ok,
+        c.in_ok-reply_total.ensures.total,
+        ap reply_total c.deref.ensures.value,
       ),
     )
 
@@ -40,14 +47,19 @@ pub loop-command-preserved : goal.loop-command-preserved
 loop-command-preserved g c =
     let so_far = c.loop-command.invariant in
     let left = c.in-Some.ensures.steps.0 in
-    let pushed = c.in_ok-push.ensures in (
-      rw pushed.items (HasAnswered-more _ _ _ _ _ _ (rw left at so_far.0) c.reply_to.ensures),
-      omega (arith, so_far.1, ap length left, pushed.len, pushed.capacity),
+    let answered = c.in_ok-answer_command.ensures.answered in
+    let room = c.answer_command.ensures.room (omega (arith, so_far.1, ap reply_total left)) in (
+      rw answered.2 (HasAnswered-more _ _ _ _ _ _ (rw left at so_far.0) answered.1),
+      omega (arith, so_far.1, ap reply_total left, room.1, room.2),
     )
 
-pub returns-in_err-push-clause-refused : goal.returns-in_err-push-clause-refused
-returns-in_err-push-clause-refused g c =
-    absurd (omega (arith, c.loop-command.invariant.1, ap length c.in-Some.ensures.steps.0, c.in_err-push.ensures.full))
+pub returns-in_err-answer_command-clause-refused : goal.returns-in_err-answer_command-clause-refused
+returns-in_err-answer_command-clause-refused g c =
+    let left = c.in-Some.ensures.steps.0 in
+    let room = c.answer_command.ensures.room (omega (arith, c.loop-command.invariant.1, ap reply_total left)) in
+    let answered : is_ok c.answer_command.result ≡ true = room.0 in
+    let failed : is_ok c.answer_command.result ≡ false = ap is_ok c.in_err-answer_command.was in
+    absurd (let both : true ≡ false = sym answered ∙ failed in cc)
 
 pub returns-clause-ran : goal.returns-clause-ran
 returns-clause-ran g c =

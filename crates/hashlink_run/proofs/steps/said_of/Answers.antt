@@ -1,5 +1,5 @@
 use Rattle.std.proofs.Common.{refl}
-use Rattle.hashlink_run.specs.Step.{ClosureSays}
+use Rattle.hashlink_run.specs.Reads.{ClosureSays}
 use Rattle.hashlink_run.proofs.steps.said_of.Goals as goal
 
 pub returns : goal.returns

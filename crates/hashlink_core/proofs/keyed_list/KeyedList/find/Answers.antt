@@ -1,30 +1,11 @@
-use Rattle.std.proofs.Common.{◌≡◌, None, ap, sym, subst, ◌∙◌}
-use Rattle.std.specs.List.{fold}
-use Rattle.std.specs.Option.{MatchOption}
-use Rattle.hashlink_model.specs.Entries.{place_of}
-use Rattle.hashlink_core.specs.Keyed.{HoldsKey, entries_of}
-use Rattle.hashlink_core.specs.Tied.{hash_with}
-use Rattle.hashlink_core.proofs.Calls.{sound}
-use Rattle.hashlink_core.proofs.Finding.{listed-holds, found-by_table}
+use Rattle.std.proofs.Common.{rules}
 use Rattle.hashlink_core.proofs.keyed_list.KeyedList.find.Goals as goal
+
+pub find_with-requires : goal.find_with-requires
+find_with-requires g c =
+    (c.args.key.now, record { hashed = c.requires; callable = λ x. search rules; answers = λ x b r. search rules })
 
 pub returns-clause-found : goal.returns-clause-found
 returns-clause-found g c =
-    let eq = g.K.PartialEq.eq in
-    let k = c.args.key.now in
-    let H = g.S.Hasher.Hasher in
-    let build = g.S.BuildHasher.build_hasher in
-    let input = g.K.Hash.hash_input in
-    subst (λ m. MatchOption c.look_up.result (place_of (eq k) (entries_of m) ≡ None) (HoldsKey eq m.nodes k))
-    c.self.view_is
-    (found-by_table g.met.K.Eq.laws c.self.invariant k
-    (λ x e. ap (λ input. H.finish (fold H.write (build c.self.inside.hash_builder) input))
-    (sym (g.met.K.Hash.respects_eq k x e)))
-    c.args.hash (c.requires ∙ ap (λ m. hash_with build H.write H.finish input m.hasher k) (sym c.self.view_is))
-    c.look_up.result c.look_up.ensures.found c.look_up.ensures.none)
-
-pub look_up-requires : goal.look_up-requires
-look_up-requires g c cell node there = listed-holds g.met.K.Eq.laws c.self.invariant cell _ node there
-
-pub returns-clause-sound : goal.returns-clause-sound
-returns-clause-sound g c = sound g.met.K.Eq.laws c.self.view_is c.self.invariant
+    c.find_with.ensures.found c.args.key.now
+    (record { hashed = c.requires; callable = λ x. search rules; answers = λ x b r. search rules })

@@ -6,5 +6,6 @@ pub returns-clause-stays : goal.returns-clause-stays
 returns-clause-stays g c =
     let laws = g.met.K.Eq.laws in
     let sound = c.replace_key.ensures.sound in
-    stays-renewed laws _ _ sound c.args.node c.requires.within _ c.self.view_is (pair_with_key c.args.key)
-    (same-keys laws _ _ sound c.args.node c.requires.within c.args.key c.requires) c.replace_key.ensures.written.nodes
+    stays-renewed laws _ _ sound c.args.node c.requires.held _ c.self.view_is (pair_with_key c.args.key)
+    (same-keys laws _ _ sound c.args.node c.requires.held c.args.key c.requires.equal)
+    c.replace_key.ensures.written.nodes

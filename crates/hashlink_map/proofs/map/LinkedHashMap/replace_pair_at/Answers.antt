@@ -4,7 +4,13 @@ use Rattle.hashlink_model.specs.Entry.{key_at}
 use Rattle.hashlink_core.specs.Keyed.{entries_of}
 use Rattle.hashlink_core.specs.Places.{place_number}
 use Rattle.hashlink_map.proofs.AtNode.{then_sets_key, key-set_value_at, pair_from_parts}
+use Rattle.hashlink_core.proofs.Holding.{holds-equal}
 use Rattle.hashlink_map.proofs.map.LinkedHashMap.replace_pair_at.Goals as goal
+
+pub replace_key_at-old_key-requires-clause-equal : goal.replace_key_at-old_key-requires-clause-equal
+replace_key_at-old_key-requires-clause-equal g c =
+    holds-equal _ c.replace_value_at-old_value.new.self c.args.node c.args.key
+    (c.replace_value_at-old_value.ensures.stays.keys c.args.key c.requires)
 
 pub returns-clause-replaces : goal.returns-clause-replaces
 returns-clause-replaces g c =

@@ -12,7 +12,8 @@ returns g c =
       (refl, λ w _. put w, tt),
       record {
         lends = tt;
-        value = moved-value g.K.PartialEq.eq _ c.move_to_back.new.self o.key _ o.stands.place o.node e.moves e.stays.place
+        value = moved-value g.K.PartialEq.eq _ c.move_to_back.new.self o.key _ o.stands.place o.node e.moves
+            e.stays.place
             _ c.value_at_mut.ensures.value;
       },
     )

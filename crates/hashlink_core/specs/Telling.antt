@@ -1,0 +1,11 @@
+-- Which key a hash and a test stand for.
+use Rattle.std.specs.Prelude.{◌≡◌, ℕ, Bool}
+use Rattle.std.specs.Borrow.{Bor}
+use Rattle.std.specs.Fn.{Shared}
+
+-- the key has the hash, and the test tells the keys that are equal to it from the others: it may be called at any key
+pub record Tells {K F : Type 0} (calls : Shared F (Bor K × Unit {0}) Bool) (eq : K → K → Bool) (hash : K → ℕ)
+    (test : F) (asked : ℕ) (k : K) : Type 0 where
+  pub hashed : asked ≡ hash k
+  pub callable : (x : Bor K) → calls.pre test (x, tt)
+  pub answers : (x : Bor K) (answer : Bool) → calls.post test (x, tt) answer → answer ≡ eq x.now k

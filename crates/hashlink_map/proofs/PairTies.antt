@@ -1,0 +1,129 @@
+-- What the map ends as, from the entry that it went into and the pair that the entry lent. Assumes `Logic`.
+use Rattle.std.proofs.Common.{◌≡◌, [], ◌∷◌, sym, subst}
+use seplogic.Ra.Ura.{Ura}
+use base.Logic.{ent, sep}
+use types.Logic.{Logic, sem}
+use types.Kit.{‵, ◌$◌, ◌∵◌, !, qed, drop, move, use2, fpick, fpack, done}
+use denote.Follow.{follows_by, such_by, follows_then}
+use Rattle.std.specs.Prelude.{Result, Ok, Err, Some, IfOk, IfErr, OnErr, MatchResult, slice_get, length}
+use Rattle.std.specs.Borrow.{Fml, ftrue, RattleType, Bor, MutBor, RestsIfErr, follows, follows_if, follows_so}
+use Rattle.std.specs.Borrow.{name_if_ok}
+use Rattle.std.specs.Cmp.{IsEquivalence}
+use Rattle.std.specs.declared.cmp.PartialEq as eq
+use Rattle.std.specs.declared.hash.Hash as hash
+use Rattle.std.specs.declared.hash.Hasher as hasher
+use Rattle.std.specs.declared.hash.BuildHasher as builder
+use Rattle.hashlink_model.specs.MapState.{MapState, AddsEntry}
+use Rattle.hashlink_core.specs.Keyed.{Keyed, state_of}
+use Rattle.hashlink_core.specs.Places.{Node}
+use Rattle.hashlink_core.specs.KeyedLends.{with_value_at}
+use Rattle.hashlink_map.specs.contracts.as_node.NodeAsNode.TheImpl
+use Rattle.hashlink_map.specs.contracts.map.LinkedHashMap.{the_row}
+use Rattle.hashlink_map.specs.declared.raw_entry.RawOccupiedEntryMut.{RawOccupiedEntryMut}
+use Rattle.hashlink_map.specs.RawEntry.{raw_occupied_map, raw_occupied_state, raw_place}
+use Rattle.hashlink_map.specs.RawLends.{LendsPairOf}
+use Rattle.hashlink_map.proofs.AtNode.{adds-written, added-parts}
+
+module _ {K V S T : Type 0} {g : eq.Ghosts K} {h : hash.Ghosts K} {b : builder.Ghosts S T} {w : hasher.Ghosts T} where
+  -- the pair that stands at the entry's place is the one that was lent
+  abbrev pub IsPairAt : RawOccupiedEntryMut K V S Node T g h b w TheImpl.ghosts → Bor K × MutBor V → Type 0
+  IsPairAt o q = slice_get (raw_occupied_state o).map.entries (raw_place o) ≡ Some (q.0.now, q.1.now)
+
+  module _ {E : Type 0} (entered : Result (RawOccupiedEntryMut K V S Node T g h b w TheImpl.ghosts) E) where
+    abbrev pub OfEntry : (Bor K × MutBor V → Type 0) → Type 0
+    OfEntry P = IfOk entered (λ o. (q : Bor K × MutBor V) → IsPairAt o q → P q)
+
+    abbrev pub IsLent : Result (Bor K × MutBor V) E → Type 0
+    IsLent r = IfOk r (λ q. MatchResult entered (λ o. IsPairAt o q) (λ _. ⊥))
+
+    abbrev pub IsHandedOn : Result (Bor K × MutBor V) E → Type 0
+    IsHandedOn r = IfErr r (λ e. entered ≡ Err e)
+
+  -- what holds of the entry's pair holds of the pair that was lent, and what holds of an error of the one handed on
+  pub ok_carried : {E : Type 0} (x : Result (RawOccupiedEntryMut K V S Node T g h b w TheImpl.ghosts) E)
+      (r : Result (Bor K × MutBor V) E) (P : Bor K × MutBor V → Type 0)
+      → IsLent x r → OfEntry x P → IfOk r P
+  ok_carried (Ok o) (Ok q) P has go = go q has
+  ok_carried (Err e) (Ok q) P has go = absurd has
+  ok_carried x (Err e) P has go = tt
+
+  pub err_carried : {E : Type 0} (x : Result (RawOccupiedEntryMut K V S Node T g h b w TheImpl.ghosts) E)
+      (r : Result (Bor K × MutBor V) E) (P : E → Type 0)
+      → IsHandedOn x r → IfErr x P → IfErr r P
+  err_carried x (Ok q) P is all = tt
+  err_carried x (Err e) P is all = subst (λ y. IfErr y P) is all
+
+  pub on_err_carried : {E : Type 0} (x : Result (RawOccupiedEntryMut K V S Node T g h b w TheImpl.ghosts) E)
+      (r : Result (Bor K × MutBor V) E) (P : Type 0)
+      → IsHandedOn x r → OnErr x P → OnErr r P
+  on_err_carried x (Ok q) P is all = tt
+  on_err_carried x (Err e) P is all = subst (λ y. OnErr y P) is all
+
+  -- an entry whose pair went last
+  module _ (laws : IsEquivalence g.eq) (old : MapState K V S) (k : K) (v : V) {E : Type 0} where
+    pub new_written : (x : Result (RawOccupiedEntryMut K V S Node T g h b w TheImpl.ghosts) E)
+        → IfOk x (λ o. AddsEntry g.eq old (state_of (raw_occupied_map o).now) k v (length old.entries))
+        → IfOk x (λ o. raw_place o ≡ length old.entries)
+        → IfOk x (λ o. (q : Bor K × MutBor V) → IsPairAt o q → (u : V)
+        → AddsEntry g.eq old (state_of (with_value_at o.map.now o.node u)) k u (length old.entries))
+    new_written (Ok o) s place = λ q has. adds-written laws old o.map.now k v o.node s place
+    new_written (Err e) s place = tt
+
+    pub new_parts : (x : Result (RawOccupiedEntryMut K V S Node T g h b w TheImpl.ghosts) E)
+        → IfOk x (λ o. AddsEntry g.eq old (state_of (raw_occupied_map o).now) k v (length old.entries))
+        → IfOk x (λ o. raw_place o ≡ length old.entries)
+        → OfEntry x (λ q. (q.0.now ≡ k) × (q.1.now ≡ v))
+    new_parts (Ok o) s place = λ q. added-parts laws old o.map.now k v o.node s place (q.0.now, q.1.now)
+    new_parts (Err e) s place = tt
+
+module _ (K V S T : RattleType) (g : eq.Ghosts K.Denot) (h : hash.Ghosts K.Denot) (b : builder.Ghosts S.Denot T.Denot)
+    (w : hasher.Ghosts T.Denot) (m : MutBor (Keyed K.Denot V.Denot S.Denot)) {E : Type 0}
+    (P : Bor K.Denot × MutBor V.Denot → V.Denot → Keyed K.Denot V.Denot S.Denot → Type 0)
+    (P₀ : E → Keyed K.Denot V.Denot S.Denot → Type 0) where
+  abbrev Map : RattleType
+  Map = the_row K V S T g h b w
+
+  abbrev Rests : Result (RawOccupiedEntryMut K.Denot V.Denot S.Denot Node T.Denot g h b w TheImpl.ghosts) E → Fml
+  Rests x = RestsIfErr Map m (λ o. (raw_occupied_map o).ghost_name) x (λ new. IfErr x (λ e. P₀ e new))
+
+  abbrev Lends : Result (Bor K.Denot × MutBor V.Denot) E → Fml
+  Lends r =
+      follows_so Map V m.ghost_name (name_if_ok (λ q. q.1.ghost_name) r) (λ u new. IfOk r (λ q. P q u new))
+      (λ new. IfErr r (λ e. P₀ e new))
+
+  abbrev Chosen : Result (Bor K.Denot × MutBor V.Denot) E → Type 0
+  Chosen r =
+      (s : (V.Denot → Map.Denot) × Map.Denot) × ((u : V.Denot) → IfOk r (λ q. P q u (s.0 u))) × IfErr r
+      (λ e. P₀ e s.1)
+
+  abbrev Follows : (r : Result (Bor K.Denot × MutBor V.Denot) E) → Chosen r → Fml
+  Follows r s = follows_if Map V m.ghost_name (name_if_ok (λ q. q.1.ghost_name) r) s.0.0 s.0.1
+
+  -- the map rests in the entry, and the entry's map follows the value that was lent: so the map follows it
+  module _ {M : Type 1} {𝓤 : Ura M} (𝓛 : Logic 𝓤) where
+    pub carries : (x : Result (RawOccupiedEntryMut K.Denot V.Denot S.Denot Node T.Denot g h b w TheImpl.ghosts) E)
+        (r : Result (Bor K.Denot × MutBor V.Denot) E)
+        → IsLent x r → IsHandedOn x r
+        → IfOk x (λ o. (q : Bor K.Denot × MutBor V.Denot) → IsPairAt o q → (u : V.Denot)
+        → P q u (with_value_at o.map.now o.node u))
+        → ent 𝓤 (sep 𝓤 (sem 𝓛 (Rests x)) (sem 𝓛 (LendsPairOf K V S T x r))) (sem 𝓛 (Lends r))
+    unfolding follows_by such_by
+    carries (Ok o) (Ok q) has is go =
+        let F : V.Denot → Map.Denot = with_value_at o.map.now o.node in
+        qed 𝓛 (‵ (Rests (Ok o)) ∷ ‵ (LendsPairOf K V S T {E = E} (Ok o) (Ok q)) ∷ []) ∵ fpick !
+        (λ s.
+        use2 𝓛 (‵ (follows Map V m.ghost_name q.1.ghost_name (λ u. s.0.0 (F u))))
+        (follows_then 𝓛 Map Map V s.0.0 F m.ghost_name o.map.ghost_name q.1.ghost_name)
+        $
+        fpack ! (Chosen (Ok q)) (Follows (Ok q))
+        (((λ u. s.0.0 (F u)), s.0.1), (λ u. subst (P q u) (sym (s.1 (F u))) (go q has u)), tt)
+        $ done !)
+    carries (Ok o) (Err e) has is go = absurd (cc)
+    carries (Err e) (Ok q) has is go = absurd has
+    carries (Err e) (Err f) has is go =
+        let same : e ≡ f = cc in
+        qed 𝓛 (‵ (Rests (Err e)) ∷ ‵ ftrue ∷ []) ∵ fpick !
+        (λ s. move ! (1 ∷ []) $ drop ! $
+        fpack ! (Chosen (Err f)) (Follows (Err f))
+        (((λ u. s.0.1), s.0.1), (λ u. tt), subst (λ y. P₀ y s.0.1) same s.2)
+        $ done !)

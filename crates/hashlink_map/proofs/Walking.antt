@@ -1,0 +1,158 @@
+-- Where a walk that lends values stands, by its places.
+use Rattle.std.proofs.Common.{◌≡◌, ◌≢◌, ℕ, zero, suc, ◌+◌, ◌-◌, ◌<◌, ◌≤◌, List, [], ◌∷◌, length}
+use Rattle.std.proofs.Common.{take, drop, Option, None, Some, refl, ap, ap₂, sym, subst, length-drop, length-take-le}
+use Rattle.std.proofs.Common.{◌∙◌, arith}
+use Rattle.std.specs.Prelude.{slice_get, OnSome, IfNone}
+use Rattle.std.specs.Option.{option_map}
+use Rattle.hashlink_model.specs.MapState.{MapState, map_state}
+use Rattle.hashlink_model.specs.Walk.{first_of, last_of}
+use Rattle.hashlink_core.specs.Keyed.{Keyed, entries_of, state_of, pair_with_value}
+use Rattle.hashlink_core.specs.KeyedLends.{with_value_at}
+use Rattle.hashlink_core.proofs.Mapped.{values-renewed_value}
+use Rattle.hashlink_map.specs.IterMut.{WritingWalk, writing_walk, walk_with}
+use Rattle.hashlink_model.specs.Cursor.{following_place, preceding_place}
+use Rattle.hashlink_core.specs.Places.{Node, Holds, IsPlace, IsPlaceAt, place_number, renewed_at}
+use Rattle.hashlink_core.specs.Walk.{StandsBetween}
+use Rattle.hashlink_core.proofs.Neighbours.{before-suc}
+use Rattle.hashlink_core.proofs.Places.{following-within, place_number-renewed}
+use Rattle.hashlink_core.proofs.Walk.{within-holds, slice_get-drop}
+
+-- a place, and what stands for one
+pub same-place : (p : Option Node) → option_map (λ n. n) p ≡ p
+same-place None = refl
+same-place (Some n) = refl
+
+module _ {X : Type 0} {ns : List (Node × X)} {left : ℕ} where
+  pub stands-inside : (first last : Option Node)
+      → StandsBetween ns (option_map (λ n. n) first) (option_map (λ n. n) last) left → StandsBetween ns first last left
+  stands-inside first last w =
+      subst (λ p. StandsBetween ns p last left) (same-place first)
+      (subst (λ p. StandsBetween ns (option_map (λ n. n) first) p left) (same-place last) w)
+
+  pub stands-outside : (first last : Option Node) → StandsBetween ns first last left
+      → StandsBetween ns (option_map (λ n. n) first) (option_map (λ n. n) last) left
+  stands-outside first last w =
+      subst (λ p. StandsBetween ns p (option_map (λ n. n) last) left) (sym (same-place first))
+      (subst (λ p. StandsBetween ns first p left) (sym (same-place last)) w)
+
+module _ {X : Type 0} (ns : List (Node × X)) (first last : Option Node) (left : ℕ)
+    (w : StandsBetween ns first last left) (some : left ≢ 0) where
+  -- ---- at the front
+  module _ (n : Node) (is : first ≡ Some n) where
+    pub holds-first : Holds ns n
+    holds-first = within-holds ns n (omega (arith, w.few, ap (place_number ns) is, some))
+
+    pub place-first : IsPlace ns first
+    place-first = subst (IsPlace ns) (sym is) holds-first
+
+    module _ (q : Option Node) (next : IsPlaceAt ns q (following_place (length ns) (place_number ns first))) where
+      pub number-next : place_number ns q ≡ place_number ns first + 1
+      number-next = next.number ∙ following-within (length ns) (place_number ns first) (omega (arith, w.few, some))
+          ∙ omega arith
+
+      pub stands-next : StandsBetween ns q last (left - 1)
+      stands-next = record {
+        few = omega (arith, w.few, number-next, some);
+        ends = λ more. let ends = w.ends (omega (arith, some)) in omega (arith, ends, more, number-next);
+      }
+
+  -- ---- at the back
+  module _ (n : Node) (is : last ≡ Some n) where
+    pub number-last : place_number ns (Some n) ≡ place_number ns first + left - 1
+    number-last =
+        let ends = w.ends (omega (arith, some)) in omega (arith, ends, ap (place_number ns) is)
+
+    pub holds-last : Holds ns n
+    holds-last = within-holds ns n (omega (arith, w.few, number-last, some))
+
+    pub place-last : IsPlace ns last
+    place-last = subst (IsPlace ns) (sym is) holds-last
+
+    module _ (q : Option Node) (prev : IsPlaceAt ns q (preceding_place (length ns) (place_number ns last))) where
+      number-prev : 1 < left → place_number ns q + 1 ≡ place_number ns last
+      number-prev more =
+          let ends = w.ends (omega (arith, some)) in
+          let i = place_number ns last in
+          let later : i ≡ suc (i - 1) = omega (arith, ends, more) in
+          let before : place_number ns q ≡ i - 1 =
+          prev.number ∙ ap (preceding_place (length ns)) later
+          ∙ before-suc (length ns) (i - 1) (omega (arith, w.few, ends)) in
+          omega (arith, before, later)
+
+      pub stands-prev : StandsBetween ns first q (left - 1)
+      stands-prev = record {
+        few = omega (arith, w.few);
+        ends = λ more. let ends = w.ends (omega (arith, some)) in
+            omega (arith, ends, more, number-prev (omega (arith, more)));
+      }
+
+-- ---- what the walk has left
+module _ {X : Type 0} where
+  slice_get-taken : (xs : List X) (n i : ℕ) → i < n → slice_get (take n xs) i ≡ slice_get xs i
+  slice_get-taken xs zero i lt = absurd (omega (arith, lt))
+  slice_get-taken [] (suc n) i lt = refl
+  slice_get-taken (x ∷ xs) (suc n) zero lt = refl
+  slice_get-taken (x ∷ xs) (suc n) (suc i) lt = slice_get-taken xs n i (omega (arith, lt))
+
+  slice_get-dropped : (xs : List X) (i j : ℕ) → slice_get (drop i xs) j ≡ slice_get xs (i + j)
+  slice_get-dropped xs i j = slice_get-drop xs i j (i + j) refl
+
+  length-part : (xs : List X) (i n : ℕ) → i + n ≤ length xs → length (take n (drop i xs)) ≡ n
+  length-part xs i n le = length-take-le n (drop i xs) (omega (arith, le, length-drop i xs))
+
+  pub first-of_part : (xs : List X) (i n : ℕ) → 0 < n → first_of (take n (drop i xs)) ≡ slice_get xs i
+  first-of_part xs i n some = slice_get-taken (drop i xs) n 0 some ∙ slice_get-dropped xs i 0
+      ∙ ap (slice_get xs) (omega arith)
+
+  pub last-of_part : (xs : List X) (i n : ℕ) → 0 < n → i + n ≤ length xs
+      → last_of (take n (drop i xs)) ≡ slice_get xs (i + n - 1)
+  last-of_part xs i n some le =
+      ap (λ l. slice_get (take n (drop i xs)) (l - 1)) (length-part xs i n le)
+      ∙ slice_get-taken (drop i xs) n (n - 1) (omega (arith, some)) ∙ slice_get-dropped xs i (n - 1)
+      ∙ ap (slice_get xs) (omega (arith, some))
+
+-- ---- what was written
+module _ {K V S : Type 0} where
+  pub still-stands : (m : Keyed K V S) (n : Node) (v : V) {first last : Option Node} {left : ℕ}
+      → StandsBetween m.nodes first last left → StandsBetween (with_value_at m n v).nodes first last left
+  still-stands m n v {first} {last} w =
+      let same = place_number-renewed (pair_with_value v) m.nodes (place_number m.nodes (Some n)) in
+      record {
+        few = omega (arith, w.few, same first, same None);
+        ends = λ some. let ends = w.ends some in omega (arith, ends, same first, same last);
+      }
+
+  -- at the node that was taken, which stood at j
+  pub step-written : (m old : Keyed K V S) (same : m ≡ old) (p : Option Node) (left : ℕ) (n : Node) (j : ℕ)
+      (stepped : WritingWalk K V S) → place_number old.nodes (Some n) ≡ j
+      → writing_walk (state_of m) (place_number m.nodes p) left ≡ stepped
+      → (v : V)
+      → writing_walk (state_of (with_value_at m n v)) (place_number (with_value_at m n v).nodes p) left
+      ≡ walk_with stepped j v
+  step-written m old same p left n j stepped at is v =
+      let i = place_number m.nodes (Some n) in
+      ap₂ (λ es k. writing_walk (map_state es m.spare m.room m.link_writes m.hasher) k left)
+      (values-renewed_value m.nodes i v) (place_number-renewed (pair_with_value v) m.nodes i p)
+      ∙ ap (λ k. walk_with (writing_walk (state_of m) (place_number m.nodes p) left) k v)
+      (ap (λ o. place_number o.nodes (Some n)) same ∙ at)
+      ∙ ap (λ s. walk_with s j v) is
+
+  -- what is read there
+  pub read-there : {Y : Type 0} (get : List (K × V) → ℕ → Y) (m old : Keyed K V S) (same : m ≡ old) (n : Node) (j : ℕ)
+      → place_number old.nodes (Some n) ≡ j
+      → get (entries_of m) (place_number m.nodes (Some n)) ≡ get (entries_of old) j
+  read-there get m old same n j at =
+      ap (λ o. get (entries_of o) (place_number o.nodes (Some n))) same ∙ ap (get (entries_of old)) at
+
+-- ---- what a caller knows
+pub on-some : {A : Type 0} {r : Option A} {x : A} {P : Type 0} → r ≡ Some x → OnSome r P → P
+on-some {P = P} is told = subst (λ o. OnSome o P) is told
+
+pub on-none : {A : Type 0} {r : Option A} {P : Type 0} → r ≡ None → IfNone r P → P
+on-none {P = P} is told = subst (λ o. IfNone o P) is told
+
+module _ {K V S : Type 0} where
+  -- the map ends as the walk has it
+  pub walk-ends : {m : Keyed K V S} (seen : Keyed K V S) {state : MapState K V S} → m ≡ seen → state_of seen ≡ state
+      → state_of m ≡ state
+  walk-ends seen is told = ap state_of is ∙ told

@@ -1,0 +1,22 @@
+use Rattle.std.proofs.Common.{subst, rules}
+use Rattle.hashlink_model.specs.MapState.{Inserts}
+use Rattle.hashlink_core.specs.Keyed.{state_of}
+use Rattle.hashlink_map.specs.Cursor.{cursor_node}
+use Rattle.hashlink_map.proofs.cursor.methods.CursorMut+K+V+S.insert_after.Goals as goal
+
+pub invariant_of-self : goal.invariant_of-self
+invariant_of-self g c =
+    let s = c.args.self.now in
+    record { within = (c.insert_at.ensures.keeps (cursor_node s) s.within).within }
+
+pub returns-clause-inserts : goal.returns-clause-inserts
+returns-clause-inserts g c =
+    let s = c.args.self.now in
+    record {
+      map =
+          subst
+          (λ i. Inserts g.K.PartialEq.eq (state_of s.map.now) (state_of c.insert_at.new.self) c.args.key c.args.value i
+          c.insert_at.result)
+          (search rules) c.insert_at.ensures.inserts;
+      place = (c.insert_at.ensures.keeps (cursor_node s) s.within).number;
+    }

@@ -1,0 +1,24 @@
+use Rattle.std.proofs.Common.{sym, ap, subst}
+use Rattle.hashlink_model.specs.MapState.{Inserts}
+use Rattle.hashlink_core.specs.Keyed.{state_of}
+use Rattle.hashlink_core.specs.Places.{place_number}
+use Rattle.hashlink_map.specs.Cursor.{cursor_node}
+use Rattle.hashlink_map.proofs.Written.{same_place}
+use Rattle.hashlink_map.proofs.cursor.methods.CursorMut+K+V+S.insert_before.Goals as goal
+
+pub invariant_of-self : goal.invariant_of-self
+invariant_of-self g c =
+    let s = c.args.self.now in
+    record { within = (c.insert_at.ensures.keeps (cursor_node s) s.within).within }
+
+pub returns-clause-inserts : goal.returns-clause-inserts
+returns-clause-inserts g c =
+    let s = c.args.self.now in
+    record {
+      map =
+          subst
+          (λ p. Inserts g.K.PartialEq.eq (state_of s.map.now) (state_of c.insert_at.new.self) c.args.key c.args.value
+          (place_number s.map.now.nodes p) c.insert_at.result)
+          (sym (same_place s.place)) c.insert_at.ensures.inserts;
+      place = (c.insert_at.ensures.keeps (cursor_node s) s.within).number;
+    }

@@ -1,0 +1,13 @@
+use Rattle.std.proofs.Common.{refl}
+use Rattle.hashlink_core.specs.Keyed.{state_of}
+use Rattle.hashlink_map.proofs.Taking.{pop-takes_last}
+use Rattle.hashlink_map.proofs.drain.DrainDoubleEndedIterator.next_back.Goals as goal
+
+pub returns-clause-steps : goal.returns-clause-steps
+returns-clause-steps g c =
+    let pops = c.pop_back.ensures.pops in
+    record {
+      takes = pop-takes_last (state_of c.args.self.now.map.now) (state_of c.pop_back.new.self) c.pop_back.result pops;
+      pops = pops;
+      same_map = refl;
+    }

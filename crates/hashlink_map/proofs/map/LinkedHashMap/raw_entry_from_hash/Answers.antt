@@ -1,0 +1,12 @@
+use Rattle.std.proofs.Common.{sym, rules}
+use Rattle.hashlink_core.specs.Keyed.{entries_of}
+use Rattle.hashlink_map.proofs.Steps.{lookup_entry-place, lookup_entry-unplaced}
+use Rattle.hashlink_map.proofs.map.LinkedHashMap.raw_entry_from_hash.Goals as goal
+
+pub returns-in-Some-clause-pair : goal.returns-in-Some-clause-pair
+returns-in-Some-clause-pair g c k told =
+    sym (lookup_entry-place (g.K.PartialEq.eq k) (entries_of c.args.self.now) _ (search rules))
+
+pub returns-in-None-clause-pair : goal.returns-in-None-clause-pair
+returns-in-None-clause-pair g c k told =
+    sym (lookup_entry-unplaced (g.K.PartialEq.eq k) (entries_of c.args.self.now) (search rules))

@@ -1,0 +1,13 @@
+use Rattle.std.proofs.Common.{refl}
+use Rattle.hashlink_map.specs.Standing.{still_holds}
+use Rattle.hashlink_map.proofs.Written.{raw_is_written, raw_with-is}
+use Rattle.hashlink_map.proofs.raw_entry.occupied.RawOccupiedEntryMut+K+V+S.get_mut.Goals as goal
+
+pub invariant_of-self-lent : goal.invariant_of-self-lent
+invariant_of-self-lent g c w = let o = c.args.self.now in (still_holds w o.map.now.nodes o.node o.stands, tt)
+
+pub returns : goal.returns
+returns g c = (
+  (refl, λ w. raw_with-is c.args.self.now w _),
+  record { lends = tt; value = c.value_at_mut.ensures.value; written = raw_is_written c.args.self.now },
+)

@@ -1,0 +1,10 @@
+use Rattle.std.proofs.Common.{refl}
+use Rattle.hashlink_map.proofs.Written.{raw_is_written}
+use Rattle.hashlink_map.proofs.raw_entry.occupied.RawOccupiedEntryMut+K+V+S.into_mut.Goals as goal
+
+pub returns : goal.returns
+returns g c = (
+  (refl, λ w. refl),
+  record
+      { lends = tt; value = c.value_at_mut.ensures.value; written = raw_is_written c.args.self },
+)

@@ -1,0 +1,37 @@
+-- What a contract sees of a cursor.
+use Rattle.std.specs.Prelude.{◌≡◌, ℕ, Option}
+use Rattle.std.specs.Borrow.{Bor, MutBor}
+use Rattle.std.specs.Option.{option_map}
+use Rattle.std.specs.declared.cmp.PartialEq as eq
+use Rattle.std.specs.declared.hash.Hash as hash
+use Rattle.std.specs.declared.hash.Hasher as hasher
+use Rattle.std.specs.declared.hash.BuildHasher as builder
+use Rattle.hashlink_model.specs.Cursor.{CursorState, with_value_in}
+use Rattle.hashlink_core.specs.Places.{Node, place_number}
+use Rattle.hashlink_core.specs.Keyed.{Keyed, state_of}
+use Rattle.hashlink_map.specs.declared.as_node.AsNode as as_node
+use Rattle.hashlink_map.specs.declared.cursor.CursorMut.{CursorMut}
+
+-- the pair behind a key that is lent beside its value
+abbrev pub lent_pair : {K V : Type 0} → Bor K × MutBor V → K × V
+lent_pair p = (p.0.now, p.1.now)
+
+module _ {K V S T : Type 0} {g : eq.Ghosts K} {h : hash.Ghosts K} {b : builder.Ghosts S T} {w : hasher.Ghosts T}
+    {N : Type 0} {n : as_node.Ghosts N} where
+  -- the map that it borrows
+  abbrev pub cursor_map : CursorMut K V S N T g h b w n → MutBor (Keyed K V S)
+  cursor_map c = c.map
+
+  -- its place: a node, or none for the guard
+  abbrev pub cursor_node : CursorMut K V S N T g h b w n → Option Node
+  cursor_node c = option_map n.node c.place
+
+  -- its map, and the number of its place
+  abbrev pub cursor_state : CursorMut K V S N T g h b w n → CursorState K V S
+  cursor_state c = record { map = state_of c.map.now; place = place_number c.map.now.nodes (cursor_node c) }
+
+  -- the same cursor, after w was written as the value at the place i
+  abbrev pub CursorWritten : CursorMut K V S N T g h b w n → CursorMut K V S N T g h b w n → ℕ → V → Type 0
+  CursorWritten old new i v =
+      ((cursor_map new).ghost_name ≡ (cursor_map old).ghost_name)
+      × (cursor_state new ≡ with_value_in (cursor_state old) i v)

@@ -1,0 +1,58 @@
+-- What a cursor ends as, once a `&mut` to a value that came through it has ended.
+use Rattle.std.specs.Prelude.{◌≡◌, ℕ, [], Option, Some, OnSome}
+use Rattle.std.specs.Borrow.{Fml, RattleType, Bor, MutBor, Lends, LendsSo, follows_so, name_if_some}
+use mir.Syntax.{named}
+use Rattle.std.specs.declared.cmp.PartialEq as eq
+use Rattle.std.specs.declared.hash.Hash as hash
+use Rattle.std.specs.declared.hash.Hasher as hasher
+use Rattle.std.specs.declared.hash.BuildHasher as builder
+use Rattle.hashlink_core.specs.Places.{Node, place_number}
+use Rattle.hashlink_core.specs.KeyedLends.{node_row, with_value_at}
+use Rattle.hashlink_map.specs.contracts.cursor.CursorMut as cursor
+use Rattle.hashlink_map.specs.declared.as_node.AsNode as as_node
+use Rattle.hashlink_map.specs.declared.cursor.CursorMut.{CursorMut}
+use Rattle.hashlink_map.specs.Cursor.{cursor_map, cursor_node, cursor_state, CursorWritten}
+use Rattle.hashlink_map.specs.Standing.{still_placed}
+
+module _ {K V S T : Type 0} {g : eq.Ghosts K} {h : hash.Ghosts K} {b : builder.Ghosts S T} {w : hasher.Ghosts T}
+    {N : Type 0} {n : as_node.Ghosts N} where
+  -- the cursor with v as the value of the node
+  abbrev pub cursor_with : CursorMut K V S N T g h b w n → Node → V → CursorMut K V S N T g h b w n
+  cursor_with c at v =
+      let ns = c.map.now.nodes in
+      record c {
+        map = record c.map { now = with_value_at c.map.now at v };
+        within = still_placed v ns (place_number ns (Some at)) (cursor_node c) c.within;
+      }
+
+module _ (K V S T : RattleType) {g : eq.Ghosts K.Denot} {h : hash.Ghosts K.Denot} {b : builder.Ghosts S.Denot T.Denot}
+    {w : hasher.Ghosts T.Denot} {n : as_node.Ghosts Node} where
+  -- the cursor with what was written at the place i, and at the guard as it was. Its lifetime is the second of the
+  -- signature
+  abbrev pub LendsFromCursor : MutBor (CursorMut K.Denot V.Denot S.Denot Node T.Denot g h b w n) → ℕ
+      → Option (MutBor V.Denot)
+      → Fml
+  LendsFromCursor c i r =
+      LendsSo (cursor.the_row (record { mir = named 1; lft = [] }) K V S node_row T g h b w n) V c r
+      (λ new v. OnSome r (CursorWritten c.now new i v))
+      (λ new. ((cursor_map new).ghost_name ≡ (cursor_map c.now).ghost_name)
+      × ((cursor_map new).now ≡ (cursor_map c.now).now) × (cursor_state new ≡ cursor_state c.now))
+
+  -- the same of a key that is lent beside its value
+  abbrev pub LendsPairFromCursor : MutBor (CursorMut K.Denot V.Denot S.Denot Node T.Denot g h b w n) → ℕ
+      → Option (Bor K.Denot × MutBor V.Denot)
+      → Fml
+  LendsPairFromCursor c i r =
+      follows_so (cursor.the_row (record { mir = named 1; lft = [] }) K V S node_row T g h b w n) V c.ghost_name
+      (name_if_some (λ p. p.1.ghost_name) r)
+      (λ v new. OnSome r (CursorWritten c.now new i v))
+      (λ new. ((cursor_map new).ghost_name ≡ (cursor_map c.now).ghost_name)
+      × ((cursor_map new).now ≡ (cursor_map c.now).now) × (cursor_state new ≡ cursor_state c.now))
+
+  -- the cursor with what was written as the value of the node
+  abbrev pub LendsAtCursorNode : MutBor (CursorMut K.Denot V.Denot S.Denot Node T.Denot g h b w n) → Node
+      → MutBor V.Denot
+      → Fml
+  LendsAtCursorNode c at r =
+      Lends (cursor.the_row (record { mir = named 1; lft = [] }) K V S node_row T g h b w n) V c r
+      (cursor_with c.now at)

@@ -1,0 +1,101 @@
+-- What a map or a raw entry ends as, once what came through a raw entry has ended.
+use Rattle.std.specs.Prelude.{◌≡◌, ◌-◌, Bool, [], Option, Some, MatchOption, length, slice_get, Result, Ok, Err, IfOk}
+use Rattle.std.specs.Prelude.{IfErr}
+use Rattle.std.specs.Borrow.{Fml, ftrue, RattleType, Bor, MutBor, Lends, RestsIfNone, RestsIfErr, follows_so}
+use Rattle.std.specs.Borrow.{name_if_ok}
+use mir.Syntax.{named}
+use Rattle.std.specs.declared.cmp.PartialEq as eq
+use Rattle.std.specs.declared.hash.Hash as hash
+use Rattle.std.specs.declared.hash.Hasher as hasher
+use Rattle.std.specs.declared.hash.BuildHasher as builder
+use Rattle.hashlink_model.specs.Entries.{place_of}
+use Rattle.hashlink_model.specs.MapState.{AddsEntry, RefusesEntry, MovesAt}
+use Rattle.hashlink_model.specs.Entry.{RawEntryState}
+use Rattle.hashlink_core.specs.Keyed.{Keyed, state_of, entries_of}
+use Rattle.hashlink_core.specs.Places.{Node}
+use Rattle.hashlink_core.specs.KeyedLends.{HashMembers, node_row, with_value_at}
+use Rattle.hashlink_map.specs.contracts.map.LinkedHashMap.{the_row}
+use Rattle.hashlink_map.specs.contracts.raw_entry.RawOccupiedEntryMut as occupied
+use Rattle.hashlink_map.specs.declared.as_node.AsNode as as_node
+use Rattle.hashlink_map.specs.declared.raw_entry.RawEntryMut.{RawEntryMut}
+use Rattle.hashlink_map.specs.declared.raw_entry.RawOccupiedEntryMut.{RawOccupiedEntryMut}
+use Rattle.hashlink_map.specs.EntryLends.{PutsLast}
+use Rattle.hashlink_map.specs.Lends.{map_row}
+use Rattle.hashlink_map.specs.RawEntry.{raw_occupied_map, raw_with, raw_map, raw_state}
+
+-- what was found is of a given pair that went last, or of the pair that stood there and moved to the end
+abbrev pub StandsLast : {K V S : Type 0} → (K → K → Bool) → RawEntryState K V S → (K × V → Type 0) → RawEntryState K V S
+    → Type 0
+StandsLast eq old Given new =
+    let es = old.map.entries in
+    MatchOption old.place
+    ((e : _) × Given e × AddsEntry eq old.map new.map e.0 e.1 (length es) × (new.place ≡ Some (length es)))
+    (λ j. (e : _) × (slice_get es j ≡ Some e) × (place_of (eq e.0) es ≡ Some j) × MovesAt old.map new.map j (length es)
+    × (new.place ≡ Some (length es - 1)))
+
+module _ (K V S T : RattleType) {g : eq.Ghosts K.Denot} {h : hash.Ghosts K.Denot} {b : builder.Ghosts S.Denot T.Denot}
+    {w : hasher.Ghosts T.Denot} where
+  module _ {n : as_node.Ghosts Node} where
+    -- the entry with what was written as its value. Its lifetime is the second of the signature
+    abbrev pub LendsFromRaw : MutBor (RawOccupiedEntryMut K.Denot V.Denot S.Denot Node T.Denot g h b w n)
+        → MutBor V.Denot
+        → Fml
+    LendsFromRaw o r =
+        Lends (occupied.the_row (record { mir = named 1; lft = [] }) K V S node_row T g h b w n) V o r (raw_with o.now)
+
+    -- the entry, where there is one, ends the map, which else stays as it was
+    abbrev pub HandsOnOccupied : MutBor (Keyed K.Denot V.Denot S.Denot)
+        → Option (RawOccupiedEntryMut K.Denot V.Denot S.Denot Node T.Denot g h b w n)
+        → Fml
+    HandsOnOccupied m r =
+        RestsIfNone (the_row K V S T g h b w) m (λ o. (raw_occupied_map o).ghost_name) r (λ new. new ≡ m.now)
+
+    -- the new entry ends the map, or the map ends as a refusal leaves it
+    abbrev pub HandsOnNew : MutBor (Keyed K.Denot V.Denot S.Denot) → K.Denot → V.Denot
+        → Result (RawOccupiedEntryMut K.Denot V.Denot S.Denot Node T.Denot g h b w n) (K.Denot × V.Denot)
+        → Fml
+    HandsOnNew m k v r =
+        RestsIfErr (the_row K V S T g h b w) m (λ o. (raw_occupied_map o).ghost_name) r
+        (λ new. IfErr r (RefusesEntry g.eq (state_of m.now) (state_of new) k v))
+
+    -- the same where the entry is of a pair that went last or moved there
+    abbrev pub HandsOnLast : RawEntryMut K.Denot V.Denot S.Denot T.Denot g h b w
+        → Result (RawOccupiedEntryMut K.Denot V.Denot S.Denot Node T.Denot g h b w n) (K.Denot × V.Denot)
+        → Fml
+    HandsOnLast e r =
+        RestsIfErr (the_row K V S T g h b w) (raw_map e) (λ o. (raw_occupied_map o).ghost_name) r
+        (λ new. IfErr r (λ pair. RefusesEntry g.eq (raw_state e).map (state_of new) pair.0 pair.1 pair))
+
+  -- the map as an insert of the key that is lent and what was written leaves it, at the end, or as a refusal leaves it
+  abbrev pub LendsLastPair : RawEntryMut K.Denot V.Denot S.Denot T.Denot g h b w
+      → Result (Bor K.Denot × MutBor V.Denot) (K.Denot × V.Denot)
+      → Fml
+  LendsLastPair e r =
+      follows_so (the_row K V S T g h b w) V (raw_map e).ghost_name (name_if_ok (λ p. p.1.ghost_name) r)
+      (λ u new. IfOk r (λ p. PutsLast g.eq (raw_state e).map (state_of new) p.0.now u))
+      (λ new. IfErr r (λ pair. RefusesEntry g.eq (raw_state e).map (state_of new) pair.0 pair.1 pair))
+
+  module _ {N : Type 0} {n : as_node.Ghosts N} where
+    -- the map with what was written as the entry's value
+    abbrev pub RawLendsForGood : RawOccupiedEntryMut K.Denot V.Denot S.Denot N T.Denot g h b w n → MutBor V.Denot
+        → Fml
+    RawLendsForGood o r = Lends (the_row K V S T g h b w) V o.map r (with_value_at o.map.now (n.node o.node))
+
+    -- where the entry is there, the map with what was written as its value
+    abbrev pub LendsPairOf : {E : Type 0} → Result (RawOccupiedEntryMut K.Denot V.Denot S.Denot N T.Denot g h b w n) E
+        → Result (Bor K.Denot × MutBor V.Denot) E
+        → Fml
+    LendsPairOf (Ok o) (Ok p) = RawLendsForGood o p.1
+    LendsPairOf (Ok o) (Err e) = ftrue
+    LendsPairOf (Err e) r = ftrue
+
+module _ (K V S T : RattleType) (g : HashMembers K.Denot) (b : builder.Ghosts S.Denot T.Denot)
+    (w : hasher.Ghosts T.Denot) where
+  -- the map with the key and what was written put last, or as a refusal leaves it
+  abbrev pub LendsNewPair : MutBor (Keyed K.Denot V.Denot S.Denot) → K.Denot → V.Denot
+      → Result (Bor K.Denot × MutBor V.Denot) (K.Denot × V.Denot)
+      → Fml
+  LendsNewPair m k v r =
+      follows_so (map_row K V S T g b w) V m.ghost_name (name_if_ok (λ p. p.1.ghost_name) r)
+      (λ u new. IfOk r (λ _. AddsEntry g.eq (state_of m.now) (state_of new) k u (length (entries_of m.now))))
+      (λ new. IfErr r (RefusesEntry g.eq (state_of m.now) (state_of new) k v))

@@ -1,0 +1,46 @@
+//! Cursors: a place among the entries of a map, which moves round the guard that stands between the last and the
+//! first. A clause sees a cursor as the map's state and the number of its place, which is the length at the guard.
+ghost use Rattle.std.specs.Prelude.{◌≡◌, ◌-◌, length};
+ghost use Rattle.std.specs.Option.{option_map};
+ghost use Rattle.hashlink_core.specs.Keyed.{entries_of};
+ghost use Rattle.hashlink_core.specs.Places.{IsPlace};
+ghost use Rattle.hashlink_map.specs.Standing.{IsPlace-prop};
+
+use crate::as_node::AsNode;
+use crate::map::LinkedHashMap;
+use hashlink_core::{DefaultHashBuilder, Node};
+use std::hash::{BuildHasher, Hash};
+
+mod methods;
+
+/// A place among the entries of a map, or the guard after the last one.
+#[derive(Drop)]
+pub struct CursorMut<'a, K: Eq + Hash, V, S: BuildHasher = DefaultHashBuilder, N: AsNode = Node> {
+    pub(crate) map: &'a mut LinkedHashMap<K, V, S>,
+    pub(crate) place: Option<N>,
+    ghost within: { IsPlace map.now.nodes (option_map N.node place) } by { IsPlace-prop _ _ },
+}
+
+impl<K: Eq + Hash, V, S: BuildHasher> LinkedHashMap<K, V, S> {
+    ghost use Rattle.hashlink_map.specs.Cursor.{cursor_map, cursor_state};
+
+    /// A cursor on the first entry, or on the guard of an empty map. It takes constant time and no memory.
+    pub fn cursor_front_mut(&mut self) -> CursorMut<'_, K, V, S>
+        ensures same_map { (cursor_map result).ghost_name ≡ self.entry.ghost_name }
+        ensures unchanged { (cursor_map result).now ≡ self.old }
+        ensures first { (cursor_state result).place ≡ 0 }
+    {
+        let place = self.list.first();
+        CursorMut { map: self, place }
+    }
+
+    /// A cursor on the last entry, or on the guard of an empty map. It takes constant time and no memory.
+    pub fn cursor_back_mut(&mut self) -> CursorMut<'_, K, V, S>
+        ensures same_map { (cursor_map result).ghost_name ≡ self.entry.ghost_name }
+        ensures unchanged { (cursor_map result).now ≡ self.old }
+        ensures last { (cursor_state result).place ≡ length (entries_of self.old) - 1 }
+    {
+        let place = self.list.last();
+        CursorMut { map: self, place }
+    }
+}

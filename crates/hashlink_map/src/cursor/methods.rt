@@ -1,0 +1,222 @@
+//! The calls of `CursorMut`.
+ghost use Rattle.std.specs.Prelude.{◌≡◌, IfOk, IfErr, IfSome, IfNone, Some, length, slice_get};
+ghost use Rattle.std.specs.Borrow.{sem};
+ghost use Rattle.std.specs.Option.{option_map, option_copied_mut};
+ghost use Rattle.std.specs.Map.Iter.{deref_pair};
+ghost use Rattle.hashlink_model.specs.Cursor.{at_place, entry_in, place_next, place_previous};
+ghost use Rattle.hashlink_model.specs.Cursor.{InsertsBefore, InsertsAfter};
+ghost use Rattle.hashlink_core.specs.Keyed.{entries_of};
+ghost use Rattle.hashlink_core.specs.Places.{Holds, IsPlace, IsPlaceAt, place_number};
+
+use super::CursorMut;
+use crate::raw_entry::RawOccupiedEntryMut;
+use hashlink_core::Node;
+use std::hash::{BuildHasher, Hash};
+
+impl<'a, K: Eq + Hash, V, S: BuildHasher> CursorMut<'a, K, V, S> {
+    ghost use Rattle.hashlink_map.specs.Cursor.{cursor_map, cursor_node, cursor_state, lent_pair};
+    ghost use Rattle.hashlink_map.specs.CursorLends.{LendsFromCursor, LendsPairFromCursor, LendsAtCursorNode};
+    ghost use Rattle.hashlink_map.specs.RawLends.{HandsOnOccupied};
+    ghost use Rattle.hashlink_map.specs.RawEntry.{raw_occupied_map, raw_place};
+    ghost use Rattle.hashlink_model.specs.Entry.{value_at};
+
+    /// Moves to the next place: from the last entry to the guard, and from there to the first. It stores no link.
+    pub fn move_next(&mut self)
+        ensures same_map { (cursor_map self.new).ghost_name ≡ (cursor_map self.old).ghost_name }
+        ensures unchanged { (cursor_map self.new).now ≡ (cursor_map self.old).now }
+        ensures moves { cursor_state self.new ≡ at_place (cursor_state self.old) (place_next (cursor_state self.old)) }
+    {
+        self.place = self.map.place_after(self.place);
+    }
+
+    /// Moves to the place before: from the first entry to the guard, and from there to the last. It stores no link.
+    pub fn move_prev(&mut self)
+        ensures same_map { (cursor_map self.new).ghost_name ≡ (cursor_map self.old).ghost_name }
+        ensures unchanged { (cursor_map self.new).now ≡ (cursor_map self.old).now }
+        ensures moves { cursor_state self.new
+            ≡ at_place (cursor_state self.old) (place_previous (cursor_state self.old)) }
+    {
+        self.place = self.map.place_before(self.place);
+    }
+
+    /// The pair of the node.
+    fn pair_at_node(&mut self, node: Node) -> (&K, &mut V)
+        requires { Holds (cursor_map self.old).now.nodes node }
+        ensures* lends { sem 𝓛 (LendsAtCursorNode K.row V.row S.row S.Hasher.row self.entry node result.1) }
+        ensures pair { slice_get (entries_of (cursor_map self.old).now)
+            (place_number (cursor_map self.old).now.nodes (Some node)) ≡ Some (lent_pair result) }
+    {
+        self.map.pair_at_mut(node)
+    }
+
+    /// The pair at the place, and none at the guard.
+    fn pair_at(&mut self, place: Option<Node>) -> Option<(&K, &mut V)>
+        requires { IsPlace (cursor_map self.old).now.nodes place }
+        ensures* lends { sem 𝓛 (LendsPairFromCursor K.row V.row S.row S.Hasher.row self.entry
+            (place_number (cursor_map self.old).now.nodes place) result) }
+        ensures pair { option_map lent_pair result ≡ entry_in (cursor_state self.old)
+            (place_number (cursor_map self.old).now.nodes place) }
+    {
+        match place {
+            Some(node) => Some(self.pair_at_node(node)),
+            None => None,
+        }
+    }
+
+    /// The cursor, and its place.
+    fn with_place(&mut self) -> (&mut Self, Option<Node>)
+        ensures cursor { result.0 ≡ self.entry }
+        ensures place { result.1 ≡ cursor_node self.old }
+    {
+        let place = self.place;
+        (self, place)
+    }
+
+    /// The key at the cursor, and its value for writing: none at the guard.
+    pub fn current(&mut self) -> Option<(&K, &mut V)>
+        ensures* lends { sem 𝓛 (LendsPairFromCursor K.row V.row S.row S.Hasher.row self.entry
+            (cursor_state self.old).place result) }
+        ensures pair { option_map lent_pair result ≡ entry_in (cursor_state self.old) (cursor_state self.old).place }
+    {
+        let (cursor, place) = self.with_place();
+        cursor.pair_at(place)
+    }
+
+    /// The cursor, and the place after its own.
+    fn with_next(&mut self) -> (&mut Self, Option<Node>)
+        ensures cursor { result.0 ≡ self.entry }
+        ensures place { IsPlaceAt (cursor_map self.old).now.nodes result.1 (place_next (cursor_state self.old)) }
+    {
+        let next = self.map.place_after(self.place);
+        (self, next)
+    }
+
+    /// The key at the next place, and its value for writing: none at the guard.
+    pub fn peek_next(&mut self) -> Option<(&K, &mut V)>
+        ensures* lends { sem 𝓛 (LendsPairFromCursor K.row V.row S.row S.Hasher.row self.entry
+            (place_next (cursor_state self.old)) result) }
+        ensures pair { option_map lent_pair result
+            ≡ entry_in (cursor_state self.old) (place_next (cursor_state self.old)) }
+    {
+        let (cursor, place) = self.with_next();
+        cursor.pair_at(place)
+    }
+
+    /// The cursor, and the place before its own.
+    fn with_previous(&mut self) -> (&mut Self, Option<Node>)
+        ensures cursor { result.0 ≡ self.entry }
+        ensures place { IsPlaceAt (cursor_map self.old).now.nodes result.1 (place_previous (cursor_state self.old)) }
+    {
+        let previous = self.map.place_before(self.place);
+        (self, previous)
+    }
+
+    /// The key at the place before, and its value for writing: none at the guard.
+    pub fn peek_prev(&mut self) -> Option<(&K, &mut V)>
+        ensures* lends { sem 𝓛 (LendsPairFromCursor K.row V.row S.row S.Hasher.row self.entry
+            (place_previous (cursor_state self.old)) result) }
+        ensures pair { option_map lent_pair result
+            ≡ entry_in (cursor_state self.old) (place_previous (cursor_state self.old)) }
+    {
+        let (cursor, place) = self.with_previous();
+        cursor.pair_at(place)
+    }
+
+    /// The value at the cursor, for writing: `current` without the key, of which a caller knows in full what the map
+    /// is afterwards.
+    pub fn current_value(&mut self) -> Option<&mut V>
+        ensures* lends { sem 𝓛 (LendsFromCursor K.row V.row S.row S.Hasher.row self.entry
+            (cursor_state self.old).place result) }
+        ensures value { option_copied_mut result
+            ≡ value_at (cursor_state self.old).map.entries (cursor_state self.old).place }
+    {
+        match self.place {
+            Some(node) => Some(self.map.value_at_mut(node)),
+            None => None,
+        }
+    }
+
+    /// The entry at the cursor. At the guard it gives the cursor back.
+    pub fn current_entry(self) -> Result<RawOccupiedEntryMut<'a, K, V, S>, Self>
+        ensures entry { IfOk result (λ o. ((raw_occupied_map o).ghost_name ≡ (cursor_map self.entry).ghost_name)
+            × ((raw_occupied_map o).now ≡ (cursor_map self.entry).now)
+            × (raw_place o ≡ (cursor_state self.entry).place)) }
+        ensures guard { IfErr result (λ c. ((cursor_map c).ghost_name ≡ (cursor_map self.entry).ghost_name)
+            × ((cursor_map c).now ≡ (cursor_map self.entry).now)
+            × (cursor_state c ≡ cursor_state self.entry)
+            × ((cursor_state self.entry).place ≡ length (cursor_state self.entry).map.entries)) }
+    {
+        let CursorMut { map, place } = self;
+        match place {
+            Some(node) => Ok(RawOccupiedEntryMut { map, node }),
+            None => Err(CursorMut { map, place: None }),
+        }
+    }
+
+    /// The entry at the cursor, and none at the guard: `current_entry` of which a caller knows in full what the map is
+    /// afterwards.
+    pub fn into_entry(self) -> Option<RawOccupiedEntryMut<'a, K, V, S>>
+        ensures* hands_on { sem 𝓛 (HandsOnOccupied K.row V.row S.row S.Hasher.row (cursor_map self.entry) result) }
+        ensures same_map { IfSome result
+            (λ o. (raw_occupied_map o).ghost_name ≡ (cursor_map self.entry).ghost_name) }
+        ensures unchanged { IfSome result (λ o. (raw_occupied_map o).now ≡ (cursor_map self.entry).now) }
+        ensures stands { IfSome result (λ o. raw_place o ≡ (cursor_state self.entry).place) }
+        ensures guard { IfNone result
+            ((cursor_state self.entry).place ≡ length (cursor_state self.entry).map.entries) }
+    {
+        let CursorMut { map, place } = self;
+        let node = place?;
+        Some(RawOccupiedEntryMut { map, node })
+    }
+
+    /// The entry at the cursor, and none at the guard.
+    pub fn current_pair(&self) -> Option<(&K, &V)>
+        ensures { option_map deref_pair result ≡ entry_in (cursor_state self.now) (cursor_state self.now).place }
+    {
+        self.map.pair_at_place(self.place)
+    }
+
+    /// The entry at the next place, and none at the guard.
+    pub fn next_pair(&self) -> Option<(&K, &V)>
+        ensures { option_map deref_pair result
+            ≡ entry_in (cursor_state self.now) (place_next (cursor_state self.now)) }
+    {
+        self.map.pair_at_place(self.map.place_after(self.place))
+    }
+
+    /// The entry at the place before, and none at the guard.
+    pub fn prev_pair(&self) -> Option<(&K, &V)>
+        ensures { option_map deref_pair result
+            ≡ entry_in (cursor_state self.now) (place_previous (cursor_state self.now)) }
+    {
+        self.map.pair_at_place(self.map.place_before(self.place))
+    }
+
+    /// Puts the pair right before the cursor, at the guard last, and answers the key's old value. A key that is there
+    /// keeps its key object, takes the new value and moves there, unless it stands there. The cursor stays on its
+    /// entry, wherever that is then, or on the guard. It looks for the key as `get` does, and stores at most six links
+    /// for a key that is there and four for an absent one.
+    ///
+    /// It takes memory only for an absent key where no node is spare. Where that is refused, the pair is handed back
+    /// and no entry changes.
+    pub fn insert_before(&mut self, key: K, value: V) -> Result<Option<V>, (K, V)>
+    where
+        K: Drop,
+        ensures same_map { (cursor_map self.new).ghost_name ≡ (cursor_map self.old).ghost_name }
+        ensures inserts { InsertsBefore K.eq (cursor_state self.old) (cursor_state self.new) key value result }
+    {
+        let place = self.place;
+        self.map.insert_at(place, key, value)
+    }
+
+    /// `insert_before` for the place right after the cursor, at the guard the first.
+    pub fn insert_after(&mut self, key: K, value: V) -> Result<Option<V>, (K, V)>
+    where
+        K: Drop,
+        ensures same_map { (cursor_map self.new).ghost_name ≡ (cursor_map self.old).ghost_name }
+        ensures inserts { InsertsAfter K.eq (cursor_state self.old) (cursor_state self.new) key value result }
+    {
+        let place = self.map.place_after(self.place);
+        self.map.insert_at(place, key, value)
+    }
+}

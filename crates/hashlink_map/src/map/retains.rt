@@ -1,0 +1,39 @@
+//! How the entries that a closure chooses leave. The others keep their order, and hold what the closure wrote. None of
+//! these takes memory or hashes a key, and each node that is freed serves the next new pair.
+ghost use Rattle.std.specs.Map.Calls.{CalledAtPair, TakesPair, CallableOnEachPair};
+ghost use Rattle.hashlink_model.specs.Entries.{IsEntries};
+ghost use Rattle.hashlink_model.specs.Retain.{RetainsInOrder};
+ghost use Rattle.hashlink_core.specs.Keyed.{state_of, entries_of};
+
+use super::LinkedHashMap;
+use std::hash::{BuildHasher, Hash};
+
+impl<K: Eq + Hash, V, S: BuildHasher> LinkedHashMap<K, V, S> {
+    /// Calls `keep` once on each entry, and takes out those at which it answers false. It stores at most three links
+    /// for each entry that leaves. `keep` has to take each entry as the calls before have left it.
+    pub fn retain<F: FnMut(&K, &mut V) -> bool>(&mut self, keep: F)
+    where
+        K: Drop,
+        V: Drop,
+        requires { CallableOnEachPair (CalledAtPair F.FnMut) (TakesPair F.FnMut) keep (entries_of self.old) }
+        ensures retained { (end : F) × RetainsInOrder (CalledAtPair F.FnMut) keep (state_of self.old)
+            (state_of self.new) end }
+        ensures distinct { IsEntries K.eq (entries_of self.new) }
+    {
+        self.retain_with_order(keep);
+    }
+
+    /// Calls `keep` once on each entry, from the front, and takes out those at which it answers false. It stores at
+    /// most three links for each entry that leaves. `keep` has to take each entry as the calls before have left it.
+    pub fn retain_with_order<F: FnMut(&K, &mut V) -> bool>(&mut self, keep: F)
+    where
+        K: Drop,
+        V: Drop,
+        requires { CallableOnEachPair (CalledAtPair F.FnMut) (TakesPair F.FnMut) keep (entries_of self.old) }
+        ensures retained { (end : F) × RetainsInOrder (CalledAtPair F.FnMut) keep (state_of self.old)
+            (state_of self.new) end }
+        ensures distinct { IsEntries K.eq (entries_of self.new) }
+    {
+        self.list.retain_in_order(keep);
+    }
+}

@@ -1,0 +1,41 @@
+//! Walks over a map, from both ends. None of them takes memory, and each step takes constant time.
+ghost use Rattle.std.specs.Prelude.{◌≡◌, ◌^◌, ◌<◌, length};
+ghost use Rattle.std.specs.Map.{keys_of, values_of};
+ghost use Rattle.std.specs.Map.Iter.{ShowsInOrder, ShowsInReverse, deref, deref_pair};
+ghost use Rattle.hashlink_core.specs.Keyed.{entries_of};
+
+use super::LinkedHashMap;
+use hashlink_core::{Iter, Keys, Values};
+use std::hash::{BuildHasher, Hash};
+
+impl<K: Eq + Hash, V, S: BuildHasher> LinkedHashMap<K, V, S> {
+    /// A walk over the entries, front first.
+    pub fn iter(&self) -> Iter<'_, K, V>
+        ensures rest { result ≡ entries_of self.now }
+        ensures runs { ShowsInOrder (deref_pair {K = K} {X = V}) }
+        ensures runs_back { ShowsInReverse (deref_pair {K = K} {X = V}) }
+        ensures fits { length (entries_of self.now) < 2 ^ 63 }
+    {
+        self.list.iter()
+    }
+
+    /// A walk over the keys, front first.
+    pub fn keys(&self) -> Keys<'_, K, V>
+        ensures rest { result ≡ keys_of (entries_of self.now) }
+        ensures runs { ShowsInOrder (deref {X = K}) }
+        ensures runs_back { ShowsInReverse (deref {X = K}) }
+        ensures fits { length (entries_of self.now) < 2 ^ 63 }
+    {
+        self.list.keys()
+    }
+
+    /// A walk over the values, front first.
+    pub fn values(&self) -> Values<'_, K, V>
+        ensures rest { result ≡ values_of (entries_of self.now) }
+        ensures runs { ShowsInOrder (deref {X = V}) }
+        ensures runs_back { ShowsInReverse (deref {X = V}) }
+        ensures fits { length (entries_of self.now) < 2 ^ 63 }
+    {
+        self.list.values()
+    }
+}

@@ -1,0 +1,216 @@
+//! How an entry is found by what stands for its key, and the entries at both ends.
+ghost use Rattle.std.specs.Prelude.{◌≡◌, ◌-◌, [], Some, IfSome, IfNone, MatchOption, length, ⊤};
+ghost use Rattle.std.specs.Borrow.{sem};
+ghost use Rattle.std.specs.Option.{option_map};
+ghost use Rattle.std.specs.Map.{lookup_entry};
+ghost use Rattle.std.specs.Map.Iter.{deref_pair};
+ghost use Rattle.hashlink_model.specs.Entries.{IsEntries};
+ghost use Rattle.hashlink_model.specs.Entry.{raw_entry_of};
+ghost use Rattle.hashlink_core.specs.Keyed.{state_of, entries_of, EqualsKeyAt};
+ghost use Rattle.hashlink_core.specs.Telling.{Tells};
+ghost use Rattle.hashlink_core.specs.Tied.{hash_with};
+ghost use Rattle.hashlink_map.specs.RawEntry.{read_map, found_map, raw_map, raw_state, raw_pair};
+ghost use Rattle.hashlink_map.specs.RawEntry.{raw_occupied_map, raw_place};
+ghost use Rattle.hashlink_map.specs.RawLends.{HandsOnOccupied};
+
+use super::{
+    RawEntryBuilder, RawEntryBuilderMut, RawEntryMut, RawOccupiedEntryMut, RawVacantEntryMut,
+};
+use crate::map::LinkedHashMap;
+use std::hash::{BuildHasher, Hash};
+
+impl<K: Eq + Hash, V, S: BuildHasher> LinkedHashMap<K, V, S> {
+    /// What finds an entry to read, by a key, by a key and its hash, or by a hash and a test.
+    pub fn raw_entry(&self) -> RawEntryBuilder<'_, K, V, S>
+        ensures { read_map result ≡ self.now }
+    {
+        RawEntryBuilder { map: self }
+    }
+
+    /// What finds an entry to change, by a key, by a key and its hash, or by a hash and a test.
+    pub fn raw_entry_mut(&mut self) -> RawEntryBuilderMut<'_, K, V, S>
+        ensures same_map { (found_map result).ghost_name ≡ self.entry.ghost_name }
+        ensures unchanged { (found_map result).now ≡ self.old }
+    {
+        RawEntryBuilderMut { map: self }
+    }
+
+    /// The first entry. It takes constant time and hashes nothing.
+    pub fn front_entry(&mut self) -> Option<RawOccupiedEntryMut<'_, K, V, S>>
+        ensures* hands_on { sem 𝓛 (HandsOnOccupied K.row V.row S.row S.Hasher.row self.entry result) }
+        ensures same_map { IfSome result (λ o. (raw_occupied_map o).ghost_name ≡ self.entry.ghost_name) }
+        ensures unchanged { IfSome result (λ o. (raw_occupied_map o).now ≡ self.old) }
+        ensures first { IfSome result (λ o. raw_place o ≡ 0) }
+        ensures none { IfNone result (entries_of self.old ≡ []) }
+    {
+        let node = self.list.first()?;
+        Some(RawOccupiedEntryMut { map: self, node })
+    }
+
+    /// The last entry. It takes constant time and hashes nothing.
+    pub fn back_entry(&mut self) -> Option<RawOccupiedEntryMut<'_, K, V, S>>
+        ensures* hands_on { sem 𝓛 (HandsOnOccupied K.row V.row S.row S.Hasher.row self.entry result) }
+        ensures same_map { IfSome result (λ o. (raw_occupied_map o).ghost_name ≡ self.entry.ghost_name) }
+        ensures unchanged { IfSome result (λ o. (raw_occupied_map o).now ≡ self.old) }
+        ensures last { IfSome result (λ o. raw_place o ≡ length (entries_of self.old) - 1) }
+        ensures none { IfNone result (entries_of self.old ≡ []) }
+    {
+        let node = self.list.last()?;
+        Some(RawOccupiedEntryMut { map: self, node })
+    }
+}
+
+impl<'a, K: Eq + Hash, V, S: BuildHasher> RawEntryBuilder<'a, K, V, S> {
+    /// The stored pair of the key, which it hashes once.
+    pub fn from_key(self, key: &K) -> Option<(&'a K, &'a V)>
+        ensures { option_map deref_pair result ≡ lookup_entry (K.eq key.now) (entries_of (read_map self.entry)) }
+    {
+        self.map.get_key_value(key)
+    }
+
+    /// The stored pair of the key, which has this hash. It hashes nothing.
+    pub fn from_key_hashed_nocheck(self, hash: u64, key: &K) -> Option<(&'a K, &'a V)>
+        requires { hash ≡ hash_with S.build_hasher S.Hasher.write S.Hasher.finish K.hash_input (read_map self).hasher
+            key.now }
+        ensures { option_map deref_pair result ≡ lookup_entry (K.eq key.now) (entries_of (read_map self.entry)) }
+    {
+        let map = self.map;
+        let node = map.list.find(hash, key)?;
+        Some(map.pair_at(node))
+    }
+
+    /// The stored pair whose key has this hash and passes the test, which has to tell the keys that are equal to one
+    /// key of this hash from all others. It hashes nothing.
+    pub fn from_hash<F: Fn(&K) -> bool>(self, hash: u64, is_match: F) -> Option<(&'a K, &'a V)>
+    where
+        F: Drop,
+        requires { (k : K) × Tells F.Fn K.eq
+            (hash_with S.build_hasher S.Hasher.write S.Hasher.finish K.hash_input (read_map self).hasher) is_match
+            hash k }
+        ensures { (k : K) → Tells F.Fn K.eq
+            (hash_with S.build_hasher S.Hasher.write S.Hasher.finish K.hash_input (read_map self.entry).hasher) is_match
+            hash k
+            → option_map deref_pair result ≡ lookup_entry (K.eq k) (entries_of (read_map self.entry)) }
+    {
+        let map = self.map;
+        let node = map.list.find_with(hash, is_match)?;
+        Some(map.pair_at(node))
+    }
+}
+
+impl<K: Eq + Hash, V, S: BuildHasher> LinkedHashMap<K, V, S> {
+    /// The place of the key, which it hashes once: `raw_entry_mut` and `from_key` in one call, of which a caller knows
+    /// in full what the map is afterwards.
+    pub fn raw_entry_of(&mut self, key: &K) -> RawEntryMut<'_, K, V, S>
+        ensures same_map { (raw_map result).ghost_name ≡ self.entry.ghost_name }
+        ensures unchanged { (raw_map result).now ≡ self.old }
+        ensures found { raw_state result ≡ raw_entry_of K.eq (state_of self.old) key.now }
+        ensures pair { raw_pair (raw_state result) ≡ lookup_entry (K.eq key.now) (entries_of self.old) }
+        ensures equal { MatchOption (raw_state result).place ⊤
+            (λ j. EqualsKeyAt K.eq (entries_of self.old) j key.now) }
+        ensures distinct { IsEntries K.eq (entries_of self.old) }
+    {
+        let hash = self.list.hash_of(key);
+        self.raw_entry_hashed_nocheck(hash, key)
+    }
+
+    /// The place of the key, which has this hash. It hashes nothing: `raw_entry_mut` and `from_key_hashed_nocheck` in
+    /// one call, of which a caller knows in full what the map is afterwards.
+    pub fn raw_entry_hashed_nocheck(&mut self, hash: u64, key: &K) -> RawEntryMut<'_, K, V, S>
+        requires { hash ≡ hash_with S.build_hasher S.Hasher.write S.Hasher.finish K.hash_input self.old.hasher
+            key.now }
+        ensures same_map { (raw_map result).ghost_name ≡ self.entry.ghost_name }
+        ensures unchanged { (raw_map result).now ≡ self.old }
+        ensures found { raw_state result ≡ raw_entry_of K.eq (state_of self.old) key.now }
+        ensures pair { raw_pair (raw_state result) ≡ lookup_entry (K.eq key.now) (entries_of self.old) }
+        ensures equal { MatchOption (raw_state result).place ⊤
+            (λ j. EqualsKeyAt K.eq (entries_of self.old) j key.now) }
+        ensures distinct { IsEntries K.eq (entries_of self.old) }
+    {
+        match self.list.find(hash, key) {
+            Some(node) => RawEntryMut::Occupied(RawOccupiedEntryMut { map: self, node }),
+            None => RawEntryMut::Vacant(RawVacantEntryMut { map: self }),
+        }
+    }
+
+    /// The place whose key has this hash and passes the test, which has to tell the keys that are equal to one key of
+    /// this hash from all others. It hashes nothing: `raw_entry_mut` and `from_hash` in one call, of which a caller
+    /// knows in full what the map is afterwards.
+    pub fn raw_entry_from_hash<F: Fn(&K) -> bool>(
+        &mut self,
+        hash: u64,
+        is_match: F,
+    ) -> RawEntryMut<'_, K, V, S>
+    where
+        F: Drop,
+        requires { (k : K) × Tells F.Fn K.eq
+            (hash_with S.build_hasher S.Hasher.write S.Hasher.finish K.hash_input self.old.hasher) is_match hash k }
+        ensures same_map { (raw_map result).ghost_name ≡ self.entry.ghost_name }
+        ensures unchanged { (raw_map result).now ≡ self.old }
+        ensures found { (k : K) → Tells F.Fn K.eq
+            (hash_with S.build_hasher S.Hasher.write S.Hasher.finish K.hash_input self.old.hasher) is_match hash k
+            → raw_state result ≡ raw_entry_of K.eq (state_of self.old) k }
+        ensures pair { (k : K) → Tells F.Fn K.eq
+            (hash_with S.build_hasher S.Hasher.write S.Hasher.finish K.hash_input self.old.hasher) is_match hash k
+            → raw_pair (raw_state result) ≡ lookup_entry (K.eq k) (entries_of self.old) }
+        ensures distinct { IsEntries K.eq (entries_of self.old) }
+    {
+        match self.list.find_with(hash, is_match) {
+            Some(node) => RawEntryMut::Occupied(RawOccupiedEntryMut { map: self, node }),
+            None => RawEntryMut::Vacant(RawVacantEntryMut { map: self }),
+        }
+    }
+}
+
+impl<'a, K: Eq + Hash, V, S: BuildHasher> RawEntryBuilderMut<'a, K, V, S> {
+    /// The place of the key, which it hashes once.
+    pub fn from_key(self, key: &K) -> RawEntryMut<'a, K, V, S>
+        ensures same_map { (raw_map result).ghost_name ≡ (found_map self.entry).ghost_name }
+        ensures unchanged { (raw_map result).now ≡ (found_map self.entry).now }
+        ensures found { raw_state result ≡ raw_entry_of K.eq (state_of (found_map self.entry).now) key.now }
+        ensures pair { raw_pair (raw_state result)
+            ≡ lookup_entry (K.eq key.now) (entries_of (found_map self.entry).now) }
+        ensures distinct { IsEntries K.eq (entries_of (found_map self.entry).now) }
+    {
+        let RawEntryBuilderMut { map } = self;
+        map.raw_entry_of(key)
+    }
+
+    /// The place of the key, which has this hash. It hashes nothing.
+    pub fn from_key_hashed_nocheck(self, hash: u64, key: &K) -> RawEntryMut<'a, K, V, S>
+        requires { hash ≡ hash_with S.build_hasher S.Hasher.write S.Hasher.finish K.hash_input
+            (found_map self).now.hasher key.now }
+        ensures same_map { (raw_map result).ghost_name ≡ (found_map self.entry).ghost_name }
+        ensures unchanged { (raw_map result).now ≡ (found_map self.entry).now }
+        ensures found { raw_state result ≡ raw_entry_of K.eq (state_of (found_map self.entry).now) key.now }
+        ensures pair { raw_pair (raw_state result)
+            ≡ lookup_entry (K.eq key.now) (entries_of (found_map self.entry).now) }
+        ensures distinct { IsEntries K.eq (entries_of (found_map self.entry).now) }
+    {
+        let RawEntryBuilderMut { map } = self;
+        map.raw_entry_hashed_nocheck(hash, key)
+    }
+
+    /// The place whose key has this hash and passes the test, which has to tell the keys that are equal to one key of
+    /// this hash from all others. It hashes nothing.
+    pub fn from_hash<F: Fn(&K) -> bool>(self, hash: u64, is_match: F) -> RawEntryMut<'a, K, V, S>
+    where
+        F: Drop,
+        requires { (k : K) × Tells F.Fn K.eq
+            (hash_with S.build_hasher S.Hasher.write S.Hasher.finish K.hash_input (found_map self).now.hasher)
+            is_match hash k }
+        ensures same_map { (raw_map result).ghost_name ≡ (found_map self.entry).ghost_name }
+        ensures unchanged { (raw_map result).now ≡ (found_map self.entry).now }
+        ensures found { (k : K) → Tells F.Fn K.eq
+            (hash_with S.build_hasher S.Hasher.write S.Hasher.finish K.hash_input (found_map self.entry).now.hasher)
+            is_match hash k → raw_state result ≡ raw_entry_of K.eq (state_of (found_map self.entry).now) k }
+        ensures pair { (k : K) → Tells F.Fn K.eq
+            (hash_with S.build_hasher S.Hasher.write S.Hasher.finish K.hash_input (found_map self.entry).now.hasher)
+            is_match hash k
+            → raw_pair (raw_state result) ≡ lookup_entry (K.eq k) (entries_of (found_map self.entry).now) }
+        ensures distinct { IsEntries K.eq (entries_of (found_map self.entry).now) }
+    {
+        let RawEntryBuilderMut { map } = self;
+        map.raw_entry_from_hash(hash, is_match)
+    }
+}

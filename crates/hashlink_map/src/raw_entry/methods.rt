@@ -1,0 +1,127 @@
+//! The calls of `RawEntryMut`.
+ghost use Rattle.std.specs.Prelude.{◌≡◌, None, Some, IfOk, IfErr, OnErr, MatchOption};
+ghost use Rattle.std.specs.Borrow.{sem, MutBor, Bor};
+ghost use Rattle.hashlink_model.specs.Entries.{place_of};
+
+use super::{RawEntryMut, RawOccupiedEntryMut};
+use std::hash::{BuildHasher, Hash};
+
+impl<'a, K: Eq + Hash, V, S: BuildHasher> RawEntryMut<'a, K, V, S> {
+    ghost use Rattle.hashlink_map.specs.RawEntry.{raw_map, raw_state, raw_pair, raw_occupied_state, RawModifies};
+    ghost use Rattle.hashlink_map.specs.RawLends.{HandsOnLast, LendsLastPair, StandsLast};
+
+    /// The entry of the pair. An occupied one moves to the end, a vacant one puts the pair given last.
+    fn or_insert_entry(
+        self,
+        default_key: K,
+        default_value: V,
+    ) -> Result<RawOccupiedEntryMut<'a, K, V, S>, (K, V)>
+    where
+        K: Drop,
+        V: Drop,
+        requires absent { (raw_state self).place ≡ None
+            → place_of (K.eq default_key) (raw_state self).map.entries ≡ None }
+        ensures* hands_on { sem 𝓛 (HandsOnLast K.row V.row S.row S.Hasher.row self.entry result) }
+        ensures last { IfOk result (λ o. StandsLast K.eq (raw_state self.entry)
+            (λ pair. pair ≡ (default_key, default_value)) (raw_occupied_state o)) }
+        ensures handed_back { IfErr result (λ pair. pair ≡ (default_key, default_value)) }
+        ensures vacant { OnErr result ((raw_state self.entry).place ≡ None) }
+    {
+        match self {
+            RawEntryMut::Occupied(entry) => {
+                let RawOccupiedEntryMut { map, node } = entry;
+                map.move_to_back(node);
+                Ok(RawOccupiedEntryMut { map, node })
+            }
+            RawEntryMut::Vacant(entry) => entry.insert_entry(default_key, default_value),
+        }
+    }
+
+    /// Lends the key and the value. An occupied entry moves to the end, a vacant one puts the pair given last. So the
+    /// map ends as an insert of what is written would leave it.
+    ///
+    /// It takes memory only for a vacant entry where no node is spare. Where that is refused, the pair is handed back,
+    /// and no entry changes.
+    pub fn or_insert(self, default_key: K, default_value: V) -> Result<(&'a K, &'a mut V), (K, V)>
+    where
+        K: Drop,
+        V: Drop,
+        requires absent { (raw_state self).place ≡ None
+            → place_of (K.eq default_key) (raw_state self).map.entries ≡ None }
+        ensures* lends { sem 𝓛 (LendsLastPair K.row V.row S.row S.Hasher.row self.entry result) }
+        ensures pair { IfOk result (λ p. MatchOption (raw_pair (raw_state self.entry))
+            ((p.0.now ≡ default_key) × (p.1.now ≡ default_value))
+            (λ stood. (p.0.now ≡ stood.0) × (p.1.now ≡ stood.1))) }
+        ensures handed_back { IfErr result (λ pair. pair ≡ (default_key, default_value)) }
+        ensures vacant { OnErr result ((raw_state self.entry).place ≡ None) }
+    {
+        RawOccupiedEntryMut::pair_of(self.or_insert_entry(default_key, default_value))
+    }
+
+    /// `or_insert_entry` of what `default` gives, which is called only where the entry is vacant.
+    fn or_insert_entry_with<F: FnOnce() -> (K, V)>(
+        self,
+        default: F,
+    ) -> Result<RawOccupiedEntryMut<'a, K, V, S>, (K, V)>
+    where
+        F: Drop,
+        requires callable { (raw_state self).place ≡ None → F.pre default }
+        requires absent { (raw_state self).place ≡ None
+            → (pair : _) → F.post default pair → place_of (K.eq pair.0) (raw_state self).map.entries ≡ None }
+        ensures* hands_on { sem 𝓛 (HandsOnLast K.row V.row S.row S.Hasher.row self.entry result) }
+        ensures last { IfOk result (λ o. StandsLast K.eq (raw_state self.entry) (F.post default)
+            (raw_occupied_state o)) }
+        ensures handed_back { IfErr result (λ pair. F.post default pair) }
+        ensures vacant { OnErr result ((raw_state self.entry).place ≡ None) }
+    {
+        match self {
+            RawEntryMut::Occupied(entry) => {
+                let RawOccupiedEntryMut { map, node } = entry;
+                map.move_to_back(node);
+                Ok(RawOccupiedEntryMut { map, node })
+            }
+            RawEntryMut::Vacant(entry) => {
+                let (key, value) = default();
+                entry.insert_entry(key, value)
+            }
+        }
+    }
+
+    /// `or_insert` of what `default` gives, which is called only where the entry is vacant.
+    pub fn or_insert_with<F: FnOnce() -> (K, V)>(
+        self,
+        default: F,
+    ) -> Result<(&'a K, &'a mut V), (K, V)>
+    where
+        F: Drop,
+        requires callable { (raw_state self).place ≡ None → F.pre default }
+        requires absent { (raw_state self).place ≡ None
+            → (pair : _) → F.post default pair → place_of (K.eq pair.0) (raw_state self).map.entries ≡ None }
+        ensures* lends { sem 𝓛 (LendsLastPair K.row V.row S.row S.Hasher.row self.entry result) }
+        ensures pair { IfOk result (λ p. MatchOption (raw_pair (raw_state self.entry))
+            (F.post default (p.0.now, p.1.now))
+            (λ stood. (p.0.now ≡ stood.0) × (p.1.now ≡ stood.1))) }
+        ensures handed_back { IfErr result (λ pair. F.post default pair) }
+        ensures vacant { OnErr result ((raw_state self.entry).place ≡ None) }
+    {
+        RawOccupiedEntryMut::pair_of(self.or_insert_entry_with(default))
+    }
+
+    /// Calls `f` on the key and the value where the entry is occupied. Nothing moves.
+    pub fn and_modify<F: FnOnce(&K, &mut V)>(self, f: F) -> Self
+    where
+        F: Drop,
+        requires { (k : Bor _) → (p : MutBor _) → raw_pair (raw_state self) ≡ Some (k.now, p.now) → F.pre f k p }
+        ensures same_map { (raw_map result).ghost_name ≡ (raw_map self.entry).ghost_name }
+        ensures modifies { RawModifies F.FnOnce f (raw_state self.entry) (raw_state result) }
+    {
+        match self {
+            RawEntryMut::Occupied(mut entry) => {
+                let (key, value) = entry.get_key_value_mut();
+                f(key, value);
+                RawEntryMut::Occupied(entry)
+            }
+            RawEntryMut::Vacant(entry) => RawEntryMut::Vacant(entry),
+        }
+    }
+}

@@ -1,0 +1,95 @@
+-- Steps of a cursor: every node is kept, no entry leaves, and what is said of a pair that is read may be said more
+-- widely.
+use Rattle.std.proofs.Common.{◌≡◌, ℕ, ◌≤◌, Bool, List, [], ◌∷◌, length, Option, None, Some, Result, Ok, Err, ap, arith}
+use Rattle.hashlink_model.specs.Cursor.{CursorState, entry_in, place_next, place_previous}
+use Rattle.hashlink_model.specs.MapState.{MapState, Inserts}
+use Rattle.hashlink_model.specs.Peak.{KeepsNodes}
+use Rattle.hashlink_model.proofs.KeptNodes.{kept-inserts}
+use Rattle.hashlink_model.proofs.NodeCounts.{node_count-puts}
+use Rattle.hashlink_commands.specs.declared.commands.CursorStep.{CursorStep}
+use Rattle.hashlink_commands.specs.declared.commands.CursorStep.TheVariants.{Next, Prev, Current, PeekNext, PeekPrev}
+use Rattle.hashlink_commands.specs.declared.commands.CursorStep.TheVariants.{Before, After}
+use Rattle.hashlink_commands.specs.declared.replies.Reply.{Reply}
+use Rattle.hashlink_run.specs.CursorSteps.{CursorStepped, CursorWalks, CursorSteps, first_place}
+use Rattle.hashlink_run.proofs.EntryNodes.{kept_unchanged, replies-wider}
+
+-- every node is kept, and no entry left
+record OnlyGrows {K V S : Type 0} (old new : MapState K V S) : Type 0 where
+  kept : KeepsNodes old new
+  longer : length old.entries ≤ length new.entries
+
+module _ {K V S : Type 0} where
+  grows-same : (old new : MapState K V S) → new ≡ old → OnlyGrows old new
+  grows-same old new s =
+      let same = ap (λ m. length m.entries) s in record { kept = kept_unchanged old new s; longer = omega arith }
+
+  grows-then : (a b c : MapState K V S) → OnlyGrows a b → OnlyGrows b c → OnlyGrows a c
+  grows-then a b c g h =
+      let first = g.kept in
+      let second = h.kept in
+      let longer = g.longer in
+      let still = h.longer in
+      record { kept = omega arith; longer = omega arith }
+
+  module _ (eq : K → K → Bool) (old new : MapState K V S) (k : K) (v : V) (b : ℕ) where
+    longer-inserts : (r : Result (Option V) (K × V)) → Inserts eq old new k v b r
+        → length old.entries ≤ length new.entries
+    longer-inserts (Ok None) s =
+        let is = ap length s.adds.entries in let more = s.adds.more in omega arith
+    longer-inserts (Ok (Some w)) s =
+        let nodes = node_count-puts eq old new k v b w s in let spare = s.puts.spare in omega arith
+    longer-inserts (Err pair) s = let same = ap length s.grows.entries in omega arith
+
+    grows-inserts : (r : Result (Option V) (K × V)) → Inserts eq old new k v b r → OnlyGrows old new
+    grows-inserts r s = record { kept = kept-inserts old new eq k v b r s; longer = longer-inserts r s }
+
+  module _ {B : Type 0} (eq : K → K → Bool) (Says : K → V → B → Type 0) where
+    step-grows : (old new : CursorState K V S) (step : CursorStep K V) (replies : List (Reply K V B))
+        → CursorStepped eq Says old step replies new → OnlyGrows old.map new.map
+    step-grows old new Next replies s = grows-same old.map new.map (ap (λ c. c.map) s.0)
+    step-grows old new Prev replies s = grows-same old.map new.map (ap (λ c. c.map) s.0)
+    step-grows old new Current replies s = grows-same old.map new.map (ap (λ c. c.map) s.0)
+    step-grows old new PeekNext replies s = grows-same old.map new.map (ap (λ c. c.map) s.0)
+    step-grows old new PeekPrev replies s = grows-same old.map new.map (ap (λ c. c.map) s.0)
+    step-grows old new (Before k v) replies s = grows-inserts eq old.map new.map k v old.place s.0 s.1.map
+    step-grows old new (After k v) replies s = grows-inserts eq old.map new.map k v (place_next old) s.0 s.1.map
+
+    walk-grows : (old new : CursorState K V S) (steps : List (CursorStep K V)) (replies : List (Reply K V B))
+        → CursorWalks eq Says old steps replies new → OnlyGrows old.map new.map
+    walk-grows old new [] replies s = grows-same old.map new.map (ap (λ c. c.map) s.1)
+    walk-grows old new (step ∷ steps) replies s =
+        grows-then old.map s.1.map new.map (step-grows old s.1 step s.0 s.3) (walk-grows s.1 new steps s.2 s.4)
+
+    pub cursor-keeps : (old new : MapState K V S) (steps : List (CursorStep K V)) (replies : List (Reply K V B))
+        → CursorSteps eq Says old steps replies new → KeepsNodes old new
+    cursor-keeps old new steps replies s =
+        (grows-then old s.0.map new (walk-grows (first_place old) s.0 steps replies s.1)
+        (grows-same s.0.map new s.2)).kept
+
+-- ---- what one closure says another may say too
+
+module _ {K V B : Type 0} (P Q : K → V → B → Type 0) (wider : (k : K) (v : V) (b : B) → P k v b → Q k v b)
+    {S : Type 0} (eq : K → K → Bool) where
+  step-wider : (old new : CursorState K V S) (step : CursorStep K V) (replies : List (Reply K V B))
+      → CursorStepped eq P old step replies new → CursorStepped eq Q old step replies new
+  step-wider old new Next replies s =
+      (s.0, replies-wider P Q wider (entry_in old (place_next old)) replies s.1)
+  step-wider old new Prev replies s =
+      (s.0, replies-wider P Q wider (entry_in old (place_previous old)) replies s.1)
+  step-wider old new Current replies s = (s.0, replies-wider P Q wider (entry_in old old.place) replies s.1)
+  step-wider old new PeekNext replies s =
+      (s.0, replies-wider P Q wider (entry_in old (place_next old)) replies s.1)
+  step-wider old new PeekPrev replies s =
+      (s.0, replies-wider P Q wider (entry_in old (place_previous old)) replies s.1)
+  step-wider old new (Before k v) replies s = s
+  step-wider old new (After k v) replies s = s
+
+  walk-wider : (old new : CursorState K V S) (steps : List (CursorStep K V)) (replies : List (Reply K V B))
+      → CursorWalks eq P old steps replies new → CursorWalks eq Q old steps replies new
+  walk-wider old new [] replies s = s
+  walk-wider old new (step ∷ steps) replies s =
+      (s.0, s.1, s.2, step-wider old s.1 step s.0 s.3, walk-wider s.1 new steps s.2 s.4, s.5)
+
+  pub cursor-wider : (old new : MapState K V S) (steps : List (CursorStep K V)) (replies : List (Reply K V B))
+      → CursorSteps eq P old steps replies new → CursorSteps eq Q old steps replies new
+  cursor-wider old new steps replies s = (s.0, walk-wider (first_place old) s.0 steps replies s.1, s.2)

@@ -1,0 +1,6 @@
+use Rattle.std.proofs.Common.{◌≡◌, ◌+◌, drop}
+use Rattle.hashlink_run.specs.Run.{reply_total}
+use Rattle.hashlink_run.proofs.running.reply_total.Given as goal
+
+abbrev pub invariant-loop-command : goal.invariant-loop-command
+invariant-loop-command g l = l.total + reply_total (drop l.command-index l.commands) ≡ reply_total l.commands

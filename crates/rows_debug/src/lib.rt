@@ -1,0 +1,5 @@
+//! The texts of `{:?}`, by the public names of `hashlink` alone.
+#![tactic(auto)]
+
+#[cfg(test)]
+mod texts;

@@ -1,0 +1,53 @@
+use hashlink::LinkedHashMap;
+use std::test::Fail;
+
+type Numbers = LinkedHashMap<u64, u64>;
+
+/// One with ten, then two with twenty.
+fn one_and_two(rt: HostRuntime) -> Result<Numbers, Fail> {
+    let mut map = LinkedHashMap::new(rt.alloc());
+    map.insert(1, 10)?;
+    map.insert(2, 20)?;
+    Ok(map)
+}
+
+#[test]
+fn a_map_shows_its_entries(rt: HostRuntime) -> Result<(), Fail> {
+    let map = one_and_two(rt)?;
+    assert_eq!(rt;
+        format!(in rt.alloc(); "{map:?}")?.as_str(),
+        "{1: 10, 2: 20}"
+    );
+    let empty: Numbers = LinkedHashMap::new(rt.alloc());
+    assert_eq!(rt; format!(in rt.alloc(); "{empty:?}")?.as_str(), "{}");
+    Ok(())
+}
+
+#[test]
+fn walks_show_what_is_left(rt: HostRuntime) -> Result<(), Fail> {
+    let mut map = one_and_two(rt)?;
+    assert_eq!(rt;
+        format!(in rt.alloc(); "{:?}", map.iter())?.as_str(),
+        "[(1, 10), (2, 20)]"
+    );
+    assert_eq!(rt;
+        format!(in rt.alloc(); "{:?}", map.keys())?.as_str(),
+        "[1, 2]"
+    );
+    assert_eq!(rt;
+        format!(in rt.alloc(); "{:?}", map.values())?.as_str(),
+        "[10, 20]"
+    );
+    let drain = map.drain();
+    assert_eq!(rt;
+        format!(in rt.alloc(); "{drain:?}")?.as_str(),
+        "[(1, 10), (2, 20)]"
+    );
+    drop(drain);
+    let walk = one_and_two(rt)?.into_iter();
+    assert_eq!(rt;
+        format!(in rt.alloc(); "{walk:?}")?.as_str(),
+        "[(1, 10), (2, 20)]"
+    );
+    Ok(())
+}

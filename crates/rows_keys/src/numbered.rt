@@ -1,0 +1,10 @@
+//! Keys of numbers that are equal by one of them.
+
+/// Two numbers, compared and hashed by the group alone.
+#[derive(Clone, Copy, Debug)]
+#[derive_where(PartialEq, Eq, Hash)]
+pub struct Numbered {
+    pub group: u32,
+    #[derive_where(skip(EqHashOrd))]
+    pub number: u32,
+}
