@@ -1,21 +1,47 @@
-//! Linked hash containers under the names of hashlink: hash maps that keep their entries in an order which the caller
-//! controls.
+//! Linked hash containers under the names of hashlink: hash maps, sets and caches that keep their entries in an order
+//! which the caller controls.
 #![tactic(auto)]
 
 /// The linked hash map.
 pub mod linked_hash_map {
     pub use hashlink_map::{
-        CursorMut, Drain, Entry, IntoIter, Iter, IterMut, Keys, LinkedHashMap, OccupiedEntry,
-        RawEntryBuilder, RawEntryBuilderMut, RawEntryMut, RawOccupiedEntryMut, RawVacantEntryMut,
-        TryReserveError, VacantEntry, Values,
+        CursorMut, Drain, Entry, ExtendError, IntoIter, Iter, IterMut, Keys, LinkedHashMap,
+        OccupiedEntry, RawEntryBuilder, RawEntryBuilderMut, RawEntryMut, RawOccupiedEntryMut,
+        RawVacantEntryMut, TryReserveError, VacantEntry, Values, ValuesMut,
     };
     pub use std::alloc::AllocError;
 }
 
-/// Lists of commands to the containers, and the text form in which a program reads and answers them.
-pub mod run {
-    pub use hashlink_run::{Command, CursorStep, EntryStep, Fault, Reply, run, run_text, serve};
+/// The linked hash set.
+pub mod linked_hash_set {
+    pub use hashlink_set::{
+        Difference, Drain, Intersection, IntoIter, Iter, LinkedHashSet, SymmetricDifference, Union,
+    };
 }
 
+/// The cache of a bounded size.
+pub mod lru_cache {
+    pub use hashlink_lru::{
+        Drain, Entry, ExtendError, IntoIter, Iter, IterMut, LruCache, OccupiedEntry,
+        RawEntryBuilder, RawEntryBuilderMut, RawEntryMut, RawOccupiedEntryMut, RawVacantEntryMut,
+        VacantEntry,
+    };
+}
+
+/// Caches whose entries carry weights within a budget.
+pub mod weighted {
+    pub use hashlink_weighted::{WeightError, WeightedCache, WeightedIter};
+}
+
+/// Lists of commands to the containers, and the text form in which a program reads and answers them.
+pub mod run {
+    pub use hashlink_run::{
+        CacheCommand, Command, CursorStep, EntryStep, Fault, Pair, PairCommand, Reply, Uses, run,
+        run_cache, run_pair, run_text, run_uses, serve,
+    };
+}
+
+pub use hashlink_lru::LruCache;
 pub use hashlink_map::{DefaultHashBuilder, DefaultHasher, LinkedHashMap, TryReserveError};
+pub use hashlink_set::LinkedHashSet;
 pub use std::alloc::AllocError;

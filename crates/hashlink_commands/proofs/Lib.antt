@@ -3,4 +3,4 @@ pub mod CursorSteps
 pub mod Cutting
 pub mod Digits
 pub mod Spelled
-pub mod Tables
+pub mod WordTables

@@ -16,8 +16,9 @@ use Rattle.std.proofs.lemmas.Slice.Eq.{bytes_eq-Decides}
 use Rattle.std.proofs.lemmas.Str.Parse.{digit_from_value}
 use Rattle.std.proofs.lemmas.Fmt.{decimal_is_IsNumeral, decimal_digit, first_decimal, decimal-digits_value}
 use Rattle.hashlink_commands.specs.Lines.{words_of, begins_as_number, value_of, number_of}
-use Rattle.hashlink_commands.specs.Says.{words_before, steps_before, numbers_of, name_said, step_said, entry_said}
-use Rattle.hashlink_commands.specs.Says.{numbers_after, cursor_steps_before, cursor_step_said, steps_after, some_steps}
+use Rattle.hashlink_commands.specs.Says.{words_before, steps_before, entry_said}
+use Rattle.hashlink_commands.specs.Tables.{numbers_of, said_in}
+use Rattle.hashlink_commands.specs.Says.{numbers_after, cursor_steps_before, steps_after, some_steps}
 use Rattle.hashlink_commands.specs.Says.{cursor_said, line_said, says}
 use Rattle.hashlink_commands.specs.Spelling.{Word, Name, Number, word_shown, named, step_spelled, spelled, spelling}
 use Rattle.hashlink_commands.specs.Spelling.{cursor_step_words}
@@ -25,7 +26,8 @@ use Rattle.hashlink_commands.specs.Spelling.{FitsWord, FitsLine}
 use Rattle.hashlink_commands.specs.declared.commands.Command.TheVariants.{Insert, InsertFront, Replace, Get, Remove}
 use Rattle.hashlink_commands.specs.declared.commands.Command.TheVariants.{RemoveEntry, PopFront, PopBack, ToFront}
 use Rattle.hashlink_commands.specs.declared.commands.Command.TheVariants.{ToBack}
-use Rattle.hashlink_commands.specs.declared.commands.Command.TheVariants.{Front, Back, Len, Clear, Shrink, Entry}
+use Rattle.hashlink_commands.specs.declared.commands.Command.TheVariants.{Front, Back, Len, Clear, Shrink, Keep}
+use Rattle.hashlink_commands.specs.declared.commands.Command.TheVariants.{Entry}
 use Rattle.hashlink_commands.specs.declared.commands.Command.TheVariants as command
 use Rattle.hashlink_commands.specs.declared.commands.CursorStep.{CursorStep}
 use Rattle.hashlink_commands.specs.declared.commands.CursorStep.TheVariants.{Next, Prev, Current, PeekNext, PeekPrev}
@@ -132,7 +134,7 @@ module _ {X : Type 0} (spell : X → Option (List Word)) (before : List ℕ → 
       ∙ ap (λ ws. Some (name ∷ ws)) (number_words-spelled words step.0 step.1)
 
 words_spelled : (ns : List ℕ) → AllSpelled spelled words_before ns (words_before ns)
-words_spelled [] = (refl, (refl, (refl, (refl, (refl, (refl, (refl, (refl, tt))))))))
+words_spelled [] = (refl, (refl, (refl, (refl, (refl, (refl, (refl, (refl, (refl, tt)))))))))
 words_spelled (k ∷ []) = (refl, (refl, (refl, (refl, tt))))
 words_spelled (k ∷ v ∷ []) = (refl, (refl, (refl, tt)))
 words_spelled (k ∷ v ∷ n ∷ ns) = tt
@@ -147,8 +149,8 @@ entry_said-spelled : (words : List (List ℕ)) (line : Said) → entry_said word
 entry_said-spelled [] line e = cc
 entry_said-spelled (key ∷ []) line e = cc
 entry_said-spelled (key ∷ name ∷ words) line e =
-    let k = step_some (λ k. option_map (λ s. Do (Entry k s)) (step_said name words)) (number_of key) line e in
-    let s = map_some (λ s. Do (Entry k.0 s)) (step_said name words) line k.2 in
+    let k = step_some (λ k. option_map (λ s. Do (Entry k s)) (said_in steps_before name words)) (number_of key) line e in
+    let s = map_some (λ s. Do (Entry k.0 s)) (said_in steps_before name words) line k.2 in
     let step =
     map_some shown (step_spelled s.0) (name ∷ words)
     (said-spelled step_spelled steps_before steps_spelled name words s.0 s.1) in
@@ -176,7 +178,7 @@ steps_after-spelled (suc n) (word ∷ words) steps e = steps_after-spelled n wor
 steps_after-spelled zero (name ∷ words) steps e =
     let m = numbers_after name in
     let step =
-    step_some (λ s. option_map (λ ss. s ∷ ss) (steps_after m words)) (cursor_step_said name (take m words)) steps e in
+    step_some (λ s. option_map (λ ss. s ∷ ss) (steps_after m words)) (said_in cursor_steps_before name (take m words)) steps e in
     let more = map_some (λ ss. step.0 ∷ ss) (steps_after m words) steps step.2 in
     let said : Some (shown (cursor_step_words step.0)) ≡ Some (name ∷ take m words) =
     said-spelled (λ s. Some (cursor_step_words s)) cursor_steps_before cursor_steps_spelled name (take m words) step.0
@@ -200,7 +202,7 @@ line_said-spelled : (words : List (List ℕ)) (line : Said) → line_said words 
     → option_map shown (spelled line) ≡ Some words
 line_said-spelled [] line e = cc
 line_said-spelled (name ∷ words) line e =
-    let others = cond (bytes_eq name (codes "cursor")) (cursor_said words) (name_said name words) in
+    let others = cond (bytes_eq name (codes "cursor")) (cursor_said words) (said_in words_before name words) in
     ⊎_elim (λ yes.
     let is = (bytes_eq-Decides name (codes "entry")).0 yes.0 in
     entry_said-spelled words line yes.1 ∙ ap (λ w. Some (w ∷ words)) (sym is))
@@ -211,7 +213,7 @@ line_said-spelled (name ∷ words) line e =
     some_steps-spelled steps.0 words line steps.2 (steps_after-spelled 0 words steps.0 steps.1)
     ∙ ap (λ w. Some (w ∷ words)) (sym is))
     (λ no. said-spelled spelled words_before words_spelled name words line no.1)
-    (chosen (bytes_eq name (codes "cursor")) (cursor_said words) (name_said name words) (Some line) no.1))
+    (chosen (bytes_eq name (codes "cursor")) (cursor_said words) (said_in words_before name words) (Some line) no.1))
     (chosen (bytes_eq name (codes "entry")) (entry_said words) others (Some line) e)
 
 pub one_line : (text : List ℕ) (line : Said) → says text ≡ Some line → spelling line ≡ Some text
@@ -332,8 +334,8 @@ word_read line t words entry cursor e fits =
     let rest = rest spelled words_before line t words e fits in (
       ap line_said (shown_as spelled words_before line t words e fits)
           ∙ ap (λ b. cond b (entry_said rest)
-          (cond (bytes_eq t.name (codes "cursor")) (cursor_said rest) (name_said t.name rest))) entry
-          ∙ ap (λ b. cond b (cursor_said rest) (name_said t.name rest)) cursor
+          (cond (bytes_eq t.name (codes "cursor")) (cursor_said rest) (said_in words_before t.name rest))) entry
+          ∙ ap (λ b. cond b (cursor_said rest) (said_in words_before t.name rest)) cursor
           ∙ read_so spelled words_before line t words e fits,
       spaced spelled words_before line t words e fits,
     )
@@ -345,7 +347,7 @@ entry_read k s words low e fits =
     let t = step_in_table s words e in
     let rest = rest step_spelled steps_before s t words e fits in (
       ap (λ ws. entry_said (decimal k ∷ ws)) (shown_as step_spelled steps_before s t words e fits)
-          ∙ ap (option_and_then (λ k. option_map (λ s. Do (Entry k s)) (step_said t.name rest)))
+          ∙ ap (option_and_then (λ k. option_map (λ s. Do (Entry k s)) (said_in steps_before t.name rest)))
           (number_of-decimal k low)
           ∙ ap (option_map (λ s. Do (Entry k s))) (read_so step_spelled steps_before s t words e fits),
       (
@@ -447,6 +449,9 @@ line_read (Do Clear) words e fits =
 line_read (Do Shrink) words e fits =
     word_read (Do Shrink)
     (record { name = codes "shrink"; numbers = []; is = refl; spaceless = refl; found = refl }) words refl refl e fits
+line_read (Do Keep) words e fits =
+    word_read (Do Keep)
+    (record { name = codes "keep"; numbers = []; is = refl; spaceless = refl; found = refl }) words refl refl e fits
 line_read Iter words e fits =
     word_read Iter
     (record { name = codes "iter"; numbers = []; is = refl; spaceless = refl; found = refl }) words refl refl e fits

@@ -1,15 +1,16 @@
 -- What a line says, by its words.
 use Rattle.std.specs.Prelude.{ℕ, zero, suc, ◌||◌, List, [], ◌∷◌, take, Option, None, Some, option_and_then}
 use Rattle.std.specs.Prelude.{if◌then◌else◌, codes}
-use Rattle.std.specs.Map.{lookup}
 use Rattle.std.specs.Option.{option_map}
 use Rattle.std.specs.Str.{bytes_eq}
 use Rattle.hashlink_commands.specs.Lines.{words_of, number_of}
+use Rattle.hashlink_commands.specs.Tables.{said_in}
 use Rattle.hashlink_commands.specs.declared.commands.Command.{Command}
 use Rattle.hashlink_commands.specs.declared.commands.Command.TheVariants as command
 use Rattle.hashlink_commands.specs.declared.commands.Command.TheVariants.{Insert, InsertFront, Replace, Get, Remove}
 use Rattle.hashlink_commands.specs.declared.commands.Command.TheVariants.{PopFront, PopBack, ToFront, ToBack}
-use Rattle.hashlink_commands.specs.declared.commands.Command.TheVariants.{Front, Back, Len, Clear, Shrink, Entry}
+use Rattle.hashlink_commands.specs.declared.commands.Command.TheVariants.{Front, Back, Len, Clear, Shrink, Keep}
+use Rattle.hashlink_commands.specs.declared.commands.Command.TheVariants.{Entry}
 use Rattle.hashlink_commands.specs.declared.commands.CursorStep.{CursorStep}
 use Rattle.hashlink_commands.specs.declared.commands.CursorStep.TheVariants.{Next, Prev, Current, PeekNext, PeekPrev}
 use Rattle.hashlink_commands.specs.declared.commands.CursorStep.TheVariants.{Before, After}
@@ -17,8 +18,6 @@ use Rattle.hashlink_commands.specs.declared.commands.EntryStep.{EntryStep}
 use Rattle.hashlink_commands.specs.declared.commands.EntryStep.TheVariants as step
 use Rattle.hashlink_commands.specs.declared.line.Line.{Line}
 use Rattle.hashlink_commands.specs.declared.line.Line.TheVariants as line
-use Rattle.hashlink_commands.specs.declared.modes.Mode.{Mode}
-use Rattle.hashlink_commands.specs.declared.modes.Mode.TheVariants.{Map}
 
 -- what a line may say: a command to the map, steps of a cursor, or that the list of all pairs is asked for
 pub data Said : Type 0 where
@@ -42,6 +41,7 @@ lone_words =
     ∷ (codes "len", Do Len)
     ∷ (codes "clear", Do Clear)
     ∷ (codes "shrink", Do Shrink)
+    ∷ (codes "keep", Do Keep)
     ∷ (codes "iter", Iter)
     ∷ []
 
@@ -69,15 +69,6 @@ words_before (k ∷ []) = words_of_key k
 words_before (k ∷ v ∷ []) = words_of_pair k v
 words_before (k ∷ v ∷ n ∷ ns) = []
 
--- the numbers that the words spell, where each spells one
-abbrev pub numbers_of : List (List ℕ) → Option (List ℕ)
-numbers_of [] = Some []
-numbers_of (word ∷ words) = option_and_then (λ n. option_map (λ ns. n ∷ ns) (numbers_of words)) (number_of word)
-
--- what a word says with the numbers after it
-abbrev pub name_said : List ℕ → List (List ℕ) → Option Said
-name_said name words = option_and_then (λ ns. lookup (bytes_eq name) (words_before ns)) (numbers_of words)
-
 -- ---- the words after `entry`
 
 -- those that stand after the key, each with what is done at the key's place
@@ -103,15 +94,12 @@ steps_before [] = lone_steps
 steps_before (v ∷ []) = steps_of_value v
 steps_before (v ∷ n ∷ ns) = []
 
-abbrev pub step_said : List ℕ → List (List ℕ) → Option (EntryStep ℕ)
-step_said name words = option_and_then (λ ns. lookup (bytes_eq name) (steps_before ns)) (numbers_of words)
-
 -- a key, a word and the numbers after it
 abbrev pub entry_said : List (List ℕ) → Option Said
 entry_said [] = None
 entry_said (key ∷ []) = None
 entry_said (key ∷ name ∷ words) =
-    option_and_then (λ k. option_map (λ s. Do (Entry k s)) (step_said name words)) (number_of key)
+    option_and_then (λ k. option_map (λ s. Do (Entry k s)) (said_in steps_before name words)) (number_of key)
 
 -- ---- the words after `cursor`
 
@@ -139,16 +127,13 @@ cursor_steps_before (k ∷ v ∷ n ∷ ns) = []
 abbrev pub numbers_after : List ℕ → ℕ
 numbers_after name = if bytes_eq name (codes "before") || bytes_eq name (codes "after") then 2 else 0
 
-abbrev pub cursor_step_said : List ℕ → List (List ℕ) → Option (CursorStep ℕ ℕ)
-cursor_step_said name words = option_and_then (λ ns. lookup (bytes_eq name) (cursor_steps_before ns)) (numbers_of words)
-
 -- the steps that the words after the first n say, each by its name and the numbers after it
 abbrev pub steps_after : ℕ → List (List ℕ) → Option (List (CursorStep ℕ ℕ))
 steps_after n [] = Some []
 steps_after (suc n) (word ∷ words) = steps_after n words
 steps_after zero (name ∷ words) =
     option_and_then (λ step. option_map (λ steps. step ∷ steps) (steps_after (numbers_after name) words))
-    (cursor_step_said name (take (numbers_after name) words))
+    (said_in cursor_steps_before name (take (numbers_after name) words))
 
 -- one step or more
 abbrev pub some_steps : List (CursorStep ℕ ℕ) → Option Said
@@ -166,11 +151,7 @@ line_said [] = None
 line_said (name ∷ words) =
     if bytes_eq name (codes "entry") then entry_said words
     else if bytes_eq name (codes "cursor") then cursor_said words
-    else name_said name words
+    else said_in words_before name words
 
 abbrev pub says : List ℕ → Option Said
 says line = line_said (words_of line)
-
--- the mode that the first line names, or nothing where it is bad
-abbrev pub mode_said : List ℕ → Option Mode
-mode_said line = if bytes_eq line (codes "map") then Some Map else None

@@ -5,7 +5,8 @@ use Rattle.std.specs.List.{AllByRecursion, flat_map, join_with_byte}
 use Rattle.hashlink_commands.specs.declared.commands.Command.TheVariants.{Insert, InsertFront, Replace, Get, Remove}
 use Rattle.hashlink_commands.specs.declared.commands.Command.TheVariants.{RemoveEntry, PopFront, PopBack, ToFront}
 use Rattle.hashlink_commands.specs.declared.commands.Command.TheVariants.{ToBack}
-use Rattle.hashlink_commands.specs.declared.commands.Command.TheVariants.{Front, Back, Len, Clear, Shrink, Entry}
+use Rattle.hashlink_commands.specs.declared.commands.Command.TheVariants.{Front, Back, Len, Clear, Shrink, Keep}
+use Rattle.hashlink_commands.specs.declared.commands.Command.TheVariants.{Entry}
 use Rattle.hashlink_commands.specs.declared.commands.Command.TheVariants as command
 use Rattle.hashlink_commands.specs.declared.commands.CursorStep.{CursorStep}
 use Rattle.hashlink_commands.specs.declared.commands.CursorStep.TheVariants.{Next, Prev, Current, PeekNext, PeekPrev}
@@ -73,6 +74,7 @@ spelled (Do Back) = named (codes "back") []
 spelled (Do Len) = named (codes "len") []
 spelled (Do Clear) = named (codes "clear") []
 spelled (Do Shrink) = named (codes "shrink") []
+spelled (Do Keep) = named (codes "keep") []
 spelled (Do (Entry k s)) = option_map (λ words. Name (codes "entry") ∷ Number k ∷ words) (step_spelled s)
 spelled (Do (command.Cursor steps)) = None
 spelled (Cursor []) = None

@@ -2,14 +2,16 @@ ghost use Rattle.std.specs.Prelude.{◌≡◌, take, drop, IfOk, OnSome};
 ghost use Rattle.std.specs.Map.{lookup};
 ghost use Rattle.std.specs.Option.{option_map};
 ghost use Rattle.std.specs.Str.{bytes_eq};
-ghost use Rattle.hashlink_commands.specs.Cuts.{parts_left, words_shown};
-ghost use Rattle.hashlink_commands.specs.Says.{said, lone_words, words_of_key, words_of_pair, name_said};
-ghost use Rattle.hashlink_commands.specs.Says.{lone_steps, steps_of_value, step_said, entry_said};
-ghost use Rattle.hashlink_commands.specs.Says.{lone_cursor_steps, cursor_steps_of_pair, numbers_after};
-ghost use Rattle.hashlink_commands.specs.Says.{cursor_step_said, cursor_said};
+ghost use Rattle.hashlink_commands.specs.Cuts.{parts_left};
+ghost use Rattle.hashlink_commands.specs.Says.{said, lone_words, words_of_key, words_of_pair, words_before};
+ghost use Rattle.hashlink_commands.specs.Says.{lone_steps, steps_of_value, steps_before, entry_said};
+ghost use Rattle.hashlink_commands.specs.Says.{lone_cursor_steps, cursor_steps_of_pair, cursor_steps_before};
+ghost use Rattle.hashlink_commands.specs.Says.{numbers_after, cursor_said};
+ghost use Rattle.hashlink_commands.specs.Tables.{said_in};
 
 use crate::commands::{Command, CursorStep, EntryStep};
-use crate::numbers::number;
+use crate::numbers::{Numbers, number, read_numbers};
+use crate::tables::said_by;
 use crate::words::Words;
 use std::alloc::{AllocError, Global};
 
@@ -44,20 +46,13 @@ impl Line {
 }
 
 // What a word says with the words after it.
-fn said_of_name(name: &[u8], mut words: Words<'_>) -> Option<Line>
-    ensures { option_map said result ≡ name_said name.now (parts_left 32 words.entry.rest) }
+fn said_of_name(name: &[u8], words: Words<'_>) -> Option<Line>
+    ensures { option_map said result ≡ said_in words_before name.now (parts_left 32 words.entry.rest) }
 {
-    let Some(first) = words.next() else {
-        return said_alone(name);
-    };
-    let first = number(first)?;
-    let Some(second) = words.next() else {
-        return said_of_key(name, first);
-    };
-    let second = number(second)?;
-    match words.next() {
-        None => said_of_pair(name, first, second),
-        Some(_) => None,
+    match read_numbers(words)? {
+        Numbers::Nothing => said_alone(name),
+        Numbers::One(key) => said_of_key(name, key),
+        Numbers::Two(key, value) => said_of_pair(name, key, value),
     }
 }
 
@@ -79,6 +74,8 @@ fn said_alone(name: &[u8]) -> Option<Line>
         Some(Line::Do(Command::Clear))
     } else if is(name, b"shrink") {
         Some(Line::Do(Command::Shrink))
+    } else if is(name, b"keep") {
+        Some(Line::Do(Command::Keep))
     } else if is(name, b"iter") {
         Some(Line::Iter)
     } else {
@@ -129,16 +126,13 @@ fn said_of_entry(mut words: Words<'_>) -> Option<Line>
 }
 
 // What a word says is done at a key's place, with the words after it.
-fn said_of_step(name: &[u8], mut words: Words<'_>) -> Option<EntryStep<u64>>
-    ensures { result ≡ step_said name.now (parts_left 32 words.entry.rest) }
+fn said_of_step(name: &[u8], words: Words<'_>) -> Option<EntryStep<u64>>
+    ensures { result ≡ said_in steps_before name.now (parts_left 32 words.entry.rest) }
 {
-    let Some(value) = words.next() else {
-        return step_alone(name);
-    };
-    let value = number(value)?;
-    match words.next() {
-        None => step_of_value(name, value),
-        Some(_) => None,
+    match read_numbers(words)? {
+        Numbers::Nothing => step_alone(name),
+        Numbers::One(value) => step_of_value(name, value),
+        Numbers::Two(..) => None,
     }
 }
 
@@ -191,7 +185,8 @@ fn said_of_cursor(alloc: Global, mut words: Words<'_>) -> Result<Option<Line>, A
 
 // The step of this name, which reads the numbers that stand after it.
 fn cursor_step(name: &[u8], words: &mut Words<'_>) -> Option<CursorStep<u64, u64>>
-    ensures said { result ≡ cursor_step_said name.now (take (numbers_after name.now) (parts_left 32 words.old.rest)) }
+    ensures said { result ≡ said_in cursor_steps_before name.now
+        (take (numbers_after name.now) (parts_left 32 words.old.rest)) }
     ensures rest { OnSome result
         (parts_left 32 words.new.rest ≡ drop (numbers_after name.now) (parts_left 32 words.old.rest)) }
 {
@@ -231,18 +226,6 @@ fn cursor_step_of_pair(name: &[u8], key: u64, value: u64) -> Option<CursorStep<u
             (b"after", CursorStep::After(key, value)),
         ],
     )
-}
-
-// What the table says of the word.
-fn said_by<T: Copy>(name: &[u8], table: &[(&[u8], T)]) -> Option<T>
-    ensures { result ≡ lookup (bytes_eq name.now) (words_shown table.now) }
-{
-    for (word, meaning) in table {
-        if name == *word {
-            return Some(*meaning);
-        }
-    }
-    None
 }
 
 // Whether it is that word.

@@ -1,7 +1,37 @@
-ghost use Rattle.std.specs.Prelude.{◌≡◌, ◌+◌, ◌-◌, ◌*◌, ◌^◌, ◌<◌};
+ghost use Rattle.std.specs.Prelude.{◌≡◌, ◌+◌, ◌-◌, ◌*◌, ◌^◌, ◌<◌, option_and_then};
 ghost use Rattle.std.specs.Int.{IsInRange};
 ghost use Rattle.std.specs.Option.{SomeIff};
+ghost use Rattle.hashlink_commands.specs.Cuts.{parts_left};
 ghost use Rattle.hashlink_commands.specs.Lines.{value_of, number_of};
+ghost use Rattle.hashlink_commands.specs.Tables.{numbers_of, two_at_most};
+
+use crate::words::Words;
+
+// The numbers that stand after a word. No word has more than two.
+#[derive(Clone, Copy)]
+pub(crate) enum Numbers {
+    Nothing,
+    One(u64),
+    Two(u64, u64),
+}
+
+// The numbers that the words spell, if each spells one and they are two at most.
+pub(crate) fn read_numbers(mut words: Words<'_>) -> Option<Numbers>
+    ensures { result ≡ option_and_then two_at_most (numbers_of (parts_left 32 words.entry.rest)) }
+{
+    let Some(first) = words.next() else {
+        return Some(Numbers::Nothing);
+    };
+    let first = number(first)?;
+    let Some(second) = words.next() else {
+        return Some(Numbers::One(first));
+    };
+    let second = number(second)?;
+    match words.next() {
+        None => Some(Numbers::Two(first, second)),
+        Some(_) => None,
+    }
+}
 
 // The number that the word spells in decimal digits, with no zero before others.
 pub(crate) fn number(word: &[u8]) -> Option<u64>

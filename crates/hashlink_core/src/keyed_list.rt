@@ -84,6 +84,13 @@ impl<K: Eq + Hash, V, S: BuildHasher> KeyedList<K, V, S> {
         self.table.room()
     }
 
+    /// The allocator of the nodes.
+    pub fn allocator(&self) -> Global
+        ensures { IsKeyed K.eq self.now }
+    {
+        self.nodes.allocator()
+    }
+
     /// The hasher's builder.
     pub fn hasher(&self) -> &S
         ensures { result.now ≡ self.now.hasher }

@@ -1,5 +1,5 @@
 -- What an entry's answers say.
-use Rattle.std.proofs.Common.{◌≡◌, Option, None, Some, refl, sym, ap, subst}
+use Rattle.std.proofs.Common.{◌≡◌, Option, Some, refl, sym, ap, subst}
 use Rattle.std.specs.Prelude.{Result, Ok, Err, IfOk, IfErr, OnErr, unwrap_or}
 use Rattle.std.specs.Borrow.{MutBor}
 use Rattle.std.specs.Option.{UnwrapsOrElse}

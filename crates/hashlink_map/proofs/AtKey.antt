@@ -1,11 +1,11 @@
 -- What a step at the place of a key is for the key.
-use Rattle.std.proofs.Common.{◌≡◌, ℕ, Bool, false, List, [], ◌∷◌, length, Option, None, Some, refl, sym, ap, subst, ◌∙◌}
+use Rattle.std.proofs.Common.{◌≡◌, ℕ, Bool, List, [], ◌∷◌, length, None, Some, refl, sym, ap, subst, ◌∙◌}
 use Rattle.std.proofs.Common.{zero, suc, ◌++◌, ap₂, arith}
 use Rattle.std.specs.Prelude.{slice_get, insert}
-use Rattle.std.specs.Map.{lookup_entry, set_value}
+use Rattle.std.specs.Map.{set_value}
 use Rattle.std.proofs.lemmas.Map.{NonePasses}
 use Rattle.hashlink_model.specs.Entries.{place_of, put, moved_at, set_value_at}
-use Rattle.hashlink_model.specs.Entry.{EntryState, entry_of, InsertsValue, ReplacesValue, TakesEntry}
+use Rattle.hashlink_model.specs.Entry.{InsertsValue, ReplacesValue, TakesEntry}
 use Rattle.hashlink_model.specs.MapState.{MapState, Changes, PutsEntry, with_value}
 use Rattle.hashlink_model.specs.Steps.{RemovesKey, WritesEntry, with_value_of}
 use Rattle.hashlink_model.proofs.ByPlace.{moved_at-here, moved_at-put}

@@ -1,15 +1,15 @@
 -- Where a node stands after a step at it, and steps in a row.
-use Rattle.std.proofs.Common.{[], ◌∷◌, zero, ap₂, ◌++◌, length-append, ◌≡◌, ℕ, suc, ◌+◌, ◌-◌, ◌<◌, ◌≤◌, Bool, true}
+use Rattle.std.proofs.Common.{[], ◌∷◌, zero, ap₂, ◌++◌, length-append, ◌≡◌, ℕ, suc, ◌+◌, ◌-◌, ◌≤◌, Bool, true}
 use Rattle.std.proofs.Common.{List, length, Option, None, Some, refl, sym, ap, subst, ◌∙◌, arith}
-use Rattle.std.specs.Prelude.{slice_get, insert, remove, is_some, unwrap_or, Result, Ok, Err, IfOk, IfErr, OnErr}
+use Rattle.std.specs.Prelude.{slice_get, insert, remove, unwrap_or, Result, Ok, Err, IfOk, IfErr, OnErr}
 use Rattle.std.specs.Prelude.{MatchOption, MatchResult}
 use Rattle.std.specs.Option.{option_map}
 use Rattle.std.specs.Cmp.{IsEquivalence}
-use Rattle.std.specs.Map.{lookup, values_of}
+use Rattle.std.specs.Map.{lookup}
 use Rattle.std.proofs.lemmas.Option.{slice_get-map}
 use Rattle.std.proofs.lemmas.Map.Entries.{length-values_of}
 use Rattle.hashlink_model.specs.Entries.{place_of, place_left, moved_at, put, stored_key, set_value_at, set_key_at}
-use Rattle.hashlink_model.specs.MapState.{MapState, Changes, Grows, AddsEntry, PutsEntry, RefusesEntry, SetsKeyAt}
+use Rattle.hashlink_model.specs.MapState.{MapState, Changes, AddsEntry, PutsEntry, RefusesEntry, SetsKeyAt}
 use Rattle.hashlink_model.specs.MapState.{MovesAt}
 use Rattle.hashlink_model.specs.MapState.{with_value}
 use Rattle.hashlink_model.specs.Entry.{key_at, value_at, replace_entry, VacantInserts}

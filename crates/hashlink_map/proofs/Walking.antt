@@ -9,9 +9,12 @@ use Rattle.hashlink_model.specs.Walk.{first_of, last_of}
 use Rattle.hashlink_core.specs.Keyed.{Keyed, entries_of, state_of, pair_with_value}
 use Rattle.hashlink_core.specs.KeyedLends.{with_value_at}
 use Rattle.hashlink_core.proofs.Mapped.{values-renewed_value}
-use Rattle.hashlink_map.specs.IterMut.{WritingWalk, writing_walk, walk_with}
+use Rattle.std.proofs.lemmas.List.{length-map}
+use Rattle.hashlink_map.specs.declared.places_left.PlacesLeft.{PlacesLeft}
+use Rattle.hashlink_map.specs.WritingWalk.{WritingWalk, writing_walk, walk_with, walk_in, walk_rest, last_place}
+use Rattle.hashlink_map.specs.WritingWalk.{StandsIn, TakesPlace}
 use Rattle.hashlink_model.specs.Cursor.{following_place, preceding_place}
-use Rattle.hashlink_core.specs.Places.{Node, Holds, IsPlace, IsPlaceAt, place_number, renewed_at}
+use Rattle.hashlink_core.specs.Places.{Node, Holds, IsPlace, IsPlaceAt, place_number}
 use Rattle.hashlink_core.specs.Walk.{StandsBetween}
 use Rattle.hashlink_core.proofs.Neighbours.{before-suc}
 use Rattle.hashlink_core.proofs.Places.{following-within, place_number-renewed}
@@ -113,36 +116,39 @@ module _ {X : Type 0} where
 
 -- ---- what was written
 module _ {K V S : Type 0} where
-  pub still-stands : (m : Keyed K V S) (n : Node) (v : V) {first last : Option Node} {left : ℕ}
-      → StandsBetween m.nodes first last left → StandsBetween (with_value_at m n v).nodes first last left
-  still-stands m n v {first} {last} w =
-      let same = place_number-renewed (pair_with_value v) m.nodes (place_number m.nodes (Some n)) in
-      record {
-        few = omega (arith, w.few, same first, same None);
-        ends = λ some. let ends = w.ends some in omega (arith, ends, same first, same last);
-      }
-
-  -- at the node that was taken, which stood at j
-  pub step-written : (m old : Keyed K V S) (same : m ≡ old) (p : Option Node) (left : ℕ) (n : Node) (j : ℕ)
-      (stepped : WritingWalk K V S) → place_number old.nodes (Some n) ≡ j
-      → writing_walk (state_of m) (place_number m.nodes p) left ≡ stepped
-      → (v : V)
-      → writing_walk (state_of (with_value_at m n v)) (place_number (with_value_at m n v).nodes p) left
-      ≡ walk_with stepped j v
-  step-written m old same p left n j stepped at is v =
+  -- at a node of the list
+  pub written-there : (m : Keyed K V S) (p : PlacesLeft Node) (n : Node) (v : V)
+      → walk_in (λ q. q) (with_value_at m n v) p ≡ walk_with (walk_in (λ q. q) m p) (place_number m.nodes (Some n)) v
+  written-there m p n v =
       let i = place_number m.nodes (Some n) in
-      ap₂ (λ es k. writing_walk (map_state es m.spare m.room m.link_writes m.hasher) k left)
-      (values-renewed_value m.nodes i v) (place_number-renewed (pair_with_value v) m.nodes i p)
-      ∙ ap (λ k. walk_with (writing_walk (state_of m) (place_number m.nodes p) left) k v)
-      (ap (λ o. place_number o.nodes (Some n)) same ∙ at)
-      ∙ ap (λ s. walk_with s j v) is
+      ap₂ (λ es k. writing_walk (map_state es m.spare m.room m.link_writes m.hasher) k p.left)
+      (values-renewed_value m.nodes i v)
+      (place_number-renewed (pair_with_value v) m.nodes i (option_map (λ q. q) p.first))
+
+  -- at the node that was taken
+  pub taken-written : (m : Keyed K V S) (old new : PlacesLeft Node) (n : Node) (j : ℕ) (stepped : WritingWalk K V S)
+      → TakesPlace m (walk_in (λ p. p) m old) (walk_in (λ p. p) m new) j stepped (Some n) → (v : V)
+      → walk_in (λ p. p) (with_value_at m n v) new ≡ walk_with stepped j v
+  taken-written m old new n j stepped takes v =
+      written-there m new n v ∙ ap₂ (λ s k. walk_with s k v) takes.3 takes.1
 
   -- what is read there
-  pub read-there : {Y : Type 0} (get : List (K × V) → ℕ → Y) (m old : Keyed K V S) (same : m ≡ old) (n : Node) (j : ℕ)
-      → place_number old.nodes (Some n) ≡ j
-      → get (entries_of m) (place_number m.nodes (Some n)) ≡ get (entries_of old) j
-  read-there get m old same n j at =
-      ap (λ o. get (entries_of o) (place_number o.nodes (Some n))) same ∙ ap (get (entries_of old)) at
+  pub first-taken : (m : Keyed K V S) (old : PlacesLeft Node) (n : Node) (new stepped : WritingWalk K V S)
+      → TakesPlace m (walk_in (λ p. p) m old) new (walk_in (λ p. p) m old).at stepped (Some n)
+      → slice_get (entries_of m) (place_number m.nodes (Some n)) ≡ first_of (walk_rest (walk_in (λ p. p) m old))
+  first-taken m old n new stepped takes =
+      let w = walk_in (λ p. p) m old in
+      ap (slice_get (entries_of m)) takes.1 ∙ sym (first-of_part (entries_of m) w.at w.left takes.2)
+
+  pub last-taken : (m : Keyed K V S) (old : PlacesLeft Node) (n : Node) (new stepped : WritingWalk K V S)
+      → StandsIn (λ p. p) m.nodes old
+      → TakesPlace m (walk_in (λ p. p) m old) new (last_place (walk_in (λ p. p) m old)) stepped (Some n)
+      → slice_get (entries_of m) (place_number m.nodes (Some n)) ≡ last_of (walk_rest (walk_in (λ p. p) m old))
+  last-taken m old n new stepped stands takes =
+      let w = walk_in (λ p. p) m old in
+      ap (slice_get (entries_of m)) takes.1
+      ∙ sym (last-of_part (entries_of m) w.at w.left takes.2
+      (omega (arith, stands.few, length-map m.nodes (λ e. e.1))))
 
 -- ---- what a caller knows
 pub on-some : {A : Type 0} {r : Option A} {x : A} {P : Type 0} → r ≡ Some x → OnSome r P → P

@@ -1,17 +1,61 @@
 -- What a walk ends as, once a `&mut` to a value that came through it has ended.
-use Rattle.std.specs.Prelude.{◌≡◌, ℕ, [], Option, OnSome, IfNone}
-use Rattle.std.specs.Borrow.{Fml, RattleType, MutBor, LendsSo}
+use Rattle.std.specs.Prelude.{◌≡◌, ℕ, [], Option, None, Some, OnSome, IfNone, MatchOption, slice_get}
+use Rattle.std.specs.Borrow.{Fml, RattleType, Bor, MutBor, Lends, LendsSo, follows_so, name_if_some}
 use mir.Syntax.{named}
 use Rattle.std.specs.declared.cmp.PartialEq as eq
 use Rattle.std.specs.declared.hash.Hash as hash
 use Rattle.std.specs.declared.hash.Hasher as hasher
 use Rattle.std.specs.declared.hash.BuildHasher as builder
-use Rattle.hashlink_core.specs.Places.{Node}
-use Rattle.hashlink_core.specs.KeyedLends.{node_row}
+use Rattle.hashlink_core.specs.Keyed.{Keyed, entries_of}
+use Rattle.hashlink_core.specs.Places.{Node, place_number}
+use Rattle.hashlink_core.specs.KeyedLends.{node_row, with_value_at}
 use Rattle.hashlink_map.specs.contracts.iter_mut.IterMut as walk
+use Rattle.hashlink_map.specs.contracts.values_mut.ValuesMut as values
 use Rattle.hashlink_map.specs.declared.as_node.AsNode as as_node
 use Rattle.hashlink_map.specs.declared.iter_mut.IterMut.{IterMut}
-use Rattle.hashlink_map.specs.IterMut.{WritingWalk, walk_map, walk_state, StepsAndWrites}
+use Rattle.hashlink_map.specs.declared.values_mut.ValuesMut.{ValuesMut}
+use Rattle.hashlink_map.specs.IterMut.{walk_map, walk_state, values_map, values_state}
+use Rattle.hashlink_map.specs.WritingWalk.{WritingWalk, TakesPlace, walk_with}
+use Rattle.hashlink_map.specs.Cursor.{lent_pair}
+use Rattle.hashlink_map.specs.Standing.{still_standing}
+
+-- a walk of any type, by the map that it borrows and its state
+module _ {W K V S : Type 0} (map : W → MutBor (Keyed K V S)) (state : W → WritingWalk K V S) where
+  -- the same walk, after a step and with v written at the place j
+  abbrev pub StepsAndWrites : W → W → WritingWalk K V S → ℕ → V → Type 0
+  StepsAndWrites old new stepped j v =
+      ((map new).ghost_name ≡ (map old).ghost_name) × (state new ≡ walk_with stepped j v)
+
+  -- the same walk, as it was
+  abbrev pub StaysThere : W → W → Type 0
+  StaysThere old new =
+      ((map new).ghost_name ≡ (map old).ghost_name) × ((map new).now ≡ (map old).now) × (state new ≡ state old)
+
+  -- a place was taken off what is left: the walk itself, `stepped`, and the place, which is j
+  pub record TakesOff (old : MutBor W) (j : ℕ) (stepped : WritingWalk K V S) (new : MutBor W) (taken : Option Node)
+      : Type 0 where
+    pub same_walk : new.ghost_name ≡ old.ghost_name
+    pub same_map : (map new.now).ghost_name ≡ (map old.now).ghost_name
+    pub unchanged : (map new.now).now ≡ (map old.now).now
+    pub takes : TakesPlace (map old.now).now (state old.now) (state new.now) j stepped taken
+
+-- the pair of the place is lent, and none where none was taken
+abbrev pub LentFrom : {K V S : Type 0} → Keyed K V S → Option Node → Option (Bor K × MutBor V) → Type 0
+LentFrom {K} {V} m taken r =
+    MatchOption taken (r ≡ None)
+    (λ n. (p : Bor K × MutBor V) × (r ≡ Some p)
+    × (slice_get (entries_of m) (place_number m.nodes (Some n)) ≡ Some (lent_pair p)))
+
+module _ {K V S T : Type 0} {g : eq.Ghosts K} {h : hash.Ghosts K} {b : builder.Ghosts S T} {w : hasher.Ghosts T}
+    {N : Type 0} {n : as_node.Ghosts N} where
+  -- the walk with v as the value of the node
+  abbrev pub walk_with_value : IterMut K V S N T g h b w n → Node → V → IterMut K V S N T g h b w n
+  walk_with_value i at v =
+      let ns = i.map.now.nodes in
+      record i {
+        map = record i.map { now = with_value_at i.map.now at v };
+        stands = still_standing v ns (place_number ns (Some at)) i.stands;
+      }
 
 module _ (K V S T : RattleType) {g : eq.Ghosts K.Denot} {h : hash.Ghosts K.Denot} {b : builder.Ghosts S.Denot T.Denot}
     {w : hasher.Ghosts T.Denot} {n : as_node.Ghosts Node} where
@@ -22,6 +66,41 @@ module _ (K V S T : RattleType) {g : eq.Ghosts K.Denot} {h : hash.Ghosts K.Denot
       → Fml
   LendsFromWalk i stepped j r =
       LendsSo (walk.the_row (record { mir = named 1; lft = [] }) K V S node_row T g h b w n) V i r
-      (λ new v. OnSome r (StepsAndWrites i.now new stepped j v))
-      (λ new. IfNone r (((walk_map new).ghost_name ≡ (walk_map i.now).ghost_name)
-      × ((walk_map new).now ≡ (walk_map i.now).now) × (walk_state new ≡ walk_state i.now)))
+      (λ new v. OnSome r (StepsAndWrites walk_map walk_state i.now new stepped j v))
+      (λ new. IfNone r (StaysThere walk_map walk_state i.now new))
+
+  -- the same of the walk over the values alone
+  abbrev pub LendsFromValues : MutBor (ValuesMut K.Denot V.Denot S.Denot Node T.Denot g h b w n)
+      → WritingWalk K.Denot V.Denot S.Denot → ℕ → Option (MutBor V.Denot)
+      → Fml
+  LendsFromValues i stepped j r =
+      LendsSo (values.the_row (record { mir = named 1; lft = [] }) K V S node_row T g h b w n) V i r
+      (λ new v. OnSome r (StepsAndWrites values_map values_state i.now new stepped j v))
+      (λ new. IfNone r (StaysThere values_map values_state i.now new))
+
+  -- the walk with what was written as the value of the node
+  abbrev pub LendsAtWalkNode : MutBor (IterMut K.Denot V.Denot S.Denot Node T.Denot g h b w n) → Node → MutBor V.Denot
+      → Fml
+  LendsAtWalkNode i at r =
+      Lends (walk.the_row (record { mir = named 1; lft = [] }) K V S node_row T g h b w n) V i r
+      (walk_with_value i.now at)
+
+  -- the walk with what was written at the place j, where a pair of it is lent, and else as it was
+  abbrev pub LendsPairThere : MutBor (IterMut K.Denot V.Denot S.Denot Node T.Denot g h b w n) → ℕ
+      → Option (Bor K.Denot × MutBor V.Denot)
+      → Fml
+  LendsPairThere i j r =
+      follows_so (walk.the_row (record { mir = named 1; lft = [] }) K V S node_row T g h b w n) V i.ghost_name
+      (name_if_some (λ p. p.1.ghost_name) r)
+      (λ v new. OnSome r (StepsAndWrites walk_map walk_state i.now new (walk_state i.now) j v))
+      (λ new. StaysThere walk_map walk_state i.now new)
+
+  -- `LendsFromWalk` of a key that is lent beside its value
+  abbrev pub LendsPairFromWalk : MutBor (IterMut K.Denot V.Denot S.Denot Node T.Denot g h b w n)
+      → WritingWalk K.Denot V.Denot S.Denot → ℕ → Option (Bor K.Denot × MutBor V.Denot)
+      → Fml
+  LendsPairFromWalk i stepped j r =
+      follows_so (walk.the_row (record { mir = named 1; lft = [] }) K V S node_row T g h b w n) V i.ghost_name
+      (name_if_some (λ p. p.1.ghost_name) r)
+      (λ v new. OnSome r (StepsAndWrites walk_map walk_state i.now new stepped j v))
+      (λ new. IfNone r (StaysThere walk_map walk_state i.now new))

@@ -1,6 +1,7 @@
 -- What a map ends as, once a `&mut` to a value has ended.
-use Rattle.std.specs.Prelude.{◌≡◌, ℕ, Option, OnSome}
-use Rattle.std.specs.Borrow.{Fml, GName, RattleType, MutBor, Lends, LendsSo, follows}
+use Rattle.std.specs.Prelude.{◌≡◌, ℕ, Option, OnSome, ⊤}
+use Rattle.std.specs.Borrow.{Fml, GName, RattleType, MutBor, Lends, LendsSo, follows, follows_so}
+use mathlib.Core.Option.{none}
 use Rattle.std.specs.declared.hash.Hasher as hasher
 use Rattle.std.specs.declared.hash.BuildHasher as builder
 use Rattle.hashlink_model.specs.Steps.{with_value_of, MovesAndWrites}
@@ -17,6 +18,10 @@ module _ (K V S T : RattleType) (g : HashMembers K.Denot) (b : builder.Ghosts S.
   -- the map ends as what has it under this name leaves it
   abbrev pub HandsOn : MutBor (Keyed K.Denot V.Denot S.Denot) → GName → Fml
   HandsOn m name = follows map_row map_row m.ghost_name name (λ new. new)
+
+  -- the map ends as it was
+  abbrev pub StaysAsItWas : MutBor (Keyed K.Denot V.Denot S.Denot) → Fml
+  StaysAsItWas m = follows_so map_row map_row m.ghost_name none (λ _ _. ⊤) (λ new. new ≡ m.now)
 
   -- the value of the node is lent: the map ends with what was written there
   abbrev pub LendsAtNode : MutBor (Keyed K.Denot V.Denot S.Denot) → Node → MutBor V.Denot → Fml

@@ -6,7 +6,7 @@ use Rattle.std.specs.declared.cmp.PartialEq as eq
 use Rattle.std.specs.declared.hash.Hash as hash
 use Rattle.std.specs.declared.hash.Hasher as hasher
 use Rattle.std.specs.declared.hash.BuildHasher as builder
-use Rattle.hashlink_model.specs.MapState.{MapState, with_value}
+use Rattle.hashlink_model.specs.MapState.{with_value}
 use Rattle.hashlink_model.specs.Entry.{RawEntryState}
 use Rattle.hashlink_core.specs.Places.{place_number}
 use Rattle.hashlink_core.specs.Keyed.{Keyed, state_of}

@@ -1,8 +1,9 @@
 -- What a map or a raw entry ends as, once what came through a raw entry has ended.
 use Rattle.std.specs.Prelude.{◌≡◌, ◌-◌, Bool, [], Option, Some, MatchOption, length, slice_get, Result, Ok, Err, IfOk}
-use Rattle.std.specs.Prelude.{IfErr}
+use Rattle.std.specs.Prelude.{IfErr, ⊤}
 use Rattle.std.specs.Borrow.{Fml, ftrue, RattleType, Bor, MutBor, Lends, RestsIfNone, RestsIfErr, follows_so}
 use Rattle.std.specs.Borrow.{name_if_ok}
+use mathlib.Core.Option.{none}
 use mir.Syntax.{named}
 use Rattle.std.specs.declared.cmp.PartialEq as eq
 use Rattle.std.specs.declared.hash.Hash as hash
@@ -80,6 +81,12 @@ module _ (K V S T : RattleType) {g : eq.Ghosts K.Denot} {h : hash.Ghosts K.Denot
     abbrev pub RawLendsForGood : RawOccupiedEntryMut K.Denot V.Denot S.Denot N T.Denot g h b w n → MutBor V.Denot
         → Fml
     RawLendsForGood o r = Lends (the_row K V S T g h b w) V o.map r (with_value_at o.map.now (n.node o.node))
+
+    -- the map ends as it was
+    abbrev pub RawRestsForGood : RawOccupiedEntryMut K.Denot V.Denot S.Denot N T.Denot g h b w n → Fml
+    RawRestsForGood o =
+        follows_so (the_row K V S T g h b w) (the_row K V S T g h b w) o.map.ghost_name none (λ _ _. ⊤)
+        (λ new. new ≡ o.map.now)
 
     -- where the entry is there, the map with what was written as its value
     abbrev pub LendsPairOf : {E : Type 0} → Result (RawOccupiedEntryMut K.Denot V.Denot S.Denot N T.Denot g h b w n) E

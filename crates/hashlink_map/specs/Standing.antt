@@ -1,19 +1,14 @@
 -- Where a node stands after a step, and that it still holds its keys.
-use Rattle.std.specs.Prelude.{◌≡◌, ℕ, zero, suc, ◌+◌, Bool, cond, List, [], ◌∷◌, Option, None, Some}
+use Rattle.std.specs.Prelude.{◌≡◌, ℕ, zero, suc, ◌+◌, ◌≤◌, length, Bool, cond, List, [], ◌∷◌, Option, None, Some}
 use Rattle.std.specs.Option.{option_map}
 use Rattle.std.specs.Map.{values_of}
-use Rattle.std.proofs.Common.{refl, sym, ap, ◌∙◌}
+use Rattle.std.proofs.Common.{refl, sym, ap, subst, ◌∙◌}
 use Rattle.hashlink_model.specs.Entries.{place_of}
 use Rattle.hashlink_core.specs.Places.{Node, Holds, IsPlace, place_number, renewed_at}
 use Rattle.hashlink_core.specs.Keyed.{Keyed, HoldsKey, pair_with_value}
 use Rattle.hashlink_core.specs.Walk.{StandsBetween}
 use Rattle.hashlink_core.proofs.Places.{place_number-renewed, renewed-holds}
 use denote.Struct.Props.{props}
-
--- where a walk stands is a fact
-pub StandsBetween-prop : {X : Type 0} (ns : List (Node × X)) (first last : Option Node) (left : ℕ)
-    → IsProp (StandsBetween ns first last left)
-StandsBetween-prop ns first last left = hlevel props
 
 -- that a place is of the list is a fact
 pub IsPlace-prop : {X : Type 0} (ns : List (Node × X)) (p : Option Node) → IsProp (IsPlace ns p)
@@ -44,6 +39,18 @@ module _ {K V : Type 0} (v : V) where
       → IsPlace (renewed_at (pair_with_value v) ns j) p
   still_placed ns j None within = tt
   still_placed ns j (Some n) within = renewed-holds (pair_with_value v) ns j n within
+
+  -- and a walk stands where it stood
+  pub still_standing : (ns : List (Node × (K × V))) (j : ℕ) {first last : Option Node} {left : ℕ}
+      → StandsBetween ns first last left
+      → StandsBetween (renewed_at (pair_with_value v) ns j) first last left
+  still_standing ns j {first} {last} {left} w =
+      let same = place_number-renewed (pair_with_value v) ns j in
+      record {
+        few = subst (λ i. i + left ≤ length (renewed_at (pair_with_value v) ns j)) (sym (same first))
+            (subst (λ l. place_number ns first + left ≤ l) (sym (same None)) w.few);
+        ends = λ some. ap (λ i. i + 1) (same last) ∙ w.ends some ∙ ap (λ i. i + left) (sym (same first));
+      }
 
   -- and holds the keys that it held
   pub still_holds_key : {eq : K → K → Bool} (ns : List (Node × (K × V))) (k : K) (n : Node) → HoldsKey eq ns k n

@@ -4,7 +4,7 @@ ghost use Rattle.std.specs.Borrow.{sem};
 ghost use Rattle.std.specs.Map.Iter.{deref_pair};
 ghost use Rattle.hashlink_model.specs.Entries.{place_of, IsEntries};
 ghost use Rattle.hashlink_model.specs.MapState.{MovesAt};
-ghost use Rattle.hashlink_model.specs.Entry.{value_at, InsertsValue, InsertsEntry, ReplacesEntry, ReplacesKey};
+ghost use Rattle.hashlink_model.specs.Entry.{key_at, value_at, InsertsValue, InsertsEntry, ReplacesEntry, ReplacesKey};
 ghost use Rattle.hashlink_model.specs.Entry.{ReplacesValue, TakesEntry, VacantInserts};
 ghost use Rattle.hashlink_core.specs.Keyed.{state_of, entries_of, HoldsKey, EqualsKeyAt};
 ghost use Rattle.hashlink_core.specs.Places.{Holds, place_number};
@@ -16,7 +16,7 @@ use std::hash::{BuildHasher, Hash};
 
 impl<K: Eq + Hash, V, S: BuildHasher> LinkedHashMap<K, V, S> {
     ghost use Rattle.hashlink_map.specs.Standing.{StaysHeld};
-    ghost use Rattle.hashlink_map.specs.Lends.{LendsAtNode};
+    ghost use Rattle.hashlink_map.specs.Lends.{LendsAtNode, StaysAsItWas};
 
     /// The pair of the node.
     #[inline]
@@ -49,6 +49,17 @@ impl<K: Eq + Hash, V, S: BuildHasher> LinkedHashMap<K, V, S> {
         ensures value { value_at (entries_of self.old) (place_number self.old.nodes (Some node)) ≡ Some result.now }
     {
         self.list.value_mut(node)
+    }
+
+    /// The key of the node, as long as the map is borrowed: the map ends as it was.
+    #[inline]
+    pub(crate) fn key_for_good(&mut self, node: Node) -> &K
+        requires { Holds self.old.nodes node }
+        ensures* unchanged { sem 𝓛 (StaysAsItWas K.row V.row S.row S.Hasher.row K.Hash S.BuildHasher S.Hasher.Hasher
+            self.entry) }
+        ensures key { key_at (entries_of self.old) (place_number self.old.nodes (Some node)) ≡ Some result.now }
+    {
+        self.pair_at(node).0
     }
 
     /// Moves the node to the end.

@@ -10,6 +10,8 @@ ghost use Rattle.hashlink_model.specs.Steps.{RemovesKey, WritesEntry, with_value
 ghost use Rattle.hashlink_core.specs.Keyed.{state_of, entries_of};
 
 pub mod drains;
+pub mod indexed;
+pub mod many;
 pub mod retains;
 pub mod writing_walks;
 

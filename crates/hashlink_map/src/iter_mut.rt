@@ -1,17 +1,16 @@
 //! A walk that lends values for writing, one at a time, from both ends. A clause sees it as the map's state, the
 //! number of the first place left and how many entries are left.
-ghost use Rattle.std.specs.Prelude.{◌≡◌, length};
+ghost use Rattle.std.specs.Prelude.{◌≡◌, Some, length, slice_get};
 ghost use Rattle.std.specs.Borrow.{sem};
 ghost use Rattle.std.specs.Option.{option_map, option_copied_mut};
 ghost use Rattle.hashlink_core.specs.Keyed.{entries_of, state_of};
-ghost use Rattle.hashlink_core.specs.Places.{place_number, IsPlace, IsPlaceAt};
-ghost use Rattle.hashlink_core.specs.Walk.{StandsBetween};
-ghost use Rattle.hashlink_model.specs.Cursor.{following_place, preceding_place};
+ghost use Rattle.hashlink_core.specs.Places.{Holds, IsPlace, place_number};
 ghost use Rattle.hashlink_model.specs.Walk.{first_of, last_of};
-ghost use Rattle.hashlink_map.specs.Standing.{StandsBetween-prop};
+ghost use Rattle.hashlink_map.specs.WritingWalk.{StandsIn, StandsIn-prop};
 
 use crate::as_node::AsNode;
 use crate::map::LinkedHashMap;
+use crate::places_left::PlacesLeft;
 use hashlink_core::{DefaultHashBuilder, Node};
 use std::hash::{BuildHasher, Hash};
 
@@ -19,15 +18,13 @@ use std::hash::{BuildHasher, Hash};
 #[derive(Drop)]
 pub struct IterMut<'a, K: Eq + Hash, V, S: BuildHasher = DefaultHashBuilder, N: AsNode = Node> {
     pub(crate) map: &'a mut LinkedHashMap<K, V, S>,
-    // The first and the last place left. Where none is left they mean nothing.
-    pub(crate) first: Option<N>,
-    pub(crate) last: Option<N>,
-    pub(crate) left: usize,
-    ghost stands: { StandsBetween map.now.nodes (option_map N.node first) (option_map N.node last) left } by { StandsBetween-prop _ _ _ _ },
+    pub(crate) places: PlacesLeft<N>,
+    ghost stands: { StandsIn N.node map.now.nodes places } by { StandsIn-prop _ _ _ },
 }
 
 impl<K: Eq + Hash, V, S: BuildHasher> LinkedHashMap<K, V, S> {
-    ghost use Rattle.hashlink_map.specs.IterMut.{walk_map, walk_state, writing_walk};
+    ghost use Rattle.hashlink_map.specs.IterMut.{walk_map, walk_state};
+    ghost use Rattle.hashlink_map.specs.WritingWalk.{writing_walk};
 
     /// A walk over the entries, front first, that lends each value for writing. It takes constant time and no memory.
     pub fn iter_mut(&mut self) -> IterMut<'_, K, V, S>
@@ -35,56 +32,77 @@ impl<K: Eq + Hash, V, S: BuildHasher> LinkedHashMap<K, V, S> {
         ensures unchanged { (walk_map result).now ≡ self.old }
         ensures rest { walk_state result ≡ writing_walk (state_of self.old) 0 (length (entries_of self.old)) }
     {
-        let (first, last, left) = (self.list.first(), self.list.last(), self.list.len());
-        IterMut {
-            map: self,
-            first,
-            last,
-            left,
-        }
-    }
-
-    /// The place after a place.
-    #[inline]
-    fn place_next(&self, place: Option<Node>) -> Option<Node>
-        requires { IsPlace self.now.nodes place }
-        ensures { IsPlaceAt self.now.nodes result
-            (following_place (length self.now.nodes) (place_number self.now.nodes place)) }
-    {
-        self.list.next(place)
-    }
-
-    /// The place before a place.
-    #[inline]
-    fn place_prev(&self, place: Option<Node>) -> Option<Node>
-        requires { IsPlace self.now.nodes place }
-        ensures { IsPlaceAt self.now.nodes result
-            (preceding_place (length self.now.nodes) (place_number self.now.nodes place)) }
-    {
-        self.list.prev(place)
+        let places = PlacesLeft::all(self);
+        IterMut { map: self, places }
     }
 }
 
 impl<'a, K: Eq + Hash, V, S: BuildHasher> IterMut<'a, K, V, S> {
-    ghost use Rattle.hashlink_map.specs.IterMut.{walk_map, walk_state, walk_rest, after_front, after_back, TakesPlace};
     ghost use Rattle.hashlink_map.specs.Cursor.{lent_pair};
-    ghost use Rattle.hashlink_map.specs.IterMut.{last_place};
-    ghost use Rattle.hashlink_map.specs.IterMutLends.{LendsFromWalk};
+    ghost use Rattle.hashlink_map.specs.IterMut.{walk_map, walk_state};
+    ghost use Rattle.hashlink_map.specs.IterMutLends.{LendsAtWalkNode, LendsPairThere, LendsPairFromWalk};
+    ghost use Rattle.hashlink_map.specs.WritingWalk.{walk_rest, after_front, after_back, last_place};
+    ghost use Rattle.hashlink_map.specs.IterMutLends.{LendsFromWalk, LentFrom, TakesOff};
+
+    /// The pair of the node.
+    fn pair_at_node(&mut self, node: Node) -> (&K, &mut V)
+        requires { Holds (walk_map self.old).now.nodes node }
+        ensures* lends { sem 𝓛 (LendsAtWalkNode K.row V.row S.row S.Hasher.row self.entry node result.1) }
+        ensures pair { slice_get (entries_of (walk_map self.old).now)
+            (place_number (walk_map self.old).now.nodes (Some node)) ≡ Some (lent_pair result) }
+    {
+        self.map.pair_at_mut(node)
+    }
+
+    /// The pair of the place that was taken.
+    fn pair_at(&mut self, taken: Option<Node>) -> Option<(&K, &mut V)>
+        requires { IsPlace (walk_map self.old).now.nodes taken }
+        ensures* lends { sem 𝓛 (LendsPairThere K.row V.row S.row S.Hasher.row self.entry
+            (place_number (walk_map self.old).now.nodes taken) result) }
+        ensures pair { LentFrom (walk_map self.old).now taken result }
+    {
+        match taken {
+            Some(node) => Some(self.pair_at_node(node)),
+            None => None,
+        }
+    }
+
+    /// The walk with its first place taken off, and that place.
+    fn step_first(&mut self) -> (&mut Self, Option<Node>)
+        ensures { TakesOff walk_map walk_state self.entry (walk_state self.old).at (after_front (walk_state self.old))
+            result.0 result.1 }
+    {
+        let taken = self.places.take_first(self.map);
+        (self, taken)
+    }
+
+    /// The walk with its last place taken off, and that place.
+    fn step_last(&mut self) -> (&mut Self, Option<Node>)
+        ensures { TakesOff walk_map walk_state self.entry (last_place (walk_state self.old))
+            (after_back (walk_state self.old)) result.0 result.1 }
+    {
+        let taken = self.places.take_last(self.map);
+        (self, taken)
+    }
 
     /// The first entry left, its value for writing. It takes constant time.
     pub fn next(&mut self) -> Option<(&K, &mut V)>
-        ensures { option_map lent_pair result ≡ first_of (walk_rest (walk_state self.old)) }
+        ensures* lends { sem 𝓛 (LendsPairFromWalk K.row V.row S.row S.Hasher.row self.entry
+            (after_front (walk_state self.old)) (walk_state self.old).at result) }
+        ensures pair { option_map lent_pair result ≡ first_of (walk_rest (walk_state self.old)) }
     {
-        let node = self.take_first()?;
-        Some(self.map.pair_at_mut(node))
+        let (walk, taken) = self.step_first();
+        walk.pair_at(taken)
     }
 
     /// The last entry left, its value for writing. It takes constant time.
     pub fn next_back(&mut self) -> Option<(&K, &mut V)>
-        ensures { option_map lent_pair result ≡ last_of (walk_rest (walk_state self.old)) }
+        ensures* lends { sem 𝓛 (LendsPairFromWalk K.row V.row S.row S.Hasher.row self.entry
+            (after_back (walk_state self.old)) (last_place (walk_state self.old)) result) }
+        ensures pair { option_map lent_pair result ≡ last_of (walk_rest (walk_state self.old)) }
     {
-        let node = self.take_last()?;
-        Some(self.map.pair_at_mut(node))
+        let (walk, taken) = self.step_last();
+        walk.pair_at(taken)
     }
 
     /// The value of the first entry left, for writing: `next` without the key, of which a caller knows in full what
@@ -95,7 +113,7 @@ impl<'a, K: Eq + Hash, V, S: BuildHasher> IterMut<'a, K, V, S> {
         ensures value { option_copied_mut result
             ≡ option_map (λ e. e.1) (first_of (walk_rest (walk_state self.old))) }
     {
-        match self.take_first() {
+        match self.places.take_first(self.map) {
             Some(node) => Some(self.map.value_at_mut(node)),
             None => None,
         }
@@ -109,7 +127,7 @@ impl<'a, K: Eq + Hash, V, S: BuildHasher> IterMut<'a, K, V, S> {
         ensures value { option_copied_mut result
             ≡ option_map (λ e. e.1) (last_of (walk_rest (walk_state self.old))) }
     {
-        match self.take_last() {
+        match self.places.take_last(self.map) {
             Some(node) => Some(self.map.value_at_mut(node)),
             None => None,
         }
@@ -119,38 +137,6 @@ impl<'a, K: Eq + Hash, V, S: BuildHasher> IterMut<'a, K, V, S> {
     pub fn len(&self) -> usize
         ensures { result ≡ (walk_state self.now).left }
     {
-        self.left
-    }
-
-    /// Takes the first place off what is left.
-    fn take_first(&mut self) -> Option<Node>
-        ensures same_map { (walk_map self.new).ghost_name ≡ (walk_map self.old).ghost_name }
-        ensures unchanged { (walk_map self.new).now ≡ (walk_map self.old).now }
-        ensures takes { TakesPlace (walk_map self.old).now (walk_state self.old) (walk_state self.new)
-            (walk_state self.old).at (after_front (walk_state self.old)) result }
-    {
-        if self.left == 0 {
-            return None;
-        }
-        let node = self.first?;
-        self.first = self.map.place_next(self.first);
-        self.left -= 1;
-        Some(node)
-    }
-
-    /// Takes the last place off what is left.
-    fn take_last(&mut self) -> Option<Node>
-        ensures same_map { (walk_map self.new).ghost_name ≡ (walk_map self.old).ghost_name }
-        ensures unchanged { (walk_map self.new).now ≡ (walk_map self.old).now }
-        ensures takes { TakesPlace (walk_map self.old).now (walk_state self.old) (walk_state self.new)
-            (last_place (walk_state self.old)) (after_back (walk_state self.old)) result }
-    {
-        if self.left == 0 {
-            return None;
-        }
-        let node = self.last?;
-        self.last = self.map.place_prev(self.last);
-        self.left -= 1;
-        Some(node)
+        self.places.left
     }
 }

@@ -5,19 +5,28 @@ mod as_node;
 mod at_node;
 mod at_place;
 pub mod callers;
+mod clone;
+mod compare;
 mod cursor;
 mod drain;
 mod entry;
+mod extend;
+mod extend_error;
+mod hashing;
+mod index;
 mod into_iter;
 mod iter_mut;
 mod map;
+mod places_left;
 mod raw_entry;
 mod texts;
+mod values_mut;
 
 pub use as_node::AsNode;
 pub use cursor::CursorMut;
 pub use drain::Drain;
 pub use entry::{Entry, OccupiedEntry, VacantEntry};
+pub use extend_error::ExtendError;
 pub use hashlink_core::{DefaultHashBuilder, DefaultHasher, Iter, Keys, TryReserveError, Values};
 pub use into_iter::IntoIter;
 pub use iter_mut::IterMut;
@@ -25,3 +34,4 @@ pub use map::LinkedHashMap;
 pub use raw_entry::{
     RawEntryBuilder, RawEntryBuilderMut, RawEntryMut, RawOccupiedEntryMut, RawVacantEntryMut,
 };
+pub use values_mut::ValuesMut;

@@ -1,7 +1,13 @@
 //! Debug texts.
 use crate::drain::Drain;
+use crate::entry::{Entry, OccupiedEntry, VacantEntry};
 use crate::into_iter::IntoIter;
+use crate::iter_mut::IterMut;
 use crate::map::LinkedHashMap;
+use crate::raw_entry::{
+    RawEntryBuilder, RawEntryBuilderMut, RawEntryMut, RawOccupiedEntryMut, RawVacantEntryMut,
+};
+use crate::values_mut::ValuesMut;
 use std::fmt;
 use std::hash::{BuildHasher, Hash};
 
@@ -22,5 +28,96 @@ impl<'a, K: Eq + Hash + fmt::Debug, V: fmt::Debug, S: BuildHasher> fmt::Debug
     for Drain<'a, K, V, S> {
     fn fmt<W: fmt::Write>(&self, f: &mut fmt::Formatter<W>) -> fmt::Result {
         f.debug_list().entries(self.map.iter()).finish()
+    }
+}
+
+impl<'a, K: Eq + Hash + fmt::Debug, V: fmt::Debug, S: BuildHasher> fmt::Debug
+    for IterMut<'a, K, V, S> {
+    fn fmt<W: fmt::Write>(&self, f: &mut fmt::Formatter<W>) -> fmt::Result {
+        let mut list = f.debug_list();
+        let mut places = self.places;
+        for _ in 0..self.places.left {
+            if let Some(node) = places.take_first(self.map) {
+                list.entry(&self.map.pair_at(node));
+            }
+        }
+        list.finish()
+    }
+}
+
+impl<'a, K: Eq + Hash, V: fmt::Debug, S: BuildHasher> fmt::Debug for ValuesMut<'a, K, V, S> {
+    fn fmt<W: fmt::Write>(&self, f: &mut fmt::Formatter<W>) -> fmt::Result {
+        let mut list = f.debug_list();
+        let mut places = self.places;
+        for _ in 0..self.places.left {
+            if let Some(node) = places.take_first(self.map) {
+                list.entry(self.map.pair_at(node).1);
+            }
+        }
+        list.finish()
+    }
+}
+
+impl<'a, K: Eq + Hash + fmt::Debug, V: fmt::Debug, S: BuildHasher> fmt::Debug
+    for Entry<'a, K, V, S> {
+    fn fmt<W: fmt::Write>(&self, f: &mut fmt::Formatter<W>) -> fmt::Result {
+        match self {
+            Entry::Occupied(entry) => f.debug_tuple("Entry").field(entry).finish(),
+            Entry::Vacant(entry) => f.debug_tuple("Entry").field(entry).finish(),
+        }
+    }
+}
+
+impl<'a, K: Eq + Hash + fmt::Debug, V: fmt::Debug, S: BuildHasher> fmt::Debug
+    for OccupiedEntry<'a, K, V, S> {
+    fn fmt<W: fmt::Write>(&self, f: &mut fmt::Formatter<W>) -> fmt::Result {
+        f.debug_struct("OccupiedEntry")
+            .field("key", self.key())
+            .field("value", self.get())
+            .finish()
+    }
+}
+
+impl<'a, K: Eq + Hash + fmt::Debug, V, S: BuildHasher> fmt::Debug for VacantEntry<'a, K, V, S> {
+    fn fmt<W: fmt::Write>(&self, f: &mut fmt::Formatter<W>) -> fmt::Result {
+        f.debug_tuple("VacantEntry").field(self.key()).finish()
+    }
+}
+
+impl<'a, K: Eq + Hash + fmt::Debug, V: fmt::Debug, S: BuildHasher> fmt::Debug
+    for RawEntryMut<'a, K, V, S> {
+    fn fmt<W: fmt::Write>(&self, f: &mut fmt::Formatter<W>) -> fmt::Result {
+        match self {
+            RawEntryMut::Occupied(entry) => f.debug_tuple("RawEntry").field(entry).finish(),
+            RawEntryMut::Vacant(entry) => f.debug_tuple("RawEntry").field(entry).finish(),
+        }
+    }
+}
+
+impl<'a, K: Eq + Hash + fmt::Debug, V: fmt::Debug, S: BuildHasher> fmt::Debug
+    for RawOccupiedEntryMut<'a, K, V, S> {
+    fn fmt<W: fmt::Write>(&self, f: &mut fmt::Formatter<W>) -> fmt::Result {
+        f.debug_struct("RawOccupiedEntryMut")
+            .field("key", self.key())
+            .field("value", self.get())
+            .finish()
+    }
+}
+
+impl<'a, K: Eq + Hash, V, S: BuildHasher> fmt::Debug for RawVacantEntryMut<'a, K, V, S> {
+    fn fmt<W: fmt::Write>(&self, f: &mut fmt::Formatter<W>) -> fmt::Result {
+        f.debug_struct("RawVacantEntryMut").finish()
+    }
+}
+
+impl<'a, K: Eq + Hash, V, S: BuildHasher> fmt::Debug for RawEntryBuilder<'a, K, V, S> {
+    fn fmt<W: fmt::Write>(&self, f: &mut fmt::Formatter<W>) -> fmt::Result {
+        f.debug_struct("RawEntryBuilder").finish()
+    }
+}
+
+impl<'a, K: Eq + Hash, V, S: BuildHasher> fmt::Debug for RawEntryBuilderMut<'a, K, V, S> {
+    fn fmt<W: fmt::Write>(&self, f: &mut fmt::Formatter<W>) -> fmt::Result {
+        f.debug_struct("RawEntryBuilder").finish()
     }
 }

@@ -58,6 +58,11 @@ impl<K, V> Nodes<K, V> {
         }
     }
 
+    /// The allocator of the blocks.
+    pub fn allocator(&self) -> Global {
+        self.alloc
+    }
+
     /// Puts an entry in right before the place, and takes memory only where no node is spare: then a refusal hands
     /// the pair back, and no entry and no spare node changes. It stores four links; the two that the guard gets as it
     /// is made are not counted.

@@ -15,9 +15,10 @@ use Rattle.hashlink_commands.specs.declared.replies.Reply.{Reply}
 use Rattle.hashlink_commands.specs.declared.replies.Reply.TheVariants.{Value, Seen}
 use Rattle.hashlink_run.specs.Reads.{SaysOf}
 use Rattle.hashlink_run.specs.CallReplies.{insert_reply}
+use Rattle.hashlink_run.specs.Keeps.{IsEven}
 use Rattle.hashlink_run.specs.Step.{Step}
 use Rattle.hashlink_run.specs.Text.{IsTranscript}
-use Rattle.hashlink_run.specs.Transcript.{Shows, ShowsAll, Itself, ended, read_shown, list_shown}
+use Rattle.hashlink_run.specs.Transcript.{Shows, LineShows, ShowsAll, Itself, ended, read_shown, list_shown}
 use Rattle.hashlink_run.specs.Transcript.{reply_shown}
 use Rattle.hashlink_run.specs.Transcript.{replies_shown}
 use Rattle.hashlink_run.specs.declared.shown.Form.TheVariants.{OfValue}
@@ -41,7 +42,7 @@ said_itself (Some p) (Some q) s = ap Some s
 
 module _ {S : Type 0} where
   got : (old new : MapState ℕ ℕ S) (k : ℕ) (replies : Replies) (answer : List ℕ)
-      → Step nat_eq Itself old (Get k) replies new
+      → Step nat_eq Itself IsEven old (Get k) replies new
       → answer ≡ replies_shown OfValue replies → (answer ≡ value_read old.entries k) × (new ≡ old)
   got old new k replies answer s shown =
       let said = said_itself (lookup_entry (nat_eq k) old.entries) s.1.0 s.1.1 in
@@ -56,18 +57,18 @@ module _ {S : Type 0} where
   inserted_by s new (Err pair) answer a shown = inr (shown, a.grows.entries)
 
   inserted : (s : S) (new : MapState ℕ ℕ S) (replies : Replies) (answer : List ℕ)
-      → Step nat_eq Itself (empty_map s) (Insert 1 10) replies new → answer ≡ replies_shown OfValue replies
+      → Step nat_eq Itself IsEven (empty_map s) (Insert 1 10) replies new → answer ≡ replies_shown OfValue replies
       → ((answer ≡ codes "-") × (new.entries ≡ (1, 10) ∷ [])) ⊎ ((answer ≡ codes "memory") × (new.entries ≡ []))
   inserted s new replies answer a shown = inserted_by s new a.0 answer a.1 (shown
       ∙ ap (replies_shown OfValue) a.2)
 
-  was_listed : (old new : MapState ℕ ℕ S) (text : List ℕ) → ShowsAll old (codes "iter" ∷ []) text new
+  was_listed : (old new : MapState ℕ ℕ S) (text : List ℕ) → ShowsAll LineShows old (codes "iter" ∷ []) text new
       → text ≡ ended (list_shown old.entries) ++ []
   was_listed old new text r =
       let shown : Shows old (Some Iter) r.0 r.1 = r.3 in
       r.5 ∙ ap (λ a. ended a ++ r.2) shown.0 ∙ ap (λ m. ended (list_shown old.entries) ++ m) r.4.0
 
-  was_read : (old new : MapState ℕ ℕ S) (text : List ℕ) → ShowsAll old (codes "get 1" ∷ codes "iter" ∷ []) text new
+  was_read : (old new : MapState ℕ ℕ S) (text : List ℕ) → ShowsAll LineShows old (codes "get 1" ∷ codes "iter" ∷ []) text new
       → text ≡ read_lines old.entries
   was_read old new text r =
       let shown : Shows old (Some (Do (Get 1))) r.0 r.1 = r.3 in
@@ -77,7 +78,7 @@ module _ {S : Type 0} where
       r.5 ∙ ap (λ a. ended a ++ r.2) g.0 ∙ ap (λ m. ended (value_read old.entries 1) ++ m) listed
 
   was_answered : (s : S) (new : MapState ℕ ℕ S) (text : List ℕ)
-      → ShowsAll (empty_map s) (codes "insert 1 10" ∷ codes "get 1" ∷ codes "iter" ∷ []) text new
+      → ShowsAll LineShows (empty_map s) (codes "insert 1 10" ∷ codes "get 1" ∷ codes "iter" ∷ []) text new
       → (text ≡ ended (codes "-") ++ read_lines ((1, 10) ∷ [])) ⊎ (text ≡ ended (codes "memory") ++ read_lines [])
   was_answered s new text r =
       let shown : Shows (empty_map s) (Some (Do (Insert 1 10))) r.0 r.1 = r.3 in
@@ -116,7 +117,7 @@ state es spare room writes = map_state es spare room writes default_builder
 abbrev pub Stepped : MapState ℕ ℕ DefaultHashBuilder → Command ℕ ℕ → Reply ℕ ℕ (ℕ × ℕ)
     → MapState ℕ ℕ DefaultHashBuilder
     → Type 0
-Stepped old command reply new = Step nat_eq Itself old command (reply ∷ []) new
+Stepped old command reply new = Step nat_eq Itself IsEven old command (reply ∷ []) new
 
 pub first_insert : Stepped (empty_map default_builder) (Insert 1 10) (Value None) (state ((1, 10) ∷ []) 0 1 4)
 first_insert =
@@ -180,7 +181,7 @@ pub worked_answer : IsTranscript (codes "map\ninsert 1 10\ninsert 2 20\ninsert 1
 unfolding digits
 worked_answer =
     let end : MapState ℕ ℕ DefaultHashBuilder = state ((1, 11) ∷ []) 1 2 17 in
-    let listed : ShowsAll end (codes "iter" ∷ []) (codes "1:11\n") end =
+    let listed : ShowsAll LineShows end (codes "iter" ∷ []) (codes "1:11\n") end =
     (codes "1:11", state ((1, 11) ∷ []) 1 2 17, [], (refl, refl), (refl, refl), refl) in (
       default_builder,
       state ((1, 11) ∷ []) 1 2 17,

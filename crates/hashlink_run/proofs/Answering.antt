@@ -1,52 +1,46 @@
 -- A run that has answered some of its commands.
-use Rattle.std.proofs.Common.{◌≡◌, Bool, List, [], ◌∷◌, ◌++◌, length, refl, sym, ap, ◌∙◌, subst}
+use Rattle.std.proofs.Common.{◌≡◌, List, [], ◌∷◌, ◌++◌, length, refl, sym, ap, ◌∙◌, subst}
 use Rattle.std.proofs.Common.{append_assoc, append-nil, arith}
-use Rattle.hashlink_model.specs.MapState.{MapState}
-use Rattle.hashlink_commands.specs.declared.commands.Command.{Command}
-use Rattle.hashlink_commands.specs.declared.replies.Reply.{Reply}
-use Rattle.hashlink_run.specs.Step.{Step}
-use Rattle.hashlink_run.specs.Run.{Answered, Run, Runs, replies_of, state_after}
-use Rattle.hashlink_run.proofs.Chains.{Run-more, replies_of-more, state_after-append}
+use Rattle.hashlink_run.specs.Chain.{Answered, Chain, Chained, replies_of, state_after}
+use Rattle.hashlink_run.proofs.Chained.{Chain-more, replies_of-more, state_after-append}
 
-module _ {K V B S : Type 0} (eq : K → K → Bool) (Says : K → V → B → Type 0) where
+module _ {C R M : Type 0} (Step : M → C → List R → M → Type 0) where
   -- of all commands the first ones are answered by these replies, and `rest` are left
-  pub record HasAnswered (start now : MapState K V S) (all rest : List (Command K V))
-      (replies : List (Reply K V B)) : Type 0 where
-    pub done : List (Command K V)
-    pub answers : List (Answered K V B S)
+  pub record HasAnswered (start now : M) (all rest : List C) (replies : List R) : Type 0 where
+    pub done : List C
+    pub answers : List (Answered R M)
     pub is : all ≡ done ++ rest
-    pub run : Run eq Says start done answers
+    pub chain : Chain Step start done answers
     pub joined : replies ≡ replies_of answers
     pub reached : now ≡ state_after start answers
 
-  pub HasAnswered-none : (start : MapState K V S) (all : List (Command K V)) → HasAnswered start start all all []
-  HasAnswered-none start all = record { done = []; answers = []; is = refl; run = tt; joined = refl; reached = refl }
+  pub HasAnswered-none : (start : M) (all : List C) → HasAnswered start start all all []
+  HasAnswered-none start all = record { done = []; answers = []; is = refl; chain = tt; joined = refl; reached = refl }
 
-  module _ {start now : MapState K V S} {all : List (Command K V)} {replies : List (Reply K V B)} where
-    pub HasAnswered-more : (command : Command K V) (rest : List (Command K V)) (more : List (Reply K V B))
-        (next : MapState K V S)
-        → HasAnswered start now all (command ∷ rest) replies → Step eq Says now command more next
+  module _ {start now : M} {all : List C} {replies : List R} where
+    pub HasAnswered-more : (command : C) (rest : List C) (more : List R) (next : M)
+        → HasAnswered start now all (command ∷ rest) replies → Step now command more next
         → HasAnswered start next all rest (replies ++ more)
     HasAnswered-more command rest more next h step =
-        let answered : Answered K V B S = record { replies = more; state = next } in
-        let from : Step eq Says (state_after start h.answers) command more next =
-        subst (λ m. Step eq Says m command more next) h.reached step in
+        let answered : Answered R M = record { replies = more; state = next } in
+        let from : Step (state_after start h.answers) command more next =
+        subst (λ m. Step m command more next) h.reached step in
         record {
           done = h.done ++ command ∷ [];
           answers = h.answers ++ answered ∷ [];
           is = h.is ∙ sym (append_assoc h.done (command ∷ []) rest);
-          run = Run-more eq Says start h.done h.answers command answered h.run from;
+          chain = Chain-more Step start h.done h.answers command answered h.chain from;
           joined = ap (λ rs. rs ++ more) h.joined ∙ sym (replies_of-more h.answers answered);
           reached = sym (state_after-append start h.answers (answered ∷ []));
         }
 
-    pub HasAnswered-all : (rest : List (Command K V)) → length rest ≡ 0 → HasAnswered start now all rest replies
-        → Runs eq Says start all replies now
+    pub HasAnswered-all : (rest : List C) → length rest ≡ 0 → HasAnswered start now all rest replies
+        → Chained Step start all replies now
     HasAnswered-all [] end h =
         let whole : h.done ≡ all = sym (append-nil h.done) ∙ sym h.is in
         record {
           answers = h.answers;
-          run = subst (λ cs. Run eq Says start cs h.answers) whole h.run;
+          chain = subst (λ cs. Chain Step start cs h.answers) whole h.chain;
           joined = h.joined;
           reached = h.reached;
         }

@@ -1,38 +1,41 @@
--- Chains of steps: how they grow, and the nodes along them.
-use Rattle.std.proofs.Common.{◌≡◌, ℕ, zero, suc, ◌≤◌, Bool, true, List, [], ◌∷◌, ◌++◌, length}
+-- Chains of a map's steps: the nodes along them.
+use Rattle.std.proofs.Common.{◌≡◌, ◌≤◌, Bool, true, List, [], ◌∷◌, length}
 use Rattle.std.proofs.Common.{take, drop}
-use Rattle.std.proofs.Common.{refl, sym, ap, ◌∙◌, subst, arith, append-nil}
+use Rattle.std.proofs.Common.{refl, sym, ap, subst, arith}
 use Rattle.std.specs.List.{AllPass}
 use Rattle.std.specs.Map.{lookup_entry}
 use Rattle.std.proofs.lemmas.List.{take-take}
-use Rattle.std.proofs.lemmas.List.Concat.{flat_map-append}
 use Rattle.std.proofs.lemmas.List.Elements.{All-head, All-tail}
 use Rattle.hashlink_model.specs.History.{Length}
 use Rattle.hashlink_model.specs.MapState.{MapState, node_count}
 use Rattle.hashlink_model.specs.Walk.{first_of, last_of}
 use Rattle.hashlink_model.specs.Peak.{KeepsNodes, Passes, PassesInTurn}
 use Rattle.hashlink_model.proofs.KeptNodes.{kept-inserts, kept-replaces, kept-moves, kept-removes_key, kept-pops_front}
-use Rattle.hashlink_model.proofs.KeptNodes.{kept-pops_back, kept-never_fall, not_refused_where_shorter}
+use Rattle.hashlink_model.proofs.KeptNodes.{kept-keeps, kept-pops_back, kept-never_fall, not_refused_where_shorter}
 use Rattle.hashlink_model.proofs.KeptNodes.{passes-kept, passes-clears, passes-shrinks, within_the_peak}
 use Rattle.hashlink_commands.specs.declared.commands.Command.{Command}
 use Rattle.hashlink_commands.specs.declared.commands.Command.TheVariants.{Insert, InsertFront, Replace, Get, Remove}
 use Rattle.hashlink_commands.specs.declared.commands.Command.TheVariants.{RemoveEntry, PopFront, PopBack, ToFront}
 use Rattle.hashlink_commands.specs.declared.commands.Command.TheVariants.{ToBack}
-use Rattle.hashlink_commands.specs.declared.commands.Command.TheVariants.{Front, Back, Len, Clear, Shrink, Entry}
-use Rattle.hashlink_commands.specs.declared.commands.Command.TheVariants.{Cursor}
+use Rattle.hashlink_commands.specs.declared.commands.Command.TheVariants.{Front, Back, Len, Clear, Shrink, Keep}
+use Rattle.hashlink_commands.specs.declared.commands.Command.TheVariants.{Entry, Cursor}
 use Rattle.hashlink_commands.specs.declared.replies.Reply.{Reply}
 use Rattle.hashlink_run.specs.Step.{Step}
-use Rattle.hashlink_run.specs.Run.{Answered, Run, replies_of, state_after, passed_at, keeps_nodes, passed_by, after}
+use Rattle.hashlink_run.specs.Chain.{Answered, state_after, after}
+use Rattle.hashlink_run.specs.Run.{Run, passed_at, keeps_nodes, passed_by}
 use Rattle.hashlink_run.specs.Run.{StaysWithinPeak, TakesKeysWhereShorter}
+use Rattle.hashlink_run.proofs.Chained.{Chain-take, Chain-drop, state_after-parts}
 use Rattle.hashlink_run.proofs.CursorNodes.{cursor-keeps, cursor-wider}
+use Rattle.hashlink_run.proofs.Kept.{keeps_where-wider}
 use Rattle.hashlink_run.proofs.EntryNodes.{kept_unchanged, entry-keeps, replies-wider, reads-wider, entry-wider}
 
 -- ---- the nodes at one step
 
-module _ {K V B S : Type 0} (eq : K → K → Bool) (Says : K → V → B → Type 0) (old new : MapState K V S) where
+module _ {K V B S : Type 0} (eq : K → K → Bool) (Says : K → V → B → Type 0) (Keeps : K → V → Bool → Type 0)
+    (old new : MapState K V S) where
   -- a command but a clear and a shrink
   step-keeps : (command : Command K V) (replies : List (Reply K V B)) → keeps_nodes command ≡ true
-      → Step eq Says old command replies new → KeepsNodes old new
+      → Step eq Says Keeps old command replies new → KeepsNodes old new
   step-keeps (Insert k v) replies keeps s = kept-inserts old new eq k v (length old.entries) s.0 s.1
   step-keeps (InsertFront k v) replies keeps s = kept-inserts old new eq k v 0 s.0 s.1
   step-keeps (Replace k v) replies keeps s = kept-replaces old new eq k v s.0 s.1
@@ -46,12 +49,13 @@ module _ {K V B S : Type 0} (eq : K → K → Bool) (Says : K → V → B → Ty
   step-keeps Front replies keeps s = kept_unchanged old new s.0
   step-keeps Back replies keeps s = kept_unchanged old new s.0
   step-keeps Len replies keeps s = kept_unchanged old new s.0
+  step-keeps Keep replies keeps s = kept-keeps old new _ s.0.keeps
   step-keeps (Entry k step) replies keeps s = entry-keeps old new Says replies k eq step s
   step-keeps (Cursor steps) replies keeps s = cursor-keeps eq Says old new steps.items replies s
   step-keeps Clear replies keeps s = cc
   step-keeps Shrink replies keeps s = cc
 
-  step-passes : (command : Command K V) (replies : List (Reply K V B)) → Step eq Says old command replies new
+  step-passes : (command : Command K V) (replies : List (Reply K V B)) → Step eq Says Keeps old command replies new
       → Passes old (passed_at command (length new.entries)) new
   step-passes Clear replies s =
       let none = ap length s.0.entries in subst (λ n. Passes old (Length n) new) (sym none) (passes-clears old new s.0)
@@ -69,102 +73,59 @@ module _ {K V B S : Type 0} (eq : K → K → Bool) (Says : K → V → B → Ty
   step-passes Front replies s = passes-kept old new (step-keeps Front replies refl s)
   step-passes Back replies s = passes-kept old new (step-keeps Back replies refl s)
   step-passes Len replies s = passes-kept old new (step-keeps Len replies refl s)
+  step-passes Keep replies s = passes-kept old new (step-keeps Keep replies refl s)
   step-passes (Entry k step) replies s = passes-kept old new (step-keeps (Entry k step) replies refl s)
   step-passes (Cursor steps) replies s = passes-kept old new (step-keeps (Cursor steps) replies refl s)
 
--- ---- chains
+module _ {K V B S : Type 0} (eq : K → K → Bool) (Says : K → V → B → Type 0) (Keeps : K → V → Bool → Type 0) where
+  -- ---- the nodes along a chain
 
-module _ {K V B S : Type 0} where
-  pub replies_of-more : (xs : List (Answered K V B S)) (x : Answered K V B S)
-      → replies_of (xs ++ x ∷ []) ≡ replies_of xs ++ x.replies
-  replies_of-more xs x =
-      flat_map-append (λ a. a.replies) xs (x ∷ []) ∙ ap (λ rs. replies_of xs ++ rs) (append-nil x.replies)
+  run-passes : (old : MapState K V S) (cs : List (Command K V)) (xs : List (Answered (Reply K V B) (MapState K V S)))
+      → Run eq Says Keeps old cs xs → PassesInTurn old (passed_by cs xs) (state_after old xs)
+  run-passes old [] [] r = refl
+  run-passes old [] (x ∷ xs) r = absurd r
+  run-passes old (c ∷ cs) [] r = absurd r
+  run-passes old (c ∷ cs) (x ∷ xs) r =
+      (x.state, step-passes eq Says Keeps old x.state c x.replies r.0, run-passes x.state cs xs r.1)
 
-  pub state_after-append : (old : MapState K V S) (xs ys : List (Answered K V B S))
-      → state_after old (xs ++ ys) ≡ state_after (state_after old xs) ys
-  state_after-append old [] ys = refl
-  state_after-append old (x ∷ xs) ys = state_after-append x.state xs ys
+  run-keeps : (old : MapState K V S) (cs : List (Command K V)) (xs : List (Answered (Reply K V B) (MapState K V S)))
+      → Run eq Says Keeps old cs xs → AllPass keeps_nodes cs → node_count old ≤ node_count (state_after old xs)
+  run-keeps old [] [] r all = omega arith
+  run-keeps old [] (x ∷ xs) r all = absurd r
+  run-keeps old (c ∷ cs) [] r all = absurd r
+  run-keeps old (c ∷ cs) (x ∷ xs) r all =
+      let keeps = All-head (λ d. keeps_nodes d ≡ true) c cs all in
+      let first = kept-never_fall old x.state (step-keeps eq Says Keeps old x.state c x.replies keeps r.0) in
+      let more = run-keeps x.state cs xs r.1 (All-tail (λ d. keeps_nodes d ≡ true) c cs all) in
+      omega arith
 
-  state_after-parts : (n : ℕ) (old : MapState K V S) (xs : List (Answered K V B S))
-      → state_after (state_after old (take n xs)) (drop n xs) ≡ state_after old xs
-  state_after-parts zero old xs = refl
-  state_after-parts (suc n) old [] = refl
-  state_after-parts (suc n) old (x ∷ xs) = state_after-parts n x.state xs
+  module _ (old : MapState K V S) (cs : List (Command K V)) (xs : List (Answered (Reply K V B) (MapState K V S)))
+      (run : Run eq Says Keeps old cs xs) where
+    pub stays_within_peak : StaysWithinPeak old cs xs
+    stays_within_peak n =
+        within_the_peak old (after old xs n) (passed_by (take n cs) (take n xs))
+        (run-passes old (take n cs) (take n xs) (Chain-take (Step eq Says Keeps) n old cs xs run))
 
-  module _ (eq : K → K → Bool) (Says : K → V → B → Type 0) where
-    Run-append : (old : MapState K V S) (cs ds : List (Command K V)) (xs ys : List (Answered K V B S))
-        → Run eq Says old cs xs → Run eq Says (state_after old xs) ds ys → Run eq Says old (cs ++ ds) (xs ++ ys)
-    Run-append old [] ds [] ys r s = s
-    Run-append old [] ds (x ∷ xs) ys r s = absurd r
-    Run-append old (c ∷ cs) ds [] ys r s = absurd r
-    Run-append old (c ∷ cs) ds (x ∷ xs) ys r s = (r.0, Run-append x.state cs ds xs ys r.1 s)
-
-    -- one more command
-    pub Run-more : (old : MapState K V S) (cs : List (Command K V)) (xs : List (Answered K V B S)) (c : Command K V)
-        (x : Answered K V B S) → Run eq Says old cs xs → Step eq Says (state_after old xs) c x.replies x.state
-        → Run eq Says old (cs ++ c ∷ []) (xs ++ x ∷ [])
-    Run-more old cs xs c x r s = Run-append old cs (c ∷ []) xs (x ∷ []) r (s, tt)
-
-    Run-take : (n : ℕ) (old : MapState K V S) (cs : List (Command K V)) (xs : List (Answered K V B S))
-        → Run eq Says old cs xs → Run eq Says old (take n cs) (take n xs)
-    Run-take zero old cs xs r = tt
-    Run-take (suc n) old [] [] r = tt
-    Run-take (suc n) old [] (x ∷ xs) r = absurd r
-    Run-take (suc n) old (c ∷ cs) [] r = absurd r
-    Run-take (suc n) old (c ∷ cs) (x ∷ xs) r = (r.0, Run-take n x.state cs xs r.1)
-
-    Run-drop : (n : ℕ) (old : MapState K V S) (cs : List (Command K V)) (xs : List (Answered K V B S))
-        → Run eq Says old cs xs → Run eq Says (state_after old (take n xs)) (drop n cs) (drop n xs)
-    Run-drop zero old cs xs r = r
-    Run-drop (suc n) old [] [] r = tt
-    Run-drop (suc n) old [] (x ∷ xs) r = absurd r
-    Run-drop (suc n) old (c ∷ cs) [] r = absurd r
-    Run-drop (suc n) old (c ∷ cs) (x ∷ xs) r = Run-drop n x.state cs xs r.1
-
-    -- ---- the nodes along a chain
-
-    run-passes : (old : MapState K V S) (cs : List (Command K V)) (xs : List (Answered K V B S))
-        → Run eq Says old cs xs → PassesInTurn old (passed_by cs xs) (state_after old xs)
-    run-passes old [] [] r = refl
-    run-passes old [] (x ∷ xs) r = absurd r
-    run-passes old (c ∷ cs) [] r = absurd r
-    run-passes old (c ∷ cs) (x ∷ xs) r =
-        (x.state, step-passes eq Says old x.state c x.replies r.0, run-passes x.state cs xs r.1)
-
-    run-keeps : (old : MapState K V S) (cs : List (Command K V)) (xs : List (Answered K V B S))
-        → Run eq Says old cs xs → AllPass keeps_nodes cs → node_count old ≤ node_count (state_after old xs)
-    run-keeps old [] [] r all = omega arith
-    run-keeps old [] (x ∷ xs) r all = absurd r
-    run-keeps old (c ∷ cs) [] r all = absurd r
-    run-keeps old (c ∷ cs) (x ∷ xs) r all =
-        let keeps = All-head (λ d. keeps_nodes d ≡ true) c cs all in
-        let first = kept-never_fall old x.state (step-keeps eq Says old x.state c x.replies keeps r.0) in
-        let more = run-keeps x.state cs xs r.1 (All-tail (λ d. keeps_nodes d ≡ true) c cs all) in
-        omega arith
-
-    module _ (old : MapState K V S) (cs : List (Command K V)) (xs : List (Answered K V B S))
-        (run : Run eq Says old cs xs) where
-      pub stays_within_peak : StaysWithinPeak old cs xs
-      stays_within_peak n =
-          within_the_peak old (after old cs xs n) (passed_by (take n cs) (take n xs))
-          (run-passes old (take n cs) (take n xs) (Run-take n old cs xs run))
-
-      pub takes_keys_where_shorter : TakesKeysWhereShorter old cs xs eq
-      takes_keys_where_shorter i j le all shorter k =
-          let part = Run-drop i old (take j cs) (take j xs) (Run-take j old cs xs run) in
-          let start : state_after old (take i (take j xs))
-          ≡ after old cs xs i = ap (state_after old) (take-take i j xs le) in
-          let end = state_after-parts i old (take j xs) in
-          let kept =
-          run-keeps (state_after old (take i (take j xs))) (drop i (take j cs)) (drop i (take j xs)) part all in
-          let nodes : node_count (after old cs xs i) ≤ node_count (after old cs xs j) = rw (end, start) at kept in
-          not_refused_where_shorter (after old cs xs i) (after old cs xs j) eq k nodes shorter
+    pub takes_keys_where_shorter : TakesKeysWhereShorter old cs xs eq
+    takes_keys_where_shorter i j le all shorter k =
+        let part =
+        Chain-drop (Step eq Says Keeps) i old (take j cs) (take j xs)
+        (Chain-take (Step eq Says Keeps) j old cs xs run) in
+        let start : state_after old (take i (take j xs))
+        ≡ after old xs i = ap (state_after old) (take-take i j xs le) in
+        let end = state_after-parts i old (take j xs) in
+        let kept =
+        run-keeps (state_after old (take i (take j xs))) (drop i (take j cs)) (drop i (take j xs)) part all in
+        let nodes : node_count (after old xs i) ≤ node_count (after old xs j) = rw (end, start) at kept in
+        not_refused_where_shorter (after old xs i) (after old xs j) eq k nodes shorter
 
 -- ---- what one closure says another may say too
 
 module _ {K V B : Type 0} (P Q : K → V → B → Type 0) (wider : (k : K) (v : V) (b : B) → P k v b → Q k v b)
+    (Keeps Also : K → V → Bool → Type 0) (also : (k : K) (v : V) (b : Bool) → Keeps k v b → Also k v b)
     {S : Type 0} (eq : K → K → Bool) (old : MapState K V S) (replies : List (Reply K V B)) (new : MapState K V S) where
-  pub step-wider : (command : Command K V) → Step eq P old command replies new → Step eq Q old command replies new
+  pub step-wider : (command : Command K V) → Step eq P Keeps old command replies new
+      → Step eq Q Also old command replies new
   step-wider (Insert k v) s = s
   step-wider (InsertFront k v) s = s
   step-wider (Replace k v) s = s
@@ -180,5 +141,6 @@ module _ {K V B : Type 0} (P Q : K → V → B → Type 0) (wider : (k : K) (v :
   step-wider Len s = s
   step-wider Clear s = s
   step-wider Shrink s = s
+  step-wider Keep s = (keeps_where-wider Keeps Also also old new s.0, s.1)
   step-wider (Entry k step) s = entry-wider P Q wider old replies new eq k step s
   step-wider (Cursor steps) s = cursor-wider P Q wider eq old new steps.items replies s

@@ -18,7 +18,7 @@ use Rattle.hashlink_commands.specs.declared.replies.Reply.{Reply}
 use Rattle.hashlink_run.specs.EntrySteps.{OccupiedStep, VacantStep, EntrySteps}
 use Rattle.hashlink_run.specs.Reads.{SaysOf, Replies, Reads}
 
-length_set_key : {K V : Type 0} (es : List (K × V)) (j : ℕ) (k : K) → length (set_key_at es j k) ≡ length es
+pub length_set_key : {K V : Type 0} (es : List (K × V)) (j : ℕ) (k : K) → length (set_key_at es j k) ≡ length es
 length_set_key [] j k = refl
 length_set_key (e ∷ es) zero k = refl
 length_set_key (e ∷ es) (suc j) k = ap suc (length_set_key es j k)

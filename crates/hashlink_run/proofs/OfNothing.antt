@@ -10,7 +10,7 @@ use Rattle.hashlink_commands.specs.declared.replies.Reply.TheVariants.{Done, See
 use Rattle.hashlink_run.specs.Reads.{Replies}
 use Rattle.hashlink_run.specs.CallReplies.{shrink_reply}
 use Rattle.hashlink_run.specs.Text.{IsTranscript}
-use Rattle.hashlink_run.specs.Transcript.{Shows, ShowsAll, Itself, ended, replies_shown}
+use Rattle.hashlink_run.specs.Transcript.{Shows, LineShows, ShowsAll, Itself, ended, replies_shown}
 use Rattle.hashlink_run.specs.declared.shown.Form.TheVariants.{Whole, OfValue}
 use Rattle.hashlink_run.proofs.Answered.{said_itself}
 
@@ -24,7 +24,7 @@ record Answers (S : Type 0) (line answer : List ℕ) : Type 0 where
 record AnswersAll (S : Type 0) (lines : List (List ℕ)) (answer : List ℕ) : Type 0 where
   by :
       (n r w : ℕ) (s : S) (new : MapState ℕ ℕ S) (text : List ℕ)
-      → ShowsAll (map_state [] n r w s) lines text new → text ≡ answer
+      → ShowsAll LineShows (map_state [] n r w s) lines text new → text ≡ answer
 
 -- a pair that is read of no entries
 nothing_read : (replies : List (Reply ℕ ℕ (ℕ × ℕ))) → Replies Itself None replies → replies ≡ Seen None ∷ []
@@ -44,7 +44,7 @@ module _ (S : Type 0) where
     by = λ n r w s new text h.
         let between : MapState ℕ ℕ S = h.1 in
         let first = one.by n r w s between h.0 h.3 in
-        let from = subst (λ es. ShowsAll (record between { entries = es }) lines h.2 new) first.1 h.4 in
+        let from = subst (λ es. ShowsAll LineShows (record between { entries = es }) lines h.2 new) first.1 h.4 in
         let rest = all.by between.spare between.room between.link_writes between.hasher new h.2 from in
         h.5 ∙ ap₂ (λ a m. ended a ++ m) first.0 rest;
   }

@@ -6,12 +6,13 @@ use Rattle.hashlink_commands.specs.declared.commands.Command.{Command}
 use Rattle.hashlink_commands.specs.declared.commands.Command.TheVariants.{Cursor}
 use Rattle.hashlink_commands.specs.declared.line.Line.TheVariants.{Do}
 use Rattle.hashlink_commands.specs.declared.replies.Reply.{Reply}
+use Rattle.hashlink_run.specs.Keeps.{IsEven}
 use Rattle.hashlink_run.specs.Step.{Step}
 use Rattle.hashlink_run.specs.Transcript.{Shows, Itself, form_of, replies_shown}
 
 -- a command that was read is answered by its replies, the steps of a cursor among them
 pub shows-command : {S : Type 0} (old new : MapState ℕ ℕ S) (command : Command ℕ ℕ) (replies : List (Reply ℕ ℕ (ℕ × ℕ)))
-    → Step nat_eq Itself old command replies new
+    → Step nat_eq Itself IsEven old command replies new
     → Shows old (Some (said (Do command))) (replies_shown (form_of command) replies) new
 shows-command old new (Cursor steps) replies s = (replies, s, refl)
 shows-command old new command replies s = (replies, s, refl)

@@ -8,7 +8,7 @@ use Rattle.hashlink_commands.specs.declared.commands.Command.TheVariants.{Entry}
 use Rattle.hashlink_commands.specs.declared.commands.EntryStep.TheVariants.{OrInsert, ReplaceEntry}
 use Rattle.hashlink_commands.specs.declared.replies.Reply.TheVariants.{Value, Pair, Seen}
 use Rattle.hashlink_run.specs.Text.{IsTranscript}
-use Rattle.hashlink_run.specs.Transcript.{ShowsAll}
+use Rattle.hashlink_run.specs.Transcript.{LineShows, ShowsAll}
 use Rattle.hashlink_run.proofs.Answered.{few, state, Stepped, first_insert}
 
 moved_last : Stepped (state ((1, 10) ∷ []) 0 1 4) (Entry 1 (OrInsert 5)) (Seen (Some (1, 10)))
@@ -57,7 +57,7 @@ pub worked_entries : IsTranscript
 unfolding digits
 worked_entries =
     let end : MapState ℕ ℕ DefaultHashBuilder = state ((1, 12) ∷ (2, 21) ∷ []) 0 2 8 in
-    let listed : ShowsAll end (codes "iter" ∷ []) (codes "1:12 2:21\n") end =
+    let listed : ShowsAll LineShows end (codes "iter" ∷ []) (codes "1:12 2:21\n") end =
     (codes "1:12 2:21", end, [], (refl, refl), (refl, refl), refl) in (
       default_builder,
       end,

@@ -1,10 +1,17 @@
 -- What commands do to a map, one by one and in lists, and what is written in answer to a text of them.
 pub mod CallReplies
 pub mod Reads
+pub mod Keeps
 pub mod EntrySteps
 pub mod CursorSteps
 pub mod Step
+pub mod Chain
 pub mod Run
+pub mod CacheCalls
+pub mod CacheLaws
+pub mod CacheStep
+pub mod CacheRun
 pub mod Transcript
+pub mod CacheTranscript
 pub mod Text
 pub mod Faults

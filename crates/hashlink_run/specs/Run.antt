@@ -1,44 +1,22 @@
 -- Lists of commands: a run is a chain of steps, and what holds along it.
-use Rattle.std.specs.Prelude.{◌≡◌, ℕ, ◌+◌, ◌<◌, ◌≤◌, Bool, true, false, List, [], ◌∷◌, length, take, drop}
-use Rattle.std.specs.List.{AllPass, flat_map}
+use Rattle.std.specs.Prelude.{ℕ, ◌+◌, ◌<◌, ◌≤◌, Bool, true, false, List, [], ◌∷◌, length, take, drop}
+use Rattle.std.specs.List.{AllPass}
 use Rattle.hashlink_model.specs.History.{Passed, Length, Shrunk, peak}
 use Rattle.hashlink_model.specs.MapState.{MapState, node_count, MayRefuse}
 use Rattle.hashlink_commands.specs.declared.commands.Command.{Command}
 use Rattle.hashlink_commands.specs.declared.commands.Command.TheVariants.{Clear, Shrink, Cursor}
 use Rattle.hashlink_commands.specs.declared.replies.Reply.{Reply}
+use Rattle.hashlink_run.specs.Chain.{Answered, Chain, Chained, after}
 use Rattle.hashlink_run.specs.Step.{Step}
 
--- the replies to a command, and the state that the map goes on to
-pub record Answered (K V B S : Type 0) : Type 0 where
-  pub replies : List (Reply K V B)
-  pub state : MapState K V S
+module _ {K V B S : Type 0} (eq : K → K → Bool) (Says : K → V → B → Type 0) (Keeps : K → V → Bool → Type 0) where
+  -- from old, the map may answer the commands in turn so
+  abbrev pub Run : MapState K V S → List (Command K V) → List (Answered (Reply K V B) (MapState K V S)) → Type 0
+  Run = Chain (Step eq Says Keeps)
 
-module _ {K V B S : Type 0} where
-  -- the replies, joined
-  abbrev pub replies_of : List (Answered K V B S) → List (Reply K V B)
-  replies_of answers = flat_map (λ a. a.replies) answers
-
-  -- the state at the end, from `old` on
-  abbrev pub state_after : MapState K V S → List (Answered K V B S) → MapState K V S
-  state_after old [] = old
-  state_after old (a ∷ answers) = state_after a.state answers
-
-  module _ (eq : K → K → Bool) (Says : K → V → B → Type 0) where
-    -- from old, the map may answer the commands in turn so
-    abbrev pub Run : MapState K V S → List (Command K V) → List (Answered K V B S) → Type 0
-    Run old [] [] = Unit {0}
-    Run old (command ∷ commands) (a ∷ answers) = Step eq Says old command a.replies a.state
-        × Run a.state commands answers
-    Run old [] (a ∷ answers) = ⊥
-    Run old (command ∷ commands) [] = ⊥
-
-    -- and so by these replies, and go on to new
-    pub record Runs (old : MapState K V S) (commands : List (Command K V)) (replies : List (Reply K V B))
-        (new : MapState K V S) : Type 0 where
-      pub answers : List (Answered K V B S)
-      pub run : Run old commands answers
-      pub joined : replies ≡ replies_of answers
-      pub reached : new ≡ state_after old answers
+  -- and so by these replies, and go on to new
+  abbrev pub Runs : MapState K V S → List (Command K V) → List (Reply K V B) → MapState K V S → Type 0
+  Runs = Chained (Step eq Says Keeps)
 
 module _ {K V : Type 0} where
   -- how many replies a command has: one, and a cursor's steps one each
@@ -65,24 +43,22 @@ module _ {K V : Type 0} where
   keeps_nodes command = true
 
 module _ {K V B S : Type 0} where
-  abbrev pub passed_by : List (Command K V) → List (Answered K V B S) → List Passed
+  abbrev pub passed_by : List (Command K V) → List (Answered (Reply K V B) (MapState K V S)) → List Passed
   passed_by [] answers = []
   passed_by (command ∷ commands) [] = []
   passed_by (command ∷ commands) (a ∷ answers) =
       passed_at command (length a.state.entries) ∷ passed_by commands answers
 
-  module _ (old : MapState K V S) (commands : List (Command K V)) (answers : List (Answered K V B S)) where
-    -- the state after the first n commands
-    abbrev pub after : ℕ → MapState K V S
-    after n = state_after old (take n answers)
-
+  module _ (old : MapState K V S) (commands : List (Command K V))
+      (answers : List (Answered (Reply K V B) (MapState K V S))) where
     -- after any of the commands the nodes are within the peak
     abbrev pub StaysWithinPeak : Type 0
     StaysWithinPeak = (n : ℕ)
-        → node_count (after n) ≤ peak (node_count old) (passed_by (take n commands) (take n answers))
+        → node_count (after old answers n) ≤ peak (node_count old) (passed_by (take n commands) (take n answers))
 
     -- where the map was longer, and no command since gave nodes back, no insert may be refused
     abbrev pub TakesKeysWhereShorter : (K → K → Bool) → Type 0
     TakesKeysWhereShorter eq =
         (i j : ℕ) → i ≤ j → AllPass keeps_nodes (drop i (take j commands))
-        → length (after j).entries < length (after i).entries → (k : K) → ¬ MayRefuse eq (after j) k
+        → length (after old answers j).entries < length (after old answers i).entries → (k : K)
+        → ¬ MayRefuse eq (after old answers j) k

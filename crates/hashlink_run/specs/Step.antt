@@ -1,5 +1,5 @@
 -- What a map answers to a command, and what it goes on to. Of a pair that a command reads, a reply has what `Says`
--- lets be said.
+-- lets be said, and a keep goes by what `Keeps` lets be answered.
 use Rattle.std.specs.Prelude.{◌≡◌, ℕ, Bool, List, [], ◌∷◌, length, Option, Result}
 use Rattle.std.specs.Map.{lookup, lookup_entry}
 use Rattle.std.specs.declared.alloc.AllocError.{AllocError}
@@ -10,16 +10,17 @@ use Rattle.hashlink_commands.specs.declared.commands.Command.{Command}
 use Rattle.hashlink_commands.specs.declared.commands.Command.TheVariants.{Insert, InsertFront, Replace, Get, Remove}
 use Rattle.hashlink_commands.specs.declared.commands.Command.TheVariants.{RemoveEntry, PopFront, PopBack, ToFront}
 use Rattle.hashlink_commands.specs.declared.commands.Command.TheVariants.{ToBack}
-use Rattle.hashlink_commands.specs.declared.commands.Command.TheVariants.{Front, Back, Len, Clear, Shrink, Entry}
-use Rattle.hashlink_commands.specs.declared.commands.Command.TheVariants.{Cursor}
+use Rattle.hashlink_commands.specs.declared.commands.Command.TheVariants.{Front, Back, Len, Clear, Shrink, Keep}
+use Rattle.hashlink_commands.specs.declared.commands.Command.TheVariants.{Entry, Cursor}
 use Rattle.hashlink_commands.specs.declared.replies.Reply.{Reply}
 use Rattle.hashlink_commands.specs.declared.replies.Reply.TheVariants.{Done, Value, Pair, Length}
 use Rattle.hashlink_run.specs.CallReplies.{insert_reply, shrink_reply}
 use Rattle.hashlink_run.specs.CursorSteps.{CursorSteps}
+use Rattle.hashlink_run.specs.Keeps.{KeepsWhere}
 use Rattle.hashlink_run.specs.Reads.{Replies, Reads}
 use Rattle.hashlink_run.specs.EntrySteps.{EntrySteps}
 
-module _ {K V B S : Type 0} (eq : K → K → Bool) (Says : K → V → B → Type 0) where
+module _ {K V B S : Type 0} (eq : K → K → Bool) (Says : K → V → B → Type 0) (Keeps : K → V → Bool → Type 0) where
   -- an insert at the place b
   abbrev pub InsertsWith : MapState K V S → K → V → ℕ → List (Reply K V B) → MapState K V S → Type 0
   InsertsWith old k v b replies new =
@@ -54,5 +55,6 @@ module _ {K V B S : Type 0} (eq : K → K → Bool) (Says : K → V → B → Ty
   Step old Clear replies new = Clears old new × (replies ≡ Done ∷ [])
   Step old Shrink replies new =
       (answer : Result (Unit {0}) AllocError) × Shrinks old new answer × (replies ≡ shrink_reply answer ∷ [])
+  Step old Keep replies new = KeepsWhere Keeps old new × (replies ≡ Done ∷ [])
   Step old (Entry k step) replies new = EntrySteps eq Says old k step replies new
   Step old (Cursor steps) replies new = CursorSteps eq Says old steps.items replies new

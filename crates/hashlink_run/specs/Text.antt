@@ -1,9 +1,34 @@
 -- What `run_text` answers, and what `serve` writes.
-use Rattle.std.specs.Prelude.{ℕ, List, Option}
+use Rattle.std.specs.Prelude.{◌≡◌, ℕ, List, [], ◌∷◌, ◌++◌, codes, Option, None, Some}
 use Rattle.std.specs.Io.KnownBytes.{Appends}
+use Rattle.hashlink_model.specs.Cache.{CacheState}
+use Rattle.hashlink_model.specs.MapState.{MapState, empty_map}
 use Rattle.hashlink_core.specs.declared.hash_builder.DefaultHashBuilder.{DefaultHashBuilder}
+use Rattle.hashlink_lru.specs.Cached.{empty_cache}
 use Rattle.hashlink_commands.specs.Lines.{lines_of}
-use Rattle.hashlink_run.specs.Transcript.{LinesRun}
+use Rattle.hashlink_commands.specs.Modes.{mode_said}
+use Rattle.hashlink_commands.specs.declared.modes.Mode.{Mode}
+use Rattle.hashlink_commands.specs.declared.modes.Mode.TheVariants.{Map, Cache, Pair}
+use Rattle.hashlink_run.specs.CacheTranscript.{CacheLineShows, Held, PairLineShows, lists_shown}
+use Rattle.hashlink_run.specs.Transcript.{LineShows, ShowsAll, ended}
+
+module _ (S : Type 0) where
+  -- the answer to the lines after the mode line, from an empty map or empty caches on. A bad mode line is answered
+  -- alone, and what two caches hold is shown at the end
+  abbrev pub ModeRun : Option Mode → List (List ℕ) → List ℕ → Type 0
+  ModeRun None lines text = text ≡ ended (codes "bad")
+  ModeRun (Some Map) lines text =
+      (hasher : S) × (new : MapState ℕ ℕ S) × ShowsAll LineShows (empty_map hasher) lines text new
+  ModeRun (Some (Cache c)) lines text =
+      (hasher : S) × (new : CacheState ℕ ℕ S) × ShowsAll CacheLineShows (empty_cache hasher c) lines text new
+  ModeRun (Some (Pair c d)) lines text =
+      (answers : List ℕ) × (new : Held) × ShowsAll (PairLineShows c d) ([], []) lines answers new
+      × (text ≡ answers ++ lists_shown new)
+
+  -- the answer to a text of these lines, the first of which names the mode
+  abbrev pub LinesRun : List (List ℕ) → List ℕ → Type 0
+  LinesRun [] text = text ≡ []
+  LinesRun (mode ∷ lines) text = ModeRun (mode_said mode) lines text
 
 -- the text is an answer to the input
 abbrev pub IsTranscript : List ℕ → List ℕ → Type 0

@@ -1,11 +1,12 @@
--- What a text is answered with. A map goes from line to line, and each line has one line in answer.
+-- What a line to a map is answered with, and lines in turn: a state goes from line to line, and each line has one line
+-- in answer.
 -- The map's own choices are open: whether an insert that needs a new node is refused, whether a shrink of a map that
 -- isn't empty is, and for how many nodes there is room.
 use Rattle.std.specs.Prelude.{◌≡◌, ℕ, List, [], ◌∷◌, ◌++◌, map, codes, decimal, nat_eq, Option, None, Some}
 use Rattle.std.specs.List.{join_with_byte}
 use Rattle.std.specs.Option.{option_map_or}
-use Rattle.hashlink_model.specs.MapState.{MapState, empty_map}
-use Rattle.hashlink_commands.specs.Says.{Said, Do, Cursor, Iter, says, mode_said}
+use Rattle.hashlink_model.specs.MapState.{MapState}
+use Rattle.hashlink_commands.specs.Says.{Said, Do, Cursor, Iter, says}
 use Rattle.hashlink_commands.specs.declared.commands.Command.{Command}
 use Rattle.hashlink_commands.specs.declared.commands.Command.TheVariants as command
 use Rattle.hashlink_commands.specs.declared.commands.Command.TheVariants.{Front, Back, Entry}
@@ -13,9 +14,8 @@ use Rattle.hashlink_commands.specs.declared.commands.EntryStep.TheVariants.{OrIn
 use Rattle.hashlink_commands.specs.declared.replies.Reply.{Reply}
 use Rattle.hashlink_commands.specs.declared.replies.Reply.TheVariants.{Done, Denied, Value, Pair, Key, Seen}
 use Rattle.hashlink_commands.specs.declared.replies.Reply.TheVariants.{Length, Refused}
-use Rattle.hashlink_commands.specs.declared.modes.Mode.{Mode}
-use Rattle.hashlink_commands.specs.declared.modes.Mode.TheVariants.{Map}
 use Rattle.hashlink_run.specs.CursorSteps.{CursorSteps}
+use Rattle.hashlink_run.specs.Keeps.{IsEven}
 use Rattle.hashlink_run.specs.Step.{Step}
 use Rattle.hashlink_run.specs.declared.shown.Form.{Form}
 use Rattle.hashlink_run.specs.declared.shown.Form.TheVariants.{Whole, OfValue, OrGiven}
@@ -80,26 +80,20 @@ module _ {S : Type 0} where
   Shows old None text new = (text ≡ codes "bad") × (new ≡ old)
   Shows old (Some Iter) text new = (text ≡ list_shown old.entries) × (new ≡ old)
   Shows old (Some (Do command)) text new =
-      (replies : List (Reply ℕ ℕ (ℕ × ℕ))) × Step nat_eq Itself old command replies new
+      (replies : List (Reply ℕ ℕ (ℕ × ℕ))) × Step nat_eq Itself IsEven old command replies new
       × (text ≡ replies_shown (form_of command) replies)
   Shows old (Some (Cursor steps)) text new =
       (replies : List (Reply ℕ ℕ (ℕ × ℕ))) × CursorSteps nat_eq Itself old steps replies new
       × (text ≡ replies_shown Whole replies)
 
-  -- from old, this text may answer the lines, a line for each, and the map goes on to new
-  abbrev pub ShowsAll : MapState ℕ ℕ S → List (List ℕ) → List ℕ → MapState ℕ ℕ S → Type 0
+  abbrev pub LineShows : MapState ℕ ℕ S → List ℕ → List ℕ → MapState ℕ ℕ S → Type 0
+  LineShows old line text new = Shows old (says line) text new
+
+-- from old, this text may answer the lines, a line for each, and the state goes on to new. `ShowsLine` says what may
+-- answer one line
+module _ {M : Type 0} (ShowsLine : M → List ℕ → List ℕ → M → Type 0) where
+  abbrev pub ShowsAll : M → List (List ℕ) → List ℕ → M → Type 0
   ShowsAll old [] text new = (text ≡ []) × (new ≡ old)
   ShowsAll old (line ∷ lines) text new =
-      (answer : List ℕ) × (between : MapState ℕ ℕ S) × (more : List ℕ)
-      × Shows old (says line) answer between × ShowsAll between lines more new × (text ≡ ended answer ++ more)
-
-module _ (S : Type 0) where
-  -- the answer to the lines after the mode line: a bad one is answered alone
-  abbrev pub ModeRun : Option Mode → List (List ℕ) → List ℕ → Type 0
-  ModeRun None lines text = text ≡ ended (codes "bad")
-  ModeRun (Some Map) lines text = (hasher : S) × (new : MapState ℕ ℕ S) × ShowsAll (empty_map hasher) lines text new
-
-  -- the answer to a text of these lines, the first of which names the mode
-  abbrev pub LinesRun : List (List ℕ) → List ℕ → Type 0
-  LinesRun [] text = text ≡ []
-  LinesRun (mode ∷ lines) text = ModeRun (mode_said mode) lines text
+      (answer : List ℕ) × (between : M) × (more : List ℕ)
+      × ShowsLine old line answer between × ShowsAll between lines more new × (text ≡ ended answer ++ more)

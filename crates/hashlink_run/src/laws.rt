@@ -1,5 +1,12 @@
-//! Texts and what may answer them. Each function has an empty body: its contract is the statement.
-ghost use Rattle.std.specs.Prelude.{◌≡◌, ◌⊎◌, ℕ, List, [], codes};
+//! Texts and what may answer them, and what a keep leaves. Each function has an empty body: its contract is the
+//! statement.
+ghost use Rattle.std.specs.Prelude.{◌≡◌, ◌⊎◌, ℕ, Bool, List, [], codes, filter};
+ghost use Rattle.hashlink_model.specs.MapState.{MapState};
+ghost use Rattle.hashlink_model.specs.Steps.{KeepsOnly};
+ghost use Rattle.hashlink_commands.specs.declared.commands.Command.TheVariants.{Keep};
+ghost use Rattle.hashlink_commands.specs.declared.replies.Reply.{Reply};
+ghost use Rattle.hashlink_run.specs.Reads.{ClosureSays};
+ghost use Rattle.hashlink_run.specs.Step.{Step};
 ghost use Rattle.hashlink_run.specs.Text.{IsTranscript};
 
 /// What may answer these texts, and nothing else: where the map has no choice one text, and where an insert
@@ -39,4 +46,13 @@ pub fn a_worked_text_of_entries()
     ensures { IsTranscript (codes
         "map\ninsert 1 10\nentry 1 or_insert 5\nentry 2 or_insert 21\nentry 1 replace_entry 12\niter\n")
         (codes "-\n10\n21\n1:10\n1:12 2:21\n") }
+{}
+
+/// A keep by a closure that answers alike at the same key and value is a filter of the entries.
+pub fn a_keep_is_a_filter<K, V, S, F: Fn(&K, &V) -> bool>()
+    ensures { (eq : K → K → Bool) (f : F) (p : K × V → Bool)
+        → ((k : K) (v : V) (b : Bool) → ClosureSays F.Fn f k v b → b ≡ p (k, v))
+        → (old new : MapState K V S) (replies : List (Reply K V Bool))
+        → Step eq (ClosureSays F.Fn f) (ClosureSays F.Fn f) old Keep replies new
+        → KeepsOnly old new (filter p old.entries) }
 {}

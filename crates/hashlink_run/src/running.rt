@@ -2,7 +2,8 @@
 ghost use Rattle.std.specs.Prelude.{◌≡◌, ◌≤◌, ◌^◌, List, IfOk, OnErr};
 ghost use Rattle.hashlink_core.specs.Keyed.{state_of};
 ghost use Rattle.hashlink_run.specs.Reads.{ClosureSays};
-ghost use Rattle.hashlink_run.specs.Run.{Answered, Run, Runs, StaysWithinPeak, TakesKeysWhereShorter};
+ghost use Rattle.hashlink_run.specs.Chain.{Answered};
+ghost use Rattle.hashlink_run.specs.Run.{Run, Runs, StaysWithinPeak, TakesKeysWhereShorter};
 ghost use Rattle.hashlink_run.specs.Run.{reply_count, reply_total};
 
 use crate::steps::answer_command;
@@ -13,7 +14,8 @@ use std::hash::{BuildHasher, Hash};
 
 /// Gives the commands to the map in turn and answers the replies, one for each, and one for each step of a cursor.
 ///
-/// A command that reads a pair is answered by what `keep` says of it. An insert or a shrink that is refused has a
+/// A command that reads a pair is answered by what `keep` says of it, and `Command::Keep` drops the pairs at which it
+/// answers false. An insert or a shrink that is refused has a
 /// reply that says so, and the run goes on. Each command costs what the call of the map does that it names.
 ///
 /// Room for all replies is made first, from the allocator of the commands. Where that is refused, or where their number
@@ -32,22 +34,22 @@ where
 
     // The replies and the state at the end are those of a chain of steps.
     ensures ran { IfOk result
-        (λ replies. Runs K.eq (ClosureSays F.Fn keep.now) (state_of map.old) commands.items replies.items
-        (state_of map.new)) }
+        (λ replies. Runs K.eq (ClosureSays F.Fn keep.now) (ClosureSays F.Fn keep.now) (state_of map.old)
+        commands.items replies.items (state_of map.new)) }
     ensures refused { OnErr result (map.new ≡ map.old) }
 
     // Of any such chain, and so of this one: the nodes stay within the peak, and no insert may be refused into a map
     // that was longer and gave no node back since.
-    ensures within_peak { (answers : List (Answered _ _ _ _))
-        → Run K.eq (ClosureSays F.Fn keep.now) (state_of map.old) commands.items answers
+    ensures within_peak { (answers : List (Answered _ _))
+        → Run K.eq (ClosureSays F.Fn keep.now) (ClosureSays F.Fn keep.now) (state_of map.old) commands.items answers
         → StaysWithinPeak (state_of map.old) commands.items answers }
-    ensures shorter { (answers : List (Answered _ _ _ _))
-        → Run K.eq (ClosureSays F.Fn keep.now) (state_of map.old) commands.items answers
+    ensures shorter { (answers : List (Answered _ _))
+        → Run K.eq (ClosureSays F.Fn keep.now) (ClosureSays F.Fn keep.now) (state_of map.old) commands.items answers
         → TakesKeysWhereShorter (state_of map.old) commands.items answers K.eq }
 {
     let mut replies = Vec::with_capacity(*commands.allocator(), reply_total(&commands)?)?;
     for command in commands {
-        answer_command(map, command, keep, &mut replies)?;
+        answer_command(map, command, keep, keep, &mut replies)?;
     }
     Ok(replies)
 }

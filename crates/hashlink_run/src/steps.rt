@@ -7,6 +7,7 @@ ghost use Rattle.std.specs.Map.Iter.{deref_pair};
 ghost use Rattle.std.specs.Option.{option_map};
 ghost use Rattle.hashlink_core.specs.Keyed.{entries_of, state_of};
 ghost use Rattle.hashlink_model.specs.Steps.{Moves};
+ghost use Rattle.hashlink_run.specs.Keeps.{KeepsWhere};
 ghost use Rattle.hashlink_run.specs.Reads.{ClosureSays, SaysOf};
 ghost use Rattle.hashlink_run.specs.CallReplies.{insert_reply, shrink_reply};
 ghost use Rattle.hashlink_run.specs.Run.{reply_count};
@@ -19,11 +20,13 @@ use hashlink_map::LinkedHashMap;
 use std::alloc::AllocError;
 use std::hash::{BuildHasher, Hash};
 
-// Gives the map the command and pushes its replies. Of a pair that is read they have what the closure says.
-pub(crate) fn answer_command<K, V, S, B, F>(
+// Gives the map the command and pushes its replies. Of a pair that is read they have what the first closure says, and
+// the second one says which pairs a keep leaves.
+pub(crate) fn answer_command<K, V, S, B, F, G>(
     map: &mut LinkedHashMap<K, V, S>,
     command: Command<K, V>,
     says: &F,
+    keep: &G,
     replies: &mut Vec<Reply<K, V, B>>,
 ) -> Result<(), AllocError>
 where
@@ -32,15 +35,18 @@ where
     S: BuildHasher,
     B: Drop,
     F: Fn(&K, &V) -> B,
-    requires { F.IsAlwaysCallable says.now }
+    G: Fn(&K, &V) -> bool,
+    requires says { F.IsAlwaysCallable says.now }
+    requires keep { G.IsAlwaysCallable keep.now }
     ensures answered { OnOk result ((more : List (Reply K V B))
-        × Step K.eq (ClosureSays F.Fn says.now) (state_of map.old) command more (state_of map.new)
+        × Step K.eq (ClosureSays F.Fn says.now) (ClosureSays G.Fn keep.now) (state_of map.old) command more
+        (state_of map.new)
         × (replies.new.items ≡ replies.old.items ++ more)) }
     ensures room { vec_len replies.old + reply_count command ≤ vec_capacity replies.old
         → IsOk result × (vec_len replies.new ≡ vec_len replies.old + reply_count command)
         × (vec_capacity replies.old ≤ vec_capacity replies.new) }
 {
-    match reply_to(map, command, says) {
+    match reply_to(map, command, says, keep) {
         Ok(reply) => replies.push(reply)?,
         Err(steps) => walk_cursor(map, steps, says, replies)?,
     }
@@ -48,19 +54,23 @@ where
 }
 
 // What the map answers to the command, or the steps of a cursor, which are not done yet.
-fn reply_to<K, V, S, B, F>(
+fn reply_to<K, V, S, B, F, G>(
     map: &mut LinkedHashMap<K, V, S>,
     command: Command<K, V>,
     says: &F,
+    keep: &G,
 ) -> Result<Reply<K, V, B>, Vec<CursorStep<K, V>>>
 where
     K: Eq + Hash + Drop,
     V: Drop,
     S: BuildHasher,
     F: Fn(&K, &V) -> B,
-    requires { F.IsAlwaysCallable says.now }
+    G: Fn(&K, &V) -> bool,
+    requires says { F.IsAlwaysCallable says.now }
+    requires keep { G.IsAlwaysCallable keep.now }
     ensures answered { IfOk result (λ reply.
-        Step K.eq (ClosureSays F.Fn says.now) (state_of map.old) command (reply ∷ []) (state_of map.new)) }
+        Step K.eq (ClosureSays F.Fn says.now) (ClosureSays G.Fn keep.now) (state_of map.old) command (reply ∷ [])
+        (state_of map.new)) }
     ensures count { OnOk result (reply_count command ≡ 1) }
     ensures steps { IfErr result (λ steps. (command ≡ Cursor steps) × (map.new ≡ map.old)) }
 {
@@ -83,9 +93,32 @@ where
             Ok(Reply::Done)
         }
         Command::Shrink => Ok(shrink_reply(map.shrink_to_fit())),
+        Command::Keep => {
+            keep_where(map, keep);
+            Ok(Reply::Done)
+        }
         Command::Entry(key, step) => Ok(reply_of_entry(map, key, step, says)),
         Command::Cursor(steps) => Err(steps),
     }
+}
+
+// Drops the pairs at which the closure answers false.
+pub(crate) fn keep_where<K, V, S, G>(map: &mut LinkedHashMap<K, V, S>, keep: &G)
+where
+    K: Eq + Hash + Drop,
+    V: Drop,
+    S: BuildHasher,
+    G: Fn(&K, &V) -> bool,
+    requires { G.IsAlwaysCallable keep.now }
+    ensures { KeepsWhere (ClosureSays G.Fn keep.now) (state_of map.old) (state_of map.new) }
+{
+    map.retain(
+        |key, value|
+            requires { G.IsAlwaysCallable keep.now }
+            ensures says { ClosureSays G.Fn keep.entry.now key.now value.old result }
+            ensures unchanged { (value.new ≡ value.old) × (keep.exit ≡ keep.entry) }
+        { keep(key, value) },
+    );
 }
 
 // The reply to an insert by its answer.

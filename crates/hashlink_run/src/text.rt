@@ -1,17 +1,19 @@
 ghost use Rattle.std.specs.Prelude.{◌≡◌, ◌++◌, ℕ, List, IfOk, OnOk, string_bytes};
 ghost use Rattle.hashlink_core.specs.declared.hash_builder.DefaultHashBuilder.{DefaultHashBuilder};
-ghost use Rattle.hashlink_core.specs.Keyed.{entries_of, state_of};
+ghost use Rattle.hashlink_core.specs.Keyed.{state_of};
 ghost use Rattle.hashlink_commands.specs.Lines.{lines_of};
 ghost use Rattle.hashlink_commands.specs.Says.{says};
 ghost use Rattle.hashlink_commands.specs.declared.modes.Mode.TheVariants.{Map};
-ghost use Rattle.hashlink_run.specs.Text.{IsTranscript};
-ghost use Rattle.hashlink_run.specs.Transcript.{ModeRun, Shows, ended, list_shown, form_of, read_shown, reply_shown};
+ghost use Rattle.hashlink_run.specs.Text.{IsTranscript, ModeRun};
+ghost use Rattle.hashlink_run.specs.Transcript.{Shows, ended, list_shown, form_of, read_shown, reply_shown};
 ghost use Rattle.hashlink_run.specs.Transcript.{replies_shown};
 
+use crate::cache_text::run_cache_lines;
+use crate::pair_text::run_pair_lines;
 use crate::shown::Form;
 use crate::steps::answer_command;
 use hashlink_commands::{Command, EntryStep, Line, Lines, Mode, Reply, mode_of};
-use hashlink_map::LinkedHashMap;
+use hashlink_map::{Iter, LinkedHashMap};
 use std::alloc::{AllocError, Global};
 
 /// The answer to a text of lines, of which the first names what the others speak to.
@@ -27,6 +29,8 @@ pub fn run_text(alloc: Global, input: &[u8]) -> Result<Vec<u8>, AllocError>
     if let Some(mode) = lines.next() {
         match mode_of(mode) {
             Some(Mode::Map) => run_map(alloc, lines, &mut out)?,
+            Some(Mode::Cache(capacity)) => run_cache_lines(alloc, capacity, lines, &mut out)?,
+            Some(Mode::Pair(small, large)) => run_pair_lines(alloc, small, large, lines, &mut out)?,
             None => writeln!(out, "bad")?,
         }
     }
@@ -67,11 +71,12 @@ fn answer(
                 map,
                 command,
                 &|key: &u64, value: &u64| (*key, *value),
+                &|_: &u64, value: &u64| *value % 2 == 0,
                 replies,
             )?;
             push_replies(form, replies, out)
         }
-        Some(Line::Iter) => push_list(map, out),
+        Some(Line::Iter) => push_list(map.iter(), out),
         None => writeln!(out, "bad"),
     }
 }
@@ -88,7 +93,7 @@ fn form_of(command: &Command<u64, u64>) -> Form
 }
 
 // The line that shows the replies to a command.
-fn push_replies(
+pub(crate) fn push_replies(
     form: Form,
     replies: &[Reply<u64, u64, (u64, u64)>],
     out: &mut String,
@@ -108,7 +113,7 @@ fn push_replies(
 }
 
 // One reply.
-fn push_reply(
+pub(crate) fn push_reply(
     form: Form,
     reply: Reply<u64, u64, (u64, u64)>,
     out: &mut String,
@@ -139,12 +144,10 @@ fn push_read(form: Form, pair: Option<(u64, u64)>, out: &mut String) -> Result<(
     }
 }
 
-// The line that shows all pairs, front first.
-fn push_list(map: &LinkedHashMap<u64, u64>, out: &mut String) -> Result<(), AllocError>
-    ensures { OnOk result (string_bytes out.new
-        ≡ string_bytes out.old ++ ended (list_shown (entries_of map.now))) }
+// The line that shows the pairs that a walk has left.
+pub(crate) fn push_list(mut pairs: Iter<'_, u64, u64>, out: &mut String) -> Result<(), AllocError>
+    ensures { OnOk result (string_bytes out.new ≡ string_bytes out.old ++ ended (list_shown pairs.entry)) }
 {
-    let mut pairs = map.iter();
     let Some((key, value)) = pairs.next() else {
         return writeln!(out, "empty");
     };

@@ -10,4 +10,6 @@ mod entries;
 #[cfg(test)]
 mod equal_keys;
 #[cfg(test)]
+mod keeps;
+#[cfg(test)]
 mod row;

@@ -51,3 +51,34 @@ fn walks_show_what_is_left(rt: HostRuntime) -> Result<(), Fail> {
     );
     Ok(())
 }
+
+#[test]
+fn writing_walks_show_what_is_left(rt: HostRuntime) -> Result<(), Fail> {
+    let mut map = one_and_two(rt)?;
+    let pairs = map.iter_mut();
+    assert_eq!(rt;
+        format!(in rt.alloc(); "{pairs:?}")?.as_str(),
+        "[(1, 10), (2, 20)]"
+    );
+    let values = map.values_mut();
+    assert_eq!(rt; format!(in rt.alloc(); "{values:?}")?.as_str(), "[10, 20]");
+    Ok(())
+}
+
+#[test]
+fn walks_show_nothing_that_was_given(rt: HostRuntime) -> Result<(), Fail> {
+    let mut map = one_and_two(rt)?;
+    map.insert(3, 30)?;
+    let mut pairs = map.iter_mut();
+    assert!(rt; pairs.next().is_some());
+    assert_eq!(rt;
+        format!(in rt.alloc(); "{pairs:?}")?.as_str(),
+        "[(2, 20), (3, 30)]"
+    );
+    assert!(rt; pairs.next_back().is_some());
+    assert_eq!(rt; format!(in rt.alloc(); "{pairs:?}")?.as_str(), "[(2, 20)]");
+    let mut values = map.values_mut();
+    assert!(rt; values.next_back().is_some());
+    assert_eq!(rt; format!(in rt.alloc(); "{values:?}")?.as_str(), "[10, 20]");
+    Ok(())
+}

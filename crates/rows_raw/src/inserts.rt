@@ -107,3 +107,70 @@ fn inserts_of_an_entry_put_an_absent_key_last(rt: HostRuntime) -> Result<(), Fai
     );
     Ok(())
 }
+
+const ONE_TO_FOUR: [Pair; 4] = [(1, 10), (2, 21), (3, 30), (4, 40)];
+
+/// One with ten, two with twenty-one, three with thirty.
+fn one_to_three(rt: HostRuntime) -> Result<Numbers, Fail> {
+    let mut numbers = one_and_two(rt)?;
+    numbers.replace(2, 21)?;
+    numbers.insert(3, 30)?;
+    Ok(numbers)
+}
+
+#[test]
+fn an_insert_puts_four_after_three(rt: HostRuntime) -> Result<(), Fail> {
+    let mut numbers = one_to_three(rt)?;
+    assert_eq!(rt; insert(&mut numbers, 4, 40)?, Some((4, 40)));
+    let list = listed(&numbers, rt.alloc())?;
+    assert_eq!(rt; list.as_slice(), ONE_TO_FOUR.as_slice());
+    Ok(())
+}
+
+#[test]
+fn an_insert_with_the_hash_puts_four_after_three(rt: HostRuntime) -> Result<(), Fail> {
+    let mut numbers = one_to_three(rt)?;
+    assert_eq!(rt; insert_hashed(&mut numbers, 4, 40)?, Some((4, 40)));
+    let list = listed(&numbers, rt.alloc())?;
+    assert_eq!(rt; list.as_slice(), ONE_TO_FOUR.as_slice());
+    Ok(())
+}
+
+#[test]
+fn an_insert_with_a_hasher_puts_four_after_three(rt: HostRuntime) -> Result<(), Fail> {
+    let mut numbers = one_to_three(rt)?;
+    assert_eq!(rt; insert_with_hasher(&mut numbers, 4, 40)?, Some((4, 40)));
+    let list = listed(&numbers, rt.alloc())?;
+    assert_eq!(rt; list.as_slice(), ONE_TO_FOUR.as_slice());
+    Ok(())
+}
+
+#[test]
+fn an_insert_of_an_entry_puts_four_after_three(rt: HostRuntime) -> Result<(), Fail> {
+    let mut numbers = one_to_three(rt)?;
+    assert_eq!(rt; insert_entry(&mut numbers, 4, 40)?, Some((4, 40)));
+    let list = listed(&numbers, rt.alloc())?;
+    assert_eq!(rt; list.as_slice(), ONE_TO_FOUR.as_slice());
+    Ok(())
+}
+
+#[test]
+fn an_insert_of_an_entry_with_the_hash_puts_four_after_three(rt: HostRuntime) -> Result<(), Fail> {
+    let mut numbers = one_to_three(rt)?;
+    assert_eq!(rt; insert_entry_hashed(&mut numbers, 4, 40)?, Some((4, 40)));
+    let list = listed(&numbers, rt.alloc())?;
+    assert_eq!(rt; list.as_slice(), ONE_TO_FOUR.as_slice());
+    Ok(())
+}
+
+#[test]
+fn an_insert_of_an_entry_with_a_hasher_puts_four_after_three(rt: HostRuntime) -> Result<(), Fail> {
+    let mut numbers = one_to_three(rt)?;
+    assert_eq!(rt;
+        insert_entry_with_hasher(&mut numbers, 4, 40)?,
+        Some((4, 40))
+    );
+    let list = listed(&numbers, rt.alloc())?;
+    assert_eq!(rt; list.as_slice(), ONE_TO_FOUR.as_slice());
+    Ok(())
+}

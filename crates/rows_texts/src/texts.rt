@@ -29,6 +29,15 @@ fn a_text_of_commands_is_answered_line_by_line(rt: HostRuntime) -> Result<(), Fa
             "map\ninsert 1 10\nentry 1 or_insert 5\nentry 2 or_insert 21\nentry 1 replace_entry 12\niter\n",
             "-\n10\n21\n1:10\n1:12 2:21\n",
         ),
+        // A keep leaves the pairs whose value is even.
+        (
+            "map\ninsert 1 10\nentry 1 or_insert 5\nentry 2 or_insert 21\nentry 1 replace_entry 12\nkeep\niter\n",
+            "-\n10\n21\n1:10\nok\n1:12\n",
+        ),
+        (
+            "map\nkeep\ninsert 1 1\nkeep 1\nkeep\niter\n",
+            "ok\n-\nbad\nok\nempty\n",
+        ),
         (
             "map\nentry 1 insert 10\nentry 2 or_insert 20\nentry 1 insert 11\nentry 2 to_back\nentry 1 to_back\nentry 2 or_insert 0\nentry 2 to_front\niter\nentry 3 get\nentry 3 to_front\nentry 3 to_back\nentry 3 remove\nentry 2 remove\niter\n",
             "-\n20\n10\n20\n11\n20\n20\n2:20 1:11\n-\n-\n-\n-\n20\n1:11\n",
@@ -50,6 +59,37 @@ fn a_text_of_commands_is_answered_line_by_line(rt: HostRuntime) -> Result<(), Fa
         (
             "map\ninsert 1 10\ninsert 2 20\ninsert 3 30\ncursor next before 3 31 cur peek_prev after 1 11 cur peek_next before 2 21 cur\niter\n",
             "-\n-\n-\n2:20 30 2:20 3:31 10 2:20 1:11 20 2:21\n3:31 2:21 1:11\n",
+        ),
+        // A cache: a hit moves its pair last, a peek does not, and a smaller capacity keeps the last pairs.
+        (
+            "cache 2\ninsert 1 10\ninsert 2 20\nget 1\ninsert 3 30\npeek 2\niter\nset_capacity 1\niter\n",
+            "-\n-\n10\n-\n-\n1:10 3:30\nok\n3:30\n",
+        ),
+        (
+            "cache 0\nuse 1 10\nuse 1 10\nlen\nremove_lru\n",
+            "-\n-\n0\n-\n",
+        ),
+        (
+            "cache 3\nuse 1 10\nuse 2 20\nuse 1 11\npeek 1\nremove 2\nremove 2\nlen\nremove_lru\niter\nclear\niter 1\nkeep\n",
+            "-\n-\n10\n10\n20\n-\n1\n1:10\nempty\nok\nbad\nbad\n",
+        ),
+        ("cache 18446744073709551615\ninsert 1 1\nlen\n", "-\n1\n"),
+        // Two caches: the keys of the smaller one are an end of the larger one's.
+        (
+            "pair 1 2\ninsert 1 10\ninsert 2 20\nuse 1 30\n",
+            "- -\n- -\n- 10\n1:30\n2:20 1:10\n",
+        ),
+        (
+            "pair 3 4\nuse 1 10\nuse 2 20\nuse 3 30\nuse 4 40\nuse 1 11\nuse 2 21\nuse 5 50\n",
+            "- -\n- -\n- -\n- -\n- 10\n- 20\n- -\n1:11 2:21 5:50\n4:40 1:10 2:20 5:50\n",
+        ),
+        (
+            "pair 1 2\ninsert 1 10\ninsert 2 20\nremove 2\npeek 1\ninsert 1 11\n",
+            "- -\n- -\n20 20\n- 10\n- 10\n1:11\n1:11\n",
+        ),
+        (
+            "pair 1 1\nget 1\niter\nuse 1\n",
+            "bad\nbad\nbad\nempty\nempty\n",
         ),
         // Nothing is there.
         (
@@ -80,6 +120,14 @@ fn a_text_of_commands_is_answered_line_by_line(rt: HostRuntime) -> Result<(), Fa
         ("", ""),
         ("\n", "bad\n"),
         ("map \ninsert 1 1\n", "bad\n"),
+        ("pair 2 1\ninsert 1 1\n", "bad\n"),
+        ("cache 18446744073709551616\n", "bad\n"),
+        ("cache\nlen\n", "bad\n"),
+        ("cache 01\n", "bad\n"),
+        ("pair 1\n", "bad\n"),
+        ("pair 0 0\ninsert 1 1", "- -\nempty\nempty\n"),
+        ("pair 1 2", "empty\nempty\n"),
+        ("cache 1", ""),
         ("map\r\ninsert 1 1\n", "bad\n"),
     ];
     for (input, wanted) in rows {
@@ -160,7 +208,8 @@ fn a_bad_first_line_ends_the_answer(rt: HostRuntime) -> Result<(), Fail> {
         "maps\n",
         "\nmap\n",
         "iter",
-        "cache 2\niter\n",
+        "cache 2 \niter\n",
+        "pair 1 2 3\niter\n",
         "map 1\n",
         "Map\nlen\n",
     ] {

@@ -7,3 +7,5 @@ mod adapters;
 mod maps;
 #[cfg(test)]
 mod walks;
+#[cfg(test)]
+mod writes;

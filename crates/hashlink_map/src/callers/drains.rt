@@ -11,3 +11,21 @@ pub fn empty_out<K: Eq + Hash + Drop, V: Drop, S: BuildHasher>(map: &mut LinkedH
 {
     let _rest = map.drain();
 }
+
+/// Takes so many entries from the front, so many from the back, and drops the others: the map ends as a drain of all
+/// leaves it.
+pub fn take_ends<K: Eq + Hash + Drop, V: Drop, S: BuildHasher>(
+    map: &mut LinkedHashMap<K, V, S>,
+    front: usize,
+    back: usize,
+)
+    ensures { Drains (state_of map.old) (state_of map.new) }
+{
+    let mut drain = map.drain();
+    for _ in 0..front {
+        let _taken = drain.next();
+    }
+    for _ in 0..back {
+        let _taken = drain.next_back();
+    }
+}

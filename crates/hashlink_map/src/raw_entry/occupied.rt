@@ -16,7 +16,7 @@ impl<'a, K: Eq + Hash, V, S: BuildHasher> RawOccupiedEntryMut<'a, K, V, S> {
     ghost use Rattle.hashlink_map.specs.RawEntry.{RawIsWritten};
     ghost use Rattle.hashlink_core.specs.Keyed.{EqualsKeyAt};
     ghost use Rattle.hashlink_map.specs.Cursor.{cursor_map, cursor_state};
-    ghost use Rattle.hashlink_map.specs.RawLends.{LendsFromRaw, RawLendsForGood, LendsPairOf};
+    ghost use Rattle.hashlink_map.specs.RawLends.{LendsFromRaw, RawLendsForGood, RawRestsForGood, LendsPairOf};
 
     /// The stored key.
     pub fn key(&self) -> &K
@@ -74,10 +74,11 @@ impl<'a, K: Eq + Hash, V, S: BuildHasher> RawOccupiedEntryMut<'a, K, V, S> {
 
     /// The stored key, as long as the map is borrowed.
     pub fn into_key(self) -> &'a K
-        ensures { key_at (raw_occupied_state self.entry).map.entries (raw_place self.entry) ≡ Some result.now }
+        ensures* unchanged { sem 𝓛 (RawRestsForGood K.row V.row S.row S.Hasher.row self.entry) }
+        ensures key { key_at (raw_occupied_state self.entry).map.entries (raw_place self.entry) ≡ Some result.now }
     {
         let RawOccupiedEntryMut { map, node } = self;
-        map.pair_at(node).0
+        map.key_for_good(node)
     }
 
     /// The stored key, and the value for writing, as long as the map is borrowed.

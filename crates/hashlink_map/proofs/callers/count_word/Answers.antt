@@ -1,5 +1,5 @@
-use Rattle.std.proofs.Common.{◌≡◌, ◌+◌, refl, sym, ap, subst, ◌∙◌, is_ok, rules}
-use Rattle.std.specs.Prelude.{unwrap_or, IsOk, Some}
+use Rattle.std.proofs.Common.{◌≡◌, ◌+◌, ap, subst, ◌∙◌, is_ok, rules}
+use Rattle.std.specs.Prelude.{unwrap_or, IsOk}
 use Rattle.hashlink_core.specs.Keyed.{state_of, entries_of}
 use Rattle.std.specs.Map.{lookup}
 use Rattle.hashlink_map.specs.EntryLends.{PutsLast}

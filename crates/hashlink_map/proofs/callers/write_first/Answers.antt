@@ -1,4 +1,4 @@
-use Rattle.std.proofs.Common.{◌≡◌, ◌∙◌, ap, ap₂, subst, rules}
+use Rattle.std.proofs.Common.{◌∙◌, ap, ap₂, subst, rules}
 use Rattle.std.specs.Prelude.{OnSome}
 use Rattle.hashlink_model.specs.MapState.{with_value}
 use Rattle.hashlink_core.specs.Keyed.{state_of}

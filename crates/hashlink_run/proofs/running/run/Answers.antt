@@ -6,33 +6,33 @@ use Rattle.hashlink_run.proofs.Answering.{HasAnswered-none, HasAnswered-more, Ha
 use Rattle.hashlink_run.proofs.running.run.Goals as goal
 
 pub returns-in_err-reply_total-clause-within_peak : goal.returns-in_err-reply_total-clause-within_peak
-returns-in_err-reply_total-clause-within_peak g c = λ answers run. stays_within_peak _ _ _ _ answers run
+returns-in_err-reply_total-clause-within_peak g c = λ answers run. stays_within_peak _ _ _ _ _ answers run
 
 pub returns-in_err-reply_total-clause-shorter : goal.returns-in_err-reply_total-clause-shorter
-returns-in_err-reply_total-clause-shorter g c = λ answers run. takes_keys_where_shorter _ _ _ _ answers run
+returns-in_err-reply_total-clause-shorter g c = λ answers run. takes_keys_where_shorter _ _ _ _ _ answers run
 
 pub returns-in_err-replies-clause-within_peak : goal.returns-in_err-replies-clause-within_peak
-returns-in_err-replies-clause-within_peak g c = λ answers run. stays_within_peak _ _ _ _ answers run
+returns-in_err-replies-clause-within_peak g c = λ answers run. stays_within_peak _ _ _ _ _ answers run
 
 pub returns-in_err-replies-clause-shorter : goal.returns-in_err-replies-clause-shorter
-returns-in_err-replies-clause-shorter g c = λ answers run. takes_keys_where_shorter _ _ _ _ answers run
+returns-in_err-replies-clause-shorter g c = λ answers run. takes_keys_where_shorter _ _ _ _ _ answers run
 
 pub returns-in_err-answer_command-clause-within_peak : goal.returns-in_err-answer_command-clause-within_peak
-returns-in_err-answer_command-clause-within_peak g c = λ answers run. stays_within_peak _ _ _ _ answers run
+returns-in_err-answer_command-clause-within_peak g c = λ answers run. stays_within_peak _ _ _ _ _ answers run
 
 pub returns-in_err-answer_command-clause-shorter : goal.returns-in_err-answer_command-clause-shorter
-returns-in_err-answer_command-clause-shorter g c = λ answers run. takes_keys_where_shorter _ _ _ _ answers run
+returns-in_err-answer_command-clause-shorter g c = λ answers run. takes_keys_where_shorter _ _ _ _ _ answers run
 
 pub returns-clause-within_peak : goal.returns-clause-within_peak
-returns-clause-within_peak g c = λ answers run. stays_within_peak _ _ _ _ answers run
+returns-clause-within_peak g c = λ answers run. stays_within_peak _ _ _ _ _ answers run
 
 pub returns-clause-shorter : goal.returns-clause-shorter
-returns-clause-shorter g c = λ answers run. takes_keys_where_shorter _ _ _ _ answers run
+returns-clause-shorter g c = λ answers run. takes_keys_where_shorter _ _ _ _ _ answers run
 
 pub loop-command-init : goal.loop-command-init
 loop-command-init g c =
     let gives = c.into_iter-command-iterator.ensures.into_iter_gives.0 in (
-      rw (gives, c.in_ok-replies.ensures.items) (HasAnswered-none _ _ _ _),
+      rw (gives, c.in_ok-replies.ensures.items) (HasAnswered-none _ _ _),
       omega (
         arith,
         ap reply_total gives,
@@ -49,7 +49,7 @@ loop-command-preserved g c =
     let left = c.in-Some.ensures.steps.0 in
     let answered = c.in_ok-answer_command.ensures.answered in
     let room = c.answer_command.ensures.room (omega (arith, so_far.1, ap reply_total left)) in (
-      rw answered.2 (HasAnswered-more _ _ _ _ _ _ (rw left at so_far.0) answered.1),
+      rw answered.2 (HasAnswered-more _ _ _ _ _ (rw left at so_far.0) answered.1),
       omega (arith, so_far.1, ap reply_total left, room.1, room.2),
     )
 
@@ -64,5 +64,5 @@ returns-in_err-answer_command-clause-refused g c =
 pub returns-clause-ran : goal.returns-clause-ran
 returns-clause-ran g c =
     let left = c.loop-command.command-iterator in
-    HasAnswered-all _ _ (into_iter_items left) (sym left.rest.ok.0
+    HasAnswered-all _ (into_iter_items left) (sym left.rest.ok.0
     ∙ c.in-None.ensures.steps.0) c.loop-command.invariant.0

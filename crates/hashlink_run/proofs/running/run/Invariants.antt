@@ -3,11 +3,13 @@ use Rattle.std.specs.Vec.Iter.{into_iter_items}
 use Rattle.hashlink_core.specs.Keyed.{state_of}
 use Rattle.hashlink_run.specs.Reads.{ClosureSays}
 use Rattle.hashlink_run.specs.Run.{reply_total}
+use Rattle.hashlink_run.specs.Step.{Step}
 use Rattle.hashlink_run.proofs.Answering.{HasAnswered}
 use Rattle.hashlink_run.proofs.running.run.Given as goal
 
 abbrev pub invariant-loop-command : goal.invariant-loop-command
 invariant-loop-command g l =
-    HasAnswered g.K.PartialEq.eq (ClosureSays g.F.Fn l.keep) (state_of l.initial.map) (state_of l.map)
+    HasAnswered (Step g.K.PartialEq.eq (ClosureSays g.F.Fn l.keep) (ClosureSays g.F.Fn l.keep))
+    (state_of l.initial.map) (state_of l.map)
     l.fn.commands.items (into_iter_items l.command-iterator) l.replies.items
     × (vec_len l.replies + reply_total (into_iter_items l.command-iterator) ≤ vec_capacity l.replies)

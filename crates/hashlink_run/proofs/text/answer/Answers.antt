@@ -1,6 +1,7 @@
-use Rattle.std.proofs.Common.{◌≡◌, ◌++◌, codes, nat_eq, refl, sym, ap, ap₂, ◌∙◌, rules, string_bytes}
+use Rattle.std.proofs.Common.{◌≡◌, ◌++◌, ◌%◌, codes, nat_eq, refl, sym, ap, ap₂, ◌∙◌, rules, string_bytes}
 use Rattle.std.proofs.lemmas.Result.{on_ok_weaker}
 use Rattle.hashlink_core.specs.Keyed.{state_of}
+use Rattle.hashlink_run.specs.Keeps.{IsEven}
 use Rattle.hashlink_run.specs.Transcript.{Itself, ended, form_of, replies_shown}
 use Rattle.hashlink_run.proofs.Chains.{step-wider}
 use Rattle.hashlink_run.proofs.ShownLines.{shows-command}
@@ -22,7 +23,9 @@ returns-in_ok-answer_command-in-Some-Do c =
     let shown = ap₂ replies_shown c.form_of-form.ensures replies in
     let step = step-wider _ Itself
     (λ k v b s. let read : b ≡ (s.key.now, s.value.now) = search rules in
-    read ∙ ap (λ x. (x, s.value.now)) s.shows.0 ∙ ap (λ y. (k, y)) s.shows.1) nat_eq
+    read ∙ ap (λ x. (x, s.value.now)) s.shows.0 ∙ ap (λ y. (k, y)) s.shows.1) _ IsEven
+    (λ k v b s. let even : b ≡ nat_eq (s.value.now % 2) 0 = search rules in
+    even ∙ ap (λ y. nat_eq (y % 2) 0) s.shows.1) nat_eq
     (state_of c.args.map.now) answered.0 (state_of c.answer_command.new.map) command answered.1 in
     let shows = shows-command (state_of c.args.map.now) (state_of c.answer_command.new.map) command answered.0 step in
     rw (sym line)

@@ -1,7 +1,7 @@
 use Rattle.std.proofs.Common.{◌≡◌, ◌+◌, ◌-◌, rules, ap, arith, length, ◌∙◌}
 use Rattle.hashlink_model.specs.MapState.{with_value}
 use Rattle.hashlink_core.specs.Keyed.{state_of, entries_of}
-use Rattle.hashlink_map.specs.IterMut.{last_place}
+use Rattle.hashlink_map.specs.WritingWalk.{last_place}
 use Rattle.hashlink_map.proofs.Walking.{on-some, walk-ends}
 use Rattle.hashlink_map.proofs.callers.writing_walks.write_last.Goals as goal
 

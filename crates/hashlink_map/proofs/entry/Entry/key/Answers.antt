@@ -1,4 +1,4 @@
-use Rattle.std.proofs.Common.{◌≡◌, sym, ap, subst, ◌∙◌}
+use Rattle.std.proofs.Common.{sym, ap, ◌∙◌}
 use Rattle.hashlink_model.specs.Entries.{stored_key}
 use Rattle.hashlink_map.specs.Entry.{entry_state}
 use Rattle.hashlink_map.proofs.AtNode.{stored-there, stored-absent}

@@ -1,4 +1,4 @@
-use Rattle.std.proofs.Common.{◌≡◌, ◌-◌, length, ap, subst, ◌∙◌}
+use Rattle.std.proofs.Common.{◌-◌, length, ap, subst, ◌∙◌}
 use Rattle.hashlink_model.proofs.ByPlace.{length-set_value_at}
 use Rattle.hashlink_core.specs.Keyed.{entries_of}
 use Rattle.hashlink_map.specs.Standing.{StaysHeld}

@@ -1,4 +1,4 @@
-use Rattle.std.proofs.Common.{sym, ap, subst}
+use Rattle.std.proofs.Common.{sym, subst}
 use Rattle.hashlink_model.specs.MapState.{Inserts}
 use Rattle.hashlink_core.specs.Keyed.{state_of}
 use Rattle.hashlink_core.specs.Places.{place_number}

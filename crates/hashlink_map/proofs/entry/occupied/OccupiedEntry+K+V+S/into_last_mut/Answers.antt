@@ -1,5 +1,4 @@
-use Rattle.std.proofs.Common.{refl, ◌∙◌, sym, subst}
-use Rattle.std.specs.Prelude.{MatchOption}
+use Rattle.std.proofs.Common.{refl}
 use Rattle.hashlink_map.proofs.AtNode.{moves-and-writes, moved-value}
 use Rattle.hashlink_map.proofs.entry.occupied.OccupiedEntry+K+V+S.into_last_mut.Goals as goal
 

@@ -1,0 +1,17 @@
+-- What the first line says: what the others speak to.
+use Rattle.std.specs.Prelude.{ℕ, List, [], ◌∷◌, Option, codes, nat_le, if◌then◌else◌}
+use Rattle.hashlink_commands.specs.Lines.{words_of}
+use Rattle.hashlink_commands.specs.Tables.{line_in}
+use Rattle.hashlink_commands.specs.declared.modes.Mode.{Mode}
+use Rattle.hashlink_commands.specs.declared.modes.Mode.TheVariants.{Map, Cache, Pair}
+
+-- the words of modes before these numbers, which are capacities: of two caches the first is the smaller one
+abbrev pub modes_before : List ℕ → List (List ℕ × Mode)
+modes_before [] = (codes "map", Map) ∷ []
+modes_before (c ∷ []) = (codes "cache", Cache c) ∷ []
+modes_before (c ∷ d ∷ []) = if nat_le c d then (codes "pair", Pair c d) ∷ [] else []
+modes_before (c ∷ d ∷ n ∷ ns) = []
+
+-- the mode that the line names, or nothing where it is bad
+abbrev pub mode_said : List ℕ → Option Mode
+mode_said line = line_in modes_before (words_of line)

@@ -1,0 +1,4 @@
+pub mod Dropping
+pub mod Ends
+pub mod Entering
+pub mod Extending

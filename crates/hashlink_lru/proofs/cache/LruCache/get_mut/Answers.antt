@@ -1,0 +1,14 @@
+use Rattle.std.proofs.Common.{refl, ap}
+use Rattle.hashlink_lru.proofs.Ends.{on_some}
+use Rattle.hashlink_lru.proofs.cache.LruCache.get_mut.Goals as goal
+
+pub returns : goal.returns
+returns g c =
+    let n = c.args.self.now.capacity in (
+      (
+        refl,
+        λ w. on_some c.to_back.result (λ s. record { map = s; cap = refl }) (c.to_back.follows.holds w),
+        ap (λ m. record { map = m; cap = n }) c.to_back.follows.holds-at-none,
+      ),
+      record { lends = tt; value = c.to_back.ensures.value; distinct = c.to_back.ensures.distinct },
+    )

@@ -1,0 +1,14 @@
+use Rattle.std.proofs.Common.{refl, ap}
+use Rattle.hashlink_lru.proofs.Ends.{on_some}
+use Rattle.hashlink_lru.proofs.cache.LruCache.peek_mut.Goals as goal
+
+pub returns : goal.returns
+returns g c =
+    let n = c.args.self.now.capacity in (
+      (
+        refl,
+        λ w. on_some c.get_mut.result (ap (λ m. record { map = m; cap = n })) (c.get_mut.follows.holds w),
+        ap (λ m. record { map = m; cap = n }) c.get_mut.follows.holds-at-none,
+      ),
+      record { lends = tt; value = c.get_mut.ensures.value },
+    )

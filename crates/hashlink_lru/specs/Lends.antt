@@ -1,0 +1,52 @@
+-- What a cache ends as, once what was lent out of it has ended.
+use Rattle.std.specs.Prelude.{◌≡◌, Option, OnSome, ⊤}
+use Rattle.std.specs.Borrow.{Fml, GName, RattleType, MutBor, Lends, LendsSo, follows, follows_so}
+use mathlib.Core.Option.{none}
+use Rattle.std.specs.declared.hash.Hasher as hasher
+use Rattle.std.specs.declared.hash.BuildHasher as builder
+use Rattle.hashlink_model.specs.Cache.{CacheGets, CacheGetsAndWrites}
+use Rattle.hashlink_model.specs.Steps.{with_value_of}
+use Rattle.hashlink_core.specs.Keyed.{Keyed}
+use Rattle.hashlink_core.specs.KeyedLends.{HashMembers}
+use Rattle.hashlink_map.specs.Lends.{map_row}
+use Rattle.hashlink_lru.specs.contracts.cache.LruCache.{the_row}
+use Rattle.hashlink_lru.specs.declared.cache.LruCache.{LruCache}
+use Rattle.hashlink_lru.specs.Cached.{state_in, with_map}
+
+module _ (K V S T : RattleType) (g : HashMembers K.Denot) (b : builder.Ghosts S.Denot T.Denot)
+    (w : hasher.Ghosts T.Denot) where
+  abbrev pub cache_row : RattleType
+  cache_row = the_row K V S T (record { eq = g.eq }) (record { hash_input = g.hash_input }) b w
+
+  module _ (c : MutBor (LruCache K.Denot V.Denot S.Denot T.Denot)) where
+    -- the cache ends with what has its map under this name
+    abbrev pub HandsOnMap : GName → Fml
+    HandsOnMap name = follows cache_row (map_row K V S T g b w) c.ghost_name name (with_map c.now)
+
+    -- the map is lent: the cache ends with what was made of it
+    abbrev pub LendsMap : MutBor (Keyed K.Denot V.Denot S.Denot) → Fml
+    LendsMap m = Lends cache_row (map_row K V S T g b w) c m (with_map c.now)
+
+    module _ (k : K.Denot) where
+      -- the value of the key is lent where it stands: the cache ends with what was written there, and of an absent
+      -- key as it was
+      abbrev pub LendsValueIn : Option (MutBor V.Denot) → Fml
+      LendsValueIn r =
+          LendsSo cache_row V c r
+          (λ new v. OnSome r
+          (state_in new ≡ record (state_in c.now) { map = with_value_of g.eq (state_in c.now).map k v }))
+          (λ new. state_in new ≡ state_in c.now)
+
+      -- the key moved last, and its value is lent: the cache ends with what was written there, and of an absent key as
+      -- it was
+      abbrev pub LendsUsed : Option (MutBor V.Denot) → Fml
+      LendsUsed r =
+          LendsSo cache_row V c r
+          (λ new v. OnSome r (CacheGetsAndWrites g.eq (state_in c.now) (state_in new) k v))
+          (λ new. state_in new ≡ state_in c.now)
+
+      -- the key moved last, where it is there, with the value that stands
+      abbrev pub EndsUsed : Option V.Denot → Fml
+      EndsUsed r =
+          follows_so cache_row cache_row c.ghost_name none (λ _ _. ⊤)
+          (λ new. CacheGets g.eq (state_in c.now) (state_in new) k r)

@@ -1,0 +1,3 @@
+-- What the contracts of the cache cite, beside `hashlink_model`.
+pub mod Cached
+pub mod Lends

@@ -1,0 +1,87 @@
+//! The map's entries, which act on the cache where they stand. An insert through one may pass the capacity by one.
+//!
+//! What comes of `entry` and `raw_entry_mut` borrows the map inside the cache: the cache ends with what its map ends
+//! as, at the same capacity, which for `entry` is proved by a walk written by hand. Of a cache that is borrowed so a
+//! caller's generated proof knows nothing once the entry is gone, except where a call takes it by value at once.
+//! `make_room` and then an entry of `map_mut` do the same, and leave all known: `callers.rt` has a proved caller for
+//! each form.
+ghost use Rattle.std.specs.Prelude.{◌≡◌};
+ghost use Rattle.std.specs.Borrow.{sem};
+ghost use Rattle.hashlink_model.specs.Cache.{EntersCache, EvictsFront};
+ghost use Rattle.hashlink_model.specs.Entries.{IsEntries};
+ghost use Rattle.hashlink_core.specs.Keyed.{state_of, entries_of};
+
+use super::LruCache;
+use hashlink_map::{Entry, LinkedHashMap, RawEntryBuilder, RawEntryBuilderMut};
+use std::hash::{BuildHasher, Hash};
+
+impl<K: Eq + Hash, V, S: BuildHasher> LruCache<K, V, S> {
+    ghost use Rattle.hashlink_map.specs.Entry.{entry_map, entry_state};
+    ghost use Rattle.hashlink_map.specs.RawEntry.{read_map, found_map};
+    ghost use Rattle.hashlink_lru.specs.Cached.{entries_in, map_in, state_in};
+    ghost use Rattle.hashlink_lru.specs.Lends.{HandsOnMap, LendsMap};
+
+    /// The map of the cache, for any of its calls. None of them drops what is above the capacity.
+    pub fn map_mut(&mut self) -> &mut LinkedHashMap<K, V, S>
+        ensures* lends { sem 𝓛 (LendsMap K.row V.row S.row S.Hasher.row K.Hash S.BuildHasher S.Hasher.Hasher
+            self.entry result) }
+        ensures unchanged { result.now ≡ map_in self.old }
+    {
+        &mut self.map
+    }
+
+    /// Drops the front where there are more entries than the capacity, even where it is the key's own entry, and
+    /// answers the place of the key, with the key in hand. It looks for the key as `peek` does.
+    ///
+    /// So an insert through the entry can pass the capacity by one. Where an entry was dropped, its node is spare, and
+    /// that insert is not refused.
+    pub fn entry(&mut self, key: K) -> Entry<'_, K, V, S>
+    where
+        K: Drop,
+        V: Drop,
+        ensures* hands_on { sem 𝓛 (HandsOnMap K.row V.row S.row S.Hasher.row K.Hash S.BuildHasher S.Hasher.Hasher
+            self.entry (entry_map result).ghost_name) }
+        ensures enters { EntersCache K.eq (state_in self.old) key (entry_state result) }
+        ensures distinct { IsEntries K.eq (entry_state result).map.entries }
+    {
+        self.roomy_map().entry(key)
+    }
+
+    /// What finds an entry to read, by a key, by a key and its hash, or by a hash and a test.
+    pub fn raw_entry(&self) -> RawEntryBuilder<'_, K, V, S>
+        ensures { read_map result ≡ map_in self.now }
+    {
+        self.map.raw_entry()
+    }
+
+    /// Drops the front where there are more entries than the capacity, and answers what finds an entry to change, by
+    /// a key, by a key and its hash, or by a hash and a test.
+    ///
+    /// So an insert through the entry can pass the capacity by one. Where an entry was dropped, its node is spare, and
+    /// that insert is not refused.
+    pub fn raw_entry_mut(&mut self) -> RawEntryBuilderMut<'_, K, V, S>
+    where
+        K: Drop,
+        V: Drop,
+        ensures* hands_on { sem 𝓛 (HandsOnMap K.row V.row S.row S.Hasher.row K.Hash S.BuildHasher S.Hasher.Hasher
+            self.entry (found_map result).ghost_name) }
+        ensures evicts { EvictsFront (state_in self.old).map (state_of (found_map result).now) (state_in self.old).cap }
+        ensures distinct { IsEntries K.eq (entries_of (found_map result).now) }
+    {
+        self.roomy_map().raw_entry_mut()
+    }
+
+    /// Drops the front where there are more entries than the capacity, and answers the map.
+    fn roomy_map(&mut self) -> &mut LinkedHashMap<K, V, S>
+    where
+        K: Drop,
+        V: Drop,
+        ensures* hands_on { sem 𝓛 (HandsOnMap K.row V.row S.row S.Hasher.row K.Hash S.BuildHasher S.Hasher.Hasher
+            self.entry result.ghost_name) }
+        ensures evicts { EvictsFront (state_in self.old).map (state_of result.now) (state_in self.old).cap }
+        ensures distinct { IsEntries K.eq (entries_of result.now) }
+    {
+        self.make_room();
+        &mut self.map
+    }
+}

@@ -1,0 +1,86 @@
+//! Many items in a row, and clones.
+ghost use Rattle.std.specs.Prelude.{◌≡◌, Bool, true, List, [], None, OnOk, IfOk, IfErr};
+ghost use Rattle.std.specs.Iterator.{IsFinite, IsFiniteIterable, Yields, YieldsThen};
+ghost use Rattle.hashlink_model.specs.Compare.{entries_eq};
+ghost use Rattle.hashlink_model.specs.Many.{AcceptsAll, StopsAt, MadeFrom, InsertsPair};
+ghost use Rattle.hashlink_map.specs.Cloning.{ArePairClones};
+ghost use Rattle.hashlink_map.specs.Reading.{ReadsAll, ReadsSome};
+
+use super::LruCache;
+use hashlink_map::ExtendError;
+use std::alloc::AllocError;
+use std::hash::{BuildHasher, Hash};
+
+impl<K: Eq + Hash + Drop, V: Drop, S: BuildHasher> LruCache<K, V, S> {
+    ghost use Rattle.hashlink_lru.specs.Cached.{state_in, InsertsPairIn};
+
+    /// Inserts each item in turn, as `insert` does. The iterator has to end.
+    ///
+    /// Where the memory for an item is refused, those before it are in, it is handed back, and nothing after it is
+    /// read.
+    pub fn extend<I: IntoIterator<Item = (K, V)>>(
+        &mut self,
+        iter: I,
+    ) -> Result<(), ExtendError<K, V>>
+        requires { IsFiniteIterable I.into_iter_gives I.IntoIter.can_next I.IntoIter.remaining iter }
+        ensures all { OnOk result (ReadsAll I.into_iter_gives I.IntoIter.next_gives iter
+            (λ items. AcceptsAll (InsertsPairIn K.eq) (state_in self.old) items (state_in self.new))) }
+        ensures stopped { IfErr result (λ e. ReadsSome I.into_iter_gives I.IntoIter.next_gives iter
+            (λ items. StopsAt (InsertsPairIn K.eq) (state_in self.old) items (state_in self.new) e.taken e.pair [])) }
+    {
+        let mut rest = iter.into_iter();
+        self.extend_from(&mut rest)
+    }
+
+    /// The same out of an iterator that its caller keeps: it is left with the items after the refused one, or with
+    /// none.
+    pub fn extend_from<I: Iterator<Item = (K, V)>>(
+        &mut self,
+        iter: &mut I,
+    ) -> Result<(), ExtendError<K, V>>
+        requires may { I.can_next iter.old }
+        requires ends { IsFinite (I.remaining iter.old) }
+        ensures all { OnOk result ((items : List (K × V)) × YieldsThen I.next_gives iter.old items None iter.new
+            × AcceptsAll (InsertsPairIn K.eq) (state_in self.old) items (state_in self.new)) }
+        ensures stopped { IfErr result (λ e. (items : List (K × V)) × Yields I.next_gives iter.old items iter.new
+            × StopsAt (InsertsPairIn K.eq) (state_in self.old) items (state_in self.new) e.taken e.pair []) }
+    {
+        let mut taken = 0u64;
+        while let Some((key, value)) = iter.next() {
+            if let Err(pair) = self.insert(key, value) {
+                return Err(ExtendError { taken, pair });
+            }
+            taken = taken.saturating_add(1);
+        }
+        Ok(())
+    }
+}
+
+impl<K: Eq + Hash + Clone, V: Clone, S: BuildHasher + Clone> LruCache<K, V, S> {
+    ghost use Rattle.hashlink_lru.specs.Cached.{entries_in, state_in};
+
+    /// A cache of the same capacity with a clone of the hasher, in which the map has a clone of each pair, in the same
+    /// order. It is in the same allocator's memory, and has no spare node.
+    ///
+    /// It answers `AllocError` where the memory for a clone or for a node is refused, and then nothing is left of the
+    /// new cache.
+    pub fn clone(&self) -> Result<Self, AllocError>
+        ensures capacity { IfOk result (λ cache. (state_in cache).cap ≡ (state_in self.now).cap) }
+        ensures made { IfOk result (λ cache. (s : S) × S.is_clone (state_in self.now).map.hasher s
+            × (clones : List (K × V)) × ArePairClones K.is_clone V.is_clone (entries_in self.now) clones
+            × MadeFrom (InsertsPair K.eq) clones s (state_in cache).map) }
+
+        // Where clones are equal to their sources, the entries are equal to the cache's.
+        ensures equal { (eqv : V → V → Bool) → ((x y : K) → K.is_clone x y → K.eq x y ≡ true)
+            → ((x y : V) → V.is_clone x y → eqv x y ≡ true)
+            → IfOk result (λ cache. entries_eq K.eq eqv (entries_in self.now) (entries_in cache) ≡ true) }
+        ensures same { ((x y : K) → K.is_clone x y → y ≡ x) → ((x y : V) → V.is_clone x y → y ≡ x)
+            → IfOk result (λ cache. entries_in cache ≡ entries_in self.now) }
+    {
+        let map = self.map.clone()?;
+        Ok(LruCache {
+            map,
+            capacity: self.capacity,
+        })
+    }
+}

@@ -1,0 +1,63 @@
+//! What a cache shows. A `get` is a use and moves its entry to the end, a `peek` leaves the order. Each hashes the
+//! key once, takes no memory, and looks at the entries of one bucket.
+ghost use Rattle.std.specs.Prelude.{◌≡◌, is_some, option_copied};
+ghost use Rattle.std.specs.Borrow.{sem};
+ghost use Rattle.std.specs.Option.{option_copied_mut};
+ghost use Rattle.std.specs.Map.{lookup};
+ghost use Rattle.hashlink_model.specs.Entries.{IsEntries};
+
+use super::LruCache;
+use std::hash::{BuildHasher, Hash};
+
+impl<K: Eq + Hash, V, S: BuildHasher> LruCache<K, V, S> {
+    ghost use Rattle.hashlink_lru.specs.Cached.{entries_in, state_in};
+    ghost use Rattle.hashlink_lru.specs.Lends.{LendsValueIn, LendsUsed, EndsUsed};
+
+    /// Whether the key is there. The order stays as it is.
+    pub fn contains_key(&self, key: &K) -> bool
+        ensures { result ≡ is_some (lookup (K.eq key.now) (entries_in self.now)) }
+    {
+        self.map.contains_key(key)
+    }
+
+    /// The value of the key. The order stays as it is.
+    pub fn peek(&self, key: &K) -> Option<&V>
+        ensures { option_copied result ≡ lookup (K.eq key.now) (entries_in self.now) }
+    {
+        self.map.get(key)
+    }
+
+    /// The value of the key, for writing. The order stays as it is.
+    pub fn peek_mut(&mut self, key: &K) -> Option<&mut V>
+        ensures* lends { sem 𝓛 (LendsValueIn K.row V.row S.row S.Hasher.row K.Hash S.BuildHasher S.Hasher.Hasher
+            self.entry key.now result) }
+        ensures value { option_copied_mut result ≡ lookup (K.eq key.now) (entries_in self.old) }
+    {
+        self.map.get_mut(key)
+    }
+
+    /// The value of the key, whose entry moves to the end. Of an absent key it answers none, and nothing changes. It
+    /// stores at most six links.
+    pub fn get(&mut self, key: &K) -> Option<&V>
+        ensures* used { sem 𝓛 (EndsUsed K.row V.row S.row S.Hasher.row K.Hash S.BuildHasher S.Hasher.Hasher
+            self.entry key.now (option_copied result)) }
+        ensures value { option_copied result ≡ lookup (K.eq key.now) (entries_in self.old) }
+        ensures distinct { IsEntries K.eq (entries_in self.old) }
+    {
+        match self.map.to_back(key) {
+            Some(value) => Some(&*value),
+            None => None,
+        }
+    }
+
+    /// The value of the key, for writing. Its entry moves to the end. Of an absent key it answers none, and nothing
+    /// changes. It stores at most six links.
+    pub fn get_mut(&mut self, key: &K) -> Option<&mut V>
+        ensures* lends { sem 𝓛 (LendsUsed K.row V.row S.row S.Hasher.row K.Hash S.BuildHasher S.Hasher.Hasher
+            self.entry key.now result) }
+        ensures value { option_copied_mut result ≡ lookup (K.eq key.now) (entries_in self.old) }
+        ensures distinct { IsEntries K.eq (entries_in self.old) }
+    {
+        self.map.to_back(key)
+    }
+}

@@ -1,0 +1,87 @@
+//! How entries leave. The others keep their order, and each node that is freed serves the next new pair. None of these
+//! takes memory.
+ghost use Rattle.std.specs.Prelude.{◌≡◌};
+ghost use Rattle.std.specs.Map.{lookup, lookup_entry};
+ghost use Rattle.std.specs.Map.Calls.{CalledAtPair, TakesPair, CallableOnEachPair};
+ghost use Rattle.hashlink_model.specs.Cache.{OnMap, SetsCapacity};
+ghost use Rattle.hashlink_model.specs.Entries.{IsEntries};
+ghost use Rattle.hashlink_model.specs.Retain.{RetainsInOrder};
+ghost use Rattle.hashlink_model.specs.Steps.{RemovesKey, PopsFront, Clears};
+
+use super::LruCache;
+use std::hash::{BuildHasher, Hash};
+
+impl<K: Eq + Hash, V, S: BuildHasher> LruCache<K, V, S> {
+    ghost use Rattle.hashlink_lru.specs.Cached.{entries_in, state_in};
+
+    /// Takes the key's entry out and answers its value. It looks for the key as `peek` does, and stores at most three
+    /// links.
+    pub fn remove(&mut self, key: &K) -> Option<V>
+    where
+        K: Drop,
+        ensures value { result ≡ lookup (K.eq key.now) (entries_in self.old) }
+        ensures removes { OnMap (λ a b. RemovesKey K.eq a b key.now (lookup_entry (K.eq key.now) a.entries))
+            (state_in self.old) (state_in self.new) }
+        ensures distinct { IsEntries K.eq (entries_in self.new) }
+    {
+        self.map.remove(key)
+    }
+
+    /// Takes the key's entry out and answers the stored pair. It looks for the key as `peek` does, and stores at most
+    /// three links.
+    pub fn remove_entry(&mut self, key: &K) -> Option<(K, V)>
+        ensures removes { OnMap (λ a b. RemovesKey K.eq a b key.now result) (state_in self.old) (state_in self.new) }
+        ensures distinct { IsEntries K.eq (entries_in self.new) }
+    {
+        self.map.remove_entry(key)
+    }
+
+    /// Takes the front out, which was used longest ago, and answers it. It takes constant time, hashes nothing, and
+    /// stores at most three links.
+    pub fn remove_lru(&mut self) -> Option<(K, V)>
+        ensures pops { OnMap (λ a b. PopsFront a b result) (state_in self.old) (state_in self.new) }
+        ensures distinct { IsEntries K.eq (entries_in self.new) }
+    {
+        self.map.pop_front()
+    }
+
+    /// Drops every entry and gives its node back to the allocator. The spare nodes stay, and the capacity. It takes a
+    /// step for each entry and each bucket.
+    pub fn clear(&mut self)
+    where
+        K: Drop,
+        V: Drop,
+        ensures { OnMap Clears (state_in self.old) (state_in self.new) }
+    {
+        self.map.clear();
+    }
+
+    /// Sets the capacity, and drops entries from the front until there are no more than it. It takes a step for each
+    /// that it drops, hashes nothing, and stores at most three links for each.
+    pub fn set_capacity(&mut self, capacity: usize)
+    where
+        K: Drop,
+        V: Drop,
+        ensures sets { SetsCapacity (state_in self.old) (state_in self.new) capacity }
+        ensures distinct { IsEntries K.eq (entries_in self.new) }
+    {
+        for _ in capacity..self.map.len() {
+            self.map.pop_front();
+        }
+        self.capacity = capacity;
+    }
+
+    /// Calls `keep` once on each entry, and takes out those at which it answers false. It hashes nothing, and stores
+    /// at most three links for each entry that leaves. `keep` has to take each entry as the calls before have left it.
+    pub fn retain<F: FnMut(&K, &mut V) -> bool>(&mut self, keep: F)
+    where
+        K: Drop,
+        V: Drop,
+        requires { CallableOnEachPair (CalledAtPair F.FnMut) (TakesPair F.FnMut) keep (entries_in self.old) }
+        ensures retained { (end : F) × OnMap (λ a b. RetainsInOrder (CalledAtPair F.FnMut) keep a b end)
+            (state_in self.old) (state_in self.new) }
+        ensures distinct { IsEntries K.eq (entries_in self.new) }
+    {
+        self.map.retain(keep);
+    }
+}

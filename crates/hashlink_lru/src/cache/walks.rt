@@ -1,0 +1,81 @@
+//! Walks over a cache, from both ends. They do not count as a use. None of them takes memory, and each step takes
+//! constant time.
+ghost use Rattle.std.specs.Prelude.{◌≡◌, ◌^◌, ◌<◌, length};
+ghost use Rattle.std.specs.Borrow.{sem};
+ghost use Rattle.std.specs.Map.Iter.{ShowsInOrder, ShowsInReverse, deref_pair};
+
+use super::LruCache;
+use hashlink_map::{Drain, IntoIter, Iter, IterMut};
+use std::hash::{BuildHasher, Hash};
+
+impl<K: Eq + Hash, V, S: BuildHasher> LruCache<K, V, S> {
+    ghost use Rattle.hashlink_core.specs.Keyed.{state_of};
+    ghost use Rattle.hashlink_map.specs.Drain.{drained_map};
+    ghost use Rattle.hashlink_map.specs.IterMut.{walk_map, walk_state};
+    ghost use Rattle.hashlink_map.specs.WritingWalk.{writing_walk};
+    ghost use Rattle.hashlink_lru.specs.Cached.{entries_in, map_in};
+    ghost use Rattle.hashlink_lru.specs.Lends.{HandsOnMap};
+
+    /// A walk over the entries, front first: what was used longest ago comes first.
+    pub fn iter(&self) -> Iter<'_, K, V>
+        ensures rest { result ≡ entries_in self.now }
+        ensures runs { ShowsInOrder (deref_pair {K = K} {X = V}) }
+        ensures runs_back { ShowsInReverse (deref_pair {K = K} {X = V}) }
+        ensures fits { length (entries_in self.now) < 2 ^ 63 }
+    {
+        self.map.iter()
+    }
+
+    /// A walk over the entries, front first, that lends each value for writing.
+    pub fn iter_mut(&mut self) -> IterMut<'_, K, V, S>
+        ensures* hands_on { sem 𝓛 (HandsOnMap K.row V.row S.row S.Hasher.row K.Hash S.BuildHasher S.Hasher.Hasher
+            self.entry (walk_map result).ghost_name) }
+        ensures unchanged { (walk_map result).now ≡ map_in self.old }
+        ensures rest { walk_state result ≡ writing_walk (state_of (map_in self.old)) 0
+            (length (entries_in self.old)) }
+    {
+        self.map.iter_mut()
+    }
+
+    /// A walk that takes the entries out, front first. At its end, early or not, the cache is empty.
+    pub fn drain(&mut self) -> Drain<'_, K, V, S>
+    where
+        K: Drop,
+        V: Drop,
+        ensures* hands_on { sem 𝓛 (HandsOnMap K.row V.row S.row S.Hasher.row K.Hash S.BuildHasher S.Hasher.Hasher
+            self.entry (drained_map result).ghost_name) }
+        ensures unchanged { (drained_map result).now ≡ map_in self.old }
+    {
+        self.map.drain()
+    }
+}
+
+impl<K: Eq + Hash + Drop, V: Drop, S: BuildHasher + Drop> IntoIterator for LruCache<K, V, S> {
+    ghost use Rattle.hashlink_lru.specs.Cached.{entries_in};
+
+    type Item = (K, V);
+
+    type IntoIter = IntoIter<K, V, S>;
+
+    ghost into_iter_gives = { λ c r. r ≡ entries_in c };
+
+    fn into_iter(self) -> IntoIter<K, V, S> {
+        let LruCache { map, capacity: _ } = self;
+        map.into_iter()
+    }
+}
+
+impl<'a, K: Eq + Hash, V, S: BuildHasher> IntoIterator for &'a LruCache<K, V, S> {
+    ghost use Rattle.hashlink_lru.specs.Cached.{entries_in};
+
+    type Item = (&'a K, &'a V);
+
+    type IntoIter = Iter<'a, K, V>;
+
+    ghost into_iter_gives = { λ c r. (r ≡ entries_in c.now) × (length (entries_in c.now) < 2 ^ 63)
+        × ShowsInOrder (deref_pair {K = K} {X = V}) };
+
+    fn into_iter(self) -> Iter<'a, K, V> {
+        self.iter()
+    }
+}

@@ -1,0 +1,22 @@
+//! What many items leave in a cache. The function has an empty body: its contract is the statement.
+ghost use Rattle.std.specs.Prelude.{◌≡◌, ℕ, Bool, List};
+ghost use Rattle.hashlink_model.specs.Cache.{CacheState, IsWithin, cache_extended};
+ghost use Rattle.hashlink_model.specs.Many.{AcceptsAll, StopsAt};
+ghost use Rattle.hashlink_lru.specs.Cached.{InsertsPairIn};
+
+/// Items that go in one after another leave what an insert of each in turn leaves, at the same capacity, and so do
+/// those before a refused one. A cache of at most n entries beyond its capacity stays so.
+pub fn what_many_items_leave<K, V, S>()
+    ensures entries { (eq : K → K → Bool) (old new : CacheState K V S) (items : List (K × V))
+        → AcceptsAll (InsertsPairIn eq) old items new
+        → new.map.entries ≡ cache_extended eq old.map.entries old.cap items }
+    ensures capacity { (eq : K → K → Bool) (old new : CacheState K V S) (items : List (K × V))
+        → AcceptsAll (InsertsPairIn eq) old items new
+        → new.cap ≡ old.cap }
+    ensures stopped { (eq : K → K → Bool) (old new : CacheState K V S) (items : List (K × V)) (taken : ℕ)
+        (back : K × V) (left : List (K × V)) (s : StopsAt (InsertsPairIn eq) old items new taken back left)
+        → (new.map.entries ≡ cache_extended eq old.map.entries old.cap s.before) × (back ≡ s.item) }
+    ensures within { (eq : K → K → Bool) (old new : CacheState K V S) (items : List (K × V)) (n : ℕ)
+        → AcceptsAll (InsertsPairIn eq) old items new → IsWithin old n
+        → IsWithin new n }
+{}

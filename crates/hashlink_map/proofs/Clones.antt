@@ -1,0 +1,60 @@
+-- What is made of clones of a map's pairs.
+use Rattle.std.proofs.Common.{◌≡◌, Bool, true, List, [], ◌∷◌, ◌++◌, refl, ap, ap₂, ◌∙◌}
+use Rattle.std.specs.Cmp.{IsEquivalence}
+use Rattle.hashlink_model.specs.Compare.{entries_eq}
+use Rattle.hashlink_model.specs.Entries.{IsEntries, extended}
+use Rattle.hashlink_model.specs.Many.{MadeFrom, InsertsPair}
+use Rattle.hashlink_model.specs.MapState.{MapState, empty_map}
+use Rattle.hashlink_model.proofs.Clones.{clone_is_equal}
+use Rattle.hashlink_model.proofs.Extends.{extended-own}
+use Rattle.hashlink_model.proofs.InTurn.{accepts_entries}
+use Rattle.hashlink_map.specs.Cloning.{ArePairClones}
+
+module _ {K V : Type 0} (clones-key : K → K → Type 0) (clones-value : V → V → Type 0) where
+  -- one clone more
+  pub cloned_another : (xs ys : List (K × V)) (x y : K × V) → ArePairClones clones-key clones-value xs ys
+      → clones-key x.0 y.0
+      → clones-value x.1 y.1
+      → ArePairClones clones-key clones-value (xs ++ x ∷ []) (ys ++ y ∷ [])
+  cloned_another [] [] x y z k v = ((k, v), tt)
+  cloned_another [] (b ∷ ys) x y z k v = absurd z
+  cloned_another (a ∷ xs) [] x y z k v = absurd z
+  cloned_another (a ∷ xs) (b ∷ ys) x y z k v = (z.0, cloned_another xs ys x y z.1 k v)
+
+  -- where clones have a property of their source, so have those of pairs
+  clones_weaken : (P : K → K → Type 0) (Q : V → V → Type 0) → ((x y : K) → clones-key x y → P x y)
+      → ((x y : V) → clones-value x y → Q x y) → (xs ys : List (K × V))
+      → ArePairClones clones-key clones-value xs ys
+      → ArePairClones P Q xs ys
+  clones_weaken P Q f g [] [] z = tt
+  clones_weaken P Q f g [] (b ∷ ys) z = absurd z
+  clones_weaken P Q f g (a ∷ xs) [] z = absurd z
+  clones_weaken P Q f g (a ∷ xs) (b ∷ ys) z =
+      ((f a.0 b.0 z.0.0, g a.1 b.1 z.0.1), clones_weaken P Q f g xs ys z.1)
+
+  clones_same : ((x y : K) → clones-key x y → y ≡ x) → ((x y : V) → clones-value x y → y ≡ x)
+      → (xs ys : List (K × V))
+      → ArePairClones clones-key clones-value xs ys
+      → ys ≡ xs
+  clones_same f g [] [] z = refl
+  clones_same f g [] (b ∷ ys) z = absurd z
+  clones_same f g (a ∷ xs) [] z = absurd z
+  clones_same f g (a ∷ xs) (b ∷ ys) z =
+      ap₂ (λ p ps. p ∷ ps) (ap₂ (λ k v. (k, v)) (f a.0 b.0 z.0.0) (g a.1 b.1 z.0.1)) (clones_same f g xs ys z.1)
+
+  module _ {S : Type 0} (eq : K → K → Bool) (laws : IsEquivalence eq) (es clones : List (K × V)) (s : S)
+      (m : MapState K V S) (distinct : IsEntries eq es) (z : ArePairClones clones-key clones-value es clones)
+      (made : MadeFrom (InsertsPair eq) clones s m) where
+    pub clone_equal : (eqv : V → V → Bool) → ((x y : K) → clones-key x y → eq x y ≡ true)
+        → ((x y : V) → clones-value x y → eqv x y ≡ true)
+        → entries_eq eq eqv es m.entries ≡ true
+    clone_equal eqv f g =
+        ap (entries_eq eq eqv es) (accepts_entries eq (empty_map s) m clones made)
+        ∙ clone_is_equal eq laws eqv es clones distinct
+        (clones_weaken (λ x y. eq x y ≡ true) (λ x y. eqv x y ≡ true) f g es clones z)
+
+    pub clone_same : ((x y : K) → clones-key x y → y ≡ x) → ((x y : V) → clones-value x y → y ≡ x) → m.entries ≡ es
+    clone_same f g =
+        accepts_entries eq (empty_map s) m clones made
+        ∙ ap (extended eq []) (clones_same f g es clones z)
+        ∙ extended-own eq laws es distinct

@@ -1,0 +1,46 @@
+-- A key that is there, by its place.
+use Rattle.std.proofs.Common.{◌≡◌, ℕ, Bool, is_some, Option, None, Some, length, unwrap_or, refl, ap, sym, ◌∙◌}
+use Rattle.std.proofs.Common.{true≢false}
+use Rattle.std.specs.Prelude.{IsSome, MatchOption}
+use Rattle.std.specs.Map.{values_of}
+use Rattle.hashlink_model.specs.Entries.{place_of}
+use Rattle.hashlink_model.specs.Steps.{with_value_of}
+use Rattle.hashlink_core.specs.Keyed.{Keyed, HoldsKey, entries_of, state_of, pair_with_value}
+use Rattle.hashlink_core.specs.KeyedLends.{with_value_at}
+use Rattle.hashlink_core.specs.Places.{Node, renewed_at}
+use Rattle.hashlink_map.specs.Indexed.{HasKey, with_value_at_key}
+use Rattle.hashlink_core.proofs.Mapped.{values-renewed_value}
+use Rattle.hashlink_model.proofs.ByPlace.{set_value_at-place}
+use Rattle.hashlink_map.proofs.Steps.{lookup-unplaced}
+
+module _ {K V S : Type 0} (eq : K → K → Bool) (m : Keyed K V S) (k : K) where
+  not_there : place_of (eq k) (entries_of m) ≡ None → HasKey eq m k → ⊥
+  not_there p h = true≢false (sym h ∙ ap is_some (lookup-unplaced (eq k) (entries_of m) p))
+
+  -- the look-up finds it
+  pub found_there : (r : Option Node)
+      → MatchOption r (place_of (eq k) (entries_of m) ≡ None) (HoldsKey eq m.nodes k)
+      → HasKey eq m k
+      → IsSome r
+  found_there None f h = absurd (not_there f h)
+  found_there (Some n) f h = refl
+
+  -- what is written at the node is written at the key
+  pub written_there : (n : Node) → HoldsKey eq m.nodes k n → (w : V) → with_value_at m n w ≡ with_value_at_key eq m k w
+  written_there n f w =
+      ap (λ o. record m { nodes = renewed_at (pair_with_value w) m.nodes (unwrap_or o (length (entries_of m))) })
+      (sym f.place)
+
+  -- and in the state that contracts see
+  pub state_written_there : (w : V) → HasKey eq m k
+      → state_of (with_value_at_key eq m k w) ≡ with_value_of eq (state_of m) k w
+  state_written_there w h = by (place_of (eq k) (entries_of m)) refl
+    where
+      by : (o : Option ℕ) → place_of (eq k) (entries_of m) ≡ o
+          → state_of (with_value_at_key eq m k w) ≡ with_value_of eq (state_of m) k w
+      by None p = absurd (not_there p h)
+      by (Some j) p =
+          ap (λ es. record (state_of m) { entries = es })
+          (ap (λ o. values_of (renewed_at (pair_with_value w) m.nodes (unwrap_or o (length (entries_of m))))) p
+          ∙ values-renewed_value m.nodes j w
+          ∙ set_value_at-place (eq k) (entries_of m) j w p)

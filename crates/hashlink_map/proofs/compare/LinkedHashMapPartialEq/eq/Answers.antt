@@ -1,0 +1,10 @@
+use Rattle.std.proofs.Common.{sym, ◌&&◌, ◌∙◌}
+use Rattle.std.specs.Cmp.Lexicographic.{unequal}
+use Rattle.hashlink_core.specs.Keyed.{entries_of}
+use Rattle.hashlink_map.proofs.compare.LinkedHashMapPartialEq.eq.Goals as goal
+
+pub returns-then-len : goal.returns-then-len
+returns-then-len g c =
+    sym (unequal (λ p q. g.K.PartialEq.eq p.0 q.0 && g.V.PartialEq.eq p.1 q.1) (entries_of c.args.self.now)
+    (entries_of c.args.other.now)
+    (λ e. c.if-len.true (c.len.ensures.len ∙ e ∙ sym c.len-2.ensures.len)))

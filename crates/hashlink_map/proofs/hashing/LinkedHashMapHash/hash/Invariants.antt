@@ -1,0 +1,13 @@
+-- What is left takes the hasher to where the whole list does.
+use Rattle.std.proofs.Common.{◌≡◌, fold, length}
+use Rattle.hashlink_model.specs.Compare.{entries_hash_input}
+use Rattle.hashlink_map.proofs.hashing.LinkedHashMapHash.hash.Given as goal
+
+abbrev pub invariant-loop-key : goal.invariant-loop-key
+invariant-loop-key g l =
+    fold g.H.Hasher.write l.state (entries_hash_input g.K.Hash.hash_input g.V.Hash.hash_input l.rest)
+    ≡ fold g.H.Hasher.write l.initial.state
+    (entries_hash_input g.K.Hash.hash_input g.V.Hash.hash_input l.initial.rest)
+
+abbrev pub decreases-loop-key : goal.decreases-loop-key
+decreases-loop-key g l = length l.rest

@@ -1,0 +1,36 @@
+use Rattle.std.proofs.Common.{◌≡◌, None, refl, ap, subst, sym, ◌∙◌}
+use Rattle.std.specs.Prelude.{MatchOption}
+use Rattle.std.specs.Map.{lookup}
+use Rattle.hashlink_model.specs.Entries.{place_of}
+use Rattle.hashlink_core.specs.Keyed.{HoldsKey, entries_of}
+use Rattle.hashlink_map.specs.Indexed.{HasKey, with_value_at_key}
+use Rattle.hashlink_map.proofs.Calls.{stored-value}
+use Rattle.hashlink_map.proofs.Indexing.{found_there, written_there}
+use Rattle.hashlink_map.proofs.index.LinkedHashMapIndexMutRef.index_mut.Goals as goal
+
+pub unwrap-node-requires : goal.unwrap-node-requires
+unwrap-node-requires g c =
+    let eq = g.K.PartialEq.eq in
+    let k = c.args.key.now in
+    found_there eq c.self.inside.list k c.find.result c.find.ensures.found
+    (subst (λ l. HasKey eq l k) (sym c.self.view_is) c.requires)
+
+pub returns : goal.returns
+returns g c =
+    let eq = g.K.PartialEq.eq in
+    let k = c.args.key.now in
+    let m = c.self.inside.list in
+    let n = c.unwrap-node.result in
+    let found =
+    subst (λ o. MatchOption o (place_of (eq k) (entries_of m) ≡ None) (HoldsKey eq m.nodes k))
+    c.unwrap-node.ensures c.find.ensures.found in (
+      (
+        refl,
+        λ w. written_there eq m k n found w ∙ ap (λ l. with_value_at_key eq l k w) c.self.view_is,
+      ),
+      record {
+        lends = tt;
+        value = sym (ap (λ l. lookup (eq k) (entries_of l)) c.self.view_is)
+            ∙ stored-value eq m m k n found c.value_mut.result.now c.value_mut.ensures.value;
+      },
+    )

@@ -1,0 +1,15 @@
+-- Clones of the pairs that came so far are in.
+use Rattle.std.proofs.Common.{◌≡◌, List, ◌++◌}
+use Rattle.hashlink_model.specs.Many.{AcceptsAll, InsertsPair}
+use Rattle.hashlink_core.specs.Keyed.{state_of}
+use Rattle.hashlink_map.specs.Cloning.{ArePairClones}
+use Rattle.hashlink_map.proofs.map.LinkedHashMap.clone.Given as goal
+
+abbrev pub invariant-loop-key : goal.invariant-loop-key
+invariant-loop-key g l = record {
+  seen : List (g.row.K.Denot × g.row.V.Denot);
+  clones : List (g.row.K.Denot × g.row.V.Denot);
+  is : l.initial.key-iterator ≡ seen ++ l.key-iterator;
+  cloned : ArePairClones g.K.Clone.is_clone g.V.Clone.is_clone seen clones;
+  inserted : AcceptsAll (InsertsPair g.K.PartialEq.eq) (state_of l.initial.map) clones (state_of l.map);
+}

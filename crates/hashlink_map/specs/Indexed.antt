@@ -1,0 +1,26 @@
+-- What a map ends as, once a `&mut` to the value of a key that is there has ended.
+use Rattle.std.specs.Prelude.{Bool, IsSome}
+use Rattle.std.specs.Borrow.{Fml, RattleType, MutBor, Lends}
+use Rattle.std.specs.Map.{lookup}
+use Rattle.std.specs.declared.hash.Hasher as hasher
+use Rattle.std.specs.declared.hash.BuildHasher as builder
+use Rattle.hashlink_model.specs.Entries.{place_or_end}
+use Rattle.hashlink_core.specs.Keyed.{Keyed, entries_of, pair_with_value}
+use Rattle.hashlink_core.specs.KeyedLends.{HashMembers}
+use Rattle.hashlink_core.specs.Places.{renewed_at}
+use Rattle.hashlink_map.specs.Lends.{map_row}
+
+module _ {K V S : Type 0} (eq : K → K → Bool) where
+  -- the key is there
+  abbrev pub HasKey : Keyed K V S → K → Type 0
+  HasKey m k = IsSome (lookup (eq k) (entries_of m))
+
+  -- the map with w as the value of a key that is there
+  abbrev pub with_value_at_key : Keyed K V S → K → V → Keyed K V S
+  with_value_at_key m k w =
+      record m { nodes = renewed_at (pair_with_value w) m.nodes (place_or_end eq (entries_of m) k) }
+
+-- the value of a key that is there is lent: the map ends with what was written there
+abbrev pub LendsIndexed : (K V S T : RattleType) (g : HashMembers K.Denot) → builder.Ghosts S.Denot T.Denot
+    → hasher.Ghosts T.Denot → MutBor (Keyed K.Denot V.Denot S.Denot) → K.Denot → MutBor V.Denot → Fml
+LendsIndexed K V S T g b w m k r = Lends (map_row K V S T g b w) V m r (with_value_at_key g.eq m.now k)

@@ -1,0 +1,73 @@
+//! Maps that are made whole: of the items of an iterator, and as a clone.
+ghost use Rattle.std.specs.Prelude.{◌≡◌, List, Bool, true, Option, Ok, IfOk, OnOk, OnErr};
+ghost use Rattle.std.specs.Iterator.{IsFiniteIterable};
+ghost use Rattle.hashlink_model.specs.Compare.{entries_eq};
+ghost use Rattle.hashlink_model.specs.Many.{MadeFrom, InsertsPair};
+ghost use Rattle.hashlink_core.specs.Keyed.{state_of, entries_of};
+ghost use Rattle.hashlink_map.specs.Cloning.{ArePairClones, StopsMaking};
+ghost use Rattle.hashlink_map.specs.Reading.{ReadsAll, ReadsSome};
+
+use crate::map::LinkedHashMap;
+use std::alloc::{AllocError, Global};
+use std::hash::{BuildHasher, Hash};
+
+impl<K: Eq + Hash + Drop, V: Drop, S: BuildHasher + Default + Drop> LinkedHashMap<K, V, S> {
+    /// A map of the items, each inserted in turn as `insert` does, that hashes by `S::default()`. The iterator has to
+    /// end. No room is made before an item needs it.
+    ///
+    /// It answers `AllocError` where the memory for an item is refused. Then nothing after that item is read, and
+    /// nothing is left of the map.
+    pub fn from_iter<I: IntoIterator<Item = (K, V)>>(
+        alloc: Global,
+        iter: I,
+    ) -> Result<Self, AllocError>
+        requires { IsFiniteIterable I.into_iter_gives I.IntoIter.can_next I.IntoIter.remaining iter }
+        ensures made { IfOk result (λ map. (s : S) × S.is_default s
+            × ReadsAll I.into_iter_gives I.IntoIter.next_gives iter
+            (λ items. MadeFrom (InsertsPair K.eq) items s (state_of map))) }
+        ensures stopped { OnErr result ((s : S) × S.is_default s
+            × ReadsSome I.into_iter_gives I.IntoIter.next_gives iter (StopsMaking (InsertsPair K.eq) s)) }
+    {
+        let mut map = LinkedHashMap::with_hasher(alloc, S::default());
+        map.extend(iter)?;
+        Ok(map)
+    }
+}
+
+impl<K: Eq + Hash + Clone, V: Clone, S: BuildHasher + Clone> LinkedHashMap<K, V, S> {
+    /// A map with a clone of the hasher, in which a clone of each pair was inserted in turn, front first. It is in the
+    /// same allocator's memory, and has no spare node.
+    ///
+    /// It answers `AllocError` where the memory for a clone or for a node is refused, and then nothing is left of the
+    /// new map.
+    pub fn clone(&self) -> Result<Self, AllocError>
+        ensures made { IfOk result (λ map. (s : S) × S.is_clone self.now.hasher s × (clones : List (K × V))
+            × ArePairClones K.is_clone V.is_clone (entries_of self.now) clones
+            × MadeFrom (InsertsPair K.eq) clones s (state_of map)) }
+
+        // Where clones are equal to their sources, the clone is equal to the map.
+        ensures equal { (eqv : V → V → Bool) → ((x y : K) → K.is_clone x y → K.eq x y ≡ true)
+            → ((x y : V) → V.is_clone x y → eqv x y ≡ true)
+            → IfOk result (λ map. entries_eq K.eq eqv (entries_of self.now) (entries_of map) ≡ true) }
+        ensures same { ((x y : K) → K.is_clone x y → y ≡ x) → ((x y : V) → V.is_clone x y → y ≡ x)
+            → IfOk result (λ map. entries_of map ≡ entries_of self.now) }
+    {
+        let hash_builder = self.list.hasher().clone()?;
+        let mut map = LinkedHashMap::with_hasher(self.list.allocator(), hash_builder);
+        for (key, value) in self.iter() {
+            map.insert_clone(key, value)?;
+        }
+        Ok(map)
+    }
+
+    // Inserts a clone of the pair.
+    fn insert_clone(&mut self, key: &K, value: &V) -> Result<(), AllocError>
+        ensures { OnOk result ((p : K × V) × (old : Option V) × K.is_clone key.now p.0 × V.is_clone value.now p.1
+            × InsertsPair K.eq (state_of self.old) (state_of self.new) p (Ok old)) }
+    {
+        match self.insert(key.clone()?, value.clone()?) {
+            Ok(_) => Ok(()),
+            Err(_) => Err(AllocError),
+        }
+    }
+}

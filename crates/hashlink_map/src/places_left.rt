@@ -1,0 +1,72 @@
+//! The places that a walk over a borrowed map has left. The walks that lend values take their steps here.
+ghost use Rattle.std.specs.Prelude.{◌≡◌, length};
+ghost use Rattle.hashlink_core.specs.Keyed.{entries_of, state_of};
+ghost use Rattle.hashlink_map.specs.WritingWalk.{StandsIn, TakesPlace, walk_in, writing_walk};
+ghost use Rattle.hashlink_map.specs.WritingWalk.{after_front, after_back, last_place};
+
+use crate::as_node::AsNode;
+use crate::map::LinkedHashMap;
+use hashlink_core::Node;
+use std::hash::{BuildHasher, Hash};
+
+/// The first and the last place left, and how many there are. Where none is left the two mean nothing.
+#[derive(Clone, Copy)]
+pub(crate) struct PlacesLeft<N: AsNode = Node> {
+    pub(crate) first: Option<N>,
+    pub(crate) last: Option<N>,
+    pub(crate) left: usize,
+}
+
+impl PlacesLeft {
+    /// All places of the map.
+    pub(crate) fn all<K: Eq + Hash, V, S: BuildHasher>(map: &LinkedHashMap<K, V, S>) -> Self
+        ensures stands { StandsIn (λ n. n) map.now.nodes result }
+        ensures rest { walk_in (λ n. n) map.now result
+            ≡ writing_walk (state_of map.now) 0 (length (entries_of map.now)) }
+    {
+        PlacesLeft {
+            first: map.list.first(),
+            last: map.list.last(),
+            left: map.list.len(),
+        }
+    }
+
+    /// Takes the first place off.
+    pub(crate) fn take_first<K: Eq + Hash, V, S: BuildHasher>(
+        &mut self,
+        map: &LinkedHashMap<K, V, S>,
+    ) -> Option<Node>
+        requires { StandsIn (λ n. n) map.now.nodes self.old }
+        ensures stands { StandsIn (λ n. n) map.now.nodes self.new }
+        ensures takes { TakesPlace map.now (walk_in (λ n. n) map.now self.old) (walk_in (λ n. n) map.now self.new)
+            (walk_in (λ n. n) map.now self.old).at (after_front (walk_in (λ n. n) map.now self.old)) result }
+    {
+        if self.left == 0 {
+            return None;
+        }
+        let node = self.first?;
+        self.first = map.place_after(self.first);
+        self.left -= 1;
+        Some(node)
+    }
+
+    /// Takes the last place off.
+    pub(crate) fn take_last<K: Eq + Hash, V, S: BuildHasher>(
+        &mut self,
+        map: &LinkedHashMap<K, V, S>,
+    ) -> Option<Node>
+        requires { StandsIn (λ n. n) map.now.nodes self.old }
+        ensures stands { StandsIn (λ n. n) map.now.nodes self.new }
+        ensures takes { TakesPlace map.now (walk_in (λ n. n) map.now self.old) (walk_in (λ n. n) map.now self.new)
+            (last_place (walk_in (λ n. n) map.now self.old))
+            (after_back (walk_in (λ n. n) map.now self.old)) result }
+    {
+        if self.left == 0 {
+            return None;
+        }
+        let node = self.last?;
+        self.last = map.place_before(self.last);
+        self.left -= 1;
+        Some(node)
+    }
+}

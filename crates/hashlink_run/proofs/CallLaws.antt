@@ -1,0 +1,65 @@
+-- What holds of every list of calls of caches that start empty.
+use Rattle.std.proofs.Common.{◌≡◌, ℕ, zero, suc, ◌+◌, ◌≤◌, Bool, cond, List, [], ◌∷◌, take, map, slice_get}
+use Rattle.std.proofs.Common.{Option, None, Some, is_some, is_none, refl, sym, ap, ap₂, ◌∙◌}
+use Rattle.std.specs.Cmp.{IsEquivalence}
+use Rattle.std.specs.List.{count_by}
+use Rattle.std.specs.Map.{lookup, keys_of}
+use Rattle.std.proofs.lemmas.List.Sums.{sum_by-cons}
+use Rattle.std.proofs.lemmas.Option.{same_Some}
+use Rattle.hashlink_model.specs.Cache.{cache_use, missed_uses}
+use Rattle.hashlink_model.specs.CacheRuns.{CacheEvent, used_keys, answer_to, after_event, after_events, answers}
+use Rattle.hashlink_model.proofs.CacheRuns.{keys_along, finds_along, entries_along, finds_the_same_along, holds_along}
+use Rattle.hashlink_model.proofs.CacheRuns.{answers_along}
+use Rattle.hashlink_model.proofs.Competitive.{competitive, missed_uses-history}
+use Rattle.hashlink_model.proofs.Reuse.{held_exactly}
+use Rattle.hashlink_run.specs.CacheCalls.{use_of}
+use Rattle.hashlink_run.specs.CacheLaws.{Includes, FollowsHistory, BearsComparison}
+
+module _ {K V : Type 0} (eq : K → K → Bool) where
+  -- the answer to the call at the place n is what its key has after the calls before it
+  answer_at : (c : ℕ) (es : List (K × V)) (events : List (CacheEvent K V)) (n : ℕ) (e : CacheEvent K V)
+      (reply : Option V) → slice_get events n ≡ Some e → slice_get (answers eq c es events) n ≡ Some reply
+      → reply ≡ answer_to eq (after_events eq c es (take n events)) e
+  answer_at c es [] n e reply at is = cc
+  answer_at c es (d ∷ events) zero e reply at is =
+      sym (same_Some _ _ is) ∙ ap (answer_to eq es) (same_Some _ _ at)
+  answer_at c es (d ∷ events) (suc n) e reply at is = answer_at c (after_event eq c es d) events n e reply at is
+
+  -- misses are the answers that are none
+  misses_counted : (c : ℕ) (es : List (K × V)) (pairs : List (K × V))
+      → count_by is_none (answers eq c es (map use_of pairs)) ≡ missed_uses eq c es pairs
+  misses_counted c es [] = refl
+  misses_counted c es (p ∷ pairs) =
+      sum_by-cons (λ r. cond (is_none r) 1 0) (lookup (eq p.0) es)
+      (answers eq c (cache_use eq es c p.0 p.1) (map use_of pairs))
+      ∙ ap₂ (λ a b. a + b) (by (lookup (eq p.0) es)) (misses_counted c (cache_use eq es c p.0 p.1) pairs)
+    where
+      by : (o : Option V) → ◌≡◌ {A = ℕ} (cond (is_none o) 1 0) (cond (is_some o) 0 1)
+      by None = refl
+      by (Some w) = refl
+
+  module _ (laws : IsEquivalence eq) where
+    pub includes : (c d : ℕ) → c ≤ d → (events : List (CacheEvent K V)) → Includes eq events c d
+    includes c d le events = record {
+      keys = λ n. keys_along eq laws c d le (take n events);
+      found = finds_along eq laws c d le events;
+      entries = λ n none. entries_along eq laws c d le (take n events) none;
+      values = λ none. finds_the_same_along eq laws c d le events none;
+    }
+
+    pub follows_history : (c : ℕ) (events : List (CacheEvent K V)) → FollowsHistory eq events c
+    follows_history c events = record {
+      order = λ n none. holds_along eq laws c (take n events) none;
+      held = λ n k none.
+          held_exactly eq laws c (used_keys (take n events)) (after_events eq c [] (take n events)) k
+          (holds_along eq laws c (take n events) none);
+      found = λ n e reply none at is.
+          ap is_some (answer_at c [] events n e reply at is) ∙ answers_along eq laws c (take n events) e none;
+    }
+
+    pub bears_comparison : (c : ℕ) (pairs : List (K × V)) (replies : List (Option V))
+        → replies ≡ answers eq c [] (map use_of pairs) → BearsComparison eq c (map (λ p. p.0) pairs) replies
+    bears_comparison c pairs replies is = λ h one le held schedule.
+        let missed =
+        ap (count_by is_none) is ∙ misses_counted c [] pairs ∙ missed_uses-history eq laws c pairs in
+        rw missed (competitive eq laws c h one le (keys_of pairs) held schedule)

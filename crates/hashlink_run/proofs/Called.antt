@@ -1,0 +1,159 @@
+-- One call of a cache that was not refused, and calls in turn: what they leave is what is computed.
+use Rattle.std.proofs.Common.{◌≡◌, ℕ, Bool, List, [], ◌∷◌, ◌++◌, length, Option, None, Some, Result, Ok}
+use Rattle.std.proofs.Common.{◌+◌, ◌<◌, add-one, drop, drop-cons, get_or, map, MatchOption, append_assoc, refl, sym, ap, ap₂, ◌∙◌, subst}
+use Rattle.std.specs.Map.{lookup, lookup_entry}
+use Rattle.std.specs.Option.{option_map, option_map_or}
+use Rattle.hashlink_model.specs.Cache.{CacheState, CacheInserts, CacheGets}
+use Rattle.hashlink_model.specs.CacheRuns.{CacheEvent, Insert, Use, Remove, Peek, answer_to, after_event, after_events}
+use Rattle.hashlink_model.specs.CacheRuns.{answers}
+use Rattle.hashlink_model.specs.Entries.{put, without}
+use Rattle.hashlink_model.specs.History.{Length}
+use Rattle.hashlink_model.specs.MapState.{MapState, Removes}
+use Rattle.hashlink_model.specs.Peak.{KeepsNodes, PassesInTurn}
+use Rattle.hashlink_model.proofs.CacheBounds.{passes-cache_insert}
+use Rattle.hashlink_model.proofs.CacheSteps.{inserts_answer, inserts_entries, uses_entries}
+use Rattle.hashlink_model.proofs.Finds.{lookup_is}
+use Rattle.hashlink_model.proofs.Splits.{none_from_lookup, remove_entry-none}
+use Rattle.hashlink_model.proofs.KeptNodes.{kept-moves, kept-removes_key, passes-kept, passes_in_parts, within_the_peak}
+use Rattle.hashlink_lru.specs.Cached.{empty_cache}
+use Rattle.hashlink_run.specs.Chain.{Answered, Chain, Chained, state_after, replies_of}
+use Rattle.hashlink_run.specs.CacheCalls.{EventStep, put_passed, events_passed, RunsFromEmpty}
+use Rattle.hashlink_run.proofs.EntryNodes.{kept_unchanged}
+
+-- a list that is read from its front, each element as another
+pub rest_from : {X Y : Type 0} (f : X → Y) (xs : List X) (i : ℕ) (x : X) → i < length xs → x ≡ get_or xs i x
+    → map f (drop i xs) ≡ f x ∷ map f (drop (i + 1) xs)
+rest_from f xs i x at is =
+    ap (map f) (drop-cons xs i x at)
+    ∙ ap₂ (λ y j. f y ∷ map f (drop j xs)) (sym is) (sym (add-one i))
+
+module _ {K V S : Type 0} (eq : K → K → Bool) where
+  -- what one call leaves and answers
+  pub record Leaves (old : CacheState K V S) (e : CacheEvent K V) (replies : List (Option V))
+      (new : CacheState K V S) : Type 0 where
+    pub entries : new.map.entries ≡ after_event eq old.cap old.map.entries e
+    pub answer : replies ≡ answer_to eq old.map.entries e ∷ []
+    pub cap : new.cap ≡ old.cap
+    pub passes :
+        PassesInTurn old.map
+        (put_passed eq old.cap old.map.entries e ++ Length (length (after_event eq old.cap old.map.entries e)) ∷ [])
+        new.map
+
+  removed_entries : (old new : MapState K V S) (k : K) (o : Option (K × V)) → lookup_entry (eq k) old.entries ≡ o
+      → MatchOption o (new ≡ old) (λ _. Removes old new (without eq old.entries k))
+      → new.entries ≡ without eq old.entries k
+  removed_entries old new k None none s =
+      ap (λ m. m.entries) s ∙ sym (remove_entry-none (eq k) old.entries
+      (none_from_lookup (eq k) old.entries (lookup_is (eq k) old.entries ∙ ap (option_map (λ e. e.1)) none)))
+  removed_entries old new k (Some e) some s = s.entries
+
+  -- a step that keeps the nodes passes the length that it leads to
+  pub passed_one : (old new : MapState K V S) (n : ℕ) → KeepsNodes old new → length new.entries ≡ n
+      → PassesInTurn old (Length n ∷ []) new
+  passed_one old new n kept is =
+      subst (λ m. PassesInTurn old (Length m ∷ []) new) is (new, passes-kept old new kept, refl)
+
+  pub passed_two : (old new : CacheState K V S) (k : K) (v : V) (w : Option V) (n : ℕ) → CacheInserts eq old new k v (Ok w)
+      → length new.map.entries ≡ n
+      → PassesInTurn old.map
+      (Length (length (put eq old.map.entries k v (length old.map.entries))) ∷ Length n ∷ []) new.map
+  passed_two old new k v w n s is =
+      subst (λ m. PassesInTurn old.map
+      (Length (length (put eq old.map.entries k v (length old.map.entries))) ∷ Length m ∷ []) new.map) is
+      (passes-cache_insert eq old new k v w s)
+
+  -- a use keeps the capacity, and passes what an insert passes where it misses
+  pub used : (old new : CacheState K V S) (k : K) (v : V) (w o : Option V) (n : ℕ) → length new.map.entries ≡ n
+      → MatchOption o (CacheInserts eq old new k v (Ok w))
+      (λ x. (◌≡◌ {A = Result (Option V) (K × V)} (Ok w) (Ok (Some x))) × CacheGets eq old new k (Some x))
+      → (new.cap ≡ old.cap)
+      ×
+      PassesInTurn old.map
+      (option_map_or (λ x. []) o (Length (length (put eq old.map.entries k v (length old.map.entries))) ∷ [])
+      ++ Length n ∷ []) new.map
+  used old new k v w None n is s = (s.cap, passed_two old new k v w n s is)
+  used old new k v w (Some x) n is s = (
+    s.1.cap,
+    passed_one old.map new.map n
+        (kept-moves old.map new.map eq k (length old.map.entries) (Some x) s.1.map) is,
+  )
+
+  pub left : (old : CacheState K V S) (e : CacheEvent K V) (replies : List (Option V)) (new : CacheState K V S)
+      → EventStep eq old e replies new → Leaves old e replies new
+  left old (Insert k v) replies new s =
+      let entries = inserts_entries eq old new k v s.0 s.1 in
+      record {
+        entries = entries;
+        answer = s.2 ∙ ap (λ w. w ∷ []) (inserts_answer eq old new k v s.0 s.1);
+        cap = s.1.cap;
+        passes = passed_two old new k v s.0 _ s.1 (ap length entries);
+      }
+  left old (Use k v) replies new s =
+      let both = uses_entries eq old new k v s.0 s.1 in
+      let hit = used old new k v s.0 (lookup (eq k) old.map.entries) _ (ap length both.1) s.1 in
+      record { entries = both.1; answer = s.2 ∙ ap (λ w. w ∷ []) both.0; cap = hit.0; passes = hit.1 }
+  left old (Remove k) replies new s =
+      let entries =
+      removed_entries old.map new.map k (lookup_entry (eq k) old.map.entries) refl s.0.map.step in
+      record {
+        entries = entries;
+        answer = s.1;
+        cap = s.0.cap;
+        passes = passed_one old.map new.map _ (kept-removes_key old.map new.map eq k _ s.0.map) (ap length entries);
+      }
+  left old (Peek k) replies new s =
+      let entries = ap (λ c. c.map.entries) s.0 in
+      record {
+        entries = entries;
+        answer = s.1;
+        cap = ap (λ c. c.cap) s.0;
+        passes = passed_one old.map new.map _ (kept_unchanged old.map new.map (ap (λ c. c.map) s.0)) (ap length entries);
+      }
+
+  -- what calls in turn leave and answer
+  record LeavesAll (old : CacheState K V S) (events : List (CacheEvent K V)) (replies : List (Option V))
+      (new : CacheState K V S) : Type 0 where
+    entries : new.map.entries ≡ after_events eq old.cap old.map.entries events
+    answers : replies ≡ answers eq old.cap old.map.entries events
+    cap : new.cap ≡ old.cap
+    passes : PassesInTurn old.map (events_passed eq old.cap old.map.entries events) new.map
+
+  left_all : (old : CacheState K V S) (events : List (CacheEvent K V))
+      (xs : List (Answered (Option V) (CacheState K V S))) → Chain (EventStep eq) old events xs
+      → LeavesAll old events (replies_of xs) (state_after old xs)
+  left_all old [] [] r = record { entries = refl; answers = refl; cap = refl; passes = refl }
+  left_all old [] (x ∷ xs) r = absurd r
+  left_all old (e ∷ events) [] r = absurd r
+  left_all old (e ∷ events) (x ∷ xs) r =
+      let one = left old e x.replies x.state r.0 in
+      let more = left_all x.state events xs r.1 in
+      let es = after_event eq old.cap old.map.entries e in
+      let passed =
+      passes_in_parts old.map x.state.map (state_after x.state xs).map
+      (put_passed eq old.cap old.map.entries e ++ Length (length es) ∷ []) (events_passed eq old.cap es events) one.passes
+      (subst (λ ps. PassesInTurn x.state.map ps (state_after x.state xs).map)
+      (ap₂ (λ c zs. events_passed eq c zs events) one.cap one.entries) more.passes) in
+      record {
+        entries = more.entries ∙ ap₂ (λ c zs. after_events eq c zs events) one.cap one.entries;
+        answers = ap₂ (λ a b. a ++ b) one.answer
+            (more.answers ∙ ap₂ (λ c zs. answers eq c zs events) one.cap one.entries);
+        cap = more.cap ∙ one.cap;
+        passes = subst (λ ps. PassesInTurn old.map ps (state_after x.state xs).map)
+            (append_assoc (put_passed eq old.cap old.map.entries e) (Length (length es) ∷ [])
+            (events_passed eq old.cap es events)) passed;
+      }
+
+  -- from an empty cache on
+  pub runs_from_empty : (s : S) (c : ℕ) (events : List (CacheEvent K V)) (replies : List (Option V))
+      (new : CacheState K V S) → Chained (EventStep eq) (empty_cache s c) events replies new
+      → RunsFromEmpty eq s c events replies new
+  runs_from_empty s c events replies new r =
+      let all = left_all (empty_cache s c) events r.answers r.chain in
+      let end = sym r.reached in
+      record {
+        chain = r;
+        entries = ap (λ m. m.map.entries) r.reached ∙ all.entries;
+        answered = r.joined ∙ all.answers;
+        capacity = ap (λ m. m.cap) r.reached ∙ all.cap;
+        nodes = within_the_peak (empty_cache s c).map new.map (events_passed eq c [] events) (rw end at all.passes);
+      }

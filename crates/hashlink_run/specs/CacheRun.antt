@@ -1,0 +1,84 @@
+-- Lists of commands to a cache: the nodes and the lengths along them, and what is not refused.
+use Rattle.std.specs.Prelude.{◌≡◌, ℕ, ◌+◌, ◌≤◌, ◌<◌, Bool, true, false, cond, List, [], ◌∷◌, ◌++◌, length, take}
+use Rattle.std.specs.Prelude.{drop, slice_get, Some}
+use Rattle.std.specs.List.{AllPass}
+use Rattle.hashlink_model.specs.Cache.{CacheState, IsWithin}
+use Rattle.hashlink_model.specs.CacheRuns as event
+use Rattle.hashlink_model.specs.History.{Passed, Length, peak}
+use Rattle.hashlink_model.specs.MapState.{MayRefuse, node_count}
+use Rattle.hashlink_commands.specs.declared.cache_commands.CacheCommand.{CacheCommand}
+use Rattle.hashlink_commands.specs.declared.cache_commands.CacheCommand.TheVariants.{Insert, Use, Entry}
+use Rattle.hashlink_commands.specs.declared.cache_commands.CacheCommand.TheVariants.{SetCapacity, Clear}
+use Rattle.hashlink_commands.specs.declared.replies.Reply.{Reply}
+use Rattle.hashlink_commands.specs.declared.replies.Reply.TheVariants.{Refused}
+use Rattle.hashlink_run.specs.CacheCalls.{put_passed}
+use Rattle.hashlink_run.specs.Chain.{Answered, after}
+
+-- whether the replies hand a pair back
+abbrev pub is_refused : {K V B : Type 0} → List (Reply K V B) → Bool
+is_refused (Refused k v ∷ replies) = true
+is_refused replies = false
+
+-- whether a command is none of those that set the capacity, give nodes back, or may leave a pair too many
+abbrev pub leaves_spare : {K V : Type 0} → CacheCommand K V → Bool
+leaves_spare (Entry k step) = false
+leaves_spare (SetCapacity n) = false
+leaves_spare Clear = false
+leaves_spare command = true
+
+-- whether a command names no entry
+abbrev pub names_no_entry : {K V : Type 0} → CacheCommand K V → Bool
+names_no_entry (Entry k step) = false
+names_no_entry command = true
+
+module _ {K V B S : Type 0} where
+  module _ (eq : K → K → Bool) where
+    -- the length that a command passes before anything is dropped, unless its insert is refused
+    abbrev pub command_put : CacheState K V S → CacheCommand K V → List (Reply K V B) → List Passed
+    command_put old (Insert k v) replies =
+        cond (is_refused replies) [] (put_passed eq old.cap old.map.entries (event.Insert k v))
+    command_put old (Use k v) replies =
+        cond (is_refused replies) [] (put_passed eq old.cap old.map.entries (event.Use k v))
+    command_put old command replies = []
+
+    -- the lengths that a run passes, from `old` on
+    abbrev pub cache_passed : CacheState K V S → List (CacheCommand K V)
+        → List (Answered (Reply K V B) (CacheState K V S)) → List Passed
+    cache_passed old [] answers = []
+    cache_passed old (command ∷ commands) [] = []
+    cache_passed old (command ∷ commands) (a ∷ answers) =
+        command_put old command a.replies
+        ++ Length (length a.state.map.entries) ∷ cache_passed a.state commands answers
+
+    -- after any of the commands the nodes are within the peak
+    abbrev pub CacheWithinPeak : CacheState K V S → List (CacheCommand K V)
+        → List (Answered (Reply K V B) (CacheState K V S)) → Type 0
+    CacheWithinPeak old commands answers = (n : ℕ)
+        → node_count (after old answers n).map
+        ≤ peak (node_count old.map) (cache_passed old (take n commands) (take n answers))
+
+    -- the command is an insert, or a use that missed, and drops a pair: it came to more than the capacity
+    abbrev pub DropsPair : CacheState K V S → CacheCommand K V → List (Reply K V B) → Type 0
+    DropsPair old command replies =
+        (n : ℕ) × (command_put old command replies ≡ Length n ∷ []) × (old.cap < n)
+
+    -- where the command at the place i dropped a pair, and no command from there to the place j set the capacity,
+    -- cleared the cache or named an entry, no insert may be refused then, and the command at j hands no pair back
+    abbrev pub TakesAllAfterADrop : CacheState K V S → List (CacheCommand K V)
+        → List (Answered (Reply K V B) (CacheState K V S)) → Type 0
+    TakesAllAfterADrop old commands answers =
+        (i j : ℕ) (command : CacheCommand K V) (a : Answered _ _) → slice_get commands i ≡ Some command
+        → slice_get answers i ≡ Some a → DropsPair (after old answers i) command a.replies
+        → i < j → AllPass leaves_spare (drop i (take j commands))
+        → ((k : K) → ¬ MayRefuse eq (after old answers j).map k)
+        × ((b : Answered _ _) → slice_get answers j ≡ Some b → is_refused b.replies ≡ false)
+
+  -- where the cache is within its capacity and n more, it is so after each command that comes: for n = 0 while no
+  -- command names an entry, and above that always. A capacity that is set counts from then on
+  pub record KeepsBounds (old : CacheState K V S) (commands : List (CacheCommand K V))
+      (answers : List (Answered (Reply K V B) (CacheState K V S))) : Type 0 where
+    pub without_entries : (n i j : ℕ) → i ≤ j → IsWithin (after old answers i) n
+        → AllPass names_no_entry (drop i (take j commands))
+        → IsWithin (after old answers j) n
+    pub with_entries : (n i j : ℕ) → i ≤ j → IsWithin (after old answers i) (n + 1)
+        → IsWithin (after old answers j) (n + 1)

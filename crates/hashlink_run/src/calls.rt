@@ -1,0 +1,154 @@
+//! Calls of caches in turn, of which none may be refused.
+ghost use Rattle.std.specs.Prelude.{◌≡◌, ◌≤◌, [], ◌∷◌, map, IfOk, OnOk};
+ghost use Rattle.hashlink_core.specs.Hashing.{default_builder};
+ghost use Rattle.hashlink_lru.specs.Cached.{state_in};
+ghost use Rattle.hashlink_model.specs.Cache.{CacheUses};
+ghost use Rattle.hashlink_run.specs.CacheCalls.{EventStep, RunsFromEmpty, event_of, use_of};
+ghost use Rattle.hashlink_run.specs.CacheLaws.{Includes, FollowsHistory, BearsComparison};
+
+use hashlink_commands::PairCommand;
+use hashlink_lru::LruCache;
+use std::alloc::{AllocError, Global};
+use std::hash::Hash;
+
+/// What two caches have come to that were given the same commands, and what each answered to each of them: the old
+/// value, the value that a use hit, the value removed, or the value seen.
+#[derive(Drop)]
+pub struct Pair<K: Eq + Hash, V> {
+    /// The smaller cache.
+    pub small: LruCache<K, V>,
+    /// The larger cache.
+    pub large: LruCache<K, V>,
+    /// What the smaller cache answered.
+    pub small_replies: Vec<Option<V>>,
+    /// What the larger cache answered.
+    pub large_replies: Vec<Option<V>>,
+}
+
+/// What a cache has come to that was given uses, and the value that each of them hit.
+#[derive(Drop)]
+pub struct Uses<K: Eq + Hash, V> {
+    /// The cache.
+    pub cache: LruCache<K, V>,
+    /// What it answered.
+    pub replies: Vec<Option<V>>,
+}
+
+/// Gives the commands to two empty caches of these capacities, of which the first is the smaller one.
+///
+/// Each command costs what the call of the cache does that it names. Where memory is refused, for the answers or for
+/// an insert, it answers `AllocError` and leaves nothing.
+pub fn run_pair<K, V>(
+    alloc: Global,
+    small: usize,
+    large: usize,
+    commands: &[PairCommand<K, V>],
+) -> Result<Pair<K, V>, AllocError>
+where
+    K: Eq + Hash + Copy,
+    V: Copy,
+    requires { small ≤ large }
+
+    // The answers of each cache and the state at its end are those of a chain of steps without a refusal.
+    ensures small { IfOk result (λ pair. RunsFromEmpty K.eq default_builder small (map event_of commands.now)
+        pair.small_replies.items (state_in pair.small)) }
+    ensures large { IfOk result (λ pair. RunsFromEmpty K.eq default_builder large (map event_of commands.now)
+        pair.large_replies.items (state_in pair.large)) }
+
+    // Of any commands, and so of these: the smaller cache has an end of the larger one's keys, and each has what the
+    // history of uses says.
+    ensures inclusion { OnOk result (Includes K.eq (map event_of commands.now) small large) }
+    ensures small_history { OnOk result (FollowsHistory K.eq (map event_of commands.now) small) }
+    ensures large_history { OnOk result (FollowsHistory K.eq (map event_of commands.now) large) }
+{
+    let (small, small_replies) = run_calls(alloc, small, commands)?;
+    let (large, large_replies) = run_calls(alloc, large, commands)?;
+    Ok(Pair {
+        small,
+        large,
+        small_replies,
+        large_replies,
+    })
+}
+
+/// Gives an empty cache of this capacity a use of each pair in turn: a hit of `get`, or an insert.
+///
+/// Each use costs what these calls do. Where memory is refused, for the answers or for an insert, it answers
+/// `AllocError` and leaves nothing.
+pub fn run_uses<K, V>(
+    alloc: Global,
+    capacity: usize,
+    pairs: &[(K, V)],
+) -> Result<Uses<K, V>, AllocError>
+where
+    K: Eq + Hash + Copy,
+    V: Copy,
+    // The answers and the state at the end are those of a chain of steps without a refusal.
+    ensures ran { IfOk result (λ uses. RunsFromEmpty K.eq default_builder capacity (map use_of pairs.now)
+        uses.replies.items (state_in uses.cache)) }
+
+    // Of any uses, and so of these: the cache has what their history says, and misses not many more than any other
+    // rule of replacement would.
+    ensures history { OnOk result (FollowsHistory K.eq (map use_of pairs.now) capacity) }
+    ensures comparison { IfOk result (λ uses. BearsComparison K.eq capacity (map (λ p. p.0) pairs.now)
+        uses.replies.items) }
+{
+    let mut cache = LruCache::new(alloc, capacity);
+    let mut replies = Vec::with_capacity(alloc, pairs.len())?;
+    for (key, value) in pairs {
+        replies.push(answer_call(&mut cache, PairCommand::Use(*key, *value))?)?;
+    }
+    Ok(Uses { cache, replies })
+}
+
+// Gives the commands to an empty cache of this capacity.
+fn run_calls<K, V>(
+    alloc: Global,
+    capacity: usize,
+    commands: &[PairCommand<K, V>],
+) -> Result<(LruCache<K, V>, Vec<Option<V>>), AllocError>
+where
+    K: Eq + Hash + Copy,
+    V: Copy,
+    ensures { IfOk result (λ ran. RunsFromEmpty K.eq default_builder capacity (map event_of commands.now)
+        ran.1.items (state_in ran.0)) }
+{
+    let mut cache = LruCache::new(alloc, capacity);
+    let mut replies = Vec::with_capacity(alloc, commands.len())?;
+    for command in commands {
+        replies.push(answer_call(&mut cache, *command)?)?;
+    }
+    Ok((cache, replies))
+}
+
+// Gives the cache the command and answers what it answers.
+pub(crate) fn answer_call<K, V>(
+    cache: &mut LruCache<K, V>,
+    command: PairCommand<K, V>,
+) -> Result<Option<V>, AllocError>
+where
+    K: Eq + Hash + Copy,
+    V: Copy,
+    ensures { IfOk result (λ answer. EventStep K.eq (state_in cache.old) (event_of command) (answer ∷ [])
+        (state_in cache.new)) }
+{
+    match command {
+        PairCommand::Insert(key, value) => cache.insert(key, value).map_err(|_| AllocError),
+        PairCommand::Use(key, value) => use_pair(cache, key, value).map_err(|_| AllocError),
+        PairCommand::Remove(key) => Ok(cache.remove(&key)),
+        PairCommand::Peek(key) => Ok(cache.peek(&key).copied()),
+    }
+}
+
+// The value that the key has, which moves to the end, or an insert where it is absent.
+fn use_pair<K, V>(cache: &mut LruCache<K, V>, key: K, value: V) -> Result<Option<V>, (K, V)>
+where
+    K: Eq + Hash + Copy,
+    V: Copy,
+    ensures { CacheUses K.eq (state_in cache.old) (state_in cache.new) key value result }
+{
+    match cache.get(&key).copied() {
+        Some(found) => Ok(Some(found)),
+        None => cache.insert(key, value),
+    }
+}

@@ -1,0 +1,153 @@
+-- What a set ends as whose last element was lent, from the steps before. Assumes `Logic`.
+use Rattle.std.proofs.Common.{◌≡◌, Option, None, Some, Ok, Err, Result, Bool, [], ◌∷◌, refl, sym, ap, subst, ◌∙◌}
+use seplogic.Ra.Ura.{Ura}
+use base.Logic.{SProp, ent, sep}
+use contract.Monad.{fact, fact_i}
+use types.Logic.{Logic, sem}
+use types.Kit.{‵, raw, ◌⊛◌, ◌$◌, ◌∵◌, !, qed, move, join, split, use0, fpick, fpack, done}
+use base.Logic.{emp}
+use base.Fml.{ftrue, flft}
+use contract.Lifetimes.{Lfts, Shares, toks}
+use mathlib.Core.Option.{none}
+use denote.Follow.{follows_by, such_by}
+use denote.RattleType.{RattleType}
+use Rattle.std.specs.Prelude.{IfOk, IfErr, OnOk, IsSome, option_copied, ⊤}
+use Rattle.std.specs.Borrow.{Fml, GName, Bor, follows_so, follows_if}
+use Rattle.std.specs.List.{find}
+use Rattle.std.specs.Option.{UnwrapsOrElse}
+use Rattle.std.specs.Result.{result_err}
+use Rattle.hashlink_model.specs.Sets.{SetState, elements_of, stored_element, GetsOrInserts}
+use Rattle.hashlink_model.specs.Walk.{last_of}
+use Rattle.hashlink_set.specs.Made.{GetsOrMakes}
+use Rattle.hashlink_set.specs.SetLends.{as_seen, PutsElement, MakesElement}
+use Rattle.hashlink_set.proofs.Stored.{inserted_last}
+
+module _ {M : Type 1} (𝓤 : Ura M) (A B C : Type 0) where
+  -- what a call asks: three facts on lifetimes, and R
+  abbrev pub Asks : SProp 𝓤 → SProp 𝓤
+  Asks R = sep 𝓤 (fact 𝓤 A) (sep 𝓤 (fact 𝓤 B) (sep 𝓤 (fact 𝓤 C) R))
+
+  pub asked : (𝓛 : Logic 𝓤) (R : SProp 𝓤) → A → B → C → ent 𝓤 R (Asks R)
+  asked 𝓛 R a b c =
+      qed 𝓛 (raw R ∷ []) ∵ use0 𝓛 (raw (fact 𝓤 C)) (fact_i 𝓤 C (emp 𝓤) c) $ join ! $
+      use0 𝓛 (raw (fact 𝓤 B)) (fact_i 𝓤 B (emp 𝓤) b) $ join ! $
+      use0 𝓛 (raw (fact 𝓤 A)) (fact_i 𝓤 A (emp 𝓤) a) $ join ! $ done !
+
+module _ {M : Type 1} {𝓤 : Ura M} (𝓛 : Logic 𝓤) (R : RattleType) (P P' : R.Denot → Type 0) where
+  abbrev So : GName → (R.Denot → Type 0) → Fml
+  So n Q = follows_so R R n none (λ _ _. ⊤) Q
+
+  -- what ends as one of these ends as one of those
+  pub ends_so : (n n' : GName) → n ≡ n' → ((new : R.Denot) → P new → P' new)
+      → ent 𝓤 (sem 𝓛 (So n P)) (sem 𝓛 (So n' P'))
+  unfolding follows_by such_by
+  ends_so n n' same go =
+      subst (λ (m : GName). ent 𝓤 (sem 𝓛 (So n P)) (sem 𝓛 (So m P'))) same
+      (qed 𝓛 (‵ (So n P) ∷ []) ∵ fpick !
+      (λ s.
+      fpack ! ((s : (R.Denot → R.Denot) × R.Denot) × ((u : R.Denot) → ⊤) × P' s.1)
+      (λ s. follows_if R R n none s.0.0 s.0.1)
+      ((s.0.0, s.0.1), (λ u. tt), go s.0.1 s.2)
+      $ done !))
+
+module _ {M : Type 1} {𝓤 : Ura M} (𝓛 : Logic 𝓤) (κs : Lfts 6) (qs : Shares 6) where
+  -- the lifetimes that remain once an element was made: neither that of the one given, nor that of the closure
+  abbrev pub lifetimes_left : Lfts 4
+  lifetimes_left = (κs.0, (κs.1.1.0, (κs.1.1.1.0, (κs.1.1.1.1.0, tt))))
+
+  abbrev pub shares_left : Shares 4
+  shares_left = (qs.0, (qs.1.1.0, (qs.1.1.1.0, (qs.1.1.1.1.0, tt))))
+
+  abbrev pub Left : SProp 𝓤
+  Left = toks 𝓛 4 lifetimes_left shares_left
+
+  -- the tokens of the other two
+  abbrev pub Aside : SProp 𝓤
+  Aside = sep 𝓤 (sem 𝓛 (flft κs.1.0 qs.1.0)) (sem 𝓛 (flft κs.1.1.1.1.1.0 qs.1.1.1.1.1.0))
+
+  pub set_aside : ent 𝓤 (toks 𝓛 6 κs qs) (sep 𝓤 Left Aside)
+  set_aside =
+      qed 𝓛 ((‵ (flft κs.0 qs.0) ⊛ ‵ (flft κs.1.0 qs.1.0) ⊛ ‵ (flft κs.1.1.0 qs.1.1.0)
+      ⊛ ‵ (flft κs.1.1.1.0 qs.1.1.1.0) ⊛ ‵ (flft κs.1.1.1.1.0 qs.1.1.1.1.0)
+      ⊛ ‵ (flft κs.1.1.1.1.1.0 qs.1.1.1.1.1.0) ⊛ ‵ ftrue) ∷ []) ∵
+      split ! $ move ! (1 ∷ []) $ split ! $ move ! (1 ∷ []) $ split ! $ move ! (1 ∷ []) $ split ! $
+      move ! (1 ∷ []) $ split ! $ move ! (1 ∷ []) $ split ! $
+      -- [the sixth; none; the fifth, the fourth, the third, the second, the first]
+      move ! (2 ∷ 1 ∷ []) $ join ! $ move ! (2 ∷ 0 ∷ []) $ join ! $ move ! (2 ∷ 0 ∷ []) $ join ! $
+      move ! (3 ∷ 0 ∷ []) $ join ! $ move ! (2 ∷ 1 ∷ []) $ join ! $ move ! (1 ∷ 0 ∷ []) $ join ! $ done !
+
+  pub taken_back : ent 𝓤 (sep 𝓤 Left Aside) (toks 𝓛 6 κs qs)
+  taken_back =
+      qed 𝓛 (((‵ (flft κs.0 qs.0) ⊛ ‵ (flft κs.1.1.0 qs.1.1.0) ⊛ ‵ (flft κs.1.1.1.0 qs.1.1.1.0)
+      ⊛ ‵ (flft κs.1.1.1.1.0 qs.1.1.1.1.0) ⊛ ‵ ftrue)
+      ⊛ (‵ (flft κs.1.0 qs.1.0) ⊛ ‵ (flft κs.1.1.1.1.1.0 qs.1.1.1.1.1.0))) ∷ []) ∵
+      split ! $ split ! $ move ! (1 ∷ []) $ split ! $ move ! (1 ∷ []) $ split ! $ move ! (1 ∷ []) $ split ! $
+      -- [the fifth; none; the fourth, the third, the first; the others]
+      move ! (5 ∷ []) $ split ! $
+      -- [the second; the sixth; the fifth; none; the fourth, the third, the first]
+      move ! (1 ∷ 3 ∷ []) $ join ! $ move ! (2 ∷ 0 ∷ []) $ join ! $ move ! (2 ∷ 0 ∷ []) $ join ! $
+      move ! (2 ∷ 0 ∷ []) $ join ! $ move ! (1 ∷ 0 ∷ []) $ join ! $ move ! (1 ∷ 0 ∷ []) $ join ! $ done !
+
+module _ {T S : Type 0} (eq : T → T → Bool) (old new : SetState T S) (t : T) where
+  -- where nothing was refused, there is a last element
+  pub there_is_last : (y : Option T) (o : Option (Bor T)) → PutsElement eq old new t y
+      → option_copied o ≡ last_of (elements_of new) → y ≡ None → IsSome o
+  there_is_last None None s is empty = absurd (cc (is, inserted_last eq old new t s.0 s.1))
+  there_is_last None (Some x) s is empty = refl
+  there_is_last (Some y) o s is empty = absurd (cc)
+
+  -- the answer is that of an insert
+  pub answers_insert : (y : Option T) (o : Option (Bor T)) (a : Result (Bor T) T) → PutsElement eq old new t y
+      → option_copied o ≡ last_of (elements_of new)
+      → IfOk a (λ x. (y ≡ None) × (option_copied o ≡ Some x.now)) → IfErr a (λ x. y ≡ Some x)
+      → GetsOrInserts eq old new t (as_seen a)
+  answers_insert y o (Ok x) s is lent refused =
+      let put = subst (PutsElement eq old new t) lent.0 s in
+      let stored : Some x.now ≡ Some (stored_element eq (elements_of old) t)
+      = sym lent.1 ∙ is ∙ inserted_last eq old new t put.0 put.1 in
+      (put.0, put.1, cc)
+  answers_insert y o (Err x) s is lent refused = subst (PutsElement eq old new t) refused s
+
+  pub is_stored : (a : Result (Bor T) T) → GetsOrInserts eq old new t (as_seen a)
+      → IfOk a (λ x. x.now ≡ stored_element eq (elements_of old) t)
+  is_stored (Ok x) s = s.2
+  is_stored (Err x) s = tt
+
+  pub is_given : (a : Result (Bor T) T) → GetsOrInserts eq old new t (as_seen a) → IfErr a (λ x. x ≡ t)
+  is_given (Ok x) s = tt
+  is_given (Err x) s = ap (λ e. e.0) s.handed_back
+
+-- the same where a closure may make these
+module _ {T S : Type 0} (eq : T → T → Bool) (Makes : T → Type 0) (old new : SetState T S) (t : T) where
+  -- what was made and refused, from an answer that has it
+  pub element_made : (r : Result (Unit {0}) T) (o : Option T) → o ≡ result_err r
+      → OnOk r ((x : T) × (last_of (elements_of new) ≡ Some x) × GetsOrMakes eq Makes old new t (Ok x))
+      → IfErr r (λ x. GetsOrMakes eq Makes old new t (Err x)) → MakesElement eq Makes old new t o
+  element_made (Ok u) o is moved refused = subst (MakesElement eq Makes old new t) (sym is) moved
+  element_made (Err x) o is moved refused = subst (MakesElement eq Makes old new t) (sym is) refused
+
+  pub there_is_made : (y : Option T) (o : Option (Bor T)) → MakesElement eq Makes old new t y
+      → option_copied o ≡ last_of (elements_of new) → y ≡ None → IsSome o
+  there_is_made None None s is empty = absurd (cc (is, s.1))
+  there_is_made None (Some x) s is empty = refl
+  there_is_made (Some y) o s is empty = absurd (cc)
+
+  pub answers_made : (y : Option T) (o : Option (Bor T)) (a : Result (Bor T) T) → MakesElement eq Makes old new t y
+      → option_copied o ≡ last_of (elements_of new)
+      → IfOk a (λ x. (y ≡ None) × (option_copied o ≡ Some x.now)) → IfErr a (λ x. y ≡ Some x)
+      → GetsOrMakes eq Makes old new t (as_seen a)
+  answers_made y o (Ok x) s is lent refused =
+      let put = subst (MakesElement eq Makes old new t) lent.0 s in
+      let stands : Some put.0 ≡ Some x.now = sym (sym lent.1 ∙ is ∙ put.1) in
+      let same : put.0 ≡ x.now = cc in
+      subst (λ z. GetsOrMakes eq Makes old new t (Ok z)) same put.2
+  answers_made y o (Err x) s is lent refused = subst (MakesElement eq Makes old new t) refused s
+
+  pub is_lent : (a : Result (Bor T) T) → GetsOrMakes eq Makes old new t (as_seen a)
+      → IfOk a (λ x. UnwrapsOrElse (find (eq t) (elements_of old)) Makes x.now)
+  is_lent (Ok x) s = s.0
+  is_lent (Err x) s = tt
+
+  pub is_made : (a : Result (Bor T) T) → GetsOrMakes eq Makes old new t (as_seen a) → IfErr a Makes
+  is_made (Ok x) s = tt
+  is_made (Err x) s = s.1

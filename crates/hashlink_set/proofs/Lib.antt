@@ -1,0 +1,8 @@
+pub mod Lookups
+pub mod LentLast
+pub mod Looking
+pub mod Moved
+pub mod OfClones
+pub mod Retaining
+pub mod Stored
+pub mod Taking

@@ -1,0 +1,24 @@
+-- A move of an element, as the map's move of a key whose value is nothing.
+use Rattle.std.proofs.Common.{◌≡◌, ℕ, Bool, true, false, cond, List, [], ◌∷◌, Some, refl, sym, ap, subst, ◌∙◌}
+use Rattle.std.specs.Map.{lookup, set_value}
+use Rattle.hashlink_model.specs.Entries.{moved}
+use Rattle.hashlink_model.specs.MapState.{Changes}
+use Rattle.hashlink_model.specs.Steps.{Moves, MovesAndWrites}
+use Rattle.hashlink_model.specs.Sets.{SetState}
+
+-- nothing that is written changes nothing
+set_value-nothing : {T : Type 0} (test : T → Bool) (es : List (T × Unit {0})) → set_value test es tt ≡ es
+set_value-nothing test [] = refl
+set_value-nothing test (e ∷ es) = by (test e.0) (set_value-nothing test es)
+  where
+    by : (b : Bool) → set_value test es tt ≡ es → cond b ((e.0, tt) ∷ es) (e ∷ set_value test es tt) ≡ e ∷ es
+    by true h = refl
+    by false h = ap (λ r. e ∷ r) h
+
+module _ {T S : Type 0} (eq : T → T → Bool) (old new : SetState T S) (t : T) (b : ℕ) where
+  pub moved-element : Some tt ≡ lookup (eq t) old.entries → MovesAndWrites eq old new t b tt
+      → Moves eq old new t b (Some tt)
+  moved-element found s =
+      let same : new ≡ s.between =
+      s.writes ∙ ap (λ es. record s.between { entries = es }) (set_value-nothing (eq t) s.between.entries) in
+      record { answer = found; step = subst (λ m. Changes old m (moved eq old.entries t b) 6) (sym same) s.moves }

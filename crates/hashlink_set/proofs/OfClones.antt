@@ -1,0 +1,91 @@
+-- What a set is that was made of clones of distinct elements.
+use Rattle.std.proofs.Common.{◌≡◌, Bool, true, cond, List, [], ◌∷◌, ◌++◌, Option, None, Some, Ok, map, refl, ap, ap₂}
+use Rattle.std.proofs.Common.{subst, sym, ◌∙◌, append-nil}
+use Rattle.std.specs.Borrow.{Bor}
+use Rattle.std.specs.Cmp.{IsEquivalence}
+use Rattle.std.specs.Iterator.{Yields, Drains}
+use Rattle.std.specs.List.{AllZip, IsDistinct}
+use Rattle.std.specs.Map.{keys_of}
+use Rattle.std.specs.Map.Iter.{TakesFirst, deref}
+use Rattle.hashlink_model.specs.Compare.{elements_eq}
+use Rattle.hashlink_model.specs.Entries.{extended}
+use Rattle.hashlink_model.specs.Many.{AcceptsAll, MadeFrom, InsertsPair}
+use Rattle.hashlink_model.specs.MapState.{empty_map}
+use Rattle.hashlink_model.specs.Sets.{SetState, elements_of, pairs_of, SetInserts}
+use Rattle.hashlink_model.proofs.InTurn.{accepts_entries}
+use Rattle.hashlink_model.proofs.SetElements.{own_elements, clone_of_a_set}
+use Rattle.hashlink_set.specs.Cloned.{IsOfClones}
+
+-- one more of each
+pub zip_another : {A B : Type 0} (C : A → B → Type 0) (xs : List A) (ys : List B) (x : A) (y : B) → AllZip C xs ys
+    → C x y
+    → AllZip C (xs ++ x ∷ []) (ys ++ y ∷ [])
+zip_another C [] [] x y z c = (c, tt)
+zip_another C [] (b ∷ ys) x y z c = absurd z
+zip_another C (a ∷ xs) [] x y z c = absurd z
+zip_another C (a ∷ xs) (b ∷ ys) x y z c = (z.0, zip_another C xs ys x y z.1 c)
+
+zip_same : {T : Type 0} (C : T → T → Type 0) → ((x y : T) → C x y → y ≡ x) → (xs ys : List T) → AllZip C xs ys
+    → ys ≡ xs
+zip_same C f [] [] z = refl
+zip_same C f [] (b ∷ ys) z = absurd z
+zip_same C f (a ∷ xs) [] z = absurd z
+zip_same C f (a ∷ xs) (b ∷ ys) z = ap₂ (λ p ps. p ∷ ps) (f a b z.0) (zip_same C f xs ys z.1)
+
+zip_weaken : {T : Type 0} (C D : T → T → Type 0) → ((x y : T) → C x y → D x y) → (xs ys : List T) → AllZip C xs ys
+    → AllZip D xs ys
+zip_weaken C D f [] [] z = tt
+zip_weaken C D f [] (b ∷ ys) z = absurd z
+zip_weaken C D f (a ∷ xs) [] z = absurd z
+zip_weaken C D f (a ∷ xs) (b ∷ ys) z = (f a b z.0, zip_weaken C D f xs ys z.1)
+
+module _ {T S : Type 0} (eq : T → T → Bool) where
+  -- a set's inserts in turn are a map's
+  as_pairs : (a b : SetState T S) (ts : List T) → AcceptsAll (SetInserts eq) a ts b
+      → AcceptsAll (InsertsPair eq) a (pairs_of ts) b
+  as_pairs a b [] h = h
+  as_pairs a b (t ∷ ts) h = (h.0, cond h.1 None (Some tt), h.2, as_pairs h.0 b ts h.3)
+
+  made_elements : (clones : List T) (s : S) (new : SetState T S) → MadeFrom (SetInserts eq) clones s new
+      → elements_of new ≡ keys_of (extended eq [] (pairs_of clones))
+  made_elements clones s new made =
+      ap keys_of
+      (accepts_entries eq (empty_map s) new (pairs_of clones) (as_pairs (empty_map s) new clones made))
+
+  module _ (laws : IsEquivalence eq) (C : T → T → Type 0) (H : S → Type 0) (ts : List T) (distinct : IsDistinct eq ts)
+      (s : S) (hasher : H s) (new : SetState T S) where
+    pub is_of_clones : (clones : List T) → AllZip C ts clones → MadeFrom (SetInserts eq) clones s new
+        → IsOfClones eq C H ts new
+    is_of_clones clones cloned made = record {
+      hash_builder = s;
+      hasher = hasher;
+      clones = clones;
+      cloned = cloned;
+      made = made;
+      equal = λ f. ap (elements_eq eq ts) (made_elements clones s new made)
+          ∙ clone_of_a_set eq laws ts clones distinct (zip_weaken C (λ x y. eq x y ≡ true) f ts clones cloned);
+      same = λ f. made_elements clones s new made
+          ∙ ap (λ xs. keys_of (extended eq [] (pairs_of xs))) (zip_same C f ts clones cloned)
+          ∙ own_elements eq laws ts distinct;
+    }
+
+    -- the same of the items that a walk gave
+    pub is_of_items : (items : List (Bor T)) (clones : List T) → map deref items ≡ ts
+        → AllZip C (map deref items) clones
+        → MadeFrom (SetInserts eq) clones s new
+        → IsOfClones eq C H ts new
+    is_of_items items clones is cloned made = is_of_clones clones (subst (λ xs. AllZip C xs clones) is cloned) made
+
+-- a walk whose steps take the first of what it has left to give gives all of it
+module _ {St T : Type 0} (steps : St → Option (Bor T) → St → Type 0) (rest : St → List T)
+    (takes : (s : St) (r : Option (Bor T)) (t : St) → steps s r t → TakesFirst deref (rest s) r (rest t)) where
+  given_front : (s : St) (xs : List (Bor T)) (t : St) → Yields steps s xs t → rest s ≡ map deref xs ++ rest t
+  given_front s [] t y = ap rest y
+  given_front s (x ∷ xs) t y = takes s (Some x) y.0 y.1 ∙ ap (λ l. x.now ∷ l) (given_front y.0 xs t y.2)
+
+  pub given_all : (s : St) (xs : List (Bor T)) → Drains steps s xs → map deref xs ≡ rest s
+  given_all s xs d =
+      let y = d.1 in
+      sym
+      (given_front s xs y.0 y.1 ∙ ap (λ l. map deref xs ++ l) (takes y.0 None d.0 y.2).0
+      ∙ append-nil (map deref xs))

@@ -1,0 +1,49 @@
+-- What the calls of a closure at pairs are to another one that it calls at each element.
+use denote.Param.Always.{mut_next}
+use Rattle.std.proofs.Common.{◌≡◌, Bool, List, [], ◌∷◌, refl, ap, subst}
+use Rattle.std.specs.Borrow.{Bor}
+use Rattle.std.specs.Fn.{Mut, CalledAt, always_mut}
+use Rattle.std.specs.List.{FoldsTo}
+use Rattle.std.specs.Map.Calls.{CallableOnEachPair, SomeCallAtPair}
+use Rattle.hashlink_model.specs.Retain.{KeepsInOrder, RetainsInOrder}
+use Rattle.hashlink_model.specs.Sets.{SetState, at_element}
+
+module _ {C F T : Type 0} (see : C → F) (P : C → T → Unit {0} → Bool → Unit {0} → C → Type 0)
+    (Q : F → T → Unit {0} → Bool → Unit {0} → F → Type 0)
+    (says : (c : C) (t : T) (b : Bool) (d : C) → P c t tt b tt d → Q (see c) t tt b tt (see d)) where
+  calls_seen : (c : C) (es kept : List (T × Unit {0})) (d : C) → KeepsInOrder P c es kept d
+      → KeepsInOrder Q (see c) es kept (see d)
+  calls_seen c [] kept d r = (r.0, ap see r.1)
+  calls_seen c (e ∷ es) kept d r =
+      (r.0, r.1, see r.2, r.3, says c e.0 r.0 r.2 r.4, calls_seen r.2 es r.3 d r.5, r.6)
+
+  pub retains_seen : {S : Type 0} (old new : SetState T S) (c d : C) → RetainsInOrder P c old new d
+      → RetainsInOrder Q (see c) old new (see d)
+  retains_seen old new c d r =
+      record { kept = r.kept; calls = calls_seen c old.entries r.kept d r.calls; keeps = r.keeps }
+
+  folds_seen : (c : C) (es : List (T × Unit {0})) (d : C) → FoldsTo (SomeCallAtPair P) c es d
+      → FoldsTo (SomeCallAtPair Q) (see c) es (see d)
+  folds_seen c [] d h = ap see h
+  folds_seen c (e ∷ es) d h =
+      let step = h.1 in
+      (see h.0, (step.0, step.1, says c e.0 step.0 h.0 step.2), folds_seen h.0 es d h.2)
+
+  pub callable_seen : (may : C → T → Unit {0} → Type 0) (takes : F → T → Unit {0} → Type 0)
+      → ((c : C) (t : T) → takes (see c) t tt → may c t tt)
+      → (c : C) (es : List (T × Unit {0})) → CallableOnEachPair Q takes (see c) es → CallableOnEachPair P may c es
+  callable_seen may takes serves c es h = record {
+    at = λ before after d t v e calls. serves d t (h.at before after (see d) t v e (folds_seen c before d calls));
+  }
+
+-- a closure that may be called on any element may be called on each, as the calls before have left it
+module _ {F T : Type 0} (calls : Mut F (Bor T × Unit {0}) Bool) where
+  still_callable : (f : F) (es : List (T × Unit {0})) (g : F)
+      → FoldsTo (SomeCallAtPair (at_element (CalledAt calls))) f es g → always_mut calls f → always_mut calls g
+  still_callable f [] g h always = subst (always_mut calls) h always
+  still_callable f (e ∷ es) g h always =
+      still_callable h.0 es g h.2 (mut_next calls _ _ _ _ _ h.1.2.called refl always)
+
+  pub callable_always : (f : F) (es : List (T × Unit {0})) → always_mut calls f
+      → CallableOnEachPair (at_element (CalledAt calls)) (λ g _ _. always_mut calls g) f es
+  callable_always f es always = record { at = λ before after g t v is h. still_callable f before g h always }

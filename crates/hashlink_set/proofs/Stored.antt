@@ -1,0 +1,114 @@
+-- Which element stands last after one came in or moved there.
+use Rattle.std.proofs.Common.{◌≡◌, ℕ, ◌-◌, Result, Bool, true, false, List, [], ◌∷◌, ◌++◌, length, Option, None}
+use Rattle.std.proofs.Common.{Some, Ok, Err}
+use Rattle.std.proofs.Common.{cond, ◌||◌, is_some, unwrap_or, refl, sym, ap, subst, ◌∙◌, arith, length-append}
+use Rattle.std.specs.Prelude.{IfOk, IfErr}
+use Rattle.std.specs.Cmp.{IsEquivalence}
+use Rattle.std.specs.List.{find, IsDistinct}
+use Rattle.std.specs.Map.{keys_of, lookup}
+use Rattle.std.specs.Set.{is_member, remove_key}
+use Rattle.std.proofs.lemmas.Map.Entries.{length-keys_of}
+use Rattle.std.proofs.lemmas.Map.Made.{is_some-lookup}
+use Rattle.hashlink_model.specs.MapState.{AddsEntry, RefusesEntry}
+use Rattle.hashlink_model.specs.Sets.{SetState, elements_of, put_element, stored_element, SetInserts, SetReplaces}
+use Rattle.hashlink_model.specs.Steps.{Moves}
+use Rattle.hashlink_model.specs.Walk.{last_of}
+use Rattle.hashlink_model.proofs.Places.{slice_get_here}
+use Rattle.hashlink_model.proofs.SetElements.{moves_elements, set_inserts, set_replaces, put_element_back}
+use Rattle.hashlink_model.proofs.SetSteps.{IsDistinct-replaced}
+use Rattle.hashlink_set.specs.Made.{GetsOrMakes}
+
+last_of-end : {X : Type 0} (xs : List X) (x : X) → last_of (xs ++ x ∷ []) ≡ Some x
+last_of-end xs x =
+    let n : length (xs ++ x ∷ []) - 1 ≡ length xs = omega (arith, length-append xs (x ∷ [])) in
+    rw (n, slice_get_here xs x []) refl
+
+found_by : {T : Type 0} (b : Bool) (x : T) (o : Option T) (c : Bool) → is_some o ≡ c
+    → is_some (cond b (Some x) o) ≡ (b || c)
+found_by true x o c h = refl
+found_by false x o c h = h
+
+is_some-find : {T : Type 0} (eq : T → T → Bool) (t : T) (ts : List T) → is_some (find (eq t) ts) ≡ is_member eq ts t
+is_some-find eq t [] = refl
+is_some-find eq t (x ∷ ts) = found_by (eq t x) x (find (eq t) ts) (is_member eq ts t) (is_some-find eq t ts)
+
+last_put : {T : Type 0} (eq : T → T → Bool) (ts : List T) (t : T)
+    → last_of (put_element eq ts t (length ts)) ≡ Some (stored_element eq ts t)
+last_put eq ts t = ap last_of (put_element_back eq ts t) ∙ last_of-end (remove_key (eq t) ts) (stored_element eq ts t)
+
+module _ {T S : Type 0} (eq : T → T → Bool) where
+  module _ (old new : SetState T S) (t : T) where
+    pub inserted_last : (b : Bool) → SetInserts eq old new t (Ok b)
+        → last_of (elements_of new) ≡ Some (stored_element eq (elements_of old) t)
+    inserted_last b s = ap last_of (set_inserts eq old new t b s).0 ∙ last_put eq (elements_of old) t
+
+    -- an element that was absent before an insert went in
+    pub inserts_absent : is_member eq (elements_of old) t ≡ false → (b : Bool) → SetInserts eq old new t (Ok b)
+        → AddsEntry eq old new t tt (length old.entries)
+    inserts_absent m true s = s
+    inserts_absent m false s =
+        let there : true ≡ false = sym (ap is_some s.old_value) ∙ is_some-lookup (eq t) old.entries ∙ m in
+        absurd (cc)
+
+    pub added_last : AddsEntry eq old new t tt (length old.entries) → last_of (elements_of new) ≡ Some t
+    added_last s =
+        let absent : is_some (find (eq t) (elements_of old)) ≡ false
+        = is_some-find eq t (elements_of old) ∙ sym (is_some-lookup (eq t) old.entries) ∙ ap is_some s.absent in
+        inserted_last true s ∙ by (find (eq t) (elements_of old)) absent
+      where
+        by : (o : Option T) → is_some o ≡ false → Some (unwrap_or o t) ≡ Some t
+        by None h = refl
+        by (Some x) h = absurd (cc)
+
+    -- what is lent where an element was there
+    pub moved_gets : (Makes : T → Type 0) → Moves eq old new t (length old.entries) (Some tt)
+        → (x : T) × (last_of (elements_of new) ≡ Some x) × GetsOrMakes eq Makes old new t (Ok x)
+    moved_gets Makes s =
+        let e = moves_elements eq old new t (length old.entries) (Some tt) s in
+        let n = length-keys_of old.entries in
+        let last : last_of (elements_of new) ≡ Some (stored_element eq (elements_of old) t)
+        = ap last_of e.0 ∙ ap (λ i. last_of (put_element eq (elements_of old) t i)) (sym n)
+        ∙ last_put eq (elements_of old) t in
+        by (find (eq t) (elements_of old)) refl (is_some-find eq t (elements_of old) ∙ sym e.1) last
+      where
+        by : (o : Option T) → find (eq t) (elements_of old) ≡ o → is_some o ≡ true
+            → last_of (elements_of new) ≡ Some (unwrap_or o t)
+            → (x : T) × (last_of (elements_of new) ≡ Some x) × GetsOrMakes eq Makes old new t (Ok x)
+        by None h some last = absurd (cc)
+        by (Some x) h some last = (x, last, rw h (refl, s))
+
+  module _ (old new : SetState T S) (t x : T) (Makes : T → Type 0) (none : find (eq t) (elements_of old) ≡ None)
+      (made : Makes x) where
+    pub made_gets : AddsEntry eq old new x tt (length old.entries)
+        → (y : T) × (last_of (elements_of new) ≡ Some y) × GetsOrMakes eq Makes old new t (Ok y)
+    made_gets s = (x, added_last old new x s, rw none (made, s))
+
+    pub made_refused : (y : T) → RefusesEntry eq old new x tt (y, tt) → GetsOrMakes eq Makes old new t (Err y)
+    made_refused y s =
+        let same : y ≡ x = ap (λ p. p.0) s.handed_back in
+        subst (λ z. GetsOrMakes eq Makes old new t (Err z)) (sym same)
+        (none, made, subst (λ z. RefusesEntry eq old new x tt (z, tt)) same s)
+
+-- what a move that found nothing leaves
+module _ {T S : Type 0} (eq : T → T → Bool) (old new : SetState T S) (t : T) (b : ℕ)
+    (s : Moves eq old new t b None) where
+  pub absent_unmoved : find (eq t) (elements_of old) ≡ None
+  absent_unmoved =
+      let none : is_some (find (eq t) (elements_of old)) ≡ false
+      = is_some-find eq t (elements_of old) ∙ sym (is_some-lookup (eq t) old.entries) ∙ ap is_some (sym s.answer) in
+      by (find (eq t) (elements_of old)) none
+    where
+      by : (o : Option T) → is_some o ≡ false → o ≡ None
+      by None h = refl
+      by (Some x) h = absurd (cc)
+
+  pub same_unmoved : new ≡ old
+  same_unmoved = s.step
+
+-- no two elements are equal after a replace, as before
+module _ {T S : Type 0} {eq : T → T → Bool} (laws : IsEquivalence eq) (old new : SetState T S) (t : T) where
+  pub replaces_distinct : (r : Result (Option T) (T × Unit {0})) → IfOk r (λ o. SetReplaces eq old new t (Ok o))
+      → IfErr r (RefusesEntry eq old new t tt) → IsDistinct eq (elements_of old) → IsDistinct eq (elements_of new)
+  replaces_distinct (Ok o) s f d =
+      subst (IsDistinct eq) (sym (set_replaces eq old new t o s).0) (IsDistinct-replaced eq laws (elements_of old) t d)
+  replaces_distinct (Err p) s f d = subst (λ es. IsDistinct eq (keys_of es)) (sym f.grows.entries) d

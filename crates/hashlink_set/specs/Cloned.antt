@@ -1,0 +1,18 @@
+-- What a set is that was made of clones.
+use Rattle.std.specs.Prelude.{◌≡◌, Bool, true, List}
+use Rattle.std.specs.List.{AllZip}
+use Rattle.hashlink_model.specs.Compare.{elements_eq}
+use Rattle.hashlink_model.specs.Many.{MadeFrom}
+use Rattle.hashlink_model.specs.Sets.{SetState, elements_of, SetInserts}
+
+-- a clone of each of ts was inserted in turn into an empty set, with a hasher of which H holds. So the set has ts
+-- where clones are their sources, and is equal to ts where they are equal to them
+pub record IsOfClones {T S : Type 0} (eq : T → T → Bool) (clones-element : T → T → Type 0) (H : S → Type 0)
+    (ts : List T) (new : SetState T S) : Type 0 where
+  pub hash_builder : S
+  pub hasher : H hash_builder
+  pub clones : List T
+  pub cloned : AllZip clones-element ts clones
+  pub made : MadeFrom (SetInserts eq) clones hash_builder new
+  pub equal : ((x y : T) → clones-element x y → eq x y ≡ true) → elements_eq eq ts (elements_of new) ≡ true
+  pub same : ((x y : T) → clones-element x y → y ≡ x) → elements_of new ≡ ts

@@ -1,0 +1,8 @@
+-- What the contracts of the set cite, beside `hashlink_model`.
+pub mod Answers
+pub mod Cloned
+pub mod Compared
+pub mod Drain
+pub mod Made
+pub mod SetLends
+pub mod Walks

@@ -1,0 +1,104 @@
+//! Set algebra, by lazy walks and by tests. None of these takes memory. A step of a walk hashes each element that it
+//! looks for in the other set, once.
+ghost use Rattle.std.specs.Prelude.{◌≡◌};
+ghost use Rattle.std.specs.List.{IsDistinct};
+ghost use Rattle.hashlink_model.specs.Algebra.{difference_of, intersection_of, union_of, symmetric_difference_of};
+ghost use Rattle.hashlink_model.specs.Algebra.{is_subset, is_disjoint};
+ghost use Rattle.hashlink_model.specs.Sets.{elements_of};
+
+mod difference;
+mod intersection;
+mod symmetric_difference;
+mod union;
+
+use crate::set::LinkedHashSet;
+pub use difference::Difference;
+pub use intersection::Intersection;
+use std::hash::{BuildHasher, Hash};
+pub use symmetric_difference::SymmetricDifference;
+pub use union::Union;
+
+impl<T: Eq + Hash, S: BuildHasher> LinkedHashSet<T, S> {
+    ghost use Rattle.hashlink_set.specs.Walks.{difference_rest, intersection_rest, union_rest, union_walk};
+    ghost use Rattle.hashlink_set.specs.Walks.{symmetric_difference_rest, symmetric_difference_walk};
+
+    /// A walk over the elements that `other` lacks, in their order.
+    pub fn difference<'a>(&'a self, other: &'a Self) -> Difference<'a, T, S>
+        ensures rest { difference_rest T.eq result
+            ≡ difference_of T.eq (elements_of self.now) (elements_of other.now) }
+        ensures unique { IsDistinct T.eq (difference_rest T.eq result) }
+        ensures left { result.iter ≡ elements_of self.now }
+        ensures other { result.other.now ≡ other.now }
+        ensures distinct { IsDistinct T.eq (elements_of self.now) }
+    {
+        Difference {
+            iter: self.iter(),
+            other,
+        }
+    }
+
+    /// A walk over the elements that `other` has, in the order of this set.
+    pub fn intersection<'a>(&'a self, other: &'a Self) -> Intersection<'a, T, S>
+        ensures rest { intersection_rest T.eq result
+            ≡ intersection_of T.eq (elements_of self.now) (elements_of other.now) }
+        ensures unique { IsDistinct T.eq (intersection_rest T.eq result) }
+        ensures left { result.iter ≡ elements_of self.now }
+        ensures other { result.other.now ≡ other.now }
+    {
+        Intersection {
+            iter: self.iter(),
+            other,
+        }
+    }
+
+    /// A walk over the elements of this set, and then over those of `other` that this set lacks.
+    pub fn union<'a>(&'a self, other: &'a Self) -> Union<'a, T, S>
+        ensures rest { union_rest T.eq result ≡ union_of T.eq (elements_of self.now) (elements_of other.now) }
+        ensures unique { IsDistinct T.eq (union_rest T.eq result) }
+        ensures walk { union_walk result ≡ record { left = elements_of self.now; right = elements_of other.now } }
+        ensures other { result.second.other.now ≡ self.now }
+    {
+        Union {
+            first: self.iter(),
+            second: other.difference(self),
+        }
+    }
+
+    /// A walk over the elements that `other` lacks, and then over those of `other` that this set lacks.
+    pub fn symmetric_difference<'a>(&'a self, other: &'a Self) -> SymmetricDifference<'a, T, S>
+        ensures rest { symmetric_difference_rest T.eq result
+            ≡ symmetric_difference_of T.eq (elements_of self.now) (elements_of other.now) }
+        ensures unique { IsDistinct T.eq (symmetric_difference_rest T.eq result) }
+        ensures walk { symmetric_difference_walk result
+            ≡ record { left = elements_of self.now; right = elements_of other.now } }
+        ensures first { result.first.other.now ≡ other.now }
+        ensures second { result.second.other.now ≡ self.now }
+    {
+        SymmetricDifference {
+            first: self.difference(other),
+            second: other.difference(self),
+        }
+    }
+
+    /// Whether no element of this set is in `other`. It looks for each element of this set, up to the first that is.
+    pub fn is_disjoint(&self, other: &Self) -> bool
+        ensures { result ≡ is_disjoint T.eq (elements_of self.now) (elements_of other.now) }
+    {
+        self.intersection(other).next().is_none()
+    }
+
+    /// Whether each element of this set is in `other`. It looks for each element of this set, up to the first that is
+    /// not.
+    pub fn is_subset(&self, other: &Self) -> bool
+        ensures { result ≡ is_subset T.eq (elements_of self.now) (elements_of other.now) }
+    {
+        self.difference(other).next().is_none()
+    }
+
+    /// Whether each element of `other` is in this set.
+    pub fn is_superset(&self, other: &Self) -> bool
+        ensures { result ≡ is_subset T.eq (elements_of other.now) (elements_of self.now) }
+    {
+        other.is_subset(self)
+    }
+}

@@ -1,0 +1,142 @@
+//! Sets that are made whole: of the items of an iterator, as a clone, and of clones of what two sets give together.
+ghost use Rattle.std.specs.Prelude.{◌≡◌, List, Bool, Ok, IfOk, OnOk, map};
+ghost use Rattle.std.specs.Borrow.{Bor};
+ghost use Rattle.std.specs.Iterator.{Drains, IsFinite, IsFiniteIterable};
+ghost use Rattle.std.specs.List.{AllZip};
+ghost use Rattle.std.specs.Map.Iter.{deref};
+ghost use Rattle.hashlink_model.specs.Algebra.{union_of, intersection_of, difference_of, symmetric_difference_of};
+ghost use Rattle.hashlink_model.specs.Many.{MadeFrom};
+ghost use Rattle.hashlink_model.specs.Sets.{elements_of, SetInserts};
+ghost use Rattle.hashlink_map.specs.Reading.{ReadsAll};
+ghost use Rattle.hashlink_set.specs.Cloned.{IsOfClones};
+
+use crate::set::LinkedHashSet;
+use std::alloc::{AllocError, Global};
+use std::hash::{BuildHasher, Hash};
+use std::ops::{BitAnd, BitOr, BitXor, Sub};
+
+impl<T: Eq + Hash + Drop, S: BuildHasher + Default + Drop> LinkedHashSet<T, S> {
+    /// A set of the items, each inserted in turn as `insert` does, that hashes by `S::default()`. The iterator has to
+    /// end. No room is made before an item needs it.
+    ///
+    /// It answers `AllocError` where the memory for an item is refused, and then nothing is left of the set.
+    pub fn from_iter<I: IntoIterator<Item = T>>(alloc: Global, iter: I) -> Result<Self, AllocError>
+        requires { IsFiniteIterable I.into_iter_gives I.IntoIter.can_next I.IntoIter.remaining iter }
+        ensures { IfOk result (λ set. (s : S) × S.is_default s
+            × ReadsAll I.into_iter_gives I.IntoIter.next_gives iter
+            (λ items. MadeFrom (SetInserts T.eq) items s set)) }
+    {
+        let mut set = LinkedHashSet::with_hasher(alloc, S::default());
+        set.extend(iter)?;
+        Ok(set)
+    }
+}
+
+impl<T: Eq + Hash + Clone, S: BuildHasher + Clone> LinkedHashSet<T, S> {
+    /// A set with a clone of the hasher, in which a clone of each element was inserted in turn, front first. It is in
+    /// the same allocator's memory, and has no spare node.
+    ///
+    /// It answers `AllocError` where the memory for a clone or for a node is refused, and then nothing is left of the
+    /// new set.
+    pub fn clone(&self) -> Result<Self, AllocError>
+        ensures { IfOk result (IsOfClones T.eq T.is_clone (S.is_clone self.now.hasher) (elements_of self.now)) }
+    {
+        let hash_builder = self.hasher().clone()?;
+        of_clones(self.alloc, hash_builder, self.iter())
+    }
+}
+
+/// A set that hashes by `hash_builder`, in which a clone of each element that `rest` gives was inserted in turn.
+fn of_clones<'a, T: Eq + Hash + Clone + 'a, S: BuildHasher + Drop, I: Iterator<Item = &'a T>>(
+    alloc: Global,
+    hash_builder: S,
+    mut rest: I,
+) -> Result<LinkedHashSet<T, S>, AllocError>
+    requires may { I.can_next rest }
+    requires ends { IsFinite (I.remaining rest) }
+    ensures { IfOk result (λ set. (items : List (Bor T)) × (clones : List T) × Drains I.next_gives rest items
+        × AllZip T.is_clone (map deref items) clones × MadeFrom (SetInserts T.eq) clones hash_builder set) }
+{
+    let mut set = LinkedHashSet::with_hasher(alloc, hash_builder);
+    while let Some(element) = rest.next() {
+        set.insert_clone(element)?;
+    }
+    Ok(set)
+}
+
+impl<T: Eq + Hash + Clone, S: BuildHasher> LinkedHashSet<T, S> {
+    /// Inserts a clone of the element.
+    fn insert_clone(&mut self, element: &T) -> Result<(), AllocError>
+        ensures { OnOk result ((clone : T) × (new : Bool) × T.is_clone element.now clone
+            × SetInserts T.eq self.old self.new clone (Ok new)) }
+    {
+        match self.insert(element.clone()?) {
+            Ok(_) => Ok(()),
+            Err(_) => Err(AllocError),
+        }
+    }
+}
+
+/// `&a | &b`: clones of what `union` gives, in the left set's allocator's memory.
+///
+/// It answers `AllocError` where the memory for a clone or for a node is refused, and then nothing is left of the new
+/// set.
+impl<'a, 'b, T: Eq + Hash + Clone, S: BuildHasher + Default + Drop> BitOr<&'b LinkedHashSet<T, S>>
+    for &'a LinkedHashSet<T, S> {
+    type Output = Result<LinkedHashSet<T, S>, AllocError>;
+
+    ghost bitor_gives = { λ a b r. IfOk r (IsOfClones T.eq T.is_clone S.is_default
+        (union_of T.eq (elements_of a.now) (elements_of b.now))) };
+
+    fn bitor(self, other: &'b LinkedHashSet<T, S>) -> Result<LinkedHashSet<T, S>, AllocError> {
+        of_clones(self.alloc, S::default(), self.union(other))
+    }
+}
+
+/// `&a & &b`: clones of what `intersection` gives, in the left set's allocator's memory.
+///
+/// It answers `AllocError` where the memory for a clone or for a node is refused, and then nothing is left of the new
+/// set.
+impl<'a, 'b, T: Eq + Hash + Clone, S: BuildHasher + Default + Drop> BitAnd<&'b LinkedHashSet<T, S>>
+    for &'a LinkedHashSet<T, S> {
+    type Output = Result<LinkedHashSet<T, S>, AllocError>;
+
+    ghost bitand_gives = { λ a b r. IfOk r (IsOfClones T.eq T.is_clone S.is_default
+        (intersection_of T.eq (elements_of a.now) (elements_of b.now))) };
+
+    fn bitand(self, other: &'b LinkedHashSet<T, S>) -> Result<LinkedHashSet<T, S>, AllocError> {
+        of_clones(self.alloc, S::default(), self.intersection(other))
+    }
+}
+
+/// `&a ^ &b`: clones of what `symmetric_difference` gives, in the left set's allocator's memory.
+///
+/// It answers `AllocError` where the memory for a clone or for a node is refused, and then nothing is left of the new
+/// set.
+impl<'a, 'b, T: Eq + Hash + Clone, S: BuildHasher + Default + Drop> BitXor<&'b LinkedHashSet<T, S>>
+    for &'a LinkedHashSet<T, S> {
+    type Output = Result<LinkedHashSet<T, S>, AllocError>;
+
+    ghost bitxor_gives = { λ a b r. IfOk r (IsOfClones T.eq T.is_clone S.is_default
+        (symmetric_difference_of T.eq (elements_of a.now) (elements_of b.now))) };
+
+    fn bitxor(self, other: &'b LinkedHashSet<T, S>) -> Result<LinkedHashSet<T, S>, AllocError> {
+        of_clones(self.alloc, S::default(), self.symmetric_difference(other))
+    }
+}
+
+/// `&a - &b`: clones of what `difference` gives, in the left set's allocator's memory.
+///
+/// It answers `AllocError` where the memory for a clone or for a node is refused, and then nothing is left of the new
+/// set.
+impl<'a, 'b, T: Eq + Hash + Clone, S: BuildHasher + Default + Drop> Sub<&'b LinkedHashSet<T, S>>
+    for &'a LinkedHashSet<T, S> {
+    type Output = Result<LinkedHashSet<T, S>, AllocError>;
+
+    ghost sub_gives = { λ a b r. IfOk r (IsOfClones T.eq T.is_clone S.is_default
+        (difference_of T.eq (elements_of a.now) (elements_of b.now))) };
+
+    fn sub(self, other: &'b LinkedHashSet<T, S>) -> Result<LinkedHashSet<T, S>, AllocError> {
+        of_clones(self.alloc, S::default(), self.difference(other))
+    }
+}

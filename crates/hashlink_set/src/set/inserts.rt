@@ -1,0 +1,174 @@
+//! How elements come in. Each call hashes the element once, and looks for it as `contains` does.
+ghost use Rattle.std.specs.Prelude.{◌≡◌, IsSome, None, option_copied, OnOk, IfOk, IfErr, Ok, Err, Some};
+ghost use Rattle.std.specs.Borrow.{sem};
+ghost use Rattle.std.specs.Fn.{FnOnceReturnsAt};
+ghost use Rattle.std.specs.List.{find};
+ghost use Rattle.std.specs.Option.{UnwrapsOrElse};
+ghost use Rattle.hashlink_model.specs.MapState.{RefusesEntry};
+ghost use Rattle.hashlink_model.specs.Walk.{last_of};
+ghost use Rattle.std.specs.List.{IsDistinct};
+ghost use Rattle.hashlink_model.specs.Sets.{elements_of, stored_element, SetInserts, SetReplaces};
+ghost use Rattle.hashlink_core.specs.Keyed.{state_of};
+ghost use Rattle.hashlink_set.specs.Made.{CanMakeAbsent, GetsOrMakes};
+
+use super::LinkedHashSet;
+use hashlink_map::{Entry, LinkedHashMap};
+use std::hash::{BuildHasher, Hash};
+
+impl<T: Eq + Hash, S: BuildHasher> LinkedHashSet<T, S> {
+    ghost use Rattle.hashlink_set.specs.SetLends.{EndsInserted, EndsMade, StaysAsItWas, PutsElement, MakesElement};
+
+    /// Puts the element last, and answers whether it was new. An equal one that is there stays the object that it is,
+    /// and moves to the end.
+    ///
+    /// It takes memory only for a new element where no node is spare. Where that is refused, the element is handed
+    /// back and nothing changes. It stores at most six links for an element that is there and four for a new one.
+    pub fn insert(&mut self, value: T) -> Result<bool, T>
+    where
+        T: Drop,
+        ensures inserts { SetInserts T.eq self.old self.new value result }
+        ensures distinct { IsDistinct T.eq (elements_of self.new) }
+    {
+        match self.map.insert(value, ()) {
+            Ok(was) => Ok(was.is_none()),
+            Err((value, ())) => Err(value),
+        }
+    }
+
+    /// Puts the element in the place of the equal one that is there, which it answers. A new one goes last.
+    ///
+    /// It takes memory only for a new element where no node is spare. Where that is refused, the element is handed
+    /// back and nothing changes. It stores no link for an element that is there and at most four for a new one.
+    pub fn replace(&mut self, value: T) -> Result<Option<T>, T>
+        ensures replaces { SetReplaces T.eq self.old self.new value result }
+        ensures distinct { IsDistinct T.eq (elements_of self.new) }
+    {
+        match let_in(&mut self.map, value) {
+            Ok(was) => Ok(was),
+            Err((value, ())) => Err(value),
+        }
+    }
+
+    /// Puts the element last, or moves the equal one that is there to the end, and lends the one that then stands
+    /// there: it is `insert`, and then the last element.
+    ///
+    /// It takes memory only for a new element where no node is spare. Where that is refused, the element is handed
+    /// back and nothing changes. It stores at most six links for an element that is there and four for a new one.
+    pub fn get_or_insert(&mut self, value: T) -> Result<&T, T>
+    where
+        T: Drop,
+        ensures* inserts { sem 𝓛 (EndsInserted T.row S.row S.Hasher.row T.Hash S.BuildHasher S.Hasher.Hasher
+            self.entry value result) }
+        ensures lent { IfOk result (λ x. x.now ≡ stored_element T.eq (elements_of self.old) value) }
+        ensures handed_back { IfErr result (λ x. x ≡ value) }
+    {
+        let (set, refused) = self.put_last(value);
+        Self::lent_or_refused(set.last_for_good(), refused)
+    }
+
+    /// Moves the element that is equal to the one given to the end, or puts the one that `f` makes last, and lends the
+    /// one that then stands there. Where none is equal, `f` is called once, and what it makes has to be absent.
+    ///
+    /// It takes memory only for a new element where no node is spare. Where that is refused, what `f` made is handed
+    /// back and nothing changes. It stores at most six links for an element that is there and four for a new one.
+    pub fn get_or_insert_with<F: FnOnce(&T) -> T>(&mut self, value: &T, f: F) -> Result<&T, T>
+    where
+        T: Drop,
+        F: Drop,
+        requires { CanMakeAbsent T.eq F.FnOnce f self.old value.now }
+        ensures* makes { sem 𝓛 (EndsMade T.row S.row S.Hasher.row T.Hash S.BuildHasher S.Hasher.Hasher
+            self.entry value.now (FnOnceReturnsAt F.FnOnce f value.now) result) }
+        ensures lent { IfOk result (λ x. UnwrapsOrElse (find (T.eq value.now) (elements_of self.old))
+            (FnOnceReturnsAt F.FnOnce f value.now) x.now) }
+        ensures made { IfErr result (FnOnceReturnsAt F.FnOnce f value.now) }
+    {
+        let (set, refused) = self.put_or_make(value, f);
+        Self::lent_or_refused(set.last_for_good(), refused)
+    }
+
+    /// The last element, as long as the set is borrowed: the set ends as it was.
+    fn last_for_good(&mut self) -> Option<&T>
+        ensures* unchanged { sem 𝓛 (StaysAsItWas T.row S.row S.Hasher.row T.Hash S.BuildHasher S.Hasher.Hasher
+            self.entry) }
+        ensures last { option_copied result ≡ last_of (elements_of self.old) }
+    {
+        self.back()
+    }
+
+    /// `insert`, which answers the set beside the element that was refused.
+    fn put_last(&mut self, value: T) -> (&mut Self, Option<T>)
+    where
+        T: Drop,
+        ensures same_set { result.0.ghost_name ≡ self.entry.ghost_name }
+        ensures puts { PutsElement T.eq self.old result.0.now value result.1 }
+    {
+        let refused = self.insert(value).err();
+        (self, refused)
+    }
+
+    /// `move_or_make`, which answers the set beside the element that was refused.
+    fn put_or_make<F: FnOnce(&T) -> T>(&mut self, value: &T, f: F) -> (&mut Self, Option<T>)
+    where
+        T: Drop,
+        F: Drop,
+        requires { CanMakeAbsent T.eq F.FnOnce f self.old value.now }
+        ensures same_set { result.0.ghost_name ≡ self.entry.ghost_name }
+        ensures makes { MakesElement T.eq (FnOnceReturnsAt F.FnOnce f value.now) self.old result.0.now value.now
+            result.1 }
+    {
+        let refused = self.move_or_make(value, f).err();
+        (self, refused)
+    }
+
+    /// The element that is lent, or the one that was refused.
+    fn lent_or_refused(lent: Option<&T>, refused: Option<T>) -> Result<&T, T>
+    where
+        T: Drop,
+        requires { refused ≡ None → IsSome lent }
+        ensures lent { IfOk result (λ x. (refused ≡ None) × (option_copied lent.entry ≡ Some x.now)) }
+        ensures refused { IfErr result (λ x. refused ≡ Some x) }
+    {
+        match refused {
+            None => Ok(lent.unwrap()),
+            Some(value) => Err(value),
+        }
+    }
+
+    /// `get_or_insert_with`, before anything is lent.
+    fn move_or_make<F: FnOnce(&T) -> T>(&mut self, value: &T, f: F) -> Result<(), T>
+    where
+        T: Drop,
+        F: Drop,
+        requires { CanMakeAbsent T.eq F.FnOnce f self.old value.now }
+        ensures moved { OnOk result ((x : T) × (last_of (elements_of self.new) ≡ Some x)
+            × GetsOrMakes T.eq (FnOnceReturnsAt F.FnOnce f value.now) self.old self.new value.now (Ok x)) }
+        ensures refused { IfErr result (λ x. GetsOrMakes T.eq (FnOnceReturnsAt F.FnOnce f value.now) self.old
+            self.new value.now (Err x)) }
+    {
+        if self.to_back(value) {
+            return Ok(());
+        }
+        match self.insert(f(value)) {
+            Ok(_) => Ok(()),
+            Err(made) => Err(made),
+        }
+    }
+}
+
+/// `replace`, by the map.
+fn let_in<T: Eq + Hash, S: BuildHasher>(
+    map: &mut LinkedHashMap<T, (), S>,
+    value: T,
+) -> Result<Option<T>, (T, ())>
+    ensures replaced { IfOk result (λ was. SetReplaces T.eq (state_of map.old) (state_of map.new) value (Ok was)) }
+    ensures refused { IfErr result (RefusesEntry T.eq (state_of map.old) (state_of map.new) value tt) }
+    ensures distinct { IsDistinct T.eq (elements_of (state_of map.old)) }
+{
+    match map.entry(value) {
+        Entry::Occupied(entry) => Ok(Some(entry.replace_key())),
+        Entry::Vacant(entry) => {
+            entry.insert(())?;
+            Ok(None)
+        }
+    }
+}

@@ -1,0 +1,26 @@
+//! A walk over a set, from both ends. It takes no memory, and each step takes constant time.
+ghost use Rattle.std.specs.Prelude.{◌≡◌, ◌^◌, ◌<◌, length};
+ghost use Rattle.std.specs.List.{IsDistinct};
+ghost use Rattle.std.specs.Map.Iter.{ShowsInOrder, ShowsInReverse, deref};
+ghost use Rattle.hashlink_model.specs.Sets.{elements_of};
+
+use super::LinkedHashSet;
+use crate::iter::Iter;
+use std::hash::{BuildHasher, Hash};
+
+impl<T: Eq + Hash, S: BuildHasher> LinkedHashSet<T, S> {
+    /// A walk over the elements, front first.
+    pub fn iter(&self) -> Iter<'_, T>
+        ensures rest { result ≡ elements_of self.now }
+        ensures runs { ShowsInOrder (deref {X = T}) }
+        ensures runs_back { ShowsInReverse (deref {X = T}) }
+        ensures fits { length (elements_of self.now) < 2 ^ 63 }
+        ensures distinct { IsDistinct T.eq (elements_of self.now) }
+    {
+        // `len` says that no two elements are equal.
+        let _count = self.len();
+        Iter {
+            keys: self.map.keys(),
+        }
+    }
+}

@@ -1,0 +1,6 @@
+pub mod Dropping
+pub mod Inserted
+pub mod Lasts
+pub mod Moved
+pub mod Totals
+pub mod Walks

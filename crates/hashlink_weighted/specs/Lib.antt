@@ -1,0 +1,4 @@
+-- What the contracts of the cache with a budget cite, beside `hashlink_model`.
+pub mod Answers
+pub mod Lends
+pub mod Weighed

@@ -1,0 +1,46 @@
+-- What holds of the entries inside a cache with a budget, and how a walk shows them.
+use Rattle.std.specs.Prelude.{◌≡◌, ℕ, ◌≤◌, List, [], ◌∷◌, ◌++◌, length, Option, None, Some, Bool}
+use Rattle.std.specs.Borrow.{Bor}
+use Rattle.std.specs.Map.{lookup, lookup_entry}
+use Rattle.hashlink_model.specs.MapState.{empty_map}
+use Rattle.hashlink_model.specs.Steps.{Moves, RemovesKey}
+use Rattle.hashlink_model.specs.Weights.{WeightedState, total_weight}
+
+-- a cache as it is made: nothing in it, no memory taken, and a budget
+abbrev pub empty_weighted : {K V S : Type 0} → S → ℕ → WeightedState K V S
+empty_weighted s n = record { map = empty_map s; budget = n }
+
+-- an entry as a walk shows it
+abbrev pub deref_weighed : {K V : Type 0} → Bor K × Bor V × ℕ → K × (V × ℕ)
+deref_weighed e = (e.0.now, (e.1.now, e.2))
+
+module _ {K V : Type 0} where
+  -- the number is the sum of the weights, and within the budget
+  pub record HasTotal (es : List (K × (V × ℕ))) (total budget : ℕ) : Type 0 where
+    pub sum : total ≡ total_weight es
+    pub within : total ≤ budget
+
+  -- the last entry has this weight, and all others together have that one
+  pub record LastWeighs (es : List (K × (V × ℕ))) (others weight : ℕ) : Type 0 where
+    pub before : List (K × (V × ℕ))
+    pub last : K × (V × ℕ)
+    pub split : es ≡ before ++ last ∷ []
+    pub others_weigh : total_weight before ≡ others
+    pub last_weighs : last.1.1 ≡ weight
+
+module _ {K V S : Type 0} (eq : K → K → Bool) where
+  -- a `get`: the entry of the key moves last with the value and the weight that stand, and of an absent key nothing
+  -- changes
+  pub record WeightedGets (old new : WeightedState K V S) (k : K) : Type 0 where
+    pub moves : Moves eq old.map new.map k (length old.map.entries) (lookup (eq k) old.map.entries)
+    pub budget : new.budget ≡ old.budget
+
+  -- the key's entry leaves, and of an absent key nothing changes
+  pub record WeightedRemoves (old new : WeightedState K V S) (k : K) : Type 0 where
+    pub removes : RemovesKey eq old.map new.map k (lookup_entry (eq k) old.map.entries)
+    pub budget : new.budget ≡ old.budget
+
+-- the weight of a value that was there, and none where there was none
+abbrev pub weight_or_none : {V : Type 0} → Option (V × ℕ) → ℕ
+weight_or_none None = 0
+weight_or_none (Some w) = w.1

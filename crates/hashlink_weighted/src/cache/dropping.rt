@@ -1,0 +1,38 @@
+//! How entries make room for the last one.
+ghost use Rattle.std.specs.Prelude.{◌≤◌};
+ghost use Rattle.hashlink_core.specs.Keyed.{state_of, entries_of};
+ghost use Rattle.hashlink_model.specs.Entries.{IsEntries};
+ghost use Rattle.hashlink_model.specs.Steps.{KeepsOnly};
+ghost use Rattle.hashlink_model.specs.Weights.{fitting};
+ghost use Rattle.hashlink_weighted.specs.Weighed.{HasTotal, LastWeighs};
+
+use hashlink_map::LinkedHashMap;
+use std::hash::{BuildHasher, Hash};
+
+/// Drops entries from the front until the weights sum to at most the budget, and answers the sum. The last entry has
+/// this weight, and all others together weigh `others`. It takes a step for each entry that it drops.
+///
+/// It compares before it adds, so no sum wraps.
+pub(super) fn drop_until_fitting<K: Eq + Hash + Drop, V: Drop, S: BuildHasher>(
+    map: &mut LinkedHashMap<K, (V, u64), S>,
+    others: u64,
+    weight: u64,
+    budget: u64,
+) -> u64
+    requires distinct { IsEntries K.eq (entries_of map.old) }
+    requires last { LastWeighs (entries_of map.old) others weight }
+    requires not_too_heavy { weight ≤ budget }
+    ensures keeps { KeepsOnly (state_of map.old) (state_of map.new) (fitting (entries_of map.old) budget) }
+    ensures total { HasTotal (entries_of map.new) result budget }
+    ensures distinct { IsEntries K.eq (entries_of map.new) }
+{
+    let room = budget - weight;
+    let mut others = others;
+    while others > room {
+        let Some((_, (_, dropped))) = map.pop_front() else {
+            break;
+        };
+        others -= dropped;
+    }
+    others + weight
+}

@@ -1,0 +1,70 @@
+//! Reads, uses and removals. Each hashes the key once, takes no memory, and looks at the entries of one bucket.
+ghost use Rattle.std.specs.Prelude.{◌≡◌, is_some, length, option_copied};
+ghost use Rattle.std.specs.Borrow.{sem};
+ghost use Rattle.std.specs.Map.{lookup};
+ghost use Rattle.hashlink_core.specs.Keyed.{state_of, entries_of};
+ghost use Rattle.hashlink_model.specs.Entries.{IsEntries};
+ghost use Rattle.hashlink_model.specs.Steps.{Moves};
+ghost use Rattle.hashlink_weighted.specs.Weighed.{WeightedRemoves};
+
+use super::WeightedCache;
+use hashlink_map::LinkedHashMap;
+use std::hash::{BuildHasher, Hash};
+
+/// Moves the key's entry to the end, and answers whether it is there.
+fn move_last<K: Eq + Hash, V, S: BuildHasher>(
+    map: &mut LinkedHashMap<K, (V, u64), S>,
+    key: &K,
+) -> bool
+    ensures there { result ≡ is_some (lookup (K.eq key.now) (entries_of map.old)) }
+    ensures moves { Moves K.eq (state_of map.old) (state_of map.new) key.now (length (entries_of map.old))
+        (lookup (K.eq key.now) (entries_of map.old)) }
+    ensures distinct { IsEntries K.eq (entries_of map.old) }
+{
+    match map.to_back(key) {
+        Some(_) => true,
+        None => false,
+    }
+}
+
+impl<K: Eq + Hash, V, S: BuildHasher> WeightedCache<K, V, S> {
+    ghost use Rattle.hashlink_weighted.specs.Answers.{without_weight};
+    ghost use Rattle.hashlink_weighted.specs.Lends.{EndsUsed};
+
+    /// The value of the key. The order stays as it is.
+    pub fn peek(&self, key: &K) -> Option<&V>
+        ensures { option_copied result ≡ without_weight (lookup (K.eq key.now) self.now.map.entries) }
+    {
+        let (value, _) = self.map.get(key)?;
+        Some(value)
+    }
+
+    /// The value of the key, whose entry moves to the end. Of an absent key it answers none, and nothing changes. It
+    /// stores at most six links.
+    pub fn get(&mut self, key: &K) -> Option<&V>
+        ensures* used { sem 𝓛 (EndsUsed K.row V.row S.row S.Hasher.row K.Hash S.BuildHasher S.Hasher.Hasher
+            self.entry key.now) }
+        ensures value { option_copied result ≡ without_weight (lookup (K.eq key.now) self.old.map.entries) }
+        ensures distinct { IsEntries K.eq self.old.map.entries }
+    {
+        if !move_last(&mut self.map, key) {
+            return None;
+        }
+        let (_, (value, _)) = self.map.back()?;
+        Some(value)
+    }
+
+    /// Takes the key's entry out and answers its value. It looks for the key as `peek` does, and stores at most three
+    /// links. The node serves the next new pair.
+    pub fn remove(&mut self, key: &K) -> Option<V>
+    where
+        K: Drop,
+        ensures value { result ≡ without_weight (lookup (K.eq key.now) self.old.map.entries) }
+        ensures removes { WeightedRemoves K.eq self.old self.new key.now }
+        ensures distinct { IsEntries K.eq self.new.map.entries }
+    {
+        let (value, weight) = self.map.remove(key)?;
+        self.total -= weight;
+        Some(value)
+    }
+}

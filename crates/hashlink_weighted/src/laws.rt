@@ -1,0 +1,41 @@
+//! What the contract of an insert within a budget implies. Nothing here is for users.
+ghost use Rattle.std.specs.Prelude.{◌≡◌, ℕ, ◌<◌, ◌≤◌, Bool, Option, Result, None, Some, Ok, Err};
+ghost use Rattle.std.specs.Map.{lookup};
+ghost use Rattle.hashlink_model.specs.Entries.{stored_key};
+ghost use Rattle.hashlink_model.specs.Walk.{last_of};
+ghost use Rattle.hashlink_model.specs.Weights.{WeightedState, total_weight, weighted_put};
+ghost use Rattle.hashlink_weighted.specs.Answers.{InsertsWithin, without_weight};
+ghost use Rattle.hashlink_weighted.specs.declared.error.WeightError.{WeightError};
+ghost use Rattle.hashlink_weighted.specs.declared.error.WeightError.TheVariants.{TooHeavy, Memory};
+
+/// An accepted insert leaves the fitting end of the map's insert, whose last entry is the pair with its weight, and
+/// answers the old value. The weights sum to at most the budget, which stays.
+pub fn what_an_accepted_insert_leaves<K, V, S>()
+    ensures entries { (eq : K → K → Bool) (old new : WeightedState K V S) (k : K) (v : V) (weight : ℕ)
+        (answer : Option V) → InsertsWithin eq old new k v weight (Ok answer)
+        → new.map.entries ≡ weighted_put eq old.map.entries old.budget k v weight }
+    ensures answer { (eq : K → K → Bool) (old new : WeightedState K V S) (k : K) (v : V) (weight : ℕ)
+        (answer : Option V) → InsertsWithin eq old new k v weight (Ok answer)
+        → answer ≡ without_weight (lookup (eq k) old.map.entries) }
+    ensures within { (eq : K → K → Bool) (old new : WeightedState K V S) (k : K) (v : V) (weight : ℕ)
+        (answer : Option V) → InsertsWithin eq old new k v weight (Ok answer)
+        → (total_weight new.map.entries ≤ new.budget) × (new.budget ≡ old.budget) }
+    ensures last { (eq : K → K → Bool) (old new : WeightedState K V S) (k : K) (v : V) (weight : ℕ)
+        (answer : Option V) → InsertsWithin eq old new k v weight (Ok answer)
+        → last_of new.map.entries ≡ Some (stored_key eq old.map.entries k, (v, weight)) }
+{}
+
+/// A refused insert hands its pair back. One that is too heavy changes nothing; memory is refused only for an absent
+/// key without a spare node, and then no entry and no spare node changes.
+pub fn what_a_refused_insert_leaves<K, V, S>()
+    ensures too_heavy { (eq : K → K → Bool) (old new : WeightedState K V S) (k : K) (v : V) (weight : ℕ)
+        (pair : K × V) → InsertsWithin eq old new k v weight (Err (TooHeavy pair))
+        → (pair ≡ (k, v)) × (old.budget < weight) × (new ≡ old) }
+    ensures memory { (eq : K → K → Bool) (old new : WeightedState K V S) (k : K) (v : V) (weight : ℕ)
+        (pair : K × V) → InsertsWithin eq old new k v weight (Err (Memory pair))
+        → (pair ≡ (k, v)) × (weight ≤ old.budget) × (lookup (eq k) old.map.entries ≡ None) × (old.map.spare ≡ 0)
+        × (new.map.entries ≡ old.map.entries) × (new.map.spare ≡ old.map.spare) }
+    ensures not_accepted { (eq : K → K → Bool) (old new : WeightedState K V S) (k : K) (v : V) (weight : ℕ)
+        (r : Result (Option V) (WeightError K V)) → old.budget < weight → InsertsWithin eq old new k v weight r
+        → r ≡ Err (TooHeavy (k, v)) }
+{}

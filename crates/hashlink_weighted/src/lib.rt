@@ -1,0 +1,15 @@
+//! `WeightedCache`: a map whose entries carry weights, and which drops those that were used longest ago so that the
+//! weights sum to at most a budget.
+#![tactic(auto)]
+
+mod cache;
+pub mod callers;
+mod error;
+mod iter;
+pub mod laws;
+mod texts;
+
+pub use cache::WeightedCache;
+pub use error::WeightError;
+pub use hashlink_map::{DefaultHashBuilder, DefaultHasher};
+pub use iter::WeightedIter;

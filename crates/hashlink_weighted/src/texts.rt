@@ -1,0 +1,13 @@
+//! Debug texts.
+use crate::cache::WeightedCache;
+use std::fmt;
+use std::hash::{BuildHasher, Hash};
+
+/// The keys with their values, last first.
+impl<K: Eq + Hash + fmt::Debug, V: fmt::Debug, S: BuildHasher> fmt::Debug
+    for WeightedCache<K, V, S> {
+    fn fmt<W: fmt::Write>(&self, f: &mut fmt::Formatter<W>) -> fmt::Result {
+        let pairs = self.iter().rev().map(|(key, value, _)| (key, value));
+        f.debug_map().entries(pairs).finish()
+    }
+}

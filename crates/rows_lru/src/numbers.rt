@@ -1,0 +1,27 @@
+//! Caches of plain numbers.
+use hashlink::LruCache;
+use std::test::Fail;
+
+pub(crate) type Numbers = LruCache<u64, u64>;
+
+/// An empty cache.
+pub(crate) fn empty(rt: HostRuntime, capacity: usize) -> Numbers {
+    LruCache::new(rt.alloc(), capacity)
+}
+
+/// Inserts the keys up to `most`, each with ten times itself.
+pub(crate) fn fill(cache: &mut Numbers, most: u32) -> Result<(), Fail> {
+    for key in 1..=most {
+        cache.insert(u64::from(key), u64::from(key) * 10)?;
+    }
+    Ok(())
+}
+
+/// Whether the cache has these entries, front first.
+pub(crate) fn has(cache: &Numbers, entries: &[(u64, u64)]) -> bool {
+    cache.len() == entries.len()
+        && cache
+            .iter()
+            .zip(entries.iter())
+            .all(|((key, value), entry)| (*key, *value) == *entry)
+}
