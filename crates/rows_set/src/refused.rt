@@ -1,6 +1,6 @@
 //! What stands where memory is refused. Each test passes whichever request for memory is refused:
 //! `rt try --test --fail-alloc N` refuses the Nth.
-use crate::{Numbers, set_of};
+use crate::numbers::{Numbers, set_of};
 use hashlink::LinkedHashSet;
 use std::alloc::{AllocError, Global};
 use std::process::Abort;
