@@ -10,10 +10,14 @@ pub fn bucket_of(hash: u64, buckets: usize) -> usize
     (hash as usize) & (buckets - 1)
 }
 
-// Up to so many cells the heads lie in a near cache all the same.
+// Up to so many cells the heads lie in the nearest caches all the same.
+const FEWEST_CELLS: usize = 1 << 12;
+
+// Up to so many they lie in a near one.
 const FEW_CELLS: usize = 1 << 14;
 
-/// How many buckets a table with so many cells has: two for each where they are few, so that fewer nodes share one.
+/// How many buckets a table with so many cells has: four or two for each where they are few, so that fewer nodes share
+/// one.
 pub fn buckets_for(cells: usize) -> usize
     requires power { IsPowerOfTwo cells }
     requires small { cells ≤ 2 ^ 62 }
@@ -21,5 +25,11 @@ pub fn buckets_for(cells: usize) -> usize
     ensures enough { cells ≤ result }
     ensures small { result ≤ 2 ^ 62 }
 {
-    if cells <= FEW_CELLS { 2 * cells } else { cells }
+    if cells <= FEWEST_CELLS {
+        4 * cells
+    } else if cells <= FEW_CELLS {
+        2 * cells
+    } else {
+        cells
+    }
 }
