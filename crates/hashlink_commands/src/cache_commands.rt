@@ -3,7 +3,7 @@ use crate::commands::EntryStep;
 /// A call of a cache, with its arguments.
 #[derive(Clone, Copy, Debug, PartialEq, Eq, Drop)]
 pub enum CacheCommand<K, V> {
-    /// Puts the pair last, with the value given, and drops the first pair where there are too many.
+    /// Puts the pair last, with the value given, and drops those at the front that are too many.
     Insert(K, V),
     /// Moves the key's pair to the end and reads it. Where the key is absent, puts the pair in as an insert does.
     Use(K, V),

@@ -1,11 +1,10 @@
 -- Items that go into a cache one after another.
-use Rattle.std.specs.Prelude.{◌≡◌, ℕ, Bool, List, [], ◌∷◌}
+use Rattle.std.specs.Prelude.{◌≡◌, ℕ, Bool, List, [], ◌∷◌, Option, Result, Ok, Err, IsOk}
 use Rattle.std.proofs.Common.{ap, ap₂, sym, subst, ◌∙◌}
 use Rattle.hashlink_model.specs.Cache.{CacheState, IsWithin, cache_extended}
 use Rattle.hashlink_model.specs.Many.{AcceptsAll, StopsAt}
-use Rattle.hashlink_model.proofs.CacheBounds.{within-inserts}
+use Rattle.hashlink_model.proofs.CacheBounds.{within-inserts, within-inserted}
 use Rattle.hashlink_model.proofs.CacheSteps.{inserts_entries}
-use Rattle.std.specs.Prelude.{Ok}
 use Rattle.hashlink_lru.specs.Cached.{InsertsPairIn}
 
 module _ {K V S : Type 0} (eq : K → K → Bool) where
@@ -29,6 +28,20 @@ module _ {K V S : Type 0} (eq : K → K → Bool) where
   extended_within old new [] n s i = subst (λ c. IsWithin c n) (sym s) i
   extended_within old new (p ∷ items) n s i =
       extended_within s.0 new items n s.3 (within-inserts old s.0 n eq p.0 p.1 (Ok s.1) s.2 i)
+
+  -- an insert that is not refused leaves none too many
+  pub inserted_fits : (old new : CacheState K V S) (p : K × V) (r : Result (Option V) (K × V))
+      → InsertsPairIn eq old new p r → IsOk r
+      → IsWithin new 0
+  inserted_fits old new p (Ok w) s ok = within-inserted old new eq p.0 p.1 w s
+  inserted_fits old new p (Err pair) s ok = cc
+
+  -- and the items after it keep it so
+  pub extended_fits : (old new : CacheState K V S) (item : K × V) (items : List (K × V))
+      → AcceptsAll (InsertsPairIn eq) old (item ∷ items) new
+      → IsWithin new 0
+  extended_fits old new p items s =
+      extended_within s.0 new items 0 s.3 (within-inserted old s.0 eq p.0 p.1 s.1 s.2)
 
   pub extended_stopped : (old new : CacheState K V S) (items : List (K × V)) (taken : ℕ) (back : K × V)
       (left : List (K × V)) (s : StopsAt (InsertsPairIn eq) old items new taken back left)

@@ -90,8 +90,8 @@ pub fn count_word<K: Eq + Hash + Drop, S: BuildHasher>(
     hashlink_map::callers::count_word(cache.map_mut(), word)
 }
 
-/// Inserts two pairs. Where the first insert drops an entry, the second is not refused; and a cache of so many entries
-/// beyond its capacity has no more afterwards.
+/// Inserts two pairs. Where the first insert drops an entry, the second is not refused; a cache of so many entries
+/// beyond its capacity has no more afterwards, and none where the second is in, however many there were.
 pub fn insert_both<K: Eq + Hash + Drop, V: Drop, S: BuildHasher>(
     cache: &mut LruCache<K, V, S>,
     first: (K, V),
@@ -102,6 +102,7 @@ pub fn insert_both<K: Eq + Hash + Drop, V: Drop, S: BuildHasher>(
         < length (put K.eq (entries_in cache.old) first.0 first.1 (length (entries_in cache.old)))
         → IsOk result.1 }
     ensures within { (n : ℕ) → IsWithin (state_in cache.old) n → IsWithin (state_in cache.new) n }
+    ensures fits { IsOk result.1 → IsWithin (state_in cache.new) 0 }
 {
     let (first_key, first_value) = first;
     let (second_key, second_value) = second;

@@ -1,11 +1,12 @@
 //! What many items leave in a cache. The function has an empty body: its contract is the statement.
-ghost use Rattle.std.specs.Prelude.{◌≡◌, ℕ, Bool, List};
+ghost use Rattle.std.specs.Prelude.{◌≡◌, ℕ, Bool, List, ◌∷◌};
 ghost use Rattle.hashlink_model.specs.Cache.{CacheState, IsWithin, cache_extended};
 ghost use Rattle.hashlink_model.specs.Many.{AcceptsAll, StopsAt};
 ghost use Rattle.hashlink_lru.specs.Cached.{InsertsPairIn};
 
 /// Items that go in one after another leave what an insert of each in turn leaves, at the same capacity, and so do
-/// those before a refused one. A cache of at most n entries beyond its capacity stays so.
+/// those before a refused one. A cache of at most n entries beyond its capacity stays so, and has none beyond it once
+/// an item is in, however many it had.
 pub fn what_many_items_leave<K, V, S>()
     ensures entries { (eq : K → K → Bool) (old new : CacheState K V S) (items : List (K × V))
         → AcceptsAll (InsertsPairIn eq) old items new
@@ -19,4 +20,7 @@ pub fn what_many_items_leave<K, V, S>()
     ensures within { (eq : K → K → Bool) (old new : CacheState K V S) (items : List (K × V)) (n : ℕ)
         → AcceptsAll (InsertsPairIn eq) old items new → IsWithin old n
         → IsWithin new n }
+    ensures fits { (eq : K → K → Bool) (old new : CacheState K V S) (item : K × V) (items : List (K × V))
+        → AcceptsAll (InsertsPairIn eq) old (item ∷ items) new
+        → IsWithin new 0 }
 {}

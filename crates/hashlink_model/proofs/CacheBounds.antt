@@ -7,19 +7,26 @@ use Rattle.hashlink_model.specs.Entries.{put}
 use Rattle.hashlink_model.specs.MapState.{MapState, StoresAtMost, Changes, node_count}
 use Rattle.hashlink_model.specs.Steps.{KeepsOnly, Clears, RemovesKey, PopsFront, PopsBack}
 use Rattle.hashlink_model.specs.Entry.{EntryState, VacantInserts}
-use Rattle.hashlink_model.specs.Cache.{CacheState, OnMap, IsWithin, HasNodeToSpare, InsertsLast, EvictsFront}
+use Rattle.hashlink_model.specs.Cache.{CacheState, OnMap, IsWithin, HasNodeToSpare, InsertsLast, KeepsLast}
 use Rattle.hashlink_model.specs.Cache.{CacheInserts, CacheGets, CacheGetsAndWrites, SetsCapacity, EntersCache}
-use Rattle.hashlink_model.specs.Cache.{front_evicted, last_entries}
+use Rattle.hashlink_model.specs.Cache.{last_entries}
 use Rattle.hashlink_model.specs.History.{Length}
 use Rattle.hashlink_model.specs.Peak.{Passes, PassesInTurn}
-use Rattle.hashlink_model.proofs.Afterwards.{length-put_absent, length-moved}
-use Rattle.hashlink_model.proofs.Caches.{front_evicted-within, front_evicted-above, front_evicted-at_most}
+use Rattle.hashlink_model.proofs.Afterwards.{length-put_absent, length-put_there, length-moved}
+use Rattle.hashlink_model.proofs.Caches.{front_evicted-above, front_evicted-at_most}
 use Rattle.hashlink_model.proofs.Caches.{length-last_entries, cache_put-at_most}
 use Rattle.hashlink_model.proofs.CacheSteps.{put_entries, inserts_entries}
 use Rattle.hashlink_model.proofs.NodeCounts.{moves_length, node_count-keeps}
 use Rattle.hashlink_model.proofs.KeptNodes.{kept-keeps, kept-inserts, passes-kept}
 
 -- ---- a bound of the capacity and n more
+
+-- an insert that is not refused brings the cache within its capacity
+pub within-inserted : {K V S : Type 0} (old new : CacheState K V S) (eq : K → K → Bool) (k : K) (v : V) (w : Option V)
+    → CacheInserts eq old new k v (Ok w) → IsWithin new 0
+within-inserted old new eq k v w s =
+    let same = ap length (inserts_entries eq old new k v w s) in
+    let few = cache_put-at_most eq old.map.entries old.cap k v in let c = s.cap in omega arith
 
 module _ {K V S : Type 0} (old new : CacheState K V S) (n : ℕ) where
   within-shorter : length new.map.entries ≤ length old.map.entries → new.cap ≡ old.cap → IsWithin old n
@@ -61,11 +68,7 @@ module _ {K V S : Type 0} (old new : CacheState K V S) (n : ℕ) where
   module _ (eq : K → K → Bool) (k : K) where
     pub within-inserts : (v : V) (r : Result (Option V) (K × V)) → CacheInserts eq old new k v r → IsWithin old n
         → IsWithin new n
-    within-inserts v (Ok w) s i =
-        let same = ap length (inserts_entries eq old new k v w s) in
-        let few = cache_put-at_most eq old.map.entries old.cap (old.cap + n) k v (omega arith) i in
-        let c = s.cap in
-        omega arith
+    within-inserts v (Ok w) s i = let fits = within-inserted old new eq k v w s in omega arith
     within-inserts v (Err pair) s i = within-same (ap length s.map.grows.entries) s.cap i
 
     pub within-gets : (r : Option V) → CacheGets eq old new k r → IsWithin old n → IsWithin new n
@@ -133,35 +136,34 @@ module _ {K V S : Type 0} (old new : CacheState K V S) where
 
   module _ (eq : K → K → Bool) (k : K) (v : V) where
     to_spare-by : (w : Option V) (between : MapState K V S) → new.cap ≡ old.cap → InsertsLast eq k v w old.map between
-        → EvictsFront between new.map old.cap
+        → KeepsLast between new.map old.cap
         → (old.cap < length between.entries) ⊎ ((length between.entries ≤ old.cap) × HasNodeToSpare old)
         → HasNodeToSpare new
     to_spare-by w between c s t (inl m) =
         let kept = kept-inserts old.map between eq k v (length old.map.entries) (Ok w) s in
-        let nodes = node_count-keeps between new.map (front_evicted between.entries old.cap) t in
+        let nodes = node_count-keeps between new.map (last_entries between.entries old.cap) t in
         let same = ap length t.entries in
-        let fewer = ap length (front_evicted-above between.entries old.cap m) in
-        let one = length-drop 1 between.entries in
+        let few = length-last_entries between.entries old.cap in
         record { beyond = omega arith; spare = omega arith }
     to_spare-by w between c s t (inr m) =
         let kept = kept-inserts old.map between eq k v (length old.map.entries) (Ok w) s in
-        let nodes = node_count-keeps between new.map (front_evicted between.entries old.cap) t in
+        let nodes = node_count-keeps between new.map (last_entries between.entries old.cap) t in
         let same = ap length t.entries in
-        let all = ap length (front_evicted-within between.entries old.cap m.0) in
-        let few = m.0 in
+        let few = length-last_entries between.entries old.cap in
+        let small = m.0 in
         let beyond = m.1.beyond in
         record { beyond = omega arith; spare = omega arith }
 
     pub to_spare-dropped : (w : Option V) → CacheInserts eq old new k v (Ok w)
         → old.cap < length (put eq old.map.entries k v (length old.map.entries)) → HasNodeToSpare new
     to_spare-dropped w s l =
-        to_spare-by w s.map.between s.cap s.map.inserts s.map.evicts
+        to_spare-by w s.map.between s.cap s.map.inserts s.map.fits
         (inl (subst (λ es. old.cap < length es) (sym (put_entries eq old.map s.map.between k v w s.map.inserts)) l))
 
     pub to_spare-inserts : (r : Result (Option V) (K × V)) → CacheInserts eq old new k v r → HasNodeToSpare old
         → HasNodeToSpare new
     to_spare-inserts (Ok w) s h =
-        to_spare-by w s.map.between s.cap s.map.inserts s.map.evicts
+        to_spare-by w s.map.between s.cap s.map.inserts s.map.fits
         (by (cases_lt old.cap (length s.map.between.entries)))
       where
         by : (old.cap < length s.map.between.entries) ⊎ (length s.map.between.entries ≤ old.cap)
@@ -188,14 +190,6 @@ both_store m n a b c s t =
 store_more : (m n a b : ℕ) → m ≤ n → StoresAtMost m a b → StoresAtMost n a b
 store_more m n a b l s = let p = s.bound in record { grows = s.grows; bound = omega arith }
 
--- an eviction drops one at most
-one_dropped : {K V : Type 0} (es : List (K × V)) (cap : ℕ) → 3 * (length es - length (front_evicted es cap)) ≤ 3
-one_dropped es cap = by (cases_lt cap (length es))
-  where
-    by : (cap < length es) ⊎ (length es ≤ cap) → 3 * (length es - length (front_evicted es cap)) ≤ 3
-    by (inl l) = let a = ap length (front_evicted-above es cap l) in let b = length-drop 1 es in omega arith
-    by (inr l) = let a = ap length (front_evicted-within es cap l) in omega arith
-
 module _ {K V S : Type 0} where
   module _ (eq : K → K → Bool) (a b c : MapState K V S) (k : K) (v : V) (es : List (K × V)) where
     -- four for a new key, six for one that is there, and three for each entry that is dropped
@@ -213,39 +207,53 @@ module _ {K V S : Type 0} where
 
   module _ (eq : K → K → Bool) (old new : CacheState K V S) (k : K) (v : V) where
     pub links-cache_insert_new : CacheInserts eq old new k v (Ok None)
-        → StoresAtMost 7 old.map.link_writes new.map.link_writes
+        → StoresAtMost (4 + 3 * (length old.map.entries + 1 - old.cap)) old.map.link_writes new.map.link_writes
     links-cache_insert_new s =
         let b = s.map.between in
-        let es = front_evicted b.entries old.cap in
-        let most = one_dropped b.entries old.cap in
-        store_more (4 + 3 * (length b.entries - length es)) 7 old.map.link_writes new.map.link_writes (omega arith)
-        (links-insert_new eq old.map b new.map k v es s.map.evicts s.map.inserts)
+        let es = last_entries b.entries old.cap in
+        let same = ap length s.map.inserts.adds.entries in
+        let long = length-put_absent eq old.map.entries k v (length old.map.entries) s.map.inserts.absent in
+        let few = length-last_entries b.entries old.cap in
+        store_more (4 + 3 * (length b.entries - length es)) (4 + 3 * (length old.map.entries + 1 - old.cap))
+        old.map.link_writes new.map.link_writes (omega arith)
+        (links-insert_new eq old.map b new.map k v es s.map.fits s.map.inserts)
 
     pub links-cache_insert_there : (w : V) → CacheInserts eq old new k v (Ok (Some w))
-        → StoresAtMost 9 old.map.link_writes new.map.link_writes
+        → StoresAtMost (6 + 3 * (length old.map.entries - old.cap)) old.map.link_writes new.map.link_writes
     links-cache_insert_there w s =
         let b = s.map.between in
-        let es = front_evicted b.entries old.cap in
-        let most = one_dropped b.entries old.cap in
-        store_more (6 + 3 * (length b.entries - length es)) 9 old.map.link_writes new.map.link_writes (omega arith)
-        (links-insert_there eq old.map b new.map k v es s.map.evicts w s.map.inserts)
+        let es = last_entries b.entries old.cap in
+        let same = ap length s.map.inserts.puts.entries in
+        let long = length-put_there eq old.map.entries k v (length old.map.entries) w s.map.inserts.old_value in
+        let few = length-last_entries b.entries old.cap in
+        store_more (6 + 3 * (length b.entries - length es)) (6 + 3 * (length old.map.entries - old.cap))
+        old.map.link_writes new.map.link_writes (omega arith)
+        (links-insert_there eq old.map b new.map k v es s.map.fits w s.map.inserts)
+
+    -- where one is dropped at most
+    pub links-cache_insert_new_one : CacheInserts eq old new k v (Ok None) → IsWithin old 0
+        → StoresAtMost 7 old.map.link_writes new.map.link_writes
+    links-cache_insert_new_one s i =
+        store_more (4 + 3 * (length old.map.entries + 1 - old.cap)) 7 old.map.link_writes new.map.link_writes
+        (omega arith) (links-cache_insert_new s)
+
+    pub links-cache_insert_there_one : (w : V) → CacheInserts eq old new k v (Ok (Some w)) → IsWithin old 1
+        → StoresAtMost 9 old.map.link_writes new.map.link_writes
+    links-cache_insert_there_one w s i =
+        store_more (6 + 3 * (length old.map.entries - old.cap)) 9 old.map.link_writes new.map.link_writes
+        (omega arith) (links-cache_insert_there w s)
 
     -- where there is a place nothing is dropped
     pub links-cache_insert_within : CacheInserts eq old new k v (Ok None) → length old.map.entries < old.cap
         → StoresAtMost 4 old.map.link_writes new.map.link_writes
     links-cache_insert_within s l =
-        let b = s.map.between in
-        let es = front_evicted b.entries old.cap in
-        let same = ap length s.map.inserts.adds.entries in
-        let long = length-put_absent eq old.map.entries k v (length old.map.entries) s.map.inserts.absent in
-        let all = ap length (front_evicted-within b.entries old.cap (omega arith)) in
-        store_more (4 + 3 * (length b.entries - length es)) 4 old.map.link_writes new.map.link_writes (omega arith)
-        (links-insert_new eq old.map b new.map k v es s.map.evicts s.map.inserts)
+        store_more (4 + 3 * (length old.map.entries + 1 - old.cap)) 4 old.map.link_writes new.map.link_writes
+        (omega arith) (links-cache_insert_new s)
 
     -- ---- the two lengths that an insert passes
 
     passes-both : (w : Option V) (between : MapState K V S) → InsertsLast eq k v w old.map between
-        → EvictsFront between new.map old.cap
+        → KeepsLast between new.map old.cap
         → PassesInTurn old.map
         (Length (length (put eq old.map.entries k v (length old.map.entries))) ∷ Length (length new.map.entries)
         ∷ [])
@@ -259,7 +267,7 @@ module _ {K V S : Type 0} where
           (
             new.map,
             passes-kept between new.map
-                (kept-keeps between new.map (front_evicted between.entries old.cap) t),
+                (kept-keeps between new.map (last_entries between.entries old.cap) t),
             refl,
           ),
         )
@@ -269,7 +277,7 @@ module _ {K V S : Type 0} where
         (Length (length (put eq old.map.entries k v (length old.map.entries))) ∷ Length (length new.map.entries)
         ∷ [])
         new.map
-    passes-cache_insert w s = passes-both w s.map.between s.map.inserts s.map.evicts
+    passes-cache_insert w s = passes-both w s.map.between s.map.inserts s.map.fits
 
   module _ (old new : CacheState K V S) (n : ℕ) where
     pub links-sets : SetsCapacity old new n

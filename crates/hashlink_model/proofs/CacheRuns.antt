@@ -47,12 +47,12 @@ module _ {K V : Type 0} (eq : K → K → Bool) where
   cache_use-at_most es cap n k v c m = by (lookup (eq k) es)
     where
       by : (o : Option V) → length (option_map_or (λ w. cache_get eq es k) o (cache_put eq es cap k v)) ≤ n
-      by None = cache_put-at_most eq es cap n k v c m
+      by None = let few = cache_put-at_most eq es cap k v in omega arith
       by (Some w) = let same = length-moved eq es k (length es) in omega arith
 
   pub after_event-at_most : (es : List (K × V)) (cap n : ℕ) (e : CacheEvent K V) → cap ≤ n → length es ≤ n
       → length (after_event eq cap es e) ≤ n
-  after_event-at_most es cap n (Insert k v) c m = cache_put-at_most eq es cap n k v c m
+  after_event-at_most es cap n (Insert k v) c m = let few = cache_put-at_most eq es cap k v in omega arith
   after_event-at_most es cap n (Use k v) c m = cache_use-at_most es cap n k v c m
   after_event-at_most es cap n (Remove k) c m = without-at_most es k n m
   after_event-at_most es cap n (Peek k) c m = m

@@ -1,5 +1,5 @@
 -- What follows from the steps between two states of a cache.
-use Rattle.std.proofs.Common.{◌≡◌, ℕ, ◌-◌, ◌≤◌, min, max, Bool, [], ◌∷◌, ◌++◌, length, drop, take, Option, None, Some}
+use Rattle.std.proofs.Common.{◌≡◌, ℕ, ◌-◌, ◌≤◌, min, max, Bool, [], ◌∷◌, ◌++◌, length, take, Option, None, Some}
 use Rattle.std.proofs.Common.{Ok, Err, sym, ap, ◌∙◌, arith}
 use Rattle.std.specs.Prelude.{MatchOption, Result, refl}
 use Rattle.std.specs.Option.{option_map_or}
@@ -8,11 +8,11 @@ use Rattle.hashlink_model.specs.Entries.{put, without, stored_key}
 use Rattle.hashlink_model.specs.MapState.{MapState, node_count}
 use Rattle.hashlink_model.specs.Cache.{cache_get}
 use Rattle.hashlink_model.specs.Cache.{CacheState, InsertsLast, CacheUses, cache_use, CacheInserts, CacheGets}
-use Rattle.hashlink_model.specs.Cache.{SetsCapacity, front_evicted, last_entries}
+use Rattle.hashlink_model.specs.Cache.{SetsCapacity, last_entries}
 use Rattle.hashlink_model.specs.Cache.{cache_put}
 use Rattle.hashlink_model.proofs.Puts.{put_back}
 use Rattle.hashlink_model.proofs.Afterwards.{moved-there}
-use Rattle.hashlink_model.proofs.Caches.{length-last_entries, last_entries-end}
+use Rattle.hashlink_model.proofs.Caches.{length-last_entries, last_entries-end, last_entries-within}
 use Rattle.hashlink_model.proofs.NodeCounts.{node_count-adds, node_count-keeps, moves_nodes}
 
 -- the insert at the length
@@ -34,8 +34,8 @@ module _ {K V S : Type 0} (eq : K → K → Bool) (old new : CacheState K V S) (
   pub inserts_entries : (w : Option V) → CacheInserts eq old new k v (Ok w)
       → new.map.entries ≡ cache_put eq old.map.entries old.cap k v
   inserts_entries w s =
-      s.map.evicts.entries
-      ∙ ap (λ es. front_evicted es old.cap) (put_entries eq old.map s.map.between k v w s.map.inserts)
+      s.map.fits.entries
+      ∙ ap (λ es. last_entries es old.cap) (put_entries eq old.map s.map.between k v w s.map.inserts)
 
   pub inserts_refused : (pair : K × V) → CacheInserts eq old new k v (Err pair)
       → (new.map.entries ≡ old.map.entries) × (new.map.spare ≡ old.map.spare) × (lookup (eq k) old.map.entries ≡ None)
@@ -46,7 +46,7 @@ module _ {K V S : Type 0} (eq : K → K → Bool) (old new : CacheState K V S) (
   pub inserts_nodes : CacheInserts eq old new k v (Ok None)
       → node_count new.map ≡ max (node_count old.map) (length (put eq old.map.entries k v (length old.map.entries)))
   inserts_nodes s =
-      let a = node_count-keeps s.map.between new.map (front_evicted s.map.between.entries old.cap) s.map.evicts in
+      let a = node_count-keeps s.map.between new.map (last_entries s.map.between.entries old.cap) s.map.fits in
       let b = node_count-adds old.map s.map.between (put eq old.map.entries k v (length old.map.entries))
       s.map.inserts.adds in
       let c = ap length s.map.inserts.adds.entries in
@@ -96,5 +96,4 @@ module _ {K V S : Type 0} (old new : CacheState K V S) (n : ℕ) where
   sets_nodes s = node_count-keeps old.map new.map (last_entries old.map.entries n) s.map
 
   pub sets_within : length old.map.entries ≤ n → SetsCapacity old new n → new.map.entries ≡ old.map.entries
-  sets_within l s =
-      let none : length old.map.entries - n ≡ 0 = omega arith in s.map.entries ∙ ap (λ m. drop m old.map.entries) none
+  sets_within l s = s.map.entries ∙ last_entries-within old.map.entries n l

@@ -50,6 +50,10 @@ module _ {K V : Type 0} where
   pub last_entries-end : (es : List (K × V)) (n : ℕ) → take (length es - n) es ++ last_entries es n ≡ es
   last_entries-end es n = take-append-drop (length es - n) es
 
+  -- all of them, where there are no more than n
+  pub last_entries-within : (es : List (K × V)) (n : ℕ) → length es ≤ n → last_entries es n ≡ es
+  last_entries-within es n l = let none : length es - n ≡ 0 = omega arith in ap (λ m. drop m es) none
+
   pub IsEntries-drop : (eq : K → K → Bool) (n : ℕ) (es : List (K × V)) → IsEntries eq es → IsEntries eq (drop n es)
   IsEntries-drop eq zero es d = d
   IsEntries-drop eq (suc n) [] d = d
@@ -66,24 +70,38 @@ module _ {K V : Type 0} where
 
   -- ---- the cache's insert
 
+  -- at most the capacity, however many there were
+  pub cache_put-at_most : (eq : K → K → Bool) (es : List (K × V)) (cap : ℕ) (k : K) (v : V)
+      → length (cache_put eq es cap k v) ≤ cap
+  cache_put-at_most eq es cap k v = let few = length-last_entries (put eq es k v (length es)) cap in omega arith
+
   grown_by : (eq : K → K → Bool) (es : List (K × V)) (k : K) (v : V) (o : Option V) → lookup (eq k) es ≡ o
       → length (put eq es k v (length es)) ≤ length es + 1
   grown_by eq es k v None l = let a = length-put_absent eq es k v (length es) l in omega arith
   grown_by eq es k v (Some w) l = let a = length-put_there eq es k v (length es) w l in omega arith
 
-  -- a cache of at most n entries, n no less than its capacity, has at most n afterwards
-  pub cache_put-at_most : (eq : K → K → Bool) (es : List (K × V)) (cap n : ℕ) (k : K) (v : V) → cap ≤ n
-      → length es ≤ n
-      → length (cache_put eq es cap k v) ≤ n
-  cache_put-at_most eq es cap n k v c m =
-      let g = grown_by eq es k v (lookup (eq k) es) refl in
-      front_evicted-at_most (put eq es k v (length es)) cap n c (omega arith)
+  put_grown : (eq : K → K → Bool) (es : List (K × V)) (k : K) (v : V)
+      → length (put eq es k v (length es)) ≤ length es + 1
+  put_grown eq es k v = grown_by eq es k v (lookup (eq k) es) refl
+
+  -- all that the map's insert leaves, where there is a place
+  pub cache_put-with_a_place : (eq : K → K → Bool) (es : List (K × V)) (cap : ℕ) (k : K) (v : V) → length es < cap
+      → cache_put eq es cap k v ≡ put eq es k v (length es)
+  cache_put-with_a_place eq es cap k v l =
+      let g = put_grown eq es k v in last_entries-within (put eq es k v (length es)) cap (omega arith)
+
+  -- of a cache within its capacity one entry is dropped at most
+  pub cache_put-evicts : (eq : K → K → Bool) (es : List (K × V)) (cap : ℕ) (k : K) (v : V) → length es ≤ cap
+      → cache_put eq es cap k v ≡ front_evicted (put eq es k v (length es)) cap
+  cache_put-evicts eq es cap k v l =
+      let g = put_grown eq es k v in sym (front_evicted-last_entries (put eq es k v (length es)) cap (omega arith))
 
   pub IsEntries-cache_put : (eq : K → K → Bool) → IsEquivalence eq → (es : List (K × V)) (cap : ℕ) (k : K) (v : V)
       → IsEntries eq es
       → IsEntries eq (cache_put eq es cap k v)
   IsEntries-cache_put eq laws es cap k v d =
-      IsEntries-front_evicted eq (put eq es k v (length es)) cap (IsEntries-put eq laws es k v (length es) d)
+      let zs = put eq es k v (length es) in
+      IsEntries-drop eq (length zs - cap) zs (IsEntries-put eq laws es k v (length es) d)
 
   -- ---- an insert of each pair in turn
 
@@ -92,8 +110,8 @@ module _ {K V : Type 0} where
       → length (cache_extended eq es cap pairs) ≤ n
   cache_extended-at_most eq es cap n [] c m = m
   cache_extended-at_most eq es cap n (p ∷ pairs) c m =
-      cache_extended-at_most eq (cache_put eq es cap p.0 p.1) cap n pairs c
-      (cache_put-at_most eq es cap n p.0 p.1 c m)
+      let few = cache_put-at_most eq es cap p.0 p.1 in
+      cache_extended-at_most eq (cache_put eq es cap p.0 p.1) cap n pairs c (omega arith)
 
   pub IsEntries-cache_extended : (eq : K → K → Bool) → IsEquivalence eq
       → (es : List (K × V)) (cap : ℕ) (pairs : List (K × V)) → IsEntries eq es
@@ -105,20 +123,9 @@ module _ {K V : Type 0} where
 
   -- ---- look-ups after an insert
 
-  -- an eviction leaves an end, and the last entry where there is a place
-  front_evicted-end : (es : List (K × V)) (cap : ℕ) → (xs : List (K × V)) × (es ≡ xs ++ front_evicted es cap)
-  front_evicted-end es cap = by (nat_lt cap (length es))
-    where
-      by : (b : Bool) → (xs : List (K × V)) × (es ≡ xs ++ cond b (drop 1 es) es)
-      by true = (take 1 es, sym (take-append-drop 1 es))
-      by false = ([], refl)
-
-  front_evicted-some : (es : List (K × V)) (cap : ℕ) → 1 ≤ cap → 1 ≤ length es → 1 ≤ length (front_evicted es cap)
-  front_evicted-some es cap c m = by (cases_lt cap (length es))
-    where
-      by : (cap < length es) ⊎ (length es ≤ cap) → 1 ≤ length (front_evicted es cap)
-      by (inl l) = rw (front_evicted-above es cap l, length-drop 1 es) (omega arith)
-      by (inr l) = rw (front_evicted-within es cap l) m
+  -- the last entries are some where there is a place
+  last_entries-some : (es : List (K × V)) (cap : ℕ) → 1 ≤ cap → 1 ≤ length es → 1 ≤ length (last_entries es cap)
+  last_entries-some es cap c m = let few = length-last_entries es cap in omega arith
 
 module _ {K V : Type 0} (eq : K → K → Bool) (laws : IsEquivalence eq) where
   pub lookup-cache_put : (q : K) (es : List (K × V)) (cap : ℕ) (k : K) (v : V) → IsEntries eq es → 1 ≤ cap
@@ -126,18 +133,17 @@ module _ {K V : Type 0} (eq : K → K → Bool) (laws : IsEquivalence eq) where
       → lookup (eq q) (cache_put eq es cap k v) ≡ Some v
   lookup-cache_put q es cap k v d c t =
       let zs = put eq es k v (length es) in
-      let s = front_evicted-end zs cap in
       let long = length-put eq es k v (length es) in
-      lookup-put_remaining eq laws q es k v s.0 (front_evicted zs cap) d s.1
-      (front_evicted-some zs cap c (omega arith)) t
+      lookup-put_remaining eq laws q es k v (take (length zs - cap) zs) (last_entries zs cap) d
+      (sym (last_entries-end zs cap)) (last_entries-some zs cap c (omega arith)) t
 
   pub lookup_entry-cache_put : (q : K) (es : List (K × V)) (cap : ℕ) (k : K) (v : V) (e : K × V) → IsEntries eq es
       → eq k q ≡ false → lookup_entry (eq q) (cache_put eq es cap k v) ≡ Some e
       → lookup_entry (eq q) es ≡ Some e
   lookup_entry-cache_put q es cap k v e d t l =
       let zs = put eq es k v (length es) in
-      let s = front_evicted-end zs cap in
-      lookup_entry-put_remaining eq laws q es k v s.0 (front_evicted zs cap) d s.1 e t l
+      lookup_entry-put_remaining eq laws q es k v (take (length zs - cap) zs) (last_entries zs cap) d
+      (sym (last_entries-end zs cap)) e t l
 
   -- ---- a use: of a key that is there a move, of any other an insert
 

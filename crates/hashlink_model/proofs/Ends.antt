@@ -1,7 +1,7 @@
 -- A smaller cache's entries stay an end of a larger one's, whatever both are given.
-use Rattle.std.proofs.Common.{◌≡◌, ℕ, ◌≤◌, ◌<◌, Bool, true, false, cond, List, [], ◌∷◌, ◌++◌, length, drop, nat_lt}
-use Rattle.std.proofs.Common.{is_some, Option, None, Some, refl, sym, ap, ap₂, ◌∙◌, ◌⊎◌, inl, inr, subst, subst₂}
-use Rattle.std.proofs.Common.{arith, append_assoc, le_refl, lt_irrefl}
+use Rattle.std.proofs.Common.{◌≡◌, ℕ, zero, suc, ◌+◌, ◌-◌, ◌≤◌, ◌<◌, Bool, true, false, cond, List, [], ◌∷◌, ◌++◌}
+use Rattle.std.proofs.Common.{length, drop, is_some, Option, None, Some, refl, sym, ap, ap₂, ◌∙◌, ◌⊎◌, inl, inr, subst}
+use Rattle.std.proofs.Common.{subst₂, arith, append_assoc, lt_irrefl}
 use Rattle.std.specs.Cmp.{IsEquivalence}
 use Rattle.std.specs.Option.{option_map_or}
 use Rattle.std.specs.List.{AllZip}
@@ -10,14 +10,14 @@ use Rattle.std.proofs.lemmas.Bool.{cases_lt, both_ways}
 use Rattle.std.proofs.lemmas.Option.{none-some}
 use Rattle.std.proofs.lemmas.Map.{NonePasses}
 use Rattle.hashlink_model.specs.Entries.{IsEntries, put, without, stored_key}
-use Rattle.hashlink_model.specs.Cache.{front_evicted, cache_put, cache_get, cache_use}
+use Rattle.hashlink_model.specs.Cache.{last_entries, cache_put, cache_get, cache_use}
 use Rattle.hashlink_model.specs.Inclusion.{IsEndOf, SameKey, SameEntry}
 use Rattle.hashlink_model.proofs.Distinct.{each-right, none_equal, none_others}
 use Rattle.hashlink_model.proofs.Splits.{Stands, splits, remove_entry-none, lookup-none, lookup-here}
 use Rattle.hashlink_model.proofs.Finds.{stored_key-equal}
 use Rattle.hashlink_model.proofs.Puts.{put_back}
 use Rattle.hashlink_model.proofs.Afterwards.{moved-there}
-use Rattle.hashlink_model.proofs.Caches.{front_evicted-within, front_evicted-above, cache_put-at_most}
+use Rattle.hashlink_model.proofs.Caches.{last_entries-within, cache_put-at_most}
 use Rattle.hashlink_model.proofs.Recency.{zip_push, zip_length, answers_alike}
 
 module _ {K V : Type 0} (test : K → Bool) where
@@ -119,7 +119,7 @@ module _ {K V : Type 0} (eq : K → K → Bool) (laws : IsEquivalence eq) (R : K
       sym (laws.congr k (stored_key eq small k) (stored_key eq large k) (stored_key-equal eq laws k small))
       ∙ stored_key-equal eq laws k large
 
-  -- ---- evictions
+  -- ---- what is dropped in front
 
   drop_small_by : (small large front back : List (K × V)) → large ≡ front ++ back → AllZip R small back
       → IsEndOf R (drop 1 small) large
@@ -128,14 +128,11 @@ module _ {K V : Type 0} (eq : K → K → Bool) (laws : IsEquivalence eq) (R : K
   drop_small_by (x ∷ small) large front (y ∷ back) i z =
       record { front = front ++ y ∷ []; back = back; is = i ∙ sym (append_assoc front (y ∷ []) back); alike = z.1 }
 
-  evict_small_by : (small large : List (K × V)) (b : Bool) → IsEndOf R small large
-      → IsEndOf R (cond b (drop 1 small) small) large
-  evict_small_by small large true e = drop_small_by small large e.front e.back e.is e.alike
-  evict_small_by small large false e = e
-
-  end-evict_small : (small large : List (K × V)) (c : ℕ) → IsEndOf R small large
-      → IsEndOf R (front_evicted small c) large
-  end-evict_small small large c e = evict_small_by small large (nat_lt c (length small)) e
+  end-drop_small : (n : ℕ) (small large : List (K × V)) → IsEndOf R small large → IsEndOf R (drop n small) large
+  end-drop_small zero small large e = e
+  end-drop_small (suc n) [] large e = e
+  end-drop_small (suc n) (x ∷ small) large e =
+      end-drop_small n small large (drop_small_by (x ∷ small) large e.front e.back e.is e.alike)
 
   drop_large_by : (small large front back : List (K × V)) → large ≡ front ++ back → AllZip R small back
       → length small < length large
@@ -145,17 +142,24 @@ module _ {K V : Type 0} (eq : K → K → Bool) (laws : IsEquivalence eq) (R : K
   drop_large_by small large (f ∷ front) back i z l =
       record { front = front; back = back; is = ap (drop 1) i; alike = z }
 
-  evict_large_by : (small large : List (K × V)) (d : ℕ) → IsEndOf R small large → length small ≤ d
-      → (d < length large) ⊎ (length large ≤ d)
-      → IsEndOf R small (front_evicted large d)
-  evict_large_by small large d e l (inl m) =
-      subst (IsEndOf R small) (sym (front_evicted-above large d m))
-      (drop_large_by small large e.front e.back e.is e.alike (omega arith))
-  evict_large_by small large d e l (inr m) = subst (IsEndOf R small) (sym (front_evicted-within large d m)) e
+  end-drop_large : (n : ℕ) (small large : List (K × V)) → IsEndOf R small large → n + length small ≤ length large
+      → IsEndOf R small (drop n large)
+  end-drop_large zero small large e l = e
+  end-drop_large (suc n) small [] e l = e
+  end-drop_large (suc n) small (y ∷ large) e l =
+      end-drop_large n small large (drop_large_by small (y ∷ large) e.front e.back e.is e.alike (omega arith))
+      (omega arith)
 
-  end-evict_large : (small large : List (K × V)) (d : ℕ) → IsEndOf R small large → length small ≤ d
-      → IsEndOf R small (front_evicted large d)
-  end-evict_large small large d e l = evict_large_by small large d e l (cases_lt d (length large))
+  end-last_small : (small large : List (K × V)) (c : ℕ) → IsEndOf R small large → IsEndOf R (last_entries small c) large
+  end-last_small small large c e = end-drop_small (length small - c) small large e
+
+  end-last_large : (small large : List (K × V)) (d : ℕ) → IsEndOf R small large → length small ≤ d
+      → IsEndOf R small (last_entries large d)
+  end-last_large small large d e l = by (cases_lt d (length large))
+    where
+      by : (d < length large) ⊎ (length large ≤ d) → IsEndOf R small (last_entries large d)
+      by (inl m) = end-drop_large (length large - d) small large e (omega arith)
+      by (inr m) = subst (IsEndOf R small) (sym (last_entries-within large d m)) e
 
   -- ---- the calls
 
@@ -164,9 +168,9 @@ module _ {K V : Type 0} (eq : K → K → Bool) (laws : IsEquivalence eq) (R : K
       → IsEndOf R small large
       → IsEndOf R (cache_put eq small c k v) (cache_put eq large d k v)
   end-cache_put c d k v small large u l m r e =
-      let few = cache_put-at_most eq small c c k v (le_refl c) m in
-      end-evict_large (cache_put eq small c k v) (put eq large k v (length large)) d
-      (end-evict_small (put eq small k v (length small)) (put eq large k v (length large)) c
+      let few = cache_put-at_most eq small c k v in
+      end-last_large (cache_put eq small c k v) (put eq large k v (length large)) d
+      (end-last_small (put eq small k v (length small)) (put eq large k v (length large)) c
       (end-put k v v small large u r e))
       (omega arith)
 
@@ -198,7 +202,7 @@ module _ {K V : Type 0} (eq : K → K → Bool) (laws : IsEquivalence eq) where
       (stored_equal eq laws (SameKey eq) (λ p q r. r) k small large) e
   use_by c d k v small large None (Some y) l m u n f e =
       subst (IsEndOf (SameKey eq) (cache_put eq small c k v)) (sym (moved-there eq large k (length large) y m))
-      (end-evict_small eq laws (SameKey eq) (λ p q r. r) (put eq small k v (length small))
+      (end-last_small eq laws (SameKey eq) (λ p q r. r) (put eq small k v (length small))
       (put eq large k y (length large)) c
       (end-put eq laws (SameKey eq) (λ p q r. r) k v y small large u
       (stored_equal eq laws (SameKey eq) (λ p q r. r) k small large) e))

@@ -16,7 +16,8 @@ use Rattle.hashlink_model.proofs.Splits.{none_from_lookup}
 use Rattle.hashlink_model.proofs.Finds.{stored_key-equal}
 use Rattle.hashlink_model.proofs.Puts.{put_back, put_back_absent}
 use Rattle.hashlink_model.proofs.Afterwards.{length-put_there, moved-there}
-use Rattle.hashlink_model.proofs.Caches.{front_evicted-within, front_evicted-above}
+use Rattle.hashlink_model.proofs.Caches.{front_evicted-within, front_evicted-above, last_entries-within}
+use Rattle.hashlink_model.proofs.Caches.{cache_put-evicts}
 use Rattle.hashlink_model.proofs.Recency.{zip_push, zip_drop_one, zip_length, answers_alike, is_recent}
 use Rattle.hashlink_model.proofs.Recency.{recent_keys-there, recent_keys-full, recent_keys-room, length-recent_keys}
 
@@ -94,15 +95,18 @@ module _ {K V : Type 0} (eq : K → K → Bool) (laws : IsEquivalence eq) where
       → HoldsRecent eq c used es
       → HoldsRecent eq c (used ++ k ∷ []) (cache_put eq es c k v)
   put_by c used es k v None l h =
-      subst (λ zs. HoldsRecent eq c (used ++ k ∷ []) (front_evicted zs c))
-      (sym (put_back_absent eq es k v (none_from_lookup (eq k) es l)))
+      let long = zip_length _ es (recent_keys eq c used) h in
+      let count = length-recent_keys eq laws c used in
+      subst (HoldsRecent eq c (used ++ k ∷ []))
+      (sym (cache_put-evicts eq es c k v (omega arith)
+      ∙ ap (λ zs. front_evicted zs c) (put_back_absent eq es k v (none_from_lookup (eq k) es l))))
       (held_new_by c used es k v h l (cases_lt (distinct_count eq used) c))
   put_by c used es k v (Some w) l h =
       let long = zip_length _ es (recent_keys eq c used) h in
       let count = length-recent_keys eq laws c used in
       let same = length-put_there eq es k v (length es) w l in
       subst (HoldsRecent eq c (used ++ k ∷ []))
-      (sym (front_evicted-within (put eq es k v (length es)) c (omega arith))) (held_back c used es k v w h l)
+      (sym (last_entries-within (put eq es k v (length es)) c (omega arith))) (held_back c used es k v w h l)
 
   pub HoldsRecent-cache_put : (c : ℕ) (used : List K) (es : List (K × V)) (k : K) (v : V) → HoldsRecent eq c used es
       → HoldsRecent eq c (used ++ k ∷ []) (cache_put eq es c k v)

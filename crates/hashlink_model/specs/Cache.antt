@@ -24,9 +24,9 @@ module _ {K V : Type 0} where
   last_entries es n = drop (length es - n) es
 
   module _ (eq : K → K → Bool) where
-    -- the entries after the cache's insert: the map's, and then at most one entry at the front is dropped
+    -- the entries after the cache's insert: the last `cap` of those after the map's
     abbrev pub cache_put : List (K × V) → ℕ → K → V → List (K × V)
-    cache_put es cap k v = front_evicted (put eq es k v (length es)) cap
+    cache_put es cap k v = last_entries (put eq es k v (length es)) cap
 
     -- the entries after the cache's insert of each pair in turn
     abbrev pub cache_extended : List (K × V) → ℕ → List (K × V) → List (K × V)
@@ -69,17 +69,21 @@ module _ {K V S : Type 0} where
   abbrev pub EvictsFront : MapState K V S → MapState K V S → ℕ → Type 0
   EvictsFront old new cap = KeepsOnly old new (front_evicted old.entries cap)
 
+  -- the last n entries stay, and each that was dropped left its node spare
+  abbrev pub KeepsLast : MapState K V S → MapState K V S → ℕ → Type 0
+  KeepsLast old new n = KeepsOnly old new (last_entries old.entries n)
+
   -- a capacity n that is set: the last n entries stay
   pub record SetsCapacity (old new : CacheState K V S) (n : ℕ) : Type 0 where
-    pub map : KeepsOnly old.map new.map (last_entries old.map.entries n)
+    pub map : KeepsLast old.map new.map n
     pub cap : new.cap ≡ n
 
-  -- the map's insert led to the state `between`, of which the first entry was dropped where there were too many
-  pub record InsertsThenEvicts (step : MapState K V S → MapState K V S → Type 0) (cap : ℕ)
+  -- the map's insert led to the state `between`, of which the last `cap` entries stay
+  pub record InsertsThenFits (step : MapState K V S → MapState K V S → Type 0) (cap : ℕ)
       (old new : MapState K V S) : Type 0 where
     pub between : MapState K V S
     pub inserts : step old between
-    pub evicts : EvictsFront between new cap
+    pub fits : KeepsLast between new cap
 
   module _ (eq : K → K → Bool) where
     -- the map's insert of the pair at the length, by what it answers where it is not refused
@@ -91,7 +95,7 @@ module _ {K V S : Type 0} where
     abbrev pub CacheInserts : CacheState K V S → CacheState K V S → K → V → Result (Option V) (K × V) → Type 0
     CacheInserts old new k v r =
         OnMap
-        (λ a b. MatchResult r (λ w. InsertsThenEvicts (InsertsLast k v w) old.cap a b) (RefusesEntry eq a b k v))
+        (λ a b. MatchResult r (λ w. InsertsThenFits (InsertsLast k v w) old.cap a b) (RefusesEntry eq a b k v))
         old new
 
     -- `get`: a hit moves its entry last, a miss changes nothing

@@ -20,19 +20,30 @@ ghost use Rattle.hashlink_model.specs.Numbers as numbers;
 pub fn a_cache_without_places()
     ensures or_insert { numbers.cache_or_insert [] 0 1 10 ≡ (1, 10) ∷ [] }
     ensures insert { numbers.cache_insert ((1, 10) ∷ []) 0 1 11 ≡ [] }
+    ensures insert_another { numbers.cache_insert ((1, 10) ∷ []) 0 2 20 ≡ [] }
     ensures again { numbers.cache_or_insert [] 0 1 12 ≡ (1, 12) ∷ [] }
     ensures entry { front_evicted {K = ℕ} {V = ℕ} ((1, 12) ∷ []) 0 ≡ [] }
 {}
 
-/// An entry can pass the capacity by one, an insert then drops one pair at the front, and the next entry drops one
-/// more.
+/// An entry can pass the capacity by one, and the next entry then drops one pair at the front.
 pub fn an_entry_passes_the_capacity_by_one()
     ensures insert { numbers.cache_insert [] 1 1 10 ≡ (1, 10) ∷ [] }
     ensures or_insert { numbers.cache_or_insert ((1, 10) ∷ []) 1 2 20 ≡ (1, 10) ∷ (2, 20) ∷ [] }
-    ensures drops_one { numbers.cache_insert ((1, 10) ∷ (2, 20) ∷ []) 1 3 30 ≡ (2, 20) ∷ (3, 30) ∷ [] }
-    ensures entry { front_evicted {K = ℕ} {V = ℕ} ((2, 20) ∷ (3, 30) ∷ []) 1 ≡ (3, 30) ∷ [] }
-    ensures two_too_many { numbers.cache_insert ((1, 10) ∷ (3, 30) ∷ (2, 20) ∷ []) 1 4 40
-        ≡ (3, 30) ∷ (2, 20) ∷ (4, 40) ∷ [] }
+    ensures entry { front_evicted {K = ℕ} {V = ℕ} ((1, 10) ∷ (2, 20) ∷ []) 1 ≡ (2, 20) ∷ [] }
+    ensures two_too_many { front_evicted {K = ℕ} {V = ℕ} ((1, 10) ∷ (3, 30) ∷ (2, 20) ∷ []) 1
+        ≡ (3, 30) ∷ (2, 20) ∷ [] }
+{}
+
+/// Of a cache that passes its capacity, by one or by more, an insert leaves the last pairs: all that are too many are
+/// dropped, even where the key was there.
+pub fn an_insert_drops_all_that_are_too_many()
+    ensures one { numbers.cache_insert ((1, 10) ∷ (2, 20) ∷ []) 1 3 30 ≡ (3, 30) ∷ [] }
+    ensures two { numbers.cache_insert ((1, 10) ∷ (3, 30) ∷ (2, 20) ∷ []) 1 4 40 ≡ (4, 40) ∷ [] }
+    ensures there { numbers.cache_insert ((1, 10) ∷ (3, 30) ∷ (2, 20) ∷ []) 1 1 11 ≡ (1, 11) ∷ [] }
+    ensures use_step { numbers.cache_use ((1, 10) ∷ (2, 20) ∷ (3, 30) ∷ []) 2 4 40 ≡ (3, 30) ∷ (4, 40) ∷ [] }
+    ensures hit { numbers.cache_use ((1, 10) ∷ (2, 20) ∷ (3, 30) ∷ []) 2 1 40 ≡ (2, 20) ∷ (3, 30) ∷ (1, 10) ∷ [] }
+    ensures extended { cache_extended {V = ℕ} nat_eq ((1, 10) ∷ (2, 20) ∷ (3, 30) ∷ []) 1 ((4, 40) ∷ [])
+        ≡ (4, 40) ∷ [] }
 {}
 
 /// A hit moves its entry last, and the oldest is dropped; a smaller capacity keeps the last pairs.
@@ -144,19 +155,23 @@ pub fn the_last_entries<K, V>()
     ensures end { (es : List (K × V)) (n : ℕ) → take (length es - n) es ++ last_entries es n ≡ es }
 {}
 
-/// A cache of at most n entries, where n is no less than its capacity, has at most n after its insert, and its keys
-/// are pairwise unequal.
-pub fn an_insert_stays_within_the_bound<K, V>()
-    ensures at_most { (eq : K → K → Bool) (es : List (K × V)) (cap n : ℕ) (k : K) (v : V) → cap ≤ n → length es ≤ n
-        → length (cache_put eq es cap k v) ≤ n }
+/// A cache has at most its capacity of entries after its insert, however many it had before, and all of them where
+/// there is a place; its keys are pairwise unequal.
+pub fn an_insert_comes_within_the_capacity<K, V>()
+    ensures at_most { (eq : K → K → Bool) (es : List (K × V)) (cap : ℕ) (k : K) (v : V)
+        → length (cache_put eq es cap k v) ≤ cap }
+    ensures with_a_place { (eq : K → K → Bool) (es : List (K × V)) (cap : ℕ) (k : K) (v : V) → length es < cap
+        → cache_put eq es cap k v ≡ put eq es k v (length es) }
+    ensures one_too_many { (eq : K → K → Bool) (es : List (K × V)) (cap : ℕ) (k : K) (v : V) → length es ≤ cap
+        → cache_put eq es cap k v ≡ front_evicted (put eq es k v (length es)) cap }
     ensures keys { (eq : K → K → Bool) → IsEquivalence eq → (es : List (K × V)) (cap : ℕ) (k : K) (v : V)
         → IsEntries eq es
         → IsEntries eq (cache_put eq es cap k v) }
     ensures drops { (eq : K → K → Bool) (es : List (K × V)) (n : ℕ) → IsEntries eq es → IsEntries eq (drop n es) }
 {}
 
-/// A cache's insert answers the old value and leaves what the eviction does; a refused one names an absent key
-/// without a spare node and drops nothing.
+/// A cache's insert answers the old value and leaves the last entries of the map's insert; a refused one names an
+/// absent key without a spare node and drops nothing.
 pub fn what_a_cache_insert_leaves<K, V, S>()
     ensures answer { (eq : K → K → Bool) (old new : CacheState K V S) (k : K) (v : V) (w : Option V)
         → CacheInserts eq old new k v (Ok w)
@@ -251,12 +266,15 @@ pub fn a_cache_extended_in_two_parts<K, V>()
 {}
 
 /// A cache of at most n entries beyond its capacity stays so under each of its calls that is made of these steps;
-/// after a capacity that is set there is none beyond it.
+/// after a capacity that is set, and after an insert that is not refused, there is none beyond it.
 pub fn a_bound_beyond_the_capacity_is_kept<K, V, S>()
     ensures insert { (old new : CacheState K V S) (n : ℕ) (eq : K → K → Bool) (k : K) (v : V)
         (r : Result (Option V) (K × V))
         → CacheInserts eq old new k v r → IsWithin old n
         → IsWithin new n }
+    ensures inserted { (old new : CacheState K V S) (eq : K → K → Bool) (k : K) (v : V) (w : Option V)
+        → CacheInserts eq old new k v (Ok w)
+        → IsWithin new 0 }
     ensures get { (old new : CacheState K V S) (n : ℕ) (eq : K → K → Bool) (k : K) (r : Option V)
         → CacheGets eq old new k r → IsWithin old n
         → IsWithin new n }
@@ -303,14 +321,20 @@ pub fn what_an_entry_of_a_cache_lets_in<K, V, S, A>()
         → (e.map.entries ≡ (2, 20) ∷ []) × (e.place ≡ None) × (e.key ≡ 1) }
 {}
 
-/// How many links an insert stores at most: seven where a new key drops an entry, nine where one that was there does,
-/// and four where there is a place. What drops more entries stores three links for each of them.
+/// How many links an insert stores at most: four for a new key, six for one that was there, and three for each entry
+/// that it drops. So they are seven and nine where it drops one, and four for a new key where there is a place.
 pub fn links_of_a_cache_insert<K, V, S>()
     ensures new_key { (eq : K → K → Bool) (old new : CacheState K V S) (k : K) (v : V)
         → CacheInserts eq old new k v (Ok None)
-        → StoresAtMost 7 old.map.link_writes new.map.link_writes }
+        → StoresAtMost (4 + 3 * (length old.map.entries + 1 - old.cap)) old.map.link_writes new.map.link_writes }
     ensures there { (eq : K → K → Bool) (old new : CacheState K V S) (k : K) (v w : V)
         → CacheInserts eq old new k v (Ok (Some w))
+        → StoresAtMost (6 + 3 * (length old.map.entries - old.cap)) old.map.link_writes new.map.link_writes }
+    ensures new_key_drops_one { (eq : K → K → Bool) (old new : CacheState K V S) (k : K) (v : V)
+        → CacheInserts eq old new k v (Ok None) → IsWithin old 0
+        → StoresAtMost 7 old.map.link_writes new.map.link_writes }
+    ensures there_drops_one { (eq : K → K → Bool) (old new : CacheState K V S) (k : K) (v w : V)
+        → CacheInserts eq old new k v (Ok (Some w)) → IsWithin old 1
         → StoresAtMost 9 old.map.link_writes new.map.link_writes }
     ensures with_a_place { (eq : K → K → Bool) (old new : CacheState K V S) (k : K) (v : V)
         → CacheInserts eq old new k v (Ok None) → length old.map.entries < old.cap
@@ -325,8 +349,8 @@ pub fn links_of_a_cache_insert<K, V, S>()
         → StoresAtMost (3 * (length old.map.entries - n)) old.map.link_writes new.map.link_writes }
 {}
 
-/// An insert that is not refused passes two lengths: that of the map's insert, and that after what was too many was
-/// dropped.
+/// An insert that is not refused passes two lengths: that of the map's insert, and that after all that were too many
+/// were dropped.
 pub fn lengths_that_a_cache_insert_passes<K, V, S>()
     ensures { (eq : K → K → Bool) (old new : CacheState K V S) (k : K) (v : V) (w : Option V)
         → CacheInserts eq old new k v (Ok w)

@@ -1,19 +1,15 @@
 -- Along the steps of a cache: a spare node that stays, so that nothing is refused.
 use Rattle.std.proofs.Common.{◌≡◌, ℕ, zero, suc, ◌≤◌, ◌<◌, Bool, true, false, List, [], ◌∷◌, length, take, drop}
 use Rattle.std.proofs.Common.{slice_get, Option, None, Some, Result, Ok, Err, MatchOption, MatchResult}
-use Rattle.std.proofs.Common.{cond, refl, sym, ap, ◌∙◌, subst, arith}
+use Rattle.std.proofs.Common.{refl, sym, ap, ◌∙◌, subst, arith}
 use Rattle.std.specs.List.{AllPass}
 use Rattle.std.specs.Map.{lookup, lookup_entry}
-use Rattle.std.specs.Option.{option_map_or}
 use Rattle.std.specs.Result.{result_map_both}
 use Rattle.std.proofs.lemmas.List.Elements.{All-head, All-tail}
 use Rattle.std.proofs.lemmas.Option.{same_Some}
 use Rattle.hashlink_model.specs.Cache.{CacheState, HasNodeToSpare, EvictsFront, CacheInserts, CacheGets}
-use Rattle.hashlink_model.specs.Cache.{CacheUses}
-use Rattle.hashlink_model.specs.CacheRuns as event
-use Rattle.hashlink_model.specs.Entries.{place_of, put}
+use Rattle.hashlink_model.specs.Entries.{place_of}
 use Rattle.hashlink_model.specs.Entry.{VacantInserts}
-use Rattle.hashlink_model.specs.History.{Passed, Length}
 use Rattle.hashlink_model.specs.MapState.{MapState}
 use Rattle.hashlink_model.specs.Steps.{RemovesKey, PopsFront}
 use Rattle.hashlink_model.proofs.CacheBounds.{to_spare-kept, to_spare-dropped, to_spare-inserts}
@@ -27,13 +23,13 @@ use Rattle.hashlink_commands.specs.declared.commands.EntryStep.{EntryStep}
 use Rattle.hashlink_commands.specs.declared.commands.EntryStep.TheVariants as step
 use Rattle.hashlink_commands.specs.declared.replies.Reply.{Reply}
 use Rattle.hashlink_commands.specs.declared.replies.Reply.TheVariants.{Refused}
-use Rattle.hashlink_run.specs.CacheCalls.{put_passed}
-use Rattle.hashlink_run.specs.CacheRun.{is_refused, leaves_spare, command_put, DropsPair, TakesAllAfterADrop}
+use Rattle.hashlink_run.specs.CacheRun.{is_refused, leaves_spare, DropsPair, TakesAllAfterADrop}
 use Rattle.hashlink_run.specs.CacheStep.{CacheStep, CacheRun}
 use Rattle.hashlink_run.specs.CallReplies.{insert_reply, reply_or_refused}
 use Rattle.hashlink_run.specs.Chain.{Answered, state_after, after}
 use Rattle.hashlink_run.specs.EntrySteps.{OccupiedStep, VacantStep, EntrySteps}
 use Rattle.hashlink_run.specs.Reads.{Replies}
+use Rattle.hashlink_run.proofs.CachePuts.{step-puts}
 use Rattle.hashlink_run.proofs.Chained.{Chain-take}
 
 -- ---- nothing is refused while a node is spare
@@ -166,60 +162,12 @@ module _ {K V B S : Type 0} (eq : K → K → Bool) (Says : K → V → B → Ty
 
   -- ---- and so does an insert that dropped a pair
 
-  abbrev PutLength : K → V → ℕ
-  PutLength k v = length (put eq old.map.entries k v (length old.map.entries))
-
-  -- the length that is passed is the one above the capacity
-  same_length : (m n : ℕ) → ◌≡◌ {A = List Passed} (Length m ∷ []) (Length n ∷ []) → m ≡ n
-  same_length m n is = cc
-
-  insert-drops : (k : K) (v : V) (answer : Result (Option V) (K × V)) (n : ℕ) → CacheInserts eq old new k v answer
-      → command_put {B = B} eq old (Insert k v) (insert_reply answer ∷ []) ≡ Length n ∷ [] → old.cap < n
-      → HasNodeToSpare new
-  insert-drops k v (Ok w) n s is more =
-      let same = same_length (PutLength k v) n is in
-      to_spare-dropped old new eq k v w s (subst (λ m. old.cap < m) (sym same) more)
-  insert-drops k v (Err pair) n s is more = cc
-
-  use-drops : (k : K) (v : V) (w : Option V) (n : ℕ) (o : Option V)
-      → MatchOption o (CacheInserts eq old new k v (Ok w))
-      (λ x. (◌≡◌ {A = Result (Option V) (K × V)} (Ok w) (Ok (Some x))) × CacheGets eq old new k (Some x))
-      → option_map_or (λ x. []) o (Length (PutLength k v) ∷ []) ≡ Length n ∷ [] → old.cap < n
-      → HasNodeToSpare new
-  use-drops k v w n None s is more =
-      let same = same_length (PutLength k v) n is in
-      to_spare-dropped old new eq k v w s (subst (λ m. old.cap < m) (sym same) more)
-  use-drops k v w n (Some x) s is more = cc
-
-  -- what a use passes, by whether it is refused
-  abbrev UsePassed : K → V → Bool → List Passed
-  UsePassed k v refused = cond refused [] (put_passed eq old.cap old.map.entries (event.Use k v))
-
-  used-drops : (k : K) (v : V) (answer : Result (Option V) (K × V)) (replies : List (Reply K V B)) (n : ℕ)
-      → CacheUses eq old new k v answer
-      → MatchResult answer (λ w. Replies Says (lookup_entry (eq k) old.map.entries) replies)
-      (λ pair. replies ≡ Refused pair.0 pair.1 ∷ [])
-      → UsePassed k v (is_refused replies) ≡ Length n ∷ [] → old.cap < n
-      → HasNodeToSpare new
-  used-drops k v (Ok w) replies n s said is more =
-      use-drops k v w n (lookup (eq k) old.map.entries) s
-      (subst (λ refused. UsePassed k v refused ≡ Length n ∷ []) (ap is_refused said.2) is) more
-  used-drops k v (Err pair) replies n s said is more =
-      let none = subst (λ refused. UsePassed k v refused ≡ Length n ∷ []) (ap is_refused said) is in cc
-
   step-drops : (command : CacheCommand K V) (replies : List (Reply K V B))
       → CacheStep eq Says old command replies new → DropsPair eq old command replies → HasNodeToSpare new
-  step-drops (Insert k v) replies s d =
-      insert-drops k v s.0 d.0 s.1
-      (subst (λ rs. command_put eq old (Insert k v) rs ≡ Length d.0 ∷ []) s.2 d.1) d.2
-  step-drops (Use k v) replies s d = used-drops k v s.0 replies d.0 s.1 s.2 d.1 d.2
-  step-drops (Entry k step) replies s d = let no = d.1 in cc
-  step-drops (Get k) replies s d = let no = d.1 in cc
-  step-drops (Peek k) replies s d = let no = d.1 in cc
-  step-drops (Remove k) replies s d = let no = d.1 in cc
-  step-drops (SetCapacity n) replies s d = let no = d.1 in cc
-  step-drops Clear replies s d = let no = d.1 in cc
-  step-drops RemoveLru replies s d = let no = d.1 in cc
+  step-drops command replies s d =
+      let puts = step-puts eq Says old new command replies d.0 s d.1 in
+      to_spare-dropped old new eq puts.key puts.value puts.answer puts.inserts
+      (subst (λ m. old.cap < m) (sym puts.passed) d.2)
 
 -- ---- along a chain
 

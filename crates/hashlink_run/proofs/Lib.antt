@@ -6,6 +6,7 @@ pub mod Called
 pub mod CallLaws
 pub mod CacheLengths
 pub mod CachePasses
+pub mod CachePuts
 pub mod CacheSpare
 pub mod CacheUsed
 pub mod CacheWider

@@ -73,6 +73,15 @@ module _ {K V B S : Type 0} where
         → ((k : K) → ¬ MayRefuse eq (after old answers j).map k)
         × ((b : Answered _ _) → slice_get answers j ≡ Some b → is_refused b.replies ≡ false)
 
+    -- after an insert and after a use that missed, where they are not refused, the cache is within its capacity,
+    -- whatever it was before
+    abbrev pub InsertsFit : CacheState K V S → List (CacheCommand K V)
+        → List (Answered (Reply K V B) (CacheState K V S)) → Type 0
+    InsertsFit old commands answers =
+        (i n : ℕ) (command : CacheCommand K V) (a : Answered _ _) → slice_get commands i ≡ Some command
+        → slice_get answers i ≡ Some a → command_put (after old answers i) command a.replies ≡ Length n ∷ []
+        → IsWithin a.state 0
+
   -- where the cache is within its capacity and n more, it is so after each command that comes: for n = 0 while no
   -- command names an entry, and above that always. A capacity that is set counts from then on
   pub record KeepsBounds (old : CacheState K V S) (commands : List (CacheCommand K V))

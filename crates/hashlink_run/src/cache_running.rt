@@ -1,7 +1,7 @@
 //! Lists of commands to a cache.
 ghost use Rattle.std.specs.Prelude.{◌≡◌, List, IfOk, OnErr};
 ghost use Rattle.hashlink_lru.specs.Cached.{state_in};
-ghost use Rattle.hashlink_run.specs.CacheRun.{CacheWithinPeak, KeepsBounds, TakesAllAfterADrop};
+ghost use Rattle.hashlink_run.specs.CacheRun.{CacheWithinPeak, InsertsFit, KeepsBounds, TakesAllAfterADrop};
 ghost use Rattle.hashlink_run.specs.CacheStep.{CacheRun, CacheRuns};
 ghost use Rattle.hashlink_run.specs.Chain.{Answered};
 ghost use Rattle.hashlink_run.specs.Reads.{ClosureSays};
@@ -38,7 +38,8 @@ where
     ensures refused { OnErr result (cache.new ≡ cache.old) }
 
     // Of any such chain, and so of this one: the nodes stay within the peak, once an insert has dropped a pair none is
-    // refused, and the length stays within a bound by the capacity.
+    // refused, the length stays within a bound by the capacity, and an insert that is not refused brings it within the
+    // capacity.
     ensures within_peak { (answers : List (Answered _ _))
         → CacheRun K.eq (ClosureSays F.Fn keep.now) (state_in cache.old) commands.items answers
         → CacheWithinPeak K.eq (state_in cache.old) commands.items answers }
@@ -48,6 +49,9 @@ where
     ensures bounded { (answers : List (Answered _ _))
         → CacheRun K.eq (ClosureSays F.Fn keep.now) (state_in cache.old) commands.items answers
         → KeepsBounds (state_in cache.old) commands.items answers }
+    ensures fits { (answers : List (Answered _ _))
+        → CacheRun K.eq (ClosureSays F.Fn keep.now) (state_in cache.old) commands.items answers
+        → InsertsFit K.eq (state_in cache.old) commands.items answers }
 {
     let mut replies = Vec::with_capacity(*commands.allocator(), commands.len())?;
     for command in commands {

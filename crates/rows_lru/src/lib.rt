@@ -8,6 +8,10 @@ mod entries;
 #[cfg(test)]
 mod numbers;
 #[cfg(test)]
+mod row;
+#[cfg(test)]
 mod uses;
 #[cfg(test)]
 mod walks;
+#[cfg(test)]
+mod within;

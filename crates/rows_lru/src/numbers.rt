@@ -1,5 +1,6 @@
 //! Caches of plain numbers.
 use hashlink::LruCache;
+use std::hash::BuildHasher;
 use std::test::Fail;
 
 pub(crate) type Numbers = LruCache<u64, u64>;
@@ -10,7 +11,10 @@ pub(crate) fn empty(rt: HostRuntime, capacity: usize) -> Numbers {
 }
 
 /// Inserts the keys up to `most`, each with ten times itself.
-pub(crate) fn fill(cache: &mut Numbers, most: u32) -> Result<(), Fail> {
+pub(crate) fn fill<S: BuildHasher>(
+    cache: &mut LruCache<u64, u64, S>,
+    most: u32,
+) -> Result<(), Fail> {
     for key in 1..=most {
         cache.insert(u64::from(key), u64::from(key) * 10)?;
     }
@@ -18,10 +22,9 @@ pub(crate) fn fill(cache: &mut Numbers, most: u32) -> Result<(), Fail> {
 }
 
 /// Whether the cache has these entries, front first.
-pub(crate) fn has(cache: &Numbers, entries: &[(u64, u64)]) -> bool {
-    cache.len() == entries.len()
-        && cache
-            .iter()
-            .zip(entries.iter())
-            .all(|((key, value), entry)| (*key, *value) == *entry)
+pub(crate) fn has<S: BuildHasher>(cache: &LruCache<u64, u64, S>, entries: &[(u64, u64)]) -> bool {
+    cache
+        .iter()
+        .map(|(key, value)| (*key, *value))
+        .eq(entries.iter().copied())
 }

@@ -57,18 +57,6 @@ fn entries_are_given_away_in_order(rt: HostRuntime) -> Result<(), Fail> {
 }
 
 #[test]
-fn a_retain_keeps_what_its_closure_says(rt: HostRuntime) -> Result<(), Fail> {
-    let mut cache = empty(rt, 3);
-    fill(&mut cache, 3)?;
-    cache.retain(|key, value| {
-        *value /= 10;
-        *key != 2
-    });
-    assert!(rt; has(&cache, &[(1, 1), (3, 3)]));
-    Ok(())
-}
-
-#[test]
 fn the_text_goes_from_the_back(rt: HostRuntime) -> Result<(), Fail> {
     let mut cache = empty(rt, 2);
     assert_eq!(rt; format!(in rt.alloc(); "{cache:?}")?.as_str(), "{}");

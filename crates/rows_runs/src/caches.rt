@@ -56,6 +56,19 @@ fn an_entry_passes_a_capacity_of_none_by_one(rt: HostRuntime) -> Result<(), Fail
 }
 
 #[test]
+fn an_insert_and_a_missed_use_come_within_the_capacity(rt: HostRuntime) -> Result<(), Fail> {
+    let steps = [
+        (Insert(1, 10), Value(None)),
+        (Entry(2, step::OrInsert(20)), Seen(None)),
+        (Insert(3, 30), Value(None)),
+        (Peek(2), Seen(None)),
+        (Entry(4, step::OrInsert(40)), Seen(None)),
+        (Use(5, 50), Seen(None)),
+    ];
+    holds(&rt, rt.alloc(), 1, &steps, &[(5, 50)])
+}
+
+#[test]
 fn uses_removals_and_a_clear(rt: HostRuntime) -> Result<(), Fail> {
     let steps = [
         (Use(1, 10), Seen(None)),

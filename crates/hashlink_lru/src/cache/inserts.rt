@@ -1,4 +1,4 @@
-//! How pairs come in, and how the entry that was used longest ago makes room.
+//! How pairs come in, and how the entries that were used longest ago make room.
 ghost use Rattle.std.specs.Prelude.{◌≡◌};
 ghost use Rattle.hashlink_model.specs.Cache.{CacheInserts, EvictsFront, OnMap};
 ghost use Rattle.hashlink_model.specs.Entries.{IsEntries};
@@ -10,11 +10,15 @@ impl<K: Eq + Hash, V, S: BuildHasher> LruCache<K, V, S> {
     ghost use Rattle.hashlink_lru.specs.Cached.{entries_in, state_in};
 
     /// Puts the pair last, and answers the key's old value. A key that is there keeps its key object, takes the new
-    /// value and moves to the end. Where there are then more entries than the capacity, the front is dropped.
+    /// value and moves to the end. Then entries are dropped from the front until there are no more than the capacity,
+    /// so a cache of capacity 0 is empty afterwards.
     ///
     /// It hashes the key once, and takes memory only for an absent key where no node is spare. Where that is refused,
     /// the pair is handed back and nothing is dropped.
-    /// It stores at most nine links for a key that is there and seven for an absent one.
+    ///
+    /// It takes a step for each entry that it drops: one at most, unless entries, cursors or `map_mut` have passed the
+    /// capacity. It stores at most six links for a key that is there, four for an absent one, and three for each entry
+    /// that it drops.
     pub fn insert(&mut self, key: K, value: V) -> Result<Option<V>, (K, V)>
     where
         K: Drop,
@@ -23,7 +27,7 @@ impl<K: Eq + Hash, V, S: BuildHasher> LruCache<K, V, S> {
         ensures distinct { IsEntries K.eq (entries_in self.new) }
     {
         let old = self.map.insert(key, value)?;
-        self.make_room();
+        self.keep_last(self.capacity);
         Ok(old)
     }
 

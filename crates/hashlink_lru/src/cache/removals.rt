@@ -3,7 +3,7 @@
 ghost use Rattle.std.specs.Prelude.{◌≡◌};
 ghost use Rattle.std.specs.Map.{lookup, lookup_entry};
 ghost use Rattle.std.specs.Map.Calls.{CalledAtPair, TakesPair, CallableOnEachPair};
-ghost use Rattle.hashlink_model.specs.Cache.{OnMap, SetsCapacity};
+ghost use Rattle.hashlink_model.specs.Cache.{KeepsLast, OnMap, SetsCapacity};
 ghost use Rattle.hashlink_model.specs.Entries.{IsEntries};
 ghost use Rattle.hashlink_model.specs.Retain.{RetainsInOrder};
 ghost use Rattle.hashlink_model.specs.Steps.{RemovesKey, PopsFront, Clears};
@@ -65,10 +65,21 @@ impl<K: Eq + Hash, V, S: BuildHasher> LruCache<K, V, S> {
         ensures sets { SetsCapacity (state_in self.old) (state_in self.new) capacity }
         ensures distinct { IsEntries K.eq (entries_in self.new) }
     {
-        for _ in capacity..self.map.len() {
+        self.keep_last(capacity);
+        self.capacity = capacity;
+    }
+
+    /// Drops entries from the front until there are at most `count`.
+    pub(super) fn keep_last(&mut self, count: usize)
+    where
+        K: Drop,
+        V: Drop,
+        ensures keeps { OnMap (λ a b. KeepsLast a b count) (state_in self.old) (state_in self.new) }
+        ensures distinct { IsEntries K.eq (entries_in self.new) }
+    {
+        for _ in count..self.map.len() {
             self.map.pop_front();
         }
-        self.capacity = capacity;
     }
 
     /// Calls `keep` once on each entry, and takes out those at which it answers false. It hashes nothing, and stores

@@ -5,6 +5,7 @@ use Rattle.hashlink_run.specs.Reads.{ClosureSays}
 use Rattle.hashlink_run.proofs.Answering.{HasAnswered-none, HasAnswered-more, HasAnswered-all}
 use Rattle.hashlink_run.proofs.CacheLengths.{keeps_bounds}
 use Rattle.hashlink_run.proofs.CachePasses.{cache_within_peak}
+use Rattle.hashlink_run.proofs.CachePuts.{inserts_fit}
 use Rattle.hashlink_run.proofs.CacheSpare.{takes_all_after_a_drop}
 use Rattle.hashlink_run.proofs.cache_running.run_cache.Goals as goal
 
@@ -37,6 +38,15 @@ returns-in_err-push-clause-bounded g c = λ answers run. keeps_bounds _ _ _ _ an
 
 pub returns-clause-bounded : goal.returns-clause-bounded
 returns-clause-bounded g c = λ answers run. keeps_bounds _ _ _ _ answers run
+
+pub returns-in_err-replies-clause-fits : goal.returns-in_err-replies-clause-fits
+returns-in_err-replies-clause-fits g c = λ answers run. inserts_fit _ _ _ _ answers run
+
+pub returns-in_err-push-clause-fits : goal.returns-in_err-push-clause-fits
+returns-in_err-push-clause-fits g c = λ answers run. inserts_fit _ _ _ _ answers run
+
+pub returns-clause-fits : goal.returns-clause-fits
+returns-clause-fits g c = λ answers run. inserts_fit _ _ _ _ answers run
 
 pub loop-command-init : goal.loop-command-init
 loop-command-init g c =
