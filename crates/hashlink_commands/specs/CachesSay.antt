@@ -1,4 +1,4 @@
--- What a line to a cache says, and a line to two caches, by its words.
+-- What a line to a cache says, a line to two caches, and a line to a cache with a budget, by its words.
 use Rattle.std.specs.Prelude.{ℕ, List, [], ◌∷◌, Option, codes}
 use Rattle.hashlink_commands.specs.Lines.{words_of}
 use Rattle.hashlink_commands.specs.Tables.{line_in}
@@ -7,6 +7,8 @@ use Rattle.hashlink_commands.specs.declared.cache_commands.PairCommand.{PairComm
 use Rattle.hashlink_commands.specs.declared.cache_commands.PairCommand.TheVariants as pair
 use Rattle.hashlink_commands.specs.declared.cache_line.CacheLine.{CacheLine}
 use Rattle.hashlink_commands.specs.declared.cache_line.CacheLine.TheVariants.{Do, Len, Iter}
+use Rattle.hashlink_commands.specs.declared.weighted_line.WeightedLine.{WeightedLine}
+use Rattle.hashlink_commands.specs.declared.weighted_line.WeightedLine.TheVariants as weighted
 
 -- ---- to a cache
 
@@ -59,3 +61,28 @@ pair_words_before (k ∷ v ∷ n ∷ ns) = []
 -- what the line says, or nothing where it is bad
 abbrev pub pair_says : List ℕ → Option (PairCommand ℕ ℕ)
 pair_says line = line_in pair_words_before (words_of line)
+
+-- ---- to a cache with a budget
+
+abbrev pub lone_weighted_words : List (List ℕ × WeightedLine)
+lone_weighted_words =
+    (codes "total", weighted.Total) ∷ (codes "len", weighted.Len) ∷ (codes "iter", weighted.Iter) ∷ []
+
+abbrev pub weighted_words_of_key : ℕ → List (List ℕ × WeightedLine)
+weighted_words_of_key k =
+    (codes "get", weighted.Get k) ∷ (codes "peek", weighted.Peek k) ∷ (codes "remove", weighted.Remove k) ∷ []
+
+-- those that stand before a key, a value and a weight
+abbrev pub weighted_words_of_entry : ℕ → ℕ → ℕ → List (List ℕ × WeightedLine)
+weighted_words_of_entry k v w = (codes "insert", weighted.Insert k v w) ∷ []
+
+abbrev pub weighted_words_before : List ℕ → List (List ℕ × WeightedLine)
+weighted_words_before [] = lone_weighted_words
+weighted_words_before (k ∷ []) = weighted_words_of_key k
+weighted_words_before (k ∷ v ∷ []) = []
+weighted_words_before (k ∷ v ∷ w ∷ []) = weighted_words_of_entry k v w
+weighted_words_before (k ∷ v ∷ w ∷ n ∷ ns) = []
+
+-- what the line says, or nothing where it is bad
+abbrev pub weighted_says : List ℕ → Option WeightedLine
+weighted_says line = line_in weighted_words_before (words_of line)

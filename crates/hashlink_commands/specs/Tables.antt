@@ -5,19 +5,20 @@ use Rattle.std.specs.Option.{option_map}
 use Rattle.std.specs.Str.{bytes_eq}
 use Rattle.hashlink_commands.specs.Lines.{number_of}
 use Rattle.hashlink_commands.specs.declared.numbers.Numbers.{Numbers}
-use Rattle.hashlink_commands.specs.declared.numbers.Numbers.TheVariants.{Nothing, One, Two}
+use Rattle.hashlink_commands.specs.declared.numbers.Numbers.TheVariants.{Nothing, One, Two, Three}
 
 -- the numbers that the words spell, where each spells one
 abbrev pub numbers_of : List (List ℕ) → Option (List ℕ)
 numbers_of [] = Some []
 numbers_of (word ∷ words) = option_and_then (λ n. option_map (λ ns. n ∷ ns) (numbers_of words)) (number_of word)
 
--- the numbers, where there are two at most
-abbrev pub two_at_most : List ℕ → Option Numbers
-two_at_most [] = Some Nothing
-two_at_most (k ∷ []) = Some (One k)
-two_at_most (k ∷ v ∷ []) = Some (Two k v)
-two_at_most (k ∷ v ∷ n ∷ ns) = None
+-- the numbers, where there are three at most
+abbrev pub three_at_most : List ℕ → Option Numbers
+three_at_most [] = Some Nothing
+three_at_most (k ∷ []) = Some (One k)
+three_at_most (k ∷ v ∷ []) = Some (Two k v)
+three_at_most (k ∷ v ∷ w ∷ []) = Some (Three k v w)
+three_at_most (k ∷ v ∷ w ∷ n ∷ ns) = None
 
 -- `before` has for some numbers the words that stand before them, each with what it says
 module _ {X : Type 0} (before : List ℕ → List (List ℕ × X)) where

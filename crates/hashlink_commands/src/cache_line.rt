@@ -32,6 +32,7 @@ impl CacheLine {
             Numbers::Nothing => said_alone(name),
             Numbers::One(number) => said_of_number(name, number),
             Numbers::Two(key, value) => said_of_pair(name, key, value),
+            Numbers::Three(..) => None,
         }
     }
 }

@@ -13,6 +13,7 @@ mod numbers;
 mod pair_line;
 mod replies;
 mod tables;
+mod weighted_line;
 mod words;
 
 pub use cache_commands::{CacheCommand, PairCommand};
@@ -23,3 +24,4 @@ pub use lines::Lines;
 pub use modes::{Mode, mode_of};
 pub use pair_line::pair_command;
 pub use replies::Reply;
+pub use weighted_line::WeightedLine;

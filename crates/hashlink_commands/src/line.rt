@@ -53,6 +53,7 @@ fn said_of_name(name: &[u8], words: Words<'_>) -> Option<Line>
         Numbers::Nothing => said_alone(name),
         Numbers::One(key) => said_of_key(name, key),
         Numbers::Two(key, value) => said_of_pair(name, key, value),
+        Numbers::Three(..) => None,
     }
 }
 
@@ -132,7 +133,7 @@ fn said_of_step(name: &[u8], words: Words<'_>) -> Option<EntryStep<u64>>
     match read_numbers(words)? {
         Numbers::Nothing => step_alone(name),
         Numbers::One(value) => step_of_value(name, value),
-        Numbers::Two(..) => None,
+        Numbers::Two(..) | Numbers::Three(..) => None,
     }
 }
 

@@ -3,21 +3,22 @@ ghost use Rattle.std.specs.Int.{IsInRange};
 ghost use Rattle.std.specs.Option.{SomeIff};
 ghost use Rattle.hashlink_commands.specs.Cuts.{parts_left};
 ghost use Rattle.hashlink_commands.specs.Lines.{value_of, number_of};
-ghost use Rattle.hashlink_commands.specs.Tables.{numbers_of, two_at_most};
+ghost use Rattle.hashlink_commands.specs.Tables.{numbers_of, three_at_most};
 
 use crate::words::Words;
 
-// The numbers that stand after a word. No word has more than two.
+// The numbers that stand after a word. No word has more than three.
 #[derive(Clone, Copy)]
 pub(crate) enum Numbers {
     Nothing,
     One(u64),
     Two(u64, u64),
+    Three(u64, u64, u64),
 }
 
-// The numbers that the words spell, if each spells one and they are two at most.
+// The numbers that the words spell, if each spells one and they are three at most.
 pub(crate) fn read_numbers(mut words: Words<'_>) -> Option<Numbers>
-    ensures { result ≡ option_and_then two_at_most (numbers_of (parts_left 32 words.entry.rest)) }
+    ensures { result ≡ option_and_then three_at_most (numbers_of (parts_left 32 words.entry.rest)) }
 {
     let Some(first) = words.next() else {
         return Some(Numbers::Nothing);
@@ -27,8 +28,12 @@ pub(crate) fn read_numbers(mut words: Words<'_>) -> Option<Numbers>
         return Some(Numbers::One(first));
     };
     let second = number(second)?;
+    let Some(third) = words.next() else {
+        return Some(Numbers::Two(first, second));
+    };
+    let third = number(third)?;
     match words.next() {
-        None => Some(Numbers::Two(first, second)),
+        None => Some(Numbers::Three(first, second, third)),
         Some(_) => None,
     }
 }

@@ -18,6 +18,7 @@ pub fn pair_command(text: &[u8]) -> Option<PairCommand<u64, u64>>
         Numbers::Nothing => None,
         Numbers::One(key) => said_of_key(name, key),
         Numbers::Two(key, value) => said_of_pair(name, key, value),
+        Numbers::Three(..) => None,
     }
 }
 

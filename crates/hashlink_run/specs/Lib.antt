@@ -13,5 +13,6 @@ pub mod CacheStep
 pub mod CacheRun
 pub mod Transcript
 pub mod CacheTranscript
+pub mod WeightedTranscript
 pub mod Text
 pub mod Faults

@@ -3,14 +3,17 @@ use Rattle.std.specs.Prelude.{◌≡◌, ℕ, List, [], ◌∷◌, ◌++◌, cod
 use Rattle.std.specs.Io.KnownBytes.{Appends}
 use Rattle.hashlink_model.specs.Cache.{CacheState}
 use Rattle.hashlink_model.specs.MapState.{MapState, empty_map}
+use Rattle.hashlink_model.specs.Weights.{WeightedState}
 use Rattle.hashlink_core.specs.declared.hash_builder.DefaultHashBuilder.{DefaultHashBuilder}
 use Rattle.hashlink_lru.specs.Cached.{empty_cache}
+use Rattle.hashlink_weighted.specs.Weighed.{empty_weighted}
 use Rattle.hashlink_commands.specs.Lines.{lines_of}
 use Rattle.hashlink_commands.specs.Modes.{mode_said}
 use Rattle.hashlink_commands.specs.declared.modes.Mode.{Mode}
-use Rattle.hashlink_commands.specs.declared.modes.Mode.TheVariants.{Map, Cache, Pair}
+use Rattle.hashlink_commands.specs.declared.modes.Mode.TheVariants.{Map, Cache, Pair, Weighted}
 use Rattle.hashlink_run.specs.CacheTranscript.{CacheLineShows, Held, PairLineShows, lists_shown}
 use Rattle.hashlink_run.specs.Transcript.{LineShows, ShowsAll, ended}
+use Rattle.hashlink_run.specs.WeightedTranscript.{WeightedLineShows}
 
 module _ (S : Type 0) where
   -- the answer to the lines after the mode line, from an empty map or empty caches on. A bad mode line is answered
@@ -24,6 +27,8 @@ module _ (S : Type 0) where
   ModeRun (Some (Pair c d)) lines text =
       (answers : List ℕ) × (new : Held) × ShowsAll (PairLineShows c d) ([], []) lines answers new
       × (text ≡ answers ++ lists_shown new)
+  ModeRun (Some (Weighted b)) lines text =
+      (hasher : S) × (new : WeightedState ℕ ℕ S) × ShowsAll WeightedLineShows (empty_weighted hasher b) lines text new
 
   -- the answer to a text of these lines, the first of which names the mode
   abbrev pub LinesRun : List (List ℕ) → List ℕ → Type 0

@@ -15,6 +15,7 @@ mod serving;
 mod shown;
 mod steps;
 mod text;
+mod weighted_text;
 
 pub use cache_running::run_cache;
 pub use calls::{Pair, Uses, run_pair, run_uses};

@@ -12,6 +12,7 @@ use crate::cache_text::run_cache_lines;
 use crate::pair_text::run_pair_lines;
 use crate::shown::Form;
 use crate::steps::answer_command;
+use crate::weighted_text::run_weighted_lines;
 use hashlink_commands::{Command, EntryStep, Line, Lines, Mode, Reply, mode_of};
 use hashlink_map::{Iter, LinkedHashMap};
 use std::alloc::{AllocError, Global};
@@ -31,6 +32,7 @@ pub fn run_text(alloc: Global, input: &[u8]) -> Result<Vec<u8>, AllocError>
             Some(Mode::Map) => run_map(alloc, lines, &mut out)?,
             Some(Mode::Cache(capacity)) => run_cache_lines(alloc, capacity, lines, &mut out)?,
             Some(Mode::Pair(small, large)) => run_pair_lines(alloc, small, large, lines, &mut out)?,
+            Some(Mode::Weighted(budget)) => run_weighted_lines(alloc, budget, lines, &mut out)?,
             None => writeln!(out, "bad")?,
         }
     }

@@ -91,6 +91,27 @@ fn a_text_of_commands_is_answered_line_by_line(rt: HostRuntime) -> Result<(), Fa
             "pair 1 1\nget 1\niter\nuse 1\n",
             "bad\nbad\nbad\nempty\nempty\n",
         ),
+        // A cache with a budget: entries at the front make room, and what is too heavy changes nothing.
+        (
+            "weighted 10\ninsert 1 10 4\ninsert 2 20 4\ninsert 3 30 4\niter\ntotal\ninsert 2 21 9\niter\ninsert 4 40 11\ntotal\n",
+            "-\n-\n-\n2:20 3:30\n8\n20\n2:21\nheavy\n9\n",
+        ),
+        (
+            "weighted 5\ninsert 1 10 2\ninsert 2 20 2\npeek 1\nget 1\nget 9\npeek 9\ninsert 3 30 3\niter\ninsert 1 11 6\nremove 1\nremove 1\nlen\ntotal\n",
+            "-\n-\n10\n10\n-\n-\n-\n1:10 3:30\nheavy\n10\n-\n1\n3\n",
+        ),
+        (
+            "weighted 18446744073709551615\ninsert 1 10 18446744073709551615\ninsert 2 20 18446744073709551615\ntotal\niter\n",
+            "-\n-\n18446744073709551615\n2:20\n",
+        ),
+        (
+            "weighted 0\ntotal\nlen\niter\ninsert 1 10 0\ninsert 2 20 1\niter\ntotal",
+            "0\n0\nempty\n-\nheavy\n1:10\n0\n",
+        ),
+        (
+            "weighted 1\ninsert 1 2\ninsert 1 2 01\ninsert 1 2 3 4\ntotal 1\nclear\nget\nuse 1 1\npeek 1 1\ninsert 1 2 18446744073709551616\niter",
+            "bad\nbad\nbad\nbad\nbad\nbad\nbad\nbad\nbad\nempty\n",
+        ),
         // Nothing is there.
         (
             "map\nfront\nback\npop_front\npop_back\nto_front 1\nto_back 1\nget 1\nremove 1\nlen\nshrink\nclear\niter\n",
@@ -115,10 +136,12 @@ fn a_text_of_commands_is_answered_line_by_line(rt: HostRuntime) -> Result<(), Fa
             "bad\nbad\nbad\nbad\nbad\nbad\nbad\n0\n",
         ),
         ("map\ninsert 1 1\nmap\niter", "-\nbad\n1:1\n"),
+        ("map\ncursor before 1 10 foo\niter\n", "bad\nempty\n"),
         // First lines.
         ("map", ""),
         ("", ""),
         ("\n", "bad\n"),
+        ("map \n", "bad\n"),
         ("map \ninsert 1 1\n", "bad\n"),
         ("pair 2 1\ninsert 1 1\n", "bad\n"),
         ("cache 18446744073709551616\n", "bad\n"),
@@ -128,6 +151,9 @@ fn a_text_of_commands_is_answered_line_by_line(rt: HostRuntime) -> Result<(), Fa
         ("pair 0 0\ninsert 1 1", "- -\nempty\nempty\n"),
         ("pair 1 2", "empty\nempty\n"),
         ("cache 1", ""),
+        ("weighted 1", ""),
+        ("weighted\nlen\n", "bad\n"),
+        ("weighted 1 2\nlen\n", "bad\n"),
         ("map\r\ninsert 1 1\n", "bad\n"),
     ];
     for (input, wanted) in rows {
@@ -197,6 +223,8 @@ fn bad_lines_change_nothing(rt: HostRuntime) -> Result<(), Fail> {
         let answer = run_text(rt.alloc(), input.as_bytes())?;
         assert_eq!(rt; answer.as_slice(), b"-\nbad\n1:2\n".as_slice(), "{row}");
     }
+    let text = run_text(rt.alloc(), b"map\n\xff\n")?;
+    assert_eq!(rt; text.as_slice(), b"bad\n".as_slice());
     let text = run_text(rt.alloc(), b"map\nget \xff\n\xff")?;
     assert_eq!(rt; text.as_slice(), b"bad\nbad\n".as_slice());
     Ok(())

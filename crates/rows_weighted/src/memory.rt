@@ -1,5 +1,6 @@
 //! What stands when memory is refused.
 use crate::entries::{Numbers, holds, insert_or_retry};
+use hashlink::run::run_text;
 use hashlink::weighted::WeightError::{Memory, TooHeavy};
 use hashlink::weighted::WeightedCache;
 
@@ -29,4 +30,19 @@ fn a_key_that_is_there_and_a_spare_node_need_no_memory(rt: HostRuntime) {
     assert_eq!(rt; cache.remove(&1), Some(11));
     assert_eq!(rt; cache.insert(2, 20, 6), Ok(None));
     holds(&rt, &cache, &[(2, 20, 6)]);
+}
+
+#[test]
+fn a_text_says_memory_and_goes_on(rt: HostRuntime) {
+    let text =
+        b"weighted 10\ninsert 1 10 4\ninsert 2 20 4\ninsert 3 30 4\niter\ntotal\ninsert 2 21 9\niter\ninsert 4 40 11\ntotal\n";
+    let answers = [
+        b"-\n-\n-\n2:20 3:30\n8\n20\n2:21\nheavy\n9\n".as_slice(),
+        b"memory\n-\n-\n2:20 3:30\n8\n20\n2:21\nheavy\n9\n".as_slice(),
+        b"-\nmemory\n-\n1:10 3:30\n8\n-\n2:21\nheavy\n9\n".as_slice(),
+        b"-\n-\nmemory\n1:10 2:20\n8\n20\n2:21\nheavy\n9\n".as_slice(),
+    ];
+    if let Ok(answer) = run_text(rt.alloc(), text.as_slice()) {
+        assert!(rt; answers.contains(&answer.as_slice()));
+    }
 }
