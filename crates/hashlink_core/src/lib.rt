@@ -5,8 +5,6 @@ mod hash_builder;
 mod hasher;
 mod iter;
 mod keyed_list;
-#[cfg(test)]
-mod tests;
 
 pub use hash_builder::DefaultHashBuilder;
 pub use hasher::DefaultHasher;

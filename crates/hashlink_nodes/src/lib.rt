@@ -11,8 +11,6 @@ mod links;
 mod loose;
 mod node;
 mod nodes;
-#[cfg(test)]
-mod tests;
 
 pub use held::Held;
 pub use node::Node;

@@ -3,12 +3,15 @@ ghost use Rattle.std.specs.Prelude.{◌≡◌, ℕ, ◌+◌};
 ghost use base.Fml.{ftrue};
 
 use std::marker::{Model, PhantomData};
+use std::mem::size_of;
 
 /// How many links were stored. It is a number of the contracts alone: it has no bytes, and no greatest value.
 pub(crate) struct LinkWrites {
     mark: PhantomData<*mut u8>,
     pub(crate) ghost count: { ℕ },
 }
+
+const _: () = prove!(size_of::<LinkWrites>() == 0);
 
 impl Model for LinkWrites {
     ghost also_owns = { λ _. ftrue };

@@ -1,4 +1,5 @@
 //! Nodes.
+use std::mem::size_of;
 use std::ptr;
 
 /// A node of a ring: where its block lies. It owns nothing, and only the ring that made it can use it.
@@ -6,6 +7,8 @@ use std::ptr;
 pub struct Node {
     pub(crate) at: *mut u8,
 }
+
+const _: () = prove!(size_of::<Node>() == 8);
 
 impl Node {
     /// No node of any ring.

@@ -73,7 +73,8 @@ module _ {N : Type 0} where
       → chain_at buckets (set cells i c) j ≡ chain_at buckets cells j
   chain_at-set_same buckets cells i c h same j =
       elim (cases_eq j i) as (λ _. chain_at buckets (set cells i c) j ≡ chain_at buckets cells j) [
-        | inl e ↦ ap (chain_at buckets (set cells i c)) e ∙ chain_at-set buckets cells i c h ∙ ap (chain_of buckets) same
+        | inl e ↦ ap (chain_at buckets (set cells i c)) e ∙ chain_at-set buckets cells i c h
+            ∙ ap (chain_of buckets) same
             ∙ sym (get_or-map (label buckets) cells i no_cell (suc buckets) h) ∙ ap (chain_at buckets cells) (sym e)
         | inr ne ↦ chain_at-set_other buckets cells i c j ne
       ]

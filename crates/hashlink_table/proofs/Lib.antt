@@ -1,11 +1,9 @@
-pub mod Agreeing
-pub mod Callers
 pub mod Cells
 pub mod Linking
-pub mod Numbered
 pub mod Paths
 pub mod Results
 pub mod Sound
+pub mod Starts
 pub mod Threads
 pub mod Views
 pub mod Walks

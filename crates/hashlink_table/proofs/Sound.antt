@@ -13,7 +13,8 @@ use Rattle.hashlink_table.specs.declared.cell.TheConstants.{END}
 use Rattle.std.specs.FinMap.{len}
 use Rattle.hashlink_table.specs.Contents.{Contents}
 use Rattle.hashlink_table.specs.Chains.{no_cell, kept_at, next_at, chain_of, chain_at, taken, Among, IsPath, IsLinked}
-use Rattle.hashlink_table.specs.Chains.{IsLinkedBut, IsPlaced, IsSound, SameNodes}
+use Rattle.hashlink_table.specs.Chains.{IsFit, IsLinkedBut, IsPlaced, IsSound, SameNodes}
+use Rattle.hashlink_table.specs.Heads.{Starts}
 use Rattle.hashlink_table.proofs.Cells.{kept_at-set, kept_at-set_other, kept_at-push, kept_at-push_other}
 use Rattle.hashlink_table.proofs.Cells.{chain_at_within, within_by_chain}
 use Rattle.hashlink_table.proofs.Linking.{linked-push, linked-reuse, linked-give, free_on}
@@ -126,6 +127,19 @@ module _ {N : Type 0} where
               others = kept_at-set_other cells free c;
               small = omega (arith, within, s.cells_small);
             })
+      ]
+
+  -- after an insert each cell's number fits into a head
+  pub placed_fit : (heads : Starts) (cells later : List (Cell N)) (capacity free now len room at : ℕ) (c : Cell N)
+      → IsFit heads cells room → IsSound heads.firsts cells capacity free len room → len < room
+      → IsPlaced cells later free now c at
+      → (at < heads.most) × (length later ≤ heads.most)
+  placed_fit heads cells later capacity free now len room at c fit s more placed =
+      elim placed as (λ _. (at < heads.most) × (length later ≤ heads.most)) [
+        | inl p ↦ let full = full_by_free s p.0 in
+            rw (p.2, p.1) (omega (arith, full, more, fit.1), omega (arith, full, more, fit.1, length_push cells c))
+        | inr p ↦ let within = within_by_free s p.0 in
+            rw (p.2, p.1) (omega (arith, within, fit.0), omega (arith, fit.0, length-set cells free c))
       ]
 
   pub sound-insert : (heads : List ℕ) (cells later : List (Cell N)) (capacity free now len room at b : ℕ) (c : Cell N)
@@ -244,16 +258,17 @@ module _ {N : Type 0} where
       → length later ≤ length cells → len ≤ now_room → now_room ≤ length now_heads → now_room ≤ now_capacity
       → length now_heads ≤ 2 ^ 47 → IsPowerOfTwo (length now_heads)
       → IsSound now_heads later now_capacity now len now_room
-  sound-relink heads now_heads cells later capacity now_capacity free now len room now_room s linked same fewer held headed reserved small power = record {
-    linked = linked;
-    counted = s.counted ∙ sym (taken-same cells later same);
-    held = held;
-    headed = headed;
-    reserved = reserved;
-    small = small;
-    cells_small = omega (arith, fewer, s.cells_small);
-    masked = λ _. power;
-  }
+  sound-relink heads now_heads cells later capacity now_capacity free now len room now_room s linked same fewer held
+      headed reserved small power = record {
+        linked = linked;
+        counted = s.counted ∙ sym (taken-same cells later same);
+        held = held;
+        headed = headed;
+        reserved = reserved;
+        small = small;
+        cells_small = omega (arith, fewer, s.cells_small);
+        masked = λ _. power;
+      }
 
   -- memory may be given back down to the room
   pub sound-capacity : {heads : List ℕ} {cells : List (Cell N)} {capacity free len room : ℕ}

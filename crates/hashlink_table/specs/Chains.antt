@@ -4,6 +4,7 @@ use Rattle.std.specs.Prelude.{Option, Some, None, is_some, count_by, slice_index
 use Rattle.std.specs.FinMap.{from_sorted}
 use Rattle.std.specs.Int.{IsPowerOfTwo}
 use Rattle.hashlink_table.specs.Contents.{Contents}
+use Rattle.hashlink_table.specs.Heads.{Starts}
 use Rattle.hashlink_table.specs.declared.kept.Kept.{Kept}
 use Rattle.hashlink_table.specs.declared.cell.Cell.{Cell}
 use Rattle.hashlink_table.specs.declared.cell.TheConstants.{END}
@@ -89,6 +90,10 @@ abbrev pub IsPlaced : {N : Type 0} → List (Cell N) → List (Cell N) → ℕ �
 IsPlaced old new free now cell at =
     ((free ≡ END) × (at ≡ length old) × (new ≡ old ++ cell ∷ []) × (now ≡ END))
     ⊎ ((free ≢ END) × (at ≡ free) × (new ≡ slice_set old at cell) × (now ≡ next_at old at))
+
+-- the heads have place for the number of each cell, now and at full room
+abbrev pub IsFit : {N : Type 0} → Starts → List (Cell N) → ℕ → Type 0
+IsFit heads cells room = (length cells ≤ heads.most) × (room ≤ heads.most)
 
 -- the fields of a table agree
 pub record IsSound {N : Type 0} (heads : List ℕ) (cells : List (Cell N)) (capacity free len room : ℕ) : Type 0 where

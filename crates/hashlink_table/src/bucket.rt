@@ -16,20 +16,20 @@ const FEWEST_CELLS: usize = 1 << 12;
 // Up to so many they lie in a near one.
 const FEW_CELLS: usize = 1 << 14;
 
-/// How many buckets a table with so many cells has: four or two for each where they are few, so that fewer nodes share
-/// one.
+/// How many buckets a table with so many cells has: eight or four for each where they are few, and else two, so that
+/// few nodes share one.
 pub fn buckets_for(cells: usize) -> usize
     requires power { IsPowerOfTwo cells }
     requires small { cells ≤ 2 ^ 62 }
     ensures power { IsPowerOfTwo result }
     ensures enough { cells ≤ result }
-    ensures small { result ≤ 2 ^ 62 }
+    ensures small { result ≤ 2 ^ 63 }
 {
     if cells <= FEWEST_CELLS {
-        4 * cells
+        8 * cells
     } else if cells <= FEW_CELLS {
-        2 * cells
+        4 * cells
     } else {
-        cells
+        2 * cells
     }
 }

@@ -7,14 +7,16 @@
 mod bucket;
 mod cell;
 mod error;
+mod heads;
 mod kept;
 mod links;
 mod steps;
 mod table;
-#[cfg(test)]
-mod tests;
 
 pub use error::TryReserveError;
 pub use kept::Kept;
 pub use steps::Steps;
 pub use table::{MAX_ROOM, Table};
+
+// A cell takes 16 bytes beside its node.
+const _: () = prove!(std::mem::size_of::<cell::Stored<u64>>() == 24);

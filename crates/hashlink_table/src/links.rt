@@ -3,26 +3,30 @@ ghost use Rattle.std.specs.Prelude.{◌≡◌, ◌≢◌, ℕ, ◌+◌, ◌%◌,
 ghost use Rattle.std.specs.Prelude.{true, IfNone, IfSome, IsSome, Some, vec_capacity, vec_len};
 ghost use Rattle.std.specs.Int.{IsPowerOfTwo};
 ghost use Rattle.hashlink_table.specs.Chains.{chain_at, chain_of, kept_at, IsLinked, IsLinkedBut, IsPlaced, SameNodes};
+ghost use Rattle.hashlink_table.specs.Heads.{SameSize};
 
 use super::bucket::bucket_of;
 use super::cell::{END, Stored};
+use super::heads::Heads;
 use super::steps::Steps;
 use std::sync::ledger::Ledger;
 
 // Chains every cell anew, from heads that lead nowhere, and answers with the first free cell.
-pub fn relink<N: Copy>(heads: &mut [usize], cells: &mut [Stored<N>]) -> usize
-    requires masked { IsPowerOfTwo (length heads.old) }
-    requires bare { heads.old ≡ replicate (length heads.old) END }
+pub fn relink<N: Copy>(heads: &mut Heads, cells: &mut [Stored<N>]) -> usize
+    requires masked { IsPowerOfTwo (length heads.old.firsts) }
+    requires bare { heads.old.firsts ≡ replicate (length heads.old.firsts) END }
     requires small { length cells.old < END }
-    ensures linked { IsLinked heads.new cells.new result }
+    requires fit { length cells.old ≤ heads.old.most }
+    ensures linked { IsLinked heads.new.firsts cells.new result }
     ensures nodes { SameNodes cells.old cells.new }
+    ensures size { SameSize heads.old heads.new }
 {
     let mut free = END;
     for at in 0..cells.len() {
         if let Some(kept) = cells[at].kept() {
             let bucket = bucket_of(kept.hash, heads.len());
-            cells[at].set_next(heads[bucket]);
-            heads[bucket] = at;
+            cells[at].set_next(heads.first(bucket));
+            heads.set_first(bucket, at);
         } else {
             cells[at].set_next(free);
             free = at;
@@ -67,18 +71,21 @@ pub fn place<N: Copy>(cells: &mut Vec<Stored<N>>, free: &mut usize, cell: Stored
 
 // Takes a cell out of its bucket's chain: the link to it leads past it.
 #[inline]
-pub fn unlink<N: Copy>(heads: &mut [usize], cells: &mut [Stored<N>], bucket: usize, cell: usize)
-    requires within { bucket < length heads.old }
-    requires on_chain { chain_at (length heads.old) cells.old cell ≡ bucket }
-    requires linked { (free : ℕ) × IsLinked heads.old cells.old free }
+pub fn unlink<N: Copy>(heads: &mut Heads, cells: &mut [Stored<N>], bucket: usize, cell: usize)
+    requires within { bucket < length heads.old.firsts }
+    requires on_chain { chain_at (length heads.old.firsts) cells.old cell ≡ bucket }
+    requires linked { (free : ℕ) × IsLinked heads.old.firsts cells.old free }
     requires small { length cells.old < END }
-    ensures unlinked { (free : ℕ) → IsLinked heads.old cells.old free → IsLinkedBut heads.new cells.new free cell }
+    requires fit { length cells.old ≤ heads.old.most }
+    ensures unlinked { (free : ℕ) → IsLinked heads.old.firsts cells.old free
+        → IsLinkedBut heads.new.firsts cells.new free cell }
     ensures nodes { SameNodes cells.old cells.new }
+    ensures size { SameSize heads.old heads.new }
 {
     let after = cells[cell].next();
-    let mut at = heads[bucket];
+    let mut at = heads.first(bucket);
     if at == cell {
-        heads[bucket] = after;
+        heads.set_first(bucket, after);
         return;
     }
     while cells[at].next() != cell {
@@ -108,14 +115,14 @@ fn look<N: Copy, L: Ledger>(cell: &Stored<N>, hash: u64, steps: &mut Steps<L>) -
 // The first node of its bucket's chain that has this hash and matches.
 #[inline]
 pub fn seek<N: Copy, F: Fn(N) -> bool, L: Ledger>(
-    heads: &[usize],
+    heads: &Heads,
     cells: &[Stored<N>],
     hash: u64,
     is_match: F,
     steps: &mut Steps<L>,
 ) -> Option<N>
-    requires masked { IsPowerOfTwo (length heads.now) }
-    requires linked { (free : ℕ) × IsLinked heads.now cells.now free }
+    requires masked { IsPowerOfTwo (length heads.now.firsts) }
+    requires linked { (free : ℕ) × IsLinked heads.now.firsts cells.now free }
     requires callable { (cell : ℕ) (node : N) → kept_at cells.now cell ≡ Some (record { hash = hash; node = node })
         → F.pre is_match node }
     ensures found { IfSome result
@@ -125,10 +132,10 @@ pub fn seek<N: Copy, F: Fn(N) -> bool, L: Ledger>(
         ((cell : ℕ) (node : N) → kept_at cells.now cell ≡ Some (record { hash = hash; node = node })
         → F.post is_match node false) }
     ensures goes_on { steps.old ≤ steps.new }
-    ensures cost { let m = length heads.now in steps.new
+    ensures cost { let m = length heads.now.firsts in steps.new
         ≤ steps.old + count_by (λ c. chain_of m c.kept == hash % m) cells.now }
 {
-    let mut at = heads[bucket_of(hash, heads.len())];
+    let mut at = heads.first(bucket_of(hash, heads.len()));
     while at != END {
         let cell = &cells[at];
         if let Some(node) = look(cell, hash, steps) {

@@ -8,6 +8,7 @@ ghost use Rattle.hashlink_table.specs.Contents.{agreeing, len_of, Keeps};
 use super::bucket::{bucket_of, buckets_for};
 use super::cell::{END, Stored};
 use super::error::TryReserveError;
+use super::heads::Heads;
 use super::kept::Kept;
 use super::links;
 use super::steps::Steps;
@@ -26,11 +27,12 @@ const MIN_ROOM: usize = 4;
 
 /// Nodes by their hashes. A node keeps the number of its cell until it is removed.
 ///
-/// It takes no memory when made, 8 bytes for each bucket's head and 16 bytes and a node for each cell.
+/// It takes no memory when made, then 4 bytes for each bucket's head, or 8 where there is room for 2 to the power of 32
+/// nodes, and 16 bytes and a node for each cell.
 #[derive(Drop)]
 pub struct Table<N> {
-    // The first cell of each bucket's chain, or `END`. There are none or a power of two.
-    heads: Vec<usize>,
+    // There are none or a power of two.
+    heads: Heads,
     cells: Vec<Stored<N>>,
     // The first cell without a node, or `END`.
     free: usize,
@@ -47,11 +49,12 @@ impl<N> Model for Table<N> {
 
     ghost coded = { contents_code N.code };
 
-    ghost use Rattle.hashlink_table.specs.Chains.{contents, IsSound};
+    ghost use Rattle.hashlink_table.specs.Chains.{contents, IsFit, IsSound};
 
     ghost view = { λ t. contents t.cells.items t.room };
 
-    ghost invariant = { λ t. IsSound t.heads.items t.cells.items (vec_capacity t.cells) t.free t.len t.room };
+    ghost invariant = { λ t. IsFit t.heads t.cells.items t.room
+        × IsSound t.heads.firsts t.cells.items (vec_capacity t.cells) t.free t.len t.room };
 }
 
 impl<N: Copy> Table<N> {
@@ -60,7 +63,7 @@ impl<N: Copy> Table<N> {
         ensures { result ≡ record { nodes = empty; room = 0 } }
     {
         Table {
-            heads: Vec::new(alloc),
+            heads: Heads::none(alloc),
             cells: Vec::new(alloc),
             free: END,
             len: 0,
@@ -126,9 +129,9 @@ impl<N: Copy> Table<N> {
         ensures small { result < 2 ^ 47 }
     {
         let bucket = bucket_of(hash, self.heads.len());
-        let cell = Stored::taken(Kept { hash, node }, self.heads[bucket]);
+        let cell = Stored::taken(Kept { hash, node }, self.heads.first(bucket));
         let at = links::place(&mut self.cells, &mut self.free, cell);
-        self.heads[bucket] = at;
+        self.heads.set_first(bucket, at);
         self.len += 1;
         at
     }
@@ -208,7 +211,7 @@ impl<N: Copy> Table<N> {
     pub fn clear(&mut self)
         ensures { self.new ≡ record self.old { nodes = empty } }
     {
-        self.heads.fill(END);
+        self.heads.clear();
         self.cells.clear();
         self.free = END;
         self.len = 0;
@@ -248,8 +251,8 @@ impl<N: Copy> Table<N> {
         ensures empty { len_of self.old ≡ 0 → IsOk result }
     {
         if self.len == 0 {
-            let alloc = *self.heads.allocator();
-            self.heads = Vec::new(alloc);
+            let alloc = *self.cells.allocator();
+            self.heads = Heads::none(alloc);
             self.cells = Vec::new(alloc);
             self.free = END;
             self.room = 0;
@@ -265,17 +268,17 @@ impl<N: Copy> Table<N> {
     #[cold]
     fn rebuild(&mut self, buckets: usize, room: usize) -> Result<(), AllocError>
         requires power { IsPowerOfTwo buckets }
-        requires small { buckets ≤ 2 ^ 62 }
+        requires small { buckets ≤ 2 ^ 63 }
         requires held { len_of self.old ≤ room }
         requires headed { room ≤ buckets }
         ensures ok { OnOk result (self.new ≡ record self.old { room = room }) }
         ensures err { OnErr result (self.new ≡ self.old) }
     {
-        let alloc = *self.heads.allocator();
-        let mut heads = vec![in alloc; END; buckets]?;
         if buckets > MAX_BUCKETS {
             return Err(AllocError);
         }
+        let alloc = *self.cells.allocator();
+        let mut heads = Heads::new(alloc, buckets, room.max(self.cells.len()))?;
         let more = room.saturating_sub(self.cells.len());
         self.cells.reserve_exact(more)?;
         links::trim(&mut self.cells);

@@ -1,7 +1,6 @@
-use Rattle.std.proofs.Common.{◌≡◌, ℕ, ◌<◌, ◌%◌, length, slice_index_or, IsSome, false, sym, ap, ◌∙◌, subst, arith}
+use Rattle.std.proofs.Common.{◌≡◌, ◌<◌, ◌%◌, length, slice_index_or, IsSome, false, sym, ap, ◌∙◌, subst, arith}
 use Rattle.std.proofs.lemmas.Option.{MatchOption-at_none}
 use Rattle.std.specs.Prelude.{⊤}
-use Rattle.std.proofs.lemmas.List.{get_or_default}
 use Rattle.hashlink_table.specs.declared.cell.TheConstants.{END}
 use Rattle.hashlink_table.specs.Chains.{next_at, chain_of}
 use Rattle.hashlink_table.proofs.Cells.{chain_at_within}
@@ -14,51 +13,52 @@ use Rattle.hashlink_table.proofs.links.seek.Goals.{in-Some+else-is_match, in_def
 
 pub loop-at-init : goal.loop-at-init
 loop-at-init g c =
-    let heads = c.args.heads.now in let cells = c.args.cells.now in
+    let heads = c.args.heads.now.firsts in let cells = c.args.cells.now in
     let b = c.args.hash % length heads in
     let some = positive_by_power (length heads) c.requires.masked in
     let low : b < length heads = omega arith in
-    let start = get_or_default heads b END 0 low
-    ∙ ap (λ (n : ℕ). slice_index_or heads n 0) (sym c.bucket_of.ensures) in
+    let start = ap (λ n. slice_index_or heads n END)
+    (sym (c.bucket_of.ensures ∙ ap (λ n. c.args.hash % n) c.len.ensures))
+    ∙ sym c.first-at.ensures in
     search_start heads cells c.requires.linked.0 b _ c.args.steps.now c.requires.linked.1 low start
 
 pub bounds-cells-at : goal.bounds-cells-at
 bounds-cells-at g c =
-    search_within c.args.heads.now c.args.cells.now c.args.hash c.loop-at.invariant c.requires.masked
+    search_within c.args.heads.now.firsts c.args.cells.now c.args.hash c.loop-at.invariant c.requires.masked
     c.loop-at-test.true
 
 pub offset_bounds-cells-at : goal.offset_bounds-cells-at
 offset_bounds-cells-at g c =
     omega (
       arith,
-      search_within c.args.heads.now c.args.cells.now c.args.hash c.loop-at.invariant c.requires.masked
+      search_within c.args.heads.now.firsts c.args.cells.now c.args.hash c.loop-at.invariant c.requires.masked
           c.loop-at-test.true,
     )
 
 pub look-requires : goal.look-requires
 look-requires g c =
-    let read = search_read c.args.heads.now c.args.cells.now c.args.hash c.loop-at.invariant c.requires.masked
+    let read = search_read c.args.heads.now.firsts c.args.cells.now c.args.hash c.loop-at.invariant c.requires.masked
     c.loop-at-test.true c.index-cells-at.result c.index-cells-at.is in
     subst IsSome read.0
-    (search_some c.args.heads.now c.args.cells.now c.args.hash c.loop-at.invariant c.requires.masked
+    (search_some c.args.heads.now.firsts c.args.cells.now c.args.hash c.loop-at.invariant c.requires.masked
     c.loop-at-test.true)
 
 pub is_match-requires : goal.is_match-requires
 is_match-requires g c =
-    let read = search_read c.args.heads.now c.args.cells.now c.args.hash c.loop-at.invariant c.requires.masked
+    let read = search_read c.args.heads.now.firsts c.args.cells.now c.args.hash c.loop-at.invariant c.requires.masked
     c.loop-at-test.true c.index-cells-at.result c.index-cells-at.is in
     c.requires.callable c.loop-at.at c.in-Some.node (read.0 ∙ c.in-Some.ensures.here)
 
 pub returns-then-is_match-clause-found : goal.returns-then-is_match-clause-found
 returns-then-is_match-clause-found g c =
-    let read = search_read c.args.heads.now c.args.cells.now c.args.hash c.loop-at.invariant c.requires.masked
+    let read = search_read c.args.heads.now.firsts c.args.cells.now c.args.hash c.loop-at.invariant c.requires.masked
     c.loop-at-test.true c.index-cells-at.result c.index-cells-at.is in
     (c.loop-at.at, read.0 ∙ c.in-Some.ensures.here, c.if-is_match.ensures)
 
 pub loop-at-smaller : goal.loop-at-smaller
 loop-at-smaller g c =
     let cells = c.args.cells.now in
-    let read = search_read c.args.heads.now c.args.cells.now c.args.hash c.loop-at.invariant c.requires.masked
+    let read = search_read c.args.heads.now.firsts c.args.cells.now c.args.hash c.loop-at.invariant c.requires.masked
     c.loop-at-test.true c.index-cells-at.result c.index-cells-at.is in
     subst (λ n. steps_left (next_at cells) (length cells) n < steps_left (next_at cells) (length cells) c.loop-at.at)
     (read.1 ∙ sym c.next-at.ensures.value)
@@ -66,7 +66,7 @@ loop-at-smaller g c =
 
 pub loop-at-preserved : goal.loop-at-preserved
 loop-at-preserved g c =
-    let read = search_read c.args.heads.now c.args.cells.now c.args.hash c.loop-at.invariant c.requires.masked
+    let read = search_read c.args.heads.now.firsts c.args.cells.now c.args.hash c.loop-at.invariant c.requires.masked
     c.loop-at-test.true c.index-cells-at.result c.index-cells-at.is in
     search_on c.loop-at.invariant c.loop-at-test.true
     (λ node here. elim c.match-look.branch as (λ _. g.F.Fn.post c.args.is_match (node, tt) false) [
@@ -79,7 +79,7 @@ loop-at-preserved g c =
 
 pub returns-clause-none : goal.returns-clause-none
 returns-clause-none g c = λ cell node here.
-    let heads = c.args.heads.now in let cells = c.args.cells.now in
+    let heads = c.args.heads.now.firsts in let cells = c.args.cells.now in
     search_ends c.loop-at.invariant c.loop-at-test.false cell
     (chain_at_within (length heads) cells cell (within_by_node cells cell _ here) ∙ ap (chain_of (length heads)) here)
     node here

@@ -8,13 +8,13 @@ abbrev pub invariant-loop-at : goal.invariant-loop-at
 invariant-loop-at g l =
     IsSearch
     (next_at l.cells)
-    (chain_at (length l.heads) l.cells)
-    (l.hash % length l.heads)
+    (chain_at (length l.heads.firsts) l.cells)
+    (l.hash % length l.heads.firsts)
     l.at
     (length l.cells)
     (λ cell. (node : g.row.N.Denot) → kept_at l.cells cell ≡ Some (record { hash = l.hash; node = node })
     → goal.F-post g l.is_match node false)
-    (in_bucket l.cells (length l.heads) (l.hash % length l.heads))
+    (in_bucket l.cells (length l.heads.firsts) (l.hash % length l.heads.firsts))
     l.initial.steps
     l.steps
 

@@ -1,27 +1,30 @@
 use Rattle.hashlink_table.specs.declared.cell.Cell.{Cell}
-use Rattle.std.proofs.Common.{ℕ, ◌<◌, length, sym, ap, ◌∙◌, subst, inl, inr, arith}
-use Rattle.std.proofs.lemmas.List.{get_or_default}
-use Rattle.hashlink_table.specs.declared.cell.TheConstants.{END}
+use Rattle.std.proofs.Common.{ℕ, ◌<◌, refl, length, sym, ap, ◌∙◌, subst, inl, inr, arith}
+use Rattle.std.proofs.lemmas.List.{length-set}
 use Rattle.hashlink_table.specs.Chains.{next_at, chain_at, Among}
 use Rattle.hashlink_table.proofs.Cells.{within_by_chain, kept_at_read, next_at_read}
 use Rattle.hashlink_table.proofs.Linking.{unlinked_first, unlinked_next}
-use Rattle.hashlink_table.proofs.Walks.{IsWalk, walk_of, walk_on, walk_at, walk_goes, steps_left, steps_left-falls}
+use Rattle.hashlink_table.proofs.Walks.{IsWalk, walk_of, walk_on, walk_at, walk_goes, second_within, steps_left}
+use Rattle.hashlink_table.proofs.Walks.{steps_left-falls}
 use Rattle.hashlink_table.proofs.links.unlink.Goals as goal
 
 pub returns-then-at-cell-clause-unlinked : goal.returns-then-at-cell-clause-unlinked
 returns-then-at-cell-clause-unlinked g c =
-    let heads = c.args.heads.now in let cells = c.args.cells.now in
+    let heads = c.args.heads.now.firsts in let cells = c.args.cells.now in
     let within : c.args.cell < length cells
     = within_by_chain (length heads) cells c.args.cell c.args.bucket c.requires.on_chain (omega arith) in
-    λ free linked. rw (c.next-after.ensures.value ∙ next_at_read cells c.args.cell c.index-cells-cell.result within)
+    λ free linked. rw (
+      c.set_first.ensures,
+      c.next-after.ensures.value ∙ next_at_read cells c.args.cell c.index-cells-cell.result within,
+    )
     (unlinked_first heads cells free c.args.bucket c.args.cell c.requires.within
-    (get_or_default heads c.args.bucket END 0 c.requires.within ∙ c.if-at-cell.true)
+    (sym c.first-at.ensures ∙ c.if-at-cell.true)
     (λ e. omega arith) c.requires.on_chain linked)
 
 pub loop-cells-init : goal.loop-cells-init
 loop-cells-init g c =
-    let heads = c.args.heads.now in let cells = c.args.cells.now in
-    let start = get_or_default heads c.args.bucket END 0 c.requires.within in
+    let heads = c.args.heads.now.firsts in let cells = c.args.cells.now in
+    let start = sym c.first-at.ensures in
     let w = walk_of heads cells c.requires.linked.0 c.args.bucket c.requires.linked.1 c.requires.within in
     let From : ℕ → Type 0
     = λ at. (v : IsWalk (next_at cells) (chain_at (length heads) cells) c.args.bucket at (length cells))
@@ -49,7 +52,7 @@ loop-cells-smaller g c =
 
 pub loop-cells-preserved : goal.loop-cells-preserved
 loop-cells-preserved g c =
-    let heads = c.args.heads.now in let cells = c.args.cells.now in
+    let heads = c.args.heads.now.firsts in let cells = c.args.cells.now in
     let w = c.loop-cells.invariant.walk in
     let r = walk_on w (walk_goes w c.args.cell c.loop-cells.invariant.to_come) in
     let next = c.next-at.ensures.value
@@ -77,7 +80,7 @@ loop-cells-preserved g c =
 
 pub returns-clause-unlinked : goal.returns-clause-unlinked
 returns-clause-unlinked g c =
-    let heads = c.args.heads.now in let cells = c.args.cells.now in
+    let heads = c.args.heads.now.firsts in let cells = c.args.cells.now in
     let w = c.loop-cells.invariant.walk in
     let C : Type 0 = Cell g.row.N.Denot in
     let within = c.loop-cells.invariant.within in
@@ -92,3 +95,17 @@ returns-clause-unlinked g c =
     (λ e. omega arith)
     (c.requires.on_chain ∙ sym (walk_at w (walk_goes w c.args.cell c.loop-cells.invariant.to_come)))
     linked
+
+pub set_first-requires-clause-fits : goal.set_first-requires-clause-fits
+set_first-requires-clause-fits g c =
+    let heads = c.args.heads.now.firsts in let cells = c.args.cells.now in
+    let within : c.args.cell < length cells
+    = within_by_chain (length heads) cells c.args.cell c.args.bucket c.requires.on_chain (omega arith) in
+    let next = c.next-after.ensures.value ∙ next_at_read cells c.args.cell c.index-cells-cell.result within in
+    λ ne.
+    let low = second_within heads cells c.requires.linked.0 c.args.bucket c.args.cell c.requires.linked.1
+    c.requires.within (sym c.first-at.ensures ∙ c.if-at-cell.true) (λ e. omega arith) (λ e. ne (next ∙ e)) in
+    omega (arith, low, next, c.requires.fit)
+
+pub returns-then-at-cell-clause-size : goal.returns-then-at-cell-clause-size
+returns-then-at-cell-clause-size g c = rw c.set_first.ensures (length-set c.args.heads.now.firsts c.args.bucket _, refl)

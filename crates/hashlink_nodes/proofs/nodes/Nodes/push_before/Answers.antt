@@ -113,7 +113,8 @@ overflow_add-self g c =
             (push_from (state_of c.self.inside.cells) c.self.inside.guard c.in-Some.guard c.self.inside.first_spare
                 c.self.inside.len c.self.inside.spare c.make_spare.new.self
                 (opened (state_of c.self.inside.cells) c.self.inside.guard c.in-Some.guard c.self.inside.first_spare
-                c.self.inside.len c.self.inside.spare c.self.invariant c.in-Some.is c.make_spare.new.self c.self.view_is)
+                c.self.inside.len c.self.inside.spare c.self.invariant c.in-Some.is c.make_spare.new.self
+                c.self.view_is)
                 c.in-Ok.ensures.free.0 c.args.self.now.entries c.in-Ok.ensures.entries c.args.place c.requires.place
                 (held c.args.number c.args.key c.args.value)).room,
           );

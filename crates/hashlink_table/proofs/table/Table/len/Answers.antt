@@ -5,9 +5,9 @@ use Rattle.hashlink_table.proofs.table.Table.len.Goals as goal
 
 pub returns-clause-value : goal.returns-clause-value
 returns-clause-value g c =
-    c.self.invariant.counted ∙ sym (len-contents _ _) ∙ ap len_of c.self.view_is
+    c.self.invariant.1.counted ∙ sym (len-contents _ _) ∙ ap len_of c.self.view_is
 
 pub returns-clause-within : goal.returns-clause-within
 returns-clause-within g c =
     let room = sym (room-contents _ _) ∙ ap (λ (t : Contents g.row.N.Denot). t.room) c.self.view_is in
-    omega (arith, room, c.self.invariant.held)
+    omega (arith, room, c.self.invariant.1.held)

@@ -1,7 +1,8 @@
 use Rattle.std.proofs.Common.{◌≡◌, ◌≤◌, List, length, sym, ap, ◌∙◌, subst, arith}
-use Rattle.std.proofs.lemmas.List.{with_items_is}
+use Rattle.std.proofs.lemmas.List.{length-replicate, with_items_is}
 use Rattle.std.specs.Int.{IsPowerOfTwo}
 use Rattle.hashlink_table.specs.declared.cell.Cell.{Cell}
+use Rattle.hashlink_table.specs.declared.cell.TheConstants.{END}
 use Rattle.hashlink_table.specs.Contents.{Contents}
 use Rattle.hashlink_table.specs.Chains.{kept_at, SameNodes}
 use Rattle.hashlink_table.proofs.Sound.{sound-relink}
@@ -21,36 +22,42 @@ invariant_of-self-2 g c =
     let heads = c.in_ok-heads.heads in let cells = c.trim.new.cells in
     let later = c.relink-self-inside.new.cells in let now = c.relink-self-inside.new.heads in
     let len = len_by_view _ _ _ c.self.view_is in
-    let hs : length now ≡ heads.len = c.relink-self-inside.auto.heads ∙ c.deref_mut.ensures.len in
-    let cs : length later ≡ cells.len = c.relink-self-inside.auto.cells ∙ c.deref_mut-2.ensures.len in
-    let buckets : length now ≡ c.args.buckets = hs ∙ c.in_ok-heads.ensures.len in
+    let size = c.relink-self-inside.ensures.size in
+    let cs : length later ≡ cells.len = c.relink-self-inside.auto.cells ∙ c.deref_mut.ensures.len in
+    let buckets : length now.firsts ≡ c.args.buckets
+    = size.0 ∙ ap length c.in_ok-heads.ensures.bare ∙ length-replicate c.args.buckets END in
     let same = nodes_stay t.cells.items _ _ _ later c.in_ok-reserve_exact.ensures.items c.trim.ensures.nodes
-    c.deref_mut-2.ensures.value c.relink-self-inside.ensures.nodes in
+    c.deref_mut.ensures.value c.relink-self-inside.ensures.nodes in
     let fewer : length later ≤ length t.cells.items
     = omega (arith, cs, c.trim.ensures.len, c.in_ok-reserve_exact.ensures.len, t.cells.ok.0) in
-    rw (with_items_is heads now hs, with_items_is cells later cs)
-    (sound-relink t.heads.items now t.cells.items later _ _ t.free _ t.len t.room c.args.room c.self.invariant
-    c.relink-self-inside.ensures.linked same fewer
-    (omega (arith, c.requires.held, len, c.self.invariant.counted))
-    (omega (arith, buckets, c.requires.headed))
-    (omega (
-      arith,
-      c.trim.ensures.capacity,
-      c.in_ok-reserve_exact.ensures.ok,
-      c.in_ok-reserve_exact.ensures.len,
-      c.saturating_sub-more.ensures,
-      c.len.ensures,
-    ))
-    (omega (arith, buckets, c.if-buckets-gt-MAX_BUCKETS.false))
-    (subst IsPowerOfTwo (sym buckets) c.requires.power))
+    rw (with_items_is cells later cs) (
+      (
+        omega (arith, fewer, size.1, c.in_ok-heads.ensures.fit, c.max.ensures, c.len.ensures, t.cells.ok.0),
+        omega (arith, size.1, c.in_ok-heads.ensures.fit, c.max.ensures),
+      ),
+      sound-relink t.heads.firsts now.firsts t.cells.items later _ _ t.free _ t.len t.room c.args.room
+          c.self.invariant.1 c.relink-self-inside.ensures.linked same fewer
+          (omega (arith, c.requires.held, len, c.self.invariant.1.counted))
+          (omega (arith, buckets, c.requires.headed))
+          (omega (
+            arith,
+            c.trim.ensures.capacity,
+            c.in_ok-reserve_exact.ensures.ok,
+            c.in_ok-reserve_exact.ensures.len,
+            c.saturating_sub-more.ensures,
+            c.len-2.ensures,
+          ))
+          (omega (arith, buckets, c.if-buckets-gt-MAX_BUCKETS.false))
+          (subst IsPowerOfTwo (sym buckets) c.requires.power),
+    )
 
 pub returns-clause-ok : goal.returns-clause-ok
 returns-clause-ok g c =
     let t = c.self.inside in
     let cells = c.trim.new.cells in
     let later = c.relink-self-inside.new.cells in
-    let cs : length later ≡ cells.len = c.relink-self-inside.auto.cells ∙ c.deref_mut-2.ensures.len in
+    let cs : length later ≡ cells.len = c.relink-self-inside.auto.cells ∙ c.deref_mut.ensures.len in
     let same = nodes_stay t.cells.items _ _ _ later c.in_ok-reserve_exact.ensures.items c.trim.ensures.nodes
-    c.deref_mut-2.ensures.value c.relink-self-inside.ensures.nodes in
+    c.deref_mut.ensures.value c.relink-self-inside.ensures.nodes in
     rw (with_items_is cells later cs) (contents_kept t.cells.items later t.room c.args.room same)
     ∙ ap (λ (u : Contents g.row.N.Denot). record u { room = c.args.room }) c.self.view_is

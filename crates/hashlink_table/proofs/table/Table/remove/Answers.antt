@@ -1,5 +1,5 @@
 use Rattle.std.proofs.Common.{◌≡◌, ℕ, ◌%◌, ◌<◌, List, length, slice_index_or, Some, IsSome, sym, ap, ◌∙◌, subst, arith}
-use Rattle.std.proofs.lemmas.List.{get_or_read, with_items_is}
+use Rattle.std.proofs.lemmas.List.{get_or_read, length-set, with_items_is}
 use Rattle.std.specs.FinMap.{remove}
 use Rattle.std.specs.Int.{IsPowerOfTwo}
 use Rattle.hashlink_table.specs.declared.kept.Kept.{Kept}
@@ -44,32 +44,32 @@ pub bucket_of-bucket-requires : goal.bucket_of-bucket-requires
 bucket_of-bucket-requires g c =
     let t = c.self.inside in
     let some = subst IsSome (get_by_view _ _ _ c.args.cell c.self.view_is) c.requires in
-    let f = bucket_facts t.heads.items t.cells.items _ t.free t.len t.room c.args.cell c.index.result.now
-    c.there.result c.self.invariant some c.index.ensures c.there.ensures in
-    subst IsPowerOfTwo (sym (c.len.ensures ∙ t.heads.ok.0)) (c.self.invariant.masked f.1)
+    let f = bucket_facts t.heads.firsts t.cells.items _ t.free t.len t.room c.args.cell c.index.result.now
+    c.there.result c.self.invariant.1 some c.index.ensures c.there.ensures in
+    subst IsPowerOfTwo (sym c.len.ensures) (c.self.invariant.1.masked f.1)
 
 pub unlink-requires-clause-within : goal.unlink-requires-clause-within
 unlink-requires-clause-within g c =
     let t = c.self.inside in
     let some = subst IsSome (get_by_view _ _ _ c.args.cell c.self.view_is) c.requires in
-    let f = bucket_facts t.heads.items t.cells.items _ t.free t.len t.room c.args.cell c.index.result.now
-    c.there.result c.self.invariant some c.index.ensures c.there.ensures in
-    rw c.deref_mut.ensures.value (omega (arith, f.1, c.bucket_of-bucket.ensures, c.len.ensures, t.heads.ok.0))
+    let f = bucket_facts t.heads.firsts t.cells.items _ t.free t.len t.room c.args.cell c.index.result.now
+    c.there.result c.self.invariant.1 some c.index.ensures c.there.ensures in
+    (omega (arith, f.1, c.bucket_of-bucket.ensures, c.len.ensures))
 
 pub unlink-requires-clause-on_chain : goal.unlink-requires-clause-on_chain
 unlink-requires-clause-on_chain g c =
     let t = c.self.inside in
     let some = subst IsSome (get_by_view _ _ _ c.args.cell c.self.view_is) c.requires in
-    let f = bucket_facts t.heads.items t.cells.items _ t.free t.len t.room c.args.cell c.index.result.now
-    c.there.result c.self.invariant some c.index.ensures c.there.ensures in
-    rw (c.deref_mut.ensures.value, c.deref_mut-2.ensures.value)
-    (chain_at_within (length t.heads.items) t.cells.items c.args.cell (within_by_kept t.cells.items c.args.cell some)
-    ∙ ap (chain_of (length t.heads.items)) f.0
-    ∙ sym (c.bucket_of-bucket.ensures ∙ ap (λ (n : ℕ). c.there.result.hash % n) (c.len.ensures ∙ t.heads.ok.0)))
+    let f = bucket_facts t.heads.firsts t.cells.items _ t.free t.len t.room c.args.cell c.index.result.now
+    c.there.result c.self.invariant.1 some c.index.ensures c.there.ensures in
+    rw c.deref_mut.ensures.value
+    (chain_at_within (length t.heads.firsts) t.cells.items c.args.cell (within_by_kept t.cells.items c.args.cell some)
+    ∙ ap (chain_of (length t.heads.firsts)) f.0
+    ∙ sym (c.bucket_of-bucket.ensures ∙ ap (λ (n : ℕ). c.there.result.hash % n) c.len.ensures))
 
 pub unlink-requires-clause-linked : goal.unlink-requires-clause-linked
 unlink-requires-clause-linked g c =
-    rw (c.deref_mut.ensures.value, c.deref_mut-2.ensures.value) (c.self.inside.free, c.self.invariant.linked)
+    rw c.deref_mut.ensures.value (c.self.inside.free, c.self.invariant.1.linked)
 
 pub index_mut-requires : goal.index_mut-requires
 index_mut-requires g c =
@@ -81,42 +81,48 @@ pub overflow_sub-self : goal.overflow_sub-self
 overflow_sub-self g c =
     let t = c.self.inside in
     let some = subst IsSome (get_by_view _ _ _ c.args.cell c.self.view_is) c.requires in
-    let f = bucket_facts t.heads.items t.cells.items _ t.free t.len t.room c.args.cell c.index.result.now
-    c.there.result c.self.invariant some c.index.ensures c.there.ensures in
+    let f = bucket_facts t.heads.firsts t.cells.items _ t.free t.len t.room c.args.cell c.index.result.now
+    c.there.result c.self.invariant.1 some c.index.ensures c.there.ensures in
     omega (arith, f.2)
 
 pub invariant_of-self : goal.invariant_of-self
 invariant_of-self g c =
     let t = c.self.inside in
     let some = subst IsSome (get_by_view _ _ _ c.args.cell c.self.view_is) c.requires in
-    let f = bucket_facts t.heads.items t.cells.items _ t.free t.len t.room c.args.cell c.index.result.now
-    c.there.result c.self.invariant some c.index.ensures c.there.ensures in
-    let heads : length c.unlink.new.heads ≡ length t.heads.items
-    = c.unlink.auto.heads ∙ ap length c.deref_mut.ensures.value in
+    let f = bucket_facts t.heads.firsts t.cells.items _ t.free t.len t.room c.args.cell c.index.result.now
+    c.there.result c.self.invariant.1 some c.index.ensures c.there.ensures in
+    let size = c.unlink.ensures.size in
     let cells : length c.unlink.new.cells ≡ length t.cells.items
-    = c.unlink.auto.cells ∙ ap length c.deref_mut-2.ensures.value in
-    let unlinked = rw (c.deref_mut.ensures.value, c.deref_mut-2.ensures.value) at c.unlink.ensures.unlinked in
-    let same = rw c.deref_mut-2.ensures.value at c.unlink.ensures.nodes in
-    rw (
-      with_items_is t.heads c.unlink.new.heads (heads ∙ sym t.heads.ok.0),
-      with_items_is t.cells c.unlink.new.cells
-          (cells ∙ sym t.cells.ok.0),
+    = c.unlink.auto.cells ∙ ap length c.deref_mut.ensures.value in
+    let unlinked = rw c.deref_mut.ensures.value at c.unlink.ensures.unlinked in
+    let same = rw c.deref_mut.ensures.value at c.unlink.ensures.nodes in
+    rw (with_items_is t.cells c.unlink.new.cells (cells ∙ sym t.cells.ok.0)) (
+      (
+        omega (
+          arith,
+          c.self.invariant.0.0,
+          size.1,
+          cells,
+          length-set c.unlink.new.cells c.args.cell c.set_free.new.self,
+        ),
+        omega (arith, c.self.invariant.0.1, size.1),
+      ),
+      sound-remove t.heads.firsts c.unlink.new.heads.firsts t.cells.items c.unlink.new.cells _ t.free t.len t.room
+          c.args.cell _ c.there.result c.self.invariant.1 f.0 (unlinked t.free c.self.invariant.1.linked) size.0 cells
+          same
+          (ap (λ (d : Cell g.row.N.Denot). d.next) c.set_free.ensures)
+          (ap (λ (d : Cell g.row.N.Denot). d.kept) c.set_free.ensures),
     )
-    (sound-remove t.heads.items c.unlink.new.heads t.cells.items c.unlink.new.cells _ t.free t.len t.room c.args.cell
-    _ c.there.result
-    c.self.invariant f.0 (unlinked t.free c.self.invariant.linked) heads cells same
-    (ap (λ (d : Cell g.row.N.Denot). d.next) c.set_free.ensures)
-    (ap (λ (d : Cell g.row.N.Denot). d.kept) c.set_free.ensures))
 
 pub returns : goal.returns
 returns g c =
     let t = c.self.inside in
     let some = subst IsSome (get_by_view _ _ _ c.args.cell c.self.view_is) c.requires in
     let cells : length c.unlink.new.cells ≡ length t.cells.items
-    = c.unlink.auto.cells ∙ ap length c.deref_mut-2.ensures.value in
+    = c.unlink.auto.cells ∙ ap length c.deref_mut.ensures.value in
     let within : c.args.cell < length c.unlink.new.cells
     = omega (arith, within_by_kept t.cells.items c.args.cell some, cells) in
-    let same = rw c.deref_mut-2.ensures.value at c.unlink.ensures.nodes in
+    let same = rw c.deref_mut.ensures.value at c.unlink.ensures.nodes in
     rw (with_items_is t.cells c.unlink.new.cells (cells ∙ sym t.cells.ok.0))
     (contents-remove t.cells.items _ t.room c.args.cell
     (kept_at-set c.unlink.new.cells c.args.cell _ within ∙ ap (λ (d : Cell g.row.N.Denot). d.kept) c.set_free.ensures)
@@ -126,5 +132,8 @@ returns g c =
 pub set_free-requires : goal.set_free-requires
 set_free-requires g c =
     let t = c.self.inside in
-    free_small t.heads.items (next_at t.cells.items) t.cells.items t.free c.self.invariant.linked
-    (omega (arith, c.self.invariant.cells_small))
+    free_small t.heads.firsts (next_at t.cells.items) t.cells.items t.free c.self.invariant.1.linked
+    (omega (arith, c.self.invariant.1.cells_small))
+
+pub unlink-requires-clause-fit : goal.unlink-requires-clause-fit
+unlink-requires-clause-fit g c = rw c.deref_mut.ensures.value c.self.invariant.0.0

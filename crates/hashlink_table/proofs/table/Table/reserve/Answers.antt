@@ -9,7 +9,7 @@ use Rattle.hashlink_table.proofs.table.Table.reserve.Goals as goal
 pub returns-then-additional-self-clause-ok : goal.returns-then-additional-self-clause-ok
 returns-then-additional-self-clause-ok g c =
     let len = len_by_view _ _ _ c.self.view_is in let room = room_by_view _ _ _ c.self.view_is in
-    omega (arith, len, room, c.self.invariant.counted, c.self.invariant.held, c.if-additional-self.true)
+    omega (arith, len, room, c.self.invariant.1.counted, c.self.invariant.1.held, c.if-additional-self.true)
 
 pub returns-then-additional-self-clause-overflow :
     goal.returns-then-additional-self-clause-overflow
@@ -21,10 +21,10 @@ returns-then-additional-self-clause-overflow g c =
             arith,
             h,
             len,
-            c.self.invariant.counted,
-            c.self.invariant.held,
-            c.self.invariant.headed,
-            c.self.invariant.small,
+            c.self.invariant.1.counted,
+            c.self.invariant.1.held,
+            c.self.invariant.1.headed,
+            c.self.invariant.1.small,
             c.if-additional-self.true,
           )),
     )
@@ -33,13 +33,13 @@ pub returns-then-additional-self-2-clause-enough :
     goal.returns-then-additional-self-2-clause-enough
 returns-then-additional-self-2-clause-enough g c = λ h.
     let len = len_by_view _ _ _ c.self.view_is in let room = room_by_view _ _ _ c.self.view_is in
-    absurd (omega (arith, h, len, room, c.self.invariant.counted, c.if-additional-self.false))
+    absurd (omega (arith, h, len, room, c.self.invariant.1.counted, c.if-additional-self.false))
 
 pub returns-then-additional-self-2-clause-overflow :
     goal.returns-then-additional-self-2-clause-overflow
 returns-then-additional-self-2-clause-overflow g c =
     let len = len_by_view _ _ _ c.self.view_is in
-    (λ _. omega (arith, len, c.self.invariant.counted, c.if-additional-self-2.true), λ _. refl)
+    (λ _. omega (arith, len, c.self.invariant.1.counted, c.if-additional-self-2.true), λ _. refl)
 
 pub buckets_for-requires-clause-small : goal.buckets_for-requires-clause-small
 buckets_for-requires-clause-small g c =
@@ -49,20 +49,20 @@ buckets_for-requires-clause-small g c =
       arith,
       c.max.ensures,
       c.if-additional-self-2.false,
-      c.self.invariant.held,
-      c.self.invariant.headed,
-      c.self.invariant.small,
+      c.self.invariant.1.held,
+      c.self.invariant.1.headed,
+      c.self.invariant.1.small,
     ))
 
 pub rebuild-requires-clause-held : goal.rebuild-requires-clause-held
 rebuild-requires-clause-held g c =
     let len = len_by_view _ _ _ c.self.view_is in
-    omega (arith, len, c.self.invariant.counted, c.max.ensures, c.next_power_of_two-room.ensures.lower_bound)
+    omega (arith, len, c.self.invariant.1.counted, c.max.ensures, c.next_power_of_two-room.ensures.lower_bound)
 
 pub returns-in_err-rebuild-clause-enough : goal.returns-in_err-rebuild-clause-enough
 returns-in_err-rebuild-clause-enough g c = λ h.
     let len = len_by_view _ _ _ c.self.view_is in let room = room_by_view _ _ _ c.self.view_is in
-    absurd (omega (arith, h, len, room, c.self.invariant.counted, c.if-additional-self.false))
+    absurd (omega (arith, h, len, room, c.self.invariant.1.counted, c.if-additional-self.false))
 
 pub returns-in_err-rebuild-clause-overflow : goal.returns-in_err-rebuild-clause-overflow
 returns-in_err-rebuild-clause-overflow g c =
@@ -74,10 +74,10 @@ returns-in_err-rebuild-clause-overflow g c =
             arith,
             h,
             len,
-            c.self.invariant.counted,
-            c.self.invariant.held,
-            c.self.invariant.headed,
-            c.self.invariant.small,
+            c.self.invariant.1.counted,
+            c.self.invariant.1.held,
+            c.self.invariant.1.headed,
+            c.self.invariant.1.small,
             c.if-additional-self-2.false,
           )),
     )
@@ -86,7 +86,7 @@ pub returns-clause-ok : goal.returns-clause-ok
 returns-clause-ok g c =
     let len = len_by_view _ _ _ c.self.view_is in
     let room = ap (λ (t : Contents g.row.N.Denot). t.room) c.in_ok-rebuild.ensures.ok in
-    omega (arith, len, room, c.self.invariant.counted, c.max.ensures, c.next_power_of_two-room.ensures.lower_bound)
+    omega (arith, len, room, c.self.invariant.1.counted, c.max.ensures, c.next_power_of_two-room.ensures.lower_bound)
 
 pub returns-clause-room : goal.returns-clause-room
 returns-clause-room g c =
@@ -97,7 +97,7 @@ returns-clause-room g c =
       was,
       room,
       c.if-additional-self.false,
-      c.self.invariant.held,
+      c.self.invariant.1.held,
       c.max.ensures,
       c.next_power_of_two-room.ensures.lower_bound,
     )
@@ -105,7 +105,7 @@ returns-clause-room g c =
 pub returns-clause-enough : goal.returns-clause-enough
 returns-clause-enough g c = λ h.
     let len = len_by_view _ _ _ c.self.view_is in let room = room_by_view _ _ _ c.self.view_is in
-    absurd (omega (arith, h, len, room, c.self.invariant.counted, c.if-additional-self.false))
+    absurd (omega (arith, h, len, room, c.self.invariant.1.counted, c.if-additional-self.false))
 
 pub returns-clause-overflow : goal.returns-clause-overflow
 returns-clause-overflow g c =
@@ -116,10 +116,10 @@ returns-clause-overflow g c =
             arith,
             h,
             len,
-            c.self.invariant.counted,
-            c.self.invariant.held,
-            c.self.invariant.headed,
-            c.self.invariant.small,
+            c.self.invariant.1.counted,
+            c.self.invariant.1.held,
+            c.self.invariant.1.headed,
+            c.self.invariant.1.small,
             c.if-additional-self-2.false,
           )),
     )
