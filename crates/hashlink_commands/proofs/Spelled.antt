@@ -1,6 +1,7 @@
 -- Each line that says something is spelled in one way.
 use Rattle.std.proofs.Common.{◌≡◌, ℕ, ◌^◌, ◌<◌, ◌⊎◌, Bool, true, false, ◌&&◌, cond, not, nat_eq, nat_lt, List, []}
-use Rattle.std.proofs.Common.{◌∷◌, ◌++◌, length, get_or, take, drop, zero, suc, Option, None, Some, option_and_then, map, decimal, refl}
+use Rattle.std.proofs.Common.{◌∷◌, ◌++◌, length, get_or, take, drop, zero, suc, Option, None, Some, option_and_then}
+use Rattle.std.proofs.Common.{map, decimal, refl}
 use Rattle.std.proofs.Common.{codes, sym, ap, ◌∙◌, subst, inl, inr, ⊎_elim, arith, lit<}
 use Rattle.std.specs.Map.{lookup}
 use Rattle.std.specs.Option.{option_map}
@@ -149,7 +150,8 @@ entry_said-spelled : (words : List (List ℕ)) (line : Said) → entry_said word
 entry_said-spelled [] line e = cc
 entry_said-spelled (key ∷ []) line e = cc
 entry_said-spelled (key ∷ name ∷ words) line e =
-    let k = step_some (λ k. option_map (λ s. Do (Entry k s)) (said_in steps_before name words)) (number_of key) line e in
+    let k =
+    step_some (λ k. option_map (λ s. Do (Entry k s)) (said_in steps_before name words)) (number_of key) line e in
     let s = map_some (λ s. Do (Entry k.0 s)) (said_in steps_before name words) line k.2 in
     let step =
     map_some shown (step_spelled s.0) (name ∷ words)
@@ -178,7 +180,8 @@ steps_after-spelled (suc n) (word ∷ words) steps e = steps_after-spelled n wor
 steps_after-spelled zero (name ∷ words) steps e =
     let m = numbers_after name in
     let step =
-    step_some (λ s. option_map (λ ss. s ∷ ss) (steps_after m words)) (said_in cursor_steps_before name (take m words)) steps e in
+    step_some (λ s. option_map (λ ss. s ∷ ss) (steps_after m words)) (said_in cursor_steps_before name (take m words))
+    steps e in
     let more = map_some (λ ss. step.0 ∷ ss) (steps_after m words) steps step.2 in
     let said : Some (shown (cursor_step_words step.0)) ≡ Some (name ∷ take m words) =
     said-spelled (λ s. Some (cursor_step_words s)) cursor_steps_before cursor_steps_spelled name (take m words) step.0
@@ -420,20 +423,24 @@ line_read (Do (Get k)) words e fits =
     (record { name = codes "get"; numbers = k ∷ []; is = refl; spaceless = refl; found = refl }) words refl refl e fits
 line_read (Do (Remove k)) words e fits =
     word_read (Do (Remove k))
-    (record { name = codes "remove"; numbers = k ∷ []; is = refl; spaceless = refl; found = refl }) words refl refl e fits
+    (record { name = codes "remove"; numbers = k ∷ []; is = refl; spaceless = refl; found = refl })
+    words refl refl e fits
 line_read (Do (RemoveEntry k)) words e fits = cc
 line_read (Do PopFront) words e fits =
     word_read (Do PopFront)
-    (record { name = codes "pop_front"; numbers = []; is = refl; spaceless = refl; found = refl }) words refl refl e fits
+    (record { name = codes "pop_front"; numbers = []; is = refl; spaceless = refl; found = refl })
+    words refl refl e fits
 line_read (Do PopBack) words e fits =
     word_read (Do PopBack)
     (record { name = codes "pop_back"; numbers = []; is = refl; spaceless = refl; found = refl }) words refl refl e fits
 line_read (Do (ToFront k)) words e fits =
     word_read (Do (ToFront k))
-    (record { name = codes "to_front"; numbers = k ∷ []; is = refl; spaceless = refl; found = refl }) words refl refl e fits
+    (record { name = codes "to_front"; numbers = k ∷ []; is = refl; spaceless = refl; found = refl })
+    words refl refl e fits
 line_read (Do (ToBack k)) words e fits =
     word_read (Do (ToBack k))
-    (record { name = codes "to_back"; numbers = k ∷ []; is = refl; spaceless = refl; found = refl }) words refl refl e fits
+    (record { name = codes "to_back"; numbers = k ∷ []; is = refl; spaceless = refl; found = refl })
+    words refl refl e fits
 line_read (Do Front) words e fits =
     word_read (Do Front)
     (record { name = codes "front"; numbers = []; is = refl; spaceless = refl; found = refl }) words refl refl e fits

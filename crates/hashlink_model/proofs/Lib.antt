@@ -5,6 +5,7 @@ pub mod Filtered
 pub mod Finds
 pub mod Puts
 pub mod Afterwards
+pub mod MovedLast
 pub mod Places
 pub mod ByPlace
 pub mod Cursors

@@ -68,7 +68,8 @@ module _ {S : Type 0} where
       let shown : Shows old (Some Iter) r.0 r.1 = r.3 in
       r.5 ∙ ap (λ a. ended a ++ r.2) shown.0 ∙ ap (λ m. ended (list_shown old.entries) ++ m) r.4.0
 
-  was_read : (old new : MapState ℕ ℕ S) (text : List ℕ) → ShowsAll LineShows old (codes "get 1" ∷ codes "iter" ∷ []) text new
+  was_read : (old new : MapState ℕ ℕ S) (text : List ℕ)
+      → ShowsAll LineShows old (codes "get 1" ∷ codes "iter" ∷ []) text new
       → text ≡ read_lines old.entries
   was_read old new text r =
       let shown : Shows old (Some (Do (Get 1))) r.0 r.1 = r.3 in

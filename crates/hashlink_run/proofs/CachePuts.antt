@@ -1,5 +1,5 @@
--- A command to a cache that passes a length before anything is dropped has put a pair in: it is an insert, or a use that
--- missed, and was not refused.
+-- A command to a cache that passes a length before anything is dropped has put a pair in: it is an insert, or a use
+-- that missed, and was not refused.
 use Rattle.std.proofs.Common.{◌≡◌, ℕ, zero, suc, Bool, List, [], ◌∷◌, length, slice_get, Option, None, Some}
 use Rattle.std.proofs.Common.{Result, Ok, Err, MatchOption, MatchResult, cond, ap, sym, subst}
 use Rattle.std.specs.Map.{lookup, lookup_entry}

@@ -13,7 +13,8 @@ use Rattle.hashlink_run.specs.Reads.{Replies}
 use Rattle.hashlink_run.proofs.EntryNodes.{replies-wider, entry-wider}
 
 module _ {K V B : Type 0} (P Q : K → V → B → Type 0) (wider : (k : K) (v : V) (b : B) → P k v b → Q k v b)
-    {S : Type 0} (eq : K → K → Bool) (old : CacheState K V S) (replies : List (Reply K V B)) (new : CacheState K V S) where
+    {S : Type 0} (eq : K → K → Bool) (old : CacheState K V S) (replies : List (Reply K V B))
+    (new : CacheState K V S) where
   use-wider : (k : K) (answer : Result (Option V) (K × V))
       → MatchResult answer (λ w. Replies P (lookup_entry (eq k) old.map.entries) replies)
       (λ pair. replies ≡ Refused pair.0 pair.1 ∷ [])

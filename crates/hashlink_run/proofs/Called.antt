@@ -1,6 +1,7 @@
 -- One call of a cache that was not refused, and calls in turn: what they leave is what is computed.
 use Rattle.std.proofs.Common.{◌≡◌, ℕ, Bool, List, [], ◌∷◌, ◌++◌, length, Option, None, Some, Result, Ok}
-use Rattle.std.proofs.Common.{◌+◌, ◌<◌, add-one, drop, drop-cons, get_or, map, MatchOption, append_assoc, refl, sym, ap, ap₂, ◌∙◌, subst}
+use Rattle.std.proofs.Common.{◌+◌, ◌<◌, add-one, drop, drop-cons, get_or, map, MatchOption, append_assoc, refl, sym}
+use Rattle.std.proofs.Common.{ap, ap₂, ◌∙◌, subst}
 use Rattle.std.specs.Map.{lookup, lookup_entry}
 use Rattle.std.specs.Option.{option_map, option_map_or}
 use Rattle.hashlink_model.specs.Cache.{CacheState, CacheInserts, CacheGets}
@@ -53,7 +54,8 @@ module _ {K V S : Type 0} (eq : K → K → Bool) where
   passed_one old new n kept is =
       subst (λ m. PassesInTurn old (Length m ∷ []) new) is (new, passes-kept old new kept, refl)
 
-  pub passed_two : (old new : CacheState K V S) (k : K) (v : V) (w : Option V) (n : ℕ) → CacheInserts eq old new k v (Ok w)
+  pub passed_two : (old new : CacheState K V S) (k : K) (v : V) (w : Option V) (n : ℕ)
+      → CacheInserts eq old new k v (Ok w)
       → length new.map.entries ≡ n
       → PassesInTurn old.map
       (Length (length (put eq old.map.entries k v (length old.map.entries))) ∷ Length n ∷ []) new.map
@@ -107,7 +109,8 @@ module _ {K V S : Type 0} (eq : K → K → Bool) where
         entries = entries;
         answer = s.1;
         cap = ap (λ c. c.cap) s.0;
-        passes = passed_one old.map new.map _ (kept_unchanged old.map new.map (ap (λ c. c.map) s.0)) (ap length entries);
+        passes =
+            passed_one old.map new.map _ (kept_unchanged old.map new.map (ap (λ c. c.map) s.0)) (ap length entries);
       }
 
   -- what calls in turn leave and answer
@@ -130,7 +133,8 @@ module _ {K V S : Type 0} (eq : K → K → Bool) where
       let es = after_event eq old.cap old.map.entries e in
       let passed =
       passes_in_parts old.map x.state.map (state_after x.state xs).map
-      (put_passed eq old.cap old.map.entries e ++ Length (length es) ∷ []) (events_passed eq old.cap es events) one.passes
+      (put_passed eq old.cap old.map.entries e ++ Length (length es) ∷ []) (events_passed eq old.cap es events)
+      one.passes
       (subst (λ ps. PassesInTurn x.state.map ps (state_after x.state xs).map)
       (ap₂ (λ c zs. events_passed eq c zs events) one.cap one.entries) more.passes) in
       record {

@@ -1,5 +1,6 @@
 -- A cursor that has done some of its steps.
-use Rattle.std.proofs.Common.{ℕ, Bool, List, [], ◌∷◌, ◌++◌, ◌≡◌, refl, sym, ap₂, subst, append_assoc, append-nil, length, arith}
+use Rattle.std.proofs.Common.{ℕ, Bool, List, [], ◌∷◌, ◌++◌, ◌≡◌, refl, sym, ap₂, subst, append_assoc, append-nil}
+use Rattle.std.proofs.Common.{length, arith}
 use Rattle.hashlink_model.specs.Cursor.{CursorState}
 use Rattle.hashlink_model.specs.MapState.{MapState}
 use Rattle.hashlink_commands.specs.declared.commands.CursorStep.{CursorStep}

@@ -1,14 +1,15 @@
 use Rattle.std.proofs.Common.{sym}
+use Rattle.std.proofs.lemmas.Result.{on_ok_weaker, on_err_weaker}
 use Rattle.hashlink_core.specs.Keyed.{state_of}
-use Rattle.hashlink_lru.proofs.Ends.{on_ok, on_err, evicted}
+use Rattle.hashlink_lru.proofs.Ends.{evicted}
 use Rattle.hashlink_lru.proofs.callers.count_word.Goals as goal
 
 pub returns-clause-counts : goal.returns-clause-counts
 returns-clause-counts g c =
     let made = evicted _ (sym c.map_mut.ensures.unchanged) c.make_room.ensures.evicts.map in
-    on_ok c.count_word.result (λ s. (state_of c.map_mut.result.now, made, s)) c.count_word.ensures.counts
+    on_ok_weaker c.count_word.result (λ s. (state_of c.map_mut.result.now, made, s)) c.count_word.ensures.counts
 
 pub returns-clause-refused : goal.returns-clause-refused
 returns-clause-refused g c =
     let made = evicted _ (sym c.map_mut.ensures.unchanged) c.make_room.ensures.evicts.map in
-    on_err c.count_word.result (λ s. (state_of c.map_mut.result.now, made, s)) c.count_word.ensures.refused
+    on_err_weaker c.count_word.result (λ s. (state_of c.map_mut.result.now, made, s)) c.count_word.ensures.refused

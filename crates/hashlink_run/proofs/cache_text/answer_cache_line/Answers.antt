@@ -9,7 +9,8 @@ use Rattle.hashlink_run.proofs.cache_text.answer_cache_line.Goals as goal
 pub returns-in-None : goal.returns-in-None
 returns-in-None c =
     let line = rw c.in-None.is at c.parse.ensures in
-    rw (sym line) (on_ok_weaker c.writeln-in-None.result (λ e. (codes "bad", (refl, refl), e)) c.writeln-in-None.ensures.bytes)
+    rw (sym line)
+    (on_ok_weaker c.writeln-in-None.result (λ e. (codes "bad", (refl, refl), e)) c.writeln-in-None.ensures.bytes)
 
 pub returns-in-Some-Do : goal.returns-in-Some-Do
 returns-in-Some-Do c =

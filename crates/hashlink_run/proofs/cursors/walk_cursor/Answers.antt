@@ -47,7 +47,11 @@ returns-clause-walked g c =
     let left = c.loop-step.step-iterator in
     let none = sym left.rest.ok.0 ∙ c.in-None.ensures.steps.0 in (
       so_far.0,
-      (cursor_state c.loop-step.cursor, WalksOn-end _ _ (into_iter_items left) none so_far.1, ap state_of (search (rules, so_far.3))),
+      (
+        cursor_state c.loop-step.cursor,
+        WalksOn-end _ _ (into_iter_items left) none so_far.1,
+        ap state_of (search (rules, so_far.3)),
+      ),
       so_far.2,
     )
 

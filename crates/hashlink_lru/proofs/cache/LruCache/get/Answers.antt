@@ -1,7 +1,8 @@
 use Rattle.std.proofs.Common.{refl, ap, sym, ◌∙◌}
 use Rattle.std.specs.Option.{option_copied_mut}
 use Rattle.hashlink_core.specs.Keyed.{state_of}
-use Rattle.hashlink_lru.proofs.Ends.{of_some, moved_last}
+use Rattle.hashlink_model.proofs.MovedLast.{moved_last}
+use Rattle.hashlink_map.proofs.Walking.{on-some}
 use Rattle.hashlink_lru.proofs.cache.LruCache.get.Goals as goal
 
 pub returns-in-Some : goal.returns-in-Some
@@ -15,7 +16,7 @@ returns-in-Some g c =
         record {
           map =
               moved_last eq g.met.K.Eq.laws (state_of c.args.self.now.map) _ c.args.key.now v
-              c.to_back.ensures.distinct at (of_some c.in-Some.is (c.to_back.follows.holds v));
+              c.to_back.ensures.distinct at (on-some c.in-Some.is (c.to_back.follows.holds v));
           cap = refl;
         },
       ),

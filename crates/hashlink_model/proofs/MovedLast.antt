@@ -1,0 +1,23 @@
+-- A key that moved last, through which the value that stands was written.
+use Rattle.std.specs.Prelude.{◌≡◌, Bool, Some, length}
+use Rattle.std.specs.Cmp.{IsEquivalence}
+use Rattle.std.specs.Map.{lookup}
+use Rattle.std.proofs.Common.{ap, sym, subst, ◌∙◌}
+use Rattle.std.proofs.lemmas.Map.Steps.{set_value_same}
+use Rattle.hashlink_model.specs.Entries.{IsEntries, moved}
+use Rattle.hashlink_model.specs.MapState.{MapState, Changes}
+use Rattle.hashlink_model.specs.Steps.{Moves, MovesAndWrites}
+use Rattle.hashlink_model.proofs.Afterwards.{lookup-moved}
+
+-- it moved last, and nothing else
+pub moved_last : {K V S : Type 0} (eq : K → K → Bool) → IsEquivalence eq → (old new : MapState K V S) (k : K) (w : V)
+    → IsEntries eq old.entries → lookup (eq k) old.entries ≡ Some w
+    → MovesAndWrites eq old new k (length old.entries) w
+    → Moves eq old new k (length old.entries) (Some w)
+moved_last eq laws old new k w d at s =
+    let b = length old.entries in
+    let stands : lookup (eq k) s.between.entries ≡ Some w
+    = ap (lookup (eq k)) s.moves.entries ∙ lookup-moved eq laws k old.entries k b d ∙ at in
+    let same : new ≡ s.between
+    = s.writes ∙ ap (λ es. record s.between { entries = es }) (set_value_same (eq k) s.between.entries w stands) in
+    record { answer = sym at; step = subst (λ m. Changes old m (moved eq old.entries k b) 6) (sym same) s.moves }
