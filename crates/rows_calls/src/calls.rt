@@ -1,89 +1,114 @@
-//! Reads, writes and walks.
+//! Reads and writes.
 use hashlink::LinkedHashMap;
 use rows_keys::{NumberItself, OddOrEven};
+use std::alloc::Global;
 use std::hash::BuildHasher;
 use std::string::String;
 use std::test::Fail;
 
-#[test]
-fn a_new_map_is_empty(rt: HostRuntime) {
-    let map = LinkedHashMap::<u32, u32>::new(rt.alloc());
-    assert_eq!(rt; map.len(), 0);
-    assert!(rt; map.is_empty());
-    assert_eq!(rt; map.get(&1), None);
-    assert!(rt; !map.contains_key(&1));
-    assert_eq!(rt; map.iter().size_hint(), (0, Some(0)));
-    assert!(rt; map.iter().next().is_none());
-}
+type Numbers = LinkedHashMap<u32, u32>;
 
-#[test]
-fn lookups_leave_the_order(rt: HostRuntime) -> Result<(), Fail> {
-    let mut map = LinkedHashMap::new(rt.alloc());
-    map.insert(1u32, 10u32)?;
-    map.insert(2, 20)?;
-    assert_eq!(rt; map.get(&1).copied(), Some(10));
-    assert_eq!(rt; map.get_key_value(&1), Some((&1, &10)));
-    assert_eq!(rt; map.get_key_value(&3), None);
-    assert!(rt; map.contains_key(&2));
-    assert!(rt; !map.contains_key(&3));
-    assert_eq!(rt; map.front(), Some((&1, &10)));
-    assert_eq!(rt; map.back(), Some((&2, &20)));
-    Ok(())
-}
-
-#[test]
-fn a_lent_value_can_be_written(rt: HostRuntime) -> Result<(), Fail> {
+/// The keys from 1 to 3 with ten times their numbers.
+fn one_to_three(rt: HostRuntime) -> Result<Numbers, Fail> {
     let mut map = LinkedHashMap::new(rt.alloc());
     for key in 1u32..4 {
         map.insert(key, key * 10)?;
     }
-    if let Some(value) = map.get_mut(&2) {
-        *value = 21;
-    }
-    if let Some(value) = map.to_front(&3) {
-        *value = 31;
-    }
-    if let Some(value) = map.to_back(&1) {
-        *value = 11;
-    }
-    assert!(rt; map.get_mut(&4).is_none());
-    assert_eq!(rt; map.front(), Some((&3, &31)));
-    assert_eq!(rt; map.get(&2).copied(), Some(21));
-    assert_eq!(rt; map.back(), Some((&1, &11)));
-    Ok(())
+    Ok(map)
+}
+
+/// Whether the map has these pairs, front first.
+fn has(map: &Numbers, pairs: [(u32, u32); 3]) -> bool {
+    map.iter().map(|(key, value)| (*key, *value)).eq(pairs)
+}
+
+/// What the key's pair, its value and the question whether it is there answer.
+fn seen(map: &Numbers, key: u32) -> (Option<(u32, u32)>, Option<u32>, bool) {
+    let pair = map.get_key_value(&key).map(|(key, value)| (*key, *value));
+    (pair, map.get(&key).copied(), map.contains_key(&key))
+}
+
+fn is_empty_in_all(map: &Numbers) -> bool {
+    map.is_empty()
+        && map.len() == 0
+        && map.iter().next().is_none()
+        && map.front().is_none()
+        && map.back().is_none()
 }
 
 #[test]
-fn iter_gives_each_entry_once_with_exact_hints_and_then_none_for_good(
-    rt: HostRuntime,
-) -> Result<(), Fail> {
-    let mut map = LinkedHashMap::new(rt.alloc());
-    map.insert(1u32, 10u32)?;
-    map.insert(2, 20)?;
-    let mut walk = map.iter();
-    assert_eq!(rt; walk.size_hint(), (2, Some(2)));
-    assert_eq!(rt; walk.next(), Some((&1, &10)));
-    assert_eq!(rt; walk.size_hint(), (1, Some(1)));
-    assert_eq!(rt; walk.next(), Some((&2, &20)));
-    assert_eq!(rt; walk.size_hint(), (0, Some(0)));
-    assert_eq!(rt; walk.next(), None);
-    assert_eq!(rt; walk.next(), None);
-    assert_eq!(rt; map.iter().count(), 2);
+fn a_new_map_is_empty(rt: HostRuntime) {
+    let map = LinkedHashMap::<u32, u32>::new(rt.alloc());
+    assert!(rt; is_empty_in_all(&map));
+    assert_eq!(rt; seen(&map, 1), (None, None, false));
+}
+
+#[test]
+fn lookups_leave_the_order(rt: HostRuntime) -> Result<(), Fail> {
+    let map = one_to_three(rt)?;
+    assert_eq!(rt; seen(&map, 1), (Some((1, 10)), Some(10), true));
+    assert_eq!(rt; seen(&map, 4), (None, None, false));
+    assert!(rt; has(&map, [(1, 10), (2, 20), (3, 30)]));
     Ok(())
+}
+
+/// A call that lends a value.
+#[derive(Clone, Copy)]
+enum Lend {
+    GetMut,
+    ToFront,
+    ToBack,
+}
+
+/// Writes the value that the call lends, and answers the old one.
+fn write(map: &mut Numbers, call: Lend, key: u32, value: u32) -> Option<u32> {
+    let lent = match call {
+        Lend::GetMut => map.get_mut(&key),
+        Lend::ToFront => map.to_front(&key),
+        Lend::ToBack => map.to_back(&key),
+    };
+    let lent = lent?;
+    let old = *lent;
+    *lent = value;
+    Some(old)
+}
+
+#[test]
+fn a_lent_value_can_be_written(rt: HostRuntime) -> Result<(), Fail> {
+    let mut map = one_to_three(rt)?;
+    let old = [
+        write(&mut map, Lend::GetMut, 2, 21),
+        write(&mut map, Lend::ToFront, 3, 31),
+        write(&mut map, Lend::ToBack, 1, 11),
+        write(&mut map, Lend::GetMut, 4, 41),
+    ];
+    assert_eq!(rt; old, [Some(20), Some(30), Some(10), None]);
+    assert!(rt; has(&map, [(3, 31), (2, 21), (1, 11)]));
+    Ok(())
+}
+
+type Texts = LinkedHashMap<String, u32>;
+
+fn insert(alloc: Global, map: &mut Texts, text: &str, value: u32) -> Result<Option<u32>, Fail> {
+    Ok(map.insert(String::from_str(alloc, text)?, value)?)
+}
+
+fn remove(alloc: Global, map: &mut Texts, text: &str) -> Result<Option<u32>, Fail> {
+    Ok(map.remove(&String::from_str(alloc, text)?))
 }
 
 #[test]
 fn a_map_owns_its_texts(rt: HostRuntime) -> Result<(), Fail> {
     let mut map = LinkedHashMap::new(rt.alloc());
-    map.insert(String::from_str(rt.alloc(), "one")?, 1u32)?;
-    map.insert(String::from_str(rt.alloc(), "two")?, 2)?;
-    let one = String::from_str(rt.alloc(), "one")?;
-    assert_eq!(rt; map.get(&one).copied(), Some(1));
-    assert_eq!(rt; map.insert(one, 3)?, Some(1));
-    let two = String::from_str(rt.alloc(), "two")?;
-    assert_eq!(rt; map.remove(&two), Some(2));
-    assert_eq!(rt; map.get(&two), None);
-    assert_eq!(rt; map.len(), 1);
+    let old = [
+        insert(rt.alloc(), &mut map, "one", 1)?,
+        insert(rt.alloc(), &mut map, "two", 2)?,
+        insert(rt.alloc(), &mut map, "one", 3)?,
+        remove(rt.alloc(), &mut map, "two")?,
+        remove(rt.alloc(), &mut map, "two")?,
+        remove(rt.alloc(), &mut map, "one")?,
+    ];
+    assert_eq!(rt; old, [None, None, Some(1), Some(2), None, Some(3)]);
     Ok(())
 }
 

@@ -1,6 +1,9 @@
 //! Capacities: 0, some, and more than any map can have.
-use hashlink::{DefaultHashBuilder, LinkedHashMap, TryReserveError};
-use rows_keys::NumberItself;
+use hashlink::{DefaultHashBuilder, LinkedHashMap, LinkedHashSet, TryReserveError};
+use rows_keys::{NumberItself, SameHash};
+use std::alloc::Global;
+use std::hash::BuildHasher;
+use std::process::Abort;
 use std::test::Fail;
 
 #[test]
@@ -31,17 +34,12 @@ fn a_map_can_be_made_with_room(rt: HostRuntime) -> Result<(), Fail> {
     Ok(())
 }
 
-#[test]
-fn more_room_than_any_map_can_have_is_an_overflow(rt: HostRuntime) -> Result<(), Fail> {
-    let none = LinkedHashMap::<u32, u32>::with_capacity(rt.alloc(), usize::MAX).err();
-    assert_eq!(rt; none, Some(TryReserveError::CapacityOverflow));
-    let none = LinkedHashMap::<u32, u32>::with_capacity_and_hasher(
-        rt.alloc(),
-        usize::MAX,
-        DefaultHashBuilder,
-    );
-    assert_eq!(rt; none.err(), Some(TryReserveError::CapacityOverflow));
-    let mut map = LinkedHashMap::new(rt.alloc());
+fn refuses_too_much<S: BuildHasher + Drop>(
+    rt: &impl Abort,
+    alloc: Global,
+    hasher: S,
+) -> Result<(), Fail> {
+    let mut map = LinkedHashMap::with_hasher(alloc, hasher);
     map.insert(1u32, 1u32)?;
     let capacity = map.capacity();
     assert_eq!(rt;
@@ -59,8 +57,40 @@ fn more_room_than_any_map_can_have_is_an_overflow(rt: HostRuntime) -> Result<(),
 }
 
 #[test]
-fn room_that_is_reserved_stays_and_is_enough(rt: HostRuntime) -> Result<(), Fail> {
-    let mut map = LinkedHashMap::new(rt.alloc());
+fn more_room_than_any_map_can_have_is_an_overflow(rt: HostRuntime) -> Result<(), Fail> {
+    let none = LinkedHashMap::<u32, u32>::with_capacity(rt.alloc(), usize::MAX).err();
+    assert_eq!(rt; none, Some(TryReserveError::CapacityOverflow));
+    let none = LinkedHashMap::<u32, u32>::with_capacity_and_hasher(
+        rt.alloc(),
+        usize::MAX,
+        DefaultHashBuilder,
+    );
+    assert_eq!(rt; none.err(), Some(TryReserveError::CapacityOverflow));
+    refuses_too_much(&rt, rt.alloc(), DefaultHashBuilder)?;
+    refuses_too_much(&rt, rt.alloc(), SameHash)
+}
+
+#[test]
+fn more_room_than_any_set_can_have_is_an_overflow(rt: HostRuntime) -> Result<(), Fail> {
+    let none = LinkedHashSet::<u32>::with_capacity(rt.alloc(), usize::MAX).err();
+    assert_eq!(rt; none, Some(TryReserveError::CapacityOverflow));
+    let mut set = LinkedHashSet::<u32>::with_capacity(rt.alloc(), 0)?;
+    assert_eq!(rt; set.capacity(), 0);
+    assert_eq!(rt; set.insert(1), Ok(true));
+    assert_eq!(rt;
+        set.reserve(usize::MAX),
+        Err(TryReserveError::CapacityOverflow)
+    );
+    assert_eq!(rt; set.len(), 1);
+    Ok(())
+}
+
+fn keeps_what_is_reserved<S: BuildHasher + Drop>(
+    rt: &impl Abort,
+    alloc: Global,
+    hasher: S,
+) -> Result<(), Fail> {
+    let mut map = LinkedHashMap::with_hasher(alloc, hasher);
     map.insert(1u32, 10u32)?;
     map.insert(2, 20)?;
     assert_eq!(rt; map.reserve(100), Ok(()));
@@ -79,8 +109,17 @@ fn room_that_is_reserved_stays_and_is_enough(rt: HostRuntime) -> Result<(), Fail
 }
 
 #[test]
-fn a_shrink_gives_back_what_no_entry_needs(rt: HostRuntime) -> Result<(), Fail> {
-    let mut map = LinkedHashMap::new(rt.alloc());
+fn room_that_is_reserved_stays_and_is_enough(rt: HostRuntime) -> Result<(), Fail> {
+    keeps_what_is_reserved(&rt, rt.alloc(), DefaultHashBuilder)?;
+    keeps_what_is_reserved(&rt, rt.alloc(), SameHash)
+}
+
+fn gives_back_what_no_entry_needs<S: BuildHasher + Drop>(
+    rt: &impl Abort,
+    alloc: Global,
+    hasher: S,
+) -> Result<(), Fail> {
+    let mut map = LinkedHashMap::with_hasher(alloc, hasher);
     map.insert(1u32, 10u32)?;
     map.insert(2, 20)?;
     let capacity = map.capacity();
@@ -104,4 +143,10 @@ fn a_shrink_gives_back_what_no_entry_needs(rt: HostRuntime) -> Result<(), Fail> 
     assert_eq!(rt; map.capacity(), 0);
     assert_eq!(rt; map.insert(5, 50), Ok(None));
     Ok(())
+}
+
+#[test]
+fn a_shrink_gives_back_what_no_entry_needs(rt: HostRuntime) -> Result<(), Fail> {
+    gives_back_what_no_entry_needs(&rt, rt.alloc(), DefaultHashBuilder)?;
+    gives_back_what_no_entry_needs(&rt, rt.alloc(), SameHash)
 }

@@ -1,66 +1,106 @@
 //! Maps compared.
-use crate::map_of;
-use hashlink::LinkedHashMap;
+use hashlink::{DefaultHashBuilder, LinkedHashMap};
+use rows_keys::SameHash;
 use std::alloc::{AllocError, Global};
 use std::cmp::Ordering;
+use std::hash::BuildHasher;
 use std::test::Fail;
 
-/// The words from "1" to "6", each with its number.
-fn six(alloc: Global) -> Result<LinkedHashMap<&'static str, u32>, AllocError> {
-    let pairs = [("1", 1), ("2", 2), ("3", 3), ("4", 4), ("5", 5), ("6", 6)];
-    LinkedHashMap::from_iter(alloc, Vec::from_array(alloc, pairs)?)
+type Numbers<S> = LinkedHashMap<u32, u32, S>;
+
+/// Whether all comparisons, each way round, say that the first map stands so to the second.
+fn compares<S: BuildHasher>(first: &Numbers<S>, second: &Numbers<S>, order: Ordering) -> bool {
+    (first == second) == (order == Ordering::Equal)
+        && (first < second) == (order == Ordering::Less)
+        && (first >= second) == (order != Ordering::Less)
+        && first.cmp(second) == order
+        && first.partial_cmp(second) == Some(order)
+        && second.cmp(first) == order.reverse()
 }
 
+/// A key and its value.
+type Pair = (u32, u32);
+
+/// The map of these pairs, front first.
+fn map_of_slice<S: BuildHasher + Drop>(
+    alloc: Global,
+    hasher: S,
+    pairs: &[Pair],
+) -> Result<Numbers<S>, Fail> {
+    let mut map = LinkedHashMap::with_hasher(alloc, hasher);
+    for (key, value) in pairs {
+        map.insert(*key, *value)?;
+    }
+    Ok(map)
+}
+
+/// The number of the first row whose maps do not stand so to one another.
+fn first_other<S: BuildHasher + Copy>(
+    alloc: Global,
+    hasher: S,
+    rows: &[(&[Pair], &[Pair], Ordering)],
+) -> Result<Option<usize>, Fail> {
+    for (place, (first, second, order)) in rows.iter().enumerate() {
+        let first = map_of_slice(alloc, hasher, first)?;
+        let second = map_of_slice(alloc, hasher, second)?;
+        if !compares(&first, &second, *order) {
+            return Ok(Some(place));
+        }
+    }
+    Ok(None)
+}
+
+const ONE: &[Pair] = &[(1, 1)];
+
+const TWO: &[Pair] = &[(1, 1), (2, 2)];
+
+const THREE: &[Pair] = &[(1, 1), (2, 2), (3, 3)];
+
+const GREATER_VALUE: &[Pair] = &[(1, 1), (2, 3)];
+
+const TURNED: &[Pair] = &[(2, 2), (1, 1)];
+
+const LATER: &[Pair] = &[(2, 2)];
+
 #[test]
-fn the_order_of_the_entries_counts(rt: HostRuntime) -> Result<(), Fail> {
-    let first = map_of(rt.alloc(), [(1, 1), (2, 2)])?;
-    let second = map_of(rt.alloc(), [(2, 2), (1, 1)])?;
-    assert!(rt; first != second);
-    assert_eq!(rt; first.cmp(&second), Ordering::Less);
+fn the_first_place_decides_by_key_and_value_and_then_the_length(
+    rt: HostRuntime,
+) -> Result<(), Fail> {
+    let rows = [
+        (TWO, TWO, Ordering::Equal),
+        (ONE, TWO, Ordering::Less),
+        (TWO, GREATER_VALUE, Ordering::Less),
+        (GREATER_VALUE, THREE, Ordering::Greater),
+        (TWO, TURNED, Ordering::Less),
+        (TWO, LATER, Ordering::Less),
+    ];
+    assert_eq!(rt; first_other(rt.alloc(), DefaultHashBuilder, &rows)?, None);
+    assert_eq!(rt; first_other(rt.alloc(), SameHash, &rows)?, None);
     Ok(())
 }
 
-#[test]
-fn the_values_count(rt: HostRuntime) -> Result<(), Fail> {
-    let first = map_of(rt.alloc(), [(1, 1), (2, 2)])?;
-    let second = map_of(rt.alloc(), [(1, 1), (2, 3)])?;
-    assert!(rt; first != second);
-    assert_eq!(rt; second.partial_cmp(&first), Some(Ordering::Greater));
-    Ok(())
+/// Whether two maps of three pairs are equal once the key is moved to the front of the first one, and once it is of the
+/// second too.
+fn equal_after_moves<S: BuildHasher + Copy>(
+    alloc: Global,
+    hasher: S,
+    key: u32,
+) -> Result<[bool; 2], Fail> {
+    let mut first = map_of_slice(alloc, hasher, THREE)?;
+    let mut second = map_of_slice(alloc, hasher, THREE)?;
+    first.to_front(&key);
+    let one_moved = first == second;
+    second.to_front(&key);
+    Ok([one_moved, first == second])
 }
 
 #[test]
 fn a_move_makes_equal_maps_unequal(rt: HostRuntime) -> Result<(), Fail> {
-    let mut first = six(rt.alloc())?;
-    let mut second = six(rt.alloc())?;
-    assert!(rt; first == second);
-    first.to_front(&"4");
-    assert!(rt; first != second);
-    second.to_front(&"4");
-    assert!(rt; first == second);
-    Ok(())
-}
-
-#[test]
-fn a_proper_beginning_is_less(rt: HostRuntime) -> Result<(), Fail> {
-    let one = map_of(rt.alloc(), [(1, 1)])?;
-    let two = map_of(rt.alloc(), [(1, 1), (2, 2)])?;
-    assert_eq!(rt; one.cmp(&two), Ordering::Less);
-    assert_eq!(rt; two.cmp(&one), Ordering::Greater);
-    assert_eq!(rt; two.cmp(&two), Ordering::Equal);
-    assert!(rt; one < two);
-    assert!(rt; two >= one);
-    Ok(())
-}
-
-#[test]
-fn the_first_place_decides_and_not_the_length(rt: HostRuntime) -> Result<(), Fail> {
-    let two = map_of(rt.alloc(), [(1, 1), (2, 2)])?;
-    assert_eq!(rt; two.cmp(&map_of(rt.alloc(), [(2, 2)])?), Ordering::Less);
-    let two = map_of(rt.alloc(), [(1, 1), (2, 3)])?;
-    let three = map_of(rt.alloc(), [(1, 1), (2, 2), (3, 3)])?;
-    assert_eq!(rt; two.cmp(&three), Ordering::Greater);
-    assert_eq!(rt; two.partial_cmp(&three), Some(Ordering::Greater));
+    assert_eq!(rt;
+        equal_after_moves(rt.alloc(), DefaultHashBuilder, 2)?,
+        [false, true]
+    );
+    assert_eq!(rt; equal_after_moves(rt.alloc(), SameHash, 2)?, [false, true]);
     Ok(())
 }
 

@@ -1,9 +1,16 @@
 //! From a cursor to an entry, and from an entry to a cursor.
-use crate::numbers::{Numbers, Pair, here, listed, numbers_of};
+use crate::numbers::{Numbers, Pair, has, numbers_of};
+use crate::steps::{Around, Step, around, take};
+use hashlink::DefaultHashBuilder;
 use hashlink::linked_hash_map::{Entry, RawEntryMut};
+use rows_keys::SameHash;
+use std::alloc::Global;
+use std::hash::BuildHasher;
+use std::process::Abort;
 use std::test::Fail;
 
-fn take_before_last(numbers: &mut Numbers) -> Option<Pair> {
+/// By the entry that a cursor lends.
+fn take_before_last<S: BuildHasher>(numbers: &mut Numbers<S>) -> Option<Pair> {
     let mut cursor = numbers.cursor_back_mut();
     cursor.move_prev();
     match cursor.current_entry() {
@@ -12,96 +19,118 @@ fn take_before_last(numbers: &mut Numbers) -> Option<Pair> {
     }
 }
 
-fn take_before_last_for_good(numbers: &mut Numbers) -> Option<Pair> {
+/// By the entry that a cursor becomes.
+fn take_before_last_for_good<S: BuildHasher>(numbers: &mut Numbers<S>) -> Option<Pair> {
     let mut cursor = numbers.cursor_back_mut();
     cursor.move_prev();
     Some(cursor.into_entry()?.remove_entry())
 }
 
-/// Puts both pairs right after the key's entry, the second right after it, and answers what the cursor is on.
-fn insert_two_after(
-    numbers: &mut Numbers,
+/// What the cursor at the guard sees, where no entry is to be had.
+fn guard<S: BuildHasher>(numbers: &mut Numbers<S>) -> Option<Around> {
+    let mut cursor = numbers.cursor_back_mut();
+    cursor.move_next();
+    match cursor.current_entry() {
+        Ok(_entry) => None,
+        Err(guard) => Some(around(&guard)),
+    }
+}
+
+/// What the cursor at the key's entry sees once the pair is put after it.
+fn insert_after<S: BuildHasher>(
+    numbers: &mut Numbers<S>,
     key: u64,
-    first: Pair,
-    second: Pair,
-) -> Result<Option<Pair>, Fail> {
+    pair: Pair,
+) -> Result<Option<Around>, Fail> {
     match numbers.entry(key) {
         Entry::Occupied(entry) => {
             let mut cursor = entry.cursor_mut();
-            cursor.insert_after(first.0, first.1)?;
-            cursor.insert_after(second.0, second.1)?;
-            Ok(here(&cursor))
+            take(&mut cursor, Step::After(pair.0, pair.1))?;
+            Ok(Some(around(&cursor)))
         }
         Entry::Vacant(_vacant) => Ok(None),
     }
 }
 
-fn insert_two_after_raw(
-    numbers: &mut Numbers,
+fn insert_after_raw<S: BuildHasher>(
+    numbers: &mut Numbers<S>,
     key: u64,
-    first: Pair,
-    second: Pair,
-) -> Result<Option<Pair>, Fail> {
+    pair: Pair,
+) -> Result<Option<Around>, Fail> {
     match numbers.raw_entry_of(&key) {
         RawEntryMut::Occupied(entry) => {
             let mut cursor = entry.cursor_mut();
-            cursor.insert_after(first.0, first.1)?;
-            cursor.insert_after(second.0, second.1)?;
-            Ok(here(&cursor))
+            take(&mut cursor, Step::After(pair.0, pair.1))?;
+            Ok(Some(around(&cursor)))
         }
         RawEntryMut::Vacant(_vacant) => Ok(None),
     }
 }
 
-#[test]
-fn the_entry_before_the_last_is_taken_out(rt: HostRuntime) -> Result<(), Fail> {
-    let mut numbers = numbers_of(rt.alloc(), &[(1, 5), (2, 6), (3, 7)])?;
-    assert_eq!(rt; take_before_last(&mut numbers), Some((2, 6)));
-    let list = listed(&numbers, rt.alloc())?;
-    assert_eq!(rt; list.as_slice(), [(1, 5), (3, 7)].as_slice());
-    assert_eq!(rt; take_before_last(&mut numbers), Some((1, 5)));
-    assert_eq!(rt; take_before_last(&mut numbers), None);
-    assert_eq!(rt; numbers.len(), 1);
+const FIVE_SIX_SEVEN: [Pair; 3] = [(1, 5), (2, 6), (3, 7)];
+
+fn takes_out_before_last<S: BuildHasher + Drop>(
+    rt: &impl Abort,
+    alloc: Global,
+    hasher: S,
+) -> Result<(), Fail> {
+    let mut numbers = numbers_of(alloc, hasher, &FIVE_SIX_SEVEN)?;
+    let taken = [
+        take_before_last(&mut numbers),
+        take_before_last_for_good(&mut numbers),
+        // Before the only entry stands the guard.
+        take_before_last(&mut numbers),
+        take_before_last_for_good(&mut numbers),
+    ];
+    assert_eq!(rt; taken, [Some((2, 6)), Some((1, 5)), None, None]);
+    assert!(rt; has(&numbers, &[(3, 7)]));
     Ok(())
 }
 
 #[test]
-fn the_entry_before_the_last_is_taken_out_for_good(rt: HostRuntime) -> Result<(), Fail> {
-    let mut numbers = numbers_of(rt.alloc(), &[(1, 5), (2, 6), (3, 7)])?;
-    assert_eq!(rt; take_before_last_for_good(&mut numbers), Some((2, 6)));
-    let list = listed(&numbers, rt.alloc())?;
-    assert_eq!(rt; list.as_slice(), [(1, 5), (3, 7)].as_slice());
-    assert_eq!(rt; take_before_last_for_good(&mut numbers), Some((1, 5)));
-    assert_eq!(rt; take_before_last_for_good(&mut numbers), None);
-    assert_eq!(rt; numbers.len(), 1);
+fn the_entry_before_the_last_is_taken_out(rt: HostRuntime) -> Result<(), Fail> {
+    takes_out_before_last(&rt, rt.alloc(), DefaultHashBuilder)?;
+    takes_out_before_last(&rt, rt.alloc(), SameHash)
+}
+
+fn guard_lends_no_entry<S: BuildHasher + Drop>(
+    rt: &impl Abort,
+    alloc: Global,
+    hasher: S,
+) -> Result<(), Fail> {
+    let mut numbers = numbers_of(alloc, hasher, &FIVE_SIX_SEVEN)?;
+    let seen = guard(&mut numbers);
+    assert_eq!(rt; seen, Some([Some((3, 7)), None, Some((1, 5))]));
+    Ok(())
+}
+
+#[test]
+fn the_guard_has_no_entry(rt: HostRuntime) -> Result<(), Fail> {
+    guard_lends_no_entry(&rt, rt.alloc(), DefaultHashBuilder)?;
+    guard_lends_no_entry(&rt, rt.alloc(), SameHash)
+}
+
+fn cursor_stands_on_entry<S: BuildHasher + Drop>(
+    rt: &impl Abort,
+    alloc: Global,
+    hasher: S,
+) -> Result<(), Fail> {
+    let mut numbers = numbers_of(alloc, hasher, &[(1, 10)])?;
+    let seen = [
+        insert_after(&mut numbers, 1, (2, 20))?,
+        insert_after_raw(&mut numbers, 1, (3, 30))?,
+    ];
+    let one = Some((1, 10));
+    let wanted = [
+        Some([None, one, Some((2, 20))]),
+        Some([None, one, Some((3, 30))]),
+    ];
+    assert_eq!(rt; seen, wanted);
     Ok(())
 }
 
 #[test]
 fn a_cursor_of_an_entry_stands_on_it(rt: HostRuntime) -> Result<(), Fail> {
-    let mut numbers = numbers_of(rt.alloc(), &[(1, 10)])?;
-    assert_eq!(rt;
-        insert_two_after(&mut numbers, 1, (2, 20), (3, 30))?,
-        Some((1, 10))
-    );
-    assert_eq!(rt; insert_two_after(&mut numbers, 7, (8, 80), (9, 90))?, None);
-    let list = listed(&numbers, rt.alloc())?;
-    assert_eq!(rt; list.as_slice(), [(1, 10), (3, 30), (2, 20)].as_slice());
-    Ok(())
-}
-
-#[test]
-fn a_cursor_of_a_raw_entry_stands_on_it(rt: HostRuntime) -> Result<(), Fail> {
-    let mut numbers = numbers_of(rt.alloc(), &[(1, 10)])?;
-    assert_eq!(rt;
-        insert_two_after_raw(&mut numbers, 1, (2, 20), (3, 30))?,
-        Some((1, 10))
-    );
-    assert_eq!(rt;
-        insert_two_after_raw(&mut numbers, 7, (8, 80), (9, 90))?,
-        None
-    );
-    let list = listed(&numbers, rt.alloc())?;
-    assert_eq!(rt; list.as_slice(), [(1, 10), (3, 30), (2, 20)].as_slice());
-    Ok(())
+    cursor_stands_on_entry(&rt, rt.alloc(), DefaultHashBuilder)?;
+    cursor_stands_on_entry(&rt, rt.alloc(), SameHash)
 }

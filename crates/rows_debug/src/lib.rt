@@ -4,4 +4,6 @@
 #[cfg(test)]
 mod entries;
 #[cfg(test)]
-mod texts;
+mod shown;
+#[cfg(test)]
+mod walks;

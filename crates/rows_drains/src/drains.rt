@@ -1,42 +1,64 @@
-use super::{entries, numbers};
+use super::{has, numbers};
+use hashlink::DefaultHashBuilder;
+use hashlink::linked_hash_map::Drain;
+use rows_keys::SameHash;
+use std::alloc::Global;
+use std::hash::BuildHasher;
+use std::process::Abort;
 use std::test::Fail;
+
+fn take<S: BuildHasher>(drain: &mut Drain<'_, u64, u64, S>) -> Option<(u64, u64)> {
+    drain.next()
+}
+
+fn take_back<S: BuildHasher>(drain: &mut Drain<'_, u64, u64, S>) -> Option<(u64, u64)> {
+    drain.next_back()
+}
+
+fn dropped_early<S: BuildHasher + Drop>(
+    rt: &impl Abort,
+    alloc: Global,
+    hasher: S,
+) -> Result<(), Fail> {
+    let mut map = numbers(alloc, hasher, 3, 1)?;
+    let mut drain = map.drain();
+    assert_eq!(rt; drain.size_hint(), (3, Some(3)));
+    assert_eq!(rt; take_back(&mut drain), Some((3, 3)));
+    assert_eq!(rt; drain.size_hint(), (2, Some(2)));
+    drop(drain);
+    assert!(rt; has(&map, &[]));
+    map.insert(4, 4)?;
+    assert!(rt; has(&map, &[(4, 4)]));
+    Ok(())
+}
 
 #[test]
 fn a_drain_dropped_early_leaves_nothing(rt: HostRuntime) -> Result<(), Fail> {
-    let mut map = numbers(rt, 3, 1)?;
+    dropped_early(&rt, rt.alloc(), DefaultHashBuilder)?;
+    dropped_early(&rt, rt.alloc(), SameHash)
+}
+
+fn from_both_ends<S: BuildHasher + Drop>(
+    rt: &impl Abort,
+    alloc: Global,
+    hasher: S,
+) -> Result<(), Fail> {
+    let mut map = numbers(alloc, hasher, 4, 10)?;
     let mut drain = map.drain();
-    assert_eq!(rt; drain.size_hint(), (3, Some(3)));
-    assert_eq!(rt; drain.next_back(), Some((3, 3)));
-    assert_eq!(rt; drain.size_hint(), (2, Some(2)));
-    drop(drain);
-    assert_eq!(rt; map.len(), 0);
-    map.insert(4, 4)?;
-    assert_eq!(rt; entries(rt, &map)?.as_slice(), [(4, 4)].as_slice());
+    let taken = [
+        take(&mut drain),
+        take(&mut drain),
+        take_back(&mut drain),
+        take_back(&mut drain),
+    ];
+    let all = [(1, 10), (2, 20), (4, 40), (3, 30)];
+    assert_eq!(rt; taken, all.map(Some));
+    assert_eq!(rt; [take(&mut drain), take_back(&mut drain)], [None, None]);
     Ok(())
 }
 
 #[test]
 fn a_drain_from_both_ends(rt: HostRuntime) -> Result<(), Fail> {
-    let mut map = numbers(rt, 4, 10)?;
-    let mut drain = map.drain();
-    assert_eq!(rt; drain.next(), Some((1, 10)));
-    assert_eq!(rt; drain.next(), Some((2, 20)));
-    assert_eq!(rt; drain.next_back(), Some((4, 40)));
-    assert_eq!(rt; drain.next_back(), Some((3, 30)));
-    assert_eq!(rt; drain.next_back(), None);
-    assert_eq!(rt; drain.next(), None);
-    Ok(())
-}
-
-#[test]
-fn a_walk_by_value_gives_each_entry(rt: HostRuntime) -> Result<(), Fail> {
-    let mut walk = numbers(rt, 3, 10)?.into_iter();
-    assert_eq!(rt; walk.len(), 3);
-    assert_eq!(rt; walk.next_back(), Some((3, 30)));
-    assert_eq!(rt; walk.next(), Some((1, 10)));
-    assert_eq!(rt; walk.size_hint(), (1, Some(1)));
-    assert_eq!(rt; walk.next(), Some((2, 20)));
-    assert_eq!(rt; walk.next(), None);
-    assert_eq!(rt; walk.next_back(), None);
-    Ok(())
+    from_both_ends(&rt, rt.alloc(), DefaultHashBuilder)?;
+    from_both_ends(&rt, rt.alloc(), SameHash)
 }

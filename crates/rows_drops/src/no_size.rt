@@ -1,5 +1,5 @@
 //! Keys and values without size.
-use hashlink::LinkedHashMap;
+use hashlink::{LinkedHashMap, LinkedHashSet, LruCache};
 use std::test::Fail;
 
 #[test]
@@ -29,5 +29,28 @@ fn values_without_size_make_a_set(rt: HostRuntime) -> Result<(), Fail> {
     assert_eq!(rt; keys.next(), Some(2));
     assert_eq!(rt; keys.next(), Some(1));
     assert_eq!(rt; keys.next(), None);
+    Ok(())
+}
+
+#[test]
+fn elements_without_size_are_one(rt: HostRuntime) -> Result<(), Fail> {
+    let mut set = LinkedHashSet::new(rt.alloc());
+    assert_eq!(rt; set.insert(()), Ok(true));
+    assert_eq!(rt; set.insert(()), Ok(false));
+    assert_eq!(rt; set.len(), 1);
+    Ok(())
+}
+
+#[test]
+fn a_cache_of_values_without_size_keeps_the_last_keys(rt: HostRuntime) -> Result<(), Fail> {
+    for (capacity, left) in [(0, 0), (2, 2), (usize::MAX, 3)] {
+        let mut cache = LruCache::new(rt.alloc(), capacity);
+        for key in [3u32, 1, 2, 1] {
+            cache.insert(key, ())?;
+        }
+        assert_eq!(rt; cache.len(), left);
+        assert_eq!(rt; cache.peek(&1).is_some(), left != 0);
+        assert_eq!(rt; cache.peek(&3).is_some(), left == 3);
+    }
     Ok(())
 }

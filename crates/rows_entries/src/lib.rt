@@ -2,14 +2,14 @@
 #![tactic(auto)]
 
 #[cfg(test)]
-mod by_value;
+mod calls;
 #[cfg(test)]
 mod costs;
-#[cfg(test)]
-mod entries;
 #[cfg(test)]
 mod numbers;
 #[cfg(test)]
 mod occupied;
+#[cfg(test)]
+mod tests;
 #[cfg(test)]
 mod vacant;

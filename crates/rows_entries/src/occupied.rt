@@ -1,68 +1,77 @@
 //! The calls of `OccupiedEntry`.
-use crate::numbers::{Numbers, first, last, numbered, one_and_two};
-use hashlink::linked_hash_map::Entry;
+use crate::calls::Answer;
+use crate::numbers::Numbers;
+use hashlink::linked_hash_map::{Entry, OccupiedEntry};
 use rows_keys::Numbered;
-use std::test::Fail;
+use std::hash::BuildHasher;
 
-fn key_and_value(numbers: &mut Numbers, key: Numbered) -> Option<(u32, u32)> {
+/// A call of an occupied entry.
+#[derive(Clone, Copy)]
+pub(crate) enum Occupied {
+    Get,
+    GetMut,
+    IntoMut,
+    ToFront,
+    ToBack,
+    Insert,
+    InsertEntry,
+    ReplaceEntry,
+    ReplaceKey,
+    /// Answers the number of the key in hand.
+    IntoKey,
+    Remove,
+    RemoveEntry,
+    /// Writes the value by the raw entry.
+    RawReplaceValue,
+}
+
+/// Makes a call that leaves the entry, and answers the number of the stored key and the value that was there.
+fn change<S: BuildHasher>(
+    entry: &mut OccupiedEntry<'_, Numbered, u32, S>,
+    call: Occupied,
+    value: u32,
+) -> Answer {
+    let seen = (entry.key().number, *entry.get());
+    match call {
+        Occupied::GetMut => *entry.get_mut() = value,
+        Occupied::ToFront => entry.to_front(),
+        Occupied::ToBack => entry.to_back(),
+        Occupied::Insert => return (seen.0, entry.insert(value)),
+        _ => {}
+    }
+    seen
+}
+
+/// Makes the call, with the value where it writes one, and answers the number of the stored key and the value that was
+/// there, each as the call hands it out, if it does.
+pub(crate) fn at<S: BuildHasher>(
+    numbers: &mut Numbers<S>,
+    key: Numbered,
+    call: Occupied,
+    value: u32,
+) -> Option<Answer> {
     match numbers.entry(key) {
-        Entry::Occupied(entry) => Some((entry.key().number, *entry.get())),
+        Entry::Occupied(mut entry) => {
+            let (number, old) = change(&mut entry, call, value);
+            match call {
+                Occupied::IntoMut => *entry.into_mut() = value,
+                Occupied::InsertEntry => return Some(numbers_of(entry.insert_entry(value))),
+                Occupied::ReplaceEntry => return Some(numbers_of(entry.replace_entry(value))),
+                Occupied::ReplaceKey => return Some((entry.replace_key().number, old)),
+                Occupied::IntoKey => return Some((entry.into_key().number, old)),
+                Occupied::Remove => return Some((number, entry.remove())),
+                Occupied::RemoveEntry => return Some(numbers_of(entry.remove_entry())),
+                Occupied::RawReplaceValue => {
+                    return Some((number, entry.raw_entry_mut().replace_value(value)));
+                }
+                _ => return Some((number, old)),
+            }
+            Some((number, old))
+        }
         Entry::Vacant(_vacant) => None,
     }
 }
 
-fn write(numbers: &mut Numbers, key: Numbered, written: u32) {
-    if let Entry::Occupied(mut entry) = numbers.entry(key) {
-        *entry.get_mut() = written;
-    }
-}
-
-fn write_for_good(numbers: &mut Numbers, key: Numbered, written: u32) {
-    if let Entry::Occupied(entry) = numbers.entry(key) {
-        *entry.into_mut() = written;
-    }
-}
-
-fn to_back(numbers: &mut Numbers, key: Numbered) {
-    if let Entry::Occupied(mut entry) = numbers.entry(key) {
-        entry.to_back();
-    }
-}
-
-fn to_front(numbers: &mut Numbers, key: Numbered) {
-    if let Entry::Occupied(mut entry) = numbers.entry(key) {
-        entry.to_front();
-    }
-}
-
-fn insert(numbers: &mut Numbers, key: Numbered, value: u32) -> Option<u32> {
-    match numbers.entry(key) {
-        Entry::Occupied(mut entry) => Some(entry.insert(value)),
-        Entry::Vacant(_vacant) => None,
-    }
-}
-
-#[test]
-fn what_is_written_stands_where_the_entry_stood(rt: HostRuntime) -> Result<(), Fail> {
-    let mut numbers = one_and_two(rt)?;
-    assert_eq!(rt; key_and_value(&mut numbers, numbered(1, 7)), Some((1, 10)));
-    write(&mut numbers, numbered(1, 7), 11);
-    assert_eq!(rt; first(&numbers), Some((1, 1, 11)));
-    write_for_good(&mut numbers, numbered(1, 7), 12);
-    assert_eq!(rt; first(&numbers), Some((1, 1, 12)));
-    assert_eq!(rt; last(&numbers), Some((2, 1, 20)));
-    Ok(())
-}
-
-#[test]
-fn moves_and_inserts_change_the_order(rt: HostRuntime) -> Result<(), Fail> {
-    let mut numbers = one_and_two(rt)?;
-    to_back(&mut numbers, numbered(1, 7));
-    assert_eq!(rt; last(&numbers), Some((1, 1, 10)));
-    to_front(&mut numbers, numbered(1, 7));
-    assert_eq!(rt; first(&numbers), Some((1, 1, 10)));
-    assert_eq!(rt; insert(&mut numbers, numbered(1, 7), 11), Some(10));
-    assert_eq!(rt; last(&numbers), Some((1, 1, 11)));
-    assert_eq!(rt; numbers.len(), 2);
-    Ok(())
+pub(crate) fn numbers_of((key, value): (Numbered, u32)) -> Answer {
+    (key.number, value)
 }

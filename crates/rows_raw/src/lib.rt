@@ -2,9 +2,9 @@
 #![tactic(auto)]
 
 #[cfg(test)]
-mod costs;
+mod calls;
 #[cfg(test)]
-mod ends;
+mod costs;
 #[cfg(test)]
 mod inserts;
 #[cfg(test)]
@@ -17,3 +17,5 @@ mod numbers;
 mod occupied;
 #[cfg(test)]
 mod or_inserts;
+#[cfg(test)]
+mod tests;

@@ -1,34 +1,29 @@
 //! Maps of plain numbers.
-use hashlink::LinkedHashMap;
-use std::alloc::{AllocError, Global};
+use hashlink::{DefaultHashBuilder, LinkedHashMap};
+use std::alloc::Global;
+use std::hash::BuildHasher;
 use std::test::Fail;
 
-pub(crate) type Numbers = LinkedHashMap<u32, u32>;
+pub(crate) type Numbers<S = DefaultHashBuilder> = LinkedHashMap<u16, u32, S>;
 
 /// A key and its value.
-pub(crate) type Pair = (u32, u32);
+pub(crate) type Pair = (u16, u32);
 
-/// 1 with 10, then 2 with 20.
-pub(crate) fn one_and_two(rt: HostRuntime) -> Result<Numbers, Fail> {
-    let mut numbers = LinkedHashMap::new(rt.alloc());
-    numbers.insert(1u32, 10u32)?;
-    numbers.insert(2, 20)?;
-    Ok(numbers)
-}
-
-/// 1 with 5, then 2 with 6, then 3 with 7.
-pub(crate) fn five_six_seven(rt: HostRuntime) -> Result<Numbers, Fail> {
-    let mut numbers = LinkedHashMap::new(rt.alloc());
-    for key in 1u32..4 {
-        numbers.insert(key, key + 4)?;
+/// The map of the pairs, front first.
+pub(crate) fn map_of<S: BuildHasher + Drop>(
+    alloc: Global,
+    hasher: S,
+    pairs: &[Pair],
+) -> Result<Numbers<S>, Fail> {
+    let mut numbers = LinkedHashMap::with_hasher(alloc, hasher);
+    for (key, value) in pairs {
+        numbers.insert(*key, *value)?;
     }
     Ok(numbers)
 }
 
-/// The entries, front first.
-pub(crate) fn listed(numbers: &Numbers, alloc: Global) -> Result<Vec<Pair>, AllocError> {
-    numbers
-        .iter()
-        .map(|(key, value)| (*key, *value))
-        .collect(alloc)
+/// Whether the map has these pairs, front first.
+pub(crate) fn has<S: BuildHasher>(numbers: &Numbers<S>, pairs: &[Pair]) -> bool {
+    let entries = numbers.iter().map(|(key, value)| (*key, *value));
+    entries.eq(pairs.iter().copied())
 }

@@ -1,139 +1,86 @@
 //! The calls of `RawOccupiedEntryMut`.
-use crate::numbers::{Numbers, Pair, five_six_seven, listed, one_and_two};
-use hashlink::linked_hash_map::RawEntryMut;
-use std::test::Fail;
+use crate::lookups::{Way, find};
+use crate::numbers::{Numbers, Pair};
+use hashlink::linked_hash_map::{RawEntryMut, RawOccupiedEntryMut};
+use std::hash::BuildHasher;
 
-fn replace_value(numbers: &mut Numbers, key: u32, value: u32) -> Option<u32> {
-    match numbers.raw_entry_mut().from_key(&key) {
-        RawEntryMut::Occupied(mut entry) => Some(entry.replace_value(value)),
-        RawEntryMut::Vacant(_vacant) => None,
-    }
+/// A call of an occupied entry.
+#[derive(Clone, Copy)]
+pub(crate) enum Occupied {
+    Get,
+    IntoKey,
+    ReplaceValue,
+    GetMut,
+    IntoMut,
+    GetKeyValueMut,
+    IntoKeyValue,
+    ToFront,
+    ToBack,
+    Remove,
+    RemoveEntry,
 }
 
-/// The pair, as each call lends it.
-fn read(numbers: &mut Numbers, key: u32) -> Option<[Pair; 2]> {
-    match numbers.raw_entry_mut().from_key(&key) {
-        RawEntryMut::Occupied(entry) => {
-            let (stored, value) = entry.get_key_value();
-            Some([(*stored, *value), (*entry.key(), *entry.get())])
-        }
-        RawEntryMut::Vacant(_vacant) => None,
+/// Makes a call that leaves the entry, and answers the pair that was there.
+pub(crate) fn change<S: BuildHasher>(
+    entry: &mut RawOccupiedEntryMut<'_, u16, u32, S>,
+    call: Occupied,
+    value: u32,
+) -> Pair {
+    let (key, old) = entry.get_key_value();
+    let seen = (*key, *old);
+    match call {
+        Occupied::Get => return (*entry.key(), *entry.get()),
+        Occupied::ReplaceValue => return (seen.0, entry.replace_value(value)),
+        Occupied::GetMut => *entry.get_mut() = value,
+        Occupied::GetKeyValueMut => *entry.get_key_value_mut().1 = value,
+        Occupied::ToFront => entry.to_front(),
+        Occupied::ToBack => entry.to_back(),
+        _ => {}
     }
+    seen
 }
 
-fn key_for_good(numbers: &mut Numbers, key: u32) -> Option<u32> {
-    match numbers.raw_entry_mut().from_key(&key) {
-        RawEntryMut::Occupied(entry) => Some(*entry.into_key()),
-        RawEntryMut::Vacant(_vacant) => None,
-    }
-}
-
-fn write(numbers: &mut Numbers, key: u32, value: u32) {
-    if let RawEntryMut::Occupied(mut entry) = numbers.raw_entry_mut().from_key(&key) {
-        *entry.get_mut() = value;
-    }
-}
-
-fn write_for_good(numbers: &mut Numbers, key: u32, value: u32) {
-    if let RawEntryMut::Occupied(entry) = numbers.raw_entry_mut().from_key(&key) {
-        *entry.into_mut() = value;
-    }
-}
-
-/// Writes the value beside the key, and answers that.
-fn write_beside_the_key(numbers: &mut Numbers, key: u32, value: u32) -> Option<u32> {
-    match numbers.raw_entry_mut().from_key(&key) {
+/// Makes the call, with the value where it writes one, and answers the pair that was there, each part as the call
+/// lends it or hands it out, if it does.
+pub(crate) fn at<S: BuildHasher>(
+    numbers: &mut Numbers<S>,
+    way: Way,
+    call: Occupied,
+    (key, value): Pair,
+) -> Option<Pair> {
+    match find(numbers, way, key) {
         RawEntryMut::Occupied(mut entry) => {
-            let (stored, lent) = entry.get_key_value_mut();
-            *lent = value;
-            Some(*stored)
+            let (stored, old) = change(&mut entry, call, value);
+            match call {
+                Occupied::IntoKey => return Some((*entry.into_key(), old)),
+                Occupied::IntoMut => *entry.into_mut() = value,
+                Occupied::IntoKeyValue => *entry.into_key_value().1 = value,
+                Occupied::Remove => return Some((stored, entry.remove())),
+                Occupied::RemoveEntry => return Some(entry.remove_entry()),
+                _ => return Some((stored, old)),
+            }
+            Some((stored, old))
         }
         RawEntryMut::Vacant(_vacant) => None,
     }
 }
 
-fn write_beside_the_key_for_good(numbers: &mut Numbers, key: u32, value: u32) -> Option<u32> {
-    match numbers.raw_entry_mut().from_key(&key) {
-        RawEntryMut::Occupied(entry) => {
-            let (stored, lent) = entry.into_key_value();
-            *lent = value;
-            Some(*stored)
-        }
-        RawEntryMut::Vacant(_vacant) => None,
+/// Makes a call of the entry at an end: a removal, or one that leaves the entry.
+pub(crate) fn at_end<S: BuildHasher>(
+    numbers: &mut Numbers<S>,
+    is_front: bool,
+    call: Occupied,
+    value: u32,
+) -> Option<Pair> {
+    let entry = if is_front {
+        numbers.front_entry()
+    } else {
+        numbers.back_entry()
+    };
+    let mut entry = entry?;
+    let seen = change(&mut entry, call, value);
+    if let Occupied::RemoveEntry = call {
+        return Some(entry.remove_entry());
     }
-}
-
-fn to_back(numbers: &mut Numbers, key: u32) {
-    if let RawEntryMut::Occupied(mut entry) = numbers.raw_entry_mut().from_key(&key) {
-        entry.to_back();
-    }
-}
-
-fn to_front(numbers: &mut Numbers, key: u32) {
-    if let RawEntryMut::Occupied(mut entry) = numbers.raw_entry_mut().from_key(&key) {
-        entry.to_front();
-    }
-}
-
-fn remove(numbers: &mut Numbers, key: u32) -> Option<u32> {
-    match numbers.raw_entry_mut().from_key(&key) {
-        RawEntryMut::Occupied(entry) => Some(entry.remove()),
-        RawEntryMut::Vacant(_vacant) => None,
-    }
-}
-
-fn remove_entry(numbers: &mut Numbers, key: u32) -> Option<Pair> {
-    match numbers.raw_entry_mut().from_key(&key) {
-        RawEntryMut::Occupied(entry) => Some(entry.remove_entry()),
-        RawEntryMut::Vacant(_vacant) => None,
-    }
-}
-
-#[test]
-fn reads_change_nothing(rt: HostRuntime) -> Result<(), Fail> {
-    let mut numbers = one_and_two(rt)?;
-    assert_eq!(rt; read(&mut numbers, 1), Some([(1, 10), (1, 10)]));
-    assert_eq!(rt; read(&mut numbers, 3), None);
-    assert_eq!(rt; key_for_good(&mut numbers, 1), Some(1));
-    let list = listed(&numbers, rt.alloc())?;
-    assert_eq!(rt; list.as_slice(), [(1, 10), (2, 20)].as_slice());
-    Ok(())
-}
-
-#[test]
-fn what_is_written_stands_where_the_entry_stood(rt: HostRuntime) -> Result<(), Fail> {
-    let mut numbers = five_six_seven(rt)?;
-    assert_eq!(rt; replace_value(&mut numbers, 2, 21), Some(6));
-    write(&mut numbers, 1, 11);
-    write_for_good(&mut numbers, 3, 31);
-    let list = listed(&numbers, rt.alloc())?;
-    assert_eq!(rt; list.as_slice(), [(1, 11), (2, 21), (3, 31)].as_slice());
-    assert_eq!(rt; write_beside_the_key(&mut numbers, 2, 22), Some(2));
-    assert_eq!(rt; write_beside_the_key_for_good(&mut numbers, 1, 12), Some(1));
-    let list = listed(&numbers, rt.alloc())?;
-    assert_eq!(rt; list.as_slice(), [(1, 12), (2, 22), (3, 31)].as_slice());
-    Ok(())
-}
-
-#[test]
-fn moves_change_the_order(rt: HostRuntime) -> Result<(), Fail> {
-    let mut numbers = five_six_seven(rt)?;
-    to_back(&mut numbers, 2);
-    let list = listed(&numbers, rt.alloc())?;
-    assert_eq!(rt; list.as_slice(), [(1, 5), (3, 7), (2, 6)].as_slice());
-    to_front(&mut numbers, 3);
-    let list = listed(&numbers, rt.alloc())?;
-    assert_eq!(rt; list.as_slice(), [(3, 7), (1, 5), (2, 6)].as_slice());
-    Ok(())
-}
-
-#[test]
-fn removals_answer_what_was_stored(rt: HostRuntime) -> Result<(), Fail> {
-    let mut numbers = one_and_two(rt)?;
-    assert_eq!(rt; remove(&mut numbers, 1), Some(10));
-    assert_eq!(rt; remove(&mut numbers, 1), None);
-    assert_eq!(rt; remove_entry(&mut numbers, 2), Some((2, 20)));
-    assert_eq!(rt; remove_entry(&mut numbers, 2), None);
-    assert!(rt; numbers.is_empty());
-    Ok(())
+    Some(seen)
 }

@@ -1,23 +1,41 @@
 //! Commands to one cache.
-use hashlink::lru_cache::LruCache;
 use hashlink::run::CacheCommand::{
     self, Clear, Entry, Get, Insert, Peek, Remove, RemoveLru, SetCapacity, Use,
 };
 use hashlink::run::Reply::{Done, Pair, Seen, Value};
 use hashlink::run::{EntryStep as step, Reply, run_cache};
+use hashlink::{DefaultHashBuilder, LruCache};
+use rows_keys::SameHash;
 use std::alloc::Global;
+use std::hash::BuildHasher;
 use std::process::Abort;
 use std::test::Fail;
 
-/// From an empty cache on, the commands have these replies and leave these pairs, front first.
+/// A command and its reply.
+type Step = (CacheCommand<u16, u32>, Reply<u16, u32>);
+
+/// From an empty cache on, the commands have these replies and leave these pairs, front first, under the default hasher
+/// and under one with one hash.
 fn holds(
     rt: &impl Abort,
     alloc: Global,
     capacity: usize,
-    steps: &[(CacheCommand<u16, u32>, Reply<u16, u32>)],
+    steps: &[Step],
     left: &[(u16, u32)],
 ) -> Result<(), Fail> {
-    let mut cache = LruCache::new(alloc, capacity);
+    let plain = LruCache::with_hasher(alloc, capacity, DefaultHashBuilder);
+    holds_in(rt, alloc, plain, steps, left)?;
+    let same = LruCache::with_hasher(alloc, capacity, SameHash);
+    holds_in(rt, alloc, same, steps, left)
+}
+
+fn holds_in<S: BuildHasher + Drop>(
+    rt: &impl Abort,
+    alloc: Global,
+    mut cache: LruCache<u16, u32, S>,
+    steps: &[Step],
+    left: &[(u16, u32)],
+) -> Result<(), Fail> {
     let commands: Vec<CacheCommand<u16, u32>> = steps.iter().map(|step| step.0).collect(alloc)?;
     let wanted: Vec<Reply<u16, u32>> = steps.iter().map(|step| step.1).collect(alloc)?;
     let replies = run_cache(

@@ -12,17 +12,21 @@ fn a_text_of_commands_is_answered_line_by_line(rt: HostRuntime) -> Result<(), Fa
         ),
         // Both ends, a replace, a move, and what gives memory back.
         (
-            "map\ninsert_front 1 1\ninsert 2 2\ninsert_front 3 3\ninsert_front 2 4\nreplace 3 5\nto_back 2\npop_front\nback\nlen\nshrink\nclear\nfront\niter\n",
+            "map\ninsert_front 1 1\ninsert 2 2\ninsert_front 3 3\ninsert_front 2 4\nreplace 3 5\n\
+             to_back 2\npop_front\nback\nlen\nshrink\nclear\nfront\niter\n",
             "-\n-\n-\n2\n3\n4\n3:5\n2:4\n2\nok\nok\n-\nempty\n",
         ),
         // Moves to either end, and of a key that is not there.
         (
-            "map\ninsert 1 10\ninsert 2 20\ninsert 3 30\nto_front 3\nto_back 1\nto_back 9\niter\nfront\nback\npop_back\nlen\n",
+            "map\ninsert 1 10\ninsert 2 20\ninsert 3 30\nto_front 3\nto_back 1\nto_back 9\niter\n\
+             front\nback\npop_back\nlen\n",
             "-\n-\n-\n30\n10\n-\n3:30 2:20 1:10\n3:30\n1:10\n1:10\n2\n",
         ),
         // Entries: what is read, put in and replaced where a key stands, and where none does.
         (
-            "map\ninsert 1 10\ninsert 2 20\nentry 1 get\nentry 1 insert_entry 11\nentry 2 replace_entry 22\nentry 3 replace_entry 30\nentry 3 insert 30\nentry 4 insert_entry 40\nreplace 5 50\nentry 2 to_back\nentry 1 remove\niter\n",
+            "map\ninsert 1 10\ninsert 2 20\nentry 1 get\nentry 1 insert_entry 11\n\
+             entry 2 replace_entry 22\nentry 3 replace_entry 30\nentry 3 insert 30\n\
+             entry 4 insert_entry 40\nreplace 5 50\nentry 2 to_back\nentry 1 remove\niter\n",
             "-\n-\n10\n1:10\n2:20\n-\n-\n-\n-\n22\n11\n3:30 4:40 5:50 2:22\n",
         ),
         (
@@ -39,7 +43,9 @@ fn a_text_of_commands_is_answered_line_by_line(rt: HostRuntime) -> Result<(), Fa
             "ok\n-\nbad\nok\nempty\n",
         ),
         (
-            "map\nentry 1 insert 10\nentry 2 or_insert 20\nentry 1 insert 11\nentry 2 to_back\nentry 1 to_back\nentry 2 or_insert 0\nentry 2 to_front\niter\nentry 3 get\nentry 3 to_front\nentry 3 to_back\nentry 3 remove\nentry 2 remove\niter\n",
+            "map\nentry 1 insert 10\nentry 2 or_insert 20\nentry 1 insert 11\nentry 2 to_back\n\
+             entry 1 to_back\nentry 2 or_insert 0\nentry 2 to_front\niter\nentry 3 get\n\
+             entry 3 to_front\nentry 3 to_back\nentry 3 remove\nentry 2 remove\niter\n",
             "-\n20\n10\n20\n11\n20\n20\n2:20 1:11\n-\n-\n-\n-\n20\n1:11\n",
         ),
         // Cursors: what they reach and see, and inserts round them.
@@ -52,12 +58,15 @@ fn a_text_of_commands_is_answered_line_by_line(rt: HostRuntime) -> Result<(), Fa
             "-\n-\n4:4 - 4:4\n- - 3:3\n3:3 5:5 4:4 6:6\n",
         ),
         (
-            "map\ninsert 1 10\ninsert 2 20\ninsert 3 30\ncursor peek_prev peek_next next cur peek_prev next next next\ncursor cur\n",
+            "map\ninsert 1 10\ninsert 2 20\ninsert 3 30\n\
+             cursor peek_prev peek_next next cur peek_prev next next next\ncursor cur\n",
             "-\n-\n-\n- 2:20 2:20 2:20 1:10 3:30 - 1:10\n1:10\n",
         ),
         // A key that is there moves to the cursor with its new value, and the cursor stays on its pair.
         (
-            "map\ninsert 1 10\ninsert 2 20\ninsert 3 30\ncursor next before 3 31 cur peek_prev after 1 11 cur peek_next before 2 21 cur\niter\n",
+            "map\ninsert 1 10\ninsert 2 20\ninsert 3 30\n\
+             cursor next before 3 31 cur peek_prev after 1 11 cur peek_next before 2 21 cur\n\
+             iter\n",
             "-\n-\n-\n2:20 30 2:20 3:31 10 2:20 1:11 20 2:21\n3:31 2:21 1:11\n",
         ),
         // A cache: a hit moves its pair last, a peek does not, and a smaller capacity keeps the last pairs.
@@ -70,7 +79,8 @@ fn a_text_of_commands_is_answered_line_by_line(rt: HostRuntime) -> Result<(), Fa
             "-\n-\n0\n-\n",
         ),
         (
-            "cache 3\nuse 1 10\nuse 2 20\nuse 1 11\npeek 1\nremove 2\nremove 2\nlen\nremove_lru\niter\nclear\niter 1\nkeep\n",
+            "cache 3\nuse 1 10\nuse 2 20\nuse 1 11\npeek 1\nremove 2\nremove 2\nlen\nremove_lru\n\
+             iter\nclear\niter 1\nkeep\n",
             "-\n-\n10\n10\n20\n-\n1\n1:10\nempty\nok\nbad\nbad\n",
         ),
         ("cache 18446744073709551615\ninsert 1 1\nlen\n", "-\n1\n"),
@@ -93,15 +103,18 @@ fn a_text_of_commands_is_answered_line_by_line(rt: HostRuntime) -> Result<(), Fa
         ),
         // A cache with a budget: entries at the front make room, and what is too heavy changes nothing.
         (
-            "weighted 10\ninsert 1 10 4\ninsert 2 20 4\ninsert 3 30 4\niter\ntotal\ninsert 2 21 9\niter\ninsert 4 40 11\ntotal\n",
+            "weighted 10\ninsert 1 10 4\ninsert 2 20 4\ninsert 3 30 4\niter\ntotal\n\
+             insert 2 21 9\niter\ninsert 4 40 11\ntotal\n",
             "-\n-\n-\n2:20 3:30\n8\n20\n2:21\nheavy\n9\n",
         ),
         (
-            "weighted 5\ninsert 1 10 2\ninsert 2 20 2\npeek 1\nget 1\nget 9\npeek 9\ninsert 3 30 3\niter\ninsert 1 11 6\nremove 1\nremove 1\nlen\ntotal\n",
+            "weighted 5\ninsert 1 10 2\ninsert 2 20 2\npeek 1\nget 1\nget 9\npeek 9\n\
+             insert 3 30 3\niter\ninsert 1 11 6\nremove 1\nremove 1\nlen\ntotal\n",
             "-\n-\n10\n10\n-\n-\n-\n1:10 3:30\nheavy\n10\n-\n1\n3\n",
         ),
         (
-            "weighted 18446744073709551615\ninsert 1 10 18446744073709551615\ninsert 2 20 18446744073709551615\ntotal\niter\n",
+            "weighted 18446744073709551615\ninsert 1 10 18446744073709551615\n\
+             insert 2 20 18446744073709551615\ntotal\niter\n",
             "-\n-\n18446744073709551615\n2:20\n",
         ),
         (
@@ -109,7 +122,8 @@ fn a_text_of_commands_is_answered_line_by_line(rt: HostRuntime) -> Result<(), Fa
             "0\n0\nempty\n-\nheavy\n1:10\n0\n",
         ),
         (
-            "weighted 1\ninsert 1 2\ninsert 1 2 01\ninsert 1 2 3 4\ntotal 1\nclear\nget\nuse 1 1\npeek 1 1\ninsert 1 2 18446744073709551616\niter",
+            "weighted 1\ninsert 1 2\ninsert 1 2 01\ninsert 1 2 3 4\ntotal 1\nclear\nget\nuse 1 1\n\
+             peek 1 1\ninsert 1 2 18446744073709551616\niter",
             "bad\nbad\nbad\nbad\nbad\nbad\nbad\nbad\nbad\nempty\n",
         ),
         // Nothing is there.
@@ -119,7 +133,8 @@ fn a_text_of_commands_is_answered_line_by_line(rt: HostRuntime) -> Result<(), Fa
         ),
         // The greatest numbers.
         (
-            "map\ninsert 18446744073709551615 18446744073709551615\nfront\nreplace 18446744073709551615 0\nget 18446744073709551615\n",
+            "map\ninsert 18446744073709551615 18446744073709551615\nfront\n\
+             replace 18446744073709551615 0\nget 18446744073709551615\n",
             "-\n18446744073709551615:18446744073709551615\n18446744073709551615\n0\n",
         ),
         // Bad lines change nothing.
@@ -128,7 +143,8 @@ fn a_text_of_commands_is_answered_line_by_line(rt: HostRuntime) -> Result<(), Fa
             "bad\nbad\nbad\nbad\nbad\nempty\n",
         ),
         (
-            "map\ninsert 1 1\nlen 1\nfront 1\nclear \nShrink\nto_front\nreplace 1\ninsert_front 1 2 3\nremove_entry 1\niter\n",
+            "map\ninsert 1 1\nlen 1\nfront 1\nclear \nShrink\nto_front\nreplace 1\n\
+             insert_front 1 2 3\nremove_entry 1\niter\n",
             "-\nbad\nbad\nbad\nbad\nbad\nbad\nbad\nbad\n1:1\n",
         ),
         (

@@ -1,4 +1,5 @@
-//! Walks over a map, by the public names of `hashlink` alone.
+//! Walks over a map, by the public names of `hashlink` alone: each under the default hasher and under one that gives
+//! every key one hash.
 #![tactic(auto)]
 
 #[cfg(test)]
@@ -6,6 +7,6 @@ mod adapters;
 #[cfg(test)]
 mod maps;
 #[cfg(test)]
-mod walks;
+mod steps;
 #[cfg(test)]
-mod writes;
+mod walks;

@@ -1,87 +1,130 @@
 //! Walks step by step, from both ends.
-use crate::maps::four;
+use crate::maps::{Pair, four, has};
+use crate::steps::Step::{self, Ended, Left, Next, NextBack};
+use crate::steps::answers;
+use hashlink::DefaultHashBuilder;
+use rows_keys::SameHash;
+use std::alloc::Global;
+use std::hash::BuildHasher;
+use std::process::Abort;
 use std::test::Fail;
 
-#[test]
-fn steps_from_both_ends_meet(rt: HostRuntime) -> Result<(), Fail> {
-    let numbers = four(rt)?;
-    let mut walk = numbers.iter();
-    assert_eq!(rt; walk.next(), Some((&3, &30)));
-    assert_eq!(rt; walk.next_back(), Some((&4, &40)));
-    assert_eq!(rt; walk.next_back(), Some((&2, &20)));
-    assert_eq!(rt; walk.next(), Some((&1, &10)));
+/// The entries, from both ends until the steps meet.
+const ENTRIES: [Step<Pair>; 9] = [
+    Left(4),
+    Next((3, 30)),
+    NextBack((4, 40)),
+    Left(2),
+    NextBack((2, 20)),
+    Left(1),
+    Next((1, 10)),
+    Ended,
+    Left(0),
+];
+
+const KEYS: [Step<u32>; 9] = [
+    Left(4),
+    Next(3),
+    NextBack(4),
+    Left(2),
+    NextBack(2),
+    Left(1),
+    Next(1),
+    Ended,
+    Left(0),
+];
+
+const VALUES: [Step<u32>; 9] = [
+    Left(4),
+    Next(30),
+    NextBack(40),
+    Left(2),
+    NextBack(20),
+    Left(1),
+    Next(10),
+    Ended,
+    Left(0),
+];
+
+fn steps_meet<S: BuildHasher + Drop>(
+    rt: &impl Abort,
+    alloc: Global,
+    hasher: S,
+) -> Result<(), Fail> {
+    let numbers = four(alloc, hasher)?;
+    assert!(rt; answers(&mut numbers.iter(), &ENTRIES));
+    assert!(rt; answers(&mut numbers.keys(), &KEYS));
+    assert!(rt; answers(&mut numbers.values(), &VALUES));
+    assert!(rt; answers(&mut numbers.into_iter(), &ENTRIES));
     Ok(())
 }
 
 #[test]
-fn an_ended_walk_stays_ended_from_both_ends(rt: HostRuntime) -> Result<(), Fail> {
-    let numbers = four(rt)?;
-    let mut walk = numbers.iter();
-    for _ in 0..4 {
-        assert!(rt; walk.next_back().is_some());
-    }
-    for _ in 0..2 {
-        assert_eq!(rt; walk.next_back(), None);
-        assert_eq!(rt; walk.next(), None);
-        assert_eq!(rt; walk.len(), 0);
-    }
-    Ok(())
+fn steps_from_both_ends_meet_with_exact_hints(rt: HostRuntime) -> Result<(), Fail> {
+    steps_meet(&rt, rt.alloc(), DefaultHashBuilder)?;
+    steps_meet(&rt, rt.alloc(), SameHash)
 }
 
-#[test]
-fn hints_are_exact_at_each_step(rt: HostRuntime) -> Result<(), Fail> {
-    let numbers = four(rt)?;
+fn clone_walks_on<S: BuildHasher + Drop>(
+    rt: &impl Abort,
+    alloc: Global,
+    hasher: S,
+) -> Result<(), Fail> {
+    let numbers = four(alloc, hasher)?;
     let mut walk = numbers.iter();
-    for left in [4, 3, 2, 1] {
-        assert_eq!(rt; walk.len(), left);
-        assert_eq!(rt; walk.size_hint(), (left, Some(left)));
-        assert!(rt; walk.next().is_some());
-    }
-    assert_eq!(rt; walk.size_hint(), (0, Some(0)));
-    assert_eq!(rt; numbers.keys().size_hint(), (4, Some(4)));
-    assert_eq!(rt; numbers.values().size_hint(), (4, Some(4)));
-    Ok(())
-}
-
-#[test]
-fn keys_and_values_go_from_both_ends(rt: HostRuntime) -> Result<(), Fail> {
-    let numbers = four(rt)?;
-    let mut keys = numbers.keys();
-    assert_eq!(rt; keys.next(), Some(&3));
-    assert_eq!(rt; keys.next_back(), Some(&4));
-    assert_eq!(rt; keys.len(), 2);
-    let mut values = numbers.values();
-    assert_eq!(rt; values.next_back(), Some(&40));
-    assert_eq!(rt; values.next(), Some(&30));
-    assert_eq!(rt; values.len(), 2);
+    assert!(rt; answers(&mut walk, &[Next((3, 30))]));
+    let mut copy = walk.clone()?;
+    assert!(rt; answers(&mut walk, &[Next((1, 10)), Next((2, 20)), Left(1)]));
+    assert!(rt; answers(&mut copy, &[NextBack((4, 40)), Next((1, 10)), Left(1)]));
     Ok(())
 }
 
 #[test]
 fn a_clone_walks_on_by_itself(rt: HostRuntime) -> Result<(), Fail> {
-    let numbers = four(rt)?;
-    let mut walk = numbers.iter();
-    assert_eq!(rt; walk.next(), Some((&3, &30)));
-    let mut copy = walk.clone()?;
-    assert_eq!(rt; walk.next(), Some((&1, &10)));
-    assert_eq!(rt; walk.next(), Some((&2, &20)));
-    assert_eq!(rt; copy.next_back(), Some((&4, &40)));
-    assert_eq!(rt; copy.next(), Some((&1, &10)));
-    assert_eq!(rt; walk.len(), 1);
-    assert_eq!(rt; copy.len(), 1);
+    clone_walks_on(&rt, rt.alloc(), DefaultHashBuilder)?;
+    clone_walks_on(&rt, rt.alloc(), SameHash)
+}
+
+fn keys_and_values_clone<S: BuildHasher + Drop>(
+    rt: &impl Abort,
+    alloc: Global,
+    hasher: S,
+) -> Result<(), Fail> {
+    let numbers = four(alloc, hasher)?;
+    let mut keys = numbers.keys();
+    assert!(rt; answers(&mut keys, &[Next(3)]));
+    assert!(rt; answers(&mut keys.clone()?, &[Next(1)]));
+    assert!(rt; answers(&mut keys, &[Next(1)]));
+    let mut values = numbers.values();
+    assert!(rt; answers(&mut values, &[Next(30)]));
+    assert!(rt; answers(&mut values.clone()?, &[NextBack(40)]));
+    assert!(rt; answers(&mut values, &[NextBack(40)]));
     Ok(())
 }
 
 #[test]
 fn keys_and_values_have_clones(rt: HostRuntime) -> Result<(), Fail> {
-    let numbers = four(rt)?;
-    let mut keys = numbers.keys();
-    assert_eq!(rt; keys.next(), Some(&3));
-    assert_eq!(rt; keys.clone()?.next(), Some(&1));
-    assert_eq!(rt; keys.next(), Some(&1));
-    let mut values = numbers.values();
-    assert_eq!(rt; values.next(), Some(&30));
-    assert_eq!(rt; values.clone()?.next_back(), Some(&40));
-    assert_eq!(rt; values.next_back(), Some(&40));
+    keys_and_values_clone(&rt, rt.alloc(), DefaultHashBuilder)?;
+    keys_and_values_clone(&rt, rt.alloc(), SameHash)
+}
+
+fn lent_is_written<S: BuildHasher + Drop>(
+    rt: &impl Abort,
+    alloc: Global,
+    hasher: S,
+) -> Result<(), Fail> {
+    let mut numbers = four(alloc, hasher)?;
+    let steps = [Left(4), Next((3, 30)), NextBack((4, 40)), Left(2)];
+    assert!(rt; answers(&mut numbers.iter_mut(), &steps));
+    assert!(rt; has(&numbers, &[(3, 31), (1, 10), (2, 20), (4, 41)]));
+    let steps = [Next(31), Next(10), NextBack(41), Next(20), Ended, Left(0)];
+    assert!(rt; answers(&mut numbers.values_mut(), &steps));
+    assert!(rt; has(&numbers, &[(3, 32), (1, 11), (2, 21), (4, 42)]));
     Ok(())
+}
+
+#[test]
+fn what_is_lent_for_writing_is_written_from_both_ends(rt: HostRuntime) -> Result<(), Fail> {
+    lent_is_written(&rt, rt.alloc(), DefaultHashBuilder)?;
+    lent_is_written(&rt, rt.alloc(), SameHash)
 }
