@@ -1,11 +1,15 @@
-//! Leaves every walk over a map after each number of steps from either end, and says of each way to walk whether each
-//! key and each value was dropped once.
+//! Leaves every walk over a map, a set and a cache after each number of steps from either end, and says of each way to
+//! walk whether each key and each value was dropped once.
 #![tactic(auto)]
 
-mod left_early;
+mod caches;
+mod drops;
+mod maps;
+mod sets;
+mod walk;
 
-use left_early::{Walk, each_end_drops_each_once};
 use std::io;
+use walk::{Walk, each_end_drops_each_once};
 
 fn main(rt: HostRuntime) -> io::Result<()> {
     let walks = [
@@ -17,6 +21,17 @@ fn main(rt: HostRuntime) -> io::Result<()> {
         ("into_iter", Walk::IntoIter),
         ("drain", Walk::Drain),
         ("a forgotten drain", Walk::ForgottenDrain),
+        ("iter of a set", Walk::SetIter),
+        ("difference", Walk::Difference),
+        ("symmetric_difference", Walk::SymmetricDifference),
+        ("intersection", Walk::Intersection),
+        ("union", Walk::Union),
+        ("into_iter of a set", Walk::SetIntoIter),
+        ("drain of a set", Walk::SetDrain),
+        ("iter of a cache", Walk::CacheIter),
+        ("iter_mut of a cache", Walk::CacheIterMut),
+        ("into_iter of a cache", Walk::CacheIntoIter),
+        ("drain of a cache", Walk::CacheDrain),
     ];
     for (name, walk) in walks {
         let answer = match each_end_drops_each_once(rt.alloc(), walk) {
