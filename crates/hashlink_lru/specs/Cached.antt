@@ -1,6 +1,6 @@
 -- What a contract sees of a cache.
 use Rattle.std.specs.Prelude.{ℕ, Bool, List, Option, Result}
-use Rattle.hashlink_model.specs.Cache.{CacheState, CacheInserts}
+use Rattle.hashlink_model.specs.Cache.{CacheState, CacheInserts, IsWithin}
 use Rattle.hashlink_model.specs.MapState.{empty_map}
 use Rattle.hashlink_core.specs.Keyed.{Keyed, entries_of, state_of}
 use Rattle.hashlink_lru.specs.declared.cache.LruCache.{LruCache}
@@ -8,6 +8,10 @@ use Rattle.hashlink_lru.specs.declared.cache.LruCache.{LruCache}
 -- a cache as it is made: nothing in it, no memory taken, and a capacity
 abbrev pub empty_cache : {K V S : Type 0} → S → ℕ → CacheState K V S
 empty_cache s n = record { map = empty_map s; cap = n }
+
+-- where the old cache has at most so many entries more than its capacity, the new one has too
+abbrev pub StaysWithin : {K V S : Type 0} → CacheState K V S → CacheState K V S → Type 0
+StaysWithin old new = (n : ℕ) → IsWithin old n → IsWithin new n
 
 -- the cache's insert of a pair
 abbrev pub InsertsPairIn : {K V S : Type 0} → (K → K → Bool) → CacheState K V S → CacheState K V S → K × V

@@ -11,7 +11,7 @@ use Rattle.hashlink_core.specs.KeyedLends.{HashMembers}
 use Rattle.hashlink_map.specs.Lends.{map_row}
 use Rattle.hashlink_lru.specs.contracts.cache.LruCache.{the_row}
 use Rattle.hashlink_lru.specs.declared.cache.LruCache.{LruCache}
-use Rattle.hashlink_lru.specs.Cached.{state_in, with_map}
+use Rattle.hashlink_lru.specs.Cached.{state_in, with_map, StaysWithin}
 
 module _ (K V S T : RattleType) (g : HashMembers K.Denot) (b : builder.Ghosts S.Denot T.Denot)
     (w : hasher.Ghosts T.Denot) where
@@ -29,24 +29,28 @@ module _ (K V S T : RattleType) (g : HashMembers K.Denot) (b : builder.Ghosts S.
 
     module _ (k : K.Denot) where
       -- the value of the key is lent where it stands: the cache ends with what was written there, and of an absent
-      -- key as it was
+      -- key as it was. No more entries are beyond the capacity than before
       abbrev pub LendsValueIn : Option (MutBor V.Denot) → Fml
       LendsValueIn r =
           LendsSo cache_row V c r
           (λ new v. OnSome r
-          (state_in new ≡ record (state_in c.now) { map = with_value_of g.eq (state_in c.now).map k v }))
+          ((state_in new ≡ record (state_in c.now) { map = with_value_of g.eq (state_in c.now).map k v })
+          × StaysWithin (state_in c.now) (state_in new)))
           (λ new. state_in new ≡ state_in c.now)
 
       -- the key moved last, and its value is lent: the cache ends with what was written there, and of an absent key as
-      -- it was
+      -- it was. No more entries are beyond the capacity than before
       abbrev pub LendsUsed : Option (MutBor V.Denot) → Fml
       LendsUsed r =
           LendsSo cache_row V c r
-          (λ new v. OnSome r (CacheGetsAndWrites g.eq (state_in c.now) (state_in new) k v))
+          (λ new v. OnSome r
+          (CacheGetsAndWrites g.eq (state_in c.now) (state_in new) k v
+          × StaysWithin (state_in c.now) (state_in new)))
           (λ new. state_in new ≡ state_in c.now)
 
-      -- the key moved last, where it is there, with the value that stands
+      -- the key moved last, where it is there, with the value that stands, and no more entries are beyond the capacity
+      -- than before
       abbrev pub EndsUsed : Option V.Denot → Fml
       EndsUsed r =
           follows_so cache_row cache_row c.ghost_name none (λ _ _. ⊤)
-          (λ new. CacheGets g.eq (state_in c.now) (state_in new) k r)
+          (λ new. CacheGets g.eq (state_in c.now) (state_in new) k r × StaysWithin (state_in c.now) (state_in new))

@@ -1,13 +1,13 @@
 //! How pairs come in, and how the entries that were used longest ago make room.
-ghost use Rattle.std.specs.Prelude.{◌≡◌};
-ghost use Rattle.hashlink_model.specs.Cache.{CacheInserts, EvictsFront, OnMap};
+ghost use Rattle.std.specs.Prelude.{◌≡◌, OnOk};
+ghost use Rattle.hashlink_model.specs.Cache.{CacheInserts, EvictsFront, IsWithin, OnMap};
 ghost use Rattle.hashlink_model.specs.Entries.{IsEntries};
 
 use super::LruCache;
 use std::hash::{BuildHasher, Hash};
 
 impl<K: Eq + Hash, V, S: BuildHasher> LruCache<K, V, S> {
-    ghost use Rattle.hashlink_lru.specs.Cached.{entries_in, state_in};
+    ghost use Rattle.hashlink_lru.specs.Cached.{entries_in, state_in, StaysWithin};
 
     /// Puts the pair last, and answers the key's old value. A key that is there keeps its key object, takes the new
     /// value and moves to the end. Then entries are dropped from the front until there are no more than the capacity,
@@ -25,6 +25,8 @@ impl<K: Eq + Hash, V, S: BuildHasher> LruCache<K, V, S> {
         V: Drop,
         ensures inserts { CacheInserts K.eq (state_in self.old) (state_in self.new) key value result }
         ensures distinct { IsEntries K.eq (entries_in self.new) }
+        ensures fits { OnOk result (IsWithin (state_in self.new) 0) }
+        ensures within { StaysWithin (state_in self.old) (state_in self.new) }
     {
         let old = self.map.insert(key, value)?;
         self.keep_last(self.capacity);
@@ -40,6 +42,7 @@ impl<K: Eq + Hash, V, S: BuildHasher> LruCache<K, V, S> {
         ensures evicts { OnMap (λ a b. EvictsFront a b (state_in self.old).cap) (state_in self.old)
             (state_in self.new) }
         ensures distinct { IsEntries K.eq (entries_in self.new) }
+        ensures within { StaysWithin (state_in self.old) (state_in self.new) }
     {
         if self.map.len() > self.capacity {
             self.map.pop_front();

@@ -12,7 +12,7 @@ use std::alloc::AllocError;
 use std::hash::{BuildHasher, Hash};
 
 impl<K: Eq + Hash + Drop, V: Drop, S: BuildHasher> LruCache<K, V, S> {
-    ghost use Rattle.hashlink_lru.specs.Cached.{state_in, InsertsPairIn};
+    ghost use Rattle.hashlink_lru.specs.Cached.{state_in, InsertsPairIn, StaysWithin};
 
     /// Inserts each item in turn, as `insert` does. The iterator has to end.
     ///
@@ -27,6 +27,7 @@ impl<K: Eq + Hash + Drop, V: Drop, S: BuildHasher> LruCache<K, V, S> {
             (λ items. AcceptsAll (InsertsPairIn K.eq) (state_in self.old) items (state_in self.new))) }
         ensures stopped { IfErr result (λ e. ReadsSome I.into_iter_gives I.IntoIter.next_gives iter
             (λ items. StopsAt (InsertsPairIn K.eq) (state_in self.old) items (state_in self.new) e.taken e.pair [])) }
+        ensures within { StaysWithin (state_in self.old) (state_in self.new) }
     {
         let mut rest = iter.into_iter();
         self.extend_from(&mut rest)
@@ -44,6 +45,7 @@ impl<K: Eq + Hash + Drop, V: Drop, S: BuildHasher> LruCache<K, V, S> {
             × AcceptsAll (InsertsPairIn K.eq) (state_in self.old) items (state_in self.new)) }
         ensures stopped { IfErr result (λ e. (items : List (K × V)) × Yields I.next_gives iter.old items iter.new
             × StopsAt (InsertsPairIn K.eq) (state_in self.old) items (state_in self.new) e.taken e.pair []) }
+        ensures within { StaysWithin (state_in self.old) (state_in self.new) }
     {
         let mut taken = 0u64;
         while let Some((key, value)) = iter.next() {

@@ -3,7 +3,7 @@
 ghost use Rattle.std.specs.Prelude.{◌≡◌};
 ghost use Rattle.std.specs.Map.{lookup, lookup_entry};
 ghost use Rattle.std.specs.Map.Calls.{CalledAtPair, TakesPair, CallableOnEachPair};
-ghost use Rattle.hashlink_model.specs.Cache.{KeepsLast, OnMap, SetsCapacity};
+ghost use Rattle.hashlink_model.specs.Cache.{IsWithin, KeepsLast, OnMap, SetsCapacity};
 ghost use Rattle.hashlink_model.specs.Entries.{IsEntries};
 ghost use Rattle.hashlink_model.specs.Retain.{RetainsInOrder};
 ghost use Rattle.hashlink_model.specs.Steps.{RemovesKey, PopsFront, Clears};
@@ -12,7 +12,7 @@ use super::LruCache;
 use std::hash::{BuildHasher, Hash};
 
 impl<K: Eq + Hash, V, S: BuildHasher> LruCache<K, V, S> {
-    ghost use Rattle.hashlink_lru.specs.Cached.{entries_in, state_in};
+    ghost use Rattle.hashlink_lru.specs.Cached.{entries_in, state_in, StaysWithin};
 
     /// Takes the key's entry out and answers its value. It looks for the key as `peek` does, and stores at most three
     /// links.
@@ -23,6 +23,7 @@ impl<K: Eq + Hash, V, S: BuildHasher> LruCache<K, V, S> {
         ensures removes { OnMap (λ a b. RemovesKey K.eq a b key.now (lookup_entry (K.eq key.now) a.entries))
             (state_in self.old) (state_in self.new) }
         ensures distinct { IsEntries K.eq (entries_in self.new) }
+        ensures within { StaysWithin (state_in self.old) (state_in self.new) }
     {
         self.map.remove(key)
     }
@@ -32,6 +33,7 @@ impl<K: Eq + Hash, V, S: BuildHasher> LruCache<K, V, S> {
     pub fn remove_entry(&mut self, key: &K) -> Option<(K, V)>
         ensures removes { OnMap (λ a b. RemovesKey K.eq a b key.now result) (state_in self.old) (state_in self.new) }
         ensures distinct { IsEntries K.eq (entries_in self.new) }
+        ensures within { StaysWithin (state_in self.old) (state_in self.new) }
     {
         self.map.remove_entry(key)
     }
@@ -41,6 +43,7 @@ impl<K: Eq + Hash, V, S: BuildHasher> LruCache<K, V, S> {
     pub fn remove_lru(&mut self) -> Option<(K, V)>
         ensures pops { OnMap (λ a b. PopsFront a b result) (state_in self.old) (state_in self.new) }
         ensures distinct { IsEntries K.eq (entries_in self.new) }
+        ensures within { StaysWithin (state_in self.old) (state_in self.new) }
     {
         self.map.pop_front()
     }
@@ -51,7 +54,8 @@ impl<K: Eq + Hash, V, S: BuildHasher> LruCache<K, V, S> {
     where
         K: Drop,
         V: Drop,
-        ensures { OnMap Clears (state_in self.old) (state_in self.new) }
+        ensures clears { OnMap Clears (state_in self.old) (state_in self.new) }
+        ensures within { StaysWithin (state_in self.old) (state_in self.new) }
     {
         self.map.clear();
     }
@@ -64,6 +68,7 @@ impl<K: Eq + Hash, V, S: BuildHasher> LruCache<K, V, S> {
         V: Drop,
         ensures sets { SetsCapacity (state_in self.old) (state_in self.new) capacity }
         ensures distinct { IsEntries K.eq (entries_in self.new) }
+        ensures fits { IsWithin (state_in self.new) 0 }
     {
         self.keep_last(capacity);
         self.capacity = capacity;
@@ -92,6 +97,7 @@ impl<K: Eq + Hash, V, S: BuildHasher> LruCache<K, V, S> {
         ensures retained { (end : F) × OnMap (λ a b. RetainsInOrder (CalledAtPair F.FnMut) keep a b end)
             (state_in self.old) (state_in self.new) }
         ensures distinct { IsEntries K.eq (entries_in self.new) }
+        ensures within { StaysWithin (state_in self.old) (state_in self.new) }
     {
         self.map.retain(keep);
     }

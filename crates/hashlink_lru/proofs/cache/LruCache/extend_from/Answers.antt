@@ -2,6 +2,7 @@ use Rattle.std.proofs.Common.{[], ◌∷◌, ◌++◌, ◌∙◌}
 use Rattle.std.proofs.iter.Next as it
 use Rattle.hashlink_lru.specs.Cached.{state_in, InsertsPairIn}
 use Rattle.hashlink_map.proofs.InTurn.{accepts_another, stops_after, counts_another}
+use Rattle.hashlink_lru.proofs.Extending.{extended_within}
 use Rattle.hashlink_lru.proofs.cache.LruCache.extend_from.Goals as goal
 
 pub returns-in-Err-clause-stopped : goal.returns-in-Err-clause-stopped
@@ -15,6 +16,19 @@ returns-in-Err-clause-stopped g c =
           (state_in c.insert.new.self) inv.seen pair c.in-Err.pair c.loop-key.taken inv.holds.0 inv.holds.1
           c.in-Err.ensures.inserts,
     )
+
+pub returns-in-Err-clause-within : goal.returns-in-Err-clause-within
+returns-in-Err-clause-within g c = λ n within.
+    let inv = c.loop-key.invariant in
+    c.insert.ensures.within n
+    (extended_within g.K.PartialEq.eq (state_in c.args.self.now) (state_in c.loop-key.self) inv.seen n inv.holds.0
+    within)
+
+pub returns-clause-within : goal.returns-clause-within
+returns-clause-within g c = λ n within.
+    let inv = c.loop-key.invariant in
+    extended_within g.K.PartialEq.eq (state_in c.args.self.now) (state_in c.loop-key.self) inv.seen n inv.holds.0
+    within
 
 pub loop-key-preserved : goal.loop-key-preserved
 loop-key-preserved g c =

@@ -1,5 +1,5 @@
 use Rattle.std.proofs.Common.{refl, ap}
-use Rattle.hashlink_lru.proofs.Ends.{on_some}
+use Rattle.hashlink_lru.proofs.Ends.{on_some, used_and_written}
 use Rattle.hashlink_lru.proofs.cache.LruCache.get_mut.Goals as goal
 
 pub returns : goal.returns
@@ -7,7 +7,9 @@ returns g c =
     let n = c.args.self.now.capacity in (
       (
         refl,
-        λ w. on_some c.to_back.result (λ s. record { map = s; cap = refl }) (c.to_back.follows.holds w),
+        λ w. on_some c.to_back.result
+            (λ s. used_and_written g.K.PartialEq.eq _ _ c.args.key.now w (record { map = s; cap = refl }))
+            (c.to_back.follows.holds w),
         ap (λ m. record { map = m; cap = n }) c.to_back.follows.holds-at-none,
       ),
       record { lends = tt; value = c.to_back.ensures.value; distinct = c.to_back.ensures.distinct },

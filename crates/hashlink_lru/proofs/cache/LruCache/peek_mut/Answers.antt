@@ -1,5 +1,5 @@
 use Rattle.std.proofs.Common.{refl, ap}
-use Rattle.hashlink_lru.proofs.Ends.{on_some}
+use Rattle.hashlink_lru.proofs.Ends.{on_some, written}
 use Rattle.hashlink_lru.proofs.cache.LruCache.peek_mut.Goals as goal
 
 pub returns : goal.returns
@@ -7,7 +7,9 @@ returns g c =
     let n = c.args.self.now.capacity in (
       (
         refl,
-        λ w. on_some c.get_mut.result (ap (λ m. record { map = m; cap = n })) (c.get_mut.follows.holds w),
+        λ w. on_some c.get_mut.result
+            (λ s. written g.K.PartialEq.eq _ _ c.args.key.now w (ap (λ m. record { map = m; cap = n }) s))
+            (c.get_mut.follows.holds w),
         ap (λ m. record { map = m; cap = n }) c.get_mut.follows.holds-at-none,
       ),
       record { lends = tt; value = c.get_mut.ensures.value },
