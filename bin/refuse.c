@@ -5,7 +5,8 @@
      FAIL_FROM, FAIL_TO       reads and writes of standard input and output, which fail
      SHORT_FROM, SHORT_TO     reads and writes of several bytes there, which move one
 
-   For each that it met it writes a byte to the file descriptor 9. */
+   For each that it met it writes a byte to the file descriptor 9, and as the program ends one to the file descriptor 8 for
+   each block of memory that was not given back. */
 
 typedef unsigned long size_t;
 typedef long ssize_t;
@@ -20,6 +21,7 @@ void *__libc_malloc(size_t);
 void *__libc_calloc(size_t, size_t);
 void *__libc_realloc(void *, size_t);
 void *__libc_memalign(size_t, size_t);
+void __libc_free(void *);
 char *getenv(const char *);
 long syscall(long, ...);
 int *__errno_location(void);
@@ -60,26 +62,44 @@ static int is_refused(void) {
     return 1;
 }
 
+/* How many blocks the program has. */
+static unsigned long blocks;
+
+static void *given(void *block) {
+    if (block) blocks++;
+    return block;
+}
+
 IS_SEEN void *malloc(size_t size) {
-    return is_refused() ? 0 : __libc_malloc(size);
+    return is_refused() ? 0 : given(__libc_malloc(size));
 }
 
 IS_SEEN void *calloc(size_t count, size_t size) {
-    return is_refused() ? 0 : __libc_calloc(count, size);
+    return is_refused() ? 0 : given(__libc_calloc(count, size));
 }
 
 IS_SEEN void *realloc(void *block, size_t size) {
-    return is_refused() ? 0 : __libc_realloc(block, size);
+    if (is_refused()) return 0;
+    return block ? __libc_realloc(block, size) : given(__libc_malloc(size));
 }
 
 IS_SEEN void *aligned_alloc(size_t alignment, size_t size) {
-    return is_refused() ? 0 : __libc_memalign(alignment, size);
+    return is_refused() ? 0 : given(__libc_memalign(alignment, size));
 }
 
 IS_SEEN int posix_memalign(void **block, size_t alignment, size_t size) {
     if (is_refused()) return NO_MEMORY;
-    *block = __libc_memalign(alignment, size);
+    *block = given(__libc_memalign(alignment, size));
     return *block ? 0 : NO_MEMORY;
+}
+
+IS_SEEN void free(void *block) {
+    if (block) blocks--;
+    __libc_free(block);
+}
+
+__attribute__((destructor)) static void count_left(void) {
+    for (; blocks; blocks--) syscall(SYSTEM_WRITE, 8, "x", 1L);
 }
 
 /* Reads or writes, where it is not failed. */

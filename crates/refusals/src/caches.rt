@@ -11,25 +11,27 @@ use std::hash::BuildHasher;
 
 /// What a cache has to be like.
 #[derive(Drop)]
-pub struct PlainCache {
-    pub list: PlainList<u64>,
-    capacity: usize,
+pub struct PlainCache<K> {
+    pub list: PlainList<K, u64>,
+    pub capacity: usize,
 }
 
-impl PlainCache {
-    pub fn new(alloc: Global, capacity: usize) -> Result<PlainCache, AllocError> {
+impl<K: Copy + PartialEq> PlainCache<K> {
+    pub fn new(alloc: Global, capacity: usize) -> Result<Self, AllocError> {
         let list = PlainList::new(alloc)?;
         Ok(PlainCache { list, capacity })
     }
 
     /// Drops the first pairs that are too many, and of those so many at most.
-    fn drop_first(&mut self, most: usize) {
+    pub fn drop_first(&mut self, most: usize) {
         let surplus = self.list.pairs.len().saturating_sub(self.capacity);
         for _ in 0..surplus.min(most) {
             let _ = self.list.take_first();
         }
     }
+}
 
+impl PlainCache<u64> {
     /// Whether the answer to the command is right, from the cache on, which goes on to the state after it.
     pub fn is_right<H: Heard>(
         &mut self,
@@ -109,7 +111,7 @@ pub fn is_cache_right<S: BuildHasher + Drop>(
 fn is_run_right<S: BuildHasher>(
     alloc: Global,
     cache: &mut LruCache<u64, u64, S>,
-    plain: &mut PlainCache,
+    plain: &mut PlainCache<u64>,
     commands: &[CacheCommand<u64, u64>],
     tally: &mut Tally,
 ) -> Result<bool, AllocError> {
@@ -130,7 +132,7 @@ fn replies_of<S: BuildHasher>(
 }
 
 fn are_right(
-    plain: &mut PlainCache,
+    plain: &mut PlainCache<u64>,
     commands: &[CacheCommand<u64, u64>],
     replies: &[Reply<u64, u64>],
 ) -> Result<bool, AllocError> {
@@ -143,7 +145,7 @@ fn are_right(
     Ok(heard.rest.is_empty())
 }
 
-fn is_like<S: BuildHasher>(cache: &LruCache<u64, u64, S>, plain: &PlainCache) -> bool {
+fn is_like<S: BuildHasher>(cache: &LruCache<u64, u64, S>, plain: &PlainCache<u64>) -> bool {
     cache.capacity() == plain.capacity
         && cache.len() == plain.list.pairs.len()
         && cache

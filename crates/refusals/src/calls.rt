@@ -14,7 +14,7 @@ pub enum Old {
 
 /// Whether the answer to the command is right, from the list on, which goes on to the state after it.
 pub fn is_right<H: Heard>(
-    list: &mut PlainList<u64>,
+    list: &mut PlainList<u64, u64>,
     command: &Command<u64, u64>,
     heard: &mut H,
 ) -> Result<bool, AllocError> {
@@ -42,7 +42,7 @@ pub fn is_right<H: Heard>(
 
 /// The same of a command that needs no node.
 fn is_right_without_nodes<H: Heard>(
-    list: &mut PlainList<u64>,
+    list: &mut PlainList<u64, u64>,
     command: &Command<u64, u64>,
     heard: &mut H,
 ) -> bool {
@@ -73,7 +73,7 @@ fn is_right_without_nodes<H: Heard>(
 
 /// An insert at the place, which may be refused.
 pub fn puts<H: Heard>(
-    list: &mut PlainList<u64>,
+    list: &mut PlainList<u64, u64>,
     place: usize,
     pair: (u64, u64),
     old: Old,
@@ -94,7 +94,7 @@ pub fn puts<H: Heard>(
 
 /// A move to the place.
 fn moves<H: Heard>(
-    list: &mut PlainList<u64>,
+    list: &mut PlainList<u64, u64>,
     place: usize,
     key: u64,
     heard: &mut H,
@@ -107,7 +107,7 @@ fn moves<H: Heard>(
 }
 
 /// A shrink gives the spare nodes back, refused or not, and is refused only where there are pairs.
-fn shrinks<H: Heard>(list: &mut PlainList<u64>, heard: &mut H) -> bool {
+fn shrinks<H: Heard>(list: &mut PlainList<u64, u64>, heard: &mut H) -> bool {
     list.spare = 0;
     if heard.is_refusal() && !list.pairs.is_empty() {
         return heard.is_next(Reply::Denied, Shown::Value);
@@ -117,7 +117,7 @@ fn shrinks<H: Heard>(list: &mut PlainList<u64>, heard: &mut H) -> bool {
 
 /// A step at the entry of the key.
 pub fn entry_is_right<H: Heard>(
-    list: &mut PlainList<u64>,
+    list: &mut PlainList<u64, u64>,
     key: u64,
     step: EntryStep<u64>,
     heard: &mut H,
@@ -149,7 +149,7 @@ pub fn entry_is_right<H: Heard>(
 
 /// Steps of a cursor, from the first pair on.
 fn cursor_is_right<H: Heard>(
-    list: &mut PlainList<u64>,
+    list: &mut PlainList<u64, u64>,
     steps: &[CursorStep<u64, u64>],
     heard: &mut H,
 ) -> Result<bool, AllocError> {
@@ -164,7 +164,7 @@ fn cursor_is_right<H: Heard>(
 
 /// One step of a cursor. The guard is the place after the last pair.
 fn cursor_step_is_right<H: Heard>(
-    list: &mut PlainList<u64>,
+    list: &mut PlainList<u64, u64>,
     at: &mut usize,
     step: CursorStep<u64, u64>,
     heard: &mut H,
@@ -201,7 +201,7 @@ fn cursor_step_is_right<H: Heard>(
 
 /// An insert by a cursor, which stays on its pair, or on the guard. A key on which it stands stays where it is.
 fn puts_at<H: Heard>(
-    list: &mut PlainList<u64>,
+    list: &mut PlainList<u64, u64>,
     at: &mut usize,
     place: usize,
     pair: (u64, u64),

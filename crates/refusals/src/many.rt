@@ -4,15 +4,15 @@ use crate::plain::PlainList;
 use crate::rows::Tally;
 use crate::words::Line;
 use hashlink::linked_hash_map::ExtendError;
-use hashlink::{LinkedHashMap, LruCache, TryReserveError};
+use hashlink::{LinkedHashMap, LinkedHashSet, LruCache, TryReserveError};
 use std::alloc::{AllocError, Global};
 use std::hash::BuildHasher;
 
-/// How many pairs the cache may have that is given many.
-const CACHED: usize = 3;
+/// How many pairs the caches may have that are given many.
+const CACHED: [usize; 2] = [1, 3];
 
-/// Gives the pairs of the lines to a map with this hasher all at once, twice, and then has it cloned and asks it for
-/// room.
+/// Gives the pairs of the lines to a map with this hasher all at once, to one with a spare node first, and then has it
+/// cloned and asks it for room.
 pub fn are_many_right<S: BuildHasher + Clone>(
     alloc: Global,
     hasher: S,
@@ -23,6 +23,7 @@ pub fn are_many_right<S: BuildHasher + Clone>(
     let mut plain = PlainList::new(alloc)?;
     let mut map = LinkedHashMap::with_hasher(alloc, hasher);
     for _ in 0..2 {
+        leave_node(&mut map, &mut plain, tally);
         let (answer, left) = extend(&mut map, &pairs);
         if !takes(&mut plain, &pairs, answer, left, usize::MAX, tally)? || !is_like(&map, &plain) {
             return Ok(false);
@@ -31,13 +32,32 @@ pub fn are_many_right<S: BuildHasher + Clone>(
         plain.clear();
     }
     let answer = map.extend_ref(pairs.iter().map(|pair| (&pair.0, &pair.1)));
+    if !takes(&mut plain, &pairs, answer, 0, usize::MAX, tally)? {
+        return Ok(false);
+    }
+    let again = map.extend(pairs.iter().copied());
     Ok(
-        takes(&mut plain, &pairs, answer, 0, usize::MAX, tally)?
+        takes(&mut plain, &pairs, again, 0, usize::MAX, tally)?
             && is_like(&map, &plain)
             && is_clone_right(&map, &plain, tally)
             && is_room_right(&mut map, tally)
             && is_like(&map, &plain),
     )
+}
+
+/// Leaves the map with a spare node, where it gets one.
+fn leave_node<S: BuildHasher>(
+    map: &mut LinkedHashMap<u64, u64, S>,
+    plain: &mut PlainList<u64, u64>,
+    tally: &mut Tally,
+) {
+    match map.insert(0, 0) {
+        Ok(_) => {
+            let _ = map.remove(&0);
+            plain.spare = plain.spare.max(1);
+        }
+        Err(_) => tally.add(1),
+    }
 }
 
 /// Gives the pairs to the map, and returns the answer, and how many were not read.
@@ -54,18 +74,53 @@ fn extend<S: BuildHasher>(
     (answer, left)
 }
 
-/// Gives the pairs of the lines to a cache all at once, and makes a map of them.
-pub fn are_made_right(alloc: Global, lines: &str, tally: &mut Tally) -> Result<bool, AllocError> {
+/// Gives the pairs of the lines to a cache all at once, makes a map of them, and one with room for them.
+pub fn are_made_right<S: BuildHasher + Clone + Default + Drop>(
+    alloc: Global,
+    lines: &str,
+    tally: &mut Tally,
+) -> Result<bool, AllocError> {
     let pairs = pairs_of(alloc, lines)?;
+    Ok(
+        is_cache_right::<S>(alloc, CACHED[0], &pairs, tally)?
+            && is_cache_right::<S>(alloc, CACHED[1], &pairs, tally)?
+            && is_made_right::<S>(alloc, &pairs, tally)?
+            && has_room::<S>(alloc, pairs.len(), tally)
+            && has_room::<S>(alloc, 0, tally),
+    )
+}
+
+fn is_cache_right<S: BuildHasher + Clone + Default + Drop>(
+    alloc: Global,
+    capacity: usize,
+    pairs: &[(u64, u64)],
+    tally: &mut Tally,
+) -> Result<bool, AllocError> {
     let mut plain = PlainList::new(alloc)?;
-    let mut cache = LruCache::new(alloc, CACHED);
+    let mut cache = LruCache::with_hasher(alloc, capacity, S::default());
     let answer = cache.extend(pairs.iter().copied());
-    let is_right = takes(&mut plain, &pairs, answer, 0, CACHED, tally)?;
-    let cached = cache.iter().map(|(key, value)| (*key, *value));
-    if !is_right || !cached.eq(plain.pairs.iter().copied()) {
+    let is_right = takes(&mut plain, pairs, answer, 0, capacity, tally)?;
+    if !is_right || !is_cached(&cache, &plain) {
         return Ok(false);
     }
-    let made: Result<LinkedHashMap<u64, u64>, AllocError> = LinkedHashMap::from_iter(
+    let Ok(clone) = cache.clone() else {
+        tally.add(1);
+        return Ok(is_cached(&cache, &plain));
+    };
+    Ok(clone.capacity() == capacity && is_cached(&clone, &plain))
+}
+
+fn is_cached<S: BuildHasher>(cache: &LruCache<u64, u64, S>, plain: &PlainList<u64, u64>) -> bool {
+    let cached = cache.iter().map(|(key, value)| (*key, *value));
+    cached.eq(plain.pairs.iter().copied())
+}
+
+fn is_made_right<S: BuildHasher + Default + Drop>(
+    alloc: Global,
+    pairs: &[(u64, u64)],
+    tally: &mut Tally,
+) -> Result<bool, AllocError> {
+    let made: Result<LinkedHashMap<u64, u64, S>, AllocError> = LinkedHashMap::from_iter(
         alloc,
         pairs.iter().copied(),
     );
@@ -81,6 +136,29 @@ pub fn are_made_right(alloc: Global, lines: &str, tally: &mut Tally) -> Result<b
     Ok(is_like(&made, &plain))
 }
 
+/// Whether a map and a set that are asked for so much room have it, or were refused.
+fn has_room<S: BuildHasher + Default + Drop>(
+    alloc: Global,
+    room: usize,
+    tally: &mut Tally,
+) -> bool {
+    let map = LinkedHashMap::<u64, u64, S>::with_capacity_and_hasher(alloc, room, S::default());
+    let set = LinkedHashSet::<u64, S>::with_capacity_and_hasher(alloc, room, S::default());
+    is_asked(map.map(|map| (map.len(), map.capacity())), room, tally)
+        && is_asked(set.map(|set| (set.len(), set.capacity())), room, tally)
+}
+
+fn is_asked(made: Result<(usize, usize), TryReserveError>, room: usize, tally: &mut Tally) -> bool {
+    match made {
+        Ok((len, capacity)) => len == 0 && capacity >= room && (room > 0 || capacity == 0),
+        Err(TryReserveError::AllocError) => {
+            tally.add(1);
+            room > 0
+        }
+        Err(TryReserveError::CapacityOverflow) => false,
+    }
+}
+
 fn pairs_of(alloc: Global, lines: &str) -> Result<Vec<(u64, u64)>, AllocError> {
     let pairs = lines.split('\n').filter_map(pair_of);
     pairs.collect(alloc)
@@ -93,10 +171,10 @@ fn pair_of(line: &str) -> Option<(u64, u64)> {
 
 /// Whether the pairs went in, or one was refused that may be, after those before it. Of as many nodes as are spare none
 /// is refused. Where `left` pairs were not read, they are those after the refused one.
-fn takes(
-    plain: &mut PlainList<u64>,
-    pairs: &[(u64, u64)],
-    answer: Result<(), ExtendError<u64, u64>>,
+pub fn takes<V: Copy + PartialEq>(
+    plain: &mut PlainList<u64, V>,
+    pairs: &[(u64, V)],
+    answer: Result<(), ExtendError<u64, V>>,
     left: usize,
     most: usize,
     tally: &mut Tally,
@@ -123,27 +201,27 @@ fn takes(
 
 fn is_clone_right<S: BuildHasher + Clone>(
     map: &LinkedHashMap<u64, u64, S>,
-    plain: &PlainList<u64>,
+    plain: &PlainList<u64, u64>,
     tally: &mut Tally,
 ) -> bool {
     let Ok(clone) = map.clone() else {
         tally.add(1);
         return true;
     };
-    clone
-        .iter()
-        .map(|(key, value)| (*key, *value))
-        .eq(plain.pairs.iter().copied())
+    is_like(&clone, plain) && clone == *map
 }
 
+/// Asks for room that may be refused, and for room that is there or cannot be.
 fn is_room_right<S: BuildHasher>(map: &mut LinkedHashMap<u64, u64, S>, tally: &mut Tally) -> bool {
     let before = map.capacity();
-    match map.reserve(100) {
-        Ok(()) => map.capacity().saturating_sub(map.len()) >= 100,
+    let is_right = match map.reserve(100) {
+        Ok(()) => map.capacity().saturating_sub(map.len()) >= 100 && map.try_reserve(100).is_ok(),
         Err(TryReserveError::AllocError) => {
             tally.add(1);
             map.capacity() == before
         }
         Err(TryReserveError::CapacityOverflow) => false,
-    }
+    };
+    let room = map.capacity();
+    is_right && map.reserve(0).is_ok() && map.reserve(usize::MAX).is_err() && map.capacity() == room
 }

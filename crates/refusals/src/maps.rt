@@ -43,7 +43,7 @@ fn commands_of(alloc: Global, lines: &str) -> Result<Option<Vec<Command<u64, u64
 fn is_run_right<S: BuildHasher>(
     alloc: Global,
     map: &mut LinkedHashMap<u64, u64, S>,
-    plain: &mut PlainList<u64>,
+    plain: &mut PlainList<u64, u64>,
     commands: &[Command<u64, u64>],
     tally: &mut Tally,
 ) -> Result<bool, AllocError> {
@@ -64,7 +64,7 @@ fn replies_of<S: BuildHasher>(
 }
 
 fn are_right(
-    plain: &mut PlainList<u64>,
+    plain: &mut PlainList<u64, u64>,
     commands: &[Command<u64, u64>],
     replies: &[Reply<u64, u64>],
 ) -> Result<bool, AllocError> {
@@ -78,7 +78,10 @@ fn are_right(
 }
 
 /// Whether the map has the pairs of the list, and room for them and for the spare nodes.
-pub fn is_like<S: BuildHasher>(map: &LinkedHashMap<u64, u64, S>, plain: &PlainList<u64>) -> bool {
+pub fn is_like<S: BuildHasher>(
+    map: &LinkedHashMap<u64, u64, S>,
+    plain: &PlainList<u64, u64>,
+) -> bool {
     map.len() == plain.pairs.len()
         && map.capacity() >= plain.pairs.len().saturating_add(plain.spare)
         && map

@@ -1,5 +1,8 @@
 //! A row, and what is done with it.
 use crate::caches::{are_uses_right, is_cache_right, is_pair_right};
+use crate::called::{
+    is_given_hasher_right, is_numbered_cache_right, is_numbered_pair_right, is_numbered_right,
+};
 use crate::many::{are_made_right, are_many_right};
 use crate::maps::is_map_right;
 use crate::sets::{are_operators_right, is_set_right};
@@ -89,12 +92,35 @@ impl<'a> Row<'a> {
                         && is_set_right(alloc, SameHash, self.lines, tally)?,
                 )
             }
-            ("two_sets", None, None) => are_operators_right(alloc, self.lines, tally),
+            ("two_sets", None, None) => {
+                Ok(
+                    are_operators_right::<DefaultHashBuilder>(alloc, self.lines, tally)?
+                        && are_operators_right::<SameHash>(alloc, self.lines, tally)?,
+                )
+            }
+            ("numbered", None, None) => {
+                Ok(
+                    is_numbered_right(alloc, DefaultHashBuilder, self.lines, tally)?
+                        && is_numbered_right(alloc, SameHash, self.lines, tally)?,
+                )
+            }
+            ("given_hashers", None, None) => is_given_hasher_right(alloc, self.lines, tally),
+            ("numbered_cache", Some(capacity), None) => {
+                let capacity = capacity as usize;
+                Ok(
+                    is_numbered_cache_right(alloc, DefaultHashBuilder, capacity, self.lines, tally)?
+                        && is_numbered_cache_right(alloc, SameHash, capacity, self.lines, tally)?,
+                )
+            }
+            ("numbered_pair", Some(small), Some(large)) => {
+                is_numbered_pair_right(alloc, small as usize, large as usize, self.lines, tally)
+            }
             ("many", None, None) => {
                 Ok(
                     are_many_right(alloc, DefaultHashBuilder, self.lines, tally)?
                         && are_many_right(alloc, SameHash, self.lines, tally)?
-                        && are_made_right(alloc, self.lines, tally)?,
+                        && are_made_right::<DefaultHashBuilder>(alloc, self.lines, tally)?
+                        && are_made_right::<SameHash>(alloc, self.lines, tally)?,
                 )
             }
             ("text", None, None) => is_text_right(alloc, self.lines, tally),

@@ -149,7 +149,7 @@ fn weighted_answers(
 }
 
 /// Whether the line shows the pairs of the list.
-fn shows_pairs(line: &str, list: &PlainList<u64>) -> bool {
+fn shows_pairs(line: &str, list: &PlainList<u64, u64>) -> bool {
     if line == "empty" {
         return list.pairs.is_empty();
     }

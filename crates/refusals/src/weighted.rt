@@ -18,7 +18,7 @@ pub enum Answer {
 /// What a cache with a budget has to be like.
 #[derive(Drop)]
 pub struct PlainWeighted {
-    pub list: PlainList<(u64, u64)>,
+    pub list: PlainList<u64, (u64, u64)>,
     budget: u64,
 }
 
@@ -29,7 +29,7 @@ impl PlainWeighted {
     }
 
     /// The list without the weights.
-    pub fn unweighed(&self, alloc: Global) -> Result<PlainList<u64>, AllocError> {
+    pub fn unweighed(&self, alloc: Global) -> Result<PlainList<u64, u64>, AllocError> {
         let mut list = PlainList::new(alloc)?;
         for (key, (value, _)) in self.list.pairs.iter() {
             list.pairs.push((*key, *value))?;

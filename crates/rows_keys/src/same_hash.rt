@@ -2,7 +2,7 @@
 use std::hash::{BuildHasher, Hasher};
 
 /// Gives every key the hash 0.
-#[derive(Clone, Copy)]
+#[derive(Clone, Copy, Default)]
 pub struct SameHash;
 
 impl Hasher for SameHash {
