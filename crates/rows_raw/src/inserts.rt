@@ -1,7 +1,6 @@
 //! The inserts of a vacant raw entry.
 use crate::numbers::{Numbers, Pair};
 use crate::occupied::{Occupied, change};
-use hashlink::DefaultHashBuilder;
 use hashlink::linked_hash_map::RawEntryMut;
 use std::hash::BuildHasher;
 use std::test::Fail;
@@ -36,15 +35,16 @@ pub(crate) fn insert_hashed<S: BuildHasher>(
 }
 
 /// The same with the hash and a hasher of keys.
-pub(crate) fn insert_with_hasher(
-    numbers: &mut Numbers,
+pub(crate) fn insert_with_hasher<S: BuildHasher + Copy>(
+    numbers: &mut Numbers<S>,
     (key, value): Pair,
 ) -> Result<Option<Pair>, Fail> {
-    let hash = numbers.hasher().hash_one(key);
+    let builder = *numbers.hasher();
+    let hash = builder.hash_one(key);
     match numbers.raw_entry_hashed_nocheck(hash, &key) {
         RawEntryMut::Occupied(_occupied) => Ok(None),
         RawEntryMut::Vacant(entry) => {
-            let hasher = |stored: &u16| DefaultHashBuilder.hash_one(*stored);
+            let hasher = |stored: &u16| builder.hash_one(*stored);
             let (stored, lent) = entry.insert_with_hasher(hash, key, value, hasher)?;
             Ok(Some((*stored, *lent)))
         }
@@ -81,15 +81,16 @@ pub(crate) fn insert_entry_hashed<S: BuildHasher>(
 }
 
 /// The same with the hash and a hasher of keys.
-pub(crate) fn insert_entry_with_hasher(
-    numbers: &mut Numbers,
+pub(crate) fn insert_entry_with_hasher<S: BuildHasher + Copy>(
+    numbers: &mut Numbers<S>,
     (key, value): Pair,
 ) -> Result<Option<Pair>, Fail> {
-    let hash = numbers.hasher().hash_one(key);
+    let builder = *numbers.hasher();
+    let hash = builder.hash_one(key);
     match numbers.raw_entry_hashed_nocheck(hash, &key) {
         RawEntryMut::Occupied(_occupied) => Ok(None),
         RawEntryMut::Vacant(entry) => {
-            let hasher = |stored: &u16| DefaultHashBuilder.hash_one(*stored);
+            let hasher = |stored: &u16| builder.hash_one(*stored);
             let mut entry = entry.insert_entry_with_hasher(hash, key, value, hasher)?;
             Ok(Some(change(&mut entry, Occupied::Get, 0)))
         }

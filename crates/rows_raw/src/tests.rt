@@ -5,6 +5,10 @@ use crate::lookups::Way;
 use crate::numbers::{Pair, has, map_of};
 use crate::occupied::Occupied;
 use hashlink::DefaultHashBuilder;
+use rows_keys::SameHash;
+use std::alloc::Global;
+use std::hash::BuildHasher;
+use std::process::Abort;
 use std::test::Fail;
 
 const ONE_AND_TWO: [Pair; 2] = [(1, 10), (2, 20)];
@@ -36,7 +40,7 @@ fn an_entry_is_found_in_each_way_and_reads_change_nothing(rt: HostRuntime) -> Re
 }
 
 #[test]
-fn inserts_put_an_absent_key_last(rt: HostRuntime) -> Result<(), Fail> {
+fn each_insert_by_a_raw_entry_succeeds_with_memory(rt: HostRuntime) -> Result<(), Fail> {
     let rows = [
         (Call::Insert, (3, 30), Some((3, 30))),
         (Call::InsertHashed, (4, 40), Some((4, 40))),
@@ -44,14 +48,26 @@ fn inserts_put_an_absent_key_last(rt: HostRuntime) -> Result<(), Fail> {
         (Call::InsertEntryHashed, (6, 60), Some((6, 60))),
         (Call::Insert, (1, 0), None),
         (Call::InsertEntry, (6, 0), None),
+        (Call::OrInsertWith, (7, 70), Some((7, 70))),
     ];
-    let left = [(1, 10), (2, 20), (3, 30), (4, 40), (5, 50), (6, 60)];
+    let left = [
+        (1, 10),
+        (2, 20),
+        (3, 30),
+        (4, 40),
+        (5, 50),
+        (6, 60),
+        (7, 70),
+    ];
     holds(&rt, rt.alloc(), &ONE_AND_TWO, &rows, &left)
 }
 
-#[test]
-fn inserts_with_a_hasher_of_keys_put_an_absent_key_last(rt: HostRuntime) -> Result<(), Fail> {
-    let mut numbers = map_of(rt.alloc(), DefaultHashBuilder, &ONE_AND_TWO)?;
+fn inserts_with_hasher<S: BuildHasher + Copy>(
+    rt: &impl Abort,
+    alloc: Global,
+    hasher: S,
+) -> Result<(), Fail> {
+    let mut numbers = map_of(alloc, hasher, &ONE_AND_TWO)?;
     let lent = [
         insert_with_hasher(&mut numbers, (3, 30))?,
         insert_entry_with_hasher(&mut numbers, (4, 40))?,
@@ -59,6 +75,12 @@ fn inserts_with_a_hasher_of_keys_put_an_absent_key_last(rt: HostRuntime) -> Resu
     assert_eq!(rt; lent, [Some((3, 30)), Some((4, 40))]);
     assert!(rt; has(&numbers, &[(1, 10), (2, 20), (3, 30), (4, 40)]));
     Ok(())
+}
+
+#[test]
+fn each_raw_insert_with_a_hasher_of_keys_succeeds_with_memory(rt: HostRuntime) -> Result<(), Fail> {
+    inserts_with_hasher(&rt, rt.alloc(), DefaultHashBuilder)?;
+    inserts_with_hasher(&rt, rt.alloc(), SameHash)
 }
 
 #[test]
