@@ -12,6 +12,28 @@ fn the_answer_follows_what_was_written_before(rt: HostRuntime) -> Result<(), Fai
     Ok(())
 }
 
+// A file that cannot be read for want of memory.
+#[derive(Clone, Copy)]
+struct WithoutMemory;
+
+impl Read for WithoutMemory {
+    fn read(&mut self, _buf: &mut [u8]) -> io::Result<usize> {
+        Err(io::Error::from(ErrorKind::OutOfMemory))
+    }
+}
+
+#[test]
+fn reading_without_memory_writes_nothing(rt: HostRuntime) -> Result<(), Fail> {
+    let mut output = Vec::new(rt.alloc());
+    let mut input = b"map\niter\n".as_slice().chain(WithoutMemory);
+    assert_eq!(rt;
+        serve(rt.alloc(), &mut input, &mut output),
+        Err(Fault::Memory)
+    );
+    assert!(rt; output.is_empty());
+    Ok(())
+}
+
 // A file that can be neither read nor written.
 #[derive(Clone, Copy)]
 struct Broken;
