@@ -1,5 +1,6 @@
 //! Walks over a cache that end early.
 use crate::drops::Drops;
+use crate::walk::Steps;
 use hashlink::LruCache;
 use rows_keys::Counted;
 use std::alloc::{AllocError, Global};
@@ -24,66 +25,65 @@ fn refill<'a>(cache: &mut CountedCache<'a>, drops: &'a Drops) -> Result<(), Allo
     Ok(())
 }
 
-/// Lends so often from the front and from the back.
-fn lend_pairs(cache: &mut CountedCache<'_>, front: usize, back: usize) {
+/// How many times the walk lends an entry in these steps, from the front and from the back.
+fn lend_pairs(cache: &mut CountedCache<'_>, steps: Steps) -> (usize, usize) {
     let mut walk = cache.iter_mut();
-    for _ in 0..front {
-        let _ = walk.next();
+    let mut given = (0usize, 0usize);
+    for _ in 0..steps.front {
+        given.0 = given.0.saturating_add(usize::from(walk.next().is_some()));
     }
-    for _ in 0..back {
-        let _ = walk.next_back();
+    for _ in 0..steps.back {
+        given.1 = given
+            .1
+            .saturating_add(usize::from(walk.next_back().is_some()));
     }
+    given
 }
 
 /// A walk that lends leaves every entry, and the end of the cache drops each once.
 pub(crate) fn lends_and_leaves_all(
     alloc: Global,
     writes: bool,
-    front: usize,
-    back: usize,
+    steps: Steps,
 ) -> Result<bool, AllocError> {
     let drops = Drops::new();
     let mut cache = cache_of(alloc, &drops)?;
-    if writes {
-        lend_pairs(&mut cache, front, back);
+    let given = if writes {
+        lend_pairs(&mut cache, steps)
     } else {
         let mut pairs = cache.iter();
-        let _ = pairs.by_ref().take(front).count();
-        let _ = pairs.rev().take(back).count();
-    }
-    let is_left = cache.len() == 4 && drops.are_each(0);
+        let first = pairs.by_ref().take(steps.front).count();
+        (first, pairs.rev().take(steps.back).count())
+    };
+    let is_left = given == steps.giving() && cache.len() == 4 && drops.are_each(0);
     drop(cache);
     Ok(is_left && drops.are_each(1))
 }
 
 /// A walk that owns the cache drops at its end what it has not given.
-pub(crate) fn owns_and_drops_the_rest(
-    alloc: Global,
-    front: usize,
-    back: usize,
-) -> Result<bool, AllocError> {
+pub(crate) fn owns_and_drops_the_rest(alloc: Global, steps: Steps) -> Result<bool, AllocError> {
     let drops = Drops::new();
     let mut walk = cache_of(alloc, &drops)?.into_iter();
-    let first = walk.by_ref().take(front).count();
-    let last = walk.by_ref().rev().take(back).count();
-    let given = drops.are_once(first.wrapping_add(last));
+    let first = walk.by_ref().take(steps.front).count();
+    let last = walk.by_ref().rev().take(steps.back).count();
+    let is_given = (first, last) == steps.giving() && drops.are_once(steps.all_giving());
     drop(walk);
-    Ok(given && first == front && last == back && drops.are_each(1))
+    Ok(is_given && drops.are_each(1))
 }
 
 /// A drain drops at its end what it has not given, and leaves a cache that takes new entries.
-pub(crate) fn drains(alloc: Global, front: usize, back: usize) -> Result<bool, AllocError> {
+pub(crate) fn drains(alloc: Global, steps: Steps) -> Result<bool, AllocError> {
     let drops = Drops::new();
     let late = Drops::new();
     let mut cache = cache_of(alloc, &drops)?;
     let mut drain = cache.drain();
-    let first = drain.by_ref().take(front).count();
-    let last = drain.by_ref().rev().take(back).count();
-    let given = drops.are_once(first.wrapping_add(last)) && first == front && last == back;
+    let first = drain.by_ref().take(steps.front).count();
+    let last = drain.by_ref().rev().take(steps.back).count();
+    let is_given = (first, last) == steps.giving() && drops.are_once(steps.all_giving());
     drop(drain);
     let is_dropped = cache.is_empty() && drops.are_each(1);
     refill(&mut cache, &late)?;
     let is_filled = cache.len() == 4 && late.are_each(0);
     drop(cache);
-    Ok(given && is_dropped && is_filled && drops.are_each(1) && late.are_each(1))
+    Ok(is_given && is_dropped && is_filled && drops.are_each(1) && late.are_each(1))
 }

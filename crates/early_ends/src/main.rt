@@ -1,5 +1,6 @@
-//! Leaves every walk over a map, a set and a cache after each number of steps from either end, and says of each way to
-//! walk whether each key and each value was dropped once.
+//! Leaves every walk over a map, a set and the caches after each number of steps from either end, up to one more than
+//! it has items, and says of each way to walk whether each step gave what it had to, and each key and each value was
+//! dropped once.
 #![tactic(auto)]
 
 mod caches;
@@ -7,6 +8,7 @@ mod drops;
 mod maps;
 mod sets;
 mod walk;
+mod weighted;
 
 use std::io;
 use walk::{Walk, each_end_drops_each_once};
@@ -32,11 +34,12 @@ fn main(rt: HostRuntime) -> io::Result<()> {
         ("iter_mut of a cache", Walk::CacheIterMut),
         ("into_iter of a cache", Walk::CacheIntoIter),
         ("drain of a cache", Walk::CacheDrain),
+        ("iter of a cache with a budget", Walk::WeightedIter),
     ];
     for (name, walk) in walks {
         let answer = match each_end_drops_each_once(rt.alloc(), walk) {
             Ok(true) => "each key and each value was dropped once",
-            Ok(false) => "a key or a value was not dropped once",
+            Ok(false) => "a step gave otherwise, or a key or a value was not dropped once",
             Err(_) => "no memory",
         };
         println!(rt; "{name}: {answer}")?;

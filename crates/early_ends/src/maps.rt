@@ -1,6 +1,6 @@
 //! Walks over a map that end early.
 use crate::drops::Drops;
-use crate::walk::Walk;
+use crate::walk::{Steps, Walk};
 use hashlink::LinkedHashMap;
 use rows_keys::Counted;
 use std::alloc::{AllocError, Global};
@@ -26,100 +26,98 @@ fn refill<'a>(map: &mut CountedMap<'a>, drops: &'a Drops) -> Result<(), AllocErr
     Ok(())
 }
 
-/// Lends so often from the front and from the back.
-fn lend_pairs(map: &mut CountedMap<'_>, front: usize, back: usize) {
+/// How many times the walk lends an entry in these steps, from the front and from the back.
+fn lend_pairs(map: &mut CountedMap<'_>, steps: Steps) -> (usize, usize) {
     let mut walk = map.iter_mut();
-    for _ in 0..front {
-        let _ = walk.next();
+    let mut given = (0usize, 0usize);
+    for _ in 0..steps.front {
+        given.0 = given.0.saturating_add(usize::from(walk.next().is_some()));
     }
-    for _ in 0..back {
-        let _ = walk.next_back();
+    for _ in 0..steps.back {
+        given.1 = given
+            .1
+            .saturating_add(usize::from(walk.next_back().is_some()));
     }
+    given
 }
 
 /// The same of the values alone.
-fn lend_values(map: &mut CountedMap<'_>, front: usize, back: usize) {
+fn lend_values(map: &mut CountedMap<'_>, steps: Steps) -> (usize, usize) {
     let mut walk = map.values_mut();
-    for _ in 0..front {
-        let _ = walk.next();
+    let mut given = (0usize, 0usize);
+    for _ in 0..steps.front {
+        given.0 = given.0.saturating_add(usize::from(walk.next().is_some()));
     }
-    for _ in 0..back {
-        let _ = walk.next_back();
+    for _ in 0..steps.back {
+        given.1 = given
+            .1
+            .saturating_add(usize::from(walk.next_back().is_some()));
     }
+    given
 }
 
 /// A walk that lends leaves every entry, and the end of the map drops each once.
 pub(crate) fn lends_and_leaves_all(
     alloc: Global,
     walk: Walk,
-    front: usize,
-    back: usize,
+    steps: Steps,
 ) -> Result<bool, AllocError> {
     let drops = Drops::new();
     let mut map = map_of(alloc, &drops)?;
-    match walk {
+    let given = match walk {
         Walk::Keys => {
             let mut keys = map.keys();
-            let _ = keys.by_ref().take(front).count();
-            let _ = keys.rev().take(back).count();
+            let first = keys.by_ref().take(steps.front).count();
+            (first, keys.rev().take(steps.back).count())
         }
         Walk::Values => {
             let mut values = map.values();
-            let _ = values.by_ref().take(front).count();
-            let _ = values.rev().take(back).count();
+            let first = values.by_ref().take(steps.front).count();
+            (first, values.rev().take(steps.back).count())
         }
-        Walk::IterMut => lend_pairs(&mut map, front, back),
-        Walk::ValuesMut => lend_values(&mut map, front, back),
+        Walk::IterMut => lend_pairs(&mut map, steps),
+        Walk::ValuesMut => lend_values(&mut map, steps),
         _ => {
             let mut pairs = map.iter();
-            let _ = pairs.by_ref().take(front).count();
-            let _ = pairs.rev().take(back).count();
+            let first = pairs.by_ref().take(steps.front).count();
+            (first, pairs.rev().take(steps.back).count())
         }
-    }
-    let left = map.len() == 4 && drops.are_each(0);
+    };
+    let is_left = given == steps.giving() && map.len() == 4 && drops.are_each(0);
     drop(map);
-    Ok(left && drops.are_each(1))
+    Ok(is_left && drops.are_each(1))
 }
 
 /// A walk that owns the map drops at its end what it has not given.
-pub(crate) fn owns_and_drops_the_rest(
-    alloc: Global,
-    front: usize,
-    back: usize,
-) -> Result<bool, AllocError> {
+pub(crate) fn owns_and_drops_the_rest(alloc: Global, steps: Steps) -> Result<bool, AllocError> {
     let drops = Drops::new();
     let mut walk = map_of(alloc, &drops)?.into_iter();
-    let first = walk.by_ref().take(front).count();
-    let last = walk.by_ref().rev().take(back).count();
-    let given = drops.are_once(first.wrapping_add(last));
+    let first = walk.by_ref().take(steps.front).count();
+    let last = walk.by_ref().rev().take(steps.back).count();
+    let is_given = (first, last) == steps.giving() && drops.are_once(steps.all_giving());
     drop(walk);
-    Ok(given && first == front && last == back && drops.are_each(1))
+    Ok(is_given && drops.are_each(1))
 }
 
 /// A drain drops at its end what it has not given, and leaves a map that takes new entries. One that is forgotten
 /// leaves such a map too, once that is cleared.
-pub(crate) fn drains(
-    alloc: Global,
-    forgets: bool,
-    front: usize,
-    back: usize,
-) -> Result<bool, AllocError> {
+pub(crate) fn drains(alloc: Global, forgets: bool, steps: Steps) -> Result<bool, AllocError> {
     let drops = Drops::new();
     let late = Drops::new();
     let mut map = map_of(alloc, &drops)?;
     let mut drain = map.drain();
-    let first = drain.by_ref().take(front).count();
-    let last = drain.by_ref().rev().take(back).count();
-    let given = drops.are_once(first.wrapping_add(last)) && first == front && last == back;
+    let first = drain.by_ref().take(steps.front).count();
+    let last = drain.by_ref().rev().take(steps.back).count();
+    let is_given = (first, last) == steps.giving() && drops.are_once(steps.all_giving());
     if forgets {
         mem::forget(drain);
         map.clear();
     } else {
         drop(drain);
     }
-    let dropped = map.is_empty() && drops.are_each(1);
+    let is_dropped = map.is_empty() && drops.are_each(1);
     refill(&mut map, &late)?;
-    let filled = map.len() == 4 && late.are_each(0);
+    let is_filled = map.len() == 4 && late.are_each(0);
     drop(map);
-    Ok(given && dropped && filled && drops.are_each(1) && late.are_each(1))
+    Ok(is_given && is_dropped && is_filled && drops.are_each(1) && late.are_each(1))
 }

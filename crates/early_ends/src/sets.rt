@@ -1,6 +1,6 @@
 //! Walks over sets that end early.
 use crate::drops::Drops;
-use crate::walk::Walk;
+use crate::walk::{Steps, Walk};
 use hashlink::LinkedHashSet;
 use rows_keys::Counted;
 use std::alloc::{AllocError, Global};
@@ -28,56 +28,57 @@ fn set_from(
 pub(crate) fn lends_and_leaves_all(
     alloc: Global,
     walk: Walk,
-    front: usize,
-    back: usize,
+    steps: Steps,
 ) -> Result<bool, AllocError> {
     let drops = Drops::new();
     let left = set_from(alloc, 0, &drops.keys)?;
     let right = set_from(alloc, 2, &drops.values)?;
-    let steps = front.saturating_add(back);
     let given = match walk {
-        Walk::Difference => left.difference(&right).take(steps).count(),
-        Walk::SymmetricDifference => left.symmetric_difference(&right).take(steps).count(),
-        Walk::Intersection => left.intersection(&right).take(steps).count(),
-        Walk::Union => left.union(&right).take(steps).count(),
+        Walk::Difference => (left.difference(&right).take(steps.front).count(), 0),
+        Walk::SymmetricDifference => {
+            (
+                left.symmetric_difference(&right).take(steps.front).count(),
+                0,
+            )
+        }
+        Walk::Intersection => (left.intersection(&right).take(steps.front).count(), 0),
+        Walk::Union => (left.union(&right).take(steps.front).count(), 0),
         _ => {
             let mut elements = left.iter();
-            let first = elements.by_ref().take(front).count();
-            first.saturating_add(elements.rev().take(back).count())
+            let first = elements.by_ref().take(steps.front).count();
+            (first, elements.rev().take(steps.back).count())
         }
     };
-    let is_left = given <= steps && drops.are_each(0);
+    let is_left = given == steps.giving() && drops.are_each(0);
     drop(left);
     drop(right);
     Ok(is_left && drops.are_each(1))
 }
 
 /// A walk that owns its set drops at its end what it has not given.
-pub(crate) fn owns_and_drops_the_rest(
-    alloc: Global,
-    front: usize,
-    back: usize,
-) -> Result<bool, AllocError> {
+pub(crate) fn owns_and_drops_the_rest(alloc: Global, steps: Steps) -> Result<bool, AllocError> {
     let drops = Drops::new();
     let kept = set_from(alloc, 0, &drops.values)?;
     let mut walk = set_from(alloc, 0, &drops.keys)?.into_iter();
-    let first = walk.by_ref().take(front).count();
-    let last = walk.by_ref().rev().take(back).count();
-    let given = Drops::once(&drops.keys) == first.wrapping_add(last);
+    let first = walk.by_ref().take(steps.front).count();
+    let last = walk.by_ref().rev().take(steps.back).count();
+    let is_given = (first, last) == steps.giving()
+        && Drops::once(&drops.keys) == steps.all_giving();
     drop(walk);
-    let is_dropped = given && first == front && last == back && Drops::once(&drops.keys) == 4;
+    let is_dropped = Drops::once(&drops.keys) == 4 && Drops::once(&drops.values) == 0;
     drop(kept);
-    Ok(is_dropped && drops.are_each(1))
+    Ok(is_given && is_dropped && drops.are_each(1))
 }
 
 /// A drain drops at its end what it has not given, and leaves a set that takes new elements.
-pub(crate) fn drains(alloc: Global, front: usize, back: usize) -> Result<bool, AllocError> {
+pub(crate) fn drains(alloc: Global, steps: Steps) -> Result<bool, AllocError> {
     let drops = Drops::new();
     let mut set = set_from(alloc, 0, &drops.keys)?;
     let mut drain = set.drain();
-    let first = drain.by_ref().take(front).count();
-    let last = drain.by_ref().rev().take(back).count();
-    let given = Drops::once(&drops.keys) == first.wrapping_add(last);
+    let first = drain.by_ref().take(steps.front).count();
+    let last = drain.by_ref().rev().take(steps.back).count();
+    let is_given = (first, last) == steps.giving()
+        && Drops::once(&drops.keys) == steps.all_giving();
     drop(drain);
     let is_dropped = set.is_empty() && Drops::once(&drops.keys) == 4;
     for (number, count) in (0u32..4).zip(drops.values.iter()) {
@@ -88,5 +89,5 @@ pub(crate) fn drains(alloc: Global, front: usize, back: usize) -> Result<bool, A
     }
     let is_filled = set.len() == 4 && Drops::once(&drops.values) == 0;
     drop(set);
-    Ok(given && first == front && last == back && is_dropped && is_filled && drops.are_each(1))
+    Ok(is_given && is_dropped && is_filled && drops.are_each(1))
 }
