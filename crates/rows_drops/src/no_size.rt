@@ -42,6 +42,21 @@ fn elements_without_size_are_one(rt: HostRuntime) -> Result<(), Fail> {
 }
 
 #[test]
+fn a_cache_of_keys_without_size_keeps_one_entry_at_most(rt: HostRuntime) -> Result<(), Fail> {
+    for (capacity, kept) in [(0, None), (1, Some(20)), (usize::MAX, Some(20))] {
+        let mut cache = LruCache::new(rt.alloc(), capacity);
+        let old = cache.insert((), 10u32)?;
+        assert_eq!(rt; old, None);
+        let old = cache.insert((), 20)?;
+        assert_eq!(rt; old.is_some(), kept.is_some());
+        assert_eq!(rt; cache.get(&()).copied(), kept);
+        assert_eq!(rt; cache.remove_lru().is_some(), kept.is_some());
+        assert!(rt; cache.is_empty());
+    }
+    Ok(())
+}
+
+#[test]
 fn a_cache_of_values_without_size_keeps_the_last_keys(rt: HostRuntime) -> Result<(), Fail> {
     for (capacity, left) in [(0, 0), (2, 2), (usize::MAX, 3)] {
         let mut cache = LruCache::new(rt.alloc(), capacity);
