@@ -19,19 +19,27 @@ fn no_capacity_takes_no_memory(rt: HostRuntime) -> Result<(), Fail> {
     Ok(())
 }
 
+fn map_and_set_are_made_with_room<S: BuildHasher + Copy>(
+    rt: &impl Abort,
+    alloc: Global,
+    hasher: S,
+) -> Result<(), Fail> {
+    let map = LinkedHashMap::<u16, u32, S>::with_capacity_and_hasher(alloc, 10, hasher)?;
+    assert!(rt; map.is_empty());
+    assert!(rt; map.capacity() >= 10);
+    let set = LinkedHashSet::<u16, S>::with_capacity_and_hasher(alloc, 10, hasher)?;
+    assert!(rt; set.is_empty());
+    assert!(rt; set.capacity() >= 10);
+    Ok(())
+}
+
 #[test]
-fn a_map_can_be_made_with_room(rt: HostRuntime) -> Result<(), Fail> {
+fn with_capacity_of_a_map_succeeds_with_memory(rt: HostRuntime) -> Result<(), Fail> {
     let map = LinkedHashMap::<u32, u32>::with_capacity(rt.alloc(), 10)?;
     assert!(rt; map.is_empty());
     assert!(rt; map.capacity() >= 10);
-    let map = LinkedHashMap::<u16, u32, NumberItself>::with_capacity_and_hasher(
-        rt.alloc(),
-        10,
-        NumberItself::new(),
-    )?;
-    assert!(rt; map.is_empty());
-    assert!(rt; map.capacity() >= 10);
-    Ok(())
+    map_and_set_are_made_with_room(&rt, rt.alloc(), NumberItself::new())?;
+    map_and_set_are_made_with_room(&rt, rt.alloc(), SameHash)
 }
 
 fn refuses_too_much<S: BuildHasher + Drop>(
@@ -70,19 +78,36 @@ fn more_room_than_any_map_can_have_is_an_overflow(rt: HostRuntime) -> Result<(),
     refuses_too_much(&rt, rt.alloc(), SameHash)
 }
 
-#[test]
-fn more_room_than_any_set_can_have_is_an_overflow(rt: HostRuntime) -> Result<(), Fail> {
-    let none = LinkedHashSet::<u32>::with_capacity(rt.alloc(), usize::MAX).err();
-    assert_eq!(rt; none, Some(TryReserveError::CapacityOverflow));
-    let mut set = LinkedHashSet::<u32>::with_capacity(rt.alloc(), 0)?;
+fn set_refuses_too_much<S: BuildHasher + Copy>(
+    rt: &impl Abort,
+    alloc: Global,
+    hasher: S,
+) -> Result<(), Fail> {
+    let none = LinkedHashSet::<u32, S>::with_capacity_and_hasher(alloc, usize::MAX, hasher);
+    assert_eq!(rt; none.err(), Some(TryReserveError::CapacityOverflow));
+    let mut set = LinkedHashSet::<u32, S>::with_capacity_and_hasher(alloc, 0, hasher)?;
     assert_eq!(rt; set.capacity(), 0);
     assert_eq!(rt; set.insert(1), Ok(true));
+    let capacity = set.capacity();
     assert_eq!(rt;
         set.reserve(usize::MAX),
         Err(TryReserveError::CapacityOverflow)
     );
+    assert_eq!(rt;
+        set.try_reserve(usize::MAX),
+        Err(TryReserveError::CapacityOverflow)
+    );
+    assert_eq!(rt; set.capacity(), capacity);
     assert_eq!(rt; set.len(), 1);
     Ok(())
+}
+
+#[test]
+fn more_room_than_any_set_can_have_is_an_overflow(rt: HostRuntime) -> Result<(), Fail> {
+    let none = LinkedHashSet::<u32>::with_capacity(rt.alloc(), usize::MAX).err();
+    assert_eq!(rt; none, Some(TryReserveError::CapacityOverflow));
+    set_refuses_too_much(&rt, rt.alloc(), DefaultHashBuilder)?;
+    set_refuses_too_much(&rt, rt.alloc(), SameHash)
 }
 
 fn keeps_what_is_reserved<S: BuildHasher + Drop>(
@@ -109,7 +134,7 @@ fn keeps_what_is_reserved<S: BuildHasher + Drop>(
 }
 
 #[test]
-fn room_that_is_reserved_stays_and_is_enough(rt: HostRuntime) -> Result<(), Fail> {
+fn reserve_of_a_map_succeeds_with_memory(rt: HostRuntime) -> Result<(), Fail> {
     keeps_what_is_reserved(&rt, rt.alloc(), DefaultHashBuilder)?;
     keeps_what_is_reserved(&rt, rt.alloc(), SameHash)
 }
@@ -146,7 +171,7 @@ fn gives_back_what_no_entry_needs<S: BuildHasher + Drop>(
 }
 
 #[test]
-fn a_shrink_gives_back_what_no_entry_needs(rt: HostRuntime) -> Result<(), Fail> {
+fn shrink_to_fit_of_a_map_with_entries_succeeds_with_memory(rt: HostRuntime) -> Result<(), Fail> {
     gives_back_what_no_entry_needs(&rt, rt.alloc(), DefaultHashBuilder)?;
     gives_back_what_no_entry_needs(&rt, rt.alloc(), SameHash)
 }
