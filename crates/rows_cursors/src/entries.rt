@@ -36,6 +36,24 @@ fn guard<S: BuildHasher>(numbers: &mut Numbers<S>) -> Option<Around> {
     }
 }
 
+/// Whether a cursor on an empty map is on the guard, and lends no entry, before and after each move.
+fn stays_on_guard<S: BuildHasher>(numbers: &mut Numbers<S>) -> bool {
+    let Err(mut cursor) = numbers.cursor_front_mut().current_entry() else {
+        return false;
+    };
+    let before = around(&cursor);
+    cursor.move_next();
+    let Err(mut cursor) = cursor.current_entry() else {
+        return false;
+    };
+    let after_next = around(&cursor);
+    cursor.move_prev();
+    let Err(cursor) = cursor.current_entry() else {
+        return false;
+    };
+    [before, after_next, around(&cursor)] == [[None; 3]; 3]
+}
+
 /// What the cursor at the key's entry sees once the pair is put after it.
 fn insert_after<S: BuildHasher>(
     numbers: &mut Numbers<S>,
@@ -93,7 +111,7 @@ fn the_entry_before_the_last_is_taken_out(rt: HostRuntime) -> Result<(), Fail> {
     takes_out_before_last(&rt, rt.alloc(), SameHash)
 }
 
-fn guard_lends_no_entry<S: BuildHasher + Drop>(
+fn guard_lends_no_entry<S: BuildHasher + Copy>(
     rt: &impl Abort,
     alloc: Global,
     hasher: S,
@@ -101,6 +119,7 @@ fn guard_lends_no_entry<S: BuildHasher + Drop>(
     let mut numbers = numbers_of(alloc, hasher, &FIVE_SIX_SEVEN)?;
     let seen = guard(&mut numbers);
     assert_eq!(rt; seen, Some([Some((3, 7)), None, Some((1, 5))]));
+    assert!(rt; stays_on_guard(&mut numbers_of(alloc, hasher, &[])?));
     Ok(())
 }
 

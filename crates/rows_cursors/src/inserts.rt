@@ -13,6 +13,15 @@ const THREE: Option<Pair> = Some((3, 3));
 const ONE_TO_THREE: [Pair; 3] = [(1, 1), (2, 2), (3, 3)];
 
 #[test]
+fn each_insert_by_a_cursor_succeeds_with_memory(rt: HostRuntime) -> Result<(), Fail> {
+    let rows = [
+        (Before(1, 1), None, [ONE, TWO, None]),
+        (After(3, 3), None, [ONE, TWO, THREE]),
+    ];
+    holds(&rt, rt.alloc(), &[(2, 2)], &rows, &ONE_TO_THREE)
+}
+
+#[test]
 fn a_pair_goes_right_before_the_cursor_and_last_at_the_guard(rt: HostRuntime) -> Result<(), Fail> {
     let (four, five, six) = (Some((4, 4)), Some((5, 5)), Some((6, 6)));
     let rows = [

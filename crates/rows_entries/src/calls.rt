@@ -16,6 +16,10 @@ pub(crate) enum Call {
     OrInsert,
     OrInsertWith,
     AndModify,
+    /// Reads the value by the map, and answers the number of the key that it is given.
+    Get,
+    /// Reads the last entry by the map, whatever it is given.
+    Back,
     /// Acts on the entry where the key is there, and answers nothing where it is not.
     At(Occupied),
     /// Acts on the entry where the key is absent, and answers nothing where it is there.
@@ -39,6 +43,8 @@ pub(crate) fn answer<S: BuildHasher>(
         Call::OrInsert => or_insert(numbers, key, value),
         Call::OrInsertWith => or_insert_with(numbers, key, value),
         Call::AndModify => Ok(and_modify(numbers, key, value)),
+        Call::Get => Ok(numbers.get(&key).map(|value| (number, *value))),
+        Call::Back => Ok(numbers.back().map(|(key, value)| (key.number, *value))),
         Call::At(call) => Ok(at(numbers, key, call, value)),
         Call::In(call) => put(numbers, key, call, value),
     }
@@ -88,18 +94,30 @@ pub(crate) fn holds(
     rows: &[Row],
     left: &[Shown],
 ) -> Result<(), Fail> {
-    holds_by(rt, alloc, DefaultHashBuilder, rows, left)?;
-    holds_by(rt, alloc, SameHash, rows, left)
+    holds_from(rt, alloc, &[(1, 1, 10), (2, 1, 20)], rows, left)
+}
+
+/// The same from these entries on.
+pub(crate) fn holds_from(
+    rt: &impl Abort,
+    alloc: Global,
+    start: &[Shown],
+    rows: &[Row],
+    left: &[Shown],
+) -> Result<(), Fail> {
+    holds_by(rt, alloc, DefaultHashBuilder, start, rows, left)?;
+    holds_by(rt, alloc, SameHash, start, rows, left)
 }
 
 fn holds_by<S: BuildHasher + Drop>(
     rt: &impl Abort,
     alloc: Global,
     hasher: S,
+    start: &[Shown],
     rows: &[Row],
     left: &[Shown],
 ) -> Result<(), Fail> {
-    let mut numbers = map_of(alloc, hasher, &[(1, 1, 10), (2, 1, 20)])?;
+    let mut numbers = map_of(alloc, hasher, start)?;
     for (call, given, wanted) in rows {
         assert_eq!(rt; answer(&mut numbers, *call, *given)?, *wanted);
     }

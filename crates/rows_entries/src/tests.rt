@@ -1,6 +1,6 @@
 //! Entries by rows of calls.
-use crate::calls::Call::{AndModify, At, In, OrInsert, OrInsertWith};
-use crate::calls::holds;
+use crate::calls::Call::{AndModify, At, Back, Get, In, OrInsert, OrInsertWith};
+use crate::calls::{holds, holds_from};
 use crate::occupied::Occupied;
 use crate::vacant::Vacant;
 use std::test::Fail;
@@ -68,7 +68,20 @@ fn removals_answer_what_was_stored(rt: HostRuntime) -> Result<(), Fail> {
 }
 
 #[test]
-fn a_vacant_entry_inserts_last_or_gives_its_key_back(rt: HostRuntime) -> Result<(), Fail> {
+fn an_entry_that_is_taken_out_at_once_is_gone(rt: HostRuntime) -> Result<(), Fail> {
+    let rows = [
+        (In(Vacant::InsertAndTake), (4, 4, 55), Some((4, 55))),
+        (Get, (4, 4, 0), None),
+        (In(Vacant::InsertEntry), (4, 4, 56), Some((4, 56))),
+        (Back, (0, 0, 0), Some((4, 56))),
+    ];
+    let start = [(1, 1, 1), (2, 2, 2), (3, 3, 3)];
+    let left = [(1, 1, 1), (2, 2, 2), (3, 3, 3), (4, 4, 56)];
+    holds_from(&rt, rt.alloc(), &start, &rows, &left)
+}
+
+#[test]
+fn each_insert_by_an_entry_succeeds_with_memory(rt: HostRuntime) -> Result<(), Fail> {
     let rows = [
         (In(Vacant::IntoKey), (3, 7, 0), Some((7, 0))),
         (In(Vacant::IntoKey), (2, 7, 0), None),
@@ -77,7 +90,17 @@ fn a_vacant_entry_inserts_last_or_gives_its_key_back(rt: HostRuntime) -> Result<
         (In(Vacant::InsertEntry), (5, 5, 50), Some((5, 50))),
         (In(Vacant::InsertEntry), (5, 6, 51), None),
         (In(Vacant::RawInsert), (6, 6, 60), Some((6, 60))),
+        (OrInsert, (7, 7, 70), Some((7, 70))),
+        (OrInsertWith, (8, 8, 80), Some((8, 80))),
     ];
-    let left = [(1, 1, 10), (2, 1, 20), (3, 3, 30), (5, 5, 50), (6, 6, 60)];
+    let left = [
+        (1, 1, 10),
+        (2, 1, 20),
+        (3, 3, 30),
+        (5, 5, 50),
+        (6, 6, 60),
+        (7, 7, 71),
+        (8, 8, 80),
+    ];
     holds(&rt, rt.alloc(), &rows, &left)
 }
