@@ -87,7 +87,7 @@ fn an_insert_and_a_missed_use_come_within_the_capacity(rt: HostRuntime) -> Resul
 }
 
 #[test]
-fn uses_removals_and_a_clear(rt: HostRuntime) -> Result<(), Fail> {
+fn run_cache_of_uses_and_removals_succeeds_with_memory(rt: HostRuntime) -> Result<(), Fail> {
     let steps = [
         (Use(1, 10), Seen(None)),
         (Use(2, 21), Seen(None)),

@@ -30,7 +30,7 @@ fn the_smaller_cache_has_an_end_of_the_larger_ones_keys(rt: HostRuntime) -> Resu
 }
 
 #[test]
-fn a_removal_from_both(rt: HostRuntime) -> Result<(), Fail> {
+fn run_pair_with_a_removal_from_both_succeeds_with_memory(rt: HostRuntime) -> Result<(), Fail> {
     let rows = [
         (Insert(1, 10), None, None),
         (Insert(2, 20), None, None),

@@ -3,7 +3,7 @@ use hashlink::run::run_uses;
 use std::test::Fail;
 
 #[test]
-fn the_last_keys_used_are_held(rt: HostRuntime) -> Result<(), Fail> {
+fn run_uses_that_hold_the_last_keys_succeeds_with_memory(rt: HostRuntime) -> Result<(), Fail> {
     let uses = run_uses(rt.alloc(), 2, &[(1u16, 10u32), (2, 20), (1, 30), (3, 40)])?;
     assert_eq!(rt;
         uses.replies.as_slice(),

@@ -21,6 +21,18 @@ fn the_greatest_capacity_is_that_of_an_unbounded_cache(rt: HostRuntime) {
 }
 
 #[test]
+fn each_insert_of_a_cache_succeeds_with_memory(rt: HostRuntime) -> Result<(), Fail> {
+    let calls = [
+        Insert(1, 10, None),
+        Entry(2, 20, 20),
+        RawEntry(3, 30, 30),
+        InsertTwoAfter(3, (5, 50), (4, 40)),
+    ];
+    let left = [(1, 10), (2, 20), (3, 30), (4, 40), (5, 50)];
+    holds(&rt, rt.alloc(), 5, 0, &calls, &left)
+}
+
+#[test]
 fn a_cache_without_places_keeps_what_comes_by_an_entry(rt: HostRuntime) -> Result<(), Fail> {
     let calls = [
         Entry(1, 10, 10),

@@ -1,9 +1,9 @@
 //! Caches of plain numbers.
-use hashlink::LruCache;
+use hashlink::{DefaultHashBuilder, LruCache};
 use std::hash::BuildHasher;
 use std::test::Fail;
 
-pub(crate) type Numbers = LruCache<u64, u64>;
+pub(crate) type Numbers<S = DefaultHashBuilder> = LruCache<u64, u64, S>;
 
 /// An empty cache.
 pub(crate) fn empty(rt: HostRuntime, capacity: usize) -> Numbers {
@@ -11,10 +11,7 @@ pub(crate) fn empty(rt: HostRuntime, capacity: usize) -> Numbers {
 }
 
 /// Inserts the keys up to `most`, each with ten times itself.
-pub(crate) fn fill<S: BuildHasher>(
-    cache: &mut LruCache<u64, u64, S>,
-    most: u32,
-) -> Result<(), Fail> {
+pub(crate) fn fill<S: BuildHasher>(cache: &mut Numbers<S>, most: u32) -> Result<(), Fail> {
     for key in 1..=most {
         cache.insert(u64::from(key), u64::from(key) * 10)?;
     }
@@ -22,7 +19,7 @@ pub(crate) fn fill<S: BuildHasher>(
 }
 
 /// Whether the cache has these entries, front first.
-pub(crate) fn has<S: BuildHasher>(cache: &LruCache<u64, u64, S>, entries: &[(u64, u64)]) -> bool {
+pub(crate) fn has<S: BuildHasher>(cache: &Numbers<S>, entries: &[(u64, u64)]) -> bool {
     cache
         .iter()
         .map(|(key, value)| (*key, *value))

@@ -27,7 +27,8 @@ pub(crate) enum Call {
     /// The same of its raw entry.
     RawEntry(u64, u64, u64),
     RawRead(u64, Option<u64>),
-    /// By a cursor on the key's entry the first pair is inserted right after it, and then the second one.
+    /// By a cursor on the key's entry the first pair, whose key is new, is inserted right after it, and then such a
+    /// second one.
     InsertTwoAfter(u64, (u64, u64), (u64, u64)),
     /// The key's entry is vacant.
     IsVacant(u64),
@@ -102,8 +103,7 @@ fn is_answered<S: BuildHasher>(
             cache.raw_entry().from_key(&key).map(|pair| *pair.1) == answer
         }
         Call::InsertTwoAfter(key, first, second) => {
-            insert_two_after(cache, key, first, second)?;
-            true
+            insert_two_after(cache, key, first, second)? == Some([None, None])
         }
         Call::IsVacant(key) => is_vacant(cache, key),
         Call::RetainOthers(kept) => {
@@ -128,18 +128,21 @@ fn is_answered<S: BuildHasher>(
     Ok(is_answer)
 }
 
+/// What the two inserts answer, where the key is there.
 pub(crate) fn insert_two_after<S: BuildHasher>(
     cache: &mut LruCache<u64, u64, S>,
     key: u64,
     first: (u64, u64),
     second: (u64, u64),
-) -> Result<(), (u64, u64)> {
-    if let Entry::Occupied(entry) = cache.entry(key) {
-        let mut cursor = entry.cursor_mut();
-        cursor.insert_after(first.0, first.1)?;
-        cursor.insert_after(second.0, second.1)?;
+) -> Result<Option<[Option<u64>; 2]>, (u64, u64)> {
+    match cache.entry(key) {
+        Entry::Occupied(entry) => {
+            let mut cursor = entry.cursor_mut();
+            let old = cursor.insert_after(first.0, first.1)?;
+            Ok(Some([old, cursor.insert_after(second.0, second.1)?]))
+        }
+        Entry::Vacant(_entry) => Ok(None),
     }
-    Ok(())
 }
 
 fn is_vacant<S: BuildHasher>(cache: &mut LruCache<u64, u64, S>, key: u64) -> bool {

@@ -20,6 +20,19 @@ fn a_hit_is_kept_and_the_oldest_is_dropped(rt: HostRuntime) -> Result<(), Fail> 
 }
 
 #[test]
+fn a_hit_in_the_larger_of_two_caches_is_a_miss_in_the_smaller(rt: HostRuntime) -> Result<(), Fail> {
+    holds(&rt, rt.alloc(), 1, 2, &[Get(1, None)], &[(2, 20)])?;
+    holds(
+        &rt,
+        rt.alloc(),
+        2,
+        2,
+        &[Get(1, Some(10))],
+        &[(2, 20), (1, 10)],
+    )
+}
+
+#[test]
 fn an_insert_of_a_key_that_is_there_drops_nothing(rt: HostRuntime) -> Result<(), Fail> {
     let calls = [Insert(1, 11, Some(10))];
     holds(&rt, rt.alloc(), 2, 2, &calls, &[(2, 20), (1, 11)])

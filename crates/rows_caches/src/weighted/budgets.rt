@@ -3,6 +3,13 @@ use crate::weighted::row::Call::{Heavy, Insert, New, Total};
 use crate::weighted::row::{Numbers, holds};
 
 #[test]
+fn an_insert_within_the_budget_succeeds_with_memory(rt: HostRuntime) {
+    let mut cache = Numbers::new(rt.alloc(), 5);
+    let calls = [New(1, 10, 2), New(2, 20, 3), Total(5)];
+    holds(&rt, &mut cache, &calls, &[(1, 10, 2), (2, 20, 3)]);
+}
+
+#[test]
 fn entries_at_the_front_make_room(rt: HostRuntime) {
     let mut cache = Numbers::new(rt.alloc(), 10);
     let calls = [New(1, 10, 4), New(2, 20, 4), New(3, 30, 4), Total(8)];
