@@ -70,6 +70,16 @@ fn an_insert_moves_its_key_and_a_replace_does_not(rt: HostRuntime) -> Result<(),
 }
 
 #[test]
+fn each_insert_of_a_map_succeeds_with_memory(rt: HostRuntime) -> Result<(), Fail> {
+    let steps = [
+        (Insert(1, 10), Value(None)),
+        (InsertFront(2, 20), Value(None)),
+        (Replace(3, 30), Value(None)),
+    ];
+    holds(&rt, rt.alloc(), &steps, &[(2, 20), (1, 10), (3, 30)])
+}
+
+#[test]
 fn inserts_at_the_front(rt: HostRuntime) -> Result<(), Fail> {
     let steps = [
         (InsertFront(1, 1), Value(None)),
@@ -82,7 +92,7 @@ fn inserts_at_the_front(rt: HostRuntime) -> Result<(), Fail> {
 }
 
 #[test]
-fn commands_of_both_ends(rt: HostRuntime) -> Result<(), Fail> {
+fn run_succeeds_with_memory(rt: HostRuntime) -> Result<(), Fail> {
     let steps = [
         (InsertFront(1, 1), Value(None)),
         (Insert(2, 2), Value(None)),
@@ -98,6 +108,24 @@ fn commands_of_both_ends(rt: HostRuntime) -> Result<(), Fail> {
         (Front, Seen(None)),
     ];
     holds(&rt, rt.alloc(), &steps, &[])
+}
+
+#[test]
+fn a_removed_key_is_gone_and_a_moved_one_is_first(rt: HostRuntime) -> Result<(), Fail> {
+    let steps = [
+        (Insert(1, 10), Value(None)),
+        (Insert(2, 20), Value(None)),
+        (Insert(3, 30), Value(None)),
+        (Insert(4, 40), Value(None)),
+        (Insert(5, 50), Value(None)),
+        (Insert(6, 60), Value(None)),
+        (Remove(3), Value(Some(30))),
+        (Insert(7, 70), Value(None)),
+        (ToFront(5), Seen(Some(true))),
+        (Get(3), Seen(None)),
+    ];
+    let left = [(5, 50), (1, 10), (2, 20), (4, 40), (6, 60), (7, 70)];
+    holds(&rt, rt.alloc(), &steps, &left)
 }
 
 #[test]

@@ -1,19 +1,31 @@
 //! Clones, where the memory is there.
-use crate::many::numbers::{are_equal, clone, has, map_of};
-use hashlink::LinkedHashMap;
+use crate::many::numbers::{Numbers, are_equal, clone, has, map_of};
+use hashlink::{DefaultHashBuilder, LinkedHashMap};
+use rows_keys::SameHash;
 use std::alloc::Global;
+use std::hash::BuildHasher;
+use std::process::Abort;
 use std::test::Fail;
 
-#[test]
-fn a_clone_is_equal_and_apart(rt: HostRuntime) -> Result<(), Fail> {
-    let mut map = map_of(rt.alloc(), [(1, 1), (2, 2), (3, 3)])?;
+fn clone_is_equal_and_apart<S: BuildHasher + Default + Clone + Drop>(
+    rt: &impl Abort,
+    alloc: Global,
+) -> Result<(), Fail> {
+    let mut map: Numbers<S> = map_of(alloc, &[(1, 1), (2, 2), (3, 3)])?;
     map.remove(&3);
     let mut copy = clone(&map)?;
     assert!(rt; are_equal(&copy, &map));
     copy.insert(1, 11)?;
+    assert!(rt; !are_equal(&copy, &map));
     assert!(rt; has(&copy, &[(2, 2), (1, 11)]));
     assert!(rt; has(&map, &[(1, 1), (2, 2)]));
     Ok(())
+}
+
+#[test]
+fn clone_of_a_map_succeeds_with_memory(rt: HostRuntime) -> Result<(), Fail> {
+    clone_is_equal_and_apart::<DefaultHashBuilder>(&rt, rt.alloc())?;
+    clone_is_equal_and_apart::<SameHash>(&rt, rt.alloc())
 }
 
 type Texts = LinkedHashMap<String, String>;

@@ -1,67 +1,113 @@
 //! Many items, where the memory is there.
-use crate::many::numbers::{Numbers, are_equal, extend_from, extend_ref, has, map_of};
-use hashlink::LinkedHashMap;
+use crate::many::many::Many::{Extend, ExtendFrom, ExtendRef, FromIter, FromItself};
+use crate::many::numbers::{Numbers, Pair, extend_from, extend_ref, has, map_of};
 use hashlink::linked_hash_map::ExtendError;
-use rows_keys::Label;
+use hashlink::{DefaultHashBuilder, LinkedHashMap};
+use rows_keys::{Label, SameHash};
 use std::alloc::{AllocError, Global};
+use std::hash::BuildHasher;
 use std::test::Fail;
 
+/// A call that takes many pairs: those of a map, but for the first.
+#[derive(Clone, Copy)]
+enum Many {
+    FromIter,
+    /// The same of the map's own entries.
+    FromItself,
+    Extend,
+    ExtendRef,
+    /// What it is given is a walk that is kept.
+    ExtendFrom,
+}
+
+/// Whether the call takes the pairs and leaves these in a map that is new or was empty, in order, whatever the hasher:
+/// the default one and one with one hash.
+fn takes(alloc: Global, call: Many, pairs: &[Pair], left: &[Pair]) -> Result<bool, Fail> {
+    Ok(
+        takes_by::<DefaultHashBuilder>(alloc, call, pairs, left)?
+            && takes_by::<SameHash>(alloc, call, pairs, left)?,
+    )
+}
+
+fn takes_by<S: BuildHasher + Default + Drop>(
+    alloc: Global,
+    call: Many,
+    pairs: &[Pair],
+    left: &[Pair],
+) -> Result<bool, Fail> {
+    let mut map: Numbers<S> = LinkedHashMap::with_hasher(alloc, S::default());
+    let are_taken = match call {
+        FromIter => {
+            map = map_of(alloc, pairs)?;
+            true
+        }
+        FromItself => {
+            map = rebuilt(alloc, map_of(alloc, pairs)?)?;
+            true
+        }
+        Extend => map.extend(pairs.iter().copied()).is_ok(),
+        ExtendRef => extend_ref(&mut map, &map_of(alloc, pairs)?).is_ok(),
+        ExtendFrom => {
+            let mut rest = map_of::<S>(alloc, pairs)?.into_iter();
+            extend_from(&mut map, &mut rest).is_ok() && rest.next().is_none()
+        }
+    };
+    Ok(are_taken && has(&map, left))
+}
+
+/// A map of the map's own entries.
+fn rebuilt<S: BuildHasher + Default + Drop>(
+    alloc: Global,
+    map: Numbers<S>,
+) -> Result<Numbers<S>, AllocError> {
+    Numbers::from_iter(alloc, map)
+}
+
 #[test]
-fn the_items_go_in_one_after_another(rt: HostRuntime) -> Result<(), Fail> {
-    let mut map = Numbers::new(rt.alloc());
-    map.extend(Vec::from_array(rt.alloc(), [(1, 10), (2, 20), (1, 11)])?)?;
-    assert!(rt; has(&map, &[(2, 20), (1, 11)]));
+fn extend_of_a_map_succeeds_with_memory(rt: HostRuntime) -> Result<(), Fail> {
+    let pairs = [(1, 10), (2, 20), (1, 11)];
+    assert!(rt; takes(rt.alloc(), Extend, &pairs, &[(2, 20), (1, 11)])?);
     Ok(())
 }
 
 #[test]
-fn a_map_is_made_of_items(rt: HostRuntime) -> Result<(), Fail> {
-    assert!(rt; has(&map_of(rt.alloc(), [(1, 1), (2, 2)])?, &[(1, 1), (2, 2)]));
-    assert!(rt; has(&map_of(rt.alloc(), [])?, &[]));
+fn from_iter_of_a_map_succeeds_with_memory(rt: HostRuntime) -> Result<(), Fail> {
+    let pairs = [(1, 1), (2, 2)];
+    assert!(rt; takes(rt.alloc(), FromIter, &pairs, &pairs)?);
+    assert!(rt; takes(rt.alloc(), FromIter, &[], &[])?);
     Ok(())
 }
 
 #[test]
-fn copies_of_pairs_go_in_too(rt: HostRuntime) -> Result<(), Fail> {
-    let source = map_of(rt.alloc(), [(1, 1), (2, 2)])?;
-    let mut map = Numbers::new(rt.alloc());
-    assert_eq!(rt; extend_ref(&mut map, &source), Ok(()));
-    assert!(rt; are_equal(&map, &source));
+fn extend_ref_of_a_map_succeeds_with_memory(rt: HostRuntime) -> Result<(), Fail> {
+    let pairs = [(1, 1), (2, 2)];
+    assert!(rt; takes(rt.alloc(), ExtendRef, &pairs, &pairs)?);
     Ok(())
 }
 
 #[test]
 fn an_iterator_that_is_kept_has_nothing_left(rt: HostRuntime) -> Result<(), Fail> {
-    let mut map = Numbers::new(rt.alloc());
-    let mut pairs = map_of(rt.alloc(), [(3, 30), (4, 40)])?.into_iter();
-    assert_eq!(rt; extend_from(&mut map, &mut pairs), Ok(()));
-    assert_eq!(rt; pairs.next(), None);
-    assert_eq!(rt; map.len(), 2);
+    let pairs = [(3, 30), (4, 40)];
+    assert!(rt; takes(rt.alloc(), ExtendFrom, &pairs, &pairs)?);
     Ok(())
-}
-
-/// A map of the map's own entries.
-fn rebuilt(alloc: Global, map: Numbers) -> Result<Numbers, AllocError> {
-    Numbers::from_iter(alloc, map)
 }
 
 #[test]
 fn a_map_of_its_own_entries_is_the_same(rt: HostRuntime) -> Result<(), Fail> {
-    let mut map = map_of(rt.alloc(), [(1, 10), (2, 20), (3, 30)])?;
-    map.to_front(&3);
-    let same = map_of(rt.alloc(), [(3, 30), (1, 10), (2, 20)])?;
-    assert!(rt; are_equal(&rebuilt(rt.alloc(), map)?, &same));
+    let pairs = [(3, 30), (1, 10), (2, 20)];
+    assert!(rt; takes(rt.alloc(), FromItself, &pairs, &pairs)?);
     Ok(())
 }
 
 /// The numbers and the values of the last pair of a map that takes the labels in turn, each with its value, and how
 /// many pairs it has.
-fn last_label(
+fn last_label<S: BuildHasher + Drop>(
     alloc: Global,
-    labels: Vec<(Label, u32)>,
+    hasher: S,
+    labels: &[(Label, u32)],
 ) -> Result<(Option<(u32, u32)>, usize), Fail> {
-    let mut map = LinkedHashMap::<Label, u32>::new(alloc);
-    map.extend(labels)?;
+    let mut map = LinkedHashMap::with_hasher(alloc, hasher);
+    map.extend(labels.iter().copied())?;
     let last = map.back().map(|(key, value)| (key.number, *value));
     Ok((last, map.len()))
 }
@@ -77,8 +123,9 @@ fn an_equal_key_keeps_its_object(rt: HostRuntime) -> Result<(), Fail> {
         (label("b", 1), 20),
         (label("a", 2), 11),
     ];
-    let labels = Vec::from_array(rt.alloc(), labels)?;
-    assert_eq!(rt; last_label(rt.alloc(), labels)?, (Some((1, 11)), 2));
+    let last = (Some((1, 11)), 2);
+    assert_eq!(rt; last_label(rt.alloc(), DefaultHashBuilder, &labels)?, last);
+    assert_eq!(rt; last_label(rt.alloc(), SameHash, &labels)?, last);
     Ok(())
 }
 

@@ -1,33 +1,46 @@
 //! What two sets give together.
 use crate::set::algebra::Way::{Difference, Intersection, SymmetricDifference, Union};
-use crate::set::numbers::{Numbers, has, set_by, set_of};
+use crate::set::numbers::{Numbers, has, set_by};
 use crate::set::steps::{Walk, gives};
 use hashlink::DefaultHashBuilder;
 use rows_keys::SameHash;
 use std::alloc::{AllocError, Global};
 use std::hash::BuildHasher;
+use std::process::Abort;
 use std::test::Fail;
 
 // The operators, with what they answer alone. They make a set by the hasher's default value.
 
-pub(crate) fn union(a: &Numbers, b: &Numbers) -> Result<Numbers, AllocError> {
+pub(crate) fn union<S: BuildHasher + Default + Drop>(
+    a: &Numbers<S>,
+    b: &Numbers<S>,
+) -> Result<Numbers<S>, AllocError> {
     a | b
 }
 
-pub(crate) fn intersection(a: &Numbers, b: &Numbers) -> Result<Numbers, AllocError> {
+pub(crate) fn intersection<S: BuildHasher + Default + Drop>(
+    a: &Numbers<S>,
+    b: &Numbers<S>,
+) -> Result<Numbers<S>, AllocError> {
     a & b
 }
 
-pub(crate) fn symmetric_difference(a: &Numbers, b: &Numbers) -> Result<Numbers, AllocError> {
+pub(crate) fn symmetric_difference<S: BuildHasher + Default + Drop>(
+    a: &Numbers<S>,
+    b: &Numbers<S>,
+) -> Result<Numbers<S>, AllocError> {
     a ^ b
 }
 
-pub(crate) fn difference(a: &Numbers, b: &Numbers) -> Result<Numbers, AllocError> {
+pub(crate) fn difference<S: BuildHasher + Default + Drop>(
+    a: &Numbers<S>,
+    b: &Numbers<S>,
+) -> Result<Numbers<S>, AllocError> {
     a - b
 }
 
 /// Whether the answer is a set of these elements, in order.
-fn is(answer: Result<Numbers, AllocError>, numbers: &[u32]) -> bool {
+fn is<S: BuildHasher + Drop>(answer: Result<Numbers<S>, AllocError>, numbers: &[u32]) -> bool {
     match answer {
         Ok(set) => has(&set, numbers),
         Err(AllocError) => false,
@@ -110,10 +123,13 @@ fn tested_by<S: BuildHasher + Copy>(
     })
 }
 
-#[test]
-fn operators_make_sets(rt: HostRuntime) -> Result<(), Fail> {
-    let a = set_of(rt.alloc(), [1, 2])?;
-    let b = set_of(rt.alloc(), [3, 1])?;
+fn operators_make_sets<S: BuildHasher + Default + Copy>(
+    rt: &impl Abort,
+    alloc: Global,
+    hasher: S,
+) -> Result<(), Fail> {
+    let a = set_by(alloc, hasher, &[1, 2])?;
+    let b = set_by(alloc, hasher, &[3, 1])?;
     assert!(rt; is(union(&a, &b), &[1, 2, 3]));
     assert!(rt; is(union(&b, &a), &[3, 1, 2]));
     assert!(rt; is(symmetric_difference(&a, &b), &[2, 3]));
@@ -123,22 +139,28 @@ fn operators_make_sets(rt: HostRuntime) -> Result<(), Fail> {
 }
 
 #[test]
+fn each_set_operator_succeeds_with_memory(rt: HostRuntime) -> Result<(), Fail> {
+    operators_make_sets(&rt, rt.alloc(), DefaultHashBuilder)?;
+    operators_make_sets(&rt, rt.alloc(), SameHash)
+}
+
+#[test]
 fn a_union_tells_what_may_come(rt: HostRuntime) -> Result<(), Fail> {
-    let hints = [(2, 4), (1, 3), (0, 2), (0, 1)];
+    let hints = [(2, 4), (1, 3), (0, 2), (0, 1), (0, 0)];
     assert!(rt; walks(rt.alloc(), Union, &[1, 2, 3], &hints)?);
     Ok(())
 }
 
 #[test]
 fn a_symmetric_difference_goes_over_both(rt: HostRuntime) -> Result<(), Fail> {
-    let hints = [(0, 4), (0, 2), (0, 1)];
+    let hints = [(0, 4), (0, 2), (0, 1), (0, 0)];
     assert!(rt; walks(rt.alloc(), SymmetricDifference, &[2, 3], &hints)?);
     Ok(())
 }
 
 #[test]
 fn walks_over_one_side(rt: HostRuntime) -> Result<(), Fail> {
-    assert!(rt; walks(rt.alloc(), Intersection, &[1], &[(0, 2), (0, 1)])?);
+    assert!(rt; walks(rt.alloc(), Intersection, &[1], &[(0, 2), (0, 1), (0, 0)])?);
     assert!(rt; walks(rt.alloc(), Difference, &[2], &[(0, 2), (0, 0)])?);
     Ok(())
 }

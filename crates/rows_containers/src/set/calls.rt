@@ -30,6 +30,17 @@ fn an_empty_set_has_nothing_to_give(rt: HostRuntime) -> Result<(), Fail> {
 }
 
 #[test]
+fn each_insert_of_a_set_succeeds_with_memory(rt: HostRuntime) -> Result<(), Fail> {
+    let calls = [
+        Insert(1, true),
+        Replace(2, None),
+        GetOrInsert(3),
+        GetOrInsertWith(4),
+    ];
+    holds(&rt, rt.alloc(), &[], &calls, &[1, 2, 3, 4])
+}
+
+#[test]
 fn an_insert_says_whether_the_element_is_new(rt: HostRuntime) -> Result<(), Fail> {
     let calls = [Insert(1, true), Insert(2, true), Insert(1, false), Len(2)];
     holds(&rt, rt.alloc(), &[], &calls, &[2, 1])
@@ -92,7 +103,7 @@ fn a_set_of_nothing_has_one_element(rt: HostRuntime) {
 }
 
 #[test]
-fn a_set_has_the_room_it_is_made_with(rt: HostRuntime) -> Result<(), Fail> {
+fn with_capacity_of_a_set_succeeds_with_memory(rt: HostRuntime) -> Result<(), Fail> {
     let set = LinkedHashSet::<u32>::with_capacity(rt.alloc(), 10)?;
     assert!(rt; set.capacity() >= 10);
     let hasher = NumberItself::new();
@@ -109,7 +120,7 @@ fn a_set_hashes_by_its_hasher(rt: HostRuntime) -> Result<(), Fail> {
 }
 
 #[test]
-fn reserves_make_room(rt: HostRuntime) -> Result<(), Fail> {
+fn reserve_of_a_set_succeeds_with_memory(rt: HostRuntime) -> Result<(), Fail> {
     let calls = [
         Reserve(10, true),
         TryReserve(20, true),
@@ -119,6 +130,6 @@ fn reserves_make_room(rt: HostRuntime) -> Result<(), Fail> {
 }
 
 #[test]
-fn a_shrink_leaves_no_room(rt: HostRuntime) -> Result<(), Fail> {
+fn shrink_to_fit_of_a_set_succeeds_with_memory(rt: HostRuntime) -> Result<(), Fail> {
     holds(&rt, rt.alloc(), &[1, 2, 1], &[Shrink(2)], &[2, 1])
 }

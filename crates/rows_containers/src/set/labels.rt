@@ -7,6 +7,16 @@ use std::hash::BuildHasher;
 use std::process::Abort;
 use std::test::Fail;
 
+const A: Label = Label {
+    text: "a",
+    number: 1,
+};
+
+const B: Label = Label {
+    text: "b",
+    number: 1,
+};
+
 fn label(text: &'static str, number: u32) -> Label {
     Label { text, number }
 }
@@ -21,9 +31,12 @@ enum Call {
     Take(Label, Option<u32>),
 }
 
-/// From the labels `a` and `b` of number 1 on, in this order, the calls have these answers and leave objects of these
-/// numbers, in order, whatever the hasher: the default one and one with one hash.
-fn holds(rt: &impl Abort, alloc: Global, calls: &[Call], left: &[u32]) -> Result<(), Fail> {
+/// The text and the number of an object.
+type Object = (&'static str, u32);
+
+/// From the empty set on, the calls have these answers and leave these objects, in order, whatever the hasher: the
+/// default one and one with one hash.
+fn holds(rt: &impl Abort, alloc: Global, calls: &[Call], left: &[Object]) -> Result<(), Fail> {
     holds_by(rt, alloc, DefaultHashBuilder, calls, left)?;
     holds_by(rt, alloc, SameHash, calls, left)
 }
@@ -33,15 +46,13 @@ fn holds_by<S: BuildHasher + Drop>(
     alloc: Global,
     hasher: S,
     calls: &[Call],
-    left: &[u32],
+    left: &[Object],
 ) -> Result<(), Fail> {
     let mut set = LinkedHashSet::with_hasher(alloc, hasher);
-    set.insert(label("a", 1))?;
-    set.insert(label("b", 1))?;
     for call in calls {
         assert!(rt; is_answered(&mut set, *call)?);
     }
-    assert!(rt; has_numbers(&set, left));
+    assert!(rt; has_objects(&set, left));
     Ok(())
 }
 
@@ -64,37 +75,55 @@ fn number_of(object: Option<&Label>) -> Option<u32> {
     object.map(|label| label.number)
 }
 
-/// Whether the set has the labels of these numbers, in order.
-fn has_numbers<S: BuildHasher>(set: &LinkedHashSet<Label, S>, numbers: &[u32]) -> bool {
+/// Whether the set has these objects, in order.
+fn has_objects<S: BuildHasher>(set: &LinkedHashSet<Label, S>, objects: &[Object]) -> bool {
     set.iter()
-        .map(|label| label.number)
-        .eq(numbers.iter().copied())
+        .map(|label| (label.text, label.number))
+        .eq(objects.iter().copied())
 }
 
 #[test]
 fn a_replace_lets_the_new_object_in_where_the_old_one_stood(rt: HostRuntime) -> Result<(), Fail> {
+    let calls = [Replace(A, None), Replace(label("a", 2), Some(1))];
+    holds(&rt, rt.alloc(), &calls, &[("a", 2)])?;
     let calls = [
+        Insert(A, true),
+        Insert(B, true),
         Replace(label("a", 2), Some(1)),
         Get(label("a", 4), Some(2)),
         Replace(label("c", 3), None),
     ];
-    holds(&rt, rt.alloc(), &calls, &[2, 1, 3])
+    holds(&rt, rt.alloc(), &calls, &[("a", 2), ("b", 1), ("c", 3)])
 }
 
 #[test]
 fn an_insert_keeps_the_old_object(rt: HostRuntime) -> Result<(), Fail> {
-    let calls = [Insert(label("b", 2), false), Insert(label("c", 3), true)];
-    holds(&rt, rt.alloc(), &calls, &[1, 1, 3])
+    let calls = [
+        Insert(A, true),
+        Insert(B, true),
+        Insert(label("a", 2), false),
+    ];
+    holds(&rt, rt.alloc(), &calls, &[("b", 1), ("a", 1)])
 }
 
 #[test]
 fn the_stored_object_is_lent(rt: HostRuntime) -> Result<(), Fail> {
-    let calls = [Get(label("a", 2), Some(1)), GetOrInsert(label("a", 3), 1)];
-    holds(&rt, rt.alloc(), &calls, &[1, 1])
+    let calls = [
+        Insert(A, true),
+        Insert(B, true),
+        Get(label("a", 2), Some(1)),
+        GetOrInsert(label("a", 3), 1),
+    ];
+    holds(&rt, rt.alloc(), &calls, &[("b", 1), ("a", 1)])
 }
 
 #[test]
 fn the_stored_object_is_taken(rt: HostRuntime) -> Result<(), Fail> {
-    let calls = [Take(label("a", 5), Some(1)), Take(label("a", 1), None)];
-    holds(&rt, rt.alloc(), &calls, &[1])
+    let calls = [
+        Insert(A, true),
+        Insert(B, true),
+        Take(label("a", 5), Some(1)),
+        Take(A, None),
+    ];
+    holds(&rt, rt.alloc(), &calls, &[("b", 1)])
 }

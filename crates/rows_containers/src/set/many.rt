@@ -1,5 +1,5 @@
 //! Many elements in a row, clones, and sets compared.
-use crate::set::many::Many::{Extend, ExtendFrom, ExtendRef};
+use crate::set::many::Many::{Extend, ExtendFrom, ExtendRef, FromIter};
 use crate::set::numbers::{clone, has, set_by, set_of};
 use hashlink::{DefaultHashBuilder, LinkedHashSet};
 use rows_keys::SameHash;
@@ -11,14 +11,15 @@ use std::test::Fail;
 /// A call that takes many elements.
 #[derive(Clone, Copy)]
 enum Many {
+    FromIter,
     Extend,
     ExtendRef,
     /// What it is given are the elements of a set, in a walk that is kept.
     ExtendFrom,
 }
 
-/// Whether the call takes the numbers and leaves these elements in a set that was empty, in order, whatever the hasher:
-/// the default one and one with one hash.
+/// Whether the call takes the numbers and leaves these elements in a set that is new or was empty, in order, whatever
+/// the hasher: the default one and one with one hash.
 fn takes(alloc: Global, call: Many, numbers: &[u32], left: &[u32]) -> Result<bool, Fail> {
     Ok(
         takes_by(alloc, DefaultHashBuilder, call, numbers, left)?
@@ -26,7 +27,7 @@ fn takes(alloc: Global, call: Many, numbers: &[u32], left: &[u32]) -> Result<boo
     )
 }
 
-fn takes_by<S: BuildHasher + Copy>(
+fn takes_by<S: BuildHasher + Default + Copy>(
     alloc: Global,
     hasher: S,
     call: Many,
@@ -35,6 +36,10 @@ fn takes_by<S: BuildHasher + Copy>(
 ) -> Result<bool, Fail> {
     let mut set = LinkedHashSet::with_hasher(alloc, hasher);
     let are_taken = match call {
+        FromIter => {
+            set = set_of(alloc, numbers)?;
+            true
+        }
         Extend => set.extend(numbers.iter().copied()).is_ok(),
         ExtendRef => set.extend_ref(numbers).is_ok(),
         ExtendFrom => {
@@ -81,20 +86,19 @@ fn clones_by<S: BuildHasher + Copy>(rt: &impl Abort, alloc: Global, hasher: S) -
 }
 
 #[test]
-fn a_set_is_made_of_elements(rt: HostRuntime) -> Result<(), Fail> {
-    let set = set_of(rt.alloc(), [1, 2, 1])?;
-    assert!(rt; has(&set, &[2, 1]));
+fn from_iter_of_a_set_succeeds_with_memory(rt: HostRuntime) -> Result<(), Fail> {
+    assert!(rt; takes(rt.alloc(), FromIter, &[1, 2, 1], &[2, 1])?);
     Ok(())
 }
 
 #[test]
-fn elements_go_in_one_after_another(rt: HostRuntime) -> Result<(), Fail> {
+fn extend_of_a_set_succeeds_with_memory(rt: HostRuntime) -> Result<(), Fail> {
     assert!(rt; takes(rt.alloc(), Extend, &[1, 2, 1], &[2, 1])?);
     Ok(())
 }
 
 #[test]
-fn copies_of_elements_go_in_too(rt: HostRuntime) -> Result<(), Fail> {
+fn extend_ref_of_a_set_succeeds_with_memory(rt: HostRuntime) -> Result<(), Fail> {
     assert!(rt; takes(rt.alloc(), ExtendRef, &[1, 2, 1], &[2, 1])?);
     Ok(())
 }
@@ -106,7 +110,7 @@ fn an_iterator_that_is_kept_has_nothing_left(rt: HostRuntime) -> Result<(), Fail
 }
 
 #[test]
-fn a_clone_is_equal_and_apart(rt: HostRuntime) -> Result<(), Fail> {
+fn clone_of_a_set_succeeds_with_memory(rt: HostRuntime) -> Result<(), Fail> {
     clones_by(&rt, rt.alloc(), DefaultHashBuilder)?;
     clones_by(&rt, rt.alloc(), SameHash)
 }

@@ -1,5 +1,6 @@
 //! The texts of `{:?}`.
-use crate::set::numbers::{Numbers, set_of};
+use crate::set::numbers::{Numbers, set_by};
+use hashlink::DefaultHashBuilder;
 use std::alloc::Global;
 use std::fmt::Debug;
 use std::test::Fail;
@@ -29,17 +30,23 @@ fn shows_symmetric_difference(alloc: Global, a: &Numbers, b: &Numbers) -> Result
 
 #[test]
 fn a_set_shows_its_elements(rt: HostRuntime) -> Result<(), Fail> {
-    let set = set_of(rt.alloc(), [1, 2])?;
+    let set = set_by(rt.alloc(), DefaultHashBuilder, &[1, 2])?;
     assert!(rt; shows(rt.alloc(), &set, "{1, 2}")?);
     assert!(rt; shows(rt.alloc(), &set.iter(), "[1, 2]")?);
-    assert!(rt; shows(rt.alloc(), &set_of(rt.alloc(), [])?, "{}")?);
+    assert!(rt;
+        shows(
+            rt.alloc(),
+            &set_by(rt.alloc(), DefaultHashBuilder, &[])?,
+            "{}"
+        )?
+    );
     Ok(())
 }
 
 #[test]
 fn lazy_walks_show_what_is_left_to_give(rt: HostRuntime) -> Result<(), Fail> {
-    let set = set_of(rt.alloc(), [1, 2])?;
-    let empty = set_of(rt.alloc(), [])?;
+    let set = set_by(rt.alloc(), DefaultHashBuilder, &[1, 2])?;
+    let empty = set_by(rt.alloc(), DefaultHashBuilder, &[])?;
     assert!(rt; shows_union(rt.alloc(), &set, &empty)?);
     assert!(rt; shows_intersection(rt.alloc(), &set, &set)?);
     assert!(rt; shows_difference(rt.alloc(), &set, &empty)?);
