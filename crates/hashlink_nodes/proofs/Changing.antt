@@ -1,9 +1,10 @@
 -- What a sound ring is where a node of it holds something else.
 use Rattle.std.proofs.Common.{◌≡◌, ℕ, true, false, cond, List, ◌∷◌, ◌++◌, Option, None, Some, refl, sym, ap, ◌∙◌}
 use Rattle.std.proofs.Common.{subst}
-use Rattle.std.specs.Prelude.{is_some}
+use Rattle.std.specs.Prelude.{is_some, IfSome}
 use Rattle.std.specs.List.{IsDistinct}
-use Rattle.std.specs.Map.{set_value}
+use Rattle.std.specs.Map.{lookup, set_value}
+use Rattle.std.specs.Option.{option_map}
 use Rattle.std.proofs.lemmas.List.{append_assoc}
 use Rattle.hashlink_nodes.specs.declared.node.Node.{Node}
 use Rattle.hashlink_nodes.specs.declared.held.Held.{Held}
@@ -14,7 +15,7 @@ use Rattle.hashlink_nodes.specs.Ring.{Ring, Holds}
 use Rattle.hashlink_nodes.proofs.Paths.{Off, IsOff, flip, set_at_other, all_left, all_right, all_as, all_zip}
 use Rattle.hashlink_nodes.proofs.Paths.{distinct_front, length-walk}
 use Rattle.hashlink_nodes.proofs.Entries.{cut_at, entries_set}
-use Rattle.hashlink_nodes.proofs.Sound.{presents, Leaves, guard_there}
+use Rattle.hashlink_nodes.proofs.Sound.{presents, Leaves, guard_there, entries_in, free_in, node_of, if_some}
 
 module _ {K V : Type 0} where
   shaped_anew : (s : State K V) (g first : Node) (ns fs : List Node) (n : Node) (new : Held K V)
@@ -85,3 +86,31 @@ module _ {K V : Type 0} where
       → s'.link_writes ≡ w
   unfolding hold
   held_writes s s' n o w is_w is = ap (λ (t : State K V). t.link_writes) is ∙ is_w
+
+  -- ---- what a call leaves that changes what a node of the ring holds
+  pub record Renewed (s s' : State K V) (guard : Option Node) (first : Node) (len spare : ℕ) (v : Ring K V) (n : Node)
+      (change : Held K V → Held K V) : Type 0 where
+    pub sound : IsSound s' guard first len spare
+    pub entries : IfSome (lookup (same_node n) v.entries)
+        (λ h. entries_in s' guard first len spare ≡ set_value (same_node n) v.entries (change h))
+    pub free : free_in s' guard first len spare ≡ v.free
+    pub link_writes : s'.link_writes ≡ v.link_writes
+    pub was : lookup (same_node n) v.entries ≡ s.held n
+
+  pub renewed : (s s' : State K V) (guard : Option Node) (first : Node) (len spare : ℕ)
+      → IsSound s guard first len spare → (v : Ring K V) → ring_of s guard first len spare ≡ v → (n : Node)
+      → Holds v.entries n → (change : Held K V → Held K V) → s' ≡ hold n (option_map change (s.held n)) s
+      → Renewed s s' guard first len spare v n change
+  renewed s s' guard first len spare sound v view n there change is =
+      let at = node_of s guard first len spare sound v view n there in
+      let left = held_anew s s' guard first len spare sound v view n there at.value (change at.value) at.holds
+      (is ∙ ap (λ o. hold n (option_map change o) s) at.holds) in
+      let was = ap (λ (r : Ring K V). lookup (same_node n) r.entries) (sym view) ∙ at.looked in
+      record {
+        sound = left.sound;
+        entries = if_some
+            (λ h. entries_in s' guard first len spare ≡ set_value (same_node n) v.entries (change h)) was left.entries;
+        free = left.free;
+        link_writes = held_writes s s' n _ v.link_writes (ap (λ (r : Ring K V). r.link_writes) view) is;
+        was = was ∙ sym at.holds;
+      }

@@ -1,14 +1,11 @@
-use Rattle.std.proofs.Common.{◌≡◌, ap, sym, ◌∙◌}
+use Rattle.std.proofs.Common.{ap, ◌∙◌}
 use Rattle.std.specs.Prelude.{is_some}
 use Rattle.std.specs.Option.{option_map}
-use Rattle.std.specs.Map.{lookup, set_value}
-use Rattle.hashlink_nodes.specs.Shape.{ring_of}
-use Rattle.hashlink_nodes.specs.Node.{same_node}
 use Rattle.hashlink_nodes.specs.Cells.{state_of}
-use Rattle.hashlink_nodes.specs.State.{hold}
-use Rattle.hashlink_nodes.specs.Ring.{Ring, Held, with_key}
-use Rattle.hashlink_nodes.proofs.Sound.{node_of, if_some}
-use Rattle.hashlink_nodes.proofs.Changing.{held_anew, held_writes}
+use Rattle.hashlink_nodes.specs.Ring.{Held, with_key}
+use Rattle.hashlink_nodes.proofs.Sound.{node_of}
+use Rattle.hashlink_nodes.proofs.Changing.{Renewed, renewed}
+use Rattle.hashlink_nodes.proofs.nodes.Nodes.set_key.Given as given
 use Rattle.hashlink_nodes.proofs.nodes.Nodes.set_key.Goals as goal
 
 pub replace_key-requires-clause-has : goal.replace_key-requires-clause-has
@@ -22,92 +19,28 @@ replace_key-requires-clause-held g c =
     (node_of (state_of c.self.inside.cells) c.self.inside.guard c.self.inside.first_spare c.self.inside.len
     c.self.inside.spare c.self.invariant c.args.self.now c.self.view_is c.args.node c.requires).holds
 
-pub invariant_of-self : goal.invariant_of-self
-invariant_of-self g c =
-    let H : Type 0 = Held g.row.K.Denot g.row.V.Denot in
-    let R : Type 0 = Ring g.row.K.Denot g.row.V.Denot in
-    (held_anew (state_of c.self.inside.cells) (state_of c.replace_key.new.self) c.self.inside.guard
+anew : (g : given.Over) (c : goal.After-replace_key g)
+    → Renewed (state_of c.self.inside.cells) (state_of c.replace_key.new.self) c.self.inside.guard
+    c.self.inside.first_spare c.self.inside.len c.self.inside.spare c.args.self.now c.args.node
+    (λ h. with_key h c.args.key)
+anew g c =
+    renewed (state_of c.self.inside.cells) (state_of c.replace_key.new.self) c.self.inside.guard
     c.self.inside.first_spare c.self.inside.len c.self.inside.spare c.self.invariant c.args.self.now c.self.view_is
-    c.args.node c.requires
-    (node_of (state_of c.self.inside.cells) c.self.inside.guard c.self.inside.first_spare c.self.inside.len
-    c.self.inside.spare c.self.invariant c.args.self.now c.self.view_is c.args.node c.requires).value
-    (with_key
-    (node_of (state_of c.self.inside.cells) c.self.inside.guard c.self.inside.first_spare c.self.inside.len
-    c.self.inside.spare c.self.invariant c.args.self.now c.self.view_is c.args.node c.requires).value
-    c.args.key)
-    (node_of (state_of c.self.inside.cells) c.self.inside.guard c.self.inside.first_spare c.self.inside.len
-    c.self.inside.spare c.self.invariant c.args.self.now c.self.view_is c.args.node c.requires).holds
-    (c.replace_key.ensures.is
-    ∙ ap (λ o. hold c.args.node (option_map (λ (h : H). with_key h c.args.key) o) (state_of c.self.inside.cells))
-    (node_of (state_of c.self.inside.cells) c.self.inside.guard c.self.inside.first_spare c.self.inside.len
-    c.self.inside.spare c.self.invariant c.args.self.now c.self.view_is c.args.node c.requires).holds)).sound
+    c.args.node c.requires (λ h. with_key h c.args.key) c.replace_key.ensures.is
+
+pub invariant_of-self : goal.invariant_of-self
+invariant_of-self g c = (anew g c).sound
 
 pub returns-clause-entries : goal.returns-clause-entries
-returns-clause-entries g c =
-    let H : Type 0 = Held g.row.K.Denot g.row.V.Denot in
-    let R : Type 0 = Ring g.row.K.Denot g.row.V.Denot in
-    if_some
-    (λ (h : H).
-    (ring_of (state_of c.replace_key.new.self) c.self.inside.guard c.self.inside.first_spare c.self.inside.len
-    c.self.inside.spare).entries
-    ≡ set_value (same_node c.args.node) c.args.self.now.entries (with_key h c.args.key))
-    (ap (λ (r : R). lookup (same_node c.args.node) r.entries) (sym c.self.view_is)
-    ∙
-    (node_of (state_of c.self.inside.cells) c.self.inside.guard c.self.inside.first_spare c.self.inside.len
-    c.self.inside.spare c.self.invariant c.args.self.now c.self.view_is c.args.node c.requires).looked)
-    (held_anew (state_of c.self.inside.cells) (state_of c.replace_key.new.self) c.self.inside.guard
-    c.self.inside.first_spare c.self.inside.len c.self.inside.spare c.self.invariant c.args.self.now c.self.view_is
-    c.args.node c.requires
-    (node_of (state_of c.self.inside.cells) c.self.inside.guard c.self.inside.first_spare c.self.inside.len
-    c.self.inside.spare c.self.invariant c.args.self.now c.self.view_is c.args.node c.requires).value
-    (with_key
-    (node_of (state_of c.self.inside.cells) c.self.inside.guard c.self.inside.first_spare c.self.inside.len
-    c.self.inside.spare c.self.invariant c.args.self.now c.self.view_is c.args.node c.requires).value
-    c.args.key)
-    (node_of (state_of c.self.inside.cells) c.self.inside.guard c.self.inside.first_spare c.self.inside.len
-    c.self.inside.spare c.self.invariant c.args.self.now c.self.view_is c.args.node c.requires).holds
-    (c.replace_key.ensures.is
-    ∙ ap (λ o. hold c.args.node (option_map (λ (h : H). with_key h c.args.key) o) (state_of c.self.inside.cells))
-    (node_of (state_of c.self.inside.cells) c.self.inside.guard c.self.inside.first_spare c.self.inside.len
-    c.self.inside.spare c.self.invariant c.args.self.now c.self.view_is c.args.node c.requires).holds)).entries
+returns-clause-entries g c = (anew g c).entries
 
 pub returns-clause-free : goal.returns-clause-free
-returns-clause-free g c =
-    let H : Type 0 = Held g.row.K.Denot g.row.V.Denot in
-    let R : Type 0 = Ring g.row.K.Denot g.row.V.Denot in
-    (held_anew (state_of c.self.inside.cells) (state_of c.replace_key.new.self) c.self.inside.guard
-    c.self.inside.first_spare c.self.inside.len c.self.inside.spare c.self.invariant c.args.self.now c.self.view_is
-    c.args.node c.requires
-    (node_of (state_of c.self.inside.cells) c.self.inside.guard c.self.inside.first_spare c.self.inside.len
-    c.self.inside.spare c.self.invariant c.args.self.now c.self.view_is c.args.node c.requires).value
-    (with_key
-    (node_of (state_of c.self.inside.cells) c.self.inside.guard c.self.inside.first_spare c.self.inside.len
-    c.self.inside.spare c.self.invariant c.args.self.now c.self.view_is c.args.node c.requires).value
-    c.args.key)
-    (node_of (state_of c.self.inside.cells) c.self.inside.guard c.self.inside.first_spare c.self.inside.len
-    c.self.inside.spare c.self.invariant c.args.self.now c.self.view_is c.args.node c.requires).holds
-    (c.replace_key.ensures.is
-    ∙ ap (λ o. hold c.args.node (option_map (λ (h : H). with_key h c.args.key) o) (state_of c.self.inside.cells))
-    (node_of (state_of c.self.inside.cells) c.self.inside.guard c.self.inside.first_spare c.self.inside.len
-    c.self.inside.spare c.self.invariant c.args.self.now c.self.view_is c.args.node c.requires).holds)).free
+returns-clause-free g c = (anew g c).free
 
 pub returns-clause-link_writes : goal.returns-clause-link_writes
-returns-clause-link_writes g c =
-    let H : Type 0 = Held g.row.K.Denot g.row.V.Denot in
-    let R : Type 0 = Ring g.row.K.Denot g.row.V.Denot in
-    held_writes (state_of c.self.inside.cells) (state_of c.replace_key.new.self) c.args.node _
-    c.args.self.now.link_writes (ap (λ (r : R). r.link_writes) c.self.view_is) c.replace_key.ensures.is
+returns-clause-link_writes g c = (anew g c).link_writes
 
 pub returns-clause-key : goal.returns-clause-key
 returns-clause-key g c =
     let H : Type 0 = Held g.row.K.Denot g.row.V.Denot in
-    let R : Type 0 = Ring g.row.K.Denot g.row.V.Denot in
-    ap (option_map (λ (h : H). h.key))
-    ((ap (λ (r : R). lookup (same_node c.args.node) r.entries) (sym c.self.view_is)
-    ∙
-    (node_of (state_of c.self.inside.cells) c.self.inside.guard c.self.inside.first_spare c.self.inside.len
-    c.self.inside.spare c.self.invariant c.args.self.now c.self.view_is c.args.node c.requires).looked)
-    ∙ sym
-    (node_of (state_of c.self.inside.cells) c.self.inside.guard c.self.inside.first_spare c.self.inside.len
-    c.self.inside.spare c.self.invariant c.args.self.now c.self.view_is c.args.node c.requires).holds)
-    ∙ c.replace_key.ensures.key
+    ap (option_map (λ (h : H). h.key)) (anew g c).was ∙ c.replace_key.ensures.key
