@@ -17,9 +17,9 @@ use Rattle.hashlink_commands.specs.declared.cache_commands.CacheCommand.TheVaria
 use Rattle.hashlink_commands.specs.declared.replies.Reply.{Reply}
 use Rattle.hashlink_commands.specs.declared.replies.Reply.TheVariants.{Refused}
 use Rattle.hashlink_run.specs.CacheCalls.{put_passed}
-use Rattle.hashlink_run.specs.CacheRun.{is_refused, command_put, InsertsFit}
+use Rattle.hashlink_run.specs.CacheRun.{command_put, InsertsFit}
 use Rattle.hashlink_run.specs.CacheStep.{CacheStep, CacheRun}
-use Rattle.hashlink_run.specs.CallReplies.{insert_reply}
+use Rattle.hashlink_run.specs.CallReplies.{insert_reply, is_refused}
 use Rattle.hashlink_run.specs.Chain.{Answered, after}
 use Rattle.hashlink_run.specs.Reads.{Replies}
 

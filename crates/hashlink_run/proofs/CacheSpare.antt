@@ -4,12 +4,9 @@ use Rattle.std.proofs.Common.{slice_get, Option, None, Some, Result, Ok, Err, Ma
 use Rattle.std.proofs.Common.{refl, sym, ap, ◌∙◌, subst, arith}
 use Rattle.std.specs.List.{AllPass}
 use Rattle.std.specs.Map.{lookup, lookup_entry}
-use Rattle.std.specs.Result.{result_map_both}
 use Rattle.std.proofs.lemmas.List.Elements.{All-head, All-tail}
 use Rattle.std.proofs.lemmas.Option.{same_Some}
 use Rattle.hashlink_model.specs.Cache.{CacheState, HasNodeToSpare, EvictsFront, CacheInserts, CacheGets}
-use Rattle.hashlink_model.specs.Entries.{place_of}
-use Rattle.hashlink_model.specs.Entry.{VacantInserts}
 use Rattle.hashlink_model.specs.MapState.{MapState}
 use Rattle.hashlink_model.specs.Steps.{RemovesKey, PopsFront}
 use Rattle.hashlink_model.proofs.CacheBounds.{to_spare-kept, to_spare-dropped, to_spare-inserts}
@@ -19,18 +16,16 @@ use Rattle.hashlink_commands.specs.declared.cache_commands.CacheCommand.{CacheCo
 use Rattle.hashlink_commands.specs.declared.cache_commands.CacheCommand.TheVariants.{Insert, Use, Entry, Get, Peek}
 use Rattle.hashlink_commands.specs.declared.cache_commands.CacheCommand.TheVariants.{Remove, SetCapacity, Clear}
 use Rattle.hashlink_commands.specs.declared.cache_commands.CacheCommand.TheVariants.{RemoveLru}
-use Rattle.hashlink_commands.specs.declared.commands.EntryStep.{EntryStep}
-use Rattle.hashlink_commands.specs.declared.commands.EntryStep.TheVariants as step
 use Rattle.hashlink_commands.specs.declared.replies.Reply.{Reply}
 use Rattle.hashlink_commands.specs.declared.replies.Reply.TheVariants.{Refused}
-use Rattle.hashlink_run.specs.CacheRun.{is_refused, leaves_spare, DropsPair, TakesAllAfterADrop}
+use Rattle.hashlink_run.specs.CacheRun.{leaves_spare, DropsPair, TakesAllAfterADrop}
 use Rattle.hashlink_run.specs.CacheStep.{CacheStep, CacheRun}
-use Rattle.hashlink_run.specs.CallReplies.{insert_reply, reply_or_refused}
+use Rattle.hashlink_run.specs.CallReplies.{insert_reply, is_refused}
 use Rattle.hashlink_run.specs.Chain.{Answered, state_after, after}
-use Rattle.hashlink_run.specs.EntrySteps.{OccupiedStep, VacantStep, EntrySteps}
 use Rattle.hashlink_run.specs.Reads.{Replies}
 use Rattle.hashlink_run.proofs.CachePuts.{step-puts}
 use Rattle.hashlink_run.proofs.Chained.{Chain-take}
+use Rattle.hashlink_run.proofs.NotRefused.{entry-taken}
 
 -- ---- nothing is refused while a node is spare
 
@@ -53,48 +48,6 @@ module _ {K V B S : Type 0} (eq : K → K → Bool) (Says : K → V → B → Ty
       let none = s.map.may_refuse.no_spare in absurd (omega arith)
   used-taken old new k v (Err pair) (Some w) spare s said = absurd (let no = s.0 in cc)
 
-  module _ (old new : MapState K V S) (k : K) (spare : 1 ≤ old.spare) where
-    occupied-taken : (j : ℕ) (step : EntryStep V) → OccupiedStep Says old j k step replies new
-        → is_refused replies ≡ false
-    occupied-taken j step.Get s = ap is_refused s.1.2
-    occupied-taken j (step.OrInsert v) s = ap is_refused s.1.2
-    occupied-taken j (step.Insert v) s = ap is_refused s.2
-    occupied-taken j (step.InsertEntry v) s = ap is_refused s.2
-    occupied-taken j (step.ReplaceEntry v) s = ap is_refused s.2
-    occupied-taken j step.ReplaceKey s = ap is_refused s.2
-    occupied-taken j step.ToFront s = ap is_refused s.1.2
-    occupied-taken j step.ToBack s = ap is_refused s.1.2
-    occupied-taken j step.Remove s = ap is_refused s.2
-    occupied-taken j step.RemoveEntry s = ap is_refused s.2
-
-    absent-taken : (v : V) (reply : Reply K V B) → is_refused (reply ∷ []) ≡ false
-        → (answer : Result (Unit {0}) (K × V)) → VacantInserts eq old new k v answer
-        → replies ≡ reply_or_refused (result_map_both (λ _. reply) (λ pair. pair) answer) ∷ []
-        → is_refused replies ≡ false
-    absent-taken v reply not (Ok done) s is = ap is_refused is ∙ not
-    absent-taken v reply not (Err pair) s is = let none = s.may_refuse.no_spare in absurd (omega arith)
-
-    vacant-taken : (step : EntryStep V) → VacantStep eq old k step replies new → is_refused replies ≡ false
-    vacant-taken step.Get s = ap is_refused s.1
-    vacant-taken (step.OrInsert v) s = absent-taken v _ refl s.0 s.1 s.2
-    vacant-taken (step.Insert v) s = absent-taken v _ refl s.0 s.1 s.2
-    vacant-taken (step.InsertEntry v) s = absent-taken v _ refl s.0 s.1 s.2
-    vacant-taken (step.ReplaceEntry v) s = ap is_refused s.1
-    vacant-taken step.ReplaceKey s = ap is_refused s.1
-    vacant-taken step.ToFront s = ap is_refused s.1
-    vacant-taken step.ToBack s = ap is_refused s.1
-    vacant-taken step.Remove s = ap is_refused s.1
-    vacant-taken step.RemoveEntry s = ap is_refused s.1
-
-    entry-taken : (step : EntryStep V) → EntrySteps eq Says old k step replies new → is_refused replies ≡ false
-    entry-taken step s = by (place_of (eq k) old.entries) s
-      where
-        by : (o : Option ℕ)
-            → MatchOption o (VacantStep eq old k step replies new) (λ j. OccupiedStep Says old j k step replies new)
-            → is_refused replies ≡ false
-        by None t = vacant-taken step t
-        by (Some j) t = occupied-taken j step t
-
   -- what an eviction leaves has a spare node too
   evicted-spare : (old between : MapState K V S) (cap : ℕ) → EvictsFront old between cap → 1 ≤ old.spare
       → 1 ≤ between.spare
@@ -106,7 +59,7 @@ module _ {K V B S : Type 0} (eq : K → K → Bool) (Says : K → V → B → Ty
   step-taken old new (Use k v) spare s =
       used-taken old new k v s.0 (lookup (eq k) old.map.entries) spare s.1 s.2
   step-taken old new (Entry k step) spare s =
-      entry-taken s.0 new.map k (evicted-spare old.map s.0 old.cap s.1 spare) step s.2
+      entry-taken eq Says replies s.0 new.map k (evicted-spare old.map s.0 old.cap s.1 spare) step s.2
   step-taken old new (Get k) spare s = ap is_refused s.1.2
   step-taken old new (Peek k) spare s = ap is_refused s.1.2
   step-taken old new (Remove k) spare s = ap is_refused s.1

@@ -6,13 +6,15 @@ use Rattle.std.specs.List.{count_by}
 use Rattle.std.specs.Map.{lookup, keys_of}
 use Rattle.std.proofs.lemmas.List.Sums.{sum_by-cons}
 use Rattle.std.proofs.lemmas.Option.{same_Some}
-use Rattle.hashlink_model.specs.Cache.{cache_use, missed_uses}
+use Rattle.hashlink_model.specs.Cache.{CacheState, cache_use, missed_uses}
 use Rattle.hashlink_model.specs.CacheRuns.{CacheEvent, used_keys, answer_to, after_event, after_events, answers}
+use Rattle.hashlink_model.specs.Entries.{IsEntries}
 use Rattle.hashlink_model.proofs.CacheRuns.{keys_along, finds_along, entries_along, finds_the_same_along, holds_along}
-use Rattle.hashlink_model.proofs.CacheRuns.{answers_along}
+use Rattle.hashlink_model.proofs.CacheRuns.{answers_along, IsEntries-after_events}
+use Rattle.hashlink_model.proofs.Distinct.{IsEntries-nil}
 use Rattle.hashlink_model.proofs.Competitive.{competitive, missed_uses-history}
 use Rattle.hashlink_model.proofs.Reuse.{held_exactly}
-use Rattle.hashlink_run.specs.CacheCalls.{use_of}
+use Rattle.hashlink_run.specs.CacheCalls.{RunsFromEmpty, use_of}
 use Rattle.hashlink_run.specs.CacheLaws.{Includes, FollowsHistory, BearsComparison}
 
 module _ {K V : Type 0} (eq : K → K → Bool) where
@@ -39,23 +41,43 @@ module _ {K V : Type 0} (eq : K → K → Bool) where
       by (Some w) = refl
 
   module _ (laws : IsEquivalence eq) where
-    pub includes : (c d : ℕ) → c ≤ d → (events : List (CacheEvent K V)) → Includes eq events c d
+    pub includes : (c d : ℕ) → c ≤ d → (events : List (CacheEvent K V))
+        → Includes eq events (after_events eq c [] events) (after_events eq d [] events) (answers eq c [] events)
+        (answers eq d [] events)
     includes c d le events = record {
-      keys = λ n. keys_along eq laws c d le (take n events);
+      keys = keys_along eq laws c d le events;
       found = finds_along eq laws c d le events;
-      entries = λ n none. entries_along eq laws c d le (take n events) none;
-      values = λ none. finds_the_same_along eq laws c d le events none;
+      entries = entries_along eq laws c d le events;
+      values = finds_the_same_along eq laws c d le events;
     }
 
-    pub follows_history : (c : ℕ) (events : List (CacheEvent K V)) → FollowsHistory eq events c
+    pub follows_history : (c : ℕ) (events : List (CacheEvent K V))
+        → FollowsHistory eq events c (after_events eq c [] events) (answers eq c [] events)
     follows_history c events = record {
-      order = λ n none. holds_along eq laws c (take n events) none;
-      held = λ n k none.
-          held_exactly eq laws c (used_keys (take n events)) (after_events eq c [] (take n events)) k
-          (holds_along eq laws c (take n events) none);
+      order = holds_along eq laws c events;
+      held = λ k none.
+          held_exactly eq laws c (used_keys events) (after_events eq c [] events) k (holds_along eq laws c events none);
       found = λ n e reply none at is.
           ap is_some (answer_at c [] events n e reply at is) ∙ answers_along eq laws c (take n events) e none;
     }
+
+    -- and so of the cache that calls have left, and of two of them
+    module _ {S : Type 0} (s : S) (events : List (CacheEvent K V)) where
+      pub ran-follows : (c : ℕ) (replies : List (Option V)) (new : CacheState K V S)
+          → RunsFromEmpty eq s c events replies new → FollowsHistory eq events c new.map.entries replies
+      ran-follows c replies new r = rw (r.entries, r.answered) (follows_history c events)
+
+      pub ran-distinct : (c : ℕ) (replies : List (Option V)) (new : CacheState K V S)
+          → RunsFromEmpty eq s c events replies new → IsEntries eq new.map.entries
+      ran-distinct c replies new r =
+          rw r.entries (IsEntries-after_events eq laws c [] events (IsEntries-nil V eq))
+
+      pub ran-includes : (c d : ℕ) → c ≤ d → (small_replies large_replies : List (Option V))
+          (small large : CacheState K V S)
+          → RunsFromEmpty eq s c events small_replies small → RunsFromEmpty eq s d events large_replies large
+          → Includes eq events small.map.entries large.map.entries small_replies large_replies
+      ran-includes c d le small_replies large_replies small large r t =
+          rw (r.entries, r.answered, t.entries, t.answered) (includes c d le events)
 
     pub bears_comparison : (c : ℕ) (pairs : List (K × V)) (replies : List (Option V))
         → replies ≡ answers eq c [] (map use_of pairs) → BearsComparison eq c (map (λ p. p.0) pairs) replies

@@ -1,6 +1,6 @@
 -- One call of a cache that was not refused, and calls in turn: what they leave is what is computed.
 use Rattle.std.proofs.Common.{◌≡◌, ℕ, Bool, List, [], ◌∷◌, ◌++◌, length, Option, None, Some, Result, Ok}
-use Rattle.std.proofs.Common.{◌+◌, ◌<◌, add-one, drop, drop-cons, get_or, map, MatchOption, append_assoc, refl, sym}
+use Rattle.std.proofs.Common.{◌+◌, ◌<◌, add-one, take, drop, drop-cons, get_or, map, MatchOption, append_assoc, refl, sym}
 use Rattle.std.proofs.Common.{ap, ap₂, ◌∙◌, subst}
 use Rattle.std.specs.Map.{lookup, lookup_entry}
 use Rattle.std.specs.Option.{option_map, option_map_or}
@@ -19,6 +19,7 @@ use Rattle.hashlink_model.proofs.KeptNodes.{kept-moves, kept-removes_key, passes
 use Rattle.hashlink_lru.specs.Cached.{empty_cache}
 use Rattle.hashlink_run.specs.Chain.{Answered, Chain, Chained, state_after, replies_of}
 use Rattle.hashlink_run.specs.CacheCalls.{EventStep, put_passed, events_passed, RunsFromEmpty}
+use Rattle.hashlink_run.proofs.Chained.{Chain-take}
 use Rattle.hashlink_run.proofs.EntryNodes.{kept_unchanged}
 
 -- a list that is read from its front, each element as another
@@ -157,6 +158,9 @@ module _ {K V S : Type 0} (eq : K → K → Bool) where
       record {
         chain = r;
         entries = ap (λ m. m.map.entries) r.reached ∙ all.entries;
+        along = λ n.
+            (left_all (empty_cache s c) (take n events) (take n r.answers)
+            (Chain-take (EventStep eq) n (empty_cache s c) events r.answers r.chain)).entries;
         answered = r.joined ∙ all.answers;
         capacity = ap (λ m. m.cap) r.reached ∙ all.cap;
         nodes = within_the_peak (empty_cache s c).map new.map (events_passed eq c [] events) (rw end at all.passes);

@@ -1,7 +1,7 @@
 -- Chains of steps: how they grow, and their parts.
-use Rattle.std.proofs.Common.{◌≡◌, ℕ, zero, suc, List, [], ◌∷◌, ◌++◌, take, drop, refl, ap, ◌∙◌, append-nil}
+use Rattle.std.proofs.Common.{◌≡◌, ℕ, zero, suc, List, [], ◌∷◌, ◌++◌, take, drop, length, refl, ap, ◌∙◌, append-nil}
 use Rattle.std.proofs.lemmas.List.Concat.{flat_map-append}
-use Rattle.hashlink_run.specs.Chain.{Answered, Chain, replies_of, state_after}
+use Rattle.hashlink_run.specs.Chain.{Answered, Chain, replies_of, state_after, after}
 
 module _ {R M : Type 0} where
   pub replies_of-more : (xs : List (Answered R M)) (x : Answered R M)
@@ -48,3 +48,11 @@ module _ {C R M : Type 0} (Step : M → C → List R → M → Type 0) where
   Chain-drop (suc n) old [] (x ∷ xs) r = absurd r
   Chain-drop (suc n) old (c ∷ cs) [] r = absurd r
   Chain-drop (suc n) old (c ∷ cs) (x ∷ xs) r = Chain-drop n x.state cs xs r.1
+
+  -- after all of the commands
+  pub after-all : (old : M) (cs : List C) (xs : List (Answered R M)) → Chain Step old cs xs
+      → after old xs (length cs) ≡ state_after old xs
+  after-all old [] [] r = refl
+  after-all old [] (x ∷ xs) r = absurd r
+  after-all old (c ∷ cs) [] r = absurd r
+  after-all old (c ∷ cs) (x ∷ xs) r = after-all x.state cs xs r.1

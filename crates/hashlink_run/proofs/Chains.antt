@@ -1,5 +1,5 @@
 -- Chains of a map's steps: the nodes along them.
-use Rattle.std.proofs.Common.{◌≡◌, ◌≤◌, Bool, true, List, [], ◌∷◌, length}
+use Rattle.std.proofs.Common.{◌≡◌, ◌≤◌, ◌<◌, Bool, true, List, [], ◌∷◌, length}
 use Rattle.std.proofs.Common.{take, drop}
 use Rattle.std.proofs.Common.{refl, sym, ap, subst, arith}
 use Rattle.std.specs.List.{AllPass}
@@ -11,7 +11,7 @@ use Rattle.hashlink_model.specs.MapState.{MapState, node_count}
 use Rattle.hashlink_model.specs.Walk.{first_of, last_of}
 use Rattle.hashlink_model.specs.Peak.{KeepsNodes, Passes, PassesInTurn}
 use Rattle.hashlink_model.proofs.KeptNodes.{kept-inserts, kept-replaces, kept-moves, kept-removes_key, kept-pops_front}
-use Rattle.hashlink_model.proofs.KeptNodes.{kept-keeps, kept-pops_back, kept-never_fall, not_refused_where_shorter}
+use Rattle.hashlink_model.proofs.KeptNodes.{kept-keeps, kept-pops_back, kept-never_fall, spare_where_shorter}
 use Rattle.hashlink_model.proofs.KeptNodes.{passes-kept, passes-clears, passes-shrinks, within_the_peak}
 use Rattle.hashlink_commands.specs.declared.commands.Command.{Command}
 use Rattle.hashlink_commands.specs.declared.commands.Command.TheVariants.{Insert, InsertFront, Replace, Get, Remove}
@@ -22,11 +22,12 @@ use Rattle.hashlink_commands.specs.declared.commands.Command.TheVariants.{Entry,
 use Rattle.hashlink_commands.specs.declared.replies.Reply.{Reply}
 use Rattle.hashlink_run.specs.Step.{Step}
 use Rattle.hashlink_run.specs.Chain.{Answered, state_after, after}
-use Rattle.hashlink_run.specs.Run.{Run, passed_at, keeps_nodes, passed_by}
+use Rattle.hashlink_run.specs.Run.{Run, Runs, passed_at, keeps_nodes, passed_by}
 use Rattle.hashlink_run.specs.Run.{StaysWithinPeak, TakesKeysWhereShorter}
 use Rattle.hashlink_run.proofs.Chained.{Chain-take, Chain-drop, state_after-parts}
 use Rattle.hashlink_run.proofs.CursorNodes.{cursor-keeps, cursor-wider}
 use Rattle.hashlink_run.proofs.Kept.{keeps_where-wider}
+use Rattle.hashlink_run.proofs.NotRefused.{map_taken_at}
 use Rattle.hashlink_run.proofs.EntryNodes.{kept_unchanged, entry-keeps, replies-wider, reads-wider, entry-wider}
 
 -- ---- the nodes at one step
@@ -107,7 +108,7 @@ module _ {K V B S : Type 0} (eq : K → K → Bool) (Says : K → V → B → Ty
         (run-passes old (take n cs) (take n xs) (Chain-take (Step eq Says Keeps) n old cs xs run))
 
     pub takes_keys_where_shorter : TakesKeysWhereShorter old cs xs eq
-    takes_keys_where_shorter i j le all shorter k =
+    takes_keys_where_shorter i j le all shorter =
         let part =
         Chain-drop (Step eq Says Keeps) i old (take j cs) (take j xs)
         (Chain-take (Step eq Says Keeps) j old cs xs run) in
@@ -117,7 +118,19 @@ module _ {K V B S : Type 0} (eq : K → K → Bool) (Says : K → V → B → Ty
         let kept =
         run-keeps (state_after old (take i (take j xs))) (drop i (take j cs)) (drop i (take j xs)) part all in
         let nodes : node_count (after old xs i) ≤ node_count (after old xs j) = rw (end, start) at kept in
-        not_refused_where_shorter (after old xs i) (after old xs j) eq k nodes shorter
+        let spare = spare_where_shorter (after old xs i) (after old xs j) nodes shorter in (
+          spare,
+          λ k may. let none = may.no_spare in omega arith,
+          map_taken_at eq Says Keeps j old cs xs run spare,
+        )
+
+  -- what is left of a run without a clear and a shrink
+  pub spare_at_the_end : (old : MapState K V S) (cs : List (Command K V)) (replies : List (Reply K V B))
+      (new : MapState K V S) → Runs eq Says Keeps old cs replies new → AllPass keeps_nodes cs
+      → length new.entries < length old.entries → 1 ≤ new.spare
+  spare_at_the_end old cs replies new r all shorter =
+      let kept = run-keeps old cs r.answers r.chain all in
+      spare_where_shorter old new (rw (sym r.reached) at kept) shorter
 
 -- ---- what one closure says another may say too
 

@@ -16,8 +16,10 @@ pub mod CursorNodes
 pub mod CursorProgress
 pub mod EntryNodes
 pub mod Kept
+pub mod Lawful
 pub mod Lists
 pub mod Moved
+pub mod NotRefused
 pub mod OfNothing
 pub mod Progress
 pub mod ShownLines

@@ -1,5 +1,5 @@
 -- Calls of a cache in turn, none of them refused, and what they leave.
-use Rattle.std.specs.Prelude.{◌≡◌, ℕ, ◌≤◌, Bool, List, [], ◌∷◌, ◌++◌, length, Option, Ok}
+use Rattle.std.specs.Prelude.{◌≡◌, ℕ, ◌≤◌, Bool, List, [], ◌∷◌, ◌++◌, length, take, Option, Ok}
 use Rattle.std.specs.Map.{lookup, lookup_entry}
 use Rattle.std.specs.Option.{option_map_or}
 use Rattle.hashlink_model.specs.Cache.{CacheState, OnMap, CacheInserts, CacheUses}
@@ -12,7 +12,7 @@ use Rattle.hashlink_model.specs.Steps.{RemovesKey}
 use Rattle.hashlink_lru.specs.Cached.{empty_cache}
 use Rattle.hashlink_commands.specs.declared.cache_commands.PairCommand.{PairCommand}
 use Rattle.hashlink_commands.specs.declared.cache_commands.PairCommand.TheVariants.{Insert, Use, Remove, Peek}
-use Rattle.hashlink_run.specs.Chain.{Chained}
+use Rattle.hashlink_run.specs.Chain.{Chained, after}
 
 -- the call of the model that a command to two caches is
 abbrev pub event_of : {K V : Type 0} → PairCommand K V → CacheEvent K V
@@ -53,11 +53,12 @@ module _ {K V : Type 0} (eq : K → K → Bool) (cap : ℕ) where
       put_passed es e ++ Length (length (after_event eq cap es e)) ∷ events_passed (after_event eq cap es e) events
 
 -- calls of an empty cache of capacity c in turn, none refused: their answers and the cache that they leave are those
--- of a chain of steps, and are computed; its nodes are within the peak
+-- of a chain of steps, and are computed, also after the first n of them; its nodes are within the peak
 pub record RunsFromEmpty {K V S : Type 0} (eq : K → K → Bool) (s : S) (c : ℕ) (events : List (CacheEvent K V))
     (replies : List (Option V)) (new : CacheState K V S) : Type 0 where
   pub chain : Chained (EventStep eq) (empty_cache s c) events replies new
   pub entries : new.map.entries ≡ after_events eq c [] events
+  pub along : (n : ℕ) → (after (empty_cache s c) chain.answers n).map.entries ≡ after_events eq c [] (take n events)
   pub answered : replies ≡ answers eq c [] events
   pub capacity : new.cap ≡ c
   pub nodes : node_count new.map ≤ peak 0 (events_passed eq c [] events)

@@ -10,14 +10,10 @@ use Rattle.hashlink_commands.specs.declared.cache_commands.CacheCommand.{CacheCo
 use Rattle.hashlink_commands.specs.declared.cache_commands.CacheCommand.TheVariants.{Insert, Use, Entry}
 use Rattle.hashlink_commands.specs.declared.cache_commands.CacheCommand.TheVariants.{SetCapacity, Clear}
 use Rattle.hashlink_commands.specs.declared.replies.Reply.{Reply}
-use Rattle.hashlink_commands.specs.declared.replies.Reply.TheVariants.{Refused}
 use Rattle.hashlink_run.specs.CacheCalls.{put_passed}
+use Rattle.hashlink_run.specs.CacheStep.{CacheRuns}
+use Rattle.hashlink_run.specs.CallReplies.{is_refused}
 use Rattle.hashlink_run.specs.Chain.{Answered, after}
-
--- whether the replies hand a pair back
-abbrev pub is_refused : {K V B : Type 0} → List (Reply K V B) → Bool
-is_refused (Refused k v ∷ replies) = true
-is_refused replies = false
 
 -- whether a command is none of those that set the capacity, give nodes back, or may leave a pair too many
 abbrev pub leaves_spare : {K V : Type 0} → CacheCommand K V → Bool
@@ -91,3 +87,21 @@ module _ {K V B S : Type 0} where
         → IsWithin (after old answers j) n
     pub with_entries : (n i j : ℕ) → i ≤ j → IsWithin (after old answers i) (n + 1)
         → IsWithin (after old answers j) (n + 1)
+
+-- from old, the cache may answer the commands by these replies and go on to new, by a chain of steps along which the
+-- nodes stay within the peak, nothing is refused after a drop, bounds on the length stay, and inserts fit
+pub record LawfulCacheRun {K V B S : Type 0} (eq : K → K → Bool) (Says : K → V → B → Type 0) (old : CacheState K V S)
+    (commands : List (CacheCommand K V)) (replies : List (Reply K V B)) (new : CacheState K V S) : Type 0 where
+  pub runs : CacheRuns eq Says old commands replies new
+  pub within_peak : CacheWithinPeak eq old commands runs.answers
+  pub after_a_drop : TakesAllAfterADrop eq old commands runs.answers
+  pub bounded : KeepsBounds old commands runs.answers
+  pub fits : InsertsFit eq old commands runs.answers
+
+module _ {K V S : Type 0} where
+  -- what is left of a run: where the cache was within its capacity and n more it is so still, for n = 0 where no
+  -- command named an entry
+  pub record StaysBounded (old : CacheState K V S) (commands : List (CacheCommand K V))
+      (new : CacheState K V S) : Type 0 where
+    pub without_entries : (n : ℕ) → AllPass names_no_entry commands → IsWithin old n → IsWithin new n
+    pub with_entries : (n : ℕ) → IsWithin old (n + 1) → IsWithin new (n + 1)

@@ -1,5 +1,5 @@
 -- The replies to calls, by their answers.
-use Rattle.std.specs.Prelude.{Option, Result, Ok, Err}
+use Rattle.std.specs.Prelude.{Bool, true, false, List, ◌∷◌, Option, Result, Ok, Err}
 use Rattle.std.specs.declared.alloc.AllocError.{AllocError}
 use Rattle.hashlink_commands.specs.declared.replies.Reply.{Reply}
 use Rattle.hashlink_commands.specs.declared.replies.Reply.TheVariants.{Done, Denied, Value, Refused}
@@ -19,3 +19,8 @@ module _ {K V B : Type 0} where
   abbrev pub reply_or_refused : Result (Reply K V B) (K × V) → Reply K V B
   reply_or_refused (Ok reply) = reply
   reply_or_refused (Err pair) = Refused pair.0 pair.1
+
+  -- whether the first of the replies hands a pair back
+  abbrev pub is_refused : List (Reply K V B) → Bool
+  is_refused (Refused k v ∷ replies) = true
+  is_refused replies = false

@@ -1,11 +1,13 @@
 -- Lists of commands: a run is a chain of steps, and what holds along it.
-use Rattle.std.specs.Prelude.{ℕ, ◌+◌, ◌<◌, ◌≤◌, Bool, true, false, List, [], ◌∷◌, length, take, drop}
+use Rattle.std.specs.Prelude.{◌≡◌, ℕ, ◌+◌, ◌<◌, ◌≤◌, Bool, true, false, List, [], ◌∷◌, length, take, drop}
+use Rattle.std.specs.Prelude.{slice_get, Some}
 use Rattle.std.specs.List.{AllPass}
 use Rattle.hashlink_model.specs.History.{Passed, Length, Shrunk, peak}
 use Rattle.hashlink_model.specs.MapState.{MapState, node_count, MayRefuse}
 use Rattle.hashlink_commands.specs.declared.commands.Command.{Command}
 use Rattle.hashlink_commands.specs.declared.commands.Command.TheVariants.{Clear, Shrink, Cursor}
 use Rattle.hashlink_commands.specs.declared.replies.Reply.{Reply}
+use Rattle.hashlink_run.specs.CallReplies.{is_refused}
 use Rattle.hashlink_run.specs.Chain.{Answered, Chain, Chained, after}
 use Rattle.hashlink_run.specs.Step.{Step}
 
@@ -23,6 +25,11 @@ module _ {K V : Type 0} where
   abbrev pub reply_count : Command K V → ℕ
   reply_count (Cursor steps) = length steps.items
   reply_count command = 1
+
+  -- the command is no cursor's, so that it has one reply
+  abbrev pub IsNoCursor : Command K V → Type 0
+  IsNoCursor (Cursor steps) = ⊥
+  IsNoCursor command = Unit {0}
 
   abbrev pub reply_total : List (Command K V) → ℕ
   reply_total [] = 0
@@ -56,9 +63,21 @@ module _ {K V B S : Type 0} where
     StaysWithinPeak = (n : ℕ)
         → node_count (after old answers n) ≤ peak (node_count old) (passed_by (take n commands) (take n answers))
 
-    -- where the map was longer, and no command since gave nodes back, no insert may be refused
+    -- where the map was longer, and no command since gave nodes back, it has a spare node: no insert may be refused
+    -- then, and the command that comes next hands no pair back
     abbrev pub TakesKeysWhereShorter : (K → K → Bool) → Type 0
     TakesKeysWhereShorter eq =
         (i j : ℕ) → i ≤ j → AllPass keeps_nodes (drop i (take j commands))
-        → length (after old answers j).entries < length (after old answers i).entries → (k : K)
-        → ¬ MayRefuse eq (after old answers j) k
+        → length (after old answers j).entries < length (after old answers i).entries
+        → (1 ≤ (after old answers j).spare)
+        × ((k : K) → ¬ MayRefuse eq (after old answers j) k)
+        × ((b : Answered _ _) → slice_get answers j ≡ Some b → is_refused b.replies ≡ false)
+
+-- from old, the map may answer the commands by these replies and go on to new, by a chain of steps along which the
+-- nodes stay within the peak, and a map that is shorter than it was takes keys
+pub record LawfulRun {K V B S : Type 0} (eq : K → K → Bool) (Says : K → V → B → Type 0)
+    (Keeps : K → V → Bool → Type 0) (old : MapState K V S) (commands : List (Command K V))
+    (replies : List (Reply K V B)) (new : MapState K V S) : Type 0 where
+  pub runs : Runs eq Says Keeps old commands replies new
+  pub within_peak : StaysWithinPeak old commands runs.answers
+  pub shorter : TakesKeysWhereShorter old commands runs.answers eq

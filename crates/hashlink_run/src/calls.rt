@@ -1,8 +1,9 @@
-//! Calls of caches in turn, of which none may be refused.
-ghost use Rattle.std.specs.Prelude.{◌≡◌, ◌≤◌, [], ◌∷◌, map, IfOk, OnOk};
+//! Calls of caches in turn, which end where memory runs out.
+ghost use Rattle.std.specs.Prelude.{◌≡◌, ◌≤◌, [], ◌∷◌, map, IfOk};
 ghost use Rattle.hashlink_core.specs.Hashing.{default_builder};
-ghost use Rattle.hashlink_lru.specs.Cached.{state_in};
+ghost use Rattle.hashlink_lru.specs.Cached.{entries_in, state_in};
 ghost use Rattle.hashlink_model.specs.Cache.{CacheUses};
+ghost use Rattle.hashlink_model.specs.Entries.{IsEntries};
 ghost use Rattle.hashlink_run.specs.CacheCalls.{EventStep, RunsFromEmpty, event_of, use_of};
 ghost use Rattle.hashlink_run.specs.CacheLaws.{Includes, FollowsHistory, BearsComparison};
 
@@ -11,7 +12,7 @@ use hashlink_lru::LruCache;
 use std::alloc::{AllocError, Global};
 use std::hash::Hash;
 
-/// What two caches have come to that were given the same commands, and what each answered to each of them: the old
+/// What two caches have come to that were given the same commands, and what each returned for each of them: the old
 /// value, the value that a use hit, the value removed, or the value seen.
 #[derive(Drop)]
 pub struct Pair<K: Eq + Hash, V> {
@@ -19,9 +20,9 @@ pub struct Pair<K: Eq + Hash, V> {
     pub small: LruCache<K, V>,
     /// The larger cache.
     pub large: LruCache<K, V>,
-    /// What the smaller cache answered.
+    /// What the smaller cache returned.
     pub small_replies: Vec<Option<V>>,
-    /// What the larger cache answered.
+    /// What the larger cache returned.
     pub large_replies: Vec<Option<V>>,
 }
 
@@ -30,39 +31,45 @@ pub struct Pair<K: Eq + Hash, V> {
 pub struct Uses<K: Eq + Hash, V> {
     /// The cache.
     pub cache: LruCache<K, V>,
-    /// What it answered.
+    /// What it returned.
     pub replies: Vec<Option<V>>,
 }
 
 /// Gives the commands to two empty caches of these capacities, of which the first is the smaller one.
 ///
-/// Each command costs what the call of the cache does that it names. Where memory is refused, for the answers or for
-/// an insert, it answers `AllocError` and leaves nothing.
+/// Each command costs what the call of the cache does that it names. Where memory runs out, for the replies or for an
+/// insert, it returns `AllocError` and leaves nothing. `small_capacity` has to be at most `large_capacity`.
 pub fn run_pair<K, V>(
     alloc: Global,
-    small: usize,
-    large: usize,
+    small_capacity: usize,
+    large_capacity: usize,
     commands: &[PairCommand<K, V>],
 ) -> Result<Pair<K, V>, AllocError>
 where
     K: Eq + Hash + Copy,
     V: Copy,
-    requires { small ≤ large }
+    requires { small_capacity ≤ large_capacity }
 
-    // The answers of each cache and the state at its end are those of a chain of steps without a refusal.
-    ensures small { IfOk result (λ pair. RunsFromEmpty K.eq default_builder small (map event_of commands.now)
+    // The replies of each cache and the state at its end are those of a chain of steps without a refusal.
+    ensures small { IfOk result (λ pair. RunsFromEmpty K.eq default_builder small_capacity (map event_of commands.now)
         pair.small_replies.items (state_in pair.small)) }
-    ensures large { IfOk result (λ pair. RunsFromEmpty K.eq default_builder large (map event_of commands.now)
+    ensures large { IfOk result (λ pair. RunsFromEmpty K.eq default_builder large_capacity (map event_of commands.now)
         pair.large_replies.items (state_in pair.large)) }
 
-    // Of any commands, and so of these: the smaller cache has an end of the larger one's keys, and each has what the
-    // history of uses says.
-    ensures inclusion { OnOk result (Includes K.eq (map event_of commands.now) small large) }
-    ensures small_history { OnOk result (FollowsHistory K.eq (map event_of commands.now) small) }
-    ensures large_history { OnOk result (FollowsHistory K.eq (map event_of commands.now) large) }
+    // The smaller cache holds an end of the larger one's keys, and found nothing that the larger one did not.
+    ensures inclusion { IfOk result (λ pair. Includes K.eq (map event_of commands.now) (entries_in pair.small)
+        (entries_in pair.large) pair.small_replies.items pair.large_replies.items) }
+
+    // Each holds and found what the history of uses says.
+    ensures small_history { IfOk result (λ pair. FollowsHistory K.eq (map event_of commands.now) small_capacity
+        (entries_in pair.small) pair.small_replies.items) }
+    ensures large_history { IfOk result (λ pair. FollowsHistory K.eq (map event_of commands.now) large_capacity
+        (entries_in pair.large) pair.large_replies.items) }
+    ensures small_distinct { IfOk result (λ pair. IsEntries K.eq (entries_in pair.small)) }
+    ensures large_distinct { IfOk result (λ pair. IsEntries K.eq (entries_in pair.large)) }
 {
-    let (small, small_replies) = run_calls(alloc, small, commands)?;
-    let (large, large_replies) = run_calls(alloc, large, commands)?;
+    let (small, small_replies) = run_calls(alloc, small_capacity, commands)?;
+    let (large, large_replies) = run_calls(alloc, large_capacity, commands)?;
     Ok(Pair {
         small,
         large,
@@ -73,7 +80,7 @@ where
 
 /// Gives an empty cache of this capacity a use of each pair in turn: a hit of `get`, or an insert.
 ///
-/// Each use costs what these calls do. Where memory is refused, for the answers or for an insert, it answers
+/// Each use costs what these calls do. Where memory runs out, for the replies or for an insert, it returns
 /// `AllocError` and leaves nothing.
 pub fn run_uses<K, V>(
     alloc: Global,
@@ -83,15 +90,17 @@ pub fn run_uses<K, V>(
 where
     K: Eq + Hash + Copy,
     V: Copy,
-    // The answers and the state at the end are those of a chain of steps without a refusal.
+    // The replies and the state at the end are those of a chain of steps without a refusal.
     ensures ran { IfOk result (λ uses. RunsFromEmpty K.eq default_builder capacity (map use_of pairs.now)
         uses.replies.items (state_in uses.cache)) }
 
-    // Of any uses, and so of these: the cache has what their history says, and misses not many more than any other
-    // rule of replacement would.
-    ensures history { OnOk result (FollowsHistory K.eq (map use_of pairs.now) capacity) }
+    // The cache holds and found what the history of the uses says, and missed not many more than any other rule of
+    // replacement would.
+    ensures history { IfOk result (λ uses. FollowsHistory K.eq (map use_of pairs.now) capacity (entries_in uses.cache)
+        uses.replies.items) }
     ensures comparison { IfOk result (λ uses. BearsComparison K.eq capacity (map (λ p. p.0) pairs.now)
         uses.replies.items) }
+    ensures distinct { IfOk result (λ uses. IsEntries K.eq (entries_in uses.cache)) }
 {
     let mut cache = LruCache::new(alloc, capacity);
     let mut replies = Vec::with_capacity(alloc, pairs.len())?;

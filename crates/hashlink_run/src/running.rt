@@ -1,10 +1,10 @@
 //! Lists of commands to a map.
-ghost use Rattle.std.specs.Prelude.{◌≡◌, ◌≤◌, ◌^◌, List, IfOk, OnErr};
-ghost use Rattle.hashlink_core.specs.Keyed.{state_of};
+ghost use Rattle.std.specs.Prelude.{◌≡◌, ◌<◌, ◌≤◌, ◌^◌, length, IfOk, OnOk, OnErr};
+ghost use Rattle.std.specs.List.{AllPass};
+ghost use Rattle.hashlink_core.specs.Keyed.{entries_of, state_of};
+ghost use Rattle.hashlink_model.specs.Entries.{IsEntries};
 ghost use Rattle.hashlink_run.specs.Reads.{ClosureSays};
-ghost use Rattle.hashlink_run.specs.Chain.{Answered};
-ghost use Rattle.hashlink_run.specs.Run.{Run, Runs, StaysWithinPeak, TakesKeysWhereShorter};
-ghost use Rattle.hashlink_run.specs.Run.{reply_count, reply_total};
+ghost use Rattle.hashlink_run.specs.Run.{LawfulRun, keeps_nodes, reply_count, reply_total};
 
 use crate::steps::answer_command;
 use hashlink_commands::{Command, Reply};
@@ -12,14 +12,15 @@ use hashlink_map::LinkedHashMap;
 use std::alloc::AllocError;
 use std::hash::{BuildHasher, Hash};
 
-/// Gives the commands to the map in turn and answers the replies, one for each, and one for each step of a cursor.
+/// Gives the commands to the map in turn and returns the replies, one for each, and one for each step of a cursor.
 ///
-/// A command that reads a pair is answered by what `keep` says of it, and `Command::Keep` drops the pairs at which it
-/// answers false. An insert or a shrink that is refused has a
-/// reply that says so, and the run goes on. Each command costs what the call of the map does that it names.
+/// A command that reads a pair has as its reply what `keep` says of it, and `Command::Keep` removes the pairs at which
+/// it returns false; `keep` has to take any pair. An insert that runs out of memory has a reply that says so and hands
+/// the pair back, a shrink that does has one too, and the run goes on. Each command costs what the call of the map does
+/// that it names.
 ///
-/// Room for all replies is made first, from the allocator of the commands. Where that is refused, or where their number
-/// is above `usize::MAX`, it answers `AllocError`, the commands are dropped and the map is as it was.
+/// Room for all replies is made first, from the allocator of the commands. Where memory for it runs out, or where their
+/// number is above `usize::MAX`, it returns `AllocError`, the commands are dropped and the map is as it was.
 pub fn run<K, V, S, F>(
     map: &mut LinkedHashMap<K, V, S>,
     commands: Vec<Command<K, V>>,
@@ -32,25 +33,25 @@ where
     F: Fn(&K, &V) -> bool,
     requires { F.IsAlwaysCallable keep.now }
 
-    // The replies and the state at the end are those of a chain of steps.
+    // The replies and the state at the end are those of a chain of steps, along which the nodes stay within the peak,
+    // and a map that was longer and gave no node back since has a spare node and takes the next command's pair.
     ensures ran { IfOk result
-        (λ replies. Runs K.eq (ClosureSays F.Fn keep.now) (ClosureSays F.Fn keep.now) (state_of map.old)
+        (λ replies. LawfulRun K.eq (ClosureSays F.Fn keep.now) (ClosureSays F.Fn keep.now) (state_of map.old)
         commands.items replies.items (state_of map.new)) }
     ensures refused { OnErr result (map.new ≡ map.old) }
 
-    // Of any such chain, and so of this one: the nodes stay within the peak, and no insert may be refused into a map
-    // that was longer and gave no node back since.
-    ensures within_peak { (answers : List (Answered _ _))
-        → Run K.eq (ClosureSays F.Fn keep.now) (ClosureSays F.Fn keep.now) (state_of map.old) commands.items answers
-        → StaysWithinPeak (state_of map.old) commands.items answers }
-    ensures shorter { (answers : List (Answered _ _))
-        → Run K.eq (ClosureSays F.Fn keep.now) (ClosureSays F.Fn keep.now) (state_of map.old) commands.items answers
-        → TakesKeysWhereShorter (state_of map.old) commands.items answers K.eq }
+    // So a map that is left shorter than it was, by commands that gave no node back, has a spare node.
+    ensures spare { OnOk result (AllPass keeps_nodes commands.items
+        → length (entries_of map.new) < length (entries_of map.old) → 1 ≤ (state_of map.new).spare) }
+    ensures distinct { OnOk result (IsEntries K.eq (entries_of map.new)) }
 {
     let mut replies = Vec::with_capacity(*commands.allocator(), reply_total(&commands)?)?;
     for command in commands {
         answer_command(map, command, keep, keep, &mut replies)?;
     }
+
+    // What `len` says of every map, that no two keys are equal, is said of this one.
+    map.len();
     Ok(replies)
 }
 

@@ -1,7 +1,6 @@
 //! One command to a map.
-ghost use Rattle.std.specs.Prelude.{◌≡◌, ◌+◌, ◌≤◌, ◌++◌, [], ◌∷◌, List, IfOk, OnOk, IfErr, IsOk, length};
+ghost use Rattle.std.specs.Prelude.{◌≡◌, ◌+◌, ◌≤◌, ◌++◌, [], ◌∷◌, List, OnOk, IsOk, length};
 ghost use Rattle.std.specs.Prelude.{vec_len, vec_capacity};
-ghost use Rattle.hashlink_commands.specs.declared.commands.Command.TheVariants.{Cursor};
 ghost use Rattle.std.specs.Map.{lookup, lookup_entry};
 ghost use Rattle.std.specs.Map.Iter.{deref_pair};
 ghost use Rattle.std.specs.Option.{option_map};
@@ -10,12 +9,12 @@ ghost use Rattle.hashlink_model.specs.Steps.{Moves};
 ghost use Rattle.hashlink_run.specs.Keeps.{KeepsWhere};
 ghost use Rattle.hashlink_run.specs.Reads.{ClosureSays, SaysOf};
 ghost use Rattle.hashlink_run.specs.CallReplies.{insert_reply, shrink_reply};
-ghost use Rattle.hashlink_run.specs.Run.{reply_count};
+ghost use Rattle.hashlink_run.specs.Run.{IsNoCursor, reply_count};
 ghost use Rattle.hashlink_run.specs.Step.{Step};
 
 use crate::cursors::walk_cursor;
 use crate::entries::reply_of_entry;
-use hashlink_commands::{Command, CursorStep, Reply};
+use hashlink_commands::{Command, Reply};
 use hashlink_map::LinkedHashMap;
 use std::alloc::AllocError;
 use std::hash::{BuildHasher, Hash};
@@ -46,59 +45,57 @@ where
         → IsOk result × (vec_len replies.new ≡ vec_len replies.old + reply_count command)
         × (vec_capacity replies.old ≤ vec_capacity replies.new) }
 {
-    match reply_to(map, command, says, keep) {
-        Ok(reply) => replies.push(reply)?,
-        Err(steps) => walk_cursor(map, steps, says, replies)?,
+    match command {
+        Command::Cursor(steps) => walk_cursor(map, steps, says, replies)?,
+        command => replies.push(reply_to(map, command, says, keep))?,
     }
     Ok(())
 }
 
-// What the map answers to the command, or the steps of a cursor, which are not done yet.
+// Gives the map the command, which is no cursor's, and returns its reply.
 fn reply_to<K, V, S, B, F, G>(
     map: &mut LinkedHashMap<K, V, S>,
     command: Command<K, V>,
     says: &F,
     keep: &G,
-) -> Result<Reply<K, V, B>, Vec<CursorStep<K, V>>>
+) -> Reply<K, V, B>
 where
     K: Eq + Hash + Drop,
     V: Drop,
     S: BuildHasher,
     F: Fn(&K, &V) -> B,
     G: Fn(&K, &V) -> bool,
+    requires no_cursor { IsNoCursor command }
     requires says { F.IsAlwaysCallable says.now }
     requires keep { G.IsAlwaysCallable keep.now }
-    ensures answered { IfOk result (λ reply.
-        Step K.eq (ClosureSays F.Fn says.now) (ClosureSays G.Fn keep.now) (state_of map.old) command (reply ∷ [])
-        (state_of map.new)) }
-    ensures count { OnOk result (reply_count command ≡ 1) }
-    ensures steps { IfErr result (λ steps. (command ≡ Cursor steps) × (map.new ≡ map.old)) }
+    ensures { Step K.eq (ClosureSays F.Fn says.now) (ClosureSays G.Fn keep.now) (state_of map.old) command
+        (result ∷ []) (state_of map.new) }
 {
     match command {
-        Command::Insert(key, value) => Ok(insert_reply(map.insert(key, value))),
-        Command::InsertFront(key, value) => Ok(insert_reply(map.insert_front(key, value))),
-        Command::Replace(key, value) => Ok(insert_reply(map.replace(key, value))),
-        Command::Get(key) => Ok(Reply::Seen(said_of(map.get_key_value(&key), says))),
-        Command::Remove(key) => Ok(Reply::Value(map.remove(&key))),
-        Command::RemoveEntry(key) => Ok(Reply::Pair(map.remove_entry(&key))),
-        Command::PopFront => Ok(Reply::Pair(map.pop_front())),
-        Command::PopBack => Ok(Reply::Pair(map.pop_back())),
-        Command::ToFront(key) => Ok(Reply::Seen(to_front(map, &key, says))),
-        Command::ToBack(key) => Ok(Reply::Seen(to_back(map, &key, says))),
-        Command::Front => Ok(Reply::Seen(said_of(map.front(), says))),
-        Command::Back => Ok(Reply::Seen(said_of(map.back(), says))),
-        Command::Len => Ok(Reply::Length(map.len())),
+        Command::Insert(key, value) => insert_reply(map.insert(key, value)),
+        Command::InsertFront(key, value) => insert_reply(map.insert_front(key, value)),
+        Command::Replace(key, value) => insert_reply(map.replace(key, value)),
+        Command::Get(key) => Reply::Seen(said_of(map.get_key_value(&key), says)),
+        Command::Remove(key) => Reply::Value(map.remove(&key)),
+        Command::RemoveEntry(key) => Reply::Pair(map.remove_entry(&key)),
+        Command::PopFront => Reply::Pair(map.pop_front()),
+        Command::PopBack => Reply::Pair(map.pop_back()),
+        Command::ToFront(key) => Reply::Seen(to_front(map, &key, says)),
+        Command::ToBack(key) => Reply::Seen(to_back(map, &key, says)),
+        Command::Front => Reply::Seen(said_of(map.front(), says)),
+        Command::Back => Reply::Seen(said_of(map.back(), says)),
+        Command::Len => Reply::Length(map.len()),
         Command::Clear => {
             map.clear();
-            Ok(Reply::Done)
+            Reply::Done
         }
-        Command::Shrink => Ok(shrink_reply(map.shrink_to_fit())),
+        Command::Shrink => shrink_reply(map.shrink_to_fit()),
         Command::Keep => {
             keep_where(map, keep);
-            Ok(Reply::Done)
+            Reply::Done
         }
-        Command::Entry(key, step) => Ok(reply_of_entry(map, key, step, says)),
-        Command::Cursor(steps) => Err(steps),
+        Command::Entry(key, step) => reply_of_entry(map, key, step, says),
+        Command::Cursor(_) => unreachable!(),
     }
 }
 

@@ -19,9 +19,9 @@ use std::alloc::{AllocError, Global};
 
 /// The answer to a text of lines, of which the first names what the others speak to.
 ///
-/// It goes over the text once, and each line costs what the call of the map does that it names.
-/// It answers `AllocError` where memory for the answer is refused. An insert that the map refuses has
-/// a line in the answer, and the next line follows.
+/// It goes over the text once, and each line costs what the call of the container does that it names.
+/// It returns `AllocError` where memory for the answer runs out. An insert that runs out of memory has a line in the
+/// answer, and the next line follows; but in the mode `pair` it returns `AllocError` too.
 pub fn run_text(alloc: Global, input: &[u8]) -> Result<Vec<u8>, AllocError>
     ensures { IfOk result (λ text. IsTranscript input.now text.items) }
 {

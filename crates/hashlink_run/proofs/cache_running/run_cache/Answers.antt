@@ -3,50 +3,8 @@ use Rattle.std.specs.Vec.Iter.{into_iter_items}
 use Rattle.hashlink_run.specs.CacheStep.{CacheStep}
 use Rattle.hashlink_run.specs.Reads.{ClosureSays}
 use Rattle.hashlink_run.proofs.Answering.{HasAnswered-none, HasAnswered-more, HasAnswered-all}
-use Rattle.hashlink_run.proofs.CacheLengths.{keeps_bounds}
-use Rattle.hashlink_run.proofs.CachePasses.{cache_within_peak}
-use Rattle.hashlink_run.proofs.CachePuts.{inserts_fit}
-use Rattle.hashlink_run.proofs.CacheSpare.{takes_all_after_a_drop}
+use Rattle.hashlink_run.proofs.Lawful.{lawful_cache_run, stays_bounded}
 use Rattle.hashlink_run.proofs.cache_running.run_cache.Goals as goal
-
-pub returns-in_err-replies-clause-within_peak : goal.returns-in_err-replies-clause-within_peak
-returns-in_err-replies-clause-within_peak g c = λ answers run. cache_within_peak _ _ _ _ answers run
-
-pub returns-in_err-push-clause-within_peak : goal.returns-in_err-push-clause-within_peak
-returns-in_err-push-clause-within_peak g c = λ answers run. cache_within_peak _ _ _ _ answers run
-
-pub returns-clause-within_peak : goal.returns-clause-within_peak
-returns-clause-within_peak g c = λ answers run. cache_within_peak _ _ _ _ answers run
-
-pub returns-in_err-replies-clause-after_a_drop : goal.returns-in_err-replies-clause-after_a_drop
-returns-in_err-replies-clause-after_a_drop g c =
-    λ answers run. takes_all_after_a_drop _ _ _ _ answers run
-
-pub returns-in_err-push-clause-after_a_drop : goal.returns-in_err-push-clause-after_a_drop
-returns-in_err-push-clause-after_a_drop g c =
-    λ answers run. takes_all_after_a_drop _ _ _ _ answers run
-
-pub returns-clause-after_a_drop : goal.returns-clause-after_a_drop
-returns-clause-after_a_drop g c =
-    λ answers run. takes_all_after_a_drop _ _ _ _ answers run
-
-pub returns-in_err-replies-clause-bounded : goal.returns-in_err-replies-clause-bounded
-returns-in_err-replies-clause-bounded g c = λ answers run. keeps_bounds _ _ _ _ answers run
-
-pub returns-in_err-push-clause-bounded : goal.returns-in_err-push-clause-bounded
-returns-in_err-push-clause-bounded g c = λ answers run. keeps_bounds _ _ _ _ answers run
-
-pub returns-clause-bounded : goal.returns-clause-bounded
-returns-clause-bounded g c = λ answers run. keeps_bounds _ _ _ _ answers run
-
-pub returns-in_err-replies-clause-fits : goal.returns-in_err-replies-clause-fits
-returns-in_err-replies-clause-fits g c = λ answers run. inserts_fit _ _ _ _ answers run
-
-pub returns-in_err-push-clause-fits : goal.returns-in_err-push-clause-fits
-returns-in_err-push-clause-fits g c = λ answers run. inserts_fit _ _ _ _ answers run
-
-pub returns-clause-fits : goal.returns-clause-fits
-returns-clause-fits g c = λ answers run. inserts_fit _ _ _ _ answers run
 
 pub loop-command-init : goal.loop-command-init
 loop-command-init g c =
@@ -72,5 +30,8 @@ returns-in_err-push-clause-refused g c =
 pub returns-clause-ran : goal.returns-clause-ran
 returns-clause-ran g c =
     let left = c.loop-command.command-iterator in
-    HasAnswered-all _ (into_iter_items left) (sym left.rest.ok.0
-    ∙ c.in-None.ensures.steps.0) c.loop-command.invariant.0
+    lawful_cache_run _ _ _ _ _ _ (HasAnswered-all _ (into_iter_items left) (sym left.rest.ok.0
+    ∙ c.in-None.ensures.steps.0) c.loop-command.invariant.0)
+
+pub returns-clause-bounded : goal.returns-clause-bounded
+returns-clause-bounded g c = stays_bounded _ _ _ _ _ _ (returns-clause-ran g c).runs

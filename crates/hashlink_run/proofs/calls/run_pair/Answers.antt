@@ -1,11 +1,22 @@
-use Rattle.hashlink_run.proofs.CallLaws.{includes, follows_history}
+use Rattle.hashlink_run.proofs.CallLaws.{ran-includes, ran-follows, ran-distinct}
 use Rattle.hashlink_run.proofs.calls.run_pair.Goals as goal
 
 pub returns-clause-inclusion : goal.returns-clause-inclusion
-returns-clause-inclusion g c = includes g.K.PartialEq.eq g.met.K.Eq.laws _ _ c.requires _
+returns-clause-inclusion g c =
+    ran-includes g.K.PartialEq.eq g.met.K.Eq.laws _ _ _ _ c.requires _ _ _ _ c.in_ok-small.ensures c.in_ok-large.ensures
 
 pub returns-clause-small_history : goal.returns-clause-small_history
-returns-clause-small_history g c = follows_history g.K.PartialEq.eq g.met.K.Eq.laws _ _
+returns-clause-small_history g c =
+    ran-follows g.K.PartialEq.eq g.met.K.Eq.laws _ _ _ _ _ c.in_ok-small.ensures
 
 pub returns-clause-large_history : goal.returns-clause-large_history
-returns-clause-large_history g c = follows_history g.K.PartialEq.eq g.met.K.Eq.laws _ _
+returns-clause-large_history g c =
+    ran-follows g.K.PartialEq.eq g.met.K.Eq.laws _ _ _ _ _ c.in_ok-large.ensures
+
+pub returns-clause-small_distinct : goal.returns-clause-small_distinct
+returns-clause-small_distinct g c =
+    ran-distinct g.K.PartialEq.eq g.met.K.Eq.laws _ _ _ _ _ c.in_ok-small.ensures
+
+pub returns-clause-large_distinct : goal.returns-clause-large_distinct
+returns-clause-large_distinct g c =
+    ran-distinct g.K.PartialEq.eq g.met.K.Eq.laws _ _ _ _ _ c.in_ok-large.ensures

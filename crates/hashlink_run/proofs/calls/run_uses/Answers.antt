@@ -2,7 +2,7 @@ use Rattle.std.proofs.Common.{length, map}
 use Rattle.std.proofs.lemmas.List.{at_drop_all}
 use Rattle.hashlink_run.specs.CacheCalls.{EventStep, use_of}
 use Rattle.hashlink_run.proofs.Called.{rest_from, runs_from_empty}
-use Rattle.hashlink_run.proofs.CallLaws.{follows_history, bears_comparison}
+use Rattle.hashlink_run.proofs.CallLaws.{ran-follows, ran-distinct, bears_comparison}
 use Rattle.hashlink_run.proofs.Answering.{HasAnswered-none, HasAnswered-more, HasAnswered-all}
 use Rattle.hashlink_run.proofs.calls.run_uses.Goals as goal
 
@@ -23,7 +23,10 @@ returns-clause-ran g c =
     c.loop-key.invariant)
 
 pub returns-clause-history : goal.returns-clause-history
-returns-clause-history g c = follows_history g.K.PartialEq.eq g.met.K.Eq.laws _ _
+returns-clause-history g c = ran-follows g.K.PartialEq.eq g.met.K.Eq.laws _ _ _ _ _ (returns-clause-ran g c)
+
+pub returns-clause-distinct : goal.returns-clause-distinct
+returns-clause-distinct g c = ran-distinct g.K.PartialEq.eq g.met.K.Eq.laws _ _ _ _ _ (returns-clause-ran g c)
 
 pub returns-clause-comparison : goal.returns-clause-comparison
 returns-clause-comparison g c =

@@ -1,33 +1,10 @@
 use Rattle.std.proofs.Common.{◌≡◌, true, false, is_ok, ap, sym, ◌∙◌, arith}
 use Rattle.std.specs.Vec.Iter.{into_iter_items}
 use Rattle.hashlink_run.specs.Run.{reply_total}
-use Rattle.hashlink_run.proofs.Chains.{stays_within_peak, takes_keys_where_shorter}
+use Rattle.hashlink_run.proofs.Chains.{spare_at_the_end}
+use Rattle.hashlink_run.proofs.Lawful.{lawful_run}
 use Rattle.hashlink_run.proofs.Answering.{HasAnswered-none, HasAnswered-more, HasAnswered-all}
 use Rattle.hashlink_run.proofs.running.run.Goals as goal
-
-pub returns-in_err-reply_total-clause-within_peak : goal.returns-in_err-reply_total-clause-within_peak
-returns-in_err-reply_total-clause-within_peak g c = λ answers run. stays_within_peak _ _ _ _ _ answers run
-
-pub returns-in_err-reply_total-clause-shorter : goal.returns-in_err-reply_total-clause-shorter
-returns-in_err-reply_total-clause-shorter g c = λ answers run. takes_keys_where_shorter _ _ _ _ _ answers run
-
-pub returns-in_err-replies-clause-within_peak : goal.returns-in_err-replies-clause-within_peak
-returns-in_err-replies-clause-within_peak g c = λ answers run. stays_within_peak _ _ _ _ _ answers run
-
-pub returns-in_err-replies-clause-shorter : goal.returns-in_err-replies-clause-shorter
-returns-in_err-replies-clause-shorter g c = λ answers run. takes_keys_where_shorter _ _ _ _ _ answers run
-
-pub returns-in_err-answer_command-clause-within_peak : goal.returns-in_err-answer_command-clause-within_peak
-returns-in_err-answer_command-clause-within_peak g c = λ answers run. stays_within_peak _ _ _ _ _ answers run
-
-pub returns-in_err-answer_command-clause-shorter : goal.returns-in_err-answer_command-clause-shorter
-returns-in_err-answer_command-clause-shorter g c = λ answers run. takes_keys_where_shorter _ _ _ _ _ answers run
-
-pub returns-clause-within_peak : goal.returns-clause-within_peak
-returns-clause-within_peak g c = λ answers run. stays_within_peak _ _ _ _ _ answers run
-
-pub returns-clause-shorter : goal.returns-clause-shorter
-returns-clause-shorter g c = λ answers run. takes_keys_where_shorter _ _ _ _ _ answers run
 
 pub loop-command-init : goal.loop-command-init
 loop-command-init g c =
@@ -64,5 +41,8 @@ returns-in_err-answer_command-clause-refused g c =
 pub returns-clause-ran : goal.returns-clause-ran
 returns-clause-ran g c =
     let left = c.loop-command.command-iterator in
-    HasAnswered-all _ (into_iter_items left) (sym left.rest.ok.0
-    ∙ c.in-None.ensures.steps.0) c.loop-command.invariant.0
+    lawful_run _ _ _ _ _ _ _ (HasAnswered-all _ (into_iter_items left) (sym left.rest.ok.0
+    ∙ c.in-None.ensures.steps.0) c.loop-command.invariant.0)
+
+pub returns-clause-spare : goal.returns-clause-spare
+returns-clause-spare g c = spare_at_the_end _ _ _ _ _ _ _ (returns-clause-ran g c).runs

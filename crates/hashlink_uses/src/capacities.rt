@@ -1,0 +1,46 @@
+//! What a larger or a smaller capacity of a cache is worth.
+ghost use Rattle.std.specs.Prelude.{◌≡◌, ◌≤◌, ◌+◌, ◌-◌, ◌*◌, ℕ, List, map, IfOk, count_by, is_none};
+ghost use Rattle.hashlink.specs.Cached.{entries_in};
+ghost use Rattle.hashlink.specs.History.{Schedule, misses};
+ghost use Rattle.hashlink.specs.Inclusion.{IsEndOf, SameKey};
+
+use hashlink::LruCache;
+use hashlink::run::{Pair, PairCommand, run_pair, run_uses};
+use std::alloc::{AllocError, Global};
+use std::hash::Hash;
+
+/// Gives the commands to a smaller and to a larger cache. The smaller one holds an end of the larger one's keys.
+pub fn two_caches<K: Eq + Hash + Copy, V: Copy>(
+    alloc: Global,
+    small: usize,
+    large: usize,
+    commands: &[PairCommand<K, V>],
+) -> Result<(LruCache<K, V>, LruCache<K, V>), AllocError>
+    requires { small ≤ large }
+    ensures { IfOk result (λ caches. IsEndOf (SameKey K.eq) (entries_in caches.0) (entries_in caches.1)) }
+{
+    let Pair { small, large, .. } = run_pair(alloc, small, large, commands)?;
+    Ok((small, large))
+}
+
+/// How many of the uses miss in a cache of this capacity. With fewer places, however well they are filled, they miss
+/// not much more rarely.
+pub fn misses_in_a_cache<K: Eq + Hash + Copy, V: Copy>(
+    alloc: Global,
+    capacity: usize,
+    pairs: &[(K, V)],
+) -> Result<usize, AllocError>
+    ensures { IfOk result (λ missed. (places : ℕ) → 1 ≤ places → places ≤ capacity
+        → (held : List (List K)) → Schedule K.eq places (map (λ p. p.0) pairs.now) held
+        → (capacity - places + 1) * missed ≤ capacity * misses K.eq (map (λ p. p.0) pairs.now) held) }
+{
+    let uses = run_uses(alloc, capacity, pairs)?;
+    Ok(misses_among(&uses.replies))
+}
+
+// How many of the replies are `None`.
+fn misses_among<V>(replies: &[Option<V>]) -> usize
+    ensures { result ≡ count_by is_none replies.now }
+{
+    replies.iter().filter(|reply| reply.is_none()).count()
+}
