@@ -1,21 +1,22 @@
 -- What holds of every list of calls of caches that start empty.
 use Rattle.std.proofs.Common.{◌≡◌, ℕ, zero, suc, ◌+◌, ◌≤◌, Bool, cond, List, [], ◌∷◌, take, map, slice_get}
-use Rattle.std.proofs.Common.{Option, None, Some, is_some, is_none, refl, sym, ap, ap₂, ◌∙◌}
+use Rattle.std.proofs.Common.{Result, Ok, Err, OnOk, Option, None, Some, is_some, is_none, refl, sym, ap, ap₂, ◌∙◌}
 use Rattle.std.specs.Cmp.{IsEquivalence}
 use Rattle.std.specs.List.{count_by}
 use Rattle.std.specs.Map.{lookup, keys_of}
 use Rattle.std.proofs.lemmas.List.Sums.{sum_by-cons}
 use Rattle.std.proofs.lemmas.Option.{same_Some}
-use Rattle.hashlink_model.specs.Cache.{CacheState, cache_use, missed_uses}
+use Rattle.hashlink_model.specs.Cache.{CacheState, CacheUses, cache_use, missed_uses}
 use Rattle.hashlink_model.specs.CacheRuns.{CacheEvent, used_keys, answer_to, after_event, after_events, answers}
 use Rattle.hashlink_model.specs.Entries.{IsEntries}
 use Rattle.hashlink_model.proofs.CacheRuns.{keys_along, finds_along, entries_along, finds_the_same_along, holds_along}
 use Rattle.hashlink_model.proofs.CacheRuns.{answers_along, IsEntries-after_events}
+use Rattle.hashlink_model.proofs.CacheSteps.{uses_entries}
 use Rattle.hashlink_model.proofs.Distinct.{IsEntries-nil}
 use Rattle.hashlink_model.proofs.Competitive.{competitive, missed_uses-history}
-use Rattle.hashlink_model.proofs.Reuse.{held_exactly}
+use Rattle.hashlink_model.proofs.Reuse.{held_exactly, HoldsRecent-cache_use}
 use Rattle.hashlink_run.specs.CacheCalls.{RunsFromEmpty, use_of}
-use Rattle.hashlink_run.specs.CacheLaws.{Includes, FollowsHistory, BearsComparison}
+use Rattle.hashlink_run.specs.CacheLaws.{Includes, FollowsHistory, BearsComparison, UsedLast}
 
 module _ {K V : Type 0} (eq : K → K → Bool) where
   -- the answer to the call at the place n is what its key has after the calls before it
@@ -60,6 +61,12 @@ module _ {K V : Type 0} (eq : K → K → Bool) where
       found = λ n e reply none at is.
           ap is_some (answer_at c [] events n e reply at is) ∙ answers_along eq laws c (take n events) e none;
     }
+
+    pub use-recent : {S : Type 0} (old new : CacheState K V S) (k : K) (v : V) (r : Result (Option V) (K × V))
+        → CacheUses eq old new k v r → OnOk r (UsedLast eq old.cap old.map.entries k new.map.entries)
+    use-recent old new k v (Ok w) s = λ used h.
+        rw (uses_entries eq old new k v w s).1 (HoldsRecent-cache_use eq laws old.cap used old.map.entries k v h)
+    use-recent old new k v (Err pair) s = tt
 
     -- and so of the cache that calls have left, and of two of them
     module _ {S : Type 0} (s : S) (events : List (CacheEvent K V)) where

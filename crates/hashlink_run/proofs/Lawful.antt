@@ -1,5 +1,5 @@
 -- Runs along which the laws hold.
-use Rattle.std.proofs.Common.{◌≡◌, ℕ, ◌+◌, ◌≤◌, zero, Bool, List, length, take, sym, ◌∙◌, ap, subst, le_refl, arith}
+use Rattle.std.proofs.Common.{◌≡◌, ◌+◌, ◌≤◌, Bool, List, length, take, sym, ◌∙◌, subst, le_refl, arith}
 use Rattle.std.specs.List.{AllPass}
 use Rattle.std.proofs.lemmas.List.{take_all}
 use Rattle.hashlink_model.specs.Cache.{CacheState, IsWithin}

@@ -1,5 +1,5 @@
 -- While a node is spare no command to a map hands a pair back.
-use Rattle.std.proofs.Common.{◌≡◌, ℕ, zero, suc, ◌≤◌, Bool, true, false, List, [], ◌∷◌, ◌++◌, slice_get, Option, None}
+use Rattle.std.proofs.Common.{◌≡◌, ℕ, zero, suc, ◌≤◌, Bool, false, List, [], ◌∷◌, ◌++◌, slice_get, Option, None}
 use Rattle.std.proofs.Common.{Some, Result, Ok, Err, MatchOption, refl, ap, ◌∙◌, subst, arith}
 use Rattle.std.specs.Result.{result_map_both}
 use Rattle.std.specs.declared.alloc.AllocError.{AllocError}

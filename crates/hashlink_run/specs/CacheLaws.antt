@@ -1,5 +1,5 @@
 -- What holds of every list of calls of caches that start empty.
-use Rattle.std.specs.Prelude.{◌≡◌, ℕ, ◌+◌, ◌-◌, ◌*◌, ◌≤◌, Bool, ◌&&◌, List, [], take, nat_lt}
+use Rattle.std.specs.Prelude.{◌≡◌, ℕ, ◌+◌, ◌-◌, ◌*◌, ◌≤◌, Bool, ◌&&◌, List, [], ◌∷◌, ◌++◌, take, nat_lt}
 use Rattle.std.specs.Prelude.{Option, Some, is_some, is_none, slice_get}
 use Rattle.std.specs.List.{AllZip, count_by}
 use Rattle.std.specs.Map.{lookup}
@@ -11,6 +11,10 @@ use Rattle.hashlink_model.specs.Inclusion.{IsEndOf, SameKey, SameEntry, AlsoFind
 -- the key was used, and fewer than c others since
 abbrev pub is_recent : {K : Type 0} → (K → K → Bool) → ℕ → List K → K → Bool
 is_recent eq c used k = is_member eq used k && nat_lt (reuse_distance eq used k) c
+
+-- after a use of k: where the keys used last were held before, they are now, with k as the last of them
+abbrev pub UsedLast : {K V : Type 0} → (K → K → Bool) → ℕ → List (K × V) → K → List (K × V) → Type 0
+UsedLast {K} eq c old k new = (used : List K) → HoldsRecent eq c used old → HoldsRecent eq c (used ++ k ∷ []) new
 
 module _ {K V : Type 0} (eq : K → K → Bool) (events : List (CacheEvent K V)) where
   -- inclusion: what two caches hold after the calls, and what they answered to them. The keys of the smaller one are

@@ -1,11 +1,11 @@
 //! Calls of caches in turn, which end where memory runs out.
-ghost use Rattle.std.specs.Prelude.{◌≡◌, ◌≤◌, [], ◌∷◌, map, IfOk};
+ghost use Rattle.std.specs.Prelude.{◌≡◌, ◌≤◌, [], ◌∷◌, map, IfOk, OnOk};
 ghost use Rattle.hashlink_core.specs.Hashing.{default_builder};
 ghost use Rattle.hashlink_lru.specs.Cached.{entries_in, state_in};
 ghost use Rattle.hashlink_model.specs.Cache.{CacheUses};
 ghost use Rattle.hashlink_model.specs.Entries.{IsEntries};
 ghost use Rattle.hashlink_run.specs.CacheCalls.{EventStep, RunsFromEmpty, event_of, use_of};
-ghost use Rattle.hashlink_run.specs.CacheLaws.{Includes, FollowsHistory, BearsComparison};
+ghost use Rattle.hashlink_run.specs.CacheLaws.{BearsComparison, FollowsHistory, Includes, UsedLast};
 
 use hashlink_commands::PairCommand;
 use hashlink_lru::LruCache;
@@ -154,7 +154,9 @@ fn use_pair<K, V>(cache: &mut LruCache<K, V>, key: K, value: V) -> Result<Option
 where
     K: Eq + Hash + Copy,
     V: Copy,
-    ensures { CacheUses K.eq (state_in cache.old) (state_in cache.new) key value result }
+    ensures uses { CacheUses K.eq (state_in cache.old) (state_in cache.new) key value result }
+    ensures recent { OnOk result (UsedLast K.eq (state_in cache.old).cap (entries_in cache.old) key
+        (entries_in cache.new)) }
 {
     match cache.get(&key).copied() {
         Some(found) => Ok(Some(found)),
