@@ -1,0 +1,267 @@
+-- One more use of a key: which distance it has, and which caches miss it.
+use Rattle.std.proofs.Common.{◌≡◌, ℕ, zero, suc, ◌+◌, ◌-◌, ◌*◌, ◌≤◌, ◌<◌, Bool, true, false, ◌&&◌, ◌||◌, cond, List, []}
+use Rattle.std.proofs.Common.{◌∷◌, ◌++◌, length, drop, nat_lt, Option, None, Some, refl, sym, ap, ap₂, ◌∙◌, ◌⊎◌, inl, inr}
+use Rattle.std.proofs.Common.{subst, subst₂, arith, append_assoc, length-append, true≢false, get_or, set, add-zero}
+use Rattle.std.specs.Prelude.{sum}
+use Rattle.std.specs.Cmp.{IsEquivalence}
+use Rattle.std.specs.List.{AllByRecursion, AllZip, after_last, sum_by}
+use Rattle.std.specs.Set.{is_member, unique_keys, remove_key, distinct_count}
+use Rattle.std.proofs.Math.ListN.{length-set}
+use Rattle.std.proofs.Math.Seq.{drop-nil}
+use Rattle.std.proofs.lemmas.Bool.{both_ways}
+use Rattle.std.proofs.lemmas.Bool.Decides.{nat_tests}
+use Rattle.std.proofs.lemmas.List.{append-nil}
+use Rattle.std.proofs.lemmas.List.Sums.{sum_by-cons, sum_by-append}
+use Rattle.hashlink_model.specs.History.{reuse_distance, cache_misses, cache_misses_from}
+use Rattle.hashlink_model.proofs.Members.{is_member-append, none_from_is_member, is_member_from_none}
+use Rattle.hashlink_model.proofs.Recency.{zip_push, zip_length, remove_key-left, remove_key-right, is_member-unique}
+use Rattle.hashlink_model.proofs.Recency.{unique_keys-push, last_use, unique_keys-last, answers_alike, after_last-here}
+use Rattle.hashlink_curve.specs.Curve.{CurveState, Counted, distance_of, misses_at}
+use Rattle.hashlink_curve.specs.Recency.{MovesPast, GoesLast, Touches}
+
+-- ---- what a cache of c places misses of one use more
+
+module _ {K : Type 0} (eq : K → K → Bool) where
+  -- whether a cache of c places holds the key after these uses, and 1 where it does not
+  abbrev pub missed : ℕ → List K → K → ℕ
+  missed c used k = cond (is_member eq used k && nat_lt (reuse_distance eq used k) c) 0 1
+
+  misses_from-push : (c : ℕ) (before used : List K) (k : K)
+      → cache_misses_from eq c before (used ++ k ∷ []) ≡ cache_misses_from eq c before used + missed c (before ++ used) k
+  misses_from-push c before [] k =
+      let a = ap (λ zs. missed c zs k) (append-nil before) in
+      omega arith
+  misses_from-push c before (u ∷ used) k =
+      let h = misses_from-push c (before ++ u ∷ []) used k in
+      let a = ap (λ zs. missed c zs k) (append_assoc before (u ∷ []) used) in
+      omega arith
+
+  pub cache_misses-push : (c : ℕ) (used : List K) (k : K)
+      → cache_misses eq c (used ++ k ∷ []) ≡ cache_misses eq c used + missed c used k
+  cache_misses-push c used k = misses_from-push c [] used k
+
+  abbrev one_unless : Bool → ℕ
+  one_unless b = cond b 0 1
+
+  none_held : (b : Bool) (n : ℕ) → one_unless (b && nat_lt n 0) ≡ 1
+  none_held true n =
+      let no : nat_lt n 0 ≡ false = grind (arith, nat_tests) in
+      ap one_unless no
+  none_held false n = refl
+
+  misses_from-none : (before used : List K) → cache_misses_from eq 0 before used ≡ length used
+  misses_from-none before [] = refl
+  misses_from-none before (u ∷ used) =
+      let h = misses_from-none (before ++ u ∷ []) used in
+      let a : missed 0 before u ≡ 1 = none_held (is_member eq before u) (reuse_distance eq before u) in
+      omega arith
+
+  -- a cache without a place misses all
+  pub cache_misses-none : (used : List K) → cache_misses eq 0 used ≡ length used
+  cache_misses-none used = misses_from-none [] used
+
+-- ---- sums from a place on
+
+pub sum-drop-push : (c : ℕ) (ns : List ℕ) → sum (drop c (ns ++ 0 ∷ [])) ≡ sum (drop c ns)
+sum-drop-push zero [] = refl
+sum-drop-push (suc c) [] = ap sum (drop-nil c) ∙ sym (ap sum (drop-nil (suc c)))
+sum-drop-push zero (n ∷ ns) =
+    let a = sum_by-cons (λ (m : ℕ). m) n (ns ++ 0 ∷ []) in
+    let b = sum_by-cons (λ (m : ℕ). m) n ns in
+    let h : sum (ns ++ 0 ∷ []) ≡ sum ns = sum-drop-push zero ns in
+    omega arith
+sum-drop-push (suc c) (n ∷ ns) = sum-drop-push c ns
+
+abbrev unless_below : ℕ → ℕ → ℕ
+unless_below d c = cond (nat_lt d c) 0 1
+
+unless_below-none : (d : ℕ) → unless_below d 0 ≡ 1
+unless_below-none d =
+    let no : nat_lt d 0 ≡ false = grind (arith, nat_tests) in
+    ap (λ b. value_unless b) no
+  where
+    value_unless : Bool → ℕ
+    value_unless b = cond b 0 1
+
+unless_below-suc : (d c : ℕ) → unless_below (suc d) (suc c) ≡ unless_below d c
+unless_below-suc d c = grind (arith, nat_tests)
+
+unless_below-first : (c : ℕ) → unless_below 0 (suc c) ≡ 0
+unless_below-first c = grind (arith, nat_tests)
+
+sum-more : (d : ℕ) (ns : List ℕ) → d < length ns → sum (set ns d (get_or ns d 0 + 1)) ≡ sum ns + 1
+sum-more d [] l = absurd (omega arith)
+sum-more zero (n ∷ ns) l =
+    let a = sum_by-cons (λ (m : ℕ). m) (n + 1) ns in
+    let b = sum_by-cons (λ (m : ℕ). m) n ns in
+    omega arith
+sum-more (suc d) (n ∷ ns) l =
+    let a = sum_by-cons (λ (m : ℕ). m) n (set ns d (get_or ns d 0 + 1)) in
+    let b = sum_by-cons (λ (m : ℕ). m) n ns in
+    let h = sum-more d ns (omega arith) in
+    omega arith
+
+pub sum-drop-more : (c d : ℕ) (ns : List ℕ) → d < length ns
+    → sum (drop c (set ns d (get_or ns d 0 + 1))) ≡ sum (drop c ns) + cond (nat_lt d c) 0 1
+sum-drop-more c d [] l = absurd (omega arith)
+sum-drop-more zero d (n ∷ ns) l =
+    sum-more d (n ∷ ns) l ∙ ap (λ m. sum (n ∷ ns) + m) (sym (unless_below-none d))
+sum-drop-more (suc c) zero (n ∷ ns) l =
+    sym (add-zero (sum (drop c ns))) ∙ ap (λ m. sum (drop c ns) + m) (sym (unless_below-first c))
+sum-drop-more (suc c) (suc d) (n ∷ ns) l =
+    sum-drop-more c d ns (omega arith) ∙ ap (λ m. sum (drop c ns) + m) (sym (unless_below-suc d c))
+
+pub sum-drop-all : (c : ℕ) (ns : List ℕ) → length ns ≤ c → sum (drop c ns) ≡ 0
+sum-drop-all c [] l = ap sum (drop-nil c)
+sum-drop-all zero (n ∷ ns) l = absurd (omega arith)
+sum-drop-all (suc c) (n ∷ ns) l = sum-drop-all c ns (omega arith)
+
+pub sum-drop-falls : (c d : ℕ) (ns : List ℕ) → c ≤ d → sum (drop d ns) ≤ sum (drop c ns)
+sum-drop-falls c d [] l =
+    let a = ap sum (drop-nil {A = ℕ} c) in
+    let b = ap sum (drop-nil {A = ℕ} d) in
+    omega arith
+sum-drop-falls zero zero (n ∷ ns) l = omega arith
+sum-drop-falls (suc c) zero (n ∷ ns) l = absurd (omega arith)
+sum-drop-falls zero (suc d) (n ∷ ns) l =
+    let h : sum (drop d ns) ≤ sum ns = sum-drop-falls zero d ns (omega arith) in
+    let a = sum_by-cons (λ (m : ℕ). m) n ns in
+    first_falls (sum (drop d ns)) (sum ns) (sum (n ∷ ns)) n h a
+  where
+    first_falls : (a b c n : ℕ) → a ≤ b → c ≡ n + b → a ≤ c
+    first_falls a b c n l e = omega arith
+sum-drop-falls (suc c) (suc d) (n ∷ ns) l = sum-drop-falls c d ns (omega arith)
+
+-- ---- keys up to equality
+
+module _ {K : Type 0} (eq : K → K → Bool) (laws : IsEquivalence eq) where
+  abbrev Alike : List K → List K → Type 0
+  Alike xs ys = AllZip (λ a b. eq a b ≡ true) xs ys
+
+  zip_member : (k : K) (xs ys : List K) → Alike xs ys → is_member eq xs k ≡ is_member eq ys k
+  zip_member k [] [] z = refl
+  zip_member k [] (y ∷ ys) z = absurd z
+  zip_member k (x ∷ xs) [] z = absurd z
+  zip_member k (x ∷ xs) (y ∷ ys) z = ap₂ (λ b c. b || c) (answers_alike eq laws k x y z.0) (zip_member k xs ys z.1)
+
+  zip_remove : (k : K) (xs ys : List K) → Alike xs ys → Alike (remove_key (eq k) xs) (remove_key (eq k) ys)
+  zip_remove k [] [] z = z
+  zip_remove k [] (y ∷ ys) z = absurd z
+  zip_remove k (x ∷ xs) [] z = absurd z
+  zip_remove k (x ∷ xs) (y ∷ ys) z =
+      rw (answers_alike eq laws k x y z.0) (by (eq k y) (zip_remove k xs ys z.1))
+    where
+      by : (b : Bool) → Alike (remove_key (eq k) xs) (remove_key (eq k) ys)
+          → Alike (cond b xs (x ∷ remove_key (eq k) xs)) (cond b ys (y ∷ remove_key (eq k) ys))
+      by true h = z.1
+      by false h = (z.0, h)
+
+  or_true : (b : Bool) → (b || true) ≡ true
+  or_true true = refl
+  or_true false = refl
+
+  there : (k : K) (us : List K) (u : K) (vs : List K) → eq k u ≡ true → is_member eq (us ++ u ∷ vs) k ≡ true
+  there k us u vs s =
+      is_member-append eq laws us (u ∷ vs) k
+      ∙ ap (λ b. is_member eq us k || (b || is_member eq vs k)) s
+      ∙ or_true (is_member eq us k)
+
+  -- the last key that is equal to k stands at the same place of both
+  zip_behind : (k : K) (xs : List K) (x : K) (ys us : List K) (u : K) (vs : List K)
+      → Alike (xs ++ x ∷ ys) (us ++ u ∷ vs) → eq k x ≡ true → eq k u ≡ true
+      → is_member eq ys k ≡ false → is_member eq vs k ≡ false
+      → length ys ≡ length vs
+  zip_behind k [] x ys [] u vs z t s n m = zip_length _ ys vs z.1
+  zip_behind k [] x ys (a ∷ us) u vs z t s n m =
+      absurd (true≢false (sym (there k us u vs s) ∙ sym (zip_member k ys (us ++ u ∷ vs) z.1) ∙ n))
+  zip_behind k (a ∷ xs) x ys [] u vs z t s n m =
+      absurd (true≢false (sym (there k xs x ys t) ∙ zip_member k (xs ++ x ∷ ys) vs z.1 ∙ m))
+  zip_behind k (a ∷ xs) x ys (b ∷ us) u vs z t s n m = zip_behind k xs x ys us u vs z.1 t s n m
+
+  -- ---- the curve after one use more
+
+  distance_by : (used : List K) (k : K) (d : ℕ) → is_member eq used k ≡ true → reuse_distance eq used k ≡ d
+      → Some d ≡ distance_of eq used k
+  distance_by used k d m e =
+      sym (ap (λ b. cond b (Some (reuse_distance eq used k)) None) m ∙ ap Some e)
+
+  missed_by : (c : ℕ) (used : List K) (k : K) (b : Bool) (d : ℕ) → is_member eq used k ≡ b → reuse_distance eq used k ≡ d
+      → missed eq c used k ≡ cond (b && nat_lt d c) 0 1
+  missed_by c used k b d m e = ap₂ (λ b n. cond (b && nat_lt n c) 0 1) m e
+
+  pub Counted-absent : (used : List K) (old new : CurveState K) (k : K) → GoesLast eq old.keys new.keys k
+      → new.reuses ≡ old.reuses ++ 0 ∷ [] → Counted eq used old
+      → Counted eq (used ++ k ∷ []) new × (None ≡ distance_of eq used k)
+  Counted-absent used old new k g n h =
+      let absent : is_member eq (unique_keys eq used) k ≡ false
+      = sym (zip_member k old.keys (unique_keys eq used) h.keys) ∙ g.absent in
+      let unused : is_member eq used k ≡ false = sym (is_member-unique eq laws used k) ∙ absent in
+      let unique : unique_keys eq (used ++ k ∷ []) ≡ unique_keys eq used ++ k ∷ []
+      = unique_keys-push eq laws used k
+      ∙ ap (λ zs. zs ++ k ∷ []) (remove_key-left eq laws k [] (unique_keys eq used) absent) in (
+        record {
+          keys = subst₂ Alike (sym g.last) (sym unique)
+              (zip_push _ old.keys (unique_keys eq used) k k h.keys (laws.refl k));
+          misses = λ c.
+              let a = cache_misses-push eq c used k in
+              let b : missed eq c used k ≡ 1
+              = missed_by c used k false (reuse_distance eq used k) unused refl in
+              let d = h.misses c in
+              let e = ap length g.last in
+              let f = length-append old.keys (k ∷ []) in
+              let i = ap (λ zs. sum (drop c zs)) n in
+              let j = sum-drop-push c old.reuses in
+              omega arith;
+        },
+        sym (ap (λ b. cond b (Some (reuse_distance eq used k)) None) unused),
+      )
+
+  pub Counted-again : (used : List K) (old new : CurveState K) (k : K) (d : ℕ)
+      → MovesPast eq old.keys new.keys k d → length old.reuses ≡ length old.keys
+      → new.reuses ≡ set old.reuses d (get_or old.reuses d 0 + 1) → Counted eq used old
+      → Counted eq (used ++ k ∷ []) new × (Some d ≡ distance_of eq used k)
+  Counted-again used old new k d p long n h =
+      let split = subst (λ zs. Alike zs (unique_keys eq used)) p.split h.keys in
+      let held : is_member eq (unique_keys eq used) k ≡ true
+      = sym (zip_member k (p.front ++ p.key ∷ p.back) (unique_keys eq used) split) ∙ there k p.front p.key p.back p.equal
+      in
+      let used_before : is_member eq used k ≡ true = sym (is_member-unique eq laws used k) ∙ held in
+      let s = last_use eq laws used k used_before in
+      let u = unique_keys-last eq laws k s.0 s.1 s.2 s.3.equal s.3.after in
+      let all : unique_keys eq used ≡ u.0 ++ s.1 ∷ unique_keys eq s.2 = ap (unique_keys eq) s.3.is ∙ u.1 in
+      let since : reuse_distance eq used k ≡ length (unique_keys eq s.2)
+      = ap (λ zs. distinct_count eq (after_last (eq k) zs)) s.3.is
+      ∙ ap (distinct_count eq) (after_last-here eq laws k s.0 s.1 s.2 s.3.equal s.3.after) in
+      let behind = zip_behind k p.front p.key p.back u.0 s.1 (unique_keys eq s.2) (subst (Alike _) all split) p.equal
+      s.3.equal p.none_after (is_member-unique eq laws s.2 k ∙ is_member_from_none eq laws s.2 k s.3.after) in
+      let distance : reuse_distance eq used k ≡ d = since ∙ sym behind ∙ sym p.count in
+      let removed : remove_key (eq k) (p.front ++ p.key ∷ p.back) ≡ p.front ++ p.back
+      = remove_key-right eq laws k p.front (p.key ∷ p.back) (none_from_is_member eq laws p.front k p.none_before)
+      ∙ ap (λ b. p.front ++ cond b p.back (p.key ∷ remove_key (eq k) p.back)) p.equal in
+      let others = subst (λ zs. Alike zs (remove_key (eq k) (unique_keys eq used))) removed
+      (zip_remove k (p.front ++ p.key ∷ p.back) (unique_keys eq used) split) in (
+        record {
+          keys = subst₂ Alike (sym p.moved) (sym (unique_keys-push eq laws used k))
+              (zip_push _ (p.front ++ p.back) (remove_key (eq k) (unique_keys eq used)) p.key k others
+              (laws.symm p.key k ∙ p.equal));
+          misses = λ c.
+              let a = cache_misses-push eq c used k in
+              let b : missed eq c used k ≡ unless_below d c = missed_by c used k true d used_before distance in
+              let e = h.misses c in
+              let f = ap length p.moved in
+              let f2 = length-append (p.front ++ p.back) (p.key ∷ []) in
+              let f3 = length-append p.front p.back in
+              let g = ap length p.split in
+              let g2 = length-append p.front (p.key ∷ p.back) in
+              let i = ap (λ zs. sum (drop c zs)) n in
+              let q = p.count in
+              let j : sum (drop c (set old.reuses d (get_or old.reuses d 0 + 1))) ≡ sum (drop c old.reuses) + unless_below d c
+              = sum-drop-more c d old.reuses (omega arith) in
+              omega arith;
+        },
+        distance_by used k d used_before distance,
+      )
+
+  -- every use is a miss or a reuse
+  pub Counted-accesses : (used : List K) (s : CurveState K) → Counted eq used s → misses_at s 0 ≡ length used
+  Counted-accesses used s h = h.misses 0 ∙ cache_misses-none eq used

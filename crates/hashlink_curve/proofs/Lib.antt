@@ -1,0 +1,5 @@
+-- Lemmas on trees of sums, on places and on histories.
+pub mod Climbs
+pub mod Histories
+pub mod Placing
+pub mod Sums

@@ -1,0 +1,380 @@
+-- Keys at rising places: what a use of one finds, and new places for all.
+use Rattle.std.proofs.Common.{◌≡◌, ℕ, zero, suc, ◌+◌, ◌-◌, ◌≤◌, ◌<◌, ◌^◌, Bool, true, false, cond, List, [], ◌∷◌, ◌++◌}
+use Rattle.std.proofs.Common.{length, Option, None, Some, Ok, Err, refl, sym, ap, ap₂, ◌∙◌, subst, arith, append_assoc}
+use Rattle.std.proofs.Common.{length-append, get_or, subst₂, ◌||◌}
+use Rattle.std.specs.Prelude.{nat_eq, nat_lt, map}
+use Rattle.std.specs.Cmp.{IsEquivalence}
+use Rattle.std.specs.List.{count_by}
+use Rattle.std.specs.Map.{lookup, keys_of, values_of}
+use Rattle.std.specs.Set.{is_member}
+use Rattle.std.proofs.lemmas.Bool.Decides.{nat_tests}
+use Rattle.std.proofs.lemmas.List.{append-nil, map-append, length-map}
+use Rattle.std.proofs.lemmas.Map.{NonePasses}
+use Rattle.std.proofs.lemmas.Option.{none-some, same_Some}
+use Rattle.hashlink_model.specs.Entries.{IsEntries, put}
+use Rattle.hashlink_model.specs.MapState.{MapState, Inserts}
+use Rattle.hashlink_model.specs.Steps.{PopsFront}
+use Rattle.hashlink_model.specs.Walk.{first_of, after_first_of}
+use Rattle.hashlink_model.proofs.Splits.{StandsAt, stands_from_lookup, lookup-none, lookup-here, none_from_lookup}
+use Rattle.hashlink_model.proofs.Distinct.{IsEntries-head, none_equal, none_others}
+use Rattle.hashlink_model.proofs.Puts.{put_back_absent, put_back_here}
+use Rattle.hashlink_curve.specs.Marks.{Tree, Marked}
+use Rattle.hashlink_curve.specs.Recency.{Rises, IsPlaced, MovesPast, GoesLast}
+use Rattle.hashlink_curve.proofs.Climbs.{count_by-middle}
+use Rattle.hashlink_curve.proofs.Sums.{count_by-cons}
+
+module _ {K : Type 0} where
+  -- ---- rising places
+
+  rises_first : (low : ℕ) (xs : List (K × ℕ)) (e : K × ℕ) (ys : List (K × ℕ)) (next : ℕ) → Rises low (xs ++ e ∷ ys) next
+      → low ≤ e.1
+  rises_first low [] e ys next r = r.0
+  rises_first low (x ∷ xs) e ys next r =
+      let a = r.0 in
+      let b = rises_first (x.1 + 1) xs e ys next r.1 in
+      omega arith
+
+  pub rises_ends : (low : ℕ) (es : List (K × ℕ)) (next : ℕ) → Rises low es next → low ≤ next
+  rises_ends low [] next r = r
+  rises_ends low (x ∷ es) next r =
+      let a = r.0 in
+      let b = rises_ends (x.1 + 1) es next r.1 in
+      omega arith
+
+  rises_lower : (low high : ℕ) (es : List (K × ℕ)) (next : ℕ) → low ≤ high → Rises high es next → Rises low es next
+  rises_lower low high [] next l r = omega arith
+  rises_lower low high (x ∷ es) next l r = let a = r.0 in (omega arith, r.1)
+
+  pub rises_below : (low : ℕ) (xs : List (K × ℕ)) (e : K × ℕ) (ys : List (K × ℕ)) (next : ℕ)
+      → Rises low (xs ++ e ∷ ys) next → e.1 < next
+  rises_below low [] e ys next r = let a = rises_ends (e.1 + 1) ys next r.1 in omega arith
+  rises_below low (x ∷ xs) e ys next r = rises_below (x.1 + 1) xs e ys next r.1
+
+  pub rises_push : (low : ℕ) (es : List (K × ℕ)) (k : K) (next : ℕ) → Rises low es next
+      → Rises low (es ++ (k, next) ∷ []) (next + 1)
+  rises_push low [] k next r = (r, omega arith)
+  rises_push low (x ∷ es) k next r = (r.0, rises_push (x.1 + 1) es k next r.1)
+
+  pub rises_middle : (low : ℕ) (xs : List (K × ℕ)) (e : K × ℕ) (ys : List (K × ℕ)) (next : ℕ)
+      → Rises low (xs ++ e ∷ ys) next → Rises low (xs ++ ys) next
+  rises_middle low [] e ys next r = let a = r.0 in rises_lower low (e.1 + 1) ys next (omega arith) r.1
+  rises_middle low (x ∷ xs) e ys next r = (r.0, rises_middle (x.1 + 1) xs e ys next r.1)
+
+  none_below : (low x : ℕ) (es : List (K × ℕ)) (next : ℕ) → Rises low es next → x ≤ low
+      → count_by (λ p. nat_lt p x) (values_of es) ≡ 0
+  none_below low x [] next r l = refl
+  none_below low x (e ∷ es) next r l =
+      let a = r.0 in
+      let no : nat_lt e.1 x ≡ false = grind (arith, nat_tests) in
+      let n = ap one_if no in
+      let b = none_below (e.1 + 1) x es next r.1 (omega arith) in
+      let d = count_by-cons (λ p. nat_lt p x) e.1 (values_of es) in
+      omega arith
+    where
+      one_if : Bool → ℕ
+      one_if b = cond b 1 0
+
+  count_before : (low : ℕ) (xs : List (K × ℕ)) (e : K × ℕ) (ys : List (K × ℕ)) (next : ℕ)
+      → Rises low (xs ++ e ∷ ys) next → count_by (λ p. nat_lt p e.1) (values_of (xs ++ e ∷ ys)) ≡ length xs
+  count_before low [] e ys next r =
+      let a = none_below e.1 e.1 (e ∷ ys) next (omega arith, r.1) (omega arith) in a
+  count_before low (x ∷ xs) e ys next r =
+      let a = rises_first (x.1 + 1) xs e ys next r.1 in
+      let yes : nat_lt x.1 e.1 ≡ true = grind (arith, nat_tests) in
+      let n = ap one_if yes in
+      let b = count_before (x.1 + 1) xs e ys next r.1 in
+      let d = count_by-cons (λ p. nat_lt p e.1) x.1 (values_of (xs ++ e ∷ ys)) in
+      omega arith
+    where
+      one_if : Bool → ℕ
+      one_if b = cond b 1 0
+
+  pub values_of-middle : (xs : List (K × ℕ)) (e : K × ℕ) (ys : List (K × ℕ))
+      → values_of (xs ++ e ∷ ys) ≡ values_of xs ++ e.1 ∷ values_of ys
+  values_of-middle xs e ys = map-append (λ e. e.1) xs (e ∷ ys)
+
+  is_member-keys : (eq : K → K → Bool) (k : K) (es : List (K × ℕ)) → NonePasses (eq k) es
+      → is_member eq (keys_of es) k ≡ false
+  is_member-keys eq k [] n = refl
+  is_member-keys eq k (e ∷ es) n = ap₂ (λ a b. a || b) n.0 (is_member-keys eq k es n.1)
+
+  keys_of-append : (xs ys : List (K × ℕ)) → keys_of (xs ++ ys) ≡ keys_of xs ++ keys_of ys
+  keys_of-append xs ys = map-append (λ e. e.0) xs ys
+
+  none_right : (test : K → Bool) (xs ys : List (K × ℕ)) → NonePasses test (xs ++ ys) → NonePasses test ys
+  none_right test [] ys n = n
+  none_right test (x ∷ xs) ys n = none_right test xs ys n.1
+
+-- ---- a use of a key
+
+module _ {K : Type 0} (eq : K → K → Bool) (laws : IsEquivalence eq) where
+  -- the entry of a key that is there, and what the marks say of its place
+  pub record Found (es : List (K × ℕ)) (tree : Tree) (next : ℕ) (k : K) (place : ℕ) : Type 0 where
+    pub front : List (K × ℕ)
+    pub key : K
+    pub back : List (K × ℕ)
+    pub is : es ≡ front ++ (key, place) ∷ back
+    pub equal : eq k key ≡ true
+    pub none : NonePasses (eq k) front
+    pub none_after : NonePasses (eq k) back
+    pub below : place < next
+    pub before : count_by (λ p. nat_lt p place) (values_of es) ≡ length front
+    pub values : values_of es ≡ values_of front ++ place ∷ values_of back
+    pub marked : 0 < get_or tree.sums (tree.width + place) 0
+
+  pub found : (es : List (K × ℕ)) (tree : Tree) (next : ℕ) (k : K) (place : ℕ) → IsPlaced eq es tree next
+      → lookup (eq k) es ≡ Some place → Found es tree next k place
+  found es tree next k place p l =
+      let s = stands_from_lookup (eq k) es place l in
+      let at : s.1.1 ≡ place
+      = same_Some s.1.1 place (sym (lookup-here (eq k) s.1 s.2 s.3.passes s.0 s.3.before) ∙ ap (lookup (eq k)) (sym s.3.is) ∙ l)
+      in
+      let is : es ≡ s.0 ++ (s.1.0, place) ∷ s.2 = s.3.is ∙ ap (λ n. s.0 ++ (s.1.0, n) ∷ s.2) at in
+      let e : K × ℕ = (s.1.0, place) in
+      let r = subst (λ zs. Rises 0 zs next) is p.rises in
+      let others = none_others eq laws s.0 e s.2 (subst (IsEntries eq) is p.distinct) in
+      let values = ap values_of is ∙ values_of-middle s.0 e s.2 in
+      let below = rises_below 0 s.0 e s.2 next r in
+      let w = p.within in
+      let each = p.marked.each place (omega arith) in
+      let here = ap (count_by (nat_eq place)) values in
+      let more = count_by-middle (nat_eq place) (values_of s.0) place (values_of s.2) in
+      let yes : nat_eq place place ≡ true = grind (arith, nat_tests) in
+      let one = ap one_if yes in
+      record {
+        front = s.0;
+        key = s.1.0;
+        back = s.2;
+        is = is;
+        equal = s.3.passes;
+        none = s.3.before;
+        none_after = none_equal eq laws s.1.0 k s.2 (laws.symm s.1.0 k ∙ s.3.passes) (none_right (eq s.1.0) s.0 s.2 others);
+        below = below;
+        before = ap (λ zs. count_by (λ p. nat_lt p place) (values_of zs)) is ∙ count_before 0 s.0 e s.2 next r;
+        values = values;
+        marked = omega arith;
+      }
+    where
+      one_if : Bool → ℕ
+      one_if b = cond b 1 0
+
+  -- after it the key is the last, at the next place
+  pub found_moves : (es new : List (K × ℕ)) (tree : Tree) (next : ℕ) (k : K) (place others : ℕ)
+      → (f : Found es tree next k place) → new ≡ put eq es k next (length es) → others ≡ length es - 1 - length f.front
+      → MovesPast eq (keys_of es) (keys_of new) k others
+  found_moves es new tree next k place others f n o =
+      let e : K × ℕ = (f.key, place) in
+      let there : new ≡ (f.front ++ f.back) ++ (f.key, next) ∷ []
+      = n ∙ ap (λ zs. put eq zs k next (length zs)) f.is ∙ put_back_here eq f.front e f.back k next f.equal f.none in
+      let a = ap length f.is in
+      let d = length-append f.front (e ∷ f.back) in
+      let m = length-map f.back (λ e. e.0) in
+      record {
+        front = keys_of f.front;
+        key = f.key;
+        back = keys_of f.back;
+        split = ap keys_of f.is ∙ keys_of-append f.front (e ∷ f.back);
+        equal = f.equal;
+        none_before = is_member-keys eq k f.front f.none;
+        none_after = is_member-keys eq k f.back f.none_after;
+        moved = ap keys_of there ∙ keys_of-append (f.front ++ f.back) ((f.key, next) ∷ [])
+            ∙ ap (λ zs. zs ++ f.key ∷ []) (keys_of-append f.front f.back);
+        count = omega arith;
+      }
+
+  pub found_placed : (es new : List (K × ℕ)) (tree after : Tree) (next : ℕ) (k : K) (place : ℕ) → IsPlaced eq es tree next
+      → (f : Found es tree next k place) → new ≡ put eq es k next (length es) → IsEntries eq new
+      → Marked after ((values_of f.front ++ values_of f.back) ++ next ∷ [])
+      → next < after.width
+      → IsPlaced eq new after (next + 1)
+  found_placed es new tree after next k place p f n d m w =
+      let e : K × ℕ = (f.key, place) in
+      let there : new ≡ (f.front ++ f.back) ++ (f.key, next) ∷ []
+      = n ∙ ap (λ zs. put eq zs k next (length zs)) f.is ∙ put_back_here eq f.front e f.back k next f.equal f.none in
+      let r = rises_middle 0 f.front e f.back next (subst (λ zs. Rises 0 zs next) f.is p.rises) in
+      let few = p.few in
+      let a = ap length f.is in
+      let a2 = length-append f.front (e ∷ f.back) in
+      let b = ap length there in
+      let b2 = length-append (f.front ++ f.back) ((f.key, next) ∷ []) in
+      let b3 = length-append f.front f.back in
+      record {
+        distinct = d;
+        rises = subst (λ zs. Rises 0 zs (next + 1)) (sym there) (rises_push 0 (f.front ++ f.back) f.key next r);
+        marked = subst (Marked after)
+            (ap (λ zs. zs ++ next ∷ []) (sym (map-append (λ e. e.1) f.front f.back))
+            ∙ sym (map-append (λ e. e.1) (f.front ++ f.back) ((f.key, next) ∷ [])) ∙ ap values_of (sym there))
+            m;
+        within = omega arith;
+        few = omega arith;
+      }
+
+  pub absent_last : (es new : List (K × ℕ)) (k : K) (next : ℕ) → lookup (eq k) es ≡ None
+      → new ≡ put eq es k next (length es) → GoesLast eq (keys_of es) (keys_of new) k
+  absent_last es new k next l n =
+      let none = none_from_lookup (eq k) es l in
+      record {
+        absent = is_member-keys eq k es none;
+        last = ap keys_of (n ∙ put_back_absent eq es k next none) ∙ keys_of-append es ((k, next) ∷ []);
+      }
+
+  pub absent_placed : (es new : List (K × ℕ)) (tree after : Tree) (k : K) (next : ℕ) → IsPlaced eq es tree next
+      → lookup (eq k) es ≡ None → new ≡ put eq es k next (length es) → IsEntries eq new → length es < 2 ^ 63
+      → Marked after (values_of es ++ next ∷ []) → next < after.width
+      → IsPlaced eq new after (next + 1)
+  absent_placed es new tree after k next p l n d few m w =
+      let there = n ∙ put_back_absent eq es k next (none_from_lookup (eq k) es l) in
+      let b = ap length there in
+      let b2 = length-append es ((k, next) ∷ []) in
+      record {
+        distinct = d;
+        rises = subst (λ zs. Rises 0 zs (next + 1)) (sym there) (rises_push 0 es k next p.rises);
+        marked = subst (Marked after)
+            (sym (map-append (λ e. e.1) es ((k, next) ∷ [])) ∙ ap values_of (sym there)) m;
+        within = omega arith;
+        few = omega arith;
+      }
+
+-- ---- new places for all
+
+abbrev pub numbered : {K : Type 0} → ℕ → List (K × ℕ) → List (K × ℕ)
+numbered n [] = []
+numbered n (e ∷ es) = (e.0, n) ∷ numbered (n + 1) es
+
+module _ {K : Type 0} where
+  numbered-push : (n : ℕ) (es : List (K × ℕ)) (e : K × ℕ)
+      → numbered n (es ++ e ∷ []) ≡ numbered n es ++ (e.0, n + length es) ∷ []
+  numbered-push n [] e = ap (λ m. (e.0, m) ∷ []) (omega arith)
+  numbered-push n (x ∷ es) e =
+      let more : n + 1 + length es ≡ n + length (x ∷ es) = omega arith in
+      ap (λ zs. (x.0, n) ∷ zs)
+      (numbered-push (n + 1) es e ∙ ap (λ m. numbered (n + 1) es ++ (e.0, m) ∷ []) more)
+
+  pub length-numbered : (n : ℕ) (es : List (K × ℕ)) → length (numbered n es) ≡ length es
+  length-numbered n [] = refl
+  length-numbered n (x ∷ es) = ap suc (length-numbered (n + 1) es)
+
+  keys_of-numbered : (n : ℕ) (es : List (K × ℕ)) → keys_of (numbered n es) ≡ keys_of es
+  keys_of-numbered n [] = refl
+  keys_of-numbered n (x ∷ es) = ap (λ ks. x.0 ∷ ks) (keys_of-numbered (n + 1) es)
+
+  numbered-rises : (n m : ℕ) (es : List (K × ℕ)) → m ≡ n + length es → Rises n (numbered n es) m
+  numbered-rises n m [] e = omega arith
+  numbered-rises n m (x ∷ es) e = (omega arith, numbered-rises (n + 1) m es (omega arith))
+
+  -- so many entries got their place and went last
+  pub record Renumbers (eq : K → K → Bool) (old es : List (K × ℕ)) (tree : Tree) (place : ℕ) : Type 0 where
+    pub done : List (K × ℕ)
+    pub left : List (K × ℕ)
+    pub split : old ≡ done ++ left
+    pub count : length done ≡ place
+    pub is : es ≡ left ++ numbered 0 done
+    pub marked : Marked tree (values_of (numbered 0 done))
+    pub distinct : IsEntries eq es
+
+  pub Renumbers-start : (eq : K → K → Bool) (old : List (K × ℕ)) (tree : Tree) → Marked tree [] → IsEntries eq old
+      → Renumbers eq old old tree 0
+  Renumbers-start eq old tree m d =
+      record {
+        done = [];
+        left = old;
+        split = refl;
+        count = refl;
+        is = sym (append-nil old);
+        marked = m;
+        distinct = d;
+      }
+
+  -- what is first, and what is left behind it
+  pub Renumbers-next : (eq : K → K → Bool) (old es : List (K × ℕ)) (tree : Tree) (place : ℕ)
+      → (r : Renumbers eq old es tree place) → place < length old
+      → (e : K × ℕ) × (left : List (K × ℕ)) × (r.left ≡ e ∷ left)
+  Renumbers-next eq old es tree place r l =
+      let a = ap length r.split in
+      let b = length-append r.done r.left in
+      let d = r.count in
+      by r.left (omega arith)
+    where
+      by : (zs : List (K × ℕ)) → 0 < length zs → (e : K × ℕ) × (left : List (K × ℕ)) × (zs ≡ e ∷ left)
+      by [] l = absurd (omega arith)
+      by (z ∷ zs) l = (z, zs, refl)
+
+  -- the first entry is there
+  pub Renumbers-pops : (eq : K → K → Bool) (old es : List (K × ℕ)) (tree : Tree) (place : ℕ)
+      → Renumbers eq old es tree place → place < length old → first_of es ≡ None → ⊥
+  Renumbers-pops eq old es tree place r l n =
+      let s = Renumbers-next eq old es tree place r l in
+      let some : first_of es ≡ Some s.0 = ap first_of (r.is ∙ ap (λ zs. zs ++ numbered 0 r.done) s.2) in
+      none-some s.0 (sym n ∙ some)
+
+  pub Renumbers-step : {S : Type 0} (eq : K → K → Bool) (laws : IsEquivalence eq) (old : List (K × ℕ))
+      (a b c : MapState K ℕ S) (tree after : Tree) (place : ℕ) (key : K) (v : ℕ) (w : Option ℕ)
+      → Renumbers eq old a.entries tree place → place < length old
+      → PopsFront a b (Some (key, v)) → Inserts eq b c key place (length b.entries) (Ok w) → IsEntries eq c.entries
+      → ((xs ys : List ℕ) → Marked tree (xs ++ ys) → Marked after (xs ++ place ∷ ys))
+      → Renumbers eq old c.entries after (place + 1)
+  Renumbers-step {S} eq laws old a b c tree after place key v w r l p i d m =
+      let s = Renumbers-next eq old a.entries tree place r l in
+      let e = s.0 in
+      let left = s.1 in
+      let es : a.entries ≡ e ∷ (left ++ numbered 0 r.done) = r.is ∙ ap (λ zs. zs ++ numbered 0 r.done) s.2 in
+      let same : (key, v) ≡ e = same_Some (key, v) e (p.answer ∙ ap first_of es) in
+      let rest : b.entries ≡ left ++ numbered 0 r.done = p.step.entries ∙ ap after_first_of es in
+      let none : NonePasses (eq key) b.entries
+      = subst₂ (λ k zs. NonePasses (eq k) zs) (ap (λ (q : K × ℕ). q.0) (sym same)) (sym rest)
+      (IsEntries-head eq e (left ++ numbered 0 r.done) (subst (IsEntries eq) es r.distinct)) in
+      let is : c.entries ≡ b.entries ++ (key, place) ∷ [] = by w none i in
+      let count = r.count in
+      let pushed : numbered 0 (r.done ++ e ∷ []) ≡ numbered 0 r.done ++ (key, place) ∷ []
+      = numbered-push 0 r.done e ∙ ap₂ (λ k n. numbered 0 r.done ++ (k, n) ∷ []) (ap (λ (q : K × ℕ). q.0) (sym same)) (omega arith)
+      in
+      record {
+        done = r.done ++ e ∷ [];
+        left = left;
+        split = r.split ∙ ap (λ zs. r.done ++ zs) s.2 ∙ sym (append_assoc r.done (e ∷ []) left);
+        count = omega (arith, length-append r.done (e ∷ []));
+        is = is ∙ ap (λ zs. zs ++ (key, place) ∷ []) rest ∙ append_assoc left (numbered 0 r.done) ((key, place) ∷ [])
+            ∙ ap (λ zs. left ++ zs) (sym pushed);
+        marked = subst (Marked after)
+            (sym (map-append (λ e. e.1) (numbered 0 r.done) ((key, place) ∷ [])) ∙ ap values_of (sym pushed))
+            (m (values_of (numbered 0 r.done)) [] (subst (Marked tree) (sym (append-nil _)) r.marked));
+        distinct = d;
+      }
+    where
+      by : (w : Option ℕ) → NonePasses (eq key) b.entries → Inserts eq b c key place (length b.entries) (Ok w)
+          → c.entries ≡ b.entries ++ (key, place) ∷ []
+      by None n i = i.adds.entries ∙ put_back_absent eq b.entries key place n
+      by (Some old) n i = absurd (none-some old (sym (lookup-none (eq key) b.entries n) ∙ i.old_value))
+
+  -- the node that was freed serves the key again
+  pub Renumbers-inserts : {S : Type 0} (eq : K → K → Bool) (a b c : MapState K ℕ S) (place : ℕ) (key : K) (v : ℕ)
+      (pair : K × ℕ) → PopsFront a b (Some (key, v))
+      → Inserts eq b c key place (length b.entries) (Err pair) → ⊥
+  Renumbers-inserts eq a b c place key v pair p i =
+      let s = p.step.spare in
+      let n = i.may_refuse.no_spare in
+      omega arith
+
+  -- all have got one
+  pub Renumbers-end : (eq : K → K → Bool) (old es : List (K × ℕ)) (tree : Tree) (place : ℕ)
+      → Renumbers eq old es tree place → place ≡ length old
+      → (es ≡ numbered 0 old) × Marked tree (values_of es) × Rises 0 es (length es) × (keys_of es ≡ keys_of old)
+      × (length es ≡ length old)
+  Renumbers-end eq old es tree place r e =
+      let a = ap length r.split in
+      let b = length-append r.done r.left in
+      let d = r.count in
+      let none = nil r.left (omega arith) in
+      let all : old ≡ r.done = r.split ∙ ap (λ zs. r.done ++ zs) none ∙ append-nil r.done in
+      let is : es ≡ numbered 0 old = r.is ∙ ap₂ (λ zs ws. zs ++ numbered 0 ws) none (sym all) in
+      let long = ap length is ∙ length-numbered 0 old in (
+        is,
+        subst (Marked tree) (ap (λ zs. values_of (numbered 0 zs)) (sym all) ∙ ap values_of (sym is)) r.marked,
+        subst (λ zs. Rises 0 zs (length es)) (sym is) (numbered-rises 0 (length es) old (omega arith)),
+        ap keys_of is ∙ keys_of-numbered 0 old,
+        long,
+      )
+    where
+      nil : (zs : List (K × ℕ)) → length zs ≡ 0 → zs ≡ []
+      nil [] l = refl
+      nil (z ∷ zs) l = absurd (omega arith)

@@ -1,0 +1,6 @@
+use Rattle.std.proofs.Common.{take}
+use Rattle.hashlink_curve.specs.Curve.{Counted}
+use Rattle.hashlink_curve.proofs.curve.miss_curve.Given as goal
+
+abbrev pub invariant-loop-key : goal.invariant-loop-key
+invariant-loop-key g l = Counted g.K.PartialEq.eq (take l.key-index l.keys) l.curve

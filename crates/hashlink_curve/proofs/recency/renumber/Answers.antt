@@ -1,0 +1,69 @@
+use Rattle.std.proofs.Common.{◌≡◌, ◌≤◌, ◌<◌, ◌+◌, ◌*◌, ◌^◌, ℕ, List, length, sym, ap, ◌∙◌, subst, arith, Ok, Some, None}
+use Rattle.std.specs.Map.{keys_of, values_of}
+use Rattle.std.proofs.lemmas.Map.Entries.{length-values_of}
+use Rattle.hashlink_core.specs.Keyed.{entries_of, state_of}
+use Rattle.hashlink_curve.specs.Marks.{Marked}
+use Rattle.hashlink_curve.specs.Recency.{IsPlaced}
+use Rattle.hashlink_curve.proofs.Placing.{Renumbers, Renumbers-start, Renumbers-step, Renumbers-pops, Renumbers-inserts}
+use Rattle.hashlink_curve.proofs.Placing.{Renumbers-end, numbered, length-numbered}
+use Rattle.hashlink_curve.proofs.recency.renumber.Goals as goal
+
+pub mark-requires-clause-few : goal.mark-requires-clause-few
+mark-requires-clause-few g c =
+    let r = c.loop-place.invariant.0 in
+    let t = r.marked.total in
+    let a = length-values_of (numbered 0 r.done) in
+    let b = length-numbered 0 r.done in
+    let d = r.count in
+    let small = c.loop-place.invariant.3 in
+    omega arith
+
+pub loop-place-preserved : goal.loop-place-preserved
+loop-place-preserved g c =
+    let i = c.loop-place.invariant in
+    let wide = i.1 in
+    let count = i.2 in
+    let small = i.3 in
+    let w = c.mark.ensures.width in (
+      Renumbers-step g.K.PartialEq.eq g.met.K.Eq.laws (entries_of c.args.places.now) (state_of c.loop-place.places)
+          (state_of c.pop_front.new.self) (state_of c.insert.new.self) c.loop-place.marks c.mark.new.self
+          c.loop-place.place c.in-Some.key c.in-Some.field-0-1 c.in-Ok.field-0 i.0 (omega arith)
+          c.in-Some.ensures.pops c.in-Ok.ensures.inserts c.insert.ensures.distinct c.mark.ensures.marked,
+      omega arith,
+      count,
+      small,
+    )
+
+pub returns-clause-placed : goal.returns-clause-placed
+returns-clause-placed g c =
+    let i = c.loop-place.invariant in
+    let wide = i.1 in
+    let count = i.2 in
+    let small = i.3 in
+    let e = Renumbers-end g.K.PartialEq.eq (entries_of c.args.places.now) (entries_of c.loop-place.places)
+    c.loop-place.marks c.loop-place.place i.0 (omega arith) in
+    let long = e.4 in
+    record {
+      distinct = i.0.distinct;
+      rises = e.2;
+      marked = e.1;
+      within = omega arith;
+      few = omega arith;
+    }
+
+pub returns-clause-free : goal.returns-clause-free
+returns-clause-free g c =
+    let i = c.loop-place.invariant in
+    let wide = i.1 in
+    let count = i.2 in
+    let e = Renumbers-end g.K.PartialEq.eq (entries_of c.args.places.now) (entries_of c.loop-place.places)
+    c.loop-place.marks c.loop-place.place i.0 (omega arith) in
+    let long = e.4 in
+    omega arith
+
+pub returns-clause-keys : goal.returns-clause-keys
+returns-clause-keys g c =
+    let i = c.loop-place.invariant in
+    let count = i.2 in
+    (Renumbers-end g.K.PartialEq.eq (entries_of c.args.places.now) (entries_of c.loop-place.places)
+    c.loop-place.marks c.loop-place.place i.0 (omega arith)).3

@@ -1,0 +1,44 @@
+-- What a curve of misses has counted of a history.
+use Rattle.std.specs.Prelude.{◌≡◌, ℕ, ◌+◌, ◌^◌, ◌<◌, ◌≤◌, Bool, true, nat_eq, List, [], ◌∷◌, ◌++◌, length, drop, sum, slice_index, slice_set}
+use Rattle.std.specs.Prelude.{Option, None, Some, if◌then◌else◌}
+use Rattle.std.specs.List.{AllZip}
+use Rattle.std.specs.Set.{is_member, unique_keys}
+use Rattle.hashlink_model.specs.History.{reuse_distance, cache_misses}
+
+-- the keys in the order of their last uses, each once, and at each distance how many uses had it
+pub record CurveState (K : Type 0) : Type 0 where
+  pub keys : List K
+  pub reuses : List ℕ
+
+-- what a cache of c places missed: the first use of each key, and each later one at a distance of c or more
+abbrev pub misses_at : {K : Type 0} → CurveState K → ℕ → ℕ
+misses_at s c = length s.keys + sum (drop c s.reuses)
+
+-- from the capacity c on, at which capacities the misses fall, with the misses there, where `cold` are never hits and
+-- the list has the uses at each distance from c on
+abbrev pub falls_from : ℕ → ℕ → List ℕ → List (ℕ × ℕ)
+falls_from cold c [] = []
+falls_from cold c (n ∷ ns) =
+    if nat_eq n 0 then falls_from cold (c + 1) ns else ((c + 1, cold + sum ns) ∷ falls_from cold (c + 1) ns)
+
+module _ {K : Type 0} (eq : K → K → Bool) where
+  -- how many other keys were used since the last use of k, or none where it was not used
+  abbrev pub distance_of : List K → K → Option ℕ
+  distance_of used k = if is_member eq used k then Some (reuse_distance eq used k) else None
+
+  -- the curve has counted this history: at every capacity it has the misses of the cache of that capacity
+  pub record Counted (used : List K) (s : CurveState K) : Type 0 where
+    pub keys : AllZip (λ a b. eq a b ≡ true) s.keys (unique_keys eq used)
+    pub misses : (c : ℕ) → misses_at s c ≡ cache_misses eq c used
+
+-- what the parts of a curve say of each other: a place for each distance that there may be, and how many uses there
+-- were
+pub record IsTallied {K : Type 0} (keys : List K) (reuses : List ℕ) (accesses : ℕ) : Type 0 where
+  pub distances : length reuses ≡ length keys
+  pub all : accesses ≡ length keys + sum reuses
+  pub fits : accesses < 2 ^ 64
+
+-- what is left of the curve: the uses at each distance from the capacity on are among those that it misses
+pub record Falling (reuses : List ℕ) (capacity misses : ℕ) : Type 0 where
+  pub among : sum reuses ≤ misses
+  pub fits : capacity + length reuses < 2 ^ 63

@@ -1,0 +1,4 @@
+-- What the contracts of the curve cite, beside `hashlink_model`.
+pub mod Curve
+pub mod Marks
+pub mod Recency

@@ -1,0 +1,147 @@
+//! Keys in the order of their last uses.
+ghost use Rattle.std.specs.Prelude.{◌≡◌, ◌<◌, [], length, IfOk, IfErr, OnOk, OnErr};
+ghost use Rattle.std.specs.Map.{keys_of};
+ghost use Rattle.hashlink_core.specs.Keyed.{entries_of};
+ghost use Rattle.hashlink_curve.specs.Recency.{Touches, IsPlaced};
+
+use crate::marks::Marks;
+use hashlink_map::LinkedHashMap;
+use std::alloc::{AllocError, Global};
+use std::hash::Hash;
+use std::marker::Model;
+
+/// Keys in the order of their last uses. Each has a place, and these rise in that order; a mark stands at the place of
+/// each, so that the marks behind a place are the keys that were used since.
+#[derive(Drop)]
+pub(crate) struct Recency<K: Eq + Hash> {
+    places: LinkedHashMap<K, usize>,
+    marks: Marks,
+    next: usize,
+    alloc: Global,
+}
+
+impl<K: Eq + Hash> Model for Recency<K> {
+    ghost use Rattle.std.specs.Prelude.{List};
+    ghost use Rattle.std.specs.Map.{keys_of};
+    ghost use Rattle.hashlink_core.specs.Keyed.{entries_of};
+    ghost use Rattle.hashlink_curve.specs.Recency.{IsPlaced};
+
+    ghost Value = { List K };
+
+    ghost view = { λ r. keys_of (entries_of r.places) };
+
+    ghost invariant = { λ r. IsPlaced K.eq (entries_of r.places) r.marks r.next };
+}
+
+impl<K: Eq + Hash> Recency<K> {
+    /// No key. It takes no memory.
+    pub(crate) fn new(alloc: Global) -> Self
+        ensures { result ≡ [] }
+    {
+        Recency {
+            places: LinkedHashMap::new(alloc),
+            marks: Marks::new(alloc),
+            next: 0,
+            alloc,
+        }
+    }
+
+    /// How many keys there are.
+    pub(crate) fn len(&self) -> usize
+        ensures { result ≡ length self.now }
+    {
+        self.places.len()
+    }
+
+    /// Makes the key the last, and returns how many keys were used since its last use, or none at its first.
+    ///
+    /// It takes logarithmic time, but that now and then each key gets a new place. Where memory runs out, the key is
+    /// handed back and nothing changes.
+    pub(crate) fn touch(&mut self, key: K) -> Result<Option<usize>, K>
+    where
+        K: Drop,
+        ensures touched { IfOk result (Touches K.eq self.old self.new key) }
+        ensures handed_back { IfErr result (λ k. k ≡ key) }
+        ensures unchanged { OnErr result (self.new ≡ self.old) }
+    {
+        if free_place(
+            self.alloc,
+            &mut self.places,
+            &mut self.marks,
+            &mut self.next,
+        )
+        .is_err()
+        {
+            return Err(key);
+        }
+        let count = self.places.len();
+        match self.places.insert(key, self.next) {
+            Ok(Some(place)) => {
+                let others = count - 1 - self.marks.before(place);
+                self.marks.unmark(place);
+                self.marks.mark(self.next);
+                self.next += 1;
+                Ok(Some(others))
+            }
+            Ok(None) => {
+                self.marks.mark(self.next);
+                self.next += 1;
+                Ok(None)
+            }
+            Err((key, _)) => Err(key),
+        }
+    }
+}
+
+/// Sees to it that the place `next` is free, if need be by new places for all keys. Where memory runs out nothing
+/// changes.
+fn free_place<K: Eq + Hash + Drop>(
+    alloc: Global,
+    places: &mut LinkedHashMap<K, usize>,
+    marks: &mut Marks,
+    next: &mut usize,
+) -> Result<(), AllocError>
+    requires { IsPlaced K.eq (entries_of places.old) marks.old next.old }
+    ensures placed { IsPlaced K.eq (entries_of places.new) marks.new next.new }
+    ensures free { OnOk result (next.new < marks.new.width) }
+    ensures keys { keys_of (entries_of places.new) ≡ keys_of (entries_of places.old) }
+{
+    if *next < marks.width() {
+        return Ok(());
+    }
+    *marks = renumber(alloc, places)?;
+    *next = places.len();
+    Ok(())
+}
+
+/// With more keys than this no tree is made, for which there could be no memory.
+const MOST_KEYS: usize = 1 << 58;
+
+/// Gives the keys the places from 0 on, in their order, and makes a tree with their marks and as many free places
+/// again. Where memory runs out nothing changes.
+fn renumber<K: Eq + Hash + Drop>(
+    alloc: Global,
+    places: &mut LinkedHashMap<K, usize>,
+) -> Result<Marks, AllocError>
+    ensures placed { IfOk result (λ marks. IsPlaced K.eq (entries_of places.new) marks
+        (length (entries_of places.new))) }
+    ensures free { IfOk result (λ marks. length (entries_of places.new) < marks.width) }
+    ensures keys { keys_of (entries_of places.new) ≡ keys_of (entries_of places.old) }
+    ensures unchanged { OnErr result (places.new ≡ places.old) }
+{
+    let count = places.len();
+    if count > MOST_KEYS {
+        return Err(AllocError);
+    }
+    let mut marks = Marks::with_places(alloc, 2 * count + 1)?;
+    for place in 0..count {
+        let Some((key, _)) = places.pop_front() else {
+            unreachable!();
+        };
+        let Ok(_) = places.insert(key, place) else {
+            unreachable!();
+        };
+        marks.mark(place);
+    }
+    Ok(marks)
+}
