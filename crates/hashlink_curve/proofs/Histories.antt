@@ -1,23 +1,21 @@
 -- One more use of a key: which distance it has, and which caches miss it.
-use Rattle.std.proofs.Common.{◌≡◌, ℕ, zero, suc, ◌+◌, ◌-◌, ◌*◌, ◌≤◌, ◌<◌, Bool, true, false, ◌&&◌, ◌||◌, cond, List, []}
-use Rattle.std.proofs.Common.{◌∷◌, ◌++◌, length, drop, nat_lt, Option, None, Some, refl, sym, ap, ap₂, ◌∙◌, ◌⊎◌, inl, inr}
+use Rattle.std.proofs.Common.{◌≡◌, ℕ, zero, suc, ◌+◌, ◌≤◌, ◌<◌, Bool, true, false, ◌&&◌, ◌||◌, cond, List, []}
+use Rattle.std.proofs.Common.{◌∷◌, ◌++◌, length, drop, nat_lt, None, Some, refl, sym, ap, ap₂, ◌∙◌}
 use Rattle.std.proofs.Common.{subst, subst₂, arith, append_assoc, length-append, true≢false, get_or, set, add-zero}
 use Rattle.std.specs.Prelude.{sum}
 use Rattle.std.specs.Cmp.{IsEquivalence}
-use Rattle.std.specs.List.{AllByRecursion, AllZip, after_last, sum_by}
+use Rattle.std.specs.List.{AllZip, after_last}
 use Rattle.std.specs.Set.{is_member, unique_keys, remove_key, distinct_count}
-use Rattle.std.proofs.Math.ListN.{length-set}
 use Rattle.std.proofs.Math.Seq.{drop-nil}
-use Rattle.std.proofs.lemmas.Bool.{both_ways}
 use Rattle.std.proofs.lemmas.Bool.Decides.{nat_tests}
 use Rattle.std.proofs.lemmas.List.{append-nil}
-use Rattle.std.proofs.lemmas.List.Sums.{sum_by-cons, sum_by-append}
+use Rattle.std.proofs.lemmas.List.Sums.{sum_by-cons}
 use Rattle.hashlink_model.specs.History.{reuse_distance, cache_misses, cache_misses_from}
 use Rattle.hashlink_model.proofs.Members.{is_member-append, none_from_is_member, is_member_from_none}
 use Rattle.hashlink_model.proofs.Recency.{zip_push, zip_length, remove_key-left, remove_key-right, is_member-unique}
 use Rattle.hashlink_model.proofs.Recency.{unique_keys-push, last_use, unique_keys-last, answers_alike, after_last-here}
 use Rattle.hashlink_curve.specs.Curve.{CurveState, Counted, distance_of, misses_at}
-use Rattle.hashlink_curve.specs.Recency.{MovesPast, GoesLast, Touches}
+use Rattle.hashlink_curve.specs.Recency.{MovesPast, GoesLast}
 
 -- ---- what a cache of c places misses of one use more
 

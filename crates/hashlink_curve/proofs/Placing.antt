@@ -1,8 +1,8 @@
 -- Keys at rising places: what a use of one finds, and new places for all.
-use Rattle.std.proofs.Common.{◌≡◌, ℕ, zero, suc, ◌+◌, ◌-◌, ◌≤◌, ◌<◌, ◌^◌, Bool, true, false, cond, List, [], ◌∷◌, ◌++◌}
+use Rattle.std.proofs.Common.{◌≡◌, ℕ, suc, ◌+◌, ◌-◌, ◌≤◌, ◌<◌, ◌^◌, Bool, true, false, cond, List, [], ◌∷◌, ◌++◌}
 use Rattle.std.proofs.Common.{length, Option, None, Some, Ok, Err, refl, sym, ap, ap₂, ◌∙◌, subst, arith, append_assoc}
 use Rattle.std.proofs.Common.{length-append, get_or, subst₂, ◌||◌}
-use Rattle.std.specs.Prelude.{nat_eq, nat_lt, map}
+use Rattle.std.specs.Prelude.{nat_eq, nat_lt}
 use Rattle.std.specs.Cmp.{IsEquivalence}
 use Rattle.std.specs.List.{count_by}
 use Rattle.std.specs.Map.{lookup, keys_of, values_of}
@@ -15,7 +15,7 @@ use Rattle.hashlink_model.specs.Entries.{IsEntries, put}
 use Rattle.hashlink_model.specs.MapState.{MapState, Inserts}
 use Rattle.hashlink_model.specs.Steps.{PopsFront}
 use Rattle.hashlink_model.specs.Walk.{first_of, after_first_of}
-use Rattle.hashlink_model.proofs.Splits.{StandsAt, stands_from_lookup, lookup-none, lookup-here, none_from_lookup}
+use Rattle.hashlink_model.proofs.Splits.{stands_from_lookup, lookup-none, lookup-here, none_from_lookup}
 use Rattle.hashlink_model.proofs.Distinct.{IsEntries-head, none_equal, none_others}
 use Rattle.hashlink_model.proofs.Puts.{put_back_absent, put_back_here}
 use Rattle.hashlink_curve.specs.Marks.{Tree, Marked}

@@ -1,6 +1,5 @@
 -- The keys of a history, each once, in the order of their last uses; and each with its place in a row of marks.
-use Rattle.std.specs.Prelude.{◌≡◌, ℕ, ◌+◌, ◌^◌, ◌<◌, ◌≤◌, Bool, true, false, List, [], ◌∷◌, ◌++◌, length, Option, None, Some}
-use Rattle.std.specs.Prelude.{Result, MatchResult}
+use Rattle.std.specs.Prelude.{◌≡◌, ℕ, ◌+◌, ◌^◌, ◌≤◌, Bool, true, false, List, [], ◌∷◌, ◌++◌, length, Option, None, Some}
 use Rattle.std.specs.Map.{values_of}
 use Rattle.std.specs.Set.{is_member}
 use Rattle.hashlink_model.specs.Entries.{IsEntries}

@@ -1,10 +1,7 @@
-use Rattle.std.proofs.Common.{◌≡◌, ◌≤◌, ◌<◌, ◌+◌, ◌*◌, ◌^◌, ℕ, List, length, sym, ap, ◌∙◌, subst, arith, Ok, Some, None}
-use Rattle.std.specs.Map.{keys_of, values_of}
+use Rattle.std.proofs.Common.{arith}
 use Rattle.std.proofs.lemmas.Map.Entries.{length-values_of}
 use Rattle.hashlink_core.specs.Keyed.{entries_of, state_of}
-use Rattle.hashlink_curve.specs.Marks.{Marked}
-use Rattle.hashlink_curve.specs.Recency.{IsPlaced}
-use Rattle.hashlink_curve.proofs.Placing.{Renumbers, Renumbers-start, Renumbers-step, Renumbers-pops, Renumbers-inserts}
+use Rattle.hashlink_curve.proofs.Placing.{Renumbers-step}
 use Rattle.hashlink_curve.proofs.Placing.{Renumbers-end, numbered, length-numbered}
 use Rattle.hashlink_curve.proofs.recency.renumber.Goals as goal
 

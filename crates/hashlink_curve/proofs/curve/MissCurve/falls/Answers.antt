@@ -1,8 +1,6 @@
-use Rattle.std.proofs.Common.{◌≡◌, ◌≤◌, ◌<◌, ◌+◌, ◌-◌, ◌++◌, ◌∷◌, [], ℕ, List, length, sym, ap, ap₂, ◌∙◌, subst, subst₂, arith, rules}
-use Rattle.std.proofs.Common.{Some, None, get_or, set}
-use Rattle.std.specs.Prelude.{sum, drop}
-use Rattle.hashlink_curve.specs.Curve.{Counted, CurveState, misses_at, falls_from}
-use Rattle.hashlink_curve.proofs.Histories.{sum-drop-all, sum-drop-falls, Counted-absent, Counted-again, Counted-accesses}
+use Rattle.std.proofs.Common.{◌≡◌, ◌-◌, length, ap, ap₂, ◌∙◌, arith}
+use Rattle.std.specs.Prelude.{sum}
+use Rattle.hashlink_curve.specs.Curve.{CurveState, falls_from}
 use Rattle.hashlink_curve.proofs.curve.MissCurve.falls.Goals as goal
 
 pub returns : goal.returns

@@ -1,8 +1,7 @@
-use Rattle.std.proofs.Common.{◌≡◌, ◌≤◌, ◌<◌, ◌+◌, ◌-◌, ◌++◌, ◌∷◌, [], ℕ, List, length, sym, ap, ap₂, ◌∙◌, subst, subst₂, arith, rules}
-use Rattle.std.proofs.Common.{Some, None, get_or, set, length-append}
+use Rattle.std.proofs.Common.{◌≡◌, ◌+◌, ◌++◌, ◌∷◌, [], length, sym, ap, ap₂, ◌∙◌, subst, arith}
+use Rattle.std.proofs.Common.{get_or, set, length-append}
 use Rattle.std.proofs.lemmas.Grind.{get_or_default_zero}
-use Rattle.std.specs.Prelude.{sum, drop}
-use Rattle.hashlink_curve.specs.Curve.{Counted, CurveState, misses_at, falls_from}
+use Rattle.hashlink_curve.specs.Curve.{Counted}
 use Rattle.hashlink_curve.proofs.Histories.{Counted-absent, Counted-again}
 use Rattle.hashlink_curve.proofs.curve.MissCurve.record.Goals as goal
 

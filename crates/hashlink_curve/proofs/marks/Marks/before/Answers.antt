@@ -1,6 +1,6 @@
-use Rattle.std.proofs.Common.{◌≡◌, ◌+◌, ◌-◌, ◌<◌, ◌≤◌, ◌/◌, ◌%◌, ℕ, get_or, length, subst, sym, ap, ◌∙◌, arith, List}
+use Rattle.std.proofs.Common.{◌≡◌, ◌+◌, ◌-◌, ◌<◌, ◌/◌, ◌%◌, ℕ, get_or, length, subst, sym, ap, ◌∙◌, arith, List}
 use Rattle.std.proofs.lemmas.Grind.{get_or_default_zero}
-use Rattle.hashlink_curve.specs.Marks.{Marked, Tree, IsTree}
+use Rattle.hashlink_curve.specs.Marks.{Marked, Tree}
 use Rattle.hashlink_curve.proofs.Sums.{Counts, Counts-start, Counts-even, Counts-odd, Counts-bound, Counts-end}
 use Rattle.hashlink_curve.proofs.marks.Marks.before.Goals.{then-node-eq1, else-node-eq1}
 use Rattle.hashlink_curve.proofs.marks.Marks.before.Goals as goal

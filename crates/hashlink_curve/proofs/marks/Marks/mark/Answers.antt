@@ -1,6 +1,5 @@
-use Rattle.std.proofs.Common.{◌≡◌, ◌+◌, ◌-◌, ◌<◌, ◌≤◌, ◌/◌, ℕ, get_or, set, length, subst, sym, ap, ◌∙◌, ◌++◌, arith, List}
+use Rattle.std.proofs.Common.{◌≡◌, ◌+◌, ◌<◌, ℕ, get_or, length, subst, sym, ap, ◌∙◌, ◌++◌, arith, List}
 use Rattle.std.proofs.lemmas.Grind.{get_or_default_zero}
-use Rattle.std.specs.Prelude.{slice_index}
 use Rattle.hashlink_curve.specs.Marks.{Marked, Tree, IsTree}
 use Rattle.hashlink_curve.proofs.Climbs.{Climbs, Climbs-start, Climbs-up, Climbs-tree, Marked-more, Climbs-bound}
 use Rattle.hashlink_curve.proofs.marks.Marks.mark.Goals as goal

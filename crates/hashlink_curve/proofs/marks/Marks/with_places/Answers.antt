@@ -1,4 +1,4 @@
-use Rattle.std.proofs.Common.{◌≡◌, ◌+◌, ◌*◌, ◌^◌, suc, arith}
+use Rattle.std.proofs.Common.{◌≡◌, ◌^◌, suc, arith}
 use Rattle.std.proofs.Math.Nat.{pow-succ'}
 use Rattle.hashlink_curve.proofs.marks.Marks.with_places.Goals as goal
 

@@ -1,4 +1,4 @@
-use Rattle.std.proofs.Common.{◌≡◌, ℕ, ◌^◌, ◌*◌, ◌-◌, ◌≤◌}
+use Rattle.std.proofs.Common.{◌≡◌, ℕ, ◌^◌, ◌-◌, ◌≤◌}
 use Rattle.hashlink_curve.proofs.marks.Marks.with_places.Given as goal
 
 abbrev pub invariant-loop-width : goal.invariant-loop-width

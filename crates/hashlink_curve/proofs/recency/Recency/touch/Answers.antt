@@ -1,14 +1,12 @@
-use Rattle.std.proofs.Common.{◌≡◌, ◌≤◌, ◌<◌, ◌+◌, ◌-◌, ◌++◌, ◌∷◌, [], ℕ, List, length, sym, ap, ◌∙◌, subst, subst₂, arith, rules}
-use Rattle.std.proofs.Common.{Option, Ok, Some, None, length-append}
-use Rattle.std.specs.Prelude.{MatchOption}
-use Rattle.std.specs.Map.{keys_of, values_of, lookup}
+use Rattle.std.proofs.Common.{◌<◌, ◌-◌, ◌++◌, ◌∷◌, [], length, sym, ap, ◌∙◌, subst, arith, rules}
+use Rattle.std.proofs.Common.{length-append}
+use Rattle.std.specs.Map.{keys_of, values_of}
 use Rattle.std.proofs.lemmas.List.{append-nil}
 use Rattle.std.proofs.lemmas.Map.Entries.{length-values_of}
-use Rattle.hashlink_model.specs.MapState.{AddsEntry, PutsEntry, Inserts}
-use Rattle.hashlink_core.specs.Keyed.{entries_of, state_of}
+use Rattle.hashlink_core.specs.Keyed.{entries_of}
 use Rattle.hashlink_curve.specs.Marks.{Marked}
-use Rattle.hashlink_curve.specs.Recency.{IsPlaced, MovesPast, GoesLast}
-use Rattle.hashlink_curve.proofs.Placing.{Found, found, found_moves, found_placed, absent_last, absent_placed}
+use Rattle.hashlink_curve.specs.Recency.{MovesPast, GoesLast}
+use Rattle.hashlink_curve.proofs.Placing.{found, found_moves, found_placed, absent_last, absent_placed}
 use Rattle.hashlink_curve.proofs.recency.Recency.touch.Goals as goal
 
 pub before-requires : goal.before-requires

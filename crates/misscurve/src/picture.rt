@@ -1,0 +1,117 @@
+//! The curve as a picture.
+use crate::report::{WHOLE, ratio_of};
+use hashlink_curve::MissCurve;
+use std::io::{self, Write};
+
+/// How many steps to the right a doubled capacity is.
+const OCTAVE: u64 = 64;
+
+/// How many steps the sixteenths of an octave are from its start.
+const STEPS: [u64; 16] = [0, 6, 11, 16, 21, 25, 29, 34, 37, 41, 45, 48, 52, 55, 58, 61];
+
+/// How high the picture is.
+const HEIGHT: u64 = 400;
+
+/// How far to the right a capacity stands.
+fn across(capacity: u64) -> u64 {
+    let mut power = 1u64;
+    let mut start = 0u64;
+    for _ in 0..63 {
+        if power > capacity / 2 {
+            break;
+        }
+        power = power.saturating_mul(2);
+        start = start.saturating_add(OCTAVE);
+    }
+    let sixteenths = capacity
+        .saturating_sub(power)
+        .saturating_mul(16)
+        .checked_div(power);
+    let step = STEPS.get(sixteenths.unwrap_or(0).min(15) as usize).copied();
+    start.saturating_add(step.unwrap_or(0))
+}
+
+/// How far down a ratio stands.
+fn down(ratio: u64) -> u64 {
+    HEIGHT.saturating_sub(ratio.saturating_mul(HEIGHT) / WHOLE)
+}
+
+/// Writes the picture: to the right the capacity, doubled at each line, and upwards the ratio of misses. The dashed
+/// line is that of the first uses of the keys, which every cache misses.
+pub fn write_picture<W: Write>(
+    writer: &mut W,
+    curve: &MissCurve<Vec<u8>>,
+    parts: u64,
+) -> io::Result<()> {
+    let accesses = curve.accesses();
+    let keys = (curve.distinct() as u64).saturating_mul(parts);
+    let width = across(keys).saturating_add(OCTAVE);
+    let right = width.saturating_add(90);
+    write!(
+        writer,
+        "<svg xmlns=\"http://www.w3.org/2000/svg\" viewBox=\"-60 -30 {right} 480\""
+    )?;
+    writeln!(writer, " font-family=\"sans-serif\" font-size=\"11\">")?;
+    writeln!(
+        writer,
+        "<rect x=\"-60\" y=\"-30\" width=\"100%\" height=\"100%\" fill=\"white\"/>"
+    )?;
+    write_lines(writer, width)?;
+    let cold = down(ratio_of(curve.distinct() as u64, accesses));
+    writeln!(
+        writer,
+        "<path d=\"M0 {cold}H{width}\" stroke=\"red\" stroke-dasharray=\"4\" fill=\"none\"/>"
+    )?;
+    write!(
+        writer,
+        "<path d=\"M0 {}",
+        down(ratio_of(accesses, accesses))
+    )?;
+    for (capacity, misses) in curve.falls() {
+        let x = across((capacity as u64).saturating_mul(parts));
+        write!(writer, "H{x}V{}", down(ratio_of(misses, accesses)))?;
+    }
+    writeln!(
+        writer,
+        "H{width}\" stroke=\"black\" stroke-width=\"2\" fill=\"none\"/>"
+    )?;
+    writeln!(
+        writer,
+        "<text x=\"0\" y=\"-12\">misses of {accesses} uses of {keys} keys{}</text>",
+        note(parts)
+    )?;
+    writeln!(writer, "</svg>")?;
+    writer.flush()
+}
+
+/// What is said of a picture of some of the keys.
+fn note(parts: u64) -> &'static str {
+    if parts > 1 { ", an estimate" } else { "" }
+}
+
+/// Writes the lines of the capacities that are powers of two, and of each quarter of the misses.
+fn write_lines<W: Write>(writer: &mut W, width: u64) -> io::Result<()> {
+    let mut capacity = 1u64;
+    let mut x = 0u64;
+    for _ in 0..63 {
+        if x > width {
+            break;
+        }
+        writeln!(writer, "<path d=\"M{x} 0V{HEIGHT}\" stroke=\"#ddd\"/>")?;
+        writeln!(
+            writer,
+            "<text x=\"{x}\" y=\"418\" text-anchor=\"middle\">{capacity}</text>"
+        )?;
+        capacity = capacity.saturating_mul(2);
+        x = x.saturating_add(OCTAVE);
+    }
+    for percent in [0u64, 25, 50, 75, 100] {
+        let y = down(percent * 100);
+        writeln!(writer, "<path d=\"M0 {y}H{width}\" stroke=\"#ddd\"/>")?;
+        writeln!(
+            writer,
+            "<text x=\"-6\" y=\"{y}\" text-anchor=\"end\">{percent} %</text>"
+        )?;
+    }
+    Ok(())
+}

@@ -1,0 +1,99 @@
+//! The curve as a table.
+use crate::options::{Form, Options};
+use hashlink_curve::MissCurve;
+use std::io::{self, Write};
+
+/// Of so many parts of all accesses the ratio of misses is told.
+pub const WHOLE: u64 = 10000;
+
+/// How many of `WHOLE` accesses are misses.
+pub fn ratio_of(misses: u64, accesses: u64) -> u64 {
+    match misses.checked_mul(WHOLE) {
+        Some(product) => product.checked_div(accesses).unwrap_or(0).min(WHOLE),
+        None => misses.checked_div(accesses / WHOLE).unwrap_or(0).min(WHOLE),
+    }
+}
+
+/// Writes what the program does.
+pub fn write_help<W: Write>(writer: &mut W) -> io::Result<()> {
+    writeln!(writer, "misscurve [--all | --svg] [--sample 1/N] < TRACE")?;
+    writeln!(
+        writer,
+        "Reads a key a line, and writes how often an LRU cache of each capacity misses."
+    )?;
+    writeln!(
+        writer,
+        "  --all         each capacity at which the misses fall"
+    )?;
+    writeln!(writer, "  --svg         a picture")?;
+    writeln!(writer, "  --sample 1/N  an estimate from one key in N")?;
+    writer.flush()
+}
+
+/// Writes the table.
+pub fn write_table<W: Write>(
+    writer: &mut W,
+    curve: &MissCurve<Vec<u8>>,
+    options: Options,
+) -> io::Result<()> {
+    if options.parts > 1 {
+        writeln!(writer, "# an estimate from one key in {}", options.parts)?;
+    }
+    let accesses = curve.accesses();
+    writeln!(writer, "# {accesses} uses of {} keys", curve.distinct())?;
+    writeln!(writer, "capacity misses ratio")?;
+    let mut row = Row {
+        writer,
+        accesses,
+        parts: options.parts,
+    };
+    let mut before = accesses;
+    let mut told = WHOLE;
+    let mut power = 1usize;
+    for (capacity, misses) in curve.falls() {
+        for _ in 0..64 {
+            if power >= capacity {
+                break;
+            }
+            row.write(power, before)?;
+            told = ratio_of(before, accesses);
+            power = power.saturating_mul(2);
+        }
+        let ratio = ratio_of(misses, accesses);
+        if options.form == Form::WholeTable
+            || capacity == power
+            || ratio.saturating_add(100) <= told
+        {
+            row.write(capacity, misses)?;
+            told = ratio;
+        }
+        if capacity == power {
+            power = power.saturating_mul(2);
+        }
+        before = misses;
+    }
+    row.writer.flush()
+}
+
+/// What writes a line of the table.
+#[derive(Drop)]
+struct Row<'a, W: Write> {
+    writer: &'a mut W,
+    accesses: u64,
+    parts: u64,
+}
+
+impl<'a, W: Write> Row<'a, W> {
+    /// Writes the misses at a capacity, each times the parts.
+    fn write(&mut self, capacity: usize, misses: u64) -> io::Result<()> {
+        let ratio = ratio_of(misses, self.accesses);
+        let places = (capacity as u64).saturating_mul(self.parts);
+        let total = misses.saturating_mul(self.parts);
+        writeln!(
+            self.writer,
+            "{places} {total} {}.{:04}",
+            ratio / WHOLE,
+            ratio % WHOLE
+        )
+    }
+}

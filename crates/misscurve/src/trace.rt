@@ -1,0 +1,50 @@
+//! How a trace is read.
+use crate::faults::Fault;
+use hashlink_curve::MissCurve;
+use std::alloc::Global;
+use std::io::{BufRead, Eprint, ErrorKind};
+
+/// After so many lines it is said how far the reading is.
+const PROGRESS: u64 = 1 << 22;
+
+/// The curve of the keys that the reader gives, a line each, or of those in one of so many parts. A trace is not kept,
+/// only its distinct keys.
+pub fn curve_of<B: BufRead + Drop>(
+    rt: &impl Eprint,
+    alloc: Global,
+    reader: B,
+    parts: u64,
+) -> Result<MissCurve<Vec<u8>>, Fault> {
+    let mut curve = MissCurve::new(alloc);
+    let mut lines = 0u64;
+    for line in reader.split(alloc, b'\n') {
+        let key = match line {
+            Ok(key) => key,
+            Err(e) if e.kind() == ErrorKind::OutOfMemory => return Err(Fault::Memory),
+            Err(_) => return Err(Fault::Reading),
+        };
+        lines = lines.saturating_add(1);
+        if lines % PROGRESS == 0 {
+            let _ = eprintln!(rt; "misscurve: {lines} lines, {} keys", curve.distinct());
+        }
+        if is_in_part(&key, parts) && curve.record(key).is_err() {
+            return Err(Fault::Memory);
+        }
+    }
+    Ok(curve)
+}
+
+/// Whether the key falls in the part that is read, which its bytes alone say.
+fn is_in_part(key: &[u8], parts: u64) -> bool {
+    parts <= 1 || mixed(key) % parts == 0
+}
+
+/// A number that spreads over the keys: the bytes multiplied in, and then the high bits brought down.
+fn mixed(key: &[u8]) -> u64 {
+    let mut sum = 0xcbf2_9ce4_8422_2325u64;
+    for byte in key {
+        sum = (sum ^ *byte as u64).wrapping_mul(0x0000_0100_0000_01b3);
+    }
+    sum = (sum ^ (sum >> 33)).wrapping_mul(0xff51_afd7_ed55_8ccd);
+    sum ^ (sum >> 33)
+}
