@@ -30,6 +30,7 @@ pub use Rattle.hashlink_map.specs.CursorLends as MapCursorLends
 pub use Rattle.hashlink_map.specs.Drain as MapDrain
 pub use Rattle.hashlink_map.specs.Entry as MapEntry
 pub use Rattle.hashlink_map.specs.EntryLends as MapEntryLends
+pub use Rattle.hashlink_map.specs.Extending
 pub use Rattle.hashlink_map.specs.Indexed
 pub use Rattle.hashlink_map.specs.IterMut
 pub use Rattle.hashlink_map.specs.IterMutLends
@@ -40,6 +41,7 @@ pub use Rattle.hashlink_map.specs.Reading
 pub use Rattle.hashlink_map.specs.Standing
 pub use Rattle.hashlink_map.specs.WritingWalk
 pub use Rattle.hashlink_set.specs.Answers as SetAnswers
+pub use Rattle.hashlink_set.specs.Called as SetCalled
 pub use Rattle.hashlink_set.specs.Cloned as SetCloned
 pub use Rattle.hashlink_set.specs.Compared as SetCompared
 pub use Rattle.hashlink_set.specs.Drain as SetDrain
@@ -51,6 +53,7 @@ pub use Rattle.hashlink_lru.specs.Lends as CacheLends
 pub use Rattle.hashlink_weighted.specs.Answers
 pub use Rattle.hashlink_weighted.specs.Lends as WeightedLends
 pub use Rattle.hashlink_weighted.specs.Weighed
+pub use Rattle.hashlink_curve.specs.Curve
 pub use Rattle.hashlink_commands.specs.CachesSay
 pub use Rattle.hashlink_commands.specs.Lines
 pub use Rattle.hashlink_commands.specs.Says

@@ -33,6 +33,11 @@ pub mod weighted {
     pub use hashlink_weighted::{WeightError, WeightedCache, WeightedIter};
 }
 
+/// How often a cache of each capacity misses, from one pass over the keys that are used.
+pub mod miss_curve {
+    pub use hashlink_curve::{Falls, MissCurve, miss_curve};
+}
+
 /// Lists of commands to the containers, and the text form in which a program reads and answers them.
 pub mod run {
     pub use hashlink_run::{
@@ -42,6 +47,8 @@ pub mod run {
 }
 
 pub use hashlink_lru::LruCache;
-pub use hashlink_map::{DefaultHashBuilder, DefaultHasher, LinkedHashMap, TryReserveError};
+pub use hashlink_map::{
+    DefaultHashBuilder, DefaultHasher, Equivalent, LinkedHashMap, TryReserveError,
+};
 pub use hashlink_set::LinkedHashSet;
 pub use std::alloc::AllocError;

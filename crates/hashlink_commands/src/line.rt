@@ -29,7 +29,7 @@ impl Line {
 
     /// What the line says, or nothing where it is bad. It reads the line once.
     ///
-    /// Memory is taken for the steps of a cursor alone. Where that is refused it answers `AllocError`.
+    /// Memory is taken for the steps of a cursor alone. Where that is refused it returns `AllocError`.
     pub fn parse(alloc: Global, text: &[u8]) -> Result<Option<Line>, AllocError>
         ensures { IfOk result (λ line. option_map said line ≡ says text.now) }
     {

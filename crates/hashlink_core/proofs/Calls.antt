@@ -27,6 +27,7 @@ use Rattle.hashlink_core.specs.Steps.{AddsNode, RemovesNode, MovesNode, WritesNo
 use Rattle.hashlink_core.specs.Tied.{IsInStep}
 use Rattle.hashlink_core.proofs.Edits.{insert-map, remove-map, length-inserted, length-removed, remove_entry-at}
 use Rattle.hashlink_core.proofs.Edits.{moved_at-is, none-inserted, none_from_place, passes-at}
+use Rattle.std.proofs.lemmas.Map.Entries.{length-values_of}
 use Rattle.hashlink_core.proofs.Mapped.{length-mapped, remove_entry-mapped, keys-mapped, lookup-mapped, holds-mapped}
 use Rattle.hashlink_core.proofs.Mapped.{place_number-mapped, renewed-mapped, moved-map, values-renewed_value}
 use Rattle.hashlink_core.proofs.Mapped.{values-renewed_key}
@@ -314,7 +315,7 @@ module _ {K V S : Type 0} {eq : K → K → Bool} (laws : IsEquivalence eq) {has
 
   -- ---- a new node n for the absent key k went in right before the place p; before room was made for it the list
   -- was `old`
-  module _ (old : Keyed K V S) (grown : GrowsRoom old seen) (k : K) (v : V)
+  module _ (old : Keyed K V S) (grown : GrowsRoom 1 old seen) (k : K) (v : V)
       (absent : place_of (eq k) (entries_of old) ≡ None) (ready : length old.nodes + 1 ≤ seen.room)
       (p : Option Node) (n : Node) (cell asked : ℕ) (r1 r2 : Ring K V) (u : Contents Node)
       (put : r1.entries ≡ put_before p (n, held 0 k v) r.entries)
@@ -368,6 +369,9 @@ module _ {K V S : Type 0} {eq : K → K → Bool} (laws : IsEquivalence eq) {has
         ap values_of gone_in ∙ insert-map (λ (e : Node × (K × V)). e.1) old.nodes (place_number old.nodes p)
         (n, (k, v)) in
         let room : u.room ≡ seen.room = ap (λ c. c.room) tied ∙ ap (λ m. m.room) view in
+        let more = length-inserted (entries_of old) (place_number old.nodes p) (k, v) in
+        let long : length (insert (entries_of old) (place_number old.nodes p) (k, v)) ≡ length old.nodes + 1 =
+        more ∙ ap (λ i. i + 1) (length-values_of old.nodes) in
         record {
           fresh = ap (λ ns. lookup (same_node n) ns) (sym same-nodes)
               ∙ lookup-mapped pair_of (same_node n) r.entries
@@ -375,9 +379,13 @@ module _ {K V S : Type 0} {eq : K → K → Bool} (laws : IsEquivalence eq) {has
           nodes = gone_in;
           state = record {
             entries = entries;
-            more = length-inserted (entries_of old) (place_number old.nodes p) (k, v);
+            more = more;
             spare = fewer-free ∙ ap (λ i. i - 1) (ap (λ m. m.spare) before);
-            room = omega (arith, grown.more, room);
+            room = record {
+              grows = omega (arith, grown.more.grows, room);
+              same = λ le. room ∙ grown.more.same (omega (arith, le, long));
+              bound = omega (arith, grown.more.bound, room, long);
+            };
             fits = seen-fits r2 u after;
             link_writes = stores-exactly 4 old.link_writes r2.link_writes (stored
                 ∙ ap (λ w. w + 4) (ap (λ m. m.link_writes) before));

@@ -3,7 +3,8 @@ use Rattle.std.proofs.Common.{◌≡◌, ℕ, Bool, true, false, Option, None, S
 use Rattle.std.specs.Option.{option_map, is_some, IfSome, IfNone, MatchOption}
 use Rattle.std.specs.Cmp.{IsEquivalence}
 use Rattle.std.specs.Map.{lookup}
-use Rattle.hashlink_model.specs.Entries.{place_of}
+use Rattle.std.proofs.Math.Path.{fun_ext}
+use Rattle.hashlink_model.specs.Entries.{place_of, IsKeyTest}
 use Rattle.hashlink_model.proofs.Places.{place_of_its_key}
 use Rattle.hashlink_model.proofs.Splits.{place_of-none}
 use Rattle.std.specs.Borrow.{Bor}
@@ -13,9 +14,9 @@ use Rattle.hashlink_nodes.specs.declared.held.Held.{Held}
 use Rattle.hashlink_nodes.specs.Node.{same_node}
 use Rattle.hashlink_nodes.specs.Ring.{Ring, pair_of, Holds}
 use Rattle.hashlink_table.specs.Contents.{Contents, Keeps}
-use Rattle.hashlink_core.specs.Keyed.{nodes_of, pairs_in, HoldsKey}
+use Rattle.hashlink_core.specs.Keyed.{nodes_of, pairs_in, HoldsMatch}
 use Rattle.hashlink_core.specs.Places.{place_number}
-use Rattle.hashlink_core.specs.Telling.{Tells}
+use Rattle.hashlink_core.specs.Telling.{Tells, TellsMatch}
 use Rattle.hashlink_core.specs.Tied.{IsInStep}
 use Rattle.hashlink_core.proofs.Mapped.{lookup-mapped, place_number-mapped}
 use Rattle.hashlink_core.proofs.Places.{node-at}
@@ -33,13 +34,24 @@ answered-at P (Some h) key value is p =
     let same : pair_of h ≡ (key, value) = cc is in
     subst P (sym (ap (λ q. q.0) same)) p
 
--- the answers of a test that tells the keys equal to k from the others
-pub told : {K F : Type 0} {calls : Shared F (Bor K × Unit {0}) Bool} {eq : K → K → Bool} (laws : IsEquivalence eq)
-    {hash : K → ℕ} {test : F} {asked : ℕ} {k : K} → Tells calls eq hash test asked k → (x : K) (b : Bool)
+-- the answers of a test that tells the keys that pass from the others
+pub told : {K F : Type 0} {calls : Shared F (Bor K × Unit {0}) Bool} {eq : K → K → Bool} {hash : K → ℕ} {test : F}
+    {asked : ℕ} {passes : K → Bool} → TellsMatch calls eq hash test asked passes → (x : K) (b : Bool)
     → FnReturnsAt calls test x b
-    → b ≡ eq k x
-told {eq = eq} laws {k = k} tells x b r =
-    tells.answers r.shown b r.says.met ∙ ap (λ y. eq y k) r.shows ∙ laws.symm x k
+    → b ≡ passes x
+told {passes = passes} tells x b r = tells.answers r.shown b r.says.met ∙ ap passes r.shows
+
+-- one that tells the keys equal to k from the others
+pub tells-key : {K F : Type 0} {calls : Shared F (Bor K × Unit {0}) Bool} {eq : K → K → Bool} (laws : IsEquivalence eq)
+    {hash : K → ℕ} → ((k x : K) → eq k x ≡ true → hash k ≡ hash x) → {test : F} {asked : ℕ} {k : K}
+    → Tells calls eq hash test asked k
+    → TellsMatch calls eq hash test asked (eq k)
+tells-key laws alike {k = k} tells = record {
+  hashed = λ x e. sym (alike k x e) ∙ sym tells.hashed;
+  alike = laws.congr k;
+  callable = tells.callable;
+  answers = λ x b r. tells.answers x b r ∙ laws.symm x.now k;
+}
 
 module _ {K V : Type 0} {eq : K → K → Bool} (laws : IsEquivalence eq) {hash : K
     → ℕ} {r : Ring K V} {t : Contents Node} (step : IsInStep eq hash r t) where
@@ -47,30 +59,32 @@ module _ {K V : Type 0} {eq : K → K → Bool} (laws : IsEquivalence eq) {hash 
   pub listed-holds : (cell found : ℕ) (n : Node) → Keeps t cell found n → Holds r.entries n
   listed-holds cell found n there = ap is_some (step.tied.listed cell found n there).here
 
-  -- what a search of the table answers, by calls that tell the keys equal to k from the others
-  pub found-by_table : (k : K) → ((x : K) → eq k x ≡ true → hash x ≡ hash k) → (asked : ℕ) → asked ≡ hash k
-      → (Answers : K → Bool → Type 0) → ((x : K) (b : Bool) → Answers x b → b ≡ eq k x)
+  -- what a search of the table answers, by calls that tell the keys that pass from the others
+  pub found-by_table : (passes : K → Bool) → IsKeyTest eq passes → (asked : ℕ)
+      → ((x : K) → passes x ≡ true → hash x ≡ asked)
+      → (Answers : K → Bool → Type 0) → ((x : K) (b : Bool) → Answers x b → b ≡ passes x)
       → (o : Option Node)
       → IfSome o (λ n. (cell : ℕ) × Keeps t cell asked n
       × IfSome (lookup (same_node n) r.entries) (λ h. Answers h.key true))
       → IfNone o ((cell : ℕ) (n : Node) → Keeps t cell asked n
       → IfSome (lookup (same_node n) r.entries) (λ h. Answers h.key false))
-      → MatchOption o (place_of (eq k) (pairs_in r.entries) ≡ None) (HoldsKey eq (nodes_of r.entries) k)
-  found-by_table k alike asked is Answers tells None some none =
-      place_of-none (eq k) (pairs_in r.entries) (untied-absent hash eq r.entries t k step.apart step.tied alike
+      → MatchOption o (place_of passes (pairs_in r.entries) ≡ None) (HoldsMatch passes (nodes_of r.entries))
+  found-by_table passes alike asked hashed Answers tells None some none =
+      place_of-none passes (pairs_in r.entries) (untied-absent hash passes r.entries t asked step.apart step.tied hashed
       (λ cell n there h here.
-      let unlike : IfSome (lookup (same_node n) r.entries) (λ g. Answers g.key false) =
-      none cell n (subst (λ a. Keeps t cell a n) (sym is) there) in
-      sym (tells h.key false (subst (λ o. IfSome o (λ g. Answers g.key false)) here unlike))))
-  found-by_table k alike asked is Answers tells (Some n) some none =
+      sym (tells h.key false (subst (λ o. IfSome o (λ g. Answers g.key false)) here (none cell n there)))))
+  found-by_table passes alike asked hashed Answers tells (Some n) some none =
       let old = step.tied.listed some.0 asked n some.1 in
       let x = node-at r.entries n (ap is_some old.here) in
-      let equal : eq k x.0.key ≡ true =
-      sym (tells x.0.key true (subst (λ o. IfSome o (λ g. Answers g.key true)) x.1.found some.2)) in
+      let k = x.0.key in
+      let met : passes k ≡ true =
+      sym (tells k true (subst (λ o. IfSome o (λ g. Answers g.key true)) x.1.found some.2)) in
+      let is : passes ≡ eq k = fun_ext (λ y. alike k y met) in
       record {
         within = ap is_some (lookup-mapped pair_of (same_node n) r.entries ∙ ap (option_map pair_of) x.1.found);
-        place = place_of_its_key eq laws (pairs_in r.entries) (place_number r.entries (Some n)) (pair_of x.0) k
-            step.distinct (pair-at r.entries (place_number r.entries (Some n)) n x.0 x.1.at) equal
+        place = ap (λ test. place_of test (pairs_in r.entries)) is
+            ∙ place_of_its_key eq laws (pairs_in r.entries) (place_number r.entries (Some n)) (pair_of x.0) k
+            step.distinct (pair-at r.entries (place_number r.entries (Some n)) n x.0 x.1.at) (laws.refl k)
             ∙ ap Some (sym (place_number-mapped pair_of r.entries (Some n)));
       }
 

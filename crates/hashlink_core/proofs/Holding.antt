@@ -12,7 +12,7 @@ use Rattle.hashlink_nodes.specs.Node.{same_node, same_node_equiv}
 use Rattle.hashlink_model.specs.Entries.{IsEntries, place_left}
 use Rattle.hashlink_model.proofs.Finds.{lookup_is}
 use Rattle.hashlink_model.proofs.Places.{place_of_its_key, lookup_entry_at}
-use Rattle.hashlink_core.specs.Keyed.{Keyed, entries_of, HoldsKey, EqualsKeyAt, IsKeyed}
+use Rattle.hashlink_core.specs.Keyed.{Keyed, entries_of, HoldsKey, HoldsMatch, EqualsKeyAt, PassesAt, IsKeyed}
 use Rattle.hashlink_core.specs.Places.{Holds, place_number}
 use Rattle.hashlink_core.specs.Steps.{MovesNode}
 use Rattle.hashlink_core.proofs.Edits.{lt-at, length-removed, slice_get-inserted, moved_at-is, place_left-before}
@@ -86,6 +86,15 @@ at-node m n held =
     let x = node-at m.nodes n held in
     slice_get-map (λ e. e.1) m.nodes (place_number m.nodes (Some n)) ∙ ap (option_map (λ e. e.1)) x.1.at
 
+-- the key of a node that stands at the first key that passes
+pub holds-passes : {K V S : Type 0} (test : K → Bool) (m : Keyed K V S) (n : Node) → HoldsMatch test m.nodes n
+    → PassesAt test (entries_of m) (place_number m.nodes (Some n))
+holds-passes test m n h =
+    let x = node-at m.nodes n h.within in
+    let j = place_number m.nodes (Some n) in
+    subst (λ o. IfSome (option_map (λ e. e.0) o) (λ stored. test stored ≡ true)) (sym (at-node m n h.within))
+    (passes-at test (entries_of m) j x.0 h.place (at-node m n h.within))
+
 -- it holds each key that equals its own, and no other
 module _ {K V S : Type 0} (eq : K → K → Bool) (m : Keyed K V S) (n : Node) (k : K) where
   pub equals-stored : (held : Holds m.nodes n) → EqualsKeyAt eq (entries_of m) (place_number m.nodes (Some n)) k
@@ -101,8 +110,4 @@ module _ {K V S : Type 0} (eq : K → K → Bool) (m : Keyed K V S) (n : Node) (
       holds_key-at laws m sound n (place_number m.nodes (Some n)) x.0 x.1.at k (equals-stored held same)
 
   pub holds-equal : HoldsKey eq m.nodes k n → EqualsKeyAt eq (entries_of m) (place_number m.nodes (Some n)) k
-  holds-equal h =
-      let x = node-at m.nodes n h.within in
-      let j = place_number m.nodes (Some n) in
-      subst (λ o. IfSome (option_map (λ e. e.0) o) (λ stored. eq k stored ≡ true)) (sym (at-node m n h.within))
-      (passes-at (eq k) (entries_of m) j x.0 h.place (at-node m n h.within))
+  holds-equal h = holds-passes (eq k) m n h

@@ -110,14 +110,14 @@ module _ {K V S : Type 0} (old new : Keyed K V S) where
           as (λ c. option_map (λ e. e.0) (cond c (Some e.1) (lookup test (renewed_at (pair_with_value v) es i)))
           ≡ option_map (λ e. e.0) (cond c (Some e.1) (lookup test es))) [ true ↦ refl | false ↦ same test es i ]
 
-  pub keys-grown : GrowsRoom old new → KeepsKeys old new
-  keys-grown s m _ = ap (λ l. option_map (λ e. e.0) (lookup (same_node m) l.nodes)) s.rest
+  pub keys-grown : (i : ℕ) → GrowsRoom i old new → KeepsKeys old new
+  keys-grown i s m _ = ap (λ l. option_map (λ e. e.0) (lookup (same_node m) l.nodes)) s.rest
 
   pub keys-inserted : IsEntries same_node old.nodes → (b : ℕ) (k : K) (v : V) (r : Result Node (K × V))
-      → IfOk r (λ n. AddsNode old new b n k v) → OnErr r (GrowsRoom old new)
+      → IfOk r (λ n. AddsNode old new b n k v) → OnErr r (GrowsRoom 1 old new)
       → KeepsKeys old new
   keys-inserted apart b k v (Ok n) added grown = keys-added apart b n k v added
-  keys-inserted apart b k v (Err p) added grown = keys-grown grown
+  keys-inserted apart b k v (Err p) added grown = keys-grown 1 grown
 
   pub keys-held : KeepsKeys old new → (m : Node) → Holds old.nodes m → Holds new.nodes m
   keys-held kept m held =

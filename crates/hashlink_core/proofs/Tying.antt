@@ -230,26 +230,26 @@ module _ {K V : Type 0} (hash : K → ℕ) where
         (with-middle (take i es) (drop i es) n h d)
 
   -- ---- finding a key by the table
-  -- where each node that has the key's hash holds another key, the key is absent
-  pub untied-absent : (eq : K → K → Bool) (es : List (Node × Held K V)) (t : Contents Node) (k : K)
+  -- where no node that has the hash of the keys that pass holds one, none passes
+  pub untied-absent : (passes : K → Bool) (es : List (Node × Held K V)) (t : Contents Node) (asked : ℕ)
       → IsEntries same_node es → IsTied hash es t
-      → ((x : K) → eq k x ≡ true → hash x ≡ hash k)
-      → ((cell : ℕ) (n : Node) → Keeps t cell (hash k) n → (h : Held K V) → lookup (same_node n) es ≡ Some h
-      → eq k h.key ≡ false)
-      → NonePasses (eq k) (pairs_in es)
-  untied-absent eq es t k d tied alike unlike = from [] es refl
+      → ((x : K) → passes x ≡ true → hash x ≡ asked)
+      → ((cell : ℕ) (n : Node) → Keeps t cell asked n → (h : Held K V) → lookup (same_node n) es ≡ Some h
+      → passes h.key ≡ false)
+      → NonePasses passes (pairs_in es)
+  untied-absent passes es t asked d tied hashed unlike = from [] es refl
     where
-      other : (n : Node) (h : Held K V) → lookup (same_node n) es ≡ Some h → eq k h.key ≡ false
+      other : (n : Node) (h : Held K V) → lookup (same_node n) es ≡ Some h → passes h.key ≡ false
       other n h here =
-          elim (eq k h.key) as (λ b. eq k h.key ≡ b → eq k h.key ≡ false) [
+          elim (passes h.key) as (λ b. passes h.key ≡ b → passes h.key ≡ false) [
             | true ↦ λ e.
-                let there : Keeps t h.number (hash k) n =
-                subst (λ x. Keeps t h.number x n) (alike h.key e) (tied.kept n h here) in
+                let there : Keeps t h.number asked n =
+                subst (λ x. Keeps t h.number x n) (hashed h.key e) (tied.kept n h here) in
                 unlike h.number n there h here
             | false ↦ λ e. e
           ] refl
 
-      from : (before after : List (Node × Held K V)) → es ≡ before ++ after → NonePasses (eq k) (pairs_in after)
+      from : (before after : List (Node × Held K V)) → es ≡ before ++ after → NonePasses passes (pairs_in after)
       from before [] is = tt
       from before (e ∷ after) is =
           let here : lookup (same_node e.0) es ≡ Some e.1 =

@@ -29,14 +29,22 @@ module _ {K V : Type 0} where
   abbrev pub pairs_in : List (Node × Held K V) → List (K × V)
   pairs_in es = values_of (nodes_of es)
 
-  -- the node is of the list, and stands at the place of the key
-  pub record HoldsKey (eq : K → K → Bool) (nodes : List (Node × (K × V))) (k : K) (n : Node) : Type 0 where
+  -- the node is of the list, and stands at the place of the first key that passes the test
+  pub record HoldsMatch (test : K → Bool) (nodes : List (Node × (K × V))) (n : Node) : Type 0 where
     pub within : Holds nodes n
-    pub place : place_of (eq k) (values_of nodes) ≡ Some (place_number nodes (Some n))
+    pub place : place_of test (values_of nodes) ≡ Some (place_number nodes (Some n))
+
+  -- it stands at the place of the key
+  abbrev pub HoldsKey : (K → K → Bool) → List (Node × (K × V)) → K → Node → Type 0
+  HoldsKey eq nodes k n = HoldsMatch (eq k) nodes n
+
+  -- the key at the place passes the test
+  abbrev pub PassesAt : (K → Bool) → List (K × V) → ℕ → Type 0
+  PassesAt test es j = IfSome (key_at es j) (λ stored. test stored ≡ true)
 
   -- the key equals the one at the place
   abbrev pub EqualsKeyAt : (K → K → Bool) → List (K × V) → ℕ → K → Type 0
-  EqualsKeyAt eq es j k = IfSome (key_at es j) (λ stored. eq k stored ≡ true)
+  EqualsKeyAt eq es j k = PassesAt (eq k) es j
 
   -- a pair with another value, and with another key
   abbrev pub pair_with_value : V → K × V → K × V

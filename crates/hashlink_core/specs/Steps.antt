@@ -1,6 +1,6 @@
 -- The steps between two states of a keyed list, by the numbers of places: what the list of nodes is afterwards, and
 -- which step of a map it is.
-use Rattle.std.specs.Prelude.{◌≡◌, ℕ, ◌≤◌, Bool, insert, remove, Option, None}
+use Rattle.std.specs.Prelude.{◌≡◌, ℕ, ◌+◌, Bool, insert, remove, length, Option, None}
 use Rattle.std.specs.Map.{lookup}
 use Rattle.hashlink_nodes.specs.declared.node.Node.{Node}
 use Rattle.hashlink_nodes.specs.Node.{same_node}
@@ -8,7 +8,7 @@ use Rattle.hashlink_model.specs.Cursor.{place_kept}
 use Rattle.std.specs.Option.{option_map}
 use Rattle.hashlink_core.specs.Places.{Holds, IsPlace, place_number, renewed_at}
 use Rattle.hashlink_core.specs.Keyed.{Keyed, entries_of, state_of, pair_with_value, pair_with_key}
-use Rattle.hashlink_model.specs.MapState.{AddsAt, RemovesAt, MovesAt, WritesAt, SetsKeyAt}
+use Rattle.hashlink_model.specs.MapState.{RoomFor, AddsAt, RemovesAt, MovesAt, WritesAt, SetsKeyAt}
 use Rattle.hashlink_model.specs.Entries.{moved_at}
 
 module _ {K V S : Type 0} where
@@ -49,7 +49,7 @@ module _ {K V S : Type 0} where
       (m : Node) → Holds old.nodes m
       → option_map (λ e. e.0) (lookup (same_node m) new.nodes) ≡ option_map (λ e. e.0) (lookup (same_node m) old.nodes)
 
-  -- nothing changed but the room, which did not shrink
-  pub record GrowsRoom (old new : Keyed K V S) : Type 0 where
-    pub more : old.room ≤ new.room
+  -- nothing changed but the room, which may be one for n more nodes now
+  pub record GrowsRoom (n : ℕ) (old new : Keyed K V S) : Type 0 where
+    pub more : RoomFor (length old.nodes + n) old.room new.room
     pub rest : new ≡ record old { room = new.room }

@@ -1,5 +1,5 @@
 //! The keyed list, by places: a place is a node of it, or `None` for the guard, which stands after the last entry.
-ghost use Rattle.std.specs.Prelude.{◌≡◌, ◌^◌, ◌<◌, ◌≤◌, ◌↔◌, [], length, Ok, Err, IfOk};
+ghost use Rattle.std.specs.Prelude.{◌≡◌, ◌*◌, ◌^◌, ◌<◌, ◌≤◌, ◌↔◌, [], length, max, Ok, Err, IfOk};
 ghost use Rattle.hashlink_core.specs.Keyed.{keyed, entries_of, IsKeyed};
 ghost use Rattle.hashlink_table.specs.declared.error.TryReserveError.TheVariants.{CapacityOverflow};
 ghost use Rattle.hashlink_table.specs.declared.table.TheConstants.{MAX_ROOM};
@@ -54,6 +54,7 @@ impl<K: Eq + Hash, V, S: BuildHasher> KeyedList<K, V, S> {
         S: Drop,
         ensures empty { IfOk result (λ m. m ≡ keyed [] 0 m.room 0 hash_builder) }
         ensures room { IfOk result (λ m. room ≤ m.room) }
+        ensures bound { IfOk result (λ m. m.room ≤ 2 * max 4 room) }
         ensures nothing { room ≡ 0 → result ≡ Ok (keyed [] 0 0 0 hash_builder) }
         ensures overflow { (result ≡ Err CapacityOverflow) ↔ (MAX_ROOM < room) }
     {

@@ -1,11 +1,13 @@
 //! A keyed list: a ring of nodes whose keys are pairwise unequal, and the default hashers.
 #![tactic(auto)]
 
+mod equivalent;
 mod hash_builder;
 mod hasher;
 mod iter;
 mod keyed_list;
 
+pub use equivalent::Equivalent;
 pub use hash_builder::DefaultHashBuilder;
 pub use hasher::DefaultHasher;
 pub use hashlink_nodes::Node;

@@ -1,11 +1,11 @@
 -- What a cache ends as, once what was lent out of it has ended.
-use Rattle.std.specs.Prelude.{◌≡◌, Option, OnSome, ⊤}
+use Rattle.std.specs.Prelude.{◌≡◌, Bool, Option, OnSome, ⊤}
 use Rattle.std.specs.Borrow.{Fml, GName, RattleType, MutBor, Lends, LendsSo, follows, follows_so}
 use mathlib.Core.Option.{none}
 use Rattle.std.specs.declared.hash.Hasher as hasher
 use Rattle.std.specs.declared.hash.BuildHasher as builder
-use Rattle.hashlink_model.specs.Cache.{CacheGets, CacheGetsAndWrites}
-use Rattle.hashlink_model.specs.Steps.{with_value_of}
+use Rattle.hashlink_model.specs.Cache.{CacheGetsMatch, CacheGetsMatchAndWrites}
+use Rattle.hashlink_model.specs.Steps.{with_match_value}
 use Rattle.hashlink_core.specs.Keyed.{Keyed}
 use Rattle.hashlink_core.specs.KeyedLends.{HashMembers}
 use Rattle.hashlink_map.specs.Lends.{map_row}
@@ -27,30 +27,30 @@ module _ (K V S T : RattleType) (g : HashMembers K.Denot) (b : builder.Ghosts S.
     abbrev pub LendsMap : MutBor (Keyed K.Denot V.Denot S.Denot) → Fml
     LendsMap m = Lends cache_row (map_row K V S T g b w) c m (with_map c.now)
 
-    module _ (k : K.Denot) where
-      -- the value of the key is lent where it stands: the cache ends with what was written there, and of an absent
-      -- key as it was. No more entries are beyond the capacity than before
+    module _ (test : K.Denot → Bool) where
+      -- the value of the first key that passes is lent where it stands: the cache ends with what was written there,
+      -- and where none passes as it was. No more entries are beyond the capacity than before
       abbrev pub LendsValueIn : Option (MutBor V.Denot) → Fml
       LendsValueIn r =
           LendsSo cache_row V c r
           (λ new v. OnSome r
-          ((state_in new ≡ record (state_in c.now) { map = with_value_of g.eq (state_in c.now).map k v })
+          ((state_in new ≡ record (state_in c.now) { map = with_match_value test (state_in c.now).map v })
           × StaysWithin (state_in c.now) (state_in new)))
           (λ new. state_in new ≡ state_in c.now)
 
-      -- the key moved last, and its value is lent: the cache ends with what was written there, and of an absent key as
-      -- it was. No more entries are beyond the capacity than before
+      -- it moved last, and its value is lent: the cache ends with what was written there, and where none passes as it
+      -- was. No more entries are beyond the capacity than before
       abbrev pub LendsUsed : Option (MutBor V.Denot) → Fml
       LendsUsed r =
           LendsSo cache_row V c r
           (λ new v. OnSome r
-          (CacheGetsAndWrites g.eq (state_in c.now) (state_in new) k v
+          (CacheGetsMatchAndWrites test (state_in c.now) (state_in new) v
           × StaysWithin (state_in c.now) (state_in new)))
           (λ new. state_in new ≡ state_in c.now)
 
-      -- the key moved last, where it is there, with the value that stands, and no more entries are beyond the capacity
-      -- than before
+      -- it moved last, where one passes, with the value that stands, and no more entries are beyond the capacity than
+      -- before
       abbrev pub EndsUsed : Option V.Denot → Fml
       EndsUsed r =
           follows_so cache_row cache_row c.ghost_name none (λ _ _. ⊤)
-          (λ new. CacheGets g.eq (state_in c.now) (state_in new) k r × StaysWithin (state_in c.now) (state_in new))
+          (λ new. CacheGetsMatch test (state_in c.now) (state_in new) r × StaysWithin (state_in c.now) (state_in new))

@@ -2,13 +2,12 @@
 #![tactic(auto)]
 
 mod cache;
-pub mod callers;
 pub mod laws;
 mod texts;
 
 pub use cache::LruCache;
 pub use hashlink_map::{
-    DefaultHashBuilder, DefaultHasher, Drain, Entry, ExtendError, IntoIter, Iter, IterMut,
-    OccupiedEntry, RawEntryBuilder, RawEntryBuilderMut, RawEntryMut, RawOccupiedEntryMut,
+    DefaultHashBuilder, DefaultHasher, Drain, Entry, Equivalent, ExtendError, IntoIter, Iter,
+    IterMut, OccupiedEntry, RawEntryBuilder, RawEntryBuilderMut, RawEntryMut, RawOccupiedEntryMut,
     RawVacantEntryMut, VacantEntry,
 };

@@ -12,7 +12,7 @@ use Rattle.hashlink_model.proofs.ByPlace.{moved_at-here, moved_at-put}
 use Rattle.hashlink_model.proofs.Places.{split_at}
 use Rattle.hashlink_core.proofs.Edits.{place_left-past}
 use Rattle.hashlink_map.proofs.AtNode.{some_from_part}
-use Rattle.hashlink_map.proofs.Steps.{lookup-place, lookup_entry-unplaced, writes_key, removes_key, with_value-key}
+use Rattle.hashlink_map.proofs.Steps.{lookup-place, lookup_entry-unplaced, writes_key, removes_match, with_value-key}
 use Rattle.hashlink_map.proofs.Steps.{none_passes_from_place}
 
 -- an entry that is moved to its own place stays
@@ -73,7 +73,7 @@ module _ {K V S : Type 0} (eq : K → K → Bool) (old new : MapState K V S) (k 
   written-key w s = s ∙ with_value-key eq old k w j p
 
   pub taken-key : (e : K × V) → TakesEntry old new j e → RemovesKey eq old new k (Some e)
-  taken-key e s = removes_key eq old new k j p e s.answer s.step
+  taken-key e s = removes_match (eq k) old new j p e s.answer s.step
 
 set_value-none : {K V : Type 0} (test : K → Bool) (es : List (K × V)) (w : V) → NonePasses test es
     → set_value test es w ≡ es

@@ -10,7 +10,7 @@ use Rattle.std.proofs.lemmas.Option.{slice_get-map}
 use Rattle.std.proofs.lemmas.Map.Entries.{length-values_of}
 use Rattle.hashlink_model.specs.Entries.{place_of, place_left, moved_at, put, stored_key, set_value_at, set_key_at}
 use Rattle.hashlink_model.specs.MapState.{MapState, Changes, AddsEntry, PutsEntry, RefusesEntry, SetsKeyAt}
-use Rattle.hashlink_model.specs.MapState.{MovesAt}
+use Rattle.hashlink_model.specs.MapState.{MovesAt, RoomFor}
 use Rattle.hashlink_model.specs.MapState.{with_value}
 use Rattle.hashlink_model.specs.Entry.{key_at, value_at, replace_entry, VacantInserts}
 use Rattle.hashlink_model.proofs.Places.{split_at, slice_get_here}
@@ -161,7 +161,7 @@ module _ {K V : Type 0} where
 module _ {K V S : Type 0} {eq : K → K → Bool} (laws : IsEquivalence eq) (old new : Keyed K V S) (k : K) (v : V)
     (absent : place_of (eq k) (entries_of old) ≡ None) where
   pub pushes-at : (b : ℕ) (r : Result Node (K × V)) → IfOk r (λ n. AddsNode old new b n k v)
-      → IfErr r (λ p. p ≡ (k, v)) → OnErr r (GrowsRoom old new)
+      → IfErr r (λ p. p ≡ (k, v)) → OnErr r (GrowsRoom 1 old new)
       → OnErr r (old.spare ≡ 0)
       → MatchResult r (λ _. AddsEntry eq (state_of old) (state_of new) k v b)
       (RefusesEntry eq (state_of old) (state_of new) k v)
@@ -169,7 +169,7 @@ module _ {K V S : Type 0} {eq : K → K → Bool} (laws : IsEquivalence eq) (old
   pushes-at b (Err p) went_in back grown none = refused eq old new k v p absent none back grown
 
   pub pushes : (r : Result Node (K × V)) → IfOk r (λ n. AddsNode old new (length old.nodes) n k v)
-      → IfErr r (λ p. p ≡ (k, v)) → OnErr r (GrowsRoom old new)
+      → IfErr r (λ p. p ≡ (k, v)) → OnErr r (GrowsRoom 1 old new)
       → OnErr r (old.spare ≡ 0)
       → VacantInserts eq (state_of old) (state_of new) k v r
   pushes r went_in back grown none =
@@ -226,7 +226,7 @@ module _ {K V S : Type 0} {eq : K → K → Bool} (laws : IsEquivalence eq) (old
           entries = is;
           more = long ∙ s.adds.more;
           spare = s.adds.spare;
-          room = s.adds.room;
+          room = subst (λ l. RoomFor l old.room mid.room) (sym long) s.adds.room;
           fits = omega (arith, s.adds.fits, kept);
           link_writes = s.adds.link_writes;
           hasher = s.adds.hasher;

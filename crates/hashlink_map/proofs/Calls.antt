@@ -1,16 +1,16 @@
 -- What the calls of a map leave, from what the calls of the keyed list inside it leave, at the node of a key.
-use Rattle.std.proofs.Common.{◌≡◌, ◌≤◌, ℕ, suc, Bool, List, [], ◌∷◌, length, Option, None, Some, refl, sym, ap, subst}
-use Rattle.std.proofs.Common.{◌∙◌, arith}
+use Rattle.std.proofs.Common.{◌≡◌, ◌+◌, ◌≤◌, ℕ, suc, Bool, List, [], ◌∷◌, length, Option, None, Some, refl, sym, ap}
+use Rattle.std.proofs.Common.{subst, ◌∙◌, arith}
 use Rattle.std.specs.Prelude.{slice_get, is_some, Result, Ok, Err, IsErrAnd, IsOk, OnOk, OnErr}
 use Rattle.std.specs.Option.{option_map}
 use Rattle.std.specs.Cmp.{IsEquivalence}
 use Rattle.std.specs.Map.{lookup, lookup_entry, values_of}
 use Rattle.std.proofs.lemmas.Result.{err_from_is_err_and}
-use Rattle.hashlink_model.specs.Entries.{IsEntries, place_of, moved}
+use Rattle.hashlink_model.specs.Entries.{IsEntries, IsKeyTest, place_of, moved_match}
 use Rattle.hashlink_model.proofs.Afterwards.{lookup-moved}
-use Rattle.hashlink_model.specs.MapState.{Changes, Grows, MovesAt, AddsAt, AddsEntry, PutsEntry, RefusesEntry}
-use Rattle.hashlink_model.specs.Steps.{Shrinks, WritesEntry, RemovesKey, MovesAndWrites, with_value_of}
-use Rattle.hashlink_core.specs.Keyed.{Keyed, entries_of, state_of, HoldsKey, IsKeyed, pair_with_value}
+use Rattle.hashlink_model.specs.MapState.{RoomFor, Changes, Grows, MovesAt, AddsAt, AddsEntry, PutsEntry, RefusesEntry}
+use Rattle.hashlink_model.specs.Steps.{Shrinks, WritesEntry, RemovesMatch, MovesMatchAndWrites, with_match_value}
+use Rattle.hashlink_core.specs.Keyed.{Keyed, entries_of, state_of, HoldsKey, HoldsMatch, IsKeyed, pair_with_value}
 use Rattle.hashlink_core.specs.Places.{Node, Holds, place_number}
 use Rattle.hashlink_core.specs.KeyedLends.{with_value_at}
 use Rattle.hashlink_core.specs.Steps.{AddsNode, RemovesNode, MovesNode, WritesNode, GrowsRoom}
@@ -19,11 +19,9 @@ use Rattle.hashlink_core.proofs.Places.{place_number-renewed, renewed-holds}
 use Rattle.hashlink_core.proofs.Holding.{moved-holds_key}
 use Rattle.hashlink_model.proofs.ByPlace.{set_value_at-place}
 use Rattle.hashlink_map.proofs.Steps.{lookup_entry-place, lookup-place, adds_key, refuses_key, puts_key, writes_key}
-use Rattle.hashlink_map.proofs.Steps.{moves_key, removes_key}
-
-pub length-values_of : {X : Type 0} (ns : List (Node × X)) → length (values_of ns) ≡ length ns
-length-values_of [] = refl
-length-values_of (e ∷ ns) = ap suc (length-values_of ns)
+use Rattle.std.proofs.lemmas.Map.Entries.{length-values_of}
+use Rattle.hashlink_map.proofs.Steps.{moves_match, removes_match}
+use Rattle.hashlink_model.proofs.Splits.{key_from_place}
 
 module _ {K V S : Type 0} where
   -- the guard's number is the length
@@ -41,11 +39,11 @@ module _ {K V S : Type 0} where
   written-holds old new j v n s h =
       subst (λ ns. Holds ns n) (sym s.nodes) (renewed-holds (pair_with_value v) old.nodes j n h)
 
-  grown-state : (old new : Keyed K V S) → GrowsRoom old new → Grows (state_of old) (state_of new)
-  grown-state old new s = record {
+  grown-state : (i : ℕ) (old new : Keyed K V S) → GrowsRoom i old new → Grows i (state_of old) (state_of new)
+  grown-state i old new s = record {
     entries = ap entries_of s.rest;
     spare = ap (λ m. m.spare) s.rest;
-    room = s.more;
+    room = subst (λ n. RoomFor (n + i) old.room new.room) (sym (length-values_of old.nodes)) s.more;
     link_writes = ap (λ m. m.link_writes) s.rest;
     hasher = ap (λ m. m.hasher) s.rest;
   }
@@ -61,10 +59,10 @@ module _ {K V S : Type 0} (eq : K → K → Bool) (old new : Keyed K V S) (k : K
       (subst (λ i. AddsAt (state_of old) (state_of new) i k v) same s.state)
 
   pub refused : (v : V) (pair : K × V) → place_of (eq k) (entries_of old) ≡ None → old.spare ≡ 0 → pair ≡ (k, v)
-      → GrowsRoom old new
+      → GrowsRoom 1 old new
       → RefusesEntry eq (state_of old) (state_of new) k v pair
   refused v pair p none same s =
-      refuses_key eq (state_of old) (state_of new) k v pair p none same (grown-state old new s)
+      refuses_key eq (state_of old) (state_of new) k v pair p none same (grown-state 1 old new s)
 
   -- ---- a key that is there, at the node n
 
@@ -85,57 +83,68 @@ module _ {K V S : Type 0} (eq : K → K → Bool) (old new : Keyed K V S) (k : K
     written v w was s =
         writes_key eq (state_of old) (state_of new) k (place_number old.nodes (Some n)) found.place v w was s.state
 
-    pub moved-there : (b b' : ℕ) → b' ≡ b → MovesNode old new (place_number old.nodes (Some n)) b'
-        → Changes (state_of old) (state_of new) (moved eq (entries_of old) k b) 6
-    moved-there b b' same s =
-        moves_key eq (state_of old) (state_of new) k (place_number old.nodes (Some n)) found.place b
-        (subst (MovesAt (state_of old) (state_of new) (place_number old.nodes (Some n))) same s.state)
+-- ---- the first key that passes a test, at the node n
 
-    pub removed : (e : K × V) → slice_get (entries_of old) (place_number old.nodes (Some n)) ≡ Some e
-        → RemovesNode old new (place_number old.nodes (Some n))
-        → RemovesKey eq (state_of old) (state_of new) k (Some e)
-    removed e at s =
-        removes_key eq (state_of old) (state_of new) k (place_number old.nodes (Some n)) found.place e at s.state
+module _ {K V S : Type 0} (test : K → Bool) (old new : Keyed K V S) (n : Node)
+    (found : HoldsMatch test old.nodes n) where
+  moved-match : (b b' : ℕ) → b' ≡ b → MovesNode old new (place_number old.nodes (Some n)) b'
+      → Changes (state_of old) (state_of new) (moved_match test (entries_of old) b) 6
+  moved-match b b' same s =
+      moves_match test (state_of old) (state_of new) (place_number old.nodes (Some n)) found.place b
+      (subst (MovesAt (state_of old) (state_of new) (place_number old.nodes (Some n))) same s.state)
 
-    pub stored : (e : K × V) → slice_get (entries_of old) (place_number old.nodes (Some n)) ≡ Some e
-        → lookup_entry (eq k) (entries_of old) ≡ Some e
-    stored e at = lookup_entry-place (eq k) (entries_of old) (place_number old.nodes (Some n)) found.place ∙ at
+  pub removed : (e : K × V) → slice_get (entries_of old) (place_number old.nodes (Some n)) ≡ Some e
+      → RemovesNode old new (place_number old.nodes (Some n))
+      → RemovesMatch test (state_of old) (state_of new) (Some e)
+  removed e at s =
+      removes_match test (state_of old) (state_of new) (place_number old.nodes (Some n)) found.place e at s.state
 
-    pub stored-value : (w : V)
-        → option_map (λ e. e.1) (slice_get (entries_of old) (place_number old.nodes (Some n))) ≡ Some w
-        → lookup (eq k) (entries_of old) ≡ Some w
-    stored-value w at = lookup-place (eq k) (entries_of old) (place_number old.nodes (Some n)) found.place ∙ at
+  pub stored : (e : K × V) → slice_get (entries_of old) (place_number old.nodes (Some n)) ≡ Some e
+      → lookup_entry test (entries_of old) ≡ Some e
+  stored e at = lookup_entry-place test (entries_of old) (place_number old.nodes (Some n)) found.place ∙ at
 
-    -- what is written through a loan of the node's value is written at the key
-    pub lent : (w : V) → state_of (with_value_at old n w) ≡ with_value_of eq (state_of old) k w
-    lent w =
-        let j = place_number old.nodes (Some n) in
-        ap (λ es. record (state_of old) { entries = es })
-        (values-renewed_value old.nodes j w ∙ set_value_at-place (eq k) (entries_of old) j w found.place)
+  pub stored-value : (w : V)
+      → option_map (λ e. e.1) (slice_get (entries_of old) (place_number old.nodes (Some n))) ≡ Some w
+      → lookup test (entries_of old) ≡ Some w
+  stored-value w at = lookup-place test (entries_of old) (place_number old.nodes (Some n)) found.place ∙ at
+
+  -- what is written through a loan of the node's value is written at the key
+  pub lent : (w : V) → state_of (with_value_at old n w) ≡ with_match_value test (state_of old) w
+  lent w =
+      let j = place_number old.nodes (Some n) in
+      ap (λ es. record (state_of old) { entries = es })
+      (values-renewed_value old.nodes j w ∙ set_value_at-place test (entries_of old) j w found.place)
 
 -- a value that is lent at a node that moved before
-module _ {K V S : Type 0} (eq : K → K → Bool) (laws : IsEquivalence eq) (old new : Keyed K V S) (k : K) (n : Node)
-    (found : HoldsKey eq old.nodes k n)
+module _ {K V S : Type 0} (eq : K → K → Bool) (laws : IsEquivalence eq) (test : K → Bool) (tells : IsKeyTest eq test)
+    (old new : Keyed K V S) (n : Node) (found : HoldsMatch test old.nodes n)
     (b b' : ℕ) (same : b' ≡ b) (le : b' ≤ length old.nodes)
     (s : MovesNode old new (place_number old.nodes (Some n)) b') (sound : IsKeyed eq new) where
-  pub moved-found : HoldsKey eq new.nodes k n
-  moved-found = moved-holds_key eq laws old new k n found b' le s sound
+  -- the test is the equality with the key that passes
+  by_key : (P : (K → Bool) → Type 0) → ((k : K) → HoldsKey eq old.nodes k n → P (eq k)) → P test
+  by_key P f =
+      let k = key_from_place test eq tells (entries_of old) (place_number old.nodes (Some n)) found.place in
+      subst P (sym k.1) (f k.0 (subst (λ t. HoldsMatch t old.nodes n) k.1 found))
 
-  pub lent-moved : (w : V) → MovesAndWrites eq (state_of old) (state_of (with_value_at new n w)) k b w
+  pub moved-found : HoldsMatch test new.nodes n
+  moved-found = by_key (λ t. HoldsMatch t new.nodes n) (λ k f. moved-holds_key eq laws old new k n f b' le s sound)
+
+  pub lent-moved : (w : V) → MovesMatchAndWrites test (state_of old) (state_of (with_value_at new n w)) b w
   lent-moved w = record {
     between = state_of new;
-    moves = moved-there eq old new k n found b b' same s;
-    writes = lent eq new new k n moved-found w;
+    moves = moved-match test old new n found b b' same s;
+    writes = lent test new new n moved-found w;
   }
 
   pub moved-value : (w : V)
       → option_map (λ e. e.1) (slice_get (entries_of new) (place_number new.nodes (Some n))) ≡ Some w
       → IsEntries eq (entries_of old)
-      → lookup (eq k) (entries_of old) ≡ Some w
+      → lookup test (entries_of old) ≡ Some w
   moved-value w at d =
-      sym (lookup-moved eq laws k (entries_of old) k b d)
-      ∙ ap (lookup (eq k)) (sym (moved-there eq old new k n found b b' same s).entries)
-      ∙ stored-value eq new new k n moved-found w at
+      by_key (λ t. lookup t (entries_of old) ≡ Some w)
+      (λ k f. sym (lookup-moved eq laws k (entries_of old) k b d)
+      ∙ ap (lookup (eq k)) (sym (moved-match (eq k) old new n f b b' same s).entries)
+      ∙ stored-value (eq k) new new n (moved-holds_key eq laws old new k n f b' le s sound) w at)
 
 pub is_some-map : {X Y : Type 0} (f : X → Y) (o : Option X) → is_some (option_map f o) ≡ is_some o
 is_some-map f None = refl

@@ -1,5 +1,6 @@
 -- What is made of clones of a map's pairs.
-use Rattle.std.proofs.Common.{◌≡◌, Bool, true, List, [], ◌∷◌, ◌++◌, refl, ap, ap₂, ◌∙◌}
+use Rattle.std.proofs.Common.{◌≡◌, Bool, true, List, [], ◌∷◌, ◌++◌, Result, Ok, Err, refl, ap, ap₂, ◌∙◌}
+use Rattle.std.specs.Prelude.{IfOk, OnErr, MatchResult}
 use Rattle.std.specs.Cmp.{IsEquivalence}
 use Rattle.hashlink_model.specs.Compare.{entries_eq}
 use Rattle.hashlink_model.specs.Entries.{IsEntries, extended}
@@ -8,7 +9,7 @@ use Rattle.hashlink_model.specs.MapState.{MapState, empty_map}
 use Rattle.hashlink_model.proofs.Clones.{clone_is_equal}
 use Rattle.hashlink_model.proofs.Extends.{extended-own}
 use Rattle.hashlink_model.proofs.InTurn.{accepts_entries}
-use Rattle.hashlink_map.specs.Cloning.{ArePairClones}
+use Rattle.hashlink_map.specs.Cloning.{ArePairClones, IsOfPairClones}
 
 module _ {K V : Type 0} (clones-key : K → K → Type 0) (clones-value : V → V → Type 0) where
   -- one clone more
@@ -58,3 +59,25 @@ module _ {K V : Type 0} (clones-key : K → K → Type 0) (clones-value : V → 
         accepts_entries eq (empty_map s) m clones made
         ∙ ap (extended eq []) (clones_same f g es clones z)
         ∙ extended-own eq laws es distinct
+
+  -- what std's trait says of a clone, by its answer, of what holds a map
+  pub clone_by_answer : {S M E : Type 0} (eq : K → K → Bool) (H : S → Type 0) (sure : Type 0) (es : List (K × V))
+      (view : M → MapState K V S) (r : Result M E)
+      → IfOk r (λ m. (s : S) × H s × (clones : List (K × V)) × ArePairClones clones-key clones-value es clones
+      × MadeFrom (InsertsPair eq) clones s (view m))
+      → OnErr r (sure → es ≡ [] → ⊥)
+      → ((eqv : V → V → Bool) → ((x y : K) → clones-key x y → eq x y ≡ true)
+      → ((x y : V) → clones-value x y → eqv x y ≡ true) → IfOk r (λ m. entries_eq eq eqv es (view m).entries ≡ true))
+      → (((x y : K) → clones-key x y → y ≡ x) → ((x y : V) → clones-value x y → y ≡ x)
+      → IfOk r (λ m. (view m).entries ≡ es))
+      → MatchResult r (λ m. IsOfPairClones eq clones-key clones-value H es (view m)) (λ _. ¬ (sure × es ≡ []))
+  clone_by_answer eq H sure es view (Ok m) made refused equal same = record {
+    hash_builder = made.0;
+    hasher = made.1;
+    clones = made.2;
+    cloned = made.3;
+    made = made.4;
+    equal = equal;
+    same = same;
+  }
+  clone_by_answer eq H sure es view (Err e) made refused equal same = λ both. refused both.0 both.1

@@ -4,6 +4,7 @@ pub mod AtNode
 pub mod Calls
 pub mod Clones
 pub mod CursorPairs
+pub mod Extending
 pub mod InTurn
 pub mod Indexing
 pub mod LastMoved

@@ -2,22 +2,22 @@
 use Rattle.std.proofs.Common.{◌≡◌, ◌⊎◌, inl, inr, ℕ, zero, suc, ◌+◌, ◌-◌, ◌≤◌, Bool, List, [], ◌∷◌, ◌++◌, length}
 use Rattle.std.proofs.Common.{drop, take, None, Some, refl, sym, ap, subst, ◌∙◌, arith}
 use Rattle.std.specs.Prelude.{slice_get}
-use Rattle.std.specs.Option.{option_map}
+use Rattle.std.specs.Option.{option_map, option_map_or}
 use Rattle.std.specs.Map.{lookup, lookup_entry}
 use Rattle.std.proofs.lemmas.Map.{NonePasses}
 use Rattle.std.proofs.lemmas.Option.{none-some}
 use Rattle.std.proofs.lemmas.List.{append-nil}
-use Rattle.hashlink_model.specs.Entries.{place_of, moved, moved_at, set_value_at}
+use Rattle.hashlink_model.specs.Entries.{place_of, moved_match, moved_at, set_value_at}
 use Rattle.hashlink_model.specs.MapState.{MapState, Changes, Adds, Removes, Grows, AddsAt, RemovesAt, MovesAt}
 use Rattle.hashlink_model.specs.MapState.{WritesAt}
 use Rattle.hashlink_model.specs.MapState.{AddsEntry, PutsEntry, RefusesEntry, with_value}
-use Rattle.hashlink_model.specs.Steps.{WritesEntry, RemovesKey, PopsFront, PopsBack, with_value_of}
+use Rattle.hashlink_model.specs.Steps.{WritesEntry, RemovesMatch, PopsFront, PopsBack, with_value_of}
 use Rattle.hashlink_model.proofs.Splits.{Stands, splits, stands_from_place, place_of-here, lookup-none}
 use Rattle.hashlink_model.proofs.Splits.{lookup_entry-none, lookup_entry-here}
 use Rattle.hashlink_model.proofs.Finds.{lookup_is}
 use Rattle.hashlink_model.proofs.Puts.{put-absent}
 use Rattle.hashlink_model.proofs.Places.{slice_get_here}
-use Rattle.hashlink_model.proofs.ByPlace.{remove-place, moved_at-put, moved_at-place, set_value_at-place}
+use Rattle.hashlink_model.proofs.ByPlace.{remove-place, moved_at-put, set_value_at-place}
 
 -- ---- what a place says of look-ups
 
@@ -80,7 +80,7 @@ module _ {K V S : Type 0} (eq : K → K → Bool) (old new : MapState K V S) (k 
   }
 
   pub refuses_key : (v : V) (pair : K × V) → place_of (eq k) old.entries ≡ None → old.spare ≡ 0 → pair ≡ (k, v)
-      → Grows old new
+      → Grows 1 old new
       → RefusesEntry eq old new k v pair
   refuses_key v pair p none same s = record {
     may_refuse = record { absent = lookup-unplaced (eq k) old.entries p; no_spare = none };
@@ -108,15 +108,21 @@ module _ {K V S : Type 0} (eq : K → K → Bool) (old new : MapState K V S) (k 
       writes = subst (λ es. Changes old new es 0) (set_value_at-place (eq k) old.entries j v p) s;
     }
 
-    pub moves_key : (b : ℕ) → MovesAt old new j b → Changes old new (moved eq old.entries k b) 6
-    moves_key b s = subst (λ es. Changes old new es 6) (moved_at-place eq old.entries k j p b) s
+-- ---- at the first key that passes a test
 
-    pub removes_key : (e : K × V) → slice_get old.entries j ≡ Some e → RemovesAt old new j
-        → RemovesKey eq old new k (Some e)
-    removes_key e at s = record {
-      answer = sym (lookup_entry-place (eq k) old.entries j p ∙ at);
-      step = subst (Removes old new) (remove-place eq old.entries k j p) s;
-    }
+module _ {K V S : Type 0} (test : K → Bool) (old new : MapState K V S) (j : ℕ)
+    (p : place_of test old.entries ≡ Some j) where
+  pub moves_match : (b : ℕ) → MovesAt old new j b → Changes old new (moved_match test old.entries b) 6
+  moves_match b s =
+      subst (λ es. Changes old new es 6)
+      (sym (ap (λ o. option_map_or (λ i. moved_at old.entries i b) o old.entries) p)) s
+
+  pub removes_match : (e : K × V) → slice_get old.entries j ≡ Some e → RemovesAt old new j
+      → RemovesMatch test old new (Some e)
+  removes_match e at s = record {
+    answer = sym (lookup_entry-place test old.entries j p ∙ at);
+    step = subst (Removes old new) (remove-place test old.entries j p) s;
+  }
 
 -- what is written at the place of a key is written at the key
 pub with_value-key : {K V S : Type 0} (eq : K → K → Bool) (m : MapState K V S) (k : K) (v : V) (j : ℕ)

@@ -1,7 +1,8 @@
 -- What a map is made of, and when it is not.
-use Rattle.std.specs.Prelude.{ℕ, List, [], Result}
+use Rattle.std.specs.Prelude.{◌≡◌, ℕ, Bool, true, List, [], Result}
 use Rattle.std.specs.List.{AllZip}
-use Rattle.hashlink_model.specs.Many.{StopsAt}
+use Rattle.hashlink_model.specs.Compare.{entries_eq}
+use Rattle.hashlink_model.specs.Many.{StopsAt, MadeFrom, InsertsPair}
 use Rattle.hashlink_model.specs.MapState.{MapState, empty_map}
 
 -- each pair of the second list is made of a clone of the key and a clone of the value of the pair in its place
@@ -14,3 +15,22 @@ abbrev pub StopsMaking : {K V S Item A : Type 0} → (MapState K V S → MapStat
     → S → List Item → Type 0
 StopsMaking {K} {V} {S} {Item} step s items =
     (m : MapState K V S) × (taken : ℕ) × (back : Item) × StopsAt step (empty_map s) items m taken back []
+
+-- the items made a map with a hasher of which H holds
+abbrev pub IsMadeOf : {K V S Item A : Type 0} → (MapState K V S → MapState K V S → Item → Result A Item → Type 0)
+    → (S → Type 0) → List Item → MapState K V S → Type 0
+IsMadeOf {K} {V} {S} step H items m = (s : S) × H s × MadeFrom step items s m
+
+-- a clone of each pair of es was inserted in turn into an empty map, with a hasher of which H holds. So the map has es
+-- where clones are their sources, and is equal to es where they are equal to them
+pub record IsOfPairClones {K V S : Type 0} (eq : K → K → Bool) (clones-key : K → K → Type 0)
+    (clones-value : V → V → Type 0) (H : S → Type 0) (es : List (K × V)) (new : MapState K V S) : Type 0 where
+  pub hash_builder : S
+  pub hasher : H hash_builder
+  pub clones : List (K × V)
+  pub cloned : ArePairClones clones-key clones-value es clones
+  pub made : MadeFrom (InsertsPair eq) clones hash_builder new
+  pub equal : (eqv : V → V → Bool) → ((x y : K) → clones-key x y → eq x y ≡ true)
+      → ((x y : V) → clones-value x y → eqv x y ≡ true)
+      → entries_eq eq eqv es new.entries ≡ true
+  pub same : ((x y : K) → clones-key x y → y ≡ x) → ((x y : V) → clones-value x y → y ≡ x) → new.entries ≡ es

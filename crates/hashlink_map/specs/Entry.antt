@@ -11,7 +11,7 @@ use Rattle.hashlink_model.specs.Entry.{EntryState, value_at}
 use Rattle.hashlink_core.specs.Places.{place_number}
 use Rattle.hashlink_core.specs.Keyed.{Keyed, state_of}
 use Rattle.hashlink_core.specs.KeyedLends.{with_value_at}
-use Rattle.hashlink_map.specs.Standing.{still_holds_key}
+use Rattle.hashlink_map.specs.Standing.{still_holds_match}
 use Rattle.hashlink_map.specs.declared.as_node.AsNode as as_node
 use Rattle.hashlink_map.specs.declared.entry.Entry.{Entry}
 use Rattle.hashlink_map.specs.declared.entry.Entry.TheVariants.{Occupied, Vacant}
@@ -57,7 +57,7 @@ module _ {K V S T : Type 0} {g : eq.Ghosts K} {h : hash.Ghosts K} {b : builder.G
     occupied_with o v =
         record o {
           map = record o.map { now = with_value_at o.map.now (n.node o.node) v };
-          stands = still_holds_key v o.map.now.nodes o.key (n.node o.node) o.stands;
+          stands = still_holds_match v o.map.now.nodes (n.node o.node) o.stands;
         }
 
     -- v was written as the value, and nothing else changed

@@ -1,10 +1,10 @@
 -- What a map ends as, once a `&mut` to a value has ended.
-use Rattle.std.specs.Prelude.{◌≡◌, ℕ, Option, OnSome, ⊤}
+use Rattle.std.specs.Prelude.{◌≡◌, ℕ, Bool, Option, OnSome, ⊤}
 use Rattle.std.specs.Borrow.{Fml, GName, RattleType, MutBor, Lends, LendsSo, follows, follows_so}
 use mathlib.Core.Option.{none}
 use Rattle.std.specs.declared.hash.Hasher as hasher
 use Rattle.std.specs.declared.hash.BuildHasher as builder
-use Rattle.hashlink_model.specs.Steps.{with_value_of, MovesAndWrites}
+use Rattle.hashlink_model.specs.Steps.{with_match_value, MovesMatchAndWrites}
 use Rattle.hashlink_core.specs.Keyed.{Keyed, state_of}
 use Rattle.hashlink_core.specs.KeyedLends.{HashMembers, with_value_at}
 use Rattle.hashlink_core.specs.Places.{Node}
@@ -27,18 +27,19 @@ module _ (K V S T : RattleType) (g : HashMembers K.Denot) (b : builder.Ghosts S.
   abbrev pub LendsAtNode : MutBor (Keyed K.Denot V.Denot S.Denot) → Node → MutBor V.Denot → Fml
   LendsAtNode m n r = Lends map_row V m r (with_value_at m.now n)
 
-  module _ (m : MutBor (Keyed K.Denot V.Denot S.Denot)) (k : K.Denot) where
-    -- the value of the key is lent: the map ends with what was written there, and of an absent key as it was
+  module _ (m : MutBor (Keyed K.Denot V.Denot S.Denot)) (test : K.Denot → Bool) where
+    -- the value of the first key that passes is lent: the map ends with what was written there, and where none passes
+    -- as it was
     abbrev pub LendsValueOf : Option (MutBor V.Denot) → Fml
     LendsValueOf r =
         LendsSo map_row V m r
-        (λ new v. OnSome r (state_of new ≡ with_value_of g.eq (state_of m.now) k v))
+        (λ new v. OnSome r (state_of new ≡ with_match_value test (state_of m.now) v))
         (λ new. state_of new ≡ state_of m.now)
 
-    -- the key moved to the place p, and its value is lent: the map ends with what was written there, and of an absent
-    -- key as it was
+    -- it moved to the place p, and its value is lent: the map ends with what was written there, and where none passes
+    -- as it was
     abbrev pub LendsMoved : ℕ → Option (MutBor V.Denot) → Fml
     LendsMoved p r =
         LendsSo map_row V m r
-        (λ new v. OnSome r (MovesAndWrites g.eq (state_of m.now) (state_of new) k p v))
+        (λ new v. OnSome r (MovesMatchAndWrites test (state_of m.now) (state_of new) p v))
         (λ new. state_of new ≡ state_of m.now)

@@ -6,6 +6,7 @@ pub mod CursorLends
 pub mod Drain
 pub mod Entry
 pub mod EntryLends
+pub mod Extending
 pub mod Indexed
 pub mod IterMut
 pub mod IterMutLends

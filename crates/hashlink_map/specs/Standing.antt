@@ -5,7 +5,7 @@ use Rattle.std.specs.Map.{values_of}
 use Rattle.std.proofs.Common.{refl, sym, ap, subst, ◌∙◌}
 use Rattle.hashlink_model.specs.Entries.{place_of}
 use Rattle.hashlink_core.specs.Places.{Node, Holds, IsPlace, place_number, renewed_at}
-use Rattle.hashlink_core.specs.Keyed.{Keyed, HoldsKey, pair_with_value}
+use Rattle.hashlink_core.specs.Keyed.{Keyed, HoldsKey, HoldsMatch, pair_with_value}
 use Rattle.hashlink_core.specs.Walk.{StandsBetween}
 use Rattle.hashlink_core.proofs.Places.{place_number-renewed, renewed-holds}
 use denote.Struct.Props.{props}
@@ -53,13 +53,13 @@ module _ {K V : Type 0} (v : V) where
       }
 
   -- and holds the keys that it held
-  pub still_holds_key : {eq : K → K → Bool} (ns : List (Node × (K × V))) (k : K) (n : Node) → HoldsKey eq ns k n
-      → HoldsKey eq (renewed_at (pair_with_value v) ns (place_number ns (Some n))) k n
-  still_holds_key {eq = eq} ns k n h =
+  pub still_holds_match : {test : K → Bool} (ns : List (Node × (K × V))) (n : Node) → HoldsMatch test ns n
+      → HoldsMatch test (renewed_at (pair_with_value v) ns (place_number ns (Some n))) n
+  still_holds_match {test = test} ns n h =
       let j = place_number ns (Some n) in
       record {
         within = renewed-holds (pair_with_value v) ns j n h.within;
         place =
-            key_place-renewed (eq k) ns j ∙ h.place
+            key_place-renewed test ns j ∙ h.place
             ∙ ap Some (sym (place_number-renewed (pair_with_value v) ns j (Some n)));
       }

@@ -86,7 +86,7 @@ impl<K: Eq + Hash, V, S: BuildHasher> LinkedHashMap<K, V, S> {
         self.list.move_after(node, None);
     }
 
-    /// Puts the value in where the node stands, and answers the old one.
+    /// Puts the value in where the node stands, and returns the old one.
     #[inline]
     pub(crate) fn replace_value_at(&mut self, node: Node, value: V) -> V
         requires { Holds self.old.nodes node }
@@ -97,7 +97,7 @@ impl<K: Eq + Hash, V, S: BuildHasher> LinkedHashMap<K, V, S> {
         self.list.replace_value(node, value)
     }
 
-    /// Puts an equal key in where the node stands, and answers the old one.
+    /// Puts an equal key in where the node stands, and returns the old one.
     #[inline]
     pub(crate) fn replace_key_at(&mut self, node: Node, key: K) -> K
         requires held { Holds self.old.nodes node }
@@ -109,7 +109,7 @@ impl<K: Eq + Hash, V, S: BuildHasher> LinkedHashMap<K, V, S> {
         self.list.replace_key(node, key)
     }
 
-    /// Puts the value in and moves the node to the end, and answers the old value.
+    /// Puts the value in and moves the node to the end, and returns the old value.
     pub(crate) fn put_value_last(&mut self, node: Node, value: V) -> V
         requires { Holds self.old.nodes node }
         ensures inserts { InsertsValue (state_of self.old) (state_of self.new)
@@ -121,7 +121,7 @@ impl<K: Eq + Hash, V, S: BuildHasher> LinkedHashMap<K, V, S> {
         old
     }
 
-    /// Puts an equal key and the value in where the node stands, and answers the old pair.
+    /// Puts an equal key and the value in where the node stands, and returns the old pair.
     pub(crate) fn replace_pair_at(&mut self, node: Node, key: K, value: V) -> (K, V)
         requires { HoldsKey K.eq self.old.nodes key node }
         ensures replaces { ReplacesEntry (state_of self.old) (state_of self.new)
@@ -133,7 +133,7 @@ impl<K: Eq + Hash, V, S: BuildHasher> LinkedHashMap<K, V, S> {
         (old_key, old_value)
     }
 
-    /// Puts an equal key and the value in and moves the node to the end, and answers the old pair.
+    /// Puts an equal key and the value in and moves the node to the end, and returns the old pair.
     pub(crate) fn put_pair_last(&mut self, node: Node, key: K, value: V) -> (K, V)
         requires { HoldsKey K.eq self.old.nodes key node }
         ensures { InsertsEntry (state_of self.old) (state_of self.new) (place_number self.old.nodes (Some node)) key

@@ -73,7 +73,7 @@ impl<K: Eq + Hash, V, S: BuildHasher> LinkedHashMap<K, V, S> {
         }
     }
 
-    /// Puts the value in where the node stands, and answers the old one: every place is where it was.
+    /// Puts the value in where the node stands, and returns the old one: every place is where it was.
     #[inline]
     pub(crate) fn write_at(&mut self, node: Node, value: V) -> V
         requires { Holds self.old.nodes node }
@@ -124,7 +124,7 @@ impl<K: Eq + Hash, V, S: BuildHasher> LinkedHashMap<K, V, S> {
         self.list.insert_before(place, hash, key, value)
     }
 
-    /// Puts the pair right before the place, and answers the key's old value. A key that is there keeps its key
+    /// Puts the pair right before the place, and returns the key's old value. A key that is there keeps its key
     /// object, takes the new value and moves there, unless it stands there. Each place stays on its entry.
     pub(crate) fn insert_at(
         &mut self,

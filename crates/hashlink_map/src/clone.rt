@@ -1,10 +1,10 @@
 //! Maps that are made whole: of the items of an iterator, and as a clone.
-ghost use Rattle.std.specs.Prelude.{◌≡◌, List, Bool, true, Option, Ok, IfOk, OnOk, OnErr};
+ghost use Rattle.std.specs.Prelude.{◌≡◌, List, [], Bool, true, Option, Ok, IfOk, OnOk, OnErr};
 ghost use Rattle.std.specs.Iterator.{IsFiniteIterable};
 ghost use Rattle.hashlink_model.specs.Compare.{entries_eq};
 ghost use Rattle.hashlink_model.specs.Many.{MadeFrom, InsertsPair};
 ghost use Rattle.hashlink_core.specs.Keyed.{state_of, entries_of};
-ghost use Rattle.hashlink_map.specs.Cloning.{ArePairClones, StopsMaking};
+ghost use Rattle.hashlink_map.specs.Cloning.{ArePairClones, IsMadeOf, IsOfPairClones, StopsMaking};
 ghost use Rattle.hashlink_map.specs.Reading.{ReadsAll, ReadsSome};
 
 use crate::map::LinkedHashMap;
@@ -15,7 +15,7 @@ impl<K: Eq + Hash + Drop, V: Drop, S: BuildHasher + Default + Drop> LinkedHashMa
     /// A map of the items, each inserted in turn as `insert` does, that hashes by `S::default()`. The iterator has to
     /// end. No room is made before an item needs it.
     ///
-    /// It answers `AllocError` where the memory for an item is refused. Then nothing after that item is read, and
+    /// It returns `AllocError` where the memory for an item is refused. Then nothing after that item is read, and
     /// nothing is left of the map.
     pub fn from_iter<I: IntoIterator<Item = (K, V)>>(
         alloc: Global,
@@ -34,16 +34,32 @@ impl<K: Eq + Hash + Drop, V: Drop, S: BuildHasher + Default + Drop> LinkedHashMa
     }
 }
 
+/// `collect(alloc)` makes a map of the items as the function `from_iter` does.
+impl<K: Eq + Hash + Drop, V: Drop, S: BuildHasher + Default + Drop> FromIterator<(K, V)>
+    for LinkedHashMap<K, V, S> {
+    type Alloc = Global;
+
+    ghost from_iter_gives = { λ items map. IsMadeOf (InsertsPair K.eq) S.is_default items (state_of map) };
+
+    fn from_iter<I: IntoIterator<Item = (K, V)>>(
+        alloc: Global,
+        iter: I,
+    ) -> Result<Self, AllocError> {
+        LinkedHashMap::from_iter(alloc, iter)
+    }
+}
+
 impl<K: Eq + Hash + Clone, V: Clone, S: BuildHasher + Clone> LinkedHashMap<K, V, S> {
     /// A map with a clone of the hasher, in which a clone of each pair was inserted in turn, front first. It is in the
     /// same allocator's memory, and has no spare node.
     ///
-    /// It answers `AllocError` where the memory for a clone or for a node is refused, and then nothing is left of the
-    /// new map.
+    /// It returns `AllocError` where the memory for a clone or for a node is refused, and then nothing is left of the
+    /// new map. A clone of an empty map is not refused where that of its hasher is not.
     pub fn clone(&self) -> Result<Self, AllocError>
         ensures made { IfOk result (λ map. (s : S) × S.is_clone self.now.hasher s × (clones : List (K × V))
             × ArePairClones K.is_clone V.is_clone (entries_of self.now) clones
             × MadeFrom (InsertsPair K.eq) clones s (state_of map)) }
+        ensures refused { OnErr result (S.is_infallible self.now.hasher → entries_of self.now ≡ [] → ⊥) }
 
         // Where clones are equal to their sources, the clone is equal to the map.
         ensures equal { (eqv : V → V → Bool) → ((x y : K) → K.is_clone x y → K.eq x y ≡ true)
@@ -69,5 +85,17 @@ impl<K: Eq + Hash + Clone, V: Clone, S: BuildHasher + Clone> LinkedHashMap<K, V,
             Ok(_) => Ok(()),
             Err(_) => Err(AllocError),
         }
+    }
+}
+
+/// What holds a map may be cloned with it: a clone is made as the function `clone` makes it.
+impl<K: Eq + Hash + Clone, V: Clone, S: BuildHasher + Clone> Clone for LinkedHashMap<K, V, S> {
+    ghost is_clone = { λ map made. IsOfPairClones K.eq K.is_clone V.is_clone (S.is_clone map.hasher)
+        (entries_of map) (state_of made) };
+
+    ghost is_infallible = { λ map. S.is_infallible map.hasher × (entries_of map ≡ []) };
+
+    fn clone(&self) -> Result<Self, AllocError> {
+        LinkedHashMap::clone(self)
     }
 }

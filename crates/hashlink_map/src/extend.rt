@@ -3,11 +3,14 @@ ghost use Rattle.std.specs.Prelude.{List, [], None, OnOk, IfErr, map};
 ghost use Rattle.std.specs.Iterator.{IsFinite, IsFiniteIterable, Yields, YieldsThen};
 ghost use Rattle.std.specs.Map.Iter.{deref_pair};
 ghost use Rattle.hashlink_model.specs.Many.{AcceptsAll, StopsAt, InsertsPair};
+ghost use Rattle.hashlink_model.specs.MapState.{Grows};
 ghost use Rattle.hashlink_core.specs.Keyed.{state_of};
+ghost use Rattle.hashlink_map.specs.Extending.{TakesItems};
 ghost use Rattle.hashlink_map.specs.Reading.{ReadsAll, ReadsSome};
 
 use crate::extend_error::ExtendError;
 use crate::map::LinkedHashMap;
+use std::alloc::AllocError;
 use std::hash::{BuildHasher, Hash};
 
 impl<K: Eq + Hash + Drop, V: Drop, S: BuildHasher> LinkedHashMap<K, V, S> {
@@ -77,6 +80,31 @@ impl<'a, K: Eq + Hash + Copy + 'a, V: Copy + 'a, S: BuildHasher> LinkedHashMap<K
             }
             taken = taken.saturating_add(1);
         }
+        Ok(())
+    }
+}
+
+/// The items go in as by the function `extend`. The refused one is dropped.
+impl<K: Eq + Hash + Drop, V: Drop, S: BuildHasher> Extend<(K, V)> for LinkedHashMap<K, V, S> {
+    ghost extend_gives = { λ old items new. TakesItems (InsertsPair K.eq) (Grows 1) (state_of old) items (state_of new) };
+
+    fn extend<I: IntoIterator<Item = (K, V)>>(&mut self, iter: I) -> Result<(), AllocError> {
+        LinkedHashMap::extend(self, iter)?;
+        Ok(())
+    }
+}
+
+/// Copies of the pairs go in as by the function `extend_ref`.
+impl<'a, K: Eq + Hash + Copy + 'a, V: Copy + 'a, S: BuildHasher> Extend<(&'a K, &'a V)>
+    for LinkedHashMap<K, V, S> {
+    ghost extend_gives = { λ old items new. TakesItems (InsertsPair K.eq) (Grows 1) (state_of old)
+        (map deref_pair items) (state_of new) };
+
+    fn extend<I: IntoIterator<Item = (&'a K, &'a V)>>(
+        &mut self,
+        iter: I,
+    ) -> Result<(), AllocError> {
+        self.extend_ref(iter)?;
         Ok(())
     }
 }

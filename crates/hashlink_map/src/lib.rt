@@ -4,7 +4,6 @@
 mod as_node;
 mod at_node;
 mod at_place;
-pub mod callers;
 mod clone;
 mod compare;
 mod cursor;
@@ -27,7 +26,9 @@ pub use cursor::CursorMut;
 pub use drain::Drain;
 pub use entry::{Entry, OccupiedEntry, VacantEntry};
 pub use extend_error::ExtendError;
-pub use hashlink_core::{DefaultHashBuilder, DefaultHasher, Iter, Keys, TryReserveError, Values};
+pub use hashlink_core::{
+    DefaultHashBuilder, DefaultHasher, Equivalent, Iter, Keys, TryReserveError, Values,
+};
 pub use into_iter::IntoIter;
 pub use iter_mut::IterMut;
 pub use map::LinkedHashMap;

@@ -46,7 +46,7 @@ impl<K: Eq + Hash, V> LinkedHashMap<K, V, DefaultHashBuilder> {
 
     /// An empty map with room for so many entries, which hashes by `DefaultHasher`. For none it takes no memory.
     ///
-    /// It answers `CapacityOverflow` for more than 2 to the power of 62 entries, and `AllocError` where the memory is
+    /// It returns `CapacityOverflow` for more than 2 to the power of 62 entries, and `AllocError` where the memory is
     /// refused.
     pub fn with_capacity(alloc: Global, capacity: usize) -> Result<Self, TryReserveError>
         ensures made { IfOk result (λ map. IsMadeWith capacity default_builder (state_of map)) }
@@ -69,7 +69,7 @@ impl<K: Eq + Hash, V, S: BuildHasher> LinkedHashMap<K, V, S> {
 
     /// An empty map with room for so many entries that hashes by `hash_builder`. For none it takes no memory.
     ///
-    /// It answers `CapacityOverflow` for more than 2 to the power of 62 entries, and `AllocError` where the memory is
+    /// It returns `CapacityOverflow` for more than 2 to the power of 62 entries, and `AllocError` where the memory is
     /// refused.
     pub fn with_capacity_and_hasher(
         alloc: Global,

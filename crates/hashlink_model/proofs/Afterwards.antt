@@ -1,19 +1,25 @@
 -- What stands after a key was put, moved or taken out: lengths, look-ups, and the same step once more.
-use Rattle.std.proofs.Common.{ap₂, ◌≡◌, ℕ, ◌+◌, Bool, true, false, cond, List, [], ◌∷◌, ◌++◌, length, Option, None}
-use Rattle.std.proofs.Common.{Some, refl, sym, ap, ◌∙◌, arith, take, drop}
+use Rattle.std.proofs.Common.{ap₂, ◌⊎◌, inl, inr, ◌≡◌, ℕ, ◌+◌, Bool, true, false, cond, List, [], ◌∷◌, ◌++◌, length}
+use Rattle.std.proofs.Common.{Option, None, Some, refl, sym, ap, ◌∙◌, arith, take, drop}
 use Rattle.std.specs.Prelude.{unwrap_or}
-use Rattle.std.specs.Option.{option_map}
+use Rattle.std.specs.Option.{option_map, option_map_or}
 use Rattle.std.specs.Cmp.{IsEquivalence}
 use Rattle.std.specs.Map.{lookup, lookup_entry, lookup_key}
 use Rattle.std.proofs.lemmas.Map.{NonePasses}
 use Rattle.std.proofs.lemmas.List.{take-append-drop, length-append}
 use Rattle.hashlink_model.specs.Entries.{IsEntries, place_without, without, stored_key, put, moved}
+use Rattle.hashlink_model.specs.Entries.{moved_at, moved_match}
+pub use Rattle.hashlink_model.proofs.ByPlace.{moved-there}
 use Rattle.hashlink_model.proofs.Splits.{Stands, stands_from_lookup, none_from_lookup, remove_entry-none}
-use Rattle.hashlink_model.proofs.Splits.{remove_entry-here}
+use Rattle.hashlink_model.proofs.Splits.{remove_entry-here, place_of-none, splits}
 use Rattle.hashlink_model.proofs.Distinct.{each-left}
 use Rattle.hashlink_model.proofs.Finds.{lookup_is, lookup_key_is, option_map-cond, stored_key-equal}
 use Rattle.hashlink_model.proofs.Finds.{lookup_entry-without, lookup-equal}
 use Rattle.hashlink_model.proofs.Puts.{put_back, put_front, lookup_entry-put, none_without, IsEntries-put}
+
+moved_match-none : {K V : Type 0} (test : K → Bool) (es : List (K × V)) (b : ℕ) → NonePasses test es
+    → moved_match test es b ≡ es
+moved_match-none test es b n = ap (λ o. option_map_or (λ j. moved_at es j b) o es) (place_of-none test es n)
 
 module _ {K V : Type 0} (eq : K → K → Bool) where
   -- ---- lengths
@@ -53,20 +59,25 @@ module _ {K V : Type 0} (eq : K → K → Bool) where
 
   -- ---- a move is a put of the value that stands
 
-  pub moved-there : (es : List (K × V)) (k : K) (b : ℕ) (w : V) → lookup (eq k) es ≡ Some w
-      → moved eq es k b ≡ put eq es k w b
-  moved-there es k b w l = rw l refl
-
   pub moved-absent : (es : List (K × V)) (k : K) (b : ℕ) → lookup (eq k) es ≡ None → moved eq es k b ≡ es
-  moved-absent es k b l = rw l refl
+  moved-absent es k b l = moved_match-none (eq k) es b (none_from_lookup (eq k) es l)
 
   length_moved_by : (es : List (K × V)) (k : K) (b : ℕ) (o : Option V) → lookup (eq k) es ≡ o
       → length (moved eq es k b) ≡ length es
   length_moved_by es k b None l = ap length (moved-absent es k b l)
-  length_moved_by es k b (Some w) l = ap length (moved-there es k b w l) ∙ length-put_there es k w b w l
+  length_moved_by es k b (Some w) l = ap length (moved-there eq es k b w l) ∙ length-put_there es k w b w l
 
   pub length-moved : (es : List (K × V)) (k : K) (b : ℕ) → length (moved eq es k b) ≡ length es
   length-moved es k b = length_moved_by es k b (lookup (eq k) es) refl
+
+-- a move by a test, which is a key's where it passes a key
+pub length-moved_match : {K V : Type 0} (test : K → Bool) (es : List (K × V)) (b : ℕ)
+    → length (moved_match test es b) ≡ length es
+length-moved_match test es b = by (splits test es)
+  where
+    by : NonePasses test es ⊎ Stands test es → length (moved_match test es b) ≡ length es
+    by (inl n) = ap length (moved_match-none test es b n)
+    by (inr s) = length-moved (λ _. test) es s.1.0 b
 
 module _ {K V : Type 0} (eq : K → K → Bool) (laws : IsEquivalence eq) where
   -- ---- look-ups after a put

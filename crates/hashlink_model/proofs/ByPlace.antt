@@ -3,10 +3,11 @@ use Rattle.std.proofs.Common.{◌≡◌, ℕ, zero, suc, ◌-◌, ◌<◌, Bool,
 use Rattle.std.proofs.Common.{ap₂, ◌∙◌, arith, lt-ltb, length-append}
 use Rattle.std.specs.Prelude.{insert, remove}
 use Rattle.std.specs.Option.{option_map_or}
-use Rattle.std.specs.Map.{keys_of, set_value}
+use Rattle.std.specs.Map.{keys_of, lookup, remove_entry, set_value}
 use Rattle.std.proofs.lemmas.List.Edits.{insert_end}
-use Rattle.hashlink_model.specs.Entries.{place_of, place_left, moved_at, set_value_at, set_key_at, without, put, moved}
-use Rattle.hashlink_model.proofs.Splits.{stands_from_place, set_value-here, remove_entry-here, lookup-here}
+use Rattle.hashlink_model.specs.Entries.{place_of, place_left, moved_at, set_value_at, set_key_at, put, moved}
+use Rattle.hashlink_model.proofs.Splits.{stands_from_place, stands_from_lookup, set_value-here, remove_entry-here}
+use Rattle.hashlink_model.proofs.Splits.{lookup-here, place_of-here}
 use Rattle.hashlink_model.proofs.Puts.{put-here}
 use Rattle.hashlink_model.proofs.Places.{slice_get_here}
 
@@ -60,13 +61,14 @@ module _ {K V : Type 0} where
       ap₂ (λ zs n. set_value_at zs n w) s.3.is (sym s.4) ∙ set_value_at-here s.0 s.1 s.2 w
       ∙ sym (set_value-here test s.1 s.2 s.3.passes w s.0 s.3.before) ∙ ap (λ zs. set_value test zs w) (sym s.3.is)
 
-  module _ (eq : K → K → Bool) (es : List (K × V)) (k : K) (j : ℕ) (p : place_of (eq k) es ≡ Some j) where
-    pub remove-place : remove es j ≡ without eq es k
-    remove-place =
-        let s = stands_from_place (eq k) es j p in
-        ap₂ remove s.3.is (sym s.4) ∙ remove-here s.0 s.1 s.2
-        ∙ sym (remove_entry-here (eq k) s.1 s.2 s.3.passes s.0 s.3.before) ∙ ap (λ zs. without eq zs k) (sym s.3.is)
+  pub remove-place : (test : K → Bool) (es : List (K × V)) (j : ℕ) → place_of test es ≡ Some j
+      → remove es j ≡ remove_entry test es
+  remove-place test es j p =
+      let s = stands_from_place test es j p in
+      ap₂ remove s.3.is (sym s.4) ∙ remove-here s.0 s.1 s.2
+      ∙ sym (remove_entry-here test s.1 s.2 s.3.passes s.0 s.3.before) ∙ ap (remove_entry test) (sym s.3.is)
 
+  module _ (eq : K → K → Bool) (es : List (K × V)) (k : K) (j : ℕ) (p : place_of (eq k) es ≡ Some j) where
     -- moved with a new value it is put
     pub moved_at-put : (v : V) (b : ℕ) → moved_at (set_value_at es j v) j b ≡ put eq es k v b
     moved_at-put v b =
@@ -77,10 +79,21 @@ module _ {K V : Type 0} where
         ∙ sym (put-here eq s.0 s.1 s.2 k v b s.3.passes s.3.before) ∙ ap (λ zs. put eq zs k v b) (sym s.3.is)
 
     pub moved_at-place : (b : ℕ) → moved_at es j b ≡ moved eq es k b
-    moved_at-place b =
-        let s = stands_from_place (eq k) es j p in
-        ap₂ (λ zs n. moved_at zs n b) s.3.is (sym s.4) ∙ moved_at-here s.0 s.1 s.2 b
-        ∙ sym (put-here eq s.0 s.1 s.2 k s.1.1 b s.3.passes s.3.before)
-        ∙ ap (λ o. option_map_or (λ v. put eq (s.0 ++ s.1 ∷ s.2) k v b) o (s.0 ++ s.1 ∷ s.2))
-        (sym (lookup-here (eq k) s.1 s.2 s.3.passes s.0 s.3.before))
-        ∙ ap (λ zs. moved eq zs k b) (sym s.3.is)
+    moved_at-place b = ap (λ o. option_map_or (λ i. moved_at es i b) o es) (sym p)
+
+-- moved with the value that stands it is put
+pub moved-there : {K V : Type 0} (eq : K → K → Bool) (es : List (K × V)) (k : K) (b : ℕ) (w : V)
+    → lookup (eq k) es ≡ Some w
+    → moved eq es k b ≡ put eq es k w b
+moved-there eq es k b w l =
+    let s = stands_from_lookup (eq k) es w l in
+    let there = put-here eq s.0 s.1 s.2 k w b s.3.passes s.3.before in
+    let stands : s.1.1 ≡ w = cc
+    (sym (lookup-here (eq k) s.1 s.2 s.3.passes s.0 s.3.before) ∙ ap (lookup (eq k)) (sym s.3.is) ∙ l) in
+    ap (λ zs. moved eq zs k b) s.3.is
+    ∙ ap (λ o. option_map_or (λ i. moved_at (s.0 ++ s.1 ∷ s.2) i b) o (s.0 ++ s.1 ∷ s.2))
+    (place_of-here (eq k) s.1 s.2 s.3.passes s.0 s.3.before)
+    ∙ moved_at-here s.0 s.1 s.2 b
+    ∙ ap (λ v. insert (s.0 ++ s.2) (place_left (length s.0) b) (s.1.0, v)) stands
+    ∙ sym there
+    ∙ ap (λ zs. put eq zs k w b) (sym s.3.is)

@@ -5,18 +5,18 @@ use Rattle.std.proofs.lemmas.Bool.{cases_lt}
 use Rattle.std.proofs.lemmas.Map.{length-set_value}
 use Rattle.hashlink_model.specs.Entries.{put}
 use Rattle.hashlink_model.specs.MapState.{MapState, StoresAtMost, Changes, node_count}
-use Rattle.hashlink_model.specs.Steps.{KeepsOnly, Clears, RemovesKey, PopsFront, PopsBack}
+use Rattle.hashlink_model.specs.Steps.{KeepsOnly, Clears, RemovesKey, RemovesMatch, PopsFront, PopsBack}
 use Rattle.hashlink_model.specs.Entry.{EntryState, VacantInserts}
 use Rattle.hashlink_model.specs.Cache.{CacheState, OnMap, IsWithin, HasNodeToSpare, InsertsLast, KeepsLast}
 use Rattle.hashlink_model.specs.Cache.{CacheInserts, CacheGets, CacheGetsAndWrites, SetsCapacity, EntersCache}
-use Rattle.hashlink_model.specs.Cache.{last_entries}
+use Rattle.hashlink_model.specs.Cache.{CacheGetsMatch, CacheGetsMatchAndWrites, last_entries}
 use Rattle.hashlink_model.specs.History.{Length}
 use Rattle.hashlink_model.specs.Peak.{Passes, PassesInTurn}
-use Rattle.hashlink_model.proofs.Afterwards.{length-put_absent, length-put_there, length-moved}
+use Rattle.hashlink_model.proofs.Afterwards.{length-put_absent, length-put_there, length-moved_match}
 use Rattle.hashlink_model.proofs.Caches.{front_evicted-above, front_evicted-at_most}
 use Rattle.hashlink_model.proofs.Caches.{length-last_entries, cache_put-at_most}
 use Rattle.hashlink_model.proofs.CacheSteps.{put_entries, inserts_entries}
-use Rattle.hashlink_model.proofs.NodeCounts.{moves_length, node_count-keeps}
+use Rattle.hashlink_model.proofs.NodeCounts.{moves_match_length, node_count-keeps}
 use Rattle.hashlink_model.proofs.KeptNodes.{kept-keeps, kept-inserts, passes-kept}
 
 -- ---- a bound of the capacity and n more
@@ -65,6 +65,29 @@ module _ {K V S : Type 0} (old new : CacheState K V S) (n : ℕ) where
       let same = ap length s.map.entries in
       let long = length-last_entries old.map.entries cap in let c = s.cap in omega arith
 
+  -- by a test of keys
+  module _ (test : K → Bool) where
+    pub within-gets_match : (r : Option V) → CacheGetsMatch test old new r → IsWithin old n → IsWithin new n
+    within-gets_match r s i =
+        within-same (moves_match_length old.map new.map test (length old.map.entries) r s.map) s.cap i
+
+    pub within-gets_match_and_writes : (w : V) → CacheGetsMatchAndWrites test old new w → IsWithin old n
+        → IsWithin new n
+    within-gets_match_and_writes w s i =
+        within-same
+        (ap (λ m. length m.entries) s.map.writes
+        ∙ length-set_value test s.map.between.entries w
+        ∙ ap length s.map.moves.entries
+        ∙ length-moved_match test old.map.entries (length old.map.entries))
+        s.cap i
+
+    pub within-removes_match : (r : Option (K × V)) → OnMap (λ a b. RemovesMatch test a b r) old new → IsWithin old n
+        → IsWithin new n
+    within-removes_match None s i = within-same (ap (λ m. length m.entries) s.map.step) s.cap i
+    within-removes_match (Some e) s i =
+        let same = ap length s.map.step.entries in
+        let fewer = s.map.step.fewer in within-shorter (omega arith) s.cap i
+
   module _ (eq : K → K → Bool) (k : K) where
     pub within-inserts : (v : V) (r : Result (Option V) (K × V)) → CacheInserts eq old new k v r → IsWithin old n
         → IsWithin new n
@@ -72,23 +95,14 @@ module _ {K V S : Type 0} (old new : CacheState K V S) (n : ℕ) where
     within-inserts v (Err pair) s i = within-same (ap length s.map.grows.entries) s.cap i
 
     pub within-gets : (r : Option V) → CacheGets eq old new k r → IsWithin old n → IsWithin new n
-    within-gets r s i = within-same (moves_length eq old.map new.map k (length old.map.entries) r s.map) s.cap i
+    within-gets r s i = within-gets_match (eq k) r s i
 
     pub within-gets_and_writes : (w : V) → CacheGetsAndWrites eq old new k w → IsWithin old n → IsWithin new n
-    within-gets_and_writes w s i =
-        within-same
-        (ap (λ m. length m.entries) s.map.writes
-        ∙ length-set_value (eq k) s.map.between.entries w
-        ∙ ap length s.map.moves.entries
-        ∙ length-moved eq old.map.entries k (length old.map.entries))
-        s.cap i
+    within-gets_and_writes w s i = within-gets_match_and_writes (eq k) w s i
 
     pub within-removes : (r : Option (K × V)) → OnMap (λ a b. RemovesKey eq a b k r) old new → IsWithin old n
         → IsWithin new n
-    within-removes None s i = within-same (ap (λ m. length m.entries) s.map.step) s.cap i
-    within-removes (Some e) s i =
-        let same = ap length s.map.step.entries in
-        let fewer = s.map.step.fewer in within-shorter (omega arith) s.cap i
+    within-removes r s i = within-removes_match (eq k) r s i
 
 module _ {K V S : Type 0} (eq : K → K → Bool) (old : CacheState K V S) (k : K) (e : EntryState K V S)
     (enters : EntersCache eq old k e) where

@@ -22,8 +22,8 @@ module _ {K V S : Type 0} (old new : MapState K V S) where
   kept-unchanged : new ≡ old → KeepsNodes old new
   kept-unchanged s = kept-same (ap node_count s)
 
-  kept-grows : Grows old new → KeepsNodes old new
-  kept-grows s = let same = ap length s.entries in let spare = s.spare in omega arith
+  kept-grows : (n : ℕ) → Grows n old new → KeepsNodes old new
+  kept-grows n s = let same = ap length s.entries in let spare = s.spare in omega arith
 
   pub kept-changes : (es : List (K × V)) (most : ℕ) → Changes old new es most → length es ≡ length old.entries
       → KeepsNodes old new
@@ -41,19 +41,19 @@ module _ {K V S : Type 0} (old new : MapState K V S) where
   kept-pops_back (Some e) s = kept-same (node_count-removes old new (before_last_of old.entries) s.step)
 
   pub kept-reserves : {E : Type 0} (n : ℕ) (r : Result (Unit {0}) E) → Reserves old new n r → KeepsNodes old new
-  kept-reserves n r s = kept-grows s.grows
+  kept-reserves n r s = kept-grows n s.grows
 
   module _ (eq : K → K → Bool) (k : K) where
     pub kept-inserts : (v : V) (b : ℕ) (r : Result (Option V) (K × V)) → Inserts eq old new k v b r
         → KeepsNodes old new
     kept-inserts v b (Ok None) s = node_count-adds old new (put eq old.entries k v b) s.adds
     kept-inserts v b (Ok (Some w)) s = kept-same (node_count-puts eq old new k v b w s)
-    kept-inserts v b (Err pair) s = kept-grows s.grows
+    kept-inserts v b (Err pair) s = kept-grows 1 s.grows
 
     pub kept-replaces : (v : V) (r : Result (Option V) (K × V)) → Replaces eq old new k v r → KeepsNodes old new
     kept-replaces v (Ok None) s = node_count-adds old new (put eq old.entries k v (length old.entries)) s.adds
     kept-replaces v (Ok (Some w)) s = kept-same (writes_nodes eq old new k v w s)
-    kept-replaces v (Err pair) s = kept-grows s.grows
+    kept-replaces v (Err pair) s = kept-grows 1 s.grows
 
     pub kept-moves : (b : ℕ) (r : Option V) → Moves eq old new k b r → KeepsNodes old new
     kept-moves b r s = kept-same (moves_nodes eq old new k b r s)

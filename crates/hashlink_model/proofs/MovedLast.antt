@@ -4,10 +4,11 @@ use Rattle.std.specs.Cmp.{IsEquivalence}
 use Rattle.std.specs.Map.{lookup}
 use Rattle.std.proofs.Common.{ap, sym, subst, ◌∙◌}
 use Rattle.std.proofs.lemmas.Map.Steps.{set_value_same}
-use Rattle.hashlink_model.specs.Entries.{IsEntries, moved}
+use Rattle.hashlink_model.specs.Entries.{IsEntries, IsKeyTest, moved}
 use Rattle.hashlink_model.specs.MapState.{MapState, Changes}
-use Rattle.hashlink_model.specs.Steps.{Moves, MovesAndWrites}
+use Rattle.hashlink_model.specs.Steps.{Moves, MovesAndWrites, MovesMatch, MovesMatchAndWrites}
 use Rattle.hashlink_model.proofs.Afterwards.{lookup-moved}
+use Rattle.hashlink_model.proofs.Splits.{key_from_lookup}
 
 -- it moved last, and nothing else
 pub moved_last : {K V S : Type 0} (eq : K → K → Bool) → IsEquivalence eq → (old new : MapState K V S) (k : K) (w : V)
@@ -21,3 +22,17 @@ moved_last eq laws old new k w d at s =
     let same : new ≡ s.between
     = s.writes ∙ ap (λ es. record s.between { entries = es }) (set_value_same (eq k) s.between.entries w stands) in
     record { answer = sym at; step = subst (λ m. Changes old m (moved eq old.entries k b) 6) (sym same) s.moves }
+
+-- the same by a test of keys
+pub moved_match_last : {K V S : Type 0} (eq : K → K → Bool) → IsEquivalence eq → (test : K → Bool)
+    → IsKeyTest eq test
+    → (old new : MapState K V S) (w : V)
+    → IsEntries eq old.entries → lookup test old.entries ≡ Some w
+    → MovesMatchAndWrites test old new (length old.entries) w
+    → MovesMatch test old new (length old.entries) (Some w)
+moved_match_last eq laws test tells old new w d at s =
+    let b = length old.entries in
+    let k = key_from_lookup test eq tells old.entries w at in
+    subst
+    (λ t. lookup t old.entries ≡ Some w → MovesMatchAndWrites t old new b w → MovesMatch t old new b (Some w))
+    (sym k.1) (λ l m. moved_last eq laws old new k.0 w d l m) at s

@@ -7,10 +7,10 @@ use Rattle.std.proofs.lemmas.Map.{keys-set_value, length-set_value, lookup-set_v
 use Rattle.hashlink_model.specs.Entries.{IsEntries, put, moved}
 use Rattle.hashlink_model.specs.MapState.{MapState, node_count, HasRoom, Changes, Adds, Removes, Grows, PutsEntry}
 use Rattle.hashlink_model.specs.MapState.{Inserts}
-use Rattle.hashlink_model.specs.Steps.{KeepsOnly, WritesEntry, Moves, Drains, Reserves, Shrinks}
+use Rattle.hashlink_model.specs.Steps.{KeepsOnly, WritesEntry, Moves, MovesMatch, Drains, Reserves, Shrinks}
 use Rattle.hashlink_model.proofs.Puts.{lookup_entry-set_value_other}
 use Rattle.hashlink_model.proofs.Afterwards.{length-put_there, length-moved, moved-absent, lookup-moved}
-use Rattle.hashlink_model.proofs.Afterwards.{IsEntries-moved}
+use Rattle.hashlink_model.proofs.Afterwards.{IsEntries-moved, length-moved_match}
 
 module _ {K V S : Type 0} (old new : MapState K V S) where
   pub node_count-adds : (es : List (K × V)) → Adds old new es
@@ -23,8 +23,9 @@ module _ {K V S : Type 0} (old new : MapState K V S) where
   pub HasRoom-removes : (es : List (K × V)) → Removes old new es → HasRoom old → HasRoom new
   HasRoom-removes es s h = let n = node_count-removes es s in let r = s.room in omega arith
 
-  pub HasRoom-grows : Grows old new → HasRoom old → HasRoom new
-  HasRoom-grows s h = let same = ap length s.entries in let spare = s.spare in let r = s.room in omega arith
+  pub HasRoom-grows : (n : ℕ) → Grows n old new → HasRoom old → HasRoom new
+  HasRoom-grows n s h =
+      let same = ap length s.entries in let spare = s.spare in let r = s.room.grows in omega arith
 
 module _ {K V S : Type 0} (old new : MapState K V S) where
   pub node_count-keeps : (es : List (K × V)) → KeepsOnly old new es → node_count new ≡ node_count old
@@ -54,7 +55,7 @@ module _ {K V S : Type 0} (old new : MapState K V S) where
     HasRoom-shrinks r s = let fits = s.fits in let spare = s.spare in omega arith
 
     pub HasRoom-reserves : (n : ℕ) (r : Result (Unit {0}) E) → Reserves old new n r → HasRoom old → HasRoom new
-    HasRoom-reserves n r s h = HasRoom-grows old new s.grows h
+    HasRoom-reserves n r s h = HasRoom-grows old new n s.grows h
 
 -- ---- two steps that only take entries away are one, and a removal is one of them
 
@@ -95,6 +96,13 @@ module _ {K V S : Type 0} where
         hasher = t.hasher ∙ s.hasher;
       }
 
+-- ---- a move by a test
+
+module _ {K V S : Type 0} (old new : MapState K V S) (test : K → Bool) (b : ℕ) where
+  pub moves_match_length : (r : Option V) → MovesMatch test old new b r → length new.entries ≡ length old.entries
+  moves_match_length None s = ap (λ m. length m.entries) s.step
+  moves_match_length (Some w) s = ap length s.step.entries ∙ length-moved_match test old.entries b
+
 -- ---- an insert at any place
 
 module _ {K V S : Type 0} (eq : K → K → Bool) (old new : MapState K V S) (k : K) where
@@ -107,7 +115,7 @@ module _ {K V S : Type 0} (eq : K → K → Bool) (old new : MapState K V S) (k 
       → HasRoom new
   HasRoom-inserts v b (Ok None) s h = s.adds.fits
   HasRoom-inserts v b (Ok (Some w)) s h = let n = node_count-puts v b w s in let r = s.puts.room in omega arith
-  HasRoom-inserts v b (Err pair) s h = HasRoom-grows old new s.grows h
+  HasRoom-inserts v b (Err pair) s h = HasRoom-grows old new 1 s.grows h
 
   -- ---- a value that was written, and an entry that was moved
 
@@ -130,7 +138,7 @@ module _ {K V S : Type 0} (eq : K → K → Bool) (old new : MapState K V S) (k 
     moves_entries r s = moves_by r s.step s.answer
 
     pub moves_length : (r : Option V) → Moves eq old new k b r → length new.entries ≡ length old.entries
-    moves_length r s = ap length (moves_entries r s) ∙ length-moved eq old.entries k b
+    moves_length r s = moves_match_length old new (eq k) b r s
 
     pub moves_nodes : (r : Option V) → Moves eq old new k b r → node_count new ≡ node_count old
     moves_nodes None s = ap node_count s.step

@@ -19,13 +19,14 @@ use Rattle.hashlink_model.proofs.Puts.{cond-same_test, none_without, IsEntries-w
 use Rattle.hashlink_model.proofs.Puts.{lookup_entry-put}
 use Rattle.hashlink_model.proofs.Places.{slice_get_here, split_at, place_of_its_key, stored_key_at}
 use Rattle.hashlink_model.proofs.ByPlace.{set_value_at-here, set_key_at-here, remove-here, moved_at-last}
-use Rattle.hashlink_model.proofs.ByPlace.{moved_at-put, remove-place, length-set_value_at}
+use Rattle.hashlink_model.proofs.ByPlace.{moved_at-put, moved-there, remove-place, length-set_value_at}
 use Rattle.hashlink_model.proofs.Splits.{stands_from_place}
 
 module _ {K V : Type 0} where
   pub or_insert-there : (eq : K → K → Bool) (es : List (K × V)) (k : K) (v w : V) → lookup (eq k) es ≡ Some w
       → or_insert eq es k v ≡ moved eq es k (length es)
-  or_insert-there eq es k v w l = rw l refl
+  or_insert-there eq es k v w l =
+      ap (λ o. put eq es k (option_map_or (λ x. x) o v) (length es)) l ∙ sym (moved-there eq es k (length es) w l)
 
   pub or_insert-absent : (eq : K → K → Bool) (es : List (K × V)) (k : K) (v : V) → lookup (eq k) es ≡ None
       → or_insert eq es k v ≡ put eq es k v (length es)
@@ -72,7 +73,7 @@ module _ {K V : Type 0} (eq : K → K → Bool) (laws : IsEquivalence eq) where
       ∙ moved_at-last s.0 (h, v) s.1
       ∙ ap (λ zs. zs ++ (h, v) ∷ [])
       (sym (remove-here s.0 e s.1) ∙ ap₂ remove (sym s.2) s.3
-      ∙ remove-place eq es e.0 j (place_of_its_key eq laws es j e e.0 d at (laws.refl e.0)))
+      ∙ remove-place (eq e.0) es j (place_of_its_key eq laws es j e e.0 d at (laws.refl e.0)))
 
   none_last : (es : List (K × V)) (e : K × V) (h : K) → IsEntries eq es → eq h e.0 ≡ true
       → NonePasses (eq h) (without eq es e.0 ++ [])

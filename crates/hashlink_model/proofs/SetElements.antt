@@ -24,7 +24,7 @@ use Rattle.hashlink_model.proofs.Finds.{lookup_is, lookup_key_is}
 use Rattle.hashlink_model.proofs.Puts.{put_back, put_front, put_back_absent, put_at_its_place, put_after_its_place}
 use Rattle.hashlink_model.proofs.Afterwards.{put_back_twice, put_front_twice}
 use Rattle.hashlink_model.proofs.Places.{slice_get_here, place_of_its_key}
-use Rattle.hashlink_model.proofs.ByPlace.{set_key_at-here}
+use Rattle.hashlink_model.proofs.ByPlace.{moved-there, set_key_at-here}
 use Rattle.hashlink_model.proofs.Pops.{pops_front, pops_back}
 use Rattle.hashlink_model.proofs.SetSteps.{replaced-absent, replaced-there}
 use Rattle.hashlink_model.proofs.SetViews.{keys_of-pairs_of, pairs_of-keys_of, keys_of-put}
@@ -100,7 +100,7 @@ module _ {T S : Type 0} (eq : T → T → Bool) (old new : SetState T S) (t : T)
         × (is_some r ≡ is_member eq (elements_of old) t)
     moves_elements None s = (ap elements_of s.step, sym (member_none (sym s.answer)))
     moves_elements (Some w) s = (
-      ap keys_of (s.step.entries ∙ rw (← s.answer) refl)
+      ap keys_of (s.step.entries ∙ moved-there eq old.entries t b w (sym s.answer))
           ∙ keys_of-put eq old.entries t b,
       sym (member_some w (sym s.answer)),
     )

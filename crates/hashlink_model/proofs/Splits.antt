@@ -5,7 +5,8 @@ use Rattle.std.proofs.Common.{sym, ap, ◌∙◌, add-one}
 use Rattle.std.specs.Map.{lookup, lookup_entry, lookup_key, remove_entry, set_value}
 use Rattle.std.proofs.lemmas.Map.{NonePasses, none_passes_from_lookup}
 use Rattle.std.proofs.lemmas.Option.{none-some, same_Some}
-use Rattle.hashlink_model.specs.Entries.{place_of}
+use Rattle.std.proofs.Math.Path.{fun_ext}
+use Rattle.hashlink_model.specs.Entries.{place_of, IsKeyTest}
 
 module _ {K V : Type 0} (test : K → Bool) where
   -- e is the first entry of es whose key passes, xs stands before it and ys after it
@@ -105,3 +106,14 @@ module _ {K V : Type 0} (test : K → Bool) where
   pub stands_from_place : (es : List (K × V)) (j : ℕ) → place_of test es ≡ Some j
       → (xs : List (K × V)) × (e : K × V) × (ys : List (K × V)) × StandsAt es xs e ys × (length xs ≡ j)
   stands_from_place es j p = placed_by es j p (splits es)
+
+  -- ---- a test of keys that passes one is the equality with it
+
+  module _ (eq : K → K → Bool) (tells : IsKeyTest eq test) (es : List (K × V)) where
+    pub key_from_lookup : (w : V) → lookup test es ≡ Some w → (k : K) × (test ≡ eq k)
+    key_from_lookup w l =
+        let s = stands_from_lookup es w l in (s.1.0, fun_ext (λ y. tells s.1.0 y s.3.passes))
+
+    pub key_from_place : (j : ℕ) → place_of test es ≡ Some j → (k : K) × (test ≡ eq k)
+    key_from_place j p =
+        let s = stands_from_place es j p in (s.1.0, fun_ext (λ y. tells s.1.0 y s.3.passes))

@@ -7,7 +7,7 @@ use Rattle.std.specs.Option.{option_map_or}
 use Rattle.hashlink_model.specs.Entries.{put, moved}
 use Rattle.hashlink_model.specs.Entry.{EntryState, entry_of}
 use Rattle.hashlink_model.specs.MapState.{MapState, node_count, AddsEntry, PutsEntry, RefusesEntry}
-use Rattle.hashlink_model.specs.Steps.{KeepsOnly, Moves, MovesAndWrites}
+use Rattle.hashlink_model.specs.Steps.{KeepsOnly, MovesMatch, MovesMatchAndWrites}
 
 -- the map's state and the capacity
 pub record CacheState (K V S : Type 0) : Type 0 where
@@ -85,6 +85,14 @@ module _ {K V S : Type 0} where
     pub inserts : step old between
     pub fits : KeepsLast between new cap
 
+  -- `get` by a test: the first entry whose key passes moves last, and where none passes nothing changes
+  abbrev pub CacheGetsMatch : (K → Bool) → CacheState K V S → CacheState K V S → Option V → Type 0
+  CacheGetsMatch test old new r = OnMap (λ a b. MovesMatch test a b (length a.entries) r) old new
+
+  -- a hit of `get_mut` by a test, once w was written through what it lent
+  abbrev pub CacheGetsMatchAndWrites : (K → Bool) → CacheState K V S → CacheState K V S → V → Type 0
+  CacheGetsMatchAndWrites test old new w = OnMap (λ a b. MovesMatchAndWrites test a b (length a.entries) w) old new
+
   module _ (eq : K → K → Bool) where
     -- the map's insert of the pair at the length, by what it answers where it is not refused
     abbrev pub InsertsLast : K → V → Option V → MapState K V S → MapState K V S → Type 0
@@ -100,11 +108,11 @@ module _ {K V S : Type 0} where
 
     -- `get`: a hit moves its entry last, a miss changes nothing
     abbrev pub CacheGets : CacheState K V S → CacheState K V S → K → Option V → Type 0
-    CacheGets old new k r = OnMap (λ a b. Moves eq a b k (length a.entries) r) old new
+    CacheGets old new k r = CacheGetsMatch (eq k) old new r
 
     -- a hit of `get_mut`, once w was written through what it lent
     abbrev pub CacheGetsAndWrites : CacheState K V S → CacheState K V S → K → V → Type 0
-    CacheGetsAndWrites old new k w = OnMap (λ a b. MovesAndWrites eq a b k (length a.entries) w) old new
+    CacheGetsAndWrites old new k w = CacheGetsMatchAndWrites (eq k) old new w
 
     -- `entry`: the first entry is dropped where there are too many, and then the key is looked up
     pub record EntersCache (old : CacheState K V S) (k : K) (e : EntryState K V S) : Type 0 where

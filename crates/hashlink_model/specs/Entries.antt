@@ -1,11 +1,15 @@
 -- The entries of a map: a list of pairs, front first, whose keys are pairwise unequal.
 -- The equality `eq` of the keys is any equivalence: equal keys may be different objects, so it matters which one the
 -- list keeps.
-use Rattle.std.specs.Prelude.{ℕ, zero, suc, ◌-◌, ◌+◌, Bool, List, [], ◌∷◌, length, Option, None, Some, cond}
+use Rattle.std.specs.Prelude.{◌≡◌, IsTrue, ℕ, zero, suc, ◌-◌, ◌+◌, Bool, List, [], ◌∷◌, length, Option, None, Some, cond}
 use Rattle.std.specs.Prelude.{if◌then◌else◌, nat_lt, unwrap_or, insert, remove, slice_get, fold}
 use Rattle.std.specs.List.{IsDistinct}
 use Rattle.std.specs.Option.{option_map, option_map_or}
-use Rattle.std.specs.Map.{keys_of, lookup, lookup_key, remove_entry}
+use Rattle.std.specs.Map.{keys_of, lookup_key, remove_entry}
+
+-- a test of keys passes a key together with those that equal it, and no others; or it passes none
+abbrev pub IsKeyTest : {K : Type 0} → (K → K → Bool) → (K → Bool) → Type 0
+IsKeyTest eq test = (x y : _) → IsTrue (test x) → test y ≡ eq x y
 
 -- where the place b is once the entry at the place j is taken out: one place nearer to the front where it stood
 -- before b
@@ -32,6 +36,11 @@ module _ {K V : Type 0} where
   -- the entries after the one at the place j is moved to the place b
   abbrev pub moved_at : List (K × V) → ℕ → ℕ → List (K × V)
   moved_at es j b = option_map_or (λ e. insert (remove es j) (place_left j b) e) (slice_get es j) es
+
+  -- the entries after the first one whose key passes the test is moved to the place b; where none passes the same
+  -- entries
+  abbrev pub moved_match : (K → Bool) → List (K × V) → ℕ → List (K × V)
+  moved_match test es b = option_map_or (λ j. moved_at es j b) (place_of test es) es
 
   module _ (eq : K → K → Bool) where
     -- no two keys are equal
@@ -61,7 +70,7 @@ module _ {K V : Type 0} where
 
     -- the entries after the key is moved to the place b with the value that stands; of an absent key nothing
     abbrev pub moved : List (K × V) → K → ℕ → List (K × V)
-    moved es k b = option_map_or (λ v. put es k v b) (lookup (eq k) es) es
+    moved es k b = moved_match (eq k) es b
 
     -- the entries after each pair is inserted at the end in turn
     abbrev pub extended : List (K × V) → List (K × V) → List (K × V)

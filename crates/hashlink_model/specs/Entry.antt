@@ -80,13 +80,17 @@ module _ {K V S : Type 0} where
     pub answer : value_at old.entries j ≡ Some w
     pub step : MovesAt old new j b
 
+  -- what a raw look-up answers by a test: the place of the first key that passes
+  abbrev pub raw_entry_match : (K → Bool) → MapState K V S → RawEntryState K V S
+  raw_entry_match test m = record { map = m; place = place_of test m.entries }
+
   module _ (eq : K → K → Bool) where
     -- what `entry` answers for a key
     abbrev pub entry_of : MapState K V S → K → EntryState K V S
     entry_of m k = record { map = m; place = place_of (eq k) m.entries; key = k }
 
     abbrev pub raw_entry_of : MapState K V S → K → RawEntryState K V S
-    raw_entry_of m k = record { map = m; place = place_of (eq k) m.entries }
+    raw_entry_of m k = raw_entry_match (eq k) m
 
     -- an entry stands at the place of its key
     abbrev pub IsEntry : EntryState K V S → Type 0

@@ -1,6 +1,6 @@
 -- What a contract sees of a map, and the steps between two such states. A call's contract names the step that it
 -- takes.
-use Rattle.std.specs.Prelude.{◌≡◌, ℕ, ◌-◌, ◌+◌, ◌≤◌, Bool, List, [], length, Option, None, Some, Result}
+use Rattle.std.specs.Prelude.{◌≡◌, ℕ, ◌-◌, ◌+◌, ◌*◌, ◌≤◌, max, Bool, List, [], length, Option, None, Some, Result}
 use Rattle.std.specs.Prelude.{MatchOption, MatchResult, insert, remove, refl}
 use Rattle.std.specs.Coded.{Coded, code_by, coded×, coded_list, coded_ℕ}
 use Rattle.std.specs.Map.{lookup}
@@ -19,6 +19,12 @@ pub record MapState (K V S : Type 0) : Type 0 where
 pub record StoresAtMost (most old new : ℕ) : Type 0 where
   pub grows : old ≤ new
   pub bound : new ≤ old + most
+
+-- a room that is to hold n nodes: as it was where it holds them, else at most twice as much as they need, or 8
+pub record RoomFor (n old new : ℕ) : Type 0 where
+  pub grows : old ≤ new
+  pub same : n ≤ old → new ≡ old
+  pub bound : new ≤ max old (2 * max 4 n)
 
 module _ {K V S : Type 0} where
   abbrev pub map_state : List (K × V) → ℕ → ℕ → ℕ → S → MapState K V S
@@ -59,7 +65,7 @@ module _ {K V S : Type 0} where
     pub entries : new.entries ≡ es
     pub more : length es ≡ length old.entries + 1
     pub spare : new.spare ≡ old.spare - 1
-    pub room : old.room ≤ new.room
+    pub room : RoomFor (length es) old.room new.room
     pub fits : HasRoom new
     pub link_writes : StoresAtMost 4 old.link_writes new.link_writes
     pub hasher : new.hasher ≡ old.hasher
@@ -73,11 +79,11 @@ module _ {K V S : Type 0} where
     pub link_writes : StoresAtMost 3 old.link_writes new.link_writes
     pub hasher : new.hasher ≡ old.hasher
 
-  -- nothing changed but the room, which did not shrink
-  pub record Grows (old new : MapState K V S) : Type 0 where
+  -- nothing changed but the room, which may be one for n more entries now
+  pub record Grows (n : ℕ) (old new : MapState K V S) : Type 0 where
     pub entries : new.entries ≡ old.entries
     pub spare : new.spare ≡ old.spare
-    pub room : old.room ≤ new.room
+    pub room : RoomFor (length old.entries + n) old.room new.room
     pub link_writes : new.link_writes ≡ old.link_writes
     pub hasher : new.hasher ≡ old.hasher
 
@@ -129,7 +135,7 @@ module _ {K V S : Type 0} where
     pub record RefusesEntry (old new : MapState K V S) (k : K) (v : V) (pair : K × V) : Type 0 where
       pub may_refuse : MayRefuse old k
       pub handed_back : pair ≡ (k, v)
-      pub grows : Grows old new
+      pub grows : Grows 1 old new
 
     -- an insert at the place b
     abbrev pub Inserts : MapState K V S → MapState K V S → K → V → ℕ → Result (Option V) (K × V) → Type 0

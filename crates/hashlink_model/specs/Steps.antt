@@ -1,9 +1,9 @@
 -- The steps of a map's calls, by their answers, and what they are made of: changes within the list, and entries that
 -- are taken away.
-use Rattle.std.specs.Prelude.{◌≡◌, ℕ, ◌+◌, ◌-◌, ◌*◌, ◌≤◌, Bool, List, [], length}
+use Rattle.std.specs.Prelude.{◌≡◌, ℕ, ◌+◌, ◌-◌, ◌*◌, ◌≤◌, max, Bool, List, [], length}
 use Rattle.std.specs.Prelude.{Option, Some, MatchOption, Result, MatchResult, IsOk, OnOk, OnErr}
-use Rattle.std.specs.Map.{lookup, lookup_entry, set_value}
-use Rattle.hashlink_model.specs.Entries.{without, moved}
+use Rattle.std.specs.Map.{lookup, lookup_entry, remove_entry, set_value}
+use Rattle.hashlink_model.specs.Entries.{moved_match}
 use Rattle.hashlink_model.specs.MapState.{MapState, empty_map, StoresAtMost, Changes, Removes, Grows}
 use Rattle.hashlink_model.specs.MapState.{AddsEntry, RefusesEntry}
 use Rattle.hashlink_model.specs.Walk.{first_of, after_first_of, last_of, before_last_of}
@@ -40,7 +40,7 @@ module _ {K V S : Type 0} where
   -- reserve
   -- is not refused and changes nothing, and nor does one that is refused
   pub record Reserves {E : Type 0} (old new : MapState K V S) (n : ℕ) (r : Result (Unit {0}) E) : Type 0 where
-    pub grows : Grows old new
+    pub grows : Grows n old new
     pub enough : OnOk r (length new.entries + n ≤ new.room)
     pub refused : OnErr r (new ≡ old)
     pub was_enough : length old.entries + n ≤ old.room → IsOk r × (new ≡ old)
@@ -63,15 +63,38 @@ module _ {K V S : Type 0} where
     pub entries : m.entries ≡ []
     pub spare : m.spare ≡ 0
     pub room : n ≤ m.room
+    pub bound : m.room ≤ 2 * max 4 n
     pub link_writes : m.link_writes ≡ 0
     pub hasher : m.hasher ≡ s
     pub nothing : n ≡ 0 → m ≡ empty_map s
+
+  -- ---- at the first entry whose key passes a test, as a query's
+
+  -- the state with v as its value, as a write through what was lent leaves it; where none passes the same state
+  abbrev pub with_match_value : (K → Bool) → MapState K V S → V → MapState K V S
+  with_match_value test m v = record m { entries = set_value test m.entries v }
+
+  -- it moves to the place b with the value that stands, which is the answer; where none passes nothing changes
+  pub record MovesMatch (test : K → Bool) (old new : MapState K V S) (b : ℕ) (r : Option V) : Type 0 where
+    pub answer : r ≡ lookup test old.entries
+    pub step : MatchOption r (new ≡ old) (λ _. Changes old new (moved_match test old.entries b) 6)
+
+  -- what a call leaves that moves it to the place b and lends its value, once w was written there
+  pub record MovesMatchAndWrites (test : K → Bool) (old new : MapState K V S) (b : ℕ) (w : V) : Type 0 where
+    pub between : MapState K V S
+    pub moves : Changes old between (moved_match test old.entries b) 6
+    pub writes : new ≡ with_match_value test between w
+
+  -- it leaves and is the answer; where none passes nothing changes
+  pub record RemovesMatch (test : K → Bool) (old new : MapState K V S) (r : Option (K × V)) : Type 0 where
+    pub answer : r ≡ lookup_entry test old.entries
+    pub step : MatchOption r (new ≡ old) (λ _. Removes old new (remove_entry test old.entries))
 
   module _ (eq : K → K → Bool) where
     -- the state with v as the value of the key, as a write through what was lent leaves it; of an absent key the same
     -- state
     abbrev pub with_value_of : MapState K V S → K → V → MapState K V S
-    with_value_of m k v = record m { entries = set_value (eq k) m.entries v }
+    with_value_of m k v = with_match_value (eq k) m v
 
     -- the key that was there keeps its place and took the value v, and its old value was w. No link was stored
     pub record WritesEntry (old new : MapState K V S) (k : K) (v w : V) : Type 0 where
@@ -87,17 +110,13 @@ module _ {K V S : Type 0} where
 
     -- a key that is there moves to the place b with the value that stands, which is the answer; of an absent key
     -- nothing changes
-    pub record Moves (old new : MapState K V S) (k : K) (b : ℕ) (r : Option V) : Type 0 where
-      pub answer : r ≡ lookup (eq k) old.entries
-      pub step : MatchOption r (new ≡ old) (λ _. Changes old new (moved eq old.entries k b) 6)
+    abbrev pub Moves : MapState K V S → MapState K V S → K → ℕ → Option V → Type 0
+    Moves old new k b r = MovesMatch (eq k) old new b r
 
     -- what a call leaves that moves a key to the place b and lends its value, once w was written there
-    pub record MovesAndWrites (old new : MapState K V S) (k : K) (b : ℕ) (w : V) : Type 0 where
-      pub between : MapState K V S
-      pub moves : Changes old between (moved eq old.entries k b) 6
-      pub writes : new ≡ with_value_of between k w
+    abbrev pub MovesAndWrites : MapState K V S → MapState K V S → K → ℕ → V → Type 0
+    MovesAndWrites old new k b w = MovesMatchAndWrites (eq k) old new b w
 
     -- the key's entry leaves and is the answer; of an absent key nothing changes
-    pub record RemovesKey (old new : MapState K V S) (k : K) (r : Option (K × V)) : Type 0 where
-      pub answer : r ≡ lookup_entry (eq k) old.entries
-      pub step : MatchOption r (new ≡ old) (λ _. Removes old new (without eq old.entries k))
+    abbrev pub RemovesKey : MapState K V S → MapState K V S → K → Option (K × V) → Type 0
+    RemovesKey old new k r = RemovesMatch (eq k) old new r

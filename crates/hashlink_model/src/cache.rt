@@ -85,7 +85,7 @@ pub fn an_extend_inserts_in_turn()
     ensures none { cache_extended {V = ℕ} nat_eq ((1, 10) ∷ []) 0 ((1, 11) ∷ []) ≡ [] }
 {}
 
-/// A hit of `get` answers the value and moves its entry last, a miss changes no entry; a capacity that is set keeps
+/// A hit of `get` returns the value and moves its entry last, a miss changes no entry; a capacity that is set keeps
 /// the last entries and drops the others.
 pub fn what_a_get_and_a_capacity_leave<S>()
     ensures hit { (old new : CacheState ℕ ℕ S) (r : Option ℕ) → old.map.entries ≡ (1, 10) ∷ (2, 20) ∷ []
@@ -170,7 +170,7 @@ pub fn an_insert_comes_within_the_capacity<K, V>()
     ensures drops { (eq : K → K → Bool) (es : List (K × V)) (n : ℕ) → IsEntries eq es → IsEntries eq (drop n es) }
 {}
 
-/// A cache's insert answers the old value and leaves the last entries of the map's insert; a refused one names an
+/// A cache's insert returns the old value and leaves the last entries of the map's insert; a refused one names an
 /// absent key without a spare node and drops nothing.
 pub fn what_a_cache_insert_leaves<K, V, S>()
     ensures answer { (eq : K → K → Bool) (old new : CacheState K V S) (k : K) (v : V) (w : Option V)
@@ -376,7 +376,7 @@ pub fn no_refusal_once_an_entry_was_dropped<K, V, S>()
         → HasNodeToSpare new }
 {}
 
-/// A use answers the value that its key had, and leaves what a hit or an insert leaves.
+/// A use returns the value that its key had, and leaves what a hit or an insert leaves.
 pub fn what_a_use_leaves<K, V, S>()
     ensures entries { (eq : K → K → Bool) (old new : CacheState K V S) (k : K) (v : V) (w : Option V)
         → CacheUses eq old new k v (Ok w)

@@ -89,7 +89,7 @@ pub fn no_schedule_beats_the_cache_by_more<K>()
         → (c - h + 1) * cache_misses eq c used ≤ c * misses eq used held }
 {}
 
-/// Calls of caches of one and of two places: what each answers, and what is held after them. A key that was removed
+/// Calls of caches of one and of two places: what each returns, and what is held after them. A key that was removed
 /// comes back only by an insert.
 pub fn calls_of_caches_in_a_row()
     ensures small { numbers.answers 1 (Insert 1 10 ∷ Insert 2 20 ∷ Remove 2 ∷ Peek 1 ∷ Insert 1 11 ∷ [])

@@ -24,7 +24,7 @@ pub fn steps_keep_an_end_of_the_keys<K, V>()
         → is_some (lookup (eq k) large) ≡ true }
 {}
 
-/// Without uses the values agree too, and what the smaller cache answers the larger one answers.
+/// Without uses the values agree too, and what the smaller cache returns the larger one returns.
 pub fn inserts_and_removals_keep_an_end_of_the_entries<K, V>()
     ensures insert { (eq : K → K → Bool) → IsEquivalence eq → (c d : ℕ) (k : K) (v : V) (small large : List (K × V))
         → IsEntries eq large → c ≤ d → length small ≤ c → IsEndOf (SameEntry eq) small large

@@ -6,13 +6,13 @@ ghost use Rattle.hashlink_model.specs.Entries.{IsEntries};
 ghost use Rattle.hashlink_model.specs.Retain.{KeepsInSomeOrder, KeepsInOrder, in_order_of};
 ghost use Rattle.hashlink_model.specs.RetainRows.{PushesOdd, TimesTen, one_to_six};
 
-/// A closure that pushes odd keys to a list and answers false for them: it has pushed them in the list's order, and
+/// A closure that pushes odd keys to a list and returns false for them: it has pushed them in the list's order, and
 /// the even ones are left.
 pub fn retain_with_a_closure_that_collects()
     ensures { KeepsInOrder PushesOdd [] one_to_six ((2, 2) ∷ (4, 4) ∷ (6, 6) ∷ []) (1 ∷ 3 ∷ 5 ∷ []) }
 {}
 
-/// A closure that multiplies each value by ten and answers true for odd keys.
+/// A closure that multiplies each value by ten and returns true for odd keys.
 pub fn retain_with_a_closure_that_writes()
     ensures { KeepsInOrder TimesTen 0 ((1, 1) ∷ (2, 2) ∷ (3, 3) ∷ []) ((1, 10) ∷ (3, 30) ∷ []) 0 }
 {}

@@ -66,7 +66,7 @@ pub fn what_a_write_and_a_move_leave<S>()
         → new.entries ≡ (2, 20) ∷ (1, 11) ∷ [] }
 {}
 
-/// A replace of a key that is there answers the old value, leaves the key at its place and stores no link; one of an
+/// A replace of a key that is there returns the old value, leaves the key at its place and stores no link; one of an
 /// absent key is an insert.
 pub fn what_a_replace_leaves<K, V, S>()
     ensures there { (old new : MapState ℕ ℕ S) (w : ℕ) → old.entries ≡ (1, 10) ∷ (2, 20) ∷ []
@@ -210,7 +210,7 @@ pub fn room_after_steps<K, V, S, E>()
         → length es ≤ length old.entries → HasRoom old
         → HasRoom new }
     ensures removes { (old new : MapState K V S) (es : List (K × V)) → Removes old new es → HasRoom old → HasRoom new }
-    ensures grows { (old new : MapState K V S) → Grows old new → HasRoom old → HasRoom new }
+    ensures grows { (old new : MapState K V S) (n : ℕ) → Grows n old new → HasRoom old → HasRoom new }
     ensures keeps { (old new : MapState K V S) (es : List (K × V)) → KeepsOnly old new es → HasRoom old → HasRoom new }
     ensures reserves { (old new : MapState K V S) (n : ℕ) (r : Result (Unit {0}) E) → Reserves old new n r
         → HasRoom old

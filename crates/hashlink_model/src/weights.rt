@@ -57,7 +57,7 @@ pub fn lookup_after_an_insert_within_a_budget<K, V>()
         → lookup_entry (eq q) es ≡ Some e }
 {}
 
-/// An accepted insert leaves the fitting end within the budget and answers the old value; one that is too heavy
+/// An accepted insert leaves the fitting end within the budget and returns the old value; one that is too heavy
 /// changes nothing, one for which memory was refused no entry, and a pair is never both.
 pub fn what_inserts_within_a_budget_leave<K, V, S>()
     ensures entries { (eq : K → K → Bool) (old new : WeightedState K V S) (k : K) (v : V) (weight : ℕ)

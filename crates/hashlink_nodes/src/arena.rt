@@ -14,7 +14,7 @@ use std::marker::{Model, PhantomData};
 
 /// Values, each in a block of its own from `Global`. It takes no space: whoever uses it keeps the nodes.
 pub(crate) struct Arena<T> {
-    mark: PhantomData<*mut T>,
+    mark: PhantomData<*const T>,
     pub(crate) ghost blocks: { List (Node × T) },
 }
 
@@ -33,7 +33,7 @@ impl<T> Arena<T> {
         Arena { mark: PhantomData }
     }
 
-    /// Takes the block over, and answers where it lies.
+    /// Takes the block over, and returns where it lies.
     pub(crate) fn keep(&mut self, loose: Loose<T, Global>) -> Node
         requires { 0 < type_size T.row }
         ensures kept { self.new.blocks ≡ (result, loose.value) ∷ self.old.blocks }

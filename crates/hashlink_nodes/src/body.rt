@@ -168,7 +168,7 @@ impl<K, V> Body<K, V> {
         }
     }
 
-    /// Puts something else in, and answers what was there.
+    /// Puts something else in, and returns what was there.
     #[inline]
     pub(crate) fn put(&mut self, held: Option<Held<K, V>>) -> Option<Held<K, V>>
         requires { IfSome held (λ h. h.number < 2 ^ 48) }

@@ -102,7 +102,7 @@ impl<K, V> Cells<K, V> {
         block.links.store(Side::Prev, to, &mut self.writes);
     }
 
-    /// Puts something else into the node, and answers what it held.
+    /// Puts something else into the node, and returns what it held.
     #[inline]
     pub(crate) fn hold(&mut self, node: Node, held: Option<Held<K, V>>) -> Option<Held<K, V>>
         requires has { (state_of self.old).has node ≡ true }
@@ -126,7 +126,7 @@ impl<K, V> Cells<K, V> {
         block.held.entry_mut()
     }
 
-    /// Puts a value in, and answers the old one.
+    /// Puts a value in, and returns the old one.
     #[inline]
     pub(crate) fn replace_value(&mut self, node: Node, value: V) -> V
         requires has { (state_of self.old).has node ≡ true }
@@ -139,7 +139,7 @@ impl<K, V> Cells<K, V> {
         block.held.replace_value(value)
     }
 
-    /// Puts a key in, and answers the old one.
+    /// Puts a key in, and returns the old one.
     pub(crate) fn replace_key(&mut self, node: Node, key: K) -> K
         requires has { (state_of self.old).has node ≡ true }
         requires held { IsSome ((state_of self.old).held node) }
@@ -194,7 +194,7 @@ impl<K, V> Cells<K, V> {
         }
     }
 
-    /// Gives the node's block back, and answers what the node held.
+    /// Gives the node's block back, and returns what the node held.
     pub(crate) fn give_back(&mut self, node: Node, alloc: Global) -> Option<Held<K, V>>
         requires { (state_of self.old).has node ≡ true }
         ensures held { result ≡ (state_of self.old).held node }

@@ -1,11 +1,11 @@
 -- What may answer a text, worked out line by line.
 use Rattle.std.proofs.Common.{◌≡◌, ℕ, ◌+◌, ◌≤◌, ◌++◌, ◌⊎◌, List, [], ◌∷◌, Option, None, Some, Result, Ok, Err}
-use Rattle.std.proofs.Common.{codes}
+use Rattle.std.proofs.Common.{codes, arith}
 use Rattle.std.proofs.Common.{nat_eq, refl, ap, ◌∙◌, inl, inr, ⊎_elim, lit≤}
 use Rattle.std.specs.Fmt.{digits}
 use Rattle.std.specs.Map.{lookup_entry}
 use Rattle.hashlink_model.specs.MapState.{MapState, map_state, empty_map, StoresAtMost, Inserts, Adds, Changes}
-use Rattle.hashlink_model.specs.MapState.{Removes}
+use Rattle.hashlink_model.specs.MapState.{Removes, RoomFor}
 use Rattle.hashlink_core.specs.declared.hash_builder.DefaultHashBuilder.{DefaultHashBuilder}
 use Rattle.hashlink_core.specs.Hashing.{default_builder}
 use Rattle.hashlink_commands.specs.declared.commands.Command.{Command}
@@ -120,13 +120,17 @@ abbrev pub Stepped : MapState ℕ ℕ DefaultHashBuilder → Command ℕ ℕ →
     → Type 0
 Stepped old command reply new = Step nat_eq Itself IsEven old command (reply ∷ []) new
 
+-- room that grows by one
+pub one_more : (n : ℕ) → RoomFor (n + 1) n (n + 1)
+one_more n = record { grows = omega arith; same = λ le. absurd (omega arith); bound = omega arith }
+
 pub first_insert : Stepped (empty_map default_builder) (Insert 1 10) (Value None) (state ((1, 10) ∷ []) 0 1 4)
 first_insert =
     let adds : Adds (empty_map default_builder) (state ((1, 10) ∷ []) 0 1 4) ((1, 10) ∷ []) = record {
       entries = refl;
       more = refl;
       spare = refl;
-      room = lit≤ tt;
+      room = one_more 0;
       fits = lit≤ tt;
       link_writes = few 4 0 4 (lit≤ tt) (lit≤ tt);
       hasher = refl;
@@ -140,7 +144,7 @@ second_insert =
       entries = refl;
       more = refl;
       spare = refl;
-      room = lit≤ tt;
+      room = one_more 1;
       fits = lit≤ tt;
       link_writes = few 4 4 8 (lit≤ tt) (lit≤ tt);
       hasher = refl;

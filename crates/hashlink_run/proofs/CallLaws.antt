@@ -16,7 +16,7 @@ use Rattle.hashlink_model.proofs.Distinct.{IsEntries-nil}
 use Rattle.hashlink_model.proofs.Competitive.{competitive, missed_uses-history}
 use Rattle.hashlink_model.proofs.Reuse.{held_exactly, HoldsRecent-cache_use}
 use Rattle.hashlink_run.specs.CacheCalls.{RunsFromEmpty, use_of}
-use Rattle.hashlink_run.specs.CacheLaws.{Includes, FollowsHistory, BearsComparison, UsedLast}
+use Rattle.hashlink_run.specs.CacheLaws.{Includes, FollowsHistory, MissesOfHistory, BearsComparison, UsedLast}
 
 module _ {K V : Type 0} (eq : K → K → Bool) where
   -- the answer to the call at the place n is what its key has after the calls before it
@@ -86,9 +86,12 @@ module _ {K V : Type 0} (eq : K → K → Bool) where
       ran-includes c d le small_replies large_replies small large r t =
           rw (r.entries, r.answered, t.entries, t.answered) (includes c d le events)
 
+    pub misses_of_history : (c : ℕ) (pairs : List (K × V)) (replies : List (Option V))
+        → replies ≡ answers eq c [] (map use_of pairs) → MissesOfHistory eq c (map (λ p. p.0) pairs) replies
+    misses_of_history c pairs replies is =
+        ap (count_by is_none) is ∙ misses_counted c [] pairs ∙ missed_uses-history eq laws c pairs
+
     pub bears_comparison : (c : ℕ) (pairs : List (K × V)) (replies : List (Option V))
         → replies ≡ answers eq c [] (map use_of pairs) → BearsComparison eq c (map (λ p. p.0) pairs) replies
     bears_comparison c pairs replies is = λ h one le held schedule.
-        let missed =
-        ap (count_by is_none) is ∙ misses_counted c [] pairs ∙ missed_uses-history eq laws c pairs in
-        rw missed (competitive eq laws c h one le (keys_of pairs) held schedule)
+        rw (misses_of_history c pairs replies is) (competitive eq laws c h one le (keys_of pairs) held schedule)

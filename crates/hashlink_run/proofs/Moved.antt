@@ -2,14 +2,14 @@
 use Rattle.std.proofs.Common.{◌≡◌, ℕ, ◌-◌, Bool, List, [], ◌∷◌, ◌++◌, length, Option, None, Some, refl, sym, ap, ◌∙◌}
 use Rattle.std.proofs.Common.{subst, arith, length-append, MatchOption}
 use Rattle.std.specs.Cmp.{IsEquivalence}
-use Rattle.std.specs.Option.{option_map, option_map_or}
+use Rattle.std.specs.Option.{option_map}
 use Rattle.std.specs.Map.{lookup, lookup_entry}
 use Rattle.std.proofs.lemmas.Map.Steps.{set_value_same}
-use Rattle.hashlink_model.specs.Entries.{IsEntries, put, moved, stored_key, without}
+use Rattle.hashlink_model.specs.Entries.{IsEntries, moved, stored_key, without}
 use Rattle.hashlink_model.specs.MapState.{MapState, Changes}
 use Rattle.hashlink_model.specs.Steps.{Moves, MovesAndWrites}
 use Rattle.hashlink_model.specs.Walk.{first_of, last_of}
-use Rattle.hashlink_model.proofs.Afterwards.{lookup-moved}
+use Rattle.hashlink_model.proofs.Afterwards.{lookup-moved, moved-there}
 use Rattle.hashlink_model.proofs.Finds.{lookup_is, lookup_key_is}
 use Rattle.hashlink_model.proofs.Places.{slice_get_here}
 use Rattle.hashlink_model.proofs.Puts.{put_back, put_front}
@@ -25,12 +25,9 @@ module _ {K V : Type 0} (eq : K → K → Bool) (es : List (K × V)) (k : K) (v 
       e ∙ rw (key, same) refl
 
   module _ (found : lookup (eq k) es ≡ Some v) where
-    moved-there : (b : ℕ) → moved eq es k b ≡ put eq es k v b
-    moved-there b = ap (λ o. option_map_or (λ w. put eq es k w b) o es) found
-
     pub first_of-moved : first_of (moved eq es k 0) ≡ lookup_entry (eq k) es
     first_of-moved =
-        ap first_of (moved-there 0 ∙ put_front eq es k v) ∙ sym (stored_pair (lookup_entry (eq k) es) refl found)
+        ap first_of (moved-there eq es k 0 v found ∙ put_front eq es k v) ∙ sym (stored_pair (lookup_entry (eq k) es) refl found)
 
     last_of-end : (xs : List (K × V)) (e : K × V) → last_of (xs ++ e ∷ []) ≡ Some e
     last_of-end xs e =
@@ -39,7 +36,7 @@ module _ {K V : Type 0} (eq : K → K → Bool) (es : List (K × V)) (k : K) (v 
 
     pub last_of-moved : last_of (moved eq es k (length es)) ≡ lookup_entry (eq k) es
     last_of-moved =
-        ap last_of (moved-there (length es) ∙ put_back eq es k v)
+        ap last_of (moved-there eq es k (length es) v found ∙ put_back eq es k v)
         ∙ last_of-end (without eq es k) (stored_key eq es k, v)
         ∙ sym (stored_pair (lookup_entry (eq k) es) refl found)
 

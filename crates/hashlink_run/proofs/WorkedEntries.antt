@@ -9,7 +9,7 @@ use Rattle.hashlink_commands.specs.declared.commands.EntryStep.TheVariants.{OrIn
 use Rattle.hashlink_commands.specs.declared.replies.Reply.TheVariants.{Value, Pair, Seen}
 use Rattle.hashlink_run.specs.Text.{IsTranscript}
 use Rattle.hashlink_run.specs.Transcript.{LineShows, ShowsAll}
-use Rattle.hashlink_run.proofs.Answered.{few, state, Stepped, first_insert}
+use Rattle.hashlink_run.proofs.Answered.{few, one_more, state, Stepped, first_insert}
 
 moved_last : Stepped (state ((1, 10) ∷ []) 0 1 4) (Entry 1 (OrInsert 5)) (Seen (Some (1, 10)))
     (state ((1, 10) ∷ []) 0 1 4)
@@ -31,7 +31,7 @@ put_in =
       entries = refl;
       more = refl;
       spare = refl;
-      room = lit≤ tt;
+      room = one_more 1;
       fits = lit≤ tt;
       link_writes = few 4 4 8 (lit≤ tt) (lit≤ tt);
       hasher = refl;

@@ -5,7 +5,7 @@ use Rattle.std.specs.List.{AllZip, count_by}
 use Rattle.std.specs.Map.{lookup}
 use Rattle.std.specs.Set.{is_member}
 use Rattle.hashlink_model.specs.CacheRuns.{CacheEvent, key_of, used_keys, NoUse, NoRemoval}
-use Rattle.hashlink_model.specs.History.{reuse_distance, HoldsRecent, Schedule, misses}
+use Rattle.hashlink_model.specs.History.{reuse_distance, HoldsRecent, cache_misses, Schedule, misses}
 use Rattle.hashlink_model.specs.Inclusion.{IsEndOf, SameKey, SameEntry, AlsoFinds, FindsTheSame}
 
 -- the key was used, and fewer than c others since
@@ -35,6 +35,10 @@ module _ {K V : Type 0} (eq : K → K → Bool) (events : List (CacheEvent K V))
     pub found : (n : ℕ) (e : CacheEvent K V) (reply : Option V) → NoRemoval (take n events)
         → slice_get events n ≡ Some e → slice_get replies n ≡ Some reply
         → is_some reply ≡ is_recent eq c (used_keys (take n events)) (key_of e)
+
+-- a cache of capacity c answers None as often to uses of these keys as their reuse distances say
+abbrev pub MissesOfHistory : {K V : Type 0} → (K → K → Bool) → ℕ → List K → List (Option V) → Type 0
+MissesOfHistory eq c keys replies = count_by is_none replies ≡ cache_misses eq c keys
 
 -- against any other rule of replacement, even one that knows the future: where a cache of capacity c answers None so
 -- often to uses of these keys, a schedule of h places misses at least (c - h + 1) / c as often

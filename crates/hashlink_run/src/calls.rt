@@ -5,7 +5,7 @@ ghost use Rattle.hashlink_lru.specs.Cached.{entries_in, state_in};
 ghost use Rattle.hashlink_model.specs.Cache.{CacheUses};
 ghost use Rattle.hashlink_model.specs.Entries.{IsEntries};
 ghost use Rattle.hashlink_run.specs.CacheCalls.{EventStep, RunsFromEmpty, event_of, use_of};
-ghost use Rattle.hashlink_run.specs.CacheLaws.{BearsComparison, FollowsHistory, Includes, UsedLast};
+ghost use Rattle.hashlink_run.specs.CacheLaws.{BearsComparison, FollowsHistory, Includes, MissesOfHistory, UsedLast};
 
 use hashlink_commands::PairCommand;
 use hashlink_lru::LruCache;
@@ -94,9 +94,11 @@ where
     ensures ran { IfOk result (λ uses. RunsFromEmpty K.eq default_builder capacity (map use_of pairs.now)
         uses.replies.items (state_in uses.cache)) }
 
-    // The cache holds and found what the history of the uses says, and missed not many more than any other rule of
-    // replacement would.
+    // The cache holds and found what the history of the uses says, missed as often as that says, and not many times
+    // more than any other rule of replacement would.
     ensures history { IfOk result (λ uses. FollowsHistory K.eq (map use_of pairs.now) capacity (entries_in uses.cache)
+        uses.replies.items) }
+    ensures misses { IfOk result (λ uses. MissesOfHistory K.eq capacity (map (λ p. p.0) pairs.now)
         uses.replies.items) }
     ensures comparison { IfOk result (λ uses. BearsComparison K.eq capacity (map (λ p. p.0) pairs.now)
         uses.replies.items) }

@@ -1,13 +1,13 @@
 -- What a step of a lazy walk looks at, gives and leaves.
 use Rattle.std.proofs.Common.{◌≡◌, ℕ, ◌+◌, ◌^◌, ◌≤◌, nat_lt, Bool, true, false, cond, List, [], ◌∷◌}
-use Rattle.std.proofs.Common.{length, filter, Option, None}
-use Rattle.std.proofs.Common.{Some, is_some, refl, sym, ap, ap₂, subst, ◌∙◌}
+use Rattle.std.proofs.Common.{filter, Option, None}
+use Rattle.std.proofs.Common.{Some, refl, sym, ap, ap₂, subst, ◌∙◌}
 use Rattle.std.specs.Prelude.{option_copied, is_none, IfSome}
 use Rattle.std.specs.Iterator.{at_most, UpTo}
 use Rattle.std.specs.Set.{is_member}
 use Rattle.std.specs.Borrow.{Bor}
 use Rattle.std.specs.Map.Iter.{TakesFirst, deref}
-use Rattle.hashlink_model.specs.Algebra.{PairWalk, first_passing, left_or_right, pair_step, left_to_give, is_nil}
+use Rattle.hashlink_model.specs.Algebra.{PairWalk, first_passing, left_or_right, left_to_give, is_nil}
 use Rattle.hashlink_model.specs.Algebra.{at_most_both}
 use Rattle.hashlink_model.specs.Sets.{SetState, elements_of}
 use Rattle.hashlink_model.proofs.LazyWalks.{first_passing-takes, pair_step-takes}

@@ -1,9 +1,9 @@
 -- A move of an element, as the map's move of a key whose value is nothing.
 use Rattle.std.proofs.Common.{◌≡◌, ℕ, Bool, true, false, cond, List, [], ◌∷◌, Some, refl, sym, ap, subst, ◌∙◌}
 use Rattle.std.specs.Map.{lookup, set_value}
-use Rattle.hashlink_model.specs.Entries.{moved}
+use Rattle.hashlink_model.specs.Entries.{moved_match}
 use Rattle.hashlink_model.specs.MapState.{Changes}
-use Rattle.hashlink_model.specs.Steps.{Moves, MovesAndWrites}
+use Rattle.hashlink_model.specs.Steps.{MovesMatch, MovesMatchAndWrites}
 use Rattle.hashlink_model.specs.Sets.{SetState}
 
 -- nothing that is written changes nothing
@@ -15,10 +15,10 @@ set_value-nothing test (e ∷ es) = by (test e.0) (set_value-nothing test es)
     by true h = refl
     by false h = ap (λ r. e ∷ r) h
 
-module _ {T S : Type 0} (eq : T → T → Bool) (old new : SetState T S) (t : T) (b : ℕ) where
-  pub moved-element : Some tt ≡ lookup (eq t) old.entries → MovesAndWrites eq old new t b tt
-      → Moves eq old new t b (Some tt)
+module _ {T S : Type 0} (test : T → Bool) (old new : SetState T S) (b : ℕ) where
+  pub moved-element : Some tt ≡ lookup test old.entries → MovesMatchAndWrites test old new b tt
+      → MovesMatch test old new b (Some tt)
   moved-element found s =
       let same : new ≡ s.between =
-      s.writes ∙ ap (λ es. record s.between { entries = es }) (set_value-nothing (eq t) s.between.entries) in
-      record { answer = found; step = subst (λ m. Changes old m (moved eq old.entries t b) 6) (sym same) s.moves }
+      s.writes ∙ ap (λ es. record s.between { entries = es }) (set_value-nothing test s.between.entries) in
+      record { answer = found; step = subst (λ m. Changes old m (moved_match test old.entries b) 6) (sym same) s.moves }

@@ -1,5 +1,5 @@
 -- What a set is that was made of clones of distinct elements.
-use Rattle.std.proofs.Common.{◌≡◌, Bool, true, cond, List, [], ◌∷◌, ◌++◌, Option, None, Some, Ok, map, refl, ap, ap₂}
+use Rattle.std.proofs.Common.{◌≡◌, Bool, true, cond, List, [], ◌∷◌, ◌++◌, Option, None, Some, map, refl, ap, ap₂}
 use Rattle.std.proofs.Common.{subst, sym, ◌∙◌, append-nil}
 use Rattle.std.specs.Borrow.{Bor}
 use Rattle.std.specs.Cmp.{IsEquivalence}

@@ -1,12 +1,9 @@
 -- What the calls of a closure at pairs are to another one that it calls at each element.
-use denote.Param.Always.{mut_next}
-use Rattle.std.proofs.Common.{◌≡◌, Bool, List, [], ◌∷◌, refl, ap, subst}
-use Rattle.std.specs.Borrow.{Bor}
-use Rattle.std.specs.Fn.{Mut, CalledAt, always_mut}
+use Rattle.std.proofs.Common.{Bool, List, [], ◌∷◌, ap}
 use Rattle.std.specs.List.{FoldsTo}
 use Rattle.std.specs.Map.Calls.{CallableOnEachPair, SomeCallAtPair}
 use Rattle.hashlink_model.specs.Retain.{KeepsInOrder, RetainsInOrder}
-use Rattle.hashlink_model.specs.Sets.{SetState, at_element}
+use Rattle.hashlink_model.specs.Sets.{SetState}
 
 module _ {C F T : Type 0} (see : C → F) (P : C → T → Unit {0} → Bool → Unit {0} → C → Type 0)
     (Q : F → T → Unit {0} → Bool → Unit {0} → F → Type 0)
@@ -35,15 +32,3 @@ module _ {C F T : Type 0} (see : C → F) (P : C → T → Unit {0} → Bool →
   callable_seen may takes serves c es h = record {
     at = λ before after d t v e calls. serves d t (h.at before after (see d) t v e (folds_seen c before d calls));
   }
-
--- a closure that may be called on any element may be called on each, as the calls before have left it
-module _ {F T : Type 0} (calls : Mut F (Bor T × Unit {0}) Bool) where
-  still_callable : (f : F) (es : List (T × Unit {0})) (g : F)
-      → FoldsTo (SomeCallAtPair (at_element (CalledAt calls))) f es g → always_mut calls f → always_mut calls g
-  still_callable f [] g h always = subst (always_mut calls) h always
-  still_callable f (e ∷ es) g h always =
-      still_callable h.0 es g h.2 (mut_next calls _ _ _ _ _ h.1.2.called refl always)
-
-  pub callable_always : (f : F) (es : List (T × Unit {0})) → always_mut calls f
-      → CallableOnEachPair (at_element (CalledAt calls)) (λ g _ _. always_mut calls g) f es
-  callable_always f es always = record { at = λ before after g t v is h. still_callable f before g h always }

@@ -5,7 +5,7 @@ use Rattle.std.proofs.Common.{cond, ◌||◌, is_some, unwrap_or, refl, sym, ap,
 use Rattle.std.specs.Prelude.{IfOk, IfErr}
 use Rattle.std.specs.Cmp.{IsEquivalence}
 use Rattle.std.specs.List.{find, IsDistinct}
-use Rattle.std.specs.Map.{keys_of, lookup}
+use Rattle.std.specs.Map.{keys_of}
 use Rattle.std.specs.Set.{is_member, remove_key}
 use Rattle.std.proofs.lemmas.Map.Entries.{length-keys_of}
 use Rattle.std.proofs.lemmas.Map.Made.{is_some-lookup}

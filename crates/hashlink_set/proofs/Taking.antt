@@ -1,5 +1,5 @@
 -- What a pop gives and leaves, as a step of a walk over the elements.
-use Rattle.std.proofs.Common.{◌≡◌, false, List, [], ◌∷◌, ◌++◌, filter, Option, None, Some, refl, ap, sym, ◌∙◌}
+use Rattle.std.proofs.Common.{◌≡◌, false, List, [], ◌∷◌, filter, Option, None, Some, refl, ap, ◌∙◌}
 use Rattle.std.specs.Map.{keys_of}
 use Rattle.std.specs.Map.Iter.{TakesFirst, TakesLast}
 use Rattle.hashlink_model.specs.Sets.{SetState, elements_of}

@@ -1,5 +1,6 @@
 -- What the contracts of the set cite, beside `hashlink_model`.
 pub mod Answers
+pub mod Called
 pub mod Cloned
 pub mod Compared
 pub mod Drain

@@ -1,5 +1,5 @@
 -- An element that a closure makes where no equal one is there.
-use Rattle.std.specs.Prelude.{◌≡◌, Bool, false, length, Option, None, Some, MatchOption, Result, MatchResult}
+use Rattle.std.specs.Prelude.{◌≡◌, Bool, false, length, None, Some, MatchOption, Result, MatchResult}
 use Rattle.std.specs.Borrow.{Bor}
 use Rattle.std.specs.Fn.{Once, FnOnceTakesAt, FnOnceReturnsAt}
 use Rattle.std.specs.List.{find}

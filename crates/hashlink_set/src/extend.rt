@@ -3,11 +3,14 @@ ghost use Rattle.std.specs.Prelude.{List, [], None, OnOk, IfErr, map};
 ghost use Rattle.std.specs.Iterator.{IsFinite, IsFiniteIterable, Yields, YieldsThen};
 ghost use Rattle.std.specs.Map.Iter.{deref};
 ghost use Rattle.hashlink_model.specs.Many.{AcceptsAll, StopsAt};
+ghost use Rattle.hashlink_model.specs.MapState.{Grows};
 ghost use Rattle.hashlink_model.specs.Sets.{SetInserts};
+ghost use Rattle.hashlink_map.specs.Extending.{TakesItems};
 ghost use Rattle.hashlink_map.specs.Reading.{ReadsAll, ReadsSome};
 
 use crate::set::LinkedHashSet;
 use hashlink_map::ExtendError;
+use std::alloc::AllocError;
 use std::hash::{BuildHasher, Hash};
 
 impl<T: Eq + Hash + Drop, S: BuildHasher> LinkedHashSet<T, S> {
@@ -79,6 +82,26 @@ impl<'a, T: Eq + Hash + Copy + 'a, S: BuildHasher> LinkedHashSet<T, S> {
             }
             taken = taken.saturating_add(1);
         }
+        Ok(())
+    }
+}
+
+/// The elements go in as by the function `extend`. The refused one is dropped.
+impl<T: Eq + Hash + Drop, S: BuildHasher> Extend<T> for LinkedHashSet<T, S> {
+    ghost extend_gives = { TakesItems (SetInserts T.eq) (Grows 1) };
+
+    fn extend<I: IntoIterator<Item = T>>(&mut self, iter: I) -> Result<(), AllocError> {
+        LinkedHashSet::extend(self, iter)?;
+        Ok(())
+    }
+}
+
+/// Copies of the elements go in as by the function `extend_ref`.
+impl<'a, T: Eq + Hash + Copy + 'a, S: BuildHasher> Extend<&'a T> for LinkedHashSet<T, S> {
+    ghost extend_gives = { λ old items. TakesItems (SetInserts T.eq) (Grows 1) old (map deref items) };
+
+    fn extend<I: IntoIterator<Item = &'a T>>(&mut self, iter: I) -> Result<(), AllocError> {
+        self.extend_ref(iter)?;
         Ok(())
     }
 }

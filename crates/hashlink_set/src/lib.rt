@@ -13,7 +13,9 @@ mod texts;
 
 pub use algebra::{Difference, Intersection, SymmetricDifference, Union};
 pub use drain::Drain;
-pub use hashlink_map::{DefaultHashBuilder, DefaultHasher, ExtendError, TryReserveError};
+pub use hashlink_map::{
+    DefaultHashBuilder, DefaultHasher, Equivalent, ExtendError, TryReserveError,
+};
 pub use into_iter::IntoIter;
 pub use iter::Iter;
 pub use set::LinkedHashSet;

@@ -7,6 +7,7 @@ ghost use Rattle.std.specs.Map.Iter.{deref};
 ghost use Rattle.hashlink_model.specs.Algebra.{union_of, intersection_of, difference_of, symmetric_difference_of};
 ghost use Rattle.hashlink_model.specs.Many.{MadeFrom};
 ghost use Rattle.hashlink_model.specs.Sets.{elements_of, SetInserts};
+ghost use Rattle.hashlink_map.specs.Cloning.{IsMadeOf};
 ghost use Rattle.hashlink_map.specs.Reading.{ReadsAll};
 ghost use Rattle.hashlink_set.specs.Cloned.{IsOfClones};
 
@@ -19,7 +20,7 @@ impl<T: Eq + Hash + Drop, S: BuildHasher + Default + Drop> LinkedHashSet<T, S> {
     /// A set of the items, each inserted in turn as `insert` does, that hashes by `S::default()`. The iterator has to
     /// end. No room is made before an item needs it.
     ///
-    /// It answers `AllocError` where the memory for an item is refused, and then nothing is left of the set.
+    /// It returns `AllocError` where the memory for an item is refused, and then nothing is left of the set.
     pub fn from_iter<I: IntoIterator<Item = T>>(alloc: Global, iter: I) -> Result<Self, AllocError>
         requires { IsFiniteIterable I.into_iter_gives I.IntoIter.can_next I.IntoIter.remaining iter }
         ensures { IfOk result (λ set. (s : S) × S.is_default s
@@ -32,17 +33,37 @@ impl<T: Eq + Hash + Drop, S: BuildHasher + Default + Drop> LinkedHashSet<T, S> {
     }
 }
 
+/// `collect(alloc)` makes a set of the items as the function `from_iter` does.
+impl<T: Eq + Hash + Drop, S: BuildHasher + Default + Drop> FromIterator<T> for LinkedHashSet<T, S> {
+    type Alloc = Global;
+
+    ghost from_iter_gives = { IsMadeOf (SetInserts T.eq) S.is_default };
+
+    fn from_iter<I: IntoIterator<Item = T>>(alloc: Global, iter: I) -> Result<Self, AllocError> {
+        LinkedHashSet::from_iter(alloc, iter)
+    }
+}
+
 impl<T: Eq + Hash + Clone, S: BuildHasher + Clone> LinkedHashSet<T, S> {
     /// A set with a clone of the hasher, in which a clone of each element was inserted in turn, front first. It is in
     /// the same allocator's memory, and has no spare node.
     ///
-    /// It answers `AllocError` where the memory for a clone or for a node is refused, and then nothing is left of the
+    /// It returns `AllocError` where the memory for a clone or for a node is refused, and then nothing is left of the
     /// new set.
     pub fn clone(&self) -> Result<Self, AllocError>
         ensures { IfOk result (IsOfClones T.eq T.is_clone (S.is_clone self.now.hasher) (elements_of self.now)) }
     {
         let hash_builder = self.hasher().clone()?;
         of_clones(self.alloc, hash_builder, self.iter())
+    }
+}
+
+/// What holds a set may be cloned with it: a clone is made as the function `clone` makes it.
+impl<T: Eq + Hash + Clone, S: BuildHasher + Clone> Clone for LinkedHashSet<T, S> {
+    ghost is_clone = { λ set. IsOfClones T.eq T.is_clone (S.is_clone set.hasher) (elements_of set) };
+
+    fn clone(&self) -> Result<Self, AllocError> {
+        LinkedHashSet::clone(self)
     }
 }
 
@@ -79,7 +100,7 @@ impl<T: Eq + Hash + Clone, S: BuildHasher> LinkedHashSet<T, S> {
 
 /// `&a | &b`: clones of what `union` gives, in the left set's allocator's memory.
 ///
-/// It answers `AllocError` where the memory for a clone or for a node is refused, and then nothing is left of the new
+/// It returns `AllocError` where the memory for a clone or for a node is refused, and then nothing is left of the new
 /// set.
 impl<'a, 'b, T: Eq + Hash + Clone, S: BuildHasher + Default + Drop> BitOr<&'b LinkedHashSet<T, S>>
     for &'a LinkedHashSet<T, S> {
@@ -95,7 +116,7 @@ impl<'a, 'b, T: Eq + Hash + Clone, S: BuildHasher + Default + Drop> BitOr<&'b Li
 
 /// `&a & &b`: clones of what `intersection` gives, in the left set's allocator's memory.
 ///
-/// It answers `AllocError` where the memory for a clone or for a node is refused, and then nothing is left of the new
+/// It returns `AllocError` where the memory for a clone or for a node is refused, and then nothing is left of the new
 /// set.
 impl<'a, 'b, T: Eq + Hash + Clone, S: BuildHasher + Default + Drop> BitAnd<&'b LinkedHashSet<T, S>>
     for &'a LinkedHashSet<T, S> {
@@ -111,7 +132,7 @@ impl<'a, 'b, T: Eq + Hash + Clone, S: BuildHasher + Default + Drop> BitAnd<&'b L
 
 /// `&a ^ &b`: clones of what `symmetric_difference` gives, in the left set's allocator's memory.
 ///
-/// It answers `AllocError` where the memory for a clone or for a node is refused, and then nothing is left of the new
+/// It returns `AllocError` where the memory for a clone or for a node is refused, and then nothing is left of the new
 /// set.
 impl<'a, 'b, T: Eq + Hash + Clone, S: BuildHasher + Default + Drop> BitXor<&'b LinkedHashSet<T, S>>
     for &'a LinkedHashSet<T, S> {
@@ -127,7 +148,7 @@ impl<'a, 'b, T: Eq + Hash + Clone, S: BuildHasher + Default + Drop> BitXor<&'b L
 
 /// `&a - &b`: clones of what `difference` gives, in the left set's allocator's memory.
 ///
-/// It answers `AllocError` where the memory for a clone or for a node is refused, and then nothing is left of the new
+/// It returns `AllocError` where the memory for a clone or for a node is refused, and then nothing is left of the new
 /// set.
 impl<'a, 'b, T: Eq + Hash + Clone, S: BuildHasher + Default + Drop> Sub<&'b LinkedHashSet<T, S>>
     for &'a LinkedHashSet<T, S> {

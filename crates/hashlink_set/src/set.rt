@@ -49,7 +49,7 @@ impl<T: Eq + Hash> LinkedHashSet<T, DefaultHashBuilder> {
 
     /// An empty set with room for so many elements, which hashes by `DefaultHasher`. For none it takes no memory.
     ///
-    /// It answers `CapacityOverflow` for more than 2 to the power of 62 elements, and `AllocError` where the memory is
+    /// It returns `CapacityOverflow` for more than 2 to the power of 62 elements, and `AllocError` where the memory is
     /// refused.
     pub fn with_capacity(alloc: Global, capacity: usize) -> Result<Self, TryReserveError>
         ensures made { IfOk result (IsMadeWith capacity default_builder) }
@@ -73,7 +73,7 @@ impl<T: Eq + Hash, S: BuildHasher> LinkedHashSet<T, S> {
 
     /// An empty set with room for so many elements that hashes by `hash_builder`. For none it takes no memory.
     ///
-    /// It answers `CapacityOverflow` for more than 2 to the power of 62 elements, and `AllocError` where the memory is
+    /// It returns `CapacityOverflow` for more than 2 to the power of 62 elements, and `AllocError` where the memory is
     /// refused.
     pub fn with_capacity_and_hasher(
         alloc: Global,

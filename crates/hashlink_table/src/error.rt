@@ -1,4 +1,5 @@
-use std::alloc;
+use std::error::Error;
+use std::{alloc, fmt};
 
 /// Why `Table::reserve` or `Table::with_room` was refused.
 #[derive(Clone, Copy, Debug, PartialEq, Eq)]
@@ -17,5 +18,27 @@ impl From<alloc::AllocError> for TryReserveError {
 
     fn from(_error: alloc::AllocError) -> Self {
         TryReserveError::AllocError
+    }
+}
+
+impl fmt::Display for TryReserveError {
+    ghost use Rattle.std.specs.Prelude.{Some};
+    ghost use Rattle.hashlink_table.specs.Refusals.{refusal_shown};
+
+    ghost output = { λ refusal. Some (refusal_shown refusal) };
+
+    fn fmt<W: fmt::Write>(&self, f: &mut fmt::Formatter<W>) -> fmt::Result {
+        match self {
+            TryReserveError::CapacityOverflow => write!(f, "no table has that much room"),
+            TryReserveError::AllocError => write!(f, "memory allocation failed"),
+        }
+    }
+}
+
+impl Error for TryReserveError {}
+
+impl From<TryReserveError> for alloc::AllocError {
+    fn from(_refused: TryReserveError) -> alloc::AllocError {
+        alloc::AllocError
     }
 }

@@ -1,5 +1,5 @@
-ghost use Rattle.std.specs.Prelude.{◌≡◌, ℕ, ◌+◌, ◌^◌, ◌<◌, ◌≤◌, ◌↔◌, false, true, IfNone, IfOk, IfSome, IsOk, IsSome};
-ghost use Rattle.std.specs.Prelude.{IsTrue, OnErr, OnOk, None, Ok, Err};
+ghost use Rattle.std.specs.Prelude.{◌≡◌, ℕ, ◌+◌, ◌*◌, ◌^◌, ◌<◌, ◌≤◌, ◌↔◌, false, true, IfNone, IfOk, IfSome, IsOk};
+ghost use Rattle.std.specs.Prelude.{IsSome, IsTrue, OnErr, OnOk, None, Ok, Err, max};
 ghost use Rattle.std.specs.FinMap.{empty, get, insert, remove};
 ghost use Rattle.std.specs.Int.{IsPowerOfTwo};
 ghost use Rattle.hashlink_table.specs.declared.error.TryReserveError.TheVariants.{CapacityOverflow};
@@ -75,6 +75,7 @@ impl<N: Copy> Table<N> {
     pub fn with_room(alloc: Global, room: usize) -> Result<Self, TryReserveError>
         ensures empty { IfOk result (λ t. t.nodes ≡ empty) }
         ensures room { IfOk result (λ t. room ≤ t.room) }
+        ensures bound { IfOk result (λ t. t.room ≤ 2 * max 4 room) }
         ensures nothing { room ≡ 0 → result ≡ Ok (record { nodes = empty; room = 0 }) }
         ensures overflow { (result ≡ Err CapacityOverflow) ↔ (MAX_ROOM < room) }
     {
@@ -118,7 +119,7 @@ impl<N: Copy> Table<N> {
         self.cells[cell].there().hash
     }
 
-    /// Puts a node in under its hash, and answers with the number of its cell. It takes no memory.
+    /// Puts a node in under its hash, and returns the number of its cell. It takes no memory.
     #[inline]
     pub fn insert_reserved(&mut self, hash: u64, node: N) -> usize
         requires { len_of self.old < self.old.room }
@@ -224,6 +225,7 @@ impl<N: Copy> Table<N> {
         ensures ok { OnOk result (len_of self.old + additional ≤ self.new.room) }
         ensures nodes { self.new.nodes ≡ self.old.nodes }
         ensures room { self.old.room ≤ self.new.room }
+        ensures bound { self.new.room ≤ max self.old.room (2 * max 4 (len_of self.old + additional)) }
         ensures err { OnErr result (self.new ≡ self.old) }
 
         // Where there is the room already it is not refused, and changes nothing.

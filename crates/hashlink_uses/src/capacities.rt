@@ -39,7 +39,7 @@ pub fn misses_in_a_cache<K: Eq + Hash + Copy, V: Copy>(
 }
 
 // How many of the replies are `None`.
-fn misses_among<V>(replies: &[Option<V>]) -> usize
+pub(crate) fn misses_among<V>(replies: &[Option<V>]) -> usize
     ensures { result ≡ count_by is_none replies.now }
 {
     replies.iter().filter(|reply| reply.is_none()).count()

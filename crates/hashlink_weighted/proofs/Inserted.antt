@@ -22,7 +22,7 @@ module _ {K V S : Type 0} (eq : K → K → Bool) (old between : MapState K (V �
 
   -- the old weight is part of the total
   pub old_weight : (total : ℕ) → total ≡ total_weight old.entries → weight_or_none w ≤ total
-  old_weight total t = let rest = total-without eq old.entries k w answer in omega arith
+  old_weight total t = let rest = total-without (eq k) old.entries w answer in omega arith
 
   -- the pair is the last, and the others have the rest of the total
   pub leaves_last : (total : ℕ) → total ≡ total_weight old.entries

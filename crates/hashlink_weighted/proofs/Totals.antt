@@ -1,20 +1,19 @@
 -- Sums of weights after an entry left, was put last or moved last.
 use Rattle.std.proofs.Common.{◌≡◌, ℕ, ◌+◌, ◌-◌, ◌≤◌, Bool, List, [], ◌∷◌, ◌++◌, length, Option, None, Some, refl, sym}
-use Rattle.std.proofs.Common.{ap, ◌∙◌, arith}
+use Rattle.std.proofs.Common.{ap, subst, ◌∙◌, arith}
 use Rattle.std.specs.Prelude.{MatchOption}
-use Rattle.std.specs.Map.{lookup, lookup_entry}
+use Rattle.std.specs.Map.{lookup, lookup_entry, remove_entry}
 use Rattle.std.specs.Option.{option_map}
 use Rattle.std.proofs.lemmas.List.Sums.{sum_by-cons, sum_by-append}
 use Rattle.std.proofs.lemmas.Option.{same_Some}
-use Rattle.hashlink_model.specs.Entries.{put, moved, without, stored_key}
+use Rattle.hashlink_model.specs.Entries.{put, moved, moved_match, without, stored_key}
 use Rattle.hashlink_model.specs.MapState.{MapState, Removes}
-use Rattle.hashlink_model.specs.Steps.{RemovesKey, Moves}
+use Rattle.hashlink_model.specs.Steps.{RemovesMatch, MovesMatch}
 use Rattle.hashlink_model.specs.Weights.{total_weight}
 use Rattle.hashlink_model.proofs.Finds.{lookup_is}
-use Rattle.hashlink_model.proofs.NodeCounts.{moves_entries}
 use Rattle.hashlink_model.proofs.Splits.{Stands, stands_from_lookup, none_from_lookup, remove_entry-none}
 use Rattle.hashlink_model.proofs.Splits.{remove_entry-here, lookup-here}
-use Rattle.hashlink_model.proofs.Afterwards.{moved-there, moved-absent}
+use Rattle.hashlink_model.proofs.Afterwards.{moved-there}
 use Rattle.hashlink_model.proofs.Puts.{put_back}
 use Rattle.hashlink_weighted.specs.Weighed.{HasTotal, LastWeighs, weight_or_none}
 
@@ -25,38 +24,35 @@ module _ {K V : Type 0} where
   pub total-append : (xs ys : List (K × (V × ℕ))) → total_weight (xs ++ ys) ≡ total_weight xs + total_weight ys
   total-append xs ys = sum_by-append (λ x. x.1.1) xs ys
 
-module _ {K V : Type 0} (eq : K → K → Bool) where
+module _ {K V : Type 0} (test : K → Bool) where
   -- the entry that leaves takes its weight with it
-  there_by : (es : List (K × (V × ℕ))) (k : K) (w : V × ℕ) → lookup (eq k) es ≡ Some w → Stands (eq k) es
-      → total_weight (without eq es k) + w.1 ≡ total_weight es
-  there_by es k w l s =
-      let here = lookup-here (eq k) s.1 s.2 s.3.passes s.0 s.3.before in
-      let same : s.1.1 ≡ w = same_Some _ _ (sym here ∙ ap (lookup (eq k)) (sym s.3.is) ∙ l) in
+  there_by : (es : List (K × (V × ℕ))) (w : V × ℕ) → lookup test es ≡ Some w → Stands test es
+      → total_weight (remove_entry test es) + w.1 ≡ total_weight es
+  there_by es w l s =
+      let here = lookup-here test s.1 s.2 s.3.passes s.0 s.3.before in
+      let same : s.1.1 ≡ w = same_Some _ _ (sym here ∙ ap (lookup test) (sym s.3.is) ∙ l) in
       let weight : s.1.1.1 ≡ w.1 = ap (λ x. x.1) same in
       let all = ap total_weight s.3.is in
-      let left = ap (λ zs. total_weight (without eq zs k)) s.3.is in
-      let rest = ap total_weight (remove_entry-here (eq k) s.1 s.2 s.3.passes s.0 s.3.before) in
+      let left = ap (λ zs. total_weight (remove_entry test zs)) s.3.is in
+      let rest = ap total_weight (remove_entry-here test s.1 s.2 s.3.passes s.0 s.3.before) in
       let a = total-append s.0 (s.1 ∷ s.2) in
       let b = total-append s.0 s.2 in
       let c = total-cons s.1 s.2 in
       omega arith
 
-  pub total-without_there : (es : List (K × (V × ℕ))) (k : K) (w : V × ℕ) → lookup (eq k) es ≡ Some w
-      → total_weight (without eq es k) + w.1 ≡ total_weight es
-  total-without_there es k w l = there_by es k w l (stands_from_lookup (eq k) es w l)
+  pub total-without : (es : List (K × (V × ℕ))) (o : Option (V × ℕ)) → lookup test es ≡ o
+      → total_weight (remove_entry test es) + weight_or_none o ≡ total_weight es
+  total-without es None l =
+      let same = ap total_weight (remove_entry-none test es (none_from_lookup test es l)) in omega arith
+  total-without es (Some w) l = there_by es w l (stands_from_lookup test es w l)
 
-  pub total-without : (es : List (K × (V × ℕ))) (k : K) (o : Option (V × ℕ)) → lookup (eq k) es ≡ o
-      → total_weight (without eq es k) + weight_or_none o ≡ total_weight es
-  total-without es k None l =
-      let same = ap total_weight (remove_entry-none (eq k) es (none_from_lookup (eq k) es l)) in omega arith
-  total-without es k (Some w) l = total-without_there es k w l
-
+module _ {K V : Type 0} (eq : K → K → Bool) where
   -- put last, with the others before it
   pub last_weighs : (es : List (K × (V × ℕ))) (k : K) (w : V × ℕ) (o : Option (V × ℕ)) (total : ℕ)
       → lookup (eq k) es ≡ o → total ≡ total_weight es
       → LastWeighs (put eq es k w (length es)) (total - weight_or_none o) w.1
   last_weighs es k w o total l t =
-      let rest = total-without es k o l in
+      let rest = total-without (eq k) es o l in
       record {
         before = without eq es k;
         last = (stored_key eq es k, w);
@@ -66,61 +62,61 @@ module _ {K V : Type 0} (eq : K → K → Bool) where
       }
 
   -- a move leaves the sum
-  moved_by : (es : List (K × (V × ℕ))) (k : K) (o : Option (V × ℕ)) → lookup (eq k) es ≡ o
+  moved_by : (es : List (K × (V × ℕ))) (k : K) (w : V × ℕ) → lookup (eq k) es ≡ Some w
       → total_weight (moved eq es k (length es)) ≡ total_weight es
-  moved_by es k None l = ap total_weight (moved-absent eq es k (length es) l)
-  moved_by es k (Some w) l =
+  moved_by es k w l =
       let there = ap total_weight (moved-there eq es k (length es) w l) in
       let split = ap total_weight (put_back eq es k w) in
       let a = total-append (without eq es k) ((stored_key eq es k, w) ∷ []) in
       let c = total-cons (stored_key eq es k, w) [] in
-      let rest = total-without_there es k w l in
+      let rest = total-without (eq k) es (Some w) l in
       omega arith
 
-  pub total-moved : (es : List (K × (V × ℕ))) (k : K)
-      → total_weight (moved eq es k (length es)) ≡ total_weight es
-  total-moved es k = moved_by es k (lookup (eq k) es) refl
+total-moved : {K V : Type 0} (test : K → Bool) (es : List (K × (V × ℕ))) (w : V × ℕ) → lookup test es ≡ Some w
+    → total_weight (moved_match test es (length es)) ≡ total_weight es
+total-moved test es w l = moved_by (λ _. test) es (stands_from_lookup test es w l).1.0 w l
 
-module _ {K V S : Type 0} (eq : K → K → Bool) (old new : MapState K (V × ℕ) S) (k : K) (total budget : ℕ) where
-  removed_by : (o : Option (K × (V × ℕ))) → lookup_entry (eq k) old.entries ≡ o
-      → MatchOption o (new ≡ old) (λ _. Removes old new (without eq old.entries k))
-      → new.entries ≡ without eq old.entries k
+module _ {K V S : Type 0} (test : K → Bool) (old new : MapState K (V × ℕ) S) (total budget : ℕ) where
+  removed_by : (o : Option (K × (V × ℕ))) → lookup_entry test old.entries ≡ o
+      → MatchOption o (new ≡ old) (λ _. Removes old new (remove_entry test old.entries))
+      → new.entries ≡ remove_entry test old.entries
   removed_by None l s =
-      let absent = lookup_is (eq k) old.entries ∙ ap (option_map (λ e. e.1)) l in
-      ap (λ m. m.entries) s ∙ sym (remove_entry-none (eq k) old.entries (none_from_lookup (eq k) old.entries absent))
+      let absent = lookup_is test old.entries ∙ ap (option_map (λ e. e.1)) l in
+      ap (λ m. m.entries) s ∙ sym (remove_entry-none test old.entries (none_from_lookup test old.entries absent))
   removed_by (Some e) l s = s.entries
 
-  pub removes_entries : RemovesKey eq old new k (lookup_entry (eq k) old.entries)
-      → new.entries ≡ without eq old.entries k
-  removes_entries s = removed_by (lookup_entry (eq k) old.entries) refl s.step
+  removes_entries : RemovesMatch test old new (lookup_entry test old.entries)
+      → new.entries ≡ remove_entry test old.entries
+  removes_entries s = removed_by (lookup_entry test old.entries) refl s.step
 
   -- what an entry that left leaves of a total, and where there was none
-  pub removes_weight : (w : V × ℕ) → Some w ≡ lookup (eq k) old.entries
-      → RemovesKey eq old new k (lookup_entry (eq k) old.entries)
+  pub removes_weight : (w : V × ℕ) → Some w ≡ lookup test old.entries
+      → RemovesMatch test old new (lookup_entry test old.entries)
       → HasTotal old.entries total budget
       → (w.1 ≤ total) × HasTotal new.entries (total - w.1) budget
   removes_weight w l s t =
-      let rest = total-without_there eq old.entries k w (sym l) in
+      let rest = total-without test old.entries (Some w) (sym l) in
       let left = ap total_weight (removes_entries s) in
       let sum = t.sum in
       let within = t.within in
       (omega arith, record { sum = omega arith; within = omega arith })
 
-  pub removes_none : None ≡ lookup (eq k) old.entries → RemovesKey eq old new k (lookup_entry (eq k) old.entries)
+  pub removes_none : None ≡ lookup test old.entries → RemovesMatch test old new (lookup_entry test old.entries)
       → HasTotal old.entries total budget
       → HasTotal new.entries total budget
   removes_none l s t =
-      let rest = total-without eq old.entries k None (sym l) in
+      let rest = total-without test old.entries None (sym l) in
       let left = ap total_weight (removes_entries s) in
       let sum = t.sum in
       record { sum = omega arith; within = t.within }
 
-  -- a key that moved last leaves the total
-  pub moves_total : (r : Option (V × ℕ)) → Moves eq old new k (length old.entries) r
+  -- an entry that moved last leaves the total
+  pub moves_total : (r : Option (V × ℕ)) → MovesMatch test old new (length old.entries) r
       → HasTotal old.entries total budget
       → HasTotal new.entries total budget
-  moves_total r s t =
-      let same = ap total_weight (moves_entries eq old new k (length old.entries) r s) in
-      let moved = total-moved eq old.entries k in
+  moves_total None s t = subst (λ m. HasTotal m.entries total budget) (sym s.step) t
+  moves_total (Some w) s t =
+      let same = ap total_weight s.step.entries in
+      let moved = total-moved test old.entries w (sym s.answer) in
       let sum = t.sum in
       record { sum = omega arith; within = t.within }

@@ -1,5 +1,5 @@
 -- What a cache ends as, once a value that was lent out of it has ended.
-use Rattle.std.specs.Prelude.{⊤}
+use Rattle.std.specs.Prelude.{Bool, ⊤}
 use Rattle.std.specs.Borrow.{Fml, RattleType, MutBor, follows_so}
 use mathlib.Core.Option.{none}
 use Rattle.std.specs.declared.hash.Hasher as hasher
@@ -7,15 +7,15 @@ use Rattle.std.specs.declared.hash.BuildHasher as builder
 use Rattle.hashlink_model.specs.Weights.{WeightedState}
 use Rattle.hashlink_core.specs.KeyedLends.{HashMembers}
 use Rattle.hashlink_weighted.specs.contracts.cache.WeightedCache.{the_row}
-use Rattle.hashlink_weighted.specs.Weighed.{WeightedGets}
+use Rattle.hashlink_weighted.specs.Weighed.{WeightedGetsMatch}
 
 module _ (K V S T : RattleType) (g : HashMembers K.Denot) (b : builder.Ghosts S.Denot T.Denot)
     (w : hasher.Ghosts T.Denot) where
   abbrev pub cache_row : RattleType
   cache_row = the_row K V S T (record { eq = g.eq }) (record { hash_input = g.hash_input }) b w
 
-  -- the key moved last, where it is there, with the value and the weight that stand
-  abbrev pub EndsUsed : MutBor (WeightedState K.Denot V.Denot S.Denot) → K.Denot → Fml
-  EndsUsed c k =
+  -- the first entry whose key passes moved last, where one does, with the value and the weight that stand
+  abbrev pub EndsUsed : MutBor (WeightedState K.Denot V.Denot S.Denot) → (K.Denot → Bool) → Fml
+  EndsUsed c test =
       follows_so cache_row cache_row c.ghost_name none (λ _ _. ⊤)
-      (λ new. WeightedGets g.eq c.now new k)
+      (λ new. WeightedGetsMatch test c.now new)

@@ -3,7 +3,7 @@ use Rattle.std.specs.Prelude.{◌≡◌, ℕ, ◌≤◌, List, [], ◌∷◌, �
 use Rattle.std.specs.Borrow.{Bor}
 use Rattle.std.specs.Map.{lookup, lookup_entry}
 use Rattle.hashlink_model.specs.MapState.{empty_map}
-use Rattle.hashlink_model.specs.Steps.{Moves, RemovesKey}
+use Rattle.hashlink_model.specs.Steps.{MovesMatch, RemovesMatch}
 use Rattle.hashlink_model.specs.Weights.{WeightedState, total_weight}
 
 -- a cache as it is made: nothing in it, no memory taken, and a budget
@@ -28,17 +28,25 @@ module _ {K V : Type 0} where
     pub others_weigh : total_weight before ≡ others
     pub last_weighs : last.1.1 ≡ weight
 
-module _ {K V S : Type 0} (eq : K → K → Bool) where
-  -- a `get`: the entry of the key moves last with the value and the weight that stand, and of an absent key nothing
-  -- changes
-  pub record WeightedGets (old new : WeightedState K V S) (k : K) : Type 0 where
-    pub moves : Moves eq old.map new.map k (length old.map.entries) (lookup (eq k) old.map.entries)
+module _ {K V S : Type 0} where
+  -- the first entry whose key passes the test moves last with the value and the weight that stand, and where none
+  -- passes nothing changes
+  pub record WeightedGetsMatch (test : K → Bool) (old new : WeightedState K V S) : Type 0 where
+    pub moves : MovesMatch test old.map new.map (length old.map.entries) (lookup test old.map.entries)
     pub budget : new.budget ≡ old.budget
 
-  -- the key's entry leaves, and of an absent key nothing changes
-  pub record WeightedRemoves (old new : WeightedState K V S) (k : K) : Type 0 where
-    pub removes : RemovesKey eq old.map new.map k (lookup_entry (eq k) old.map.entries)
+  -- it leaves, and where none passes nothing changes
+  pub record WeightedRemovesMatch (test : K → Bool) (old new : WeightedState K V S) : Type 0 where
+    pub removes : RemovesMatch test old.map new.map (lookup_entry test old.map.entries)
     pub budget : new.budget ≡ old.budget
+
+  module _ (eq : K → K → Bool) where
+    -- a `get` of a key, and its removal
+    abbrev pub WeightedGets : WeightedState K V S → WeightedState K V S → K → Type 0
+    WeightedGets old new k = WeightedGetsMatch (eq k) old new
+
+    abbrev pub WeightedRemoves : WeightedState K V S → WeightedState K V S → K → Type 0
+    WeightedRemoves old new k = WeightedRemovesMatch (eq k) old new
 
 -- the weight of a value that was there, and none where there was none
 abbrev pub weight_or_none : {V : Type 0} → Option (V × ℕ) → ℕ

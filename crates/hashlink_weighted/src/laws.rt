@@ -9,7 +9,7 @@ ghost use Rattle.hashlink_weighted.specs.declared.error.WeightError.{WeightError
 ghost use Rattle.hashlink_weighted.specs.declared.error.WeightError.TheVariants.{TooHeavy, Memory};
 
 /// An accepted insert leaves the fitting end of the map's insert, whose last entry is the pair with its weight, and
-/// answers the old value. The weights sum to at most the budget, which stays.
+/// returns the old value. The weights sum to at most the budget, which stays.
 pub fn what_an_accepted_insert_leaves<K, V, S>()
     ensures entries { (eq : K → K → Bool) (old new : WeightedState K V S) (k : K) (v : V) (weight : ℕ)
         (answer : Option V) → InsertsWithin eq old new k v weight (Ok answer)

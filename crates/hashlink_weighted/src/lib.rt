@@ -3,7 +3,6 @@
 #![tactic(auto)]
 
 mod cache;
-pub mod callers;
 mod error;
 mod iter;
 pub mod laws;

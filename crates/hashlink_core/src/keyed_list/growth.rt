@@ -15,7 +15,7 @@ impl<K: Eq + Hash, V, S: BuildHasher> KeyedList<K, V, S> {
     /// nothing.
     pub fn reserve(&mut self, additional: usize) -> Result<(), TryReserveError>
         ensures ok { OnOk result (length self.old.nodes + additional ≤ self.new.room) }
-        ensures grown { GrowsRoom self.old self.new }
+        ensures grown { GrowsRoom additional self.old self.new }
         ensures err { OnErr result (self.new ≡ self.old) }
         ensures enough { length self.old.nodes + additional ≤ self.old.room → IsOk result × (self.new ≡ self.old) }
         ensures overflow { (result ≡ Err CapacityOverflow) ↔ (MAX_ROOM < length self.old.nodes + additional) }

@@ -32,7 +32,7 @@ impl<K: Eq + Hash, V, S: BuildHasher> KeyedList<K, V, S> {
             key }
         ensures added { IfOk result (λ n. AddsNode self.old self.new (place_number self.old.nodes place) n key value) }
         ensures handed_back { IfErr result (λ pair. pair ≡ (key, value)) }
-        ensures refused { OnErr result (GrowsRoom self.old self.new) }
+        ensures refused { OnErr result (GrowsRoom 1 self.old self.new) }
         ensures no_spare { OnErr result (self.old.spare ≡ 0) }
         ensures sound { IsKeyed K.eq self.new }
     {

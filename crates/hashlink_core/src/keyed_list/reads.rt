@@ -1,5 +1,5 @@
 //! What a keyed list shows.
-ghost use Rattle.std.specs.Prelude.{◌≡◌, ◌-◌, ◌<◌, ◌^◌, ◌↔◌, length, slice_get, None, Some, IsTrue, MatchOption};
+ghost use Rattle.std.specs.Prelude.{◌≡◌, ◌-◌, ◌<◌, ◌^◌, ◌↔◌, length, slice_get, Bool, None, Some, IsTrue, MatchOption};
 ghost use Rattle.std.specs.Prelude.{IfSome};
 ghost use Rattle.std.specs.Fn.{FnReturnsAt};
 ghost use Rattle.std.specs.Map.{lookup, keys_of, values_of};
@@ -8,39 +8,39 @@ ghost use Rattle.hashlink_model.specs.Cursor.{following_place, preceding_place};
 ghost use Rattle.hashlink_model.specs.Entries.{place_of};
 ghost use Rattle.hashlink_nodes.specs.Node.{same_node};
 ghost use Rattle.hashlink_nodes.specs.Ring.{Holds, IsPlace};
-ghost use Rattle.hashlink_core.specs.Keyed.{entries_of, HoldsKey, IsKeyed};
+ghost use Rattle.hashlink_core.specs.Keyed.{entries_of, HoldsKey, HoldsMatch, IsKeyed};
 ghost use Rattle.hashlink_core.specs.Places.{place_number, IsPlaceAt};
 ghost use Rattle.hashlink_core.specs.Tied.{hash_with};
-ghost use Rattle.hashlink_core.specs.Telling.{Tells};
+ghost use Rattle.hashlink_core.specs.Telling.{Tells, TellsMatch};
 
 use super::KeyedList;
+use crate::equivalent::Equivalent;
 use crate::iter::{Iter, Keys, Values};
 use hashlink_nodes::Node;
 use std::hash::{BuildHasher, Hash};
 
 impl<K: Eq + Hash, V, S: BuildHasher> KeyedList<K, V, S> {
-    /// The key's hash.
+    /// The hash of a key, or of what stands for one.
     #[inline]
-    pub fn hash_of(&self, key: &K) -> u64
-        ensures { result ≡ hash_with S.build_hasher S.Hasher.write S.Hasher.finish K.hash_input self.now.hasher
-            key.now }
+    pub fn hash_of<Q: Equivalent<K>>(&self, key: Q) -> u64
+        ensures { result ≡ hash_with S.build_hasher S.Hasher.write S.Hasher.finish Q.hash_input self.now.hasher key }
     {
         self.hash_builder.hash_one(key)
     }
 
-    /// The node that holds a key equal to this one, which has this hash. It looks at the nodes of one bucket.
+    /// The node that holds a key equal to this one, or one that this query matches, which has this hash. It looks at
+    /// the nodes of one bucket.
     #[inline]
-    pub fn find(&self, hash: u64, key: &K) -> Option<Node>
-        requires { hash
-            ≡ hash_with S.build_hasher S.Hasher.write S.Hasher.finish K.hash_input self.now.hasher key.now }
-        ensures found { MatchOption result (place_of (K.eq key.now) (entries_of self.now) ≡ None)
-            (HoldsKey K.eq self.now.nodes key.now) }
+    pub fn find<Q: Equivalent<K>>(&self, hash: u64, key: Q) -> Option<Node>
+        requires { hash ≡ hash_with S.build_hasher S.Hasher.write S.Hasher.finish Q.hash_input self.now.hasher key }
+        ensures found { MatchOption result (place_of (Q.matches key) (entries_of self.now) ≡ None)
+            (HoldsMatch (Q.matches key) self.now.nodes) }
         ensures sound { IsKeyed K.eq self.now }
     {
         let is_match = |other: &K| -> bool
-            ensures { result ≡ K.eq other.now key.entry.now }
-        { *other == *key };
-        self.find_with(hash, is_match)
+            ensures { result ≡ Q.matches key other.now }
+        { key.equivalent(other) };
+        self.find_match(hash, is_match)
     }
 
     /// The node that holds a key equal to the one that the hash and the test stand for: the hash has to be that key's,
@@ -52,6 +52,21 @@ impl<K: Eq + Hash, V, S: BuildHasher> KeyedList<K, V, S> {
         ensures found { (k : K) → Tells F.Fn K.eq
             (hash_with S.build_hasher S.Hasher.write S.Hasher.finish K.hash_input self.now.hasher) is_match hash k
             → MatchOption result (place_of (K.eq k) (entries_of self.now) ≡ None) (HoldsKey K.eq self.now.nodes k) }
+        ensures sound { IsKeyed K.eq self.now }
+    {
+        self.find_match(hash, is_match)
+    }
+
+    /// The node that holds a key which passes the test: each key that passes has to have the hash and to equal each
+    /// other that does. It looks at the nodes of one bucket.
+    #[inline]
+    pub fn find_match<F: Fn(&K) -> bool>(&self, hash: u64, is_match: F) -> Option<Node>
+        requires { (passes : K → Bool) × TellsMatch F.Fn K.eq
+            (hash_with S.build_hasher S.Hasher.write S.Hasher.finish K.hash_input self.now.hasher) is_match hash
+            passes }
+        ensures found { (passes : K → Bool) → TellsMatch F.Fn K.eq
+            (hash_with S.build_hasher S.Hasher.write S.Hasher.finish K.hash_input self.now.hasher) is_match hash passes
+            → MatchOption result (place_of passes (entries_of self.now) ≡ None) (HoldsMatch passes self.now.nodes) }
         ensures sound { IsKeyed K.eq self.now }
     {
         let nodes = &self.nodes;

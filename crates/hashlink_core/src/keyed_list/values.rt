@@ -39,7 +39,7 @@ impl<K: Eq + Hash, V, S: BuildHasher> KeyedList<K, V, S> {
         value
     }
 
-    /// Puts a value into the node's entry, and answers the old one.
+    /// Puts a value into the node's entry, and returns the old one.
     #[inline]
     pub fn replace_value(&mut self, node: Node, value: V) -> V
         requires { Holds self.old.nodes node }
@@ -51,7 +51,7 @@ impl<K: Eq + Hash, V, S: BuildHasher> KeyedList<K, V, S> {
         self.nodes.replace_value(node, value)
     }
 
-    /// Puts a key into the entry of an equal one, and answers the old one.
+    /// Puts a key into the entry of an equal one, and returns the old one.
     #[inline]
     pub fn replace_key(&mut self, node: Node, key: K) -> K
         requires held { Holds self.old.nodes node }

@@ -3,7 +3,7 @@
 //! What comes of `entry` and `raw_entry_mut` borrows the map inside the cache: the cache ends with what its map ends
 //! as, at the same capacity, which for `entry` is proved by a walk written by hand. Of a cache that is borrowed so a
 //! caller's generated proof knows nothing once the entry is gone, except where a call takes it by value at once.
-//! `make_room` and then an entry of `map_mut` do the same, and leave all known: `callers.rt` has a proved caller for
+//! `make_room` and then an entry of `map_mut` do the same, and leave all known: `hashlink_uses` has a proved caller for
 //! each form.
 ghost use Rattle.std.specs.Prelude.{◌≡◌};
 ghost use Rattle.std.specs.Borrow.{sem};
@@ -31,7 +31,7 @@ impl<K: Eq + Hash, V, S: BuildHasher> LruCache<K, V, S> {
     }
 
     /// Drops the front where there are more entries than the capacity, even where it is the key's own entry, and
-    /// answers the place of the key, with the key in hand. It looks for the key as `peek` does.
+    /// returns the place of the key, with the key in hand. It looks for the key as `peek` does.
     ///
     /// So an insert through the entry can pass the capacity by one. Where an entry was dropped, its node is spare, and
     /// that insert is not refused.
@@ -54,7 +54,7 @@ impl<K: Eq + Hash, V, S: BuildHasher> LruCache<K, V, S> {
         self.map.raw_entry()
     }
 
-    /// Drops the front where there are more entries than the capacity, and answers what finds an entry to change, by
+    /// Drops the front where there are more entries than the capacity, and returns what finds an entry to change, by
     /// a key, by a key and its hash, or by a hash and a test.
     ///
     /// So an insert through the entry can pass the capacity by one. Where an entry was dropped, its node is spare, and
@@ -71,7 +71,7 @@ impl<K: Eq + Hash, V, S: BuildHasher> LruCache<K, V, S> {
         self.roomy_map().raw_entry_mut()
     }
 
-    /// Drops the front where there are more entries than the capacity, and answers the map.
+    /// Drops the front where there are more entries than the capacity, and returns the map.
     fn roomy_map(&mut self) -> &mut LinkedHashMap<K, V, S>
     where
         K: Drop,

@@ -9,7 +9,7 @@ use std::hash::{BuildHasher, Hash};
 impl<K: Eq + Hash, V, S: BuildHasher> LruCache<K, V, S> {
     ghost use Rattle.hashlink_lru.specs.Cached.{entries_in, state_in, StaysWithin};
 
-    /// Puts the pair last, and answers the key's old value. A key that is there keeps its key object, takes the new
+    /// Puts the pair last, and returns the key's old value. A key that is there keeps its key object, takes the new
     /// value and moves to the end. Then entries are dropped from the front until there are no more than the capacity,
     /// so a cache of capacity 0 is empty afterwards.
     ///

@@ -7,6 +7,7 @@ ghost use Rattle.std.specs.Map.{lookup};
 ghost use Rattle.hashlink_model.specs.Entries.{IsEntries};
 
 use super::LruCache;
+use hashlink_map::Equivalent;
 use std::hash::{BuildHasher, Hash};
 
 impl<K: Eq + Hash, V, S: BuildHasher> LruCache<K, V, S> {
@@ -14,34 +15,34 @@ impl<K: Eq + Hash, V, S: BuildHasher> LruCache<K, V, S> {
     ghost use Rattle.hashlink_lru.specs.Lends.{LendsValueIn, LendsUsed, EndsUsed};
 
     /// Whether the key is there. The order stays as it is.
-    pub fn contains_key(&self, key: &K) -> bool
-        ensures { result ≡ is_some (lookup (K.eq key.now) (entries_in self.now)) }
+    pub fn contains_key<Q: Equivalent<K>>(&self, key: Q) -> bool
+        ensures { result ≡ is_some (lookup (Q.matches key) (entries_in self.now)) }
     {
         self.map.contains_key(key)
     }
 
     /// The value of the key. The order stays as it is.
-    pub fn peek(&self, key: &K) -> Option<&V>
-        ensures { option_copied result ≡ lookup (K.eq key.now) (entries_in self.now) }
+    pub fn peek<Q: Equivalent<K>>(&self, key: Q) -> Option<&V>
+        ensures { option_copied result ≡ lookup (Q.matches key) (entries_in self.now) }
     {
         self.map.get(key)
     }
 
     /// The value of the key, for writing. The order stays as it is.
-    pub fn peek_mut(&mut self, key: &K) -> Option<&mut V>
+    pub fn peek_mut<Q: Equivalent<K>>(&mut self, key: Q) -> Option<&mut V>
         ensures* lends { sem 𝓛 (LendsValueIn K.row V.row S.row S.Hasher.row K.Hash S.BuildHasher S.Hasher.Hasher
-            self.entry key.now result) }
-        ensures value { option_copied_mut result ≡ lookup (K.eq key.now) (entries_in self.old) }
+            self.entry (Q.matches key) result) }
+        ensures value { option_copied_mut result ≡ lookup (Q.matches key) (entries_in self.old) }
     {
         self.map.get_mut(key)
     }
 
-    /// The value of the key, whose entry moves to the end. Of an absent key it answers none, and nothing changes. It
+    /// The value of the key, whose entry moves to the end. Of an absent key it returns none, and nothing changes. It
     /// stores at most six links.
-    pub fn get(&mut self, key: &K) -> Option<&V>
+    pub fn get<Q: Equivalent<K>>(&mut self, key: Q) -> Option<&V>
         ensures* used { sem 𝓛 (EndsUsed K.row V.row S.row S.Hasher.row K.Hash S.BuildHasher S.Hasher.Hasher
-            self.entry key.now (option_copied result)) }
-        ensures value { option_copied result ≡ lookup (K.eq key.now) (entries_in self.old) }
+            self.entry (Q.matches key) (option_copied result)) }
+        ensures value { option_copied result ≡ lookup (Q.matches key) (entries_in self.old) }
         ensures distinct { IsEntries K.eq (entries_in self.old) }
     {
         match self.map.to_back(key) {
@@ -50,12 +51,12 @@ impl<K: Eq + Hash, V, S: BuildHasher> LruCache<K, V, S> {
         }
     }
 
-    /// The value of the key, for writing. Its entry moves to the end. Of an absent key it answers none, and nothing
+    /// The value of the key, for writing. Its entry moves to the end. Of an absent key it returns none, and nothing
     /// changes. It stores at most six links.
-    pub fn get_mut(&mut self, key: &K) -> Option<&mut V>
+    pub fn get_mut<Q: Equivalent<K>>(&mut self, key: Q) -> Option<&mut V>
         ensures* lends { sem 𝓛 (LendsUsed K.row V.row S.row S.Hasher.row K.Hash S.BuildHasher S.Hasher.Hasher
-            self.entry key.now result) }
-        ensures value { option_copied_mut result ≡ lookup (K.eq key.now) (entries_in self.old) }
+            self.entry (Q.matches key) result) }
+        ensures value { option_copied_mut result ≡ lookup (Q.matches key) (entries_in self.old) }
         ensures distinct { IsEntries K.eq (entries_in self.old) }
     {
         self.map.to_back(key)

@@ -6,21 +6,22 @@ ghost use Rattle.std.specs.Map.Calls.{CalledAtPair, TakesPair, CallableOnEachPai
 ghost use Rattle.hashlink_model.specs.Cache.{IsWithin, KeepsLast, OnMap, SetsCapacity};
 ghost use Rattle.hashlink_model.specs.Entries.{IsEntries};
 ghost use Rattle.hashlink_model.specs.Retain.{RetainsInOrder};
-ghost use Rattle.hashlink_model.specs.Steps.{RemovesKey, PopsFront, Clears};
+ghost use Rattle.hashlink_model.specs.Steps.{RemovesMatch, PopsFront, Clears};
 
 use super::LruCache;
+use hashlink_map::Equivalent;
 use std::hash::{BuildHasher, Hash};
 
 impl<K: Eq + Hash, V, S: BuildHasher> LruCache<K, V, S> {
     ghost use Rattle.hashlink_lru.specs.Cached.{entries_in, state_in, StaysWithin};
 
-    /// Takes the key's entry out and answers its value. It looks for the key as `peek` does, and stores at most three
+    /// Takes the key's entry out and returns its value. It looks for the key as `peek` does, and stores at most three
     /// links.
-    pub fn remove(&mut self, key: &K) -> Option<V>
+    pub fn remove<Q: Equivalent<K>>(&mut self, key: Q) -> Option<V>
     where
         K: Drop,
-        ensures value { result ≡ lookup (K.eq key.now) (entries_in self.old) }
-        ensures removes { OnMap (λ a b. RemovesKey K.eq a b key.now (lookup_entry (K.eq key.now) a.entries))
+        ensures value { result ≡ lookup (Q.matches key) (entries_in self.old) }
+        ensures removes { OnMap (λ a b. RemovesMatch (Q.matches key) a b (lookup_entry (Q.matches key) a.entries))
             (state_in self.old) (state_in self.new) }
         ensures distinct { IsEntries K.eq (entries_in self.new) }
         ensures within { StaysWithin (state_in self.old) (state_in self.new) }
@@ -28,17 +29,18 @@ impl<K: Eq + Hash, V, S: BuildHasher> LruCache<K, V, S> {
         self.map.remove(key)
     }
 
-    /// Takes the key's entry out and answers the stored pair. It looks for the key as `peek` does, and stores at most
+    /// Takes the key's entry out and returns the stored pair. It looks for the key as `peek` does, and stores at most
     /// three links.
-    pub fn remove_entry(&mut self, key: &K) -> Option<(K, V)>
-        ensures removes { OnMap (λ a b. RemovesKey K.eq a b key.now result) (state_in self.old) (state_in self.new) }
+    pub fn remove_entry<Q: Equivalent<K>>(&mut self, key: Q) -> Option<(K, V)>
+        ensures removes { OnMap (λ a b. RemovesMatch (Q.matches key) a b result) (state_in self.old)
+            (state_in self.new) }
         ensures distinct { IsEntries K.eq (entries_in self.new) }
         ensures within { StaysWithin (state_in self.old) (state_in self.new) }
     {
         self.map.remove_entry(key)
     }
 
-    /// Takes the front out, which was used longest ago, and answers it. It takes constant time, hashes nothing, and
+    /// Takes the front out, which was used longest ago, and returns it. It takes constant time, hashes nothing, and
     /// stores at most three links.
     pub fn remove_lru(&mut self) -> Option<(K, V)>
         ensures pops { OnMap (λ a b. PopsFront a b result) (state_in self.old) (state_in self.new) }
@@ -87,7 +89,7 @@ impl<K: Eq + Hash, V, S: BuildHasher> LruCache<K, V, S> {
         }
     }
 
-    /// Calls `keep` once on each entry, and takes out those at which it answers false. It hashes nothing, and stores
+    /// Calls `keep` once on each entry, and takes out those at which it returns false. It hashes nothing, and stores
     /// at most three links for each entry that leaves. `keep` has to take each entry as the calls before have left it.
     pub fn retain<F: FnMut(&K, &mut V) -> bool>(&mut self, keep: F)
     where

@@ -192,7 +192,7 @@ impl<'a, K: Eq + Hash, V, S: BuildHasher> CursorMut<'a, K, V, S> {
         self.map.pair_at_place(self.map.place_before(self.place))
     }
 
-    /// Puts the pair right before the cursor, at the guard last, and answers the key's old value. A key that is there
+    /// Puts the pair right before the cursor, at the guard last, and returns the key's old value. A key that is there
     /// keeps its key object, takes the new value and moves there, unless it stands there. The cursor stays on its
     /// entry, wherever that is then, or on the guard. It looks for the key as `get` does, and stores at most six links
     /// for a key that is there and four for an absent one.

@@ -61,7 +61,7 @@ impl<'a, K: Eq + Hash, V, S: BuildHasher> Entry<'a, K, V, S> {
         V: Drop,
         ensures* lends { sem 𝓛 (LendsOrNew K.row V.row S.row S.Hasher.row self.entry result) }
         ensures value { IfOk result (λ v. v.now ≡ unwrap_or (entry_value (entry_state self.entry)) default) }
-        ensures given { IfErr result (λ pair. pair.1 ≡ default) }
+        ensures given { IfErr result (λ pair. pair ≡ ((entry_state self.entry).key, default)) }
     {
         match self {
             Entry::Occupied(entry) => entry.into_last_mut(),
@@ -78,6 +78,7 @@ impl<'a, K: Eq + Hash, V, S: BuildHasher> Entry<'a, K, V, S> {
         ensures* lends { sem 𝓛 (LendsOrNew K.row V.row S.row S.Hasher.row self.entry result) }
         ensures value { IfOk result
             (λ v. UnwrapsOrElse (entry_value (entry_state self.entry)) (F.post default) v.now) }
+        ensures given { IfErr result (λ pair. pair.0 ≡ (entry_state self.entry).key) }
         ensures made { IfErr result (λ pair. F.post default pair.1) }
     {
         match self {

@@ -55,7 +55,7 @@ impl<'a, K: Eq + Hash, V, S: BuildHasher> OccupiedEntry<'a, K, V, S> {
         map.value_at_mut(node)
     }
 
-    /// Moves the entry to the end, and lends its value as long as the map is borrowed. The answer is never an `Err`:
+    /// Moves the entry to the end, and lends its value as long as the map is borrowed. It never returns an `Err`:
     /// of a `Result` a clause can say by a relation what the map ends as, of a bare reference by a function alone.
     pub(crate) fn into_last_mut(self) -> Result<&'a mut V, (K, V)>
     where
@@ -91,7 +91,7 @@ impl<'a, K: Eq + Hash, V, S: BuildHasher> OccupiedEntry<'a, K, V, S> {
         self.map.move_to_front(node);
     }
 
-    /// Puts the value in, moves the entry to the end, and answers the old value. The stored key stays. It stores at
+    /// Puts the value in, moves the entry to the end, and returns the old value. The stored key stays. It stores at
     /// most six links.
     pub fn insert(&mut self, value: V) -> V
         ensures same_map { (occupied_map self.new).ghost_name ≡ (occupied_map self.old).ghost_name }
@@ -103,7 +103,7 @@ impl<'a, K: Eq + Hash, V, S: BuildHasher> OccupiedEntry<'a, K, V, S> {
         self.map.put_value_last(node, value)
     }
 
-    /// Puts the key in hand and the value in, moves the entry to the end, and answers the old pair. It stores at most
+    /// Puts the key in hand and the value in, moves the entry to the end, and returns the old pair. It stores at most
     /// six links.
     pub fn insert_entry(self, value: V) -> (K, V)
         ensures { InsertsEntry (occupied_state self.entry).map (state_of self.exit.0.now) (occupied_place self.entry)
@@ -114,7 +114,7 @@ impl<'a, K: Eq + Hash, V, S: BuildHasher> OccupiedEntry<'a, K, V, S> {
         self.map.put_pair_last(node, key, value)
     }
 
-    /// Puts the key in hand and the value in, and answers the old pair. The entry keeps its place.
+    /// Puts the key in hand and the value in, and returns the old pair. The entry keeps its place.
     pub fn replace_entry(self, value: V) -> (K, V)
         ensures { ReplacesEntry (occupied_state self.entry).map (state_of self.exit.0.now) (occupied_place self.entry)
             (occupied_state self.entry).key value result }
@@ -124,7 +124,7 @@ impl<'a, K: Eq + Hash, V, S: BuildHasher> OccupiedEntry<'a, K, V, S> {
         self.map.replace_pair_at(node, key, value)
     }
 
-    /// Puts the key in hand in, and answers the old key. The entry keeps its place and its value.
+    /// Puts the key in hand in, and returns the old key. The entry keeps its place and its value.
     pub fn replace_key(self) -> K
         ensures { ReplacesKey (occupied_state self.entry).map (state_of self.exit.0.now) (occupied_place self.entry)
             (occupied_state self.entry).key result }
@@ -174,7 +174,7 @@ impl<'a, K: Eq + Hash, V, S: BuildHasher> OccupiedEntry<'a, K, V, S> {
         RawOccupiedEntryMut { map, node }
     }
 
-    /// Takes the entry out and answers its value. The key in hand and the stored key are dropped. It stores at most
+    /// Takes the entry out and returns its value. The key in hand and the stored key are dropped. It stores at most
     /// three links.
     pub fn remove(self) -> V
     where
@@ -188,7 +188,7 @@ impl<'a, K: Eq + Hash, V, S: BuildHasher> OccupiedEntry<'a, K, V, S> {
         value
     }
 
-    /// Takes the entry out and answers the stored pair. The key in hand is dropped. It stores at most three links.
+    /// Takes the entry out and returns the stored pair. The key in hand is dropped. It stores at most three links.
     pub fn remove_entry(self) -> (K, V)
     where
         K: Drop,

@@ -41,13 +41,14 @@ impl<'a, K: Eq + Hash, V, S: BuildHasher> VacantEntry<'a, K, V, S> {
     pub fn insert(self, value: V) -> Result<&'a mut V, (K, V)>
         ensures* lends { sem 𝓛 (LendsNew K.row V.row S.row S.Hasher.row self.entry value result) }
         ensures value { IfOk result (λ v. v.now ≡ value) }
+        ensures handed_back { IfErr result (λ pair. pair ≡ ((vacant_state self.entry).key, value)) }
     {
         let VacantEntry { map, hash, key } = self;
         let node = map.push_back(hash, key, value)?;
         Ok(map.value_at_mut(node))
     }
 
-    /// Puts the key in hand and the value last, and answers the entry. It stores at most four links.
+    /// Puts the key in hand and the value last, and returns the entry. It stores at most four links.
     ///
     /// It takes memory only where no node is spare. Where that is refused, the key in hand and the value are handed
     /// back, and no entry changes.

@@ -9,7 +9,7 @@ use super::LinkedHashMap;
 use std::hash::{BuildHasher, Hash};
 
 impl<K: Eq + Hash, V, S: BuildHasher> LinkedHashMap<K, V, S> {
-    /// Puts the pair last, and answers the key's old value. A key that is there keeps its key object, takes the new
+    /// Puts the pair last, and returns the key's old value. A key that is there keeps its key object, takes the new
     /// value and moves to the end.
     ///
     /// It takes memory only for an absent key where no node is spare. Where that is refused, the pair is handed back
@@ -32,7 +32,7 @@ impl<K: Eq + Hash, V, S: BuildHasher> LinkedHashMap<K, V, S> {
         Ok(None)
     }
 
-    /// Puts the pair first, and answers the key's old value. A key that is there keeps its key object, takes the new
+    /// Puts the pair first, and returns the key's old value. A key that is there keeps its key object, takes the new
     /// value and moves to the front.
     ///
     /// It takes memory only for an absent key where no node is spare. Where that is refused, the pair is handed back
@@ -55,7 +55,7 @@ impl<K: Eq + Hash, V, S: BuildHasher> LinkedHashMap<K, V, S> {
         Ok(None)
     }
 
-    /// Gives the key the value, and answers its old one. A key that is there keeps its key object and its place, an
+    /// Gives the key the value, and returns its old one. A key that is there keeps its key object and its place, an
     /// absent one goes last.
     ///
     /// It takes memory only for an absent key where no node is spare. Where that is refused, the pair is handed back

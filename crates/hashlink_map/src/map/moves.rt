@@ -7,16 +7,17 @@ ghost use Rattle.hashlink_core.specs.Keyed.{entries_of};
 ghost use Rattle.hashlink_model.specs.Entries.{IsEntries};
 
 use super::LinkedHashMap;
+use hashlink_core::Equivalent;
 use std::hash::{BuildHasher, Hash};
 
 impl<K: Eq + Hash, V, S: BuildHasher> LinkedHashMap<K, V, S> {
     ghost use Rattle.hashlink_map.specs.Lends.{LendsMoved};
 
-    /// Moves the key's entry to the front and lends its value. Of an absent key it answers none, and nothing changes.
-    pub fn to_front(&mut self, key: &K) -> Option<&mut V>
+    /// Moves the key's entry to the front and lends its value. Of an absent key it returns none, and nothing changes.
+    pub fn to_front<Q: Equivalent<K>>(&mut self, key: Q) -> Option<&mut V>
         ensures* lends { sem 𝓛 (LendsMoved K.row V.row S.row S.Hasher.row K.Hash S.BuildHasher S.Hasher.Hasher
-            self.entry key.now 0 result) }
-        ensures value { option_copied_mut result ≡ lookup (K.eq key.now) (entries_of self.old) }
+            self.entry (Q.matches key) 0 result) }
+        ensures value { option_copied_mut result ≡ lookup (Q.matches key) (entries_of self.old) }
         ensures distinct { IsEntries K.eq (entries_of self.old) }
     {
         let hash = self.list.hash_of(key);
@@ -29,11 +30,11 @@ impl<K: Eq + Hash, V, S: BuildHasher> LinkedHashMap<K, V, S> {
         }
     }
 
-    /// Moves the key's entry to the end and lends its value. Of an absent key it answers none, and nothing changes.
-    pub fn to_back(&mut self, key: &K) -> Option<&mut V>
+    /// Moves the key's entry to the end and lends its value. Of an absent key it returns none, and nothing changes.
+    pub fn to_back<Q: Equivalent<K>>(&mut self, key: Q) -> Option<&mut V>
         ensures* lends { sem 𝓛 (LendsMoved K.row V.row S.row S.Hasher.row K.Hash S.BuildHasher S.Hasher.Hasher
-            self.entry key.now (length (entries_of self.old)) result) }
-        ensures value { option_copied_mut result ≡ lookup (K.eq key.now) (entries_of self.old) }
+            self.entry (Q.matches key) (length (entries_of self.old)) result) }
+        ensures value { option_copied_mut result ≡ lookup (Q.matches key) (entries_of self.old) }
         ensures distinct { IsEntries K.eq (entries_of self.old) }
     {
         let hash = self.list.hash_of(key);

@@ -8,39 +8,40 @@ ghost use Rattle.hashlink_model.specs.Walk.{first_of, last_of};
 ghost use Rattle.hashlink_core.specs.Keyed.{entries_of};
 
 use super::LinkedHashMap;
+use hashlink_core::Equivalent;
 use std::hash::{BuildHasher, Hash};
 
 impl<K: Eq + Hash, V, S: BuildHasher> LinkedHashMap<K, V, S> {
     ghost use Rattle.hashlink_map.specs.Lends.{LendsValueOf};
 
     /// The value of the key. The order stays as it is.
-    pub fn get(&self, key: &K) -> Option<&V>
-        ensures { option_copied result ≡ lookup (K.eq key.now) (entries_of self.now) }
+    pub fn get<Q: Equivalent<K>>(&self, key: Q) -> Option<&V>
+        ensures { option_copied result ≡ lookup (Q.matches key) (entries_of self.now) }
     {
         let (_, value) = self.get_key_value(key)?;
         Some(value)
     }
 
     /// The stored pair of the key, whose key object may be another one than the key given. The order stays as it is.
-    pub fn get_key_value(&self, key: &K) -> Option<(&K, &V)>
-        ensures { option_map deref_pair result ≡ lookup_entry (K.eq key.now) (entries_of self.now) }
+    pub fn get_key_value<Q: Equivalent<K>>(&self, key: Q) -> Option<(&K, &V)>
+        ensures { option_map deref_pair result ≡ lookup_entry (Q.matches key) (entries_of self.now) }
     {
         let node = self.list.find(self.list.hash_of(key), key)?;
         Some(self.list.entry(node))
     }
 
     /// Whether the key is there.
-    pub fn contains_key(&self, key: &K) -> bool
-        ensures { result ≡ is_some (lookup (K.eq key.now) (entries_of self.now)) }
+    pub fn contains_key<Q: Equivalent<K>>(&self, key: Q) -> bool
+        ensures { result ≡ is_some (lookup (Q.matches key) (entries_of self.now)) }
     {
         self.get_key_value(key).is_some()
     }
 
     /// The value of the key, for writing. The order stays as it is.
-    pub fn get_mut(&mut self, key: &K) -> Option<&mut V>
+    pub fn get_mut<Q: Equivalent<K>>(&mut self, key: Q) -> Option<&mut V>
         ensures* lends { sem 𝓛 (LendsValueOf K.row V.row S.row S.Hasher.row K.Hash S.BuildHasher S.Hasher.Hasher
-            self.entry key.now result) }
-        ensures value { option_copied_mut result ≡ lookup (K.eq key.now) (entries_of self.old) }
+            self.entry (Q.matches key) result) }
+        ensures value { option_copied_mut result ≡ lookup (Q.matches key) (entries_of self.old) }
     {
         let hash = self.list.hash_of(key);
         match self.list.find(hash, key) {

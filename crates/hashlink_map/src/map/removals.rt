@@ -3,38 +3,39 @@
 ghost use Rattle.std.specs.Prelude.{◌≡◌};
 ghost use Rattle.std.specs.Map.{lookup, lookup_entry};
 ghost use Rattle.hashlink_model.specs.Entries.{IsEntries};
-ghost use Rattle.hashlink_model.specs.Steps.{RemovesKey, PopsFront, PopsBack, Clears};
+ghost use Rattle.hashlink_model.specs.Steps.{RemovesMatch, PopsFront, PopsBack, Clears};
 ghost use Rattle.hashlink_core.specs.Keyed.{state_of, entries_of};
 
 use super::LinkedHashMap;
+use hashlink_core::Equivalent;
 use std::hash::{BuildHasher, Hash};
 
 impl<K: Eq + Hash, V, S: BuildHasher> LinkedHashMap<K, V, S> {
-    /// Takes the key's entry out and answers its value. It looks for the key as `get` does, and stores at most three
+    /// Takes the key's entry out and returns its value. It looks for the key as `get` does, and stores at most three
     /// links.
-    pub fn remove(&mut self, key: &K) -> Option<V>
+    pub fn remove<Q: Equivalent<K>>(&mut self, key: Q) -> Option<V>
     where
         K: Drop,
-        ensures value { result ≡ lookup (K.eq key.now) (entries_of self.old) }
-        ensures removes { RemovesKey K.eq (state_of self.old) (state_of self.new) key.now
-            (lookup_entry (K.eq key.now) (entries_of self.old)) }
+        ensures value { result ≡ lookup (Q.matches key) (entries_of self.old) }
+        ensures removes { RemovesMatch (Q.matches key) (state_of self.old) (state_of self.new)
+            (lookup_entry (Q.matches key) (entries_of self.old)) }
         ensures distinct { IsEntries K.eq (entries_of self.new) }
     {
         let (_, value) = self.remove_entry(key)?;
         Some(value)
     }
 
-    /// Takes the key's entry out and answers the stored pair. It looks for the key as `get` does, and stores at most
+    /// Takes the key's entry out and returns the stored pair. It looks for the key as `get` does, and stores at most
     /// three links.
-    pub fn remove_entry(&mut self, key: &K) -> Option<(K, V)>
-        ensures removes { RemovesKey K.eq (state_of self.old) (state_of self.new) key.now result }
+    pub fn remove_entry<Q: Equivalent<K>>(&mut self, key: Q) -> Option<(K, V)>
+        ensures removes { RemovesMatch (Q.matches key) (state_of self.old) (state_of self.new) result }
         ensures distinct { IsEntries K.eq (entries_of self.new) }
     {
         let node = self.list.find(self.list.hash_of(key), key)?;
         Some(self.list.remove(node))
     }
 
-    /// Takes the first entry out and answers it. It takes constant time, hashes nothing, and stores at most three
+    /// Takes the first entry out and returns it. It takes constant time, hashes nothing, and stores at most three
     /// links.
     pub fn pop_front(&mut self) -> Option<(K, V)>
         ensures pops { PopsFront (state_of self.old) (state_of self.new) result }
@@ -44,7 +45,7 @@ impl<K: Eq + Hash, V, S: BuildHasher> LinkedHashMap<K, V, S> {
         Some(self.list.remove(node))
     }
 
-    /// Takes the last entry out and answers it. It takes constant time, hashes nothing, and stores at most three
+    /// Takes the last entry out and returns it. It takes constant time, hashes nothing, and stores at most three
     /// links.
     pub fn pop_back(&mut self) -> Option<(K, V)>
         ensures pops { PopsBack (state_of self.old) (state_of self.new) result }

@@ -9,7 +9,7 @@ use super::LinkedHashMap;
 use std::hash::{BuildHasher, Hash};
 
 impl<K: Eq + Hash, V, S: BuildHasher> LinkedHashMap<K, V, S> {
-    /// Calls `keep` once on each entry, and takes out those at which it answers false. It stores at most three links
+    /// Calls `keep` once on each entry, and takes out those at which it returns false. It stores at most three links
     /// for each entry that leaves. `keep` has to take each entry as the calls before have left it.
     pub fn retain<F: FnMut(&K, &mut V) -> bool>(&mut self, keep: F)
     where
@@ -23,7 +23,7 @@ impl<K: Eq + Hash, V, S: BuildHasher> LinkedHashMap<K, V, S> {
         self.retain_with_order(keep);
     }
 
-    /// Calls `keep` once on each entry, from the front, and takes out those at which it answers false. It stores at
+    /// Calls `keep` once on each entry, from the front, and takes out those at which it returns false. It stores at
     /// most three links for each entry that leaves. `keep` has to take each entry as the calls before have left it.
     pub fn retain_with_order<F: FnMut(&K, &mut V) -> bool>(&mut self, keep: F)
     where

@@ -5,8 +5,8 @@ ghost use Rattle.std.specs.Option.{option_map};
 ghost use Rattle.std.specs.Map.{lookup_entry};
 ghost use Rattle.std.specs.Map.Iter.{deref_pair};
 ghost use Rattle.hashlink_model.specs.Entries.{IsEntries};
-ghost use Rattle.hashlink_model.specs.Entry.{raw_entry_of};
-ghost use Rattle.hashlink_core.specs.Keyed.{state_of, entries_of, EqualsKeyAt};
+ghost use Rattle.hashlink_model.specs.Entry.{raw_entry_of, raw_entry_match};
+ghost use Rattle.hashlink_core.specs.Keyed.{state_of, entries_of, PassesAt};
 ghost use Rattle.hashlink_core.specs.Telling.{Tells};
 ghost use Rattle.hashlink_core.specs.Tied.{hash_with};
 ghost use Rattle.hashlink_map.specs.RawEntry.{read_map, found_map, raw_map, raw_state, raw_pair};
@@ -17,6 +17,7 @@ use super::{
     RawEntryBuilder, RawEntryBuilderMut, RawEntryMut, RawOccupiedEntryMut, RawVacantEntryMut,
 };
 use crate::map::LinkedHashMap;
+use hashlink_core::Equivalent;
 use std::hash::{BuildHasher, Hash};
 
 impl<K: Eq + Hash, V, S: BuildHasher> LinkedHashMap<K, V, S> {
@@ -62,17 +63,21 @@ impl<K: Eq + Hash, V, S: BuildHasher> LinkedHashMap<K, V, S> {
 
 impl<'a, K: Eq + Hash, V, S: BuildHasher> RawEntryBuilder<'a, K, V, S> {
     /// The stored pair of the key, which it hashes once.
-    pub fn from_key(self, key: &K) -> Option<(&'a K, &'a V)>
-        ensures { option_map deref_pair result ≡ lookup_entry (K.eq key.now) (entries_of (read_map self.entry)) }
+    pub fn from_key<Q: Equivalent<K>>(self, key: Q) -> Option<(&'a K, &'a V)>
+        ensures { option_map deref_pair result ≡ lookup_entry (Q.matches key) (entries_of (read_map self.entry)) }
     {
         self.map.get_key_value(key)
     }
 
     /// The stored pair of the key, which has this hash. It hashes nothing.
-    pub fn from_key_hashed_nocheck(self, hash: u64, key: &K) -> Option<(&'a K, &'a V)>
-        requires { hash ≡ hash_with S.build_hasher S.Hasher.write S.Hasher.finish K.hash_input (read_map self).hasher
-            key.now }
-        ensures { option_map deref_pair result ≡ lookup_entry (K.eq key.now) (entries_of (read_map self.entry)) }
+    pub fn from_key_hashed_nocheck<Q: Equivalent<K>>(
+        self,
+        hash: u64,
+        key: Q,
+    ) -> Option<(&'a K, &'a V)>
+        requires { hash ≡ hash_with S.build_hasher S.Hasher.write S.Hasher.finish Q.hash_input (read_map self).hasher
+            key }
+        ensures { option_map deref_pair result ≡ lookup_entry (Q.matches key) (entries_of (read_map self.entry)) }
     {
         let map = self.map;
         let node = map.list.find(hash, key)?;
@@ -101,13 +106,12 @@ impl<'a, K: Eq + Hash, V, S: BuildHasher> RawEntryBuilder<'a, K, V, S> {
 impl<K: Eq + Hash, V, S: BuildHasher> LinkedHashMap<K, V, S> {
     /// The place of the key, which it hashes once: `raw_entry_mut` and `from_key` in one call, of which a caller knows
     /// in full what the map is afterwards.
-    pub fn raw_entry_of(&mut self, key: &K) -> RawEntryMut<'_, K, V, S>
+    pub fn raw_entry_of<Q: Equivalent<K>>(&mut self, key: Q) -> RawEntryMut<'_, K, V, S>
         ensures same_map { (raw_map result).ghost_name ≡ self.entry.ghost_name }
         ensures unchanged { (raw_map result).now ≡ self.old }
-        ensures found { raw_state result ≡ raw_entry_of K.eq (state_of self.old) key.now }
-        ensures pair { raw_pair (raw_state result) ≡ lookup_entry (K.eq key.now) (entries_of self.old) }
-        ensures equal { MatchOption (raw_state result).place ⊤
-            (λ j. EqualsKeyAt K.eq (entries_of self.old) j key.now) }
+        ensures found { raw_state result ≡ raw_entry_match (Q.matches key) (state_of self.old) }
+        ensures pair { raw_pair (raw_state result) ≡ lookup_entry (Q.matches key) (entries_of self.old) }
+        ensures equal { MatchOption (raw_state result).place ⊤ (PassesAt (Q.matches key) (entries_of self.old)) }
         ensures distinct { IsEntries K.eq (entries_of self.old) }
     {
         let hash = self.list.hash_of(key);
@@ -116,15 +120,17 @@ impl<K: Eq + Hash, V, S: BuildHasher> LinkedHashMap<K, V, S> {
 
     /// The place of the key, which has this hash. It hashes nothing: `raw_entry_mut` and `from_key_hashed_nocheck` in
     /// one call, of which a caller knows in full what the map is afterwards.
-    pub fn raw_entry_hashed_nocheck(&mut self, hash: u64, key: &K) -> RawEntryMut<'_, K, V, S>
-        requires { hash ≡ hash_with S.build_hasher S.Hasher.write S.Hasher.finish K.hash_input self.old.hasher
-            key.now }
+    pub fn raw_entry_hashed_nocheck<Q: Equivalent<K>>(
+        &mut self,
+        hash: u64,
+        key: Q,
+    ) -> RawEntryMut<'_, K, V, S>
+        requires { hash ≡ hash_with S.build_hasher S.Hasher.write S.Hasher.finish Q.hash_input self.old.hasher key }
         ensures same_map { (raw_map result).ghost_name ≡ self.entry.ghost_name }
         ensures unchanged { (raw_map result).now ≡ self.old }
-        ensures found { raw_state result ≡ raw_entry_of K.eq (state_of self.old) key.now }
-        ensures pair { raw_pair (raw_state result) ≡ lookup_entry (K.eq key.now) (entries_of self.old) }
-        ensures equal { MatchOption (raw_state result).place ⊤
-            (λ j. EqualsKeyAt K.eq (entries_of self.old) j key.now) }
+        ensures found { raw_state result ≡ raw_entry_match (Q.matches key) (state_of self.old) }
+        ensures pair { raw_pair (raw_state result) ≡ lookup_entry (Q.matches key) (entries_of self.old) }
+        ensures equal { MatchOption (raw_state result).place ⊤ (PassesAt (Q.matches key) (entries_of self.old)) }
         ensures distinct { IsEntries K.eq (entries_of self.old) }
     {
         match self.list.find(hash, key) {
@@ -153,6 +159,9 @@ impl<K: Eq + Hash, V, S: BuildHasher> LinkedHashMap<K, V, S> {
         ensures pair { (k : K) → Tells F.Fn K.eq
             (hash_with S.build_hasher S.Hasher.write S.Hasher.finish K.hash_input self.old.hasher) is_match hash k
             → raw_pair (raw_state result) ≡ lookup_entry (K.eq k) (entries_of self.old) }
+        ensures equal { (k : K) → Tells F.Fn K.eq
+            (hash_with S.build_hasher S.Hasher.write S.Hasher.finish K.hash_input self.old.hasher) is_match hash k
+            → MatchOption (raw_state result).place ⊤ (PassesAt (K.eq k) (entries_of self.old)) }
         ensures distinct { IsEntries K.eq (entries_of self.old) }
     {
         match self.list.find_with(hash, is_match) {
@@ -164,12 +173,14 @@ impl<K: Eq + Hash, V, S: BuildHasher> LinkedHashMap<K, V, S> {
 
 impl<'a, K: Eq + Hash, V, S: BuildHasher> RawEntryBuilderMut<'a, K, V, S> {
     /// The place of the key, which it hashes once.
-    pub fn from_key(self, key: &K) -> RawEntryMut<'a, K, V, S>
+    pub fn from_key<Q: Equivalent<K>>(self, key: Q) -> RawEntryMut<'a, K, V, S>
         ensures same_map { (raw_map result).ghost_name ≡ (found_map self.entry).ghost_name }
         ensures unchanged { (raw_map result).now ≡ (found_map self.entry).now }
-        ensures found { raw_state result ≡ raw_entry_of K.eq (state_of (found_map self.entry).now) key.now }
+        ensures found { raw_state result ≡ raw_entry_match (Q.matches key) (state_of (found_map self.entry).now) }
         ensures pair { raw_pair (raw_state result)
-            ≡ lookup_entry (K.eq key.now) (entries_of (found_map self.entry).now) }
+            ≡ lookup_entry (Q.matches key) (entries_of (found_map self.entry).now) }
+        ensures equal { MatchOption (raw_state result).place ⊤
+            (PassesAt (Q.matches key) (entries_of (found_map self.entry).now)) }
         ensures distinct { IsEntries K.eq (entries_of (found_map self.entry).now) }
     {
         let RawEntryBuilderMut { map } = self;
@@ -177,14 +188,20 @@ impl<'a, K: Eq + Hash, V, S: BuildHasher> RawEntryBuilderMut<'a, K, V, S> {
     }
 
     /// The place of the key, which has this hash. It hashes nothing.
-    pub fn from_key_hashed_nocheck(self, hash: u64, key: &K) -> RawEntryMut<'a, K, V, S>
-        requires { hash ≡ hash_with S.build_hasher S.Hasher.write S.Hasher.finish K.hash_input
-            (found_map self).now.hasher key.now }
+    pub fn from_key_hashed_nocheck<Q: Equivalent<K>>(
+        self,
+        hash: u64,
+        key: Q,
+    ) -> RawEntryMut<'a, K, V, S>
+        requires { hash ≡ hash_with S.build_hasher S.Hasher.write S.Hasher.finish Q.hash_input
+            (found_map self).now.hasher key }
         ensures same_map { (raw_map result).ghost_name ≡ (found_map self.entry).ghost_name }
         ensures unchanged { (raw_map result).now ≡ (found_map self.entry).now }
-        ensures found { raw_state result ≡ raw_entry_of K.eq (state_of (found_map self.entry).now) key.now }
+        ensures found { raw_state result ≡ raw_entry_match (Q.matches key) (state_of (found_map self.entry).now) }
         ensures pair { raw_pair (raw_state result)
-            ≡ lookup_entry (K.eq key.now) (entries_of (found_map self.entry).now) }
+            ≡ lookup_entry (Q.matches key) (entries_of (found_map self.entry).now) }
+        ensures equal { MatchOption (raw_state result).place ⊤
+            (PassesAt (Q.matches key) (entries_of (found_map self.entry).now)) }
         ensures distinct { IsEntries K.eq (entries_of (found_map self.entry).now) }
     {
         let RawEntryBuilderMut { map } = self;
@@ -208,6 +225,10 @@ impl<'a, K: Eq + Hash, V, S: BuildHasher> RawEntryBuilderMut<'a, K, V, S> {
             (hash_with S.build_hasher S.Hasher.write S.Hasher.finish K.hash_input (found_map self.entry).now.hasher)
             is_match hash k
             → raw_pair (raw_state result) ≡ lookup_entry (K.eq k) (entries_of (found_map self.entry).now) }
+        ensures equal { (k : K) → Tells F.Fn K.eq
+            (hash_with S.build_hasher S.Hasher.write S.Hasher.finish K.hash_input (found_map self.entry).now.hasher)
+            is_match hash k
+            → MatchOption (raw_state result).place ⊤ (PassesAt (K.eq k) (entries_of (found_map self.entry).now)) }
         ensures distinct { IsEntries K.eq (entries_of (found_map self.entry).now) }
     {
         let RawEntryBuilderMut { map } = self;

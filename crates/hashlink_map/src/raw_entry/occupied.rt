@@ -140,7 +140,7 @@ impl<'a, K: Eq + Hash, V, S: BuildHasher> RawOccupiedEntryMut<'a, K, V, S> {
         self.map.move_to_front(node);
     }
 
-    /// Puts the value in, and answers the old one. The entry keeps its place.
+    /// Puts the value in, and returns the old one. The entry keeps its place.
     pub fn replace_value(&mut self, value: V) -> V
         ensures same_map { (raw_occupied_map self.new).ghost_name ≡ (raw_occupied_map self.old).ghost_name }
         ensures replaces { ReplacesValue (raw_occupied_state self.old).map (raw_occupied_state self.new).map
@@ -151,7 +151,7 @@ impl<'a, K: Eq + Hash, V, S: BuildHasher> RawOccupiedEntryMut<'a, K, V, S> {
         self.map.replace_value_at(node, value)
     }
 
-    /// Puts in a key that is equal to the stored one, and answers that. The entry keeps its place and its value.
+    /// Puts in a key that is equal to the stored one, and returns that. The entry keeps its place and its value.
     pub fn replace_key(&mut self, key: K) -> K
         requires { EqualsKeyAt K.eq (raw_occupied_state self.old).map.entries (raw_place self.old) key }
         ensures same_map { (raw_occupied_map self.new).ghost_name ≡ (raw_occupied_map self.old).ghost_name }
@@ -167,7 +167,7 @@ impl<'a, K: Eq + Hash, V, S: BuildHasher> RawOccupiedEntryMut<'a, K, V, S> {
 impl<'a, K: Eq + Hash, V, S: BuildHasher, N: AsNode> RawOccupiedEntryMut<'a, K, V, S, N> {
     ghost use Rattle.hashlink_map.specs.RawEntry.{raw_place, raw_occupied_state};
 
-    /// Takes the entry out and answers its value. The key is dropped. It stores at most three links.
+    /// Takes the entry out and returns its value. The key is dropped. It stores at most three links.
     pub fn remove(self) -> V
     where
         K: Drop,
@@ -180,7 +180,7 @@ impl<'a, K: Eq + Hash, V, S: BuildHasher, N: AsNode> RawOccupiedEntryMut<'a, K, 
         value
     }
 
-    /// Takes the entry out and answers its pair. It stores at most three links.
+    /// Takes the entry out and returns its pair. It stores at most three links.
     pub fn remove_entry(self) -> (K, V)
         ensures { TakesEntry (raw_occupied_state self.entry).map (state_of self.exit.0.now) (raw_place self.entry)
             result }

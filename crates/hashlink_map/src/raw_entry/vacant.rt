@@ -70,7 +70,7 @@ impl<'a, K: Eq + Hash, V, S: BuildHasher> RawVacantEntryMut<'a, K, V, S> {
         RawOccupiedEntryMut::pair_of(self.insert_entry_with_hasher(hash, key, value, hasher))
     }
 
-    /// Puts the pair last, and answers its entry. It hashes the key once.
+    /// Puts the pair last, and returns its entry. It hashes the key once.
     pub fn insert_entry(self, key: K, value: V) -> Result<RawOccupiedEntryMut<'a, K, V, S>, (K, V)>
         requires absent { place_of (K.eq key) (entries_of (raw_vacant_map self).now) ≡ None }
         ensures* hands_on { sem 𝓛 (HandsOnNew K.row V.row S.row S.Hasher.row (raw_vacant_map self.entry) key value
@@ -88,7 +88,7 @@ impl<'a, K: Eq + Hash, V, S: BuildHasher> RawVacantEntryMut<'a, K, V, S> {
         Ok(RawOccupiedEntryMut { map, node })
     }
 
-    /// Puts the pair last, whose key has this hash, and answers its entry. It hashes nothing.
+    /// Puts the pair last, whose key has this hash, and returns its entry. It hashes nothing.
     pub fn insert_entry_hashed_nocheck(
         self,
         hash: u64,

@@ -24,7 +24,7 @@ impl<K, V> Nodes<K, V> {
         self.cells.set_number(node, number);
     }
 
-    /// Puts a value into the node's entry, and answers the old one.
+    /// Puts a value into the node's entry, and returns the old one.
     pub fn replace_value(&mut self, node: Node, value: V) -> V
         requires { Holds self.old.entries node }
         ensures value { option_map (λ h. h.value) (lookup (same_node node) self.old.entries) ≡ Some result }
@@ -36,7 +36,7 @@ impl<K, V> Nodes<K, V> {
         self.cells.replace_value(node, value)
     }
 
-    /// Puts a key into the node's entry, and answers the old one.
+    /// Puts a key into the node's entry, and returns the old one.
     pub fn set_key(&mut self, node: Node, key: K) -> K
         requires { Holds self.old.entries node }
         ensures key { option_map (λ h. h.key) (lookup (same_node node) self.old.entries) ≡ Some result }

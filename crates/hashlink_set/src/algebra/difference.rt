@@ -12,7 +12,7 @@ use std::fmt;
 use std::hash::{BuildHasher, Hash};
 use std::iter::FusedIterator;
 
-/// What `difference` answers. A step looks at the elements up to the next that the other set lacks.
+/// What `difference` returns. A step looks at the elements up to the next that the other set lacks.
 #[derive(Drop)]
 pub struct Difference<'a, T: Eq + Hash, S: BuildHasher = DefaultHashBuilder> {
     pub(crate) iter: Iter<'a, T>,

@@ -12,7 +12,7 @@ use std::fmt;
 use std::hash::{BuildHasher, Hash};
 use std::iter::FusedIterator;
 
-/// What `intersection` answers. A step looks at the elements up to the next that the other set has.
+/// What `intersection` returns. A step looks at the elements up to the next that the other set has.
 #[derive(Drop)]
 pub struct Intersection<'a, T: Eq + Hash, S: BuildHasher = DefaultHashBuilder> {
     pub(crate) iter: Iter<'a, T>,

@@ -11,7 +11,7 @@ use std::fmt;
 use std::hash::{BuildHasher, Hash};
 use std::iter::FusedIterator;
 
-/// What `symmetric_difference` answers: what each of two sets has beyond the other, in turn.
+/// What `symmetric_difference` returns: what each of two sets has beyond the other, in turn.
 #[derive(Drop)]
 pub struct SymmetricDifference<'a, T: Eq + Hash, S: BuildHasher = DefaultHashBuilder> {
     pub(crate) first: Difference<'a, T, S>,

@@ -12,7 +12,7 @@ use std::fmt;
 use std::hash::{BuildHasher, Hash};
 use std::iter::FusedIterator;
 
-/// What `union` answers: the elements of one set, and then those that the other has beyond it.
+/// What `union` returns: the elements of one set, and then those that the other has beyond it.
 #[derive(Drop)]
 pub struct Union<'a, T: Eq + Hash, S: BuildHasher = DefaultHashBuilder> {
     pub(crate) first: Iter<'a, T>,

@@ -18,7 +18,7 @@ use std::hash::{BuildHasher, Hash};
 impl<T: Eq + Hash, S: BuildHasher> LinkedHashSet<T, S> {
     ghost use Rattle.hashlink_set.specs.SetLends.{EndsInserted, EndsMade, StaysAsItWas, PutsElement, MakesElement};
 
-    /// Puts the element last, and answers whether it was new. An equal one that is there stays the object that it is,
+    /// Puts the element last, and returns whether it was new. An equal one that is there stays the object that it is,
     /// and moves to the end.
     ///
     /// It takes memory only for a new element where no node is spare. Where that is refused, the element is handed
@@ -35,7 +35,7 @@ impl<T: Eq + Hash, S: BuildHasher> LinkedHashSet<T, S> {
         }
     }
 
-    /// Puts the element in the place of the equal one that is there, which it answers. A new one goes last.
+    /// Puts the element in the place of the equal one that is there, which it returns. A new one goes last.
     ///
     /// It takes memory only for a new element where no node is spare. Where that is refused, the element is handed
     /// back and nothing changes. It stores no link for an element that is there and at most four for a new one.
@@ -95,7 +95,7 @@ impl<T: Eq + Hash, S: BuildHasher> LinkedHashSet<T, S> {
         self.back()
     }
 
-    /// `insert`, which answers the set beside the element that was refused.
+    /// `insert`, which returns the set beside the element that was refused.
     fn put_last(&mut self, value: T) -> (&mut Self, Option<T>)
     where
         T: Drop,
@@ -106,7 +106,7 @@ impl<T: Eq + Hash, S: BuildHasher> LinkedHashSet<T, S> {
         (self, refused)
     }
 
-    /// `move_or_make`, which answers the set beside the element that was refused.
+    /// `move_or_make`, which returns the set beside the element that was refused.
     fn put_or_make<F: FnOnce(&T) -> T>(&mut self, value: &T, f: F) -> (&mut Self, Option<T>)
     where
         T: Drop,

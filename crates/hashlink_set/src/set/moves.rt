@@ -1,39 +1,40 @@
 //! How an element moves to either end. A move hashes the element once, takes no memory, and stores at most six links.
 ghost use Rattle.std.specs.Prelude.{◌≡◌, length};
 ghost use Rattle.std.specs.List.{IsDistinct};
-ghost use Rattle.hashlink_model.specs.Steps.{Moves};
+ghost use Rattle.hashlink_model.specs.Steps.{MovesMatch};
 ghost use Rattle.hashlink_model.specs.Sets.{elements_of};
 ghost use Rattle.hashlink_set.specs.Answers.{as_value};
 
 use super::LinkedHashSet;
+use hashlink_map::Equivalent;
 use std::hash::{BuildHasher, Hash};
 
 impl<T: Eq + Hash, S: BuildHasher> LinkedHashSet<T, S> {
-    /// Moves the equal element to the front, and answers whether there is one. Else nothing changes.
-    pub fn to_front(&mut self, value: &T) -> bool
-        ensures moves { Moves T.eq self.old self.new value.now 0 (as_value result) }
+    /// Moves the equal element to the front, and returns whether there is one. Else nothing changes.
+    pub fn to_front<Q: Equivalent<T>>(&mut self, value: Q) -> bool
+        ensures moves { MovesMatch (Q.matches value) self.old self.new 0 (as_value result) }
     {
         self.find_to_front(value).is_some()
     }
 
-    /// Moves the equal element to the end, and answers whether there is one. Else nothing changes.
-    pub fn to_back(&mut self, value: &T) -> bool
-        ensures moves { Moves T.eq self.old self.new value.now (length self.old.entries) (as_value result) }
+    /// Moves the equal element to the end, and returns whether there is one. Else nothing changes.
+    pub fn to_back<Q: Equivalent<T>>(&mut self, value: Q) -> bool
+        ensures moves { MovesMatch (Q.matches value) self.old self.new (length self.old.entries) (as_value result) }
     {
         self.find_to_back(value).is_some()
     }
 
     /// `to_front`, with nothing as the value of an element that is there.
-    fn find_to_front(&mut self, value: &T) -> Option<()>
-        ensures { Moves T.eq self.old self.new value.now 0 result }
+    fn find_to_front<Q: Equivalent<T>>(&mut self, value: Q) -> Option<()>
+        ensures { MovesMatch (Q.matches value) self.old self.new 0 result }
     {
         self.map.to_front(value)?;
         Some(())
     }
 
     /// `to_back`, with nothing as the value of an element that is there.
-    fn find_to_back(&mut self, value: &T) -> Option<()>
-        ensures { Moves T.eq self.old self.new value.now (length self.old.entries) result }
+    fn find_to_back<Q: Equivalent<T>>(&mut self, value: Q) -> Option<()>
+        ensures { MovesMatch (Q.matches value) self.old self.new (length self.old.entries) result }
     {
         self.map.to_back(value)?;
         Some(())

@@ -1,24 +1,24 @@
 //! What a set shows. Each lookup hashes the element once, and looks at the elements of one bucket.
 ghost use Rattle.std.specs.Prelude.{◌≡◌, option_copied};
-ghost use Rattle.std.specs.List.{find};
-ghost use Rattle.std.specs.Set.{is_member};
+ghost use Rattle.std.specs.List.{find, list_any};
 ghost use Rattle.hashlink_model.specs.Walk.{first_of, last_of};
 ghost use Rattle.hashlink_model.specs.Sets.{elements_of};
 
 use super::LinkedHashSet;
+use hashlink_map::Equivalent;
 use std::hash::{BuildHasher, Hash};
 
 impl<T: Eq + Hash, S: BuildHasher> LinkedHashSet<T, S> {
     /// Whether an equal element is there.
-    pub fn contains(&self, value: &T) -> bool
-        ensures { result ≡ is_member T.eq (elements_of self.now) value.now }
+    pub fn contains<Q: Equivalent<T>>(&self, value: Q) -> bool
+        ensures { result ≡ list_any (Q.matches value) (elements_of self.now) }
     {
         self.map.contains_key(value)
     }
 
     /// The element that is there and equal to the one given, which may be another object. The order stays as it is.
-    pub fn get(&self, value: &T) -> Option<&T>
-        ensures { option_copied result ≡ find (T.eq value.now) (elements_of self.now) }
+    pub fn get<Q: Equivalent<T>>(&self, value: Q) -> Option<&T>
+        ensures { option_copied result ≡ find (Q.matches value) (elements_of self.now) }
     {
         let (stored, _) = self.map.get_key_value(value)?;
         Some(stored)

@@ -23,7 +23,7 @@ fn take_apart<V>(old: Option<(V, u64)>) -> (Option<V>, u64)
 impl<K: Eq + Hash, V, S: BuildHasher> WeightedCache<K, V, S> {
     ghost use Rattle.hashlink_weighted.specs.Answers.{InsertsWithin};
 
-    /// Puts the pair last with its weight, and answers the key's old value. A key that is there keeps its key object,
+    /// Puts the pair last with its weight, and returns the key's old value. A key that is there keeps its key object,
     /// takes the new value and the new weight, and moves to the end. Then entries at the front are dropped until the
     /// weights sum to at most the budget: the longest end that fits stays, and the pair is always in it.
     ///

@@ -4,21 +4,21 @@ ghost use Rattle.std.specs.Borrow.{sem};
 ghost use Rattle.std.specs.Map.{lookup};
 ghost use Rattle.hashlink_core.specs.Keyed.{state_of, entries_of};
 ghost use Rattle.hashlink_model.specs.Entries.{IsEntries};
-ghost use Rattle.hashlink_model.specs.Steps.{Moves};
-ghost use Rattle.hashlink_weighted.specs.Weighed.{WeightedRemoves};
+ghost use Rattle.hashlink_model.specs.Steps.{MovesMatch};
+ghost use Rattle.hashlink_weighted.specs.Weighed.{WeightedRemovesMatch};
 
 use super::WeightedCache;
-use hashlink_map::LinkedHashMap;
+use hashlink_map::{Equivalent, LinkedHashMap};
 use std::hash::{BuildHasher, Hash};
 
-/// Moves the key's entry to the end, and answers whether it is there.
-fn move_last<K: Eq + Hash, V, S: BuildHasher>(
+/// Moves the key's entry to the end, and returns whether it is there.
+fn move_last<K: Eq + Hash, V, S: BuildHasher, Q: Equivalent<K>>(
     map: &mut LinkedHashMap<K, (V, u64), S>,
-    key: &K,
+    key: Q,
 ) -> bool
-    ensures there { result ≡ is_some (lookup (K.eq key.now) (entries_of map.old)) }
-    ensures moves { Moves K.eq (state_of map.old) (state_of map.new) key.now (length (entries_of map.old))
-        (lookup (K.eq key.now) (entries_of map.old)) }
+    ensures there { result ≡ is_some (lookup (Q.matches key) (entries_of map.old)) }
+    ensures moves { MovesMatch (Q.matches key) (state_of map.old) (state_of map.new) (length (entries_of map.old))
+        (lookup (Q.matches key) (entries_of map.old)) }
     ensures distinct { IsEntries K.eq (entries_of map.old) }
 {
     match map.to_back(key) {
@@ -32,19 +32,19 @@ impl<K: Eq + Hash, V, S: BuildHasher> WeightedCache<K, V, S> {
     ghost use Rattle.hashlink_weighted.specs.Lends.{EndsUsed};
 
     /// The value of the key. The order stays as it is.
-    pub fn peek(&self, key: &K) -> Option<&V>
-        ensures { option_copied result ≡ without_weight (lookup (K.eq key.now) self.now.map.entries) }
+    pub fn peek<Q: Equivalent<K>>(&self, key: Q) -> Option<&V>
+        ensures { option_copied result ≡ without_weight (lookup (Q.matches key) self.now.map.entries) }
     {
         let (value, _) = self.map.get(key)?;
         Some(value)
     }
 
-    /// The value of the key, whose entry moves to the end. Of an absent key it answers none, and nothing changes. It
+    /// The value of the key, whose entry moves to the end. Of an absent key it returns none, and nothing changes. It
     /// stores at most six links.
-    pub fn get(&mut self, key: &K) -> Option<&V>
+    pub fn get<Q: Equivalent<K>>(&mut self, key: Q) -> Option<&V>
         ensures* used { sem 𝓛 (EndsUsed K.row V.row S.row S.Hasher.row K.Hash S.BuildHasher S.Hasher.Hasher
-            self.entry key.now) }
-        ensures value { option_copied result ≡ without_weight (lookup (K.eq key.now) self.old.map.entries) }
+            self.entry (Q.matches key)) }
+        ensures value { option_copied result ≡ without_weight (lookup (Q.matches key) self.old.map.entries) }
         ensures distinct { IsEntries K.eq self.old.map.entries }
     {
         if !move_last(&mut self.map, key) {
@@ -54,13 +54,13 @@ impl<K: Eq + Hash, V, S: BuildHasher> WeightedCache<K, V, S> {
         Some(value)
     }
 
-    /// Takes the key's entry out and answers its value. It looks for the key as `peek` does, and stores at most three
+    /// Takes the key's entry out and returns its value. It looks for the key as `peek` does, and stores at most three
     /// links. The node serves the next new pair.
-    pub fn remove(&mut self, key: &K) -> Option<V>
+    pub fn remove<Q: Equivalent<K>>(&mut self, key: Q) -> Option<V>
     where
         K: Drop,
-        ensures value { result ≡ without_weight (lookup (K.eq key.now) self.old.map.entries) }
-        ensures removes { WeightedRemoves K.eq self.old self.new key.now }
+        ensures value { result ≡ without_weight (lookup (Q.matches key) self.old.map.entries) }
+        ensures removes { WeightedRemovesMatch (Q.matches key) self.old self.new }
         ensures distinct { IsEntries K.eq self.new.map.entries }
     {
         let (value, weight) = self.map.remove(key)?;

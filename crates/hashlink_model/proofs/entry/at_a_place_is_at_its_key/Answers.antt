@@ -4,7 +4,7 @@ use Rattle.hashlink_model.proofs.entry.at_a_place_is_at_its_key.Goals as goal
 
 pub returns : goal.returns
 returns g c = record {
-  removed = remove-place;
+  removed = λ eq es k. remove-place (eq k) es;
   moved = moved_at-place;
   put = moved_at-put;
   insert = insert_value-put;

@@ -2,7 +2,7 @@ use Rattle.std.proofs.Common.{length, map}
 use Rattle.std.proofs.lemmas.List.{at_drop_all}
 use Rattle.hashlink_run.specs.CacheCalls.{EventStep, use_of}
 use Rattle.hashlink_run.proofs.Called.{rest_from, runs_from_empty}
-use Rattle.hashlink_run.proofs.CallLaws.{ran-follows, ran-distinct, bears_comparison}
+use Rattle.hashlink_run.proofs.CallLaws.{ran-follows, ran-distinct, misses_of_history, bears_comparison}
 use Rattle.hashlink_run.proofs.Answering.{HasAnswered-none, HasAnswered-more, HasAnswered-all}
 use Rattle.hashlink_run.proofs.calls.run_uses.Goals as goal
 
@@ -27,6 +27,10 @@ returns-clause-history g c = ran-follows g.K.PartialEq.eq g.met.K.Eq.laws _ _ _ 
 
 pub returns-clause-distinct : goal.returns-clause-distinct
 returns-clause-distinct g c = ran-distinct g.K.PartialEq.eq g.met.K.Eq.laws _ _ _ _ _ (returns-clause-ran g c)
+
+pub returns-clause-misses : goal.returns-clause-misses
+returns-clause-misses g c =
+    misses_of_history g.K.PartialEq.eq g.met.K.Eq.laws _ c.args.pairs.now _ (returns-clause-ran g c).answered
 
 pub returns-clause-comparison : goal.returns-clause-comparison
 returns-clause-comparison g c =

@@ -1,5 +1,4 @@
-use Rattle.std.proofs.Common.{arith, ◌<◌, ◌≤◌, length}
-use Rattle.hashlink.specs.Cached.{entries_in}
+use Rattle.std.proofs.Common.{arith}
 use Rattle.hashlink_uses.proofs.commands.insert_where_shorter.Goals as goal
 
 pub unreachable-requires : goal.unreachable-requires

@@ -8,7 +8,7 @@ returns g c =
       (
         refl,
         λ w. on_some c.to_back.result
-            (λ s. used_and_written g.K.PartialEq.eq _ _ c.args.key.now w (record { map = s; cap = refl }))
+            (λ s. used_and_written (g.Q.Equivalent.matches c.args.key) _ _ w (record { map = s; cap = refl }))
             (c.to_back.follows.holds w),
         ap (λ m. record { map = m; cap = n }) c.to_back.follows.holds-at-none,
       ),

@@ -8,7 +8,7 @@ returns g c =
       (
         refl,
         λ w. on_some c.get_mut.result
-            (λ s. written g.K.PartialEq.eq _ _ c.args.key.now w (ap (λ m. record { map = m; cap = n }) s))
+            (λ s. written (g.Q.Equivalent.matches c.args.key) _ _ w (ap (λ m. record { map = m; cap = n }) s))
             (c.get_mut.follows.holds w),
         ap (λ m. record { map = m; cap = n }) c.get_mut.follows.holds-at-none,
       ),

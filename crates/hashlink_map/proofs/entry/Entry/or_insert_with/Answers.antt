@@ -22,6 +22,7 @@ returns-in-Occupied g c =
         value = or_made r _ _
             (subst (λ e. IfOk r (λ v. entry_value (entry_state e) ≡ Some v.now)) (sym c.in-Occupied.is)
             c.into_last_mut.ensures.value);
+        given = no_pair r _ f.holds-at-none;
         made = no_pair r _ f.holds-at-none;
       },
     )

@@ -11,6 +11,7 @@ returns g c =
       (refl, λ w _. put w, tt),
       record {
         lends = tt;
+        handed_back = tt;
         value = added-value laws _ c.push_back.new.self c.args.self.key c.args.value c.in_ok-node.node e.inserts
             e.place _
             c.value_at_mut.ensures.value;

@@ -31,6 +31,6 @@ returns g c =
       record {
         lends = tt;
         value = sym (ap (λ l. lookup (eq k) (entries_of l)) c.self.view_is)
-            ∙ stored-value eq m m k n found c.value_mut.result.now c.value_mut.ensures.value;
+            ∙ stored-value (eq k) m m n found c.value_mut.result.now c.value_mut.ensures.value;
       },
     )

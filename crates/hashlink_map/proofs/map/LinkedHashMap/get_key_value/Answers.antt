@@ -9,16 +9,15 @@ use Rattle.hashlink_map.proofs.map.LinkedHashMap.get_key_value.Goals as goal
 
 pub returns-in_err-node : goal.returns-in_err-node
 returns-in_err-node g c =
-    let test = g.K.PartialEq.eq c.args.key.now in
+    let test = g.Q.Equivalent.matches c.args.key in
     ap (option_map deref_pair) c.from_residual.ensures
     ∙ sym (lookup_entry-unplaced test (entries_of c.self.inside.list) c.in_err-node.ensures.found)
     ∙ ap (λ m. lookup_entry test (entries_of m)) c.self.view_is
 
 pub returns : goal.returns
 returns g c =
-    let eq = g.K.PartialEq.eq in
+    let test = g.Q.Equivalent.matches c.args.key in
     let m = c.self.inside.list in
     sym
-    (stored eq m m c.args.key.now c.in_ok-node.node c.in_ok-node.ensures.found (deref_pair c.entry.result)
-    c.entry.ensures)
-    ∙ ap (λ l. lookup_entry (eq c.args.key.now) (entries_of l)) c.self.view_is
+    (stored test m m c.in_ok-node.node c.in_ok-node.ensures.found (deref_pair c.entry.result) c.entry.ensures)
+    ∙ ap (λ l. lookup_entry test (entries_of l)) c.self.view_is

@@ -15,7 +15,7 @@ returns-clause-inserts g c =
     pushes-at g.met.K.Eq.laws c.args.self.now new c.args.key c.args.value c.requires.absent _ r
     (subst (λ m. IfOk r (λ n. AddsNode m new (place_number m.nodes p) n c.args.key c.args.value)) c.self.view_is
     e.added)
-    e.handed_back (subst (λ m. OnErr r (GrowsRoom m new)) c.self.view_is e.refused)
+    e.handed_back (subst (λ m. OnErr r (GrowsRoom 1 m new)) c.self.view_is e.refused)
     (subst (λ m. OnErr r (m.spare ≡ 0)) c.self.view_is e.no_spare)
 
 pub returns-clause-keys : goal.returns-clause-keys
@@ -27,4 +27,4 @@ returns-clause-keys g c =
     keys-inserted c.args.self.now new c.requires.apart.apart _ c.args.key c.args.value r
     (subst (λ m. IfOk r (λ n. AddsNode m new (place_number m.nodes p) n c.args.key c.args.value)) c.self.view_is
     e.added)
-    (subst (λ m. OnErr r (GrowsRoom m new)) c.self.view_is e.refused)
+    (subst (λ m. OnErr r (GrowsRoom 1 m new)) c.self.view_is e.refused)

@@ -11,7 +11,7 @@ returns-clause-inserts g c =
     let new = c.insert_before.new.self in
     pushes g.met.K.Eq.laws _ new c.args.key c.args.value c.requires.absent r
     (subst (λ m. IfOk r (λ n. AddsNode m new (length m.nodes) n c.args.key c.args.value)) c.self.view_is e.added)
-    e.handed_back (subst (λ m. OnErr r (GrowsRoom m new)) c.self.view_is e.refused)
+    e.handed_back (subst (λ m. OnErr r (GrowsRoom 1 m new)) c.self.view_is e.refused)
     (subst (λ m. OnErr r (m.spare ≡ 0)) c.self.view_is e.no_spare)
 
 pub returns-clause-holds : goal.returns-clause-holds

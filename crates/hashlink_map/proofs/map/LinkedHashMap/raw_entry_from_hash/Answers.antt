@@ -1,5 +1,6 @@
 use Rattle.std.proofs.Common.{sym, rules}
 use Rattle.hashlink_core.specs.Keyed.{entries_of}
+use Rattle.hashlink_core.proofs.Holding.{holds-passes}
 use Rattle.hashlink_map.proofs.Steps.{lookup_entry-place, lookup_entry-unplaced}
 use Rattle.hashlink_map.proofs.map.LinkedHashMap.raw_entry_from_hash.Goals as goal
 
@@ -10,3 +11,7 @@ returns-in-Some-clause-pair g c k told =
 pub returns-in-None-clause-pair : goal.returns-in-None-clause-pair
 returns-in-None-clause-pair g c k told =
     sym (lookup_entry-unplaced (g.K.PartialEq.eq k) (entries_of c.args.self.now) (search rules))
+
+pub returns-in-Some-clause-equal : goal.returns-in-Some-clause-equal
+returns-in-Some-clause-equal g c k told =
+    holds-passes (g.K.PartialEq.eq k) c.args.self.now c.in-Some.node (search rules)

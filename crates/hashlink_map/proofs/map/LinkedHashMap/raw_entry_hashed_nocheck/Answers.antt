@@ -1,17 +1,17 @@
 use Rattle.std.proofs.Common.{sym, rules}
 use Rattle.hashlink_core.specs.Keyed.{entries_of}
-use Rattle.hashlink_core.proofs.Holding.{holds-equal}
+use Rattle.hashlink_core.proofs.Holding.{holds-passes}
 use Rattle.hashlink_map.proofs.Steps.{lookup_entry-place, lookup_entry-unplaced}
 use Rattle.hashlink_map.proofs.map.LinkedHashMap.raw_entry_hashed_nocheck.Goals as goal
 
 pub returns-in-Some-clause-pair : goal.returns-in-Some-clause-pair
 returns-in-Some-clause-pair g c =
-    sym (lookup_entry-place (g.K.PartialEq.eq c.args.key.now) (entries_of c.args.self.now) _ (search rules))
+    sym (lookup_entry-place (g.Q.Equivalent.matches c.args.key) (entries_of c.args.self.now) _ (search rules))
 
 pub returns-in-None-clause-pair : goal.returns-in-None-clause-pair
 returns-in-None-clause-pair g c =
-    sym (lookup_entry-unplaced (g.K.PartialEq.eq c.args.key.now) (entries_of c.args.self.now) (search rules))
+    sym (lookup_entry-unplaced (g.Q.Equivalent.matches c.args.key) (entries_of c.args.self.now) (search rules))
 
 pub returns-in-Some-clause-equal : goal.returns-in-Some-clause-equal
 returns-in-Some-clause-equal g c =
-    holds-equal g.K.PartialEq.eq c.args.self.now c.in-Some.node c.args.key.now (search rules)
+    holds-passes (g.Q.Equivalent.matches c.args.key) c.args.self.now c.in-Some.node (search rules)

@@ -9,7 +9,7 @@ use Rattle.hashlink_map.proofs.map.LinkedHashMap.replace_pair_at.Goals as goal
 
 pub replace_key_at-old_key-requires-clause-equal : goal.replace_key_at-old_key-requires-clause-equal
 replace_key_at-old_key-requires-clause-equal g c =
-    holds-equal _ c.replace_value_at-old_value.new.self c.args.node c.args.key
+    holds-equal g.K.PartialEq.eq c.replace_value_at-old_value.new.self c.args.node c.args.key
     (c.replace_value_at-old_value.ensures.stays.keys c.args.key c.requires)
 
 pub returns-clause-replaces : goal.returns-clause-replaces

@@ -1,7 +1,7 @@
 use Rattle.std.proofs.Common.{length, refl, ap, sym, subst, ◌∙◌, arith}
 use Rattle.std.specs.Map.{lookup}
 use Rattle.hashlink_model.specs.Entries.{IsEntries}
-use Rattle.hashlink_model.specs.Steps.{MovesAndWrites}
+use Rattle.hashlink_model.specs.Steps.{MovesMatchAndWrites}
 use Rattle.hashlink_model.proofs.Cursors.{following_place-guard}
 use Rattle.hashlink_core.specs.Keyed.{entries_of, state_of}
 use Rattle.hashlink_core.specs.KeyedLends.{with_value_at}
@@ -12,7 +12,8 @@ use Rattle.hashlink_map.proofs.map.LinkedHashMap.to_front.Goals as goal
 pub value_mut-requires : goal.value_mut-requires
 value_mut-requires g c =
     let m = c.self.inside.list in
-    (moved-found g.K.PartialEq.eq g.met.K.Eq.laws m c.move_after.new.self c.args.key.now c.in-Some.node
+    (moved-found g.K.PartialEq.eq g.met.K.Eq.laws (g.Q.Equivalent.matches c.args.key)
+    (g.met.Q.Equivalent.finds_equal c.args.key) m c.move_after.new.self c.in-Some.node
     c.in-Some.ensures.found 0 _ (following_place-guard (length m.nodes))
     (omega (arith, following_place-guard (length m.nodes))) c.move_after.ensures.moved
     c.move_after.ensures.sound).within
@@ -21,7 +22,8 @@ pub returns-in-Some : goal.returns-in-Some
 returns-in-Some g c =
     let eq = g.K.PartialEq.eq in
     let laws = g.met.K.Eq.laws in
-    let k = c.args.key.now in
+    let test = g.Q.Equivalent.matches c.args.key in
+    let tells = g.met.Q.Equivalent.finds_equal c.args.key in
     let n = c.in-Some.node in
     let m = c.self.inside.list in
     let new = c.move_after.new.self in
@@ -29,8 +31,8 @@ returns-in-Some g c =
     let found = c.in-Some.ensures.found in (
       (
         refl,
-        λ w. subst (λ l. MovesAndWrites eq (state_of l) (state_of (with_value_at new n w)) k 0 w) c.self.view_is
-            (lent-moved eq laws m new k n found 0 _ (following_place-guard (length m.nodes))
+        λ w. subst (λ l. MovesMatchAndWrites test (state_of l) (state_of (with_value_at new n w)) 0 w) c.self.view_is
+            (lent-moved eq laws test tells m new n found 0 _ (following_place-guard (length m.nodes))
             (omega (arith, following_place-guard (length m.nodes))) s.moved s.sound w),
         refl,
       ),
@@ -38,17 +40,17 @@ returns-in-Some g c =
         lends = tt;
         value =
             sym
-            (moved-value eq laws m new k n found 0 _ (following_place-guard (length m.nodes))
+            (moved-value eq laws test tells m new n found 0 _ (following_place-guard (length m.nodes))
             (omega (arith, following_place-guard (length m.nodes))) s.moved s.sound c.value_mut.result.now
             c.value_mut.ensures.value c.in-Some.ensures.sound.distinct)
-            ∙ ap (λ l. lookup (eq k) (entries_of l)) c.self.view_is;
+            ∙ ap (λ l. lookup test (entries_of l)) c.self.view_is;
         distinct = subst (λ l. IsEntries eq (entries_of l)) c.self.view_is c.in-Some.ensures.sound.distinct;
       },
     )
 
 pub returns-in-None : goal.returns-in-None
 returns-in-None g c =
-    let test = g.K.PartialEq.eq c.args.key.now in (
+    let test = g.Q.Equivalent.matches c.args.key in (
       (refl, λ w. tt, ap state_of c.self.view_is),
       record {
         lends = tt;

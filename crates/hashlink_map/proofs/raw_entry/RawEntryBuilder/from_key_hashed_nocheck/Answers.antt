@@ -8,10 +8,10 @@ use Rattle.hashlink_map.proofs.raw_entry.RawEntryBuilder.from_key_hashed_nocheck
 pub returns-in_err-node : goal.returns-in_err-node
 returns-in_err-node g c =
     ap (option_map deref_pair) c.from_residual.ensures
-    ∙ sym (lookup_entry-unplaced (g.K.PartialEq.eq c.args.key.now) (entries_of c.args.self.map.now) (search rules))
+    ∙ sym (lookup_entry-unplaced (g.Q.Equivalent.matches c.args.key) (entries_of c.args.self.map.now) (search rules))
 
 pub returns : goal.returns
 returns g c =
     sym
-    (lookup_entry-place (g.K.PartialEq.eq c.args.key.now) (entries_of c.args.self.map.now) _ (search rules)
+    (lookup_entry-place (g.Q.Equivalent.matches c.args.key) (entries_of c.args.self.map.now) _ (search rules)
     ∙ c.pair_at.ensures)

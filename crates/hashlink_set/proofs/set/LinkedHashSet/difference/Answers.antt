@@ -1,6 +1,5 @@
 use Rattle.std.proofs.Common.{rules, subst}
 use Rattle.std.specs.List.{IsDistinct}
-use Rattle.hashlink_model.specs.Algebra.{difference_of}
 use Rattle.hashlink_model.specs.Sets.{elements_of}
 use Rattle.hashlink_model.proofs.Members.{IsDistinct-difference}
 use Rattle.hashlink_set.proofs.set.LinkedHashSet.difference.Goals as goal

@@ -8,12 +8,12 @@ use Rattle.hashlink_set.proofs.set.LinkedHashSet.get.Goals as goal
 
 pub returns-in_err-stored : goal.returns-in_err-stored
 returns-in_err-stored g c =
-    let test = g.T.PartialEq.eq c.args.value.now in
+    let test = g.Q.Equivalent.matches c.args.value in
     ap option_copied c.from_residual.ensures ∙ ap (option_map (λ e. e.0)) c.in_err-stored.ensures
     ∙ element-found (entries_of c.self.inside.map) test ∙ ap (λ s. find test (elements_of s)) c.self.view_is
 
 pub returns : goal.returns
 returns g c =
-    let test = g.T.PartialEq.eq c.args.value.now in
+    let test = g.Q.Equivalent.matches c.args.value in
     ap (option_map (λ e. e.0)) c.in_ok-stored.ensures
     ∙ element-found (entries_of c.self.inside.map) test ∙ ap (λ s. find test (elements_of s)) c.self.view_is

@@ -1,6 +1,5 @@
 use Rattle.std.proofs.Common.{rules, subst}
 use Rattle.std.specs.List.{IsDistinct}
-use Rattle.hashlink_model.specs.Algebra.{intersection_of}
 use Rattle.hashlink_model.specs.Sets.{elements_of}
 use Rattle.hashlink_model.proofs.Members.{IsDistinct-intersection}
 use Rattle.hashlink_set.proofs.set.LinkedHashSet.intersection.Goals as goal

@@ -1,5 +1,5 @@
 use Rattle.std.proofs.Common.{is_some, ap, ◌∙◌}
-use Rattle.std.specs.Set.{is_member}
+use Rattle.std.specs.List.{list_any}
 use Rattle.hashlink_core.specs.Keyed.{entries_of}
 use Rattle.hashlink_model.specs.Sets.{elements_of}
 use Rattle.hashlink_set.proofs.Lookups.{member-entry}
@@ -7,7 +7,7 @@ use Rattle.hashlink_set.proofs.set.LinkedHashSet.remove.Goals as goal
 
 pub returns-clause-answer : goal.returns-clause-answer
 returns-clause-answer g c =
-    let eq = g.T.PartialEq.eq in
+    let test = g.Q.Equivalent.matches c.args.value in
     c.is_some.ensures ∙ ap is_some c.remove_entry.ensures.removes.answer
-    ∙ member-entry (entries_of c.self.inside.map) eq c.args.value.now
-    ∙ ap (λ s. is_member eq (elements_of s) c.args.value.now) c.self.view_is
+    ∙ member-entry (entries_of c.self.inside.map) test
+    ∙ ap (λ s. list_any test (elements_of s)) c.self.view_is

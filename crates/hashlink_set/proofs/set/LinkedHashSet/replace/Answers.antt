@@ -1,4 +1,3 @@
-use Rattle.std.proofs.Common.{rules}
 use Rattle.hashlink_core.specs.Keyed.{state_of}
 use Rattle.hashlink_set.proofs.Stored.{replaces_distinct}
 use Rattle.hashlink_set.proofs.set.LinkedHashSet.replace.Goals as goal

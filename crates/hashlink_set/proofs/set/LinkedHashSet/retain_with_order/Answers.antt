@@ -1,9 +1,10 @@
-use Rattle.std.proofs.Common.{rules, subst}
+use Rattle.std.proofs.Common.{rules, subst, sym}
 use Rattle.std.specs.Fn.{CalledAt}
 use Rattle.hashlink_core.specs.Keyed.{state_of}
 use Rattle.hashlink_model.specs.Retain.{RetainsInOrder}
 use Rattle.hashlink_model.specs.Sets.{at_element}
-use Rattle.hashlink_set.proofs.Retaining.{callable_always, callable_seen, retains_seen}
+use Rattle.hashlink_set.specs.Called.{CallableOnEachElement}
+use Rattle.hashlink_set.proofs.Retaining.{callable_seen, retains_seen}
 use Rattle.hashlink_set.proofs.set.LinkedHashSet.retain_with_order.Goals as goal
 
 pub retain_with_order-requires : goal.retain_with_order-requires
@@ -14,7 +15,8 @@ retain_with_order-requires g c =
       shows = call.shows.0;
       called = search (rules, call.called);
     })
-    _ _ (λ f t takes p q h i. takes) _ _ (callable_always g.F.FnMut c.args.keep _ c.requires)
+    _ _ (λ f t takes p q h i. takes p h) _ _
+    (subst (CallableOnEachElement g.F.FnMut c.args.keep) (sym c.self.view_is) c.requires)
 
 pub returns-clause-retained : goal.returns-clause-retained
 returns-clause-retained g c =

@@ -102,6 +102,19 @@ returns-clause-room g c =
       c.next_power_of_two-room.ensures.lower_bound,
     )
 
+pub returns-clause-bound : goal.returns-clause-bound
+returns-clause-bound g c =
+    let len = len_by_view _ _ _ c.self.view_is in
+    let room = ap (λ (t : Contents g.row.N.Denot). t.room) c.in_ok-rebuild.ensures.ok in
+    omega (
+      arith,
+      len,
+      room,
+      c.self.invariant.1.counted,
+      c.max.ensures,
+      c.next_power_of_two-room.ensures.upper_bound,
+    )
+
 pub returns-clause-enough : goal.returns-clause-enough
 returns-clause-enough g c = λ h.
     let len = len_by_view _ _ _ c.self.view_is in let room = room_by_view _ _ _ c.self.view_is in

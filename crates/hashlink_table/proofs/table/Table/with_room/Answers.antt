@@ -28,3 +28,9 @@ pub returns-clause-nothing : goal.returns-clause-nothing
 returns-clause-nothing g c = λ nothing.
     let none = ap (λ (t : Contents g.row.N.Denot). len t.nodes) c.new-table.ensures ∙ len-empty nat_cmp _ in
     ap Ok ((c.in_ok-reserve.ensures.enough (omega (arith, nothing, none))).1 ∙ c.new-table.ensures)
+
+pub returns-clause-bound : goal.returns-clause-bound
+returns-clause-bound g c =
+    let none = ap (λ (t : Contents g.row.N.Denot). len t.nodes) c.new-table.ensures ∙ len-empty nat_cmp _ in
+    let room = ap (λ (t : Contents g.row.N.Denot). t.room) c.new-table.ensures in
+    omega (arith, none, room, c.in_ok-reserve.ensures.bound)

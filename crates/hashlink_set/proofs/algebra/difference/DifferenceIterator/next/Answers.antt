@@ -1,5 +1,4 @@
-use Rattle.std.proofs.Common.{◌≡◌, true, not, ap, sym, ◌∙◌, rules}
-use Rattle.std.specs.Set.{is_member}
+use Rattle.std.proofs.Common.{◌≡◌, true, ap, sym, ◌∙◌, rules}
 use Rattle.hashlink_model.specs.Sets.{elements_of}
 use Rattle.hashlink_set.specs.Walks.{lacks}
 use Rattle.hashlink_set.proofs.Looking.{some_looks, none_looks, difference_steps}

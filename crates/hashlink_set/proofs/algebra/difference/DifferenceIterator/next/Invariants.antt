@@ -1,5 +1,4 @@
 use Rattle.std.proofs.Common.{◌≡◌, length}
-use Rattle.std.specs.Set.{is_member}
 use Rattle.hashlink_model.specs.Algebra.{first_passing}
 use Rattle.hashlink_model.specs.Sets.{elements_of}
 use Rattle.hashlink_set.specs.Walks.{lacks}

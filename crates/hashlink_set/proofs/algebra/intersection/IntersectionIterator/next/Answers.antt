@@ -1,7 +1,6 @@
-use Rattle.std.proofs.Common.{◌≡◌, true, not, ap, sym, ◌∙◌, rules}
+use Rattle.std.proofs.Common.{◌≡◌, true, ap, sym, ◌∙◌, rules}
 use Rattle.std.specs.Set.{is_member}
 use Rattle.hashlink_model.specs.Sets.{elements_of}
-use Rattle.hashlink_set.specs.Walks.{lacks}
 use Rattle.hashlink_set.proofs.Looking.{some_looks, none_looks, intersection_steps}
 use Rattle.hashlink_set.proofs.algebra.intersection.IntersectionIterator.next.Goals as goal
 

@@ -2,7 +2,6 @@ use Rattle.std.proofs.Common.{◌≡◌, length}
 use Rattle.std.specs.Set.{is_member}
 use Rattle.hashlink_model.specs.Algebra.{first_passing}
 use Rattle.hashlink_model.specs.Sets.{elements_of}
-use Rattle.hashlink_set.specs.Walks.{lacks}
 use Rattle.hashlink_set.proofs.algebra.intersection.IntersectionIterator.next.Given as goal
 
 -- what was looked at does not pass

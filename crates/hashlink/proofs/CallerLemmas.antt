@@ -1,0 +1,487 @@
+-- What a caller's proof cites of maps, sets and caches, with the dependency `hashlink` alone. Each lemma says which
+-- goal it closes. A state is what `state_of` shows of a map, `state_in` of a cache, and a set itself.
+use Rattle.std.proofs.Common.{◌≡◌, ℕ, zero, suc, ◌-◌, Bool, true, false, cond, not, is_some, List, [], ◌∷◌, ◌++◌}
+use Rattle.std.proofs.Common.{length, take, drop, Option, None, Some, Result, Ok, Err, refl, sym, ap, subst, ◌∙◌}
+use Rattle.std.proofs.Common.{◌⊎◌, inl, inr, true≢false, arith}
+use Rattle.std.specs.Prelude.{All, IfSome, OnOk, insert, remove, slice_get, unwrap_or, MatchOption, MatchResult}
+use Rattle.std.specs.Option.{option_map, option_map_or}
+use Rattle.std.specs.Cmp.{IsEquivalence}
+use Rattle.std.specs.List.{list_any}
+use Rattle.std.specs.Map.{lookup, keys_of, remove_entry, set_value}
+use Rattle.std.specs.Set.{remove_key}
+use Rattle.std.proofs.lemmas.List.{map-append, take-append-drop}
+use Rattle.std.proofs.lemmas.List.Elements.{All-nil, All-cons, All-head, All-tail, All-same, All-append, All-take}
+use Rattle.std.proofs.lemmas.List.Elements.{All-drop, All-push, All-map, All-filter}
+use Rattle.std.proofs.lemmas.Map.{NonePasses}
+use Rattle.std.proofs.lemmas.Map.Entries.{place_from_lookup}
+use Rattle.std.proofs.lemmas.Map.Made.{is_some-lookup}
+use Rattle.std.proofs.lemmas.Option.{none-some, same_Some, slice_get-get_or}
+use Rattle.hashlink_model.specs.Cache.{CacheState, CacheInserts, CacheGetsMatch, cache_put}
+use Rattle.hashlink_model.specs.Entries.{IsEntries, place_left, place_of, place_without, place_or_end, moved_at}
+use Rattle.hashlink_model.specs.Entries.{moved_match, put, stored_key, without}
+use Rattle.hashlink_model.specs.MapState.{MapState, Inserts}
+use Rattle.hashlink_model.specs.Retain.{RetainsInOrder}
+use Rattle.hashlink_model.specs.Sets.{SetState, SetInserts, elements_of, stored_element}
+use Rattle.hashlink_model.specs.Steps.{PopsFront, PopsBack, Replaces, RemovesMatch, MovesMatch, MovesMatchAndWrites}
+use Rattle.hashlink_model.specs.Walk.{first_of, last_of}
+use Rattle.hashlink_set.specs.Answers.{as_entry}
+use Rattle.hashlink_model.proofs.Distinct.{none_equal, none_others, IsEntries-middle, IsEntries-insert}
+use Rattle.hashlink_model.proofs.Finds.{lookup_is}
+use Rattle.hashlink_model.proofs.SetElements.{find-keys, keys-remove_entry}
+use Rattle.hashlink_model.proofs.Splits.{Stands, splits, remove_entry-here, stands_from_lookup, none_from_lookup}
+use Rattle.hashlink_model.proofs.Splits.{remove_entry-none, lookup_key-none, place_of-none, place_of-here}
+-- ---- handed on
+
+-- goal: `lookup`, or `lookup_entry`, at the key that was put, at another key, after a removal, and after a move
+pub use Rattle.hashlink_model.proofs.Afterwards.{lookup-put, lookup-put_same, lookup_entry-put_other}
+pub use Rattle.hashlink_model.proofs.Afterwards.{lookup-without, lookup-without_same, lookup_entry-without_other}
+pub use Rattle.hashlink_model.proofs.Afterwards.{lookup-moved}
+-- goal: the length after a put, a removal and a move
+pub use Rattle.hashlink_model.proofs.Afterwards.{length-put_absent, length-put_there, length-without_absent}
+pub use Rattle.hashlink_model.proofs.Afterwards.{length-without_there, length-moved}
+-- goal: `IsEntries` after them
+pub use Rattle.hashlink_model.proofs.Afterwards.{IsEntries-moved}
+pub use Rattle.hashlink_model.proofs.Puts.{IsEntries-put, IsEntries-without}
+-- goal: `put` written out: last, first, of an absent key, and where the key stands; and a move as a put
+pub use Rattle.hashlink_model.proofs.Puts.{put_back, put_front, put_back_absent, put_at_its_place}
+pub use Rattle.hashlink_model.proofs.Afterwards.{moved-absent, moved-there}
+-- goal: the stored key equals the one given; equal keys are looked up alike
+pub use Rattle.hashlink_model.proofs.Finds.{stored_key-equal, lookup-equal}
+-- goal: what is left after a retain by a predicate is a filter
+pub use Rattle.hashlink_model.proofs.Filtered.{retained_by_predicate}
+-- goal: the old entries by what a pop answered and left
+pub use Rattle.hashlink_model.proofs.Pops.{pops_front, pops_back}
+-- goal: a cache's entries after `insert`, its answer, and what a refusal leaves; after a hit and a miss of `get`
+pub use Rattle.hashlink_model.proofs.CacheSteps.{inserts_entries as cache_inserts_entries}
+pub use Rattle.hashlink_model.proofs.CacheSteps.{inserts_answer as cache_inserts_answer}
+pub use Rattle.hashlink_model.proofs.CacheSteps.{inserts_refused as cache_inserts_refused, gets_hit, gets_miss}
+-- goal: `lookup` at the key that a cache's insert put in, and at another key
+pub use Rattle.hashlink_model.proofs.Caches.{lookup-cache_put, lookup_entry-cache_put}
+-- goal: a set's elements after `insert` and `replace`, by their answers, and the last element written out
+pub use Rattle.hashlink_model.proofs.SetElements.{set_inserts, set_replaces, put_element_back}
+
+module _ {K V : Type 0} (P : K × V → Type 0) where
+  -- ---- what holds of each entry, through a change of a list of entries
+
+  -- goal: `All P (remove_entry test es)`, so `All P (without eq es k)`
+  pub All-remove_entry : (test : K → Bool) (es : List (K × V)) → All P es → All P (remove_entry test es)
+  All-remove_entry test [] a = a
+  All-remove_entry test (e ∷ es) a = by (test e.0) (All-remove_entry test es (All-tail P e es a))
+    where
+      by : (b : Bool) → All P (remove_entry test es) → All P (cond b es (e ∷ remove_entry test es))
+      by true h = All-tail P e es a
+      by false h = All-cons P e (remove_entry test es) (All-head P e es a) h
+
+  -- goal: `All P (insert es b e)`
+  pub All-insert : (es : List (K × V)) (b : ℕ) (e : K × V) → P e → All P es → All P (insert es b e)
+  All-insert es b e p a =
+      All-append P (take b es) (e ∷ drop b es) (All-take P b es a) (All-cons P e (drop b es) p (All-drop P b es a))
+
+  -- goal: `All P (put eq es k v b)`, as after an insert or a replace. Of values alone the first premise is that of v
+  pub All-put : (eq : K → K → Bool) (es : List (K × V)) (k : K) (v : V) (b : ℕ) → P (stored_key eq es k, v) → All P es
+      → All P (put eq es k v b)
+  All-put eq es k v b p a =
+      All-insert (without eq es k) (place_without eq es k b) (stored_key eq es k, v) p (All-remove_entry (eq k) es a)
+
+  -- goal: P of an entry that stands at a place
+  pub All-at : (es : List (K × V)) (j : ℕ) (e : K × V) → slice_get es j ≡ Some e → All P es → P e
+  All-at [] j e h a = absurd (none-some e h)
+  All-at (x ∷ es) zero e h a = subst P (same_Some x e h) (All-head P x es a)
+  All-at (x ∷ es) (suc j) e h a = All-at es j e h (All-tail P x es a)
+
+  -- goal: P of what a look-up finds, at a key that passes its test
+  pub All-found : (test : K → Bool) (es : List (K × V)) (v : V) → lookup test es ≡ Some v → All P es
+      → (k : K) × P (k, v) × (test k ≡ true)
+  All-found test es v l a =
+      let at = place_from_lookup test es v l in
+      (at.1, All-at es at.0 (at.1, v) at.2 a, at.3)
+
+  -- goal: `All P (moved_match test es b)`, so `All P (moved eq es k b)`, as after a move or a hit of a cache's `get`
+  pub All-moved_match : (test : K → Bool) (es : List (K × V)) (b : ℕ) → All P es → All P (moved_match test es b)
+  All-moved_match test es b a = by (place_of test es)
+    where
+      at : (j : ℕ) (o : Option (K × V)) → slice_get es j ≡ o
+          → All P (option_map_or (λ e. insert (remove es j) (place_left j b) e) o es)
+      at j None h = a
+      at j (Some e) h =
+          All-insert (remove es j) (place_left j b) e (All-at es j e h a)
+          (All-append P (take j es) (drop (suc j) es) (All-take P j es a) (All-drop P (suc j) es a))
+
+      by : (o : Option ℕ) → All P (option_map_or (λ j. moved_at es j b) o es)
+      by None = a
+      by (Some j) = at j (slice_get es j) refl
+
+  -- goal: `All P (set_value test es w)`, as after a replace or a write through what is lent
+  pub All-set_value : (test : K → Bool) (es : List (K × V)) (w : V) → ((k : K) → test k ≡ true → P (k, w)) → All P es
+      → All P (set_value test es w)
+  All-set_value test [] w p a = a
+  All-set_value test (e ∷ es) w p a = by (test e.0) refl (All-set_value test es w p (All-tail P e es a))
+    where
+      by : (b : Bool) → test e.0 ≡ b → All P (set_value test es w)
+          → All P (cond b ((e.0, w) ∷ es) (e ∷ set_value test es w))
+      by true t h = All-cons P (e.0, w) es (p e.0 t) (All-tail P e es a)
+      by false t h = All-cons P e (set_value test es w) (All-head P e es a) h
+
+  -- goal: `All P (cache_put eq es cap k v)`, as after a cache's insert
+  pub All-cache_put : (eq : K → K → Bool) (es : List (K × V)) (cap : ℕ) (k : K) (v : V) → P (stored_key eq es k, v)
+      → All P es
+      → All P (cache_put eq es cap k v)
+  All-cache_put eq es cap k v p a =
+      let zs = put eq es k v (length es) in
+      All-drop P (length zs - cap) zs (All-put eq es k v (length es) p a)
+
+  -- goal: `All P` of a map's entries after a `retain` whose closure answers a predicate and writes nothing
+  pub All-retains : {F S : Type 0} (T : F → K → V → Bool → V → F → Type 0) (p : K × V → Bool)
+      → ((f : F) (k : K) (v : V) (b : Bool) (w : V) (g : F) → T f k v b w g → (b ≡ p (k, v)) × (w ≡ v))
+      → (f : F) (old new : MapState K V S) (g : F) → RetainsInOrder T f old new g → All P old.entries
+      → All P new.entries
+  All-retains T p says f old new g r a =
+      All-same P new.entries _ (retained_by_predicate T p says f old new g r).entries (All-filter p P old.entries a)
+
+  -- ---- the same through a step, whatever the call answers
+
+  module _ {S : Type 0} (eq : K → K → Bool) (old new : MapState K V S) (k : K) (v : V) where
+    -- goal: `All P` of a map's entries after `insert`, `insert_front` or a cursor's insert
+    pub All-inserts : (b : ℕ) (r : Result (Option V) (K × V)) → Inserts eq old new k v b r
+        → P (stored_key eq old.entries k, v) → All P old.entries
+        → All P new.entries
+    All-inserts b (Ok None) s p a = All-same P new.entries _ s.adds.entries (All-put eq old.entries k v b p a)
+    All-inserts b (Ok (Some w)) s p a = All-same P new.entries _ s.puts.entries (All-put eq old.entries k v b p a)
+    All-inserts b (Err pair) s p a = All-same P new.entries _ s.grows.entries a
+
+    -- goal: `All P` of a map's entries after `replace`
+    pub All-replaces : (r : Result (Option V) (K × V)) → Replaces eq old new k v r → P (k, v)
+        → ((q : K) → eq k q ≡ true → P (q, v)) → All P old.entries
+        → All P new.entries
+    All-replaces (Ok None) s p e a =
+        All-same P new.entries _
+        (s.adds.entries ∙ put_back_absent eq old.entries k v (none_from_lookup (eq k) old.entries s.absent))
+        (All-push P old.entries (k, v) a p)
+    All-replaces (Ok (Some w)) s p e a =
+        All-same P new.entries _ s.writes.entries (All-set_value (eq k) old.entries v e a)
+    All-replaces (Err pair) s p e a = All-same P new.entries _ s.grows.entries a
+
+  module _ {S : Type 0} (old new : MapState K V S) where
+    -- goal: `All P` of a map's entries after `remove` or `remove_entry`
+    pub All-removes : (test : K → Bool) (r : Option (K × V)) → RemovesMatch test old new r → All P old.entries
+        → All P new.entries
+    All-removes test None s a = subst (λ m. All P m.entries) (sym s.step) a
+    All-removes test (Some e) s a = All-same P new.entries _ s.step.entries (All-remove_entry test old.entries a)
+
+    -- goal: `All P` of a map's entries after `pop_front`, and P of the entry that came out
+    pub All-pops_front : (r : Option (K × V)) → PopsFront old new r → All P old.entries → All P new.entries × IfSome r P
+    All-pops_front None s a = (subst (λ m. All P m.entries) (sym s.step) a, tt)
+    All-pops_front (Some e) s a =
+        (All-same P new.entries _ s.step.entries (All-drop P 1 old.entries a), All-at old.entries 0 e (sym s.answer) a)
+
+    -- goal: the same after `pop_back`
+    pub All-pops_back : (r : Option (K × V)) → PopsBack old new r → All P old.entries → All P new.entries × IfSome r P
+    All-pops_back None s a = (subst (λ m. All P m.entries) (sym s.step) a, tt)
+    All-pops_back (Some e) s a = (
+      All-same P new.entries _ s.step.entries (All-take P (length old.entries - 1) old.entries a),
+      All-at old.entries (length old.entries - 1) e (sym s.answer) a,
+    )
+
+    -- goal: `All P` of a map's entries after `to_back` or `to_front` that wrote nothing
+    pub All-moves : (test : K → Bool) (b : ℕ) (r : Option V) → MovesMatch test old new b r → All P old.entries
+        → All P new.entries
+    All-moves test b None s a = subst (λ m. All P m.entries) (sym s.step) a
+    All-moves test b (Some w) s a = All-same P new.entries _ s.step.entries (All-moved_match test old.entries b a)
+
+    -- goal: the same once w was written through what they lent
+    pub All-moves_and_writes : (test : K → Bool) (b : ℕ) (w : V) → MovesMatchAndWrites test old new b w
+        → ((k : K) → test k ≡ true → P (k, w)) → All P old.entries
+        → All P new.entries
+    All-moves_and_writes test b w s p a =
+        let moved = All-same P s.between.entries _ s.moves.entries (All-moved_match test old.entries b a) in
+        subst (λ m. All P m.entries) (sym s.writes) (All-set_value test s.between.entries w p moved)
+
+  module _ {S : Type 0} (old new : CacheState K V S) where
+    -- goal: `All P` of a cache's entries after `insert`
+    pub All-cache_inserts : (eq : K → K → Bool) (k : K) (v : V) (r : Result (Option V) (K × V))
+        → CacheInserts eq old new k v r → P (stored_key eq old.map.entries k, v) → All P old.map.entries
+        → All P new.map.entries
+    All-cache_inserts eq k v (Ok w) s p a =
+        All-same P new.map.entries _ (cache_inserts_entries eq old new k v w s)
+        (All-cache_put eq old.map.entries old.cap k v p a)
+    All-cache_inserts eq k v (Err pair) s p a = All-same P new.map.entries _ s.map.grows.entries a
+
+    -- goal: `All P` of a cache's entries after `get`
+    pub All-cache_gets : (test : K → Bool) (r : Option V) → CacheGetsMatch test old new r → All P old.map.entries
+        → All P new.map.entries
+    All-cache_gets test r s a = All-moves old.map new.map test (length old.map.entries) r s.map a
+
+module _ {T S : Type 0} (P : T → Type 0) (old new : SetState T S) where
+  of_keys : {V : Type 0} (es : List (T × V)) → All P (keys_of es) → All (λ (e : T × V). P e.0) es
+  of_keys {V} [] a = All-nil (λ (e : T × V). P e.0)
+  of_keys {V} (e ∷ es) a =
+      All-cons (λ (x : T × V). P x.0) e es (All-head P e.0 (keys_of es) a)
+      (of_keys es (All-tail P e.0 (keys_of es) a))
+
+  -- goal: `All P` of a set's elements after `insert`
+  pub All-set_inserts : (eq : T → T → Bool) (t : T) (r : Result Bool T) → SetInserts eq old new t r
+      → P (stored_element eq (elements_of old) t) → All P (elements_of old)
+      → All P (elements_of new)
+  All-set_inserts eq t r s p a = by r s
+    where
+      stored : P (stored_key eq old.entries t)
+      stored = subst (λ o. P (unwrap_or o t)) (sym (find-keys (eq t) old.entries)) p
+
+      by : (r : Result Bool T) → SetInserts eq old new t r → All P (elements_of new)
+      by (Ok b) s = All-map P (λ (e : T × Unit {0}). e.0) new.entries
+          (All-inserts (λ e. P e.0) eq old new t tt (length old.entries) (Ok (cond b None (Some tt))) s stored
+          (of_keys old.entries a))
+      by (Err x) s = All-map P (λ (e : T × Unit {0}). e.0) new.entries
+          (All-inserts (λ e. P e.0) eq old new t tt (length old.entries) (Err (x, tt)) s stored
+          (of_keys old.entries a))
+
+  -- goal: `All P` of a set's elements after `remove` or `take`
+  pub All-set_removes : (test : T → Bool) (r : Option (T × Unit {0})) → RemovesMatch test old new r
+      → All P (elements_of old)
+      → All P (elements_of new)
+  All-set_removes test r s a =
+      All-map P (λ (e : T × Unit {0}). e.0) new.entries
+      (All-removes (λ e. P e.0) old new test r s (of_keys old.entries a))
+
+-- no two keys were equal before a put after which no two are
+module _ {K V : Type 0} (eq : K → K → Bool) (laws : IsEquivalence eq) where
+  distinct_before : (es : List (K × V)) (k : K) (v : V) (b : ℕ) → IsEntries eq (put eq es k v b) → IsEntries eq es
+  distinct_before es k v b d =
+      let j = place_without eq es k b in
+      let zs = without eq es k in
+      let left : IsEntries eq zs
+      = subst (IsEntries eq) (take-append-drop j zs)
+      (IsEntries-middle eq laws (take j zs) (stored_key eq es k, v) (drop j zs) d) in
+      let apart : NonePasses (eq k) zs
+      = none_equal eq laws (stored_key eq es k) k zs
+      (laws.symm (stored_key eq es k) k ∙ stored_key-equal eq laws k es)
+      (subst (NonePasses (eq (stored_key eq es k))) (take-append-drop j zs)
+      (none_others eq laws (take j zs) (stored_key eq es k, v) (drop j zs) d)) in
+      by (splits (eq k) es) left apart
+    where
+      by : NonePasses (eq k) es ⊎ Stands (eq k) es → IsEntries eq (without eq es k)
+          → NonePasses (eq k) (without eq es k)
+          → IsEntries eq es
+      by (inl n) left apart = subst (IsEntries eq) (remove_entry-none (eq k) es n) left
+      by (inr s) left apart =
+          let out : without eq es k ≡ s.0 ++ s.2
+          = ap (remove_entry (eq k)) s.3.is ∙ remove_entry-here (eq k) s.1 s.2 s.3.passes s.0 s.3.before in
+          subst (IsEntries eq) (sym s.3.is)
+          (IsEntries-insert eq laws s.0 s.1 s.2
+          (none_equal eq laws k s.1.0 (s.0 ++ s.2) s.3.passes (subst (NonePasses (eq k)) out apart))
+          (subst (IsEntries eq) out left))
+
+-- ---- each step as an equation of entries
+
+module _ {K V S : Type 0} (eq : K → K → Bool) (old new : MapState K V S) (k : K) (v : V) where
+  -- goal: the entries after an insert that is not refused, and its answer
+  pub inserts_entries : (b : ℕ) (w : Option V) → Inserts eq old new k v b (Ok w)
+      → (new.entries ≡ put eq old.entries k v b) × (w ≡ lookup (eq k) old.entries)
+  inserts_entries b None s = (s.adds.entries, sym s.absent)
+  inserts_entries b (Some w) s = (s.puts.entries, sym s.old_value)
+
+  -- what a call ends as that puts an absent key last: the pair is the last entry, or is handed back
+  abbrev pub PutLast : Result (Option V) (K × V) → Type 0
+  PutLast r =
+      MatchResult r (λ w. (w ≡ None) × (new.entries ≡ old.entries ++ (k, v) ∷ []))
+      (λ pair. (pair ≡ (k, v)) × (new.entries ≡ old.entries))
+
+  -- goal: the entries after an insert of a key that was absent, and its answer
+  pub inserts_absent : lookup (eq k) old.entries ≡ None → (r : Result (Option V) (K × V))
+      → Inserts eq old new k v (length old.entries) r
+      → PutLast r
+  inserts_absent none (Ok None) s =
+      (refl, s.adds.entries ∙ put_back_absent eq old.entries k v (none_from_lookup (eq k) old.entries none))
+  inserts_absent none (Ok (Some w)) s = absurd (none-some w (sym none ∙ s.old_value))
+  inserts_absent none (Err pair) s = (s.handed_back, s.grows.entries)
+
+  -- goal: the same of a caller that lets the answer go
+  pub put_or_not : (r : Result (Option V) (K × V)) → PutLast r
+      → (new.entries ≡ old.entries ++ (k, v) ∷ []) ⊎ (new.entries ≡ old.entries)
+  put_or_not (Ok w) s = inl s.1
+  put_or_not (Err pair) s = inr s.1
+
+  -- goal: the entries after an insert of a key that was there, which moves last, and its answer
+  pub inserts_there : (w : V) → lookup (eq k) old.entries ≡ Some w → (r : Result (Option V) (K × V))
+      → Inserts eq old new k v (length old.entries) r
+      → (r ≡ Ok (Some w)) × (new.entries ≡ without eq old.entries k ++ (stored_key eq old.entries k, v) ∷ [])
+  inserts_there w there (Ok o) s =
+      let e = inserts_entries (length old.entries) o s in (ap Ok (e.1 ∙ there), e.0 ∙ put_back eq old.entries k v)
+  inserts_there w there (Err pair) s = absurd (none-some w (sym s.may_refuse.absent ∙ there))
+
+  -- goal: the entries after a replace of a key that was absent, and its answer
+  pub replaces_absent : lookup (eq k) old.entries ≡ None → (r : Result (Option V) (K × V)) → Replaces eq old new k v r
+      → PutLast r
+  replaces_absent none (Ok None) s =
+      (refl, s.adds.entries ∙ put_back_absent eq old.entries k v (none_from_lookup (eq k) old.entries none))
+  replaces_absent none (Ok (Some w)) s = absurd (none-some w (sym none ∙ s.old_value))
+  replaces_absent none (Err pair) s = (s.handed_back, s.grows.entries)
+
+  -- goal: the entries after a replace of a key that was there, whose value alone is another one, and its answer
+  pub replaces_there : (w : V) → lookup (eq k) old.entries ≡ Some w → (r : Result (Option V) (K × V))
+      → Replaces eq old new k v r
+      → (r ≡ Ok (Some w)) × (new.entries ≡ set_value (eq k) old.entries v)
+  replaces_there w there (Ok None) s = absurd (none-some w (sym s.absent ∙ there))
+  replaces_there w there (Ok (Some x)) s = (ap Ok (sym s.old_value ∙ there), s.writes.entries)
+  replaces_there w there (Err pair) s = absurd (none-some w (sym s.may_refuse.absent ∙ there))
+
+  -- goal: the entries after a replace that is not refused, as a put where the key stands
+  pub replaces_entries : (w : Option V) → Replaces eq old new k v (Ok w)
+      → new.entries ≡ put eq old.entries k v (place_or_end eq old.entries k)
+  replaces_entries None s =
+      s.adds.entries
+      ∙ ap (λ o. put eq old.entries k v (unwrap_or o (length old.entries)))
+      (sym (place_of-none (eq k) old.entries (none_from_lookup (eq k) old.entries s.absent)))
+  replaces_entries (Some w) s =
+      let at = stands_from_lookup (eq k) old.entries w s.old_value in
+      let place : place_of (eq k) old.entries ≡ Some (length at.0)
+      = ap (place_of (eq k)) at.3.is ∙ place_of-here (eq k) at.1 at.2 at.3.passes at.0 at.3.before in
+      s.writes.entries
+      ∙ sym (ap (λ o. put eq old.entries k v (unwrap_or o (length old.entries))) place
+      ∙ put_at_its_place eq old.entries k v (length at.0) place)
+
+  -- no two keys are equal afterwards, as each call ensures
+  module _ (laws : IsEquivalence eq) (d : IsEntries eq new.entries) where
+    -- goal: the value found at the key after an insert, or a replace, that is not refused
+    pub lookup-inserts : (b : ℕ) (r : Result (Option V) (K × V)) → Inserts eq old new k v b r
+        → OnOk r (lookup (eq k) new.entries ≡ Some v)
+    lookup-inserts b (Ok w) s =
+        let e = (inserts_entries b w s).0 in
+        ap (lookup (eq k)) e
+        ∙ lookup-put_same eq laws k old.entries k v b
+        (distinct_before eq laws old.entries k v b (subst (IsEntries eq) e d)) (laws.refl k)
+    lookup-inserts b (Err pair) s = tt
+
+    pub lookup-replaces : (r : Result (Option V) (K × V)) → Replaces eq old new k v r
+        → OnOk r (lookup (eq k) new.entries ≡ Some v)
+    lookup-replaces (Ok w) s =
+        let e = replaces_entries w s in
+        let b = place_or_end eq old.entries k in
+        ap (lookup (eq k)) e
+        ∙ lookup-put_same eq laws k old.entries k v b
+        (distinct_before eq laws old.entries k v b (subst (IsEntries eq) e d)) (laws.refl k)
+    lookup-replaces (Err pair) s = tt
+
+    -- goal: what is found at another key after an insert, or a replace, whatever the answer
+    pub lookup-inserts_other : (b : ℕ) (q : K) → eq k q ≡ false → (r : Result (Option V) (K × V))
+        → Inserts eq old new k v b r
+        → lookup (eq q) new.entries ≡ lookup (eq q) old.entries
+    lookup-inserts_other b q t (Ok w) s =
+        let e = (inserts_entries b w s).0 in
+        ap (lookup (eq q)) e
+        ∙ lookup-put eq laws q old.entries k v b
+        (distinct_before eq laws old.entries k v b (subst (IsEntries eq) e d))
+        ∙ rw t refl
+    lookup-inserts_other b q t (Err pair) s = ap (lookup (eq q)) s.grows.entries
+
+    pub lookup-replaces_other : (q : K) → eq k q ≡ false → (r : Result (Option V) (K × V)) → Replaces eq old new k v r
+        → lookup (eq q) new.entries ≡ lookup (eq q) old.entries
+    lookup-replaces_other q t (Ok w) s =
+        let e = replaces_entries w s in
+        let b = place_or_end eq old.entries k in
+        ap (lookup (eq q)) e
+        ∙ lookup-put eq laws q old.entries k v b
+        (distinct_before eq laws old.entries k v b (subst (IsEntries eq) e d))
+        ∙ rw t refl
+    lookup-replaces_other q t (Err pair) s = ap (lookup (eq q)) s.grows.entries
+
+module _ {K V S : Type 0} (old new : MapState K V S) where
+  -- goal: the entries after a removal, also where no key was found
+  pub removes_entries : (test : K → Bool) (r : Option (K × V)) → RemovesMatch test old new r
+      → new.entries ≡ remove_entry test old.entries
+  removes_entries test None s =
+      let none : lookup test old.entries ≡ None
+      = lookup_is test old.entries ∙ ap (option_map (λ e. e.1)) (sym s.answer) in
+      ap (λ m. m.entries) s.step ∙ sym (remove_entry-none test old.entries (none_from_lookup test old.entries none))
+  removes_entries test (Some e) s = s.step.entries
+
+  -- goal: of a pop from the front, or from the back, that answers none: there was no entry, and nothing changed
+  pub pops_front_none : PopsFront old new None → (old.entries ≡ []) × (new ≡ old)
+  pops_front_none s = (by old.entries s.answer, s.step)
+    where
+      by : (es : List (K × V)) → None ≡ first_of es → es ≡ []
+      by [] h = refl
+      by (e ∷ es) h = absurd (none-some e h)
+
+  pub pops_back_none : PopsBack old new None → (old.entries ≡ []) × (new ≡ old)
+  pops_back_none s = (by old.entries s.answer, s.step)
+    where
+      by : (es : List (K × V)) → None ≡ last_of es → es ≡ []
+      by [] h = refl
+      by (e ∷ es) h =
+          absurd (none-some _ (h ∙ slice_get-get_or (e ∷ es) (length (e ∷ es) - 1) e (omega arith)))
+
+  -- goal: what a pop from the front leaves, by its answer
+  pub pops_front_entries : (r : Option (K × V)) → PopsFront old new r
+      → MatchOption r ((old.entries ≡ []) × (new.entries ≡ [])) (λ e. old.entries ≡ e ∷ new.entries)
+  pops_front_entries None s = let p = pops_front_none s in (p.0, ap (λ m. m.entries) p.1 ∙ p.0)
+  pops_front_entries (Some e) s = (pops_front old new e s).0
+
+  -- goal: what a pop from the back leaves, by its answer
+  pub pops_back_entries : (r : Option (K × V)) → PopsBack old new r
+      → MatchOption r ((old.entries ≡ []) × (new.entries ≡ [])) (λ e. old.entries ≡ new.entries ++ e ∷ [])
+  pops_back_entries None s = let p = pops_back_none s in (p.0, ap (λ m. m.entries) p.1 ∙ p.0)
+  pops_back_entries (Some e) s = (pops_back old new e s).0
+
+-- ---- the same of a set's elements
+
+module _ {T S : Type 0} (old new : SetState T S) where
+  -- goal: the elements after an insert of a new one, and its answer
+  pub set_inserts_new : (eq : T → T → Bool) (t : T) → list_any (eq t) (elements_of old) ≡ false → (r : Result Bool T)
+      → SetInserts eq old new t r
+      → MatchResult r (λ b. (b ≡ true) × (elements_of new ≡ elements_of old ++ t ∷ []))
+      (λ x. (x ≡ t) × (elements_of new ≡ elements_of old))
+  set_inserts_new eq t none (Ok b) s =
+      let e = set_inserts eq old new t b s in
+      let new_one : b ≡ true = e.1 ∙ ap not none in
+      let adds = inserts_absent eq old new t tt (absent) (Ok (cond b None (Some tt))) s in
+      (new_one, ap keys_of adds.1 ∙ map-append (λ e. e.0) old.entries ((t, tt) ∷ []))
+    where
+      absent : lookup (eq t) old.entries ≡ None
+      absent = by (lookup (eq t) old.entries) (is_some-lookup (eq t) old.entries ∙ none)
+        where
+          by : (o : Option (Unit {0})) → is_some o ≡ false → o ≡ None
+          by None h = refl
+          by (Some x) h = absurd (true≢false h)
+  set_inserts_new eq t none (Err x) s = (ap (λ p. p.0) s.handed_back, ap keys_of s.grows.entries)
+
+  -- goal: the elements after an insert of one that is there, which moves last
+  pub set_inserts_there : (eq : T → T → Bool) (t : T) → list_any (eq t) (elements_of old) ≡ true → (b : Bool)
+      → SetInserts eq old new t (Ok b)
+      → (b ≡ false)
+      × (elements_of new ≡ remove_key (eq t) (elements_of old) ++ stored_element eq (elements_of old) t ∷ [])
+  set_inserts_there eq t there b s =
+      let e = set_inserts eq old new t b s in (e.1 ∙ ap not there, e.0 ∙ put_element_back eq (elements_of old) t)
+
+  -- goal: what a set's pop from the front leaves, by its answer
+  pub set_pops_front : (r : Option T) → PopsFront old new (as_entry r)
+      → MatchOption r ((elements_of old ≡ []) × (elements_of new ≡ [])) (λ t. elements_of old ≡ t ∷ elements_of new)
+  set_pops_front None s = let p = pops_front_entries old new None s in (ap keys_of p.0, ap keys_of p.1)
+  set_pops_front (Some t) s = ap keys_of (pops_front_entries old new (Some (t, tt)) s)
+
+  -- goal: the elements after a removal, also where none was found
+  pub set_removes : (test : T → Bool) (r : Option (T × Unit {0})) → RemovesMatch test old new r
+      → elements_of new ≡ remove_key test (elements_of old)
+  set_removes test r s = ap keys_of (removes_entries old new test r s) ∙ keys-remove_entry test old.entries
+
+-- ---- the same of a cache's entries
+
+module _ {K V S : Type 0} (eq : K → K → Bool) (old new : CacheState K V S) (k : K) (v : V) where
+  -- goal: the entries after a cache's insert, of a caller that lets the answer go
+  pub cache_put_or_not : (r : Result (Option V) (K × V)) → CacheInserts eq old new k v r
+      → (new.map.entries ≡ cache_put eq old.map.entries old.cap k v) ⊎ (new.map.entries ≡ old.map.entries)
+  cache_put_or_not (Ok w) s = inl (cache_inserts_entries eq old new k v w s)
+  cache_put_or_not (Err pair) s = inr s.map.grows.entries
+
+-- ---- the key object that is stored
+
+module _ {K V : Type 0} (eq : K → K → Bool) (es : List (K × V)) (k : K) where
+  -- goal: the stored key of an absent key is the one given
+  pub stored_key-absent : lookup (eq k) es ≡ None → stored_key eq es k ≡ k
+  stored_key-absent none = ap (λ o. unwrap_or o k) (lookup_key-none (eq k) es (none_from_lookup (eq k) es none))
+
+  -- goal: what is seen of the stored key is what is seen of the one given, where equal keys look alike: the very key
+  -- for numbers (f is `λ x. x`), the bytes for texts (f is `string_bytes`)
+  pub stored_key-seen : {B : Type 0} → IsEquivalence eq → (f : K → B) → ((x y : K) → eq x y ≡ true → f x ≡ f y)
+      → f (stored_key eq es k) ≡ f k
+  stored_key-seen laws f alike = sym (alike k (stored_key eq es k) (stored_key-equal eq laws k es))

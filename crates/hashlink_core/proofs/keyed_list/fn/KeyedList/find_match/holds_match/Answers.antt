@@ -1,0 +1,13 @@
+use Rattle.std.proofs.Common.{refl}
+use Rattle.std.specs.Fn.{FnReturnsAt}
+use Rattle.std.specs.Map.{lookup}
+use Rattle.hashlink_nodes.specs.Node.{same_node}
+use Rattle.hashlink_core.proofs.Finding.{answered-at}
+use Rattle.hashlink_core.proofs.keyed_list.fn.KeyedList.find_match.holds_match.Goals as goal
+
+pub returns : goal.returns
+returns g c =
+    answered-at (λ x. FnReturnsAt g.F.Fn c.captures.is_match x c.is_match.result)
+    (lookup (same_node c.args.node) c.captures.nodes.now.entries) c.entry.result.0.now c.entry.result.1.now
+    c.entry.ensures
+    (record { shown = c.entry.result.0; shows = refl; says = record { met = c.is_match.ensures } })

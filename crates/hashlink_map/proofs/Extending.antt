@@ -1,0 +1,96 @@
+-- Std's `extend` and `from_iter`, out of what the calls say of their items.
+use Rattle.std.proofs.Common.{◌≡◌, ℕ, List, [], ◌∷◌, ◌++◌, map, length, drop, get_or, Option, Result, Ok, Err}
+use Rattle.std.proofs.Common.{refl, ap, ap₂, sym, subst, arith, true≢false}
+use Rattle.std.specs.Iterator.{Yields, Drains, DrainsIf}
+use Rattle.std.specs.Prelude.{IsErr, IfOk, MatchResult, ⊤}
+use Rattle.hashlink_model.specs.Many.{AcceptsAll, StopsAt}
+use Rattle.hashlink_model.specs.MapState.{MapState, Grows}
+use Rattle.hashlink_map.specs.Extending.{TakesItems}
+use Rattle.hashlink_map.specs.Reading.{ReadsAll, ReadsSome}
+
+module _ {It Raw : Type 0} (nexts : It → Option Raw → It → Type 0) where
+  module _ {Item : Type 0} (fs : List Raw → List Item) where
+    -- what came up to the last item came out too, and is what the items before that one were made of
+    abbrev pub CutsLast : Type 0
+    CutsLast =
+        (s t : It) (raw : List Raw) (before : List Item) (item : Item) → fs raw ≡ before ++ item ∷ []
+        → Yields nexts s raw t
+        → (xs : List Raw) × (fs xs ≡ before) × (u : It) × Yields nexts s xs u
+
+    module _ {State Given A : Type 0} (becomes : Given → It → Type 0)
+        (step : State → State → Item → Result A Item → Type 0) (refuses : State → State → Type 0) (given : Given)
+        (old new : State) where
+      pub took_all : ReadsAll becomes nexts given (λ raw. AcceptsAll step old (fs raw) new) → refuses new new
+          → (it : It) × (raw : List Raw) × becomes given it × TakesItems step refuses old (fs raw) new
+          × Drains nexts it raw
+      took_all read same = (read.0, read.1, read.3, (new, read.5, same), (read.2, read.4))
+
+      pub took_some : {B E : Type 0} (r : Result B E) (taken : ℕ) (back : Item) → IsErr r → CutsLast
+          → ((a b : State) (x y : Item) → step a b x (Err y) → refuses a b)
+          → ReadsSome becomes nexts given (λ raw. StopsAt step old (fs raw) new taken back [])
+          → (it : It) × (raw : List Raw) × becomes given it × TakesItems step refuses old (fs raw) new
+          × MatchResult r (λ _. Drains nexts it raw) (λ _. (t : It) × Yields nexts it raw t)
+      took_some (Ok x) taken back failed cuts stays read = absurd (true≢false (sym failed))
+      took_some (Err e) taken back failed cuts stays read =
+          let stop = read.5 in
+          let came = cuts read.0 read.2 read.1 stop.before stop.item stop.is read.4 in (
+            read.0,
+            came.0,
+            read.3,
+            subst (λ items. TakesItems step refuses old items new) (sym came.1)
+                (stop.between, stop.accepted, stays stop.between new stop.item back stop.refused),
+            (came.2, came.3),
+          )
+
+  -- what was made of the items up to `None`, by its answer
+  pub made_by_answer : {Given S M E : Type 0} (becomes : Given → It → Type 0) (H : S → Type 0)
+      (P : List Raw → S → M → Type 0) (given : Given) (r : Result M E)
+      → IfOk r (λ m. (s : S) × H s × ReadsAll becomes nexts given (λ raw. P raw s m))
+      → IfOk r (λ m. (it : It) × (raw : List Raw) × becomes given it × DrainsIf nexts ⊤ it raw
+      × ((s : S) × H s × P raw s m))
+  made_by_answer becomes H P given (Ok m) made =
+      let read = made.2 in
+      let none = read.4 in (
+        read.0,
+        read.1,
+        read.3,
+        (none.0, none.1, λ _. (read.2, none.2)),
+        (made.0, made.1, read.5),
+      )
+  made_by_answer becomes H P given (Err e) made = tt
+
+  -- of the items themselves
+  pub cuts_item : CutsLast (λ raw. raw)
+  cuts_item s t [] [] item e y = let long = ap length e in absurd (omega arith)
+  cuts_item s t (x ∷ raw) [] item e y = ([], refl, s, refl)
+  cuts_item s t [] (b ∷ before) item e y = let long = ap length e in absurd (omega arith)
+  cuts_item s t (x ∷ raw) (b ∷ before) item e y =
+      let rest = cuts_item y.0 t raw before item (ap (drop 1) e) y.2 in (
+        x ∷ rest.0,
+        ap₂ (λ z zs. z ∷ zs) (ap (λ zs. get_or zs 0 b) e) rest.1,
+        rest.2,
+        (y.0, y.1, rest.3),
+      )
+
+  -- of what is made of each
+  pub cuts_copy : {Item : Type 0} (f : Raw → Item) → CutsLast (map f)
+  cuts_copy f s t [] [] item e y = let long = ap length e in absurd (omega arith)
+  cuts_copy f s t (x ∷ raw) [] item e y = ([], refl, s, refl)
+  cuts_copy f s t [] (b ∷ before) item e y = let long = ap length e in absurd (omega arith)
+  cuts_copy f s t (x ∷ raw) (b ∷ before) item e y =
+      let rest = cuts_copy f y.0 t raw before item (ap (drop 1) e) y.2 in (
+        x ∷ rest.0,
+        ap₂ (λ z zs. z ∷ zs) (ap (λ zs. get_or zs 0 b) e) rest.1,
+        rest.2,
+        (y.0, y.1, rest.3),
+      )
+
+-- a map that stays as it is has not shrunk
+pub grows-none : {K V S : Type 0} (m : MapState K V S) → Grows 1 m m
+grows-none m = record {
+  entries = refl;
+  spare = refl;
+  room = record { grows = omega arith; same = λ _. refl; bound = omega arith };
+  link_writes = refl;
+  hasher = refl;
+}

@@ -1,0 +1,13 @@
+use Rattle.std.specs.Prelude.{◌≡◌}
+use Rattle.hashlink.specs.Keyed.{state_of}
+use Rattle.hashlink.proofs.Taking.{Kept}
+use Rattle.hashlink_uses.proofs.maps.drains.take_ends.Given as goal
+
+-- the same map, of which only entries that were there at the start are left
+abbrev pub invariant-loop : goal.invariant-loop
+invariant-loop g l =
+    (l.drain.map.ghost_name ≡ l.initial.drain.map.ghost_name) × Kept (state_of l.fn.map) (state_of l.drain.map.now)
+
+abbrev pub invariant-loop-2 : goal.invariant-loop-2
+invariant-loop-2 g l =
+    (l.drain.map.ghost_name ≡ l.initial.drain.map.ghost_name) × Kept (state_of l.fn.map) (state_of l.drain.map.now)

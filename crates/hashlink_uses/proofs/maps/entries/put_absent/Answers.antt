@@ -1,0 +1,19 @@
+use Rattle.std.proofs.Common.{◌≡◌, length, subst, rules}
+use Rattle.hashlink.specs.MapState.{AddsEntry}
+use Rattle.hashlink.specs.Keyed.{state_of, entries_of}
+use Rattle.hashlink.specs.RawEntry.{raw_place}
+use Rattle.hashlink.proofs.AtNode.{adds-rewritten-at}
+use Rattle.hashlink_uses.proofs.maps.entries.put_absent.Goals as goal
+
+pub returns-in_ok-map-in-Vacant-clause-put : goal.returns-in_ok-map-in-Vacant-clause-put
+returns-in_ok-map-in-Vacant-clause-put g c ok =
+    let old = c.args.map.now in
+    let o = c.in_ok-map-in-Vacant.field-0 in
+    let e = c.in_ok-map-in-Vacant.ensures in
+    let same : c.in-Vacant.entry.map.now ≡ old = search rules in
+    let adds = subst
+    (λ m. AddsEntry g.K.PartialEq.eq (state_of m) (state_of o.map.now) c.args.key c.args.value (length (entries_of m)))
+    same e.adds in
+    let last = subst (λ m. raw_place o ≡ length (entries_of m)) same e.last in
+    adds-rewritten-at g.met.K.Eq.laws (state_of old) (state_of o.map.now) c.args.key c.args.value (raw_place o) _
+    c.args.written adds last (search rules)

@@ -1,0 +1,14 @@
+use Rattle.std.proofs.Common.{◌∙◌, rules}
+use Rattle.hashlink.specs.Keyed.{state_of}
+use Rattle.hashlink.specs.MapEntry.{occupied_place}
+use Rattle.hashlink.proofs.AtKey.{written-key, absent-written}
+use Rattle.hashlink_uses.proofs.maps.entries.set_to_seven.Goals as goal
+
+pub returns-in-Occupied : goal.returns-in-Occupied
+returns-in-Occupied g c =
+    written-key g.K.PartialEq.eq (state_of c.args.map.now) _ c.args.key (occupied_place c.in-Occupied.entry)
+    (search rules) 7 (search rules)
+
+pub returns-in-Vacant : goal.returns-in-Vacant
+returns-in-Vacant g c =
+    (search rules) ∙ absent-written g.K.PartialEq.eq (state_of c.args.map.now) c.args.key (search rules) 7

@@ -1,0 +1,16 @@
+use Rattle.std.proofs.Common.{◌∙◌, ap, ap₂, subst, rules}
+use Rattle.std.specs.Prelude.{OnSome}
+use Rattle.hashlink.specs.MapState.{with_value}
+use Rattle.hashlink.specs.Keyed.{state_of}
+use Rattle.hashlink.specs.MapCursor.{CursorWritten, cursor_state}
+use Rattle.hashlink_uses.proofs.maps.entries.write_first.Goals as goal
+
+pub returns-in-Some-clause-there : goal.returns-in-Some-clause-there
+returns-in-Some-clause-there g c ok =
+    let made = c.cursor_front_mut-cursor in
+    let f = c.current_value.follows in
+    let w = c.args.value in
+    let at = (cursor_state made.result).place in
+    let written = subst (λ o. OnSome o (CursorWritten made.result (f.lender w) at w)) c.in-Some.is (f.holds w) in
+    (search rules) ∙ ap (λ s. s.map) written.1
+    ∙ ap₂ (λ m i. with_value (state_of m) i w) made.ensures.unchanged made.ensures.first

@@ -1,0 +1,16 @@
+use Rattle.std.proofs.Common.{◌≡◌, ◌+◌, ◌-◌, rules, ap, arith, length, ◌∙◌}
+use Rattle.hashlink.specs.MapState.{with_value}
+use Rattle.hashlink.specs.Keyed.{state_of, entries_of}
+use Rattle.hashlink.specs.WritingWalk.{last_place}
+use Rattle.hashlink.proofs.Walking.{on-some, walk-ends}
+use Rattle.hashlink_uses.proofs.maps.writing_walks.write_last.Goals as goal
+
+pub returns-clause-written : goal.returns-clause-written
+returns-clause-written g c _ =
+    let v = c.args.value in
+    let told = on-some c.in-Some.is (c.next_value_back.follows.holds v) in
+    let n = length (entries_of c.args.map.now) in
+    let last : 0 + n - 1 ≡ n - 1 = omega arith in
+    walk-ends (c.next_value_back.follows.lender v).map.now (search rules)
+    (ap (λ s. s.map) told.1 ∙ ap (λ s. with_value s.map (last_place s) v) c.iter_mut-walk.ensures.rest
+    ∙ ap (λ j. with_value (state_of c.args.map.now) j v) last)

@@ -1,0 +1,2 @@
+-- What the contracts of the uses cite, beside the definitions that `hashlink` hands on.
+pub mod Texts

@@ -1,0 +1,137 @@
+//! Calls of a cache, and what is known of it once what was lent has ended.
+ghost use Rattle.std.specs.Prelude.{◌≡◌, ℕ, ◌+◌, ◌<◌, ◌^◌, IsTrue, IsFalse, IsOk, OnOk, IfErr, Ok, length, unwrap_or};
+ghost use Rattle.std.specs.Prelude.{option_copied};
+ghost use Rattle.std.specs.Map.{lookup, lookup_entry};
+ghost use Rattle.hashlink.specs.Cache.{CacheGetsAndWrites, EvictsFront, OnMap, IsWithin, front_evicted};
+ghost use Rattle.hashlink.specs.Entries.{put};
+ghost use Rattle.hashlink.specs.MapState.{MapState, Inserts, RefusesEntry};
+ghost use Rattle.hashlink.specs.Steps.{Drains, RemovesMatch, with_value_of};
+ghost use Rattle.hashlink.specs.Cached.{entries_in, state_in};
+ghost use Rattle.hashlink_uses.specs.Texts.{is_text};
+
+use crate::maps::entries::count_word as count_word_in;
+use hashlink::LruCache;
+use std::hash::{BuildHasher, Hash};
+
+/// Writes the value of a key by `get_mut`, which is a use, and answers whether it is there.
+pub fn use_and_write<K: Eq + Hash, V: Drop, S: BuildHasher>(
+    cache: &mut LruCache<K, V, S>,
+    key: &K,
+    value: V,
+) -> bool
+    ensures there { IsTrue result → CacheGetsAndWrites K.eq (state_in cache.old) (state_in cache.new) key.now value }
+    ensures absent { IsFalse result → state_in cache.new ≡ state_in cache.old }
+{
+    match cache.get_mut(key) {
+        Some(stored) => {
+            *stored = value;
+            true
+        }
+        None => false,
+    }
+}
+
+/// Writes the value of a key by `peek_mut`, where it stands, and answers whether it is there.
+pub fn write_in_place<K: Eq + Hash, V: Drop, S: BuildHasher>(
+    cache: &mut LruCache<K, V, S>,
+    key: &K,
+    value: V,
+) -> bool
+    ensures there { IsTrue result
+        → state_in cache.new
+        ≡ record (state_in cache.old) { map = with_value_of K.eq (state_in cache.old).map key.now value } }
+    ensures absent { IsFalse result → state_in cache.new ≡ state_in cache.old }
+{
+    match cache.peek_mut(key) {
+        Some(stored) => {
+            *stored = value;
+            true
+        }
+        None => false,
+    }
+}
+
+/// A prepared statement.
+#[derive(Drop)]
+pub struct Statement(pub u64);
+
+/// The statement of a text, by a cache of texts: the text is looked up as it is, and none is made.
+pub fn find_statement<'c>(
+    cache: &'c mut LruCache<String, Statement>,
+    sql: &str,
+) -> Option<&'c Statement>
+    ensures { option_copied result ≡ lookup (is_text sql.now) (entries_in cache.old) }
+{
+    cache.get(sql)
+}
+
+/// Takes the statement of a text out of such a cache.
+pub fn drop_statement(cache: &mut LruCache<String, Statement>, sql: &str) -> Option<Statement>
+    ensures value { result ≡ lookup (is_text sql.now) (entries_in cache.old) }
+    ensures removes { OnMap (λ a b. RemovesMatch (is_text sql.now) a b
+        (lookup_entry (is_text sql.now) a.entries)) (state_in cache.old) (state_in cache.new) }
+{
+    cache.remove(sql)
+}
+
+/// Empties a cache, and keeps its nodes.
+pub fn empty_out<K: Eq + Hash + Drop, V: Drop, S: BuildHasher>(cache: &mut LruCache<K, V, S>)
+    ensures { OnMap Drains (state_in cache.old) (state_in cache.new) }
+{
+    let _rest = cache.drain();
+}
+
+/// Puts a value in by `entry` where the key is absent. Where there were more entries than the capacity, it is not
+/// refused.
+pub fn put_by_entry<K: Eq + Hash + Drop, V: Drop, S: BuildHasher>(
+    cache: &mut LruCache<K, V, S>,
+    key: K,
+    value: V,
+) -> Result<(), (K, V)>
+    ensures over { (state_in cache.old).cap < length (entries_in cache.old) → IsOk result }
+{
+    cache.entry(key).or_insert(value)?;
+    Ok(())
+}
+
+/// Counts a word by an entry of the map, once there is room: where there are too many entries the first is dropped,
+/// and then the map is as an insert of one more than the count so far leaves it.
+pub fn count_word<K: Eq + Hash + Drop, S: BuildHasher>(
+    cache: &mut LruCache<K, u64, S>,
+    word: K,
+) -> Result<(), (K, u64)>
+    requires { unwrap_or (lookup (K.eq word) (front_evicted (entries_in cache.old) (state_in cache.old).cap)) 0 + 1
+        < 2 ^ 64 }
+    ensures counts { OnOk result ((between : MapState K ℕ S)
+        × EvictsFront (state_in cache.old).map between (state_in cache.old).cap
+        × Inserts K.eq between (state_in cache.new).map word (unwrap_or (lookup (K.eq word) between.entries) 0 + 1)
+        (length between.entries) (Ok (lookup (K.eq word) between.entries))) }
+    ensures refused { IfErr result (λ pair. (between : MapState K ℕ S)
+        × EvictsFront (state_in cache.old).map between (state_in cache.old).cap
+        × RefusesEntry K.eq between (state_in cache.new).map word 0 pair) }
+    ensures over { (state_in cache.old).cap < length (entries_in cache.old) → IsOk result }
+    ensures capacity { (state_in cache.new).cap ≡ (state_in cache.old).cap }
+{
+    cache.make_room();
+    count_word_in(cache.map_mut(), word)
+}
+
+/// Inserts two pairs. Where the first insert drops an entry, the second is not refused; a cache of so many entries
+/// beyond its capacity has no more afterwards, and none where the second is in, however many there were.
+pub fn insert_both<K: Eq + Hash + Drop, V: Drop, S: BuildHasher>(
+    cache: &mut LruCache<K, V, S>,
+    first: (K, V),
+    second: (K, V),
+) -> (Result<Option<V>, (K, V)>, Result<Option<V>, (K, V)>)
+    ensures not_refused { IsOk result.0
+        → (state_in cache.old).cap
+        < length (put K.eq (entries_in cache.old) first.0 first.1 (length (entries_in cache.old)))
+        → IsOk result.1 }
+    ensures within { (n : ℕ) → IsWithin (state_in cache.old) n → IsWithin (state_in cache.new) n }
+    ensures fits { IsOk result.1 → IsWithin (state_in cache.new) 0 }
+{
+    let (first_key, first_value) = first;
+    let (second_key, second_value) = second;
+    let answer = cache.insert(first_key, first_value);
+    (answer, cache.insert(second_key, second_value))
+}

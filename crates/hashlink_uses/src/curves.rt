@@ -1,0 +1,52 @@
+//! Curves of misses, and what is known of the misses that they tell.
+ghost use Rattle.std.specs.Prelude.{◌≡◌, ◌*◌, ◌≤◌, ◌<◌, ◌^◌, map, IfOk};
+ghost use Rattle.hashlink.specs.History.{cache_misses};
+
+use crate::capacities::misses_among;
+use hashlink::miss_curve::{MissCurve, miss_curve};
+use hashlink::run::run_uses;
+use std::alloc::{AllocError, Global};
+use std::hash::Hash;
+
+/// The misses at a capacity and at twice that: doubling it never adds one.
+pub fn doubled<K: Eq + Hash>(curve: &MissCurve<K>, capacity: usize) -> (u64, u64)
+    requires { 2 * capacity < 2 ^ 64 }
+    ensures { result.1 ≤ result.0 }
+{
+    (curve.misses(capacity), curve.misses(2 * capacity))
+}
+
+/// How often a cache of this capacity misses that is given these keys.
+pub fn misses_of<K: Eq + Hash + Copy>(
+    alloc: Global,
+    keys: &[K],
+    capacity: usize,
+) -> Result<u64, AllocError>
+    ensures { IfOk result (λ n. n ≡ cache_misses K.eq capacity keys.now) }
+{
+    Ok(miss_curve(alloc, keys)?.misses(capacity))
+}
+
+/// How often a cache of this capacity misses that is given the uses: counted in its replies, and told by the curve of
+/// their keys. The two are one number.
+pub fn misses_by_replies_and_by_curve<K: Eq + Hash + Copy, V: Copy>(
+    alloc: Global,
+    pairs: &[(K, V)],
+    capacity: usize,
+) -> Result<(usize, u64), AllocError>
+    ensures { IfOk result (λ misses. misses.0 ≡ misses.1) }
+{
+    let uses = run_uses(alloc, capacity, pairs)?;
+    let keys = keys_of(alloc, pairs)?;
+    Ok((
+        misses_among(&uses.replies),
+        misses_of(alloc, &keys, capacity)?,
+    ))
+}
+
+// The keys of the pairs.
+fn keys_of<K: Copy, V: Copy>(alloc: Global, pairs: &[(K, V)]) -> Result<Vec<K>, AllocError>
+    ensures { IfOk result (λ keys. keys.items ≡ map (λ p. p.0) pairs.now) }
+{
+    pairs.iter().map(|pair| pair.0).collect(alloc)
+}

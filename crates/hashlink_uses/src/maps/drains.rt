@@ -1,0 +1,31 @@
+//! Drains, and what is known of a map after one.
+ghost use Rattle.hashlink.specs.Steps.{Drains};
+ghost use Rattle.hashlink.specs.Keyed.{state_of};
+
+use hashlink::LinkedHashMap;
+use std::hash::{BuildHasher, Hash};
+
+/// Empties a map, and keeps its nodes.
+pub fn empty_out<K: Eq + Hash + Drop, V: Drop, S: BuildHasher>(map: &mut LinkedHashMap<K, V, S>)
+    ensures { Drains (state_of map.old) (state_of map.new) }
+{
+    let _rest = map.drain();
+}
+
+/// Takes so many entries from the front, so many from the back, and drops the others: the map ends as a drain of all
+/// leaves it.
+pub fn take_ends<K: Eq + Hash + Drop, V: Drop, S: BuildHasher>(
+    map: &mut LinkedHashMap<K, V, S>,
+    front: usize,
+    back: usize,
+)
+    ensures { Drains (state_of map.old) (state_of map.new) }
+{
+    let mut drain = map.drain();
+    for _ in 0..front {
+        let _taken = drain.next();
+    }
+    for _ in 0..back {
+        let _taken = drain.next_back();
+    }
+}

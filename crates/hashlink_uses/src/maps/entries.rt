@@ -1,0 +1,238 @@
+//! Calls through entries, raw entries and cursors, and what is known of a map once they are gone.
+ghost use Rattle.std.specs.Prelude.{◌≡◌, ℕ, ◌+◌, ◌-◌, ◌<◌, ◌^◌, Some, Ok, OnOk, IfErr};
+ghost use Rattle.std.specs.Prelude.{MatchOption, length, unwrap_or, true, false};
+ghost use Rattle.std.specs.Map.{lookup};
+ghost use Rattle.hashlink.specs.Cursor.{following_place, preceding_place};
+ghost use Rattle.hashlink.specs.Entry.{TakesEntry, ReplacesKey, ReplacesValue};
+ghost use Rattle.hashlink.specs.Entries.{place_of};
+ghost use Rattle.hashlink.specs.MapState.{AddsEntry, PutsEntry, Inserts, RefusesEntry, with_value};
+ghost use Rattle.hashlink.specs.Steps.{RemovesKey, WritesEntry, with_value_of};
+ghost use Rattle.hashlink.specs.Keyed.{state_of, entries_of};
+
+use hashlink::LinkedHashMap;
+use hashlink::linked_hash_map::{Entry, RawEntryMut};
+use std::hash::{BuildHasher, Hash};
+
+/// Counts a word: the map ends as an insert of one more than the count so far leaves it.
+pub fn count_word<K: Eq + Hash + Drop, S: BuildHasher>(
+    map: &mut LinkedHashMap<K, u64, S>,
+    word: K,
+) -> Result<(), (K, u64)>
+    requires { unwrap_or (lookup (K.eq word) (entries_of map.old)) 0 + 1 < 2 ^ 64 }
+    ensures counts { OnOk result
+        (Inserts K.eq (state_of map.old) (state_of map.new) word
+        (unwrap_or (lookup (K.eq word) (entries_of map.old)) 0 + 1) (length (entries_of map.old))
+        (Ok (lookup (K.eq word) (entries_of map.old)))) }
+    ensures refused { IfErr result (RefusesEntry K.eq (state_of map.old) (state_of map.new) word 0) }
+{
+    let count = map.entry(word).or_insert(0)?;
+    *count += 1;
+    Ok(())
+}
+
+/// Takes the key's entry out through its entry, as the map's `remove_entry` does.
+pub fn take<K: Eq + Hash + Drop, V, S: BuildHasher>(
+    map: &mut LinkedHashMap<K, V, S>,
+    key: K,
+) -> Option<(K, V)>
+    ensures { RemovesKey K.eq (state_of map.old) (state_of map.new) key result }
+{
+    match map.entry(key) {
+        Entry::Occupied(entry) => Some(entry.remove_entry()),
+        Entry::Vacant(_) => None,
+    }
+}
+
+/// Gives a key that is there the value and moves it to the end, as the map's `insert` does.
+pub fn refresh<K: Eq + Hash + Drop, V: Drop, S: BuildHasher>(
+    map: &mut LinkedHashMap<K, V, S>,
+    key: K,
+    value: V,
+) -> Option<V>
+    ensures { MatchOption result (state_of map.new ≡ state_of map.old)
+        (PutsEntry K.eq (state_of map.old) (state_of map.new) key value (length (entries_of map.old))) }
+{
+    match map.entry(key) {
+        Entry::Occupied(mut entry) => {
+            let old = entry.insert(value);
+            entry.into_key();
+            Some(old)
+        }
+        Entry::Vacant(_) => None,
+    }
+}
+
+/// Writes the value of a key where it stands.
+pub fn write_in_place<K: Eq + Hash + Drop, V: Drop, S: BuildHasher>(
+    map: &mut LinkedHashMap<K, V, S>,
+    key: K,
+    value: V,
+)
+    ensures { state_of map.new ≡ with_value_of K.eq (state_of map.old) key value }
+{
+    if let Entry::Occupied(mut entry) = map.entry(key) {
+        *entry.get_mut() = value;
+        entry.into_key();
+    }
+}
+
+/// The same, by a reference that lasts as long as the map is borrowed.
+pub fn write_for_good<K: Eq + Hash + Drop, V: Drop, S: BuildHasher>(
+    map: &mut LinkedHashMap<K, V, S>,
+    key: K,
+    value: V,
+)
+    ensures { state_of map.new ≡ with_value_of K.eq (state_of map.old) key value }
+{
+    if let Entry::Occupied(entry) = map.entry(key) {
+        *entry.into_mut() = value;
+    }
+}
+
+/// The same, by a closure. It answers the key given.
+pub fn set_to_seven<K: Eq + Hash + Drop, S: BuildHasher>(
+    map: &mut LinkedHashMap<K, u64, S>,
+    key: K,
+) -> K
+    ensures { state_of map.new ≡ with_value_of K.eq (state_of map.old) key 7 }
+{
+    match map.entry(key).and_modify(|value| *value = 7) {
+        Entry::Occupied(entry) => entry.into_key(),
+        Entry::Vacant(entry) => entry.into_key(),
+    }
+}
+
+/// Puts what the closure makes last, where the key is absent.
+pub fn put_seven<K: Eq + Hash + Drop, S: BuildHasher>(
+    map: &mut LinkedHashMap<K, u64, S>,
+    key: K,
+) -> Result<(), (K, u64)>
+    ensures puts { OnOk result
+        (Inserts K.eq (state_of map.old) (state_of map.new) key (unwrap_or (lookup (K.eq key) (entries_of map.old)) 7)
+        (length (entries_of map.old)) (Ok (lookup (K.eq key) (entries_of map.old)))) }
+    ensures refused { IfErr result (RefusesEntry K.eq (state_of map.old) (state_of map.new) key 7) }
+{
+    map.entry(key).or_insert_with(|| 7)?;
+    Ok(())
+}
+
+/// Writes the value of a key where it stands, by its raw entry.
+pub fn write_raw<K: Eq + Hash, V: Drop, S: BuildHasher>(
+    map: &mut LinkedHashMap<K, V, S>,
+    key: &K,
+    value: V,
+) -> Option<V>
+    ensures { MatchOption result (map.new ≡ map.old)
+        (WritesEntry K.eq (state_of map.old) (state_of map.new) key.now value) }
+{
+    match map.raw_entry_of(key) {
+        RawEntryMut::Occupied(mut entry) => Some(entry.replace_value(value)),
+        RawEntryMut::Vacant(_) => None,
+    }
+}
+
+/// Puts a pair last and then writes its value, by a raw entry. The key has to be absent.
+pub fn put_absent<K: Eq + Hash, V: Drop, S: BuildHasher>(
+    map: &mut LinkedHashMap<K, V, S>,
+    key: K,
+    value: V,
+    written: V,
+) -> Result<bool, (K, V)>
+where
+    K: Drop,
+    ensures put { result ≡ Ok true → AddsEntry K.eq (state_of map.old) (state_of map.new) key written
+        (length (entries_of map.old)) }
+    ensures there { result ≡ Ok false → map.new ≡ map.old }
+    ensures refused { IfErr result (RefusesEntry K.eq (state_of map.old) (state_of map.new) key value) }
+{
+    match map.raw_entry_of(&key) {
+        RawEntryMut::Occupied(_) => Ok(false),
+        RawEntryMut::Vacant(entry) => {
+            *entry.insert_entry(key, value)?.into_mut() = written;
+            Ok(true)
+        }
+    }
+}
+
+/// Puts the key in for the equal one that is stored, by a raw entry, and answers that.
+pub fn renew_key<K: Eq + Hash + Drop, V, S: BuildHasher>(
+    map: &mut LinkedHashMap<K, V, S>,
+    key: K,
+) -> Option<K>
+    ensures { MatchOption result (map.new ≡ map.old)
+        (λ stored. (j : ℕ) × (place_of (K.eq key) (entries_of map.old) ≡ Some j)
+        × ReplacesKey (state_of map.old) (state_of map.new) j key stored) }
+{
+    let found = map.raw_entry_of(&key);
+    match found {
+        RawEntryMut::Occupied(mut entry) => Some(entry.replace_key(key)),
+        RawEntryMut::Vacant(_) => None,
+    }
+}
+
+/// Takes the last entry out by its raw entry, as the map's `pop_back` does.
+pub fn take_last<K: Eq + Hash, V, S: BuildHasher>(
+    map: &mut LinkedHashMap<K, V, S>,
+) -> Option<(K, V)>
+    ensures { MatchOption result (map.new ≡ map.old)
+        (TakesEntry (state_of map.old) (state_of map.new) (length (entries_of map.old) - 1)) }
+{
+    Some(map.back_entry()?.remove_entry())
+}
+
+/// Gives the first entry a value, by its raw entry.
+pub fn set_front<K: Eq + Hash, V: Drop, S: BuildHasher>(
+    map: &mut LinkedHashMap<K, V, S>,
+    value: V,
+) -> Option<V>
+    ensures { MatchOption result (map.new ≡ map.old)
+        (ReplacesValue (state_of map.old) (state_of map.new) 0 value) }
+{
+    match map.front_entry() {
+        Some(mut entry) => Some(entry.replace_value(value)),
+        None => None,
+    }
+}
+
+/// Takes the entry before the last out, by a cursor.
+pub fn take_before_last<K: Eq + Hash, V, S: BuildHasher>(
+    map: &mut LinkedHashMap<K, V, S>,
+) -> Option<(K, V)>
+    ensures { MatchOption result (map.new ≡ map.old)
+        (TakesEntry (state_of map.old) (state_of map.new)
+        (preceding_place (length (entries_of map.old)) (length (entries_of map.old) - 1))) }
+{
+    let mut cursor = map.cursor_back_mut();
+    cursor.move_prev();
+    Some(cursor.into_entry()?.remove_entry())
+}
+
+/// Puts a pair right after the first, by a cursor.
+pub fn put_second<K: Eq + Hash + Drop, V: Drop, S: BuildHasher>(
+    map: &mut LinkedHashMap<K, V, S>,
+    key: K,
+    value: V,
+) -> Result<Option<V>, (K, V)>
+    ensures { Inserts K.eq (state_of map.old) (state_of map.new) key value
+        (following_place (length (entries_of map.old)) 0) result }
+{
+    map.cursor_front_mut().insert_after(key, value)
+}
+
+/// Writes the value of the first entry, by a cursor, and answers whether there is one.
+pub fn write_first<K: Eq + Hash, V: Drop, S: BuildHasher>(
+    map: &mut LinkedHashMap<K, V, S>,
+    value: V,
+) -> bool
+    ensures there { result ≡ true → state_of map.new ≡ with_value (state_of map.old) 0 value }
+    ensures empty { result ≡ false → state_of map.new ≡ state_of map.old }
+{
+    let mut cursor = map.cursor_front_mut();
+    match cursor.current_value() {
+        Some(first) => {
+            *first = value;
+            true
+        }
+        None => false,
+    }
+}

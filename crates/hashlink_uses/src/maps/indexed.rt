@@ -1,0 +1,20 @@
+//! Writes through an index, and what is known of a map after one.
+ghost use Rattle.std.specs.Prelude.{◌≡◌};
+ghost use Rattle.hashlink.specs.Steps.{with_value_of};
+ghost use Rattle.hashlink.specs.Keyed.{state_of};
+ghost use Rattle.hashlink.specs.Indexed.{HasKey};
+
+use hashlink::LinkedHashMap;
+use std::hash::{BuildHasher, Hash};
+
+/// Gives a key that is there a value, where it stands.
+pub fn set_indexed<K: Eq + Hash, V: Drop, S: BuildHasher>(
+    map: &mut LinkedHashMap<K, V, S>,
+    key: &K,
+    value: V,
+)
+    requires { HasKey K.eq map.old key.now }
+    ensures { state_of map.new ≡ with_value_of K.eq (state_of map.old) key.now value }
+{
+    map[key] = value;
+}

@@ -1,0 +1,49 @@
+//! Calls of a cache with a budget, and what is known of it afterwards.
+ghost use Rattle.std.specs.Prelude.{◌≡◌, ◌≤◌, ◌<◌, IfOk, IsOk, OnOk, Err};
+ghost use Rattle.std.specs.Map.{lookup};
+ghost use Rattle.hashlink.specs.Weights.{total_weight, weighted_put};
+ghost use Rattle.hashlink.specs.Answers.{without_weight};
+ghost use Rattle.hashlink.specs.Weighed.{WeightedGets};
+
+use hashlink::weighted::{WeightError, WeightedCache};
+use std::hash::{BuildHasher, Hash};
+
+/// Uses an entry, and answers its value. What `get` lent has ended, and the entry is the last.
+pub fn use_number<K: Eq + Hash, S: BuildHasher>(
+    cache: &mut WeightedCache<K, u64, S>,
+    key: &K,
+) -> Option<u64>
+    ensures used { WeightedGets K.eq cache.old cache.new key.now }
+    ensures value { result ≡ without_weight (lookup (K.eq key.now) cache.old.map.entries) }
+{
+    let value = cache.get(key)?;
+    Some(*value)
+}
+
+/// Inserts a pair, and answers the weights' sum afterwards.
+pub fn insert_and_sum<K: Eq + Hash + Drop, V: Drop, S: BuildHasher>(
+    cache: &mut WeightedCache<K, V, S>,
+    key: K,
+    value: V,
+    weight: u64,
+) -> Result<u64, WeightError<K, V>>
+    ensures entries { OnOk result (cache.new.map.entries
+        ≡ weighted_put K.eq cache.old.map.entries cache.old.budget key value weight) }
+    ensures sum { IfOk result (λ n. n ≡ total_weight cache.new.map.entries) }
+    ensures within { IfOk result (λ n. n ≤ cache.old.budget) }
+    ensures too_heavy { cache.old.budget < weight → result ≡ Err (WeightError.TooHeavy (key, value)) }
+{
+    cache.insert(key, value, weight)?;
+    Ok(cache.total())
+}
+
+/// Inserts a pair without weight while a node is spare, which is not refused.
+pub fn insert_weightless<K: Eq + Hash + Drop, V: Drop, S: BuildHasher>(
+    cache: &mut WeightedCache<K, V, S>,
+    key: K,
+    value: V,
+) -> Result<Option<V>, WeightError<K, V>>
+    ensures not_refused { 0 < cache.old.map.spare → IsOk result }
+{
+    cache.insert(key, value, 0)
+}

@@ -1,5 +1,0 @@
-//! Capacities, with ample memory, by the public names of `hashlink` alone.
-#![tactic(auto)]
-
-#[cfg(test)]
-mod capacities;

@@ -1,2 +1,0 @@
--- What the hashers of the tests compute.
-pub mod OwnHashers

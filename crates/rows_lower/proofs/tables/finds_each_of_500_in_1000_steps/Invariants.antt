@@ -1,5 +1,0 @@
-use Rattle.rows_lower.proofs.tables.finds_each_of_500_in_1000_steps.Given as goal
-
--- the ledger is the blank's
-abbrev pub ghosts-count_steps : goal.ghosts-count_steps
-ghosts-count_steps g a = record { name = a.blank.name; parts = a.blank.parts }

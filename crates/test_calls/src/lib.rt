@@ -1,0 +1,35 @@
+//! What no row of calls says of the containers: how often keys are hashed and compared and closures called, the texts
+//! of `{:?}` and of errors, loops and std's adapters, what becomes of items without size and of a drain that is
+//! forgotten, a curve of misses worked by hand, and what a program does whose input or output fails.
+#![tactic(auto)]
+
+#[cfg(test)]
+mod adapters;
+#[cfg(test)]
+mod closures;
+#[cfg(test)]
+mod commands;
+#[cfg(test)]
+mod costs;
+#[cfg(test)]
+mod curves;
+#[cfg(test)]
+mod early_ends;
+#[cfg(test)]
+mod hashers;
+#[cfg(test)]
+mod large;
+#[cfg(test)]
+mod many;
+#[cfg(test)]
+mod no_size;
+#[cfg(test)]
+mod rooms;
+#[cfg(test)]
+mod serving;
+#[cfg(test)]
+mod texts;
+#[cfg(test)]
+mod uses;
+#[cfg(test)]
+mod values;

@@ -1,0 +1,95 @@
+//! A row, and what is wrong with it.
+use crate::answers::Stop;
+use crate::line::Words;
+
+/// A row of a file.
+#[derive(Clone, Copy)]
+pub struct Row<'f> {
+    pub name: &'f str,
+    pub mode: &'f str,
+    pub lines: &'f str,
+    /// The number of the first of the lines.
+    pub first: usize,
+}
+
+/// How many answers were refusals, and how many rows had no memory of their own.
+#[derive(Default, Drop)]
+pub struct Tally {
+    pub rows: usize,
+    pub refused: usize,
+    pub left_out: usize,
+}
+
+impl Tally {
+    pub fn add(&mut self, refused: usize) {
+        self.refused = self.refused.saturating_add(refused);
+    }
+}
+
+/// What is wrong with a row.
+#[derive(Clone, Copy)]
+pub enum Wrong<'f> {
+    /// The line of this number and text: what came and what was wanted stands in the answers.
+    Line(usize, &'f str),
+    /// The container is not as the list after the line.
+    State(usize, &'f str),
+    /// It is no line of such a row.
+    Unread(usize, &'f str),
+    /// So many keys and values were not dropped.
+    Living(usize),
+    /// A row of commands or a text, which says no more.
+    Row,
+}
+
+impl<'f> Row<'f> {
+    /// The row that is next in the text, which begins with the line of this number, and the text after it. Lines that
+    /// begin with `#` are no part of it.
+    pub fn next(text: &'f str, number: usize) -> Option<(Row<'f>, &'f str, usize)> {
+        let mut text = text;
+        let mut number = number;
+        for _ in 0..text.len() {
+            let (line, rest) = text.split_once('\n').unwrap_or((text, ""));
+            if !line.is_empty() && !line.starts_with('#') {
+                return Some(Row::read(text, number));
+            }
+            text = rest;
+            number = number.saturating_add(1);
+        }
+        None
+    }
+
+    fn read(text: &'f str, number: usize) -> (Row<'f>, &'f str, usize) {
+        let (body, after) = text.split_once("\n\n").unwrap_or((text, ""));
+        let body = body.strip_suffix('\n').unwrap_or(body);
+        let (name, rest) = body.split_once('\n').unwrap_or((body, ""));
+        let (mode, lines) = rest.split_once('\n').unwrap_or((rest, ""));
+        let first = number.saturating_add(2);
+        let count = lines.split('\n').count();
+        let row = Row {
+            name,
+            mode,
+            lines,
+            first,
+        };
+        (row, after, first.saturating_add(count).saturating_add(1))
+    }
+}
+
+/// The call of a line, and the answer that is written behind it, if one is.
+pub fn cut(line: &str) -> (&str, Option<&str>) {
+    match line.split_once(" -> ") {
+        Some((call, wanted)) => (call, Some(wanted)),
+        None => (line, None),
+    }
+}
+
+/// The words of a call, and after `each FIRST LAST` also the last of the numbers for which it is made.
+pub fn words_of(call: &str) -> Result<(Words<'_>, u64), Stop> {
+    let mut words = Words::new(call);
+    if words.next() != Some("each") {
+        return Ok((Words::new(call), 0));
+    }
+    words.n = words.number()?;
+    let last = words.number()?;
+    Ok((words, last))
+}

@@ -1,0 +1,162 @@
+ghost use Rattle.std.specs.Prelude.{◌≡◌, ℕ, ◌+◌, ◌<◌, ◌≤◌, IfOk};
+ghost use Rattle.hashlink_table.specs.Contents.{agreeing};
+
+use hashlink_table::{Steps, Table, TryReserveError};
+use std::alloc::Global;
+use std::marker::Brand;
+use std::sync::ledger::{Blank, Ledger};
+use std::test::Fail;
+
+/// The hash of each number: of the bits that the mask leaves, times the factor.
+#[derive(Clone, Copy)]
+struct Hashes {
+    mask: u32,
+    factor: u64,
+}
+
+impl Hashes {
+    fn of(self, number: u32) -> u64 {
+        u64::from(number & self.mask).wrapping_mul(self.factor)
+    }
+}
+
+/// Each number is its own hash, all have one, all have the same low bits, or there are sixteen.
+const HASHES: [Hashes; 4] = [
+    Hashes {
+        mask: u32::MAX,
+        factor: 1,
+    },
+    Hashes { mask: 0, factor: 1 },
+    Hashes {
+        mask: u32::MAX,
+        factor: 0x1_0000,
+    },
+    Hashes {
+        mask: 15,
+        factor: 1,
+    },
+];
+
+/// Puts two numbers in under the hash, and takes the first one out.
+#[tactic(auto, using(crate::proofs::Callers::inserted))]
+fn put_second(
+    table: &mut Table<u32>,
+    hash: u64,
+    first: u32,
+    second: u32,
+) -> Result<(), TryReserveError> {
+    table.reserve(2)?;
+    let gone = table.insert_reserved(hash, first);
+    table.insert_reserved(hash, second);
+    table.remove(gone);
+    Ok(())
+}
+
+/// Puts a number in under the hash, and returns the hash that is kept with it.
+#[tactic(auto, using(crate::proofs::Callers::inserted))]
+fn kept_hash(table: &mut Table<u32>, hash: u64, number: u32) -> Result<u64, TryReserveError> {
+    table.reserve(1)?;
+    let cell = table.insert_reserved(hash, number);
+    Ok(table.hash(cell))
+}
+
+/// A table of the numbers below 300. Each was put in after another under the same hash, which was taken out again.
+fn table_of(alloc: Global, hashes: Hashes) -> Result<Table<u32>, TryReserveError> {
+    let mut table = Table::new(alloc);
+    for number in 0..300u32 {
+        put_second(&mut table, hashes.of(number), number + 1000, number)?;
+    }
+    Ok(table)
+}
+
+/// Whether a number is found.
+fn has(table: &Table<u32>, hash: u64, number: u32) -> bool {
+    table.look_up(hash, |node| node == number) == Some(number)
+}
+
+/// Whether the numbers below 300 are found, and none that was taken out.
+fn finds(table: &Table<u32>, hashes: Hashes) -> bool {
+    for number in 0..300u32 {
+        let hash = hashes.of(number);
+        if !has(table, hash, number) || has(table, hash, number + 1000) {
+            return false;
+        }
+    }
+    true
+}
+
+// A table of the numbers from 1 to 500, each under itself as its hash.
+fn numbered(alloc: Global) -> Result<Table<u32>, Fail>
+    ensures { IfOk result (λ t. (hash m : ℕ) → t.room ≤ m → agreeing t hash m ≤ 2) }
+{
+    let mut table = Table::new(alloc);
+    for number in 1..501u32 {
+        table.reserve(1)?;
+        table.insert_reserved(u64::from(number), number);
+    }
+    Ok(table)
+}
+
+// Finds those numbers. A thousand steps are enough for all.
+fn find_each<L: Ledger>(table: &Table<u32>, steps: &mut Steps<L>) -> bool
+    requires { (hash m : ℕ) → table.now.room ≤ m → agreeing table.now hash m ≤ 2 }
+    ensures { steps.new ≤ steps.old + 1000 }
+{
+    let mut all = true;
+    for number in 1..501u32 {
+        if table.find(u64::from(number), |node| node == number, steps) != Some(number) {
+            all = false;
+        }
+    }
+    all
+}
+
+// The same from the making of the table on.
+fn count_steps<L: Ledger>(alloc: Global, blank: Blank) -> Result<bool, Fail>
+    requires name { blank.name ≡ L.name }
+    requires parts { blank.parts ≡ L.parts }
+    requires some_part { 0 < blank.parts }
+{
+    let table = numbered(alloc)?;
+    let mut steps = Steps::<L>::new(blank);
+    Ok(find_each(&table, &mut steps))
+}
+
+#[test]
+fn finds_each_of_500_in_1000_steps(rt: HostRuntime) -> Result<(), Fail> {
+    assert!(rt; count_steps::<Brand>(rt.alloc(), Blank::new(1))?);
+    Ok(())
+}
+
+#[test]
+fn finds_what_stays_whatever_the_hashes_agree_in(rt: HostRuntime) -> Result<(), Fail> {
+    for hashes in HASHES {
+        let mut table = table_of(rt.alloc(), hashes)?;
+        assert!(rt; finds(&table, hashes));
+        // No number has this hash, so that the test is asked of none.
+        assert_eq!(rt; table.look_up(u64::MAX, |_node| true), None);
+        assert_eq!(rt; (table.len(), table.room()), (300, 512));
+        table.shrink()?;
+        assert!(rt; finds(&table, hashes));
+        table.clear();
+        assert_eq!(rt; (table.is_empty(), table.room()), (true, 300));
+        assert!(rt; !has(&table, hashes.of(7), 7));
+        assert!(rt; put_second(&mut table, 5, 6, 7).is_ok() && has(&table, 5, 7));
+    }
+    Ok(())
+}
+
+#[test]
+fn refuses_an_absurd_room(rt: HostRuntime) {
+    let mut table = Table::<u32>::new(rt.alloc());
+    assert_eq!(rt; kept_hash(&mut table, 5, 7), Ok(5));
+    let room = table.room();
+    let refused = [table.reserve(1 << 61), table.reserve(usize::MAX)];
+    let wanted = [
+        Err(TryReserveError::AllocError),
+        Err(TryReserveError::CapacityOverflow),
+    ];
+    assert_eq!(rt; refused, wanted);
+    assert_eq!(rt; (table.len(), table.room()), (1, room));
+    assert!(rt; has(&table, 5, 7));
+}

@@ -1,0 +1,2 @@
+-- What the hashers of the rows compute.
+pub mod OwnHashers

@@ -1,0 +1,442 @@
+//! Lines that speak to raw entries.
+use crate::cache_row::Cache;
+use crate::map_cursors::take_all_steps;
+use crate::map_row::Map;
+use hashlink::linked_hash_map::{RawEntryBuilderMut, RawEntryMut, RawOccupiedEntryMut};
+use std::hash::BuildHasher;
+use test_list::answers::{Answers, Name, Stop};
+use test_list::entry_call::EntryCall;
+use test_list::items::{Home, Item};
+use test_list::line::Words;
+use test_list::said::{named, no_memory, taken, taken_item, write, written};
+
+type Raw<'m, S> = RawEntryMut<'m, Item, Item, S>;
+
+type Occupied<'m, S> = RawOccupiedEntryMut<'m, Item, Item, S>;
+
+type Entries<'m, S> = RawEntryBuilderMut<'m, Item, Item, S>;
+
+/// Says the stored key and the value that is lent, and writes another there, or says the pair that is handed back.
+macro_rules! say_lent {
+    ($lent:expr, $written:expr, $answers:expr) => {
+        match $lent {
+            Ok(pair) => $answers.pair(written(Some(pair), $written)),
+            Err(pair) => no_memory(pair, $answers),
+        }
+    };
+}
+
+/// Says the entry of the pair that was put in, or the pair that is handed back.
+macro_rules! say_entry {
+    ($entry:expr, $answers:expr) => {
+        match $entry {
+            Ok(entry) => $answers.pair(Some((entry.key().name(), entry.get().name()))),
+            Err(pair) => no_memory(pair, $answers),
+        }
+    };
+}
+
+/// Reads the pair of a key in the way that the words say.
+pub fn read_raw<S: BuildHasher>(
+    map: &Map<S>,
+    home: Home<'_>,
+    words: &mut Words<'_>,
+    answers: &mut Answers,
+) -> Result<(), Stop> {
+    let way = words.word()?;
+    let key = words.item(home)?;
+    let hash = map.hasher().hash_one(&key);
+    let pair = match way {
+        "key" => map.raw_entry().from_key(&key),
+        "hash" => map.raw_entry().from_key_hashed_nocheck(hash, &key),
+        "test" => map.raw_entry().from_hash(hash, |stored| *stored == key),
+        _ => return Err(Stop::Unread),
+    };
+    answers.pair(pair.map(named))
+}
+
+/// Finds the entry of a key in the way that the words say.
+fn find<'m, S: BuildHasher>(map: &'m mut Map<S>, way: &str, key: &Item) -> Option<Raw<'m, S>> {
+    let hash = map.hasher().hash_one(key);
+    match way {
+        "key" => Some(map.raw_entry_mut().from_key(key)),
+        "hash" => Some(map.raw_entry_mut().from_key_hashed_nocheck(hash, key)),
+        "test" => Some(
+            map.raw_entry_mut()
+                .from_hash(hash, |stored| *stored == *key),
+        ),
+        "of_key" => Some(map.raw_entry_of(key)),
+        "of_hash" => Some(map.raw_entry_hashed_nocheck(hash, key)),
+        "of_test" => Some(map.raw_entry_from_hash(hash, |stored| *stored == *key)),
+        _ => None,
+    }
+}
+
+/// Makes the call of a raw entry that the words say: the way, the key and the call. One that puts an absent key has
+/// another name than one that needs an entry.
+pub fn call_raw<S: BuildHasher + Copy>(
+    map: &mut Map<S>,
+    home: Home<'_>,
+    words: &mut Words<'_>,
+    answers: &mut Answers,
+) -> Result<(), Stop> {
+    let way = words.word()?;
+    let key = words.name()?;
+    match EntryCall::read(words)? {
+        EntryCall::Stay(name) => stay_at(map, way, &home.item(key)?, name, answers),
+        EntryCall::End("replace_key") => replace_key(map, home.item(key)?, answers),
+        EntryCall::End(name) => end_at(map, way, &home.item(key)?, name, answers),
+        EntryCall::Write("and_modify", Some(value)) => {
+            modify(map, &home.item(key)?, value, answers)
+        }
+        EntryCall::Write(name, value) => {
+            write_at(map, way, &home.item(key)?, name, value, answers)
+        }
+        EntryCall::Put("replace_value", value, _) => {
+            replace_at(map, way, home.pair((key, value))?, answers)
+        }
+        EntryCall::Put(name, value, written) => {
+            put(map, name, home.pair((key, value))?, written, answers)
+        }
+        EntryCall::Cursor => steps_at(map, way, home, key, words, answers),
+        _ => Err(Stop::Unread),
+    }
+}
+
+fn stay_at<S: BuildHasher>(
+    map: &mut Map<S>,
+    way: &str,
+    key: &Item,
+    name: &str,
+    answers: &mut Answers,
+) -> Result<(), Stop> {
+    match find(map, way, key) {
+        Some(RawEntryMut::Occupied(mut entry)) => stay(&mut entry, name, answers),
+        Some(RawEntryMut::Vacant(_vacant)) => answers.pair(None),
+        None => Err(Stop::Unread),
+    }
+}
+
+fn end_at<S: BuildHasher>(
+    map: &mut Map<S>,
+    way: &str,
+    key: &Item,
+    name: &str,
+    answers: &mut Answers,
+) -> Result<(), Stop> {
+    match find(map, way, key) {
+        Some(RawEntryMut::Occupied(entry)) => match name {
+            "into_key" => answers.item(Some(entry.into_key().name())),
+            "remove" => taken_item(Some(entry.remove()), answers),
+            "remove_entry" => taken(Some(entry.remove_entry()), answers),
+            _ => Err(Stop::Unread),
+        },
+        Some(RawEntryMut::Vacant(_vacant)) => answers.pair(None),
+        None => Err(Stop::Unread),
+    }
+}
+
+fn write_at<S: BuildHasher>(
+    map: &mut Map<S>,
+    way: &str,
+    key: &Item,
+    name: &str,
+    value: Option<Name>,
+    answers: &mut Answers,
+) -> Result<(), Stop> {
+    match find(map, way, key) {
+        Some(RawEntryMut::Occupied(mut entry)) => match name {
+            "into_mut" => write(Some(entry.into_mut()), value, answers),
+            "into_key_value" => write(Some(entry.into_key_value().1), value, answers),
+            _ => lend(&mut entry, name, value, answers),
+        },
+        Some(RawEntryMut::Vacant(_vacant)) => answers.pair(None),
+        None => Err(Stop::Unread),
+    }
+}
+
+/// Writes the value where the key is there.
+fn modify<S: BuildHasher>(
+    map: &mut Map<S>,
+    key: &Item,
+    value: Name,
+    answers: &mut Answers,
+) -> Result<(), Stop> {
+    let entry = map.raw_entry_mut().from_key(key);
+    match entry.and_modify(|_, lent| lent.group = value.group) {
+        RawEntryMut::Occupied(entry) => answers.pair(Some(named(entry.get_key_value()))),
+        RawEntryMut::Vacant(_vacant) => answers.pair(None),
+    }
+}
+
+fn replace_at<S: BuildHasher>(
+    map: &mut Map<S>,
+    way: &str,
+    (key, value): (Item, Item),
+    answers: &mut Answers,
+) -> Result<(), Stop> {
+    match find(map, way, &key) {
+        Some(RawEntryMut::Occupied(mut entry)) => {
+            taken_item(Some(entry.replace_value(value)), answers)
+        }
+        Some(RawEntryMut::Vacant(_vacant)) => answers.pair(None),
+        None => Err(Stop::Unread),
+    }
+}
+
+fn steps_at<S: BuildHasher>(
+    map: &mut Map<S>,
+    way: &str,
+    home: Home<'_>,
+    key: Name,
+    words: &mut Words<'_>,
+    answers: &mut Answers,
+) -> Result<(), Stop> {
+    match find(map, way, &home.item(key)?) {
+        Some(RawEntryMut::Occupied(entry)) => {
+            take_all_steps(&mut entry.cursor_mut(), home, words, answers)
+        }
+        Some(RawEntryMut::Vacant(_vacant)) => answers.pair(None),
+        None => Err(Stop::Unread),
+    }
+}
+
+/// Calls of a raw entry of a cache.
+pub fn call_cache_raw<S: BuildHasher>(
+    cache: &mut Cache<S>,
+    home: Home<'_>,
+    words: &mut Words<'_>,
+    answers: &mut Answers,
+) -> Result<(), Stop> {
+    let _way = words.word()?;
+    let key = words.name()?;
+    match EntryCall::read(words)? {
+        EntryCall::Stay(name) => stay_in_cache(cache, &home.item(key)?, name, answers),
+        EntryCall::Write(name, value) => {
+            write_in_cache(cache, &home.item(key)?, name, value, answers)
+        }
+        EntryCall::Put(name, value, written) => {
+            put_in_cache(cache, name, home.pair((key, value))?, written, answers)
+        }
+        _ => Err(Stop::Unread),
+    }
+}
+
+fn stay_in_cache<S: BuildHasher>(
+    cache: &mut Cache<S>,
+    key: &Item,
+    name: &str,
+    answers: &mut Answers,
+) -> Result<(), Stop> {
+    match cache.raw_entry_mut().from_key(key) {
+        RawEntryMut::Occupied(mut entry) => stay(&mut entry, name, answers),
+        RawEntryMut::Vacant(_vacant) => answers.pair(None),
+    }
+}
+
+fn write_in_cache<S: BuildHasher>(
+    cache: &mut Cache<S>,
+    key: &Item,
+    name: &str,
+    value: Option<Name>,
+    answers: &mut Answers,
+) -> Result<(), Stop> {
+    match cache.raw_entry_mut().from_key(key) {
+        RawEntryMut::Occupied(mut entry) => lend(&mut entry, name, value, answers),
+        RawEntryMut::Vacant(_vacant) => answers.pair(None),
+    }
+}
+
+fn put_in_cache<S: BuildHasher>(
+    cache: &mut Cache<S>,
+    name: &str,
+    (key, value): (Item, Item),
+    written: Option<Name>,
+    answers: &mut Answers,
+) -> Result<(), Stop> {
+    match name {
+        "or_insert" => or_insert(cache.raw_entry_mut(), key, value, written, answers),
+        "or_insert_with" => or_insert_with(cache.raw_entry_mut(), key, value, written, answers),
+        _ => Err(Stop::Unread),
+    }
+}
+
+/// Makes a call of the entry at an end.
+pub fn call_end<S: BuildHasher>(
+    map: &mut Map<S>,
+    home: Home<'_>,
+    end: &str,
+    words: &mut Words<'_>,
+    answers: &mut Answers,
+) -> Result<(), Stop> {
+    match EntryCall::read(words)? {
+        EntryCall::Stay(name) => match entry_at_end(map, end) {
+            Some(mut entry) => stay(&mut entry, name, answers),
+            None => answers.pair(None),
+        },
+        EntryCall::End("remove_entry") => match entry_at_end(map, end) {
+            Some(entry) => taken(Some(entry.remove_entry()), answers),
+            None => answers.pair(None),
+        },
+        EntryCall::Write(name, value) => match entry_at_end(map, end) {
+            Some(mut entry) => lend(&mut entry, name, value, answers),
+            None => answers.pair(None),
+        },
+        EntryCall::Put("replace_value", value, _) => {
+            replace_at_end(map, end, home.item(value)?, answers)
+        }
+        _ => Err(Stop::Unread),
+    }
+}
+
+fn entry_at_end<'m, S: BuildHasher>(map: &'m mut Map<S>, end: &str) -> Option<Occupied<'m, S>> {
+    if end == "front_entry" {
+        return map.front_entry();
+    }
+    map.back_entry()
+}
+
+fn replace_at_end<S: BuildHasher>(
+    map: &mut Map<S>,
+    end: &str,
+    value: Item,
+    answers: &mut Answers,
+) -> Result<(), Stop> {
+    match entry_at_end(map, end) {
+        Some(mut entry) => taken_item(Some(entry.replace_value(value)), answers),
+        None => answers.pair(None),
+    }
+}
+
+fn stay<S: BuildHasher>(
+    entry: &mut Occupied<'_, S>,
+    name: &str,
+    answers: &mut Answers,
+) -> Result<(), Stop> {
+    match name {
+        "to_front" => entry.to_front(),
+        "to_back" => entry.to_back(),
+        "get" => return answers.pair(Some((entry.key().name(), entry.get().name()))),
+        _ => {}
+    }
+    answers.pair(Some(named(entry.get_key_value())))
+}
+
+fn lend<S: BuildHasher>(
+    entry: &mut Occupied<'_, S>,
+    name: &str,
+    value: Option<Name>,
+    answers: &mut Answers,
+) -> Result<(), Stop> {
+    match name {
+        "get_mut" => write(Some(entry.get_mut()), value, answers),
+        "get_key_value_mut" => write(Some(entry.get_key_value_mut().1), value, answers),
+        _ => Err(Stop::Unread),
+    }
+}
+
+/// Makes a call that puts a pair.
+fn put<S: BuildHasher + Copy>(
+    map: &mut Map<S>,
+    name: &str,
+    (key, value): (Item, Item),
+    written: Option<Name>,
+    answers: &mut Answers,
+) -> Result<(), Stop> {
+    match name {
+        "or_insert" => or_insert(map.raw_entry_mut(), key, value, written, answers),
+        "or_insert_with" => or_insert_with(map.raw_entry_mut(), key, value, written, answers),
+        "insert" | "insert_hashed" | "insert_with_hasher" => {
+            insert(map, name, key, value, answers)
+        }
+        _ => insert_entry(map, name, key, value, answers),
+    }
+}
+
+fn or_insert<S: BuildHasher>(
+    entries: Entries<'_, S>,
+    key: Item,
+    value: Item,
+    new: Option<Name>,
+    answers: &mut Answers,
+) -> Result<(), Stop> {
+    say_lent!(entries.from_key(&key).or_insert(key, value), new, answers)
+}
+
+fn or_insert_with<S: BuildHasher>(
+    entries: Entries<'_, S>,
+    key: Item,
+    value: Item,
+    new: Option<Name>,
+    answers: &mut Answers,
+) -> Result<(), Stop> {
+    say_lent!(
+        entries.from_key(&key).or_insert_with(|| (key, value)),
+        new,
+        answers
+    )
+}
+
+fn insert<S: BuildHasher + Copy>(
+    map: &mut Map<S>,
+    name: &str,
+    key: Item,
+    value: Item,
+    answers: &mut Answers,
+) -> Result<(), Stop> {
+    let builder = *map.hasher();
+    let hash = builder.hash_one(&key);
+    let RawEntryMut::Vacant(entry) = map.raw_entry_hashed_nocheck(hash, &key) else {
+        return answers.pair(None);
+    };
+    match name {
+        "insert" => say_lent!(entry.insert(key, value), None, answers),
+        "insert_hashed" => say_lent!(entry.insert_hashed_nocheck(hash, key, value), None, answers),
+        _ => {
+            let hasher = |stored: &Item| builder.hash_one(stored);
+            let new = entry.insert_with_hasher(hash, key, value, hasher);
+            say_lent!(new, None, answers)
+        }
+    }
+}
+
+fn insert_entry<S: BuildHasher + Copy>(
+    map: &mut Map<S>,
+    name: &str,
+    key: Item,
+    value: Item,
+    answers: &mut Answers,
+) -> Result<(), Stop> {
+    let builder = *map.hasher();
+    let hash = builder.hash_one(&key);
+    let RawEntryMut::Vacant(entry) = map.raw_entry_hashed_nocheck(hash, &key) else {
+        return answers.pair(None);
+    };
+    match name {
+        "insert_entry" => say_entry!(entry.insert_entry(key, value), answers),
+        "insert_entry_hashed" => {
+            say_entry!(entry.insert_entry_hashed_nocheck(hash, key, value), answers)
+        }
+        "insert_entry_with_hasher" => {
+            let hasher = |stored: &Item| builder.hash_one(stored);
+            let new = entry.insert_entry_with_hasher(hash, key, value, hasher);
+            say_entry!(new, answers)
+        }
+        _ => Err(Stop::Unread),
+    }
+}
+
+/// Says the key that was stored and its value, where the entry has the key of the line now.
+fn replace_key<S: BuildHasher>(
+    map: &mut Map<S>,
+    key: Item,
+    answers: &mut Answers,
+) -> Result<(), Stop> {
+    match map.raw_entry_mut().from_key(&key) {
+        RawEntryMut::Occupied(mut entry) if key == *entry.key() => {
+            let old = entry.replace_key(key);
+            answers.pair(Some((old.name(), entry.get().name())))
+        }
+        _ => answers.pair(None),
+    }
+}
