@@ -1,7 +1,7 @@
 //! Runs rows of calls on the containers, and checks each answer, and what stands after it, against what the row says and
 //! against a plain list. `docs/dev/rows.md` says how a row is written.
 //!
-//! Its arguments name the files, and one of a file's rows alone by its number, as in `data/map.rows#3`. It ends with
+//! Its arguments name the files, and one of a file's rows alone by its number, as in `map.rows#3`. It ends with
 //! status 1 where an answer was wrong, and says of each row where that is, what came and what was wanted.
 #![tactic(auto)]
 
@@ -20,6 +20,7 @@ mod walks;
 mod weighted_row;
 
 use rows::wrong;
+use std::io::ErrorKind;
 use std::process::ExitCode;
 use std::rc::Rc;
 use std::{env, fs};
@@ -56,8 +57,15 @@ fn is_file_right(rt: &HostRuntime, name: &str, tally: &mut Tally) -> bool {
         Some((name, place)) => (name, number(place)),
         None => (name, None),
     };
+    let read = fs::read_to_string(rt, name);
+    if let Err(error) = &read
+        && error.kind() != ErrorKind::OutOfMemory
+    {
+        let _ = println!(rt; "{name}: {error}");
+        return false;
+    }
     let (Ok(text), Ok(mut answers), Ok(life)) = (
-        fs::read_to_string(rt, name),
+        read,
         Answers::new(rt.alloc()),
         Rc::new(rt.alloc(), 0u64),
     ) else {
