@@ -460,8 +460,8 @@ module _ {K V : Type 0} (n : K × V → ℕ) where
   abbrev pub number_of_last : List (K × V) → ℕ
   number_of_last es = option_map_or n (last_of es) 0
 
-  -- goal: a bound on each number, from one on the last entry's; one on the last entry's, from one on each; and a bound
-  -- from below on each, from the first entry's
+  -- goal: a bound on each number, from one on the last entry's; one on the last entry's, from one on each; and a
+  -- bound from below on each, from the first entry's
   pub All-from_last : (es : List (K × V)) (m : ℕ) → IsNonDecreasingBy n es → number_of_last es ≤ m
       → All (λ e. n e ≤ m) es
   All-from_last es m up le k d lt =
@@ -534,8 +534,8 @@ module _ {K V : Type 0} (n : K × V → ℕ) where
       rw (lt-leb m (n e) (All-head (λ e. n e < m) e es gone))
       (filter-front m es rest (All-tail (λ e. n e < m) e es gone) left)
 
-  -- goal: the order, and a bound on the greatest number, after an insert at the end, a move to the end that wrote w, and
-  -- a removal
+  -- goal: the order, and a bound on the greatest number, after an insert at the end, a move to the end that wrote w,
+  -- and a removal
   module _ {S : Type 0} (old new : MapState K V S) where
     pub ordered-inserts : (eq : K → K → Bool) (k : K) (v : V) (r : Result (Option V) (K × V))
         → Inserts eq old new k v (length old.entries) r → IsNonDecreasingBy n old.entries

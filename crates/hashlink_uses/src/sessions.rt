@@ -13,14 +13,14 @@ use std::hash::{BuildHasher, Hash};
 use std::marker::Model;
 
 /// A session: whose it is, and when it was used last.
-#[derive(Drop)]
+#[derive(Clone, Copy, Debug, PartialEq, Eq, Drop)]
 pub struct Session {
     pub user: u64,
     pub last_use: u64,
 }
 
-/// Sessions, each found by its key. A clause sees the pairs of a key and its session, the one first that was used
-/// longest ago. Times may not go back: each use is at the time of the latest one or after it.
+/// Sessions, each found by its key, in the order of their last use. A clause sees the pairs of a key and its
+/// session. Times may not go back: a use is no earlier than the latest one, which `latest_use` tells.
 #[derive(Drop)]
 pub struct SessionTable<K: Eq + Hash, S: BuildHasher> {
     sessions: LinkedHashMap<K, Session, S>,
@@ -48,7 +48,7 @@ impl<K: Eq + Hash, S: BuildHasher> SessionTable<K, S> {
     pub fn len(&self) -> usize
         ensures len { result ≡ length self.now }
 
-        // What holds of this table as of every table: the order is that of the last uses, and no key has two sessions.
+        // Of this table as of every table: the order is that of the last uses, and no key has two sessions.
         ensures sorted { IsByLastUse self.now }
         ensures distinct { IsDistinct K.eq (keys_of self.now) }
     {
@@ -72,8 +72,8 @@ impl<K: Eq + Hash, S: BuildHasher> SessionTable<K, S> {
         self.sessions.get(key)
     }
 
-    /// Begins a session of the user at the end, and answers the one that the key had until now. Where memory is refused,
-    /// the key and the session are handed back and nothing changes.
+    /// Begins a session of the user at the end, and answers the one that the key had until now. Where memory is
+    /// refused, the key and the session are handed back and nothing changes.
     pub fn open(&mut self, key: K, user: u64, now: u64) -> Result<Option<Session>, (K, Session)>
     where
         K: Drop,
@@ -130,8 +130,8 @@ impl<K: Eq + Hash, S: BuildHasher> SessionTable<K, S> {
         }
     }
 
-    /// Takes out every session that was used last before a time, which are the first ones, and answers how many they
-    /// were.
+    /// Takes out every session that was used last before a time, and answers how many they were. They stand in
+    /// front, so it looks at no more than one that stays.
     pub fn expire(&mut self, before: u64) -> usize
     where
         K: Drop,
