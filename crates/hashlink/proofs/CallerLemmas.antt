@@ -1,17 +1,20 @@
 -- What a caller's proof cites of maps, sets and caches, with the dependency `hashlink` alone. Each lemma says which
 -- goal it closes. A state is what `state_of` shows of a map, `state_in` of a cache, and a set itself.
-use Rattle.std.proofs.Common.{◌≡◌, ℕ, zero, suc, ◌-◌, Bool, true, false, cond, not, is_some, List, [], ◌∷◌, ◌++◌}
+use Rattle.std.proofs.Common.{◌≡◌, ℕ, zero, suc, ◌-◌, ◌≤◌, ◌<◌, Bool, true, false, cond, not, is_some, List, [], ◌∷◌, ◌++◌}
 use Rattle.std.proofs.Common.{length, take, drop, Option, None, Some, Result, Ok, Err, refl, sym, ap, subst, ◌∙◌}
-use Rattle.std.proofs.Common.{◌⊎◌, inl, inr, true≢false, arith}
+use Rattle.std.proofs.Common.{◌⊎◌, inl, inr, true≢false, arith, filter, nat_le, le_refl, zero-le}
 use Rattle.std.specs.Prelude.{All, IfSome, OnOk, insert, remove, slice_get, unwrap_or, MatchOption, MatchResult}
 use Rattle.std.specs.Option.{option_map, option_map_or}
 use Rattle.std.specs.Cmp.{IsEquivalence}
 use Rattle.std.specs.List.{list_any}
+use Rattle.std.specs.List.Sorted.{IsNonDecreasingBy}
 use Rattle.std.specs.Map.{lookup, keys_of, remove_entry, set_value}
 use Rattle.std.specs.Set.{remove_key}
+use Rattle.std.proofs.lemmas.Bool.{le-leb, lt-leb}
 use Rattle.std.proofs.lemmas.List.{map-append, take-append-drop}
 use Rattle.std.proofs.lemmas.List.Elements.{All-nil, All-cons, All-head, All-tail, All-same, All-append, All-take}
 use Rattle.std.proofs.lemmas.List.Elements.{All-drop, All-push, All-map, All-filter}
+use Rattle.std.proofs.lemmas.List.Sorted.{IsNonDecreasingBy-drop, IsNonDecreasingBy-push}
 use Rattle.std.proofs.lemmas.Map.{NonePasses}
 use Rattle.std.proofs.lemmas.Map.Entries.{place_from_lookup}
 use Rattle.std.proofs.lemmas.Map.Made.{is_some-lookup}
@@ -23,13 +26,16 @@ use Rattle.hashlink_model.specs.MapState.{MapState, Inserts}
 use Rattle.hashlink_model.specs.Retain.{RetainsInOrder}
 use Rattle.hashlink_model.specs.Sets.{SetState, SetInserts, elements_of, stored_element}
 use Rattle.hashlink_model.specs.Steps.{PopsFront, PopsBack, Replaces, RemovesMatch, MovesMatch, MovesMatchAndWrites}
+use Rattle.hashlink_model.specs.Steps.{MovesAndWrites}
 use Rattle.hashlink_model.specs.Walk.{first_of, last_of}
 use Rattle.hashlink_set.specs.Answers.{as_entry}
 use Rattle.hashlink_model.proofs.Distinct.{none_equal, none_others, IsEntries-middle, IsEntries-insert}
 use Rattle.hashlink_model.proofs.Finds.{lookup_is}
+use Rattle.hashlink_model.proofs.Puts.{none_without}
 use Rattle.hashlink_model.proofs.SetElements.{find-keys, keys-remove_entry}
 use Rattle.hashlink_model.proofs.Splits.{Stands, splits, remove_entry-here, stands_from_lookup, none_from_lookup}
 use Rattle.hashlink_model.proofs.Splits.{remove_entry-none, lookup_key-none, place_of-none, place_of-here}
+use Rattle.hashlink_model.proofs.Splits.{set_value-here}
 -- ---- handed on
 
 -- goal: `lookup`, or `lookup_entry`, at the key that was put, at another key, after a removal, and after a move
@@ -295,6 +301,16 @@ module _ {K V S : Type 0} (eq : K → K → Bool) (old new : MapState K V S) (k 
   inserts_absent none (Ok (Some w)) s = absurd (none-some w (sym none ∙ s.old_value))
   inserts_absent none (Err pair) s = (s.handed_back, s.grows.entries)
 
+  -- goal: the entries after an insert at the end, whether the key was there or not, and its answer
+  pub inserts_back : (r : Result (Option V) (K × V)) → Inserts eq old new k v (length old.entries) r
+      → MatchResult r
+      (λ w. (w ≡ lookup (eq k) old.entries)
+      × (new.entries ≡ without eq old.entries k ++ (stored_key eq old.entries k, v) ∷ []))
+      (λ pair. (pair ≡ (k, v)) × (new.entries ≡ old.entries))
+  inserts_back (Ok w) s =
+      let e = inserts_entries (length old.entries) w s in (e.1, e.0 ∙ put_back eq old.entries k v)
+  inserts_back (Err pair) s = (s.handed_back, s.grows.entries)
+
   -- goal: the same of a caller that lets the answer go
   pub put_or_not : (r : Result (Option V) (K × V)) → PutLast r
       → (new.entries ≡ old.entries ++ (k, v) ∷ []) ⊎ (new.entries ≡ old.entries)
@@ -385,6 +401,20 @@ module _ {K V S : Type 0} (eq : K → K → Bool) (old new : MapState K V S) (k 
         ∙ rw t refl
     lookup-replaces_other q t (Err pair) s = ap (lookup (eq q)) s.grows.entries
 
+module _ {K V S : Type 0} (eq : K → K → Bool) (laws : IsEquivalence eq) (old new : MapState K V S) (k : K) where
+  -- goal: the entries after `to_back` of a key that was there, once w was written through what it lent
+  pub moves_back_and_writes_there : (v w : V) → IsEntries eq old.entries → lookup (eq k) old.entries ≡ Some v
+      → MovesAndWrites eq old new k (length old.entries) w
+      → new.entries ≡ without eq old.entries k ++ (stored_key eq old.entries k, w) ∷ []
+  moves_back_and_writes_there v w d there s =
+      let left = without eq old.entries k in
+      let stored = stored_key eq old.entries k in
+      ap (λ m. m.entries) s.writes
+      ∙ ap (λ es. set_value (eq k) es w)
+      (s.moves.entries ∙ moved-there eq old.entries k (length old.entries) v there ∙ put_back eq old.entries k v)
+      ∙ set_value-here (eq k) (stored, v) [] (stored_key-equal eq laws k old.entries) w left
+      (none_without eq laws old.entries k d)
+
 module _ {K V S : Type 0} (old new : MapState K V S) where
   -- goal: the entries after a removal, also where no key was found
   pub removes_entries : (test : K → Bool) (r : Option (K × V)) → RemovesMatch test old new r
@@ -422,6 +452,117 @@ module _ {K V S : Type 0} (old new : MapState K V S) where
       → MatchOption r ((old.entries ≡ []) × (new.entries ≡ [])) (λ e. old.entries ≡ new.entries ++ e ∷ [])
   pops_back_entries None s = let p = pops_back_none s in (p.0, ap (λ m. m.entries) p.1 ∙ p.0)
   pops_back_entries (Some e) s = (pops_back old new e s).0
+
+-- ---- entries in the order of a number, as of a time: it does not fall from one to the next
+
+module _ {K V : Type 0} (n : K × V → ℕ) where
+  -- the number of the last entry, which is the greatest of a list in order; 0 where there is none
+  abbrev pub number_of_last : List (K × V) → ℕ
+  number_of_last es = option_map_or n (last_of es) 0
+
+  -- goal: a bound on each number, from one on the last entry's; one on the last entry's, from one on each; and a
+  -- bound from below on each, from the first entry's
+  pub All-from_last : (es : List (K × V)) (m : ℕ) → IsNonDecreasingBy n es → number_of_last es ≤ m
+      → All (λ e. n e ≤ m) es
+  All-from_last es m up le k d lt =
+      let last = ap (λ o. option_map_or n o 0) (slice_get-get_or es (length es - 1) d (omega arith)) in
+      omega (arith, last, le, up k (length es - 1) d (omega arith) (omega arith))
+
+  pub number_of_last-from_All : (es : List (K × V)) (m : ℕ) → All (λ e. n e ≤ m) es → number_of_last es ≤ m
+  number_of_last-from_All [] m a = zero-le
+  number_of_last-from_All (e ∷ es) m a =
+      let end = length (e ∷ es) - 1 in
+      let last = ap (λ o. option_map_or n o 0) (slice_get-get_or (e ∷ es) end e (omega arith)) in
+      omega (arith, last, a end e (omega arith))
+
+  pub All-from_first : (es : List (K × V)) (m : ℕ) (e : K × V) → IsNonDecreasingBy n es → first_of es ≡ Some e
+      → m ≤ n e
+      → All (λ x. m ≤ n x) es
+  All-from_first es m e up first le k d lt =
+      let here = ap n (same_Some _ e (sym (slice_get-get_or es 0 d (omega arith)) ∙ first)) in
+      omega (arith, here, le, up 0 k d (omega arith) lt)
+
+  IsNonDecreasingBy-cons : (e : K × V) (es : List (K × V)) → All (λ x. n e ≤ n x) es → IsNonDecreasingBy n es
+      → IsNonDecreasingBy n (e ∷ es)
+  IsNonDecreasingBy-cons e es a up zero zero d le lt = omega arith
+  IsNonDecreasingBy-cons e es a up zero (suc j) d le lt = a j d (omega arith)
+  IsNonDecreasingBy-cons e es a up (suc i) zero d le lt = absurd (omega arith)
+  IsNonDecreasingBy-cons e es a up (suc i) (suc j) d le lt = up i j d (omega arith) (omega arith)
+
+  -- goal: the order of what is left without the entry of a key
+  pub IsNonDecreasingBy-remove_entry : (test : K → Bool) (es : List (K × V)) → IsNonDecreasingBy n es
+      → IsNonDecreasingBy n (remove_entry test es)
+  IsNonDecreasingBy-remove_entry test [] up = up
+  IsNonDecreasingBy-remove_entry test (e ∷ es) up =
+      by (test e.0) (IsNonDecreasingBy-remove_entry test es (IsNonDecreasingBy-drop n 1 (e ∷ es) up))
+    where
+      above : All (λ x. n e ≤ n x) es
+      above k d lt = up 0 (suc k) d (omega arith) (omega arith)
+
+      by : (b : Bool) → IsNonDecreasingBy n (remove_entry test es)
+          → IsNonDecreasingBy n (cond b es (e ∷ remove_entry test es))
+      by true h = IsNonDecreasingBy-drop n 1 (e ∷ es) up
+      by false h =
+          IsNonDecreasingBy-cons e (remove_entry test es) (All-remove_entry (λ x. n e ≤ n x) test es above) h
+
+  -- goal: the order once an entry is put last whose number no other exceeds, and the greatest number
+  pub ordered-push : (es : List (K × V)) (e : K × V) → IsNonDecreasingBy n es → All (λ x. n x ≤ n e) es
+      → IsNonDecreasingBy n (es ++ e ∷ []) × (number_of_last (es ++ e ∷ []) ≤ n e)
+  ordered-push es e up a = (
+    IsNonDecreasingBy-push n es e up (λ d lt. a (length es - 1) d (omega arith)),
+    number_of_last-from_All (es ++ e ∷ []) (n e) (All-push (λ x. n x ≤ n e) es e a (le_refl (n e))),
+  )
+
+  -- goal: the order once a key is put last with a number that none exceeds, and the greatest number
+  pub ordered-put_back : (eq : K → K → Bool) (es : List (K × V)) (k : K) (v : V) → IsNonDecreasingBy n es
+      → number_of_last es ≤ n (stored_key eq es k, v)
+      → IsNonDecreasingBy n (without eq es k ++ (stored_key eq es k, v) ∷ [])
+      × (number_of_last (without eq es k ++ (stored_key eq es k, v) ∷ []) ≤ n (stored_key eq es k, v))
+  ordered-put_back eq es k v up le =
+      let m = n (stored_key eq es k, v) in
+      ordered-push (without eq es k) (stored_key eq es k, v) (IsNonDecreasingBy-remove_entry (eq k) es up)
+      (All-remove_entry (λ x. n x ≤ m) (eq k) es (All-from_last es m up le))
+
+  -- goal: what is left where entries went from the front until one had at least the number m, as a filter
+  pub filter-front : (m : ℕ) (es rest : List (K × V)) → All (λ e. n e < m) es → All (λ e. m ≤ n e) rest
+      → filter (λ e. nat_le m (n e)) (es ++ rest) ≡ rest
+  filter-front m [] [] gone left = refl
+  filter-front m [] (e ∷ rest) gone left =
+      rw (le-leb m (n e) (All-head (λ e. m ≤ n e) e rest left))
+      (ap (λ r. e ∷ r) (filter-front m [] rest gone (All-tail (λ e. m ≤ n e) e rest left)))
+  filter-front m (e ∷ es) rest gone left =
+      rw (lt-leb m (n e) (All-head (λ e. n e < m) e es gone))
+      (filter-front m es rest (All-tail (λ e. n e < m) e es gone) left)
+
+  -- goal: the order, and a bound on the greatest number, after an insert at the end, a move to the end that wrote w,
+  -- and a removal
+  module _ {S : Type 0} (old new : MapState K V S) where
+    pub ordered-inserts : (eq : K → K → Bool) (k : K) (v : V) (r : Result (Option V) (K × V))
+        → Inserts eq old new k v (length old.entries) r → IsNonDecreasingBy n old.entries
+        → number_of_last old.entries ≤ n (stored_key eq old.entries k, v)
+        → IsNonDecreasingBy n new.entries × (number_of_last new.entries ≤ n (stored_key eq old.entries k, v))
+    ordered-inserts eq k v (Ok w) s up le =
+        rw ((inserts_back eq old new k v (Ok w) s).1) (ordered-put_back eq old.entries k v up le)
+    ordered-inserts eq k v (Err pair) s up le = rw s.grows.entries (up, le)
+
+    pub ordered-moves_back_and_writes : (eq : K → K → Bool) → IsEquivalence eq → (k : K) (v w : V)
+        → IsEntries eq old.entries → lookup (eq k) old.entries ≡ Some v
+        → MovesAndWrites eq old new k (length old.entries) w → IsNonDecreasingBy n old.entries
+        → number_of_last old.entries ≤ n (stored_key eq old.entries k, w)
+        → IsNonDecreasingBy n new.entries × (number_of_last new.entries ≤ n (stored_key eq old.entries k, w))
+    ordered-moves_back_and_writes eq laws k v w d there s up le =
+        rw (moves_back_and_writes_there eq laws old new k v w d there s) (ordered-put_back eq old.entries k w up le)
+
+    pub ordered-removes : (test : K → Bool) (r : Option (K × V)) → RemovesMatch test old new r
+        → IsNonDecreasingBy n old.entries
+        → IsNonDecreasingBy n new.entries × (number_of_last new.entries ≤ number_of_last old.entries)
+    ordered-removes test r s up =
+        let m = number_of_last old.entries in
+        rw (removes_entries old new test r s) (
+          IsNonDecreasingBy-remove_entry test old.entries up,
+          number_of_last-from_All (remove_entry test old.entries) m
+              (All-remove_entry (λ x. n x ≤ m) test old.entries (All-from_last old.entries m up (le_refl m))),
+        )
 
 -- ---- the same of a set's elements
 

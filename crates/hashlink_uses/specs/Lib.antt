@@ -1,2 +1,3 @@
 -- What the contracts of the uses cite, beside the definitions that `hashlink` hands on.
+pub mod ByLastUse
 pub mod Texts

@@ -7,6 +7,7 @@ use hashlink::{LinkedHashMap, LruCache};
 use hashlink_uses::config::Settings;
 use hashlink_uses::memo::{Function, Memo};
 use hashlink_uses::queue::Queue;
+use hashlink_uses::sessions::{Session, SessionTable};
 use hashlink_uses::statements::get_or_prepare;
 use std::hash::RandomState;
 
@@ -54,6 +55,37 @@ fn a_statement_is_prepared_where_it_is_not_kept(rt: HostRuntime) {
     assert_eq!(rt; get_or_prepare(&mut cache, rt.alloc(), "one", |_| 2), 1);
     assert_eq!(rt; get_or_prepare(&mut cache, rt.alloc(), "two", |_| 2), 2);
     assert_eq!(rt; get_or_prepare(&mut cache, rt.alloc(), "one", |_| 3), 3);
+}
+
+#[test]
+fn sessions_leave_in_the_order_of_their_last_use(rt: HostRuntime) {
+    let Ok(hasher) = RandomState::new(&rt) else {
+        return;
+    };
+    let mut sessions = SessionTable::with_hasher(rt.alloc(), hasher);
+    assert_eq!(rt; sessions.open(100u64, 1, 10), Ok(None));
+    assert_eq!(rt; sessions.open(200, 2, 20), Ok(None));
+    assert_eq!(rt; sessions.open(300, 3, 30), Ok(None));
+    assert!(rt; sessions.touch(&100, 40));
+    assert!(rt; !sessions.touch(&400, 40));
+    assert_eq!(rt; sessions.expire(30), 1);
+    assert_eq!(rt; (sessions.len(), sessions.latest_use()), (2, 40));
+    assert_eq!(rt; sessions.get(&200), None);
+    let first = Session {
+        user: 1,
+        last_use: 40,
+    };
+    assert_eq!(rt; sessions.get(&100), Some(&first));
+    let now = sessions.latest_use().max(35);
+    let third = Session {
+        user: 3,
+        last_use: 30,
+    };
+    assert_eq!(rt; sessions.open(300, 4, now), Ok(Some(third)));
+    assert_eq!(rt; sessions.expire_first(40), None);
+    assert_eq!(rt; sessions.close(&100), Some((100, first)));
+    assert_eq!(rt; sessions.expire(41), 1);
+    assert_eq!(rt; sessions.len(), 0);
 }
 
 #[test]
