@@ -55,6 +55,13 @@ impl<K: Eq + Hash, V, S: BuildHasher> LruCache<K, V, S> {
         }
     }
 
+    /// What makes the cache's hashers.
+    pub fn hasher(&self) -> &S
+        ensures { result.now ≡ (state_in self.now).map.hasher }
+    {
+        self.map.hasher()
+    }
+
     /// How many entries the cache holds. An insert through an entry may pass it.
     pub fn capacity(&self) -> usize
         ensures { result ≡ (state_in self.now).cap }

@@ -2,9 +2,11 @@
 //! key once, takes no memory, and looks at the entries of one bucket.
 ghost use Rattle.std.specs.Prelude.{◌≡◌, is_some, option_copied};
 ghost use Rattle.std.specs.Borrow.{sem};
-ghost use Rattle.std.specs.Option.{option_copied_mut};
+ghost use Rattle.std.specs.Option.{option_map, option_copied_mut};
 ghost use Rattle.std.specs.Map.{lookup};
+ghost use Rattle.std.specs.Map.Iter.{deref_pair};
 ghost use Rattle.hashlink_model.specs.Entries.{IsEntries};
+ghost use Rattle.hashlink_model.specs.Walk.{first_of, last_of};
 
 use super::LruCache;
 use hashlink_map::Equivalent;
@@ -35,6 +37,21 @@ impl<K: Eq + Hash, V, S: BuildHasher> LruCache<K, V, S> {
         ensures value { option_copied_mut result ≡ lookup (Q.matches key) (entries_in self.old) }
     {
         self.map.get_mut(key)
+    }
+
+    /// The front, which was used longest ago and is dropped next. The order stays as it is. It takes constant time and
+    /// hashes nothing.
+    pub fn peek_lru(&self) -> Option<(&K, &V)>
+        ensures { option_map deref_pair result ≡ first_of (entries_in self.now) }
+    {
+        self.map.front()
+    }
+
+    /// The entry that was used last. The order stays as it is. It takes constant time and hashes nothing.
+    pub fn back(&self) -> Option<(&K, &V)>
+        ensures { option_map deref_pair result ≡ last_of (entries_in self.now) }
+    {
+        self.map.back()
     }
 
     /// The value of the key, whose entry moves to the end. Of an absent key it returns none, and nothing changes. It
