@@ -3,17 +3,18 @@
 use Rattle.std.proofs.Common.{◌≡◌, ℕ, zero, suc, ◌-◌, ◌≤◌, ◌<◌, Bool, true, false, cond, not, is_some, List, [], ◌∷◌, ◌++◌}
 use Rattle.std.proofs.Common.{length, take, drop, Option, None, Some, Result, Ok, Err, refl, sym, ap, subst, ◌∙◌}
 use Rattle.std.proofs.Common.{◌⊎◌, inl, inr, true≢false, arith, filter, nat_le, le_refl, zero-le}
-use Rattle.std.specs.Prelude.{All, IfSome, OnOk, insert, remove, slice_get, unwrap_or, MatchOption, MatchResult}
+use Rattle.std.specs.Prelude.{All, IfSome, IsSome, OnOk, insert, remove, slice_get, unwrap_or, MatchOption, MatchResult}
 use Rattle.std.specs.Option.{option_map, option_map_or}
 use Rattle.std.specs.Cmp.{IsEquivalence}
-use Rattle.std.specs.List.{list_any}
+use Rattle.std.specs.List.{AllPass, list_any}
 use Rattle.std.specs.List.Sorted.{IsNonDecreasingBy}
-use Rattle.std.specs.Map.{lookup, keys_of, remove_entry, set_value}
+use Rattle.std.specs.Map.{lookup, lookup_entry, keys_of, remove_entry, set_value}
 use Rattle.std.specs.Set.{remove_key}
 use Rattle.std.proofs.lemmas.Bool.{le-leb, lt-leb}
 use Rattle.std.proofs.lemmas.List.{map-append, take-append-drop}
 use Rattle.std.proofs.lemmas.List.Elements.{All-nil, All-cons, All-head, All-tail, All-same, All-append, All-take}
 use Rattle.std.proofs.lemmas.List.Elements.{All-drop, All-push, All-map, All-filter}
+use Rattle.std.proofs.lemmas.List.Sums.{AllPass-from_list_all}
 use Rattle.std.proofs.lemmas.List.Sorted.{IsNonDecreasingBy-drop, IsNonDecreasingBy-push}
 use Rattle.std.proofs.lemmas.Map.{NonePasses}
 use Rattle.std.proofs.lemmas.Map.Entries.{place_from_lookup}
@@ -29,6 +30,13 @@ use Rattle.hashlink_model.specs.Steps.{PopsFront, PopsBack, Replaces, RemovesMat
 use Rattle.hashlink_model.specs.Steps.{MovesAndWrites}
 use Rattle.hashlink_model.specs.Walk.{first_of, last_of}
 use Rattle.hashlink_set.specs.Answers.{as_entry}
+use Rattle.hashlink_commands.specs.declared.commands.Command.{Command}
+use Rattle.hashlink_commands.specs.declared.commands.Command.TheVariants.{Insert, Remove}
+use Rattle.hashlink_commands.specs.declared.replies.Reply.{Reply}
+use Rattle.hashlink_commands.specs.declared.replies.Reply.TheVariants.{Value}
+use Rattle.hashlink_run.specs.CallReplies.{insert_reply, is_refused}
+use Rattle.hashlink_run.specs.Chain.{Answered, replies_of}
+use Rattle.hashlink_run.specs.Run.{LawfulRun, Run, TakesKeysWhereShorter, keeps_nodes}
 use Rattle.hashlink_model.proofs.Distinct.{none_equal, none_others, IsEntries-middle, IsEntries-insert}
 use Rattle.hashlink_model.proofs.Finds.{lookup_is}
 use Rattle.hashlink_model.proofs.Puts.{none_without}
@@ -626,3 +634,67 @@ module _ {K V : Type 0} (eq : K → K → Bool) (es : List (K × V)) (k : K) whe
   pub stored_key-seen : {B : Type 0} → IsEquivalence eq → (f : K → B) → ((x y : K) → eq x y ≡ true → f x ≡ f y)
       → f (stored_key eq es k) ≡ f k
   stored_key-seen laws f alike = sym (alike k (stored_key eq es k) (stored_key-equal eq laws k es))
+
+-- ---- two commands in one run
+
+module _ {K V : Type 0} (test : K → Bool) where
+  is_some-head : (b : Bool) (e : K × V) (o : Option V) (p : Option (K × V)) → is_some o ≡ is_some p
+      → is_some (cond b (Some e.1) o) ≡ is_some (cond b (Some e) p)
+  is_some-head true e o p q = refl
+  is_some-head false e o p q = q
+
+  is_some-entry : (es : List (K × V)) → is_some (lookup test es) ≡ is_some (lookup_entry test es)
+  is_some-entry [] = refl
+  is_some-entry (e ∷ es) = is_some-head (test e.0) e (lookup test es) (lookup_entry test es) (is_some-entry es)
+
+module _ {K V S : Type 0} (test : K → Bool) (old new : MapState K V S) where
+  shorter_without : (r : Option (K × V)) → RemovesMatch test old new r → IsSome r
+      → length new.entries < length old.entries
+  shorter_without None s p = absurd (true≢false (sym p))
+  shorter_without (Some e) s p =
+      let left = ap length s.step.entries in
+      let fewer = s.step.fewer in
+      omega arith
+
+module _ {K V B : Type 0} where
+  value_of_reply : (answer : Result (Option V) (K × V)) → is_refused {B = B} (insert_reply answer ∷ []) ≡ false
+      → (was : Option V) × (insert_reply {B = B} answer ≡ Value was)
+  value_of_reply (Ok was) n = (was, refl)
+  value_of_reply (Err pair) n = absurd (true≢false n)
+
+second_of_two : {R : Type 0} {x y : R} (xs ys : List R) → xs ≡ x ∷ [] → ys ≡ y ∷ []
+    → slice_get (xs ++ (ys ++ [])) 1 ≡ Some y
+second_of_two xs ys p q = rw (p, q) refl
+
+module _ {K V B S : Type 0} (eq : K → K → Bool) (Says : K → V → B → Type 0) (Keeps : K → V → Bool → Type 0)
+    (old : MapState K V S) (g k : K) (v : V) where
+  abbrev removal : List (Command K V)
+  removal = Remove g ∷ []
+
+  removal_keeps_nodes : AllPass keeps_nodes removal
+  removal_keeps_nodes = AllPass-from_list_all keeps_nodes (Remove g ∷ []) refl
+
+  second_answered : (answers : List (Answered (Reply K V B) (MapState K V S)))
+      → Run eq Says Keeps old (Remove g ∷ Insert k v ∷ []) answers
+      → TakesKeysWhereShorter old (Remove g ∷ Insert k v ∷ []) answers eq → IsSome (lookup (eq g) old.entries)
+      → (was : Option V) × (slice_get (replies_of answers) 1 ≡ Some (Value was))
+  second_answered [] r t p = absurd r
+  second_answered (a ∷ []) r t p = absurd r.1
+  second_answered (a ∷ b ∷ []) r t p =
+      let is_there = sym (is_some-entry (eq g) old.entries) ∙ p in
+      let is_shorter = shorter_without (eq g) old a.state (lookup_entry (eq g) old.entries) r.0.0 is_there in
+      let taken = t 0 1 (omega arith) removal_keeps_nodes is_shorter in
+      let value = value_of_reply r.1.0.0 (subst (λ rs. is_refused rs ≡ false) r.1.0.2 (taken.2 b refl)) in
+      (value.0, second_of_two a.replies b.replies r.0.1 r.1.0.2 ∙ ap Some value.1)
+  second_answered (a ∷ b ∷ c ∷ d) r t p = absurd r.1.1
+
+module _ {K V B S : Type 0} {eq : K → K → Bool} {Says : K → V → B → Type 0} {Keeps : K → V → Bool → Type 0} where
+  -- goal: in one `run`, the reply to an insert after the removal of a key that is there is a value
+  pub answered_after_removal : {old new : MapState K V S} {g k : K} {v : V} {replies : List (Reply K V B)}
+      (commands : List (Command K V)) → commands ≡ Remove g ∷ Insert k v ∷ []
+      → LawfulRun eq Says Keeps old commands replies new → IsSome (lookup (eq g) old.entries)
+      → (was : Option V) × (slice_get replies 1 ≡ Some (Value was))
+  answered_after_removal {old = old} {new = new} {g = g} {k = k} {v = v} {replies = replies} commands is lawful p =
+      let ran = subst (λ cs. LawfulRun eq Says Keeps old cs replies new) is lawful in
+      subst (λ rs. (was : Option V) × (slice_get rs 1 ≡ Some (Value was))) (sym ran.runs.joined)
+      (second_answered eq Says Keeps old g k v ran.runs.answers ran.runs.chain ran.shorter p)

@@ -1,13 +1,17 @@
 //! Lists of commands, and what is known of the container after them.
-ghost use Rattle.std.specs.Prelude.{◌≡◌, ◌≤◌, length, IfOk};
+ghost use Rattle.std.specs.Prelude.{◌≡◌, ◌≤◌, Option, Some, length, slice_get, IfOk, IsSome};
 ghost use Rattle.std.specs.List.{AllPass};
+ghost use Rattle.std.specs.Map.{lookup};
 ghost use Rattle.hashlink.specs.Cache.{IsWithin};
 ghost use Rattle.hashlink.specs.CacheRun.{names_no_entry};
 ghost use Rattle.hashlink.specs.Cached.{entries_in, state_in};
+ghost use Rattle.hashlink.specs.Keyed.{entries_of};
 ghost use Rattle.hashlink.specs.Run.{keeps_nodes};
+ghost use Rattle.hashlink.specs.declared.run.Reply.TheVariants.{Value};
 
-use hashlink::run::{CacheCommand, Command, run, run_cache};
+use hashlink::run::{CacheCommand, Command, Reply, run, run_cache};
 use hashlink::{AllocError, LinkedHashMap, LruCache};
+use std::alloc::Global;
 use std::hash::{BuildHasher, Hash};
 
 /// Gives the commands to the cache and returns how many entries it has then: never more than its capacity, if it had
@@ -44,4 +48,22 @@ pub fn insert_where_shorter<K: Eq + Hash + Drop, V: Drop, S: BuildHasher>(
         Ok(old) => Ok(old),
         Err(_) => unreachable!(),
     }
+}
+
+/// Removes a key and inserts a pair in one run, and returns the replies. Where the key was there, the insert takes the
+/// node that the removal left, so that its reply is a value and no pair that is handed back.
+pub fn remove_then_insert<K: Eq + Hash + Drop, V: Drop, S: BuildHasher>(
+    alloc: Global,
+    map: &mut LinkedHashMap<K, V, S>,
+    gone: K,
+    key: K,
+    value: V,
+) -> Result<Vec<Reply<K, V>>, AllocError>
+    ensures answered { IfOk result (λ replies. IsSome (lookup (K.eq gone) (entries_of map.old))
+        → (was : Option V) × (slice_get replies.items 1 ≡ Some (Value was))) }
+{
+    let mut commands = Vec::with_capacity(alloc, 2)?;
+    commands.push(Command::Remove(gone))?;
+    commands.push(Command::Insert(key, value))?;
+    run(map, commands, &|_: &K, _: &V| true)
 }
