@@ -1,5 +1,5 @@
 //! Sets that are made whole: of the items of an iterator, as a clone, and of clones of what two sets give together.
-ghost use Rattle.std.specs.Prelude.{◌≡◌, List, Bool, Ok, IfOk, OnOk, map};
+ghost use Rattle.std.specs.Prelude.{◌≡◌, List, [], Bool, Ok, IfOk, OnOk, OnErr, map};
 ghost use Rattle.std.specs.Borrow.{Bor};
 ghost use Rattle.std.specs.Iterator.{Drains, IsFinite, IsFiniteIterable};
 ghost use Rattle.std.specs.List.{AllZip};
@@ -49,11 +49,15 @@ impl<T: Eq + Hash + Clone, S: BuildHasher + Clone> LinkedHashSet<T, S> {
     /// the same allocator's memory, and has no spare node.
     ///
     /// It returns `AllocError` where the memory for a clone or for a node is refused, and then nothing is left of the
-    /// new set.
+    /// new set. A clone of an empty set is not refused where that of its hasher is not.
     pub fn clone(&self) -> Result<Self, AllocError>
-        ensures { IfOk result (IsOfClones T.eq T.is_clone (S.is_clone self.now.hasher) (elements_of self.now)) }
+        ensures made { IfOk result (IsOfClones T.eq T.is_clone (S.is_clone self.now.hasher) (elements_of self.now)) }
+        ensures refused { OnErr result (S.is_infallible self.now.hasher → elements_of self.now ≡ [] → ⊥) }
     {
         let hash_builder = self.hasher().clone()?;
+        if self.is_empty() {
+            return Ok(LinkedHashSet::with_hasher(self.alloc, hash_builder));
+        }
         of_clones(self.alloc, hash_builder, self.iter())
     }
 }
@@ -61,6 +65,8 @@ impl<T: Eq + Hash + Clone, S: BuildHasher + Clone> LinkedHashSet<T, S> {
 /// What holds a set may be cloned with it: a clone is made as the function `clone` makes it.
 impl<T: Eq + Hash + Clone, S: BuildHasher + Clone> Clone for LinkedHashSet<T, S> {
     ghost is_clone = { λ set. IsOfClones T.eq T.is_clone (S.is_clone set.hasher) (elements_of set) };
+
+    ghost is_infallible = { λ set. S.is_infallible set.hasher × (elements_of set ≡ []) };
 
     fn clone(&self) -> Result<Self, AllocError> {
         LinkedHashSet::clone(self)

@@ -5,8 +5,8 @@ use Rattle.hashlink_model.specs.Sets.{elements_of}
 use Rattle.hashlink_set.proofs.OfClones.{is_of_items, given_all}
 use Rattle.hashlink_set.proofs.set.LinkedHashSet.clone.Goals as goal
 
-pub returns : goal.returns
-returns g c =
+pub returns-clause-made : goal.returns-clause-made
+returns-clause-made g c =
     let eq = g.T.PartialEq.eq in
     let ts = elements_of c.args.self.now in
     if_ok_then c.of_clones.result _ _
