@@ -1,6 +1,7 @@
-//! Lists of commands with keys that are equal and yet differ.
+//! Lists of commands with keys that are equal and yet differ, and a removal with an insert in one run.
 use hashlink::LinkedHashMap;
 use hashlink::run::{Command, EntryStep, PairCommand, Reply, run, run_pair};
+use hashlink_uses::commands::remove_then_insert;
 use std::test::Fail;
 use test_keys::Numbered;
 
@@ -95,6 +96,20 @@ fn the_smaller_of_two_caches_may_hold_another_key_that_is_equal(
     assert_eq!(rt;
         (pair.small.peek(&key(1, 4)), pair.large.peek(&key(1, 4))),
         (Some(&11), Some(&11))
+    );
+    Ok(())
+}
+
+#[test]
+fn an_insert_after_a_removal_is_answered(rt: HostRuntime) -> Result<(), Fail> {
+    let mut map = LinkedHashMap::new(rt.alloc());
+    map.insert(1u32, 10u32)?;
+    let replies = remove_then_insert(rt.alloc(), &mut map, 1, 2, 20)?;
+    assert!(rt;
+        matches!(
+            replies.as_slice(),
+            [Reply::Value(Some(10)), Reply::Value(None)]
+        )
     );
     Ok(())
 }
