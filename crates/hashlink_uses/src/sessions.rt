@@ -1,6 +1,6 @@
 //! Sessions in the order of their last use, so that those which are too old stand in front.
-ghost use Rattle.std.specs.Prelude.{◌≡◌, ◌∷◌, ◌++◌, ◌+◌, ◌<◌, ◌≤◌, [], IsTrue, IsFalse, IfSome, IfNone, List, All};
-ghost use Rattle.std.specs.Prelude.{MatchOption, MatchResult, length, option_copied, take};
+ghost use Rattle.std.specs.Prelude.{◌≡◌, ◌∷◌, ◌++◌, ◌+◌, ◌<◌, ◌≤◌, [], IsTrue, IsFalse, IfSome, IfNone, List};
+ghost use Rattle.std.specs.Prelude.{All, MatchOption, MatchResult, length, option_copied, take};
 ghost use Rattle.std.specs.List.{IsDistinct};
 ghost use Rattle.std.specs.Map.{keys_of, lookup, lookup_entry, remove_entry};
 ghost use Rattle.hashlink.specs.Keyed.{entries_of};
@@ -72,8 +72,8 @@ impl<K: Eq + Hash, S: BuildHasher> SessionTable<K, S> {
         self.sessions.get(key)
     }
 
-    /// Begins a session of the user at the end, and answers the one that the key had until now. Where memory is
-    /// refused, the key and the session are handed back and nothing changes.
+    /// Begins a session of the user at the end, and answers the one that the key had until now. Where memory
+    /// is refused, the key and the session are handed back and nothing changes.
     pub fn open(&mut self, key: K, user: u64, now: u64) -> Result<Option<Session>, (K, Session)>
     where
         K: Drop,
@@ -130,8 +130,8 @@ impl<K: Eq + Hash, S: BuildHasher> SessionTable<K, S> {
         }
     }
 
-    /// Takes out every session that was used last before a time, and answers how many they were. They stand in
-    /// front, so it looks at no more than one that stays.
+    /// Takes out every session that was used last before a time, and answers how many they were. They stand
+    /// in front, so it looks at no more than one that stays.
     pub fn expire(&mut self, before: u64) -> usize
     where
         K: Drop,

@@ -1,21 +1,13 @@
-use Rattle.hashlink.specs.Keyed.{state_of}
 use Rattle.hashlink.proofs.CallerLemmas.{ordered-removes, removes_entries}
 use Rattle.hashlink_uses.specs.ByLastUse.{last_use}
 use Rattle.hashlink_uses.proofs.sessions.SessionTable.close.Goals as goal
 
 pub invariant_of-self : goal.invariant_of-self
-invariant_of-self g c =
-    (ordered-removes last_use (state_of c.self.inside.sessions) (state_of c.remove_entry.new.self)
-    (g.K.PartialEq.eq c.args.key.now) c.remove_entry.result c.remove_entry.ensures.removes c.self.invariant).0
+invariant_of-self g c = (ordered-removes last_use _ _ _ _ c.remove_entry.ensures.removes c.self.invariant).0
 
 pub returns-clause-left : goal.returns-clause-left
-returns-clause-left g c =
-    rw (← c.self.view_is)
-    (removes_entries (state_of c.self.inside.sessions) (state_of c.remove_entry.new.self)
-    (g.K.PartialEq.eq c.args.key.now) c.remove_entry.result c.remove_entry.ensures.removes)
+returns-clause-left g c = rw (← c.self.view_is) (removes_entries _ _ _ _ c.remove_entry.ensures.removes)
 
 pub returns-clause-time : goal.returns-clause-time
 returns-clause-time g c =
-    rw (← c.self.view_is)
-    (ordered-removes last_use (state_of c.self.inside.sessions) (state_of c.remove_entry.new.self)
-    (g.K.PartialEq.eq c.args.key.now) c.remove_entry.result c.remove_entry.ensures.removes c.self.invariant).1
+    rw (← c.self.view_is) (ordered-removes last_use _ _ _ _ c.remove_entry.ensures.removes c.self.invariant).1
