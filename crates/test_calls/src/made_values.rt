@@ -2,6 +2,7 @@
 use hashlink::lru_cache::TryInsertError;
 use hashlink::{LinkedHashMap, LruCache};
 use std::hash::BuildHasher;
+use std::test::Fail;
 use test_keys::SameHash;
 
 #[test]
@@ -83,4 +84,20 @@ fn an_entry_hands_on_that_no_value_was_made(rt: HostRuntime) {
     let found = map.entry(1).or_try_insert_with(|| Err::<u32, u8>(7));
     assert!(rt; matches!(found, Ok(value) if *value == 10));
     assert_eq!(rt; map.back(), Some((&1, &10)));
+}
+
+#[test]
+fn a_value_that_was_not_made_says_why(rt: HostRuntime) -> Result<(), Fail> {
+    let failed = TryInsertError::<u64, u64, u8>::Make(1, 7);
+    assert_eq!(rt;
+        failed.to_string(rt.alloc())?.as_str(),
+        "no value was made: 7"
+    );
+    let refused = TryInsertError::<u64, u64, u8>::Memory((1, 10));
+    assert_eq!(rt;
+        refused.to_string(rt.alloc())?.as_str(),
+        "memory allocation failed"
+    );
+    assert!(rt; failed.clone()? != refused);
+    Ok(())
 }
