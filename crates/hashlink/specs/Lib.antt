@@ -39,6 +39,7 @@ pub use Rattle.hashlink_map.specs.RawEntry
 pub use Rattle.hashlink_map.specs.RawLends
 pub use Rattle.hashlink_map.specs.Reading
 pub use Rattle.hashlink_map.specs.Standing
+pub use Rattle.hashlink_map.specs.TryInsert
 pub use Rattle.hashlink_map.specs.WritingWalk
 pub use Rattle.hashlink_set.specs.Answers as SetAnswers
 pub use Rattle.hashlink_set.specs.Called as SetCalled

@@ -7,7 +7,7 @@ pub mod linked_hash_map {
     pub use hashlink_map::{
         CursorMut, Drain, Entry, ExtendError, IntoIter, Iter, IterMut, Keys, LinkedHashMap,
         OccupiedEntry, RawEntryBuilder, RawEntryBuilderMut, RawEntryMut, RawOccupiedEntryMut,
-        RawVacantEntryMut, TryReserveError, VacantEntry, Values, ValuesMut,
+        RawVacantEntryMut, TryInsertError, TryReserveError, VacantEntry, Values, ValuesMut,
     };
     pub use std::alloc::AllocError;
 }
@@ -24,7 +24,7 @@ pub mod lru_cache {
     pub use hashlink_lru::{
         Drain, Entry, ExtendError, IntoIter, Iter, IterMut, LruCache, OccupiedEntry,
         RawEntryBuilder, RawEntryBuilderMut, RawEntryMut, RawOccupiedEntryMut, RawVacantEntryMut,
-        VacantEntry,
+        TryInsertError, VacantEntry,
     };
 }
 

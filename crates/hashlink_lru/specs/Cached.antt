@@ -1,8 +1,12 @@
 -- What a contract sees of a cache.
-use Rattle.std.specs.Prelude.{ℕ, Bool, List, Option, Result}
-use Rattle.hashlink_model.specs.Cache.{CacheState, CacheInserts, IsWithin}
+use Rattle.std.specs.Prelude.{◌≡◌, ℕ, ◌+◌, ◌≤◌, max, Bool, List, Option, None, Some, Result, Err, MatchOption}
+use Rattle.std.specs.Map.{lookup}
+use Rattle.hashlink_model.specs.Cache.{CacheState, CacheInserts, CacheGets, CacheGetsAndWrites, IsWithin, OnMap}
+use Rattle.hashlink_model.specs.Cache.{InsertsLast, InsertsThenFits}
 use Rattle.hashlink_model.specs.MapState.{empty_map}
 use Rattle.hashlink_core.specs.Keyed.{Keyed, entries_of, state_of}
+use Rattle.hashlink_map.specs.declared.try_insert_error.TryInsertError.{TryInsertError}
+use Rattle.hashlink_map.specs.declared.try_insert_error.TryInsertError.TheVariants.{Make, Memory}
 use Rattle.hashlink_lru.specs.declared.cache.LruCache.{LruCache}
 
 -- a cache as it is made: nothing in it, no memory taken, and a capacity
@@ -18,6 +22,31 @@ abbrev pub InsertsPairIn : {K V S : Type 0} → (K → K → Bool) → CacheStat
     → Result (Option V) (K × V)
     → Type 0
 InsertsPairIn eq old new p r = CacheInserts eq old new p.0 p.1 r
+
+-- the same of a bound that has a place for one entry
+abbrev pub StaysWithinOne : {K V S : Type 0} → CacheState K V S → CacheState K V S → Type 0
+StaysWithinOne old new = (n : ℕ) → 1 ≤ old.cap + n → IsWithin old n → IsWithin new n
+
+module _ {K V S : Type 0} (eq : K → K → Bool) where
+  -- the insert of an absent key whose value is lent: the last `cap` entries stay, and of a capacity 0 the new one
+  abbrev pub PutsNewIn : CacheState K V S → CacheState K V S → K → V → Type 0
+  PutsNewIn old new k v = OnMap (λ a b. InsertsThenFits (InsertsLast eq k v None) (max old.cap 1) a b) old new
+
+  -- a use of a key: a hit of `get`, or the insert of an absent key with a value that may be made
+  abbrev pub UsesOrPuts : (V → Type 0) → CacheState K V S → CacheState K V S → K → Type 0
+  UsesOrPuts Makes old new k =
+      MatchOption (lookup (eq k) old.map.entries) ((v : V) × Makes v × PutsNewIn old new k v)
+      (λ w. CacheGets eq old new k (Some w))
+
+  -- the same once w was written through what was lent: a hit of `get_mut`, or the insert of an absent key with w
+  abbrev pub UsesAndWrites : CacheState K V S → CacheState K V S → K → V → Type 0
+  UsesAndWrites old new k w =
+      MatchOption (lookup (eq k) old.map.entries) (PutsNewIn old new k w) (λ _. CacheGetsAndWrites eq old new k w)
+
+  -- a use whose value was not made changed nothing, and one that was refused memory is an insert that was refused
+  abbrev pub FailsToUse : {E : Type 0} → CacheState K V S → CacheState K V S → K → TryInsertError K V E → Type 0
+  FailsToUse old new k (Make q e) = new ≡ old
+  FailsToUse old new k (Memory pair) = CacheInserts eq old new k pair.1 (Err pair)
 
 module _ {K V S T : Type 0} where
   -- the map of a cache

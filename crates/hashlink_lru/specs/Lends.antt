@@ -1,17 +1,18 @@
 -- What a cache ends as, once what was lent out of it has ended.
-use Rattle.std.specs.Prelude.{◌≡◌, Bool, Option, OnSome, ⊤}
-use Rattle.std.specs.Borrow.{Fml, GName, RattleType, MutBor, Lends, LendsSo, follows, follows_so}
+use Rattle.std.specs.Prelude.{◌≡◌, Bool, Option, OnSome, Result, Err, IfErr, ⊤}
+use Rattle.std.specs.Borrow.{Fml, GName, RattleType, MutBor, Lends, LendsSo, LendsSoOk, follows, follows_so}
 use mathlib.Core.Option.{none}
 use Rattle.std.specs.declared.hash.Hasher as hasher
 use Rattle.std.specs.declared.hash.BuildHasher as builder
-use Rattle.hashlink_model.specs.Cache.{CacheGetsMatch, CacheGetsMatchAndWrites}
+use Rattle.hashlink_model.specs.Cache.{CacheGetsMatch, CacheGetsMatchAndWrites, CacheInserts}
 use Rattle.hashlink_model.specs.Steps.{with_match_value}
 use Rattle.hashlink_core.specs.Keyed.{Keyed}
 use Rattle.hashlink_core.specs.KeyedLends.{HashMembers}
 use Rattle.hashlink_map.specs.Lends.{map_row}
+use Rattle.hashlink_map.specs.declared.try_insert_error.TryInsertError.{TryInsertError}
 use Rattle.hashlink_lru.specs.contracts.cache.LruCache.{the_row}
 use Rattle.hashlink_lru.specs.declared.cache.LruCache.{LruCache}
-use Rattle.hashlink_lru.specs.Cached.{state_in, with_map, StaysWithin}
+use Rattle.hashlink_lru.specs.Cached.{state_in, with_map, StaysWithin, StaysWithinOne, UsesAndWrites, FailsToUse}
 
 module _ (K V S T : RattleType) (g : HashMembers K.Denot) (b : builder.Ghosts S.Denot T.Denot)
     (w : hasher.Ghosts T.Denot) where
@@ -26,6 +27,25 @@ module _ (K V S T : RattleType) (g : HashMembers K.Denot) (b : builder.Ghosts S.
     -- the map is lent: the cache ends with what was made of it
     abbrev pub LendsMap : MutBor (Keyed K.Denot V.Denot S.Denot) → Fml
     LendsMap m = Lends cache_row (map_row K V S T g b w) c m (with_map c.now)
+
+    -- the value of a key that is used or put is lent: the cache ends with what was written there, or as the refusal of
+    -- the pair leaves it. No more entries are beyond the capacity than before, except that one stays at capacity 0
+    abbrev pub LendsUsedOrNew : K.Denot → Result (MutBor V.Denot) (K.Denot × V.Denot) → Fml
+    LendsUsedOrNew k r =
+        LendsSoOk cache_row V c r
+        (λ new v. UsesAndWrites g.eq (state_in c.now) (state_in new) k v
+        × StaysWithinOne (state_in c.now) (state_in new))
+        (λ new. IfErr r (λ pair. CacheInserts g.eq (state_in c.now) (state_in new) k pair.1 (Err pair)))
+
+    -- the same where what makes the value may fail
+    abbrev pub LendsUsedOrTryNew : {E : Type 0} → K.Denot
+        → Result (MutBor V.Denot) (TryInsertError K.Denot V.Denot E)
+        → Fml
+    LendsUsedOrTryNew k r =
+        LendsSoOk cache_row V c r
+        (λ new v. UsesAndWrites g.eq (state_in c.now) (state_in new) k v
+        × StaysWithinOne (state_in c.now) (state_in new))
+        (λ new. IfErr r (FailsToUse g.eq (state_in c.now) (state_in new) k))
 
     module _ (test : K.Denot → Bool) where
       -- the value of the first key that passes is lent where it stands: the cache ends with what was written there,

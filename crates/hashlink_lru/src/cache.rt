@@ -9,6 +9,7 @@ mod inserts;
 mod many;
 mod reads;
 mod removals;
+mod uses;
 mod walks;
 
 use hashlink_map::{DefaultHashBuilder, LinkedHashMap};

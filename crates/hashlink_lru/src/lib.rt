@@ -9,5 +9,5 @@ pub use cache::LruCache;
 pub use hashlink_map::{
     DefaultHashBuilder, DefaultHasher, Drain, Entry, Equivalent, ExtendError, IntoIter, Iter,
     IterMut, OccupiedEntry, RawEntryBuilder, RawEntryBuilderMut, RawEntryMut, RawOccupiedEntryMut,
-    RawVacantEntryMut, VacantEntry,
+    RawVacantEntryMut, TryInsertError, VacantEntry,
 };

@@ -17,7 +17,9 @@ use Rattle.hashlink_map.specs.declared.as_node.AsNode as as_node
 use Rattle.hashlink_map.specs.declared.entry.Entry.{Entry}
 use Rattle.hashlink_map.specs.declared.entry.OccupiedEntry.{OccupiedEntry}
 use Rattle.hashlink_map.specs.declared.entry.VacantEntry.{VacantEntry}
+use Rattle.hashlink_map.specs.declared.try_insert_error.TryInsertError.{TryInsertError}
 use Rattle.hashlink_map.specs.Entry.{occupied_with, entry_map, entry_state}
+use Rattle.hashlink_map.specs.TryInsert.{FailsToInsert}
 
 -- an insert's step at the end: a key that was there moved there, and an absent one went in
 abbrev pub PutsLast : {K V S : Type 0} → (K → K → Bool) → MapState K V S → MapState K V S → K → V → Type 0
@@ -40,8 +42,8 @@ module _ (K V S T : RattleType) {g : eq.Ghosts K.Denot} {h : hash.Ghosts K.Denot
     LendsForGood o r = Lends (the_row K V S T g h b w) V o.map r (with_value_at o.map.now (n.node o.node))
 
     -- the map as an insert at the end of what was written leaves it
-    abbrev pub LendsLast : OccupiedEntry K.Denot V.Denot S.Denot N T.Denot g h b w n
-        → Result (MutBor V.Denot) (K.Denot × V.Denot)
+    abbrev pub LendsLast : {E : Type 0} → OccupiedEntry K.Denot V.Denot S.Denot N T.Denot g h b w n
+        → Result (MutBor V.Denot) E
         → Fml
     LendsLast o r =
         LendsSoOk (the_row K V S T g h b w) V o.map r
@@ -56,6 +58,15 @@ module _ (K V S T : RattleType) {g : eq.Ghosts K.Denot} {h : hash.Ghosts K.Denot
       (λ new u. AddsEntry g.eq (state_of e.map.now) (state_of new) e.key u (length (entries_of e.map.now)))
       (λ new. IfErr r (RefusesEntry g.eq (state_of e.map.now) (state_of new) e.key v))
 
+  -- the same where the value may not have been made
+  abbrev pub LendsTryNew : {E : Type 0} → VacantEntry K.Denot V.Denot S.Denot T.Denot g h b w
+      → Result (MutBor V.Denot) (TryInsertError K.Denot V.Denot E)
+      → Fml
+  LendsTryNew e r =
+      LendsSoOk (the_row K V S T g h b w) V e.map r
+      (λ new u. AddsEntry g.eq (state_of e.map.now) (state_of new) e.key u (length (entries_of e.map.now)))
+      (λ new. IfErr r (FailsToInsert g.eq (state_of e.map.now) (state_of new) e.key))
+
   -- the map as an insert at the end of what was written leaves it, or a refusal of what was to go in
   abbrev pub LendsOrNew : Entry K.Denot V.Denot S.Denot T.Denot g h b w → Result (MutBor V.Denot) (K.Denot × V.Denot)
       → Fml
@@ -63,3 +74,12 @@ module _ (K V S T : RattleType) {g : eq.Ghosts K.Denot} {h : hash.Ghosts K.Denot
       LendsSoOk (the_row K V S T g h b w) V (entry_map e) r
       (λ new u. PutsLast g.eq (entry_state e).map (state_of new) (entry_state e).key u)
       (λ new. IfErr r (λ pair. RefusesEntry g.eq (entry_state e).map (state_of new) (entry_state e).key pair.1 pair))
+
+  -- the same where what makes the value may fail
+  abbrev pub LendsOrTryNew : {E : Type 0} → Entry K.Denot V.Denot S.Denot T.Denot g h b w
+      → Result (MutBor V.Denot) (TryInsertError K.Denot V.Denot E)
+      → Fml
+  LendsOrTryNew e r =
+      LendsSoOk (the_row K V S T g h b w) V (entry_map e) r
+      (λ new u. PutsLast g.eq (entry_state e).map (state_of new) (entry_state e).key u)
+      (λ new. IfErr r (FailsToInsert g.eq (entry_state e).map (state_of new) (entry_state e).key))

@@ -1,11 +1,12 @@
 -- What a map ends as, once a `&mut` to a value has ended.
-use Rattle.std.specs.Prelude.{◌≡◌, ℕ, Bool, Option, OnSome, ⊤}
+use Rattle.std.specs.Prelude.{◌≡◌, ℕ, ◌-◌, Bool, Option, OnSome, length, ⊤}
 use Rattle.std.specs.Borrow.{Fml, GName, RattleType, MutBor, Lends, LendsSo, follows, follows_so}
 use mathlib.Core.Option.{none}
 use Rattle.std.specs.declared.hash.Hasher as hasher
 use Rattle.std.specs.declared.hash.BuildHasher as builder
+use Rattle.hashlink_model.specs.MapState.{with_value}
 use Rattle.hashlink_model.specs.Steps.{with_match_value, MovesMatchAndWrites}
-use Rattle.hashlink_core.specs.Keyed.{Keyed, state_of}
+use Rattle.hashlink_core.specs.Keyed.{Keyed, state_of, entries_of}
 use Rattle.hashlink_core.specs.KeyedLends.{HashMembers, with_value_at}
 use Rattle.hashlink_core.specs.Places.{Node}
 use Rattle.hashlink_map.specs.contracts.map.LinkedHashMap.{the_row}
@@ -26,6 +27,13 @@ module _ (K V S T : RattleType) (g : HashMembers K.Denot) (b : builder.Ghosts S.
   -- the value of the node is lent: the map ends with what was written there
   abbrev pub LendsAtNode : MutBor (Keyed K.Denot V.Denot S.Denot) → Node → MutBor V.Denot → Fml
   LendsAtNode m n r = Lends map_row V m r (with_value_at m.now n)
+
+  -- the last value is lent: the map ends with what was written there, and where there is none as it was
+  abbrev pub LendsLastValue : MutBor (Keyed K.Denot V.Denot S.Denot) → Option (MutBor V.Denot) → Fml
+  LendsLastValue m r =
+      LendsSo map_row V m r
+      (λ new v. OnSome r (state_of new ≡ with_value (state_of m.now) (length (entries_of m.now) - 1) v))
+      (λ new. state_of new ≡ state_of m.now)
 
   module _ (m : MutBor (Keyed K.Denot V.Denot S.Denot)) (test : K.Denot → Bool) where
     -- the value of the first key that passes is lent: the map ends with what was written there, and where none passes

@@ -15,4 +15,5 @@ pub mod RawEntry
 pub mod RawLends
 pub mod Reading
 pub mod Standing
+pub mod TryInsert
 pub mod WritingWalk

@@ -19,6 +19,7 @@ mod map;
 mod places_left;
 mod raw_entry;
 mod texts;
+mod try_insert_error;
 mod values_mut;
 
 pub use as_node::AsNode;
@@ -35,4 +36,5 @@ pub use map::LinkedHashMap;
 pub use raw_entry::{
     RawEntryBuilder, RawEntryBuilderMut, RawEntryMut, RawOccupiedEntryMut, RawVacantEntryMut,
 };
+pub use try_insert_error::TryInsertError;
 pub use values_mut::ValuesMut;

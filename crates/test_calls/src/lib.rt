@@ -20,6 +20,8 @@ mod hashers;
 #[cfg(test)]
 mod large;
 #[cfg(test)]
+mod made_values;
+#[cfg(test)]
 mod many;
 #[cfg(test)]
 mod no_size;

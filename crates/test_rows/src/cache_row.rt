@@ -154,7 +154,7 @@ fn call_all<S: BuildHasher + Copy + Drop>(
         "iter_mut" => take_steps(&mut cache.iter_mut(), words, answers),
         "drain" => take_steps(&mut cache.drain(), words, answers),
         "into_iter" => {
-            let hasher = *cache.map_mut().hasher();
+            let hasher = *cache.hasher();
             let empty = LruCache::with_hasher(home.alloc, cache.capacity(), hasher);
             walk_whole(mem::replace(cache, empty).into_iter(), words, answers)
         }

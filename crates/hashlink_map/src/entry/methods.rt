@@ -7,10 +7,12 @@ ghost use Rattle.hashlink_model.specs.Entries.{IsEntries, stored_key};
 ghost use Rattle.hashlink_model.specs.Entry.{entry_of};
 ghost use Rattle.hashlink_core.specs.Keyed.{state_of, entries_of};
 ghost use Rattle.hashlink_map.specs.Entry.{entry_map, entry_state, entry_value, Modifies};
-ghost use Rattle.hashlink_map.specs.EntryLends.{LendsOrNew};
+ghost use Rattle.hashlink_map.specs.EntryLends.{LendsOrNew, LendsOrTryNew};
+ghost use Rattle.hashlink_map.specs.TryInsert.{HandsBack};
 
 use super::{Entry, OccupiedEntry, VacantEntry};
 use crate::map::LinkedHashMap;
+use crate::try_insert_error::TryInsertError;
 use std::hash::{BuildHasher, Hash};
 
 impl<K: Eq + Hash, V, S: BuildHasher> LinkedHashMap<K, V, S> {
@@ -84,6 +86,30 @@ impl<'a, K: Eq + Hash, V, S: BuildHasher> Entry<'a, K, V, S> {
         match self {
             Entry::Occupied(entry) => entry.into_last_mut(),
             Entry::Vacant(entry) => entry.insert(default()),
+        }
+    }
+
+    /// `or_insert` of what `default` gives, which is called only where the entry is vacant and may fail. Its error is
+    /// handed on with the key in hand, and then nothing changes.
+    ///
+    /// It takes memory only for a vacant entry where no node is spare. Where that is refused, the key in hand and the
+    /// value that was made are handed back, and no entry changes.
+    pub fn or_try_insert_with<E, F: FnOnce() -> Result<V, E>>(
+        self,
+        default: F,
+    ) -> Result<&'a mut V, TryInsertError<K, V, E>>
+    where
+        K: Drop,
+        F: Drop,
+        requires { entry_value (entry_state self) ≡ None → F.pre default }
+        ensures* lends { sem 𝓛 (LendsOrTryNew K.row V.row S.row S.Hasher.row self.entry result) }
+        ensures value { IfOk result
+            (λ v. UnwrapsOrElse (entry_value (entry_state self.entry)) (λ x. F.post default (Ok x)) v.now) }
+        ensures handed_back { IfErr result (HandsBack (F.post default) (entry_state self.entry).key) }
+    {
+        match self {
+            Entry::Occupied(entry) => entry.into_last_mut(),
+            Entry::Vacant(entry) => entry.try_insert(default()),
         }
     }
 

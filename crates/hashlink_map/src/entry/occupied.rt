@@ -57,7 +57,7 @@ impl<'a, K: Eq + Hash, V, S: BuildHasher> OccupiedEntry<'a, K, V, S> {
 
     /// Moves the entry to the end, and lends its value as long as the map is borrowed. It never returns an `Err`:
     /// of a `Result` a clause can say by a relation what the map ends as, of a bare reference by a function alone.
-    pub(crate) fn into_last_mut(self) -> Result<&'a mut V, (K, V)>
+    pub(crate) fn into_last_mut<E>(self) -> Result<&'a mut V, E>
     where
         K: Drop,
         ensures* lends { sem 𝓛 (LendsLast K.row V.row S.row S.Hasher.row self.entry result) }

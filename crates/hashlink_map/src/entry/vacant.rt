@@ -1,16 +1,18 @@
 //! The calls of `VacantEntry`. None of them hashes.
-ghost use Rattle.std.specs.Prelude.{◌≡◌, IfOk, IfErr, length};
+ghost use Rattle.std.specs.Prelude.{◌≡◌, Ok, IfOk, IfErr, length};
 ghost use Rattle.std.specs.Borrow.{sem};
 ghost use Rattle.hashlink_model.specs.MapState.{AddsEntry};
 ghost use Rattle.hashlink_core.specs.Keyed.{state_of};
 
 use super::VacantEntry;
 use crate::raw_entry::{RawOccupiedEntryMut, RawVacantEntryMut};
+use crate::try_insert_error::TryInsertError;
 use std::hash::{BuildHasher, Hash};
 
 impl<'a, K: Eq + Hash, V, S: BuildHasher> VacantEntry<'a, K, V, S> {
     ghost use Rattle.hashlink_map.specs.Entry.{vacant_map, vacant_state};
-    ghost use Rattle.hashlink_map.specs.EntryLends.{LendsNew};
+    ghost use Rattle.hashlink_map.specs.EntryLends.{LendsNew, LendsTryNew};
+    ghost use Rattle.hashlink_map.specs.TryInsert.{HandsBack};
     ghost use Rattle.hashlink_map.specs.RawEntry.{raw_occupied_map, raw_vacant_map, raw_place};
     ghost use Rattle.hashlink_map.specs.RawLends.{HandsOnNew};
 
@@ -46,6 +48,26 @@ impl<'a, K: Eq + Hash, V, S: BuildHasher> VacantEntry<'a, K, V, S> {
         let VacantEntry { map, hash, key } = self;
         let node = map.push_back(hash, key, value)?;
         Ok(map.value_at_mut(node))
+    }
+
+    /// `insert` of a value that was made. Where it was not, the map stays as it is.
+    pub(crate) fn try_insert<E>(
+        self,
+        made: Result<V, E>,
+    ) -> Result<&'a mut V, TryInsertError<K, V, E>>
+        ensures* lends { sem 𝓛 (LendsTryNew K.row V.row S.row S.Hasher.row self.entry result) }
+        ensures value { IfOk result (λ v. made ≡ Ok v.now) }
+        ensures handed_back { IfErr result (HandsBack (λ m. made ≡ m) (vacant_state self.entry).key) }
+    {
+        let VacantEntry { map, hash, key } = self;
+        let value = match made {
+            Ok(value) => value,
+            Err(error) => return Err(TryInsertError::Make(key, error)),
+        };
+        match map.push_back(hash, key, value) {
+            Ok(node) => Ok(map.value_at_mut(node)),
+            Err(pair) => Err(TryInsertError::Memory(pair)),
+        }
     }
 
     /// Puts the key in hand and the value last, and returns the entry. It stores at most four links.

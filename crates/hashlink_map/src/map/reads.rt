@@ -12,7 +12,7 @@ use hashlink_core::Equivalent;
 use std::hash::{BuildHasher, Hash};
 
 impl<K: Eq + Hash, V, S: BuildHasher> LinkedHashMap<K, V, S> {
-    ghost use Rattle.hashlink_map.specs.Lends.{LendsValueOf};
+    ghost use Rattle.hashlink_map.specs.Lends.{LendsValueOf, LendsLastValue};
 
     /// The value of the key. The order stays as it is.
     pub fn get<Q: Equivalent<K>>(&self, key: Q) -> Option<&V>
@@ -64,5 +64,17 @@ impl<K: Eq + Hash, V, S: BuildHasher> LinkedHashMap<K, V, S> {
     {
         let node = self.list.last()?;
         Some(self.list.entry(node))
+    }
+
+    /// The value of the last entry, for writing. The order stays as it is. It takes constant time and hashes nothing.
+    pub fn back_value_mut(&mut self) -> Option<&mut V>
+        ensures* lends { sem 𝓛 (LendsLastValue K.row V.row S.row S.Hasher.row K.Hash S.BuildHasher S.Hasher.Hasher
+            self.entry result) }
+        ensures value { option_copied_mut result ≡ option_map (λ e. e.1) (last_of (entries_of self.old)) }
+    {
+        match self.list.last() {
+            Some(node) => Some(self.list.value_mut(node)),
+            None => None,
+        }
     }
 }

@@ -1,0 +1,239 @@
+-- A use of a key that may be absent, and what is written through the value that it lends, which stands last.
+use Rattle.std.specs.Prelude.{◌≡◌, ℕ, zero, suc, ◌+◌, ◌-◌, ◌≤◌, ◌<◌, max, Bool, true, List, [], ◌∷◌, ◌++◌, length}
+use Rattle.std.specs.Prelude.{drop, slice_get, Option, None, Some, MatchOption, false, is_some, option_copied}
+use Rattle.std.specs.Borrow.{Bor}
+use Rattle.std.specs.Cmp.{IsEquivalence}
+use Rattle.std.specs.Map.{lookup}
+use Rattle.std.specs.Option.{option_map, UnwrapsOrElse}
+use Rattle.std.proofs.Common.{refl, ap, ap₂, sym, subst, ◌∙◌, arith, length-drop}
+use Rattle.std.proofs.lemmas.Option.{none-some, same_Some}
+use Rattle.hashlink_model.specs.Cache.{CacheState, CacheGets, CacheGetsMatch, CacheGetsAndWrites, IsWithin}
+use Rattle.hashlink_model.specs.Cache.{InsertsLast, KeepsLast, last_entries}
+use Rattle.hashlink_model.specs.Entries.{IsEntries, place_of, set_value_at, put, moved, without, stored_key}
+use Rattle.hashlink_model.specs.MapState.{MapState, AddsEntry, with_value}
+use Rattle.hashlink_model.specs.Steps.{KeepsOnly}
+use Rattle.hashlink_model.specs.Walk.{last_of}
+use Rattle.hashlink_model.proofs.Afterwards.{IsEntries-moved}
+use Rattle.hashlink_model.proofs.ByPlace.{length-set_value_at, set_value_at-place}
+use Rattle.hashlink_model.proofs.CacheBounds.{within-gets_match_and_writes}
+use Rattle.hashlink_model.proofs.Caches.{length-last_entries}
+use Rattle.hashlink_model.proofs.CacheSteps.{put_answer, gets_hit}
+use Rattle.hashlink_model.proofs.Finds.{stored_key-equal}
+use Rattle.hashlink_model.proofs.Places.{place_of_its_key}
+use Rattle.hashlink_model.proofs.Puts.{put_back_absent}
+use Rattle.hashlink_model.proofs.Splits.{none_from_lookup}
+use Rattle.hashlink_map.proofs.AtNode.{adds-rewritten-at}
+use Rattle.hashlink_lru.specs.Cached.{PutsNewIn, UsesOrPuts, UsesAndWrites, StaysWithinOne}
+
+-- ---- the last of a list
+
+module _ {X : Type 0} where
+  last-more : (x y : X) (xs : List X) → last_of (x ∷ y ∷ xs) ≡ last_of (y ∷ xs)
+  last-more x y xs =
+      let i : length (x ∷ y ∷ xs) - 1 ≡ suc (length (y ∷ xs) - 1) = omega arith in
+      ap (slice_get (x ∷ y ∷ xs)) i
+
+  last-is : (xs : List X) (x : X) → last_of (xs ++ x ∷ []) ≡ Some x
+  last-is [] x = refl
+  last-is (y ∷ []) x = last-more y x [] ∙ last-is [] x
+  last-is (y ∷ z ∷ xs) x = last-more y z (xs ++ x ∷ []) ∙ last-is (z ∷ xs) x
+
+  last-drop : (xs : List X) (d : ℕ) → d < length xs → last_of (drop d xs) ≡ last_of xs
+  last-drop xs zero l = refl
+  last-drop [] (suc d) l = absurd (omega arith)
+  last-drop (x ∷ []) (suc d) l = absurd (omega arith)
+  last-drop (x ∷ y ∷ xs) (suc d) l = last-drop (y ∷ xs) d (omega arith) ∙ sym (last-more x y xs)
+
+module _ {K V : Type 0} where
+  written-more : (e f : K × V) (es : List (K × V)) (w : V)
+      → set_value_at (e ∷ f ∷ es) (length (e ∷ f ∷ es) - 1) w ≡ e ∷ set_value_at (f ∷ es) (length (f ∷ es) - 1) w
+  written-more e f es w =
+      let i : length (e ∷ f ∷ es) - 1 ≡ suc (length (f ∷ es) - 1) = omega arith in
+      ap (λ j. set_value_at (e ∷ f ∷ es) j w) i
+
+  -- what is written as the last value of an end of a list is written as its last value
+  written-drop : (es : List (K × V)) (d : ℕ) (w : V) → d < length es
+      → set_value_at (drop d es) (length (drop d es) - 1) w ≡ drop d (set_value_at es (length es - 1) w)
+  written-drop es zero w l = refl
+  written-drop [] (suc d) w l = absurd (omega arith)
+  written-drop (e ∷ []) (suc d) w l = absurd (omega arith)
+  written-drop (e ∷ f ∷ es) (suc d) w l =
+      written-drop (f ∷ es) d w (omega arith) ∙ sym (ap (drop (suc d)) (written-more e f es w))
+
+-- ---- a miss, and the insert of an absent key
+
+pub copied_none : {X : Type 0} (o : Option (Bor X)) → is_some o ≡ false → option_copied o ≡ None
+copied_none None n = refl
+copied_none (Some x) n = absurd (cc)
+
+-- a miss of `get` changes nothing
+pub missed : {K V S : Type 0} (old found : CacheState K V S) (test : K → Bool) (r : Option V) → r ≡ None
+    → CacheGetsMatch test old found r
+    → found ≡ old
+missed old found test None n s = ap₂ (λ m c. record { map = m; cap = c }) s.map.step s.cap
+missed old found test (Some w) n s = absurd (none-some w (sym n))
+
+module _ {K V S : Type 0} (eq : K → K → Bool) where
+  -- a miss, the map's insert of what was made, and what was dropped then
+  pub puts_new : (old found new : CacheState K V S) (between : MapState K V S) (k : K) (v : V) (w : Option V) (n : ℕ)
+      → found ≡ old → lookup (eq k) old.map.entries ≡ None → InsertsLast eq k v w found.map between
+      → n ≡ max found.cap 1 → KeepsLast between new.map n → new.cap ≡ found.cap
+      → PutsNewIn eq old new k v
+  puts_new old found new between k v w n same absent put_in most keeps cap =
+      let none : w ≡ None
+      = put_answer eq found.map between k v w put_in ∙ ap (λ c. lookup (eq k) c.map.entries) same ∙ absent in
+      subst (λ c. PutsNewIn eq c new k v) same
+      (record {
+        map = record {
+          between = between;
+          inserts = subst (λ x. InsertsLast eq k v x found.map between) none put_in;
+          fits = subst (KeepsLast between new.map) most keeps;
+        };
+        cap = cap;
+      })
+
+module _ {K V S : Type 0} (eq : K → K → Bool) (laws : IsEquivalence eq) (old mid : CacheState K V S) (k : K) (v : V)
+    (s : PutsNewIn eq old mid k v) where
+  -- where the new pair stood before entries were dropped
+  stood : length s.map.between.entries ≡ length old.map.entries + 1
+  stood = ap length s.map.inserts.adds.entries ∙ s.map.inserts.adds.more
+
+  put_last : last_of mid.map.entries ≡ Some (k, v)
+  put_last =
+      let es = s.map.between.entries in
+      let here = stood in
+      let none = none_from_lookup (eq k) old.map.entries s.map.inserts.absent in
+      ap last_of s.map.fits.entries ∙ last-drop es (length es - max old.cap 1) (omega arith)
+      ∙ ap last_of (s.map.inserts.adds.entries ∙ put_back_absent eq old.map.entries k v none)
+      ∙ last-is old.map.entries (k, v)
+
+  -- what is written there is put in
+  put_written : (w : V)
+      → PutsNewIn eq old (record mid { map = with_value mid.map (length mid.map.entries - 1) w }) k w
+  put_written w =
+      let es = s.map.between.entries in
+      let n = max old.cap 1 in
+      let d = length es - n in
+      let j = length old.map.entries in
+      let here = stood in
+      let last : length es - 1 ≡ j = omega arith in
+      let kept : length (set_value_at es j w) ≡ length es = length-set_value_at es j w in
+      let few = length-last_entries es n in
+      let few' = length-last_entries (set_value_at es j w) n in
+      let same : length (last_entries (set_value_at es j w) n) ≡ length (last_entries es n) = omega arith in
+      let fits = s.map.fits in
+      let no_more = fits.no_more in
+      let spare = fits.spare in
+      let grows = fits.link_writes.grows in
+      let most = fits.link_writes.bound in
+      record {
+        map = record {
+          between = with_value s.map.between j w;
+          inserts = adds-rewritten-at laws old.map s.map.between k v j (with_value s.map.between j w) w s.map.inserts
+              refl refl;
+          fits = record {
+            entries =
+                ap (λ zs. set_value_at zs (length zs - 1) w) fits.entries
+                ∙ written-drop es d w (omega arith)
+                ∙ ap (λ i. drop d (set_value_at es i w)) last
+                ∙ ap (λ l. drop (l - n) (set_value_at es j w)) (sym kept);
+            no_more = omega arith;
+            spare = omega arith;
+            room = fits.room;
+            link_writes = record { grows = grows; bound = omega arith };
+            hasher = fits.hasher;
+          };
+        };
+        cap = s.cap;
+      }
+
+  put_within : StaysWithinOne old mid
+  put_within = λ n one within.
+      let few = length-last_entries s.map.between.entries (max old.cap 1) in
+      let kept = ap length s.map.fits.entries in
+      let cap = s.cap in omega arith
+
+-- ---- a hit
+
+module _ {K V S : Type 0} (eq : K → K → Bool) (laws : IsEquivalence eq) (old mid : CacheState K V S) (k : K) (v : V)
+    (s : CacheGets eq old mid k (Some v)) where
+  abbrev hit_entry : K × V
+  hit_entry = (stored_key eq old.map.entries k, v)
+
+  hit_last : last_of mid.map.entries ≡ Some hit_entry
+  hit_last = ap last_of (gets_hit eq old mid k v s) ∙ last-is (without eq old.map.entries k) hit_entry
+
+  -- what is written there is written by `get_mut`
+  hit_written : IsEntries eq old.map.entries → (w : V)
+      → CacheGetsAndWrites eq old (record mid { map = with_value mid.map (length mid.map.entries - 1) w }) k w
+  hit_written d w =
+      let es = mid.map.entries in
+      let apart : IsEntries eq es
+      = subst (IsEntries eq) (sym s.map.step.entries)
+      (IsEntries-moved eq laws old.map.entries k (length old.map.entries) d) in
+      let place : place_of (eq k) es ≡ Some (length es - 1)
+      = place_of_its_key eq laws es (length es - 1) hit_entry k apart hit_last
+      (stored_key-equal eq laws k old.map.entries) in
+      record {
+        map = record {
+          between = mid.map;
+          moves = s.map.step;
+          writes = ap (λ zs. record mid.map { entries = zs })
+              (set_value_at-place (eq k) es (length es - 1) w place);
+        };
+        cap = s.cap;
+      }
+
+-- ---- either
+
+pub by_miss : {K V S : Type 0} (eq : K → K → Bool) (Makes : V → Type 0) (old new : CacheState K V S) (k : K) (v : V)
+    → lookup (eq k) old.map.entries ≡ None → Makes v → PutsNewIn eq old new k v
+    → UsesOrPuts eq Makes old new k
+by_miss eq Makes old new k v absent made s =
+    subst
+    (λ o. MatchOption o ((u : _) × Makes u × PutsNewIn eq old new k u) (λ w. CacheGets eq old new k (Some w)))
+    (sym absent) (v, made, s)
+
+module _ {K V S : Type 0} (eq : K → K → Bool) (laws : IsEquivalence eq) (Makes : V → Type 0)
+    (old mid : CacheState K V S) (k : K) where
+  abbrev By : Option V → Type 0
+  By o = MatchOption o ((v : V) × Makes v × PutsNewIn eq old mid k v) (λ w. CacheGets eq old mid k (Some w))
+
+  value_by : (o : Option V) → By o
+      → (v : V) × (option_map (λ e. e.1) (last_of mid.map.entries) ≡ Some v) × UnwrapsOrElse o Makes v
+  value_by None s = (s.0, ap (option_map (λ e. e.1)) (put_last eq laws old mid k s.0 s.2), s.1)
+  value_by (Some w) s = (w, ap (option_map (λ e. e.1)) (hit_last eq laws old mid k w s), refl)
+
+  -- the value that stands last, which is what is lent
+  pub used_value : UsesOrPuts eq Makes old mid k
+      → (v : V) × (option_map (λ e. e.1) (last_of mid.map.entries) ≡ Some v)
+      × UnwrapsOrElse (lookup (eq k) old.map.entries) Makes v
+  used_value s = value_by (lookup (eq k) old.map.entries) s
+
+  pub lent_value : UsesOrPuts eq Makes old mid k → (u : V)
+      → Some u ≡ option_map (λ e. e.1) (last_of mid.map.entries)
+      → UnwrapsOrElse (lookup (eq k) old.map.entries) Makes u
+  lent_value s u at =
+      let v = used_value s in
+      let same : Some v.0 ≡ Some u = sym (at ∙ v.1) in
+      subst (UnwrapsOrElse (lookup (eq k) old.map.entries) Makes) (same_Some v.0 u same) v.2
+
+  pub some_stands : UsesOrPuts eq Makes old mid k → None ≡ option_map (λ e. e.1) (last_of mid.map.entries) → ⊥
+  some_stands s none = let v = used_value s in none-some v.0 (none ∙ v.1)
+
+  written_by : IsEntries eq old.map.entries → (w : V) (new : CacheState K V S)
+      → new ≡ record mid { map = with_value mid.map (length mid.map.entries - 1) w }
+      → (o : Option V) → By o
+      → MatchOption o (PutsNewIn eq old new k w) (λ _. CacheGetsAndWrites eq old new k w) × StaysWithinOne old new
+  written_by d w new is None s =
+      let p = subst (λ c. PutsNewIn eq old c k w) (sym is) (put_written eq laws old mid k s.0 s.2 w) in
+      (p, put_within eq laws old new k w p)
+  written_by d w new is (Some v) s =
+      let g = subst (λ c. CacheGetsAndWrites eq old c k w) (sym is) (hit_written eq laws old mid k v s d w) in
+      (g, λ n one within. within-gets_match_and_writes old new n (eq k) w g within)
+
+  pub used_and_written : IsEntries eq old.map.entries → UsesOrPuts eq Makes old mid k → (w : V)
+      (new : CacheState K V S)
+      → new ≡ record mid { map = with_value mid.map (length mid.map.entries - 1) w }
+      → UsesAndWrites eq old new k w × StaysWithinOne old new
+  used_and_written d s w new is = written_by d w new is (lookup (eq k) old.map.entries) s

@@ -1,0 +1,133 @@
+//! Uses of a key that may be absent: a hit lends its value as `get_mut` does, a miss makes it and puts it in.
+ghost use Rattle.std.specs.Prelude.{◌≡◌, None, Ok, Err, OnOk, IfOk, IfErr};
+ghost use Rattle.std.specs.Borrow.{sem};
+ghost use Rattle.std.specs.Option.{UnwrapsOrElse};
+ghost use Rattle.std.specs.Map.{lookup};
+ghost use Rattle.hashlink_model.specs.Cache.{CacheInserts};
+ghost use Rattle.hashlink_model.specs.Entries.{IsEntries};
+ghost use Rattle.hashlink_map.specs.TryInsert.{HandsBack};
+
+use super::LruCache;
+use hashlink_map::TryInsertError;
+use std::hash::{BuildHasher, Hash};
+
+impl<K: Eq + Hash, V, S: BuildHasher> LruCache<K, V, S> {
+    ghost use Rattle.hashlink_lru.specs.Cached.{entries_in, state_in, UsesOrPuts, FailsToUse};
+    ghost use Rattle.hashlink_lru.specs.Lends.{LendsUsedOrNew, LendsUsedOrTryNew};
+
+    /// The value of the key, for writing. A key that is there moves to the end, and `make` is not called: it is a hit
+    /// of `get_mut`, and drops nothing. For an absent key `make` is called once, and what it gives is put last with
+    /// the key. Then entries are dropped from the front until there are no more than the capacity.
+    ///
+    /// What is lent has to stand in the cache. So at capacity 0 the new pair stays, alone and one beyond the capacity,
+    /// as after an entry: the next insert drops it.
+    ///
+    /// It takes memory only for an absent key where no node is spare. Where that is refused, the key and the value
+    /// that was made are handed back, no entry changes and nothing is dropped.
+    ///
+    /// It hashes the key once for a hit and twice for a miss, and stores at most six links for a key that is there,
+    /// four for an absent one, and three for each entry that it drops.
+    pub fn get_or_insert_with<F: FnOnce() -> V>(
+        &mut self,
+        key: K,
+        make: F,
+    ) -> Result<&mut V, (K, V)>
+    where
+        K: Drop,
+        V: Drop,
+        F: Drop,
+        requires { lookup (K.eq key) (entries_in self.old) ≡ None → F.pre make }
+        ensures* lends { sem 𝓛 (LendsUsedOrNew K.row V.row S.row S.Hasher.row K.Hash S.BuildHasher S.Hasher.Hasher
+            self.entry key result) }
+        ensures value { IfOk result
+            (λ v. UnwrapsOrElse (lookup (K.eq key) (entries_in self.old)) (F.post make) v.now) }
+        ensures given { IfErr result (λ pair. pair.0 ≡ key) }
+        ensures made { IfErr result (λ pair. F.post make pair.1) }
+    {
+        self.use_or_put(key, make)?;
+        match self.map.back_value_mut() {
+            Some(value) => Ok(value),
+            None => unreachable!(),
+        }
+    }
+
+    /// `get_or_insert_with`, before anything is lent.
+    fn use_or_put<F: FnOnce() -> V>(&mut self, key: K, make: F) -> Result<(), (K, V)>
+    where
+        K: Drop,
+        V: Drop,
+        F: Drop,
+        requires { lookup (K.eq key) (entries_in self.old) ≡ None → F.pre make }
+        ensures used { OnOk result (UsesOrPuts K.eq (F.post make) (state_in self.old) (state_in self.new) key) }
+        ensures refused { IfErr result (λ pair. CacheInserts K.eq (state_in self.old) (state_in self.new) key pair.1
+            (Err pair)) }
+        ensures made { IfErr result (λ pair. F.post make pair.1) }
+        ensures distinct { IsEntries K.eq (entries_in self.old) }
+    {
+        if self.get(&key).is_some() {
+            return Ok(());
+        }
+        self.map.insert(key, make())?;
+        self.keep_last(self.capacity.max(1));
+        Ok(())
+    }
+
+    /// `get_or_insert_with` of what may fail to be made. The error of `make` is handed on with the key, and then
+    /// nothing changes.
+    ///
+    /// It takes memory only for an absent key where no node is spare. Where that is refused, the key and the value
+    /// that was made are handed back, no entry changes and nothing is dropped.
+    pub fn get_or_try_insert_with<E, F: FnOnce() -> Result<V, E>>(
+        &mut self,
+        key: K,
+        make: F,
+    ) -> Result<&mut V, TryInsertError<K, V, E>>
+    where
+        K: Drop,
+        V: Drop,
+        F: Drop,
+        requires { lookup (K.eq key) (entries_in self.old) ≡ None → F.pre make }
+        ensures* lends { sem 𝓛 (LendsUsedOrTryNew K.row V.row S.row S.Hasher.row K.Hash S.BuildHasher S.Hasher.Hasher
+            self.entry key result) }
+        ensures value { IfOk result
+            (λ v. UnwrapsOrElse (lookup (K.eq key) (entries_in self.old)) (λ x. F.post make (Ok x)) v.now) }
+        ensures handed_back { IfErr result (HandsBack (F.post make) key) }
+    {
+        self.use_or_try_put(key, make)?;
+        match self.map.back_value_mut() {
+            Some(value) => Ok(value),
+            None => unreachable!(),
+        }
+    }
+
+    /// `get_or_try_insert_with`, before anything is lent.
+    fn use_or_try_put<E, F: FnOnce() -> Result<V, E>>(
+        &mut self,
+        key: K,
+        make: F,
+    ) -> Result<(), TryInsertError<K, V, E>>
+    where
+        K: Drop,
+        V: Drop,
+        F: Drop,
+        requires { lookup (K.eq key) (entries_in self.old) ≡ None → F.pre make }
+        ensures used { OnOk result (UsesOrPuts K.eq (λ x. F.post make (Ok x)) (state_in self.old) (state_in self.new)
+            key) }
+        ensures failed { IfErr result (FailsToUse K.eq (state_in self.old) (state_in self.new) key) }
+        ensures handed_back { IfErr result (HandsBack (F.post make) key) }
+        ensures distinct { IsEntries K.eq (entries_in self.old) }
+    {
+        if self.get(&key).is_some() {
+            return Ok(());
+        }
+        let value = match make() {
+            Ok(value) => value,
+            Err(error) => return Err(TryInsertError::Make(key, error)),
+        };
+        if let Err(pair) = self.map.insert(key, value) {
+            return Err(TryInsertError::Memory(pair));
+        }
+        self.keep_last(self.capacity.max(1));
+        Ok(())
+    }
+}

@@ -1,0 +1,33 @@
+use Rattle.std.proofs.Common.{◌≡◌, ◌-◌, ◌∙◌, length, Some, refl, sym, ap, ap₂}
+use Rattle.std.proofs.lemmas.Map.Entries.{length-values_of}
+use Rattle.std.specs.Option.{option_map}
+use Rattle.std.specs.Prelude.{slice_get}
+use Rattle.hashlink_model.specs.Entries.{set_value_at}
+use Rattle.hashlink_model.specs.MapState.{with_value}
+use Rattle.hashlink_model.specs.Walk.{last_of}
+use Rattle.hashlink_core.specs.Keyed.{entries_of, state_of}
+use Rattle.hashlink_core.specs.Places.{place_number}
+use Rattle.hashlink_core.proofs.Mapped.{values-renewed_value}
+use Rattle.hashlink_map.proofs.map.LinkedHashMap.back_value_mut.Goals as goal
+
+pub returns-in-Some : goal.returns-in-Some
+returns-in-Some g c =
+    let m = c.self.inside.list in
+    let n = c.in-Some.node in
+    let last : place_number m.nodes (Some n) ≡ length (entries_of m) - 1
+    = c.in-Some.ensures.place.number ∙ ap (λ l. l - 1) (sym (length-values_of m.nodes)) in (
+      (
+        refl,
+        λ w. ap (λ es. record (state_of m) { entries = es })
+            (values-renewed_value m.nodes (place_number m.nodes (Some n)) w
+            ∙ ap (λ i. set_value_at (entries_of m) i w) last)
+            ∙ ap (λ l. with_value (state_of l) (length (entries_of l) - 1) w) c.self.view_is,
+        refl,
+      ),
+      record {
+        lends = tt;
+        value = sym c.value_mut.ensures.value
+            ∙ ap (λ i. option_map (λ e. e.1) (slice_get (entries_of m) i)) last
+            ∙ ap (λ l. option_map (λ e. e.1) (last_of (entries_of l))) c.self.view_is;
+      },
+    )
