@@ -88,7 +88,7 @@ function print_axes(   value, s, x) {
         if (sizes[s] != first && sizes[s] != last && sizes[s] !~ /^10*$/) continue
         x = x_of(sizes[s])
         print_grid(sprintf("M%.1f 0v%d", x, height))
-        print_text(x, height + 15, "middle", sizes[s])
+        print_text(x, height + 15, "middle", short(sizes[s]))
     }
     print_text(-5, -14, "end", "ns")
     print_text(width / 2, height + 30, "middle", "keys")
@@ -103,6 +103,11 @@ function print_line(p,   s, path, marks, x, y) {
         marks = marks mark_of(programs[p], x, y)
     }
     if (path) print_path(programs[p], path marks)
+}
+
+function short(size) {
+    if (size >= 1000000) return size / 1000000 "M"
+    return size >= 1000 ? size / 1000 "k" : size
 }
 
 function x_of(size) {

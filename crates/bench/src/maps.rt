@@ -178,10 +178,17 @@ fn time_moves<R: Runtime>(plan: &Plan<'_, R>, keys: &Keys) -> io::Result<()> {
 }
 
 fn time_churn<R: Runtime>(plan: &Plan<'_, R>, keys: &Keys) -> io::Result<()> {
-    let map = filled(keys.alloc, &keys.held)?;
     let there = pairs(keys.alloc, &keys.mixed, &keys.absent)?;
     let back = pairs(keys.alloc, &keys.absent_mixed, &keys.held)?;
-    let sides = &mut Turns::new(&there, &back);
+    time_exchanges(plan, keys, &mut Turns::new(&there, &back))
+}
+
+fn time_exchanges<R: Runtime>(
+    plan: &Plan<'_, R>,
+    keys: &Keys,
+    sides: &mut Turns<'_, (u64, u64)>,
+) -> io::Result<()> {
+    let map = filled(keys.alloc, &keys.held)?;
     plan.row("churn", keys.held.len(), sides, &mut Exchanges { map })
 }
 

@@ -94,6 +94,12 @@ impl<'a, R: Runtime> Plan<'a, R> {
             sum = answers;
             least = least.min(spent.as_nanos().saturating_mul(100) / timed);
         }
+        self.print_time(name, least, sum)
+    }
+
+    fn print_time(&self, name: &str, least: u128, sum: u64) -> io::Result<()> {
+        let rt = self.rt;
+        let size = self.size;
         println!(rt; "{name} {size} {}.{:02}", least / 100, least % 100)?;
         eprintln!(rt; "checksum {name} {size} {sum:016x}")
     }
@@ -118,7 +124,7 @@ impl<'a, R: Runtime> Plan<'a, R> {
         Ok((sum, spent))
     }
 
-    /// Calls the row on each item, folds the answers into the sum, and returns it with the time it took.
+    /// Makes ready, and returns the sum with the answers and the time that they took.
     fn pass<W: Row, L: Lists<W::Item>>(
         &self,
         row: &mut W,
@@ -127,12 +133,18 @@ impl<'a, R: Runtime> Plan<'a, R> {
     ) -> io::Result<(u64, Duration)> {
         row.ready()?;
         let items = lists.list()?;
-        let mut sum = sum;
         let start = self.rt.monotonic()?;
-        for (place, item) in items.iter().enumerate() {
-            sum = fold(sum, row.call(place as u64, item)?);
-        }
+        let sum = call_each(row, items, sum)?;
         let end = self.rt.monotonic()?;
         Ok((sum, end.saturating_sub(start)))
     }
+}
+
+/// Calls the row on each item, and folds the answers into the sum.
+fn call_each<W: Row>(row: &mut W, items: &[W::Item], sum: u64) -> Result<u64, AllocError> {
+    let mut sum = sum;
+    for (place, item) in items.iter().enumerate() {
+        sum = fold(sum, row.call(place as u64, item)?);
+    }
+    Ok(sum)
 }
