@@ -1,19 +1,24 @@
-//! How long the map's calls take, over keys and values of 64 bits.
+//! How long the calls of the containers take.
 //!
 //! usage: bench ROUNDS [N ..]
 //!
-//! For each N and each row a line `name N ns_per_op` on standard output, the least of so many rounds of about a
-//! million calls, and a line `checksum name N hex` of all answers on standard error. With no rounds each row is done
-//! once and not timed, and its checksum is what goes to standard output.
+//! For each N and each row a line `name N ns_per_op` on standard output, the least of so many rounds of
+//! about a million calls, and a line `checksum name N hex` of all answers on standard error. With no
+//! rounds each row is done once and not timed, and its checksum is what goes to standard output.
 #![tactic(auto)]
 
+mod caches;
+mod keys;
+mod maps;
 mod plan;
 mod random;
-mod rows;
-mod table;
-mod watch;
+mod sets;
+mod texts;
 
+use keys::Keys;
 use plan::Plan;
+use std::alloc::Global;
+use std::rt::Runtime;
 use std::{env, io};
 
 fn main(rt: HostRuntime) -> io::Result<()> {
@@ -27,9 +32,18 @@ fn main(rt: HostRuntime) -> io::Result<()> {
     let Some((rounds, sizes)) = sizes.as_slice().split_first() else {
         return eprintln!(rt; "usage: bench ROUNDS [N ..]");
     };
-    let plan = Plan { rounds: *rounds };
     for size in sizes {
-        table::all_rows(&rt, rt.alloc(), &plan, *size)?;
+        all_rows(&rt, rt.alloc(), *rounds, *size)?;
     }
     Ok(())
+}
+
+/// Each row at one size, in the order of the table.
+fn all_rows<R: Runtime>(rt: &R, alloc: Global, rounds: usize, size: usize) -> io::Result<()> {
+    let plan = &Plan::new(rt, rounds, size);
+    let keys = &Keys::new(alloc, size)?;
+    maps::rows(plan, keys)?;
+    caches::rows(plan, keys)?;
+    sets::rows(plan, keys)?;
+    texts::rows(plan, keys)
 }

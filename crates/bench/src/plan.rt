@@ -1,45 +1,150 @@
 //! How a row is timed and told.
-use crate::rows::Row;
-use crate::watch::Watch;
+use std::alloc::AllocError;
 use std::io;
 use std::rt::Runtime;
+use std::time::Duration;
 
-// About so many calls make a round.
+/// About so many calls make a round.
 const CALLS: usize = 1_000_000;
 
-/// How often each row is done.
-#[derive(Drop)]
-pub(crate) struct Plan {
-    pub(crate) rounds: usize,
+/// The calls of a row.
+pub(crate) trait Row {
+    /// What a call is given.
+    type Item;
+
+    /// Makes ready for a pass, which is not timed.
+    fn ready(&mut self) -> Result<(), AllocError> {
+        Ok(())
+    }
+
+    /// The call that is timed, of an item and its place in the list. It returns the answer.
+    fn call(&mut self, place: u64, item: &Self::Item) -> Result<u64, AllocError>;
 }
 
-impl Plan {
-    /// Does a row of so many calls a pass, and writes its line.
-    pub(crate) fn row<W: Row, R: Runtime>(
+/// The items of the passes.
+pub(crate) trait Lists<T> {
+    /// Those of the next pass.
+    fn list(&mut self) -> Result<&[T], AllocError>;
+}
+
+/// Two lists by turns.
+#[derive(Drop)]
+pub(crate) struct Turns<'a, T> {
+    now: &'a [T],
+    next: &'a [T],
+}
+
+impl<'a, T> Turns<'a, T> {
+    pub(crate) fn new(now: &'a [T], next: &'a [T]) -> Self {
+        Turns { now, next }
+    }
+
+    /// One list in each turn.
+    pub(crate) fn of(list: &'a [T]) -> Self {
+        Turns::new(list, list)
+    }
+}
+
+impl<T> Lists<T> for Turns<'_, T> {
+    fn list(&mut self) -> Result<&[T], AllocError> {
+        (self.now, self.next) = (self.next, self.now);
+        Ok(self.next)
+    }
+}
+
+/// Folds an answer into a sum.
+#[inline]
+pub(crate) fn fold(sum: u64, answer: u64) -> u64 {
+    sum.rotate_left(5) ^ answer
+}
+
+/// How often each row is done, and with how many keys.
+#[derive(Drop)]
+pub(crate) struct Plan<'a, R: Runtime> {
+    rt: &'a R,
+    rounds: usize,
+    size: usize,
+}
+
+impl<'a, R: Runtime> Plan<'a, R> {
+    pub(crate) fn new(rt: &'a R, rounds: usize, size: usize) -> Self {
+        Plan { rt, rounds, size }
+    }
+
+    /// Does a row and writes its line. Each pass makes so many calls.
+    pub(crate) fn row<W: Row, L: Lists<W::Item>>(
         &self,
-        rt: &R,
         name: &str,
-        size: usize,
+        calls: usize,
+        lists: &mut L,
         row: &mut W,
     ) -> io::Result<()> {
+        let rt = self.rt;
+        let size = self.size;
         if self.rounds == 0 {
-            let sum = row.pass(&mut Watch::new(rt), 0)?;
+            let (sum, _) = self.pass(row, lists, 0)?;
             return println!(rt; "{name} {size} {sum:016x}");
         }
-        let passes = (CALLS / size.max(1)).max(1);
-        let calls = passes.saturating_mul(size).max(1) as u128;
+        let passes = (CALLS / calls.max(1)).max(1);
+        let timed = passes.saturating_mul(calls).max(1) as u128;
         let mut least = u128::MAX;
         let mut sum: u64 = 0;
         for _ in 0..self.rounds {
-            let mut watch = Watch::new(rt);
-            for _ in 0..passes {
-                // Not linear as the folds are, so that equal passes don't cancel out.
-                sum = sum.wrapping_add(1).wrapping_mul(0x9e37_79b9_7f4a_7c15);
-                sum = row.pass(&mut watch, sum)?;
-            }
-            least = least.min(watch.spent().as_nanos().saturating_mul(100) / calls);
+            let (answers, spent) = self.round(passes, row, lists, sum)?;
+            sum = answers;
+            least = least.min(spent.as_nanos().saturating_mul(100) / timed);
         }
+        self.print_time(name, least, sum)
+    }
+
+    fn print_time(&self, name: &str, least: u128, sum: u64) -> io::Result<()> {
+        let rt = self.rt;
+        let size = self.size;
         println!(rt; "{name} {size} {}.{:02}", least / 100, least % 100)?;
         eprintln!(rt; "checksum {name} {size} {sum:016x}")
     }
+
+    /// Does so many passes.
+    fn round<W: Row, L: Lists<W::Item>>(
+        &self,
+        passes: usize,
+        row: &mut W,
+        lists: &mut L,
+        sum: u64,
+    ) -> io::Result<(u64, Duration)> {
+        let mut sum = sum;
+        let mut spent = Duration::ZERO;
+        for _ in 0..passes {
+            // Not linear as the folds are, so that equal passes don't cancel out.
+            sum = sum.wrapping_add(1).wrapping_mul(0x9e37_79b9_7f4a_7c15);
+            let (answers, time) = self.pass(row, lists, sum)?;
+            sum = answers;
+            spent = spent.saturating_add(time);
+        }
+        Ok((sum, spent))
+    }
+
+    /// Makes ready, and returns the sum with the answers and the time that they took.
+    fn pass<W: Row, L: Lists<W::Item>>(
+        &self,
+        row: &mut W,
+        lists: &mut L,
+        sum: u64,
+    ) -> io::Result<(u64, Duration)> {
+        row.ready()?;
+        let items = lists.list()?;
+        let start = self.rt.monotonic()?;
+        let sum = call_each(row, items, sum)?;
+        let end = self.rt.monotonic()?;
+        Ok((sum, end.saturating_sub(start)))
+    }
+}
+
+/// Calls the row on each item, and folds the answers into the sum.
+fn call_each<W: Row>(row: &mut W, items: &[W::Item], sum: u64) -> Result<u64, AllocError> {
+    let mut sum = sum;
+    for (place, item) in items.iter().enumerate() {
+        sum = fold(sum, row.call(place as u64, item)?);
+    }
+    Ok(sum)
 }

@@ -1,4 +1,5 @@
-//! Keys that look random, the same in each run.
+//! Numbers and choices that look random, the same in each run.
+use crate::plan::Lists;
 use std::alloc::{AllocError, Global};
 
 /// Marsaglia's xorshift of 64 bits. Its numbers differ from each other over the whole period.
@@ -38,5 +39,45 @@ impl Xorshift {
             keys.swap(at, other);
         }
         Ok(keys)
+    }
+}
+
+/// Keys out of a list, as many as it has, others for each pass.
+///
+/// Each is one of the first n, n/2, n/4 and so on, in as many parts as are given, each part as often. Of
+/// one part each key comes as often; of many the first keys come the most often, about as by Zipf's law.
+#[derive(Drop)]
+pub(crate) struct Choices<'a> {
+    random: Xorshift,
+    keys: &'a [u64],
+    parts: u64,
+    chosen: Vec<u64>,
+}
+
+impl<'a> Choices<'a> {
+    pub(crate) fn new(alloc: Global, keys: &'a [u64], parts: u64) -> Self {
+        Choices {
+            random: Xorshift::new(),
+            keys,
+            parts,
+            chosen: Vec::new(alloc),
+        }
+    }
+}
+
+impl Lists<u64> for Choices<'_> {
+    fn list(&mut self) -> Result<&[u64], AllocError> {
+        self.chosen.clear();
+        for _ in self.keys {
+            let mut part = self.keys.len() as u64;
+            for _ in 0..self.random.next() % self.parts.max(1) {
+                part /= 2;
+            }
+            let rank = (self.random.next() >> 11) % part.max(1);
+            if let Some(key) = self.keys.get(rank as usize) {
+                self.chosen.push(*key)?;
+            }
+        }
+        Ok(&self.chosen)
     }
 }

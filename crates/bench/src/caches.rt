@@ -1,0 +1,110 @@
+//! The rows of caches.
+use crate::keys::Keys;
+use crate::plan::{Lists, Plan, Row, Turns};
+use crate::random::Choices;
+use hashlink::LruCache;
+use hashlink::weighted::WeightedCache;
+use std::alloc::{AllocError, Global};
+use std::io;
+use std::rt::Runtime;
+
+/// A lookup of a key, and an insert where it is not there.
+#[derive(Drop)]
+struct Uses {
+    cache: LruCache<u64, u64>,
+}
+
+impl Uses {
+    /// Of a cache that the keys went into, the first one last.
+    fn new(alloc: Global, capacity: usize, keys: &[u64]) -> Result<Self, AllocError> {
+        let cache = LruCache::new(alloc, capacity);
+        let mut uses = Uses { cache };
+        for (place, key) in keys.iter().rev().enumerate() {
+            uses.call(place as u64, key)?;
+        }
+        Ok(uses)
+    }
+}
+
+impl Row for Uses {
+    type Item = u64;
+
+    #[inline]
+    fn call(&mut self, place: u64, key: &u64) -> Result<u64, AllocError> {
+        if let Some(value) = self.cache.get(key) {
+            return Ok(*value);
+        }
+        match self.cache.insert(*key, place) {
+            Ok(old) => Ok(old.unwrap_or(*key)),
+            Err(_) => Err(AllocError),
+        }
+    }
+}
+
+/// The same of a cache with a budget, where a key weighs from 1 to 16.
+#[derive(Drop)]
+struct WeightedUses {
+    cache: WeightedCache<u64, u64>,
+}
+
+impl Row for WeightedUses {
+    type Item = u64;
+
+    #[inline]
+    fn call(&mut self, place: u64, key: &u64) -> Result<u64, AllocError> {
+        if let Some(value) = self.cache.get(key) {
+            return Ok(*value);
+        }
+        match self.cache.insert(*key, place, 1 + *key % 16) {
+            Ok(old) => Ok(old.unwrap_or(*key)),
+            Err(_) => Err(AllocError),
+        }
+    }
+}
+
+/// A row of a cache of that capacity.
+fn time_uses<R: Runtime, L: Lists<u64>>(
+    plan: &Plan<'_, R>,
+    name: &str,
+    capacity: usize,
+    keys: &Keys,
+    lists: &mut L,
+) -> io::Result<()> {
+    let mut uses = Uses::new(keys.alloc, capacity, &keys.held)?;
+    plan.row(name, keys.held.len(), lists, &mut uses)
+}
+
+/// In two orders by turns, so that a key's neighbours are not those of the last time.
+fn time_hits<R: Runtime>(plan: &Plan<'_, R>, keys: &Keys) -> io::Result<()> {
+    let orders = &mut Turns::new(&keys.mixed, &keys.mixed_again);
+    time_uses(plan, "lru_hit", keys.held.len(), keys, orders)
+}
+
+/// Of a cache for half of the keys.
+fn time_choices<R: Runtime>(
+    plan: &Plan<'_, R>,
+    name: &str,
+    keys: &Keys,
+    parts: u64,
+) -> io::Result<()> {
+    let half = (keys.held.len() / 2).max(1);
+    let chosen = &mut Choices::new(keys.alloc, &keys.held, parts);
+    time_uses(plan, name, half, keys, chosen)
+}
+
+/// Of a cache with a budget for about half of the keys, empty at first.
+fn time_weighted<R: Runtime>(plan: &Plan<'_, R>, keys: &Keys, parts: u64) -> io::Result<()> {
+    let size = keys.held.len();
+    let budget = (size as u64).saturating_mul(4).max(16);
+    let cache = WeightedCache::new(keys.alloc, budget);
+    let chosen = &mut Choices::new(keys.alloc, &keys.held, parts);
+    plan.row("weighted_zipf", size, chosen, &mut WeightedUses { cache })
+}
+
+pub(crate) fn rows<R: Runtime>(plan: &Plan<'_, R>, keys: &Keys) -> io::Result<()> {
+    let parts = u64::from((keys.held.len() as u64).max(1).ilog2()) + 1;
+    time_hits(plan, keys)?;
+    time_choices(plan, "lru_zipf", keys, parts)?;
+    time_choices(plan, "lru_uniform", keys, 1)?;
+    time_weighted(plan, keys, parts)
+}

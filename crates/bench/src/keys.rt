@@ -1,0 +1,37 @@
+//! The keys of all rows at one size.
+use crate::random::Xorshift;
+use std::alloc::{AllocError, Global};
+
+/// Lists of keys that look random. None is in both `held` and `absent`.
+#[derive(Drop)]
+pub(crate) struct Keys {
+    pub(crate) alloc: Global,
+    /// The keys of a full container, in the order in which they come in.
+    pub(crate) held: Vec<u64>,
+    /// As many others.
+    pub(crate) absent: Vec<u64>,
+    /// Those that are held, in two other orders.
+    pub(crate) mixed: Vec<u64>,
+    pub(crate) mixed_again: Vec<u64>,
+    /// The others in another order.
+    pub(crate) absent_mixed: Vec<u64>,
+}
+
+impl Keys {
+    pub(crate) fn new(alloc: Global, size: usize) -> Result<Self, AllocError> {
+        let mut random = Xorshift::new();
+        let held = random.numbers(alloc, size)?;
+        let absent = random.numbers(alloc, size)?;
+        let mixed = random.shuffle(alloc, &held)?;
+        let mixed_again = random.shuffle(alloc, &held)?;
+        let absent_mixed = random.shuffle(alloc, &absent)?;
+        Ok(Keys {
+            alloc,
+            held,
+            absent,
+            mixed,
+            mixed_again,
+            absent_mixed,
+        })
+    }
+}

@@ -1,0 +1,207 @@
+//! The rows of maps.
+use crate::keys::Keys;
+use crate::plan::{Plan, Row, Turns, fold};
+use hashlink::LinkedHashMap;
+use std::alloc::{AllocError, Global};
+use std::io;
+use std::rt::Runtime;
+
+type Map = LinkedHashMap<u64, u64>;
+
+#[inline]
+fn insert(map: &mut Map, key: u64, value: u64) -> Result<Option<u64>, AllocError> {
+    match map.insert(key, value) {
+        Ok(old) => Ok(old),
+        Err(_) => Err(AllocError),
+    }
+}
+
+/// Each key with its place in the list as its value.
+fn filled(alloc: Global, keys: &[u64]) -> Result<Map, AllocError> {
+    let mut map = LinkedHashMap::new(alloc);
+    for (place, key) in keys.iter().enumerate() {
+        insert(&mut map, *key, place as u64)?;
+    }
+    Ok(map)
+}
+
+/// Inserts, into an empty map in each pass or into the same one. The growth of a map is timed, and its
+/// end is not.
+#[derive(Drop)]
+struct Inserts {
+    alloc: Global,
+    map: Map,
+    is_afresh: bool,
+}
+
+impl Row for Inserts {
+    type Item = u64;
+
+    fn ready(&mut self) -> Result<(), AllocError> {
+        if self.is_afresh {
+            self.map = LinkedHashMap::new(self.alloc);
+        }
+        Ok(())
+    }
+
+    #[inline]
+    fn call(&mut self, place: u64, key: &u64) -> Result<u64, AllocError> {
+        let old = insert(&mut self.map, *key, place)?;
+        Ok(old.unwrap_or(*key))
+    }
+}
+
+/// Lookups.
+#[derive(Drop)]
+struct Gets<'a> {
+    map: &'a Map,
+}
+
+impl Row for Gets<'_> {
+    type Item = u64;
+
+    #[inline]
+    fn call(&mut self, _place: u64, key: &u64) -> Result<u64, AllocError> {
+        Ok(self.map.get(key).copied().unwrap_or(*key))
+    }
+}
+
+/// A walk over all entries.
+#[derive(Drop)]
+struct Walks<'a> {
+    map: &'a Map,
+}
+
+impl Row for Walks<'_> {
+    type Item = ();
+
+    #[inline]
+    fn call(&mut self, place: u64, _item: &()) -> Result<u64, AllocError> {
+        let mut sum = place;
+        for (key, value) in self.map.iter() {
+            sum = fold(fold(sum, *key), *value);
+        }
+        Ok(sum)
+    }
+}
+
+/// A removal of a key that is there and an insert of one that is not: the map keeps its length.
+#[derive(Drop)]
+struct Exchanges {
+    map: Map,
+}
+
+impl Row for Exchanges {
+    type Item = (u64, u64);
+
+    #[inline]
+    fn call(&mut self, _place: u64, item: &(u64, u64)) -> Result<u64, AllocError> {
+        let (leaves, comes) = *item;
+        let left = self.map.remove(&leaves).unwrap_or(u64::MAX);
+        let old = insert(&mut self.map, comes, leaves)?;
+        Ok(fold(left, old.unwrap_or(comes)))
+    }
+}
+
+/// A removal of the first entry and an insert of a new key, as in a queue.
+#[derive(Drop)]
+struct Queues {
+    map: Map,
+}
+
+impl Row for Queues {
+    type Item = u64;
+
+    #[inline]
+    fn call(&mut self, place: u64, key: &u64) -> Result<u64, AllocError> {
+        let (first, value) = self.map.pop_front().unwrap_or((*key, place));
+        let old = insert(&mut self.map, *key, place)?;
+        Ok(fold(fold(first, value), old.unwrap_or(*key)))
+    }
+}
+
+/// Keys that leave, each with the one that comes for it.
+fn pairs(alloc: Global, leave: &[u64], come: &[u64]) -> Result<Vec<(u64, u64)>, AllocError> {
+    let mut pairs = Vec::new(alloc);
+    for (leaves, comes) in leave.iter().zip(come) {
+        pairs.push((*leaves, *comes))?;
+    }
+    Ok(pairs)
+}
+
+fn time_inserts<R: Runtime>(plan: &Plan<'_, R>, keys: &Keys) -> io::Result<()> {
+    let inserts = &mut Inserts {
+        alloc: keys.alloc,
+        map: LinkedHashMap::new(keys.alloc),
+        is_afresh: true,
+    };
+    plan.row(
+        "insert",
+        keys.held.len(),
+        &mut Turns::of(&keys.held),
+        inserts,
+    )
+}
+
+fn time_gets<R: Runtime>(
+    plan: &Plan<'_, R>,
+    name: &str,
+    map: &Map,
+    keys: &[u64],
+) -> io::Result<()> {
+    plan.row(name, keys.len(), &mut Turns::of(keys), &mut Gets { map })
+}
+
+fn time_walks<R: Runtime>(plan: &Plan<'_, R>, name: &str, map: &Map) -> io::Result<()> {
+    plan.row(name, map.len(), &mut Turns::of(&[()]), &mut Walks { map })
+}
+
+/// The rows that only read.
+fn time_reads<R: Runtime>(plan: &Plan<'_, R>, keys: &Keys) -> io::Result<()> {
+    let map = &filled(keys.alloc, &keys.held)?;
+    time_gets(plan, "get_hit", map, &keys.mixed)?;
+    time_gets(plan, "get_miss", map, &keys.absent)?;
+    time_walks(plan, "iter", map)
+}
+
+/// Inserts of keys that are there, in two orders by turns, so that a key's neighbours are not those of the
+/// last time, and a walk after them: the entries' order is then random in memory.
+fn time_moves<R: Runtime>(plan: &Plan<'_, R>, keys: &Keys) -> io::Result<()> {
+    let updates = &mut Inserts {
+        alloc: keys.alloc,
+        map: filled(keys.alloc, &keys.held)?,
+        is_afresh: false,
+    };
+    let orders = &mut Turns::new(&keys.mixed, &keys.mixed_again);
+    plan.row("update", keys.held.len(), orders, updates)?;
+    time_walks(plan, "iter_moved", &updates.map)
+}
+
+fn time_churn<R: Runtime>(plan: &Plan<'_, R>, keys: &Keys) -> io::Result<()> {
+    let there = pairs(keys.alloc, &keys.mixed, &keys.absent)?;
+    let back = pairs(keys.alloc, &keys.absent_mixed, &keys.held)?;
+    time_exchanges(plan, keys, &mut Turns::new(&there, &back))
+}
+
+fn time_exchanges<R: Runtime>(
+    plan: &Plan<'_, R>,
+    keys: &Keys,
+    sides: &mut Turns<'_, (u64, u64)>,
+) -> io::Result<()> {
+    let map = filled(keys.alloc, &keys.held)?;
+    plan.row("churn", keys.held.len(), sides, &mut Exchanges { map })
+}
+
+fn time_queue<R: Runtime>(plan: &Plan<'_, R>, keys: &Keys) -> io::Result<()> {
+    let map = filled(keys.alloc, &keys.held)?;
+    let sides = &mut Turns::new(&keys.absent, &keys.held);
+    plan.row("pop_insert", keys.held.len(), sides, &mut Queues { map })
+}
+
+pub(crate) fn rows<R: Runtime>(plan: &Plan<'_, R>, keys: &Keys) -> io::Result<()> {
+    time_inserts(plan, keys)?;
+    time_reads(plan, keys)?;
+    time_moves(plan, keys)?;
+    time_churn(plan, keys)?;
+    time_queue(plan, keys)
+}

@@ -1,0 +1,93 @@
+//! The rows of sets.
+use crate::keys::Keys;
+use crate::plan::{Plan, Row, Turns, fold};
+use hashlink::LinkedHashSet;
+use std::alloc::{AllocError, Global};
+use std::io;
+use std::rt::Runtime;
+
+type Set = LinkedHashSet<u64>;
+
+/// Inserts of new elements, into an empty set in each pass.
+#[derive(Drop)]
+struct Inserts {
+    alloc: Global,
+    set: Set,
+}
+
+impl Row for Inserts {
+    type Item = u64;
+
+    fn ready(&mut self) -> Result<(), AllocError> {
+        self.set = LinkedHashSet::new(self.alloc);
+        Ok(())
+    }
+
+    #[inline]
+    fn call(&mut self, place: u64, key: &u64) -> Result<u64, AllocError> {
+        match self.set.insert(*key) {
+            Ok(is_new) => Ok(if is_new { *key } else { place }),
+            Err(_) => Err(AllocError),
+        }
+    }
+}
+
+/// A walk over the union of two sets.
+#[derive(Drop)]
+struct Unions<'a> {
+    left: &'a Set,
+    right: &'a Set,
+}
+
+impl Row for Unions<'_> {
+    type Item = ();
+
+    #[inline]
+    fn call(&mut self, place: u64, _item: &()) -> Result<u64, AllocError> {
+        let mut sum = place;
+        for key in self.left.union(self.right) {
+            sum = fold(sum, *key);
+        }
+        Ok(sum)
+    }
+}
+
+/// A set of the keys, each of which comes from one of the lists, where a key of the first is even or not.
+fn filled(alloc: Global, even: &[u64], odd: &[u64]) -> Result<Set, AllocError> {
+    let mut set = LinkedHashSet::new(alloc);
+    for (key, other) in even.iter().zip(odd) {
+        let element = if *key % 2 == 0 { *key } else { *other };
+        set.insert(element).map_err(|_| AllocError)?;
+    }
+    Ok(set)
+}
+
+fn time_inserts<R: Runtime>(plan: &Plan<'_, R>, keys: &Keys) -> io::Result<()> {
+    let alloc = keys.alloc;
+    let set = LinkedHashSet::new(alloc);
+    let lists = &mut Turns::of(&keys.held);
+    plan.row(
+        "set_insert",
+        keys.held.len(),
+        lists,
+        &mut Inserts { alloc, set },
+    )
+}
+
+/// Of two sets that have about half of their elements in common. A call is a look at one element.
+fn time_unions<R: Runtime>(plan: &Plan<'_, R>, keys: &Keys) -> io::Result<()> {
+    let left = &filled(keys.alloc, &keys.held, &keys.held)?;
+    let right = &filled(keys.alloc, &keys.mixed, &keys.absent)?;
+    let calls = keys.held.len().saturating_mul(2);
+    plan.row(
+        "set_union",
+        calls,
+        &mut Turns::of(&[()]),
+        &mut Unions { left, right },
+    )
+}
+
+pub(crate) fn rows<R: Runtime>(plan: &Plan<'_, R>, keys: &Keys) -> io::Result<()> {
+    time_inserts(plan, keys)?;
+    time_unions(plan, keys)
+}
