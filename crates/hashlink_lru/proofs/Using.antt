@@ -1,17 +1,16 @@
 -- A use of a key that may be absent, and what is written through the value that it lends, which stands last.
-use Rattle.std.specs.Prelude.{◌≡◌, ℕ, zero, suc, ◌+◌, ◌-◌, ◌≤◌, ◌<◌, max, Bool, true, List, [], ◌∷◌, ◌++◌, length}
+use Rattle.std.specs.Prelude.{◌≡◌, ℕ, zero, suc, ◌+◌, ◌-◌, ◌<◌, max, Bool, List, [], ◌∷◌, ◌++◌, length}
 use Rattle.std.specs.Prelude.{drop, slice_get, Option, None, Some, MatchOption, false, is_some, option_copied}
 use Rattle.std.specs.Borrow.{Bor}
 use Rattle.std.specs.Cmp.{IsEquivalence}
 use Rattle.std.specs.Map.{lookup}
 use Rattle.std.specs.Option.{option_map, UnwrapsOrElse}
-use Rattle.std.proofs.Common.{refl, ap, ap₂, sym, subst, ◌∙◌, arith, length-drop}
+use Rattle.std.proofs.Common.{refl, ap, ap₂, sym, subst, ◌∙◌, arith}
 use Rattle.std.proofs.lemmas.Option.{none-some, same_Some}
-use Rattle.hashlink_model.specs.Cache.{CacheState, CacheGets, CacheGetsMatch, CacheGetsAndWrites, IsWithin}
+use Rattle.hashlink_model.specs.Cache.{CacheState, CacheGets, CacheGetsMatch, CacheGetsAndWrites}
 use Rattle.hashlink_model.specs.Cache.{InsertsLast, KeepsLast, last_entries}
-use Rattle.hashlink_model.specs.Entries.{IsEntries, place_of, set_value_at, put, moved, without, stored_key}
-use Rattle.hashlink_model.specs.MapState.{MapState, AddsEntry, with_value}
-use Rattle.hashlink_model.specs.Steps.{KeepsOnly}
+use Rattle.hashlink_model.specs.Entries.{IsEntries, place_of, set_value_at, without, stored_key}
+use Rattle.hashlink_model.specs.MapState.{MapState, with_value}
 use Rattle.hashlink_model.specs.Walk.{last_of}
 use Rattle.hashlink_model.proofs.Afterwards.{IsEntries-moved}
 use Rattle.hashlink_model.proofs.ByPlace.{length-set_value_at, set_value_at-place}
