@@ -1,9 +1,12 @@
--- What a caller's proof cites of maps, sets and caches, with the dependency `hashlink` alone. Each lemma says which
--- goal it closes. A state is what `state_of` shows of a map, `state_in` of a cache, and a set itself.
-use Rattle.std.proofs.Common.{◌≡◌, ℕ, zero, suc, ◌-◌, ◌≤◌, ◌<◌, Bool, true, false, cond, not, is_some, List, [], ◌∷◌, ◌++◌}
-use Rattle.std.proofs.Common.{length, take, drop, Option, None, Some, Result, Ok, Err, refl, sym, ap, subst, ◌∙◌}
+-- What a caller's proof cites of maps, sets and caches, with the dependency `hashlink` alone. Each lemma says
+-- which goal it closes. A state is what `state_of` shows of a map, `state_in` of a cache, and a set itself.
+use Rattle.std.proofs.Common.{◌≡◌, ℕ, zero, suc, ◌-◌, ◌≤◌, ◌<◌, Bool, true, false, cond, not, is_some, List}
+use Rattle.std.proofs.Common.{[], ◌∷◌, ◌++◌}
+use Rattle.std.proofs.Common.{length, take, drop, Option, None, Some, Result, Ok, Err, refl, sym, ap, subst}
+use Rattle.std.proofs.Common.{◌∙◌}
 use Rattle.std.proofs.Common.{◌⊎◌, inl, inr, true≢false, arith, filter, nat_le, le_refl, zero-le}
-use Rattle.std.specs.Prelude.{All, IfSome, IsSome, OnOk, insert, remove, slice_get, unwrap_or, MatchOption, MatchResult}
+use Rattle.std.specs.Prelude.{All, IfSome, IsSome, OnOk, insert, remove, slice_get, unwrap_or, MatchOption}
+use Rattle.std.specs.Prelude.{MatchResult}
 use Rattle.std.specs.Option.{option_map, option_map_or}
 use Rattle.std.specs.Cmp.{IsEquivalence}
 use Rattle.std.specs.List.{AllPass, list_any}
@@ -12,7 +15,8 @@ use Rattle.std.specs.Map.{lookup, lookup_entry, keys_of, remove_entry, set_value
 use Rattle.std.specs.Set.{remove_key}
 use Rattle.std.proofs.lemmas.Bool.{le-leb, lt-leb}
 use Rattle.std.proofs.lemmas.List.{map-append, take-append-drop}
-use Rattle.std.proofs.lemmas.List.Elements.{All-nil, All-cons, All-head, All-tail, All-same, All-append, All-take}
+use Rattle.std.proofs.lemmas.List.Elements.{All-nil, All-cons, All-head, All-tail, All-same, All-append}
+use Rattle.std.proofs.lemmas.List.Elements.{All-take}
 use Rattle.std.proofs.lemmas.List.Elements.{All-drop, All-push, All-map, All-filter}
 use Rattle.std.proofs.lemmas.List.Sums.{AllPass-from_list_all}
 use Rattle.std.proofs.lemmas.List.Sorted.{IsNonDecreasingBy-drop, IsNonDecreasingBy-push}
@@ -21,12 +25,14 @@ use Rattle.std.proofs.lemmas.Map.Entries.{place_from_lookup}
 use Rattle.std.proofs.lemmas.Map.Made.{is_some-lookup}
 use Rattle.std.proofs.lemmas.Option.{none-some, same_Some, slice_get-get_or}
 use Rattle.hashlink_model.specs.Cache.{CacheState, CacheInserts, CacheGetsMatch, cache_put}
-use Rattle.hashlink_model.specs.Entries.{IsEntries, place_left, place_of, place_without, place_or_end, moved_at}
+use Rattle.hashlink_model.specs.Entries.{IsEntries, place_left, place_of, place_without, place_or_end}
+use Rattle.hashlink_model.specs.Entries.{moved_at}
 use Rattle.hashlink_model.specs.Entries.{moved_match, put, stored_key, without}
 use Rattle.hashlink_model.specs.MapState.{MapState, Inserts}
 use Rattle.hashlink_model.specs.Retain.{RetainsInOrder}
 use Rattle.hashlink_model.specs.Sets.{SetState, SetInserts, elements_of, stored_element}
-use Rattle.hashlink_model.specs.Steps.{PopsFront, PopsBack, Replaces, RemovesMatch, MovesMatch, MovesMatchAndWrites}
+use Rattle.hashlink_model.specs.Steps.{PopsFront, PopsBack, Replaces, RemovesMatch, MovesMatch}
+use Rattle.hashlink_model.specs.Steps.{MovesMatchAndWrites}
 use Rattle.hashlink_model.specs.Steps.{MovesAndWrites}
 use Rattle.hashlink_model.specs.Walk.{first_of, last_of}
 use Rattle.hashlink_set.specs.Answers.{as_entry}
@@ -41,14 +47,17 @@ use Rattle.hashlink_model.proofs.Distinct.{none_equal, none_others, IsEntries-mi
 use Rattle.hashlink_model.proofs.Finds.{lookup_is}
 use Rattle.hashlink_model.proofs.Puts.{none_without}
 use Rattle.hashlink_model.proofs.SetElements.{find-keys, keys-remove_entry}
-use Rattle.hashlink_model.proofs.Splits.{Stands, splits, remove_entry-here, stands_from_lookup, none_from_lookup}
+use Rattle.hashlink_model.proofs.Splits.{Stands, splits, remove_entry-here, stands_from_lookup}
+use Rattle.hashlink_model.proofs.Splits.{none_from_lookup}
 use Rattle.hashlink_model.proofs.Splits.{remove_entry-none, lookup_key-none, place_of-none, place_of-here}
 use Rattle.hashlink_model.proofs.Splits.{set_value-here}
 -- ---- handed on
 
--- goal: `lookup`, or `lookup_entry`, at the key that was put, at another key, after a removal, and after a move
+-- goal: `lookup`, or `lookup_entry`, at the key that was put, at another key, after a removal, and after a
+-- move
 pub use Rattle.hashlink_model.proofs.Afterwards.{lookup-put, lookup-put_same, lookup_entry-put_other}
-pub use Rattle.hashlink_model.proofs.Afterwards.{lookup-without, lookup-without_same, lookup_entry-without_other}
+pub use Rattle.hashlink_model.proofs.Afterwards.{lookup-without, lookup-without_same}
+pub use Rattle.hashlink_model.proofs.Afterwards.{lookup_entry-without_other}
 pub use Rattle.hashlink_model.proofs.Afterwards.{lookup-moved}
 -- goal: the length after a put, a removal and a move
 pub use Rattle.hashlink_model.proofs.Afterwards.{length-put_absent, length-put_there, length-without_absent}
@@ -65,10 +74,12 @@ pub use Rattle.hashlink_model.proofs.Finds.{stored_key-equal, lookup-equal}
 pub use Rattle.hashlink_model.proofs.Filtered.{retained_by_predicate}
 -- goal: the old entries by what a pop answered and left
 pub use Rattle.hashlink_model.proofs.Pops.{pops_front, pops_back}
--- goal: a cache's entries after `insert`, its answer, and what a refusal leaves; after a hit and a miss of `get`
+-- goal: a cache's entries after `insert`, its answer, and what a refusal leaves; after a hit and a miss of
+-- `get`
 pub use Rattle.hashlink_model.proofs.CacheSteps.{inserts_entries as cache_inserts_entries}
 pub use Rattle.hashlink_model.proofs.CacheSteps.{inserts_answer as cache_inserts_answer}
-pub use Rattle.hashlink_model.proofs.CacheSteps.{inserts_refused as cache_inserts_refused, gets_hit, gets_miss}
+pub use Rattle.hashlink_model.proofs.CacheSteps.{inserts_refused as cache_inserts_refused, gets_hit}
+pub use Rattle.hashlink_model.proofs.CacheSteps.{gets_miss}
 -- goal: `lookup` at the key that a cache's insert put in, and at another key
 pub use Rattle.hashlink_model.proofs.Caches.{lookup-cache_put, lookup_entry-cache_put}
 -- goal: a set's elements after `insert` and `replace`, by their answers, and the last element written out
@@ -89,13 +100,17 @@ module _ {K V : Type 0} (P : K × V → Type 0) where
   -- goal: `All P (insert es b e)`
   pub All-insert : (es : List (K × V)) (b : ℕ) (e : K × V) → P e → All P es → All P (insert es b e)
   All-insert es b e p a =
-      All-append P (take b es) (e ∷ drop b es) (All-take P b es a) (All-cons P e (drop b es) p (All-drop P b es a))
+      All-append P (take b es) (e ∷ drop b es) (All-take P b es a)
+      (All-cons P e (drop b es) p (All-drop P b es a))
 
-  -- goal: `All P (put eq es k v b)`, as after an insert or a replace. Of values alone the first premise is that of v
-  pub All-put : (eq : K → K → Bool) (es : List (K × V)) (k : K) (v : V) (b : ℕ) → P (stored_key eq es k, v) → All P es
+  -- goal: `All P (put eq es k v b)`, as after an insert or a replace. Of values alone the first premise is
+  -- that of v
+  pub All-put : (eq : K → K → Bool) (es : List (K × V)) (k : K) (v : V) (b : ℕ)
+      → P (stored_key eq es k, v) → All P es
       → All P (put eq es k v b)
   All-put eq es k v b p a =
-      All-insert (without eq es k) (place_without eq es k b) (stored_key eq es k, v) p (All-remove_entry (eq k) es a)
+      All-insert (without eq es k) (place_without eq es k b) (stored_key eq es k, v) p
+      (All-remove_entry (eq k) es a)
 
   -- goal: P of an entry that stands at a place
   pub All-at : (es : List (K × V)) (j : ℕ) (e : K × V) → slice_get es j ≡ Some e → All P es → P e
@@ -110,8 +125,10 @@ module _ {K V : Type 0} (P : K × V → Type 0) where
       let at = place_from_lookup test es v l in
       (at.1, All-at es at.0 (at.1, v) at.2 a, at.3)
 
-  -- goal: `All P (moved_match test es b)`, so `All P (moved eq es k b)`, as after a move or a hit of a cache's `get`
-  pub All-moved_match : (test : K → Bool) (es : List (K × V)) (b : ℕ) → All P es → All P (moved_match test es b)
+  -- goal: `All P (moved_match test es b)`, so `All P (moved eq es k b)`, as after a move or a hit of a
+  -- cache's `get`
+  pub All-moved_match : (test : K → Bool) (es : List (K × V)) (b : ℕ) → All P es
+      → All P (moved_match test es b)
   All-moved_match test es b a = by (place_of test es)
     where
       at : (j : ℕ) (o : Option (K × V)) → slice_get es j ≡ o
@@ -126,7 +143,8 @@ module _ {K V : Type 0} (P : K × V → Type 0) where
       by (Some j) = at j (slice_get es j) refl
 
   -- goal: `All P (set_value test es w)`, as after a replace or a write through what is lent
-  pub All-set_value : (test : K → Bool) (es : List (K × V)) (w : V) → ((k : K) → test k ≡ true → P (k, w)) → All P es
+  pub All-set_value : (test : K → Bool) (es : List (K × V)) (w : V)
+      → ((k : K) → test k ≡ true → P (k, w)) → All P es
       → All P (set_value test es w)
   All-set_value test [] w p a = a
   All-set_value test (e ∷ es) w p a = by (test e.0) refl (All-set_value test es w p (All-tail P e es a))
@@ -137,7 +155,8 @@ module _ {K V : Type 0} (P : K × V → Type 0) where
       by false t h = All-cons P e (set_value test es w) (All-head P e es a) h
 
   -- goal: `All P (cache_put eq es cap k v)`, as after a cache's insert
-  pub All-cache_put : (eq : K → K → Bool) (es : List (K × V)) (cap : ℕ) (k : K) (v : V) → P (stored_key eq es k, v)
+  pub All-cache_put : (eq : K → K → Bool) (es : List (K × V)) (cap : ℕ) (k : K) (v : V)
+      → P (stored_key eq es k, v)
       → All P es
       → All P (cache_put eq es cap k v)
   All-cache_put eq es cap k v p a =
@@ -150,7 +169,8 @@ module _ {K V : Type 0} (P : K × V → Type 0) where
       → (f : F) (old new : MapState K V S) (g : F) → RetainsInOrder T f old new g → All P old.entries
       → All P new.entries
   All-retains T p says f old new g r a =
-      All-same P new.entries _ (retained_by_predicate T p says f old new g r).entries (All-filter p P old.entries a)
+      All-same P new.entries _ (retained_by_predicate T p says f old new g r).entries
+      (All-filter p P old.entries a)
 
   -- ---- the same through a step, whatever the call answers
 
@@ -160,7 +180,8 @@ module _ {K V : Type 0} (P : K × V → Type 0) where
         → P (stored_key eq old.entries k, v) → All P old.entries
         → All P new.entries
     All-inserts b (Ok None) s p a = All-same P new.entries _ s.adds.entries (All-put eq old.entries k v b p a)
-    All-inserts b (Ok (Some w)) s p a = All-same P new.entries _ s.puts.entries (All-put eq old.entries k v b p a)
+    All-inserts b (Ok (Some w)) s p a = All-same P new.entries _ s.puts.entries
+        (All-put eq old.entries k v b p a)
     All-inserts b (Err pair) s p a = All-same P new.entries _ s.grows.entries a
 
     -- goal: `All P` of a map's entries after `replace`
@@ -180,16 +201,21 @@ module _ {K V : Type 0} (P : K × V → Type 0) where
     pub All-removes : (test : K → Bool) (r : Option (K × V)) → RemovesMatch test old new r → All P old.entries
         → All P new.entries
     All-removes test None s a = subst (λ m. All P m.entries) (sym s.step) a
-    All-removes test (Some e) s a = All-same P new.entries _ s.step.entries (All-remove_entry test old.entries a)
+    All-removes test (Some e) s a = All-same P new.entries _ s.step.entries
+        (All-remove_entry test old.entries a)
 
     -- goal: `All P` of a map's entries after `pop_front`, and P of the entry that came out
-    pub All-pops_front : (r : Option (K × V)) → PopsFront old new r → All P old.entries → All P new.entries × IfSome r P
+    pub All-pops_front : (r : Option (K × V)) → PopsFront old new r → All P old.entries
+        → All P new.entries × IfSome r P
     All-pops_front None s a = (subst (λ m. All P m.entries) (sym s.step) a, tt)
-    All-pops_front (Some e) s a =
-        (All-same P new.entries _ s.step.entries (All-drop P 1 old.entries a), All-at old.entries 0 e (sym s.answer) a)
+    All-pops_front (Some e) s a = (
+      All-same P new.entries _ s.step.entries (All-drop P 1 old.entries a),
+      All-at old.entries 0 e (sym s.answer) a,
+    )
 
     -- goal: the same after `pop_back`
-    pub All-pops_back : (r : Option (K × V)) → PopsBack old new r → All P old.entries → All P new.entries × IfSome r P
+    pub All-pops_back : (r : Option (K × V)) → PopsBack old new r → All P old.entries
+        → All P new.entries × IfSome r P
     All-pops_back None s a = (subst (λ m. All P m.entries) (sym s.step) a, tt)
     All-pops_back (Some e) s a = (
       All-same P new.entries _ s.step.entries (All-take P (length old.entries - 1) old.entries a),
@@ -200,7 +226,8 @@ module _ {K V : Type 0} (P : K × V → Type 0) where
     pub All-moves : (test : K → Bool) (b : ℕ) (r : Option V) → MovesMatch test old new b r → All P old.entries
         → All P new.entries
     All-moves test b None s a = subst (λ m. All P m.entries) (sym s.step) a
-    All-moves test b (Some w) s a = All-same P new.entries _ s.step.entries (All-moved_match test old.entries b a)
+    All-moves test b (Some w) s a = All-same P new.entries _ s.step.entries
+        (All-moved_match test old.entries b a)
 
     -- goal: the same once w was written through what they lent
     pub All-moves_and_writes : (test : K → Bool) (b : ℕ) (w : V) → MovesMatchAndWrites test old new b w
@@ -221,7 +248,8 @@ module _ {K V : Type 0} (P : K × V → Type 0) where
     All-cache_inserts eq k v (Err pair) s p a = All-same P new.map.entries _ s.map.grows.entries a
 
     -- goal: `All P` of a cache's entries after `get`
-    pub All-cache_gets : (test : K → Bool) (r : Option V) → CacheGetsMatch test old new r → All P old.map.entries
+    pub All-cache_gets : (test : K → Bool) (r : Option V) → CacheGetsMatch test old new r
+        → All P old.map.entries
         → All P new.map.entries
     All-cache_gets test r s a = All-moves old.map new.map test (length old.map.entries) r s.map a
 
@@ -259,7 +287,8 @@ module _ {T S : Type 0} (P : T → Type 0) (old new : SetState T S) where
 
 -- no two keys were equal before a put after which no two are
 module _ {K V : Type 0} (eq : K → K → Bool) (laws : IsEquivalence eq) where
-  distinct_before : (es : List (K × V)) (k : K) (v : V) (b : ℕ) → IsEntries eq (put eq es k v b) → IsEntries eq es
+  distinct_before : (es : List (K × V)) (k : K) (v : V) (b : ℕ) → IsEntries eq (put eq es k v b)
+      → IsEntries eq es
   distinct_before es k v b d =
       let j = place_without eq es k b in
       let zs = without eq es k in
@@ -330,18 +359,21 @@ module _ {K V S : Type 0} (eq : K → K → Bool) (old new : MapState K V S) (k 
       → Inserts eq old new k v (length old.entries) r
       → (r ≡ Ok (Some w)) × (new.entries ≡ without eq old.entries k ++ (stored_key eq old.entries k, v) ∷ [])
   inserts_there w there (Ok o) s =
-      let e = inserts_entries (length old.entries) o s in (ap Ok (e.1 ∙ there), e.0 ∙ put_back eq old.entries k v)
+      let e = inserts_entries (length old.entries) o s in
+      (ap Ok (e.1 ∙ there), e.0 ∙ put_back eq old.entries k v)
   inserts_there w there (Err pair) s = absurd (none-some w (sym s.may_refuse.absent ∙ there))
 
   -- goal: the entries after a replace of a key that was absent, and its answer
-  pub replaces_absent : lookup (eq k) old.entries ≡ None → (r : Result (Option V) (K × V)) → Replaces eq old new k v r
+  pub replaces_absent : lookup (eq k) old.entries ≡ None → (r : Result (Option V) (K × V))
+      → Replaces eq old new k v r
       → PutLast r
   replaces_absent none (Ok None) s =
       (refl, s.adds.entries ∙ put_back_absent eq old.entries k v (none_from_lookup (eq k) old.entries none))
   replaces_absent none (Ok (Some w)) s = absurd (none-some w (sym none ∙ s.old_value))
   replaces_absent none (Err pair) s = (s.handed_back, s.grows.entries)
 
-  -- goal: the entries after a replace of a key that was there, whose value alone is another one, and its answer
+  -- goal: the entries after a replace of a key that was there, whose value alone is another one, and its
+  -- answer
   pub replaces_there : (w : V) → lookup (eq k) old.entries ≡ Some w → (r : Result (Option V) (K × V))
       → Replaces eq old new k v r
       → (r ≡ Ok (Some w)) × (new.entries ≡ set_value (eq k) old.entries v)
@@ -398,7 +430,8 @@ module _ {K V S : Type 0} (eq : K → K → Bool) (old new : MapState K V S) (k 
         ∙ rw t refl
     lookup-inserts_other b q t (Err pair) s = ap (lookup (eq q)) s.grows.entries
 
-    pub lookup-replaces_other : (q : K) → eq k q ≡ false → (r : Result (Option V) (K × V)) → Replaces eq old new k v r
+    pub lookup-replaces_other : (q : K) → eq k q ≡ false → (r : Result (Option V) (K × V))
+        → Replaces eq old new k v r
         → lookup (eq q) new.entries ≡ lookup (eq q) old.entries
     lookup-replaces_other q t (Ok w) s =
         let e = replaces_entries w s in
@@ -409,7 +442,8 @@ module _ {K V S : Type 0} (eq : K → K → Bool) (old new : MapState K V S) (k 
         ∙ rw t refl
     lookup-replaces_other q t (Err pair) s = ap (lookup (eq q)) s.grows.entries
 
-module _ {K V S : Type 0} (eq : K → K → Bool) (laws : IsEquivalence eq) (old new : MapState K V S) (k : K) where
+module _ {K V S : Type 0} (eq : K → K → Bool) (laws : IsEquivalence eq)
+    (old new : MapState K V S) (k : K) where
   -- goal: the entries after `to_back` of a key that was there, once w was written through what it lent
   pub moves_back_and_writes_there : (v w : V) → IsEntries eq old.entries → lookup (eq k) old.entries ≡ Some v
       → MovesAndWrites eq old new k (length old.entries) w
@@ -419,7 +453,8 @@ module _ {K V S : Type 0} (eq : K → K → Bool) (laws : IsEquivalence eq) (old
       let stored = stored_key eq old.entries k in
       ap (λ m. m.entries) s.writes
       ∙ ap (λ es. set_value (eq k) es w)
-      (s.moves.entries ∙ moved-there eq old.entries k (length old.entries) v there ∙ put_back eq old.entries k v)
+      (s.moves.entries ∙ moved-there eq old.entries k (length old.entries) v there
+      ∙ put_back eq old.entries k v)
       ∙ set_value-here (eq k) (stored, v) [] (stored_key-equal eq laws k old.entries) w left
       (none_without eq laws old.entries k d)
 
@@ -430,10 +465,12 @@ module _ {K V S : Type 0} (old new : MapState K V S) where
   removes_entries test None s =
       let none : lookup test old.entries ≡ None
       = lookup_is test old.entries ∙ ap (option_map (λ e. e.1)) (sym s.answer) in
-      ap (λ m. m.entries) s.step ∙ sym (remove_entry-none test old.entries (none_from_lookup test old.entries none))
+      ap (λ m. m.entries) s.step
+      ∙ sym (remove_entry-none test old.entries (none_from_lookup test old.entries none))
   removes_entries test (Some e) s = s.step.entries
 
-  -- goal: of a pop from the front, or from the back, that answers none: there was no entry, and nothing changed
+  -- goal: of a pop from the front, or from the back, that answers none: there was no entry, and nothing
+  -- changed
   pub pops_front_none : PopsFront old new None → (old.entries ≡ []) × (new ≡ old)
   pops_front_none s = (by old.entries s.answer, s.step)
     where
@@ -468,8 +505,8 @@ module _ {K V : Type 0} (n : K × V → ℕ) where
   abbrev pub number_of_last : List (K × V) → ℕ
   number_of_last es = option_map_or n (last_of es) 0
 
-  -- goal: a bound on each number, from one on the last entry's; one on the last entry's, from one on each; and a
-  -- bound from below on each, from the first entry's
+  -- goal: a bound on each number, from one on the last entry's; one on the last entry's, from one on each;
+  -- and a bound from below on each, from the first entry's
   pub All-from_last : (es : List (K × V)) (m : ℕ) → IsNonDecreasingBy n es → number_of_last es ≤ m
       → All (λ e. n e ≤ m) es
   All-from_last es m up le k d lt =
@@ -542,8 +579,8 @@ module _ {K V : Type 0} (n : K × V → ℕ) where
       rw (lt-leb m (n e) (All-head (λ e. n e < m) e es gone))
       (filter-front m es rest (All-tail (λ e. n e < m) e es gone) left)
 
-  -- goal: the order, and a bound on the greatest number, after an insert at the end, a move to the end that wrote w,
-  -- and a removal
+  -- goal: the order, and a bound on the greatest number, after an insert at the end, a move to the end that
+  -- wrote w, and a removal
   module _ {S : Type 0} (old new : MapState K V S) where
     pub ordered-inserts : (eq : K → K → Bool) (k : K) (v : V) (r : Result (Option V) (K × V))
         → Inserts eq old new k v (length old.entries) r → IsNonDecreasingBy n old.entries
@@ -559,7 +596,8 @@ module _ {K V : Type 0} (n : K × V → ℕ) where
         → number_of_last old.entries ≤ n (stored_key eq old.entries k, w)
         → IsNonDecreasingBy n new.entries × (number_of_last new.entries ≤ n (stored_key eq old.entries k, w))
     ordered-moves_back_and_writes eq laws k v w d there s up le =
-        rw (moves_back_and_writes_there eq laws old new k v w d there s) (ordered-put_back eq old.entries k w up le)
+        rw (moves_back_and_writes_there eq laws old new k v w d there s)
+        (ordered-put_back eq old.entries k w up le)
 
     pub ordered-removes : (test : K → Bool) (r : Option (K × V)) → RemovesMatch test old new r
         → IsNonDecreasingBy n old.entries
@@ -576,7 +614,8 @@ module _ {K V : Type 0} (n : K × V → ℕ) where
 
 module _ {T S : Type 0} (old new : SetState T S) where
   -- goal: the elements after an insert of a new one, and its answer
-  pub set_inserts_new : (eq : T → T → Bool) (t : T) → list_any (eq t) (elements_of old) ≡ false → (r : Result Bool T)
+  pub set_inserts_new : (eq : T → T → Bool) (t : T) → list_any (eq t) (elements_of old)
+      ≡ false → (r : Result Bool T)
       → SetInserts eq old new t r
       → MatchResult r (λ b. (b ≡ true) × (elements_of new ≡ elements_of old ++ t ∷ []))
       (λ x. (x ≡ t) × (elements_of new ≡ elements_of old))
@@ -600,11 +639,13 @@ module _ {T S : Type 0} (old new : SetState T S) where
       → (b ≡ false)
       × (elements_of new ≡ remove_key (eq t) (elements_of old) ++ stored_element eq (elements_of old) t ∷ [])
   set_inserts_there eq t there b s =
-      let e = set_inserts eq old new t b s in (e.1 ∙ ap not there, e.0 ∙ put_element_back eq (elements_of old) t)
+      let e = set_inserts eq old new t b s in
+      (e.1 ∙ ap not there, e.0 ∙ put_element_back eq (elements_of old) t)
 
   -- goal: what a set's pop from the front leaves, by its answer
   pub set_pops_front : (r : Option T) → PopsFront old new (as_entry r)
-      → MatchOption r ((elements_of old ≡ []) × (elements_of new ≡ [])) (λ t. elements_of old ≡ t ∷ elements_of new)
+      → MatchOption r ((elements_of old ≡ []) × (elements_of new ≡ []))
+      (λ t. elements_of old ≡ t ∷ elements_of new)
   set_pops_front None s = let p = pops_front_entries old new None s in (ap keys_of p.0, ap keys_of p.1)
   set_pops_front (Some t) s = ap keys_of (pops_front_entries old new (Some (t, tt)) s)
 
@@ -627,11 +668,13 @@ module _ {K V S : Type 0} (eq : K → K → Bool) (old new : CacheState K V S) (
 module _ {K V : Type 0} (eq : K → K → Bool) (es : List (K × V)) (k : K) where
   -- goal: the stored key of an absent key is the one given
   pub stored_key-absent : lookup (eq k) es ≡ None → stored_key eq es k ≡ k
-  stored_key-absent none = ap (λ o. unwrap_or o k) (lookup_key-none (eq k) es (none_from_lookup (eq k) es none))
+  stored_key-absent none = ap (λ o. unwrap_or o k)
+      (lookup_key-none (eq k) es (none_from_lookup (eq k) es none))
 
-  -- goal: what is seen of the stored key is what is seen of the one given, where equal keys look alike: the very key
-  -- for numbers (f is `λ x. x`), the bytes for texts (f is `string_bytes`)
-  pub stored_key-seen : {B : Type 0} → IsEquivalence eq → (f : K → B) → ((x y : K) → eq x y ≡ true → f x ≡ f y)
+  -- goal: what is seen of the stored key is what is seen of the one given, where equal keys look alike: the
+  -- very key for numbers (f is `λ x. x`), the bytes for texts (f is `string_bytes`)
+  pub stored_key-seen : {B : Type 0} → IsEquivalence eq → (f : K → B)
+      → ((x y : K) → eq x y ≡ true → f x ≡ f y)
       → f (stored_key eq es k) ≡ f k
   stored_key-seen laws f alike = sym (alike k (stored_key eq es k) (stored_key-equal eq laws k es))
 
@@ -645,7 +688,8 @@ module _ {K V : Type 0} (test : K → Bool) where
 
   is_some-entry : (es : List (K × V)) → is_some (lookup test es) ≡ is_some (lookup_entry test es)
   is_some-entry [] = refl
-  is_some-entry (e ∷ es) = is_some-head (test e.0) e (lookup test es) (lookup_entry test es) (is_some-entry es)
+  is_some-entry (e ∷ es) = is_some-head (test e.0) e (lookup test es) (lookup_entry test es)
+      (is_some-entry es)
 
 module _ {K V S : Type 0} (test : K → Bool) (old new : MapState K V S) where
   shorter_without : (r : Option (K × V)) → RemovesMatch test old new r → IsSome r
@@ -657,7 +701,8 @@ module _ {K V S : Type 0} (test : K → Bool) (old new : MapState K V S) where
       omega arith
 
 module _ {K V B : Type 0} where
-  value_of_reply : (answer : Result (Option V) (K × V)) → is_refused {B = B} (insert_reply answer ∷ []) ≡ false
+  value_of_reply : (answer : Result (Option V) (K × V))
+      → is_refused {B = B} (insert_reply answer ∷ []) ≡ false
       → (was : Option V) × (insert_reply {B = B} answer ≡ Value was)
   value_of_reply (Ok was) n = (was, refl)
   value_of_reply (Err pair) n = absurd (true≢false n)
@@ -688,13 +733,15 @@ module _ {K V B S : Type 0} (eq : K → K → Bool) (Says : K → V → B → Ty
       (value.0, second_of_two a.replies b.replies r.0.1 r.1.0.2 ∙ ap Some value.1)
   second_answered (a ∷ b ∷ c ∷ d) r t p = absurd r.1.1
 
-module _ {K V B S : Type 0} {eq : K → K → Bool} {Says : K → V → B → Type 0} {Keeps : K → V → Bool → Type 0} where
+module _ {K V B S : Type 0} {eq : K → K → Bool} {Says : K → V → B → Type 0}
+    {Keeps : K → V → Bool → Type 0} where
   -- goal: in one `run`, the reply to an insert after the removal of a key that is there is a value
   pub answered_after_removal : {old new : MapState K V S} {g k : K} {v : V} {replies : List (Reply K V B)}
       (commands : List (Command K V)) → commands ≡ Remove g ∷ Insert k v ∷ []
       → LawfulRun eq Says Keeps old commands replies new → IsSome (lookup (eq g) old.entries)
       → (was : Option V) × (slice_get replies 1 ≡ Some (Value was))
-  answered_after_removal {old = old} {new = new} {g = g} {k = k} {v = v} {replies = replies} commands is lawful p =
+  answered_after_removal {old = old} {new = new} {g = g} {k = k} {v = v} {replies = replies}
+      commands is lawful p =
       let ran = subst (λ cs. LawfulRun eq Says Keeps old cs replies new) is lawful in
       subst (λ rs. (was : Option V) × (slice_get rs 1 ≡ Some (Value was))) (sym ran.runs.joined)
       (second_answered eq Says Keeps old g k v ran.runs.answers ran.runs.chain ran.shorter p)

@@ -1,5 +1,5 @@
--- The definitions that the contracts of the containers cite, passed on. Where two crates have a file of one name, the
--- container stands before it here.
+-- The definitions that the contracts of the containers cite, passed on. Where two crates have a file of one
+-- name, the container stands before it here.
 pub use Rattle.hashlink_model.specs.Algebra
 pub use Rattle.hashlink_model.specs.Cache
 pub use Rattle.hashlink_model.specs.CacheRuns

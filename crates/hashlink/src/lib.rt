@@ -1,5 +1,5 @@
-//! Linked hash containers under the names of hashlink: hash maps, sets and caches that keep their entries in an order
-//! which the caller controls.
+//! Linked hash containers under the names of hashlink: hash maps, sets and caches that keep their entries in
+//! an order which the caller controls.
 #![tactic(auto)]
 
 /// The linked hash map.

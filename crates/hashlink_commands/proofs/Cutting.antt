@@ -1,5 +1,6 @@
 -- What is read from the front of a text is the first of its parts, words or lines.
-use Rattle.std.proofs.Common.{◌≡◌, ℕ, ◌+◌, ◌<◌, ◌≤◌, Bool, true, false, nat_eq, nat_lt, List, [], ◌∷◌, length, take}
+use Rattle.std.proofs.Common.{◌≡◌, ℕ, ◌+◌, ◌<◌, ◌≤◌, Bool, true, false, nat_eq, nat_lt, List, [], ◌∷◌, length}
+use Rattle.std.proofs.Common.{take}
 use Rattle.std.proofs.Common.{drop, Option, None, Some, unwrap_or, refl, sym, ap, ◌∙◌, ⊎_elim, arith, Bor}
 use Rattle.std.specs.List.{slice_split, onto_first, position, position_or_len, join_with_byte}
 use Rattle.std.proofs.lemmas.Bool.{cases_Bool, ltb-true, ltb-false}
@@ -54,7 +55,8 @@ without_empty_end-one [] some = absurd (some refl)
 without_empty_end-one (b ∷ bs) some = refl
 
 -- the first line of a text that isn't empty, where a cut at a byte 10 left the rest
-pub lines_of-cut : (text line : List ℕ) (left : Option (Bor (List ℕ))) (rest empty : Bor (List ℕ)) → 0 < length text
+pub lines_of-cut : (text line : List ℕ) (left : Option (Bor (List ℕ))) (rest empty : Bor (List ℕ))
+    → 0 < length text
     → parts_of 10 text ≡ line ∷ parts_left 10 left → empty.now ≡ [] → rest ≡ unwrap_or left empty
     → lines_of text ≡ line ∷ lines_of rest.now
 lines_of-cut text line None rest empty some cut nothing is =

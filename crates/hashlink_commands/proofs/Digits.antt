@@ -1,5 +1,6 @@
 -- The value of digits that are read from the front.
-use Rattle.std.proofs.Common.{◌≡◌, ℕ, ◌+◌, ◌-◌, ◌*◌, ◌^◌, ◌<◌, ◌≤◌, true, false, List, length, take, get_or, None}
+use Rattle.std.proofs.Common.{◌≡◌, ℕ, ◌+◌, ◌-◌, ◌*◌, ◌^◌, ◌<◌, ◌≤◌, true, false, List, length, take, get_or}
+use Rattle.std.proofs.Common.{None}
 use Rattle.std.proofs.Common.{Some}
 use Rattle.std.proofs.Common.{refl, ⊎_elim, arith, lit<, lit≤}
 use Rattle.std.specs.Int.{IsInRange}
@@ -53,7 +54,8 @@ value_of-none digits n value at first none =
     let part = digits_value-take-le 10 digits (n + 1) (lit≤ tt) in
     let sum = sum-more digits n value at first digit in
     let above : 2 ^ 64 ≤ digits_value 10 digits =
-    ⊎_elim (λ (low : digits_value 10 digits < 2 ^ 64). absurd (none (digit, omega arith))) (λ h. h) (cases_lt _ _) in
+    ⊎_elim (λ (low : digits_value 10 digits < 2 ^ 64). absurd (none (digit, omega arith)))
+    (λ h. h) (cases_lt _ _) in
     rw (e, le-ltb _ _ above) refl)
     (λ (e : all_ascii_digits digits ≡ false). rw e refl)
     (cases_Bool (all_ascii_digits digits))

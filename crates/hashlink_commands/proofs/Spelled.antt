@@ -1,6 +1,8 @@
 -- Each line that says something is spelled in one way.
-use Rattle.std.proofs.Common.{◌≡◌, ℕ, ◌^◌, ◌<◌, ◌⊎◌, Bool, true, false, ◌&&◌, cond, not, nat_eq, nat_lt, List, []}
-use Rattle.std.proofs.Common.{◌∷◌, ◌++◌, length, get_or, take, drop, zero, suc, Option, None, Some, option_and_then}
+use Rattle.std.proofs.Common.{◌≡◌, ℕ, ◌^◌, ◌<◌, ◌⊎◌, Bool, true, false, ◌&&◌, cond, not, nat_eq, nat_lt, List}
+use Rattle.std.proofs.Common.{[]}
+use Rattle.std.proofs.Common.{◌∷◌, ◌++◌, length, get_or, take, drop, zero, suc, Option, None, Some}
+use Rattle.std.proofs.Common.{option_and_then}
 use Rattle.std.proofs.Common.{map, decimal, refl}
 use Rattle.std.proofs.Common.{codes, sym, ap, ◌∙◌, subst, inl, inr, ⊎_elim, arith, lit<}
 use Rattle.std.specs.Map.{lookup}
@@ -21,17 +23,22 @@ use Rattle.hashlink_commands.specs.Says.{words_before, steps_before, entry_said}
 use Rattle.hashlink_commands.specs.Tables.{numbers_of, said_in}
 use Rattle.hashlink_commands.specs.Says.{numbers_after, cursor_steps_before, steps_after, some_steps}
 use Rattle.hashlink_commands.specs.Says.{cursor_said, line_said, says}
-use Rattle.hashlink_commands.specs.Spelling.{Word, Name, Number, word_shown, named, step_spelled, spelled, spelling}
+use Rattle.hashlink_commands.specs.Spelling.{Word, Name, Number, word_shown, named, step_spelled, spelled}
+use Rattle.hashlink_commands.specs.Spelling.{spelling}
 use Rattle.hashlink_commands.specs.Spelling.{cursor_step_words}
 use Rattle.hashlink_commands.specs.Spelling.{FitsWord, FitsLine}
-use Rattle.hashlink_commands.specs.declared.commands.Command.TheVariants.{Insert, InsertFront, Replace, Get, Remove}
-use Rattle.hashlink_commands.specs.declared.commands.Command.TheVariants.{RemoveEntry, PopFront, PopBack, ToFront}
+use Rattle.hashlink_commands.specs.declared.commands.Command.TheVariants.{Insert, InsertFront, Replace, Get}
+use Rattle.hashlink_commands.specs.declared.commands.Command.TheVariants.{Remove}
+use Rattle.hashlink_commands.specs.declared.commands.Command.TheVariants.{RemoveEntry, PopFront, PopBack}
+use Rattle.hashlink_commands.specs.declared.commands.Command.TheVariants.{ToFront}
 use Rattle.hashlink_commands.specs.declared.commands.Command.TheVariants.{ToBack}
-use Rattle.hashlink_commands.specs.declared.commands.Command.TheVariants.{Front, Back, Len, Clear, Shrink, Keep}
+use Rattle.hashlink_commands.specs.declared.commands.Command.TheVariants.{Front, Back, Len, Clear, Shrink}
+use Rattle.hashlink_commands.specs.declared.commands.Command.TheVariants.{Keep}
 use Rattle.hashlink_commands.specs.declared.commands.Command.TheVariants.{Entry}
 use Rattle.hashlink_commands.specs.declared.commands.Command.TheVariants as command
 use Rattle.hashlink_commands.specs.declared.commands.CursorStep.{CursorStep}
-use Rattle.hashlink_commands.specs.declared.commands.CursorStep.TheVariants.{Next, Prev, Current, PeekNext, PeekPrev}
+use Rattle.hashlink_commands.specs.declared.commands.CursorStep.TheVariants.{Next, Prev, Current, PeekNext}
+use Rattle.hashlink_commands.specs.declared.commands.CursorStep.TheVariants.{PeekPrev}
 use Rattle.hashlink_commands.specs.declared.commands.CursorStep.TheVariants.{Before, After}
 use Rattle.hashlink_commands.specs.declared.commands.EntryStep.{EntryStep}
 use Rattle.hashlink_commands.specs.declared.commands.EntryStep.TheVariants as step
@@ -40,7 +47,8 @@ use Rattle.hashlink_commands.proofs.Digits.{digits_model}
 
 -- ---- what comes of a choice, of a step that may fail, and of a map
 
-chosen : {X : Type 0} (b : Bool) (x y z : X) → cond b x y ≡ z → ((b ≡ true) × (x ≡ z)) ⊎ ((b ≡ false) × (y ≡ z))
+chosen : {X : Type 0} (b : Bool) (x y z : X) → cond b x y ≡ z → ((b ≡ true) × (x ≡ z))
+    ⊎ ((b ≡ false) × (y ≡ z))
 chosen true x y z e = inl (refl, e)
 chosen false x y z e = inr (refl, e)
 
@@ -71,10 +79,12 @@ number_of-spelled : (word : List ℕ) (n : ℕ) → number_of word ≡ Some n �
 number_of-spelled word n e =
     ⊎_elim (λ (starts : (begins_as_number word ≡ true) × (value_of word ≡ Some n)).
     let value =
-    cond_some (all_ascii_digits word && nat_lt (digits_value 10 word) (2 ^ 64)) (digits_value 10 word) n starts.1 in
+    cond_some (all_ascii_digits word && nat_lt (digits_value 10 word) (2 ^ 64))
+    (digits_value 10 word) n starts.1 in
     let tests = and_parts (all_ascii_digits word) (nat_lt (digits_value 10 word) (2 ^ 64)) value.0 in
     let facts = begins_as_number-facts word starts.0 in
-    sym (decimal-digits_value digits_model word tests.0 facts.0 facts.1 (ltb-true _ _ tests.1)) ∙ ap decimal value.1)
+    sym (decimal-digits_value digits_model word tests.0 facts.0 facts.1 (ltb-true _ _ tests.1))
+    ∙ ap decimal value.1)
     (λ no. cc)
     (chosen (begins_as_number word) (value_of word) None (Some n) e)
 
@@ -151,7 +161,8 @@ entry_said-spelled [] line e = cc
 entry_said-spelled (key ∷ []) line e = cc
 entry_said-spelled (key ∷ name ∷ words) line e =
     let k =
-    step_some (λ k. option_map (λ s. Do (Entry k s)) (said_in steps_before name words)) (number_of key) line e in
+    step_some (λ k. option_map (λ s. Do (Entry k s)) (said_in steps_before name words))
+    (number_of key) line e in
     let s = map_some (λ s. Do (Entry k.0 s)) (said_in steps_before name words) line k.2 in
     let step =
     map_some shown (step_spelled s.0) (name ∷ words)
@@ -180,11 +191,13 @@ steps_after-spelled (suc n) (word ∷ words) steps e = steps_after-spelled n wor
 steps_after-spelled zero (name ∷ words) steps e =
     let m = numbers_after name in
     let step =
-    step_some (λ s. option_map (λ ss. s ∷ ss) (steps_after m words)) (said_in cursor_steps_before name (take m words))
+    step_some (λ s. option_map (λ ss. s ∷ ss) (steps_after m words))
+    (said_in cursor_steps_before name (take m words))
     steps e in
     let more = map_some (λ ss. step.0 ∷ ss) (steps_after m words) steps step.2 in
     let said : Some (shown (cursor_step_words step.0)) ≡ Some (name ∷ take m words) =
-    said-spelled (λ s. Some (cursor_step_words s)) cursor_steps_before cursor_steps_spelled name (take m words) step.0
+    said-spelled (λ s. Some (cursor_step_words s)) cursor_steps_before cursor_steps_spelled name
+    (take m words) step.0
     step.1 in
     let first : shown (cursor_step_words step.0) ≡ name ∷ take m words = cc in
     ap steps_shown (sym more.2)
@@ -205,7 +218,8 @@ line_said-spelled : (words : List (List ℕ)) (line : Said) → line_said words 
     → option_map shown (spelled line) ≡ Some words
 line_said-spelled [] line e = cc
 line_said-spelled (name ∷ words) line e =
-    let others = cond (bytes_eq name (codes "cursor")) (cursor_said words) (said_in words_before name words) in
+    let others = cond (bytes_eq name (codes "cursor")) (cursor_said words)
+    (said_in words_before name words) in
     ⊎_elim (λ yes.
     let is = (bytes_eq-Decides name (codes "entry")).0 yes.0 in
     entry_said-spelled words line yes.1 ∙ ap (λ w. Some (w ∷ words)) (sym is))
@@ -216,7 +230,8 @@ line_said-spelled (name ∷ words) line e =
     some_steps-spelled steps.0 words line steps.2 (steps_after-spelled 0 words steps.0 steps.1)
     ∙ ap (λ w. Some (w ∷ words)) (sym is))
     (λ no. said-spelled spelled words_before words_spelled name words line no.1)
-    (chosen (bytes_eq name (codes "cursor")) (cursor_said words) (said_in words_before name words) (Some line) no.1))
+    (chosen (bytes_eq name (codes "cursor")) (cursor_said words) (said_in words_before name words)
+    (Some line) no.1))
     (chosen (bytes_eq name (codes "entry")) (entry_said words) others (Some line) e)
 
 pub one_line : (text : List ℕ) (line : Said) → says text ≡ Some line → spelling line ≡ Some text
@@ -242,7 +257,8 @@ Spaceless-digits : (digits : List ℕ) → AllDigits 10 digits → Spaceless dig
 Spaceless-digits [] h = All-nil (λ b. nat_eq b 32 ≡ false)
 Spaceless-digits (d ∷ digits) h =
     let digit = digit_from_value d h.0 in
-    All-cons (λ b. nat_eq b 32 ≡ false) d digits (ne_eqb d 32 (λ e. omega arith)) (Spaceless-digits digits h.1)
+    All-cons (λ b. nat_eq b 32 ≡ false) d digits (ne_eqb d 32 (λ e. omega arith))
+    (Spaceless-digits digits h.1)
 
 Spaceless-decimal : (n : ℕ) → n < 2 ^ 64 → Spaceless (decimal n)
 Spaceless-decimal n low = Spaceless-digits (decimal n) (decimal_is_IsNumeral n low).0.1
@@ -297,13 +313,17 @@ module _ {X : Type 0} (spell : X → Option (List Word)) (before : List ℕ → 
   read_so : option_and_then (λ ns. lookup (bytes_eq t.name) (before ns)) (numbers_of rest) ≡ Some x
   unfolding rest
   read_so =
-      ap (option_and_then (λ ns. lookup (bytes_eq t.name) (before ns))) (numbers_of-decimals t.numbers fitting).0
+      ap (option_and_then (λ ns. lookup (bytes_eq t.name) (before ns)))
+      (numbers_of-decimals t.numbers fitting).0
       ∙ t.found
 
   spaced : AllSpaceless (shown words)
   unfolding rest AllSpaceless
   spaced =
-      subst AllSpaceless (sym shown_as) (spaceless t.name t.spaceless, (numbers_of-decimals t.numbers fitting).1)
+      subst AllSpaceless (sym shown_as) (
+        spaceless t.name t.spaceless,
+        (numbers_of-decimals t.numbers fitting).1,
+      )
 
 step_in_table : (s : EntryStep ℕ) (words : List Word) → step_spelled s ≡ Some words
     → IsInTable step_spelled steps_before s
@@ -337,7 +357,8 @@ word_read line t words entry cursor e fits =
     let rest = rest spelled words_before line t words e fits in (
       ap line_said (shown_as spelled words_before line t words e fits)
           ∙ ap (λ b. cond b (entry_said rest)
-          (cond (bytes_eq t.name (codes "cursor")) (cursor_said rest) (said_in words_before t.name rest))) entry
+          (cond (bytes_eq t.name (codes "cursor")) (cursor_said rest) (said_in words_before t.name rest)))
+          entry
           ∙ ap (λ b. cond b (cursor_said rest) (said_in words_before t.name rest)) cursor
           ∙ read_so spelled words_before line t words e fits,
       spaced spelled words_before line t words e fits,
@@ -393,7 +414,10 @@ steps_read (After k v ∷ steps) fits =
     let key = number_of-decimal k fits.1.0 in
     let value = number_of-decimal v fits.1.1.0 in (
       rw (key, value, more.0) refl,
-      (spaceless (codes "after") refl, (Spaceless-decimal k fits.1.0, (Spaceless-decimal v fits.1.1.0, more.1))),
+      (
+        spaceless (codes "after") refl,
+        (Spaceless-decimal k fits.1.0, (Spaceless-decimal v fits.1.1.0, more.1)),
+      ),
     )
 
 cursor_read : (step : CursorStep ℕ ℕ) (steps : List (CursorStep ℕ ℕ))
@@ -420,7 +444,8 @@ line_read (Do (Replace k v)) words e fits =
     words refl refl e fits
 line_read (Do (Get k)) words e fits =
     word_read (Do (Get k))
-    (record { name = codes "get"; numbers = k ∷ []; is = refl; spaceless = refl; found = refl }) words refl refl e fits
+    (record { name = codes "get"; numbers = k ∷ []; is = refl; spaceless = refl; found = refl })
+    words refl refl e fits
 line_read (Do (Remove k)) words e fits =
     word_read (Do (Remove k))
     (record { name = codes "remove"; numbers = k ∷ []; is = refl; spaceless = refl; found = refl })
@@ -432,7 +457,8 @@ line_read (Do PopFront) words e fits =
     words refl refl e fits
 line_read (Do PopBack) words e fits =
     word_read (Do PopBack)
-    (record { name = codes "pop_back"; numbers = []; is = refl; spaceless = refl; found = refl }) words refl refl e fits
+    (record { name = codes "pop_back"; numbers = []; is = refl; spaceless = refl; found = refl })
+    words refl refl e fits
 line_read (Do (ToFront k)) words e fits =
     word_read (Do (ToFront k))
     (record { name = codes "to_front"; numbers = k ∷ []; is = refl; spaceless = refl; found = refl })
@@ -443,25 +469,32 @@ line_read (Do (ToBack k)) words e fits =
     words refl refl e fits
 line_read (Do Front) words e fits =
     word_read (Do Front)
-    (record { name = codes "front"; numbers = []; is = refl; spaceless = refl; found = refl }) words refl refl e fits
+    (record { name = codes "front"; numbers = []; is = refl; spaceless = refl; found = refl })
+    words refl refl e fits
 line_read (Do Back) words e fits =
     word_read (Do Back)
-    (record { name = codes "back"; numbers = []; is = refl; spaceless = refl; found = refl }) words refl refl e fits
+    (record { name = codes "back"; numbers = []; is = refl; spaceless = refl; found = refl })
+    words refl refl e fits
 line_read (Do Len) words e fits =
     word_read (Do Len)
-    (record { name = codes "len"; numbers = []; is = refl; spaceless = refl; found = refl }) words refl refl e fits
+    (record { name = codes "len"; numbers = []; is = refl; spaceless = refl; found = refl })
+    words refl refl e fits
 line_read (Do Clear) words e fits =
     word_read (Do Clear)
-    (record { name = codes "clear"; numbers = []; is = refl; spaceless = refl; found = refl }) words refl refl e fits
+    (record { name = codes "clear"; numbers = []; is = refl; spaceless = refl; found = refl })
+    words refl refl e fits
 line_read (Do Shrink) words e fits =
     word_read (Do Shrink)
-    (record { name = codes "shrink"; numbers = []; is = refl; spaceless = refl; found = refl }) words refl refl e fits
+    (record { name = codes "shrink"; numbers = []; is = refl; spaceless = refl; found = refl })
+    words refl refl e fits
 line_read (Do Keep) words e fits =
     word_read (Do Keep)
-    (record { name = codes "keep"; numbers = []; is = refl; spaceless = refl; found = refl }) words refl refl e fits
+    (record { name = codes "keep"; numbers = []; is = refl; spaceless = refl; found = refl })
+    words refl refl e fits
 line_read Iter words e fits =
     word_read Iter
-    (record { name = codes "iter"; numbers = []; is = refl; spaceless = refl; found = refl }) words refl refl e fits
+    (record { name = codes "iter"; numbers = []; is = refl; spaceless = refl; found = refl })
+    words refl refl e fits
 line_read (Do (command.Cursor steps)) words e fits = cc
 line_read (Cursor []) words e fits = cc
 line_read (Cursor (step ∷ steps)) words e fits =
@@ -478,7 +511,8 @@ words_read : (words : List (List ℕ)) (line : Said) → AllSpaceless words → 
 words_read [] line h e = cc
 words_read (word ∷ words) line h e = ap line_said (words_of-join word words h) ∙ e
 
-pub spelling_says : (line : Said) (text : List ℕ) → FitsLine line → spelling line ≡ Some text → says text ≡ Some line
+pub spelling_says : (line : Said) (text : List ℕ) → FitsLine line → spelling line ≡ Some text
+    → says text ≡ Some line
 spelling_says line text fits e =
     let words = map_some (λ ws. join_with_byte 32 (shown ws)) (spelled line) text e in
     let read = line_read line words.0 words.1 (rw words.1 at fits) in

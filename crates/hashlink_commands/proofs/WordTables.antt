@@ -1,5 +1,6 @@
 -- A table of words that is read from its front.
-use Rattle.std.proofs.Common.{◌≡◌, ℕ, ◌+◌, ◌<◌, true, false, List, length, get_or, drop, cond, Option, Some, ap}
+use Rattle.std.proofs.Common.{◌≡◌, ℕ, ◌+◌, ◌<◌, true, false, List, length, get_or, drop, cond, Option, Some}
+use Rattle.std.proofs.Common.{ap}
 use Rattle.std.proofs.Common.{◌∙◌, Bor, add-one, drop-cons, suc, sym}
 use Rattle.std.specs.Map.{lookup}
 use Rattle.std.specs.Str.{bytes_eq}
@@ -15,7 +16,8 @@ module _ {X : Type 0} (name : List ℕ) (table : List (Bor (List ℕ) × X)) (i 
       → said_from i ≡ cond (bytes_eq name entry.0.now) (Some entry.1) (said_from (i + 1))
   said_from-step at =
       ap (λ es. lookup (bytes_eq name) (words_shown es)) (drop-cons table i entry at)
-      ∙ ap (λ e. cond (bytes_eq name e.0.now) (Some e.1) (lookup (bytes_eq name) (words_shown (drop (suc i) table))))
+      ∙ ap (λ e. cond (bytes_eq name e.0.now) (Some e.1)
+      (lookup (bytes_eq name) (words_shown (drop (suc i) table))))
       (sym is) ∙ ap (λ j. cond (bytes_eq name entry.0.now) (Some entry.1) (said_from j)) (sym (add-one i))
 
   pub said_here : i < length table → bytes_eq name entry.0.now ≡ true → said_from i ≡ Some entry.1

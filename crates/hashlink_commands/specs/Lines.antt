@@ -1,5 +1,6 @@
 -- What a text is made of: lines, the words of a line, and numbers.
-use Rattle.std.specs.Prelude.{ℕ, ◌^◌, Bool, true, false, ◌&&◌, not, List, [], ◌∷◌, Option, None, Some, nat_lt, ◌==◌}
+use Rattle.std.specs.Prelude.{ℕ, ◌^◌, Bool, true, false, ◌&&◌, not, List, [], ◌∷◌, Option, None, Some, nat_lt}
+use Rattle.std.specs.Prelude.{◌==◌}
 use Rattle.std.specs.Prelude.{if◌then◌else◌}
 use Rattle.std.specs.List.{slice_split}
 use Rattle.std.specs.Str.{all_ascii_digits}
@@ -32,7 +33,8 @@ begins_as_number (digit ∷ digits) = not (digit == 48)
 -- the value of decimal digits, if it is below 2 ^ 64
 abbrev pub value_of : List ℕ → Option ℕ
 value_of digits =
-    if all_ascii_digits digits && nat_lt (digits_value 10 digits) (2 ^ 64) then Some (digits_value 10 digits) else None
+    if all_ascii_digits digits && nat_lt (digits_value 10 digits) (2 ^ 64) then Some
+    (digits_value 10 digits) else None
 
 -- the number that a word spells
 abbrev pub number_of : List ℕ → Option ℕ

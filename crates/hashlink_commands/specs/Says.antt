@@ -7,12 +7,15 @@ use Rattle.hashlink_commands.specs.Lines.{words_of, number_of}
 use Rattle.hashlink_commands.specs.Tables.{said_in}
 use Rattle.hashlink_commands.specs.declared.commands.Command.{Command}
 use Rattle.hashlink_commands.specs.declared.commands.Command.TheVariants as command
-use Rattle.hashlink_commands.specs.declared.commands.Command.TheVariants.{Insert, InsertFront, Replace, Get, Remove}
+use Rattle.hashlink_commands.specs.declared.commands.Command.TheVariants.{Insert, InsertFront, Replace, Get}
+use Rattle.hashlink_commands.specs.declared.commands.Command.TheVariants.{Remove}
 use Rattle.hashlink_commands.specs.declared.commands.Command.TheVariants.{PopFront, PopBack, ToFront, ToBack}
-use Rattle.hashlink_commands.specs.declared.commands.Command.TheVariants.{Front, Back, Len, Clear, Shrink, Keep}
+use Rattle.hashlink_commands.specs.declared.commands.Command.TheVariants.{Front, Back, Len, Clear, Shrink}
+use Rattle.hashlink_commands.specs.declared.commands.Command.TheVariants.{Keep}
 use Rattle.hashlink_commands.specs.declared.commands.Command.TheVariants.{Entry}
 use Rattle.hashlink_commands.specs.declared.commands.CursorStep.{CursorStep}
-use Rattle.hashlink_commands.specs.declared.commands.CursorStep.TheVariants.{Next, Prev, Current, PeekNext, PeekPrev}
+use Rattle.hashlink_commands.specs.declared.commands.CursorStep.TheVariants.{Next, Prev, Current, PeekNext}
+use Rattle.hashlink_commands.specs.declared.commands.CursorStep.TheVariants.{PeekPrev}
 use Rattle.hashlink_commands.specs.declared.commands.CursorStep.TheVariants.{Before, After}
 use Rattle.hashlink_commands.specs.declared.commands.EntryStep.{EntryStep}
 use Rattle.hashlink_commands.specs.declared.commands.EntryStep.TheVariants as step

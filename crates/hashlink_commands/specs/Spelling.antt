@@ -2,14 +2,18 @@
 use Rattle.std.specs.Prelude.{ℕ, ◌^◌, ◌<◌, List, [], ◌∷◌, map, codes, decimal, Option, None, Some, IfSome}
 use Rattle.std.specs.Option.{option_map}
 use Rattle.std.specs.List.{AllByRecursion, flat_map, join_with_byte}
-use Rattle.hashlink_commands.specs.declared.commands.Command.TheVariants.{Insert, InsertFront, Replace, Get, Remove}
-use Rattle.hashlink_commands.specs.declared.commands.Command.TheVariants.{RemoveEntry, PopFront, PopBack, ToFront}
+use Rattle.hashlink_commands.specs.declared.commands.Command.TheVariants.{Insert, InsertFront, Replace, Get}
+use Rattle.hashlink_commands.specs.declared.commands.Command.TheVariants.{Remove}
+use Rattle.hashlink_commands.specs.declared.commands.Command.TheVariants.{RemoveEntry, PopFront, PopBack}
+use Rattle.hashlink_commands.specs.declared.commands.Command.TheVariants.{ToFront}
 use Rattle.hashlink_commands.specs.declared.commands.Command.TheVariants.{ToBack}
-use Rattle.hashlink_commands.specs.declared.commands.Command.TheVariants.{Front, Back, Len, Clear, Shrink, Keep}
+use Rattle.hashlink_commands.specs.declared.commands.Command.TheVariants.{Front, Back, Len, Clear, Shrink}
+use Rattle.hashlink_commands.specs.declared.commands.Command.TheVariants.{Keep}
 use Rattle.hashlink_commands.specs.declared.commands.Command.TheVariants.{Entry}
 use Rattle.hashlink_commands.specs.declared.commands.Command.TheVariants as command
 use Rattle.hashlink_commands.specs.declared.commands.CursorStep.{CursorStep}
-use Rattle.hashlink_commands.specs.declared.commands.CursorStep.TheVariants.{Next, Prev, Current, PeekNext, PeekPrev}
+use Rattle.hashlink_commands.specs.declared.commands.CursorStep.TheVariants.{Next, Prev, Current, PeekNext}
+use Rattle.hashlink_commands.specs.declared.commands.CursorStep.TheVariants.{PeekPrev}
 use Rattle.hashlink_commands.specs.declared.commands.CursorStep.TheVariants.{Before, After}
 use Rattle.hashlink_commands.specs.declared.commands.EntryStep.{EntryStep}
 use Rattle.hashlink_commands.specs.declared.commands.EntryStep.TheVariants as step
@@ -32,8 +36,8 @@ named_words name ns = Name name ∷ map Number ns
 abbrev pub named : List ℕ → List ℕ → Option (List Word)
 named name ns = Some (named_words name ns)
 
--- the words for what is done at a key's place. None say that the key alone is replaced, and that a pair is taken out
--- whole
+-- the words for what is done at a key's place. None say that the key alone is replaced, and that a pair is
+-- taken out whole
 abbrev pub step_spelled : EntryStep ℕ → Option (List Word)
 step_spelled step.Get = named (codes "get") []
 step_spelled (step.OrInsert v) = named (codes "or_insert") (v ∷ [])
@@ -56,8 +60,8 @@ cursor_step_words PeekPrev = named_words (codes "peek_prev") []
 cursor_step_words (Before k v) = named_words (codes "before") (k ∷ v ∷ [])
 cursor_step_words (After k v) = named_words (codes "after") (k ∷ v ∷ [])
 
--- the words of the line that says it. None say that a pair is taken out whole, and a cursor's steps are said as their
--- list, of which there is one at least
+-- the words of the line that says it. None say that a pair is taken out whole, and a cursor's steps are said
+-- as their list, of which there is one at least
 abbrev pub spelled : Said → Option (List Word)
 spelled (Do (Insert k v)) = named (codes "insert") (k ∷ v ∷ [])
 spelled (Do (InsertFront k v)) = named (codes "insert_front") (k ∷ v ∷ [])

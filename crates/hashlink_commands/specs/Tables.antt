@@ -10,7 +10,8 @@ use Rattle.hashlink_commands.specs.declared.numbers.Numbers.TheVariants.{Nothing
 -- the numbers that the words spell, where each spells one
 abbrev pub numbers_of : List (List ℕ) → Option (List ℕ)
 numbers_of [] = Some []
-numbers_of (word ∷ words) = option_and_then (λ n. option_map (λ ns. n ∷ ns) (numbers_of words)) (number_of word)
+numbers_of (word ∷ words) = option_and_then (λ n. option_map (λ ns. n ∷ ns) (numbers_of words))
+    (number_of word)
 
 -- the numbers, where there are three at most
 abbrev pub three_at_most : List ℕ → Option Numbers

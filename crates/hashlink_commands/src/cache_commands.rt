@@ -5,7 +5,8 @@ use crate::commands::EntryStep;
 pub enum CacheCommand<K, V> {
     /// Puts the pair last, with the value given, and drops those at the front that are too many.
     Insert(K, V),
-    /// Moves the key's pair to the end and reads it. Where the key is absent, puts the pair in as an insert does.
+    /// Moves the key's pair to the end and reads it. Where the key is absent, puts the pair in as an insert
+    /// does.
     Use(K, V),
     /// Drops the first pair where there are too many, looks for the key, and does this with it in hand.
     Entry(K, EntryStep<V>),
@@ -28,7 +29,8 @@ pub enum CacheCommand<K, V> {
 pub enum PairCommand<K, V> {
     /// Puts the pair last, with the value given, and drops the first pair where there are too many.
     Insert(K, V),
-    /// Moves the key's pair to the end and reads it. Where the key is absent, puts the pair in as an insert does.
+    /// Moves the key's pair to the end and reads it. Where the key is absent, puts the pair in as an insert
+    /// does.
     Use(K, V),
     /// Takes the key's pair out, for its value.
     Remove(K),

@@ -1,7 +1,8 @@
 ghost use Rattle.std.specs.Prelude.{◌≡◌};
 ghost use Rattle.std.specs.Map.{lookup};
 ghost use Rattle.std.specs.Str.{bytes_eq};
-ghost use Rattle.hashlink_commands.specs.CachesSay.{lone_cache_words, cache_words_of_number, cache_words_of_pair};
+ghost use Rattle.hashlink_commands.specs.CachesSay.{lone_cache_words, cache_words_of_number};
+ghost use Rattle.hashlink_commands.specs.CachesSay.{cache_words_of_pair};
 
 use crate::cache_commands::CacheCommand;
 use crate::numbers::{Numbers, read_numbers};

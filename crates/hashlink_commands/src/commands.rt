@@ -31,7 +31,8 @@ pub enum Command<K, V> {
     Clear,
     /// Gives the memory back that no pair needs.
     Shrink,
-    /// Drops every pair at which the run's closure returns false. The others keep their values and their order.
+    /// Drops every pair at which the run's closure returns false. The others keep their values and their
+    /// order.
     Keep,
     /// Looks for the key, and does this with it in hand.
     Entry(K, EntryStep<V>),

@@ -2,7 +2,8 @@
 ghost use Rattle.std.specs.Prelude.{◌≡◌, ℕ, ◌++◌, List, [], ◌∷◌, Some, None, codes};
 ghost use Rattle.hashlink_commands.specs.Lines.{lines_of};
 ghost use Rattle.hashlink_commands.specs.Says.{Said, Cursor, says};
-ghost use Rattle.hashlink_commands.specs.declared.commands.CursorStep.TheVariants.{Next, Prev, Current, PeekNext};
+ghost use Rattle.hashlink_commands.specs.declared.commands.CursorStep.TheVariants.{Next, Prev, Current};
+ghost use Rattle.hashlink_commands.specs.declared.commands.CursorStep.TheVariants.{PeekNext};
 ghost use Rattle.hashlink_commands.specs.declared.commands.CursorStep.TheVariants.{PeekPrev, Before, After};
 ghost use Rattle.hashlink_commands.specs.Spelling.{spelling, FitsLine};
 
@@ -14,7 +15,8 @@ pub fn one_spelling()
 
 /// Whatever has a spelling with numbers that a line can have, its spelling says it.
 pub fn spelling_says_it()
-    ensures { (said : Said) (text : List ℕ) → FitsLine said → spelling said ≡ Some text → says text ≡ Some said }
+    ensures { (said : Said) (text : List ℕ) → FitsLine said → spelling said ≡ Some text
+        → says text ≡ Some said }
 {}
 
 /// Lines end at a byte 10, and what follows the last one is a line where it isn't empty. A byte 13 is

@@ -1,4 +1,5 @@
-/// What a map answers to a command. Of a pair that a command reads, the reply has what the run's closure said of it.
+/// What a map answers to a command. Of a pair that a command reads, the reply has what the run's closure said
+/// of it.
 #[derive(Clone, Copy, Debug, PartialEq, Eq, Drop)]
 pub enum Reply<K, V, B = bool> {
     /// It is done.

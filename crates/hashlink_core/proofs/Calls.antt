@@ -1,5 +1,6 @@
 -- What the calls of the keyed list leave, from the clauses of the ring and of the table.
-use Rattle.std.proofs.Common.{◌≡◌, Result, Ok, Err, OnOk, OnErr, ℕ, ◌+◌, ◌-◌, ◌≤◌, Bool, true, List, ◌∷◌, ◌++◌}
+use Rattle.std.proofs.Common.{◌≡◌, Result, Ok, Err, OnOk, OnErr, ℕ, ◌+◌, ◌-◌, ◌≤◌, Bool, true, List, ◌∷◌}
+use Rattle.std.proofs.Common.{◌++◌}
 use Rattle.std.proofs.Common.{length, drop, Option, None, Some, refl, ap, sym, subst, ◌∙◌, arith, length-drop}
 use Rattle.std.specs.Prelude.{slice_get, insert, remove}
 use Rattle.std.specs.List.{IsDistinct}
@@ -25,10 +26,12 @@ use Rattle.hashlink_core.specs.KeyedLends.{with_value_at}
 use Rattle.hashlink_core.specs.Places.{place_number, IsPlaceAt, renewed_at}
 use Rattle.hashlink_core.specs.Steps.{AddsNode, RemovesNode, MovesNode, WritesNode, SetsNodeKey, GrowsRoom}
 use Rattle.hashlink_core.specs.Tied.{IsInStep}
-use Rattle.hashlink_core.proofs.Edits.{insert-map, remove-map, length-inserted, length-removed, remove_entry-at}
+use Rattle.hashlink_core.proofs.Edits.{insert-map, remove-map, length-inserted, length-removed}
+use Rattle.hashlink_core.proofs.Edits.{remove_entry-at}
 use Rattle.hashlink_core.proofs.Edits.{moved_at-is, none-inserted, none_from_place, passes-at}
 use Rattle.std.proofs.lemmas.Map.Entries.{length-values_of}
-use Rattle.hashlink_core.proofs.Mapped.{length-mapped, remove_entry-mapped, keys-mapped, lookup-mapped, holds-mapped}
+use Rattle.hashlink_core.proofs.Mapped.{length-mapped, remove_entry-mapped, keys-mapped, lookup-mapped}
+use Rattle.hashlink_core.proofs.Mapped.{holds-mapped}
 use Rattle.hashlink_core.proofs.Mapped.{place_number-mapped, renewed-mapped, moved-map, values-renewed_value}
 use Rattle.hashlink_core.proofs.Mapped.{values-renewed_key}
 use Rattle.hashlink_core.proofs.Neighbours.{distinct-left, next-number, prev-number}
@@ -45,8 +48,10 @@ abbrev with_nodes : {K V S : Type 0} → List (Node × (K × V)) → Keyed K V S
 with_nodes ns m = record m { nodes = ns }
 
 -- ---- the step of a map that an edit of the nodes is
-module _ {K V S : Type 0} (old new : Keyed K V S) (room : new.room ≡ old.room) (hasher : new.hasher ≡ old.hasher) where
-  removes-node : (j : ℕ) (e : Node × (K × V)) → slice_get old.nodes j ≡ Some e → new.nodes ≡ remove old.nodes j
+module _ {K V S : Type 0} (old new : Keyed K V S) (room : new.room ≡ old.room)
+    (hasher : new.hasher ≡ old.hasher) where
+  removes-node : (j : ℕ) (e : Node × (K × V)) → slice_get old.nodes j ≡ Some e → new.nodes
+      ≡ remove old.nodes j
       → new.spare ≡ old.spare + 1 → new.link_writes ≡ old.link_writes + 3 → RemovesNode old new j
   removes-node j e at nodes more stored = record {
     nodes = nodes;
@@ -74,7 +79,8 @@ module _ {K V S : Type 0} (old new : Keyed K V S) (room : new.room ≡ old.room)
     };
   }
 
-  writes-node : (j : ℕ) (v : V) → new.nodes ≡ renewed_at (pair_with_value v) old.nodes j → new.spare ≡ old.spare
+  writes-node : (j : ℕ) (v : V) → new.nodes ≡ renewed_at (pair_with_value v) old.nodes j
+      → new.spare ≡ old.spare
       → new.link_writes ≡ old.link_writes → WritesNode old new j v
   writes-node j v nodes same stored = record {
     nodes = nodes;
@@ -103,7 +109,8 @@ module _ {K V S : Type 0} (old new : Keyed K V S) (room : new.room ≡ old.room)
 -- ---- with the ring r and the table t inside, the list is seen as `seen`
 module _ {K V S : Type 0} {eq : K → K → Bool} (laws : IsEquivalence eq) {hash : K → ℕ} {s : S} {r : Ring K V}
     {t : Contents Node} {seen : Keyed K V S} (view : seen_as r t s ≡ seen) (step : IsInStep eq hash r t) where
-  seen-fits : (r' : Ring K V) (t' : Contents Node) → IsInStep eq hash r' t' → HasRoom (state_of (seen_as r' t' s))
+  seen-fits : (r' : Ring K V) (t' : Contents Node) → IsInStep eq hash r' t'
+      → HasRoom (state_of (seen_as r' t' s))
   seen-fits r' t' step' = omega (arith, step'.fits, length-pairs r'.entries)
 
   pub sound : IsKeyed eq seen
@@ -118,7 +125,8 @@ module _ {K V S : Type 0} {eq : K → K → Bool} (laws : IsEquivalence eq) {has
 
   pub place-inside : (p : Option Node) → IsPlace seen.nodes p → IsPlace r.entries p
   place-inside None within = tt
-  place-inside (Some m) within = holds-mapped pair_of r.entries m (subst (λ m'. Holds m'.nodes m) (sym view) within)
+  place-inside (Some m) within = holds-mapped pair_of r.entries m
+      (subst (λ m'. Holds m'.nodes m) (sym view) within)
 
   -- a place of the list without the node
   pub rest-inside : (n : Node) (p : Option Node) → IsPlace (remove_entry (same_node n) seen.nodes) p
@@ -175,7 +183,8 @@ module _ {K V S : Type 0} {eq : K → K → Bool} (laws : IsEquivalence eq) {has
         ap (option_map g) (stored ∙ ap (option_map pair_of) at.1.found) ∙ ap Some (sym (same at.0) ∙ held)
 
     -- its key is equal to the one at whose place it stands
-    pub key-equal : (k : K) → HoldsKey eq seen.nodes k n → (h : Held K V) → lookup (same_node n) r.entries ≡ Some h
+    pub key-equal : (k : K) → HoldsKey eq seen.nodes k n → (h : Held K V)
+        → lookup (same_node n) r.entries ≡ Some h
         → eq k h.key ≡ true
     key-equal k holds h is = passes-at (eq k) (entries_of seen) (place_number seen.nodes (Some n)) (pair_of h)
         holds.place (stored ∙ ap (option_map pair_of) is)
@@ -187,7 +196,8 @@ module _ {K V S : Type 0} {eq : K → K → Bool} (laws : IsEquivalence eq) {has
         (removed : s'.entries ≡ remove_entry (same_node n) r.entries) (freed : s'.free ≡ n ∷ r.free) where
       pub removed-step : IsInStep eq hash s' u
       removed-step =
-          let same : at.0.number ≡ number = cc (sym (ap (option_map (λ h. h.number)) at.1.found) ∙ numbered) in
+          let same : at.0.number ≡ number =
+          cc (sym (ap (option_map (λ h. h.number)) at.1.found) ∙ numbered) in
           let more : length s'.free ≡ length r.free + 1 = omega (arith, ap length freed) in
           subst (IsInStep eq hash s') (ap (λ i. record t { nodes = take_out t.nodes i }) same ∙ sym untied)
           (step-out laws r s' t n at.0 step (place_number r.entries (Some n)) at.1.at (removed
@@ -198,9 +208,11 @@ module _ {K V S : Type 0} {eq : K → K → Bool} (laws : IsEquivalence eq) {has
       removed-node stored =
           let new = seen_as s' u s in
           let e = node-at (nodes_of r.entries) n (subst (λ m. Holds m.nodes n) (sym view) within) in
-          let left : nodes_of s'.entries ≡ remove (nodes_of r.entries) (place_number (nodes_of r.entries) (Some n)) =
+          let left : nodes_of s'.entries
+          ≡ remove (nodes_of r.entries) (place_number (nodes_of r.entries) (Some n)) =
           ap nodes_of (removed ∙ remove_entry-at same_node r.entries n)
-          ∙ remove-map (λ (e : Node × Held K V). (e.0, pair_of e.1)) r.entries (place_number r.entries (Some n))
+          ∙ remove-map (λ (e : Node × Held K V). (e.0, pair_of e.1)) r.entries
+          (place_number r.entries (Some n))
           ∙ ap (remove (nodes_of r.entries)) (sym (place_number-mapped pair_of r.entries (Some n))) in
           let more : length s'.free ≡ length r.free + 1 = omega (arith, ap length freed) in
           subst (λ m. RemovesNode m new (place_number m.nodes (Some n))) view
@@ -221,14 +233,15 @@ module _ {K V S : Type 0} {eq : K → K → Bool} (laws : IsEquivalence eq) {has
           (following_place (length seen.nodes) (place_number seen.nodes p))
       to-after m =
           moves_after-at r.entries n p step.apart held-inside (rest-inside n p place) es m
-          ∙ ap (λ b. moved_at r.entries (place_number r.entries (Some n)) (following_place (length r.entries) b))
+          ∙ ap (λ b. moved_at r.entries (place_number r.entries (Some n))
+          (following_place (length r.entries) b))
           (sym (number-inside p))
           ∙ ap (λ c. moved_at r.entries (place_number r.entries (Some n))
           (following_place c (place_number seen.nodes p))) (sym (number-inside None))
 
     -- to the place b
-    module _ (s' : Ring K V) (b : ℕ) (moved : s'.entries ≡ moved_at r.entries (place_number r.entries (Some n)) b)
-        (free : s'.free ≡ r.free) where
+    module _ (s' : Ring K V) (b : ℕ) (moved : s'.entries ≡ moved_at r.entries
+        (place_number r.entries (Some n)) b) (free : s'.free ≡ r.free) where
       pub moved-step : IsInStep eq hash s' t
       moved-step = step-renewed laws r s' t n at.0 step (place_number r.entries (Some n)) at.1.at
           (place_left (place_number r.entries (Some n)) b) at.0
@@ -243,7 +256,8 @@ module _ {K V S : Type 0} {eq : K → K → Bool} (laws : IsEquivalence eq) {has
           ≡ moved_at (nodes_of r.entries) (place_number (nodes_of r.entries) (Some n)) b =
           ap nodes_of moved ∙ moved-map (λ (e : Node × Held K V). (e.0, pair_of e.1)) r.entries
           (place_number r.entries (Some n)) b
-          ∙ ap (λ i. moved_at (nodes_of r.entries) i b) (sym (place_number-mapped pair_of r.entries (Some n))) in
+          ∙ ap (λ i. moved_at (nodes_of r.entries) i b)
+          (sym (place_number-mapped pair_of r.entries (Some n))) in
           subst (λ m. MovesNode m new (place_number m.nodes (Some n)) b) view
           (moves-node (seen_as r t s) new refl refl (place_number (nodes_of r.entries) (Some n)) b there
           (ap length free) stored)
@@ -253,8 +267,8 @@ module _ {K V S : Type 0} {eq : K → K → Bool} (laws : IsEquivalence eq) {has
         → Held K V) (set : IfSome (lookup (same_node n) r.entries)
         (λ h. s'.entries ≡ set_value (same_node n) r.entries (f h))) (free : s'.free ≡ r.free) where
       renewed : s'.entries ≡ renewed_at f r.entries (place_number r.entries (Some n))
-      renewed = subst (λ o. IfSome o (λ h. s'.entries ≡ set_value (same_node n) r.entries (f h))) at.1.found set
-          ∙ set_value-at f r.entries n at.0 at.1.found
+      renewed = subst (λ o. IfSome o (λ h. s'.entries ≡ set_value (same_node n) r.entries (f h)))
+          at.1.found set ∙ set_value-at f r.entries n at.0 at.1.found
 
       pub renewed-step : ((h : Held K V) → (f h).number ≡ h.number)
           → ((h : Held K V) → lookup (same_node n) r.entries ≡ Some h → (eq h.key (f h).key ≡ true)
@@ -262,7 +276,8 @@ module _ {K V S : Type 0} {eq : K → K → Bool} (laws : IsEquivalence eq) {has
       renewed-step number key =
           step-renewed laws r s' t n at.0 step (place_number r.entries (Some n)) at.1.at
           (place_number r.entries (Some n)) (f at.0)
-          (renewed ∙ renewed_at-is f r.entries (place_number r.entries (Some n)) (n, at.0) at.1.at) (number at.0)
+          (renewed ∙ renewed_at-is f r.entries (place_number r.entries (Some n)) (n, at.0) at.1.at)
+          (number at.0)
           (key at.0 at.1.found).0 (key at.0 at.1.found).1 (ap length free)
 
       pub renewed-nodes : (g : K × V → K × V) → ((h : Held K V) → pair_of (f h) ≡ g (pair_of h))
@@ -294,7 +309,8 @@ module _ {K V S : Type 0} {eq : K → K → Bool} (laws : IsEquivalence eq) {has
         (λ h. s'.entries ≡ set_value (same_node n) r.entries (with_key h k)) → s'.free ≡ r.free
         → IsInStep eq hash s' t
     rekeyed-step s' k holds alike set free = renewed-step s' (λ h. with_key h k) set free (λ h. refl)
-        (λ h is. let e : eq k h.key ≡ true = key-equal k holds h is in (laws.symm h.key k ∙ e, sym (alike h.key e)))
+        (λ h is. let e : eq k h.key ≡ true = key-equal k holds h is in
+        (laws.symm h.key k ∙ e, sym (alike h.key e)))
 
     -- ---- its value was lent, and w written there
     module _ (w : V) where
@@ -311,17 +327,19 @@ module _ {K V S : Type 0} {eq : K → K → Bool} (laws : IsEquivalence eq) {has
       lent-value = ap (λ ns. keyed ns (length r.free) t.room r.link_writes s)
           (renewed-nodes (ring_with_value_at r n w) (λ h. with_value h w) lent-set refl (pair_with_value w)
           (λ h. refl))
-          ∙ ap (with_nodes (renewed_at (pair_with_value w) seen.nodes (place_number seen.nodes (Some n)))) view
+          ∙ ap (with_nodes (renewed_at (pair_with_value w) seen.nodes (place_number seen.nodes (Some n))))
+          view
 
-  -- ---- a new node n for the absent key k went in right before the place p; before room was made for it the list
-  -- was `old`
+  -- ---- a new node n for the absent key k went in right before the place p; before room was made for it the
+  -- list was `old`
   module _ (old : Keyed K V S) (grown : GrowsRoom 1 old seen) (k : K) (v : V)
       (absent : place_of (eq k) (entries_of old) ≡ None) (ready : length old.nodes + 1 ≤ seen.room)
       (p : Option Node) (n : Node) (cell asked : ℕ) (r1 r2 : Ring K V) (u : Contents Node)
       (put : r1.entries ≡ put_before p (n, held 0 k v) r.entries)
       (apart : IsDistinct same_node (keys_of r1.entries ++ r1.free))
       (numbered : IfSome (lookup (same_node n) r1.entries)
-      (λ h. r2.entries ≡ set_value (same_node n) r1.entries (with_number h cell))) (freed : r2.free ≡ drop 1 r.free)
+      (λ h. r2.entries ≡ set_value (same_node n) r1.entries (with_number h cell)))
+      (freed : r2.free ≡ drop 1 r.free)
       (vacant : get t.nodes cell ≡ None)
       (tied : u ≡ record t { nodes = put_in t.nodes cell (record { hash = asked; node = n }) }) where
     put-at : r1.entries ≡ insert r.entries (place_number r.entries p) (n, held 0 k v)
@@ -331,8 +349,8 @@ module _ {K V S : Type 0} {eq : K → K → Bool} (laws : IsEquivalence eq) {has
     still-apart = distinct-left (keys_of r1.entries) r1.free apart
 
     numbered-at : r2.entries ≡ insert r.entries (place_number r.entries p) (n, held cell k v)
-    numbered-at = renumbered-at (λ h. with_number h cell) r.entries r1.entries r2.entries (place_number r.entries p)
-        n (held 0 k v) (place_number-most r.entries p) put-at still-apart numbered
+    numbered-at = renumbered-at (λ h. with_number h cell) r.entries r1.entries r2.entries
+        (place_number r.entries p) n (held 0 k v) (place_number-most r.entries p) put-at still-apart numbered
 
     same-nodes : nodes_of r.entries ≡ old.nodes
     same-nodes = ap (λ m. m.nodes) (view ∙ grown.rest)
@@ -352,8 +370,10 @@ module _ {K V S : Type 0} {eq : K → K → Bool} (laws : IsEquivalence eq) {has
         let room : length r.entries + 1 ≤ t.room =
         omega (arith, ready, length-mapped pair_of r.entries, ap length same-nodes, ap (λ m. m.room) view) in
         subst (IsInStep eq hash r2)
-        (ap (λ a. record t { nodes = put_in t.nodes cell (record { hash = a; node = n }) }) (sym is) ∙ sym tied)
-        (step-in laws r r2 t n (held cell k v) step (place_number r.entries p) none fresh-inside numbered-at vacant
+        (ap (λ a. record t { nodes = put_in t.nodes cell (record { hash = a; node = n }) })
+        (sym is) ∙ sym tied)
+        (step-in laws r r2 t n (held cell k v) step (place_number r.entries p) none
+        fresh-inside numbered-at vacant
         room fewer-free)
 
     pub added-node : IsInStep eq hash r2 u → r2.link_writes ≡ r.link_writes + 4

@@ -1,6 +1,8 @@
 -- Lists edited at an index, and the place of a key in a list.
-use Rattle.std.proofs.Common.{◌≡◌, ◌⊎◌, inl, inr, ℕ, zero, suc, ◌+◌, ◌-◌, ◌<◌, ◌≤◌, Bool, true, false, cond, List, []}
-use Rattle.std.proofs.Common.{◌∷◌, ◌++◌, length, take, drop, Option, None, Some, refl, ap, sym, subst, ◌∙◌, arith}
+use Rattle.std.proofs.Common.{◌≡◌, ◌⊎◌, inl, inr, ℕ, zero, suc, ◌+◌, ◌-◌, ◌<◌, ◌≤◌, Bool, true, false, cond}
+use Rattle.std.proofs.Common.{List, []}
+use Rattle.std.proofs.Common.{◌∷◌, ◌++◌, length, take, drop, Option, None, Some, refl, ap, sym, subst, ◌∙◌}
+use Rattle.std.proofs.Common.{arith}
 use Rattle.std.proofs.Common.{add-one, map, lt-ltb, le-ltb, ltb-true, ltb-false}
 use Rattle.std.specs.Prelude.{slice_get, insert, remove, nat_lt, unwrap_or}
 use Rattle.std.specs.Option.{option_map}
@@ -27,7 +29,8 @@ module _ {X : Type 0} where
   drop-at (y ∷ xs) (suc i) x at = drop-at xs i x at
 
   -- taken apart at an element
-  pub split-at : (xs : List X) (i : ℕ) (x : X) → slice_get xs i ≡ Some x → xs ≡ take i xs ++ x ∷ drop (suc i) xs
+  pub split-at : (xs : List X) (i : ℕ) (x : X) → slice_get xs i ≡ Some x → xs ≡ take i xs
+      ++ x ∷ drop (suc i) xs
   split-at xs i x at = sym (take-append-drop i xs) ∙ ap (λ ys. take i xs ++ ys) (drop-at xs i x at)
 
   pub length-inserted : (xs : List X) (i : ℕ) (x : X) → length (insert xs i x) ≡ length xs + 1
@@ -38,7 +41,8 @@ module _ {X : Type 0} where
     ap length (take-append-drop i xs),
   )
 
-  pub length-removed : (xs : List X) (i : ℕ) (x : X) → slice_get xs i ≡ Some x → length (remove xs i) + 1 ≡ length xs
+  pub length-removed : (xs : List X) (i : ℕ) (x : X) → slice_get xs i ≡ Some x
+      → length (remove xs i) + 1 ≡ length xs
   length-removed xs i x at =
       omega (
         arith,
@@ -47,7 +51,8 @@ module _ {X : Type 0} where
         ap length (split-at xs i x at),
       )
 
-  pub slice_get-inserted : (xs : List X) (i : ℕ) (x : X) → i ≤ length xs → slice_get (insert xs i x) i ≡ Some x
+  pub slice_get-inserted : (xs : List X) (i : ℕ) (x : X) → i ≤ length xs
+      → slice_get (insert xs i x) i ≡ Some x
   slice_get-inserted [] zero x le = refl
   slice_get-inserted [] (suc i) x le = absurd (omega arith)
   slice_get-inserted (y ∷ xs) zero x le = refl
@@ -79,14 +84,15 @@ pub place_left-past : (j b : ℕ) → b ≤ j → place_left j b ≡ b
 place_left-past j b le = rw (le-ltb j b le) refl
 
 pub place_left-suc : (j b : ℕ) → place_left (suc j) (suc b) ≡ suc (place_left j b)
-place_left-suc j b = elim (nat_lt j b) as (λ c. nat_lt j b ≡ c → place_left (suc j) (suc b) ≡ suc (place_left j b)) [
-  | true ↦ λ e.
-      let lt : j < b = ltb-true j b e in
-      let one_less : suc b - 1 ≡ suc (b - 1) = omega arith in
-      place_left-before (suc j) (suc b) (omega arith) ∙ one_less ∙ ap suc (sym (place_left-before j b lt))
-  | false ↦ λ e. let le : b ≤ j = ltb-false j b e in place_left-past (suc j) (suc b) (omega arith)
-      ∙ ap suc (sym (place_left-past j b le))
-] refl
+place_left-suc j b = elim (nat_lt j b) as (λ c. nat_lt j b ≡ c → place_left (suc j) (suc b)
+    ≡ suc (place_left j b)) [
+      | true ↦ λ e.
+          let lt : j < b = ltb-true j b e in
+          let one_less : suc b - 1 ≡ suc (b - 1) = omega arith in
+          place_left-before (suc j) (suc b) (omega arith) ∙ one_less ∙ ap suc (sym (place_left-before j b lt))
+      | false ↦ λ e. let le : b ≤ j = ltb-false j b e in place_left-past (suc j) (suc b) (omega arith)
+          ∙ ap suc (sym (place_left-past j b le))
+    ] refl
 
 -- ---- the place of a key
 unwrap-later : (o : Option ℕ) (n : ℕ) → unwrap_or (option_map (λ j. j + 1) o) (suc n) ≡ suc (unwrap_or o n)
@@ -111,7 +117,8 @@ module _ {A B : Type 0} (eq : A → A → Bool) where
       [ true ↦ omega arith | false ↦ omega (arith, ih) ])
 
   -- what is taken out under the key is what stands at its place
-  pub remove_entry-at : (es : List (A × B)) (k : A) → remove_entry (eq k) es ≡ remove es (place_or_end eq es k)
+  pub remove_entry-at : (es : List (A × B)) (k : A) → remove_entry (eq k) es
+      ≡ remove es (place_or_end eq es k)
   remove_entry-at [] k = refl
   remove_entry-at (e ∷ es) k =
       (elim (eq k e.0) as (λ b. cond b es (e ∷ remove_entry (eq k) es)
@@ -144,7 +151,8 @@ module _ {A B : Type 0} (eq : A → A → Bool) where
         (none_others eq laws (take i fs) e (drop i fs) (subst (IsEntries eq) is d))
 
 module _ {A B : Type 0} (test : A → Bool) where
-  none-by : (es : List (A × B)) → place_of test es ≡ None → NonePasses test es ⊎ Stands test es → NonePasses test es
+  none-by : (es : List (A × B)) → place_of test es ≡ None → NonePasses test es ⊎ Stands test es
+      → NonePasses test es
   none-by es p (inl n) = n
   none-by es p (inr s) = absurd
       (cc (sym (place_of-here test s.1 s.2 s.3.passes s.0 s.3.before) ∙ ap (place_of test) (sym s.3.is) ∙ p))
@@ -154,7 +162,8 @@ module _ {A B : Type 0} (test : A → Bool) where
   none_from_place es p = none-by es p (splits test es)
 
   -- the key at the first place where one passes does
-  pub passes-at : (es : List (A × B)) (j : ℕ) (e : A × B) → place_of test es ≡ Some j → slice_get es j ≡ Some e
+  pub passes-at : (es : List (A × B)) (j : ℕ) (e : A × B) → place_of test es ≡ Some j
+      → slice_get es j ≡ Some e
       → test e.0 ≡ true
   passes-at es j e p at =
       let s = stands_from_place test es j p in

@@ -35,14 +35,16 @@ answered-at P (Some h) key value is p =
     subst P (sym (ap (λ q. q.0) same)) p
 
 -- the answers of a test that tells the keys that pass from the others
-pub told : {K F : Type 0} {calls : Shared F (Bor K × Unit {0}) Bool} {eq : K → K → Bool} {hash : K → ℕ} {test : F}
+pub told : {K F : Type 0} {calls : Shared F (Bor K × Unit {0}) Bool} {eq : K → K → Bool}
+    {hash : K → ℕ} {test : F}
     {asked : ℕ} {passes : K → Bool} → TellsMatch calls eq hash test asked passes → (x : K) (b : Bool)
     → FnReturnsAt calls test x b
     → b ≡ passes x
 told {passes = passes} tells x b r = tells.answers r.shown b r.says.met ∙ ap passes r.shows
 
 -- one that tells the keys equal to k from the others
-pub tells-key : {K F : Type 0} {calls : Shared F (Bor K × Unit {0}) Bool} {eq : K → K → Bool} (laws : IsEquivalence eq)
+pub tells-key : {K F : Type 0} {calls : Shared F (Bor K × Unit {0}) Bool} {eq : K → K → Bool}
+    (laws : IsEquivalence eq)
     {hash : K → ℕ} → ((k x : K) → eq k x ≡ true → hash k ≡ hash x) → {test : F} {asked : ℕ} {k : K}
     → Tells calls eq hash test asked k
     → TellsMatch calls eq hash test asked (eq k)
@@ -70,7 +72,8 @@ module _ {K V : Type 0} {eq : K → K → Bool} (laws : IsEquivalence eq) {hash 
       → IfSome (lookup (same_node n) r.entries) (λ h. Answers h.key false))
       → MatchOption o (place_of passes (pairs_in r.entries) ≡ None) (HoldsMatch passes (nodes_of r.entries))
   found-by_table passes alike asked hashed Answers tells None some none =
-      place_of-none passes (pairs_in r.entries) (untied-absent hash passes r.entries t asked step.apart step.tied hashed
+      place_of-none passes (pairs_in r.entries)
+      (untied-absent hash passes r.entries t asked step.apart step.tied hashed
       (λ cell n there h here.
       sym (tells h.key false (subst (λ o. IfSome o (λ g. Answers g.key false)) here (none cell n there)))))
   found-by_table passes alike asked hashed Answers tells (Some n) some none =
@@ -81,7 +84,8 @@ module _ {K V : Type 0} {eq : K → K → Bool} (laws : IsEquivalence eq) {hash 
       sym (tells k true (subst (λ o. IfSome o (λ g. Answers g.key true)) x.1.found some.2)) in
       let is : passes ≡ eq k = fun_ext (λ y. alike k y met) in
       record {
-        within = ap is_some (lookup-mapped pair_of (same_node n) r.entries ∙ ap (option_map pair_of) x.1.found);
+        within = ap is_some (lookup-mapped pair_of (same_node n) r.entries ∙ ap
+            (option_map pair_of) x.1.found);
         place = ap (λ test. place_of test (pairs_in r.entries)) is
             ∙ place_of_its_key eq laws (pairs_in r.entries) (place_number r.entries (Some n)) (pair_of x.0) k
             step.distinct (pair-at r.entries (place_number r.entries (Some n)) n x.0 x.1.at) (laws.refl k)
@@ -89,8 +93,10 @@ module _ {K V : Type 0} {eq : K → K → Bool} (laws : IsEquivalence eq) {hash 
       }
 
   -- two nodes with one number are the same
-  pub same-number : (a b : Node) (i j : ℕ) → option_map (λ h. h.number) (lookup (same_node a) r.entries) ≡ Some i
-      → option_map (λ h. h.number) (lookup (same_node b) r.entries) ≡ Some j → Holds r.entries a → Holds r.entries b
+  pub same-number : (a b : Node) (i j : ℕ) → option_map (λ h. h.number) (lookup (same_node a) r.entries)
+      ≡ Some i
+      → option_map (λ h. h.number) (lookup (same_node b) r.entries) ≡ Some j → Holds r.entries a
+      → Holds r.entries b
       → i ≡ j → a ≡ b
   same-number a b i j at_a at_b held_a held_b same =
       let x = node-at r.entries a held_a in
@@ -104,7 +110,8 @@ module _ {K V : Type 0} {eq : K → K → Bool} (laws : IsEquivalence eq) {hash 
       let whole : kept (hash x.0.key) a ≡ kept (hash y.0.key) b = cc one in
       ap (λ (k : Kept Node). k.node) whole
 
-  pub number-of_same : (a b : Node) (i j : ℕ) → option_map (λ h. h.number) (lookup (same_node a) r.entries) ≡ Some i
+  pub number-of_same : (a b : Node) (i j : ℕ) → option_map (λ h. h.number) (lookup (same_node a) r.entries)
+      ≡ Some i
       → option_map (λ h. h.number) (lookup (same_node b) r.entries) ≡ Some j → a ≡ b → i ≡ j
   number-of_same a b i j at_a at_b same =
       let one : Some i ≡ Some j = sym at_a

@@ -15,7 +15,8 @@ use Rattle.hashlink_model.proofs.Places.{place_of_its_key, lookup_entry_at}
 use Rattle.hashlink_core.specs.Keyed.{Keyed, entries_of, HoldsKey, HoldsMatch, EqualsKeyAt, PassesAt, IsKeyed}
 use Rattle.hashlink_core.specs.Places.{Holds, place_number}
 use Rattle.hashlink_core.specs.Steps.{MovesNode}
-use Rattle.hashlink_core.proofs.Edits.{lt-at, length-removed, slice_get-inserted, moved_at-is, place_left-before}
+use Rattle.hashlink_core.proofs.Edits.{lt-at, length-removed, slice_get-inserted, moved_at-is}
+use Rattle.hashlink_core.proofs.Edits.{place_left-before}
 use Rattle.hashlink_core.proofs.Edits.{place_left-past, passes-at}
 use Rattle.hashlink_core.proofs.Places.{node-at, inserted-at}
 
@@ -57,8 +58,8 @@ module _ {K V S : Type 0} (eq : K → K → Bool) (laws : IsEquivalence eq) (old
       }
 
 -- an entry that stands at p with its node n
-module _ {K V S : Type 0} {eq : K → K → Bool} (laws : IsEquivalence eq) (m : Keyed K V S) (sound : IsKeyed eq m)
-    (n : Node) (p : ℕ) (e : K × V) (at : slice_get m.nodes p ≡ Some (n, e)) where
+module _ {K V S : Type 0} {eq : K → K → Bool} (laws : IsEquivalence eq) (m : Keyed K V S)
+    (sound : IsKeyed eq m) (n : Node) (p : ℕ) (e : K × V) (at : slice_get m.nodes p ≡ Some (n, e)) where
   pub number-at : place_number m.nodes (Some n) ≡ p
   number-at =
       ap (λ o. unwrap_or o (length m.nodes))
@@ -76,7 +77,8 @@ module _ {K V S : Type 0} {eq : K → K → Bool} (laws : IsEquivalence eq) (m :
       = slice_get-map (λ (x : Node × (K × V)). x.1) m.nodes p ∙ ap (option_map (λ x. x.1)) at in
       record {
         within = holds-at;
-        place = place_of_its_key eq laws (entries_of m) p e k sound.distinct stands same ∙ ap Some (sym number-at);
+        place = place_of_its_key eq laws (entries_of m) p e k sound.distinct stands same
+            ∙ ap Some (sym number-at);
       }
 
 -- the pair of a node that is there
@@ -97,7 +99,8 @@ holds-passes test m n h =
 
 -- it holds each key that equals its own, and no other
 module _ {K V S : Type 0} (eq : K → K → Bool) (m : Keyed K V S) (n : Node) (k : K) where
-  pub equals-stored : (held : Holds m.nodes n) → EqualsKeyAt eq (entries_of m) (place_number m.nodes (Some n)) k
+  pub equals-stored : (held : Holds m.nodes n)
+      → EqualsKeyAt eq (entries_of m) (place_number m.nodes (Some n)) k
       → eq k (node-at m.nodes n held).0.0 ≡ true
   equals-stored held =
       subst (λ o. IfSome (option_map (λ e. e.0) o) (λ stored. eq k stored ≡ true)) (at-node m n held)

@@ -1,5 +1,6 @@
 -- A place stays where its entry is, when a pair comes in, an entry moves or a value is written.
-use Rattle.std.proofs.Common.{◌≡◌, ℕ, suc, Bool, true, false, zero, List, [], ◌∷◌, length, Option, None, Some, refl}
+use Rattle.std.proofs.Common.{◌≡◌, ℕ, suc, Bool, true, false, zero, List, [], ◌∷◌, length, Option, None, Some}
+use Rattle.std.proofs.Common.{refl}
 use Rattle.std.proofs.Common.{sym}
 use Rattle.std.proofs.Common.{ap, subst, ◌∙◌, cond, arith}
 use Rattle.std.specs.Prelude.{slice_get, is_some, unwrap_or, insert, Result, Ok, Err, IfOk, OnErr}
@@ -23,7 +24,8 @@ use Rattle.hashlink_core.proofs.Holding.{at-node, holds_key-at}
 use Rattle.hashlink_core.proofs.Places.{node-at}
 
 -- at the guard stands no entry
-pub at-guard : {K V S : Type 0} (m : Keyed K V S) → slice_get (entries_of m) (place_number m.nodes None) ≡ None
+pub at-guard : {K V S : Type 0} (m : Keyed K V S) → slice_get (entries_of m) (place_number m.nodes None)
+    ≡ None
 at-guard m = slice_get_past (entries_of m) (length m.nodes) (omega (arith, length-values_of m.nodes))
 
 module _ {K V S : Type 0} (old new : Keyed K V S) where
@@ -32,14 +34,16 @@ module _ {K V S : Type 0} (old new : Keyed K V S) where
   held-from (Some e) k h = refl
 
   -- so its place is kept
-  pub keeps-place : {eq : K → K → Bool} → IsEquivalence eq → IsKeyed eq new → KeepsKeys old new → (p : Option Node)
+  pub keeps-place : {eq : K → K → Bool} → IsEquivalence eq → IsKeyed eq new → KeepsKeys old new
+      → (p : Option Node)
       → IsPlace old.nodes p
       → KeepsPlace eq old new p
   keeps-place {eq = eq} laws sound kept None within = record {
     within = tt;
     number =
         sym
-        (ap (λ o. option_map_or (λ e. place_or_end eq (entries_of new) e.0) o (length (entries_of new))) (at-guard old)
+        (ap (λ o. option_map_or (λ e. place_or_end eq (entries_of new) e.0) o (length (entries_of new)))
+        (at-guard old)
         ∙ length-values_of new.nodes);
   }
   keeps-place {eq = eq} laws sound kept (Some n) held =
@@ -64,13 +68,15 @@ module _ {K V S : Type 0} (old new : Keyed K V S) where
 
   -- ---- each step keeps the key of each node
 
-  pub keys-added : IsEntries same_node old.nodes → (b : ℕ) (n : Node) (k : K) (v : V) → AddsNode old new b n k v
+  pub keys-added : IsEntries same_node old.nodes → (b : ℕ) (n : Node) (k : K) (v : V)
+      → AddsNode old new b n k v
       → KeepsKeys old new
   keys-added apart b n k v s m held =
       ap (option_map (λ e. e.0))
       (ap (lookup (same_node m))
       (s.nodes
-      ∙ sym (put-absent same_node old.nodes n (k, v) b (none_passes_from_lookup (same_node n) old.nodes s.fresh)))
+      ∙ sym (put-absent same_node old.nodes n (k, v) b
+      (none_passes_from_lookup (same_node n) old.nodes s.fresh)))
       ∙ lookup-put same_node same_node_equiv m old.nodes n (k, v) b apart
       ∙ ap (λ c. cond c (Some (k, v)) (lookup (same_node m) old.nodes)) (other (same_node n m) refl))
     where
@@ -107,8 +113,10 @@ module _ {K V S : Type 0} (old new : Keyed K V S) where
           ≡ option_map (λ e. e.0) (cond c (Some e.1) (lookup test es))) [ true ↦ refl | false ↦ refl ]
       same test (e ∷ es) (suc i) =
           elim (test e.0)
-          as (λ c. option_map (λ e. e.0) (cond c (Some e.1) (lookup test (renewed_at (pair_with_value v) es i)))
-          ≡ option_map (λ e. e.0) (cond c (Some e.1) (lookup test es))) [ true ↦ refl | false ↦ same test es i ]
+          as (λ c. option_map (λ e. e.0)
+          (cond c (Some e.1) (lookup test (renewed_at (pair_with_value v) es i)))
+          ≡ option_map (λ e. e.0) (cond c (Some e.1) (lookup test es)))
+          [ true ↦ refl | false ↦ same test es i ]
 
   pub keys-grown : (i : ℕ) → GrowsRoom i old new → KeepsKeys old new
   keys-grown i s m _ = ap (λ l. option_map (λ e. e.0) (lookup (same_node m) l.nodes)) s.rest
@@ -139,7 +147,8 @@ apart-from n m other false is = is
 apart-from n m other true is = absurd (other (eq-same_node n m is))
 
 module _ {X : Type 0} (n m : Node) (apart : same_node n m ≡ false) where
-  left-lookup : (es : List (Node × X)) → lookup (same_node m) (remove_entry (same_node n) es) ≡ lookup (same_node m) es
+  left-lookup : (es : List (Node × X)) → lookup (same_node m) (remove_entry (same_node n) es)
+      ≡ lookup (same_node m) es
   left-lookup [] = refl
   left-lookup (e ∷ es) = by (left-lookup es) (same_node n e.0) refl
     where
@@ -160,5 +169,6 @@ pub left-place : {K V S : Type 0} (inside seen : Keyed K V S) → inside ≡ see
     → IsPlace (remove_entry (same_node n) inside.nodes) p
 left-place inside seen view n None other within = tt
 left-place inside seen view n (Some m) other within =
-    ap is_some (left-lookup n m (apart-from n m (λ same. other (ap Some (sym same))) (same_node n m) refl) inside.nodes)
+    ap is_some (left-lookup n m (apart-from n m (λ same. other (ap Some (sym same))) (same_node n m) refl)
+    inside.nodes)
     ∙ ap (λ l. is_some (lookup (same_node m) l.nodes)) view ∙ within

@@ -1,4 +1,5 @@
--- Lemmas on lists by places, on the ring and the table in step, on what each call leaves, and on walks along a ring.
+-- Lemmas on lists by places, on the ring and the table in step, on what each call leaves, and on walks along
+-- a ring.
 pub mod Edits
 pub mod Calls
 pub mod Finding

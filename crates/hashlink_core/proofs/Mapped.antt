@@ -1,6 +1,7 @@
--- Lists whose elements are seen through a function: the ring's entries as the pairs with their nodes, and those as
--- the pairs alone.
-use Rattle.std.proofs.Common.{◌≡◌, ℕ, zero, suc, Bool, true, false, cond, List, [], ◌∷◌, length, Option, None, Some}
+-- Lists whose elements are seen through a function: the ring's entries as the pairs with their nodes, and
+-- those as the pairs alone.
+use Rattle.std.proofs.Common.{◌≡◌, ℕ, zero, suc, Bool, true, false, cond, List, [], ◌∷◌, length, Option, None}
+use Rattle.std.proofs.Common.{Some}
 use Rattle.std.proofs.Common.{refl, ap, sym, ◌∙◌, map}
 use Rattle.std.specs.Prelude.{slice_get, insert, remove, is_some}
 use Rattle.std.specs.Option.{option_map}
@@ -47,8 +48,8 @@ module _ {X Y : Type 0} (f : X → Y) where
   some-mapped (Some x) = refl
 
   pub holds-mapped : (es : List (Node × X)) (n : Node) → Holds (mapped es) n → Holds es n
-  holds-mapped es n held = sym (ap is_some (lookup-mapped (same_node n) es) ∙ some-mapped (lookup (same_node n) es))
-      ∙ held
+  holds-mapped es n held = sym (ap is_some (lookup-mapped (same_node n) es) ∙ some-mapped
+      (lookup (same_node n) es)) ∙ held
 
   pub place_or_end-mapped : (es : List (Node × X)) (n : Node)
       → place_or_end same_node (mapped es) n ≡ place_or_end same_node es n
@@ -58,12 +59,14 @@ module _ {X Y : Type 0} (f : X → Y) where
       ∙ ap (λ i. cond (same_node n e.0) 0 (suc i)) (place_or_end-mapped es n)
       ∙ sym (place_or_end-cons same_node e es n)
 
-  pub place_number-mapped : (es : List (Node × X)) (p : Option Node) → place_number (mapped es) p ≡ place_number es p
+  pub place_number-mapped : (es : List (Node × X)) (p : Option Node) → place_number (mapped es) p
+      ≡ place_number es p
   place_number-mapped es None = length-mapped es
   place_number-mapped es (Some n) = place_or_end-mapped es n
 
   -- what is changed under f is changed so that f sees g's change
-  pub renewed-mapped : (a : X → X) (b : Y → Y) → ((x : X) → f (a x) ≡ b (f x)) → (es : List (Node × X)) (j : ℕ)
+  pub renewed-mapped : (a : X → X) (b : Y → Y) → ((x : X) → f (a x) ≡ b (f x))
+      → (es : List (Node × X)) (j : ℕ)
       → mapped (renewed_at a es j) ≡ renewed_at b (mapped es) j
   renewed-mapped a b same [] j = refl
   renewed-mapped a b same (e ∷ es) zero = ap (λ y. (e.0, y) ∷ mapped es) (same e.1)

@@ -1,5 +1,6 @@
 -- The place after a place, and the one before it, by number.
-use Rattle.std.proofs.Common.{◌≡◌, ℕ, zero, suc, ◌+◌, ◌-◌, ◌%◌, ◌<◌, ◌≤◌, true, false, cond, List, [], ◌∷◌, ◌++◌}
+use Rattle.std.proofs.Common.{◌≡◌, ℕ, zero, suc, ◌+◌, ◌-◌, ◌%◌, ◌<◌, ◌≤◌, true, false, cond, List, [], ◌∷◌}
+use Rattle.std.proofs.Common.{◌++◌}
 use Rattle.std.proofs.Common.{length, Option, None, Some, refl, ap, sym, subst, ◌∙◌, arith}
 use Rattle.std.specs.Prelude.{slice_get, is_some, unwrap_or}
 use Rattle.std.specs.List.{IsDistinct, AllByRecursion}
@@ -12,7 +13,8 @@ use Rattle.hashlink_model.proofs.Distinct.{each-left}
 use Rattle.hashlink_model.proofs.Places.{place_of_its_key}
 use Rattle.hashlink_nodes.specs.declared.node.Node.{Node}
 use Rattle.hashlink_nodes.specs.Node.{same_node, same_node_equiv}
-use Rattle.hashlink_nodes.specs.Ring.{node_after, node_before, last_node, next_place, prev_place, Holds, IsPlace}
+use Rattle.hashlink_nodes.specs.Ring.{node_after, node_before, last_node, next_place, prev_place, Holds}
+use Rattle.hashlink_nodes.specs.Ring.{IsPlace}
 use Rattle.hashlink_core.specs.Places.{place_number, IsPlaceAt}
 use Rattle.hashlink_core.proofs.Places.{node-at, around, following-within}
 use native.Mathlib.Nat.{mod-eq_of_lt, add-mod_right, zero-add}
@@ -23,7 +25,8 @@ unfolding IsDistinct
 distinct-left [] ys d = tt
 distinct-left (x ∷ xs) ys d = (each-left _ xs ys d.0, distinct-left xs ys d.1)
 
-each-at : (P : Node → Type 0) (xs : List Node) (i : ℕ) (x : Node) → AllByRecursion P xs → slice_get xs i ≡ Some x → P x
+each-at : (P : Node → Type 0) (xs : List Node) (i : ℕ) (x : Node) → AllByRecursion P xs
+    → slice_get xs i ≡ Some x → P x
 each-at P [] i x all at = absurd (cc)
 each-at P (y ∷ xs) zero x all at = let same : y ≡ x = cc in subst P same all.0
 each-at P (y ∷ xs) (suc i) x all at = each-at P xs i x all.1 at
@@ -31,7 +34,8 @@ each-at P (y ∷ xs) (suc i) x all at = each-at P xs i x all.1 at
 same-itself : (n m : Node) → m ≡ n → same_node n m ≡ true
 same-itself n m same = ap (same_node n) same ∙ same_node_equiv.refl n
 
-other-at : (m : Node) (ns : List Node) (i : ℕ) (n : Node) → IsDistinct same_node (m ∷ ns) → slice_get ns i ≡ Some n
+other-at : (m : Node) (ns : List Node) (i : ℕ) (n : Node) → IsDistinct same_node (m ∷ ns)
+    → slice_get ns i ≡ Some n
     → same_node n m ≡ false
 other-at m ns i n d at = same_node_equiv.symm n m
     ∙ each-at (λ y. same_node m y ≡ false) ns i n (IsDistinct-head same_node m ns d) at
@@ -134,7 +138,8 @@ module _ {X : Type 0} where
     next-number (Some n) within =
         let x = node-at es n within in
         let j = place_number es (Some n) in
-        subst (λ i. IsPlaceAt es (node_after n (keys_of es)) i) (sym (following-within (length es) j x.1.within))
+        subst (λ i. IsPlaceAt es (node_after n (keys_of es)) i)
+        (sym (following-within (length es) j x.1.within))
         (subst (λ p. IsPlaceAt es p (suc j)) (sym (node_after-at (keys_of es) j n d x.1.key_at))
         (place-at (suc j) (omega (arith, x.1.within))))
 
@@ -150,7 +155,8 @@ module _ {X : Type 0} where
         subst (λ p. IsPlaceAt es p (preceding_place (length es) j))
         (sym (node_before-at None (keys_of es) j n d at)) (by j lt)
       where
-        by : (j : ℕ) → j < length es → IsPlaceAt es (before_at None (keys_of es) j) (preceding_place (length es) j)
+        by : (j : ℕ) → j < length es → IsPlaceAt es (before_at None (keys_of es) j)
+            (preceding_place (length es) j)
         by zero lt = record { within = tt; number = sym (before-first (length es)) }
         by (suc i) lt = subst (IsPlaceAt es (slice_get (keys_of es) i))
             (sym (before-suc (length es) i (omega arith))) (place-at i (omega arith))

@@ -1,6 +1,8 @@
 -- The numbers of places, and the ring's words by places in terms of them.
-use Rattle.std.proofs.Common.{◌≡◌, ◌≢◌, ltb-true, ltb-false, ℕ, zero, suc, ◌+◌, ◌-◌, ◌<◌, ◌≤◌, Bool, true, false}
-use Rattle.std.proofs.Common.{cond, List, [], ◌∷◌, ◌++◌, length, Option, None, Some, refl, ap, sym, subst, ◌∙◌, arith}
+use Rattle.std.proofs.Common.{◌≡◌, ◌≢◌, ltb-true, ltb-false, ℕ, zero, suc, ◌+◌, ◌-◌, ◌<◌, ◌≤◌, Bool, true}
+use Rattle.std.proofs.Common.{false}
+use Rattle.std.proofs.Common.{cond, List, [], ◌∷◌, ◌++◌, length, Option, None, Some, refl, ap, sym, subst}
+use Rattle.std.proofs.Common.{◌∙◌, arith}
 use Rattle.std.proofs.Common.{add-one}
 use Rattle.std.specs.Prelude.{slice_get, insert, remove, is_some, nat_lt, unwrap_or}
 use Rattle.std.specs.Option.{option_map, IfSome}
@@ -47,8 +49,10 @@ next-left j b apart =
 pub within-before : (j b n : ℕ) → place_left j b < n → b < n + 1
 within-before j b n lt =
     elim (nat_lt j b) as (λ c. nat_lt j b ≡ c → b < n + 1) [
-      | true ↦ λ e. let left : place_left j b ≡ b - 1 = place_left-before j b (ltb-true j b e) in omega (arith, left)
-      | false ↦ λ e. let left : place_left j b ≡ b = place_left-past j b (ltb-false j b e) in omega (arith, left)
+      | true ↦ λ e. let left : place_left j b
+          ≡ b - 1 = place_left-before j b (ltb-true j b e) in omega (arith, left)
+      | false ↦ λ e. let left : place_left j b
+          ≡ b = place_left-past j b (ltb-false j b e) in omega (arith, left)
     ] refl
 
 -- the place is this node's
@@ -71,7 +75,8 @@ module _ {X : Type 0} where
       × (lookup_entry (same_node n) es ≡ Some (n, x))
   entry-of n [] held = absurd (cc)
   entry-of n (e ∷ es) held =
-      (elim (same_node n e.0) as (λ b. same_node n e.0 ≡ b → is_some (cond b (Some e.1) (lookup (same_node n) es))
+      (elim (same_node n e.0) as
+      (λ b. same_node n e.0 ≡ b → is_some (cond b (Some e.1) (lookup (same_node n) es))
       ≡ true → (x : X) × (cond b (Some e.1) (lookup (same_node n) es) ≡ Some x)
       × (cond b (Some e) (lookup_entry (same_node n) es) ≡ Some (n, x))) [
         | true ↦ λ t h. (e.1, refl, ap (λ m. Some (m, e.1)) (sym (eq-same_node n e.0 t)))
@@ -81,7 +86,8 @@ module _ {X : Type 0} where
   pub node-at : (es : List (Node × X)) (n : Node) → Holds es n → (x : X) × IsNodeAt es n x
   node-at es n held =
       let o = entry-of n es held in
-      let at : slice_get es (place_number es (Some n)) ≡ Some (n, o.0) = slice_get-place_or_end same_node n es ∙ o.2
+      let at : slice_get es (place_number es (Some n)) ≡ Some (n, o.0) = slice_get-place_or_end same_node n es
+      ∙ o.2
       in (
         o.0,
         record {
@@ -160,7 +166,8 @@ module _ {X : Type 0} where
       elim (same_node n e.0) as (λ b. is_some (cond b (Some e.1) (lookup (same_node n) (renewed_at f es j)))
       ≡ is_some (cond b (Some e.1) (lookup (same_node n) es))) [ true ↦ refl | false ↦ still-some f es j n ]
 
-  pub renewed-holds : (f : X → X) (es : List (Node × X)) (j : ℕ) (n : Node) → Holds es n → Holds (renewed_at f es j) n
+  pub renewed-holds : (f : X → X) (es : List (Node × X)) (j : ℕ) (n : Node) → Holds es n
+      → Holds (renewed_at f es j) n
   renewed-holds f es j n held = still-some f es j n ∙ held
 
   -- which is to take it out and to put in there what f makes of it
@@ -185,19 +192,23 @@ module _ {X : Type 0} where
       let at = slice_get-inserted es i (n, x) le in (
         lookup_is (same_node n) (insert es i (n, x))
             ∙ ap (option_map (λ e. e.1))
-            (lookup_entry_at same_node same_node_equiv (insert es i (n, x)) i (n, x) n d at (same_node_equiv.refl n)),
+            (lookup_entry_at same_node same_node_equiv (insert es i (n, x)) i (n, x) n d at
+            (same_node_equiv.refl n)),
         ap (λ o. unwrap_or o (length (insert es i (n, x))))
-            (place_of_its_key same_node same_node_equiv (insert es i (n, x)) i (n, x) n d at (same_node_equiv.refl n)),
+            (place_of_its_key same_node same_node_equiv (insert es i (n, x)) i (n, x) n d at
+            (same_node_equiv.refl n)),
       )
 
   -- an entry that was put in and changed
   pub renumbered-at : (f : X → X) (es fs gs : List (Node × X)) (i : ℕ) (n : Node) (x : X) → i ≤ length es
       → fs ≡ insert es i (n, x) → IsEntries same_node fs
-      → IfSome (lookup (same_node n) fs) (λ y. gs ≡ set_value (same_node n) fs (f y)) → gs ≡ insert es i (n, f x)
+      → IfSome (lookup (same_node n) fs) (λ y. gs ≡ set_value (same_node n) fs (f y))
+      → gs ≡ insert es i (n, f x)
   renumbered-at f es fs gs i n x le put d set =
       let o = inserted-at es i n x le (subst (IsEntries same_node) put d) in
       let found : lookup (same_node n) fs ≡ Some x = ap (lookup (same_node n)) put ∙ o.0 in
-      subst (λ o. IfSome o (λ y. gs ≡ set_value (same_node n) fs (f y))) found set ∙ set_value-at f fs n x found
+      subst (λ o. IfSome o (λ y. gs ≡ set_value (same_node n) fs (f y))) found set
+      ∙ set_value-at f fs n x found
       ∙ ap (λ l. renewed_at f l (place_number l (Some n))) put ∙ ap (renewed_at f (insert es i (n, x))) o.1
       ∙ renewed-inserted f es i (n, x) le
 
@@ -211,13 +222,15 @@ module _ {X : Type 0} where
 
   -- ---- where a place is once a node is taken out
   pub place_number-left : (es : List (Node × X)) (n : Node) (p : Option Node) → is_node p n ≡ false
-      → place_number (remove_entry (same_node n) es) p ≡ place_left (place_number es (Some n)) (place_number es p)
+      → place_number (remove_entry (same_node n) es) p
+      ≡ place_left (place_number es (Some n)) (place_number es p)
   place_number-left [] n None apart = refl
   place_number-left [] n (Some m) apart = refl
   place_number-left (e ∷ es) n p apart =
       (elim (same_node n e.0) as (λ b. same_node n e.0 ≡ b
       → place_number (cond b es (e ∷ remove_entry (same_node n) es)) p
-      ≡ place_left (cond b 0 (suc (place_number es (Some n)))) (cond (is_node p e.0) 0 (suc (place_number es p)))) [
+      ≡ place_left (cond b 0 (suc (place_number es (Some n))))
+      (cond (is_node p e.0) 0 (suc (place_number es p)))) [
         | true ↦ λ t.
             let other : is_node p e.0 ≡ false = ap (is_node p) (sym (eq-same_node n e.0 t)) ∙ apart in
             let one_less : suc (place_number es p) - 1 ≡ place_number es p = omega arith in
@@ -262,14 +275,15 @@ module _ {X : Type 0} where
       → test e.0 ≡ true
   entry-passes test [] e found = absurd (cc)
   entry-passes test (y ∷ es) e found =
-      (elim (test y.0) as (λ b. test y.0 ≡ b → cond b (Some y) (lookup_entry test es) ≡ Some e → test e.0 ≡ true) [
+      (elim (test y.0) as (λ b. test y.0 ≡ b → cond b (Some y) (lookup_entry test es)
+      ≡ Some e → test e.0 ≡ true) [
         | true ↦ λ t h. let same : y ≡ e = cc in ap (λ z. test z.0) (sym same) ∙ t
         | false ↦ λ t h. entry-passes test es e h
       ]) refl found
 
   -- ---- an entry that moves
-  module _ (es : List (Node × X)) (n : Node) (p : Option Node) (d : IsEntries same_node es) (held : Holds es n)
-      (within : IsPlace (remove_entry (same_node n) es) p) where
+  module _ (es : List (Node × X)) (n : Node) (p : Option Node) (d : IsEntries same_node es)
+      (held : Holds es n) (within : IsPlace (remove_entry (same_node n) es) p) where
     left-at : place_number (remove_entry (same_node n) es) p
         ≡ place_left (place_number es (Some n)) (place_number es p)
     left-at = place_number-left es n p (not-the-node es n p d held within)
@@ -290,7 +304,8 @@ module _ {X : Type 0} where
     apart-number : (m : Node) → same_node m n ≡ false → place_number es (Some m) ≢ place_number es (Some n)
     apart-number m apart same =
         let x = node-at es n held in
-        let found : lookup_entry (same_node m) es ≡ Some (n, x.0) = sym (slice_get-place_or_end same_node m es)
+        let found : lookup_entry (same_node m) es ≡ Some (n, x.0) =
+        sym (slice_get-place_or_end same_node m es)
         ∙ ap (slice_get es) same ∙ x.1.at in
         absurd (cc (sym apart ∙ entry-passes (same_node m) es (n, x.0) found))
 
@@ -305,7 +320,8 @@ module _ {X : Type 0} where
     after-left-by (Some m) is here =
         let j = place_number es (Some n) in
         let b = place_number es (Some m) in
-        let apart : same_node m n ≡ false = subst (λ q. is_node q n ≡ false) is (not-the-node es n p d held within) in
+        let apart : same_node m n ≡ false = subst (λ q. is_node q n ≡ false) is
+        (not-the-node es n p d held within) in
         let other : b ≢ j = apart-number m apart in
         let left : place_number (remove_entry (same_node n) es) (Some m) ≡ place_left j b =
         place_number-left es n (Some m) apart in
@@ -320,7 +336,8 @@ module _ {X : Type 0} where
         ∙ sym (following-within (length (remove_entry (same_node n) es))
         (place_number (remove_entry (same_node n) es) (Some m)) inside)
 
-    after-left : place_left (place_number es (Some n)) (cursor.following_place (length es) (place_number es p))
+    after-left : place_left (place_number es (Some n))
+        (cursor.following_place (length es) (place_number es p))
         ≡ cursor.following_place (length (remove_entry (same_node n) es))
         (place_number (remove_entry (same_node n) es) p)
     after-left = after-left-by p refl within
@@ -334,5 +351,6 @@ module _ {X : Type 0} where
         subst (λ o. IfSome o (λ e. fs ≡ put_after p e (remove_entry (same_node n) es))) x.1.entry m in
         put ∙ put_after-at (n, x.0) (remove_entry (same_node n) es) p within
         ∙ ap (λ i. insert (remove_entry (same_node n) es) i (n, x.0)) (sym after-left)
-        ∙ ap (λ rest. insert rest (place_left (place_number es (Some n)) to) (n, x.0)) (remove_entry-at same_node es n)
+        ∙ ap (λ rest. insert rest (place_left (place_number es (Some n)) to) (n, x.0))
+        (remove_entry-at same_node es n)
         ∙ sym (moved_at-is es (place_number es (Some n)) to (n, x.0) x.1.at)

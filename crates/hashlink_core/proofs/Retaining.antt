@@ -1,6 +1,7 @@
 -- A retain, as it comes along the list: what it has kept, and what is left to call the closure on.
 use Rattle.std.proofs.Common.{◌≡◌, ℕ, zero, suc, ◌+◌, ◌-◌, ◌<◌, Bool, true, false, cond, List, [], ◌∷◌, ◌++◌}
-use Rattle.std.proofs.Common.{length, take, drop, Option, None, Some, refl, ap, sym, subst, ◌∙◌, arith, append-nil}
+use Rattle.std.proofs.Common.{length, take, drop, Option, None, Some, refl, ap, sym, subst, ◌∙◌, arith}
+use Rattle.std.proofs.Common.{append-nil}
 use Rattle.std.specs.Prelude.{slice_get, remove}
 use Rattle.std.specs.Borrow.{Bor, MutBor}
 use Rattle.std.specs.Fn.{Mut, Called}
@@ -51,7 +52,8 @@ module _ {X : Type 0} where
         | false ↦ λ t h. behind t j (omega (arith, h))
       ]) refl is
     where
-      behind : is_node p e.0 ≡ false → (i : ℕ) → place_number es p ≡ i → place_number (remove (e ∷ es) i) p ≡ i
+      behind : is_node p e.0 ≡ false → (i : ℕ) → place_number es p ≡ i
+          → place_number (remove (e ∷ es) i) p ≡ i
       behind t zero at = at
       behind t (suc i) at = number-cons e (remove es i) p
           ∙ ap (λ b. cond b 0 (suc (place_number (remove es i) p))) t ∙ ap suc (later i at)
@@ -83,14 +85,16 @@ module _ {K V : Type 0} where
   drop-written (e ∷ es) zero w = refl
   drop-written (e ∷ es) (suc j) w = drop-written es j w
 
-  kept-written : (es : List (K × V)) (j : ℕ) (e : K × V) (w : V) → slice_get es j ≡ Some e → (out : List (K × V))
+  kept-written : (es : List (K × V)) (j : ℕ) (e : K × V) (w : V) → slice_get es j ≡ Some e
+      → (out : List (K × V))
       → take (suc j) (set_value_at es j w) ++ out ≡ take j es ++ (e.0, w) ∷ out
   kept-written [] j e w at out = absurd (cc)
   kept-written (x ∷ es) zero e w at out = let same : x ≡ e = cc in ap (λ y. (y.0, w) ∷ out) same
   kept-written (x ∷ es) (suc j) e w at out = ap (λ r. x ∷ r) (kept-written es j e w at out)
 
 -- a value that was written leaves the list sound
-keys-renewed : {X : Type 0} (f : X → X) (ns : List (Node × X)) (j : ℕ) → keys_of (renewed_at f ns j) ≡ keys_of ns
+keys-renewed : {X : Type 0} (f : X → X) (ns : List (Node × X)) (j : ℕ)
+    → keys_of (renewed_at f ns j) ≡ keys_of ns
 keys-renewed f [] j = refl
 keys-renewed f (e ∷ ns) zero = refl
 keys-renewed f (e ∷ ns) (suc j) = ap (λ r. e.0 ∷ r) (keys-renewed f ns j)
@@ -108,7 +112,8 @@ module _ {K V S : Type 0} (eq : K → K → Bool) where
       }
 
 -- ---- the calls
-pub called-at : {F K V : Type 0} (g : Mut F (Bor K × (MutBor V × Unit {0})) (Bool × (MutBor V × Unit {0}))) {f f' : F}
+pub called-at : {F K V : Type 0} (g : Mut F (Bor K × (MutBor V × Unit {0})) (Bool × (MutBor V × Unit {0})))
+    {f f' : F}
     {k : Bor K} {v w : MutBor V} {b : Bool} → Called g f (k, (v, tt)) (b, (w, tt)) f'
     → CalledAtPair g f k.now v.now b w.now f'
 called-at g c = record { key = _; value = _; shows = (refl, refl); left = _; called = c; leaves = refl }
@@ -120,7 +125,8 @@ module _ {F K V : Type 0} (T : F → K → V → Bool → V → F → Type 0) (Q
   callable-later : (f : F) (e : K × V) (es : List (K × V)) (b : Bool) (w : V) (f' : F) → T f e.0 e.1 b w f'
       → CallableOnEachPair T Q f (e ∷ es) → CallableOnEachPair T Q f' es
   callable-later f e es b w f' t c = record {
-    at = λ before after g k v is folds. c.at (e ∷ before) after g k v (ap (λ l. e ∷ l) is) (f', (b, w, t), folds);
+    at = λ before after g k v is folds. c.at (e ∷ before) after g k v (ap (λ l. e ∷ l) is)
+        (f', (b, w, t), folds);
   }
 
   module _ {S : Type 0} (start : F) (old : Keyed K V S) where
@@ -128,18 +134,22 @@ module _ {F K V : Type 0} (T : F → K → V → Bool → V → F → Type 0) (Q
     pub record Retaining (f : F) (m : Keyed K V S) (p : Option Node) : Type 0 where
       pub within : IsPlace m.nodes p
       pub callable : CallableOnEachPair T Q f (drop (place_number m.nodes p) (entries_of m))
-      pub calls : (out : List (K × V)) (g : F) → KeepsInOrder T f (drop (place_number m.nodes p) (entries_of m)) out g
+      pub calls : (out : List (K × V)) (g : F)
+          → KeepsInOrder T f (drop (place_number m.nodes p) (entries_of m)) out g
           → KeepsInOrder T start (entries_of old) (take (place_number m.nodes p) (entries_of m) ++ out) g
       pub keeps : KeepsOnly (state_of old) (state_of m) (entries_of m)
 
     -- at the first place
-    pub retaining-first : (p : Option Node) → IsPlaceAt old.nodes p 0 → CallableOnEachPair T Q start (entries_of old)
+    pub retaining-first : (p : Option Node) → IsPlaceAt old.nodes p 0
+        → CallableOnEachPair T Q start (entries_of old)
         → Retaining start old p
     retaining-first p first callable = record {
       within = first.within;
-      callable = subst (λ i. CallableOnEachPair T Q start (drop i (entries_of old))) (sym first.number) callable;
+      callable = subst (λ i. CallableOnEachPair T Q start (drop i (entries_of old)))
+          (sym first.number) callable;
       calls = subst (λ i. (out : List (K × V)) (g : F) → KeepsInOrder T start (drop i (entries_of old)) out g
-          → KeepsInOrder T start (entries_of old) (take i (entries_of old) ++ out) g) (sym first.number) (λ out g k. k);
+          → KeepsInOrder T start (entries_of old) (take i (entries_of old) ++ out) g) (sym first.number)
+          (λ out g k. k);
       keeps = record {
         entries = refl;
         no_more = omega arith;
@@ -167,7 +177,8 @@ module _ {F K V : Type 0} (T : F → K → V → Bool → V → F → Type 0) (Q
     }
 
     -- the call at the pair of n
-    module _ (f : F) (m : Keyed K V S) (p : Option Node) (n : Node) (here : p ≡ Some n) (found : Retaining f m p)
+    module _ (f : F) (m : Keyed K V S) (p : Option Node) (n : Node) (here : p ≡ Some n)
+        (found : Retaining f m p)
         (k : K) (v : V) (at : slice_get (entries_of m) (place_number m.nodes (Some n)) ≡ Some (k, v)) where
       r : Retaining f m (Some n)
       r = subst (Retaining f m) here found
@@ -223,7 +234,8 @@ module _ {F K V : Type 0} (T : F → K → V → Bool → V → F → Type 0) (Q
           number-here : place_number m.nodes p ≡ j
           number-here = ap (place_number m.nodes) here
 
-          pub fewer-left : length wrote.nodes - place_number wrote.nodes q < length m.nodes - place_number m.nodes p
+          pub fewer-left : length wrote.nodes - place_number wrote.nodes q
+              < length m.nodes - place_number m.nodes p
           fewer-left = omega (arith, nodes-as_long, next-written, number-here, before-end)
 
           -- which the closure keeps
@@ -262,7 +274,8 @@ module _ {F K V : Type 0} (T : F → K → V → Bool → V → F → Type 0) (Q
             same-place = place_number-renewed (pair_with_value w) m.nodes j (Some n)
 
             shorter : entries_of new ≡ remove (set_value_at es j w) j
-            shorter = removed.state.entries ∙ ap (remove (entries_of wrote)) same-place ∙ ap (λ l. remove l j) written
+            shorter = removed.state.entries ∙ ap (remove (entries_of wrote)) same-place
+                ∙ ap (λ l. remove l j) written
 
             place-left : place_number new.nodes q ≡ j
             place-left = ap (λ l. place_number l q) (removed.nodes ∙ ap (remove wrote.nodes) same-place)
@@ -326,4 +339,9 @@ module _ {F K V : Type 0} (T : F → K → V → Bool → V → F → Type 0) (Q
                 within-left : (o : Option Node) → q ≡ o → IsPlace new.nodes q
                 within-left None is = subst (IsPlace new.nodes) (sym is) tt
                 within-left (Some i) is = subst (IsPlace new.nodes) (sym is) (within-holds new.nodes i
-                    (omega (arith, ap (place_number new.nodes) (sym is) ∙ place-left, nodes-fewer, before-last i is)))
+                    (omega (
+                      arith,
+                      ap (place_number new.nodes) (sym is) ∙ place-left,
+                      nodes-fewer,
+                      before-last i is,
+                    )))

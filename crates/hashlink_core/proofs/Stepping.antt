@@ -1,10 +1,12 @@
--- The ring and the table stay in step: through an entry that is put in, one that is taken out, one that is renewed,
--- and where none is left.
-use Rattle.std.proofs.Common.{◌≡◌, ℕ, ◌+◌, ◌-◌, ◌≤◌, Bool, true, cond, List, [], length, None, Some, ap, sym, subst}
+-- The ring and the table stay in step: through an entry that is put in, one that is taken out, one that is
+-- renewed, and where none is left.
+use Rattle.std.proofs.Common.{◌≡◌, ℕ, ◌+◌, ◌-◌, ◌≤◌, Bool, true, cond, List, [], length, None, Some, ap, sym}
+use Rattle.std.proofs.Common.{subst}
 use Rattle.std.proofs.Common.{◌∙◌, arith}
 use Rattle.std.specs.Prelude.{is_some, slice_get, insert, remove}
 use Rattle.std.specs.Cmp.{IsEquivalence, nat_cmp_total}
-use Rattle.std.specs.FinMap.{get, insert as put_in, remove as take_out, empty, len, len-insert, len-remove, len-empty}
+use Rattle.std.specs.FinMap.{get, insert as put_in, remove as take_out, empty, len, len-insert, len-remove}
+use Rattle.std.specs.FinMap.{len-empty}
 use Rattle.std.specs.Ordering.{nat_cmp}
 use Rattle.std.specs.Option.{option_map}
 use Rattle.std.specs.Map.{values_of}
@@ -21,16 +23,19 @@ use Rattle.hashlink_table.specs.Contents.{Contents}
 use Rattle.hashlink_table.specs.declared.kept.Kept.{Kept}
 use Rattle.hashlink_core.specs.Keyed.{nodes_of, pairs_in}
 use Rattle.hashlink_core.specs.Tied.{IsTied, IsInStep}
-use Rattle.hashlink_core.proofs.Edits.{length-inserted, length-removed, insert-map, remove-map, IsEntries-removed}
+use Rattle.hashlink_core.proofs.Edits.{length-inserted, length-removed, insert-map, remove-map}
+use Rattle.hashlink_core.proofs.Edits.{IsEntries-removed}
 use Rattle.hashlink_core.proofs.Edits.{IsEntries-inserted, none-removed}
-use Rattle.hashlink_core.proofs.Tying.{tied-none, tied-added, tied-taken, tied-changed, with-here, with-removed}
+use Rattle.hashlink_core.proofs.Tying.{tied-none, tied-added, tied-taken, tied-changed, with-here}
+use Rattle.hashlink_core.proofs.Tying.{with-removed}
 use Rattle.hashlink_core.proofs.Tying.{with-inserted}
 
 module _ {K V : Type 0} where
   -- ---- the ring's pairs
   pub pairs-inserted : (es : List (Node × Held K V)) (i : ℕ) (n : Node) (h : Held K V)
       → pairs_in (insert es i (n, h)) ≡ insert (pairs_in es) i (pair_of h)
-  pairs-inserted es i n h = ap values_of (insert-map (λ (e : Node × Held K V). (e.0, pair_of e.1)) es i (n, h))
+  pairs-inserted es i n h =
+      ap values_of (insert-map (λ (e : Node × Held K V). (e.0, pair_of e.1)) es i (n, h))
       ∙ insert-map (λ (e : Node × (K × V)). e.1) (nodes_of es) i (n, pair_of h)
 
   pub pairs-removed : (es : List (Node × Held K V)) (j : ℕ) → pairs_in (remove es j) ≡ remove (pairs_in es) j
@@ -50,10 +55,12 @@ module _ {K V : Type 0} where
 
 module _ {K V : Type 0} {eq : K → K → Bool} (laws : IsEquivalence eq) {hash : K → ℕ} where
   -- no entry, in the ring or in the table
-  pub step-none : (r : Ring K V) (t : Contents Node) → r.entries ≡ [] → t.nodes ≡ empty → length r.free ≤ t.room
+  pub step-none : (r : Ring K V) (t : Contents Node) → r.entries ≡ [] → t.nodes ≡ empty
+      → length r.free ≤ t.room
       → IsInStep eq hash r t
   step-none r t none bare fits =
-      let at_none : (es : List (Node × Held K V)) → es ≡ [] → IsEntries eq (pairs_in es) × IsEntries same_node es
+      let at_none : (es : List (Node × Held K V)) → es ≡ [] → IsEntries eq (pairs_in es)
+      × IsEntries same_node es
       × IsTied hash es (record { nodes = empty; room = t.room }) =
       λ es is. subst (λ (es : List (Node × Held K V)). IsEntries eq (pairs_in es) × IsEntries same_node es
       × IsTied hash es (record { nodes = empty; room = t.room })) (sym is)
@@ -62,7 +69,8 @@ module _ {K V : Type 0} {eq : K → K → Bool} (laws : IsEquivalence eq) {hash 
       record {
         distinct = parts.0;
         apart = parts.1;
-        tied = subst (λ nodes. IsTied hash r.entries (record { nodes = nodes; room = t.room })) (sym bare) parts.2;
+        tied = subst (λ nodes. IsTied hash r.entries (record { nodes = nodes; room = t.room }))
+            (sym bare) parts.2;
         count = ap len bare ∙ len-empty nat_cmp (Kept Node) ∙ sym (ap length none);
         fits = omega (arith, fits, ap length none);
       }
@@ -77,7 +85,8 @@ module _ {K V : Type 0} {eq : K → K → Bool} (laws : IsEquivalence eq) {hash 
         distinct = subst (λ es. IsEntries eq (pairs_in es)) (sym same) step.distinct;
         apart = subst (IsEntries same_node) (sym same) step.apart;
         tied = subst (λ es. IsTied hash es u) (sym same)
-            (subst (λ nodes. IsTied hash r.entries (record { nodes = nodes; room = u.room })) (sym same_nodes) tied);
+            (subst (λ nodes. IsTied hash r.entries (record { nodes = nodes; room = u.room }))
+            (sym same_nodes) tied);
         count = ap len same_nodes ∙ step.count ∙ sym (ap length same);
         fits = omega (arith, fits, ap length same);
       }
@@ -93,16 +102,19 @@ module _ {K V : Type 0} {eq : K → K → Bool} (laws : IsEquivalence eq) {hash 
       step-in =
           let apart : IsEntries same_node (insert r.entries i (n, h)) =
           IsEntries-inserted same_node same_node_equiv r.entries step.apart i (n, h) fresh in
-          let more : len (put_in t.nodes h.number (record { hash = hash h.key; node = n })) ≡ len t.nodes + 1 =
+          let more : len (put_in t.nodes h.number (record { hash = hash h.key; node = n }))
+          ≡ len t.nodes + 1 =
           len-insert nat_cmp_total t.nodes h.number (record { hash = hash h.key; node = n })
           ∙ ap (λ b. cond b (len t.nodes) (len t.nodes + 1)) (ap is_some vacant) in
-          let long : length s.entries ≡ length r.entries + 1 = ap length put ∙ length-inserted r.entries i (n, h) in
+          let long : length s.entries ≡ length r.entries + 1 = ap length put
+          ∙ length-inserted r.entries i (n, h) in
           record {
             distinct = subst (IsEntries eq) (sym (ap pairs_in put ∙ pairs-inserted r.entries i n h))
                 (IsEntries-inserted eq laws (pairs_in r.entries) step.distinct i (pair_of h) none);
             apart = subst (IsEntries same_node) (sym put) apart;
             tied = subst (λ es. IsTied hash es
-                (record t { nodes = put_in t.nodes h.number (record { hash = hash h.key; node = n }) })) (sym put)
+                (record t { nodes = put_in t.nodes h.number (record { hash = hash h.key; node = n }) }))
+                (sym put)
                 (tied-added hash r.entries (insert r.entries i (n, h)) n h
                 (with-inserted hash r.entries n h i apart) t step.tied vacant);
             count = more ∙ ap (λ c. c + 1) step.count ∙ sym long;
@@ -116,7 +128,8 @@ module _ {K V : Type 0} {eq : K → K → Bool} (laws : IsEquivalence eq) {hash 
       step-out removed free =
           let with = with-removed hash r.entries n h j at step.apart in
           let kept = step.tied.kept n h (with-here hash (remove r.entries j) r.entries n h with) in
-          let left : len (take_out t.nodes h.number) ≡ len t.nodes - 1 = len-remove nat_cmp_total t.nodes h.number
+          let left : len (take_out t.nodes h.number) ≡ len t.nodes - 1 =
+          len-remove nat_cmp_total t.nodes h.number
           ∙ ap (λ b. cond b (len t.nodes - 1) (len t.nodes)) (ap is_some kept) in
           let fewer : length s.entries + 1 ≡ length r.entries = ap (λ es. length es + 1) removed
           ∙ length-removed r.entries j (n, h) at in
@@ -134,15 +147,18 @@ module _ {K V : Type 0} {eq : K → K → Bool} (laws : IsEquivalence eq) {hash 
 
       -- the entry of n, which stood at j, is g now and stands at i
       pub step-renewed : (i : ℕ) (g : Held K V) → s.entries ≡ insert (remove r.entries j) i (n, g)
-          → g.number ≡ h.number → eq h.key g.key ≡ true → hash g.key ≡ hash h.key → length s.free ≡ length r.free
+          → g.number ≡ h.number → eq h.key g.key ≡ true → hash g.key ≡ hash h.key
+          → length s.free ≡ length r.free
           → IsInStep eq hash s t
       step-renewed i g put number key hashed free =
           let rest = remove r.entries j in
           let lone : IsEntries eq (remove (pairs_in r.entries) j) =
-          IsEntries-removed eq laws (pairs_in r.entries) step.distinct j (pair_of h) (pair-at r.entries j n h at) in
+          IsEntries-removed eq laws (pairs_in r.entries) step.distinct j (pair_of h)
+          (pair-at r.entries j n h at) in
           let none : NonePasses (eq g.key) (remove (pairs_in r.entries) j) =
           none_equal eq laws h.key g.key (remove (pairs_in r.entries) j) key
-          (none-removed eq laws (pairs_in r.entries) step.distinct j (pair_of h) (pair-at r.entries j n h at)) in
+          (none-removed eq laws (pairs_in r.entries) step.distinct j (pair_of h)
+          (pair-at r.entries j n h at)) in
           let apart : IsEntries same_node (insert rest i (n, g)) =
           IsEntries-inserted same_node same_node_equiv rest
           (IsEntries-removed same_node same_node_equiv r.entries step.apart j (n, h) at) i (n, g)

@@ -1,5 +1,6 @@
 -- The ring and the table stay in step.
-use Rattle.std.proofs.Common.{◌≡◌, ◌≢◌, ◌⊎◌, ℕ, suc, Bool, true, false, cond, take, drop, List, [], ◌∷◌, ◌++◌, None}
+use Rattle.std.proofs.Common.{◌≡◌, ◌≢◌, ◌⊎◌, ℕ, suc, Bool, true, false, cond, take, drop, List, [], ◌∷◌, ◌++◌}
+use Rattle.std.proofs.Common.{None}
 use Rattle.std.proofs.Common.{Some, refl, ap, sym, subst, ◌∙◌, append_assoc, inl, inr}
 use Rattle.std.specs.Ordering.{nat_cmp, eq_by_cmp}
 use Rattle.std.specs.Cmp.{nat_cmp_total, eq_by_cmp_equiv, Equal-is}
@@ -34,14 +35,16 @@ is-cell a b t = nat_cmp-IsAntisymmetric a b ((Equal-is (nat_cmp a b)).0 t)
 -- ---- what a finite map of cells gives at a cell
 module _ (t : FinMap nat_cmp (Kept Node)) where
   get-inserted : (c : ℕ) (k : Kept Node) (q : ℕ) → q ≡ c → get (put_in t c k) q ≡ Some k
-  get-inserted c k q e = get-insert nat_cmp_total t c k q ∙ ap (λ b. cond b (Some k) (get t q)) (same-cell q c e)
+  get-inserted c k q e = get-insert nat_cmp_total t c k q
+      ∙ ap (λ b. cond b (Some k) (get t q)) (same-cell q c e)
 
   -- at another cell, one that has a node where the new cell had none
   get-kept : (c : ℕ) (k : Kept Node) (q : ℕ) (j : Kept Node) → get t c ≡ None → get t q ≡ Some j
       → get (put_in t c k) q ≡ Some j
   get-kept c k q j none some =
       elim (eq_by_cmp nat_cmp q c) as (λ b. eq_by_cmp nat_cmp q c ≡ b → get (put_in t c k) q ≡ Some j) [
-        | true ↦ λ e. let same : get t q ≡ get t c = ap (get t) (is-cell q c e) in absurd (cc (sym some ∙ same ∙ none))
+        | true ↦ λ e. let same : get t q ≡ get t c = ap (get t) (is-cell q c e) in absurd
+            (cc (sym some ∙ same ∙ none))
         | false ↦ λ e. get-insert nat_cmp_total t c k q ∙ ap (λ b. cond b (Some k) (get t q)) e ∙ some
       ] refl
 
@@ -49,7 +52,8 @@ module _ (t : FinMap nat_cmp (Kept Node)) where
   found-inserted : (c : ℕ) (k : Kept Node) (q : ℕ) (j : Kept Node) → get (put_in t c k) q ≡ Some j
       → ((q ≡ c) × (k ≡ j)) ⊎ (get t q ≡ Some j)
   found-inserted c k q j there =
-      elim (eq_by_cmp nat_cmp q c) as (λ b. eq_by_cmp nat_cmp q c ≡ b → ((q ≡ c) × (k ≡ j)) ⊎ (get t q ≡ Some j)) [
+      elim (eq_by_cmp nat_cmp q c) as (λ b. eq_by_cmp nat_cmp q c ≡ b → ((q ≡ c) × (k ≡ j))
+      ⊎ (get t q ≡ Some j)) [
         | true ↦ λ e. let new : get (put_in t c k) q ≡ Some k = get-inserted c k q (is-cell q c e) in
             let same : k ≡ j = cc (sym new ∙ there) in inl (is-cell q c e, same)
         | false ↦ λ e. let old : get (put_in t c k) q ≡ get t q = get-insert nat_cmp_total t c k q
@@ -85,7 +89,8 @@ module _ {K V : Type 0} (hash : K → ℕ) where
   -- the entries are those of the rest, and n with h
   pub record IsWith (rest es : List (Node × Held K V)) (n : Node) (h : Held K V) : Type 0 where
     pub absent : lookup (same_node n) rest ≡ None
-    pub with : (m : Node) → lookup (same_node m) es ≡ cond (same_node n m) (Some h) (lookup (same_node m) rest)
+    pub with : (m : Node) → lookup (same_node m) es
+        ≡ cond (same_node n m) (Some h) (lookup (same_node m) rest)
 
   module _ (rest es : List (Node × Held K V)) (n : Node) (h : Held K V) (w : IsWith rest es n h) where
     pub with-here : lookup (same_node n) es ≡ Some h
@@ -98,31 +103,37 @@ module _ {K V : Type 0} (hash : K → ℕ) where
         elim (same_node n m) as (λ b. same_node n m ≡ b → ((n ≡ m) × (h ≡ g))
         ⊎ ((same_node n m ≡ false) × (lookup (same_node m) rest ≡ Some g))) [
           | true ↦ λ e. let here : lookup (same_node m) es ≡ Some h = w.with m
-              ∙ ap (λ b. cond b (Some h) (lookup (same_node m) rest)) e in let same : h ≡ g = cc (sym here ∙ found)
+              ∙ ap (λ b. cond b (Some h) (lookup (same_node m) rest)) e in let same : h
+              ≡ g = cc (sym here ∙ found)
               in inl (eq-same_node n m e, same)
           | false ↦ λ e. inr
               (e, sym (ap (λ b. cond b (Some h) (lookup (same_node m) rest)) e) ∙ sym (w.with m) ∙ found)
         ] refl
 
     -- what is of the rest is found among the entries, and is not n
-    with-rest : (m : Node) (g : Held K V) → lookup (same_node m) rest ≡ Some g → lookup (same_node m) es ≡ Some g
+    with-rest : (m : Node) (g : Held K V) → lookup (same_node m) rest ≡ Some g
+        → lookup (same_node m) es ≡ Some g
     with-rest m g found =
         elim (same_node n m) as (λ b. same_node n m ≡ b → lookup (same_node m) es ≡ Some g) [
           | true ↦ λ e. let same : lookup (same_node n) rest ≡ lookup (same_node m) rest =
-              ap (λ k. lookup (same_node k) rest) (eq-same_node n m e) in absurd (cc (sym w.absent ∙ same ∙ found))
+              ap (λ k. lookup (same_node k) rest) (eq-same_node n m e) in absurd
+              (cc (sym w.absent ∙ same ∙ found))
           | false ↦ λ e. w.with m ∙ ap (λ b. cond b (Some h) (lookup (same_node m) rest)) e ∙ found
         ] refl
 
     module _ (t : Contents Node) where
       pub tied-added : IsTied hash rest t → get t.nodes h.number ≡ None
-          → IsTied hash es (record t { nodes = put_in t.nodes h.number (record { hash = hash h.key; node = n }) })
+          → IsTied hash es (record t
+          { nodes = put_in t.nodes h.number (record { hash = hash h.key; node = n }) })
       tied-added tied free = record {
         kept = λ m g found.
             elim (with-found m g found)
-            as (λ _. get (put_in t.nodes h.number (kept (hash h.key) n)) g.number ≡ Some (kept (hash g.key) m)) [
+            as (λ _. get (put_in t.nodes h.number (kept (hash h.key) n)) g.number ≡ Some
+            (kept (hash g.key) m)) [
               | inl e ↦ get-inserted t.nodes h.number (kept (hash h.key) n) g.number
                   (ap (λ (x : Held K V). x.number) (sym e.1))
-                  ∙ ap (λ (x : Held K V). Some (kept (hash x.key) n)) e.1 ∙ ap (λ k. Some (kept (hash g.key) k)) e.0
+                  ∙ ap (λ (x : Held K V). Some (kept (hash x.key) n)) e.1
+                  ∙ ap (λ k. Some (kept (hash g.key) k)) e.0
               | inr e ↦ get-kept t.nodes h.number (kept (hash h.key) n) g.number (kept (hash g.key) m) free
                   (tied.kept m g e.1)
             ];
@@ -153,13 +164,16 @@ module _ {K V : Type 0} (hash : K → ℕ) where
           let at_n : get t.nodes h.number ≡ Some (kept (hash h.key) n) = tied.kept n h with-here in
           record {
             kept = λ m g found.
-                let there : get t.nodes g.number ≡ Some (kept (hash g.key) m) = tied.kept m g (with-rest m g found) in
+                let there : get t.nodes g.number ≡ Some (kept (hash g.key) m) =
+                tied.kept m g (with-rest m g found) in
                 let apart : g.number ≢ h.number = λ e.
-                let both : Some (kept (hash g.key) m) ≡ Some (kept (hash h.key) n) = sym there ∙ ap (get t.nodes) e
+                let both : Some (kept (hash g.key) m) ≡ Some (kept (hash h.key) n) = sym there
+                ∙ ap (get t.nodes) e
                 ∙ at_n in
                 let whole : kept (hash g.key) m ≡ kept (hash h.key) n = cc both in
                 let node : m ≡ n = ap (λ (x : Kept Node). x.node) whole in
-                let gone : lookup (same_node m) rest ≡ None = ap (λ k. lookup (same_node k) rest) node ∙ w.absent in
+                let gone : lookup (same_node m) rest ≡ None = ap (λ k. lookup (same_node k) rest) node
+                ∙ w.absent in
                 absurd (cc (sym gone ∙ found)) in
                 get-removed t.nodes h.number g.number apart ∙ there;
             listed = λ cell found m there.
@@ -173,11 +187,13 @@ module _ {K V : Type 0} (hash : K → ℕ) where
 
   -- another entry under the same node, with the same number and the same hash
   pub tied-changed : (rest es fs : List (Node × Held K V)) (n : Node) (h g : Held K V) (t : Contents Node)
-      → IsWith rest es n h → IsWith rest fs n g → g.number ≡ h.number → hash g.key ≡ hash h.key → IsTied hash es t
+      → IsWith rest es n h → IsWith rest fs n g → g.number ≡ h.number → hash g.key
+      ≡ hash h.key → IsTied hash es t
       → IsTied hash fs t
   tied-changed rest es fs n h g t w x number hashed tied = record {
     kept = λ m k found.
-        elim (with-found rest fs n g x m k found) as (λ _. get t.nodes k.number ≡ Some (kept (hash k.key) m)) [
+        elim (with-found rest fs n g x m k found) as
+        (λ _. get t.nodes k.number ≡ Some (kept (hash k.key) m)) [
           | inl e ↦
               let there : get t.nodes h.number ≡ Some (kept (hash h.key) n)
               = tied.kept n h (with-here rest es n h w) in
@@ -219,13 +235,15 @@ module _ {K V : Type 0} (hash : K → ℕ) where
 
   -- by its index
   module _ (es : List (Node × Held K V)) (n : Node) (h : Held K V) where
-    pub with-removed : (j : ℕ) → slice_get es j ≡ Some (n, h) → IsEntries same_node es → IsWith (remove es j) es n h
+    pub with-removed : (j : ℕ) → slice_get es j ≡ Some (n, h) → IsEntries same_node es
+        → IsWith (remove es j) es n h
     with-removed j at d =
         let is = split-at es j (n, h) at in
         subst (λ fs. IsWith (remove es j) fs n h) (sym is)
         (with-middle (take j es) (drop (suc j) es) n h (subst (IsEntries same_node) is d))
 
-    pub with-inserted : (i : ℕ) → IsEntries same_node (insert es i (n, h)) → IsWith es (insert es i (n, h)) n h
+    pub with-inserted : (i : ℕ) → IsEntries same_node (insert es i (n, h))
+        → IsWith es (insert es i (n, h)) n h
     with-inserted i d = subst (λ rest. IsWith rest (insert es i (n, h)) n h) (take-append-drop i es)
         (with-middle (take i es) (drop i es) n h d)
 
@@ -249,7 +267,8 @@ module _ {K V : Type 0} (hash : K → ℕ) where
             | false ↦ λ e. e
           ] refl
 
-      from : (before after : List (Node × Held K V)) → es ≡ before ++ after → NonePasses passes (pairs_in after)
+      from : (before after : List (Node × Held K V)) → es ≡ before ++ after
+          → NonePasses passes (pairs_in after)
       from before [] is = tt
       from before (e ∷ after) is =
           let here : lookup (same_node e.0) es ≡ Some e.1 =

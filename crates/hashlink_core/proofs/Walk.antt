@@ -1,5 +1,6 @@
 -- A walk along a ring, by where it stands at both ends.
-use Rattle.std.proofs.Common.{◌≡◌, ℕ, zero, suc, ◌+◌, ◌-◌, ◌<◌, ◌≢◌, true, false, cond, List, [], ◌∷◌, ◌++◌, length}
+use Rattle.std.proofs.Common.{◌≡◌, ℕ, zero, suc, ◌+◌, ◌-◌, ◌<◌, ◌≢◌, true, false, cond, List, [], ◌∷◌, ◌++◌}
+use Rattle.std.proofs.Common.{length}
 use Rattle.std.proofs.Common.{take, drop, Option, None, Some, refl, ap, sym, subst, ◌∙◌, arith}
 use Rattle.std.specs.Prelude.{slice_get, is_some}
 use Rattle.std.specs.Option.{option_map}
@@ -29,7 +30,8 @@ in-reverse shows = from_back (TakesLast shows) shows (λ s. s) (λ s t h. ap len
 
 module _ {X : Type 0} where
   -- one more element taken
-  take-one_more : (xs : List X) (i : ℕ) (x : X) → slice_get xs i ≡ Some x → take (suc i) xs ≡ take i xs ++ x ∷ []
+  take-one_more : (xs : List X) (i : ℕ) (x : X) → slice_get xs i ≡ Some x → take (suc i) xs
+      ≡ take i xs ++ x ∷ []
   take-one_more [] i x at = absurd (cc)
   take-one_more (y ∷ xs) zero x at = let same : y ≡ x = cc in ap (λ z. z ∷ []) same
   take-one_more (y ∷ xs) (suc i) x at = ap (λ l. y ∷ l) (take-one_more xs i x at)
@@ -89,7 +91,8 @@ module _ {K V : Type 0} (es : List (Node × Held K V)) (first last : Option Node
     pub first-holds : Holds es n
     first-holds = within-holds es n (omega (arith, w.few, ap (place_number es) is, some))
 
-    module _ (d : IsEntries same_node es) (q : Option Node) (next : q ≡ next_place (keys_of es) (Some n)) where
+    module _ (d : IsEntries same_node es) (q : Option Node)
+        (next : q ≡ next_place (keys_of es) (Some n)) where
       next-first : place_number es q ≡ suc (place_number es first)
       next-first =
           let x = node-at es n first-holds in
@@ -122,7 +125,8 @@ module _ {K V : Type 0} (es : List (Node × Held K V)) (first last : Option Node
         let ends = w.ends (omega (arith, some)) in
         within-holds es n (omega (arith, w.few, ends, ap (place_number es) is))
 
-    module _ (d : IsEntries same_node es) (q : Option Node) (prev : q ≡ prev_place (keys_of es) (Some n)) where
+    module _ (d : IsEntries same_node es) (q : Option Node)
+        (prev : q ≡ prev_place (keys_of es) (Some n)) where
       prev-last : 1 < left → place_number es q + 1 ≡ place_number es last
       prev-last more =
           let ends = w.ends (omega (arith, some)) in

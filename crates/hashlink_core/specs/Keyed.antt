@@ -1,4 +1,5 @@
--- What a contract sees of a keyed list: the entries in order, each with its node, and a map's numbers and hasher.
+-- What a contract sees of a keyed list: the entries in order, each with its node, and a map's numbers and
+-- hasher.
 use Rattle.std.specs.Prelude.{◌≡◌, ℕ, Bool, true, List, length, map, Some, IfSome}
 use Rattle.std.specs.Map.{values_of}
 use Rattle.hashlink_model.specs.Entries.{IsEntries, place_of}
@@ -11,8 +12,8 @@ use Rattle.hashlink_nodes.specs.Ring.{Ring, Holds, pair_of}
 use Rattle.hashlink_table.specs.Contents.{Contents}
 use Rattle.hashlink_core.specs.Places.{place_number}
 
--- the pairs with their nodes, how many nodes are spare, for how many there is room, how many links were stored, and
--- the hasher
+-- the pairs with their nodes, how many nodes are spare, for how many there is room, how many links were
+-- stored, and the hasher
 pub record Keyed (K V S : Type 0) : Type 0 where
   pub nodes : List (Node × (K × V))
   pub spare : ℕ
@@ -69,7 +70,8 @@ module _ {K V S : Type 0} where
   abbrev pub state_of : Keyed K V S → MapState K V S
   state_of m = map_state (entries_of m) m.spare m.room m.link_writes m.hasher
 
-  -- what holds of every keyed list: no two keys are equal, no node stands twice, and there is room for each node
+  -- what holds of every keyed list: no two keys are equal, no node stands twice, and there is room for each
+  -- node
   pub record IsKeyed (eq : K → K → Bool) (m : Keyed K V S) : Type 0 where
     pub distinct : IsEntries eq (entries_of m)
     pub apart : IsEntries same_node m.nodes

@@ -24,7 +24,10 @@ node_row = node.the_row
 
 -- the same list with w as the value of the node's pair
 abbrev pub with_value_at : {K V S : Type 0} → Keyed K V S → Node → V → Keyed K V S
-with_value_at m n w = record m { nodes = renewed_at (pair_with_value w) m.nodes (place_number m.nodes (Some n)) }
+with_value_at m n w = record m {
+  nodes = renewed_at (pair_with_value w) m.nodes
+      (place_number m.nodes (Some n));
+}
 
 abbrev pub LendsValueAt : (K V S T : RattleType) → HashMembers K.Denot → builder.Ghosts S.Denot T.Denot
     → hasher.Ghosts T.Denot → MutBor (Keyed K.Denot V.Denot S.Denot) → Node → MutBor V.Denot → Fml

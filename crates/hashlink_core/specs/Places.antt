@@ -1,5 +1,5 @@
--- The places of a list of entries, each with its node: a node of the list, or None for the guard, which stands
--- after the last entry.
+-- The places of a list of entries, each with its node: a node of the list, or None for the guard, which
+-- stands after the last entry.
 -- They are numbered in order: the nodes from 0, and the guard by the length.
 use Rattle.std.specs.Prelude.{◌≡◌, ℕ, zero, suc, List, [], ◌∷◌, length, Option, None, Some}
 use Rattle.hashlink_model.specs.Entries.{place_or_end}

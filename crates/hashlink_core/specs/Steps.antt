@@ -1,5 +1,5 @@
--- The steps between two states of a keyed list, by the numbers of places: what the list of nodes is afterwards, and
--- which step of a map it is.
+-- The steps between two states of a keyed list, by the numbers of places: what the list of nodes is
+-- afterwards, and which step of a map it is.
 use Rattle.std.specs.Prelude.{◌≡◌, ℕ, ◌+◌, Bool, insert, remove, length, Option, None}
 use Rattle.std.specs.Map.{lookup}
 use Rattle.hashlink_nodes.specs.declared.node.Node.{Node}
@@ -47,7 +47,8 @@ module _ {K V S : Type 0} where
   abbrev pub KeepsKeys : Keyed K V S → Keyed K V S → Type 0
   KeepsKeys old new =
       (m : Node) → Holds old.nodes m
-      → option_map (λ e. e.0) (lookup (same_node m) new.nodes) ≡ option_map (λ e. e.0) (lookup (same_node m) old.nodes)
+      → option_map (λ e. e.0) (lookup (same_node m) new.nodes)
+      ≡ option_map (λ e. e.0) (lookup (same_node m) old.nodes)
 
   -- nothing changed but the room, which may be one for n more nodes now
   pub record GrowsRoom (n : ℕ) (old new : Keyed K V S) : Type 0 where

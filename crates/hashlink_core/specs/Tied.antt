@@ -11,7 +11,8 @@ use Rattle.hashlink_core.specs.Keyed.{pairs_in}
 use Rattle.hashlink_table.specs.Contents.{Contents, Keeps, len_of}
 
 -- the hash of a key, by what the builder makes, a hasher's write and finish, and what the key writes
-abbrev pub hash_with : {K S H : Type 0} → (S → H) → (H → List ℕ → H) → (H → ℕ) → (K → List (List ℕ)) → S → K → ℕ
+abbrev pub hash_with : {K S H : Type 0} → (S → H) → (H → List ℕ → H) → (H → ℕ)
+    → (K → List (List ℕ)) → S → K → ℕ
 hash_with build write finish input s k = finish (fold write (build s) (input k))
 
 module _ {K V : Type 0} where
@@ -22,14 +23,14 @@ module _ {K V : Type 0} where
     pub number : held.number ≡ cell
     pub hashed : hash held.key ≡ found
 
-  -- each entry's node is in the table, in the cell that is its number and under its key's hash, and the table has
-  -- no other node
+  -- each entry's node is in the table, in the cell that is its number and under its key's hash, and the table
+  -- has no other node
   pub record IsTied (hash : K → ℕ) (es : List (Node × Held K V)) (t : Contents Node) : Type 0 where
     pub kept : (n : Node) (h : Held K V) → lookup (same_node n) es ≡ Some h → Keeps t h.number (hash h.key) n
     pub listed : (cell found : ℕ) (n : Node) → Keeps t cell found n → IsListed hash es cell found n
 
-  -- the ring, its pairs and the table together: no two keys are equal, no node stands twice, and the table has room
-  -- for every node, in use and spare
+  -- the ring, its pairs and the table together: no two keys are equal, no node stands twice, and the table
+  -- has room for every node, in use and spare
   pub record IsInStep (eq : K → K → Bool) (hash : K → ℕ) (r : Ring K V) (t : Contents Node) : Type 0 where
     pub distinct : IsEntries eq (pairs_in r.entries)
     pub apart : IsEntries same_node r.entries

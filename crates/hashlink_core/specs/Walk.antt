@@ -10,6 +10,7 @@ abbrev pub pairs_from : {K V : Type 0} → List (Node × Held K V) → Option No
 pairs_from es place count = pairs_in (take count (drop (place_number es place) es))
 
 -- a walk with so many entries left stands at the first and at the last of them
-pub record StandsBetween {X : Type 0} (es : List (Node × X)) (first last : Option Node) (left : ℕ) : Type 0 where
+pub record StandsBetween {X : Type 0} (es : List (Node × X)) (first last : Option Node)
+    (left : ℕ) : Type 0 where
   pub few : place_number es first + left ≤ length es
   pub ends : 0 < left → place_number es last + 1 ≡ place_number es first + left

@@ -16,9 +16,10 @@ use std::boxed::{BoxedSlice, BoxedStr};
 use std::hash::Hash;
 use std::rc::RcStr;
 
-/// What stands for a key in a look-up: a `&K` for a `K`, a `&str` for a `String`, a `&[T]` for a `Vec<T>`, so that
-/// `get(&key)` and `get("text")` are one call. A query of one's own says which keys it matches, and shows that it is
-/// hashed as they are and that they are those which equal one of them.
+/// What stands for a key in a look-up: a `&K` for a `K`, a `&str` for a `String`, a `&[T]` for a `Vec<T>`, so
+/// that
+/// `get(&key)` and `get("text")` are one call. A query of one's own says which keys it matches, and shows
+/// that it is hashed as they are and that they are those which equal one of them.
 pub trait Equivalent<K: Eq + Hash>: Copy + Hash {
     ghost matches: { Self → K → Bool };
 
@@ -59,9 +60,11 @@ impl<T: Eq + Hash, A: Allocator> Equivalent<Vec<T, A>> for &[T] {
 impl<T: Eq + Hash, A: Allocator> Equivalent<BoxedSlice<T, A>> for &[T] {
     ghost matches = { λ q k. pointwise T.eq q.now (boxed_slice_items k) };
 
-    ghost hashed_alike = { λ q k. (items_Alike (record { fed = T.respects_eq })).fed q.now (boxed_slice_items k) };
+    ghost hashed_alike = { λ q k. (items_Alike (record { fed = T.respects_eq })).fed q.now
+        (boxed_slice_items k) };
 
-    ghost finds_equal = { λ q x y. (lists_equiv T.Eq.laws).congr q.now (boxed_slice_items x) (boxed_slice_items y) };
+    ghost finds_equal = { λ q x y. (lists_equiv T.Eq.laws).congr q.now (boxed_slice_items x)
+        (boxed_slice_items y) };
 
     fn equivalent(&self, key: &BoxedSlice<T, A>) -> bool {
         *self == key.as_slice()

@@ -1,4 +1,5 @@
-//! The keyed list, by places: a place is a node of it, or `None` for the guard, which stands after the last entry.
+//! The keyed list, by places: a place is a node of it, or `None` for the guard, which stands after the last
+//! entry.
 ghost use Rattle.std.specs.Prelude.{◌≡◌, ◌*◌, ◌^◌, ◌<◌, ◌≤◌, ◌↔◌, [], length, max, Ok, Err, IfOk};
 ghost use Rattle.hashlink_core.specs.Keyed.{keyed, entries_of, IsKeyed};
 ghost use Rattle.hashlink_table.specs.declared.error.TryReserveError.TheVariants.{CapacityOverflow};
@@ -33,7 +34,8 @@ impl<K: Eq + Hash, V, S: BuildHasher> Model for KeyedList<K, V, S> {
     ghost view = { λ m. seen_as m.nodes m.table m.hash_builder };
 
     ghost invariant = { λ m. IsInStep K.eq
-        (hash_with S.build_hasher S.Hasher.write S.Hasher.finish K.hash_input m.hash_builder) m.nodes m.table };
+        (hash_with S.build_hasher S.Hasher.write S.Hasher.finish K.hash_input m.hash_builder)
+        m.nodes m.table };
 }
 
 impl<K: Eq + Hash, V, S: BuildHasher> KeyedList<K, V, S> {

@@ -11,8 +11,8 @@ use Rattle.std.proofs.lemmas.Bool.Decides.{nat_tests}
 use Rattle.hashlink_curve.specs.Marks.{Tree, IsTree, Marked}
 use Rattle.hashlink_curve.proofs.Sums.{count_by-cons}
 
--- the sums below the node are those of a change by more and less at the place, and the node and those above are as they
--- were
+-- the sums below the node are those of a change by more and less at the place, and the node and those above
+-- are as they were
 pub record Climbs (less more : ℕ) (old sums : List ℕ) (width place node : ℕ) : Type 0 where
   pub nodes : length sums ≡ 2 * width
   pub below : node < 2 * width
@@ -44,7 +44,8 @@ Climbs-start less more sums width place t l =
 half_cases : (node : ℕ) → 1 ≤ node → (node ≡ 2 * (node / 2)) ⊎ (node ≡ 2 * (node / 2) + 1)
 half_cases node l = grind arith
 
-module _ (less more : ℕ) (old sums : List ℕ) (width place node v : ℕ) (k : Climbs less more old sums width place node)
+module _ (less more : ℕ) (old sums : List ℕ) (width place node v : ℕ)
+    (k : Climbs less more old sums width place node)
     (low : 1 ≤ node) (v_is : v + less ≡ get_or sums node 0 + more) where
   same : get_or (set sums node v) node 0 ≡ v
   same =
@@ -56,7 +57,8 @@ module _ (less more : ℕ) (old sums : List ℕ) (width place node v : ℕ) (k :
   other j d = get_or-set_other sums node j v 0 d
 
   sum_by_case : (j : ℕ) → 1 ≤ j → j < width → j ≢ node / 2 → (j ≡ node) ⊎ (j ≢ node)
-      → get_or (set sums node v) j 0 ≡ get_or (set sums node v) (2 * j) 0 + get_or (set sums node v) (2 * j + 1) 0
+      → get_or (set sums node v) j 0 ≡ get_or (set sums node v) (2 * j) 0 + get_or
+      (set sums node v) (2 * j + 1) 0
   sum_by_case j l h d (inl e) =
       let a = ap (λ i. get_or (set sums node v) i 0) e in
       let a2 = ap (λ i. get_or sums (2 * i) 0) e in
@@ -179,11 +181,13 @@ pub count_by-middle : (p : ℕ → Bool) (xs : List ℕ) (x : ℕ) (ys : List �
 count_by-middle p xs x ys =
     let a : count_by p (xs ++ x ∷ ys) ≡ count_by p xs + count_by p (x ∷ ys)
     = sum_by-append (λ y. cond (p y) 1 0) xs (x ∷ ys) in
-    let b : count_by p (xs ++ ys) ≡ count_by p xs + count_by p ys = sum_by-append (λ y. cond (p y) 1 0) xs ys in
+    let b : count_by p (xs ++ ys) ≡ count_by p xs + count_by p ys = sum_by-append
+    (λ y. cond (p y) 1 0) xs ys in
     let d = count_by-cons p x ys in
     omega arith
 
-pub Marked-more : (before after : Tree) (place : ℕ) (xs ys : List ℕ) → after.width ≡ before.width → place < before.width
+pub Marked-more : (before after : Tree) (place : ℕ) (xs ys : List ℕ) → after.width ≡ before.width
+    → place < before.width
     → Climbs 0 1 before.sums after.sums before.width place 0
     → Marked before (xs ++ ys) → Marked after (xs ++ place ∷ ys)
 Marked-more before after place xs ys wide l k m =
@@ -202,7 +206,8 @@ Marked-more before after place xs ys wide l k m =
       total = omega arith;
     }
 
-pub Marked-less : (before after : Tree) (place : ℕ) (xs ys : List ℕ) → after.width ≡ before.width → place < before.width
+pub Marked-less : (before after : Tree) (place : ℕ) (xs ys : List ℕ) → after.width ≡ before.width
+    → place < before.width
     → Climbs 1 0 before.sums after.sums before.width place 0
     → Marked before (xs ++ place ∷ ys) → Marked after (xs ++ ys)
 Marked-less before after place xs ys wide l k m =
@@ -236,7 +241,8 @@ root_by sums width node t low high (inr e) h =
     omega arith
 
 -- no node has more than the root
-root_bounds : (n : ℕ) (sums : List ℕ) (width node : ℕ) → IsTree sums width → node ≤ n → 1 ≤ node → node < 2 * width
+root_bounds : (n : ℕ) (sums : List ℕ) (width node : ℕ) → IsTree sums width → node ≤ n → 1
+    ≤ node → node < 2 * width
     → (node ≡ 1) ⊎ (2 ≤ node) → get_or sums node 0 ≤ get_or sums 1 0
 root_bounds zero sums width node t l low high d = absurd (omega arith)
 root_bounds (suc n) sums width node t l low high (inl e) =
@@ -244,7 +250,8 @@ root_bounds (suc n) sums width node t l low high (inl e) =
     omega arith
 root_bounds (suc n) sums width node t l low high (inr e) =
     root_by sums width node t (omega arith) (omega arith) (half_cases node low)
-    (root_bounds n sums width (node / 2) t (omega arith) (omega arith) (omega arith) (one_or_more (node / 2) (omega arith)))
+    (root_bounds n sums width (node / 2) t (omega arith) (omega arith) (omega arith)
+    (one_or_more (node / 2) (omega arith)))
   where
     one_or_more : (m : ℕ) → 1 ≤ m → (m ≡ 1) ⊎ (2 ≤ m)
     one_or_more m l = grind arith

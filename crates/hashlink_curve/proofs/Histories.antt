@@ -1,7 +1,8 @@
 -- One more use of a key: which distance it has, and which caches miss it.
 use Rattle.std.proofs.Common.{◌≡◌, ℕ, zero, suc, ◌+◌, ◌≤◌, ◌<◌, Bool, true, false, ◌&&◌, ◌||◌, cond, List, []}
 use Rattle.std.proofs.Common.{◌∷◌, ◌++◌, length, drop, nat_lt, None, Some, refl, sym, ap, ap₂, ◌∙◌}
-use Rattle.std.proofs.Common.{subst, subst₂, arith, append_assoc, length-append, true≢false, get_or, set, add-zero}
+use Rattle.std.proofs.Common.{subst, subst₂, arith, append_assoc, length-append, true≢false, get_or, set}
+use Rattle.std.proofs.Common.{add-zero}
 use Rattle.std.specs.Prelude.{sum}
 use Rattle.std.specs.Cmp.{IsEquivalence}
 use Rattle.std.specs.List.{AllZip, after_last}
@@ -12,8 +13,10 @@ use Rattle.std.proofs.lemmas.List.{append-nil}
 use Rattle.std.proofs.lemmas.List.Sums.{sum_by-cons}
 use Rattle.hashlink_model.specs.History.{reuse_distance, cache_misses, cache_misses_from}
 use Rattle.hashlink_model.proofs.Members.{is_member-append, none_from_is_member, is_member_from_none}
-use Rattle.hashlink_model.proofs.Recency.{zip_push, zip_length, remove_key-left, remove_key-right, is_member-unique}
-use Rattle.hashlink_model.proofs.Recency.{unique_keys-push, last_use, unique_keys-last, answers_alike, after_last-here}
+use Rattle.hashlink_model.proofs.Recency.{zip_push, zip_length, remove_key-left, remove_key-right}
+use Rattle.hashlink_model.proofs.Recency.{is_member-unique}
+use Rattle.hashlink_model.proofs.Recency.{unique_keys-push, last_use, unique_keys-last, answers_alike}
+use Rattle.hashlink_model.proofs.Recency.{after_last-here}
 use Rattle.hashlink_curve.specs.Curve.{CurveState, Counted, distance_of, misses_at}
 use Rattle.hashlink_curve.specs.Recency.{MovesPast, GoesLast}
 
@@ -25,7 +28,8 @@ module _ {K : Type 0} (eq : K → K → Bool) where
   missed c used k = cond (is_member eq used k && nat_lt (reuse_distance eq used k) c) 0 1
 
   misses_from-push : (c : ℕ) (before used : List K) (k : K)
-      → cache_misses_from eq c before (used ++ k ∷ []) ≡ cache_misses_from eq c before used + missed c (before ++ used) k
+      → cache_misses_from eq c before (used ++ k ∷ [])
+      ≡ cache_misses_from eq c before used + missed c (before ++ used) k
   misses_from-push c before [] k =
       let a = ap (λ zs. missed c zs k) (append-nil before) in
       omega arith
@@ -140,7 +144,8 @@ module _ {K : Type 0} (eq : K → K → Bool) (laws : IsEquivalence eq) where
   zip_member k [] [] z = refl
   zip_member k [] (y ∷ ys) z = absurd z
   zip_member k (x ∷ xs) [] z = absurd z
-  zip_member k (x ∷ xs) (y ∷ ys) z = ap₂ (λ b c. b || c) (answers_alike eq laws k x y z.0) (zip_member k xs ys z.1)
+  zip_member k (x ∷ xs) (y ∷ ys) z = ap₂ (λ b c. b || c) (answers_alike eq laws k x y z.0)
+      (zip_member k xs ys z.1)
 
   zip_remove : (k : K) (xs ys : List K) → Alike xs ys → Alike (remove_key (eq k) xs) (remove_key (eq k) ys)
   zip_remove k [] [] z = z
@@ -183,7 +188,8 @@ module _ {K : Type 0} (eq : K → K → Bool) (laws : IsEquivalence eq) where
   distance_by used k d m e =
       sym (ap (λ b. cond b (Some (reuse_distance eq used k)) None) m ∙ ap Some e)
 
-  missed_by : (c : ℕ) (used : List K) (k : K) (b : Bool) (d : ℕ) → is_member eq used k ≡ b → reuse_distance eq used k ≡ d
+  missed_by : (c : ℕ) (used : List K) (k : K) (b : Bool) (d : ℕ) → is_member eq used k ≡ b
+      → reuse_distance eq used k ≡ d
       → missed eq c used k ≡ cond (b && nat_lt d c) 0 1
   missed_by c used k b d m e = ap₂ (λ b n. cond (b && nat_lt n c) 0 1) m e
 
@@ -221,7 +227,8 @@ module _ {K : Type 0} (eq : K → K → Bool) (laws : IsEquivalence eq) where
   Counted-again used old new k d p long n h =
       let split = subst (λ zs. Alike zs (unique_keys eq used)) p.split h.keys in
       let held : is_member eq (unique_keys eq used) k ≡ true
-      = sym (zip_member k (p.front ++ p.key ∷ p.back) (unique_keys eq used) split) ∙ there k p.front p.key p.back p.equal
+      = sym (zip_member k (p.front ++ p.key ∷ p.back) (unique_keys eq used) split)
+      ∙ there k p.front p.key p.back p.equal
       in
       let used_before : is_member eq used k ≡ true = sym (is_member-unique eq laws used k) ∙ held in
       let s = last_use eq laws used k used_before in
@@ -230,11 +237,13 @@ module _ {K : Type 0} (eq : K → K → Bool) (laws : IsEquivalence eq) where
       let since : reuse_distance eq used k ≡ length (unique_keys eq s.2)
       = ap (λ zs. distinct_count eq (after_last (eq k) zs)) s.3.is
       ∙ ap (distinct_count eq) (after_last-here eq laws k s.0 s.1 s.2 s.3.equal s.3.after) in
-      let behind = zip_behind k p.front p.key p.back u.0 s.1 (unique_keys eq s.2) (subst (Alike _) all split) p.equal
+      let behind = zip_behind k p.front p.key p.back u.0 s.1 (unique_keys eq s.2)
+      (subst (Alike _) all split) p.equal
       s.3.equal p.none_after (is_member-unique eq laws s.2 k ∙ is_member_from_none eq laws s.2 k s.3.after) in
       let distance : reuse_distance eq used k ≡ d = since ∙ sym behind ∙ sym p.count in
       let removed : remove_key (eq k) (p.front ++ p.key ∷ p.back) ≡ p.front ++ p.back
-      = remove_key-right eq laws k p.front (p.key ∷ p.back) (none_from_is_member eq laws p.front k p.none_before)
+      = remove_key-right eq laws k p.front (p.key ∷ p.back)
+      (none_from_is_member eq laws p.front k p.none_before)
       ∙ ap (λ b. p.front ++ cond b p.back (p.key ∷ remove_key (eq k) p.back)) p.equal in
       let others = subst (λ zs. Alike zs (remove_key (eq k) (unique_keys eq used))) removed
       (zip_remove k (p.front ++ p.key ∷ p.back) (unique_keys eq used) split) in (
@@ -244,7 +253,8 @@ module _ {K : Type 0} (eq : K → K → Bool) (laws : IsEquivalence eq) where
               (laws.symm p.key k ∙ p.equal));
           misses = λ c.
               let a = cache_misses-push eq c used k in
-              let b : missed eq c used k ≡ unless_below d c = missed_by c used k true d used_before distance in
+              let b : missed eq c used k ≡ unless_below d c =
+              missed_by c used k true d used_before distance in
               let e = h.misses c in
               let f = ap length p.moved in
               let f2 = length-append (p.front ++ p.back) (p.key ∷ []) in
@@ -253,7 +263,8 @@ module _ {K : Type 0} (eq : K → K → Bool) (laws : IsEquivalence eq) where
               let g2 = length-append p.front (p.key ∷ p.back) in
               let i = ap (λ zs. sum (drop c zs)) n in
               let q = p.count in
-              let j : sum (drop c (set old.reuses d (get_or old.reuses d 0 + 1))) ≡ sum (drop c old.reuses) + unless_below d c
+              let j : sum (drop c (set old.reuses d (get_or old.reuses d 0 + 1)))
+              ≡ sum (drop c old.reuses) + unless_below d c
               = sum-drop-more c d old.reuses (omega arith) in
               omega arith;
         },

@@ -1,6 +1,8 @@
 -- Keys at rising places: what a use of one finds, and new places for all.
-use Rattle.std.proofs.Common.{◌≡◌, ℕ, suc, ◌+◌, ◌-◌, ◌≤◌, ◌<◌, ◌^◌, Bool, true, false, cond, List, [], ◌∷◌, ◌++◌}
-use Rattle.std.proofs.Common.{length, Option, None, Some, Ok, Err, refl, sym, ap, ap₂, ◌∙◌, subst, arith, append_assoc}
+use Rattle.std.proofs.Common.{◌≡◌, ℕ, suc, ◌+◌, ◌-◌, ◌≤◌, ◌<◌, ◌^◌, Bool, true, false, cond, List, [], ◌∷◌}
+use Rattle.std.proofs.Common.{◌++◌}
+use Rattle.std.proofs.Common.{length, Option, None, Some, Ok, Err, refl, sym, ap, ap₂, ◌∙◌, subst, arith}
+use Rattle.std.proofs.Common.{append_assoc}
 use Rattle.std.proofs.Common.{length-append, get_or, subst₂, ◌||◌}
 use Rattle.std.specs.Prelude.{nat_eq, nat_lt}
 use Rattle.std.specs.Cmp.{IsEquivalence}
@@ -26,7 +28,8 @@ use Rattle.hashlink_curve.proofs.Sums.{count_by-cons}
 module _ {K : Type 0} where
   -- ---- rising places
 
-  rises_first : (low : ℕ) (xs : List (K × ℕ)) (e : K × ℕ) (ys : List (K × ℕ)) (next : ℕ) → Rises low (xs ++ e ∷ ys) next
+  rises_first : (low : ℕ) (xs : List (K × ℕ)) (e : K × ℕ) (ys : List (K × ℕ)) (next : ℕ)
+      → Rises low (xs ++ e ∷ ys) next
       → low ≤ e.1
   rises_first low [] e ys next r = r.0
   rises_first low (x ∷ xs) e ys next r =
@@ -41,7 +44,8 @@ module _ {K : Type 0} where
       let b = rises_ends (x.1 + 1) es next r.1 in
       omega arith
 
-  rises_lower : (low high : ℕ) (es : List (K × ℕ)) (next : ℕ) → low ≤ high → Rises high es next → Rises low es next
+  rises_lower : (low high : ℕ) (es : List (K × ℕ)) (next : ℕ) → low ≤ high → Rises high es next
+      → Rises low es next
   rises_lower low high [] next l r = omega arith
   rises_lower low high (x ∷ es) next l r = let a = r.0 in (omega arith, r.1)
 
@@ -127,7 +131,8 @@ module _ {K : Type 0} (eq : K → K → Bool) (laws : IsEquivalence eq) where
   found es tree next k place p l =
       let s = stands_from_lookup (eq k) es place l in
       let at : s.1.1 ≡ place
-      = same_Some s.1.1 place (sym (lookup-here (eq k) s.1 s.2 s.3.passes s.0 s.3.before) ∙ ap (lookup (eq k)) (sym s.3.is) ∙ l)
+      = same_Some s.1.1 place (sym (lookup-here (eq k) s.1 s.2 s.3.passes s.0 s.3.before) ∙ ap
+      (lookup (eq k)) (sym s.3.is) ∙ l)
       in
       let is : es ≡ s.0 ++ (s.1.0, place) ∷ s.2 = s.3.is ∙ ap (λ n. s.0 ++ (s.1.0, n) ∷ s.2) at in
       let e : K × ℕ = (s.1.0, place) in
@@ -148,9 +153,11 @@ module _ {K : Type 0} (eq : K → K → Bool) (laws : IsEquivalence eq) where
         is = is;
         equal = s.3.passes;
         none = s.3.before;
-        none_after = none_equal eq laws s.1.0 k s.2 (laws.symm s.1.0 k ∙ s.3.passes) (none_right (eq s.1.0) s.0 s.2 others);
+        none_after = none_equal eq laws s.1.0 k s.2 (laws.symm s.1.0 k ∙ s.3.passes)
+            (none_right (eq s.1.0) s.0 s.2 others);
         below = below;
-        before = ap (λ zs. count_by (λ p. nat_lt p place) (values_of zs)) is ∙ count_before 0 s.0 e s.2 next r;
+        before = ap (λ zs. count_by (λ p. nat_lt p place) (values_of zs)) is
+            ∙ count_before 0 s.0 e s.2 next r;
         values = values;
         marked = omega arith;
       }
@@ -160,12 +167,14 @@ module _ {K : Type 0} (eq : K → K → Bool) (laws : IsEquivalence eq) where
 
   -- after it the key is the last, at the next place
   pub found_moves : (es new : List (K × ℕ)) (tree : Tree) (next : ℕ) (k : K) (place others : ℕ)
-      → (f : Found es tree next k place) → new ≡ put eq es k next (length es) → others ≡ length es - 1 - length f.front
+      → (f : Found es tree next k place) → new ≡ put eq es k next (length es) → others
+      ≡ length es - 1 - length f.front
       → MovesPast eq (keys_of es) (keys_of new) k others
   found_moves es new tree next k place others f n o =
       let e : K × ℕ = (f.key, place) in
       let there : new ≡ (f.front ++ f.back) ++ (f.key, next) ∷ []
-      = n ∙ ap (λ zs. put eq zs k next (length zs)) f.is ∙ put_back_here eq f.front e f.back k next f.equal f.none in
+      = n ∙ ap (λ zs. put eq zs k next (length zs)) f.is
+      ∙ put_back_here eq f.front e f.back k next f.equal f.none in
       let a = ap length f.is in
       let d = length-append f.front (e ∷ f.back) in
       let m = length-map f.back (λ e. e.0) in
@@ -182,7 +191,8 @@ module _ {K : Type 0} (eq : K → K → Bool) (laws : IsEquivalence eq) where
         count = omega arith;
       }
 
-  pub found_placed : (es new : List (K × ℕ)) (tree after : Tree) (next : ℕ) (k : K) (place : ℕ) → IsPlaced eq es tree next
+  pub found_placed : (es new : List (K × ℕ)) (tree after : Tree) (next : ℕ) (k : K) (place : ℕ)
+      → IsPlaced eq es tree next
       → (f : Found es tree next k place) → new ≡ put eq es k next (length es) → IsEntries eq new
       → Marked after ((values_of f.front ++ values_of f.back) ++ next ∷ [])
       → next < after.width
@@ -190,7 +200,8 @@ module _ {K : Type 0} (eq : K → K → Bool) (laws : IsEquivalence eq) where
   found_placed es new tree after next k place p f n d m w =
       let e : K × ℕ = (f.key, place) in
       let there : new ≡ (f.front ++ f.back) ++ (f.key, next) ∷ []
-      = n ∙ ap (λ zs. put eq zs k next (length zs)) f.is ∙ put_back_here eq f.front e f.back k next f.equal f.none in
+      = n ∙ ap (λ zs. put eq zs k next (length zs)) f.is
+      ∙ put_back_here eq f.front e f.back k next f.equal f.none in
       let r = rises_middle 0 f.front e f.back next (subst (λ zs. Rises 0 zs next) f.is p.rises) in
       let few = p.few in
       let a = ap length f.is in
@@ -200,7 +211,8 @@ module _ {K : Type 0} (eq : K → K → Bool) (laws : IsEquivalence eq) where
       let b3 = length-append f.front f.back in
       record {
         distinct = d;
-        rises = subst (λ zs. Rises 0 zs (next + 1)) (sym there) (rises_push 0 (f.front ++ f.back) f.key next r);
+        rises = subst (λ zs. Rises 0 zs (next + 1)) (sym there)
+            (rises_push 0 (f.front ++ f.back) f.key next r);
         marked = subst (Marked after)
             (ap (λ zs. zs ++ next ∷ []) (sym (map-append (λ e. e.1) f.front f.back))
             ∙ sym (map-append (λ e. e.1) (f.front ++ f.back) ((f.key, next) ∷ [])) ∙ ap values_of (sym there))
@@ -218,7 +230,8 @@ module _ {K : Type 0} (eq : K → K → Bool) (laws : IsEquivalence eq) where
         last = ap keys_of (n ∙ put_back_absent eq es k next none) ∙ keys_of-append es ((k, next) ∷ []);
       }
 
-  pub absent_placed : (es new : List (K × ℕ)) (tree after : Tree) (k : K) (next : ℕ) → IsPlaced eq es tree next
+  pub absent_placed : (es new : List (K × ℕ)) (tree after : Tree) (k : K) (next : ℕ)
+      → IsPlaced eq es tree next
       → lookup (eq k) es ≡ None → new ≡ put eq es k next (length es) → IsEntries eq new → length es < 2 ^ 63
       → Marked after (values_of es ++ next ∷ []) → next < after.width
       → IsPlaced eq new after (next + 1)
@@ -272,7 +285,8 @@ module _ {K : Type 0} where
     pub marked : Marked tree (values_of (numbered 0 done))
     pub distinct : IsEntries eq es
 
-  pub Renumbers-start : (eq : K → K → Bool) (old : List (K × ℕ)) (tree : Tree) → Marked tree [] → IsEntries eq old
+  pub Renumbers-start : (eq : K → K → Bool) (old : List (K × ℕ)) (tree : Tree)
+      → Marked tree [] → IsEntries eq old
       → Renumbers eq old old tree 0
   Renumbers-start eq old tree m d =
       record {
@@ -310,7 +324,8 @@ module _ {K : Type 0} where
   pub Renumbers-step : {S : Type 0} (eq : K → K → Bool) (laws : IsEquivalence eq) (old : List (K × ℕ))
       (a b c : MapState K ℕ S) (tree after : Tree) (place : ℕ) (key : K) (v : ℕ) (w : Option ℕ)
       → Renumbers eq old a.entries tree place → place < length old
-      → PopsFront a b (Some (key, v)) → Inserts eq b c key place (length b.entries) (Ok w) → IsEntries eq c.entries
+      → PopsFront a b (Some (key, v)) → Inserts eq b c key place (length b.entries) (Ok w)
+      → IsEntries eq c.entries
       → ((xs ys : List ℕ) → Marked tree (xs ++ ys) → Marked after (xs ++ place ∷ ys))
       → Renumbers eq old c.entries after (place + 1)
   Renumbers-step {S} eq laws old a b c tree after place key v w r l p i d m =
@@ -326,15 +341,16 @@ module _ {K : Type 0} where
       let is : c.entries ≡ b.entries ++ (key, place) ∷ [] = by w none i in
       let count = r.count in
       let pushed : numbered 0 (r.done ++ e ∷ []) ≡ numbered 0 r.done ++ (key, place) ∷ []
-      = numbered-push 0 r.done e ∙ ap₂ (λ k n. numbered 0 r.done ++ (k, n) ∷ []) (ap (λ (q : K × ℕ). q.0) (sym same)) (omega arith)
+      = numbered-push 0 r.done e ∙ ap₂ (λ k n. numbered 0 r.done ++ (k, n) ∷ [])
+      (ap (λ (q : K × ℕ). q.0) (sym same)) (omega arith)
       in
       record {
         done = r.done ++ e ∷ [];
         left = left;
         split = r.split ∙ ap (λ zs. r.done ++ zs) s.2 ∙ sym (append_assoc r.done (e ∷ []) left);
         count = omega (arith, length-append r.done (e ∷ []));
-        is = is ∙ ap (λ zs. zs ++ (key, place) ∷ []) rest ∙ append_assoc left (numbered 0 r.done) ((key, place) ∷ [])
-            ∙ ap (λ zs. left ++ zs) (sym pushed);
+        is = is ∙ ap (λ zs. zs ++ (key, place) ∷ []) rest
+            ∙ append_assoc left (numbered 0 r.done) ((key, place) ∷ []) ∙ ap (λ zs. left ++ zs) (sym pushed);
         marked = subst (Marked after)
             (sym (map-append (λ e. e.1) (numbered 0 r.done) ((key, place) ∷ [])) ∙ ap values_of (sym pushed))
             (m (values_of (numbered 0 r.done)) [] (subst (Marked tree) (sym (append-nil _)) r.marked));
@@ -347,8 +363,8 @@ module _ {K : Type 0} where
       by (Some old) n i = absurd (none-some old (sym (lookup-none (eq key) b.entries n) ∙ i.old_value))
 
   -- the node that was freed serves the key again
-  pub Renumbers-inserts : {S : Type 0} (eq : K → K → Bool) (a b c : MapState K ℕ S) (place : ℕ) (key : K) (v : ℕ)
-      (pair : K × ℕ) → PopsFront a b (Some (key, v))
+  pub Renumbers-inserts : {S : Type 0} (eq : K → K → Bool) (a b c : MapState K ℕ S)
+      (place : ℕ) (key : K) (v : ℕ) (pair : K × ℕ) → PopsFront a b (Some (key, v))
       → Inserts eq b c key place (length b.entries) (Err pair) → ⊥
   Renumbers-inserts eq a b c place key v pair p i =
       let s = p.step.spare in
@@ -358,7 +374,8 @@ module _ {K : Type 0} where
   -- all have got one
   pub Renumbers-end : (eq : K → K → Bool) (old es : List (K × ℕ)) (tree : Tree) (place : ℕ)
       → Renumbers eq old es tree place → place ≡ length old
-      → (es ≡ numbered 0 old) × Marked tree (values_of es) × Rises 0 es (length es) × (keys_of es ≡ keys_of old)
+      → (es ≡ numbered 0 old) × Marked tree (values_of es) × Rises 0 es (length es)
+      × (keys_of es ≡ keys_of old)
       × (length es ≡ length old)
   Renumbers-end eq old es tree place r e =
       let a = ap length r.split in

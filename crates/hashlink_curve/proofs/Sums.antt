@@ -148,7 +148,8 @@ sum_before-counts tree t height full places m (suc x) l =
     let before : sum_before height tree.sums (tree.width + x) ≡ count_by (λ p. nat_lt p x) places
     = sum_before-counts tree t height full places m x (omega arith) in
     let at = m.each x (omega arith) in
-    let step = sum_before-next tree.sums tree.width t height (tree.width + x) (omega arith) (omega arith) (omega arith)
+    let step = sum_before-next tree.sums tree.width t height (tree.width + x) (omega arith)
+    (omega arith) (omega arith)
     in
     let next : tree.width + suc x ≡ tree.width + x + 1 = omega arith in
     let moved = ap (sum_before height tree.sums) next in
@@ -180,7 +181,8 @@ Counts-start sums width place t l =
       sum = omega arith;
     }
 
-even_by : (sums : List ℕ) (width place count node height level : ℕ) → width ≡ 2 ^ height → 1 < node → node % 2 ≡ 0
+even_by : (sums : List ℕ) (width place count node height level : ℕ) → width ≡ 2 ^ height
+    → 1 < node → node % 2 ≡ 0
     → 2 ^ level ≤ node → node < 2 * 2 ^ level → 2 ^ level ≤ width
     → count + sum_before level sums node ≡ sum_before height sums (width + place)
     → Counts sums width place count (node / 2)
@@ -198,7 +200,8 @@ even_by sums width place count node height (suc level) f l e low high inside s =
       sum = omega arith;
     }
 
-odd_by : (sums : List ℕ) (width place count node height level : ℕ) → width ≡ 2 ^ height → 1 < node → node % 2 ≡ 1
+odd_by : (sums : List ℕ) (width place count node height level : ℕ) → width ≡ 2 ^ height
+    → 1 < node → node % 2 ≡ 1
     → 2 ^ level ≤ node → node < 2 * 2 ^ level → 2 ^ level ≤ width
     → count + sum_before level sums node ≡ sum_before height sums (width + place)
     → Counts sums width place (count + get_or sums (node - 1) 0) (node / 2)
@@ -235,7 +238,8 @@ Counts-bound sums width place count node t b k l e =
     let n : width ≡ 2 ^ k.height = k.full in
     let n2 : width ≡ 2 ^ next.height = next.full in
     let s = next.sum in
-    let r = sum_before-bound sums width t next.height (width + place) (omega arith) (omega arith) (omega arith) in
+    let r = sum_before-bound sums width t next.height (width + place) (omega arith)
+    (omega arith) (omega arith) in
     omega arith
 
 end_by : (sums : List ℕ) (node level : ℕ) → node ≤ 1 → 2 ^ level ≤ node → sum_before level sums node ≡ 0

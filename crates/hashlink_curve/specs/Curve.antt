@@ -1,5 +1,6 @@
 -- What a curve of misses has counted of a history.
-use Rattle.std.specs.Prelude.{◌≡◌, ℕ, ◌+◌, ◌^◌, ◌<◌, ◌≤◌, Bool, true, nat_eq, List, [], ◌∷◌, length, drop, sum}
+use Rattle.std.specs.Prelude.{◌≡◌, ℕ, ◌+◌, ◌^◌, ◌<◌, ◌≤◌, Bool, true, nat_eq, List, [], ◌∷◌, length, drop}
+use Rattle.std.specs.Prelude.{sum}
 use Rattle.std.specs.Prelude.{Option, None, Some, if◌then◌else◌}
 use Rattle.std.specs.List.{AllZip}
 use Rattle.std.specs.Set.{is_member, unique_keys}
@@ -14,8 +15,8 @@ pub record CurveState (K : Type 0) : Type 0 where
 abbrev pub misses_at : {K : Type 0} → CurveState K → ℕ → ℕ
 misses_at s c = length s.keys + sum (drop c s.reuses)
 
--- from the capacity c on, at which capacities the misses fall, with the misses there, where `cold` are never hits and
--- the list has the uses at each distance from c on
+-- from the capacity c on, at which capacities the misses fall, with the misses there, where `cold` are never
+-- hits and the list has the uses at each distance from c on
 abbrev pub falls_from : ℕ → ℕ → List ℕ → List (ℕ × ℕ)
 falls_from cold c [] = []
 falls_from cold c (n ∷ ns) =
@@ -31,8 +32,8 @@ module _ {K : Type 0} (eq : K → K → Bool) where
     pub keys : AllZip (λ a b. eq a b ≡ true) s.keys (unique_keys eq used)
     pub misses : (c : ℕ) → misses_at s c ≡ cache_misses eq c used
 
--- what the parts of a curve say of each other: a place for each distance that there may be, and how many uses there
--- were
+-- what the parts of a curve say of each other: a place for each distance that there may be, and how many uses
+-- there were
 pub record IsTallied {K : Type 0} (keys : List K) (reuses : List ℕ) (accesses : ℕ) : Type 0 where
   pub distances : length reuses ≡ length keys
   pub all : accesses ≡ length keys + sum reuses

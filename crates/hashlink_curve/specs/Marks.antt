@@ -2,8 +2,8 @@
 use Rattle.std.specs.Prelude.{◌≡◌, ℕ, ◌+◌, ◌*◌, ◌^◌, ◌<◌, ◌≤◌, List, length, nat_eq, slice_index}
 use Rattle.std.specs.List.{count_by}
 
--- the sums at the nodes, and the number of leaves: the root is the node 1, the children of a node j are 2 * j and
--- 2 * j + 1, and the leaf of a place x is the node width + x
+-- the sums at the nodes, and the number of leaves: the root is the node 1, the children of a node j are 2 * j
+-- and 2 * j + 1, and the leaf of a place x is the node width + x
 pub record Tree : Type 0 where
   pub sums : List ℕ
   pub width : ℕ

@@ -1,5 +1,7 @@
--- The keys of a history, each once, in the order of their last uses; and each with its place in a row of marks.
-use Rattle.std.specs.Prelude.{◌≡◌, ℕ, ◌+◌, ◌^◌, ◌≤◌, Bool, true, false, List, [], ◌∷◌, ◌++◌, length, Option, None, Some}
+-- The keys of a history, each once, in the order of their last uses; and each with its place in a row of
+-- marks.
+use Rattle.std.specs.Prelude.{◌≡◌, ℕ, ◌+◌, ◌^◌, ◌≤◌, Bool, true, false, List, [], ◌∷◌, ◌++◌, length, Option}
+use Rattle.std.specs.Prelude.{None, Some}
 use Rattle.std.specs.Map.{values_of}
 use Rattle.std.specs.Set.{is_member}
 use Rattle.hashlink_model.specs.Entries.{IsEntries}
@@ -11,7 +13,8 @@ Rises low [] next = low ≤ next
 Rises low (e ∷ es) next = (low ≤ e.1) × Rises (e.1 + 1) es next
 
 -- the entries have rising places, at which the marks stand
-pub record IsPlaced {K : Type 0} (eq : K → K → Bool) (es : List (K × ℕ)) (tree : Tree) (next : ℕ) : Type 0 where
+pub record IsPlaced {K : Type 0} (eq : K → K → Bool) (es : List (K × ℕ)) (tree : Tree)
+    (next : ℕ) : Type 0 where
   pub distinct : IsEntries eq es
   pub rises : Rises 0 es next
   pub marked : Marked tree (values_of es)

@@ -1,5 +1,6 @@
 //! The curve of misses.
-ghost use Rattle.std.specs.Prelude.{◌≡◌, ◌≤◌, ◌<◌, ◌^◌, ℕ, List, [], ◌∷◌, ◌++◌, length, drop, sum, IfOk, IfErr, OnErr};
+ghost use Rattle.std.specs.Prelude.{◌≡◌, ◌≤◌, ◌<◌, ◌^◌, ℕ, List, [], ◌∷◌, ◌++◌, length, drop, sum, IfOk};
+ghost use Rattle.std.specs.Prelude.{IfErr, OnErr};
 ghost use Rattle.hashlink_model.specs.History.{cache_misses};
 ghost use Rattle.hashlink_curve.specs.Curve.{Counted, distance_of, misses_at, falls_from};
 
@@ -9,7 +10,8 @@ use std::alloc::{AllocError, Global};
 use std::hash::Hash;
 use std::marker::Model;
 
-/// How often a cache of each capacity misses, that drops what was used longest ago and is given the keys recorded.
+/// How often a cache of each capacity misses, that drops what was used longest ago and is given the keys
+/// recorded.
 ///
 /// Its memory goes with the number of distinct keys, and not with that of the keys recorded.
 #[derive(Drop)]
@@ -41,10 +43,11 @@ impl<K: Eq + Hash> MissCurve<K> {
         }
     }
 
-    /// Records a use of the key, and returns how many other keys were used since its last use, or none at its first.
+    /// Records a use of the key, and returns how many other keys were used since its last use, or none at its
+    /// first.
     ///
-    /// It takes logarithmic time on average. Where memory runs out, and after 2 to the power of 64 less 1 uses, the key
-    /// is handed back and nothing changes.
+    /// It takes logarithmic time on average. Where memory runs out, and after 2 to the power of 64 less 1
+    /// uses, the key is handed back and nothing changes.
     pub fn record(&mut self, key: K) -> Result<Option<usize>, K>
     where
         K: Drop,
@@ -72,11 +75,12 @@ impl<K: Eq + Hash> MissCurve<K> {
         }
     }
 
-    /// How many of the uses recorded a cache of this capacity misses, that is empty at first. It takes a step for each
-    /// distinct key at most.
+    /// How many of the uses recorded a cache of this capacity misses, that is empty at first. It takes a step
+    /// for each distinct key at most.
     pub fn misses(&self, capacity: usize) -> u64
         // As the cache of the model, and so as any cache whose contract names it.
-        ensures counted { (used : List K) → Counted K.eq used self.now → result ≡ cache_misses K.eq capacity used }
+        ensures counted { (used : List K) → Counted K.eq used self.now → result
+            ≡ cache_misses K.eq capacity used }
         ensures exact { result ≡ misses_at self.now capacity }
 
         // A larger capacity has no more of them, and from the number of distinct keys on it is that number.

@@ -5,8 +5,8 @@ ghost use Rattle.hashlink_curve.specs.Curve.{falls_from};
 
 use std::marker::Model;
 
-/// The capacities at which a curve falls, from the smallest on, each with the misses there. Contracts see it as the
-/// list of what it has left.
+/// The capacities at which a curve falls, from the smallest on, each with the misses there. Contracts see it
+/// as the list of what it has left.
 #[derive(Drop)]
 pub struct Falls<'a> {
     reuses: &'a [u64],

@@ -1,5 +1,6 @@
 //! Marks at places, and how many stand before a place.
-ghost use Rattle.std.specs.Prelude.{◌≡◌, ℕ, ◌+◌, ◌*◌, ◌-◌, ◌<◌, ◌≤◌, ◌^◌, List, [], ◌∷◌, ◌++◌, IfOk, nat_lt, slice_index};
+ghost use Rattle.std.specs.Prelude.{◌≡◌, ℕ, ◌+◌, ◌*◌, ◌-◌, ◌<◌, ◌≤◌, ◌^◌, List, [], ◌∷◌, ◌++◌, IfOk, nat_lt};
+ghost use Rattle.std.specs.Prelude.{slice_index};
 ghost use Rattle.std.specs.List.{count_by};
 ghost use Rattle.hashlink_curve.specs.Marks.{Marked};
 
@@ -9,7 +10,8 @@ use std::marker::Model;
 /// The greatest number of places that a tree is made for.
 const MOST_PLACES: usize = 1 << 60;
 
-/// Marks at places, in a binary tree of sums: the root is the node 1, the children of a node `j` are `2 * j` and
+/// Marks at places, in a binary tree of sums: the root is the node 1, the children of a node `j` are `2 * j`
+/// and
 /// `2 * j + 1`, and the leaves, one for each place, are the nodes from `width` on, which is a power of two.
 #[derive(Drop)]
 pub(crate) struct Marks {
@@ -65,7 +67,8 @@ impl Marks {
     /// How many marks stand before the place. It takes a step for each level of the tree.
     pub(crate) fn before(&self, place: usize) -> usize
         requires { place < self.now.width }
-        ensures { (places : List ℕ) → Marked self.now places → result ≡ count_by (λ p. nat_lt p place) places }
+        ensures { (places : List ℕ) → Marked self.now places → result ≡ count_by
+            (λ p. nat_lt p place) places }
     {
         let mut node = self.width + place;
         let mut count = 0;
@@ -97,7 +100,8 @@ impl Marks {
     pub(crate) fn unmark(&mut self, place: usize)
         requires within { place < self.old.width }
         requires marked { 0 < slice_index self.old.sums (self.old.width + place) }
-        ensures unmarked { (xs ys : List ℕ) → Marked self.old (xs ++ place ∷ ys) → Marked self.new (xs ++ ys) }
+        ensures unmarked { (xs ys : List ℕ) → Marked self.old (xs ++ place ∷ ys)
+            → Marked self.new (xs ++ ys) }
         ensures width { self.new.width ≡ self.old.width }
     {
         let mut node = self.width + place;

@@ -10,8 +10,8 @@ use std::alloc::{AllocError, Global};
 use std::hash::Hash;
 use std::marker::Model;
 
-/// Keys in the order of their last uses. Each has a place, and these rise in that order; a mark stands at the place of
-/// each, so that the marks behind a place are the keys that were used since.
+/// Keys in the order of their last uses. Each has a place, and these rise in that order; a mark stands at the
+/// place of each, so that the marks behind a place are the keys that were used since.
 #[derive(Drop)]
 pub(crate) struct Recency<K: Eq + Hash> {
     places: LinkedHashMap<K, usize>,
@@ -55,8 +55,8 @@ impl<K: Eq + Hash> Recency<K> {
 
     /// Makes the key the last, and returns how many keys were used since its last use, or none at its first.
     ///
-    /// It takes logarithmic time, but that now and then each key gets a new place. Where memory runs out, the key is
-    /// handed back and nothing changes.
+    /// It takes logarithmic time, but that now and then each key gets a new place. Where memory runs out, the
+    /// key is handed back and nothing changes.
     pub(crate) fn touch(&mut self, key: K) -> Result<Option<usize>, K>
     where
         K: Drop,
@@ -93,8 +93,8 @@ impl<K: Eq + Hash> Recency<K> {
     }
 }
 
-/// Sees to it that the place `next` is free, if need be by new places for all keys. Where memory runs out nothing
-/// changes.
+/// Sees to it that the place `next` is free, if need be by new places for all keys. Where memory runs out
+/// nothing changes.
 fn free_place<K: Eq + Hash + Drop>(
     alloc: Global,
     places: &mut LinkedHashMap<K, usize>,
@@ -117,8 +117,8 @@ fn free_place<K: Eq + Hash + Drop>(
 /// With more keys than this no tree is made, for which there could be no memory.
 const MOST_KEYS: usize = 1 << 58;
 
-/// Gives the keys the places from 0 on, in their order, and makes a tree with their marks and as many free places
-/// again. Where memory runs out nothing changes.
+/// Gives the keys the places from 0 on, in their order, and makes a tree with their marks and as many free
+/// places again. Where memory runs out nothing changes.
 fn renumber<K: Eq + Hash + Drop>(
     alloc: Global,
     places: &mut LinkedHashMap<K, usize>,

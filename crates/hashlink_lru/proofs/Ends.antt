@@ -21,7 +21,8 @@ evicted {old = old} cap same s = subst (λ m. EvictsFront old (state_of m) cap) 
 
 -- a step of the cache, and that it keeps a bound beyond the capacity
 module _ {K V S : Type 0} (test : K → Bool) (old new : CacheState K V S) where
-  pub used : (r : Option V) → CacheGetsMatch test old new r → CacheGetsMatch test old new r × StaysWithin old new
+  pub used : (r : Option V) → CacheGetsMatch test old new r → CacheGetsMatch test old new r
+      × StaysWithin old new
   used r s = (s, λ n. within-gets_match old new n test r s)
 
   pub used_and_written : (v : V) → CacheGetsMatchAndWrites test old new v

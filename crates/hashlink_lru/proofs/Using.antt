@@ -45,7 +45,8 @@ module _ {X : Type 0} where
 
 module _ {K V : Type 0} where
   written-more : (e f : K × V) (es : List (K × V)) (w : V)
-      → set_value_at (e ∷ f ∷ es) (length (e ∷ f ∷ es) - 1) w ≡ e ∷ set_value_at (f ∷ es) (length (f ∷ es) - 1) w
+      → set_value_at (e ∷ f ∷ es) (length (e ∷ f ∷ es) - 1) w
+      ≡ e ∷ set_value_at (f ∷ es) (length (f ∷ es) - 1) w
   written-more e f es w =
       let i : length (e ∷ f ∷ es) - 1 ≡ suc (length (f ∷ es) - 1) = omega arith in
       ap (λ j. set_value_at (e ∷ f ∷ es) j w) i
@@ -74,7 +75,8 @@ missed old found test (Some w) n s = absurd (none-some w (sym n))
 
 module _ {K V S : Type 0} (eq : K → K → Bool) where
   -- a miss, the map's insert of what was made, and what was dropped then
-  pub puts_new : (old found new : CacheState K V S) (between : MapState K V S) (k : K) (v : V) (w : Option V) (n : ℕ)
+  pub puts_new : (old found new : CacheState K V S) (between : MapState K V S) (k : K) (v : V)
+      (w : Option V) (n : ℕ)
       → found ≡ old → lookup (eq k) old.map.entries ≡ None → InsertsLast eq k v w found.map between
       → n ≡ max found.cap 1 → KeepsLast between new.map n → new.cap ≡ found.cap
       → PutsNewIn eq old new k v
@@ -91,8 +93,8 @@ module _ {K V S : Type 0} (eq : K → K → Bool) where
         cap = cap;
       })
 
-module _ {K V S : Type 0} (eq : K → K → Bool) (laws : IsEquivalence eq) (old mid : CacheState K V S) (k : K) (v : V)
-    (s : PutsNewIn eq old mid k v) where
+module _ {K V S : Type 0} (eq : K → K → Bool) (laws : IsEquivalence eq) (old mid : CacheState K V S)
+    (k : K) (v : V) (s : PutsNewIn eq old mid k v) where
   -- where the new pair stood before entries were dropped
   stood : length s.map.between.entries ≡ length old.map.entries + 1
   stood = ap length s.map.inserts.adds.entries ∙ s.map.inserts.adds.more
@@ -128,8 +130,8 @@ module _ {K V S : Type 0} (eq : K → K → Bool) (laws : IsEquivalence eq) (old
       record {
         map = record {
           between = with_value s.map.between j w;
-          inserts = adds-rewritten-at laws old.map s.map.between k v j (with_value s.map.between j w) w s.map.inserts
-              refl refl;
+          inserts = adds-rewritten-at laws old.map s.map.between k v j
+              (with_value s.map.between j w) w s.map.inserts refl refl;
           fits = record {
             entries =
                 ap (λ zs. set_value_at zs (length zs - 1) w) fits.entries
@@ -154,8 +156,8 @@ module _ {K V S : Type 0} (eq : K → K → Bool) (laws : IsEquivalence eq) (old
 
 -- ---- a hit
 
-module _ {K V S : Type 0} (eq : K → K → Bool) (laws : IsEquivalence eq) (old mid : CacheState K V S) (k : K) (v : V)
-    (s : CacheGets eq old mid k (Some v)) where
+module _ {K V S : Type 0} (eq : K → K → Bool) (laws : IsEquivalence eq) (old mid : CacheState K V S)
+    (k : K) (v : V) (s : CacheGets eq old mid k (Some v)) where
   abbrev hit_entry : K × V
   hit_entry = (stored_key eq old.map.entries k, v)
 
@@ -185,7 +187,8 @@ module _ {K V S : Type 0} (eq : K → K → Bool) (laws : IsEquivalence eq) (old
 
 -- ---- either
 
-pub by_miss : {K V S : Type 0} (eq : K → K → Bool) (Makes : V → Type 0) (old new : CacheState K V S) (k : K) (v : V)
+pub by_miss : {K V S : Type 0} (eq : K → K → Bool) (Makes : V → Type 0) (old new : CacheState K V S)
+    (k : K) (v : V)
     → lookup (eq k) old.map.entries ≡ None → Makes v → PutsNewIn eq old new k v
     → UsesOrPuts eq Makes old new k
 by_miss eq Makes old new k v absent made s =
@@ -223,7 +226,8 @@ module _ {K V S : Type 0} (eq : K → K → Bool) (laws : IsEquivalence eq) (Mak
   written_by : IsEntries eq old.map.entries → (w : V) (new : CacheState K V S)
       → new ≡ record mid { map = with_value mid.map (length mid.map.entries - 1) w }
       → (o : Option V) → By o
-      → MatchOption o (PutsNewIn eq old new k w) (λ _. CacheGetsAndWrites eq old new k w) × StaysWithinOne old new
+      → MatchOption o (PutsNewIn eq old new k w) (λ _. CacheGetsAndWrites eq old new k w)
+      × StaysWithinOne old new
   written_by d w new is None s =
       let p = subst (λ c. PutsNewIn eq old c k w) (sym is) (put_written eq laws old mid k s.0 s.2 w) in
       (p, put_within eq laws old new k w p)

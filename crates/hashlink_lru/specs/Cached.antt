@@ -1,7 +1,8 @@
 -- What a contract sees of a cache.
 use Rattle.std.specs.Prelude.{◌≡◌, ℕ, ◌+◌, ◌≤◌, max, Bool, List, Option, None, Some, Result, Err, MatchOption}
 use Rattle.std.specs.Map.{lookup}
-use Rattle.hashlink_model.specs.Cache.{CacheState, CacheInserts, CacheGets, CacheGetsAndWrites, IsWithin, OnMap}
+use Rattle.hashlink_model.specs.Cache.{CacheState, CacheInserts, CacheGets, CacheGetsAndWrites, IsWithin}
+use Rattle.hashlink_model.specs.Cache.{OnMap}
 use Rattle.hashlink_model.specs.Cache.{InsertsLast, InsertsThenFits}
 use Rattle.hashlink_model.specs.MapState.{empty_map}
 use Rattle.hashlink_core.specs.Keyed.{Keyed, entries_of, state_of}
@@ -28,7 +29,8 @@ abbrev pub StaysWithinOne : {K V S : Type 0} → CacheState K V S → CacheState
 StaysWithinOne old new = (n : ℕ) → 1 ≤ old.cap + n → IsWithin old n → IsWithin new n
 
 module _ {K V S : Type 0} (eq : K → K → Bool) where
-  -- the insert of an absent key whose value is lent: the last `cap` entries stay, and of a capacity 0 the new one
+  -- the insert of an absent key whose value is lent: the last `cap` entries stay, and of a capacity 0 the new
+  -- one
   abbrev pub PutsNewIn : CacheState K V S → CacheState K V S → K → V → Type 0
   PutsNewIn old new k v = OnMap (λ a b. InsertsThenFits (InsertsLast eq k v None) (max old.cap 1) a b) old new
 
@@ -38,13 +40,17 @@ module _ {K V S : Type 0} (eq : K → K → Bool) where
       MatchOption (lookup (eq k) old.map.entries) ((v : V) × Makes v × PutsNewIn old new k v)
       (λ w. CacheGets eq old new k (Some w))
 
-  -- the same once w was written through what was lent: a hit of `get_mut`, or the insert of an absent key with w
+  -- the same once w was written through what was lent: a hit of `get_mut`, or the insert of an absent key
+  -- with w
   abbrev pub UsesAndWrites : CacheState K V S → CacheState K V S → K → V → Type 0
   UsesAndWrites old new k w =
-      MatchOption (lookup (eq k) old.map.entries) (PutsNewIn old new k w) (λ _. CacheGetsAndWrites eq old new k w)
+      MatchOption (lookup (eq k) old.map.entries) (PutsNewIn old new k w)
+      (λ _. CacheGetsAndWrites eq old new k w)
 
-  -- a use whose value was not made changed nothing, and one that was refused memory is an insert that was refused
-  abbrev pub FailsToUse : {E : Type 0} → CacheState K V S → CacheState K V S → K → TryInsertError K V E → Type 0
+  -- a use whose value was not made changed nothing, and one that was refused memory is an insert that was
+  -- refused
+  abbrev pub FailsToUse : {E : Type 0} → CacheState K V S → CacheState K V S → K
+      → TryInsertError K V E → Type 0
   FailsToUse old new k (Make q e) = new ≡ old
   FailsToUse old new k (Memory pair) = CacheInserts eq old new k pair.1 (Err pair)
 

@@ -12,7 +12,8 @@ use Rattle.hashlink_map.specs.Lends.{map_row}
 use Rattle.hashlink_map.specs.declared.try_insert_error.TryInsertError.{TryInsertError}
 use Rattle.hashlink_lru.specs.contracts.cache.LruCache.{the_row}
 use Rattle.hashlink_lru.specs.declared.cache.LruCache.{LruCache}
-use Rattle.hashlink_lru.specs.Cached.{state_in, with_map, StaysWithin, StaysWithinOne, UsesAndWrites, FailsToUse}
+use Rattle.hashlink_lru.specs.Cached.{state_in, with_map, StaysWithin, StaysWithinOne, UsesAndWrites}
+use Rattle.hashlink_lru.specs.Cached.{FailsToUse}
 
 module _ (K V S T : RattleType) (g : HashMembers K.Denot) (b : builder.Ghosts S.Denot T.Denot)
     (w : hasher.Ghosts T.Denot) where
@@ -28,8 +29,9 @@ module _ (K V S T : RattleType) (g : HashMembers K.Denot) (b : builder.Ghosts S.
     abbrev pub LendsMap : MutBor (Keyed K.Denot V.Denot S.Denot) → Fml
     LendsMap m = Lends cache_row (map_row K V S T g b w) c m (with_map c.now)
 
-    -- the value of a key that is used or put is lent: the cache ends with what was written there, or as the refusal of
-    -- the pair leaves it. No more entries are beyond the capacity than before, except that one stays at capacity 0
+    -- the value of a key that is used or put is lent: the cache ends with what was written there, or as the
+    -- refusal of the pair leaves it. No more entries are beyond the capacity than before, except that one
+    -- stays at capacity 0
     abbrev pub LendsUsedOrNew : K.Denot → Result (MutBor V.Denot) (K.Denot × V.Denot) → Fml
     LendsUsedOrNew k r =
         LendsSoOk cache_row V c r
@@ -48,8 +50,8 @@ module _ (K V S T : RattleType) (g : HashMembers K.Denot) (b : builder.Ghosts S.
         (λ new. IfErr r (FailsToUse g.eq (state_in c.now) (state_in new) k))
 
     module _ (test : K.Denot → Bool) where
-      -- the value of the first key that passes is lent where it stands: the cache ends with what was written there,
-      -- and where none passes as it was. No more entries are beyond the capacity than before
+      -- the value of the first key that passes is lent where it stands: the cache ends with what was written
+      -- there, and where none passes as it was. No more entries are beyond the capacity than before
       abbrev pub LendsValueIn : Option (MutBor V.Denot) → Fml
       LendsValueIn r =
           LendsSo cache_row V c r
@@ -58,8 +60,8 @@ module _ (K V S T : RattleType) (g : HashMembers K.Denot) (b : builder.Ghosts S.
           × StaysWithin (state_in c.now) (state_in new)))
           (λ new. state_in new ≡ state_in c.now)
 
-      -- it moved last, and its value is lent: the cache ends with what was written there, and where none passes as it
-      -- was. No more entries are beyond the capacity than before
+      -- it moved last, and its value is lent: the cache ends with what was written there, and where none
+      -- passes as it was. No more entries are beyond the capacity than before
       abbrev pub LendsUsed : Option (MutBor V.Denot) → Fml
       LendsUsed r =
           LendsSo cache_row V c r
@@ -68,9 +70,10 @@ module _ (K V S T : RattleType) (g : HashMembers K.Denot) (b : builder.Ghosts S.
           × StaysWithin (state_in c.now) (state_in new)))
           (λ new. state_in new ≡ state_in c.now)
 
-      -- it moved last, where one passes, with the value that stands, and no more entries are beyond the capacity than
-      -- before
+      -- it moved last, where one passes, with the value that stands, and no more entries are beyond the
+      -- capacity than before
       abbrev pub EndsUsed : Option V.Denot → Fml
       EndsUsed r =
           follows_so cache_row cache_row c.ghost_name none (λ _ _. ⊤)
-          (λ new. CacheGetsMatch test (state_in c.now) (state_in new) r × StaysWithin (state_in c.now) (state_in new))
+          (λ new. CacheGetsMatch test (state_in c.now) (state_in new) r × StaysWithin
+          (state_in c.now) (state_in new))

@@ -1,5 +1,5 @@
-//! The cache: a map and a capacity. A clause sees it as the map's state and the capacity; the front of the map is the
-//! entry that was used longest ago.
+//! The cache: a map and a capacity. A clause sees it as the map's state and the capacity; the front of the
+//! map is the entry that was used longest ago.
 ghost use Rattle.std.specs.Prelude.{◌≡◌, ◌-◌, ◌^◌, ◌<◌, ◌↔◌, length, IsTrue};
 ghost use Rattle.hashlink_model.specs.Entries.{IsEntries};
 ghost use Rattle.hashlink_lru.specs.Cached.{empty_cache};
@@ -16,8 +16,8 @@ use hashlink_map::{DefaultHashBuilder, LinkedHashMap};
 use std::alloc::Global;
 use std::hash::{BuildHasher, Hash};
 
-/// A hash map that holds up to a given number of entries, its capacity. Its order is that of their last uses, and what
-/// it drops for a new entry is the front, which was used longest ago.
+/// A hash map that holds up to a given number of entries, its capacity. Its order is that of their last uses,
+/// and what it drops for a new entry is the front, which was used longest ago.
 #[derive(Drop)]
 pub struct LruCache<K: Eq + Hash, V, S: BuildHasher = DefaultHashBuilder> {
     map: LinkedHashMap<K, V, S>,

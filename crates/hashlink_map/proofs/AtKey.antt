@@ -12,7 +12,8 @@ use Rattle.hashlink_model.proofs.ByPlace.{moved_at-here, moved_at-put}
 use Rattle.hashlink_model.proofs.Places.{split_at}
 use Rattle.hashlink_core.proofs.Edits.{place_left-past}
 use Rattle.hashlink_map.proofs.AtNode.{some_from_part}
-use Rattle.hashlink_map.proofs.Steps.{lookup-place, lookup_entry-unplaced, writes_key, removes_match, with_value-key}
+use Rattle.hashlink_map.proofs.Steps.{lookup-place, lookup_entry-unplaced, writes_key, removes_match}
+use Rattle.hashlink_map.proofs.Steps.{with_value-key}
 use Rattle.hashlink_map.proofs.Steps.{none_passes_from_place}
 
 -- an entry that is moved to its own place stays
@@ -63,7 +64,8 @@ module _ {K V S : Type 0} (eq : K → K → Bool) (old new : MapState K V S) (k 
   pub inserted-key : (v w : V) → InsertsValue old new j v w → PutsEntry eq old new k v (length old.entries) w
   inserted-key v w s = record {
     old_value = lookup-place (eq k) old.entries j p ∙ s.answer;
-    puts = subst (λ es. Changes old new es 6) (moved_at-put eq old.entries k j p v (length old.entries)) s.step;
+    puts = subst (λ es. Changes old new es 6)
+        (moved_at-put eq old.entries k j p v (length old.entries)) s.step;
   }
 
   pub replaced-key : (v w : V) → ReplacesValue old new j v w → WritesEntry eq old new k v w
@@ -80,7 +82,8 @@ set_value-none : {K V : Type 0} (test : K → Bool) (es : List (K × V)) (w : V)
 set_value-none test [] w h = refl
 set_value-none test (e ∷ es) w h = rw h.0 (ap (λ r. e ∷ r) (set_value-none test es w h.1))
 
-module _ {K V S : Type 0} (eq : K → K → Bool) (m : MapState K V S) (k : K) (p : place_of (eq k) m.entries ≡ None) where
+module _ {K V S : Type 0} (eq : K → K → Bool) (m : MapState K V S) (k : K)
+    (p : place_of (eq k) m.entries ≡ None) where
   pub absent-taken : RemovesKey eq m m k None
   absent-taken = record { answer = sym (lookup_entry-unplaced (eq k) m.entries p); step = refl }
 

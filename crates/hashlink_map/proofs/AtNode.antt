@@ -8,7 +8,8 @@ use Rattle.std.specs.Cmp.{IsEquivalence}
 use Rattle.std.specs.Map.{lookup}
 use Rattle.std.proofs.lemmas.Option.{slice_get-map}
 use Rattle.std.proofs.lemmas.Map.Entries.{length-values_of}
-use Rattle.hashlink_model.specs.Entries.{place_of, place_left, moved_at, put, stored_key, set_value_at, set_key_at}
+use Rattle.hashlink_model.specs.Entries.{place_of, place_left, moved_at, put, stored_key, set_value_at}
+use Rattle.hashlink_model.specs.Entries.{set_key_at}
 use Rattle.hashlink_model.specs.MapState.{MapState, Changes, AddsEntry, PutsEntry, RefusesEntry, SetsKeyAt}
 use Rattle.hashlink_model.specs.MapState.{MovesAt, RoomFor}
 use Rattle.hashlink_model.specs.MapState.{with_value}
@@ -72,20 +73,24 @@ module _ {K V S : Type 0} {eq : K → K → Bool} (laws : IsEquivalence eq) wher
 
     module _ (inside : Keyed K V S) (view : inside ≡ old) where
       -- to the end, and to the front
-      pub stays-last : new.nodes ≡ moved_at inside.nodes (place_number inside.nodes (Some n)) (length inside.nodes)
+      pub stays-last : new.nodes ≡ moved_at inside.nodes (place_number inside.nodes (Some n))
+          (length inside.nodes)
           → StaysHeld eq old new n (length (entries_of old) - 1)
       stays-last is =
           let below = stood.1.within in
           subst (StaysHeld eq old new n) (ap (λ l. l - 1) (sym (length-values_of old.nodes)))
           (moved-to (length old.nodes) (length old.nodes - 1)
-          (place_left-before (place_number old.nodes (Some n)) (length old.nodes) below) (omega (arith, below))
-          (subst (λ m. new.nodes ≡ moved_at m.nodes (place_number m.nodes (Some n)) (length m.nodes)) view is))
+          (place_left-before (place_number old.nodes (Some n)) (length old.nodes) below)
+          (omega (arith, below))
+          (subst (λ m. new.nodes ≡ moved_at m.nodes (place_number m.nodes (Some n)) (length m.nodes))
+          view is))
 
       pub stays-first : new.nodes ≡ moved_at inside.nodes (place_number inside.nodes (Some n)) 0
           → StaysHeld eq old new n 0
       stays-first is =
           let below = stood.1.within in
-          moved-to 0 0 (place_left-past (place_number old.nodes (Some n)) 0 (omega arith)) (omega (arith, below))
+          moved-to 0 0 (place_left-past (place_number old.nodes (Some n)) 0 (omega arith))
+          (omega (arith, below))
           (subst (λ m. new.nodes ≡ moved_at m.nodes (place_number m.nodes (Some n)) 0) view is)
 
       -- with its pair renewed
@@ -107,7 +112,8 @@ module _ {K V S : Type 0} {eq : K → K → Bool} (laws : IsEquivalence eq) wher
         → eq k key ≡ true
     unfolding stood
     same-keys key h k t =
-        laws.symm k key ∙ laws.congr key stood.0.0 k (equals-stored eq old n key held h) ∙ laws.symm stood.0.0 k ∙ t
+        laws.symm k key ∙ laws.congr key stood.0.0 k (equals-stored eq old n key held h)
+        ∙ laws.symm stood.0.0 k ∙ t
 
 -- ---- steps in a row
 
@@ -122,9 +128,11 @@ module _ {K V S : Type 0} (old mid new : MapState K V S) (es : List (K × V)) (s
       (ap (λ zs. moved_at zs i b) s.entries ∙ ap (λ x. moved_at es x b) here ∙ ap (moved_at es j) there)
       (changes_twice old mid new es (moved_at mid.entries i b) 0 6 s t)
 
-  pub then_sets_key : (j i : ℕ) (k : K) → i ≡ j → SetsKeyAt mid new i k → Changes old new (set_key_at es j k) 0
+  pub then_sets_key : (j i : ℕ) (k : K) → i ≡ j → SetsKeyAt mid new i k
+      → Changes old new (set_key_at es j k) 0
   then_sets_key j i k here t =
-      subst (λ zs. Changes old new zs 0) (ap (λ zs. set_key_at zs i k) s.entries ∙ ap (λ x. set_key_at es x k) here)
+      subst (λ zs. Changes old new zs 0) (ap (λ zs. set_key_at zs i k) s.entries ∙ ap
+      (λ x. set_key_at es x k) here)
       (changes_twice old mid new es (set_key_at mid.entries i k) 0 0 s t)
 
 module _ {K V : Type 0} where
@@ -135,7 +143,8 @@ module _ {K V : Type 0} where
   key-set_value_at (e ∷ es) (suc j) zero v = refl
   key-set_value_at (e ∷ es) (suc j) (suc i) v = key-set_value_at es j i v
 
-  pub length-replaced : (es : List (K × V)) (j : ℕ) (k : K) (v : V) → length (replace_entry es j k v) ≡ length es
+  pub length-replaced : (es : List (K × V)) (j : ℕ) (k : K) (v : V)
+      → length (replace_entry es j k v) ≡ length es
   length-replaced [] j k v = refl
   length-replaced (e ∷ es) zero k v = refl
   length-replaced (e ∷ es) (suc j) k v = ap suc (length-replaced es j k v)
@@ -147,19 +156,21 @@ module _ {K V : Type 0} where
   both_parts (Some e) k v p q =
       let first : e.0 ≡ k = cc in let second : e.1 ≡ v = cc in ap₂ (λ x y. Some (x, y)) first second
 
-  pub some_from_part : (o : Option (K × V)) (v : V) → option_map (λ e. e.1) o ≡ Some v → (e : K × V) × (o ≡ Some e)
+  pub some_from_part : (o : Option (K × V)) (v : V) → option_map (λ e. e.1) o ≡ Some v
+      → (e : K × V) × (o ≡ Some e)
   some_from_part None v p = absurd (cc)
   some_from_part (Some e) v p = (e, refl)
 
   -- a key and a value at a place are the pair there
-  pub pair_from_parts : (es : List (K × V)) (j : ℕ) (k : K) (v : V) → key_at es j ≡ Some k → value_at es j ≡ Some v
+  pub pair_from_parts : (es : List (K × V)) (j : ℕ) (k : K) (v : V) → key_at es j ≡ Some k
+      → value_at es j ≡ Some v
       → slice_get es j ≡ Some (k, v)
   pair_from_parts es j k v = both_parts (slice_get es j) k v
 
 -- ---- a pair that goes last
 
-module _ {K V S : Type 0} {eq : K → K → Bool} (laws : IsEquivalence eq) (old new : Keyed K V S) (k : K) (v : V)
-    (absent : place_of (eq k) (entries_of old) ≡ None) where
+module _ {K V S : Type 0} {eq : K → K → Bool} (laws : IsEquivalence eq)
+    (old new : Keyed K V S) (k : K) (v : V) (absent : place_of (eq k) (entries_of old) ≡ None) where
   pub pushes-at : (b : ℕ) (r : Result Node (K × V)) → IfOk r (λ n. AddsNode old new b n k v)
       → IfErr r (λ p. p ≡ (k, v)) → OnErr r (GrowsRoom 1 old new)
       → OnErr r (old.spare ≡ 0)
@@ -194,11 +205,13 @@ module _ {K V S : Type 0} {eq : K → K → Bool} (laws : IsEquivalence eq) (old
     pub pushed-place : (r : Result Node (K × V)) → IfOk r (λ n. AddsNode old new (length old.nodes) n k v)
         → IfOk r (λ n. place_number new.nodes (Some n) ≡ length (entries_of old))
     pushed-place (Ok n) added =
-        number-at laws new sound n (length old.nodes) (k, v) (stands_last n added) ∙ sym (length-values_of old.nodes)
+        number-at laws new sound n (length old.nodes) (k, v) (stands_last n added)
+        ∙ sym (length-values_of old.nodes)
     pushed-place (Err p) added = tt
 
 -- what was written as the value of a pair that went last
-module _ {K V S : Type 0} {eq : K → K → Bool} (laws : IsEquivalence eq) (old mid : MapState K V S) (k : K) (v : V) where
+module _ {K V S : Type 0} {eq : K → K → Bool} (laws : IsEquivalence eq) (old mid : MapState K V S)
+    (k : K) (v : V) where
   last-written : (es : List (K × V)) (w : V)
       → set_value_at (insert es (length es) (k, v)) (length es) w ≡ insert es (length es) (k, w)
   last-written [] w = refl
@@ -212,7 +225,8 @@ module _ {K V S : Type 0} {eq : K → K → Bool} (laws : IsEquivalence eq) (old
       → put eq old.entries k u (length old.entries) ≡ insert old.entries (length old.entries) (k, u)
       = λ u. put-absent eq old.entries k u (length old.entries) none in
       let is : set_value_at mid.entries (length old.entries) w ≡ put eq old.entries k w (length old.entries) =
-      ap (λ es. set_value_at es (length old.entries) w) (s.adds.entries ∙ at_end v) ∙ last-written old.entries w
+      ap (λ es. set_value_at es (length old.entries) w) (s.adds.entries ∙ at_end v)
+      ∙ last-written old.entries w
       ∙ sym (at_end w) in
       let long : length (put eq old.entries k w (length old.entries))
       ≡ length (put eq old.entries k v (length old.entries))
@@ -233,15 +247,16 @@ module _ {K V S : Type 0} {eq : K → K → Bool} (laws : IsEquivalence eq) (old
         };
       }
 
-  pub adds-rewritten-at : (j : ℕ) (new : MapState K V S) (w : V) → AddsEntry eq old mid k v (length old.entries)
+  pub adds-rewritten-at : (j : ℕ) (new : MapState K V S) (w : V)
+      → AddsEntry eq old mid k v (length old.entries)
       → j ≡ length old.entries → new ≡ with_value mid j w
       → AddsEntry eq old new k w (length old.entries)
   adds-rewritten-at j new w s place is =
       subst (λ m. AddsEntry eq old m k w (length old.entries)) (sym (is ∙ ap (λ i. with_value mid i w) place))
       (adds-rewritten s w)
 
-module _ {K V S : Type 0} {eq : K → K → Bool} (laws : IsEquivalence eq) (old : MapState K V S) (new : Keyed K V S)
-    (k : K) (v : V) (n : Node) where
+module _ {K V S : Type 0} {eq : K → K → Bool} (laws : IsEquivalence eq) (old : MapState K V S)
+    (new : Keyed K V S) (k : K) (v : V) (n : Node) where
   pub adds-written : AddsEntry eq old (state_of new) k v (length old.entries)
       → place_number new.nodes (Some n) ≡ length old.entries → (w : V)
       → AddsEntry eq old (state_of (with_value_at new n w)) k w (length old.entries)
@@ -290,7 +305,8 @@ module _ {K V : Type 0} where
 
   -- a value that is written after the move to the end is a value that moved there
   pub moved-written : (es : List (K × V)) (j : ℕ) (e : K × V) (w : V) → slice_get es j ≡ Some e
-      → set_value_at (moved_at es j (length es)) (length es - 1) w ≡ moved_at (set_value_at es j w) j (length es)
+      → set_value_at (moved_at es j (length es)) (length es - 1) w
+      ≡ moved_at (set_value_at es j w) j (length es)
   moved-written es j e w at =
       let s = split_at es j e at in
       let xs = s.0 in
@@ -301,7 +317,8 @@ module _ {K V : Type 0} where
       = omega (arith, length-append xs (e ∷ ys), length-append xs ((e.0, w) ∷ ys)) in
       ap₂ (λ zs i. set_value_at (moved_at zs i (length zs)) (length zs - 1) w) s.2 (sym s.3)
       ∙ ap₂ (λ zs i. set_value_at zs i w) (moved_at-last xs e ys) fewer ∙ set_value_at-here (xs ++ ys) e [] w
-      ∙ sym (ap₂ (λ zs i. moved_at zs (length xs) i) (set_value_at-here xs e ys w) long ∙ moved_at-last xs (e.0, w) ys)
+      ∙ sym (ap₂ (λ zs i. moved_at zs (length xs) i) (set_value_at-here xs e ys w) long
+      ∙ moved_at-last xs (e.0, w) ys)
       ∙ ap₂ (λ zs i. moved_at (set_value_at zs i w) i (length zs)) (sym s.2) s.3
 
 -- a node whose key is k moved to the end, and then w was written there
@@ -319,7 +336,8 @@ module _ {K V S : Type 0} (eq : K → K → Bool) (old : MapState K V S) (mid : 
           entries =
               values-renewed_value mid.nodes (place_number mid.nodes (Some n)) w
               ∙ ap₂ (λ zs i. set_value_at zs i w) s.entries place
-              ∙ moved-written old.entries j o.0 w o.1 ∙ moved_at-put eq old.entries k j p w (length old.entries);
+              ∙ moved-written old.entries j o.0 w o.1
+              ∙ moved_at-put eq old.entries k j p w (length old.entries);
           spare = s.spare;
           room = s.room;
           link_writes = s.link_writes;
@@ -344,18 +362,21 @@ module _ {K V S : Type 0} (eq : K → K → Bool) (old : MapState K V S) (mid : 
         subst
         (λ o. MatchOption o (AddsEntry eq old (state_of (with_value_at mid n w)) k w (length old.entries))
         (PutsEntry eq old (state_of (with_value_at mid n w)) k w (length old.entries)))
-        (sym (lookup-place (eq k) old.entries j p ∙ stood-there.1)) (puts-moved s place stood-there.0 w stood-there.1)
+        (sym (lookup-place (eq k) old.entries j p ∙ stood-there.1))
+        (puts-moved s place stood-there.0 w stood-there.1)
 
     pub moved-value : (u : V) → value_at (entries_of mid) (place_number mid.nodes (Some n)) ≡ Some u
         → value_at old.entries j ≡ Some u
     moved-value u at =
         let o = some_from_part (slice_get old.entries j) stood-there.0 stood-there.1 in
-        ap (option_map (λ e. e.1)) (o.1 ∙ sym (last-moved old.entries j o.0 o.1)) ∙ sym (ap₂ value_at s.entries place)
+        ap (option_map (λ e. e.1)) (o.1 ∙ sym (last-moved old.entries j o.0 o.1))
+        ∙ sym (ap₂ value_at s.entries place)
         ∙ at
 
 -- the key object that the list holds for a key that is there, and for one that is absent
 module _ {K V : Type 0} (eq : K → K → Bool) (es : List (K × V)) (k : K) where
-  pub stored-there : (j : ℕ) → place_of (eq k) es ≡ Some j → (s : K) → key_at es j ≡ Some s → s ≡ stored_key eq es k
+  pub stored-there : (j : ℕ) → place_of (eq k) es ≡ Some j → (s : K) → key_at es j ≡ Some s
+      → s ≡ stored_key eq es k
   stored-there j p s at =
       sym
       (ap (λ o. unwrap_or o k)

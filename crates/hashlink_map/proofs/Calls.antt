@@ -1,5 +1,6 @@
 -- What the calls of a map leave, from what the calls of the keyed list inside it leave, at the node of a key.
-use Rattle.std.proofs.Common.{◌≡◌, ◌+◌, ◌≤◌, ℕ, suc, Bool, List, [], ◌∷◌, length, Option, None, Some, refl, sym, ap}
+use Rattle.std.proofs.Common.{◌≡◌, ◌+◌, ◌≤◌, ℕ, suc, Bool, List, [], ◌∷◌, length, Option, None, Some, refl}
+use Rattle.std.proofs.Common.{sym, ap}
 use Rattle.std.proofs.Common.{subst, ◌∙◌, arith}
 use Rattle.std.specs.Prelude.{slice_get, is_some, Result, Ok, Err, IsErrAnd, IsOk, OnOk, OnErr}
 use Rattle.std.specs.Option.{option_map}
@@ -8,9 +9,12 @@ use Rattle.std.specs.Map.{lookup, lookup_entry, values_of}
 use Rattle.std.proofs.lemmas.Result.{err_from_is_err_and}
 use Rattle.hashlink_model.specs.Entries.{IsEntries, IsKeyTest, place_of, moved_match}
 use Rattle.hashlink_model.proofs.Afterwards.{lookup-moved}
-use Rattle.hashlink_model.specs.MapState.{RoomFor, Changes, Grows, MovesAt, AddsAt, AddsEntry, PutsEntry, RefusesEntry}
-use Rattle.hashlink_model.specs.Steps.{Shrinks, WritesEntry, RemovesMatch, MovesMatchAndWrites, with_match_value}
-use Rattle.hashlink_core.specs.Keyed.{Keyed, entries_of, state_of, HoldsKey, HoldsMatch, IsKeyed, pair_with_value}
+use Rattle.hashlink_model.specs.MapState.{RoomFor, Changes, Grows, MovesAt, AddsAt, AddsEntry, PutsEntry}
+use Rattle.hashlink_model.specs.MapState.{RefusesEntry}
+use Rattle.hashlink_model.specs.Steps.{Shrinks, WritesEntry, RemovesMatch, MovesMatchAndWrites}
+use Rattle.hashlink_model.specs.Steps.{with_match_value}
+use Rattle.hashlink_core.specs.Keyed.{Keyed, entries_of, state_of, HoldsKey, HoldsMatch, IsKeyed}
+use Rattle.hashlink_core.specs.Keyed.{pair_with_value}
 use Rattle.hashlink_core.specs.Places.{Node, Holds, place_number}
 use Rattle.hashlink_core.specs.KeyedLends.{with_value_at}
 use Rattle.hashlink_core.specs.Steps.{AddsNode, RemovesNode, MovesNode, WritesNode, GrowsRoom}
@@ -18,7 +22,8 @@ use Rattle.hashlink_core.proofs.Mapped.{values-renewed_value}
 use Rattle.hashlink_core.proofs.Places.{place_number-renewed, renewed-holds}
 use Rattle.hashlink_core.proofs.Holding.{moved-holds_key}
 use Rattle.hashlink_model.proofs.ByPlace.{set_value_at-place}
-use Rattle.hashlink_map.proofs.Steps.{lookup_entry-place, lookup-place, adds_key, refuses_key, puts_key, writes_key}
+use Rattle.hashlink_map.proofs.Steps.{lookup_entry-place, lookup-place, adds_key, refuses_key, puts_key}
+use Rattle.hashlink_map.proofs.Steps.{writes_key}
 use Rattle.std.proofs.lemmas.Map.Entries.{length-values_of}
 use Rattle.hashlink_map.proofs.Steps.{moves_match, removes_match}
 use Rattle.hashlink_model.proofs.Splits.{key_from_place}
@@ -34,7 +39,8 @@ module _ {K V S : Type 0} where
   written-number old new j v p s =
       ap (λ ns. place_number ns p) s.nodes ∙ place_number-renewed (pair_with_value v) old.nodes j p
 
-  pub written-holds : (old new : Keyed K V S) (j : ℕ) (v : V) (n : Node) → WritesNode old new j v → Holds old.nodes n
+  pub written-holds : (old new : Keyed K V S) (j : ℕ) (v : V) (n : Node) → WritesNode old new j v
+      → Holds old.nodes n
       → Holds new.nodes n
   written-holds old new j v n s h =
       subst (λ ns. Holds ns n) (sym s.nodes) (renewed-holds (pair_with_value v) old.nodes j n h)
@@ -58,7 +64,8 @@ module _ {K V S : Type 0} (eq : K → K → Bool) (old new : Keyed K V S) (k : K
       adds_key eq (state_of old) (state_of new) k v b p
       (subst (λ i. AddsAt (state_of old) (state_of new) i k v) same s.state)
 
-  pub refused : (v : V) (pair : K × V) → place_of (eq k) (entries_of old) ≡ None → old.spare ≡ 0 → pair ≡ (k, v)
+  pub refused : (v : V) (pair : K × V) → place_of (eq k) (entries_of old) ≡ None
+      → old.spare ≡ 0 → pair ≡ (k, v)
       → GrowsRoom 1 old new
       → RefusesEntry eq (state_of old) (state_of new) k v pair
   refused v pair p none same s =
@@ -70,18 +77,23 @@ module _ {K V S : Type 0} (eq : K → K → Bool) (old new : Keyed K V S) (k : K
     pub put : (mid : Keyed K V S) (v w : V) (b b' : ℕ) → b' ≡ b
         → option_map (λ e. e.1) (slice_get (entries_of old) (place_number old.nodes (Some n))) ≡ Some w
         → WritesNode old mid (place_number old.nodes (Some n)) v
-        → MovesNode mid new (place_number mid.nodes (Some n)) b' → PutsEntry eq (state_of old) (state_of new) k v b w
+        → MovesNode mid new (place_number mid.nodes (Some n)) b'
+        → PutsEntry eq (state_of old) (state_of new) k v b w
     put mid v w b b' same was s t =
         let j = place_number old.nodes (Some n) in
-        let at : MovesAt (state_of mid) (state_of new) j b = subst (MovesAt (state_of mid) (state_of new) j) same
-        (subst (λ i. MovesAt (state_of mid) (state_of new) i b') (written-number old mid j v (Some n) s) t.state) in
+        let at : MovesAt (state_of mid) (state_of new) j b =
+        subst (MovesAt (state_of mid) (state_of new) j) same
+        (subst (λ i. MovesAt (state_of mid) (state_of new) i b')
+        (written-number old mid j v (Some n) s) t.state) in
         puts_key eq (state_of old) (state_of new) k j found.place (state_of mid) v w b was s.state at
 
     pub written : (v w : V)
         → option_map (λ e. e.1) (slice_get (entries_of old) (place_number old.nodes (Some n))) ≡ Some w
-        → WritesNode old new (place_number old.nodes (Some n)) v → WritesEntry eq (state_of old) (state_of new) k v w
+        → WritesNode old new (place_number old.nodes (Some n)) v
+        → WritesEntry eq (state_of old) (state_of new) k v w
     written v w was s =
-        writes_key eq (state_of old) (state_of new) k (place_number old.nodes (Some n)) found.place v w was s.state
+        writes_key eq (state_of old) (state_of new) k (place_number old.nodes (Some n))
+        found.place v w was s.state
 
 -- ---- the first key that passes a test, at the node n
 
@@ -97,7 +109,8 @@ module _ {K V S : Type 0} (test : K → Bool) (old new : Keyed K V S) (n : Node)
       → RemovesNode old new (place_number old.nodes (Some n))
       → RemovesMatch test (state_of old) (state_of new) (Some e)
   removed e at s =
-      removes_match test (state_of old) (state_of new) (place_number old.nodes (Some n)) found.place e at s.state
+      removes_match test (state_of old) (state_of new) (place_number old.nodes (Some n))
+      found.place e at s.state
 
   pub stored : (e : K × V) → slice_get (entries_of old) (place_number old.nodes (Some n)) ≡ Some e
       → lookup_entry test (entries_of old) ≡ Some e
@@ -116,8 +129,8 @@ module _ {K V S : Type 0} (test : K → Bool) (old new : Keyed K V S) (n : Node)
       (values-renewed_value old.nodes j w ∙ set_value_at-place test (entries_of old) j w found.place)
 
 -- a value that is lent at a node that moved before
-module _ {K V S : Type 0} (eq : K → K → Bool) (laws : IsEquivalence eq) (test : K → Bool) (tells : IsKeyTest eq test)
-    (old new : Keyed K V S) (n : Node) (found : HoldsMatch test old.nodes n)
+module _ {K V S : Type 0} (eq : K → K → Bool) (laws : IsEquivalence eq) (test : K → Bool)
+    (tells : IsKeyTest eq test) (old new : Keyed K V S) (n : Node) (found : HoldsMatch test old.nodes n)
     (b b' : ℕ) (same : b' ≡ b) (le : b' ≤ length old.nodes)
     (s : MovesNode old new (place_number old.nodes (Some n)) b') (sound : IsKeyed eq new) where
   -- the test is the equality with the key that passes
@@ -127,7 +140,8 @@ module _ {K V S : Type 0} (eq : K → K → Bool) (laws : IsEquivalence eq) (tes
       subst P (sym k.1) (f k.0 (subst (λ t. HoldsMatch t old.nodes n) k.1 found))
 
   pub moved-found : HoldsMatch test new.nodes n
-  moved-found = by_key (λ t. HoldsMatch t new.nodes n) (λ k f. moved-holds_key eq laws old new k n f b' le s sound)
+  moved-found = by_key (λ t. HoldsMatch t new.nodes n)
+      (λ k f. moved-holds_key eq laws old new k n f b' le s sound)
 
   pub lent-moved : (w : V) → MovesMatchAndWrites test (state_of old) (state_of (with_value_at new n w)) b w
   lent-moved w = record {

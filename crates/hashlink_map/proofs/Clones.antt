@@ -41,7 +41,8 @@ module _ {K V : Type 0} (clones-key : K → K → Type 0) (clones-value : V → 
   clones_same f g [] (b ∷ ys) z = absurd z
   clones_same f g (a ∷ xs) [] z = absurd z
   clones_same f g (a ∷ xs) (b ∷ ys) z =
-      ap₂ (λ p ps. p ∷ ps) (ap₂ (λ k v. (k, v)) (f a.0 b.0 z.0.0) (g a.1 b.1 z.0.1)) (clones_same f g xs ys z.1)
+      ap₂ (λ p ps. p ∷ ps) (ap₂ (λ k v. (k, v)) (f a.0 b.0 z.0.0) (g a.1 b.1 z.0.1))
+      (clones_same f g xs ys z.1)
 
   module _ {S : Type 0} (eq : K → K → Bool) (laws : IsEquivalence eq) (es clones : List (K × V)) (s : S)
       (m : MapState K V S) (distinct : IsEntries eq es) (z : ArePairClones clones-key clones-value es clones)
@@ -54,20 +55,22 @@ module _ {K V : Type 0} (clones-key : K → K → Type 0) (clones-value : V → 
         ∙ clone_is_equal eq laws eqv es clones distinct
         (clones_weaken (λ x y. eq x y ≡ true) (λ x y. eqv x y ≡ true) f g es clones z)
 
-    pub clone_same : ((x y : K) → clones-key x y → y ≡ x) → ((x y : V) → clones-value x y → y ≡ x) → m.entries ≡ es
+    pub clone_same : ((x y : K) → clones-key x y → y ≡ x) → ((x y : V) → clones-value x y → y ≡ x)
+        → m.entries ≡ es
     clone_same f g =
         accepts_entries eq (empty_map s) m clones made
         ∙ ap (extended eq []) (clones_same f g es clones z)
         ∙ extended-own eq laws es distinct
 
   -- what std's trait says of a clone, by its answer, of what holds a map
-  pub clone_by_answer : {S M E : Type 0} (eq : K → K → Bool) (H : S → Type 0) (sure : Type 0) (es : List (K × V))
-      (view : M → MapState K V S) (r : Result M E)
+  pub clone_by_answer : {S M E : Type 0} (eq : K → K → Bool) (H : S → Type 0) (sure : Type 0)
+      (es : List (K × V)) (view : M → MapState K V S) (r : Result M E)
       → IfOk r (λ m. (s : S) × H s × (clones : List (K × V)) × ArePairClones clones-key clones-value es clones
       × MadeFrom (InsertsPair eq) clones s (view m))
       → OnErr r (sure → es ≡ [] → ⊥)
       → ((eqv : V → V → Bool) → ((x y : K) → clones-key x y → eq x y ≡ true)
-      → ((x y : V) → clones-value x y → eqv x y ≡ true) → IfOk r (λ m. entries_eq eq eqv es (view m).entries ≡ true))
+      → ((x y : V) → clones-value x y → eqv x y ≡ true)
+      → IfOk r (λ m. entries_eq eq eqv es (view m).entries ≡ true))
       → (((x y : K) → clones-key x y → y ≡ x) → ((x y : V) → clones-value x y → y ≡ x)
       → IfOk r (λ m. (view m).entries ≡ es))
       → MatchResult r (λ m. IsOfPairClones eq clones-key clones-value H es (view m)) (λ _. ¬ (sure × es ≡ []))

@@ -27,7 +27,8 @@ use Rattle.hashlink_map.specs.CursorLends.{cursor_with, LendsAtCursorNode, Lends
 use Rattle.hashlink_map.specs.Standing.{IsPlace-prop}
 use Rattle.hashlink_map.proofs.Written.{cursor_written}
 
-module _ {K V S T : Type 0} {g : eq.Ghosts K} {h : hash.Ghosts K} {b : builder.Ghosts S T} {w : hasher.Ghosts T}
+module _ {K V S T : Type 0} {g : eq.Ghosts K} {h : hash.Ghosts K} {b : builder.Ghosts S T}
+    {w : hasher.Ghosts T}
     {N : Type 0} {n : as_node.Ghosts N} (c : CursorMut K V S N T g h b w n) (at : Node) (v : V) where
   -- whatever shows that its place is still of the list
   pub cursor_with-is : (p : IsPlace (with_value_at c.map.now at v).nodes (cursor_node c))
@@ -38,7 +39,8 @@ module _ {K V S T : Type 0} {g : eq.Ghosts K} {h : hash.Ghosts K} {b : builder.G
       (IsPlace-prop (with_value_at c.map.now at v).nodes (cursor_node c) p (cursor_with c at v).within)
 
 -- the pair of a node is the pair of its place, and at the guard the cursor stays as it was
-module _ (K V S T : RattleType) {g : eq.Ghosts K.Denot} {h : hash.Ghosts K.Denot} {b : builder.Ghosts S.Denot T.Denot}
+module _ (K V S T : RattleType) {g : eq.Ghosts K.Denot} {h : hash.Ghosts K.Denot}
+    {b : builder.Ghosts S.Denot T.Denot}
     {w : hasher.Ghosts T.Denot}
     (c : MutBor (CursorMut K.Denot V.Denot S.Denot Node T.Denot g h b w TheImpl.ghosts)) where
   abbrev Row : RattleType
@@ -66,7 +68,8 @@ module _ (K V S T : RattleType) {g : eq.Ghosts K.Denot} {h : hash.Ghosts K.Denot
     lends_some at q =
         let m = c.now.map.now in
         let i = place_number m.nodes (Some at) in
-        qed 𝓛 (‵ (LendsAtCursorNode K V S T c at q.1) ∷ []) ∵ fpack ! (Chosen i (Some q)) (Follows i (Some q)) (
+        qed 𝓛 (‵ (LendsAtCursorNode K V S T c at q.1) ∷ []) ∵ fpack ! (Chosen i (Some q))
+        (Follows i (Some q)) (
           (cursor_with c.now at, c.now),
           (λ u. (refl, cursor_written m at (cursor_node c.now) i u refl)),
           (refl, refl, refl),

@@ -18,7 +18,8 @@ module _ {It Raw : Type 0} (nexts : It → Option Raw → It → Type 0) where
         → (xs : List Raw) × (fs xs ≡ before) × (u : It) × Yields nexts s xs u
 
     module _ {State Given A : Type 0} (becomes : Given → It → Type 0)
-        (step : State → State → Item → Result A Item → Type 0) (refuses : State → State → Type 0) (given : Given)
+        (step : State → State → Item → Result A Item → Type 0) (refuses : State → State → Type 0)
+        (given : Given)
         (old new : State) where
       pub took_all : ReadsAll becomes nexts given (λ raw. AcceptsAll step old (fs raw) new) → refuses new new
           → (it : It) × (raw : List Raw) × becomes given it × TakesItems step refuses old (fs raw) new

@@ -27,7 +27,8 @@ module _ {State Item A : Type 0} (step : State → State → Item → Result A I
   }
 
   -- the same of a longer list, whose rest was not read
-  pub stops_before : (a c : State) (xs left : List Item) (taken : ℕ) (back : Item) → StopsAt step a xs c taken back []
+  pub stops_before : (a c : State) (xs left : List Item) (taken : ℕ) (back : Item)
+      → StopsAt step a xs c taken back []
       → StopsAt step a (xs ++ left) c taken back left
   stops_before a c xs left taken back s = record {
     before = s.before;
@@ -44,6 +45,7 @@ pub counts_another : {X : Type 0} (xs : List X) (x : X) (taken : ℕ) → taken 
     → min (taken + 1) (2 ^ 64 - 1) ≡ min (length (xs ++ x ∷ [])) (2 ^ 64 - 1)
 counts_another xs x taken n = let long = length-append xs (x ∷ []) in omega arith
 
-pub mapped_another : {A B : Type 0} (f : A → B) (xs : List A) (x : A) → map f (xs ++ x ∷ []) ≡ map f xs ++ f x ∷ []
+pub mapped_another : {A B : Type 0} (f : A → B) (xs : List A) (x : A) → map f (xs ++ x ∷ [])
+    ≡ map f xs ++ f x ∷ []
 mapped_another f [] x = refl
 mapped_another f (y ∷ xs) x = ap (λ zs. f y ∷ zs) (mapped_another f xs x)

@@ -1,5 +1,6 @@
 -- A key that is there, by its place.
-use Rattle.std.proofs.Common.{◌≡◌, ℕ, Bool, is_some, Option, None, Some, length, unwrap_or, refl, ap, sym, ◌∙◌}
+use Rattle.std.proofs.Common.{◌≡◌, ℕ, Bool, is_some, Option, None, Some, length, unwrap_or, refl, ap, sym}
+use Rattle.std.proofs.Common.{◌∙◌}
 use Rattle.std.proofs.Common.{true≢false}
 use Rattle.std.specs.Prelude.{IsSome, MatchOption}
 use Rattle.std.specs.Map.{values_of}
@@ -26,9 +27,13 @@ module _ {K V S : Type 0} (eq : K → K → Bool) (m : Keyed K V S) (k : K) wher
   found_there (Some n) f h = refl
 
   -- what is written at the node is written at the key
-  pub written_there : (n : Node) → HoldsKey eq m.nodes k n → (w : V) → with_value_at m n w ≡ with_value_at_key eq m k w
+  pub written_there : (n : Node) → HoldsKey eq m.nodes k n → (w : V) → with_value_at m n w
+      ≡ with_value_at_key eq m k w
   written_there n f w =
-      ap (λ o. record m { nodes = renewed_at (pair_with_value w) m.nodes (unwrap_or o (length (entries_of m))) })
+      ap (λ o. record m {
+        nodes = renewed_at (pair_with_value w) m.nodes
+            (unwrap_or o (length (entries_of m)));
+      })
       (sym f.place)
 
   -- and in the state that contracts see
@@ -41,6 +46,7 @@ module _ {K V S : Type 0} (eq : K → K → Bool) (m : Keyed K V S) (k : K) wher
       by None p = absurd (not_there p h)
       by (Some j) p =
           ap (λ es. record (state_of m) { entries = es })
-          (ap (λ o. values_of (renewed_at (pair_with_value w) m.nodes (unwrap_or o (length (entries_of m))))) p
+          (ap (λ o. values_of (renewed_at (pair_with_value w) m.nodes (unwrap_or o (length (entries_of m)))))
+          p
           ∙ values-renewed_value m.nodes j w
           ∙ set_value_at-place (eq k) (entries_of m) j w p)

@@ -1,5 +1,6 @@
 -- An entry that stands last: it moved there, or its pair went in there.
-use Rattle.std.proofs.Common.{◌≡◌, ℕ, ◌-◌, List, [], ◌∷◌, ◌++◌, Bool, None, Some, length, refl, sym, ap, ap₂, subst}
+use Rattle.std.proofs.Common.{◌≡◌, ℕ, ◌-◌, List, [], ◌∷◌, ◌++◌, Bool, None, Some, length, refl, sym, ap, ap₂}
+use Rattle.std.proofs.Common.{subst}
 use Rattle.std.proofs.Common.{◌∙◌}
 use Rattle.std.proofs.Common.{append-nil}
 use Rattle.std.specs.Prelude.{Option, slice_get, Result, Ok, Err, IfOk, IfErr, OnErr, MatchOption}
@@ -61,7 +62,8 @@ module _ {K V S : Type 0} {eq : K → K → Bool} where
       (laws.refl e.0) in
       (e, at, own, moves, ap Some place)
 
-module _ {K V S T : Type 0} {g : eq.Ghosts K} {h : hash.Ghosts K} {b : builder.Ghosts S T} {w : hasher.Ghosts T}
+module _ {K V S T : Type 0} {g : eq.Ghosts K} {h : hash.Ghosts K} {b : builder.Ghosts S T}
+    {w : hasher.Ghosts T}
     {N : Type 0} {n : as_node.Ghosts N} (old : MapState K V S) (e : K × V) (Given : K × V → Type 0)
     (given : Given e) where
   pub new_stands : (r : Result (RawOccupiedEntryMut K V S N T g h b w n) (K × V))
@@ -82,15 +84,16 @@ pub refuses_handed : {K V S A : Type 0} (eq : K → K → Bool) (old new : MapSt
     → OnErr r (IfErr r (RefusesEntry eq old new k v)) → IfErr r (λ e. e ≡ (k, v))
     → OnErr r (IfErr r (λ e. RefusesEntry eq old new e.0 e.1 e))
 refuses_handed eq old new k v (Ok x) refuses is = tt
-refuses_handed eq old new k v (Err e) refuses is = subst (λ x. RefusesEntry eq old new x.0 x.1 e) (sym is) refuses
+refuses_handed eq old new k v (Err e) refuses is = subst (λ x. RefusesEntry eq old new x.0 x.1 e)
+    (sym is) refuses
 
 pub none_at : {A E X : Type 0} (r : Result A E) (x : X) → OnErr r (x ≡ x)
 none_at (Ok a) x = tt
 none_at (Err e) x = refl
 
 -- what is written through the pair of an entry that stands last
-module _ {K V S T : Type 0} {g : eq.Ghosts K} {h : hash.Ghosts K} {b : builder.Ghosts S T} {w : hasher.Ghosts T}
-    (laws : IsEquivalence g.eq) (Given : K × V → Type 0) where
+module _ {K V S T : Type 0} {g : eq.Ghosts K} {h : hash.Ghosts K} {b : builder.Ghosts S T}
+    {w : hasher.Ghosts T} (laws : IsEquivalence g.eq) (Given : K × V → Type 0) where
   module _ (o : RawOccupiedEntryMut K V S Node T g h b w TheImpl.ghosts) (q : Bor K × MutBor V)
       (has : IsPairAt o q) where
     last_written : (old : MapState K V S) (place : Option ℕ)
@@ -111,7 +114,8 @@ module _ {K V S T : Type 0} {g : eq.Ghosts K} {h : hash.Ghosts K} {b : builder.G
         let here : Some (q.0.now, q.1.now) ≡ Some e
         = sym has ∙ ap₂ slice_get moves.entries at ∙ last-moved old.entries j e stood in
         let same : e ≡ (q.0.now, q.1.now) = cc in
-        moves-and-writes g.eq old o.map.now q.0.now j (subst (λ x. place_of (g.eq x.0) old.entries ≡ Some j) same own)
+        moves-and-writes g.eq old o.map.now q.0.now j
+        (subst (λ x. place_of (g.eq x.0) old.entries ≡ Some j) same own)
         o.node moves at u
 
     last_parts : (old : MapState K V S) (place : Option ℕ)
@@ -147,7 +151,8 @@ module _ {K V S T : Type 0} {g : eq.Ghosts K} {h : hash.Ghosts K} {b : builder.G
     put_parts (Err e) stands = tt
 
 -- the parts of the pair given
-pub given_parts : {K V S E : Type 0} (old : RawEntryState K V S) (k : K) (v : V) (r : Result (Bor K × MutBor V) E)
+pub given_parts : {K V S E : Type 0} (old : RawEntryState K V S) (k : K) (v : V)
+    (r : Result (Bor K × MutBor V) E)
     → IfOk r (λ q. MatchOption (raw_pair old) (◌≡◌ {A = K × V} (q.0.now, q.1.now) (k, v))
     (λ stood. (q.0.now ≡ stood.0) × (q.1.now ≡ stood.1)))
     → IfOk r (λ q. MatchOption (raw_pair old) ((q.0.now ≡ k) × (q.1.now ≡ v))

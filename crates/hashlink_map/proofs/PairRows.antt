@@ -63,11 +63,13 @@ module _ (K V : RattleType) (LK : Laws K) (LV : Laws V) where
         (b : builder.Ghosts S.Denot T.Denot) (w : hasher.Ghosts T.Denot) where
       abbrev pub Held : RattleType
       Held =
-          entry.the_row (at_lft κ) (param 0 K) (param 1 V) (param 2 S) node.the_row (param 3 T) p h b w TheImpl.ghosts
+          entry.the_row (at_lft κ) (param 0 K) (param 1 V) (param 2 S) node.the_row
+          (param 3 T) p h b w TheImpl.ghosts
 
       abbrev pub held_laws : Laws Held
       held_laws =
-          entry_laws.the_row_laws (at_lft κ) (param 0 K) (param 1 V) (param 2 S) node.the_row (param 3 T) p h b w
+          entry_laws.the_row_laws (at_lft κ) (param 0 K) (param 1 V) (param 2 S) node.the_row
+          (param 3 T) p h b w
           TheImpl.ghosts (param_laws 0 K LK) (param_laws 1 V LV) (param_laws 2 S LS) node_laws.the_row_laws
           (param_laws 3 T LT)
 

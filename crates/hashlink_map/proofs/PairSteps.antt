@@ -1,4 +1,5 @@
--- What the walks to a pair that is lent share: a node's one word, what calls ask, and the tokens. Assumes `Logic`.
+-- What the walks to a pair that is lent share: a node's one word, what calls ask, and the tokens. Assumes
+-- `Logic`.
 use Rattle.std.proofs.Common.{◌≡◌, List, [], ◌∷◌, ◌++◌, refl, subst}
 use seplogic.Ra.Ura.{Ura}
 use mir.Val.{Val, vstruct, of_list}
@@ -6,7 +7,8 @@ use base.Fml.{Fml, ftrue}
 use base.Logic.{SProp, ent, sep, emp, mono_r}
 use contract.Monad.{fact, fact_i}
 use types.Logic.{Logic, sem}
-use types.Kit.{Item, Goal, Seq, ‵, raw, ◌⊛◌, ◌$◌, ◌∵◌, !, qed, move, drop, split, join, use0, fsplit, fpick, feq_l}
+use types.Kit.{Item, Goal, Seq, ‵, raw, ◌⊛◌, ◌$◌, ◌∵◌, !, qed, move, drop, split, join, use0, fsplit, fpick}
+use types.Kit.{feq_l}
 use types.Kit.{done}
 use denote.RattleType.{RattleType}
 use denote.RawPtr.{Ptr, RawPtr, ptr_val}
@@ -44,7 +46,8 @@ module _ {M : Type 1} (𝓤 : Ura M) (A B C D : Type 0) where
   -- with a fact in the place of nothing
   pub adds_fact : (P : Type 0) → P → ent 𝓤 (Asks (emp 𝓤)) (Asks (fact 𝓤 P))
   adds_fact P is =
-      mono_r 𝓤 (fact 𝓤 A) (mono_r 𝓤 (fact 𝓤 B) (mono_r 𝓤 (fact 𝓤 C) (mono_r 𝓤 (fact 𝓤 D) (fact_i 𝓤 P (emp 𝓤) is))))
+      mono_r 𝓤 (fact 𝓤 A) (mono_r 𝓤 (fact 𝓤 B)
+      (mono_r 𝓤 (fact 𝓤 C) (mono_r 𝓤 (fact 𝓤 D) (fact_i 𝓤 P (emp 𝓤) is))))
 
   -- once more for another call, which asks no more than the four
   pub asks_again : (𝓛 : Logic 𝓤) (R : SProp 𝓤) → ent 𝓤 (Asks R) (sep 𝓤 (Asks R) (Asks (emp 𝓤)))
@@ -54,7 +57,8 @@ module _ {M : Type 1} (𝓤 : Ura M) (A B C D : Type 0) where
       qed 𝓛 (Fact A ∷ Fact B ∷ Fact C ∷ Fact D ∷ raw R ∷ []) ∵ heard ! A (λ a. heard ! B (λ b. heard ! C
       (λ c. heard ! D
       (λ d.
-      use0 𝓛 (Fact D) (has D d) $ join ! $ use0 𝓛 (Fact C) (has C c) $ join ! $ use0 𝓛 (Fact B) (has B b) $ join ! $
+      use0 𝓛 (Fact D) (has D d) $ join ! $ use0 𝓛 (Fact C) (has C c) $ join ! $
+      use0 𝓛 (Fact B) (has B b) $ join ! $
       use0 𝓛 (Fact A) (has A a) $ join ! $ nothing ! $ use0 𝓛 (Fact D) (has D d) $ join ! $
       use0 𝓛 (Fact C) (has C c) $
       join ! $ use0 𝓛 (Fact B) (has B b) $ join ! $ use0 𝓛 (Fact A) (has A a) $ join ! $ move ! (1 ∷ 0 ∷ []) $
@@ -73,7 +77,8 @@ module _ {M : Type 1} {𝓤 : Ura M} (𝓛 : Logic 𝓤) (A B C D E : Fml) where
 
   pub apart_last : (F : Fml) → ent 𝓤 (six F) (sep 𝓤 five (sem 𝓛 F))
   apart_last F =
-      qed 𝓛 (‵ A ∷ ‵ B ∷ ‵ C ∷ ‵ D ∷ ‵ E ∷ ‵ F ∷ ‵ ftrue ∷ []) ∵ move ! (4 ∷ 6 ∷ []) $ join ! $ move ! (4 ∷ 0 ∷ []) $
+      qed 𝓛 (‵ A ∷ ‵ B ∷ ‵ C ∷ ‵ D ∷ ‵ E ∷ ‵ F ∷ ‵ ftrue ∷ []) ∵ move ! (4 ∷ 6 ∷ []) $ join ! $
+      move ! (4 ∷ 0 ∷ []) $
       join ! $ move ! (3 ∷ 0 ∷ []) $ join ! $ move ! (2 ∷ 0 ∷ []) $ join ! $ move ! (1 ∷ 0 ∷ []) $ join ! $
       join ! $ done !
 
@@ -81,6 +86,8 @@ module _ {M : Type 1} {𝓤 : Ura M} (𝓛 : Logic 𝓤) (A B C D E : Fml) where
   joins_last F =
       qed 𝓛 ((‵ A ⊛ ‵ B ⊛ ‵ C ⊛ ‵ D ⊛ ‵ E ⊛ ‵ ftrue) ∷ ‵ F ∷ []) ∵ split ! $ move ! (1 ∷ []) $ split ! $
       move ! (1 ∷ [])
-      $ split ! $ move ! (1 ∷ []) $ split ! $ move ! (1 ∷ []) $ split ! $ move ! (6 ∷ 1 ∷ []) $ join ! $ move !
-      (1 ∷ 0 ∷ []) $ join ! $ move ! (1 ∷ 0 ∷ []) $ join ! $ move ! (1 ∷ 0 ∷ []) $ join ! $ move ! (1 ∷ 0 ∷ []) $ join
+      $ split ! $ move ! (1 ∷ []) $ split ! $ move ! (1 ∷ []) $ split ! $
+      move ! (6 ∷ 1 ∷ []) $ join ! $ move !
+      (1 ∷ 0 ∷ []) $ join ! $ move ! (1 ∷ 0 ∷ []) $ join ! $ move ! (1 ∷ 0 ∷ []) $ join ! $
+      move ! (1 ∷ 0 ∷ []) $ join
       ! $ move ! (1 ∷ 0 ∷ []) $ join ! $ done !

@@ -24,7 +24,8 @@ use Rattle.hashlink_map.specs.RawEntry.{raw_occupied_map, raw_occupied_state, ra
 use Rattle.hashlink_map.specs.RawLends.{LendsPairOf}
 use Rattle.hashlink_map.proofs.AtNode.{adds-written, added-parts}
 
-module _ {K V S T : Type 0} {g : eq.Ghosts K} {h : hash.Ghosts K} {b : builder.Ghosts S T} {w : hasher.Ghosts T} where
+module _ {K V S T : Type 0} {g : eq.Ghosts K} {h : hash.Ghosts K} {b : builder.Ghosts S T}
+    {w : hasher.Ghosts T} where
   -- the pair that stands at the entry's place is the one that was lent
   abbrev pub IsPairAt : RawOccupiedEntryMut K V S Node T g h b w TheImpl.ghosts → Bor K × MutBor V → Type 0
   IsPairAt o q = slice_get (raw_occupied_state o).map.entries (raw_place o) ≡ Some (q.0.now, q.1.now)
@@ -39,7 +40,8 @@ module _ {K V S T : Type 0} {g : eq.Ghosts K} {h : hash.Ghosts K} {b : builder.G
     abbrev pub IsHandedOn : Result (Bor K × MutBor V) E → Type 0
     IsHandedOn r = IfErr r (λ e. entered ≡ Err e)
 
-  -- what holds of the entry's pair holds of the pair that was lent, and what holds of an error of the one handed on
+  -- what holds of the entry's pair holds of the pair that was lent, and what holds of an error of the one
+  -- handed on
   pub ok_carried : {E : Type 0} (x : Result (RawOccupiedEntryMut K V S Node T g h b w TheImpl.ghosts) E)
       (r : Result (Bor K × MutBor V) E) (P : Bor K × MutBor V → Type 0)
       → IsLent x r → OfEntry x P → IfOk r P
@@ -76,14 +78,16 @@ module _ {K V S T : Type 0} {g : eq.Ghosts K} {h : hash.Ghosts K} {b : builder.G
     new_parts (Ok o) s place = λ q. added-parts laws old o.map.now k v o.node s place (q.0.now, q.1.now)
     new_parts (Err e) s place = tt
 
-module _ (K V S T : RattleType) (g : eq.Ghosts K.Denot) (h : hash.Ghosts K.Denot) (b : builder.Ghosts S.Denot T.Denot)
+module _ (K V S T : RattleType) (g : eq.Ghosts K.Denot) (h : hash.Ghosts K.Denot)
+    (b : builder.Ghosts S.Denot T.Denot)
     (w : hasher.Ghosts T.Denot) (m : MutBor (Keyed K.Denot V.Denot S.Denot)) {E : Type 0}
     (P : Bor K.Denot × MutBor V.Denot → V.Denot → Keyed K.Denot V.Denot S.Denot → Type 0)
     (P₀ : E → Keyed K.Denot V.Denot S.Denot → Type 0) where
   abbrev Map : RattleType
   Map = the_row K V S T g h b w
 
-  abbrev Rests : Result (RawOccupiedEntryMut K.Denot V.Denot S.Denot Node T.Denot g h b w TheImpl.ghosts) E → Fml
+  abbrev Rests : Result (RawOccupiedEntryMut K.Denot V.Denot S.Denot Node T.Denot g h b w TheImpl.ghosts) E
+      → Fml
   Rests x = RestsIfErr Map m (λ o. (raw_occupied_map o).ghost_name) x (λ new. IfErr x (λ e. P₀ e new))
 
   abbrev Lends : Result (Bor K.Denot × MutBor V.Denot) E → Fml
@@ -101,8 +105,8 @@ module _ (K V S T : RattleType) (g : eq.Ghosts K.Denot) (h : hash.Ghosts K.Denot
 
   -- the map rests in the entry, and the entry's map follows the value that was lent: so the map follows it
   module _ {M : Type 1} {𝓤 : Ura M} (𝓛 : Logic 𝓤) where
-    pub carries : (x : Result (RawOccupiedEntryMut K.Denot V.Denot S.Denot Node T.Denot g h b w TheImpl.ghosts) E)
-        (r : Result (Bor K.Denot × MutBor V.Denot) E)
+    pub carries : (x : Result (RawOccupiedEntryMut K.Denot V.Denot S.Denot Node T.Denot g
+        h b w TheImpl.ghosts) E) (r : Result (Bor K.Denot × MutBor V.Denot) E)
         → IsLent x r → IsHandedOn x r
         → IfOk x (λ o. (q : Bor K.Denot × MutBor V.Denot) → IsPairAt o q → (u : V.Denot)
         → P q u (with_value_at o.map.now o.node u))

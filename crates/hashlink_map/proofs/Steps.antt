@@ -1,5 +1,6 @@
 -- Steps at the place of a key, and the steps of a map's calls at the key.
-use Rattle.std.proofs.Common.{◌≡◌, ◌⊎◌, inl, inr, ℕ, zero, suc, ◌+◌, ◌-◌, ◌≤◌, Bool, List, [], ◌∷◌, ◌++◌, length}
+use Rattle.std.proofs.Common.{◌≡◌, ◌⊎◌, inl, inr, ℕ, zero, suc, ◌+◌, ◌-◌, ◌≤◌, Bool, List, [], ◌∷◌, ◌++◌}
+use Rattle.std.proofs.Common.{length}
 use Rattle.std.proofs.Common.{drop, take, None, Some, refl, sym, ap, subst, ◌∙◌, arith}
 use Rattle.std.specs.Prelude.{slice_get}
 use Rattle.std.specs.Option.{option_map, option_map_or}
@@ -47,13 +48,15 @@ module _ {K V : Type 0} (test : K → Bool) (es : List (K × V)) where
       ∙ sym (slice_get_here s.0 s.1 s.2) ∙ ap (slice_get (s.0 ++ s.1 ∷ s.2)) s.4
       ∙ ap (λ zs. slice_get zs j) (sym s.3.is)
 
-  pub lookup-place : (j : ℕ) → place_of test es ≡ Some j → lookup test es ≡ option_map (λ e. e.1) (slice_get es j)
+  pub lookup-place : (j : ℕ) → place_of test es ≡ Some j → lookup test es
+      ≡ option_map (λ e. e.1) (slice_get es j)
   lookup-place j p = lookup_is test es ∙ ap (option_map (λ e. e.1)) (lookup_entry-place j p)
 
 -- ---- two changes in a row
 
 module _ {K V S : Type 0} where
-  pub changes_twice : (a b c : MapState K V S) (es fs : List (K × V)) (m n : ℕ) → Changes a b es m → Changes b c fs n
+  pub changes_twice : (a b c : MapState K V S) (es fs : List (K × V)) (m n : ℕ) → Changes a b es m
+      → Changes b c fs n
       → Changes a c fs (m + n)
   changes_twice a b c es fs m n s t =
       let grows1 = s.link_writes.grows in
@@ -76,10 +79,12 @@ module _ {K V S : Type 0} (eq : K → K → Bool) (old new : MapState K V S) (k 
   adds_key v b p s = record {
     absent = lookup-unplaced (eq k) old.entries p;
     adds =
-        subst (Adds old new) (sym (put-absent eq old.entries k v b (none_passes_from_place (eq k) old.entries p))) s;
+        subst (Adds old new) (sym
+        (put-absent eq old.entries k v b (none_passes_from_place (eq k) old.entries p))) s;
   }
 
-  pub refuses_key : (v : V) (pair : K × V) → place_of (eq k) old.entries ≡ None → old.spare ≡ 0 → pair ≡ (k, v)
+  pub refuses_key : (v : V) (pair : K × V) → place_of (eq k) old.entries ≡ None
+      → old.spare ≡ 0 → pair ≡ (k, v)
       → Grows 1 old new
       → RefusesEntry eq old new k v pair
   refuses_key v pair p none same s = record {
@@ -90,7 +95,8 @@ module _ {K V S : Type 0} (eq : K → K → Bool) (old new : MapState K V S) (k 
 
   module _ (j : ℕ) (p : place_of (eq k) old.entries ≡ Some j) where
     -- a new value, and then a move
-    pub puts_key : (mid : MapState K V S) (v w : V) (b : ℕ) → option_map (λ e. e.1) (slice_get old.entries j) ≡ Some w
+    pub puts_key : (mid : MapState K V S) (v w : V) (b : ℕ) → option_map (λ e. e.1) (slice_get old.entries j)
+        ≡ Some w
         → WritesAt old mid j v → MovesAt mid new j b
         → PutsEntry eq old new k v b w
     puts_key mid v w b was s t = record {
@@ -101,7 +107,8 @@ module _ {K V S : Type 0} (eq : K → K → Bool) (old new : MapState K V S) (k 
           (changes_twice old mid new (set_value_at old.entries j v) (moved_at mid.entries j b) 0 6 s t);
     }
 
-    pub writes_key : (v w : V) → option_map (λ e. e.1) (slice_get old.entries j) ≡ Some w → WritesAt old new j v
+    pub writes_key : (v w : V) → option_map (λ e. e.1) (slice_get old.entries j) ≡ Some w
+        → WritesAt old new j v
         → WritesEntry eq old new k v w
     writes_key v w was s = record {
       old_value = lookup-place (eq k) old.entries j p ∙ was;
@@ -143,7 +150,8 @@ module _ {K V S : Type 0} (old new : MapState K V S) (e : K × V) where
   pub pops_first : slice_get old.entries 0 ≡ Some e → RemovesAt old new 0 → PopsFront old new (Some e)
   pops_first at s = record { answer = sym at; step = s }
 
-  pub pops_last : slice_get old.entries (length old.entries - 1) ≡ Some e → RemovesAt old new (length old.entries - 1)
+  pub pops_last : slice_get old.entries (length old.entries - 1) ≡ Some e
+      → RemovesAt old new (length old.entries - 1)
       → PopsBack old new (Some e)
   pops_last at s = record {
     answer = sym at;

@@ -1,5 +1,6 @@
 -- What a step that takes an entry out of a map gives and leaves, as a step of a walk.
-use Rattle.std.proofs.Common.{◌≡◌, arith, false, List, [], ◌∷◌, filter, Option, None, Some, refl, ap, sym, subst, ◌∙◌}
+use Rattle.std.proofs.Common.{◌≡◌, arith, false, List, [], ◌∷◌, filter, Option, None, Some, refl, ap, sym}
+use Rattle.std.proofs.Common.{subst, ◌∙◌}
 use Rattle.std.specs.Map.Iter.{TakesFirst, TakesLast}
 use Rattle.std.specs.Prelude.{MatchOption}
 use Rattle.hashlink_model.specs.MapState.{MapState, Removes}
@@ -55,7 +56,8 @@ module _ {K V S : Type 0} where
       subst (KeepsOnly start new) (sym removes.entries)
       (keeps_twice start old new old.entries es kept (removes_keeps old new es removes))
 
-  pub kept-front : (start old new : MapState K V S) (r : Option (K × V)) → Kept start old → PopsFront old new r
+  pub kept-front : (start old new : MapState K V S) (r : Option (K × V)) → Kept start old
+      → PopsFront old new r
       → Kept start new
   kept-front start old new r kept p = kept-on start old new r (after_first_of old.entries) kept p.step
 

@@ -24,13 +24,16 @@ use Rattle.hashlink_map.specs.declared.as_node.AsNode as as_node
 use Rattle.hashlink_map.specs.declared.iter_mut.IterMut.{IterMut}
 use Rattle.hashlink_map.specs.Cursor.{lent_pair}
 use Rattle.hashlink_map.specs.IterMut.{walk_map, walk_state}
-use Rattle.hashlink_map.specs.IterMutLends.{walk_with_value, LendsAtWalkNode, LendsPairThere, LendsPairFromWalk}
+use Rattle.hashlink_map.specs.IterMutLends.{walk_with_value, LendsAtWalkNode, LendsPairThere}
+use Rattle.hashlink_map.specs.IterMutLends.{LendsPairFromWalk}
 use Rattle.hashlink_map.specs.IterMutLends.{LentFrom, StaysThere, StepsAndWrites, TakesOff}
-use Rattle.hashlink_map.specs.WritingWalk.{WritingWalk, StandsIn, StandsIn-prop, walk_with, walk_rest, last_place}
+use Rattle.hashlink_map.specs.WritingWalk.{WritingWalk, StandsIn, StandsIn-prop, walk_with, walk_rest}
+use Rattle.hashlink_map.specs.WritingWalk.{last_place}
 use Rattle.hashlink_map.specs.WritingWalk.{after_front, after_back}
 use Rattle.hashlink_map.proofs.Walking.{written-there, first-taken, last-taken}
 
-module _ {K V S T : Type 0} {g : eq.Ghosts K} {h : hash.Ghosts K} {b : builder.Ghosts S T} {w : hasher.Ghosts T}
+module _ {K V S T : Type 0} {g : eq.Ghosts K} {h : hash.Ghosts K} {b : builder.Ghosts S T}
+    {w : hasher.Ghosts T}
     {N : Type 0} {n : as_node.Ghosts N} (i : IterMut K V S N T g h b w n) (at : Node) (v : V) where
   -- whatever shows that its places are still of the list
   pub walk_with_value-is : (p : StandsIn n.node (with_value_at i.map.now at v).nodes i.places)
@@ -41,10 +44,12 @@ module _ {K V S T : Type 0} {g : eq.Ghosts K} {h : hash.Ghosts K} {b : builder.G
       (StandsIn-prop n.node (with_value_at i.map.now at v).nodes i.places p (walk_with_value i at v).stands)
 
 -- from the walk with a place taken off to the walk as it was
-module _ {K V S T : Type 0} {g : eq.Ghosts K} {h : hash.Ghosts K} {b : builder.Ghosts S T} {w : hasher.Ghosts T}
+module _ {K V S T : Type 0} {g : eq.Ghosts K} {h : hash.Ghosts K} {b : builder.Ghosts S T}
+    {w : hasher.Ghosts T}
     {N : Type 0} {n : as_node.Ghosts N} (old mid : MutBor (IterMut K V S N T g h b w n)) (j : ℕ)
     (stepped : WritingWalk K V S) where
-  pub steps-on : (taken : Option Node) (r : Option (Bor K × MutBor V)) → LentFrom (walk_map mid.now).now taken r
+  pub steps-on : (taken : Option Node) (r : Option (Bor K × MutBor V))
+      → LentFrom (walk_map mid.now).now taken r
       → TakesOff walk_map walk_state old j stepped mid taken
       → (new : IterMut K V S N T g h b w n) (v : V)
       → OnSome r (StepsAndWrites walk_map walk_state mid.now new (walk_state mid.now)
@@ -59,7 +64,8 @@ module _ {K V S T : Type 0} {g : eq.Ghosts K} {h : hash.Ghosts K} {b : builder.G
         (ap (λ m. place_number m.nodes (Some x)) t.unchanged ∙ t.takes.1),
   )
 
-  pub stays-on : (taken : Option Node) (r : Option (Bor K × MutBor V)) → LentFrom (walk_map mid.now).now taken r
+  pub stays-on : (taken : Option Node) (r : Option (Bor K × MutBor V))
+      → LentFrom (walk_map mid.now).now taken r
       → TakesOff walk_map walk_state old j stepped mid taken
       → (new : IterMut K V S N T g h b w n)
       → StaysThere walk_map walk_state mid.now new
@@ -70,8 +76,8 @@ module _ {K V S T : Type 0} {g : eq.Ghosts K} {h : hash.Ghosts K} {b : builder.G
   stays-on (Some x) (Some p) lent t new told = tt
 
 -- the place that was taken, and the pair that stands there
-module _ {K V S T : Type 0} {g : eq.Ghosts K} {h : hash.Ghosts K} {b : builder.Ghosts S T} {w : hasher.Ghosts T}
-    (old mid : MutBor (IterMut K V S Node T g h b w TheImpl.ghosts)) where
+module _ {K V S T : Type 0} {g : eq.Ghosts K} {h : hash.Ghosts K} {b : builder.Ghosts S T}
+    {w : hasher.Ghosts T} (old mid : MutBor (IterMut K V S Node T g h b w TheImpl.ghosts)) where
   pub step-is_place : (j : ℕ) (stepped : WritingWalk K V S) (taken : Option Node)
       → TakesOff walk_map walk_state old j stepped mid taken
       → IsPlace (walk_map mid.now).now.nodes taken
@@ -88,7 +94,8 @@ module _ {K V S T : Type 0} {g : eq.Ghosts K} {h : hash.Ghosts K} {b : builder.G
       ap (option_map lent_pair) lent.1 ∙ sym lent.2
       ∙ ap (λ m. slice_get (entries_of m) (place_number m.nodes (Some n))) same ∙ is
 
-  pub first-lent : (taken : Option Node) (r : Option (Bor K × MutBor V)) → LentFrom (walk_map mid.now).now taken r
+  pub first-lent : (taken : Option Node) (r : Option (Bor K × MutBor V))
+      → LentFrom (walk_map mid.now).now taken r
       → TakesOff walk_map walk_state old (walk_state old.now).at (after_front (walk_state old.now)) mid taken
       → option_map lent_pair r ≡ first_of (walk_rest (walk_state old.now))
   first-lent None r lent t =
@@ -97,17 +104,20 @@ module _ {K V S T : Type 0} {g : eq.Ghosts K} {h : hash.Ghosts K} {b : builder.G
   first-lent (Some n) r lent t =
       lent-there n r _ t.unchanged lent (first-taken old.now.map.now old.now.places n _ _ t.takes)
 
-  pub last-lent : (taken : Option Node) (r : Option (Bor K × MutBor V)) → LentFrom (walk_map mid.now).now taken r
-      → TakesOff walk_map walk_state old (last_place (walk_state old.now)) (after_back (walk_state old.now)) mid taken
+  pub last-lent : (taken : Option Node) (r : Option (Bor K × MutBor V))
+      → LentFrom (walk_map mid.now).now taken r
+      → TakesOff walk_map walk_state old (last_place (walk_state old.now))
+      (after_back (walk_state old.now)) mid taken
       → option_map lent_pair r ≡ last_of (walk_rest (walk_state old.now))
   last-lent None r lent t =
       let s = walk_state old.now in
       ap (option_map lent_pair) lent ∙ sym (ap (λ l. last_of (take l (drop s.at s.map.entries))) t.takes.0)
   last-lent (Some n) r lent t =
-      lent-there n r _ t.unchanged lent (last-taken old.now.map.now old.now.places n _ _ old.now.stands t.takes)
+      lent-there n r _ t.unchanged lent
+      (last-taken old.now.map.now old.now.places n _ _ old.now.stands t.takes)
 
-module _ (K V S T : RattleType) (g : eq.Ghosts K.Denot) (h : hash.Ghosts K.Denot) (b : builder.Ghosts S.Denot T.Denot)
-    (w : hasher.Ghosts T.Denot) where
+module _ (K V S T : RattleType) (g : eq.Ghosts K.Denot) (h : hash.Ghosts K.Denot)
+    (b : builder.Ghosts S.Denot T.Denot) (w : hasher.Ghosts T.Denot) where
   abbrev Walk : Type 0
   Walk = IterMut K.Denot V.Denot S.Denot Node T.Denot g h b w TheImpl.ghosts
 

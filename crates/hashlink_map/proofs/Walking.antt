@@ -1,6 +1,7 @@
 -- Where a walk that lends values stands, by its places.
 use Rattle.std.proofs.Common.{◌≡◌, ◌≢◌, ℕ, zero, suc, ◌+◌, ◌-◌, ◌<◌, ◌≤◌, List, [], ◌∷◌, length}
-use Rattle.std.proofs.Common.{take, drop, Option, None, Some, refl, ap, ap₂, sym, subst, length-drop, length-take-le}
+use Rattle.std.proofs.Common.{take, drop, Option, None, Some, refl, ap, ap₂, sym, subst, length-drop}
+use Rattle.std.proofs.Common.{length-take-le}
 use Rattle.std.proofs.Common.{◌∙◌, arith}
 use Rattle.std.specs.Prelude.{slice_get, OnSome, IfNone}
 use Rattle.std.specs.Option.{option_map}
@@ -11,7 +12,8 @@ use Rattle.hashlink_core.specs.KeyedLends.{with_value_at}
 use Rattle.hashlink_core.proofs.Mapped.{values-renewed_value}
 use Rattle.std.proofs.lemmas.List.{length-map}
 use Rattle.hashlink_map.specs.declared.places_left.PlacesLeft.{PlacesLeft}
-use Rattle.hashlink_map.specs.WritingWalk.{WritingWalk, writing_walk, walk_with, walk_in, walk_rest, last_place}
+use Rattle.hashlink_map.specs.WritingWalk.{WritingWalk, writing_walk, walk_with, walk_in, walk_rest}
+use Rattle.hashlink_map.specs.WritingWalk.{last_place}
 use Rattle.hashlink_map.specs.WritingWalk.{StandsIn, TakesPlace}
 use Rattle.hashlink_model.specs.Cursor.{following_place, preceding_place}
 use Rattle.hashlink_core.specs.Places.{Node, Holds, IsPlace, IsPlaceAt, place_number}
@@ -27,7 +29,8 @@ same-place (Some n) = refl
 
 module _ {X : Type 0} {ns : List (Node × X)} {left : ℕ} where
   pub stands-inside : (first last : Option Node)
-      → StandsBetween ns (option_map (λ n. n) first) (option_map (λ n. n) last) left → StandsBetween ns first last left
+      → StandsBetween ns (option_map (λ n. n) first) (option_map (λ n. n) last) left
+      → StandsBetween ns first last left
   stands-inside first last w =
       subst (λ p. StandsBetween ns p last left) (same-place first)
       (subst (λ p. StandsBetween ns (option_map (λ n. n) first) p left) (same-place last) w)
@@ -48,10 +51,11 @@ module _ {X : Type 0} (ns : List (Node × X)) (first last : Option Node) (left :
     pub place-first : IsPlace ns first
     place-first = subst (IsPlace ns) (sym is) holds-first
 
-    module _ (q : Option Node) (next : IsPlaceAt ns q (following_place (length ns) (place_number ns first))) where
+    module _ (q : Option Node)
+        (next : IsPlaceAt ns q (following_place (length ns) (place_number ns first))) where
       pub number-next : place_number ns q ≡ place_number ns first + 1
-      number-next = next.number ∙ following-within (length ns) (place_number ns first) (omega (arith, w.few, some))
-          ∙ omega arith
+      number-next = next.number ∙ following-within (length ns) (place_number ns first)
+          (omega (arith, w.few, some)) ∙ omega arith
 
       pub stands-next : StandsBetween ns q last (left - 1)
       stands-next = record {
@@ -71,7 +75,8 @@ module _ {X : Type 0} (ns : List (Node × X)) (first last : Option Node) (left :
     pub place-last : IsPlace ns last
     place-last = subst (IsPlace ns) (sym is) holds-last
 
-    module _ (q : Option Node) (prev : IsPlaceAt ns q (preceding_place (length ns) (place_number ns last))) where
+    module _ (q : Option Node)
+        (prev : IsPlaceAt ns q (preceding_place (length ns) (place_number ns last))) where
       number-prev : 1 < left → place_number ns q + 1 ≡ place_number ns last
       number-prev more =
           let ends = w.ends (omega (arith, some)) in
@@ -118,7 +123,8 @@ module _ {X : Type 0} where
 module _ {K V S : Type 0} where
   -- at a node of the list
   pub written-there : (m : Keyed K V S) (p : PlacesLeft Node) (n : Node) (v : V)
-      → walk_in (λ q. q) (with_value_at m n v) p ≡ walk_with (walk_in (λ q. q) m p) (place_number m.nodes (Some n)) v
+      → walk_in (λ q. q) (with_value_at m n v) p
+      ≡ walk_with (walk_in (λ q. q) m p) (place_number m.nodes (Some n)) v
   written-there m p n v =
       let i = place_number m.nodes (Some n) in
       ap₂ (λ es k. writing_walk (map_state es m.spare m.room m.link_writes m.hasher) k p.left)
@@ -126,7 +132,8 @@ module _ {K V S : Type 0} where
       (place_number-renewed (pair_with_value v) m.nodes i (option_map (λ q. q) p.first))
 
   -- at the node that was taken
-  pub taken-written : (m : Keyed K V S) (old new : PlacesLeft Node) (n : Node) (j : ℕ) (stepped : WritingWalk K V S)
+  pub taken-written : (m : Keyed K V S) (old new : PlacesLeft Node) (n : Node) (j : ℕ)
+      (stepped : WritingWalk K V S)
       → TakesPlace m (walk_in (λ p. p) m old) (walk_in (λ p. p) m new) j stepped (Some n) → (v : V)
       → walk_in (λ p. p) (with_value_at m n v) new ≡ walk_with stepped j v
   taken-written m old new n j stepped takes v =
@@ -135,7 +142,8 @@ module _ {K V S : Type 0} where
   -- what is read there
   pub first-taken : (m : Keyed K V S) (old : PlacesLeft Node) (n : Node) (new stepped : WritingWalk K V S)
       → TakesPlace m (walk_in (λ p. p) m old) new (walk_in (λ p. p) m old).at stepped (Some n)
-      → slice_get (entries_of m) (place_number m.nodes (Some n)) ≡ first_of (walk_rest (walk_in (λ p. p) m old))
+      → slice_get (entries_of m) (place_number m.nodes (Some n))
+      ≡ first_of (walk_rest (walk_in (λ p. p) m old))
   first-taken m old n new stepped takes =
       let w = walk_in (λ p. p) m old in
       ap (slice_get (entries_of m)) takes.1 ∙ sym (first-of_part (entries_of m) w.at w.left takes.2)
@@ -143,7 +151,8 @@ module _ {K V S : Type 0} where
   pub last-taken : (m : Keyed K V S) (old : PlacesLeft Node) (n : Node) (new stepped : WritingWalk K V S)
       → StandsIn (λ p. p) m.nodes old
       → TakesPlace m (walk_in (λ p. p) m old) new (last_place (walk_in (λ p. p) m old)) stepped (Some n)
-      → slice_get (entries_of m) (place_number m.nodes (Some n)) ≡ last_of (walk_rest (walk_in (λ p. p) m old))
+      → slice_get (entries_of m) (place_number m.nodes (Some n))
+      ≡ last_of (walk_rest (walk_in (λ p. p) m old))
   last-taken m old n new stepped stands takes =
       let w = walk_in (λ p. p) m old in
       ap (slice_get (entries_of m)) takes.1
@@ -159,6 +168,7 @@ on-none {P = P} is told = subst (λ o. IfNone o P) is told
 
 module _ {K V S : Type 0} where
   -- the map ends as the walk has it
-  pub walk-ends : {m : Keyed K V S} (seen : Keyed K V S) {state : MapState K V S} → m ≡ seen → state_of seen ≡ state
+  pub walk-ends : {m : Keyed K V S} (seen : Keyed K V S) {state : MapState K V S} → m ≡ seen
+      → state_of seen ≡ state
       → state_of m ≡ state
   walk-ends seen is told = ap state_of is ∙ told

@@ -24,17 +24,24 @@ HoldsKey-prop : {K V : Type 0} (eq : K → K → Bool) (ns : List (Node × (K ×
     → IsProp (HoldsKey eq ns k n)
 HoldsKey-prop eq ns k n = hlevel props
 
-module _ {K V S T : Type 0} {g : eq.Ghosts K} {h : hash.Ghosts K} {b : builder.Ghosts S T} {w : hasher.Ghosts T}
+module _ {K V S T : Type 0} {g : eq.Ghosts K} {h : hash.Ghosts K} {b : builder.Ghosts S T}
+    {w : hasher.Ghosts T}
     {N : Type 0} {n : as_node.Ghosts N} (o : OccupiedEntry K V S N T g h b w n) (v : V) where
   pub is_written : IsWritten o v (occupied_with o v)
   is_written =
       let m = o.map.now in
-      ap₂ (λ es i. record { map = map_state es m.spare m.room m.link_writes m.hasher; place = Some i; key = o.key })
+      ap₂ (λ es i. record {
+        map = map_state es m.spare m.room m.link_writes m.hasher;
+        place =
+            Some i;
+        key = o.key;
+      })
       (values-renewed_value m.nodes (occupied_place o) v)
       (place_number-renewed (pair_with_value v) m.nodes (occupied_place o) (Some (n.node o.node)))
 
   -- whatever shows that its node still holds the key
-  pub occupied_with-is : (p : HoldsKey g.eq (with_value_at o.map.now (n.node o.node) v).nodes o.key (n.node o.node))
+  pub occupied_with-is : (p : HoldsKey g.eq (with_value_at o.map.now (n.node o.node) v).nodes o.key
+      (n.node o.node))
       →
       record {
         map = record o.map { now = with_value_at o.map.now (n.node o.node) v };
@@ -53,7 +60,8 @@ module _ {K V S T : Type 0} {g : eq.Ghosts K} {h : hash.Ghosts K} {b : builder.G
 Holds-prop : {X : Type 0} (ns : List (Node × X)) (n : Node) → IsProp (Holds ns n)
 Holds-prop ns n = hlevel props
 
-module _ {K V S T : Type 0} {g : eq.Ghosts K} {h : hash.Ghosts K} {b : builder.Ghosts S T} {w : hasher.Ghosts T}
+module _ {K V S T : Type 0} {g : eq.Ghosts K} {h : hash.Ghosts K} {b : builder.Ghosts S T}
+    {w : hasher.Ghosts T}
     {N : Type 0} {n : as_node.Ghosts N} (o : RawOccupiedEntryMut K V S N T g h b w n) (v : V) where
   pub raw_is_written : RawIsWritten o v (raw_with o v)
   raw_is_written =
@@ -63,7 +71,12 @@ module _ {K V S T : Type 0} {g : eq.Ghosts K} {h : hash.Ghosts K} {b : builder.G
       (place_number-renewed (pair_with_value v) m.nodes (raw_place o) (Some (n.node o.node)))
 
   pub raw_with-is : (p : Holds (with_value_at o.map.now (n.node o.node) v).nodes (n.node o.node))
-      → record { map = record o.map { now = with_value_at o.map.now (n.node o.node) v }; node = o.node; stands = p }
+      → record {
+        map = record o.map { now = with_value_at o.map.now (n.node o.node) v };
+        node =
+            o.node;
+        stands = p;
+      }
       ≡ raw_with o v
   raw_with-is p =
       ap (λ q. record (raw_with o v) { stands = q })
@@ -79,7 +92,8 @@ pub cursor_written : {K V S : Type 0} (m : Keyed K V S) (n : Node) (p : Option N
     ≡ with_value_in (record { map = state_of m; place = place_number m.nodes p }) i v
 cursor_written m n p i v at =
     ap₂ (λ es q. record { map = map_state es m.spare m.room m.link_writes m.hasher; place = q })
-    (values-renewed_value m.nodes (place_number m.nodes (Some n)) v ∙ ap (λ j. set_value_at (entries_of m) j v) at)
+    (values-renewed_value m.nodes (place_number m.nodes (Some n)) v ∙ ap
+    (λ j. set_value_at (entries_of m) j v) at)
     (place_number-renewed (pair_with_value v) m.nodes (place_number m.nodes (Some n)) p)
 
 -- a node as what stands for one

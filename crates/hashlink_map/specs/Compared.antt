@@ -15,7 +15,8 @@ module _ {K V S : Type 0} where
   abbrev pub maps_cmp : (K → K → Ordering) → (V → V → Ordering) → Keyed K V S → Keyed K V S → Ordering
   maps_cmp cmpk cmpv a b = entries_cmp cmpk cmpv (entries_of a) (entries_of b)
 
-  abbrev pub maps_partial_cmp : (K → K → Option Ordering) → (V → V → Option Ordering) → Keyed K V S → Keyed K V S
+  abbrev pub maps_partial_cmp : (K → K → Option Ordering) → (V → V → Option Ordering)
+      → Keyed K V S → Keyed K V S
       → Option Ordering
   maps_partial_cmp cmpk cmpv a b = entries_partial_cmp cmpk cmpv (entries_of a) (entries_of b)
 
@@ -42,7 +43,8 @@ module _ {K V S : Type 0} where
       → IsTotalOrder (maps_cmp cmpk cmpv)
   maps_total {cmpk} {cmpv} a b = on_total entries_of (compared.entries_cmp_total cmpk cmpv a b)
 
-  pub maps_agree : {partk : K → K → Option Ordering} {partv : V → V → Option Ordering} {cmpk : K → K → Ordering}
+  pub maps_agree : {partk : K → K → Option Ordering} {partv : V → V → Option Ordering}
+      {cmpk : K → K → Ordering}
       {cmpv : V → V → Ordering}
       → ((x y : K) → partk x y ≡ Some (cmpk x y)) → ((x y : V) → partv x y ≡ Some (cmpv x y))
       → (m n : Keyed K V S) → maps_partial_cmp partk partv m n ≡ Some (maps_cmp cmpk cmpv m n)
@@ -55,7 +57,8 @@ module _ {K V S : Type 0} where
   maps_tie {eqk} {eqv} cmpk cmpv a b m n =
       compared.entries_ties eqk eqv cmpk cmpv a b (entries_of m) (entries_of n)
 
-  pub maps_alike : {W : Type 0} {eqk : K → K → Bool} {eqv : V → V → Bool} {hashk : K → List W} {hashv : V → List W}
+  pub maps_alike : {W : Type 0} {eqk : K → K → Bool} {eqv : V → V → Bool} {hashk : K → List W}
+      {hashv : V → List W}
       → ((x y : K) → eqk x y ≡ true → hashk x ≡ hashk y) → ((x y : V) → eqv x y ≡ true → hashv x ≡ hashv y)
       → (m n : Keyed K V S) → maps_eq eqk eqv m n ≡ true
       → map_hash_input hashk hashv m ≡ map_hash_input hashk hashv n

@@ -16,7 +16,8 @@ use Rattle.hashlink_map.specs.declared.cursor.CursorMut.{CursorMut}
 abbrev pub lent_pair : {K V : Type 0} → Bor K × MutBor V → K × V
 lent_pair p = (p.0.now, p.1.now)
 
-module _ {K V S T : Type 0} {g : eq.Ghosts K} {h : hash.Ghosts K} {b : builder.Ghosts S T} {w : hasher.Ghosts T}
+module _ {K V S T : Type 0} {g : eq.Ghosts K} {h : hash.Ghosts K} {b : builder.Ghosts S T}
+    {w : hasher.Ghosts T}
     {N : Type 0} {n : as_node.Ghosts N} where
   -- the map that it borrows
   abbrev pub cursor_map : CursorMut K V S N T g h b w n → MutBor (Keyed K V S)

@@ -14,7 +14,8 @@ use Rattle.hashlink_map.specs.declared.cursor.CursorMut.{CursorMut}
 use Rattle.hashlink_map.specs.Cursor.{cursor_map, cursor_node, cursor_state, CursorWritten}
 use Rattle.hashlink_map.specs.Standing.{still_placed}
 
-module _ {K V S T : Type 0} {g : eq.Ghosts K} {h : hash.Ghosts K} {b : builder.Ghosts S T} {w : hasher.Ghosts T}
+module _ {K V S T : Type 0} {g : eq.Ghosts K} {h : hash.Ghosts K} {b : builder.Ghosts S T}
+    {w : hasher.Ghosts T}
     {N : Type 0} {n : as_node.Ghosts N} where
   -- the cursor with v as the value of the node
   abbrev pub cursor_with : CursorMut K V S N T g h b w n → Node → V → CursorMut K V S N T g h b w n
@@ -25,10 +26,11 @@ module _ {K V S T : Type 0} {g : eq.Ghosts K} {h : hash.Ghosts K} {b : builder.G
         within = still_placed v ns (place_number ns (Some at)) (cursor_node c) c.within;
       }
 
-module _ (K V S T : RattleType) {g : eq.Ghosts K.Denot} {h : hash.Ghosts K.Denot} {b : builder.Ghosts S.Denot T.Denot}
+module _ (K V S T : RattleType) {g : eq.Ghosts K.Denot} {h : hash.Ghosts K.Denot}
+    {b : builder.Ghosts S.Denot T.Denot}
     {w : hasher.Ghosts T.Denot} {n : as_node.Ghosts Node} where
-  -- the cursor with what was written at the place i, and at the guard as it was. Its lifetime is the second of the
-  -- signature
+  -- the cursor with what was written at the place i, and at the guard as it was. Its lifetime is the second
+  -- of the signature
   abbrev pub LendsFromCursor : MutBor (CursorMut K.Denot V.Denot S.Denot Node T.Denot g h b w n) → ℕ
       → Option (MutBor V.Denot)
       → Fml
@@ -43,7 +45,8 @@ module _ (K V S T : RattleType) {g : eq.Ghosts K.Denot} {h : hash.Ghosts K.Denot
       → Option (Bor K.Denot × MutBor V.Denot)
       → Fml
   LendsPairFromCursor c i r =
-      follows_so (cursor.the_row (record { mir = named 1; lft = [] }) K V S node_row T g h b w n) V c.ghost_name
+      follows_so (cursor.the_row (record { mir = named 1; lft = [] }) K V S node_row T g h b w n)
+      V c.ghost_name
       (name_if_some (λ p. p.1.ghost_name) r)
       (λ v new. OnSome r (CursorWritten c.now new i v))
       (λ new. ((cursor_map new).ghost_name ≡ (cursor_map c.now).ghost_name)

@@ -32,7 +32,8 @@ module _ {K V S : Type 0} where
       (λ j. (v : V) × (w : V) × (value_at old.map.entries j ≡ Some v) × FnOnceReturnsAtMut calls f v tt w
       × (new ≡ record old { map = with_value old.map j w }))
 
-module _ {K V S T : Type 0} {g : eq.Ghosts K} {h : hash.Ghosts K} {b : builder.Ghosts S T} {w : hasher.Ghosts T} where
+module _ {K V S T : Type 0} {g : eq.Ghosts K} {h : hash.Ghosts K} {b : builder.Ghosts S T}
+    {w : hasher.Ghosts T} where
   -- ---- an occupied entry, which keeps its node as what stands for one
 
   module _ {N : Type 0} {n : as_node.Ghosts N} where

@@ -25,7 +25,8 @@ use Rattle.hashlink_map.specs.TryInsert.{FailsToInsert}
 abbrev pub PutsLast : {K V S : Type 0} → (K → K → Bool) → MapState K V S → MapState K V S → K → V → Type 0
 PutsLast eq old new k v = Inserts eq old new k v (length old.entries) (Ok (lookup (eq k) old.entries))
 
-module _ (K V S T : RattleType) {g : eq.Ghosts K.Denot} {h : hash.Ghosts K.Denot} {b : builder.Ghosts S.Denot T.Denot}
+module _ (K V S T : RattleType) {g : eq.Ghosts K.Denot} {h : hash.Ghosts K.Denot}
+    {b : builder.Ghosts S.Denot T.Denot}
     {w : hasher.Ghosts T.Denot} where
   module _ {n : as_node.Ghosts Node} where
     -- the entry with what was written as its value. Its lifetime is the second of the signature
@@ -68,12 +69,14 @@ module _ (K V S T : RattleType) {g : eq.Ghosts K.Denot} {h : hash.Ghosts K.Denot
       (λ new. IfErr r (FailsToInsert g.eq (state_of e.map.now) (state_of new) e.key))
 
   -- the map as an insert at the end of what was written leaves it, or a refusal of what was to go in
-  abbrev pub LendsOrNew : Entry K.Denot V.Denot S.Denot T.Denot g h b w → Result (MutBor V.Denot) (K.Denot × V.Denot)
+  abbrev pub LendsOrNew : Entry K.Denot V.Denot S.Denot T.Denot g h b w
+      → Result (MutBor V.Denot) (K.Denot × V.Denot)
       → Fml
   LendsOrNew e r =
       LendsSoOk (the_row K V S T g h b w) V (entry_map e) r
       (λ new u. PutsLast g.eq (entry_state e).map (state_of new) (entry_state e).key u)
-      (λ new. IfErr r (λ pair. RefusesEntry g.eq (entry_state e).map (state_of new) (entry_state e).key pair.1 pair))
+      (λ new. IfErr r (λ pair. RefusesEntry g.eq (entry_state e).map (state_of new)
+      (entry_state e).key pair.1 pair))
 
   -- the same where what makes the value may fail
   abbrev pub LendsOrTryNew : {E : Type 0} → Entry K.Denot V.Denot S.Denot T.Denot g h b w

@@ -10,7 +10,8 @@ use Rattle.hashlink_map.specs.declared.iter_mut.IterMut.{IterMut}
 use Rattle.hashlink_map.specs.declared.values_mut.ValuesMut.{ValuesMut}
 use Rattle.hashlink_map.specs.WritingWalk.{WritingWalk, walk_in}
 
-module _ {K V S T : Type 0} {g : eq.Ghosts K} {h : hash.Ghosts K} {b : builder.Ghosts S T} {w : hasher.Ghosts T}
+module _ {K V S T : Type 0} {g : eq.Ghosts K} {h : hash.Ghosts K} {b : builder.Ghosts S T}
+    {w : hasher.Ghosts T}
     {N : Type 0} {n : as_node.Ghosts N} where
   -- the map that it borrows
   abbrev pub walk_map : IterMut K V S N T g h b w n → MutBor (Keyed K V S)

@@ -29,11 +29,12 @@ module _ {W K V S : Type 0} (map : W → MutBor (Keyed K V S)) (state : W → Wr
   -- the same walk, as it was
   abbrev pub StaysThere : W → W → Type 0
   StaysThere old new =
-      ((map new).ghost_name ≡ (map old).ghost_name) × ((map new).now ≡ (map old).now) × (state new ≡ state old)
+      ((map new).ghost_name ≡ (map old).ghost_name) × ((map new).now ≡ (map old).now)
+      × (state new ≡ state old)
 
   -- a place was taken off what is left: the walk itself, `stepped`, and the place, which is j
-  pub record TakesOff (old : MutBor W) (j : ℕ) (stepped : WritingWalk K V S) (new : MutBor W) (taken : Option Node)
-      : Type 0 where
+  pub record TakesOff (old : MutBor W) (j : ℕ) (stepped : WritingWalk K V S) (new : MutBor W)
+      (taken : Option Node) : Type 0 where
     pub same_walk : new.ghost_name ≡ old.ghost_name
     pub same_map : (map new.now).ghost_name ≡ (map old.now).ghost_name
     pub unchanged : (map new.now).now ≡ (map old.now).now
@@ -46,7 +47,8 @@ LentFrom {K} {V} m taken r =
     (λ n. (p : Bor K × MutBor V) × (r ≡ Some p)
     × (slice_get (entries_of m) (place_number m.nodes (Some n)) ≡ Some (lent_pair p)))
 
-module _ {K V S T : Type 0} {g : eq.Ghosts K} {h : hash.Ghosts K} {b : builder.Ghosts S T} {w : hasher.Ghosts T}
+module _ {K V S T : Type 0} {g : eq.Ghosts K} {h : hash.Ghosts K} {b : builder.Ghosts S T}
+    {w : hasher.Ghosts T}
     {N : Type 0} {n : as_node.Ghosts N} where
   -- the walk with v as the value of the node
   abbrev pub walk_with_value : IterMut K V S N T g h b w n → Node → V → IterMut K V S N T g h b w n
@@ -57,10 +59,11 @@ module _ {K V S T : Type 0} {g : eq.Ghosts K} {h : hash.Ghosts K} {b : builder.G
         stands = still_standing v ns (place_number ns (Some at)) i.stands;
       }
 
-module _ (K V S T : RattleType) {g : eq.Ghosts K.Denot} {h : hash.Ghosts K.Denot} {b : builder.Ghosts S.Denot T.Denot}
+module _ (K V S T : RattleType) {g : eq.Ghosts K.Denot} {h : hash.Ghosts K.Denot}
+    {b : builder.Ghosts S.Denot T.Denot}
     {w : hasher.Ghosts T.Denot} {n : as_node.Ghosts Node} where
-  -- the walk is `stepped`, with what was written at the place j; where none was left it is as it was. Its lifetime is
-  -- the second of the signature
+  -- the walk is `stepped`, with what was written at the place j; where none was left it is as it was. Its
+  -- lifetime is the second of the signature
   abbrev pub LendsFromWalk : MutBor (IterMut K.Denot V.Denot S.Denot Node T.Denot g h b w n)
       → WritingWalk K.Denot V.Denot S.Denot → ℕ → Option (MutBor V.Denot)
       → Fml
@@ -79,7 +82,8 @@ module _ (K V S T : RattleType) {g : eq.Ghosts K.Denot} {h : hash.Ghosts K.Denot
       (λ new. IfNone r (StaysThere values_map values_state i.now new))
 
   -- the walk with what was written as the value of the node
-  abbrev pub LendsAtWalkNode : MutBor (IterMut K.Denot V.Denot S.Denot Node T.Denot g h b w n) → Node → MutBor V.Denot
+  abbrev pub LendsAtWalkNode : MutBor (IterMut K.Denot V.Denot S.Denot Node T.Denot g h b w n)
+      → Node → MutBor V.Denot
       → Fml
   LendsAtWalkNode i at r =
       Lends (walk.the_row (record { mir = named 1; lft = [] }) K V S node_row T g h b w n) V i r

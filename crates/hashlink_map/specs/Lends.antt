@@ -36,16 +36,16 @@ module _ (K V S T : RattleType) (g : HashMembers K.Denot) (b : builder.Ghosts S.
       (λ new. state_of new ≡ state_of m.now)
 
   module _ (m : MutBor (Keyed K.Denot V.Denot S.Denot)) (test : K.Denot → Bool) where
-    -- the value of the first key that passes is lent: the map ends with what was written there, and where none passes
-    -- as it was
+    -- the value of the first key that passes is lent: the map ends with what was written there, and where
+    -- none passes as it was
     abbrev pub LendsValueOf : Option (MutBor V.Denot) → Fml
     LendsValueOf r =
         LendsSo map_row V m r
         (λ new v. OnSome r (state_of new ≡ with_match_value test (state_of m.now) v))
         (λ new. state_of new ≡ state_of m.now)
 
-    -- it moved to the place p, and its value is lent: the map ends with what was written there, and where none passes
-    -- as it was
+    -- it moved to the place p, and its value is lent: the map ends with what was written there, and where
+    -- none passes as it was
     abbrev pub LendsMoved : ℕ → Option (MutBor V.Denot) → Fml
     LendsMoved p r =
         LendsSo map_row V m r

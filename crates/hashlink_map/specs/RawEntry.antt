@@ -57,7 +57,8 @@ module _ {K V S T : Type 0} where
   abbrev pub raw_vacant_state : RawVacantEntryMut K V S T → RawEntryState K V S
   raw_vacant_state e = record { map = state_of e.map.now; place = None }
 
-module _ {K V S T : Type 0} {g : eq.Ghosts K} {h : hash.Ghosts K} {b : builder.Ghosts S T} {w : hasher.Ghosts T} where
+module _ {K V S T : Type 0} {g : eq.Ghosts K} {h : hash.Ghosts K} {b : builder.Ghosts S T}
+    {w : hasher.Ghosts T} where
   -- ---- an occupied entry, which keeps its node as what stands for one
 
   module _ {N : Type 0} {n : as_node.Ghosts N} where
@@ -73,7 +74,8 @@ module _ {K V S T : Type 0} {g : eq.Ghosts K} {h : hash.Ghosts K} {b : builder.G
     raw_occupied_state o = record { map = state_of o.map.now; place = Some (raw_place o) }
 
     -- the entry with v as its value
-    abbrev pub raw_with : RawOccupiedEntryMut K V S N T g h b w n → V → RawOccupiedEntryMut K V S N T g h b w n
+    abbrev pub raw_with : RawOccupiedEntryMut K V S N T g h b w n → V
+        → RawOccupiedEntryMut K V S N T g h b w n
     raw_with o v =
         record o {
           map = record o.map { now = with_value_at o.map.now (n.node o.node) v };
@@ -81,7 +83,8 @@ module _ {K V S T : Type 0} {g : eq.Ghosts K} {h : hash.Ghosts K} {b : builder.G
         }
 
     -- v was written as the value, and nothing else changed
-    abbrev pub RawIsWritten : RawOccupiedEntryMut K V S N T g h b w n → V → RawOccupiedEntryMut K V S N T g h b w n
+    abbrev pub RawIsWritten : RawOccupiedEntryMut K V S N T g h b w n → V
+        → RawOccupiedEntryMut K V S N T g h b w n
         → Type 0
     RawIsWritten old v new =
         raw_occupied_state new

@@ -1,5 +1,6 @@
 -- What a map or a raw entry ends as, once what came through a raw entry has ended.
-use Rattle.std.specs.Prelude.{◌≡◌, ◌-◌, Bool, [], Option, Some, MatchOption, length, slice_get, Result, Ok, Err, IfOk}
+use Rattle.std.specs.Prelude.{◌≡◌, ◌-◌, Bool, [], Option, Some, MatchOption, length, slice_get, Result, Ok}
+use Rattle.std.specs.Prelude.{Err, IfOk}
 use Rattle.std.specs.Prelude.{IfErr, ⊤}
 use Rattle.std.specs.Borrow.{Fml, ftrue, RattleType, Bor, MutBor, Lends, RestsIfNone, RestsIfErr, follows_so}
 use Rattle.std.specs.Borrow.{name_if_ok}
@@ -25,16 +26,19 @@ use Rattle.hashlink_map.specs.Lends.{map_row}
 use Rattle.hashlink_map.specs.RawEntry.{raw_occupied_map, raw_with, raw_map, raw_state}
 
 -- what was found is of a given pair that went last, or of the pair that stood there and moved to the end
-abbrev pub StandsLast : {K V S : Type 0} → (K → K → Bool) → RawEntryState K V S → (K × V → Type 0) → RawEntryState K V S
+abbrev pub StandsLast : {K V S : Type 0} → (K → K → Bool) → RawEntryState K V S → (K × V → Type 0)
+    → RawEntryState K V S
     → Type 0
 StandsLast eq old Given new =
     let es = old.map.entries in
     MatchOption old.place
     ((e : _) × Given e × AddsEntry eq old.map new.map e.0 e.1 (length es) × (new.place ≡ Some (length es)))
-    (λ j. (e : _) × (slice_get es j ≡ Some e) × (place_of (eq e.0) es ≡ Some j) × MovesAt old.map new.map j (length es)
+    (λ j. (e : _) × (slice_get es j ≡ Some e) × (place_of (eq e.0) es ≡ Some j)
+    × MovesAt old.map new.map j (length es)
     × (new.place ≡ Some (length es - 1)))
 
-module _ (K V S T : RattleType) {g : eq.Ghosts K.Denot} {h : hash.Ghosts K.Denot} {b : builder.Ghosts S.Denot T.Denot}
+module _ (K V S T : RattleType) {g : eq.Ghosts K.Denot} {h : hash.Ghosts K.Denot}
+    {b : builder.Ghosts S.Denot T.Denot}
     {w : hasher.Ghosts T.Denot} where
   module _ {n : as_node.Ghosts Node} where
     -- the entry with what was written as its value. Its lifetime is the second of the signature
@@ -42,7 +46,8 @@ module _ (K V S T : RattleType) {g : eq.Ghosts K.Denot} {h : hash.Ghosts K.Denot
         → MutBor V.Denot
         → Fml
     LendsFromRaw o r =
-        Lends (occupied.the_row (record { mir = named 1; lft = [] }) K V S node_row T g h b w n) V o r (raw_with o.now)
+        Lends (occupied.the_row (record { mir = named 1; lft = [] }) K V S node_row T g h b w n) V o r
+        (raw_with o.now)
 
     -- the entry, where there is one, ends the map, which else stays as it was
     abbrev pub HandsOnOccupied : MutBor (Keyed K.Denot V.Denot S.Denot)
@@ -67,7 +72,8 @@ module _ (K V S T : RattleType) {g : eq.Ghosts K.Denot} {h : hash.Ghosts K.Denot
         RestsIfErr (the_row K V S T g h b w) (raw_map e) (λ o. (raw_occupied_map o).ghost_name) r
         (λ new. IfErr r (λ pair. RefusesEntry g.eq (raw_state e).map (state_of new) pair.0 pair.1 pair))
 
-  -- the map as an insert of the key that is lent and what was written leaves it, at the end, or as a refusal leaves it
+  -- the map as an insert of the key that is lent and what was written leaves it, at the end, or as a refusal
+  -- leaves it
   abbrev pub LendsLastPair : RawEntryMut K.Denot V.Denot S.Denot T.Denot g h b w
       → Result (Bor K.Denot × MutBor V.Denot) (K.Denot × V.Denot)
       → Fml
@@ -78,7 +84,8 @@ module _ (K V S T : RattleType) {g : eq.Ghosts K.Denot} {h : hash.Ghosts K.Denot
 
   module _ {N : Type 0} {n : as_node.Ghosts N} where
     -- the map with what was written as the entry's value
-    abbrev pub RawLendsForGood : RawOccupiedEntryMut K.Denot V.Denot S.Denot N T.Denot g h b w n → MutBor V.Denot
+    abbrev pub RawLendsForGood : RawOccupiedEntryMut K.Denot V.Denot S.Denot N T.Denot g h b w n
+        → MutBor V.Denot
         → Fml
     RawLendsForGood o r = Lends (the_row K V S T g h b w) V o.map r (with_value_at o.map.now (n.node o.node))
 
@@ -89,7 +96,8 @@ module _ (K V S T : RattleType) {g : eq.Ghosts K.Denot} {h : hash.Ghosts K.Denot
         (λ new. new ≡ o.map.now)
 
     -- where the entry is there, the map with what was written as its value
-    abbrev pub LendsPairOf : {E : Type 0} → Result (RawOccupiedEntryMut K.Denot V.Denot S.Denot N T.Denot g h b w n) E
+    abbrev pub LendsPairOf : {E : Type 0}
+        → Result (RawOccupiedEntryMut K.Denot V.Denot S.Denot N T.Denot g h b w n) E
         → Result (Bor K.Denot × MutBor V.Denot) E
         → Fml
     LendsPairOf (Ok o) (Ok p) = RawLendsForGood o p.1

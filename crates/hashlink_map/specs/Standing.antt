@@ -1,5 +1,6 @@
 -- Where a node stands after a step, and that it still holds its keys.
-use Rattle.std.specs.Prelude.{◌≡◌, ℕ, zero, suc, ◌+◌, ◌≤◌, length, Bool, cond, List, [], ◌∷◌, Option, None, Some}
+use Rattle.std.specs.Prelude.{◌≡◌, ℕ, zero, suc, ◌+◌, ◌≤◌, length, Bool, cond, List, [], ◌∷◌, Option, None}
+use Rattle.std.specs.Prelude.{Some}
 use Rattle.std.specs.Option.{option_map}
 use Rattle.std.specs.Map.{values_of}
 use Rattle.std.proofs.Common.{refl, sym, ap, subst, ◌∙◌}
@@ -16,7 +17,8 @@ IsPlace-prop ns None = hlevel props
 IsPlace-prop ns (Some n) = hlevel props
 
 -- the node is there, at the place p, and holds each key that it held
-pub record StaysHeld {K V S : Type 0} (eq : K → K → Bool) (old new : Keyed K V S) (n : Node) (p : ℕ) : Type 0 where
+pub record StaysHeld {K V S : Type 0} (eq : K → K → Bool) (old new : Keyed K V S) (n : Node)
+    (p : ℕ) : Type 0 where
   pub within : Holds new.nodes n
   pub place : place_number new.nodes (Some n) ≡ p
   pub keys : (k : K) → HoldsKey eq old.nodes k n → HoldsKey eq new.nodes k n

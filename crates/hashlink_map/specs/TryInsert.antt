@@ -10,7 +10,8 @@ module _ {K V E : Type 0} where
   HandsBack Made k (Make q e) = (q ≡ k) × Made (Err e)
   HandsBack Made k (Memory pair) = (pair.0 ≡ k) × Made (Ok pair.1)
 
-  -- where nothing was made the map stays, and where memory was refused it is as a refusal of the pair leaves it
+  -- where nothing was made the map stays, and where memory was refused it is as a refusal of the pair leaves
+  -- it
   abbrev pub FailsToInsert : {S : Type 0} → (K → K → Bool) → MapState K V S → MapState K V S → K
       → TryInsertError K V E
       → Type 0

@@ -37,8 +37,10 @@ module _ {K V S : Type 0} where
   abbrev pub walk_with : WritingWalk K V S → ℕ → V → WritingWalk K V S
   walk_with w j v = record w { map = with_value w.map j v }
 
-  -- a node of the list at the place j was taken, and the walk is `stepped`; or none is left, and it stays as it was
-  abbrev pub TakesPlace : Keyed K V S → WritingWalk K V S → WritingWalk K V S → ℕ → WritingWalk K V S → Option Node
+  -- a node of the list at the place j was taken, and the walk is `stepped`; or none is left, and it stays as
+  -- it was
+  abbrev pub TakesPlace : Keyed K V S → WritingWalk K V S → WritingWalk K V S → ℕ
+      → WritingWalk K V S → Option Node
       → Type 0
   TakesPlace m old new j stepped r =
       MatchOption r ((old.left ≡ 0) × (new ≡ old))

@@ -4,7 +4,8 @@ ghost use Rattle.std.specs.Borrow.{sem};
 ghost use Rattle.std.specs.Map.Iter.{deref_pair};
 ghost use Rattle.hashlink_model.specs.Entries.{place_of, IsEntries};
 ghost use Rattle.hashlink_model.specs.MapState.{MovesAt};
-ghost use Rattle.hashlink_model.specs.Entry.{key_at, value_at, InsertsValue, InsertsEntry, ReplacesEntry, ReplacesKey};
+ghost use Rattle.hashlink_model.specs.Entry.{key_at, value_at, InsertsValue, InsertsEntry, ReplacesEntry};
+ghost use Rattle.hashlink_model.specs.Entry.{ReplacesKey};
 ghost use Rattle.hashlink_model.specs.Entry.{ReplacesValue, TakesEntry, VacantInserts};
 ghost use Rattle.hashlink_core.specs.Keyed.{state_of, entries_of, HoldsKey, EqualsKeyAt};
 ghost use Rattle.hashlink_core.specs.Places.{Holds, place_number};
@@ -32,8 +33,8 @@ impl<K: Eq + Hash, V, S: BuildHasher> LinkedHashMap<K, V, S> {
     #[inline]
     pub(crate) fn pair_at_mut(&mut self, node: Node) -> (&K, &mut V)
         requires { Holds self.old.nodes node }
-        ensures* lends { sem 𝓛 (LendsAtNode K.row V.row S.row S.Hasher.row K.Hash S.BuildHasher S.Hasher.Hasher
-            self.entry node result.1) }
+        ensures* lends { sem 𝓛 (LendsAtNode K.row V.row S.row S.Hasher.row K.Hash
+            S.BuildHasher S.Hasher.Hasher self.entry node result.1) }
         ensures pair { slice_get (entries_of self.old) (place_number self.old.nodes (Some node))
             ≡ Some (result.0.now, result.1.now) }
     {
@@ -44,9 +45,10 @@ impl<K: Eq + Hash, V, S: BuildHasher> LinkedHashMap<K, V, S> {
     #[inline]
     pub(crate) fn value_at_mut(&mut self, node: Node) -> &mut V
         requires { Holds self.old.nodes node }
-        ensures* lends { sem 𝓛 (LendsAtNode K.row V.row S.row S.Hasher.row K.Hash S.BuildHasher S.Hasher.Hasher
-            self.entry node result) }
-        ensures value { value_at (entries_of self.old) (place_number self.old.nodes (Some node)) ≡ Some result.now }
+        ensures* lends { sem 𝓛 (LendsAtNode K.row V.row S.row S.Hasher.row K.Hash
+            S.BuildHasher S.Hasher.Hasher self.entry node result) }
+        ensures value { value_at (entries_of self.old) (place_number self.old.nodes (Some node))
+            ≡ Some result.now }
     {
         self.list.value_mut(node)
     }
@@ -55,9 +57,10 @@ impl<K: Eq + Hash, V, S: BuildHasher> LinkedHashMap<K, V, S> {
     #[inline]
     pub(crate) fn key_for_good(&mut self, node: Node) -> &K
         requires { Holds self.old.nodes node }
-        ensures* unchanged { sem 𝓛 (StaysAsItWas K.row V.row S.row S.Hasher.row K.Hash S.BuildHasher S.Hasher.Hasher
-            self.entry) }
-        ensures key { key_at (entries_of self.old) (place_number self.old.nodes (Some node)) ≡ Some result.now }
+        ensures* unchanged { sem 𝓛
+            (StaysAsItWas K.row V.row S.row S.Hasher.row K.Hash S.BuildHasher S.Hasher.Hasher self.entry) }
+        ensures key { key_at (entries_of self.old) (place_number self.old.nodes (Some node))
+            ≡ Some result.now }
     {
         self.pair_at(node).0
     }
@@ -66,8 +69,8 @@ impl<K: Eq + Hash, V, S: BuildHasher> LinkedHashMap<K, V, S> {
     #[inline]
     pub(crate) fn move_to_back(&mut self, node: Node)
         requires { Holds self.old.nodes node }
-        ensures moves { MovesAt (state_of self.old) (state_of self.new) (place_number self.old.nodes (Some node))
-            (length (entries_of self.old)) }
+        ensures moves { MovesAt (state_of self.old) (state_of self.new)
+            (place_number self.old.nodes (Some node)) (length (entries_of self.old)) }
         ensures stays { StaysHeld K.eq self.old self.new node (length (entries_of self.old) - 1) }
 
         // No two keys are equal, of this map as of every map.
@@ -80,7 +83,8 @@ impl<K: Eq + Hash, V, S: BuildHasher> LinkedHashMap<K, V, S> {
     #[inline]
     pub(crate) fn move_to_front(&mut self, node: Node)
         requires { Holds self.old.nodes node }
-        ensures moves { MovesAt (state_of self.old) (state_of self.new) (place_number self.old.nodes (Some node)) 0 }
+        ensures moves { MovesAt (state_of self.old) (state_of self.new)
+            (place_number self.old.nodes (Some node)) 0 }
         ensures stays { StaysHeld K.eq self.old self.new node 0 }
     {
         self.list.move_after(node, None);
@@ -101,7 +105,8 @@ impl<K: Eq + Hash, V, S: BuildHasher> LinkedHashMap<K, V, S> {
     #[inline]
     pub(crate) fn replace_key_at(&mut self, node: Node, key: K) -> K
         requires held { Holds self.old.nodes node }
-        requires equal { EqualsKeyAt K.eq (entries_of self.old) (place_number self.old.nodes (Some node)) key }
+        requires equal { EqualsKeyAt K.eq (entries_of self.old)
+            (place_number self.old.nodes (Some node)) key }
         ensures replaces { ReplacesKey (state_of self.old) (state_of self.new)
             (place_number self.old.nodes (Some node)) key result }
         ensures stays { StaysHeld K.eq self.old self.new node (place_number self.old.nodes (Some node)) }
@@ -136,8 +141,8 @@ impl<K: Eq + Hash, V, S: BuildHasher> LinkedHashMap<K, V, S> {
     /// Puts an equal key and the value in and moves the node to the end, and returns the old pair.
     pub(crate) fn put_pair_last(&mut self, node: Node, key: K, value: V) -> (K, V)
         requires { HoldsKey K.eq self.old.nodes key node }
-        ensures { InsertsEntry (state_of self.old) (state_of self.new) (place_number self.old.nodes (Some node)) key
-            value result }
+        ensures { InsertsEntry (state_of self.old) (state_of self.new)
+            (place_number self.old.nodes (Some node)) key value result }
     {
         let old = self.replace_pair_at(node, key, value);
         self.move_to_back(node);
@@ -148,7 +153,8 @@ impl<K: Eq + Hash, V, S: BuildHasher> LinkedHashMap<K, V, S> {
     #[inline]
     pub(crate) fn take_at(&mut self, node: Node) -> (K, V)
         requires { Holds self.old.nodes node }
-        ensures { TakesEntry (state_of self.old) (state_of self.new) (place_number self.old.nodes (Some node)) result }
+        ensures { TakesEntry (state_of self.old) (state_of self.new)
+            (place_number self.old.nodes (Some node)) result }
     {
         self.list.remove(node)
     }
@@ -161,7 +167,8 @@ impl<K: Eq + Hash, V, S: BuildHasher> LinkedHashMap<K, V, S> {
             ≡ hash_with S.build_hasher S.Hasher.write S.Hasher.finish K.hash_input self.old.hasher key }
         ensures inserts { VacantInserts K.eq (state_of self.old) (state_of self.new) key value result }
         ensures holds { IfOk result (HoldsKey K.eq self.new.nodes key) }
-        ensures place { IfOk result (λ node. place_number self.new.nodes (Some node) ≡ length (entries_of self.old)) }
+        ensures place { IfOk result (λ node. place_number self.new.nodes (Some node) ≡ length
+            (entries_of self.old)) }
     {
         self.list.insert_before(None, hash, key, value)
     }

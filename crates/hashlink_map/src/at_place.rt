@@ -93,8 +93,8 @@ impl<K: Eq + Hash, V, S: BuildHasher> LinkedHashMap<K, V, S> {
         requires place { IsPlace self.old.nodes place }
         requires other { place ≢ Some node }
         requires apart { IsKeyed K.eq self.old }
-        ensures moves { MovesAt (state_of self.old) (state_of self.new) (place_number self.old.nodes (Some node))
-            (place_number self.old.nodes place) }
+        ensures moves { MovesAt (state_of self.old) (state_of self.new)
+            (place_number self.old.nodes (Some node)) (place_number self.old.nodes place) }
         ensures keys { KeepsKeys self.old self.new }
         ensures sound { IsKeyed K.eq self.new }
     {
@@ -116,7 +116,8 @@ impl<K: Eq + Hash, V, S: BuildHasher> LinkedHashMap<K, V, S> {
             ≡ hash_with S.build_hasher S.Hasher.write S.Hasher.finish K.hash_input self.old.hasher key }
         requires apart { IsKeyed K.eq self.old }
         ensures inserts { MatchResult result
-            (λ _. AddsEntry K.eq (state_of self.old) (state_of self.new) key value (place_number self.old.nodes place))
+            (λ _. AddsEntry K.eq (state_of self.old) (state_of self.new) key value
+            (place_number self.old.nodes place))
             (RefusesEntry K.eq (state_of self.old) (state_of self.new) key value) }
         ensures keys { KeepsKeys self.old self.new }
         ensures sound { IsKeyed K.eq self.new }
@@ -124,8 +125,9 @@ impl<K: Eq + Hash, V, S: BuildHasher> LinkedHashMap<K, V, S> {
         self.list.insert_before(place, hash, key, value)
     }
 
-    /// Puts the pair right before the place, and returns the key's old value. A key that is there keeps its key
-    /// object, takes the new value and moves there, unless it stands there. Each place stays on its entry.
+    /// Puts the pair right before the place, and returns the key's old value. A key that is there keeps its
+    /// key object, takes the new value and moves there, unless it stands there. Each place stays on its
+    /// entry.
     pub(crate) fn insert_at(
         &mut self,
         place: Option<Node>,

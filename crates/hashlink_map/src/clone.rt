@@ -12,11 +12,11 @@ use std::alloc::{AllocError, Global};
 use std::hash::{BuildHasher, Hash};
 
 impl<K: Eq + Hash + Drop, V: Drop, S: BuildHasher + Default + Drop> LinkedHashMap<K, V, S> {
-    /// A map of the items, each inserted in turn as `insert` does, that hashes by `S::default()`. The iterator has to
-    /// end. No room is made before an item needs it.
+    /// A map of the items, each inserted in turn as `insert` does, that hashes by `S::default()`. The
+    /// iterator has to end. No room is made before an item needs it.
     ///
-    /// It returns `AllocError` where the memory for an item is refused. Then nothing after that item is read, and
-    /// nothing is left of the map.
+    /// It returns `AllocError` where the memory for an item is refused. Then nothing after that item is read,
+    /// and nothing is left of the map.
     pub fn from_iter<I: IntoIterator<Item = (K, V)>>(
         alloc: Global,
         iter: I,
@@ -50,11 +50,11 @@ impl<K: Eq + Hash + Drop, V: Drop, S: BuildHasher + Default + Drop> FromIterator
 }
 
 impl<K: Eq + Hash + Clone, V: Clone, S: BuildHasher + Clone> LinkedHashMap<K, V, S> {
-    /// A map with a clone of the hasher, in which a clone of each pair was inserted in turn, front first. It is in the
-    /// same allocator's memory, and has no spare node.
+    /// A map with a clone of the hasher, in which a clone of each pair was inserted in turn, front first. It
+    /// is in the same allocator's memory, and has no spare node.
     ///
-    /// It returns `AllocError` where the memory for a clone or for a node is refused, and then nothing is left of the
-    /// new map. A clone of an empty map is not refused where that of its hasher is not.
+    /// It returns `AllocError` where the memory for a clone or for a node is refused, and then nothing is
+    /// left of the new map. A clone of an empty map is not refused where that of its hasher is not.
     pub fn clone(&self) -> Result<Self, AllocError>
         ensures made { IfOk result (λ map. (s : S) × S.is_clone self.now.hasher s × (clones : List (K × V))
             × ArePairClones K.is_clone V.is_clone (entries_of self.now) clones
@@ -78,7 +78,8 @@ impl<K: Eq + Hash + Clone, V: Clone, S: BuildHasher + Clone> LinkedHashMap<K, V,
 
     // Inserts a clone of the pair.
     fn insert_clone(&mut self, key: &K, value: &V) -> Result<(), AllocError>
-        ensures { OnOk result ((p : K × V) × (old : Option V) × K.is_clone key.now p.0 × V.is_clone value.now p.1
+        ensures { OnOk result ((p : K × V) × (old : Option V) × K.is_clone key.now p.0
+            × V.is_clone value.now p.1
             × InsertsPair K.eq (state_of self.old) (state_of self.new) p (Ok old)) }
     {
         match self.insert(key.clone()?, value.clone()?) {

@@ -2,14 +2,15 @@
 ghost use Rattle.std.specs.Prelude.{◌≡◌, ◌&&◌};
 ghost use Rattle.std.specs.Ordering.{ordering_then, partial_ordering_then};
 ghost use Rattle.hashlink_map.specs.Compared.{maps_eq, maps_cmp, maps_partial_cmp};
-ghost use Rattle.hashlink_map.specs.Compared.{maps_per, maps_equiv, maps_po, maps_total, maps_agree, maps_tie};
+ghost use Rattle.hashlink_map.specs.Compared.{maps_per, maps_equiv, maps_po, maps_total, maps_agree};
+ghost use Rattle.hashlink_map.specs.Compared.{maps_tie};
 
 use crate::map::LinkedHashMap;
 use std::cmp::Ordering;
 use std::hash::{BuildHasher, Hash};
 
-/// Maps are equal where they have as many entries, and at each place an equal key and an equal value. It takes a step
-/// for each entry up to the first that differs.
+/// Maps are equal where they have as many entries, and at each place an equal key and an equal value. It
+/// takes a step for each entry up to the first that differs.
 impl<K: Eq + Hash, V: PartialEq, S: BuildHasher> PartialEq for LinkedHashMap<K, V, S> {
     ghost eq = { maps_eq K.eq V.eq };
 
@@ -34,8 +35,8 @@ impl<K: Eq + Hash, V: Eq, S: BuildHasher> Eq for LinkedHashMap<K, V, S> {
     ghost laws = { maps_equiv K.Eq.laws V.Eq.laws };
 }
 
-/// Maps are ordered by the first place where their entries do not compare as equal, key before value. A map whose
-/// entries begin another's is less.
+/// Maps are ordered by the first place where their entries do not compare as equal, key before value. A map
+/// whose entries begin another's is less.
 impl<K: Eq + Hash + PartialOrd, V: PartialOrd, S: BuildHasher> PartialOrd
     for LinkedHashMap<K, V, S> {
     ghost partial_cmp = { maps_partial_cmp K.partial_cmp V.partial_cmp };
@@ -107,7 +108,8 @@ fn pair_partial_cmp<K: PartialOrd, V: PartialOrd>(
     other_value: &V,
 ) -> Option<Ordering>
     ensures { result
-        ≡ partial_ordering_then (K.partial_cmp key.now other_key.now) (V.partial_cmp value.now other_value.now) }
+        ≡ partial_ordering_then (K.partial_cmp key.now other_key.now)
+        (V.partial_cmp value.now other_value.now) }
 {
     match key.partial_cmp(other_key) {
         Some(Ordering::Equal) => value.partial_cmp(other_value),

@@ -1,5 +1,6 @@
-//! Cursors: a place among the entries of a map, which moves round the guard that stands between the last and the
-//! first. A clause sees a cursor as the map's state and the number of its place, which is the length at the guard.
+//! Cursors: a place among the entries of a map, which moves round the guard that stands between the last and
+//! the first. A clause sees a cursor as the map's state and the number of its place, which is the length at
+//! the guard.
 ghost use Rattle.std.specs.Prelude.{◌≡◌, ◌-◌, length};
 ghost use Rattle.std.specs.Option.{option_map};
 ghost use Rattle.hashlink_core.specs.Keyed.{entries_of};

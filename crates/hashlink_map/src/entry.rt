@@ -25,8 +25,8 @@ pub enum Entry<'a, K: Eq + Hash, V, S: BuildHasher = DefaultHashBuilder> {
 
 /// An entry that is there, with a key in hand that equals its key.
 ///
-/// A caller who is generic in the key, and wants to prove what the map is afterwards, ends it by `into_key` or by
-/// another call that takes it by value: of an occupied entry that is dropped a contract says nothing.
+/// A caller who is generic in the key, and wants to prove what the map is afterwards, ends it by `into_key`
+/// or by another call that takes it by value: of an occupied entry that is dropped a contract says nothing.
 #[derive(Drop)]
 pub struct OccupiedEntry<
     'a,
@@ -46,7 +46,8 @@ pub struct VacantEntry<'a, K: Eq + Hash, V, S: BuildHasher = DefaultHashBuilder>
     pub(crate) map: &'a mut LinkedHashMap<K, V, S>,
     pub(crate) hash: u64,
     pub(crate) key: K,
-    ghost hashed: { hash ≡ hash_with S.build_hasher S.Hasher.write S.Hasher.finish K.hash_input map.now.hasher key },
+    ghost hashed: { hash ≡ hash_with S.build_hasher S.Hasher.write S.Hasher.finish K.hash_input
+        map.now.hasher key },
     ghost absent: { place_of (K.eq key) (entries_of map.now) ≡ None },
 }
 

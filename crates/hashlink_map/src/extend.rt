@@ -16,8 +16,8 @@ use std::hash::{BuildHasher, Hash};
 impl<K: Eq + Hash + Drop, V: Drop, S: BuildHasher> LinkedHashMap<K, V, S> {
     /// Inserts each item in turn, as `insert` does. The iterator has to end.
     ///
-    /// Where the memory for an item is refused, those before it are in, it is handed back, and nothing after it is
-    /// read. No room is made before an item needs it.
+    /// Where the memory for an item is refused, those before it are in, it is handed back, and nothing after
+    /// it is read. No room is made before an item needs it.
     pub fn extend<I: IntoIterator<Item = (K, V)>>(
         &mut self,
         iter: I,
@@ -26,23 +26,26 @@ impl<K: Eq + Hash + Drop, V: Drop, S: BuildHasher> LinkedHashMap<K, V, S> {
         ensures all { OnOk result (ReadsAll I.into_iter_gives I.IntoIter.next_gives iter
             (λ items. AcceptsAll (InsertsPair K.eq) (state_of self.old) items (state_of self.new))) }
         ensures stopped { IfErr result (λ e. ReadsSome I.into_iter_gives I.IntoIter.next_gives iter
-            (λ items. StopsAt (InsertsPair K.eq) (state_of self.old) items (state_of self.new) e.taken e.pair [])) }
+            (λ items. StopsAt (InsertsPair K.eq) (state_of self.old) items
+            (state_of self.new) e.taken e.pair [])) }
     {
         let mut rest = iter.into_iter();
         self.extend_from(&mut rest)
     }
 
-    /// The same out of an iterator that its caller keeps: it is left with the items after the refused one, or with
-    /// none.
+    /// The same out of an iterator that its caller keeps: it is left with the items after the refused one, or
+    /// with none.
     pub fn extend_from<I: Iterator<Item = (K, V)>>(
         &mut self,
         iter: &mut I,
     ) -> Result<(), ExtendError<K, V>>
         requires may { I.can_next iter.old }
         requires ends { IsFinite (I.remaining iter.old) }
-        ensures all { OnOk result ((items : List (K × V)) × YieldsThen I.next_gives iter.old items None iter.new
+        ensures all { OnOk result
+            ((items : List (K × V)) × YieldsThen I.next_gives iter.old items None iter.new
             × AcceptsAll (InsertsPair K.eq) (state_of self.old) items (state_of self.new)) }
-        ensures stopped { IfErr result (λ e. (items : List (K × V)) × Yields I.next_gives iter.old items iter.new
+        ensures stopped { IfErr result
+            (λ e. (items : List (K × V)) × Yields I.next_gives iter.old items iter.new
             × StopsAt (InsertsPair K.eq) (state_of self.old) items (state_of self.new) e.taken e.pair []) }
     {
         let mut taken = 0u64;
@@ -59,17 +62,19 @@ impl<K: Eq + Hash + Drop, V: Drop, S: BuildHasher> LinkedHashMap<K, V, S> {
 impl<'a, K: Eq + Hash + Copy + 'a, V: Copy + 'a, S: BuildHasher> LinkedHashMap<K, V, S> {
     /// Inserts a copy of each pair in turn, as `extend` does.
     ///
-    /// Where the memory for a pair is refused, those before it are in, its copy is handed back, and nothing after it
-    /// is read.
+    /// Where the memory for a pair is refused, those before it are in, its copy is handed back, and nothing
+    /// after it is read.
     pub fn extend_ref<I: IntoIterator<Item = (&'a K, &'a V)>>(
         &mut self,
         iter: I,
     ) -> Result<(), ExtendError<K, V>>
         requires { IsFiniteIterable I.into_iter_gives I.IntoIter.can_next I.IntoIter.remaining iter }
         ensures all { OnOk result (ReadsAll I.into_iter_gives I.IntoIter.next_gives iter
-            (λ items. AcceptsAll (InsertsPair K.eq) (state_of self.old) (map deref_pair items) (state_of self.new))) }
+            (λ items. AcceptsAll (InsertsPair K.eq) (state_of self.old) (map deref_pair items)
+            (state_of self.new))) }
         ensures stopped { IfErr result (λ e. ReadsSome I.into_iter_gives I.IntoIter.next_gives iter
-            (λ items. StopsAt (InsertsPair K.eq) (state_of self.old) (map deref_pair items) (state_of self.new)
+            (λ items. StopsAt (InsertsPair K.eq) (state_of self.old) (map deref_pair items)
+            (state_of self.new)
             e.taken e.pair [])) }
     {
         let mut rest = iter.into_iter();
@@ -86,7 +91,8 @@ impl<'a, K: Eq + Hash + Copy + 'a, V: Copy + 'a, S: BuildHasher> LinkedHashMap<K
 
 /// The items go in as by the function `extend`. The refused one is dropped.
 impl<K: Eq + Hash + Drop, V: Drop, S: BuildHasher> Extend<(K, V)> for LinkedHashMap<K, V, S> {
-    ghost extend_gives = { λ old items new. TakesItems (InsertsPair K.eq) (Grows 1) (state_of old) items (state_of new) };
+    ghost extend_gives = { λ old items new. TakesItems (InsertsPair K.eq) (Grows 1) (state_of old) items
+        (state_of new) };
 
     fn extend<I: IntoIterator<Item = (K, V)>>(&mut self, iter: I) -> Result<(), AllocError> {
         LinkedHashMap::extend(self, iter)?;

@@ -3,8 +3,8 @@ use std::alloc::AllocError;
 use std::error::Error;
 use std::fmt;
 
-/// Why items were not all inserted: the memory for one of them was refused. Those before it are in, it is handed back,
-/// and nothing after it was read.
+/// Why items were not all inserted: the memory for one of them was refused. Those before it are in, it is
+/// handed back, and nothing after it was read.
 #[derive(Clone, Copy, Debug, PartialEq, Eq, Hash, Drop)]
 pub struct ExtendError<K, V> {
     /// How many items are in. It stops at `u64::MAX`.

@@ -9,8 +9,8 @@ use crate::map::LinkedHashMap;
 use std::hash::{BuildHasher, Hash};
 use std::ops::{Index, IndexMut};
 
-/// The value of a key that is there, which `contains_key` tells. The order stays as it is. It takes what a lookup
-/// takes.
+/// The value of a key that is there, which `contains_key` tells. The order stays as it is. It takes what a
+/// lookup takes.
 impl<'q, K: Eq + Hash, V, S: BuildHasher> Index<&'q K> for LinkedHashMap<K, V, S> {
     type Output = V;
 
@@ -27,8 +27,8 @@ impl<'q, K: Eq + Hash, V, S: BuildHasher> Index<&'q K> for LinkedHashMap<K, V, S
 impl<'q, K: Eq + Hash, V, S: BuildHasher> IndexMut<&'q K> for LinkedHashMap<K, V, S> {
     fn index_mut(&mut self, key: &'q K) -> &mut V
         requires { HasKey K.eq self.old key.now }
-        ensures* lends { sem 𝓛 (LendsIndexed K.row V.row S.row S.Hasher.row K.Hash S.BuildHasher S.Hasher.Hasher
-            self.entry key.now result) }
+        ensures* lends { sem 𝓛 (LendsIndexed K.row V.row S.row S.Hasher.row K.Hash
+            S.BuildHasher S.Hasher.Hasher self.entry key.now result) }
         ensures value { lookup (K.eq key.now) (entries_of self.old) ≡ Some result.now }
     {
         let hash = self.list.hash_of(key);

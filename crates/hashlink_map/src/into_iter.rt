@@ -11,8 +11,8 @@ use std::hash::{BuildHasher, Hash};
 use std::iter::FusedIterator;
 use std::marker::Model;
 
-/// A walk that gives the entries away, front first. Contracts see it as the list of the pairs that it has left. Its
-/// end drops those that it has not given, and gives every node and the table back.
+/// A walk that gives the entries away, front first. Contracts see it as the list of the pairs that it has
+/// left. Its end drops those that it has not given, and gives every node and the table back.
 #[derive(Drop)]
 pub struct IntoIter<K: Eq + Hash, V, S: BuildHasher = DefaultHashBuilder> {
     pub(crate) map: LinkedHashMap<K, V, S>,

@@ -1,5 +1,5 @@
-//! A walk that lends values for writing, one at a time, from both ends. A clause sees it as the map's state, the
-//! number of the first place left and how many entries are left.
+//! A walk that lends values for writing, one at a time, from both ends. A clause sees it as the map's state,
+//! the number of the first place left and how many entries are left.
 ghost use Rattle.std.specs.Prelude.{◌≡◌, Some, length, slice_get};
 ghost use Rattle.std.specs.Borrow.{sem};
 ghost use Rattle.std.specs.Option.{option_map, option_copied_mut};
@@ -26,7 +26,8 @@ impl<K: Eq + Hash, V, S: BuildHasher> LinkedHashMap<K, V, S> {
     ghost use Rattle.hashlink_map.specs.IterMut.{walk_map, walk_state};
     ghost use Rattle.hashlink_map.specs.WritingWalk.{writing_walk};
 
-    /// A walk over the entries, front first, that lends each value for writing. It takes constant time and no memory.
+    /// A walk over the entries, front first, that lends each value for writing. It takes constant time and no
+    /// memory.
     pub fn iter_mut(&mut self) -> IterMut<'_, K, V, S>
         ensures same_map { (walk_map result).ghost_name ≡ self.entry.ghost_name }
         ensures unchanged { (walk_map result).now ≡ self.old }
@@ -69,8 +70,8 @@ impl<'a, K: Eq + Hash, V, S: BuildHasher> IterMut<'a, K, V, S> {
 
     /// The walk with its first place taken off, and that place.
     fn step_first(&mut self) -> (&mut Self, Option<Node>)
-        ensures { TakesOff walk_map walk_state self.entry (walk_state self.old).at (after_front (walk_state self.old))
-            result.0 result.1 }
+        ensures { TakesOff walk_map walk_state self.entry (walk_state self.old).at
+            (after_front (walk_state self.old)) result.0 result.1 }
     {
         let taken = self.places.take_first(self.map);
         (self, taken)
@@ -105,8 +106,8 @@ impl<'a, K: Eq + Hash, V, S: BuildHasher> IterMut<'a, K, V, S> {
         walk.pair_at(taken)
     }
 
-    /// The value of the first entry left, for writing: `next` without the key, of which a caller knows in full what
-    /// the map is afterwards.
+    /// The value of the first entry left, for writing: `next` without the key, of which a caller knows in
+    /// full what the map is afterwards.
     pub fn next_value(&mut self) -> Option<&mut V>
         ensures* lends { sem 𝓛 (LendsFromWalk K.row V.row S.row S.Hasher.row self.entry
             (after_front (walk_state self.old)) (walk_state self.old).at result) }
@@ -119,8 +120,8 @@ impl<'a, K: Eq + Hash, V, S: BuildHasher> IterMut<'a, K, V, S> {
         }
     }
 
-    /// The value of the last entry left, for writing: `next_back` without the key, of which a caller knows in full
-    /// what the map is afterwards.
+    /// The value of the last entry left, for writing: `next_back` without the key, of which a caller knows in
+    /// full what the map is afterwards.
     pub fn next_value_back(&mut self) -> Option<&mut V>
         ensures* lends { sem 𝓛 (LendsFromWalk K.row V.row S.row S.Hasher.row self.entry
             (after_back (walk_state self.old)) (last_place (walk_state self.old)) result) }

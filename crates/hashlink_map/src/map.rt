@@ -1,5 +1,5 @@
-//! The map. A clause sees it as its state: the entries, front first, and the numbers of spare nodes, of room and of
-//! stored links.
+//! The map. A clause sees it as its state: the entries, front first, and the numbers of spare nodes, of room
+//! and of stored links.
 ghost use Rattle.std.specs.Prelude.{◌≡◌, ◌^◌, ◌<◌, ◌↔◌, length, IfOk, IsOk, IsTrue, Err};
 ghost use Rattle.hashlink_model.specs.Entries.{IsEntries};
 ghost use Rattle.hashlink_model.specs.MapState.{empty_map, HasRoom};
@@ -19,8 +19,8 @@ use std::alloc::Global;
 use std::hash::{BuildHasher, Hash};
 use std::marker::Model;
 
-/// A hash map whose entries stand in one order, front first. An insert puts its pair last, and moves a key that is
-/// there to the end.
+/// A hash map whose entries stand in one order, front first. An insert puts its pair last, and moves a key
+/// that is there to the end.
 #[derive(Drop)]
 pub struct LinkedHashMap<K: Eq + Hash, V, S: BuildHasher = DefaultHashBuilder> {
     pub(crate) list: KeyedList<K, V, S>,
@@ -44,10 +44,11 @@ impl<K: Eq + Hash, V> LinkedHashMap<K, V, DefaultHashBuilder> {
         LinkedHashMap::with_hasher(alloc, DefaultHashBuilder)
     }
 
-    /// An empty map with room for so many entries, which hashes by `DefaultHasher`. For none it takes no memory.
+    /// An empty map with room for so many entries, which hashes by `DefaultHasher`. For none it takes no
+    /// memory.
     ///
-    /// It returns `CapacityOverflow` for more than 2 to the power of 62 entries, and `AllocError` where the memory is
-    /// refused.
+    /// It returns `CapacityOverflow` for more than 2 to the power of 62 entries, and `AllocError` where the
+    /// memory is refused.
     pub fn with_capacity(alloc: Global, capacity: usize) -> Result<Self, TryReserveError>
         ensures made { IfOk result (λ map. IsMadeWith capacity default_builder (state_of map)) }
         ensures none { capacity ≡ 0 → IsOk result }
@@ -69,8 +70,8 @@ impl<K: Eq + Hash, V, S: BuildHasher> LinkedHashMap<K, V, S> {
 
     /// An empty map with room for so many entries that hashes by `hash_builder`. For none it takes no memory.
     ///
-    /// It returns `CapacityOverflow` for more than 2 to the power of 62 entries, and `AllocError` where the memory is
-    /// refused.
+    /// It returns `CapacityOverflow` for more than 2 to the power of 62 entries, and `AllocError` where the
+    /// memory is refused.
     pub fn with_capacity_and_hasher(
         alloc: Global,
         capacity: usize,

@@ -38,7 +38,8 @@ impl PlacesLeft {
     ) -> Option<Node>
         requires { StandsIn (λ n. n) map.now.nodes self.old }
         ensures stands { StandsIn (λ n. n) map.now.nodes self.new }
-        ensures takes { TakesPlace map.now (walk_in (λ n. n) map.now self.old) (walk_in (λ n. n) map.now self.new)
+        ensures takes { TakesPlace map.now (walk_in (λ n. n) map.now self.old)
+            (walk_in (λ n. n) map.now self.new)
             (walk_in (λ n. n) map.now self.old).at (after_front (walk_in (λ n. n) map.now self.old)) result }
     {
         if self.left == 0 {
@@ -57,8 +58,8 @@ impl PlacesLeft {
     ) -> Option<Node>
         requires { StandsIn (λ n. n) map.now.nodes self.old }
         ensures stands { StandsIn (λ n. n) map.now.nodes self.new }
-        ensures takes { TakesPlace map.now (walk_in (λ n. n) map.now self.old) (walk_in (λ n. n) map.now self.new)
-            (last_place (walk_in (λ n. n) map.now self.old))
+        ensures takes { TakesPlace map.now (walk_in (λ n. n) map.now self.old)
+            (walk_in (λ n. n) map.now self.new) (last_place (walk_in (λ n. n) map.now self.old))
             (after_back (walk_in (λ n. n) map.now self.old)) result }
     {
         if self.left == 0 {

@@ -1,5 +1,5 @@
-//! Raw entries: a place in a map without a key in hand. Where a call has a condition, the caller keeps it, and the
-//! call does not test it again.
+//! Raw entries: a place in a map without a key in hand. Where a call has a condition, the caller keeps it,
+//! and the call does not test it again.
 //! A clause sees a raw entry as the map's state and the place of its node, or none.
 ghost use Rattle.hashlink_core.specs.Places.{Holds};
 

@@ -2,8 +2,8 @@
 use std::error::Error;
 use std::fmt;
 
-/// Why a call that makes the value of an absent key put none in. No entry has changed, and nothing is lost: what was
-/// given and what was made is in the error.
+/// Why a call that makes the value of an absent key put none in. No entry has changed, and nothing is lost:
+/// what was given and what was made is in the error.
 #[derive(Clone, Copy, Debug, PartialEq, Eq, Hash, Drop)]
 pub enum TryInsertError<K, V, E> {
     /// What makes the value failed, with this error. The key is handed back.

@@ -1,5 +1,5 @@
-//! A walk over the values alone that lends them for writing, one at a time, from both ends. A clause sees it as it
-//! sees `IterMut`.
+//! A walk over the values alone that lends them for writing, one at a time, from both ends. A clause sees it
+//! as it sees `IterMut`.
 ghost use Rattle.std.specs.Prelude.{◌≡◌, length};
 ghost use Rattle.std.specs.Borrow.{sem};
 ghost use Rattle.std.specs.Option.{option_map, option_copied_mut};
@@ -25,11 +25,13 @@ impl<K: Eq + Hash, V, S: BuildHasher> LinkedHashMap<K, V, S> {
     ghost use Rattle.hashlink_map.specs.IterMut.{values_map, values_state};
     ghost use Rattle.hashlink_map.specs.WritingWalk.{writing_walk};
 
-    /// A walk over the values, front first, that lends each for writing. It takes constant time and no memory.
+    /// A walk over the values, front first, that lends each for writing. It takes constant time and no
+    /// memory.
     pub fn values_mut(&mut self) -> ValuesMut<'_, K, V, S>
         ensures same_map { (values_map result).ghost_name ≡ self.entry.ghost_name }
         ensures unchanged { (values_map result).now ≡ self.old }
-        ensures rest { values_state result ≡ writing_walk (state_of self.old) 0 (length (entries_of self.old)) }
+        ensures rest { values_state result ≡ writing_walk (state_of self.old) 0
+            (length (entries_of self.old)) }
     {
         let places = PlacesLeft::all(self);
         ValuesMut { map: self, places }

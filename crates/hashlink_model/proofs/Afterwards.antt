@@ -1,5 +1,6 @@
 -- What stands after a key was put, moved or taken out: lengths, look-ups, and the same step once more.
-use Rattle.std.proofs.Common.{ap₂, ◌⊎◌, inl, inr, ◌≡◌, ℕ, ◌+◌, Bool, true, false, cond, List, [], ◌∷◌, ◌++◌, length}
+use Rattle.std.proofs.Common.{ap₂, ◌⊎◌, inl, inr, ◌≡◌, ℕ, ◌+◌, Bool, true, false, cond, List, [], ◌∷◌, ◌++◌}
+use Rattle.std.proofs.Common.{length}
 use Rattle.std.proofs.Common.{Option, None, Some, refl, sym, ap, ◌∙◌, arith, take, drop}
 use Rattle.std.specs.Prelude.{unwrap_or}
 use Rattle.std.specs.Option.{option_map, option_map_or}
@@ -91,7 +92,8 @@ module _ {K V : Type 0} (eq : K → K → Bool) (laws : IsEquivalence eq) where
   pub lookup_key-put : (q : K) (es : List (K × V)) (k : K) (v : V) (b : ℕ) → IsEntries eq es
       → lookup_key (eq q) (put eq es k v b) ≡ cond (eq k q) (Some (stored_key eq es k)) (lookup_key (eq q) es)
   lookup_key-put q es k v b d =
-      lookup_key_is (eq q) (put eq es k v b) ∙ ap (option_map (λ e. e.0)) (lookup_entry-put eq laws q es k v b d)
+      lookup_key_is (eq q) (put eq es k v b)
+      ∙ ap (option_map (λ e. e.0)) (lookup_entry-put eq laws q es k v b d)
       ∙ option_map-cond (λ e. e.0) (eq k q) _ _
       ∙ ap (cond (eq k q) (Some (stored_key eq es k))) (sym (lookup_key_is (eq q) es))
 
@@ -99,7 +101,8 @@ module _ {K V : Type 0} (eq : K → K → Bool) (laws : IsEquivalence eq) where
       → lookup (eq q) (put eq es k v b) ≡ Some v
   lookup-put_same q es k v b d t = lookup-put q es k v b d ∙ rw t refl
 
-  pub lookup_entry-put_other : (q : K) (es : List (K × V)) (k : K) (v : V) (b : ℕ) → IsEntries eq es → eq k q ≡ false
+  pub lookup_entry-put_other : (q : K) (es : List (K × V)) (k : K) (v : V) (b : ℕ)
+      → IsEntries eq es → eq k q ≡ false
       → lookup_entry (eq q) (put eq es k v b) ≡ lookup_entry (eq q) es
   lookup_entry-put_other q es k v b d t = lookup_entry-put eq laws q es k v b d ∙ rw t refl
 
@@ -138,10 +141,12 @@ module _ {K V : Type 0} (eq : K → K → Bool) (laws : IsEquivalence eq) where
       ∙ take-append-drop j zs
 
   pub put_back_twice : (es : List (K × V)) (k : K) (v w : V) → IsEntries eq es
-      → put eq (put eq es k v (length es)) k w (length (put eq es k v (length es))) ≡ put eq es k w (length es)
+      → put eq (put eq es k v (length es)) k w (length (put eq es k v (length es)))
+      ≡ put eq es k w (length es)
   put_back_twice es k v w d =
       put_back eq (put eq es k v (length es)) k w
-      ∙ ap₂ (λ zs k0. zs ++ (k0, w) ∷ []) (without-put es k v (length es) d) (stored_key-put es k v (length es) d)
+      ∙ ap₂ (λ zs k0. zs ++ (k0, w) ∷ []) (without-put es k v (length es) d)
+      (stored_key-put es k v (length es) d)
       ∙ sym (put_back eq es k w)
 
   pub put_front_twice : (es : List (K × V)) (k : K) (v w : V) → IsEntries eq es

@@ -1,12 +1,14 @@
 -- Steps at a place, and the same steps at the key that stands there.
-use Rattle.std.proofs.Common.{◌≡◌, ℕ, zero, suc, ◌-◌, ◌<◌, Bool, List, [], ◌∷◌, ◌++◌, length, Some, refl, sym, ap}
+use Rattle.std.proofs.Common.{◌≡◌, ℕ, zero, suc, ◌-◌, ◌<◌, Bool, List, [], ◌∷◌, ◌++◌, length, Some, refl, sym}
+use Rattle.std.proofs.Common.{ap}
 use Rattle.std.proofs.Common.{ap₂, ◌∙◌, arith, lt-ltb, length-append}
 use Rattle.std.specs.Prelude.{insert, remove}
 use Rattle.std.specs.Option.{option_map_or}
 use Rattle.std.specs.Map.{keys_of, lookup, remove_entry, set_value}
 use Rattle.std.proofs.lemmas.List.Edits.{insert_end}
 use Rattle.hashlink_model.specs.Entries.{place_of, place_left, moved_at, set_value_at, set_key_at, put, moved}
-use Rattle.hashlink_model.proofs.Splits.{stands_from_place, stands_from_lookup, set_value-here, remove_entry-here}
+use Rattle.hashlink_model.proofs.Splits.{stands_from_place, stands_from_lookup, set_value-here}
+use Rattle.hashlink_model.proofs.Splits.{remove_entry-here}
 use Rattle.hashlink_model.proofs.Splits.{lookup-here, place_of-here}
 use Rattle.hashlink_model.proofs.Puts.{put-here}
 use Rattle.hashlink_model.proofs.Places.{slice_get_here}
@@ -24,7 +26,8 @@ module _ {K V : Type 0} where
   set_key_at-here [] e ys k = refl
   set_key_at-here (x ∷ xs) e ys k = ap (λ r. x ∷ r) (set_key_at-here xs e ys k)
 
-  pub remove-here : (xs : List (K × V)) (e : K × V) (ys : List (K × V)) → remove (xs ++ e ∷ ys) (length xs) ≡ xs ++ ys
+  pub remove-here : (xs : List (K × V)) (e : K × V) (ys : List (K × V))
+      → remove (xs ++ e ∷ ys) (length xs) ≡ xs ++ ys
   remove-here [] e ys = refl
   remove-here (x ∷ xs) e ys = ap (λ r. x ∷ r) (remove-here xs e ys)
 
@@ -59,7 +62,8 @@ module _ {K V : Type 0} where
   set_value_at-place test es j w p =
       let s = stands_from_place test es j p in
       ap₂ (λ zs n. set_value_at zs n w) s.3.is (sym s.4) ∙ set_value_at-here s.0 s.1 s.2 w
-      ∙ sym (set_value-here test s.1 s.2 s.3.passes w s.0 s.3.before) ∙ ap (λ zs. set_value test zs w) (sym s.3.is)
+      ∙ sym (set_value-here test s.1 s.2 s.3.passes w s.0 s.3.before)
+      ∙ ap (λ zs. set_value test zs w) (sym s.3.is)
 
   pub remove-place : (test : K → Bool) (es : List (K × V)) (j : ℕ) → place_of test es ≡ Some j
       → remove es j ≡ remove_entry test es

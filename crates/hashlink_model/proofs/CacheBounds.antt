@@ -1,5 +1,6 @@
 -- How long a cache is after its calls, which of them is never refused, and how many links they store.
-use Rattle.std.proofs.Common.{◌≡◌, ℕ, ◌+◌, ◌-◌, ◌*◌, ◌≤◌, ◌<◌, Bool, List, [], ◌∷◌, length, Option, None, Some}
+use Rattle.std.proofs.Common.{◌≡◌, ℕ, ◌+◌, ◌-◌, ◌*◌, ◌≤◌, ◌<◌, Bool, List, [], ◌∷◌, length, Option, None}
+use Rattle.std.proofs.Common.{Some}
 use Rattle.std.proofs.Common.{Result, Ok, Err, refl, sym, ap, ◌∙◌, ◌⊎◌, inl, inr, subst, arith, length-drop}
 use Rattle.std.proofs.lemmas.Bool.{cases_lt}
 use Rattle.std.proofs.lemmas.Map.{length-set_value}
@@ -22,7 +23,8 @@ use Rattle.hashlink_model.proofs.KeptNodes.{kept-keeps, kept-inserts, passes-kep
 -- ---- a bound of the capacity and n more
 
 -- an insert that is not refused brings the cache within its capacity
-pub within-inserted : {K V S : Type 0} (old new : CacheState K V S) (eq : K → K → Bool) (k : K) (v : V) (w : Option V)
+pub within-inserted : {K V S : Type 0} (old new : CacheState K V S) (eq : K → K → Bool) (k : K)
+    (v : V) (w : Option V)
     → CacheInserts eq old new k v (Ok w) → IsWithin new 0
 within-inserted old new eq k v w s =
     let same = ap length (inserts_entries eq old new k v w s) in
@@ -33,7 +35,8 @@ module _ {K V S : Type 0} (old new : CacheState K V S) (n : ℕ) where
       → IsWithin new n
   within-shorter l c w = omega arith
 
-  within-same : length new.map.entries ≡ length old.map.entries → new.cap ≡ old.cap → IsWithin old n → IsWithin new n
+  within-same : length new.map.entries ≡ length old.map.entries → new.cap ≡ old.cap
+      → IsWithin old n → IsWithin new n
   within-same l c w = omega arith
 
   pub within-changes : (es : List (K × V)) (most : ℕ) → OnMap (λ a b. Changes a b es most) old new
@@ -41,7 +44,8 @@ module _ {K V S : Type 0} (old new : CacheState K V S) (n : ℕ) where
       → IsWithin new n
   within-changes es most s l w = within-same (ap length s.map.entries ∙ l) s.cap w
 
-  pub within-keeps : (es : List (K × V)) → OnMap (λ a b. KeepsOnly a b es) old new → IsWithin old n → IsWithin new n
+  pub within-keeps : (es : List (K × V)) → OnMap (λ a b. KeepsOnly a b es) old new
+      → IsWithin old n → IsWithin new n
   within-keeps es s w =
       let same = ap length s.map.entries in let fewer = s.map.no_more in within-shorter (omega arith) s.cap w
 
@@ -52,12 +56,15 @@ module _ {K V S : Type 0} (old new : CacheState K V S) (n : ℕ) where
       → IsWithin new n
   within-pops_front None s w = within-same (ap (λ m. length m.entries) s.map.step) s.cap w
   within-pops_front (Some e) s w =
-      let same = ap length s.map.step.entries in let fewer = s.map.step.fewer in within-shorter (omega arith) s.cap w
+      let same = ap length s.map.step.entries in let fewer = s.map.step.fewer in within-shorter
+      (omega arith) s.cap w
 
-  pub within-pops_back : (r : Option (K × V)) → OnMap (λ a b. PopsBack a b r) old new → IsWithin old n → IsWithin new n
+  pub within-pops_back : (r : Option (K × V)) → OnMap (λ a b. PopsBack a b r) old new
+      → IsWithin old n → IsWithin new n
   within-pops_back None s w = within-same (ap (λ m. length m.entries) s.map.step) s.cap w
   within-pops_back (Some e) s w =
-      let same = ap length s.map.step.entries in let fewer = s.map.step.fewer in within-shorter (omega arith) s.cap w
+      let same = ap length s.map.step.entries in let fewer = s.map.step.fewer in within-shorter
+      (omega arith) s.cap w
 
   -- a capacity that is set is kept from then on
   pub within-sets : (cap : ℕ) → SetsCapacity old new cap → IsWithin new 0
@@ -81,7 +88,8 @@ module _ {K V S : Type 0} (old new : CacheState K V S) (n : ℕ) where
         ∙ length-moved_match test old.map.entries (length old.map.entries))
         s.cap i
 
-    pub within-removes_match : (r : Option (K × V)) → OnMap (λ a b. RemovesMatch test a b r) old new → IsWithin old n
+    pub within-removes_match : (r : Option (K × V)) → OnMap (λ a b. RemovesMatch test a b r) old new
+        → IsWithin old n
         → IsWithin new n
     within-removes_match None s i = within-same (ap (λ m. length m.entries) s.map.step) s.cap i
     within-removes_match (Some e) s i =
@@ -89,7 +97,8 @@ module _ {K V S : Type 0} (old new : CacheState K V S) (n : ℕ) where
         let fewer = s.map.step.fewer in within-shorter (omega arith) s.cap i
 
   module _ (eq : K → K → Bool) (k : K) where
-    pub within-inserts : (v : V) (r : Result (Option V) (K × V)) → CacheInserts eq old new k v r → IsWithin old n
+    pub within-inserts : (v : V) (r : Result (Option V) (K × V)) → CacheInserts eq old new k v r
+        → IsWithin old n
         → IsWithin new n
     within-inserts v (Ok w) s i = let fits = within-inserted old new eq k v w s in omega arith
     within-inserts v (Err pair) s i = within-same (ap length s.map.grows.entries) s.cap i
@@ -146,10 +155,12 @@ module _ {K V S : Type 0} (old new : CacheState K V S) where
   pub to_spare-kept : new.cap ≡ old.cap → node_count old.map ≤ node_count new.map
       → length new.map.entries ≤ length old.map.entries
       → HasNodeToSpare old → HasNodeToSpare new
-  to_spare-kept c n l h = let b = h.beyond in let s = h.spare in record { beyond = omega arith; spare = omega arith }
+  to_spare-kept c n l h = let b = h.beyond in let s = h.spare in record
+      { beyond = omega arith; spare = omega arith }
 
   module _ (eq : K → K → Bool) (k : K) (v : V) where
-    to_spare-by : (w : Option V) (between : MapState K V S) → new.cap ≡ old.cap → InsertsLast eq k v w old.map between
+    to_spare-by : (w : Option V) (between : MapState K V S) → new.cap ≡ old.cap
+        → InsertsLast eq k v w old.map between
         → KeepsLast between new.map old.cap
         → (old.cap < length between.entries) ⊎ ((length between.entries ≤ old.cap) × HasNodeToSpare old)
         → HasNodeToSpare new
@@ -172,9 +183,11 @@ module _ {K V S : Type 0} (old new : CacheState K V S) where
         → old.cap < length (put eq old.map.entries k v (length old.map.entries)) → HasNodeToSpare new
     to_spare-dropped w s l =
         to_spare-by w s.map.between s.cap s.map.inserts s.map.fits
-        (inl (subst (λ es. old.cap < length es) (sym (put_entries eq old.map s.map.between k v w s.map.inserts)) l))
+        (inl (subst (λ es. old.cap < length es)
+        (sym (put_entries eq old.map s.map.between k v w s.map.inserts)) l))
 
-    pub to_spare-inserts : (r : Result (Option V) (K × V)) → CacheInserts eq old new k v r → HasNodeToSpare old
+    pub to_spare-inserts : (r : Result (Option V) (K × V)) → CacheInserts eq old new k v r
+        → HasNodeToSpare old
         → HasNodeToSpare new
     to_spare-inserts (Ok w) s h =
         to_spare-by w s.map.between s.cap s.map.inserts s.map.fits
@@ -188,7 +201,8 @@ module _ {K V S : Type 0} (old new : CacheState K V S) where
     to_spare-inserts (Err pair) s h =
         let none = s.map.may_refuse.no_spare in let some = h.spare in absurd (omega arith)
 
-    pub to_spare-not_refused : (pair : K × V) → HasNodeToSpare old → CacheInserts eq old new k v (Err pair) → ⊥
+    pub to_spare-not_refused : (pair : K × V) → HasNodeToSpare old
+        → CacheInserts eq old new k v (Err pair) → ⊥
     to_spare-not_refused pair h s = let none = s.map.may_refuse.no_spare in let some = h.spare in omega arith
 
 -- ---- stored links
@@ -221,7 +235,8 @@ module _ {K V S : Type 0} where
 
   module _ (eq : K → K → Bool) (old new : CacheState K V S) (k : K) (v : V) where
     pub links-cache_insert_new : CacheInserts eq old new k v (Ok None)
-        → StoresAtMost (4 + 3 * (length old.map.entries + 1 - old.cap)) old.map.link_writes new.map.link_writes
+        → StoresAtMost (4 + 3 * (length old.map.entries + 1 - old.cap)) old.map.link_writes
+        new.map.link_writes
     links-cache_insert_new s =
         let b = s.map.between in
         let es = last_entries b.entries old.cap in
@@ -238,7 +253,8 @@ module _ {K V S : Type 0} where
         let b = s.map.between in
         let es = last_entries b.entries old.cap in
         let same = ap length s.map.inserts.puts.entries in
-        let long = length-put_there eq old.map.entries k v (length old.map.entries) w s.map.inserts.old_value in
+        let long = length-put_there eq old.map.entries k v (length old.map.entries) w
+        s.map.inserts.old_value in
         let few = length-last_entries b.entries old.cap in
         store_more (6 + 3 * (length b.entries - length es)) (6 + 3 * (length old.map.entries - old.cap))
         old.map.link_writes new.map.link_writes (omega arith)
@@ -269,7 +285,8 @@ module _ {K V S : Type 0} where
     passes-both : (w : Option V) (between : MapState K V S) → InsertsLast eq k v w old.map between
         → KeepsLast between new.map old.cap
         → PassesInTurn old.map
-        (Length (length (put eq old.map.entries k v (length old.map.entries))) ∷ Length (length new.map.entries)
+        (Length (length (put eq old.map.entries k v (length old.map.entries))) ∷ Length
+        (length new.map.entries)
         ∷ [])
         new.map
     passes-both w between s t =
@@ -288,7 +305,8 @@ module _ {K V S : Type 0} where
 
     pub passes-cache_insert : (w : Option V) → CacheInserts eq old new k v (Ok w)
         → PassesInTurn old.map
-        (Length (length (put eq old.map.entries k v (length old.map.entries))) ∷ Length (length new.map.entries)
+        (Length (length (put eq old.map.entries k v (length old.map.entries))) ∷ Length
+        (length new.map.entries)
         ∷ [])
         new.map
     passes-cache_insert w s = passes-both w s.map.between s.map.inserts s.map.fits
@@ -299,4 +317,5 @@ module _ {K V S : Type 0} where
     links-sets s =
         let long = length-last_entries old.map.entries n in
         store_more (3 * (length old.map.entries - length (last_entries old.map.entries n)))
-        (3 * (length old.map.entries - n)) old.map.link_writes new.map.link_writes (omega arith) s.map.link_writes
+        (3 * (length old.map.entries - n)) old.map.link_writes new.map.link_writes
+        (omega arith) s.map.link_writes

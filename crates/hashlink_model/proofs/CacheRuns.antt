@@ -1,6 +1,8 @@
 -- What caches hold and answer along calls in a row.
-use Rattle.std.proofs.Common.{◌≡◌, ℕ, ◌≤◌, Bool, false, ◌&&◌, List, [], ◌∷◌, ◌++◌, length, nat_lt, is_some, Option}
-use Rattle.std.proofs.Common.{None, Some, refl, sym, ap, ◌∙◌, subst, arith, append_assoc, append-nil, true≢false}
+use Rattle.std.proofs.Common.{◌≡◌, ℕ, ◌≤◌, Bool, false, ◌&&◌, List, [], ◌∷◌, ◌++◌, length, nat_lt, is_some}
+use Rattle.std.proofs.Common.{Option}
+use Rattle.std.proofs.Common.{None, Some, refl, sym, ap, ◌∙◌, subst, arith, append_assoc, append-nil}
+use Rattle.std.proofs.Common.{true≢false}
 use Rattle.std.specs.Cmp.{IsEquivalence}
 use Rattle.std.specs.Option.{option_map_or}
 use Rattle.std.specs.List.{AllZip, IsDistinct}
@@ -8,8 +10,10 @@ use Rattle.std.specs.Map.{lookup}
 use Rattle.std.specs.Set.{is_member}
 use Rattle.hashlink_model.specs.Entries.{IsEntries, without}
 use Rattle.hashlink_model.specs.Cache.{cache_put, cache_get, cache_use}
-use Rattle.hashlink_model.specs.CacheRuns.{CacheEvent, Insert, Use, Remove, Peek, key_of, is_use, is_removal, NoUse}
-use Rattle.hashlink_model.specs.CacheRuns.{NoRemoval, used_keys, answer_to, after_event, after_events, answers}
+use Rattle.hashlink_model.specs.CacheRuns.{CacheEvent, Insert, Use, Remove, Peek, key_of, is_use, is_removal}
+use Rattle.hashlink_model.specs.CacheRuns.{NoUse}
+use Rattle.hashlink_model.specs.CacheRuns.{NoRemoval, used_keys, answer_to, after_event, after_events}
+use Rattle.hashlink_model.specs.CacheRuns.{answers}
 use Rattle.hashlink_model.specs.History.{reuse_distance, HoldsRecent}
 use Rattle.hashlink_model.specs.Inclusion.{IsEndOf, SameKey, SameEntry, AlsoFinds, FindsTheSame}
 use Rattle.hashlink_model.proofs.Puts.{IsEntries-without}
@@ -17,7 +21,8 @@ use Rattle.hashlink_model.proofs.Afterwards.{length-moved, length-without_absent
 use Rattle.hashlink_model.proofs.Caches.{cache_put-at_most, IsEntries-cache_put, IsEntries-cache_use}
 use Rattle.hashlink_model.proofs.Ends.{end-insert, end-cache_use, end-remove, end-answers, same_end-insert}
 use Rattle.hashlink_model.proofs.Ends.{same_end-remove, same_end-answers}
-use Rattle.hashlink_model.proofs.Reuse.{HoldsRecent-start, HoldsRecent-cache_put, HoldsRecent-cache_use, held_exactly}
+use Rattle.hashlink_model.proofs.Reuse.{HoldsRecent-start, HoldsRecent-cache_put, HoldsRecent-cache_use}
+use Rattle.hashlink_model.proofs.Reuse.{held_exactly}
 
 module _ {K V : Type 0} (eq : K → K → Bool) where
   -- ---- the calls in two parts
@@ -57,7 +62,8 @@ module _ {K V : Type 0} (eq : K → K → Bool) where
   after_event-at_most es cap n (Remove k) c m = without-at_most es k n m
   after_event-at_most es cap n (Peek k) c m = m
 
-  pub after_events-at_most : (es : List (K × V)) (cap n : ℕ) (events : List (CacheEvent K V)) → cap ≤ n → length es ≤ n
+  pub after_events-at_most : (es : List (K × V)) (cap n : ℕ) (events : List (CacheEvent K V))
+      → cap ≤ n → length es ≤ n
       → length (after_events eq cap es events) ≤ n
   after_events-at_most es cap n [] c m = m
   after_events-at_most es cap n (e ∷ events) c m =
@@ -71,7 +77,8 @@ module _ {K V : Type 0} (eq : K → K → Bool) (laws : IsEquivalence eq) where
   IsEntries-after_event cap es (Remove k) u = IsEntries-without eq laws es k u
   IsEntries-after_event cap es (Peek k) u = u
 
-  pub IsEntries-after_events : (cap : ℕ) (es : List (K × V)) (events : List (CacheEvent K V)) → IsEntries eq es
+  pub IsEntries-after_events : (cap : ℕ) (es : List (K × V)) (events : List (CacheEvent K V))
+      → IsEntries eq es
       → IsEntries eq (after_events eq cap es events)
   IsEntries-after_events cap es [] u = u
   IsEntries-after_events cap es (e ∷ events) u =
@@ -86,7 +93,8 @@ module _ {K V : Type 0} (eq : K → K → Bool) (laws : IsEquivalence eq) where
       pub within : length small ≤ c
       pub end : IsEndOf R small large
 
-    alike_after : (R : K × V → K × V → Type 0) (small large : List (K × V)) (e : CacheEvent K V) → Alike R small large
+    alike_after : (R : K × V → K × V → Type 0) (small large : List (K × V)) (e : CacheEvent K V)
+        → Alike R small large
         → IsEndOf R (after_event eq c small e) (after_event eq d large e)
         → Alike R (after_event eq c small e) (after_event eq d large e)
     alike_after R small large e a end =
@@ -99,19 +107,23 @@ module _ {K V : Type 0} (eq : K → K → Bool) (laws : IsEquivalence eq) where
     -- by keys alone
     end_after : (small large : List (K × V)) (e : CacheEvent K V) → Alike (SameKey eq) small large
         → IsEndOf (SameKey eq) (after_event eq c small e) (after_event eq d large e)
-    end_after small large (Insert k v) a = end-insert eq laws c d k v small large a.unequal fewer a.within a.end
-    end_after small large (Use k v) a = end-cache_use eq laws c d k v small large a.unequal fewer a.within a.end
+    end_after small large (Insert k v) a = end-insert eq laws c d k v small large
+        a.unequal fewer a.within a.end
+    end_after small large (Use k v) a = end-cache_use eq laws c d k v small large
+        a.unequal fewer a.within a.end
     end_after small large (Remove k) a = end-remove eq laws k small large a.unequal a.end
     end_after small large (Peek k) a = a.end
 
-    end-events : (small large : List (K × V)) (events : List (CacheEvent K V)) → Alike (SameKey eq) small large
+    end-events : (small large : List (K × V)) (events : List (CacheEvent K V))
+        → Alike (SameKey eq) small large
         → IsEndOf (SameKey eq) (after_events eq c small events) (after_events eq d large events)
     end-events small large [] a = a.end
     end-events small large (e ∷ events) a =
         end-events (after_event eq c small e) (after_event eq d large e) events
         (alike_after (SameKey eq) small large e a (end_after small large e a))
 
-    finds-events : (small large : List (K × V)) (events : List (CacheEvent K V)) → Alike (SameKey eq) small large
+    finds-events : (small large : List (K × V)) (events : List (CacheEvent K V))
+        → Alike (SameKey eq) small large
         → AllZip AlsoFinds (answers eq c small events) (answers eq d large events)
     finds-events small large [] a = tt
     finds-events small large (e ∷ events) a = (
@@ -152,7 +164,12 @@ module _ {K V : Type 0} (eq : K → K → Bool) (laws : IsEquivalence eq) where
     start : (R : K × V → K × V → Type 0) → Alike R [] []
     unfolding IsDistinct
     start R =
-        record { unequal = tt; within = omega arith; end = record { front = []; back = []; is = refl; alike = tt } }
+        record {
+          unequal = tt;
+          within = omega arith;
+          end =
+              record { front = []; back = []; is = refl; alike = tt };
+        }
 
     pub keys_along : (events : List (CacheEvent K V))
         → IsEndOf (SameKey eq) (after_events eq c [] events) (after_events eq d [] events)
@@ -186,7 +203,8 @@ module _ {K V : Type 0} (eq : K → K → Bool) (laws : IsEquivalence eq) where
   used_keys-step (Remove k) events = refl
   used_keys-step (Peek k) events = refl
 
-  HoldsRecent-events : (c : ℕ) (used : List K) (es : List (K × V)) (events : List (CacheEvent K V)) → NoRemoval events
+  HoldsRecent-events : (c : ℕ) (used : List K) (es : List (K × V)) (events : List (CacheEvent K V))
+      → NoRemoval events
       → HoldsRecent eq c used es → HoldsRecent eq c (used ++ used_keys events) (after_events eq c es events)
   HoldsRecent-events c used es [] n h = rw append-nil h
   HoldsRecent-events c used es (e ∷ events) n h =
@@ -203,6 +221,8 @@ module _ {K V : Type 0} (eq : K → K → Bool) (laws : IsEquivalence eq) where
 
   pub answers_along : (c : ℕ) (events : List (CacheEvent K V)) (e : CacheEvent K V) → NoRemoval events
       → is_some (answer_to eq (after_events eq c [] events) e)
-      ≡ (is_member eq (used_keys events) (key_of e) && nat_lt (reuse_distance eq (used_keys events) (key_of e)) c)
+      ≡ (is_member eq (used_keys events) (key_of e) && nat_lt
+      (reuse_distance eq (used_keys events) (key_of e)) c)
   answers_along c events e n =
-      held_exactly eq laws c (used_keys events) (after_events eq c [] events) (key_of e) (holds_along c events n)
+      held_exactly eq laws c (used_keys events) (after_events eq c [] events) (key_of e)
+      (holds_along c events n)

@@ -1,5 +1,6 @@
 -- What follows from the steps between two states of a cache.
-use Rattle.std.proofs.Common.{◌≡◌, ℕ, ◌-◌, ◌≤◌, min, max, Bool, [], ◌∷◌, ◌++◌, length, take, Option, None, Some}
+use Rattle.std.proofs.Common.{◌≡◌, ℕ, ◌-◌, ◌≤◌, min, max, Bool, [], ◌∷◌, ◌++◌, length, take, Option, None}
+use Rattle.std.proofs.Common.{Some}
 use Rattle.std.proofs.Common.{Ok, Err, sym, ap, ◌∙◌, arith}
 use Rattle.std.specs.Prelude.{MatchOption, Result, refl}
 use Rattle.std.specs.Option.{option_map_or}
@@ -16,13 +17,15 @@ use Rattle.hashlink_model.proofs.Caches.{length-last_entries, last_entries-end, 
 use Rattle.hashlink_model.proofs.NodeCounts.{node_count-adds, node_count-keeps, moves_nodes}
 
 -- the insert at the length
-pub put_entries : {K V S : Type 0} (eq : K → K → Bool) (old new : MapState K V S) (k : K) (v : V) (w : Option V)
+pub put_entries : {K V S : Type 0} (eq : K → K → Bool) (old new : MapState K V S) (k : K)
+    (v : V) (w : Option V)
     → InsertsLast eq k v w old new
     → new.entries ≡ put eq old.entries k v (length old.entries)
 put_entries eq old new k v None s = s.adds.entries
 put_entries eq old new k v (Some x) s = s.puts.entries
 
-pub put_answer : {K V S : Type 0} (eq : K → K → Bool) (old new : MapState K V S) (k : K) (v : V) (w : Option V)
+pub put_answer : {K V S : Type 0} (eq : K → K → Bool) (old new : MapState K V S) (k : K)
+    (v : V) (w : Option V)
     → InsertsLast eq k v w old new → w ≡ lookup (eq k) old.entries
 put_answer eq old new k v None s = sym s.absent
 put_answer eq old new k v (Some x) s = sym s.old_value
@@ -38,15 +41,23 @@ module _ {K V S : Type 0} (eq : K → K → Bool) (old new : CacheState K V S) (
       ∙ ap (λ es. last_entries es old.cap) (put_entries eq old.map s.map.between k v w s.map.inserts)
 
   pub inserts_refused : (pair : K × V) → CacheInserts eq old new k v (Err pair)
-      → (new.map.entries ≡ old.map.entries) × (new.map.spare ≡ old.map.spare) × (lookup (eq k) old.map.entries ≡ None)
+      → (new.map.entries ≡ old.map.entries) × (new.map.spare ≡ old.map.spare)
+      × (lookup (eq k) old.map.entries ≡ None)
       × (old.map.spare ≡ 0)
-  inserts_refused pair s = (s.map.grows.entries, s.map.grows.spare, s.map.may_refuse.absent, s.map.may_refuse.no_spare)
+  inserts_refused pair s = (
+    s.map.grows.entries,
+    s.map.grows.spare,
+    s.map.may_refuse.absent,
+    s.map.may_refuse.no_spare,
+  )
 
   -- an insert of a new key needs one node where none is spare; what it drops leaves its node spare
   pub inserts_nodes : CacheInserts eq old new k v (Ok None)
-      → node_count new.map ≡ max (node_count old.map) (length (put eq old.map.entries k v (length old.map.entries)))
+      → node_count new.map ≡ max (node_count old.map)
+      (length (put eq old.map.entries k v (length old.map.entries)))
   inserts_nodes s =
-      let a = node_count-keeps s.map.between new.map (last_entries s.map.between.entries old.cap) s.map.fits in
+      let a = node_count-keeps s.map.between new.map
+      (last_entries s.map.between.entries old.cap) s.map.fits in
       let b = node_count-adds old.map s.map.between (put eq old.map.entries k v (length old.map.entries))
       s.map.inserts.adds in
       let c = ap length s.map.inserts.adds.entries in

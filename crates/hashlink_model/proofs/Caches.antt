@@ -1,13 +1,16 @@
 -- What a cache holds after its steps.
-use Rattle.std.proofs.Common.{◌≡◌, ℕ, suc, ◌+◌, ◌-◌, ◌≤◌, ◌<◌, Bool, true, false, cond, min, List, [], ◌∷◌, ◌++◌}
-use Rattle.std.proofs.Common.{length, drop, take, nat_lt, unwrap_or, Option, None, Some, refl, sym, ap, ◌∙◌, ◌⊎◌, inl}
+use Rattle.std.proofs.Common.{◌≡◌, ℕ, suc, ◌+◌, ◌-◌, ◌≤◌, ◌<◌, Bool, true, false, cond, min, List, [], ◌∷◌}
+use Rattle.std.proofs.Common.{◌++◌}
+use Rattle.std.proofs.Common.{length, drop, take, nat_lt, unwrap_or, Option, None, Some, refl, sym, ap, ◌∙◌}
+use Rattle.std.proofs.Common.{◌⊎◌, inl}
 use Rattle.std.proofs.Common.{inr, arith, zero, length-drop, lt-ltb, le-ltb, take-append-drop}
 use Rattle.std.specs.Cmp.{IsEquivalence}
 use Rattle.std.specs.Map.{lookup, lookup_entry}
 use Rattle.std.specs.Option.{option_map_or}
 use Rattle.std.proofs.lemmas.Bool.{cases_lt}
 use Rattle.hashlink_model.specs.Entries.{IsEntries, put}
-use Rattle.hashlink_model.specs.Cache.{front_evicted, last_entries, cache_put, cache_get, cache_extended, cache_use}
+use Rattle.hashlink_model.specs.Cache.{front_evicted, last_entries, cache_put, cache_get, cache_extended}
+use Rattle.hashlink_model.specs.Cache.{cache_use}
 use Rattle.hashlink_model.proofs.Distinct.{IsEntries-tail}
 use Rattle.hashlink_model.proofs.Puts.{IsEntries-put}
 use Rattle.hashlink_model.proofs.Finds.{lookup-equal}
@@ -22,7 +25,8 @@ module _ {K V : Type 0} where
   pub front_evicted-above : (es : List (K × V)) (cap : ℕ) → cap < length es → front_evicted es cap ≡ drop 1 es
   front_evicted-above es cap l = rw (lt-ltb cap (length es) l) refl
 
-  within_by : (es : List (K × V)) (cap n : ℕ) → (cap < length es) ⊎ (length es ≤ cap) → cap ≤ n → length es ≤ n + 1
+  within_by : (es : List (K × V)) (cap n : ℕ) → (cap < length es) ⊎ (length es ≤ cap) → cap
+      ≤ n → length es ≤ n + 1
       → length (front_evicted es cap) ≤ n
   within_by es cap n (inl l) c m = rw (front_evicted-above es cap l, length-drop 1 es) (omega arith)
   within_by es cap n (inr l) c m = rw (front_evicted-within es cap l) (omega arith)
@@ -54,7 +58,8 @@ module _ {K V : Type 0} where
   pub last_entries-within : (es : List (K × V)) (n : ℕ) → length es ≤ n → last_entries es n ≡ es
   last_entries-within es n l = let none : length es - n ≡ 0 = omega arith in ap (λ m. drop m es) none
 
-  pub IsEntries-drop : (eq : K → K → Bool) (n : ℕ) (es : List (K × V)) → IsEntries eq es → IsEntries eq (drop n es)
+  pub IsEntries-drop : (eq : K → K → Bool) (n : ℕ) (es : List (K × V)) → IsEntries eq es
+      → IsEntries eq (drop n es)
   IsEntries-drop eq zero es d = d
   IsEntries-drop eq (suc n) [] d = d
   IsEntries-drop eq (suc n) (e ∷ es) d = IsEntries-drop eq n es (IsEntries-tail eq e es d)
@@ -73,7 +78,8 @@ module _ {K V : Type 0} where
   -- at most the capacity, however many there were
   pub cache_put-at_most : (eq : K → K → Bool) (es : List (K × V)) (cap : ℕ) (k : K) (v : V)
       → length (cache_put eq es cap k v) ≤ cap
-  cache_put-at_most eq es cap k v = let few = length-last_entries (put eq es k v (length es)) cap in omega arith
+  cache_put-at_most eq es cap k v = let few = length-last_entries
+      (put eq es k v (length es)) cap in omega arith
 
   grown_by : (eq : K → K → Bool) (es : List (K × V)) (k : K) (v : V) (o : Option V) → lookup (eq k) es ≡ o
       → length (put eq es k v (length es)) ≤ length es + 1
@@ -85,7 +91,8 @@ module _ {K V : Type 0} where
   put_grown eq es k v = grown_by eq es k v (lookup (eq k) es) refl
 
   -- all that the map's insert leaves, where there is a place
-  pub cache_put-with_a_place : (eq : K → K → Bool) (es : List (K × V)) (cap : ℕ) (k : K) (v : V) → length es < cap
+  pub cache_put-with_a_place : (eq : K → K → Bool) (es : List (K × V)) (cap : ℕ) (k : K) (v : V)
+      → length es < cap
       → cache_put eq es cap k v ≡ put eq es k v (length es)
   cache_put-with_a_place eq es cap k v l =
       let g = put_grown eq es k v in last_entries-within (put eq es k v (length es)) cap (omega arith)
@@ -94,9 +101,11 @@ module _ {K V : Type 0} where
   pub cache_put-evicts : (eq : K → K → Bool) (es : List (K × V)) (cap : ℕ) (k : K) (v : V) → length es ≤ cap
       → cache_put eq es cap k v ≡ front_evicted (put eq es k v (length es)) cap
   cache_put-evicts eq es cap k v l =
-      let g = put_grown eq es k v in sym (front_evicted-last_entries (put eq es k v (length es)) cap (omega arith))
+      let g = put_grown eq es k v in sym
+      (front_evicted-last_entries (put eq es k v (length es)) cap (omega arith))
 
-  pub IsEntries-cache_put : (eq : K → K → Bool) → IsEquivalence eq → (es : List (K × V)) (cap : ℕ) (k : K) (v : V)
+  pub IsEntries-cache_put : (eq : K → K → Bool) → IsEquivalence eq
+      → (es : List (K × V)) (cap : ℕ) (k : K) (v : V)
       → IsEntries eq es
       → IsEntries eq (cache_put eq es cap k v)
   IsEntries-cache_put eq laws es cap k v d =
@@ -105,7 +114,8 @@ module _ {K V : Type 0} where
 
   -- ---- an insert of each pair in turn
 
-  pub cache_extended-at_most : (eq : K → K → Bool) (es : List (K × V)) (cap n : ℕ) (pairs : List (K × V)) → cap ≤ n
+  pub cache_extended-at_most : (eq : K → K → Bool) (es : List (K × V)) (cap n : ℕ) (pairs : List (K × V))
+      → cap ≤ n
       → length es ≤ n
       → length (cache_extended eq es cap pairs) ≤ n
   cache_extended-at_most eq es cap n [] c m = m
@@ -124,7 +134,8 @@ module _ {K V : Type 0} where
   -- ---- look-ups after an insert
 
   -- the last entries are some where there is a place
-  last_entries-some : (es : List (K × V)) (cap : ℕ) → 1 ≤ cap → 1 ≤ length es → 1 ≤ length (last_entries es cap)
+  last_entries-some : (es : List (K × V)) (cap : ℕ) → 1 ≤ cap → 1 ≤ length es → 1
+      ≤ length (last_entries es cap)
   last_entries-some es cap c m = let few = length-last_entries es cap in omega arith
 
 module _ {K V : Type 0} (eq : K → K → Bool) (laws : IsEquivalence eq) where
@@ -137,7 +148,8 @@ module _ {K V : Type 0} (eq : K → K → Bool) (laws : IsEquivalence eq) where
       lookup-put_remaining eq laws q es k v (take (length zs - cap) zs) (last_entries zs cap) d
       (sym (last_entries-end zs cap)) (last_entries-some zs cap c (omega arith)) t
 
-  pub lookup_entry-cache_put : (q : K) (es : List (K × V)) (cap : ℕ) (k : K) (v : V) (e : K × V) → IsEntries eq es
+  pub lookup_entry-cache_put : (q : K) (es : List (K × V)) (cap : ℕ) (k : K) (v : V) (e : K × V)
+      → IsEntries eq es
       → eq k q ≡ false → lookup_entry (eq q) (cache_put eq es cap k v) ≡ Some e
       → lookup_entry (eq q) es ≡ Some e
   lookup_entry-cache_put q es cap k v e d t l =
@@ -164,11 +176,13 @@ module _ {K V : Type 0} (eq : K → K → Bool) (laws : IsEquivalence eq) where
   lookup-cache_use q es cap k v d c t = by (lookup (eq k) es) refl
     where
       by : (o : Option V) → lookup (eq k) es ≡ o
-          → lookup (eq q) (option_map_or (λ w. cache_get eq es k) o (cache_put eq es cap k v)) ≡ Some (unwrap_or o v)
+          → lookup (eq q) (option_map_or (λ w. cache_get eq es k) o (cache_put eq es cap k v))
+          ≡ Some (unwrap_or o v)
       by None l = lookup-cache_put q es cap k v d c t
       by (Some w) l = lookup-moved eq laws q es k (length es) d ∙ sym (lookup-equal eq laws k q es t) ∙ l
 
-  pub lookup_entry-cache_use : (q : K) (es : List (K × V)) (cap : ℕ) (k : K) (v : V) (e : K × V) → IsEntries eq es
+  pub lookup_entry-cache_use : (q : K) (es : List (K × V)) (cap : ℕ) (k : K) (v : V) (e : K × V)
+      → IsEntries eq es
       → eq k q ≡ false → lookup_entry (eq q) (cache_use eq es cap k v) ≡ Some e
       → lookup_entry (eq q) es ≡ Some e
   lookup_entry-cache_use q es cap k v e d t = by (lookup (eq k) es) refl

@@ -10,7 +10,8 @@ use Rattle.hashlink_model.proofs.Extends.{extended-own}
 use Rattle.hashlink_model.proofs.Recency.{answers_alike}
 
 module _ {K V : Type 0} (eq : K → K → Bool) (laws : IsEquivalence eq) (eqv : V → V → Bool) where
-  none_cloned : (k : K) (xs ys : List (K × V)) → AllZip (λ p q. (eq p.0 q.0 ≡ true) × (eqv p.1 q.1 ≡ true)) xs ys
+  none_cloned : (k : K) (xs ys : List (K × V))
+      → AllZip (λ p q. (eq p.0 q.0 ≡ true) × (eqv p.1 q.1 ≡ true)) xs ys
       → NonePasses (eq k) xs
       → NonePasses (eq k) ys
   none_cloned k [] [] z n = tt

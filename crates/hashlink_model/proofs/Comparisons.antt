@@ -1,7 +1,9 @@
 -- The laws of the comparisons of maps, from those of their keys and values.
-use Rattle.std.proofs.Common.{ap, Option, Some, ◌≡◌, Bool, true, ◌&&◌, List, [], ◌∷◌, ◌++◌, refl, sym, ap₂, ◌∙◌}
+use Rattle.std.proofs.Common.{ap, Option, Some, ◌≡◌, Bool, true, ◌&&◌, List, [], ◌∷◌, ◌++◌, refl, sym, ap₂}
+use Rattle.std.proofs.Common.{◌∙◌}
 use Rattle.std.proofs.Common.{true≢false}
-use Rattle.std.specs.Cmp.{IsEquivalence, IsPartialEquivalence, IsPartialOrder, IsTotalOrder, on_per, and_per, on_po}
+use Rattle.std.specs.Cmp.{IsEquivalence, IsPartialEquivalence, IsPartialOrder, IsTotalOrder, on_per, and_per}
+use Rattle.std.specs.Cmp.{on_po}
 use Rattle.std.specs.Cmp.{then_po, on_equiv, on_total, and_equiv, then_total}
 use Rattle.std.specs.Cmp.Lexicographic.{lists_per, lists_po, lists_equiv, lists_total, lists_ties}
 use Rattle.std.proofs.lemmas.Bool.{and_parts}
@@ -20,7 +22,8 @@ module _ {K V : Type 0} where
   pub entries_eq_partial : (eqk : K → K → Bool) (eqv : V → V → Bool) → IsPartialEquivalence eqk
       → IsPartialEquivalence eqv
       → IsPartialEquivalence (entries_eq eqk eqv)
-  entries_eq_partial eqk eqv a b = lists_per (and_per (on_per (λ (p : K × V). p.0) a) (on_per (λ (p : K × V). p.1) b))
+  entries_eq_partial eqk eqv a b =
+      lists_per (and_per (on_per (λ (p : K × V). p.0) a) (on_per (λ (p : K × V). p.1) b))
 
   pub entries_partial_order : (eqk : K → K → Bool) (eqv : V → V → Bool) (partk : K → K → Option Ordering)
       (partv : V → V → Option Ordering)
@@ -29,12 +32,14 @@ module _ {K V : Type 0} where
   entries_partial_order eqk eqv partk partv a b =
       lists_po (then_po (on_po (λ (p : K × V). p.0) a) (on_po (λ (p : K × V). p.1) b))
 
-  pub entries_cmp_total : (cmpk : K → K → Ordering) (cmpv : V → V → Ordering) → IsTotalOrder cmpk → IsTotalOrder cmpv
+  pub entries_cmp_total : (cmpk : K → K → Ordering) (cmpv : V → V → Ordering) → IsTotalOrder cmpk
+      → IsTotalOrder cmpv
       → IsTotalOrder (entries_cmp cmpk cmpv)
   entries_cmp_total cmpk cmpv a b =
       lists_total (then_total (on_total (λ (p : K × V). p.0) a) (on_total (λ (p : K × V). p.1) b))
 
-  pub entries_ties : (eqk : K → K → Bool) (eqv : V → V → Bool) (cmpk : K → K → Ordering) (cmpv : V → V → Ordering)
+  pub entries_ties : (eqk : K → K → Bool) (eqv : V → V → Bool) (cmpk : K → K → Ordering)
+      (cmpv : V → V → Ordering)
       → ((x y : K) → eqk x y ≡ eq_by_cmp cmpk x y)
       → ((x y : V) → eqv x y ≡ eq_by_cmp cmpv x y)
       → (xs ys : List (K × V)) → entries_eq eqk eqv xs ys ≡ eq_by_cmp (entries_cmp cmpk cmpv) xs ys
@@ -48,7 +53,8 @@ module _ {K V : Type 0} where
       both Greater s = refl
 
   -- equal entries feed a hasher alike, where equal keys and equal values do
-  pub entries_alike : {W : Type 0} (eqk : K → K → Bool) (eqv : V → V → Bool) (hashk : K → List W) (hashv : V → List W)
+  pub entries_alike : {W : Type 0} (eqk : K → K → Bool) (eqv : V → V → Bool) (hashk : K → List W)
+      (hashv : V → List W)
       → ((x y : K) → eqk x y ≡ true → hashk x ≡ hashk y) → ((x y : V) → eqv x y ≡ true → hashv x ≡ hashv y)
       → (xs ys : List (K × V)) → entries_eq eqk eqv xs ys ≡ true
       → entries_hash_input hashk hashv xs ≡ entries_hash_input hashk hashv ys
@@ -58,7 +64,8 @@ module _ {K V : Type 0} where
   entries_alike eqk eqv hashk hashv a b (x ∷ xs) (y ∷ ys) e =
       let parts = and_parts (eqk x.0 y.0 && eqv x.1 y.1) (entries_eq eqk eqv xs ys) e in
       let pair = and_parts (eqk x.0 y.0) (eqv x.1 y.1) parts.0 in
-      ap₂ ◌++◌ (ap₂ ◌++◌ (a x.0 y.0 pair.0) (b x.1 y.1 pair.1)) (entries_alike eqk eqv hashk hashv a b xs ys parts.1)
+      ap₂ ◌++◌ (ap₂ ◌++◌ (a x.0 y.0 pair.0) (b x.1 y.1 pair.1))
+      (entries_alike eqk eqv hashk hashv a b xs ys parts.1)
 
   -- where the tests decide `≡`, so does that of the entries
   pub entries_eq_same : (eqk : K → K → Bool) (eqv : V → V → Bool) → ((x y : K) → eqk x y ≡ true → x ≡ y)
@@ -72,8 +79,8 @@ module _ {K V : Type 0} where
       let pair = and_parts (eqk x.0 y.0) (eqv x.1 y.1) parts.0 in
       λ i. (a x.0 y.0 pair.0 i, b x.1 y.1 pair.1 i) ∷ entries_eq_same eqk eqv a b xs ys parts.1 i
 
-  pub entries_partial : (partk : K → K → Option Ordering) (partv : V → V → Option Ordering) (cmpk : K → K → Ordering)
-      (cmpv : V → V → Ordering)
+  pub entries_partial : (partk : K → K → Option Ordering) (partv : V → V → Option Ordering)
+      (cmpk : K → K → Ordering) (cmpv : V → V → Ordering)
       → ((x y : K) → partk x y ≡ Some (cmpk x y))
       → ((x y : V) → partv x y ≡ Some (cmpv x y))
       → (xs ys : List (K × V)) → entries_partial_cmp partk partv xs ys ≡ Some (entries_cmp cmpk cmpv xs ys)
@@ -100,7 +107,8 @@ module _ {T : Type 0} where
   pub elements_eq_equiv : (eq : T → T → Bool) → IsEquivalence eq → IsEquivalence (elements_eq eq)
   elements_eq_equiv eq laws = lists_equiv laws
 
-  pub elements_eq_partial : (eq : T → T → Bool) → IsPartialEquivalence eq → IsPartialEquivalence (elements_eq eq)
+  pub elements_eq_partial : (eq : T → T → Bool) → IsPartialEquivalence eq
+      → IsPartialEquivalence (elements_eq eq)
   elements_eq_partial eq laws = lists_per laws
 
   pub elements_alike : {W : Type 0} (eq : T → T → Bool) (hash : T → List W)

@@ -1,8 +1,11 @@
--- The misses of a cache against those of any schedule, from nothing on: the cache is filled up with keys that nobody
--- asks for.
-use Rattle.std.proofs.Common.{◌≡◌, ℕ, zero, suc, ◌+◌, ◌-◌, ◌*◌, ◌≤◌, ◌<◌, Bool, true, false, cond, ◌||◌, ◌&&◌, List}
-use Rattle.std.proofs.Common.{[], ◌∷◌, ◌++◌, map, length, take, drop, nat_lt, nat_eq, refl, sym, ap, ap₂, ◌∙◌, ◌⊎◌}
-use Rattle.std.proofs.Common.{inl, inr, subst, arith, append_assoc, length-append, length-take, take-append-drop}
+-- The misses of a cache against those of any schedule, from nothing on: the cache is filled up with keys that
+-- nobody asks for.
+use Rattle.std.proofs.Common.{◌≡◌, ℕ, zero, suc, ◌+◌, ◌-◌, ◌*◌, ◌≤◌, ◌<◌, Bool, true, false, cond, ◌||◌, ◌&&◌}
+use Rattle.std.proofs.Common.{List}
+use Rattle.std.proofs.Common.{[], ◌∷◌, ◌++◌, map, length, take, drop, nat_lt, nat_eq, refl, sym, ap, ap₂, ◌∙◌}
+use Rattle.std.proofs.Common.{◌⊎◌}
+use Rattle.std.proofs.Common.{inl, inr, subst, arith, append_assoc, length-append, length-take}
+use Rattle.std.proofs.Common.{take-append-drop}
 use Rattle.std.proofs.Common.{le_refl, true≢false, not-suc-le-zero, append-nil}
 use Rattle.std.specs.Cmp.{IsEquivalence, nat_eq_equiv}
 use Rattle.std.specs.List.{AllByRecursion, IsDistinct}
@@ -11,11 +14,13 @@ use Rattle.std.specs.Set.{is_member, remove_key, distinct_count}
 use Rattle.std.proofs.lemmas.Bool.{cases_lt, ne_eqb}
 use Rattle.std.proofs.lemmas.List.Elements.{recursion_from_All}
 use Rattle.std.proofs.lemmas.Map.Made.{All-is_member, length-remove_key}
-use Rattle.hashlink_model.specs.History.{IsSchedule, Schedule, misses, misses_from, cache_misses, cache_misses_from}
+use Rattle.hashlink_model.specs.History.{IsSchedule, Schedule, misses, misses_from, cache_misses}
+use Rattle.hashlink_model.specs.History.{cache_misses_from}
 use Rattle.hashlink_model.specs.History.{recent_keys, reuse_distance, HoldsRecent}
 use Rattle.hashlink_model.specs.Cache.{cache_use, missed_uses}
 use Rattle.hashlink_model.proofs.Members.{is_member-append}
-use Rattle.hashlink_model.proofs.Recency.{remove_key-right, recent_keys-there, recent_keys-full, recent_keys-room}
+use Rattle.hashlink_model.proofs.Recency.{remove_key-right, recent_keys-there, recent_keys-full}
+use Rattle.hashlink_model.proofs.Recency.{recent_keys-room}
 use Rattle.hashlink_model.proofs.Recency.{length-recent_keys, is_recent}
 use Rattle.hashlink_model.proofs.Reuse.{held_exactly, HoldsRecent-cache_use, HoldsRecent-start}
 use Rattle.hashlink_model.proofs.Potential.{triangle, ranks, ranks-append, ranks-held, ranks-at_most}
@@ -103,7 +108,8 @@ module _ {K : Type 0} (eq : K → K → Bool) where
   member_real [] k = refl
   member_real (x ∷ ks) k = ap (λ b. eq k x || b) (member_real ks k)
 
-  remove_real : (ks : List K) (k : K) → remove_key (padded_eq eq (inl k)) (real ks) ≡ real (remove_key (eq k) ks)
+  remove_real : (ks : List K) (k : K) → remove_key (padded_eq eq (inl k)) (real ks)
+      ≡ real (remove_key (eq k) ks)
   remove_real [] k = refl
   remove_real (x ∷ ks) k = by (eq k x) (remove_real ks k)
     where
@@ -117,7 +123,8 @@ module _ {K : Type 0} (eq : K → K → Bool) where
 
   others_real : (before : List K) (k : K) (after : List K)
       → AllByRecursion (λ q. (eq k q || is_member eq before q) ≡ true) after
-      → AllByRecursion (λ q. (padded_eq eq (inl k) q || is_member (padded_eq eq) (real before) q) ≡ true) (real after)
+      → AllByRecursion (λ q. (padded_eq eq (inl k) q || is_member (padded_eq eq) (real before) q) ≡ true)
+      (real after)
   others_real before k [] a = tt
   others_real before k (x ∷ after) a =
       (ap (λ b. eq k x || b) (member_real before x) ∙ a.0, others_real before k after a.1)
@@ -150,7 +157,8 @@ module _ {K : Type 0} (eq : K → K → Bool) where
   filled c ks = padding K (c - length ks) ++ real ks
 
 module _ {K : Type 0} (eq : K → K → Bool) (laws : IsEquivalence eq) where
-  member_filled : (c : ℕ) (ks : List K) (k : K) → is_member (padded_eq eq) (filled eq c ks) (inl k) ≡ is_member eq ks k
+  member_filled : (c : ℕ) (ks : List K) (k : K) → is_member (padded_eq eq) (filled eq c ks) (inl k)
+      ≡ is_member eq ks k
   member_filled c ks k =
       is_member-append (padded_eq eq) (padded_equiv eq laws) (padding K (c - length ks)) (real ks) (inl k)
       ∙ ap₂ ◌||◌ (member_padding eq k (c - length ks)) (member_real eq ks k)
@@ -190,7 +198,8 @@ module _ {K : Type 0} (eq : K → K → Bool) (laws : IsEquivalence eq) where
       ∙ ap (λ n. padding K n ++ real (ks ++ k ∷ [])) (sym full_after)
 
   -- one use: the filled cache takes the step that the recent keys take
-  filled_step : (c : ℕ) (used : List K) (k : K) (b : Bool) → 1 ≤ c → is_member eq (recent_keys eq c used) k ≡ b
+  filled_step : (c : ℕ) (used : List K) (k : K) (b : Bool) → 1 ≤ c
+      → is_member eq (recent_keys eq c used) k ≡ b
       → (distinct_count eq used < c) ⊎ (c ≤ distinct_count eq used)
       → cond b (remove_key (padded_eq eq (inl k)) (filled eq c (recent_keys eq c used)) ++ inl k ∷ [])
       (drop 1 (filled eq c (recent_keys eq c used)) ++ inl k ∷ [])
@@ -216,7 +225,8 @@ module _ {K : Type 0} (eq : K → K → Bool) (laws : IsEquivalence eq) where
       (λ b. cond b (remove_key (padded_eq eq (inl k)) (filled eq c (recent_keys eq c used)) ++ inl k ∷ [])
       (drop 1 (filled eq c (recent_keys eq c used)) ++ inl k ∷ []))
       member
-      ∙ filled_step c used k (is_member eq (recent_keys eq c used) k) p refl (cases_lt (distinct_count eq used) c) in
+      ∙ filled_step c used k (is_member eq (recent_keys eq c used) k) p refl
+      (cases_lt (distinct_count eq used) c) in
       ap₂ (λ b zs. cond b 0 1 + full_misses (padded_eq eq) (padded_equiv eq laws) zs (real rest))
       (member ∙ is_recent eq laws c used k) step
       ∙ ap (λ n. cond (is_member eq used k && nat_lt (reuse_distance eq used k) c) 0 1 + n)
@@ -255,7 +265,8 @@ module _ {K : Type 0} (eq : K → K → Bool) (laws : IsEquivalence eq) where
   recent_none c = let none : 0 - c ≡ 0 = omega arith in ap (λ n. drop n []) none
 
   -- however a schedule of h places replaces, the cache's misses are at most c / (c - h + 1) times as many
-  pub competitive : (c h : ℕ) → 1 ≤ h → h ≤ c → (used : List K) (held : List (List K)) → Schedule eq h used held
+  pub competitive : (c h : ℕ) → 1 ≤ h → h ≤ c → (used : List K) (held : List (List K))
+      → Schedule eq h used held
       → (c - h + 1) * cache_misses eq c used ≤ c * misses eq used held
   competitive c h p l used held s =
       let q : 1 ≤ c = omega arith in
@@ -266,12 +277,15 @@ module _ {K : Type 0} (eq : K → K → Bool) (laws : IsEquivalence eq) where
       let none : c - 0 ≡ c = omega arith in
       let empty : filled eq c (recent_keys eq c []) ≡ padding K c
       = ap (filled eq c) (recent_none c) ∙ ap (λ n. padding K n ++ []) none ∙ append-nil (padding K c) in
-      let mine : full_misses (padded_eq eq) (padded_equiv eq laws) (padding K c) (real used) ≡ cache_misses eq c used
+      let mine : full_misses (padded_eq eq) (padded_equiv eq laws) (padding K c) (real used)
+      ≡ cache_misses eq c used
       = ap (λ zs. full_misses (padded_eq eq) (padded_equiv eq laws) zs (real used)) (sym empty)
       ∙ full_misses-filled c q [] used in
       let theirs = misses_real eq [] used held in
-      ends (c - h + 1) (c + 1 - h) (full_misses (padded_eq eq) (padded_equiv eq laws) (padding K c) (real used))
-      (cache_misses eq c used) c _ (misses eq used held) (triangle (c - h)) _ (omega arith) mine theirs run begin
+      ends (c - h + 1) (c + 1 - h) (full_misses (padded_eq eq) (padded_equiv eq laws)
+      (padding K c) (real used))
+      (cache_misses eq c used) c _ (misses eq used held) (triangle (c - h)) _
+      (omega arith) mine theirs run begin
     where
       ends : (a b m n d e f t r : ℕ) → a ≡ b → m ≡ n → e ≡ f → b * m + t ≤ d * e + r → r ≤ t → a * n ≤ d * f
       ends a b m n d e f t r h1 h2 h3 h4 h5 = rw (h1, ← h2, ← h3) (omega arith)

@@ -1,5 +1,6 @@
 -- Where a cursor stands after a move, and after an insert.
-use Rattle.std.proofs.Common.{◌≡◌, ◌⊎◌, inl, inr, ℕ, zero, suc, ◌+◌, ◌%◌, ◌≤◌, ◌<◌, Bool, true, false, cond, List, []}
+use Rattle.std.proofs.Common.{◌≡◌, ◌⊎◌, inl, inr, ℕ, zero, suc, ◌+◌, ◌%◌, ◌≤◌, ◌<◌, Bool, true, false, cond}
+use Rattle.std.proofs.Common.{List, []}
 use Rattle.std.proofs.Common.{◌∷◌, ◌++◌, length, slice_get, Option, None, Some, refl, sym, ap, ◌∙◌, arith}
 use Rattle.std.proofs.Common.{mod-eq_of_lt, append_assoc}
 use Rattle.std.specs.Prelude.{insert}
@@ -15,7 +16,8 @@ use Rattle.std.proofs.lemmas.List.{take_at, drop_at, length-append}
 use Rattle.std.proofs.lemmas.Option.{none-some, slice_get_past}
 use Rattle.std.specs.Prelude.{unwrap_or}
 use Rattle.hashlink_model.specs.Entries.{IsEntries, place_of, place_or_end, put, without, stored_key}
-use Rattle.hashlink_model.specs.Cursor.{CursorState, IsCursor, CursorInserts, at_place, place_next, place_previous}
+use Rattle.hashlink_model.specs.Cursor.{CursorState, IsCursor, CursorInserts, at_place, place_next}
+use Rattle.hashlink_model.specs.Cursor.{place_previous}
 use Rattle.hashlink_model.specs.Cursor.{place_kept, following_place, preceding_place}
 use Rattle.hashlink_model.proofs.Splits.{Stands, splits, place_of-none, place_of-here}
 use Rattle.hashlink_model.proofs.Puts.{put-absent, put_front, lookup_entry-put}
@@ -49,7 +51,8 @@ module _ {K V : Type 0} (eq : K → K → Bool) where
   place_kept-guard old new i at = rw at refl
 
 module _ {K V : Type 0} (eq : K → K → Bool) (laws : IsEquivalence eq) where
-  unmoved_by : (es : List (K × V)) (i : ℕ) (o : Option (K × V)) → IsEntries eq es → i ≤ length es → slice_get es i ≡ o
+  unmoved_by : (es : List (K × V)) (i : ℕ) (o : Option (K × V)) → IsEntries eq es → i ≤ length es
+      → slice_get es i ≡ o
       → option_map_or (λ e. place_or_end eq es e.0) o (length es) ≡ i
   unmoved_by es i None d l at = le_antisymm (from_none es i at) l
     where
@@ -60,7 +63,8 @@ module _ {K V : Type 0} (eq : K → K → Bool) (laws : IsEquivalence eq) where
   unmoved_by es i (Some e) d l at = rw (place_of_its_key eq laws es i e e.0 d at (laws.refl e.0)) refl
 
   -- where the list stays, the cursor stays
-  pub place_kept-same : (es : List (K × V)) (i : ℕ) → IsEntries eq es → i ≤ length es → place_kept eq es es i ≡ i
+  pub place_kept-same : (es : List (K × V)) (i : ℕ) → IsEntries eq es → i ≤ length es
+      → place_kept eq es es i ≡ i
   place_kept-same es i d l = unmoved_by es i (slice_get es i) d l refl
 
   -- ---- the entry under the cursor after an insert at any place
@@ -83,7 +87,8 @@ module _ {K V : Type 0} (eq : K → K → Bool) (laws : IsEquivalence eq) where
       at
       ∙ slice_get-place_or_end eq e.0 (put eq es k v b)
       ∙ lookup_entry-put eq laws e.0 es k v b d
-      ∙ ap (cond (eq k e.0) (Some (stored_key eq es k, v))) (lookup_entry_at eq laws es i e e.0 d at (laws.refl e.0))
+      ∙ ap (cond (eq k e.0) (Some (stored_key eq es k, v)))
+      (lookup_entry_at eq laws es i e e.0 d at (laws.refl e.0))
       ∙ entry_by es i e k v (eq k e.0) d at refl
 
   -- the guard stays the guard
@@ -100,11 +105,13 @@ module _ {K V : Type 0} (eq : K → K → Bool) (laws : IsEquivalence eq) where
       → put eq (xs ++ e ∷ ys) k v (length xs) ≡ xs ++ (k, v) ∷ e ∷ ys
   put_before_absent xs e ys k v n =
       put-absent eq (xs ++ e ∷ ys) k v (length xs) n
-      ∙ ap₂ (λ us vs. us ++ (k, v) ∷ vs) (take_at xs (e ∷ ys) (length xs) refl) (drop_at xs (e ∷ ys) (length xs) refl)
+      ∙ ap₂ (λ us vs. us ++ (k, v) ∷ vs) (take_at xs (e ∷ ys) (length xs) refl)
+      (drop_at xs (e ∷ ys) (length xs) refl)
 
   pub put_after_absent : (xs : List (K × V)) (e : K × V) (ys : List (K × V)) (k : K) (v : V)
       → NonePasses (eq k) (xs ++ e ∷ ys)
-      → put eq (xs ++ e ∷ ys) k v (following_place (length (xs ++ e ∷ ys)) (length xs)) ≡ xs ++ e ∷ (k, v) ∷ ys
+      → put eq (xs ++ e ∷ ys) k v (following_place (length (xs ++ e ∷ ys)) (length xs))
+      ≡ xs ++ e ∷ (k, v) ∷ ys
   put_after_absent xs e ys k v n =
       let long = length-append xs (e ∷ ys) in
       let below : length xs < length (xs ++ e ∷ ys) = omega arith in
@@ -124,7 +131,8 @@ module _ {K V : Type 0} (eq : K → K → Bool) (laws : IsEquivalence eq) where
 
 -- a cursor stays within the list
 module _ {K V : Type 0} (eq : K → K → Bool) where
-  place_of-below : (test : K → Bool) (es : List (K × V)) → unwrap_or (place_of test es) (length es) ≤ length es
+  place_of-below : (test : K → Bool) (es : List (K × V)) → unwrap_or (place_of test es) (length es)
+      ≤ length es
   place_of-below test es = by (splits test es)
     where
       by : NonePasses test es ⊎ Stands test es → unwrap_or (place_of test es) (length es) ≤ length es
@@ -147,7 +155,8 @@ preceding_of_following n i (inl l) m =
     ap (preceding_place n) (following_place-within n i l) ∙ preceding_place-within n i l
 preceding_of_following n i (inr l) m =
     let same : n ≡ i = le_antisymm l m in
-    ap (λ j. preceding_place n (following_place n j)) (sym same) ∙ ap (preceding_place n) (following_place-guard n)
+    ap (λ j. preceding_place n (following_place n j)) (sym same)
+    ∙ ap (preceding_place n) (following_place-guard n)
     ∙ preceding_place-first n ∙ same
 
 following_of_preceding : (n i : ℕ) → i ≤ n → following_place n (preceding_place n i) ≡ i
@@ -165,15 +174,18 @@ module _ {K V S : Type 0} (c : CursorState K V S) where
 
   pub previous-within : IsCursor (at_place c (place_previous c))
   previous-within =
-      let n = mod_below (c.place + length c.map.entries) (length c.map.entries + 1) (omega arith) in omega arith
+      let n = mod_below (c.place + length c.map.entries) (length c.map.entries + 1)
+      (omega arith) in omega arith
 
   pub there_and_back : IsCursor c → place_previous (at_place c (place_next c)) ≡ c.place
-  there_and_back w = preceding_of_following (length c.map.entries) c.place (cases_lt c.place (length c.map.entries)) w
+  there_and_back w = preceding_of_following (length c.map.entries) c.place
+      (cases_lt c.place (length c.map.entries)) w
 
   pub back_and_there : IsCursor c → place_next (at_place c (place_previous c)) ≡ c.place
   back_and_there w = following_of_preceding (length c.map.entries) c.place w
 
-pub inserts-within : {K V S : Type 0} (eq : K → K → Bool) (old new : CursorState K V S) (k : K) (v : V) (b : ℕ)
-    (r : Result (Option V) (K × V))
+pub inserts-within : {K V S : Type 0} (eq : K → K → Bool) (old new : CursorState K V S)
+    (k : K) (v : V) (b : ℕ) (r : Result (Option V) (K × V))
     → CursorInserts eq old new k v b r → IsCursor new
-inserts-within eq old new k v b r s = rw s.place (place_kept-within eq old.map.entries new.map.entries old.place)
+inserts-within eq old new k v b r s =
+    rw s.place (place_kept-within eq old.map.entries new.map.entries old.place)

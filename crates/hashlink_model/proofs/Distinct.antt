@@ -29,7 +29,8 @@ module _ {X : Type 0} (P : X → Type 0) where
   each-right [] ys a = a
   each-right (x ∷ xs) ys a = each-right xs ys a.1
 
-pub each-weaker : {X : Type 0} (P Q : X → Type 0) → ((x : X) → P x → Q x) → (xs : List X) → AllByRecursion P xs
+pub each-weaker : {X : Type 0} (P Q : X → Type 0) → ((x : X) → P x → Q x) → (xs : List X)
+    → AllByRecursion P xs
     → AllByRecursion Q xs
 each-weaker P Q f [] a = tt
 each-weaker P Q f (x ∷ xs) a = (f x a.0, each-weaker P Q f xs a.1)
@@ -39,11 +40,13 @@ unfolding IsDistinct
 IsEntries-nil V eq = tt
 
 module _ {K V : Type 0} (eq : K → K → Bool) where
-  to_keys : (k : K) (es : List (K × V)) → NonePasses (eq k) es → AllByRecursion (λ y. eq k y ≡ false) (keys_of es)
+  to_keys : (k : K) (es : List (K × V)) → NonePasses (eq k) es
+      → AllByRecursion (λ y. eq k y ≡ false) (keys_of es)
   to_keys k [] n = tt
   to_keys k (e ∷ es) n = (n.0, to_keys k es n.1)
 
-  from_keys : (k : K) (es : List (K × V)) → AllByRecursion (λ y. eq k y ≡ false) (keys_of es) → NonePasses (eq k) es
+  from_keys : (k : K) (es : List (K × V)) → AllByRecursion (λ y. eq k y ≡ false) (keys_of es)
+      → NonePasses (eq k) es
   from_keys k [] n = tt
   from_keys k (e ∷ es) n = (n.0, from_keys k es n.1)
 
@@ -82,7 +85,8 @@ module _ {K V : Type 0} (eq : K → K → Bool) where
         IsEntries-cons x (xs ++ ys) (each-middle _ xs e ys (IsEntries-head x (xs ++ e ∷ ys) d)).1
         (IsEntries-middle xs e ys (IsEntries-tail x (xs ++ e ∷ ys) d))
 
-    pub IsEntries-insert : (xs : List (K × V)) (e : K × V) (ys : List (K × V)) → NonePasses (eq e.0) (xs ++ ys)
+    pub IsEntries-insert : (xs : List (K × V)) (e : K × V) (ys : List (K × V))
+        → NonePasses (eq e.0) (xs ++ ys)
         → IsEntries eq (xs ++ ys)
         → IsEntries eq (xs ++ e ∷ ys)
     IsEntries-insert [] e ys n d = IsEntries-cons e ys n d

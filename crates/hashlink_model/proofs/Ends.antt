@@ -1,6 +1,8 @@
 -- A smaller cache's entries stay an end of a larger one's, whatever both are given.
-use Rattle.std.proofs.Common.{◌≡◌, ℕ, zero, suc, ◌+◌, ◌-◌, ◌≤◌, ◌<◌, Bool, true, false, cond, List, [], ◌∷◌, ◌++◌}
-use Rattle.std.proofs.Common.{length, drop, is_some, Option, None, Some, refl, sym, ap, ap₂, ◌∙◌, ◌⊎◌, inl, inr, subst}
+use Rattle.std.proofs.Common.{◌≡◌, ℕ, zero, suc, ◌+◌, ◌-◌, ◌≤◌, ◌<◌, Bool, true, false, cond, List, [], ◌∷◌}
+use Rattle.std.proofs.Common.{◌++◌}
+use Rattle.std.proofs.Common.{length, drop, is_some, Option, None, Some, refl, sym, ap, ap₂, ◌∙◌, ◌⊎◌, inl}
+use Rattle.std.proofs.Common.{inr, subst}
 use Rattle.std.proofs.Common.{subst₂, arith, append_assoc, lt_irrefl}
 use Rattle.std.specs.Cmp.{IsEquivalence}
 use Rattle.std.specs.Option.{option_map_or}
@@ -56,7 +58,8 @@ module _ {K V : Type 0} (eq : K → K → Bool) (laws : IsEquivalence eq) (R : K
   remove_by k x y xs ys true r z h = z
   remove_by k x y xs ys false r z h = (r, h)
 
-  remove_alike : (k : K) (xs ys : List (K × V)) → AllZip R xs ys → AllZip R (without eq xs k) (without eq ys k)
+  remove_alike : (k : K) (xs ys : List (K × V)) → AllZip R xs ys
+      → AllZip R (without eq xs k) (without eq ys k)
   remove_alike k [] [] z = z
   remove_alike k [] (y ∷ ys) z = absurd z
   remove_alike k (x ∷ xs) [] z = absurd z
@@ -111,10 +114,12 @@ module _ {K V : Type 0} (eq : K → K → Bool) (laws : IsEquivalence eq) (R : K
       → IsEndOf R (put eq small k v (length small)) (put eq large k w (length large))
   end-put k v w small large d r e =
       subst₂ (IsEndOf R) (sym (put_back eq small k v)) (sym (put_back eq large k w))
-      (end_push (without eq small k) (without eq large k) (stored_key eq small k, v) (stored_key eq large k, w) r
+      (end_push (without eq small k) (without eq large k) (stored_key eq small k, v)
+      (stored_key eq large k, w) r
       (end-without k small large d e))
 
-  stored_equal : (k : K) (small large : List (K × V)) → eq (stored_key eq small k) (stored_key eq large k) ≡ true
+  stored_equal : (k : K) (small large : List (K × V)) → eq (stored_key eq small k) (stored_key eq large k)
+      ≡ true
   stored_equal k small large =
       sym (laws.congr k (stored_key eq small k) (stored_key eq large k) (stored_key-equal eq laws k small))
       ∙ stored_key-equal eq laws k large
@@ -126,9 +131,16 @@ module _ {K V : Type 0} (eq : K → K → Bool) (laws : IsEquivalence eq) (R : K
   drop_small_by [] large front back i z = record { front = front; back = back; is = i; alike = z }
   drop_small_by (x ∷ small) large front [] i z = absurd z
   drop_small_by (x ∷ small) large front (y ∷ back) i z =
-      record { front = front ++ y ∷ []; back = back; is = i ∙ sym (append_assoc front (y ∷ []) back); alike = z.1 }
+      record {
+        front = front ++ y ∷ [];
+        back = back;
+        is =
+            i ∙ sym (append_assoc front (y ∷ []) back);
+        alike = z.1;
+      }
 
-  end-drop_small : (n : ℕ) (small large : List (K × V)) → IsEndOf R small large → IsEndOf R (drop n small) large
+  end-drop_small : (n : ℕ) (small large : List (K × V)) → IsEndOf R small large
+      → IsEndOf R (drop n small) large
   end-drop_small zero small large e = e
   end-drop_small (suc n) [] large e = e
   end-drop_small (suc n) (x ∷ small) large e =
@@ -138,11 +150,13 @@ module _ {K V : Type 0} (eq : K → K → Bool) (laws : IsEquivalence eq) (R : K
       → length small < length large
       → IsEndOf R small (drop 1 large)
   drop_large_by small large [] back i z l =
-      let a = ap length i in let b = zip_length R small back z in absurd (lt_irrefl (length large) (omega arith))
+      let a = ap length i in let b = zip_length R small back z in absurd
+      (lt_irrefl (length large) (omega arith))
   drop_large_by small large (f ∷ front) back i z l =
       record { front = front; back = back; is = ap (drop 1) i; alike = z }
 
-  end-drop_large : (n : ℕ) (small large : List (K × V)) → IsEndOf R small large → n + length small ≤ length large
+  end-drop_large : (n : ℕ) (small large : List (K × V)) → IsEndOf R small large
+      → n + length small ≤ length large
       → IsEndOf R small (drop n large)
   end-drop_large zero small large e l = e
   end-drop_large (suc n) small [] e l = e
@@ -150,7 +164,8 @@ module _ {K V : Type 0} (eq : K → K → Bool) (laws : IsEquivalence eq) (R : K
       end-drop_large n small large (drop_large_by small (y ∷ large) e.front e.back e.is e.alike (omega arith))
       (omega arith)
 
-  end-last_small : (small large : List (K × V)) (c : ℕ) → IsEndOf R small large → IsEndOf R (last_entries small c) large
+  end-last_small : (small large : List (K × V)) (c : ℕ) → IsEndOf R small large
+      → IsEndOf R (last_entries small c) large
   end-last_small small large c e = end-drop_small (length small - c) small large e
 
   end-last_large : (small large : List (K × V)) (d : ℕ) → IsEndOf R small large → length small ≤ d
@@ -175,7 +190,8 @@ module _ {K V : Type 0} (eq : K → K → Bool) (laws : IsEquivalence eq) (R : K
       (omega arith)
 
   -- what the smaller one has, the larger one has too
-  pub end-finds : (k : K) (small large : List (K × V)) → IsEndOf R small large → is_some (lookup (eq k) small) ≡ true
+  pub end-finds : (k : K) (small large : List (K × V)) → IsEndOf R small large
+      → is_some (lookup (eq k) small) ≡ true
       → is_some (lookup (eq k) large) ≡ true
   end-finds k small large e s = found (splits (eq k) large)
     where
@@ -201,7 +217,8 @@ module _ {K V : Type 0} (eq : K → K → Bool) (laws : IsEquivalence eq) where
       end-cache_put eq laws (SameKey eq) (λ p q r. r) c d k v small large u n f
       (stored_equal eq laws (SameKey eq) (λ p q r. r) k small large) e
   use_by c d k v small large None (Some y) l m u n f e =
-      subst (IsEndOf (SameKey eq) (cache_put eq small c k v)) (sym (moved-there eq large k (length large) y m))
+      subst (IsEndOf (SameKey eq) (cache_put eq small c k v))
+      (sym (moved-there eq large k (length large) y m))
       (end-last_small eq laws (SameKey eq) (λ p q r. r) (put eq small k v (length small))
       (put eq large k y (length large)) c
       (end-put eq laws (SameKey eq) (λ p q r. r) k v y small large u
@@ -231,7 +248,8 @@ module _ {K V : Type 0} (eq : K → K → Bool) (laws : IsEquivalence eq) where
       end-cache_put eq laws (SameKey eq) (λ p q r. r) c d k v small large u n f
       (stored_equal eq laws (SameKey eq) (λ p q r. r) k small large) e
 
-  pub end-remove : (k : K) (small large : List (K × V)) → IsEntries eq large → IsEndOf (SameKey eq) small large
+  pub end-remove : (k : K) (small large : List (K × V)) → IsEntries eq large
+      → IsEndOf (SameKey eq) small large
       → IsEndOf (SameKey eq) (without eq small k) (without eq large k)
   end-remove k small large u e = end-without eq laws (SameKey eq) (λ p q r. r) k small large u e
 
@@ -250,11 +268,13 @@ module _ {K V : Type 0} (eq : K → K → Bool) (laws : IsEquivalence eq) where
       end-cache_put eq laws (SameEntry eq) (λ p q r. r.0) c d k v small large u n f
       (stored_equal eq laws (SameEntry eq) (λ p q r. r.0) k small large, refl) e
 
-  pub same_end-remove : (k : K) (small large : List (K × V)) → IsEntries eq large → IsEndOf (SameEntry eq) small large
+  pub same_end-remove : (k : K) (small large : List (K × V)) → IsEntries eq large
+      → IsEndOf (SameEntry eq) small large
       → IsEndOf (SameEntry eq) (without eq small k) (without eq large k)
   same_end-remove k small large u e = end-without eq laws (SameEntry eq) (λ p q r. r.0) k small large u e
 
-  same_values : (k : K) (xs ys : List (K × V)) → AllZip (SameEntry eq) xs ys → lookup (eq k) xs ≡ lookup (eq k) ys
+  same_values : (k : K) (xs ys : List (K × V)) → AllZip (SameEntry eq) xs ys → lookup (eq k) xs
+      ≡ lookup (eq k) ys
   same_values k [] [] z = refl
   same_values k [] (y ∷ ys) z = absurd z
   same_values k (x ∷ xs) [] z = absurd z

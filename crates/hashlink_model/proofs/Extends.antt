@@ -9,10 +9,12 @@ module _ {K V : Type 0} (eq : K → K → Bool) (laws : IsEquivalence eq) where
   pub IsEntries-extended : (es pairs : List (K × V)) → IsEntries eq es → IsEntries eq (extended eq es pairs)
   IsEntries-extended es [] d = d
   IsEntries-extended es (p ∷ pairs) d =
-      IsEntries-extended (put eq es p.0 p.1 (length es)) pairs (IsEntries-put eq laws es p.0 p.1 (length es) d)
+      IsEntries-extended (put eq es p.0 p.1 (length es)) pairs
+      (IsEntries-put eq laws es p.0 p.1 (length es) d)
 
   -- pairs whose keys are new and pairwise unequal go in as they are
-  pub extended-absent : (es pairs : List (K × V)) → IsEntries eq (es ++ pairs) → extended eq es pairs ≡ es ++ pairs
+  pub extended-absent : (es pairs : List (K × V)) → IsEntries eq (es ++ pairs)
+      → extended eq es pairs ≡ es ++ pairs
   extended-absent es [] d = sym (append-nil es)
   extended-absent es (p ∷ pairs) d =
       let none = each-left _ es pairs (none_others eq laws es p pairs d) in

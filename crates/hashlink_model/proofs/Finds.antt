@@ -1,5 +1,6 @@
 -- What a look-up finds: at the key of an entry, and at every other key.
-use Rattle.std.proofs.Common.{◌≡◌, Bool, true, false, cond, List, [], ◌∷◌, ◌++◌, Option, None, Some, refl, sym, ap}
+use Rattle.std.proofs.Common.{◌≡◌, Bool, true, false, cond, List, [], ◌∷◌, ◌++◌, Option, None, Some, refl}
+use Rattle.std.proofs.Common.{sym, ap}
 use Rattle.std.proofs.Common.{◌∙◌, ◌⊎◌, inl, inr, subst}
 use Rattle.std.specs.Option.{option_map}
 use Rattle.std.specs.Cmp.{IsEquivalence}
@@ -31,7 +32,8 @@ module _ {K V : Type 0} (test : K → Bool) where
 
 module _ {K V : Type 0} (eq : K → K → Bool) (laws : IsEquivalence eq) where
   -- the stored key is equal to the one that is asked for
-  stored_by : (k : K) (es : List (K × V)) → NonePasses (eq k) es ⊎ Stands (eq k) es → eq k (stored_key eq es k) ≡ true
+  stored_by : (k : K) (es : List (K × V)) → NonePasses (eq k) es ⊎ Stands (eq k) es
+      → eq k (stored_key eq es k) ≡ true
   stored_by k es (inl n) = rw (lookup_key-none (eq k) es n) (laws.refl k)
   stored_by k es (inr s) = rw (s.3.is, lookup_key-here (eq k) s.1 s.2 s.3.passes s.0 s.3.before) s.3.passes
 
@@ -47,11 +49,13 @@ module _ {K V : Type 0} (eq : K → K → Bool) (laws : IsEquivalence eq) where
 
   pub lookup-equal : (k q : K) (es : List (K × V)) → eq k q ≡ true → lookup (eq k) es ≡ lookup (eq q) es
   lookup-equal k q es t =
-      lookup_is (eq k) es ∙ ap (option_map (λ e. e.1)) (lookup_entry-equal k q es t) ∙ sym (lookup_is (eq q) es)
+      lookup_is (eq k) es ∙ ap (option_map (λ e. e.1)) (lookup_entry-equal k q es t)
+      ∙ sym (lookup_is (eq q) es)
 
   -- ---- with one entry more
 
-  past : (q : K) (e x : K × V) (zs : List (K × V)) (b c : Bool) → eq q x.0 ≡ b → eq e.0 q ≡ c → eq e.0 x.0 ≡ false
+  past : (q : K) (e x : K × V) (zs : List (K × V)) (b c : Bool) → eq q x.0 ≡ b → eq e.0 q
+      ≡ c → eq e.0 x.0 ≡ false
       → cond b (Some x) (cond c (Some e) (lookup_entry (eq q) zs))
       ≡ cond c (Some e) (cond b (Some x) (lookup_entry (eq q) zs))
   past q e x zs false c p r a = refl
@@ -87,7 +91,8 @@ module _ {K V : Type 0} (eq : K → K → Bool) (laws : IsEquivalence eq) where
       (left (eq k q) refl others)
     where
       left : (b : Bool) → eq k q ≡ b → NonePasses (eq s.1.0) (s.0 ++ s.2)
-          → lookup_entry (eq q) (s.0 ++ s.2) ≡ cond b None (cond b (Some s.1) (lookup_entry (eq q) (s.0 ++ s.2)))
+          → lookup_entry (eq q) (s.0 ++ s.2)
+          ≡ cond b None (cond b (Some s.1) (lookup_entry (eq q) (s.0 ++ s.2)))
       left false t o = refl
       left true t o =
           lookup_entry-none (eq q) (s.0 ++ s.2)

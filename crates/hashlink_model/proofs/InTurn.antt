@@ -1,5 +1,6 @@
 -- Many items in a row.
-use Rattle.std.proofs.Common.{◌≡◌, ℕ, ◌+◌, ◌-◌, ◌^◌, ◌≤◌, ◌<◌, Bool, List, [], ◌∷◌, ◌++◌, length, Option, None}
+use Rattle.std.proofs.Common.{◌≡◌, ℕ, ◌+◌, ◌-◌, ◌^◌, ◌≤◌, ◌<◌, Bool, List, [], ◌∷◌, ◌++◌, length, Option}
+use Rattle.std.proofs.Common.{None}
 use Rattle.std.proofs.Common.{Some, Result, Ok, ap, ◌∙◌, subst, arith, length-append}
 use Rattle.hashlink_model.specs.Entries.{put, extended}
 use Rattle.hashlink_model.specs.MapState.{MapState}
@@ -18,7 +19,8 @@ module _ {K V S : Type 0} (eq : K → K → Bool) where
   inserted old new p None s = s.adds.entries
   inserted old new p (Some v) s = s.puts.entries
 
-  pub accepts_entries : (old new : MapState K V S) (items : List (K × V)) → AcceptsAll (InsertsPair eq) old items new
+  pub accepts_entries : (old new : MapState K V S) (items : List (K × V))
+      → AcceptsAll (InsertsPair eq) old items new
       → new.entries ≡ extended eq old.entries items
   accepts_entries old new [] s = ap (λ m. m.entries) s
   accepts_entries old new (p ∷ items) s =
@@ -30,7 +32,8 @@ module _ {K V S : Type 0} (eq : K → K → Bool) where
   spare_inserted old new p None s = let e = s.adds.spare in omega arith
   spare_inserted old new p (Some v) s = let e = s.puts.spare in omega arith
 
-  accepts_spare : (old new : MapState K V S) (items : List (K × V)) → AcceptsAll (InsertsPair eq) old items new
+  accepts_spare : (old new : MapState K V S) (items : List (K × V))
+      → AcceptsAll (InsertsPair eq) old items new
       → old.spare ≤ new.spare + length items
   accepts_spare old new [] s = let e = ap (λ m. m.spare) s in omega arith
   accepts_spare old new (p ∷ items) s =
@@ -69,7 +72,9 @@ module _ {K V S : Type 0} (eq : K → K → Bool) where
       omega arith
 
 -- of two items the last one was refused where none is left after it
-pub refused_of_two : {X : Type 0} (xs : List X) (x a b : X) → a ∷ b ∷ [] ≡ xs ++ x ∷ [] → (xs ≡ a ∷ []) × (x ≡ b)
+pub refused_of_two : {X : Type 0} (xs : List X) (x a b : X) → a ∷ b ∷ [] ≡ xs ++ x ∷ []
+    → (xs ≡ a ∷ []) × (x ≡ b)
 refused_of_two [] x a b e = let n = ap length e in absurd (omega arith)
 refused_of_two (y ∷ []) x a b e = (cc, cc)
-refused_of_two (y ∷ z ∷ zs) x a b e = let n = ap length e in let m = length-append zs (x ∷ []) in absurd (omega arith)
+refused_of_two (y ∷ z ∷ zs) x a b e = let n = ap length e in let m =
+    length-append zs (x ∷ []) in absurd (omega arith)

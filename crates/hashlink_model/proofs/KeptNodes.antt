@@ -1,16 +1,20 @@
--- No step gives a node back but a clear and a shrink, none makes one beyond need, and a run stays within its peak.
-use Rattle.std.proofs.Common.{◌≡◌, ℕ, ◌+◌, ◌≤◌, ◌<◌, max, le_refl, List, [], ◌∷◌, ◌++◌, length, Bool, Option, None}
+-- No step gives a node back but a clear and a shrink, none makes one beyond need, and a run stays within its
+-- peak.
+use Rattle.std.proofs.Common.{◌≡◌, ℕ, ◌+◌, ◌≤◌, ◌<◌, max, le_refl, List, [], ◌∷◌, ◌++◌, length, Bool, Option}
+use Rattle.std.proofs.Common.{None}
 use Rattle.std.proofs.Common.{Some, Result, Ok, Err, refl, sym, ap, ◌∙◌, subst, arith}
 use Rattle.std.proofs.lemmas.Map.{length-set_value}
 use Rattle.hashlink_model.specs.Entries.{put, moved, without}
 use Rattle.hashlink_model.specs.MapState.{MapState, node_count, MayRefuse, Changes, Grows, Inserts}
-use Rattle.hashlink_model.specs.Steps.{KeepsOnly, Replaces, Moves, MovesAndWrites, RemovesKey, PopsFront, PopsBack}
+use Rattle.hashlink_model.specs.Steps.{KeepsOnly, Replaces, Moves, MovesAndWrites, RemovesKey, PopsFront}
+use Rattle.hashlink_model.specs.Steps.{PopsBack}
 use Rattle.hashlink_model.specs.Steps.{Clears, Reserves, Shrinks}
 use Rattle.hashlink_model.specs.History.{Passed, Length, Shrunk, peak}
 use Rattle.hashlink_model.specs.Peak.{KeepsNodes, Passes, PassesInTurn}
 use Rattle.hashlink_model.specs.Walk.{after_first_of, before_last_of}
 use Rattle.hashlink_model.proofs.NodeCounts.{node_count-adds, node_count-removes, node_count-keeps}
-use Rattle.hashlink_model.proofs.NodeCounts.{node_count-changes, node_count-puts, node_count-shrinks, writes_nodes}
+use Rattle.hashlink_model.proofs.NodeCounts.{node_count-changes, node_count-puts, node_count-shrinks}
+use Rattle.hashlink_model.proofs.NodeCounts.{writes_nodes}
 use Rattle.hashlink_model.proofs.NodeCounts.{moves_nodes}
 use Rattle.hashlink_model.proofs.Afterwards.{length-moved}
 
@@ -40,7 +44,8 @@ module _ {K V S : Type 0} (old new : MapState K V S) where
   kept-pops_back None s = kept-unchanged s.step
   kept-pops_back (Some e) s = kept-same (node_count-removes old new (before_last_of old.entries) s.step)
 
-  pub kept-reserves : {E : Type 0} (n : ℕ) (r : Result (Unit {0}) E) → Reserves old new n r → KeepsNodes old new
+  pub kept-reserves : {E : Type 0} (n : ℕ) (r : Result (Unit {0}) E) → Reserves old new n r
+      → KeepsNodes old new
   kept-reserves n r s = kept-grows n s.grows
 
   module _ (eq : K → K → Bool) (k : K) where
@@ -50,7 +55,8 @@ module _ {K V S : Type 0} (old new : MapState K V S) where
     kept-inserts v b (Ok (Some w)) s = kept-same (node_count-puts eq old new k v b w s)
     kept-inserts v b (Err pair) s = kept-grows 1 s.grows
 
-    pub kept-replaces : (v : V) (r : Result (Option V) (K × V)) → Replaces eq old new k v r → KeepsNodes old new
+    pub kept-replaces : (v : V) (r : Result (Option V) (K × V)) → Replaces eq old new k v r
+        → KeepsNodes old new
     kept-replaces v (Ok None) s = node_count-adds old new (put eq old.entries k v (length old.entries)) s.adds
     kept-replaces v (Ok (Some w)) s = kept-same (writes_nodes eq old new k v w s)
     kept-replaces v (Err pair) s = kept-grows 1 s.grows
@@ -63,7 +69,8 @@ module _ {K V S : Type 0} (old new : MapState K V S) where
         kept-same
         (ap node_count s.writes
         ∙ ap (λ n. n + s.between.spare) (length-set_value (eq k) s.between.entries w)
-        ∙ node_count-changes old s.between (moved eq old.entries k b) 6 s.moves (length-moved eq old.entries k b))
+        ∙ node_count-changes old s.between (moved eq old.entries k b) 6 s.moves
+        (length-moved eq old.entries k b))
 
     pub kept-removes_key : (r : Option (K × V)) → RemovesKey eq old new k r → KeepsNodes old new
     kept-removes_key None s = kept-unchanged s.step
@@ -74,7 +81,8 @@ module _ {K V S : Type 0} (old new : MapState K V S) where
   pub kept-never_fall : KeepsNodes old new → node_count old ≤ node_count new
   kept-never_fall s = omega arith
 
-  pub spare_where_shorter : node_count old ≤ node_count new → length new.entries < length old.entries → 1 ≤ new.spare
+  pub spare_where_shorter : node_count old ≤ node_count new → length new.entries
+      < length old.entries → 1 ≤ new.spare
   spare_where_shorter n l = omega arith
 
   pub not_refused_where_shorter : (eq : K → K → Bool) (k : K) → node_count old ≤ node_count new
@@ -116,7 +124,8 @@ module _ {K V S : Type 0} where
   within_the_peak old new (Shrunk n ∷ ps) s =
       subst (λ m. node_count new ≤ peak m ps) s.1.1 (within_the_peak s.0 new ps s.2)
 
-  pub passes_in_parts : (a b c : MapState K V S) (ps qs : List Passed) → PassesInTurn a ps b → PassesInTurn b qs c
+  pub passes_in_parts : (a b c : MapState K V S) (ps qs : List Passed) → PassesInTurn a ps b
+      → PassesInTurn b qs c
       → PassesInTurn a (ps ++ qs) c
   passes_in_parts a b c [] qs s t = subst (λ m. PassesInTurn m qs c) s t
   passes_in_parts a b c (p ∷ ps) qs s t = (s.0, s.1, passes_in_parts s.0 b c ps qs s.2 t)

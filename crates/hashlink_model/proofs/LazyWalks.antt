@@ -1,10 +1,12 @@
 -- What a lazy walk over two sets gives, and its size hints.
-use Rattle.std.proofs.Common.{◌≡◌, ◌+◌, ◌≤◌, Bool, true, false, not, cond, List, [], ◌∷◌, ◌++◌, length, filter}
+use Rattle.std.proofs.Common.{◌≡◌, ◌+◌, ◌≤◌, Bool, true, false, not, cond, List, [], ◌∷◌, ◌++◌, length}
+use Rattle.std.proofs.Common.{filter}
 use Rattle.std.proofs.Common.{Option, None, Some, refl, ap, arith}
 use Rattle.std.specs.Map.Iter.{TakesFirst}
 use Rattle.std.specs.Set.{is_member}
 use Rattle.std.proofs.Common.{length-append, le_refl, suc-le-suc}
-use Rattle.hashlink_model.specs.Algebra.{PairWalk, first_passing, left_to_give, left_or_right, pair_step, union_of}
+use Rattle.hashlink_model.specs.Algebra.{PairWalk, first_passing, left_to_give, left_or_right, pair_step}
+use Rattle.hashlink_model.specs.Algebra.{union_of}
 use Rattle.hashlink_model.specs.Algebra.{difference_of, symmetric_difference_of}
 
 module _ {T : Type 0} where
@@ -14,7 +16,8 @@ module _ {T : Type 0} where
 
   passing_by : (p : T → Bool) (x : T) (xs : List T) (b : Bool)
       → TakesFirst (λ y. y) (filter p xs) (first_passing p xs).0 (filter p (first_passing p xs).1)
-      → TakesFirst (λ y. y) (cond b (x ∷ filter p xs) (filter p xs)) (cond b (Some x, xs) (first_passing p xs)).0
+      → TakesFirst (λ y. y) (cond b (x ∷ filter p xs) (filter p xs))
+      (cond b (Some x, xs) (first_passing p xs)).0
       (filter p (cond b (Some x, xs) (first_passing p xs)).1)
   passing_by p x xs true h = refl
   passing_by p x xs false h = h
@@ -35,13 +38,14 @@ module _ {T : Type 0} where
   pub pair_step-takes : (p q : T → Bool) (w : PairWalk T)
       → TakesFirst (λ y. y) (left_to_give p q w) (pair_step p q w).0 (left_to_give p q (pair_step p q w).1)
   pair_step-takes p q w =
-      step_by p q w.left w.right (first_passing p w.left).0 (first_passing p w.left).1 (first_passing-takes p w.left)
+      step_by p q w.left w.right (first_passing p w.left).0 (first_passing p w.left).1
+      (first_passing-takes p w.left)
 
   -- ---- the four walks begin with all that they give
 
   module _ (eq : T → T → Bool) (xs ys : List T) where
-    pub union_walk : left_to_give (λ _. true) (λ y. not (is_member eq xs y)) (record { left = xs; right = ys })
-        ≡ union_of eq xs ys
+    pub union_walk : left_to_give (λ _. true) (λ y. not (is_member eq xs y))
+        (record { left = xs; right = ys }) ≡ union_of eq xs ys
     union_walk = ap (λ r. r ++ difference_of eq ys xs) (filter-all xs)
 
     pub symmetric_difference_walk : left_to_give (λ x. not (is_member eq ys x)) (λ y. not (is_member eq xs y))

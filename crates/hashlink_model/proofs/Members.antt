@@ -1,5 +1,6 @@
 -- What set algebra gives: its members, its order, and that its elements stay pairwise unequal.
-use Rattle.std.proofs.Common.{◌≡◌, Bool, true, false, not, ◌&&◌, ◌||◌, cond, List, [], ◌∷◌, ◌++◌, filter, refl, sym}
+use Rattle.std.proofs.Common.{◌≡◌, Bool, true, false, not, ◌&&◌, ◌||◌, cond, List, [], ◌∷◌, ◌++◌, filter}
+use Rattle.std.proofs.Common.{refl, sym}
 use Rattle.std.proofs.Common.{ap, ap₂, ◌∙◌, true≢false}
 use Rattle.std.specs.Cmp.{IsEquivalence}
 use Rattle.std.specs.List.{IsDistinct, AllByRecursion}
@@ -9,7 +10,8 @@ use Rattle.std.proofs.lemmas.Bool.{both_ways, not-true}
 use Rattle.std.proofs.lemmas.Map.Made.{All-is_member}
 use Rattle.std.proofs.lemmas.List.Elements.{recursion_from_All, filter_passes}
 use Rattle.hashlink_model.proofs.Distinct.{each-append, each-weaker}
-use Rattle.hashlink_model.specs.Algebra.{difference_of, intersection_of, union_of, symmetric_difference_of, is_nil}
+use Rattle.hashlink_model.specs.Algebra.{difference_of, intersection_of, union_of, symmetric_difference_of}
+use Rattle.hashlink_model.specs.Algebra.{is_nil}
 use Rattle.hashlink_model.specs.Algebra.{is_subset, is_disjoint}
 
 module _ {T : Type 0} (eq : T → T → Bool) (laws : IsEquivalence eq) where
@@ -22,7 +24,8 @@ module _ {T : Type 0} (eq : T → T → Bool) (laws : IsEquivalence eq) where
       → is_member eq (xs ++ ys) q ≡ (is_member eq xs q || is_member eq ys q)
   is_member-append [] ys q = refl
   is_member-append (x ∷ xs) ys q =
-      ap (λ b. eq q x || b) (is_member-append xs ys q) ∙ or_assoc (eq q x) (is_member eq xs q) (is_member eq ys q)
+      ap (λ b. eq q x || b) (is_member-append xs ys q)
+      ∙ or_assoc (eq q x) (is_member eq xs q) (is_member eq ys q)
     where
       or_assoc : (a b c : Bool) → (a || (b || c)) ≡ ((a || b) || c)
       or_assoc true b c = refl
@@ -35,11 +38,13 @@ module _ {T : Type 0} (eq : T → T → Bool) (laws : IsEquivalence eq) where
       is_member-filter laws (λ x. not (is_member eq ys x)) q (λ x t. ap not (is_member-equal ys q x t)) xs
 
   pub intersection_members : (xs ys : List T) → IsIntersection eq xs ys (intersection_of eq xs ys)
-  intersection_members xs ys q = is_member-filter laws (λ x. is_member eq ys x) q (λ x t. is_member-equal ys q x t) xs
+  intersection_members xs ys q = is_member-filter laws (λ x. is_member eq ys x) q
+      (λ x t. is_member-equal ys q x t) xs
 
   pub union_members : (xs ys : List T) → IsUnion eq xs ys (union_of eq xs ys)
   union_members xs ys q =
-      is_member-append xs (difference_of eq ys xs) q ∙ ap (λ b. is_member eq xs q || b) (difference_members ys xs q)
+      is_member-append xs (difference_of eq ys xs) q
+      ∙ ap (λ b. is_member eq xs q || b) (difference_members ys xs q)
       ∙ either (is_member eq xs q) (is_member eq ys q)
     where
       either : (a b : Bool) → (a || (b && not a)) ≡ (a || b)
@@ -62,7 +67,8 @@ module _ {T : Type 0} (eq : T → T → Bool) (laws : IsEquivalence eq) where
 
   -- ---- elements stay pairwise unequal
 
-  pub none_from_is_member : (xs : List T) (q : T) → is_member eq xs q ≡ false → AllByRecursion (λ y. eq q y ≡ false) xs
+  pub none_from_is_member : (xs : List T) (q : T) → is_member eq xs q ≡ false
+      → AllByRecursion (λ y. eq q y ≡ false) xs
   none_from_is_member [] q m = tt
   none_from_is_member (x ∷ xs) q m = (first (eq q x) m, none_from_is_member xs q (rest (eq q x) m))
     where
@@ -74,7 +80,8 @@ module _ {T : Type 0} (eq : T → T → Bool) (laws : IsEquivalence eq) where
       rest true e = absurd (true≢false e)
       rest false e = e
 
-  pub is_member_from_none : (xs : List T) (q : T) → AllByRecursion (λ y. eq q y ≡ false) xs → is_member eq xs q ≡ false
+  pub is_member_from_none : (xs : List T) (q : T) → AllByRecursion (λ y. eq q y ≡ false) xs
+      → is_member eq xs q ≡ false
   is_member_from_none [] q n = refl
   is_member_from_none (x ∷ xs) q n = rw n.0 (is_member_from_none xs q n.1)
 
@@ -92,7 +99,8 @@ module _ {T : Type 0} (eq : T → T → Bool) (laws : IsEquivalence eq) where
   distinct_by p x zs true n d = (n, d)
   distinct_by p x zs false n d = d
 
-  pub IsDistinct-filter : (p : T → Bool) → ((x y : T) → eq x y ≡ true → p x ≡ p y) → (xs : List T) → IsDistinct eq xs
+  pub IsDistinct-filter : (p : T → Bool) → ((x y : T) → eq x y ≡ true → p x ≡ p y)
+      → (xs : List T) → IsDistinct eq xs
       → IsDistinct eq (filter p xs)
   unfolding IsDistinct
   IsDistinct-filter p same [] d = d
@@ -112,9 +120,11 @@ module _ {T : Type 0} (eq : T → T → Bool) (laws : IsEquivalence eq) where
       IsDistinct-filter (λ x. not (is_member eq ys x)) (λ x y t. ap not (is_member-equal ys x y t)) xs d
 
   pub IsDistinct-intersection : (xs ys : List T) → IsDistinct eq xs → IsDistinct eq (intersection_of eq xs ys)
-  IsDistinct-intersection xs ys d = IsDistinct-filter (λ x. is_member eq ys x) (λ x y t. is_member-equal ys x y t) xs d
+  IsDistinct-intersection xs ys d = IsDistinct-filter (λ x. is_member eq ys x)
+      (λ x y t. is_member-equal ys x y t) xs d
 
-  beyond_left : (xs ys : List T) (x : T) → is_member eq xs x ≡ true → is_member eq (difference_of eq ys xs) x ≡ false
+  beyond_left : (xs ys : List T) (x : T) → is_member eq xs x ≡ true
+      → is_member eq (difference_of eq ys xs) x ≡ false
   beyond_left xs ys x m =
       difference_members ys xs x ∙ ap (λ b. is_member eq ys x && not b) m ∙ and_false (is_member eq ys x)
     where
@@ -122,12 +132,14 @@ module _ {T : Type 0} (eq : T → T → Bool) (laws : IsEquivalence eq) where
       and_false true = refl
       and_false false = refl
 
-  pub IsDistinct-union : (xs ys : List T) → IsDistinct eq xs → IsDistinct eq ys → IsDistinct eq (union_of eq xs ys)
+  pub IsDistinct-union : (xs ys : List T) → IsDistinct eq xs → IsDistinct eq ys
+      → IsDistinct eq (union_of eq xs ys)
   IsDistinct-union xs ys d e =
       IsDistinct-append xs (difference_of eq ys xs) d (IsDistinct-difference ys xs e)
       (each-weaker _ _ (λ x m. beyond_left xs ys x m) xs (recursion_from_All _ xs (All-is_member laws xs)))
 
-  outside : (ys zs : List T) (x : T) → not (is_member eq ys x) ≡ true → is_member eq (difference_of eq ys zs) x ≡ false
+  outside : (ys zs : List T) (x : T) → not (is_member eq ys x) ≡ true
+      → is_member eq (difference_of eq ys zs) x ≡ false
   outside ys zs x m =
       difference_members ys zs x ∙ ap (λ b. b && not (is_member eq zs x)) (not-true (is_member eq ys x) m)
 

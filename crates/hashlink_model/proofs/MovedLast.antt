@@ -11,7 +11,8 @@ use Rattle.hashlink_model.proofs.Afterwards.{lookup-moved}
 use Rattle.hashlink_model.proofs.Splits.{key_from_lookup}
 
 -- it moved last, and nothing else
-pub moved_last : {K V S : Type 0} (eq : K → K → Bool) → IsEquivalence eq → (old new : MapState K V S) (k : K) (w : V)
+pub moved_last : {K V S : Type 0} (eq : K → K → Bool) → IsEquivalence eq
+    → (old new : MapState K V S) (k : K) (w : V)
     → IsEntries eq old.entries → lookup (eq k) old.entries ≡ Some w
     → MovesAndWrites eq old new k (length old.entries) w
     → Moves eq old new k (length old.entries) (Some w)
@@ -20,8 +21,13 @@ moved_last eq laws old new k w d at s =
     let stands : lookup (eq k) s.between.entries ≡ Some w
     = ap (lookup (eq k)) s.moves.entries ∙ lookup-moved eq laws k old.entries k b d ∙ at in
     let same : new ≡ s.between
-    = s.writes ∙ ap (λ es. record s.between { entries = es }) (set_value_same (eq k) s.between.entries w stands) in
-    record { answer = sym at; step = subst (λ m. Changes old m (moved eq old.entries k b) 6) (sym same) s.moves }
+    = s.writes ∙ ap (λ es. record s.between { entries = es })
+    (set_value_same (eq k) s.between.entries w stands) in
+    record {
+      answer = sym at;
+      step = subst (λ m. Changes old m (moved eq old.entries k b) 6)
+          (sym same) s.moves;
+    }
 
 -- the same by a test of keys
 pub moved_match_last : {K V S : Type 0} (eq : K → K → Bool) → IsEquivalence eq → (test : K → Bool)

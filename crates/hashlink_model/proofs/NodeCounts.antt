@@ -5,7 +5,8 @@ use Rattle.std.specs.Cmp.{IsEquivalence}
 use Rattle.std.specs.Map.{keys_of, lookup, lookup_entry, set_value}
 use Rattle.std.proofs.lemmas.Map.{keys-set_value, length-set_value, lookup-set_value}
 use Rattle.hashlink_model.specs.Entries.{IsEntries, put, moved}
-use Rattle.hashlink_model.specs.MapState.{MapState, node_count, HasRoom, Changes, Adds, Removes, Grows, PutsEntry}
+use Rattle.hashlink_model.specs.MapState.{MapState, node_count, HasRoom, Changes, Adds, Removes, Grows}
+use Rattle.hashlink_model.specs.MapState.{PutsEntry}
 use Rattle.hashlink_model.specs.MapState.{Inserts}
 use Rattle.hashlink_model.specs.Steps.{KeepsOnly, WritesEntry, Moves, MovesMatch, Drains, Reserves, Shrinks}
 use Rattle.hashlink_model.proofs.Puts.{lookup_entry-set_value_other}
@@ -15,10 +16,12 @@ use Rattle.hashlink_model.proofs.Afterwards.{IsEntries-moved, length-moved_match
 module _ {K V S : Type 0} (old new : MapState K V S) where
   pub node_count-adds : (es : List (K × V)) → Adds old new es
       → node_count new ≡ max (node_count old) (length new.entries)
-  node_count-adds es s = let same = ap length s.entries in let more = s.more in let spare = s.spare in omega arith
+  node_count-adds es s = let same = ap length s.entries in let more = s.more in let spare =
+      s.spare in omega arith
 
   pub node_count-removes : (es : List (K × V)) → Removes old new es → node_count new ≡ node_count old
-  node_count-removes es s = let same = ap length s.entries in let fewer = s.fewer in let spare = s.spare in omega arith
+  node_count-removes es s = let same = ap length s.entries in let fewer = s.fewer in let spare =
+      s.spare in omega arith
 
   pub HasRoom-removes : (es : List (K × V)) → Removes old new es → HasRoom old → HasRoom new
   HasRoom-removes es s h = let n = node_count-removes es s in let r = s.room in omega arith
@@ -31,11 +34,13 @@ module _ {K V S : Type 0} (old new : MapState K V S) where
   pub node_count-keeps : (es : List (K × V)) → KeepsOnly old new es → node_count new ≡ node_count old
   node_count-keeps es s = let same = ap length s.entries in let spare = s.spare in omega arith
 
-  pub node_count-changes : (es : List (K × V)) (most : ℕ) → Changes old new es most → length es ≡ length old.entries
+  pub node_count-changes : (es : List (K × V)) (most : ℕ) → Changes old new es most → length es
+      ≡ length old.entries
       → node_count new ≡ node_count old
   node_count-changes es most s l = let same = ap length s.entries in let spare = s.spare in omega arith
 
-  pub HasRoom-changes : (es : List (K × V)) (most : ℕ) → Changes old new es most → length es ≤ length old.entries
+  pub HasRoom-changes : (es : List (K × V)) (most : ℕ) → Changes old new es most → length es
+      ≤ length old.entries
       → HasRoom old
       → HasRoom new
   HasRoom-changes es most s l h =
@@ -48,19 +53,22 @@ module _ {K V S : Type 0} (old new : MapState K V S) where
   drains_all s = let spare = s.spare in (s.entries, omega arith)
 
   module _ {E : Type 0} where
-    pub node_count-shrinks : (r : Result (Unit {0}) E) → Shrinks old new r → node_count new ≡ length old.entries
+    pub node_count-shrinks : (r : Result (Unit {0}) E) → Shrinks old new r → node_count new
+        ≡ length old.entries
     node_count-shrinks r s = let same = ap length s.entries in let spare = s.spare in omega arith
 
     pub HasRoom-shrinks : (r : Result (Unit {0}) E) → Shrinks old new r → HasRoom new
     HasRoom-shrinks r s = let fits = s.fits in let spare = s.spare in omega arith
 
-    pub HasRoom-reserves : (n : ℕ) (r : Result (Unit {0}) E) → Reserves old new n r → HasRoom old → HasRoom new
+    pub HasRoom-reserves : (n : ℕ) (r : Result (Unit {0}) E) → Reserves old new n r
+        → HasRoom old → HasRoom new
     HasRoom-reserves n r s h = HasRoom-grows old new n s.grows h
 
 -- ---- two steps that only take entries away are one, and a removal is one of them
 
 module _ {K V S : Type 0} where
-  pub removes_keeps : (old new : MapState K V S) (es : List (K × V)) → Removes old new es → KeepsOnly old new es
+  pub removes_keeps : (old new : MapState K V S) (es : List (K × V)) → Removes old new es
+      → KeepsOnly old new es
   removes_keeps old new es s =
       let fewer = s.fewer in
       let spare = s.spare in
@@ -99,22 +107,26 @@ module _ {K V S : Type 0} where
 -- ---- a move by a test
 
 module _ {K V S : Type 0} (old new : MapState K V S) (test : K → Bool) (b : ℕ) where
-  pub moves_match_length : (r : Option V) → MovesMatch test old new b r → length new.entries ≡ length old.entries
+  pub moves_match_length : (r : Option V) → MovesMatch test old new b r → length new.entries
+      ≡ length old.entries
   moves_match_length None s = ap (λ m. length m.entries) s.step
   moves_match_length (Some w) s = ap length s.step.entries ∙ length-moved_match test old.entries b
 
 -- ---- an insert at any place
 
 module _ {K V S : Type 0} (eq : K → K → Bool) (old new : MapState K V S) (k : K) where
-  pub node_count-puts : (v : V) (b : ℕ) (w : V) → PutsEntry eq old new k v b w → node_count new ≡ node_count old
+  pub node_count-puts : (v : V) (b : ℕ) (w : V) → PutsEntry eq old new k v b w
+      → node_count new ≡ node_count old
   node_count-puts v b w s =
       node_count-changes old new (put eq old.entries k v b) 6 s.puts
       (length-put_there eq old.entries k v b w s.old_value)
 
-  pub HasRoom-inserts : (v : V) (b : ℕ) (r : Result (Option V) (K × V)) → Inserts eq old new k v b r → HasRoom old
+  pub HasRoom-inserts : (v : V) (b : ℕ) (r : Result (Option V) (K × V))
+      → Inserts eq old new k v b r → HasRoom old
       → HasRoom new
   HasRoom-inserts v b (Ok None) s h = s.adds.fits
-  HasRoom-inserts v b (Ok (Some w)) s h = let n = node_count-puts v b w s in let r = s.puts.room in omega arith
+  HasRoom-inserts v b (Ok (Some w)) s h = let n = node_count-puts v b w s in let r =
+      s.puts.room in omega arith
   HasRoom-inserts v b (Err pair) s h = HasRoom-grows old new 1 s.grows h
 
   -- ---- a value that was written, and an entry that was moved
@@ -125,7 +137,8 @@ module _ {K V S : Type 0} (eq : K → K → Bool) (old new : MapState K V S) (k 
 
     pub writes_nodes : WritesEntry eq old new k v w → node_count new ≡ node_count old
     writes_nodes s =
-        node_count-changes old new (set_value (eq k) old.entries v) 0 s.writes (length-set_value (eq k) old.entries v)
+        node_count-changes old new (set_value (eq k) old.entries v) 0 s.writes
+        (length-set_value (eq k) old.entries v)
 
   module _ (b : ℕ) where
     moves_by : (r : Option V) → MatchOption r (new ≡ old) (λ _. Changes old new (moved eq old.entries k b) 6)
@@ -160,7 +173,8 @@ module _ {K V S : Type 0} (eq : K → K → Bool) (laws : IsEquivalence eq) wher
   writes_others q old new k v w s t =
       ap (lookup_entry (eq q)) s.writes.entries ∙ lookup_entry-set_value_other eq laws q old.entries k v t
 
-  pub moves_lookup : (q : K) (old new : MapState K V S) (k : K) (b : ℕ) (r : Option V) → Moves eq old new k b r
+  pub moves_lookup : (q : K) (old new : MapState K V S) (k : K) (b : ℕ) (r : Option V)
+      → Moves eq old new k b r
       → IsEntries eq old.entries
       → lookup (eq q) new.entries ≡ lookup (eq q) old.entries
   moves_lookup q old new k b r s d =
@@ -169,4 +183,5 @@ module _ {K V S : Type 0} (eq : K → K → Bool) (laws : IsEquivalence eq) wher
   pub moves_keys : (old new : MapState K V S) (k : K) (b : ℕ) (r : Option V) → Moves eq old new k b r
       → IsEntries eq old.entries
       → IsEntries eq new.entries
-  moves_keys old new k b r s d = rw (moves_entries eq old new k b r s) (IsEntries-moved eq laws old.entries k b d)
+  moves_keys old new k b r s d = rw (moves_entries eq old new k b r s)
+      (IsEntries-moved eq laws old.entries k b d)

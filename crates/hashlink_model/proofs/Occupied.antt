@@ -1,16 +1,20 @@
 -- What stands after the steps on an occupied entry.
 use Rattle.std.specs.Prelude.{insert, remove, zero, suc, ◌<◌, MatchOption, Option}
-use Rattle.std.proofs.Common.{arith, take, drop, length-append, length-take, length-drop, ◌≡◌, ℕ, ◌+◌, Bool, true}
-use Rattle.std.proofs.Common.{cond, List, [], ◌∷◌, ◌++◌, length, slice_get, None, Some, refl, sym, ap, ap₂, ◌∙◌}
+use Rattle.std.proofs.Common.{arith, take, drop, length-append, length-take, length-drop, ◌≡◌, ℕ, ◌+◌, Bool}
+use Rattle.std.proofs.Common.{true}
+use Rattle.std.proofs.Common.{cond, List, [], ◌∷◌, ◌++◌, length, slice_get, None, Some, refl, sym, ap, ap₂}
+use Rattle.std.proofs.Common.{◌∙◌}
 use Rattle.std.proofs.Common.{subst, option_map}
 use Rattle.std.specs.Cmp.{IsEquivalence}
 use Rattle.std.specs.Option.{option_map_or}
 use Rattle.std.specs.Map.{lookup, lookup_entry}
 use Rattle.std.proofs.lemmas.Map.{NonePasses}
 use Rattle.std.proofs.lemmas.List.{append-nil}
-use Rattle.hashlink_model.specs.Entries.{IsEntries, place_of, place_left, put, moved, moved_at, without, set_value_at}
+use Rattle.hashlink_model.specs.Entries.{IsEntries, place_of, place_left, put, moved, moved_at, without}
+use Rattle.hashlink_model.specs.Entries.{set_value_at}
 use Rattle.hashlink_model.specs.Entries.{set_key_at}
-use Rattle.hashlink_model.specs.Entry.{EntryState, IsEntry, IsRawEntry, raw_entry_of, insert_value, insert_entry}
+use Rattle.hashlink_model.specs.Entry.{EntryState, IsEntry, IsRawEntry, raw_entry_of, insert_value}
+use Rattle.hashlink_model.specs.Entry.{insert_entry}
 use Rattle.hashlink_model.specs.Entry.{or_insert, replace_entry}
 use Rattle.hashlink_model.specs.MapState.{MapState}
 use Rattle.hashlink_model.proofs.Distinct.{none_equal, none_others, IsEntries-middle, IsEntries-insert}
@@ -26,7 +30,8 @@ module _ {K V : Type 0} where
   pub or_insert-there : (eq : K → K → Bool) (es : List (K × V)) (k : K) (v w : V) → lookup (eq k) es ≡ Some w
       → or_insert eq es k v ≡ moved eq es k (length es)
   or_insert-there eq es k v w l =
-      ap (λ o. put eq es k (option_map_or (λ x. x) o v) (length es)) l ∙ sym (moved-there eq es k (length es) w l)
+      ap (λ o. put eq es k (option_map_or (λ x. x) o v) (length es)) l
+      ∙ sym (moved-there eq es k (length es) w l)
 
   pub or_insert-absent : (eq : K → K → Bool) (es : List (K × V)) (k : K) (v : V) → lookup (eq k) es ≡ None
       → or_insert eq es k v ≡ put eq es k v (length es)
@@ -89,7 +94,8 @@ module _ {K V : Type 0} (eq : K → K → Bool) (laws : IsEquivalence eq) where
       (IsEntries-insert eq laws (without eq es e.0) (h, v) [] (none_last es e h d t)
       (rw (append-nil (without eq es e.0)) (IsEntries-without eq laws es e.0 d)))
 
-  pub lookup_entry-insert_entry : (q : K) (es : List (K × V)) (j : ℕ) (e : K × V) (h : K) (v : V) → IsEntries eq es
+  pub lookup_entry-insert_entry : (q : K) (es : List (K × V)) (j : ℕ) (e : K × V) (h : K) (v : V)
+      → IsEntries eq es
       → slice_get es j ≡ Some e
       → eq h e.0 ≡ true
       → lookup_entry (eq q) (insert_entry es j h v) ≡ cond (eq h q) (Some (h, v)) (lookup_entry (eq q) es)
@@ -118,7 +124,8 @@ module _ {K V : Type 0} (eq : K → K → Bool) (laws : IsEquivalence eq) where
       (IsEntries-insert eq laws s.0 (h, v) s.1 (others_apart s.0 e s.1 h there t)
       (IsEntries-middle eq laws s.0 e s.1 there))
 
-  pub lookup_entry-replace_entry : (q : K) (es : List (K × V)) (j : ℕ) (e : K × V) (h : K) (v : V) → IsEntries eq es
+  pub lookup_entry-replace_entry : (q : K) (es : List (K × V)) (j : ℕ) (e : K × V) (h : K) (v : V)
+      → IsEntries eq es
       → slice_get es j ≡ Some e
       → eq h e.0 ≡ true
       → lookup_entry (eq q) (replace_entry es j h v) ≡ cond (eq h q) (Some (h, v)) (lookup_entry (eq q) es)
@@ -134,7 +141,8 @@ module _ {K V : Type 0} (eq : K → K → Bool) (laws : IsEquivalence eq) where
       ∙ sym (lookup_entry-middle eq laws q e s.1 s.0 (none_others eq laws s.0 e s.1 there))
       ∙ ap (lookup_entry (eq q)) (sym s.2))
 
-  pub place_of-replace_entry : (q : K) (es : List (K × V)) (j : ℕ) (e : K × V) (h : K) (v : V) → IsEntries eq es
+  pub place_of-replace_entry : (q : K) (es : List (K × V)) (j : ℕ) (e : K × V) (h : K) (v : V)
+      → IsEntries eq es
       → slice_get es j ≡ Some e
       → eq h e.0 ≡ true
       → place_of (eq q) (replace_entry es j h v) ≡ place_of (eq q) es
@@ -147,7 +155,8 @@ module _ {K V : Type 0} (eq : K → K → Bool) (laws : IsEquivalence eq) where
 
   -- ---- a new value last with the stored key, and a key or a value alone in its place
 
-  pub insert_value-put : (es : List (K × V)) (j : ℕ) (e : K × V) (v : V) → IsEntries eq es → slice_get es j ≡ Some e
+  pub insert_value-put : (es : List (K × V)) (j : ℕ) (e : K × V) (v : V) → IsEntries eq es
+      → slice_get es j ≡ Some e
       → insert_value es j v ≡ put eq es e.0 v (length es)
   insert_value-put es j e v d at =
       moved_at-put eq es e.0 j (place_of_its_key eq laws es j e e.0 d at (laws.refl e.0)) v (length es)
@@ -158,8 +167,10 @@ module _ {K V : Type 0} (eq : K → K → Bool) (laws : IsEquivalence eq) where
   IsEntries-insert_value es j e v d at =
       rw (insert_value-put es j e v d at) (IsEntries-put eq laws es e.0 v (length es) d)
 
-  pub IsEntries-or_insert : (es : List (K × V)) (k : K) (v : V) → IsEntries eq es → IsEntries eq (or_insert eq es k v)
-  IsEntries-or_insert es k v d = IsEntries-put eq laws es k (option_map_or (λ w. w) (lookup (eq k) es) v) (length es) d
+  pub IsEntries-or_insert : (es : List (K × V)) (k : K) (v : V) → IsEntries eq es
+      → IsEntries eq (or_insert eq es k v)
+  IsEntries-or_insert es k v d = IsEntries-put eq laws es k (option_map_or (λ w. w) (lookup (eq k) es) v)
+      (length es) d
 
   pub IsEntries-set_key_at : (es : List (K × V)) (j : ℕ) (e : K × V) (k : K) → IsEntries eq es
       → slice_get es j ≡ Some e → eq k e.0 ≡ true
@@ -177,7 +188,8 @@ module _ {K V : Type 0} (eq : K → K → Bool) (laws : IsEquivalence eq) where
       → slice_get es j ≡ Some e
       → lookup_entry (eq q) (insert_value es j v) ≡ cond (eq e.0 q) (Some (e.0, v)) (lookup_entry (eq q) es)
   lookup_entry-insert_value q es j e v d at =
-      ap (lookup_entry (eq q)) (insert_value-put es j e v d at) ∙ lookup_entry-put eq laws q es e.0 v (length es) d
+      ap (lookup_entry (eq q)) (insert_value-put es j e v d at)
+      ∙ lookup_entry-put eq laws q es e.0 v (length es) d
       ∙ ap (λ k. cond (eq e.0 q) (Some (k, v)) (lookup_entry (eq q) es))
       (stored_key_at eq laws es j e e.0 d at (laws.refl e.0))
 
@@ -186,7 +198,8 @@ module _ {K V : Type 0} (eq : K → K → Bool) (laws : IsEquivalence eq) where
       → eq k e.0 ≡ true
       → lookup_entry (eq q) (set_key_at es j k) ≡ cond (eq k q) (Some (k, e.1)) (lookup_entry (eq q) es)
   lookup_entry-set_key_at q es j e k d at t =
-      ap (lookup_entry (eq q)) (set_key_at-entry es j e k at) ∙ lookup_entry-replace_entry q es j e k e.1 d at t
+      ap (lookup_entry (eq q)) (set_key_at-entry es j e k at)
+      ∙ lookup_entry-replace_entry q es j e k e.1 d at t
 
   pub lookup_entry-set_value_at : (q : K) (es : List (K × V)) (j : ℕ) (e : K × V) (v : V) → IsEntries eq es
       → slice_get es j ≡ Some e
@@ -204,7 +217,12 @@ module _ {K V : Type 0} where
   length-set_key_at (e ∷ es) (suc j) k = ap suc (length-set_key_at es j k)
 
   length-inserted : (es : List (K × V)) (b : ℕ) (e : K × V) → length (insert es b e) ≡ length es + 1
-  length-inserted es b e = omega (arith, length-append (take b es) (e ∷ drop b es), length-take b es, length-drop b es)
+  length-inserted es b e = omega (
+    arith,
+    length-append (take b es) (e ∷ drop b es),
+    length-take b es,
+    length-drop b es,
+  )
 
   pub length-moved_at : (es : List (K × V)) (j b : ℕ) → length (moved_at es j b) ≡ length es
   length-moved_at es j b = by (slice_get es j) refl
@@ -218,14 +236,18 @@ module _ {K V : Type 0} where
           ∙ ap (λ zs. length zs + 1) (ap₂ remove s.2 (sym s.3) ∙ remove-here s.0 e s.1)
           ∙ omega (arith, length-append s.0 s.1, length-append s.0 (e ∷ s.1), ap length s.2)
 
-  pub length-replace_entry : (es : List (K × V)) (j : ℕ) (h : K) (v : V) → length (replace_entry es j h v) ≡ length es
+  pub length-replace_entry : (es : List (K × V)) (j : ℕ) (h : K) (v : V)
+      → length (replace_entry es j h v) ≡ length es
   length-replace_entry es j h v = length-set_key_at (set_value_at es j v) j h ∙ length-set_value_at es j v
 
   pub length-insert_value : (es : List (K × V)) (j : ℕ) (v : V) → length (insert_value es j v) ≡ length es
-  length-insert_value es j v = length-moved_at (set_value_at es j v) j (length es) ∙ length-set_value_at es j v
+  length-insert_value es j v = length-moved_at (set_value_at es j v) j (length es)
+      ∙ length-set_value_at es j v
 
-  pub length-insert_entry : (es : List (K × V)) (j : ℕ) (h : K) (v : V) → length (insert_entry es j h v) ≡ length es
-  length-insert_entry es j h v = length-moved_at (replace_entry es j h v) j (length es) ∙ length-replace_entry es j h v
+  pub length-insert_entry : (es : List (K × V)) (j : ℕ) (h : K) (v : V)
+      → length (insert_entry es j h v) ≡ length es
+  length-insert_entry es j h v = length-moved_at (replace_entry es j h v) j (length es)
+      ∙ length-replace_entry es j h v
 
 -- ---- where an entry stands
 
@@ -239,7 +261,8 @@ module _ {K V S : Type 0} (eq : K → K → Bool) where
   pub raw_entry_stands : (m : MapState K V S) (k : K) → IsRawEntry (raw_entry_of eq m k)
   raw_entry_stands m k = by (place_of (eq k) m.entries) refl
     where
-      by : (o : Option ℕ) → place_of (eq k) m.entries ≡ o → MatchOption o (Unit {0}) (λ j. j < length m.entries)
+      by : (o : Option ℕ) → place_of (eq k) m.entries ≡ o → MatchOption o (Unit {0})
+          (λ j. j < length m.entries)
       by None p = tt
       by (Some j) p =
           let s = stands_from_place (eq k) m.entries j p in

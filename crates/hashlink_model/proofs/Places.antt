@@ -1,5 +1,6 @@
 -- Entries by their places.
-use Rattle.std.proofs.Common.{le_refl, ◌≡◌, ℕ, zero, suc, Bool, true, List, [], ◌∷◌, ◌++◌, length, slice_get, Some}
+use Rattle.std.proofs.Common.{le_refl, ◌≡◌, ℕ, zero, suc, Bool, true, List, [], ◌∷◌, ◌++◌, length, slice_get}
+use Rattle.std.proofs.Common.{Some}
 use Rattle.std.proofs.Common.{refl, ap, ◌∙◌, ◌⊎◌, inl, inr, subst}
 use Rattle.std.specs.Cmp.{IsEquivalence}
 use Rattle.std.specs.Map.{lookup_entry}
@@ -54,10 +55,12 @@ module _ {K V : Type 0} (eq : K → K → Bool) (laws : IsEquivalence eq) where
       → eq q e.0 ≡ true
       → NonePasses (eq q) xs
   none_before xs e ys q d t =
-      each-left _ xs ys (none_equal eq laws e.0 q (xs ++ ys) (laws.symm e.0 q ∙ t) (none_others eq laws xs e ys d))
+      each-left _ xs ys (none_equal eq laws e.0 q (xs ++ ys) (laws.symm e.0 q ∙ t)
+      (none_others eq laws xs e ys d))
 
   -- the place of the key of the entry at i is i
-  pub place_of_its_key : (es : List (K × V)) (i : ℕ) (e : K × V) (q : K) → IsEntries eq es → slice_get es i ≡ Some e
+  pub place_of_its_key : (es : List (K × V)) (i : ℕ) (e : K × V) (q : K) → IsEntries eq es
+      → slice_get es i ≡ Some e
       → eq q e.0 ≡ true
       → place_of (eq q) es ≡ Some i
   place_of_its_key es i e q d at t =
@@ -65,7 +68,8 @@ module _ {K V : Type 0} (eq : K → K → Bool) (laws : IsEquivalence eq) where
       let there = subst (IsEntries eq) s.2 d in
       rw (s.2) (place_of-here (eq q) e s.1 t s.0 (none_before s.0 e s.1 q there t) ∙ ap Some s.3)
 
-  pub lookup_entry_at : (es : List (K × V)) (i : ℕ) (e : K × V) (q : K) → IsEntries eq es → slice_get es i ≡ Some e
+  pub lookup_entry_at : (es : List (K × V)) (i : ℕ) (e : K × V) (q : K) → IsEntries eq es
+      → slice_get es i ≡ Some e
       → eq q e.0 ≡ true
       → lookup_entry (eq q) es ≡ Some e
   lookup_entry_at es i e q d at t =
@@ -73,7 +77,8 @@ module _ {K V : Type 0} (eq : K → K → Bool) (laws : IsEquivalence eq) where
       rw (s.2) (lookup_entry-here (eq q) e s.1 t s.0 (none_before s.0 e s.1 q (subst (IsEntries eq) s.2 d) t))
 
   -- the key object that the list holds for the key of the entry at i is its own
-  pub stored_key_at : (es : List (K × V)) (i : ℕ) (e : K × V) (q : K) → IsEntries eq es → slice_get es i ≡ Some e
+  pub stored_key_at : (es : List (K × V)) (i : ℕ) (e : K × V) (q : K) → IsEntries eq es
+      → slice_get es i ≡ Some e
       → eq q e.0 ≡ true
       → stored_key eq es q ≡ e.0
   stored_key_at es i e q d at t = rw (lookup_key_is (eq q) es, lookup_entry_at es i e q d at t) refl

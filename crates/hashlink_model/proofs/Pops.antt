@@ -1,5 +1,6 @@
 -- The first and the last entry taken out, and cursors and entries of a map's state.
-use Rattle.std.proofs.Common.{◌≡◌, ℕ, ◌+◌, ◌≤◌, Bool, List, [], ◌∷◌, ◌++◌, length, None, Some, Err, refl, sym, ap}
+use Rattle.std.proofs.Common.{◌≡◌, ℕ, ◌+◌, ◌≤◌, Bool, List, [], ◌∷◌, ◌++◌, length, None, Some, Err, refl, sym}
+use Rattle.std.proofs.Common.{ap}
 use Rattle.std.proofs.Common.{◌∙◌, ◌⊎◌, inl, inr, subst, append-nil}
 use Rattle.std.specs.Cmp.{IsEquivalence}
 use Rattle.std.specs.Map.{lookup}
@@ -12,7 +13,8 @@ use Rattle.hashlink_model.specs.Steps.{PopsFront, PopsBack}
 use Rattle.hashlink_model.specs.Walk.{after_first_of, before_last_of}
 use Rattle.hashlink_model.proofs.Walks.{takes_first, takes_last}
 use Rattle.hashlink_model.specs.Cursor.{CursorState, CursorInserts, place_kept}
-use Rattle.hashlink_model.proofs.Splits.{Stands, splits, remove_entry-here, place_of-none, place_of-here, lookup-none}
+use Rattle.hashlink_model.proofs.Splits.{Stands, splits, remove_entry-here, place_of-none, place_of-here}
+use Rattle.hashlink_model.proofs.Splits.{lookup-none}
 use Rattle.hashlink_model.proofs.Splits.{lookup-here}
 use Rattle.hashlink_model.proofs.Places.{none_before}
 use Rattle.hashlink_model.proofs.Cursors.{place_kept-same}
@@ -21,13 +23,15 @@ module _ {K V : Type 0} (eq : K → K → Bool) (laws : IsEquivalence eq) where
   pub without-first : (e : K × V) (es : List (K × V)) → without eq (e ∷ es) e.0 ≡ es
   without-first e es = rw (laws.refl e.0) refl
 
-  pub without-last : (es : List (K × V)) (e : K × V) → IsEntries eq (es ++ e ∷ []) → without eq (es ++ e ∷ []) e.0 ≡ es
+  pub without-last : (es : List (K × V)) (e : K × V) → IsEntries eq (es ++ e ∷ [])
+      → without eq (es ++ e ∷ []) e.0 ≡ es
   without-last es e d =
       remove_entry-here (eq e.0) e [] (laws.refl e.0) es (none_before eq laws es e [] e.0 d (laws.refl e.0))
       ∙ append-nil es
 
   -- a key has a place exactly where a look-up finds it
-  vacant_by : (k : K) (es : List (K × V)) → NonePasses (eq k) es ⊎ Stands (eq k) es → place_of (eq k) es ≡ None
+  vacant_by : (k : K) (es : List (K × V)) → NonePasses (eq k) es ⊎ Stands (eq k) es
+      → place_of (eq k) es ≡ None
       → lookup (eq k) es ≡ None
   vacant_by k es (inl n) p = lookup-none (eq k) es n
   vacant_by k es (inr s) p =
@@ -67,7 +71,8 @@ module _ {K V S : Type 0} (old new : MapState K V S) (e : K × V) where
       (takes_first old.entries) in
       (taken ∙ ap (λ r. e ∷ r) (sym s.step.entries), s.step.spare)
 
-  pub pops_back : PopsBack old new (Some e) → (old.entries ≡ new.entries ++ e ∷ []) × (new.spare ≡ old.spare + 1)
+  pub pops_back : PopsBack old new (Some e) → (old.entries ≡ new.entries ++ e ∷ [])
+      × (new.spare ≡ old.spare + 1)
   pops_back s =
       let taken : TakesLast (λ x. x) old.entries (Some e) (before_last_of old.entries)
       = subst (λ o. TakesLast (λ x. x) old.entries o (before_last_of old.entries)) (sym s.answer)

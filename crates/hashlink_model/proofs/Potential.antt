@@ -1,6 +1,7 @@
--- How far a cache is from a schedule: the sum of the ranks, from 1 for the oldest, of the keys that the cache holds
--- and the schedule does not.
-use Rattle.std.proofs.Common.{◌≡◌, ℕ, zero, suc, ◌+◌, ◌*◌, ◌≤◌, Bool, true, false, ◌&&◌, ◌||◌, cond, List, [], ◌∷◌}
+-- How far a cache is from a schedule: the sum of the ranks, from 1 for the oldest, of the keys that the cache
+-- holds and the schedule does not.
+use Rattle.std.proofs.Common.{◌≡◌, ℕ, zero, suc, ◌+◌, ◌*◌, ◌≤◌, Bool, true, false, ◌&&◌, ◌||◌, cond, List, []}
+use Rattle.std.proofs.Common.{◌∷◌}
 use Rattle.std.proofs.Common.{◌++◌, length, filter, refl, sym, ap, ◌∙◌, arith, true≢false, le_refl, zero-le}
 use Rattle.std.specs.Cmp.{IsEquivalence}
 use Rattle.std.specs.List.{AllByRecursion, IsDistinct}
@@ -37,7 +38,8 @@ module _ {X : Type 0} (eq : X → X → Bool) where
 
   pub ranks-append : (n : ℕ) (held xs ys : List X)
       → ranks n held (xs ++ ys) ≡ ranks n held xs + ranks (n + length xs) held ys
-  ranks-append n held [] ys = let same : n ≡ n + 0 = omega arith in ap (λ m. ranks m held ys) same ∙ omega arith
+  ranks-append n held [] ys = let same : n ≡ n + 0 = omega arith in ap (λ m. ranks m held ys) same
+      ∙ omega arith
   ranks-append n held (x ∷ xs) ys =
       let more : n + 1 + length xs ≡ n + suc (length xs) = omega arith in
       ap (λ r. cond (is_member eq held x) 0 (n + 1) + r)
@@ -56,11 +58,13 @@ module _ {X : Type 0} (eq : X → X → Bool) where
   ranks-at_most held (x ∷ xs) n = by (is_member eq held x) (ranks-at_most held xs (n + 1))
     where
       by : (b : Bool) → ranks (n + 1) held xs ≤ (n + 1) * length xs + triangle (length xs)
-          → cond b 0 (n + 1) + ranks (n + 1) held xs ≤ n * suc (length xs) + (suc (length xs) + triangle (length xs))
+          → cond b 0 (n + 1) + ranks (n + 1) held xs
+          ≤ n * suc (length xs) + (suc (length xs) + triangle (length xs))
       by true h = omega arith
       by false h = omega arith
 
-  pub ranks-at_least : (held xs : List X) (n : ℕ) → n * outside held xs + triangle (outside held xs) ≤ ranks n held xs
+  pub ranks-at_least : (held xs : List X) (n : ℕ) → n * outside held xs + triangle (outside held xs)
+      ≤ ranks n held xs
   ranks-at_least held [] n = omega arith
   ranks-at_least held (x ∷ xs) n = by (is_member eq held x) (ranks-at_least held xs (n + 1))
     where
@@ -73,7 +77,8 @@ module _ {X : Type 0} (eq : X → X → Bool) where
 module _ {X : Type 0} (eq : X → X → Bool) (laws : IsEquivalence eq) where
   -- ---- how many are outside
 
-  outside-filter : (held xs : List X) → outside eq held xs + length (filter (is_member eq held) xs) ≡ length xs
+  outside-filter : (held xs : List X) → outside eq held xs + length (filter (is_member eq held) xs)
+      ≡ length xs
   outside-filter held [] = omega arith
   outside-filter held (x ∷ xs) = by (is_member eq held x) (outside-filter held xs)
     where
@@ -90,7 +95,8 @@ module _ {X : Type 0} (eq : X → X → Bool) (laws : IsEquivalence eq) where
 
   kept_members : (held xs : List X) (q : X)
       → is_member eq (filter (is_member eq held) xs) q ≡ (is_member eq xs q && is_member eq held q)
-  kept_members held xs q = is_member-filter laws (is_member eq held) q (λ x t. is_member-equal eq laws held q x t) xs
+  kept_members held xs q = is_member-filter laws (is_member eq held) q
+      (λ x t. is_member-equal eq laws held q x t) xs
 
   second : (a b : Bool) → (a && b) ≡ true → b ≡ true
   second true b e = e
@@ -115,7 +121,8 @@ module _ {X : Type 0} (eq : X → X → Bool) (laws : IsEquivalence eq) where
   outside-one_more held xs k d m n =
       let kept = filter (is_member eq held) xs in
       let few = length-le_from_is_member laws (k ∷ kept) held
-      (one_more k kept (kept_members held xs k ∙ ap (λ b. b && is_member eq held k) n) (kept_distinct held xs d))
+      (one_more k kept (kept_members held xs k ∙ ap (λ b. b && is_member eq held k) n)
+      (kept_distinct held xs d))
       (λ q e. among q (eq q k) refl e) in
       let all = outside-filter held xs in
       omega arith
@@ -154,11 +161,13 @@ module _ {X : Type 0} (eq : X → X → Bool) (laws : IsEquivalence eq) where
 
   -- all but one that was held still is: no more than the greatest rank comes in
   pub ranks-all_but_one : (held more xs : List X) (x : X) (n : ℕ)
-      → ((q : X) → eq x q ≡ false → is_member eq held q ≡ true → is_member eq more q ≡ true) → IsDistinct eq xs
+      → ((q : X) → eq x q ≡ false → is_member eq held q ≡ true → is_member eq more q ≡ true)
+      → IsDistinct eq xs
       → ranks eq n more xs ≤ ranks eq n held xs + (n + length xs)
   unfolding IsDistinct
   ranks-all_but_one held more [] x n f d = zero-le
-  ranks-all_but_one held more (y ∷ xs) x n f d = by (eq x y) refl (ranks-all_but_one held more xs x (n + 1) f d.1)
+  ranks-all_but_one held more (y ∷ xs) x n f d =
+      by (eq x y) refl (ranks-all_but_one held more xs x (n + 1) f d.1)
     where
       at_most : (b : Bool) → cond b 0 (n + 1) ≤ n + 1
       at_most true = zero-le
@@ -198,11 +207,13 @@ module _ {X : Type 0} (eq : X → X → Bool) (laws : IsEquivalence eq) where
       → ranks eq 0 held (xs ++ k ∷ []) + outside eq held (x ∷ xs) ≡ ranks eq 0 held (x ∷ xs)
   ranks-miss held x xs k m =
       let a = ranks-append eq 0 held xs (k ∷ []) in
-      let d : ranks eq (0 + length xs) held (k ∷ []) ≡ 0 = ranks-held eq (0 + length xs) held (k ∷ []) (m, tt) in
+      let d : ranks eq (0 + length xs) held (k ∷ [])
+      ≡ 0 = ranks-held eq (0 + length xs) held (k ∷ []) (m, tt) in
       let f = ranks-next eq 0 held xs in
       by (is_member eq held x) a d f
     where
-      by : (b : Bool) → ranks eq 0 held (xs ++ k ∷ []) ≡ ranks eq 0 held xs + ranks eq (0 + length xs) held (k ∷ [])
+      by : (b : Bool) → ranks eq 0 held (xs ++ k ∷ [])
+          ≡ ranks eq 0 held xs + ranks eq (0 + length xs) held (k ∷ [])
           → ranks eq (0 + length xs) held (k ∷ []) ≡ 0
           → ranks eq (0 + 1) held xs ≡ ranks eq 0 held xs + outside eq held xs
           → ranks eq 0 held (xs ++ k ∷ []) + (cond b 0 1 + outside eq held xs)

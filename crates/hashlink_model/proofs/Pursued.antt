@@ -1,5 +1,7 @@
--- The misses of a cache that always has c keys are bounded by those of any schedule, by steps of the two side by side.
-use Rattle.std.proofs.Common.{◌≡◌, ℕ, ◌+◌, ◌-◌, ◌*◌, ◌≤◌, Bool, true, false, cond, List, [], ◌∷◌, ◌++◌, length, drop}
+-- The misses of a cache that always has c keys are bounded by those of any schedule, by steps of the two side
+-- by side.
+use Rattle.std.proofs.Common.{◌≡◌, ℕ, ◌+◌, ◌-◌, ◌*◌, ◌≤◌, Bool, true, false, cond, List, [], ◌∷◌, ◌++◌}
+use Rattle.std.proofs.Common.{length, drop}
 use Rattle.std.proofs.Common.{refl, sym, ap, ◌∙◌, subst, arith, length-append, zero-le, not-suc-le-zero, ◌||◌}
 use Rattle.std.proofs.Common.{true≢false}
 use Rattle.std.specs.Cmp.{IsEquivalence}
@@ -11,7 +13,8 @@ use Rattle.hashlink_model.specs.History.{IsSchedule, misses_from}
 use Rattle.hashlink_model.proofs.Members.{is_member-equal}
 use Rattle.hashlink_model.proofs.Potential.{triangle, outside, ranks, ranks-at_least, outside-at_least}
 use Rattle.hashlink_model.proofs.Potential.{outside-one_more, ranks-hit, ranks-miss}
-use Rattle.hashlink_model.proofs.Pursuit.{triangle_mono, Follows, follow, key_at, removed_gone, removed_distinct}
+use Rattle.hashlink_model.proofs.Pursuit.{triangle_mono, Follows, follow, key_at, removed_gone}
+use Rattle.hashlink_model.proofs.Pursuit.{removed_distinct}
 
 sums : (a l m r s t u c p q : ℕ) → a * l + s ≤ r → r ≤ t + p → a * m + u ≤ c * q + s → (n : ℕ) → p ≤ c * n
     → a * (l + m) + u ≤ c * (n + q) + t
@@ -31,14 +34,16 @@ module _ {X : Type 0} (eq : X → X → Bool) (laws : IsEquivalence eq) where
     pub unequal : IsDistinct eq next
     pub nearer : (c + 1 - h) * missed + ranks eq 0 held next ≤ ranks eq 0 held xs
 
-  hit_step : (h c : ℕ) (held xs : List X) (k : X) → IsDistinct eq xs → length xs ≡ c → is_member eq held k ≡ true
+  hit_step : (h c : ℕ) (held xs : List X) (k : X) → IsDistinct eq xs → length xs ≡ c
+      → is_member eq held k ≡ true
       → is_member eq xs k ≡ true
       → FullStep h c held xs k (remove_key (eq k) xs ++ k ∷ []) 0
   hit_step h c held xs k d l m n =
       let s = key_at eq laws xs k n in
       let less = length-remove_key (eq k) xs n in
       let more = length-append (remove_key (eq k) xs) (k ∷ []) in
-      let moved = ranks-hit eq laws held s.0 s.1 s.2 k (sym (is_member-equal eq laws held k s.1 s.3.equal) ∙ m) m in
+      let moved = ranks-hit eq laws held s.0 s.1 s.2 k
+      (sym (is_member-equal eq laws held k s.1 s.3.equal) ∙ m) m in
       let new = ap (λ zs. ranks eq 0 held (zs ++ k ∷ [])) s.3.rest in
       let old = ap (ranks eq 0 held) s.3.is in
       record {
@@ -49,7 +54,8 @@ module _ {X : Type 0} (eq : X → X → Bool) (laws : IsEquivalence eq) where
         nearer = omega arith;
       }
 
-  miss_step : (h c : ℕ) (held : List X) (x : X) (xs : List X) (k : X) → IsDistinct eq (x ∷ xs) → length (x ∷ xs) ≡ c
+  miss_step : (h c : ℕ) (held : List X) (x : X) (xs : List X) (k : X) → IsDistinct eq (x ∷ xs)
+      → length (x ∷ xs) ≡ c
       → length held ≤ h → is_member eq held k ≡ true → is_member eq (x ∷ xs) k ≡ false
       → FullStep h c held (x ∷ xs) k (xs ++ k ∷ []) 1
   miss_step h c held x xs k d l f m n =
@@ -66,7 +72,8 @@ module _ {X : Type 0} (eq : X → X → Bool) (laws : IsEquivalence eq) where
       rest true e = absurd (true≢false e)
       rest false e = e
 
-  step_by : (h c : ℕ) (held xs : List X) (k : X) (b : Bool) → is_member eq xs k ≡ b → IsDistinct eq xs → length xs ≡ c
+  step_by : (h c : ℕ) (held xs : List X) (k : X) (b : Bool) → is_member eq xs k ≡ b
+      → IsDistinct eq xs → length xs ≡ c
       → 1 ≤ c → length held ≤ h
       → is_member eq held k ≡ true
       → FullStep h c held xs k (cond b (remove_key (eq k) xs ++ k ∷ []) (drop 1 xs ++ k ∷ [])) (cond b 0 1)
@@ -99,9 +106,11 @@ module _ {X : Type 0} (eq : X → X → Bool) (laws : IsEquivalence eq) where
   pursued h c p (k ∷ used) (after ∷ schedule) before held xs f s d l =
       let on = follow eq laws h before after held k f s.0 in
       let step = step_by h c on.0 xs k (is_member eq xs k) refl d l p on.1.follows.size on.1.has in
-      let rest = pursued h c p used schedule after on.0 (full_step xs k) on.1.follows s.1 step.unequal step.size in
+      let rest = pursued h c p used schedule after on.0 (full_step xs k) on.1.follows s.1
+      step.unequal step.size in
       sums (c + 1 - h) (cond (is_member eq xs k) 0 1) (full_misses (full_step xs k) used) (ranks eq 0 on.0 xs)
       (ranks eq 0 on.0 (full_step xs k)) (ranks eq 0 held xs) (triangle (c - h)) c
-      (cond (is_member eq held k) 0 (length xs)) (misses_from eq after used schedule) step.nearer (on.1.near xs d)
+      (cond (is_member eq held k) 0 (length xs)) (misses_from eq after used schedule) step.nearer
+      (on.1.near xs d)
       rest (cond (is_member eq before k) 0 1)
       (missed_by c (length xs) (is_member eq before k) (is_member eq held k) l (f.covers k))

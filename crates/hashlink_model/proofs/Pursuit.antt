@@ -1,5 +1,7 @@
--- A cache that always has c keys against a schedule of h places: the bound on its misses, from any two states.
-use Rattle.std.proofs.Common.{◌≡◌, ℕ, zero, suc, ◌+◌, ◌≤◌, ◌<◌, Bool, true, false, ◌||◌, cond, List, [], ◌∷◌, ◌++◌}
+-- A cache that always has c keys against a schedule of h places: the bound on its misses, from any two
+-- states.
+use Rattle.std.proofs.Common.{◌≡◌, ℕ, zero, suc, ◌+◌, ◌≤◌, ◌<◌, Bool, true, false, ◌||◌, cond, List, [], ◌∷◌}
+use Rattle.std.proofs.Common.{◌++◌}
 use Rattle.std.proofs.Common.{length, refl, sym, ap, ap₂, ◌∙◌, ◌⊎◌, inl, inr, arith, true≢false, zero-le}
 use Rattle.std.proofs.Common.{not-suc-le-zero, le_of_suc-le-suc}
 use Rattle.std.specs.Cmp.{IsEquivalence}
@@ -20,7 +22,8 @@ triangle_mono (suc m) (suc n) l = let h = triangle_mono m n (le_of_suc-le-suc l)
 module _ {X : Type 0} (eq : X → X → Bool) (laws : IsEquivalence eq) where
   -- ---- a key taken out
 
-  removed_other : (x q : X) (xs : List X) → eq x q ≡ false → is_member eq (remove_key (eq x) xs) q ≡ is_member eq xs q
+  removed_other : (x q : X) (xs : List X) → eq x q ≡ false → is_member eq (remove_key (eq x) xs) q
+      ≡ is_member eq xs q
   removed_other x q [] n = refl
   removed_other x q (y ∷ xs) n = by (eq x y) refl (removed_other x q xs n)
     where
@@ -33,7 +36,8 @@ module _ {X : Type 0} (eq : X → X → Bool) (laws : IsEquivalence eq) where
       by true u h = other (eq q y) refl u
       by false u h = ap (λ c. eq q y || c) h
 
-  removed_none : (P : X → Type 0) (x : X) (xs : List X) → AllByRecursion P xs → AllByRecursion P (remove_key (eq x) xs)
+  removed_none : (P : X → Type 0) (x : X) (xs : List X) → AllByRecursion P xs
+      → AllByRecursion P (remove_key (eq x) xs)
   removed_none P x [] a = tt
   removed_none P x (y ∷ xs) a = by (eq x y) (removed_none P x xs a.1)
     where
@@ -42,12 +46,14 @@ module _ {X : Type 0} (eq : X → X → Bool) (laws : IsEquivalence eq) where
       by true h = a.1
       by false h = (a.0, h)
 
-  removed_absent : (x q : X) (xs : List X) → is_member eq xs q ≡ false → is_member eq (remove_key (eq x) xs) q ≡ false
+  removed_absent : (x q : X) (xs : List X) → is_member eq xs q ≡ false
+      → is_member eq (remove_key (eq x) xs) q ≡ false
   removed_absent x q xs m =
       is_member_from_none eq laws (remove_key (eq x) xs) q
       (removed_none (λ y. eq q y ≡ false) x xs (none_from_is_member eq laws xs q m))
 
-  distinct_by : (y : X) (us vs : List X) (b : Bool) → AllByRecursion (λ z. eq y z ≡ false) vs → IsDistinct eq us
+  distinct_by : (y : X) (us vs : List X) (b : Bool) → AllByRecursion (λ z. eq y z ≡ false) vs
+      → IsDistinct eq us
       → IsDistinct eq vs
       → IsDistinct eq (cond b us (y ∷ vs))
   unfolding IsDistinct
@@ -58,7 +64,8 @@ module _ {X : Type 0} (eq : X → X → Bool) (laws : IsEquivalence eq) where
   unfolding IsDistinct
   removed_distinct x [] d = d
   removed_distinct x (y ∷ xs) d =
-      distinct_by y xs (remove_key (eq x) xs) (eq x y) (removed_none _ x xs d.0) d.1 (removed_distinct x xs d.1)
+      distinct_by y xs (remove_key (eq x) xs) (eq x y) (removed_none _ x xs d.0) d.1
+      (removed_distinct x xs d.1)
 
   -- ---- where a key stands
 
@@ -95,7 +102,8 @@ module _ {X : Type 0} (eq : X → X → Bool) (laws : IsEquivalence eq) where
       by true t h = is_member-equal eq laws xs k y t ∙ is_member_from_none eq laws xs y d.0
       by false t h = rw t h
 
-  -- ---- a list that is held in step with the schedule: all that the schedule holds, and no more than it may hold
+  -- ---- a list that is held in step with the schedule: all that the schedule holds, and no more than it may
+  -- hold
 
   pub record Follows (h : ℕ) (scheduled held : List X) : Type 0 where
     pub size : length held ≤ h
@@ -110,7 +118,8 @@ module _ {X : Type 0} (eq : X → X → Bool) (laws : IsEquivalence eq) where
         → ranks eq 0 next xs ≤ ranks eq 0 held xs + cond (is_member eq held k) 0 (length xs)
 
   scheduled_before : (h : ℕ) (before : List X) (k : X) (after : List X)
-      → AllByRecursion (λ q. (eq k q || is_member eq before q) ≡ true) after → (q : X) → is_member eq after q ≡ true
+      → AllByRecursion (λ q. (eq k q || is_member eq before q) ≡ true) after → (q : X)
+      → is_member eq after q ≡ true
       → (eq k q || is_member eq before q) ≡ true
   scheduled_before h before k [] a q m = absurd (true≢false (sym m))
   scheduled_before h before k (y ∷ after) a q m = by (eq q y) refl m (scheduled_before h before k after a.1 q)
@@ -146,7 +155,8 @@ module _ {X : Type 0} (eq : X → X → Bool) (laws : IsEquivalence eq) where
       by true m (inr a) = inr (m, a)
 
   -- it has the key already
-  follow_there : (h : ℕ) (before after held : List X) (k : X) → Follows h before held → MayHold eq h before k after
+  follow_there : (h : ℕ) (before after held : List X) (k : X) → Follows h before held
+      → MayHold eq h before k after
       → is_member eq held k ≡ true
       → FollowsOn h after held k held
   follow_there h before after held k f s m = record {
@@ -177,7 +187,8 @@ module _ {X : Type 0} (eq : X → X → Bool) (laws : IsEquivalence eq) where
       by false = m
 
   -- there is a place for it
-  follow_room : (h : ℕ) (before after held : List X) (k : X) → Follows h before held → MayHold eq h before k after
+  follow_room : (h : ℕ) (before after held : List X) (k : X) → Follows h before held
+      → MayHold eq h before k after
       → is_member eq held k ≡ false → length held < h
       → FollowsOn h after held k (k ∷ held)
   follow_room h before after held k f s n l = record {
@@ -189,7 +200,8 @@ module _ {X : Type 0} (eq : X → X → Bool) (laws : IsEquivalence eq) where
               (either (eq k q) (is_member eq before q) (scheduled_before h before k after s.others q e));
         };
     has = first_or k k held (laws.refl k);
-    near = λ xs d. (let a = ranks-fewer eq laws held (k ∷ held) xs 0 (λ q m. later_or q k held m) in omega arith);
+    near = λ xs d. (let a = ranks-fewer eq laws held (k ∷ held) xs 0
+        (λ q m. later_or q k held m) in omega arith);
   }
     where
       had : (q : X) → (eq k q ≡ true) ⊎ ((eq k q ≡ false) × (is_member eq before q ≡ true))
@@ -198,7 +210,8 @@ module _ {X : Type 0} (eq : X → X → Bool) (laws : IsEquivalence eq) where
       had q (inr t) = later_or q k held (f.covers q t.1)
 
   -- one that the schedule no longer holds leaves for it
-  follow_swap : (h : ℕ) (before after held : List X) (k x : X) → Follows h before held → MayHold eq h before k after
+  follow_swap : (h : ℕ) (before after held : List X) (k x : X) → Follows h before held
+      → MayHold eq h before k after
       → is_member eq held k ≡ false → is_member eq held x ≡ true
       → is_member eq after x ≡ false
       → FollowsOn h after held k (k ∷ remove_key (eq x) held)
@@ -206,9 +219,11 @@ module _ {X : Type 0} (eq : X → X → Bool) (laws : IsEquivalence eq) where
     follows = record {
       size = (let a = length-remove_key (eq x) held m in let b = f.size in omega arith);
       unequal =
-          one_more eq laws k (remove_key (eq x) held) (removed_absent x k held n) (removed_distinct x held f.unequal);
+          one_more eq laws k (remove_key (eq x) held) (removed_absent x k held n)
+          (removed_distinct x held f.unequal);
       covers =
-          λ q e. had q e (either (eq k q) (is_member eq before q) (scheduled_before h before k after s.others q e));
+          λ q e. had q e (either (eq k q) (is_member eq before q)
+          (scheduled_before h before k after s.others q e));
     };
     has = first_or k k (remove_key (eq x) held) (laws.refl k);
     near =
@@ -227,7 +242,8 @@ module _ {X : Type 0} (eq : X → X → Bool) (laws : IsEquivalence eq) where
           → is_member eq (k ∷ remove_key (eq x) held) q ≡ true
       had q e (inl t) = first_or q k (remove_key (eq x) held) t
       had q e (inr t) =
-          later_or q k (remove_key (eq x) held) (removed_other x q held (apart q (eq x q) refl e) ∙ f.covers q t.1)
+          later_or q k (remove_key (eq x) held)
+          (removed_other x q held (apart q (eq x q) refl e) ∙ f.covers q t.1)
 
   all_members : (after held : List X) → AllByRecursion (λ y. is_member eq after y ≡ true) held → (q : X)
       → is_member eq held q ≡ true
@@ -242,7 +258,8 @@ module _ {X : Type 0} (eq : X → X → Bool) (laws : IsEquivalence eq) where
       by false t e f = f e
 
   -- no room for all: the schedule would hold one key more than its places
-  too_many : (h : ℕ) (before after held : List X) (k : X) → Follows h before held → MayHold eq h before k after
+  too_many : (h : ℕ) (before after held : List X) (k : X) → Follows h before held
+      → MayHold eq h before k after
       → is_member eq held k ≡ false → h ≤ length held → AllByRecursion (λ y. is_member eq after y ≡ true) held
       → ⊥
   too_many h before after held k f s n l a =
@@ -254,7 +271,8 @@ module _ {X : Type 0} (eq : X → X → Bool) (laws : IsEquivalence eq) where
       not-suc-le-self : (m : ℕ) → suc m ≤ m → ⊥
       not-suc-le-self m b = omega arith
 
-  absent_by : (h : ℕ) (before after held : List X) (k : X) → Follows h before held → MayHold eq h before k after
+  absent_by : (h : ℕ) (before after held : List X) (k : X) → Follows h before held
+      → MayHold eq h before k after
       → is_member eq held k ≡ false → (length held < h) ⊎ (h ≤ length held)
       → (next : List X) × FollowsOn h after held k next
   absent_by h before after held k f s n (inl l) = (k ∷ held, follow_room h before after held k f s n l)
@@ -270,8 +288,10 @@ module _ {X : Type 0} (eq : X → X → Bool) (laws : IsEquivalence eq) where
       → Follows h before held → MayHold eq h before k after
       → (next : List X) × FollowsOn h after held k next
   follow_by h before after held k true m f s = (held, follow_there h before after held k f s m)
-  follow_by h before after held k false m f s = absent_by h before after held k f s m (cases_lt (length held) h)
+  follow_by h before after held k false m f s = absent_by h before after held k f s m
+      (cases_lt (length held) h)
 
-  pub follow : (h : ℕ) (before after held : List X) (k : X) → Follows h before held → MayHold eq h before k after
+  pub follow : (h : ℕ) (before after held : List X) (k : X) → Follows h before held
+      → MayHold eq h before k after
       → (next : List X) × FollowsOn h after held k next
   follow h before after held k f s = follow_by h before after held k (is_member eq held k) refl f s

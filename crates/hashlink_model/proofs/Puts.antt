@@ -1,6 +1,8 @@
 -- The entries after a key is put at a place.
-use Rattle.std.proofs.Common.{option_map, ap, ◌≡◌, ℕ, ◌+◌, ◌-◌, ◌≤◌, ◌<◌, Bool, true, false, cond, List, [], ◌∷◌}
-use Rattle.std.proofs.Common.{◌++◌, length, Option, None, Some, refl, sym, ◌∙◌, ◌⊎◌, inl, inr, subst, arith, take}
+use Rattle.std.proofs.Common.{option_map, ap, ◌≡◌, ℕ, ◌+◌, ◌-◌, ◌≤◌, ◌<◌, Bool, true, false, cond, List, []}
+use Rattle.std.proofs.Common.{◌∷◌}
+use Rattle.std.proofs.Common.{◌++◌, length, Option, None, Some, refl, sym, ◌∙◌, ◌⊎◌, inl, inr, subst, arith}
+use Rattle.std.proofs.Common.{take}
 use Rattle.std.proofs.Common.{drop}
 use Rattle.std.specs.Prelude.{insert, nat_lt}
 use Rattle.std.specs.Option.{option_map_or}
@@ -10,8 +12,10 @@ use Rattle.std.proofs.lemmas.Map.{NonePasses}
 use Rattle.std.proofs.lemmas.List.{take-append-drop, length-append, take_at, drop_at}
 use Rattle.std.proofs.lemmas.List.Edits.{insert_end}
 use Rattle.hashlink_model.specs.Entries.{IsEntries, place_of, place_without, without, stored_key, put}
-use Rattle.hashlink_model.proofs.Splits.{StandsAt, Stands, splits, stands_from_place, place_of-none, place_of-here}
-use Rattle.hashlink_model.proofs.Splits.{lookup_key-none, lookup_key-here, remove_entry-none, remove_entry-here}
+use Rattle.hashlink_model.proofs.Splits.{StandsAt, Stands, splits, stands_from_place, place_of-none}
+use Rattle.hashlink_model.proofs.Splits.{place_of-here}
+use Rattle.hashlink_model.proofs.Splits.{lookup_key-none, lookup_key-here, remove_entry-none}
+use Rattle.hashlink_model.proofs.Splits.{remove_entry-here}
 use Rattle.hashlink_model.proofs.Splits.{set_value-here}
 use Rattle.std.proofs.Common.{lt-ltb, le-ltb, zero-le}
 use Rattle.hashlink_model.proofs.Distinct.{none_equal, none_others, IsEntries-middle, IsEntries-insert}
@@ -37,7 +41,11 @@ module _ {K V : Type 0} (eq : K → K → Bool) where
       → NonePasses (eq k) xs
       → put eq (xs ++ e ∷ ys) k v b ≡ insert (xs ++ ys) (cond (nat_lt (length xs) b) (b - 1) b) (e.0, v)
   put-here xs e ys k v b t n =
-      rw (remove_entry-here (eq k) e ys t xs n, place_of-here (eq k) e ys t xs n, lookup_key-here (eq k) e ys t xs n)
+      rw (
+        remove_entry-here (eq k) e ys t xs n,
+        place_of-here (eq k) e ys t xs n,
+        lookup_key-here (eq k) e ys t xs n,
+      )
       refl
 
   -- ---- at the ends, and where the key stands already
@@ -55,7 +63,8 @@ module _ {K V : Type 0} (eq : K → K → Bool) where
       (last s.0 s.1 s.2)
     where
       last : (xs : List (K × V)) (e : K × V) (ys : List (K × V))
-          → cond (nat_lt (length xs) (length (xs ++ e ∷ ys))) (length (xs ++ e ∷ ys) - 1) (length (xs ++ e ∷ ys))
+          → cond (nat_lt (length xs) (length (xs ++ e ∷ ys))) (length (xs ++ e ∷ ys) - 1)
+          (length (xs ++ e ∷ ys))
           ≡ length (xs ++ ys)
       last xs e ys =
           let a = length-append xs (e ∷ ys) in
@@ -63,7 +72,8 @@ module _ {K V : Type 0} (eq : K → K → Bool) where
           let below : length xs < length (xs ++ e ∷ ys) = omega arith in
           rw (lt-ltb _ _ below) (omega arith)
 
-  pub place_without-end : (es : List (K × V)) (k : K) → place_without eq es k (length es) ≡ length (without eq es k)
+  pub place_without-end : (es : List (K × V)) (k : K) → place_without eq es k (length es)
+      ≡ length (without eq es k)
   place_without-end es k = end_by es k (splits (eq k) es)
 
   pub place_without-front : (es : List (K × V)) (k : K) → place_without eq es k 0 ≡ 0
@@ -75,7 +85,8 @@ module _ {K V : Type 0} (eq : K → K → Bool) where
   put_back es k v = rw (place_without-end es k) (insert_end (without eq es k) (stored_key eq es k, v))
 
   -- put at 0 is first
-  pub put_front : (es : List (K × V)) (k : K) (v : V) → put eq es k v 0 ≡ (stored_key eq es k, v) ∷ without eq es k
+  pub put_front : (es : List (K × V)) (k : K) (v : V) → put eq es k v 0
+      ≡ (stored_key eq es k, v) ∷ without eq es k
   put_front es k v = rw (place_without-front es k) refl
 
   -- put where the key stands, or directly after it, changes the value alone
@@ -114,7 +125,8 @@ module _ {K V : Type 0} (eq : K → K → Bool) where
       → NonePasses (eq k) xs
       → put eq (xs ++ e ∷ ys) k v (length (xs ++ e ∷ ys)) ≡ (xs ++ ys) ++ (e.0, v) ∷ []
   put_back_here xs e ys k v t n =
-      put_back (xs ++ e ∷ ys) k v ∙ rw (remove_entry-here (eq k) e ys t xs n, lookup_key-here (eq k) e ys t xs n) refl
+      put_back (xs ++ e ∷ ys) k v
+      ∙ rw (remove_entry-here (eq k) e ys t xs n, lookup_key-here (eq k) e ys t xs n) refl
 
 module _ {K V : Type 0} (eq : K → K → Bool) (laws : IsEquivalence eq) where
   -- ---- keys stay pairwise unequal
@@ -145,7 +157,8 @@ module _ {K V : Type 0} (eq : K → K → Bool) (laws : IsEquivalence eq) where
       (none_equal eq laws k (stored_key eq es k) (without eq es k) (stored_key-equal eq laws k es)
       (none_without es k d))
 
-  pub IsEntries-put : (es : List (K × V)) (k : K) (v : V) (b : ℕ) → IsEntries eq es → IsEntries eq (put eq es k v b)
+  pub IsEntries-put : (es : List (K × V)) (k : K) (v : V) (b : ℕ) → IsEntries eq es
+      → IsEntries eq (put eq es k v b)
   IsEntries-put es k v b d =
       let j = place_without eq es k b in
       IsEntries-insert eq laws (take j (without eq es k)) (stored_key eq es k, v) (drop j (without eq es k))
@@ -155,10 +168,12 @@ module _ {K V : Type 0} (eq : K → K → Bool) (laws : IsEquivalence eq) where
   -- ---- what a look-up finds afterwards
 
   pub lookup_entry-put : (q : K) (es : List (K × V)) (k : K) (v : V) (b : ℕ) → IsEntries eq es
-      → lookup_entry (eq q) (put eq es k v b) ≡ cond (eq k q) (Some (stored_key eq es k, v)) (lookup_entry (eq q) es)
+      → lookup_entry (eq q) (put eq es k v b) ≡ cond (eq k q) (Some (stored_key eq es k, v))
+      (lookup_entry (eq q) es)
   lookup_entry-put q es k v b d =
       let j = place_without eq es k b in
-      lookup_entry-middle eq laws q (stored_key eq es k, v) (drop j (without eq es k)) (take j (without eq es k))
+      lookup_entry-middle eq laws q (stored_key eq es k, v) (drop j (without eq es k))
+      (take j (without eq es k))
       (none_stored es k j d)
       ∙ rw (
         take-append-drop j (without eq es k),
@@ -175,19 +190,23 @@ module _ {K V : Type 0} (test : K → Bool) where
       → place_of other (set_value test es v) ≡ place_of other es
       → place_of other (set_value test (e ∷ es) v) ≡ place_of other (e ∷ es)
   same_places_by other e es v true t h = rw t refl
-  same_places_by other e es v false t h = rw t (ap (λ o. cond (other e.0) (Some 0) (option_map (λ j. j + 1) o)) h)
+  same_places_by other e es v false t h =
+      rw t (ap (λ o. cond (other e.0) (Some 0) (option_map (λ j. j + 1) o)) h)
 
   pub place_of-set_value : (other : K → Bool) (es : List (K × V)) (v : V)
       → place_of other (set_value test es v) ≡ place_of other es
   place_of-set_value other [] v = refl
-  place_of-set_value other (e ∷ es) v = same_places_by other e es v (test e.0) refl (place_of-set_value other es v)
+  place_of-set_value other (e ∷ es) v = same_places_by other e es v (test e.0) refl
+      (place_of-set_value other es v)
 
 -- ---- and what every other key has
 
 module _ {K V : Type 0} (eq : K → K → Bool) (laws : IsEquivalence eq) where
-  others_by : (q : K) (e : K × V) (es : List (K × V)) (k : K) (v : V) (b : Bool) → eq k e.0 ≡ b → eq k q ≡ false
+  others_by : (q : K) (e : K × V) (es : List (K × V)) (k : K) (v : V) (b : Bool)
+      → eq k e.0 ≡ b → eq k q ≡ false
       → lookup_entry (eq q) (set_value (eq k) es v) ≡ lookup_entry (eq q) es
-      → lookup_entry (eq q) (cond b ((e.0, v) ∷ es) (e ∷ set_value (eq k) es v)) ≡ lookup_entry (eq q) (e ∷ es)
+      → lookup_entry (eq q) (cond b ((e.0, v) ∷ es) (e ∷ set_value (eq k) es v))
+      ≡ lookup_entry (eq q) (e ∷ es)
   others_by q e es k v true p t h =
       let apart : eq q e.0 ≡ false = laws.symm q e.0 ∙ sym (laws.congr k e.0 q p) ∙ t in
       rw apart refl
@@ -204,8 +223,18 @@ module _ {K V : Type 0} (eq : K → K → Bool) (laws : IsEquivalence eq) where
 module _ {K V : Type 0} (eq : K → K → Bool) (laws : IsEquivalence eq) where
   pub last_after_put : (es : List (K × V)) (k : K) (v : V)
       → (xs : List (K × V)) × (k0 : K) × (put eq es k v (length es) ≡ xs ++ (k0, v) ∷ []) × (eq k k0 ≡ true)
-  last_after_put es k v = (without eq es k, stored_key eq es k, put_back eq es k v, stored_key-equal eq laws k es)
+  last_after_put es k v = (
+    without eq es k,
+    stored_key eq es k,
+    put_back eq es k v,
+    stored_key-equal eq laws k es,
+  )
 
   pub first_after_put : (es : List (K × V)) (k : K) (v : V)
       → (xs : List (K × V)) × (k0 : K) × (put eq es k v 0 ≡ (k0, v) ∷ xs) × (eq k k0 ≡ true)
-  first_after_put es k v = (without eq es k, stored_key eq es k, put_front eq es k v, stored_key-equal eq laws k es)
+  first_after_put es k v = (
+    without eq es k,
+    stored_key eq es k,
+    put_front eq es k v,
+    stored_key-equal eq laws k es,
+  )

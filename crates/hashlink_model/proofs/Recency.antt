@@ -1,8 +1,11 @@
--- The keys of a history, each once, in the order of their last use; and that a cache of c places holds the last c of
--- them.
-use Rattle.std.proofs.Common.{◌≡◌, ℕ, suc, ◌+◌, ◌-◌, ◌≤◌, ◌<◌, Bool, true, false, not, ◌&&◌, ◌||◌, cond, List, []}
-use Rattle.std.proofs.Common.{◌∷◌, ◌++◌, length, take, drop, nat_lt, refl, sym, ap, ap₂, ◌∙◌, ◌⊎◌, inl, inr, subst}
-use Rattle.std.proofs.Common.{arith, append_assoc, length-append, length-take, length-drop, take-append-drop, drop_at}
+-- The keys of a history, each once, in the order of their last use; and that a cache of c places holds the
+-- last c of them.
+use Rattle.std.proofs.Common.{◌≡◌, ℕ, suc, ◌+◌, ◌-◌, ◌≤◌, ◌<◌, Bool, true, false, not, ◌&&◌, ◌||◌, cond, List}
+use Rattle.std.proofs.Common.{[]}
+use Rattle.std.proofs.Common.{◌∷◌, ◌++◌, length, take, drop, nat_lt, refl, sym, ap, ap₂, ◌∙◌, ◌⊎◌, inl, inr}
+use Rattle.std.proofs.Common.{subst}
+use Rattle.std.proofs.Common.{arith, append_assoc, length-append, length-take, length-drop, take-append-drop}
+use Rattle.std.proofs.Common.{drop_at}
 use Rattle.std.proofs.Common.{lt-ltb, le-ltb, true≢false, min}
 use Rattle.std.specs.Cmp.{IsEquivalence}
 use Rattle.std.specs.List.{AllByRecursion, AllZip, IsDistinct, suffix_len, after_last}
@@ -16,7 +19,8 @@ use Rattle.std.proofs.lemmas.List.Sums.{suffix_len_is}
 use Rattle.std.proofs.lemmas.Map.Made.{length-remove_key}
 use Rattle.hashlink_model.specs.History.{reuse_distance, recent_keys}
 use Rattle.hashlink_model.proofs.Distinct.{each-right}
-use Rattle.hashlink_model.proofs.Members.{is_member-equal, is_member-append, none_from_is_member, is_member_from_none}
+use Rattle.hashlink_model.proofs.Members.{is_member-equal, is_member-append, none_from_is_member}
+use Rattle.hashlink_model.proofs.Members.{is_member_from_none}
 
 -- ---- lists that are alike at each place
 
@@ -47,7 +51,8 @@ module _ {K : Type 0} (eq : K → K → Bool) (laws : IsEquivalence eq) where
   apart_key k [] m = refl
   apart_key k (x ∷ xs) m = by (eq k x) m (apart_key k xs)
     where
-      by : (b : Bool) → (b || is_member eq xs k) ≡ false → (is_member eq xs k ≡ false → remove_key (eq k) xs ≡ xs)
+      by : (b : Bool) → (b || is_member eq xs k) ≡ false
+          → (is_member eq xs k ≡ false → remove_key (eq k) xs ≡ xs)
           → cond b xs (x ∷ remove_key (eq k) xs) ≡ x ∷ xs
       by true e h = absurd (true≢false e)
       by false e h = ap (λ r. x ∷ r) (h e)
@@ -71,12 +76,14 @@ module _ {K : Type 0} (eq : K → K → Bool) (laws : IsEquivalence eq) where
   is_member-unique [] q = refl
   is_member-unique (x ∷ xs) q = by (is_member eq xs x) refl (is_member-unique xs q)
     where
-      there : (c : Bool) → eq q x ≡ c → is_member eq xs x ≡ true → is_member eq xs q ≡ (c || is_member eq xs q)
+      there : (c : Bool) → eq q x ≡ c → is_member eq xs x ≡ true → is_member eq xs q
+          ≡ (c || is_member eq xs q)
       there true t m = is_member-equal eq laws xs q x t ∙ m
       there false t m = refl
 
       by : (b : Bool) → is_member eq xs x ≡ b → is_member eq (unique_keys eq xs) q ≡ is_member eq xs q
-          → is_member eq (cond b (unique_keys eq xs) (x ∷ unique_keys eq xs)) q ≡ (eq q x || is_member eq xs q)
+          → is_member eq (cond b (unique_keys eq xs) (x ∷ unique_keys eq xs)) q
+          ≡ (eq q x || is_member eq xs q)
       by true m h = h ∙ there (eq q x) refl m
       by false m h = ap (λ c. eq q x || c) h
 
@@ -92,7 +99,8 @@ module _ {K : Type 0} (eq : K → K → Bool) (laws : IsEquivalence eq) where
   IsDistinct-unique [] = tt
   IsDistinct-unique (x ∷ xs) =
       distinct_by x (unique_keys eq xs) (is_member eq xs x)
-      (λ m. none_from_is_member eq laws (unique_keys eq xs) x (is_member-unique xs x ∙ m)) (IsDistinct-unique xs)
+      (λ m. none_from_is_member eq laws (unique_keys eq xs) x (is_member-unique xs x ∙ m))
+      (IsDistinct-unique xs)
 
   -- one more use: the key leaves its place and comes last
   pub unique_keys-push : (xs : List K) (k : K)
@@ -143,8 +151,17 @@ module _ {K : Type 0} (eq : K → K → Bool) (laws : IsEquivalence eq) where
       by true e h =
           let s = h e in
           (u ∷ s.0, s.1, s.2, record { is = ap (λ r. u ∷ r) s.3.is; equal = s.3.equal; after = s.3.after })
-      by false e h =
-          ([], u, used, record { is = refl; equal = here (eq k u) m e; after = none_from_is_member eq laws used k e })
+      by false e h = (
+        [],
+        u,
+        used,
+        record {
+          is = refl;
+          equal = here (eq k u) m e;
+          after =
+              none_from_is_member eq laws used k e;
+        },
+      )
 
   -- what was used after it is unique too
   pub unique_keys-last : (k : K) (xs : List K) (x : K) (ys : List K) → eq k x ≡ true
@@ -159,7 +176,8 @@ module _ {K : Type 0} (eq : K → K → Bool) (laws : IsEquivalence eq) where
     where
       by : (b : Bool) → (us : List K) × (unique_keys eq (xs ++ x ∷ ys) ≡ us ++ x ∷ unique_keys eq ys)
           → (us : List K)
-          × (cond b (unique_keys eq (xs ++ x ∷ ys)) (z ∷ unique_keys eq (xs ++ x ∷ ys)) ≡ us ++ x ∷ unique_keys eq ys)
+          × (cond b (unique_keys eq (xs ++ x ∷ ys)) (z ∷ unique_keys eq (xs ++ x ∷ ys)) ≡ us
+          ++ x ∷ unique_keys eq ys)
       by true h = h
       by false h = (z ∷ h.0, ap (λ r. z ∷ r) h.1)
 
@@ -185,14 +203,17 @@ module _ {K : Type 0} (eq : K → K → Bool) (laws : IsEquivalence eq) where
   abbrev pub older_keys : ℕ → List K → List K
   older_keys c used = take (distinct_count eq used - c) (unique_keys eq used)
 
-  pub older_and_recent : (c : ℕ) (used : List K) → older_keys c used ++ recent_keys eq c used ≡ unique_keys eq used
+  pub older_and_recent : (c : ℕ) (used : List K) → older_keys c used ++ recent_keys eq c used
+      ≡ unique_keys eq used
   older_and_recent c used = take-append-drop (distinct_count eq used - c) (unique_keys eq used)
 
   length_older : (c : ℕ) (used : List K) → length (older_keys c used) ≡ distinct_count eq used - c
   length_older c used = let a = length-take (distinct_count eq used - c) (unique_keys eq used) in omega arith
 
-  pub length-recent_keys : (c : ℕ) (used : List K) → length (recent_keys eq c used) ≡ min c (distinct_count eq used)
-  length-recent_keys c used = let a = length-drop (distinct_count eq used - c) (unique_keys eq used) in omega arith
+  pub length-recent_keys : (c : ℕ) (used : List K) → length (recent_keys eq c used)
+      ≡ min c (distinct_count eq used)
+  length-recent_keys c used = let a = length-drop (distinct_count eq used - c)
+      (unique_keys eq used) in omega arith
 
   -- one more use of a key that is among them
   pub recent_keys-there : (c : ℕ) (used : List K) (k : K) → is_member eq (recent_keys eq c used) k ≡ true
@@ -204,7 +225,8 @@ module _ {K : Type 0} (eq : K → K → Bool) (laws : IsEquivalence eq) where
       (subst (IsDistinct eq) (sym (older_and_recent c used)) (IsDistinct-unique used)) m in
       let all : unique_keys eq (used ++ k ∷ []) ≡ us ++ (remove_key (eq k) vs ++ k ∷ [])
       = unique_keys-push used k ∙ ap (λ zs. remove_key (eq k) zs ++ k ∷ []) (sym (older_and_recent c used))
-      ∙ ap (λ zs. zs ++ k ∷ []) (remove_key-right k us vs none) ∙ append_assoc us (remove_key (eq k) vs) (k ∷ []) in
+      ∙ ap (λ zs. zs ++ k ∷ []) (remove_key-right k us vs none)
+      ∙ append_assoc us (remove_key (eq k) vs) (k ∷ []) in
       let a = ap length all in
       let b = length-append us (remove_key (eq k) vs ++ k ∷ []) in
       let d = length-append (remove_key (eq k) vs) (k ∷ []) in
@@ -215,7 +237,8 @@ module _ {K : Type 0} (eq : K → K → Bool) (laws : IsEquivalence eq) where
       ap₂ drop n all ∙ drop_at us (remove_key (eq k) vs ++ k ∷ []) (length us) refl
 
   all_absent : (c : ℕ) (used : List K) (k : K) → is_member eq (recent_keys eq c used) k ≡ false
-      → unique_keys eq (used ++ k ∷ []) ≡ remove_key (eq k) (older_keys c used) ++ (recent_keys eq c used ++ k ∷ [])
+      → unique_keys eq (used ++ k ∷ []) ≡ remove_key (eq k) (older_keys c used)
+      ++ (recent_keys eq c used ++ k ∷ [])
   all_absent c used k m =
       unique_keys-push used k ∙ ap (λ zs. remove_key (eq k) zs ++ k ∷ []) (sym (older_and_recent c used))
       ∙ ap (λ zs. zs ++ k ∷ []) (remove_key-left k (older_keys c used) (recent_keys eq c used) m)
@@ -323,7 +346,8 @@ module _ {K : Type 0} (eq : K → K → Bool) (laws : IsEquivalence eq) where
       by true m =
           let s = last_use used k m in
           let u = unique_keys-last k s.0 s.1 s.2 s.3.equal s.3.after in
-          let all : unique_keys eq used ≡ u.0 ++ s.1 ∷ unique_keys eq s.2 = ap (unique_keys eq) s.3.is ∙ u.1 in
+          let all : unique_keys eq used ≡ u.0 ++ s.1 ∷ unique_keys eq s.2 =
+          ap (unique_keys eq) s.3.is ∙ u.1 in
           let since : reuse_distance eq used k ≡ length (unique_keys eq s.2)
           = ap (λ zs. distinct_count eq (after_last (eq k) zs)) s.3.is
           ∙ ap (distinct_count eq) (after_last-here k s.0 s.1 s.2 s.3.equal s.3.after) in

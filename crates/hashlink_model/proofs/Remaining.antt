@@ -1,5 +1,6 @@
 -- What a look-up finds where only an end of the entries remains.
-use Rattle.std.proofs.Common.{◌≡◌, ◌≤◌, Bool, true, false, cond, List, [], ◌∷◌, ◌++◌, length, drop, Some, refl, sym}
+use Rattle.std.proofs.Common.{◌≡◌, ◌≤◌, Bool, true, false, cond, List, [], ◌∷◌, ◌++◌, length, drop, Some}
+use Rattle.std.proofs.Common.{refl, sym}
 use Rattle.std.proofs.Common.{ap, ◌∙◌, subst, arith, append_assoc}
 use Rattle.std.specs.Cmp.{IsEquivalence}
 use Rattle.std.specs.Map.{lookup, lookup_entry}
@@ -18,7 +19,8 @@ pub last_stays : {X : Type 0} (xs : List X) (x : X) (front back : List X) → xs
     → 1 ≤ length back
     → (zs : List X) × (back ≡ zs ++ x ∷ [])
 last_stays xs x [] back i l = (xs, sym i)
-last_stays [] x (f ∷ front) back i l = let n = ap length i in let m = length-append front back in absurd (omega arith)
+last_stays [] x (f ∷ front) back i l = let n = ap length i in let m =
+    length-append front back in absurd (omega arith)
 last_stays (y ∷ xs) x (f ∷ front) back i l = last_stays xs x front back (ap (drop 1) i) l
 
 module _ {K V : Type 0} (eq : K → K → Bool) (laws : IsEquivalence eq) where

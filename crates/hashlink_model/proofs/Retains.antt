@@ -1,6 +1,7 @@
--- What a retain leaves: in the list's own order, with keys pairwise unequal, and a filter where the closure is a
--- predicate.
-use Rattle.std.proofs.Common.{◌≡◌, Bool, true, false, cond, List, [], ◌∷◌, ◌++◌, Option, None, Some, filter, Contains}
+-- What a retain leaves: in the list's own order, with keys pairwise unequal, and a filter where the closure
+-- is a predicate.
+use Rattle.std.proofs.Common.{◌≡◌, Bool, true, false, cond, List, [], ◌∷◌, ◌++◌, Option, None, Some, filter}
+use Rattle.std.proofs.Common.{Contains}
 use Rattle.std.proofs.Common.{refl, sym, ap, ap₂, ◌∙◌, subst, IsPermutation}
 use Rattle.std.specs.Cmp.{IsEquivalence}
 use Rattle.std.specs.List.{AllByRecursion, cons_option}
@@ -14,14 +15,16 @@ use Rattle.std.proofs.lemmas.List.Sorted.{IsPermutation-map, Contains-permutatio
 use Rattle.std.proofs.lemmas.Option.{slice_get-get_or, none-some, same_Some}
 use Rattle.hashlink_model.specs.Entries.{IsEntries}
 use Rattle.hashlink_model.specs.Retain.{KeepsInSomeOrder, KeepsInOrder, in_order_of}
-use Rattle.hashlink_model.proofs.Distinct.{IsEntries-cons, IsEntries-head, IsEntries-tail, each-append, each-left}
+use Rattle.hashlink_model.proofs.Distinct.{IsEntries-cons, IsEntries-head, IsEntries-tail, each-append}
+use Rattle.hashlink_model.proofs.Distinct.{each-left}
 use Rattle.hashlink_model.proofs.Distinct.{each-right, each-weaker, none_equal, none_others}
 use Rattle.hashlink_model.proofs.Splits.{lookup_entry-none, lookup_entry-here}
 use Rattle.hashlink_model.proofs.Places.{split_at}
 
 module _ {F K V : Type 0} (T : F → K → V → Bool → V → F → Type 0) where
   -- the calls along a list, without the state in which they leave the closure
-  pub retains-called : (f : F) (es kept : List (K × V)) (g : F) → KeepsInOrder T f es kept g → RetainsPairs T f es kept
+  pub retains-called : (f : F) (es kept : List (K × V)) (g : F) → KeepsInOrder T f es kept g
+      → RetainsPairs T f es kept
   retains-called f [] kept g r = r.0
   retains-called f (e ∷ es) kept g r = (r.0, r.1, r.2, r.3, r.4, retains-called r.2 es r.3 g r.5, r.6)
 
@@ -43,7 +46,8 @@ module _ {K V : Type 0} where
   none_filtered test p [] n = tt
   none_filtered test p (e ∷ es) n = by (p e) (none_filtered test p es n.1)
     where
-      by : (b : Bool) → NonePasses test (filter p es) → NonePasses test (cond b (e ∷ filter p es) (filter p es))
+      by : (b : Bool) → NonePasses test (filter p es)
+          → NonePasses test (cond b (e ∷ filter p es) (filter p es))
       by true h = (n.0, h)
       by false h = h
 
@@ -54,7 +58,8 @@ module _ {K V : Type 0} (eq : K → K → Bool) (laws : IsEquivalence eq) where
       → ((f : K × V) → o ≡ Some f → eq e.0 f.0 ≡ true) → NonePasses (eq q) zs
       → NonePasses (eq q) (cons_option o zs)
   apart_by q e None zs a t n = n
-  apart_by q e (Some f) zs a t n = (laws.symm q f.0 ∙ sym (laws.congr e.0 f.0 q (t f refl)) ∙ laws.symm e.0 q ∙ a, n)
+  apart_by q e (Some f) zs a t n =
+      (laws.symm q f.0 ∙ sym (laws.congr e.0 f.0 q (t f refl)) ∙ laws.symm e.0 q ∙ a, n)
 
   pub none_in_order : (q : K) (es kept : List (K × V)) → NonePasses (eq q) es
       → NonePasses (eq q) (in_order_of eq es kept)
@@ -63,34 +68,39 @@ module _ {K V : Type 0} (eq : K → K → Bool) (laws : IsEquivalence eq) where
       apart_by q e (lookup_entry (eq e.0) kept) (in_order_of eq es kept) n.0 (found_passes (eq e.0) kept)
       (none_in_order q es kept n.1)
 
-  distinct_by : (e : K × V) (o : Option (K × V)) (zs : List (K × V)) → ((f : K × V) → o ≡ Some f → eq e.0 f.0 ≡ true)
+  distinct_by : (e : K × V) (o : Option (K × V)) (zs : List (K × V))
+      → ((f : K × V) → o ≡ Some f → eq e.0 f.0 ≡ true)
       → NonePasses (eq e.0) zs → IsEntries eq zs
       → IsEntries eq (cons_option o zs)
   distinct_by e None zs t n d = d
   distinct_by e (Some f) zs t n d = IsEntries-cons eq f zs (none_equal eq laws e.0 f.0 zs (t f refl) n) d
 
-  pub IsEntries-in_order_of : (es kept : List (K × V)) → IsEntries eq es → IsEntries eq (in_order_of eq es kept)
+  pub IsEntries-in_order_of : (es kept : List (K × V)) → IsEntries eq es
+      → IsEntries eq (in_order_of eq es kept)
   IsEntries-in_order_of [] kept d = d
   IsEntries-in_order_of (e ∷ es) kept d =
       distinct_by e (lookup_entry (eq e.0) kept) (in_order_of eq es kept) (found_passes (eq e.0) kept)
       (none_in_order e.0 es kept (IsEntries-head eq e es d))
       (IsEntries-in_order_of es kept (IsEntries-tail eq e es d))
 
-  pub IsEntries-keeps : {F : Type 0} (T : F → K → V → Bool → V → F → Type 0) (f : F) (es new : List (K × V)) (h : F)
+  pub IsEntries-keeps : {F : Type 0} (T : F → K → V → Bool → V → F → Type 0) (f : F)
+      (es new : List (K × V)) (h : F)
       → IsEntries eq es → KeepsInSomeOrder T eq f es new h
       → IsEntries eq new
   IsEntries-keeps T f es new h d r = rw (r.entries) (IsEntries-in_order_of es r.kept d)
 
   -- ---- a predicate
 
-  at_by : (p : K × V → Bool) (us : List (K × V)) (e : K × V) (vs : List (K × V)) (b : Bool) → NonePasses (eq e.0) us
+  at_by : (p : K × V → Bool) (us : List (K × V)) (e : K × V) (vs : List (K × V)) (b : Bool)
+      → NonePasses (eq e.0) us
       → NonePasses (eq e.0) vs
       → lookup_entry (eq e.0) (filter p us ++ cond b (e ∷ filter p vs) (filter p vs)) ≡ cond b (Some e) None
   at_by p us e vs true n m =
       lookup_entry-here (eq e.0) e (filter p vs) (laws.refl e.0) (filter p us) (none_filtered (eq e.0) p us n)
   at_by p us e vs false n m =
       lookup_entry-none (eq e.0) (filter p us ++ filter p vs)
-      (each-append _ (filter p us) (filter p vs) (none_filtered (eq e.0) p us n) (none_filtered (eq e.0) p vs m))
+      (each-append _ (filter p us) (filter p vs) (none_filtered (eq e.0) p us n)
+      (none_filtered (eq e.0) p vs m))
 
   lookup_filtered : (p : K × V → Bool) (es : List (K × V)) (e : K × V) → IsEntries eq es → Contains es e
       → lookup_entry (eq e.0) (filter p es) ≡ cond (p e) (Some e) None
@@ -107,11 +117,13 @@ module _ {K V : Type 0} (eq : K → K → Bool) (laws : IsEquivalence eq) where
   in_order_by p kept [] a = refl
   in_order_by p kept (e ∷ es) a = ap₂ cons_option a.0 (in_order_by p kept es a.1) ∙ one (p e)
     where
-      one : (b : Bool) → cons_option (cond b (Some e) None) (filter p es) ≡ cond b (e ∷ filter p es) (filter p es)
+      one : (b : Bool) → cons_option (cond b (Some e) None) (filter p es)
+          ≡ cond b (e ∷ filter p es) (filter p es)
       one true = refl
       one false = refl
 
-  pub in_order_of-filter : (p : K × V → Bool) (es order : List (K × V)) → IsEntries eq es → IsPermutation es order
+  pub in_order_of-filter : (p : K × V → Bool) (es order : List (K × V)) → IsEntries eq es
+      → IsPermutation es order
       → in_order_of eq es (filter p order) ≡ filter p es
   in_order_of-filter p es order d m =
       let e = IsDistinct-IsPermutation eq laws.symm (keys_of es) (keys_of order)
@@ -135,7 +147,8 @@ module _ {F K V : Type 0} (T : F → K → V → Bool → V → F → Type 0) wh
       → ((g : F) (k : K) (v : V) (b : Bool) (w : V) (h : F) → T g k v b w h → (b ≡ p (k, v)) × (w ≡ v))
       → (f : F) (es new : List (K × V)) (h : F) → KeepsInOrder T f es new h → new ≡ filter p es
   keeps_in_order_is_filter p says f es new h r =
-      filter_from_retain_pairs T (λ _. Unit {0}) p (λ g k v b w h _ t. let s = says g k v b w h t in (s.0, s.1, tt)) f
+      filter_from_retain_pairs T (λ _. Unit {0}) p
+      (λ g k v b w h _ t. let s = says g k v b w h t in (s.0, s.1, tt)) f
       es new tt (retains-called T f es new h r)
 
   -- no key comes in
@@ -159,7 +172,8 @@ module _ {F K V : Type 0} (T : F → K → V → Bool → V → F → Type 0) wh
         (by r.0 (IsEntries-keeps_in_order r.2 es r.3 g (IsEntries-tail eq e es d) r.5)
         (none_kept (eq e.0) r.2 es r.3 g r.5 (IsEntries-head eq e es d)))
       where
-        by : (b : Bool) → IsEntries eq r.3 → NonePasses (eq e.0) r.3 → IsEntries eq (cond b ((e.0, r.1) ∷ r.3) r.3)
+        by : (b : Bool) → IsEntries eq r.3 → NonePasses (eq e.0) r.3
+            → IsEntries eq (cond b ((e.0, r.1) ∷ r.3) r.3)
         by true h n = IsEntries-cons eq (e.0, r.1) r.3 n h
         by false h n = h
 
@@ -180,7 +194,8 @@ module _ {F K V : Type 0} (T : F → K → V → Bool → V → F → Type 0) wh
         (λ b. cons_option (cond b (Some (e.0, w)) (lookup_entry (eq e.0) rest))
         (in_order_of eq es ((e.0, w) ∷ rest)))
         (laws.refl e.0)
-        ∙ ap (λ r. (e.0, w) ∷ r) (skip (e.0, w) es rest (each-weaker _ _ (λ x a. laws.symm x.0 e.0 ∙ a) es n) ∙ h)
+        ∙ ap (λ r. (e.0, w) ∷ r)
+        (skip (e.0, w) es rest (each-weaker _ _ (λ x a. laws.symm x.0 e.0 ∙ a) es n) ∙ h)
     in_own_order_by e w false es rest n m h =
         ap (λ o. cons_option o (in_order_of eq es rest)) (lookup_entry-none (eq e.0) rest m) ∙ h
 
@@ -193,7 +208,8 @@ module _ {F K V : Type 0} (T : F → K → V → Bool → V → F → Type 0) wh
         (in_own_order_by e r.1 r.0 es r.3 n (none_kept (eq e.0) r.2 es r.3 g r.5 n)
         (in_own_order r.2 es r.3 g (IsEntries-tail eq e es d) r.5))
 
-    pub keeps_from_in_order : (f : F) (es new : List (K × V)) (g : F) → IsEntries eq es → KeepsInOrder T f es new g
+    pub keeps_from_in_order : (f : F) (es new : List (K × V)) (g : F) → IsEntries eq es
+        → KeepsInOrder T f es new g
         → KeepsInSomeOrder T eq f es new g
     keeps_from_in_order f es new g d r =
         record {
@@ -208,7 +224,8 @@ module _ {F K V : Type 0} (T : F → K → V → Bool → V → F → Type 0) wh
 
 module _ {F K V : Type 0} (T : F → K → V → Bool → V → F → Type 0) (Stays : F → Type 0)
     (keeps : (f : F) (k : K) (v : V) (b : Bool) (w : V) (g : F) → T f k v b w g → Stays f → Stays g) where
-  pub stays_in_order : (f : F) (es kept : List (K × V)) (g : F) → KeepsInOrder T f es kept g → Stays f → Stays g
+  pub stays_in_order : (f : F) (es kept : List (K × V)) (g : F) → KeepsInOrder T f es kept g
+      → Stays f → Stays g
   stays_in_order f [] kept g r s = subst Stays (sym r.1) s
   stays_in_order f (e ∷ es) kept g r s = stays_in_order r.2 es r.3 g r.5 (keeps f e.0 e.1 r.0 r.1 r.2 r.4 s)
 
@@ -223,7 +240,8 @@ module _ {F K V : Type 0} (T : F → K → V → Bool → V → F → Type 0) (a
   abbrev pub kept_by : F → List (K × V) → List (K × V)
   kept_by f [] = []
   kept_by f (e ∷ es) =
-      cond (answer f e.0 e.1) ((e.0, written f e.0 e.1) ∷ kept_by (next f e.0 e.1) es) (kept_by (next f e.0 e.1) es)
+      cond (answer f e.0 e.1) ((e.0, written f e.0 e.1) ∷ kept_by (next f e.0 e.1) es)
+      (kept_by (next f e.0 e.1) es)
 
   abbrev pub ends_by : F → List (K × V) → F
   ends_by f [] = f

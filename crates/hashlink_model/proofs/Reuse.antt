@@ -1,7 +1,9 @@
--- A cache of c places holds the last c keys that were used, and a key exactly while fewer than c others were used
--- since.
-use Rattle.std.proofs.Common.{◌≡◌, ℕ, ◌-◌, ◌≤◌, ◌<◌, Bool, true, false, ◌&&◌, ◌||◌, cond, List, [], ◌∷◌, ◌++◌, length}
-use Rattle.std.proofs.Common.{drop, nat_lt, is_some, Option, None, Some, refl, sym, ap, subst₂, ◌∙◌, ◌⊎◌, inl, inr}
+-- A cache of c places holds the last c keys that were used, and a key exactly while fewer than c others were
+-- used since.
+use Rattle.std.proofs.Common.{◌≡◌, ℕ, ◌-◌, ◌≤◌, ◌<◌, Bool, true, false, ◌&&◌, ◌||◌, cond, List, [], ◌∷◌, ◌++◌}
+use Rattle.std.proofs.Common.{length}
+use Rattle.std.proofs.Common.{drop, nat_lt, is_some, Option, None, Some, refl, sym, ap, subst₂, ◌∙◌, ◌⊎◌, inl}
+use Rattle.std.proofs.Common.{inr}
 use Rattle.std.proofs.Common.{subst, arith, length-append}
 use Rattle.std.specs.Cmp.{IsEquivalence}
 use Rattle.std.specs.Option.{option_map_or}
@@ -19,7 +21,8 @@ use Rattle.hashlink_model.proofs.Afterwards.{length-put_there, moved-there}
 use Rattle.hashlink_model.proofs.Caches.{front_evicted-within, front_evicted-above, last_entries-within}
 use Rattle.hashlink_model.proofs.Caches.{cache_put-evicts}
 use Rattle.hashlink_model.proofs.Recency.{zip_push, zip_drop_one, zip_length, answers_alike, is_recent}
-use Rattle.hashlink_model.proofs.Recency.{recent_keys-there, recent_keys-full, recent_keys-room, length-recent_keys}
+use Rattle.hashlink_model.proofs.Recency.{recent_keys-there, recent_keys-full, recent_keys-room}
+use Rattle.hashlink_model.proofs.Recency.{length-recent_keys}
 
 module _ {K V : Type 0} (eq : K → K → Bool) (laws : IsEquivalence eq) where
   pub found_is_member : (k : K) (es : List (K × V)) (ks : List K) → AllZip (λ e q. eq e.0 q ≡ true) es ks
@@ -40,7 +43,8 @@ module _ {K V : Type 0} (eq : K → K → Bool) (laws : IsEquivalence eq) where
       → eq e.0 q ≡ true
       → AllZip (λ e q. eq e.0 q ≡ true) es ks
       → AllZip (λ e q. eq e.0 q ≡ true) (remove_entry (eq k) es) (remove_key (eq k) ks)
-      → AllZip (λ e q. eq e.0 q ≡ true) (cond b es (e ∷ remove_entry (eq k) es)) (cond b ks (q ∷ remove_key (eq k) ks))
+      → AllZip (λ e q. eq e.0 q ≡ true) (cond b es (e ∷ remove_entry (eq k) es))
+      (cond b ks (q ∷ remove_key (eq k) ks))
   zip_removed_by k e q es ks true t r z h = z
   zip_removed_by k e q es ks false t r z h = (r, h)
 
@@ -62,7 +66,8 @@ module _ {K V : Type 0} (eq : K → K → Bool) (laws : IsEquivalence eq) where
   held_back c used es k v w h l =
       let m : is_member eq (recent_keys eq c used) k ≡ true
       = sym (found_is_member k es (recent_keys eq c used) h) ∙ ap is_some l in
-      subst₂ (AllZip (λ e q. eq e.0 q ≡ true)) (sym (put_back eq es k v)) (sym (recent_keys-there eq laws c used k m))
+      subst₂ (AllZip (λ e q. eq e.0 q ≡ true)) (sym (put_back eq es k v))
+      (sym (recent_keys-there eq laws c used k m))
       (zip_push _ (without eq es k) (remove_key (eq k) (recent_keys eq c used)) (stored_key eq es k, v) k
       (zip_removed k es (recent_keys eq c used) h)
       (laws.symm (stored_key eq es k) k ∙ stored_key-equal eq laws k es))
@@ -77,7 +82,8 @@ module _ {K V : Type 0} (eq : K → K → Bool) (laws : IsEquivalence eq) where
       let long = zip_length _ es (recent_keys eq c used) h in
       let count = length-recent_keys eq laws c used in
       let more = length-append es ((k, v) ∷ []) in
-      subst₂ (AllZip (λ e q. eq e.0 q ≡ true)) (sym (front_evicted-within (es ++ (k, v) ∷ []) c (omega arith)))
+      subst₂ (AllZip (λ e q. eq e.0 q ≡ true))
+      (sym (front_evicted-within (es ++ (k, v) ∷ []) c (omega arith)))
       (sym (recent_keys-room eq laws c used k m r))
       (zip_push _ es (recent_keys eq c used) (k, v) k h (laws.refl k))
   held_new_by c used es k v h l (inr r) =
@@ -108,7 +114,8 @@ module _ {K V : Type 0} (eq : K → K → Bool) (laws : IsEquivalence eq) where
       subst (HoldsRecent eq c (used ++ k ∷ []))
       (sym (last_entries-within (put eq es k v (length es)) c (omega arith))) (held_back c used es k v w h l)
 
-  pub HoldsRecent-cache_put : (c : ℕ) (used : List K) (es : List (K × V)) (k : K) (v : V) → HoldsRecent eq c used es
+  pub HoldsRecent-cache_put : (c : ℕ) (used : List K) (es : List (K × V)) (k : K) (v : V)
+      → HoldsRecent eq c used es
       → HoldsRecent eq c (used ++ k ∷ []) (cache_put eq es c k v)
   HoldsRecent-cache_put c used es k v h = put_by c used es k v (lookup (eq k) es) refl h
 
@@ -120,7 +127,8 @@ module _ {K V : Type 0} (eq : K → K → Bool) (laws : IsEquivalence eq) where
       subst (HoldsRecent eq c (used ++ k ∷ [])) (sym (moved-there eq es k (length es) w l))
       (held_back c used es k w w h l)
 
-  pub HoldsRecent-cache_use : (c : ℕ) (used : List K) (es : List (K × V)) (k : K) (v : V) → HoldsRecent eq c used es
+  pub HoldsRecent-cache_use : (c : ℕ) (used : List K) (es : List (K × V)) (k : K) (v : V)
+      → HoldsRecent eq c used es
       → HoldsRecent eq c (used ++ k ∷ []) (cache_use eq es c k v)
   HoldsRecent-cache_use c used es k v h = use_by c used es k v (lookup (eq k) es) refl h
 

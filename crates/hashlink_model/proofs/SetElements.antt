@@ -1,6 +1,8 @@
 -- The elements of a set after the map's steps.
-use Rattle.std.proofs.Common.{◌≡◌, ℕ, ◌+◌, Bool, true, false, not, ◌&&◌, cond, List, [], ◌∷◌, ◌++◌, length, filter}
-use Rattle.std.proofs.Common.{slice_get, is_some, Option, None, Some, Ok, Err, MatchOption, option_map, unwrap_or}
+use Rattle.std.proofs.Common.{◌≡◌, ℕ, ◌+◌, Bool, true, false, not, ◌&&◌, cond, List, [], ◌∷◌, ◌++◌, length}
+use Rattle.std.proofs.Common.{filter}
+use Rattle.std.proofs.Common.{slice_get, is_some, Option, None, Some, Ok, Err, MatchOption, option_map}
+use Rattle.std.proofs.Common.{unwrap_or}
 use Rattle.std.proofs.Common.{refl, sym, ap, ap₂, ◌∙◌, subst}
 use Rattle.std.specs.Cmp.{IsEquivalence}
 use Rattle.std.specs.List.{IsDistinct, AllZip, find}
@@ -18,10 +20,12 @@ use Rattle.hashlink_model.specs.Steps.{RemovesKey, Moves, PopsFront, PopsBack}
 use Rattle.hashlink_model.specs.Retain.{KeepsInOrder, KeepsInSomeOrder}
 use Rattle.hashlink_model.specs.Sets.{SetState, at_element, elements_of, pairs_of, put_element, replaced}
 use Rattle.hashlink_model.specs.Sets.{stored_element, SetInserts, SetReplaces}
-use Rattle.hashlink_model.proofs.Splits.{stands_from_place, lookup_entry-here, lookup_key-none, remove_entry-none}
+use Rattle.hashlink_model.proofs.Splits.{stands_from_place, lookup_entry-here, lookup_key-none}
+use Rattle.hashlink_model.proofs.Splits.{remove_entry-none}
 use Rattle.hashlink_model.proofs.Splits.{none_from_lookup}
 use Rattle.hashlink_model.proofs.Finds.{lookup_is, lookup_key_is}
-use Rattle.hashlink_model.proofs.Puts.{put_back, put_front, put_back_absent, put_at_its_place, put_after_its_place}
+use Rattle.hashlink_model.proofs.Puts.{put_back, put_front, put_back_absent, put_at_its_place}
+use Rattle.hashlink_model.proofs.Puts.{put_after_its_place}
 use Rattle.hashlink_model.proofs.Afterwards.{put_back_twice, put_front_twice}
 use Rattle.hashlink_model.proofs.Places.{slice_get_here, place_of_its_key}
 use Rattle.hashlink_model.proofs.ByPlace.{moved-there, set_key_at-here}
@@ -38,7 +42,8 @@ module _ {T V : Type 0} (test : T → Bool) where
   keys-remove_entry (e ∷ es) = by (test e.0) (keys-remove_entry es)
     where
       by : (b : Bool) → keys_of (remove_entry test es) ≡ remove_key test (keys_of es)
-          → keys_of (cond b es (e ∷ remove_entry test es)) ≡ cond b (keys_of es) (e.0 ∷ remove_key test (keys_of es))
+          → keys_of (cond b es (e ∷ remove_entry test es))
+          ≡ cond b (keys_of es) (e.0 ∷ remove_key test (keys_of es))
       by true h = refl
       by false h = ap (λ r. e.0 ∷ r) h
 
@@ -46,7 +51,8 @@ module _ {T V : Type 0} (test : T → Bool) where
   find-keys [] = refl
   find-keys (e ∷ es) = ap (cond (test e.0) (Some e.0)) (find-keys es)
 
-  pub keys-filter : (p : T → Bool) (es : List (T × V)) → keys_of (filter (λ e. p e.0) es) ≡ filter p (keys_of es)
+  pub keys-filter : (p : T → Bool) (es : List (T × V)) → keys_of (filter (λ e. p e.0) es)
+      ≡ filter p (keys_of es)
   keys-filter p [] = refl
   keys-filter p (e ∷ es) = by (p e.0) (keys-filter p es)
     where
@@ -56,7 +62,8 @@ module _ {T V : Type 0} (test : T → Bool) where
       by true h = ap (λ r. e.0 ∷ r) h
       by false h = h
 
-  swap_key-here : (e : T × V) (ys : List (T × V)) (t : T) → test e.0 ≡ true → (xs : List (T × V)) → NonePasses test xs
+  swap_key-here : (e : T × V) (ys : List (T × V)) (t : T) → test e.0 ≡ true → (xs : List (T × V))
+      → NonePasses test xs
       → swap_key test (keys_of (xs ++ e ∷ ys)) t ≡ keys_of (xs ++ (t, e.1) ∷ ys)
   swap_key-here e ys t p [] n = rw p refl
   swap_key-here e ys t p (x ∷ xs) n = rw n.0 (ap (λ r. x.0 ∷ r) (swap_key-here e ys t p xs n.1))
@@ -67,7 +74,8 @@ module _ {T V : Type 0} (test : T → Bool) where
   keys-set_key_at es j t p =
       let s = stands_from_place test es j p in
       ap₂ (λ zs i. keys_of (set_key_at zs i t)) s.3.is (sym s.4) ∙ ap keys_of (set_key_at-here s.0 s.1 s.2 t)
-      ∙ sym (swap_key-here s.1 s.2 t s.3.passes s.0 s.3.before) ∙ ap (λ zs. swap_key test (keys_of zs) t) (sym s.3.is)
+      ∙ sym (swap_key-here s.1 s.2 t s.3.passes s.0 s.3.before)
+      ∙ ap (λ zs. swap_key test (keys_of zs) t) (sym s.3.is)
 
 turned : (b : Bool) → b ≡ not (is_some {T = Unit {0}} (cond b None (Some tt)))
 turned true = refl
@@ -93,7 +101,11 @@ module _ {T S : Type 0} (eq : T → T → Bool) (old new : SetState T S) (t : T)
 
     pub inserts_refused : (pair : T × Unit {0}) → Inserts eq old new t tt b (Err pair)
         → (elements_of new ≡ elements_of old) × (is_member eq (elements_of old) t ≡ false) × (pair.0 ≡ t)
-    inserts_refused pair s = (ap keys_of s.grows.entries, member_none s.may_refuse.absent, ap (λ p. p.0) s.handed_back)
+    inserts_refused pair s = (
+      ap keys_of s.grows.entries,
+      member_none s.may_refuse.absent,
+      ap (λ p. p.0) s.handed_back,
+    )
 
     pub moves_elements : (r : Option (Unit {0})) → Moves eq old new t b r
         → (elements_of new ≡ cond (is_some r) (put_element eq (elements_of old) t b) (elements_of old))
@@ -114,15 +126,18 @@ module _ {T S : Type 0} (eq : T → T → Bool) (old new : SetState T S) (t : T)
         ∙ find-keys (eq t) old.entries,
   )
     where
-      by : (r : Option (T × Unit {0})) → MatchOption r (new ≡ old) (λ _. Removes old new (without eq old.entries t))
+      by : (r : Option (T × Unit {0})) → MatchOption r (new ≡ old)
+          (λ _. Removes old new (without eq old.entries t))
           → r ≡ lookup_entry (eq t) old.entries
           → elements_of new ≡ remove_key (eq t) (elements_of old)
-      by None u a = ap elements_of u ∙ sym (ap keys_of (without_none (sym a))) ∙ keys-remove_entry (eq t) old.entries
+      by None u a = ap elements_of u ∙ sym (ap keys_of (without_none (sym a)))
+          ∙ keys-remove_entry (eq t) old.entries
         where
           without_none : lookup_entry (eq t) old.entries ≡ None → without eq old.entries t ≡ old.entries
           without_none l =
               remove_entry-none (eq t) old.entries
-              (none_from_lookup (eq t) old.entries (lookup_is (eq t) old.entries ∙ ap (option_map (λ e. e.1)) l))
+              (none_from_lookup (eq t) old.entries
+              (lookup_is (eq t) old.entries ∙ ap (option_map (λ e. e.1)) l))
       by (Some e) u a = ap keys_of u.entries ∙ keys-remove_entry (eq t) old.entries
 
   -- ---- the set's own steps
@@ -172,7 +187,8 @@ module _ {T S : Type 0} (old new : SetState T S) (e : T × Unit {0}) where
   pops_front_elements s = let p = pops_front old new e s in ap keys_of p.0
 
   pub pops_back_elements : PopsBack old new (Some e) → elements_of old ≡ elements_of new ++ e.0 ∷ []
-  pops_back_elements s = let p = pops_back old new e s in ap keys_of p.0 ∙ map-append (λ e. e.0) new.entries (e ∷ [])
+  pops_back_elements s = let p = pops_back old new e s in ap keys_of p.0
+      ∙ map-append (λ e. e.0) new.entries (e ∷ [])
 
 -- ---- where an element is put
 
@@ -184,7 +200,8 @@ module _ {T : Type 0} (eq : T → T → Bool) where
   removed_pairs ts t = keys-remove_entry (eq t) (pairs_of ts) ∙ ap (remove_key (eq t)) (keys_of-pairs_of ts)
 
   stored_pairs : (ts : List T) (t : T) → stored_key eq (pairs_of ts) t ≡ stored_element eq ts t
-  stored_pairs ts t = ap (λ o. unwrap_or o t) (find-keys (eq t) (pairs_of ts) ∙ ap (find (eq t)) (keys_of-pairs_of ts))
+  stored_pairs ts t = ap (λ o. unwrap_or o t) (find-keys (eq t) (pairs_of ts) ∙ ap (find (eq t))
+      (keys_of-pairs_of ts))
 
   pub put_element_back : (ts : List T) (t : T)
       → put_element eq ts t (length ts) ≡ remove_key (eq t) ts ++ stored_element eq ts t ∷ []
@@ -193,16 +210,19 @@ module _ {T : Type 0} (eq : T → T → Bool) where
       ∙ map-append (λ e. e.0) (without eq (pairs_of ts) t) ((stored_key eq (pairs_of ts) t, tt) ∷ [])
       ∙ ap₂ (λ xs x. xs ++ x ∷ []) (removed_pairs ts t) (stored_pairs ts t)
 
-  pub put_element_front : (ts : List T) (t : T) → put_element eq ts t 0 ≡ stored_element eq ts t ∷ remove_key (eq t) ts
+  pub put_element_front : (ts : List T) (t : T) → put_element eq ts t 0
+      ≡ stored_element eq ts t ∷ remove_key (eq t) ts
   put_element_front ts t =
-      ap keys_of (put_front eq (pairs_of ts) t tt) ∙ ap₂ (λ x xs. x ∷ xs) (stored_pairs ts t) (removed_pairs ts t)
+      ap keys_of (put_front eq (pairs_of ts) t tt)
+      ∙ ap₂ (λ x xs. x ∷ xs) (stored_pairs ts t) (removed_pairs ts t)
 
   module _ (laws : IsEquivalence eq) where
     entries_of_pairs : (ts : List T) → IsDistinct eq ts → IsEntries eq (pairs_of ts)
     entries_of_pairs ts d = subst (IsDistinct eq) (sym (keys_of-pairs_of ts)) d
 
     -- an element that stands at j, or is put directly behind itself
-    place_in_pairs : (ts : List T) (j : ℕ) (x t : T) → IsDistinct eq ts → slice_get ts j ≡ Some x → eq t x ≡ true
+    place_in_pairs : (ts : List T) (j : ℕ) (x t : T) → IsDistinct eq ts → slice_get ts j
+        ≡ Some x → eq t x ≡ true
         → place_of (eq t) (pairs_of ts) ≡ Some j
     place_in_pairs ts j x t d at e =
         place_of_its_key eq laws (pairs_of ts) j (x, tt) t (entries_of_pairs ts d)
@@ -232,7 +252,8 @@ module _ {T : Type 0} (eq : T → T → Bool) where
         ≡ put_element eq ts t (length ts)
     put_element_back_twice ts t d =
         let zs = put eq (pairs_of ts) t tt (length (pairs_of ts)) in
-        let same : put_element eq ts t (length ts) ≡ keys_of zs = ap (put_element eq ts t) (length_pairs ts) in
+        let same : put_element eq ts t (length ts)
+        ≡ keys_of zs = ap (put_element eq ts t) (length_pairs ts) in
         ap (λ us. put_element eq us t (length us)) same
         ∙ ap₂ (λ es n. keys_of (put eq es t tt n)) (pairs_of-keys_of zs) (length-keys_of zs)
         ∙ ap keys_of (put_back_twice eq laws (pairs_of ts) t tt tt (entries_of_pairs ts d)) ∙ sym same
@@ -246,9 +267,11 @@ module _ {T : Type 0} (eq : T → T → Bool) where
     -- ---- many elements
 
     pub own_elements : (ts : List T) → IsDistinct eq ts → keys_of (extended eq [] (pairs_of ts)) ≡ ts
-    own_elements ts d = ap keys_of (extended-own eq laws (pairs_of ts) (entries_of_pairs ts d)) ∙ keys_of-pairs_of ts
+    own_elements ts d = ap keys_of (extended-own eq laws (pairs_of ts) (entries_of_pairs ts d))
+        ∙ keys_of-pairs_of ts
 
-    equal_elements : (xs ys : List T) → elements_eq eq xs ys ≡ entries_eq eq (λ _ _. true) (pairs_of xs) (pairs_of ys)
+    equal_elements : (xs ys : List T) → elements_eq eq xs ys
+        ≡ entries_eq eq (λ _ _. true) (pairs_of xs) (pairs_of ys)
     equal_elements [] [] = refl
     equal_elements [] (y ∷ ys) = refl
     equal_elements (x ∷ xs) [] = refl
@@ -277,19 +300,23 @@ module _ {T : Type 0} (eq : T → T → Bool) where
 
 module _ {F T : Type 0} (U : F → T → Bool → F → Type 0) (p : T → Bool)
     (says : (g : F) (t : T) (b : Bool) (h : F) → U g t b h → b ≡ p t) where
-  pub retained_in_order : (f : F) (es new : List (T × Unit {0})) (g : F) → KeepsInOrder (at_element U) f es new g
+  pub retained_in_order : (f : F) (es new : List (T × Unit {0})) (g : F)
+      → KeepsInOrder (at_element U) f es new g
       → keys_of new ≡ filter p (keys_of es)
   retained_in_order f es new g r =
       ap keys_of
-      (keeps_in_order_is_filter (at_element U) (λ e. p e.0) (λ g t v b w h u. (says g t b h u, refl)) f es new g
+      (keeps_in_order_is_filter (at_element U) (λ e. p e.0)
+      (λ g t v b w h u. (says g t b h u, refl)) f es new g
       r)
       ∙ keys-filter p p es
 
-  pub retained_in_some_order : (eq : T → T → Bool) → IsEquivalence eq → (f : F) (es new : List (T × Unit {0})) (g : F)
+  pub retained_in_some_order : (eq : T → T → Bool) → IsEquivalence eq
+      → (f : F) (es new : List (T × Unit {0})) (g : F)
       → IsEntries eq es
       → KeepsInSomeOrder (at_element U) eq f es new g → keys_of new ≡ filter p (keys_of es)
   retained_in_some_order eq laws f es new g d r =
       ap keys_of
-      (keeps_is_filter eq laws (at_element U) (λ e. p e.0) (λ g t v b w h u. (says g t b h u, refl)) f es new g d
+      (keeps_is_filter eq laws (at_element U) (λ e. p e.0)
+      (λ g t v b w h u. (says g t b h u, refl)) f es new g d
       r)
       ∙ keys-filter p p es

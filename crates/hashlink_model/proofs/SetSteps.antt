@@ -1,6 +1,8 @@
 -- What stands after the steps of a set.
-use Rattle.std.proofs.Common.{◌≡◌, ℕ, zero, suc, ◌+◌, Bool, true, false, cond, ◌||◌, List, [], ◌∷◌, ◌++◌, length}
-use Rattle.std.proofs.Common.{take, drop, slice_get, slice_set, is_some, Option, None, Some, refl, sym, ap, ap₂, ◌∙◌}
+use Rattle.std.proofs.Common.{◌≡◌, ℕ, zero, suc, ◌+◌, Bool, true, false, cond, ◌||◌, List, [], ◌∷◌, ◌++◌}
+use Rattle.std.proofs.Common.{length}
+use Rattle.std.proofs.Common.{take, drop, slice_get, slice_set, is_some, Option, None, Some, refl, sym, ap}
+use Rattle.std.proofs.Common.{ap₂, ◌∙◌}
 use Rattle.std.proofs.Common.{◌⊎◌, inl, inr, subst}
 use Rattle.std.specs.Cmp.{IsEquivalence}
 use Rattle.std.specs.List.{IsDistinct, AllByRecursion}
@@ -19,7 +21,8 @@ use Rattle.hashlink_model.proofs.Finds.{stored_key-equal}
 use Rattle.hashlink_model.proofs.Puts.{IsEntries-put}
 use Rattle.hashlink_model.proofs.Afterwards.{length-put_absent, length-put_there}
 use Rattle.hashlink_model.proofs.Places.{split_at}
-use Rattle.hashlink_model.proofs.Members.{is_member-equal, is_member-append, none_from_is_member, IsDistinct-append}
+use Rattle.hashlink_model.proofs.Members.{is_member-equal, is_member-append, none_from_is_member}
+use Rattle.hashlink_model.proofs.Members.{IsDistinct-append}
 use Rattle.hashlink_model.proofs.SetViews.{keys_of-pairs_of}
 
 module _ {T : Type 0} (eq : T → T → Bool) where
@@ -30,7 +33,8 @@ module _ {T : Type 0} (eq : T → T → Bool) where
 
   -- an element is a member exactly where a look-up finds it
   is_some-lookup_pairs : (ts : List T) (t : T) → is_some (lookup (eq t) (pairs_of ts)) ≡ is_member eq ts t
-  is_some-lookup_pairs ts t = is_some-lookup (eq t) (pairs_of ts) ∙ ap (λ zs. is_member eq zs t) (keys_of-pairs_of ts)
+  is_some-lookup_pairs ts t = is_some-lookup (eq t) (pairs_of ts)
+      ∙ ap (λ zs. is_member eq zs t) (keys_of-pairs_of ts)
 
   pub length-put_element : (ts : List T) (t : T) (b : ℕ)
       → length (put_element eq ts t b) ≡ cond (is_member eq ts t) (length ts) (length ts + 1)
@@ -41,7 +45,8 @@ module _ {T : Type 0} (eq : T → T → Bool) where
       by : (o : Option (Unit {0})) → lookup (eq t) (pairs_of ts) ≡ o
           → length (put eq (pairs_of ts) t tt b)
           ≡ cond (is_some (lookup (eq t) (pairs_of ts))) (length ts) (length ts + 1)
-      by None l = length-put_absent eq (pairs_of ts) t tt b l ∙ ap (λ n. n + 1) (length_pairs_of ts) ∙ rw l refl
+      by None l = length-put_absent eq (pairs_of ts) t tt b l ∙ ap (λ n. n + 1) (length_pairs_of ts)
+          ∙ rw l refl
       by (Some w) l = length-put_there eq (pairs_of ts) t tt b w l ∙ length_pairs_of ts ∙ rw l refl
 
   pub length-put_element_absent : (ts : List T) (t : T) (b : ℕ) → is_member eq ts t ≡ false
@@ -55,7 +60,8 @@ module _ {T : Type 0} (eq : T → T → Bool) where
   pub replaced-absent : (ts : List T) (t : T) → is_member eq ts t ≡ false → replaced eq ts t ≡ ts ++ t ∷ []
   replaced-absent ts t m = rw m refl
 
-  pub replaced-there : (ts : List T) (t : T) → is_member eq ts t ≡ true → replaced eq ts t ≡ swap_key (eq t) ts t
+  pub replaced-there : (ts : List T) (t : T) → is_member eq ts t ≡ true → replaced eq ts t
+      ≡ swap_key (eq t) ts t
   replaced-there ts t m = rw m refl
 
   length_swap_key : (test : T → Bool) (ts : List T) (t : T) → length (swap_key test ts t) ≡ length ts
@@ -71,7 +77,8 @@ module _ {T : Type 0} (eq : T → T → Bool) where
       → length (replaced eq ts t) ≡ length ts + 1
   length-replaced_absent ts t m = ap length (replaced-absent ts t m) ∙ length-append ts (t ∷ [])
 
-  pub length-replaced_there : (ts : List T) (t : T) → is_member eq ts t ≡ true → length (replaced eq ts t) ≡ length ts
+  pub length-replaced_there : (ts : List T) (t : T) → is_member eq ts t ≡ true
+      → length (replaced eq ts t) ≡ length ts
   length-replaced_there ts t m = ap length (replaced-there ts t m) ∙ length_swap_key (eq t) ts t
 
   -- ---- every other element stays at its place
@@ -87,7 +94,8 @@ module _ {T : Type 0} (eq : T → T → Bool) where
       by true h = e
       by false h = h
 
-  pushed_others : (t x : T) (ts : List T) (i : ℕ) → slice_get ts i ≡ Some x → slice_get (ts ++ t ∷ []) i ≡ Some x
+  pushed_others : (t x : T) (ts : List T) (i : ℕ) → slice_get ts i ≡ Some x
+      → slice_get (ts ++ t ∷ []) i ≡ Some x
   pushed_others t x [] i e = absurd (none-some x e)
   pushed_others t x (y ∷ ts) zero e = e
   pushed_others t x (y ∷ ts) (suc i) e = pushed_others t x ts i e
@@ -126,7 +134,8 @@ module _ {T : Type 0} (eq : T → T → Bool) (laws : IsEquivalence eq) where
         by (inr s) =
             let apart : eq q s.1.0 ≡ false = laws.symm q s.1.0 ∙ sym (laws.congr k s.1.0 q s.3.passes) ∙ f in
             ap (λ zs. is_member eq (keys_of (without eq zs k)) q) s.3.is
-            ∙ ap (λ zs. is_member eq (keys_of zs) q) (remove_entry-here (eq k) s.1 s.2 s.3.passes s.0 s.3.before)
+            ∙ ap (λ zs. is_member eq (keys_of zs) q)
+            (remove_entry-here (eq k) s.1 s.2 s.3.passes s.0 s.3.before)
             ∙ ap (λ b. b || is_member eq (keys_of (s.0 ++ s.2)) q) (sym apart)
             ∙ sym (member_middle s.0 s.1 s.2)
             ∙ ap (λ zs. is_member eq (keys_of zs) q) (sym s.3.is)
@@ -152,7 +161,8 @@ module _ {T : Type 0} (eq : T → T → Bool) (laws : IsEquivalence eq) where
   is_member-put_element ts t b q =
       is_member-put q (pairs_of ts) t tt b ∙ ap (λ zs. eq t q || is_member eq zs q) (keys_of-pairs_of ts)
 
-  pub IsDistinct-put_element : (ts : List T) (t : T) (b : ℕ) → IsDistinct eq ts → IsDistinct eq (put_element eq ts t b)
+  pub IsDistinct-put_element : (ts : List T) (t : T) (b : ℕ) → IsDistinct eq ts
+      → IsDistinct eq (put_element eq ts t b)
   IsDistinct-put_element ts t b d = IsEntries-put eq laws (pairs_of ts) t tt b (rw (keys_of-pairs_of ts) d)
 
   -- ---- members after an element was replaced
@@ -166,10 +176,12 @@ module _ {T : Type 0} (eq : T → T → Bool) (laws : IsEquivalence eq) where
       by true e h = ap (λ c. c || is_member eq ts q) (laws.symm q t ∙ laws.congr t x q e ∙ laws.symm x q)
       by false e h = ap (λ c. eq q x || c) h
 
-  pub is_member-replaced : (ts : List T) (t q : T) → is_member eq (replaced eq ts t) q ≡ (eq t q || is_member eq ts q)
+  pub is_member-replaced : (ts : List T) (t q : T) → is_member eq (replaced eq ts t) q
+      ≡ (eq t q || is_member eq ts q)
   is_member-replaced ts t q = by (is_member eq ts t) refl
     where
-      there : (b : Bool) → eq t q ≡ b → is_member eq ts t ≡ true → is_member eq ts q ≡ (b || is_member eq ts q)
+      there : (b : Bool) → eq t q ≡ b → is_member eq ts t ≡ true → is_member eq ts q
+          ≡ (b || is_member eq ts q)
       there true e m = sym (is_member-equal eq laws ts t q e) ∙ m
       there false e m = refl
 
@@ -242,7 +254,8 @@ module _ {T : Type 0} (eq : T → T → Bool) (laws : IsEquivalence eq) where
       by true h = refl
       by false h = h
 
-  pub replaced-at : (ts : List T) (t x : T) (j : ℕ) → IsDistinct eq ts → slice_get ts j ≡ Some x → eq t x ≡ true
+  pub replaced-at : (ts : List T) (t x : T) (j : ℕ) → IsDistinct eq ts → slice_get ts j
+      ≡ Some x → eq t x ≡ true
       → replaced eq ts t ≡ slice_set ts j t
   replaced-at ts t x j d at e =
       let s = split_at ts j x at in

@@ -1,6 +1,7 @@
--- A list of entries at the first key that passes a test: `xs ++ e ∷ ys`, where e passes and none of xs does; or no
--- key passes.
-use Rattle.std.proofs.Common.{◌≡◌, ℕ, Bool, true, false, List, [], ◌∷◌, ◌++◌, length, None, Some, ◌⊎◌, inl, inr, refl}
+-- A list of entries at the first key that passes a test: `xs ++ e ∷ ys`, where e passes and none of xs does;
+-- or no key passes.
+use Rattle.std.proofs.Common.{◌≡◌, ℕ, Bool, true, false, List, [], ◌∷◌, ◌++◌, length, None, Some, ◌⊎◌, inl}
+use Rattle.std.proofs.Common.{inr, refl}
 use Rattle.std.proofs.Common.{sym, ap, ◌∙◌, add-one}
 use Rattle.std.specs.Map.{lookup, lookup_entry, lookup_key, remove_entry, set_value}
 use Rattle.std.proofs.lemmas.Map.{NonePasses, none_passes_from_lookup}
@@ -20,8 +21,17 @@ module _ {K V : Type 0} (test : K → Bool) where
   Stands es = (xs : List (K × V)) × (e : K × V) × (ys : List (K × V)) × StandsAt es xs e ys
 
   stands_later : (x : K × V) (es : List (K × V)) → test x.0 ≡ false → Stands es → Stands (x ∷ es)
-  stands_later x es f s =
-      (x ∷ s.0, s.1, s.2, record { is = ap (λ r. x ∷ r) s.3.is; passes = s.3.passes; before = (f, s.3.before) })
+  stands_later x es f s = (
+    x ∷ s.0,
+    s.1,
+    s.2,
+    record {
+      is = ap (λ r. x ∷ r) s.3.is;
+      passes = s.3.passes;
+      before =
+          (f, s.3.before);
+    },
+  )
 
   either_by : (x : K × V) (es : List (K × V)) (b : Bool) → test x.0 ≡ b → NonePasses test es ⊎ Stands es
       → NonePasses test (x ∷ es) ⊎ Stands (x ∷ es)
@@ -59,11 +69,13 @@ module _ {K V : Type 0} (test : K → Bool) where
   -- ---- where e is the first entry whose key passes
 
   module _ (e : K × V) (ys : List (K × V)) (t : test e.0 ≡ true) where
-    pub place_of-here : (xs : List (K × V)) → NonePasses test xs → place_of test (xs ++ e ∷ ys) ≡ Some (length xs)
+    pub place_of-here : (xs : List (K × V)) → NonePasses test xs → place_of test (xs ++ e ∷ ys)
+        ≡ Some (length xs)
     place_of-here [] n = rw t refl
     place_of-here (x ∷ xs) n = rw (n.0, place_of-here xs n.1) (ap Some (add-one (length xs)))
 
-    pub lookup_entry-here : (xs : List (K × V)) → NonePasses test xs → lookup_entry test (xs ++ e ∷ ys) ≡ Some e
+    pub lookup_entry-here : (xs : List (K × V)) → NonePasses test xs
+        → lookup_entry test (xs ++ e ∷ ys) ≡ Some e
     lookup_entry-here [] n = rw t refl
     lookup_entry-here (x ∷ xs) n = rw n.0 (lookup_entry-here xs n.1)
 
@@ -75,7 +87,8 @@ module _ {K V : Type 0} (test : K → Bool) where
     lookup-here [] n = rw t refl
     lookup-here (x ∷ xs) n = rw n.0 (lookup-here xs n.1)
 
-    pub remove_entry-here : (xs : List (K × V)) → NonePasses test xs → remove_entry test (xs ++ e ∷ ys) ≡ xs ++ ys
+    pub remove_entry-here : (xs : List (K × V)) → NonePasses test xs
+        → remove_entry test (xs ++ e ∷ ys) ≡ xs ++ ys
     remove_entry-here [] n = rw t refl
     remove_entry-here (x ∷ xs) n = rw n.0 (ap (λ r. x ∷ r) (remove_entry-here xs n.1))
 
@@ -89,7 +102,8 @@ module _ {K V : Type 0} (test : K → Bool) where
   pub none_from_lookup : (es : List (K × V)) → lookup test es ≡ None → NonePasses test es
   none_from_lookup es l = none_passes_from_lookup test es l
 
-  found_by : (es : List (K × V)) (w : V) → lookup test es ≡ Some w → NonePasses test es ⊎ Stands es → Stands es
+  found_by : (es : List (K × V)) (w : V) → lookup test es ≡ Some w → NonePasses test es
+      ⊎ Stands es → Stands es
   found_by es w l (inl n) = absurd (none-some w (sym (lookup-none es n) ∙ l))
   found_by es w l (inr s) = s
 

@@ -1,10 +1,12 @@
 -- What a walk from both ends gives and leaves.
-use Rattle.std.proofs.Common.{◌≡◌, suc, ◌-◌, List, [], ◌∷◌, ◌++◌, length, Option, None, Some, option_to_list, refl}
+use Rattle.std.proofs.Common.{◌≡◌, suc, ◌-◌, List, [], ◌∷◌, ◌++◌, length, Option, None, Some, option_to_list}
+use Rattle.std.proofs.Common.{refl}
 use Rattle.std.proofs.Common.{sym, ap, ◌∙◌, arith, append_assoc}
 use Rattle.std.specs.List.{cons_option}
 use Rattle.std.specs.Map.Iter.{TakesFirst, TakesLast}
 use Rattle.std.proofs.lemmas.List.{append-nil, length-append, length-take, length-drop, nil_from_length}
-use Rattle.hashlink_model.specs.Walk.{End, Front, Back, first_of, after_first_of, last_of, before_last_of, step_gives}
+use Rattle.hashlink_model.specs.Walk.{End, Front, Back, first_of, after_first_of, last_of, before_last_of}
+use Rattle.hashlink_model.specs.Walk.{step_gives}
 use Rattle.hashlink_model.specs.Walk.{step_leaves, walk_leaves, given_front, given_back}
 
 module _ {X : Type 0} where
@@ -46,7 +48,8 @@ module _ {X : Type 0} where
   cons_append (Some x) xs ys = refl
 
   -- what was given from either end and what is left are the list: each entry comes once
-  pub walk_splits : (ss : List End) (xs : List X) → given_front ss xs ++ (walk_leaves ss xs ++ given_back ss xs) ≡ xs
+  pub walk_splits : (ss : List End) (xs : List X) → given_front ss xs
+      ++ (walk_leaves ss xs ++ given_back ss xs) ≡ xs
   walk_splits [] xs = append-nil xs
   walk_splits (Front ∷ ss) xs =
       cons_append (first_of xs) (given_front ss (after_first_of xs)) _

@@ -1,5 +1,6 @@
 -- The longest end of the entries that a budget allows.
-use Rattle.std.proofs.Common.{◌≡◌, ℕ, ◌≤◌, Bool, true, false, cond, List, [], ◌∷◌, ◌++◌, length, nat_le, Some, refl}
+use Rattle.std.proofs.Common.{◌≡◌, ℕ, ◌≤◌, Bool, true, false, cond, List, [], ◌∷◌, ◌++◌, length, nat_le, Some}
+use Rattle.std.proofs.Common.{refl}
 use Rattle.std.proofs.Common.{◌∙◌, ap, arith, le_refl, leb-true, zero-le, le-leb}
 use Rattle.std.proofs.lemmas.List.{length-append}
 use Rattle.std.specs.Map.{lookup, lookup_entry}
@@ -32,13 +33,16 @@ module _ {K V : Type 0} where
   end_by e es budget true s = ([], refl)
   end_by e es budget false s = (e ∷ s.0, ap (λ r. e ∷ r) s.1)
 
-  pub fitting-end : (es : List (K × (V × ℕ))) (budget : ℕ) → (xs : List (K × (V × ℕ))) × (es ≡ xs ++ fitting es budget)
+  pub fitting-end : (es : List (K × (V × ℕ))) (budget : ℕ) → (xs : List (K × (V × ℕ)))
+      × (es ≡ xs ++ fitting es budget)
   fitting-end [] budget = ([], refl)
-  fitting-end (e ∷ es) budget = end_by e es budget (nat_le (total_weight (e ∷ es)) budget) (fitting-end es budget)
+  fitting-end (e ∷ es) budget = end_by e es budget (nat_le (total_weight (e ∷ es)) budget)
+      (fitting-end es budget)
 
   -- ---- no longer end fits
 
-  pub fitting-whole : (es : List (K × (V × ℕ))) (budget : ℕ) → total_weight es ≤ budget → fitting es budget ≡ es
+  pub fitting-whole : (es : List (K × (V × ℕ))) (budget : ℕ) → total_weight es ≤ budget
+      → fitting es budget ≡ es
   fitting-whole [] budget h = refl
   fitting-whole (e ∷ es) budget h = rw (le-leb (total_weight (e ∷ es)) budget h) refl
 
@@ -52,7 +56,8 @@ module _ {K V : Type 0} where
       → length ys ≤ length (fitting (xs ++ ys) budget)
   fitting-longest [] ys budget h = rw (fitting-whole ys budget h) (le_refl (length ys))
   fitting-longest (x ∷ xs) ys budget h =
-      longest_by x xs ys budget (nat_le (total_weight (x ∷ (xs ++ ys))) budget) (fitting-longest xs ys budget h)
+      longest_by x xs ys budget (nat_le (total_weight (x ∷ (xs ++ ys))) budget)
+      (fitting-longest xs ys budget h)
 
   -- no two keys are equal, as before
   unequal_by : (eq : K → K → Bool) (e : K × (V × ℕ)) (es : List (K × (V × ℕ))) (budget : ℕ) (b : Bool)
@@ -69,7 +74,8 @@ module _ {K V : Type 0} where
       (IsEntries-fitting eq es budget (IsEntries-tail eq e es d))
 
 module _ {K V : Type 0} (eq : K → K → Bool) where
-  pub IsEntries-weighted_put : IsEquivalence eq → (es : List (K × (V × ℕ))) (budget : ℕ) (k : K) (v : V) (weight : ℕ)
+  pub IsEntries-weighted_put : IsEquivalence eq → (es : List (K × (V × ℕ))) (budget : ℕ)
+      (k : K) (v : V) (weight : ℕ)
       → IsEntries eq es
       → IsEntries eq (weighted_put eq es budget k v weight)
   IsEntries-weighted_put laws es budget k v weight d =
@@ -81,7 +87,8 @@ module _ {K V : Type 0} (eq : K → K → Bool) where
   total_weight-weighted_put es budget k v weight = fitting-fits (put eq es k (v, weight) (length es)) budget
 
   -- a pair that is not too heavy stays
-  pub length-weighted_put : (es : List (K × (V × ℕ))) (budget : ℕ) (k : K) (v : V) (weight : ℕ) → weight ≤ budget
+  pub length-weighted_put : (es : List (K × (V × ℕ))) (budget : ℕ) (k : K) (v : V) (weight : ℕ)
+      → weight ≤ budget
       → 1 ≤ length (weighted_put eq es budget k v weight)
   length-weighted_put es budget k v weight l =
       let last = (stored_key eq es k, (v, weight)) ∷ [] in
@@ -107,7 +114,8 @@ module _ {K V : Type 0} (eq : K → K → Bool) (laws : IsEquivalence eq) where
       → lookup_entry (eq q) es ≡ Some e
   lookup_entry-weighted_put q es budget k v weight e d t l =
       let s = fitting-end (put eq es k (v, weight) (length es)) budget in
-      lookup_entry-put_remaining eq laws q es k (v, weight) s.0 (weighted_put eq es budget k v weight) d s.1 e t l
+      lookup_entry-put_remaining eq laws q es k (v, weight) s.0
+      (weighted_put eq es budget k v weight) d s.1 e t l
 
 -- ---- the steps
 
@@ -116,7 +124,8 @@ module _ {K V S : Type 0} (eq : K → K → Bool) (old new : WeightedState K V S
   pub weighted_entries : WeightedInserts eq old new k v weight w
       → new.map.entries ≡ weighted_put eq old.map.entries old.budget k v weight
   weighted_entries s =
-      s.keeps.entries ∙ ap (λ es. fitting es old.budget) (put_entries eq old.map s.between k (v, weight) w s.inserts)
+      s.keeps.entries ∙ ap (λ es. fitting es old.budget)
+      (put_entries eq old.map s.between k (v, weight) w s.inserts)
 
   pub weighted_answer : WeightedInserts eq old new k v weight w → w ≡ lookup (eq k) old.map.entries
   weighted_answer s = put_answer eq old.map s.between k (v, weight) w s.inserts

@@ -1,5 +1,6 @@
 -- Set algebra: what two sets give together, as lists of elements, and the size hints of the lazy walks.
-use Rattle.std.specs.Prelude.{ℕ, ◌+◌, ◌^◌, Bool, true, false, not, cond, List, [], ◌∷◌, ◌++◌, length, Option, Some}
+use Rattle.std.specs.Prelude.{ℕ, ◌+◌, ◌^◌, Bool, true, false, not, cond, List, [], ◌∷◌, ◌++◌, length, Option}
+use Rattle.std.specs.Prelude.{Some}
 use Rattle.std.specs.Prelude.{None, nat_lt, filter}
 use Rattle.std.specs.Set.{is_member}
 
@@ -50,8 +51,8 @@ module _ {T : Type 0} where
   abbrev pub left_to_give : (T → Bool) → (T → Bool) → PairWalk T → List T
   left_to_give p q w = filter p w.left ++ filter q w.right
 
-  -- what a step gives and leaves where the left one gave o and has xs to look at: the right one's next where it gave
-  -- none
+  -- what a step gives and leaves where the left one gave o and has xs to look at: the right one's next where
+  -- it gave none
   abbrev pub left_or_right : (T → Bool) → List T → Option T → List T → Option T × PairWalk T
   left_or_right q ys (Some x) xs = (Some x, record { left = xs; right = ys })
   left_or_right q ys None xs = ((first_passing q ys).0, record { left = xs; right = (first_passing q ys).1 })

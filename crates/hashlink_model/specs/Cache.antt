@@ -1,5 +1,6 @@
 -- Caches: a map and how many entries it may have.
-use Rattle.std.specs.Prelude.{◌≡◌, ℕ, ◌+◌, ◌-◌, ◌≤◌, ◌<◌, Bool, cond, List, [], ◌∷◌, length, drop, if◌then◌else◌}
+use Rattle.std.specs.Prelude.{◌≡◌, ℕ, ◌+◌, ◌-◌, ◌≤◌, ◌<◌, Bool, cond, List, [], ◌∷◌, length, drop}
+use Rattle.std.specs.Prelude.{if◌then◌else◌}
 use Rattle.std.specs.Prelude.{nat_lt, is_some}
 use Rattle.std.specs.Prelude.{Option, Some, Result, Ok, MatchOption, MatchResult, fold}
 use Rattle.std.specs.Map.{lookup}
@@ -52,7 +53,8 @@ module _ {K V : Type 0} where
 
 module _ {K V S : Type 0} where
   -- a step of the map, at the same capacity
-  pub record OnMap (step : MapState K V S → MapState K V S → Type 0) (old new : CacheState K V S) : Type 0 where
+  pub record OnMap (step : MapState K V S → MapState K V S → Type 0)
+      (old new : CacheState K V S) : Type 0 where
     pub map : step old.map new.map
     pub cap : new.cap ≡ old.cap
 
@@ -91,19 +93,22 @@ module _ {K V S : Type 0} where
 
   -- a hit of `get_mut` by a test, once w was written through what it lent
   abbrev pub CacheGetsMatchAndWrites : (K → Bool) → CacheState K V S → CacheState K V S → V → Type 0
-  CacheGetsMatchAndWrites test old new w = OnMap (λ a b. MovesMatchAndWrites test a b (length a.entries) w) old new
+  CacheGetsMatchAndWrites test old new w =
+      OnMap (λ a b. MovesMatchAndWrites test a b (length a.entries) w) old new
 
   module _ (eq : K → K → Bool) where
     -- the map's insert of the pair at the length, by what it answers where it is not refused
     abbrev pub InsertsLast : K → V → Option V → MapState K V S → MapState K V S → Type 0
     InsertsLast k v w old new =
-        MatchOption w (AddsEntry eq old new k v (length old.entries)) (PutsEntry eq old new k v (length old.entries))
+        MatchOption w (AddsEntry eq old new k v (length old.entries))
+        (PutsEntry eq old new k v (length old.entries))
 
     -- the cache's insert, by its answer: a refusal drops nothing
     abbrev pub CacheInserts : CacheState K V S → CacheState K V S → K → V → Result (Option V) (K × V) → Type 0
     CacheInserts old new k v r =
         OnMap
-        (λ a b. MatchResult r (λ w. InsertsThenFits (InsertsLast k v w) old.cap a b) (RefusesEntry eq a b k v))
+        (λ a b. MatchResult r (λ w. InsertsThenFits (InsertsLast k v w) old.cap a b)
+        (RefusesEntry eq a b k v))
         old new
 
     -- `get`: a hit moves its entry last, a miss changes nothing

@@ -14,9 +14,11 @@ module _ {K V : Type 0} where
   entries_cmp cmpk cmpv = slice_cmp (λ p q. ordering_then (cmpk p.0 q.0) (cmpv p.1 q.1))
 
   -- the same with comparisons that may have no answer
-  abbrev pub entries_partial_cmp : (K → K → Option Ordering) → (V → V → Option Ordering) → List (K × V) → List (K × V)
+  abbrev pub entries_partial_cmp : (K → K → Option Ordering) → (V → V → Option Ordering)
+      → List (K × V) → List (K × V)
       → Option Ordering
-  entries_partial_cmp cmpk cmpv = slice_partial_cmp (λ p q. partial_ordering_then (cmpk p.0 q.0) (cmpv p.1 q.1))
+  entries_partial_cmp cmpk cmpv = slice_partial_cmp
+      (λ p q. partial_ordering_then (cmpk p.0 q.0) (cmpv p.1 q.1))
 
   -- key, value, key, value in order, and no length
   abbrev pub entries_hash_input : {W : Type 0} → (K → List W) → (V → List W) → List (K × V) → List W

@@ -16,8 +16,8 @@ pub record CursorState (K V S : Type 0) : Type 0 where
   pub map : MapState K V S
   pub place : ℕ
 
--- where a cursor at the place i of the list `old` stands in the list `new`: on its entry, wherever that is now, or on
--- the guard
+-- where a cursor at the place i of the list `old` stands in the list `new`: on its entry, wherever that is
+-- now, or on the guard
 abbrev pub place_kept : {K V : Type 0} → (K → K → Bool) → List (K × V) → List (K × V) → ℕ → ℕ
 place_kept eq old new i = option_map_or (λ e. place_or_end eq new e.0) (slice_get old i) (length new)
 
@@ -46,16 +46,18 @@ module _ {K V S : Type 0} where
   with_value_in c i w = record c { map = with_value c.map i w }
 
   module _ (eq : K → K → Bool) where
-    -- a cursor's insert at the place b, by its answer: the map's insert there, after which the cursor stands on its
-    -- entry or on the guard
+    -- a cursor's insert at the place b, by its answer: the map's insert there, after which the cursor stands
+    -- on its entry or on the guard
     pub record CursorInserts (old new : CursorState K V S) (k : K) (v : V) (b : ℕ)
         (r : Result (Option V) (K × V)) : Type 0 where
       pub map : Inserts eq old.map new.map k v b r
       pub place : new.place ≡ place_kept eq old.map.entries new.map.entries old.place
 
     -- an insert directly before the cursor's place, and one directly after it
-    abbrev pub InsertsBefore : CursorState K V S → CursorState K V S → K → V → Result (Option V) (K × V) → Type 0
+    abbrev pub InsertsBefore : CursorState K V S → CursorState K V S → K → V
+        → Result (Option V) (K × V) → Type 0
     InsertsBefore old new k v r = CursorInserts old new k v old.place r
 
-    abbrev pub InsertsAfter : CursorState K V S → CursorState K V S → K → V → Result (Option V) (K × V) → Type 0
+    abbrev pub InsertsAfter : CursorState K V S → CursorState K V S → K → V
+        → Result (Option V) (K × V) → Type 0
     InsertsAfter old new k v r = CursorInserts old new k v (place_next old) r

@@ -1,7 +1,8 @@
 -- The entries of a map: a list of pairs, front first, whose keys are pairwise unequal.
--- The equality `eq` of the keys is any equivalence: equal keys may be different objects, so it matters which one the
--- list keeps.
-use Rattle.std.specs.Prelude.{◌≡◌, IsTrue, ℕ, zero, suc, ◌-◌, ◌+◌, Bool, List, [], ◌∷◌, length, Option, None, Some, cond}
+-- The equality `eq` of the keys is any equivalence: equal keys may be different objects, so it matters which
+-- one the list keeps.
+use Rattle.std.specs.Prelude.{◌≡◌, IsTrue, ℕ, zero, suc, ◌-◌, ◌+◌, Bool, List, [], ◌∷◌, length, Option, None}
+use Rattle.std.specs.Prelude.{Some, cond}
 use Rattle.std.specs.Prelude.{if◌then◌else◌, nat_lt, unwrap_or, insert, remove, slice_get, fold}
 use Rattle.std.specs.List.{IsDistinct}
 use Rattle.std.specs.Option.{option_map, option_map_or}
@@ -11,8 +12,8 @@ use Rattle.std.specs.Map.{keys_of, lookup_key, remove_entry}
 abbrev pub IsKeyTest : {K : Type 0} → (K → K → Bool) → (K → Bool) → Type 0
 IsKeyTest eq test = (x y : _) → IsTrue (test x) → test y ≡ eq x y
 
--- where the place b is once the entry at the place j is taken out: one place nearer to the front where it stood
--- before b
+-- where the place b is once the entry at the place j is taken out: one place nearer to the front where it
+-- stood before b
 abbrev pub place_left : ℕ → ℕ → ℕ
 place_left j b = if nat_lt j b then b - 1 else b
 
@@ -37,8 +38,8 @@ module _ {K V : Type 0} where
   abbrev pub moved_at : List (K × V) → ℕ → ℕ → List (K × V)
   moved_at es j b = option_map_or (λ e. insert (remove es j) (place_left j b) e) (slice_get es j) es
 
-  -- the entries after the first one whose key passes the test is moved to the place b; where none passes the same
-  -- entries
+  -- the entries after the first one whose key passes the test is moved to the place b; where none passes the
+  -- same entries
   abbrev pub moved_match : (K → Bool) → List (K × V) → ℕ → List (K × V)
   moved_match test es b = option_map_or (λ j. moved_at es j b) (place_of test es) es
 
@@ -59,8 +60,8 @@ module _ {K V : Type 0} where
     abbrev pub place_without : List (K × V) → K → ℕ → ℕ
     place_without es k b = option_map_or (λ j. place_left j b) (place_of (eq k) es) b
 
-    -- the entries after the key is put at the place b with the value: a key that is there moves to b and keeps its
-    -- key object
+    -- the entries after the key is put at the place b with the value: a key that is there moves to b and
+    -- keeps its key object
     abbrev pub put : List (K × V) → K → V → ℕ → List (K × V)
     put es k v b = insert (without es k) (place_without es k b) (stored_key es k, v)
 

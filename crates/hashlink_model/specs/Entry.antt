@@ -38,8 +38,8 @@ module _ {K V : Type 0} where
   abbrev pub insert_entry : List (K × V) → ℕ → K → V → List (K × V)
   insert_entry es j h v = moved_at (replace_entry es j h v) j (length es)
 
-  -- `or_insert`, by the key: one that is there moves last with the value that stands, an absent one goes last with
-  -- the value given
+  -- `or_insert`, by the key: one that is there moves last with the value that stands, an absent one goes last
+  -- with the value given
   abbrev pub or_insert : (K → K → Bool) → List (K × V) → K → V → List (K × V)
   or_insert eq es k v = put eq es k (option_map_or (λ w. w) (lookup (eq k) es) v) (length es)
 
@@ -97,6 +97,7 @@ module _ {K V S : Type 0} where
     IsEntry e = e.place ≡ place_of (eq e.key) e.map.entries
 
     -- a vacant entry's insert, by its answer: the key goes last with the value, or the pair is handed back
-    abbrev pub VacantInserts : {A : Type 0} → MapState K V S → MapState K V S → K → V → Result A (K × V) → Type 0
+    abbrev pub VacantInserts : {A : Type 0} → MapState K V S → MapState K V S → K → V
+        → Result A (K × V) → Type 0
     VacantInserts old new k v r =
         MatchResult r (λ _. AddsEntry eq old new k v (length old.entries)) (RefusesEntry eq old new k v)

@@ -1,5 +1,6 @@
 -- Histories: the keys that were used, in order, and what any rule of replacement can make of them.
-use Rattle.std.specs.Prelude.{◌≡◌, ℕ, ◌+◌, ◌-◌, ◌≤◌, max, drop, Bool, true, ◌||◌, ◌&&◌, cond, nat_lt, ◌++◌, List, []}
+use Rattle.std.specs.Prelude.{◌≡◌, ℕ, ◌+◌, ◌-◌, ◌≤◌, max, drop, Bool, true, ◌||◌, ◌&&◌, cond, nat_lt, ◌++◌}
+use Rattle.std.specs.Prelude.{List, []}
 use Rattle.std.specs.Prelude.{◌∷◌, length}
 use Rattle.std.specs.List.{AllByRecursion, AllZip, after_last}
 use Rattle.std.specs.Set.{is_member, unique_keys, distinct_count}
@@ -17,8 +18,8 @@ module _ {K : Type 0} (eq : K → K → Bool) where
   abbrev pub HoldsRecent : {V : Type 0} → ℕ → List K → List (K × V) → Type 0
   HoldsRecent c used es = AllZip (λ e k. eq e.0 k ≡ true) es (recent_keys c used)
 
-  -- what a schedule of h places may hold after k was used, where it held `before`: k, else only keys that it held,
-  -- and at most h
+  -- what a schedule of h places may hold after k was used, where it held `before`: k, else only keys that it
+  -- held, and at most h
   pub record MayHold (h : ℕ) (before : List K) (k : K) (after : List K) : Type 0 where
     pub size : length after ≤ h
     pub holds : is_member eq after k ≡ true
@@ -44,12 +45,13 @@ module _ {K : Type 0} (eq : K → K → Bool) where
   abbrev pub misses : List K → List (List K) → ℕ
   misses used held = misses_from [] used held
 
-  -- how many keys of the history a cache of c places did not hold when they came, where those of `before` were used
-  -- first
+  -- how many keys of the history a cache of c places did not hold when they came, where those of `before`
+  -- were used first
   abbrev pub cache_misses_from : ℕ → List K → List K → ℕ
   cache_misses_from c before [] = 0
   cache_misses_from c before (k ∷ used) =
-      cond (is_member eq before k && nat_lt (reuse_distance before k) c) 0 1 + cache_misses_from c (before ++ k ∷ [])
+      cond (is_member eq before k && nat_lt (reuse_distance before k) c) 0 1 + cache_misses_from c
+      (before ++ k ∷ [])
       used
 
   abbrev pub cache_misses : ℕ → List K → ℕ
@@ -59,7 +61,8 @@ module _ {K : Type 0} (eq : K → K → Bool) where
 pub data Passed : Type 0 where
   Length Shrunk : ℕ → Passed
 
--- how many nodes a run needs at most, from n on: the greatest length that it passed, and a shrink starts it anew
+-- how many nodes a run needs at most, from n on: the greatest length that it passed, and a shrink starts it
+-- anew
 abbrev pub peak : ℕ → List Passed → ℕ
 peak n [] = n
 peak n (Length m ∷ ps) = peak (max n m) ps

@@ -17,8 +17,8 @@ pub record IsEndOf {K V : Type 0} (R : K × V → K × V → Type 0) (small larg
   pub is : large ≡ front ++ back
   pub alike : AllZip R small back
 
--- the answers of the two caches to one call: where the smaller one found something the larger one did, and it found
--- the same
+-- the answers of the two caches to one call: where the smaller one found something the larger one did, and it
+-- found the same
 abbrev pub AlsoFinds : {V : Type 0} → Option V → Option V → Type 0
 AlsoFinds small large = is_some small ≡ true → is_some large ≡ true
 

@@ -1,5 +1,5 @@
--- The definitions at keys that are a text and a number and are compared by the text alone, so that equal keys may be
--- different objects. Texts are numbered.
+-- The definitions at keys that are a text and a number and are compared by the text alone, so that equal keys
+-- may be different objects. Texts are numbered.
 use Rattle.std.specs.Prelude.{ℕ, Bool, List, length, nat_eq}
 use Rattle.hashlink_model.specs.Cache as cache
 use Rattle.hashlink_model.specs.Entries as entries

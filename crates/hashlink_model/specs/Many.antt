@@ -1,6 +1,7 @@
--- Many items in a row, each given to the same step: `step old new item r` is what the step says of one item and its
--- answer.
-use Rattle.std.specs.Prelude.{◌≡◌, ℕ, ◌-◌, ◌^◌, min, List, [], ◌∷◌, ◌++◌, length, Bool, Option, Result, Ok, Err}
+-- Many items in a row, each given to the same step: `step old new item r` is what the step says of one item
+-- and its answer.
+use Rattle.std.specs.Prelude.{◌≡◌, ℕ, ◌-◌, ◌^◌, min, List, [], ◌∷◌, ◌++◌, length, Bool, Option, Result, Ok}
+use Rattle.std.specs.Prelude.{Err}
 use Rattle.std.specs.Prelude.{MatchResult}
 use Rattle.hashlink_model.specs.MapState.{MapState, Inserts, empty_map}
 
@@ -11,8 +12,8 @@ module _ {State Item A : Type 0} (step : State → State → Item → Result A I
   AcceptsAll old (i ∷ items) new =
       (between : State) × (a : A) × step old between i (Ok a) × AcceptsAll between items new
 
-  -- one item was refused and handed back: those before it were accepted in turn, and `left` are those after it. The
-  -- count of the
+  -- one item was refused and handed back: those before it were accepted in turn, and `left` are those after
+  -- it. The count of the
   -- accepted ones stops at the greatest `u64`
   pub record StopsAt (old : State) (items : List Item) (new : State) (taken : ℕ) (back : Item)
       (left : List Item) : Type 0 where
@@ -30,7 +31,8 @@ module _ {State Item A : Type 0} (step : State → State → Item → Result A I
       MatchResult r (λ _. AcceptsAll old items new) (λ e. StopsAt old items new e.0 e.1 e.2)
 
 -- a map with the hasher s that is made of the items in turn, by a map's step
-abbrev pub MadeFrom : {K V S Item A : Type 0} → (MapState K V S → MapState K V S → Item → Result A Item → Type 0)
+abbrev pub MadeFrom : {K V S Item A : Type 0}
+    → (MapState K V S → MapState K V S → Item → Result A Item → Type 0)
     → List Item → S → MapState K V S → Type 0
 MadeFrom step items s m = AcceptsAll step (empty_map s) items m
 

@@ -1,13 +1,14 @@
--- What a contract sees of a map, and the steps between two such states. A call's contract names the step that it
--- takes.
-use Rattle.std.specs.Prelude.{◌≡◌, ℕ, ◌-◌, ◌+◌, ◌*◌, ◌≤◌, max, Bool, List, [], length, Option, None, Some, Result}
+-- What a contract sees of a map, and the steps between two such states. A call's contract names the step that
+-- it takes.
+use Rattle.std.specs.Prelude.{◌≡◌, ℕ, ◌-◌, ◌+◌, ◌*◌, ◌≤◌, max, Bool, List, [], length, Option, None, Some}
+use Rattle.std.specs.Prelude.{Result}
 use Rattle.std.specs.Prelude.{MatchOption, MatchResult, insert, remove, refl}
 use Rattle.std.specs.Coded.{Coded, code_by, coded×, coded_list, coded_ℕ}
 use Rattle.std.specs.Map.{lookup}
 use Rattle.hashlink_model.specs.Entries.{put, moved_at, set_value_at, set_key_at}
 
--- the entries, how many spare nodes there are, for how many nodes there is room, how many links of nodes were stored
--- so far, and the hasher
+-- the entries, how many spare nodes there are, for how many nodes there is room, how many links of nodes were
+-- stored so far, and the hasher
 pub record MapState (K V S : Type 0) : Type 0 where
   pub entries : List (K × V)
   pub spare : ℕ
@@ -20,7 +21,8 @@ pub record StoresAtMost (most old new : ℕ) : Type 0 where
   pub grows : old ≤ new
   pub bound : new ≤ old + most
 
--- a room that is to hold n nodes: as it was where it holds them, else at most twice as much as they need, or 8
+-- a room that is to hold n nodes: as it was where it holds them, else at most twice as much as they need, or
+-- 8
 pub record RoomFor (n old new : ℕ) : Type 0 where
   pub grows : old ≤ new
   pub same : n ≤ old → new ≡ old
@@ -51,8 +53,8 @@ module _ {K V S : Type 0} where
 
   -- ---- what may become of a state, by the entries `es` that it has now
 
-  -- as many nodes are spare as before, and `most` links were stored at most: a move, or a key or a value that was
-  -- written
+  -- as many nodes are spare as before, and `most` links were stored at most: a move, or a key or a value that
+  -- was written
   pub record Changes (old new : MapState K V S) (es : List (K × V)) (most : ℕ) : Type 0 where
     pub entries : new.entries ≡ es
     pub spare : new.spare ≡ old.spare
@@ -130,8 +132,8 @@ module _ {K V S : Type 0} where
       pub old_value : lookup (eq k) old.entries ≡ Some w
       pub puts : Changes old new (put eq old.entries k v b) 6
 
-    -- an insert that was refused, which only the rule allows: the pair is handed back, and no entry and no spare node
-    -- changed
+    -- an insert that was refused, which only the rule allows: the pair is handed back, and no entry and no
+    -- spare node changed
     pub record RefusesEntry (old new : MapState K V S) (k : K) (v : V) (pair : K × V) : Type 0 where
       pub may_refuse : MayRefuse old k
       pub handed_back : pair ≡ (k, v)

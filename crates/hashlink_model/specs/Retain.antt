@@ -1,5 +1,5 @@
--- Retention. T f k v b w g says that a call of the closure f at the key k and the value v may answer b, leave the
--- value w, and
+-- Retention. T f k v b w g says that a call of the closure f at the key k and the value v may answer b, leave
+-- the value w, and
 -- leave the closure as g.
 use Rattle.std.specs.Prelude.{◌≡◌, Bool, List, [], ◌∷◌, cond, IsPermutation}
 use Rattle.std.specs.List.{filter_map}
@@ -12,8 +12,8 @@ abbrev pub in_order_of : {K V : Type 0} → (K → K → Bool) → List (K × V)
 in_order_of eq es kept = filter_map (λ e. lookup_entry (eq e.0) kept) es
 
 module _ {F K V : Type 0} (T : F → K → V → Bool → V → F → Type 0) where
-  -- f was called once at each entry, in the list's order, and left as g; `kept` are the entries at which it answered
-  -- true, with the
+  -- f was called once at each entry, in the list's order, and left as g; `kept` are the entries at which it
+  -- answered true, with the
   -- values that it left
   abbrev pub KeepsInOrder : F → List (K × V) → List (K × V) → F → Type 0
   KeepsInOrder f [] kept g = (kept ≡ []) × (g ≡ f)
@@ -29,13 +29,15 @@ module _ {F K V : Type 0} (T : F → K → V → Bool → V → F → Type 0) wh
     pub called : KeepsInOrder f order kept g
     pub entries : new ≡ in_order_of eq es kept
 
-  -- the steps of the two retains: what is kept, by the calls of f, which ends as g; each node that left is spare
+  -- the steps of the two retains: what is kept, by the calls of f, which ends as g; each node that left is
+  -- spare
   pub record RetainsInOrder {S : Type 0} (f : F) (old new : MapState K V S) (g : F) : Type 0 where
     pub kept : List (K × V)
     pub calls : KeepsInOrder f old.entries kept g
     pub keeps : KeepsOnly old new kept
 
-  pub record Retains {S : Type 0} (eq : K → K → Bool) (f : F) (old new : MapState K V S) (g : F) : Type 0 where
+  pub record Retains {S : Type 0} (eq : K → K → Bool) (f : F) (old new : MapState K V S)
+      (g : F) : Type 0 where
     pub kept : List (K × V)
     pub calls : KeepsInSomeOrder eq f old.entries kept g
     pub keeps : KeepsOnly old new kept

@@ -21,13 +21,13 @@ module _ {T : Type 0} where
   pairs_of ts = map (λ t. (t, tt)) ts
 
   module _ (eq : T → T → Bool) where
-    -- the elements after one is put at the place b: an equal one that is there moves to b and stays the object that
-    -- it is
+    -- the elements after one is put at the place b: an equal one that is there moves to b and stays the
+    -- object that it is
     abbrev pub put_element : List T → T → ℕ → List T
     put_element ts t b = keys_of (put eq (pairs_of ts) t tt b)
 
-    -- the elements after `replace`: an equal one that is there leaves, and the one given takes its place; an absent
-    -- one goes last
+    -- the elements after `replace`: an equal one that is there leaves, and the one given takes its place; an
+    -- absent one goes last
     abbrev pub replaced : List T → T → List T
     replaced ts t = cond (is_member eq ts t) (swap_key (eq t) ts t) (ts ++ t ∷ [])
 
@@ -36,8 +36,8 @@ module _ {T : Type 0} where
     stored_element ts t = unwrap_or (find (eq t) ts) t
 
 module _ {T S : Type 0} (eq : T → T → Bool) where
-  -- `insert`, by its answer, which says whether the element was new: it goes last, and one that was there stays the
-  -- object that it is
+  -- `insert`, by its answer, which says whether the element was new: it goes last, and one that was there
+  -- stays the object that it is
   abbrev pub SetInserts : SetState T S → SetState T S → T → Result Bool T → Type 0
   SetInserts old new t r =
       MatchResult r
@@ -64,6 +64,8 @@ module _ {T S : Type 0} (eq : T → T → Bool) where
       (λ o. MatchOption o (AddsEntry eq old new t tt (length old.entries)) (λ x. SwapsElement old new t x))
       (λ x. RefusesEntry eq old new t tt (x, tt))
 
--- the calls of a closure that sees an element alone, as calls at an entry: a retain of a set is the map's with these
-abbrev pub at_element : {F T : Type 0} → (F → T → Bool → F → Type 0) → F → T → Unit {0} → Bool → Unit {0} → F → Type 0
+-- the calls of a closure that sees an element alone, as calls at an entry: a retain of a set is the map's
+-- with these
+abbrev pub at_element : {F T : Type 0} → (F → T → Bool → F → Type 0) → F → T → Unit {0} → Bool
+    → Unit {0} → F → Type 0
 at_element U f t v b w g = U f t b g

@@ -1,5 +1,5 @@
--- The steps of a map's calls, by their answers, and what they are made of: changes within the list, and entries that
--- are taken away.
+-- The steps of a map's calls, by their answers, and what they are made of: changes within the list, and
+-- entries that are taken away.
 use Rattle.std.specs.Prelude.{◌≡◌, ℕ, ◌+◌, ◌-◌, ◌*◌, ◌≤◌, max, Bool, List, [], length}
 use Rattle.std.specs.Prelude.{Option, Some, MatchOption, Result, MatchResult, IsOk, OnOk, OnErr}
 use Rattle.std.specs.Map.{lookup, lookup_entry, remove_entry, set_value}
@@ -26,8 +26,8 @@ module _ {K V S : Type 0} where
   abbrev pub Clears : MapState K V S → MapState K V S → Type 0
   Clears old new = Changes old new [] (3 * length old.entries)
 
-  -- a pop from the front, and one from the back: the entry that leaves is the answer, and of an empty map nothing
-  -- changes
+  -- a pop from the front, and one from the back: the entry that leaves is the answer, and of an empty map
+  -- nothing changes
   pub record PopsFront (old new : MapState K V S) (r : Option (K × V)) : Type 0 where
     pub answer : r ≡ first_of old.entries
     pub step : MatchOption r (new ≡ old) (λ _. Removes old new (after_first_of old.entries))
@@ -36,8 +36,8 @@ module _ {K V S : Type 0} where
     pub answer : r ≡ last_of old.entries
     pub step : MatchOption r (new ≡ old) (λ _. Removes old new (before_last_of old.entries))
 
-  -- a reserve for n more entries: the room alone grows, and after an Ok it is enough. Where it was enough before, the
-  -- reserve
+  -- a reserve for n more entries: the room alone grows, and after an Ok it is enough. Where it was enough
+  -- before, the reserve
   -- is not refused and changes nothing, and nor does one that is refused
   pub record Reserves {E : Type 0} (old new : MapState K V S) (n : ℕ) (r : Result (Unit {0}) E) : Type 0 where
     pub grows : Grows n old new
@@ -45,8 +45,8 @@ module _ {K V S : Type 0} where
     pub refused : OnErr r (new ≡ old)
     pub was_enough : length old.entries + n ≤ old.room → IsOk r × (new ≡ old)
 
-  -- a shrink gives the spare nodes back, refused or not, and the room does not grow: after an Ok it is the length. A
-  -- refused one keeps the room; of an empty map it is not refused and leaves no room
+  -- a shrink gives the spare nodes back, refused or not, and the room does not grow: after an Ok it is the
+  -- length. A refused one keeps the room; of an empty map it is not refused and leaves no room
   pub record Shrinks {E : Type 0} (old new : MapState K V S) (r : Result (Unit {0}) E) : Type 0 where
     pub entries : new.entries ≡ old.entries
     pub spare : new.spare ≡ 0
@@ -58,7 +58,8 @@ module _ {K V S : Type 0} where
     pub link_writes : new.link_writes ≡ old.link_writes
     pub hasher : new.hasher ≡ old.hasher
 
-  -- a map that is made with room for n entries and with the hasher s: without entries, and for none without memory
+  -- a map that is made with room for n entries and with the hasher s: without entries, and for none without
+  -- memory
   pub record IsMadeWith (n : ℕ) (s : S) (m : MapState K V S) : Type 0 where
     pub entries : m.entries ≡ []
     pub spare : m.spare ≡ 0
@@ -70,11 +71,13 @@ module _ {K V S : Type 0} where
 
   -- ---- at the first entry whose key passes a test, as a query's
 
-  -- the state with v as its value, as a write through what was lent leaves it; where none passes the same state
+  -- the state with v as its value, as a write through what was lent leaves it; where none passes the same
+  -- state
   abbrev pub with_match_value : (K → Bool) → MapState K V S → V → MapState K V S
   with_match_value test m v = record m { entries = set_value test m.entries v }
 
-  -- it moves to the place b with the value that stands, which is the answer; where none passes nothing changes
+  -- it moves to the place b with the value that stands, which is the answer; where none passes nothing
+  -- changes
   pub record MovesMatch (test : K → Bool) (old new : MapState K V S) (b : ℕ) (r : Option V) : Type 0 where
     pub answer : r ≡ lookup test old.entries
     pub step : MatchOption r (new ≡ old) (λ _. Changes old new (moved_match test old.entries b) 6)
@@ -91,12 +94,13 @@ module _ {K V S : Type 0} where
     pub step : MatchOption r (new ≡ old) (λ _. Removes old new (remove_entry test old.entries))
 
   module _ (eq : K → K → Bool) where
-    -- the state with v as the value of the key, as a write through what was lent leaves it; of an absent key the same
-    -- state
+    -- the state with v as the value of the key, as a write through what was lent leaves it; of an absent key
+    -- the same state
     abbrev pub with_value_of : MapState K V S → K → V → MapState K V S
     with_value_of m k v = with_match_value (eq k) m v
 
-    -- the key that was there keeps its place and took the value v, and its old value was w. No link was stored
+    -- the key that was there keeps its place and took the value v, and its old value was w. No link was
+    -- stored
     pub record WritesEntry (old new : MapState K V S) (k : K) (v w : V) : Type 0 where
       pub old_value : lookup (eq k) old.entries ≡ Some w
       pub writes : Changes old new (set_value (eq k) old.entries v) 0
@@ -108,8 +112,8 @@ module _ {K V S : Type 0} where
         (λ w. MatchOption w (AddsEntry eq old new k v (length old.entries)) (WritesEntry old new k v))
         (RefusesEntry eq old new k v)
 
-    -- a key that is there moves to the place b with the value that stands, which is the answer; of an absent key
-    -- nothing changes
+    -- a key that is there moves to the place b with the value that stands, which is the answer; of an absent
+    -- key nothing changes
     abbrev pub Moves : MapState K V S → MapState K V S → K → ℕ → Option V → Type 0
     Moves old new k b r = MovesMatch (eq k) old new b r
 

@@ -1,5 +1,6 @@
 -- Entries whose values carry a weight, and the longest end of them that a budget allows.
-use Rattle.std.specs.Prelude.{◌≡◌, ◌≤◌, ◌<◌, Option, ℕ, Bool, List, [], ◌∷◌, length, sum_by, if◌then◌else◌, nat_le}
+use Rattle.std.specs.Prelude.{◌≡◌, ◌≤◌, ◌<◌, Option, ℕ, Bool, List, [], ◌∷◌, length, sum_by, if◌then◌else◌}
+use Rattle.std.specs.Prelude.{nat_le}
 use Rattle.hashlink_model.specs.Cache.{InsertsLast}
 use Rattle.hashlink_model.specs.Entries.{put}
 use Rattle.hashlink_model.specs.MapState.{MapState, RefusesEntry}
@@ -30,11 +31,11 @@ pub record IsTooHeavy {K V S : Type 0} (old new : WeightedState K V S) (weight :
   pub unchanged : new ≡ old
 
 module _ {K V S : Type 0} (eq : K → K → Bool) where
-  -- an insert that was accepted: the map's insert of the pair with its weight, and then the fitting end is kept; w is
-  -- the old value
+  -- an insert that was accepted: the map's insert of the pair with its weight, and then the fitting end is
+  -- kept; w is the old value
   -- with its weight
-  pub record WeightedInserts (old new : WeightedState K V S) (k : K) (v : V) (weight : ℕ) (w : Option (V × ℕ)) : Type
-      0 where
+  pub record WeightedInserts (old new : WeightedState K V S) (k : K) (v : V) (weight : ℕ)
+      (w : Option (V × ℕ)) : Type 0 where
     pub not_too_heavy : weight ≤ old.budget
     pub between : MapState K (V × ℕ) S
     pub inserts : InsertsLast eq k (v, weight) w old.map between

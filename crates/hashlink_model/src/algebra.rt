@@ -6,9 +6,11 @@ ghost use Rattle.std.specs.List.{IsDistinct};
 ghost use Rattle.std.specs.Option.{IsSomeAnd};
 ghost use Rattle.std.specs.Map.Iter.{TakesFirst};
 ghost use Rattle.std.specs.Set.{is_member, IsUnion, IsIntersection, IsDifference, IsSymmetricDifference};
-ghost use Rattle.hashlink_model.specs.Algebra.{PairWalk, first_passing, difference_of, intersection_of, union_of};
+ghost use Rattle.hashlink_model.specs.Algebra.{PairWalk, first_passing, difference_of, intersection_of};
+ghost use Rattle.hashlink_model.specs.Algebra.{union_of};
 ghost use Rattle.hashlink_model.specs.Algebra.{symmetric_difference_of, is_subset, is_disjoint, left_to_give};
-ghost use Rattle.hashlink_model.specs.Algebra.{pair_step, at_most_both, union_hint, symmetric_difference_hint};
+ghost use Rattle.hashlink_model.specs.Algebra.{pair_step, at_most_both, union_hint};
+ghost use Rattle.hashlink_model.specs.Algebra.{symmetric_difference_hint};
 ghost use Rattle.hashlink_model.specs.Algebra.{part_hint};
 ghost use Rattle.hashlink_model.specs.Numbers as numbers;
 
@@ -27,8 +29,8 @@ pub fn hints_along_one_side()
     ensures none { part_hint {T = ℕ} [] ≡ (0, Some 0) }
 {}
 
-/// The size hints along the union of `1 2` and `3 1`: at the start, after one step, and at its end before and after
-/// the step that gives None.
+/// The size hints along the union of `1 2` and `3 1`: at the start, after one step, and at its end before and
+/// after the step that gives None.
 pub fn hints_along_a_union()
     ensures start { union_hint {T = ℕ} (record { left = 1 ∷ 2 ∷ []; right = 3 ∷ 1 ∷ [] }) ≡ (2, Some 4) }
     ensures step { numbers.union_step (1 ∷ 2 ∷ []) (record { left = 1 ∷ 2 ∷ []; right = 3 ∷ 1 ∷ [] })
@@ -48,7 +50,8 @@ pub fn hints_along_a_union()
 
 /// The members are those that the words say.
 pub fn members_of_set_algebra<T>()
-    ensures union { (eq : T → T → Bool) → IsEquivalence eq → (xs ys : List T) → IsUnion eq xs ys (union_of eq xs ys) }
+    ensures union { (eq : T → T → Bool) → IsEquivalence eq → (xs ys : List T) → IsUnion eq xs ys
+        (union_of eq xs ys) }
     ensures intersection { (eq : T → T → Bool) → IsEquivalence eq → (xs ys : List T)
         → IsIntersection eq xs ys (intersection_of eq xs ys) }
     ensures difference { (eq : T → T → Bool) → IsEquivalence eq → (xs ys : List T)
@@ -59,20 +62,23 @@ pub fn members_of_set_algebra<T>()
 
 /// No two elements of what two sets give together are equal.
 pub fn set_algebra_keeps_elements_unequal<T>()
-    ensures union { (eq : T → T → Bool) → IsEquivalence eq → (xs ys : List T) → IsDistinct eq xs → IsDistinct eq ys
+    ensures union { (eq : T → T → Bool) → IsEquivalence eq → (xs ys : List T) → IsDistinct eq xs
+        → IsDistinct eq ys
         → IsDistinct eq (union_of eq xs ys) }
     ensures intersection { (eq : T → T → Bool) → IsEquivalence eq → (xs ys : List T) → IsDistinct eq xs
         → IsDistinct eq (intersection_of eq xs ys) }
     ensures difference { (eq : T → T → Bool) → IsEquivalence eq → (xs ys : List T) → IsDistinct eq xs
         → IsDistinct eq (difference_of eq xs ys) }
-    ensures symmetric_difference { (eq : T → T → Bool) → IsEquivalence eq → (xs ys : List T) → IsDistinct eq xs
+    ensures symmetric_difference { (eq : T → T → Bool) → IsEquivalence eq → (xs ys : List T)
+        → IsDistinct eq xs
         → IsDistinct eq ys
         → IsDistinct eq (symmetric_difference_of eq xs ys) }
 {}
 
 /// A subset has only members of the other set; disjoint sets share none.
 pub fn subset_and_disjoint_by_membership<T>()
-    ensures subset { (eq : T → T → Bool) → IsEquivalence eq → (xs ys : List T) → is_subset eq xs ys ≡ true → (q : T)
+    ensures subset { (eq : T → T → Bool) → IsEquivalence eq → (xs ys : List T)
+        → is_subset eq xs ys ≡ true → (q : T)
         → is_member eq xs q ≡ true
         → is_member eq ys q ≡ true }
     ensures subset_from { (eq : T → T → Bool) → IsEquivalence eq → (xs ys : List T)
@@ -86,7 +92,8 @@ pub fn subset_and_disjoint_by_membership<T>()
         → is_disjoint eq xs ys ≡ true }
 {}
 
-/// A lazy walk begins with all that the two sets give together, and each step takes the first of what is left.
+/// A lazy walk begins with all that the two sets give together, and each step takes the first of what is
+/// left.
 pub fn lazy_walks_give_set_algebra<T>()
     ensures union { (eq : T → T → Bool) (xs ys : List T)
         → left_to_give (λ _. true) (λ y. not (is_member eq xs y)) (record { left = xs; right = ys })
@@ -96,20 +103,24 @@ pub fn lazy_walks_give_set_algebra<T>()
         (record { left = xs; right = ys })
         ≡ symmetric_difference_of eq xs ys }
     ensures step { (p q : T → Bool) (w : PairWalk T)
-        → TakesFirst (λ y. y) (left_to_give p q w) (pair_step p q w).0 (left_to_give p q (pair_step p q w).1) }
+        → TakesFirst (λ y. y) (left_to_give p q w) (pair_step p q w).0
+        (left_to_give p q (pair_step p q w).1) }
 {}
 
 /// The size hints are bounds of what is left.
 pub fn hints_are_bounds<T>()
-    ensures above { (p q : T → Bool) (w : PairWalk T) → length (left_to_give p q w) ≤ length w.left + length w.right }
-    ensures union_below { (q : T → Bool) (w : PairWalk T) → length w.left ≤ length (left_to_give (λ _. true) q w) }
+    ensures above { (p q : T → Bool) (w : PairWalk T) → length (left_to_give p q w)
+        ≤ length w.left + length w.right }
+    ensures union_below { (q : T → Bool) (w : PairWalk T) → length w.left ≤ length
+        (left_to_give (λ _. true) q w) }
 {}
 
-/// A walk over one side gives, step by step, the first of what passes, and what it has left to give is within its
-/// size hint.
+/// A walk over one side gives, step by step, the first of what passes, and what it has left to give is within
+/// its size hint.
 pub fn a_walk_over_one_side<T>()
     ensures step { (p : T → Bool) (xs : List T)
         → TakesFirst (λ y. y) (filter p xs) (first_passing p xs).0 (filter p (first_passing p xs).1) }
     ensures below { (p : T → Bool) (xs : List T) → (part_hint xs).0 ≤ length (filter p xs) }
-    ensures above { (p : T → Bool) (xs : List T) → IsSomeAnd (part_hint xs).1 (λ most. length (filter p xs) ≤ most) }
+    ensures above { (p : T → Bool) (xs : List T) → IsSomeAnd (part_hint xs).1
+        (λ most. length (filter p xs) ≤ most) }
 {}

@@ -1,10 +1,14 @@
 //! Rows and laws of caches.
-ghost use Rattle.std.specs.Prelude.{◌≡◌, ℕ, ◌+◌, ◌-◌, ◌*◌, ◌≤◌, ◌<◌, min, max, Bool, true, false, nat_eq, List, []};
-ghost use Rattle.std.specs.Prelude.{◌∷◌, ◌++◌, Option, None, Some, Result, Ok, Err, length, drop, take, unwrap_or};
+ghost use Rattle.std.specs.Prelude.{◌≡◌, ℕ, ◌+◌, ◌-◌, ◌*◌, ◌≤◌, ◌<◌, min, max, Bool, true, false, nat_eq};
+ghost use Rattle.std.specs.Prelude.{List, []};
+ghost use Rattle.std.specs.Prelude.{◌∷◌, ◌++◌, Option, None, Some, Result, Ok, Err, length, drop, take};
+ghost use Rattle.std.specs.Prelude.{unwrap_or};
 ghost use Rattle.std.specs.Cmp.{IsEquivalence};
 ghost use Rattle.hashlink_model.specs.Entries.{IsEntries, put, without, stored_key};
-ghost use Rattle.hashlink_model.specs.Cache.{CacheState, OnMap, IsWithin, HasNodeToSpare, InsertsLast, CacheInserts};
-ghost use Rattle.hashlink_model.specs.Cache.{CacheGets, CacheGetsAndWrites, SetsCapacity, EntersCache, CacheUses};
+ghost use Rattle.hashlink_model.specs.Cache.{CacheState, OnMap, IsWithin, HasNodeToSpare, InsertsLast};
+ghost use Rattle.hashlink_model.specs.Cache.{CacheInserts};
+ghost use Rattle.hashlink_model.specs.Cache.{CacheGets, CacheGetsAndWrites, SetsCapacity, EntersCache};
+ghost use Rattle.hashlink_model.specs.Cache.{CacheUses};
 ghost use Rattle.hashlink_model.specs.Cache.{front_evicted};
 ghost use Rattle.hashlink_model.specs.Cache.{last_entries, cache_put, cache_get, cache_use, cache_extended};
 ghost use Rattle.std.specs.Map.{lookup, lookup_entry};
@@ -34,14 +38,15 @@ pub fn an_entry_passes_the_capacity_by_one()
         ≡ (3, 30) ∷ (2, 20) ∷ [] }
 {}
 
-/// Of a cache that passes its capacity, by one or by more, an insert leaves the last pairs: all that are too many are
-/// dropped, even where the key was there.
+/// Of a cache that passes its capacity, by one or by more, an insert leaves the last pairs: all that are too
+/// many are dropped, even where the key was there.
 pub fn an_insert_drops_all_that_are_too_many()
     ensures one { numbers.cache_insert ((1, 10) ∷ (2, 20) ∷ []) 1 3 30 ≡ (3, 30) ∷ [] }
     ensures two { numbers.cache_insert ((1, 10) ∷ (3, 30) ∷ (2, 20) ∷ []) 1 4 40 ≡ (4, 40) ∷ [] }
     ensures there { numbers.cache_insert ((1, 10) ∷ (3, 30) ∷ (2, 20) ∷ []) 1 1 11 ≡ (1, 11) ∷ [] }
     ensures use_step { numbers.cache_use ((1, 10) ∷ (2, 20) ∷ (3, 30) ∷ []) 2 4 40 ≡ (3, 30) ∷ (4, 40) ∷ [] }
-    ensures hit { numbers.cache_use ((1, 10) ∷ (2, 20) ∷ (3, 30) ∷ []) 2 1 40 ≡ (2, 20) ∷ (3, 30) ∷ (1, 10) ∷ [] }
+    ensures hit { numbers.cache_use ((1, 10) ∷ (2, 20) ∷ (3, 30) ∷ []) 2 1 40 ≡ (2, 20) ∷
+        (3, 30) ∷ (1, 10) ∷ [] }
     ensures extended { cache_extended {V = ℕ} nat_eq ((1, 10) ∷ (2, 20) ∷ (3, 30) ∷ []) 1 ((4, 40) ∷ [])
         ≡ (4, 40) ∷ [] }
 {}
@@ -51,7 +56,8 @@ pub fn a_hit_is_kept()
     ensures hit { numbers.cache_get ((1, 10) ∷ (2, 20) ∷ []) 1 ≡ (2, 20) ∷ (1, 10) ∷ [] }
     ensures insert { numbers.cache_insert ((2, 20) ∷ (1, 10) ∷ []) 2 3 30 ≡ (1, 10) ∷ (3, 30) ∷ [] }
     ensures set_capacity { numbers.last_entries ((1, 10) ∷ (3, 30) ∷ []) 1 ≡ (3, 30) ∷ [] }
-    ensures last_five { numbers.last_entries ((6, 60) ∷ (7, 70) ∷ (8, 80) ∷ []) 5 ≡ (6, 60) ∷ (7, 70) ∷ (8, 80) ∷ [] }
+    ensures last_five { numbers.last_entries ((6, 60) ∷ (7, 70) ∷ (8, 80) ∷ []) 5 ≡ (6, 60) ∷
+        (7, 70) ∷ (8, 80) ∷ [] }
 {}
 
 /// Uses keep the keys of the smaller cache an end of the larger one's, and plain reads do not.
@@ -76,8 +82,8 @@ pub fn entries_leave_one_more_than_the_capacity()
         ≡ (8, 80) ∷ (9, 90) ∷ (10, 100) ∷ (11, 110) ∷ (12, 120) ∷ [] }
 {}
 
-/// Four pairs extend a cache of two: each is inserted in turn, so one that is there moves last and the oldest are
-/// dropped.
+/// Four pairs extend a cache of two: each is inserted in turn, so one that is there moves last and the oldest
+/// are dropped.
 pub fn an_extend_inserts_in_turn()
     ensures two { cache_extended {V = ℕ} nat_eq ((1, 10) ∷ (2, 20) ∷ []) 2
         ((3, 30) ∷ (2, 21) ∷ (4, 40) ∷ (2, 22) ∷ [])
@@ -85,8 +91,8 @@ pub fn an_extend_inserts_in_turn()
     ensures none { cache_extended {V = ℕ} nat_eq ((1, 10) ∷ []) 0 ((1, 11) ∷ []) ≡ [] }
 {}
 
-/// A hit of `get` returns the value and moves its entry last, a miss changes no entry; a capacity that is set keeps
-/// the last entries and drops the others.
+/// A hit of `get` returns the value and moves its entry last, a miss changes no entry; a capacity that is set
+/// keeps the last entries and drops the others.
 pub fn what_a_get_and_a_capacity_leave<S>()
     ensures hit { (old new : CacheState ℕ ℕ S) (r : Option ℕ) → old.map.entries ≡ (1, 10) ∷ (2, 20) ∷ []
         → CacheGets nat_eq old new 1 r
@@ -115,26 +121,27 @@ pub fn the_first_is_the_least_recently_used()
 pub fn uses_in_a_row()
     ensures two { numbers.cache_uses 2 ((1, 10) ∷ (2, 20) ∷ (1, 30) ∷ (3, 40) ∷ []) ≡ (1, 10) ∷ (3, 40) ∷ [] }
     ensures none { numbers.cache_uses 0 ((1, 10) ∷ (1, 10) ∷ []) ≡ [] }
-    ensures three { numbers.cache_uses 3 ((1, 10) ∷ (2, 20) ∷ (3, 30) ∷ (4, 40) ∷ (1, 11) ∷ (2, 21) ∷ (5, 50) ∷ [])
-        ≡ (1, 11) ∷ (2, 21) ∷ (5, 50) ∷ [] }
-    ensures four { numbers.cache_uses 4 ((1, 10) ∷ (2, 20) ∷ (3, 30) ∷ (4, 40) ∷ (1, 11) ∷ (2, 21) ∷ (5, 50) ∷ [])
-        ≡ (4, 40) ∷ (1, 10) ∷ (2, 20) ∷ (5, 50) ∷ [] }
+    ensures three { numbers.cache_uses 3 ((1, 10) ∷ (2, 20) ∷ (3, 30) ∷ (4, 40) ∷ (1, 11) ∷
+        (2, 21) ∷ (5, 50) ∷ []) ≡ (1, 11) ∷ (2, 21) ∷ (5, 50) ∷ [] }
+    ensures four { numbers.cache_uses 4 ((1, 10) ∷ (2, 20) ∷ (3, 30) ∷ (4, 40) ∷ (1, 11) ∷
+        (2, 21) ∷ (5, 50) ∷ []) ≡ (4, 40) ∷ (1, 10) ∷ (2, 20) ∷ (5, 50) ∷ [] }
 {}
 
 /// Two caches of one and of two places, with equal keys that are different objects: an end up to equality.
 pub fn an_end_up_to_equality()
-    ensures small { labels.cache_insert (labels.cache_insert (labels.cache_insert [] 1 (7, 1) 1) 1 (8, 1) 2) 1 (7, 2)
-        3
+    ensures small { labels.cache_insert (labels.cache_insert (labels.cache_insert [] 1 (7, 1) 1) 1 (8, 1) 2) 1
+        (7, 2) 3
         ≡ ((7, 2), 3) ∷ [] }
-    ensures large { labels.cache_insert (labels.cache_insert (labels.cache_insert [] 2 (7, 1) 1) 2 (8, 1) 2) 2 (7, 2)
-        3
+    ensures large { labels.cache_insert (labels.cache_insert (labels.cache_insert [] 2 (7, 1) 1) 2 (8, 1) 2) 2
+        (7, 2) 3
         ≡ ((8, 1), 2) ∷ ((7, 1), 3) ∷ [] }
 {}
 
 /// A removal from both caches keeps the smaller an end of the larger.
 pub fn a_removal_from_both_caches()
     ensures small { numbers.remove (numbers.cache_insert (numbers.cache_insert [] 1 1 10) 1 2 20) 2 ≡ [] }
-    ensures large { numbers.remove (numbers.cache_insert (numbers.cache_insert [] 2 1 10) 2 2 20) 2 ≡ (1, 10) ∷ [] }
+    ensures large { numbers.remove (numbers.cache_insert (numbers.cache_insert [] 2 1 10) 2 2 20) 2
+        ≡ (1, 10) ∷ [] }
     ensures small_again { numbers.cache_insert [] 1 1 11 ≡ (1, 11) ∷ [] }
     ensures large_again { numbers.cache_insert ((1, 10) ∷ []) 2 1 11 ≡ (1, 11) ∷ [] }
 {}
@@ -155,8 +162,8 @@ pub fn the_last_entries<K, V>()
     ensures end { (es : List (K × V)) (n : ℕ) → take (length es - n) es ++ last_entries es n ≡ es }
 {}
 
-/// A cache has at most its capacity of entries after its insert, however many it had before, and all of them where
-/// there is a place; its keys are pairwise unequal.
+/// A cache has at most its capacity of entries after its insert, however many it had before, and all of them
+/// where there is a place; its keys are pairwise unequal.
 pub fn an_insert_comes_within_the_capacity<K, V>()
     ensures at_most { (eq : K → K → Bool) (es : List (K × V)) (cap : ℕ) (k : K) (v : V)
         → length (cache_put eq es cap k v) ≤ cap }
@@ -167,11 +174,12 @@ pub fn an_insert_comes_within_the_capacity<K, V>()
     ensures keys { (eq : K → K → Bool) → IsEquivalence eq → (es : List (K × V)) (cap : ℕ) (k : K) (v : V)
         → IsEntries eq es
         → IsEntries eq (cache_put eq es cap k v) }
-    ensures drops { (eq : K → K → Bool) (es : List (K × V)) (n : ℕ) → IsEntries eq es → IsEntries eq (drop n es) }
+    ensures drops { (eq : K → K → Bool) (es : List (K × V)) (n : ℕ) → IsEntries eq es
+        → IsEntries eq (drop n es) }
 {}
 
-/// A cache's insert returns the old value and leaves the last entries of the map's insert; a refused one names an
-/// absent key without a spare node and drops nothing.
+/// A cache's insert returns the old value and leaves the last entries of the map's insert; a refused one
+/// names an absent key without a spare node and drops nothing.
 pub fn what_a_cache_insert_leaves<K, V, S>()
     ensures answer { (eq : K → K → Bool) (old new : CacheState K V S) (k : K) (v : V) (w : Option V)
         → CacheInserts eq old new k v (Ok w)
@@ -189,14 +197,16 @@ pub fn what_a_cache_insert_leaves<K, V, S>()
         ≡ max (node_count old.map) (length (put eq old.map.entries k v (length old.map.entries))) }
 {}
 
-/// A hit of `get` leaves its entry last with the stored key and the value that stands, a miss leaves every entry;
-/// neither makes a node or sets the capacity.
+/// A hit of `get` leaves its entry last with the stored key and the value that stands, a miss leaves every
+/// entry; neither makes a node or sets the capacity.
 pub fn what_a_hit_and_a_miss_leave<K, V, S>()
-    ensures hit { (eq : K → K → Bool) (old new : CacheState K V S) (k : K) (w : V) → CacheGets eq old new k (Some w)
+    ensures hit { (eq : K → K → Bool) (old new : CacheState K V S) (k : K) (w : V)
+        → CacheGets eq old new k (Some w)
         → new.map.entries ≡ without eq old.map.entries k ++ (stored_key eq old.map.entries k, w) ∷ [] }
     ensures miss { (eq : K → K → Bool) (old new : CacheState K V S) (k : K) → CacheGets eq old new k None
         → new.map ≡ old.map }
-    ensures nodes { (eq : K → K → Bool) (old new : CacheState K V S) (k : K) (r : Option V) → CacheGets eq old new k r
+    ensures nodes { (eq : K → K → Bool) (old new : CacheState K V S) (k : K) (r : Option V)
+        → CacheGets eq old new k r
         → node_count new.map ≡ node_count old.map }
     ensures capacity { (eq : K → K → Bool) (old new : CacheState K V S) (k : K) (r : Option V)
         → CacheGets eq old new k r
@@ -211,7 +221,8 @@ pub fn what_a_capacity_leaves<K, V, S>()
         → take (length old.map.entries - n) old.map.entries ++ new.map.entries ≡ old.map.entries }
     ensures nodes { (old new : CacheState K V S) (n : ℕ) → SetsCapacity old new n
         → node_count new.map ≡ node_count old.map }
-    ensures within { (old new : CacheState K V S) (n : ℕ) → length old.map.entries ≤ n → SetsCapacity old new n
+    ensures within { (old new : CacheState K V S) (n : ℕ) → length old.map.entries ≤ n
+        → SetsCapacity old new n
         → new.map.entries ≡ old.map.entries }
 {}
 
@@ -222,7 +233,8 @@ pub fn a_cache_keeps_keys_unequal<K, V>()
     ensures use_step { (eq : K → K → Bool) → IsEquivalence eq → (es : List (K × V)) (cap : ℕ) (k : K) (v : V)
         → IsEntries eq es
         → IsEntries eq (cache_use eq es cap k v) }
-    ensures extended { (eq : K → K → Bool) → IsEquivalence eq → (es : List (K × V)) (cap : ℕ) (pairs : List (K × V))
+    ensures extended { (eq : K → K → Bool) → IsEquivalence eq → (es : List (K × V)) (cap : ℕ)
+        (pairs : List (K × V))
         → IsEntries eq es
         → IsEntries eq (cache_extended eq es cap pairs) }
     ensures front_evicted { (eq : K → K → Bool) (es : List (K × V)) (cap : ℕ) → IsEntries eq es
@@ -231,10 +243,11 @@ pub fn a_cache_keeps_keys_unequal<K, V>()
         → IsEntries eq (last_entries es n) }
 {}
 
-/// After the insert into a cache with a place the key has the new value, and what is still there of the others is
-/// what was there.
+/// After the insert into a cache with a place the key has the new value, and what is still there of the
+/// others is what was there.
 pub fn lookup_after_a_cache_insert<K, V>()
-    ensures at_key { (eq : K → K → Bool) → IsEquivalence eq → (q : K) (es : List (K × V)) (cap : ℕ) (k : K) (v : V)
+    ensures at_key { (eq : K → K → Bool) → IsEquivalence eq → (q : K) (es : List (K × V))
+        (cap : ℕ) (k : K) (v : V)
         → IsEntries eq es → 1 ≤ cap → eq k q ≡ true
         → lookup (eq q) (cache_put eq es cap k v) ≡ Some v }
     ensures at_others { (eq : K → K → Bool) → IsEquivalence eq
@@ -243,10 +256,11 @@ pub fn lookup_after_a_cache_insert<K, V>()
         → lookup_entry (eq q) es ≡ Some e }
 {}
 
-/// After a use in a cache with a place the key has the value that it had, or the one given where it was absent, and
-/// what is still there of the others is what was there.
+/// After a use in a cache with a place the key has the value that it had, or the one given where it was
+/// absent, and what is still there of the others is what was there.
 pub fn lookup_after_a_use<K, V>()
-    ensures at_key { (eq : K → K → Bool) → IsEquivalence eq → (q : K) (es : List (K × V)) (cap : ℕ) (k : K) (v : V)
+    ensures at_key { (eq : K → K → Bool) → IsEquivalence eq → (q : K) (es : List (K × V))
+        (cap : ℕ) (k : K) (v : V)
         → IsEntries eq es → 1 ≤ cap → eq k q ≡ true
         → lookup (eq q) (cache_use eq es cap k v) ≡ Some (unwrap_or (lookup (eq k) es) v) }
     ensures at_others { (eq : K → K → Bool) → IsEquivalence eq
@@ -255,8 +269,8 @@ pub fn lookup_after_a_use<K, V>()
         → lookup_entry (eq q) es ≡ Some e }
 {}
 
-/// Pairs that extend a cache may come in two parts, and a cache of at most n entries, where n is no less than its
-/// capacity, has at most n after them.
+/// Pairs that extend a cache may come in two parts, and a cache of at most n entries, where n is no less than
+/// its capacity, has at most n after them.
 pub fn a_cache_extended_in_two_parts<K, V>()
     ensures parts { (eq : K → K → Bool) (es : List (K × V)) (cap : ℕ) (xs ys : List (K × V))
         → cache_extended eq es cap (xs ++ ys) ≡ cache_extended eq (cache_extended eq es cap xs) cap ys }
@@ -265,8 +279,8 @@ pub fn a_cache_extended_in_two_parts<K, V>()
         → length (cache_extended eq es cap pairs) ≤ n }
 {}
 
-/// A cache of at most n entries beyond its capacity stays so under each of its calls that is made of these steps;
-/// after a capacity that is set, and after an insert that is not refused, there is none beyond it.
+/// A cache of at most n entries beyond its capacity stays so under each of its calls that is made of these
+/// steps; after a capacity that is set, and after an insert that is not refused, there is none beyond it.
 pub fn a_bound_beyond_the_capacity_is_kept<K, V, S>()
     ensures insert { (old new : CacheState K V S) (n : ℕ) (eq : K → K → Bool) (k : K) (v : V)
         (r : Result (Option V) (K × V))
@@ -296,14 +310,17 @@ pub fn a_bound_beyond_the_capacity_is_kept<K, V, S>()
     ensures keeps_only { (old new : CacheState K V S) (n : ℕ) (es : List (K × V))
         → OnMap (λ a b. KeepsOnly a b es) old new → IsWithin old n
         → IsWithin new n }
-    ensures clear { (old new : CacheState K V S) (n : ℕ) → OnMap Clears old new → IsWithin old n → IsWithin new n }
-    ensures set_capacity { (old new : CacheState K V S) (n cap : ℕ) → SetsCapacity old new cap → IsWithin new 0 }
-    ensures use_step { (eq : K → K → Bool) (es : List (K × V)) (cap n : ℕ) (k : K) (v : V) → cap ≤ n → length es ≤ n
+    ensures clear { (old new : CacheState K V S) (n : ℕ) → OnMap Clears old new
+        → IsWithin old n → IsWithin new n }
+    ensures set_capacity { (old new : CacheState K V S) (n cap : ℕ) → SetsCapacity old new cap
+        → IsWithin new 0 }
+    ensures use_step { (eq : K → K → Bool) (es : List (K × V)) (cap n : ℕ) (k : K) (v : V)
+        → cap ≤ n → length es ≤ n
         → length (cache_use eq es cap k v) ≤ n }
 {}
 
-/// An entry of a cache first drops what is one too many, so one insert through it stays within a bound above the
-/// capacity; and where something was dropped, its node is spare, and that insert is not refused.
+/// An entry of a cache first drops what is one too many, so one insert through it stays within a bound above
+/// the capacity; and where something was dropped, its node is spare, and that insert is not refused.
 pub fn what_an_entry_of_a_cache_lets_in<K, V, S, A>()
     ensures entered { (eq : K → K → Bool) (old : CacheState K V S) (k : K) (e : EntryState K V S)
         → EntersCache eq old k e → (n : ℕ) → IsWithin old n
@@ -313,7 +330,8 @@ pub fn what_an_entry_of_a_cache_lets_in<K, V, S, A>()
         → VacantInserts eq e.map new k v r → IsWithin old (n + 1)
         → length new.entries ≤ old.cap + (n + 1) }
     ensures not_refused { (eq : K → K → Bool) (old : CacheState K V S) (k : K) (e : EntryState K V S)
-        → EntersCache eq old k e → (new : MapState K V S) (v : V) (pair : K × V) → old.cap < length old.map.entries
+        → EntersCache eq old k e → (new : MapState K V S) (v : V) (pair : K × V) → old.cap
+        < length old.map.entries
         → VacantInserts eq {A = A} e.map new k v (Err pair)
         → ⊥ }
     ensures row { (old : CacheState ℕ ℕ S) (e : EntryState ℕ ℕ S) → old.cap ≡ 1
@@ -321,12 +339,14 @@ pub fn what_an_entry_of_a_cache_lets_in<K, V, S, A>()
         → (e.map.entries ≡ (2, 20) ∷ []) × (e.place ≡ None) × (e.key ≡ 1) }
 {}
 
-/// How many links an insert stores at most: four for a new key, six for one that was there, and three for each entry
-/// that it drops. So they are seven and nine where it drops one, and four for a new key where there is a place.
+/// How many links an insert stores at most: four for a new key, six for one that was there, and three for
+/// each entry that it drops. So they are seven and nine where it drops one, and four for a new key where
+/// there is a place.
 pub fn links_of_a_cache_insert<K, V, S>()
     ensures new_key { (eq : K → K → Bool) (old new : CacheState K V S) (k : K) (v : V)
         → CacheInserts eq old new k v (Ok None)
-        → StoresAtMost (4 + 3 * (length old.map.entries + 1 - old.cap)) old.map.link_writes new.map.link_writes }
+        → StoresAtMost (4 + 3 * (length old.map.entries + 1 - old.cap)) old.map.link_writes
+        new.map.link_writes }
     ensures there { (eq : K → K → Bool) (old new : CacheState K V S) (k : K) (v w : V)
         → CacheInserts eq old new k v (Ok (Some w))
         → StoresAtMost (6 + 3 * (length old.map.entries - old.cap)) old.map.link_writes new.map.link_writes }
@@ -339,7 +359,8 @@ pub fn links_of_a_cache_insert<K, V, S>()
     ensures with_a_place { (eq : K → K → Bool) (old new : CacheState K V S) (k : K) (v : V)
         → CacheInserts eq old new k v (Ok None) → length old.map.entries < old.cap
         → StoresAtMost 4 old.map.link_writes new.map.link_writes }
-    ensures new_key_then_kept { (eq : K → K → Bool) (a b c : MapState K V S) (k : K) (v : V) (es : List (K × V))
+    ensures new_key_then_kept { (eq : K → K → Bool) (a b c : MapState K V S) (k : K)
+        (v : V) (es : List (K × V))
         → KeepsOnly b c es → InsertsLast eq k v None a b
         → StoresAtMost (4 + 3 * (length b.entries - length es)) a.link_writes c.link_writes }
     ensures there_then_kept { (eq : K → K → Bool) (a b c : MapState K V S) (k : K) (v : V) (es : List (K × V))
@@ -349,29 +370,33 @@ pub fn links_of_a_cache_insert<K, V, S>()
         → StoresAtMost (3 * (length old.map.entries - n)) old.map.link_writes new.map.link_writes }
 {}
 
-/// An insert that is not refused passes two lengths: that of the map's insert, and that after all that were too many
-/// were dropped.
+/// An insert that is not refused passes two lengths: that of the map's insert, and that after all that were
+/// too many were dropped.
 pub fn lengths_that_a_cache_insert_passes<K, V, S>()
     ensures { (eq : K → K → Bool) (old new : CacheState K V S) (k : K) (v : V) (w : Option V)
         → CacheInserts eq old new k v (Ok w)
         → PassesInTurn old.map
-        (Length (length (put eq old.map.entries k v (length old.map.entries))) ∷ Length (length new.map.entries) ∷ [])
+        (Length (length (put eq old.map.entries k v (length old.map.entries))) ∷ Length
+        (length new.map.entries) ∷ [])
         new.map }
 {}
 
-/// An insert that drops an entry leaves more nodes than the capacity and a spare one among them; while nothing but an
-/// entry lengthens the cache and no node is given back it stays so, and no insert is refused.
+/// An insert that drops an entry leaves more nodes than the capacity and a spare one among them; while
+/// nothing but an entry lengthens the cache and no node is given back it stays so, and no insert is refused.
 pub fn no_refusal_once_an_entry_was_dropped<K, V, S>()
     ensures dropped { (old new : CacheState K V S) (eq : K → K → Bool) (k : K) (v : V) (w : Option V)
-        → CacheInserts eq old new k v (Ok w) → old.cap < length (put eq old.map.entries k v (length old.map.entries))
+        → CacheInserts eq old new k v (Ok w) → old.cap
+        < length (put eq old.map.entries k v (length old.map.entries))
         → HasNodeToSpare new }
     ensures not_refused { (old new : CacheState K V S) (eq : K → K → Bool) (k : K) (v : V) (pair : K × V)
         → HasNodeToSpare old → CacheInserts eq old new k v (Err pair)
         → ⊥ }
-    ensures insert { (old new : CacheState K V S) (eq : K → K → Bool) (k : K) (v : V) (r : Result (Option V) (K × V))
+    ensures insert { (old new : CacheState K V S) (eq : K → K → Bool) (k : K) (v : V)
+        (r : Result (Option V) (K × V))
         → CacheInserts eq old new k v r → HasNodeToSpare old
         → HasNodeToSpare new }
-    ensures others { (old new : CacheState K V S) → new.cap ≡ old.cap → node_count old.map ≤ node_count new.map
+    ensures others { (old new : CacheState K V S) → new.cap ≡ old.cap → node_count old.map
+        ≤ node_count new.map
         → length new.map.entries ≤ length old.map.entries → HasNodeToSpare old
         → HasNodeToSpare new }
 {}

@@ -6,7 +6,8 @@ ghost use Rattle.std.specs.Ordering.{eq_by_cmp, nat_cmp};
 ghost use Rattle.std.specs.declared.cmp.Ordering.{Ordering};
 ghost use Rattle.std.specs.declared.cmp.Ordering.TheVariants.{Less, Greater};
 ghost use Rattle.hashlink_model.specs.Entries.{IsEntries, extended};
-ghost use Rattle.hashlink_model.specs.Compare.{entries_eq, entries_cmp, entries_partial_cmp, entries_hash_input};
+ghost use Rattle.hashlink_model.specs.Compare.{entries_eq, entries_cmp, entries_partial_cmp};
+ghost use Rattle.hashlink_model.specs.Compare.{entries_hash_input};
 ghost use Rattle.hashlink_model.specs.Compare.{elements_eq, elements_hash_input};
 ghost use Rattle.hashlink_model.specs.Numbers as numbers;
 
@@ -15,8 +16,8 @@ pub fn equality_sees_the_order()
     ensures turned { numbers.equal ((1, 1) ∷ (2, 2) ∷ []) ((2, 2) ∷ (1, 1) ∷ []) ≡ false }
     ensures same { numbers.equal ((1, 1) ∷ (2, 2) ∷ []) ((1, 1) ∷ (2, 2) ∷ []) ≡ true }
     ensures values { numbers.equal ((1, 1) ∷ []) ((1, 2) ∷ []) ≡ false }
-    ensures moved { numbers.equal (numbers.to_front ((1, 1) ∷ (2, 2) ∷ (3, 3) ∷ []) 2) ((1, 1) ∷ (2, 2) ∷ (3, 3) ∷ [])
-        ≡ false }
+    ensures moved { numbers.equal (numbers.to_front ((1, 1) ∷ (2, 2) ∷ (3, 3) ∷ []) 2)
+        ((1, 1) ∷ (2, 2) ∷ (3, 3) ∷ []) ≡ false }
     ensures both_moved { numbers.equal (numbers.to_front ((1, 1) ∷ (2, 2) ∷ (3, 3) ∷ []) 2)
         (numbers.to_front ((1, 1) ∷ (2, 2) ∷ (3, 3) ∷ []) 2)
         ≡ true }
@@ -36,8 +37,8 @@ pub fn entries_are_hashed_in_order()
         ≡ 1 ∷ 10 ∷ 2 ∷ 20 ∷ [] }
 {}
 
-/// Equality of maps is an equivalence, and where that of keys and of values means the same object, that of maps means
-/// the same list.
+/// Equality of maps is an equivalence, and where that of keys and of values means the same object, that of
+/// maps means the same list.
 pub fn equality_of_entries<K, V>()
     ensures equivalence { (eqk : K → K → Bool) (eqv : V → V → Bool) → IsEquivalence eqk → IsEquivalence eqv
         → IsEquivalence (entries_eq eqk eqv) }
@@ -48,9 +49,11 @@ pub fn equality_of_entries<K, V>()
 
 /// The order of maps is total and agrees with equality where those of keys and values are and do.
 pub fn order_of_entries<K, V>()
-    ensures total { (cmpk : K → K → Ordering) (cmpv : V → V → Ordering) → IsTotalOrder cmpk → IsTotalOrder cmpv
+    ensures total { (cmpk : K → K → Ordering) (cmpv : V → V → Ordering) → IsTotalOrder cmpk
+        → IsTotalOrder cmpv
         → IsTotalOrder (entries_cmp cmpk cmpv) }
-    ensures agrees { (eqk : K → K → Bool) (eqv : V → V → Bool) (cmpk : K → K → Ordering) (cmpv : V → V → Ordering)
+    ensures agrees { (eqk : K → K → Bool) (eqv : V → V → Bool) (cmpk : K → K → Ordering)
+        (cmpv : V → V → Ordering)
         → ((x y : K) → eqk x y ≡ eq_by_cmp cmpk x y) → ((x y : V) → eqv x y ≡ eq_by_cmp cmpv x y)
         → (xs ys : List (K × V))
         → entries_eq eqk eqv xs ys ≡ eq_by_cmp (entries_cmp cmpk cmpv) xs ys }
@@ -80,19 +83,21 @@ pub fn partial_order_of_entries<K, V>()
         → entries_partial_cmp partk partv xs ys ≡ Some (entries_cmp cmpk cmpv xs ys) }
 {}
 
-/// Sets are compared and hashed by their elements in order: equality is an equivalence, and equal sets feed a hasher
-/// alike.
+/// Sets are compared and hashed by their elements in order: equality is an equivalence, and equal sets feed a
+/// hasher alike.
 pub fn sets_compare_in_order<T, W>()
     ensures equivalence { (eq : T → T → Bool) → IsEquivalence eq → IsEquivalence (elements_eq eq) }
-    ensures hashed_alike { (eq : T → T → Bool) (hash : T → List W) → ((x y : T) → eq x y ≡ true → hash x ≡ hash y)
+    ensures hashed_alike { (eq : T → T → Bool) (hash : T → List W)
+        → ((x y : T) → eq x y ≡ true → hash x ≡ hash y)
         → (xs ys : List T) → elements_eq eq xs ys ≡ true
         → elements_hash_input hash xs ≡ elements_hash_input hash ys }
 {}
 
-/// Keys and values may have only a partial equality and a partial order: those of maps are then partial ones too, and
-/// agree. So are those of sets.
+/// Keys and values may have only a partial equality and a partial order: those of maps are then partial ones
+/// too, and agree. So are those of sets.
 pub fn partial_comparisons<K, V>()
-    ensures equality { (eqk : K → K → Bool) (eqv : V → V → Bool) → IsPartialEquivalence eqk → IsPartialEquivalence eqv
+    ensures equality { (eqk : K → K → Bool) (eqv : V → V → Bool) → IsPartialEquivalence eqk
+        → IsPartialEquivalence eqv
         → IsPartialEquivalence (entries_eq eqk eqv) }
     ensures order { (eqk : K → K → Bool) (eqv : V → V → Bool) (partk : K → K → Option Ordering)
         (partv : V → V → Option Ordering)
@@ -101,15 +106,15 @@ pub fn partial_comparisons<K, V>()
     ensures elements { (eq : K → K → Bool) → IsPartialEquivalence eq → IsPartialEquivalence (elements_eq eq) }
 {}
 
-/// Values that are equal to nothing, and compare with nothing: a map of one is not equal to itself, and is ordered by
-/// its first key alone.
+/// Values that are equal to nothing, and compare with nothing: a map of one is not equal to itself, and is
+/// ordered by its first key alone.
 pub fn values_without_comparison()
     ensures unequal { entries_eq nat_eq (λ (v w : ℕ). false) ((1, 1) ∷ []) ((1, 1) ∷ []) ≡ false }
     ensures unordered { entries_partial_cmp (λ k j. Some (nat_cmp k j)) (λ (v w : ℕ). None) ((1, 1) ∷ [])
         ((1, 2) ∷ [])
         ≡ None }
-    ensures by_keys { entries_partial_cmp (λ k j. Some (nat_cmp k j)) (λ (v w : ℕ). None) ((1, 1) ∷ []) ((2, 1) ∷ [])
-        ≡ Some Less }
+    ensures by_keys { entries_partial_cmp (λ k j. Some (nat_cmp k j)) (λ (v w : ℕ). None)
+        ((1, 1) ∷ []) ((2, 1) ∷ []) ≡ Some Less }
     ensures beginning { entries_partial_cmp (λ k j. Some (nat_cmp k j)) (λ (v w : ℕ). None) [] ((2, 1) ∷ [])
         ≡ Some Less }
 {}

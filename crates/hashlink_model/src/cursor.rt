@@ -4,8 +4,10 @@ ghost use Rattle.std.specs.Prelude.{None, Some, length, slice_get, cond};
 ghost use Rattle.std.specs.Cmp.{IsEquivalence};
 ghost use Rattle.std.proofs.lemmas.Map.{NonePasses};
 ghost use Rattle.hashlink_model.specs.Entries.{IsEntries, put, without, stored_key};
-ghost use Rattle.hashlink_model.specs.Cursor.{CursorState, IsCursor, CursorInserts, InsertsBefore, InsertsAfter};
-ghost use Rattle.hashlink_model.specs.Cursor.{at_place, place_next, place_previous, place_kept, following_place};
+ghost use Rattle.hashlink_model.specs.Cursor.{CursorState, IsCursor, CursorInserts, InsertsBefore};
+ghost use Rattle.hashlink_model.specs.Cursor.{InsertsAfter};
+ghost use Rattle.hashlink_model.specs.Cursor.{at_place, place_next, place_previous, place_kept};
+ghost use Rattle.hashlink_model.specs.Cursor.{following_place};
 ghost use Rattle.hashlink_model.specs.Cursor.{preceding_place};
 ghost use Rattle.hashlink_model.specs.Numbers as numbers;
 
@@ -16,8 +18,8 @@ pub fn an_empty_map_has_the_guard_alone()
     ensures on_guard { numbers.place_kept [] [] 0 ≡ 0 }
 {}
 
-/// At 4 in `3 4` goes 5 before it; at 3 a step back leads to the guard, before which 6 goes last; at 5 the key 4,
-/// which stands behind it, moves before it.
+/// At 4 in `3 4` goes 5 before it; at 3 a step back leads to the guard, before which 6 goes last; at 5 the
+/// key 4, which stands behind it, moves before it.
 pub fn cursor_inserts_before()
     ensures five { numbers.insert_before ((3, 3) ∷ (4, 4) ∷ []) 5 5 1 ≡ (3, 3) ∷ (5, 5) ∷ (4, 4) ∷ [] }
     ensures to_guard { preceding_place 3 0 ≡ 3 }
@@ -38,15 +40,19 @@ pub fn cursor_inserts_before_itself()
 
 /// At 1 the last key moves behind it, and the cursor stays on 1; at the guard an insert after it goes first.
 pub fn cursor_inserts_after()
-    ensures moved { numbers.insert_after ((1, 1) ∷ (2, 2) ∷ (3, 3) ∷ []) 3 33 0 ≡ (1, 1) ∷ (3, 33) ∷ (2, 2) ∷ [] }
-    ensures stays { numbers.place_kept ((1, 1) ∷ (2, 2) ∷ (3, 3) ∷ []) ((1, 1) ∷ (3, 33) ∷ (2, 2) ∷ []) 0 ≡ 0 }
+    ensures moved { numbers.insert_after ((1, 1) ∷ (2, 2) ∷ (3, 3) ∷ []) 3 33 0 ≡ (1, 1) ∷
+        (3, 33) ∷ (2, 2) ∷ [] }
+    ensures stays { numbers.place_kept ((1, 1) ∷ (2, 2) ∷ (3, 3) ∷ [])
+        ((1, 1) ∷ (3, 33) ∷ (2, 2) ∷ []) 0 ≡ 0 }
     ensures at_guard { numbers.insert_after ((1, 10) ∷ []) 2 20 1 ≡ (2, 20) ∷ (1, 10) ∷ [] }
 {}
 
 /// A key from before the cursor that is put after it: every place between moves up, and the cursor's with it.
 pub fn cursor_follows_its_entry()
-    ensures moved { numbers.insert_after ((1, 1) ∷ (2, 2) ∷ (3, 3) ∷ []) 1 11 1 ≡ (2, 2) ∷ (1, 11) ∷ (3, 3) ∷ [] }
-    ensures follows { numbers.place_kept ((1, 1) ∷ (2, 2) ∷ (3, 3) ∷ []) ((2, 2) ∷ (1, 11) ∷ (3, 3) ∷ []) 1 ≡ 0 }
+    ensures moved { numbers.insert_after ((1, 1) ∷ (2, 2) ∷ (3, 3) ∷ []) 1 11 1 ≡ (2, 2) ∷
+        (1, 11) ∷ (3, 3) ∷ [] }
+    ensures follows { numbers.place_kept ((1, 1) ∷ (2, 2) ∷ (3, 3) ∷ [])
+        ((2, 2) ∷ (1, 11) ∷ (3, 3) ∷ []) 1 ≡ 0 }
 {}
 
 /// In an empty map an insert before the guard and one after it: the first stands last, the second first.
@@ -76,43 +82,54 @@ pub fn places_are_a_ring()
 /// After an insert anywhere a cursor stands on the entry that it stood on, or on the guard.
 pub fn cursor_stays_on_its_entry<K, V>()
     ensures entry { (eq : K → K → Bool) → IsEquivalence eq
-        → (es : List (K × V)) (i : ℕ) (e : K × V) (k : K) (v : V) (b : ℕ) → IsEntries eq es → slice_get es i ≡ Some e
-        → slice_get (put eq es k v b) (place_kept eq es (put eq es k v b) i) ≡ Some (cond (eq k e.0) (e.0, v) e) }
-    ensures guard { (eq : K → K → Bool) → IsEquivalence eq → (es : List (K × V)) (i : ℕ) (k : K) (v : V) (b : ℕ)
+        → (es : List (K × V)) (i : ℕ) (e : K × V) (k : K) (v : V) (b : ℕ) → IsEntries eq es
+        → slice_get es i ≡ Some e
+        → slice_get (put eq es k v b) (place_kept eq es (put eq es k v b) i)
+        ≡ Some (cond (eq k e.0) (e.0, v) e) }
+    ensures guard { (eq : K → K → Bool) → IsEquivalence eq → (es : List (K × V)) (i : ℕ)
+        (k : K) (v : V) (b : ℕ)
         → slice_get es i ≡ None
         → slice_get (put eq es k v b) (place_kept eq es (put eq es k v b) i) ≡ None }
     ensures unchanged { (eq : K → K → Bool) → IsEquivalence eq → (es : List (K × V)) (i : ℕ) → IsEntries eq es
         → i ≤ length es
         → place_kept eq es es i ≡ i }
-    ensures within { (eq : K → K → Bool) (old new : List (K × V)) (i : ℕ) → place_kept eq old new i ≤ length new }
+    ensures within { (eq : K → K → Bool) (old new : List (K × V)) (i : ℕ)
+        → place_kept eq old new i ≤ length new }
 {}
 
-/// An absent key goes directly before or after the cursor's entry, and what is inserted after the guard goes first.
+/// An absent key goes directly before or after the cursor's entry, and what is inserted after the guard goes
+/// first.
 pub fn cursor_inserts_an_absent_key<K, V>()
     ensures before { (eq : K → K → Bool) → IsEquivalence eq
-        → (xs : List (K × V)) (e : K × V) (ys : List (K × V)) (k : K) (v : V) → NonePasses (eq k) (xs ++ e ∷ ys)
+        → (xs : List (K × V)) (e : K × V) (ys : List (K × V)) (k : K) (v : V)
+        → NonePasses (eq k) (xs ++ e ∷ ys)
         → put eq (xs ++ e ∷ ys) k v (length xs) ≡ xs ++ (k, v) ∷ e ∷ ys }
     ensures after { (eq : K → K → Bool) → IsEquivalence eq
-        → (xs : List (K × V)) (e : K × V) (ys : List (K × V)) (k : K) (v : V) → NonePasses (eq k) (xs ++ e ∷ ys)
-        → put eq (xs ++ e ∷ ys) k v (following_place (length (xs ++ e ∷ ys)) (length xs)) ≡ xs ++ e ∷ (k, v) ∷ ys }
+        → (xs : List (K × V)) (e : K × V) (ys : List (K × V)) (k : K) (v : V)
+        → NonePasses (eq k) (xs ++ e ∷ ys)
+        → put eq (xs ++ e ∷ ys) k v (following_place (length (xs ++ e ∷ ys)) (length xs))
+        ≡ xs ++ e ∷ (k, v) ∷ ys }
     ensures first { (eq : K → K → Bool) → IsEquivalence eq → (es : List (K × V)) (k : K) (v : V)
-        → put eq es k v (following_place (length es) (length es)) ≡ (stored_key eq es k, v) ∷ without eq es k }
+        → put eq es k v (following_place (length es) (length es))
+        ≡ (stored_key eq es k, v) ∷ without eq es k }
 {}
 
 /// A refused insert leaves the entries and the cursor.
 pub fn a_refused_insert_leaves_the_cursor<K, V, S>()
     ensures before { (eq : K → K → Bool) → IsEquivalence eq
-        → (old new : CursorState K V S) (k : K) (v : V) (pair : K × V) → IsEntries eq old.map.entries → IsCursor old
+        → (old new : CursorState K V S) (k : K) (v : V) (pair : K × V) → IsEntries eq old.map.entries
+        → IsCursor old
         → InsertsBefore eq old new k v (Err pair)
         → (new.map.entries ≡ old.map.entries) × (new.place ≡ old.place) }
     ensures after { (eq : K → K → Bool) → IsEquivalence eq
-        → (old new : CursorState K V S) (k : K) (v : V) (pair : K × V) → IsEntries eq old.map.entries → IsCursor old
+        → (old new : CursorState K V S) (k : K) (v : V) (pair : K × V) → IsEntries eq old.map.entries
+        → IsCursor old
         → InsertsAfter eq old new k v (Err pair)
         → (new.map.entries ≡ old.map.entries) × (new.place ≡ old.place) }
 {}
 
-/// A cursor stands on an entry or on the guard, also after each move and each insert; a move on and one back lead to
-/// where it was.
+/// A cursor stands on an entry or on the guard, also after each move and each insert; a move on and one back
+/// lead to where it was.
 pub fn where_a_cursor_stands<K, V, S>()
     ensures next { (c : CursorState K V S) → IsCursor (at_place c (place_next c)) }
     ensures previous { (c : CursorState K V S) → IsCursor (at_place c (place_previous c)) }
@@ -124,5 +141,6 @@ pub fn where_a_cursor_stands<K, V, S>()
         → place_previous (at_place c (place_next c)) ≡ c.place }
     ensures back_and_there { (c : CursorState K V S) → IsCursor c
         → place_next (at_place c (place_previous c)) ≡ c.place }
-    ensures past_the_guard { (c : CursorState ℕ ℕ S) → c.map.entries ≡ (1, 10) ∷ [] → c.place ≡ 7 → IsCursor c → ⊥ }
+    ensures past_the_guard { (c : CursorState ℕ ℕ S) → c.map.entries ≡ (1, 10) ∷ [] → c.place
+        ≡ 7 → IsCursor c → ⊥ }
 {}

@@ -3,7 +3,8 @@ ghost use Rattle.std.specs.Prelude.{◌≡◌, ℕ, ◌+◌, Bool, true, false, 
 ghost use Rattle.std.specs.Prelude.{length};
 ghost use Rattle.std.specs.Cmp.{IsEquivalence};
 ghost use Rattle.std.specs.Map.{keys_of, lookup, lookup_entry, set_value};
-ghost use Rattle.hashlink_model.specs.Entries.{IsEntries, place_of, without, put, stored_key, moved, extended};
+ghost use Rattle.hashlink_model.specs.Entries.{IsEntries, place_of, without, put, stored_key, moved};
+ghost use Rattle.hashlink_model.specs.Entries.{extended};
 ghost use Rattle.hashlink_model.specs.Labels as labels;
 ghost use Rattle.hashlink_model.specs.Numbers as numbers;
 
@@ -37,7 +38,8 @@ pub fn a_run_of_steps()
     ensures { numbers.remove
         (numbers.to_back
         (numbers.replace
-        (numbers.insert_front (numbers.insert_front (numbers.insert (numbers.insert_front [] 1 1) 2 2) 3 3) 2 4) 3 5)
+        (numbers.insert_front (numbers.insert_front (numbers.insert (numbers.insert_front [] 1 1) 2 2) 3 3)
+        2 4) 3 5)
         2)
         3
         ≡ (1, 1) ∷ (2, 4) ∷ [] }
@@ -50,7 +52,8 @@ pub fn places_close_up()
     ensures backward { numbers.put ((1, 1) ∷ (2, 2) ∷ (3, 3) ∷ (4, 4) ∷ []) 4 9 1
         ≡ (1, 1) ∷ (4, 9) ∷ (2, 2) ∷ (3, 3) ∷ [] }
     ensures taken_out { numbers.to_front
-        (numbers.insert (numbers.remove ((1, 10) ∷ (2, 20) ∷ (3, 30) ∷ (4, 40) ∷ (5, 50) ∷ (6, 60) ∷ []) 3) 7 70) 5
+        (numbers.insert (numbers.remove ((1, 10) ∷ (2, 20) ∷ (3, 30) ∷ (4, 40) ∷ (5, 50) ∷ (6, 60) ∷ []) 3)
+        7 70) 5
         ≡ (5, 50) ∷ (1, 10) ∷ (2, 20) ∷ (4, 40) ∷ (6, 60) ∷ (7, 70) ∷ [] }
 {}
 
@@ -71,30 +74,38 @@ pub fn steps_keep_keys_unequal<K, V>()
         → IsEntries eq (put eq es k v b) }
     ensures without { (eq : K → K → Bool) → IsEquivalence eq → (es : List (K × V)) (k : K) → IsEntries eq es
         → IsEntries eq (without eq es k) }
-    ensures moved { (eq : K → K → Bool) → IsEquivalence eq → (es : List (K × V)) (k : K) (b : ℕ) → IsEntries eq es
+    ensures moved { (eq : K → K → Bool) → IsEquivalence eq → (es : List (K × V)) (k : K)
+        (b : ℕ) → IsEntries eq es
         → IsEntries eq (moved eq es k b) }
 {}
 
-/// A new key makes the list longer by one, a removed one shorter by one, and every other step leaves the length.
+/// A new key makes the list longer by one, a removed one shorter by one, and every other step leaves the
+/// length.
 pub fn lengths_after_steps<K, V>()
-    ensures put_absent { (eq : K → K → Bool) (es : List (K × V)) (k : K) (v : V) (b : ℕ) → lookup (eq k) es ≡ None
+    ensures put_absent { (eq : K → K → Bool) (es : List (K × V)) (k : K) (v : V) (b : ℕ)
+        → lookup (eq k) es ≡ None
         → length (put eq es k v b) ≡ length es + 1 }
     ensures put_there { (eq : K → K → Bool) (es : List (K × V)) (k : K) (v : V) (b : ℕ) (w : V)
         → lookup (eq k) es ≡ Some w
         → length (put eq es k v b) ≡ length es }
     ensures without_absent { (eq : K → K → Bool) (es : List (K × V)) (k : K) → lookup (eq k) es ≡ None
         → length (without eq es k) ≡ length es }
-    ensures without_there { (eq : K → K → Bool) (es : List (K × V)) (k : K) (w : V) → lookup (eq k) es ≡ Some w
+    ensures without_there { (eq : K → K → Bool) (es : List (K × V)) (k : K) (w : V)
+        → lookup (eq k) es ≡ Some w
         → length (without eq es k) + 1 ≡ length es }
-    ensures moved { (eq : K → K → Bool) (es : List (K × V)) (k : K) (b : ℕ) → length (moved eq es k b) ≡ length es }
+    ensures moved { (eq : K → K → Bool) (es : List (K × V)) (k : K) (b : ℕ) → length
+        (moved eq es k b) ≡ length es }
 {}
 
-/// After a put the key has the new value and the key object that was there, and every other key has what it had.
+/// After a put the key has the new value and the key object that was there, and every other key has what it
+/// had.
 pub fn lookup_after_put<K, V>()
-    ensures at_key { (eq : K → K → Bool) → IsEquivalence eq → (q : K) (es : List (K × V)) (k : K) (v : V) (b : ℕ)
+    ensures at_key { (eq : K → K → Bool) → IsEquivalence eq → (q : K) (es : List (K × V))
+        (k : K) (v : V) (b : ℕ)
         → IsEntries eq es → eq k q ≡ true
         → lookup (eq q) (put eq es k v b) ≡ Some v }
-    ensures at_others { (eq : K → K → Bool) → IsEquivalence eq → (q : K) (es : List (K × V)) (k : K) (v : V) (b : ℕ)
+    ensures at_others { (eq : K → K → Bool) → IsEquivalence eq → (q : K) (es : List (K × V))
+        (k : K) (v : V) (b : ℕ)
         → IsEntries eq es → eq k q ≡ false
         → lookup_entry (eq q) (put eq es k v b) ≡ lookup_entry (eq q) es }
     ensures stored_key { (eq : K → K → Bool) → IsEquivalence eq → (es : List (K × V)) (k : K) (v : V) (b : ℕ)
@@ -106,21 +117,25 @@ pub fn lookup_after_put<K, V>()
 
 /// After a removal the key is gone, and every other key has what it had.
 pub fn lookup_after_removal<K, V>()
-    ensures at_key { (eq : K → K → Bool) → IsEquivalence eq → (q : K) (es : List (K × V)) (k : K) → IsEntries eq es
+    ensures at_key { (eq : K → K → Bool) → IsEquivalence eq → (q : K) (es : List (K × V))
+        (k : K) → IsEntries eq es
         → eq k q ≡ true
         → lookup (eq q) (without eq es k) ≡ None }
-    ensures at_others { (eq : K → K → Bool) → IsEquivalence eq → (q : K) (es : List (K × V)) (k : K) → IsEntries eq es
+    ensures at_others { (eq : K → K → Bool) → IsEquivalence eq → (q : K) (es : List (K × V))
+        (k : K) → IsEntries eq es
         → eq k q ≡ false
         → lookup_entry (eq q) (without eq es k) ≡ lookup_entry (eq q) es }
 {}
 
 /// A move changes no value.
 pub fn lookup_after_move<K, V>()
-    ensures { (eq : K → K → Bool) → IsEquivalence eq → (q : K) (es : List (K × V)) (k : K) (b : ℕ) → IsEntries eq es
+    ensures { (eq : K → K → Bool) → IsEquivalence eq → (q : K) (es : List (K × V)) (k : K)
+        (b : ℕ) → IsEntries eq es
         → lookup (eq q) (moved eq es k b) ≡ lookup (eq q) es }
 {}
 
-/// A key that is put at the length stands last, one that is put at 0 stands first, and the others keep their order.
+/// A key that is put at the length stands last, one that is put at 0 stands first, and the others keep their
+/// order.
 pub fn put_at_either_end<K, V>()
     ensures back { (eq : K → K → Bool) (es : List (K × V)) (k : K) (v : V)
         → put eq es k v (length es) ≡ without eq es k ++ (stored_key eq es k, v) ∷ [] }
@@ -133,20 +148,26 @@ pub fn put_at_either_end<K, V>()
 
 /// A key that is put where it stands, or directly after itself, takes the value and changes no place.
 pub fn put_where_it_stands<K, V>()
-    ensures there { (eq : K → K → Bool) (es : List (K × V)) (k : K) (v : V) (j : ℕ) → place_of (eq k) es ≡ Some j
+    ensures there { (eq : K → K → Bool) (es : List (K × V)) (k : K) (v : V) (j : ℕ)
+        → place_of (eq k) es ≡ Some j
         → put eq es k v j ≡ set_value (eq k) es v }
-    ensures after { (eq : K → K → Bool) (es : List (K × V)) (k : K) (v : V) (j : ℕ) → place_of (eq k) es ≡ Some j
+    ensures after { (eq : K → K → Bool) (es : List (K × V)) (k : K) (v : V) (j : ℕ)
+        → place_of (eq k) es ≡ Some j
         → put eq es k v (j + 1) ≡ set_value (eq k) es v }
-    ensures same_keys { (test : K → Bool) (es : List (K × V)) (v : V) → keys_of (set_value test es v) ≡ keys_of es }
+    ensures same_keys { (test : K → Bool) (es : List (K × V)) (v : V) → keys_of
+        (set_value test es v) ≡ keys_of es }
     ensures same_places { (test other : K → Bool) (es : List (K × V)) (v : V)
         → place_of other (set_value test es v) ≡ place_of other es }
 {}
 
 /// The last of two puts at one end decides the value.
 pub fn put_twice_is_once<K, V>()
-    ensures back { (eq : K → K → Bool) → IsEquivalence eq → (es : List (K × V)) (k : K) (v w : V) → IsEntries eq es
-        → put eq (put eq es k v (length es)) k w (length (put eq es k v (length es))) ≡ put eq es k w (length es) }
-    ensures front { (eq : K → K → Bool) → IsEquivalence eq → (es : List (K × V)) (k : K) (v w : V) → IsEntries eq es
+    ensures back { (eq : K → K → Bool) → IsEquivalence eq → (es : List (K × V)) (k : K)
+        (v w : V) → IsEntries eq es
+        → put eq (put eq es k v (length es)) k w (length (put eq es k v (length es)))
+        ≡ put eq es k w (length es) }
+    ensures front { (eq : K → K → Bool) → IsEquivalence eq → (es : List (K × V)) (k : K)
+        (v w : V) → IsEntries eq es
         → put eq (put eq es k v 0) k w 0 ≡ put eq es k w 0 }
 {}
 
@@ -158,17 +179,18 @@ pub fn move_twice_is_once<K, V>()
         → moved eq (moved eq es k 0) k 0 ≡ moved eq es k 0 }
 {}
 
-/// After an insert at the back the last pair has an equal key and the new value, after one at the front the first
-/// pair has.
+/// After an insert at the back the last pair has an equal key and the new value, after one at the front the
+/// first pair has.
 pub fn the_end_after_an_insert<K, V>()
     ensures back { (eq : K → K → Bool) → IsEquivalence eq → (es : List (K × V)) (k : K) (v : V)
-        → (xs : List (K × V)) × (k0 : K) × (put eq es k v (length es) ≡ xs ++ (k0, v) ∷ []) × (eq k k0 ≡ true) }
+        → (xs : List (K × V)) × (k0 : K) × (put eq es k v (length es) ≡ xs ++ (k0, v) ∷ [])
+        × (eq k k0 ≡ true) }
     ensures front { (eq : K → K → Bool) → IsEquivalence eq → (es : List (K × V)) (k : K) (v : V)
         → (xs : List (K × V)) × (k0 : K) × (put eq es k v 0 ≡ (k0, v) ∷ xs) × (eq k k0 ≡ true) }
 {}
 
-/// Many inserts keep the keys pairwise unequal, and a list's own pairs inserted in turn into an empty one give the
-/// list.
+/// Many inserts keep the keys pairwise unequal, and a list's own pairs inserted in turn into an empty one
+/// give the list.
 pub fn extend_from_empty<K, V>()
     ensures keys { (eq : K → K → Bool) → IsEquivalence eq → (es pairs : List (K × V)) → IsEntries eq es
         → IsEntries eq (extended eq es pairs) }

@@ -3,16 +3,19 @@ ghost use Rattle.std.specs.Prelude.{◌≡◌, ◌+◌, ◌≤◌, ◌<◌, ℕ,
 ghost use Rattle.std.specs.Prelude.{length, cond, slice_get, remove, nat_eq};
 ghost use Rattle.std.specs.Cmp.{IsEquivalence};
 ghost use Rattle.std.specs.Map.{lookup, lookup_entry};
-ghost use Rattle.hashlink_model.specs.Entries.{IsEntries, place_of, put, moved, moved_at, without, set_value_at};
+ghost use Rattle.hashlink_model.specs.Entries.{IsEntries, place_of, put, moved, moved_at, without};
+ghost use Rattle.hashlink_model.specs.Entries.{set_value_at};
 ghost use Rattle.hashlink_model.specs.Entries.{set_key_at};
-ghost use Rattle.hashlink_model.specs.Entry.{insert_value, insert_entry, or_insert, replace_entry, InsertsEntry};
+ghost use Rattle.hashlink_model.specs.Entry.{insert_value, insert_entry, or_insert, replace_entry};
+ghost use Rattle.hashlink_model.specs.Entry.{InsertsEntry};
 ghost use Rattle.hashlink_model.specs.Entry.{ReplacesKey, EntryState, RawEntryState, IsEntry, IsRawEntry};
 ghost use Rattle.hashlink_model.specs.Entry.{raw_entry_of};
 ghost use Rattle.hashlink_model.specs.MapState.{MapState};
 ghost use Rattle.hashlink_model.specs.Labels as labels;
 ghost use Rattle.hashlink_model.specs.Numbers as numbers;
 
-/// `insert_entry` on an occupied entry puts the key in hand last, also where it is another object than the stored key.
+/// `insert_entry` on an occupied entry puts the key in hand last, also where it is another object than the
+/// stored key.
 pub fn key_in_hand_goes_in()
     ensures vacant { numbers.place_of ((1, 1) ∷ (2, 2) ∷ (3, 3) ∷ []) 4 ≡ None }
     ensures last { labels.insert_entry (((7, 1), 10) ∷ ((8, 1), 20) ∷ []) 0 (7, 2) 11
@@ -22,7 +25,8 @@ pub fn key_in_hand_goes_in()
         ≡ ((7, 2), 10) ∷ ((8, 1), 20) ∷ [] }
 {}
 
-/// A raw entry's value is replaced where it stands; `or_insert` moves a key that is there and puts an absent one last.
+/// A raw entry's value is replaced where it stands; `or_insert` moves a key that is there and puts an absent
+/// one last.
 pub fn raw_entries_write_and_move()
     ensures value { numbers.set_value_at ((1, 10) ∷ (2, 20) ∷ []) 1 21 ≡ (1, 10) ∷ (2, 21) ∷ [] }
     ensures absent { numbers.or_insert ((1, 10) ∷ (2, 21) ∷ []) 3 30 ≡ (1, 10) ∷ (2, 21) ∷ (3, 30) ∷ [] }
@@ -36,8 +40,8 @@ pub fn entry_steps_in_a_row()
     ensures insert { numbers.insert_value ((2, 22) ∷ (1, 11) ∷ []) 0 23 ≡ (1, 11) ∷ (2, 23) ∷ [] }
 {}
 
-/// `or_insert` moves a key that is there to the back with the value that stands, and puts an absent one there with
-/// the value given.
+/// `or_insert` moves a key that is there to the back with the value that stands, and puts an absent one there
+/// with the value given.
 pub fn or_insert_is_a_move_or_an_insert<K, V>()
     ensures there { (eq : K → K → Bool) (es : List (K × V)) (k : K) (v w : V) → lookup (eq k) es ≡ Some w
         → or_insert eq es k v ≡ moved eq es k (length es) }
@@ -45,7 +49,8 @@ pub fn or_insert_is_a_move_or_an_insert<K, V>()
         → or_insert eq es k v ≡ put eq es k v (length es) }
 {}
 
-/// A key that goes in for an equal one keeps the keys pairwise unequal, and so does every other step on an entry.
+/// A key that goes in for an equal one keeps the keys pairwise unequal, and so does every other step on an
+/// entry.
 pub fn entries_keep_keys_unequal<K, V>()
     ensures insert_entry { (eq : K → K → Bool) → IsEquivalence eq
         → (es : List (K × V)) (j : ℕ) (e : K × V) (h : K) (v : V) → IsEntries eq es → slice_get es j ≡ Some e
@@ -55,58 +60,71 @@ pub fn entries_keep_keys_unequal<K, V>()
         → (es : List (K × V)) (j : ℕ) (e : K × V) (h : K) (v : V) → IsEntries eq es → slice_get es j ≡ Some e
         → eq h e.0 ≡ true
         → IsEntries eq (replace_entry es j h v) }
-    ensures insert_value { (eq : K → K → Bool) → IsEquivalence eq → (es : List (K × V)) (j : ℕ) (e : K × V) (v : V)
+    ensures insert_value { (eq : K → K → Bool) → IsEquivalence eq → (es : List (K × V))
+        (j : ℕ) (e : K × V) (v : V)
         → IsEntries eq es → slice_get es j ≡ Some e
         → IsEntries eq (insert_value es j v) }
-    ensures replace_key { (eq : K → K → Bool) → IsEquivalence eq → (es : List (K × V)) (j : ℕ) (e : K × V) (k : K)
+    ensures replace_key { (eq : K → K → Bool) → IsEquivalence eq → (es : List (K × V))
+        (j : ℕ) (e : K × V) (k : K)
         → IsEntries eq es → slice_get es j ≡ Some e → eq k e.0 ≡ true
         → IsEntries eq (set_key_at es j k) }
-    ensures replace_value { (eq : K → K → Bool) → IsEquivalence eq → (es : List (K × V)) (j : ℕ) (e : K × V) (v : V)
+    ensures replace_value { (eq : K → K → Bool) → IsEquivalence eq → (es : List (K × V))
+        (j : ℕ) (e : K × V) (v : V)
         → IsEntries eq es → slice_get es j ≡ Some e
         → IsEntries eq (set_value_at es j v) }
-    ensures or_insert { (eq : K → K → Bool) → IsEquivalence eq → (es : List (K × V)) (k : K) (v : V) → IsEntries eq es
+    ensures or_insert { (eq : K → K → Bool) → IsEquivalence eq → (es : List (K × V)) (k : K)
+        (v : V) → IsEntries eq es
         → IsEntries eq (or_insert eq es k v) }
 {}
 
-/// After `insert_entry` and `replace_entry` the key has the key object in hand and the new value, and every other key
-/// has what it had.
+/// After `insert_entry` and `replace_entry` the key has the key object in hand and the new value, and every
+/// other key has what it had.
 pub fn lookup_after_entry_steps<K, V>()
     ensures insert_entry { (eq : K → K → Bool) → IsEquivalence eq
-        → (q : K) (es : List (K × V)) (j : ℕ) (e : K × V) (h : K) (v : V) → IsEntries eq es → slice_get es j ≡ Some e
+        → (q : K) (es : List (K × V)) (j : ℕ) (e : K × V) (h : K) (v : V) → IsEntries eq es
+        → slice_get es j ≡ Some e
         → eq h e.0 ≡ true
         → lookup_entry (eq q) (insert_entry es j h v) ≡ cond (eq h q) (Some (h, v)) (lookup_entry (eq q) es) }
     ensures replace_entry { (eq : K → K → Bool) → IsEquivalence eq
-        → (q : K) (es : List (K × V)) (j : ℕ) (e : K × V) (h : K) (v : V) → IsEntries eq es → slice_get es j ≡ Some e
+        → (q : K) (es : List (K × V)) (j : ℕ) (e : K × V) (h : K) (v : V) → IsEntries eq es
+        → slice_get es j ≡ Some e
         → eq h e.0 ≡ true
-        → lookup_entry (eq q) (replace_entry es j h v) ≡ cond (eq h q) (Some (h, v)) (lookup_entry (eq q) es) }
+        → lookup_entry (eq q) (replace_entry es j h v)
+        ≡ cond (eq h q) (Some (h, v)) (lookup_entry (eq q) es) }
 {}
 
-/// A step that lets in a key or a value alone keeps the other one of its entry, and every other key has what it had.
+/// A step that lets in a key or a value alone keeps the other one of its entry, and every other key has what
+/// it had.
 pub fn lookup_after_a_key_or_a_value_alone<K, V>()
     ensures insert_value { (eq : K → K → Bool) → IsEquivalence eq
         → (q : K) (es : List (K × V)) (j : ℕ) (e : K × V) (v : V) → IsEntries eq es → slice_get es j ≡ Some e
-        → lookup_entry (eq q) (insert_value es j v) ≡ cond (eq e.0 q) (Some (e.0, v)) (lookup_entry (eq q) es) }
+        → lookup_entry (eq q) (insert_value es j v)
+        ≡ cond (eq e.0 q) (Some (e.0, v)) (lookup_entry (eq q) es) }
     ensures replace_key { (eq : K → K → Bool) → IsEquivalence eq
         → (q : K) (es : List (K × V)) (j : ℕ) (e : K × V) (k : K) → IsEntries eq es → slice_get es j ≡ Some e
         → eq k e.0 ≡ true
         → lookup_entry (eq q) (set_key_at es j k) ≡ cond (eq k q) (Some (k, e.1)) (lookup_entry (eq q) es) }
     ensures replace_value { (eq : K → K → Bool) → IsEquivalence eq
         → (q : K) (es : List (K × V)) (j : ℕ) (e : K × V) (v : V) → IsEntries eq es → slice_get es j ≡ Some e
-        → lookup_entry (eq q) (set_value_at es j v) ≡ cond (eq e.0 q) (Some (e.0, v)) (lookup_entry (eq q) es) }
+        → lookup_entry (eq q) (set_value_at es j v)
+        ≡ cond (eq e.0 q) (Some (e.0, v)) (lookup_entry (eq q) es) }
 {}
 
 /// What is replaced changes no place.
 pub fn replacing_leaves_every_place<K, V>()
-    ensures { (eq : K → K → Bool) → IsEquivalence eq → (q : K) (es : List (K × V)) (j : ℕ) (e : K × V) (h : K) (v : V)
+    ensures { (eq : K → K → Bool) → IsEquivalence eq → (q : K) (es : List (K × V)) (j : ℕ)
+        (e : K × V) (h : K) (v : V)
         → IsEntries eq es → slice_get es j ≡ Some e → eq h e.0 ≡ true
         → place_of (eq q) (replace_entry es j h v) ≡ place_of (eq q) es }
 {}
 
 /// An entry is vacant exactly where a look-up finds nothing.
 pub fn vacant_where_nothing_is_found<K, V>()
-    ensures vacant { (eq : K → K → Bool) → IsEquivalence eq → (k : K) (es : List (K × V)) → place_of (eq k) es ≡ None
+    ensures vacant { (eq : K → K → Bool) → IsEquivalence eq → (k : K) (es : List (K × V))
+        → place_of (eq k) es ≡ None
         → lookup (eq k) es ≡ None }
-    ensures absent { (eq : K → K → Bool) → IsEquivalence eq → (k : K) (es : List (K × V)) → lookup (eq k) es ≡ None
+    ensures absent { (eq : K → K → Bool) → IsEquivalence eq → (k : K) (es : List (K × V))
+        → lookup (eq k) es ≡ None
         → place_of (eq k) es ≡ None }
 {}
 
@@ -114,7 +132,8 @@ pub fn vacant_where_nothing_is_found<K, V>()
 pub fn at_a_place_is_at_its_key<K, V>()
     ensures removed { (eq : K → K → Bool) (es : List (K × V)) (k : K) (j : ℕ) → place_of (eq k) es ≡ Some j
         → remove es j ≡ without eq es k }
-    ensures moved { (eq : K → K → Bool) (es : List (K × V)) (k : K) (j : ℕ) → place_of (eq k) es ≡ Some j → (b : ℕ)
+    ensures moved { (eq : K → K → Bool) (es : List (K × V)) (k : K) (j : ℕ) → place_of
+        (eq k) es ≡ Some j → (b : ℕ)
         → moved_at es j b ≡ moved eq es k b }
     ensures put { (eq : K → K → Bool) (es : List (K × V)) (k : K) (j : ℕ) → place_of (eq k) es ≡ Some j
         → (v : V) (b : ℕ)
@@ -127,14 +146,16 @@ pub fn at_a_place_is_at_its_key<K, V>()
         → insert_entry es j h v ≡ without eq es e.0 ++ (h, v) ∷ [] }
 {}
 
-/// A key or a value that is replaced leaves the other part of its entry as the list has it, and stores no link.
+/// A key or a value that is replaced leaves the other part of its entry as the list has it, and stores no
+/// link.
 pub fn what_is_replaced_alone<S>()
     ensures value { numbers.set_value_at ((1, 10) ∷ (2, 20) ∷ []) 1 21 ≡ (1, 10) ∷ (2, 21) ∷ [] }
     ensures past_the_end { numbers.set_value_at ((1, 10) ∷ (2, 20) ∷ []) 2 21 ≡ (1, 10) ∷ (2, 20) ∷ [] }
     ensures key { (old new : MapState ℕ ℕ S) (k : ℕ) → old.entries ≡ (1, 10) ∷ (2, 20) ∷ []
         → ReplacesKey old new 1 2 k
         → (k ≡ 2) × (new.entries ≡ (1, 10) ∷ (2, 20) ∷ []) × (new.link_writes ≡ old.link_writes) }
-    ensures key_object { (old new : MapState labels.Label ℕ S) (k : labels.Label) → old.entries ≡ ((7, 1), 10) ∷ []
+    ensures key_object { (old new : MapState labels.Label ℕ S) (k : labels.Label)
+        → old.entries ≡ ((7, 1), 10) ∷ []
         → ReplacesKey old new 0 (7, 2) k
         → (k ≡ (7, 1)) × (new.entries ≡ ((7, 2), 10) ∷ []) }
     ensures entry { (old new : MapState ℕ ℕ S) (e : ℕ × ℕ) → old.entries ≡ (1, 10) ∷ (2, 20) ∷ []
@@ -142,15 +163,17 @@ pub fn what_is_replaced_alone<S>()
         → (e ≡ (1, 10)) × (new.entries ≡ (2, 20) ∷ (1, 11) ∷ []) × (new.link_writes ≤ old.link_writes + 6) }
 {}
 
-/// An entry stands where its key does, so on an entry of the map or nowhere; so does a raw entry, by whatever test it
-/// was found.
+/// An entry stands where its key does, so on an entry of the map or nowhere; so does a raw entry, by whatever
+/// test it was found.
 pub fn where_an_entry_stands<K, V, S>()
     ensures occupied { (eq : K → K → Bool) (e : EntryState K V S) (j : ℕ) → IsEntry eq e → e.place ≡ Some j
         → (x : K × V) × (slice_get e.map.entries j ≡ Some x) × (eq e.key x.0 ≡ true) }
-    ensures vacant { (eq : K → K → Bool) → IsEquivalence eq → (e : EntryState K V S) → IsEntry eq e → e.place ≡ None
+    ensures vacant { (eq : K → K → Bool) → IsEquivalence eq → (e : EntryState K V S)
+        → IsEntry eq e → e.place ≡ None
         → lookup (eq e.key) e.map.entries ≡ None }
     ensures raw { (eq : K → K → Bool) (m : MapState K V S) (k : K) → IsRawEntry (raw_entry_of eq m k) }
-    ensures past_the_end { (e : EntryState ℕ ℕ S) → e.map.entries ≡ (1, 10) ∷ [] → e.place ≡ Some 7 → IsEntry nat_eq e
+    ensures past_the_end { (e : EntryState ℕ ℕ S) → e.map.entries ≡ (1, 10) ∷ [] → e.place
+        ≡ Some 7 → IsEntry nat_eq e
         → ⊥ }
     ensures raw_past_the_end { (r : RawEntryState ℕ ℕ S) → r.map.entries ≡ (1, 10) ∷ [] → r.place ≡ Some 7
         → IsRawEntry r
@@ -160,7 +183,9 @@ pub fn where_an_entry_stands<K, V, S>()
 /// No step on an occupied entry changes the length but a removal.
 pub fn lengths_after_entry_steps<K, V>()
     ensures insert_value { (es : List (K × V)) (j : ℕ) (v : V) → length (insert_value es j v) ≡ length es }
-    ensures insert_entry { (es : List (K × V)) (j : ℕ) (h : K) (v : V) → length (insert_entry es j h v) ≡ length es }
-    ensures replace_entry { (es : List (K × V)) (j : ℕ) (h : K) (v : V) → length (replace_entry es j h v) ≡ length es }
+    ensures insert_entry { (es : List (K × V)) (j : ℕ) (h : K) (v : V) → length
+        (insert_entry es j h v) ≡ length es }
+    ensures replace_entry { (es : List (K × V)) (j : ℕ) (h : K) (v : V) → length
+        (replace_entry es j h v) ≡ length es }
     ensures moved { (es : List (K × V)) (j b : ℕ) → length (moved_at es j b) ≡ length es }
 {}

@@ -5,13 +5,15 @@ ghost use Rattle.std.specs.Cmp.{IsEquivalence};
 ghost use Rattle.std.specs.Map.{keys_of, lookup};
 ghost use Rattle.std.specs.Set.{is_member};
 ghost use Rattle.hashlink_model.specs.Cache.{cache_put, cache_use, missed_uses};
-ghost use Rattle.hashlink_model.specs.CacheRuns.{CacheEvent, Insert, Use, Remove, Peek, key_of, NoUse, NoRemoval};
+ghost use Rattle.hashlink_model.specs.CacheRuns.{CacheEvent, Insert, Use, Remove, Peek, key_of, NoUse};
+ghost use Rattle.hashlink_model.specs.CacheRuns.{NoRemoval};
 ghost use Rattle.hashlink_model.specs.CacheRuns.{used_keys, answer_to, after_events, answers};
 ghost use Rattle.hashlink_model.specs.Entries.{IsEntries};
 ghost use Rattle.hashlink_model.specs.MapState.{MapState, node_count};
 ghost use Rattle.hashlink_model.specs.Peak.{KeepsNodes, Passes, PassesInTurn};
 ghost use Rattle.hashlink_model.specs.Steps.{Clears, Shrinks};
-ghost use Rattle.hashlink_model.specs.History.{reuse_distance, HoldsRecent, Schedule, misses, cache_misses, Passed};
+ghost use Rattle.hashlink_model.specs.History.{reuse_distance, HoldsRecent, Schedule, misses, cache_misses};
+ghost use Rattle.hashlink_model.specs.History.{Passed};
 ghost use Rattle.hashlink_model.specs.History.{Length, Shrunk, peak};
 ghost use Rattle.hashlink_model.specs.Numbers as numbers;
 
@@ -22,8 +24,8 @@ pub fn others_are_counted_once()
     ensures just_used { numbers.reuse_distance (1 ∷ 2 ∷ []) 2 ≡ 0 }
 {}
 
-/// A schedule of two places for the keys 1, 2, 3, 1, 2, 3 that misses four times; one that always drops the key used
-/// longest ago misses all six.
+/// A schedule of two places for the keys 1, 2, 3, 1, 2, 3 that misses four times; one that always drops the
+/// key used longest ago misses all six.
 pub fn a_schedule_that_misses_four_times()
     ensures schedule { Schedule nat_eq 2 (1 ∷ 2 ∷ 3 ∷ 1 ∷ 2 ∷ 3 ∷ [])
         ((1 ∷ []) ∷ (1 ∷ 2 ∷ []) ∷ (1 ∷ 3 ∷ []) ∷ (1 ∷ 3 ∷ []) ∷ (2 ∷ 3 ∷ []) ∷ (2 ∷ 3 ∷ []) ∷ []) }
@@ -39,7 +41,8 @@ pub fn a_schedule_that_misses_four_times()
 pub fn how_often_a_cache_misses()
     ensures in_turn { numbers.cache_misses 2 (1 ∷ 2 ∷ 3 ∷ 1 ∷ 2 ∷ 3 ∷ []) ≡ 6 }
     ensures two_of_three { numbers.cache_misses 2 (1 ∷ 2 ∷ 3 ∷ 2 ∷ 3 ∷ 2 ∷ 3 ∷ []) ≡ 3 }
-    ensures uses { numbers.missed_uses 2 [] ((1, 10) ∷ (2, 20) ∷ (3, 30) ∷ (1, 11) ∷ (2, 21) ∷ (3, 31) ∷ []) ≡ 6 }
+    ensures uses { numbers.missed_uses 2 [] ((1, 10) ∷ (2, 20) ∷ (3, 30) ∷ (1, 11) ∷ (2, 21) ∷ (3, 31) ∷ [])
+        ≡ 6 }
 {}
 
 /// The most nodes that a run needs, and that a shrink starts anew.
@@ -50,8 +53,8 @@ pub fn a_shrink_starts_the_peak_anew()
     ensures from_five_shrunk { peak 5 (Length 1 ∷ Shrunk 1 ∷ Length 3 ∷ []) ≡ 3 }
 {}
 
-/// A cache of c places that is given inserts and uses holds the last c keys used, each once, up to equality and in
-/// the order of their last use.
+/// A cache of c places that is given inserts and uses holds the last c keys used, each once, up to equality
+/// and in the order of their last use.
 pub fn a_cache_holds_the_recent_keys<K, V>()
     ensures start { (eq : K → K → Bool) (c : ℕ) → HoldsRecent eq {V = V} c [] [] }
     ensures insert { (eq : K → K → Bool) → IsEquivalence eq
@@ -71,7 +74,8 @@ pub fn a_key_is_held_while_few_others_are_used<K, V>()
 
 /// A length that a run passes raises the peak to it, and a shrink starts it at the length there.
 pub fn the_peak_grows_with_the_run()
-    ensures length { (n m : ℕ) (passed : List Passed) → peak n (passed ++ Length m ∷ []) ≡ max (peak n passed) m }
+    ensures length { (n m : ℕ) (passed : List Passed) → peak n (passed ++ Length m ∷ [])
+        ≡ max (peak n passed) m }
     ensures shrink { (n m : ℕ) (passed : List Passed) → peak n (passed ++ Shrunk m ∷ []) ≡ m }
 {}
 
@@ -81,16 +85,16 @@ pub fn missed_uses_by_history<K, V>()
         → missed_uses eq c [] pairs ≡ cache_misses eq c (keys_of pairs) }
 {}
 
-/// No rule of replacement with h places, even one that knows the future, misses fewer than `(c - h + 1) / c` of what
-/// the cache of c places misses.
+/// No rule of replacement with h places, even one that knows the future, misses fewer than `(c - h + 1) / c`
+/// of what the cache of c places misses.
 pub fn no_schedule_beats_the_cache_by_more<K>()
     ensures { (eq : K → K → Bool) → IsEquivalence eq → (c h : ℕ) → 1 ≤ h → h ≤ c
         → (used : List K) (held : List (List K)) → Schedule eq h used held
         → (c - h + 1) * cache_misses eq c used ≤ c * misses eq used held }
 {}
 
-/// Calls of caches of one and of two places: what each returns, and what is held after them. A key that was removed
-/// comes back only by an insert.
+/// Calls of caches of one and of two places: what each returns, and what is held after them. A key that was
+/// removed comes back only by an insert.
 pub fn calls_of_caches_in_a_row()
     ensures small { numbers.answers 1 (Insert 1 10 ∷ Insert 2 20 ∷ Remove 2 ∷ Peek 1 ∷ Insert 1 11 ∷ [])
         ≡ None ∷ None ∷ Some 20 ∷ None ∷ None ∷ [] }
@@ -117,13 +121,14 @@ pub fn calls_in_two_parts<K, V>()
     ensures keys { (eq : K → K → Bool) → IsEquivalence eq
         → (c : ℕ) (es : List (K × V)) (events : List (CacheEvent K V)) → IsEntries eq es
         → IsEntries eq (after_events eq c es events) }
-    ensures within { (eq : K → K → Bool) (es : List (K × V)) (c n : ℕ) (events : List (CacheEvent K V)) → c ≤ n
+    ensures within { (eq : K → K → Bool) (es : List (K × V)) (c n : ℕ)
+        (events : List (CacheEvent K V)) → c ≤ n
         → length es ≤ n
         → length (after_events eq c es events) ≤ n }
 {}
 
-/// Without removals a cache holds after any calls the last c of the keys used, and a call finds something exactly
-/// where its key was used before and fewer than c others were used since.
+/// Without removals a cache holds after any calls the last c of the keys used, and a call finds something
+/// exactly where its key was used before and fewer than c others were used since.
 pub fn calls_by_their_history<K, V>()
     ensures held { (eq : K → K → Bool) → IsEquivalence eq → (c : ℕ) (events : List (CacheEvent K V))
         → NoRemoval events
@@ -131,13 +136,15 @@ pub fn calls_by_their_history<K, V>()
     ensures answer { (eq : K → K → Bool) → IsEquivalence eq
         → (c : ℕ) (before : List (CacheEvent K V)) (e : CacheEvent K V) → NoRemoval before
         → is_some (answer_to eq (after_events eq c [] before) e)
-        ≡ (is_member eq (used_keys before) (key_of e) && nat_lt (reuse_distance eq (used_keys before) (key_of e)) c) }
+        ≡ (is_member eq (used_keys before) (key_of e) && nat_lt
+        (reuse_distance eq (used_keys before) (key_of e)) c) }
 {}
 
-/// Each step passes the length that it leads to, or is a shrink at its length; along steps in a row a map never has
-/// more nodes than their peak.
+/// Each step passes the length that it leads to, or is a shrink at its length; along steps in a row a map
+/// never has more nodes than their peak.
 pub fn nodes_stay_within_the_peak<K, V, S, E>()
-    ensures kept { (old new : MapState K V S) → KeepsNodes old new → Passes old (Length (length new.entries)) new }
+    ensures kept { (old new : MapState K V S) → KeepsNodes old new → Passes old
+        (Length (length new.entries)) new }
     ensures cleared { (old new : MapState K V S) → Clears old new → Passes old (Length 0) new }
     ensures shrunk { (old new : MapState K V S) (r : Result (Unit {0}) E) → Shrinks old new r
         → Passes old (Shrunk (length new.entries)) new }

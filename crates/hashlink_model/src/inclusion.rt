@@ -10,10 +10,12 @@ ghost use Rattle.hashlink_model.specs.CacheRuns.{CacheEvent, NoUse, after_events
 
 /// Inserts, uses and removals keep the keys of the smaller cache, up to equality, an end of the larger one's.
 pub fn steps_keep_an_end_of_the_keys<K, V>()
-    ensures insert { (eq : K → K → Bool) → IsEquivalence eq → (c d : ℕ) (k : K) (v : V) (small large : List (K × V))
+    ensures insert { (eq : K → K → Bool) → IsEquivalence eq → (c d : ℕ) (k : K) (v : V)
+        (small large : List (K × V))
         → IsEntries eq large → c ≤ d → length small ≤ c → IsEndOf (SameKey eq) small large
         → IsEndOf (SameKey eq) (cache_put eq small c k v) (cache_put eq large d k v) }
-    ensures use_step { (eq : K → K → Bool) → IsEquivalence eq → (c d : ℕ) (k : K) (v : V) (small large : List (K × V))
+    ensures use_step { (eq : K → K → Bool) → IsEquivalence eq → (c d : ℕ) (k : K) (v : V)
+        (small large : List (K × V))
         → IsEntries eq large → c ≤ d → length small ≤ c → IsEndOf (SameKey eq) small large
         → IsEndOf (SameKey eq) (cache_use eq small c k v) (cache_use eq large d k v) }
     ensures remove { (eq : K → K → Bool) → IsEquivalence eq → (k : K) (small large : List (K × V))
@@ -26,7 +28,8 @@ pub fn steps_keep_an_end_of_the_keys<K, V>()
 
 /// Without uses the values agree too, and what the smaller cache returns the larger one returns.
 pub fn inserts_and_removals_keep_an_end_of_the_entries<K, V>()
-    ensures insert { (eq : K → K → Bool) → IsEquivalence eq → (c d : ℕ) (k : K) (v : V) (small large : List (K × V))
+    ensures insert { (eq : K → K → Bool) → IsEquivalence eq → (c d : ℕ) (k : K) (v : V)
+        (small large : List (K × V))
         → IsEntries eq large → c ≤ d → length small ≤ c → IsEndOf (SameEntry eq) small large
         → IsEndOf (SameEntry eq) (cache_put eq small c k v) (cache_put eq large d k v) }
     ensures remove { (eq : K → K → Bool) → IsEquivalence eq → (k : K) (small large : List (K × V))
@@ -37,21 +40,26 @@ pub fn inserts_and_removals_keep_an_end_of_the_entries<K, V>()
         → lookup (eq k) large ≡ Some w }
 {}
 
-/// Two caches that start empty and get the same calls: the keys of the smaller one are, up to equality, an end of the
-/// larger one's, and each call that finds something in the smaller one finds something in the larger one.
+/// Two caches that start empty and get the same calls: the keys of the smaller one are, up to equality, an
+/// end of the larger one's, and each call that finds something in the smaller one finds something in the
+/// larger one.
 pub fn any_calls_keep_an_end_of_the_keys<K, V>()
-    ensures keys { (eq : K → K → Bool) → IsEquivalence eq → (c d : ℕ) → c ≤ d → (events : List (CacheEvent K V))
+    ensures keys { (eq : K → K → Bool) → IsEquivalence eq → (c d : ℕ) → c ≤ d
+        → (events : List (CacheEvent K V))
         → IsEndOf (SameKey eq) (after_events eq c [] events) (after_events eq d [] events) }
-    ensures answers { (eq : K → K → Bool) → IsEquivalence eq → (c d : ℕ) → c ≤ d → (events : List (CacheEvent K V))
+    ensures answers { (eq : K → K → Bool) → IsEquivalence eq → (c d : ℕ) → c ≤ d
+        → (events : List (CacheEvent K V))
         → AllZip AlsoFinds (answers eq c [] events) (answers eq d [] events) }
 {}
 
 /// Without uses the values agree too, and what a call finds in the smaller cache it finds in the larger one.
 pub fn calls_without_uses_keep_an_end_of_the_entries<K, V>()
-    ensures entries { (eq : K → K → Bool) → IsEquivalence eq → (c d : ℕ) → c ≤ d → (events : List (CacheEvent K V))
+    ensures entries { (eq : K → K → Bool) → IsEquivalence eq → (c d : ℕ) → c ≤ d
+        → (events : List (CacheEvent K V))
         → NoUse events
         → IsEndOf (SameEntry eq) (after_events eq c [] events) (after_events eq d [] events) }
-    ensures answers { (eq : K → K → Bool) → IsEquivalence eq → (c d : ℕ) → c ≤ d → (events : List (CacheEvent K V))
+    ensures answers { (eq : K → K → Bool) → IsEquivalence eq → (c d : ℕ) → c ≤ d
+        → (events : List (CacheEvent K V))
         → NoUse events
         → AllZip FindsTheSame (answers eq c [] events) (answers eq d [] events) }
 {}

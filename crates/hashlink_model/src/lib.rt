@@ -1,5 +1,5 @@
-//! The definitions that the contracts of the containers cite, tried by rows that they compute to and by their laws.
-//! Each function has an empty body: its contract is the statement.
+//! The definitions that the contracts of the containers cite, tried by rows that they compute to and by their
+//! laws. Each function has an empty body: its contract is the statement.
 #![tactic(auto)]
 
 pub mod algebra;

@@ -6,12 +6,14 @@ ghost use Rattle.hashlink_model.specs.MapState.{MapState};
 ghost use Rattle.hashlink_model.specs.Steps.{Drains};
 ghost use Rattle.hashlink_model.specs.Many.{AcceptsAll, StopsAt, MadeFrom, InsertsPair};
 
-/// Three pairs, of which the last has the key of the first, make a map of two; of two pairs that extend it, the
-/// second was refused.
+/// Three pairs, of which the last has the key of the first, make a map of two; of two pairs that extend it,
+/// the second was refused.
 pub fn items_in_a_row<S>()
-    ensures made { (s : S) (m : MapState ℕ ℕ S) → MadeFrom (InsertsPair nat_eq) ((1, 10) ∷ (2, 20) ∷ (1, 11) ∷ []) s m
+    ensures made { (s : S) (m : MapState ℕ ℕ S) → MadeFrom (InsertsPair nat_eq)
+        ((1, 10) ∷ (2, 20) ∷ (1, 11) ∷ []) s m
         → m.entries ≡ (2, 20) ∷ (1, 11) ∷ [] }
-    ensures stopped { (old new : MapState ℕ ℕ S) (taken : ℕ) (back : ℕ × ℕ) → old.entries ≡ (2, 20) ∷ (1, 11) ∷ []
+    ensures stopped { (old new : MapState ℕ ℕ S) (taken : ℕ) (back : ℕ × ℕ) → old.entries
+        ≡ (2, 20) ∷ (1, 11) ∷ []
         → StopsAt (InsertsPair nat_eq) old ((2, 21) ∷ (3, 30) ∷ []) new taken back []
         → (taken ≡ 1) × (back ≡ (3, 30)) × (new.entries ≡ (1, 11) ∷ (2, 21) ∷ []) }
 {}
@@ -26,27 +28,27 @@ pub fn accepted_items<K, V, S>()
         → AcceptsAll (InsertsPair eq) a (xs ++ ys) c }
 {}
 
-/// Where one item is refused, those before it are in, it is handed back, and the spare nodes are used up: so as many
-/// items as a drain left spare nodes all go in.
+/// Where one item is refused, those before it are in, it is handed back, and the spare nodes are used up: so
+/// as many items as a drain left spare nodes all go in.
 pub fn a_refused_item<K, V, S>()
-    ensures entries { (eq : K → K → Bool) (old new : MapState K V S) (items : List (K × V)) (taken : ℕ) (back : K × V)
-        (left : List (K × V))
+    ensures entries { (eq : K → K → Bool) (old new : MapState K V S) (items : List (K × V))
+        (taken : ℕ) (back : K × V) (left : List (K × V))
         → (s : StopsAt (InsertsPair eq) old items new taken back left)
         → new.entries ≡ extended eq old.entries s.before }
     ensures handed_back { (eq : K → K → Bool) (old new : MapState K V S) (items : List (K × V)) (taken : ℕ)
         (back : K × V) (left : List (K × V))
         → (s : StopsAt (InsertsPair eq) old items new taken back left)
         → back ≡ s.item }
-    ensures taken { (eq : K → K → Bool) (old new : MapState K V S) (items : List (K × V)) (taken : ℕ) (back : K × V)
-        (left : List (K × V))
+    ensures taken { (eq : K → K → Bool) (old new : MapState K V S) (items : List (K × V))
+        (taken : ℕ) (back : K × V) (left : List (K × V))
         → (s : StopsAt (InsertsPair eq) old items new taken back left)
         → (taken ≤ 2 ^ 64 - 1) × (length s.before < 2 ^ 64 → taken ≡ length s.before) }
-    ensures spare { (eq : K → K → Bool) (old new : MapState K V S) (items : List (K × V)) (taken : ℕ) (back : K × V)
-        (left : List (K × V))
+    ensures spare { (eq : K → K → Bool) (old new : MapState K V S) (items : List (K × V))
+        (taken : ℕ) (back : K × V) (left : List (K × V))
         → StopsAt (InsertsPair eq) old items new taken back left
         → old.spare < length items }
-    ensures after_a_drain { (eq : K → K → Bool) (full old new : MapState K V S) (items : List (K × V)) (taken : ℕ)
-        (back : K × V) (left : List (K × V))
+    ensures after_a_drain { (eq : K → K → Bool) (full old new : MapState K V S)
+        (items : List (K × V)) (taken : ℕ) (back : K × V) (left : List (K × V))
         → Drains full old → length items ≤ full.spare + length full.entries
         → StopsAt (InsertsPair eq) old items new taken back left
         → ⊥ }

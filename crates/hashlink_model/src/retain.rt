@@ -6,8 +6,8 @@ ghost use Rattle.hashlink_model.specs.Entries.{IsEntries};
 ghost use Rattle.hashlink_model.specs.Retain.{KeepsInSomeOrder, KeepsInOrder, in_order_of};
 ghost use Rattle.hashlink_model.specs.RetainRows.{PushesOdd, TimesTen, one_to_six};
 
-/// A closure that pushes odd keys to a list and returns false for them: it has pushed them in the list's order, and
-/// the even ones are left.
+/// A closure that pushes odd keys to a list and returns false for them: it has pushed them in the list's
+/// order, and the even ones are left.
 pub fn retain_with_a_closure_that_collects()
     ensures { KeepsInOrder PushesOdd [] one_to_six ((2, 2) ∷ (4, 4) ∷ (6, 6) ∷ []) (1 ∷ 3 ∷ 5 ∷ []) }
 {}
@@ -27,16 +27,20 @@ pub fn what_is_kept_stands_in_order()
 pub fn what_a_closure_ends_as<K, V, F: FnMut(&K, &mut V) -> bool>()
     ensures collected { (kept : List (ℕ × ℕ)) (g : List ℕ) → KeepsInOrder PushesOdd [] one_to_six kept g
         → (kept ≡ (2, 2) ∷ (4, 4) ∷ (6, 6) ∷ []) × (g ≡ 1 ∷ 3 ∷ 5 ∷ []) }
-    ensures unchanged { (new : List (ℕ × ℕ)) (g : ℕ) → KeepsInSomeOrder TimesTen nat_eq 7 one_to_six new g → g ≡ 7 }
+    ensures unchanged { (new : List (ℕ × ℕ)) (g : ℕ) → KeepsInSomeOrder TimesTen nat_eq 7
+        one_to_six new g → g ≡ 7 }
     ensures in_order { (stays : F → Bool)
         →
-        ((f : F) (k : K) (v : V) (b : Bool) (w : V) (g : F) → CalledAtPair F.FnMut f k v b w g → stays f ≡ true
+        ((f : F) (k : K) (v : V) (b : Bool) (w : V) (g : F) → CalledAtPair F.FnMut f k v b w g
+        → stays f ≡ true
         → stays g ≡ true)
-        → (f : F) (es kept : List (K × V)) (g : F) → KeepsInOrder (CalledAtPair F.FnMut) f es kept g → stays f ≡ true
+        → (f : F) (es kept : List (K × V)) (g : F) → KeepsInOrder (CalledAtPair F.FnMut) f es kept g
+        → stays f ≡ true
         → stays g ≡ true }
     ensures some_order { (stays : F → Bool)
         →
-        ((f : F) (k : K) (v : V) (b : Bool) (w : V) (g : F) → CalledAtPair F.FnMut f k v b w g → stays f ≡ true
+        ((f : F) (k : K) (v : V) (b : Bool) (w : V) (g : F) → CalledAtPair F.FnMut f k v b w g
+        → stays f ≡ true
         → stays g ≡ true)
         → (eq : K → K → Bool) (f : F) (es new : List (K × V)) (g : F)
         → KeepsInSomeOrder (CalledAtPair F.FnMut) eq f es new g → stays f ≡ true
@@ -72,7 +76,8 @@ pub fn retain_keeps_keys_unequal<K, V, F: FnMut(&K, &mut V) -> bool>()
 
 /// The list's own order is one of the orders that a retain may take.
 pub fn retain_in_order_is_a_retain<K, V, F: FnMut(&K, &mut V) -> bool>()
-    ensures { (eq : K → K → Bool) → IsEquivalence eq → (f : F) (es new : List (K × V)) (g : F) → IsEntries eq es
+    ensures { (eq : K → K → Bool) → IsEquivalence eq → (f : F) (es new : List (K × V))
+        (g : F) → IsEntries eq es
         → KeepsInOrder (CalledAtPair F.FnMut) f es new g
         → KeepsInSomeOrder (CalledAtPair F.FnMut) eq f es new g }
 {}

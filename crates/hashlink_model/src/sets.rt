@@ -1,5 +1,6 @@
 //! Rows and laws of sets.
-ghost use Rattle.std.specs.Prelude.{◌≡◌, ℕ, ◌+◌, Bool, true, false, not, ◌||◌, nat_eq, List, [], ◌∷◌, ◌++◌, Option};
+ghost use Rattle.std.specs.Prelude.{◌≡◌, ℕ, ◌+◌, Bool, true, false, not, ◌||◌, nat_eq, List, [], ◌∷◌, ◌++◌};
+ghost use Rattle.std.specs.Prelude.{Option};
 ghost use Rattle.std.specs.Prelude.{Some, Ok, Err, is_some, length, filter, cond, slice_get, slice_set};
 ghost use Rattle.std.specs.Cmp.{IsEquivalence};
 ghost use Rattle.std.specs.List.{IsDistinct, AllZip, find};
@@ -12,7 +13,8 @@ ghost use Rattle.hashlink_model.specs.Entries.{IsEntries, put, extended};
 ghost use Rattle.hashlink_model.specs.MapState.{Inserts};
 ghost use Rattle.hashlink_model.specs.Retain.{KeepsInOrder, KeepsInSomeOrder};
 ghost use Rattle.hashlink_model.specs.Steps.{RemovesKey, Moves, PopsFront, PopsBack};
-ghost use Rattle.hashlink_model.specs.Sets.{SetState, elements_of, at_element, pairs_of, put_element, replaced};
+ghost use Rattle.hashlink_model.specs.Sets.{SetState, elements_of, at_element, pairs_of, put_element};
+ghost use Rattle.hashlink_model.specs.Sets.{replaced};
 ghost use Rattle.hashlink_model.specs.Sets.{stored_element, SetInserts, GetsOrInserts, SetReplaces};
 ghost use Rattle.hashlink_model.specs.Labels as labels;
 ghost use Rattle.hashlink_model.specs.Numbers as numbers;
@@ -32,8 +34,8 @@ pub fn a_set_in_order()
         ≡ 2 ∷ 1 ∷ [] }
 {}
 
-/// A set is the map with nothing as value: its elements and its entries say the same, and an element is put as a key
-/// is.
+/// A set is the map with nothing as value: its elements and its entries say the same, and an element is put
+/// as a key is.
 pub fn a_set_is_a_map<T>()
     ensures entries { (es : List (T × Unit {0})) → pairs_of (keys_of es) ≡ es }
     ensures elements { (ts : List T) → keys_of (pairs_of ts) ≡ ts }
@@ -49,8 +51,8 @@ pub fn set_steps_keep_elements_unequal<T>()
         → IsDistinct eq (replaced eq ts t) }
 {}
 
-/// After an element is put or replaced the members are the ones that were there and the one given, and the set is
-/// longer by one exactly where it was new.
+/// After an element is put or replaced the members are the ones that were there and the one given, and the
+/// set is longer by one exactly where it was new.
 pub fn members_after_set_steps<T>()
     ensures put { (eq : T → T → Bool) → IsEquivalence eq → (ts : List T) (t : T) (b : ℕ) (q : T)
         → is_member eq (put_element eq ts t b) q ≡ (eq t q || is_member eq ts q) }
@@ -66,15 +68,17 @@ pub fn members_after_set_steps<T>()
         → length (replaced eq ts t) ≡ length ts }
 {}
 
-/// A replace lets the element given in at the place of the equal one, and an absent one last; every other element
-/// stays at its place.
+/// A replace lets the element given in at the place of the equal one, and an absent one last; every other
+/// element stays at its place.
 pub fn replacing_leaves_every_element<T>()
-    ensures there { (eq : T → T → Bool) → IsEquivalence eq → (ts : List T) (t x : T) (j : ℕ) → IsDistinct eq ts
+    ensures there { (eq : T → T → Bool) → IsEquivalence eq → (ts : List T) (t x : T)
+        (j : ℕ) → IsDistinct eq ts
         → slice_get ts j ≡ Some x → eq t x ≡ true
         → replaced eq ts t ≡ slice_set ts j t }
     ensures absent { (eq : T → T → Bool) (ts : List T) (t : T) → is_member eq ts t ≡ false
         → replaced eq ts t ≡ ts ++ t ∷ [] }
-    ensures others { (eq : T → T → Bool) (ts : List T) (t x : T) (i : ℕ) → slice_get ts i ≡ Some x → eq t x ≡ false
+    ensures others { (eq : T → T → Bool) (ts : List T) (t x : T) (i : ℕ) → slice_get ts i
+        ≡ Some x → eq t x ≡ false
         → slice_get (replaced eq ts t) i ≡ Some x }
 {}
 
@@ -103,10 +107,11 @@ pub fn elements_after_steps<T, S>()
         → elements_of old ≡ elements_of new ++ e.0 ∷ [] }
 {}
 
-/// What the set's own steps leave and answer: an insert says whether the element was new and keeps the object that is
-/// there, a replace hands that object out and lets the new one in at its place.
+/// What the set's own steps leave and answer: an insert says whether the element was new and keeps the object
+/// that is there, a replace hands that object out and lets the new one in at its place.
 pub fn what_set_steps_leave<T, S>()
-    ensures insert { (eq : T → T → Bool) (old new : SetState T S) (t : T) (b : Bool) → SetInserts eq old new t (Ok b)
+    ensures insert { (eq : T → T → Bool) (old new : SetState T S) (t : T) (b : Bool)
+        → SetInserts eq old new t (Ok b)
         → (elements_of new ≡ put_element eq (elements_of old) t (length (elements_of old)))
         × (b ≡ not (is_member eq (elements_of old) t)) }
     ensures replace { (eq : T → T → Bool) (old new : SetState T S) (t : T) (o : Option T)
@@ -120,8 +125,8 @@ pub fn what_set_steps_leave<T, S>()
         → (o ≡ Some 3) × (elements_of new ≡ 2 ∷ 3 ∷ 1 ∷ []) }
 {}
 
-/// An element that is put last or first stands there as the object that the set has for it, and a second put at that
-/// end changes nothing; nor does one at the place where it stands, or directly behind itself.
+/// An element that is put last or first stands there as the object that the set has for it, and a second put
+/// at that end changes nothing; nor does one at the place where it stands, or directly behind itself.
 pub fn where_an_element_is_put<T>()
     ensures back { (eq : T → T → Bool) (ts : List T) (t : T)
         → put_element eq ts t (length ts) ≡ remove_key (eq t) ts ++ stored_element eq ts t ∷ [] }
@@ -132,15 +137,18 @@ pub fn where_an_element_is_put<T>()
         ≡ put_element eq ts t (length ts) }
     ensures front_twice { (eq : T → T → Bool) → IsEquivalence eq → (ts : List T) (t : T) → IsDistinct eq ts
         → put_element eq (put_element eq ts t 0) t 0 ≡ put_element eq ts t 0 }
-    ensures there { (eq : T → T → Bool) → IsEquivalence eq → (ts : List T) (j : ℕ) (x t : T) → IsDistinct eq ts
+    ensures there { (eq : T → T → Bool) → IsEquivalence eq → (ts : List T) (j : ℕ)
+        (x t : T) → IsDistinct eq ts
         → slice_get ts j ≡ Some x → eq t x ≡ true
         → put_element eq ts t j ≡ ts }
-    ensures behind { (eq : T → T → Bool) → IsEquivalence eq → (ts : List T) (j : ℕ) (x t : T) → IsDistinct eq ts
+    ensures behind { (eq : T → T → Bool) → IsEquivalence eq → (ts : List T) (j : ℕ)
+        (x t : T) → IsDistinct eq ts
         → slice_get ts j ≡ Some x → eq t x ≡ true
         → put_element eq ts t (j + 1) ≡ ts }
 {}
 
-/// A set's own elements inserted in turn into an empty set give the set, and equal clones of them an equal one.
+/// A set's own elements inserted in turn into an empty set give the set, and equal clones of them an equal
+/// one.
 pub fn a_set_from_elements<T>()
     ensures own { (eq : T → T → Bool) → IsEquivalence eq → (ts : List T) → IsDistinct eq ts
         → keys_of (extended eq [] (pairs_of ts)) ≡ ts }
@@ -156,7 +164,9 @@ pub fn a_set_retained_by_a_predicate<T, F: FnMut(&T) -> bool>()
         → (f : F) (es new : List (T × Unit {0})) (g : F) → IsEntries eq es
         → KeepsInSomeOrder (at_element (CalledAt F.FnMut)) eq f es new g
         → keys_of new ≡ filter p (keys_of es) }
-    ensures in_order { (p : T → Bool) → ((g : F) (t : T) (b : Bool) (h : F) → CalledAt F.FnMut g t b h → b ≡ p t)
-        → (f : F) (es new : List (T × Unit {0})) (g : F) → KeepsInOrder (at_element (CalledAt F.FnMut)) f es new g
+    ensures in_order { (p : T → Bool)
+        → ((g : F) (t : T) (b : Bool) (h : F) → CalledAt F.FnMut g t b h → b ≡ p t)
+        → (f : F) (es new : List (T × Unit {0})) (g : F)
+        → KeepsInOrder (at_element (CalledAt F.FnMut)) f es new g
         → keys_of new ≡ filter p (keys_of es) }
 {}

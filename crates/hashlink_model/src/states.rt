@@ -1,18 +1,20 @@
 //! Rows and laws of the states of a map and the steps between them.
-ghost use Rattle.std.specs.Prelude.{◌≡◌, ℕ, ◌+◌, ◌≤◌, ◌<◌, max, Bool, true, false, List, [], ◌∷◌, ◌++◌, Option, None};
+ghost use Rattle.std.specs.Prelude.{◌≡◌, ℕ, ◌+◌, ◌≤◌, ◌<◌, max, Bool, true, false, List, [], ◌∷◌, ◌++◌};
+ghost use Rattle.std.specs.Prelude.{Option, None};
 ghost use Rattle.std.specs.Prelude.{Some, Result, Ok, Err, IsOk, length, nat_eq};
 ghost use Rattle.std.specs.Cmp.{IsEquivalence};
 ghost use Rattle.std.specs.Map.{keys_of, lookup, lookup_entry};
 ghost use Rattle.hashlink_model.specs.Entries.{IsEntries, without};
-ghost use Rattle.hashlink_model.specs.MapState.{MapState, empty_map, node_count, HasRoom, MayRefuse, Changes, Adds};
+ghost use Rattle.hashlink_model.specs.MapState.{MapState, empty_map, node_count, HasRoom, MayRefuse, Changes};
+ghost use Rattle.hashlink_model.specs.MapState.{Adds};
 ghost use Rattle.hashlink_model.specs.MapState.{Removes, Grows, AddsEntry, PutsEntry, Inserts};
 ghost use Rattle.hashlink_model.specs.Peak.{KeepsNodes};
 ghost use Rattle.hashlink_model.specs.Steps.{PopsFront, PopsBack, KeepsOnly, WritesEntry, Replaces, Moves};
 ghost use Rattle.hashlink_model.specs.Steps.{MovesAndWrites, RemovesKey, Clears, Drains, Reserves, Shrinks};
 ghost use Rattle.hashlink_model.specs.Steps.{IsMadeWith};
 
-/// An insert is refused only for an absent key without a spare node; the pair is handed back, and no entry and no
-/// spare node changes.
+/// An insert is refused only for an absent key without a spare node; the pair is handed back, and no entry
+/// and no spare node changes.
 pub fn a_refused_insert_changes_nothing<K, V, S>()
     ensures absent { (eq : K → K → Bool) (old new : MapState K V S) (k : K) (v : V) (b : ℕ) (pair : K × V)
         → Inserts eq old new k v b (Err pair)
@@ -28,8 +30,8 @@ pub fn a_refused_insert_changes_nothing<K, V, S>()
         → new.entries ≡ old.entries }
 {}
 
-/// Two entries, one taken out: the node is spare and serves the next new key without refusal, and the one after that
-/// may be refused.
+/// Two entries, one taken out: the node is spare and serves the next new key without refusal, and the one
+/// after that may be refused.
 pub fn a_spare_node_serves_the_next_key<S>()
     ensures removed { (old new : MapState ℕ ℕ S) → old.spare ≡ 0
         → Removes old new (without nat_eq ((1, 10) ∷ (2, 20) ∷ (3, 30) ∷ []) 2)
@@ -37,19 +39,21 @@ pub fn a_spare_node_serves_the_next_key<S>()
     ensures served { (old new : MapState ℕ ℕ S) (pair : ℕ × ℕ) → old.spare ≡ 1
         → Inserts nat_eq old new 4 40 2 (Err pair)
         → ⊥ }
-    ensures used { (old new : MapState ℕ ℕ S) → old.spare ≡ 1 → AddsEntry nat_eq old new 4 40 2 → new.spare ≡ 0 }
+    ensures used { (old new : MapState ℕ ℕ S) → old.spare ≡ 1 → AddsEntry nat_eq old new 4 40 2
+        → new.spare ≡ 0 }
 {}
 
-/// A drain leaves nothing and a spare node for each entry, also where it ends early; a clear leaves the spare nodes
-/// as they were.
+/// A drain leaves nothing and a spare node for each entry, also where it ends early; a clear leaves the spare
+/// nodes as they were.
 pub fn what_a_drain_and_a_clear_leave<K, V, S>()
     ensures drained { (old new : MapState K V S) → Drains old new
         → (new.entries ≡ []) × (new.spare ≡ old.spare + length old.entries) }
-    ensures cleared { (old new : MapState K V S) → Clears old new → (new.entries ≡ []) × (new.spare ≡ old.spare) }
+    ensures cleared { (old new : MapState K V S) → Clears old new → (new.entries ≡ [])
+        × (new.spare ≡ old.spare) }
 {}
 
-/// A value that is written keeps its entry's place and stores no link, a move keeps the value, and neither makes a
-/// node spare; a move of an absent key changes nothing.
+/// A value that is written keeps its entry's place and stores no link, a move keeps the value, and neither
+/// makes a node spare; a move of an absent key changes nothing.
 pub fn what_a_write_and_a_move_leave<S>()
     ensures written { (old new : MapState ℕ ℕ S) (w : ℕ) → old.entries ≡ (1, 10) ∷ (2, 20) ∷ []
         → WritesEntry nat_eq old new 1 11 w
@@ -66,8 +70,8 @@ pub fn what_a_write_and_a_move_leave<S>()
         → new.entries ≡ (2, 20) ∷ (1, 11) ∷ [] }
 {}
 
-/// A replace of a key that is there returns the old value, leaves the key at its place and stores no link; one of an
-/// absent key is an insert.
+/// A replace of a key that is there returns the old value, leaves the key at its place and stores no link;
+/// one of an absent key is an insert.
 pub fn what_a_replace_leaves<K, V, S>()
     ensures there { (old new : MapState ℕ ℕ S) (w : ℕ) → old.entries ≡ (1, 10) ∷ (2, 20) ∷ []
         → Replaces nat_eq old new 1 11 (Ok (Some w))
@@ -83,7 +87,8 @@ pub fn what_a_replace_leaves<K, V, S>()
         → new.link_writes ≡ old.link_writes }
 {}
 
-/// A write keeps every key and its place and changes one value, a move changes no value, and both keep every node.
+/// A write keeps every key and its place and changes one value, a move changes no value, and both keep every
+/// node.
 pub fn writes_and_moves_keep_the_keys<K, V, S>()
     ensures written_keys { (eq : K → K → Bool) (old new : MapState K V S) (k : K) (v w : V)
         → WritesEntry eq old new k v w
@@ -113,8 +118,8 @@ pub fn writes_and_moves_keep_the_keys<K, V, S>()
         → node_count new ≡ node_count old }
 {}
 
-/// A reserve for a hundred more entries on a map of two leaves the entries and makes room for 102; where the room is
-/// enough it is not refused, and where it is refused it changes nothing.
+/// A reserve for a hundred more entries on a map of two leaves the entries and makes room for 102; where the
+/// room is enough it is not refused, and where it is refused it changes nothing.
 pub fn what_a_reserve_leaves<K, V, S, E>()
     ensures enough { (old new : MapState ℕ ℕ S) → old.entries ≡ (1, 10) ∷ (2, 20) ∷ []
         → Reserves {E = E} old new 100 (Ok tt)
@@ -125,15 +130,17 @@ pub fn what_a_reserve_leaves<K, V, S, E>()
         → IsOk r × (new ≡ old) }
 {}
 
-/// A shrink leaves no spare node, refused or not, so that the next new key may be refused. A refused one keeps the
-/// room, none raises it, and a map without entries has no room afterwards.
+/// A shrink leaves no spare node, refused or not, so that the next new key may be refused. A refused one
+/// keeps the room, none raises it, and a map without entries has no room afterwards.
 pub fn what_a_shrink_leaves<K, V, S, E>()
-    ensures empty { (old new : MapState K V S) (r : Result (Unit {0}) E) → old.entries ≡ [] → Shrinks old new r
+    ensures empty { (old new : MapState K V S) (r : Result (Unit {0}) E) → old.entries
+        ≡ [] → Shrinks old new r
         → (new.room ≡ 0) × IsOk r }
     ensures refused { (eq : K → K → Bool) (old new : MapState K V S) (k : K) (e : E)
         → lookup (eq k) old.entries ≡ None → Shrinks old new (Err e)
         → (new.entries ≡ old.entries) × MayRefuse eq new k × (new.room ≡ old.room) }
-    ensures no_more_room { (old new : MapState ℕ ℕ S) (r : Result (Unit {0}) E) → old.room ≡ 4 → Shrinks old new r
+    ensures no_more_room { (old new : MapState ℕ ℕ S) (r : Result (Unit {0}) E) → old.room
+        ≡ 4 → Shrinks old new r
         → new.room ≤ 4 }
     ensures fitted { (old new : MapState ℕ ℕ S) → old.entries ≡ (1, 10) ∷ [] → Shrinks {E = E} old new (Ok tt)
         → new.room ≡ 1 }
@@ -141,7 +148,8 @@ pub fn what_a_shrink_leaves<K, V, S, E>()
 
 /// A removal by key hands the stored pair out, and one of an absent key changes nothing.
 pub fn what_a_removal_leaves<S>()
-    ensures there { (old new : MapState ℕ ℕ S) (r : Option (ℕ × ℕ)) → old.entries ≡ (1, 10) ∷ (2, 20) ∷ (3, 30) ∷ []
+    ensures there { (old new : MapState ℕ ℕ S) (r : Option (ℕ × ℕ)) → old.entries ≡ (1, 10) ∷
+        (2, 20) ∷ (3, 30) ∷ []
         → RemovesKey nat_eq old new 2 r
         → (r ≡ Some (2, 20)) × (new.entries ≡ (1, 10) ∷ (3, 30) ∷ []) × (new.spare ≡ old.spare + 1) }
     ensures absent { (old new : MapState ℕ ℕ S) (r : Option (ℕ × ℕ)) → old.entries ≡ (1, 10) ∷ []
@@ -156,20 +164,23 @@ pub fn what_a_map_is_made_with<K, V, S>()
     ensures none { (s : S) (m : MapState K V S) → IsMadeWith 0 s m → m ≡ empty_map s }
 {}
 
-/// Steps that only take entries away: two in a row are one, and a removal is one. No step of the kind adds an entry.
+/// Steps that only take entries away: two in a row are one, and a removal is one. No step of the kind adds an
+/// entry.
 pub fn steps_that_take_away<K, V, S>()
-    ensures removal { (old new : MapState K V S) (es : List (K × V)) → Removes old new es → KeepsOnly old new es }
+    ensures removal { (old new : MapState K V S) (es : List (K × V)) → Removes old new es
+        → KeepsOnly old new es }
     ensures two { (a b c : MapState K V S) (es fs : List (K × V)) → KeepsOnly a b es → KeepsOnly b c fs
         → KeepsOnly a c fs }
     ensures no_more { (old new : MapState ℕ ℕ S) → old.entries ≡ (1, 10) ∷ []
         → KeepsOnly old new ((1, 10) ∷ (2, 20) ∷ [])
         → ⊥ }
-    ensures fewer { (old new : MapState ℕ ℕ S) → old.entries ≡ (1, 10) ∷ [] → Removes old new ((1, 10) ∷ (2, 20) ∷ [])
+    ensures fewer { (old new : MapState ℕ ℕ S) → old.entries ≡ (1, 10) ∷ [] → Removes old new
+        ((1, 10) ∷ (2, 20) ∷ [])
         → ⊥ }
 {}
 
-/// A pop hands out the first or the last entry and takes it out, as a removal by its key does; of an empty map it
-/// changes nothing.
+/// A pop hands out the first or the last entry and takes it out, as a removal by its key does; of an empty
+/// map it changes nothing.
 pub fn what_a_pop_leaves<K, V, S>()
     ensures front { (old new : MapState K V S) (e : K × V) → PopsFront old new (Some e)
         → (old.entries ≡ e ∷ new.entries) × (new.spare ≡ old.spare + 1) }
@@ -183,8 +194,8 @@ pub fn what_a_pop_leaves<K, V, S>()
         → without eq (es ++ e ∷ []) e.0 ≡ es }
 {}
 
-/// How many nodes a map keeps: an insert of a new key makes one only where none is spare, a removal keeps it, a
-/// shrink gives the spare ones back.
+/// How many nodes a map keeps: an insert of a new key makes one only where none is spare, a removal keeps it,
+/// a shrink gives the spare ones back.
 pub fn nodes_after_steps<K, V, S, E>()
     ensures adds { (old new : MapState K V S) (es : List (K × V)) → Adds old new es
         → node_count new ≡ max (node_count old) (length new.entries) }
@@ -209,23 +220,26 @@ pub fn room_after_steps<K, V, S, E>()
     ensures changes { (old new : MapState K V S) (es : List (K × V)) (most : ℕ) → Changes old new es most
         → length es ≤ length old.entries → HasRoom old
         → HasRoom new }
-    ensures removes { (old new : MapState K V S) (es : List (K × V)) → Removes old new es → HasRoom old → HasRoom new }
+    ensures removes { (old new : MapState K V S) (es : List (K × V)) → Removes old new es
+        → HasRoom old → HasRoom new }
     ensures grows { (old new : MapState K V S) (n : ℕ) → Grows n old new → HasRoom old → HasRoom new }
-    ensures keeps { (old new : MapState K V S) (es : List (K × V)) → KeepsOnly old new es → HasRoom old → HasRoom new }
+    ensures keeps { (old new : MapState K V S) (es : List (K × V)) → KeepsOnly old new es
+        → HasRoom old → HasRoom new }
     ensures reserves { (old new : MapState K V S) (n : ℕ) (r : Result (Unit {0}) E) → Reserves old new n r
         → HasRoom old
         → HasRoom new }
     ensures shrinks { (old new : MapState K V S) (r : Result (Unit {0}) E) → Shrinks old new r → HasRoom new }
 {}
 
-/// Every node is kept, and one is made only where there are more entries than nodes: by each step but a clear and a
-/// shrink.
+/// Every node is kept, and one is made only where there are more entries than nodes: by each step but a clear
+/// and a shrink.
 pub fn every_node_is_kept<K, V, S, E>()
     ensures inserts { (old new : MapState K V S) (eq : K → K → Bool) (k : K) (v : V) (b : ℕ)
         (r : Result (Option V) (K × V))
         → Inserts eq old new k v b r
         → KeepsNodes old new }
-    ensures replaces { (old new : MapState K V S) (eq : K → K → Bool) (k : K) (v : V) (r : Result (Option V) (K × V))
+    ensures replaces { (old new : MapState K V S) (eq : K → K → Bool) (k : K) (v : V)
+        (r : Result (Option V) (K × V))
         → Replaces eq old new k v r
         → KeepsNodes old new }
     ensures moves { (old new : MapState K V S) (eq : K → K → Bool) (k : K) (b : ℕ) (r : Option V)
@@ -240,22 +254,26 @@ pub fn every_node_is_kept<K, V, S, E>()
     ensures removes_key { (old new : MapState K V S) (eq : K → K → Bool) (k : K) (r : Option (K × V))
         → RemovesKey eq old new k r
         → KeepsNodes old new }
-    ensures pops_front { (old new : MapState K V S) (r : Option (K × V)) → PopsFront old new r → KeepsNodes old new }
-    ensures pops_back { (old new : MapState K V S) (r : Option (K × V)) → PopsBack old new r → KeepsNodes old new }
-    ensures keeps_only { (old new : MapState K V S) (es : List (K × V)) → KeepsOnly old new es → KeepsNodes old new }
+    ensures pops_front { (old new : MapState K V S) (r : Option (K × V)) → PopsFront old new r
+        → KeepsNodes old new }
+    ensures pops_back { (old new : MapState K V S) (r : Option (K × V)) → PopsBack old new r
+        → KeepsNodes old new }
+    ensures keeps_only { (old new : MapState K V S) (es : List (K × V)) → KeepsOnly old new es
+        → KeepsNodes old new }
     ensures reserves { (old new : MapState K V S) (n : ℕ) (r : Result (Unit {0}) E) → Reserves old new n r
         → KeepsNodes old new }
 {}
 
-/// So nodes fall only by a clear, which leaves the spare ones, and by a shrink. A map that has no fewer nodes than
-/// one that was longer has a spare one, and no insert into it is refused.
+/// So nodes fall only by a clear, which leaves the spare ones, and by a shrink. A map that has no fewer nodes
+/// than one that was longer has a spare one, and no insert into it is refused.
 pub fn a_map_shorter_than_it_was<K, V, S>()
     ensures never_fall { (old new : MapState K V S) → KeepsNodes old new → node_count old ≤ node_count new }
     ensures cleared { (old new : MapState K V S) → Clears old new → node_count new ≡ old.spare }
     ensures spare { (old new : MapState K V S) → node_count old ≤ node_count new
         → length new.entries < length old.entries
         → 1 ≤ new.spare }
-    ensures not_refused { (old new : MapState K V S) (eq : K → K → Bool) (k : K) → node_count old ≤ node_count new
+    ensures not_refused { (old new : MapState K V S) (eq : K → K → Bool) (k : K)
+        → node_count old ≤ node_count new
         → length new.entries < length old.entries → MayRefuse eq new k
         → ⊥ }
 {}

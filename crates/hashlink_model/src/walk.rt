@@ -3,7 +3,8 @@ ghost use Rattle.std.specs.Prelude.{◌≡◌, ℕ, ◌-◌, Bool, List, [], ◌
 ghost use Rattle.std.specs.Map.{keys_of, set_value};
 ghost use Rattle.std.specs.Map.Iter.{TakesFirst, TakesLast};
 ghost use Rattle.hashlink_model.specs.Entries.{place_of, set_value_at};
-ghost use Rattle.hashlink_model.specs.Walk.{End, Front, Back, first_of, after_first_of, last_of, before_last_of};
+ghost use Rattle.hashlink_model.specs.Walk.{End, Front, Back, first_of, after_first_of, last_of};
+ghost use Rattle.hashlink_model.specs.Walk.{before_last_of};
 ghost use Rattle.hashlink_model.specs.Walk.{step_gives, step_leaves, walk_gives, walk_leaves, given_front};
 ghost use Rattle.hashlink_model.specs.Walk.{given_back};
 ghost use Rattle.hashlink_model.specs.Numbers as numbers;
@@ -12,8 +13,10 @@ ghost use Rattle.hashlink_model.specs.Numbers as numbers;
 pub fn a_walk_from_both_ends()
     ensures gives { walk_gives {X = ℕ} (Front ∷ Front ∷ Back ∷ Back ∷ Back ∷ Front ∷ []) (1 ∷ 2 ∷ 3 ∷ 4 ∷ [])
         ≡ Some 1 ∷ Some 2 ∷ Some 4 ∷ Some 3 ∷ None ∷ None ∷ [] }
-    ensures leaves { walk_leaves {X = ℕ} (Front ∷ Front ∷ Back ∷ Back ∷ Back ∷ Front ∷ []) (1 ∷ 2 ∷ 3 ∷ 4 ∷ []) ≡ [] }
-    ensures one_left { walk_leaves {X = ℕ × ℕ} (Front ∷ Back ∷ []) ((1, 10) ∷ (3, 30) ∷ (2, 20) ∷ []) ≡ (3, 30) ∷ [] }
+    ensures leaves { walk_leaves {X = ℕ} (Front ∷ Front ∷ Back ∷ Back ∷ Back ∷ Front ∷ [])
+        (1 ∷ 2 ∷ 3 ∷ 4 ∷ []) ≡ [] }
+    ensures one_left { walk_leaves {X = ℕ × ℕ} (Front ∷ Back ∷ []) ((1, 10) ∷ (3, 30) ∷ (2, 20) ∷ [])
+        ≡ (3, 30) ∷ [] }
 {}
 
 /// A writing walk changes the values at the places that it lent.
@@ -28,7 +31,8 @@ pub fn a_step_takes_an_end<X>()
     ensures back { (xs : List X) → TakesLast (λ x. x) xs (last_of xs) (before_last_of xs) }
 {}
 
-/// However a walk goes, each entry comes once: what the front gave, what is left and what the back gave are the list.
+/// However a walk goes, each entry comes once: what the front gave, what is left and what the back gave are
+/// the list.
 pub fn a_walk_gives_each_entry_once<X>()
     ensures { (steps : List End) (xs : List X)
         → given_front steps xs ++ (walk_leaves steps xs ++ given_back steps xs) ≡ xs }
@@ -36,7 +40,8 @@ pub fn a_walk_gives_each_entry_once<X>()
 
 /// The size hint is what is left, and of an empty part both ends give None for good.
 pub fn a_walk_ends<X>()
-    ensures hint { (steps : List End) (xs : List X) → length (walk_leaves steps xs) ≡ length xs - length steps }
+    ensures hint { (steps : List End) (xs : List X) → length (walk_leaves steps xs)
+        ≡ length xs - length steps }
     ensures gives_none { (end : End) → ◌≡◌ {A = Option X} (step_gives end []) None }
     ensures for_good { (end : End) → ◌≡◌ {A = List X} (step_leaves end []) [] }
 {}

@@ -1,5 +1,6 @@
 //! Rows and laws of entries with weights.
-ghost use Rattle.std.specs.Prelude.{Bool, true, false, ◌≡◌, ℕ, ◌+◌, ◌^◌, ◌-◌, ◌≤◌, nat_eq, Option, List, [], ◌∷◌};
+ghost use Rattle.std.specs.Prelude.{Bool, true, false, ◌≡◌, ℕ, ◌+◌, ◌^◌, ◌-◌, ◌≤◌, nat_eq, Option, List, []};
+ghost use Rattle.std.specs.Prelude.{◌∷◌};
 ghost use Rattle.std.specs.Prelude.{◌++◌, Some, None, length};
 ghost use Rattle.std.specs.Cmp.{IsEquivalence};
 ghost use Rattle.std.specs.Map.{lookup, lookup_entry};
@@ -13,11 +14,12 @@ pub fn inserts_within_a_budget()
     ensures three { numbers.weighted_insert ((1, (10, 4)) ∷ (2, (20, 4)) ∷ []) 10 3 30 4
         ≡ (2, (20, 4)) ∷ (3, (30, 4)) ∷ [] }
     ensures total { numbers.total ((2, (20, 4)) ∷ (3, (30, 4)) ∷ []) ≡ 8 }
-    ensures new_weight { numbers.weighted_insert ((2, (20, 4)) ∷ (3, (30, 4)) ∷ []) 10 2 21 9 ≡ (2, (21, 9)) ∷ [] }
+    ensures new_weight { numbers.weighted_insert ((2, (20, 4)) ∷ (3, (30, 4)) ∷ []) 10 2 21 9
+        ≡ (2, (21, 9)) ∷ [] }
     ensures weightless { numbers.weighted_insert ((1, (10, 0)) ∷ (2, (20, 5)) ∷ []) 5 3 30 0
         ≡ (1, (10, 0)) ∷ (2, (20, 5)) ∷ (3, (30, 0)) ∷ [] }
-    ensures after_weightless { numbers.weighted_insert ((1, (10, 0)) ∷ (2, (20, 5)) ∷ (3, (30, 0)) ∷ []) 5 4 40 1
-        ≡ (3, (30, 0)) ∷ (4, (40, 1)) ∷ [] }
+    ensures after_weightless { numbers.weighted_insert ((1, (10, 0)) ∷ (2, (20, 5)) ∷ (3, (30, 0)) ∷ [])
+        5 4 40 1 ≡ (3, (30, 0)) ∷ (4, (40, 1)) ∷ [] }
     ensures greatest { numbers.weighted_insert ((1, (10, 2 ^ 64 - 1)) ∷ []) (2 ^ 64 - 1) 2 20 (2 ^ 64 - 1)
         ≡ (2, (20, 2 ^ 64 - 1)) ∷ [] }
     ensures nothing { numbers.weighted_insert [] 0 1 10 0 ≡ (1, (10, 0)) ∷ [] }
@@ -26,13 +28,14 @@ pub fn inserts_within_a_budget()
 /// The fitting end fits, it is an end, and no longer end fits.
 pub fn fitting_is_the_longest_end_that_fits<K, V>()
     ensures fits { (es : List (K × (V × ℕ))) (budget : ℕ) → total_weight (fitting es budget) ≤ budget }
-    ensures end { (es : List (K × (V × ℕ))) (budget : ℕ) → (xs : List (K × (V × ℕ))) × (es ≡ xs ++ fitting es budget) }
+    ensures end { (es : List (K × (V × ℕ))) (budget : ℕ) → (xs : List (K × (V × ℕ)))
+        × (es ≡ xs ++ fitting es budget) }
     ensures longest { (xs ys : List (K × (V × ℕ))) (budget : ℕ) → total_weight ys ≤ budget
         → length ys ≤ length (fitting (xs ++ ys) budget) }
 {}
 
-/// After an insert within a budget no two keys are equal, the pair is the last one, and the weights sum to at most
-/// the budget.
+/// After an insert within a budget no two keys are equal, the pair is the last one, and the weights sum to at
+/// most the budget.
 pub fn what_an_insert_within_a_budget_leaves<K, V>()
     ensures keys { (eq : K → K → Bool) → IsEquivalence eq
         → (es : List (K × (V × ℕ))) (budget : ℕ) (k : K) (v : V) (weight : ℕ) → IsEntries eq es
@@ -44,8 +47,8 @@ pub fn what_an_insert_within_a_budget_leaves<K, V>()
         → 1 ≤ length (weighted_put eq es budget k v weight) }
 {}
 
-/// After an insert within a budget of a pair that is not too heavy the key has the new value and weight, and what is
-/// still there of the others is what was there.
+/// After an insert within a budget of a pair that is not too heavy the key has the new value and weight, and
+/// what is still there of the others is what was there.
 pub fn lookup_after_an_insert_within_a_budget<K, V>()
     ensures at_key { (eq : K → K → Bool) → IsEquivalence eq
         → (q : K) (es : List (K × (V × ℕ))) (budget : ℕ) (k : K) (v : V) (weight : ℕ) → IsEntries eq es
@@ -53,12 +56,13 @@ pub fn lookup_after_an_insert_within_a_budget<K, V>()
         → lookup (eq q) (weighted_put eq es budget k v weight) ≡ Some (v, weight) }
     ensures at_others { (eq : K → K → Bool) → IsEquivalence eq
         → (q : K) (es : List (K × (V × ℕ))) (budget : ℕ) (k : K) (v : V) (weight : ℕ) (e : K × (V × ℕ))
-        → IsEntries eq es → eq k q ≡ false → lookup_entry (eq q) (weighted_put eq es budget k v weight) ≡ Some e
+        → IsEntries eq es → eq k q ≡ false → lookup_entry (eq q) (weighted_put eq es budget k v weight)
+        ≡ Some e
         → lookup_entry (eq q) es ≡ Some e }
 {}
 
-/// An accepted insert leaves the fitting end within the budget and returns the old value; one that is too heavy
-/// changes nothing, one for which memory was refused no entry, and a pair is never both.
+/// An accepted insert leaves the fitting end within the budget and returns the old value; one that is too
+/// heavy changes nothing, one for which memory was refused no entry, and a pair is never both.
 pub fn what_inserts_within_a_budget_leave<K, V, S>()
     ensures entries { (eq : K → K → Bool) (old new : WeightedState K V S) (k : K) (v : V) (weight : ℕ)
         (w : Option (V × ℕ))

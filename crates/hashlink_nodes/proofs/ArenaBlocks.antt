@@ -1,12 +1,14 @@
 -- One block is taken out of an arena's and put back. Assumes `Logic`.
-use Rattle.std.proofs.Common.{◌≡◌, ◌<◌, arith, Bool, true, false, cond, List, [], ◌∷◌, Option, None, Some, IsSome}
+use Rattle.std.proofs.Common.{◌≡◌, ◌<◌, arith, Bool, true, false, cond, List, [], ◌∷◌, Option, None, Some}
+use Rattle.std.proofs.Common.{IsSome}
 use Rattle.std.proofs.Common.{refl, sym, subst}
 use Rattle.std.specs.Map.{lookup, remove_entry, set_value}
 use seplogic.Ra.Ura.{Ura}
 use base.Logic.{ent, sep, via, fst∗, snd∗, never, never_e}
 use base.Fml.{Fml, Lft, fat, froom}
 use types.Logic.{Logic, sem}
-use types.Kit.{Item, Goal, Seq, ‵, raw, prop, mean, some, ◌⊛◌, ◌$◌, ◌∵◌, !, qed, by, move, keep, use1, use2, pick}
+use types.Kit.{Item, Goal, Seq, ‵, raw, prop, mean, some, ◌⊛◌, ◌$◌, ◌∵◌, !, qed, by, move, keep, use1, use2}
+use types.Kit.{pick}
 use types.Kit.{split, fsplit, fjoin, rewrite, done}
 use prog.Memory.{size}
 use prog.Model.{Model}
@@ -40,18 +42,21 @@ module _ (R : RattleType) {M : Type 1} {𝓤 : Ura M} (𝓛 : Logic 𝓤) (n : N
 
   -- the block of n comes out
   pub blocks_cut : (bs : Entries) (x : R.Denot) → lookup (same_node n) bs ≡ Some x
-      → ent 𝓤 (sem 𝓛 (blocks_own R bs)) (sep 𝓤 (sem 𝓛 (One x)) (sem 𝓛 (blocks_own R (remove_entry (same_node n) bs))))
+      → ent 𝓤 (sem 𝓛 (blocks_own R bs))
+      (sep 𝓤 (sem 𝓛 (One x)) (sem 𝓛 (blocks_own R (remove_entry (same_node n) bs))))
   blocks_cut [] x e = absurd (cc e)
   blocks_cut (b ∷ bs) x e =
       (elim (same_node n b.0) as
       (λ (y : Bool). same_node n b.0 ≡ y → cond y (Some b.1) (lookup (same_node n) bs) ≡ Some x
       → ent 𝓤 (sem 𝓛 (blocks_own R (b ∷ bs)))
       (sep 𝓤 (sem 𝓛 (One x)) (sem 𝓛 (blocks_own R (cond y bs (b ∷ remove_entry (same_node n) bs)))))) [
-        | true ↦ λ same at. let eb : b.0 ≡ n = sym (eq-same_node n b.0 same) in let ex : b.1 ≡ x = some_eq at in
+        | true ↦ λ same at. let eb : b.0 ≡ n = sym (eq-same_node n b.0 same) in let ex : b.1
+            ≡ x = some_eq at in
             qed 𝓛 (‵ (blocks_own R (b ∷ bs)) ∷ []) ∵ fsplit ! $ rewrite ! 0
             (λ (c : Node × R.Denot). ‵ (box_owns free_right R c.0.at c.1)) (λ i. (eb i, ex i)) refl $ done !
         | false ↦ λ _ at. qed 𝓛 (‵ (blocks_own R (b ∷ bs)) ∷ []) ∵ fsplit ! $ move ! (1 ∷ []) $
-            use1 𝓛 (‵ (One x) ⊛ ‵ (blocks_own R (remove_entry (same_node n) bs))) (blocks_cut bs x at) $ split ! $
+            use1 𝓛 (‵ (One x) ⊛ ‵ (blocks_own R (remove_entry (same_node n) bs)))
+            (blocks_cut bs x at) $ split ! $
             move ! (2 ∷ 1 ∷ []) $ fjoin ! $ move ! (1 ∷ []) $ done !
       ]) refl e
 
@@ -68,9 +73,10 @@ module _ (R : RattleType) {M : Type 1} {𝓤 : Ura M} (𝓛 : Logic 𝓤) (n : N
         | true ↦ λ same at. let eb : n ≡ b.0 = eq-same_node n b.0 same in
             qed 𝓛 (‵ (One w) ∷ ‵ (blocks_own R bs) ∷ []) ∵ rewrite ! 0
             (λ (m : Node). ‵ (box_owns free_right R m.at w)) eb refl $ fjoin ! $ done !
-        | false ↦ λ _ at. qed 𝓛 (‵ (One w) ∷ ‵ (blocks_own R (b ∷ remove_entry (same_node n) bs)) ∷ []) ∵ move !
-            (1 ∷ []) $ fsplit ! $ move ! (2 ∷ 1 ∷ []) $
-            use2 𝓛 (‵ (blocks_own R (set_value (same_node n) bs w))) (blocks_glue bs x w at) $ move ! (1 ∷ 0 ∷ []) $
+        | false ↦ λ _ at. qed 𝓛 (‵ (One w) ∷ ‵ (blocks_own R (b ∷ remove_entry (same_node n) bs)) ∷ []) ∵
+            move ! (1 ∷ []) $ fsplit ! $ move ! (2 ∷ 1 ∷ []) $
+            use2 𝓛 (‵ (blocks_own R (set_value (same_node n) bs w))) (blocks_glue bs x w at) $
+            move ! (1 ∷ 0 ∷ []) $
             fjoin ! $ done !
       ]) refl e
 
@@ -82,14 +88,17 @@ module _ (R : RattleType) {M : Type 1} {𝓤 : Ura M} (𝓛 : Logic 𝓤) (n : N
       (elim (same_node n b.0) as
       (λ (y : Bool). same_node n b.0 ≡ y → cond y (Some b.1) (lookup (same_node n) bs) ≡ Some x
       → ent 𝓤 (sem 𝓛 (blocks_lent R (b ∷ bs) κ)) (sem 𝓛 (lent_at R n.at x κ))) [
-        | true ↦ λ same at. let eb : b.0 ≡ n = sym (eq-same_node n b.0 same) in let ex : b.1 ≡ x = some_eq at in
-            subst (λ (c : Node × R.Denot). ent 𝓤 (sem 𝓛 (blocks_lent R (b ∷ bs) κ)) (sem 𝓛 (lent_at R c.0.at c.1 κ)))
+        | true ↦ λ same at. let eb : b.0 ≡ n = sym (eq-same_node n b.0 same) in let ex : b.1
+            ≡ x = some_eq at in
+            subst (λ (c : Node × R.Denot). ent 𝓤 (sem 𝓛 (blocks_lent R (b ∷ bs) κ))
+            (sem 𝓛 (lent_at R c.0.at c.1 κ)))
             (λ i. (eb i, ex i)) (fst∗ 𝓤 (sem 𝓛 (lent_at R b.0.at b.1 κ)) (sem 𝓛 (blocks_lent R bs κ)))
         | false ↦ λ _ at. via 𝓤 (sem 𝓛 (blocks_lent R bs κ))
             (snd∗ 𝓤 (sem 𝓛 (lent_at R b.0.at b.1 κ)) (sem 𝓛 (blocks_lent R bs κ))) (block_seen κ bs x at)
       ]) refl e
 
-module _ (T : RattleType) {M : Type 1} {𝓤 : Ura M} (𝓛 : Logic 𝓤) (𝓜 : Model 𝓤 𝓛.H) (sized : 0 < size (layout T)) where
+module _ (T : RattleType) {M : Type 1} {𝓤 : Ura M} (𝓛 : Logic 𝓤) (𝓜 : Model 𝓤 𝓛.H)
+    (sized : 0 < size (layout T)) where
   abbrev R : RattleType
   R = param 0 T
 
@@ -99,15 +108,18 @@ module _ (T : RattleType) {M : Type 1} {𝓤 : Ura M} (𝓛 : Logic 𝓤) (𝓜 
   clash (block_ptr b o) x y =
       let Cell : R.Denot → Item 𝓤
       = λ w. some (λ (v : Val). ‵ (fat full_share (layout T) b o v) ⊛ ‵ (R.own_val w (v ∷ []))) in
-      qed 𝓛 (‵ (box_owns free_right R (block_ptr b o) x) ∷ ‵ (box_owns free_right R (block_ptr b o) y) ∷ []) ∵ fsplit
+      qed 𝓛 (‵ (box_owns free_right R (block_ptr b o) x) ∷ ‵ (box_owns free_right R (block_ptr b o) y) ∷ []) ∵
+      fsplit
       ! $ move ! (2 ∷ []) $ fsplit ! $ keep ! (0 ∷ 2 ∷ []) $
       use1 𝓛 (Cell y) (part_out 𝓛 R refl full_share y b o) $ pick ! (λ v. split ! $ move ! (2 ∷ []) $
       use1 𝓛 (Cell x) (part_out 𝓛 R refl full_share x b o) $ pick ! (λ w. split ! $ keep ! (0 ∷ 2 ∷ []) $
       use1 𝓛 (‵ (froom (layout T) b o)) (𝓛.laws.at_room (layout T) b o w) $
       by !
-      (𝓜.room_at (layout T) (layout T) b o o o full_share v (omega arith, omega arith) (omega arith, omega arith))))
+      (𝓜.room_at (layout T) (layout T) b o o o full_share v (omega arith, omega arith)
+      (omega arith, omega arith))))
   clash null_ptr x y =
-      qed 𝓛 (‵ (box_owns free_right R null_ptr x) ∷ ‵ (box_owns free_right R null_ptr y) ∷ []) ∵ fsplit ! $ keep !
+      qed 𝓛 (‵ (box_owns free_right R null_ptr x) ∷ ‵ (box_owns free_right R null_ptr y) ∷ []) ∵
+      fsplit ! $ keep !
       (0 ∷ []) $ done !
 
   -- a block that is owned beside an arena's is none of them
@@ -119,11 +131,12 @@ module _ (T : RattleType) {M : Type 1} {𝓤 : Ura M} (𝓛 : Logic 𝓤) (𝓜 
       → ent 𝓤 (sep 𝓤 (sem 𝓛 (box_owns free_right R n.at x)) (sem 𝓛 (blocks_own R (b ∷ bs))))
       (fact 𝓤 (cond y (Some b.1) (lookup (same_node n) bs) ≡ None))) [
         | true ↦ λ same. let eb : b.0 ≡ n = sym (eq-same_node n b.0 same) in
-            qed 𝓛 (‵ (box_owns free_right R n.at x) ∷ ‵ (blocks_own R (b ∷ bs)) ∷ []) ∵ move ! (1 ∷ []) $ fsplit ! $
+            qed 𝓛 (‵ (box_owns free_right R n.at x) ∷ ‵ (blocks_own R (b ∷ bs)) ∷ []) ∵
+            move ! (1 ∷ []) $ fsplit ! $
             rewrite ! 0 (λ (m : Node). ‵ (box_owns free_right R m.at b.1)) eb refl $
             keep ! (0 ∷ 2 ∷ []) $ use2 𝓛 (raw (never 𝓤)) (clash n.at b.1 x) $ by ! (never_e 𝓤 _)
-        | false ↦ λ _. qed 𝓛 (‵ (box_owns free_right R n.at x) ∷ ‵ (blocks_own R (b ∷ bs)) ∷ []) ∵ move ! (1 ∷ []) $
-            fsplit ! $ keep ! (2 ∷ 1 ∷ []) $ by ! (apart_from n x bs)
+        | false ↦ λ _. qed 𝓛 (‵ (box_owns free_right R n.at x) ∷ ‵ (blocks_own R (b ∷ bs)) ∷ []) ∵
+            move ! (1 ∷ []) $ fsplit ! $ keep ! (2 ∷ 1 ∷ []) $ by ! (apart_from n x bs)
       ]) refl
 
 module _ {M : Type 1} {𝓤 : Ura M} {𝓛 : Logic 𝓤} {K : Type 0} {Γ : List (Item 𝓤)} {G : Goal 𝓤 𝓛.H} where
@@ -132,5 +145,6 @@ module _ {M : Type 1} {𝓤 : Ura M} {𝓛 : Logic 𝓤} {K : Type 0} {Γ : List
       → (φ → Seq K 𝓛 (i ∷ j ∷ Γ) G)
       → Seq K 𝓛 (i ∷ j ∷ Γ) G
   knows t {i} {j} φ h k =
-      let shown : Seq K 𝓛 (i ∷ j ∷ Γ) (prop (fact 𝓤 φ)) = use2 𝓛 (raw (fact 𝓤 φ)) h $ keep t (0 ∷ []) $ done t in
+      let shown : Seq K 𝓛 (i ∷ j ∷ Γ) (prop (fact 𝓤 φ)) = use2 𝓛 (raw (fact 𝓤 φ)) h $
+      keep t (0 ∷ []) $ done t in
       record { prf = fact_use 𝓤 φ shown.prf (λ x. (k x).prf) }

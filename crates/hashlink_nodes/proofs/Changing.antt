@@ -1,5 +1,6 @@
 -- What a sound ring is where a node of it holds something else.
-use Rattle.std.proofs.Common.{◌≡◌, ℕ, true, false, cond, List, ◌∷◌, ◌++◌, Option, None, Some, refl, sym, ap, ◌∙◌}
+use Rattle.std.proofs.Common.{◌≡◌, ℕ, true, false, cond, List, ◌∷◌, ◌++◌, Option, None, Some, refl, sym, ap}
+use Rattle.std.proofs.Common.{◌∙◌}
 use Rattle.std.proofs.Common.{subst}
 use Rattle.std.specs.Prelude.{is_some, IfSome}
 use Rattle.std.specs.List.{IsDistinct}
@@ -40,9 +41,11 @@ module _ {K V : Type 0} where
     where
       full_anew : (m : Node) → is_some (s.held m) ≡ true → is_some (set_at s.held n (Some new) m) ≡ true
       full_anew m k =
-          elim (same_node m n) as (λ y. is_some (cond y (Some new) (s.held m)) ≡ true) [ true ↦ refl | false ↦ k ]
+          elim (same_node m n) as (λ y. is_some (cond y (Some new) (s.held m)) ≡ true)
+          [ true ↦ refl | false ↦ k ]
 
-  anew : (s : State K V) (n : Node) (old new : Held K V) → s.held n ≡ Some old → (xs ys : List Node) → IsOff n xs
+  anew : (s : State K V) (n : Node) (old new : Held K V) → s.held n ≡ Some old
+      → (xs ys : List Node) → IsOff n xs
       → IsOff n ys
       → entries_of (hold n (Some new) s).held (xs ++ n ∷ ys)
       ≡ set_value (same_node n) (entries_of s.held (xs ++ n ∷ ys)) new
@@ -64,8 +67,10 @@ module _ {K V : Type 0} where
       let apart_n = distinct_front (g ∷ c.before) n (c.after ++ fs)
       (subst (λ l. IsDistinct same_node (g ∷ l)) (append_assoc c.before (n ∷ c.after) fs) d) in
       let off : IsOff n (c.before ++ (c.after ++ fs)) = apart_n.0.1 in
-      let off_after : IsOff n c.after = all_left (Off n) c.after fs (all_right (Off n) c.before (c.after ++ fs) off) in
-      let off_free : IsOff n fs = all_right (Off n) c.after fs (all_right (Off n) c.before (c.after ++ fs) off) in
+      let off_after : IsOff n c.after = all_left (Off n) c.after fs
+      (all_right (Off n) c.before (c.after ++ fs) off) in
+      let off_free : IsOff n fs = all_right (Off n) c.after fs
+      (all_right (Off n) c.before (c.after ++ fs) off) in
       let other_g : same_node n g ≡ false = apart_n.0.0 in
       let done = subst (λ t. IsShaped t g first ns fs) (sym is)
       (shaped_anew s g first ns fs n new sound other_g off_free) in
@@ -88,8 +93,8 @@ module _ {K V : Type 0} where
   held_writes s s' n o w is_w is = ap (λ (t : State K V). t.link_writes) is ∙ is_w
 
   -- ---- what a call leaves that changes what a node of the ring holds
-  pub record Renewed (s s' : State K V) (guard : Option Node) (first : Node) (len spare : ℕ) (v : Ring K V) (n : Node)
-      (change : Held K V → Held K V) : Type 0 where
+  pub record Renewed (s s' : State K V) (guard : Option Node) (first : Node) (len spare : ℕ)
+      (v : Ring K V) (n : Node) (change : Held K V → Held K V) : Type 0 where
     pub sound : IsSound s' guard first len spare
     pub entries : IfSome (lookup (same_node n) v.entries)
         (λ h. entries_in s' guard first len spare ≡ set_value (same_node n) v.entries (change h))
@@ -109,7 +114,8 @@ module _ {K V : Type 0} where
       record {
         sound = left.sound;
         entries = if_some
-            (λ h. entries_in s' guard first len spare ≡ set_value (same_node n) v.entries (change h)) was left.entries;
+            (λ h. entries_in s' guard first len spare ≡ set_value (same_node n) v.entries (change h))
+            was left.entries;
         free = left.free;
         link_writes = held_writes s s' n _ v.link_writes (ap (λ (r : Ring K V). r.link_writes) view) is;
         was = was ∙ sym at.holds;

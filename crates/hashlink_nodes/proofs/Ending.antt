@@ -1,5 +1,6 @@
 -- What stays of a sound ring where nodes are given back.
-use Rattle.std.proofs.Common.{◌≡◌, ℕ, ◌+◌, ◌-◌, ◌<◌, true, List, [], ◌∷◌, length, drop, Option, None, Some, refl, sym}
+use Rattle.std.proofs.Common.{◌≡◌, ℕ, ◌+◌, ◌-◌, ◌<◌, true, List, [], ◌∷◌, length, drop, Option, None, Some}
+use Rattle.std.proofs.Common.{refl, sym}
 use Rattle.std.proofs.Common.{ap, ◌∙◌, subst, arith}
 use Rattle.std.specs.Prelude.{slice_get}
 use Rattle.hashlink_nodes.specs.declared.node.Node.{Node}
@@ -12,7 +13,8 @@ use Rattle.hashlink_nodes.proofs.Paths.{Off, Agrees, all_left, distinct_head, ag
 use Rattle.hashlink_nodes.proofs.Paths.{length-walk}
 use Rattle.hashlink_nodes.proofs.Shapes.{IsLoose, take_spare, detach_loose, drop_loose}
 use Rattle.hashlink_nodes.proofs.Entries.{entries-cons, entries_same}
-use Rattle.hashlink_nodes.proofs.Sound.{walk-more, of_head, presents, length-ring, Leaves, entries_in, held_detached}
+use Rattle.hashlink_nodes.proofs.Sound.{walk-more, of_head, presents, length-ring, Leaves, entries_in}
+use Rattle.hashlink_nodes.proofs.Sound.{held_detached}
 use Rattle.hashlink_nodes.proofs.Sound.{Opened, closed, no_spare}
 
 module _ {K V : Type 0} where
@@ -22,13 +24,16 @@ module _ {K V : Type 0} where
     pub some : 0 < spare
 
   pub spare_out : (s : State K V) (guard : Option Node) (first : Node) (len spare : ℕ)
-      → IsSound s guard first len spare → (v : Ring K V) → ring_of s guard first len spare ≡ v → 0 < length v.free
+      → IsSound s guard first len spare → (v : Ring K V) → ring_of s guard first len spare
+      ≡ v → 0 < length v.free
       → SpareOut s first spare
-  spare_out s None first len spare sound v view some = absurd (no_spare s None first len spare v view refl some)
+  spare_out s None first len spare sound v view some =
+      absurd (no_spare s None first len spare v view refl some)
   spare_out s (Some g) first len spare sound v view some =
       let k : 0 < spare
       = omega (arith, some, ap (λ (r : Ring K V). length r.free) view, length-walk s.next first spare) in
-      let shaped = subst (IsShaped s g first (walk s.next (s.next g) len)) (walk-more s.next first spare k) sound in
+      let shaped = subst (IsShaped s g first (walk s.next (s.next g) len))
+      (walk-more s.next first spare k) sound in
       record {
         has_node = (take_spare s g first (walk s.next (s.next g) len) first _ shaped).there.0;
         bare = shaped.bare.1.0;
@@ -36,7 +41,8 @@ module _ {K V : Type 0} where
       }
 
   pub spare_gone : (s s' : State K V) (guard : Option Node) (first first' : Node) (len spare : ℕ)
-      → IsSound s guard first len spare → (v : Ring K V) → ring_of s guard first len spare ≡ v → 0 < length v.free
+      → IsSound s guard first len spare → (v : Ring K V) → ring_of s guard first len spare
+      ≡ v → 0 < length v.free
       → first' ≡ s.next first
       → Drops first s s'
       → Leaves s' guard first' len (spare - 1) v.entries (drop 1 v.free)
@@ -74,8 +80,12 @@ module _ {K V : Type 0} where
       (o : Opened s guard g first len spare v) (some : 0 < length v.entries) where
     first_there : 0 < len
     first_there =
-        omega
-        (arith, some, ap (λ (r : Ring K V). length r.entries) o.view, length-ring s first len spare (Some g) o.sound)
+        omega (
+          arith,
+          some,
+          ap (λ (r : Ring K V). length r.entries) o.view,
+          length-ring s first len spare (Some g) o.sound,
+        )
 
     abbrev other_nodes : List Node
     other_nodes = walk s.next (s.next (s.next g)) (len - 1)
@@ -151,7 +161,8 @@ module _ {K V : Type 0} where
   unfolding entries_of
   guard_some s guard first len spare v view is some =
       let e : 0 ≡ length v.entries
-      = ap (λ o. length (entries_in s o first len spare)) (sym is) ∙ ap (λ (r : Ring K V). length r.entries) view in
+      = ap (λ o. length (entries_in s o first len spare)) (sym is)
+      ∙ ap (λ (r : Ring K V). length r.entries) view in
       omega (arith, e, some)
 
   -- the guard is the last to go
@@ -163,5 +174,14 @@ module _ {K V : Type 0} where
       = sym (length-ring s first len spare (Some g) o.sound) ∙ ap (λ (r : Ring K V). length r.entries) o.view
       ∙ ap length no_entries in
       let b : spare ≡ 0
-      = sym (length-walk s.next first spare) ∙ ap (λ (r : Ring K V). length r.free) o.view ∙ ap length no_free in
-      omega (arith, a, b, o.sound.size, drops.size, length-walk s.next (s.next g) len, length-walk s.next first spare)
+      = sym (length-walk s.next first spare) ∙ ap (λ (r : Ring K V). length r.free) o.view
+      ∙ ap length no_free in
+      omega (
+        arith,
+        a,
+        b,
+        o.sound.size,
+        drops.size,
+        length-walk s.next (s.next g) len,
+        length-walk s.next first spare,
+      )

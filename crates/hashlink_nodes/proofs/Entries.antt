@@ -1,5 +1,6 @@
 -- The nodes of a ring with what they hold, and the words of the contracts on them.
-use Rattle.std.proofs.Common.{◌≡◌, suc, Bool, true, false, cond, List, [], ◌∷◌, ◌++◌, length, Option, None, Some}
+use Rattle.std.proofs.Common.{◌≡◌, suc, Bool, true, false, cond, List, [], ◌∷◌, ◌++◌, length, Option, None}
+use Rattle.std.proofs.Common.{Some}
 use Rattle.std.proofs.Common.{refl, sym, ap, ◌∙◌}
 use Rattle.std.specs.Prelude.{is_some, slice_get, unwrap_or}
 use Rattle.std.specs.List.{AllByRecursion}
@@ -10,7 +11,8 @@ use Rattle.hashlink_nodes.specs.declared.held.Held.{Held}
 use Rattle.hashlink_nodes.specs.Node.{same_node, eq-same_node, same_node-refl}
 use Rattle.hashlink_nodes.specs.State.{set_at}
 use Rattle.hashlink_nodes.specs.Shape.{entry_of, entries_of}
-use Rattle.hashlink_nodes.specs.Ring.{put_before, put_before_node, put_after, put_after_node, IsPlace, node_after}
+use Rattle.hashlink_nodes.specs.Ring.{put_before, put_before_node, put_after, put_after_node, IsPlace}
+use Rattle.hashlink_nodes.specs.Ring.{node_after}
 use Rattle.hashlink_nodes.specs.Ring.{node_before, last_node}
 use Rattle.hashlink_nodes.proofs.ArenaBlocks.{found}
 use Rattle.hashlink_nodes.proofs.Paths.{head_or, last_or, IsOff, Agrees, set_at_here, set_at_other, flip}
@@ -67,7 +69,8 @@ module _ {K V : Type 0} (f : Node → Option (Held K V)) where
     pub off : IsOff n before
     pub holds : f n ≡ Some value
 
-  pub cut_at : (n : Node) (ns : List Node) → IsFull ns → is_some (lookup (same_node n) (entries_of f ns)) ≡ true
+  pub cut_at : (n : Node) (ns : List Node) → IsFull ns
+      → is_some (lookup (same_node n) (entries_of f ns)) ≡ true
       → CutAt n ns
   unfolding entries_of
   cut_at n [] full there = absurd (cc there)
@@ -76,7 +79,8 @@ module _ {K V : Type 0} (f : Node → Option (Held K V)) where
       let seen : is_some (cond (same_node n m) (Some x.0) (lookup (same_node n) (entries_of f ns))) ≡ true
       = ap (λ o. is_some (lookup (same_node n) (entry_of m o (entries_of f ns)))) (sym x.1) ∙ there in
       (elim (same_node n m) as
-      (λ (y : Bool). same_node n m ≡ y → is_some (cond y (Some x.0) (lookup (same_node n) (entries_of f ns))) ≡ true
+      (λ (y : Bool). same_node n m ≡ y → is_some (cond y (Some x.0) (lookup (same_node n) (entries_of f ns)))
+      ≡ true
       → CutAt n (m ∷ ns)) [
         | true ↦ λ same _. let e : n
             ≡ m = eq-same_node n m same in
@@ -124,12 +128,15 @@ module _ {K V : Type 0} (f : Node → Option (Held K V)) where
         ap (lookup_entry (same_node n)) first
         ∙ ap (λ y. cond y (Some (n, v)) (lookup_entry (same_node n) (entries_of f ys))) (same_node-refl n)
     entry_cut (x ∷ xs) off =
-        (elim (f x) as (λ (o : Option (Held K V)). lookup_entry (same_node n) (entry_of x o (Cut xs)) ≡ Some (n, v)) [
+        (elim (f x) as (λ (o : Option (Held K V)). lookup_entry (same_node n) (entry_of x o (Cut xs))
+        ≡ Some (n, v)) [
           | None ↦ entry_cut xs off.1
-          | Some h ↦ ap (λ y. cond y (Some (x, h)) (lookup_entry (same_node n) (Cut xs))) off.0 ∙ entry_cut xs off.1
+          | Some h ↦ ap (λ y. cond y (Some (x, h)) (lookup_entry (same_node n) (Cut xs))) off.0
+              ∙ entry_cut xs off.1
         ])
 
-    removed_cut : (xs : List Node) → IsOff n xs → remove_entry (same_node n) (Cut xs) ≡ entries_of f (xs ++ ys)
+    removed_cut : (xs : List Node) → IsOff n xs → remove_entry (same_node n) (Cut xs)
+        ≡ entries_of f (xs ++ ys)
     unfolding entries_of
     removed_cut [] off =
         ap (remove_entry (same_node n)) first
@@ -187,7 +194,8 @@ module _ {K V : Type 0} (f : Node → Option (Held K V)) where
   pub says_at : (n : Node) (ns : List Node) (c : CutAt n ns) → SaysAt n ns c
   says_at n ns c = record {
     looked =
-        ap (λ l. lookup (same_node n) (entries_of f l)) c.is ∙ lookup_cut n c.value c.holds c.after c.before c.off;
+        ap (λ l. lookup (same_node n) (entries_of f l)) c.is
+        ∙ lookup_cut n c.value c.holds c.after c.before c.off;
     entry =
         ap (λ l. lookup_entry (same_node n) (entries_of f l)) c.is
         ∙ entry_cut n c.value c.holds c.after c.before c.off;
@@ -205,7 +213,8 @@ module _ {K V : Type 0} (f : Node → Option (Held K V)) where
     pub put : (e : Node × Held K V)
         → put_before place e (entries_of f ns) ≡ entries_of f before ++ e ∷ entries_of f after
 
-  pub before_place : (g : Node) (place : Option Node) (ns : List Node) → IsFull ns → IsPlace (entries_of f ns) place
+  pub before_place : (g : Node) (place : Option Node) (ns : List Node) → IsFull ns
+      → IsPlace (entries_of f ns) place
       → BeforePlace g place ns
   before_place g None ns full is =
       record {
@@ -238,7 +247,8 @@ module _ {K V : Type 0} (f : Node → Option (Held K V)) where
   last_or-push a [] n = refl
   last_or-push a (x ∷ xs) n = last_or-push x xs n
 
-  pub after_place : (g : Node) (place : Option Node) (ns : List Node) → IsFull ns → IsPlace (entries_of f ns) place
+  pub after_place : (g : Node) (place : Option Node) (ns : List Node) → IsFull ns
+      → IsPlace (entries_of f ns) place
       → AfterPlace g place ns
   after_place g None ns full is =
       record {
@@ -269,7 +279,8 @@ entries_same f' f (n ∷ ns) h = λ i. entry_of n (h.0 i) (entries_same f' f ns 
 pub entries_set : {K V : Type 0} (f : Node → Option (Held K V)) (n : Node) (v w : Held K V) → f n ≡ Some v
     → (xs ys : List Node) → IsOff n xs
     → IsOff n ys
-    → entries_of (set_at f n (Some w)) (xs ++ n ∷ ys) ≡ set_value (same_node n) (entries_of f (xs ++ n ∷ ys)) w
+    → entries_of (set_at f n (Some w)) (xs ++ n ∷ ys)
+    ≡ set_value (same_node n) (entries_of f (xs ++ n ∷ ys)) w
 unfolding entries_of
 entries_set f n v w holds [] ys off rest =
     entries-cons (set_at f n (Some w)) n ys w (set_at_here f n (Some w))
@@ -302,7 +313,8 @@ entries_set f n v w holds (x ∷ xs) ys off rest =
 pub after_cut : (n : Node) (xs ys : List Node) → IsOff n xs → node_after n (xs ++ n ∷ ys) ≡ slice_get ys 0
 after_cut n [] ys off = ap (λ y. cond y (slice_get ys 0) (node_after n ys)) (same_node-refl n)
 after_cut n (x ∷ xs) ys off =
-    ap (λ y. cond y (slice_get (xs ++ n ∷ ys) 0) (node_after n (xs ++ n ∷ ys))) off.0 ∙ after_cut n xs ys off.1
+    ap (λ y. cond y (slice_get (xs ++ n ∷ ys) 0) (node_after n (xs ++ n ∷ ys))) off.0
+    ∙ after_cut n xs ys off.1
 
 pub before_cut : (n : Node) (o : Option Node) (xs ys : List Node) → IsOff n xs
     → node_before n o (xs ++ n ∷ ys) ≡ last_node o xs

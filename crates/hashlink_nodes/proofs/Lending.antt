@@ -43,7 +43,8 @@ module _ {K V : Type 0} (c : Cells K V) (guard : Option Node) (first : Node) (le
       entries =
           (leaves.entries
           ∙ sym
-          (ap (λ o. option_map_or (λ (h : Held K V). set_value (same_node n) r.entries (with_value h w)) o r.entries)
+          (ap (λ o. option_map_or (λ (h : Held K V). set_value (same_node n) r.entries (with_value h w))
+          o r.entries)
           lent-looked))
           i;
       free = leaves.free i;

@@ -1,5 +1,6 @@
 -- The places next to a place of a sound ring.
-use Rattle.std.proofs.Common.{◌≡◌, ℕ, true, false, List, [], ◌∷◌, ◌++◌, Option, None, Some, refl, sym, ap, ◌∙◌, subst}
+use Rattle.std.proofs.Common.{◌≡◌, ℕ, true, false, List, [], ◌∷◌, ◌++◌, Option, None, Some, refl, sym, ap}
+use Rattle.std.proofs.Common.{◌∙◌, subst}
 use Rattle.std.proofs.Common.{◌⊎◌, inl, inr}
 use Rattle.std.specs.Prelude.{is_some, unwrap_or, slice_get}
 use Rattle.std.specs.List.{AllByRecursion}
@@ -8,8 +9,10 @@ use Rattle.std.proofs.lemmas.List.{append_assoc, append-nil}
 use Rattle.hashlink_nodes.specs.declared.node.Node.{Node}
 use Rattle.hashlink_nodes.specs.State.{State}
 use Rattle.hashlink_nodes.specs.Shape.{IsPath, IsWayBack, ring_of, walk, entries_of}
-use Rattle.hashlink_nodes.specs.Ring.{Ring, IsPlace, Holds, next_place, prev_place, node_after, node_before, last_node}
-use Rattle.hashlink_nodes.proofs.Paths.{head_or, last_or, all_left, all_right, all_middle, path_at, path_first}
+use Rattle.hashlink_nodes.specs.Ring.{Ring, IsPlace, Holds, next_place, prev_place, node_after, node_before}
+use Rattle.hashlink_nodes.specs.Ring.{last_node}
+use Rattle.hashlink_nodes.proofs.Paths.{head_or, last_or, all_left, all_right, all_middle, path_at}
+use Rattle.hashlink_nodes.proofs.Paths.{path_first}
 use Rattle.hashlink_nodes.proofs.Paths.{back_at, back_last}
 use Rattle.hashlink_nodes.proofs.Entries.{CutAt, cut_at, keys-entries, after_cut, before_cut, last_is}
 use Rattle.hashlink_nodes.proofs.Sound.{of_last, of_head, entries_in, Opened}
@@ -48,7 +51,8 @@ module _ {K V : Type 0} where
     ring_nodes = walk s.next (s.next g) len
 
     keys_are : keys_of v.entries ≡ ring_nodes
-    keys_are = ap (λ (r : Ring K V). keys_of r.entries) (sym o.view) ∙ keys-entries s.held ring_nodes o.sound.full
+    keys_are = ap (λ (r : Ring K V). keys_of r.entries) (sym o.view)
+        ∙ keys-entries s.held ring_nodes o.sound.full
 
     ring_there : AllByRecursion (λ m. s.has m ≡ true) ring_nodes
     ring_there = all_left (λ m. s.has m ≡ true) ring_nodes (walk s.next first spare) o.sound.there.1
@@ -68,7 +72,8 @@ module _ {K V : Type 0} where
     }
     next_to_place (Some n) is =
         let c = the_place n is in let P : Node → Type 0 = λ m. s.has m ≡ true in
-        let e = path_at s.next n g c.before c.after g (subst (λ l. IsPath s.next g l g) c.is o.sound.forward) in
+        let e = path_at s.next n g c.before c.after g
+        (subst (λ l. IsPath s.next g l g) c.is o.sound.forward) in
         let there = subst (AllByRecursion P) c.is ring_there in
         record {
           has_place = all_middle P c.before n c.after there;
@@ -91,15 +96,19 @@ module _ {K V : Type 0} where
       has_place = o.sound.there.0;
       has_answer =
           ap s.has e
-          ∙ of_last (λ m. s.has m ≡ true) g ring_nodes []
-          (o.sound.there.0, subst (AllByRecursion (λ m. s.has m ≡ true)) (sym (append-nil ring_nodes)) ring_there);
+          ∙ of_last (λ m. s.has m ≡ true) g ring_nodes [] (
+            o.sound.there.0,
+            subst (AllByRecursion (λ m. s.has m ≡ true))
+                (sym (append-nil ring_nodes)) ring_there,
+          );
       tells =
           subst (λ ns. Tells s (s.prev g) (last_node None ns)) (sym keys_are)
           (tells_last s g (s.prev g) ring_nodes o.sound.bare.0 o.sound.full e);
     }
     prev_to_place (Some n) is =
         let c = the_place n is in let P : Node → Type 0 = λ m. s.has m ≡ true in
-        let e = back_at s.prev n g c.before c.after g (subst (λ l. IsWayBack s.prev g l g) c.is o.sound.backward) in
+        let e = back_at s.prev n g c.before c.after g
+        (subst (λ l. IsWayBack s.prev g l g) c.is o.sound.backward) in
         let there = subst (AllByRecursion P) c.is ring_there in
         record {
           has_place = all_middle P c.before n c.after there;
@@ -113,12 +122,14 @@ module _ {K V : Type 0} where
               e);
         }
 
-  pub tells_bare : (s : State K V) (r : Node) (answer : Option Node) → Tells s r answer → is_some (s.held r) ≡ false
+  pub tells_bare : (s : State K V) (r : Node) (answer : Option Node) → Tells s r answer
+      → is_some (s.held r) ≡ false
       → None ≡ answer
   tells_bare s r answer (inl t) bare = sym t.1
   tells_bare s r answer (inr t) bare = absurd (cc (sym bare ∙ t.0))
 
-  pub tells_full : (s : State K V) (r : Node) (answer : Option Node) → Tells s r answer → is_some (s.held r) ≡ true
+  pub tells_full : (s : State K V) (r : Node) (answer : Option Node) → Tells s r answer
+      → is_some (s.held r) ≡ true
       → Some r ≡ answer
   tells_full s r answer (inl t) full = absurd (cc (sym (ap is_some t.0) ∙ full))
   tells_full s r answer (inr t) full = sym t.1

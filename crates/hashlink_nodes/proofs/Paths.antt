@@ -1,5 +1,6 @@
 -- Paths along links, and what stays of them where one link changes.
-use Rattle.std.proofs.Common.{◌≡◌, ℕ, zero, suc, false, cond, List, [], ◌∷◌, ◌++◌, length, refl, sym, ap, ◌∙◌, subst}
+use Rattle.std.proofs.Common.{◌≡◌, ℕ, zero, suc, false, cond, List, [], ◌∷◌, ◌++◌, length, refl, sym, ap, ◌∙◌}
+use Rattle.std.proofs.Common.{subst}
 use Rattle.std.proofs.lemmas.List.{append-nil}
 use Rattle.std.specs.List.{AllByRecursion, IsDistinct}
 use Rattle.hashlink_nodes.specs.declared.node.Node.{Node}
@@ -34,7 +35,8 @@ flip n m h = same_node_equiv.symm m n ∙ h
 pub set_at_here : {X : Type 0} (f : Node → X) (n : Node) (x : X) → set_at f n x n ≡ x
 set_at_here f n x = ap (λ y. cond y x (f n)) (same_node-refl n)
 
-pub set_at_other : {X : Type 0} (f : Node → X) (n m : Node) (x : X) → same_node m n ≡ false → set_at f n x m ≡ f m
+pub set_at_other : {X : Type 0} (f : Node → X) (n m : Node) (x : X) → same_node m n ≡ false
+    → set_at f n x m ≡ f m
 set_at_other f n m x h = ap (λ y. cond y x (f m)) h
 
 -- ---- nodes that differ
@@ -52,7 +54,8 @@ module _ {X : Type 0} (P : X → Type 0) where
   all_both (x ∷ xs) ys h k = (h.0, all_both xs ys h.1 k)
 
   -- without the one in the middle, and with it
-  pub all_without : (xs : List X) (n : X) (ys : List X) → AllByRecursion P (xs ++ n ∷ ys) → AllByRecursion P (xs ++ ys)
+  pub all_without : (xs : List X) (n : X) (ys : List X) → AllByRecursion P (xs ++ n ∷ ys)
+      → AllByRecursion P (xs ++ ys)
   all_without xs n ys h = all_both xs ys (all_left xs (n ∷ ys) h) (all_right xs (n ∷ ys) h).1
 
   pub all_with : (xs : List X) (n : X) (ys : List X) → P n → AllByRecursion P (xs ++ ys)
@@ -68,7 +71,8 @@ all_as f [] h = tt
 all_as f (x ∷ xs) h = (f x h.0, all_as f xs h.1)
 
 -- two facts of each make a third
-pub all_zip : {X : Type 0} {P Q R : X → Type 0} → ((x : X) → P x → Q x → R x) → (xs : List X) → AllByRecursion P xs
+pub all_zip : {X : Type 0} {P Q R : X → Type 0} → ((x : X) → P x → Q x → R x) → (xs : List X)
+    → AllByRecursion P xs
     → AllByRecursion Q xs
     → AllByRecursion R xs
 all_zip f [] h k = tt
@@ -88,7 +92,8 @@ pub distinct_middle : (xs : List Node) (n : Node) (ys : List Node) → IsOff n (
     → IsDistinct same_node (xs ++ n ∷ ys)
 unfolding IsDistinct
 distinct_middle [] n ys o d = (o, d)
-distinct_middle (x ∷ xs) n ys o d = (all_with (Off x) xs n ys (flip n x o.0) d.0, distinct_middle xs n ys o.1 d.1)
+distinct_middle (x ∷ xs) n ys o d =
+    (all_with (Off x) xs n ys (flip n x o.0) d.0, distinct_middle xs n ys o.1 d.1)
 
 pub distinct_head : (n : Node) (ns : List Node) → IsDistinct same_node (n ∷ ns) → IsOff n ns
 unfolding IsDistinct
@@ -98,22 +103,26 @@ pub distinct_tail : (n : Node) (ns : List Node) → IsDistinct same_node (n ∷ 
 unfolding IsDistinct
 distinct_tail n ns d = d.1
 
-pub distinct_cons : (n : Node) (ns : List Node) → IsOff n ns → IsDistinct same_node ns → IsDistinct same_node (n ∷ ns)
+pub distinct_cons : (n : Node) (ns : List Node) → IsOff n ns → IsDistinct same_node ns
+    → IsDistinct same_node (n ∷ ns)
 unfolding IsDistinct
 distinct_cons n ns o d = (o, d)
 
 -- the last of the first nodes is none of the rest
-pub off_rest : (a : Node) (xs ys : List Node) → IsDistinct same_node (a ∷ (xs ++ ys)) → IsOff (last_or a xs) ys
+pub off_rest : (a : Node) (xs ys : List Node) → IsDistinct same_node (a ∷ (xs ++ ys))
+    → IsOff (last_or a xs) ys
 off_rest a [] ys d = distinct_head a ys d
 off_rest a (x ∷ xs) ys d = off_rest x xs ys (distinct_tail a _ d)
 
-pub off_last : (a x : Node) (xs rest : List Node) → IsOff a (x ∷ (xs ++ rest)) → same_node a (last_or x xs) ≡ false
+pub off_last : (a x : Node) (xs rest : List Node) → IsOff a (x ∷ (xs ++ rest))
+    → same_node a (last_or x xs) ≡ false
 off_last a x [] rest o = o.0
 off_last a x (y ∷ xs) rest o = off_last a y xs rest o.1
 
 -- ---- paths
 module _ (f' f : Node → Node) where
-  pub path_same : (a : Node) (ns : List Node) (b : Node) → Agrees f' f (a ∷ ns) → IsPath f a ns b → IsPath f' a ns b
+  pub path_same : (a : Node) (ns : List Node) (b : Node) → Agrees f' f (a ∷ ns) → IsPath f a ns b
+      → IsPath f' a ns b
   path_same a [] b h p = h.0 ∙ p
   path_same a (n ∷ ns) b h p = (h.0 ∙ p.0, path_same n ns b h.1 p.1)
 
@@ -138,7 +147,8 @@ pub agrees_off_two : {X : Type 0} (f' f : Node → X) (n p : Node) (ns : List No
 agrees_off_two f' f n p ns others o q = all_zip (λ m h k. others m (flip n m h) (flip p m k)) ns o q
 
 -- the node in the middle is cut out: the one before it leads to the one after it
-pub path_detach : (f' f : Node → Node) (n a : Node) (xs ys : List Node) (b : Node) → IsPath f a (xs ++ n ∷ ys) b
+pub path_detach : (f' f : Node → Node) (n a : Node) (xs ys : List Node) (b : Node)
+    → IsPath f a (xs ++ n ∷ ys) b
     → f' (last_or a xs) ≡ head_or b ys
     → ((m : Node) → same_node m (last_or a xs) ≡ false → f' m ≡ f m)
     → IsDistinct same_node (a ∷ (xs ++ n ∷ ys)) → IsPath f' a (xs ++ ys) b
@@ -163,7 +173,8 @@ path_attach f' f n a [] (y ∷ ys) b p here there others d = (
   (
     there,
     path_same f' f y ys b
-        (agrees_off_two f' f n a (y ∷ ys) others (distinct_head n _ d).1 (distinct_head a _ (distinct_tail n _ d))) p.1,
+        (agrees_off_two f' f n a (y ∷ ys) others (distinct_head n _ d).1
+        (distinct_head a _ (distinct_tail n _ d))) p.1,
   ),
 )
 path_attach f' f n a (x ∷ xs) ys b p here there others d =
@@ -179,7 +190,8 @@ off_head x [] b o h = h
 off_head x (y ∷ ys) b o h = o.0
 
 -- the same for the links back
-pub back_detach : (f' f : Node → Node) (n a : Node) (xs ys : List Node) (b : Node) → IsWayBack f a (xs ++ n ∷ ys) b
+pub back_detach : (f' f : Node → Node) (n a : Node) (xs ys : List Node) (b : Node)
+    → IsWayBack f a (xs ++ n ∷ ys) b
     → f' (head_or b ys) ≡ last_or a xs
     → ((m : Node) → same_node m (head_or b ys) ≡ false → f' m ≡ f m)
     → IsDistinct same_node (b ∷ (xs ++ n ∷ ys)) → IsWayBack f' a (xs ++ ys) b
@@ -188,18 +200,21 @@ back_detach f' f n a [] (y ∷ ys) b p here others d =
     let o = distinct_head b _ d in (
       here,
       back_same f' f y ys b
-          (agrees_off f' f y ys others (distinct_head y ys (distinct_tail n _ (distinct_tail b _ d)))) (others b o.1.0)
+          (agrees_off f' f y ys others (distinct_head y ys (distinct_tail n _ (distinct_tail b _ d))))
+          (others b o.1.0)
           p.1.1,
     )
 back_detach f' f n a (x ∷ xs) ys b p here others d =
     let o = distinct_head b _ d in let e = distinct_tail b _ d in (
       others x
-          (off_head x ys b (all_right (Off x) xs ys (all_without (Off x) xs n ys (distinct_head x _ e))) (flip b x o.0))
+          (off_head x ys b (all_right (Off x) xs ys (all_without (Off x) xs n ys (distinct_head x _ e)))
+          (flip b x o.0))
           ∙ p.0,
       back_detach f' f n x xs ys b p.1 here others (distinct_cons b _ o.1 (distinct_tail x _ e)),
     )
 
-pub back_attach : (f' f : Node → Node) (n a : Node) (xs ys : List Node) (b : Node) → IsWayBack f a (xs ++ ys) b
+pub back_attach : (f' f : Node → Node) (n a : Node) (xs ys : List Node) (b : Node)
+    → IsWayBack f a (xs ++ ys) b
     → f' (head_or b ys) ≡ n
     → f' n ≡ last_or a xs
     → ((m : Node) → same_node m n ≡ false → same_node m (head_or b ys) ≡ false → f' m ≡ f m)
@@ -210,14 +225,15 @@ back_attach f' f n a [] (y ∷ ys) b p here there others d =
       there,
       (
         here,
-        back_same f' f y ys b (agrees_off_two f' f n y ys others o.1.1 (distinct_head y ys (distinct_tail b _ e)))
-            (others b (flip n b o.0) (distinct_head b _ e).0) p.1,
+        back_same f' f y ys b (agrees_off_two f' f n y ys others o.1.1
+            (distinct_head y ys (distinct_tail b _ e))) (others b (flip n b o.0) (distinct_head b _ e).0) p.1,
       ),
     )
 back_attach f' f n a (x ∷ xs) ys b p here there others d =
     let o = distinct_head n _ d in let e = distinct_tail n _ d in let ob = distinct_head b _ e in (
       others x (flip n x o.1.0)
-          (off_head x ys b (all_right (Off x) xs ys (distinct_head x _ (distinct_tail b _ e))) (flip b x ob.0))
+          (off_head x ys b (all_right (Off x) xs ys (distinct_head x _ (distinct_tail b _ e)))
+          (flip b x ob.0))
           ∙ p.0,
       back_attach f' f n x xs ys b p.1 here there others
           (distinct_cons n _ (o.0, o.1.1) (distinct_cons b _ ob.1 (distinct_tail x _ (distinct_tail b _ e)))),
@@ -235,11 +251,13 @@ pub back_at : (f : Node → Node) (n a : Node) (xs ys : List Node) (b : Node) �
 back_at f n a [] ys b p = p.0
 back_at f n a (x ∷ xs) ys b p = back_at f n x xs ys b p.1
 
-pub path_first : (f : Node → Node) (a : Node) (ns : List Node) (b : Node) → IsPath f a ns b → f a ≡ head_or b ns
+pub path_first : (f : Node → Node) (a : Node) (ns : List Node) (b : Node) → IsPath f a ns b
+    → f a ≡ head_or b ns
 path_first f a [] b p = p
 path_first f a (n ∷ ns) b p = p.0
 
-pub back_last : (f : Node → Node) (a : Node) (ns : List Node) (b : Node) → IsWayBack f a ns b → f b ≡ last_or a ns
+pub back_last : (f : Node → Node) (a : Node) (ns : List Node) (b : Node) → IsWayBack f a ns b
+    → f b ≡ last_or a ns
 back_last f a [] b p = p
 back_last f a (n ∷ ns) b p = back_last f n ns b p.1
 
@@ -264,9 +282,11 @@ length-walk f a (suc count) = ap suc (length-walk f (f a) count)
 pub walk-chain : (f : Node → Node) (a : Node) (ns : List Node) → IsChain f a ns → walk f a (length ns) ≡ ns
 unfolding walk
 walk-chain f a [] c = refl
-walk-chain f a (n ∷ ns) c = λ i. c.0 i ∷ (ap (λ m. walk f (f m) (length ns)) c.0 ∙ walk-chain f (f n) ns c.1) i
+walk-chain f a (n ∷ ns) c = λ i. c.0 i ∷
+    (ap (λ m. walk f (f m) (length ns)) c.0 ∙ walk-chain f (f n) ns c.1) i
 
-chain_of_path : (f : Node → Node) (a : Node) (ns : List Node) (b : Node) → IsPath f a ns b → IsChain f (f a) ns
+chain_of_path : (f : Node → Node) (a : Node) (ns : List Node) (b : Node) → IsPath f a ns b
+    → IsChain f (f a) ns
 chain_of_path f a [] b p = tt
 chain_of_path f a (n ∷ ns) b p = (p.0, chain_of_path f n ns b p.1)
 

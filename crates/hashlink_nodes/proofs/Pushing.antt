@@ -1,5 +1,6 @@
 -- What a push does to a sound ring.
-use Rattle.std.proofs.Common.{◌≡◌, ℕ, ◌+◌, ◌-◌, ◌^◌, ◌<◌, ◌≤◌, true, false, List, [], ◌∷◌, ◌++◌, length, drop, Option}
+use Rattle.std.proofs.Common.{◌≡◌, ℕ, ◌+◌, ◌-◌, ◌^◌, ◌<◌, ◌≤◌, true, false, List, [], ◌∷◌, ◌++◌, length, drop}
+use Rattle.std.proofs.Common.{Option}
 use Rattle.std.proofs.Common.{None, Some, refl, sym, ap, ◌∙◌, subst, arith}
 use Rattle.std.specs.Prelude.{is_some, unwrap_or, Result, Ok, Err, OnErr}
 use Rattle.std.specs.List.{AllByRecursion}
@@ -12,37 +13,42 @@ use Rattle.hashlink_nodes.specs.Shape.{IsWayBack, IsShaped, IsSound, ring_of, wa
 use Rattle.hashlink_nodes.specs.Ring.{Ring, put_before, IsPlace}
 use Rattle.hashlink_nodes.proofs.Paths.{head_or, last_or, Off, IsOff, Agrees, flip, set_at_here, set_at_other}
 use Rattle.hashlink_nodes.proofs.Paths.{all_left, all_right, distinct_head, agrees_off, back_cut, length-walk}
-use Rattle.hashlink_nodes.proofs.Shapes.{IsLoose, take_spare, hold_loose, attach_loose, fresh_spare, guard_made}
+use Rattle.hashlink_nodes.proofs.Shapes.{IsLoose, take_spare, hold_loose, attach_loose, fresh_spare}
+use Rattle.hashlink_nodes.proofs.Shapes.{guard_made}
 use Rattle.hashlink_nodes.proofs.Shapes.{has_not}
 use Rattle.hashlink_nodes.proofs.Entries.{before_place, entries-append, entries-cons, entries_same}
-use Rattle.hashlink_nodes.proofs.Sound.{walk-more, of_last, of_head, presents, length-spare, few, Leaves, entries_in}
+use Rattle.hashlink_nodes.proofs.Sound.{walk-more, of_last, of_head, presents, length-spare, few, Leaves}
+use Rattle.hashlink_nodes.proofs.Sound.{entries_in}
 use Rattle.hashlink_nodes.proofs.Sound.{free_in, prev_held, Opened, closed}
 
 module _ {K V : Type 0} where
   -- ---- a new entry before a place, in the first spare node
-  pub record Pushes (s : State K V) (g first : Node) (len spare : ℕ) (place : Option Node) (h : Held K V) : Type
-      0 where
+  pub record Pushes (s : State K V) (g first : Node) (len spare : ℕ) (place : Option Node)
+      (h : Held K V) : Type 0 where
     pub has_node : s.has first ≡ true
     pub bare : s.held first ≡ None
     pub has_next : s.has (unwrap_or place g) ≡ true
     pub has_prev : s.has (s.prev (unwrap_or place g)) ≡ true
     pub some : 0 < spare
     pub room : len + spare < 2 ^ 63
-    pub sound : IsSound (attached first (s.prev (unwrap_or place g)) (unwrap_or place g) (hold first (Some h) s))
-        (Some g) (s.next first) (len + 1) (spare - 1)
+    pub sound : IsSound (attached first (s.prev (unwrap_or place g)) (unwrap_or place g)
+        (hold first (Some h) s)) (Some g) (s.next first) (len + 1) (spare - 1)
     pub
-        entries : (ring_of (attached first (s.prev (unwrap_or place g)) (unwrap_or place g) (hold first (Some h) s))
+        entries : (ring_of (attached first (s.prev (unwrap_or place g)) (unwrap_or place g)
+        (hold first (Some h) s))
         (Some g) (s.next first) (len + 1) (spare - 1)).entries
         ≡ put_before place (first, h) (ring_of s (Some g) first len spare).entries
     pub
-        free : (ring_of (attached first (s.prev (unwrap_or place g)) (unwrap_or place g) (hold first (Some h) s))
+        free : (ring_of (attached first (s.prev (unwrap_or place g)) (unwrap_or place g)
+        (hold first (Some h) s))
         (Some g) (s.next first) (len + 1) (spare - 1)).free
         ≡ drop 1 (ring_of s (Some g) first len spare).free
-    pub writes : (attached first (s.prev (unwrap_or place g)) (unwrap_or place g) (hold first (Some h) s)).link_writes
-        ≡ s.link_writes + 4
+    pub writes : (attached first (s.prev (unwrap_or place g)) (unwrap_or place g)
+        (hold first (Some h) s)).link_writes ≡ s.link_writes + 4
 
   pub pushes : (s : State K V) (g first : Node) (len spare : ℕ) (place : Option Node) (h : Held K V)
-      → IsSound s (Some g) first len spare → 0 < spare → IsPlace (ring_of s (Some g) first len spare).entries place
+      → IsSound s (Some g) first len spare → 0 < spare
+      → IsPlace (ring_of s (Some g) first len spare).entries place
       → Pushes s g first len spare place h
   unfolding hold attached store_next store_prev
   pushes s g first len spare place h sound some is_place =
@@ -96,12 +102,14 @@ module _ {K V : Type 0} where
             seen.entries ∙ entries-append s₂.held at.before (first ∷ at.after)
             ∙
             (λ i. entries_same s₂.held s.held at.before
-            (agrees_off s₂.held s.held first at.before others (all_left (Off first) at.before at.after off_cut)) i
+            (agrees_off s₂.held s.held first at.before others
+            (all_left (Off first) at.before at.after off_cut)) i
             ++
             (entries-cons s₂.held first at.after h (set_at_here s.held first (Some h))
             ∙ ap (λ l. (first, h) ∷ l)
             (entries_same s₂.held s.held at.after
-            (agrees_off s₂.held s.held first at.after others (all_right (Off first) at.before at.after off_cut))))
+            (agrees_off s₂.held s.held first at.after others
+            (all_right (Off first) at.before at.after off_cut))))
             i)
             ∙ sym (at.put (first, h));
         free = seen.free ∙ ap (drop 1) (sym more);
@@ -113,7 +121,8 @@ module _ {K V : Type 0} where
   pub guarded : (s s' : State K V) (guard : Option Node) (g first : Node) (len spare : ℕ)
       → IsSound s guard first len spare
       → GuardIs s s' guard g
-      → Leaves s' (Some g) first len spare (entries_in s guard first len spare) (free_in s guard first len spare)
+      → Leaves s' (Some g) first len spare (entries_in s guard first len spare)
+      (free_in s guard first len spare)
   unfolding entries_of
   guarded s s' None g first len spare sound is =
       let made = subst (λ t. IsShaped t g first [] []) (sym is) (guard_made s g first sound.2) in
@@ -121,7 +130,8 @@ module _ {K V : Type 0} where
       record { sound = seen.sound; entries = seen.entries; free = seen.free }
   guarded s s' (Some x) g first len spare sound is = record {
     sound =
-        subst (λ (t : State K V × Node). IsSound t.0 (Some t.1) first len spare) (λ i. (sym is.1 i, sym is.0 i))
+        subst (λ (t : State K V × Node). IsSound t.0 (Some t.1) first len spare)
+        (λ i. (sym is.1 i, sym is.0 i))
         sound;
     entries = λ i. entries_in (is.1 i) (Some (is.0 i)) first len spare;
     free = λ i. free_in (is.1 i) (Some (is.0 i)) first len spare;
@@ -133,7 +143,8 @@ module _ {K V : Type 0} where
   guarded_writes s s' None g is = ap (λ (t : State K V). t.link_writes) is
   guarded_writes s s' (Some x) g is = ap (λ (t : State K V). t.link_writes) is.1
 
-  pub spare_made : (s s' : State K V) (g first n : Node) (len : ℕ) → IsSound s (Some g) first len 0 → s.has n ≡ false
+  pub spare_made : (s s' : State K V) (g first n : Node) (len : ℕ) → IsSound s (Some g) first len 0
+      → s.has n ≡ false
       → len + 1 < 2 ^ 63
       → s' ≡ add n s
       → Leaves s' (Some g) n len 1 (entries_in s (Some g) first len 0) (n ∷ [])
@@ -144,24 +155,37 @@ module _ {K V : Type 0} where
       (fresh_spare s g first ns n sound new (omega (arith, len_ns))) in
       let seen = presents s' g n len 1 ns (n ∷ []) made len_ns refl in
       let off : Agrees s'.held s.held ns
-      = subst (λ t. Agrees t.held s.held ns) (sym is) (spared ns (all_left (λ m. s.has m ≡ true) ns [] sound.there.1))
+      = subst (λ t. Agrees t.held s.held ns) (sym is)
+      (spared ns (all_left (λ m. s.has m ≡ true) ns [] sound.there.1))
       in
-      record { sound = seen.sound; entries = seen.entries ∙ entries_same s'.held s.held ns off; free = seen.free }
+      record {
+        sound = seen.sound;
+        entries = seen.entries ∙ entries_same s'.held s.held ns off;
+        free =
+            seen.free;
+      }
     where
-      spared : (ms : List Node) → AllByRecursion (λ m. s.has m ≡ true) ms → Agrees (set_at s.held n None) s.held ms
+      spared : (ms : List Node) → AllByRecursion (λ m. s.has m ≡ true) ms
+          → Agrees (set_at s.held n None) s.held ms
       spared [] h = tt
       spared (m ∷ ms) h = (set_at_other s.held n m None (flip n m (has_not s n m new h.0)), spared ms h.1)
 
   pub push_from : (s : State K V) (guard : Option Node) (g first : Node) (len spare : ℕ) (v : Ring K V)
-      → Opened s guard g first len spare v → 0 < length v.free → (es : List (Node × Held K V)) → v.entries ≡ es
+      → Opened s guard g first len spare v → 0 < length v.free → (es : List (Node × Held K V))
+      → v.entries ≡ es
       → (place : Option Node) → IsPlace es place
       → (h : Held K V)
       → Pushes s g first len spare place h
   push_from s guard g first len spare v o some es is_es place is_place h =
-      let e : (ring_of s (Some g) first len spare).entries ≡ es = ap (λ (r : Ring K V). r.entries) o.view ∙ is_es in
+      let e : (ring_of s (Some g) first len spare).entries ≡ es = ap (λ (r : Ring K V). r.entries) o.view
+      ∙ is_es in
       pushes s g first len spare place h o.sound
-      (omega
-      (arith, some, ap (λ (r : Ring K V). length r.free) o.view, length-spare s first len spare (Some g) o.sound))
+      (omega (
+        arith,
+        some,
+        ap (λ (r : Ring K V). length r.free) o.view,
+        length-spare s first len spare (Some g) o.sound,
+      ))
       (subst (λ l. IsPlace l place) (sym e) is_place)
 
   pub push_done : (s s₁ s₂ : State K V) (guard : Option Node) (g first first' p q : Node) (len spare : ℕ)
@@ -172,21 +196,25 @@ module _ {K V : Type 0} where
       → Pushes s g first len spare place h → first' ≡ s.next first → s₁ ≡ hold first (Some h) s
       → q ≡ unwrap_or place g → p ≡ s₁.prev q → s₂ ≡ attached first p q s₁
       → Leaves s₂ guard first' (len + 1) (spare - 1) (put_before place (first, h) es) (drop 1 fs)
-  push_done s s₁ s₂ guard g first first' p q len spare v o es is_es fs is_fs place h push is_first is₁ is_q is_p is₂ =
+  push_done s s₁ s₂ guard g first first' p q len spare v o es is_es fs is_fs place h push
+      is_first is₁ is_q is_p is₂ =
       let back : p ≡ s.prev (unwrap_or place g)
       = is_p ∙ (λ i. (is₁ i).prev (is_q i)) ∙ ap (λ f. f (unwrap_or place g)) (prev_held s first (Some h)) in
       let whole : attached first (s.prev (unwrap_or place g)) (unwrap_or place g) (hold first (Some h) s) ≡ s₂
       = (λ i. attached first (sym back i) (sym is_q i) (sym is₁ i)) ∙ sym is₂ in
-      let made : Leaves (attached first (s.prev (unwrap_or place g)) (unwrap_or place g) (hold first (Some h) s))
+      let made : Leaves (attached first (s.prev (unwrap_or place g)) (unwrap_or place g)
+      (hold first (Some h) s))
       (Some g) (s.next first) (len + 1) (spare - 1) (put_before place (first, h) es) (drop 1 fs)
       = record {
         sound = push.sound;
-        entries = push.entries ∙ ap (put_before place (first, h)) (ap (λ (r : Ring K V). r.entries) o.view ∙ is_es);
+        entries = push.entries ∙ ap (put_before place (first, h))
+            (ap (λ (r : Ring K V). r.entries) o.view ∙ is_es);
         free = push.free ∙ ap (λ (r : Ring K V). drop 1 r.free) o.view ∙ is_fs;
       } in
       closed s₂ guard g first' (len + 1) (spare - 1) _ _ o.is
       (subst
-      (λ (t : State K V × Node). Leaves t.0 (Some g) t.1 (len + 1) (spare - 1) (put_before place (first, h) es)
+      (λ (t : State K V × Node). Leaves t.0 (Some g) t.1 (len + 1) (spare - 1)
+      (put_before place (first, h) es)
       (drop 1 fs))
       (λ i. (whole i, sym is_first i)) made)
 
@@ -196,7 +224,8 @@ module _ {K V : Type 0} where
   unfolding hold attached store_next store_prev
   push_writes s s₁ s₂ n p q h w is_w is₁ is₂ =
       let a : s₂.link_writes ≡ s₁.link_writes + 4 = ap (λ (t : State K V). t.link_writes) is₂ ∙ omega arith in
-      let b : s₁.link_writes ≡ s.link_writes = ap (λ (t : State K V). t.link_writes) is₁ in omega (arith, a, b, is_w)
+      let b : s₁.link_writes ≡ s.link_writes = ap (λ (t : State K V). t.link_writes) is₁ in omega
+      (arith, a, b, is_w)
 
   -- ---- the steps by which a node is made spare
   pub record Guarded (s : State K V) (g first : Node) (len spare : ℕ) (v : Ring K V) : Type 0 where
@@ -204,14 +233,20 @@ module _ {K V : Type 0} where
     pub view : ring_of s (Some g) first len spare ≡ v
 
   pub guard_done : (s s' : State K V) (guard : Option Node) (g first : Node) (len spare : ℕ)
-      → IsSound s guard first len spare → (v : Ring K V) → ring_of s guard first len spare ≡ v → GuardIs s s' guard g
+      → IsSound s guard first len spare → (v : Ring K V) → ring_of s guard first len spare
+      ≡ v → GuardIs s s' guard g
       → Guarded s' g first len spare v
   guard_done s s' guard g first len spare sound v view is =
       let l = guarded s s' guard g first len spare sound is in
       record {
         sound = l.sound;
         view =
-            (λ i. record { entries = l.entries i; free = l.free i; link_writes = guarded_writes s s' guard g is i })
+            (λ i. record {
+              entries = l.entries i;
+              free = l.free i;
+              link_writes =
+                  guarded_writes s s' guard g is i;
+            })
             ∙ view;
       }
 
@@ -230,7 +265,8 @@ module _ {K V : Type 0} where
       → SpareDone s' g n len v
   spare_done s s' g first n len spare v old none new room is =
       let zero : spare ≡ 0 = omega (arith, none) in
-      let l = spare_made s s' g first n len (subst (λ k. IsSound s (Some g) first len k) zero old.sound) new room is in
+      let l = spare_made s s' g first n len (subst (λ k. IsSound s (Some g) first len k) zero old.sound)
+      new room is in
       record {
         sound = l.sound;
         entries = l.entries ∙ ap (λ (r : Ring K V). r.entries) old.view;

@@ -1,5 +1,6 @@
 -- What each step of the ring's calls does to its shape.
-use Rattle.std.proofs.Common.{◌≡◌, ◌+◌, ◌^◌, ◌<◌, Bool, true, false, List, [], ◌∷◌, ◌++◌, length, Option, None, refl}
+use Rattle.std.proofs.Common.{◌≡◌, ◌+◌, ◌^◌, ◌<◌, Bool, true, false, List, [], ◌∷◌, ◌++◌, length, Option}
+use Rattle.std.proofs.Common.{None, refl}
 use Rattle.std.proofs.Common.{sym, ap, ◌∙◌, subst, arith, lit<}
 use Rattle.std.specs.Prelude.{is_some}
 use Rattle.std.specs.List.{AllByRecursion, IsDistinct}
@@ -7,13 +8,18 @@ use Rattle.std.proofs.lemmas.List.{append_assoc, length-append}
 use Rattle.hashlink_nodes.specs.declared.node.Node.{Node}
 use Rattle.hashlink_nodes.specs.declared.held.Held.{Held}
 use Rattle.hashlink_nodes.specs.Node.{same_node, eq-same_node}
-use Rattle.hashlink_nodes.specs.State.{State, set_at, store_next, store_prev, hold, add, detached, attached, Drops}
+use Rattle.hashlink_nodes.specs.State.{State, set_at, store_next, store_prev, hold, add, detached, attached}
+use Rattle.hashlink_nodes.specs.State.{Drops}
 use Rattle.hashlink_nodes.specs.Shape.{IsPath, IsWayBack, IsChain, IsShaped}
-use Rattle.hashlink_nodes.proofs.Paths.{head_or, last_or, Off, IsOff, flip, set_at_here, set_at_other, all_left}
-use Rattle.hashlink_nodes.proofs.Paths.{all_right, all_without, all_with, all_middle, all_as, all_zip, distinct_front}
-use Rattle.hashlink_nodes.proofs.Paths.{distinct_middle, distinct_head, distinct_tail, distinct_cons, off_rest}
+use Rattle.hashlink_nodes.proofs.Paths.{head_or, last_or, Off, IsOff, flip, set_at_here, set_at_other}
+use Rattle.hashlink_nodes.proofs.Paths.{all_left}
+use Rattle.hashlink_nodes.proofs.Paths.{all_right, all_without, all_with, all_middle, all_as, all_zip}
+use Rattle.hashlink_nodes.proofs.Paths.{distinct_front}
+use Rattle.hashlink_nodes.proofs.Paths.{distinct_middle, distinct_head, distinct_tail, distinct_cons}
+use Rattle.hashlink_nodes.proofs.Paths.{off_rest}
 use Rattle.hashlink_nodes.proofs.Paths.{off_last, off_head, path_same, back_same, chain_same, agrees_off}
-use Rattle.hashlink_nodes.proofs.Paths.{agrees_off_two, path_detach, path_attach, back_detach, back_attach, path_at}
+use Rattle.hashlink_nodes.proofs.Paths.{agrees_off_two, path_detach, path_attach, back_detach, back_attach}
+use Rattle.hashlink_nodes.proofs.Paths.{path_at}
 use Rattle.hashlink_nodes.proofs.Paths.{back_at}
 
 distinct_left : (xs ys : List Node) → IsDistinct same_node (xs ++ ys) → IsDistinct same_node xs
@@ -29,12 +35,14 @@ module _ (g : Node) (xs : List Node) (n : Node) (ys fs : List Node) where
   without_it : g ∷ ((xs ++ ys) ++ fs) ≡ (g ∷ xs) ++ (ys ++ fs)
   without_it = ap (λ l. g ∷ l) (append_assoc xs ys fs)
 
-  distinct_out : IsDistinct same_node (g ∷ ((xs ++ n ∷ ys) ++ fs)) → IsDistinct same_node (n ∷ g ∷ ((xs ++ ys) ++ fs))
+  distinct_out : IsDistinct same_node (g ∷ ((xs ++ n ∷ ys) ++ fs))
+      → IsDistinct same_node (n ∷ g ∷ ((xs ++ ys) ++ fs))
   distinct_out d =
       let r = distinct_front (g ∷ xs) n (ys ++ fs) (subst (IsDistinct same_node) with_it d) in
       subst (λ l. IsDistinct same_node (n ∷ l)) (sym without_it) (distinct_cons n _ r.0 r.1)
 
-  distinct_in : IsDistinct same_node (n ∷ g ∷ ((xs ++ ys) ++ fs)) → IsDistinct same_node (g ∷ ((xs ++ n ∷ ys) ++ fs))
+  distinct_in : IsDistinct same_node (n ∷ g ∷ ((xs ++ ys) ++ fs))
+      → IsDistinct same_node (g ∷ ((xs ++ n ∷ ys) ++ fs))
   distinct_in d =
       let e = subst (λ l. IsDistinct same_node (n ∷ l)) without_it d in
       subst (IsDistinct same_node) (sym with_it)
@@ -152,7 +160,8 @@ module _ {K V : Type 0} where
     unfolding attached store_next store_prev
     attach_loose xs ys fs n h held =
         let p = last_or g xs in let q = head_or g ys in
-        let f₁ = set_at s.next n q in let f' = set_at f₁ p n in let b₁ = set_at s.prev n p in let b' = set_at b₁ q n in
+        let f₁ = set_at s.next n q in let f' = set_at f₁ p n in let b₁ = set_at s.prev n p in let b' =
+        set_at b₁ q n in
         let d = distinct_left (n ∷ g ∷ (xs ++ ys)) fs h.apart in let off = distinct_head n _ d in
         let not_p : same_node n p ≡ false = off_last n g xs ys off in
         let not_q : same_node n q ≡ false = off_head n ys g (all_right (Off n) xs ys off.1) off.0 in
@@ -186,16 +195,19 @@ module _ {K V : Type 0} where
     unfolding store_next
     free_loose ns fs n h bare =
         let f' = set_at s.next n first in let off = distinct_head n _ h.apart in
-        let others : (m : Node) → same_node m n ≡ false → f' m ≡ s.next m = λ m k. set_at_other s.next n m first k in
+        let others : (m : Node) → same_node m n ≡ false → f' m
+        ≡ s.next m = λ m k. set_at_other s.next n m first k in
         record {
           forward =
-              path_same f' s.next g ns g (agrees_off f' s.next n (g ∷ ns) others (all_left (Off n) (g ∷ ns) fs off))
+              path_same f' s.next g ns g
+              (agrees_off f' s.next n (g ∷ ns) others (all_left (Off n) (g ∷ ns) fs off))
               h.forward;
           backward = h.backward;
           chain = (
             refl,
             subst (λ m. IsChain f' m fs) (sym (set_at_here s.next n first))
-                (chain_same f' s.next first fs (agrees_off f' s.next n fs others (all_right (Off n) (g ∷ ns) fs off))
+                (chain_same f' s.next first fs
+                (agrees_off f' s.next n fs others (all_right (Off n) (g ∷ ns) fs off))
                 h.chain),
           );
           apart = distinct_middle (g ∷ ns) n fs off (distinct_tail n _ h.apart);
@@ -206,13 +218,15 @@ module _ {K V : Type 0} where
           few = omega (arith, h.few);
         }
 
-    pub drop_loose : (s' : State K V) (ns fs : List Node) (n : Node) → IsLoose s g first ns fs n → Drops n s s'
+    pub drop_loose : (s' : State K V) (ns fs : List Node) (n : Node)
+        → IsLoose s g first ns fs n → Drops n s s'
         → IsShaped s' g first ns fs
     drop_loose s' ns fs n h d =
         let off = distinct_head n _ h.apart in
         let on_ring = all_left (Off n) (g ∷ ns) fs off in let on_free = all_right (Off n) (g ∷ ns) fs off in
         record {
-          forward = path_same s'.next s.next g ns g (agrees_off s'.next s.next n (g ∷ ns) d.next on_ring) h.forward;
+          forward = path_same s'.next s.next g ns g (agrees_off s'.next s.next n (g ∷ ns) d.next on_ring)
+              h.forward;
           backward =
               back_same s'.prev s.prev g ns g (agrees_off s'.prev s.prev n ns d.prev on_ring.1)
               (d.prev g (flip n g off.0)) h.backward;
@@ -242,14 +256,16 @@ module _ {K V : Type 0} where
       record {
         forward =
             path_same (set_at s.next n n) s.next g ns g
-            (agrees_off (set_at s.next n n) s.next n (g ∷ ns) (λ m k. set_at_other s.next n m n k) on_ring) h.forward;
+            (agrees_off (set_at s.next n n) s.next n (g ∷ ns) (λ m k. set_at_other s.next n m n k) on_ring)
+            h.forward;
         backward =
             back_same (set_at s.prev n n) s.prev g ns g
             (agrees_off (set_at s.prev n n) s.prev n ns (λ m k. set_at_other s.prev n m n k) on_ring.1)
             (set_at_other s.prev n g n (flip n g off.0)) h.backward;
         chain = (refl, tt);
         apart = distinct_middle (g ∷ ns) n [] off h.apart;
-        full = all_zip (λ m k o. ap is_some (set_at_other s.held n m None (flip n m o)) ∙ k) ns h.full on_ring.1;
+        full = all_zip (λ m k o. ap is_some (set_at_other s.held n m None (flip n m o)) ∙ k)
+            ns h.full on_ring.1;
         bare = (set_at_other s.held n g None (flip n g off.0) ∙ h.bare.0, (set_at_here s.held n None, tt));
         there =
             all_with (λ m. set_at s.has n true m ≡ true) (g ∷ ns) n [] (set_at_here s.has n true)

@@ -1,5 +1,6 @@
 -- A sound ring: how it is seen, and what it says of its nodes.
-use Rattle.std.proofs.Common.{◌≡◌, ℕ, zero, suc, ◌+◌, ◌-◌, ◌^◌, ◌<◌, true, false, List, [], ◌∷◌, ◌++◌, length, Option}
+use Rattle.std.proofs.Common.{◌≡◌, ℕ, zero, suc, ◌+◌, ◌-◌, ◌^◌, ◌<◌, true, false, List, [], ◌∷◌, ◌++◌, length}
+use Rattle.std.proofs.Common.{Option}
 use Rattle.std.proofs.Common.{None, Some, refl, sym, ap, ◌∙◌, subst, arith}
 use Rattle.std.specs.Prelude.{IfSome}
 use Rattle.std.specs.List.{AllByRecursion, IsDistinct}
@@ -11,14 +12,17 @@ use Rattle.hashlink_nodes.specs.Node.{same_node}
 use Rattle.hashlink_nodes.specs.State.{State, store_next, store_prev, hold, detached, attached}
 use Rattle.hashlink_nodes.specs.Shape.{IsShaped, IsSound, ring_of, walk, entries_of}
 use Rattle.hashlink_nodes.specs.Ring.{Ring, Holds}
-use Rattle.hashlink_nodes.proofs.Paths.{head_or, last_or, set_at_here, set_at_other, all_left, all_right, all_middle}
+use Rattle.hashlink_nodes.proofs.Paths.{head_or, last_or, set_at_here, set_at_other, all_left, all_right}
+use Rattle.hashlink_nodes.proofs.Paths.{all_middle}
 use Rattle.hashlink_nodes.proofs.Paths.{distinct_tail, path_at, back_at, length-walk, walk-chain, walk-path}
 use Rattle.hashlink_nodes.proofs.Entries.{cut_at, says_at, keys-entries, length-entries}
 
-pub walk-more : (f : Node → Node) (a : Node) (count : ℕ) → 0 < count → walk f a count ≡ a ∷ walk f (f a) (count - 1)
+pub walk-more : (f : Node → Node) (a : Node) (count : ℕ) → 0 < count → walk f a count
+    ≡ a ∷ walk f (f a) (count - 1)
 unfolding walk
 walk-more f a zero h = absurd (omega arith)
-walk-more f a (suc count) h = let e : suc count - 1 ≡ count = omega arith in ap (λ k. a ∷ walk f (f a) k) (sym e)
+walk-more f a (suc count) h = let e : suc count - 1 ≡ count = omega arith in ap
+    (λ k. a ∷ walk f (f a) k) (sym e)
 
 module _ (P : Node → Type 0) where
   pub of_last : (a : Node) (xs ys : List Node) → AllByRecursion P (a ∷ (xs ++ ys)) → P (last_or a xs)
@@ -42,7 +46,8 @@ module _ {K V : Type 0} where
     pub entries : (ring_of s (Some g) first len spare).entries ≡ entries_of s.held ns
     pub free : (ring_of s (Some g) first len spare).free ≡ fs
 
-  pub presents : (s : State K V) (g first : Node) (len spare : ℕ) (ns fs : List Node) → IsShaped s g first ns fs
+  pub presents : (s : State K V) (g first : Node) (len spare : ℕ) (ns fs : List Node)
+      → IsShaped s g first ns fs
       → length ns ≡ len → length fs ≡ spare
       → Presents s g first len spare ns fs
   presents s g first len spare ns fs h is_len is_spare =
@@ -51,7 +56,8 @@ module _ {K V : Type 0} where
       let spares : walk s.next first spare ≡ fs
       = ap (walk s.next first) (sym is_spare) ∙ walk-chain s.next first fs h.chain in
       record {
-        sound = subst (λ (l : List Node × List Node). IsShaped s g first l.0 l.1) (λ i. (sym along i, sym spares i)) h;
+        sound = subst (λ (l : List Node × List Node). IsShaped s g first l.0 l.1)
+            (λ i. (sym along i, sym spares i)) h;
         entries = ap (entries_of s.held) along;
         free = spares;
       }
@@ -96,7 +102,8 @@ module _ {K V : Type 0} where
   abbrev pub free_in : State K V → Option Node → Node → ℕ → ℕ → List Node
   free_in s guard first len spare = (ring_of s guard first len spare).free
 
-  pub no_entry : (s : State K V) (first n : Node) (len spare : ℕ) → Holds (entries_in s None first len spare) n → ⊥
+  pub no_entry : (s : State K V) (first n : Node) (len spare : ℕ)
+      → Holds (entries_in s None first len spare) n → ⊥
   unfolding entries_of
   no_entry s first n len spare h = cc h
 
@@ -130,7 +137,8 @@ module _ {K V : Type 0} where
   unfolding store_next store_prev detached attached
   held_moved t m p q = refl
 
-  pub writes_moved : (t : State K V) (m p q : Node) → (attached m p q (detached m t)).link_writes ≡ t.link_writes + 6
+  pub writes_moved : (t : State K V) (m p q : Node) → (attached m p q (detached m t)).link_writes
+      ≡ t.link_writes + 6
   unfolding store_next store_prev detached attached
   writes_moved t m p q = omega arith
 
@@ -140,7 +148,8 @@ module _ {K V : Type 0} where
   writes_freed t m a = omega arith
 
   -- ---- a node of the ring
-  pub record InRing (s : State K V) (guard : Option Node) (first : Node) (len spare : ℕ) (n : Node) : Type 0 where
+  pub record InRing (s : State K V) (guard : Option Node) (first : Node) (len spare : ℕ)
+      (n : Node) : Type 0 where
     pub value : Held K V
     pub has_node : s.has n ≡ true
     pub has_next : s.has (s.next n) ≡ true
@@ -182,7 +191,8 @@ module _ {K V : Type 0} where
     pub small : len + spare < 2 ^ 63
     pub differ : IsDistinct same_node (keys_of v.entries ++ v.free)
 
-  pub facts : (s : State K V) (guard : Option Node) (first : Node) (len spare : ℕ) → IsSound s guard first len spare
+  pub facts : (s : State K V) (guard : Option Node) (first : Node) (len spare : ℕ)
+      → IsSound s guard first len spare
       → (v : Ring K V) → ring_of s guard first len spare ≡ v
       → Facts len spare v
   facts s guard first len spare sound v view =
@@ -195,14 +205,15 @@ module _ {K V : Type 0} where
       })
 
   -- a sound ring with its guard named
-  pub record Opened (s : State K V) (guard : Option Node) (g first : Node) (len spare : ℕ) (v : Ring K V) : Type
-      0 where
+  pub record Opened (s : State K V) (guard : Option Node) (g first : Node) (len spare : ℕ)
+      (v : Ring K V) : Type 0 where
     pub sound : IsSound s (Some g) first len spare
     pub view : ring_of s (Some g) first len spare ≡ v
     pub is : guard ≡ Some g
 
   pub opened : (s : State K V) (guard : Option Node) (g first : Node) (len spare : ℕ)
-      → IsSound s guard first len spare → guard ≡ Some g → (v : Ring K V) → ring_of s guard first len spare ≡ v
+      → IsSound s guard first len spare → guard ≡ Some g → (v : Ring K V)
+      → ring_of s guard first len spare ≡ v
       → Opened s guard g first len spare v
   opened s guard g first len spare sound is v view = record {
     sound = subst (λ o. IsSound s o first len spare) is sound;
@@ -211,8 +222,8 @@ module _ {K V : Type 0} where
   }
 
   -- and the name forgotten
-  pub closed : (s : State K V) (guard : Option Node) (g first : Node) (len spare : ℕ) (es : List (Node × Held K V))
-      (fs : List Node)
+  pub closed : (s : State K V) (guard : Option Node) (g first : Node) (len spare : ℕ)
+      (es : List (Node × Held K V)) (fs : List Node)
       → guard ≡ Some g → Leaves s (Some g) first len spare es fs
       → Leaves s guard first len spare es fs
   closed s guard g first len spare es fs is l = subst (λ o. Leaves s o first len spare es fs) (sym is) l
@@ -229,11 +240,13 @@ module _ {K V : Type 0} where
 
   -- the steps of a removal
 
-  pub node_of : (s : State K V) (guard : Option Node) (first : Node) (len spare : ℕ) → IsSound s guard first len spare
+  pub node_of : (s : State K V) (guard : Option Node) (first : Node) (len spare : ℕ)
+      → IsSound s guard first len spare
       → (v : Ring K V) → ring_of s guard first len spare ≡ v → (n : Node) → Holds v.entries n
       → InRing s guard first len spare n
   node_of s guard first len spare sound v view n there =
-      in_the_ring s guard first len spare n sound (subst (λ (r : Ring K V). Holds r.entries n) (sym view) there)
+      in_the_ring s guard first len spare n sound
+      (subst (λ (r : Ring K V). Holds r.entries n) (sym view) there)
 
   pub guard_there : (s : State K V) (guard : Option Node) (first : Node) (len spare : ℕ) (v : Ring K V)
       → ring_of s guard first len spare ≡ v → (n : Node) → Holds v.entries n → guard ≡ None

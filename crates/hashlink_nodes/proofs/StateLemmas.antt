@@ -1,5 +1,6 @@
 -- What the state of the blocks is after one of them changed, came or went.
-use Rattle.std.proofs.Common.{◌≡◌, ℕ, ◌+◌, Bool, true, false, cond, List, [], ◌∷◌, length, Option, None, Some, IsSome}
+use Rattle.std.proofs.Common.{◌≡◌, ℕ, ◌+◌, Bool, true, false, cond, List, [], ◌∷◌, length, Option, None, Some}
+use Rattle.std.proofs.Common.{IsSome}
 use Rattle.std.proofs.Common.{refl, sym, ap, ◌∙◌, arith}
 use Rattle.std.specs.Prelude.{is_some}
 use Rattle.std.specs.Map.{lookup, set_value, remove_entry}
@@ -22,7 +23,8 @@ use Rattle.std.specs.Option.{option_map}
 
 module _ {X : Type 0} where
   lookup_set : (n m : Node) (bs : List (Node × X)) (b w : X) → lookup (same_node n) bs ≡ Some b
-      → lookup (same_node m) (set_value (same_node n) bs w) ≡ cond (same_node m n) (Some w) (lookup (same_node m) bs)
+      → lookup (same_node m) (set_value (same_node n) bs w)
+      ≡ cond (same_node m n) (Some w) (lookup (same_node m) bs)
   lookup_set n m bs b w e =
       let there : is_some (lookup (same_node n) bs) ≡ true = ap is_some e in
       lookup-set_value same_node_equiv (same_node n) (λ x y h. same_node_equiv.congr n x y h) m w bs there
@@ -36,7 +38,8 @@ module _ {X : Type 0} where
       (λ (y : Bool). same_node n b.0 ≡ y
       → lookup (same_node m) (cond y bs (b ∷ remove_entry (same_node n) bs))
       ≡ cond (same_node m b.0) (Some b.1) (lookup (same_node m) bs)) [
-        | true ↦ λ same. let here : same_node m b.0 ≡ false = ap (λ k. same_node m k) (sym (eq-same_node n b.0 same))
+        | true ↦ λ same. let here : same_node m b.0
+            ≡ false = ap (λ k. same_node m k) (sym (eq-same_node n b.0 same))
             ∙ h in sym (ap (λ y. cond y (Some b.1) (lookup (same_node m) bs)) here)
         | false ↦ λ _. ap (λ o. cond (same_node m b.0) (Some b.1) o) (lookup_removed n m bs h)
       ]) refl
@@ -78,8 +81,8 @@ module _ {X : Type 0} where
         (elim (same_node m n) as
         (λ (y : Bool). same_node m n ≡ y
         → f m (cond y (Some w) (lookup (same_node m) bs)) ≡ f m (lookup (same_node m) bs)) [
-          | true ↦ λ same. let is : m ≡ n = eq-same_node m n same in ap (λ k. f k (Some w)) is ∙ kept ∙ ap (f n) (sym e)
-              ∙ ap (λ k. f k (lookup (same_node k) bs)) (sym is)
+          | true ↦ λ same. let is : m ≡ n = eq-same_node m n same in ap (λ k. f k (Some w)) is
+              ∙ kept ∙ ap (f n) (sym e) ∙ ap (λ k. f k (lookup (same_node k) bs)) (sym is)
           | false ↦ λ _. refl
         ]) refl
 
@@ -152,7 +155,8 @@ module _ {K V : Type 0} (bs : Blocks K V) (count count' : ℕ) (n : Node) (found
 
 module _ {K V : Type 0} where
   -- n's block is the first, and links to n itself
-  added_first : (bs : Blocks K V) (count : ℕ) (n : Node) (w : ManuallyDrop (Block K V)) → w.value.links ≡ around n
+  added_first : (bs : Blocks K V) (count : ℕ) (n : Node) (w : ManuallyDrop (Block K V))
+      → w.value.links ≡ around n
       → w.value.held ≡ None
       → state ((n, w) ∷ bs) count ≡ add n (state bs count)
   unfolding add
@@ -178,20 +182,24 @@ module _ {K V : Type 0} where
         link_writes = count;
       }
 
-  pub added : (bs bs' : Blocks K V) (count : ℕ) (n : Node) (kept found : ManuallyDrop (Block K V)) (old : Block K V)
-      (links : Links)
-      → bs' ≡ (n, kept) ∷ bs → lookup (same_node n) bs' ≡ Some found → old ≡ found.value → kept.value.held ≡ None
+  pub added : (bs bs' : Blocks K V) (count : ℕ) (n : Node) (kept found : ManuallyDrop (Block K V))
+      (old : Block K V) (links : Links)
+      → bs' ≡ (n, kept) ∷ bs → lookup (same_node n) bs' ≡ Some found → old ≡ found.value
+      → kept.value.held ≡ None
       → links ≡ around n
-      → state (set_value (same_node n) bs' (record { value = record { links = links; held = old.held } })) count
+      → state (set_value (same_node n) bs' (record { value = record { links = links; held = old.held } }))
+      count
       ≡ add n (state bs count)
   added bs bs' count n kept found old links is e is_old bare is_around =
       let w : ManuallyDrop (Block K V) = record { value = record { links = links; held = old.held } } in
       let here = same_node-refl n in
       let first : Some kept ≡ Some found
-      = sym (ap (λ y. cond y (Some kept) (lookup (same_node n) bs)) here) ∙ sym (ap (lookup (same_node n)) is) ∙ e in
+      = sym (ap (λ y. cond y (Some kept) (lookup (same_node n) bs)) here)
+      ∙ sym (ap (lookup (same_node n)) is) ∙ e in
       let same : kept ≡ found = cc in
       let none : old.held ≡ None
-      = ap (λ (o : Block K V). o.held) (is_old ∙ ap (λ (m : ManuallyDrop (Block K V)). m.value) (sym same)) ∙ bare in
+      = ap (λ (o : Block K V). o.held) (is_old ∙ ap (λ (m : ManuallyDrop (Block K V)). m.value) (sym same))
+      ∙ bare in
       ap (λ (cs : Blocks K V). state (set_value (same_node n) cs w) count) is
       ∙ ap (λ y. state (cond y ((n, w) ∷ bs) ((n, kept) ∷ set_value (same_node n) bs w)) count) here
       ∙ added_first bs count n w is_around none
@@ -222,19 +230,22 @@ module _ {K V : Type 0} where
   unfolding store_next
   has_after_next n to s = refl
 
-pub alter_is : {K X : Type 0} (test : K → Bool) (f : X → X) (es : List (K × X)) (b : X) → lookup test es ≡ Some b
+pub alter_is : {K X : Type 0} (test : K → Bool) (f : X → X) (es : List (K × X)) (b : X)
+    → lookup test es ≡ Some b
     → alter test f es ≡ set_value test es (f b)
 alter_is test f [] b e = absurd (cc e)
 alter_is test f (x ∷ es) b e =
     (elim (test x.0) as
     (λ (y : Bool). cond y (Some x.1) (lookup test es) ≡ Some b
-    → cond y ((x.0, f x.1) ∷ es) (x ∷ alter test f es) ≡ cond y ((x.0, f b) ∷ es) (x ∷ set_value test es (f b))) [
+    → cond y ((x.0, f x.1) ∷ es) (x ∷ alter test f es)
+    ≡ cond y ((x.0, f b) ∷ es) (x ∷ set_value test es (f b))) [
       | true ↦ λ k. let same : x.1 ≡ b = cc in ap (λ v. (x.0, f v) ∷ es) same
       | false ↦ λ k. ap (λ l. x ∷ l) (alter_is test f es b k)
     ]) e
 
 -- the blocks with another value at a node that holds one
-pub value_anew : {K V : Type 0} (c : Cells K V) (n : Node) (w : V) (found : ManuallyDrop (Block K V)) (h : Held K V)
+pub value_anew : {K V : Type 0} (c : Cells K V) (n : Node) (w : V) (found : ManuallyDrop (Block K V))
+    (h : Held K V)
     → lookup (same_node n) c.arena.blocks ≡ Some found
     → found.value.held ≡ Some h
     → state_of (cells_with c n w) ≡ hold n (Some (with_value h w)) (state_of c)

@@ -21,7 +21,13 @@ kept_with w m = record { value = record { links = m.value.links; held = body_wit
 -- the same blocks with w as the node's value
 abbrev pub cells_with : {K V : Type 0} → Cells K V → Node → V → Cells K V
 cells_with c n w =
-    record c { arena = record { mark = c.arena.mark; blocks = alter (same_node n) (kept_with w) c.arena.blocks } }
+    record c {
+      arena = record {
+        mark = c.arena.mark;
+        blocks = alter (same_node n)
+            (kept_with w) c.arena.blocks;
+      };
+    }
 
 abbrev pub LendsCellValue : (K V : RattleType) → MutBor (Cells K.Denot V.Denot) → Node → MutBor V.Denot → Fml
 LendsCellValue K V c n r = Lends (the_row K V) V c r (cells_with c.now n)

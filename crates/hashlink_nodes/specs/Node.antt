@@ -1,4 +1,5 @@
--- When two nodes are one. What a node is made of stays hidden: callers know two of them apart by `same_node` alone.
+-- When two nodes are one. What a node is made of stays hidden: callers know two of them apart by `same_node`
+-- alone.
 use Rattle.std.specs.Prelude.{◌≡◌, Bool, true, false, ◌&&◌, nat_eq}
 use Rattle.std.specs.Cmp.{IsEquivalence, nat_eq_equiv}
 use Rattle.std.proofs.Common.{refl, sym, ap, ◌∙◌, eqb-true}
@@ -46,8 +47,8 @@ same_node-symm : (a b : Node) → same_node a b ≡ same_node b a
 same_node-symm a b = (elim (same_node b a) as (λ (y : Bool). same_node b a ≡ y → same_node a b ≡ y) [
   | true ↦ λ e. let same : b ≡ a = eq-same_node b a e in ap (λ n. same_node a n) same ∙ same_node-refl a
   | false ↦ λ e. (elim (same_node a b) as (λ (y : Bool). same_node a b ≡ y → y ≡ false) [
-    | true ↦ λ f. let same : a ≡ b = eq-same_node a b f in sym (same_node-refl b) ∙ ap (λ n. same_node b n) (sym same)
-        ∙ e
+    | true ↦ λ f. let same : a ≡ b = eq-same_node a b f in sym (same_node-refl b)
+        ∙ ap (λ n. same_node b n) (sym same) ∙ e
     | false ↦ λ f. refl
   ]) refl
 ]) refl

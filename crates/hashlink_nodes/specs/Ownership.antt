@@ -12,7 +12,8 @@ use denote.RawPtr.{Ptr}
 use Rattle.hashlink_nodes.specs.declared.node.Node.{Node}
 
 -- what the members say at every handle alike
-abbrev pub at_every_handle : {token : Ty → Ptr → Fml} → ((heap : Global) → ghosts.dealloc_token heap ≡ token) → Ty
+abbrev pub at_every_handle : {token : Ty → Ptr → Fml}
+    → ((heap : Global) → ghosts.dealloc_token heap ≡ token) → Ty
     → Ptr
     → Fml
 at_every_handle {token} alike = token

@@ -1,13 +1,16 @@
--- What a contract sees of a ring of nodes: its entries in order, each with its node, the spare nodes, and how many
--- links were stored.
--- A place of the ring is a node of it, or None for the guard, which stands between the last entry and the first.
+-- What a contract sees of a ring of nodes: its entries in order, each with its node, the spare nodes, and how
+-- many links were stored.
+-- A place of the ring is a node of it, or None for the guard, which stands between the last entry and the
+-- first.
 pub use Rattle.hashlink_nodes.specs.declared.held.Held.{Held}
-use Rattle.std.specs.Prelude.{◌≡◌, ℕ, cond, List, [], ◌∷◌, ◌++◌, slice_get, Option, None, Some, IsSome, IfSome}
+use Rattle.std.specs.Prelude.{◌≡◌, ℕ, cond, List, [], ◌∷◌, ◌++◌, slice_get, Option, None, Some, IsSome}
+use Rattle.std.specs.Prelude.{IfSome}
 use Rattle.std.specs.Map.{lookup, lookup_entry, remove_entry}
 use Rattle.hashlink_nodes.specs.declared.node.Node.{Node}
 use Rattle.hashlink_nodes.specs.Node.{same_node}
 
--- the entries in ring order, the spare nodes, the next to be used first, and how many links of either were stored
+-- the entries in ring order, the spare nodes, the next to be used first, and how many links of either were
+-- stored
 pub record Ring (K V : Type 0) : Type 0 where
   pub entries : List (Node × Held K V)
   pub free : List Node

@@ -1,5 +1,6 @@
 -- How the links of the blocks make a ring and a chain of spare nodes.
-use Rattle.std.specs.Prelude.{◌≡◌, ℕ, zero, suc, ◌+◌, ◌^◌, ◌<◌, true, List, [], ◌∷◌, ◌++◌, length, Option, None, Some}
+use Rattle.std.specs.Prelude.{◌≡◌, ℕ, zero, suc, ◌+◌, ◌^◌, ◌<◌, true, List, [], ◌∷◌, ◌++◌, length, Option}
+use Rattle.std.specs.Prelude.{None, Some}
 use Rattle.std.specs.Prelude.{is_some}
 use Rattle.std.specs.List.{AllByRecursion, IsDistinct}
 use Rattle.hashlink_nodes.specs.declared.node.Node.{Node}
@@ -38,8 +39,8 @@ module _ {K V : Type 0} where
   entries_of held [] = []
   entries_of held (n ∷ ns) = entry_of n (held n) (entries_of held ns)
 
-  -- the ring goes from the guard along the nodes and back to it, and the spare ones are chained; no other node has a
-  -- block
+  -- the ring goes from the guard along the nodes and back to it, and the spare ones are chained; no other
+  -- node has a block
   pub record IsShaped (s : State K V) (guard first : Node) (nodes free : List Node) : Type 0 where
     pub forward : IsPath s.next guard nodes guard
     pub backward : IsWayBack s.prev guard nodes guard

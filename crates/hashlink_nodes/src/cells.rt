@@ -1,6 +1,8 @@
 //! The blocks of a ring, by their nodes: safe code over the arena.
-ghost use Rattle.std.specs.Prelude.{◌≡◌, ◌^◌, ◌<◌, true, false, [], IfOk, OnErr, Some, IsSome, IfSome, is_some};
-ghost use Rattle.hashlink_nodes.specs.State.{state, store_next, store_prev, hold, add, detached, attached, Drops};
+ghost use Rattle.std.specs.Prelude.{◌≡◌, ◌^◌, ◌<◌, true, false, [], IfOk, OnErr, Some, IsSome, IfSome};
+ghost use Rattle.std.specs.Prelude.{is_some};
+ghost use Rattle.hashlink_nodes.specs.State.{state, store_next, store_prev, hold, add, detached, attached};
+ghost use Rattle.hashlink_nodes.specs.State.{Drops};
 ghost use Rattle.hashlink_nodes.specs.State.{GuardIs};
 ghost use Rattle.std.specs.Option.{option_map};
 ghost use Rattle.std.specs.Borrow.{sem};
@@ -120,7 +122,8 @@ impl<K, V> Cells<K, V> {
         requires has { (state_of self.old).has node ≡ true }
         requires held { IsSome ((state_of self.old).held node) }
         ensures* lends { sem 𝓛 (LendsCellValue K.row V.row self.entry node result.1) }
-        ensures pair { option_map pair_of ((state_of self.old).held node) ≡ Some (result.0.now, result.1.now) }
+        ensures pair { option_map pair_of ((state_of self.old).held node) ≡ Some
+            (result.0.now, result.1.now) }
     {
         let block: &mut Block<K, V> = self.arena.get_mut(node);
         block.held.entry_mut()
@@ -133,7 +136,8 @@ impl<K, V> Cells<K, V> {
         requires held { IsSome ((state_of self.old).held node) }
         ensures value { option_map (λ h. h.value) ((state_of self.old).held node) ≡ Some result }
         ensures is { state_of self.new
-            ≡ hold node (option_map (λ h. with_value h value) ((state_of self.old).held node)) (state_of self.old) }
+            ≡ hold node (option_map (λ h. with_value h value) ((state_of self.old).held node))
+            (state_of self.old) }
     {
         let block: &mut Block<K, V> = self.arena.get_mut(node);
         block.held.replace_value(value)
@@ -145,7 +149,8 @@ impl<K, V> Cells<K, V> {
         requires held { IsSome ((state_of self.old).held node) }
         ensures key { option_map (λ h. h.key) ((state_of self.old).held node) ≡ Some result }
         ensures is { state_of self.new
-            ≡ hold node (option_map (λ h. with_key h key) ((state_of self.old).held node)) (state_of self.old) }
+            ≡ hold node (option_map (λ h. with_key h key) ((state_of self.old).held node))
+            (state_of self.old) }
     {
         let block: &mut Block<K, V> = self.arena.get_mut(node);
         block.held.replace_key(key)
@@ -156,7 +161,8 @@ impl<K, V> Cells<K, V> {
         requires held { IsSome ((state_of self.old).held node) }
         requires small { number < 2 ^ 48 }
         ensures { state_of self.new
-            ≡ hold node (option_map (λ h. with_number h number) ((state_of self.old).held node)) (state_of self.old) }
+            ≡ hold node (option_map (λ h. with_number h number) ((state_of self.old).held node))
+            (state_of self.old) }
     {
         let block: &mut Block<K, V> = self.arena.get_mut(node);
         block.held.set_number(number);

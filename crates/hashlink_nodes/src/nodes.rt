@@ -1,5 +1,6 @@
 //! The ring of nodes.
-ghost use Rattle.std.specs.Prelude.{◌≡◌, ◌+◌, ◌^◌, ◌<◌, [], ◌∷◌, ◌++◌, length, drop, Some, IsOk, IfOk, IfErr, OnOk};
+ghost use Rattle.std.specs.Prelude.{◌≡◌, ◌+◌, ◌^◌, ◌<◌, [], ◌∷◌, ◌++◌, length, drop, Some, IsOk, IfOk, IfErr};
+ghost use Rattle.std.specs.Prelude.{OnOk};
 ghost use Rattle.std.specs.Prelude.{OnErr};
 ghost use Rattle.std.specs.Option.{option_map};
 ghost use Rattle.std.specs.List.{IsDistinct};
@@ -18,7 +19,8 @@ use crate::node::Node;
 use std::alloc::{AllocError, Global};
 use std::marker::Model;
 
-/// Entries in a ring of nodes, and spare nodes that serve the next new entries. Each node is a block of its own.
+/// Entries in a ring of nodes, and spare nodes that serve the next new entries. Each node is a block of its
+/// own.
 pub struct Nodes<K, V> {
     cells: Cells<K, V>,
     // The guard links the last entry to the first. The first push makes it.
@@ -63,9 +65,9 @@ impl<K, V> Nodes<K, V> {
         self.alloc
     }
 
-    /// Puts an entry in right before the place, and takes memory only where no node is spare: then a refusal hands
-    /// the pair back, and no entry and no spare node changes. It stores four links; the two that the guard gets as it
-    /// is made are not counted.
+    /// Puts an entry in right before the place, and takes memory only where no node is spare: then a refusal
+    /// hands the pair back, and no entry and no spare node changes. It stores four links; the two that the
+    /// guard gets as it is made are not counted.
     pub fn push_before(
         &mut self,
         place: Option<Node>,
@@ -110,7 +112,8 @@ impl<K, V> Nodes<K, V> {
     /// Sees that a node is spare: of two blocks that this may take, the guard's comes first.
     fn make_spare(&mut self) -> Result<(), AllocError>
         ensures entries { self.new.entries ≡ self.old.entries }
-        ensures free { OnOk result ((0 < length self.new.free) × (drop 1 self.new.free ≡ drop 1 self.old.free)) }
+        ensures free { OnOk result
+            ((0 < length self.new.free) × (drop 1 self.new.free ≡ drop 1 self.old.free)) }
         ensures link_writes { self.new.link_writes ≡ self.old.link_writes }
         ensures refused { OnErr result (self.new ≡ self.old) }
         ensures succeeds { 0 < length self.old.free → IsOk result }

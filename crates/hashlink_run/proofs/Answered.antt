@@ -4,7 +4,8 @@ use Rattle.std.proofs.Common.{codes, arith}
 use Rattle.std.proofs.Common.{nat_eq, refl, ap, ◌∙◌, inl, inr, ⊎_elim, lit≤}
 use Rattle.std.specs.Fmt.{digits}
 use Rattle.std.specs.Map.{lookup_entry}
-use Rattle.hashlink_model.specs.MapState.{MapState, map_state, empty_map, StoresAtMost, Inserts, Adds, Changes}
+use Rattle.hashlink_model.specs.MapState.{MapState, map_state, empty_map, StoresAtMost, Inserts, Adds}
+use Rattle.hashlink_model.specs.MapState.{Changes}
 use Rattle.hashlink_model.specs.MapState.{Removes, RoomFor}
 use Rattle.hashlink_core.specs.declared.hash_builder.DefaultHashBuilder.{DefaultHashBuilder}
 use Rattle.hashlink_core.specs.Hashing.{default_builder}
@@ -51,18 +52,22 @@ module _ {S : Type 0} where
   -- the first insert is done or refused
   inserted_by : (s : S) (new : MapState ℕ ℕ S) (r : Result (Option ℕ) (ℕ × ℕ)) (answer : List ℕ)
       → Inserts nat_eq (empty_map s) new 1 10 0 r → answer ≡ reply_shown OfValue (insert_reply r)
-      → ((answer ≡ codes "-") × (new.entries ≡ (1, 10) ∷ [])) ⊎ ((answer ≡ codes "memory") × (new.entries ≡ []))
+      → ((answer ≡ codes "-") × (new.entries ≡ (1, 10) ∷ []))
+      ⊎ ((answer ≡ codes "memory") × (new.entries ≡ []))
   inserted_by s new (Ok None) answer a shown = inl (shown, a.adds.entries)
   inserted_by s new (Ok (Some w)) answer a shown = absurd (cc a.old_value)
   inserted_by s new (Err pair) answer a shown = inr (shown, a.grows.entries)
 
   inserted : (s : S) (new : MapState ℕ ℕ S) (replies : Replies) (answer : List ℕ)
-      → Step nat_eq Itself IsEven (empty_map s) (Insert 1 10) replies new → answer ≡ replies_shown OfValue replies
-      → ((answer ≡ codes "-") × (new.entries ≡ (1, 10) ∷ [])) ⊎ ((answer ≡ codes "memory") × (new.entries ≡ []))
+      → Step nat_eq Itself IsEven (empty_map s) (Insert 1 10) replies new → answer
+      ≡ replies_shown OfValue replies
+      → ((answer ≡ codes "-") × (new.entries ≡ (1, 10) ∷ []))
+      ⊎ ((answer ≡ codes "memory") × (new.entries ≡ []))
   inserted s new replies answer a shown = inserted_by s new a.0 answer a.1 (shown
       ∙ ap (replies_shown OfValue) a.2)
 
-  was_listed : (old new : MapState ℕ ℕ S) (text : List ℕ) → ShowsAll LineShows old (codes "iter" ∷ []) text new
+  was_listed : (old new : MapState ℕ ℕ S) (text : List ℕ)
+      → ShowsAll LineShows old (codes "iter" ∷ []) text new
       → text ≡ ended (list_shown old.entries) ++ []
   was_listed old new text r =
       let shown : Shows old (Some Iter) r.0 r.1 = r.3 in
@@ -80,7 +85,8 @@ module _ {S : Type 0} where
 
   was_answered : (s : S) (new : MapState ℕ ℕ S) (text : List ℕ)
       → ShowsAll LineShows (empty_map s) (codes "insert 1 10" ∷ codes "get 1" ∷ codes "iter" ∷ []) text new
-      → (text ≡ ended (codes "-") ++ read_lines ((1, 10) ∷ [])) ⊎ (text ≡ ended (codes "memory") ++ read_lines [])
+      → (text ≡ ended (codes "-") ++ read_lines ((1, 10) ∷ []))
+      ⊎ (text ≡ ended (codes "memory") ++ read_lines [])
   was_answered s new text r =
       let shown : Shows (empty_map s) (Some (Do (Insert 1 10))) r.0 r.1 = r.3 in
       let read : r.2 ≡ read_lines r.1.entries = was_read r.1 new r.2 r.4 in
@@ -95,7 +101,8 @@ pub insert_answers : (text : List ℕ) → IsTranscript (codes "map\ninsert 1 10
 unfolding digits
 insert_answers text t = was_answered t.0 t.1 text t.2
 
-pub read_answers : (text : List ℕ) → IsTranscript (codes "map\nget 1\niter\n") text → text ≡ codes "-\nempty\n"
+pub read_answers : (text : List ℕ) → IsTranscript (codes "map\nget 1\niter\n") text
+    → text ≡ codes "-\nempty\n"
 read_answers text t = was_read (empty_map t.0) t.1 text t.2
 
 pub bad_answers : (text : List ℕ) → IsTranscript (codes "map\n\nlens") text → text ≡ codes "bad\nbad\n"
@@ -137,7 +144,8 @@ first_insert =
     } in
     (Ok None, record { absent = refl; adds = adds }, refl)
 
-second_insert : Stepped (state ((1, 10) ∷ []) 0 1 4) (Insert 2 20) (Value None) (state ((1, 10) ∷ (2, 20) ∷ []) 0 2 8)
+second_insert : Stepped (state ((1, 10) ∷ []) 0 1 4) (Insert 2 20) (Value None)
+    (state ((1, 10) ∷ (2, 20) ∷ []) 0 2 8)
 second_insert =
     let new : MapState ℕ ℕ DefaultHashBuilder = state ((1, 10) ∷ (2, 20) ∷ []) 0 2 8 in
     let adds : Adds (state ((1, 10) ∷ []) 0 1 4) new ((1, 10) ∷ (2, 20) ∷ []) = record {
@@ -168,7 +176,8 @@ read : Stepped (state ((2, 20) ∷ (1, 11) ∷ []) 0 2 14) (Get 1) (Seen (Some (
     (state ((2, 20) ∷ (1, 11) ∷ []) 0 2 14)
 read = (refl, (Some (1, 11), refl, refl))
 
-removal : Stepped (state ((2, 20) ∷ (1, 11) ∷ []) 0 2 14) (Remove 2) (Value (Some 20)) (state ((1, 11) ∷ []) 1 2 17)
+removal : Stepped (state ((2, 20) ∷ (1, 11) ∷ []) 0 2 14) (Remove 2) (Value (Some 20))
+    (state ((1, 11) ∷ []) 1 2 17)
 removal =
     let old : MapState ℕ ℕ DefaultHashBuilder = state ((2, 20) ∷ (1, 11) ∷ []) 0 2 14 in
     let removes : Removes old (state ((1, 11) ∷ []) 1 2 17) ((1, 11) ∷ []) = record {

@@ -15,7 +15,15 @@ module _ {C R M : Type 0} (Step : M → C → List R → M → Type 0) where
     pub reached : now ≡ state_after start answers
 
   pub HasAnswered-none : (start : M) (all : List C) → HasAnswered start start all all []
-  HasAnswered-none start all = record { done = []; answers = []; is = refl; chain = tt; joined = refl; reached = refl }
+  HasAnswered-none start all = record {
+    done = [];
+    answers = [];
+    is = refl;
+    chain = tt;
+    joined =
+        refl;
+    reached = refl;
+  }
 
   module _ {start now : M} {all : List C} {replies : List R} where
     pub HasAnswered-more : (command : C) (rest : List C) (more : List R) (next : M)

@@ -28,7 +28,8 @@ module _ {K V B S : Type 0} (eq : K → K → Bool) (Says : K → V → B → Ty
       rw (given, ← ap (λ e. e.map) is, ← ap (λ e. e.key) is) done in
       rw place here
 
-  pub at_vacant : e.place ≡ None → VacantStep eq e.map e.key s replies new → EntrySteps eq Says m k step replies new
+  pub at_vacant : e.place ≡ None → VacantStep eq e.map e.key s replies new
+      → EntrySteps eq Says m k step replies new
   at_vacant at done =
       let place : place_of (eq k) m.entries ≡ None = sym (ap (λ e. e.place) is) ∙ at in
       let here : VacantStep eq m k step replies new =
@@ -61,7 +62,8 @@ module _ {K V : Type 0} where
           ap (λ k. Some (k, e.1)) first ∙ ap (λ v. Some (k, v)) second
 
   end_of_moved : (xs : List (K × V)) (e : K × V) (ys : List (K × V))
-      → slice_get (moved_at (xs ++ e ∷ ys) (length xs) (length (xs ++ e ∷ ys))) (length (xs ++ e ∷ ys) - 1) ≡ Some e
+      → slice_get (moved_at (xs ++ e ∷ ys) (length xs) (length (xs ++ e ∷ ys))) (length (xs ++ e ∷ ys) - 1)
+      ≡ Some e
   end_of_moved xs e ys =
       let n : length (xs ++ e ∷ ys) - 1 ≡ length (xs ++ ys) =
       omega (arith, length-append xs (e ∷ ys), length-append xs ys) in
@@ -72,7 +74,8 @@ module _ {K V : Type 0} where
       → slice_get (moved_at es j (length es)) (length es - 1) ≡ Some e
   moved_to_end es j e at =
       let s = split_at es j e at in
-      ap₂ (λ zs n. slice_get (moved_at zs n (length zs)) (length zs - 1)) s.2 (sym s.3) ∙ end_of_moved s.0 e s.1
+      ap₂ (λ zs n. slice_get (moved_at zs n (length zs)) (length zs - 1)) s.2 (sym s.3)
+      ∙ end_of_moved s.0 e s.1
 
 -- so what is said of it there is said of it
 module _ {K V B S : Type 0} (eq : K → K → Bool) (Says : K → V → B → Type 0) {m : MapState K V S} {k : K}
@@ -87,9 +90,11 @@ module _ {K V B S : Type 0} (eq : K → K → Bool) (Says : K → V → B → Ty
       (s.1, ap₂ slice_get s.3.is (sym s.4) ∙ slice_get_here s.0 s.1 s.2)
 
   pub said_at_end : MovesAt old new j (length old.entries) → Some p ≡ Some (length old.entries - 1)
-      → SaysOf Says (slice_get new.entries p) (Some b) → Replies Says (slice_get old.entries j) (Seen (Some b) ∷ [])
+      → SaysOf Says (slice_get new.entries p) (Some b)
+      → Replies Says (slice_get old.entries j) (Seen (Some b) ∷ [])
   said_at_end moves end said =
-      let read = ap₂ slice_get moves.entries (same_Some _ _ end) ∙ moved_to_end old.entries j stands.0 stands.1
+      let read = ap₂ slice_get moves.entries (same_Some _ _ end)
+      ∙ moved_to_end old.entries j stands.0 stands.1
       ∙ sym stands.1 in
       (Some b, rw read at said, refl)
 

@@ -1,5 +1,6 @@
 -- Along the steps of a cache: how much longer than its capacity it is.
-use Rattle.std.proofs.Common.{◌≡◌, ℕ, ◌+◌, ◌-◌, ◌≤◌, Bool, true, List, [], ◌∷◌, length, take, drop, Option, None, Some}
+use Rattle.std.proofs.Common.{◌≡◌, ℕ, ◌+◌, ◌-◌, ◌≤◌, Bool, true, List, [], ◌∷◌, length, take, drop, Option}
+use Rattle.std.proofs.Common.{None, Some}
 use Rattle.std.proofs.Common.{Result, Ok, Err, MatchOption, ◌⊎◌, inl, inr, sym, ap, subst, arith}
 use Rattle.std.specs.List.{AllPass}
 use Rattle.std.specs.Map.{lookup, lookup_entry}
@@ -10,14 +11,17 @@ use Rattle.hashlink_model.specs.Entries.{place_of}
 use Rattle.hashlink_model.specs.Entry.{VacantInserts}
 use Rattle.hashlink_model.specs.MapState.{MapState, Changes, Removes}
 use Rattle.hashlink_model.specs.Walk.{first_of}
-use Rattle.hashlink_model.proofs.CacheBounds.{within-inserts, within-gets, within-removes, within-sets, within-clears}
+use Rattle.hashlink_model.proofs.CacheBounds.{within-inserts, within-gets, within-removes, within-sets}
+use Rattle.hashlink_model.proofs.CacheBounds.{within-clears}
 use Rattle.hashlink_model.proofs.CacheBounds.{within-pops_front}
 use Rattle.hashlink_model.proofs.Caches.{front_evicted-at_most}
 use Rattle.hashlink_model.proofs.Occupied.{length-moved_at, length-insert_value, length-insert_entry}
 use Rattle.hashlink_model.proofs.Occupied.{length-replace_entry}
 use Rattle.hashlink_commands.specs.declared.cache_commands.CacheCommand.{CacheCommand}
-use Rattle.hashlink_commands.specs.declared.cache_commands.CacheCommand.TheVariants.{Insert, Use, Entry, Get, Peek}
-use Rattle.hashlink_commands.specs.declared.cache_commands.CacheCommand.TheVariants.{Remove, SetCapacity, Clear}
+use Rattle.hashlink_commands.specs.declared.cache_commands.CacheCommand.TheVariants.{Insert, Use, Entry, Get}
+use Rattle.hashlink_commands.specs.declared.cache_commands.CacheCommand.TheVariants.{Peek}
+use Rattle.hashlink_commands.specs.declared.cache_commands.CacheCommand.TheVariants.{Remove, SetCapacity}
+use Rattle.hashlink_commands.specs.declared.cache_commands.CacheCommand.TheVariants.{Clear}
 use Rattle.hashlink_commands.specs.declared.cache_commands.CacheCommand.TheVariants.{RemoveLru}
 use Rattle.hashlink_commands.specs.declared.commands.EntryStep.{EntryStep}
 use Rattle.hashlink_commands.specs.declared.commands.EntryStep.TheVariants as step
@@ -42,7 +46,8 @@ module _ {K V S : Type 0} (old new : MapState K V S) where
   removes-one : (es : List (K × V)) → Removes old new es → length new.entries ≤ length old.entries + 1
   removes-one es s = let same = ap length s.entries in let fewer = s.fewer in omega arith
 
-  vacant-one : (eq : K → K → Bool) (k : K) (v : V) (r : Result (Unit {0}) (K × V)) → VacantInserts eq old new k v r
+  vacant-one : (eq : K → K → Bool) (k : K) (v : V) (r : Result (Unit {0}) (K × V))
+      → VacantInserts eq old new k v r
       → length new.entries ≤ length old.entries + 1
   vacant-one eq k v (Ok done) s = let same = ap length s.adds.entries in let more = s.adds.more in omega arith
   vacant-one eq k v (Err pair) s = let same = ap length s.grows.entries in omega arith
@@ -80,14 +85,16 @@ module _ {K V S : Type 0} (old new : MapState K V S) where
     entry-one eq step s = by (place_of (eq k) old.entries) s
       where
         by : (o : Option ℕ)
-            → MatchOption o (VacantStep eq old k step replies new) (λ j. OccupiedStep Says old j k step replies new)
+            → MatchOption o (VacantStep eq old k step replies new)
+            (λ j. OccupiedStep Says old j k step replies new)
             → length new.entries ≤ length old.entries + 1
         by None t = absent-one eq step t
         by (Some j) t = occupied-one j step t
 
 -- ---- a step keeps the bound
 
-module _ {K V B S : Type 0} (eq : K → K → Bool) (Says : K → V → B → Type 0) (old new : CacheState K V S) (n : ℕ) where
+module _ {K V B S : Type 0} (eq : K → K → Bool) (Says : K → V → B → Type 0)
+    (old new : CacheState K V S) (n : ℕ) where
   within-used : (k : K) (v : V) (answer : Result (Option V) (K × V)) (o : Option V)
       → MatchOption o (CacheInserts eq old new k v answer)
       (λ w. (answer ≡ Ok (Some w)) × CacheGets eq old new k (Some w))
@@ -97,11 +104,13 @@ module _ {K V B S : Type 0} (eq : K → K → Bool) (Says : K → V → B → Ty
 
   -- what was too many is dropped before the entry is named
   within-entry : (between : MapState K V S) (k : K) (step : EntryStep V) (replies : List (Reply K V B))
-      → EvictsFront old.map between old.cap → EntrySteps eq Says between k step replies new.map → new.cap ≡ old.cap
+      → EvictsFront old.map between old.cap → EntrySteps eq Says between k step replies new.map
+      → new.cap ≡ old.cap
       → 1 ≤ n → IsWithin old n → IsWithin new n
   within-entry between k step replies e s c some w =
       let same = ap length e.entries in
-      let few = front_evicted-at_most old.map.entries old.cap (old.cap + (n - 1)) (omega arith) (omega arith) in
+      let few = front_evicted-at_most old.map.entries old.cap (old.cap + (n - 1))
+      (omega arith) (omega arith) in
       let one = entry-one between new.map Says replies k eq step s in
       omega arith
 
@@ -133,19 +142,23 @@ module _ {K V B S : Type 0} (eq : K → K → Bool) (Says : K → V → B → Ty
   run-within old (c ∷ cs) [] r by w = absurd r
   run-within old (c ∷ cs) (x ∷ xs) r (inl all) w =
       run-within x.state cs xs r.1 (inl (All-tail (λ d. names_no_entry d ≡ true) c cs all))
-      (step-within eq Says old x.state n c x.replies (inl (All-head (λ d. names_no_entry d ≡ true) c cs all)) r.0 w)
+      (step-within eq Says old x.state n c x.replies
+      (inl (All-head (λ d. names_no_entry d ≡ true) c cs all)) r.0 w)
   run-within old (c ∷ cs) (x ∷ xs) r (inr some) w =
       run-within x.state cs xs r.1 (inr some) (step-within eq Says old x.state n c x.replies (inr some) r.0 w)
 
   -- from the place i to the place j
   within-between : (old : CacheState K V S) (cs : List (CacheCommand K V))
       (xs : List (Answered (Reply K V B) (CacheState K V S))) → CacheRun eq Says old cs xs
-      → (i j : ℕ) → i ≤ j → AllPass names_no_entry (drop i (take j cs)) ⊎ (1 ≤ n) → IsWithin (after old xs i) n
+      → (i j : ℕ) → i ≤ j → AllPass names_no_entry (drop i (take j cs)) ⊎ (1 ≤ n)
+      → IsWithin (after old xs i) n
       → IsWithin (after old xs j) n
   within-between old cs xs r i j le by w =
       let part =
-      Chain-drop (CacheStep eq Says) i old (take j cs) (take j xs) (Chain-take (CacheStep eq Says) j old cs xs r) in
-      let start : state_after old (take i (take j xs)) ≡ after old xs i = ap (state_after old) (take-take i j xs le) in
+      Chain-drop (CacheStep eq Says) i old (take j cs) (take j xs)
+      (Chain-take (CacheStep eq Says) j old cs xs r) in
+      let start : state_after old (take i (take j xs)) ≡ after old xs i = ap (state_after old)
+      (take-take i j xs le) in
       subst (λ c. IsWithin c n) (state_after-parts i old (take j xs))
       (run-within (state_after old (take i (take j xs))) (drop i (take j cs)) (drop i (take j xs)) part by
       (subst (λ c. IsWithin c n) (sym start) w))

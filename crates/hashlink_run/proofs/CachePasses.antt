@@ -1,5 +1,6 @@
 -- The nodes along the steps of a cache.
-use Rattle.std.proofs.Common.{◌≡◌, Bool, List, [], ◌∷◌, ◌++◌, length, take, Option, None, Some, Result, Ok, Err}
+use Rattle.std.proofs.Common.{◌≡◌, Bool, List, [], ◌∷◌, ◌++◌, length, take, Option, None, Some, Result, Ok}
+use Rattle.std.proofs.Common.{Err}
 use Rattle.std.proofs.Common.{MatchOption, MatchResult, append_assoc, arith, max, refl, sym, ap, ◌∙◌, subst}
 use Rattle.std.specs.Map.{lookup, lookup_entry}
 use Rattle.hashlink_model.specs.Cache.{CacheState, CacheInserts, CacheGets, CacheUses, EvictsFront}
@@ -7,11 +8,14 @@ use Rattle.hashlink_model.specs.CacheRuns as event
 use Rattle.hashlink_model.specs.History.{Passed, Length}
 use Rattle.hashlink_model.specs.MapState.{MapState, node_count}
 use Rattle.hashlink_model.specs.Peak.{KeepsNodes, Passes, PassesInTurn}
-use Rattle.hashlink_model.proofs.KeptNodes.{kept-inserts, kept-keeps, kept-moves, kept-removes_key, kept-pops_front}
+use Rattle.hashlink_model.proofs.KeptNodes.{kept-inserts, kept-keeps, kept-moves, kept-removes_key}
+use Rattle.hashlink_model.proofs.KeptNodes.{kept-pops_front}
 use Rattle.hashlink_model.proofs.KeptNodes.{passes-clears, passes_in_parts, within_the_peak}
 use Rattle.hashlink_commands.specs.declared.cache_commands.CacheCommand.{CacheCommand}
-use Rattle.hashlink_commands.specs.declared.cache_commands.CacheCommand.TheVariants.{Insert, Use, Entry, Get, Peek}
-use Rattle.hashlink_commands.specs.declared.cache_commands.CacheCommand.TheVariants.{Remove, SetCapacity, Clear}
+use Rattle.hashlink_commands.specs.declared.cache_commands.CacheCommand.TheVariants.{Insert, Use, Entry, Get}
+use Rattle.hashlink_commands.specs.declared.cache_commands.CacheCommand.TheVariants.{Peek}
+use Rattle.hashlink_commands.specs.declared.cache_commands.CacheCommand.TheVariants.{Remove, SetCapacity}
+use Rattle.hashlink_commands.specs.declared.cache_commands.CacheCommand.TheVariants.{Clear}
 use Rattle.hashlink_commands.specs.declared.cache_commands.CacheCommand.TheVariants.{RemoveLru}
 use Rattle.hashlink_commands.specs.declared.replies.Reply.{Reply}
 use Rattle.hashlink_commands.specs.declared.replies.Reply.TheVariants.{Refused}
@@ -29,7 +33,8 @@ module _ {K V B S : Type 0} (eq : K → K → Bool) (Says : K → V → B → Ty
   -- what a command passes
   abbrev PassesBy : CacheCommand K V → List (Reply K V B) → Type 0
   PassesBy command replies =
-      PassesInTurn old.map (command_put eq old command replies ++ Length (length new.map.entries) ∷ []) new.map
+      PassesInTurn old.map (command_put eq old command replies ++ Length (length new.map.entries) ∷ [])
+      new.map
 
   keeps : KeepsNodes old.map new.map → PassesInTurn old.map (Length (length new.map.entries) ∷ []) new.map
   keeps kept = passed_one eq old.map new.map _ kept refl
@@ -86,8 +91,12 @@ module _ {K V B S : Type 0} (eq : K → K → Bool) (Says : K → V → B → Ty
   command_passes (Remove k) replies s = keeps (kept-removes_key old.map new.map eq k _ s.0.map)
   command_passes (SetCapacity n) replies s = keeps (kept-keeps old.map new.map _ s.0.map)
   command_passes Clear replies s =
-      let none = ap length s.0.map.entries in
-      (new.map, subst (λ n. Passes old.map (Length n) new.map) (sym none) (passes-clears old.map new.map s.0.map), refl)
+      let none = ap length s.0.map.entries in (
+        new.map,
+        subst (λ n. Passes old.map (Length n) new.map) (sym none)
+            (passes-clears old.map new.map s.0.map),
+        refl,
+      )
   command_passes RemoveLru replies s = keeps (kept-pops_front old.map new.map _ s.0.map)
 
 module _ {K V B S : Type 0} (eq : K → K → Bool) (Says : K → V → B → Type 0) where
@@ -101,7 +110,8 @@ module _ {K V B S : Type 0} (eq : K → K → Bool) (Says : K → V → B → Ty
       let one = command_passes eq Says old x.state c x.replies r.0 in
       let n : Passed = Length (length x.state.map.entries) in
       let all =
-      passes_in_parts old.map x.state.map (state_after x.state xs).map (command_put eq old c x.replies ++ n ∷ [])
+      passes_in_parts old.map x.state.map (state_after x.state xs).map
+      (command_put eq old c x.replies ++ n ∷ [])
       (cache_passed eq x.state cs xs) one (run_passes x.state cs xs r.1) in
       subst (λ ps. PassesInTurn old.map ps (state_after x.state xs).map)
       (append_assoc (command_put eq old c x.replies) (n ∷ []) (cache_passed eq x.state cs xs)) all

@@ -1,5 +1,5 @@
--- A command to a cache that passes a length before anything is dropped has put a pair in: it is an insert, or a use
--- that missed, and was not refused.
+-- A command to a cache that passes a length before anything is dropped has put a pair in: it is an insert, or
+-- a use that missed, and was not refused.
 use Rattle.std.proofs.Common.{◌≡◌, ℕ, zero, suc, Bool, List, [], ◌∷◌, length, slice_get, Option, None, Some}
 use Rattle.std.proofs.Common.{Result, Ok, Err, MatchOption, MatchResult, cond, ap, sym, subst}
 use Rattle.std.specs.Map.{lookup, lookup_entry}
@@ -11,8 +11,10 @@ use Rattle.hashlink_model.specs.Entries.{put}
 use Rattle.hashlink_model.specs.History.{Passed, Length}
 use Rattle.hashlink_model.proofs.CacheBounds.{within-inserted}
 use Rattle.hashlink_commands.specs.declared.cache_commands.CacheCommand.{CacheCommand}
-use Rattle.hashlink_commands.specs.declared.cache_commands.CacheCommand.TheVariants.{Insert, Use, Entry, Get, Peek}
-use Rattle.hashlink_commands.specs.declared.cache_commands.CacheCommand.TheVariants.{Remove, SetCapacity, Clear}
+use Rattle.hashlink_commands.specs.declared.cache_commands.CacheCommand.TheVariants.{Insert, Use, Entry, Get}
+use Rattle.hashlink_commands.specs.declared.cache_commands.CacheCommand.TheVariants.{Peek}
+use Rattle.hashlink_commands.specs.declared.cache_commands.CacheCommand.TheVariants.{Remove, SetCapacity}
+use Rattle.hashlink_commands.specs.declared.cache_commands.CacheCommand.TheVariants.{Clear}
 use Rattle.hashlink_commands.specs.declared.cache_commands.CacheCommand.TheVariants.{RemoveLru}
 use Rattle.hashlink_commands.specs.declared.replies.Reply.{Reply}
 use Rattle.hashlink_commands.specs.declared.replies.Reply.TheVariants.{Refused}
@@ -38,7 +40,8 @@ module _ {K V B S : Type 0} (eq : K → K → Bool) (Says : K → V → B → Ty
   same_length : (m n : ℕ) → ◌≡◌ {A = List Passed} (Length m ∷ []) (Length n ∷ []) → m ≡ n
   same_length m n is = cc
 
-  insert-puts : (k : K) (v : V) (answer : Result (Option V) (K × V)) (n : ℕ) → CacheInserts eq old new k v answer
+  insert-puts : (k : K) (v : V) (answer : Result (Option V) (K × V)) (n : ℕ)
+      → CacheInserts eq old new k v answer
       → command_put {B = B} eq old (Insert k v) (insert_reply answer ∷ []) ≡ Length n ∷ []
       → PutsIn n
   insert-puts k v (Ok w) n s is =
@@ -105,7 +108,8 @@ module _ {K V B S : Type 0} (eq : K → K → Bool) (Says : K → V → B → Ty
       let puts' : command_put eq old c x.replies ≡ Length n ∷ []
       = subst (λ d. command_put eq old d x.replies ≡ Length n ∷ []) (sym (same_Some _ _ at))
       (subst (λ y. command_put eq old command y.replies ≡ Length n ∷ []) (sym (same_Some _ _ is)) puts) in
-      subst (λ y. IsWithin y.state 0) (same_Some _ _ is) (step-fits eq Says old x.state c x.replies n r.0 puts')
+      subst (λ y. IsWithin y.state 0) (same_Some _ _ is)
+      (step-fits eq Says old x.state c x.replies n r.0 puts')
   fits_at (suc i) old (c ∷ cs) (x ∷ xs) r n command a at is puts =
       fits_at i x.state cs xs r.1 n command a at is puts
 

@@ -1,5 +1,6 @@
 -- Along the steps of a cache: a spare node that stays, so that nothing is refused.
-use Rattle.std.proofs.Common.{◌≡◌, ℕ, zero, suc, ◌≤◌, ◌<◌, Bool, true, false, List, [], ◌∷◌, length, take, drop}
+use Rattle.std.proofs.Common.{◌≡◌, ℕ, zero, suc, ◌≤◌, ◌<◌, Bool, true, false, List, [], ◌∷◌, length, take}
+use Rattle.std.proofs.Common.{drop}
 use Rattle.std.proofs.Common.{slice_get, Option, None, Some, Result, Ok, Err, MatchOption, MatchResult}
 use Rattle.std.proofs.Common.{sym, ap, subst, arith}
 use Rattle.std.specs.List.{AllPass}
@@ -13,8 +14,10 @@ use Rattle.hashlink_model.proofs.CacheBounds.{to_spare-kept, to_spare-dropped, t
 use Rattle.hashlink_model.proofs.KeptNodes.{kept-moves, kept-removes_key, kept-pops_front, kept-never_fall}
 use Rattle.hashlink_model.proofs.NodeCounts.{moves_length}
 use Rattle.hashlink_commands.specs.declared.cache_commands.CacheCommand.{CacheCommand}
-use Rattle.hashlink_commands.specs.declared.cache_commands.CacheCommand.TheVariants.{Insert, Use, Entry, Get, Peek}
-use Rattle.hashlink_commands.specs.declared.cache_commands.CacheCommand.TheVariants.{Remove, SetCapacity, Clear}
+use Rattle.hashlink_commands.specs.declared.cache_commands.CacheCommand.TheVariants.{Insert, Use, Entry, Get}
+use Rattle.hashlink_commands.specs.declared.cache_commands.CacheCommand.TheVariants.{Peek}
+use Rattle.hashlink_commands.specs.declared.cache_commands.CacheCommand.TheVariants.{Remove, SetCapacity}
+use Rattle.hashlink_commands.specs.declared.cache_commands.CacheCommand.TheVariants.{Clear}
 use Rattle.hashlink_commands.specs.declared.cache_commands.CacheCommand.TheVariants.{RemoveLru}
 use Rattle.hashlink_commands.specs.declared.replies.Reply.{Reply}
 use Rattle.hashlink_commands.specs.declared.replies.Reply.TheVariants.{Refused}
@@ -29,14 +32,17 @@ use Rattle.hashlink_run.proofs.NotRefused.{entry-taken}
 
 -- ---- nothing is refused while a node is spare
 
-module _ {K V B S : Type 0} (eq : K → K → Bool) (Says : K → V → B → Type 0) (replies : List (Reply K V B)) where
+module _ {K V B S : Type 0} (eq : K → K → Bool) (Says : K → V → B → Type 0)
+    (replies : List (Reply K V B)) where
   inserted-taken : (old new : CacheState K V S) (k : K) (v : V) (answer : Result (Option V) (K × V))
       → 1 ≤ old.map.spare → CacheInserts eq old new k v answer → replies ≡ insert_reply answer ∷ []
       → is_refused replies ≡ false
   inserted-taken old new k v (Ok w) spare s is = ap is_refused is
-  inserted-taken old new k v (Err pair) spare s is = let none = s.map.may_refuse.no_spare in absurd (omega arith)
+  inserted-taken old new k v (Err pair) spare s is = let none =
+      s.map.may_refuse.no_spare in absurd (omega arith)
 
-  used-taken : (old new : CacheState K V S) (k : K) (v : V) (answer : Result (Option V) (K × V)) (o : Option V)
+  used-taken : (old new : CacheState K V S) (k : K) (v : V) (answer : Result (Option V) (K × V))
+      (o : Option V)
       → 1 ≤ old.map.spare
       → MatchOption o (CacheInserts eq old new k v answer)
       (λ w. (answer ≡ Ok (Some w)) × CacheGets eq old new k (Some w))
@@ -110,7 +116,8 @@ module _ {K V B S : Type 0} (eq : K → K → Bool) (Says : K → V → B → Ty
   step-spare (SetCapacity n) replies leaves s h = cc
   step-spare Clear replies leaves s h = cc
   step-spare RemoveLru replies leaves s h =
-      to_spare-kept old new s.0.cap (kept-never_fall old.map new.map (kept-pops_front old.map new.map _ s.0.map))
+      to_spare-kept old new s.0.cap
+      (kept-never_fall old.map new.map (kept-pops_front old.map new.map _ s.0.map))
       (pops-shorter old.map new.map _ s.0.map) h
 
   -- ---- and so does an insert that dropped a pair
@@ -126,7 +133,8 @@ module _ {K V B S : Type 0} (eq : K → K → Bool) (Says : K → V → B → Ty
 
 module _ {K V B S : Type 0} (eq : K → K → Bool) (Says : K → V → B → Type 0) where
   run-spare : (old : CacheState K V S) (cs : List (CacheCommand K V))
-      (xs : List (Answered (Reply K V B) (CacheState K V S))) → CacheRun eq Says old cs xs → AllPass leaves_spare cs
+      (xs : List (Answered (Reply K V B) (CacheState K V S))) → CacheRun eq Says old cs xs
+      → AllPass leaves_spare cs
       → HasNodeToSpare old → HasNodeToSpare (state_after old xs)
   run-spare old [] [] r all h = h
   run-spare old [] (x ∷ xs) r all h = absurd r
@@ -140,7 +148,8 @@ module _ {K V B S : Type 0} (eq : K → K → Bool) (Says : K → V → B → Ty
   taken_at : (j : ℕ) (old : CacheState K V S) (cs : List (CacheCommand K V))
       (xs : List (Answered (Reply K V B) (CacheState K V S))) → CacheRun eq Says old cs xs
       → 1 ≤ (after old xs j).map.spare
-      → (b : Answered (Reply K V B) (CacheState K V S)) → slice_get xs j ≡ Some b → is_refused b.replies ≡ false
+      → (b : Answered (Reply K V B) (CacheState K V S)) → slice_get xs j ≡ Some b
+      → is_refused b.replies ≡ false
   taken_at j old cs [] r spare b at = cc
   taken_at j old [] (x ∷ xs) r spare b at = absurd r
   taken_at zero old (c ∷ cs) (x ∷ xs) r spare b at =
@@ -152,7 +161,8 @@ module _ {K V B S : Type 0} (eq : K → K → Bool) (Says : K → V → B → Ty
   spare_from : (i j : ℕ) (old : CacheState K V S) (cs : List (CacheCommand K V))
       (xs : List (Answered (Reply K V B) (CacheState K V S))) → CacheRun eq Says old cs xs
       → (command : CacheCommand K V) (a : Answered (Reply K V B) (CacheState K V S))
-      → slice_get cs i ≡ Some command → slice_get xs i ≡ Some a → DropsPair eq (after old xs i) command a.replies
+      → slice_get cs i ≡ Some command → slice_get xs i ≡ Some a
+      → DropsPair eq (after old xs i) command a.replies
       → i < j → AllPass leaves_spare (drop i (take j cs)) → HasNodeToSpare (after old xs j)
   spare_from i zero old cs xs r command a at is d less all = absurd (omega arith)
   spare_from i (suc j) old [] xs r command a at is d less all = cc

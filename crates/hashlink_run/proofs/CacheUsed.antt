@@ -21,7 +21,8 @@ module _ {K V B S : Type 0} (eq : K → K → Bool) (Says : K → V → B → Ty
   -- what a use is, by the value that was found
   abbrev UseBy : Option V → Result (Option V) (K × V) → CacheState K V S → Type 0
   UseBy o answer new =
-      MatchOption o (CacheInserts eq old new k v answer) (λ w. (answer ≡ Ok (Some w)) × CacheGets eq old new k (Some w))
+      MatchOption o (CacheInserts eq old new k v answer)
+      (λ w. (answer ≡ Ok (Some w)) × CacheGets eq old new k (Some w))
 
   hit_by : (e : Option (K × V)) → Found e → (said : B) → SaysOf Says e (Some said) → (new : CacheState K V S)
       → CacheGets eq old new k (lookup (eq k) old.map.entries)
@@ -34,7 +35,8 @@ module _ {K V B S : Type 0} (eq : K → K → Bool) (Says : K → V → B → Ty
       subst (λ o. UseBy o (Ok (Some p.1)) new) (sym value) (refl, gets) in
       (Ok (Some p.1), uses, (Some said, subst (λ o. SaysOf Says o (Some said)) (sym is) s, refl))
 
-  pub used_hit : (said : B) → SaysOf Says (lookup_entry (eq k) old.map.entries) (Some said) → (new : CacheState K V S)
+  pub used_hit : (said : B) → SaysOf Says (lookup_entry (eq k) old.map.entries) (Some said)
+      → (new : CacheState K V S)
       → CacheGets eq old new k (lookup (eq k) old.map.entries)
       → CacheStep eq Says old (Use k v) (Seen (Some said) ∷ []) new
   used_hit said s new g = hit_by (lookup_entry (eq k) old.map.entries) refl said s new g

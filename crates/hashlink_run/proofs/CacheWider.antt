@@ -3,8 +3,10 @@ use Rattle.std.proofs.Common.{Bool, List, Option, Result, Ok, Err, MatchResult, 
 use Rattle.std.specs.Map.{lookup_entry}
 use Rattle.hashlink_model.specs.Cache.{CacheState}
 use Rattle.hashlink_commands.specs.declared.cache_commands.CacheCommand.{CacheCommand}
-use Rattle.hashlink_commands.specs.declared.cache_commands.CacheCommand.TheVariants.{Insert, Use, Entry, Get, Peek}
-use Rattle.hashlink_commands.specs.declared.cache_commands.CacheCommand.TheVariants.{Remove, SetCapacity, Clear}
+use Rattle.hashlink_commands.specs.declared.cache_commands.CacheCommand.TheVariants.{Insert, Use, Entry, Get}
+use Rattle.hashlink_commands.specs.declared.cache_commands.CacheCommand.TheVariants.{Peek}
+use Rattle.hashlink_commands.specs.declared.cache_commands.CacheCommand.TheVariants.{Remove, SetCapacity}
+use Rattle.hashlink_commands.specs.declared.cache_commands.CacheCommand.TheVariants.{Clear}
 use Rattle.hashlink_commands.specs.declared.cache_commands.CacheCommand.TheVariants.{RemoveLru}
 use Rattle.hashlink_commands.specs.declared.replies.Reply.{Reply}
 use Rattle.hashlink_commands.specs.declared.replies.Reply.TheVariants.{Refused}
@@ -28,8 +30,10 @@ module _ {K V B : Type 0} (P Q : K → V → B → Type 0) (wider : (k : K) (v :
   cache_step-wider (Insert k v) s = s
   cache_step-wider (Use k v) s = (s.0, s.1, use-wider k s.0 s.2)
   cache_step-wider (Entry k step) s = (s.0, s.1, entry-wider P Q wider s.0 replies new.map eq k step s.2, s.3)
-  cache_step-wider (Get k) s = (s.0, replies-wider P Q wider (lookup_entry (eq k) old.map.entries) replies s.1)
-  cache_step-wider (Peek k) s = (s.0, replies-wider P Q wider (lookup_entry (eq k) old.map.entries) replies s.1)
+  cache_step-wider (Get k) s =
+      (s.0, replies-wider P Q wider (lookup_entry (eq k) old.map.entries) replies s.1)
+  cache_step-wider (Peek k) s =
+      (s.0, replies-wider P Q wider (lookup_entry (eq k) old.map.entries) replies s.1)
   cache_step-wider (Remove k) s = s
   cache_step-wider (SetCapacity n) s = s
   cache_step-wider Clear s = s

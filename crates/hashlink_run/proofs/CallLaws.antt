@@ -1,15 +1,18 @@
 -- What holds of every list of calls of caches that start empty.
 use Rattle.std.proofs.Common.{◌≡◌, ℕ, zero, suc, ◌+◌, ◌≤◌, Bool, cond, List, [], ◌∷◌, take, map, slice_get}
-use Rattle.std.proofs.Common.{Result, Ok, Err, OnOk, Option, None, Some, is_some, is_none, refl, sym, ap, ap₂, ◌∙◌}
+use Rattle.std.proofs.Common.{Result, Ok, Err, OnOk, Option, None, Some, is_some, is_none, refl, sym, ap, ap₂}
+use Rattle.std.proofs.Common.{◌∙◌}
 use Rattle.std.specs.Cmp.{IsEquivalence}
 use Rattle.std.specs.List.{count_by}
 use Rattle.std.specs.Map.{lookup, keys_of}
 use Rattle.std.proofs.lemmas.List.Sums.{sum_by-cons}
 use Rattle.std.proofs.lemmas.Option.{same_Some}
 use Rattle.hashlink_model.specs.Cache.{CacheState, CacheUses, cache_use, missed_uses}
-use Rattle.hashlink_model.specs.CacheRuns.{CacheEvent, used_keys, answer_to, after_event, after_events, answers}
+use Rattle.hashlink_model.specs.CacheRuns.{CacheEvent, used_keys, answer_to, after_event, after_events}
+use Rattle.hashlink_model.specs.CacheRuns.{answers}
 use Rattle.hashlink_model.specs.Entries.{IsEntries}
-use Rattle.hashlink_model.proofs.CacheRuns.{keys_along, finds_along, entries_along, finds_the_same_along, holds_along}
+use Rattle.hashlink_model.proofs.CacheRuns.{keys_along, finds_along, entries_along, finds_the_same_along}
+use Rattle.hashlink_model.proofs.CacheRuns.{holds_along}
 use Rattle.hashlink_model.proofs.CacheRuns.{answers_along, IsEntries-after_events}
 use Rattle.hashlink_model.proofs.CacheSteps.{uses_entries}
 use Rattle.hashlink_model.proofs.Distinct.{IsEntries-nil}
@@ -26,7 +29,8 @@ module _ {K V : Type 0} (eq : K → K → Bool) where
   answer_at c es [] n e reply at is = cc
   answer_at c es (d ∷ events) zero e reply at is =
       sym (same_Some _ _ is) ∙ ap (answer_to eq es) (same_Some _ _ at)
-  answer_at c es (d ∷ events) (suc n) e reply at is = answer_at c (after_event eq c es d) events n e reply at is
+  answer_at c es (d ∷ events) (suc n) e reply at is =
+      answer_at c (after_event eq c es d) events n e reply at is
 
   -- misses are the answers that are none
   misses_counted : (c : ℕ) (es : List (K × V)) (pairs : List (K × V))
@@ -43,7 +47,8 @@ module _ {K V : Type 0} (eq : K → K → Bool) where
 
   module _ (laws : IsEquivalence eq) where
     pub includes : (c d : ℕ) → c ≤ d → (events : List (CacheEvent K V))
-        → Includes eq events (after_events eq c [] events) (after_events eq d [] events) (answers eq c [] events)
+        → Includes eq events (after_events eq c [] events) (after_events eq d [] events)
+        (answers eq c [] events)
         (answers eq d [] events)
     includes c d le events = record {
       keys = keys_along eq laws c d le events;
@@ -57,7 +62,8 @@ module _ {K V : Type 0} (eq : K → K → Bool) where
     follows_history c events = record {
       order = holds_along eq laws c events;
       held = λ k none.
-          held_exactly eq laws c (used_keys events) (after_events eq c [] events) k (holds_along eq laws c events none);
+          held_exactly eq laws c (used_keys events) (after_events eq c [] events) k
+          (holds_along eq laws c events none);
       found = λ n e reply none at is.
           ap is_some (answer_at c [] events n e reply at is) ∙ answers_along eq laws c (take n events) e none;
     }
@@ -65,7 +71,8 @@ module _ {K V : Type 0} (eq : K → K → Bool) where
     pub use-recent : {S : Type 0} (old new : CacheState K V S) (k : K) (v : V) (r : Result (Option V) (K × V))
         → CacheUses eq old new k v r → OnOk r (UsedLast eq old.cap old.map.entries k new.map.entries)
     use-recent old new k v (Ok w) s = λ used h.
-        rw (uses_entries eq old new k v w s).1 (HoldsRecent-cache_use eq laws old.cap used old.map.entries k v h)
+        rw (uses_entries eq old new k v w s).1
+        (HoldsRecent-cache_use eq laws old.cap used old.map.entries k v h)
     use-recent old new k v (Err pair) s = tt
 
     -- and so of the cache that calls have left, and of two of them
@@ -94,4 +101,5 @@ module _ {K V : Type 0} (eq : K → K → Bool) where
     pub bears_comparison : (c : ℕ) (pairs : List (K × V)) (replies : List (Option V))
         → replies ≡ answers eq c [] (map use_of pairs) → BearsComparison eq c (map (λ p. p.0) pairs) replies
     bears_comparison c pairs replies is = λ h one le held schedule.
-        rw (misses_of_history c pairs replies is) (competitive eq laws c h one le (keys_of pairs) held schedule)
+        rw (misses_of_history c pairs replies is)
+        (competitive eq laws c h one le (keys_of pairs) held schedule)

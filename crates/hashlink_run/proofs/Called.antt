@@ -1,11 +1,13 @@
 -- One call of a cache that was not refused, and calls in turn: what they leave is what is computed.
 use Rattle.std.proofs.Common.{◌≡◌, ℕ, Bool, List, [], ◌∷◌, ◌++◌, length, Option, None, Some, Result, Ok}
-use Rattle.std.proofs.Common.{◌+◌, ◌<◌, add-one, take, drop, drop-cons, get_or, map, MatchOption, append_assoc, refl, sym}
+use Rattle.std.proofs.Common.{◌+◌, ◌<◌, add-one, take, drop, drop-cons, get_or, map, MatchOption}
+use Rattle.std.proofs.Common.{append_assoc, refl, sym}
 use Rattle.std.proofs.Common.{ap, ap₂, ◌∙◌, subst}
 use Rattle.std.specs.Map.{lookup, lookup_entry}
 use Rattle.std.specs.Option.{option_map, option_map_or}
 use Rattle.hashlink_model.specs.Cache.{CacheState, CacheInserts, CacheGets}
-use Rattle.hashlink_model.specs.CacheRuns.{CacheEvent, Insert, Use, Remove, Peek, answer_to, after_event, after_events}
+use Rattle.hashlink_model.specs.CacheRuns.{CacheEvent, Insert, Use, Remove, Peek, answer_to, after_event}
+use Rattle.hashlink_model.specs.CacheRuns.{after_events}
 use Rattle.hashlink_model.specs.CacheRuns.{answers}
 use Rattle.hashlink_model.specs.Entries.{put, without}
 use Rattle.hashlink_model.specs.History.{Length}
@@ -15,7 +17,8 @@ use Rattle.hashlink_model.proofs.CacheBounds.{passes-cache_insert}
 use Rattle.hashlink_model.proofs.CacheSteps.{inserts_answer, inserts_entries, uses_entries}
 use Rattle.hashlink_model.proofs.Finds.{lookup_is}
 use Rattle.hashlink_model.proofs.Splits.{none_from_lookup, remove_entry-none}
-use Rattle.hashlink_model.proofs.KeptNodes.{kept-moves, kept-removes_key, passes-kept, passes_in_parts, within_the_peak}
+use Rattle.hashlink_model.proofs.KeptNodes.{kept-moves, kept-removes_key, passes-kept, passes_in_parts}
+use Rattle.hashlink_model.proofs.KeptNodes.{within_the_peak}
 use Rattle.hashlink_lru.specs.Cached.{empty_cache}
 use Rattle.hashlink_run.specs.Chain.{Answered, Chain, Chained, state_after, replies_of}
 use Rattle.hashlink_run.specs.CacheCalls.{EventStep, put_passed, events_passed, RunsFromEmpty}
@@ -38,10 +41,12 @@ module _ {K V S : Type 0} (eq : K → K → Bool) where
     pub cap : new.cap ≡ old.cap
     pub passes :
         PassesInTurn old.map
-        (put_passed eq old.cap old.map.entries e ++ Length (length (after_event eq old.cap old.map.entries e)) ∷ [])
+        (put_passed eq old.cap old.map.entries e ++ Length
+        (length (after_event eq old.cap old.map.entries e)) ∷ [])
         new.map
 
-  removed_entries : (old new : MapState K V S) (k : K) (o : Option (K × V)) → lookup_entry (eq k) old.entries ≡ o
+  removed_entries : (old new : MapState K V S) (k : K) (o : Option (K × V))
+      → lookup_entry (eq k) old.entries ≡ o
       → MatchOption o (new ≡ old) (λ _. Removes old new (without eq old.entries k))
       → new.entries ≡ without eq old.entries k
   removed_entries old new k None none s =
@@ -66,7 +71,8 @@ module _ {K V S : Type 0} (eq : K → K → Bool) where
       (passes-cache_insert eq old new k v w s)
 
   -- a use keeps the capacity, and passes what an insert passes where it misses
-  pub used : (old new : CacheState K V S) (k : K) (v : V) (w o : Option V) (n : ℕ) → length new.map.entries ≡ n
+  pub used : (old new : CacheState K V S) (k : K) (v : V) (w o : Option V) (n : ℕ)
+      → length new.map.entries ≡ n
       → MatchOption o (CacheInserts eq old new k v (Ok w))
       (λ x. (◌≡◌ {A = Result (Option V) (K × V)} (Ok w) (Ok (Some x))) × CacheGets eq old new k (Some x))
       → (new.cap ≡ old.cap)
@@ -81,7 +87,8 @@ module _ {K V S : Type 0} (eq : K → K → Bool) where
         (kept-moves old.map new.map eq k (length old.map.entries) (Some x) s.1.map) is,
   )
 
-  pub left : (old : CacheState K V S) (e : CacheEvent K V) (replies : List (Option V)) (new : CacheState K V S)
+  pub left : (old : CacheState K V S) (e : CacheEvent K V) (replies : List (Option V))
+      (new : CacheState K V S)
       → EventStep eq old e replies new → Leaves old e replies new
   left old (Insert k v) replies new s =
       let entries = inserts_entries eq old new k v s.0 s.1 in
@@ -102,7 +109,8 @@ module _ {K V S : Type 0} (eq : K → K → Bool) where
         entries = entries;
         answer = s.1;
         cap = s.0.cap;
-        passes = passed_one old.map new.map _ (kept-removes_key old.map new.map eq k _ s.0.map) (ap length entries);
+        passes = passed_one old.map new.map _ (kept-removes_key old.map new.map eq k _ s.0.map)
+            (ap length entries);
       }
   left old (Peek k) replies new s =
       let entries = ap (λ c. c.map.entries) s.0 in
@@ -111,7 +119,8 @@ module _ {K V S : Type 0} (eq : K → K → Bool) where
         answer = s.1;
         cap = ap (λ c. c.cap) s.0;
         passes =
-            passed_one old.map new.map _ (kept_unchanged old.map new.map (ap (λ c. c.map) s.0)) (ap length entries);
+            passed_one old.map new.map _ (kept_unchanged old.map new.map (ap (λ c. c.map) s.0))
+            (ap length entries);
       }
 
   -- what calls in turn leave and answer
@@ -134,7 +143,8 @@ module _ {K V S : Type 0} (eq : K → K → Bool) where
       let es = after_event eq old.cap old.map.entries e in
       let passed =
       passes_in_parts old.map x.state.map (state_after x.state xs).map
-      (put_passed eq old.cap old.map.entries e ++ Length (length es) ∷ []) (events_passed eq old.cap es events)
+      (put_passed eq old.cap old.map.entries e ++ Length (length es) ∷ [])
+      (events_passed eq old.cap es events)
       one.passes
       (subst (λ ps. PassesInTurn x.state.map ps (state_after x.state xs).map)
       (ap₂ (λ c zs. events_passed eq c zs events) one.cap one.entries) more.passes) in
@@ -163,5 +173,6 @@ module _ {K V S : Type 0} (eq : K → K → Bool) where
             (Chain-take (EventStep eq) n (empty_cache s c) events r.answers r.chain)).entries;
         answered = r.joined ∙ all.answers;
         capacity = ap (λ m. m.cap) r.reached ∙ all.cap;
-        nodes = within_the_peak (empty_cache s c).map new.map (events_passed eq c [] events) (rw end at all.passes);
+        nodes = within_the_peak (empty_cache s c).map new.map (events_passed eq c [] events)
+            (rw end at all.passes);
       }

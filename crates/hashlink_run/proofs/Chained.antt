@@ -1,5 +1,6 @@
 -- Chains of steps: how they grow, and their parts.
-use Rattle.std.proofs.Common.{◌≡◌, ℕ, zero, suc, List, [], ◌∷◌, ◌++◌, take, drop, length, refl, ap, ◌∙◌, append-nil}
+use Rattle.std.proofs.Common.{◌≡◌, ℕ, zero, suc, List, [], ◌∷◌, ◌++◌, take, drop, length, refl, ap, ◌∙◌}
+use Rattle.std.proofs.Common.{append-nil}
 use Rattle.std.proofs.lemmas.List.Concat.{flat_map-append}
 use Rattle.hashlink_run.specs.Chain.{Answered, Chain, replies_of, state_after, after}
 
@@ -29,7 +30,8 @@ module _ {C R M : Type 0} (Step : M → C → List R → M → Type 0) where
   Chain-append old (c ∷ cs) ds (x ∷ xs) ys r s = (r.0, Chain-append x.state cs ds xs ys r.1 s)
 
   -- one more command
-  pub Chain-more : (old : M) (cs : List C) (xs : List (Answered R M)) (c : C) (x : Answered R M) → Chain Step old cs xs
+  pub Chain-more : (old : M) (cs : List C) (xs : List (Answered R M)) (c : C) (x : Answered R M)
+      → Chain Step old cs xs
       → Step (state_after old xs) c x.replies x.state → Chain Step old (cs ++ c ∷ []) (xs ++ x ∷ [])
   Chain-more old cs xs c x r s = Chain-append old cs (c ∷ []) xs (x ∷ []) r (s, tt)
 

@@ -10,14 +10,18 @@ use Rattle.hashlink_model.specs.History.{Length}
 use Rattle.hashlink_model.specs.MapState.{MapState, node_count}
 use Rattle.hashlink_model.specs.Walk.{first_of, last_of}
 use Rattle.hashlink_model.specs.Peak.{KeepsNodes, Passes, PassesInTurn}
-use Rattle.hashlink_model.proofs.KeptNodes.{kept-inserts, kept-replaces, kept-moves, kept-removes_key, kept-pops_front}
+use Rattle.hashlink_model.proofs.KeptNodes.{kept-inserts, kept-replaces, kept-moves, kept-removes_key}
+use Rattle.hashlink_model.proofs.KeptNodes.{kept-pops_front}
 use Rattle.hashlink_model.proofs.KeptNodes.{kept-keeps, kept-pops_back, kept-never_fall, spare_where_shorter}
 use Rattle.hashlink_model.proofs.KeptNodes.{passes-kept, passes-clears, passes-shrinks, within_the_peak}
 use Rattle.hashlink_commands.specs.declared.commands.Command.{Command}
-use Rattle.hashlink_commands.specs.declared.commands.Command.TheVariants.{Insert, InsertFront, Replace, Get, Remove}
-use Rattle.hashlink_commands.specs.declared.commands.Command.TheVariants.{RemoveEntry, PopFront, PopBack, ToFront}
+use Rattle.hashlink_commands.specs.declared.commands.Command.TheVariants.{Insert, InsertFront, Replace, Get}
+use Rattle.hashlink_commands.specs.declared.commands.Command.TheVariants.{Remove}
+use Rattle.hashlink_commands.specs.declared.commands.Command.TheVariants.{RemoveEntry, PopFront, PopBack}
+use Rattle.hashlink_commands.specs.declared.commands.Command.TheVariants.{ToFront}
 use Rattle.hashlink_commands.specs.declared.commands.Command.TheVariants.{ToBack}
-use Rattle.hashlink_commands.specs.declared.commands.Command.TheVariants.{Front, Back, Len, Clear, Shrink, Keep}
+use Rattle.hashlink_commands.specs.declared.commands.Command.TheVariants.{Front, Back, Len, Clear, Shrink}
+use Rattle.hashlink_commands.specs.declared.commands.Command.TheVariants.{Keep}
 use Rattle.hashlink_commands.specs.declared.commands.Command.TheVariants.{Entry, Cursor}
 use Rattle.hashlink_commands.specs.declared.replies.Reply.{Reply}
 use Rattle.hashlink_run.specs.Step.{Step}
@@ -28,7 +32,8 @@ use Rattle.hashlink_run.proofs.Chained.{Chain-take, Chain-drop, state_after-part
 use Rattle.hashlink_run.proofs.CursorNodes.{cursor-keeps, cursor-wider}
 use Rattle.hashlink_run.proofs.Kept.{keeps_where-wider}
 use Rattle.hashlink_run.proofs.NotRefused.{map_taken_at}
-use Rattle.hashlink_run.proofs.EntryNodes.{kept_unchanged, entry-keeps, replies-wider, reads-wider, entry-wider}
+use Rattle.hashlink_run.proofs.EntryNodes.{kept_unchanged, entry-keeps, replies-wider, reads-wider}
+use Rattle.hashlink_run.proofs.EntryNodes.{entry-wider}
 
 -- ---- the nodes at one step
 
@@ -56,10 +61,12 @@ module _ {K V B S : Type 0} (eq : K → K → Bool) (Says : K → V → B → Ty
   step-keeps Clear replies keeps s = cc
   step-keeps Shrink replies keeps s = cc
 
-  step-passes : (command : Command K V) (replies : List (Reply K V B)) → Step eq Says Keeps old command replies new
+  step-passes : (command : Command K V) (replies : List (Reply K V B))
+      → Step eq Says Keeps old command replies new
       → Passes old (passed_at command (length new.entries)) new
   step-passes Clear replies s =
-      let none = ap length s.0.entries in subst (λ n. Passes old (Length n) new) (sym none) (passes-clears old new s.0)
+      let none = ap length s.0.entries in subst (λ n. Passes old (Length n) new) (sym none)
+      (passes-clears old new s.0)
   step-passes Shrink replies s = passes-shrinks old new s.0 s.1
   step-passes (Insert k v) replies s = passes-kept old new (step-keeps (Insert k v) replies refl s)
   step-passes (InsertFront k v) replies s = passes-kept old new (step-keeps (InsertFront k v) replies refl s)
@@ -78,10 +85,12 @@ module _ {K V B S : Type 0} (eq : K → K → Bool) (Says : K → V → B → Ty
   step-passes (Entry k step) replies s = passes-kept old new (step-keeps (Entry k step) replies refl s)
   step-passes (Cursor steps) replies s = passes-kept old new (step-keeps (Cursor steps) replies refl s)
 
-module _ {K V B S : Type 0} (eq : K → K → Bool) (Says : K → V → B → Type 0) (Keeps : K → V → Bool → Type 0) where
+module _ {K V B S : Type 0} (eq : K → K → Bool) (Says : K → V → B → Type 0)
+    (Keeps : K → V → Bool → Type 0) where
   -- ---- the nodes along a chain
 
-  run-passes : (old : MapState K V S) (cs : List (Command K V)) (xs : List (Answered (Reply K V B) (MapState K V S)))
+  run-passes : (old : MapState K V S) (cs : List (Command K V))
+      (xs : List (Answered (Reply K V B) (MapState K V S)))
       → Run eq Says Keeps old cs xs → PassesInTurn old (passed_by cs xs) (state_after old xs)
   run-passes old [] [] r = refl
   run-passes old [] (x ∷ xs) r = absurd r
@@ -89,8 +98,10 @@ module _ {K V B S : Type 0} (eq : K → K → Bool) (Says : K → V → B → Ty
   run-passes old (c ∷ cs) (x ∷ xs) r =
       (x.state, step-passes eq Says Keeps old x.state c x.replies r.0, run-passes x.state cs xs r.1)
 
-  run-keeps : (old : MapState K V S) (cs : List (Command K V)) (xs : List (Answered (Reply K V B) (MapState K V S)))
-      → Run eq Says Keeps old cs xs → AllPass keeps_nodes cs → node_count old ≤ node_count (state_after old xs)
+  run-keeps : (old : MapState K V S) (cs : List (Command K V))
+      (xs : List (Answered (Reply K V B) (MapState K V S)))
+      → Run eq Says Keeps old cs xs → AllPass keeps_nodes cs → node_count old
+      ≤ node_count (state_after old xs)
   run-keeps old [] [] r all = omega arith
   run-keeps old [] (x ∷ xs) r all = absurd r
   run-keeps old (c ∷ cs) [] r all = absurd r
@@ -100,8 +111,8 @@ module _ {K V B S : Type 0} (eq : K → K → Bool) (Says : K → V → B → Ty
       let more = run-keeps x.state cs xs r.1 (All-tail (λ d. keeps_nodes d ≡ true) c cs all) in
       omega arith
 
-  module _ (old : MapState K V S) (cs : List (Command K V)) (xs : List (Answered (Reply K V B) (MapState K V S)))
-      (run : Run eq Says Keeps old cs xs) where
+  module _ (old : MapState K V S) (cs : List (Command K V))
+      (xs : List (Answered (Reply K V B) (MapState K V S))) (run : Run eq Says Keeps old cs xs) where
     pub stays_within_peak : StaysWithinPeak old cs xs
     stays_within_peak n =
         within_the_peak old (after old xs n) (passed_by (take n cs) (take n xs))
@@ -136,7 +147,8 @@ module _ {K V B S : Type 0} (eq : K → K → Bool) (Says : K → V → B → Ty
 
 module _ {K V B : Type 0} (P Q : K → V → B → Type 0) (wider : (k : K) (v : V) (b : B) → P k v b → Q k v b)
     (Keeps Also : K → V → Bool → Type 0) (also : (k : K) (v : V) (b : Bool) → Keeps k v b → Also k v b)
-    {S : Type 0} (eq : K → K → Bool) (old : MapState K V S) (replies : List (Reply K V B)) (new : MapState K V S) where
+    {S : Type 0} (eq : K → K → Bool) (old : MapState K V S) (replies : List (Reply K V B))
+    (new : MapState K V S) where
   pub step-wider : (command : Command K V) → Step eq P Keeps old command replies new
       → Step eq Q Also old command replies new
   step-wider (Insert k v) s = s

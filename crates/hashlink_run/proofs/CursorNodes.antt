@@ -1,13 +1,15 @@
--- Steps of a cursor: every node is kept, no entry leaves, and what is said of a pair that is read may be said more
--- widely.
-use Rattle.std.proofs.Common.{◌≡◌, ℕ, ◌≤◌, Bool, List, [], ◌∷◌, length, Option, None, Some, Result, Ok, Err, ap, arith}
+-- Steps of a cursor: every node is kept, no entry leaves, and what is said of a pair that is read may be said
+-- more widely.
+use Rattle.std.proofs.Common.{◌≡◌, ℕ, ◌≤◌, Bool, List, [], ◌∷◌, length, Option, None, Some, Result, Ok, Err}
+use Rattle.std.proofs.Common.{ap, arith}
 use Rattle.hashlink_model.specs.Cursor.{CursorState, entry_in, place_next, place_previous}
 use Rattle.hashlink_model.specs.MapState.{MapState, Inserts}
 use Rattle.hashlink_model.specs.Peak.{KeepsNodes}
 use Rattle.hashlink_model.proofs.KeptNodes.{kept-inserts}
 use Rattle.hashlink_model.proofs.NodeCounts.{node_count-puts}
 use Rattle.hashlink_commands.specs.declared.commands.CursorStep.{CursorStep}
-use Rattle.hashlink_commands.specs.declared.commands.CursorStep.TheVariants.{Next, Prev, Current, PeekNext, PeekPrev}
+use Rattle.hashlink_commands.specs.declared.commands.CursorStep.TheVariants.{Next, Prev, Current, PeekNext}
+use Rattle.hashlink_commands.specs.declared.commands.CursorStep.TheVariants.{PeekPrev}
 use Rattle.hashlink_commands.specs.declared.commands.CursorStep.TheVariants.{Before, After}
 use Rattle.hashlink_commands.specs.declared.replies.Reply.{Reply}
 use Rattle.hashlink_run.specs.CursorSteps.{CursorStepped, CursorWalks, CursorSteps, first_place}
@@ -21,7 +23,8 @@ record OnlyGrows {K V S : Type 0} (old new : MapState K V S) : Type 0 where
 module _ {K V S : Type 0} where
   grows-same : (old new : MapState K V S) → new ≡ old → OnlyGrows old new
   grows-same old new s =
-      let same = ap (λ m. length m.entries) s in record { kept = kept_unchanged old new s; longer = omega arith }
+      let same = ap (λ m. length m.entries) s in record
+      { kept = kept_unchanged old new s; longer = omega arith }
 
   grows-then : (a b c : MapState K V S) → OnlyGrows a b → OnlyGrows b c → OnlyGrows a c
   grows-then a b c g h =
@@ -52,15 +55,18 @@ module _ {K V S : Type 0} where
     step-grows old new PeekNext replies s = grows-same old.map new.map (ap (λ c. c.map) s.0)
     step-grows old new PeekPrev replies s = grows-same old.map new.map (ap (λ c. c.map) s.0)
     step-grows old new (Before k v) replies s = grows-inserts eq old.map new.map k v old.place s.0 s.1.map
-    step-grows old new (After k v) replies s = grows-inserts eq old.map new.map k v (place_next old) s.0 s.1.map
+    step-grows old new (After k v) replies s = grows-inserts eq old.map new.map k v
+        (place_next old) s.0 s.1.map
 
     walk-grows : (old new : CursorState K V S) (steps : List (CursorStep K V)) (replies : List (Reply K V B))
         → CursorWalks eq Says old steps replies new → OnlyGrows old.map new.map
     walk-grows old new [] replies s = grows-same old.map new.map (ap (λ c. c.map) s.1)
     walk-grows old new (step ∷ steps) replies s =
-        grows-then old.map s.1.map new.map (step-grows old s.1 step s.0 s.3) (walk-grows s.1 new steps s.2 s.4)
+        grows-then old.map s.1.map new.map (step-grows old s.1 step s.0 s.3)
+        (walk-grows s.1 new steps s.2 s.4)
 
-    pub cursor-keeps : (old new : MapState K V S) (steps : List (CursorStep K V)) (replies : List (Reply K V B))
+    pub cursor-keeps : (old new : MapState K V S) (steps : List (CursorStep K V))
+        (replies : List (Reply K V B))
         → CursorSteps eq Says old steps replies new → KeepsNodes old new
     cursor-keeps old new steps replies s =
         (grows-then old s.0.map new (walk-grows (first_place old) s.0 steps replies s.1)

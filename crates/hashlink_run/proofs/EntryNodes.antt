@@ -1,5 +1,6 @@
 -- Steps on entries: every node is kept, and what is said of a pair that is read may be said more widely.
-use Rattle.std.proofs.Common.{◌≡◌, ℕ, zero, suc, Bool, List, [], ◌∷◌, length, refl, slice_get, Option, None, Some}
+use Rattle.std.proofs.Common.{◌≡◌, ℕ, zero, suc, Bool, List, [], ◌∷◌, length, refl, slice_get, Option, None}
+use Rattle.std.proofs.Common.{Some}
 use Rattle.std.proofs.Common.{Result, Ok, Err, ap, arith}
 use Rattle.std.proofs.Common.{MatchOption}
 use Rattle.hashlink_model.specs.Entries.{place_of, moved_at, set_key_at}
@@ -11,14 +12,17 @@ use Rattle.hashlink_model.proofs.NodeCounts.{node_count-removes}
 use Rattle.hashlink_model.proofs.Occupied.{length-moved_at, length-insert_value, length-insert_entry}
 use Rattle.hashlink_model.proofs.Occupied.{length-replace_entry}
 use Rattle.hashlink_commands.specs.declared.commands.EntryStep.{EntryStep}
-use Rattle.hashlink_commands.specs.declared.commands.EntryStep.TheVariants.{Get, OrInsert, Insert, InsertEntry}
-use Rattle.hashlink_commands.specs.declared.commands.EntryStep.TheVariants.{ReplaceEntry, ReplaceKey, ToFront, ToBack}
+use Rattle.hashlink_commands.specs.declared.commands.EntryStep.TheVariants.{Get, OrInsert, Insert}
+use Rattle.hashlink_commands.specs.declared.commands.EntryStep.TheVariants.{InsertEntry}
+use Rattle.hashlink_commands.specs.declared.commands.EntryStep.TheVariants.{ReplaceEntry, ReplaceKey, ToFront}
+use Rattle.hashlink_commands.specs.declared.commands.EntryStep.TheVariants.{ToBack}
 use Rattle.hashlink_commands.specs.declared.commands.EntryStep.TheVariants.{Remove, RemoveEntry}
 use Rattle.hashlink_commands.specs.declared.replies.Reply.{Reply}
 use Rattle.hashlink_run.specs.EntrySteps.{OccupiedStep, VacantStep, EntrySteps}
 use Rattle.hashlink_run.specs.Reads.{SaysOf, Replies, Reads}
 
-pub length_set_key : {K V : Type 0} (es : List (K × V)) (j : ℕ) (k : K) → length (set_key_at es j k) ≡ length es
+pub length_set_key : {K V : Type 0} (es : List (K × V)) (j : ℕ) (k : K)
+    → length (set_key_at es j k) ≡ length es
 length_set_key [] j k = refl
 length_set_key (e ∷ es) zero k = refl
 length_set_key (e ∷ es) (suc j) k = ap suc (length_set_key es j k)
@@ -39,15 +43,18 @@ module _ {K V S : Type 0} (old new : MapState K V S) where
   kept_vacant eq k v (Err pair) s = kept-inserts old new eq k v (length old.entries) (Err pair) s
 
   module _ {B : Type 0} (Says : K → V → B → Type 0) (replies : List (Reply K V B)) (k : K) where
-    occupied-keeps : (j : ℕ) (step : EntryStep V) → OccupiedStep Says old j k step replies new → KeepsNodes old new
+    occupied-keeps : (j : ℕ) (step : EntryStep V) → OccupiedStep Says old j k step replies new
+        → KeepsNodes old new
     occupied-keeps j Get s = kept_unchanged s.0
     occupied-keeps j (OrInsert v) s = kept_moved j (length old.entries) s.0
     occupied-keeps j (Insert v) s =
         kept-changes old new (insert_value old.entries j v) 6 s.1.step (length-insert_value old.entries j v)
     occupied-keeps j (InsertEntry v) s =
-        kept-changes old new (insert_entry old.entries j k v) 6 s.1.step (length-insert_entry old.entries j k v)
+        kept-changes old new (insert_entry old.entries j k v) 6 s.1.step
+        (length-insert_entry old.entries j k v)
     occupied-keeps j (ReplaceEntry v) s =
-        kept-changes old new (replace_entry old.entries j k v) 0 s.1.step (length-replace_entry old.entries j k v)
+        kept-changes old new (replace_entry old.entries j k v) 0 s.1.step
+        (length-replace_entry old.entries j k v)
     occupied-keeps j ReplaceKey s =
         kept-changes old new (set_key_at old.entries j k) 0 s.1.step (length_set_key old.entries j k)
     occupied-keeps j ToFront s = kept_moved j 0 s.0
@@ -73,14 +80,16 @@ module _ {K V S : Type 0} (old new : MapState K V S) where
     entry-keeps eq step s = by (place_of (eq k) old.entries) s
       where
         by : (o : Option ℕ)
-            → MatchOption o (VacantStep eq old k step replies new) (λ j. OccupiedStep Says old j k step replies new)
+            → MatchOption o (VacantStep eq old k step replies new)
+            (λ j. OccupiedStep Says old j k step replies new)
             → KeepsNodes old new
         by None s = vacant-keeps eq step s
         by (Some j) s = occupied-keeps j step s
 
 -- ---- what one closure says another may say too
 
-module _ {K V B : Type 0} (P Q : K → V → B → Type 0) (wider : (k : K) (v : V) (b : B) → P k v b → Q k v b) where
+module _ {K V B : Type 0} (P Q : K → V → B → Type 0)
+    (wider : (k : K) (v : V) (b : B) → P k v b → Q k v b) where
   said-wider : (pair : Option (K × V)) (said : Option B) → SaysOf P pair said → SaysOf Q pair said
   said-wider None None s = tt
   said-wider None (Some b) s = absurd s
@@ -108,12 +117,15 @@ module _ {K V B : Type 0} (P Q : K → V → B → Type 0) (wider : (k : K) (v :
     occupied-wider j k Remove s = s
     occupied-wider j k RemoveEntry s = s
 
-    pub entry-wider : (eq : K → K → Bool) (k : K) (step : EntryStep V) → EntrySteps eq P old k step replies new
+    pub entry-wider : (eq : K → K → Bool) (k : K) (step : EntryStep V)
+        → EntrySteps eq P old k step replies new
         → EntrySteps eq Q old k step replies new
     entry-wider eq k step s = by (place_of (eq k) old.entries) s
       where
         by : (o : Option ℕ)
-            → MatchOption o (VacantStep eq old k step replies new) (λ j. OccupiedStep P old j k step replies new)
-            → MatchOption o (VacantStep eq old k step replies new) (λ j. OccupiedStep Q old j k step replies new)
+            → MatchOption o (VacantStep eq old k step replies new)
+            (λ j. OccupiedStep P old j k step replies new)
+            → MatchOption o (VacantStep eq old k step replies new)
+            (λ j. OccupiedStep Q old j k step replies new)
         by None s = s
         by (Some j) s = occupied-wider j k step s

@@ -7,7 +7,8 @@ use Rattle.hashlink_model.proofs.Filtered.{retained_by_predicate}
 use Rattle.hashlink_run.specs.Keeps.{AskedAt, KeepsWhere}
 
 module _ {F K V : Type 0} (T : F → K → V → Bool → V → F → Type 0) (Keeps : K → V → Bool → Type 0) (f : F)
-    (asks : (k : K) (v : V) (b : Bool) (w : V) (g : F) → T f k v b w g → Keeps k v b × (w ≡ v) × (g ≡ f)) where
+    (asks : (k : K) (v : V) (b : Bool) (w : V) (g : F) → T f k v b w g → Keeps k v b
+    × (w ≡ v) × (g ≡ f)) where
   kept-asked : (es kept : List (K × V)) (g : F) → KeepsInOrder T f es kept g
       → KeepsInOrder (AskedAt Keeps) tt es kept tt
   kept-asked [] kept g h = (h.0, refl)
@@ -24,7 +25,8 @@ module _ {F K V : Type 0} (T : F → K → V → Bool → V → F → Type 0) (K
 
 module _ {K V : Type 0} (Keeps Also : K → V → Bool → Type 0)
     (also : (k : K) (v : V) (b : Bool) → Keeps k v b → Also k v b) where
-  pub keeps_where-wider : {S : Type 0} (old new : MapState K V S) → KeepsWhere Keeps old new → KeepsWhere Also old new
+  pub keeps_where-wider : {S : Type 0} (old new : MapState K V S) → KeepsWhere Keeps old new
+      → KeepsWhere Also old new
   keeps_where-wider old new r =
       retained-asked (AskedAt Keeps) Also tt (λ k v b w g s. (also k v b s.0, s.1, refl)) old new tt r
 

@@ -17,12 +17,14 @@ abbrev pub more_shown : List (ℕ × ℕ) → List ℕ
 more_shown pairs = following_shown pair_shown pairs
 
 -- what is written once the first is
-pub joined-first : {X : Type 0} (show : X → List ℕ) (old new : List ℕ) (x : X) (xs : List X) → new ≡ old ++ show x
+pub joined-first : {X : Type 0} (show : X → List ℕ) (old new : List ℕ) (x : X) (xs : List X)
+    → new ≡ old ++ show x
     → new ++ following_shown show xs ≡ old ++ join_with_byte 32 (map show (x ∷ xs))
 joined-first show old new x xs wrote =
     ap (λ w. w ++ following_shown show xs) wrote ∙ append_assoc old (show x) (following_shown show xs)
     ∙ ap (λ w. old ++ w) (sym (joined-cons show x xs))
 
 pub list_shown-first : (old new : List ℕ) (key value : ℕ) (pairs : List (ℕ × ℕ))
-    → new ≡ old ++ pair_shown (key, value) → new ++ more_shown pairs ≡ old ++ list_shown ((key, value) ∷ pairs)
+    → new ≡ old ++ pair_shown (key, value) → new ++ more_shown pairs ≡ old
+    ++ list_shown ((key, value) ∷ pairs)
 list_shown-first old new key value pairs wrote = joined-first pair_shown old new (key, value) pairs wrote

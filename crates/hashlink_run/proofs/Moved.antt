@@ -1,5 +1,6 @@
 -- A pair that was moved to an end and lent: where nothing is written it has moved, and it stands at that end.
-use Rattle.std.proofs.Common.{◌≡◌, ℕ, ◌-◌, Bool, List, [], ◌∷◌, ◌++◌, length, Option, None, Some, refl, sym, ap, ◌∙◌}
+use Rattle.std.proofs.Common.{◌≡◌, ℕ, ◌-◌, Bool, List, [], ◌∷◌, ◌++◌, length, Option, None, Some, refl, sym}
+use Rattle.std.proofs.Common.{ap, ◌∙◌}
 use Rattle.std.proofs.Common.{subst, arith, length-append, MatchOption}
 use Rattle.std.specs.Cmp.{IsEquivalence}
 use Rattle.std.specs.Option.{option_map}
@@ -27,7 +28,8 @@ module _ {K V : Type 0} (eq : K → K → Bool) (es : List (K × V)) (k : K) (v 
   module _ (found : lookup (eq k) es ≡ Some v) where
     pub first_of-moved : first_of (moved eq es k 0) ≡ lookup_entry (eq k) es
     first_of-moved =
-        ap first_of (moved-there eq es k 0 v found ∙ put_front eq es k v) ∙ sym (stored_pair (lookup_entry (eq k) es) refl found)
+        ap first_of (moved-there eq es k 0 v found ∙ put_front eq es k v)
+        ∙ sym (stored_pair (lookup_entry (eq k) es) refl found)
 
     last_of-end : (xs : List (K × V)) (e : K × V) → last_of (xs ++ e ∷ []) ≡ Some e
     last_of-end xs e =
@@ -43,16 +45,19 @@ module _ {K V : Type 0} (eq : K → K → Bool) (es : List (K × V)) (k : K) (v 
 module _ {K V S : Type 0} (eq : K → K
     → Bool) (laws : IsEquivalence eq) (old new : MapState K V S) (k : K) (b : ℕ) (v : V) where
   -- what stood was written back
-  pub moved_and_left : IsEntries eq old.entries → lookup (eq k) old.entries ≡ Some v → MovesAndWrites eq old new k b v
+  pub moved_and_left : IsEntries eq old.entries → lookup (eq k) old.entries ≡ Some v
+      → MovesAndWrites eq old new k b v
       → Changes old new (moved eq old.entries k b) 6
   moved_and_left distinct found s =
       let stood : lookup (eq k) s.between.entries ≡ Some v =
       ap (lookup (eq k)) s.moves.entries ∙ lookup-moved eq laws k old.entries k b distinct ∙ found in
       let same : new ≡ s.between =
-      s.writes ∙ ap (λ es. record s.between { entries = es }) (set_value_same (eq k) s.between.entries v stood) in
+      s.writes ∙ ap (λ es. record s.between { entries = es })
+      (set_value_same (eq k) s.between.entries v stood) in
       subst (λ m. Changes old m (moved eq old.entries k b) 6) (sym same) s.moves
 
-  pub moves_and_left : IsEntries eq old.entries → lookup (eq k) old.entries ≡ Some v → MovesAndWrites eq old new k b v
+  pub moves_and_left : IsEntries eq old.entries → lookup (eq k) old.entries ≡ Some v
+      → MovesAndWrites eq old new k b v
       → Moves eq old new k b (lookup (eq k) old.entries)
   moves_and_left distinct found s =
       let step : MatchOption (lookup (eq k) old.entries) (new
@@ -61,7 +66,8 @@ module _ {K V S : Type 0} (eq : K → K
       (moved_and_left distinct found s) in
       record { answer = refl; step = step }
 
-  pub moved_entries : IsEntries eq old.entries → lookup (eq k) old.entries ≡ Some v → MovesAndWrites eq old new k b v
+  pub moved_entries : IsEntries eq old.entries → lookup (eq k) old.entries ≡ Some v
+      → MovesAndWrites eq old new k b v
       → new.entries ≡ moved eq old.entries k b
   moved_entries distinct found s = (moved_and_left distinct found s).entries
 

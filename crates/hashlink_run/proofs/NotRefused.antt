@@ -1,5 +1,6 @@
 -- While a node is spare no command to a map hands a pair back.
-use Rattle.std.proofs.Common.{◌≡◌, ℕ, zero, suc, ◌≤◌, Bool, false, List, [], ◌∷◌, ◌++◌, slice_get, Option, None}
+use Rattle.std.proofs.Common.{◌≡◌, ℕ, zero, suc, ◌≤◌, Bool, false, List, [], ◌∷◌, ◌++◌, slice_get, Option}
+use Rattle.std.proofs.Common.{None}
 use Rattle.std.proofs.Common.{Some, Result, Ok, Err, MatchOption, refl, ap, ◌∙◌, subst, arith}
 use Rattle.std.specs.Result.{result_map_both}
 use Rattle.std.specs.declared.alloc.AllocError.{AllocError}
@@ -10,13 +11,17 @@ use Rattle.hashlink_model.specs.Entry.{VacantInserts}
 use Rattle.hashlink_model.specs.MapState.{MapState, Inserts}
 use Rattle.hashlink_model.specs.Steps.{Replaces}
 use Rattle.hashlink_commands.specs.declared.commands.Command.{Command}
-use Rattle.hashlink_commands.specs.declared.commands.Command.TheVariants.{Insert, InsertFront, Replace, Get, Remove}
-use Rattle.hashlink_commands.specs.declared.commands.Command.TheVariants.{RemoveEntry, PopFront, PopBack, ToFront}
+use Rattle.hashlink_commands.specs.declared.commands.Command.TheVariants.{Insert, InsertFront, Replace, Get}
+use Rattle.hashlink_commands.specs.declared.commands.Command.TheVariants.{Remove}
+use Rattle.hashlink_commands.specs.declared.commands.Command.TheVariants.{RemoveEntry, PopFront, PopBack}
+use Rattle.hashlink_commands.specs.declared.commands.Command.TheVariants.{ToFront}
 use Rattle.hashlink_commands.specs.declared.commands.Command.TheVariants.{ToBack}
-use Rattle.hashlink_commands.specs.declared.commands.Command.TheVariants.{Front, Back, Len, Clear, Shrink, Keep}
+use Rattle.hashlink_commands.specs.declared.commands.Command.TheVariants.{Front, Back, Len, Clear, Shrink}
+use Rattle.hashlink_commands.specs.declared.commands.Command.TheVariants.{Keep}
 use Rattle.hashlink_commands.specs.declared.commands.Command.TheVariants.{Entry, Cursor}
 use Rattle.hashlink_commands.specs.declared.commands.CursorStep.{CursorStep}
-use Rattle.hashlink_commands.specs.declared.commands.CursorStep.TheVariants.{Next, Prev, Current, PeekNext, PeekPrev}
+use Rattle.hashlink_commands.specs.declared.commands.CursorStep.TheVariants.{Next, Prev, Current, PeekNext}
+use Rattle.hashlink_commands.specs.declared.commands.CursorStep.TheVariants.{PeekPrev}
 use Rattle.hashlink_commands.specs.declared.commands.CursorStep.TheVariants.{Before, After}
 use Rattle.hashlink_commands.specs.declared.commands.EntryStep.{EntryStep}
 use Rattle.hashlink_commands.specs.declared.commands.EntryStep.TheVariants as step
@@ -33,7 +38,8 @@ shrink-taken : (K V B : Type 0) (answer : Result (Unit {0}) AllocError)
 shrink-taken K V B (Ok done) = refl
 shrink-taken K V B (Err refused) = refl
 
-module _ {K V B S : Type 0} (eq : K → K → Bool) (Says : K → V → B → Type 0) (replies : List (Reply K V B)) where
+module _ {K V B S : Type 0} (eq : K → K → Bool) (Says : K → V → B → Type 0)
+    (replies : List (Reply K V B)) where
   module _ (old new : MapState K V S) (k : K) (spare : 1 ≤ old.spare) where
     occupied-taken : (j : ℕ) (step : EntryStep V) → OccupiedStep Says old j k step replies new
         → is_refused replies ≡ false
@@ -67,11 +73,13 @@ module _ {K V B S : Type 0} (eq : K → K → Bool) (Says : K → V → B → Ty
     vacant-taken step.Remove s = ap is_refused s.1
     vacant-taken step.RemoveEntry s = ap is_refused s.1
 
-    pub entry-taken : (step : EntryStep V) → EntrySteps eq Says old k step replies new → is_refused replies ≡ false
+    pub entry-taken : (step : EntryStep V) → EntrySteps eq Says old k step replies new
+        → is_refused replies ≡ false
     entry-taken step s = by (place_of (eq k) old.entries) s
       where
         by : (o : Option ℕ)
-            → MatchOption o (VacantStep eq old k step replies new) (λ j. OccupiedStep Says old j k step replies new)
+            → MatchOption o (VacantStep eq old k step replies new)
+            (λ j. OccupiedStep Says old j k step replies new)
             → is_refused replies ≡ false
         by None t = vacant-taken step t
         by (Some j) t = occupied-taken j step t
@@ -83,7 +91,8 @@ module _ {K V B S : Type 0} (eq : K → K → Bool) (Says : K → V → B → Ty
     inserts-taken k v b (Err pair) more s = let none = s.may_refuse.no_spare in absurd (omega arith)
 
     replaces-taken : (k : K) (v : V) (answer : Result (Option V) (K × V))
-        → Replaces eq old new k v answer → is_refused {K = K} {V = V} {B = B} (insert_reply answer ∷ []) ≡ false
+        → Replaces eq old new k v answer → is_refused {K = K} {V = V} {B = B} (insert_reply answer ∷ [])
+        ≡ false
     replaces-taken k v (Ok w) s = refl
     replaces-taken k v (Err pair) s = let none = s.may_refuse.no_spare in absurd (omega arith)
 
@@ -131,13 +140,15 @@ module _ {K V B S : Type 0} (eq : K → K → Bool) (Says : K → V → B → Ty
     map_step-taken old new Shrink replies spare s = ap is_refused s.2 ∙ shrink-taken K V B s.0
     map_step-taken old new Keep replies spare s = ap is_refused s.1
     map_step-taken old new (Entry k step) replies spare s = entry-taken eq Says replies old new k spare step s
-    map_step-taken old new (Cursor steps) replies spare s = walk-taken (first_place old) s.0 steps.items replies spare s.1
+    map_step-taken old new (Cursor steps) replies spare s = walk-taken (first_place old) s.0
+        steps.items replies spare s.1
 
     -- the command at a place
     pub map_taken_at : (j : ℕ) (old : MapState K V S) (cs : List (Command K V))
         (xs : List (Answered (Reply K V B) (MapState K V S))) → Run eq Says Keeps old cs xs
         → 1 ≤ (after old xs j).spare
-        → (b : Answered (Reply K V B) (MapState K V S)) → slice_get xs j ≡ Some b → is_refused b.replies ≡ false
+        → (b : Answered (Reply K V B) (MapState K V S)) → slice_get xs j ≡ Some b
+        → is_refused b.replies ≡ false
     map_taken_at j old cs [] r spare b at = cc
     map_taken_at j old [] (x ∷ xs) r spare b at = absurd r
     map_taken_at zero old (c ∷ cs) (x ∷ xs) r spare b at =

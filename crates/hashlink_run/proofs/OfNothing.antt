@@ -1,5 +1,6 @@
 -- What may answer lines to a map without entries, line by line.
-use Rattle.std.proofs.Common.{◌≡◌, ℕ, ◌++◌, List, [], ◌∷◌, None, Result, Ok, Err, codes, refl, ap, ap₂, ◌∙◌, subst}
+use Rattle.std.proofs.Common.{◌≡◌, ℕ, ◌++◌, List, [], ◌∷◌, None, Result, Ok, Err, codes, refl, ap, ap₂, ◌∙◌}
+use Rattle.std.proofs.Common.{subst}
 use Rattle.std.specs.Fmt.{digits}
 use Rattle.std.specs.Result.{IsOk}
 use Rattle.std.specs.declared.alloc.AllocError.{AllocError}
@@ -30,7 +31,8 @@ record AnswersAll (S : Type 0) (lines : List (List ℕ)) (answer : List ℕ) : T
 nothing_read : (replies : List (Reply ℕ ℕ (ℕ × ℕ))) → Replies Itself None replies → replies ≡ Seen None ∷ []
 nothing_read replies h = h.2 ∙ ap (λ o. Seen o ∷ []) (said_itself None h.0 h.1)
 
-shrunk : (answer : Result (Unit {0}) AllocError) → IsOk answer → shrink_reply {K = ℕ} {V = ℕ} {B = ℕ × ℕ} answer ≡ Done
+shrunk : (answer : Result (Unit {0}) AllocError) → IsOk answer
+    → shrink_reply {K = ℕ} {V = ℕ} {B = ℕ × ℕ} answer ≡ Done
 shrunk (Ok done) h = refl
 shrunk (Err e) h = cc
 
@@ -44,7 +46,8 @@ module _ (S : Type 0) where
     by = λ n r w s new text h.
         let between : MapState ℕ ℕ S = h.1 in
         let first = one.by n r w s between h.0 h.3 in
-        let from = subst (λ es. ShowsAll LineShows (record between { entries = es }) lines h.2 new) first.1 h.4 in
+        let from = subst (λ es. ShowsAll LineShows (record between { entries = es }) lines h.2 new)
+        first.1 h.4 in
         let rest = all.by between.spare between.room between.link_writes between.hasher new h.2 from in
         h.5 ∙ ap₂ (λ a m. ended a ++ m) first.0 rest;
   }
@@ -57,7 +60,10 @@ module _ (S : Type 0) where
 
   front : Answers S (codes "front") (codes "-")
   front = record {
-    by = λ n r w s new text h. (h.2 ∙ ap (replies_shown Whole) (nothing_read h.0 h.1.1), ap (λ m. m.entries) h.1.0);
+    by = λ n r w s new text h. (
+      h.2 ∙ ap (replies_shown Whole) (nothing_read h.0 h.1.1),
+      ap (λ m. m.entries) h.1.0,
+    );
   }
 
   pop_back : Answers S (codes "pop_back") (codes "-")
@@ -118,7 +124,8 @@ module _ (S : Type 0) where
       (next shrink (next iter no_line))))))
 
   entries : AnswersAll S
-      (codes "entry 1 get" ∷ codes "entry 1 replace_entry 5" ∷ codes "entry 1 to_back" ∷ codes "entry 1 remove"
+      (codes "entry 1 get" ∷ codes "entry 1 replace_entry 5" ∷ codes "entry 1 to_back" ∷
+      codes "entry 1 remove"
       ∷ codes "iter" ∷ [])
       (codes "-\n-\n-\n-\nempty\n")
   entries =
@@ -131,6 +138,7 @@ pub end_answers : (text : List ℕ)
 end_answers text t = (ends _).by 0 0 0 t.0 t.1 text t.2
 
 pub entry_answers : (text : List ℕ)
-    → IsTranscript (codes "map\nentry 1 get\nentry 1 replace_entry 5\nentry 1 to_back\nentry 1 remove\niter\n") text
+    → IsTranscript
+    (codes "map\nentry 1 get\nentry 1 replace_entry 5\nentry 1 to_back\nentry 1 remove\niter\n") text
     → text ≡ codes "-\n-\n-\n-\nempty\n"
 entry_answers text t = (entries _).by 0 0 0 t.0 t.1 text t.2

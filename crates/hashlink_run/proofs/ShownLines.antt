@@ -11,7 +11,8 @@ use Rattle.hashlink_run.specs.Step.{Step}
 use Rattle.hashlink_run.specs.Transcript.{Shows, Itself, form_of, replies_shown}
 
 -- a command that was read is answered by its replies, the steps of a cursor among them
-pub shows-command : {S : Type 0} (old new : MapState ℕ ℕ S) (command : Command ℕ ℕ) (replies : List (Reply ℕ ℕ (ℕ × ℕ)))
+pub shows-command : {S : Type 0} (old new : MapState ℕ ℕ S) (command : Command ℕ ℕ)
+    (replies : List (Reply ℕ ℕ (ℕ × ℕ)))
     → Step nat_eq Itself IsEven old command replies new
     → Shows old (Some (said (Do command))) (replies_shown (form_of command) replies) new
 shows-command old new (Cursor steps) replies s = (replies, s, refl)

@@ -50,15 +50,18 @@ module _ {K V : Type 0} (eq : K → K → Bool) (cap : ℕ) where
   abbrev pub events_passed : List (K × V) → List (CacheEvent K V) → List Passed
   events_passed es [] = []
   events_passed es (e ∷ events) =
-      put_passed es e ++ Length (length (after_event eq cap es e)) ∷ events_passed (after_event eq cap es e) events
+      put_passed es e ++ Length (length (after_event eq cap es e)) ∷ events_passed
+      (after_event eq cap es e) events
 
--- calls of an empty cache of capacity c in turn, none refused: their answers and the cache that they leave are those
--- of a chain of steps, and are computed, also after the first n of them; its nodes are within the peak
+-- calls of an empty cache of capacity c in turn, none refused: their answers and the cache that they leave
+-- are those of a chain of steps, and are computed, also after the first n of them; its nodes are within the
+-- peak
 pub record RunsFromEmpty {K V S : Type 0} (eq : K → K → Bool) (s : S) (c : ℕ) (events : List (CacheEvent K V))
     (replies : List (Option V)) (new : CacheState K V S) : Type 0 where
   pub chain : Chained (EventStep eq) (empty_cache s c) events replies new
   pub entries : new.map.entries ≡ after_events eq c [] events
-  pub along : (n : ℕ) → (after (empty_cache s c) chain.answers n).map.entries ≡ after_events eq c [] (take n events)
+  pub along : (n : ℕ) → (after (empty_cache s c) chain.answers n).map.entries
+      ≡ after_events eq c [] (take n events)
   pub answered : replies ≡ answers eq c [] events
   pub capacity : new.cap ≡ c
   pub nodes : node_count new.map ≤ peak 0 (events_passed eq c [] events)

@@ -14,24 +14,27 @@ is_recent eq c used k = is_member eq used k && nat_lt (reuse_distance eq used k)
 
 -- after a use of k: where the keys used last were held before, they are now, with k as the last of them
 abbrev pub UsedLast : {K V : Type 0} → (K → K → Bool) → ℕ → List (K × V) → K → List (K × V) → Type 0
-UsedLast {K} eq c old k new = (used : List K) → HoldsRecent eq c used old → HoldsRecent eq c (used ++ k ∷ []) new
+UsedLast {K} eq c old k new = (used : List K) → HoldsRecent eq c used old
+    → HoldsRecent eq c (used ++ k ∷ []) new
 
 module _ {K V : Type 0} (eq : K → K → Bool) (events : List (CacheEvent K V)) where
-  -- inclusion: what two caches hold after the calls, and what they answered to them. The keys of the smaller one are
-  -- an end of the larger one's, and what the smaller one found the larger one did. Where no use came the values
-  -- agree too
-  pub record Includes (small large : List (K × V)) (small_replies large_replies : List (Option V)) : Type 0 where
+  -- inclusion: what two caches hold after the calls, and what they answered to them. The keys of the smaller
+  -- one are an end of the larger one's, and what the smaller one found the larger one did. Where no use came
+  -- the values agree too
+  pub record Includes (small large : List (K × V))
+      (small_replies large_replies : List (Option V)) : Type 0 where
     pub keys : IsEndOf (SameKey eq) small large
     pub found : AllZip AlsoFinds small_replies large_replies
     pub entries : NoUse events → IsEndOf (SameEntry eq) small large
     pub values : NoUse events → AllZip FindsTheSame small_replies large_replies
 
-  -- reuse distance: what a cache of capacity c holds after the calls, and what it answered to them, where no removal
-  -- came. It holds the keys that were used recently, in the order of their last uses, and a call found something
-  -- exactly where its key was one of them
+  -- reuse distance: what a cache of capacity c holds after the calls, and what it answered to them, where no
+  -- removal came. It holds the keys that were used recently, in the order of their last uses, and a call
+  -- found something exactly where its key was one of them
   pub record FollowsHistory (c : ℕ) (entries : List (K × V)) (replies : List (Option V)) : Type 0 where
     pub order : NoRemoval events → HoldsRecent eq c (used_keys events) entries
-    pub held : (k : K) → NoRemoval events → is_some (lookup (eq k) entries) ≡ is_recent eq c (used_keys events) k
+    pub held : (k : K) → NoRemoval events → is_some (lookup (eq k) entries)
+        ≡ is_recent eq c (used_keys events) k
     pub found : (n : ℕ) (e : CacheEvent K V) (reply : Option V) → NoRemoval (take n events)
         → slice_get events n ≡ Some e → slice_get replies n ≡ Some reply
         → is_some reply ≡ is_recent eq c (used_keys (take n events)) (key_of e)
@@ -40,8 +43,8 @@ module _ {K V : Type 0} (eq : K → K → Bool) (events : List (CacheEvent K V))
 abbrev pub MissesOfHistory : {K V : Type 0} → (K → K → Bool) → ℕ → List K → List (Option V) → Type 0
 MissesOfHistory eq c keys replies = count_by is_none replies ≡ cache_misses eq c keys
 
--- against any other rule of replacement, even one that knows the future: where a cache of capacity c answers None so
--- often to uses of these keys, a schedule of h places misses at least (c - h + 1) / c as often
+-- against any other rule of replacement, even one that knows the future: where a cache of capacity c answers
+-- None so often to uses of these keys, a schedule of h places misses at least (c - h + 1) / c as often
 abbrev pub BearsComparison : {K V : Type 0} → (K → K → Bool) → ℕ → List K → List (Option V) → Type 0
 BearsComparison {K} eq c keys replies =
     (h : ℕ) → 1 ≤ h → h ≤ c → (held : List (List K)) → Schedule eq h keys held

@@ -1,5 +1,6 @@
 -- Lists of commands to a cache: the nodes and the lengths along them, and what is not refused.
-use Rattle.std.specs.Prelude.{◌≡◌, ℕ, ◌+◌, ◌≤◌, ◌<◌, Bool, true, false, cond, List, [], ◌∷◌, ◌++◌, length, take}
+use Rattle.std.specs.Prelude.{◌≡◌, ℕ, ◌+◌, ◌≤◌, ◌<◌, Bool, true, false, cond, List, [], ◌∷◌, ◌++◌, length}
+use Rattle.std.specs.Prelude.{take}
 use Rattle.std.specs.Prelude.{drop, slice_get, Some}
 use Rattle.std.specs.List.{AllPass}
 use Rattle.hashlink_model.specs.Cache.{CacheState, IsWithin}
@@ -58,8 +59,9 @@ module _ {K V B S : Type 0} where
     DropsPair old command replies =
         (n : ℕ) × (command_put old command replies ≡ Length n ∷ []) × (old.cap < n)
 
-    -- where the command at the place i dropped a pair, and no command from there to the place j set the capacity,
-    -- cleared the cache or named an entry, no insert may be refused then, and the command at j hands no pair back
+    -- where the command at the place i dropped a pair, and no command from there to the place j set the
+    -- capacity, cleared the cache or named an entry, no insert may be refused then, and the command at j
+    -- hands no pair back
     abbrev pub TakesAllAfterADrop : CacheState K V S → List (CacheCommand K V)
         → List (Answered (Reply K V B) (CacheState K V S)) → Type 0
     TakesAllAfterADrop old commands answers =
@@ -69,8 +71,8 @@ module _ {K V B S : Type 0} where
         → ((k : K) → ¬ MayRefuse eq (after old answers j).map k)
         × ((b : Answered _ _) → slice_get answers j ≡ Some b → is_refused b.replies ≡ false)
 
-    -- after an insert and after a use that missed, where they are not refused, the cache is within its capacity,
-    -- whatever it was before
+    -- after an insert and after a use that missed, where they are not refused, the cache is within its
+    -- capacity, whatever it was before
     abbrev pub InsertsFit : CacheState K V S → List (CacheCommand K V)
         → List (Answered (Reply K V B) (CacheState K V S)) → Type 0
     InsertsFit old commands answers =
@@ -78,8 +80,8 @@ module _ {K V B S : Type 0} where
         → slice_get answers i ≡ Some a → command_put (after old answers i) command a.replies ≡ Length n ∷ []
         → IsWithin a.state 0
 
-  -- where the cache is within its capacity and n more, it is so after each command that comes: for n = 0 while no
-  -- command names an entry, and above that always. A capacity that is set counts from then on
+  -- where the cache is within its capacity and n more, it is so after each command that comes: for n = 0
+  -- while no command names an entry, and above that always. A capacity that is set counts from then on
   pub record KeepsBounds (old : CacheState K V S) (commands : List (CacheCommand K V))
       (answers : List (Answered (Reply K V B) (CacheState K V S))) : Type 0 where
     pub without_entries : (n i j : ℕ) → i ≤ j → IsWithin (after old answers i) n
@@ -88,10 +90,13 @@ module _ {K V B S : Type 0} where
     pub with_entries : (n i j : ℕ) → i ≤ j → IsWithin (after old answers i) (n + 1)
         → IsWithin (after old answers j) (n + 1)
 
--- from old, the cache may answer the commands by these replies and go on to new, by a chain of steps along which the
--- nodes stay within the peak, nothing is refused after a drop, bounds on the length stay, and inserts fit
-pub record LawfulCacheRun {K V B S : Type 0} (eq : K → K → Bool) (Says : K → V → B → Type 0) (old : CacheState K V S)
-    (commands : List (CacheCommand K V)) (replies : List (Reply K V B)) (new : CacheState K V S) : Type 0 where
+-- from old, the cache may answer the commands by these replies and go on to new, by a chain of steps along
+-- which the nodes stay within the peak, nothing is refused after a drop, bounds on the length stay, and
+-- inserts fit
+pub record LawfulCacheRun {K V B S : Type 0} (eq : K → K → Bool) (Says : K → V → B → Type 0)
+    (old : CacheState K V S)
+    (commands : List (CacheCommand K V)) (replies : List (Reply K V B))
+    (new : CacheState K V S) : Type 0 where
   pub runs : CacheRuns eq Says old commands replies new
   pub within_peak : CacheWithinPeak eq old commands runs.answers
   pub after_a_drop : TakesAllAfterADrop eq old commands runs.answers
@@ -99,8 +104,8 @@ pub record LawfulCacheRun {K V B S : Type 0} (eq : K → K → Bool) (Says : K �
   pub fits : InsertsFit eq old commands runs.answers
 
 module _ {K V S : Type 0} where
-  -- what is left of a run: where the cache was within its capacity and n more it is so still, for n = 0 where no
-  -- command named an entry
+  -- what is left of a run: where the cache was within its capacity and n more it is so still, for n = 0 where
+  -- no command named an entry
   pub record StaysBounded (old : CacheState K V S) (commands : List (CacheCommand K V))
       (new : CacheState K V S) : Type 0 where
     pub without_entries : (n : ℕ) → AllPass names_no_entry commands → IsWithin old n → IsWithin new n

@@ -25,7 +25,8 @@ module _ {C R M : Type 0} (Step : M → C → List R → M → Type 0) where
   -- from old, the commands may be answered in turn so
   abbrev pub Chain : M → List C → List (Answered R M) → Type 0
   Chain old [] [] = Unit {0}
-  Chain old (command ∷ commands) (a ∷ answers) = Step old command a.replies a.state × Chain a.state commands answers
+  Chain old (command ∷ commands) (a ∷ answers) = Step old command a.replies a.state
+      × Chain a.state commands answers
   Chain old [] (a ∷ answers) = ⊥
   Chain old (command ∷ commands) [] = ⊥
 

@@ -6,8 +6,10 @@ use Rattle.hashlink_model.specs.Entry.{InsertsValue, InsertsEntry, ReplacesEntry
 use Rattle.hashlink_model.specs.Entry.{VacantInserts}
 use Rattle.hashlink_model.specs.MapState.{MapState, MovesAt}
 use Rattle.hashlink_commands.specs.declared.commands.EntryStep.{EntryStep}
-use Rattle.hashlink_commands.specs.declared.commands.EntryStep.TheVariants.{Get, OrInsert, Insert, InsertEntry}
-use Rattle.hashlink_commands.specs.declared.commands.EntryStep.TheVariants.{ReplaceEntry, ReplaceKey, ToFront, ToBack}
+use Rattle.hashlink_commands.specs.declared.commands.EntryStep.TheVariants.{Get, OrInsert, Insert}
+use Rattle.hashlink_commands.specs.declared.commands.EntryStep.TheVariants.{InsertEntry}
+use Rattle.hashlink_commands.specs.declared.commands.EntryStep.TheVariants.{ReplaceEntry, ReplaceKey, ToFront}
+use Rattle.hashlink_commands.specs.declared.commands.EntryStep.TheVariants.{ToBack}
 use Rattle.hashlink_commands.specs.declared.commands.EntryStep.TheVariants.{Remove, RemoveEntry}
 use Rattle.hashlink_commands.specs.declared.replies.Reply.{Reply}
 use Rattle.hashlink_commands.specs.declared.replies.Reply.TheVariants.{Value, Pair, Key, Seen}
@@ -20,7 +22,8 @@ module _ {K V B S : Type 0} (Says : K → V → B → Type 0) where
   MovesAndReadsAt old j b replies new = MovesAt old new j b × Replies Says (slice_get old.entries j) replies
 
   -- a step where the key is at the place j
-  abbrev pub OccupiedStep : MapState K V S → ℕ → K → EntryStep V → List (Reply K V B) → MapState K V S → Type 0
+  abbrev pub OccupiedStep : MapState K V S → ℕ → K → EntryStep V → List (Reply K V B)
+      → MapState K V S → Type 0
   OccupiedStep old j k Get replies new = Reads Says old (slice_get old.entries j) replies new
   OccupiedStep old j k (OrInsert v) replies new = MovesAndReadsAt old j (length old.entries) replies new
   OccupiedStep old j k (Insert v) replies new =
@@ -40,7 +43,8 @@ module _ {K V B S : Type 0} (Says : K → V → B → Type 0) where
 
 module _ {K V B S : Type 0} (eq : K → K → Bool) where
   -- an insert, with this reply where it is not refused
-  abbrev pub InsertsAbsent : MapState K V S → K → V → Reply K V B → List (Reply K V B) → MapState K V S → Type 0
+  abbrev pub InsertsAbsent : MapState K V S → K → V → Reply K V B → List (Reply K V B)
+      → MapState K V S → Type 0
   InsertsAbsent old k v reply replies new =
       (answer : Result (Unit {0}) (K × V)) × VacantInserts eq old new k v answer
       × (replies ≡ reply_or_refused (result_map_both (λ _. reply) (λ pair. pair) answer) ∷ [])

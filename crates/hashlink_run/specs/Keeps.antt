@@ -1,4 +1,5 @@
--- A keep by a closure that writes nothing: `Keeps k v b` says that it may answer b at the key k with the value v.
+-- A keep by a closure that writes nothing: `Keeps k v b` says that it may answer b at the key k with the
+-- value v.
 use Rattle.std.specs.Prelude.{◌≡◌, ℕ, ◌%◌, Bool, nat_eq}
 use Rattle.hashlink_model.specs.MapState.{MapState}
 use Rattle.hashlink_model.specs.Retain.{RetainsInOrder}

@@ -1,5 +1,5 @@
--- What a reply says of a pair that a command reads: `Says k v b` says that b may be said of the key k with the value
--- v.
+-- What a reply says of a pair that a command reads: `Says k v b` says that b may be said of the key k with
+-- the value v.
 use Rattle.std.specs.Prelude.{◌≡◌, List, [], ◌∷◌, Option, None, Some}
 use Rattle.std.specs.Fn.{Shared, FnReturns}
 use Rattle.std.specs.Borrow.{Bor}
@@ -28,5 +28,6 @@ module _ {K V B : Type 0} (Says : K → V → B → Type 0) where
   Replies pair replies = (said : Option B) × SaysOf pair said × (replies ≡ Seen said ∷ [])
 
   -- a pair is read where nothing changes
-  abbrev pub Reads : {S : Type 0} → MapState K V S → Option (K × V) → List (Reply K V B) → MapState K V S → Type 0
+  abbrev pub Reads : {S : Type 0} → MapState K V S → Option (K × V) → List (Reply K V B)
+      → MapState K V S → Type 0
   Reads old pair replies new = (new ≡ old) × Replies pair replies

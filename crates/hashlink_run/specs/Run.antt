@@ -11,9 +11,11 @@ use Rattle.hashlink_run.specs.CallReplies.{is_refused}
 use Rattle.hashlink_run.specs.Chain.{Answered, Chain, Chained, after}
 use Rattle.hashlink_run.specs.Step.{Step}
 
-module _ {K V B S : Type 0} (eq : K → K → Bool) (Says : K → V → B → Type 0) (Keeps : K → V → Bool → Type 0) where
+module _ {K V B S : Type 0} (eq : K → K → Bool) (Says : K → V → B → Type 0)
+    (Keeps : K → V → Bool → Type 0) where
   -- from old, the map may answer the commands in turn so
-  abbrev pub Run : MapState K V S → List (Command K V) → List (Answered (Reply K V B) (MapState K V S)) → Type 0
+  abbrev pub Run : MapState K V S → List (Command K V) → List (Answered (Reply K V B) (MapState K V S))
+      → Type 0
   Run = Chain (Step eq Says Keeps)
 
   -- and so by these replies, and go on to new
@@ -61,10 +63,11 @@ module _ {K V B S : Type 0} where
     -- after any of the commands the nodes are within the peak
     abbrev pub StaysWithinPeak : Type 0
     StaysWithinPeak = (n : ℕ)
-        → node_count (after old answers n) ≤ peak (node_count old) (passed_by (take n commands) (take n answers))
+        → node_count (after old answers n)
+        ≤ peak (node_count old) (passed_by (take n commands) (take n answers))
 
-    -- where the map was longer, and no command since gave nodes back, it has a spare node: no insert may be refused
-    -- then, and the command that comes next hands no pair back
+    -- where the map was longer, and no command since gave nodes back, it has a spare node: no insert may be
+    -- refused then, and the command that comes next hands no pair back
     abbrev pub TakesKeysWhereShorter : (K → K → Bool) → Type 0
     TakesKeysWhereShorter eq =
         (i j : ℕ) → i ≤ j → AllPass keeps_nodes (drop i (take j commands))
@@ -73,8 +76,8 @@ module _ {K V B S : Type 0} where
         × ((k : K) → ¬ MayRefuse eq (after old answers j) k)
         × ((b : Answered _ _) → slice_get answers j ≡ Some b → is_refused b.replies ≡ false)
 
--- from old, the map may answer the commands by these replies and go on to new, by a chain of steps along which the
--- nodes stay within the peak, and a map that is shorter than it was takes keys
+-- from old, the map may answer the commands by these replies and go on to new, by a chain of steps along
+-- which the nodes stay within the peak, and a map that is shorter than it was takes keys
 pub record LawfulRun {K V B S : Type 0} (eq : K → K → Bool) (Says : K → V → B → Type 0)
     (Keeps : K → V → Bool → Type 0) (old : MapState K V S) (commands : List (Command K V))
     (replies : List (Reply K V B)) (new : MapState K V S) : Type 0 where

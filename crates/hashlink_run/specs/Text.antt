@@ -16,8 +16,8 @@ use Rattle.hashlink_run.specs.Transcript.{LineShows, ShowsAll, ended}
 use Rattle.hashlink_run.specs.WeightedTranscript.{WeightedLineShows}
 
 module _ (S : Type 0) where
-  -- the answer to the lines after the mode line, from an empty map or empty caches on. A bad mode line is answered
-  -- alone, and what two caches hold is shown at the end
+  -- the answer to the lines after the mode line, from an empty map or empty caches on. A bad mode line is
+  -- answered alone, and what two caches hold is shown at the end
   abbrev pub ModeRun : Option Mode → List (List ℕ) → List ℕ → Type 0
   ModeRun None lines text = text ≡ ended (codes "bad")
   ModeRun (Some Map) lines text =
@@ -28,7 +28,8 @@ module _ (S : Type 0) where
       (answers : List ℕ) × (new : Held) × ShowsAll (PairLineShows c d) ([], []) lines answers new
       × (text ≡ answers ++ lists_shown new)
   ModeRun (Some (Weighted b)) lines text =
-      (hasher : S) × (new : WeightedState ℕ ℕ S) × ShowsAll WeightedLineShows (empty_weighted hasher b) lines text new
+      (hasher : S) × (new : WeightedState ℕ ℕ S)
+      × ShowsAll WeightedLineShows (empty_weighted hasher b) lines text new
 
   -- the answer to a text of these lines, the first of which names the mode
   abbrev pub LinesRun : List (List ℕ) → List ℕ → Type 0

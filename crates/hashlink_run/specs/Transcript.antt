@@ -1,7 +1,7 @@
--- What a line to a map is answered with, and lines in turn: a state goes from line to line, and each line has one line
--- in answer.
--- The map's own choices are open: whether an insert that needs a new node is refused, whether a shrink of a map that
--- isn't empty is, and for how many nodes there is room.
+-- What a line to a map is answered with, and lines in turn: a state goes from line to line, and each line has
+-- one line in answer.
+-- The map's own choices are open: whether an insert that needs a new node is refused, whether a shrink of a
+-- map that isn't empty is, and for how many nodes there is room.
 use Rattle.std.specs.Prelude.{◌≡◌, ℕ, List, [], ◌∷◌, ◌++◌, map, codes, decimal, nat_eq, Option, None, Some}
 use Rattle.std.specs.List.{join_with_byte}
 use Rattle.std.specs.Option.{option_map_or}
@@ -39,8 +39,8 @@ abbrev pub list_shown : List (ℕ × ℕ) → List ℕ
 list_shown [] = codes "empty"
 list_shown (pair ∷ pairs) = join_with_byte 32 (map pair_shown (pair ∷ pairs))
 
--- how a command shows a pair that it read: of either end and of a cursor whole, else by the value that stands there,
--- which is the one given where it went in as a new pair
+-- how a command shows a pair that it read: of either end and of a cursor whole, else by the value that stands
+-- there, which is the one given where it went in as a new pair
 abbrev pub form_of : Command ℕ ℕ → Form
 form_of Front = Whole
 form_of Back = Whole
@@ -89,8 +89,8 @@ module _ {S : Type 0} where
   abbrev pub LineShows : MapState ℕ ℕ S → List ℕ → List ℕ → MapState ℕ ℕ S → Type 0
   LineShows old line text new = Shows old (says line) text new
 
--- from old, this text may answer the lines, a line for each, and the state goes on to new. `ShowsLine` says what may
--- answer one line
+-- from old, this text may answer the lines, a line for each, and the state goes on to new. `ShowsLine` says
+-- what may answer one line
 module _ {M : Type 0} (ShowsLine : M → List ℕ → List ℕ → M → Type 0) where
   abbrev pub ShowsAll : M → List (List ℕ) → List ℕ → M → Type 0
   ShowsAll old [] text new = (text ≡ []) × (new ≡ old)

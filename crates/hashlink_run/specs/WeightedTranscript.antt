@@ -1,5 +1,6 @@
 -- What answers a line to a cache with a budget.
-use Rattle.std.specs.Prelude.{◌≡◌, ℕ, List, map, length, codes, decimal, nat_eq, Option, None, Some, Result, Ok, Err}
+use Rattle.std.specs.Prelude.{◌≡◌, ℕ, List, map, length, codes, decimal, nat_eq, Option, None, Some, Result}
+use Rattle.std.specs.Prelude.{Ok, Err}
 use Rattle.std.specs.Map.{lookup}
 use Rattle.hashlink_model.specs.Weights.{WeightedState, total_weight}
 use Rattle.hashlink_weighted.specs.Answers.{InsertsWithin, without_weight}

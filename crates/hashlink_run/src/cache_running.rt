@@ -13,11 +13,12 @@ use std::hash::{BuildHasher, Hash};
 
 /// Gives the commands to the cache in turn and returns the replies, one for each.
 ///
-/// A command that reads a pair has as its reply what `keep` says of it; `keep` has to take any pair. An insert that
-/// runs out of memory has a reply that says so and hands the pair back, and the run goes on. Each command costs what
-/// the calls of the cache do that it names.
+/// A command that reads a pair has as its reply what `keep` says of it; `keep` has to take any pair. An
+/// insert that runs out of memory has a reply that says so and hands the pair back, and the run goes on. Each
+/// command costs what the calls of the cache do that it names.
 ///
-/// Room for all replies is made first, from the allocator of the commands. Where memory for it runs out it returns
+/// Room for all replies is made first, from the allocator of the commands. Where memory for it runs out it
+/// returns
 /// `AllocError`, the commands are dropped and the cache is as it was.
 pub fn run_cache<K, V, S, F>(
     cache: &mut LruCache<K, V, S>,
@@ -31,11 +32,12 @@ where
     F: Fn(&K, &V) -> bool,
     requires { F.IsAlwaysCallable keep.now }
 
-    // The replies and the state at the end are those of a chain of steps, along which the nodes stay within the peak,
-    // once an insert has dropped a pair none runs out of memory, the length stays within a bound by the capacity, and
-    // an insert that is not refused brings it within the capacity.
+    // The replies and the state at the end are those of a chain of steps, along which the nodes stay within
+    // the peak, once an insert has dropped a pair none runs out of memory, the length stays within a bound by
+    // the capacity, and an insert that is not refused brings it within the capacity.
     ensures ran { IfOk result
-        (λ replies. LawfulCacheRun K.eq (ClosureSays F.Fn keep.now) (state_in cache.old) commands.items replies.items
+        (λ replies. LawfulCacheRun K.eq (ClosureSays F.Fn keep.now) (state_in cache.old)
+        commands.items replies.items
         (state_in cache.new)) }
     ensures refused { OnErr result (cache.new ≡ cache.old) }
     ensures bounded { OnOk result (StaysBounded (state_in cache.old) commands.items (state_in cache.new)) }

@@ -50,7 +50,8 @@ where
     }
 }
 
-// Moves the key's pair to the end and answers what the closure says of it, or inserts the pair where it is absent.
+// Moves the key's pair to the end and answers what the closure says of it, or inserts the pair where it is
+// absent.
 fn answer_use<K, V, S, B, F>(
     cache: &mut LruCache<K, V, S>,
     key: K,
@@ -84,7 +85,8 @@ where
     requires { F.IsAlwaysCallable says.now }
     ensures gets { CacheGets K.eq (state_in cache.old) (state_in cache.new) key.now
         (lookup (K.eq key.now) (entries_in cache.old)) }
-    ensures said { SaysOf (ClosureSays F.Fn says.now) (lookup_entry (K.eq key.now) (entries_in cache.old)) result }
+    ensures said { SaysOf (ClosureSays F.Fn says.now)
+        (lookup_entry (K.eq key.now) (entries_in cache.old)) result }
 {
     let said = said_of(cache.raw_entry().from_key(key), says);
     cache.get(key);

@@ -5,15 +5,16 @@ ghost use Rattle.hashlink_lru.specs.Cached.{entries_in, state_in};
 ghost use Rattle.hashlink_model.specs.Cache.{CacheUses};
 ghost use Rattle.hashlink_model.specs.Entries.{IsEntries};
 ghost use Rattle.hashlink_run.specs.CacheCalls.{EventStep, RunsFromEmpty, event_of, use_of};
-ghost use Rattle.hashlink_run.specs.CacheLaws.{BearsComparison, FollowsHistory, Includes, MissesOfHistory, UsedLast};
+ghost use Rattle.hashlink_run.specs.CacheLaws.{BearsComparison, FollowsHistory, Includes, MissesOfHistory};
+ghost use Rattle.hashlink_run.specs.CacheLaws.{UsedLast};
 
 use hashlink_commands::PairCommand;
 use hashlink_lru::LruCache;
 use std::alloc::{AllocError, Global};
 use std::hash::Hash;
 
-/// What two caches have come to that were given the same commands, and what each returned for each of them: the old
-/// value, the value that a use hit, the value removed, or the value seen.
+/// What two caches have come to that were given the same commands, and what each returned for each of them:
+/// the old value, the value that a use hit, the value removed, or the value seen.
 #[derive(Drop)]
 pub struct Pair<K: Eq + Hash, V> {
     /// The smaller cache.
@@ -37,8 +38,9 @@ pub struct Uses<K: Eq + Hash, V> {
 
 /// Gives the commands to two empty caches of these capacities, of which the first is the smaller one.
 ///
-/// Each command costs what the call of the cache does that it names. Where memory runs out, for the replies or for an
-/// insert, it returns `AllocError` and leaves nothing. `small_capacity` has to be at most `large_capacity`.
+/// Each command costs what the call of the cache does that it names. Where memory runs out, for the replies
+/// or for an insert, it returns `AllocError` and leaves nothing. `small_capacity` has to be at most
+/// `large_capacity`.
 pub fn run_pair<K, V>(
     alloc: Global,
     small_capacity: usize,
@@ -51,19 +53,21 @@ where
     requires { small_capacity ≤ large_capacity }
 
     // The replies of each cache and the state at its end are those of a chain of steps without a refusal.
-    ensures small { IfOk result (λ pair. RunsFromEmpty K.eq default_builder small_capacity (map event_of commands.now)
-        pair.small_replies.items (state_in pair.small)) }
-    ensures large { IfOk result (λ pair. RunsFromEmpty K.eq default_builder large_capacity (map event_of commands.now)
-        pair.large_replies.items (state_in pair.large)) }
+    ensures small { IfOk result (λ pair. RunsFromEmpty K.eq default_builder small_capacity
+        (map event_of commands.now) pair.small_replies.items (state_in pair.small)) }
+    ensures large { IfOk result (λ pair. RunsFromEmpty K.eq default_builder large_capacity
+        (map event_of commands.now) pair.large_replies.items (state_in pair.large)) }
 
     // The smaller cache holds an end of the larger one's keys, and found nothing that the larger one did not.
     ensures inclusion { IfOk result (λ pair. Includes K.eq (map event_of commands.now) (entries_in pair.small)
         (entries_in pair.large) pair.small_replies.items pair.large_replies.items) }
 
     // Each holds and found what the history of uses says.
-    ensures small_history { IfOk result (λ pair. FollowsHistory K.eq (map event_of commands.now) small_capacity
+    ensures small_history { IfOk result
+        (λ pair. FollowsHistory K.eq (map event_of commands.now) small_capacity
         (entries_in pair.small) pair.small_replies.items) }
-    ensures large_history { IfOk result (λ pair. FollowsHistory K.eq (map event_of commands.now) large_capacity
+    ensures large_history { IfOk result
+        (λ pair. FollowsHistory K.eq (map event_of commands.now) large_capacity
         (entries_in pair.large) pair.large_replies.items) }
     ensures small_distinct { IfOk result (λ pair. IsEntries K.eq (entries_in pair.small)) }
     ensures large_distinct { IfOk result (λ pair. IsEntries K.eq (entries_in pair.large)) }
@@ -94,10 +98,10 @@ where
     ensures ran { IfOk result (λ uses. RunsFromEmpty K.eq default_builder capacity (map use_of pairs.now)
         uses.replies.items (state_in uses.cache)) }
 
-    // The cache holds and found what the history of the uses says, missed as often as that says, and not many times
-    // more than any other rule of replacement would.
-    ensures history { IfOk result (λ uses. FollowsHistory K.eq (map use_of pairs.now) capacity (entries_in uses.cache)
-        uses.replies.items) }
+    // The cache holds and found what the history of the uses says, missed as often as that says, and not many
+    // times more than any other rule of replacement would.
+    ensures history { IfOk result (λ uses. FollowsHistory K.eq (map use_of pairs.now) capacity
+        (entries_in uses.cache) uses.replies.items) }
     ensures misses { IfOk result (λ uses. MissesOfHistory K.eq capacity (map (λ p. p.0) pairs.now)
         uses.replies.items) }
     ensures comparison { IfOk result (λ uses. BearsComparison K.eq capacity (map (λ p. p.0) pairs.now)

@@ -1,5 +1,6 @@
 //! The steps of a cursor in a map.
-ghost use Rattle.std.specs.Prelude.{◌≡◌, ◌+◌, ◌≤◌, ◌++◌, [], ◌∷◌, List, OnOk, IsOk, length, vec_len, vec_capacity};
+ghost use Rattle.std.specs.Prelude.{◌≡◌, ◌+◌, ◌≤◌, ◌++◌, [], ◌∷◌, List, OnOk, IsOk, length, vec_len};
+ghost use Rattle.std.specs.Prelude.{vec_capacity};
 ghost use Rattle.hashlink_core.specs.Keyed.{state_of};
 ghost use Rattle.hashlink_map.specs.Cursor.{cursor_map, cursor_state};
 ghost use Rattle.hashlink_run.specs.CursorSteps.{CursorStepped, CursorSteps};
@@ -52,8 +53,8 @@ where
     F: Fn(&K, &V) -> B,
     requires { F.IsAlwaysCallable says.now }
     ensures same_map { (cursor_map cursor.new).ghost_name ≡ (cursor_map cursor.old).ghost_name }
-    ensures stepped { CursorStepped K.eq (ClosureSays F.Fn says.now) (cursor_state cursor.old) step (result ∷ [])
-        (cursor_state cursor.new) }
+    ensures stepped { CursorStepped K.eq (ClosureSays F.Fn says.now)
+        (cursor_state cursor.old) step (result ∷ []) (cursor_state cursor.new) }
 {
     match step {
         CursorStep::Next => {

@@ -32,8 +32,8 @@ where
     }
 }
 
-// The reply to the step, or the pair where it is handed back. An entry that is there and that no call used up ends by
-// its `into_key`: where it goes out of scope with a key of any type, nothing is known of the map.
+// The reply to the step, or the pair where it is handed back. An entry that is there and that no call used up
+// ends by its `into_key`: where it goes out of scope with a key of any type, nothing is known of the map.
 fn done_at_entry<K, V, S, B, F>(
     map: &mut LinkedHashMap<K, V, S>,
     key: K,
@@ -46,8 +46,8 @@ where
     S: BuildHasher,
     F: Fn(&K, &V) -> B,
     requires { F.IsAlwaysCallable says.now }
-    ensures { EntrySteps K.eq (ClosureSays F.Fn says.now) (state_of map.old) key step (reply_or_refused result ∷ [])
-        (state_of map.new) }
+    ensures { EntrySteps K.eq (ClosureSays F.Fn says.now) (state_of map.old) key step
+        (reply_or_refused result ∷ []) (state_of map.new) }
 {
     match map.entry(key) {
         Entry::Occupied(mut entry) => match step {

@@ -1,5 +1,5 @@
-//! What holds of every run that the definitions let be, texts and what may answer them, and what a keep leaves. Each
-//! function has an empty body: its contract is the statement.
+//! What holds of every run that the definitions let be, texts and what may answer them, and what a keep
+//! leaves. Each function has an empty body: its contract is the statement.
 ghost use Rattle.std.specs.Prelude.{◌≡◌, ◌≤◌, ◌⊎◌, ℕ, Bool, List, [], codes, filter};
 ghost use Rattle.hashlink_model.specs.Cache.{CacheState};
 ghost use Rattle.hashlink_model.specs.CacheRuns.{CacheEvent, after_events, answers};
@@ -18,8 +18,8 @@ ghost use Rattle.hashlink_run.specs.Run.{Run, StaysWithinPeak, TakesKeysWhereSho
 ghost use Rattle.hashlink_run.specs.Step.{Step};
 ghost use Rattle.hashlink_run.specs.Text.{IsTranscript};
 
-/// Of any calls of two empty caches, and so after each one of a list of them: the smaller cache holds an end of the
-/// larger one's keys, and each holds and found what the history of uses says.
+/// Of any calls of two empty caches, and so after each one of a list of them: the smaller cache holds an end
+/// of the larger one's keys, and each holds and found what the history of uses says.
 pub fn calls_of_two_caches<K: Eq, V>()
     ensures inclusion { (c d : ℕ) → c ≤ d → (events : List (CacheEvent K V))
         → Includes K.eq events (after_events K.eq c [] events) (after_events K.eq d [] events)
@@ -28,19 +28,22 @@ pub fn calls_of_two_caches<K: Eq, V>()
         → FollowsHistory K.eq events c (after_events K.eq c [] events) (answers K.eq c [] events) }
 {}
 
-/// Of any chain of a map's steps: the nodes stay within the peak, and where the map was longer, and gave no node back
-/// since, it has a spare node.
+/// Of any chain of a map's steps: the nodes stay within the peak, and where the map was longer, and gave no
+/// node back since, it has a spare node.
 pub fn runs_of_a_map<K: Eq, V, S, F: Fn(&K, &V) -> bool>()
-    ensures within_peak { (f : F) (old : MapState K V S) (commands : List (Command K V)) (answers : List (Answered _ _))
+    ensures within_peak { (f : F) (old : MapState K V S) (commands : List (Command K V))
+        (answers : List (Answered _ _))
         → Run K.eq (ClosureSays F.Fn f) (ClosureSays F.Fn f) old commands answers
         → StaysWithinPeak old commands answers }
-    ensures shorter { (f : F) (old : MapState K V S) (commands : List (Command K V)) (answers : List (Answered _ _))
+    ensures shorter { (f : F) (old : MapState K V S) (commands : List (Command K V))
+        (answers : List (Answered _ _))
         → Run K.eq (ClosureSays F.Fn f) (ClosureSays F.Fn f) old commands answers
         → TakesKeysWhereShorter old commands answers K.eq }
 {}
 
-/// Of any chain of a cache's steps: the nodes stay within the peak, once an insert has dropped a pair none runs out of
-/// memory, the length stays within a bound by the capacity, and an insert brings it within the capacity.
+/// Of any chain of a cache's steps: the nodes stay within the peak, once an insert has dropped a pair none
+/// runs out of memory, the length stays within a bound by the capacity, and an insert brings it within the
+/// capacity.
 pub fn runs_of_a_cache<K: Eq, V, S, F: Fn(&K, &V) -> bool>()
     ensures within_peak { (f : F) (old : CacheState K V S) (commands : List (CacheCommand K V))
         (answers : List (Answered _ _)) → CacheRun K.eq (ClosureSays F.Fn f) old commands answers
@@ -62,14 +65,16 @@ pub fn answers_to_texts()
     ensures no_line { (text : List ℕ) → IsTranscript [] text → text ≡ [] }
     ensures mode_alone { (text : List ℕ) → IsTranscript (codes "map") text → text ≡ [] }
     ensures bad_mode { (text : List ℕ) → IsTranscript (codes "map \niter\n") text → text ≡ codes "bad\n" }
-    ensures bad_lines { (text : List ℕ) → IsTranscript (codes "map\n\nlens") text → text ≡ codes "bad\nbad\n" }
-    ensures reads { (text : List ℕ) → IsTranscript (codes "map\nget 1\niter\n") text → text ≡ codes "-\nempty\n" }
+    ensures bad_lines { (text : List ℕ) → IsTranscript (codes "map\n\nlens") text → text
+        ≡ codes "bad\nbad\n" }
+    ensures reads { (text : List ℕ) → IsTranscript (codes "map\nget 1\niter\n") text → text
+        ≡ codes "-\nempty\n" }
     ensures insert { (text : List ℕ) → IsTranscript (codes "map\ninsert 1 10\nget 1\niter\n") text
         → (text ≡ codes "-\n10\n1:10\n") ⊎ (text ≡ codes "memory\n-\nempty\n") }
 {}
 
-/// An empty map has nothing to show, to move or to take out at either end and at no entry, and its shrink does not run
-/// out of memory.
+/// An empty map has nothing to show, to move or to take out at either end and at no entry, and its shrink
+/// does not run out of memory.
 pub fn answers_of_an_empty_map()
     ensures ends { (text : List ℕ)
         → IsTranscript (codes "map\nlen\nfront\npop_back\nto_front 1\nclear\nshrink\niter\n") text
@@ -87,8 +92,8 @@ pub fn a_worked_text()
         (codes "-\n-\n10\n11\n20\n1:11\n") }
 {}
 
-/// A text with entries: one that is there moves last and keeps its value, one that is vacant goes in, and one is
-/// replaced where it stands.
+/// A text with entries: one that is there moves last and keeps its value, one that is vacant goes in, and one
+/// is replaced where it stands.
 pub fn a_worked_text_of_entries()
     ensures { IsTranscript (codes
         "map\ninsert 1 10\nentry 1 or_insert 5\nentry 2 or_insert 21\nentry 1 replace_entry 12\niter\n")

@@ -16,8 +16,8 @@ use hashlink_commands::{Lines, Reply, pair_command};
 use hashlink_lru::LruCache;
 use std::alloc::{AllocError, Global};
 
-// Answers the lines from two empty caches of these capacities on, and shows what they hold. An insert that is refused
-// is as memory that is refused for the answer.
+// Answers the lines from two empty caches of these capacities on, and shows what they hold. An insert that is
+// refused is as memory that is refused for the answer.
 pub(crate) fn run_pair_lines(
     alloc: Global,
     small_capacity: usize,
@@ -26,7 +26,8 @@ pub(crate) fn run_pair_lines(
     out: &mut String,
 ) -> Result<(), AllocError>
     ensures { OnOk result ((text : List ℕ)
-        × ModeRun DefaultHashBuilder (Some (Pair small_capacity large_capacity)) (lines_of lines.entry.rest.now) text
+        × ModeRun DefaultHashBuilder (Some (Pair small_capacity large_capacity))
+        (lines_of lines.entry.rest.now) text
         × (string_bytes out.new ≡ string_bytes out.old ++ text)) }
 {
     let mut small = LruCache::new(alloc, small_capacity);
@@ -46,7 +47,8 @@ fn answer_pair_line(
     out: &mut String,
 ) -> Result<(), AllocError>
     ensures shown { OnOk result ((text : List ℕ)
-        × PairShows (state_in small.old).cap (state_in large.old).cap (entries_in small.old, entries_in large.old)
+        × PairShows (state_in small.old).cap (state_in large.old).cap
+        (entries_in small.old, entries_in large.old)
         (pair_says line.now) text (entries_in small.new, entries_in large.new)
         × (string_bytes out.new ≡ string_bytes out.old ++ ended text)) }
     ensures small_capacity { OnOk result ((state_in small.new).cap ≡ (state_in small.old).cap) }

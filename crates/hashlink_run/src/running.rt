@@ -12,15 +12,17 @@ use hashlink_map::LinkedHashMap;
 use std::alloc::AllocError;
 use std::hash::{BuildHasher, Hash};
 
-/// Gives the commands to the map in turn and returns the replies, one for each, and one for each step of a cursor.
+/// Gives the commands to the map in turn and returns the replies, one for each, and one for each step of a
+/// cursor.
 ///
-/// A command that reads a pair has as its reply what `keep` says of it, and `Command::Keep` removes the pairs at which
-/// it returns false; `keep` has to take any pair. An insert that runs out of memory has a reply that says so and hands
-/// the pair back, a shrink that does has one too, and the run goes on. Each command costs what the call of the map does
-/// that it names.
+/// A command that reads a pair has as its reply what `keep` says of it, and `Command::Keep` removes the pairs
+/// at which it returns false; `keep` has to take any pair. An insert that runs out of memory has a reply that
+/// says so and hands the pair back, a shrink that does has one too, and the run goes on. Each command costs
+/// what the call of the map does that it names.
 ///
-/// Room for all replies is made first, from the allocator of the commands. Where memory for it runs out, or where their
-/// number is above `usize::MAX`, it returns `AllocError`, the commands are dropped and the map is as it was.
+/// Room for all replies is made first, from the allocator of the commands. Where memory for it runs out, or
+/// where their number is above `usize::MAX`, it returns `AllocError`, the commands are dropped and the map is
+/// as it was.
 pub fn run<K, V, S, F>(
     map: &mut LinkedHashMap<K, V, S>,
     commands: Vec<Command<K, V>>,
@@ -33,8 +35,9 @@ where
     F: Fn(&K, &V) -> bool,
     requires { F.IsAlwaysCallable keep.now }
 
-    // The replies and the state at the end are those of a chain of steps, along which the nodes stay within the peak,
-    // and a map that was longer and gave no node back since has a spare node and takes the next command's pair.
+    // The replies and the state at the end are those of a chain of steps, along which the nodes stay within
+    // the peak, and a map that was longer and gave no node back since has a spare node and takes the next
+    // command's pair.
     ensures ran { IfOk result
         (λ replies. LawfulRun K.eq (ClosureSays F.Fn keep.now) (ClosureSays F.Fn keep.now) (state_of map.old)
         commands.items replies.items (state_of map.new)) }

@@ -19,8 +19,8 @@ use hashlink_map::LinkedHashMap;
 use std::alloc::AllocError;
 use std::hash::{BuildHasher, Hash};
 
-// Gives the map the command and pushes its replies. Of a pair that is read they have what the first closure says, and
-// the second one says which pairs a keep leaves.
+// Gives the map the command and pushes its replies. Of a pair that is read they have what the first closure
+// says, and the second one says which pairs a keep leaves.
 pub(crate) fn answer_command<K, V, S, B, F, G>(
     map: &mut LinkedHashMap<K, V, S>,
     command: Command<K, V>,
@@ -158,7 +158,8 @@ where
     requires { F.IsAlwaysCallable says.now }
     ensures moved { Moves K.eq (state_of map.old) (state_of map.new) key.now 0
         (lookup (K.eq key.now) (entries_of map.old)) }
-    ensures said { SaysOf (ClosureSays F.Fn says.now) (lookup_entry (K.eq key.now) (entries_of map.old)) result }
+    ensures said { SaysOf (ClosureSays F.Fn says.now)
+        (lookup_entry (K.eq key.now) (entries_of map.old)) result }
 {
     map.to_front(key)?;
     said_of(map.front(), says)
@@ -173,7 +174,8 @@ where
     requires { F.IsAlwaysCallable says.now }
     ensures moved { Moves K.eq (state_of map.old) (state_of map.new) key.now (length (entries_of map.old))
         (lookup (K.eq key.now) (entries_of map.old)) }
-    ensures said { SaysOf (ClosureSays F.Fn says.now) (lookup_entry (K.eq key.now) (entries_of map.old)) result }
+    ensures said { SaysOf (ClosureSays F.Fn says.now)
+        (lookup_entry (K.eq key.now) (entries_of map.old)) result }
 {
     map.to_back(key)?;
     said_of(map.back(), says)

@@ -20,8 +20,8 @@ use std::alloc::{AllocError, Global};
 /// The answer to a text of lines, of which the first names what the others speak to.
 ///
 /// It goes over the text once, and each line costs what the call of the container does that it names.
-/// It returns `AllocError` where memory for the answer runs out. An insert that runs out of memory has a line in the
-/// answer, and the next line follows; but in the mode `pair` it returns `AllocError` too.
+/// It returns `AllocError` where memory for the answer runs out. An insert that runs out of memory has a line
+/// in the answer, and the next line follows; but in the mode `pair` it returns `AllocError` too.
 pub fn run_text(alloc: Global, input: &[u8]) -> Result<Vec<u8>, AllocError>
     ensures { IfOk result (λ text. IsTranscript input.now text.items) }
 {
@@ -100,7 +100,8 @@ pub(crate) fn push_replies(
     replies: &[Reply<u64, u64, (u64, u64)>],
     out: &mut String,
 ) -> Result<(), AllocError>
-    ensures { OnOk result (string_bytes out.new ≡ string_bytes out.old ++ ended (replies_shown form replies.now)) }
+    ensures { OnOk result (string_bytes out.new ≡ string_bytes out.old ++ ended
+        (replies_shown form replies.now)) }
 {
     let mut rest = replies.iter();
     let Some(first) = rest.next() else {

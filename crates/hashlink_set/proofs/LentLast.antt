@@ -1,5 +1,6 @@
 -- What a set ends as whose last element was lent, from the steps before. Assumes `Logic`.
-use Rattle.std.proofs.Common.{◌≡◌, Option, None, Some, Ok, Err, Result, Bool, [], ◌∷◌, refl, sym, ap, subst, ◌∙◌}
+use Rattle.std.proofs.Common.{◌≡◌, Option, None, Some, Ok, Err, Result, Bool, [], ◌∷◌, refl, sym, ap, subst}
+use Rattle.std.proofs.Common.{◌∙◌}
 use seplogic.Ra.Ura.{Ura}
 use base.Logic.{SProp, ent, sep}
 use contract.Monad.{fact, fact_i}
@@ -51,7 +52,8 @@ module _ {M : Type 1} {𝓤 : Ura M} (𝓛 : Logic 𝓤) (R : RattleType) (P P' 
       $ done !))
 
 module _ {M : Type 1} {𝓤 : Ura M} (𝓛 : Logic 𝓤) (κs : Lfts 6) (qs : Shares 6) where
-  -- the lifetimes that remain once an element was made: neither that of the one given, nor that of the closure
+  -- the lifetimes that remain once an element was made: neither that of the one given, nor that of the
+  -- closure
   abbrev pub lifetimes_left : Lfts 4
   lifetimes_left = (κs.0, (κs.1.1.0, (κs.1.1.1.0, (κs.1.1.1.1.0, tt))))
 
@@ -132,7 +134,8 @@ module _ {T S : Type 0} (eq : T → T → Bool) (Makes : T → Type 0) (old new 
   there_is_made None (Some x) s is empty = refl
   there_is_made (Some y) o s is empty = absurd (cc)
 
-  pub answers_made : (y : Option T) (o : Option (Bor T)) (a : Result (Bor T) T) → MakesElement eq Makes old new t y
+  pub answers_made : (y : Option T) (o : Option (Bor T)) (a : Result (Bor T) T)
+      → MakesElement eq Makes old new t y
       → option_copied o ≡ last_of (elements_of new)
       → IfOk a (λ x. (y ≡ None) × (option_copied o ≡ Some x.now)) → IfErr a (λ x. y ≡ Some x)
       → GetsOrMakes eq Makes old new t (as_seen a)

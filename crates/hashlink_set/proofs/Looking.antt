@@ -11,8 +11,10 @@ use Rattle.hashlink_model.specs.Algebra.{PairWalk, first_passing, left_or_right,
 use Rattle.hashlink_model.specs.Algebra.{at_most_both}
 use Rattle.hashlink_model.specs.Sets.{SetState, elements_of}
 use Rattle.hashlink_model.proofs.LazyWalks.{first_passing-takes, pair_step-takes}
-use Rattle.hashlink_set.specs.Walks.{lacks, LooksOn, LooksOnBoth, difference_rest, DifferenceSteps, intersection_rest}
-use Rattle.hashlink_set.specs.Walks.{IntersectionSteps, union_walk, union_rest, UnionSteps, symmetric_difference_walk}
+use Rattle.hashlink_set.specs.Walks.{lacks, LooksOn, LooksOnBoth, difference_rest, DifferenceSteps}
+use Rattle.hashlink_set.specs.Walks.{intersection_rest}
+use Rattle.hashlink_set.specs.Walks.{IntersectionSteps, union_walk, union_rest, UnionSteps}
+use Rattle.hashlink_set.specs.Walks.{symmetric_difference_walk}
 use Rattle.hashlink_set.specs.Walks.{symmetric_difference_rest, SymmetricDifferenceSteps}
 use Rattle.hashlink_set.specs.declared.algebra.difference.Difference.{Difference}
 use Rattle.hashlink_set.specs.declared.algebra.intersection.Intersection.{Intersection}
@@ -21,7 +23,8 @@ use Rattle.hashlink_set.specs.declared.algebra.union.Union.{Union}
 
 module _ {T : Type 0} where
   -- a step on a list seen through references
-  as_seen : (s t : List T) (r : Option (Bor T)) → TakesFirst (λ y. y) s (option_copied r) t → TakesFirst deref s r t
+  as_seen : (s t : List T) (r : Option (Bor T)) → TakesFirst (λ y. y) s (option_copied r) t
+      → TakesFirst deref s r t
   as_seen s t None h = h
   as_seen s t (Some x) h = h
 
@@ -38,19 +41,21 @@ module _ {T : Type 0} where
       (rw (l.gives, l.leaves) (pair_step-takes p q old))
 
   -- a step on a list of which all passes
-  pub all_looks : (old new : List T) (r : Option (Bor T)) → TakesFirst deref old r new → LooksOn (λ _. true) old r new
+  pub all_looks : (old new : List T) (r : Option (Bor T)) → TakesFirst deref old r new
+      → LooksOn (λ _. true) old r new
   all_looks old new None h = rw (h.0, h.1) record { gives = refl; leaves = refl }
   all_looks old new (Some x) h = rw h record { gives = refl; leaves = refl }
 
-  -- a step of a walk over two sides is one of the left side, or one of the right side where the left one is at its
-  -- end
+  -- a step of a walk over two sides is one of the left side, or one of the right side where the left one is
+  -- at its end
   pub left_looks : (p q : T → Bool) (old new right : List T) (x : Bor T) → LooksOn p old (Some x) new
       → LooksOnBoth p q (record { left = old; right = right }) (Some x) (record { left = new; right = right })
   left_looks p q old new right x l =
       let step = ap₂ (left_or_right q right) l.gives l.leaves in
       record { gives = ap (λ s. s.0) step; leaves = ap (λ s. s.1) step }
 
-  pub right_looks : (p q : T → Bool) (old new right rest : List T) (r : Option (Bor T)) → LooksOn p old None new
+  pub right_looks : (p q : T → Bool) (old new right rest : List T) (r : Option (Bor T))
+      → LooksOn p old None new
       → LooksOn q right r rest
       → LooksOnBoth p q (record { left = old; right = right }) r (record { left = new; right = rest })
   right_looks p q old new right rest r l h =
@@ -69,7 +74,8 @@ module _ {T : Type 0} where
   passes_first : (p : T → Bool) (x : T) (xs : List T) → p x ≡ true → first_passing p (x ∷ xs) ≡ (Some x, xs)
   passes_first p x xs h = rw h refl
 
-  pub some_looks : (p : T → Bool) (old here new : List T) (x : Bor T) → first_passing p old ≡ first_passing p here
+  pub some_looks : (p : T → Bool) (old here new : List T) (x : Bor T) → first_passing p old
+      ≡ first_passing p here
       → here ≡ x.now ∷ new → p x.now ≡ true
       → LooksOn p old (Some x) new
   some_looks p old here new x skipped is h =
@@ -103,7 +109,8 @@ module _ {T S H : Type 0} (eq : T → T → Bool) where
       → IntersectionSteps eq old r new
   intersection_steps old r new same l = record {
     takes =
-        subst (λ s. TakesFirst deref (intersection_rest eq old) r (filter (is_member eq (elements_of s)) new.iter))
+        subst (λ s. TakesFirst deref (intersection_rest eq old) r
+        (filter (is_member eq (elements_of s)) new.iter))
         (sym same)
         (looks_takes (is_member eq (elements_of old.other.now)) old.iter new.iter r l);
     looks = l;
@@ -112,7 +119,8 @@ module _ {T S H : Type 0} (eq : T → T → Bool) where
 
   pub union_steps : (old : Union T S H) (r : Option (Bor T)) (new : Union T S H)
       → new.second.other.now ≡ old.second.other.now
-      → LooksOnBoth (λ _. true) (lacks eq (elements_of old.second.other.now)) (union_walk old) r (union_walk new)
+      → LooksOnBoth (λ _. true) (lacks eq (elements_of old.second.other.now))
+      (union_walk old) r (union_walk new)
       → UnionSteps eq old r new
   union_steps old r new same l = record {
     takes =
@@ -120,7 +128,8 @@ module _ {T S H : Type 0} (eq : T → T → Bool) where
         (λ s. TakesFirst deref (union_rest eq old) r (left_to_give (λ _. true) (lacks eq (elements_of s))
         (union_walk new)))
         (sym same)
-        (both_takes (λ _. true) (lacks eq (elements_of old.second.other.now)) (union_walk old) (union_walk new) r l);
+        (both_takes (λ _. true) (lacks eq (elements_of old.second.other.now)) (union_walk old)
+        (union_walk new) r l);
     looks = l;
     same_other = same;
   }
@@ -135,7 +144,8 @@ module _ {T S H : Type 0} (eq : T → T → Bool) where
     takes =
         subst
         (λ (s : SetState T S × SetState T S). TakesFirst deref (symmetric_difference_rest eq old) r
-        (left_to_give (lacks eq (elements_of s.0)) (lacks eq (elements_of s.1)) (symmetric_difference_walk new)))
+        (left_to_give (lacks eq (elements_of s.0)) (lacks eq (elements_of s.1))
+        (symmetric_difference_walk new)))
         (λ i. (sym one i, sym two i))
         (both_takes (lacks eq (elements_of old.first.other.now)) (lacks eq (elements_of old.second.other.now))
         (symmetric_difference_walk old) (symmetric_difference_walk new) r l);

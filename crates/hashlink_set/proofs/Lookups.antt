@@ -12,7 +12,8 @@ is_some-map f (Some x) = refl
 
 module _ {T : Type 0} (es : List (T × Unit {0})) where
   -- the element that an entry has
-  pub element-found : (test : T → Bool) → option_map (λ e. e.0) (lookup_entry test es) ≡ find test (keys_of es)
+  pub element-found : (test : T → Bool) → option_map (λ e. e.0) (lookup_entry test es)
+      ≡ find test (keys_of es)
   element-found test = sym (lookup_key_is test es) ∙ find-keys test es
 
   module _ (test : T → Bool) where

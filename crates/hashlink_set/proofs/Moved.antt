@@ -21,4 +21,8 @@ module _ {T S : Type 0} (test : T → Bool) (old new : SetState T S) (b : ℕ) w
   moved-element found s =
       let same : new ≡ s.between =
       s.writes ∙ ap (λ es. record s.between { entries = es }) (set_value-nothing test s.between.entries) in
-      record { answer = found; step = subst (λ m. Changes old m (moved_match test old.entries b) 6) (sym same) s.moves }
+      record {
+        answer = found;
+        step = subst (λ m. Changes old m (moved_match test old.entries b) 6)
+            (sym same) s.moves;
+      }

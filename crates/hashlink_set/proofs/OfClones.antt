@@ -1,5 +1,6 @@
 -- What a set is that was made of clones of distinct elements.
-use Rattle.std.proofs.Common.{◌≡◌, Bool, true, cond, List, [], ◌∷◌, ◌++◌, Option, None, Some, map, refl, ap, ap₂}
+use Rattle.std.proofs.Common.{◌≡◌, Bool, true, cond, List, [], ◌∷◌, ◌++◌, Option, None, Some, map, refl, ap}
+use Rattle.std.proofs.Common.{ap₂}
 use Rattle.std.proofs.Common.{subst, sym, ◌∙◌, append-nil}
 use Rattle.std.specs.Borrow.{Bor}
 use Rattle.std.specs.Cmp.{IsEquivalence}
@@ -17,7 +18,8 @@ use Rattle.hashlink_model.proofs.SetElements.{own_elements, clone_of_a_set}
 use Rattle.hashlink_set.specs.Cloned.{IsOfClones}
 
 -- one more of each
-pub zip_another : {A B : Type 0} (C : A → B → Type 0) (xs : List A) (ys : List B) (x : A) (y : B) → AllZip C xs ys
+pub zip_another : {A B : Type 0} (C : A → B → Type 0) (xs : List A) (ys : List B) (x : A) (y : B)
+    → AllZip C xs ys
     → C x y
     → AllZip C (xs ++ x ∷ []) (ys ++ y ∷ [])
 zip_another C [] [] x y z c = (c, tt)
@@ -32,7 +34,8 @@ zip_same C f [] (b ∷ ys) z = absurd z
 zip_same C f (a ∷ xs) [] z = absurd z
 zip_same C f (a ∷ xs) (b ∷ ys) z = ap₂ (λ p ps. p ∷ ps) (f a b z.0) (zip_same C f xs ys z.1)
 
-zip_weaken : {T : Type 0} (C D : T → T → Type 0) → ((x y : T) → C x y → D x y) → (xs ys : List T) → AllZip C xs ys
+zip_weaken : {T : Type 0} (C D : T → T → Type 0) → ((x y : T) → C x y → D x y)
+    → (xs ys : List T) → AllZip C xs ys
     → AllZip D xs ys
 zip_weaken C D f [] [] z = tt
 zip_weaken C D f [] (b ∷ ys) z = absurd z
@@ -52,8 +55,8 @@ module _ {T S : Type 0} (eq : T → T → Bool) where
       ap keys_of
       (accepts_entries eq (empty_map s) new (pairs_of clones) (as_pairs (empty_map s) new clones made))
 
-  module _ (laws : IsEquivalence eq) (C : T → T → Type 0) (H : S → Type 0) (ts : List T) (distinct : IsDistinct eq ts)
-      (s : S) (hasher : H s) (new : SetState T S) where
+  module _ (laws : IsEquivalence eq) (C : T → T → Type 0) (H : S → Type 0) (ts : List T)
+      (distinct : IsDistinct eq ts) (s : S) (hasher : H s) (new : SetState T S) where
     pub is_of_clones : (clones : List T) → AllZip C ts clones → MadeFrom (SetInserts eq) clones s new
         → IsOfClones eq C H ts new
     is_of_clones clones cloned made = record {
@@ -63,7 +66,8 @@ module _ {T S : Type 0} (eq : T → T → Bool) where
       cloned = cloned;
       made = made;
       equal = λ f. ap (elements_eq eq ts) (made_elements clones s new made)
-          ∙ clone_of_a_set eq laws ts clones distinct (zip_weaken C (λ x y. eq x y ≡ true) f ts clones cloned);
+          ∙ clone_of_a_set eq laws ts clones distinct
+          (zip_weaken C (λ x y. eq x y ≡ true) f ts clones cloned);
       same = λ f. made_elements clones s new made
           ∙ ap (λ xs. keys_of (extended eq [] (pairs_of xs))) (zip_same C f ts clones cloned)
           ∙ own_elements eq laws ts distinct;
@@ -74,11 +78,13 @@ module _ {T S : Type 0} (eq : T → T → Bool) where
         → AllZip C (map deref items) clones
         → MadeFrom (SetInserts eq) clones s new
         → IsOfClones eq C H ts new
-    is_of_items items clones is cloned made = is_of_clones clones (subst (λ xs. AllZip C xs clones) is cloned) made
+    is_of_items items clones is cloned made = is_of_clones clones
+        (subst (λ xs. AllZip C xs clones) is cloned) made
 
 -- a walk whose steps take the first of what it has left to give gives all of it
 module _ {St T : Type 0} (steps : St → Option (Bor T) → St → Type 0) (rest : St → List T)
-    (takes : (s : St) (r : Option (Bor T)) (t : St) → steps s r t → TakesFirst deref (rest s) r (rest t)) where
+    (takes : (s : St) (r : Option (Bor T)) (t : St) → steps s r t → TakesFirst deref
+    (rest s) r (rest t)) where
   given_front : (s : St) (xs : List (Bor T)) (t : St) → Yields steps s xs t → rest s ≡ map deref xs ++ rest t
   given_front s [] t y = ap rest y
   given_front s (x ∷ xs) t y = takes s (Some x) y.0 y.1 ∙ ap (λ l. x.now ∷ l) (given_front y.0 xs t y.2)

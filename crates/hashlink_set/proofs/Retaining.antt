@@ -28,7 +28,9 @@ module _ {C F T : Type 0} (see : C → F) (P : C → T → Unit {0} → Bool →
 
   pub callable_seen : (may : C → T → Unit {0} → Type 0) (takes : F → T → Unit {0} → Type 0)
       → ((c : C) (t : T) → takes (see c) t tt → may c t tt)
-      → (c : C) (es : List (T × Unit {0})) → CallableOnEachPair Q takes (see c) es → CallableOnEachPair P may c es
+      → (c : C) (es : List (T × Unit {0})) → CallableOnEachPair Q takes (see c) es
+      → CallableOnEachPair P may c es
   callable_seen may takes serves c es h = record {
-    at = λ before after d t v e calls. serves d t (h.at before after (see d) t v e (folds_seen c before d calls));
+    at = λ before after d t v e calls. serves d t
+        (h.at before after (see d) t v e (folds_seen c before d calls));
   }

@@ -1,5 +1,6 @@
 -- Which element stands last after one came in or moved there.
-use Rattle.std.proofs.Common.{◌≡◌, ℕ, ◌-◌, Result, Bool, true, false, List, [], ◌∷◌, ◌++◌, length, Option, None}
+use Rattle.std.proofs.Common.{◌≡◌, ℕ, ◌-◌, Result, Bool, true, false, List, [], ◌∷◌, ◌++◌, length, Option}
+use Rattle.std.proofs.Common.{None}
 use Rattle.std.proofs.Common.{Some, Ok, Err}
 use Rattle.std.proofs.Common.{cond, ◌||◌, is_some, unwrap_or, refl, sym, ap, subst, ◌∙◌, arith, length-append}
 use Rattle.std.specs.Prelude.{IfOk, IfErr}
@@ -10,7 +11,8 @@ use Rattle.std.specs.Set.{is_member, remove_key}
 use Rattle.std.proofs.lemmas.Map.Entries.{length-keys_of}
 use Rattle.std.proofs.lemmas.Map.Made.{is_some-lookup}
 use Rattle.hashlink_model.specs.MapState.{AddsEntry, RefusesEntry}
-use Rattle.hashlink_model.specs.Sets.{SetState, elements_of, put_element, stored_element, SetInserts, SetReplaces}
+use Rattle.hashlink_model.specs.Sets.{SetState, elements_of, put_element, stored_element, SetInserts}
+use Rattle.hashlink_model.specs.Sets.{SetReplaces}
 use Rattle.hashlink_model.specs.Steps.{Moves}
 use Rattle.hashlink_model.specs.Walk.{last_of}
 use Rattle.hashlink_model.proofs.Places.{slice_get_here}
@@ -28,13 +30,15 @@ found_by : {T : Type 0} (b : Bool) (x : T) (o : Option T) (c : Bool) → is_some
 found_by true x o c h = refl
 found_by false x o c h = h
 
-is_some-find : {T : Type 0} (eq : T → T → Bool) (t : T) (ts : List T) → is_some (find (eq t) ts) ≡ is_member eq ts t
+is_some-find : {T : Type 0} (eq : T → T → Bool) (t : T) (ts : List T) → is_some (find (eq t) ts)
+    ≡ is_member eq ts t
 is_some-find eq t [] = refl
 is_some-find eq t (x ∷ ts) = found_by (eq t x) x (find (eq t) ts) (is_member eq ts t) (is_some-find eq t ts)
 
 last_put : {T : Type 0} (eq : T → T → Bool) (ts : List T) (t : T)
     → last_of (put_element eq ts t (length ts)) ≡ Some (stored_element eq ts t)
-last_put eq ts t = ap last_of (put_element_back eq ts t) ∙ last_of-end (remove_key (eq t) ts) (stored_element eq ts t)
+last_put eq ts t = ap last_of (put_element_back eq ts t) ∙ last_of-end (remove_key (eq t) ts)
+    (stored_element eq ts t)
 
 module _ {T S : Type 0} (eq : T → T → Bool) where
   module _ (old new : SetState T S) (t : T) where
@@ -43,7 +47,8 @@ module _ {T S : Type 0} (eq : T → T → Bool) where
     inserted_last b s = ap last_of (set_inserts eq old new t b s).0 ∙ last_put eq (elements_of old) t
 
     -- an element that was absent before an insert went in
-    pub inserts_absent : is_member eq (elements_of old) t ≡ false → (b : Bool) → SetInserts eq old new t (Ok b)
+    pub inserts_absent : is_member eq (elements_of old) t ≡ false → (b : Bool)
+        → SetInserts eq old new t (Ok b)
         → AddsEntry eq old new t tt (length old.entries)
     inserts_absent m true s = s
     inserts_absent m false s =
@@ -53,7 +58,8 @@ module _ {T S : Type 0} (eq : T → T → Bool) where
     pub added_last : AddsEntry eq old new t tt (length old.entries) → last_of (elements_of new) ≡ Some t
     added_last s =
         let absent : is_some (find (eq t) (elements_of old)) ≡ false
-        = is_some-find eq t (elements_of old) ∙ sym (is_some-lookup (eq t) old.entries) ∙ ap is_some s.absent in
+        = is_some-find eq t (elements_of old) ∙ sym (is_some-lookup (eq t) old.entries)
+        ∙ ap is_some s.absent in
         inserted_last true s ∙ by (find (eq t) (elements_of old)) absent
       where
         by : (o : Option T) → is_some o ≡ false → Some (unwrap_or o t) ≡ Some t
@@ -77,8 +83,8 @@ module _ {T S : Type 0} (eq : T → T → Bool) where
         by None h some last = absurd (cc)
         by (Some x) h some last = (x, last, rw h (refl, s))
 
-  module _ (old new : SetState T S) (t x : T) (Makes : T → Type 0) (none : find (eq t) (elements_of old) ≡ None)
-      (made : Makes x) where
+  module _ (old new : SetState T S) (t x : T) (Makes : T → Type 0)
+      (none : find (eq t) (elements_of old) ≡ None) (made : Makes x) where
     pub made_gets : AddsEntry eq old new x tt (length old.entries)
         → (y : T) × (last_of (elements_of new) ≡ Some y) × GetsOrMakes eq Makes old new t (Ok y)
     made_gets s = (x, added_last old new x s, rw none (made, s))
@@ -95,7 +101,8 @@ module _ {T S : Type 0} (eq : T → T → Bool) (old new : SetState T S) (t : T)
   pub absent_unmoved : find (eq t) (elements_of old) ≡ None
   absent_unmoved =
       let none : is_some (find (eq t) (elements_of old)) ≡ false
-      = is_some-find eq t (elements_of old) ∙ sym (is_some-lookup (eq t) old.entries) ∙ ap is_some (sym s.answer) in
+      = is_some-find eq t (elements_of old) ∙ sym (is_some-lookup (eq t) old.entries)
+      ∙ ap is_some (sym s.answer) in
       by (find (eq t) (elements_of old)) none
     where
       by : (o : Option T) → is_some o ≡ false → o ≡ None
@@ -107,8 +114,11 @@ module _ {T S : Type 0} (eq : T → T → Bool) (old new : SetState T S) (t : T)
 
 -- no two elements are equal after a replace, as before
 module _ {T S : Type 0} {eq : T → T → Bool} (laws : IsEquivalence eq) (old new : SetState T S) (t : T) where
-  pub replaces_distinct : (r : Result (Option T) (T × Unit {0})) → IfOk r (λ o. SetReplaces eq old new t (Ok o))
-      → IfErr r (RefusesEntry eq old new t tt) → IsDistinct eq (elements_of old) → IsDistinct eq (elements_of new)
+  pub replaces_distinct : (r : Result (Option T) (T × Unit {0}))
+      → IfOk r (λ o. SetReplaces eq old new t (Ok o))
+      → IfErr r (RefusesEntry eq old new t tt) → IsDistinct eq (elements_of old)
+      → IsDistinct eq (elements_of new)
   replaces_distinct (Ok o) s f d =
-      subst (IsDistinct eq) (sym (set_replaces eq old new t o s).0) (IsDistinct-replaced eq laws (elements_of old) t d)
+      subst (IsDistinct eq) (sym (set_replaces eq old new t o s).0)
+      (IsDistinct-replaced eq laws (elements_of old) t d)
   replaces_distinct (Err p) s f d = subst (λ es. IsDistinct eq (keys_of es)) (sym f.grows.entries) d

@@ -6,6 +6,7 @@ use Rattle.std.specs.Map.Calls.{CallableOnEachPair}
 use Rattle.hashlink_model.specs.Sets.{SetState, at_element}
 
 -- f may be called at each element, as the calls at the elements before have left it
-abbrev pub CallableOnEachElement : {F T S : Type 0} → Mut F (Bor T × Unit {0}) Bool → F → SetState T S → Type 0
+abbrev pub CallableOnEachElement : {F T S : Type 0} → Mut F (Bor T × Unit {0}) Bool → F
+    → SetState T S → Type 0
 CallableOnEachElement calls f s =
     CallableOnEachPair (at_element (CalledAt calls)) (λ g t _. TakesAt calls g t) f s.entries

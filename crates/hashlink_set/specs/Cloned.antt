@@ -5,8 +5,8 @@ use Rattle.hashlink_model.specs.Compare.{elements_eq}
 use Rattle.hashlink_model.specs.Many.{MadeFrom}
 use Rattle.hashlink_model.specs.Sets.{SetState, elements_of, SetInserts}
 
--- a clone of each of ts was inserted in turn into an empty set, with a hasher of which H holds. So the set has ts
--- where clones are their sources, and is equal to ts where they are equal to them
+-- a clone of each of ts was inserted in turn into an empty set, with a hasher of which H holds. So the set
+-- has ts where clones are their sources, and is equal to ts where they are equal to them
 pub record IsOfClones {T S : Type 0} (eq : T → T → Bool) (clones-element : T → T → Type 0) (H : S → Type 0)
     (ts : List T) (new : SetState T S) : Type 0 where
   pub hash_builder : S

@@ -19,7 +19,8 @@ module _ {T S : Type 0} where
   pub sets_per : {eq : T → T → Bool} → IsPartialEquivalence eq → IsPartialEquivalence (sets_eq eq)
   sets_per a = on_per elements_of (lists_per a)
 
-  pub sets_alike : {W : Type 0} {eq : T → T → Bool} {hash : T → List W} → ((x y : T) → eq x y ≡ true → hash x ≡ hash y)
+  pub sets_alike : {W : Type 0} {eq : T → T → Bool} {hash : T → List W}
+      → ((x y : T) → eq x y ≡ true → hash x ≡ hash y)
       → (a b : SetState T S) → sets_eq eq a b ≡ true
       → set_hash_input hash a ≡ set_hash_input hash b
   sets_alike {W} {eq} {hash} alike a b = compared.elements_alike eq hash alike (elements_of a) (elements_of b)

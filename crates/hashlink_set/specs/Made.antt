@@ -14,10 +14,12 @@ module _ {T S : Type 0} (eq : T → T → Bool) where
   abbrev pub CanMakeAbsent : {F : Type 0} → Once F (Bor T × Unit {0}) T → F → SetState T S → T → Type 0
   CanMakeAbsent calls f s t =
       find (eq t) (elements_of s) ≡ None
-      → FnOnceTakesAt calls f t × ((x : T) → FnOnceReturnsAt calls f t x → is_member eq (elements_of s) x ≡ false)
+      → FnOnceTakesAt calls f t
+      × ((x : T) → FnOnceReturnsAt calls f t x → is_member eq (elements_of s) x ≡ false)
 
-  -- `get_or_insert_with`, by its answer, where `Makes x` says that the closure may make x: the element that is equal
-  -- to t moved to the end and is the answer, or there was none, and what was made went last or was refused
+  -- `get_or_insert_with`, by its answer, where `Makes x` says that the closure may make x: the element that
+  -- is equal to t moved to the end and is the answer, or there was none, and what was made went last or was
+  -- refused
   abbrev pub GetsOrMakes : (T → Type 0) → SetState T S → SetState T S → T → Result T T → Type 0
   GetsOrMakes Makes old new t r =
       MatchResult r

@@ -1,4 +1,5 @@
--- What a set ends as, once an element that was lent out of it has ended. Nothing can be written through what is lent.
+-- What a set ends as, once an element that was lent out of it has ended. Nothing can be written through what
+-- is lent.
 use Rattle.std.specs.Prelude.{◌≡◌, Bool, Option, Some, MatchOption, Result, Ok, Err, ⊤}
 use Rattle.std.specs.Borrow.{Fml, RattleType, Bor, MutBor, follows_so}
 use Rattle.std.specs.declared.hash.Hasher as hasher
@@ -21,7 +22,8 @@ PutsElement eq old new t o =
     MatchOption o ((b : Bool) × SetInserts eq old new t (Ok b)) (λ x. SetInserts eq old new t (Err x))
 
 -- `get_or_insert_with`, by what was made and refused, if it was; else the answer stands last
-abbrev pub MakesElement : {T S : Type 0} → (T → T → Bool) → (T → Type 0) → SetState T S → SetState T S → T → Option T
+abbrev pub MakesElement : {T S : Type 0} → (T → T → Bool) → (T → Type 0) → SetState T S
+    → SetState T S → T → Option T
     → Type 0
 MakesElement {T} eq Makes old new t o =
     MatchOption o
@@ -47,6 +49,7 @@ module _ (T S H : RattleType) (g : HashMembers T.Denot) (b : builder.Ghosts S.De
       abbrev pub EndsInserted : Result (Bor T.Denot) T.Denot → Fml
       EndsInserted r = EndsSo (λ new. GetsOrInserts g.eq s.now new t (as_seen r))
 
-      -- the set ends as `get_or_insert_with` leaves it, whose answer is this one, where the closure may make these
+      -- the set ends as `get_or_insert_with` leaves it, whose answer is this one, where the closure may make
+      -- these
       abbrev pub EndsMade : (T.Denot → Type 0) → Result (Bor T.Denot) T.Denot → Fml
       EndsMade Makes r = EndsSo (λ new. GetsOrMakes g.eq Makes s.now new t (as_seen r))

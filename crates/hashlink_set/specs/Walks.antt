@@ -1,4 +1,5 @@
--- What a contract sees of the lazy walks over two sets: what each has not looked at, and what it has left to give.
+-- What a contract sees of the lazy walks over two sets: what each has not looked at, and what it has left to
+-- give.
 use Rattle.std.specs.Prelude.{◌≡◌, Bool, true, not, List, filter, Option, option_copied}
 use Rattle.std.specs.Borrow.{Bor}
 use Rattle.std.specs.Map.Iter.{TakesFirst, deref}
@@ -21,7 +22,8 @@ module _ {T : Type 0} where
     pub leaves : new ≡ (first_passing p old).1
 
   -- the same of a walk over two sides
-  pub record LooksOnBoth (p q : T → Bool) (old : PairWalk T) (r : Option (Bor T)) (new : PairWalk T) : Type 0 where
+  pub record LooksOnBoth (p q : T → Bool) (old : PairWalk T) (r : Option (Bor T))
+      (new : PairWalk T) : Type 0 where
     pub gives : option_copied r ≡ (pair_step p q old).0
     pub leaves : new ≡ (pair_step p q old).1
 
@@ -39,7 +41,8 @@ module _ {T S H : Type 0} (eq : T → T → Bool) where
   abbrev pub difference_rest : Difference T S H → List T
   difference_rest d = filter (lacks eq (elements_of d.other.now)) d.iter
 
-  pub record DifferenceSteps (old : Difference T S H) (r : Option (Bor T)) (new : Difference T S H) : Type 0 where
+  pub record DifferenceSteps (old : Difference T S H) (r : Option (Bor T))
+      (new : Difference T S H) : Type 0 where
     pub takes : TakesFirst deref (difference_rest old) r (difference_rest new)
     pub looks : LooksOn (lacks eq (elements_of old.other.now)) old.iter r new.iter
     pub same_other : new.other.now ≡ old.other.now
@@ -76,7 +79,8 @@ module _ {T S H : Type 0} (eq : T → T → Bool) where
   pub record SymmetricDifferenceSteps (old : SymmetricDifference T S H) (r : Option (Bor T))
       (new : SymmetricDifference T S H) : Type 0 where
     pub takes : TakesFirst deref (symmetric_difference_rest old) r (symmetric_difference_rest new)
-    pub looks : LooksOnBoth (lacks eq (elements_of old.first.other.now)) (lacks eq (elements_of old.second.other.now))
+    pub looks : LooksOnBoth (lacks eq (elements_of old.first.other.now))
+        (lacks eq (elements_of old.second.other.now))
         (symmetric_difference_walk old) r (symmetric_difference_walk new)
     pub same_first : new.first.other.now ≡ old.first.other.now
     pub same_second : new.second.other.now ≡ old.second.other.now

@@ -1,8 +1,9 @@
-//! Set algebra, by lazy walks and by tests. None of these takes memory. A step of a walk hashes each element that it
-//! looks for in the other set, once.
+//! Set algebra, by lazy walks and by tests. None of these takes memory. A step of a walk hashes each element
+//! that it looks for in the other set, once.
 ghost use Rattle.std.specs.Prelude.{◌≡◌};
 ghost use Rattle.std.specs.List.{IsDistinct};
-ghost use Rattle.hashlink_model.specs.Algebra.{difference_of, intersection_of, union_of, symmetric_difference_of};
+ghost use Rattle.hashlink_model.specs.Algebra.{difference_of, intersection_of, union_of};
+ghost use Rattle.hashlink_model.specs.Algebra.{symmetric_difference_of};
 ghost use Rattle.hashlink_model.specs.Algebra.{is_subset, is_disjoint};
 ghost use Rattle.hashlink_model.specs.Sets.{elements_of};
 
@@ -55,7 +56,11 @@ impl<T: Eq + Hash, S: BuildHasher> LinkedHashSet<T, S> {
     pub fn union<'a>(&'a self, other: &'a Self) -> Union<'a, T, S>
         ensures rest { union_rest T.eq result ≡ union_of T.eq (elements_of self.now) (elements_of other.now) }
         ensures unique { IsDistinct T.eq (union_rest T.eq result) }
-        ensures walk { union_walk result ≡ record { left = elements_of self.now; right = elements_of other.now } }
+        ensures walk { union_walk result ≡ record {
+          left = elements_of self.now;
+          right =
+              elements_of other.now;
+        } }
         ensures other { result.second.other.now ≡ self.now }
     {
         Union {
@@ -80,15 +85,16 @@ impl<T: Eq + Hash, S: BuildHasher> LinkedHashSet<T, S> {
         }
     }
 
-    /// Whether no element of this set is in `other`. It looks for each element of this set, up to the first that is.
+    /// Whether no element of this set is in `other`. It looks for each element of this set, up to the first
+    /// that is.
     pub fn is_disjoint(&self, other: &Self) -> bool
         ensures { result ≡ is_disjoint T.eq (elements_of self.now) (elements_of other.now) }
     {
         self.intersection(other).next().is_none()
     }
 
-    /// Whether each element of this set is in `other`. It looks for each element of this set, up to the first that is
-    /// not.
+    /// Whether each element of this set is in `other`. It looks for each element of this set, up to the first
+    /// that is not.
     pub fn is_subset(&self, other: &Self) -> bool
         ensures { result ≡ is_subset T.eq (elements_of self.now) (elements_of other.now) }
     {

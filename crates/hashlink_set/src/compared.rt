@@ -1,11 +1,12 @@
-//! Sets compared and hashed: by their elements in order, whatever the hashers are. There is no order between sets.
+//! Sets compared and hashed: by their elements in order, whatever the hashers are. There is no order between
+//! sets.
 ghost use Rattle.hashlink_set.specs.Compared.{sets_eq, sets_per, sets_equiv, set_hash_input, sets_alike};
 
 use crate::set::LinkedHashSet;
 use std::hash::{BuildHasher, Hash, Hasher};
 
-/// Sets are equal where they have as many elements, and an equal one at each place. It takes a step for each element
-/// up to the first that differs.
+/// Sets are equal where they have as many elements, and an equal one at each place. It takes a step for each
+/// element up to the first that differs.
 impl<T: Eq + Hash, S: BuildHasher> PartialEq for LinkedHashSet<T, S> {
     ghost eq = { sets_eq T.eq };
 

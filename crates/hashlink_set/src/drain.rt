@@ -9,8 +9,8 @@ use hashlink_map::DefaultHashBuilder;
 use std::hash::{BuildHasher, Hash};
 use std::iter::FusedIterator;
 
-/// A walk that gives the elements of a set away, front first. At its end, early or not, the set is empty and every
-/// node is spare.
+/// A walk that gives the elements of a set away, front first. At its end, early or not, the set is empty and
+/// every node is spare.
 pub struct Drain<'a, T: Eq + Hash, S: BuildHasher = DefaultHashBuilder> {
     pub(crate) set: &'a mut LinkedHashSet<T, S>,
 }
@@ -29,8 +29,8 @@ impl<'a, T: Eq + Hash + Drop, S: BuildHasher> Drop for Drain<'a, T, S> {
 impl<T: Eq + Hash + Drop, S: BuildHasher> LinkedHashSet<T, S> {
     ghost use Rattle.hashlink_set.specs.Drain.{drained_set};
 
-    /// A walk that takes the elements out, front first. At its end, early or not, the set is empty. It takes constant
-    /// time and no memory.
+    /// A walk that takes the elements out, front first. At its end, early or not, the set is empty. It takes
+    /// constant time and no memory.
     pub fn drain(&mut self) -> Drain<'_, T, S>
         ensures same_set { (drained_set result).ghost_name ≡ self.entry.ghost_name }
         ensures unchanged { (drained_set result).now ≡ self.old }

@@ -16,8 +16,8 @@ use std::hash::{BuildHasher, Hash};
 impl<T: Eq + Hash + Drop, S: BuildHasher> LinkedHashSet<T, S> {
     /// Inserts each element in turn, as `insert` does. The iterator has to end.
     ///
-    /// Where the memory for an element is refused, those before it are in, it is handed back, and nothing after it is
-    /// read. No room is made before an element needs it.
+    /// Where the memory for an element is refused, those before it are in, it is handed back, and nothing
+    /// after it is read. No room is made before an element needs it.
     pub fn extend<I: IntoIterator<Item = T>>(&mut self, iter: I) -> Result<(), ExtendError<T, ()>>
         requires { IsFiniteIterable I.into_iter_gives I.IntoIter.can_next I.IntoIter.remaining iter }
         ensures all { OnOk result (ReadsAll I.into_iter_gives I.IntoIter.next_gives iter
@@ -29,8 +29,8 @@ impl<T: Eq + Hash + Drop, S: BuildHasher> LinkedHashSet<T, S> {
         self.extend_from(&mut rest)
     }
 
-    /// The same out of an iterator that its caller keeps: it is left with the elements after the refused one, or with
-    /// none.
+    /// The same out of an iterator that its caller keeps: it is left with the elements after the refused one,
+    /// or with none.
     pub fn extend_from<I: Iterator<Item = T>>(
         &mut self,
         iter: &mut I,
@@ -59,8 +59,8 @@ impl<T: Eq + Hash + Drop, S: BuildHasher> LinkedHashSet<T, S> {
 impl<'a, T: Eq + Hash + Copy + 'a, S: BuildHasher> LinkedHashSet<T, S> {
     /// Inserts a copy of each element in turn, as `extend` does.
     ///
-    /// Where the memory for an element is refused, those before it are in, its copy is handed back, and nothing after
-    /// it is read.
+    /// Where the memory for an element is refused, those before it are in, its copy is handed back, and
+    /// nothing after it is read.
     pub fn extend_ref<I: IntoIterator<Item = &'a T>>(
         &mut self,
         iter: I,

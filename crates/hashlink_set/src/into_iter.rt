@@ -12,8 +12,8 @@ use std::hash::{BuildHasher, Hash};
 use std::iter::FusedIterator;
 use std::marker::Model;
 
-/// A walk that gives the elements away, front first. Contracts see it as the list of the elements that it has left.
-/// Its end drops those that it has not given, and gives every node and the table back.
+/// A walk that gives the elements away, front first. Contracts see it as the list of the elements that it has
+/// left. Its end drops those that it has not given, and gives every node and the table back.
 #[derive(Drop)]
 pub struct IntoIter<T: Eq + Hash, S: BuildHasher = DefaultHashBuilder> {
     pub(crate) set: LinkedHashSet<T, S>,

@@ -1,10 +1,12 @@
-//! Sets that are made whole: of the items of an iterator, as a clone, and of clones of what two sets give together.
+//! Sets that are made whole: of the items of an iterator, as a clone, and of clones of what two sets give
+//! together.
 ghost use Rattle.std.specs.Prelude.{◌≡◌, List, [], Bool, Ok, IfOk, OnOk, OnErr, map};
 ghost use Rattle.std.specs.Borrow.{Bor};
 ghost use Rattle.std.specs.Iterator.{Drains, IsFinite, IsFiniteIterable};
 ghost use Rattle.std.specs.List.{AllZip};
 ghost use Rattle.std.specs.Map.Iter.{deref};
-ghost use Rattle.hashlink_model.specs.Algebra.{union_of, intersection_of, difference_of, symmetric_difference_of};
+ghost use Rattle.hashlink_model.specs.Algebra.{union_of, intersection_of, difference_of};
+ghost use Rattle.hashlink_model.specs.Algebra.{symmetric_difference_of};
 ghost use Rattle.hashlink_model.specs.Many.{MadeFrom};
 ghost use Rattle.hashlink_model.specs.Sets.{elements_of, SetInserts};
 ghost use Rattle.hashlink_map.specs.Cloning.{IsMadeOf};
@@ -17,8 +19,8 @@ use std::hash::{BuildHasher, Hash};
 use std::ops::{BitAnd, BitOr, BitXor, Sub};
 
 impl<T: Eq + Hash + Drop, S: BuildHasher + Default + Drop> LinkedHashSet<T, S> {
-    /// A set of the items, each inserted in turn as `insert` does, that hashes by `S::default()`. The iterator has to
-    /// end. No room is made before an item needs it.
+    /// A set of the items, each inserted in turn as `insert` does, that hashes by `S::default()`. The
+    /// iterator has to end. No room is made before an item needs it.
     ///
     /// It returns `AllocError` where the memory for an item is refused, and then nothing is left of the set.
     pub fn from_iter<I: IntoIterator<Item = T>>(alloc: Global, iter: I) -> Result<Self, AllocError>
@@ -45,13 +47,14 @@ impl<T: Eq + Hash + Drop, S: BuildHasher + Default + Drop> FromIterator<T> for L
 }
 
 impl<T: Eq + Hash + Clone, S: BuildHasher + Clone> LinkedHashSet<T, S> {
-    /// A set with a clone of the hasher, in which a clone of each element was inserted in turn, front first. It is in
-    /// the same allocator's memory, and has no spare node.
+    /// A set with a clone of the hasher, in which a clone of each element was inserted in turn, front first.
+    /// It is in the same allocator's memory, and has no spare node.
     ///
-    /// It returns `AllocError` where the memory for a clone or for a node is refused, and then nothing is left of the
-    /// new set. A clone of an empty set is not refused where that of its hasher is not.
+    /// It returns `AllocError` where the memory for a clone or for a node is refused, and then nothing is
+    /// left of the new set. A clone of an empty set is not refused where that of its hasher is not.
     pub fn clone(&self) -> Result<Self, AllocError>
-        ensures made { IfOk result (IsOfClones T.eq T.is_clone (S.is_clone self.now.hasher) (elements_of self.now)) }
+        ensures made { IfOk result (IsOfClones T.eq T.is_clone (S.is_clone self.now.hasher)
+            (elements_of self.now)) }
         ensures refused { OnErr result (S.is_infallible self.now.hasher → elements_of self.now ≡ [] → ⊥) }
     {
         let hash_builder = self.hasher().clone()?;
@@ -73,7 +76,8 @@ impl<T: Eq + Hash + Clone, S: BuildHasher + Clone> Clone for LinkedHashSet<T, S>
     }
 }
 
-/// A set that hashes by `hash_builder`, in which a clone of each element that `rest` gives was inserted in turn.
+/// A set that hashes by `hash_builder`, in which a clone of each element that `rest` gives was inserted in
+/// turn.
 fn of_clones<'a, T: Eq + Hash + Clone + 'a, S: BuildHasher + Drop, I: Iterator<Item = &'a T>>(
     alloc: Global,
     hash_builder: S,
@@ -106,8 +110,8 @@ impl<T: Eq + Hash + Clone, S: BuildHasher> LinkedHashSet<T, S> {
 
 /// `&a | &b`: clones of what `union` gives, in the left set's allocator's memory.
 ///
-/// It returns `AllocError` where the memory for a clone or for a node is refused, and then nothing is left of the new
-/// set.
+/// It returns `AllocError` where the memory for a clone or for a node is refused, and then nothing is left of
+/// the new set.
 impl<'a, 'b, T: Eq + Hash + Clone, S: BuildHasher + Default + Drop> BitOr<&'b LinkedHashSet<T, S>>
     for &'a LinkedHashSet<T, S> {
     type Output = Result<LinkedHashSet<T, S>, AllocError>;
@@ -122,8 +126,8 @@ impl<'a, 'b, T: Eq + Hash + Clone, S: BuildHasher + Default + Drop> BitOr<&'b Li
 
 /// `&a & &b`: clones of what `intersection` gives, in the left set's allocator's memory.
 ///
-/// It returns `AllocError` where the memory for a clone or for a node is refused, and then nothing is left of the new
-/// set.
+/// It returns `AllocError` where the memory for a clone or for a node is refused, and then nothing is left of
+/// the new set.
 impl<'a, 'b, T: Eq + Hash + Clone, S: BuildHasher + Default + Drop> BitAnd<&'b LinkedHashSet<T, S>>
     for &'a LinkedHashSet<T, S> {
     type Output = Result<LinkedHashSet<T, S>, AllocError>;
@@ -138,8 +142,8 @@ impl<'a, 'b, T: Eq + Hash + Clone, S: BuildHasher + Default + Drop> BitAnd<&'b L
 
 /// `&a ^ &b`: clones of what `symmetric_difference` gives, in the left set's allocator's memory.
 ///
-/// It returns `AllocError` where the memory for a clone or for a node is refused, and then nothing is left of the new
-/// set.
+/// It returns `AllocError` where the memory for a clone or for a node is refused, and then nothing is left of
+/// the new set.
 impl<'a, 'b, T: Eq + Hash + Clone, S: BuildHasher + Default + Drop> BitXor<&'b LinkedHashSet<T, S>>
     for &'a LinkedHashSet<T, S> {
     type Output = Result<LinkedHashSet<T, S>, AllocError>;
@@ -154,8 +158,8 @@ impl<'a, 'b, T: Eq + Hash + Clone, S: BuildHasher + Default + Drop> BitXor<&'b L
 
 /// `&a - &b`: clones of what `difference` gives, in the left set's allocator's memory.
 ///
-/// It returns `AllocError` where the memory for a clone or for a node is refused, and then nothing is left of the new
-/// set.
+/// It returns `AllocError` where the memory for a clone or for a node is refused, and then nothing is left of
+/// the new set.
 impl<'a, 'b, T: Eq + Hash + Clone, S: BuildHasher + Default + Drop> Sub<&'b LinkedHashSet<T, S>>
     for &'a LinkedHashSet<T, S> {
     type Output = Result<LinkedHashSet<T, S>, AllocError>;

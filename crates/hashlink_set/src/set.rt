@@ -1,5 +1,5 @@
-//! The set. A clause sees it as a map's state with nothing as value: its elements, front first, and the numbers of
-//! spare nodes, of room and of stored links.
+//! The set. A clause sees it as a map's state with nothing as value: its elements, front first, and the
+//! numbers of spare nodes, of room and of stored links.
 ghost use Rattle.std.specs.Prelude.{◌≡◌, ◌^◌, ◌<◌, ◌↔◌, length, IfOk, IsOk, IsTrue, Err};
 ghost use Rattle.std.specs.List.{IsDistinct};
 ghost use Rattle.hashlink_model.specs.MapState.{empty_map, HasRoom};
@@ -19,8 +19,8 @@ use std::alloc::Global;
 use std::hash::{BuildHasher, Hash};
 use std::marker::Model;
 
-/// A hash set whose elements stand in one order, front first. An insert puts its element last, and moves one that is
-/// there to the end.
+/// A hash set whose elements stand in one order, front first. An insert puts its element last, and moves one
+/// that is there to the end.
 #[derive(Drop)]
 pub struct LinkedHashSet<T: Eq + Hash, S: BuildHasher = DefaultHashBuilder> {
     pub(crate) map: LinkedHashMap<T, (), S>,
@@ -47,10 +47,11 @@ impl<T: Eq + Hash> LinkedHashSet<T, DefaultHashBuilder> {
         LinkedHashSet::with_hasher(alloc, DefaultHashBuilder)
     }
 
-    /// An empty set with room for so many elements, which hashes by `DefaultHasher`. For none it takes no memory.
+    /// An empty set with room for so many elements, which hashes by `DefaultHasher`. For none it takes no
+    /// memory.
     ///
-    /// It returns `CapacityOverflow` for more than 2 to the power of 62 elements, and `AllocError` where the memory is
-    /// refused.
+    /// It returns `CapacityOverflow` for more than 2 to the power of 62 elements, and `AllocError` where the
+    /// memory is refused.
     pub fn with_capacity(alloc: Global, capacity: usize) -> Result<Self, TryReserveError>
         ensures made { IfOk result (IsMadeWith capacity default_builder) }
         ensures none { capacity ≡ 0 → IsOk result }
@@ -71,10 +72,11 @@ impl<T: Eq + Hash, S: BuildHasher> LinkedHashSet<T, S> {
         }
     }
 
-    /// An empty set with room for so many elements that hashes by `hash_builder`. For none it takes no memory.
+    /// An empty set with room for so many elements that hashes by `hash_builder`. For none it takes no
+    /// memory.
     ///
-    /// It returns `CapacityOverflow` for more than 2 to the power of 62 elements, and `AllocError` where the memory is
-    /// refused.
+    /// It returns `CapacityOverflow` for more than 2 to the power of 62 elements, and `AllocError` where the
+    /// memory is refused.
     pub fn with_capacity_and_hasher(
         alloc: Global,
         capacity: usize,
@@ -108,7 +110,8 @@ impl<T: Eq + Hash, S: BuildHasher> LinkedHashSet<T, S> {
         self.len() == 0
     }
 
-    /// How many elements the set can have before its table has to grow. It takes constant time, and no memory.
+    /// How many elements the set can have before its table has to grow. It takes constant time, and no
+    /// memory.
     pub fn capacity(&self) -> usize
         ensures capacity { result ≡ self.now.room }
 

@@ -1,5 +1,6 @@
 -- What a write to the cells does to their chains.
-use Rattle.std.proofs.Common.{◌≡◌, ◌≢◌, ℕ, zero, suc, ◌+◌, ◌<◌, ◌≤◌, inl, inr, List, [], ◌∷◌, ◌++◌, map, length}
+use Rattle.std.proofs.Common.{◌≡◌, ◌≢◌, ℕ, zero, suc, ◌+◌, ◌<◌, ◌≤◌, inl, inr, List, [], ◌∷◌, ◌++◌, map}
+use Rattle.std.proofs.Common.{length}
 use Rattle.std.proofs.Common.{get_or, set, refl, sym, ap, ◌∙◌, arith}
 use Rattle.std.proofs.lemmas.Bool.{cases_eq, cases_lt}
 use Rattle.std.proofs.lemmas.List.{get_or-set_same, get_or-set_other, get_or_push, get_or-map, get_or_past}
@@ -9,7 +10,8 @@ use Rattle.hashlink_table.specs.Chains.{no_cell, kept_at, next_at, chain_of, cha
 use Rattle.hashlink_table.proofs.Threads.{IsOff, SameBut}
 
 -- one element more changes no other place
-push_other : {X : Type 0} (xs : List X) (y d : X) (j : ℕ) → j ≢ length xs → get_or (xs ++ y ∷ []) j d ≡ get_or xs j d
+push_other : {X : Type 0} (xs : List X) (y d : X) (j : ℕ) → j ≢ length xs → get_or (xs ++ y ∷ []) j d
+    ≡ get_or xs j d
 push_other [] y d zero ne = absurd (ne refl)
 push_other [] y d (suc j) ne = refl
 push_other (x ∷ xs) y d zero ne = refl
@@ -37,13 +39,15 @@ module _ {N : Type 0} where
   kept_at-set_other cells i c j ne = ap (λ (d : Cell N). d.kept) (get_or-set_other cells i j c no_cell ne)
 
   -- a write that changes no node keeps each node
-  pub kept_at-set_same : (cells : List (Cell N)) (i : ℕ) (c : Cell N) → i < length cells → c.kept ≡ kept_at cells i
+  pub kept_at-set_same : (cells : List (Cell N)) (i : ℕ) (c : Cell N) → i < length cells
+      → c.kept ≡ kept_at cells i
       → (j : ℕ)
       → kept_at (set cells i c) j ≡ kept_at cells j
-  kept_at-set_same cells i c h same j = elim (cases_eq j i) as (λ _. kept_at (set cells i c) j ≡ kept_at cells j) [
-    | inl e ↦ ap (kept_at (set cells i c)) e ∙ kept_at-set cells i c h ∙ same ∙ ap (kept_at cells) (sym e)
-    | inr ne ↦ kept_at-set_other cells i c j ne
-  ]
+  kept_at-set_same cells i c h same j = elim (cases_eq j i) as
+      (λ _. kept_at (set cells i c) j ≡ kept_at cells j) [
+        | inl e ↦ ap (kept_at (set cells i c)) e ∙ kept_at-set cells i c h ∙ same ∙ ap (kept_at cells) (sym e)
+        | inr ne ↦ kept_at-set_other cells i c j ne
+      ]
 
   -- a read under any default
   pub kept_at_read : (cells : List (Cell N)) (i : ℕ) (d : Cell N) → i < length cells
@@ -75,7 +79,8 @@ module _ {N : Type 0} where
       elim (cases_eq j i) as (λ _. chain_at buckets (set cells i c) j ≡ chain_at buckets cells j) [
         | inl e ↦ ap (chain_at buckets (set cells i c)) e ∙ chain_at-set buckets cells i c h
             ∙ ap (chain_of buckets) same
-            ∙ sym (get_or-map (label buckets) cells i no_cell (suc buckets) h) ∙ ap (chain_at buckets cells) (sym e)
+            ∙ sym (get_or-map (label buckets) cells i no_cell (suc buckets) h)
+            ∙ ap (chain_at buckets cells) (sym e)
         | inr ne ↦ chain_at-set_other buckets cells i c j ne
       ]
 
@@ -112,19 +117,22 @@ module _ {N : Type 0} where
   pub chain_at_past : (buckets : ℕ) (cells : List (Cell N)) (i : ℕ) → length cells ≤ i
       → chain_at buckets cells i ≡ suc buckets
   chain_at_past buckets cells i h =
-      get_or_past (map (label buckets) cells) i (suc buckets) (omega (arith, length-map cells (label buckets)))
+      get_or_past (map (label buckets) cells) i (suc buckets)
+      (omega (arith, length-map cells (label buckets)))
 
   pub chain_at_within : (buckets : ℕ) (cells : List (Cell N)) (i : ℕ) → i < length cells
       → chain_at buckets cells i ≡ chain_of buckets (kept_at cells i)
   chain_at_within buckets cells i h = get_or-map (label buckets) cells i no_cell (suc buckets) h
 
-  pub within_by_chain : (buckets : ℕ) (cells : List (Cell N)) (i b : ℕ) → chain_at buckets cells i ≡ b → b ≤ buckets
+  pub within_by_chain : (buckets : ℕ) (cells : List (Cell N)) (i b : ℕ) → chain_at buckets cells i
+      ≡ b → b ≤ buckets
       → i < length cells
   within_by_chain buckets cells i b e low = elim (cases_lt i (length cells)) as (λ _. i < length cells) [
     | inl h ↦ h
     | inr past ↦ absurd (let q = chain_at_past buckets cells i past in omega arith)
   ]
 
-  pub off_past : (chains buckets : ℕ) (cells : List (Cell N)) (i : ℕ) → chains ≡ buckets + 1 → length cells ≤ i
+  pub off_past : (chains buckets : ℕ) (cells : List (Cell N)) (i : ℕ) → chains
+      ≡ buckets + 1 → length cells ≤ i
       → IsOff chains (chain_at buckets cells) i
   off_past chains buckets cells i n h b low e = let q = chain_at_past buckets cells i h in omega arith

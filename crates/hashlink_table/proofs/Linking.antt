@@ -1,5 +1,6 @@
 -- What the functions of `src/links.rt` and the inserts and removes of a table do to the chains.
-use Rattle.std.proofs.Common.{◌≡◌, ◌≢◌, ℕ, suc, ◌+◌, ◌/◌, ◌^◌, max, inl, inr, ◌<◌, ◌≤◌, cond, eqb, List, [], ◌∷◌}
+use Rattle.std.proofs.Common.{◌≡◌, ◌≢◌, ℕ, suc, ◌+◌, ◌/◌, ◌^◌, max, inl, inr, ◌<◌, ◌≤◌, cond, eqb, List, []}
+use Rattle.std.proofs.Common.{◌∷◌}
 use Rattle.std.proofs.Common.{◌++◌, length, get_or, set, take, None, refl, sym, ap, ◌∙◌, subst, arith}
 use Rattle.std.proofs.lemmas.Bool.{eq-eqb, ne_eqb, cases_eq, cases_lt}
 use Rattle.std.proofs.lemmas.List.{get_or_append_left, get_or_at, length-set, length_push, length-take-le}
@@ -9,7 +10,8 @@ use Rattle.std.proofs.Math.Pow.{pow_mono}
 use Rattle.std.specs.Int.{IsPowerOfTwo}
 use Rattle.hashlink_table.specs.declared.cell.Cell.{Cell}
 use Rattle.hashlink_table.specs.declared.cell.TheConstants.{END}
-use Rattle.hashlink_table.specs.Chains.{next_at, chain_of, chain_at, kept_at, IsThreaded, IsLinked, IsLinkedBut}
+use Rattle.hashlink_table.specs.Chains.{next_at, chain_of, chain_at, kept_at, IsThreaded, IsLinked}
+use Rattle.hashlink_table.specs.Chains.{IsLinkedBut}
 use Rattle.hashlink_table.proofs.Paths.{first_among}
 use Rattle.hashlink_table.proofs.Threads.{IsOff, SameBut, take_first, take_next, put_first}
 use Rattle.hashlink_table.proofs.Cells.{next_at-set, next_at-set_other, next_at-push, next_at-push_other}
@@ -26,7 +28,8 @@ power_within p n power next small = elim (cases_lt power.0 63) as (λ _. p ≤ 2
   | inl low ↦ let most : 2 ^ power.0
       ≤ 2 ^ 62 = pow_mono {i = power.0} {j = 62} (omega arith) in omega (arith, power.1, most)
   | inr high ↦ let least : 2 ^ 63
-      ≤ 2 ^ power.0 = pow_mono {i = 63} {j = power.0} high in absurd (omega (arith, power.1, least, next, small))
+      ≤ 2 ^ power.0 = pow_mono {i = 63} {j = power.0} high in absurd
+      (omega (arith, power.1, least, next, small))
 ]
 
 -- what stands first in a chain is on it
@@ -80,7 +83,8 @@ module _ {N : Type 0} where
 
   -- one cell more with a node, in a new chaining
   pub more_taken : (heads : List ℕ) (cells : List (Cell N)) (free i b : ℕ) (c : Cell N) → b < length heads
-      → i < length cells → length cells < END → c.next ≡ get_or heads b END → chain_of (length heads) c.kept ≡ b
+      → i < length cells → length cells < END → c.next ≡ get_or heads b END
+      → chain_of (length heads) c.kept ≡ b
       → IsThreaded (heads ++ free ∷ []) (next_at cells) (chain_at (length heads) (take i cells))
       → IsThreaded (set heads b i ++ free ∷ []) (next_at (set cells i c))
       (chain_at (length (set heads b i)) (take (i + 1) (set cells i c)))
@@ -92,7 +96,8 @@ module _ {N : Type 0} where
       (next_at-set cells i c within ∙ leads ∙ sym (get_or_append_left heads (free ∷ []) END b low))
       (next_at-set_other cells i c) on in
       let Cells : List (Cell N) → Type 0
-      = λ cs. IsThreaded (set heads b i ++ free ∷ []) (next_at (set cells i c)) (chain_at (length (set heads b i)) cs)
+      = λ cs. IsThreaded (set heads b i ++ free ∷ []) (next_at (set cells i c))
+      (chain_at (length (set heads b i)) cs)
       in
       subst Cells (sym (take_more_set cells i c within))
       (with_head heads (next_at (set cells i c)) (take i cells ++ c ∷ []) free b i low t')
@@ -105,7 +110,8 @@ module _ {N : Type 0} where
       (chain_at (length heads) (take (i + 1) (set cells i c)))
   more_free heads cells free i c within small leads none t =
       let n : length (take i cells) ≡ i = length-take-le i cells (omega arith) in
-      let t' = join_new (heads ++ free ∷ []) (next_at cells) (next_at (set cells i c)) (length heads) i (length heads)
+      let t' = join_new (heads ++ free ∷ []) (next_at cells) (next_at (set cells i c))
+      (length heads) i (length heads)
       (take i cells) c n
       (length_push heads free) t (omega (arith, length_push heads free)) (λ e. omega arith)
       (next_at-set cells i c within ∙ leads ∙ sym (get_or_at heads free [] END (length heads) refl))
@@ -122,7 +128,8 @@ module _ {N : Type 0} where
       → IsLinked (set heads b (length cells)) (cells ++ c ∷ []) free
   linked-push heads cells free b c low small leads on t =
       with_head heads (next_at (cells ++ c ∷ [])) (cells ++ c ∷ []) free b (length cells) low
-      (join_new (heads ++ free ∷ []) (next_at cells) (next_at (cells ++ c ∷ [])) (length heads) (length cells) b cells
+      (join_new (heads ++ free ∷ []) (next_at cells) (next_at (cells ++ c ∷ [])) (length heads)
+      (length cells) b cells
       c refl
       (length_push heads free) t (omega (arith, length_push heads free)) (λ e. omega arith)
       (next_at-push cells c ∙ leads ∙ sym (get_or_append_left heads (free ∷ []) END b low))
@@ -140,7 +147,8 @@ module _ {N : Type 0} where
 
   -- an insert into the first free cell
   pub linked-reuse : (heads : List ℕ) (cells : List (Cell N)) (free b : ℕ) (c : Cell N) → b < length heads
-      → free < length cells → length cells < END → c.next ≡ get_or heads b END → chain_of (length heads) c.kept ≡ b
+      → free < length cells → length cells < END → c.next ≡ get_or heads b END
+      → chain_of (length heads) c.kept ≡ b
       → IsLinked heads cells free
       → IsLinked (set heads b free) (set cells free c) (next_at cells free)
   linked-reuse heads cells free b c low within small leads on t =
@@ -149,10 +157,12 @@ module _ {N : Type 0} where
       let mid = apart_from free none (chain_at (length heads) cells) in
       let off : (starts : List ℕ) → length starts ≡ length heads + 1 → IsOff (length starts) mid free =
       λ starts n b' h e. let q = apart_here free none (chain_at (length heads) cells) in omega arith in
-      let taken = take_first (heads ++ free ∷ []) (next_at cells) (chain_at (length heads) cells) mid (length heads)
+      let taken = take_first (heads ++ free ∷ []) (next_at cells) (chain_at (length heads) cells) mid
+      (length heads)
       free t
       (omega (arith, length_push heads free)) (get_or_at heads free [] END (length heads) refl) ne
-      (free_on heads cells free t ne) (off (heads ++ free ∷ []) (length_push heads free)) (apart_there free none _) in
+      (free_on heads cells free t ne) (off (heads ++ free ∷ []) (length_push heads free))
+      (apart_there free none _) in
       let Starts : List ℕ → Type 0 = λ starts. IsThreaded starts (next_at cells) mid in
       let later = next_at cells free in
       let rest = subst Starts (set_at heads free [] later (length heads) refl) taken in
@@ -201,7 +211,8 @@ module _ {N : Type 0} where
       let Starts : List ℕ → Type 0 = λ starts. IsThreaded starts (next_at cells) now in
       subst Starts (set-append_left heads (free ∷ []) b (next_at cells i) low)
       (take_first (heads ++ free ∷ []) (next_at cells) (chain_at (length heads) cells) now b i t
-      (omega (arith, length_push heads free)) (get_or_append_left heads (free ∷ []) END b low ∙ first) ne on off'
+      (omega (arith, length_push heads free)) (get_or_append_left heads (free ∷ []) END b low ∙ first)
+      ne on off'
       same')
 
   -- the cell after p is taken out
@@ -215,7 +226,8 @@ module _ {N : Type 0} where
       = λ b' h. off b' (omega (arith, h, length_push heads free)) in
       let same' : SameBut i (chain_at (length heads) cells) now
       = λ j ne'. same j ne' ∙ chain_at-set_same (length heads) cells p c within alike j in
-      take_next (heads ++ free ∷ []) (next_at cells) (next_at (set cells p c)) (chain_at (length heads) cells) now p i
+      take_next (heads ++ free ∷ []) (next_at cells) (next_at (set cells p c))
+      (chain_at (length heads) cells) now p i
       t
       leads (next_at-set cells p c within ∙ cut) (next_at-set_other cells p c) ne on off' same'
 
@@ -236,7 +248,8 @@ module _ {N : Type 0} where
       ]
 
   pub head_small : (heads : List ℕ) (next : ℕ → ℕ) (cells : List (Cell N)) (free b : ℕ)
-      → IsThreaded (heads ++ free ∷ []) next (chain_at (length heads) cells) → b < length heads → length cells ≤ END
+      → IsThreaded (heads ++ free ∷ []) next (chain_at (length heads) cells) → b < length heads
+      → length cells ≤ END
       → get_or heads b END ≤ END
   head_small heads next cells free b t h few =
       omega (

@@ -1,5 +1,6 @@
 -- Paths of links: they have no choice and no loop, and lose a cell by one link.
-use Rattle.std.proofs.Common.{◌≡◌, ◌≢◌, ℕ, suc, ◌<◌, ◌≤◌, Bool, true, false, cond, inl, inr, List, [], ◌∷◌, length}
+use Rattle.std.proofs.Common.{◌≡◌, ◌≢◌, ℕ, suc, ◌<◌, ◌≤◌, Bool, true, false, cond, inl, inr, List, [], ◌∷◌}
+use Rattle.std.proofs.Common.{length}
 use Rattle.std.proofs.Common.{get_or, set, count_by, refl, sym, ap, ◌∙◌, subst, arith}
 use Rattle.std.proofs.lemmas.Bool.{cases_lt, true≢false}
 use Rattle.std.proofs.lemmas.List.{get_or-set_other, get_or_past}
@@ -32,7 +33,8 @@ path_from next from i (x ∷ xs) p m =
 pub no_repeat : (next : ℕ → ℕ) (from x : ℕ) (xs : List ℕ) → IsPath next from (x ∷ xs) → Among xs x → ⊥
 no_repeat next from x xs p m =
     let r = path_from next (next x) x xs p.2 m in
-    let same : length r.0 ≡ suc (length xs) = ap length (path_unique next x r.0 (x ∷ xs) r.1 (refl, p.1, p.2)) in
+    let same : length r.0 ≡ suc (length xs) =
+    ap length (path_unique next x r.0 (x ∷ xs) r.1 (refl, p.1, p.2)) in
     omega (arith, r.2, same)
 
 -- a path does not read the links of other cells
@@ -41,8 +43,12 @@ pub path_same : (next later : ℕ → ℕ) (from : ℕ) (xs : List ℕ) → ((j 
     → IsPath later from xs
 path_same next later from [] same p = p
 path_same next later from (x ∷ xs) same p =
-    let Path : ℕ → Type 0 = λ n. IsPath later n xs in
-    (p.0, p.1, subst Path (sym (same x (inl refl))) (path_same next later (next x) xs (λ j m. same j (inr m)) p.2))
+    let Path : ℕ → Type 0 = λ n. IsPath later n xs in (
+      p.0,
+      p.1,
+      subst Path (sym (same x (inl refl))) (path_same next later (next x) xs
+          (λ j m. same j (inr m)) p.2),
+    )
 
 -- a path that has begun is at a cell of its own
 pub first_among : (next : ℕ → ℕ) (from : ℕ) (xs : List ℕ) → IsPath next from xs → from ≢ END → Among xs from
@@ -78,7 +84,8 @@ path_without_first next i (x ∷ xs) p ne =
       linked = subst Path (sym p.0) p.2;
       inside = λ j m. (inr m, λ e. no_repeat next i x xs p (subst (Among xs) (e ∙ p.0) m));
       whole =
-          λ j m apart. elim m as (λ _. Among xs j) [ inl e ↦ absurd (apart (sym e ∙ sym p.0)) | inr later ↦ later ];
+          λ j m apart. elim m as (λ _. Among xs j)
+          [ inl e ↦ absurd (apart (sym e ∙ sym p.0)) | inr later ↦ later ];
     }
 
 -- the two last cells of the cut
@@ -126,7 +133,8 @@ path_without_next next later p i from (x ∷ xs) leads cut others ne path m =
               | inl e ↦ (
                 inl e,
                 λ q. once
-                    (subst (Among xs) (leads ∙ sym q ∙ sym e) (next_among next (next x) p xs path.2 m goes_on)),
+                    (subst (Among xs) (leads ∙ sym q ∙ sym e)
+                    (next_among next (next x) p xs path.2 m goes_on)),
               )
               | inr k ↦ let r = rest.inside j k in (inr r.0, r.1)
             ];

@@ -12,7 +12,8 @@ pub same_Err : {T E : Type 0} (a b : E) → ◌≡◌ {A = Result T E} (Err a) (
 same_Err a b e = cc
 
 -- refused memory is no overflow
-pub no_overflow : {T : Type 0} (r : Result T TryReserveError) → r ≡ Err AllocError → r ≡ Err CapacityOverflow → ⊥
+pub no_overflow : {T : Type 0} (r : Result T TryReserveError) → r ≡ Err AllocError → r
+    ≡ Err CapacityOverflow → ⊥
 no_overflow r is e =
     let both : ◌≡◌ {A = TryReserveError} AllocError CapacityOverflow
     = same_Err AllocError CapacityOverflow (sym is ∙ e) in

@@ -1,6 +1,8 @@
 -- The fields of a table agree after each of its functions.
-use Rattle.std.proofs.Common.{◌≡◌, ◌≢◌, ℕ, zero, suc, ◌+◌, ◌-◌, ◌%◌, ◌^◌, ◌<◌, ◌≤◌, Bool, true, cond, inl, inr, List}
-use Rattle.std.proofs.Common.{[], ◌∷◌, ◌++◌, length, get_or, set, replicate, Option, Some, None, is_some, count_by}
+use Rattle.std.proofs.Common.{◌≡◌, ◌≢◌, ℕ, zero, suc, ◌+◌, ◌-◌, ◌%◌, ◌^◌, ◌<◌, ◌≤◌, Bool, true, cond, inl}
+use Rattle.std.proofs.Common.{inr, List}
+use Rattle.std.proofs.Common.{[], ◌∷◌, ◌++◌, length, get_or, set, replicate, Option, Some, None, is_some}
+use Rattle.std.proofs.Common.{count_by}
 use Rattle.std.proofs.Common.{refl, sym, ap, ◌∙◌, subst, arith}
 use Rattle.std.proofs.lemmas.Bool.{cases_lt}
 use Rattle.std.proofs.lemmas.List.{get_or_at, get_or_past, get_or_append_left, get_or-replicate, length-set}
@@ -12,7 +14,8 @@ use Rattle.hashlink_table.specs.declared.cell.Cell.{Cell}
 use Rattle.hashlink_table.specs.declared.cell.TheConstants.{END}
 use Rattle.std.specs.FinMap.{len}
 use Rattle.hashlink_table.specs.Contents.{Contents}
-use Rattle.hashlink_table.specs.Chains.{no_cell, kept_at, next_at, chain_of, chain_at, taken, Among, IsPath, IsLinked}
+use Rattle.hashlink_table.specs.Chains.{no_cell, kept_at, next_at, chain_of, chain_at, taken, Among, IsPath}
+use Rattle.hashlink_table.specs.Chains.{IsLinked}
 use Rattle.hashlink_table.specs.Chains.{IsFit, IsLinkedBut, IsPlaced, IsSound, SameNodes}
 use Rattle.hashlink_table.specs.Heads.{Starts}
 use Rattle.hashlink_table.proofs.Cells.{kept_at-set, kept_at-set_other, kept_at-push, kept_at-push_other}
@@ -21,7 +24,8 @@ use Rattle.hashlink_table.proofs.Linking.{linked-push, linked-reuse, linked-give
 use Rattle.hashlink_table.proofs.Views.{len-contents, contents_kept, within_by_node}
 
 -- where each element passes, as many pass as there are
-count_all : {X : Type 0} (p : X → Bool) (xs : List X) (d : X) → ((i : ℕ) → i < length xs → p (get_or xs i d) ≡ true)
+count_all : {X : Type 0} (p : X → Bool) (xs : List X) (d : X)
+    → ((i : ℕ) → i < length xs → p (get_or xs i d) ≡ true)
     → count_by p xs ≡ length xs
 count_all p [] d pass = refl
 count_all p (x ∷ xs) d pass =
@@ -38,7 +42,8 @@ none_from_end next from (x ∷ xs) linked e j m = linked.1 (sym linked.0 ∙ e)
 
 module _ {N : Type 0} where
   -- where no cell is free, each has a node
-  all_taken : (heads : List ℕ) (cells : List (Cell N)) (free : ℕ) → IsLinked heads cells free → free ≡ END → (i : ℕ)
+  all_taken : (heads : List ℕ) (cells : List (Cell N)) (free : ℕ) → IsLinked heads cells free
+      → free ≡ END → (i : ℕ)
       → i < length cells
       → is_some (kept_at cells i) ≡ true
   all_taken heads cells free linked e i h =
@@ -64,7 +69,8 @@ module _ {N : Type 0} where
       → IsSound heads cells capacity free len room → free ≢ END
       → free < length cells
   within_by_free {heads} {cells} {free = free} s ne =
-      within_by_chain (length heads) cells free (length heads) (free_on heads cells free s.linked ne) (omega arith)
+      within_by_chain (length heads) cells free (length heads) (free_on heads cells free s.linked ne)
+      (omega arith)
 
   -- the chain of the free cells has no node
   chain_none : (buckets : ℕ) (k : Option (Kept N)) → 0 < buckets → chain_of buckets k ≡ buckets → k ≡ None
@@ -76,7 +82,8 @@ module _ {N : Type 0} where
       → kept_at cells free ≡ None
   free_none {heads} {cells} {free = free} s some ne =
       chain_none (length heads) (kept_at cells free) some
-      (sym (chain_at_within (length heads) cells free (within_by_free s ne)) ∙ free_on heads cells free s.linked ne)
+      (sym (chain_at_within (length heads) cells free (within_by_free s ne))
+      ∙ free_on heads cells free s.linked ne)
 
   -- past the last cell there is no node
   pub kept_at_past : (cells : List (Cell N)) (i : ℕ) → length cells ≤ i → kept_at cells i ≡ None
@@ -107,9 +114,10 @@ module _ {N : Type 0} where
     pub others : (j : ℕ) → j ≢ at → kept_at new j ≡ kept_at old j
     pub small : at < 2 ^ 47
 
-  pub inserted_by : (heads : List ℕ) (cells later : List (Cell N)) (capacity free now len room at : ℕ) (c : Cell N)
-      (k : Kept N)
-      → IsSound heads cells capacity free len room → len < room → IsPlaced cells later free now c at → c.kept ≡ Some k
+  pub inserted_by : (heads : List ℕ) (cells later : List (Cell N)) (capacity free now len room at : ℕ)
+      (c : Cell N) (k : Kept N)
+      → IsSound heads cells capacity free len room → len < room → IsPlaced cells later free now c at
+      → c.kept ≡ Some k
       → IsInserted cells later k at
   inserted_by heads cells later capacity free now len room at c k s more placed kept =
       elim placed as (λ _. IsInserted cells later k at) [
@@ -130,21 +138,26 @@ module _ {N : Type 0} where
       ]
 
   -- after an insert each cell's number fits into a head
-  pub placed_fit : (heads : Starts) (cells later : List (Cell N)) (capacity free now len room at : ℕ) (c : Cell N)
+  pub placed_fit : (heads : Starts) (cells later : List (Cell N)) (capacity free now len room at : ℕ)
+      (c : Cell N)
       → IsFit heads cells room → IsSound heads.firsts cells capacity free len room → len < room
       → IsPlaced cells later free now c at
       → (at < heads.most) × (length later ≤ heads.most)
   placed_fit heads cells later capacity free now len room at c fit s more placed =
       elim placed as (λ _. (at < heads.most) × (length later ≤ heads.most)) [
         | inl p ↦ let full = full_by_free s p.0 in
-            rw (p.2, p.1) (omega (arith, full, more, fit.1), omega (arith, full, more, fit.1, length_push cells c))
+            rw (p.2, p.1) (
+              omega (arith, full, more, fit.1),
+              omega (arith, full, more, fit.1, length_push cells c),
+            )
         | inr p ↦ let within = within_by_free s p.0 in
             rw (p.2, p.1) (omega (arith, within, fit.0), omega (arith, fit.0, length-set cells free c))
       ]
 
-  pub sound-insert : (heads : List ℕ) (cells later : List (Cell N)) (capacity free now len room at b : ℕ) (c : Cell N)
-      (k : Kept N)
-      → IsSound heads cells capacity free len room → len < room → IsPlaced cells later free now c at → c.kept ≡ Some k
+  pub sound-insert : (heads : List ℕ) (cells later : List (Cell N)) (capacity free now len room at b : ℕ)
+      (c : Cell N) (k : Kept N)
+      → IsSound heads cells capacity free len room → len < room → IsPlaced cells later free now c at
+      → c.kept ≡ Some k
       → b ≡ k.hash % length heads → c.next ≡ get_or heads b END
       → IsSound (set heads b at) later capacity now (len + 1) room
   sound-insert heads cells later capacity free now len room at b c k s more placed kept bucket leads =
@@ -159,8 +172,13 @@ module _ {N : Type 0} where
             rw (p.2, p.1, e) (record {
               linked = linked-push heads cells free b c low few leads on s.linked;
               counted =
-                  omega
-                  (arith, s.counted, added, sum_by_push (λ (d : Cell N). cond {A = ℕ} (is_some d.kept) 1 0) cells c);
+                  omega (
+                    arith,
+                    s.counted,
+                    added,
+                    sum_by_push
+                        (λ (d : Cell N). cond {A = ℕ} (is_some d.kept) 1 0) cells c,
+                  );
               held = omega arith;
               headed = omega (arith, s.headed, length-set heads b (length cells));
               reserved = s.reserved;
@@ -191,14 +209,18 @@ module _ {N : Type 0} where
 
   pub sound-remove : (heads later_heads : List ℕ) (cells later : List (Cell N)) (capacity free len room i : ℕ)
       (c : Cell N) (k : Kept N)
-      → IsSound heads cells capacity free len room → kept_at cells i ≡ Some k → IsLinkedBut later_heads later free i
-      → length later_heads ≡ length heads → length later ≡ length cells → SameNodes cells later → c.next ≡ free
+      → IsSound heads cells capacity free len room → kept_at cells i ≡ Some k
+      → IsLinkedBut later_heads later free i
+      → length later_heads ≡ length heads → length later ≡ length cells
+      → SameNodes cells later → c.next ≡ free
       → c.kept ≡ None
       → IsSound later_heads (set later i c) capacity i (len - 1) room
-  sound-remove heads later_heads cells later capacity free len room i c k s at unlinked hs cs same leads none =
+  sound-remove heads later_heads cells later capacity free len room i c k s at unlinked
+      hs cs same leads none =
       let within : i < length later = omega (arith, within_by_node cells i k at, cs) in
       record {
-        linked = linked-give later_heads later free i c within (omega (arith, s.cells_small, cs)) leads none unlinked;
+        linked = linked-give later_heads later free i c within (omega (arith, s.cells_small, cs))
+            leads none unlinked;
         counted =
             omega (
               arith,
@@ -233,10 +255,12 @@ module _ {N : Type 0} where
         linked = first;
         inside = λ i m. absurd m;
         whole =
-            λ i e. absurd (let off = ap (λ (cs : List (Cell N)). chain_at (length heads) cs i) none in omega arith);
+            λ i e. absurd (let off = ap (λ (cs : List (Cell N)). chain_at (length heads) cs i)
+            none in omega arith);
       }
 
-  pub sound-none : (heads : List ℕ) (cells : List (Cell N)) (capacity room : ℕ) → heads ≡ replicate (length heads) END
+  pub sound-none : (heads : List ℕ) (cells : List (Cell N)) (capacity room : ℕ) → heads
+      ≡ replicate (length heads) END
       → cells ≡ [] → room ≤ length heads → room ≤ capacity → length heads ≤ 2 ^ 47
       → (0 < length heads → IsPowerOfTwo (length heads))
       → IsSound heads cells capacity END 0 room
@@ -258,8 +282,8 @@ module _ {N : Type 0} where
       → length later ≤ length cells → len ≤ now_room → now_room ≤ length now_heads → now_room ≤ now_capacity
       → length now_heads ≤ 2 ^ 47 → IsPowerOfTwo (length now_heads)
       → IsSound now_heads later now_capacity now len now_room
-  sound-relink heads now_heads cells later capacity now_capacity free now len room now_room s linked same fewer held
-      headed reserved small power = record {
+  sound-relink heads now_heads cells later capacity now_capacity free now len room now_room
+      s linked same fewer held headed reserved small power = record {
         linked = linked;
         counted = s.counted ∙ sym (taken-same cells later same);
         held = held;

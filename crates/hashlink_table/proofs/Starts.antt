@@ -1,5 +1,6 @@
 -- What writes to the stored heads do to what contracts see of them.
-use Rattle.std.proofs.Common.{◌≡◌, ◌≢◌, ℕ, zero, suc, ◌-◌, ◌%◌, ◌^◌, ◌<◌, cond, inl, inr, List, ◌∷◌, map, length}
+use Rattle.std.proofs.Common.{◌≡◌, ◌≢◌, ℕ, zero, suc, ◌-◌, ◌%◌, ◌^◌, ◌<◌, cond, inl, inr, List, ◌∷◌, map}
+use Rattle.std.proofs.Common.{length}
 use Rattle.std.proofs.Common.{replicate, set, refl, sym, ap, ◌∙◌, arith}
 use Rattle.std.proofs.lemmas.Bool.{ne_eqb, cases_eq}
 use Rattle.std.proofs.lemmas.List.{length-map, map-set}
@@ -18,7 +19,8 @@ map-replicate f zero x = refl
 map-replicate f (suc n) x = ap (λ xs. f x ∷ xs) (map-replicate f n x)
 
 -- short heads that lead nowhere
-pub short_bare : (heads : List ℕ) (n : ℕ) → heads ≡ replicate n (2 ^ 32 - 1) → map widened heads ≡ replicate n END
+pub short_bare : (heads : List ℕ) (n : ℕ) → heads ≡ replicate n (2 ^ 32 - 1)
+    → map widened heads ≡ replicate n END
 short_bare heads n is = ap (map widened) is ∙ map-replicate widened n (2 ^ 32 - 1)
 
 pub short_cleared : (heads later : List ℕ) (n : ℕ) (now : Starts) → short heads ≡ now
@@ -64,4 +66,5 @@ short_set heads b to now view fits =
 
 pub long_set : (heads : List ℕ) (b to : ℕ) (now : Starts) → long heads ≡ now
     → long (set heads b to) ≡ record now { firsts = set now.firsts b to }
-long_set heads b to now view = ap (λ (s : Starts). let t : Starts = record s { firsts = set s.firsts b to } in t) view
+long_set heads b to now view =
+    ap (λ (s : Starts). let t : Starts = record s { firsts = set s.firsts b to } in t) view

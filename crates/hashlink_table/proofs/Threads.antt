@@ -1,5 +1,6 @@
 -- All chains at once: a cell leaves its chain, and joins another.
-use Rattle.std.proofs.Common.{◌≡◌, ◌≢◌, ℕ, ◌<◌, inl, inr, List, ◌∷◌, length, get_or, set, refl, sym, ap, ◌∙◌, subst}
+use Rattle.std.proofs.Common.{◌≡◌, ◌≢◌, ℕ, ◌<◌, inl, inr, List, ◌∷◌, length, get_or, set, refl, sym, ap, ◌∙◌}
+use Rattle.std.proofs.Common.{subst}
 use Rattle.std.proofs.Common.{arith}
 use Rattle.std.proofs.lemmas.Bool.{cases_eq}
 use Rattle.std.proofs.lemmas.List.{get_or-set_same, get_or-set_other, length-set}
@@ -16,7 +17,8 @@ abbrev pub SameBut : ℕ → (ℕ → ℕ) → (ℕ → ℕ) → Type 0
 SameBut i old new = (j : ℕ) → j ≢ i → new j ≡ old j
 
 -- a chain from which nothing is taken, and to which nothing comes
-chain_same : (next later chain now : ℕ → ℕ) (from b i : ℕ) → IsChain next chain from b → chain i ≢ b → now i ≢ b
+chain_same : (next later chain now : ℕ → ℕ) (from b i : ℕ) → IsChain next chain from b
+    → chain i ≢ b → now i ≢ b
     → SameBut i chain now → ((j : ℕ) → chain j ≡ b → later j ≡ next j)
     → IsChain later now from b
 chain_same next later chain now from b i c off gone same links = record {
@@ -47,8 +49,12 @@ chain_with next later chain now from b i c ne off leads links joins same =
     let Path : ℕ → Type 0 = λ n. IsPath later n c.path in
     record {
       path = i ∷ c.path;
-      linked =
-          (refl, ne, subst Path (sym leads) (path_same next later from c.path (λ j m. links j (apart j m)) c.linked));
+      linked = (
+        refl,
+        ne,
+        subst Path (sym leads) (path_same next later from c.path
+            (λ j m. links j (apart j m)) c.linked),
+      );
       inside = λ j m. elim m as (λ _. now j ≡ b) [
         | inl e ↦ ap now (sym e) ∙ joins
         | inr m ↦ same j (apart j m) ∙ c.inside j m
@@ -65,7 +71,8 @@ start_cases : (P : ℕ → Type 0) (starts : List ℕ) (a b x : ℕ) → b < len
     → P (get_or (set starts a x) b END)
 start_cases P starts a b x h here there = elim (cases_eq b a) as (λ _. P (get_or (set starts a x) b END)) [
   | inl e ↦ let within : a < length starts = omega arith in
-      subst P (sym (ap (λ n. get_or (set starts a x) n END) e ∙ get_or-set_same starts a x END within)) (here e)
+      subst P (sym (ap (λ n. get_or (set starts a x) n END) e ∙ get_or-set_same starts a x END within))
+      (here e)
   | inr ne ↦ subst P (sym (get_or-set_other starts a b x END ne)) (there ne)
 ]
 
@@ -79,13 +86,15 @@ take_first starts next chain now a i t within first ne on off same b h =
     start_cases (λ from. IsChain next now from b) starts a b (next i) below
     (λ e. let c = t b below in
     let From : ℕ → Type 0 = λ n. IsPath next n c.path in
-    let w = path_without_first next i c.path (subst From (ap (λ n. get_or starts n END) e ∙ first) c.linked) ne in
+    let w = path_without_first next i c.path
+    (subst From (ap (λ n. get_or starts n END) e ∙ first) c.linked) ne in
     chain_without next next chain now _ _ b i c w (off b below) same)
     (λ other. chain_same next next chain now _ b i (t b below) (λ e. other (sym e ∙ on)) (off b below) same
     (λ j _. refl))
 
 -- the cell after p leaves their chain
-pub take_next : (starts : List ℕ) (next later chain now : ℕ → ℕ) (p i : ℕ) → IsThreaded starts next chain → next p ≡ i
+pub take_next : (starts : List ℕ) (next later chain now : ℕ → ℕ) (p i : ℕ)
+    → IsThreaded starts next chain → next p ≡ i
     → later p ≡ next i → SameBut p next later → i ≢ END → chain i ≡ chain p → IsOff (length starts) now i
     → SameBut i chain now
     → IsThreaded starts later now
@@ -108,5 +117,6 @@ put_first starts next later chain now a i t within ne off leads links joins same
     start_cases (λ from. IsChain later now from b) starts a b i below
     (λ e. chain_with next later chain now _ b i (t b below) ne (off b below)
     (leads ∙ ap (λ n. get_or starts n END) (sym e)) links (joins ∙ sym e) same)
-    (λ other. chain_same next later chain now _ b i (t b below) (off b below) (λ e. other (sym e ∙ joins)) same
+    (λ other. chain_same next later chain now _ b i (t b below) (off b below)
+    (λ e. other (sym e ∙ joins)) same
     (λ j e. links j (λ q. off b below (ap chain (sym q) ∙ e))))

@@ -1,6 +1,8 @@
 -- What a contract sees of cells: the node under each number, and how many there are.
-use Rattle.std.proofs.Common.{◌≡◌, ◌≢◌, ℕ, zero, suc, ◌+◌, ◌%◌, ◌<◌, Bool, true, false, cond, eqb, List, [], ◌∷◌, map}
-use Rattle.std.proofs.Common.{length, get_or, Option, Some, None, is_some, IsSome, IfNone, count_by, refl, sym, ap}
+use Rattle.std.proofs.Common.{◌≡◌, ◌≢◌, ℕ, zero, suc, ◌+◌, ◌%◌, ◌<◌, Bool, true, false, cond, eqb, List, []}
+use Rattle.std.proofs.Common.{◌∷◌, map}
+use Rattle.std.proofs.Common.{length, get_or, Option, Some, None, is_some, IsSome, IfNone, count_by, refl}
+use Rattle.std.proofs.Common.{sym, ap}
 use Rattle.std.proofs.Common.{◌∙◌, subst, inl, inr, arith}
 use Rattle.std.proofs.lemmas.Bool.{eq-eqb, ne_eqb, cases_eq, cases_lt, and_from, false≢true}
 use Rattle.std.proofs.lemmas.Float.{T_from_true}
@@ -10,8 +12,10 @@ use Rattle.std.proofs.lemmas.List.Sums.{sum_by-cons, get_or-le-sum_by}
 use Rattle.std.specs.Ordering.{nat_cmp, eq_by_cmp, is_lt}
 use Rattle.std.specs.Cmp.{nat_cmp_total, nat_cmp_is, unsigned_tied}
 use Rattle.std.specs.declared.cmp.Ordering.TheVariants.{Less}
-use Rattle.std.specs.FinMap.{get, len, insert, remove, entries, find, is_sorted, entries-from_sorted, get-from_sorted}
-use Rattle.std.specs.FinMap.{empty, get-empty, get-insert, get-remove, len-entries, same_map, nat_cmp-IsAntisymmetric}
+use Rattle.std.specs.FinMap.{get, len, insert, remove, entries, find, is_sorted, entries-from_sorted}
+use Rattle.std.specs.FinMap.{get-from_sorted}
+use Rattle.std.specs.FinMap.{empty, get-empty, get-insert, get-remove, len-entries, same_map}
+use Rattle.std.specs.FinMap.{nat_cmp-IsAntisymmetric}
 use Rattle.std.specs.FinMap.Entries.{below_all}
 use Rattle.hashlink_table.specs.declared.kept.Kept.{Kept}
 use Rattle.hashlink_table.specs.declared.cell.Cell.{Cell}
@@ -49,7 +53,8 @@ module _ {N : Type 0} where
         | Some k ↦ and_from _ _ (lower_key key first h) rest
       ]
 
-  is_sorted-entries_from : (first : ℕ) (cells : List (Cell N)) → is_sorted nat_cmp (entries_from first cells) ≡ true
+  is_sorted-entries_from : (first : ℕ) (cells : List (Cell N))
+      → is_sorted nat_cmp (entries_from first cells) ≡ true
   is_sorted-entries_from first [] = refl
   is_sorted-entries_from first (c ∷ cs) =
       elim c.kept as (λ k. is_sorted nat_cmp (with_entry first k (entries_from (suc first) cs)) ≡ true) [
@@ -62,7 +67,8 @@ module _ {N : Type 0} where
       → find nat_cmp key (entries_from first cells) ≡ None
   find_below key first [] h = refl
   find_below key first (c ∷ cs) h =
-      let rest : find nat_cmp key (entries_from (suc first) cs) ≡ None = find_below key (suc first) cs (omega arith) in
+      let rest : find nat_cmp key (entries_from (suc first) cs)
+      ≡ None = find_below key (suc first) cs (omega arith) in
       elim c.kept as (λ k. find nat_cmp key (with_entry first k (entries_from (suc first) cs)) ≡ None) [
         | None ↦ rest
         | Some k ↦ rw (other_key key first (omega arith)) rest
@@ -79,7 +85,8 @@ module _ {N : Type 0} where
   find-entries_from key first (suc i) (c ∷ cs) e =
       let rest : find nat_cmp key (entries_from (suc first) cs) ≡ kept_at cs i
       = find-entries_from key (suc first) i cs (omega arith) in
-      elim c.kept as (λ k. find nat_cmp key (with_entry first k (entries_from (suc first) cs)) ≡ kept_at cs i) [
+      elim c.kept as (λ k. find nat_cmp key (with_entry first k (entries_from (suc first) cs))
+      ≡ kept_at cs i) [
         | None ↦ rest
         | Some k ↦ rw (other_key key first (omega arith)) rest
       ]
@@ -106,16 +113,19 @@ module _ {N : Type 0} where
       ≡ cond (q k) 1 0 + count_by (λ c. q c.kept) cs) [
         | None ↦ rw none (omega arith)
         | Some k ↦ rw (some k)
-            (count_by-cons p k (map (λ e. e.1) (entries_from (suc first) cs)) ∙ ap (λ n. cond (p k) 1 0 + n) rest)
+            (count_by-cons p k (map (λ e. e.1) (entries_from (suc first) cs)) ∙ ap
+            (λ n. cond (p k) 1 0 + n) rest)
       ] ∙ sym (count_by-cons (λ d. q d.kept) c cs)
 
-  entries-contents : (cells : List (Cell N)) (room : ℕ) → entries (contents cells room).nodes ≡ entries_from 0 cells
+  entries-contents : (cells : List (Cell N)) (room : ℕ) → entries (contents cells room).nodes
+      ≡ entries_from 0 cells
   unfolding contents
   entries-contents cells room =
       entries-from_sorted nat_cmp (entries_from 0 cells) (T_from_true _ (is_sorted-entries_from 0 cells))
 
   -- the node under a number
-  pub get-contents : (cells : List (Cell N)) (room i : ℕ) → get (contents cells room).nodes i ≡ kept_at cells i
+  pub get-contents : (cells : List (Cell N)) (room i : ℕ) → get (contents cells room).nodes i
+      ≡ kept_at cells i
   unfolding contents
   get-contents cells room i =
       get-from_sorted nat_cmp (entries_from 0 cells) i (T_from_true _ (is_sorted-entries_from 0 cells))
@@ -123,7 +133,8 @@ module _ {N : Type 0} where
 
   -- how many nodes there are
   pub len-contents : (cells : List (Cell N)) (room : ℕ) → len (contents cells room).nodes ≡ taken cells
-  len-contents cells room = len-entries _ ∙ ap length (entries-contents cells room) ∙ length-entries_from 0 cells
+  len-contents cells room = len-entries _ ∙ ap length (entries-contents cells room)
+      ∙ length-entries_from 0 cells
 
   pub room-contents : (cells : List (Cell N)) (room : ℕ) → (contents cells room).room ≡ room
   unfolding contents
@@ -138,7 +149,8 @@ module _ {N : Type 0} where
       ∙ count_by-entries_from (λ k. eqb (k.hash % m) (hash % m)) (λ k. eqb (chain_of m k) (hash % m)) 0 cells
       (ne_eqb m (hash % m) (λ e. omega arith)) (λ k. refl)
 
-  same_contents : (cells : List (Cell N)) (room : ℕ) (t : Contents N) → ((i : ℕ) → kept_at cells i ≡ get t.nodes i)
+  same_contents : (cells : List (Cell N)) (room : ℕ) (t : Contents N)
+      → ((i : ℕ) → kept_at cells i ≡ get t.nodes i)
       → room ≡ t.room
       → contents cells room ≡ t
   unfolding contents
@@ -156,10 +168,12 @@ module _ {N : Type 0} where
   pub within_by_kept : (cells : List (Cell N)) (i : ℕ) → IsSome (kept_at cells i) → i < length cells
   within_by_kept cells i h = elim (cases_lt i (length cells)) as (λ _. i < length cells) [
     | inl within ↦ within
-    | inr past ↦ absurd (false≢true (subst (λ (c : Cell N). IsSome c.kept) (get_or_past cells i no_cell past) h))
+    | inr past ↦ absurd (false≢true
+        (subst (λ (c : Cell N). IsSome c.kept) (get_or_past cells i no_cell past) h))
   ]
 
-  pub within_by_node : (cells : List (Cell N)) (i : ℕ) (k : Kept N) → kept_at cells i ≡ Some k → i < length cells
+  pub within_by_node : (cells : List (Cell N)) (i : ℕ) (k : Kept N) → kept_at cells i
+      ≡ Some k → i < length cells
   within_by_node cells i k e = within_by_kept cells i (subst IsSome (sym e) refl)
 
   -- a cell with a node counts
@@ -174,16 +188,19 @@ module _ {N : Type 0} where
   pub kept_by_read : (cells : List (Cell N)) (i : ℕ) (c : Cell N) (k : Kept N) → i < length cells
       → c ≡ get_or cells i c → c.kept ≡ Some k
       → kept_at cells i ≡ Some k
-  kept_by_read cells i c k h read e = sym (ap (λ (d : Cell N). d.kept) (get_or_read cells i c h read no_cell)) ∙ e
+  kept_by_read cells i c k h read e = sym (ap (λ (d : Cell N). d.kept) (get_or_read cells i c h read no_cell))
+      ∙ e
 
-  pub room_by_view : (cells : List (Cell N)) (room : ℕ) (t : Contents N) → contents cells room ≡ t → t.room ≡ room
+  pub room_by_view : (cells : List (Cell N)) (room : ℕ) (t : Contents N) → contents cells room
+      ≡ t → t.room ≡ room
   room_by_view cells room t e = ap (λ (u : Contents N). u.room) (sym e) ∙ room-contents cells room
 
   pub len_by_view : (cells : List (Cell N)) (room : ℕ) (t : Contents N) → contents cells room ≡ t
       → len t.nodes ≡ taken cells
   len_by_view cells room t e = ap (λ (u : Contents N). len u.nodes) (sym e) ∙ len-contents cells room
 
-  pub agreeing_by_view : (cells : List (Cell N)) (room hash m : ℕ) (t : Contents N) → 0 < m → contents cells room ≡ t
+  pub agreeing_by_view : (cells : List (Cell N)) (room hash m : ℕ) (t : Contents N) → 0 < m
+      → contents cells room ≡ t
       → agreeing t hash m ≡ count_by (λ c. eqb (chain_of m c.kept) (hash % m)) cells
   agreeing_by_view cells room hash m t some e =
       ap (λ (u : Contents N). agreeing u hash m) (sym e) ∙ agreeing-contents cells room hash m (omega arith)
@@ -197,7 +214,8 @@ module _ {N : Type 0} where
   contents-nil room = same_contents [] room _ (λ i. sym (get-empty nat_cmp i)) refl
 
   -- the same nodes
-  pub contents_kept : (cells later : List (Cell N)) (room now : ℕ) → ((i : ℕ) → kept_at later i ≡ kept_at cells i)
+  pub contents_kept : (cells later : List (Cell N)) (room now : ℕ)
+      → ((i : ℕ) → kept_at later i ≡ kept_at cells i)
       → contents later now ≡ record (contents cells room) { room = now }
   contents_kept cells later room now same =
       same_contents later now _ (λ i. same i ∙ sym (get-contents cells room i)) refl
@@ -209,7 +227,8 @@ module _ {N : Type 0} where
   contents-insert cells later room i k at others =
       same_contents later room _
       (λ j. elim (cases_eq j i) [
-        | inl e ↦ ap (kept_at later) e ∙ at ∙ sym (get-insert nat_cmp_total _ i k j ∙ rw (same_key j i e) refl)
+        | inl e ↦ ap (kept_at later) e ∙ at
+            ∙ sym (get-insert nat_cmp_total _ i k j ∙ rw (same_key j i e) refl)
         | inr ne ↦ others j ne ∙ sym (get-contents cells room j)
             ∙ sym (get-insert nat_cmp_total _ i k j ∙ rw (other_key j i ne) refl)
       ])

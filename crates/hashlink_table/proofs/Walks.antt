@@ -1,6 +1,8 @@
 -- A walk along a chain: it stays in the chain, and ends.
-use Rattle.std.proofs.Common.{◌≡◌, ◌≢◌, ℕ, zero, suc, ◌+◌, ◌%◌, ◌<◌, ◌≤◌, cond, eqb, Option, None, Some, IsSome, ◌⊎◌}
-use Rattle.std.proofs.Common.{inl, inr, List, [], ◌∷◌, length, get_or, count_by, refl, sym, ap, ◌∙◌, subst, arith}
+use Rattle.std.proofs.Common.{◌≡◌, ◌≢◌, ℕ, zero, suc, ◌+◌, ◌%◌, ◌<◌, ◌≤◌, cond, eqb, Option, None, Some}
+use Rattle.std.proofs.Common.{IsSome, ◌⊎◌}
+use Rattle.std.proofs.Common.{inl, inr, List, [], ◌∷◌, length, get_or, count_by, refl, sym, ap, ◌∙◌, subst}
+use Rattle.std.proofs.Common.{arith}
 use Rattle.std.proofs.lemmas.Bool.{eq-eqb, ne_eqb}
 use Rattle.std.proofs.lemmas.List.{get_or_append_left, get_or_read, length_push}
 use Rattle.std.proofs.lemmas.List.Sums.{count_by-le-length}
@@ -8,7 +10,8 @@ use Rattle.std.specs.Int.{IsPowerOfTwo}
 use Rattle.hashlink_table.specs.declared.kept.Kept.{Kept}
 use Rattle.hashlink_table.specs.declared.cell.Cell.{Cell}
 use Rattle.hashlink_table.specs.declared.cell.TheConstants.{END}
-use Rattle.hashlink_table.specs.Chains.{no_cell, kept_at, next_at, chain_of, chain_at, Among, IsPath, IsLinked}
+use Rattle.hashlink_table.specs.Chains.{no_cell, kept_at, next_at, chain_of, chain_at, Among, IsPath}
+use Rattle.hashlink_table.specs.Chains.{IsLinked}
 use Rattle.hashlink_table.proofs.Paths.{first_among, path_length}
 use Rattle.hashlink_table.proofs.Linking.{positive_by_power}
 use Rattle.hashlink_table.proofs.Cells.{within_by_chain, chain_at_within}
@@ -58,14 +61,16 @@ pub walk_at : {next chain : ℕ → ℕ} {b at most : ℕ} → IsWalk next chain
 walk_at {next} {at = at} w ne = w.inside at (first_among next at w.path w.linked ne)
 
 -- a walk with a cell to come has not ended
-pub walk_goes : {next chain : ℕ → ℕ} {b at most : ℕ} (w : IsWalk next chain b at most) (j : ℕ) → Among w.path j
+pub walk_goes : {next chain : ℕ → ℕ} {b at most : ℕ} (w : IsWalk next chain b at most) (j : ℕ)
+    → Among w.path j
     → at ≢ END
 walk_goes {next} {at = at} w j m = begun next at w.path w.linked j m
 
--- a walk of a chain that has passed over cells which are not what is sought: where none of those to come is, none of
--- the
+-- a walk of a chain that has passed over cells which are not what is sought: where none of those to come is,
+-- none of the
 -- chain is. It took a step for each cell
-pub record IsSearch (next chain : ℕ → ℕ) (b at most : ℕ) (IsOther : ℕ → Type 0) (all before now : ℕ) : Type 0 where
+pub record IsSearch (next chain : ℕ → ℕ) (b at most : ℕ) (IsOther : ℕ → Type 0)
+    (all before now : ℕ) : Type 0 where
   pub walk : IsWalk next chain b at most
   pub none : ((j : ℕ) → Among walk.path j → IsOther j) → (j : ℕ) → chain j ≡ b → IsOther j
   pub goes_on : before ≤ now
@@ -73,7 +78,8 @@ pub record IsSearch (next chain : ℕ → ℕ) (b at most : ℕ) (IsOther : ℕ 
 
 -- a search that passes over one more cell
 pub search_on : {next chain : ℕ → ℕ} {b at most : ℕ} {IsOther : ℕ → Type 0} {all before now : ℕ}
-    → IsSearch next chain b at most IsOther all before now → at ≢ END → IsOther at → (to later : ℕ) → next at ≡ to
+    → IsSearch next chain b at most IsOther all before now → at ≢ END → IsOther at
+    → (to later : ℕ) → next at ≡ to
     → later ≡ now + 1
     → IsSearch next chain b to most IsOther all before later
 search_on {next} {chain} {b} {at} {most} {IsOther} {all} {before} s ne other to later leads e =
@@ -126,7 +132,8 @@ module _ {N : Type 0} where
   in_bucket cells buckets b = count_by (λ c. eqb (chain_of buckets c.kept) b) cells
 
   -- the walk along a bucket's chain
-  pub walk_of : (heads : List ℕ) (cells : List (Cell N)) (free b : ℕ) → IsLinked heads cells free → b < length heads
+  pub walk_of : (heads : List ℕ) (cells : List (Cell N)) (free b : ℕ) → IsLinked heads cells free
+      → b < length heads
       → (w : IsWalk (next_at cells) (chain_at (length heads) cells) b (get_or heads b END) (length cells))
       × ((j : ℕ) → chain_at (length heads) cells j ≡ b → Among w.path j)
       × (length w.path ≤ in_bucket cells (length heads) b)
@@ -139,10 +146,16 @@ module _ {N : Type 0} where
       (ne_eqb (length heads) b (λ e. omega arith))
       (λ j m. let e = c.inside j m in
       eq-eqb _ b
-      (sym (chain_at_within (length heads) cells j (within_by_chain (length heads) cells j b e (omega arith))) ∙ e))
+      (sym (chain_at_within (length heads) cells j (within_by_chain (length heads) cells j b e (omega arith)))
+      ∙ e))
       in
       let short : length c.path ≤ length cells
-      = omega (arith, few, count_by-le-length (λ (d : Cell N). eqb (chain_of (length heads) d.kept) b) cells) in
+      = omega (
+        arith,
+        few,
+        count_by-le-length
+            (λ (d : Cell N). eqb (chain_of (length heads) d.kept) b) cells,
+      ) in
       (record { path = c.path; linked = path; inside = c.inside; short = short }, c.whole, few)
 
   -- the second cell of a bucket's chain is a cell
@@ -157,7 +170,8 @@ module _ {N : Type 0} where
       within_by_chain (length heads) cells _ b (walk_at r.rest more) (omega arith)
 
   -- a search from a bucket's head
-  pub search_start : (heads : List ℕ) (cells : List (Cell N)) (free b at : ℕ) {IsOther : ℕ → Type 0} (before : ℕ)
+  pub search_start : (heads : List ℕ) (cells : List (Cell N)) (free b at : ℕ)
+      {IsOther : ℕ → Type 0} (before : ℕ)
       → IsLinked heads cells free → b < length heads → get_or heads b END ≡ at
       → IsSearch (next_at cells) (chain_at (length heads) cells) b at (length cells) IsOther
       (in_bucket cells (length heads) b) before before
@@ -167,12 +181,19 @@ module _ {N : Type 0} where
       = λ n. IsSearch (next_at cells) (chain_at (length heads) cells) b n (length cells) IsOther
       (in_bucket cells (length heads) b) before before in
       subst Search e
-      (record { walk = w.0; none = λ other j q. other j (w.1 j q); goes_on = omega arith; cost = omega (arith, w.2) })
+      (record {
+        walk = w.0;
+        none = λ other j q. other j (w.1 j q);
+        goes_on = omega arith;
+        cost =
+            omega (arith, w.2);
+      })
 
   -- a search that has not ended reads a cell
   pub search_within : (heads : List ℕ) (cells : List (Cell N)) (hash : ℕ) {at most all before now : ℕ}
       {IsOther : ℕ → Type 0}
-      → IsSearch (next_at cells) (chain_at (length heads) cells) (hash % length heads) at most IsOther all before now
+      → IsSearch (next_at cells) (chain_at (length heads) cells) (hash % length heads) at
+      most IsOther all before now
       → IsPowerOfTwo (length heads) → at ≢ END
       → at < length cells
   search_within heads cells hash {at} s power ne =
@@ -181,7 +202,8 @@ module _ {N : Type 0} where
 
   pub search_read : (heads : List ℕ) (cells : List (Cell N)) (hash : ℕ) {at most all before now : ℕ}
       {IsOther : ℕ → Type 0}
-      → IsSearch (next_at cells) (chain_at (length heads) cells) (hash % length heads) at most IsOther all before now
+      → IsSearch (next_at cells) (chain_at (length heads) cells) (hash % length heads) at
+      most IsOther all before now
       → IsPowerOfTwo (length heads) → at ≢ END → (read : Cell N) → read ≡ get_or cells at read
       → (kept_at cells at ≡ read.kept) × (next_at cells at ≡ read.next)
   search_read heads cells hash {at} s power ne read is =
@@ -195,11 +217,13 @@ module _ {N : Type 0} where
 
   pub search_some : (heads : List ℕ) (cells : List (Cell N)) (hash : ℕ) {at most all before now : ℕ}
       {IsOther : ℕ → Type 0}
-      → IsSearch (next_at cells) (chain_at (length heads) cells) (hash % length heads) at most IsOther all before now
+      → IsSearch (next_at cells) (chain_at (length heads) cells) (hash % length heads) at
+      most IsOther all before now
       → IsPowerOfTwo (length heads) → at ≢ END
       → IsSome (kept_at cells at)
   search_some heads cells hash {at} s power ne =
       let some = positive_by_power (length heads) power in
       some_on (length heads) (hash % length heads) (kept_at cells at)
-      (sym (chain_at_within (length heads) cells at (search_within heads cells hash s power ne)) ∙ walk_at s.walk ne)
+      (sym (chain_at_within (length heads) cells at (search_within heads cells hash s power ne))
+      ∙ walk_at s.walk ne)
       (omega arith)

@@ -1,5 +1,6 @@
 -- How a `Table` chains its cells. No public clause cites this module.
-use Rattle.std.specs.Prelude.{◌≡◌, ◌≢◌, ℕ, suc, ◌+◌, ◌%◌, ◌^◌, ◌<◌, ◌≤◌, ◌⊎◌, List, [], ◌∷◌, ◌++◌, map, length}
+use Rattle.std.specs.Prelude.{◌≡◌, ◌≢◌, ℕ, suc, ◌+◌, ◌%◌, ◌^◌, ◌<◌, ◌≤◌, ◌⊎◌, List, [], ◌∷◌, ◌++◌, map}
+use Rattle.std.specs.Prelude.{length}
 use Rattle.std.specs.Prelude.{Option, Some, None, is_some, count_by, slice_index_or, slice_set}
 use Rattle.std.specs.FinMap.{from_sorted}
 use Rattle.std.specs.Int.{IsPowerOfTwo}
@@ -96,7 +97,8 @@ abbrev pub IsFit : {N : Type 0} → Starts → List (Cell N) → ℕ → Type 0
 IsFit heads cells room = (length cells ≤ heads.most) × (room ≤ heads.most)
 
 -- the fields of a table agree
-pub record IsSound {N : Type 0} (heads : List ℕ) (cells : List (Cell N)) (capacity free len room : ℕ) : Type 0 where
+pub record IsSound {N : Type 0} (heads : List ℕ) (cells : List (Cell N))
+    (capacity free len room : ℕ) : Type 0 where
   pub linked : IsLinked heads cells free
   pub counted : len ≡ taken cells
   pub held : len ≤ room

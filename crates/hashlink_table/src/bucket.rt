@@ -16,8 +16,8 @@ const FEWEST_CELLS: usize = 1 << 12;
 // Up to so many they lie in a near one.
 const FEW_CELLS: usize = 1 << 14;
 
-/// How many buckets a table with so many cells has: eight or four for each where they are few, and else two, so that
-/// few nodes share one.
+/// How many buckets a table with so many cells has: eight or four for each where they are few, and else two,
+/// so that few nodes share one.
 pub fn buckets_for(cells: usize) -> usize
     requires power { IsPowerOfTwo cells }
     requires small { cells ≤ 2 ^ 62 }

@@ -3,14 +3,15 @@ ghost use Rattle.std.specs.Prelude.{◌≡◌, ◌≤◌, IsSome, Some, None};
 use super::kept::Kept;
 use std::marker::Model;
 
-/// What stands in place of a cell's number after the last cell of a chain. No address space has so many cells.
+/// What stands in place of a cell's number after the last cell of a chain. No address space has so many
+/// cells.
 pub const END: usize = (1 << 48) - 1;
 
 // How many numbers the lower part of a link has.
 const LOW: usize = 1 << 32;
 
-/// What contracts see of a cell, a place for one node. Each cell is on one chain: a cell with a node on its bucket's,
-/// an empty one on that of the free cells.
+/// What contracts see of a cell, a place for one node. Each cell is on one chain: a cell with a node on its
+/// bucket's, an empty one on that of the free cells.
 #[derive(Clone, Copy)]
 pub struct Cell<N> {
     pub kept: Option<Kept<N>>,
@@ -18,8 +19,8 @@ pub struct Cell<N> {
     pub next: usize,
 }
 
-/// A cell as the table stores it, in 16 bytes and a node: a free one still has what it had, so that a read of a cell
-/// which is known to have a node tests nothing.
+/// A cell as the table stores it, in 16 bytes and a node: a free one still has what it had, so that a read of
+/// a cell which is known to have a node tests nothing.
 #[derive(Drop)]
 pub struct Stored<N> {
     is_free: bool,

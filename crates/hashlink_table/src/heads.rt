@@ -1,5 +1,6 @@
 //! Where the buckets' chains start.
-ghost use Rattle.std.specs.Prelude.{◌≡◌, ◌≢◌, ◌<◌, ◌≤◌, IfOk, [], length, replicate, slice_index_or, slice_set};
+ghost use Rattle.std.specs.Prelude.{◌≡◌, ◌≢◌, ◌<◌, ◌≤◌, IfOk, [], length, replicate, slice_index_or};
+ghost use Rattle.std.specs.Prelude.{slice_set};
 
 use super::cell::END;
 use std::alloc::{AllocError, Global};

@@ -1,7 +1,8 @@
 //! A hash table of nodes: which node stands under which hash, and in which cell.
 //!
-//! The table holds small handles and the hashes that it was given with them. It never hashes, and never compares keys:
-//! a find asks its caller's closure. All growth happens in `reserve`, so that an insert takes no memory.
+//! The table holds small handles and the hashes that it was given with them. It never hashes, and never
+//! compares keys: a find asks its caller's closure. All growth happens in `reserve`, so that an insert takes
+//! no memory.
 #![tactic(auto)]
 
 mod bucket;

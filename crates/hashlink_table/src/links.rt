@@ -1,8 +1,10 @@
 //! The chains that lead through the cells.
-ghost use Rattle.std.specs.Prelude.{◌≡◌, ◌≢◌, ℕ, ◌+◌, ◌%◌, ◌^◌, ◌<◌, ◌≤◌, ◌==◌, length, count_by, false, replicate};
+ghost use Rattle.std.specs.Prelude.{◌≡◌, ◌≢◌, ℕ, ◌+◌, ◌%◌, ◌^◌, ◌<◌, ◌≤◌, ◌==◌, length, count_by, false};
+ghost use Rattle.std.specs.Prelude.{replicate};
 ghost use Rattle.std.specs.Prelude.{true, IfNone, IfSome, IsSome, Some, vec_capacity, vec_len};
 ghost use Rattle.std.specs.Int.{IsPowerOfTwo};
-ghost use Rattle.hashlink_table.specs.Chains.{chain_at, chain_of, kept_at, IsLinked, IsLinkedBut, IsPlaced, SameNodes};
+ghost use Rattle.hashlink_table.specs.Chains.{chain_at, chain_of, kept_at, IsLinked, IsLinkedBut, IsPlaced};
+ghost use Rattle.hashlink_table.specs.Chains.{SameNodes};
 ghost use Rattle.hashlink_table.specs.Heads.{SameSize};
 
 use super::bucket::bucket_of;
@@ -94,14 +96,15 @@ pub fn unlink<N: Copy>(heads: &mut Heads, cells: &mut [Stored<N>], bucket: usize
     cells[at].set_next(after);
 }
 
-// The node of a cell that has one, if its hash is this one. Finds look at a stored hash here alone, and each look
-// takes a step.
+// The node of a cell that has one, if its hash is this one. Finds look at a stored hash here alone, and each
+// look takes a step.
 #[inline]
 fn look<N: Copy, L: Ledger>(cell: &Stored<N>, hash: u64, steps: &mut Steps<L>) -> Option<N>
     requires { IsSome cell.now.kept }
     ensures step { steps.new ≡ steps.old + 1 }
     ensures here { IfSome result (λ node. cell.now.kept ≡ Some (record { hash = hash; node = node })) }
-    ensures not_here { IfNone result ((node : N) → cell.now.kept ≢ Some (record { hash = hash; node = node })) }
+    ensures not_here { IfNone result
+        ((node : N) → cell.now.kept ≢ Some (record { hash = hash; node = node })) }
 {
     steps.tick();
     let kept = cell.there();
@@ -123,7 +126,8 @@ pub fn seek<N: Copy, F: Fn(N) -> bool, L: Ledger>(
 ) -> Option<N>
     requires masked { IsPowerOfTwo (length heads.now.firsts) }
     requires linked { (free : ℕ) × IsLinked heads.now.firsts cells.now free }
-    requires callable { (cell : ℕ) (node : N) → kept_at cells.now cell ≡ Some (record { hash = hash; node = node })
+    requires callable { (cell : ℕ) (node : N) → kept_at cells.now cell ≡ Some
+        (record { hash = hash; node = node })
         → F.pre is_match node }
     ensures found { IfSome result
         (λ node. (cell : ℕ) × (kept_at cells.now cell ≡ Some (record { hash = hash; node = node }))

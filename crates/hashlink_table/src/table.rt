@@ -1,4 +1,5 @@
-ghost use Rattle.std.specs.Prelude.{◌≡◌, ℕ, ◌+◌, ◌*◌, ◌^◌, ◌<◌, ◌≤◌, ◌↔◌, false, true, IfNone, IfOk, IfSome, IsOk};
+ghost use Rattle.std.specs.Prelude.{◌≡◌, ℕ, ◌+◌, ◌*◌, ◌^◌, ◌<◌, ◌≤◌, ◌↔◌, false, true, IfNone, IfOk, IfSome};
+ghost use Rattle.std.specs.Prelude.{IsOk};
 ghost use Rattle.std.specs.Prelude.{IsSome, IsTrue, OnErr, OnOk, None, Ok, Err, max};
 ghost use Rattle.std.specs.FinMap.{empty, get, insert, remove};
 ghost use Rattle.std.specs.Int.{IsPowerOfTwo};
@@ -19,7 +20,8 @@ use std::sync::ledger::{Blank, Ledger};
 /// The most nodes that a table can be asked to have room for.
 pub const MAX_ROOM: usize = 1 << 62;
 
-// The most buckets that a table has. No machine has the memory for as many heads, so the request for it is refused.
+// The most buckets that a table has. No machine has the memory for as many heads, so the request for it is
+// refused.
 const MAX_BUCKETS: usize = 1 << 47;
 
 // The least room that a table grows to.
@@ -27,8 +29,8 @@ const MIN_ROOM: usize = 4;
 
 /// Nodes by their hashes. A node keeps the number of its cell until it is removed.
 ///
-/// It takes no memory when made, then 4 bytes for each bucket's head, or 8 where there is room for 2 to the power of 32
-/// nodes, and 16 bytes and a node for each cell.
+/// It takes no memory when made, then 4 bytes for each bucket's head, or 8 where there is room for 2 to the
+/// power of 32 nodes, and 16 bytes and a node for each cell.
 #[derive(Drop)]
 pub struct Table<N> {
     // There are none or a power of two.
@@ -137,8 +139,8 @@ impl<N: Copy> Table<N> {
         at
     }
 
-    /// Takes the node out of a cell, which frees its room. It walks the cells of that bucket alone, and compares no
-    /// keys.
+    /// Takes the node out of a cell, which frees its room. It walks the cells of that bucket alone, and
+    /// compares no keys.
     #[inline]
     pub fn remove(&mut self, cell: usize)
         requires { IsSome (get self.old.nodes cell) }
@@ -151,7 +153,8 @@ impl<N: Copy> Table<N> {
         self.len -= 1;
     }
 
-    /// The node of this hash that matches, where no more than one does: the first of the hash's bucket. It asks
+    /// The node of this hash that matches, where no more than one does: the first of the hash's bucket. It
+    /// asks
     /// `is_match` at nodes of this hash alone, and takes a step for each node of the bucket that it passes.
     #[inline]
     pub fn find<F: Fn(N) -> bool, L: Ledger>(
@@ -218,8 +221,8 @@ impl<N: Copy> Table<N> {
         self.len = 0;
     }
 
-    /// Makes room for so many more nodes, by doubling, where there is less. It hashes nothing, and each node keeps its
-    /// cell. A refusal leaves everything as it was.
+    /// Makes room for so many more nodes, by doubling, where there is less. It hashes nothing, and each node
+    /// keeps its cell. A refusal leaves everything as it was.
     #[inline]
     pub fn reserve(&mut self, additional: usize) -> Result<(), TryReserveError>
         ensures ok { OnOk result (len_of self.old + additional ≤ self.new.room) }
@@ -244,9 +247,9 @@ impl<N: Copy> Table<N> {
         Ok(())
     }
 
-    /// Gives memory back: the room is the length afterwards, and without nodes the table holds no memory. Each node
-    /// keeps its cell, so that the memory of the cells below the last one with a node stays. A refusal leaves
-    /// everything as it was.
+    /// Gives memory back: the room is the length afterwards, and without nodes the table holds no memory.
+    /// Each node keeps its cell, so that the memory of the cells below the last one with a node stays. A
+    /// refusal leaves everything as it was.
     pub fn shrink(&mut self) -> Result<(), AllocError>
         ensures ok { OnOk result (self.new ≡ record self.old { room = len_of self.old }) }
         ensures err { OnErr result (self.new ≡ self.old) }

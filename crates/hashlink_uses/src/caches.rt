@@ -1,5 +1,6 @@
 //! Calls of a cache, and what is known of it once what was lent has ended.
-ghost use Rattle.std.specs.Prelude.{◌≡◌, ℕ, ◌+◌, ◌<◌, ◌^◌, IsTrue, IsFalse, IsOk, OnOk, IfErr, Ok, length, unwrap_or};
+ghost use Rattle.std.specs.Prelude.{◌≡◌, ℕ, ◌+◌, ◌<◌, ◌^◌, IsTrue, IsFalse, IsOk, OnOk, IfErr, Ok, length};
+ghost use Rattle.std.specs.Prelude.{unwrap_or};
 ghost use Rattle.std.specs.Prelude.{option_copied};
 ghost use Rattle.std.specs.Map.{lookup, lookup_entry};
 ghost use Rattle.hashlink.specs.Cache.{CacheGetsAndWrites, EvictsFront, OnMap, IsWithin, front_evicted};
@@ -19,7 +20,8 @@ pub fn use_and_write<K: Eq + Hash, V: Drop, S: BuildHasher>(
     key: &K,
     value: V,
 ) -> bool
-    ensures there { IsTrue result → CacheGetsAndWrites K.eq (state_in cache.old) (state_in cache.new) key.now value }
+    ensures there { IsTrue result → CacheGetsAndWrites K.eq (state_in cache.old)
+        (state_in cache.new) key.now value }
     ensures absent { IsFalse result → state_in cache.new ≡ state_in cache.old }
 {
     match cache.get_mut(key) {
@@ -81,8 +83,8 @@ pub fn empty_out<K: Eq + Hash + Drop, V: Drop, S: BuildHasher>(cache: &mut LruCa
     let _rest = cache.drain();
 }
 
-/// Puts a value in by `entry` where the key is absent. Where there were more entries than the capacity, it is not
-/// refused.
+/// Puts a value in by `entry` where the key is absent. Where there were more entries than the capacity, it is
+/// not refused.
 pub fn put_by_entry<K: Eq + Hash + Drop, V: Drop, S: BuildHasher>(
     cache: &mut LruCache<K, V, S>,
     key: K,
@@ -94,17 +96,18 @@ pub fn put_by_entry<K: Eq + Hash + Drop, V: Drop, S: BuildHasher>(
     Ok(())
 }
 
-/// Counts a word by an entry of the map, once there is room: where there are too many entries the first is dropped,
-/// and then the map is as an insert of one more than the count so far leaves it.
+/// Counts a word by an entry of the map, once there is room: where there are too many entries the first is
+/// dropped, and then the map is as an insert of one more than the count so far leaves it.
 pub fn count_word<K: Eq + Hash + Drop, S: BuildHasher>(
     cache: &mut LruCache<K, u64, S>,
     word: K,
 ) -> Result<(), (K, u64)>
-    requires { unwrap_or (lookup (K.eq word) (front_evicted (entries_in cache.old) (state_in cache.old).cap)) 0 + 1
-        < 2 ^ 64 }
+    requires { unwrap_or (lookup (K.eq word) (front_evicted (entries_in cache.old) (state_in cache.old).cap))
+        0 + 1 < 2 ^ 64 }
     ensures counts { OnOk result ((between : MapState K ℕ S)
         × EvictsFront (state_in cache.old).map between (state_in cache.old).cap
-        × Inserts K.eq between (state_in cache.new).map word (unwrap_or (lookup (K.eq word) between.entries) 0 + 1)
+        × Inserts K.eq between (state_in cache.new).map word
+        (unwrap_or (lookup (K.eq word) between.entries) 0 + 1)
         (length between.entries) (Ok (lookup (K.eq word) between.entries))) }
     ensures refused { IfErr result (λ pair. (between : MapState K ℕ S)
         × EvictsFront (state_in cache.old).map between (state_in cache.old).cap
@@ -116,8 +119,9 @@ pub fn count_word<K: Eq + Hash + Drop, S: BuildHasher>(
     count_word_in(cache.map_mut(), word)
 }
 
-/// Inserts two pairs. Where the first insert drops an entry, the second is not refused; a cache of so many entries
-/// beyond its capacity has no more afterwards, and none where the second is in, however many there were.
+/// Inserts two pairs. Where the first insert drops an entry, the second is not refused; a cache of so many
+/// entries beyond its capacity has no more afterwards, and none where the second is in, however many there
+/// were.
 pub fn insert_both<K: Eq + Hash + Drop, V: Drop, S: BuildHasher>(
     cache: &mut LruCache<K, V, S>,
     first: (K, V),

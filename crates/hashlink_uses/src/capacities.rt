@@ -9,7 +9,8 @@ use hashlink::run::{Pair, PairCommand, run_pair, run_uses};
 use std::alloc::{AllocError, Global};
 use std::hash::Hash;
 
-/// Gives the commands to a smaller and to a larger cache. The smaller one holds an end of the larger one's keys.
+/// Gives the commands to a smaller and to a larger cache. The smaller one holds an end of the larger one's
+/// keys.
 pub fn two_caches<K: Eq + Hash + Copy, V: Copy>(
     alloc: Global,
     small: usize,
@@ -23,8 +24,8 @@ pub fn two_caches<K: Eq + Hash + Copy, V: Copy>(
     Ok((small, large))
 }
 
-/// How many of the uses miss in a cache of this capacity. With fewer places, however well they are filled, they miss
-/// not much more rarely.
+/// How many of the uses miss in a cache of this capacity. With fewer places, however well they are filled,
+/// they miss not much more rarely.
 pub fn misses_in_a_cache<K: Eq + Hash + Copy, V: Copy>(
     alloc: Global,
     capacity: usize,

@@ -32,8 +32,9 @@ impl<K: Eq + Hash, V> Settings<K, V> {
         }
     }
 
-    /// Gives the key the value, and answers the one that it had. A key that was set before keeps its place, a new one
-    /// goes last. Where memory is refused, which only a new key needs, the pair is handed back and nothing changes.
+    /// Gives the key the value, and answers the one that it had. A key that was set before keeps its place, a
+    /// new one goes last. Where memory is refused, which only a new key needs, the pair is handed back and
+    /// nothing changes.
     pub fn set(&mut self, key: K, value: V) -> Result<Option<V>, (K, V)>
     where
         K: Drop,

@@ -27,8 +27,8 @@ pub fn misses_of<K: Eq + Hash + Copy>(
     Ok(miss_curve(alloc, keys)?.misses(capacity))
 }
 
-/// How often a cache of this capacity misses that is given the uses: counted in its replies, and told by the curve of
-/// their keys. The two are one number.
+/// How often a cache of this capacity misses that is given the uses: counted in its replies, and told by the
+/// curve of their keys. The two are one number.
 pub fn misses_by_replies_and_by_curve<K: Eq + Hash + Copy, V: Copy>(
     alloc: Global,
     pairs: &[(K, V)],

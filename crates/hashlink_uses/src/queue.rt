@@ -1,5 +1,6 @@
 //! A queue of work in which no item waits twice.
-ghost use Rattle.std.specs.Prelude.{◌≡◌, ◌++◌, [], ◌∷◌, false, IsTrue, IsFalse, List, Ok, MatchOption, MatchResult};
+ghost use Rattle.std.specs.Prelude.{◌≡◌, ◌++◌, [], ◌∷◌, false, IsTrue, IsFalse, List, Ok, MatchOption};
+ghost use Rattle.std.specs.Prelude.{MatchResult};
 ghost use Rattle.std.specs.Prelude.{length};
 ghost use Rattle.std.specs.List.{IsDistinct, list_any};
 ghost use Rattle.hashlink.specs.Sets.{elements_of};
@@ -31,8 +32,8 @@ impl<T: Eq + Hash> Queue<T> {
         }
     }
 
-    /// Puts the item last and answers true. One that equals a waiting one is let go: that one keeps its place, and the
-    /// answer is false. Where memory is refused, the item is handed back and nothing changes.
+    /// Puts the item last and answers true. One that equals a waiting one is let go: that one keeps its
+    /// place, and the answer is false. Where memory is refused, the item is handed back and nothing changes.
     pub fn push(&mut self, item: T) -> Result<bool, T>
     where
         T: Drop,
@@ -49,7 +50,8 @@ impl<T: Eq + Hash> Queue<T> {
 
     /// Takes the item out that waits longest.
     pub fn pop(&mut self) -> Option<T>
-        ensures { MatchOption result ((self.old ≡ []) × (self.new ≡ [])) (λ item. self.old ≡ item ∷ self.new) }
+        ensures { MatchOption result ((self.old ≡ []) × (self.new ≡ []))
+            (λ item. self.old ≡ item ∷ self.new) }
     {
         self.waiting.pop_front()
     }

@@ -19,7 +19,8 @@ module _ {K V S : Type 0} where
     pub last : LastWeighs new.entries others weight
     pub same : fitting new.entries budget ≡ fitting old.entries budget
 
-  pub none_dropped : (m : MapState K (V × ℕ) S) (others weight budget : ℕ) → LastWeighs m.entries others weight
+  pub none_dropped : (m : MapState K (V × ℕ) S) (others weight budget : ℕ)
+      → LastWeighs m.entries others weight
       → HasDropped m m others weight budget
   none_dropped m others weight budget l =
       record {
@@ -43,7 +44,8 @@ pub fitting-drops : {K V : Type 0} (e : K × (V × ℕ)) (es : List (K × (V × 
 fitting-drops e es budget l = rw (lt-leb (total_weight (e ∷ es)) budget l) refl
 
 -- where the others weigh something there is a first one, which is not the last
-pub record StandsFirst {K V : Type 0} (es : List (K × (V × ℕ))) (others weight : ℕ) (e : K × (V × ℕ)) : Type 0 where
+pub record StandsFirst {K V : Type 0} (es : List (K × (V × ℕ))) (others weight : ℕ)
+    (e : K × (V × ℕ)) : Type 0 where
   pub rest : List (K × (V × ℕ))
   pub split : es ≡ e ∷ rest
   pub light : e.1.1 ≤ others
@@ -62,7 +64,14 @@ first_by es (e ∷ before) last others weight s o w p =
         split = s;
         light = omega arith;
         after =
-            record { before = before; last = last; split = refl; others_weigh = omega arith; last_weighs = w };
+            record {
+              before = before;
+              last = last;
+              split = refl;
+              others_weigh =
+                  omega arith;
+              last_weighs = w;
+            };
       },
     )
 

@@ -1,5 +1,6 @@
 -- An insert of the map with a weight, and the fitting end after it.
-use Rattle.std.proofs.Common.{◌≡◌, ℕ, ◌-◌, ◌≤◌, Bool, List, Option, Some, length, refl, sym, ap, subst, arith, ◌∙◌}
+use Rattle.std.proofs.Common.{◌≡◌, ℕ, ◌-◌, ◌≤◌, Bool, List, Option, Some, length, refl, sym, ap, subst, arith}
+use Rattle.std.proofs.Common.{◌∙◌}
 use Rattle.std.specs.Map.{lookup}
 use Rattle.hashlink_model.specs.Cache.{InsertsLast}
 use Rattle.hashlink_model.specs.Entries.{put, without, stored_key}
@@ -29,7 +30,8 @@ module _ {K V S : Type 0} (eq : K → K → Bool) (old between : MapState K (V �
       → LastWeighs between.entries (total - weight_or_none w) weight
   leaves_last total t =
       subst (λ es. LastWeighs es (total - weight_or_none w) weight)
-      (sym (put_entries eq old between k (v, weight) w s)) (last_weighs eq old.entries k (v, weight) w total answer t)
+      (sym (put_entries eq old between k (v, weight) w s))
+      (last_weighs eq old.entries k (v, weight) w total answer t)
 
   pub accepts : (new : MapState K (V × ℕ) S) (budget : ℕ) → weight ≤ budget
       → KeepsOnly between new (fitting between.entries budget)
@@ -49,11 +51,13 @@ module _ {K V S : Type 0} (eq : K → K → Bool) (old between : MapState K (V �
       }
 
 -- the pair is in the fitting end, and the last there
-pub last_put : {K V : Type 0} (eq : K → K → Bool) (es : List (K × (V × ℕ))) (budget : ℕ) (k : K) (v : V) (weight : ℕ)
+pub last_put : {K V : Type 0} (eq : K → K → Bool) (es : List (K × (V × ℕ))) (budget : ℕ)
+    (k : K) (v : V) (weight : ℕ)
     → weight ≤ budget
     → last_of (weighted_put eq es budget k v weight) ≡ Some (stored_key eq es k, (v, weight))
 last_put eq es budget k v weight n =
     let s = fitting-end (put eq es k (v, weight) (length es)) budget in
-    sym (last_of_end s.0 (weighted_put eq es budget k v weight) (length-weighted_put eq es budget k v weight n))
+    sym (last_of_end s.0 (weighted_put eq es budget k v weight)
+    (length-weighted_put eq es budget k v weight n))
     ∙ ap last_of (sym s.1 ∙ put_back eq es k (v, weight))
     ∙ last_is (without eq es k) (stored_key eq es k, (v, weight))

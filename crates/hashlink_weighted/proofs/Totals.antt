@@ -1,5 +1,6 @@
 -- Sums of weights after an entry left, was put last or moved last.
-use Rattle.std.proofs.Common.{◌≡◌, ℕ, ◌+◌, ◌-◌, ◌≤◌, Bool, List, [], ◌∷◌, ◌++◌, length, Option, None, Some, refl, sym}
+use Rattle.std.proofs.Common.{◌≡◌, ℕ, ◌+◌, ◌-◌, ◌≤◌, Bool, List, [], ◌∷◌, ◌++◌, length, Option, None, Some}
+use Rattle.std.proofs.Common.{refl, sym}
 use Rattle.std.proofs.Common.{ap, subst, ◌∙◌, arith}
 use Rattle.std.specs.Prelude.{MatchOption}
 use Rattle.std.specs.Map.{lookup, lookup_entry, remove_entry}
@@ -18,10 +19,12 @@ use Rattle.hashlink_model.proofs.Puts.{put_back}
 use Rattle.hashlink_weighted.specs.Weighed.{HasTotal, LastWeighs, weight_or_none}
 
 module _ {K V : Type 0} where
-  pub total-cons : (e : K × (V × ℕ)) (es : List (K × (V × ℕ))) → total_weight (e ∷ es) ≡ e.1.1 + total_weight es
+  pub total-cons : (e : K × (V × ℕ)) (es : List (K × (V × ℕ))) → total_weight (e ∷ es)
+      ≡ e.1.1 + total_weight es
   total-cons e es = sum_by-cons (λ x. x.1.1) e es
 
-  pub total-append : (xs ys : List (K × (V × ℕ))) → total_weight (xs ++ ys) ≡ total_weight xs + total_weight ys
+  pub total-append : (xs ys : List (K × (V × ℕ))) → total_weight (xs ++ ys)
+      ≡ total_weight xs + total_weight ys
   total-append xs ys = sum_by-append (λ x. x.1.1) xs ys
 
 module _ {K V : Type 0} (test : K → Bool) where
@@ -82,7 +85,8 @@ module _ {K V S : Type 0} (test : K → Bool) (old new : MapState K (V × ℕ) S
       → new.entries ≡ remove_entry test old.entries
   removed_by None l s =
       let absent = lookup_is test old.entries ∙ ap (option_map (λ e. e.1)) l in
-      ap (λ m. m.entries) s ∙ sym (remove_entry-none test old.entries (none_from_lookup test old.entries absent))
+      ap (λ m. m.entries) s ∙ sym
+      (remove_entry-none test old.entries (none_from_lookup test old.entries absent))
   removed_by (Some e) l s = s.entries
 
   removes_entries : RemovesMatch test old new (lookup_entry test old.entries)
@@ -101,7 +105,8 @@ module _ {K V S : Type 0} (test : K → Bool) (old new : MapState K (V × ℕ) S
       let within = t.within in
       (omega arith, record { sum = omega arith; within = omega arith })
 
-  pub removes_none : None ≡ lookup test old.entries → RemovesMatch test old new (lookup_entry test old.entries)
+  pub removes_none : None ≡ lookup test old.entries
+      → RemovesMatch test old new (lookup_entry test old.entries)
       → HasTotal old.entries total budget
       → HasTotal new.entries total budget
   removes_none l s t =

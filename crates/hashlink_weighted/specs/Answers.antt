@@ -20,7 +20,8 @@ module _ {K V : Type 0} where
   refusal_shown (TooHeavy pair) = codes "the weight is above the budget"
   refusal_shown (Memory pair) = codes "memory allocation failed"
 
-module _ {K V S : Type 0} (eq : K → K → Bool) (old new : WeightedState K V S) (k : K) (v : V) (weight : ℕ) where
+module _ {K V S : Type 0} (eq : K → K → Bool) (old new : WeightedState K V S) (k : K)
+    (v : V) (weight : ℕ) where
   -- an insert that was accepted, whose answer is the key's old value
   pub record Accepts (answer : Option V) : Type 0 where
     pub inserts : WeightedInserts eq old new k v weight (lookup (eq k) old.map.entries)

@@ -29,8 +29,8 @@ module _ {K V : Type 0} where
     pub last_weighs : last.1.1 ≡ weight
 
 module _ {K V S : Type 0} where
-  -- the first entry whose key passes the test moves last with the value and the weight that stand, and where none
-  -- passes nothing changes
+  -- the first entry whose key passes the test moves last with the value and the weight that stand, and where
+  -- none passes nothing changes
   pub record WeightedGetsMatch (test : K → Bool) (old new : WeightedState K V S) : Type 0 where
     pub moves : MovesMatch test old.map new.map (length old.map.entries) (lookup test old.map.entries)
     pub budget : new.budget ≡ old.budget

@@ -1,5 +1,5 @@
-//! The cache: a map whose values carry their weights, a budget, and the sum of the weights. A clause sees the map's
-//! state and the budget; the front of the map is the entry that was used longest ago.
+//! The cache: a map whose values carry their weights, a budget, and the sum of the weights. A clause sees the
+//! map's state and the budget; the front of the map is the entry that was used longest ago.
 ghost use Rattle.std.specs.Prelude.{◌≡◌, ◌^◌, ◌<◌, ◌≤◌, ◌↔◌, length, IsTrue};
 ghost use Rattle.hashlink_model.specs.Entries.{IsEntries};
 ghost use Rattle.hashlink_model.specs.Weights.{total_weight};
@@ -15,8 +15,8 @@ use std::alloc::Global;
 use std::hash::{BuildHasher, Hash};
 use std::marker::Model;
 
-/// A hash map whose entries carry weights, which sum to at most a budget. Its order is that of their last uses, and
-/// what it drops for a new entry is at the front, which was used longest ago.
+/// A hash map whose entries carry weights, which sum to at most a budget. Its order is that of their last
+/// uses, and what it drops for a new entry is at the front, which was used longest ago.
 #[derive(Drop)]
 pub struct WeightedCache<K: Eq + Hash, V, S: BuildHasher = DefaultHashBuilder> {
     map: LinkedHashMap<K, (V, u64), S>,
@@ -95,8 +95,8 @@ impl<K: Eq + Hash, V, S: BuildHasher> WeightedCache<K, V, S> {
         self.map.is_empty()
     }
 
-    /// A walk over the entries with their weights, front first: what was used longest ago comes first. It is not a
-    /// use. It takes no memory, and each step takes constant time.
+    /// A walk over the entries with their weights, front first: what was used longest ago comes first. It is
+    /// not a use. It takes no memory, and each step takes constant time.
     pub fn iter(&self) -> WeightedIter<'_, K, V>
         ensures rest { result ≡ self.now.map.entries }
         ensures runs { ShowsInOrder (deref_weighed {K = K} {V = V}) }

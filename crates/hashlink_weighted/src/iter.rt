@@ -11,8 +11,8 @@ use std::fmt;
 use std::iter::FusedIterator;
 use std::marker::Model;
 
-/// A walk over the keys, the values and the weights, front first. Contracts see it as the list of the entries that it
-/// has left.
+/// A walk over the keys, the values and the weights, front first. Contracts see it as the list of the entries
+/// that it has left.
 #[derive(Drop)]
 pub struct WeightedIter<'a, K, V> {
     inner: Iter<'a, K, (V, u64)>,

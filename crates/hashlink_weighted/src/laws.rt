@@ -8,8 +8,8 @@ ghost use Rattle.hashlink_weighted.specs.Answers.{InsertsWithin, without_weight}
 ghost use Rattle.hashlink_weighted.specs.declared.error.WeightError.{WeightError};
 ghost use Rattle.hashlink_weighted.specs.declared.error.WeightError.TheVariants.{TooHeavy, Memory};
 
-/// An accepted insert leaves the fitting end of the map's insert, whose last entry is the pair with its weight, and
-/// returns the old value. The weights sum to at most the budget, which stays.
+/// An accepted insert leaves the fitting end of the map's insert, whose last entry is the pair with its
+/// weight, and returns the old value. The weights sum to at most the budget, which stays.
 pub fn what_an_accepted_insert_leaves<K, V, S>()
     ensures entries { (eq : K → K → Bool) (old new : WeightedState K V S) (k : K) (v : V) (weight : ℕ)
         (answer : Option V) → InsertsWithin eq old new k v weight (Ok answer)
@@ -25,17 +25,19 @@ pub fn what_an_accepted_insert_leaves<K, V, S>()
         → last_of new.map.entries ≡ Some (stored_key eq old.map.entries k, (v, weight)) }
 {}
 
-/// A refused insert hands its pair back. One that is too heavy changes nothing; memory is refused only for an absent
-/// key without a spare node, and then no entry and no spare node changes.
+/// A refused insert hands its pair back. One that is too heavy changes nothing; memory is refused only for an
+/// absent key without a spare node, and then no entry and no spare node changes.
 pub fn what_a_refused_insert_leaves<K, V, S>()
     ensures too_heavy { (eq : K → K → Bool) (old new : WeightedState K V S) (k : K) (v : V) (weight : ℕ)
         (pair : K × V) → InsertsWithin eq old new k v weight (Err (TooHeavy pair))
         → (pair ≡ (k, v)) × (old.budget < weight) × (new ≡ old) }
     ensures memory { (eq : K → K → Bool) (old new : WeightedState K V S) (k : K) (v : V) (weight : ℕ)
         (pair : K × V) → InsertsWithin eq old new k v weight (Err (Memory pair))
-        → (pair ≡ (k, v)) × (weight ≤ old.budget) × (lookup (eq k) old.map.entries ≡ None) × (old.map.spare ≡ 0)
+        → (pair ≡ (k, v)) × (weight ≤ old.budget) × (lookup (eq k) old.map.entries ≡ None)
+        × (old.map.spare ≡ 0)
         × (new.map.entries ≡ old.map.entries) × (new.map.spare ≡ old.map.spare) }
     ensures not_accepted { (eq : K → K → Bool) (old new : WeightedState K V S) (k : K) (v : V) (weight : ℕ)
-        (r : Result (Option V) (WeightError K V)) → old.budget < weight → InsertsWithin eq old new k v weight r
+        (r : Result (Option V) (WeightError K V)) → old.budget < weight
+        → InsertsWithin eq old new k v weight r
         → r ≡ Err (TooHeavy (k, v)) }
 {}

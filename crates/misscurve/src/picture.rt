@@ -36,8 +36,8 @@ fn down(ratio: u64) -> u64 {
     HEIGHT.saturating_sub(ratio.saturating_mul(HEIGHT) / WHOLE)
 }
 
-/// Writes the picture: to the right the capacity, doubled at each line, and upwards the ratio of misses. The dashed
-/// line is that of the first uses of the keys, which every cache misses.
+/// Writes the picture: to the right the capacity, doubled at each line, and upwards the ratio of misses. The
+/// dashed line is that of the first uses of the keys, which every cache misses.
 pub fn write_picture<W: Write>(
     writer: &mut W,
     curve: &MissCurve<Vec<u8>>,

@@ -7,8 +7,8 @@ use std::io::{BufRead, Eprint, ErrorKind};
 /// After so many lines it is said how far the reading is.
 const PROGRESS: u64 = 1 << 22;
 
-/// The curve of the keys that the reader gives, a line each, or of those in one of so many parts. A trace is not kept,
-/// only its distinct keys.
+/// The curve of the keys that the reader gives, a line each, or of those in one of so many parts. A trace is
+/// not kept, only its distinct keys.
 pub fn curve_of<B: BufRead + Drop>(
     rt: &impl Eprint,
     alloc: Global,

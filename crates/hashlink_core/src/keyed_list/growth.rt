@@ -11,13 +11,14 @@ use std::alloc::AllocError;
 use std::hash::{BuildHasher, Hash};
 
 impl<K: Eq + Hash, V, S: BuildHasher> KeyedList<K, V, S> {
-    /// Makes room for so many more entries. Where there is the room already it takes no memory. A refusal changes
-    /// nothing.
+    /// Makes room for so many more entries. Where there is the room already it takes no memory. A refusal
+    /// changes nothing.
     pub fn reserve(&mut self, additional: usize) -> Result<(), TryReserveError>
         ensures ok { OnOk result (length self.old.nodes + additional ≤ self.new.room) }
         ensures grown { GrowsRoom additional self.old self.new }
         ensures err { OnErr result (self.new ≡ self.old) }
-        ensures enough { length self.old.nodes + additional ≤ self.old.room → IsOk result × (self.new ≡ self.old) }
+        ensures enough { length self.old.nodes + additional ≤ self.old.room → IsOk result
+            × (self.new ≡ self.old) }
         ensures overflow { (result ≡ Err CapacityOverflow) ↔ (MAX_ROOM < length self.old.nodes + additional) }
         ensures sound { IsKeyed K.eq self.old }
     {

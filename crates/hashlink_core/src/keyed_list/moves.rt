@@ -16,8 +16,8 @@ use hashlink_nodes::Node;
 use std::hash::{BuildHasher, Hash};
 
 impl<K: Eq + Hash, V, S: BuildHasher> KeyedList<K, V, S> {
-    /// Puts a pair with a new key, which has this hash, right before the place. Where no node is spare it takes
-    /// memory, and changes the list only after that:
+    /// Puts a pair with a new key, which has this hash, right before the place. Where no node is spare it
+    /// takes memory, and changes the list only after that:
     /// a refusal hands the pair back. It stores four links.
     pub fn insert_before(
         &mut self,
@@ -28,9 +28,10 @@ impl<K: Eq + Hash, V, S: BuildHasher> KeyedList<K, V, S> {
     ) -> Result<Node, (K, V)>
         requires place { IsPlace self.old.nodes place }
         requires absent { place_of (K.eq key) (entries_of self.old) ≡ None }
-        requires hash { hash ≡ hash_with S.build_hasher S.Hasher.write S.Hasher.finish K.hash_input self.old.hasher
-            key }
-        ensures added { IfOk result (λ n. AddsNode self.old self.new (place_number self.old.nodes place) n key value) }
+        requires hash { hash ≡ hash_with S.build_hasher S.Hasher.write S.Hasher.finish
+            K.hash_input self.old.hasher key }
+        ensures added { IfOk result
+            (λ n. AddsNode self.old self.new (place_number self.old.nodes place) n key value) }
         ensures handed_back { IfErr result (λ pair. pair ≡ (key, value)) }
         ensures refused { OnErr result (GrowsRoom 1 self.old self.new) }
         ensures no_spare { OnErr result (self.old.spare ≡ 0) }
@@ -72,7 +73,8 @@ impl<K: Eq + Hash, V, S: BuildHasher> KeyedList<K, V, S> {
     /// Takes the node's entry out. The node is then spare. It takes no memory and stores three links.
     pub fn remove(&mut self, node: Node) -> (K, V)
         requires { Holds self.old.nodes node }
-        ensures pair { slice_get (entries_of self.old) (place_number self.old.nodes (Some node)) ≡ Some result }
+        ensures pair { slice_get (entries_of self.old) (place_number self.old.nodes (Some node))
+            ≡ Some result }
         ensures removed { RemovesNode self.old self.new (place_number self.old.nodes (Some node)) }
         ensures sound { IsKeyed K.eq self.new }
     {

@@ -1,5 +1,6 @@
 //! What a keyed list shows.
-ghost use Rattle.std.specs.Prelude.{◌≡◌, ◌-◌, ◌<◌, ◌^◌, ◌↔◌, length, slice_get, Bool, None, Some, IsTrue, MatchOption};
+ghost use Rattle.std.specs.Prelude.{◌≡◌, ◌-◌, ◌<◌, ◌^◌, ◌↔◌, length, slice_get, Bool, None, Some, IsTrue};
+ghost use Rattle.std.specs.Prelude.{MatchOption};
 ghost use Rattle.std.specs.Prelude.{IfSome};
 ghost use Rattle.std.specs.Fn.{FnReturnsAt};
 ghost use Rattle.std.specs.Map.{lookup, keys_of, values_of};
@@ -23,16 +24,18 @@ impl<K: Eq + Hash, V, S: BuildHasher> KeyedList<K, V, S> {
     /// The hash of a key, or of what stands for one.
     #[inline]
     pub fn hash_of<Q: Equivalent<K>>(&self, key: Q) -> u64
-        ensures { result ≡ hash_with S.build_hasher S.Hasher.write S.Hasher.finish Q.hash_input self.now.hasher key }
+        ensures { result ≡ hash_with S.build_hasher S.Hasher.write S.Hasher.finish Q.hash_input
+            self.now.hasher key }
     {
         self.hash_builder.hash_one(key)
     }
 
-    /// The node that holds a key equal to this one, or one that this query matches, which has this hash. It looks at
-    /// the nodes of one bucket.
+    /// The node that holds a key equal to this one, or one that this query matches, which has this hash. It
+    /// looks at the nodes of one bucket.
     #[inline]
     pub fn find<Q: Equivalent<K>>(&self, hash: u64, key: Q) -> Option<Node>
-        requires { hash ≡ hash_with S.build_hasher S.Hasher.write S.Hasher.finish Q.hash_input self.now.hasher key }
+        requires { hash ≡ hash_with S.build_hasher S.Hasher.write S.Hasher.finish Q.hash_input
+            self.now.hasher key }
         ensures found { MatchOption result (place_of (Q.matches key) (entries_of self.now) ≡ None)
             (HoldsMatch (Q.matches key) self.now.nodes) }
         ensures sound { IsKeyed K.eq self.now }
@@ -43,30 +46,37 @@ impl<K: Eq + Hash, V, S: BuildHasher> KeyedList<K, V, S> {
         self.find_match(hash, is_match)
     }
 
-    /// The node that holds a key equal to the one that the hash and the test stand for: the hash has to be that key's,
-    /// and the test has to answer of each key whether it is equal to it. It looks at the nodes of one bucket.
+    /// The node that holds a key equal to the one that the hash and the test stand for: the hash has to be
+    /// that key's, and the test has to answer of each key whether it is equal to it. It looks at the nodes of
+    /// one bucket.
     #[inline]
     pub fn find_with<F: Fn(&K) -> bool>(&self, hash: u64, is_match: F) -> Option<Node>
         requires { (k : K) × Tells F.Fn K.eq
-            (hash_with S.build_hasher S.Hasher.write S.Hasher.finish K.hash_input self.now.hasher) is_match hash k }
+            (hash_with S.build_hasher S.Hasher.write S.Hasher.finish K.hash_input self.now.hasher)
+            is_match hash k }
         ensures found { (k : K) → Tells F.Fn K.eq
-            (hash_with S.build_hasher S.Hasher.write S.Hasher.finish K.hash_input self.now.hasher) is_match hash k
-            → MatchOption result (place_of (K.eq k) (entries_of self.now) ≡ None) (HoldsKey K.eq self.now.nodes k) }
+            (hash_with S.build_hasher S.Hasher.write S.Hasher.finish K.hash_input self.now.hasher)
+            is_match hash k
+            → MatchOption result (place_of (K.eq k) (entries_of self.now) ≡ None)
+            (HoldsKey K.eq self.now.nodes k) }
         ensures sound { IsKeyed K.eq self.now }
     {
         self.find_match(hash, is_match)
     }
 
-    /// The node that holds a key which passes the test: each key that passes has to have the hash and to equal each
-    /// other that does. It looks at the nodes of one bucket.
+    /// The node that holds a key which passes the test: each key that passes has to have the hash and to
+    /// equal each other that does. It looks at the nodes of one bucket.
     #[inline]
     pub fn find_match<F: Fn(&K) -> bool>(&self, hash: u64, is_match: F) -> Option<Node>
         requires { (passes : K → Bool) × TellsMatch F.Fn K.eq
-            (hash_with S.build_hasher S.Hasher.write S.Hasher.finish K.hash_input self.now.hasher) is_match hash
+            (hash_with S.build_hasher S.Hasher.write S.Hasher.finish K.hash_input self.now.hasher)
+            is_match hash
             passes }
         ensures found { (passes : K → Bool) → TellsMatch F.Fn K.eq
-            (hash_with S.build_hasher S.Hasher.write S.Hasher.finish K.hash_input self.now.hasher) is_match hash passes
-            → MatchOption result (place_of passes (entries_of self.now) ≡ None) (HoldsMatch passes self.now.nodes) }
+            (hash_with S.build_hasher S.Hasher.write S.Hasher.finish K.hash_input self.now.hasher)
+            is_match hash passes
+            → MatchOption result (place_of passes (entries_of self.now) ≡ None)
+            (HoldsMatch passes self.now.nodes) }
         ensures sound { IsKeyed K.eq self.now }
     {
         let nodes = &self.nodes;

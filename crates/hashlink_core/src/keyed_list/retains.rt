@@ -7,8 +7,9 @@ use super::KeyedList;
 use std::hash::{BuildHasher, Hash};
 
 impl<K: Eq + Hash, V, S: BuildHasher> KeyedList<K, V, S> {
-    /// Calls `keep` once on each entry, from the front, and takes out those at which it returns false. Their nodes
-    /// are then spare. It takes no memory, hashes nothing, and stores at most three links for each entry that leaves.
+    /// Calls `keep` once on each entry, from the front, and takes out those at which it returns false. Their
+    /// nodes are then spare. It takes no memory, hashes nothing, and stores at most three links for each
+    /// entry that leaves.
     pub fn retain_in_order<F: FnMut(&K, &mut V) -> bool>(&mut self, mut keep: F)
     where
         K: Drop,

@@ -18,8 +18,8 @@ impl<K: Eq + Hash, V, S: BuildHasher> KeyedList<K, V, S> {
     #[inline]
     pub fn entry_mut(&mut self, node: Node) -> (&K, &mut V)
         requires { Holds self.old.nodes node }
-        ensures* lends { sem 𝓛 (LendsValueAt K.row V.row S.row S.Hasher.row K.Hash S.BuildHasher S.Hasher.Hasher
-            self.entry node result.1) }
+        ensures* lends { sem 𝓛 (LendsValueAt K.row V.row S.row S.Hasher.row K.Hash
+            S.BuildHasher S.Hasher.Hasher self.entry node result.1) }
         ensures pair { slice_get (entries_of self.old) (place_number self.old.nodes (Some node))
             ≡ Some (result.0.now, result.1.now) }
     {
@@ -30,8 +30,8 @@ impl<K: Eq + Hash, V, S: BuildHasher> KeyedList<K, V, S> {
     #[inline]
     pub fn value_mut(&mut self, node: Node) -> &mut V
         requires { Holds self.old.nodes node }
-        ensures* lends { sem 𝓛 (LendsValueAt K.row V.row S.row S.Hasher.row K.Hash S.BuildHasher S.Hasher.Hasher
-            self.entry node result) }
+        ensures* lends { sem 𝓛 (LendsValueAt K.row V.row S.row S.Hasher.row K.Hash
+            S.BuildHasher S.Hasher.Hasher self.entry node result) }
         ensures value { option_map (λ e. e.1)
             (slice_get (entries_of self.old) (place_number self.old.nodes (Some node))) ≡ Some result.now }
     {
@@ -55,7 +55,8 @@ impl<K: Eq + Hash, V, S: BuildHasher> KeyedList<K, V, S> {
     #[inline]
     pub fn replace_key(&mut self, node: Node, key: K) -> K
         requires held { Holds self.old.nodes node }
-        requires equal { EqualsKeyAt K.eq (entries_of self.old) (place_number self.old.nodes (Some node)) key }
+        requires equal { EqualsKeyAt K.eq (entries_of self.old)
+            (place_number self.old.nodes (Some node)) key }
         ensures key { option_map (λ e. e.0)
             (slice_get (entries_of self.old) (place_number self.old.nodes (Some node))) ≡ Some result }
         ensures written { SetsNodeKey self.old self.new (place_number self.old.nodes (Some node)) key }

@@ -1,10 +1,12 @@
-//! The map's entries, which act on the cache where they stand. An insert through one may pass the capacity by one.
+//! The map's entries, which act on the cache where they stand. An insert through one may pass the capacity by
+//! one.
 //!
-//! What comes of `entry` and `raw_entry_mut` borrows the map inside the cache: the cache ends with what its map ends
-//! as, at the same capacity, which for `entry` is proved by a walk written by hand. Of a cache that is borrowed so a
-//! caller's generated proof knows nothing once the entry is gone, except where a call takes it by value at once.
-//! `make_room` and then an entry of `map_mut` do the same, and leave all known: `hashlink_uses` has a proved caller for
-//! each form.
+//! What comes of `entry` and `raw_entry_mut` borrows the map inside the cache: the cache ends with what its
+//! map ends as, at the same capacity, which for `entry` is proved by a walk written by hand. Of a cache that
+//! is borrowed so a caller's generated proof knows nothing once the entry is gone, except where a call takes
+//! it by value at once.
+//! `make_room` and then an entry of `map_mut` do the same, and leave all known: `hashlink_uses` has a proved
+//! caller for each form.
 ghost use Rattle.std.specs.Prelude.{◌≡◌};
 ghost use Rattle.std.specs.Borrow.{sem};
 ghost use Rattle.hashlink_model.specs.Cache.{EntersCache, EvictsFront};
@@ -30,16 +32,17 @@ impl<K: Eq + Hash, V, S: BuildHasher> LruCache<K, V, S> {
         &mut self.map
     }
 
-    /// Drops the front where there are more entries than the capacity, even where it is the key's own entry, and
-    /// returns the place of the key, with the key in hand. It looks for the key as `peek` does.
+    /// Drops the front where there are more entries than the capacity, even where it is the key's own entry,
+    /// and returns the place of the key, with the key in hand. It looks for the key as `peek` does.
     ///
-    /// So an insert through the entry can pass the capacity by one. Where an entry was dropped, its node is spare, and
-    /// that insert is not refused.
+    /// So an insert through the entry can pass the capacity by one. Where an entry was dropped, its node is
+    /// spare, and that insert is not refused.
     pub fn entry(&mut self, key: K) -> Entry<'_, K, V, S>
     where
         K: Drop,
         V: Drop,
-        ensures* hands_on { sem 𝓛 (HandsOnMap K.row V.row S.row S.Hasher.row K.Hash S.BuildHasher S.Hasher.Hasher
+        ensures* hands_on { sem 𝓛
+            (HandsOnMap K.row V.row S.row S.Hasher.row K.Hash S.BuildHasher S.Hasher.Hasher
             self.entry (entry_map result).ghost_name) }
         ensures enters { EntersCache K.eq (state_in self.old) key (entry_state result) }
         ensures distinct { IsEntries K.eq (entry_state result).map.entries }
@@ -54,18 +57,20 @@ impl<K: Eq + Hash, V, S: BuildHasher> LruCache<K, V, S> {
         self.map.raw_entry()
     }
 
-    /// Drops the front where there are more entries than the capacity, and returns what finds an entry to change, by
-    /// a key, by a key and its hash, or by a hash and a test.
+    /// Drops the front where there are more entries than the capacity, and returns what finds an entry to
+    /// change, by a key, by a key and its hash, or by a hash and a test.
     ///
-    /// So an insert through the entry can pass the capacity by one. Where an entry was dropped, its node is spare, and
-    /// that insert is not refused.
+    /// So an insert through the entry can pass the capacity by one. Where an entry was dropped, its node is
+    /// spare, and that insert is not refused.
     pub fn raw_entry_mut(&mut self) -> RawEntryBuilderMut<'_, K, V, S>
     where
         K: Drop,
         V: Drop,
-        ensures* hands_on { sem 𝓛 (HandsOnMap K.row V.row S.row S.Hasher.row K.Hash S.BuildHasher S.Hasher.Hasher
+        ensures* hands_on { sem 𝓛
+            (HandsOnMap K.row V.row S.row S.Hasher.row K.Hash S.BuildHasher S.Hasher.Hasher
             self.entry (found_map result).ghost_name) }
-        ensures evicts { EvictsFront (state_in self.old).map (state_of (found_map result).now) (state_in self.old).cap }
+        ensures evicts { EvictsFront (state_in self.old).map (state_of (found_map result).now)
+            (state_in self.old).cap }
         ensures distinct { IsEntries K.eq (entries_of (found_map result).now) }
     {
         self.roomy_map().raw_entry_mut()
@@ -76,7 +81,8 @@ impl<K: Eq + Hash, V, S: BuildHasher> LruCache<K, V, S> {
     where
         K: Drop,
         V: Drop,
-        ensures* hands_on { sem 𝓛 (HandsOnMap K.row V.row S.row S.Hasher.row K.Hash S.BuildHasher S.Hasher.Hasher
+        ensures* hands_on { sem 𝓛
+            (HandsOnMap K.row V.row S.row S.Hasher.row K.Hash S.BuildHasher S.Hasher.Hasher
             self.entry result.ghost_name) }
         ensures evicts { EvictsFront (state_in self.old).map (state_of result.now) (state_in self.old).cap }
         ensures distinct { IsEntries K.eq (entries_of result.now) }

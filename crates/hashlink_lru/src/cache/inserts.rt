@@ -9,16 +9,16 @@ use std::hash::{BuildHasher, Hash};
 impl<K: Eq + Hash, V, S: BuildHasher> LruCache<K, V, S> {
     ghost use Rattle.hashlink_lru.specs.Cached.{entries_in, state_in, StaysWithin};
 
-    /// Puts the pair last, and returns the key's old value. A key that is there keeps its key object, takes the new
-    /// value and moves to the end. Then entries are dropped from the front until there are no more than the capacity,
-    /// so a cache of capacity 0 is empty afterwards.
+    /// Puts the pair last, and returns the key's old value. A key that is there keeps its key object, takes
+    /// the new value and moves to the end. Then entries are dropped from the front until there are no more
+    /// than the capacity, so a cache of capacity 0 is empty afterwards.
     ///
-    /// It hashes the key once, and takes memory only for an absent key where no node is spare. Where that is refused,
-    /// the pair is handed back and nothing is dropped.
+    /// It hashes the key once, and takes memory only for an absent key where no node is spare. Where that is
+    /// refused, the pair is handed back and nothing is dropped.
     ///
-    /// It takes a step for each entry that it drops: one at most, unless entries, cursors or `map_mut` have passed the
-    /// capacity. It stores at most six links for a key that is there, four for an absent one, and three for each entry
-    /// that it drops.
+    /// It takes a step for each entry that it drops: one at most, unless entries, cursors or `map_mut` have
+    /// passed the capacity. It stores at most six links for a key that is there, four for an absent one, and
+    /// three for each entry that it drops.
     pub fn insert(&mut self, key: K, value: V) -> Result<Option<V>, (K, V)>
     where
         K: Drop,
@@ -33,8 +33,8 @@ impl<K: Eq + Hash, V, S: BuildHasher> LruCache<K, V, S> {
         Ok(old)
     }
 
-    /// Drops the front where there are more entries than the capacity. It takes constant time, hashes nothing, and
-    /// stores at most three links. The node serves the next new pair, which is then not refused.
+    /// Drops the front where there are more entries than the capacity. It takes constant time, hashes
+    /// nothing, and stores at most three links. The node serves the next new pair, which is then not refused.
     pub fn make_room(&mut self)
     where
         K: Drop,

@@ -1,5 +1,5 @@
-//! What a cache shows. A `get` is a use and moves its entry to the end, a `peek` leaves the order. Each hashes the
-//! key once, takes no memory, and looks at the entries of one bucket.
+//! What a cache shows. A `get` is a use and moves its entry to the end, a `peek` leaves the order. Each
+//! hashes the key once, takes no memory, and looks at the entries of one bucket.
 ghost use Rattle.std.specs.Prelude.{◌≡◌, is_some, option_copied};
 ghost use Rattle.std.specs.Borrow.{sem};
 ghost use Rattle.std.specs.Option.{option_map, option_copied_mut};
@@ -32,15 +32,15 @@ impl<K: Eq + Hash, V, S: BuildHasher> LruCache<K, V, S> {
 
     /// The value of the key, for writing. The order stays as it is.
     pub fn peek_mut<Q: Equivalent<K>>(&mut self, key: Q) -> Option<&mut V>
-        ensures* lends { sem 𝓛 (LendsValueIn K.row V.row S.row S.Hasher.row K.Hash S.BuildHasher S.Hasher.Hasher
-            self.entry (Q.matches key) result) }
+        ensures* lends { sem 𝓛 (LendsValueIn K.row V.row S.row S.Hasher.row K.Hash
+            S.BuildHasher S.Hasher.Hasher self.entry (Q.matches key) result) }
         ensures value { option_copied_mut result ≡ lookup (Q.matches key) (entries_in self.old) }
     {
         self.map.get_mut(key)
     }
 
-    /// The front, which was used longest ago and is dropped next. The order stays as it is. It takes constant time and
-    /// hashes nothing.
+    /// The front, which was used longest ago and is dropped next. The order stays as it is. It takes constant
+    /// time and hashes nothing.
     pub fn peek_lru(&self) -> Option<(&K, &V)>
         ensures { option_map deref_pair result ≡ first_of (entries_in self.now) }
     {
@@ -54,8 +54,8 @@ impl<K: Eq + Hash, V, S: BuildHasher> LruCache<K, V, S> {
         self.map.back()
     }
 
-    /// The value of the key, whose entry moves to the end. Of an absent key it returns none, and nothing changes. It
-    /// stores at most six links.
+    /// The value of the key, whose entry moves to the end. Of an absent key it returns none, and nothing
+    /// changes. It stores at most six links.
     pub fn get<Q: Equivalent<K>>(&mut self, key: Q) -> Option<&V>
         ensures* used { sem 𝓛 (EndsUsed K.row V.row S.row S.Hasher.row K.Hash S.BuildHasher S.Hasher.Hasher
             self.entry (Q.matches key) (option_copied result)) }
@@ -68,8 +68,8 @@ impl<K: Eq + Hash, V, S: BuildHasher> LruCache<K, V, S> {
         }
     }
 
-    /// The value of the key, for writing. Its entry moves to the end. Of an absent key it returns none, and nothing
-    /// changes. It stores at most six links.
+    /// The value of the key, for writing. Its entry moves to the end. Of an absent key it returns none, and
+    /// nothing changes. It stores at most six links.
     pub fn get_mut<Q: Equivalent<K>>(&mut self, key: Q) -> Option<&mut V>
         ensures* lends { sem 𝓛 (LendsUsed K.row V.row S.row S.Hasher.row K.Hash S.BuildHasher S.Hasher.Hasher
             self.entry (Q.matches key) result) }

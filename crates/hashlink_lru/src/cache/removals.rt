@@ -1,5 +1,5 @@
-//! How entries leave. The others keep their order, and each node that is freed serves the next new pair. None of these
-//! takes memory.
+//! How entries leave. The others keep their order, and each node that is freed serves the next new pair. None
+//! of these takes memory.
 ghost use Rattle.std.specs.Prelude.{◌≡◌};
 ghost use Rattle.std.specs.Map.{lookup, lookup_entry};
 ghost use Rattle.std.specs.Map.Calls.{CalledAtPair, TakesPair, CallableOnEachPair};
@@ -15,22 +15,22 @@ use std::hash::{BuildHasher, Hash};
 impl<K: Eq + Hash, V, S: BuildHasher> LruCache<K, V, S> {
     ghost use Rattle.hashlink_lru.specs.Cached.{entries_in, state_in, StaysWithin};
 
-    /// Takes the key's entry out and returns its value. It looks for the key as `peek` does, and stores at most three
-    /// links.
+    /// Takes the key's entry out and returns its value. It looks for the key as `peek` does, and stores at
+    /// most three links.
     pub fn remove<Q: Equivalent<K>>(&mut self, key: Q) -> Option<V>
     where
         K: Drop,
         ensures value { result ≡ lookup (Q.matches key) (entries_in self.old) }
-        ensures removes { OnMap (λ a b. RemovesMatch (Q.matches key) a b (lookup_entry (Q.matches key) a.entries))
-            (state_in self.old) (state_in self.new) }
+        ensures removes { OnMap (λ a b. RemovesMatch (Q.matches key) a b
+            (lookup_entry (Q.matches key) a.entries)) (state_in self.old) (state_in self.new) }
         ensures distinct { IsEntries K.eq (entries_in self.new) }
         ensures within { StaysWithin (state_in self.old) (state_in self.new) }
     {
         self.map.remove(key)
     }
 
-    /// Takes the key's entry out and returns the stored pair. It looks for the key as `peek` does, and stores at most
-    /// three links.
+    /// Takes the key's entry out and returns the stored pair. It looks for the key as `peek` does, and stores
+    /// at most three links.
     pub fn remove_entry<Q: Equivalent<K>>(&mut self, key: Q) -> Option<(K, V)>
         ensures removes { OnMap (λ a b. RemovesMatch (Q.matches key) a b result) (state_in self.old)
             (state_in self.new) }
@@ -40,8 +40,8 @@ impl<K: Eq + Hash, V, S: BuildHasher> LruCache<K, V, S> {
         self.map.remove_entry(key)
     }
 
-    /// Takes the front out, which was used longest ago, and returns it. It takes constant time, hashes nothing, and
-    /// stores at most three links.
+    /// Takes the front out, which was used longest ago, and returns it. It takes constant time, hashes
+    /// nothing, and stores at most three links.
     pub fn remove_lru(&mut self) -> Option<(K, V)>
         ensures pops { OnMap (λ a b. PopsFront a b result) (state_in self.old) (state_in self.new) }
         ensures distinct { IsEntries K.eq (entries_in self.new) }
@@ -50,8 +50,8 @@ impl<K: Eq + Hash, V, S: BuildHasher> LruCache<K, V, S> {
         self.map.pop_front()
     }
 
-    /// Drops every entry and gives its node back to the allocator. The spare nodes stay, and the capacity. It takes a
-    /// step for each entry and each bucket.
+    /// Drops every entry and gives its node back to the allocator. The spare nodes stay, and the capacity. It
+    /// takes a step for each entry and each bucket.
     pub fn clear(&mut self)
     where
         K: Drop,
@@ -62,8 +62,8 @@ impl<K: Eq + Hash, V, S: BuildHasher> LruCache<K, V, S> {
         self.map.clear();
     }
 
-    /// Sets the capacity, and drops entries from the front until there are no more than it. It takes a step for each
-    /// that it drops, hashes nothing, and stores at most three links for each.
+    /// Sets the capacity, and drops entries from the front until there are no more than it. It takes a step
+    /// for each that it drops, hashes nothing, and stores at most three links for each.
     pub fn set_capacity(&mut self, capacity: usize)
     where
         K: Drop,
@@ -89,8 +89,9 @@ impl<K: Eq + Hash, V, S: BuildHasher> LruCache<K, V, S> {
         }
     }
 
-    /// Calls `keep` once on each entry, and takes out those at which it returns false. It hashes nothing, and stores
-    /// at most three links for each entry that leaves. `keep` has to take each entry as the calls before have left it.
+    /// Calls `keep` once on each entry, and takes out those at which it returns false. It hashes nothing, and
+    /// stores at most three links for each entry that leaves. `keep` has to take each entry as the calls
+    /// before have left it.
     pub fn retain<F: FnMut(&K, &mut V) -> bool>(&mut self, keep: F)
     where
         K: Drop,

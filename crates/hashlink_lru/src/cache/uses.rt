@@ -15,18 +15,19 @@ impl<K: Eq + Hash, V, S: BuildHasher> LruCache<K, V, S> {
     ghost use Rattle.hashlink_lru.specs.Cached.{entries_in, state_in, UsesOrPuts, FailsToUse};
     ghost use Rattle.hashlink_lru.specs.Lends.{LendsUsedOrNew, LendsUsedOrTryNew};
 
-    /// The value of the key, for writing. A key that is there moves to the end, and `make` is not called: it is a hit
-    /// of `get_mut`, and drops nothing. For an absent key `make` is called once, and what it gives is put last with
-    /// the key. Then entries are dropped from the front until there are no more than the capacity.
+    /// The value of the key, for writing. A key that is there moves to the end, and `make` is not called: it
+    /// is a hit of `get_mut`, and drops nothing. For an absent key `make` is called once, and what it gives
+    /// is put last with the key. Then entries are dropped from the front until there are no more than the
+    /// capacity.
     ///
-    /// What is lent has to stand in the cache. So at capacity 0 the new pair stays, alone and one beyond the capacity,
-    /// as after an entry: the next insert drops it.
+    /// What is lent has to stand in the cache. So at capacity 0 the new pair stays, alone and one beyond the
+    /// capacity, as after an entry: the next insert drops it.
     ///
-    /// It takes memory only for an absent key where no node is spare. Where that is refused, the key and the value
-    /// that was made are handed back, no entry changes and nothing is dropped.
+    /// It takes memory only for an absent key where no node is spare. Where that is refused, the key and the
+    /// value that was made are handed back, no entry changes and nothing is dropped.
     ///
-    /// It hashes the key once for a hit and twice for a miss, and stores at most six links for a key that is there,
-    /// four for an absent one, and three for each entry that it drops.
+    /// It hashes the key once for a hit and twice for a miss, and stores at most six links for a key that is
+    /// there, four for an absent one, and three for each entry that it drops.
     pub fn get_or_insert_with<F: FnOnce() -> V>(
         &mut self,
         key: K,
@@ -37,8 +38,8 @@ impl<K: Eq + Hash, V, S: BuildHasher> LruCache<K, V, S> {
         V: Drop,
         F: Drop,
         requires { lookup (K.eq key) (entries_in self.old) ≡ None → F.pre make }
-        ensures* lends { sem 𝓛 (LendsUsedOrNew K.row V.row S.row S.Hasher.row K.Hash S.BuildHasher S.Hasher.Hasher
-            self.entry key result) }
+        ensures* lends { sem 𝓛 (LendsUsedOrNew K.row V.row S.row S.Hasher.row K.Hash
+            S.BuildHasher S.Hasher.Hasher self.entry key result) }
         ensures value { IfOk result
             (λ v. UnwrapsOrElse (lookup (K.eq key) (entries_in self.old)) (F.post make) v.now) }
         ensures given { IfErr result (λ pair. pair.0 ≡ key) }
@@ -58,9 +59,10 @@ impl<K: Eq + Hash, V, S: BuildHasher> LruCache<K, V, S> {
         V: Drop,
         F: Drop,
         requires { lookup (K.eq key) (entries_in self.old) ≡ None → F.pre make }
-        ensures used { OnOk result (UsesOrPuts K.eq (F.post make) (state_in self.old) (state_in self.new) key) }
-        ensures refused { IfErr result (λ pair. CacheInserts K.eq (state_in self.old) (state_in self.new) key pair.1
-            (Err pair)) }
+        ensures used { OnOk result (UsesOrPuts K.eq (F.post make) (state_in self.old)
+            (state_in self.new) key) }
+        ensures refused { IfErr result
+            (λ pair. CacheInserts K.eq (state_in self.old) (state_in self.new) key pair.1 (Err pair)) }
         ensures made { IfErr result (λ pair. F.post make pair.1) }
         ensures distinct { IsEntries K.eq (entries_in self.old) }
     {
@@ -72,11 +74,11 @@ impl<K: Eq + Hash, V, S: BuildHasher> LruCache<K, V, S> {
         Ok(())
     }
 
-    /// `get_or_insert_with` of what may fail to be made. The error of `make` is handed on with the key, and then
-    /// nothing changes.
+    /// `get_or_insert_with` of what may fail to be made. The error of `make` is handed on with the key, and
+    /// then nothing changes.
     ///
-    /// It takes memory only for an absent key where no node is spare. Where that is refused, the key and the value
-    /// that was made are handed back, no entry changes and nothing is dropped.
+    /// It takes memory only for an absent key where no node is spare. Where that is refused, the key and the
+    /// value that was made are handed back, no entry changes and nothing is dropped.
     pub fn get_or_try_insert_with<E, F: FnOnce() -> Result<V, E>>(
         &mut self,
         key: K,
@@ -87,8 +89,8 @@ impl<K: Eq + Hash, V, S: BuildHasher> LruCache<K, V, S> {
         V: Drop,
         F: Drop,
         requires { lookup (K.eq key) (entries_in self.old) ≡ None → F.pre make }
-        ensures* lends { sem 𝓛 (LendsUsedOrTryNew K.row V.row S.row S.Hasher.row K.Hash S.BuildHasher S.Hasher.Hasher
-            self.entry key result) }
+        ensures* lends { sem 𝓛 (LendsUsedOrTryNew K.row V.row S.row S.Hasher.row K.Hash
+            S.BuildHasher S.Hasher.Hasher self.entry key result) }
         ensures value { IfOk result
             (λ v. UnwrapsOrElse (lookup (K.eq key) (entries_in self.old)) (λ x. F.post make (Ok x)) v.now) }
         ensures handed_back { IfErr result (HandsBack (F.post make) key) }
@@ -111,8 +113,8 @@ impl<K: Eq + Hash, V, S: BuildHasher> LruCache<K, V, S> {
         V: Drop,
         F: Drop,
         requires { lookup (K.eq key) (entries_in self.old) ≡ None → F.pre make }
-        ensures used { OnOk result (UsesOrPuts K.eq (λ x. F.post make (Ok x)) (state_in self.old) (state_in self.new)
-            key) }
+        ensures used { OnOk result (UsesOrPuts K.eq (λ x. F.post make (Ok x)) (state_in self.old)
+            (state_in self.new) key) }
         ensures failed { IfErr result (FailsToUse K.eq (state_in self.old) (state_in self.new) key) }
         ensures handed_back { IfErr result (HandsBack (F.post make) key) }
         ensures distinct { IsEntries K.eq (entries_in self.old) }

@@ -1,5 +1,5 @@
-//! Walks over a cache, from both ends. They do not count as a use. None of them takes memory, and each step takes
-//! constant time.
+//! Walks over a cache, from both ends. They do not count as a use. None of them takes memory, and each step
+//! takes constant time.
 ghost use Rattle.std.specs.Prelude.{◌≡◌, ◌^◌, ◌<◌, length};
 ghost use Rattle.std.specs.Borrow.{sem};
 ghost use Rattle.std.specs.Map.Iter.{ShowsInOrder, ShowsInReverse, deref_pair};
@@ -28,7 +28,8 @@ impl<K: Eq + Hash, V, S: BuildHasher> LruCache<K, V, S> {
 
     /// A walk over the entries, front first, that lends each value for writing.
     pub fn iter_mut(&mut self) -> IterMut<'_, K, V, S>
-        ensures* hands_on { sem 𝓛 (HandsOnMap K.row V.row S.row S.Hasher.row K.Hash S.BuildHasher S.Hasher.Hasher
+        ensures* hands_on { sem 𝓛
+            (HandsOnMap K.row V.row S.row S.Hasher.row K.Hash S.BuildHasher S.Hasher.Hasher
             self.entry (walk_map result).ghost_name) }
         ensures unchanged { (walk_map result).now ≡ map_in self.old }
         ensures rest { walk_state result ≡ writing_walk (state_of (map_in self.old)) 0
@@ -42,7 +43,8 @@ impl<K: Eq + Hash, V, S: BuildHasher> LruCache<K, V, S> {
     where
         K: Drop,
         V: Drop,
-        ensures* hands_on { sem 𝓛 (HandsOnMap K.row V.row S.row S.Hasher.row K.Hash S.BuildHasher S.Hasher.Hasher
+        ensures* hands_on { sem 𝓛
+            (HandsOnMap K.row V.row S.row S.Hasher.row K.Hash S.BuildHasher S.Hasher.Hasher
             self.entry (drained_map result).ghost_name) }
         ensures unchanged { (drained_map result).now ≡ map_in self.old }
     {

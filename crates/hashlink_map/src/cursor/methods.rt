@@ -20,16 +20,19 @@ impl<'a, K: Eq + Hash, V, S: BuildHasher> CursorMut<'a, K, V, S> {
     ghost use Rattle.hashlink_map.specs.RawEntry.{raw_occupied_map, raw_place};
     ghost use Rattle.hashlink_model.specs.Entry.{value_at};
 
-    /// Moves to the next place: from the last entry to the guard, and from there to the first. It stores no link.
+    /// Moves to the next place: from the last entry to the guard, and from there to the first. It stores no
+    /// link.
     pub fn move_next(&mut self)
         ensures same_map { (cursor_map self.new).ghost_name ≡ (cursor_map self.old).ghost_name }
         ensures unchanged { (cursor_map self.new).now ≡ (cursor_map self.old).now }
-        ensures moves { cursor_state self.new ≡ at_place (cursor_state self.old) (place_next (cursor_state self.old)) }
+        ensures moves { cursor_state self.new ≡ at_place (cursor_state self.old)
+            (place_next (cursor_state self.old)) }
     {
         self.place = self.map.place_after(self.place);
     }
 
-    /// Moves to the place before: from the first entry to the guard, and from there to the last. It stores no link.
+    /// Moves to the place before: from the first entry to the guard, and from there to the last. It stores no
+    /// link.
     pub fn move_prev(&mut self)
         ensures same_map { (cursor_map self.new).ghost_name ≡ (cursor_map self.old).ghost_name }
         ensures unchanged { (cursor_map self.new).now ≡ (cursor_map self.old).now }
@@ -76,7 +79,8 @@ impl<'a, K: Eq + Hash, V, S: BuildHasher> CursorMut<'a, K, V, S> {
     pub fn current(&mut self) -> Option<(&K, &mut V)>
         ensures* lends { sem 𝓛 (LendsPairFromCursor K.row V.row S.row S.Hasher.row self.entry
             (cursor_state self.old).place result) }
-        ensures pair { option_map lent_pair result ≡ entry_in (cursor_state self.old) (cursor_state self.old).place }
+        ensures pair { option_map lent_pair result ≡ entry_in (cursor_state self.old)
+            (cursor_state self.old).place }
     {
         let (cursor, place) = self.with_place();
         cursor.pair_at(place)
@@ -85,7 +89,8 @@ impl<'a, K: Eq + Hash, V, S: BuildHasher> CursorMut<'a, K, V, S> {
     /// The cursor, and the place after its own.
     fn with_next(&mut self) -> (&mut Self, Option<Node>)
         ensures cursor { result.0 ≡ self.entry }
-        ensures place { IsPlaceAt (cursor_map self.old).now.nodes result.1 (place_next (cursor_state self.old)) }
+        ensures place { IsPlaceAt (cursor_map self.old).now.nodes result.1
+            (place_next (cursor_state self.old)) }
     {
         let next = self.map.place_after(self.place);
         (self, next)
@@ -105,7 +110,8 @@ impl<'a, K: Eq + Hash, V, S: BuildHasher> CursorMut<'a, K, V, S> {
     /// The cursor, and the place before its own.
     fn with_previous(&mut self) -> (&mut Self, Option<Node>)
         ensures cursor { result.0 ≡ self.entry }
-        ensures place { IsPlaceAt (cursor_map self.old).now.nodes result.1 (place_previous (cursor_state self.old)) }
+        ensures place { IsPlaceAt (cursor_map self.old).now.nodes result.1
+            (place_previous (cursor_state self.old)) }
     {
         let previous = self.map.place_before(self.place);
         (self, previous)
@@ -122,8 +128,8 @@ impl<'a, K: Eq + Hash, V, S: BuildHasher> CursorMut<'a, K, V, S> {
         cursor.pair_at(place)
     }
 
-    /// The value at the cursor, for writing: `current` without the key, of which a caller knows in full what the map
-    /// is afterwards.
+    /// The value at the cursor, for writing: `current` without the key, of which a caller knows in full what
+    /// the map is afterwards.
     pub fn current_value(&mut self) -> Option<&mut V>
         ensures* lends { sem 𝓛 (LendsFromCursor K.row V.row S.row S.Hasher.row self.entry
             (cursor_state self.old).place result) }
@@ -138,7 +144,8 @@ impl<'a, K: Eq + Hash, V, S: BuildHasher> CursorMut<'a, K, V, S> {
 
     /// The entry at the cursor. At the guard it gives the cursor back.
     pub fn current_entry(self) -> Result<RawOccupiedEntryMut<'a, K, V, S>, Self>
-        ensures entry { IfOk result (λ o. ((raw_occupied_map o).ghost_name ≡ (cursor_map self.entry).ghost_name)
+        ensures entry { IfOk result
+            (λ o. ((raw_occupied_map o).ghost_name ≡ (cursor_map self.entry).ghost_name)
             × ((raw_occupied_map o).now ≡ (cursor_map self.entry).now)
             × (raw_place o ≡ (cursor_state self.entry).place)) }
         ensures guard { IfErr result (λ c. ((cursor_map c).ghost_name ≡ (cursor_map self.entry).ghost_name)
@@ -153,10 +160,11 @@ impl<'a, K: Eq + Hash, V, S: BuildHasher> CursorMut<'a, K, V, S> {
         }
     }
 
-    /// The entry at the cursor, and none at the guard: `current_entry` of which a caller knows in full what the map is
-    /// afterwards.
+    /// The entry at the cursor, and none at the guard: `current_entry` of which a caller knows in full what
+    /// the map is afterwards.
     pub fn into_entry(self) -> Option<RawOccupiedEntryMut<'a, K, V, S>>
-        ensures* hands_on { sem 𝓛 (HandsOnOccupied K.row V.row S.row S.Hasher.row (cursor_map self.entry) result) }
+        ensures* hands_on { sem 𝓛 (HandsOnOccupied K.row V.row S.row S.Hasher.row
+            (cursor_map self.entry) result) }
         ensures same_map { IfSome result
             (λ o. (raw_occupied_map o).ghost_name ≡ (cursor_map self.entry).ghost_name) }
         ensures unchanged { IfSome result (λ o. (raw_occupied_map o).now ≡ (cursor_map self.entry).now) }
@@ -171,7 +179,8 @@ impl<'a, K: Eq + Hash, V, S: BuildHasher> CursorMut<'a, K, V, S> {
 
     /// The entry at the cursor, and none at the guard.
     pub fn current_pair(&self) -> Option<(&K, &V)>
-        ensures { option_map deref_pair result ≡ entry_in (cursor_state self.now) (cursor_state self.now).place }
+        ensures { option_map deref_pair result ≡ entry_in (cursor_state self.now)
+            (cursor_state self.now).place }
     {
         self.map.pair_at_place(self.place)
     }
@@ -192,18 +201,19 @@ impl<'a, K: Eq + Hash, V, S: BuildHasher> CursorMut<'a, K, V, S> {
         self.map.pair_at_place(self.map.place_before(self.place))
     }
 
-    /// Puts the pair right before the cursor, at the guard last, and returns the key's old value. A key that is there
-    /// keeps its key object, takes the new value and moves there, unless it stands there. The cursor stays on its
-    /// entry, wherever that is then, or on the guard. It looks for the key as `get` does, and stores at most six links
-    /// for a key that is there and four for an absent one.
+    /// Puts the pair right before the cursor, at the guard last, and returns the key's old value. A key that
+    /// is there keeps its key object, takes the new value and moves there, unless it stands there. The cursor
+    /// stays on its entry, wherever that is then, or on the guard. It looks for the key as `get` does, and
+    /// stores at most six links for a key that is there and four for an absent one.
     ///
-    /// It takes memory only for an absent key where no node is spare. Where that is refused, the pair is handed back
-    /// and no entry changes.
+    /// It takes memory only for an absent key where no node is spare. Where that is refused, the pair is
+    /// handed back and no entry changes.
     pub fn insert_before(&mut self, key: K, value: V) -> Result<Option<V>, (K, V)>
     where
         K: Drop,
         ensures same_map { (cursor_map self.new).ghost_name ≡ (cursor_map self.old).ghost_name }
-        ensures inserts { InsertsBefore K.eq (cursor_state self.old) (cursor_state self.new) key value result }
+        ensures inserts { InsertsBefore K.eq (cursor_state self.old)
+            (cursor_state self.new) key value result }
     {
         let place = self.place;
         self.map.insert_at(place, key, value)

@@ -16,8 +16,8 @@ use crate::try_insert_error::TryInsertError;
 use std::hash::{BuildHasher, Hash};
 
 impl<K: Eq + Hash, V, S: BuildHasher> LinkedHashMap<K, V, S> {
-    /// The place of the key, with the key in hand. It looks for the key as `get` does, with one hash; what is done
-    /// through the entry then hashes nothing.
+    /// The place of the key, with the key in hand. It looks for the key as `get` does, with one hash; what is
+    /// done through the entry then hashes nothing.
     pub fn entry(&mut self, key: K) -> Entry<'_, K, V, S>
         ensures same_map { (entry_map result).ghost_name ≡ self.entry.ghost_name }
         ensures unchanged { (entry_map result).now ≡ self.old }
@@ -52,11 +52,11 @@ impl<'a, K: Eq + Hash, V, S: BuildHasher> Entry<'a, K, V, S> {
         }
     }
 
-    /// Lends the value. An occupied entry moves to the end, a vacant one puts the key in hand and the value last. So
-    /// the map ends as an insert of what is written would leave it.
+    /// Lends the value. An occupied entry moves to the end, a vacant one puts the key in hand and the value
+    /// last. So the map ends as an insert of what is written would leave it.
     ///
-    /// It takes memory only for a vacant entry where no node is spare. Where that is refused, the key in hand and the
-    /// value are handed back, and no entry changes.
+    /// It takes memory only for a vacant entry where no node is spare. Where that is refused, the key in hand
+    /// and the value are handed back, and no entry changes.
     pub fn or_insert(self, default: V) -> Result<&'a mut V, (K, V)>
     where
         K: Drop,
@@ -89,11 +89,11 @@ impl<'a, K: Eq + Hash, V, S: BuildHasher> Entry<'a, K, V, S> {
         }
     }
 
-    /// `or_insert` of what `default` gives, which is called only where the entry is vacant and may fail. Its error is
-    /// handed on with the key in hand, and then nothing changes.
+    /// `or_insert` of what `default` gives, which is called only where the entry is vacant and may fail. Its
+    /// error is handed on with the key in hand, and then nothing changes.
     ///
-    /// It takes memory only for a vacant entry where no node is spare. Where that is refused, the key in hand and the
-    /// value that was made are handed back, and no entry changes.
+    /// It takes memory only for a vacant entry where no node is spare. Where that is refused, the key in hand
+    /// and the value that was made are handed back, and no entry changes.
     pub fn or_try_insert_with<E, F: FnOnce() -> Result<V, E>>(
         self,
         default: F,

@@ -12,7 +12,8 @@ use crate::raw_entry::RawOccupiedEntryMut;
 use std::hash::{BuildHasher, Hash};
 
 impl<'a, K: Eq + Hash, V, S: BuildHasher> OccupiedEntry<'a, K, V, S> {
-    ghost use Rattle.hashlink_map.specs.Entry.{occupied_map, occupied_place, occupied_state, occupied_with, StandsAt};
+    ghost use Rattle.hashlink_map.specs.Entry.{occupied_map, occupied_place, occupied_state, occupied_with};
+    ghost use Rattle.hashlink_map.specs.Entry.{StandsAt};
     ghost use Rattle.hashlink_map.specs.Entry.{IsWritten};
     ghost use Rattle.hashlink_map.specs.Cursor.{cursor_map, cursor_state};
     ghost use Rattle.hashlink_map.specs.RawEntry.{raw_occupied_map, raw_place};
@@ -35,7 +36,8 @@ impl<'a, K: Eq + Hash, V, S: BuildHasher> OccupiedEntry<'a, K, V, S> {
     /// The value, for writing.
     pub fn get_mut(&mut self) -> &mut V
         ensures* lends { sem 𝓛 (LendsFromOccupied K.row V.row S.row S.Hasher.row self.entry result) }
-        ensures value { value_at (occupied_state self.old).map.entries (occupied_place self.old) ≡ Some result.now }
+        ensures value { value_at (occupied_state self.old).map.entries (occupied_place self.old)
+            ≡ Some result.now }
         ensures written { (w : V) → IsWritten self.old w (occupied_with self.old w) }
     {
         let node = self.node;
@@ -55,8 +57,9 @@ impl<'a, K: Eq + Hash, V, S: BuildHasher> OccupiedEntry<'a, K, V, S> {
         map.value_at_mut(node)
     }
 
-    /// Moves the entry to the end, and lends its value as long as the map is borrowed. It never returns an `Err`:
-    /// of a `Result` a clause can say by a relation what the map ends as, of a bare reference by a function alone.
+    /// Moves the entry to the end, and lends its value as long as the map is borrowed. It never returns an
+    /// `Err`: of a `Result` a clause can say by a relation what the map ends as, of a bare reference by a
+    /// function alone.
     pub(crate) fn into_last_mut<E>(self) -> Result<&'a mut V, E>
     where
         K: Drop,
@@ -72,8 +75,8 @@ impl<'a, K: Eq + Hash, V, S: BuildHasher> OccupiedEntry<'a, K, V, S> {
     /// Moves the entry to the end. It stores at most six links.
     pub fn to_back(&mut self)
         ensures same_map { (occupied_map self.new).ghost_name ≡ (occupied_map self.old).ghost_name }
-        ensures moves { MovesAt (occupied_state self.old).map (occupied_state self.new).map (occupied_place self.old)
-            (length (occupied_state self.old).map.entries) }
+        ensures moves { MovesAt (occupied_state self.old).map (occupied_state self.new).map
+            (occupied_place self.old) (length (occupied_state self.old).map.entries) }
         ensures stands { StandsAt self.old self.new (length (occupied_state self.old).map.entries - 1) }
     {
         let node = self.node;
@@ -83,16 +86,16 @@ impl<'a, K: Eq + Hash, V, S: BuildHasher> OccupiedEntry<'a, K, V, S> {
     /// Moves the entry to the front. It stores at most six links.
     pub fn to_front(&mut self)
         ensures same_map { (occupied_map self.new).ghost_name ≡ (occupied_map self.old).ghost_name }
-        ensures moves { MovesAt (occupied_state self.old).map (occupied_state self.new).map (occupied_place self.old)
-            0 }
+        ensures moves { MovesAt (occupied_state self.old).map (occupied_state self.new).map
+            (occupied_place self.old) 0 }
         ensures stands { StandsAt self.old self.new 0 }
     {
         let node = self.node;
         self.map.move_to_front(node);
     }
 
-    /// Puts the value in, moves the entry to the end, and returns the old value. The stored key stays. It stores at
-    /// most six links.
+    /// Puts the value in, moves the entry to the end, and returns the old value. The stored key stays. It
+    /// stores at most six links.
     pub fn insert(&mut self, value: V) -> V
         ensures same_map { (occupied_map self.new).ghost_name ≡ (occupied_map self.old).ghost_name }
         ensures inserts { InsertsValue (occupied_state self.old).map (occupied_state self.new).map
@@ -103,11 +106,11 @@ impl<'a, K: Eq + Hash, V, S: BuildHasher> OccupiedEntry<'a, K, V, S> {
         self.map.put_value_last(node, value)
     }
 
-    /// Puts the key in hand and the value in, moves the entry to the end, and returns the old pair. It stores at most
-    /// six links.
+    /// Puts the key in hand and the value in, moves the entry to the end, and returns the old pair. It stores
+    /// at most six links.
     pub fn insert_entry(self, value: V) -> (K, V)
-        ensures { InsertsEntry (occupied_state self.entry).map (state_of self.exit.0.now) (occupied_place self.entry)
-            (occupied_state self.entry).key value result }
+        ensures { InsertsEntry (occupied_state self.entry).map (state_of self.exit.0.now)
+            (occupied_place self.entry) (occupied_state self.entry).key value result }
     {
         let node = self.node;
         let key = self.key;
@@ -116,8 +119,8 @@ impl<'a, K: Eq + Hash, V, S: BuildHasher> OccupiedEntry<'a, K, V, S> {
 
     /// Puts the key in hand and the value in, and returns the old pair. The entry keeps its place.
     pub fn replace_entry(self, value: V) -> (K, V)
-        ensures { ReplacesEntry (occupied_state self.entry).map (state_of self.exit.0.now) (occupied_place self.entry)
-            (occupied_state self.entry).key value result }
+        ensures { ReplacesEntry (occupied_state self.entry).map (state_of self.exit.0.now)
+            (occupied_place self.entry) (occupied_state self.entry).key value result }
     {
         let node = self.node;
         let key = self.key;
@@ -126,8 +129,8 @@ impl<'a, K: Eq + Hash, V, S: BuildHasher> OccupiedEntry<'a, K, V, S> {
 
     /// Puts the key in hand in, and returns the old key. The entry keeps its place and its value.
     pub fn replace_key(self) -> K
-        ensures { ReplacesKey (occupied_state self.entry).map (state_of self.exit.0.now) (occupied_place self.entry)
-            (occupied_state self.entry).key result }
+        ensures { ReplacesKey (occupied_state self.entry).map (state_of self.exit.0.now)
+            (occupied_place self.entry) (occupied_state self.entry).key result }
     {
         let node = self.node;
         let key = self.key;
@@ -174,12 +177,13 @@ impl<'a, K: Eq + Hash, V, S: BuildHasher> OccupiedEntry<'a, K, V, S> {
         RawOccupiedEntryMut { map, node }
     }
 
-    /// Takes the entry out and returns its value. The key in hand and the stored key are dropped. It stores at most
-    /// three links.
+    /// Takes the entry out and returns its value. The key in hand and the stored key are dropped. It stores
+    /// at most three links.
     pub fn remove(self) -> V
     where
         K: Drop,
-        ensures value { value_at (occupied_state self.entry).map.entries (occupied_place self.entry) ≡ Some result }
+        ensures value { value_at (occupied_state self.entry).map.entries (occupied_place self.entry)
+            ≡ Some result }
         ensures removes { RemovesAt (occupied_state self.entry).map (state_of self.exit.0.now)
             (occupied_place self.entry) }
     {
@@ -188,12 +192,13 @@ impl<'a, K: Eq + Hash, V, S: BuildHasher> OccupiedEntry<'a, K, V, S> {
         value
     }
 
-    /// Takes the entry out and returns the stored pair. The key in hand is dropped. It stores at most three links.
+    /// Takes the entry out and returns the stored pair. The key in hand is dropped. It stores at most three
+    /// links.
     pub fn remove_entry(self) -> (K, V)
     where
         K: Drop,
-        ensures { TakesEntry (occupied_state self.entry).map (state_of self.exit.0.now) (occupied_place self.entry)
-            result }
+        ensures { TakesEntry (occupied_state self.entry).map (state_of self.exit.0.now)
+            (occupied_place self.entry) result }
     {
         let node = self.node;
         self.map.take_at(node)

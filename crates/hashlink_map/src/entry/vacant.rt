@@ -38,8 +38,8 @@ impl<'a, K: Eq + Hash, V, S: BuildHasher> VacantEntry<'a, K, V, S> {
 
     /// Puts the key in hand and the value last, and lends the value. It stores at most four links.
     ///
-    /// It takes memory only where no node is spare. Where that is refused, the key in hand and the value are handed
-    /// back, and no entry changes.
+    /// It takes memory only where no node is spare. Where that is refused, the key in hand and the value are
+    /// handed back, and no entry changes.
     pub fn insert(self, value: V) -> Result<&'a mut V, (K, V)>
         ensures* lends { sem 𝓛 (LendsNew K.row V.row S.row S.Hasher.row self.entry value result) }
         ensures value { IfOk result (λ v. v.now ≡ value) }
@@ -72,8 +72,8 @@ impl<'a, K: Eq + Hash, V, S: BuildHasher> VacantEntry<'a, K, V, S> {
 
     /// Puts the key in hand and the value last, and returns the entry. It stores at most four links.
     ///
-    /// It takes memory only where no node is spare. Where that is refused, the key in hand and the value are handed
-    /// back, and no entry changes.
+    /// It takes memory only where no node is spare. Where that is refused, the key in hand and the value are
+    /// handed back, and no entry changes.
     pub fn insert_entry(self, value: V) -> Result<RawOccupiedEntryMut<'a, K, V, S>, (K, V)>
         ensures* hands_on { sem 𝓛 (HandsOnNew K.row V.row S.row S.Hasher.row (vacant_map self.entry)
             (vacant_state self.entry).key value result) }

@@ -9,11 +9,11 @@ use super::LinkedHashMap;
 use std::hash::{BuildHasher, Hash};
 
 impl<K: Eq + Hash, V, S: BuildHasher> LinkedHashMap<K, V, S> {
-    /// Puts the pair last, and returns the key's old value. A key that is there keeps its key object, takes the new
-    /// value and moves to the end.
+    /// Puts the pair last, and returns the key's old value. A key that is there keeps its key object, takes
+    /// the new value and moves to the end.
     ///
-    /// It takes memory only for an absent key where no node is spare. Where that is refused, the pair is handed back
-    /// and no entry changes.
+    /// It takes memory only for an absent key where no node is spare. Where that is refused, the pair is
+    /// handed back and no entry changes.
     /// It stores at most six links for a key that is there and four for an absent one.
     pub fn insert(&mut self, key: K, value: V) -> Result<Option<V>, (K, V)>
     where
@@ -32,11 +32,11 @@ impl<K: Eq + Hash, V, S: BuildHasher> LinkedHashMap<K, V, S> {
         Ok(None)
     }
 
-    /// Puts the pair first, and returns the key's old value. A key that is there keeps its key object, takes the new
-    /// value and moves to the front.
+    /// Puts the pair first, and returns the key's old value. A key that is there keeps its key object, takes
+    /// the new value and moves to the front.
     ///
-    /// It takes memory only for an absent key where no node is spare. Where that is refused, the pair is handed back
-    /// and no entry changes.
+    /// It takes memory only for an absent key where no node is spare. Where that is refused, the pair is
+    /// handed back and no entry changes.
     /// It stores at most six links for a key that is there and four for an absent one.
     pub fn insert_front(&mut self, key: K, value: V) -> Result<Option<V>, (K, V)>
     where
@@ -55,11 +55,11 @@ impl<K: Eq + Hash, V, S: BuildHasher> LinkedHashMap<K, V, S> {
         Ok(None)
     }
 
-    /// Gives the key the value, and returns its old one. A key that is there keeps its key object and its place, an
-    /// absent one goes last.
+    /// Gives the key the value, and returns its old one. A key that is there keeps its key object and its
+    /// place, an absent one goes last.
     ///
-    /// It takes memory only for an absent key where no node is spare. Where that is refused, the pair is handed back
-    /// and no entry changes.
+    /// It takes memory only for an absent key where no node is spare. Where that is refused, the pair is
+    /// handed back and no entry changes.
     /// It stores no link for a key that is there and at most four for an absent one.
     pub fn replace(&mut self, key: K, value: V) -> Result<Option<V>, (K, V)>
     where

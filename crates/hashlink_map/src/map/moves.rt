@@ -1,4 +1,5 @@
-//! How an entry moves to either end. A move hashes the key once, takes no memory, and stores at most six links.
+//! How an entry moves to either end. A move hashes the key once, takes no memory, and stores at most six
+//! links.
 ghost use Rattle.std.specs.Prelude.{◌≡◌, length};
 ghost use Rattle.std.specs.Borrow.{sem};
 ghost use Rattle.std.specs.Option.{option_copied_mut};
@@ -13,7 +14,8 @@ use std::hash::{BuildHasher, Hash};
 impl<K: Eq + Hash, V, S: BuildHasher> LinkedHashMap<K, V, S> {
     ghost use Rattle.hashlink_map.specs.Lends.{LendsMoved};
 
-    /// Moves the key's entry to the front and lends its value. Of an absent key it returns none, and nothing changes.
+    /// Moves the key's entry to the front and lends its value. Of an absent key it returns none, and nothing
+    /// changes.
     pub fn to_front<Q: Equivalent<K>>(&mut self, key: Q) -> Option<&mut V>
         ensures* lends { sem 𝓛 (LendsMoved K.row V.row S.row S.Hasher.row K.Hash S.BuildHasher S.Hasher.Hasher
             self.entry (Q.matches key) 0 result) }
@@ -30,7 +32,8 @@ impl<K: Eq + Hash, V, S: BuildHasher> LinkedHashMap<K, V, S> {
         }
     }
 
-    /// Moves the key's entry to the end and lends its value. Of an absent key it returns none, and nothing changes.
+    /// Moves the key's entry to the end and lends its value. Of an absent key it returns none, and nothing
+    /// changes.
     pub fn to_back<Q: Equivalent<K>>(&mut self, key: Q) -> Option<&mut V>
         ensures* lends { sem 𝓛 (LendsMoved K.row V.row S.row S.Hasher.row K.Hash S.BuildHasher S.Hasher.Hasher
             self.entry (Q.matches key) (length (entries_of self.old)) result) }

@@ -22,7 +22,8 @@ impl<K: Eq + Hash, V, S: BuildHasher> LinkedHashMap<K, V, S> {
         Some(value)
     }
 
-    /// The stored pair of the key, whose key object may be another one than the key given. The order stays as it is.
+    /// The stored pair of the key, whose key object may be another one than the key given. The order stays as
+    /// it is.
     pub fn get_key_value<Q: Equivalent<K>>(&self, key: Q) -> Option<(&K, &V)>
         ensures { option_map deref_pair result ≡ lookup_entry (Q.matches key) (entries_of self.now) }
     {
@@ -39,8 +40,8 @@ impl<K: Eq + Hash, V, S: BuildHasher> LinkedHashMap<K, V, S> {
 
     /// The value of the key, for writing. The order stays as it is.
     pub fn get_mut<Q: Equivalent<K>>(&mut self, key: Q) -> Option<&mut V>
-        ensures* lends { sem 𝓛 (LendsValueOf K.row V.row S.row S.Hasher.row K.Hash S.BuildHasher S.Hasher.Hasher
-            self.entry (Q.matches key) result) }
+        ensures* lends { sem 𝓛 (LendsValueOf K.row V.row S.row S.Hasher.row K.Hash
+            S.BuildHasher S.Hasher.Hasher self.entry (Q.matches key) result) }
         ensures value { option_copied_mut result ≡ lookup (Q.matches key) (entries_of self.old) }
     {
         let hash = self.list.hash_of(key);
@@ -66,10 +67,11 @@ impl<K: Eq + Hash, V, S: BuildHasher> LinkedHashMap<K, V, S> {
         Some(self.list.entry(node))
     }
 
-    /// The value of the last entry, for writing. The order stays as it is. It takes constant time and hashes nothing.
+    /// The value of the last entry, for writing. The order stays as it is. It takes constant time and hashes
+    /// nothing.
     pub fn back_value_mut(&mut self) -> Option<&mut V>
-        ensures* lends { sem 𝓛 (LendsLastValue K.row V.row S.row S.Hasher.row K.Hash S.BuildHasher S.Hasher.Hasher
-            self.entry result) }
+        ensures* lends { sem 𝓛 (LendsLastValue K.row V.row S.row S.Hasher.row K.Hash
+            S.BuildHasher S.Hasher.Hasher self.entry result) }
         ensures value { option_copied_mut result ≡ option_map (λ e. e.1) (last_of (entries_of self.old)) }
     {
         match self.list.last() {

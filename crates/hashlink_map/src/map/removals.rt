@@ -1,5 +1,5 @@
-//! How entries leave. The other entries keep their order, and each node that is freed serves the next new pair. None
-//! of these takes memory.
+//! How entries leave. The other entries keep their order, and each node that is freed serves the next new
+//! pair. None of these takes memory.
 ghost use Rattle.std.specs.Prelude.{◌≡◌};
 ghost use Rattle.std.specs.Map.{lookup, lookup_entry};
 ghost use Rattle.hashlink_model.specs.Entries.{IsEntries};
@@ -11,8 +11,8 @@ use hashlink_core::Equivalent;
 use std::hash::{BuildHasher, Hash};
 
 impl<K: Eq + Hash, V, S: BuildHasher> LinkedHashMap<K, V, S> {
-    /// Takes the key's entry out and returns its value. It looks for the key as `get` does, and stores at most three
-    /// links.
+    /// Takes the key's entry out and returns its value. It looks for the key as `get` does, and stores at
+    /// most three links.
     pub fn remove<Q: Equivalent<K>>(&mut self, key: Q) -> Option<V>
     where
         K: Drop,
@@ -25,8 +25,8 @@ impl<K: Eq + Hash, V, S: BuildHasher> LinkedHashMap<K, V, S> {
         Some(value)
     }
 
-    /// Takes the key's entry out and returns the stored pair. It looks for the key as `get` does, and stores at most
-    /// three links.
+    /// Takes the key's entry out and returns the stored pair. It looks for the key as `get` does, and stores
+    /// at most three links.
     pub fn remove_entry<Q: Equivalent<K>>(&mut self, key: Q) -> Option<(K, V)>
         ensures removes { RemovesMatch (Q.matches key) (state_of self.old) (state_of self.new) result }
         ensures distinct { IsEntries K.eq (entries_of self.new) }
@@ -35,8 +35,8 @@ impl<K: Eq + Hash, V, S: BuildHasher> LinkedHashMap<K, V, S> {
         Some(self.list.remove(node))
     }
 
-    /// Takes the first entry out and returns it. It takes constant time, hashes nothing, and stores at most three
-    /// links.
+    /// Takes the first entry out and returns it. It takes constant time, hashes nothing, and stores at most
+    /// three links.
     pub fn pop_front(&mut self) -> Option<(K, V)>
         ensures pops { PopsFront (state_of self.old) (state_of self.new) result }
         ensures distinct { IsEntries K.eq (entries_of self.new) }
@@ -45,8 +45,8 @@ impl<K: Eq + Hash, V, S: BuildHasher> LinkedHashMap<K, V, S> {
         Some(self.list.remove(node))
     }
 
-    /// Takes the last entry out and returns it. It takes constant time, hashes nothing, and stores at most three
-    /// links.
+    /// Takes the last entry out and returns it. It takes constant time, hashes nothing, and stores at most
+    /// three links.
     pub fn pop_back(&mut self) -> Option<(K, V)>
         ensures pops { PopsBack (state_of self.old) (state_of self.new) result }
         ensures distinct { IsEntries K.eq (entries_of self.new) }
@@ -55,8 +55,8 @@ impl<K: Eq + Hash, V, S: BuildHasher> LinkedHashMap<K, V, S> {
         Some(self.list.remove(node))
     }
 
-    /// Drops every entry and gives its node back to the allocator. The spare nodes stay, and the room. It takes a
-    /// step for each entry and each bucket.
+    /// Drops every entry and gives its node back to the allocator. The spare nodes stay, and the room. It
+    /// takes a step for each entry and each bucket.
     pub fn clear(&mut self)
     where
         K: Drop,

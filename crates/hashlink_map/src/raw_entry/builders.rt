@@ -64,7 +64,8 @@ impl<K: Eq + Hash, V, S: BuildHasher> LinkedHashMap<K, V, S> {
 impl<'a, K: Eq + Hash, V, S: BuildHasher> RawEntryBuilder<'a, K, V, S> {
     /// The stored pair of the key, which it hashes once.
     pub fn from_key<Q: Equivalent<K>>(self, key: Q) -> Option<(&'a K, &'a V)>
-        ensures { option_map deref_pair result ≡ lookup_entry (Q.matches key) (entries_of (read_map self.entry)) }
+        ensures { option_map deref_pair result ≡ lookup_entry (Q.matches key)
+            (entries_of (read_map self.entry)) }
     {
         self.map.get_key_value(key)
     }
@@ -75,25 +76,28 @@ impl<'a, K: Eq + Hash, V, S: BuildHasher> RawEntryBuilder<'a, K, V, S> {
         hash: u64,
         key: Q,
     ) -> Option<(&'a K, &'a V)>
-        requires { hash ≡ hash_with S.build_hasher S.Hasher.write S.Hasher.finish Q.hash_input (read_map self).hasher
-            key }
-        ensures { option_map deref_pair result ≡ lookup_entry (Q.matches key) (entries_of (read_map self.entry)) }
+        requires { hash ≡ hash_with S.build_hasher S.Hasher.write S.Hasher.finish Q.hash_input
+            (read_map self).hasher key }
+        ensures { option_map deref_pair result ≡ lookup_entry (Q.matches key)
+            (entries_of (read_map self.entry)) }
     {
         let map = self.map;
         let node = map.list.find(hash, key)?;
         Some(map.pair_at(node))
     }
 
-    /// The stored pair whose key has this hash and passes the test, which has to tell the keys that are equal to one
-    /// key of this hash from all others. It hashes nothing.
+    /// The stored pair whose key has this hash and passes the test, which has to tell the keys that are equal
+    /// to one key of this hash from all others. It hashes nothing.
     pub fn from_hash<F: Fn(&K) -> bool>(self, hash: u64, is_match: F) -> Option<(&'a K, &'a V)>
     where
         F: Drop,
         requires { (k : K) × Tells F.Fn K.eq
-            (hash_with S.build_hasher S.Hasher.write S.Hasher.finish K.hash_input (read_map self).hasher) is_match
+            (hash_with S.build_hasher S.Hasher.write S.Hasher.finish K.hash_input (read_map self).hasher)
+            is_match
             hash k }
         ensures { (k : K) → Tells F.Fn K.eq
-            (hash_with S.build_hasher S.Hasher.write S.Hasher.finish K.hash_input (read_map self.entry).hasher) is_match
+            (hash_with S.build_hasher S.Hasher.write S.Hasher.finish K.hash_input
+            (read_map self.entry).hasher) is_match
             hash k
             → option_map deref_pair result ≡ lookup_entry (K.eq k) (entries_of (read_map self.entry)) }
     {
@@ -104,33 +108,36 @@ impl<'a, K: Eq + Hash, V, S: BuildHasher> RawEntryBuilder<'a, K, V, S> {
 }
 
 impl<K: Eq + Hash, V, S: BuildHasher> LinkedHashMap<K, V, S> {
-    /// The place of the key, which it hashes once: `raw_entry_mut` and `from_key` in one call, of which a caller knows
-    /// in full what the map is afterwards.
+    /// The place of the key, which it hashes once: `raw_entry_mut` and `from_key` in one call, of which a
+    /// caller knows in full what the map is afterwards.
     pub fn raw_entry_of<Q: Equivalent<K>>(&mut self, key: Q) -> RawEntryMut<'_, K, V, S>
         ensures same_map { (raw_map result).ghost_name ≡ self.entry.ghost_name }
         ensures unchanged { (raw_map result).now ≡ self.old }
         ensures found { raw_state result ≡ raw_entry_match (Q.matches key) (state_of self.old) }
         ensures pair { raw_pair (raw_state result) ≡ lookup_entry (Q.matches key) (entries_of self.old) }
-        ensures equal { MatchOption (raw_state result).place ⊤ (PassesAt (Q.matches key) (entries_of self.old)) }
+        ensures equal { MatchOption (raw_state result).place ⊤
+            (PassesAt (Q.matches key) (entries_of self.old)) }
         ensures distinct { IsEntries K.eq (entries_of self.old) }
     {
         let hash = self.list.hash_of(key);
         self.raw_entry_hashed_nocheck(hash, key)
     }
 
-    /// The place of the key, which has this hash. It hashes nothing: `raw_entry_mut` and `from_key_hashed_nocheck` in
-    /// one call, of which a caller knows in full what the map is afterwards.
+    /// The place of the key, which has this hash. It hashes nothing: `raw_entry_mut` and
+    /// `from_key_hashed_nocheck` in one call, of which a caller knows in full what the map is afterwards.
     pub fn raw_entry_hashed_nocheck<Q: Equivalent<K>>(
         &mut self,
         hash: u64,
         key: Q,
     ) -> RawEntryMut<'_, K, V, S>
-        requires { hash ≡ hash_with S.build_hasher S.Hasher.write S.Hasher.finish Q.hash_input self.old.hasher key }
+        requires { hash ≡ hash_with S.build_hasher S.Hasher.write S.Hasher.finish Q.hash_input
+            self.old.hasher key }
         ensures same_map { (raw_map result).ghost_name ≡ self.entry.ghost_name }
         ensures unchanged { (raw_map result).now ≡ self.old }
         ensures found { raw_state result ≡ raw_entry_match (Q.matches key) (state_of self.old) }
         ensures pair { raw_pair (raw_state result) ≡ lookup_entry (Q.matches key) (entries_of self.old) }
-        ensures equal { MatchOption (raw_state result).place ⊤ (PassesAt (Q.matches key) (entries_of self.old)) }
+        ensures equal { MatchOption (raw_state result).place ⊤
+            (PassesAt (Q.matches key) (entries_of self.old)) }
         ensures distinct { IsEntries K.eq (entries_of self.old) }
     {
         match self.list.find(hash, key) {
@@ -139,9 +146,9 @@ impl<K: Eq + Hash, V, S: BuildHasher> LinkedHashMap<K, V, S> {
         }
     }
 
-    /// The place whose key has this hash and passes the test, which has to tell the keys that are equal to one key of
-    /// this hash from all others. It hashes nothing: `raw_entry_mut` and `from_hash` in one call, of which a caller
-    /// knows in full what the map is afterwards.
+    /// The place whose key has this hash and passes the test, which has to tell the keys that are equal to
+    /// one key of this hash from all others. It hashes nothing: `raw_entry_mut` and `from_hash` in one call,
+    /// of which a caller knows in full what the map is afterwards.
     pub fn raw_entry_from_hash<F: Fn(&K) -> bool>(
         &mut self,
         hash: u64,
@@ -150,17 +157,21 @@ impl<K: Eq + Hash, V, S: BuildHasher> LinkedHashMap<K, V, S> {
     where
         F: Drop,
         requires { (k : K) × Tells F.Fn K.eq
-            (hash_with S.build_hasher S.Hasher.write S.Hasher.finish K.hash_input self.old.hasher) is_match hash k }
+            (hash_with S.build_hasher S.Hasher.write S.Hasher.finish K.hash_input self.old.hasher)
+            is_match hash k }
         ensures same_map { (raw_map result).ghost_name ≡ self.entry.ghost_name }
         ensures unchanged { (raw_map result).now ≡ self.old }
         ensures found { (k : K) → Tells F.Fn K.eq
-            (hash_with S.build_hasher S.Hasher.write S.Hasher.finish K.hash_input self.old.hasher) is_match hash k
+            (hash_with S.build_hasher S.Hasher.write S.Hasher.finish K.hash_input self.old.hasher)
+            is_match hash k
             → raw_state result ≡ raw_entry_of K.eq (state_of self.old) k }
         ensures pair { (k : K) → Tells F.Fn K.eq
-            (hash_with S.build_hasher S.Hasher.write S.Hasher.finish K.hash_input self.old.hasher) is_match hash k
+            (hash_with S.build_hasher S.Hasher.write S.Hasher.finish K.hash_input self.old.hasher)
+            is_match hash k
             → raw_pair (raw_state result) ≡ lookup_entry (K.eq k) (entries_of self.old) }
         ensures equal { (k : K) → Tells F.Fn K.eq
-            (hash_with S.build_hasher S.Hasher.write S.Hasher.finish K.hash_input self.old.hasher) is_match hash k
+            (hash_with S.build_hasher S.Hasher.write S.Hasher.finish K.hash_input self.old.hasher)
+            is_match hash k
             → MatchOption (raw_state result).place ⊤ (PassesAt (K.eq k) (entries_of self.old)) }
         ensures distinct { IsEntries K.eq (entries_of self.old) }
     {
@@ -176,7 +187,8 @@ impl<'a, K: Eq + Hash, V, S: BuildHasher> RawEntryBuilderMut<'a, K, V, S> {
     pub fn from_key<Q: Equivalent<K>>(self, key: Q) -> RawEntryMut<'a, K, V, S>
         ensures same_map { (raw_map result).ghost_name ≡ (found_map self.entry).ghost_name }
         ensures unchanged { (raw_map result).now ≡ (found_map self.entry).now }
-        ensures found { raw_state result ≡ raw_entry_match (Q.matches key) (state_of (found_map self.entry).now) }
+        ensures found { raw_state result ≡ raw_entry_match (Q.matches key)
+            (state_of (found_map self.entry).now) }
         ensures pair { raw_pair (raw_state result)
             ≡ lookup_entry (Q.matches key) (entries_of (found_map self.entry).now) }
         ensures equal { MatchOption (raw_state result).place ⊤
@@ -197,7 +209,8 @@ impl<'a, K: Eq + Hash, V, S: BuildHasher> RawEntryBuilderMut<'a, K, V, S> {
             (found_map self).now.hasher key }
         ensures same_map { (raw_map result).ghost_name ≡ (found_map self.entry).ghost_name }
         ensures unchanged { (raw_map result).now ≡ (found_map self.entry).now }
-        ensures found { raw_state result ≡ raw_entry_match (Q.matches key) (state_of (found_map self.entry).now) }
+        ensures found { raw_state result ≡ raw_entry_match (Q.matches key)
+            (state_of (found_map self.entry).now) }
         ensures pair { raw_pair (raw_state result)
             ≡ lookup_entry (Q.matches key) (entries_of (found_map self.entry).now) }
         ensures equal { MatchOption (raw_state result).place ⊤
@@ -208,8 +221,8 @@ impl<'a, K: Eq + Hash, V, S: BuildHasher> RawEntryBuilderMut<'a, K, V, S> {
         map.raw_entry_hashed_nocheck(hash, key)
     }
 
-    /// The place whose key has this hash and passes the test, which has to tell the keys that are equal to one key of
-    /// this hash from all others. It hashes nothing.
+    /// The place whose key has this hash and passes the test, which has to tell the keys that are equal to
+    /// one key of this hash from all others. It hashes nothing.
     pub fn from_hash<F: Fn(&K) -> bool>(self, hash: u64, is_match: F) -> RawEntryMut<'a, K, V, S>
     where
         F: Drop,
@@ -219,16 +232,20 @@ impl<'a, K: Eq + Hash, V, S: BuildHasher> RawEntryBuilderMut<'a, K, V, S> {
         ensures same_map { (raw_map result).ghost_name ≡ (found_map self.entry).ghost_name }
         ensures unchanged { (raw_map result).now ≡ (found_map self.entry).now }
         ensures found { (k : K) → Tells F.Fn K.eq
-            (hash_with S.build_hasher S.Hasher.write S.Hasher.finish K.hash_input (found_map self.entry).now.hasher)
+            (hash_with S.build_hasher S.Hasher.write S.Hasher.finish K.hash_input
+            (found_map self.entry).now.hasher)
             is_match hash k → raw_state result ≡ raw_entry_of K.eq (state_of (found_map self.entry).now) k }
         ensures pair { (k : K) → Tells F.Fn K.eq
-            (hash_with S.build_hasher S.Hasher.write S.Hasher.finish K.hash_input (found_map self.entry).now.hasher)
+            (hash_with S.build_hasher S.Hasher.write S.Hasher.finish K.hash_input
+            (found_map self.entry).now.hasher)
             is_match hash k
             → raw_pair (raw_state result) ≡ lookup_entry (K.eq k) (entries_of (found_map self.entry).now) }
         ensures equal { (k : K) → Tells F.Fn K.eq
-            (hash_with S.build_hasher S.Hasher.write S.Hasher.finish K.hash_input (found_map self.entry).now.hasher)
+            (hash_with S.build_hasher S.Hasher.write S.Hasher.finish K.hash_input
+            (found_map self.entry).now.hasher)
             is_match hash k
-            → MatchOption (raw_state result).place ⊤ (PassesAt (K.eq k) (entries_of (found_map self.entry).now)) }
+            → MatchOption (raw_state result).place ⊤
+            (PassesAt (K.eq k) (entries_of (found_map self.entry).now)) }
         ensures distinct { IsEntries K.eq (entries_of (found_map self.entry).now) }
     {
         let RawEntryBuilderMut { map } = self;

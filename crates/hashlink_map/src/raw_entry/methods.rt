@@ -7,7 +7,8 @@ use super::{RawEntryMut, RawOccupiedEntryMut};
 use std::hash::{BuildHasher, Hash};
 
 impl<'a, K: Eq + Hash, V, S: BuildHasher> RawEntryMut<'a, K, V, S> {
-    ghost use Rattle.hashlink_map.specs.RawEntry.{raw_map, raw_state, raw_pair, raw_occupied_state, RawModifies};
+    ghost use Rattle.hashlink_map.specs.RawEntry.{raw_map, raw_state, raw_pair, raw_occupied_state};
+    ghost use Rattle.hashlink_map.specs.RawEntry.{RawModifies};
     ghost use Rattle.hashlink_map.specs.RawLends.{HandsOnLast, LendsLastPair, StandsLast};
 
     /// The entry of the pair. An occupied one moves to the end, a vacant one puts the pair given last.
@@ -37,11 +38,11 @@ impl<'a, K: Eq + Hash, V, S: BuildHasher> RawEntryMut<'a, K, V, S> {
         }
     }
 
-    /// Lends the key and the value. An occupied entry moves to the end, a vacant one puts the pair given last. So the
-    /// map ends as an insert of what is written would leave it.
+    /// Lends the key and the value. An occupied entry moves to the end, a vacant one puts the pair given
+    /// last. So the map ends as an insert of what is written would leave it.
     ///
-    /// It takes memory only for a vacant entry where no node is spare. Where that is refused, the pair is handed back,
-    /// and no entry changes.
+    /// It takes memory only for a vacant entry where no node is spare. Where that is refused, the pair is
+    /// handed back, and no entry changes.
     pub fn or_insert(self, default_key: K, default_value: V) -> Result<(&'a K, &'a mut V), (K, V)>
     where
         K: Drop,
@@ -111,7 +112,8 @@ impl<'a, K: Eq + Hash, V, S: BuildHasher> RawEntryMut<'a, K, V, S> {
     pub fn and_modify<F: FnOnce(&K, &mut V)>(self, f: F) -> Self
     where
         F: Drop,
-        requires { (k : Bor _) → (p : MutBor _) → raw_pair (raw_state self) ≡ Some (k.now, p.now) → F.pre f k p }
+        requires { (k : Bor _) → (p : MutBor _) → raw_pair (raw_state self) ≡ Some
+            (k.now, p.now) → F.pre f k p }
         ensures same_map { (raw_map result).ghost_name ≡ (raw_map self.entry).ghost_name }
         ensures modifies { RawModifies F.FnOnce f (raw_state self.entry) (raw_state result) }
     {

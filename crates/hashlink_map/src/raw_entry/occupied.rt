@@ -16,7 +16,8 @@ impl<'a, K: Eq + Hash, V, S: BuildHasher> RawOccupiedEntryMut<'a, K, V, S> {
     ghost use Rattle.hashlink_map.specs.RawEntry.{RawIsWritten};
     ghost use Rattle.hashlink_core.specs.Keyed.{EqualsKeyAt};
     ghost use Rattle.hashlink_map.specs.Cursor.{cursor_map, cursor_state};
-    ghost use Rattle.hashlink_map.specs.RawLends.{LendsFromRaw, RawLendsForGood, RawRestsForGood, LendsPairOf};
+    ghost use Rattle.hashlink_map.specs.RawLends.{LendsFromRaw, RawLendsForGood, RawRestsForGood};
+    ghost use Rattle.hashlink_map.specs.RawLends.{LendsPairOf};
 
     /// The stored key.
     pub fn key(&self) -> &K
@@ -43,7 +44,8 @@ impl<'a, K: Eq + Hash, V, S: BuildHasher> RawOccupiedEntryMut<'a, K, V, S> {
     /// The value, for writing.
     pub fn get_mut(&mut self) -> &mut V
         ensures* lends { sem 𝓛 (LendsFromRaw K.row V.row S.row S.Hasher.row self.entry result) }
-        ensures value { value_at (raw_occupied_state self.old).map.entries (raw_place self.old) ≡ Some result.now }
+        ensures value { value_at (raw_occupied_state self.old).map.entries (raw_place self.old)
+            ≡ Some result.now }
         ensures written { (w : V) → RawIsWritten self.old w (raw_with self.old w) }
     {
         let node = self.node;
@@ -75,7 +77,8 @@ impl<'a, K: Eq + Hash, V, S: BuildHasher> RawOccupiedEntryMut<'a, K, V, S> {
     /// The stored key, as long as the map is borrowed.
     pub fn into_key(self) -> &'a K
         ensures* unchanged { sem 𝓛 (RawRestsForGood K.row V.row S.row S.Hasher.row self.entry) }
-        ensures key { key_at (raw_occupied_state self.entry).map.entries (raw_place self.entry) ≡ Some result.now }
+        ensures key { key_at (raw_occupied_state self.entry).map.entries (raw_place self.entry)
+            ≡ Some result.now }
     {
         let RawOccupiedEntryMut { map, node } = self;
         map.key_for_good(node)
@@ -104,12 +107,13 @@ impl<'a, K: Eq + Hash, V, S: BuildHasher> RawOccupiedEntryMut<'a, K, V, S> {
         }
     }
 
-    /// The stored key of the entry, and its value for writing, as long as the map is borrowed, or the pair that was
-    /// handed back.
+    /// The stored key of the entry, and its value for writing, as long as the map is borrowed, or the pair
+    /// that was handed back.
     pub(crate) fn pair_of(entered: Result<Self, (K, V)>) -> Result<(&'a K, &'a mut V), (K, V)>
         ensures* lends { sem 𝓛 (LendsPairOf K.row V.row S.row S.Hasher.row entered.entry result) }
         ensures pair { IfOk result (λ p. MatchResult entered.entry
-            (λ o. slice_get (raw_occupied_state o).map.entries (raw_place o) ≡ Some (p.0.now, p.1.now)) (λ _. ⊥)) }
+            (λ o. slice_get (raw_occupied_state o).map.entries (raw_place o) ≡ Some (p.0.now, p.1.now))
+            (λ _. ⊥)) }
         ensures handed_back { IfErr result (λ pair. entered.entry ≡ Err pair) }
     {
         match entered {
@@ -151,7 +155,8 @@ impl<'a, K: Eq + Hash, V, S: BuildHasher> RawOccupiedEntryMut<'a, K, V, S> {
         self.map.replace_value_at(node, value)
     }
 
-    /// Puts in a key that is equal to the stored one, and returns that. The entry keeps its place and its value.
+    /// Puts in a key that is equal to the stored one, and returns that. The entry keeps its place and its
+    /// value.
     pub fn replace_key(&mut self, key: K) -> K
         requires { EqualsKeyAt K.eq (raw_occupied_state self.old).map.entries (raw_place self.old) key }
         ensures same_map { (raw_occupied_map self.new).ghost_name ≡ (raw_occupied_map self.old).ghost_name }
@@ -171,7 +176,8 @@ impl<'a, K: Eq + Hash, V, S: BuildHasher, N: AsNode> RawOccupiedEntryMut<'a, K, 
     pub fn remove(self) -> V
     where
         K: Drop,
-        ensures value { value_at (raw_occupied_state self.entry).map.entries (raw_place self.entry) ≡ Some result }
+        ensures value { value_at (raw_occupied_state self.entry).map.entries (raw_place self.entry)
+            ≡ Some result }
         ensures removes { RemovesAt (raw_occupied_state self.entry).map (state_of self.exit.0.now)
             (raw_place self.entry) }
     {
@@ -182,8 +188,8 @@ impl<'a, K: Eq + Hash, V, S: BuildHasher, N: AsNode> RawOccupiedEntryMut<'a, K, 
 
     /// Takes the entry out and returns its pair. It stores at most three links.
     pub fn remove_entry(self) -> (K, V)
-        ensures { TakesEntry (raw_occupied_state self.entry).map (state_of self.exit.0.now) (raw_place self.entry)
-            result }
+        ensures { TakesEntry (raw_occupied_state self.entry).map (state_of self.exit.0.now)
+            (raw_place self.entry) result }
     {
         let node = self.node;
         self.map.take_at(node.as_node())

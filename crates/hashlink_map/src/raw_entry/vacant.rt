@@ -1,6 +1,7 @@
 //! The calls of `RawVacantEntryMut`. Each puts the pair last, and stores at most four links.
 //!
-//! It takes memory only where no node is spare. Where that is refused, the pair is handed back, and no entry changes.
+//! It takes memory only where no node is spare. Where that is refused, the pair is handed back, and no entry
+//! changes.
 ghost use Rattle.std.specs.Prelude.{◌≡◌, ◌∷◌, None, IfOk, IfErr, length};
 ghost use Rattle.std.specs.Borrow.{sem};
 ghost use Rattle.std.specs.List.{All};
@@ -20,15 +21,16 @@ impl<'a, K: Eq + Hash, V, S: BuildHasher> RawVacantEntryMut<'a, K, V, S> {
     /// Puts the pair last, and lends its key, and its value for writing. It hashes the key once.
     pub fn insert(self, key: K, value: V) -> Result<(&'a K, &'a mut V), (K, V)>
         requires absent { place_of (K.eq key) (entries_of (raw_vacant_map self).now) ≡ None }
-        ensures* lends { sem 𝓛 (LendsNewPair K.row V.row S.row S.Hasher.row K.Hash S.BuildHasher S.Hasher.Hasher
-            (raw_vacant_map self.entry) key value result) }
+        ensures* lends { sem 𝓛 (LendsNewPair K.row V.row S.row S.Hasher.row K.Hash
+            S.BuildHasher S.Hasher.Hasher (raw_vacant_map self.entry) key value result) }
         ensures pair { IfOk result (λ p. (p.0.now ≡ key) × (p.1.now ≡ value)) }
         ensures handed_back { IfErr result (λ p. p ≡ (key, value)) }
     {
         RawOccupiedEntryMut::pair_of(self.insert_entry(key, value))
     }
 
-    /// Puts the pair last, whose key has this hash, and lends its key, and its value for writing. It hashes nothing.
+    /// Puts the pair last, whose key has this hash, and lends its key, and its value for writing. It hashes
+    /// nothing.
     pub fn insert_hashed_nocheck(
         self,
         hash: u64,
@@ -38,16 +40,16 @@ impl<'a, K: Eq + Hash, V, S: BuildHasher> RawVacantEntryMut<'a, K, V, S> {
         requires absent { place_of (K.eq key) (entries_of (raw_vacant_map self).now) ≡ None }
         requires hash { hash ≡ hash_with S.build_hasher S.Hasher.write S.Hasher.finish K.hash_input
             (raw_vacant_map self).now.hasher key }
-        ensures* lends { sem 𝓛 (LendsNewPair K.row V.row S.row S.Hasher.row K.Hash S.BuildHasher S.Hasher.Hasher
-            (raw_vacant_map self.entry) key value result) }
+        ensures* lends { sem 𝓛 (LendsNewPair K.row V.row S.row S.Hasher.row K.Hash
+            S.BuildHasher S.Hasher.Hasher (raw_vacant_map self.entry) key value result) }
         ensures pair { IfOk result (λ p. (p.0.now ≡ key) × (p.1.now ≡ value)) }
         ensures handed_back { IfErr result (λ p. p ≡ (key, value)) }
     {
         RawOccupiedEntryMut::pair_of(self.insert_entry_hashed_nocheck(hash, key, value))
     }
 
-    /// `insert_hashed_nocheck`, with a hasher that has to answer for the new key and for every key of the map as the
-    /// map's own does. The map keeps each hash, so it is not called.
+    /// `insert_hashed_nocheck`, with a hasher that has to answer for the new key and for every key of the map
+    /// as the map's own does. The map keeps each hash, so it is not called.
     pub fn insert_with_hasher<F: Fn(&K) -> u64>(
         self,
         hash: u64,
@@ -60,10 +62,11 @@ impl<'a, K: Eq + Hash, V, S: BuildHasher> RawVacantEntryMut<'a, K, V, S> {
         requires absent { place_of (K.eq key) (entries_of (raw_vacant_map self).now) ≡ None }
         requires hash { hash ≡ hash_with S.build_hasher S.Hasher.write S.Hasher.finish K.hash_input
             (raw_vacant_map self).now.hasher key }
-        requires hasher { All (Hashes F.Fn (hash_with S.build_hasher S.Hasher.write S.Hasher.finish K.hash_input
+        requires hasher { All (Hashes F.Fn
+            (hash_with S.build_hasher S.Hasher.write S.Hasher.finish K.hash_input
             (raw_vacant_map self).now.hasher) hasher) (key ∷ keys_of (entries_of (raw_vacant_map self).now)) }
-        ensures* lends { sem 𝓛 (LendsNewPair K.row V.row S.row S.Hasher.row K.Hash S.BuildHasher S.Hasher.Hasher
-            (raw_vacant_map self.entry) key value result) }
+        ensures* lends { sem 𝓛 (LendsNewPair K.row V.row S.row S.Hasher.row K.Hash
+            S.BuildHasher S.Hasher.Hasher (raw_vacant_map self.entry) key value result) }
         ensures pair { IfOk result (λ p. (p.0.now ≡ key) × (p.1.now ≡ value)) }
         ensures handed_back { IfErr result (λ p. p ≡ (key, value)) }
     {
@@ -73,12 +76,13 @@ impl<'a, K: Eq + Hash, V, S: BuildHasher> RawVacantEntryMut<'a, K, V, S> {
     /// Puts the pair last, and returns its entry. It hashes the key once.
     pub fn insert_entry(self, key: K, value: V) -> Result<RawOccupiedEntryMut<'a, K, V, S>, (K, V)>
         requires absent { place_of (K.eq key) (entries_of (raw_vacant_map self).now) ≡ None }
-        ensures* hands_on { sem 𝓛 (HandsOnNew K.row V.row S.row S.Hasher.row (raw_vacant_map self.entry) key value
-            result) }
+        ensures* hands_on { sem 𝓛 (HandsOnNew K.row V.row S.row S.Hasher.row
+            (raw_vacant_map self.entry) key value result) }
         ensures same_map { IfOk result
             (λ o. (raw_occupied_map o).ghost_name ≡ (raw_vacant_map self.entry).ghost_name) }
         ensures adds { IfOk result (λ o. AddsEntry K.eq (state_of (raw_vacant_map self.entry).now)
-            (state_of (raw_occupied_map o).now) key value (length (entries_of (raw_vacant_map self.entry).now))) }
+            (state_of (raw_occupied_map o).now) key value
+            (length (entries_of (raw_vacant_map self.entry).now))) }
         ensures last { IfOk result (λ o. raw_place o ≡ length (entries_of (raw_vacant_map self.entry).now)) }
         ensures handed_back { IfErr result (λ p. p ≡ (key, value)) }
     {
@@ -98,12 +102,13 @@ impl<'a, K: Eq + Hash, V, S: BuildHasher> RawVacantEntryMut<'a, K, V, S> {
         requires absent { place_of (K.eq key) (entries_of (raw_vacant_map self).now) ≡ None }
         requires hash { hash ≡ hash_with S.build_hasher S.Hasher.write S.Hasher.finish K.hash_input
             (raw_vacant_map self).now.hasher key }
-        ensures* hands_on { sem 𝓛 (HandsOnNew K.row V.row S.row S.Hasher.row (raw_vacant_map self.entry) key value
-            result) }
+        ensures* hands_on { sem 𝓛 (HandsOnNew K.row V.row S.row S.Hasher.row
+            (raw_vacant_map self.entry) key value result) }
         ensures same_map { IfOk result
             (λ o. (raw_occupied_map o).ghost_name ≡ (raw_vacant_map self.entry).ghost_name) }
         ensures adds { IfOk result (λ o. AddsEntry K.eq (state_of (raw_vacant_map self.entry).now)
-            (state_of (raw_occupied_map o).now) key value (length (entries_of (raw_vacant_map self.entry).now))) }
+            (state_of (raw_occupied_map o).now) key value
+            (length (entries_of (raw_vacant_map self.entry).now))) }
         ensures last { IfOk result (λ o. raw_place o ≡ length (entries_of (raw_vacant_map self.entry).now)) }
         ensures handed_back { IfErr result (λ p. p ≡ (key, value)) }
     {
@@ -112,8 +117,8 @@ impl<'a, K: Eq + Hash, V, S: BuildHasher> RawVacantEntryMut<'a, K, V, S> {
         Ok(RawOccupiedEntryMut { map, node })
     }
 
-    /// `insert_entry_hashed_nocheck`, with a hasher that has to answer for the new key and for every key of the map as
-    /// the map's own does. The map keeps each hash, so it is not called.
+    /// `insert_entry_hashed_nocheck`, with a hasher that has to answer for the new key and for every key of
+    /// the map as the map's own does. The map keeps each hash, so it is not called.
     pub fn insert_entry_with_hasher<F: Fn(&K) -> u64>(
         self,
         hash: u64,
@@ -126,14 +131,16 @@ impl<'a, K: Eq + Hash, V, S: BuildHasher> RawVacantEntryMut<'a, K, V, S> {
         requires absent { place_of (K.eq key) (entries_of (raw_vacant_map self).now) ≡ None }
         requires hash { hash ≡ hash_with S.build_hasher S.Hasher.write S.Hasher.finish K.hash_input
             (raw_vacant_map self).now.hasher key }
-        requires hasher { All (Hashes F.Fn (hash_with S.build_hasher S.Hasher.write S.Hasher.finish K.hash_input
+        requires hasher { All (Hashes F.Fn
+            (hash_with S.build_hasher S.Hasher.write S.Hasher.finish K.hash_input
             (raw_vacant_map self).now.hasher) hasher) (key ∷ keys_of (entries_of (raw_vacant_map self).now)) }
-        ensures* hands_on { sem 𝓛 (HandsOnNew K.row V.row S.row S.Hasher.row (raw_vacant_map self.entry) key value
-            result) }
+        ensures* hands_on { sem 𝓛 (HandsOnNew K.row V.row S.row S.Hasher.row
+            (raw_vacant_map self.entry) key value result) }
         ensures same_map { IfOk result
             (λ o. (raw_occupied_map o).ghost_name ≡ (raw_vacant_map self.entry).ghost_name) }
         ensures adds { IfOk result (λ o. AddsEntry K.eq (state_of (raw_vacant_map self.entry).now)
-            (state_of (raw_occupied_map o).now) key value (length (entries_of (raw_vacant_map self.entry).now))) }
+            (state_of (raw_occupied_map o).now) key value
+            (length (entries_of (raw_vacant_map self.entry).now))) }
         ensures last { IfOk result (λ o. raw_place o ≡ length (entries_of (raw_vacant_map self.entry).now)) }
         ensures handed_back { IfErr result (λ p. p ≡ (key, value)) }
     {

@@ -33,7 +33,8 @@ impl<K, V> Nodes<K, V> {
         self.spare -= 1;
     }
 
-    /// Drops the entries and gives their nodes back. The spare nodes stay. It stores two links for each entry.
+    /// Drops the entries and gives their nodes back. The spare nodes stay. It stores two links for each
+    /// entry.
     pub fn release_all(&mut self)
     where
         K: Drop,

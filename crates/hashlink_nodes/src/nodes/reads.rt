@@ -78,7 +78,8 @@ impl<K, V> Nodes<K, V> {
     #[inline]
     pub fn entry(&self, node: Node) -> (&K, &V)
         requires { Holds self.now.entries node }
-        ensures { option_map pair_of (lookup (same_node node) self.now.entries) ≡ Some (result.0.now, result.1.now) }
+        ensures { option_map pair_of (lookup (same_node node) self.now.entries) ≡ Some
+            (result.0.now, result.1.now) }
     {
         self.cells.pair(node)
     }

@@ -16,13 +16,15 @@ use hashlink_map::{Entry, LinkedHashMap};
 use std::hash::{BuildHasher, Hash};
 
 impl<T: Eq + Hash, S: BuildHasher> LinkedHashSet<T, S> {
-    ghost use Rattle.hashlink_set.specs.SetLends.{EndsInserted, EndsMade, StaysAsItWas, PutsElement, MakesElement};
+    ghost use Rattle.hashlink_set.specs.SetLends.{EndsInserted, EndsMade, StaysAsItWas, PutsElement};
+    ghost use Rattle.hashlink_set.specs.SetLends.{MakesElement};
 
-    /// Puts the element last, and returns whether it was new. An equal one that is there stays the object that it is,
-    /// and moves to the end.
+    /// Puts the element last, and returns whether it was new. An equal one that is there stays the object
+    /// that it is, and moves to the end.
     ///
-    /// It takes memory only for a new element where no node is spare. Where that is refused, the element is handed
-    /// back and nothing changes. It stores at most six links for an element that is there and four for a new one.
+    /// It takes memory only for a new element where no node is spare. Where that is refused, the element is
+    /// handed back and nothing changes. It stores at most six links for an element that is there and four for
+    /// a new one.
     pub fn insert(&mut self, value: T) -> Result<bool, T>
     where
         T: Drop,
@@ -37,8 +39,9 @@ impl<T: Eq + Hash, S: BuildHasher> LinkedHashSet<T, S> {
 
     /// Puts the element in the place of the equal one that is there, which it returns. A new one goes last.
     ///
-    /// It takes memory only for a new element where no node is spare. Where that is refused, the element is handed
-    /// back and nothing changes. It stores no link for an element that is there and at most four for a new one.
+    /// It takes memory only for a new element where no node is spare. Where that is refused, the element is
+    /// handed back and nothing changes. It stores no link for an element that is there and at most four for a
+    /// new one.
     pub fn replace(&mut self, value: T) -> Result<Option<T>, T>
         ensures replaces { SetReplaces T.eq self.old self.new value result }
         ensures distinct { IsDistinct T.eq (elements_of self.new) }
@@ -49,11 +52,12 @@ impl<T: Eq + Hash, S: BuildHasher> LinkedHashSet<T, S> {
         }
     }
 
-    /// Puts the element last, or moves the equal one that is there to the end, and lends the one that then stands
-    /// there: it is `insert`, and then the last element.
+    /// Puts the element last, or moves the equal one that is there to the end, and lends the one that then
+    /// stands there: it is `insert`, and then the last element.
     ///
-    /// It takes memory only for a new element where no node is spare. Where that is refused, the element is handed
-    /// back and nothing changes. It stores at most six links for an element that is there and four for a new one.
+    /// It takes memory only for a new element where no node is spare. Where that is refused, the element is
+    /// handed back and nothing changes. It stores at most six links for an element that is there and four for
+    /// a new one.
     pub fn get_or_insert(&mut self, value: T) -> Result<&T, T>
     where
         T: Drop,
@@ -66,11 +70,13 @@ impl<T: Eq + Hash, S: BuildHasher> LinkedHashSet<T, S> {
         Self::lent_or_refused(set.last_for_good(), refused)
     }
 
-    /// Moves the element that is equal to the one given to the end, or puts the one that `f` makes last, and lends the
-    /// one that then stands there. Where none is equal, `f` is called once, and what it makes has to be absent.
+    /// Moves the element that is equal to the one given to the end, or puts the one that `f` makes last, and
+    /// lends the one that then stands there. Where none is equal, `f` is called once, and what it makes has
+    /// to be absent.
     ///
-    /// It takes memory only for a new element where no node is spare. Where that is refused, what `f` made is handed
-    /// back and nothing changes. It stores at most six links for an element that is there and four for a new one.
+    /// It takes memory only for a new element where no node is spare. Where that is refused, what `f` made is
+    /// handed back and nothing changes. It stores at most six links for an element that is there and four for
+    /// a new one.
     pub fn get_or_insert_with<F: FnOnce(&T) -> T>(&mut self, value: &T, f: F) -> Result<&T, T>
     where
         T: Drop,
@@ -113,8 +119,8 @@ impl<T: Eq + Hash, S: BuildHasher> LinkedHashSet<T, S> {
         F: Drop,
         requires { CanMakeAbsent T.eq F.FnOnce f self.old value.now }
         ensures same_set { result.0.ghost_name ≡ self.entry.ghost_name }
-        ensures makes { MakesElement T.eq (FnOnceReturnsAt F.FnOnce f value.now) self.old result.0.now value.now
-            result.1 }
+        ensures makes { MakesElement T.eq (FnOnceReturnsAt F.FnOnce f value.now) self.old
+            result.0.now value.now result.1 }
     {
         let refused = self.move_or_make(value, f).err();
         (self, refused)
@@ -160,7 +166,8 @@ fn let_in<T: Eq + Hash, S: BuildHasher>(
     map: &mut LinkedHashMap<T, (), S>,
     value: T,
 ) -> Result<Option<T>, (T, ())>
-    ensures replaced { IfOk result (λ was. SetReplaces T.eq (state_of map.old) (state_of map.new) value (Ok was)) }
+    ensures replaced { IfOk result
+        (λ was. SetReplaces T.eq (state_of map.old) (state_of map.new) value (Ok was)) }
     ensures refused { IfErr result (RefusesEntry T.eq (state_of map.old) (state_of map.new) value tt) }
     ensures distinct { IsDistinct T.eq (elements_of (state_of map.old)) }
 {

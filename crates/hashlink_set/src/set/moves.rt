@@ -1,4 +1,5 @@
-//! How an element moves to either end. A move hashes the element once, takes no memory, and stores at most six links.
+//! How an element moves to either end. A move hashes the element once, takes no memory, and stores at most
+//! six links.
 ghost use Rattle.std.specs.Prelude.{◌≡◌, length};
 ghost use Rattle.std.specs.List.{IsDistinct};
 ghost use Rattle.hashlink_model.specs.Steps.{MovesMatch};
@@ -19,7 +20,8 @@ impl<T: Eq + Hash, S: BuildHasher> LinkedHashSet<T, S> {
 
     /// Moves the equal element to the end, and returns whether there is one. Else nothing changes.
     pub fn to_back<Q: Equivalent<T>>(&mut self, value: Q) -> bool
-        ensures moves { MovesMatch (Q.matches value) self.old self.new (length self.old.entries) (as_value result) }
+        ensures moves { MovesMatch (Q.matches value) self.old self.new (length self.old.entries)
+            (as_value result) }
     {
         self.find_to_back(value).is_some()
     }

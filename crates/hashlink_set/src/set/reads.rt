@@ -16,7 +16,8 @@ impl<T: Eq + Hash, S: BuildHasher> LinkedHashSet<T, S> {
         self.map.contains_key(value)
     }
 
-    /// The element that is there and equal to the one given, which may be another object. The order stays as it is.
+    /// The element that is there and equal to the one given, which may be another object. The order stays as
+    /// it is.
     pub fn get<Q: Equivalent<T>>(&self, value: Q) -> Option<&T>
         ensures { option_copied result ≡ find (Q.matches value) (elements_of self.now) }
     {

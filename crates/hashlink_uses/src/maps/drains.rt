@@ -12,8 +12,8 @@ pub fn empty_out<K: Eq + Hash + Drop, V: Drop, S: BuildHasher>(map: &mut LinkedH
     let _rest = map.drain();
 }
 
-/// Takes so many entries from the front, so many from the back, and drops the others: the map ends as a drain of all
-/// leaves it.
+/// Takes so many entries from the front, so many from the back, and drops the others: the map ends as a drain
+/// of all leaves it.
 pub fn take_ends<K: Eq + Hash + Drop, V: Drop, S: BuildHasher>(
     map: &mut LinkedHashMap<K, V, S>,
     front: usize,

@@ -108,7 +108,8 @@ pub fn put_seven<K: Eq + Hash + Drop, S: BuildHasher>(
     key: K,
 ) -> Result<(), (K, u64)>
     ensures puts { OnOk result
-        (Inserts K.eq (state_of map.old) (state_of map.new) key (unwrap_or (lookup (K.eq key) (entries_of map.old)) 7)
+        (Inserts K.eq (state_of map.old) (state_of map.new) key
+        (unwrap_or (lookup (K.eq key) (entries_of map.old)) 7)
         (length (entries_of map.old)) (Ok (lookup (K.eq key) (entries_of map.old)))) }
     ensures refused { IfErr result (RefusesEntry K.eq (state_of map.old) (state_of map.new) key 7) }
 {

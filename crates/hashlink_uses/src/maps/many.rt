@@ -29,13 +29,14 @@ pub fn append<K: Eq + Hash + Drop, V: Drop, S: BuildHasher + Drop>(
     ensures all { OnOk result
         (AcceptsAll (InsertsPair K.eq) (state_of map.old) (entries_of other) (state_of map.new)) }
     ensures stopped { IfErr result (λ e. (left : List (K × V))
-        × StopsAt (InsertsPair K.eq) (state_of map.old) (entries_of other) (state_of map.new) e.taken e.pair left) }
+        × StopsAt (InsertsPair K.eq) (state_of map.old) (entries_of other)
+        (state_of map.new) e.taken e.pair left) }
 {
     map.extend(other)
 }
 
-/// Empties a map and moves in another's entries, of which there are no more: none of them is refused, as each finds a
-/// spare node.
+/// Empties a map and moves in another's entries, of which there are no more: none of them is refused, as each
+/// finds a spare node.
 pub fn refill<K: Eq + Hash + Drop, V: Drop, S: BuildHasher + Drop>(
     map: &mut LinkedHashMap<K, V, S>,
     other: LinkedHashMap<K, V, S>,

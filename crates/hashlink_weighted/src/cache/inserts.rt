@@ -23,16 +23,17 @@ fn take_apart<V>(old: Option<(V, u64)>) -> (Option<V>, u64)
 impl<K: Eq + Hash, V, S: BuildHasher> WeightedCache<K, V, S> {
     ghost use Rattle.hashlink_weighted.specs.Answers.{InsertsWithin};
 
-    /// Puts the pair last with its weight, and returns the key's old value. A key that is there keeps its key object,
-    /// takes the new value and the new weight, and moves to the end. Then entries at the front are dropped until the
-    /// weights sum to at most the budget: the longest end that fits stays, and the pair is always in it.
+    /// Puts the pair last with its weight, and returns the key's old value. A key that is there keeps its key
+    /// object, takes the new value and the new weight, and moves to the end. Then entries at the front are
+    /// dropped until the weights sum to at most the budget: the longest end that fits stays, and the pair is
+    /// always in it.
     ///
-    /// A weight above the budget is refused as too heavy, also for a key that is there, and nothing changes. It takes
-    /// memory only for an absent key where no node is spare. Where that is refused, the pair is handed back and
-    /// nothing is dropped.
+    /// A weight above the budget is refused as too heavy, also for a key that is there, and nothing changes.
+    /// It takes memory only for an absent key where no node is spare. Where that is refused, the pair is
+    /// handed back and nothing is dropped.
     ///
-    /// It hashes the key once, and takes constant time but for what it drops. It stores at most six links for a key
-    /// that is there and four for an absent one, and at most three for each entry that it drops.
+    /// It hashes the key once, and takes constant time but for what it drops. It stores at most six links for
+    /// a key that is there and four for an absent one, and at most three for each entry that it drops.
     pub fn insert(&mut self, key: K, value: V, weight: u64) -> Result<Option<V>, WeightError<K, V>>
     where
         K: Drop,

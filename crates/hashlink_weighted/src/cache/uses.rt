@@ -1,4 +1,5 @@
-//! Reads, uses and removals. Each hashes the key once, takes no memory, and looks at the entries of one bucket.
+//! Reads, uses and removals. Each hashes the key once, takes no memory, and looks at the entries of one
+//! bucket.
 ghost use Rattle.std.specs.Prelude.{◌≡◌, is_some, length, option_copied};
 ghost use Rattle.std.specs.Borrow.{sem};
 ghost use Rattle.std.specs.Map.{lookup};
@@ -17,8 +18,8 @@ fn move_last<K: Eq + Hash, V, S: BuildHasher, Q: Equivalent<K>>(
     key: Q,
 ) -> bool
     ensures there { result ≡ is_some (lookup (Q.matches key) (entries_of map.old)) }
-    ensures moves { MovesMatch (Q.matches key) (state_of map.old) (state_of map.new) (length (entries_of map.old))
-        (lookup (Q.matches key) (entries_of map.old)) }
+    ensures moves { MovesMatch (Q.matches key) (state_of map.old) (state_of map.new)
+        (length (entries_of map.old)) (lookup (Q.matches key) (entries_of map.old)) }
     ensures distinct { IsEntries K.eq (entries_of map.old) }
 {
     match map.to_back(key) {
@@ -39,8 +40,8 @@ impl<K: Eq + Hash, V, S: BuildHasher> WeightedCache<K, V, S> {
         Some(value)
     }
 
-    /// The value of the key, whose entry moves to the end. Of an absent key it returns none, and nothing changes. It
-    /// stores at most six links.
+    /// The value of the key, whose entry moves to the end. Of an absent key it returns none, and nothing
+    /// changes. It stores at most six links.
     pub fn get<Q: Equivalent<K>>(&mut self, key: Q) -> Option<&V>
         ensures* used { sem 𝓛 (EndsUsed K.row V.row S.row S.Hasher.row K.Hash S.BuildHasher S.Hasher.Hasher
             self.entry (Q.matches key)) }
@@ -54,8 +55,8 @@ impl<K: Eq + Hash, V, S: BuildHasher> WeightedCache<K, V, S> {
         Some(value)
     }
 
-    /// Takes the key's entry out and returns its value. It looks for the key as `peek` does, and stores at most three
-    /// links. The node serves the next new pair.
+    /// Takes the key's entry out and returns its value. It looks for the key as `peek` does, and stores at
+    /// most three links. The node serves the next new pair.
     pub fn remove<Q: Equivalent<K>>(&mut self, key: Q) -> Option<V>
     where
         K: Drop,

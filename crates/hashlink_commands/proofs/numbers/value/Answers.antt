@@ -1,5 +1,6 @@
 use Rattle.std.proofs.Common.{sym, ◌∙◌}
-use Rattle.hashlink_commands.proofs.Digits.{IsValueOfFirst-none, value_of-none, IsValueOfFirst-more, value_of-some}
+use Rattle.hashlink_commands.proofs.Digits.{IsValueOfFirst-none, value_of-none, IsValueOfFirst-more}
+use Rattle.hashlink_commands.proofs.Digits.{value_of-some}
 use Rattle.hashlink_commands.proofs.numbers.value.Goals as goal
 
 pub loop-byte-init : goal.loop-byte-init

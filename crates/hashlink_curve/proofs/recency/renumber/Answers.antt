@@ -22,7 +22,8 @@ loop-place-preserved g c =
     let count = i.2 in
     let small = i.3 in
     let w = c.mark.ensures.width in (
-      Renumbers-step g.K.PartialEq.eq g.met.K.Eq.laws (entries_of c.args.places.now) (state_of c.loop-place.places)
+      Renumbers-step g.K.PartialEq.eq g.met.K.Eq.laws (entries_of c.args.places.now)
+          (state_of c.loop-place.places)
           (state_of c.pop_front.new.self) (state_of c.insert.new.self) c.loop-place.marks c.mark.new.self
           c.loop-place.place c.in-Some.key c.in-Some.field-0-1 c.in-Ok.field-0 i.0 (omega arith)
           c.in-Some.ensures.pops c.in-Ok.ensures.inserts c.insert.ensures.distinct c.mark.ensures.marked,

@@ -1,4 +1,5 @@
-use Rattle.hashlink_model.proofs.CacheBounds.{to_spare-kept, to_spare-dropped, to_spare-inserts, to_spare-not_refused}
+use Rattle.hashlink_model.proofs.CacheBounds.{to_spare-kept, to_spare-dropped, to_spare-inserts}
+use Rattle.hashlink_model.proofs.CacheBounds.{to_spare-not_refused}
 use Rattle.hashlink_model.proofs.cache.no_refusal_once_an_entry_was_dropped.Goals as goal
 
 pub returns : goal.returns

@@ -1,4 +1,5 @@
-use Rattle.hashlink_model.proofs.Cursors.{entry_after-put, guard_after-put, place_kept-same, place_kept-within}
+use Rattle.hashlink_model.proofs.Cursors.{entry_after-put, guard_after-put, place_kept-same}
+use Rattle.hashlink_model.proofs.Cursors.{place_kept-within}
 use Rattle.hashlink_model.proofs.cursor.cursor_stays_on_its_entry.Goals as goal
 
 pub returns : goal.returns

@@ -1,5 +1,6 @@
 use Rattle.std.proofs.Common.{ap, length, arith}
-use Rattle.hashlink_model.proofs.Cursors.{next-within, previous-within, inserts-within, there_and_back, back_and_there}
+use Rattle.hashlink_model.proofs.Cursors.{next-within, previous-within, inserts-within, there_and_back}
+use Rattle.hashlink_model.proofs.Cursors.{back_and_there}
 use Rattle.hashlink_model.proofs.cursor.where_a_cursor_stands.Goals as goal
 
 pub returns : goal.returns

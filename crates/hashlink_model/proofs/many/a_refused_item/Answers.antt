@@ -1,4 +1,5 @@
-use Rattle.hashlink_model.proofs.InTurn.{stops_entries, stops_handed_back, stops_taken, stops_late, drained_takes}
+use Rattle.hashlink_model.proofs.InTurn.{stops_entries, stops_handed_back, stops_taken, stops_late}
+use Rattle.hashlink_model.proofs.InTurn.{drained_takes}
 use Rattle.hashlink_model.proofs.many.a_refused_item.Goals as goal
 
 pub returns : goal.returns

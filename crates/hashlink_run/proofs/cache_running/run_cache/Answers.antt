@@ -25,7 +25,12 @@ loop-command-preserved g c =
 
 pub returns-in_err-push-clause-refused : goal.returns-in_err-push-clause-refused
 returns-in_err-push-clause-refused g c =
-    absurd (omega (arith, c.loop-command.invariant.1, ap length c.in-Some.ensures.steps.0, c.in_err-push.ensures.full))
+    absurd (omega (
+      arith,
+      c.loop-command.invariant.1,
+      ap length c.in-Some.ensures.steps.0,
+      c.in_err-push.ensures.full,
+    ))
 
 pub returns-clause-ran : goal.returns-clause-ran
 returns-clause-ran g c =

@@ -8,6 +8,7 @@ use Rattle.hashlink_run.proofs.cache_running.run_cache.Given as goal
 
 abbrev pub invariant-loop-command : goal.invariant-loop-command
 invariant-loop-command g l =
-    HasAnswered (CacheStep g.K.PartialEq.eq (ClosureSays g.F.Fn l.keep)) (state_in l.initial.cache) (state_in l.cache)
+    HasAnswered (CacheStep g.K.PartialEq.eq (ClosureSays g.F.Fn l.keep)) (state_in l.initial.cache)
+    (state_in l.cache)
     l.fn.commands.items (into_iter_items l.command-iterator) l.replies.items
     × (vec_len l.replies + length (into_iter_items l.command-iterator) ≤ vec_capacity l.replies)

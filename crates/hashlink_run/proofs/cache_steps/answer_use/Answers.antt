@@ -5,7 +5,8 @@ use Rattle.hashlink_run.proofs.cache_steps.answer_use.Goals as goal
 
 pub returns-in-Some : goal.returns-in-Some
 returns-in-Some g c =
-    used_hit g.K.PartialEq.eq (ClosureSays g.F.Fn c.args.says.now) (state_in c.args.cache.now) c.args.key c.args.value
+    used_hit g.K.PartialEq.eq (ClosureSays g.F.Fn c.args.says.now) (state_in c.args.cache.now)
+    c.args.key c.args.value
     c.in-Some.said (rw c.in-Some.is at c.said_of_get.ensures.said) _ c.said_of_get.ensures.gets
 
 pub returns-in-Ok : goal.returns-in-Ok

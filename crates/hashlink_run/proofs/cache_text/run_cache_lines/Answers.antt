@@ -7,8 +7,11 @@ use Rattle.hashlink_run.proofs.Progress.{HasCome-start, HasCome-line, ShowsAll-w
 use Rattle.hashlink_run.proofs.cache_text.run_cache_lines.Goals as goal
 
 pub loop-line-init : goal.loop-line-init
-loop-line-init c =
-    ([], rw c.into_iter-line-iterator.ensures.into_iter_gives (HasCome-start CacheLineShows _ _), sym (append-nil _))
+loop-line-init c = (
+  [],
+  rw c.into_iter-line-iterator.ensures.into_iter_gives (HasCome-start CacheLineShows _ _),
+  sym (append-nil _),
+)
 
 pub loop-line-preserved : goal.loop-line-preserved
 loop-line-preserved c =

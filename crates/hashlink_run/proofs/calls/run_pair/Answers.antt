@@ -3,7 +3,8 @@ use Rattle.hashlink_run.proofs.calls.run_pair.Goals as goal
 
 pub returns-clause-inclusion : goal.returns-clause-inclusion
 returns-clause-inclusion g c =
-    ran-includes g.K.PartialEq.eq g.met.K.Eq.laws _ _ _ _ c.requires _ _ _ _ c.in_ok-small.ensures c.in_ok-large.ensures
+    ran-includes g.K.PartialEq.eq g.met.K.Eq.laws _ _ _ _ c.requires _ _ _ _ c.in_ok-small.ensures
+    c.in_ok-large.ensures
 
 pub returns-clause-small_history : goal.returns-clause-small_history
 returns-clause-small_history g c =

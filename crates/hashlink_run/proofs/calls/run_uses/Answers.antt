@@ -11,14 +11,16 @@ loop-key-init g c = rw (c.new-cache.ensures, c.in_ok-replies.ensures.items) (Has
 
 pub loop-key-preserved : goal.loop-key-preserved
 loop-key-preserved g c =
-    let rest = rest_from use_of c.args.pairs.now c.loop-key.key-index _ c.loop-key-test.true c.loop-key-item.is in
+    let rest = rest_from use_of c.args.pairs.now c.loop-key.key-index _ c.loop-key-test.true
+    c.loop-key-item.is in
     rw c.in_ok-push.ensures.items
     (HasAnswered-more (EventStep g.K.PartialEq.eq) _ _ _ _ (rw rest at c.loop-key.invariant)
     c.in_ok-answer_call.ensures)
 
 pub returns-clause-ran : goal.returns-clause-ran
 returns-clause-ran g c =
-    let none = at_drop_all (λ ps. length (map use_of ps)) c.args.pairs.now c.loop-key.key-index c.loop-key-test.false in
+    let none = at_drop_all (λ ps. length (map use_of ps)) c.args.pairs.now c.loop-key.key-index
+    c.loop-key-test.false in
     runs_from_empty g.K.PartialEq.eq _ _ _ _ _ (HasAnswered-all (EventStep g.K.PartialEq.eq) _ none
     c.loop-key.invariant)
 

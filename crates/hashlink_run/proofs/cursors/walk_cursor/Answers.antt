@@ -39,7 +39,13 @@ loop-step-preserved g c =
 pub returns-in_err-push-clause-room : goal.returns-in_err-push-clause-room
 returns-in_err-push-clause-room g c = λ room.
     let before = c.loop-step.invariant.4 room in
-    absurd (omega (arith, before.0, before.1, ap length c.in-Some.ensures.steps.0, c.in_err-push.ensures.full))
+    absurd (omega (
+      arith,
+      before.0,
+      before.1,
+      ap length c.in-Some.ensures.steps.0,
+      c.in_err-push.ensures.full,
+    ))
 
 pub returns-clause-walked : goal.returns-clause-walked
 returns-clause-walked g c =

@@ -27,7 +27,8 @@ returns-in-OrInsert g c =
 pub returns-in-InsertEntry : goal.returns-in-InsertEntry
 returns-in-InsertEntry g c =
     let step =
-    at_occupied g.K.PartialEq.eq (ClosureSays g.F.Fn c.args.says.now) c.in-Occupied.ensures.entry c.in-InsertEntry.is
+    at_occupied g.K.PartialEq.eq (ClosureSays g.F.Fn c.args.says.now) c.in-Occupied.ensures.entry
+    c.in-InsertEntry.is
     (Pair (Some c.insert_entry.result) ∷ []) (state_of c.insert_entry.new.self.0) refl
     (c.insert_entry.result, c.insert_entry.ensures, refl) in
     search rules
@@ -35,7 +36,8 @@ returns-in-InsertEntry g c =
 pub returns-in-ReplaceEntry : goal.returns-in-ReplaceEntry
 returns-in-ReplaceEntry g c =
     let step =
-    at_occupied g.K.PartialEq.eq (ClosureSays g.F.Fn c.args.says.now) c.in-Occupied.ensures.entry c.in-ReplaceEntry.is
+    at_occupied g.K.PartialEq.eq (ClosureSays g.F.Fn c.args.says.now) c.in-Occupied.ensures.entry
+    c.in-ReplaceEntry.is
     (Pair (Some c.replace_entry.result) ∷ []) (state_of c.replace_entry.new.self.0) refl
     (c.replace_entry.result, c.replace_entry.ensures, refl) in
     search rules
@@ -44,7 +46,8 @@ pub returns-in-Remove : goal.returns-in-Remove
 returns-in-Remove g c =
     let t = taken _ (state_of c.remove.new.self.0) _ _ c.remove.ensures.value c.remove.ensures.removes in
     let step =
-    at_occupied g.K.PartialEq.eq (ClosureSays g.F.Fn c.args.says.now) c.in-Occupied.ensures.entry c.in-Remove.is
+    at_occupied g.K.PartialEq.eq (ClosureSays g.F.Fn c.args.says.now)
+    c.in-Occupied.ensures.entry c.in-Remove.is
     (Value (Some c.remove.result) ∷ []) (state_of c.remove.new.self.0) refl
     (t.0, t.1, ap (λ v. Value (Some v) ∷ []) t.2) in
     search rules
@@ -52,7 +55,8 @@ returns-in-Remove g c =
 pub returns-in-Occupied : goal.returns-in-Occupied
 returns-in-Occupied g c =
     let step =
-    at_occupied g.K.PartialEq.eq (ClosureSays g.F.Fn c.args.says.now) c.in-Occupied.ensures.entry c.in-RemoveEntry.is
+    at_occupied g.K.PartialEq.eq (ClosureSays g.F.Fn c.args.says.now) c.in-Occupied.ensures.entry
+    c.in-RemoveEntry.is
     (Pair (Some c.remove_entry.result) ∷ []) (state_of c.remove_entry.new.self.0) refl
     (c.remove_entry.result, c.remove_entry.ensures, refl) in
     search rules
@@ -65,7 +69,8 @@ returns-in_err-insert-in-OrInsert-step g c =
     let back = c.from_residual in
     let handed = handed_on back.result _ back.ensures.1 in
     let step =
-    at_vacant g.K.PartialEq.eq (ClosureSays g.F.Fn c.args.says.now) c.in-Vacant.ensures.entry c.in-OrInsert-step.is
+    at_vacant g.K.PartialEq.eq (ClosureSays g.F.Fn c.args.says.now) c.in-Vacant.ensures.entry
+    c.in-OrInsert-step.is
     (reply_or_refused back.result ∷ []) (state_of lent.lender-at-none) refl
     (Err pair, refuses, ap (λ r. reply_or_refused r ∷ []) handed) in
     search rules
@@ -76,7 +81,8 @@ returns-in-OrInsert-step g c =
     let value = c.in_ok-insert-in-OrInsert-step.field-0.now in
     let adds = lent.holds value (ap is_ok c.in_ok-insert-in-OrInsert-step.was) in
     let step =
-    at_vacant g.K.PartialEq.eq (ClosureSays g.F.Fn c.args.says.now) c.in-Vacant.ensures.entry c.in-OrInsert-step.is
+    at_vacant g.K.PartialEq.eq (ClosureSays g.F.Fn c.args.says.now) c.in-Vacant.ensures.entry
+    c.in-OrInsert-step.is
     (Seen None ∷ []) (state_of (lent.lender value)) refl
     (Ok tt, added c.in_ok-insert-in-OrInsert-step.ensures.value adds, refl) in
     search rules
@@ -89,7 +95,8 @@ returns-in_err-insert-in-Insert-step g c =
     let back = c.from_residual-in_err-insert-in-Insert-step in
     let handed = handed_on back.result _ back.ensures.1 in
     let step =
-    at_vacant g.K.PartialEq.eq (ClosureSays g.F.Fn c.args.says.now) c.in-Vacant.ensures.entry c.in-Insert-step.is
+    at_vacant g.K.PartialEq.eq (ClosureSays g.F.Fn c.args.says.now) c.in-Vacant.ensures.entry
+    c.in-Insert-step.is
     (reply_or_refused back.result ∷ []) (state_of lent.lender-at-none) refl
     (Err pair, refuses, ap (λ r. reply_or_refused r ∷ []) handed) in
     search rules
@@ -100,7 +107,8 @@ returns-in-Insert-step g c =
     let value = c.in_ok-insert-in-Insert-step.field-0.now in
     let adds = lent.holds value (ap is_ok c.in_ok-insert-in-Insert-step.was) in
     let step =
-    at_vacant g.K.PartialEq.eq (ClosureSays g.F.Fn c.args.says.now) c.in-Vacant.ensures.entry c.in-Insert-step.is
+    at_vacant g.K.PartialEq.eq (ClosureSays g.F.Fn c.args.says.now) c.in-Vacant.ensures.entry
+    c.in-Insert-step.is
     (Value None ∷ []) (state_of (lent.lender value)) refl
     (Ok tt, added c.in_ok-insert-in-Insert-step.ensures.value adds, refl) in
     search rules
@@ -113,7 +121,8 @@ returns-in_err-insert-in-InsertEntry-step g c =
     let back = c.from_residual-in_err-insert-in-InsertEntry-step in
     let handed = handed_on back.result _ back.ensures.1 in
     let step =
-    at_vacant g.K.PartialEq.eq (ClosureSays g.F.Fn c.args.says.now) c.in-Vacant.ensures.entry c.in-InsertEntry-step.is
+    at_vacant g.K.PartialEq.eq (ClosureSays g.F.Fn c.args.says.now) c.in-Vacant.ensures.entry
+    c.in-InsertEntry-step.is
     (reply_or_refused back.result ∷ []) (state_of lent.lender-at-none) refl
     (Err pair, refuses, ap (λ r. reply_or_refused r ∷ []) handed) in
     search rules
@@ -124,7 +133,8 @@ returns-in-InsertEntry-step g c =
     let value = c.in_ok-insert-in-InsertEntry-step.field-0.now in
     let adds = lent.holds value (ap is_ok c.in_ok-insert-in-InsertEntry-step.was) in
     let step =
-    at_vacant g.K.PartialEq.eq (ClosureSays g.F.Fn c.args.says.now) c.in-Vacant.ensures.entry c.in-InsertEntry-step.is
+    at_vacant g.K.PartialEq.eq (ClosureSays g.F.Fn c.args.says.now) c.in-Vacant.ensures.entry
+    c.in-InsertEntry-step.is
     (Pair None ∷ []) (state_of (lent.lender value)) refl
     (Ok tt, added c.in_ok-insert-in-InsertEntry-step.ensures.value adds, refl) in
     search rules

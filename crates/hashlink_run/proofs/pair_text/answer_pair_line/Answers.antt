@@ -12,7 +12,8 @@ use Rattle.hashlink_run.proofs.pair_text.answer_pair_line.Goals as goal
 pub returns-in_default-clause-shown : goal.returns-in_default-clause-shown
 returns-in_default-clause-shown c =
     let line = rw c.in_default.is at c.pair_command.ensures in
-    rw (sym line) (on_ok_weaker c.writeln.result (λ e. (codes "bad", (refl, refl), e)) c.writeln.ensures.bytes)
+    rw (sym line) (on_ok_weaker c.writeln.result (λ e. (codes "bad", (refl, refl), e))
+    c.writeln.ensures.bytes)
 
 pub returns-clause-shown : goal.returns-clause-shown
 returns-clause-shown c =
@@ -25,8 +26,10 @@ returns-clause-shown c =
     left nat_eq (state_in c.args.large.now) (event_of command) (c.in_ok-large_answer.large_answer ∷ []) _
     c.in_ok-large_answer.ensures in
     let held : Held = (entries_in c.args.small.now, entries_in c.args.large.now) in
-    let first : c.in_ok-small_answer.small_answer ≡ answer_to nat_eq held.0 (event_of command) = cc (small.answer) in
-    let second : c.in_ok-large_answer.large_answer ≡ answer_to nat_eq held.1 (event_of command) = cc (large.answer) in
+    let first : c.in_ok-small_answer.small_answer ≡ answer_to nat_eq held.0 (event_of command) =
+    cc (small.answer) in
+    let second : c.in_ok-large_answer.large_answer ≡ answer_to nat_eq held.1 (event_of command) =
+    cc (large.answer) in
     let shown = ap₂ (λ a b. shown_by decimal a ++ (32 ∷ shown_by decimal b)) first second in
     rw (sym line)
     (on_ok_weaker c.push_answers.result

@@ -33,7 +33,8 @@ loop-command-preserved g c =
 pub returns-in_err-answer_command-clause-refused : goal.returns-in_err-answer_command-clause-refused
 returns-in_err-answer_command-clause-refused g c =
     let left = c.in-Some.ensures.steps.0 in
-    let room = c.answer_command.ensures.room (omega (arith, c.loop-command.invariant.1, ap reply_total left)) in
+    let room = c.answer_command.ensures.room
+    (omega (arith, c.loop-command.invariant.1, ap reply_total left)) in
     let answered : is_ok c.answer_command.result ≡ true = room.0 in
     let failed : is_ok c.answer_command.result ≡ false = ap is_ok c.in_err-answer_command.was in
     absurd (let both : true ≡ false = sym answered ∙ failed in cc)

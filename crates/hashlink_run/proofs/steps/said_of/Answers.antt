@@ -4,7 +4,8 @@ use Rattle.hashlink_run.proofs.steps.said_of.Goals as goal
 
 pub returns : goal.returns
 returns g c =
-    let says : ClosureSays g.F.Fn c.args.says.now c.in_ok-key.key.now c.in_ok-key.value.now c.says.result = record {
+    let says : ClosureSays g.F.Fn c.args.says.now c.in_ok-key.key.now c.in_ok-key.value.now c.says.result =
+    record {
       key = c.in_ok-key.key;
       value = c.in_ok-key.value;
       shows = (refl, refl);

@@ -27,7 +27,8 @@ returns-in_ok-answer_command-in-Some-Do c =
     (λ k v b s. let even : b ≡ nat_eq (s.value.now % 2) 0 = search rules in
     even ∙ ap (λ y. nat_eq (y % 2) 0) s.shows.1) nat_eq
     (state_of c.args.map.now) answered.0 (state_of c.answer_command.new.map) command answered.1 in
-    let shows = shows-command (state_of c.args.map.now) (state_of c.answer_command.new.map) command answered.0 step in
+    let shows = shows-command (state_of c.args.map.now) (state_of c.answer_command.new.map)
+    command answered.0 step in
     rw (sym line)
     (on_ok_weaker c.push_replies.result
     (λ e. (

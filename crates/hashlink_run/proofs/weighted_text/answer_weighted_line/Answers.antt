@@ -6,4 +6,5 @@ pub returns-in-None : goal.returns-in-None
 returns-in-None c =
     let line = rw c.in-None.is at c.parse.ensures in
     rw (sym line)
-    (on_ok_weaker c.writeln-in-None.result (λ e. (codes "bad", (refl, refl), e)) c.writeln-in-None.ensures.bytes)
+    (on_ok_weaker c.writeln-in-None.result (λ e. (codes "bad", (refl, refl), e))
+    c.writeln-in-None.ensures.bytes)

@@ -17,7 +17,8 @@ loop-line-preserved c =
     let come = c.loop-line.invariant in
     let shown = c.in_ok-answer_weighted_line.ensures in (
       come.0 ++ ended shown.0,
-      HasCome-line WeightedLineShows c.in-Some.line.now shown.0 (rw c.in-Some.ensures.steps at come.1) shown.1,
+      HasCome-line WeightedLineShows c.in-Some.line.now shown.0
+          (rw c.in-Some.ensures.steps at come.1) shown.1,
       shown.2 ∙ ap (λ w. w ++ ended shown.0) come.2
           ∙ append_assoc (string_bytes c.args.out.now) come.0 (ended shown.0),
     )

@@ -33,5 +33,6 @@ returns g c =
       h.0,
       it.drained inv c.in_default.is c.next.ensures.steps,
       h.1,
-      subst (λ s. AcceptsAll (SetInserts g.T.PartialEq.eq) s h.0 c.loop-element.set) c.with_hasher-set.ensures h.2,
+      subst (λ s. AcceptsAll (SetInserts g.T.PartialEq.eq) s h.0 c.loop-element.set)
+          c.with_hasher-set.ensures h.2,
     )

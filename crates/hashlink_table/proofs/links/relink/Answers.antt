@@ -13,11 +13,17 @@ set_next-requires g c =
     let some = positive_by_power _ c.requires.masked in
     let low : c.bucket_of-bucket.result < length c.loop-at.heads.firsts = omega (arith, some) in
     let few : length (take c.loop-at.at c.loop-at.cells) ≤ END
-    = omega (arith, length-take-le c.loop-at.at c.loop-at.cells (omega arith), c.requires.small, c.loop-at.auto.cells)
+    = omega (
+      arith,
+      length-take-le c.loop-at.at c.loop-at.cells (omega arith),
+      c.requires.small,
+      c.loop-at.auto.cells,
+    )
     in
     omega (
       arith,
-      head_small c.loop-at.heads.firsts (next_at c.loop-at.cells) (take c.loop-at.at c.loop-at.cells) c.loop-at.free
+      head_small c.loop-at.heads.firsts (next_at c.loop-at.cells)
+          (take c.loop-at.at c.loop-at.cells) c.loop-at.free
           c.bucket_of-bucket.result c.loop-at.invariant.0 low few,
       get_or_default c.loop-at.heads.firsts c.bucket_of-bucket.result
           0 END low,
@@ -26,9 +32,15 @@ set_next-requires g c =
 pub set_next-requires-in_default : goal.set_next-requires-in_default
 set_next-requires-in_default g c =
     let few : length (take c.loop-at.at c.loop-at.cells) ≤ END
-    = omega (arith, length-take-le c.loop-at.at c.loop-at.cells (omega arith), c.requires.small, c.loop-at.auto.cells)
+    = omega (
+      arith,
+      length-take-le c.loop-at.at c.loop-at.cells (omega arith),
+      c.requires.small,
+      c.loop-at.auto.cells,
+    )
     in
-    free_small c.loop-at.heads.firsts (next_at c.loop-at.cells) (take c.loop-at.at c.loop-at.cells) c.loop-at.free
+    free_small c.loop-at.heads.firsts (next_at c.loop-at.cells)
+    (take c.loop-at.at c.loop-at.cells) c.loop-at.free
     c.loop-at.invariant.0 few
 
 pub loop-at-preserved : goal.loop-at-preserved
@@ -44,8 +56,8 @@ loop-at-preserved g c =
           let same = ap (λ (d : C). d.kept) w.set_next.ensures
           ∙ kept_at_read c.loop-at.cells c.loop-at.at w.index-cells-at-in-Some.result within in
           rw (w.heads-is ∙ w.set_first.ensures, w.cells-is, w.free-is) (
-            more_taken c.loop-at.heads.firsts c.loop-at.cells c.loop-at.free c.loop-at.at w.bucket_of-bucket.result _
-                low within small
+            more_taken c.loop-at.heads.firsts c.loop-at.cells c.loop-at.free c.loop-at.at
+                w.bucket_of-bucket.result _ low within small
                 (ap (λ (d : C). d.next) w.set_next.ensures ∙ w.first.ensures)
                 (ap (chain_of (length c.loop-at.heads.firsts))
                 (same ∙ sym (kept_at_read c.loop-at.cells c.loop-at.at c.index-cells-at.result within)
@@ -54,7 +66,8 @@ loop-at-preserved g c =
                 c.loop-at.invariant.0,
             λ j. kept_at-set_same c.loop-at.cells c.loop-at.at _ within same j ∙ c.loop-at.invariant.1 j,
             (
-              length-set c.loop-at.heads.firsts w.bucket_of-bucket.result c.loop-at.at ∙ c.loop-at.invariant.2.0,
+              length-set c.loop-at.heads.firsts w.bucket_of-bucket.result c.loop-at.at
+                  ∙ c.loop-at.invariant.2.0,
               c.loop-at.invariant.2.1,
             ),
           )
@@ -77,5 +90,6 @@ returns-clause-linked g c =
     let Cells : List (Cell g.row.N.Denot) → Type 0
     = λ cells. IsThreaded (c.loop-at.heads.firsts ++ c.loop-at.free ∷ []) (next_at c.loop-at.cells)
     (chain_at (length c.loop-at.heads.firsts) cells) in
-    subst Cells (take_all c.loop-at.at c.loop-at.cells (omega (arith, c.loop-at-test.false, c.loop-at.auto.cells)))
+    subst Cells (take_all c.loop-at.at c.loop-at.cells
+    (omega (arith, c.loop-at-test.false, c.loop-at.auto.cells)))
     c.loop-at.invariant.0

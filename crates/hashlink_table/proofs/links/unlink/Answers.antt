@@ -4,7 +4,8 @@ use Rattle.std.proofs.lemmas.List.{length-set}
 use Rattle.hashlink_table.specs.Chains.{next_at, chain_at, Among}
 use Rattle.hashlink_table.proofs.Cells.{within_by_chain, kept_at_read, next_at_read}
 use Rattle.hashlink_table.proofs.Linking.{unlinked_first, unlinked_next}
-use Rattle.hashlink_table.proofs.Walks.{IsWalk, walk_of, walk_on, walk_at, walk_goes, second_within, steps_left}
+use Rattle.hashlink_table.proofs.Walks.{IsWalk, walk_of, walk_on, walk_at, walk_goes, second_within}
+use Rattle.hashlink_table.proofs.Walks.{steps_left}
 use Rattle.hashlink_table.proofs.Walks.{steps_left-falls}
 use Rattle.hashlink_table.proofs.links.unlink.Goals as goal
 
@@ -44,9 +45,11 @@ loop-cells-smaller g c =
     let cells = c.args.cells.now in
     let w = c.loop-cells.invariant.walk in
     let next = c.next-at.ensures.value
-    ∙ next_at_read cells c.loop-cells.at c.index-cells-at-in-loop-cells.result c.loop-cells.invariant.within in
+    ∙ next_at_read cells c.loop-cells.at c.index-cells-at-in-loop-cells.result
+    c.loop-cells.invariant.within in
     subst
-    (λ n. steps_left (next_at cells) (length cells) n < steps_left (next_at cells) (length cells) c.loop-cells.at)
+    (λ n. steps_left (next_at cells) (length cells) n < steps_left (next_at cells)
+    (length cells) c.loop-cells.at)
     (sym next)
     (steps_left-falls w (walk_goes w c.args.cell c.loop-cells.invariant.to_come))
 
@@ -56,7 +59,8 @@ loop-cells-preserved g c =
     let w = c.loop-cells.invariant.walk in
     let r = walk_on w (walk_goes w c.args.cell c.loop-cells.invariant.to_come) in
     let next = c.next-at.ensures.value
-    ∙ next_at_read cells c.loop-cells.at c.index-cells-at-in-loop-cells.result c.loop-cells.invariant.within in
+    ∙ next_at_read cells c.loop-cells.at c.index-cells-at-in-loop-cells.result
+    c.loop-cells.invariant.within in
     let to_come : Among r.rest.path c.args.cell
     = elim (r.cases c.args.cell c.loop-cells.invariant.to_come) as (λ _. Among r.rest.path c.args.cell) [
       | inl e ↦ absurd (c.loop-cells.invariant.apart e)
@@ -72,7 +76,8 @@ loop-cells-preserved g c =
       apart =
           λ e. c.loop-cells-test.true
           (c.next.ensures.value
-          ∙ next_at_read cells c.loop-cells.at c.index-cells-at.result c.loop-cells.invariant.within ∙ sym next ∙ e);
+          ∙ next_at_read cells c.loop-cells.at c.index-cells-at.result c.loop-cells.invariant.within
+          ∙ sym next ∙ e);
       within =
           within_by_chain (length heads) cells _ c.args.bucket (walk_at v.0 (walk_goes v.0 c.args.cell v.1))
           (omega arith);
@@ -91,7 +96,8 @@ returns-clause-unlinked g c =
     ∙ c.loop-cells-test.false)
     (ap (λ (d : C). d.next) c.set_next.ensures ∙ c.next-after.ensures.value
     ∙ next_at_read cells c.args.cell c.index-cells-cell.result there)
-    (ap (λ (d : C). d.kept) c.set_next.ensures ∙ kept_at_read cells c.loop-cells.at c.index-cells-at-2.result within)
+    (ap (λ (d : C). d.kept) c.set_next.ensures ∙ kept_at_read cells c.loop-cells.at
+    c.index-cells-at-2.result within)
     (λ e. omega arith)
     (c.requires.on_chain ∙ sym (walk_at w (walk_goes w c.args.cell c.loop-cells.invariant.to_come)))
     linked
@@ -108,4 +114,5 @@ set_first-requires-clause-fits g c =
     omega (arith, low, next, c.requires.fit)
 
 pub returns-then-at-cell-clause-size : goal.returns-then-at-cell-clause-size
-returns-then-at-cell-clause-size g c = rw c.set_first.ensures (length-set c.args.heads.now.firsts c.args.bucket _, refl)
+returns-then-at-cell-clause-size g c = rw c.set_first.ensures
+    (length-set c.args.heads.now.firsts c.args.bucket _, refl)

@@ -8,5 +8,6 @@ returns-clause-within g c = λ n within.
 
 pub returns-clause-fits : goal.returns-clause-fits
 returns-clause-fits g c =
-    inserted_fits g.K.PartialEq.eq (state_in c.insert-answer.new.self) (state_in c.insert.new.self) c.args.second
+    inserted_fits g.K.PartialEq.eq (state_in c.insert-answer.new.self)
+    (state_in c.insert.new.self) c.args.second
     c.insert.result c.insert.ensures.inserts

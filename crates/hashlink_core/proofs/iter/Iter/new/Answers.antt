@@ -12,5 +12,6 @@ invariant_of-result g c =
 pub returns-clause-rest : goal.returns-clause-rest
 returns-clause-rest g c =
     let es = c.args.nodes.now.entries in
-    all-left es (distinct-left (keys_of es) c.args.nodes.now.free c.next.ensures.apart) c.next.result c.prev.result
+    all-left es (distinct-left (keys_of es) c.args.nodes.now.free c.next.ensures.apart)
+    c.next.result c.prev.result
     c.len.result c.next.ensures.place c.len.ensures.len

@@ -18,7 +18,8 @@ entry-requires g c =
 pub invariant_of-self : goal.invariant_of-self
 invariant_of-self g c =
     let es = c.self.inside.nodes.now.entries in
-    stands-next es c.self.inside.first c.self.inside.last c.self.inside.left c.self.invariant c.if-self-eq0.false
+    stands-next es c.self.inside.first c.self.inside.last c.self.inside.left c.self.invariant
+    c.if-self-eq0.false
     c.in_ok-node.node c.in_ok-node.was
     (distinct-left (keys_of es) c.self.inside.nodes.now.free c.next-self-inside.ensures.apart)
     c.next-self-inside.result c.next-self-inside.ensures.place
@@ -26,7 +27,8 @@ invariant_of-self g c =
 pub returns-clause-steps : goal.returns-clause-steps
 returns-clause-steps g c =
     let es = c.self.inside.nodes.now.entries in
-    sym c.self.view_is ∙ gives-first es c.self.inside.first c.self.inside.last c.self.inside.left c.self.invariant
+    sym c.self.view_is ∙ gives-first es c.self.inside.first c.self.inside.last
+    c.self.inside.left c.self.invariant
     c.if-self-eq0.false c.in_ok-node.node c.in_ok-node.was
     (distinct-left (keys_of es) c.self.inside.nodes.now.free c.next-self-inside.ensures.apart)
     c.next-self-inside.result c.next-self-inside.ensures.place (deref_pair c.entry.result) c.entry.ensures

@@ -13,6 +13,7 @@ returns g c = (
   (refl, lent-value g.met.K.Eq.laws c.self.view_is c.self.invariant c.args.node c.requires),
   record {
     lends = tt;
-    pair = stored g.met.K.Eq.laws c.self.view_is c.self.invariant c.args.node c.requires ∙ c.entry_mut.ensures.pair;
+    pair = stored g.met.K.Eq.laws c.self.view_is c.self.invariant c.args.node c.requires
+        ∙ c.entry_mut.ensures.pair;
   },
 )

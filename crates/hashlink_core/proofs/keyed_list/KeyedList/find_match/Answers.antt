@@ -12,12 +12,14 @@ pub returns-clause-found : goal.returns-clause-found
 returns-clause-found g c passes tells =
     let H = g.S.Hasher.Hasher in
     let build = g.S.BuildHasher.build_hasher in
-    subst (λ m. MatchOption c.look_up.result (place_of passes (entries_of m) ≡ None) (HoldsMatch passes m.nodes))
+    subst (λ m. MatchOption c.look_up.result (place_of passes (entries_of m) ≡ None)
+    (HoldsMatch passes m.nodes))
     c.self.view_is
     (found-by_table g.met.K.Eq.laws c.self.invariant passes tells.alike c.args.hash
     (λ x e. ap (λ m. hash_with build H.write H.finish g.K.Hash.hash_input m.hasher x) c.self.view_is
     ∙ tells.hashed x e)
-    (FnReturnsAt g.F.Fn c.args.is_match) (told tells) c.look_up.result c.look_up.ensures.found c.look_up.ensures.none)
+    (FnReturnsAt g.F.Fn c.args.is_match) (told tells) c.look_up.result c.look_up.ensures.found
+    c.look_up.ensures.none)
 
 pub look_up-requires : goal.look_up-requires
 look_up-requires g c cell node there =

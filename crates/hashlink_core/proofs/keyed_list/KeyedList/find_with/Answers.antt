@@ -9,7 +9,8 @@ find_match-requires g c =
     let start = g.S.BuildHasher.build_hasher c.args.self.now.hasher in (
       g.K.PartialEq.eq c.requires.0,
       tells-key g.met.K.Eq.laws
-          (λ k x e. ap (λ input. H.finish (fold H.write start input)) (g.met.K.Hash.respects_eq k x e)) c.requires.1,
+          (λ k x e. ap (λ input. H.finish (fold H.write start input)) (g.met.K.Hash.respects_eq k x e))
+          c.requires.1,
     )
 
 pub returns-clause-found : goal.returns-clause-found

@@ -32,7 +32,8 @@ invariant_of-self-2 g c =
     c.requires.absent ready c.args.place c.in_ok-node.node i.result c.args.hash
     c.push_before.new.self n.new.self i.new.self p.entries p.apart n.ensures.entries (n.ensures.free
     ∙ p.free) i.ensures.was_free i.ensures.inserted
-    (c.requires.hash ∙ ap (λ m. hash_with g.S.BuildHasher.build_hasher H.write H.finish g.K.Hash.hash_input m.hasher
+    (c.requires.hash ∙ ap (λ m. hash_with g.S.BuildHasher.build_hasher H.write H.finish
+    g.K.Hash.hash_input m.hasher
     c.args.key) (sym (c.self.view_is ∙ grown.rest)))
 
 pub returns-clause-added : goal.returns-clause-added
@@ -41,7 +42,8 @@ returns-clause-added g c =
     let p = c.in_ok-node.ensures in
     let i = c.insert_reserved-cell in
     let n = c.set_number in
-    added-node g.met.K.Eq.laws c.self.view_is c.self.invariant c.args.self.now c.reserve.ensures.grown c.args.key
+    added-node g.met.K.Eq.laws c.self.view_is c.self.invariant c.args.self.now
+    c.reserve.ensures.grown c.args.key
     c.args.value c.requires.absent ready c.args.place c.in_ok-node.node i.result c.args.hash
     c.push_before.new.self n.new.self i.new.self p.entries p.apart n.ensures.entries (n.ensures.free
     ∙ p.free) i.ensures.was_free i.ensures.inserted

@@ -5,7 +5,8 @@ use Rattle.hashlink_core.proofs.keyed_list.KeyedList.move_before.Goals as goal
 pub returns-clause-moved : goal.returns-clause-moved
 returns-clause-moved g c =
     let m = c.move_before in
-    let at = to-before g.met.K.Eq.laws c.self.view_is c.self.invariant c.args.node c.requires.node c.args.place
+    let at = to-before g.met.K.Eq.laws c.self.view_is c.self.invariant c.args.node
+    c.requires.node c.args.place
     c.requires.place m.new.self.entries m.ensures.moved in
     moved-node g.met.K.Eq.laws c.self.view_is c.self.invariant c.args.node c.requires.node m.new.self _ at
     m.ensures.free m.ensures.link_writes
@@ -23,7 +24,8 @@ move_before-requires-clause-place g c =
 pub invariant_of-self : goal.invariant_of-self
 invariant_of-self g c =
     let m = c.move_before in
-    let at = to-before g.met.K.Eq.laws c.self.view_is c.self.invariant c.args.node c.requires.node c.args.place
+    let at = to-before g.met.K.Eq.laws c.self.view_is c.self.invariant c.args.node
+    c.requires.node c.args.place
     c.requires.place m.new.self.entries m.ensures.moved in
     moved-step g.met.K.Eq.laws c.self.view_is c.self.invariant c.args.node c.requires.node m.new.self _ at
     m.ensures.free

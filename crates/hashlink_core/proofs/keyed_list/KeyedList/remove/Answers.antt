@@ -9,13 +9,15 @@ returns-clause-pair g c = stored g.met.K.Eq.laws c.self.view_is c.self.invariant
 pub invariant_of-self : goal.invariant_of-self
 invariant_of-self g c =
     let d = c.detach_into_free in
-    removed-step g.met.K.Eq.laws c.self.view_is c.self.invariant c.args.node c.requires d.new.self c.remove.new.self
+    removed-step g.met.K.Eq.laws c.self.view_is c.self.invariant c.args.node c.requires
+    d.new.self c.remove.new.self
     c.number.result c.number.ensures c.remove.ensures d.ensures.entries d.ensures.free
 
 pub returns-clause-removed : goal.returns-clause-removed
 returns-clause-removed g c =
     let d = c.detach_into_free in
-    removed-node g.met.K.Eq.laws c.self.view_is c.self.invariant c.args.node c.requires d.new.self c.remove.new.self
+    removed-node g.met.K.Eq.laws c.self.view_is c.self.invariant c.args.node c.requires
+    d.new.self c.remove.new.self
     c.number.result c.number.ensures c.remove.ensures d.ensures.entries d.ensures.free d.ensures.link_writes
 
 pub number-requires : goal.number-requires

@@ -12,8 +12,8 @@ returns-clause-written g c =
     (λ h. with_key h c.args.key) v.ensures.entries v.ensures.free v.ensures.link_writes c.args.key (λ h. refl)
 
 pub returns-clause-key : goal.returns-clause-key
-returns-clause-key g c = part-stored g.met.K.Eq.laws c.self.view_is c.self.invariant c.args.node c.requires.held
-    (λ h. h.key) (λ e. e.0) (λ h. refl) c.set_key.result c.set_key.ensures.key
+returns-clause-key g c = part-stored g.met.K.Eq.laws c.self.view_is c.self.invariant
+    c.args.node c.requires.held (λ h. h.key) (λ e. e.0) (λ h. refl) c.set_key.result c.set_key.ensures.key
 
 pub set_key-requires : goal.set_key-requires
 set_key-requires g c = held-inside g.met.K.Eq.laws c.self.view_is c.self.invariant c.args.node c.requires.held
@@ -23,7 +23,8 @@ invariant_of-self g c =
     let k = c.args.key in
     let H = g.S.Hasher.Hasher in
     let build = g.S.BuildHasher.build_hasher in
-    rekeyed-step g.met.K.Eq.laws c.self.view_is c.self.invariant c.args.node c.requires.held c.set_key.new.self k
+    rekeyed-step g.met.K.Eq.laws c.self.view_is c.self.invariant c.args.node c.requires.held
+    c.set_key.new.self k
     (equal-holds _ _ c.args.node k g.met.K.Eq.laws (sound g.met.K.Eq.laws c.self.view_is c.self.invariant)
     c.requires.held c.requires.equal)
     (λ x e. ap (λ input. H.finish (fold H.write (build c.self.inside.hash_builder) input))

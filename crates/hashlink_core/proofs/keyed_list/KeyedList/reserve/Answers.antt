@@ -16,7 +16,8 @@ pub returns-clause-grown : goal.returns-clause-grown
 returns-clause-grown g c =
     let r = c.self.inside.nodes in
     let u = c.reserve.new.self in
-    let long = ap (λ (m : Keyed _ _ _). length m.nodes) (sym c.self.view_is) ∙ length-mapped pair_of r.entries in
+    let long = ap (λ (m : Keyed _ _ _). length m.nodes) (sym c.self.view_is)
+    ∙ length-mapped pair_of r.entries in
     let room = ap (λ (m : Keyed _ _ _). m.room) c.self.view_is in
     record {
       more = record {

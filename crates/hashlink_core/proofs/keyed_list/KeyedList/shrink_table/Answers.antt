@@ -10,7 +10,8 @@ invariant_of-self g c =
     let u = shrunk-table t c.shrink.new.self c.shrink.result
     (omega (arith, c.self.invariant.fits, c.self.invariant.count)) c.shrink.ensures.ok c.shrink.ensures.err in
     step-same g.met.K.Eq.laws r r t c.shrink.new.self refl u.0
-    (omega (arith, u.1, c.self.invariant.count, ap (λ m. m.spare) c.self.view_is ∙ c.requires)) c.self.invariant
+    (omega (arith, u.1, c.self.invariant.count, ap (λ m. m.spare) c.self.view_is ∙ c.requires))
+    c.self.invariant
 
 pub returns-clause-sound : goal.returns-clause-sound
 returns-clause-sound g c = sound g.met.K.Eq.laws c.self.view_is c.self.invariant

@@ -32,7 +32,8 @@ returns g c =
     let same = ap (λ ns. sum (drop c.args.capacity ns)) c.deref.ensures.value in
     let is = c.sum_from.ensures in
     let long = c.len.ensures in
-    let inner : c.len.result + c.sum_from.result ≡ length keys + sum (drop c.args.capacity reuses) = omega arith in
+    let inner : c.len.result + c.sum_from.result ≡ length keys + sum (drop c.args.capacity reuses) =
+    omega arith in
     let exact : c.len.result + c.sum_from.result ≡ misses_at c.args.self.now c.args.capacity
     = inner ∙ ap (λ (s : CurveState g.row.K.Denot). misses_at s c.args.capacity) v in
     record {

@@ -1,7 +1,8 @@
 use Rattle.std.proofs.Common.{◌≡◌, ◌+◌, ◌<◌, ℕ, get_or, length, subst, sym, ap, ◌∙◌, ◌++◌, arith, List}
 use Rattle.std.proofs.lemmas.Grind.{get_or_default_zero}
 use Rattle.hashlink_curve.specs.Marks.{Marked, Tree, IsTree}
-use Rattle.hashlink_curve.proofs.Climbs.{Climbs, Climbs-start, Climbs-up, Climbs-tree, Marked-more, Climbs-bound}
+use Rattle.hashlink_curve.proofs.Climbs.{Climbs, Climbs-start, Climbs-up, Climbs-tree, Marked-more}
+use Rattle.hashlink_curve.proofs.Climbs.{Climbs-bound}
 use Rattle.hashlink_curve.proofs.marks.Marks.mark.Goals as goal
 
 read_at : (xs : List ℕ) (i x : ℕ) → x ≡ get_or xs i x → i < length xs → x ≡ get_or xs i 0
@@ -10,8 +11,11 @@ read_at xs i x e l = e ∙ get_or_default_zero xs i x l
 pub loop-node-init : goal.loop-node-init
 loop-node-init c =
     let w = ap (λ (t : Tree). t.width) c.self.view_is in
-    let l = c.requires.within in
-    (Climbs-start 0 1 c.self.inside.sums.items c.self.inside.width c.args.place c.self.invariant (omega arith), λ i. c.self.inside.width)
+    let l = c.requires.within in (
+      Climbs-start 0 1 c.self.inside.sums.items c.self.inside.width c.args.place c.self.invariant
+          (omega arith),
+      λ i. c.self.inside.width,
+    )
 
 pub invariant_of-self : goal.invariant_of-self
 invariant_of-self c =
@@ -23,9 +27,11 @@ invariant_of-self c =
     let zero : c.loop-node.node ≡ 0 = omega arith in
     let f = c.self.invariant.fits in
     let q = c.requires.few in
-    Climbs-tree 0 1 c.self.inside.sums.items c.loop-node.self-inside.sums.items c.loop-node.self-inside.width c.args.place
+    Climbs-tree 0 1 c.self.inside.sums.items c.loop-node.self-inside.sums.items
+    c.loop-node.self-inside.width c.args.place
     (subst (λ n. IsTree c.self.inside.sums.items n) (sym same) c.self.invariant) (omega arith)
-    (subst (λ n. Climbs 0 1 c.self.inside.sums.items c.loop-node.self-inside.sums.items c.loop-node.self-inside.width
+    (subst (λ n. Climbs 0 1 c.self.inside.sums.items c.loop-node.self-inside.sums.items
+    c.loop-node.self-inside.width
     c.args.place n) zero k)
     (omega arith)
 
@@ -42,12 +48,14 @@ overflow_add-index_mut c =
     let n = k.nodes in
     let b = k.below in
     let same = c.loop-node.invariant.1 in
-    let read = read_at c.loop-node.self-inside.sums.items c.loop-node.node c.index_mut.result.now c.index_mut.ensures.value
+    let read = read_at c.loop-node.self-inside.sums.items c.loop-node.node c.index_mut.result.now
+    c.index_mut.ensures.value
     (omega arith) in
     let root = ap (λ (t : Tree). get_or t.sums 1 0) c.self.view_is in
     let w = ap (λ (t : Tree). t.width) c.self.view_is in
     let q = c.requires.few in
-    let bound = Climbs-bound c.self.inside.sums.items c.loop-node.self-inside.sums.items c.loop-node.self-inside.width
+    let bound = Climbs-bound c.self.inside.sums.items c.loop-node.self-inside.sums.items
+    c.loop-node.self-inside.width
     c.args.place c.loop-node.node (subst (λ n. IsTree c.self.inside.sums.items n) (sym same) c.self.invariant)
     c.loop-node-test.true k in
     omega arith
@@ -57,9 +65,11 @@ loop-node-preserved c =
     let k = c.loop-node.invariant.0 in
     let n = k.nodes in
     let b = k.below in
-    let read = read_at c.loop-node.self-inside.sums.items c.loop-node.node c.index_mut.result.now c.index_mut.ensures.value
+    let read = read_at c.loop-node.self-inside.sums.items c.loop-node.node c.index_mut.result.now
+    c.index_mut.ensures.value
     (omega arith) in (
-      Climbs-up 0 1 c.self.inside.sums.items c.loop-node.self-inside.sums.items c.loop-node.self-inside.width c.args.place
+      Climbs-up 0 1 c.self.inside.sums.items c.loop-node.self-inside.sums.items
+          c.loop-node.self-inside.width c.args.place
           c.loop-node.node (c.index_mut.result.now + 1) k c.loop-node-test.true (omega arith),
       c.loop-node.invariant.1,
     )
@@ -74,7 +84,11 @@ returns c =
     let zero : c.loop-node.node ≡ 0 = omega arith in
     let small = c.self.invariant.small in
     let old : Tree = record { sums = c.self.inside.sums.items; width = c.self.inside.width } in
-    let new : Tree = record { sums = c.loop-node.self-inside.sums.items; width = c.loop-node.self-inside.width } in
+    let new : Tree = record {
+      sums = c.loop-node.self-inside.sums.items;
+      width =
+          c.loop-node.self-inside.width;
+    } in
     let there : Climbs 0 1 old.sums new.sums old.width c.args.place 0
     = subst (λ n. Climbs 0 1 old.sums new.sums n c.args.place 0) same
     (subst (λ n. Climbs 0 1 old.sums new.sums new.width c.args.place n) zero k) in

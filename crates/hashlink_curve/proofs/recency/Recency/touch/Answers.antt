@@ -94,7 +94,8 @@ invariant_of-self-in-Ok-Some g c =
     let m2 = c.mark.ensures.marked (values_of f.front ++ values_of f.back) []
     (subst (Marked c.unmark.new.self) (sym (append-nil (values_of f.front ++ values_of f.back))) m) in
     found_placed g.K.PartialEq.eq g.met.K.Eq.laws es (entries_of c.insert.new.self) c.free_place.new.marks
-    c.mark.new.self c.free_place.new.next c.args.key c.in-Ok-Some.place p f puts.puts.entries c.insert.ensures.distinct
+    c.mark.new.self c.free_place.new.next c.args.key c.in-Ok-Some.place p f puts.puts.entries
+    c.insert.ensures.distinct
     m2 (omega arith)
 
 pub overflow_add-self-in-Ok-None : goal.overflow_add-self-in-Ok-None
@@ -144,5 +145,6 @@ returns-in-Ok-None-clause-touched g c =
     let es = entries_of c.free_place.new.places in
     let old = c.free_place.ensures.keys ∙ c.self.view_is in
     subst (λ ks. GoesLast g.K.PartialEq.eq ks (keys_of (entries_of c.insert.new.self)) c.args.key) old
-    (absent_last g.K.PartialEq.eq g.met.K.Eq.laws es (entries_of c.insert.new.self) c.args.key c.free_place.new.next
+    (absent_last g.K.PartialEq.eq g.met.K.Eq.laws es (entries_of c.insert.new.self) c.args.key
+    c.free_place.new.next
     adds.absent adds.adds.entries)

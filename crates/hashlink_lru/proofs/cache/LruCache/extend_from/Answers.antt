@@ -10,8 +10,8 @@ returns-in-Err-clause-stopped g c =
     let inv = c.loop-key.invariant in
     let pair : g.row.K.Denot × g.row.V.Denot = (c.in-Some.key, c.in-Some.value) in (
       inv.seen ++ pair ∷ [],
-      it.Yields-more g.I.Iterator.next_gives c.args.iter.now inv.seen c.loop-key.iter pair c.next.new.self inv.gave
-          c.in-Some.ensures.steps,
+      it.Yields-more g.I.Iterator.next_gives c.args.iter.now inv.seen c.loop-key.iter pair
+          c.next.new.self inv.gave c.in-Some.ensures.steps,
       stops_after (InsertsPairIn g.K.PartialEq.eq) (state_in c.args.self.now) (state_in c.loop-key.self)
           (state_in c.insert.new.self) inv.seen pair c.in-Err.pair c.loop-key.taken inv.holds.0 inv.holds.1
           c.in-Err.ensures.inserts,
@@ -21,13 +21,15 @@ pub returns-in-Err-clause-within : goal.returns-in-Err-clause-within
 returns-in-Err-clause-within g c = λ n within.
     let inv = c.loop-key.invariant in
     c.insert.ensures.within n
-    (extended_within g.K.PartialEq.eq (state_in c.args.self.now) (state_in c.loop-key.self) inv.seen n inv.holds.0
+    (extended_within g.K.PartialEq.eq (state_in c.args.self.now) (state_in c.loop-key.self)
+    inv.seen n inv.holds.0
     within)
 
 pub returns-clause-within : goal.returns-clause-within
 returns-clause-within g c = λ n within.
     let inv = c.loop-key.invariant in
-    extended_within g.K.PartialEq.eq (state_in c.args.self.now) (state_in c.loop-key.self) inv.seen n inv.holds.0
+    extended_within g.K.PartialEq.eq (state_in c.args.self.now) (state_in c.loop-key.self)
+    inv.seen n inv.holds.0
     within
 
 pub loop-key-preserved : goal.loop-key-preserved

@@ -15,5 +15,6 @@ returns-clause-used g c =
     let same = missed old found (eq c.args.key) _ none c.get.follows.holds-at-none.0 in
     let keeps = c.keep_last.ensures.keeps in
     by_miss eq _ old new c.args.key c.in-Ok.value absent c.in-Ok.ensures
-    (puts_new eq old found new (state_of c.insert.new.self) c.args.key c.in-Ok.value c.in_default.field-0 c.max.result
+    (puts_new eq old found new (state_of c.insert.new.self) c.args.key c.in-Ok.value
+    c.in_default.field-0 c.max.result
     same absent c.in_default.ensures.inserts c.max.ensures keeps.map keeps.cap)

@@ -5,7 +5,9 @@ use Rattle.hashlink_map.proofs.clone.LinkedHashMapFromIteratorTuple2.from_iter.G
 
 pub returns : goal.returns
 returns g c = record {
-  ran = made_by_answer g.I.IntoIter.Iterator.next_gives g.I.IntoIterator.into_iter_gives g.S.Default.is_default
-      (λ items s m. MadeFrom (InsertsPair g.K.PartialEq.eq) items s (state_of m)) c.args.iter c.from_iter.result
+  ran = made_by_answer g.I.IntoIter.Iterator.next_gives g.I.IntoIterator.into_iter_gives
+      g.S.Default.is_default
+      (λ items s m. MadeFrom (InsertsPair g.K.PartialEq.eq) items s (state_of m))
+      c.args.iter c.from_iter.result
       c.from_iter.ensures.made;
 }

@@ -9,4 +9,5 @@ pub returns : goal.returns
 returns g c =
     let old = c.args.self.map.now in
     subst (KeepsOnly (state_of old) (state_of c.retain.new.self)) (none-passes (entries_of old))
-    (retained_by_predicate _ (λ e. false) (λ f k v b w g call. search rules) _ _ _ _ c.retain.ensures.retained.1)
+    (retained_by_predicate _ (λ e. false) (λ f k v b w g call. search rules) _ _ _ _
+    c.retain.ensures.retained.1)

@@ -7,7 +7,8 @@ pub returns-clause-steps : goal.returns-clause-steps
 returns-clause-steps g c =
     let pops = c.pop_back.ensures.pops in
     record {
-      takes = pop-takes_last (state_of c.args.self.now.map.now) (state_of c.pop_back.new.self) c.pop_back.result pops;
+      takes = pop-takes_last (state_of c.args.self.now.map.now) (state_of c.pop_back.new.self)
+          c.pop_back.result pops;
       pops = pops;
       same_map = refl;
     }

@@ -7,8 +7,8 @@ pub returns-clause-steps : goal.returns-clause-steps
 returns-clause-steps g c =
     let pops = c.pop_front.ensures.pops in
     record {
-      takes = pop-takes_first (state_of c.args.self.now.map.now) (state_of c.pop_front.new.self) c.pop_front.result
-          pops;
+      takes = pop-takes_first (state_of c.args.self.now.map.now) (state_of c.pop_front.new.self)
+          c.pop_front.result pops;
       pops = pops;
       same_map = refl;
     }

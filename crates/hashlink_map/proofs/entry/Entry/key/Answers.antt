@@ -8,10 +8,12 @@ pub returns-in-Occupied : goal.returns-in-Occupied
 returns-in-Occupied g c =
     let o = c.in-Occupied.entry in
     stored-there g.K.PartialEq.eq _ o.key _ o.stands.place _ c.key.ensures
-    ∙ ap (λ e. stored_key g.K.PartialEq.eq (entry_state e).map.entries (entry_state e).key) (sym c.in-Occupied.is)
+    ∙ ap (λ e. stored_key g.K.PartialEq.eq (entry_state e).map.entries (entry_state e).key)
+    (sym c.in-Occupied.is)
 
 pub returns-in-Vacant : goal.returns-in-Vacant
 returns-in-Vacant g c =
     let e = c.in-Vacant.entry in
     c.key-in-Vacant.ensures ∙ stored-absent g.K.PartialEq.eq _ e.key e.absent
-    ∙ ap (λ e. stored_key g.K.PartialEq.eq (entry_state e).map.entries (entry_state e).key) (sym c.in-Vacant.is)
+    ∙ ap (λ e. stored_key g.K.PartialEq.eq (entry_state e).map.entries (entry_state e).key)
+    (sym c.in-Vacant.is)

@@ -8,8 +8,10 @@ pub returns-in_err-extend : goal.returns-in_err-extend
 returns-in_err-extend g c =
     let e = c.in_err-extend.field-0.0 in
     let nexts = g.I.IntoIter.Iterator.next_gives in record {
-      ran = took_some nexts (λ raw. raw) g.I.IntoIterator.into_iter_gives (InsertsPair g.K.PartialEq.eq) (Grows 1)
-          c.args.iter (state_of c.args.self.now) (state_of c.extend.new.self) c.from_residual.result e.taken e.pair
+      ran = took_some nexts (λ raw. raw) g.I.IntoIterator.into_iter_gives
+          (InsertsPair g.K.PartialEq.eq) (Grows 1)
+          c.args.iter (state_of c.args.self.now) (state_of c.extend.new.self)
+          c.from_residual.result e.taken e.pair
           c.from_residual.ensures.0 (cuts_item nexts) (λ a b x y refused. refused.grows)
           c.in_err-extend.ensures.stopped;
     }
@@ -17,6 +19,7 @@ returns-in_err-extend g c =
 pub returns : goal.returns
 returns g c = record {
   ran = took_all g.I.IntoIter.Iterator.next_gives (λ raw. raw) g.I.IntoIterator.into_iter_gives
-      (InsertsPair g.K.PartialEq.eq) (Grows 1) c.args.iter (state_of c.args.self.now) (state_of c.extend.new.self)
+      (InsertsPair g.K.PartialEq.eq) (Grows 1) c.args.iter (state_of c.args.self.now)
+      (state_of c.extend.new.self)
       c.in_ok-extend.ensures.all (grows-none (state_of c.extend.new.self));
 }

@@ -10,8 +10,10 @@ pub returns-in_err-extend_ref : goal.returns-in_err-extend_ref
 returns-in_err-extend_ref g c =
     let e = c.in_err-extend_ref.field-0.0 in
     let nexts = g.I.IntoIter.Iterator.next_gives in record {
-      ran = took_some nexts (map deref_pair) g.I.IntoIterator.into_iter_gives (InsertsPair g.K.PartialEq.eq) (Grows 1)
-          c.args.iter (state_of c.args.self.now) (state_of c.extend_ref.new.self) c.from_residual.result e.taken e.pair
+      ran = took_some nexts (map deref_pair) g.I.IntoIterator.into_iter_gives
+          (InsertsPair g.K.PartialEq.eq) (Grows 1)
+          c.args.iter (state_of c.args.self.now) (state_of c.extend_ref.new.self)
+          c.from_residual.result e.taken e.pair
           c.from_residual.ensures.0 (cuts_copy nexts deref_pair) (λ a b x y refused. refused.grows)
           c.in_err-extend_ref.ensures.stopped;
     }
@@ -19,6 +21,7 @@ returns-in_err-extend_ref g c =
 pub returns : goal.returns
 returns g c = record {
   ran = took_all g.I.IntoIter.Iterator.next_gives (map deref_pair) g.I.IntoIterator.into_iter_gives
-      (InsertsPair g.K.PartialEq.eq) (Grows 1) c.args.iter (state_of c.args.self.now) (state_of c.extend_ref.new.self)
+      (InsertsPair g.K.PartialEq.eq) (Grows 1) c.args.iter (state_of c.args.self.now)
+      (state_of c.extend_ref.new.self)
       c.in_ok-extend_ref.ensures.all (grows-none (state_of c.extend_ref.new.self));
 }

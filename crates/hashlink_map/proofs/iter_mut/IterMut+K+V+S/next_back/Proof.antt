@@ -1,4 +1,5 @@
--- `next_back` lends the value of the last entry left beside its key, where there is one, and the walk follows it.
+-- `next_back` lends the value of the last entry left beside its key, where there is one, and the walk follows
+-- it.
 use Rattle.std.proofs.Common.{◌≡◌, ℕ, List, [], ◌∷◌, ◌++◌, refl, sym, ap, subst, ◌∙◌}
 use base.Logic.{SProp, ent, id⊢, emp}
 use mir.Syntax.{a_type, named, ty_ptr, dcons, dnil}
@@ -6,7 +7,8 @@ use mir.MapTy.{inst_fn}
 use mir.Val.{Val, of_list, vptr, vstruct}
 use prog.Wp.{WpFn}
 use types.Logic.{sem}
-use types.Kit.{‵, raw, ◌⊛◌, some, later, ◌$◌, ◌∵◌, !, qed, by, move, keep, drop, split, join, fsplit, fjoin, fpick}
+use types.Kit.{‵, raw, ◌⊛◌, some, later, ◌$◌, ◌∵◌, !, qed, by, move, keep, drop, split, join, fsplit, fjoin}
+use types.Kit.{fpick}
 use types.Kit.{feq_l, pick, await, rewrite, use0, use1}
 use types.Part.{whole, sub}
 use types.Run.{stop, fld, of_opd, addr, and_then, no_more, returns, enter}
@@ -87,16 +89,20 @@ next_back_spec 𝓤 𝓛 𝓜 𝓡 wired K V S T LK LV LS LT e de p dp h dh b db
     (g.spec K V S T e de p dp h dh b db w dw dd 𝓛 𝓜.mem 𝓡.returns) in
     let y : Y.Ghost = ((κs, qs, z.0.2, (r, tt), (vs, tt)), tt) in
     let Eg = g.ended K V S T e de p dp h dh b db w dw dd in
-    let Again : SProp 𝓤 → SProp 𝓤 = Asks 𝓤 (κs.1.1.0 ⊑ K.lives) (κs.1.1.1.0 ⊑ V.lives) (κs.1.1.1.1.0 ⊑ S.lives)
+    let Again : SProp 𝓤 → SProp 𝓤 = Asks 𝓤 (κs.1.1.0 ⊑ K.lives) (κs.1.1.1.0 ⊑ V.lives)
+    (κs.1.1.1.1.0 ⊑ S.lives)
     (κs.1.1.1.1.1.0 ⊑ T.lives) in
     let s = walk_state r.now in
-    let Stepped : Mid.Denot → Type 0 = λ q. TakesOff walk_map walk_state r (last_place s) (after_back s) q.0 q.1 in
+    let Stepped : Mid.Denot → Type 0 = λ q. TakesOff walk_map walk_state r (last_place s)
+    (after_back s) q.0 q.1 in
     subst (λ (us : List Val). ent 𝓤 (W.pre (At us)) (WpFn 𝓤 H 𝓣.C 𝓣.Λ fn (W.args (At us)) (W.post (At us))))
     (sym is_ref)
-    (qed 𝓛 (raw (on_entry 𝓛 En.signature κs qs (r, tt) (vs, tt)) ∷ raw ((c κs (r, tt)).requires tt) ∷ []) ∵ move !
+    (qed 𝓛 (raw (on_entry 𝓛 En.signature κs qs (r, tt) (vs, tt)) ∷ raw ((c κs (r, tt)).requires tt) ∷ []) ∵
+    move !
     (1 ∷ []) $
     use1 𝓛 (raw (Again (emp 𝓤)) ⊛ raw (Again (emp 𝓤)))
-    (asks_again 𝓤 (κs.1.1.0 ⊑ K.lives) (κs.1.1.1.0 ⊑ V.lives) (κs.1.1.1.1.0 ⊑ S.lives) (κs.1.1.1.1.1.0 ⊑ T.lives)
+    (asks_again 𝓤 (κs.1.1.0 ⊑ K.lives) (κs.1.1.1.0 ⊑ V.lives) (κs.1.1.1.1.0 ⊑ S.lives)
+    (κs.1.1.1.1.1.0 ⊑ T.lives)
     𝓛 (emp 𝓤)) $ split ! $
     move ! (2 ∷ 0 ∷ []) $ join ! $ use1 𝓛 (raw (Y.pre y)) (id⊢ 𝓤 (Y.pre y)) $
     enter ! 𝓣.C 𝓣.Λ fn vs Post $ alloc_all ! (λ l. pass_all ! refl ((tt, tt), tt) $
@@ -104,7 +110,8 @@ next_back_spec 𝓤 𝓛 𝓜 𝓡 wired K V S T LK LV LS LT e de p dp h dh b db
     calls_at ! (framed 𝓤 H 𝓜 𝓣) Y
     (met 𝓤 𝓛 𝓜 𝓡 (code.calls-hashlink_map::iter_mut::IterMut+K+V+S::step_last 𝓡.env wired) K V S T LK
     LV LS LT e de p dp h dh b db w dw dd me mp mh mb mw md) y (and_then ! (get ! refl) (no_more !)) (λ v.
-    use1 𝓛 (later (some (λ (q : Mid.Denot). (raw (alive 𝓛 En.signature κs qs) ⊛ ‵ (Mid.own_val q (v ∷ []))) ⊛ some
+    use1 𝓛 (later (some (λ (q : Mid.Denot). (raw (alive 𝓛 En.signature κs qs) ⊛ ‵ (Mid.own_val q (v ∷ []))) ⊛
+    some
     (λ (ls : Lasts Eg κs (r, tt)). ‵ (lasts Eg κs (r, tt) ls) ⊛
     raw (fact 𝓤 (Stepped q)))))) (id⊢ 𝓤 (Y.post y v)) $
     await ! tt $ pick ! (λ q. split ! $ move ! (1 ∷ []) $
@@ -126,31 +133,37 @@ next_back_spec 𝓤 𝓛 𝓜 𝓡 wired K V S T LK LV LS LT e de p dp h dh b db
     let Stands : Mid.Denot → Type 0 = λ x. IsPlace x.0.now.map.now.nodes x.1 in
     let stands : Stands q = step-is_place r q.0 (last_place s) (after_back s) q.1 stepped in
     move ! (3 ∷ []) $ use1 𝓛 (raw (Again (fact 𝓤 (Stands q))))
-    (adds_fact 𝓤 (κs.1.1.0 ⊑ K.lives) (κs.1.1.1.0 ⊑ V.lives) (κs.1.1.1.1.0 ⊑ S.lives) (κs.1.1.1.1.1.0 ⊑ T.lives)
+    (adds_fact 𝓤 (κs.1.1.0 ⊑ K.lives) (κs.1.1.1.0 ⊑ V.lives) (κs.1.1.1.1.0 ⊑ S.lives)
+    (κs.1.1.1.1.1.0 ⊑ T.lives)
     (Stands q) stands) $
-    nothing ! $ move ! (2 ∷ 0 ∷ []) $ fjoin ! $ move ! (2 ∷ 0 ∷ []) $ fjoin ! $ move ! (2 ∷ 0 ∷ []) $ join ! $ join ! $
+    nothing ! $ move ! (2 ∷ 0 ∷ []) $ fjoin ! $ move ! (2 ∷ 0 ∷ []) $ fjoin ! $ move ! (2 ∷ 0 ∷ []) $
+    join ! $ join ! $
     let Y₂ = triple_of 𝓛 (lends.signature K V S T e de p dp h dh b db w dw dd)
     (lends.spec K V S T e de p dp h dh b db w dw dd 𝓛 𝓜.mem 𝓡.returns) in
     let y₂ : Y₂.Ghost = ((κs, qs, z.0.2, (q.0, (q.1, tt)), (mut_vals q.0, (u ∷ [], tt))), tt) in
     let E₂ = lends.ended K V S T e de p dp h dh b db w dw dd in
     let Out : RattleType = option.the_row (Lent K V LK LV κs.0) in
     let place_of : Mid.Denot → ℕ = λ x. place_number x.0.now.map.now.nodes x.1 in
-    let Lends : Out.Denot → Mid.Denot → SProp 𝓤 = λ o x. sem 𝓛 (LendsPairThere KR VR SR TR x.0 (place_of x) o) in
+    let Lends : Out.Denot → Mid.Denot
+    → SProp 𝓤 = λ o x. sem 𝓛 (LendsPairThere KR VR SR TR x.0 (place_of x) o) in
     let Pair : Out.Denot → Mid.Denot → Type 0 = λ o x. LentFrom x.0.now.map.now x.1 o in
-    let Ties : Out.Denot → SProp 𝓤 = λ o. sem 𝓛 (LendsPairFromWalk KR VR SR TR r (after_back s) (last_place s) o) in
+    let Ties : Out.Denot → SProp 𝓤 =
+    λ o. sem 𝓛 (LendsPairFromWalk KR VR SR TR r (after_back s) (last_place s) o) in
     let Gives : Out.Denot → Type 0 = λ o. option_map lent_pair o ≡ last_of (walk_rest s) in
     use1 𝓛 (raw (Y₂.pre y₂)) (id⊢ 𝓤 (Y₂.pre y₂)) $
     calls_at ! (framed 𝓤 H 𝓜 𝓣) Y₂
     (lent.met 𝓤 𝓛 𝓜 𝓡 (code.calls-hashlink_map::iter_mut::IterMut+K+V+S::pair_at 𝓡.env wired) K V S T LK
     LV LS LT e de p dp h dh b db w dw dd me mp mh mb mw md) y₂
     (and_then ! (get ! refl) (and_then ! (get ! refl) (no_more !))) (λ v₂.
-    use1 𝓛 (later (some (λ (o : Out.Denot). (raw (alive 𝓛 En.signature κs qs) ⊛ ‵ (Out.own_val o (v₂ ∷ []))) ⊛ some
+    use1 𝓛 (later (some (λ (o : Out.Denot). (raw (alive 𝓛 En.signature κs qs) ⊛ ‵ (Out.own_val o (v₂ ∷ []))) ⊛
+    some
     (λ (ls : Lasts E₂ κs (q.0, (q.1, tt))). ‵ (lasts E₂ κs (q.0, (q.1, tt)) ls) ⊛
     (raw (Lends o q) ⊛ raw (fact 𝓤 (Pair o q))))))) (id⊢ 𝓤 (Y₂.post y₂ v₂)) $
     await ! tt $ pick ! (λ o. split ! $ move ! (1 ∷ []) $
     pick ! (λ ls₂. split ! $ drop ! $ split ! $ move ! (1 ∷ []) $ heard ! (Pair o q) (λ pair.
     -- [the tie; the tokens and the result]
-    use1 𝓛 (raw (Ties o)) (lends_on KR VR SR TR p h b w 𝓛 r q.0 (last_place s) (after_back s) q.1 o pair stepped) $
+    use1 𝓛 (raw (Ties o)) (lends_on KR VR SR TR p h b w 𝓛 r q.0 (last_place s)
+    (after_back s) q.1 o pair stepped) $
     move ! (1 ∷ []) $ split ! $ move ! (1 ∷ []) $
     peeks ! Out (Is Out) (shows 𝓛 Out) o (v₂ ∷ []) (λ is_out.
     lands_as ! refl refl (((option_laws.the_row_laws (Lent K V LK LV κs.0) (lent_laws K V LK LV κs.0)).lawful

@@ -7,12 +7,14 @@ use mir.MapTy.{inst_fn}
 use mir.Val.{Val, of_list, vstruct}
 use prog.Wp.{WpFn, Wp, after_seq}
 use types.Logic.{sem}
-use types.Kit.{‵, raw, ◌⊛◌, some, later, at_ret, any_q, post, ◌$◌, ◌∵◌, !, qed, by, move, keep, drop, split, join}
+use types.Kit.{‵, raw, ◌⊛◌, some, later, at_ret, any_q, post, ◌$◌, ◌∵◌, !, qed, by, move, keep, drop, split}
+use types.Kit.{join}
 use types.Kit.{fsplit, fsplit3, fjoin, pick, await, rewrite, use0, use1, suffices}
 use types.Match.{live, vrt, in_variant}
 use types.Part.{whole, agg}
 use types.Run.{stop, fld, of_opd, addr, lit, and_then, no_more, first, switches_on, exec, returns, enter}
-use types.ByLocal.{alloc_all, pass_all, free_all, look_at, get, get_in, get_tag, through, sets, sets_last, lands_as}
+use types.ByLocal.{alloc_all, pass_all, free_all, look_at, get, get_in, get_tag, through, sets, sets_last}
+use types.ByLocal.{lands_as}
 use types.ByLocal.{env}
 use contract.Monad.{fact, fact_i}
 use contract.Lifetimes.{Lfts}
@@ -72,14 +74,18 @@ pair_at_spec 𝓤 𝓛 𝓜 𝓡 wired K V S T LK LV LS LT e de p dp h dh b db w
     let place = plain (λ (κs : Lfts 6). At_place) in
     let hs : Stays En.signature.params En.kept
     = (stay_dropped (mut_ref_to (0 ∷ []) tt self) no, (stay_dropped place yes, tt)) in
-    proved_at 𝓛 En hs c 𝓜 𝓡 (Goes-spent_ref 𝓛 6 (0 ∷ []) tt self, (Goes-dropped 𝓛 6 place yes (λ κs x f. refl), tt))
+    proved_at 𝓛 En hs c 𝓜 𝓡 (
+      Goes-spent_ref 𝓛 6 (0 ∷ []) tt self,
+      (Goes-dropped 𝓛 6 place yes (λ κs x f. refl), tt),
+    )
     (f.Key.name inst) fn (code.unfolded 𝓤 H 𝓜 𝓡 wired (K, (V, (S, (T, tt)))) de dp dh db dw dd) (λ z are.
     let κs = z.0.0 in let qs = z.0.1 in let r = z.0.3.0 in
     let W = walk_of 𝓛 En hs c in
     let CR : RattleType = walk.the_row (named_lft 6 1 tt κs) KR VR SR node_row TR p h b w TheImpl.ghosts in
     let Tup : RattleType = Tuple (ShrRef (named 0) κs.0 KR ∷ MutRef (named 0) κs.0 VR ∷ []) in
     let toks = ‵ (flft κs.0 qs.0) ⊛ ‵ (flft κs.1.0 qs.1.0) ⊛ ‵ (flft κs.1.1.0 qs.1.1.0) ⊛ ‵
-    (flft κs.1.1.1.0 qs.1.1.1.0) ⊛ ‵ (flft κs.1.1.1.1.0 qs.1.1.1.1.0) ⊛ ‵ (flft κs.1.1.1.1.1.0 qs.1.1.1.1.1.0) ⊛
+    (flft κs.1.1.1.0 qs.1.1.1.0) ⊛ ‵ (flft κs.1.1.1.1.0 qs.1.1.1.1.0) ⊛ ‵
+    (flft κs.1.1.1.1.1.0 qs.1.1.1.1.1.0) ⊛
     ‵ ftrue in
     let is_ref : z.0.4.0 ≡ mut_vals r = mut_Tells (named 0) κs.0 CR r z.0.4.0 are.0 in
     let At : At_place.Denot → List Val → List Val
@@ -101,15 +107,18 @@ pair_at_spec 𝓤 𝓛 𝓜 𝓡 wired K V S T LK LV LS LT e de p dp h dh b db w
     let is_val : vs ≡ val ∷ [] = is_live ∙ ap (λ us. live 1 (of_list (us ++ [])) ∷ []) is_v in
     let Post : Val → SProp 𝓤 = W.post (At (Some n) (mut_vals r) vs) in
     let Run : List Val → SProp 𝓤 = λ us. WpFn 𝓤 H 𝓣.C 𝓣.Λ fn (mut_vals r ++ (us ++ [])) Post in
-    suffices ! (Run (val ∷ [])) (subst (λ (us : List Val). ent 𝓤 (Run (val ∷ [])) (Run us)) (sym is_val) (id⊢ 𝓤 _)) $
+    suffices ! (Run (val ∷ [])) (subst (λ (us : List Val). ent 𝓤 (Run (val ∷ [])) (Run us))
+    (sym is_val) (id⊢ 𝓤 _)) $
     -- [the node; nothing; self; the tokens; the requires]
-    enter ! 𝓣.C 𝓣.Λ fn _ Post $ alloc_all ! (λ l. pass_all ! refl ((tt, tt), (good (Some n) val vs is is_val, tt)) $
+    enter ! 𝓣.C 𝓣.Λ fn _ Post $ alloc_all !
+    (λ l. pass_all ! refl ((tt, tt), (good (Some n) val vs is is_val, tt)) $
     let Ev = env fn.locals l in
     first ! $ switches_on ! (get_tag ! (vrt ! refl (fld ! refl (stop !))) (whole !)) $
     exec ! 𝓣.C 𝓣.Λ Ev (arm_body 0 (head fn.body))
     (any_q (after_seq 𝓤 H (Wp 𝓤 H 𝓣.C 𝓣.Λ Ev (after 1 fn.body) (post 𝓤 H (at_ret Ev Post)))
     (post 𝓤 H (at_ret Ev Post)))) $
-    sets ! (of_opd ! (get_in ! (vrt ! refl (fld ! refl (stop !))) (in_variant ! 1 0 refl refl (whole !)))) refl fits $
+    sets ! (of_opd ! (get_in ! (vrt ! refl (fld ! refl (stop !))) (in_variant ! 1 0 refl refl (whole !))))
+    refl fits $
     sets ! (addr ! (through ! refl (stop !))) refl (tt, tt) $
     fjoin ! $ move ! (1 ∷ 0 ∷ []) $ fjoin ! $ move ! (1 ∷ 0 ∷ []) $ join ! $ join ! $
     let Y = triple_of 𝓛 (g.signature K V S T e de p dp h dh b db w dw dd)
@@ -130,7 +139,8 @@ pair_at_spec 𝓤 𝓛 𝓜 𝓡 wired K V S T LK LV LS LT e de p dp h dh b db w
     (λ (ls : Lasts Eg κs (r, (n, tt))). ‵ (lasts Eg κs (r, (n, tt)) ls) ⊛
     (raw (Ties q) ⊛ raw (fact 𝓤 (HasPair q))))))) (id⊢ 𝓤 (Y.post y v')) $
     await ! tt $ pick ! (λ q. split ! $ move ! (1 ∷ []) $
-    pick ! (λ ls. split ! $ drop ! $ split ! $ use1 𝓛 (raw (Lends q)) (lends_some KR VR SR TR p h b w 𝓛 r n q) $
+    pick ! (λ ls. split ! $ drop ! $ split ! $ use1 𝓛 (raw (Lends q))
+    (lends_some KR VR SR TR p h b w 𝓛 r n q) $
     move ! (1 ∷ []) $ heard ! (HasPair q) (λ has.
     -- [the tie; the tokens and the result]
     move ! (1 ∷ []) $ split ! $ move ! (1 ∷ []) $
@@ -139,7 +149,8 @@ pair_at_spec 𝓤 𝓛 𝓜 𝓡 wired K V S T LK LV LS LT e de p dp h dh b db w
     let is_pair : v' ≡ pair = ap only are_two.1.0
     ∙ (λ i. vstruct (of_list (are_two.1.1.0.0 i ++ (are_two.1.1.1.0.0 i ++ [])))) in
     rewrite ! 0 (λ (u : Val). ‵ (Tup.own_val q (u ∷ []))) is_pair refl $
-    use1 𝓛 (‵ ((option.the_row Tup).own_val (Some q) (live 1 (of_list (pair ∷ [])) ∷ []))) (Some-of 𝓛 Tup q pair) $
+    use1 𝓛 (‵ ((option.the_row Tup).own_val (Some q) (live 1 (of_list (pair ∷ [])) ∷ [])))
+    (Some-of 𝓛 Tup q pair) $
     -- [the result; the tokens; the tie]
     lands_as ! is_pair refl (tt, (tt, (tt, tt))) $
     sets_last ! (agg ! (and_then ! (lit ! tt) (and_then ! (get ! refl) (no_more !)))) refl
@@ -149,7 +160,8 @@ pair_at_spec 𝓤 𝓛 𝓜 𝓡 wired K V S T LK LV LS LT e de p dp h dh b db w
     returns ! (look_at ! 0 refl) $ free_all ! refl $
     use0 𝓛 (raw (fact 𝓤 (Pair q))) (fact_i 𝓤 (Pair q) (emp 𝓤) (q, refl, has)) $ move ! (3 ∷ 0 ∷ []) $ join ! $
     nothing ! $ nothing ! $ fjoin ! $ nothing ! $ fjoin ! $ keep ! (3 ∷ 0 ∷ 2 ∷ 1 ∷ []) $
-    by ! (leaves 𝓛 En hs c (At (Some n) (mut_vals r) vs) (live 1 (of_list (pair ∷ []))) (Some q) (tt, (tt, tt))
+    by ! (leaves 𝓛 En hs c (At (Some n) (mut_vals r) vs) (live 1 (of_list (pair ∷ [])))
+    (Some q) (tt, (tt, tt))
     (tt, (tt, tt))))))))))) in
     let guard : Goes None = λ vs is.
     qed 𝓛 ((toks ⊛ ‵ (owns (types_at En.signature.params κs) (r, (None, tt)) (mut_vals r, (vs, tt)))) ∷ raw
@@ -158,12 +170,15 @@ pair_at_spec 𝓤 𝓛 𝓜 𝓡 wired K V S T LK LV LS LT e de p dp h dh b db w
     let val : Val = live 0 (of_list []) in
     let Post : Val → SProp 𝓤 = W.post (At None (mut_vals r) vs) in
     let Run : List Val → SProp 𝓤 = λ us. WpFn 𝓤 H 𝓣.C 𝓣.Λ fn (mut_vals r ++ (us ++ [])) Post in
-    suffices ! (Run (val ∷ [])) (subst (λ (us : List Val). ent 𝓤 (Run (val ∷ [])) (Run us)) (sym is_val) (id⊢ 𝓤 _)) $
+    suffices ! (Run (val ∷ [])) (subst (λ (us : List Val). ent 𝓤 (Run (val ∷ [])) (Run us))
+    (sym is_val) (id⊢ 𝓤 _)) $
     -- [nothing; self; the tokens; the requires]
     drop ! $ fsplit3 ! $ drop ! $
-    use1 𝓛 (‵ (fres r.ghost_name (CR.coded.code r.now))) (𝓛.names.obs-res r.ghost_name (CR.coded.code r.now)) $
+    use1 𝓛 (‵ (fres r.ghost_name (CR.coded.code r.now)))
+    (𝓛.names.obs-res r.ghost_name (CR.coded.code r.now)) $
     -- [its last value; its borrow; the tokens; the requires]
-    enter ! 𝓣.C 𝓣.Λ fn _ Post $ alloc_all ! (λ l. pass_all ! refl ((tt, tt), (good None val vs is is_val, tt)) $
+    enter ! 𝓣.C 𝓣.Λ fn _ Post $ alloc_all !
+    (λ l. pass_all ! refl ((tt, tt), (good None val vs is is_val, tt)) $
     let Ev = env fn.locals l in
     let i = place_number r.now.map.now.nodes None in
     let Lends : SProp 𝓤 = sem 𝓛 (LendsPairThere KR VR SR TR r i None) in
@@ -182,7 +197,8 @@ pair_at_spec 𝓤 𝓛 𝓜 𝓡 wired K V S T LK LV LS LT e de p dp h dh b db w
     nothing ! $ nothing ! $ fjoin ! $ nothing ! $ fjoin ! $ keep ! (4 ∷ 0 ∷ 1 ∷ 2 ∷ []) $
     by ! (leaves 𝓛 En hs c (At None (mut_vals r) vs) val None (tt, (tt, tt)) (tt, (tt, tt))))) in
     subst (λ (us : List Val). ent 𝓤 (W.pre (At z.0.3.1.0 us z.0.4.1.0))
-    (WpFn 𝓤 H 𝓣.C 𝓣.Λ fn (W.args (At z.0.3.1.0 us z.0.4.1.0)) (W.post (At z.0.3.1.0 us z.0.4.1.0)))) (sym is_ref)
+    (WpFn 𝓤 H 𝓣.C 𝓣.Λ fn (W.args (At z.0.3.1.0 us z.0.4.1.0)) (W.post (At z.0.3.1.0 us z.0.4.1.0))))
+    (sym is_ref)
     ((elim z.0.3.1.0 as Goes [
       | Some n ↦ lent n
       | None ↦ guard

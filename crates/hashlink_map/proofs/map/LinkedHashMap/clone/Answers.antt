@@ -18,14 +18,16 @@ loop-key-preserved g c =
       clones = inv.clones ++ new.0 ∷ [];
       is = inv.is ∙ ap (λ xs. inv.seen ++ xs) c.in-Some.ensures.steps
           ∙ sym (append_assoc inv.seen (old ∷ []) c.next.new.self);
-      cloned = cloned_another g.K.Clone.is_clone g.V.Clone.is_clone inv.seen inv.clones old new.0 inv.cloned new.2
-          new.3;
+      cloned = cloned_another g.K.Clone.is_clone g.V.Clone.is_clone inv.seen inv.clones
+          old new.0 inv.cloned new.2 new.3;
       inserted = accepts_another (InsertsPair g.K.PartialEq.eq) (state_of c.with_hasher-map.result)
-          (state_of c.loop-key.map) (state_of c.insert_clone.new.self) inv.clones new.0 new.1 inv.inserted new.4;
+          (state_of c.loop-key.map) (state_of c.insert_clone.new.self) inv.clones new.0
+          new.1 inv.inserted new.4;
     }
 
 whole : (g : given.Over) (c : goal.In-None g)
-    → ArePairClones g.K.Clone.is_clone g.V.Clone.is_clone (entries_of c.args.self.now) c.loop-key.invariant.clones
+    → ArePairClones g.K.Clone.is_clone g.V.Clone.is_clone (entries_of c.args.self.now)
+    c.loop-key.invariant.clones
 whole g c =
     let inv = c.loop-key.invariant in
     subst (λ xs. ArePairClones g.K.Clone.is_clone g.V.Clone.is_clone xs inv.clones)
@@ -57,12 +59,14 @@ returns-clause-made g c = (
 
 pub returns-clause-equal : goal.returns-clause-equal
 returns-clause-equal g c eqv f h =
-    clone_equal g.K.Clone.is_clone g.V.Clone.is_clone g.K.PartialEq.eq g.met.K.Eq.laws (entries_of c.args.self.now)
+    clone_equal g.K.Clone.is_clone g.V.Clone.is_clone g.K.PartialEq.eq g.met.K.Eq.laws
+    (entries_of c.args.self.now)
     c.loop-key.invariant.clones c.in_ok-hash_builder.hash_builder (state_of c.loop-key.map)
     (distinct g c) (whole g c) (made g c) eqv f h
 
 pub returns-clause-same : goal.returns-clause-same
 returns-clause-same g c f h =
-    clone_same g.K.Clone.is_clone g.V.Clone.is_clone g.K.PartialEq.eq g.met.K.Eq.laws (entries_of c.args.self.now)
+    clone_same g.K.Clone.is_clone g.V.Clone.is_clone g.K.PartialEq.eq g.met.K.Eq.laws
+    (entries_of c.args.self.now)
     c.loop-key.invariant.clones c.in_ok-hash_builder.hash_builder (state_of c.loop-key.map)
     (distinct g c) (whole g c) (made g c) f h

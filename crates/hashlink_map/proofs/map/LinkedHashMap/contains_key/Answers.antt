@@ -10,5 +10,6 @@ pub returns : goal.returns
 returns g c =
     let test = g.Q.Equivalent.matches c.args.key in
     let es = entries_of c.args.self.now in
-    c.is_some.ensures ∙ sym (is_some-map deref_pair c.get_key_value.result) ∙ ap is_some c.get_key_value.ensures
+    c.is_some.ensures ∙ sym (is_some-map deref_pair c.get_key_value.result)
+    ∙ ap is_some c.get_key_value.ensures
     ∙ sym (is_some-map (λ e. e.1) _) ∙ ap is_some (sym (lookup_is test es))

@@ -10,8 +10,8 @@ returns-in-Err-clause-stopped g c =
     let inv = c.loop-key.invariant in
     let pair : g.row.K.Denot × g.row.V.Denot = (c.in-Some.key, c.in-Some.value) in (
       inv.seen ++ pair ∷ [],
-      it.Yields-more g.I.Iterator.next_gives c.args.iter.now inv.seen c.loop-key.iter pair c.next.new.self inv.gave
-          c.in-Some.ensures.steps,
+      it.Yields-more g.I.Iterator.next_gives c.args.iter.now inv.seen c.loop-key.iter pair
+          c.next.new.self inv.gave c.in-Some.ensures.steps,
       stops_after (InsertsPair g.K.PartialEq.eq) (state_of c.args.self.now) (state_of c.loop-key.self)
           (state_of c.insert.new.self) inv.seen pair c.in-Err.pair c.loop-key.taken inv.holds.0 inv.holds.1
           c.in-Err.ensures.inserts,

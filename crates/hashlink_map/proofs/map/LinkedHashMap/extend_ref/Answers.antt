@@ -33,7 +33,8 @@ loop-key-preserved g c =
     let more = sym (mapped_another deref_pair inv.seen item) in
     it.again inv item c.in-Some.is (c.next.ensures.steps, c.next.ensures.goes) (
       subst (λ ps. AcceptsAll step (state_of c.args.self.now) ps (state_of c.insert.new.self)) more
-          (accepts_another step (state_of c.args.self.now) (state_of c.loop-key.self) (state_of c.insert.new.self)
+          (accepts_another step (state_of c.args.self.now) (state_of c.loop-key.self)
+          (state_of c.insert.new.self)
           (map deref_pair inv.seen) (deref_pair item) c.in_default-insert.field-0 inv.holds.0
           c.in_default-insert.ensures.inserts),
       c.saturating_add-taken.ensures

@@ -11,7 +11,8 @@ abbrev pub invariant-loop-key : goal.invariant-loop-key
 invariant-loop-key g l =
     it.Ran g.I.IntoIter.Iterator.can_next (EndsFrom g.I.IntoIter.Iterator.remaining)
     (items_left g.I.IntoIter.Iterator.remaining) g.I.IntoIter.Iterator.next_gives
-    (λ xs. AcceptsAll (InsertsPair g.K.PartialEq.eq) (state_of l.fn.self) (map deref_pair xs) (state_of l.self)
+    (λ xs. AcceptsAll (InsertsPair g.K.PartialEq.eq) (state_of l.fn.self)
+    (map deref_pair xs) (state_of l.self)
     × (l.taken ≡ min (length (map deref_pair xs)) (2 ^ 64 - 1)))
     l.initial.rest l.rest
 

@@ -42,8 +42,8 @@ returns-in_err-extend-clause-stopped g c =
           new,
           e.taken,
           e.pair,
-          subst (λ m. StopsAt (InsertsPair g.K.PartialEq.eq) m read.1 new e.taken e.pair []) c.with_hasher-map.ensures
-              read.5,
+          subst (λ m. StopsAt (InsertsPair g.K.PartialEq.eq) m read.1 new e.taken e.pair [])
+              c.with_hasher-map.ensures read.5,
         ),
       ),
     )

@@ -19,8 +19,8 @@ returns-in-Some g c =
       ),
       record {
         lends = tt;
-        value = sym (stored-value test m m c.in-Some.node found c.value_mut.result.now c.value_mut.ensures.value)
-            ∙ ap (λ l. lookup test (entries_of l)) c.self.view_is;
+        value = sym (stored-value test m m c.in-Some.node found c.value_mut.result.now
+            c.value_mut.ensures.value) ∙ ap (λ l. lookup test (entries_of l)) c.self.view_is;
       },
     )
 

@@ -25,7 +25,8 @@ returns-then-is_at-clause-inserts g c =
     let n = c.in-Some.node in
     let at : c.args.place ≡ Some n = c.is_at.ensures.0 (search rules) in
     subst
-    (λ p. PutsEntry eq (state_of old) (state_of s.new.self) c.args.key c.args.value (place_number old.nodes p) s.result)
+    (λ p. PutsEntry eq (state_of old) (state_of s.new.self) c.args.key c.args.value
+    (place_number old.nodes p) s.result)
     (sym at)
     (stays-key eq (state_of old) (state_of s.new.self) c.args.key (place_number old.nodes (Some n))
     c.in-Some.ensures.found.place c.args.value s.result s.ensures.replaces)
@@ -43,7 +44,8 @@ returns-clause-inserts g c =
     let t = c.move_to in
     let n = c.in-Some.node in
     let mid = s.new.self in
-    let moves = subst (λ i. MovesAt (state_of mid) (state_of t.new.self) i (place_number old.nodes c.args.place))
+    let moves = subst (λ i. MovesAt (state_of mid) (state_of t.new.self) i
+    (place_number old.nodes c.args.place))
     (s.ensures.places (Some n))
     (subst (MovesAt (state_of mid) (state_of t.new.self) (place_number mid.nodes (Some n)))
     (s.ensures.places c.args.place) t.ensures.moves) in

@@ -22,10 +22,12 @@ returns-in-Some-clause-inserts g c =
     let mid = c.replace_value-old.new.self in
     let new = c.move_after.new.self in
     let s = c.replace_value-old.ensures in
-    subst (λ l. PutsEntry eq (state_of l) (state_of new) c.args.key c.args.value (0) c.replace_value-old.result)
+    subst (λ l. PutsEntry eq (state_of l) (state_of new) c.args.key c.args.value
+    (0) c.replace_value-old.result)
     c.self.view_is
     (put eq m new c.args.key n c.in-Some.ensures.found mid c.args.value c.replace_value-old.result (0) _
-    (ap (following_place (length mid.nodes)) refl ∙ following_place-guard (length mid.nodes)) s.value s.written
+    (ap (following_place (length mid.nodes)) refl ∙ following_place-guard (length mid.nodes))
+    s.value s.written
     c.move_after.ensures.moved)
 
 pub returns-in_err-insert_before-clause-inserts : goal.returns-in_err-insert_before-clause-inserts
@@ -37,9 +39,11 @@ returns-in_err-insert_before-clause-inserts g c =
     passed-on (Inserts eq (state_of c.args.self.now) (state_of new) c.args.key c.args.value (0))
     c.from_residual.result _ c.from_residual.ensures.1
     (subst
-    (λ l. Inserts eq (state_of l) (state_of new) c.args.key c.args.value (0) (Err c.in_err-insert_before.field-0.0))
+    (λ l. Inserts eq (state_of l) (state_of new) c.args.key c.args.value (0)
+    (Err c.in_err-insert_before.field-0.0))
     c.self.view_is
-    (refused eq m new c.args.key c.args.value c.in_err-insert_before.field-0.0 c.in_default.ensures.found s.no_spare
+    (refused eq m new c.args.key c.args.value c.in_err-insert_before.field-0.0
+    c.in_default.ensures.found s.no_spare
     s.handed_back s.refused))
 
 pub returns-clause-inserts : goal.returns-clause-inserts
@@ -48,5 +52,6 @@ returns-clause-inserts g c =
     let m = c.self.inside.list in
     let new = c.insert_before.new.self in
     subst (λ l. AddsEntry eq (state_of l) (state_of new) c.args.key c.args.value (0)) c.self.view_is
-    (added eq m new c.args.key c.args.value (0) _ c.in_ok-insert_before.field-0 (c.first-first.ensures.place.number)
+    (added eq m new c.args.key c.args.value (0) _ c.in_ok-insert_before.field-0
+    (c.first-first.ensures.place.number)
     c.in_default.ensures.found c.in_ok-insert_before.ensures.added)

@@ -24,5 +24,6 @@ returns-clause-keys g c =
     let n = c.args.node in
     let new = c.move_before.new.self in
     keys-moved c.args.self.now new c.requires.apart.apart _ n c.requires.node
-    (subst (λ l. MovesNode l new (place_number l.nodes (Some n)) (place_number l.nodes c.args.place)) c.self.view_is
+    (subst (λ l. MovesNode l new (place_number l.nodes (Some n)) (place_number l.nodes c.args.place))
+    c.self.view_is
     c.move_before.ensures.moved)

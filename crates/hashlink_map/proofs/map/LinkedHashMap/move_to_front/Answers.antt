@@ -14,7 +14,8 @@ returns-clause-moves g c =
     (MovesNode c.self.inside.list c.move_after.new.self
     (place_number c.self.inside.list.nodes (Some c.args.node)))
     (around (length c.self.inside.list.nodes)) c.move_after.ensures.moved in
-    subst (λ m. MovesAt (state_of m) (state_of c.move_after.new.self) (place_number m.nodes (Some c.args.node)) 0)
+    subst (λ m. MovesAt (state_of m) (state_of c.move_after.new.self)
+    (place_number m.nodes (Some c.args.node)) 0)
     c.self.view_is m.state
 
 pub returns-clause-stays : goal.returns-clause-stays

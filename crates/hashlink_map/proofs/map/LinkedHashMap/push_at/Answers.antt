@@ -13,7 +13,8 @@ returns-clause-inserts g c =
     let new = c.insert_before.new.self in
     let p = c.args.place in
     pushes-at g.met.K.Eq.laws c.args.self.now new c.args.key c.args.value c.requires.absent _ r
-    (subst (λ m. IfOk r (λ n. AddsNode m new (place_number m.nodes p) n c.args.key c.args.value)) c.self.view_is
+    (subst (λ m. IfOk r (λ n. AddsNode m new (place_number m.nodes p) n c.args.key c.args.value))
+    c.self.view_is
     e.added)
     e.handed_back (subst (λ m. OnErr r (GrowsRoom 1 m new)) c.self.view_is e.refused)
     (subst (λ m. OnErr r (m.spare ≡ 0)) c.self.view_is e.no_spare)
@@ -25,6 +26,7 @@ returns-clause-keys g c =
     let new = c.insert_before.new.self in
     let p = c.args.place in
     keys-inserted c.args.self.now new c.requires.apart.apart _ c.args.key c.args.value r
-    (subst (λ m. IfOk r (λ n. AddsNode m new (place_number m.nodes p) n c.args.key c.args.value)) c.self.view_is
+    (subst (λ m. IfOk r (λ n. AddsNode m new (place_number m.nodes p) n c.args.key c.args.value))
+    c.self.view_is
     e.added)
     (subst (λ m. OnErr r (GrowsRoom 1 m new)) c.self.view_is e.refused)

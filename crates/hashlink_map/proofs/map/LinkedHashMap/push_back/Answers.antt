@@ -10,7 +10,8 @@ returns-clause-inserts g c =
     let r = c.insert_before.result in
     let new = c.insert_before.new.self in
     pushes g.met.K.Eq.laws _ new c.args.key c.args.value c.requires.absent r
-    (subst (λ m. IfOk r (λ n. AddsNode m new (length m.nodes) n c.args.key c.args.value)) c.self.view_is e.added)
+    (subst (λ m. IfOk r (λ n. AddsNode m new (length m.nodes) n c.args.key c.args.value))
+    c.self.view_is e.added)
     e.handed_back (subst (λ m. OnErr r (GrowsRoom 1 m new)) c.self.view_is e.refused)
     (subst (λ m. OnErr r (m.spare ≡ 0)) c.self.view_is e.no_spare)
 
@@ -20,7 +21,8 @@ returns-clause-holds g c =
     let r = c.insert_before.result in
     let new = c.insert_before.new.self in
     pushed-holds g.met.K.Eq.laws _ new c.args.key c.args.value c.requires.absent e.sound r
-    (subst (λ m. IfOk r (λ n. AddsNode m new (length m.nodes) n c.args.key c.args.value)) c.self.view_is e.added)
+    (subst (λ m. IfOk r (λ n. AddsNode m new (length m.nodes) n c.args.key c.args.value))
+    c.self.view_is e.added)
 
 pub returns-clause-place : goal.returns-clause-place
 returns-clause-place g c =
@@ -28,4 +30,5 @@ returns-clause-place g c =
     let r = c.insert_before.result in
     let new = c.insert_before.new.self in
     pushed-place g.met.K.Eq.laws _ new c.args.key c.args.value c.requires.absent e.sound r
-    (subst (λ m. IfOk r (λ n. AddsNode m new (length m.nodes) n c.args.key c.args.value)) c.self.view_is e.added)
+    (subst (λ m. IfOk r (λ n. AddsNode m new (length m.nodes) n c.args.key c.args.value))
+    c.self.view_is e.added)

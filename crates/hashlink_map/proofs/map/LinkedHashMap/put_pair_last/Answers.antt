@@ -10,5 +10,6 @@ returns g c =
     ∙ length-replaced (entries_of c.args.self.now) _ c.args.key c.args.value in
     record {
       answer = first.replaces.answer;
-      step = then_moves _ _ _ _ first.replaces.step _ _ _ _ first.stays.place same c.move_to_back.ensures.moves;
+      step = then_moves _ _ _ _ first.replaces.step _ _ _ _ first.stays.place same
+          c.move_to_back.ensures.moves;
     }

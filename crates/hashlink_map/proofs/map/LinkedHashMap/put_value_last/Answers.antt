@@ -12,7 +12,8 @@ returns-clause-inserts g c =
     ∙ length-set_value_at (entries_of c.args.self.now) _ c.args.value in
     record {
       answer = first.replaces.answer;
-      step = then_moves _ _ _ _ first.replaces.step _ _ _ _ first.stays.place same c.move_to_back.ensures.moves;
+      step = then_moves _ _ _ _ first.replaces.step _ _ _ _ first.stays.place same
+          c.move_to_back.ensures.moves;
     }
 
 pub returns-clause-stays : goal.returns-clause-stays

@@ -10,7 +10,8 @@ returns-in-Some-clause-pair g c =
 
 pub returns-in-None-clause-pair : goal.returns-in-None-clause-pair
 returns-in-None-clause-pair g c =
-    sym (lookup_entry-unplaced (g.Q.Equivalent.matches c.args.key) (entries_of c.args.self.now) (search rules))
+    sym (lookup_entry-unplaced (g.Q.Equivalent.matches c.args.key) (entries_of c.args.self.now)
+    (search rules))
 
 pub returns-in-Some-clause-equal : goal.returns-in-Some-clause-equal
 returns-in-Some-clause-equal g c =

@@ -21,12 +21,15 @@ returns-in_err-insert_before-clause-replaces g c =
     let m = c.self.inside.list in
     let new = c.insert_before.new.self in
     let s = c.in_err-insert_before.ensures in
-    passed-on (Replaces eq (state_of c.args.self.now) (state_of new) c.args.key c.args.value) c.from_residual.result _
+    passed-on (Replaces eq (state_of c.args.self.now) (state_of new) c.args.key c.args.value)
+    c.from_residual.result _
     c.from_residual.ensures.1
     (subst
-    (λ l. Replaces eq (state_of l) (state_of new) c.args.key c.args.value (Err c.in_err-insert_before.field-0.0))
+    (λ l. Replaces eq (state_of l) (state_of new) c.args.key c.args.value
+    (Err c.in_err-insert_before.field-0.0))
     c.self.view_is
-    (refused eq m new c.args.key c.args.value c.in_err-insert_before.field-0.0 c.in_default.ensures.found s.no_spare
+    (refused eq m new c.args.key c.args.value c.in_err-insert_before.field-0.0
+    c.in_default.ensures.found s.no_spare
     s.handed_back s.refused))
 
 pub returns-clause-replaces : goal.returns-clause-replaces
@@ -36,5 +39,6 @@ returns-clause-replaces g c =
     let new = c.insert_before.new.self in
     subst (λ l. AddsEntry eq (state_of l) (state_of new) c.args.key c.args.value (length (entries_of l)))
     c.self.view_is
-    (added eq m new c.args.key c.args.value (length (entries_of m)) _ c.in_ok-insert_before.field-0 (guard-number m)
+    (added eq m new c.args.key c.args.value (length (entries_of m)) _ c.in_ok-insert_before.field-0
+    (guard-number m)
     c.in_default.ensures.found c.in_ok-insert_before.ensures.added)

@@ -19,7 +19,8 @@ returns-clause-replaces g c =
     let es = entries_of c.args.self.now in
     let j = place_number c.args.self.now.nodes (Some c.args.node) in
     let mid = entries_of c.replace_value_at-old_value.new.self in
-    let key = sym (key-set_value_at es j j c.args.value) ∙ ap (λ zs. key_at zs j) (sym first.replaces.step.entries)
+    let key = sym (key-set_value_at es j j c.args.value)
+    ∙ ap (λ zs. key_at zs j) (sym first.replaces.step.entries)
     ∙ ap (key_at mid) (sym first.stays.place) ∙ second.replaces.answer in
     record {
       answer = pair_from_parts es j _ _ key first.replaces.answer;

@@ -30,9 +30,11 @@ returns-in-Some g c =
       (
         refl,
         λ w. subst
-            (λ l. MovesMatchAndWrites test (state_of l) (state_of (with_value_at new n w)) (length (entries_of l)) w)
+            (λ l. MovesMatchAndWrites test (state_of l) (state_of (with_value_at new n w))
+            (length (entries_of l)) w)
             c.self.view_is
-            (lent-moved eq laws test tells m new n found (length (entries_of m)) _ (guard-number m) (le_refl (length m.nodes))
+            (lent-moved eq laws test tells m new n found (length (entries_of m)) _ (guard-number m)
+            (le_refl (length m.nodes))
             s.moved s.sound w),
         refl,
       ),
@@ -40,7 +42,8 @@ returns-in-Some g c =
         lends = tt;
         value =
             sym
-            (moved-value eq laws test tells m new n found (length (entries_of m)) _ (guard-number m) (le_refl (length m.nodes))
+            (moved-value eq laws test tells m new n found (length (entries_of m)) _ (guard-number m)
+            (le_refl (length m.nodes))
             s.moved s.sound c.value_mut.result.now c.value_mut.ensures.value c.in-Some.ensures.sound.distinct)
             ∙ ap (λ l. lookup test (entries_of l)) c.self.view_is;
         distinct = subst (λ l. IsEntries eq (entries_of l)) c.self.view_is c.in-Some.ensures.sound.distinct;
@@ -57,6 +60,7 @@ returns-in-None g c =
             sym (lookup-unplaced test (entries_of c.self.inside.list) c.in-None.ensures.found)
             ∙ ap (λ l. lookup test (entries_of l)) c.self.view_is;
         distinct =
-            subst (λ l. IsEntries g.K.PartialEq.eq (entries_of l)) c.self.view_is c.in-None.ensures.sound.distinct;
+            subst (λ l. IsEntries g.K.PartialEq.eq (entries_of l)) c.self.view_is
+            c.in-None.ensures.sound.distinct;
       },
     )

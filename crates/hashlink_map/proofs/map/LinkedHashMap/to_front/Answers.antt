@@ -31,7 +31,8 @@ returns-in-Some g c =
     let found = c.in-Some.ensures.found in (
       (
         refl,
-        λ w. subst (λ l. MovesMatchAndWrites test (state_of l) (state_of (with_value_at new n w)) 0 w) c.self.view_is
+        λ w. subst (λ l. MovesMatchAndWrites test (state_of l) (state_of (with_value_at new n w)) 0 w)
+            c.self.view_is
             (lent-moved eq laws test tells m new n found 0 _ (following_place-guard (length m.nodes))
             (omega (arith, following_place-guard (length m.nodes))) s.moved s.sound w),
         refl,
@@ -58,6 +59,7 @@ returns-in-None g c =
             sym (lookup-unplaced test (entries_of c.self.inside.list) c.in-None.ensures.found)
             ∙ ap (λ l. lookup test (entries_of l)) c.self.view_is;
         distinct =
-            subst (λ l. IsEntries g.K.PartialEq.eq (entries_of l)) c.self.view_is c.in-None.ensures.sound.distinct;
+            subst (λ l. IsEntries g.K.PartialEq.eq (entries_of l)) c.self.view_is
+            c.in-None.ensures.sound.distinct;
       },
     )

@@ -17,4 +17,5 @@ returns-clause-keys g c =
     let m = c.self.inside.list in
     let new = c.replace_value.new.self in
     subst (λ l. KeepsKeys l new) c.self.view_is
-    (keys-written m new (place_number m.nodes (Some c.args.node)) c.args.value c.replace_value.ensures.written)
+    (keys-written m new (place_number m.nodes (Some c.args.node)) c.args.value
+    c.replace_value.ensures.written)

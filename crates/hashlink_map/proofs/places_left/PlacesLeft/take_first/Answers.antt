@@ -19,7 +19,8 @@ returns-clause-stands g c =
     let s = c.args.self.now in
     let ns = c.args.map.now.nodes in
     let q = c.place_after-self.result in
-    let next = subst (λ l. IsPlaceAt ns q (following_place l (place_number ns s.first))) (length-map ns (λ e. e.1))
+    let next = subst (λ l. IsPlaceAt ns q (following_place l (place_number ns s.first)))
+    (length-map ns (λ e. e.1))
     c.place_after-self.ensures in
     stands-outside q s.last
     (stands-next ns s.first s.last s.left (stands-inside s.first s.last c.requires) c.if-self-eq0.false
@@ -34,7 +35,8 @@ returns-clause-takes g c =
     let n = c.in_ok-node.node in
     let is = c.in_ok-node.was in
     let q = c.place_after-self.result in
-    let next = subst (λ l. IsPlaceAt ns q (following_place l (place_number ns s.first))) (length-map ns (λ e. e.1))
+    let next = subst (λ l. IsPlaceAt ns q (following_place l (place_number ns s.first)))
+    (length-map ns (λ e. e.1))
     c.place_after-self.ensures in
     let first = ap (place_number ns) (same-place s.first) in (
       holds-first ns s.first s.last s.left stands some n is,

@@ -17,7 +17,8 @@ returns-clause-stands g c =
     let s = c.args.self.now in
     let ns = c.args.map.now.nodes in
     let q = c.place_before-self.result in
-    let prev = subst (λ l. IsPlaceAt ns q (preceding_place l (place_number ns s.last))) (length-map ns (λ e. e.1))
+    let prev = subst (λ l. IsPlaceAt ns q (preceding_place l (place_number ns s.last)))
+    (length-map ns (λ e. e.1))
     c.place_before-self.ensures in
     stands-outside s.first q
     (stands-prev ns s.first s.last s.left (stands-inside s.first s.last c.requires) c.if-self-eq0.false

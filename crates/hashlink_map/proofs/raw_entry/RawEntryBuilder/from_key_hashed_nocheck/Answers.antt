@@ -8,7 +8,8 @@ use Rattle.hashlink_map.proofs.raw_entry.RawEntryBuilder.from_key_hashed_nocheck
 pub returns-in_err-node : goal.returns-in_err-node
 returns-in_err-node g c =
     ap (option_map deref_pair) c.from_residual.ensures
-    ∙ sym (lookup_entry-unplaced (g.Q.Equivalent.matches c.args.key) (entries_of c.args.self.map.now) (search rules))
+    ∙ sym (lookup_entry-unplaced (g.Q.Equivalent.matches c.args.key) (entries_of c.args.self.map.now)
+    (search rules))
 
 pub returns : goal.returns
 returns g c =

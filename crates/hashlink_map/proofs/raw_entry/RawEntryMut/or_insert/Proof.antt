@@ -7,7 +7,8 @@ use mir.MapTy.{inst_fn}
 use mir.Val.{Val}
 use prog.Wp.{WpFn}
 use types.Logic.{sem}
-use types.Kit.{‵, raw, ◌⊛◌, some, later, ◌$◌, ◌∵◌, !, qed, by, move, keep, drop, split, join, fjoin, pick, await}
+use types.Kit.{‵, raw, ◌⊛◌, some, later, ◌$◌, ◌∵◌, !, qed, by, move, keep, drop, split, join, fjoin, pick}
+use types.Kit.{await}
 use types.Kit.{use0, use1, use2, done}
 use types.Run.{of_opd, and_then, no_more, returns, enter}
 use types.ByLocal.{alloc_all, pass_all, free_all, look_at, get, sets, lands_as}
@@ -66,14 +67,16 @@ or_insert_spec 𝓤 𝓛 𝓜 𝓡 wired K V S T LK LV LS LT e de p dp h dh b db
     nothing ! $ move ! (1 ∷ 0 ∷ []) $ fjoin ! $ done !)
     (𝓛.laws.⇛_intro (sem 𝓛 (fsep (fsep ftrue ftrue) ftrue))) in
     proved_at 𝓛 En hs c 𝓜 𝓡 (
-      (λ κs x f us ok. (elim x as (λ y. (l : Last ((Found K V LK LV κs.0 S T LS LT p h b w).exit no) y) → ent 𝓤
+      (λ κs x f us ok. (elim x as
+          (λ y. (l : Last ((Found K V LK LV κs.0 S T LS LT p h b w).exit no) y) → ent 𝓤
           (sem 𝓛 ftrue) (H.⇛ (sem 𝓛 (left ((Found K V LK LV κs.0 S T LS LT p h b w).exit no) y l)))) [
             | Occupied o ↦ λ l. quiet
             | Vacant v ↦ λ l. quiet
           ]) f),
       (Goes-dropped 𝓛 5 key no (λ κs x f. refl), (Goes-dropped 𝓛 5 value no (λ κs x f. refl), tt)),
     )
-    (f.Key.name inst) fn (code.unfolded 𝓤 H 𝓜 𝓡 wired (K, (V, (S, (T, tt)))) de dp dh db dw dd dk dv) (λ z are.
+    (f.Key.name inst) fn (code.unfolded 𝓤 H 𝓜 𝓡 wired (K, (V, (S, (T, tt)))) de dp dh db dw dd dk dv)
+    (λ z are.
     let κs = z.0.0 in let qs = z.0.1 in let a = z.0.3 in let κ = κs.0 in
     let W = walk_of 𝓛 En hs c in
     let self_at = value_of 𝓛 (Found K V LK LV κ S T LS LT p h b w)
@@ -82,16 +85,19 @@ or_insert_spec 𝓤 𝓛 𝓜 𝓡 wired K V S T LK LV LS LT e de p dp h dh b db
     let value_at = value_of 𝓛 VR (param_laws 1 V LV) a.1.1.0 z.0.4.1.1.0 are.1.1.0 in
     let vs : List Val = self_at.0 ∷ key_at.0 ∷ value_at.0 ∷ [] in
     let At : Valss (types_at En.signature.params κs) → W.Ghost = λ vss. ((κs, qs, z.0.2, a, vss), z.1) in
-    let vss : Valss (types_at En.signature.params κs) = (self_at.0 ∷ [], (key_at.0 ∷ [], (value_at.0 ∷ [], tt))) in
+    let vss : Valss (types_at En.signature.params κs) =
+    (self_at.0 ∷ [], (key_at.0 ∷ [], (value_at.0 ∷ [], tt))) in
     let Post : Val → SProp 𝓤 = W.post (At vss) in
     let Y = triple_of 𝓛 (enters.signature K V S T e de p dp h dh b db w dw dd dk dv)
     (enters.spec K V S T e de p dp h dh b db w dw dd dk dv 𝓛 𝓜.mem 𝓡.returns) in
     let y : Y.Ghost = ((κs, qs, z.0.2, a, vss), tt) in
     let Again : SProp 𝓤 → SProp 𝓤 = Asks 𝓤 (κs.1.0 ⊑ K.lives) (κs.1.1.0 ⊑ V.lives) (κs.1.1.1.0 ⊑ S.lives)
     (κs.1.1.1.1.0 ⊑ T.lives) in
-    let Rest : SProp 𝓤 = f.requires-absent K V S T e de p dp h dh b db w dw dd dk dv 𝓛 κs 𝓜.mem 𝓡.returns a.0 a.1.0
+    let Rest : SProp 𝓤 = f.requires-absent K V S T e de p dp h dh b db w dw dd dk dv 𝓛 κs
+    𝓜.mem 𝓡.returns a.0 a.1.0
     a.1.1.0 in
-    subst (λ (us : Valss (types_at En.signature.params κs)). ent 𝓤 (W.pre (At us)) (WpFn 𝓤 H 𝓣.C 𝓣.Λ fn (W.args
+    subst (λ (us : Valss (types_at En.signature.params κs)). ent 𝓤 (W.pre (At us))
+    (WpFn 𝓤 H 𝓣.C 𝓣.Λ fn (W.args
     (At us)) (W.post (At us))))
     (λ i. (sym self_at.1 i, (sym key_at.1 i, (sym value_at.1 i, tt)))) (
     qed 𝓛 (raw (on_entry 𝓛 En.signature κs qs a vss) ∷ raw ((c κs a).requires z.1) ∷ []) ∵ move ! (1 ∷ []) $
@@ -106,15 +112,18 @@ or_insert_spec 𝓤 𝓛 𝓜 𝓡 wired K V S T LK LV LS LT e de p dp h dh b db
     let In : RattleType = Entered K V LK LV κ S T LS LT p h b w in
     let Out : RattleType = Answer K V LK LV κ in
     let Rests : In.Denot → SProp 𝓤 = λ x. sem 𝓛 (HandsOnLast KR VR (param 2 S) (param 3 T) a.0 x) in
-    let Stands : In.Denot → Type 0 = λ x. IfOk x (λ o. StandsLast p.eq found IsGiven (raw_occupied_state o)) in
+    let Stands : In.Denot → Type 0 = λ x. IfOk x
+    (λ o. StandsLast p.eq found IsGiven (raw_occupied_state o)) in
     let Back : In.Denot → Type 0 = λ x. IfErr x IsGiven in
     let Empty : In.Denot → Type 0 = λ x. OnErr x (found.place ≡ None) in
     let E₁ = enters.ended K V S T e de p dp h dh b db w dw dd dk dv in
     calls_at ! (framed 𝓤 H 𝓜 𝓣) Y (entered.met 𝓤 𝓛 𝓜 𝓡
-    (code.calls-hashlink_map::raw_entry::RawEntryMut::or_insert_entry 𝓡.env wired) K V S T LK LV LS LT e de p dp h
+    (code.calls-hashlink_map::raw_entry::RawEntryMut::or_insert_entry 𝓡.env wired) K V S
+    T LK LV LS LT e de p dp h
     dh b db w dw dd dk dv me mp mh mb mw md mk mv) y
     (and_then ! (get ! refl) (and_then ! (get ! refl) (and_then ! (get ! refl) (no_more !)))) (λ v.
-    use1 𝓛 (later (some (λ (x : In.Denot). (raw (alive 𝓛 En.signature κs qs) ⊛ ‵ (In.own_val x (v ∷ []))) ⊛ some
+    use1 𝓛 (later (some (λ (x : In.Denot). (raw (alive 𝓛 En.signature κs qs) ⊛ ‵ (In.own_val x (v ∷ []))) ⊛
+    some
     (λ (ls : Lasts E₁ κs a). ‵ (lasts E₁ κs a ls) ⊛ (raw (Rests x) ⊛ raw (fact 𝓤 (Stands x)) ⊛ raw (fact 𝓤
     (Back x)) ⊛ raw (fact 𝓤 (Empty x))))))) (id⊢ 𝓤 (Y.post y v)) $
     await ! tt $ pick ! (λ x. split ! $ move ! (1 ∷ []) $ pick ! (λ ls. split ! $ drop ! $ split ! $
@@ -138,7 +147,8 @@ or_insert_spec 𝓤 𝓛 𝓜 𝓡 wired K V S T LK LV LS LT e de p dp h dh b db
     let Back' : Out.Denot → Type 0 = λ r. IfErr r IsGiven in
     use1 𝓛 (raw (Y₂.pre y₂)) (id⊢ 𝓤 (Y₂.pre y₂)) $
     calls_at ! (framed 𝓤 H 𝓜 𝓣) Y₂ (lent.met 𝓤 𝓛 𝓜 𝓡
-    (code.calls-hashlink_map::raw_entry::occupied::RawOccupiedEntryMut+K+V+S::pair_of 𝓡.env wired) K V S T LK LV LS
+    (code.calls-hashlink_map::raw_entry::occupied::RawOccupiedEntryMut+K+V+S::pair_of 𝓡.env wired)
+    K V S T LK LV LS
     LT e de p dp h dh b db w dw dd me mp mh mb mw md) y₂
     (and_then ! (get ! refl) (no_more !)) (λ v₂.
     use1 𝓛 (later (some (λ (r : Out.Denot). (raw (alive 𝓛 En.signature κs qs) ⊛ ‵ (Out.own_val r
@@ -163,7 +173,8 @@ or_insert_spec 𝓤 𝓛 𝓜 𝓡 wired K V S T LK LV LS LT e de p dp h dh b db
     (found.place ≡ None) given empty)) $
     move ! (1 ∷ 0 ∷ []) $ join ! $ move ! (1 ∷ 0 ∷ []) $ join ! $ move ! (1 ∷ 0 ∷ []) $ join ! $
     -- [what is ensured; the result; the tokens]
-    nothing ! $ nothing ! $ fjoin ! $ nothing ! $ fjoin ! $ nothing ! $ fjoin ! $ keep ! (3 ∷ 0 ∷ 2 ∷ 1 ∷ []) $
+    nothing ! $ nothing ! $ fjoin ! $ nothing ! $ fjoin ! $ nothing ! $ fjoin ! $
+    keep ! (3 ∷ 0 ∷ 2 ∷ 1 ∷ []) $
     by ! (leaves 𝓛 En hs c (At vss) v₂ r (
       rest ((Found K V LK LV κ S T LS LT p h b w).exit no) a.0,
       (

@@ -23,7 +23,8 @@ returns-in-Occupied g c =
             (λ e. StandsLast g.K.PartialEq.eq (raw_state e) Given
             (record { map = state_of new; place = Some last }))
             (sym c.in-Occupied.is)
-            (moved_stands g.met.K.Eq.laws o.map.now o.node o.stands (state_of new) last Given m.moves m.stays.place
+            (moved_stands g.met.K.Eq.laws o.map.now o.node o.stands (state_of new) last
+            Given m.moves m.stays.place
             m.distinct);
         handed_back = tt;
         vacant = tt;
@@ -45,7 +46,8 @@ returns-in-Vacant g c =
             (λ s. OnErr r (IfErr r
             (λ p. RefusesEntry g.K.PartialEq.eq (raw_state s).map (state_of f.lender-at-none) p.0 p.1 p)))
             (sym c.in-Vacant.is)
-            (refuses_handed g.K.PartialEq.eq old (state_of f.lender-at-none) k v r f.holds-at-none e.handed_back),
+            (refuses_handed g.K.PartialEq.eq old (state_of f.lender-at-none) k v r
+            f.holds-at-none e.handed_back),
       ),
       record {
         hands_on = tt;

@@ -22,7 +22,8 @@ returns-in-Occupied g c =
             (λ e. StandsLast g.K.PartialEq.eq (raw_state e) Given
             (record { map = state_of new; place = Some last }))
             (sym c.in-Occupied.is)
-            (moved_stands g.met.K.Eq.laws o.map.now o.node o.stands (state_of new) last Given m.moves m.stays.place
+            (moved_stands g.met.K.Eq.laws o.map.now o.node o.stands (state_of new) last
+            Given m.moves m.stays.place
             m.distinct);
         handed_back = tt;
         vacant = tt;

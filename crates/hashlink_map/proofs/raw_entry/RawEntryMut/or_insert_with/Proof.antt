@@ -7,7 +7,8 @@ use mir.MapTy.{inst_fn}
 use mir.Val.{Val}
 use prog.Wp.{WpFn}
 use types.Logic.{sem}
-use types.Kit.{‵, raw, ◌⊛◌, some, later, ◌$◌, ◌∵◌, !, qed, by, move, keep, drop, split, join, fjoin, pick, await}
+use types.Kit.{‵, raw, ◌⊛◌, some, later, ◌$◌, ◌∵◌, !, qed, by, move, keep, drop, split, join, fjoin, pick}
+use types.Kit.{await}
 use types.Kit.{use0, use1, use2, done}
 use types.Run.{of_opd, and_then, no_more, returns, enter}
 use types.ByLocal.{alloc_all, pass_all, free_all, look_at, get, sets, lands_as}
@@ -50,8 +51,8 @@ use Rattle.hashlink_map.proofs.raw_entry.RawEntryMut.or_insert_with.Statement.{s
 use Rattle.hashlink_map.proofs.raw_entry.RawEntryMut.or_insert_with.Code as code
 
 pub or_insert_with_spec : {M : Type 1} → statement M
-or_insert_with_spec 𝓤 𝓛 𝓜 𝓡 wired K V S T F LK LV LS LT LF e de p dp h dh b db w dw dd x dx dt me mp mh mb mw md mx
-    mt =
+or_insert_with_spec 𝓤 𝓛 𝓜 𝓡 wired K V S T F LK LV LS LT LF e de p dp h dh b db w dw dd x dx
+    dt me mp mh mb mw md mx mt =
     let H = 𝓛.H in let 𝓣 = tables 𝓤 H 𝓜 𝓡 𝓡.env in
     let En = f.ended K V S T F e de p dp h dh b db w dw dd x dx dt in
     let c = f.clauses K V S T F e de p dp h dh b db w dw dd x dx dt 𝓛 𝓜.mem 𝓡.returns in
@@ -67,14 +68,16 @@ or_insert_with_spec 𝓤 𝓛 𝓜 𝓡 wired K V S T F LK LV LS LT LF e de p dp
     nothing ! $ move ! (1 ∷ 0 ∷ []) $ fjoin ! $ done !)
     (𝓛.laws.⇛_intro (sem 𝓛 (fsep (fsep ftrue ftrue) ftrue))) in
     proved_at 𝓛 En hs c 𝓜 𝓡 (
-      (λ κs x f us ok. (elim x as (λ y. (l : Last ((Found K V LK LV κs.0 S T LS LT p h b w).exit no) y) → ent 𝓤
+      (λ κs x f us ok. (elim x as
+          (λ y. (l : Last ((Found K V LK LV κs.0 S T LS LT p h b w).exit no) y) → ent 𝓤
           (sem 𝓛 ftrue) (H.⇛ (sem 𝓛 (left ((Found K V LK LV κs.0 S T LS LT p h b w).exit no) y l)))) [
             | Occupied o ↦ λ l. quiet
             | Vacant v ↦ λ l. quiet
           ]) f),
       (Goes-dropped 𝓛 6 default no (λ κs x f. refl), tt),
     )
-    (f.Key.name inst) fn (code.unfolded 𝓤 H 𝓜 𝓡 wired (K, (V, (S, (T, (F, tt))))) de dp dh db dw dd dx dt) (λ z are.
+    (f.Key.name inst) fn (code.unfolded 𝓤 H 𝓜 𝓡 wired (K, (V, (S, (T, (F, tt))))) de dp dh db dw dd dx dt)
+    (λ z are.
     let κs = z.0.0 in let qs = z.0.1 in let a = z.0.3 in let κ = κs.0 in
     let W = walk_of 𝓛 En hs c in
     let self_at = value_of 𝓛 (Found K V LK LV κ S T LS LT p h b w)
@@ -92,7 +95,8 @@ or_insert_with_spec 𝓤 𝓛 𝓜 𝓡 wired K V S T F LK LV LS LT LF e de p dp
     let Rest : SProp 𝓤 = sep 𝓤 (fact 𝓤 (κs.1.1.1.1.1.0 ⊑ F.lives)) (sep 𝓤
     (f.requires-callable K V S T F e de p dp h dh b db w dw dd x dx dt 𝓛 κs 𝓜.mem 𝓡.returns a.0 a.1.0)
     (f.requires-absent K V S T F e de p dp h dh b db w dw dd x dx dt 𝓛 κs 𝓜.mem 𝓡.returns a.0 a.1.0)) in
-    subst (λ (us : Valss (types_at En.signature.params κs)). ent 𝓤 (W.pre (At us)) (WpFn 𝓤 H 𝓣.C 𝓣.Λ fn (W.args
+    subst (λ (us : Valss (types_at En.signature.params κs)). ent 𝓤 (W.pre (At us))
+    (WpFn 𝓤 H 𝓣.C 𝓣.Λ fn (W.args
     (At us)) (W.post (At us))))
     (λ i. (sym self_at.1 i, (sym default_at.1 i, tt))) (
     qed 𝓛 (raw (on_entry 𝓛 En.signature κs qs a vss) ∷ raw ((c κs a).requires z.1) ∷ []) ∵ move ! (1 ∷ []) $
@@ -110,15 +114,18 @@ or_insert_with_spec 𝓤 𝓛 𝓜 𝓡 wired K V S T F LK LV LS LT LF e de p dp
     let In : RattleType = Entered K V LK LV κ S T LS LT p h b w in
     let Out : RattleType = Answer K V LK LV κ in
     let Rests : In.Denot → SProp 𝓤 = λ g. sem 𝓛 (HandsOnLast KR VR (param 2 S) (param 3 T) a.0 g) in
-    let Stands : In.Denot → Type 0 = λ g. IfOk g (λ o. StandsLast p.eq found IsGiven (raw_occupied_state o)) in
+    let Stands : In.Denot → Type 0 = λ g. IfOk g
+    (λ o. StandsLast p.eq found IsGiven (raw_occupied_state o)) in
     let Back : In.Denot → Type 0 = λ g. IfErr g IsGiven in
     let Empty : In.Denot → Type 0 = λ g. OnErr g (found.place ≡ None) in
     let E₁ = enters.ended K V S T F e de p dp h dh b db w dw dd x dx dt in
     calls_at ! (framed 𝓤 H 𝓜 𝓣) Y (entered.met 𝓤 𝓛 𝓜 𝓡
-    (code.calls-hashlink_map::raw_entry::RawEntryMut::or_insert_entry_with 𝓡.env wired) K V S T F LK LV LS LT LF e
+    (code.calls-hashlink_map::raw_entry::RawEntryMut::or_insert_entry_with 𝓡.env wired) K
+    V S T F LK LV LS LT LF e
     de p dp h dh b db w dw dd x dx dt me mp mh mb mw md mx mt) y
     (and_then ! (get ! refl) (and_then ! (get ! refl) (no_more !))) (λ v.
-    use1 𝓛 (later (some (λ (g : In.Denot). (raw (alive 𝓛 En.signature κs qs) ⊛ ‵ (In.own_val g (v ∷ []))) ⊛ some
+    use1 𝓛 (later (some (λ (g : In.Denot). (raw (alive 𝓛 En.signature κs qs) ⊛ ‵ (In.own_val g (v ∷ []))) ⊛
+    some
     (λ (ls : Lasts E₁ κs a). ‵ (lasts E₁ κs a ls) ⊛ (raw (Rests g) ⊛ raw (fact 𝓤 (Stands g)) ⊛ raw (fact 𝓤
     (Back g)) ⊛ raw (fact 𝓤 (Empty g))))))) (id⊢ 𝓤 (Y.post y v)) $
     await ! tt $ pick ! (λ g. split ! $ move ! (1 ∷ []) $ pick ! (λ ls. split ! $ drop ! $ split ! $
@@ -128,7 +135,8 @@ or_insert_with_spec 𝓤 𝓛 𝓜 𝓡 wired K V S T F LK LV LS LT LF e de p dp
     move ! (1 ∷ []) $ split ! $ move ! (1 ∷ []) $ peeks ! In (Is In) (shows 𝓛 In) g (v ∷ []) (λ is.
     lands_as ! refl refl (((entered_laws K V LK LV κ S T LS LT p h b w).lawful 𝓛).typed g (v ∷ []) is).0 $
     nothing ! $ move ! (1 ∷ 0 ∷ []) $ fjoin ! $ move ! (1 ∷ []) $
-    use1 𝓛 (raw (Five) ⊛ ‵ Sixth) (apart_last 𝓛 T₀ T₁ T₂ T₃ T₄ Sixth) $ split ! $ move ! (0 ∷ 2 ∷ []) $ join ! $
+    use1 𝓛 (raw (Five) ⊛ ‵ Sixth) (apart_last 𝓛 T₀ T₁ T₂ T₃ T₄ Sixth) $ split ! $
+    move ! (0 ∷ 2 ∷ []) $ join ! $
     move ! (0 ∷ 3 ∷ []) $ join ! $
     let κs₂ : Lfts 5 = (κs.0, (κs.1.0, (κs.1.1.0, (κs.1.1.1.0, (κs.1.1.1.1.0, tt))))) in
     let qs₂ : Shares 5 = (qs.0, (qs.1.0, (qs.1.1.0, (qs.1.1.1.0, (qs.1.1.1.1.0, tt))))) in
@@ -140,17 +148,21 @@ or_insert_with_spec 𝓤 𝓛 𝓜 𝓡 wired K V S T F LK LV LS LT LF e de p dp
     let Pair : Out.Denot → Type 0 = λ r. IsLent g r in
     let Given : Out.Denot → Type 0 = λ r. IsHandedOn g r in
     let Lends : Out.Denot → SProp 𝓤 = λ r. sem 𝓛 (LendsLastPair KR VR (param 2 S) (param 3 T) a.0 r) in
-    let Parts : Out.Denot → Type 0 = λ r. IfOk r (λ q. MatchOption (raw_pair found) (IsGiven (q.0.now, q.1.now))
+    let Parts : Out.Denot → Type 0 = λ r. IfOk r
+    (λ q. MatchOption (raw_pair found) (IsGiven (q.0.now, q.1.now))
     (λ stood. (q.0.now ≡ stood.0) × (q.1.now ≡ stood.1))) in
     let Empty' : Out.Denot → Type 0 = λ r. OnErr r (found.place ≡ None) in
     let Back' : Out.Denot → Type 0 = λ r. IfErr r IsGiven in
     use1 𝓛 (raw (Y₂.pre y₂)) (id⊢ 𝓤 (Y₂.pre y₂)) $
     calls_at ! (framed 𝓤 H 𝓜 𝓣) Y₂ (lent.met 𝓤 𝓛 𝓜 𝓡
-    (code.calls-hashlink_map::raw_entry::occupied::RawOccupiedEntryMut+K+V+S::pair_of 𝓡.env wired) K V S T LK LV LS
+    (code.calls-hashlink_map::raw_entry::occupied::RawOccupiedEntryMut+K+V+S::pair_of 𝓡.env wired)
+    K V S T LK LV LS
     LT e de p dp h dh b db w dw dd me mp mh mb mw md) y₂
     (and_then ! (get ! refl) (no_more !)) (λ v₂.
-    use1 𝓛 (later (some (λ (r : Out.Denot). (raw Five ⊛ ‵ (Out.own_val r (v₂ ∷ []))) ⊛ some (λ (ls : Lasts E₂ κs₂
-    (g, tt)). ‵ (lasts E₂ κs₂ (g, tt) ls) ⊛ (raw (Ties r) ⊛ raw (fact 𝓤 (Pair r)) ⊛ raw (fact 𝓤 (Given r)))))))
+    use1 𝓛 (later (some (λ (r : Out.Denot). (raw Five ⊛ ‵ (Out.own_val r (v₂ ∷ []))) ⊛ some
+    (λ (ls : Lasts E₂ κs₂
+    (g, tt)). ‵ (lasts E₂ κs₂ (g, tt) ls) ⊛
+    (raw (Ties r) ⊛ raw (fact 𝓤 (Pair r)) ⊛ raw (fact 𝓤 (Given r)))))))
     (id⊢ 𝓤 (Y₂.post y₂ v₂)) $
     await ! tt $ pick ! (λ r. split ! $ move ! (1 ∷ []) $ pick ! (λ ls₂. split ! $ drop ! $ split ! $
     move ! (1 ∷ []) $ split ! $ heard ! (Pair r) (λ pair. heard ! (Given r) (λ given.
@@ -174,7 +186,10 @@ or_insert_with_spec 𝓤 𝓛 𝓜 𝓡 wired K V S T F LK LV LS LT LF e de p dp
     move ! (1 ∷ 0 ∷ []) $ join ! $ move ! (1 ∷ 0 ∷ []) $ join ! $ move ! (1 ∷ 0 ∷ []) $ join ! $
     -- [what is ensured; the result; the tokens]
     nothing ! $ nothing ! $ fjoin ! $ nothing ! $ fjoin ! $ keep ! (3 ∷ 0 ∷ 2 ∷ 1 ∷ []) $
-    by ! (leaves 𝓛 En hs c (At vss) v₂ r (rest ((Found K V LK LV κ S T LS LT p h b w).exit no) a.0, (tt, tt)) (
+    by ! (leaves 𝓛 En hs c (At vss) v₂ r (
+      rest ((Found K V LK LV κ S T LS LT p h b w).exit no) a.0,
+      (tt, tt),
+    ) (
       tt,
       (tt, tt),
     ))))))))))))))))))

@@ -7,7 +7,8 @@ use mir.MapTy.{inst_fn}
 use mir.Val.{Val, vint}
 use prog.Wp.{WpFn}
 use types.Logic.{sem}
-use types.Kit.{‵, raw, ◌⊛◌, some, later, ◌$◌, ◌∵◌, !, qed, by, move, keep, drop, split, join, fjoin, pick, await}
+use types.Kit.{‵, raw, ◌⊛◌, some, later, ◌$◌, ◌∵◌, !, qed, by, move, keep, drop, split, join, fjoin, pick}
+use types.Kit.{await}
 use types.Kit.{use0, use1, use2, done}
 use types.Run.{of_opd, and_then, no_more, returns, enter}
 use types.ByLocal.{alloc_all, pass_all, free_all, look_at, get, sets, lands_as}
@@ -37,7 +38,8 @@ use Rattle.hashlink_map.specs.RawEntry.{raw_occupied_map, raw_place}
 use Rattle.hashlink_map.specs.RawLends.{HandsOnNew, LendsPairOf, LendsNewPair}
 use Rattle.hashlink_map.proofs.PairSteps.{Asks, asks_again}
 use Rattle.hashlink_map.proofs.PairRows.{Answer, answer_laws, Entered, entered_laws, Vacant, vacant_laws}
-use Rattle.hashlink_map.proofs.PairTies.{ok_carried, err_carried, carries, IsLent, IsHandedOn, new_written, new_parts}
+use Rattle.hashlink_map.proofs.PairTies.{ok_carried, err_carried, carries, IsLent, IsHandedOn, new_written}
+use Rattle.hashlink_map.proofs.PairTies.{new_parts}
 use Rattle.hashlink_map.proofs.PairValues.{value_of}
 use Rattle.hashlink_map.specs.contracts.raw_entry.RawVacantEntryMut.insert_hashed_nocheck as f
 use Rattle.hashlink_map.specs.contracts.raw_entry.RawVacantEntryMut.insert_entry_hashed_nocheck as enters
@@ -100,7 +102,8 @@ insert_hashed_nocheck_spec 𝓤 𝓛 𝓜 𝓡 wired K V S T LK LV LS LT e de p 
     let Rest : SProp 𝓤 = sep 𝓤
     (f.requires-absent K V S T e de p dp h dh b db w dw dd 𝓛 κs 𝓜.mem 𝓡.returns a.0 a.1.0 a.1.1.0 a.1.1.1.0)
     (f.requires-hash K V S T e de p dp h dh b db w dw dd 𝓛 κs 𝓜.mem 𝓡.returns a.0 a.1.0 a.1.1.0 a.1.1.1.0) in
-    subst (λ (us : Valss (types_at En.signature.params κs)). ent 𝓤 (W.pre (At us)) (WpFn 𝓤 H 𝓣.C 𝓣.Λ fn (W.args
+    subst (λ (us : Valss (types_at En.signature.params κs)). ent 𝓤 (W.pre (At us))
+    (WpFn 𝓤 H 𝓣.C 𝓣.Λ fn (W.args
     (At us)) (W.post (At us))))
     (λ i. (sym self_at.1 i, (sym are.1.0.0 i, (sym key_at.1 i, (sym value_at.1 i, tt))))) (
     qed 𝓛 (raw (on_entry 𝓛 En.signature κs qs a vss) ∷ raw ((c κs a).requires z.1) ∷ []) ∵ move ! (1 ∷ []) $
@@ -125,17 +128,20 @@ insert_hashed_nocheck_spec 𝓤 𝓛 𝓜 𝓡 wired K V S T LK LV LS LT e de p 
     let Out : RattleType = Answer K V LK LV κ in
     let Rests : In.Denot → SProp 𝓤 = λ x. sem 𝓛 (HandsOnNew KR VR (param 2 S) (param 3 T) m k u x) in
     let Same : In.Denot → Type 0 = λ x. IfOk x (λ o. (raw_occupied_map o).ghost_name ≡ m.ghost_name) in
-    let Adds : In.Denot → Type 0 = λ x. IfOk x (λ o. AddsEntry p.eq old (state_of (raw_occupied_map o).now) k u
+    let Adds : In.Denot → Type 0 = λ x. IfOk x
+    (λ o. AddsEntry p.eq old (state_of (raw_occupied_map o).now) k u
     (length (entries_of m.now))) in
     let Last : In.Denot → Type 0 = λ x. IfOk x (λ o. raw_place o ≡ length (entries_of m.now)) in
     let Back : In.Denot → Type 0 = λ x. IfErr x (λ e. e ≡ (k, u)) in
     let E₁ = enters.ended K V S T e de p dp h dh b db w dw dd in
     calls_at ! (framed 𝓤 H 𝓜 𝓣) Y (entered.met 𝓤 𝓛 𝓜 𝓡
-    (code.calls-hashlink_map::raw_entry::RawVacantEntryMut::insert_entry_hashed_nocheck 𝓡.env wired) K V S T LK LV
+    (code.calls-hashlink_map::raw_entry::RawVacantEntryMut::insert_entry_hashed_nocheck 𝓡.env wired)
+    K V S T LK LV
     LS LT e de p dp h dh b db w dw dd me mp mh mb mw md) y
     (and_then ! (get ! refl) (and_then ! (get ! refl) (and_then ! (get ! refl) (and_then ! (get ! refl)
     (no_more !))))) (λ v.
-    use1 𝓛 (later (some (λ (x : In.Denot). (raw (alive 𝓛 En.signature κs qs) ⊛ ‵ (In.own_val x (v ∷ []))) ⊛ some
+    use1 𝓛 (later (some (λ (x : In.Denot). (raw (alive 𝓛 En.signature κs qs) ⊛ ‵ (In.own_val x (v ∷ []))) ⊛
+    some
     (λ (ls : Lasts E₁ κs a). ‵ (lasts E₁ κs a ls) ⊛ (raw (Rests x) ⊛ raw (fact 𝓤 (Same x)) ⊛ raw (fact 𝓤
     (Adds x)) ⊛ raw (fact 𝓤 (Last x)) ⊛ raw (fact 𝓤 (Back x))))))) (id⊢ 𝓤 (Y.post y v)) $
     await ! tt $ pick ! (λ x. split ! $ move ! (1 ∷ []) $ pick ! (λ ls. split ! $ drop ! $ split ! $
@@ -158,7 +164,8 @@ insert_hashed_nocheck_spec 𝓤 𝓛 𝓜 𝓡 wired K V S T LK LV LS LT e de p 
     let Back' : Out.Denot → Type 0 = λ r. IfErr r (λ e. e ≡ (k, u)) in
     use1 𝓛 (raw (Y₂.pre y₂)) (id⊢ 𝓤 (Y₂.pre y₂)) $
     calls_at ! (framed 𝓤 H 𝓜 𝓣) Y₂ (lent.met 𝓤 𝓛 𝓜 𝓡
-    (code.calls-hashlink_map::raw_entry::occupied::RawOccupiedEntryMut+K+V+S::pair_of 𝓡.env wired) K V S T LK LV LS
+    (code.calls-hashlink_map::raw_entry::occupied::RawOccupiedEntryMut+K+V+S::pair_of 𝓡.env wired)
+    K V S T LK LV LS
     LT e de p dp h dh b db w dw dd me mp mh mb mw md) y₂
     (and_then ! (get ! refl) (no_more !)) (λ v₂.
     use1 𝓛 (later (some (λ (r : Out.Denot). (raw (alive 𝓛 En.signature κs qs) ⊛ ‵ (Out.own_val r
@@ -177,9 +184,11 @@ insert_hashed_nocheck_spec 𝓤 𝓛 𝓜 𝓡 wired K V S T LK LV LS LT e de p 
     (new_written me.laws old k u x adds last)) $
     use0 𝓛 (raw (fact 𝓤 (Pair' r))) (fact_i 𝓤 (Pair' r) (emp 𝓤) (ok_carried x r (λ q. (q.0.now ≡ k) ×
     (q.1.now ≡ u)) pair (new_parts me.laws old k u x adds last))) $
-    use0 𝓛 (raw (fact 𝓤 (Back' r))) (fact_i 𝓤 (Back' r) (emp 𝓤) (err_carried x r (λ e. e ≡ (k, u)) given back)) $
+    use0 𝓛 (raw (fact 𝓤 (Back' r)))
+    (fact_i 𝓤 (Back' r) (emp 𝓤) (err_carried x r (λ e. e ≡ (k, u)) given back)) $
     move ! (1 ∷ 0 ∷ []) $ join ! $ move ! (1 ∷ 0 ∷ []) $ join ! $
     -- [what is ensured; the result; the tokens]
     nothing ! $ nothing ! $ fjoin ! $ nothing ! $ fjoin ! $ nothing ! $ fjoin ! $ nothing ! $ fjoin ! $
     keep ! (3 ∷ 0 ∷ 2 ∷ 1 ∷ []) $
-    by ! (leaves 𝓛 En hs c (At vss) v₂ r ((tt, tt), (tt, (tt, (tt, tt)))) (tt, (tt, (tt, (tt, tt))))))))))))))))))))))
+    by ! (leaves 𝓛 En hs c (At vss) v₂ r ((tt, tt), (tt, (tt, (tt, tt))))
+    (tt, (tt, (tt, (tt, tt))))))))))))))))))))))

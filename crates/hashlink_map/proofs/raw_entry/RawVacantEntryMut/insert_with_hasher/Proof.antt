@@ -7,7 +7,8 @@ use mir.MapTy.{inst_fn}
 use mir.Val.{Val, vint}
 use prog.Wp.{WpFn}
 use types.Logic.{sem}
-use types.Kit.{‵, raw, ◌⊛◌, some, later, ◌$◌, ◌∵◌, !, qed, by, move, keep, drop, split, join, fjoin, pick, await}
+use types.Kit.{‵, raw, ◌⊛◌, some, later, ◌$◌, ◌∵◌, !, qed, by, move, keep, drop, split, join, fjoin, pick}
+use types.Kit.{await}
 use types.Kit.{use0, use1, use2, done}
 use types.Run.{of_opd, and_then, no_more, returns, enter}
 use types.ByLocal.{alloc_all, pass_all, free_all, look_at, get, sets, lands_as}
@@ -37,7 +38,8 @@ use Rattle.hashlink_map.specs.RawEntry.{raw_occupied_map, raw_place}
 use Rattle.hashlink_map.specs.RawLends.{HandsOnNew, LendsPairOf, LendsNewPair}
 use Rattle.hashlink_map.proofs.PairSteps.{Asks, asks_again, five, apart_last, joins_last}
 use Rattle.hashlink_map.proofs.PairRows.{Answer, answer_laws, Entered, entered_laws, Vacant, vacant_laws}
-use Rattle.hashlink_map.proofs.PairTies.{ok_carried, err_carried, carries, IsLent, IsHandedOn, new_written, new_parts}
+use Rattle.hashlink_map.proofs.PairTies.{ok_carried, err_carried, carries, IsLent, IsHandedOn, new_written}
+use Rattle.hashlink_map.proofs.PairTies.{new_parts}
 use Rattle.hashlink_map.proofs.PairValues.{value_of}
 use Rattle.hashlink_map.specs.contracts.raw_entry.RawVacantEntryMut.insert_with_hasher as f
 use Rattle.hashlink_map.specs.contracts.raw_entry.RawVacantEntryMut.insert_entry_with_hasher as enters
@@ -48,8 +50,8 @@ use Rattle.hashlink_map.proofs.raw_entry.RawVacantEntryMut.insert_with_hasher.St
 use Rattle.hashlink_map.proofs.raw_entry.RawVacantEntryMut.insert_with_hasher.Code as code
 
 pub insert_with_hasher_spec : {M : Type 1} → statement M
-insert_with_hasher_spec 𝓤 𝓛 𝓜 𝓡 wired K V S T F LK LV LS LT LF e de p dp h dh b db w dw dd x dx dm dn dt me mp mh
-    mb mw md mx mm mo mt =
+insert_with_hasher_spec 𝓤 𝓛 𝓜 𝓡 wired K V S T F LK LV LS LT LF e de p dp h dh b db w dw
+    dd x dx dm dn dt me mp mh mb mw md mx mm mo mt =
     let H = 𝓛.H in let 𝓣 = tables 𝓤 H 𝓜 𝓡 𝓡.env in
     let En = f.ended K V S T F e de p dp h dh b db w dw dd x dx dm dn dt in
     let c = f.clauses K V S T F e de p dp h dh b db w dw dd x dx dm dn dt 𝓛 𝓜.mem 𝓡.returns in
@@ -86,7 +88,8 @@ insert_with_hasher_spec 𝓤 𝓛 𝓜 𝓡 wired K V S T F LK LV LS LT LF e de 
         ),
       ),
     )
-    (f.Key.name inst) fn (code.unfolded 𝓤 H 𝓜 𝓡 wired (K, (V, (S, (T, (F, tt))))) de dp dh db dw dd dx dm dn dt)
+    (f.Key.name inst) fn (code.unfolded 𝓤 H 𝓜 𝓡 wired (K, (V, (S, (T, (F, tt))))) de dp
+    dh db dw dd dx dm dn dt)
     (λ z are.
     let κs = z.0.0 in let qs = z.0.1 in let a = z.0.3 in let κ = κs.0 in
     let W = walk_of 𝓛 En hs c in
@@ -114,15 +117,20 @@ insert_with_hasher_spec 𝓤 𝓛 𝓜 𝓡 wired K V S T F LK LV LS LT LF e de 
     let Again : SProp 𝓤 → SProp 𝓤 = Asks 𝓤 (κs.1.0 ⊑ K.lives) (κs.1.1.0 ⊑ V.lives) (κs.1.1.1.0 ⊑ S.lives)
     (κs.1.1.1.1.0 ⊑ T.lives) in
     let Rest : SProp 𝓤 = sep 𝓤 (fact 𝓤 (κs.1.1.1.1.1.0 ⊑ F.lives)) (sep 𝓤
-    (f.requires-absent K V S T F e de p dp h dh b db w dw dd x dx dm dn dt 𝓛 κs 𝓜.mem 𝓡.returns a.0 a.1.0 a.1.1.0
+    (f.requires-absent K V S T F e de p dp h dh b db w dw dd x dx dm dn dt 𝓛 κs 𝓜.mem
+    𝓡.returns a.0 a.1.0 a.1.1.0
     a.1.1.1.0 a.1.1.1.1.0) (sep 𝓤
-    (f.requires-hash K V S T F e de p dp h dh b db w dw dd x dx dm dn dt 𝓛 κs 𝓜.mem 𝓡.returns a.0 a.1.0 a.1.1.0
+    (f.requires-hash K V S T F e de p dp h dh b db w dw dd x dx dm dn dt 𝓛 κs 𝓜.mem
+    𝓡.returns a.0 a.1.0 a.1.1.0
     a.1.1.1.0 a.1.1.1.1.0)
-    (f.requires-hasher K V S T F e de p dp h dh b db w dw dd x dx dm dn dt 𝓛 κs 𝓜.mem 𝓡.returns a.0 a.1.0 a.1.1.0
+    (f.requires-hasher K V S T F e de p dp h dh b db w dw dd x dx dm dn dt 𝓛 κs 𝓜.mem
+    𝓡.returns a.0 a.1.0 a.1.1.0
     a.1.1.1.0 a.1.1.1.1.0))) in
-    subst (λ (us : Valss (types_at En.signature.params κs)). ent 𝓤 (W.pre (At us)) (WpFn 𝓤 H 𝓣.C 𝓣.Λ fn (W.args
+    subst (λ (us : Valss (types_at En.signature.params κs)). ent 𝓤 (W.pre (At us))
+    (WpFn 𝓤 H 𝓣.C 𝓣.Λ fn (W.args
     (At us)) (W.post (At us))))
-    (λ i. (sym self_at.1 i, (sym are.1.0.0 i, (sym key_at.1 i, (sym value_at.1 i, (sym given_at.1 i, tt)))))) (
+    (λ i. (sym self_at.1 i, (sym are.1.0.0 i, (sym key_at.1 i, (sym value_at.1 i, (sym given_at.1 i, tt))))))
+    (
     qed 𝓛 (raw (on_entry 𝓛 En.signature κs qs a vss) ∷ raw ((c κs a).requires z.1) ∷ []) ∵ move ! (1 ∷ []) $
     use1 𝓛 (raw (Again (Rest)) ⊛ raw (Again (emp 𝓤))) (asks_again 𝓤 (κs.1.0 ⊑ K.lives) (κs.1.1.0 ⊑ V.lives)
     (κs.1.1.1.0 ⊑ S.lives) (κs.1.1.1.1.0 ⊑ T.lives) 𝓛 Rest) $ split ! $
@@ -152,17 +160,20 @@ insert_with_hasher_spec 𝓤 𝓛 𝓜 𝓡 wired K V S T F LK LV LS LT LF e de 
     let Out : RattleType = Answer K V LK LV κ in
     let Rests : In.Denot → SProp 𝓤 = λ g. sem 𝓛 (HandsOnNew KR VR (param 2 S) (param 3 T) m k u g) in
     let Same : In.Denot → Type 0 = λ g. IfOk g (λ o. (raw_occupied_map o).ghost_name ≡ m.ghost_name) in
-    let Adds : In.Denot → Type 0 = λ g. IfOk g (λ o. AddsEntry p.eq old (state_of (raw_occupied_map o).now) k u
+    let Adds : In.Denot → Type 0 = λ g. IfOk g
+    (λ o. AddsEntry p.eq old (state_of (raw_occupied_map o).now) k u
     (length (entries_of m.now))) in
     let Last : In.Denot → Type 0 = λ g. IfOk g (λ o. raw_place o ≡ length (entries_of m.now)) in
     let Back : In.Denot → Type 0 = λ g. IfErr g (λ e. e ≡ (k, u)) in
     let E₁ = enters.ended K V S T F e de p dp h dh b db w dw dd x dx dm dn dt in
     calls_at ! (framed 𝓤 H 𝓜 𝓣) Y (entered.met 𝓤 𝓛 𝓜 𝓡
-    (code.calls-hashlink_map::raw_entry::RawVacantEntryMut::insert_entry_with_hasher 𝓡.env wired) K V S T F LK LV
+    (code.calls-hashlink_map::raw_entry::RawVacantEntryMut::insert_entry_with_hasher 𝓡.env wired)
+    K V S T F LK LV
     LS LT LF e de p dp h dh b db w dw dd x dx dm dn dt me mp mh mb mw md mx mm mo mt) y
     (and_then ! (get ! refl) (and_then ! (get ! refl) (and_then ! (get ! refl) (and_then ! (get ! refl)
     (and_then ! (get ! refl) (no_more !)))))) (λ v.
-    use1 𝓛 (later (some (λ (g : In.Denot). (raw (alive 𝓛 En.signature κs qs) ⊛ ‵ (In.own_val g (v ∷ []))) ⊛ some
+    use1 𝓛 (later (some (λ (g : In.Denot). (raw (alive 𝓛 En.signature κs qs) ⊛ ‵ (In.own_val g (v ∷ []))) ⊛
+    some
     (λ (ls : Lasts E₁ κs a). ‵ (lasts E₁ κs a ls) ⊛ (raw (Rests g) ⊛ raw (fact 𝓤 (Same g)) ⊛ raw (fact 𝓤
     (Adds g)) ⊛ raw (fact 𝓤 (Last g)) ⊛ raw (fact 𝓤 (Back g))))))) (id⊢ 𝓤 (Y.post y v)) $
     await ! tt $ pick ! (λ g. split ! $ move ! (1 ∷ []) $ pick ! (λ ls. split ! $ drop ! $ split ! $
@@ -172,7 +183,8 @@ insert_with_hasher_spec 𝓤 𝓛 𝓜 𝓡 wired K V S T F LK LV LS LT LF e de 
     move ! (1 ∷ []) $ split ! $ move ! (1 ∷ []) $ peeks ! In (Is In) (shows 𝓛 In) g (v ∷ []) (λ is.
     lands_as ! refl refl (((entered_laws K V LK LV κ S T LS LT p h b w).lawful 𝓛).typed g (v ∷ []) is).0 $
     nothing ! $ move ! (1 ∷ 0 ∷ []) $ fjoin ! $ move ! (1 ∷ []) $
-    use1 𝓛 (raw (Five) ⊛ ‵ Sixth) (apart_last 𝓛 T₀ T₁ T₂ T₃ T₄ Sixth) $ split ! $ move ! (0 ∷ 2 ∷ []) $ join ! $
+    use1 𝓛 (raw (Five) ⊛ ‵ Sixth) (apart_last 𝓛 T₀ T₁ T₂ T₃ T₄ Sixth) $ split ! $
+    move ! (0 ∷ 2 ∷ []) $ join ! $
     move ! (0 ∷ 3 ∷ []) $ join ! $
     let κs₂ : Lfts 5 = (κs.0, (κs.1.0, (κs.1.1.0, (κs.1.1.1.0, (κs.1.1.1.1.0, tt))))) in
     let qs₂ : Shares 5 = (qs.0, (qs.1.0, (qs.1.1.0, (qs.1.1.1.0, (qs.1.1.1.1.0, tt))))) in
@@ -189,11 +201,14 @@ insert_with_hasher_spec 𝓤 𝓛 𝓜 𝓡 wired K V S T F LK LV LS LT LF e de 
     let Back' : Out.Denot → Type 0 = λ r. IfErr r (λ e. e ≡ (k, u)) in
     use1 𝓛 (raw (Y₂.pre y₂)) (id⊢ 𝓤 (Y₂.pre y₂)) $
     calls_at ! (framed 𝓤 H 𝓜 𝓣) Y₂ (lent.met 𝓤 𝓛 𝓜 𝓡
-    (code.calls-hashlink_map::raw_entry::occupied::RawOccupiedEntryMut+K+V+S::pair_of 𝓡.env wired) K V S T LK LV LS
+    (code.calls-hashlink_map::raw_entry::occupied::RawOccupiedEntryMut+K+V+S::pair_of 𝓡.env wired)
+    K V S T LK LV LS
     LT e de p dp h dh b db w dw dd me mp mh mb mw md) y₂
     (and_then ! (get ! refl) (no_more !)) (λ v₂.
-    use1 𝓛 (later (some (λ (r : Out.Denot). (raw Five ⊛ ‵ (Out.own_val r (v₂ ∷ []))) ⊛ some (λ (ls : Lasts E₂ κs₂
-    (g, tt)). ‵ (lasts E₂ κs₂ (g, tt) ls) ⊛ (raw (Ties r) ⊛ raw (fact 𝓤 (Pair r)) ⊛ raw (fact 𝓤 (Given r)))))))
+    use1 𝓛 (later (some (λ (r : Out.Denot). (raw Five ⊛ ‵ (Out.own_val r (v₂ ∷ []))) ⊛ some
+    (λ (ls : Lasts E₂ κs₂
+    (g, tt)). ‵ (lasts E₂ κs₂ (g, tt) ls) ⊛
+    (raw (Ties r) ⊛ raw (fact 𝓤 (Pair r)) ⊛ raw (fact 𝓤 (Given r)))))))
     (id⊢ 𝓤 (Y₂.post y₂ v₂)) $
     await ! tt $ pick ! (λ r. split ! $ move ! (1 ∷ []) $ pick ! (λ ls₂. split ! $ drop ! $ split ! $
     move ! (1 ∷ []) $ split ! $ heard ! (Pair r) (λ pair. heard ! (Given r) (λ given.
@@ -210,7 +225,8 @@ insert_with_hasher_spec 𝓤 𝓛 𝓜 𝓡 wired K V S T F LK LV LS LT LF e de 
     (new_written me.laws old k u g adds last)) $
     use0 𝓛 (raw (fact 𝓤 (Pair' r))) (fact_i 𝓤 (Pair' r) (emp 𝓤) (ok_carried g r (λ q. (q.0.now ≡ k) ×
     (q.1.now ≡ u)) pair (new_parts me.laws old k u g adds last))) $
-    use0 𝓛 (raw (fact 𝓤 (Back' r))) (fact_i 𝓤 (Back' r) (emp 𝓤) (err_carried g r (λ e. e ≡ (k, u)) given back)) $
+    use0 𝓛 (raw (fact 𝓤 (Back' r)))
+    (fact_i 𝓤 (Back' r) (emp 𝓤) (err_carried g r (λ e. e ≡ (k, u)) given back)) $
     move ! (1 ∷ 0 ∷ []) $ join ! $ move ! (1 ∷ 0 ∷ []) $ join ! $
     -- [what is ensured; the result; the tokens]
     nothing ! $ nothing ! $ fjoin ! $ nothing ! $ fjoin ! $ nothing ! $ fjoin ! $ nothing ! $ fjoin ! $

@@ -15,7 +15,8 @@ use Rattle.hashlink_nodes.proofs.ArenaSharing.{blocks_lent_laws, Lends-blocks}
 
 pub shares : (R : RattleType) (L : Laws R) → statement R L
 shares R L =
-    of_Lends (C.struct R) (C.the_codes R.Denot R.coded (marker.the_row RawPtr).coded) (C.the_heap R) (C.the_lent R)
+    of_Lends (C.struct R) (C.the_codes R.Denot R.coded (marker.the_row RawPtr).coded)
+    (C.the_heap R) (C.the_lent R)
     (λ d p. blocks_lent_laws R L.shr_laws d.blocks)
     (copy_shared (marker.the_field RawPtr) (field_copy (marker.the_type RawPtr) tt), tt)
     (λ M 𝓤 𝓛 d p. Lends-blocks 𝓛 (C.the_row R).lives R L

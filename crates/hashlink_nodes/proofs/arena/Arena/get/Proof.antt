@@ -60,20 +60,24 @@ get_spec 𝓤 𝓛 𝓜 𝓡 wired T L =
     let Run : List Val → SProp 𝓤 = λ ws. WpFn 𝓤 H 𝓣.C 𝓣.Λ fn ws Post in
     let a = z.0.3.0.now in let rb = z.0.3.0.ref_ptr.0 in let ro = z.0.3.0.ref_ptr.1 in let n = z.0.3.1.0 in
     let toks = ‵ (flft κs.0 qs.0) ⊛ ‵ (flft κs.1.0 qs.1.0) ⊛ ‵ ftrue in
-    qed 𝓛 ((toks ⊛ ‵ (owns (types_at En.signature.params κs) z.0.3 z.0.4)) ∷ raw ((c κs z.0.3).requires z.1) ∷ []) ∵
+    qed 𝓛 ((toks ⊛ ‵ (owns (types_at En.signature.params κs) z.0.3 z.0.4)) ∷ raw
+    ((c κs z.0.3).requires z.1) ∷ []) ∵
     split ! $ move ! (2 ∷ []) $
-    use1 𝓛 (raw (fact 𝓤 (κs.1.0 ⊑ T.lives)) ⊛ raw (fact 𝓤 (IsSome (lookup (same_node n) a.blocks)))) (id⊢ 𝓤 _) $ split
+    use1 𝓛 (raw (fact 𝓤 (κs.1.0 ⊑ T.lives)) ⊛ raw (fact 𝓤 (IsSome (lookup (same_node n) a.blocks))))
+    (id⊢ 𝓤 _) $ split
     ! $ drop ! $ heard ! _ (λ held.
     let x = (found _ held).0 in let is_x = (found _ held).1 in
     move ! (1 ∷ []) $ fsplit ! $ fsplit ! $ feq_l !
     (λ e0. move ! (1 ∷ []) $ fsplit ! $ word_had ! n.at z.0.4.1.0 (λ e1. drop ! $
     suffices ! (Run (vptr rb ro ∷ word n.at ∷ []))
-    (subst (λ (ws : List Val × List Val). ent 𝓤 (Run (vptr rb ro ∷ word n.at ∷ [])) (Run (ws.0 ++ (ws.1 ++ []))))
+    (subst (λ (ws : List Val × List Val). ent 𝓤 (Run (vptr rb ro ∷ word n.at ∷ []))
+    (Run (ws.0 ++ (ws.1 ++ []))))
     (λ j. (sym e0 j, sym e1 j)) (id⊢ 𝓤 _))
     $
     enter ! 𝓣.C 𝓣.Λ fn (vptr rb ro ∷ word n.at ∷ []) Post $ alloc_all !
     (λ l. pass_all ! refl ((tt, tt), (word-Good [] n.at, tt)) $ let Ev = env fn.locals l in
-    unhide ! $ fsplit ! $ drop ! $ use1 𝓛 (‵ (lent_at R n.at x κs.0)) (block_seen R 𝓛 n κs.0 a.blocks x is_x) $
+    unhide ! $ fsplit ! $ drop ! $ use1 𝓛 (‵ (lent_at R n.at x κs.0))
+    (block_seen R 𝓛 n κs.0 a.blocks x is_x) $
     in_a_block ! n.at (λ p. lent_at R p x κs.0)
     (qed 𝓛 (‵ (lent_at R null_ptr x κs.0) ∷ []) ∵ fsplit ! $ keep ! (0 ∷ []) $ done !) (λ b o e.
     let out : Bor T.Denot = record { ref_ptr = (b, o); now = x } in

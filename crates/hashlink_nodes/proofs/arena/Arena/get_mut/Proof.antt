@@ -11,8 +11,10 @@ use base.Logic.{SProp, ent, sep, emp, never, id⊢, fst∗}
 use base.Fml.{Fml, GName, ftrue, flft, fsep}
 use prog.Wp.{WpFn}
 use types.Logic.{Logic, sem}
-use types.Kit.{‵, raw, ◌⊛◌, some, later, at_ret, ◌$◌, ◌∵◌, !, qed, by, move, keep, drop, split, split3, join, group}
-use types.Kit.{fsplit, fsplit3, fjoin, fjoin3, fpack, pick, await, rewrite, use0, use1, use2, suffices, feq_l, done}
+use types.Kit.{‵, raw, ◌⊛◌, some, later, at_ret, ◌$◌, ◌∵◌, !, qed, by, move, keep, drop, split, split3, join}
+use types.Kit.{group}
+use types.Kit.{fsplit, fsplit3, fjoin, fjoin3, fpack, pick, await, rewrite, use0, use1, use2, suffices, feq_l}
+use types.Kit.{done}
 use types.Run.{stop, fld, of_opd, addr, first, blocks, exec, returns, enter}
 use types.ByLocal.{alloc_all, pass_all, free_all, look_at, get, get_in, through, sets, sets_last, is, env}
 use types.Part.{sub, whole}
@@ -46,8 +48,8 @@ use Rattle.hashlink_nodes.specs.contracts.arena.Arena.get_mut.Key.{name as #self
 use Rattle.hashlink_nodes.proofs.arena.Arena.get_mut.Statement.{statement}
 use Rattle.hashlink_nodes.proofs.arena.Arena.get_mut.Code as code
 
-module _ (R : RattleType) {M : Type 1} {𝓤 : Ura M} (𝓛 : Logic 𝓤) (a : Arena R.Denot) (n : Node) (rb ro b o : ℕ)
-    (vs : List Val) where
+module _ (R : RattleType) {M : Type 1} {𝓤 : Ura M} (𝓛 : Logic 𝓤) (a : Arena R.Denot)
+    (n : Node) (rb ro b o : ℕ) (vs : List Val) where
   -- all but the value
   abbrev Rest : Fml
   Rest =
@@ -61,13 +63,16 @@ module _ (R : RattleType) {M : Type 1} {𝓤 : Ura M} (𝓛 : Logic 𝓤) (a : A
       (sem 𝓛 ((mem (the_row R)).own_at (with_value a n w) rb ro))
   unfolding part_of
   back x is_x e w =
-      qed 𝓛 (‵ (part_at R full_share w b o) ∷ ‵ Rest ∷ []) ∵ move ! (1 ∷ []) $ fsplit3 ! $ move ! (2 ∷ []) $ fsplit !
+      qed 𝓛 (‵ (part_at R full_share w b o) ∷ ‵ Rest ∷ []) ∵ move ! (1 ∷ []) $ fsplit3 ! $
+      move ! (2 ∷ []) $ fsplit !
       $ move ! (4 ∷ 2 ∷ []) $ fjoin ! $
       rewrite ! 0 (λ (p : Ptr). ‵ (box_owns free_right R p w)) (sym e) refl $ move ! (0 ∷ 3 ∷ []) $
-      use2 𝓛 (‵ (blocks_own R (set_value (same_node n) a.blocks w))) (blocks_glue R 𝓛 n a.blocks x w is_x) $ move !
+      use2 𝓛 (‵ (blocks_own R (set_value (same_node n) a.blocks w))) (blocks_glue R 𝓛 n a.blocks x w is_x) $
+      move !
       (1 ∷ 0 ∷ []) $ fjoin ! $ move ! (1 ∷ 0 ∷ []) $ fjoin ! $
       fpack ! (List Val)
-      (λ us. fsep (cell_at full_share (the_row R).mir us rb ro) ((the_row R).own_val (with_value a n w) us)) vs $ done
+      (λ us. fsep (cell_at full_share (the_row R).mir us rb ro) ((the_row R).own_val (with_value a n w) us))
+      vs $ done
       !
 
 pub get_mut_spec : {M : Type 1} → statement M
@@ -78,27 +83,36 @@ get_mut_spec 𝓤 𝓛 𝓜 𝓡 wired T L =
     let inst = layouts (a_type ∷ []) (T, tt) in
     let fn = inst_fn inst code.function in let Ar : RattleType = the_row R in
     let hs : Stays En.signature.params En.kept
-    = (stay_dropped (mut_ref_to (0 ∷ []) tt (plain (λ _. Ar))) no, (stay_dropped (plain (λ _. Nd)) yes, tt)) in
-    proved_at 𝓛 En hs c 𝓜 𝓡
-    (Goes-spent_ref 𝓛 2 (0 ∷ []) tt (plain (λ _. Ar)), (Goes-dropped 𝓛 2 (plain (λ _. Nd)) yes (λ κs x f. refl), tt))
+    = (
+      stay_dropped (mut_ref_to (0 ∷ []) tt (plain (λ _. Ar))) no,
+      (stay_dropped (plain (λ _. Nd)) yes, tt),
+    ) in
+    proved_at 𝓛 En hs c 𝓜 𝓡 (
+      Goes-spent_ref 𝓛 2 (0 ∷ []) tt (plain (λ _. Ar)),
+      (Goes-dropped 𝓛 2 (plain (λ _. Nd)) yes (λ κs x f. refl), tt),
+    )
     (#self inst) fn (code.unfolded 𝓤 H 𝓜 𝓡 wired (T, tt)) (λ z are.
     let κs = z.0.0 in
     let qs = z.0.1 in
     let Post : Val → SProp 𝓤 = (walk_of 𝓛 En hs c).post z in
     let Run : List Val → SProp 𝓤 = λ ws. WpFn 𝓤 H 𝓣.C 𝓣.Λ fn ws Post in
     let a = z.0.3.0.now in
-    let rb = z.0.3.0.ref_ptr.0 in let ro = z.0.3.0.ref_ptr.1 in let γ = z.0.3.0.ghost_name in let n = z.0.3.1.0 in
+    let rb = z.0.3.0.ref_ptr.0 in let ro = z.0.3.0.ref_ptr.1 in let γ =
+    z.0.3.0.ghost_name in let n = z.0.3.1.0 in
     let toks = ‵ (flft κs.0 qs.0) ⊛ ‵ (flft κs.1.0 qs.1.0) ⊛ ‵ ftrue in
-    qed 𝓛 ((toks ⊛ ‵ (owns (types_at En.signature.params κs) z.0.3 z.0.4)) ∷ raw ((c κs z.0.3).requires z.1) ∷ []) ∵
+    qed 𝓛 ((toks ⊛ ‵ (owns (types_at En.signature.params κs) z.0.3 z.0.4)) ∷ raw
+    ((c κs z.0.3).requires z.1) ∷ []) ∵
     split ! $ move ! (2 ∷ []) $
-    use1 𝓛 (raw (fact 𝓤 (κs.1.0 ⊑ T.lives)) ⊛ raw (fact 𝓤 (IsSome (lookup (same_node n) a.blocks)))) (id⊢ 𝓤 _) $ split
+    use1 𝓛 (raw (fact 𝓤 (κs.1.0 ⊑ T.lives)) ⊛ raw (fact 𝓤 (IsSome (lookup (same_node n) a.blocks))))
+    (id⊢ 𝓤 _) $ split
     ! $ drop ! $ heard ! _ (λ held.
     let x = (found _ held).0 in let is_x = (found _ held).1 in
     move ! (1 ∷ []) $ fsplit ! $ fsplit3 ! $ feq_l !
     (λ e0. move ! (2 ∷ []) $ fsplit ! $ word_had ! n.at z.0.4.1.0 (λ e1. drop ! $
     -- [obs; the borrow; the tokens]
     suffices ! (Run (vptr rb ro ∷ word n.at ∷ []))
-    (subst (λ (ws : List Val × List Val). ent 𝓤 (Run (vptr rb ro ∷ word n.at ∷ [])) (Run (ws.0 ++ (ws.1 ++ []))))
+    (subst (λ (ws : List Val × List Val). ent 𝓤 (Run (vptr rb ro ∷ word n.at ∷ []))
+    (Run (ws.0 ++ (ws.1 ++ []))))
     (λ j. (sym e0 j, sym e1 j)) (id⊢ 𝓤 _))
     $
     move ! (2 ∷ []) $ split3 ! $ move ! (3 ∷ 4 ∷ 0 ∷ []) $
@@ -109,19 +123,23 @@ get_mut_spec 𝓤 𝓛 𝓜 𝓡 wired T L =
     (blocks_cut R 𝓛 n a.blocks x is_x) $ split ! $
     in_a_block ! n.at (λ p. box_owns free_right R p x)
     (fst∗ 𝓤 (never 𝓤) (sem 𝓛 (free_right (bare (lone R.mir)) null_ptr))) (λ b o e. fsplit ! $
-    -- [the value; its deed; the other blocks; the mark; its cell; the open borrow; obs; auth; the other tokens]
+    -- [the value; its deed; the other blocks; the mark; its cell; the open borrow; obs; auth; the other
+    -- tokens]
     let way = back R 𝓛 a n rb ro b o vs x is_x e in
     let new = with_value a n in let Left = sem 𝓛 (Rest R 𝓛 a n rb ro b o vs) in
     first ! $ blocks ! $ sets !
     (is ! (of_opd ! (get_in ! (fld ! refl (stop !)) (sub ! 0 refl (whole !)))) (ap ptr_val e)) refl (tt, tt) $
     sets_last ! (addr ! (through ! refl (stop !))) refl (tt, tt) $
     exec ! 𝓣.C 𝓣.Λ Ev (after 1 fn.body) (at_ret Ev Post) $ sets ! (of_opd ! (get ! refl)) refl (tt, tt) $
-    move ! (2 ∷ 3 ∷ 4 ∷ []) $ fjoin3 ! $ move ! (2 ∷ 0 ∷ []) $ fjoin ! $ move ! (2 ∷ 3 ∷ 4 ∷ 1 ∷ 0 ∷ []) $ group ! 5 $
+    move ! (2 ∷ 3 ∷ 4 ∷ []) $ fjoin3 ! $ move ! (2 ∷ 0 ∷ []) $ fjoin ! $
+    move ! (2 ∷ 3 ∷ 4 ∷ 1 ∷ 0 ∷ []) $ group ! 5 $
     use1 𝓛 (later (some (λ (δ : GName). raw (Part 𝓛 Ar R new (named 0) κs.0 qs.0 rb ro b o γ Left way x δ))))
-    (lends_Part 𝓛 Ar R new (named 0) κs.0 qs.0 rb ro b o γ Left way (Ar.coded.code a) (Ar.coded.code a) x) $ await !
+    (lends_Part 𝓛 Ar R new (named 0) κs.0 qs.0 rb ro b o γ Left way (Ar.coded.code a) (Ar.coded.code a) x) $
+    await !
     tt $ pick ! (λ δ.
     let out : MutBor T.Denot = record { ref_ptr = (b, o); ghost_name = δ; now = x } in
-    use1 𝓛 (‵ ((MutRef (named 0) κs.0 R).own_val out (vptr b o ∷ [])) ⊛ ‵ (flft κs.0 qs.0) ⊛ ‵ (follows Ar R γ δ new))
+    use1 𝓛 (‵ ((MutRef (named 0) κs.0 R).own_val out (vptr b o ∷ [])) ⊛ ‵ (flft κs.0 qs.0) ⊛
+    ‵ (follows Ar R γ δ new))
     (id⊢ 𝓤 _) $ split3 ! $
     -- [the value's borrow; its token; what the arena follows; the other tokens]
     use0 𝓛 (raw (fact 𝓤 (lookup (same_node n) a.blocks ≡ Some x)))

@@ -9,7 +9,8 @@ use base.Logic.{SProp, ent, emp, never, id⊢, fst∗}
 use base.Fml.{ftrue, flft}
 use prog.Wp.{WpFn}
 use types.Logic.{sem}
-use types.Kit.{‵, raw, ◌⊛◌, ◌$◌, ◌∵◌, !, qed, by, move, keep, drop, split, split3, join, group, fsplit, fsplit3}
+use types.Kit.{‵, raw, ◌⊛◌, ◌$◌, ◌∵◌, !, qed, by, move, keep, drop, split, split3, join, group, fsplit}
+use types.Kit.{fsplit3}
 use types.Kit.{fjoin, fjoin3, use0, use1, suffices, feq_i, feq_l}
 use types.Run.{stop, fld, of_opd, and_then, no_more, returns, enter}
 use types.ByLocal.{alloc_all, pass_all, free_all, look_at, get, get_in, sets, is}
@@ -51,7 +52,8 @@ give_back_spec 𝓤 𝓛 𝓜 𝓡 wired T L =
     let R : RattleType = param 0 T in let En = ended T in let c = clauses T 𝓛 𝓜.mem 𝓡.returns in
     let inst = layouts (a_type ∷ []) (T, tt) in
     let fn = inst_fn inst code.function in let Ar : RattleType = the_row R in
-    let Z : RattleType = heap.the_row in let LZ = heap_laws.the_row_laws in let Lr : RattleType = Lo R Z LZ ghosts in
+    let Z : RattleType = heap.the_row in let LZ = heap_laws.the_row_laws in let Lr : RattleType =
+    Lo R Z LZ ghosts in
     let hs : Stays En.signature.params En.kept
     = (
       stay_ref (0 ∷ []) tt (plain (λ _. Ar)),
@@ -71,11 +73,14 @@ give_back_spec 𝓤 𝓛 𝓜 𝓡 wired T L =
     let Post : Val → SProp 𝓤 = (walk_of 𝓛 En hs c).post z in
     let Run : List Val → SProp 𝓤 = λ ws. WpFn 𝓤 H 𝓣.C 𝓣.Λ fn ws Post in
     let a = z.0.3.0.now in
-    let rb = z.0.3.0.ref_ptr.0 in let ro = z.0.3.0.ref_ptr.1 in let n = z.0.3.1.0 in let alloc = z.0.3.1.1.0 in
+    let rb = z.0.3.0.ref_ptr.0 in let ro = z.0.3.0.ref_ptr.1 in let n =
+    z.0.3.1.0 in let alloc = z.0.3.1.1.0 in
     let toks = ‵ (flft κs.0 qs.0) ⊛ ‵ (flft κs.1.0 qs.1.0) ⊛ ‵ ftrue in
-    qed 𝓛 ((toks ⊛ ‵ (owns (types_at En.signature.params κs) z.0.3 z.0.4)) ∷ raw ((c κs z.0.3).requires z.1) ∷ []) ∵
+    qed 𝓛 ((toks ⊛ ‵ (owns (types_at En.signature.params κs) z.0.3 z.0.4)) ∷ raw
+    ((c κs z.0.3).requires z.1) ∷ []) ∵
     split ! $ move ! (2 ∷ []) $
-    use1 𝓛 (raw (fact 𝓤 (κs.1.0 ⊑ T.lives)) ⊛ raw (fact 𝓤 (IsSome (lookup (same_node n) a.blocks)))) (id⊢ 𝓤 _) $ split
+    use1 𝓛 (raw (fact 𝓤 (κs.1.0 ⊑ T.lives)) ⊛ raw (fact 𝓤 (IsSome (lookup (same_node n) a.blocks))))
+    (id⊢ 𝓤 _) $ split
     ! $ drop ! $ heard ! _ (λ held.
     let x = (found _ held).0 in
     let is_x = (found _ held).1 in
@@ -93,17 +98,20 @@ give_back_spec 𝓤 𝓛 𝓜 𝓡 wired T L =
     $
     enter ! 𝓣.C 𝓣.Λ fn (vptr rb ro ∷ word n.at ∷ h ∷ []) Post $ alloc_all !
     (λ l. pass_all ! refl ((tt, tt), (word-Good [] n.at, (fits, tt))) $
-    move ! (4 ∷ 5 ∷ 0 ∷ []) $ opens ! tt Ar {h = a} rb ro (λ vs. move ! (1 ∷ []) $ fsplit ! $ move ! (1 ∷ []) $
+    move ! (4 ∷ 5 ∷ 0 ∷ []) $ opens ! tt Ar {h = a} rb ro
+    (λ vs. move ! (1 ∷ []) $ fsplit ! $ move ! (1 ∷ []) $
     use1 𝓛 (‵ (box_owns free_right R n.at x) ⊛ ‵ (blocks_own R (remove_entry (same_node n) a.blocks)))
     (blocks_cut R 𝓛 n a.blocks x is_x) $ split ! $
     in_a_block ! n.at (λ p. box_owns free_right R p x)
     (fst∗ 𝓤 (never 𝓤) (sem 𝓛 (free_right (bare (lone R.mir)) null_ptr))) (λ b o e.
     let out : Lr.Denot = record { at = block_ptr b o; alloc = alloc; value = x } in
     -- [the block; the others; the mark; its cell; the open borrow; obs; auth; a token; nothing; the handle]
-    sets ! (is ! (of_opd ! (get_in ! (fld ! refl (stop !)) (sub ! 0 refl (whole !)))) (ap ptr_val e)) refl (tt, tt) $
+    sets ! (is ! (of_opd ! (get_in ! (fld ! refl (stop !)) (sub ! 0 refl (whole !)))) (ap ptr_val e)) refl
+    (tt, tt) $
     sets ! (agg ! (and_then ! (get ! refl) (and_then ! (get ! refl) (no_more !)))) refl
     (loose_good R Z LZ ghosts b o h fits) $
-    move ! (1 ∷ 2 ∷ []) $ move ! (1 ∷ 0 ∷ []) $ fjoin ! $ move ! (2 ∷ 0 ∷ 3 ∷ 4 ∷ 5 ∷ []) $ closes ! tt Ar new vs rb
+    move ! (1 ∷ 2 ∷ []) $ move ! (1 ∷ 0 ∷ []) $ fjoin ! $ move ! (2 ∷ 0 ∷ 3 ∷ 4 ∷ 5 ∷ []) $
+    closes ! tt Ar new vs rb
     ro $
     -- [obs; the borrow; its token; the block; a token; nothing; the handle]
     move ! (3 ∷ 6 ∷ []) $ loose_in R Z LZ ghosts ! b o h alloc x $

@@ -24,7 +24,8 @@ returns g c =
                 (record { value = record { links = b.links; held = body_with b.held w } }))
                 c.deref_mut-block.ensures.value
                 ∙ sym
-                (alter_is (same_node c.args.node) (kept_with w) bs c.get_mut.result.now c.get_mut.ensures.value))
+                (alter_is (same_node c.args.node) (kept_with w) bs c.get_mut.result.now
+                c.get_mut.ensures.value))
                 i;
           };
         },

@@ -17,4 +17,5 @@ returns-clause-is g c =
     (new (held_in (lookup (same_node c.args.node) c.args.self.now.arena.blocks))) c.replace_value.new.self
     (c.replace_value.ensures.is
     ∙ sym
-    (ap new (ap held_in c.get_mut.ensures.value ∙ ap (λ (b : B). b.held) (sym c.deref_mut-block.ensures.value))))
+    (ap new (ap held_in c.get_mut.ensures.value ∙ ap (λ (b : B). b.held)
+    (sym c.deref_mut-block.ensures.value))))

@@ -4,7 +4,8 @@ use mir.Val.{Val, vptr, vunit}
 use base.Logic.{SProp, ent, emp, id⊢}
 use base.Fml.{ftrue, flft}
 use prog.Wp.{WpFn}
-use types.Kit.{‵, raw, ◌⊛◌, ◌$◌, ◌∵◌, !, qed, by, move, keep, drop, split, join, fsplit, fsplit3, fjoin, fjoin3, use0}
+use types.Kit.{‵, raw, ◌⊛◌, ◌$◌, ◌∵◌, !, qed, by, move, keep, drop, split, join, fsplit, fsplit3, fjoin}
+use types.Kit.{fjoin3, use0}
 use types.Kit.{suffices, feq_i, feq_l}
 use types.Run.{of_opd, unit_lit, returns, enter}
 use types.ByLocal.{alloc_all, pass_all, free_all, look_at, sets}
@@ -24,9 +25,11 @@ use Rattle.hashlink_nodes.proofs.link_writes.LinkWrites.raise.Code as code
 
 pub raise_spec : {M : Type 1} → statement M
 raise_spec 𝓤 𝓛 𝓜 𝓡 wired =
-    let H = 𝓛.H in let 𝓣 = tables 𝓤 H 𝓜 𝓡 𝓡.env in let c = clauses 𝓛 𝓜.mem 𝓡.returns in let fn = code.function in
+    let H = 𝓛.H in let 𝓣 = tables 𝓤 H 𝓜 𝓡 𝓡.env in let c = clauses 𝓛 𝓜.mem 𝓡.returns in let fn =
+    code.function in
     let hs : Stays ended.signature.params ended.kept = (stay_ref (0 ∷ []) tt (plain (λ _. the_row)), tt) in
-    proved_at 𝓛 ended hs c 𝓜 𝓡 (Goes-ref 𝓛 1 0 tt (plain (λ _. the_row)), tt) #self fn (code.unfolded 𝓤 H 𝓜 𝓡 wired)
+    proved_at 𝓛 ended hs c 𝓜 𝓡 (Goes-ref 𝓛 1 0 tt (plain (λ _. the_row)), tt) #self fn
+    (code.unfolded 𝓤 H 𝓜 𝓡 wired)
     (λ z are.
     let κs = z.0.0 in
     let qs = z.0.1 in

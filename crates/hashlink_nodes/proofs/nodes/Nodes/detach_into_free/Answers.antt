@@ -5,7 +5,8 @@ use Rattle.hashlink_nodes.specs.Node.{same_node}
 use Rattle.hashlink_nodes.specs.Cells.{state_of}
 use Rattle.hashlink_nodes.specs.State.{State}
 use Rattle.hashlink_nodes.specs.Ring.{Ring, Held, pair_of}
-use Rattle.hashlink_nodes.proofs.Sound.{node_of, has_detached, held_detached, has_held, facts, none_some, same_some}
+use Rattle.hashlink_nodes.proofs.Sound.{node_of, has_detached, held_detached, has_held, facts, none_some}
+use Rattle.hashlink_nodes.proofs.Sound.{same_some}
 use Rattle.hashlink_nodes.proofs.Moving.{remove_done, remove_writes}
 use Rattle.hashlink_nodes.proofs.nodes.Nodes.detach_into_free.Goals as goal
 
@@ -71,8 +72,8 @@ overflow_add-self g c =
       fits =
           omega (
             arith,
-            (facts (state_of c.self.inside.cells) c.self.inside.guard c.self.inside.first_spare c.self.inside.len
-                c.self.inside.spare c.self.invariant c.args.self.now c.self.view_is).small,
+            (facts (state_of c.self.inside.cells) c.self.inside.guard c.self.inside.first_spare
+                c.self.inside.len c.self.inside.spare c.self.invariant c.args.self.now c.self.view_is).small,
           );
     }
 
@@ -80,7 +81,8 @@ pub invariant_of-self : goal.invariant_of-self
 invariant_of-self g c =
     (remove_done (state_of c.self.inside.cells) (state_of c.detach.new.self) (state_of c.hold.new.self)
     (state_of c.store_next.new.self) c.self.inside.guard c.self.inside.first_spare c.self.inside.len
-    c.self.inside.spare c.self.invariant c.args.self.now c.self.view_is c.args.node c.requires c.detach.ensures
+    c.self.inside.spare c.self.invariant c.args.self.now c.self.view_is c.args.node
+    c.requires c.detach.ensures
     c.hold.ensures.is c.store_next.ensures).sound
 
 pub returns-clause-pair : goal.returns-clause-pair
@@ -105,14 +107,16 @@ pub returns-clause-entries : goal.returns-clause-entries
 returns-clause-entries g c =
     (remove_done (state_of c.self.inside.cells) (state_of c.detach.new.self) (state_of c.hold.new.self)
     (state_of c.store_next.new.self) c.self.inside.guard c.self.inside.first_spare c.self.inside.len
-    c.self.inside.spare c.self.invariant c.args.self.now c.self.view_is c.args.node c.requires c.detach.ensures
+    c.self.inside.spare c.self.invariant c.args.self.now c.self.view_is c.args.node
+    c.requires c.detach.ensures
     c.hold.ensures.is c.store_next.ensures).entries
 
 pub returns-clause-free : goal.returns-clause-free
 returns-clause-free g c =
     (remove_done (state_of c.self.inside.cells) (state_of c.detach.new.self) (state_of c.hold.new.self)
     (state_of c.store_next.new.self) c.self.inside.guard c.self.inside.first_spare c.self.inside.len
-    c.self.inside.spare c.self.invariant c.args.self.now c.self.view_is c.args.node c.requires c.detach.ensures
+    c.self.inside.spare c.self.invariant c.args.self.now c.self.view_is c.args.node
+    c.requires c.detach.ensures
     c.hold.ensures.is c.store_next.ensures).free
 
 pub returns-clause-link_writes : goal.returns-clause-link_writes

@@ -22,7 +22,9 @@ pair-requires-clause-held g c =
 pub returns : goal.returns
 returns g c =
     let H : Type 0 = Held g.row.K.Denot g.row.V.Denot in let R : Type 0 = Ring g.row.K.Denot g.row.V.Denot in
-    let found = node_of (state_of c.self.inside.cells) c.self.inside.guard c.self.inside.first_spare c.self.inside.len
+    let found = node_of (state_of c.self.inside.cells) c.self.inside.guard c.self.inside.first_spare
+    c.self.inside.len
     c.self.inside.spare c.self.invariant c.args.self.now c.self.view_is c.args.node c.requires in
-    ap (λ (r : R). option_map (λ (h : H). pair_of h) (lookup (same_node c.args.node) r.entries)) (sym c.self.view_is)
+    ap (λ (r : R). option_map (λ (h : H). pair_of h) (lookup (same_node c.args.node) r.entries))
+    (sym c.self.view_is)
     ∙ ap (option_map (λ (h : H). pair_of h)) (found.looked ∙ sym found.holds) ∙ c.pair.ensures

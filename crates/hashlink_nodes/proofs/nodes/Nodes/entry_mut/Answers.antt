@@ -7,26 +7,29 @@ use Rattle.hashlink_nodes.proofs.nodes.Nodes.entry_mut.Goals as goal
 
 pub entry_mut-requires-clause-has : goal.entry_mut-requires-clause-has
 entry_mut-requires-clause-has g c =
-    (lent-from c.self.inside.cells c.self.inside.guard c.self.inside.first_spare c.self.inside.len c.self.inside.spare
+    (lent-from c.self.inside.cells c.self.inside.guard c.self.inside.first_spare c.self.inside.len
+    c.self.inside.spare
     c.self.invariant c.args.self.now c.self.view_is c.args.node c.requires).has_node
 
 pub entry_mut-requires-clause-held : goal.entry_mut-requires-clause-held
 entry_mut-requires-clause-held g c =
     ap is_some
-    (lent-from c.self.inside.cells c.self.inside.guard c.self.inside.first_spare c.self.inside.len c.self.inside.spare
+    (lent-from c.self.inside.cells c.self.inside.guard c.self.inside.first_spare c.self.inside.len
+    c.self.inside.spare
     c.self.invariant c.args.self.now c.self.view_is c.args.node c.requires).holds
 
 pub invariant_of-self-lent : goal.invariant_of-self-lent
 invariant_of-self-lent g c =
-    lent-sound c.self.inside.cells c.self.inside.guard c.self.inside.first_spare c.self.inside.len c.self.inside.spare
+    lent-sound c.self.inside.cells c.self.inside.guard c.self.inside.first_spare c.self.inside.len
+    c.self.inside.spare
     c.self.invariant c.args.self.now c.self.view_is c.args.node c.requires
 
 pub returns : goal.returns
 returns g c = (
   (
     refl,
-    lent-ring c.self.inside.cells c.self.inside.guard c.self.inside.first_spare c.self.inside.len c.self.inside.spare
-        c.self.invariant c.args.self.now c.self.view_is c.args.node c.requires,
+    lent-ring c.self.inside.cells c.self.inside.guard c.self.inside.first_spare c.self.inside.len
+        c.self.inside.spare c.self.invariant c.args.self.now c.self.view_is c.args.node c.requires,
   ),
   record {
     lends = tt;

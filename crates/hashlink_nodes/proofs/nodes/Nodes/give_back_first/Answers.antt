@@ -97,7 +97,8 @@ invariant_of-self g c =
     c.self.inside.len c.self.inside.spare c.args.self.now
     (opened (state_of c.self.inside.cells) c.self.inside.guard c.in-Some.guard c.self.inside.first_spare
     c.self.inside.len c.self.inside.spare c.self.invariant c.in-Some.is c.args.self.now c.self.view_is)
-    c.requires (state_of c.detach.new.self) (state_of c.give_back.new.self) c.next-node.result c.next-node.ensures
+    c.requires (state_of c.detach.new.self) (state_of c.give_back.new.self) c.next-node.result
+    c.next-node.ensures
     c.detach.ensures c.give_back.ensures.dropped).sound
 
 pub returns-clause-held : goal.returns-clause-held
@@ -127,7 +128,8 @@ returns-clause-entries g c =
     c.self.inside.len c.self.inside.spare c.args.self.now
     (opened (state_of c.self.inside.cells) c.self.inside.guard c.in-Some.guard c.self.inside.first_spare
     c.self.inside.len c.self.inside.spare c.self.invariant c.in-Some.is c.args.self.now c.self.view_is)
-    c.requires (state_of c.detach.new.self) (state_of c.give_back.new.self) c.next-node.result c.next-node.ensures
+    c.requires (state_of c.detach.new.self) (state_of c.give_back.new.self) c.next-node.result
+    c.next-node.ensures
     c.detach.ensures c.give_back.ensures.dropped).entries
 
 pub returns-clause-free : goal.returns-clause-free
@@ -136,12 +138,15 @@ returns-clause-free g c =
     c.self.inside.len c.self.inside.spare c.args.self.now
     (opened (state_of c.self.inside.cells) c.self.inside.guard c.in-Some.guard c.self.inside.first_spare
     c.self.inside.len c.self.inside.spare c.self.invariant c.in-Some.is c.args.self.now c.self.view_is)
-    c.requires (state_of c.detach.new.self) (state_of c.give_back.new.self) c.next-node.result c.next-node.ensures
+    c.requires (state_of c.detach.new.self) (state_of c.give_back.new.self) c.next-node.result
+    c.next-node.ensures
     c.detach.ensures c.give_back.ensures.dropped).free
 
 pub returns-clause-link_writes : goal.returns-clause-link_writes
 returns-clause-link_writes g c =
     let R : Type 0 = Ring g.row.K.Denot g.row.V.Denot in
-    writes_detached (state_of c.self.inside.cells) (state_of c.detach.new.self) (state_of c.give_back.new.self)
-    c.next-node.result c.args.self.now.link_writes (ap (λ (r : R). r.link_writes) c.self.view_is) c.detach.ensures
+    writes_detached (state_of c.self.inside.cells) (state_of c.detach.new.self)
+    (state_of c.give_back.new.self)
+    c.next-node.result c.args.self.now.link_writes (ap (λ (r : R). r.link_writes) c.self.view_is)
+    c.detach.ensures
     c.give_back.ensures.dropped

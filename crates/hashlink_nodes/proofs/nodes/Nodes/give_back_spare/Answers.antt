@@ -26,7 +26,8 @@ pub overflow_sub-self : goal.overflow_sub-self
 overflow_sub-self g c =
     omega (
       arith,
-      (spare_out (state_of c.self.inside.cells) c.self.inside.guard c.self.inside.first_spare c.self.inside.len
+      (spare_out (state_of c.self.inside.cells) c.self.inside.guard c.self.inside.first_spare
+          c.self.inside.len
           c.self.inside.spare c.self.invariant c.args.self.now c.self.view_is c.requires).some,
     )
 

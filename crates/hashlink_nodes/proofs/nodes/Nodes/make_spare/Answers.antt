@@ -46,8 +46,10 @@ invariant_of-self-in_err-self-inside g c =
     (λ (x : C). Guarded (state_of x) c.in_ok-guard.guard c.self.inside.first_spare c.self.inside.len
     c.self.inside.spare c.args.self.now)
     (sym c.in_err-self-inside.ensures.refused)
-    (guard_done (state_of c.self.inside.cells) (state_of c.guard.new.self) c.self.inside.guard c.in_ok-guard.guard
-    c.self.inside.first_spare c.self.inside.len c.self.inside.spare c.self.invariant c.args.self.now c.self.view_is
+    (guard_done (state_of c.self.inside.cells) (state_of c.guard.new.self) c.self.inside.guard
+    c.in_ok-guard.guard
+    c.self.inside.first_spare c.self.inside.len c.self.inside.spare c.self.invariant
+    c.args.self.now c.self.view_is
     c.in_ok-guard.ensures.made)).sound
 
 pub returns-in_err-self-inside-clause-entries : goal.returns-in_err-self-inside-clause-entries
@@ -59,8 +61,10 @@ returns-in_err-self-inside-clause-entries g c =
     (λ (x : C). Guarded (state_of x) c.in_ok-guard.guard c.self.inside.first_spare c.self.inside.len
     c.self.inside.spare c.args.self.now)
     (sym c.in_err-self-inside.ensures.refused)
-    (guard_done (state_of c.self.inside.cells) (state_of c.guard.new.self) c.self.inside.guard c.in_ok-guard.guard
-    c.self.inside.first_spare c.self.inside.len c.self.inside.spare c.self.invariant c.args.self.now c.self.view_is
+    (guard_done (state_of c.self.inside.cells) (state_of c.guard.new.self) c.self.inside.guard
+    c.in_ok-guard.guard
+    c.self.inside.first_spare c.self.inside.len c.self.inside.spare c.self.invariant
+    c.args.self.now c.self.view_is
     c.in_ok-guard.ensures.made)).view
 
 pub returns-in_err-self-inside-clause-link_writes : goal.returns-in_err-self-inside-clause-link_writes
@@ -72,8 +76,10 @@ returns-in_err-self-inside-clause-link_writes g c =
     (λ (x : C). Guarded (state_of x) c.in_ok-guard.guard c.self.inside.first_spare c.self.inside.len
     c.self.inside.spare c.args.self.now)
     (sym c.in_err-self-inside.ensures.refused)
-    (guard_done (state_of c.self.inside.cells) (state_of c.guard.new.self) c.self.inside.guard c.in_ok-guard.guard
-    c.self.inside.first_spare c.self.inside.len c.self.inside.spare c.self.invariant c.args.self.now c.self.view_is
+    (guard_done (state_of c.self.inside.cells) (state_of c.guard.new.self) c.self.inside.guard
+    c.in_ok-guard.guard
+    c.self.inside.first_spare c.self.inside.len c.self.inside.spare c.self.invariant
+    c.args.self.now c.self.view_is
     c.in_ok-guard.ensures.made)).view
 
 pub returns-in_err-self-inside-clause-refused : goal.returns-in_err-self-inside-clause-refused
@@ -84,8 +90,10 @@ returns-in_err-self-inside-clause-refused g c =
     (λ (x : C). Guarded (state_of x) c.in_ok-guard.guard c.self.inside.first_spare c.self.inside.len
     c.self.inside.spare c.args.self.now)
     (sym c.in_err-self-inside.ensures.refused)
-    (guard_done (state_of c.self.inside.cells) (state_of c.guard.new.self) c.self.inside.guard c.in_ok-guard.guard
-    c.self.inside.first_spare c.self.inside.len c.self.inside.spare c.self.invariant c.args.self.now c.self.view_is
+    (guard_done (state_of c.self.inside.cells) (state_of c.guard.new.self) c.self.inside.guard
+    c.in_ok-guard.guard
+    c.self.inside.first_spare c.self.inside.len c.self.inside.spare c.self.invariant
+    c.args.self.now c.self.view_is
     c.in_ok-guard.ensures.made)).view
 
 pub returns-in_err-self-inside-clause-succeeds : goal.returns-in_err-self-inside-clause-succeeds
@@ -102,20 +110,26 @@ returns-in_err-self-inside-clause-succeeds g c =
 pub invariant_of-self-2 : goal.invariant_of-self-2
 invariant_of-self-2 g c =
     let room : c.self.inside.len + 1 < 2 ^ 63 = omega (arith, c.if-self-ge-MOST.false) in
-    (spare_done (state_of c.guard.new.self) (state_of c.make.new.self) c.in_ok-guard.guard c.self.inside.first_spare
+    (spare_done (state_of c.guard.new.self) (state_of c.make.new.self) c.in_ok-guard.guard
+    c.self.inside.first_spare
     c.in_ok-self-inside.field-0 c.self.inside.len c.self.inside.spare c.args.self.now
-    (guard_done (state_of c.self.inside.cells) (state_of c.guard.new.self) c.self.inside.guard c.in_ok-guard.guard
-    c.self.inside.first_spare c.self.inside.len c.self.inside.spare c.self.invariant c.args.self.now c.self.view_is
+    (guard_done (state_of c.self.inside.cells) (state_of c.guard.new.self) c.self.inside.guard
+    c.in_ok-guard.guard
+    c.self.inside.first_spare c.self.inside.len c.self.inside.spare c.self.invariant
+    c.args.self.now c.self.view_is
     c.in_ok-guard.ensures.made)
     c.if-self-gt0.false c.in_ok-self-inside.ensures.apart room c.in_ok-self-inside.ensures.made).sound
 
 pub returns-clause-entries : goal.returns-clause-entries
 returns-clause-entries g c =
     let room : c.self.inside.len + 1 < 2 ^ 63 = omega (arith, c.if-self-ge-MOST.false) in
-    (spare_done (state_of c.guard.new.self) (state_of c.make.new.self) c.in_ok-guard.guard c.self.inside.first_spare
+    (spare_done (state_of c.guard.new.self) (state_of c.make.new.self) c.in_ok-guard.guard
+    c.self.inside.first_spare
     c.in_ok-self-inside.field-0 c.self.inside.len c.self.inside.spare c.args.self.now
-    (guard_done (state_of c.self.inside.cells) (state_of c.guard.new.self) c.self.inside.guard c.in_ok-guard.guard
-    c.self.inside.first_spare c.self.inside.len c.self.inside.spare c.self.invariant c.args.self.now c.self.view_is
+    (guard_done (state_of c.self.inside.cells) (state_of c.guard.new.self) c.self.inside.guard
+    c.in_ok-guard.guard
+    c.self.inside.first_spare c.self.inside.len c.self.inside.spare c.self.invariant
+    c.args.self.now c.self.view_is
     c.in_ok-guard.ensures.made)
     c.if-self-gt0.false c.in_ok-self-inside.ensures.apart room c.in_ok-self-inside.ensures.made).entries
 
@@ -123,10 +137,13 @@ pub returns-clause-free : goal.returns-clause-free
 returns-clause-free g c =
     let room : c.self.inside.len + 1 < 2 ^ 63 = omega (arith, c.if-self-ge-MOST.false) in
     one_spare c.in_ok-self-inside.field-0 _ c.args.self.now.free
-    (spare_done (state_of c.guard.new.self) (state_of c.make.new.self) c.in_ok-guard.guard c.self.inside.first_spare
+    (spare_done (state_of c.guard.new.self) (state_of c.make.new.self) c.in_ok-guard.guard
+    c.self.inside.first_spare
     c.in_ok-self-inside.field-0 c.self.inside.len c.self.inside.spare c.args.self.now
-    (guard_done (state_of c.self.inside.cells) (state_of c.guard.new.self) c.self.inside.guard c.in_ok-guard.guard
-    c.self.inside.first_spare c.self.inside.len c.self.inside.spare c.self.invariant c.args.self.now c.self.view_is
+    (guard_done (state_of c.self.inside.cells) (state_of c.guard.new.self) c.self.inside.guard
+    c.in_ok-guard.guard
+    c.self.inside.first_spare c.self.inside.len c.self.inside.spare c.self.invariant
+    c.args.self.now c.self.view_is
     c.in_ok-guard.ensures.made)
     c.if-self-gt0.false c.in_ok-self-inside.ensures.apart room c.in_ok-self-inside.ensures.made).free
     (omega (
@@ -139,9 +156,12 @@ returns-clause-free g c =
 pub returns-clause-link_writes : goal.returns-clause-link_writes
 returns-clause-link_writes g c =
     let room : c.self.inside.len + 1 < 2 ^ 63 = omega (arith, c.if-self-ge-MOST.false) in
-    (spare_done (state_of c.guard.new.self) (state_of c.make.new.self) c.in_ok-guard.guard c.self.inside.first_spare
+    (spare_done (state_of c.guard.new.self) (state_of c.make.new.self) c.in_ok-guard.guard
+    c.self.inside.first_spare
     c.in_ok-self-inside.field-0 c.self.inside.len c.self.inside.spare c.args.self.now
-    (guard_done (state_of c.self.inside.cells) (state_of c.guard.new.self) c.self.inside.guard c.in_ok-guard.guard
-    c.self.inside.first_spare c.self.inside.len c.self.inside.spare c.self.invariant c.args.self.now c.self.view_is
+    (guard_done (state_of c.self.inside.cells) (state_of c.guard.new.self) c.self.inside.guard
+    c.in_ok-guard.guard
+    c.self.inside.first_spare c.self.inside.len c.self.inside.spare c.self.invariant
+    c.args.self.now c.self.view_is
     c.in_ok-guard.ensures.made)
     c.if-self-gt0.false c.in_ok-self-inside.ensures.apart room c.in_ok-self-inside.ensures.made).writes

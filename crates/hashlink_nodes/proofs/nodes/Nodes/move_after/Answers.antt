@@ -76,7 +76,8 @@ attach-requires-clause-next g c =
 
 pub invariant_of-self : goal.invariant_of-self
 invariant_of-self g c =
-    (move_after_done (state_of c.self.inside.cells) c.self.inside.guard c.in-Some.guard c.self.inside.first_spare
+    (move_after_done (state_of c.self.inside.cells) c.self.inside.guard c.in-Some.guard
+    c.self.inside.first_spare
     c.self.inside.len c.self.inside.spare c.args.self.now
     (opened (state_of c.self.inside.cells) c.self.inside.guard c.in-Some.guard c.self.inside.first_spare
     c.self.inside.len c.self.inside.spare c.self.invariant c.in-Some.is c.args.self.now c.self.view_is)
@@ -86,7 +87,8 @@ invariant_of-self g c =
 
 pub returns-clause-moved : goal.returns-clause-moved
 returns-clause-moved g c =
-    (move_after_done (state_of c.self.inside.cells) c.self.inside.guard c.in-Some.guard c.self.inside.first_spare
+    (move_after_done (state_of c.self.inside.cells) c.self.inside.guard c.in-Some.guard
+    c.self.inside.first_spare
     c.self.inside.len c.self.inside.spare c.args.self.now
     (opened (state_of c.self.inside.cells) c.self.inside.guard c.in-Some.guard c.self.inside.first_spare
     c.self.inside.len c.self.inside.spare c.self.invariant c.in-Some.is c.args.self.now c.self.view_is)
@@ -96,7 +98,8 @@ returns-clause-moved g c =
 
 pub returns-clause-free : goal.returns-clause-free
 returns-clause-free g c =
-    (move_after_done (state_of c.self.inside.cells) c.self.inside.guard c.in-Some.guard c.self.inside.first_spare
+    (move_after_done (state_of c.self.inside.cells) c.self.inside.guard c.in-Some.guard
+    c.self.inside.first_spare
     c.self.inside.len c.self.inside.spare c.args.self.now
     (opened (state_of c.self.inside.cells) c.self.inside.guard c.in-Some.guard c.self.inside.first_spare
     c.self.inside.len c.self.inside.spare c.self.invariant c.in-Some.is c.args.self.now c.self.view_is)
@@ -106,7 +109,8 @@ returns-clause-free g c =
 
 pub returns-clause-link_writes : goal.returns-clause-link_writes
 returns-clause-link_writes g c =
-    (move_after_done (state_of c.self.inside.cells) c.self.inside.guard c.in-Some.guard c.self.inside.first_spare
+    (move_after_done (state_of c.self.inside.cells) c.self.inside.guard c.in-Some.guard
+    c.self.inside.first_spare
     c.self.inside.len c.self.inside.spare c.args.self.now
     (opened (state_of c.self.inside.cells) c.self.inside.guard c.in-Some.guard c.self.inside.first_spare
     c.self.inside.len c.self.inside.spare c.self.invariant c.in-Some.is c.args.self.now c.self.view_is)

@@ -76,40 +76,48 @@ attach-requires-clause-next g c =
 
 pub invariant_of-self : goal.invariant_of-self
 invariant_of-self g c =
-    (move_before_done (state_of c.self.inside.cells) c.self.inside.guard c.in-Some.guard c.self.inside.first_spare
+    (move_before_done (state_of c.self.inside.cells) c.self.inside.guard c.in-Some.guard
+    c.self.inside.first_spare
     c.self.inside.len c.self.inside.spare c.args.self.now
     (opened (state_of c.self.inside.cells) c.self.inside.guard c.in-Some.guard c.self.inside.first_spare
     c.self.inside.len c.self.inside.spare c.self.invariant c.in-Some.is c.args.self.now c.self.view_is)
     c.args.node c.requires.node c.args.place c.requires.place (state_of c.detach.new.self)
-    (state_of c.attach.new.self) c.prev-prev.result c.unwrap_or-next.result c.detach.ensures c.unwrap_or-next.ensures
+    (state_of c.attach.new.self) c.prev-prev.result c.unwrap_or-next.result c.detach.ensures
+    c.unwrap_or-next.ensures
     c.prev-prev.ensures c.attach.ensures).sound
 
 pub returns-clause-moved : goal.returns-clause-moved
 returns-clause-moved g c =
-    (move_before_done (state_of c.self.inside.cells) c.self.inside.guard c.in-Some.guard c.self.inside.first_spare
+    (move_before_done (state_of c.self.inside.cells) c.self.inside.guard c.in-Some.guard
+    c.self.inside.first_spare
     c.self.inside.len c.self.inside.spare c.args.self.now
     (opened (state_of c.self.inside.cells) c.self.inside.guard c.in-Some.guard c.self.inside.first_spare
     c.self.inside.len c.self.inside.spare c.self.invariant c.in-Some.is c.args.self.now c.self.view_is)
     c.args.node c.requires.node c.args.place c.requires.place (state_of c.detach.new.self)
-    (state_of c.attach.new.self) c.prev-prev.result c.unwrap_or-next.result c.detach.ensures c.unwrap_or-next.ensures
+    (state_of c.attach.new.self) c.prev-prev.result c.unwrap_or-next.result c.detach.ensures
+    c.unwrap_or-next.ensures
     c.prev-prev.ensures c.attach.ensures).moved
 
 pub returns-clause-free : goal.returns-clause-free
 returns-clause-free g c =
-    (move_before_done (state_of c.self.inside.cells) c.self.inside.guard c.in-Some.guard c.self.inside.first_spare
+    (move_before_done (state_of c.self.inside.cells) c.self.inside.guard c.in-Some.guard
+    c.self.inside.first_spare
     c.self.inside.len c.self.inside.spare c.args.self.now
     (opened (state_of c.self.inside.cells) c.self.inside.guard c.in-Some.guard c.self.inside.first_spare
     c.self.inside.len c.self.inside.spare c.self.invariant c.in-Some.is c.args.self.now c.self.view_is)
     c.args.node c.requires.node c.args.place c.requires.place (state_of c.detach.new.self)
-    (state_of c.attach.new.self) c.prev-prev.result c.unwrap_or-next.result c.detach.ensures c.unwrap_or-next.ensures
+    (state_of c.attach.new.self) c.prev-prev.result c.unwrap_or-next.result c.detach.ensures
+    c.unwrap_or-next.ensures
     c.prev-prev.ensures c.attach.ensures).free
 
 pub returns-clause-link_writes : goal.returns-clause-link_writes
 returns-clause-link_writes g c =
-    (move_before_done (state_of c.self.inside.cells) c.self.inside.guard c.in-Some.guard c.self.inside.first_spare
+    (move_before_done (state_of c.self.inside.cells) c.self.inside.guard c.in-Some.guard
+    c.self.inside.first_spare
     c.self.inside.len c.self.inside.spare c.args.self.now
     (opened (state_of c.self.inside.cells) c.self.inside.guard c.in-Some.guard c.self.inside.first_spare
     c.self.inside.len c.self.inside.spare c.self.invariant c.in-Some.is c.args.self.now c.self.view_is)
     c.args.node c.requires.node c.args.place c.requires.place (state_of c.detach.new.self)
-    (state_of c.attach.new.self) c.prev-prev.result c.unwrap_or-next.result c.detach.ensures c.unwrap_or-next.ensures
+    (state_of c.attach.new.self) c.prev-prev.result c.unwrap_or-next.result c.detach.ensures
+    c.unwrap_or-next.ensures
     c.prev-prev.ensures c.attach.ensures).writes

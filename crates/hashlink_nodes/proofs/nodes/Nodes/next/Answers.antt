@@ -22,7 +22,8 @@ pub next-next-requires : goal.next-next-requires
 next-next-requires g c =
     ap (state_of c.self.inside.cells).has c.unwrap_or.ensures
     ∙
-    (next_to_place (state_of c.self.inside.cells) c.self.inside.guard c.in-Some.guard c.self.inside.first_spare
+    (next_to_place (state_of c.self.inside.cells) c.self.inside.guard c.in-Some.guard
+    c.self.inside.first_spare
     c.self.inside.len c.self.inside.spare c.args.self.now
     (opened (state_of c.self.inside.cells) c.self.inside.guard c.in-Some.guard c.self.inside.first_spare
     c.self.inside.len c.self.inside.spare c.self.invariant c.in-Some.is c.args.self.now c.self.view_is)
@@ -33,7 +34,8 @@ is_full-requires g c =
     ap (state_of c.self.inside.cells).has
     (c.next-next.ensures ∙ ap (state_of c.self.inside.cells).next c.unwrap_or.ensures)
     ∙
-    (next_to_place (state_of c.self.inside.cells) c.self.inside.guard c.in-Some.guard c.self.inside.first_spare
+    (next_to_place (state_of c.self.inside.cells) c.self.inside.guard c.in-Some.guard
+    c.self.inside.first_spare
     c.self.inside.len c.self.inside.spare c.args.self.now
     (opened (state_of c.self.inside.cells) c.self.inside.guard c.in-Some.guard c.self.inside.first_spare
     c.self.inside.len c.self.inside.spare c.self.invariant c.in-Some.is c.args.self.now c.self.view_is)
@@ -45,7 +47,8 @@ returns-then-is_full-clause-place g c =
     ∙ tells_full (state_of c.self.inside.cells)
     ((state_of c.self.inside.cells).next (unwrap_or c.args.place c.in-Some.guard))
     (next_place (keys_of c.args.self.now.entries) c.args.place)
-    (next_to_place (state_of c.self.inside.cells) c.self.inside.guard c.in-Some.guard c.self.inside.first_spare
+    (next_to_place (state_of c.self.inside.cells) c.self.inside.guard c.in-Some.guard
+    c.self.inside.first_spare
     c.self.inside.len c.self.inside.spare c.args.self.now
     (opened (state_of c.self.inside.cells) c.self.inside.guard c.in-Some.guard c.self.inside.first_spare
     c.self.inside.len c.self.inside.spare c.self.invariant c.in-Some.is c.args.self.now c.self.view_is)
@@ -64,7 +67,8 @@ returns-else-is_full-clause-place g c =
     tells_bare (state_of c.self.inside.cells)
     ((state_of c.self.inside.cells).next (unwrap_or c.args.place c.in-Some.guard))
     (next_place (keys_of c.args.self.now.entries) c.args.place)
-    (next_to_place (state_of c.self.inside.cells) c.self.inside.guard c.in-Some.guard c.self.inside.first_spare
+    (next_to_place (state_of c.self.inside.cells) c.self.inside.guard c.in-Some.guard
+    c.self.inside.first_spare
     c.self.inside.len c.self.inside.spare c.args.self.now
     (opened (state_of c.self.inside.cells) c.self.inside.guard c.in-Some.guard c.self.inside.first_spare
     c.self.inside.len c.self.inside.spare c.self.invariant c.in-Some.is c.args.self.now c.self.view_is)

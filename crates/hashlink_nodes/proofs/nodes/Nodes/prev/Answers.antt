@@ -22,7 +22,8 @@ pub prev-prev-requires : goal.prev-prev-requires
 prev-prev-requires g c =
     ap (state_of c.self.inside.cells).has c.unwrap_or.ensures
     ∙
-    (prev_to_place (state_of c.self.inside.cells) c.self.inside.guard c.in-Some.guard c.self.inside.first_spare
+    (prev_to_place (state_of c.self.inside.cells) c.self.inside.guard c.in-Some.guard
+    c.self.inside.first_spare
     c.self.inside.len c.self.inside.spare c.args.self.now
     (opened (state_of c.self.inside.cells) c.self.inside.guard c.in-Some.guard c.self.inside.first_spare
     c.self.inside.len c.self.inside.spare c.self.invariant c.in-Some.is c.args.self.now c.self.view_is)
@@ -33,7 +34,8 @@ is_full-requires g c =
     ap (state_of c.self.inside.cells).has
     (c.prev-prev.ensures ∙ ap (state_of c.self.inside.cells).prev c.unwrap_or.ensures)
     ∙
-    (prev_to_place (state_of c.self.inside.cells) c.self.inside.guard c.in-Some.guard c.self.inside.first_spare
+    (prev_to_place (state_of c.self.inside.cells) c.self.inside.guard c.in-Some.guard
+    c.self.inside.first_spare
     c.self.inside.len c.self.inside.spare c.args.self.now
     (opened (state_of c.self.inside.cells) c.self.inside.guard c.in-Some.guard c.self.inside.first_spare
     c.self.inside.len c.self.inside.spare c.self.invariant c.in-Some.is c.args.self.now c.self.view_is)
@@ -45,7 +47,8 @@ returns-then-is_full-clause-place g c =
     ∙ tells_full (state_of c.self.inside.cells)
     ((state_of c.self.inside.cells).prev (unwrap_or c.args.place c.in-Some.guard))
     (prev_place (keys_of c.args.self.now.entries) c.args.place)
-    (prev_to_place (state_of c.self.inside.cells) c.self.inside.guard c.in-Some.guard c.self.inside.first_spare
+    (prev_to_place (state_of c.self.inside.cells) c.self.inside.guard c.in-Some.guard
+    c.self.inside.first_spare
     c.self.inside.len c.self.inside.spare c.args.self.now
     (opened (state_of c.self.inside.cells) c.self.inside.guard c.in-Some.guard c.self.inside.first_spare
     c.self.inside.len c.self.inside.spare c.self.invariant c.in-Some.is c.args.self.now c.self.view_is)
@@ -64,7 +67,8 @@ returns-else-is_full-clause-place g c =
     tells_bare (state_of c.self.inside.cells)
     ((state_of c.self.inside.cells).prev (unwrap_or c.args.place c.in-Some.guard))
     (prev_place (keys_of c.args.self.now.entries) c.args.place)
-    (prev_to_place (state_of c.self.inside.cells) c.self.inside.guard c.in-Some.guard c.self.inside.first_spare
+    (prev_to_place (state_of c.self.inside.cells) c.self.inside.guard c.in-Some.guard
+    c.self.inside.first_spare
     c.self.inside.len c.self.inside.spare c.args.self.now
     (opened (state_of c.self.inside.cells) c.self.inside.guard c.in-Some.guard c.self.inside.first_spare
     c.self.inside.len c.self.inside.spare c.self.invariant c.in-Some.is c.args.self.now c.self.view_is)

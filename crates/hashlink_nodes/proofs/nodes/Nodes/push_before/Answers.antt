@@ -99,7 +99,8 @@ overflow_sub-self g c =
       (push_from (state_of c.self.inside.cells) c.self.inside.guard c.in-Some.guard c.self.inside.first_spare
           c.self.inside.len c.self.inside.spare c.make_spare.new.self
           (opened (state_of c.self.inside.cells) c.self.inside.guard c.in-Some.guard c.self.inside.first_spare
-          c.self.inside.len c.self.inside.spare c.self.invariant c.in-Some.is c.make_spare.new.self c.self.view_is)
+          c.self.inside.len c.self.inside.spare c.self.invariant c.in-Some.is
+          c.make_spare.new.self c.self.view_is)
           c.in-Ok.ensures.free.0 c.args.self.now.entries c.in-Ok.ensures.entries c.args.place c.requires.place
           (held c.args.number c.args.key c.args.value)).some,
     )
@@ -110,12 +111,14 @@ overflow_add-self g c =
       fits =
           omega (
             arith,
-            (push_from (state_of c.self.inside.cells) c.self.inside.guard c.in-Some.guard c.self.inside.first_spare
-                c.self.inside.len c.self.inside.spare c.make_spare.new.self
-                (opened (state_of c.self.inside.cells) c.self.inside.guard c.in-Some.guard c.self.inside.first_spare
+            (push_from (state_of c.self.inside.cells) c.self.inside.guard c.in-Some.guard
+                c.self.inside.first_spare c.self.inside.len c.self.inside.spare c.make_spare.new.self
+                (opened (state_of c.self.inside.cells) c.self.inside.guard c.in-Some.guard
+                c.self.inside.first_spare
                 c.self.inside.len c.self.inside.spare c.self.invariant c.in-Some.is c.make_spare.new.self
                 c.self.view_is)
-                c.in-Ok.ensures.free.0 c.args.self.now.entries c.in-Ok.ensures.entries c.args.place c.requires.place
+                c.in-Ok.ensures.free.0 c.args.self.now.entries c.in-Ok.ensures.entries
+                c.args.place c.requires.place
                 (held c.args.number c.args.key c.args.value)).room,
           );
     }
@@ -135,7 +138,8 @@ invariant_of-self g c =
     c.self.inside.len c.self.inside.spare c.self.invariant c.in-Some.is c.make_spare.new.self c.self.view_is)
     c.in-Ok.ensures.free.0 c.args.self.now.entries c.in-Ok.ensures.entries c.args.place c.requires.place
     (held c.args.number c.args.key c.args.value))
-    c.next-first_spare.ensures c.hold.ensures.is c.unwrap_or-next.ensures c.prev-prev.ensures c.attach.ensures).sound
+    c.next-first_spare.ensures c.hold.ensures.is c.unwrap_or-next.ensures c.prev-prev.ensures
+    c.attach.ensures).sound
 
 pub returns-clause-entries : goal.returns-clause-entries
 returns-clause-entries g c =
@@ -170,19 +174,22 @@ returns-clause-free g c =
     c.self.inside.len c.self.inside.spare c.self.invariant c.in-Some.is c.make_spare.new.self c.self.view_is)
     c.in-Ok.ensures.free.0 c.args.self.now.entries c.in-Ok.ensures.entries c.args.place c.requires.place
     (held c.args.number c.args.key c.args.value))
-    c.next-first_spare.ensures c.hold.ensures.is c.unwrap_or-next.ensures c.prev-prev.ensures c.attach.ensures).free
+    c.next-first_spare.ensures c.hold.ensures.is c.unwrap_or-next.ensures c.prev-prev.ensures
+    c.attach.ensures).free
 
 pub returns-clause-link_writes : goal.returns-clause-link_writes
 returns-clause-link_writes g c =
     let R : Type 0 = Ring g.row.K.Denot g.row.V.Denot in
     push_writes (state_of c.self.inside.cells) (state_of c.hold.new.self) (state_of c.attach.new.self)
-    c.self.inside.first_spare c.prev-prev.result c.unwrap_or-next.result (held c.args.number c.args.key c.args.value)
+    c.self.inside.first_spare c.prev-prev.result c.unwrap_or-next.result
+    (held c.args.number c.args.key c.args.value)
     c.args.self.now.link_writes (ap (λ (r : R). r.link_writes) c.self.view_is ∙ c.in-Ok.ensures.link_writes)
     c.hold.ensures.is c.attach.ensures
 
 pub returns-clause-apart : goal.returns-clause-apart
 returns-clause-apart g c =
-    apart (state_of c.attach.new.self) c.next-first_spare.result (c.self.inside.len + 1) (c.self.inside.spare - 1)
+    apart (state_of c.attach.new.self) c.next-first_spare.result (c.self.inside.len + 1)
+    (c.self.inside.spare - 1)
     c.self.inside.guard
     (push_done (state_of c.self.inside.cells) (state_of c.hold.new.self) (state_of c.attach.new.self)
     c.self.inside.guard c.in-Some.guard c.self.inside.first_spare c.next-first_spare.result c.prev-prev.result
@@ -197,4 +204,5 @@ returns-clause-apart g c =
     c.self.inside.len c.self.inside.spare c.self.invariant c.in-Some.is c.make_spare.new.self c.self.view_is)
     c.in-Ok.ensures.free.0 c.args.self.now.entries c.in-Ok.ensures.entries c.args.place c.requires.place
     (held c.args.number c.args.key c.args.value))
-    c.next-first_spare.ensures c.hold.ensures.is c.unwrap_or-next.ensures c.prev-prev.ensures c.attach.ensures).sound
+    c.next-first_spare.ensures c.hold.ensures.is c.unwrap_or-next.ensures c.prev-prev.ensures
+    c.attach.ensures).sound

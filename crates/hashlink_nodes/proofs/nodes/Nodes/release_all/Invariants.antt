@@ -5,7 +5,8 @@ abbrev pub invariant-loop-self : goal.invariant-loop-self
 invariant-loop-self g l =
     (l.self.free ≡ l.initial.self.free)
     ×
-    (l.self.link_writes + 2 * length l.self.entries ≡ l.initial.self.link_writes + 2 * length l.initial.self.entries)
+    (l.self.link_writes + 2 * length l.self.entries ≡ l.initial.self.link_writes + 2 * length
+    l.initial.self.entries)
 
 abbrev pub decreases-loop-self : goal.decreases-loop-self
 decreases-loop-self g l = length l.self.entries

@@ -25,7 +25,8 @@ anew : (g : given.Over) (c : goal.After-replace_value g)
     (λ h. with_value h c.args.value)
 anew g c =
     renewed (state_of c.self.inside.cells) (state_of c.replace_value.new.self) c.self.inside.guard
-    c.self.inside.first_spare c.self.inside.len c.self.inside.spare c.self.invariant c.args.self.now c.self.view_is
+    c.self.inside.first_spare c.self.inside.len c.self.inside.spare c.self.invariant
+    c.args.self.now c.self.view_is
     c.args.node c.requires (λ h. with_value h c.args.value) c.replace_value.ensures.is
 
 pub invariant_of-self : goal.invariant_of-self

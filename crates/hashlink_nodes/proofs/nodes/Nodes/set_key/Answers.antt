@@ -25,7 +25,8 @@ anew : (g : given.Over) (c : goal.After-replace_key g)
     (λ h. with_key h c.args.key)
 anew g c =
     renewed (state_of c.self.inside.cells) (state_of c.replace_key.new.self) c.self.inside.guard
-    c.self.inside.first_spare c.self.inside.len c.self.inside.spare c.self.invariant c.args.self.now c.self.view_is
+    c.self.inside.first_spare c.self.inside.len c.self.inside.spare c.self.invariant
+    c.args.self.now c.self.view_is
     c.args.node c.requires (λ h. with_key h c.args.key) c.replace_key.ensures.is
 
 pub invariant_of-self : goal.invariant_of-self

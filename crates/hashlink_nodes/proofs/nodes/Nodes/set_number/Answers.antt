@@ -24,7 +24,8 @@ anew : (g : given.Over) (c : goal.After-set_number g)
     (λ h. with_number h c.args.number)
 anew g c =
     renewed (state_of c.self.inside.cells) (state_of c.set_number.new.self) c.self.inside.guard
-    c.self.inside.first_spare c.self.inside.len c.self.inside.spare c.self.invariant c.args.self.now c.self.view_is
+    c.self.inside.first_spare c.self.inside.len c.self.inside.spare c.self.invariant
+    c.args.self.now c.self.view_is
     c.args.node c.requires.node (λ h. with_number h c.args.number) c.set_number.ensures
 
 pub invariant_of-self : goal.invariant_of-self

@@ -8,4 +8,5 @@ pub returns : goal.returns
 returns g c =
     let old = c.args.self.set.now in
     subst (KeepsOnly old c.retain.new.self) (none_passes old.entries)
-    (retained_by_predicate _ (λ e. false) (λ f k v b w g call. search rules) _ _ _ _ c.retain.ensures.retained.1)
+    (retained_by_predicate _ (λ e. false) (λ f k v b w g call. search rules) _ _ _ _
+    c.retain.ensures.retained.1)

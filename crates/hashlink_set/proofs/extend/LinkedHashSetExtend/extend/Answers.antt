@@ -7,7 +7,8 @@ pub returns-in_err-extend : goal.returns-in_err-extend
 returns-in_err-extend g c =
     let e = c.in_err-extend.field-0.0 in
     let nexts = g.I.IntoIter.Iterator.next_gives in record {
-      ran = took_some nexts (λ raw. raw) g.I.IntoIterator.into_iter_gives (SetInserts g.T.PartialEq.eq) (Grows 1)
+      ran = took_some nexts (λ raw. raw) g.I.IntoIterator.into_iter_gives
+          (SetInserts g.T.PartialEq.eq) (Grows 1)
           c.args.iter c.args.self.now c.extend.new.self c.from_residual.result e.taken e.pair.0
           c.from_residual.ensures.0 (cuts_item nexts) (λ a b x y refused. refused.grows)
           c.in_err-extend.ensures.stopped;
@@ -16,6 +17,7 @@ returns-in_err-extend g c =
 pub returns : goal.returns
 returns g c = record {
   ran = took_all g.I.IntoIter.Iterator.next_gives (λ raw. raw) g.I.IntoIterator.into_iter_gives
-      (SetInserts g.T.PartialEq.eq) (Grows 1) c.args.iter c.args.self.now c.extend.new.self c.in_ok-extend.ensures.all
+      (SetInserts g.T.PartialEq.eq) (Grows 1) c.args.iter c.args.self.now c.extend.new.self
+      c.in_ok-extend.ensures.all
       (grows-none c.extend.new.self);
 }

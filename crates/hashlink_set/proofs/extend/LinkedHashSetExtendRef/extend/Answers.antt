@@ -9,7 +9,8 @@ pub returns-in_err-extend_ref : goal.returns-in_err-extend_ref
 returns-in_err-extend_ref g c =
     let e = c.in_err-extend_ref.field-0.0 in
     let nexts = g.I.IntoIter.Iterator.next_gives in record {
-      ran = took_some nexts (map deref) g.I.IntoIterator.into_iter_gives (SetInserts g.T.PartialEq.eq) (Grows 1)
+      ran = took_some nexts (map deref) g.I.IntoIterator.into_iter_gives
+          (SetInserts g.T.PartialEq.eq) (Grows 1)
           c.args.iter c.args.self.now c.extend_ref.new.self c.from_residual.result e.taken e.pair.0
           c.from_residual.ensures.0 (cuts_copy nexts deref) (λ a b x y refused. refused.grows)
           c.in_err-extend_ref.ensures.stopped;

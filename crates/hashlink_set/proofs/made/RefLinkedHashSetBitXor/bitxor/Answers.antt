@@ -15,7 +15,8 @@ returns g c =
     if_ok_then c.of_clones.result _ _
     (λ n h. is_of_items eq g.met.T.Eq.laws g.T.Clone.is_clone g.S.Default.is_default ts
     (subst (IsDistinct eq) w.ensures.rest w.ensures.unique) c.default.result c.default.ensures n h.0 h.1
-    (given_all (SymmetricDifferenceSteps eq) (symmetric_difference_rest eq) (λ s r t step. step.takes) w.result h.0 h.2
+    (given_all (SymmetricDifferenceSteps eq) (symmetric_difference_rest eq)
+    (λ s r t step. step.takes) w.result h.0 h.2
     ∙ w.ensures.rest)
     h.3 h.4)
     c.of_clones.ensures

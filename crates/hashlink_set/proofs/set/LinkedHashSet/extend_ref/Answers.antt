@@ -19,7 +19,8 @@ returns-in-Err-clause-stopped g c =
           c.next.new.self inv.gave c.in-Some.ensures.steps,
       subst (λ ts. StopsAt step c.args.self.now ts c.insert.new.self c.loop-element.taken c.in-Err.back [])
           (sym (mapped_another deref inv.seen x))
-          (stops_after step c.args.self.now c.loop-element.self c.insert.new.self (map deref inv.seen) (deref x)
+          (stops_after step c.args.self.now c.loop-element.self c.insert.new.self
+          (map deref inv.seen) (deref x)
           c.in-Err.back c.loop-element.taken inv.holds.0 inv.holds.1 c.in-Err.ensures.inserts),
     )
 
@@ -31,7 +32,8 @@ loop-element-preserved g c =
     let more = sym (mapped_another deref inv.seen x) in
     it.again inv x c.in-Some.is (c.next.ensures.steps, c.next.ensures.goes) (
       subst (λ ts. AcceptsAll step c.args.self.now ts c.insert.new.self) more
-          (accepts_another step c.args.self.now c.loop-element.self c.insert.new.self (map deref inv.seen) (deref x)
+          (accepts_another step c.args.self.now c.loop-element.self c.insert.new.self
+          (map deref inv.seen) (deref x)
           c.in_default-insert.field-0 inv.holds.0 c.in_default-insert.ensures.inserts),
       c.saturating_add-taken.ensures
           ∙ (counts_another (map deref inv.seen) (deref x) c.loop-element.taken inv.holds.1

@@ -14,7 +14,7 @@ returns g c =
         read.2,
         read.3,
         read.4,
-        subst (λ s. AcceptsAll (SetInserts g.T.PartialEq.eq) s read.1 c.extend.new.self) c.with_hasher-set.ensures
-            read.5,
+        subst (λ s. AcceptsAll (SetInserts g.T.PartialEq.eq) s read.1 c.extend.new.self)
+            c.with_hasher-set.ensures read.5,
       ),
     )

@@ -6,7 +6,8 @@ use mir.MapTy.{inst_fn}
 use mir.Val.{Val, of_list, vptr, vstruct}
 use prog.Wp.{WpFn}
 use types.Logic.{sem}
-use types.Kit.{‵, raw, ◌⊛◌, some, later, ◌$◌, ◌∵◌, !, qed, by, move, keep, drop, split, join, fsplit, fjoin, fpick}
+use types.Kit.{‵, raw, ◌⊛◌, some, later, ◌$◌, ◌∵◌, !, qed, by, move, keep, drop, split, join, fsplit, fjoin}
+use types.Kit.{fpick}
 use types.Kit.{feq_l, pick, await, rewrite, use0, use1}
 use types.Part.{whole, sub}
 use types.Run.{stop, fld, of_opd, addr, and_then, no_more, returns, enter}
@@ -45,7 +46,8 @@ use Rattle.hashlink_model.specs.Sets.{elements_of, stored_element, GetsOrInserts
 use Rattle.hashlink_model.specs.Walk.{last_of}
 use Rattle.hashlink_set.specs.SetLends.{as_seen, PutsElement, EndsInserted, StaysAsItWas}
 use Rattle.hashlink_set.specs.contracts.set.LinkedHashSet as set
-use Rattle.hashlink_set.proofs.LentLast.{Asks, asked, ends_so, there_is_last, answers_insert, is_stored, is_given}
+use Rattle.hashlink_set.proofs.LentLast.{Asks, asked, ends_so, there_is_last, answers_insert, is_stored}
+use Rattle.hashlink_set.proofs.LentLast.{is_given}
 use Rattle.hashlink_set.specs.contracts.set.LinkedHashSet.get_or_insert as f
 use Rattle.hashlink_set.specs.contracts.set.LinkedHashSet.put_last as puts
 use Rattle.hashlink_set.specs.contracts.set.LinkedHashSet.last_for_good as lends
@@ -100,7 +102,8 @@ get_or_insert_spec 𝓤 𝓛 𝓜 𝓡 wired T S X LT LS LX e de p dp h dh b db 
     let E₁ = puts.ended T S X e de p dp h dh b db w dw dd dt in
     let Same : Mid.Denot → Type 0 = λ q. q.0.ghost_name ≡ r.ghost_name in
     let Puts : Mid.Denot → Type 0 = λ q. PutsElement p.eq r.now q.0.now t q.1 in
-    subst (λ (us : Valss (types_at En.signature.params κs)). ent 𝓤 (W.pre (At us)) (WpFn 𝓤 H 𝓣.C 𝓣.Λ fn (W.args
+    subst (λ (us : Valss (types_at En.signature.params κs)). ent 𝓤 (W.pre (At us))
+    (WpFn 𝓤 H 𝓣.C 𝓣.Λ fn (W.args
     (At us)) (W.post (At us))))
     (λ i. (sym is_ref i, (sym value_at.1 i, tt))) (
     qed 𝓛 (raw (on_entry 𝓛 En.signature κs qs a vss) ∷ raw ((c κs a).requires z.1) ∷ []) ∵ move ! (1 ∷ []) $
@@ -112,10 +115,12 @@ get_or_insert_spec 𝓤 𝓛 𝓜 𝓡 wired T S X LT LS LX e de p dp h dh b db 
     sets ! (addr ! (through ! refl (stop !))) refl (tt, tt) $
     sets ! (of_opd ! (get ! refl)) refl value_at.2 $
     calls_at ! (framed 𝓤 H 𝓜 𝓣) Y
-    (put.met 𝓤 𝓛 𝓜 𝓡 (code.calls-hashlink_set::set::LinkedHashSet::put_last 𝓡.env wired) T S X LT LS LX e de p dp
+    (put.met 𝓤 𝓛 𝓜 𝓡 (code.calls-hashlink_set::set::LinkedHashSet::put_last 𝓡.env wired)
+    T S X LT LS LX e de p dp
     h dh b db w dw dd dt me mp mh mb mw md mt) y
     (and_then ! (get ! refl) (and_then ! (get ! refl) (no_more !))) (λ v.
-    use1 𝓛 (later (some (λ (q : Mid.Denot). (raw (alive 𝓛 En.signature κs qs) ⊛ ‵ (Mid.own_val q (v ∷ []))) ⊛ some
+    use1 𝓛 (later (some (λ (q : Mid.Denot). (raw (alive 𝓛 En.signature κs qs) ⊛ ‵ (Mid.own_val q (v ∷ []))) ⊛
+    some
     (λ (ls : Lasts E₁ κs a). ‵ (lasts E₁ κs a ls) ⊛ (raw (fact 𝓤 (Same q)) ⊛ raw (fact 𝓤 (Puts q)))))))
     (id⊢ 𝓤 (Y.post y v)) $
     await ! tt $ pick ! (λ q. split ! $ move ! (1 ∷ []) $
@@ -141,13 +146,16 @@ get_or_insert_spec 𝓤 𝓛 𝓜 𝓡 wired T S X LT LS LX e de p dp h dh b db 
     (lends.spec T S X e de p dp h dh b db w dw dd 𝓛 𝓜.mem 𝓡.returns) in
     let y₂ : Y₂.Ghost = ((κs, qs, z.0.2, (q.0, tt), (mut_vals q.0, tt)), tt) in
     let E₂ = lends.ended T S X e de p dp h dh b db w dw dd in
-    let Rests : SProp 𝓤 = sem 𝓛 (StaysAsItWas TR SR XR (record { eq = p.eq; hash_input = h.hash_input }) b w q.0) in
+    let Rests : SProp 𝓤 = sem 𝓛
+    (StaysAsItWas TR SR XR (record { eq = p.eq; hash_input = h.hash_input }) b w q.0) in
     let Last : Out.Denot → Type 0 = λ o. option_copied o ≡ last_of (elements_of q.0.now) in
     use1 𝓛 (raw (Y₂.pre y₂)) (id⊢ 𝓤 (Y₂.pre y₂)) $
     calls_at ! (framed 𝓤 H 𝓜 𝓣) Y₂
-    (lent.met 𝓤 𝓛 𝓜 𝓡 (code.calls-hashlink_set::set::LinkedHashSet::last_for_good 𝓡.env wired) T S X LT LS LX e de
+    (lent.met 𝓤 𝓛 𝓜 𝓡 (code.calls-hashlink_set::set::LinkedHashSet::last_for_good 𝓡.env wired)
+    T S X LT LS LX e de
     p dp h dh b db w dw dd me mp mh mb mw md) y₂ (and_then ! (get ! refl) (no_more !)) (λ v₂.
-    use1 𝓛 (later (some (λ (o : Out.Denot). (raw (alive 𝓛 En.signature κs qs) ⊛ ‵ (Out.own_val o (v₂ ∷ []))) ⊛ some
+    use1 𝓛 (later (some (λ (o : Out.Denot). (raw (alive 𝓛 En.signature κs qs) ⊛ ‵ (Out.own_val o (v₂ ∷ []))) ⊛
+    some
     (λ (ls : Lasts E₂ κs (q.0, tt)). ‵ (lasts E₂ κs (q.0, tt) ls) ⊛ (raw Rests ⊛ raw (fact 𝓤 (Last o)))))))
     (id⊢ 𝓤 (Y₂.post y₂ v₂)) $
     await ! tt $ pick ! (λ o. split ! $ move ! (1 ∷ []) $
@@ -171,10 +179,12 @@ get_or_insert_spec 𝓤 𝓛 𝓜 𝓡 wired T S X LT LS LX e de p dp h dh b db 
     let IsRefused : Ans.Denot → Type 0 = λ x. IfErr x (λ k. q.1 ≡ Some k) in
     use1 𝓛 (raw (Y₃.pre y₃)) (id⊢ 𝓤 (Y₃.pre y₃)) $
     calls_at ! (framed 𝓤 H 𝓜 𝓣) Y₃
-    (answered.met 𝓤 𝓛 𝓜 𝓡 (code.calls-hashlink_set::set::LinkedHashSet::lent_or_refused 𝓡.env wired) T S X LT LS LX
+    (answered.met 𝓤 𝓛 𝓜 𝓡 (code.calls-hashlink_set::set::LinkedHashSet::lent_or_refused 𝓡.env wired)
+    T S X LT LS LX
     e de p dp h dh b db w dw dd dt me mp mh mb mw md mt) y₃
     (and_then ! (get ! refl) (and_then ! (get ! refl) (no_more !))) (λ v₃.
-    use1 𝓛 (later (some (λ (x : Ans.Denot). (raw (alive 𝓛 En.signature κs qs) ⊛ ‵ (Ans.own_val x (v₃ ∷ []))) ⊛ some
+    use1 𝓛 (later (some (λ (x : Ans.Denot). (raw (alive 𝓛 En.signature κs qs) ⊛ ‵ (Ans.own_val x (v₃ ∷ []))) ⊛
+    some
     (λ (ls : Lasts E₃ κs (o, (q.1, tt))). ‵ (lasts E₃ κs (o, (q.1, tt)) ls) ⊛
     (raw (fact 𝓤 (IsLent x)) ⊛ raw (fact 𝓤 (IsRefused x))))))) (id⊢ 𝓤 (Y₃.post y₃ v₃)) $
     await ! tt $ pick ! (λ x. split ! $ move ! (1 ∷ []) $ pick ! (λ ls₃. split ! $ drop ! $ split ! $
@@ -185,10 +195,12 @@ get_or_insert_spec 𝓤 𝓛 𝓜 𝓡 wired T S X LT LS LX e de p dp h dh b db 
     -- [the answer; the tokens; how the set rests]
     let Gets : Set.Denot → Type 0 = λ new. GetsOrInserts p.eq r.now new t (as_seen x) in
     let gets : Gets q.0.now = answers_insert p.eq r.now q.0.now t q.1 o x put_in last is_lent is_refused in
-    let Ends : SProp 𝓤 = sem 𝓛 (EndsInserted TR SR XR (record { eq = p.eq; hash_input = h.hash_input }) b w r t x) in
+    let Ends : SProp 𝓤 = sem 𝓛
+    (EndsInserted TR SR XR (record { eq = p.eq; hash_input = h.hash_input }) b w r t x) in
     let Stored : Type 0 = IfOk x (λ k. k.now ≡ stored_element p.eq (elements_of r.now) t) in
     let Given : Type 0 = IfErr x (λ k. k ≡ t) in
-    move ! (2 ∷ []) $ use1 𝓛 (raw Ends) (ends_so 𝓛 Set (λ new. new ≡ q.0.now) Gets q.0.ghost_name r.ghost_name same
+    move ! (2 ∷ []) $ use1 𝓛 (raw Ends)
+    (ends_so 𝓛 Set (λ new. new ≡ q.0.now) Gets q.0.ghost_name r.ghost_name same
     (λ new is_now. subst Gets (sym is_now) gets)) $
     use0 𝓛 (raw (fact 𝓤 Stored)) (fact_i 𝓤 Stored (emp 𝓤) (is_stored p.eq r.now q.0.now t x gets)) $
     use0 𝓛 (raw (fact 𝓤 Given)) (fact_i 𝓤 Given (emp 𝓤) (is_given p.eq r.now q.0.now t x gets)) $

@@ -6,7 +6,8 @@ use mir.MapTy.{inst_fn}
 use mir.Val.{Val, of_list, vptr, vstruct}
 use prog.Wp.{WpFn}
 use types.Logic.{sem}
-use types.Kit.{‵, raw, ◌⊛◌, some, later, ◌$◌, ◌∵◌, !, qed, by, move, keep, drop, split, join, fsplit, fjoin, fpick}
+use types.Kit.{‵, raw, ◌⊛◌, some, later, ◌$◌, ◌∵◌, !, qed, by, move, keep, drop, split, join, fsplit, fjoin}
+use types.Kit.{fpick}
 use types.Kit.{feq_l, pick, await, rewrite, use0, use1}
 use types.Part.{whole, sub}
 use types.Run.{stop, fld, of_opd, addr, and_then, no_more, returns, enter}
@@ -50,7 +51,8 @@ use Rattle.hashlink_set.specs.Made.{CanMakeAbsent, GetsOrMakes}
 use Rattle.hashlink_set.specs.SetLends.{as_seen, MakesElement, EndsMade, StaysAsItWas}
 use Rattle.hashlink_set.specs.contracts.set.LinkedHashSet as set
 use Rattle.hashlink_set.proofs.LentLast.{Asks, asked, ends_so, there_is_made, answers_made, is_lent, is_made}
-use Rattle.hashlink_set.proofs.LentLast.{lifetimes_left, shares_left, Left as TokensLeft, Aside, set_aside, taken_back}
+use Rattle.hashlink_set.proofs.LentLast.{lifetimes_left, shares_left, Left as TokensLeft, Aside, set_aside}
+use Rattle.hashlink_set.proofs.LentLast.{taken_back}
 use Rattle.hashlink_set.specs.contracts.set.LinkedHashSet.get_or_insert_with as f
 use Rattle.hashlink_set.specs.contracts.set.LinkedHashSet.put_or_make as puts
 use Rattle.hashlink_set.specs.contracts.set.LinkedHashSet.last_for_good as lends
@@ -62,8 +64,8 @@ use Rattle.hashlink_set.proofs.set.LinkedHashSet.get_or_insert_with.Statement.{s
 use Rattle.hashlink_set.proofs.set.LinkedHashSet.get_or_insert_with.Code as code
 
 pub get_or_insert_with_spec : {M : Type 1} → statement M
-get_or_insert_with_spec 𝓤 𝓛 𝓜 𝓡 wired T S X F LT LS LX LF e de p dp h dh b db w dw dd fo df dt dF me mp mh mb mw
-    md mf mt mF =
+get_or_insert_with_spec 𝓤 𝓛 𝓜 𝓡 wired T S X F LT LS LX LF e de p dp h dh b db w dw dd fo
+    df dt dF me mp mh mb mw md mf mt mF =
     let H = 𝓛.H in let 𝓣 = tables 𝓤 H 𝓜 𝓡 𝓡.env in
     let En = f.ended T S X F e de p dp h dh b db w dw dd fo df dt dF in
     let c = f.clauses T S X F e de p dp h dh b db w dw dd fo df dt dF 𝓛 𝓜.mem 𝓡.returns in
@@ -75,14 +77,16 @@ get_or_insert_with_spec 𝓤 𝓛 𝓜 𝓡 wired T S X F LT LS LX LF e de p dp 
     (dcons de (dcons dp (dcons dh (dcons db (dcons dw (dcons dd (dcons df (dcons dt (dcons dF dnil))))))))) in
     let fn = inst_fn inst code.function in
     let self = plain (λ (κs : Lfts 6). Set) in
-    let value = shr_ref_to (1 ∷ []) tt (plain (λ (κs : Lfts 6). TR)) in let made = plain (λ (κs : Lfts 6). FR) in
+    let value = shr_ref_to (1 ∷ []) tt (plain (λ (κs : Lfts 6). TR)) in let made =
+    plain (λ (κs : Lfts 6). FR) in
     let hs : Stays En.signature.params En.kept
     = (stay_dropped (mut_ref_to (0 ∷ []) tt self) no, (stay_dropped value yes, (stay_dropped made no, tt))) in
     proved_at 𝓛 En hs c 𝓜 𝓡 (
       Goes-spent_ref 𝓛 6 (0 ∷ []) tt self,
       (Goes-dropped 𝓛 6 value yes (λ κs x f. refl), (Goes-dropped 𝓛 6 made no (λ κs x f. refl), tt)),
     )
-    (f.Key.name inst) fn (code.unfolded 𝓤 H 𝓜 𝓡 wired (T, (S, (X, (F, tt)))) de dp dh db dw dd df dt dF) (λ z are.
+    (f.Key.name inst) fn (code.unfolded 𝓤 H 𝓜 𝓡 wired (T, (S, (X, (F, tt)))) de dp dh db dw dd df dt dF)
+    (λ z are.
     let κs = z.0.0 in let qs = z.0.1 in let a = z.0.3 in let r = a.0 in let t = a.1.0.now in let κ = κs.0 in
     let W = walk_of 𝓛 En hs c in
     let Ref : RattleType = MutRef (named 0) κ Set in
@@ -102,7 +106,8 @@ get_or_insert_with_spec 𝓤 𝓛 𝓜 𝓡 wired T S X F LT LS LX LF e de p dp 
     let made_at = value_of 𝓛 FR (param_laws 3 F LF) a.1.1.0 z.0.4.1.1.0 are.1.1.0 in
     let At : Valss (types_at En.signature.params κs) → W.Ghost = λ us. ((κs, qs, z.0.2, a, us), z.1) in
     let vs : List Val = mut_vals r ++ shr_vals a.1.0 ++ (made_at.0 ∷ []) in
-    let vss : Valss (types_at En.signature.params κs) = (mut_vals r, (shr_vals a.1.0, (made_at.0 ∷ [], tt))) in
+    let vss : Valss (types_at En.signature.params κs) =
+    (mut_vals r, (shr_vals a.1.0, (made_at.0 ∷ [], tt))) in
     let Post : Val → SProp 𝓤 = W.post (At vss) in
     let A = κs.1.1.0 ⊑ T.lives in let B = κs.1.1.1.0 ⊑ S.lives in let C = κs.1.1.1.1.0 ⊑ X.lives in
     let D = κs.1.1.1.1.1.0 ⊑ F.lives in
@@ -116,7 +121,8 @@ get_or_insert_with_spec 𝓤 𝓛 𝓜 𝓡 wired T S X F LT LS LX LF e de p dp 
     let E₁ = puts.ended T S X F e de p dp h dh b db w dw dd fo df dt dF in
     let Same : Mid.Denot → Type 0 = λ q. q.0.ghost_name ≡ r.ghost_name in
     let Puts : Mid.Denot → Type 0 = λ q. MakesElement p.eq Makes r.now q.0.now t q.1 in
-    subst (λ (us : Valss (types_at En.signature.params κs)). ent 𝓤 (W.pre (At us)) (WpFn 𝓤 H 𝓣.C 𝓣.Λ fn (W.args
+    subst (λ (us : Valss (types_at En.signature.params κs)). ent 𝓤 (W.pre (At us))
+    (WpFn 𝓤 H 𝓣.C 𝓣.Λ fn (W.args
     (At us)) (W.post (At us))))
     (λ i. (sym is_ref i, (sym is_value i, (sym made_at.1 i, tt)))) (
     qed 𝓛 (raw (on_entry 𝓛 En.signature κs qs a vss) ∷ raw ((c κs a).requires z.1) ∷ []) ∵ move ! (1 ∷ []) $
@@ -134,7 +140,8 @@ get_or_insert_with_spec 𝓤 𝓛 𝓜 𝓡 wired T S X F LT LS LX LF e de p dp 
     (put.met 𝓤 𝓛 𝓜 𝓡 (code.calls-hashlink_set::set::LinkedHashSet::put_or_make 𝓡.env wired) T S X F LT LS
     LX LF e de p dp h dh b db w dw dd fo df dt dF me mp mh mb mw md mf mt mF) y
     (and_then ! (get ! refl) (and_then ! (get ! refl) (and_then ! (get ! refl) (no_more !)))) (λ v.
-    use1 𝓛 (later (some (λ (q : Mid.Denot). (raw (alive 𝓛 En.signature κs qs) ⊛ ‵ (Mid.own_val q (v ∷ []))) ⊛ some
+    use1 𝓛 (later (some (λ (q : Mid.Denot). (raw (alive 𝓛 En.signature κs qs) ⊛ ‵ (Mid.own_val q (v ∷ []))) ⊛
+    some
     (λ (ls : Lasts E₁ κs a). ‵ (lasts E₁ κs a ls) ⊛ (raw (fact 𝓤 (Same q)) ⊛ raw (fact 𝓤 (Puts q)))))))
     (id⊢ 𝓤 (Y.post y v)) $
     await ! tt $ pick ! (λ q. split ! $ move ! (1 ∷ []) $
@@ -148,7 +155,8 @@ get_or_insert_with_spec 𝓤 𝓛 𝓜 𝓡 wired T S X F LT LS LX LF e de p dp 
     let is : v ≡ mid = ap only is_mid ∙ (λ i. vstruct (of_list (e0 i ++ (is_u i ++ [])))) in
     move ! (1 ∷ []) $ drop ! $
     -- [what was refused; the set; the tokens]
-    move ! (2 ∷ []) $ use1 𝓛 (raw Left₄ ⊛ raw Aside₂) (set_aside 𝓛 κs qs) $ split ! $ move ! (2 ∷ 3 ∷ 0 ∷ []) $
+    move ! (2 ∷ []) $ use1 𝓛 (raw Left₄ ⊛ raw Aside₂) (set_aside 𝓛 κs qs) $ split ! $
+    move ! (2 ∷ 3 ∷ 0 ∷ []) $
     lands_as ! is refl (as_fields (ty_ptr ∷ layout Left ∷ []) (vptr q.0.ref_ptr.0 q.0.ref_ptr.1 ∷ u ∷ [])
     ((tt, tt), (fits, tt))) $
     sets ! (of_opd ! (get_in ! (fld ! refl (stop !)) (sub ! 0 refl (whole !)))) refl (tt, tt) $
@@ -161,11 +169,13 @@ get_or_insert_with_spec 𝓤 𝓛 𝓜 𝓡 wired T S X F LT LS LX LF e de p dp 
     (lends.spec T S X e de p dp h dh b db w dw dd 𝓛 𝓜.mem 𝓡.returns) in
     let y₂ : Y₂.Ghost = ((κs₄, qs₄, (z.0.2.0, (z.0.2.1.0, tt)), (q.0, tt), (mut_vals q.0, tt)), tt) in
     let E₂ = lends.ended T S X e de p dp h dh b db w dw dd in
-    let Rests : SProp 𝓤 = sem 𝓛 (StaysAsItWas TR SR XR (record { eq = p.eq; hash_input = h.hash_input }) b w q.0) in
+    let Rests : SProp 𝓤 = sem 𝓛
+    (StaysAsItWas TR SR XR (record { eq = p.eq; hash_input = h.hash_input }) b w q.0) in
     let Last : Out.Denot → Type 0 = λ o. option_copied o ≡ last_of (elements_of q.0.now) in
     use1 𝓛 (raw (Y₂.pre y₂)) (id⊢ 𝓤 (Y₂.pre y₂)) $
     calls_at ! (framed 𝓤 H 𝓜 𝓣) Y₂
-    (lent.met 𝓤 𝓛 𝓜 𝓡 (code.calls-hashlink_set::set::LinkedHashSet::last_for_good 𝓡.env wired) T S X LT LS LX e de
+    (lent.met 𝓤 𝓛 𝓜 𝓡 (code.calls-hashlink_set::set::LinkedHashSet::last_for_good 𝓡.env wired)
+    T S X LT LS LX e de
     p dp h dh b db w dw dd me mp mh mb mw md) y₂ (and_then ! (get ! refl) (no_more !)) (λ v₂.
     use1 𝓛 (later (some (λ (o : Out.Denot). (raw Left₄ ⊛ ‵ (Out.own_val o (v₂ ∷ []))) ⊛ some
     (λ (ls : Lasts E₂ κs₄ (q.0, tt)). ‵ (lasts E₂ κs₄ (q.0, tt) ls) ⊛ (raw Rests ⊛ raw (fact 𝓤 (Last o)))))))
@@ -191,7 +201,8 @@ get_or_insert_with_spec 𝓤 𝓛 𝓜 𝓡 wired T S X F LT LS LX LF e de p dp 
     let IsRefused : Ans.Denot → Type 0 = λ x. IfErr x (λ k. q.1 ≡ Some k) in
     use1 𝓛 (raw (Y₃.pre y₃)) (id⊢ 𝓤 (Y₃.pre y₃)) $
     calls_at ! (framed 𝓤 H 𝓜 𝓣) Y₃
-    (answered.met 𝓤 𝓛 𝓜 𝓡 (code.calls-hashlink_set::set::LinkedHashSet::lent_or_refused 𝓡.env wired) T S X LT LS LX
+    (answered.met 𝓤 𝓛 𝓜 𝓡 (code.calls-hashlink_set::set::LinkedHashSet::lent_or_refused 𝓡.env wired)
+    T S X LT LS LX
     e de p dp h dh b db w dw dd dt me mp mh mb mw md mt) y₃
     (and_then ! (get ! refl) (and_then ! (get ! refl) (no_more !))) (λ v₃.
     use1 𝓛 (later (some (λ (x : Ans.Denot). (raw Left₄ ⊛ ‵ (Ans.own_val x (v₃ ∷ []))) ⊛ some
@@ -204,18 +215,21 @@ get_or_insert_with_spec 𝓤 𝓛 𝓜 𝓡 wired T S X F LT LS LX LF e de p dp 
     returns ! (look_at ! 0 refl) $ free_all ! refl $
     -- [the answer; the tokens; how the set rests]
     let Gets : Set.Denot → Type 0 = λ new. GetsOrMakes p.eq Makes r.now new t (as_seen x) in
-    let gets : Gets q.0.now = answers_made p.eq Makes r.now q.0.now t q.1 o x put_in last lent_last is_refused in
+    let gets : Gets q.0.now = answers_made p.eq Makes r.now q.0.now t q.1 o x put_in last
+    lent_last is_refused in
     let Ends : SProp 𝓤 = sem 𝓛 (EndsMade TR SR XR (record { eq = p.eq; hash_input = h.hash_input }) b w r t
     Makes x) in
     let Lent : Type 0 = IfOk x (λ k. UnwrapsOrElse (find (p.eq t) (elements_of r.now)) Makes k.now) in
     let Made : Type 0 = IfErr x Makes in
     move ! (1 ∷ 3 ∷ []) $ join ! $ use1 𝓛 (raw (alive 𝓛 En.signature κs qs)) (taken_back 𝓛 κs qs) $
     move ! (1 ∷ 0 ∷ []) $
-    move ! (2 ∷ []) $ use1 𝓛 (raw Ends) (ends_so 𝓛 Set (λ new. new ≡ q.0.now) Gets q.0.ghost_name r.ghost_name same
+    move ! (2 ∷ []) $ use1 𝓛 (raw Ends)
+    (ends_so 𝓛 Set (λ new. new ≡ q.0.now) Gets q.0.ghost_name r.ghost_name same
     (λ new is_now. subst Gets (sym is_now) gets)) $
     use0 𝓛 (raw (fact 𝓤 Lent)) (fact_i 𝓤 Lent (emp 𝓤) (is_lent p.eq Makes r.now q.0.now t x gets)) $
     use0 𝓛 (raw (fact 𝓤 Made)) (fact_i 𝓤 Made (emp 𝓤) (is_made p.eq Makes r.now q.0.now t x gets)) $
     move ! (1 ∷ 0 ∷ []) $ join ! $ move ! (1 ∷ 0 ∷ []) $ join ! $
     -- [what is ensured; the answer; the tokens]
-    nothing ! $ nothing ! $ fjoin ! $ nothing ! $ fjoin ! $ nothing ! $ fjoin ! $ keep ! (3 ∷ 0 ∷ 2 ∷ 1 ∷ []) $
+    nothing ! $ nothing ! $ fjoin ! $ nothing ! $ fjoin ! $ nothing ! $ fjoin ! $
+    keep ! (3 ∷ 0 ∷ 2 ∷ 1 ∷ []) $
     by ! (leaves 𝓛 En hs c (At vss) v₃ x (tt, (tt, (tt, tt))) (tt, (tt, (tt, tt)))))))))))))))))))))))))))))))

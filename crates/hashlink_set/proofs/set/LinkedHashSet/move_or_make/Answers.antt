@@ -15,7 +15,8 @@ returns-then-to_back-clause-moved g c =
     let new = c.to_back.new.self in
     let t = c.args.value.now in
     moved_gets eq old new t (FnOnceReturnsAt g.F.FnOnce c.args.f t)
-    (subst (λ b. Moves eq old new t (length old.entries) (as_value b)) c.if-to_back.true c.to_back.ensures.moves)
+    (subst (λ b. Moves eq old new t (length old.entries) (as_value b)) c.if-to_back.true
+    c.to_back.ensures.moves)
 
 pub f-requires : goal.f-requires
 f-requires g c =

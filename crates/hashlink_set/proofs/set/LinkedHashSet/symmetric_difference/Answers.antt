@@ -11,5 +11,6 @@ pub returns-clause-unique : goal.returns-clause-unique
 returns-clause-unique g c =
     let eq = g.T.PartialEq.eq in
     subst (IsDistinct eq) (sym (returns-clause-rest g c))
-    (IsDistinct-symmetric_difference eq g.met.T.Eq.laws (elements_of c.args.self.now) (elements_of c.args.other.now)
+    (IsDistinct-symmetric_difference eq g.met.T.Eq.laws (elements_of c.args.self.now)
+    (elements_of c.args.other.now)
     c.difference.ensures.distinct c.difference-2.ensures.distinct)

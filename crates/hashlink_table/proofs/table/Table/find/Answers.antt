@@ -45,7 +45,12 @@ returns-clause-cost g c =
     let t = c.self.inside in
     let m = length t.heads.firsts in
     let room = room_by_view t.cells.items t.room c.args.self.now c.self.view_is in
-    let some : 0 < m = omega (arith, c.if-self-eq0.false, c.self.invariant.1.held, c.self.invariant.1.headed) in
+    let some : 0 < m = omega (
+      arith,
+      c.if-self-eq0.false,
+      c.self.invariant.1.held,
+      c.self.invariant.1.headed,
+    ) in
     let all = agreeing_by_view t.cells.items t.room c.args.hash m c.args.self.now some c.self.view_is in
     let cost = rw c.deref.ensures.value at c.seek.ensures.cost in
     (m, some, omega (arith, room, c.self.invariant.1.headed), omega (arith, all, cost))

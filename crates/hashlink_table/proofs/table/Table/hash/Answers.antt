@@ -33,5 +33,6 @@ returns g c =
     let read = get_or_read t.cells.items c.args.cell c.index.result.now within c.index.ensures no_cell in
     let is : get c.args.self.now.nodes c.args.cell ≡ Some c.there.result
     = at ∙ sym (ap (λ (d : Cell g.row.N.Denot). d.kept) read) ∙ c.there.ensures in
-    let Same : Option (Kept g.row.N.Denot) → Type 0 = λ o. IfSome o (λ kept. c.there.result.hash ≡ kept.hash) in
+    let Same : Option (Kept g.row.N.Denot)
+    → Type 0 = λ o. IfSome o (λ kept. c.there.result.hash ≡ kept.hash) in
     subst Same (sym is) refl

@@ -34,7 +34,8 @@ taken-cell-requires g c =
     = omega (arith, c.requires, len, room, c.self.invariant.1.counted, c.self.invariant.1.headed) in
     let low : c.bucket_of-bucket.result < length t.heads.firsts
     = omega (arith, some, c.len.ensures, c.bucket_of-bucket.ensures) in
-    let head = head_small t.heads.firsts (next_at t.cells.items) t.cells.items t.free c.bucket_of-bucket.result
+    let head = head_small t.heads.firsts (next_at t.cells.items) t.cells.items t.free
+    c.bucket_of-bucket.result
     c.self.invariant.1.linked low (omega (arith, c.self.invariant.1.cells_small)) in
     omega (arith, head, c.first.ensures)
 
@@ -74,7 +75,8 @@ invariant_of-self g c =
     let buckets : c.len.result ≡ length t.heads.firsts = c.len.ensures in
     let bucket = c.bucket_of-bucket.ensures ∙ ap (λ (n : ℕ). c.args.hash % n) buckets in
     let low : c.bucket_of-bucket.result < length t.heads.firsts = omega (arith, some, bucket) in
-    let fit = placed_fit t.heads t.cells.items _ _ t.free _ t.len t.room _ _ c.self.invariant.0 c.self.invariant.1
+    let fit = placed_fit t.heads t.cells.items _ _ t.free _ t.len t.room _ _ c.self.invariant.0
+    c.self.invariant.1
     more c.place-at.ensures.placed in
     rw (c.set_first.ensures, c.place-at.ensures.capacity) (
       (fit.1, c.self.invariant.0.1),
@@ -113,7 +115,8 @@ returns-clause-inserted g c =
     c.place-at.ensures.placed (ap (λ (d : Cell g.row.N.Denot). d.kept) c.taken-cell.ensures) in
     let kept : Kept g.row.N.Denot = record { hash = c.args.hash; node = c.args.node } in
     contents-insert t.cells.items _ t.room c.place-at.result kept put.is put.others
-    ∙ ap (λ (u : Contents g.row.N.Denot). record u { nodes = insert u.nodes c.place-at.result kept }) c.self.view_is
+    ∙ ap (λ (u : Contents g.row.N.Denot). record u { nodes = insert u.nodes c.place-at.result kept })
+    c.self.view_is
 
 pub returns-clause-small : goal.returns-clause-small
 returns-clause-small g c =

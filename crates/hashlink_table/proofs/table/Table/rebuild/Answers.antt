@@ -10,7 +10,8 @@ use Rattle.hashlink_table.proofs.Views.{len_by_view, contents_kept}
 use Rattle.hashlink_table.proofs.table.Table.rebuild.Goals as goal
 
 -- the nodes of the cells, before the memory was reserved and after the cells were chained anew
-nodes_stay : {N : Type 0} (first second third fourth last : List (Cell N)) → second ≡ first → SameNodes second third
+nodes_stay : {N : Type 0} (first second third fourth last : List (Cell N)) → second ≡ first
+    → SameNodes second third
     → fourth ≡ third → SameNodes fourth last
     → SameNodes first last
 nodes_stay first second third fourth last a b c d i =

@@ -1,4 +1,5 @@
-use Rattle.std.proofs.Common.{◌≡◌, ℕ, ◌%◌, ◌<◌, List, length, slice_index_or, Some, IsSome, sym, ap, ◌∙◌, subst, arith}
+use Rattle.std.proofs.Common.{◌≡◌, ℕ, ◌%◌, ◌<◌, List, length, slice_index_or, Some, IsSome, sym, ap, ◌∙◌}
+use Rattle.std.proofs.Common.{subst, arith}
 use Rattle.std.proofs.lemmas.List.{get_or_read, length-set, with_items_is}
 use Rattle.std.specs.FinMap.{remove}
 use Rattle.std.specs.Int.{IsPowerOfTwo}
@@ -7,7 +8,8 @@ use Rattle.hashlink_table.specs.declared.cell.Cell.{Cell}
 use Rattle.hashlink_table.specs.Contents.{Contents}
 use Rattle.hashlink_table.specs.Chains.{no_cell, kept_at, next_at, chain_of, IsSound}
 use Rattle.hashlink_table.proofs.Cells.{chain_at_within, kept_at-set, kept_at-set_other}
-use Rattle.hashlink_table.proofs.Views.{get_by_view, within_by_kept, kept_by_read, some_taken, contents-remove}
+use Rattle.hashlink_table.proofs.Views.{get_by_view, within_by_kept, kept_by_read, some_taken}
+use Rattle.hashlink_table.proofs.Views.{contents-remove}
 use Rattle.hashlink_table.proofs.Linking.{free_small}
 use Rattle.hashlink_table.proofs.Sound.{sound-remove}
 use Rattle.hashlink_table.proofs.table.Table.remove.Goals as goal
@@ -30,9 +32,10 @@ there-requires g c =
     some
 
 -- what is known of the cell and its bucket
-bucket_facts : {N : Type 0} (heads : List ℕ) (cells : List (Cell N)) (capacity free len room i : ℕ) (read : Cell N)
-    (k : Kept N)
-    → IsSound heads cells capacity free len room → IsSome (kept_at cells i) → read ≡ slice_index_or cells i read
+bucket_facts : {N : Type 0} (heads : List ℕ) (cells : List (Cell N)) (capacity free len room i : ℕ)
+    (read : Cell N) (k : Kept N)
+    → IsSound heads cells capacity free len room → IsSome (kept_at cells i) → read
+    ≡ slice_index_or cells i read
     → read.kept ≡ Some k
     → (kept_at cells i ≡ Some k) × (0 < length heads) × (0 < len)
 bucket_facts heads cells capacity free len room i read k s some is e =
@@ -63,7 +66,8 @@ unlink-requires-clause-on_chain g c =
     let f = bucket_facts t.heads.firsts t.cells.items _ t.free t.len t.room c.args.cell c.index.result.now
     c.there.result c.self.invariant.1 some c.index.ensures c.there.ensures in
     rw c.deref_mut.ensures.value
-    (chain_at_within (length t.heads.firsts) t.cells.items c.args.cell (within_by_kept t.cells.items c.args.cell some)
+    (chain_at_within (length t.heads.firsts) t.cells.items c.args.cell
+    (within_by_kept t.cells.items c.args.cell some)
     ∙ ap (chain_of (length t.heads.firsts)) f.0
     ∙ sym (c.bucket_of-bucket.ensures ∙ ap (λ (n : ℕ). c.there.result.hash % n) c.len.ensures))
 
@@ -107,8 +111,10 @@ invariant_of-self g c =
         ),
         omega (arith, c.self.invariant.0.1, size.1),
       ),
-      sound-remove t.heads.firsts c.unlink.new.heads.firsts t.cells.items c.unlink.new.cells _ t.free t.len t.room
-          c.args.cell _ c.there.result c.self.invariant.1 f.0 (unlinked t.free c.self.invariant.1.linked) size.0 cells
+      sound-remove t.heads.firsts c.unlink.new.heads.firsts t.cells.items c.unlink.new.cells
+          _ t.free t.len t.room
+          c.args.cell _ c.there.result c.self.invariant.1 f.0
+          (unlinked t.free c.self.invariant.1.linked) size.0 cells
           same
           (ap (λ (d : Cell g.row.N.Denot). d.next) c.set_free.ensures)
           (ap (λ (d : Cell g.row.N.Denot). d.kept) c.set_free.ensures),
@@ -125,7 +131,8 @@ returns g c =
     let same = rw c.deref_mut.ensures.value at c.unlink.ensures.nodes in
     rw (with_items_is t.cells c.unlink.new.cells (cells ∙ sym t.cells.ok.0))
     (contents-remove t.cells.items _ t.room c.args.cell
-    (kept_at-set c.unlink.new.cells c.args.cell _ within ∙ ap (λ (d : Cell g.row.N.Denot). d.kept) c.set_free.ensures)
+    (kept_at-set c.unlink.new.cells c.args.cell _ within ∙ ap (λ (d : Cell g.row.N.Denot). d.kept)
+    c.set_free.ensures)
     (λ j ne. kept_at-set_other c.unlink.new.cells c.args.cell _ j ne ∙ same j))
     ∙ ap (λ (u : Contents g.row.N.Denot). record u { nodes = remove u.nodes c.args.cell }) c.self.view_is
 

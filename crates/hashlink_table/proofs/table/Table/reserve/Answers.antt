@@ -57,7 +57,13 @@ buckets_for-requires-clause-small g c =
 pub rebuild-requires-clause-held : goal.rebuild-requires-clause-held
 rebuild-requires-clause-held g c =
     let len = len_by_view _ _ _ c.self.view_is in
-    omega (arith, len, c.self.invariant.1.counted, c.max.ensures, c.next_power_of_two-room.ensures.lower_bound)
+    omega (
+      arith,
+      len,
+      c.self.invariant.1.counted,
+      c.max.ensures,
+      c.next_power_of_two-room.ensures.lower_bound,
+    )
 
 pub returns-in_err-rebuild-clause-enough : goal.returns-in_err-rebuild-clause-enough
 returns-in_err-rebuild-clause-enough g c = λ h.
@@ -68,7 +74,8 @@ pub returns-in_err-rebuild-clause-overflow : goal.returns-in_err-rebuild-clause-
 returns-in_err-rebuild-clause-overflow g c =
     let len = len_by_view _ _ _ c.self.view_is in (
       λ e. absurd
-          (no_overflow c.from_residual.result (err_is c.from_residual.result AllocError c.from_residual.ensures.1) e),
+          (no_overflow c.from_residual.result
+          (err_is c.from_residual.result AllocError c.from_residual.ensures.1) e),
       λ h. absurd
           (omega (
             arith,
@@ -86,7 +93,14 @@ pub returns-clause-ok : goal.returns-clause-ok
 returns-clause-ok g c =
     let len = len_by_view _ _ _ c.self.view_is in
     let room = ap (λ (t : Contents g.row.N.Denot). t.room) c.in_ok-rebuild.ensures.ok in
-    omega (arith, len, room, c.self.invariant.1.counted, c.max.ensures, c.next_power_of_two-room.ensures.lower_bound)
+    omega (
+      arith,
+      len,
+      room,
+      c.self.invariant.1.counted,
+      c.max.ensures,
+      c.next_power_of_two-room.ensures.lower_bound,
+    )
 
 pub returns-clause-room : goal.returns-clause-room
 returns-clause-room g c =

@@ -27,7 +27,13 @@ rebuild-requires-clause-held g c =
 
 pub returns-in_err-rebuild-clause-empty : goal.returns-in_err-rebuild-clause-empty
 returns-in_err-rebuild-clause-empty g c = λ h.
-    absurd (omega (arith, h, len_by_view _ _ _ c.self.view_is, c.self.invariant.1.counted, c.if-self-eq0.false))
+    absurd (omega (
+      arith,
+      h,
+      len_by_view _ _ _ c.self.view_is,
+      c.self.invariant.1.counted,
+      c.if-self-eq0.false,
+    ))
 
 pub invariant_of-self-2 : goal.invariant_of-self-2
 invariant_of-self-2 g c =

@@ -21,7 +21,8 @@ returns-in_err-reserve-clause-overflow g c =
           c.in_err-reserve.ensures.overflow.0 (ap Err (same_Err error CapacityOverflow (sym is ∙ e))) in omega
           (arith, more, none),
       λ h. is
-          ∙ ap Err (same_Err error CapacityOverflow (c.in_err-reserve.ensures.overflow.1 (omega (arith, h, none)))),
+          ∙ ap Err (same_Err error CapacityOverflow
+          (c.in_err-reserve.ensures.overflow.1 (omega (arith, h, none)))),
     )
 
 pub returns-clause-nothing : goal.returns-clause-nothing

@@ -6,8 +6,10 @@ use Rattle.hashlink_uses.proofs.maps.drains.take_ends.Given as goal
 -- the same map, of which only entries that were there at the start are left
 abbrev pub invariant-loop : goal.invariant-loop
 invariant-loop g l =
-    (l.drain.map.ghost_name ≡ l.initial.drain.map.ghost_name) × Kept (state_of l.fn.map) (state_of l.drain.map.now)
+    (l.drain.map.ghost_name ≡ l.initial.drain.map.ghost_name)
+    × Kept (state_of l.fn.map) (state_of l.drain.map.now)
 
 abbrev pub invariant-loop-2 : goal.invariant-loop-2
 invariant-loop-2 g l =
-    (l.drain.map.ghost_name ≡ l.initial.drain.map.ghost_name) × Kept (state_of l.fn.map) (state_of l.drain.map.now)
+    (l.drain.map.ghost_name ≡ l.initial.drain.map.ghost_name)
+    × Kept (state_of l.fn.map) (state_of l.drain.map.now)

@@ -11,7 +11,8 @@ returns-clause-counts g c =
     let f = c.or_insert.follows in
     let ok : IsOk c.or_insert.result = ap is_ok c.in_ok-count.was in
     let put : PutsLast g.K.PartialEq.eq (state_of c.args.map.now) (state_of (f.lender w)) c.args.word w =
-    subst (λ e. PutsLast g.K.PartialEq.eq e.map (state_of (f.lender w)) e.key w) c.entry.ensures.entry (f.holds w ok)
+    subst (λ e. PutsLast g.K.PartialEq.eq e.map (state_of (f.lender w)) e.key w) c.entry.ensures.entry
+    (f.holds w ok)
     in
     let written : w ≡ unwrap_or (lookup (g.K.PartialEq.eq c.args.word) (entries_of c.args.map.now)) 0 + 1
     = ap (λ v. v + 1) (c.in_ok-count.ensures.value ∙ ap (λ o. unwrap_or o 0) c.entry.ensures.value) in

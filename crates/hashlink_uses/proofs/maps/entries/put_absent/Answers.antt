@@ -12,8 +12,10 @@ returns-in_ok-map-in-Vacant-clause-put g c ok =
     let e = c.in_ok-map-in-Vacant.ensures in
     let same : c.in-Vacant.entry.map.now ≡ old = search rules in
     let adds = subst
-    (λ m. AddsEntry g.K.PartialEq.eq (state_of m) (state_of o.map.now) c.args.key c.args.value (length (entries_of m)))
+    (λ m. AddsEntry g.K.PartialEq.eq (state_of m) (state_of o.map.now) c.args.key c.args.value
+    (length (entries_of m)))
     same e.adds in
     let last = subst (λ m. raw_place o ≡ length (entries_of m)) same e.last in
-    adds-rewritten-at g.met.K.Eq.laws (state_of old) (state_of o.map.now) c.args.key c.args.value (raw_place o) _
+    adds-rewritten-at g.met.K.Eq.laws (state_of old) (state_of o.map.now) c.args.key c.args.value
+    (raw_place o) _
     c.args.written adds last (search rules)

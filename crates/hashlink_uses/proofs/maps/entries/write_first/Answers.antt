@@ -11,6 +11,7 @@ returns-in-Some-clause-there g c ok =
     let f = c.current_value.follows in
     let w = c.args.value in
     let at = (cursor_state made.result).place in
-    let written = subst (λ o. OnSome o (CursorWritten made.result (f.lender w) at w)) c.in-Some.is (f.holds w) in
+    let written = subst (λ o. OnSome o (CursorWritten made.result (f.lender w) at w))
+    c.in-Some.is (f.holds w) in
     (search rules) ∙ ap (λ s. s.map) written.1
     ∙ ap₂ (λ m i. with_value (state_of m) i w) made.ensures.unchanged made.ensures.first

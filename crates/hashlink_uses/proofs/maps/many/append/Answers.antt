@@ -10,7 +10,8 @@ pub returns-clause-all : goal.returns-clause-all
 returns-clause-all g c =
     on_ok_weaker c.extend.result
     (λ h. subst
-    (λ items. AcceptsAll (InsertsPair g.K.PartialEq.eq) (state_of c.args.map.now) items (state_of c.extend.new.self))
+    (λ items. AcceptsAll (InsertsPair g.K.PartialEq.eq) (state_of c.args.map.now) items
+    (state_of c.extend.new.self))
     (sym (taken_all h.0 h.1 h.2 h.4) ∙ h.3) h.5)
     c.extend.ensures.all
 

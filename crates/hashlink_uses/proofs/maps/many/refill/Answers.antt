@@ -15,5 +15,6 @@ returns g c =
     never_err c.append.result
     (IfErr-weaker c.append.result _ _
     (λ e h. drained_takes g.K.PartialEq.eq (state_of c.args.map.now) (state_of c.empty_out.new.map)
-    (state_of c.append.new.map) (entries_of c.args.other) e.taken e.pair h.0 c.empty_out.ensures (omega arith) h.1)
+    (state_of c.append.new.map) (entries_of c.args.other) e.taken e.pair h.0 c.empty_out.ensures
+    (omega arith) h.1)
     c.append.ensures.stopped)

@@ -1,7 +1,8 @@
 use Rattle.std.proofs.Common.{◌≡◌, ◌∙◌, None, ap, sym, rules}
 use Rattle.std.specs.Map.{lookup}
 use Rattle.hashlink.specs.Keyed.{entries_of, state_of}
-use Rattle.hashlink.proofs.CallerLemmas.{All-found, All-inserts, inserts_absent, put_or_not, stored_key-absent}
+use Rattle.hashlink.proofs.CallerLemmas.{All-found, All-inserts, inserts_absent, put_or_not}
+use Rattle.hashlink.proofs.CallerLemmas.{stored_key-absent}
 use Rattle.hashlink_uses.proofs.memo.Memo.get.Goals as goal
 
 pub returns-in-Some-clause-value : goal.returns-in-Some-clause-value

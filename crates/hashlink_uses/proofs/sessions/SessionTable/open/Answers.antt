@@ -11,7 +11,8 @@ invariant_of-self g c =
 pub returns-clause-opened : goal.returns-clause-opened
 returns-clause-opened g c =
     rw (← c.self.view_is)
-    (inserts_back _ (state_of c.self.inside.sessions) (state_of c.insert.new.self) c.args.key _ c.insert.result
+    (inserts_back _ (state_of c.self.inside.sessions) (state_of c.insert.new.self)
+    c.args.key _ c.insert.result
     c.insert.ensures.inserts)
 
 pub returns-clause-time : goal.returns-clause-time

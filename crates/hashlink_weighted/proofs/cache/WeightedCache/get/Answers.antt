@@ -9,13 +9,15 @@ use Rattle.hashlink_weighted.proofs.cache.WeightedCache.get.Goals as goal
 
 pub invariant_of-self-2 : goal.invariant_of-self-2
 invariant_of-self-2 g c =
-    moves_total (g.Q.Equivalent.matches c.args.key) (state_of c.self.inside.map) (state_of c.move_last.new.map)
+    moves_total (g.Q.Equivalent.matches c.args.key) (state_of c.self.inside.map)
+    (state_of c.move_last.new.map)
     c.self.inside.total c.self.inside.budget _ c.move_last.ensures.moves c.self.invariant
 
 pub returns-in_err-value : goal.returns-in_err-value
 returns-in_err-value g c =
     let value = last_value_match (g.Q.Equivalent.matches c.args.key) (state_of c.self.inside.map)
-    (state_of c.move_last.new.map) c.move_last.ensures.moves (sym c.move_last.ensures.there ∙ c.if-not-move_last.false) in
+    (state_of c.move_last.new.map) c.move_last.ensures.moves
+    (sym c.move_last.ensures.there ∙ c.if-not-move_last.false) in
     let shown = ap (λ r. option_map (λ e. e.1) (option_map deref_pair r)) c.in_err-value.was in
     rw (← c.self.view_is) (
       (refl, λ _. tt, record { moves = c.move_last.ensures.moves; budget = refl }),
@@ -32,7 +34,8 @@ returns-in_err-value g c =
 pub returns : goal.returns
 returns g c =
     let value = last_value_match (g.Q.Equivalent.matches c.args.key) (state_of c.self.inside.map)
-    (state_of c.move_last.new.map) c.move_last.ensures.moves (sym c.move_last.ensures.there ∙ c.if-not-move_last.false) in
+    (state_of c.move_last.new.map) c.move_last.ensures.moves
+    (sym c.move_last.ensures.there ∙ c.if-not-move_last.false) in
     let shown = ap (λ r. option_map (λ e. e.1) (option_map deref_pair r)) c.in_ok-value.was in
     rw (← c.self.view_is) (
       (refl, λ _. tt, record { moves = c.move_last.ensures.moves; budget = refl }),

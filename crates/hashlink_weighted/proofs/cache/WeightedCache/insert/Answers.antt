@@ -6,20 +6,23 @@ use Rattle.hashlink_weighted.proofs.cache.WeightedCache.insert.Goals as goal
 pub overflow_sub-others : goal.overflow_sub-others
 overflow_sub-others g c =
     rw c.take_apart-old_value.ensures
-    (old_weight g.K.PartialEq.eq (state_of c.self.inside.map) (state_of c.insert.new.self) c.args.key c.args.value
+    (old_weight g.K.PartialEq.eq (state_of c.self.inside.map) (state_of c.insert.new.self)
+    c.args.key c.args.value
     c.args.weight c.in-Ok.old c.in-Ok.ensures.inserts c.self.inside.total c.self.invariant.sum)
 
 pub drop_until_fitting-self-inside-requires-clause-last :
     goal.drop_until_fitting-self-inside-requires-clause-last
 drop_until_fitting-self-inside-requires-clause-last g c =
     rw c.take_apart-old_value.ensures
-    (leaves_last g.K.PartialEq.eq (state_of c.self.inside.map) (state_of c.insert.new.self) c.args.key c.args.value
+    (leaves_last g.K.PartialEq.eq (state_of c.self.inside.map) (state_of c.insert.new.self)
+    c.args.key c.args.value
     c.args.weight c.in-Ok.old c.in-Ok.ensures.inserts c.self.inside.total c.self.invariant.sum)
 
 pub returns-in-Ok-clause-inserts : goal.returns-in-Ok-clause-inserts
 returns-in-Ok-clause-inserts g c =
     let fits : c.args.weight ≤ c.self.inside.budget = omega arith in
     rw (c.take_apart-old_value.ensures, ← c.self.view_is)
-    (accepts g.K.PartialEq.eq (state_of c.self.inside.map) (state_of c.insert.new.self) c.args.key c.args.value
+    (accepts g.K.PartialEq.eq (state_of c.self.inside.map) (state_of c.insert.new.self)
+    c.args.key c.args.value
     c.args.weight c.in-Ok.old c.in-Ok.ensures.inserts (state_of c.drop_until_fitting-self-inside.new.map)
     c.self.inside.budget fits c.drop_until_fitting-self-inside.ensures.keeps)

@@ -11,14 +11,16 @@ invariant_of-self g c =
 
 pub overflow_sub-self : goal.overflow_sub-self
 overflow_sub-self g c =
-    (removes_weight (g.Q.Equivalent.matches c.args.key) (state_of c.self.inside.map) (state_of c.remove.new.self)
+    (removes_weight (g.Q.Equivalent.matches c.args.key) (state_of c.self.inside.map)
+    (state_of c.remove.new.self)
     c.self.inside.total c.self.inside.budget
     (c.in_ok-value.value, c.in_ok-value.weight) (sym c.in_ok-value.was ∙ c.remove.ensures.value)
     c.remove.ensures.removes c.self.invariant).0
 
 pub invariant_of-self-2 : goal.invariant_of-self-2
 invariant_of-self-2 g c =
-    (removes_weight (g.Q.Equivalent.matches c.args.key) (state_of c.self.inside.map) (state_of c.remove.new.self)
+    (removes_weight (g.Q.Equivalent.matches c.args.key) (state_of c.self.inside.map)
+    (state_of c.remove.new.self)
     c.self.inside.total c.self.inside.budget
     (c.in_ok-value.value, c.in_ok-value.weight) (sym c.in_ok-value.was ∙ c.remove.ensures.value)
     c.remove.ensures.removes c.self.invariant).1

@@ -38,16 +38,20 @@ loop-others-preserved g c =
 fits : (g : _) (c : goal.Left-loop-others g) → c.loop-others.others ≤ c.args.budget - c.args.weight
 fits g c = elim c.loop-others-test.branch [
   | else-loop-others-test w ↦ w.loop-others-test.false
-  | then-loop-others-test+in_default w ↦ absurd (not_none (state_of c.args.map.now) (state_of c.loop-others.map)
-      (state_of w.pop_front.new.self) c.loop-others.others c.args.weight c.args.budget c.loop-others.invariant.dropped
+  | then-loop-others-test+in_default w ↦ absurd
+      (not_none (state_of c.args.map.now) (state_of c.loop-others.map)
+      (state_of w.pop_front.new.self) c.loop-others.others c.args.weight c.args.budget
+      c.loop-others.invariant.dropped
       w.loop-others-test.true w.in_default.ensures.pops)
 ]
 
 left : (g : _) (c : goal.Left-loop-others g) → c.loop-others-test.map ≡ c.loop-others.map
 left g c = elim c.loop-others-test.branch [
   | else-loop-others-test w ↦ w.map-is
-  | then-loop-others-test+in_default w ↦ absurd (not_none (state_of c.args.map.now) (state_of c.loop-others.map)
-      (state_of w.pop_front.new.self) c.loop-others.others c.args.weight c.args.budget c.loop-others.invariant.dropped
+  | then-loop-others-test+in_default w ↦ absurd
+      (not_none (state_of c.args.map.now) (state_of c.loop-others.map)
+      (state_of w.pop_front.new.self) c.loop-others.others c.args.weight c.args.budget
+      c.loop-others.invariant.dropped
       w.loop-others-test.true w.in_default.ensures.pops)
 ]
 

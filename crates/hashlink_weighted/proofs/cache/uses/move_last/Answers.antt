@@ -13,4 +13,5 @@ returns-in-Some-clause-moves g c =
     let test = g.Q.Equivalent.matches c.args.key in
     subst (MovesMatch test (state_of c.args.map.now) _ _) (sym at)
     (moved_match_last g.K.PartialEq.eq g.met.K.Eq.laws test (g.met.Q.Equivalent.finds_equal c.args.key)
-    (state_of c.args.map.now) _ v c.to_back.ensures.distinct at (on-some c.in-Some.is (c.to_back.follows.holds v)))
+    (state_of c.args.map.now) _ v c.to_back.ensures.distinct at
+    (on-some c.in-Some.is (c.to_back.follows.holds v)))

@@ -13,7 +13,9 @@ pub returns : goal.returns
 returns g c =
     let old = (state_in c.args.self.now).map in record {
       cases = both_of _ _ _ c.clone.result c.clone.ensures.capacity
-          (clone_by_answer g.K.Clone.is_clone g.V.Clone.is_clone g.K.PartialEq.eq (g.S.Clone.is_clone old.hasher)
-          (g.S.Clone.is_infallible old.hasher) (entries_in c.args.self.now) (λ m. (state_in m).map) c.clone.result
+          (clone_by_answer g.K.Clone.is_clone g.V.Clone.is_clone g.K.PartialEq.eq
+          (g.S.Clone.is_clone old.hasher)
+          (g.S.Clone.is_infallible old.hasher) (entries_in c.args.self.now)
+          (λ m. (state_in m).map) c.clone.result
           c.clone.ensures.made c.clone.ensures.refused c.clone.ensures.equal c.clone.ensures.same);
     }

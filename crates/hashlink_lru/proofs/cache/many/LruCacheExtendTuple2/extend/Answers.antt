@@ -10,7 +10,8 @@ returns-in_err-extend g c =
     let e = c.in_err-extend.field-0.0 in
     let nexts = g.I.IntoIter.Iterator.next_gives in record {
       ran = took_some nexts (λ raw. raw) g.I.IntoIterator.into_iter_gives (InsertsPairIn g.K.PartialEq.eq)
-          (OnMap (Grows 1)) c.args.iter (state_in c.args.self.now) (state_in c.extend.new.self) c.from_residual.result
+          (OnMap (Grows 1)) c.args.iter (state_in c.args.self.now) (state_in c.extend.new.self)
+          c.from_residual.result
           e.taken e.pair c.from_residual.ensures.0 (cuts_item nexts)
           (λ a b x y refused. record {
             map = refused.map.grows;

@@ -6,7 +6,8 @@ use mir.MapTy.{inst_fn}
 use mir.Val.{Val, of_list, vptr, vstruct}
 use prog.Wp.{WpFn}
 use types.Logic.{sem}
-use types.Kit.{‵, raw, ◌⊛◌, some, later, ◌$◌, ◌∵◌, !, qed, by, move, keep, drop, split, join, fsplit, fjoin, fpick}
+use types.Kit.{‵, raw, ◌⊛◌, some, later, ◌$◌, ◌∵◌, !, qed, by, move, keep, drop, split, join, fsplit, fjoin}
+use types.Kit.{fpick}
 use types.Kit.{feq_l, pick, await, rewrite, use0, use1}
 use types.Part.{whole, sub}
 use types.Run.{stop, fld, of_opd, addr, and_then, no_more, returns, enter}
@@ -85,24 +86,29 @@ current_spec 𝓤 𝓛 𝓜 𝓡 wired K V S T LK LV LS LT e de p dp h dh b db w
     (g.spec K V S T e de p dp h dh b db w dw dd 𝓛 𝓜.mem 𝓡.returns) in
     let y : Y.Ghost = ((κs, qs, z.0.2, (r, tt), (vs, tt)), tt) in
     let Eg = g.ended K V S T e de p dp h dh b db w dw dd in
-    let Again : SProp 𝓤 → SProp 𝓤 = Asks 𝓤 (κs.1.1.0 ⊑ K.lives) (κs.1.1.1.0 ⊑ V.lives) (κs.1.1.1.1.0 ⊑ S.lives)
+    let Again : SProp 𝓤 → SProp 𝓤 = Asks 𝓤 (κs.1.1.0 ⊑ K.lives) (κs.1.1.1.0 ⊑ V.lives)
+    (κs.1.1.1.1.0 ⊑ S.lives)
     (κs.1.1.1.1.1.0 ⊑ T.lives) in
     let Same : Mid.Denot → Type 0 = λ q. q.0 ≡ r in
     let Place : Mid.Denot → Type 0 = λ q. q.1 ≡ cursor_node r.now in
     subst (λ (us : List Val). ent 𝓤 (W.pre (At us)) (WpFn 𝓤 H 𝓣.C 𝓣.Λ fn (W.args (At us)) (W.post (At us))))
     (sym is_ref)
-    (qed 𝓛 (raw (on_entry 𝓛 En.signature κs qs (r, tt) (vs, tt)) ∷ raw ((c κs (r, tt)).requires tt) ∷ []) ∵ move !
+    (qed 𝓛 (raw (on_entry 𝓛 En.signature κs qs (r, tt) (vs, tt)) ∷ raw ((c κs (r, tt)).requires tt) ∷ []) ∵
+    move !
     (1 ∷ []) $
     use1 𝓛 (raw (Again (emp 𝓤)) ⊛ raw (Again (emp 𝓤)))
-    (asks_again 𝓤 (κs.1.1.0 ⊑ K.lives) (κs.1.1.1.0 ⊑ V.lives) (κs.1.1.1.1.0 ⊑ S.lives) (κs.1.1.1.1.1.0 ⊑ T.lives)
+    (asks_again 𝓤 (κs.1.1.0 ⊑ K.lives) (κs.1.1.1.0 ⊑ V.lives) (κs.1.1.1.1.0 ⊑ S.lives)
+    (κs.1.1.1.1.1.0 ⊑ T.lives)
     𝓛 (emp 𝓤)) $ split ! $
     move ! (2 ∷ 0 ∷ []) $ join ! $ use1 𝓛 (raw (Y.pre y)) (id⊢ 𝓤 (Y.pre y)) $
     enter ! 𝓣.C 𝓣.Λ fn vs Post $ alloc_all ! (λ l. pass_all ! refl ((tt, tt), tt) $
     sets ! (addr ! (through ! refl (stop !))) refl (tt, tt) $
     calls_at ! (framed 𝓤 H 𝓜 𝓣) Y
-    (met 𝓤 𝓛 𝓜 𝓡 (code.calls-hashlink_map::cursor::methods::CursorMut+K+V+S::with_place 𝓡.env wired) K V S T LK
+    (met 𝓤 𝓛 𝓜 𝓡 (code.calls-hashlink_map::cursor::methods::CursorMut+K+V+S::with_place 𝓡.env wired)
+    K V S T LK
     LV LS LT e de p dp h dh b db w dw dd me mp mh mb mw md) y (and_then ! (get ! refl) (no_more !)) (λ v.
-    use1 𝓛 (later (some (λ (q : Mid.Denot). (raw (alive 𝓛 En.signature κs qs) ⊛ ‵ (Mid.own_val q (v ∷ []))) ⊛ some
+    use1 𝓛 (later (some (λ (q : Mid.Denot). (raw (alive 𝓛 En.signature κs qs) ⊛ ‵ (Mid.own_val q (v ∷ []))) ⊛
+    some
     (λ (ls : Lasts Eg κs (r, tt)). ‵ (lasts Eg κs (r, tt) ls) ⊛
     (raw (fact 𝓤 (Same q)) ⊛ raw (fact 𝓤 (Place q))))))) (id⊢ 𝓤 (Y.post y v)) $
     await ! tt $ pick ! (λ q. split ! $ move ! (1 ∷ []) $
@@ -125,25 +131,30 @@ current_spec 𝓤 𝓛 𝓜 𝓡 wired K V S T LK LV LS LT e de p dp h dh b db w
     let Stands : Mid.Denot → Type 0 = λ x. IsPlace x.0.now.map.now.nodes x.1 in
     let stands : Stands q = subst Stands (sym of_r) r.now.within in
     move ! (3 ∷ []) $ use1 𝓛 (raw (Again (fact 𝓤 (Stands q))))
-    (adds_fact 𝓤 (κs.1.1.0 ⊑ K.lives) (κs.1.1.1.0 ⊑ V.lives) (κs.1.1.1.1.0 ⊑ S.lives) (κs.1.1.1.1.1.0 ⊑ T.lives)
+    (adds_fact 𝓤 (κs.1.1.0 ⊑ K.lives) (κs.1.1.1.0 ⊑ V.lives) (κs.1.1.1.1.0 ⊑ S.lives)
+    (κs.1.1.1.1.1.0 ⊑ T.lives)
     (Stands q) stands) $
-    nothing ! $ move ! (2 ∷ 0 ∷ []) $ fjoin ! $ move ! (2 ∷ 0 ∷ []) $ fjoin ! $ move ! (2 ∷ 0 ∷ []) $ join ! $ join ! $
+    nothing ! $ move ! (2 ∷ 0 ∷ []) $ fjoin ! $ move ! (2 ∷ 0 ∷ []) $ fjoin ! $ move ! (2 ∷ 0 ∷ []) $
+    join ! $ join ! $
     let Y₂ = triple_of 𝓛 (lends.signature K V S T e de p dp h dh b db w dw dd)
     (lends.spec K V S T e de p dp h dh b db w dw dd 𝓛 𝓜.mem 𝓡.returns) in
     let y₂ : Y₂.Ghost = ((κs, qs, z.0.2, (q.0, (q.1, tt)), (mut_vals q.0, (u ∷ [], tt))), tt) in
     let E₂ = lends.ended K V S T e de p dp h dh b db w dw dd in
     let Out : RattleType = option.the_row (Lent K V LK LV κs.0) in
     let place_of : Mid.Denot → ℕ = λ x. place_number x.0.now.map.now.nodes x.1 in
-    let Lends : Out.Denot → Mid.Denot → SProp 𝓤 = λ o x. sem 𝓛 (LendsPairFromCursor KR VR SR TR x.0 (place_of x) o) in
+    let Lends : Out.Denot → Mid.Denot
+    → SProp 𝓤 = λ o x. sem 𝓛 (LendsPairFromCursor KR VR SR TR x.0 (place_of x) o) in
     let Pair : Out.Denot → Mid.Denot
     → Type 0 = λ o x. option_map lent_pair o ≡ entry_in (cursor_state x.0.now) (place_of x) in
     let here : Mid.Denot = (r, cursor_node r.now) in
     use1 𝓛 (raw (Y₂.pre y₂)) (id⊢ 𝓤 (Y₂.pre y₂)) $
     calls_at ! (framed 𝓤 H 𝓜 𝓣) Y₂
-    (lent.met 𝓤 𝓛 𝓜 𝓡 (code.calls-hashlink_map::cursor::methods::CursorMut+K+V+S::pair_at 𝓡.env wired) K V S T LK
+    (lent.met 𝓤 𝓛 𝓜 𝓡 (code.calls-hashlink_map::cursor::methods::CursorMut+K+V+S::pair_at 𝓡.env wired)
+    K V S T LK
     LV LS LT e de p dp h dh b db w dw dd me mp mh mb mw md) y₂
     (and_then ! (get ! refl) (and_then ! (get ! refl) (no_more !))) (λ v₂.
-    use1 𝓛 (later (some (λ (o : Out.Denot). (raw (alive 𝓛 En.signature κs qs) ⊛ ‵ (Out.own_val o (v₂ ∷ []))) ⊛ some
+    use1 𝓛 (later (some (λ (o : Out.Denot). (raw (alive 𝓛 En.signature κs qs) ⊛ ‵ (Out.own_val o (v₂ ∷ []))) ⊛
+    some
     (λ (ls : Lasts E₂ κs (q.0, (q.1, tt))). ‵ (lasts E₂ κs (q.0, (q.1, tt)) ls) ⊛
     (raw (Lends o q) ⊛ raw (fact 𝓤 (Pair o q))))))) (id⊢ 𝓤 (Y₂.post y₂ v₂)) $
     await ! tt $ pick ! (λ o. split ! $ move ! (1 ∷ []) $

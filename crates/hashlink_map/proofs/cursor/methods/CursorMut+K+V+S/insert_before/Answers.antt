@@ -17,7 +17,8 @@ returns-clause-inserts g c =
     record {
       map =
           subst
-          (λ p. Inserts g.K.PartialEq.eq (state_of s.map.now) (state_of c.insert_at.new.self) c.args.key c.args.value
+          (λ p. Inserts g.K.PartialEq.eq (state_of s.map.now) (state_of c.insert_at.new.self)
+          c.args.key c.args.value
           (place_number s.map.now.nodes p) c.insert_at.result)
           (sym (same_place s.place)) c.insert_at.ensures.inserts;
       place = (c.insert_at.ensures.keeps (cursor_node s) s.within).number;

@@ -7,7 +7,8 @@ use mir.MapTy.{inst_fn}
 use mir.Val.{Val, of_list, vstruct, vptr}
 use prog.Wp.{WpFn}
 use types.Logic.{sem}
-use types.Kit.{‵, raw, ◌⊛◌, some, later, ◌$◌, ◌∵◌, !, qed, by, move, keep, drop, split, join, fsplit, fjoin, fpick}
+use types.Kit.{‵, raw, ◌⊛◌, some, later, ◌$◌, ◌∵◌, !, qed, by, move, keep, drop, split, join, fsplit, fjoin}
+use types.Kit.{fpick}
 use types.Kit.{pick, await, rewrite, use0, use1, suffices, feq_l, done}
 use types.Part.{whole, sub}
 use types.Run.{stop, fld, of_opd, addr, and_then, no_more, returns, enter}
@@ -39,10 +40,10 @@ use Rattle.hashlink_map.specs.contracts.raw_entry.RawOccupiedEntryMut as entry
 use Rattle.hashlink_map.specs.contracts.raw_entry.occupied.RawOccupiedEntryMut+K+V+S.into_key_value as f
 use Rattle.hashlink_map.specs.contracts.map.LinkedHashMap.pair_at_mut as g
 use Rattle.hashlink_map.proofs.map.LinkedHashMap.pair_at_mut.Met.{met}
-use Rattle.hashlink_map.proofs.raw_entry.occupied.RawOccupiedEntryMut+K+V+S.into_key_value.Statement.{statement}
+use Rattle.hashlink_map.proofs.raw_entry.occupied.RawOccupiedEntryMut+K+V+S.into_key_value.Statement
 use Rattle.hashlink_map.proofs.raw_entry.occupied.RawOccupiedEntryMut+K+V+S.into_key_value.Code as code
 
-pub into_key_value_spec : {M : Type 1} → statement M
+pub into_key_value_spec : {M : Type 1} → Statement.statement M
 into_key_value_spec 𝓤 𝓛 𝓜 𝓡 wired K V S T LK LV LS LT e de p dp h dh b db w dw dd me mp mh mb mw md =
     let H = 𝓛.H in let 𝓣 = tables 𝓤 H 𝓜 𝓡 𝓡.env in
     let En = f.ended K V S T e de p dp h dh b db w dw dd in
@@ -66,7 +67,8 @@ into_key_value_spec 𝓤 𝓛 𝓜 𝓡 wired K V S T LK LV LS LT e de p dp h dh
       tt,
     )
     (f.Key.name inst) fn (code.unfolded 𝓤 H 𝓜 𝓡 wired (K, (V, (S, (T, tt)))) de dp dh db dw dd) (λ z are.
-    let κs = z.0.0 in let qs = z.0.1 in let a = z.0.3 in let r = a.0.map in let n = a.0.node in let vs = mut_vals r in
+    let κs = z.0.0 in let qs = z.0.1 in let a = z.0.3 in let r = a.0.map in let n =
+    a.0.node in let vs = mut_vals r in
     let Post : Val → SProp 𝓤 = (walk_of 𝓛 En hs c).post z in
     let Run : List Val → SProp 𝓤 = λ ws. WpFn 𝓤 H 𝓣.C 𝓣.Λ fn ws Post in
     let G = triple_of 𝓛 (g.signature K V S T e de p dp h dh b db w dw dd)
@@ -79,9 +81,11 @@ into_key_value_spec 𝓤 𝓛 𝓜 𝓡 wired K V S T LK LV LS LT e de p dp h dh
     let Says : Tup.Denot → SProp 𝓤 = λ q. (c κs a).ensures tt q (at_exit En κs a ((tt, tt), tt)) in
     let mut_ptr : Val = vptr r.ref_ptr.0 r.ref_ptr.1 in
     let held : Val = vstruct (of_list (vs ++ (word n.at ∷ []))) in
-    qed 𝓛 ((toks ⊛ ‵ (owns (types_at En.signature.params κs) a z.0.4)) ∷ raw ((c κs a).requires tt) ∷ []) ∵ split ! $
+    qed 𝓛 ((toks ⊛ ‵ (owns (types_at En.signature.params κs) a z.0.4)) ∷ raw ((c κs a).requires tt) ∷ []) ∵
+    split ! $
     move ! (1 ∷ []) $ fsplit ! $ fpick ! (λ vss. fsplit ! $ feq_l ! (λ is_held. fsplit ! $
-    peeks ! Ref _ (shows 𝓛 Ref) r vss.0 (λ is. let is_ref : vss.0 ≡ vs = mut_Tells (named 0) κs.0 MR r vss.0 is in
+    peeks ! Ref _ (shows 𝓛 Ref) r vss.0 (λ is. let is_ref : vss.0 ≡ vs =
+    mut_Tells (named 0) κs.0 MR r vss.0 is in
     rewrite ! 0 (λ (us : List Val). ‵ (Ref.own_val r us)) is_ref refl $ move ! (1 ∷ []) $ fsplit ! $
     word_had ! n.at vss.1.0 (λ is_node. drop ! $
     -- [the map's reference; nothing; the tokens; the requires]
@@ -109,11 +113,13 @@ into_key_value_spec 𝓤 𝓛 𝓜 𝓡 wired K V S T LK LV LS LT e de p dp h dh
     move ! (3 ∷ 0 ∷ []) $ join ! $ move ! (0 ∷ 1 ∷ []) $ join ! $
     use1 𝓛 (raw (G.pre y)) (id⊢ 𝓤 (G.pre y)) $
     calls_at ! (framed 𝓤 H 𝓜 𝓣) G (met 𝓤 𝓛 𝓜 𝓡
-    (code.calls-hashlink_map::map::LinkedHashMap::pair_at_mut 𝓡.env wired) K V S T LK LV LS LT e de p dp h dh b db
+    (code.calls-hashlink_map::map::LinkedHashMap::pair_at_mut 𝓡.env wired) K V S T LK LV
+    LS LT e de p dp h dh b db
     w dw dd me mp mh mb mw md) y (and_then ! (get ! refl) (and_then ! (get ! refl) (no_more !))) (λ v.
     use1 𝓛 (later (some (λ (q : Tup.Denot). (toks ⊛ ‵ (Tup.own_val q (v ∷ []))) ⊛ some (λ (ls : Lasts
     (g.ended K V S T e de p dp h dh b db w dw dd) κs (r, (n, tt))). ‵ (lasts
-    (g.ended K V S T e de p dp h dh b db w dw dd) κs (r, (n, tt)) ls) ⊛ raw (Says q))))) (id⊢ 𝓤 (G.post y v)) $
+    (g.ended K V S T e de p dp h dh b db w dw dd) κs (r, (n, tt)) ls) ⊛ raw (Says q)))))
+    (id⊢ 𝓤 (G.post y v)) $
     await ! tt $ pick ! (λ q. split ! $ move ! (1 ∷ []) $ pick ! (λ ls. split ! $ drop ! $ move ! (1 ∷ []) $
     split ! $ move ! (1 ∷ []) $
     peeks ! Tup _ (shows 𝓛 Tup) q (v ∷ []) (λ are_two.

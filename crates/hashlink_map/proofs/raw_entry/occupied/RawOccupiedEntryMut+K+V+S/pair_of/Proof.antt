@@ -7,12 +7,14 @@ use mir.MapTy.{inst_fn}
 use mir.Val.{Val, of_list, vstruct}
 use prog.Wp.{WpFn, Wp, after_seq}
 use types.Logic.{sem}
-use types.Kit.{‵, raw, ◌⊛◌, some, later, at_ret, any_q, post, ◌$◌, ◌∵◌, !, qed, by, move, keep, drop, split, join}
+use types.Kit.{‵, raw, ◌⊛◌, some, later, at_ret, any_q, post, ◌$◌, ◌∵◌, !, qed, by, move, keep, drop, split}
+use types.Kit.{join}
 use types.Kit.{fsplit, fjoin, pick, await, rewrite, use0, use1, suffices, done}
 use types.Match.{live, vrt, in_variant}
 use types.Part.{whole, agg}
 use types.Run.{stop, fld, of_opd, lit, and_then, no_more, first, switches_on, exec, returns, enter}
-use types.ByLocal.{alloc_all, pass_all, free_all, look_at, get, get_in, get_tag, sets, sets_last, lands_as, env}
+use types.ByLocal.{alloc_all, pass_all, free_all, look_at, get, get_in, get_tag, sets, sets_last, lands_as}
+use types.ByLocal.{env}
 use contract.Monad.{fact, fact_i}
 use contract.Lifetimes.{Lfts}
 use contract.Running.{tables}
@@ -36,7 +38,8 @@ use Rattle.std.proofs.ResultValues.{ok_of, err_of}
 use Rattle.std.specs.Prelude.{Ok, Err, Some, slice_get}
 use Rattle.hashlink_map.specs.RawEntry.{raw_occupied_state, raw_place}
 use Rattle.hashlink_map.specs.RawLends.{RawLendsForGood}
-use Rattle.hashlink_map.proofs.PairRows.{Given, given_laws, Lent, Answer, Held, held_laws, Entered, entered_laws}
+use Rattle.hashlink_map.proofs.PairRows.{Given, given_laws, Lent, Answer, Held, held_laws, Entered}
+use Rattle.hashlink_map.proofs.PairRows.{entered_laws}
 use Rattle.hashlink_map.proofs.PairValues.{valued, ok_had, err_had}
 use Rattle.hashlink_map.specs.contracts.raw_entry.occupied.RawOccupiedEntryMut+K+V+S.pair_of as f
 use Rattle.hashlink_map.specs.contracts.raw_entry.occupied.RawOccupiedEntryMut+K+V+S.into_key_value as g
@@ -55,13 +58,16 @@ pair_of_spec 𝓤 𝓛 𝓜 𝓡 wired K V S T LK LV LS LT e de p dp h dh b db w
     let entered = plain (λ (κs : Lfts 5). Entered K V LK LV κs.0 S T LS LT p h b w) in
     let hs : Stays En.signature.params En.kept = (stay_dropped entered no, tt) in
     proved_at 𝓛 En hs c 𝓜 𝓡 (
-      (λ κs x f vs ok. (elim x as (λ y. (l : Last ((Entered K V LK LV κs.0 S T LS LT p h b w).exit no) y) → ent 𝓤
+      (λ κs x f vs ok. (elim x as
+          (λ y. (l : Last ((Entered K V LK LV κs.0 S T LS LT p h b w).exit no) y) → ent 𝓤
           (sem 𝓛 ftrue) (H.⇛ (sem 𝓛 (left ((Entered K V LK LV κs.0 S T LS LT p h b w).exit no) y l)))) [
-            | Ok o ↦ λ l. via 𝓤 (sem 𝓛 (fsep (fsep ftrue ftrue) ftrue)) (qed 𝓛 (‵ ftrue ∷ []) ∵ nothing ! $ fjoin ! $
+            | Ok o ↦ λ l. via 𝓤 (sem 𝓛 (fsep (fsep ftrue ftrue) ftrue))
+                (qed 𝓛 (‵ ftrue ∷ []) ∵ nothing ! $ fjoin ! $
                 nothing ! $ move ! (1 ∷ 0 ∷ []) $ fjoin ! $ done !)
                 (𝓛.laws.⇛_intro (sem 𝓛 (fsep (fsep ftrue ftrue) ftrue)))
             | Err g ↦ λ l. via 𝓤 (sem 𝓛 (fsep (fsep ftrue (fsep ftrue ftrue)) ftrue)) (qed 𝓛
-                (‵ ftrue ∷ []) ∵ nothing ! $ fjoin ! $ nothing ! $ fjoin ! $ nothing ! $ move ! (1 ∷ 0 ∷ []) $ fjoin ! $
+                (‵ ftrue ∷ []) ∵ nothing ! $ fjoin ! $ nothing ! $ fjoin ! $ nothing ! $
+                move ! (1 ∷ 0 ∷ []) $ fjoin ! $
                 done !)
                 (𝓛.laws.⇛_intro (sem 𝓛 (fsep (fsep ftrue (fsep ftrue ftrue)) ftrue)))
           ]) f),
@@ -85,7 +91,8 @@ pair_of_spec 𝓤 𝓛 𝓜 𝓡 wired K V S T LK LV LS LT e de p dp h dh b db w
     = λ x v vs is e. (subst (Typed (layout In ∷ [])) e
     (((entered_laws K V LK LV κ S T LS LT p h b w).lawful 𝓛).typed x vs is)).0 in
     let lent : (o : HR.Denot) → Goes (Ok o) = λ o vs is.
-    qed 𝓛 ((toks ⊛ ‵ (owns (types_at En.signature.params κs) (Ok o, tt) (vs, tt))) ∷ raw Asks ∷ []) ∵ split ! $
+    qed 𝓛 ((toks ⊛ ‵ (owns (types_at En.signature.params κs) (Ok o, tt) (vs, tt))) ∷ raw Asks ∷ []) ∵
+    split ! $
     move ! (1 ∷ []) $ fsplit ! $ ok_had ! HR GR o vs (λ ws is_live. valued ! HR LH o ws (λ v is_v fits.
     let val : Val = live 0 (of_list (v ∷ [])) in
     let is_val : vs ≡ val ∷ [] = is_live ∙ ap (λ us. live 0 (of_list (us ++ [])) ∷ []) is_v in
@@ -98,7 +105,8 @@ pair_of_spec 𝓤 𝓛 𝓜 𝓡 wired K V S T LK LV LS LT e de p dp h dh b db w
     first ! $ switches_on ! (get_tag ! (vrt ! refl (fld ! refl (stop !))) (whole !)) $
     exec ! 𝓣.C 𝓣.Λ Ev (arm_body 0 (head fn.body)) (any_q (after_seq 𝓤 H (Wp 𝓤 H 𝓣.C 𝓣.Λ Ev (after 1 fn.body)
     (post 𝓤 H (at_ret Ev Post))) (post 𝓤 H (at_ret Ev Post)))) $
-    sets ! (of_opd ! (get_in ! (vrt ! refl (fld ! refl (stop !))) (in_variant ! 0 0 refl refl (whole !)))) refl fits $
+    sets ! (of_opd ! (get_in ! (vrt ! refl (fld ! refl (stop !))) (in_variant ! 0 0 refl refl (whole !))))
+    refl fits $
     sets ! (of_opd ! (get ! refl)) refl fits $
     fjoin ! $ move ! (1 ∷ 0 ∷ []) $ join ! $ join ! $
     let Y = triple_of 𝓛 (g.signature K V S T e de p dp h dh b db w dw dd)
@@ -112,10 +120,12 @@ pair_of_spec 𝓤 𝓛 𝓜 𝓡 wired K V S T LK LV LS LT e de p dp h dh b db w
     (q.0.now, q.1.now) in
     use1 𝓛 (raw (Y.pre y)) (id⊢ 𝓤 (Y.pre y)) $
     calls_at ! (framed 𝓤 H 𝓜 𝓣) Y (met 𝓤 𝓛 𝓜 𝓡
-    (code.calls-hashlink_map::raw_entry::occupied::RawOccupiedEntryMut+K+V+S::into_key_value 𝓡.env wired) K V S T
+    (code.calls-hashlink_map::raw_entry::occupied::RawOccupiedEntryMut+K+V+S::into_key_value 𝓡.env wired)
+    K V S T
     LK LV LS LT e de p dp h dh b db w dw dd me mp mh mb mw md) y (and_then ! (get ! refl) (no_more !)) (λ v'.
     use1 𝓛 (later (some (λ (q : PR.Denot). (toks ⊛ ‵ (PR.own_val q (v' ∷ []))) ⊛ some (λ (ls : Lasts Eg κs
-    (o, tt)). ‵ (lasts Eg κs (o, tt) ls) ⊛ (raw (Follows q) ⊛ raw (fact 𝓤 (HasPair q))))))) (id⊢ 𝓤 (Y.post y v')) $
+    (o, tt)). ‵ (lasts Eg κs (o, tt) ls) ⊛ (raw (Follows q) ⊛ raw (fact 𝓤 (HasPair q)))))))
+    (id⊢ 𝓤 (Y.post y v')) $
     await ! tt $ pick ! (λ q. split ! $ move ! (1 ∷ []) $ pick ! (λ ls. split ! $ drop ! $ split ! $
     move ! (2 ∷ []) $ split ! $ move ! (1 ∷ []) $
     peeks ! PR _ (shows 𝓛 PR) q (v' ∷ []) (λ are_two.
@@ -123,7 +133,8 @@ pair_of_spec 𝓤 𝓛 𝓜 𝓡 wired K V S T LK LV LS LT e de p dp h dh b db w
     let is_pair : v' ≡ pair = ap only are_two.1.0 ∙ (λ i. vstruct (of_list (are_two.1.1.0.0 i ++
     (are_two.1.1.1.0.0 i ++ [])))) in
     rewrite ! 0 (λ (u : Val). ‵ (PR.own_val q (u ∷ []))) is_pair refl $
-    use1 𝓛 (‵ ((Answer K V LK LV κ).own_val (Ok q) (live 0 (of_list (pair ∷ [])) ∷ []))) (ok_of 𝓛 PR GR q pair) $
+    use1 𝓛 (‵ ((Answer K V LK LV κ).own_val (Ok q) (live 0 (of_list (pair ∷ [])) ∷ [])))
+    (ok_of 𝓛 PR GR q pair) $
     -- [the result; the tokens; the tie; the pair]
     lands_as ! is_pair refl (tt, (tt, (tt, tt))) $
     sets_last ! (agg ! (and_then ! (lit ! tt) (and_then ! (get ! refl) (no_more !)))) refl (
@@ -136,10 +147,12 @@ pair_of_spec 𝓤 𝓛 𝓜 𝓡 wired K V S T LK LV LS LT e de p dp h dh b db w
     use0 𝓛 (raw (fact 𝓤 (Unit {0}))) (fact_i 𝓤 (Unit {0}) (emp 𝓤) tt) $ move ! (4 ∷ 0 ∷ []) $ join ! $
     move ! (3 ∷ 0 ∷ []) $ join ! $
     nothing ! $ nothing ! $ fjoin ! $ keep ! (3 ∷ 0 ∷ 2 ∷ 1 ∷ []) $
-    by ! (leaves 𝓛 En hs c (At (Ok o) vs) (live 0 (of_list (pair ∷ []))) (Ok q) (((tt, tt), tt), tt) (tt, tt)))))))))
+    by ! (leaves 𝓛 En hs c (At (Ok o) vs) (live 0 (of_list (pair ∷ []))) (Ok q)
+    (((tt, tt), tt), tt) (tt, tt)))))))))
     in
     let back : (g : GR.Denot) → Goes (Err g) = λ g vs is.
-    qed 𝓛 ((toks ⊛ ‵ (owns (types_at En.signature.params κs) (Err g, tt) (vs, tt))) ∷ raw Asks ∷ []) ∵ split ! $
+    qed 𝓛 ((toks ⊛ ‵ (owns (types_at En.signature.params κs) (Err g, tt) (vs, tt))) ∷ raw Asks ∷ []) ∵
+    split ! $
     move ! (1 ∷ []) $ fsplit ! $ err_had ! HR GR g vs (λ ws is_live. valued ! GR LG g ws (λ v is_v fits.
     let val : Val = live 1 (of_list (v ∷ [])) in
     let is_val : vs ≡ val ∷ [] = is_live ∙ ap (λ us. live 1 (of_list (us ++ [])) ∷ []) is_v in
@@ -153,7 +166,8 @@ pair_of_spec 𝓤 𝓛 𝓜 𝓡 wired K V S T LK LV LS LT e de p dp h dh b db w
     first ! $ switches_on ! (get_tag ! (vrt ! refl (fld ! refl (stop !))) (whole !)) $
     exec ! 𝓣.C 𝓣.Λ Ev (arm_body 1 (head fn.body)) (any_q (after_seq 𝓤 H (Wp 𝓤 H 𝓣.C 𝓣.Λ Ev (after 1 fn.body)
     (post 𝓤 H (at_ret Ev Post))) (post 𝓤 H (at_ret Ev Post)))) $
-    sets ! (of_opd ! (get_in ! (vrt ! refl (fld ! refl (stop !))) (in_variant ! 1 0 refl refl (whole !)))) refl fits $
+    sets ! (of_opd ! (get_in ! (vrt ! refl (fld ! refl (stop !))) (in_variant ! 1 0 refl refl (whole !))))
+    refl fits $
     sets ! (of_opd ! (get ! refl)) refl fits $
     sets_last ! (agg ! (and_then ! (lit ! tt) (and_then ! (get ! refl) (no_more !)))) refl fits_val $
     exec ! 𝓣.C 𝓣.Λ Ev (after 1 fn.body) (at_ret Ev Post) $
@@ -161,7 +175,8 @@ pair_of_spec 𝓤 𝓛 𝓜 𝓡 wired K V S T LK LV LS LT e de p dp h dh b db w
     returns ! (look_at ! 0 refl) $ free_all ! refl $
     use1 𝓛 (‵ ((Answer K V LK LV κ).own_val (Err g) (val ∷ []))) (err_of 𝓛 PR GR g v) $
     use0 𝓛 (raw (fact 𝓤 (Unit {0}))) (fact_i 𝓤 (Unit {0}) (emp 𝓤) tt) $
-    use0 𝓛 (raw (fact 𝓤 (Err g ≡ Err g))) (fact_i 𝓤 (Err g ≡ Err g) (emp 𝓤) refl) $ move ! (1 ∷ 0 ∷ []) $ join ! $
+    use0 𝓛 (raw (fact 𝓤 (Err g ≡ Err g))) (fact_i 𝓤 (Err g ≡ Err g) (emp 𝓤) refl) $
+    move ! (1 ∷ 0 ∷ []) $ join ! $
     nothing ! $ join ! $
     nothing ! $ nothing ! $ fjoin ! $ keep ! (4 ∷ 0 ∷ 2 ∷ 1 ∷ []) $
     by ! (leaves 𝓛 En hs c (At (Err g) vs) val (Err g) (((tt, (tt, tt)), tt), tt) (tt, tt)))))

@@ -24,4 +24,5 @@ pub returns-clause-steps : goal.returns-clause-steps
 returns-clause-steps g c =
     let inv = c.loop-element.invariant in
     intersection_steps g.T.PartialEq.eq c.args.self.now _ _ inv.1
-    (none_looks _ c.args.self.now.iter c.loop-element.self.iter c.next.new.self inv.0 c.in_default.ensures.steps)
+    (none_looks _ c.args.self.now.iter c.loop-element.self.iter c.next.new.self inv.0
+    c.in_default.ensures.steps)
