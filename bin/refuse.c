@@ -5,8 +5,8 @@
      FAIL_FROM, FAIL_TO       reads and writes of standard input and output, which fail
      SHORT_FROM, SHORT_TO     reads and writes of several bytes there, which move one
 
-   For each that it met it writes a byte to the file descriptor 9, and as the program ends one to the file descriptor 8 for
-   each block of memory that was not given back. */
+   For each that it met it writes a byte to the file descriptor that MET_FILE numbers, and as the program ends one to that of
+   LEFT_FILE for each block of memory that was not given back. */
 
 typedef unsigned long size_t;
 typedef long ssize_t;
@@ -52,7 +52,7 @@ static int is_met(struct range *range) {
     }
     range->count++;
     if (!range->from || range->count < range->from || range->count > range->to) return 0;
-    syscall(SYSTEM_WRITE, 9, "x", 1L);
+    syscall(SYSTEM_WRITE, number_in("MET_FILE"), "x", 1L);
     return 1;
 }
 
@@ -99,7 +99,7 @@ IS_SEEN void free(void *block) {
 }
 
 __attribute__((destructor)) static void count_left(void) {
-    for (; blocks; blocks--) syscall(SYSTEM_WRITE, 8, "x", 1L);
+    for (; blocks; blocks--) syscall(SYSTEM_WRITE, number_in("LEFT_FILE"), "x", 1L);
 }
 
 /* Reads or writes, where it is not failed. */

@@ -1,16 +1,16 @@
 //! Lines that speak to a cache.
-use crate::map_entries::call_cache_entry;
-use crate::map_raw::call_cache_raw;
+use crate::answers::{Answers, Name, Stop};
+use crate::entries::call_entry;
+use crate::items::{Home, Item};
+use crate::line::{Words, pairs_of};
 use crate::map_row::{call_map, extended};
+use crate::raw_entries::call_raw_entry;
+use crate::said::{is_raised, made, named, old, taken, taken_item, write};
 use crate::walks::{take_steps, walk_and_clone, walk_whole};
 use hashlink::LruCache;
 use std::hash::BuildHasher;
 use std::mem;
 use std::vec::IntoIter;
-use test_list::answers::{Answers, Name, Stop};
-use test_list::items::{Home, Item};
-use test_list::line::{Words, pairs_of};
-use test_list::said::{is_raised, made, named, old, taken, taken_item, write};
 
 pub type Cache<S> = LruCache<Item, Item, S>;
 
@@ -82,8 +82,8 @@ fn call_of_entry<S: BuildHasher + Copy + Drop>(
     answers: &mut Answers,
 ) -> Result<(), Stop> {
     match name {
-        "entry" => call_cache_entry(cache, home, words, answers),
-        "raw" => call_cache_raw(cache, home, words, answers),
+        "entry" => call_entry(cache, home, words, answers),
+        "raw" => call_raw_entry(cache, home, words, answers),
         "raw_read" => {
             let _way = words.word()?;
             read_raw(cache, &words.item(home)?, answers)

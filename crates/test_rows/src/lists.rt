@@ -1,4 +1,9 @@
 //! Lists of commands, in two runs, and lists of uses.
+use crate::answers::{Answers, Name, Stop, Word, are_written, number};
+use crate::line::Words;
+use crate::row::cut;
+use crate::spoken::{Voice, say_room, say_word, say_words};
+use crate::texts::refuse;
 use hashlink::run::{
     CacheCommand, Command, EntryStep, Pair, PairCommand, Reply, Uses, run, run_cache, run_pair,
     run_uses,
@@ -7,18 +12,14 @@ use hashlink::{LinkedHashMap, LruCache};
 use hashlink_commands::{CacheLine, Line, pair_command};
 use std::alloc::{AllocError, Global};
 use std::hash::BuildHasher;
-use test_list::answers::{Answers, Form, Name, Stop, Word};
-use test_list::line::Words;
-use test_list::model::{Kind, Model};
-use test_list::row::{Tally, cut};
 
 /// A container that runs a list of commands.
 pub trait Listed {
     /// Runs these lines, and says the replies. It returns whether it had the memory for them.
     fn run(&mut self, alloc: Global, lines: &[&str], answers: &mut Answers) -> Result<bool, Stop>;
 
-    /// Whether it has what the list has, and room for it and for the spare nodes.
-    fn is_like(&self, model: &Model) -> bool;
+    /// Says its length, its capacity and its pairs.
+    fn stand(&self, rt: &HostRuntime);
 }
 
 impl<S: BuildHasher> Listed for LinkedHashMap<u64, u64, S> {
@@ -26,18 +27,18 @@ impl<S: BuildHasher> Listed for LinkedHashMap<u64, u64, S> {
         let mut commands = Vec::with_capacity(alloc, lines.len())?;
         for line in lines {
             commands
-                .push(command_of(alloc, line)?)
+                .push(command_of(alloc, cut(line).0)?)
                 .map_err(|_| Stop::Memory)?;
         }
         let replies = run(self, commands, &is_even);
         say_all(replies, answers)
     }
 
-    fn is_like(&self, model: &Model) -> bool {
-        let list = &model.list;
-        self.capacity() >= list.pairs.len().saturating_add(list.spare)
-            && self.len() == list.pairs.len()
-            && model.has(self.iter().map(word_of))
+    fn stand(&self, rt: &HostRuntime) {
+        say_room(rt, self.len(), self.capacity());
+        for pair in self.iter() {
+            say_word(rt, word_of(pair));
+        }
     }
 }
 
@@ -46,17 +47,18 @@ impl<S: BuildHasher> Listed for LruCache<u64, u64, S> {
         let mut commands = Vec::with_capacity(alloc, lines.len())?;
         for line in lines {
             commands
-                .push(cache_command_of(alloc, line)?)
+                .push(cache_command_of(alloc, cut(line).0)?)
                 .map_err(|_| Stop::Memory)?;
         }
         let replies = run_cache(self, commands, &is_even);
         say_all(replies, answers)
     }
 
-    fn is_like(&self, model: &Model) -> bool {
-        self.capacity() == model.capacity
-            && self.len() == model.list.pairs.len()
-            && model.has(self.iter().map(word_of))
+    fn stand(&self, rt: &HostRuntime) {
+        say_room(rt, self.len(), self.capacity());
+        for pair in self.iter() {
+            say_word(rt, word_of(pair));
+        }
     }
 }
 
@@ -124,105 +126,106 @@ fn say_all(
     Ok(true)
 }
 
-/// Runs the lines in two halves, each as one list, which changes nothing where it is refused.
+/// Runs the lines in two halves, each as one list, and returns whether each reply is the one that is written.
 pub fn are_runs_right<C: Listed + Drop>(
     mut container: C,
-    mut model: Model,
     alloc: Global,
     lines: &str,
     answers: &mut Answers,
-    tally: &mut Tally,
+    voice: Voice<'_>,
 ) -> Result<bool, Stop> {
-    answers.form = Form::Replies;
-    let calls: Vec<&str> = lines.split('\n').map(|line| cut(line).0).collect(alloc)?;
-    let wanted: Vec<Option<&str>> = lines.split('\n').map(|line| cut(line).1).collect(alloc)?;
-    let (first, second) = calls.as_slice().split_at(calls.len() / 2);
-    let (first_wanted, second_wanted) = wanted.as_slice().split_at(wanted.len() / 2);
+    let lines: Vec<&str> = lines.split('\n').collect(alloc)?;
+    let (first, second) = lines.as_slice().split_at(lines.len() / 2);
     Ok(
-        is_run_right(
-            &mut container,
-            &mut model,
-            alloc,
-            first,
-            first_wanted,
-            answers,
-            tally,
-        )? && is_run_right(
-            &mut container,
-            &mut model,
-            alloc,
-            second,
-            second_wanted,
-            answers,
-            tally,
-        )?,
+        is_run_right(&mut container, alloc, first, answers, voice)?
+            && is_run_right(&mut container, alloc, second, answers, voice)?,
     )
 }
 
 fn is_run_right<C: Listed>(
     container: &mut C,
-    model: &mut Model,
     alloc: Global,
     lines: &[&str],
-    wanted: &[Option<&str>],
     answers: &mut Answers,
-    tally: &mut Tally,
+    voice: Voice<'_>,
 ) -> Result<bool, Stop> {
     answers.words.clear();
-    if !container.run(alloc, lines, answers)? {
-        tally.add(1);
-        return Ok(container.is_like(model));
+    if container.run(alloc, lines, answers)? {
+        let _ = answers.count_refused();
+        say_words(voice, answers.words.as_slice());
+    } else {
+        refuse(answers, voice);
     }
-    answers.turn();
-    tally.add(answers.refusals());
-    for (line, wanted) in lines.iter().zip(wanted) {
-        let before = answers.words.len();
-        model.command(&mut Words::new(line), answers)?;
-        let is_written = wanted.is_none_or(|wanted| answers.is_written(before, wanted));
-        if tally.refused == 0 && !is_written {
-            return Ok(false);
+    if let Some(rt) = voice {
+        container.stand(rt);
+        let _ = println!(rt; "");
+    }
+    Ok(answers.tally.refused > 0 || are_replies_written(lines, answers.words.as_slice()))
+}
+
+/// Whether the replies to the lines are those that are written.
+fn are_replies_written(lines: &[&str], replies: &[Word]) -> bool {
+    let mut place = 0usize;
+    for line in lines {
+        let (call, wanted) = cut(line);
+        let next = place.saturating_add(count_replies(call));
+        let came = replies.get(place..next).unwrap_or(&[]);
+        if !wanted.is_none_or(|wanted| are_written(came, wanted)) {
+            return false;
         }
+        place = next;
     }
-    Ok(answers.are_alike() && container.is_like(model))
+    true
+}
+
+/// How many replies a line has: each step of a cursor has its own.
+fn count_replies(call: &str) -> usize {
+    match call.strip_prefix("cursor ") {
+        Some(steps) => steps
+            .split(' ')
+            .filter(|word| number(word).is_none())
+            .count(),
+        None => 1,
+    }
 }
 
 /// Runs the lines on two caches.
-pub fn is_pair_right(
+pub fn run_lines_of_pair(
     alloc: Global,
     capacities: (usize, usize),
     lines: &str,
     answers: &mut Answers,
-    tally: &mut Tally,
-) -> Result<bool, Stop> {
+    voice: Voice<'_>,
+) -> Result<(), Stop> {
     let commands: Vec<PairCommand<u64, u64>> = lines
         .split('\n')
         .filter_map(|line| pair_command(line.as_bytes()))
         .collect(alloc)?;
     let (small, large) = (capacities.0.min(capacities.1), capacities.1);
     let Ok(pair) = run_pair(alloc, small, large, &commands) else {
-        tally.add(1);
-        return Ok(true);
+        refuse(answers, voice);
+        return Ok(());
     };
-    Ok(
-        has_found(alloc, &pair.small, lines, &pair.small_replies, answers)?
-            && has_found(alloc, &pair.large, lines, &pair.large_replies, answers)?,
-    )
+    say_found(&pair.small, &pair.small_replies, voice);
+    say_found(&pair.large, &pair.large_replies, voice);
+    Ok(())
 }
 
 /// Runs the lines, which are all uses, on a cache.
-pub fn are_uses_right(
+pub fn run_lines_of_uses(
     alloc: Global,
     capacity: usize,
     lines: &str,
     answers: &mut Answers,
-    tally: &mut Tally,
-) -> Result<bool, Stop> {
+    voice: Voice<'_>,
+) -> Result<(), Stop> {
     let pairs: Vec<(u64, u64)> = lines.split('\n').filter_map(used).collect(alloc)?;
     let Ok(uses) = run_uses(alloc, capacity, &pairs) else {
-        tally.add(1);
-        return Ok(true);
+        refuse(answers, voice);
+        return Ok(());
     };
-    has_found(alloc, &uses.cache, lines, &uses.replies, answers)
+    say_found(&uses.cache, &uses.replies, voice);
+    Ok(())
 }
 
 fn used(line: &str) -> Option<(u64, u64)> {
@@ -232,23 +235,18 @@ fn used(line: &str) -> Option<(u64, u64)> {
     }
 }
 
-/// Whether an empty cache of the same capacity finds this by the lines, none refused, and ends as this one.
-fn has_found(
-    alloc: Global,
-    cache: &LruCache<u64, u64>,
-    lines: &str,
-    found: &[Option<u64>],
-    answers: &mut Answers,
-) -> Result<bool, Stop> {
-    answers.form = Form::Text;
-    answers.words.clear();
-    for value in found {
-        answers.item(value.map(Name::of))?;
+/// Says what a cache found, and what then stands in it.
+fn say_found(cache: &LruCache<u64, u64>, found: &[Option<u64>], voice: Voice<'_>) {
+    if let Some(rt) = voice {
+        let _ = print!(rt; "=");
+        for value in found {
+            say_word(
+                rt,
+                value.map_or(Word::Nothing, |value| Word::Item(value, 0)),
+            );
+        }
+        let _ = println!(rt; "");
+        cache.stand(rt);
+        let _ = println!(rt; "");
     }
-    answers.turn();
-    let mut model = Model::new(alloc, Kind::Cache, cache.capacity())?;
-    for line in lines.split('\n') {
-        model.command(&mut Words::new(line), answers)?;
-    }
-    Ok(answers.are_alike() && cache.is_like(&model))
 }

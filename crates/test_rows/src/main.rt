@@ -1,41 +1,55 @@
-//! Runs rows of calls on the containers, and checks each answer, and what stands after it, against what the row says and
-//! against a plain list. `docs/dev/rows.md` says how a row is written.
+//! Runs rows of calls on the containers, and checks each answer that a row says, and that no item is forgotten.
+//! `docs/dev/rows.md` says how a row is written.
 //!
 //! Its arguments name the files, and one of a file's rows alone by its number, as in `map.rows#3`. It ends with
-//! status 1 where an answer was wrong, and says of each row where that is, what came and what was wanted.
+//! status 1 where an answer was wrong, and says of each row where that is, and what came. After a first argument `--say` it
+//! says each answer that comes and what then stands, which `bin/judge` compares with a plain list.
 #![tactic(auto)]
 
+mod answers;
 mod cache_row;
+mod entries;
+mod entry_call;
 mod hashers;
+mod items;
+mod line;
 mod lists;
 mod map_cursors;
-mod map_entries;
-mod map_raw;
 mod map_row;
+mod raw_entries;
+mod row;
 mod rows;
+mod said;
 mod set_row;
 mod spoken;
+mod steps;
 mod texts;
 mod walks;
 mod weighted_row;
 
+use answers::{Answers, Tally, number};
+use items::Home;
+use row::{Row, Wrong};
 use rows::wrong;
+use spoken::{Voice, say_words};
 use std::io::ErrorKind;
 use std::process::ExitCode;
 use std::rc::Rc;
 use std::{env, fs};
-use test_list::answers::{Answers, Word, number};
-use test_list::items::Home;
-use test_list::row::{Row, Tally, Wrong};
 
 fn main(rt: HostRuntime) -> ExitCode {
     let mut tally = Tally::default();
-    let Ok(files) = env::args(&rt) else {
+    let Ok(words) = env::args(&rt) else {
         return ExitCode::SUCCESS;
     };
+    let mut is_said = false;
     let mut are_right = true;
-    for file in files.skip(1) {
-        are_right = is_file_right(&rt, file.as_str(), &mut tally) && are_right;
+    for word in words.skip(1) {
+        if word.as_str() == "--say" {
+            is_said = true;
+        } else {
+            are_right = is_file_right(&rt, word.as_str(), is_said, &mut tally) && are_right;
+        }
     }
     if !are_right {
         return ExitCode::FAILURE;
@@ -51,8 +65,13 @@ fn main(rt: HostRuntime) -> ExitCode {
     ExitCode::SUCCESS
 }
 
+/// Where it is said what comes and what stands.
+fn voice_of(rt: &HostRuntime, is_said: bool) -> Voice<'_> {
+    if is_said { Some(rt) } else { None }
+}
+
 /// Runs the rows of a file, or one of them, and says what is wrong.
-fn is_file_right(rt: &HostRuntime, name: &str, tally: &mut Tally) -> bool {
+fn is_file_right(rt: &HostRuntime, name: &str, is_said: bool, tally: &mut Tally) -> bool {
     let (name, only) = match name.split_once('#') {
         Some((name, place)) => (name, number(place)),
         None => (name, None),
@@ -76,6 +95,7 @@ fn is_file_right(rt: &HostRuntime, name: &str, tally: &mut Tally) -> bool {
         alloc: rt.alloc(),
         life: &life,
     };
+    answers.tally = *tally;
     let mut text = text.as_str();
     let mut line = 1usize;
     let mut are_right = true;
@@ -86,13 +106,14 @@ fn is_file_right(rt: &HostRuntime, name: &str, tally: &mut Tally) -> bool {
         text = rest;
         line = next;
         if only.is_none() || only == Some(count) {
-            tally.rows = tally.rows.saturating_add(1);
-            if let Some(what) = wrong(row, home, &mut answers, tally) {
+            answers.tally.rows = answers.tally.rows.saturating_add(1);
+            if let Some(what) = wrong(row, home, &mut answers, voice_of(rt, is_said)) {
                 report(rt, name, row, what, &answers);
                 are_right = false;
             }
         }
     }
+    *tally = answers.tally;
     are_right
 }
 
@@ -101,14 +122,8 @@ fn report(rt: &HostRuntime, file: &str, row: Row<'_>, wrong: Wrong<'_>, answers:
     match wrong {
         Wrong::Line(number, line) => {
             let _ = println!(rt; "{file}:{number}: {name}: {line}");
-            let _ = print!(rt; "  came");
-            show(rt, answers.heard.as_slice());
-            let _ = print!(rt; "  a plain list answers");
-            show(rt, answers.words.as_slice());
-        }
-        Wrong::State(number, line) => {
-            let _ = println!(rt; "{file}:{number}: {name}: {line}");
-            let _ = println!(rt; "  what stands after it is not what a plain list has");
+            let _ = print!(rt; "  came ");
+            say_words(Some(rt), answers.words.as_slice());
         }
         Wrong::Unread(number, line) => {
             let _ = println!(rt; "{file}:{number}: {name}: {line}");
@@ -121,11 +136,4 @@ fn report(rt: &HostRuntime, file: &str, row: Row<'_>, wrong: Wrong<'_>, answers:
             let _ = println!(rt; "{file}: {name}: a wrong answer");
         }
     }
-}
-
-fn show(rt: &HostRuntime, words: &[Word]) {
-    for word in words {
-        let _ = print!(rt; " {word}");
-    }
-    let _ = println!(rt; "");
 }

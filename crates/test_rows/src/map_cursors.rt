@@ -1,11 +1,11 @@
 //! Lines that speak to a cursor.
+use crate::answers::{Answers, Name, Stop};
+use crate::items::{Home, Item};
+use crate::line::Words;
 use crate::map_row::Map;
+use crate::said::{named, old, taken, write, written};
 use hashlink::linked_hash_map::CursorMut;
 use std::hash::BuildHasher;
-use test_list::answers::{Answers, Name, Stop};
-use test_list::items::{Home, Item};
-use test_list::line::Words;
-use test_list::said::{named, old, taken, write, written};
 
 type Cursor<'m, S> = CursorMut<'m, Item, Item, S>;
 

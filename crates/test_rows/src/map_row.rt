@@ -1,7 +1,14 @@
 //! Lines that speak to a map.
+use crate::answers::{Answers, Name, Stop, Word};
+use crate::entries::{call_cursor_of, call_entry};
+use crate::items::{Home, Item};
+use crate::line::{Words, pairs_of};
 use crate::map_cursors::call_cursor;
-use crate::map_entries::{call_map_entry, map_cursor};
-use crate::map_raw::{call_end, call_raw, read_raw};
+use crate::raw_entries::{call_end, call_raw, read_raw};
+use crate::said::{
+    has_room, is_other, is_raised, made, named, old, say_met, taken, taken_before, taken_item,
+    write,
+};
 use crate::walks::{take_steps, walk_and_clone, walk_whole};
 use hashlink::linked_hash_map::ExtendError;
 use hashlink::{LinkedHashMap, TryReserveError};
@@ -9,13 +16,6 @@ use std::alloc::AllocError;
 use std::hash::BuildHasher;
 use std::mem;
 use std::vec::IntoIter;
-use test_list::answers::{Answers, Name, Stop, Word};
-use test_list::items::{Home, Item};
-use test_list::line::{Words, pairs_of};
-use test_list::said::{
-    has_room, is_other, is_raised, made, named, old, say_met, taken, taken_before, taken_item,
-    write,
-};
 
 pub type Map<S> = LinkedHashMap<Item, Item, S>;
 
@@ -70,8 +70,8 @@ fn call_of_entry<S: BuildHasher + Copy + Default + Drop>(
 ) -> Result<(), Stop> {
     match name {
         "cursor" => call_cursor(map, home, words, answers),
-        "cursor_of" => map_cursor(map, home, words.name()?, words, answers),
-        "entry" => call_map_entry(map, home, words, answers),
+        "cursor_of" => call_cursor_of(map, home, words, answers),
+        "entry" => call_entry(map, home, words, answers),
         "raw" => call_raw(map, home, words, answers),
         "raw_read" => read_raw(map, home, words, answers),
         "front_entry" | "back_entry" => call_end(map, home, name, words, answers),

@@ -1,34 +1,29 @@
 //! A row, and what is done with it.
+use crate::answers::{Answers, Stop, are_written};
 use crate::cache_row::Cache;
 use crate::hashers::{OddOrEven, SameHash};
-use crate::lists::{are_runs_right, are_uses_right, is_pair_right};
+use crate::items::Home;
+use crate::line::Words;
+use crate::lists::{are_runs_right, run_lines_of_pair, run_lines_of_uses};
 use crate::map_row::Map;
+use crate::row::{Row, Wrong, cut, words_of};
 use crate::set_row::Set;
-use crate::spoken::Spoken;
+use crate::spoken::{Spoken, Voice, say_words};
 use crate::texts::is_text_right;
 use crate::weighted_row::Weighted;
 use hashlink::{DefaultHashBuilder, LinkedHashMap, LruCache};
 use std::hash::BuildHasher;
-use test_list::answers::{Answers, Form, Stop};
-use test_list::items::Home;
-use test_list::line::Words;
-use test_list::model::{Kind, Model};
-use test_list::model_pairs::answer_both;
-use test_list::row::{Row, Tally, Wrong, cut, words_of};
-use test_list::texts::is_said_right;
 
-/// What is wrong with the row, if anything is. A row without memory of its own says nothing.
+/// What is wrong with the row, if anything is. A row without memory of its own says so.
 pub fn wrong<'f>(
     row: Row<'f>,
     home: Home<'_>,
     answers: &mut Answers,
-    tally: &mut Tally,
+    voice: Voice<'_>,
 ) -> Option<Wrong<'f>> {
     let before = home.living();
-    match run(row, home, answers, tally) {
-        Err(Stop::Memory) => {
-            tally.left_out = tally.left_out.saturating_add(1);
-        }
+    match run(row, home, answers, voice) {
+        Err(Stop::Memory) => leave_out(answers, voice),
         Err(Stop::Unread) => return Some(Wrong::Unread(row.first, row.mode)),
         Ok(Some(wrong)) => return Some(wrong),
         Ok(None) => {}
@@ -37,25 +32,42 @@ pub fn wrong<'f>(
     (left > 0).then_some(Wrong::Living(left))
 }
 
+fn leave_out(answers: &mut Answers, voice: Voice<'_>) {
+    answers.tally.left_out = answers.tally.left_out.saturating_add(1);
+    if let Some(rt) = voice {
+        let _ = println!(rt; "left out");
+    }
+}
+
+/// Says which row and which hasher what follows is of.
+fn head(row: Row<'_>, hasher: &str, voice: Voice<'_>) {
+    if let Some(rt) = voice {
+        let first = row.first;
+        let _ = println!(rt; "row {first} {hasher}");
+    }
+}
+
 fn run<'f>(
     row: Row<'f>,
     home: Home<'_>,
     answers: &mut Answers,
-    tally: &mut Tally,
+    voice: Voice<'_>,
 ) -> Result<Option<Wrong<'f>>, Stop> {
-    let alloc = home.alloc;
     let mut words = Words::new(row.mode);
-    let is_right = match words.word()? {
+    head(row, "default", voice);
+    match words.word()? {
         "pair_commands" => {
             let capacities = (words.size()?, words.size()?);
-            is_pair_right(alloc, capacities, row.lines, answers, tally)?
+            run_lines_of_pair(home.alloc, capacities, row.lines, answers, voice)?;
+            Ok(None)
         }
-        "uses" => are_uses_right(alloc, words.size()?, row.lines, answers, tally)?,
-        "text" => is_text_right(alloc, row.lines, answers, tally)?,
-        "answer" => is_said_right(alloc, row.lines, answers)?,
-        _ => return each(row, home, answers, tally),
-    };
-    Ok(whole(is_right))
+        "uses" => {
+            run_lines_of_uses(home.alloc, words.size()?, row.lines, answers, voice)?;
+            Ok(None)
+        }
+        "text" => Ok(whole(is_text_right(home.alloc, row.lines, answers, voice)?)),
+        _ => each(row, home, answers, voice),
+    }
 }
 
 /// Under each hasher in turn.
@@ -63,69 +75,64 @@ fn each<'f>(
     row: Row<'f>,
     home: Home<'_>,
     answers: &mut Answers,
-    tally: &mut Tally,
+    voice: Voice<'_>,
 ) -> Result<Option<Wrong<'f>>, Stop> {
-    if let Some(wrong) = by::<DefaultHashBuilder>(row, home, answers, tally)? {
+    if let Some(wrong) = by::<DefaultHashBuilder>(row, home, answers, voice)? {
         return Ok(Some(wrong));
     }
-    if let Some(wrong) = by::<SameHash>(row, home, answers, tally)? {
+    head(row, "same_hash", voice);
+    if let Some(wrong) = by::<SameHash>(row, home, answers, voice)? {
         return Ok(Some(wrong));
     }
-    by::<OddOrEven>(row, home, answers, tally)
+    head(row, "odd_or_even", voice);
+    by::<OddOrEven>(row, home, answers, voice)
 }
 
 fn by<'f, S: BuildHasher + Copy + Default + Drop>(
     row: Row<'f>,
     home: Home<'_>,
     answers: &mut Answers,
-    tally: &mut Tally,
+    voice: Voice<'_>,
 ) -> Result<Option<Wrong<'f>>, Stop> {
-    let alloc = home.alloc;
     let mut words = Words::new(row.mode);
     match words.word()? {
-        "map" => speak::<Map<S>>(row, Kind::Map, usize::MAX, home, answers, tally),
-        "set" => speak::<Set<S>>(row, Kind::Set, usize::MAX, home, answers, tally),
-        "cache" => speak::<Cache<S>>(row, Kind::Cache, words.size()?, home, answers, tally),
-        "weighted" => {
-            speak::<Weighted<S>>(row, Kind::Weighted, words.size()?, home, answers, tally)
-        }
+        "map" => speak::<Map<S>>(row, 0, home, answers, voice),
+        "set" => speak::<Set<S>>(row, 0, home, answers, voice),
+        "cache" => speak::<Cache<S>>(row, words.size()?, home, answers, voice),
+        "weighted" => speak::<Weighted<S>>(row, words.size()?, home, answers, voice),
         "commands" => {
-            let map = LinkedHashMap::with_hasher(alloc, S::default());
-            let model = Model::new(alloc, Kind::Map, usize::MAX)?;
-            Ok(whole(are_runs_right(map, model, alloc, row.lines, answers, tally)?))
+            let map = LinkedHashMap::with_hasher(home.alloc, S::default());
+            Ok(whole(are_runs_right(map, home.alloc, row.lines, answers, voice)?))
         }
         "cache_commands" => {
-            let capacity = words.size()?;
-            let cache = LruCache::with_hasher(alloc, capacity, S::default());
-            let model = Model::new(alloc, Kind::Cache, capacity)?;
-            Ok(whole(are_runs_right(cache, model, alloc, row.lines, answers, tally)?))
+            let cache = LruCache::with_hasher(home.alloc, words.size()?, S::default());
+            Ok(whole(are_runs_right(cache, home.alloc, row.lines, answers, voice)?))
         }
         _ => Err(Stop::Unread),
     }
 }
 
-/// Speaks to two empty containers, each beside a list.
+fn whole<'f>(is_right: bool) -> Option<Wrong<'f>> {
+    if is_right { None } else { Some(Wrong::Row) }
+}
+
+/// Speaks to two empty containers.
 fn speak<'f, C: Spoken + Drop>(
     row: Row<'f>,
-    kind: Kind,
     capacity: usize,
     home: Home<'_>,
     answers: &mut Answers,
-    tally: &mut Tally,
+    voice: Voice<'_>,
 ) -> Result<Option<Wrong<'f>>, Stop> {
     let mut speech = Speech {
-        containers: (C::make(home, capacity), C::make(home, capacity)),
-        models: (
-            Model::new(home.alloc, kind, capacity)?,
-            Model::new(home.alloc, kind, capacity)?,
-        ),
+        first: C::make(home, capacity),
+        second: C::make(home, capacity),
         is_sure: true,
     };
-    answers.form = Form::Calls;
     let mut number = row.first;
     for line in row.lines.split('\n') {
         if !line.starts_with('#') {
-            if let Some(wrong) = speech.wrong(number, line, home, answers, tally)? {
+            if let Some(wrong) = speech.wrong(number, line, home, answers, voice)? {
                 return Ok(Some(wrong));
             }
         }
@@ -134,15 +141,11 @@ fn speak<'f, C: Spoken + Drop>(
     Ok(None)
 }
 
-fn whole<'f>(is_right: bool) -> Option<Wrong<'f>> {
-    if is_right { None } else { Some(Wrong::Row) }
-}
-
-/// Two containers beside their lists.
+/// The two containers of a row.
 #[derive(Drop)]
 struct Speech<C> {
-    containers: (C, C),
-    models: (Model, Model),
+    first: C,
+    second: C,
     /// Whether no answer that was written was refused, so that the next one has to come.
     is_sure: bool,
 }
@@ -155,61 +158,60 @@ impl<C: Spoken> Speech<C> {
         line: &'f str,
         home: Home<'_>,
         answers: &mut Answers,
-        tally: &mut Tally,
+        voice: Voice<'_>,
     ) -> Result<Option<Wrong<'f>>, Stop> {
         let (call, wanted) = cut(line);
         let (mut words, last) = words_of(call)?;
         for n in words.n..last.saturating_add(1) {
             words.n = n;
-            match self.say(words, home, answers) {
+            answers.words.clear();
+            match self.call(words, home, answers) {
                 Err(Stop::Unread) => return Ok(Some(Wrong::Unread(number, line))),
-                said => said?,
+                called => called?,
             }
-            let refused = answers.refusals();
-            tally.add(refused);
-            let is_written = wanted.is_some_and(|wanted| answers.is_written(0, wanted));
-            self.is_sure = self.is_sure && (refused == 0 || is_written);
-            if !answers.are_alike() || (self.is_sure && wanted.is_some() && !is_written) {
+            self.say(answers, voice);
+            if !self.is_written(wanted, answers) {
                 return Ok(Some(Wrong::Line(number, line)));
-            }
-            let (containers, models) = (&self.containers, &self.models);
-            if !containers.0.is_like(&models.0) || !containers.1.is_like(&models.1) {
-                return Ok(Some(Wrong::State(number, line)));
             }
         }
         Ok(None)
     }
 
-    /// Makes a call of the first container, after `other` of the second, and after `both` of the two, and then has the
-    /// list answer it. What the container answered is heard then.
-    fn say(&mut self, words: Words<'_>, home: Home<'_>, answers: &mut Answers) -> Result<(), Stop> {
-        answers.words.clear();
-        let (containers, models) = (&mut self.containers, &mut self.models);
-        let mut words = words;
-        let whole = words;
-        match words.word()? {
-            "other" => {
-                containers.1.call(home, &mut { words }, answers)?;
-                answers.turn();
-                models.1.answer(&mut words, answers)?;
-            }
-            "both" => {
-                let name = words.word()?;
-                containers.0.both(&mut containers.1, name, answers)?;
-                answers.turn();
-                answer_both(&mut models.0, &mut models.1, name, answers)?;
-            }
-            _ => {
-                words = whole;
-                containers.0.call(home, &mut { words }, answers)?;
-                answers.turn();
-                models.0.answer(&mut words, answers)?;
-            }
+    /// Makes a call of the first container, after `other` of the second, and after `both` of the two.
+    fn call(
+        &mut self,
+        words: Words<'_>,
+        home: Home<'_>,
+        answers: &mut Answers,
+    ) -> Result<(), Stop> {
+        let mut rest = words;
+        match rest.word()? {
+            "other" => self.second.call(home, &mut rest, answers),
+            "both" => self.first.both(&mut self.second, rest.word()?, answers),
+            _ => self.first.call(home, &mut { words }, answers),
         }
-        if words.rest.is_empty() {
-            Ok(())
-        } else {
-            Err(Stop::Unread)
+    }
+
+    /// Says what came, and what then stands in each container.
+    fn say(&self, answers: &Answers, voice: Voice<'_>) {
+        say_words(voice, answers.words.as_slice());
+        if let Some(rt) = voice {
+            self.first.stand(rt);
+            let _ = println!(rt; "");
+            self.second.stand(rt);
+            let _ = println!(rt; "");
         }
+    }
+
+    /// Whether what came is what is written, where it has to be.
+    fn is_written(&mut self, wanted: Option<&str>, answers: &mut Answers) -> bool {
+        let is_refused = answers.count_refused();
+        let Some(wanted) = wanted else {
+            self.is_sure = self.is_sure && !is_refused;
+            return true;
+        };
+        let is_written = are_written(answers.words.as_slice(), wanted);
+        self.is_sure = self.is_sure && (is_written || !is_refused);
+        is_written || !self.is_sure
     }
 }

@@ -1,7 +1,13 @@
 //! Lines that speak to a set, and to two sets.
 ghost use Rattle.std.specs.Prelude.{◌≡◌};
 
+use crate::answers::{Answers, Name, Stop, Word};
+use crate::items::{Home, Item};
+use crate::line::{Words, elements_of};
 use crate::map_row::room;
+use crate::said::{
+    back, element_taken_before, has_room, is_other, made, say_all, say_met, taken_item,
+};
 use crate::walks::{take_steps, walk_and_clone, walk_whole};
 use hashlink::linked_hash_map::ExtendError;
 use hashlink::{DefaultHashBuilder, LinkedHashSet};
@@ -9,12 +15,6 @@ use std::alloc::AllocError;
 use std::hash::BuildHasher;
 use std::mem;
 use std::vec::IntoIter;
-use test_list::answers::{Answers, Name, Stop, Word};
-use test_list::items::{Home, Item};
-use test_list::line::{Words, elements_of};
-use test_list::said::{
-    back, element_taken_before, has_room, is_other, made, say_all, say_met, taken_item,
-};
 
 pub type Set<S> = LinkedHashSet<Item, S>;
 

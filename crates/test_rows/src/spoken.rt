@@ -1,19 +1,40 @@
-//! Containers that are called by the lines of a row.
+//! Containers that are called by the lines of a row, and what is said of them.
+use crate::answers::{Answers, Stop, Word};
 use crate::cache_row::{Cache, call_cache};
+use crate::items::Home;
+use crate::line::Words;
 use crate::map_row::{Map, call_map};
+use crate::said::{shown, weighed};
 use crate::set_row::{Set, call_set, call_sets};
 use crate::weighted_row::{Weighted, call_weighted};
 use hashlink::weighted::WeightedCache;
 use hashlink::{DefaultHashBuilder, LinkedHashMap, LinkedHashSet, LruCache};
 use std::cmp::Ordering;
 use std::hash::BuildHasher;
-use test_list::answers::{Answers, Stop, Word};
-use test_list::items::Home;
-use test_list::line::Words;
-use test_list::model::Model;
-use test_list::said::{named, weighed};
 
-/// A container that is called by the lines of a row, beside a list.
+/// Where it is said what comes and what stands: nowhere, unless the program is asked to.
+pub type Voice<'v> = Option<&'v HostRuntime>;
+
+/// Says the words that came.
+pub fn say_words(voice: Voice<'_>, words: &[Word]) {
+    if let Some(rt) = voice {
+        let _ = print!(rt; "=");
+        for word in words {
+            say_word(rt, *word);
+        }
+        let _ = println!(rt; "");
+    }
+}
+
+pub fn say_word(rt: &HostRuntime, word: Word) {
+    let _ = print!(rt; " {word}");
+}
+
+pub fn say_room(rt: &HostRuntime, len: usize, capacity: usize) {
+    let _ = print!(rt; "+ {len} {capacity}");
+}
+
+/// A container that is called by the lines of a row.
 pub trait Spoken: Sized {
     /// An empty one, of this capacity or budget if it has one.
     fn make(home: Home<'_>, capacity: usize) -> Self;
@@ -29,8 +50,8 @@ pub trait Spoken: Sized {
     /// Makes the call of two containers that has the name.
     fn both(&mut self, other: &mut Self, name: &str, answers: &mut Answers) -> Result<(), Stop>;
 
-    /// Whether it has what the list has, and room for it and for the spare nodes.
-    fn is_like(&self, model: &Model) -> bool;
+    /// Says its length, its capacity or what it has of one, and its pairs.
+    fn stand(&self, rt: &HostRuntime);
 }
 
 impl<S: BuildHasher + Copy + Default + Drop> Spoken for Map<S> {
@@ -51,11 +72,11 @@ impl<S: BuildHasher + Copy + Default + Drop> Spoken for Map<S> {
         compare(self, other, name, answers)
     }
 
-    fn is_like(&self, model: &Model) -> bool {
-        let list = &model.list;
-        self.len() == list.pairs.len()
-            && self.capacity() >= list.pairs.len().saturating_add(list.spare)
-            && model.has(self.iter().map(|pair| Word::pair(named(pair))))
+    fn stand(&self, rt: &HostRuntime) {
+        say_room(rt, self.len(), self.capacity());
+        for pair in self.iter() {
+            say_word(rt, shown(pair));
+        }
     }
 }
 
@@ -77,14 +98,11 @@ impl<S: BuildHasher + Copy + Default + Drop> Spoken for Set<S> {
         call_sets(self, other, name, answers)
     }
 
-    fn is_like(&self, model: &Model) -> bool {
-        let list = &model.list;
-        self.len() == list.pairs.len()
-            && self.capacity() >= list.pairs.len().saturating_add(list.spare)
-            && self
-                .iter()
-                .map(|element| Word::item(element.name()))
-                .eq(list.pairs.iter().map(|pair| Word::item(pair.0)))
+    fn stand(&self, rt: &HostRuntime) {
+        say_room(rt, self.len(), self.capacity());
+        for element in self.iter() {
+            say_word(rt, Word::item(element.name()));
+        }
     }
 }
 
@@ -111,10 +129,11 @@ impl<S: BuildHasher + Copy + Default + Drop> Spoken for Cache<S> {
         Err(Stop::Unread)
     }
 
-    fn is_like(&self, model: &Model) -> bool {
-        self.capacity() == model.capacity
-            && self.len() == model.list.pairs.len()
-            && model.has(self.iter().map(|pair| Word::pair(named(pair))))
+    fn stand(&self, rt: &HostRuntime) {
+        say_room(rt, self.len(), self.capacity());
+        for pair in self.iter() {
+            say_word(rt, shown(pair));
+        }
     }
 }
 
@@ -141,12 +160,12 @@ impl<S: BuildHasher + Default> Spoken for Weighted<S> {
         Err(Stop::Unread)
     }
 
-    /// The number of each value is its weight.
-    fn is_like(&self, model: &Model) -> bool {
-        self.budget() == model.capacity as u64
-            && u128::from(self.total()) == model.total()
-            && self.len() == model.list.pairs.len()
-            && model.has(self.iter().map(weighed))
+    fn stand(&self, rt: &HostRuntime) {
+        let (len, budget, total) = (self.len(), self.budget(), self.total());
+        let _ = print!(rt; "+ {len} {budget} {total}");
+        for entry in self.iter() {
+            say_word(rt, weighed(entry));
+        }
     }
 }
 

@@ -1,18 +1,17 @@
 //! Texts that are run.
+use crate::answers::{Answers, Stop};
+use crate::spoken::Voice;
 use hashlink::run::run_text;
 use std::alloc::Global;
 use std::str::from_utf8;
-use test_list::answers::{Answers, Stop};
-use test_list::row::Tally;
-use test_list::texts::{bytes_of, is_answer};
 
-/// Whether the answer of `run_text` is right, and, where none of it is a refusal, the one that is written after the text
-/// and a line `=`, if one is.
+/// Whether the answer of `run_text`, where none of it is a refusal, is the one that is written after the text and a line
+/// `=`, if one is. Each line of the answer is said.
 pub fn is_text_right(
     alloc: Global,
     lines: &str,
     answers: &mut Answers,
-    tally: &mut Tally,
+    voice: Voice<'_>,
 ) -> Result<bool, Stop> {
     let (text, written) = match lines.split_once("\n=\n") {
         Some((text, written)) => (text, Some(written)),
@@ -23,13 +22,49 @@ pub fn is_text_right(
     };
     let bytes = bytes_of(alloc, text)?;
     let Ok(answer) = run_text(alloc, bytes.as_slice()) else {
-        tally.add(1);
+        refuse(answers, voice);
         return Ok(true);
     };
     let Ok(answer) = from_utf8(answer.as_slice()) else {
         return Ok(false);
     };
     let answer = answer.strip_suffix('\n').unwrap_or(answer);
-    let is_written = written.is_none_or(|written| answer == written || answer.contains("memory"));
-    Ok(is_written && is_answer(alloc, text, answer, answers)?)
+    say_lines(answer, voice);
+    Ok(written.is_none_or(|written| answer == written || answer.contains("memory")))
+}
+
+/// Counts and says that all of a run is refused.
+pub fn refuse(answers: &mut Answers, voice: Voice<'_>) {
+    answers.add_refused(1);
+    if let Some(rt) = voice {
+        let _ = println!(rt; "refused");
+    }
+}
+
+fn say_lines(answer: &str, voice: Voice<'_>) {
+    if let Some(rt) = voice {
+        for line in answer.split('\n') {
+            let _ = println!(rt; "| {line}");
+        }
+    }
+}
+
+/// The bytes of a text, in which `\r` stands for byte 13, `\x` for byte 255, and another `\` for nothing, so that a line
+/// of it alone is empty.
+pub fn bytes_of(alloc: Global, text: &str) -> Result<Vec<u8>, Stop> {
+    let mut bytes = Vec::with_capacity(alloc, text.len())?;
+    let mut is_escaped = false;
+    for byte in text.as_bytes() {
+        let meant = match *byte {
+            b'\\' => None,
+            b'r' if is_escaped => Some(b'\r'),
+            b'x' if is_escaped => Some(255),
+            byte => Some(byte),
+        };
+        is_escaped = *byte == b'\\';
+        if let Some(meant) = meant {
+            bytes.push(meant).map_err(|_| Stop::Memory)?;
+        }
+    }
+    Ok(bytes)
 }

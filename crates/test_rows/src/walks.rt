@@ -1,12 +1,12 @@
 //! Iterators by steps from both ends.
+use crate::answers::{Answers, Stop, Word};
+use crate::items::Item;
+use crate::line::Words;
+use crate::said::{given, given_item, lend, lend_pair, lent, lent_item, lent_weighed};
+use crate::steps::Step;
 use hashlink::linked_hash_map::{Drain, IntoIter, Iter, IterMut, Keys, Values, ValuesMut};
 use hashlink::{linked_hash_set as set, weighted};
 use std::hash::BuildHasher;
-use test_list::answers::{Answers, Stop, Word};
-use test_list::items::Item;
-use test_list::line::Words;
-use test_list::said::{given, given_item, lend, lend_pair, lent, lent_item, lent_weighed};
-use test_list::steps::Step;
 
 /// An iterator that goes from both ends and knows how many are left.
 pub trait Walk {

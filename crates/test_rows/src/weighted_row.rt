@@ -1,11 +1,11 @@
 //! Lines that speak to a cache with a budget.
+use crate::answers::{Answers, Stop, Word};
+use crate::items::{Home, Item};
+use crate::line::Words;
+use crate::said::{no_memory, taken_item};
 use crate::walks::walk_and_clone;
 use hashlink::weighted::{WeightError, WeightedCache};
 use std::hash::BuildHasher;
-use test_list::answers::{Answers, Stop, Word};
-use test_list::items::{Home, Item};
-use test_list::line::Words;
-use test_list::said::{no_memory, taken_item};
 
 pub type Weighted<S> = WeightedCache<Item, Item, S>;
 

@@ -4,7 +4,7 @@ use Rattle.std.proofs.Common.{is_some, refl, sym, ap, ◌∙◌}
 use Rattle.std.specs.List.{find}
 use Rattle.std.specs.Map.{keys_of}
 use Rattle.std.specs.Set.{is_member}
-use Rattle.test_list.specs.declared.items.Item.{Item}
+use Rattle.test_rows.specs.declared.items.Item.{Item}
 use Rattle.test_rows.proofs.set_row.get_or_make.Goals as goal
 
 found : {T : Type 0} (b : Bool) (y : T) (o : Option T) (m : Bool) → is_some o ≡ m

@@ -1,6 +1,6 @@
 //! What a call answers, word by word.
 use std::alloc::{AllocError, Global};
-use std::{fmt, mem};
+use std::fmt;
 
 /// A number as texts have it: digits alone, with no zero in front of others.
 pub fn number(word: &str) -> Option<u64> {
@@ -32,14 +32,6 @@ impl Name {
             }),
         }
     }
-
-    /// The same with one more.
-    pub fn next(self) -> Name {
-        Name {
-            group: self.group.wrapping_add(1),
-            number: self.number,
-        }
-    }
 }
 
 /// A key and its value.
@@ -66,10 +58,6 @@ pub enum Word {
     Heavy,
     /// `wrong`: the container does not agree with itself.
     Wrong,
-    /// `bad`: this is no line of such a text.
-    Bad,
-    /// `empty`: there is no pair.
-    Empty,
 }
 
 impl Word {
@@ -82,8 +70,6 @@ impl Word {
             "memory" => Some(Word::Memory),
             "overflow" => Some(Word::Overflow),
             "heavy" => Some(Word::Heavy),
-            "bad" => Some(Word::Bad),
-            "empty" => Some(Word::Empty),
             _ => match word.split_once(':') {
                 None => Some(Word::item(Name::read(word)?)),
                 Some((key, value)) => Some(Word::pair((Name::read(key)?, Name::read(value)?))),
@@ -97,15 +83,6 @@ impl Word {
 
     pub fn pair((key, value): Pair) -> Word {
         Word::Pair((key.group, key.number), (value.group, value.number))
-    }
-
-    /// The same without the numbers, which a text does not show.
-    fn plain(self) -> Word {
-        match self {
-            Word::Item(group, _) => Word::Item(group, 0),
-            Word::Pair((key, _), (value, _)) => Word::Pair((key, 0), (value, 0)),
-            word => word,
-        }
     }
 }
 
@@ -136,8 +113,6 @@ impl fmt::Display for Word {
             Word::Overflow => write!(f, "overflow"),
             Word::Heavy => write!(f, "heavy"),
             Word::Wrong => write!(f, "wrong"),
-            Word::Bad => write!(f, "bad"),
-            Word::Empty => write!(f, "empty"),
         }
     }
 }
@@ -157,41 +132,30 @@ impl From<AllocError> for Stop {
     }
 }
 
-/// How answers are given.
-#[derive(Clone, Copy, PartialEq)]
-pub enum Form {
-    /// By calls.
-    Calls,
-    /// By replies to a list of commands: of a pair that is read they say whether its value is even.
-    Replies,
-    /// By a text, which shows no numbers and hands nothing back.
-    Text,
+/// How many answers were refusals, and how many rows had no memory of their own.
+#[derive(Clone, Copy, Default)]
+pub struct Tally {
+    pub rows: usize,
+    pub refused: usize,
+    pub left_out: usize,
 }
 
-/// What one line answers, beside what was heard of it before: a container is called first, and then the plain list,
-/// which hears where the container had no memory.
+/// What a line answers, and how it went before.
 #[derive(Drop)]
 pub struct Answers {
     pub words: Vec<Word>,
-    pub heard: Vec<Word>,
-    pub form: Form,
+    pub tally: Tally,
 }
 
 impl Answers {
     pub fn new(alloc: Global) -> Result<Answers, AllocError> {
         Ok(Answers {
             words: Vec::with_capacity(alloc, 64)?,
-            heard: Vec::with_capacity(alloc, 64)?,
-            form: Form::Calls,
+            tally: Tally::default(),
         })
     }
 
     pub fn say(&mut self, word: Word) -> Result<(), Stop> {
-        let word = if self.form == Form::Text {
-            word.plain()
-        } else {
-            word
-        };
         self.words.push(word).map_err(|_| Stop::Memory)
     }
 
@@ -215,37 +179,9 @@ impl Answers {
         self.say(pair.map_or(Word::Nothing, Word::pair))
     }
 
-    /// The value of a pair.
-    pub fn value(&mut self, pair: Option<Pair>) -> Result<(), Stop> {
-        match pair {
-            Some((_, value)) => self.say(Word::item(value)),
-            None => self.say(Word::Nothing),
-        }
-    }
-
-    /// The key of a pair.
-    pub fn key(&mut self, pair: Option<Pair>) -> Result<(), Stop> {
-        match pair {
-            Some((key, _)) => self.say(Word::item(key)),
-            None => self.say(Word::Nothing),
-        }
-    }
-
-    /// A pair that was read, by its value alone where it is not to be shown whole.
-    pub fn seen(&mut self, pair: Option<Pair>, is_whole: bool) -> Result<(), Stop> {
-        match pair {
-            Some(pair) if self.form == Form::Replies => self.is(pair.1.group % 2 == 0),
-            Some(pair) if is_whole => self.say(Word::pair(pair)),
-            pair => self.item(pair.map(|pair| pair.1)),
-        }
-    }
-
     /// A pair is handed back for this reason.
     pub fn back(&mut self, why: Word, pair: Pair) -> Result<(), Stop> {
         self.say(why)?;
-        if self.form == Form::Text {
-            return Ok(());
-        }
         self.say(Word::pair(pair))
     }
 
@@ -267,50 +203,26 @@ impl Answers {
         self.count(taken)
     }
 
-    /// Whether the container said here that there was no memory.
-    pub fn is_refused(&self) -> bool {
-        self.heard.get(self.words.len()) == Some(&Word::Memory)
+    /// Counts the refusals that were said, and returns whether there was one.
+    pub fn count_refused(&mut self) -> bool {
+        let words = self.words.iter();
+        let refused = words.filter(|word| **word == Word::Memory).count();
+        self.add_refused(refused);
+        refused > 0
     }
 
-    /// What was said is heard, and nothing is said yet.
-    pub fn turn(&mut self) {
-        self.heard.clear();
-        mem::swap(&mut self.heard, &mut self.words);
-        self.words.clear();
+    pub fn add_refused(&mut self, refused: usize) {
+        self.tally.refused = self.tally.refused.saturating_add(refused);
     }
+}
 
-    /// The words of a line of a text are heard, and nothing is said yet.
-    pub fn hear(&mut self, line: &str) -> Result<(), Stop> {
-        self.words.clear();
-        self.heard.clear();
-        for word in line.split(' ') {
-            let word = Word::read(word).unwrap_or(Word::Wrong);
-            self.heard.push(word).map_err(|_| Stop::Memory)?;
+/// Whether the words are what is written.
+pub fn are_written(words: &[Word], written: &str) -> bool {
+    let mut written = written.split(' ');
+    for word in words {
+        if written.next().and_then(Word::read) != Some(*word) {
+            return false;
         }
-        Ok(())
     }
-
-    /// Whether what was said is what was heard.
-    pub fn are_alike(&self) -> bool {
-        self.words.as_slice() == self.heard.as_slice()
-    }
-
-    /// How many of the words heard are refusals.
-    pub fn refusals(&self) -> usize {
-        self.heard
-            .iter()
-            .filter(|word| **word == Word::Memory)
-            .count()
-    }
-
-    /// Whether what was heard from the place on, up to what is said now, is what is written.
-    pub fn is_written(&self, from: usize, written: &str) -> bool {
-        let mut words = written.split(' ');
-        for word in self.heard.iter().take(self.words.len()).skip(from) {
-            if words.next().and_then(Word::read) != Some(*word) {
-                return false;
-            }
-        }
-        words.next().is_none()
-    }
+    written.next().is_none()
 }

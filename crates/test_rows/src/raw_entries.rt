@@ -1,20 +1,20 @@
 //! Lines that speak to raw entries.
+use crate::answers::{Answers, Name, Stop};
 use crate::cache_row::Cache;
+use crate::entry_call::EntryCall;
+use crate::items::{Home, Item};
+use crate::line::Words;
 use crate::map_cursors::take_all_steps;
 use crate::map_row::Map;
+use crate::said::{named, no_memory, taken, taken_item, write, written};
 use hashlink::linked_hash_map::{RawEntryBuilderMut, RawEntryMut, RawOccupiedEntryMut};
 use std::hash::BuildHasher;
-use test_list::answers::{Answers, Name, Stop};
-use test_list::entry_call::EntryCall;
-use test_list::items::{Home, Item};
-use test_list::line::Words;
-use test_list::said::{named, no_memory, taken, taken_item, write, written};
 
-type Raw<'m, S> = RawEntryMut<'m, Item, Item, S>;
+pub type Raw<'m, S> = RawEntryMut<'m, Item, Item, S>;
+
+pub type Entries<'m, S> = RawEntryBuilderMut<'m, Item, Item, S>;
 
 type Occupied<'m, S> = RawOccupiedEntryMut<'m, Item, Item, S>;
-
-type Entries<'m, S> = RawEntryBuilderMut<'m, Item, Item, S>;
 
 /// Says the stored key and the value that is lent, and writes another there, or says the pair that is handed back.
 macro_rules! say_lent {
@@ -55,27 +55,68 @@ pub fn read_raw<S: BuildHasher>(
     answers.pair(pair.map(named))
 }
 
-/// Finds the entry of a key in the way that the words say.
-fn find<'m, S: BuildHasher>(map: &'m mut Map<S>, way: &str, key: &Item) -> Option<Raw<'m, S>> {
-    let hash = map.hasher().hash_one(key);
-    match way {
-        "key" => Some(map.raw_entry_mut().from_key(key)),
-        "hash" => Some(map.raw_entry_mut().from_key_hashed_nocheck(hash, key)),
-        "test" => Some(
-            map.raw_entry_mut()
-                .from_hash(hash, |stored| *stored == *key),
-        ),
-        "of_key" => Some(map.raw_entry_of(key)),
-        "of_hash" => Some(map.raw_entry_hashed_nocheck(hash, key)),
-        "of_test" => Some(map.raw_entry_from_hash(hash, |stored| *stored == *key)),
-        _ => None,
+/// A container that has raw entries, which it finds in the way that the line says.
+pub trait HasRawEntries<S: BuildHasher> {
+    fn raw_entries(&mut self) -> Entries<'_, S>;
+
+    fn raw_of(&mut self, way: &str, key: &Item) -> Result<Raw<'_, S>, Stop>;
+}
+
+impl<S: BuildHasher> HasRawEntries<S> for Map<S> {
+    fn raw_entries(&mut self) -> Entries<'_, S> {
+        self.raw_entry_mut()
+    }
+
+    fn raw_of(&mut self, way: &str, key: &Item) -> Result<Raw<'_, S>, Stop> {
+        let hash = self.hasher().hash_one(key);
+        match way {
+            "key" => Ok(self.raw_entry_mut().from_key(key)),
+            "hash" => Ok(self.raw_entry_mut().from_key_hashed_nocheck(hash, key)),
+            "test" => Ok(
+                self.raw_entry_mut()
+                    .from_hash(hash, |stored| *stored == *key),
+            ),
+            "of_key" => Ok(self.raw_entry_of(key)),
+            "of_hash" => Ok(self.raw_entry_hashed_nocheck(hash, key)),
+            "of_test" => Ok(self.raw_entry_from_hash(hash, |stored| *stored == *key)),
+            _ => Err(Stop::Unread),
+        }
     }
 }
 
-/// Makes the call of a raw entry that the words say: the way, the key and the call. One that puts an absent key has
-/// another name than one that needs an entry.
+impl<S: BuildHasher> HasRawEntries<S> for Cache<S> {
+    fn raw_entries(&mut self) -> Entries<'_, S> {
+        self.raw_entry_mut()
+    }
+
+    fn raw_of(&mut self, _way: &str, key: &Item) -> Result<Raw<'_, S>, Stop> {
+        Ok(self.raw_entry_mut().from_key(key))
+    }
+}
+
+/// Makes the call of a raw entry of a map that the words say: the way, the key and the call. One that puts an absent key
+/// has another name than one that needs an entry.
 pub fn call_raw<S: BuildHasher + Copy>(
     map: &mut Map<S>,
+    home: Home<'_>,
+    words: &mut Words<'_>,
+    answers: &mut Answers,
+) -> Result<(), Stop> {
+    let mut rest = *words;
+    let _way = rest.word()?;
+    let key = rest.name()?;
+    match EntryCall::read(&mut rest)? {
+        EntryCall::End("replace_key") => replace_key(map, home.item(key)?, answers),
+        EntryCall::Put(name, value, _) if name.starts_with("insert") => {
+            put_absent(map, name, home.pair((key, value))?, answers)
+        }
+        _ => call_raw_entry(map, home, words, answers),
+    }
+}
+
+/// Makes the call of a raw entry that is there, or one that a cache has too.
+pub fn call_raw_entry<S: BuildHasher, C: HasRawEntries<S>>(
+    container: &mut C,
     home: Home<'_>,
     words: &mut Words<'_>,
     answers: &mut Answers,
@@ -83,181 +124,161 @@ pub fn call_raw<S: BuildHasher + Copy>(
     let way = words.word()?;
     let key = words.name()?;
     match EntryCall::read(words)? {
-        EntryCall::Stay(name) => stay_at(map, way, &home.item(key)?, name, answers),
-        EntryCall::End("replace_key") => replace_key(map, home.item(key)?, answers),
-        EntryCall::End(name) => end_at(map, way, &home.item(key)?, name, answers),
-        EntryCall::Write("and_modify", Some(value)) => {
-            modify(map, &home.item(key)?, value, answers)
+        EntryCall::Stay(name) => {
+            stay_at(container.raw_of(way, &home.item(key)?)?, name, answers)
         }
+        EntryCall::End(name) => end_at(container.raw_of(way, &home.item(key)?)?, name, answers),
         EntryCall::Write(name, value) => {
-            write_at(map, way, &home.item(key)?, name, value, answers)
+            write_at(
+                container.raw_of(way, &home.item(key)?)?,
+                name,
+                value,
+                answers,
+            )
         }
         EntryCall::Put("replace_value", value, _) => {
-            replace_at(map, way, home.pair((key, value))?, answers)
+            let (key, value) = home.pair((key, value))?;
+            replace_at(container.raw_of(way, &key)?, value, answers)
         }
         EntryCall::Put(name, value, written) => {
-            put(map, name, home.pair((key, value))?, written, answers)
+            put(
+                container.raw_entries(),
+                name,
+                home.pair((key, value))?,
+                written,
+                answers,
+            )
         }
-        EntryCall::Cursor => steps_at(map, way, home, key, words, answers),
+        EntryCall::Cursor => {
+            steps_at(
+                container.raw_of(way, &home.item(key)?)?,
+                home,
+                words,
+                answers,
+            )
+        }
         _ => Err(Stop::Unread),
     }
 }
 
 fn stay_at<S: BuildHasher>(
-    map: &mut Map<S>,
-    way: &str,
-    key: &Item,
+    entry: Raw<'_, S>,
     name: &str,
     answers: &mut Answers,
 ) -> Result<(), Stop> {
-    match find(map, way, key) {
-        Some(RawEntryMut::Occupied(mut entry)) => stay(&mut entry, name, answers),
-        Some(RawEntryMut::Vacant(_vacant)) => answers.pair(None),
-        None => Err(Stop::Unread),
+    match entry {
+        RawEntryMut::Occupied(mut entry) => stay(&mut entry, name, answers),
+        RawEntryMut::Vacant(_vacant) => answers.pair(None),
     }
 }
 
 fn end_at<S: BuildHasher>(
-    map: &mut Map<S>,
-    way: &str,
-    key: &Item,
+    entry: Raw<'_, S>,
     name: &str,
     answers: &mut Answers,
 ) -> Result<(), Stop> {
-    match find(map, way, key) {
-        Some(RawEntryMut::Occupied(entry)) => match name {
+    match entry {
+        RawEntryMut::Occupied(entry) => match name {
             "into_key" => answers.item(Some(entry.into_key().name())),
             "remove" => taken_item(Some(entry.remove()), answers),
             "remove_entry" => taken(Some(entry.remove_entry()), answers),
             _ => Err(Stop::Unread),
         },
-        Some(RawEntryMut::Vacant(_vacant)) => answers.pair(None),
-        None => Err(Stop::Unread),
+        RawEntryMut::Vacant(_vacant) => answers.pair(None),
     }
 }
 
 fn write_at<S: BuildHasher>(
-    map: &mut Map<S>,
-    way: &str,
-    key: &Item,
+    entry: Raw<'_, S>,
     name: &str,
     value: Option<Name>,
     answers: &mut Answers,
 ) -> Result<(), Stop> {
-    match find(map, way, key) {
-        Some(RawEntryMut::Occupied(mut entry)) => match name {
-            "into_mut" => write(Some(entry.into_mut()), value, answers),
-            "into_key_value" => write(Some(entry.into_key_value().1), value, answers),
-            _ => lend(&mut entry, name, value, answers),
+    match (name, value) {
+        ("and_modify", Some(value)) => modify(entry, value, answers),
+        _ => match entry {
+            RawEntryMut::Occupied(mut entry) => match name {
+                "into_mut" => write(Some(entry.into_mut()), value, answers),
+                "into_key_value" => write(Some(entry.into_key_value().1), value, answers),
+                _ => lend(&mut entry, name, value, answers),
+            },
+            RawEntryMut::Vacant(_vacant) => answers.pair(None),
         },
-        Some(RawEntryMut::Vacant(_vacant)) => answers.pair(None),
-        None => Err(Stop::Unread),
     }
 }
 
 /// Writes the value where the key is there.
 fn modify<S: BuildHasher>(
-    map: &mut Map<S>,
-    key: &Item,
+    entry: Raw<'_, S>,
     value: Name,
     answers: &mut Answers,
 ) -> Result<(), Stop> {
-    let entry = map.raw_entry_mut().from_key(key);
     match entry.and_modify(|_, lent| lent.group = value.group) {
         RawEntryMut::Occupied(entry) => answers.pair(Some(named(entry.get_key_value()))),
         RawEntryMut::Vacant(_vacant) => answers.pair(None),
     }
 }
 
-fn replace_at<S: BuildHasher>(
-    map: &mut Map<S>,
-    way: &str,
+fn put<S: BuildHasher>(
+    entries: Entries<'_, S>,
+    name: &str,
     (key, value): (Item, Item),
+    new: Option<Name>,
     answers: &mut Answers,
 ) -> Result<(), Stop> {
-    match find(map, way, &key) {
-        Some(RawEntryMut::Occupied(mut entry)) => {
-            taken_item(Some(entry.replace_value(value)), answers)
-        }
-        Some(RawEntryMut::Vacant(_vacant)) => answers.pair(None),
-        None => Err(Stop::Unread),
+    match name {
+        "or_insert" => or_insert(entries, key, value, new, answers),
+        "or_insert_with" => or_insert_with(entries, key, value, new, answers),
+        _ => Err(Stop::Unread),
+    }
+}
+
+fn or_insert<S: BuildHasher>(
+    entries: Entries<'_, S>,
+    key: Item,
+    value: Item,
+    new: Option<Name>,
+    answers: &mut Answers,
+) -> Result<(), Stop> {
+    say_lent!(entries.from_key(&key).or_insert(key, value), new, answers)
+}
+
+fn or_insert_with<S: BuildHasher>(
+    entries: Entries<'_, S>,
+    key: Item,
+    value: Item,
+    new: Option<Name>,
+    answers: &mut Answers,
+) -> Result<(), Stop> {
+    say_lent!(
+        entries.from_key(&key).or_insert_with(|| (key, value)),
+        new,
+        answers
+    )
+}
+
+fn replace_at<S: BuildHasher>(
+    entry: Raw<'_, S>,
+    value: Item,
+    answers: &mut Answers,
+) -> Result<(), Stop> {
+    match entry {
+        RawEntryMut::Occupied(mut entry) => taken_item(Some(entry.replace_value(value)), answers),
+        RawEntryMut::Vacant(_vacant) => answers.pair(None),
     }
 }
 
 fn steps_at<S: BuildHasher>(
-    map: &mut Map<S>,
-    way: &str,
+    entry: Raw<'_, S>,
     home: Home<'_>,
-    key: Name,
     words: &mut Words<'_>,
     answers: &mut Answers,
 ) -> Result<(), Stop> {
-    match find(map, way, &home.item(key)?) {
-        Some(RawEntryMut::Occupied(entry)) => {
+    match entry {
+        RawEntryMut::Occupied(entry) => {
             take_all_steps(&mut entry.cursor_mut(), home, words, answers)
         }
-        Some(RawEntryMut::Vacant(_vacant)) => answers.pair(None),
-        None => Err(Stop::Unread),
-    }
-}
-
-/// Calls of a raw entry of a cache.
-pub fn call_cache_raw<S: BuildHasher>(
-    cache: &mut Cache<S>,
-    home: Home<'_>,
-    words: &mut Words<'_>,
-    answers: &mut Answers,
-) -> Result<(), Stop> {
-    let _way = words.word()?;
-    let key = words.name()?;
-    match EntryCall::read(words)? {
-        EntryCall::Stay(name) => stay_in_cache(cache, &home.item(key)?, name, answers),
-        EntryCall::Write(name, value) => {
-            write_in_cache(cache, &home.item(key)?, name, value, answers)
-        }
-        EntryCall::Put(name, value, written) => {
-            put_in_cache(cache, name, home.pair((key, value))?, written, answers)
-        }
-        _ => Err(Stop::Unread),
-    }
-}
-
-fn stay_in_cache<S: BuildHasher>(
-    cache: &mut Cache<S>,
-    key: &Item,
-    name: &str,
-    answers: &mut Answers,
-) -> Result<(), Stop> {
-    match cache.raw_entry_mut().from_key(key) {
-        RawEntryMut::Occupied(mut entry) => stay(&mut entry, name, answers),
         RawEntryMut::Vacant(_vacant) => answers.pair(None),
-    }
-}
-
-fn write_in_cache<S: BuildHasher>(
-    cache: &mut Cache<S>,
-    key: &Item,
-    name: &str,
-    value: Option<Name>,
-    answers: &mut Answers,
-) -> Result<(), Stop> {
-    match cache.raw_entry_mut().from_key(key) {
-        RawEntryMut::Occupied(mut entry) => lend(&mut entry, name, value, answers),
-        RawEntryMut::Vacant(_vacant) => answers.pair(None),
-    }
-}
-
-fn put_in_cache<S: BuildHasher>(
-    cache: &mut Cache<S>,
-    name: &str,
-    (key, value): (Item, Item),
-    written: Option<Name>,
-    answers: &mut Answers,
-) -> Result<(), Stop> {
-    match name {
-        "or_insert" => or_insert(cache.raw_entry_mut(), key, value, written, answers),
-        "or_insert_with" => or_insert_with(cache.raw_entry_mut(), key, value, written, answers),
-        _ => Err(Stop::Unread),
     }
 }
 
@@ -335,46 +356,19 @@ fn lend<S: BuildHasher>(
     }
 }
 
-/// Makes a call that puts a pair.
-fn put<S: BuildHasher + Copy>(
+/// Makes a call that puts a pair whose key is absent.
+fn put_absent<S: BuildHasher + Copy>(
     map: &mut Map<S>,
     name: &str,
     (key, value): (Item, Item),
-    written: Option<Name>,
     answers: &mut Answers,
 ) -> Result<(), Stop> {
     match name {
-        "or_insert" => or_insert(map.raw_entry_mut(), key, value, written, answers),
-        "or_insert_with" => or_insert_with(map.raw_entry_mut(), key, value, written, answers),
         "insert" | "insert_hashed" | "insert_with_hasher" => {
             insert(map, name, key, value, answers)
         }
         _ => insert_entry(map, name, key, value, answers),
     }
-}
-
-fn or_insert<S: BuildHasher>(
-    entries: Entries<'_, S>,
-    key: Item,
-    value: Item,
-    new: Option<Name>,
-    answers: &mut Answers,
-) -> Result<(), Stop> {
-    say_lent!(entries.from_key(&key).or_insert(key, value), new, answers)
-}
-
-fn or_insert_with<S: BuildHasher>(
-    entries: Entries<'_, S>,
-    key: Item,
-    value: Item,
-    new: Option<Name>,
-    answers: &mut Answers,
-) -> Result<(), Stop> {
-    say_lent!(
-        entries.from_key(&key).or_insert_with(|| (key, value)),
-        new,
-        answers
-    )
 }
 
 fn insert<S: BuildHasher + Copy>(

@@ -12,27 +12,11 @@ pub struct Row<'f> {
     pub first: usize,
 }
 
-/// How many answers were refusals, and how many rows had no memory of their own.
-#[derive(Default, Drop)]
-pub struct Tally {
-    pub rows: usize,
-    pub refused: usize,
-    pub left_out: usize,
-}
-
-impl Tally {
-    pub fn add(&mut self, refused: usize) {
-        self.refused = self.refused.saturating_add(refused);
-    }
-}
-
 /// What is wrong with a row.
 #[derive(Clone, Copy)]
 pub enum Wrong<'f> {
-    /// The line of this number and text: what came and what was wanted stands in the answers.
+    /// The line of this number and text, whose answer is not the one that is written: what came stands in the answers.
     Line(usize, &'f str),
-    /// The container is not as the list after the line.
-    State(usize, &'f str),
     /// It is no line of such a row.
     Unread(usize, &'f str),
     /// So many keys and values were not dropped.

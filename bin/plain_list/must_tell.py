@@ -1,0 +1,88 @@
+"""Wrong answers, each of which has to be told."""
+
+from .judge import Judge, WrongRow
+from .rows import Row
+from .texts import cut_row, is_answer
+
+WRONG_TEXTS = (
+    "map\ninsert 1 10\nremove 1\ninsert 2 20\n=\n-\n10\nmemory",
+    "map\ninsert 1 10\ninsert 1 20\n=\n-\nmemory",
+    "cache 1\ninsert 1 10\ninsert 2 20\niter\n=\n-\n-\n1:10 2:20",
+    "weighted 5\ninsert 1 10 6\n=\nmemory",
+)
+
+ROW = Row("none", 1, "a row", "map", "insert 1.2 10\nother insert 5 50\niter next left\nremove 1\ninsert 2 20\nreserve 9", 3)
+SAID = """= -
++ 1 4 1.2:10
++ 0 0
+= -
++ 1 4 1.2:10
++ 1 4 5:50
+= 1.2:10 0
++ 1 4 1.2:10
++ 1 4 5:50
+= 10
++ 0 4
++ 1 4 5:50
+= -
++ 1 4 2:20
++ 1 4 5:50
+= ok
++ 1 16 2:20
++ 1 4 5:50
+"""
+SUMMARY = "1 rows: each answer is right, and {refused} of them refused; {left_out} rows had no memory of their own\n"
+#: what is wrong, what of the right words is other, and what stands in its place
+WRONG_WORDS = (
+    ("another value", "= 10\n", "= 11\n"),
+    ("another pair of equal keys", "= 1.2:10 0", "= 1:10 0"),
+    ("another length of what is left", "= 1.2:10 0", "= 1.2:10 1"),
+    ("a hint that is not the length", "= 1.2:10 0", "= 1.2:10 0 wrong"),
+    ("a pair too many", "+ 1 4 2:20", "+ 2 4 1:10 2:20"),
+    ("another length of the map", "+ 1 4 2:20", "+ 2 4 2:20"),
+    ("another stored key", "+ 1 4 1.2:10\n+ 0 0", "+ 1 4 1:10\n+ 0 0"),
+    ("no room for a spare node", "+ 0 4", "+ 0 0"),
+    ("the other map is changed", "= 10\n+ 0 4\n+ 1 4 5:50", "= 10\n+ 0 4\n+ 0 4"),
+    ("a refusal where a node is spare", "= -\n+ 1 4 2:20", "= memory 2:20\n+ 0 4"),
+    ("a refusal that changes what stands", "= -\n+ 1 4 1.2:10\n+ 0 0", "= memory 1.2:10\n+ 1 4 1.2:10\n+ 0 0"),
+    ("a refusal of another pair", "= -\n+ 1 4 1.2:10\n+ 0 0", "= memory 1:10\n+ 0 0\n+ 0 0"),
+    ("no answer to the last line", "= ok\n+ 1 16 2:20\n+ 1 4 5:50\n", ""),
+    ("an answer too many", "= ok\n", "= ok\n= ok\n"),
+)
+
+
+def whole(said, refused=0, left_out=0):
+    heads = (f"row 3 {hasher}\n" for hasher in ("default", "same_hash", "odd_or_even"))
+    return "".join(head + said for head in heads) + SUMMARY.format(refused=refused, left_out=left_out)
+
+
+def is_told(said):
+    try:
+        Judge().judge([ROW], said)
+    except WrongRow:
+        return True
+    return False
+
+
+def untold():
+    """The wrong answers that are not told, and what is told though it is right."""
+    for text in WRONG_TEXTS:
+        if is_answer(*cut_row(text)):
+            yield text
+    right = whole(SAID)
+    if is_told(right):
+        yield "a right row"
+    for what, old, new in WRONG_WORDS:
+        assert old in SAID
+        if not is_told(whole(SAID.replace(old, new, 1), refused=3 * new.count("memory"))):
+            yield what
+    forgotten = right[: right.index("1 rows")] + "none: a row: 2 keys and values were not dropped\n"
+    for what, said in (
+        ("items that are not dropped", forgotten),
+        ("no summary", right[: right.index("1 rows")]),
+        ("a hasher that is left out", right.replace("row 3 same_hash\n" + SAID, "")),
+        ("another count of refusals", whole(SAID, refused=1)),
+        ("a row that is left out, and says so at its end alone", whole(SAID, left_out=1)),
+    ):
+        if not is_told(said):
+            yield what

@@ -1,0 +1,84 @@
+"""What a container has to be like."""
+
+
+class PlainList:
+    """A list of pairs, front first, and how many nodes are spare. Keys are equal by their groups."""
+
+    def __init__(self):
+        self.pairs = []
+        self.spare = 0
+
+    def place_of(self, key):
+        for place, pair in enumerate(self.pairs):
+            if pair[0][0] == key[0]:
+                return place
+        return None
+
+    def find(self, key):
+        place = self.place_of(key)
+        return None if place is None else self.pairs[place]
+
+    def at(self, place):
+        return self.pairs[place] if 0 <= place < len(self.pairs) else None
+
+    def first(self):
+        return self.at(0)
+
+    def last(self):
+        return self.at(len(self.pairs) - 1)
+
+    def may_refuse(self, key):
+        """Whether an insert of the key may be refused: it is absent, and no node is spare."""
+        return self.spare == 0 and self.place_of(key) is None
+
+    def take(self, key):
+        """Takes the key's pair out, which leaves a node to spare."""
+        place = self.place_of(key)
+        if place is None:
+            return None
+        self.spare += 1
+        return self.pairs.pop(place)
+
+    def take_first(self):
+        return self.take(self.pairs[0][0]) if self.pairs else None
+
+    def take_last(self):
+        return self.take(self.pairs[-1][0]) if self.pairs else None
+
+    def clear(self):
+        """Drops every pair, and no node becomes spare."""
+        self.pairs = []
+
+    def keep(self, test):
+        """Keeps the pairs that pass, and the nodes of the others become spare."""
+        before = len(self.pairs)
+        self.pairs = [pair for pair in self.pairs if test(pair)]
+        self.spare += before - len(self.pairs)
+
+    def put(self, place, pair):
+        """Puts the pair before the one that stands at the place now, or last where there is none. A key that is there
+        stays. Returns the old value."""
+        there = self.place_of(pair[0])
+        if there is not None and there < place:
+            place -= 1
+        old = self.take(pair[0])
+        self.spare = max(self.spare - 1, 0)
+        key = pair[0] if old is None else old[0]
+        self.pairs.insert(place, (key, pair[1]))
+        return old and old[1]
+
+    def write(self, pair):
+        """Puts the pair in the place of its key's, and returns the one that was there."""
+        place = self.place_of(pair[0])
+        if place is None:
+            return None
+        old = self.pairs[place]
+        self.pairs[place] = pair
+        return old
+
+    def use_key(self, key):
+        """Moves the key's pair to the end."""
+        pair = self.find(key)
+        if pair:
+            self.put(len(self.pairs), pair)
+        return pair

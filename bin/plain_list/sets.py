@@ -1,0 +1,145 @@
+"""What plain lists answer to the lines of sets. An element is a key whose value is its own name."""
+
+from .model import Model
+from .words import MEMORY, NOTHING, item_word
+
+
+class SetModel(Model):
+    """The list beside a set."""
+
+    kind = "set"
+
+    def shown(self):
+        return [item_word(key) for key, _ in self.list.pairs]
+
+    def answer(self, words, answers):
+        rest = words.copy()
+        name = rest.word()
+        if name in ("front", "back", "pop_front", "pop_back"):
+            answers.key(self.end(name))
+        elif name in ("insert", "replace", "get_or_insert", "get_or_insert_with"):
+            self.put_element(name, rest.name(), answers)
+        elif name in ("contains", "get", "to_front", "to_back", "remove", "take"):
+            self.call_element(name, rest.name(), answers)
+        elif name in ("iter", "drain", "into_iter"):
+            self.walk(name, rest, answers)
+        else:
+            self.call(words, answers)
+            return
+        words.read = rest.read
+
+    def end(self, name):
+        ends = {"front": self.list.first, "back": self.list.last}
+        return ends.get(name, self.list.take_first if name == "pop_front" else self.list.take_last)()
+
+    def is_element_refused(self, element, answers):
+        """Whether the container had no memory for the element, as it may, and so handed it back."""
+        if answers.is_refused() and self.list.may_refuse(element):
+            answers.element_back(element)
+            return True
+        return False
+
+    def put_element(self, name, element, answers):
+        if self.is_element_refused(element, answers):
+            return
+        pair = self.list.find(element)
+        old = pair and pair[0]
+        if name == "replace" and old:
+            self.list.write((element, element))
+        else:
+            self.put("back", (element, element))
+        if name == "insert":
+            answers.tell(old is None)
+        elif name == "replace":
+            answers.item(old)
+        else:
+            answers.item(old or element)
+
+    def call_element(self, name, element, answers):
+        old = self.list.find(element)
+        if name == "contains":
+            answers.tell(old is not None)
+        elif name == "get":
+            answers.key(old)
+        elif name == "remove":
+            answers.tell(self.list.take(element) is not None)
+        elif name == "take":
+            answers.key(self.list.take(element))
+        else:
+            if old:
+                self.put(name[3:], old)
+            answers.tell(old is not None)
+
+    def step(self, name, ends, word, written):
+        """An iterator over the elements says them as one over keys does."""
+        return super().step("keys", ends, word, None)
+
+    def next_of_many(self, words):
+        element = words.name()
+        return (element, element)
+
+    def back_of_many(self, pair, answers):
+        return self.is_element_refused(pair[0], answers)
+
+
+def call_sets(model, other, name, answers):
+    """Answers the call of two sets that has the name."""
+    keys, others = ([pair[0] for pair in each.list.pairs] for each in (model, other))
+    inside = sum(other.list.find(key) is not None for key in keys)
+    if name in ("eq", "hash"):
+        answers.tell([key[0] for key in keys] == [key[0] for key in others])
+    elif name == "is_disjoint":
+        answers.tell(inside == 0)
+    elif name == "is_subset":
+        answers.tell(inside == len(keys))
+    elif name == "is_superset":
+        answers.tell(inside == len(others))
+    elif name in ("union", "intersection", "difference", "symmetric_difference"):
+        iterate(model, other, name, answers)
+    else:
+        operate(model, other, name, answers)
+
+
+def comes(model, other, name, element, is_first):
+    """Whether an element comes that stands in the first set, or in the second."""
+    is_in_both = model.list.find(element) is not None and other.list.find(element) is not None
+    if name in ("union", "|"):
+        return is_first or not is_in_both
+    if name in ("intersection", "&"):
+        return is_first and is_in_both
+    if name in ("difference", "-"):
+        return is_first and not is_in_both
+    return not is_in_both
+
+
+def iterate(model, other, name, answers):
+    """Says the bounds of how many are left and what comes, in turn. Of those left in each set a union has all of the first
+    at least, and one of the first alone, as an intersection or a difference, none of the second at most."""
+    left = [len(model.list.pairs), len(other.list.pairs)]
+    bounds(name, left, answers)
+    for place, each in enumerate((model, other)):
+        for key, _ in each.list.pairs:
+            left[place] -= 1
+            if comes(model, other, name, key, place == 0):
+                answers.item(key)
+                bounds(name, left, answers)
+    answers.say(NOTHING)
+
+
+def bounds(name, left, answers):
+    answers.count(left[0] if name == "union" else 0)
+    answers.count(sum(left) if name in ("union", "symmetric_difference") else left[0])
+
+
+def operate(model, other, name, answers):
+    """The first list goes on with what an operator makes."""
+    if answers.is_refused():
+        answers.say(MEMORY)
+        return
+    new = SetModel()
+    for place, each in enumerate((model, other)):
+        for pair in each.list.pairs:
+            if comes(model, other, name, pair[0], place == 0):
+                new.put("back", pair)
+    model.list, model.room = new.list, new.room
+    answers.done()
