@@ -39,8 +39,8 @@ macro_rules! say_lent {
     };
 }
 
-/// Makes the call of an entry that the words say. One of an occupied entry says nothing where the key is absent, and one of
-/// a vacant entry nothing where it is there.
+/// Makes the call of an entry that the words say. One of an occupied entry says nothing where the key is
+/// absent, and one of a vacant entry nothing where it is there.
 pub fn call_entry<S: BuildHasher, C: HasEntries<S>>(
     container: &mut C,
     home: Home<'_>,

@@ -5,7 +5,8 @@ use crate::answers::{Name, Pair, Stop};
 use std::alloc::{AllocError, Global};
 use std::rc::Rc;
 
-/// Where items are made: the memory, and what each of them has a share of, so that the shares tell how many live.
+/// Where items are made: the memory, and what each of them has a share of, so that the shares tell how many
+/// live.
 #[derive(Clone, Copy)]
 pub struct Home<'h> {
     pub alloc: Global,
@@ -29,8 +30,8 @@ impl Home<'_> {
     }
 }
 
-/// A key, an element or a value: compared and hashed by its group alone, so that its number tells which of two equal
-/// ones it is.
+/// A key, an element or a value: compared and hashed by its group alone, so that its number tells which of
+/// two equal ones it is.
 #[derive(Clone, Drop)]
 #[derive_where(PartialEq, Eq, PartialOrd, Ord, Hash)]
 pub struct Item {

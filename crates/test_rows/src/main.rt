@@ -1,9 +1,11 @@
-//! Runs rows of calls on the containers, and checks each answer that a row says, and that no item is forgotten.
+//! Runs rows of calls on the containers, and checks each answer that a row says, and that no item is
+//! forgotten.
 //! `docs/dev/rows.md` says how a row is written.
 //!
-//! Its arguments name the files, and one of a file's rows alone by its number, as in `map.rows#3`. It ends with
-//! status 1 where an answer was wrong, and says of each row where that is, and what came. After a first argument `--say` it
-//! says each answer that comes and what then stands, which `bin/judge` compares with a plain list.
+//! Its arguments name the files, and one of a file's rows alone by its number, as in `map.rows#3`. It ends
+//! with status 1 where an answer was wrong, and says of each row where that is, and what came. After a first
+//! argument `--say` it says each answer that comes and what then stands, which `bin/judge` compares with a
+//! plain list.
 #![tactic(auto)]
 
 mod answers;

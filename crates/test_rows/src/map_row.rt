@@ -192,8 +192,8 @@ fn remove_end<S: BuildHasher>(
     }
 }
 
-/// Keeps by a test that the line names: `even` values; `odd` keys, whose values become ten times as much; `others` than
-/// the odd keys, which are said in the order in which they were met.
+/// Keeps by a test that the line names: `even` values; `odd` keys, whose values become ten times as much;
+/// `others` than the odd keys, which are said in the order in which they were met.
 fn retain<S: BuildHasher>(
     map: &mut Map<S>,
     home: Home<'_>,

@@ -16,7 +16,8 @@ pub type Entries<'m, S> = RawEntryBuilderMut<'m, Item, Item, S>;
 
 type Occupied<'m, S> = RawOccupiedEntryMut<'m, Item, Item, S>;
 
-/// Says the stored key and the value that is lent, and writes another there, or says the pair that is handed back.
+/// Says the stored key and the value that is lent, and writes another there, or says the pair that is handed
+/// back.
 macro_rules! say_lent {
     ($lent:expr, $written:expr, $answers:expr) => {
         match $lent {
@@ -94,8 +95,8 @@ impl<S: BuildHasher> HasRawEntries<S> for Cache<S> {
     }
 }
 
-/// Makes the call of a raw entry of a map that the words say: the way, the key and the call. One that puts an absent key
-/// has another name than one that needs an entry.
+/// Makes the call of a raw entry of a map that the words say: the way, the key and the call. One that puts an
+/// absent key has another name than one that needs an entry.
 pub fn call_raw<S: BuildHasher + Copy>(
     map: &mut Map<S>,
     home: Home<'_>,

@@ -15,7 +15,8 @@ pub struct Row<'f> {
 /// What is wrong with a row.
 #[derive(Clone, Copy)]
 pub enum Wrong<'f> {
-    /// The line of this number and text, whose answer is not the one that is written: what came stands in the answers.
+    /// The line of this number and text, whose answer is not the one that is written: what came stands in the
+    /// answers.
     Line(usize, &'f str),
     /// It is no line of such a row.
     Unread(usize, &'f str),
@@ -26,8 +27,8 @@ pub enum Wrong<'f> {
 }
 
 impl<'f> Row<'f> {
-    /// The row that is next in the text, which begins with the line of this number, and the text after it. Lines that
-    /// begin with `#` are no part of it.
+    /// The row that is next in the text, which begins with the line of this number, and the text after it.
+    /// Lines that begin with `#` are no part of it.
     pub fn next(text: &'f str, number: usize) -> Option<(Row<'f>, &'f str, usize)> {
         let mut text = text;
         let mut number = number;

@@ -181,8 +181,8 @@ pub fn has_room(
     }
 }
 
-/// Says the bounds of how many are left and what comes, in turn, until nothing comes. A clone that is made after the
-/// first has to say the same.
+/// Says the bounds of how many are left and what comes, in turn, until nothing comes. A clone that is made
+/// after the first has to say the same.
 pub fn say_all<'s, I: Iterator<Item = &'s Item> + Clone + Drop>(
     mut first: I,
     answers: &mut Answers,

@@ -281,7 +281,8 @@ fn make<S: BuildHasher + Copy + Drop>(
     }
 }
 
-/// Makes the call of two sets that the words say. The row goes on with what an operator makes as its first set.
+/// Makes the call of two sets that the words say. The row goes on with what an operator makes as its first
+/// set.
 pub fn call_sets<S: BuildHasher + Copy + Default + Drop>(
     set: &mut Set<S>,
     other: &mut Set<S>,

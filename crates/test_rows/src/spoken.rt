@@ -169,7 +169,8 @@ impl<S: BuildHasher + Default> Spoken for Weighted<S> {
     }
 }
 
-/// Compares two maps by `eq`, `cmp` or `partial_cmp`, each way round, or says whether they feed a hasher the same.
+/// Compares two maps by `eq`, `cmp` or `partial_cmp`, each way round, or says whether they feed a hasher the
+/// same.
 fn compare<S: BuildHasher>(
     map: &Map<S>,
     other: &Map<S>,

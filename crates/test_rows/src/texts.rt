@@ -5,7 +5,8 @@ use hashlink::run::run_text;
 use std::alloc::Global;
 use std::str::from_utf8;
 
-/// Whether the answer of `run_text`, where none of it is a refusal, is the one that is written after the text and a line
+/// Whether the answer of `run_text`, where none of it is a refusal, is the one that is written after the text
+/// and a line
 /// `=`, if one is. Each line of the answer is said.
 pub fn is_text_right(
     alloc: Global,
@@ -49,8 +50,8 @@ fn say_lines(answer: &str, voice: Voice<'_>) {
     }
 }
 
-/// The bytes of a text, in which `\r` stands for byte 13, `\x` for byte 255, and another `\` for nothing, so that a line
-/// of it alone is empty.
+/// The bytes of a text, in which `\r` stands for byte 13, `\x` for byte 255, and another `\` for nothing, so
+/// that a line of it alone is empty.
 pub fn bytes_of(alloc: Global, text: &str) -> Result<Vec<u8>, Stop> {
     let mut bytes = Vec::with_capacity(alloc, text.len())?;
     let mut is_escaped = false;

@@ -1,5 +1,6 @@
 -- What is made for an absent element is equal to it, and so absent.
-use Rattle.std.proofs.Common.{◌≡◌, nat_eq, Bool, true, false, List, [], ◌∷◌, Option, Some, None, cond, ◌||◌, ℕ}
+use Rattle.std.proofs.Common.{◌≡◌, nat_eq, Bool, true, false, List, [], ◌∷◌, Option, Some, None, cond, ◌||◌}
+use Rattle.std.proofs.Common.{ℕ}
 use Rattle.std.proofs.Common.{is_some, refl, sym, ap, ◌∙◌}
 use Rattle.std.specs.List.{find}
 use Rattle.std.specs.Map.{keys_of}
