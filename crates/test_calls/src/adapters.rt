@@ -1,20 +1,11 @@
 //! Loops, std's adapters, and iterators past their end.
+use crate::few::{Map, cache_of, map_of, set_of};
+use hashlink::LinkedHashSet;
 use hashlink::linked_hash_map::{Iter, Keys, Values};
-use hashlink::{LinkedHashMap, LinkedHashSet, LruCache};
 use std::alloc::Global;
-use std::process::Abort;
-
-/// Four keys in this order, with ten times their numbers.
-fn four(rt: &impl Abort, alloc: Global) -> LinkedHashMap<u32, u32> {
-    let mut map = LinkedHashMap::new(alloc);
-    for key in [3u32, 1, 2, 4] {
-        assert!(rt; map.insert(key, key * 10).is_ok());
-    }
-    map
-}
 
 /// The keys as digits, by a loop.
-fn digits(map: &LinkedHashMap<u32, u32>) -> u32 {
+fn digits(map: &Map) -> u32 {
     let mut digits = 0u32;
     for (key, _) in map {
         digits = digits.wrapping_mul(10).wrapping_add(*key);
@@ -48,38 +39,41 @@ fn greatest_key(keys: Keys<'_, u32, u32>) -> Option<u32> {
     keys.copied().max()
 }
 
+/// Which of keys, values and entries go backwards.
+fn backwards(map: &Map) -> [bool; 3] {
+    [
+        keys_go_backwards(map.keys()),
+        values_go_backwards(map.values()),
+        entries_go_backwards(map.iter()),
+    ]
+}
+
 #[test]
 fn a_map_goes_through_loops_and_adapters(rt: HostRuntime) {
-    let map = four(&rt, rt.alloc());
-    assert_eq!(rt; digits(&map), 3124);
-    assert!(rt; keys_go_backwards(map.keys()));
-    assert!(rt; values_go_backwards(map.values()));
-    assert!(rt; entries_go_backwards(map.iter()));
-    assert_eq!(rt;
-        (count_above(map.iter(), 15), sum_of_values(map.values())),
-        (3, 100)
+    let map = map_of(rt.alloc(), &[(3, 30), (1, 10), (2, 20), (4, 40)]);
+    let counted = (count_above(map.iter(), 15), sum_of_values(map.values()));
+    let seen = (
+        digits(&map),
+        backwards(&map),
+        counted,
+        greatest_key(map.keys()),
     );
-    assert_eq!(rt; greatest_key(map.keys()), Some(4));
+    assert_eq!(rt; seen, (3124, [true; 3], (3, 100), Some(4)));
+}
+
+/// The first pair of a borrowed cache, and how many are left.
+fn first_of_cache(alloc: Global) -> (Option<(u32, u32)>, usize) {
+    let cache = cache_of(alloc, 2, &[(3, 3), (1, 1), (2, 2)]);
+    let mut entries = (&cache).into_iter();
+    match entries.next() {
+        Some((key, value)) => (Some((*key, *value)), entries.len()),
+        None => (None, 0),
+    }
 }
 
 #[test]
 fn a_borrowed_cache_is_iterated(rt: HostRuntime) {
-    let mut cache = LruCache::new(rt.alloc(), 2);
-    for key in [3u32, 1, 2] {
-        assert!(rt; cache.insert(key, key).is_ok());
-    }
-    let mut entries = (&cache).into_iter();
-    assert_eq!(rt; entries.next(), Some((&1, &1)));
-    assert_eq!(rt; (entries.len(), cache.len()), (1, 2));
-}
-
-/// The set of two numbers.
-fn set_of(rt: &impl Abort, alloc: Global, elements: [u32; 2]) -> LinkedHashSet<u32> {
-    let mut set = LinkedHashSet::new(alloc);
-    for element in elements {
-        assert!(rt; set.insert(element).is_ok());
-    }
-    set
+    assert_eq!(rt; first_of_cache(rt.alloc()), (Some((1, 1)), 1));
 }
 
 /// The elements as digits, by a loop.
@@ -91,34 +85,62 @@ fn digits_of_set(set: &LinkedHashSet<u32>) -> u32 {
     digits
 }
 
+type Set = LinkedHashSet<u32>;
+
+/// What an iterator says that has ended.
 const ENDED: (Option<&u32>, (usize, Option<usize>)) = (None, (0, Some(0)));
 
-#[test]
-fn iterators_over_two_sets_stay_ended(rt: HostRuntime) {
-    let left = set_of(&rt, rt.alloc(), [2, 1]);
-    let right = set_of(&rt, rt.alloc(), [3, 1]);
-    assert!(rt; left != right);
-    assert_eq!(rt; digits_of_set(&left), 21);
-    let mut both = left.union(&right);
-    assert!(rt; both.by_ref().copied().eq([2, 1, 3]));
-    assert_eq!(rt; (both.next(), both.size_hint()), ENDED);
-    let mut either = left.symmetric_difference(&right);
-    assert!(rt; either.by_ref().copied().eq([2, 3]));
-    assert_eq!(rt; (either.next(), either.size_hint()), ENDED);
-    let mut shared = left.intersection(&right);
-    assert!(rt; shared.by_ref().copied().eq([1]));
-    assert_eq!(rt; (shared.next(), shared.size_hint()), ENDED);
-    let mut apart = left.difference(&right);
-    assert!(rt; apart.by_ref().copied().eq([2]));
-    assert_eq!(rt; (apart.next(), apart.size_hint()), ENDED);
+fn union_stays_ended(left: &Set, right: &Set) -> bool {
+    let mut both = left.union(right);
+    both.by_ref().copied().eq([2, 1, 3]) & ((both.next(), both.size_hint()) == ENDED)
+}
+
+fn symmetric_difference_stays_ended(left: &Set, right: &Set) -> bool {
+    let mut either = left.symmetric_difference(right);
+    either.by_ref().copied().eq([2, 3]) & ((either.next(), either.size_hint()) == ENDED)
+}
+
+fn intersection_stays_ended(left: &Set, right: &Set) -> bool {
+    let mut shared = left.intersection(right);
+    shared.by_ref().copied().eq([1]) & ((shared.next(), shared.size_hint()) == ENDED)
+}
+
+fn difference_stays_ended(left: &Set, right: &Set) -> bool {
+    let mut apart = left.difference(right);
+    apart.by_ref().copied().eq([2]) & ((apart.next(), apart.size_hint()) == ENDED)
+}
+
+/// Which iterators over two sets stay ended.
+fn stay_ended(left: &Set, right: &Set) -> [bool; 4] {
+    [
+        union_stays_ended(left, right),
+        symmetric_difference_stays_ended(left, right),
+        intersection_stays_ended(left, right),
+        difference_stays_ended(left, right),
+    ]
+}
+
+/// The first elements of iterators over two sets, which then end.
+fn first_elements(left: &Set, right: &Set) -> [Option<u32>; 4] {
+    [
+        left.union(right).next().copied(),
+        left.symmetric_difference(right).next().copied(),
+        left.intersection(right).next().copied(),
+        left.difference(right).next().copied(),
+    ]
 }
 
 #[test]
-fn iterators_over_two_sets_end_early(rt: HostRuntime) {
-    let left = set_of(&rt, rt.alloc(), [2, 1]);
-    let right = set_of(&rt, rt.alloc(), [3, 1]);
-    assert_eq!(rt; left.union(&right).next(), Some(&2));
-    assert_eq!(rt; left.symmetric_difference(&right).next(), Some(&2));
-    assert_eq!(rt; left.intersection(&right).next(), Some(&1));
-    assert_eq!(rt; left.difference(&right).next(), Some(&2));
+fn iterators_over_two_sets_end_early_and_stay_ended(rt: HostRuntime) {
+    let (left, right) = (set_of(rt.alloc(), &[2, 1]), set_of(rt.alloc(), &[3, 1]));
+    let seen = (
+        digits_of_set(&left),
+        left == right,
+        stay_ended(&left, &right),
+    );
+    let first = first_elements(&left, &right);
+    assert_eq!(rt;
+        (seen, first),
+        ((21, false, [true; 4]), [Some(2), Some(2), Some(1), Some(2)])
+    );
 }

@@ -1,31 +1,20 @@
 //! How often closures are called, and on what.
-
-use hashlink::{LinkedHashMap, LinkedHashSet};
+use crate::few::{Map, one_to_three, set_of};
 use std::alloc::Global;
 use std::cell::Cell;
-use std::process::Abort;
-
-/// The keys from 1 to 3 with ten times their numbers.
-fn one_to_three(rt: &impl Abort, alloc: Global) -> LinkedHashMap<u64, u64> {
-    let mut map = LinkedHashMap::new(alloc);
-    for key in 1u64..4 {
-        assert!(rt; map.insert(key, key * 10).is_ok());
-    }
-    map
-}
 
 /// Counts a call.
-fn count(calls: &Cell<u64>) {
+fn count(calls: &Cell<u32>) {
     calls.set(calls.get().wrapping_add(1));
 }
 
 /// Writes a digit behind those that were written.
-fn write(digits: &Cell<u64>, digit: u64) {
+fn write(digits: &Cell<u32>, digit: u32) {
     digits.set(digits.get().wrapping_mul(10).wrapping_add(digit));
 }
 
 /// How often the closures of `and_modify` and `or_insert_with` are called for a key.
-fn calls_of_entry(map: &mut LinkedHashMap<u64, u64>, key: u64) -> (u64, u64) {
+fn calls_of_entry(map: &mut Map, key: u32) -> (u32, u32) {
     let (modified, made) = (Cell::new(0), Cell::new(0));
     let entry = map.entry(key).and_modify(|_| count(&modified));
     let _value = entry.or_insert_with(|| {
@@ -36,7 +25,7 @@ fn calls_of_entry(map: &mut LinkedHashMap<u64, u64>, key: u64) -> (u64, u64) {
 }
 
 /// The same of a raw entry.
-fn calls_of_raw_entry(map: &mut LinkedHashMap<u64, u64>, key: u64) -> (u64, u64) {
+fn calls_of_raw_entry(map: &mut Map, key: u32) -> (u32, u32) {
     let (modified, made) = (Cell::new(0), Cell::new(0));
     let entry = map.raw_entry_of(&key).and_modify(|_, _| count(&modified));
     let _pair = entry.or_insert_with(|| {
@@ -48,17 +37,16 @@ fn calls_of_raw_entry(map: &mut LinkedHashMap<u64, u64>, key: u64) -> (u64, u64)
 
 #[test]
 fn an_entry_modifies_what_is_there_and_makes_what_is_not(rt: HostRuntime) {
-    let mut map = one_to_three(&rt, rt.alloc());
-    assert_eq!(rt; calls_of_entry(&mut map, 2), (1, 0));
-    assert_eq!(rt; calls_of_entry(&mut map, 4), (0, 1));
-    assert_eq!(rt; calls_of_raw_entry(&mut map, 2), (1, 0));
-    assert_eq!(rt; calls_of_raw_entry(&mut map, 5), (0, 1));
+    let mut map = one_to_three(rt.alloc());
+    let there = [calls_of_entry(&mut map, 2), calls_of_raw_entry(&mut map, 2)];
+    let absent = [calls_of_entry(&mut map, 4), calls_of_raw_entry(&mut map, 5)];
+    assert_eq!(rt; (there, absent), ([(1, 0); 2], [(0, 1); 2]));
 }
 
-#[test]
-fn retains_of_a_map_ask_of_each_entry_once_front_to_back(rt: HostRuntime) {
+/// The keys of which retains of a map ask, and how many are left.
+fn retains_of_map(alloc: Global) -> (u32, usize) {
     let digits = Cell::new(0);
-    let mut map = one_to_three(&rt, rt.alloc());
+    let mut map = one_to_three(alloc);
     map.retain(|key, value| {
         write(&digits, *key);
         *value != 20
@@ -67,16 +55,13 @@ fn retains_of_a_map_ask_of_each_entry_once_front_to_back(rt: HostRuntime) {
         write(&digits, *key);
         *key != 1
     });
-    assert_eq!(rt; (digits.get(), map.len()), (12_313, 1));
+    (digits.get(), map.len())
 }
 
-#[test]
-fn retains_of_a_set_ask_of_each_element_once_front_to_back(rt: HostRuntime) {
+/// The same of a set.
+fn retains_of_set(alloc: Global) -> (u32, usize) {
     let digits = Cell::new(0);
-    let mut set = LinkedHashSet::new(rt.alloc());
-    for element in 1u64..4 {
-        assert!(rt; set.insert(element).is_ok());
-    }
+    let mut set = set_of(alloc, &[1, 2, 3]);
     set.retain(|element| {
         write(&digits, *element);
         *element != 2
@@ -85,5 +70,11 @@ fn retains_of_a_set_ask_of_each_element_once_front_to_back(rt: HostRuntime) {
         write(&digits, *element);
         *element != 1
     });
-    assert_eq!(rt; (digits.get(), set.len()), (12_313, 1));
+    (digits.get(), set.len())
+}
+
+#[test]
+fn retains_ask_of_each_item_once_front_to_back(rt: HostRuntime) {
+    let asked = [retains_of_map(rt.alloc()), retains_of_set(rt.alloc())];
+    assert_eq!(rt; asked, [(12_313, 1); 2]);
 }

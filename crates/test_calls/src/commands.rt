@@ -1,8 +1,9 @@
 //! Lists of commands with keys that are equal and yet differ, and a removal with an insert in one run.
+use crate::few::map_of;
 use hashlink::LinkedHashMap;
 use hashlink::run::{Command, EntryStep, PairCommand, Reply, run, run_pair};
 use hashlink_uses::commands::remove_then_insert;
-use std::test::Fail;
+use std::alloc::{AllocError, Global};
 use test_keys::Numbered;
 
 /// A key of this group.
@@ -10,106 +11,114 @@ fn key(group: u32, number: u32) -> Numbered {
     Numbered { group, number }
 }
 
-#[test]
-fn a_run_keeps_the_key_that_is_stored(rt: HostRuntime) -> Result<(), Fail> {
-    let mut map = LinkedHashMap::new(rt.alloc());
-    let commands = vec![in rt.alloc();
-        Command::Insert(key(1, 1), 10u32),
-        Command::Insert(key(1, 2), 11),
-        Command::Get(key(1, 3)),
-    ]?;
-    let replies = run(&mut map, commands, &|key, _| key.number == 1)?;
-    assert!(rt;
-        matches!(
-            replies.as_slice(),
-            [
-                Reply::Value(None),
-                Reply::Value(Some(10)),
-                Reply::Seen(Some(true)),
-            ]
-        )
-    );
-    assert_eq!(rt;
-        map.front().map(|(key, value)| (key.number, *value)),
-        Some((1, 11))
-    );
-    Ok(())
+type Replies = Result<Vec<Reply<Numbered, u32>>, AllocError>;
+
+/// The replies to an insert, and to further commands, of which a read is told whether the key has the
+/// number 1.
+fn run_after_insert(
+    alloc: Global,
+    second: Command<Numbered, u32>,
+    third: Command<Numbered, u32>,
+) -> Replies {
+    let commands = vec![in alloc; Command::Insert(key(1, 1), 10u32), second, third]?;
+    run(
+        &mut LinkedHashMap::new(alloc),
+        commands,
+        &|key, _| key.number == 1,
+    )
 }
 
 #[test]
-fn a_run_hands_out_the_key_that_was_stored(rt: HostRuntime) -> Result<(), Fail> {
-    let mut map = LinkedHashMap::new(rt.alloc());
-    let commands = vec![in rt.alloc();
-        Command::Insert(key(1, 1), 10u32),
-        Command::Entry(key(1, 2), EntryStep::ReplaceKey),
-        Command::Entry(key(1, 3), EntryStep::RemoveEntry),
-    ]?;
-    let replies = run(&mut map, commands, &|_, _| true)?;
+fn a_run_keeps_the_key_that_is_stored(rt: HostRuntime) {
+    let insert = Command::Insert(key(1, 2), 11);
+    let replies = run_after_insert(rt.alloc(), insert, Command::Get(key(1, 3)));
     assert!(rt;
-        matches!(
-            replies.as_slice(),
-            [
-                Reply::Value(None),
-                Reply::Key(Some(Numbered { number: 1, .. })),
-                Reply::Pair(Some((Numbered { number: 2, .. }, 10))),
-            ]
-        )
+        replies.is_ok_and(|replies| {
+            matches!(
+                replies.as_slice(),
+                [
+                    Reply::Value(None),
+                    Reply::Value(Some(10)),
+                    Reply::Seen(Some(true))
+                ]
+            )
+        })
     );
-    Ok(())
 }
 
 #[test]
-fn what_has_no_commands_and_no_steps_has_no_reply(rt: HostRuntime) -> Result<(), Fail> {
-    let mut map = LinkedHashMap::new(rt.alloc());
-    let commands = vec![in rt.alloc();
+fn a_run_hands_out_the_key_that_was_stored(rt: HostRuntime) {
+    let replace = Command::Entry(key(1, 2), EntryStep::ReplaceKey);
+    let remove = Command::Entry(key(1, 3), EntryStep::RemoveEntry);
+    let replies = run_after_insert(rt.alloc(), replace, remove);
+    assert!(rt;
+        replies.is_ok_and(|replies| {
+            matches!(
+                replies.as_slice(),
+                [
+                    Reply::Value(None),
+                    Reply::Key(Some(Numbered { number: 1, .. })),
+                    Reply::Pair(Some((Numbered { number: 2, .. }, 10))),
+                ]
+            )
+        })
+    );
+}
+
+/// How many replies there are to an insert, a cursor without steps and a question for the length.
+fn run_without_steps(alloc: Global) -> Result<usize, AllocError> {
+    let commands = vec![in alloc;
         Command::Insert(1u32, 10u32),
-        Command::Cursor(Vec::new(rt.alloc())),
+        Command::Cursor(Vec::new(alloc)),
         Command::Len,
     ]?;
-    let replies = run(&mut map, commands, &|_, _| true)?;
-    assert!(rt; matches!(replies.as_slice(), [Reply::Value(None), Reply::Length(1)]));
-    let replies = run(&mut map, Vec::new(rt.alloc()), &|_, _| true)?;
-    assert!(rt; replies.is_empty());
-    assert_eq!(rt; (map.len(), map.get(&1)), (1, Some(&10)));
-    Ok(())
+    Ok(run(&mut map_of(alloc, &[]), commands, &|_, _| true)?.len())
+}
+
+/// What is left of a map, and how many replies there are, after no commands.
+fn run_without_commands(alloc: Global) -> Result<(usize, Option<u32>, usize), AllocError> {
+    let mut map = map_of(alloc, &[(1, 10)]);
+    let replies = run(&mut map, Vec::new(alloc), &|_, _| true)?.len();
+    Ok((map.len(), map.get(&1).copied(), replies))
 }
 
 #[test]
-fn the_smaller_of_two_caches_may_hold_another_key_that_is_equal(
-    rt: HostRuntime,
-) -> Result<(), Fail> {
+fn what_has_no_commands_and_no_steps_has_no_reply(rt: HostRuntime) {
+    assert_eq!(rt; run_without_steps(rt.alloc()), Ok(2));
+    assert_eq!(rt; run_without_commands(rt.alloc()), Ok((1, Some(10), 0)));
+}
+
+/// The numbers of the last keys in the smaller and in the larger of two caches, and whether both have
+/// the last value.
+fn last_keys(alloc: Global) -> Result<(Option<u32>, Option<u32>, bool), AllocError> {
     let commands = [
         PairCommand::Insert(key(1, 1), 10u32),
         PairCommand::Insert(key(2, 1), 20),
         PairCommand::Insert(key(1, 2), 11),
         PairCommand::Use(key(1, 3), 12),
     ];
-    let pair = run_pair(rt.alloc(), 1, 2, &commands)?;
-    assert_eq!(rt;
-        pair.small.iter().map(|(key, _)| key.number).last(),
-        Some(2)
-    );
-    assert_eq!(rt;
-        pair.large.iter().map(|(key, _)| key.number).last(),
-        Some(1)
-    );
-    assert_eq!(rt;
-        (pair.small.peek(&key(1, 4)), pair.large.peek(&key(1, 4))),
-        (Some(&11), Some(&11))
-    );
-    Ok(())
+    let pair = run_pair(alloc, 1, 2, &commands)?;
+    let small = pair.small.back().map(|(key, _)| key.number);
+    let large = pair.large.back().map(|(key, _)| key.number);
+    let values = (pair.small.peek(&key(1, 4)), pair.large.peek(&key(1, 4)));
+    Ok((small, large, values == (Some(&11), Some(&11))))
 }
 
 #[test]
-fn an_insert_after_a_removal_is_answered(rt: HostRuntime) -> Result<(), Fail> {
-    let mut map = LinkedHashMap::new(rt.alloc());
-    map.insert(1u32, 10u32)?;
-    let replies = remove_then_insert(rt.alloc(), &mut map, 1, 2, 20)?;
+fn the_smaller_of_two_caches_may_hold_another_key_that_is_equal(rt: HostRuntime) {
+    assert_eq!(rt; last_keys(rt.alloc()), Ok((Some(2), Some(1), true)));
+}
+
+#[test]
+fn an_insert_after_a_removal_is_answered(rt: HostRuntime) {
+    let mut map = map_of(rt.alloc(), &[(1, 10)]);
+    let replies = remove_then_insert(rt.alloc(), &mut map, 1, 2, 20);
     assert!(rt;
-        matches!(
-            replies.as_slice(),
-            [Reply::Value(Some(10)), Reply::Value(None)]
-        )
+        replies.is_ok_and(|replies| {
+            matches!(
+                replies.as_slice(),
+                [Reply::Value(Some(10)), Reply::Value(None)]
+            )
+        })
     );
-    Ok(())
 }

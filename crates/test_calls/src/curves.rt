@@ -4,7 +4,10 @@ use hashlink::miss_curve::{MissCurve, miss_curve};
 #[test]
 fn a_curve_of_three_keys_in_turn_falls_once(rt: HostRuntime) {
     let curve = miss_curve(rt.alloc(), b"abcabc").unwrap_or(MissCurve::new(rt.alloc()));
-    assert!(rt; curve.falls().eq([(3, 3)]));
-    assert_eq!(rt; (curve.misses(2), curve.misses(3)), (6, 3));
-    assert_eq!(rt; (curve.accesses(), curve.distinct()), (6, 3));
+    let misses = (curve.misses(2), curve.misses(3));
+    let sizes = (curve.accesses(), curve.distinct());
+    assert_eq!(rt;
+        (curve.falls().eq([(3, 3)]), misses, sizes),
+        (true, (6, 3), (6, 3))
+    );
 }

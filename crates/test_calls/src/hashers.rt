@@ -1,5 +1,6 @@
 //! The default hasher hashes as std's does.
 use hashlink::{DefaultHashBuilder, DefaultHasher, LinkedHashMap};
+use std::alloc::Global;
 use std::hash::{BuildHasher, FoldHasher, Hash, Hasher};
 use std::test::Fail;
 
@@ -9,17 +10,6 @@ fn feed<H: Hasher>(state: &mut H) {
     (200u8, 60_000u16, 4_000_000_000u32, u64::MAX, u128::MAX).hash(state);
     (-100i8, -30_000i16, -2_000_000_000i32, i64::MIN, -5i128).hash(state);
     (12_345_678_901usize, -12_345_678_901isize).hash(state);
-}
-
-#[test]
-fn the_default_hasher_hashes_as_that_of_std(rt: HostRuntime) -> Result<(), Fail> {
-    let mut own: DefaultHasher = DefaultHashBuilder::default().clone()?.build_hasher();
-    let mut other = FoldHasher::default();
-    assert_eq!(rt; own.finish(), other.finish());
-    feed(&mut own);
-    feed(&mut other);
-    assert_eq!(rt; own.clone()?.finish(), other.finish());
-    Ok(())
 }
 
 /// Feeds a hasher a short text, and numbers by the calls that have their names.
@@ -39,12 +29,39 @@ fn feed_by_name<H: Hasher>(state: &mut H) {
     state.write_isize(-12_345_678_901);
 }
 
+/// The hashes that a hasher has at first, once it is fed, and once it is fed by name.
+fn hashes<H: Hasher>(state: &mut H) -> [u64; 3] {
+    let at_first = state.finish();
+    feed(state);
+    let fed = state.finish();
+    feed_by_name(state);
+    [at_first, fed, state.finish()]
+}
+
+#[test]
+fn the_default_hasher_hashes_as_that_of_std(rt: HostRuntime) {
+    let mut own: DefaultHasher = DefaultHashBuilder::default().build_hasher();
+    assert_eq!(rt; hashes(&mut own), hashes(&mut FoldHasher::default()));
+}
+
+/// The hashes of the hasher of a new map.
+fn hashes_of_map(alloc: Global) -> [u64; 3] {
+    let map = LinkedHashMap::<u32, u32>::new(alloc);
+    hashes(&mut map.hasher().build_hasher())
+}
+
 #[test]
 fn the_hasher_of_a_new_map_hashes_as_that_of_std(rt: HostRuntime) {
-    let map = LinkedHashMap::<u32, u32>::new(rt.alloc());
-    let mut own = map.hasher().build_hasher();
-    let mut other = FoldHasher::default();
-    feed_by_name(&mut own);
-    feed_by_name(&mut other);
-    assert_eq!(rt; own.finish(), other.finish());
+    assert_eq!(rt;
+        hashes_of_map(rt.alloc()),
+        hashes(&mut FoldHasher::default())
+    );
+}
+
+#[test]
+fn hashers_and_their_builders_are_cloned(rt: HostRuntime) -> Result<(), Fail> {
+    let mut own: DefaultHasher = DefaultHashBuilder::default().clone()?.build_hasher();
+    feed(&mut own);
+    assert_eq!(rt; own.clone()?.finish(), own.finish());
+    Ok(())
 }

@@ -1,6 +1,7 @@
-//! What no row of calls says of the containers: how often keys are hashed and compared and closures called, the texts
-//! of `{:?}` and of errors, loops and std's adapters, what becomes of items without size and of a drain that is
-//! forgotten, a curve of misses worked by hand, and what a program does whose input or output fails.
+//! What no row of calls says of the containers: how often keys are hashed and compared and closures
+//! called, the texts of `{:?}` and of errors, loops and std's adapters, the forms in which std's maps
+//! are called, what becomes of items without size and of a drain that is forgotten, a curve of misses
+//! worked by hand, and what a program does whose input or output fails.
 #![tactic(auto)]
 
 #[cfg(test)]
@@ -15,6 +16,10 @@ mod costs;
 mod curves;
 #[cfg(test)]
 mod early_ends;
+#[cfg(test)]
+mod few;
+#[cfg(test)]
+mod forms;
 #[cfg(test)]
 mod hashers;
 #[cfg(test)]

@@ -1,103 +1,151 @@
 //! Values that are made where the key is absent, and what a cache shows at its ends.
+use crate::few::{Map, cache_of, map_of};
 use hashlink::lru_cache::TryInsertError;
 use hashlink::{LinkedHashMap, LruCache};
+use std::alloc::Global;
+use std::error::Error;
 use std::hash::BuildHasher;
-use std::test::Fail;
 use test_keys::SameHash;
+
+type Cache = LruCache<u32, u32>;
+
+/// Whether an empty cache shows nothing, and one of two its ends, and the hash by its hasher.
+fn shown_ends(alloc: Global) -> ([bool; 4], u64) {
+    let mut cache = LruCache::with_hasher(alloc, 2, SameHash);
+    let (no_lru, no_back) = (cache.peek_lru().is_none(), cache.back().is_none());
+    let _taken = cache.extend([(1u32, 10u32), (2, 20)]);
+    let _value = cache.get(&1);
+    let lru = cache.peek_lru() == Some((&2, &20));
+    let back = cache.back() == Some((&1, &10));
+    ([no_lru, no_back, lru, back], cache.hasher().hash_one(7u32))
+}
 
 #[test]
 fn a_cache_shows_its_ends_and_its_hasher(rt: HostRuntime) {
-    let mut cache = LruCache::with_hasher(rt.alloc(), 2, SameHash);
-    assert!(rt; cache.peek_lru().is_none());
-    assert!(rt; cache.back().is_none());
-    assert!(rt; cache.insert(1u32, 10u32).is_ok());
-    assert!(rt; cache.insert(2, 20).is_ok());
-    assert_eq!(rt; cache.get(&1).copied(), Some(10));
-    assert_eq!(rt; cache.peek_lru(), Some((&2, &20)));
-    assert_eq!(rt; cache.back(), Some((&1, &10)));
-    assert_eq!(rt; cache.hasher().hash_one(7u32), 0);
+    assert_eq!(rt; shown_ends(rt.alloc()), ([true; 4], 0));
+}
+
+/// Adds one to the last value.
+fn add_to_last(map: &mut Map) -> bool {
+    match map.back_value_mut() {
+        Some(value) => {
+            *value = value.wrapping_add(1);
+            true
+        }
+        None => false,
+    }
 }
 
 #[test]
 fn a_map_lends_its_last_value(rt: HostRuntime) {
-    let mut map = LinkedHashMap::new(rt.alloc());
-    assert!(rt; map.back_value_mut().is_none());
-    assert!(rt; map.insert(1u32, 10u32).is_ok());
-    assert!(rt; map.insert(2, 20).is_ok());
-    if let Some(value) = map.back_value_mut() {
-        *value += 1;
+    let mut map = map_of(rt.alloc(), &[(1, 10), (2, 20)]);
+    let was_lent = add_to_last(&mut map) & !add_to_last(&mut LinkedHashMap::new(rt.alloc()));
+    assert!(rt; was_lent & map.into_iter().eq([(1, 10), (2, 21)]));
+}
+
+/// The value of the key, or this one, and what is then added.
+fn get_or_make(cache: &mut Cache, key: u32, made: u32, more: u32) -> Option<u32> {
+    match cache.get_or_insert_with(key, || made) {
+        Ok(value) => {
+            *value = value.wrapping_add(more);
+            Some(*value)
+        }
+        Err(_) => None,
     }
-    assert_eq!(rt; map.get(&1).copied(), Some(10));
-    assert_eq!(rt; map.back(), Some((&2, &21)));
+}
+
+/// Values for the keys 1, 2, 1 and 3, and whether 2 then left, which was used longest ago.
+fn make_in_cache(alloc: Global) -> ([Option<u32>; 4], [bool; 3]) {
+    let mut cache = LruCache::new(alloc, 2);
+    let first = [
+        get_or_make(&mut cache, 1, 10, 0),
+        get_or_make(&mut cache, 2, 20, 0),
+    ];
+    let again = get_or_make(&mut cache, 1, 11, 2);
+    let moved = cache.back() == Some((&1, &12));
+    let third = get_or_make(&mut cache, 3, 30, 0);
+    let lru = (cache.len(), cache.peek_lru()) == (2, Some((&1, &12)));
+    (
+        [first[0], first[1], again, third],
+        [moved, lru, cache.contains_key(&2)],
+    )
 }
 
 #[test]
 fn a_cache_makes_the_value_of_an_absent_key(rt: HostRuntime) {
-    let mut cache = LruCache::new(rt.alloc(), 2);
-    assert!(rt; matches!(cache.get_or_insert_with(1u32, || 10u32), Ok(value) if *value == 10));
-    assert!(rt; matches!(cache.get_or_insert_with(2, || 20), Ok(value) if *value == 20));
-    match cache.get_or_insert_with(1, || 11) {
-        Ok(value) => *value += 2,
-        Err(_) => {}
-    }
-    assert_eq!(rt; cache.back(), Some((&1, &12)));
+    let values = [Some(10), Some(20), Some(12), Some(30)];
+    assert_eq!(rt; make_in_cache(rt.alloc()), (values, [true, true, false]));
+}
 
-    // The third key drops the second, which was used longest ago.
-    assert!(rt; matches!(cache.get_or_insert_with(3, || 30), Ok(value) if *value == 30));
-    assert_eq!(rt; cache.len(), 2);
-    assert_eq!(rt; cache.peek_lru(), Some((&1, &12)));
-    assert!(rt; !cache.contains_key(&2));
+/// How many entries a cache without places has that made two values, and after an insert.
+fn make_without_places(alloc: Global) -> [usize; 2] {
+    let mut cache = LruCache::new(alloc, 0);
+    get_or_make(&mut cache, 1, 10, 0);
+    get_or_make(&mut cache, 2, 20, 0);
+    let made = cache.len();
+    let _old = cache.insert(3, 30);
+    [made, cache.len()]
 }
 
 #[test]
 fn what_a_cache_without_places_makes_stays_until_the_next_insert(rt: HostRuntime) {
-    let mut cache = LruCache::new(rt.alloc(), 0);
-    assert!(rt; matches!(cache.get_or_insert_with(1u32, || 10u32), Ok(value) if *value == 10));
-    assert!(rt; matches!(cache.get_or_insert_with(2, || 20), Ok(value) if *value == 20));
-    assert_eq!(rt; cache.len(), 1);
-    assert!(rt; cache.insert(3, 30).is_ok());
-    assert!(rt; cache.is_empty());
+    assert_eq!(rt; make_without_places(rt.alloc()), [1, 0]);
 }
+
+type Made = Result<u32, TryInsertError<u32, u32, u8>>;
+
+/// The value of the key, or the one that is made, of a cache.
+fn try_in_cache(cache: &mut Cache, key: u32, made: Result<u32, u8>) -> Made {
+    match cache.get_or_try_insert_with(key, || made) {
+        Ok(value) => Ok(*value),
+        Err(error) => Err(error),
+    }
+}
+
+/// The same by an entry of a map.
+fn try_in_map(map: &mut Map, key: u32, made: Result<u32, u8>) -> Made {
+    match map.entry(key).or_try_insert_with(|| made) {
+        Ok(value) => Ok(*value),
+        Err(error) => Err(error),
+    }
+}
+
+/// What is handed on where no value is made for 2, where one is, and where none is needed for 1.
+const TRIED: [Made; 3] = [Err(TryInsertError::Make(2, 7)), Ok(20), Ok(10)];
 
 #[test]
 fn a_cache_hands_on_that_no_value_was_made(rt: HostRuntime) {
-    let mut cache = LruCache::new(rt.alloc(), 2);
-    let made = cache.get_or_try_insert_with(1u32, || Ok::<u32, u8>(10));
-    assert!(rt; matches!(made, Ok(value) if *value == 10));
-    let made = cache.get_or_try_insert_with(2, || Err::<u32, u8>(7));
-    assert!(rt; matches!(made, Err(TryInsertError::Make(2, 7))));
-    assert_eq!(rt; cache.len(), 1);
-
-    // A key that is there needs none.
-    let found = cache.get_or_try_insert_with(1, || Err::<u32, u8>(7));
-    assert!(rt; matches!(found, Ok(value) if *value == 10));
+    let mut cache = cache_of(rt.alloc(), 2, &[(1, 10)]);
+    let failed = try_in_cache(&mut cache, 2, Err(7));
+    let made = try_in_cache(&mut cache, 2, Ok(20));
+    let tried = [failed, made, try_in_cache(&mut cache, 1, Err(7))];
+    assert_eq!(rt; (tried, cache.len()), (TRIED, 2));
 }
 
 #[test]
 fn an_entry_hands_on_that_no_value_was_made(rt: HostRuntime) {
-    let mut map = LinkedHashMap::new(rt.alloc());
-    assert!(rt; map.insert(1u32, 10u32).is_ok());
-    let made = map.entry(2).or_try_insert_with(|| Err::<u32, u8>(7));
-    assert!(rt; matches!(made, Err(TryInsertError::Make(2, 7))));
-    let made = map.entry(2).or_try_insert_with(|| Ok::<u32, u8>(20));
-    assert!(rt; matches!(made, Ok(value) if *value == 20));
-    let found = map.entry(1).or_try_insert_with(|| Err::<u32, u8>(7));
-    assert!(rt; matches!(found, Ok(value) if *value == 10));
-    assert_eq!(rt; map.back(), Some((&1, &10)));
+    let mut map = map_of(rt.alloc(), &[(1, 10)]);
+    let failed = try_in_map(&mut map, 2, Err(7));
+    let made = try_in_map(&mut map, 2, Ok(20));
+    let tried = [failed, made, try_in_map(&mut map, 1, Err(7))];
+    assert_eq!(rt; (tried, map.back()), (TRIED, Some((&1, &10))));
+}
+
+/// Whether this is the text of an error.
+fn says<E: Error>(alloc: Global, error: &E, wanted: &str) -> bool {
+    match error.to_string(alloc) {
+        Ok(text) => text.as_str() == wanted,
+        Err(_) => false,
+    }
 }
 
 #[test]
-fn a_value_that_was_not_made_says_why(rt: HostRuntime) -> Result<(), Fail> {
-    let failed = TryInsertError::<u64, u64, u8>::Make(1, 7);
-    assert_eq!(rt;
-        failed.to_string(rt.alloc())?.as_str(),
-        "no value was made: 7"
-    );
-    let refused = TryInsertError::<u64, u64, u8>::Memory((1, 10));
-    assert_eq!(rt;
-        refused.to_string(rt.alloc())?.as_str(),
-        "memory allocation failed"
-    );
-    assert!(rt; failed.clone()? != refused);
-    Ok(())
+fn a_value_that_was_not_made_says_why(rt: HostRuntime) {
+    let failed = TryInsertError::<u32, u32, u8>::Make(1, 7);
+    let refused = TryInsertError::<u32, u32, u8>::Memory((1, 10));
+    let says_why = says(rt.alloc(), &failed, "no value was made: 7");
+    let says_memory = says(rt.alloc(), &refused, "memory allocation failed");
+    assert_eq!(rt; [says_why, says_memory, failed != refused], [true; 3]);
+    let clone: Result<_, _> = failed.clone();
+    assert_eq!(rt; clone, Ok(failed));
 }

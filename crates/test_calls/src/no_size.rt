@@ -1,69 +1,96 @@
 //! Keys and values without size.
 use hashlink::weighted::WeightedCache;
 use hashlink::{LinkedHashMap, LinkedHashSet, LruCache};
+use std::alloc::Global;
+
+type Unit = LinkedHashMap<(), ()>;
+
+/// What stands in a map: its length, the length of its walk, and what its key has.
+fn seen(map: &Unit) -> (usize, usize, Option<()>) {
+    (map.len(), map.iter().count(), map.get(&()).copied())
+}
+
+/// What two inserts, two removals and one more insert return.
+fn fill_and_empty(map: &mut Unit) -> ([Result<Option<()>, ((), ())>; 3], [Option<()>; 2]) {
+    let inserted = [map.insert((), ()), map.insert((), ())];
+    let removed = [map.remove(&()), map.remove(&())];
+    ([inserted[0], inserted[1], map.insert((), ())], removed)
+}
 
 #[test]
 fn a_map_of_keys_without_size_has_one_entry(rt: HostRuntime) {
-    let mut map = LinkedHashMap::new(rt.alloc());
-    assert_eq!(rt; map.insert((), ()), Ok(None));
-    assert_eq!(rt; map.insert((), ()), Ok(Some(())));
-    assert_eq!(rt; (map.len(), map.iter().count()), (1, 1));
-    assert_eq!(rt; map.get(&()).copied(), Some(()));
-    assert_eq!(rt; map.remove(&()), Some(()));
-    assert_eq!(rt; map.remove(&()), None);
-    assert!(rt; map.is_empty());
-    assert_eq!(rt; map.insert((), ()), Ok(None));
+    let mut map = Unit::new(rt.alloc());
+    let (inserted, removed) = fill_and_empty(&mut map);
+    let answers = ([Ok(None), Ok(Some(())), Ok(None)], [Some(()), None]);
+    assert_eq!(rt;
+        ((inserted, removed), seen(&map)),
+        (answers, (1, 1, Some(())))
+    );
+}
+
+/// Whether an element goes in, and once more, and how many there are then.
+fn fill_set(alloc: Global) -> ([Result<bool, ()>; 2], usize) {
+    let mut set = LinkedHashSet::new(alloc);
+    ([set.insert(()), set.insert(())], set.len())
 }
 
 #[test]
 fn a_set_of_elements_without_size_has_one(rt: HostRuntime) {
-    let mut set = LinkedHashSet::new(rt.alloc());
-    assert_eq!(rt; set.insert(()), Ok(true));
-    assert_eq!(rt; set.insert(()), Ok(false));
-    assert_eq!(rt; set.len(), 1);
+    assert_eq!(rt; fill_set(rt.alloc()), ([Ok(true), Ok(false)], 1));
+}
+
+/// Two inserts into a cache, a read and a removal.
+fn fill_cache(alloc: Global, capacity: usize) -> ([Result<Option<()>, ((), ())>; 2], [bool; 2]) {
+    let mut cache = LruCache::new(alloc, capacity);
+    let inserted = [cache.insert((), ()), cache.insert((), ())];
+    (
+        inserted,
+        [cache.get(&()).is_some(), cache.remove_lru().is_some()],
+    )
 }
 
 #[test]
 fn a_cache_of_keys_without_size_has_one_entry_at_most(rt: HostRuntime) {
-    let mut cache = LruCache::new(rt.alloc(), 0);
-    assert_eq!(rt; cache.insert((), ()), Ok(None));
-    assert_eq!(rt; (cache.len(), cache.remove_lru()), (0, None));
+    assert_eq!(rt; fill_cache(rt.alloc(), 0), ([Ok(None); 2], [false; 2]));
     for capacity in [1, usize::MAX] {
-        cache.set_capacity(capacity);
-        assert_eq!(rt; cache.insert((), ()), Ok(None));
-        assert_eq!(rt; cache.insert((), ()), Ok(Some(())));
-        assert_eq!(rt; cache.get(&()).copied(), Some(()));
-        assert_eq!(rt; cache.remove_lru(), Some(((), ())));
+        let filled = fill_cache(rt.alloc(), capacity);
+        assert_eq!(rt; filled, ([Ok(None), Ok(Some(()))], [true; 2]));
     }
+}
+
+/// What a cache keeps of the keys 3, 1, 2 and 1: how many, and whether 1 and 3 are there.
+fn kept(alloc: Global, capacity: usize) -> (usize, bool, bool) {
+    let mut cache = LruCache::new(alloc, capacity);
+    let _taken = cache.extend([(3u32, ()), (1, ()), (2, ()), (1, ())]);
+    (cache.len(), cache.contains_key(&1), cache.contains_key(&3))
 }
 
 #[test]
 fn a_cache_of_values_without_size_keeps_the_last_keys(rt: HostRuntime) {
-    for (capacity, left) in [(0, 0), (2, 2), (usize::MAX, 3)] {
-        let mut cache = LruCache::new(rt.alloc(), capacity);
-        for key in [3u32, 1, 2, 1] {
-            assert!(rt; cache.insert(key, ()).is_ok());
-        }
-        assert_eq!(rt;
-            (cache.len(), cache.contains_key(&1), cache.contains_key(&3)),
-            (left, left != 0, left == 3)
-        );
-    }
+    let alloc = rt.alloc();
+    let kept = [kept(alloc, 0), kept(alloc, 2), kept(alloc, usize::MAX)];
+    assert_eq!(rt;
+        kept,
+        [(0, false, false), (2, true, false), (3, true, true)]
+    );
+}
+
+/// What a key weighs that is put in twice, and how often it is there.
+fn weigh_twice(alloc: Global) -> (bool, bool, usize, u64) {
+    let mut cache = WeightedCache::new(alloc, 3);
+    let is_new = matches!(cache.insert((), (), 2), Ok(None));
+    let is_old = matches!(cache.insert((), (), 3), Ok(Some(())));
+    (is_new, is_old, cache.len(), cache.total())
 }
 
 #[test]
 fn a_cache_with_a_budget_weighs_a_key_without_size_once(rt: HostRuntime) {
-    let mut cache = WeightedCache::new(rt.alloc(), 3);
-    assert!(rt; matches!(&cache.insert((), (), 2), Ok(None)));
-    assert!(rt; matches!(&cache.insert((), (), 3), Ok(Some(()))));
-    assert_eq!(rt; (cache.len(), cache.total()), (1, 3));
+    assert_eq!(rt; weigh_twice(rt.alloc()), (true, true, 1, 3));
 }
 
 #[test]
 fn values_without_size_stand_beside_their_keys(rt: HostRuntime) {
     let mut map = LinkedHashMap::new(rt.alloc());
-    for key in [3u32, 1, 2, 1] {
-        assert!(rt; map.insert(key, ()).is_ok());
-    }
+    let _taken = map.extend([(3u32, ()), (1, ()), (2, ()), (1, ())]);
     assert!(rt; map.keys().copied().eq([3, 2, 1]));
 }

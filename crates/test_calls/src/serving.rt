@@ -1,25 +1,19 @@
 //! What a program reads and writes, with readers and writers that fail.
-use hashlink::run::{Fault, run_text, serve};
+use hashlink::run::{Fault, serve};
+use std::alloc::{AllocError, Global};
 use std::io::{self, ErrorKind, Read, Write};
-use std::test::Fail;
 
-#[test]
-fn the_answer_follows_what_was_written_before(rt: HostRuntime) -> Result<(), Fail> {
+/// Whether the answer to a text follows what was written before.
+fn is_appended(alloc: Global) -> Result<bool, AllocError> {
     let mut input = b"map\ninsert 1 10\niter\n".as_slice();
-    let mut output = b"before\n".to_vec(rt.alloc())?;
-    serve(rt.alloc(), &mut input, &mut output)?;
-    assert_eq!(rt; output.as_slice(), b"before\n-\n1:10\n".as_slice());
-    Ok(())
+    let mut output = b"before\n".to_vec(alloc)?;
+    let is_served = serve(alloc, &mut input, &mut output).is_ok();
+    Ok(is_served & (output.as_slice() == b"before\n-\n1:10\n".as_slice()))
 }
 
 #[test]
-fn a_text_without_lines_is_answered_by_no_byte(rt: HostRuntime) -> Result<(), Fail> {
-    for text in ["", "map", "map\n", "cache 1"] {
-        assert!(rt; run_text(rt.alloc(), text.as_bytes())?.is_empty());
-    }
-    let answer = run_text(rt.alloc(), b"map\nlen".as_slice())?;
-    assert_eq!(rt; answer.as_slice(), b"0\n".as_slice());
-    Ok(())
+fn the_answer_follows_what_was_written_before(rt: HostRuntime) {
+    assert_eq!(rt; is_appended(rt.alloc()), Ok(true));
 }
 
 // A file that cannot be read for want of memory.
@@ -30,18 +24,6 @@ impl Read for WithoutMemory {
     fn read(&mut self, _buf: &mut [u8]) -> io::Result<usize> {
         Err(io::Error::from(ErrorKind::OutOfMemory))
     }
-}
-
-#[test]
-fn reading_without_memory_writes_nothing(rt: HostRuntime) -> Result<(), Fail> {
-    let mut output = Vec::new(rt.alloc());
-    let mut input = b"map\niter\n".as_slice().chain(WithoutMemory);
-    assert_eq!(rt;
-        serve(rt.alloc(), &mut input, &mut output),
-        Err(Fault::Memory)
-    );
-    assert!(rt; output.is_empty());
-    Ok(())
 }
 
 // A file that can be neither read nor written.
@@ -64,35 +46,46 @@ impl Write for Broken {
     }
 }
 
-#[test]
-fn failed_read_writes_nothing(rt: HostRuntime) -> Result<(), Fail> {
-    let mut output = Vec::new(rt.alloc());
-    let mut input = b"map\niter\n".as_slice().chain(Broken);
-    assert_eq!(rt;
-        serve(rt.alloc(), &mut input, &mut output),
-        Err(Fault::Reading)
+/// What comes of a text whose reading ends so, and how many bytes are written.
+fn fail_to_read<R: Read + Drop>(alloc: Global, end: R) -> (Result<(), Fault>, usize) {
+    let mut output = Vec::new(alloc);
+    let served = serve(
+        alloc,
+        &mut b"map\niter\n".as_slice().chain(end),
+        &mut output,
     );
-    assert!(rt; output.is_empty());
-    let text = Fault::Reading.to_string(rt.alloc())?;
-    assert_eq!(rt; text.as_str(), "linkrun: reading failed");
-    let text = Fault::Memory.to_string(rt.alloc())?;
-    assert_eq!(rt; text.as_str(), "linkrun: no memory");
-    Ok(())
+    (served, output.len())
 }
 
 #[test]
-fn failed_write_is_a_fault(rt: HostRuntime) -> Result<(), Fail> {
-    let mut input = b"map\niter\n".as_slice();
-    assert_eq!(rt;
-        serve(rt.alloc(), &mut input, &mut Broken),
-        Err(Fault::Writing)
-    );
-    let mut input = b"".as_slice();
-    assert_eq!(rt;
-        serve(rt.alloc(), &mut input, &mut Broken),
-        Err(Fault::Writing)
-    );
-    let text = Fault::Writing.to_string(rt.alloc())?;
-    assert_eq!(rt; text.as_str(), "linkrun: writing failed");
-    Ok(())
+fn failed_read_writes_nothing(rt: HostRuntime) {
+    let broken = fail_to_read(rt.alloc(), Broken);
+    let without_memory = fail_to_read(rt.alloc(), WithoutMemory);
+    let faults = [(Err(Fault::Reading), 0), (Err(Fault::Memory), 0)];
+    assert_eq!(rt; [broken, without_memory], faults);
+}
+
+#[test]
+fn failed_write_is_a_fault(rt: HostRuntime) {
+    let of_text = serve(rt.alloc(), &mut b"map\niter\n".as_slice(), &mut Broken);
+    let of_nothing = serve(rt.alloc(), &mut b"".as_slice(), &mut Broken);
+    assert_eq!(rt; [of_text, of_nothing], [Err(Fault::Writing); 2]);
+}
+
+/// Whether this is the text of a fault.
+fn says(alloc: Global, fault: Fault, wanted: &str) -> bool {
+    match fault.to_string(alloc) {
+        Ok(text) => text.as_str() == wanted,
+        Err(_) => false,
+    }
+}
+
+#[test]
+fn a_fault_says_what_failed(rt: HostRuntime) {
+    let texts = [
+        says(rt.alloc(), Fault::Reading, "linkrun: reading failed"),
+        says(rt.alloc(), Fault::Memory, "linkrun: no memory"),
+        says(rt.alloc(), Fault::Writing, "linkrun: writing failed"),
+    ];
+    assert_eq!(rt; texts, [true; 3]);
 }

@@ -1,43 +1,55 @@
 //! Values that are not equal to themselves, what a hasher is fed, and hashers that are lent.
+use crate::few::map_of;
 use hashlink::{LinkedHashMap, LinkedHashSet};
+use std::alloc::Global;
 use std::hash::{BuildHasher, FoldHasher, Hash, Hasher};
 use test_keys::SameHash;
 
+/// Whether a map with a value that equals nothing is equal to itself, and whether it is compared.
+fn not_itself(alloc: Global) -> (bool, bool) {
+    let mut map = LinkedHashMap::new(alloc);
+    let _old = map.insert(1u32, f64::NAN);
+    (map == map, map.partial_cmp(&map).is_some())
+}
+
 #[test]
 fn a_map_with_a_value_that_equals_nothing_is_not_equal_to_itself(rt: HostRuntime) {
-    let mut map = LinkedHashMap::new(rt.alloc());
-    assert!(rt; map.insert(1u32, f64::NAN).is_ok());
-    assert!(rt; map != map);
-    assert!(rt; map.partial_cmp(&map).is_none());
+    assert_eq!(rt; not_itself(rt.alloc()), (false, false));
+}
+
+/// The hash of what a hasher is fed.
+fn fed<T: Hash>(value: &T) -> u64 {
+    let mut state = FoldHasher::default();
+    value.hash(&mut state);
+    state.finish()
 }
 
 #[test]
 fn a_hasher_is_fed_key_and_value_in_order_and_no_length(rt: HostRuntime) {
-    let mut map = LinkedHashMap::new(rt.alloc());
-    assert!(rt; map.insert(2u32, 20u64).is_ok());
-    assert!(rt; map.insert(1, 10).is_ok());
-    let (mut of_map, mut of_parts) = (FoldHasher::default(), FoldHasher::default());
-    map.hash(&mut of_map);
-    (2u32, 20u64, 1u32, 10u64).hash(&mut of_parts);
-    assert_eq!(rt; of_map.finish(), of_parts.finish());
+    let hash = fed(&map_of(rt.alloc(), &[(2, 20), (1, 10)]));
+    assert_eq!(rt; hash, fed(&(2u32, 20u32, 1u32, 10u32)));
+}
+
+/// The set of 2 and 1, with a hasher that gives each the hash 0.
+fn two_and_one(alloc: Global) -> LinkedHashSet<u32, SameHash> {
+    let mut set = LinkedHashSet::with_hasher(alloc, SameHash);
+    let _taken = set.extend([2u32, 1]);
+    set
 }
 
 #[test]
 fn a_hasher_is_fed_the_elements_in_order_and_no_length(rt: HostRuntime) {
-    // Whatever hasher the set has itself.
-    let mut set = LinkedHashSet::with_hasher(rt.alloc(), SameHash);
-    assert!(rt; set.insert(2u32).is_ok());
-    assert!(rt; set.insert(1).is_ok());
-    let (mut of_set, mut of_parts) = (FoldHasher::default(), FoldHasher::default());
-    set.hash(&mut of_set);
-    (2u32, 1u32).hash(&mut of_parts);
-    assert_eq!(rt; of_set.finish(), of_parts.finish());
+    assert_eq!(rt; fed(&two_and_one(rt.alloc())), fed(&(2u32, 1u32)));
+}
+
+/// The hash of a number by the hashers of a map and of a set.
+fn lent(alloc: Global) -> [u64; 2] {
+    let map = LinkedHashMap::<u32, u32, _>::with_hasher(alloc, SameHash);
+    let of_map = map.hasher().hash_one(7u32);
+    [of_map, two_and_one(alloc).hasher().hash_one(7u32)]
 }
 
 #[test]
 fn a_container_lends_the_hasher_that_it_was_made_with(rt: HostRuntime) {
-    let map = LinkedHashMap::<u32, u32, _>::with_hasher(rt.alloc(), SameHash);
-    let set = LinkedHashSet::<u32, _>::with_hasher(rt.alloc(), SameHash);
-    assert_eq!(rt; map.hasher().hash_one(7u32), 0);
-    assert_eq!(rt; set.hasher().hash_one(7u32), 0);
+    assert_eq!(rt; lent(rt.alloc()), [0, 0]);
 }

@@ -5,7 +5,6 @@ ghost use Rattle.hashlink_core.specs.Keyed.{entries_of};
 
 use hashlink_core::{DefaultHashBuilder, KeyedList};
 use std::alloc::{AllocError, Global};
-use std::test::Fail;
 
 type Numbers = KeyedList<u64, u64, DefaultHashBuilder>;
 
@@ -51,13 +50,30 @@ fn ends(list: &Numbers) -> Option<(u64, u64)>
     Some((*first, *last))
 }
 
+/// Whether these are the keys that are collected.
+fn collects(list: &Numbers, alloc: Global, wanted: &[u64]) -> bool {
+    match keys_collected(list, alloc) {
+        Ok(keys) => keys.as_slice() == wanted,
+        Err(_) => false,
+    }
+}
+
+/// The sum of the values of three keys, and whether the three are collected.
+fn walk_three(alloc: Global) -> (Option<u64>, bool) {
+    let list = numbers(alloc, 3);
+    (sum_of_values(&list), collects(&list, alloc, &[1, 2, 3]))
+}
+
+/// The ends of so many keys.
+fn ends_of(alloc: Global, most: u64) -> Option<(u64, u64)> {
+    ends(&numbers(alloc, most))
+}
+
 #[test]
-fn walks_sum_collect_and_meet(rt: HostRuntime) -> Result<(), Fail> {
-    let list = numbers(rt.alloc(), 3);
-    assert_eq!(rt; sum_of_values(&list), Some(60));
-    let keys = keys_collected(&list, rt.alloc())?;
-    assert_eq!(rt; keys.as_slice(), [1, 2, 3].as_slice());
-    assert_eq!(rt; ends(&list), Some((1, 3)));
-    assert_eq!(rt; ends(&numbers(rt.alloc(), 1)), None);
-    Ok(())
+fn walks_sum_collect_and_meet(rt: HostRuntime) {
+    let ends = [ends_of(rt.alloc(), 1), ends_of(rt.alloc(), 3)];
+    assert_eq!(rt;
+        (walk_three(rt.alloc()), ends),
+        ((Some(60), true), [None, Some((1, 3))])
+    );
 }

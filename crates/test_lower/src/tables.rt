@@ -128,35 +128,55 @@ fn finds_each_of_500_in_1000_steps(rt: HostRuntime) -> Result<(), Fail> {
     Ok(())
 }
 
+/// What is found in a table: what stays, before and after it is shrunk, nothing under a hash that no
+/// number has, once it is cleared not what was there, and then what is put in.
+fn found(alloc: Global, hashes: Hashes) -> Result<[bool; 5], TryReserveError> {
+    let mut table = table_of(alloc, hashes)?;
+    let stays = finds(&table, hashes);
+    // The test is asked of no number.
+    let is_strange = table.look_up(u64::MAX, |_node| true).is_some();
+    let still = table.shrink().is_ok() && finds(&table, hashes);
+    table.clear();
+    let is_left = has(&table, hashes.of(7), 7);
+    let comes = put_second(&mut table, 5, 6, 7).is_ok() && has(&table, 5, 7);
+    Ok([stays, is_strange, still, is_left, comes])
+}
+
+/// The numbers and the room of a table, before and after it is shrunk and cleared.
+fn rooms(alloc: Global, hashes: Hashes) -> Result<[(usize, usize); 2], TryReserveError> {
+    let mut table = table_of(alloc, hashes)?;
+    let full = (table.len(), table.room());
+    table.shrink()?;
+    table.clear();
+    Ok([full, (table.len(), table.room())])
+}
+
 #[test]
-fn finds_what_stays_whatever_the_hashes_agree_in(rt: HostRuntime) -> Result<(), Fail> {
+fn finds_what_stays_whatever_the_hashes_agree_in(rt: HostRuntime) {
     for hashes in HASHES {
-        let mut table = table_of(rt.alloc(), hashes)?;
-        assert!(rt; finds(&table, hashes));
-        // No number has this hash, so that the test is asked of none.
-        assert_eq!(rt; table.look_up(u64::MAX, |_node| true), None);
-        assert_eq!(rt; (table.len(), table.room()), (300, 512));
-        table.shrink()?;
-        assert!(rt; finds(&table, hashes));
-        table.clear();
-        assert_eq!(rt; (table.is_empty(), table.room()), (true, 300));
-        assert!(rt; !has(&table, hashes.of(7), 7));
-        assert!(rt; put_second(&mut table, 5, 6, 7).is_ok() && has(&table, 5, 7));
+        assert_eq!(rt;
+            found(rt.alloc(), hashes),
+            Ok([true, false, true, false, true])
+        );
+        assert_eq!(rt; rooms(rt.alloc(), hashes), Ok([(300, 512), (0, 300)]));
     }
-    Ok(())
+}
+
+/// What comes of an absurd room, and whether the table of one number then is as it was.
+fn refuse(alloc: Global) -> ([Result<(), TryReserveError>; 2], bool) {
+    let mut table = Table::<u32>::new(alloc);
+    let kept = kept_hash(&mut table, 5, 7);
+    let room = table.room();
+    let refused = [table.reserve(1 << 61), table.reserve(usize::MAX)];
+    let is_same = (kept, table.len(), table.room()) == (Ok(5), 1, room);
+    (refused, is_same & has(&table, 5, 7))
 }
 
 #[test]
 fn refuses_an_absurd_room(rt: HostRuntime) {
-    let mut table = Table::<u32>::new(rt.alloc());
-    assert_eq!(rt; kept_hash(&mut table, 5, 7), Ok(5));
-    let room = table.room();
-    let refused = [table.reserve(1 << 61), table.reserve(usize::MAX)];
-    let wanted = [
+    let refused = [
         Err(TryReserveError::AllocError),
         Err(TryReserveError::CapacityOverflow),
     ];
-    assert_eq!(rt; refused, wanted);
-    assert_eq!(rt; (table.len(), table.room()), (1, room));
-    assert!(rt; has(&table, 5, 7));
+    assert_eq!(rt; refuse(rt.alloc()), (refused, true));
 }

@@ -1,109 +1,93 @@
 //! The calls of caches, of which none drops an entry here.
-use super::{KEYS, ONCE};
+use super::{Found, KEYS, ONCE};
 use hashlink::LruCache;
 use hashlink::weighted::WeightedCache;
-use std::test::Fail;
+use std::alloc::Global;
 use test_keys::{CountedHashers, CountedKey, Counts};
 
 type Lru<'a> = LruCache<CountedKey<'a>, u32, CountedHashers<'a>>;
 
 type Weighted<'a> = WeightedCache<CountedKey<'a>, u32, CountedHashers<'a>>;
 
-#[derive(Clone, Copy)]
-enum Call {
-    Insert,
-    Get,
-    GetMut,
-    Peek,
-    PeekMut,
-    ContainsKey,
-    Remove,
-    RemoveEntry,
+/// Makes the cache one of the key 1, after which the counts start anew.
+fn renew<'a>(cache: &mut Lru<'a>, counts: &'a Counts) {
+    cache.clear();
+    let _old = cache.insert(counts.key(1), 10);
+    counts.take();
 }
 
-const CALLS: [(&str, Call); 8] = [
-    ("insert", Call::Insert),
-    ("get", Call::Get),
-    ("get_mut", Call::GetMut),
-    ("peek", Call::Peek),
-    ("peek_mut", Call::PeekMut),
-    ("contains_key", Call::ContainsKey),
-    ("remove", Call::Remove),
-    ("remove_entry", Call::RemoveEntry),
-];
-
-/// Makes the call, and returns whether the key was there.
-fn make<'a>(cache: &mut Lru<'a>, call: Call, key: CountedKey<'a>) -> Result<bool, Fail> {
-    Ok(match call {
-        Call::Insert => cache.insert(key, 7)?.is_some(),
-        Call::Get => cache.get(&key).is_some(),
-        Call::GetMut => cache.get_mut(&key).is_some(),
-        Call::Peek => cache.peek(&key).is_some(),
-        Call::PeekMut => cache.peek_mut(&key).is_some(),
-        Call::ContainsKey => cache.contains_key(&key),
-        Call::Remove => cache.remove(&key).is_some(),
-        Call::RemoveEntry => cache.remove_entry(&key).is_some(),
-    })
+/// The calls that leave the keys as they are.
+fn look_up<'a>(cache: &mut Lru<'a>, counts: &'a Counts, key: CountedKey<'a>) -> [Found; 5] {
+    renew(cache, counts);
+    [
+        (cache.get(&key).is_some(), counts.take()),
+        (cache.get_mut(&key).is_some(), counts.take()),
+        (cache.peek(&key).is_some(), counts.take()),
+        (cache.peek_mut(&key).is_some(), counts.take()),
+        (cache.contains_key(&key), counts.take()),
+    ]
 }
 
-#[test]
-fn each_call_of_a_cache_hashes_and_looks_up_its_key_once(rt: HostRuntime) -> Result<(), Fail> {
-    for (name, call) in CALLS {
-        for number in KEYS {
-            let counts = Counts::new();
-            let mut cache = LruCache::with_hasher(rt.alloc(), 4, counts.hashers());
-            cache.insert(counts.key(1), 10)?;
-            counts.take();
-            let was_there = make(&mut cache, call, counts.key(number))?;
-            let seen = (counts.take(), was_there);
-            assert_eq!(rt; (name, number, seen), (name, number, (ONCE, number == 1)));
-        }
-    }
-    Ok(())
+/// An insert and the removals.
+fn change<'a>(cache: &mut Lru<'a>, counts: &'a Counts, key: CountedKey<'a>) -> [Found; 3] {
+    renew(cache, counts);
+    let inserted = (
+        cache.insert(key, 7).unwrap_or(None).is_some(),
+        counts.take(),
+    );
+    renew(cache, counts);
+    let removed = (cache.remove(&key).is_some(), counts.take());
+    renew(cache, counts);
+    let entry = cache.remove_entry(&key);
+    [inserted, removed, (entry.is_some(), counts.take())]
 }
 
-#[derive(Clone, Copy)]
-enum WeightedCall {
-    Insert,
-    Get,
-    Peek,
-    Remove,
-}
-
-/// Makes the call, and returns whether the key was there.
-fn weigh<'a>(
-    cache: &mut Weighted<'a>,
-    call: WeightedCall,
-    key: CountedKey<'a>,
-) -> Result<bool, Fail> {
-    Ok(match call {
-        WeightedCall::Insert => cache.insert(key, 7, 1)?.is_some(),
-        WeightedCall::Get => cache.get(&key).is_some(),
-        WeightedCall::Peek => cache.peek(&key).is_some(),
-        WeightedCall::Remove => cache.remove(&key).is_some(),
-    })
+/// What each call found and cost.
+fn all_calls(alloc: Global, number: u16) -> ([Found; 5], [Found; 3]) {
+    let counts = Counts::new();
+    let key = counts.key(number);
+    let cache = &mut LruCache::with_hasher(alloc, 4, counts.hashers());
+    (look_up(cache, &counts, key), change(cache, &counts, key))
 }
 
 #[test]
-fn each_call_of_a_cache_with_a_budget_hashes_and_looks_up_its_key_once(
-    rt: HostRuntime,
-) -> Result<(), Fail> {
-    let calls = [
-        ("insert", WeightedCall::Insert),
-        ("get", WeightedCall::Get),
-        ("peek", WeightedCall::Peek),
-        ("remove", WeightedCall::Remove),
-    ];
-    for (name, call) in calls {
-        for number in KEYS {
-            let counts = Counts::new();
-            let mut cache = WeightedCache::with_hasher(rt.alloc(), 4, counts.hashers());
-            cache.insert(counts.key(1), 10, 1)?;
-            counts.take();
-            let was_there = weigh(&mut cache, call, counts.key(number))?;
-            let seen = (counts.take(), was_there);
-            assert_eq!(rt; (name, number, seen), (name, number, (ONCE, number == 1)));
-        }
+fn each_call_of_a_cache_hashes_and_looks_up_its_key_once(rt: HostRuntime) {
+    for number in KEYS {
+        let once = (number == 1, ONCE);
+        assert_eq!(rt; all_calls(rt.alloc(), number), ([once; 5], [once; 3]));
     }
-    Ok(())
+}
+
+/// What each call of a cache with a budget found and cost.
+fn calls_with_budget(alloc: Global, number: u16) -> [Found; 4] {
+    let counts = Counts::new();
+    let (one, key) = (counts.key(1), counts.key(number));
+    let cache: &mut Weighted<'_> = &mut WeightedCache::with_hasher(alloc, 4, counts.hashers());
+    let _old = cache.insert(one, 10, 1);
+    counts.take();
+    let got = (cache.get(&key).is_some(), counts.take());
+    let peeked = (cache.peek(&key).is_some(), counts.take());
+    let inserted = (
+        cache.insert(key, 7, 1).unwrap_or(None).is_some(),
+        counts.take(),
+    );
+    cache.remove(&key);
+    let _old = cache.insert(one, 10, 1);
+    counts.take();
+    [
+        got,
+        peeked,
+        inserted,
+        (cache.remove(&key).is_some(), counts.take()),
+    ]
+}
+
+#[test]
+fn each_call_of_a_cache_with_a_budget_hashes_and_looks_up_its_key_once(rt: HostRuntime) {
+    for number in KEYS {
+        assert_eq!(rt;
+            calls_with_budget(rt.alloc(), number),
+            [(number == 1, ONCE); 4]
+        );
+    }
 }

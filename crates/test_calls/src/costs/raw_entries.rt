@@ -1,10 +1,10 @@
 //! The calls of raw entries: with a hash given the key is only compared, and a pair that goes in without one is hashed
 //! for it.
-use super::{Cost, KEYS};
+use super::Cost;
 use hashlink::LinkedHashMap;
 use hashlink::linked_hash_map::{RawEntryMut, RawOccupiedEntryMut};
+use std::alloc::Global;
 use std::hash::BuildHasher;
-use std::test::Fail;
 use test_keys::{Numbered, Tally, TallyHashers};
 
 type Map = LinkedHashMap<Tally, u32, TallyHashers>;
@@ -58,46 +58,34 @@ fn change(entry: &mut RawOccupiedEntryMut<'_, Tally, u32, TallyHashers>) {
     *entry.get_mut() = 8;
 }
 
-fn by_key(map: &mut Map, key: Tally) -> Result<(), Fail> {
+fn by_key(map: &mut Map, key: Tally) {
     match map.raw_entry_mut().from_key(&key) {
         RawEntryMut::Occupied(mut entry) => change(&mut entry),
-        RawEntryMut::Vacant(entry) => {
-            entry.insert(key, 7)?;
-        }
+        RawEntryMut::Vacant(entry) => drop(entry.insert(key, 7)),
     }
-    Ok(())
 }
 
-fn by_key_hashed(map: &mut Map, key: Tally) -> Result<(), Fail> {
+fn by_key_hashed(map: &mut Map, key: Tally) {
     let hash = map.hasher().hash_one(&key);
     match map.raw_entry_mut().from_key_hashed_nocheck(hash, &key) {
         RawEntryMut::Occupied(mut entry) => change(&mut entry),
-        RawEntryMut::Vacant(entry) => {
-            entry.insert_hashed_nocheck(hash, key, 7)?;
-        }
+        RawEntryMut::Vacant(entry) => drop(entry.insert_hashed_nocheck(hash, key, 7)),
     }
-    Ok(())
 }
 
-fn of_key(map: &mut Map, key: Tally) -> Result<(), Fail> {
+fn of_key(map: &mut Map, key: Tally) {
     match map.raw_entry_of(&key) {
         RawEntryMut::Occupied(mut entry) => change(&mut entry),
-        RawEntryMut::Vacant(entry) => {
-            entry.insert_entry(key, 7)?;
-        }
+        RawEntryMut::Vacant(entry) => drop(entry.insert_entry(key, 7)),
     }
-    Ok(())
 }
 
-fn of_key_hashed(map: &mut Map, key: Tally) -> Result<(), Fail> {
+fn of_key_hashed(map: &mut Map, key: Tally) {
     let hash = map.hasher().hash_one(&key);
     match map.raw_entry_hashed_nocheck(hash, &key) {
         RawEntryMut::Occupied(mut entry) => change(&mut entry),
-        RawEntryMut::Vacant(entry) => {
-            entry.insert_entry_hashed_nocheck(hash, key, 7)?;
-        }
+        RawEntryMut::Vacant(entry) => drop(entry.insert_entry_hashed_nocheck(hash, key, 7)),
     }
-    Ok(())
 }
 
 fn read_key_hashed(map: &Map, key: &Tally) -> bool {
@@ -120,38 +108,38 @@ fn take_first(map: &mut Map) {
 }
 
 /// Looks the key up, and uses the entry, or puts the pair.
-fn make(map: &mut Map, way: Way, key: Tally) -> Result<(), Fail> {
+fn make(map: &mut Map, way: Way, key: Tally) {
     match way {
-        Way::ReadKey => {
-            map.raw_entry().from_key(&key);
-        }
-        Way::ReadKeyHashed => {
-            read_key_hashed(map, &key);
-        }
-        Way::Key => by_key(map, key)?,
-        Way::KeyHashed => by_key_hashed(map, key)?,
-        Way::OfKey => of_key(map, key)?,
-        Way::OfKeyHashed => of_key_hashed(map, key)?,
+        Way::ReadKey => drop(map.raw_entry().from_key(&key)),
+        Way::ReadKeyHashed => drop(read_key_hashed(map, &key)),
+        Way::Key => by_key(map, key),
+        Way::KeyHashed => by_key_hashed(map, key),
+        Way::OfKey => of_key(map, key),
+        Way::OfKeyHashed => of_key_hashed(map, key),
         Way::Take => take(map, &key),
         Way::TakeFirst => take_first(map),
     }
-    Ok(())
+}
+
+/// What a way costs in a map of the key 1.
+fn cost(alloc: Global, way: Way, number: u16) -> Cost {
+    let mut map = LinkedHashMap::with_hasher(alloc, TallyHashers::new());
+    let _old = map.insert(Tally::new(1), 10);
+    let before = map.hasher().made();
+    make(&mut map, way, Tally::new(number));
+    let hashes = map.hasher().made().wrapping_sub(before);
+    match map.front() {
+        Some((key, _)) => (hashes, key.comparisons()),
+        None => (hashes, 0),
+    }
 }
 
 #[test]
-fn a_raw_entry_hashes_only_where_no_hash_is_given(rt: HostRuntime) -> Result<(), Fail> {
+fn a_raw_entry_hashes_only_where_no_hash_is_given(rt: HostRuntime) {
     for (name, way, there, absent) in WAYS {
-        for (number, cost) in KEYS.iter().zip([there, absent]) {
-            let mut map = LinkedHashMap::with_hasher(rt.alloc(), TallyHashers::new());
-            map.insert(Tally::new(1), 10)?;
-            let before = map.hasher().made();
-            make(&mut map, way, Tally::new(*number))?;
-            let hashes = map.hasher().made().wrapping_sub(before);
-            let comparisons = map.front().map_or(0, |(key, _)| key.comparisons());
-            assert_eq!(rt; (name, number, (hashes, comparisons)), (name, number, cost));
-        }
+        let costs = [cost(rt.alloc(), way, 1), cost(rt.alloc(), way, 2)];
+        assert_eq!(rt; (name, costs), (name, [there, absent]));
     }
-    Ok(())
 }
 
 /// Whether the key is found by a test and its hash, which is asked for first.
@@ -161,12 +149,24 @@ fn is_found<S: BuildHasher>(map: &LinkedHashMap<Numbered, u32, S>, key: &Numbere
     found.is_some()
 }
 
+/// Which of the keys 1 and 2 a test finds in a map of the first, and how many hashes that takes.
+fn find_both(alloc: Global) -> (bool, bool, u32) {
+    let mut map = LinkedHashMap::with_hasher(alloc, TallyHashers::new());
+    let one = Numbered {
+        group: 1,
+        number: 0,
+    };
+    let two = Numbered {
+        group: 2,
+        number: 0,
+    };
+    let _old = map.insert(one, 10);
+    let before = map.hasher().made();
+    let found = (is_found(&map, &one), is_found(&map, &two));
+    (found.0, found.1, map.hasher().made().wrapping_sub(before))
+}
+
 #[test]
 fn a_look_up_by_a_test_hashes_nothing_more(rt: HostRuntime) {
-    let mut map = LinkedHashMap::with_hasher(rt.alloc(), TallyHashers::new());
-    let [one, two] = [1, 2].map(|group| Numbered { group, number: 0 });
-    assert!(rt; map.insert(one, 10).is_ok());
-    let before = map.hasher().made();
-    assert_eq!(rt; (is_found(&map, &one), is_found(&map, &two)), (true, false));
-    assert_eq!(rt; map.hasher().made().wrapping_sub(before), 2);
+    assert_eq!(rt; find_both(rt.alloc()), (true, false, 2));
 }

@@ -1,14 +1,8 @@
-//! Loops, operators, comparisons and `extend` of containers.
+//! Loops, operators, and comparisons of containers.
+use crate::few::{map_of, set_of};
 use hashlink::{LinkedHashMap, LinkedHashSet};
-use std::alloc::{AllocError, Global};
+use std::alloc::AllocError;
 use std::test::Fail;
-
-/// The numbers from `from` to before `to`.
-fn numbers(alloc: Global, from: u32, to: u32) -> Result<LinkedHashSet<u32>, AllocError> {
-    let mut set = LinkedHashSet::new(alloc);
-    set.extend(from..to)?;
-    Ok(set)
-}
 
 /// Clones of the elements of both.
 fn joined(
@@ -34,10 +28,9 @@ fn last(set: LinkedHashSet<u32>) -> u32 {
 
 #[test]
 fn sets_are_joined_compared_and_walked(rt: HostRuntime) -> Result<(), Fail> {
-    let (a, b) = (numbers(rt.alloc(), 1, 3)?, numbers(rt.alloc(), 2, 4)?);
+    let (a, b) = (set_of(rt.alloc(), &[1, 2]), set_of(rt.alloc(), &[2, 3]));
     let all = joined(&a, &b)?;
-    assert!(rt; !are_equal(&all, &a));
-    assert_eq!(rt; last(all), 3);
+    assert_eq!(rt; (are_equal(&all, &a), last(all)), (false, 3));
     Ok(())
 }
 
@@ -46,12 +39,8 @@ fn compared(a: &LinkedHashMap<u32, u32>, b: &LinkedHashMap<u32, u32>) -> (bool, 
     (*a == *b, *a < *b)
 }
 
-#[test]
-fn maps_are_compared_indexed_and_walked(rt: HostRuntime) -> Result<(), Fail> {
-    let mut map = LinkedHashMap::new(rt.alloc());
-    map.extend((1u32..3).map(|x| (x, 10)))?;
-    let other = map.clone()?;
-    assert_eq!(rt; compared(&map, &other), (true, false));
+/// The sum of all keys and values, by loops that borrow and that take.
+fn sum(map: LinkedHashMap<u32, u32>) -> u32 {
     let mut sum = 0u32;
     for (key, value) in &map {
         sum = sum.wrapping_add(*key).wrapping_add(*value);
@@ -59,6 +48,13 @@ fn maps_are_compared_indexed_and_walked(rt: HostRuntime) -> Result<(), Fail> {
     for (key, value) in map {
         sum = sum.wrapping_add(key).wrapping_add(value);
     }
-    assert_eq!(rt; sum, 46);
+    sum
+}
+
+#[test]
+fn maps_are_compared_indexed_and_walked(rt: HostRuntime) -> Result<(), Fail> {
+    let map = map_of(rt.alloc(), &[(1, 10), (2, 10)]);
+    let other = map.clone()?;
+    assert_eq!(rt; (compared(&map, &other), sum(map)), ((true, false), 46));
     Ok(())
 }
