@@ -1,7 +1,7 @@
 //! How often each call that takes a key hashes and compares it.
 //!
-//! All keys have one hash and each container has one entry, so that to look a key up once is to compare it once,
-//! whether it is there or not.
+//! All keys have one hash and each container has one entry, so that to look a key up once is to compare it
+//! once, whether it is there or not.
 
 mod caches;
 mod entries;

@@ -1,5 +1,5 @@
-//! What becomes of the items of an iterator that owns them and ends early, and of a drain that is forgotten, and when a
-//! container drops what it keeps no more.
+//! What becomes of the items of an iterator that owns them and ends early, and of a drain that is forgotten,
+//! and when a container drops what it keeps no more.
 use crate::few::one_to_three;
 use hashlink::weighted::WeightedCache;
 use hashlink::{LinkedHashMap, LinkedHashSet};

@@ -1,4 +1,5 @@
-//! Many items by reference and out of other containers, the calls that no row has, and errors that are compared.
+//! Many items by reference and out of other containers, the calls that no row has, and errors that are
+//! compared.
 use crate::few::{Map, map_of};
 use hashlink::linked_hash_map::{Entry, ExtendError};
 use hashlink::weighted::WeightError;

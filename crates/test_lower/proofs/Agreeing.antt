@@ -1,5 +1,6 @@
 -- How many nodes agree with a hash, as nodes are put in.
-use Rattle.std.proofs.Common.{◌≡◌, ℕ, ◌+◌, ◌%◌, List, [], ◌∷◌, map, count_by, Bool, cond, eqb, Some, None, sym, ap}
+use Rattle.std.proofs.Common.{◌≡◌, ℕ, ◌+◌, ◌%◌, List, [], ◌∷◌, map, count_by, Bool, cond, eqb, Some, None}
+use Rattle.std.proofs.Common.{sym, ap}
 use Rattle.std.proofs.Common.{◌∙◌, arith}
 use Rattle.std.proofs.lemmas.Option.{none-some}
 use Rattle.std.specs.declared.cmp.Ordering.TheVariants.{Less, Equal, Greater}
@@ -37,4 +38,5 @@ agreeing_inserted {N} old new at hash node free is h m =
     ap (λ (t : Contents N). agreeing t h m) is
     ∙ ap (λ (es : List (ℕ × Kept N)). count_by (λ k. eqb (k.hash % m) (h % m)) (map (λ e. e.1) es))
     (entries-insert nat_cmp_total old.nodes at kept)
-    ∙ count-put (λ k. eqb (k.hash % m) (h % m)) at kept (entries old.nodes) (sym (get-entries old.nodes at) ∙ free)
+    ∙ count-put (λ k. eqb (k.hash % m) (h % m)) at kept (entries old.nodes)
+    (sym (get-entries old.nodes at) ∙ free)

@@ -29,8 +29,10 @@ module _ {X : Type 0} where
       get-insert nat_cmp_total m at x cell
       ∙ ap (λ b. cond b (Some x) (get m cell)) (unsigned_tied cell at ∙ ne_eqb cell at ne)
 
-  pub len_inserted : (m : FinMap nat_cmp X) (at : ℕ) (x : X) → get m at ≡ None → len (insert m at x) ≡ len m + 1
-  len_inserted m at x free = len-insert nat_cmp_total m at x ∙ ap (λ o. cond (is_some o) (len m) (len m + 1)) free
+  pub len_inserted : (m : FinMap nat_cmp X) (at : ℕ) (x : X) → get m at ≡ None
+      → len (insert m at x) ≡ len m + 1
+  len_inserted m at x free = len-insert nat_cmp_total m at x
+      ∙ ap (λ o. cond (is_some o) (len m) (len m + 1)) free
 
 -- all three, for an insert whose proof is searched
 pub ruleset inserted = (get_inserted, get_inserted_other, len_inserted)
@@ -56,7 +58,8 @@ module _ {N : Type 0} where
             (λ _. ((cell ≡ at) × (h ≡ hash) × (n ≡ node)) ⊎ ((cell ≢ at) × Keeps old cell h n)) [
               | inl same ↦
                   let one =
-                  same_Some _ _ (sym e ∙ ap (get new.nodes) same ∙ read at ∙ get_inserted old.nodes at kept) in
+                  same_Some _ _ (sym e ∙ ap (get new.nodes) same ∙ read at
+                  ∙ get_inserted old.nodes at kept) in
                   inl (same, ap (λ (k : Kept N). k.hash) one, ap (λ (k : Kept N). k.node) one)
               | inr other ↦ inr (other, sym (read cell ∙ get_inserted_other old.nodes at cell kept other) ∙ e)
             ];

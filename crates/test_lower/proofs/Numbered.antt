@@ -1,5 +1,6 @@
 -- A table of the numbers from 1 on, each under itself as its hash, for the tests.
-use Rattle.std.proofs.Common.{◌≡◌, ℕ, ◌+◌, ◌%◌, ◌<◌, ◌≤◌, List, [], map, count_by, cond, eqb, ◌⊎◌, inl, inr, None}
+use Rattle.std.proofs.Common.{◌≡◌, ℕ, ◌+◌, ◌%◌, ◌<◌, ◌≤◌, List, [], map, count_by, cond, eqb, ◌⊎◌, inl, inr}
+use Rattle.std.proofs.Common.{None}
 use Rattle.std.proofs.Common.{refl, sym, ap, ◌∙◌, arith}
 use Rattle.std.proofs.lemmas.Bool.{cases_eq, cases_lt, eq-eqb, ne_eqb}
 use Rattle.std.proofs.lemmas.List.{nil_from_length}
@@ -11,8 +12,8 @@ use Rattle.std.proofs.Math.Nat.{mod-eq_of_lt, mod_self}
 use Rattle.test_lower.proofs.Callers.{len_inserted}
 use Rattle.test_lower.proofs.Agreeing.{agreeing_inserted}
 
--- the numbers from 1 up to below n were put in, each under itself as hash, where n is at most 501: no two of them
--- agree
+-- the numbers from 1 up to below n were put in, each under itself as hash, where n is at most 501: no two of
+-- them agree
 pub record IsNumbered {N : Type 0} (t : Contents N) (n : ℕ) : Type 0 where
   pub count : len_of t + 1 ≡ n
   pub few : (h m : ℕ) → 500 ≤ m
@@ -27,7 +28,8 @@ numbered_none {N} t is = record {
   few =
       λ h m low. inl
       (ap (λ (u : Contents N). agreeing u h m) is
-      ∙ ap (λ (es : List (ℕ × Kept N)). count_by (λ k. eqb (k.hash % m) (h % m)) (map (λ e. e.1) es)) entries_none);
+      ∙ ap (λ (es : List (ℕ × Kept N)). count_by (λ k. eqb (k.hash % m) (h % m)) (map (λ e. e.1) es))
+      entries_none);
 }
 
 -- two such numbers do not agree
@@ -55,24 +57,30 @@ numbered_more {N} t same new n at node numbered most nodes free is = record {
       = ap (λ (ns : FinMap nat_cmp (Kept N)). count_by (λ k. eqb (k.hash % m) (h % m)) (values ns)) nodes in
       let now = agreeing_inserted same new at n node free is h m in
       elim (cases_eq (n % m) (h % m)) as
-      (λ _. (agreeing new h m ≡ 0) ⊎ ((agreeing new h m ≡ 1) × ((j : ℕ) × (0 < j) × (j < n + 1) × (j % m ≡ h % m)))) [
+      (λ _. (agreeing new h m ≡ 0)
+      ⊎ ((agreeing new h m ≡ 1) × ((j : ℕ) × (0 < j) × (j < n + 1) × (j % m ≡ h % m)))) [
         | inl agrees ↦
             let one : cond {A = ℕ} (eqb (n % m) (h % m)) 1 0 ≡ 1 = rw (eq-eqb (n % m) (h % m) agrees) refl in
             elim (numbered.few h m low) as
             (λ _. (agreeing new h m ≡ 0)
             ⊎ ((agreeing new h m ≡ 1) × ((j : ℕ) × (0 < j) × (j < n + 1) × (j % m ≡ h % m)))) [
-              | inl none ↦ inr
-                  (omega (arith, now, one, was, none), (n, omega (arith, numbered.count), omega arith, agrees))
+              | inl none ↦ inr (
+                omega (arith, now, one, was, none),
+                (n, omega (arith, numbered.count), omega arith, agrees),
+              )
               | inr some ↦ absurd (apart some.1.0 n m some.1.1 some.1.2 most low (some.1.3 ∙ sym agrees))
             ]
         | inr differs ↦
-            let zero : cond {A = ℕ} (eqb (n % m) (h % m)) 1 0 ≡ 0 = rw (ne_eqb (n % m) (h % m) differs) refl in
+            let zero : cond {A = ℕ} (eqb (n % m) (h % m)) 1 0
+            ≡ 0 = rw (ne_eqb (n % m) (h % m) differs) refl in
             elim (numbered.few h m low) as
             (λ _. (agreeing new h m ≡ 0)
             ⊎ ((agreeing new h m ≡ 1) × ((j : ℕ) × (0 < j) × (j < n + 1) × (j % m ≡ h % m)))) [
               | inl none ↦ inl (omega (arith, now, zero, was, none))
-              | inr some ↦ inr
-                  (omega (arith, now, zero, was, some.0), (some.1.0, some.1.1, omega (arith, some.1.2), some.1.3))
+              | inr some ↦ inr (
+                omega (arith, now, zero, was, some.0),
+                (some.1.0, some.1.1, omega (arith, some.1.2), some.1.3),
+              )
             ]
       ];
 }

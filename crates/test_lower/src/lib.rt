@@ -1,5 +1,5 @@
-//! The ring of nodes, the table and the keyed list, by their crates' public names alone: what no test of a map says of
-//! them.
+//! The ring of nodes, the table and the keyed list, by their crates' public names alone: what no test of a
+//! map says of them.
 #![tactic(auto)]
 
 #[cfg(test)]

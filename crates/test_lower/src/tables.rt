@@ -60,7 +60,8 @@ fn kept_hash(table: &mut Table<u32>, hash: u64, number: u32) -> Result<u64, TryR
     Ok(table.hash(cell))
 }
 
-/// A table of the numbers below 300. Each was put in after another under the same hash, which was taken out again.
+/// A table of the numbers below 300. Each was put in after another under the same hash, which was taken out
+/// again.
 fn table_of(alloc: Global, hashes: Hashes) -> Result<Table<u32>, TryReserveError> {
     let mut table = Table::new(alloc);
     for number in 0..300u32 {

@@ -61,9 +61,8 @@ fn main(rt: HostRuntime) -> ExitCode {
         refused,
         left_out,
     } = tally;
-    let _ = println!(&rt;
-        "{rows} rows: each answer is right, and {refused} of them refused; {left_out} rows had no memory of their own"
-    );
+    let _ = print!(&rt; "{rows} rows: each answer is right, and {refused} of them refused; ");
+    let _ = println!(&rt; "{left_out} rows had no memory of their own");
     ExitCode::SUCCESS
 }
 

@@ -1,4 +1,5 @@
-//! The calls of entries: `entry` hashes and looks up its key, and what is done through the entry does neither.
+//! The calls of entries: `entry` hashes and looks up its key, and what is done through the entry does
+//! neither.
 use super::{Cost, KEYS, ONCE};
 use hashlink::linked_hash_map::{Entry, OccupiedEntry};
 use hashlink::{LinkedHashMap, LruCache};

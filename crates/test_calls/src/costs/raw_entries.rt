@@ -1,5 +1,5 @@
-//! The calls of raw entries: with a hash given the key is only compared, and a pair that goes in without one is hashed
-//! for it.
+//! The calls of raw entries: with a hash given the key is only compared, and a pair that goes in without one
+//! is hashed for it.
 use super::Cost;
 use hashlink::LinkedHashMap;
 use hashlink::linked_hash_map::{RawEntryMut, RawOccupiedEntryMut};

@@ -31,7 +31,8 @@ fn value_of<'m, K: Eq + Hash, V, S: BuildHasher>(
 
 /// A statement by its text, of which no `String` is made.
 fn statement<'c>(cache: &'c mut LruCache<String, u32>, sql: &str) -> Option<&'c u32>
-    ensures { option_copied result ≡ lookup (λ key. bytes_eq sql.now (string_bytes key)) (entries_in cache.old) }
+    ensures { option_copied result ≡ lookup (λ key. bytes_eq sql.now (string_bytes key))
+        (entries_in cache.old) }
 {
     cache.get(sql)
 }

@@ -18,7 +18,8 @@ loop-number-preserved c =
     let reserved = c.in_ok-reserve.ensures in
     let more = after_insert _ _ _ _ _ i.was_free i.inserted in
     let same = ap (λ (m : FinMap nat_cmp (Kept ℕ)). len m) reserved.nodes in (
-      numbered_more c.loop-number.table _ c.insert_reserved.new.self c.loop-number.number c.insert_reserved.result
+      numbered_more c.loop-number.table _ c.insert_reserved.new.self c.loop-number.number
+          c.insert_reserved.result
           c.loop-number.number c.loop-number.invariant.0 (omega arith) reserved.nodes i.was_free
           (rw c.from.ensures at i.inserted),
       omega (arith, more.one_more, more.same_room, reserved.ok, same),
