@@ -75,12 +75,14 @@ fn a_statement_is_prepared_where_it_is_not_kept(rt: HostRuntime) {
 
 type Sessions = SessionTable<u64, RandomState>;
 
-/// Opens the sessions of three users, and says whether the first and another can be used again.
-fn open_three(sessions: &mut Sessions) -> [bool; 2] {
+/// The sessions of three users, and whether the first and another can be used again.
+fn open_three(alloc: Global, hasher: RandomState) -> (Sessions, [bool; 2]) {
+    let mut sessions = SessionTable::with_hasher(alloc, hasher);
     let _first = sessions.open(100, 1, 10);
     let _second = sessions.open(200, 2, 20);
     let _third = sessions.open(300, 3, 30);
-    [sessions.touch(&100, 40), sessions.touch(&400, 40)]
+    let touched = [sessions.touch(&100, 40), sessions.touch(&400, 40)];
+    (sessions, touched)
 }
 
 /// How many expire, how many are left, the latest use, and whether the second is gone and the first
@@ -124,11 +126,10 @@ fn sessions_leave_in_the_order_of_their_last_use(rt: HostRuntime) {
     let Ok(hasher) = RandomState::new(&rt) else {
         return;
     };
-    let sessions = &mut SessionTable::with_hasher(rt.alloc(), hasher);
-    let touched = open_three(sessions);
-    let expired = expire_second(sessions);
-    let again = open_third_again(sessions);
-    let ended = ((touched, expired), (again, close_all(sessions)));
+    let (mut sessions, touched) = open_three(rt.alloc(), hasher);
+    let expired = expire_second(&mut sessions);
+    let again = open_third_again(&mut sessions);
+    let ended = ((touched, expired), (again, close_all(&mut sessions)));
     let wanted = (
         ([true, false], (1, 2, 40, [true; 2])),
         ([true; 2], (true, 1, 0)),
