@@ -1,12 +1,13 @@
-/* Loaded before a program (LD_PRELOAD): refuses its requests for memory, fails its reads and writes, or has them move
-   one byte. Variables of the environment name the first and the last request that is met, counted from 1:
+/* Loaded before a program (LD_PRELOAD): refuses its requests for memory, fails its reads and writes, or has
+   them move one byte. Variables of the environment name the first and the last request that is met, counted
+   from 1:
 
      REFUSE_FROM, REFUSE_TO   requests for memory, which are refused
      FAIL_FROM, FAIL_TO       reads and writes of standard input and output, which fail
      SHORT_FROM, SHORT_TO     reads and writes of several bytes there, which move one
 
-   For each that it met it writes a byte to the file descriptor that MET_FILE numbers, and as the program ends one to that of
-   LEFT_FILE for each block of memory that was not given back. */
+   For each that it met it writes a byte to the file descriptor that MET_FILE numbers, and as the program ends
+   one to that of LEFT_FILE for each block of memory that was not given back. */
 
 typedef unsigned long size_t;
 typedef long ssize_t;

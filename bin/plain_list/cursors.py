@@ -1,4 +1,5 @@
-"""What a plain list answers to steps of a cursor: a place in the list, of which the one after the last is the guard's."""
+"""What a plain list answers to steps of a cursor: a place in the list, of which the one after the last is the
+guard's."""
 
 from .words import NOTHING, Unread
 
@@ -49,7 +50,8 @@ class Cursors:
             answers.pair(self.list.at(place))
 
     def cursor_step(self, at, name, words, answers):
-        """Takes a step, and returns where the cursor then is. A list of commands and a text say where they go."""
+        """Takes a step, and returns where the cursor then is. A list of commands and a text say where they
+        go."""
         if name in ("next", "prev"):
             at = self.after(at) if name == "next" else self.before(at)
             if answers.form != "calls":
@@ -66,8 +68,8 @@ class Cursors:
         return at
 
     def put_at(self, at, place, pair, answers):
-        """Puts the pair before the one at the place. The cursor stays on its pair, or on the guard, and a key on which it
-        stands stays where it is."""
+        """Puts the pair before the one at the place. The cursor stays on its pair, or on the guard, and a key
+        on which it stands stays where it is."""
         if self.is_refused(pair, answers):
             return at
         stands = self.list.at(at)

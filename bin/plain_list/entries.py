@@ -35,8 +35,8 @@ class Entries:
             answers.say(NOTHING)
 
     def or_insert(self, pair, value, answers):
-        """Moves what is there last or puts the pair there, and writes the value. Returns what stood there or was put,
-        unless it was refused."""
+        """Moves what is there last or puts the pair there, and writes the value. Returns what stood there or
+        was put, unless it was refused."""
         if self.is_refused(pair, answers):
             return None
         stands = self.list.find(pair[0]) or pair

@@ -1,4 +1,5 @@
-"""Whether what `test_rows --say` says of a row is what a plain list answers, and what then stands is what it has."""
+"""Whether what `test_rows --say` says of a row is what a plain list answers, and what then stands is what it
+has."""
 
 import re
 
@@ -12,7 +13,9 @@ from .words import MEMORY, Answers, Unread, Words, is_word
 HASHERS = ("default", "same_hash", "odd_or_even")
 KINDS = {"map": Model, "set": SetModel, "cache": CacheModel, "weighted": WeightedModel}
 SAID = re.compile(r"row |=|\+ |\| |(left out|refused)$")
-SUMMARY = re.compile(r"(\d+) rows: each answer is right, and (\d+) of them refused; (\d+) rows had no memory of their own")
+SUMMARY = re.compile(
+    r"(\d+) rows: each answer is right, and (\d+) of them refused; (\d+) rows had no memory of their own"
+)
 
 
 class WrongRow(Exception):
@@ -72,7 +75,8 @@ class Section:
 
 
 def judge_section(row, lines):
-    """How many refusals the lines have that are said of the row under one hasher, and whether it was left out."""
+    """How many refusals the lines have that are said of the row under one hasher, and whether it was left
+    out."""
     section, words = Section(row, lines), Words(row.mode)
     try:
         kind = words.word()
@@ -198,8 +202,8 @@ class Judge:
         self.judged = {}
 
     def judge(self, rows, said):
-        """How many refusals were said of the rows, and how many rows were left out, from the output of the program. Where it
-        had no memory to begin with, it says nothing, or that the rows are left out."""
+        """How many refusals were said of the rows, and how many rows were left out, from the output of the
+        program. Where it had no memory to begin with, it says nothing, or that the rows are left out."""
         lines = said.split("\n")
         found = next((place for place, line in enumerate(lines) if SUMMARY.fullmatch(line)), None)
         if found is None:
@@ -216,14 +220,16 @@ class Judge:
             for hasher in hashers_of(row):
                 head = f"row {row.first} {hasher}"
                 if not sections or sections[0][0] != head:
-                    raise WrongRow(f"{row.file}#{row.number}: {row.name}: nothing is said under the hasher {hasher}")
+                    place = f"{row.file}#{row.number}: {row.name}"
+                    raise WrongRow(f"{place}: nothing is said under the hasher {hasher}")
                 more, is_left_out = self.judge_once(row, sections.pop(0)[1])
                 refused += more
                 left_out += is_left_out
                 if is_left_out:
                     break
         if sections or told != (len(rows), refused, left_out):
-            raise WrongRow(f"{lines[found]}\n  but {refused} answers are refusals, and {left_out} rows are left out")
+            counted = f"{refused} answers are refusals, and {left_out} rows are left out"
+            raise WrongRow(f"{lines[found]}\n  but {counted}")
         return refused, left_out
 
     def judge_once(self, row, lines):

@@ -3,7 +3,8 @@
 from .cursors import Cursors
 from .entries import Entries
 from .plain import PlainList
-from .words import DONE, GREATEST, MEMORY, NOTHING, OVERFLOW, WRONG, Unread, is_word, item_word, number, pair_word
+from .words import DONE, GREATEST, MEMORY, NOTHING, OVERFLOW, WRONG
+from .words import Unread, is_word, item_word, number, pair_word
 
 NO_CAPACITY = GREATEST - 1
 
@@ -20,7 +21,8 @@ class Model(Entries, Cursors):
         self.room = 0
 
     def is_like(self, words):
-        """Whether these are its length, its capacity and its pairs, with room for them and for the spare nodes."""
+        """Whether these are its length, its capacity and its pairs, with room for them and for the spare
+        nodes."""
         length = len(self.list.pairs)
         room = number(words[1]) if len(words) > 1 else None
         has_room = room is not None and room >= length + self.list.spare
@@ -136,7 +138,8 @@ class Model(Entries, Cursors):
         self.room = room
 
     def reserve(self, size, answers):
-        """There is room for so many more, unless that is too much or was refused. It is not refused where it is there."""
+        """There is room for so many more, unless that is too much or was refused. It is not refused where it
+        is there."""
         wanted = min(len(self.list.pairs) + size, NO_CAPACITY)
         if answers.hears() == DONE or wanted <= self.room:
             self.room = max(self.room, wanted)
@@ -213,7 +216,8 @@ class Model(Entries, Cursors):
         answers.done()
 
     def walk(self, name, words, answers):
-        """Steps of an iterator over what stands between two places. From a word `clone` on a clone takes the steps."""
+        """Steps of an iterator over what stands between two places. From a word `clone` on a clone takes the
+        steps."""
         ends = [0, len(self.list.pairs)]
         self.steps(name, ends, words, answers)
         if words.are_left():

@@ -11,7 +11,8 @@ WRONG_TEXTS = (
     "weighted 5\ninsert 1 10 6\n=\nmemory",
 )
 
-ROW = Row("none", 1, "a row", "map", "insert 1.2 10\nother insert 5 50\niter next left\nremove 1\ninsert 2 20\nreserve 9", 3)
+LINES = "insert 1.2 10\nother insert 5 50\niter next left\nremove 1\ninsert 2 20\nreserve 9"
+ROW = Row("none", 1, "a row", "map", LINES, 3)
 SAID = """= -
 + 1 4 1.2:10
 + 0 0
@@ -31,7 +32,10 @@ SAID = """= -
 + 1 16 2:20
 + 1 4 5:50
 """
-SUMMARY = "1 rows: each answer is right, and {refused} of them refused; {left_out} rows had no memory of their own\n"
+SUMMARY = (
+    "1 rows: each answer is right, and {refused} of them refused; "
+    "{left_out} rows had no memory of their own\n"
+)
 #: what is wrong, what of the right words is other, and what stands in its place
 WRONG_WORDS = (
     ("another value", "= 10\n", "= 11\n"),
@@ -44,7 +48,11 @@ WRONG_WORDS = (
     ("no room for a spare node", "+ 0 4", "+ 0 0"),
     ("the other map is changed", "= 10\n+ 0 4\n+ 1 4 5:50", "= 10\n+ 0 4\n+ 0 4"),
     ("a refusal where a node is spare", "= -\n+ 1 4 2:20", "= memory 2:20\n+ 0 4"),
-    ("a refusal that changes what stands", "= -\n+ 1 4 1.2:10\n+ 0 0", "= memory 1.2:10\n+ 1 4 1.2:10\n+ 0 0"),
+    (
+        "a refusal that changes what stands",
+        "= -\n+ 1 4 1.2:10\n+ 0 0",
+        "= memory 1.2:10\n+ 1 4 1.2:10\n+ 0 0",
+    ),
     ("a refusal of another pair", "= -\n+ 1 4 1.2:10\n+ 0 0", "= memory 1:10\n+ 0 0\n+ 0 0"),
     ("no answer to the last line", "= ok\n+ 1 16 2:20\n+ 1 4 5:50\n", ""),
     ("an answer too many", "= ok\n", "= ok\n= ok\n"),

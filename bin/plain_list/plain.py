@@ -56,8 +56,8 @@ class PlainList:
         self.spare += before - len(self.pairs)
 
     def put(self, place, pair):
-        """Puts the pair before the one that stands at the place now, or last where there is none. A key that is there
-        stays. Returns the old value."""
+        """Puts the pair before the one that stands at the place now, or last where there is none. A key that
+        is there stays. Returns the old value."""
         there = self.place_of(pair[0])
         if there is not None and there < place:
             place -= 1

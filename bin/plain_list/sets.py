@@ -113,8 +113,9 @@ def comes(model, other, name, element, is_first):
 
 
 def iterate(model, other, name, answers):
-    """Says the bounds of how many are left and what comes, in turn. Of those left in each set a union has all of the first
-    at least, and one of the first alone, as an intersection or a difference, none of the second at most."""
+    """Says the bounds of how many are left and what comes, in turn. Of those left in each set a union has all
+    of the first at least, and one of the first alone, as an intersection or a difference, none of the second
+    at most."""
     left = [len(model.list.pairs), len(other.list.pairs)]
     bounds(name, left, answers)
     for place, each in enumerate((model, other)):

@@ -11,7 +11,8 @@ SHOWN_BYTES = {"\\r": "\r", "\\x": "\xff", "\\": ""}
 
 
 def meant(text):
-    """The text that a row says: `\\r` stands for byte 13, `\\x` for byte 255, and another `\\` for nothing."""
+    """The text that a row says: `\\r` stands for byte 13, `\\x` for byte 255, and another `\\` for
+    nothing."""
     return re.sub(r"\\[rx]?", lambda found: SHOWN_BYTES[found[0]], text)
 
 
@@ -33,7 +34,8 @@ def mode_of(line):
 
 
 def is_answer(text, answer):
-    """Whether a text may be answered so. A refusal is no answer where it is the only one: that is an error."""
+    """Whether a text may be answered so. A refusal is no answer where it is the only one: that is an
+    error."""
     if not text:
         return not answer
     first, *lines = text.removesuffix("\n").split("\n")

@@ -15,7 +15,8 @@ class Unread(Exception):
 
 
 def number(word):
-    """A number as texts have it: digits alone, with no zero in front of others. Nothing where the word is none."""
+    """A number as texts have it: digits alone, with no zero in front of others. Nothing where the word is
+    none."""
     if word is None or not re.fullmatch("0|[1-9][0-9]*", word, re.ASCII):
         return None
     read = int(word)
@@ -119,8 +120,8 @@ class Answers:
     def __init__(self, heard, form="calls"):
         self.heard = heard
         self.words = []
-        #: `calls`; `replies`, which say of a pair that is read whether its value is even; or `text`, which shows no
-        #: numbers and hands nothing back
+        #: `calls`; `replies`, which say of a pair that is read whether its value is even; or `text`, which
+        #: shows no numbers and hands nothing back
         self.form = form
 
     def say(self, word):
