@@ -11,37 +11,37 @@ fn key(group: u32, number: u32) -> Numbered {
     Numbered { group, number }
 }
 
-type Replies = Result<Vec<Reply<Numbered, u32>>, AllocError>;
+/// Replies, and the number and the value of the first entry that is left.
+type Ran = (Vec<Reply<Numbered, u32>>, Option<(u32, u32)>);
 
-/// The replies to an insert, and to further commands, of which a read is told whether the key has the
-/// number 1.
+/// What comes of an insert and of further commands, of which a read is told whether the key has the number 1.
 fn run_after_insert(
     alloc: Global,
     second: Command<Numbered, u32>,
     third: Command<Numbered, u32>,
-) -> Replies {
+) -> Result<Ran, AllocError> {
     let commands = vec![in alloc; Command::Insert(key(1, 1), 10u32), second, third]?;
-    run(
-        &mut LinkedHashMap::new(alloc),
-        commands,
-        &|key, _| key.number == 1,
-    )
+    let mut map = LinkedHashMap::new(alloc);
+    let replies = run(&mut map, commands, &|key, _| key.number == 1)?;
+    let first = map.front().map(|(key, value)| (key.number, *value));
+    Ok((replies, first))
 }
 
 #[test]
 fn a_run_keeps_the_key_that_is_stored(rt: HostRuntime) {
     let insert = Command::Insert(key(1, 2), 11);
-    let replies = run_after_insert(rt.alloc(), insert, Command::Get(key(1, 3)));
+    let ran = run_after_insert(rt.alloc(), insert, Command::Get(key(1, 3)));
     assert!(rt;
-        replies.is_ok_and(|replies| {
-            matches!(
-                replies.as_slice(),
-                [
-                    Reply::Value(None),
-                    Reply::Value(Some(10)),
-                    Reply::Seen(Some(true))
-                ]
-            )
+        ran.is_ok_and(|(replies, first)| {
+            first == Some((1, 11))
+                && matches!(
+                    replies.as_slice(),
+                    [
+                        Reply::Value(None),
+                        Reply::Value(Some(10)),
+                        Reply::Seen(Some(true))
+                    ]
+                )
         })
     );
 }
@@ -50,29 +50,31 @@ fn a_run_keeps_the_key_that_is_stored(rt: HostRuntime) {
 fn a_run_hands_out_the_key_that_was_stored(rt: HostRuntime) {
     let replace = Command::Entry(key(1, 2), EntryStep::ReplaceKey);
     let remove = Command::Entry(key(1, 3), EntryStep::RemoveEntry);
-    let replies = run_after_insert(rt.alloc(), replace, remove);
+    let ran = run_after_insert(rt.alloc(), replace, remove);
     assert!(rt;
-        replies.is_ok_and(|replies| {
-            matches!(
-                replies.as_slice(),
-                [
-                    Reply::Value(None),
-                    Reply::Key(Some(Numbered { number: 1, .. })),
-                    Reply::Pair(Some((Numbered { number: 2, .. }, 10))),
-                ]
-            )
+        ran.is_ok_and(|(replies, first)| {
+            first.is_none()
+                && matches!(
+                    replies.as_slice(),
+                    [
+                        Reply::Value(None),
+                        Reply::Key(Some(Numbered { number: 1, .. })),
+                        Reply::Pair(Some((Numbered { number: 2, .. }, 10))),
+                    ]
+                )
         })
     );
 }
 
-/// How many replies there are to an insert, a cursor without steps and a question for the length.
-fn run_without_steps(alloc: Global) -> Result<usize, AllocError> {
+/// Whether an insert and a question for the length have a reply, and a cursor without steps between none.
+fn run_without_steps(alloc: Global) -> Result<bool, AllocError> {
     let commands = vec![in alloc;
         Command::Insert(1u32, 10u32),
         Command::Cursor(Vec::new(alloc)),
         Command::Len,
     ]?;
-    Ok(run(&mut map_of(alloc, &[]), commands, &|_, _| true)?.len())
+    let replies = run(&mut map_of(alloc, &[]), commands, &|_, _| true)?;
+    Ok(matches!(replies.as_slice(), [Reply::Value(None), Reply::Length(1)]))
 }
 
 /// What is left of a map, and how many replies there are, after no commands.
@@ -84,7 +86,7 @@ fn run_without_commands(alloc: Global) -> Result<(usize, Option<u32>, usize), Al
 
 #[test]
 fn what_has_no_commands_and_no_steps_has_no_reply(rt: HostRuntime) {
-    assert_eq!(rt; run_without_steps(rt.alloc()), Ok(2));
+    assert_eq!(rt; run_without_steps(rt.alloc()), Ok(true));
     assert_eq!(rt; run_without_commands(rt.alloc()), Ok((1, Some(10), 0)));
 }
 

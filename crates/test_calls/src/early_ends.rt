@@ -45,7 +45,8 @@ fn ends_of_set(alloc: Global, steps: Steps) -> [Option<usize>; 2] {
     [before, dropped(&cells)]
 }
 
-/// The same of a drain, which is dropped, or is forgotten, and then the set is cleared.
+/// The same of a drain, which is dropped, or is forgotten, and then the set is cleared. The set has to be
+/// empty then.
 fn ends_of_set_drain(alloc: Global, forgets: bool, steps: Steps) -> [Option<usize>; 2] {
     let cells = cells();
     let mut set = set_of(alloc, &cells);
@@ -59,7 +60,8 @@ fn ends_of_set_drain(alloc: Global, forgets: bool, steps: Steps) -> [Option<usiz
     } else {
         drop(rest);
     }
-    [before, dropped(&cells)]
+    let is_empty = set.is_empty();
+    [before, dropped(&cells).filter(|_| is_empty)]
 }
 
 /// The map of four counted keys and values.
