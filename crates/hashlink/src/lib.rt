@@ -41,9 +41,10 @@ pub mod miss_curve {
 /// Lists of commands to the containers, and the text form in which a program reads and answers them.
 pub mod run {
     pub use hashlink_run::{
-        CacheCommand, Command, CursorStep, EntryStep, Fault, Pair, PairCommand, Reply, Uses, run,
-        run_cache, run_pair, run_text, run_uses, serve,
+        CacheCommand, Command, CursorStep, EntryStep, Pair, PairCommand, Reply, Uses, answer_cache,
+        answer_call, answer_command, run, run_cache, run_pair, run_uses,
     };
+    pub use hashlink_text::{Fault, run_text, serve};
 }
 
 pub use hashlink_lru::LruCache;

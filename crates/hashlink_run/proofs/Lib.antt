@@ -1,5 +1,4 @@
--- Lemmas on runs of commands, and on texts in answer to them.
-pub mod Answered
+-- Lemmas on runs of commands.
 pub mod Answering
 pub mod AtEntry
 pub mod Called
@@ -9,7 +8,6 @@ pub mod CachePasses
 pub mod CachePuts
 pub mod CacheSpare
 pub mod CacheUsed
-pub mod CacheWider
 pub mod Chained
 pub mod Chains
 pub mod CursorNodes
@@ -17,10 +15,5 @@ pub mod CursorProgress
 pub mod EntryNodes
 pub mod Kept
 pub mod Lawful
-pub mod Lists
 pub mod Moved
 pub mod NotRefused
-pub mod OfNothing
-pub mod Progress
-pub mod ShownLines
-pub mod WorkedEntries

@@ -1,4 +1,4 @@
--- What commands do to a map, one by one and in lists, and what is written in answer to a text of them.
+-- What commands do to a map, one by one and in lists.
 pub mod CallReplies
 pub mod Reads
 pub mod Keeps
@@ -11,8 +11,3 @@ pub mod CacheCalls
 pub mod CacheLaws
 pub mod CacheStep
 pub mod CacheRun
-pub mod Transcript
-pub mod CacheTranscript
-pub mod WeightedTranscript
-pub mod Text
-pub mod Faults

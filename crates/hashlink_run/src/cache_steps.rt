@@ -13,8 +13,9 @@ use hashlink_commands::{CacheCommand, Reply};
 use hashlink_lru::LruCache;
 use std::hash::{BuildHasher, Hash};
 
-// Gives the cache the command and answers its reply. Of a pair that is read it has what the closure says.
-pub(crate) fn answer_cache<K, V, S, B, F>(
+/// Gives the cache the command and returns its reply. Of a pair that is read it has what the closure says. It
+/// costs what the call costs that the command names.
+pub fn answer_cache<K, V, S, B, F>(
     cache: &mut LruCache<K, V, S>,
     command: CacheCommand<K, V>,
     says: &F,

@@ -19,9 +19,10 @@ use hashlink_map::LinkedHashMap;
 use std::alloc::AllocError;
 use std::hash::{BuildHasher, Hash};
 
-// Gives the map the command and pushes its replies. Of a pair that is read they have what the first closure
-// says, and the second one says which pairs a keep leaves.
-pub(crate) fn answer_command<K, V, S, B, F, G>(
+/// Gives the map the command and pushes its replies. Of a pair that is read they have what the first closure
+/// says, and the second one says which pairs a keep leaves. Where the replies' vector cannot grow it returns
+/// `AllocError`. It costs what the call costs that the command names.
+pub fn answer_command<K, V, S, B, F, G>(
     map: &mut LinkedHashMap<K, V, S>,
     command: Command<K, V>,
     says: &F,

@@ -1,7 +1,7 @@
 //! Reads a text of lines from standard input and answers it on standard output.
 #![tactic(auto)]
 
-use hashlink_run::serve;
+use hashlink_text::serve;
 use std::process::ExitCode;
 
 fn main(rt: HostRuntime) -> ExitCode {

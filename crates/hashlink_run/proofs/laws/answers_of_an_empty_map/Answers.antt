@@ -1,5 +1,0 @@
-use Rattle.hashlink_run.proofs.OfNothing.{end_answers, entry_answers}
-use Rattle.hashlink_run.proofs.laws.answers_of_an_empty_map.Goals as goal
-
-pub returns : goal.returns
-returns c = record { ends = end_answers; entries = entry_answers }

@@ -1,9 +1,0 @@
-use Rattle.std.proofs.Common.{◌≡◌, ◌++◌, string_bytes}
-use Rattle.hashlink_run.specs.Transcript.{list_shown}
-use Rattle.hashlink_run.specs.WeightedTranscript.{pairs_of}
-use Rattle.hashlink_run.proofs.Lists.{more_shown}
-use Rattle.hashlink_run.proofs.weighted_text.push_pairs.Given as goal
-
-abbrev pub invariant-loop-key : goal.invariant-loop-key
-invariant-loop-key l = string_bytes l.out ++ more_shown (pairs_of l.key-iterator)
-    ≡ string_bytes l.fn.out ++ list_shown (pairs_of l.fn.entries)

@@ -1,9 +1,0 @@
--- What a fault says.
-use Rattle.std.specs.Prelude.{ℕ, List, codes}
-use Rattle.hashlink_run.specs.declared.faults.Fault.{Fault}
-use Rattle.hashlink_run.specs.declared.faults.Fault.TheVariants.{Reading, Memory, Writing}
-
-abbrev pub fault_shown : Fault → List ℕ
-fault_shown Reading = codes "linkrun: reading failed"
-fault_shown Memory = codes "linkrun: no memory"
-fault_shown Writing = codes "linkrun: writing failed"

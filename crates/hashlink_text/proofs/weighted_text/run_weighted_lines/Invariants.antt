@@ -1,0 +1,11 @@
+use Rattle.std.proofs.Common.{◌≡◌, ◌++◌, ℕ, List, string_bytes}
+use Rattle.hashlink_commands.specs.Lines.{lines_of}
+use Rattle.hashlink_text.specs.WeightedTranscript.{WeightedLineShows}
+use Rattle.hashlink_text.proofs.Progress.{HasCome}
+use Rattle.hashlink_text.proofs.weighted_text.run_weighted_lines.Given as goal
+
+abbrev pub invariant-loop-line : goal.invariant-loop-line
+invariant-loop-line l = (written : List ℕ)
+    × HasCome WeightedLineShows l.initial.cache l.cache (lines_of l.fn.lines.rest.now)
+    (lines_of l.line-iterator.rest.now) written
+    × (string_bytes l.out ≡ string_bytes l.fn.out ++ written)

@@ -1,0 +1,52 @@
+-- What answers a line to a cache, and a line to two caches.
+use Rattle.std.specs.Prelude.{◌≡◌, ℕ, List, ◌∷◌, ◌++◌, length, codes, decimal, nat_eq, Option, None, Some}
+use Rattle.hashlink_model.specs.Cache.{CacheState}
+use Rattle.hashlink_model.specs.CacheRuns.{answer_to, after_event}
+use Rattle.hashlink_commands.specs.CachesSay.{cache_says, pair_says}
+use Rattle.hashlink_commands.specs.declared.cache_commands.PairCommand.{PairCommand}
+use Rattle.hashlink_commands.specs.declared.cache_line.CacheLine.{CacheLine}
+use Rattle.hashlink_commands.specs.declared.cache_line.CacheLine.TheVariants.{Do, Len, Iter}
+use Rattle.hashlink_commands.specs.declared.replies.Reply.{Reply}
+use Rattle.hashlink_run.specs.CacheCalls.{event_of}
+use Rattle.hashlink_run.specs.CacheStep.{CacheStep}
+use Rattle.hashlink_text.specs.Transcript.{Itself, ended, shown_by, list_shown, replies_shown}
+use Rattle.hashlink_text.specs.declared.shown.Form.TheVariants.{OfValue}
+
+module _ {S : Type 0} where
+  -- from old, this text may answer what a line says, and the cache goes on to new; a bad line changes nothing
+  abbrev pub CacheShows : CacheState ℕ ℕ S → Option CacheLine → List ℕ → CacheState ℕ ℕ S → Type 0
+  CacheShows old None text new = (text ≡ codes "bad") × (new ≡ old)
+  CacheShows old (Some Len) text new = (text ≡ decimal (length old.map.entries)) × (new ≡ old)
+  CacheShows old (Some Iter) text new = (text ≡ list_shown old.map.entries) × (new ≡ old)
+  CacheShows old (Some (Do command)) text new =
+      (replies : List (Reply ℕ ℕ (ℕ × ℕ))) × CacheStep nat_eq Itself old command replies new
+      × (text ≡ replies_shown OfValue replies)
+
+  abbrev pub CacheLineShows : CacheState ℕ ℕ S → List ℕ → List ℕ → CacheState ℕ ℕ S → Type 0
+  CacheLineShows old line text new = CacheShows old (cache_says line) text new
+
+-- ---- two caches, by what they hold
+
+abbrev pub Held : Type 0
+Held = List (ℕ × ℕ) × List (ℕ × ℕ)
+
+-- what the two caches answer to a command
+abbrev pub answers_shown : Held → PairCommand ℕ ℕ → List ℕ
+answers_shown held command =
+    shown_by decimal (answer_to nat_eq held.0 (event_of command))
+    ++ (32 ∷ shown_by decimal (answer_to nat_eq held.1 (event_of command)))
+
+module _ (c d : ℕ) where
+  -- of two caches of capacities c and d, none of whose inserts is refused
+  abbrev pub PairShows : Held → Option (PairCommand ℕ ℕ) → List ℕ → Held → Type 0
+  PairShows old None text new = (text ≡ codes "bad") × (new ≡ old)
+  PairShows old (Some command) text new =
+      (text ≡ answers_shown old command)
+      × (new ≡ (after_event nat_eq c old.0 (event_of command), after_event nat_eq d old.1 (event_of command)))
+
+  abbrev pub PairLineShows : Held → List ℕ → List ℕ → Held → Type 0
+  PairLineShows old line text new = PairShows old (pair_says line) text new
+
+-- what both hold, a line for each
+abbrev pub lists_shown : Held → List ℕ
+lists_shown held = ended (list_shown held.0) ++ ended (list_shown held.1)

@@ -1,0 +1,87 @@
+//! Lines to two caches, and what they hold at the end.
+ghost use Rattle.std.specs.Prelude.{◌≡◌, ◌++◌, ◌∷◌, ℕ, List, Some, OnOk, decimal, string_bytes};
+ghost use Rattle.hashlink_core.specs.declared.hash_builder.DefaultHashBuilder.{DefaultHashBuilder};
+ghost use Rattle.hashlink_commands.specs.CachesSay.{pair_says};
+ghost use Rattle.hashlink_commands.specs.Lines.{lines_of};
+ghost use Rattle.hashlink_commands.specs.declared.modes.Mode.TheVariants.{Pair};
+ghost use Rattle.hashlink_lru.specs.Cached.{entries_in, state_in};
+ghost use Rattle.hashlink_text.specs.CacheTranscript.{PairShows, lists_shown};
+ghost use Rattle.hashlink_text.specs.Text.{ModeRun};
+ghost use Rattle.hashlink_text.specs.Transcript.{ended, shown_by};
+
+use crate::shown::Form;
+use crate::text::{push_list, push_reply};
+use hashlink_commands::{Lines, Reply, pair_command};
+use hashlink_lru::LruCache;
+use hashlink_run::answer_call;
+use std::alloc::{AllocError, Global};
+
+// Answers the lines from two empty caches of these capacities on, and shows what they hold. An insert that is
+// refused is as memory that is refused for the answer.
+pub(crate) fn run_pair_lines(
+    alloc: Global,
+    small_capacity: usize,
+    large_capacity: usize,
+    lines: Lines<'_>,
+    out: &mut String,
+) -> Result<(), AllocError>
+    ensures { OnOk result ((text : List ℕ)
+        × ModeRun DefaultHashBuilder (Some (Pair small_capacity large_capacity))
+        (lines_of lines.entry.rest.now) text
+        × (string_bytes out.new ≡ string_bytes out.old ++ text)) }
+{
+    let mut small = LruCache::new(alloc, small_capacity);
+    let mut large = LruCache::new(alloc, large_capacity);
+    for line in lines {
+        answer_pair_line(&mut small, &mut large, line, out)?;
+    }
+    push_lists(&small, &large, out)?;
+    Ok(())
+}
+
+// Answers one line.
+fn answer_pair_line(
+    small: &mut LruCache<u64, u64>,
+    large: &mut LruCache<u64, u64>,
+    line: &[u8],
+    out: &mut String,
+) -> Result<(), AllocError>
+    ensures shown { OnOk result ((text : List ℕ)
+        × PairShows (state_in small.old).cap (state_in large.old).cap
+        (entries_in small.old, entries_in large.old)
+        (pair_says line.now) text (entries_in small.new, entries_in large.new)
+        × (string_bytes out.new ≡ string_bytes out.old ++ ended text)) }
+    ensures small_capacity { OnOk result ((state_in small.new).cap ≡ (state_in small.old).cap) }
+    ensures large_capacity { OnOk result ((state_in large.new).cap ≡ (state_in large.old).cap) }
+{
+    let Some(command) = pair_command(line) else {
+        return writeln!(out, "bad");
+    };
+    let small_answer = answer_call(small, command)?;
+    let large_answer = answer_call(large, command)?;
+    push_answers(small_answer, large_answer, out)
+}
+
+// The line that shows both answers.
+fn push_answers(small: Option<u64>, large: Option<u64>, out: &mut String) -> Result<(), AllocError>
+    ensures { OnOk result (string_bytes out.new
+        ≡ string_bytes out.old ++ ended (shown_by decimal small ++ (32 ∷ shown_by decimal large))) }
+{
+    push_reply(Form::OfValue, Reply::Value(small), out)?;
+    write!(out, " ")?;
+    push_reply(Form::OfValue, Reply::Value(large), out)?;
+    writeln!(out)
+}
+
+// A line for each cache that shows what it holds.
+fn push_lists(
+    small: &LruCache<u64, u64>,
+    large: &LruCache<u64, u64>,
+    out: &mut String,
+) -> Result<(), AllocError>
+    ensures { OnOk result (string_bytes out.new
+        ≡ string_bytes out.old ++ lists_shown (entries_in small.now, entries_in large.now)) }
+{
+    push_list(small.iter(), out)?;
+    push_list(large.iter(), out)
+}

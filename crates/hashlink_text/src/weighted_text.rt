@@ -1,0 +1,94 @@
+//! Lines to a cache with a budget.
+ghost use Rattle.std.specs.Prelude.{◌≡◌, ◌++◌, ℕ, List, Some, OnOk, decimal, string_bytes};
+ghost use Rattle.hashlink_core.specs.declared.hash_builder.DefaultHashBuilder.{DefaultHashBuilder};
+ghost use Rattle.hashlink_commands.specs.CachesSay.{weighted_says};
+ghost use Rattle.hashlink_commands.specs.Lines.{lines_of};
+ghost use Rattle.hashlink_commands.specs.declared.modes.Mode.TheVariants.{Weighted};
+ghost use Rattle.hashlink_text.specs.Text.{ModeRun};
+ghost use Rattle.hashlink_text.specs.Transcript.{ended, list_shown, shown_by};
+ghost use Rattle.hashlink_text.specs.WeightedTranscript.{WeightedShows, insert_shown, pairs_of};
+
+use hashlink_commands::{Lines, WeightedLine};
+use hashlink_weighted::{WeightError, WeightedCache, WeightedIter};
+use std::alloc::{AllocError, Global};
+
+// Answers the lines from an empty cache of this budget on.
+pub(crate) fn run_weighted_lines(
+    alloc: Global,
+    budget: u64,
+    lines: Lines<'_>,
+    out: &mut String,
+) -> Result<(), AllocError>
+    ensures { OnOk result ((text : List ℕ)
+        × ModeRun DefaultHashBuilder (Some (Weighted budget)) (lines_of lines.entry.rest.now) text
+        × (string_bytes out.new ≡ string_bytes out.old ++ text)) }
+{
+    let mut cache = WeightedCache::new(alloc, budget);
+    for line in lines {
+        answer_weighted_line(&mut cache, line, out)?;
+    }
+    Ok(())
+}
+
+// Answers one line.
+fn answer_weighted_line(
+    cache: &mut WeightedCache<u64, u64>,
+    line: &[u8],
+    out: &mut String,
+) -> Result<(), AllocError>
+    ensures { OnOk result ((text : List ℕ)
+        × WeightedShows cache.old (weighted_says line.now) text cache.new
+        × (string_bytes out.new ≡ string_bytes out.old ++ ended text)) }
+{
+    match WeightedLine::parse(line) {
+        Some(WeightedLine::Insert(key, value, weight)) => {
+            push_inserted(cache.insert(key, value, weight), out)
+        }
+        Some(WeightedLine::Get(key)) => push_value(cache.get(&key).copied(), out),
+        Some(WeightedLine::Peek(key)) => push_value(cache.peek(&key).copied(), out),
+        Some(WeightedLine::Remove(key)) => push_value(cache.remove(&key), out),
+        Some(WeightedLine::Total) => writeln!(out, "{}", cache.total()),
+        Some(WeightedLine::Len) => writeln!(out, "{}", cache.len()),
+        Some(WeightedLine::Iter) => push_pairs(cache.iter(), out),
+        None => writeln!(out, "bad"),
+    }
+}
+
+// The line that shows what an insert answered.
+fn push_inserted(
+    answer: Result<Option<u64>, WeightError<u64, u64>>,
+    out: &mut String,
+) -> Result<(), AllocError>
+    ensures { OnOk result (string_bytes out.new ≡ string_bytes out.old ++ ended (insert_shown answer)) }
+{
+    match answer {
+        Ok(old) => push_value(old, out),
+        Err(WeightError::TooHeavy(_)) => writeln!(out, "heavy"),
+        Err(WeightError::Memory(_)) => writeln!(out, "memory"),
+    }
+}
+
+// The line that shows a value, or that there is none.
+fn push_value(value: Option<u64>, out: &mut String) -> Result<(), AllocError>
+    ensures { OnOk result (string_bytes out.new ≡ string_bytes out.old ++ ended (shown_by decimal value)) }
+{
+    match value {
+        Some(value) => writeln!(out, "{value}"),
+        None => writeln!(out, "-"),
+    }
+}
+
+// The line that shows the pairs that a walk has left, without their weights.
+fn push_pairs(mut entries: WeightedIter<'_, u64, u64>, out: &mut String) -> Result<(), AllocError>
+    ensures { OnOk result (string_bytes out.new
+        ≡ string_bytes out.old ++ ended (list_shown (pairs_of entries.entry))) }
+{
+    let Some((key, value, _)) = entries.next() else {
+        return writeln!(out, "empty");
+    };
+    write!(out, "{key}:{value}")?;
+    for (key, value, _) in entries {
+        write!(out, " {key}:{value}")?;
+    }
+    writeln!(out)
+}
