@@ -55,9 +55,9 @@ pub use Rattle.hashlink_weighted.specs.Answers
 pub use Rattle.hashlink_weighted.specs.Lends as WeightedLends
 pub use Rattle.hashlink_weighted.specs.Weighed
 pub use Rattle.hashlink_curve.specs.Curve
-pub use Rattle.hashlink_commands.specs.CachesSay
-pub use Rattle.hashlink_commands.specs.Lines
-pub use Rattle.hashlink_commands.specs.Says
+pub use Rattle.hashlink_spelling.specs.CachesSay
+pub use Rattle.hashlink_spelling.specs.Lines
+pub use Rattle.hashlink_spelling.specs.Says
 pub use Rattle.hashlink_run.specs.CacheCalls
 pub use Rattle.hashlink_run.specs.CacheLaws
 pub use Rattle.hashlink_run.specs.CacheRun

@@ -11,7 +11,7 @@ use Rattle.hashlink_core.specs.declared.hash_builder.DefaultHashBuilder.{Default
 use Rattle.hashlink_core.specs.Hashing.{default_builder}
 use Rattle.hashlink_commands.specs.declared.commands.Command.{Command}
 use Rattle.hashlink_commands.specs.declared.commands.Command.TheVariants.{Insert, Get, Remove}
-use Rattle.hashlink_commands.specs.Says.{Do, Iter}
+use Rattle.hashlink_spelling.specs.Says.{Do, Iter}
 use Rattle.hashlink_commands.specs.declared.replies.Reply.{Reply}
 use Rattle.hashlink_commands.specs.declared.replies.Reply.TheVariants.{Value, Seen}
 use Rattle.hashlink_run.specs.Reads.{SaysOf}

@@ -5,7 +5,7 @@ use Rattle.std.specs.Fmt.{digits}
 use Rattle.std.specs.Result.{IsOk}
 use Rattle.std.specs.declared.alloc.AllocError.{AllocError}
 use Rattle.hashlink_model.specs.MapState.{MapState, map_state}
-use Rattle.hashlink_commands.specs.Says.{says}
+use Rattle.hashlink_spelling.specs.Says.{says}
 use Rattle.hashlink_commands.specs.declared.replies.Reply.{Reply}
 use Rattle.hashlink_commands.specs.declared.replies.Reply.TheVariants.{Done, Seen}
 use Rattle.hashlink_run.specs.Reads.{Replies}

@@ -1,10 +1,10 @@
 -- What a line says that was read, and what may answer it.
 use Rattle.std.proofs.Common.{ℕ, List, Some, nat_eq, refl}
 use Rattle.hashlink_model.specs.MapState.{MapState}
-use Rattle.hashlink_commands.specs.Says.{said}
+use Rattle.hashlink_spelling.specs.Says.{said}
 use Rattle.hashlink_commands.specs.declared.commands.Command.{Command}
 use Rattle.hashlink_commands.specs.declared.commands.Command.TheVariants.{Cursor}
-use Rattle.hashlink_commands.specs.declared.line.Line.TheVariants.{Do}
+use Rattle.hashlink_spelling.specs.declared.line.Line.TheVariants.{Do}
 use Rattle.hashlink_commands.specs.declared.replies.Reply.{Reply}
 use Rattle.hashlink_run.specs.Keeps.{IsEven}
 use Rattle.hashlink_run.specs.Step.{Step}

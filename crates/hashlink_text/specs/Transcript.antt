@@ -6,7 +6,7 @@ use Rattle.std.specs.Prelude.{◌≡◌, ℕ, List, [], ◌∷◌, ◌++◌, map
 use Rattle.std.specs.List.{join_with_byte}
 use Rattle.std.specs.Option.{option_map_or}
 use Rattle.hashlink_model.specs.MapState.{MapState}
-use Rattle.hashlink_commands.specs.Says.{Said, Do, Cursor, Iter, says}
+use Rattle.hashlink_spelling.specs.Says.{Said, Do, Cursor, Iter, says}
 use Rattle.hashlink_commands.specs.declared.commands.Command.{Command}
 use Rattle.hashlink_commands.specs.declared.commands.Command.TheVariants as command
 use Rattle.hashlink_commands.specs.declared.commands.Command.TheVariants.{Front, Back, Entry}

@@ -1,9 +1,9 @@
 //! Lines to a cache.
 ghost use Rattle.std.specs.Prelude.{◌≡◌, ◌++◌, ℕ, List, Some, OnOk, string_bytes};
 ghost use Rattle.hashlink_core.specs.declared.hash_builder.DefaultHashBuilder.{DefaultHashBuilder};
-ghost use Rattle.hashlink_commands.specs.CachesSay.{cache_says};
-ghost use Rattle.hashlink_commands.specs.Lines.{lines_of};
-ghost use Rattle.hashlink_commands.specs.declared.modes.Mode.TheVariants.{Cache};
+ghost use Rattle.hashlink_spelling.specs.CachesSay.{cache_says};
+ghost use Rattle.hashlink_spelling.specs.Lines.{lines_of};
+ghost use Rattle.hashlink_spelling.specs.declared.modes.Mode.TheVariants.{Cache};
 ghost use Rattle.hashlink_lru.specs.Cached.{state_in};
 ghost use Rattle.hashlink_text.specs.CacheTranscript.{CacheShows};
 ghost use Rattle.hashlink_text.specs.Text.{ModeRun};
@@ -11,9 +11,9 @@ ghost use Rattle.hashlink_text.specs.Transcript.{ended};
 
 use crate::shown::Form;
 use crate::text::{push_list, push_replies};
-use hashlink_commands::{CacheLine, Lines};
 use hashlink_lru::LruCache;
 use hashlink_run::answer_cache;
+use hashlink_spelling::{CacheLine, Lines};
 use std::alloc::{AllocError, Global};
 
 // Answers the lines from an empty cache of this capacity on.

@@ -1,9 +1,9 @@
 //! Lines to two caches, and what they hold at the end.
 ghost use Rattle.std.specs.Prelude.{◌≡◌, ◌++◌, ◌∷◌, ℕ, List, Some, OnOk, decimal, string_bytes};
 ghost use Rattle.hashlink_core.specs.declared.hash_builder.DefaultHashBuilder.{DefaultHashBuilder};
-ghost use Rattle.hashlink_commands.specs.CachesSay.{pair_says};
-ghost use Rattle.hashlink_commands.specs.Lines.{lines_of};
-ghost use Rattle.hashlink_commands.specs.declared.modes.Mode.TheVariants.{Pair};
+ghost use Rattle.hashlink_spelling.specs.CachesSay.{pair_says};
+ghost use Rattle.hashlink_spelling.specs.Lines.{lines_of};
+ghost use Rattle.hashlink_spelling.specs.declared.modes.Mode.TheVariants.{Pair};
 ghost use Rattle.hashlink_lru.specs.Cached.{entries_in, state_in};
 ghost use Rattle.hashlink_text.specs.CacheTranscript.{PairShows, lists_shown};
 ghost use Rattle.hashlink_text.specs.Text.{ModeRun};
@@ -11,9 +11,10 @@ ghost use Rattle.hashlink_text.specs.Transcript.{ended, shown_by};
 
 use crate::shown::Form;
 use crate::text::{push_list, push_reply};
-use hashlink_commands::{Lines, Reply, pair_command};
+use hashlink_commands::Reply;
 use hashlink_lru::LruCache;
 use hashlink_run::answer_call;
+use hashlink_spelling::{Lines, pair_command};
 use std::alloc::{AllocError, Global};
 
 // Answers the lines from two empty caches of these capacities on, and shows what they hold. An insert that is

@@ -1,9 +1,9 @@
 ghost use Rattle.std.specs.Prelude.{◌≡◌, ◌++◌, ℕ, List, IfOk, OnOk, string_bytes};
 ghost use Rattle.hashlink_core.specs.declared.hash_builder.DefaultHashBuilder.{DefaultHashBuilder};
 ghost use Rattle.hashlink_core.specs.Keyed.{state_of};
-ghost use Rattle.hashlink_commands.specs.Lines.{lines_of};
-ghost use Rattle.hashlink_commands.specs.Says.{says};
-ghost use Rattle.hashlink_commands.specs.declared.modes.Mode.TheVariants.{Map};
+ghost use Rattle.hashlink_spelling.specs.Lines.{lines_of};
+ghost use Rattle.hashlink_spelling.specs.Says.{says};
+ghost use Rattle.hashlink_spelling.specs.declared.modes.Mode.TheVariants.{Map};
 ghost use Rattle.hashlink_text.specs.Text.{IsTranscript, ModeRun};
 ghost use Rattle.hashlink_text.specs.Transcript.{Shows, ended, list_shown, form_of, read_shown, reply_shown};
 ghost use Rattle.hashlink_text.specs.Transcript.{replies_shown};
@@ -12,9 +12,10 @@ use crate::cache_text::run_cache_lines;
 use crate::pair_text::run_pair_lines;
 use crate::shown::Form;
 use crate::weighted_text::run_weighted_lines;
-use hashlink_commands::{Command, EntryStep, Line, Lines, Mode, Reply, mode_of};
+use hashlink_commands::{Command, EntryStep, Reply};
 use hashlink_map::{Iter, LinkedHashMap};
 use hashlink_run::answer_command;
+use hashlink_spelling::{Line, Lines, Mode, mode_of};
 use std::alloc::{AllocError, Global};
 
 /// The answer to a text of lines, of which the first names what the others speak to.

@@ -1,14 +1,14 @@
 //! Lines to a cache with a budget.
 ghost use Rattle.std.specs.Prelude.{◌≡◌, ◌++◌, ℕ, List, Some, OnOk, decimal, string_bytes};
 ghost use Rattle.hashlink_core.specs.declared.hash_builder.DefaultHashBuilder.{DefaultHashBuilder};
-ghost use Rattle.hashlink_commands.specs.CachesSay.{weighted_says};
-ghost use Rattle.hashlink_commands.specs.Lines.{lines_of};
-ghost use Rattle.hashlink_commands.specs.declared.modes.Mode.TheVariants.{Weighted};
+ghost use Rattle.hashlink_spelling.specs.CachesSay.{weighted_says};
+ghost use Rattle.hashlink_spelling.specs.Lines.{lines_of};
+ghost use Rattle.hashlink_spelling.specs.declared.modes.Mode.TheVariants.{Weighted};
 ghost use Rattle.hashlink_text.specs.Text.{ModeRun};
 ghost use Rattle.hashlink_text.specs.Transcript.{ended, list_shown, shown_by};
 ghost use Rattle.hashlink_text.specs.WeightedTranscript.{WeightedShows, insert_shown, pairs_of};
 
-use hashlink_commands::{Lines, WeightedLine};
+use hashlink_spelling::{Lines, WeightedLine};
 use hashlink_weighted::{WeightError, WeightedCache, WeightedIter};
 use std::alloc::{AllocError, Global};
 

@@ -9,7 +9,7 @@ use hashlink::run::{
     run_uses,
 };
 use hashlink::{LinkedHashMap, LruCache};
-use hashlink_commands::{CacheLine, Line, pair_command};
+use hashlink_spelling::{CacheLine, Line, pair_command};
 use std::alloc::{AllocError, Global};
 use std::hash::BuildHasher;
 

@@ -1,5 +1,5 @@
 use Rattle.std.proofs.Common.{◌≡◌, ◌++◌, ℕ, List, string_bytes}
-use Rattle.hashlink_commands.specs.Lines.{lines_of}
+use Rattle.hashlink_spelling.specs.Lines.{lines_of}
 use Rattle.hashlink_lru.specs.Cached.{state_in}
 use Rattle.hashlink_text.specs.CacheTranscript.{CacheLineShows}
 use Rattle.hashlink_text.proofs.Progress.{HasCome}

@@ -1,6 +1,6 @@
 use Rattle.std.proofs.Common.{◌≡◌, ◌++◌, ℕ, List, string_bytes}
 use Rattle.hashlink_core.specs.Keyed.{state_of}
-use Rattle.hashlink_commands.specs.Lines.{lines_of}
+use Rattle.hashlink_spelling.specs.Lines.{lines_of}
 use Rattle.hashlink_text.specs.Transcript.{LineShows}
 use Rattle.hashlink_text.proofs.Progress.{HasCome}
 use Rattle.hashlink_text.proofs.text.run_map.Given as goal

@@ -1,5 +1,5 @@
 use Rattle.std.proofs.Common.{◌≡◌, ◌++◌, ℕ, List, string_bytes}
-use Rattle.hashlink_commands.specs.Lines.{lines_of}
+use Rattle.hashlink_spelling.specs.Lines.{lines_of}
 use Rattle.hashlink_text.specs.WeightedTranscript.{WeightedLineShows}
 use Rattle.hashlink_text.proofs.Progress.{HasCome}
 use Rattle.hashlink_text.proofs.weighted_text.run_weighted_lines.Given as goal
