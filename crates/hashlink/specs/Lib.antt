@@ -41,6 +41,8 @@ pub use Rattle.hashlink_map.specs.Reading
 pub use Rattle.hashlink_map.specs.Standing
 pub use Rattle.hashlink_map.specs.TryInsert
 pub use Rattle.hashlink_map.specs.WritingWalk
+pub use Rattle.hashlink_algebra.specs.Elements as SetElements
+pub use Rattle.hashlink_algebra.specs.Walks as SetWalks
 pub use Rattle.hashlink_set.specs.Answers as SetAnswers
 pub use Rattle.hashlink_set.specs.Called as SetCalled
 pub use Rattle.hashlink_set.specs.Cloned as SetCloned
@@ -48,7 +50,6 @@ pub use Rattle.hashlink_set.specs.Compared as SetCompared
 pub use Rattle.hashlink_set.specs.Drain as SetDrain
 pub use Rattle.hashlink_set.specs.Made as SetMade
 pub use Rattle.hashlink_set.specs.SetLends
-pub use Rattle.hashlink_set.specs.Walks as SetWalks
 pub use Rattle.hashlink_lru.specs.Cached
 pub use Rattle.hashlink_lru.specs.Lends as CacheLends
 pub use Rattle.hashlink_weighted.specs.Answers

@@ -1,6 +1,4 @@
-pub mod Lookups
 pub mod LentLast
-pub mod Looking
 pub mod Moved
 pub mod OfClones
 pub mod Retaining

@@ -6,4 +6,3 @@ pub mod Compared
 pub mod Drain
 pub mod Made
 pub mod SetLends
-pub mod Walks

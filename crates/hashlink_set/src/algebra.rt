@@ -1,27 +1,20 @@
-//! Set algebra, by lazy walks and by tests. None of these takes memory. A step of a walk hashes each element
-//! that it looks for in the other set, once.
+//! Set algebra, by the lazy walks of `hashlink_algebra` and by tests. None of these takes memory. A step of a
+//! walk hashes each element that it looks for in the other set, once.
 ghost use Rattle.std.specs.Prelude.{◌≡◌};
 ghost use Rattle.std.specs.List.{IsDistinct};
 ghost use Rattle.hashlink_model.specs.Algebra.{difference_of, intersection_of, union_of};
 ghost use Rattle.hashlink_model.specs.Algebra.{symmetric_difference_of};
 ghost use Rattle.hashlink_model.specs.Algebra.{is_subset, is_disjoint};
 ghost use Rattle.hashlink_model.specs.Sets.{elements_of};
-
-mod difference;
-mod intersection;
-mod symmetric_difference;
-mod union;
+ghost use Rattle.hashlink_core.specs.Keyed.{state_of};
 
 use crate::set::LinkedHashSet;
-pub use difference::Difference;
-pub use intersection::Intersection;
+use hashlink_algebra::{Difference, Intersection, SymmetricDifference, Union};
 use std::hash::{BuildHasher, Hash};
-pub use symmetric_difference::SymmetricDifference;
-pub use union::Union;
 
 impl<T: Eq + Hash, S: BuildHasher> LinkedHashSet<T, S> {
-    ghost use Rattle.hashlink_set.specs.Walks.{difference_rest, intersection_rest, union_rest, union_walk};
-    ghost use Rattle.hashlink_set.specs.Walks.{symmetric_difference_rest, symmetric_difference_walk};
+    ghost use Rattle.hashlink_algebra.specs.Walks.{difference_rest, intersection_rest, union_rest, union_walk};
+    ghost use Rattle.hashlink_algebra.specs.Walks.{symmetric_difference_rest, symmetric_difference_walk};
 
     /// A walk over the elements that `other` lacks, in their order.
     pub fn difference<'a>(&'a self, other: &'a Self) -> Difference<'a, T, S>
@@ -29,13 +22,10 @@ impl<T: Eq + Hash, S: BuildHasher> LinkedHashSet<T, S> {
             ≡ difference_of T.eq (elements_of self.now) (elements_of other.now) }
         ensures unique { IsDistinct T.eq (difference_rest T.eq result) }
         ensures left { result.iter ≡ elements_of self.now }
-        ensures other { result.other.now ≡ other.now }
+        ensures other { state_of result.other.now ≡ other.now }
         ensures distinct { IsDistinct T.eq (elements_of self.now) }
     {
-        Difference {
-            iter: self.iter(),
-            other,
-        }
+        Difference::of(&self.map, &other.map)
     }
 
     /// A walk over the elements that `other` has, in the order of this set.
@@ -44,12 +34,9 @@ impl<T: Eq + Hash, S: BuildHasher> LinkedHashSet<T, S> {
             ≡ intersection_of T.eq (elements_of self.now) (elements_of other.now) }
         ensures unique { IsDistinct T.eq (intersection_rest T.eq result) }
         ensures left { result.iter ≡ elements_of self.now }
-        ensures other { result.other.now ≡ other.now }
+        ensures other { state_of result.other.now ≡ other.now }
     {
-        Intersection {
-            iter: self.iter(),
-            other,
-        }
+        Intersection::of(&self.map, &other.map)
     }
 
     /// A walk over the elements of this set, and then over those of `other` that this set lacks.
@@ -61,12 +48,9 @@ impl<T: Eq + Hash, S: BuildHasher> LinkedHashSet<T, S> {
           right =
               elements_of other.now;
         } }
-        ensures other { result.second.other.now ≡ self.now }
+        ensures other { state_of result.second.other.now ≡ self.now }
     {
-        Union {
-            first: self.iter(),
-            second: other.difference(self),
-        }
+        Union::of(&self.map, &other.map)
     }
 
     /// A walk over the elements that `other` lacks, and then over those of `other` that this set lacks.
@@ -76,13 +60,10 @@ impl<T: Eq + Hash, S: BuildHasher> LinkedHashSet<T, S> {
         ensures unique { IsDistinct T.eq (symmetric_difference_rest T.eq result) }
         ensures walk { symmetric_difference_walk result
             ≡ record { left = elements_of self.now; right = elements_of other.now } }
-        ensures first { result.first.other.now ≡ other.now }
-        ensures second { result.second.other.now ≡ self.now }
+        ensures first { state_of result.first.other.now ≡ other.now }
+        ensures second { state_of result.second.other.now ≡ self.now }
     {
-        SymmetricDifference {
-            first: self.difference(other),
-            second: other.difference(self),
-        }
+        SymmetricDifference::of(&self.map, &other.map)
     }
 
     /// Whether no element of this set is in `other`. It looks for each element of this set, up to the first

@@ -5,7 +5,7 @@ ghost use Rattle.std.specs.Map.Iter.{ShowsInOrder, ShowsInReverse, deref};
 ghost use Rattle.hashlink_model.specs.Sets.{elements_of};
 
 use super::LinkedHashSet;
-use crate::iter::Iter;
+use hashlink_algebra::Iter;
 use std::hash::{BuildHasher, Hash};
 
 impl<T: Eq + Hash, S: BuildHasher> LinkedHashSet<T, S> {
@@ -17,10 +17,6 @@ impl<T: Eq + Hash, S: BuildHasher> LinkedHashSet<T, S> {
         ensures fits { length (elements_of self.now) < 2 ^ 63 }
         ensures distinct { IsDistinct T.eq (elements_of self.now) }
     {
-        // `len` says that no two elements are equal.
-        let _count = self.len();
-        Iter {
-            keys: self.map.keys(),
-        }
+        Iter::of(&self.map)
     }
 }

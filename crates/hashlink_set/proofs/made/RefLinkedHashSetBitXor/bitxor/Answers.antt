@@ -3,7 +3,7 @@ use Rattle.std.proofs.result.Match.{if_ok_then}
 use Rattle.std.specs.List.{IsDistinct}
 use Rattle.hashlink_model.specs.Algebra.{symmetric_difference_of}
 use Rattle.hashlink_model.specs.Sets.{elements_of}
-use Rattle.hashlink_set.specs.Walks.{symmetric_difference_rest, SymmetricDifferenceSteps}
+use Rattle.hashlink_algebra.specs.Walks.{symmetric_difference_rest, SymmetricDifferenceSteps}
 use Rattle.hashlink_set.proofs.OfClones.{is_of_items, given_all}
 use Rattle.hashlink_set.proofs.made.RefLinkedHashSetBitXor.bitxor.Goals as goal
 

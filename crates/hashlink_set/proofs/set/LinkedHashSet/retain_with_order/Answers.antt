@@ -33,3 +33,6 @@ returns-clause-retained g c =
           })
           _ _ _ r.0 r.1),
     )
+
+pub returns-clause-distinct : goal.returns-clause-distinct
+returns-clause-distinct g c = c.retain_with_order.ensures.distinct

@@ -1,17 +1,21 @@
-use Rattle.std.proofs.Common.{◌++◌, sym, ap₂, ◌∙◌, subst}
-use Rattle.std.specs.List.{IsDistinct}
+use Rattle.std.proofs.Common.{ap, ap₂, ◌∙◌}
+use Rattle.hashlink_model.specs.Algebra.{union_of}
 use Rattle.hashlink_model.specs.Sets.{elements_of}
-use Rattle.hashlink_model.proofs.LazyWalks.{filter-all}
-use Rattle.hashlink_model.proofs.Members.{IsDistinct-union}
+use Rattle.hashlink_core.specs.Keyed.{state_of}
 use Rattle.hashlink_set.proofs.set.LinkedHashSet.union.Goals as goal
 
 pub returns-clause-rest : goal.returns-clause-rest
 returns-clause-rest g c =
-    ap₂ (λ xs ys. xs ++ ys) (filter-all c.iter.result ∙ c.iter.ensures.rest) c.difference.ensures.rest
+    c.of.ensures.rest
+    ∙ ap₂ (λ s t. union_of g.T.PartialEq.eq (elements_of s) (elements_of t)) c.self.view_is c.other.view_is
 
 pub returns-clause-unique : goal.returns-clause-unique
-returns-clause-unique g c =
-    let eq = g.T.PartialEq.eq in
-    subst (IsDistinct eq) (sym (returns-clause-rest g c))
-    (IsDistinct-union eq g.met.T.Eq.laws (elements_of c.args.self.now) (elements_of c.args.other.now)
-    c.iter.ensures.distinct c.difference.ensures.distinct)
+returns-clause-unique g c = c.of.ensures.unique
+
+pub returns-clause-walk : goal.returns-clause-walk
+returns-clause-walk g c =
+    c.of.ensures.walk
+    ∙ ap₂ (λ s t. record { left = elements_of s; right = elements_of t }) c.self.view_is c.other.view_is
+
+pub returns-clause-other : goal.returns-clause-other
+returns-clause-other g c = ap state_of c.of.ensures.other ∙ c.self.view_is

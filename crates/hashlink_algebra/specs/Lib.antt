@@ -1,0 +1,3 @@
+-- What the contracts of the walks cite, beside `hashlink_model`.
+pub mod Elements
+pub mod Walks

@@ -1,0 +1,17 @@
+//! The walks over the elements of a set, and the lazy ones over two sets. A set is a map with nothing as
+//! value, and a walk holds the maps of its sets. None of these takes memory. A step over two sets hashes each
+//! element that it looks for in the other set, once.
+#![tactic(auto)]
+
+mod difference;
+mod intersection;
+mod iter;
+mod lookup;
+mod symmetric_difference;
+mod union;
+
+pub use difference::Difference;
+pub use intersection::Intersection;
+pub use iter::Iter;
+pub use symmetric_difference::SymmetricDifference;
+pub use union::Union;
