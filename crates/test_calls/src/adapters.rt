@@ -1,8 +1,8 @@
 //! Loops, std's adapters, and iterators past their end.
-use crate::few::{Map, cache_of, map_of, set_of};
-use hashlink::LinkedHashSet;
+use crate::few::{Map, cache_of, map_of, passes, set_of};
 use hashlink::linked_hash_map::{Iter, Keys, Values};
-use std::alloc::Global;
+use hashlink::{LinkedHashSet, LruCache};
+use std::process::ExitCode;
 
 /// The keys as digits, by a loop.
 fn digits(map: &Map) -> u32 {
@@ -39,41 +39,37 @@ fn greatest_key(keys: Keys<'_, u32, u32>) -> Option<u32> {
     keys.copied().max()
 }
 
-/// Which of keys, values and entries go backwards.
-fn backwards(map: &Map) -> [bool; 3] {
-    [
-        keys_go_backwards(map.keys()),
-        values_go_backwards(map.values()),
-        entries_go_backwards(map.iter()),
-    ]
+/// Whether a map of four goes backwards by std's adapters.
+fn goes_backwards(map: &Map) -> bool {
+    keys_go_backwards(map.keys())
+        & values_go_backwards(map.values())
+        & entries_go_backwards(map.iter())
+}
+
+/// Whether the same map goes through a loop and std's adapters.
+fn goes_forwards(map: &Map) -> bool {
+    (digits(map) == 3124)
+        & (count_above(map.iter(), 15) == 3)
+        & (sum_of_values(map.values()) == 100)
+        & (greatest_key(map.keys()) == Some(4))
 }
 
 #[test]
-fn a_map_goes_through_loops_and_adapters(rt: HostRuntime) {
+fn a_map_goes_through_loops_and_adapters(rt: HostRuntime) -> ExitCode {
     let map = map_of(rt.alloc(), &[(3, 30), (1, 10), (2, 20), (4, 40)]);
-    let counted = (count_above(map.iter(), 15), sum_of_values(map.values()));
-    let seen = (
-        digits(&map),
-        backwards(&map),
-        counted,
-        greatest_key(map.keys()),
-    );
-    assert_eq!(rt; seen, (3124, [true; 3], (3, 100), Some(4)));
+    passes(goes_forwards(&map) & goes_backwards(&map))
 }
 
-/// The first pair of a borrowed cache, and how many are left.
-fn first_of_cache(alloc: Global) -> (Option<(u32, u32)>, usize) {
-    let cache = cache_of(alloc, 2, &[(3, 3), (1, 1), (2, 2)]);
-    let mut entries = (&cache).into_iter();
-    match entries.next() {
-        Some((key, value)) => (Some((*key, *value)), entries.len()),
-        None => (None, 0),
-    }
+/// Whether a loop over a borrowed cache begins with the pair of ones, and goes over one more.
+fn begins_with_one(cache: &LruCache<u32, u32>) -> bool {
+    let mut entries = cache.into_iter();
+    (entries.next() == Some((&1, &1))) & (entries.len() == 1)
 }
 
 #[test]
-fn a_borrowed_cache_is_iterated(rt: HostRuntime) {
-    assert_eq!(rt; first_of_cache(rt.alloc()), (Some((1, 1)), 1));
+fn a_borrowed_cache_is_iterated(rt: HostRuntime) -> ExitCode {
+    let cache = cache_of(rt.alloc(), 2, &[(3, 3), (1, 1), (2, 2)]);
+    passes(begins_with_one(&cache))
 }
 
 /// The elements as digits, by a loop.
@@ -110,37 +106,30 @@ fn difference_stays_ended(left: &Set, right: &Set) -> bool {
     apart.by_ref().copied().eq([2]) & ((apart.next(), apart.size_hint()) == ENDED)
 }
 
-/// Which iterators over two sets stay ended.
-fn stay_ended(left: &Set, right: &Set) -> [bool; 4] {
-    [
-        union_stays_ended(left, right),
-        symmetric_difference_stays_ended(left, right),
-        intersection_stays_ended(left, right),
-        difference_stays_ended(left, right),
-    ]
+/// Whether the iterators over two sets stay ended.
+fn stay_ended(left: &Set, right: &Set) -> bool {
+    union_stays_ended(left, right)
+        & symmetric_difference_stays_ended(left, right)
+        & intersection_stays_ended(left, right)
+        & difference_stays_ended(left, right)
 }
 
-/// The first elements of iterators over two sets, which then end.
-fn first_elements(left: &Set, right: &Set) -> [Option<u32>; 4] {
-    [
-        left.union(right).next().copied(),
-        left.symmetric_difference(right).next().copied(),
-        left.intersection(right).next().copied(),
-        left.difference(right).next().copied(),
-    ]
+/// Whether iterators over two sets, which then end, begin with these elements.
+fn begin_with_first(left: &Set, right: &Set) -> bool {
+    (left.union(right).next() == Some(&2))
+        & (left.symmetric_difference(right).next() == Some(&2))
+        & (left.intersection(right).next() == Some(&1))
+        & (left.difference(right).next() == Some(&2))
+}
+
+/// Whether a set goes through a loop, and is not equal to another one.
+fn is_read(left: &Set, right: &Set) -> bool {
+    (digits_of_set(left) == 21) & (left != right)
 }
 
 #[test]
-fn iterators_over_two_sets_end_early_and_stay_ended(rt: HostRuntime) {
+fn iterators_over_two_sets_end_early_and_stay_ended(rt: HostRuntime) -> ExitCode {
     let (left, right) = (set_of(rt.alloc(), &[2, 1]), set_of(rt.alloc(), &[3, 1]));
-    let seen = (
-        digits_of_set(&left),
-        left == right,
-        stay_ended(&left, &right),
-    );
-    let first = first_elements(&left, &right);
-    assert_eq!(rt;
-        (seen, first),
-        ((21, false, [true; 4]), [Some(2), Some(2), Some(1), Some(2)])
-    );
+    let is_read = is_read(&left, &right) & begin_with_first(&left, &right);
+    passes(is_read & stay_ended(&left, &right))
 }

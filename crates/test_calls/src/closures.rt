@@ -1,7 +1,8 @@
 //! How often closures are called, and on what.
-use crate::few::{Map, one_to_three, set_of};
+use crate::few::{Map, one_to_three, passes, set_of};
 use std::alloc::Global;
 use std::cell::Cell;
+use std::process::ExitCode;
 
 /// Counts a call.
 fn count(calls: &Cell<u32>) {
@@ -35,12 +36,17 @@ fn calls_of_raw_entry(map: &mut Map, key: u32) -> (u32, u32) {
     (modified.get(), made.get())
 }
 
+/// Whether of the two closures one is called, for 2, which is there, and for 4 and 5, which are not.
+fn each_is_called_once(map: &mut Map) -> bool {
+    (calls_of_entry(map, 2) == (1, 0))
+        & (calls_of_raw_entry(map, 2) == (1, 0))
+        & (calls_of_entry(map, 4) == (0, 1))
+        & (calls_of_raw_entry(map, 5) == (0, 1))
+}
+
 #[test]
-fn an_entry_modifies_what_is_there_and_makes_what_is_not(rt: HostRuntime) {
-    let mut map = one_to_three(rt.alloc());
-    let there = [calls_of_entry(&mut map, 2), calls_of_raw_entry(&mut map, 2)];
-    let absent = [calls_of_entry(&mut map, 4), calls_of_raw_entry(&mut map, 5)];
-    assert_eq!(rt; (there, absent), ([(1, 0); 2], [(0, 1); 2]));
+fn an_entry_modifies_what_is_there_and_makes_what_is_not(rt: HostRuntime) -> ExitCode {
+    passes(each_is_called_once(&mut one_to_three(rt.alloc())))
 }
 
 /// The keys of which retains of a map ask, and how many are left.
@@ -74,7 +80,7 @@ fn retains_of_set(alloc: Global) -> (u32, usize) {
 }
 
 #[test]
-fn retains_ask_of_each_item_once_front_to_back(rt: HostRuntime) {
-    let asked = [retains_of_map(rt.alloc()), retains_of_set(rt.alloc())];
-    assert_eq!(rt; asked, [(12_313, 1); 2]);
+fn retains_ask_of_each_item_once_front_to_back(rt: HostRuntime) -> ExitCode {
+    let asked_of_map = retains_of_map(rt.alloc()) == (12_313, 1);
+    passes(asked_of_map & (retains_of_set(rt.alloc()) == (12_313, 1)))
 }

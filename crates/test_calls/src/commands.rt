@@ -1,9 +1,9 @@
-//! Lists of commands with keys that are equal and yet differ, and a removal with an insert in one run.
-use crate::few::map_of;
-use hashlink::LinkedHashMap;
+//! Lists of commands with keys that are equal and yet differ.
+use crate::few::{map_of, passes};
 use hashlink::run::{Command, EntryStep, PairCommand, Reply, run, run_pair};
-use hashlink_uses::commands::remove_then_insert;
+use hashlink::{LinkedHashMap, LruCache};
 use std::alloc::{AllocError, Global};
+use std::process::ExitCode;
 use test_keys::Numbered;
 
 /// A key of this group.
@@ -28,42 +28,38 @@ fn run_after_insert(
 }
 
 #[test]
-fn a_run_keeps_the_key_that_is_stored(rt: HostRuntime) {
+fn a_run_keeps_the_key_that_is_stored(rt: HostRuntime) -> ExitCode {
     let insert = Command::Insert(key(1, 2), 11);
     let ran = run_after_insert(rt.alloc(), insert, Command::Get(key(1, 3)));
-    assert!(rt;
-        ran.is_ok_and(|(replies, first)| {
-            first == Some((1, 11))
-                && matches!(
-                    replies.as_slice(),
-                    [
-                        Reply::Value(None),
-                        Reply::Value(Some(10)),
-                        Reply::Seen(Some(true))
-                    ]
-                )
-        })
-    );
+    passes(ran.is_ok_and(|(replies, first)| {
+        first == Some((1, 11))
+            && matches!(
+                replies.as_slice(),
+                [
+                    Reply::Value(None),
+                    Reply::Value(Some(10)),
+                    Reply::Seen(Some(true))
+                ]
+            )
+    }))
 }
 
 #[test]
-fn a_run_hands_out_the_key_that_was_stored(rt: HostRuntime) {
+fn a_run_hands_out_the_key_that_was_stored(rt: HostRuntime) -> ExitCode {
     let replace = Command::Entry(key(1, 2), EntryStep::ReplaceKey);
     let remove = Command::Entry(key(1, 3), EntryStep::RemoveEntry);
     let ran = run_after_insert(rt.alloc(), replace, remove);
-    assert!(rt;
-        ran.is_ok_and(|(replies, first)| {
-            first.is_none()
-                && matches!(
-                    replies.as_slice(),
-                    [
-                        Reply::Value(None),
-                        Reply::Key(Some(Numbered { number: 1, .. })),
-                        Reply::Pair(Some((Numbered { number: 2, .. }, 10))),
-                    ]
-                )
-        })
-    );
+    passes(ran.is_ok_and(|(replies, first)| {
+        first.is_none()
+            && matches!(
+                replies.as_slice(),
+                [
+                    Reply::Value(None),
+                    Reply::Key(Some(Numbered { number: 1, .. })),
+                    Reply::Pair(Some((Numbered { number: 2, .. }, 10))),
+                ]
+            )
+    }))
 }
 
 /// Whether an insert and a question for the length have a reply, and a cursor without steps between none.
@@ -85,14 +81,21 @@ fn run_without_commands(alloc: Global) -> Result<(usize, Option<u32>, usize), Al
 }
 
 #[test]
-fn what_has_no_commands_and_no_steps_has_no_reply(rt: HostRuntime) {
-    assert_eq!(rt; run_without_steps(rt.alloc()), Ok(true));
-    assert_eq!(rt; run_without_commands(rt.alloc()), Ok((1, Some(10), 0)));
+fn what_has_no_commands_and_no_steps_has_no_reply(rt: HostRuntime) -> ExitCode {
+    let no_steps = run_without_steps(rt.alloc()) == Ok(true);
+    passes(no_steps & (run_without_commands(rt.alloc()) == Ok((1, Some(10), 0))))
 }
 
-/// The numbers of the last keys in the smaller and in the larger of two caches, and whether both have
-/// the last value.
-fn last_keys(alloc: Global) -> Result<(Option<u32>, Option<u32>, bool), AllocError> {
+/// The number of the last key of a cache, and the value of the first group.
+type LastKey = (Option<u32>, Option<u32>);
+
+fn last_key(cache: &LruCache<Numbered, u32>) -> LastKey {
+    let number = cache.back().map(|(key, _)| key.number);
+    (number, cache.peek(&key(1, 4)).copied())
+}
+
+/// Those of the smaller and of the larger of two caches.
+fn last_keys(alloc: Global) -> Result<(LastKey, LastKey), AllocError> {
     let commands = [
         PairCommand::Insert(key(1, 1), 10u32),
         PairCommand::Insert(key(2, 1), 20),
@@ -100,27 +103,10 @@ fn last_keys(alloc: Global) -> Result<(Option<u32>, Option<u32>, bool), AllocErr
         PairCommand::Use(key(1, 3), 12),
     ];
     let pair = run_pair(alloc, 1, 2, &commands)?;
-    let small = pair.small.back().map(|(key, _)| key.number);
-    let large = pair.large.back().map(|(key, _)| key.number);
-    let values = (pair.small.peek(&key(1, 4)), pair.large.peek(&key(1, 4)));
-    Ok((small, large, values == (Some(&11), Some(&11))))
+    Ok((last_key(&pair.small), last_key(&pair.large)))
 }
 
 #[test]
-fn the_smaller_of_two_caches_may_hold_another_key_that_is_equal(rt: HostRuntime) {
-    assert_eq!(rt; last_keys(rt.alloc()), Ok((Some(2), Some(1), true)));
-}
-
-#[test]
-fn an_insert_after_a_removal_is_answered(rt: HostRuntime) {
-    let mut map = map_of(rt.alloc(), &[(1, 10)]);
-    let replies = remove_then_insert(rt.alloc(), &mut map, 1, 2, 20);
-    assert!(rt;
-        replies.is_ok_and(|replies| {
-            matches!(
-                replies.as_slice(),
-                [Reply::Value(Some(10)), Reply::Value(None)]
-            )
-        })
-    );
+fn the_smaller_of_two_caches_may_hold_another_key_that_is_equal(rt: HostRuntime) -> ExitCode {
+    passes(last_keys(rt.alloc()) == Ok(((Some(2), Some(11)), (Some(1), Some(11)))))
 }

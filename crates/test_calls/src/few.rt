@@ -1,6 +1,16 @@
 //! Small containers of numbers.
 use hashlink::{LinkedHashMap, LinkedHashSet, LruCache};
 use std::alloc::Global;
+use std::process::ExitCode;
+
+/// How a test ends. It costs its proof less than an assertion, which would be one more way out.
+pub(crate) fn passes(holds: bool) -> ExitCode {
+    if holds {
+        ExitCode::SUCCESS
+    } else {
+        ExitCode::FAILURE
+    }
+}
 
 pub(crate) type Map = LinkedHashMap<u32, u32>;
 

@@ -1,7 +1,9 @@
 //! The default hasher hashes as std's does.
+use crate::few::passes;
 use hashlink::{DefaultHashBuilder, DefaultHasher, LinkedHashMap};
 use std::alloc::Global;
 use std::hash::{BuildHasher, FoldHasher, Hash, Hasher};
+use std::process::ExitCode;
 use std::test::Fail;
 
 /// Feeds a hasher bytes, and numbers of each type.
@@ -39,9 +41,9 @@ fn hashes<H: Hasher>(state: &mut H) -> [u64; 3] {
 }
 
 #[test]
-fn the_default_hasher_hashes_as_that_of_std(rt: HostRuntime) {
+fn the_default_hasher_hashes_as_that_of_std(rt: HostRuntime) -> ExitCode {
     let mut own: DefaultHasher = DefaultHashBuilder::default().build_hasher();
-    assert_eq!(rt; hashes(&mut own), hashes(&mut FoldHasher::default()));
+    passes(hashes(&mut own) == hashes(&mut FoldHasher::default()))
 }
 
 /// The hashes of the hasher of a new map.
@@ -51,11 +53,8 @@ fn hashes_of_map(alloc: Global) -> [u64; 3] {
 }
 
 #[test]
-fn the_hasher_of_a_new_map_hashes_as_that_of_std(rt: HostRuntime) {
-    assert_eq!(rt;
-        hashes_of_map(rt.alloc()),
-        hashes(&mut FoldHasher::default())
-    );
+fn the_hasher_of_a_new_map_hashes_as_that_of_std(rt: HostRuntime) -> ExitCode {
+    passes(hashes_of_map(rt.alloc()) == hashes(&mut FoldHasher::default()))
 }
 
 #[test]

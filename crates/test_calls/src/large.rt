@@ -1,7 +1,9 @@
 //! One large run of each container.
+use crate::few::passes;
 use hashlink::weighted::WeightedCache;
 use hashlink::{LinkedHashMap, LinkedHashSet, LruCache};
 use std::alloc::Global;
+use std::process::ExitCode;
 
 /// More than a million, so that no bound of a million is met by it.
 const MANY: u32 = 1_100_000;
@@ -46,8 +48,8 @@ fn large_set(alloc: Global) -> (usize, bool, bool) {
 }
 
 #[test]
-fn a_large_set_takes_each_element(rt: HostRuntime) {
-    assert_eq!(rt; large_set(rt.alloc()), (1_100_000, true, false));
+fn a_large_set_takes_each_element(rt: HostRuntime) -> ExitCode {
+    passes(large_set(rt.alloc()) == (1_100_000, true, false))
 }
 
 /// How large a cache is, and whether it has the last key that had to leave, and the next one.
@@ -64,8 +66,8 @@ fn large_cache(alloc: Global) -> (usize, bool, bool) {
 }
 
 #[test]
-fn a_large_cache_keeps_the_last_pairs(rt: HostRuntime) {
-    assert_eq!(rt; large_cache(rt.alloc()), (1_000_001, false, true));
+fn a_large_cache_keeps_the_last_pairs(rt: HostRuntime) -> ExitCode {
+    passes(large_cache(rt.alloc()) == (1_000_001, false, true))
 }
 
 /// How large a cache with a budget is, and what it weighs.
@@ -78,6 +80,6 @@ fn large_weighted_cache(alloc: Global) -> (usize, u64) {
 }
 
 #[test]
-fn a_large_cache_with_a_budget_keeps_what_fits(rt: HostRuntime) {
-    assert_eq!(rt; large_weighted_cache(rt.alloc()), (1_000_001, 2_000_002));
+fn a_large_cache_with_a_budget_keeps_what_fits(rt: HostRuntime) -> ExitCode {
+    passes(large_weighted_cache(rt.alloc()) == (1_000_001, 2_000_002))
 }

@@ -37,6 +37,4 @@ mod serving;
 #[cfg(test)]
 mod texts;
 #[cfg(test)]
-mod uses;
-#[cfg(test)]
 mod values;

@@ -1,10 +1,11 @@
 //! Values that are made where the key is absent, and what a cache shows at its ends.
-use crate::few::{Map, cache_of, map_of};
+use crate::few::{Map, cache_of, map_of, passes};
 use hashlink::lru_cache::TryInsertError;
 use hashlink::{LinkedHashMap, LruCache};
 use std::alloc::Global;
 use std::error::Error;
 use std::hash::BuildHasher;
+use std::process::ExitCode;
 use test_keys::SameHash;
 
 type Cache = LruCache<u32, u32>;
@@ -21,8 +22,8 @@ fn shown_ends(alloc: Global) -> ([bool; 4], u64) {
 }
 
 #[test]
-fn a_cache_shows_its_ends_and_its_hasher(rt: HostRuntime) {
-    assert_eq!(rt; shown_ends(rt.alloc()), ([true; 4], 0));
+fn a_cache_shows_its_ends_and_its_hasher(rt: HostRuntime) -> ExitCode {
+    passes(shown_ends(rt.alloc()) == ([true; 4], 0))
 }
 
 /// Adds one to the last value.
@@ -37,10 +38,10 @@ fn add_to_last(map: &mut Map) -> bool {
 }
 
 #[test]
-fn a_map_lends_its_last_value(rt: HostRuntime) {
+fn a_map_lends_its_last_value(rt: HostRuntime) -> ExitCode {
     let mut map = map_of(rt.alloc(), &[(1, 10), (2, 20)]);
     let was_lent = add_to_last(&mut map) & !add_to_last(&mut LinkedHashMap::new(rt.alloc()));
-    assert!(rt; was_lent & map.into_iter().eq([(1, 10), (2, 21)]));
+    passes(was_lent & map.into_iter().eq([(1, 10), (2, 21)]))
 }
 
 /// The value of the key, or this one, and what is then added.
@@ -72,9 +73,9 @@ fn make_in_cache(alloc: Global) -> ([Option<u32>; 4], [bool; 3]) {
 }
 
 #[test]
-fn a_cache_makes_the_value_of_an_absent_key(rt: HostRuntime) {
+fn a_cache_makes_the_value_of_an_absent_key(rt: HostRuntime) -> ExitCode {
     let values = [Some(10), Some(20), Some(12), Some(30)];
-    assert_eq!(rt; make_in_cache(rt.alloc()), (values, [true, true, false]));
+    passes(make_in_cache(rt.alloc()) == (values, [true, true, false]))
 }
 
 /// How many entries a cache without places has that made two values, and after an insert.
@@ -88,8 +89,8 @@ fn make_without_places(alloc: Global) -> [usize; 2] {
 }
 
 #[test]
-fn what_a_cache_without_places_makes_stays_until_the_next_insert(rt: HostRuntime) {
-    assert_eq!(rt; make_without_places(rt.alloc()), [1, 0]);
+fn what_a_cache_without_places_makes_stays_until_the_next_insert(rt: HostRuntime) -> ExitCode {
+    passes(make_without_places(rt.alloc()) == [1, 0])
 }
 
 type Made = Result<u32, TryInsertError<u32, u32, u8>>;
@@ -114,21 +115,21 @@ fn try_in_map(map: &mut Map, key: u32, made: Result<u32, u8>) -> Made {
 const TRIED: [Made; 3] = [Err(TryInsertError::Make(2, 7)), Ok(20), Ok(10)];
 
 #[test]
-fn a_cache_hands_on_that_no_value_was_made(rt: HostRuntime) {
+fn a_cache_hands_on_that_no_value_was_made(rt: HostRuntime) -> ExitCode {
     let mut cache = cache_of(rt.alloc(), 2, &[(1, 10)]);
     let failed = try_in_cache(&mut cache, 2, Err(7));
     let made = try_in_cache(&mut cache, 2, Ok(20));
     let tried = [failed, made, try_in_cache(&mut cache, 1, Err(7))];
-    assert_eq!(rt; (tried, cache.len()), (TRIED, 2));
+    passes((tried, cache.len()) == (TRIED, 2))
 }
 
 #[test]
-fn an_entry_hands_on_that_no_value_was_made(rt: HostRuntime) {
+fn an_entry_hands_on_that_no_value_was_made(rt: HostRuntime) -> ExitCode {
     let mut map = map_of(rt.alloc(), &[(1, 10)]);
     let failed = try_in_map(&mut map, 2, Err(7));
     let made = try_in_map(&mut map, 2, Ok(20));
     let tried = [failed, made, try_in_map(&mut map, 1, Err(7))];
-    assert_eq!(rt; (tried, map.back()), (TRIED, Some((&1, &10))));
+    passes((tried, map.back()) == (TRIED, Some((&1, &10))))
 }
 
 /// Whether this is the text of an error.

@@ -1,10 +1,11 @@
 //! Many items by reference and out of other containers, the calls that no row has, and errors that are
 //! compared.
-use crate::few::{Map, map_of};
+use crate::few::{Map, map_of, passes};
 use hashlink::linked_hash_map::{Entry, ExtendError};
 use hashlink::weighted::WeightError;
 use hashlink::{LinkedHashSet, LruCache};
 use std::alloc::Global;
+use std::process::ExitCode;
 
 const FIRST: [(u32, u32); 2] = [(1, 10), (2, 20)];
 
@@ -35,10 +36,10 @@ fn extend_set_by_reference(alloc: Global) -> bool {
 }
 
 #[test]
-fn containers_take_items_by_reference_and_out_of_others(rt: HostRuntime) {
+fn containers_take_items_by_reference_and_out_of_others(rt: HostRuntime) -> ExitCode {
     let alloc = rt.alloc();
     let taken = [extend_by_reference(alloc), extend_out_of_another(alloc)];
-    assert_eq!(rt; (taken, extend_set_by_reference(alloc)), ([true; 2], true));
+    passes((taken, extend_set_by_reference(alloc)) == ([true; 2], true))
 }
 
 /// How many of forty pairs are in a cache without a bound, and its capacity.
@@ -49,8 +50,8 @@ fn without_bound(alloc: Global) -> (usize, usize) {
 }
 
 #[test]
-fn a_cache_without_a_bound_evicts_nothing(rt: HostRuntime) {
-    assert_eq!(rt; without_bound(rt.alloc()), (40, usize::MAX));
+fn a_cache_without_a_bound_evicts_nothing(rt: HostRuntime) -> ExitCode {
+    passes(without_bound(rt.alloc()) == (40, usize::MAX))
 }
 
 /// Puts a pair by the raw entry of a vacant entry.
@@ -62,19 +63,19 @@ fn put_raw(map: &mut Map, key: u32, value: u32) -> bool {
 }
 
 #[test]
-fn the_raw_entry_of_a_vacant_entry_takes_a_pair(rt: HostRuntime) {
+fn the_raw_entry_of_a_vacant_entry_takes_a_pair(rt: HostRuntime) -> ExitCode {
     let mut map = map_of(rt.alloc(), &[(1, 10)]);
     let is_put = put_raw(&mut map, 2, 20);
-    assert!(rt; is_put & map.into_iter().eq([(1, 10), (2, 20)]));
+    passes(is_put & map.into_iter().eq([(1, 10), (2, 20)]))
 }
 
 #[test]
-fn errors_are_compared_by_what_they_hand_back(rt: HostRuntime) {
+fn errors_are_compared_by_what_they_hand_back(rt: HostRuntime) -> ExitCode {
     let pair = (1u32, 10u32);
     let stopped = ExtendError { taken: 3, pair };
     let unlike = [
         WeightError::TooHeavy(pair) != WeightError::Memory(pair),
         stopped != ExtendError { taken: 2, pair },
     ];
-    assert_eq!(rt; unlike, [true; 2]);
+    passes(unlike == [true; 2])
 }

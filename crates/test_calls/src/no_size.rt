@@ -1,7 +1,9 @@
 //! Keys and values without size.
+use crate::few::passes;
 use hashlink::weighted::WeightedCache;
 use hashlink::{LinkedHashMap, LinkedHashSet, LruCache};
 use std::alloc::Global;
+use std::process::ExitCode;
 
 type Unit = LinkedHashMap<(), ()>;
 
@@ -18,14 +20,11 @@ fn fill_and_empty(map: &mut Unit) -> ([Result<Option<()>, ((), ())>; 3], [Option
 }
 
 #[test]
-fn a_map_of_keys_without_size_has_one_entry(rt: HostRuntime) {
+fn a_map_of_keys_without_size_has_one_entry(rt: HostRuntime) -> ExitCode {
     let mut map = Unit::new(rt.alloc());
     let (inserted, removed) = fill_and_empty(&mut map);
     let answers = ([Ok(None), Ok(Some(())), Ok(None)], [Some(()), None]);
-    assert_eq!(rt;
-        ((inserted, removed), seen(&map)),
-        (answers, (1, 1, Some(())))
-    );
+    passes(((inserted, removed), seen(&map)) == (answers, (1, 1, Some(()))))
 }
 
 /// Whether an element goes in, and once more, and how many there are then.
@@ -35,8 +34,8 @@ fn fill_set(alloc: Global) -> ([Result<bool, ()>; 2], usize) {
 }
 
 #[test]
-fn a_set_of_elements_without_size_has_one(rt: HostRuntime) {
-    assert_eq!(rt; fill_set(rt.alloc()), ([Ok(true), Ok(false)], 1));
+fn a_set_of_elements_without_size_has_one(rt: HostRuntime) -> ExitCode {
+    passes(fill_set(rt.alloc()) == ([Ok(true), Ok(false)], 1))
 }
 
 /// Two inserts into a cache, a read and a removal.
@@ -66,13 +65,10 @@ fn kept(alloc: Global, capacity: usize) -> (usize, bool, bool) {
 }
 
 #[test]
-fn a_cache_of_values_without_size_keeps_the_last_keys(rt: HostRuntime) {
+fn a_cache_of_values_without_size_keeps_the_last_keys(rt: HostRuntime) -> ExitCode {
     let alloc = rt.alloc();
     let kept = [kept(alloc, 0), kept(alloc, 2), kept(alloc, usize::MAX)];
-    assert_eq!(rt;
-        kept,
-        [(0, false, false), (2, true, false), (3, true, true)]
-    );
+    passes(kept == [(0, false, false), (2, true, false), (3, true, true)])
 }
 
 /// What a key weighs that is put in twice, and how often it is there.
@@ -84,13 +80,13 @@ fn weigh_twice(alloc: Global) -> (bool, bool, usize, u64) {
 }
 
 #[test]
-fn a_cache_with_a_budget_weighs_a_key_without_size_once(rt: HostRuntime) {
-    assert_eq!(rt; weigh_twice(rt.alloc()), (true, true, 1, 3));
+fn a_cache_with_a_budget_weighs_a_key_without_size_once(rt: HostRuntime) -> ExitCode {
+    passes(weigh_twice(rt.alloc()) == (true, true, 1, 3))
 }
 
 #[test]
-fn values_without_size_stand_beside_their_keys(rt: HostRuntime) {
+fn values_without_size_stand_beside_their_keys(rt: HostRuntime) -> ExitCode {
     let mut map = LinkedHashMap::new(rt.alloc());
     let _taken = map.extend([(3u32, ()), (1, ()), (2, ()), (1, ())]);
-    assert!(rt; map.keys().copied().eq([3, 2, 1]));
+    passes(map.keys().copied().eq([3, 2, 1]))
 }

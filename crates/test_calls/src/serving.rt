@@ -1,7 +1,9 @@
 //! What a program reads and writes, with readers and writers that fail.
+use crate::few::passes;
 use hashlink::run::{Fault, serve};
 use std::alloc::{AllocError, Global};
 use std::io::{self, ErrorKind, Read, Write};
+use std::process::ExitCode;
 
 /// Whether the answer to a text follows what was written before.
 fn is_appended(alloc: Global) -> Result<bool, AllocError> {
@@ -12,8 +14,8 @@ fn is_appended(alloc: Global) -> Result<bool, AllocError> {
 }
 
 #[test]
-fn the_answer_follows_what_was_written_before(rt: HostRuntime) {
-    assert_eq!(rt; is_appended(rt.alloc()), Ok(true));
+fn the_answer_follows_what_was_written_before(rt: HostRuntime) -> ExitCode {
+    passes(is_appended(rt.alloc()) == Ok(true))
 }
 
 // A file that cannot be read for want of memory.
@@ -58,18 +60,18 @@ fn fail_to_read<R: Read + Drop>(alloc: Global, end: R) -> (Result<(), Fault>, us
 }
 
 #[test]
-fn failed_read_writes_nothing(rt: HostRuntime) {
+fn failed_read_writes_nothing(rt: HostRuntime) -> ExitCode {
     let broken = fail_to_read(rt.alloc(), Broken);
     let without_memory = fail_to_read(rt.alloc(), WithoutMemory);
     let faults = [(Err(Fault::Reading), 0), (Err(Fault::Memory), 0)];
-    assert_eq!(rt; [broken, without_memory], faults);
+    passes([broken, without_memory] == faults)
 }
 
 #[test]
-fn failed_write_is_a_fault(rt: HostRuntime) {
+fn failed_write_is_a_fault(rt: HostRuntime) -> ExitCode {
     let of_text = serve(rt.alloc(), &mut b"map\niter\n".as_slice(), &mut Broken);
     let of_nothing = serve(rt.alloc(), &mut b"".as_slice(), &mut Broken);
-    assert_eq!(rt; [of_text, of_nothing], [Err(Fault::Writing); 2]);
+    passes([of_text, of_nothing] == [Err(Fault::Writing); 2])
 }
 
 /// Whether this is the text of a fault.
@@ -81,11 +83,11 @@ fn says(alloc: Global, fault: Fault, wanted: &str) -> bool {
 }
 
 #[test]
-fn a_fault_says_what_failed(rt: HostRuntime) {
+fn a_fault_says_what_failed(rt: HostRuntime) -> ExitCode {
     let texts = [
         says(rt.alloc(), Fault::Reading, "linkrun: reading failed"),
         says(rt.alloc(), Fault::Memory, "linkrun: no memory"),
         says(rt.alloc(), Fault::Writing, "linkrun: writing failed"),
     ];
-    assert_eq!(rt; texts, [true; 3]);
+    passes(texts == [true; 3])
 }

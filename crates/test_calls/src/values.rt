@@ -1,8 +1,9 @@
 //! Values that are not equal to themselves, what a hasher is fed, and hashers that are lent.
-use crate::few::map_of;
+use crate::few::{map_of, passes};
 use hashlink::{LinkedHashMap, LinkedHashSet};
 use std::alloc::Global;
 use std::hash::{BuildHasher, FoldHasher, Hash, Hasher};
+use std::process::ExitCode;
 use test_keys::SameHash;
 
 /// Whether a map with a value that equals nothing is equal to itself, and whether it is compared.
@@ -13,8 +14,8 @@ fn not_itself(alloc: Global) -> (bool, bool) {
 }
 
 #[test]
-fn a_map_with_a_value_that_equals_nothing_is_not_equal_to_itself(rt: HostRuntime) {
-    assert_eq!(rt; not_itself(rt.alloc()), (false, false));
+fn a_map_with_a_value_that_equals_nothing_is_not_equal_to_itself(rt: HostRuntime) -> ExitCode {
+    passes(not_itself(rt.alloc()) == (false, false))
 }
 
 /// The hash of what a hasher is fed.
@@ -25,9 +26,9 @@ fn fed<T: Hash>(value: &T) -> u64 {
 }
 
 #[test]
-fn a_hasher_is_fed_key_and_value_in_order_and_no_length(rt: HostRuntime) {
+fn a_hasher_is_fed_key_and_value_in_order_and_no_length(rt: HostRuntime) -> ExitCode {
     let hash = fed(&map_of(rt.alloc(), &[(2, 20), (1, 10)]));
-    assert_eq!(rt; hash, fed(&(2u32, 20u32, 1u32, 10u32)));
+    passes(hash == fed(&(2u32, 20u32, 1u32, 10u32)))
 }
 
 /// The set of 2 and 1, with a hasher that gives each the hash 0.
@@ -38,8 +39,8 @@ fn two_and_one(alloc: Global) -> LinkedHashSet<u32, SameHash> {
 }
 
 #[test]
-fn a_hasher_is_fed_the_elements_in_order_and_no_length(rt: HostRuntime) {
-    assert_eq!(rt; fed(&two_and_one(rt.alloc())), fed(&(2u32, 1u32)));
+fn a_hasher_is_fed_the_elements_in_order_and_no_length(rt: HostRuntime) -> ExitCode {
+    passes(fed(&two_and_one(rt.alloc())) == fed(&(2u32, 1u32)))
 }
 
 /// The hash of a number by the hashers of a map and of a set.
@@ -50,6 +51,6 @@ fn lent(alloc: Global) -> [u64; 2] {
 }
 
 #[test]
-fn a_container_lends_the_hasher_that_it_was_made_with(rt: HostRuntime) {
-    assert_eq!(rt; lent(rt.alloc()), [0, 0]);
+fn a_container_lends_the_hasher_that_it_was_made_with(rt: HostRuntime) -> ExitCode {
+    passes(lent(rt.alloc()) == [0, 0])
 }
