@@ -122,11 +122,11 @@ impl Row for Queues {
 
 /// Keys that leave, each with the one that comes for it.
 fn pairs(alloc: Global, leave: &[u64], come: &[u64]) -> Result<Vec<(u64, u64)>, AllocError> {
-    let mut pairs = Vec::new(alloc);
-    for (leaves, comes) in leave.iter().zip(come) {
-        pairs.push((*leaves, *comes))?;
-    }
-    Ok(pairs)
+    leave
+        .iter()
+        .copied()
+        .zip(come.iter().copied())
+        .collect(alloc)
 }
 
 fn time_inserts<R: Runtime>(plan: &Plan<'_, R>, keys: &Keys) -> io::Result<()> {
@@ -158,37 +158,51 @@ fn time_walks<R: Runtime>(plan: &Plan<'_, R>, name: &str, map: &Map) -> io::Resu
 
 /// The rows that only read.
 fn time_reads<R: Runtime>(plan: &Plan<'_, R>, keys: &Keys) -> io::Result<()> {
-    let map = &filled(keys.alloc, &keys.held)?;
+    let map = filled(keys.alloc, &keys.held)?;
+    time_reads_of(plan, keys, &map)
+}
+
+fn time_reads_of<R: Runtime>(plan: &Plan<'_, R>, keys: &Keys, map: &Map) -> io::Result<()> {
     time_gets(plan, "get_hit", map, &keys.mixed)?;
     time_gets(plan, "get_miss", map, &keys.absent)?;
     time_walks(plan, "iter", map)
 }
 
-/// Inserts of keys that are there, in two orders by turns, so that a key's neighbours are not those of the
-/// last time, and a walk after them: the entries' order is then random in memory.
+/// Inserts of keys that are there, and a walk after them: the entries' order is then random in memory.
 fn time_moves<R: Runtime>(plan: &Plan<'_, R>, keys: &Keys) -> io::Result<()> {
-    let updates = &mut Inserts {
+    let mut updates = Inserts {
         alloc: keys.alloc,
         map: filled(keys.alloc, &keys.held)?,
         is_afresh: false,
     };
-    let orders = &mut Turns::new(&keys.mixed, &keys.mixed_again);
-    plan.row("update", keys.held.len(), orders, updates)?;
+    time_updates(plan, keys, &mut updates)?;
     time_walks(plan, "iter_moved", &updates.map)
+}
+
+/// In two orders by turns, so that a key's neighbours are not those of the last time.
+fn time_updates<R: Runtime>(
+    plan: &Plan<'_, R>,
+    keys: &Keys,
+    updates: &mut Inserts,
+) -> io::Result<()> {
+    let orders = &mut Turns::new(&keys.mixed, &keys.mixed_again);
+    plan.row("update", keys.held.len(), orders, updates)
 }
 
 fn time_churn<R: Runtime>(plan: &Plan<'_, R>, keys: &Keys) -> io::Result<()> {
     let there = pairs(keys.alloc, &keys.mixed, &keys.absent)?;
     let back = pairs(keys.alloc, &keys.absent_mixed, &keys.held)?;
-    time_exchanges(plan, keys, &mut Turns::new(&there, &back))
+    time_exchanges(plan, keys, &there, &back)
 }
 
 fn time_exchanges<R: Runtime>(
     plan: &Plan<'_, R>,
     keys: &Keys,
-    sides: &mut Turns<'_, (u64, u64)>,
+    there: &[(u64, u64)],
+    back: &[(u64, u64)],
 ) -> io::Result<()> {
     let map = filled(keys.alloc, &keys.held)?;
+    let sides = &mut Turns::new(there, back);
     plan.row("churn", keys.held.len(), sides, &mut Exchanges { map })
 }
 

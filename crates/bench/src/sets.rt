@@ -74,10 +74,20 @@ fn time_inserts<R: Runtime>(plan: &Plan<'_, R>, keys: &Keys) -> io::Result<()> {
     )
 }
 
-/// Of two sets that have about half of their elements in common. A call is a look at one element.
+/// Of two sets that have about half of their elements in common.
 fn time_unions<R: Runtime>(plan: &Plan<'_, R>, keys: &Keys) -> io::Result<()> {
-    let left = &filled(keys.alloc, &keys.held, &keys.held)?;
-    let right = &filled(keys.alloc, &keys.mixed, &keys.absent)?;
+    let left = filled(keys.alloc, &keys.held, &keys.held)?;
+    let right = filled(keys.alloc, &keys.mixed, &keys.absent)?;
+    time_union(plan, keys, &left, &right)
+}
+
+/// A call is a look at one element.
+fn time_union<R: Runtime>(
+    plan: &Plan<'_, R>,
+    keys: &Keys,
+    left: &Set,
+    right: &Set,
+) -> io::Result<()> {
     let calls = keys.held.len().saturating_mul(2);
     plan.row(
         "set_union",

@@ -46,42 +46,38 @@ pub fn write_picture<W: Write>(
     let accesses = curve.accesses();
     let keys = (curve.distinct() as u64).saturating_mul(parts);
     let width = across(keys).saturating_add(OCTAVE);
-    let right = width.saturating_add(90);
-    write!(
-        writer,
-        "<svg xmlns=\"http://www.w3.org/2000/svg\" viewBox=\"-60 -30 {right} 480\""
-    )?;
-    writeln!(writer, " font-family=\"sans-serif\" font-size=\"11\">")?;
-    writeln!(
-        writer,
-        "<rect x=\"-60\" y=\"-30\" width=\"100%\" height=\"100%\" fill=\"white\"/>"
-    )?;
+    write_head(writer, width)?;
     write_lines(writer, width)?;
     let cold = down(ratio_of(curve.distinct() as u64, accesses));
-    writeln!(
-        writer,
-        "<path d=\"M0 {cold}H{width}\" stroke=\"red\" stroke-dasharray=\"4\" fill=\"none\"/>"
-    )?;
+    let first = down(ratio_of(accesses, accesses));
     write!(
         writer,
-        "<path d=\"M0 {}",
-        down(ratio_of(accesses, accesses))
+        "<path d=\"M0 {cold}H{width}\" stroke=\"red\" stroke-dasharray=\"4\" fill=\"none\"/>\n\
+         <path d=\"M0 {first}"
     )?;
     for (capacity, misses) in curve.falls() {
         let x = across((capacity as u64).saturating_mul(parts));
         write!(writer, "H{x}V{}", down(ratio_of(misses, accesses)))?;
     }
+    let note = note(parts);
     writeln!(
         writer,
-        "H{width}\" stroke=\"black\" stroke-width=\"2\" fill=\"none\"/>"
+        "H{width}\" stroke=\"black\" stroke-width=\"2\" fill=\"none\"/>\n\
+         <text x=\"0\" y=\"-12\">misses of {accesses} uses of {keys} keys{note}</text>\n\
+         </svg>"
     )?;
-    writeln!(
-        writer,
-        "<text x=\"0\" y=\"-12\">misses of {accesses} uses of {keys} keys{}</text>",
-        note(parts)
-    )?;
-    writeln!(writer, "</svg>")?;
     writer.flush()
+}
+
+/// Writes how large the picture is, and its ground.
+fn write_head<W: Write>(writer: &mut W, width: u64) -> io::Result<()> {
+    let right = width.saturating_add(90);
+    writeln!(
+        writer,
+        "<svg xmlns=\"http://www.w3.org/2000/svg\" viewBox=\"-60 -30 {right} 480\" \
+         font-family=\"sans-serif\" font-size=\"11\">\n\
+         <rect x=\"-60\" y=\"-30\" width=\"100%\" height=\"100%\" fill=\"white\"/>"
+    )
 }
 
 /// What is said of a picture of some of the keys.
@@ -97,20 +93,20 @@ fn write_lines<W: Write>(writer: &mut W, width: u64) -> io::Result<()> {
         if x > width {
             break;
         }
-        writeln!(writer, "<path d=\"M{x} 0V{HEIGHT}\" stroke=\"#ddd\"/>")?;
         writeln!(
             writer,
-            "<text x=\"{x}\" y=\"418\" text-anchor=\"middle\">{capacity}</text>"
+            "<path d=\"M{x} 0V{HEIGHT}\" stroke=\"#ddd\"/>\n\
+             <text x=\"{x}\" y=\"418\" text-anchor=\"middle\">{capacity}</text>"
         )?;
         capacity = capacity.saturating_mul(2);
         x = x.saturating_add(OCTAVE);
     }
     for percent in [0u64, 25, 50, 75, 100] {
         let y = down(percent * 100);
-        writeln!(writer, "<path d=\"M0 {y}H{width}\" stroke=\"#ddd\"/>")?;
         writeln!(
             writer,
-            "<text x=\"-6\" y=\"{y}\" text-anchor=\"end\">{percent} %</text>"
+            "<path d=\"M0 {y}H{width}\" stroke=\"#ddd\"/>\n\
+             <text x=\"-6\" y=\"{y}\" text-anchor=\"end\">{percent} %</text>"
         )?;
     }
     Ok(())

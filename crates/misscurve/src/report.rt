@@ -16,17 +16,14 @@ pub fn ratio_of(misses: u64, accesses: u64) -> u64 {
 
 /// Writes what the program does.
 pub fn write_help<W: Write>(writer: &mut W) -> io::Result<()> {
-    writeln!(writer, "misscurve [--all | --svg] [--sample 1/N] < TRACE")?;
     writeln!(
         writer,
-        "Reads a key a line, and writes how often an LRU cache of each capacity misses."
+        "misscurve [--all | --svg] [--sample 1/N] < TRACE\n\
+         Reads a key a line, and writes how often an LRU cache of each capacity misses.\n\
+         \x20 --all         each capacity at which the misses fall\n\
+         \x20 --svg         a picture\n\
+         \x20 --sample 1/N  an estimate from one key in N"
     )?;
-    writeln!(
-        writer,
-        "  --all         each capacity at which the misses fall"
-    )?;
-    writeln!(writer, "  --svg         a picture")?;
-    writeln!(writer, "  --sample 1/N  an estimate from one key in N")?;
     writer.flush()
 }
 
@@ -40,8 +37,11 @@ pub fn write_table<W: Write>(
         writeln!(writer, "# an estimate from one key in {}", options.parts)?;
     }
     let accesses = curve.accesses();
-    writeln!(writer, "# {accesses} uses of {} keys", curve.distinct())?;
-    writeln!(writer, "capacity misses ratio")?;
+    writeln!(
+        writer,
+        "# {accesses} uses of {} keys\ncapacity misses ratio",
+        curve.distinct()
+    )?;
     let mut row = Row {
         writer,
         accesses,

@@ -2,7 +2,7 @@
 use crate::faults::Fault;
 use hashlink_curve::MissCurve;
 use std::alloc::Global;
-use std::io::{BufRead, Eprint, ErrorKind};
+use std::io::{self, BufRead, Eprint, ErrorKind};
 
 /// After so many lines it is said how far the reading is.
 const PROGRESS: u64 = 1 << 22;
@@ -16,22 +16,53 @@ pub fn curve_of<B: BufRead + Drop>(
     parts: u64,
 ) -> Result<MissCurve<Vec<u8>>, Fault> {
     let mut curve = MissCurve::new(alloc);
+    read_all(rt, alloc, reader, parts, &mut curve)?;
+    Ok(curve)
+}
+
+/// Records each line that the reader gives.
+fn read_all<B: BufRead + Drop>(
+    rt: &impl Eprint,
+    alloc: Global,
+    reader: B,
+    parts: u64,
+    curve: &mut MissCurve<Vec<u8>>,
+) -> Result<(), Fault> {
     let mut lines = 0u64;
     for line in reader.split(alloc, b'\n') {
-        let key = match line {
-            Ok(key) => key,
-            Err(e) if e.kind() == ErrorKind::OutOfMemory => return Err(Fault::Memory),
-            Err(_) => return Err(Fault::Reading),
-        };
+        record(curve, line, parts)?;
         lines = lines.saturating_add(1);
         if lines % PROGRESS == 0 {
-            let _ = eprintln!(rt; "misscurve: {lines} lines, {} keys", curve.distinct());
-        }
-        if is_in_part(&key, parts) && curve.record(key).is_err() {
-            return Err(Fault::Memory);
+            tell(rt, lines, curve);
         }
     }
-    Ok(curve)
+    Ok(())
+}
+
+/// Records the key that was read, if it falls in the part that is read.
+fn record(
+    curve: &mut MissCurve<Vec<u8>>,
+    line: io::Result<Vec<u8>>,
+    parts: u64,
+) -> Result<(), Fault> {
+    let key = line.map_err(fault_of)?;
+    if is_in_part(&key, parts) && curve.record(key).is_err() {
+        return Err(Fault::Memory);
+    }
+    Ok(())
+}
+
+/// Why a line could not be read.
+fn fault_of(error: io::Error) -> Fault {
+    match error.kind() {
+        ErrorKind::OutOfMemory => Fault::Memory,
+        _ => Fault::Reading,
+    }
+}
+
+/// Says how far the reading is.
+fn tell(rt: &impl Eprint, lines: u64, curve: &MissCurve<Vec<u8>>) {
+    let _ = eprintln!(rt; "misscurve: {lines} lines, {} keys", curve.distinct());
 }
 
 /// Whether the key falls in the part that is read, which its bytes alone say.
