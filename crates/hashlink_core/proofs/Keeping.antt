@@ -3,7 +3,7 @@ use Rattle.std.proofs.Common.{◌≡◌, ℕ, suc, Bool, true, false, zero, List
 use Rattle.std.proofs.Common.{refl}
 use Rattle.std.proofs.Common.{sym}
 use Rattle.std.proofs.Common.{ap, subst, ◌∙◌, cond, arith}
-use Rattle.std.specs.Prelude.{slice_get, is_some, unwrap_or, insert, Result, Ok, Err, IfOk, OnErr}
+use Rattle.std.specs.Prelude.{slice_get, is_some, unwrap_or, Result, Ok, Err, IfOk, OnErr}
 use Rattle.std.specs.Option.{option_map, option_map_or}
 use Rattle.std.specs.Cmp.{IsEquivalence}
 use Rattle.std.specs.Map.{lookup, remove_entry}

@@ -1,15 +1,19 @@
 -- Lemmas on lists by places, on the ring and the table in step, on what each call leaves, and on walks along
 -- a ring.
-pub mod Edits
+pub mod AtKey
+pub mod AtKeyNode
 pub mod Calls
+pub mod Edits
 pub mod Finding
 pub mod Holding
+pub mod InTurn
 pub mod Keeping
 pub mod Mapped
 pub mod Neighbours
 pub mod Places
 pub mod Retaining
 pub mod Stepping
+pub mod Steps
 pub mod Stores
 pub mod Tying
 pub mod Walk

@@ -177,6 +177,13 @@ module _ {X : Type 0} where
   renewed_at-is f (y ∷ es) zero e at = let same : y ≡ e = cc in ap (λ z. (z.0, f z.1) ∷ es) same
   renewed_at-is f (y ∷ es) (suc j) e at = ap (λ r. y ∷ r) (renewed_at-is f es j e at)
 
+  -- changed twice
+  pub renewed_twice : (f g : X → X) (es : List (Node × X)) (j : ℕ)
+      → renewed_at g (renewed_at f es j) j ≡ renewed_at (λ x. g (f x)) es j
+  renewed_twice f g [] j = refl
+  renewed_twice f g (e ∷ es) zero = refl
+  renewed_twice f g (e ∷ es) (suc j) = ap (λ r. e ∷ r) (renewed_twice f g es j)
+
   renewed-inserted : (f : X → X) (es : List (Node × X)) (i : ℕ) (e : Node × X) → i ≤ length es
       → renewed_at f (insert es i e) i ≡ insert es i (e.0, f e.1)
   renewed-inserted f [] zero e le = refl

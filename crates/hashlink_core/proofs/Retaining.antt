@@ -1,7 +1,7 @@
 -- A retain, as it comes along the list: what it has kept, and what is left to call the closure on.
 use Rattle.std.proofs.Common.{◌≡◌, ℕ, zero, suc, ◌+◌, ◌-◌, ◌<◌, Bool, true, false, cond, List, [], ◌∷◌, ◌++◌}
 use Rattle.std.proofs.Common.{length, take, drop, Option, None, Some, refl, ap, sym, subst, ◌∙◌, arith}
-use Rattle.std.proofs.Common.{append-nil}
+use Rattle.std.proofs.Common.{append-nil, filter}
 use Rattle.std.specs.Prelude.{slice_get, remove}
 use Rattle.std.specs.Borrow.{Bor, MutBor}
 use Rattle.std.specs.Fn.{Mut, Called}
@@ -345,3 +345,8 @@ module _ {F K V : Type 0} (T : F → K → V → Bool → V → F → Type 0) (Q
                       nodes-fewer,
                       before-last i is,
                     )))
+
+-- where nothing passes nothing is left
+pub none-passes : {X : Type 0} (xs : List X) → filter (λ x. false) xs ≡ []
+none-passes [] = refl
+none-passes (x ∷ xs) = none-passes xs

@@ -5,9 +5,12 @@ ghost use Rattle.hashlink_core.specs.Keyed.{keyed, entries_of, IsKeyed};
 ghost use Rattle.hashlink_table.specs.declared.error.TryReserveError.TheVariants.{CapacityOverflow};
 ghost use Rattle.hashlink_table.specs.declared.table.TheConstants.{MAX_ROOM};
 
+mod extend;
 mod growth;
+mod inserts;
 mod moves;
 mod reads;
+mod removals;
 mod retains;
 mod values;
 

@@ -1,13 +1,17 @@
 //! A keyed list: a ring of nodes whose keys are pairwise unequal, and the default hashers.
 #![tactic(auto)]
 
+mod compare;
 mod equivalent;
+mod extend_error;
 mod hash_builder;
 mod hasher;
 mod iter;
 mod keyed_list;
 
+pub use compare::{walks_cmp, walks_eq, walks_partial_cmp};
 pub use equivalent::Equivalent;
+pub use extend_error::ExtendError;
 pub use hash_builder::DefaultHashBuilder;
 pub use hasher::DefaultHasher;
 pub use hashlink_nodes::Node;

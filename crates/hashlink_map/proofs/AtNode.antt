@@ -1,6 +1,6 @@
 -- Where a node stands after a step at it, and steps in a row.
-use Rattle.std.proofs.Common.{[], ◌∷◌, zero, ap₂, ◌++◌, length-append, ◌≡◌, ℕ, suc, ◌+◌, ◌-◌, ◌≤◌, Bool, true}
-use Rattle.std.proofs.Common.{List, length, Option, None, Some, refl, sym, ap, subst, ◌∙◌, arith}
+use Rattle.std.proofs.Common.{[], ◌∷◌, ap₂, ◌++◌, length-append, ◌≡◌, ℕ, ◌+◌, ◌-◌, ◌≤◌, Bool, true}
+use Rattle.std.proofs.Common.{List, length, None, Some, refl, sym, ap, subst, ◌∙◌, arith}
 use Rattle.std.specs.Prelude.{slice_get, insert, remove, unwrap_or, Result, Ok, Err, IfOk, IfErr, OnErr}
 use Rattle.std.specs.Prelude.{MatchOption, MatchResult}
 use Rattle.std.specs.Option.{option_map}
@@ -9,11 +9,10 @@ use Rattle.std.specs.Map.{lookup}
 use Rattle.std.proofs.lemmas.Option.{slice_get-map}
 use Rattle.std.proofs.lemmas.Map.Entries.{length-values_of}
 use Rattle.hashlink_model.specs.Entries.{place_of, place_left, moved_at, put, stored_key, set_value_at}
-use Rattle.hashlink_model.specs.Entries.{set_key_at}
-use Rattle.hashlink_model.specs.MapState.{MapState, Changes, AddsEntry, PutsEntry, RefusesEntry, SetsKeyAt}
+use Rattle.hashlink_model.specs.MapState.{MapState, AddsEntry, PutsEntry, RefusesEntry}
 use Rattle.hashlink_model.specs.MapState.{MovesAt, RoomFor}
 use Rattle.hashlink_model.specs.MapState.{with_value}
-use Rattle.hashlink_model.specs.Entry.{key_at, value_at, replace_entry, VacantInserts}
+use Rattle.hashlink_model.specs.Entry.{key_at, value_at, VacantInserts}
 use Rattle.hashlink_model.proofs.Places.{split_at, slice_get_here}
 use Rattle.hashlink_model.proofs.ByPlace.{set_value_at-here, moved_at-last, moved_at-put}
 use Rattle.hashlink_model.proofs.Finds.{lookup_key_is}
@@ -29,8 +28,9 @@ use Rattle.hashlink_core.proofs.Holding.{number-at, holds-at, holds_key-at, equa
 use Rattle.hashlink_core.proofs.Mapped.{values-renewed_value}
 use Rattle.hashlink_core.proofs.Places.{IsNodeAt, node-at, renewed_at-is}
 use Rattle.hashlink_map.specs.Standing.{StaysHeld}
-use Rattle.hashlink_map.proofs.Calls.{added, refused}
-use Rattle.hashlink_map.proofs.Steps.{changes_twice, lookup-place, lookup_entry-place, none_passes_from_place}
+use Rattle.hashlink_core.proofs.AtKeyNode.{added, refused}
+use Rattle.hashlink_core.proofs.Steps.{lookup-place, lookup_entry-place, none_passes_from_place}
+use Rattle.hashlink_core.proofs.Steps.{some_from_part}
 
 module _ {K V S : Type 0} {eq : K → K → Bool} (laws : IsEquivalence eq) where
   -- ---- a step at a node that is held
@@ -120,52 +120,6 @@ module _ {K V S : Type 0} {eq : K → K → Bool} (laws : IsEquivalence eq) wher
 module _ {K V S : Type 0} {eq : K → K → Bool} (a b c : Keyed K V S) (n : Node) where
   pub stays_twice : (p q : ℕ) → StaysHeld eq a b n p → StaysHeld eq b c n q → StaysHeld eq a c n q
   stays_twice p q s t = record { within = t.within; place = t.place; keys = λ k h. t.keys k (s.keys k h) }
-
-module _ {K V S : Type 0} (old mid new : MapState K V S) (es : List (K × V)) (s : Changes old mid es 0) where
-  pub then_moves : (j i b d : ℕ) → i ≡ j → b ≡ d → MovesAt mid new i b → Changes old new (moved_at es j d) 6
-  then_moves j i b d here there t =
-      subst (λ zs. Changes old new zs 6)
-      (ap (λ zs. moved_at zs i b) s.entries ∙ ap (λ x. moved_at es x b) here ∙ ap (moved_at es j) there)
-      (changes_twice old mid new es (moved_at mid.entries i b) 0 6 s t)
-
-  pub then_sets_key : (j i : ℕ) (k : K) → i ≡ j → SetsKeyAt mid new i k
-      → Changes old new (set_key_at es j k) 0
-  then_sets_key j i k here t =
-      subst (λ zs. Changes old new zs 0) (ap (λ zs. set_key_at zs i k) s.entries ∙ ap
-      (λ x. set_key_at es x k) here)
-      (changes_twice old mid new es (set_key_at mid.entries i k) 0 0 s t)
-
-module _ {K V : Type 0} where
-  pub key-set_value_at : (es : List (K × V)) (j i : ℕ) (v : V) → key_at (set_value_at es j v) i ≡ key_at es i
-  key-set_value_at [] j i v = refl
-  key-set_value_at (e ∷ es) zero zero v = refl
-  key-set_value_at (e ∷ es) zero (suc i) v = refl
-  key-set_value_at (e ∷ es) (suc j) zero v = refl
-  key-set_value_at (e ∷ es) (suc j) (suc i) v = key-set_value_at es j i v
-
-  pub length-replaced : (es : List (K × V)) (j : ℕ) (k : K) (v : V)
-      → length (replace_entry es j k v) ≡ length es
-  length-replaced [] j k v = refl
-  length-replaced (e ∷ es) zero k v = refl
-  length-replaced (e ∷ es) (suc j) k v = ap suc (length-replaced es j k v)
-
-  both_parts : (o : Option (K × V)) (k : K) (v : V) → option_map (λ e. e.0) o ≡ Some k
-      → option_map (λ e. e.1) o ≡ Some v
-      → o ≡ Some (k, v)
-  both_parts None k v p q = cc
-  both_parts (Some e) k v p q =
-      let first : e.0 ≡ k = cc in let second : e.1 ≡ v = cc in ap₂ (λ x y. Some (x, y)) first second
-
-  pub some_from_part : (o : Option (K × V)) (v : V) → option_map (λ e. e.1) o ≡ Some v
-      → (e : K × V) × (o ≡ Some e)
-  some_from_part None v p = absurd (cc)
-  some_from_part (Some e) v p = (e, refl)
-
-  -- a key and a value at a place are the pair there
-  pub pair_from_parts : (es : List (K × V)) (j : ℕ) (k : K) (v : V) → key_at es j ≡ Some k
-      → value_at es j ≡ Some v
-      → slice_get es j ≡ Some (k, v)
-  pair_from_parts es j k v = both_parts (slice_get es j) k v
 
 -- ---- a pair that goes last
 

@@ -12,7 +12,7 @@ use Rattle.hashlink_core.specs.Places.{Node, renewed_at}
 use Rattle.hashlink_map.specs.Indexed.{HasKey, with_value_at_key}
 use Rattle.hashlink_core.proofs.Mapped.{values-renewed_value}
 use Rattle.hashlink_model.proofs.ByPlace.{set_value_at-place}
-use Rattle.hashlink_map.proofs.Steps.{lookup-unplaced}
+use Rattle.hashlink_core.proofs.Steps.{lookup-unplaced}
 
 module _ {K V S : Type 0} (eq : K → K → Bool) (m : Keyed K V S) (k : K) where
   not_there : place_of (eq k) (entries_of m) ≡ None → HasKey eq m k → ⊥

@@ -1,5 +1,5 @@
 -- What a step that takes an entry out of a map gives and leaves, as a step of a walk.
-use Rattle.std.proofs.Common.{◌≡◌, arith, false, List, [], ◌∷◌, filter, Option, None, Some, refl, ap, sym}
+use Rattle.std.proofs.Common.{◌≡◌, arith, List, [], Option, None, Some, refl, ap, sym}
 use Rattle.std.proofs.Common.{subst, ◌∙◌}
 use Rattle.std.specs.Map.Iter.{TakesFirst, TakesLast}
 use Rattle.std.specs.Prelude.{MatchOption}
@@ -67,7 +67,3 @@ module _ {K V S : Type 0} where
 
   pub kept-drained : (start old new : MapState K V S) → Kept start old → Drains old new → Drains start new
   kept-drained start old new kept drains = keeps_twice start old new old.entries [] kept drains
-
-pub none-passes : {X : Type 0} (xs : List X) → filter (λ x. false) xs ≡ []
-none-passes [] = refl
-none-passes (x ∷ xs) = none-passes xs

@@ -133,9 +133,7 @@ impl<K: Eq + Hash, V, S: BuildHasher> LinkedHashMap<K, V, S> {
             (place_number self.old.nodes (Some node)) key value result }
         ensures stays { StaysHeld K.eq self.old self.new node (place_number self.old.nodes (Some node)) }
     {
-        let old_value = self.replace_value_at(node, value);
-        let old_key = self.replace_key_at(node, key);
-        (old_key, old_value)
+        self.list.replace_pair(node, key, value)
     }
 
     /// Puts an equal key and the value in and moves the node to the end, and returns the old pair.

@@ -1,16 +1,13 @@
-//! What is done at a place of a map, a node or the guard. Cursors are a few lines over these.
-ghost use Rattle.std.specs.Prelude.{◌≡◌, ◌≢◌, ◌↔◌, slice_get, length, Option, Some, None, IsTrue};
-ghost use Rattle.std.specs.Prelude.{MatchOption, MatchResult};
+//! What stands at a place of a map, a node or the guard, and a pair put in there. Cursors are a few lines over
+//! these.
+ghost use Rattle.std.specs.Prelude.{◌≡◌, slice_get, length, Option};
 ghost use Rattle.std.specs.Option.{option_map};
 ghost use Rattle.std.specs.Map.Iter.{deref_pair};
 ghost use Rattle.hashlink_model.specs.Cursor.{following_place, preceding_place};
-ghost use Rattle.hashlink_model.specs.Entries.{place_of};
-ghost use Rattle.hashlink_model.specs.Entry.{ReplacesValue};
-ghost use Rattle.hashlink_model.specs.MapState.{AddsEntry, Inserts, MovesAt, RefusesEntry};
-ghost use Rattle.hashlink_core.specs.Keyed.{entries_of, state_of, HoldsKey, IsKeyed};
-ghost use Rattle.hashlink_core.specs.Places.{Node, Holds, IsPlace, IsPlaceAt, place_number};
-ghost use Rattle.hashlink_core.specs.Steps.{KeepsKeys, KeepsPlace};
-ghost use Rattle.hashlink_core.specs.Tied.{hash_with};
+ghost use Rattle.hashlink_model.specs.MapState.{Inserts};
+ghost use Rattle.hashlink_core.specs.Keyed.{entries_of, state_of};
+ghost use Rattle.hashlink_core.specs.Places.{Node, IsPlace, IsPlaceAt, place_number};
+ghost use Rattle.hashlink_core.specs.Steps.{KeepsPlace};
 
 use crate::map::LinkedHashMap;
 use hashlink_core::Node;
@@ -47,87 +44,7 @@ impl<K: Eq + Hash, V, S: BuildHasher> LinkedHashMap<K, V, S> {
         let node = place?;
         Some(self.pair_at(node))
     }
-
-    /// The node of a key that has this hash.
-    #[inline]
-    pub(crate) fn node_of(&self, hash: u64, key: &K) -> Option<Node>
-        requires { hash ≡ hash_with S.build_hasher S.Hasher.write S.Hasher.finish K.hash_input self.now.hasher
-            key.now }
-        ensures found { MatchOption result (place_of (K.eq key.now) (entries_of self.now) ≡ None)
-            (HoldsKey K.eq self.now.nodes key.now) }
-        ensures sound { IsKeyed K.eq self.now }
-    {
-        self.list.find(hash, key)
-    }
-
-    /// Whether the node stands at the place.
-    #[inline]
-    pub(crate) fn is_at(&self, node: Node, place: Option<Node>) -> bool
-        requires node { Holds self.now.nodes node }
-        requires place { IsPlace self.now.nodes place }
-        ensures { IsTrue result ↔ (place ≡ Some node) }
-    {
-        match place {
-            Some(at) => self.list.is_same(at, node),
-            None => false,
-        }
-    }
-
-    /// Puts the value in where the node stands, and returns the old one: every place is where it was.
-    #[inline]
-    pub(crate) fn write_at(&mut self, node: Node, value: V) -> V
-        requires { Holds self.old.nodes node }
-        ensures replaces { ReplacesValue (state_of self.old) (state_of self.new)
-            (place_number self.old.nodes (Some node)) value result }
-        ensures places { (p : Option Node) → place_number self.new.nodes p ≡ place_number self.old.nodes p }
-        ensures keys { KeepsKeys self.old self.new }
-        ensures sound { IsKeyed K.eq self.new }
-    {
-        self.list.replace_value(node, value)
-    }
-
-    /// Moves the node right before another place.
-    #[inline]
-    pub(crate) fn move_to(&mut self, node: Node, place: Option<Node>)
-        requires node { Holds self.old.nodes node }
-        requires place { IsPlace self.old.nodes place }
-        requires other { place ≢ Some node }
-        requires apart { IsKeyed K.eq self.old }
-        ensures moves { MovesAt (state_of self.old) (state_of self.new)
-            (place_number self.old.nodes (Some node)) (place_number self.old.nodes place) }
-        ensures keys { KeepsKeys self.old self.new }
-        ensures sound { IsKeyed K.eq self.new }
-    {
-        self.list.move_before(node, place);
-    }
-
-    /// Puts a pair with an absent key, which has this hash, right before the place.
-    #[inline]
-    pub(crate) fn push_at(
-        &mut self,
-        place: Option<Node>,
-        hash: u64,
-        key: K,
-        value: V,
-    ) -> Result<Node, (K, V)>
-        requires place { IsPlace self.old.nodes place }
-        requires absent { place_of (K.eq key) (entries_of self.old) ≡ None }
-        requires hash { hash
-            ≡ hash_with S.build_hasher S.Hasher.write S.Hasher.finish K.hash_input self.old.hasher key }
-        requires apart { IsKeyed K.eq self.old }
-        ensures inserts { MatchResult result
-            (λ _. AddsEntry K.eq (state_of self.old) (state_of self.new) key value
-            (place_number self.old.nodes place))
-            (RefusesEntry K.eq (state_of self.old) (state_of self.new) key value) }
-        ensures keys { KeepsKeys self.old self.new }
-        ensures sound { IsKeyed K.eq self.new }
-    {
-        self.list.insert_before(place, hash, key, value)
-    }
-
-    /// Puts the pair right before the place, and returns the key's old value. A key that is there keeps its
-    /// key object, takes the new value and moves there, unless it stands there. Each place stays on its
-    /// entry.
+    /// Puts the pair right before the place, as `KeyedList::insert_at` does. Each place stays on its entry.
     pub(crate) fn insert_at(
         &mut self,
         place: Option<Node>,
@@ -141,16 +58,6 @@ impl<K: Eq + Hash, V, S: BuildHasher> LinkedHashMap<K, V, S> {
             (place_number self.old.nodes place) result }
         ensures keeps { (p : Option Node) → IsPlace self.old.nodes p → KeepsPlace K.eq self.old self.new p }
     {
-        let hash = self.list.hash_of(&key);
-        let Some(node) = self.node_of(hash, &key) else {
-            self.push_at(place, hash, key, value)?;
-            return Ok(None);
-        };
-        let old = self.write_at(node, value);
-        if self.is_at(node, place) {
-            return Ok(Some(old));
-        }
-        self.move_to(node, place);
-        Ok(Some(old))
+        self.list.insert_at(place, key, value)
     }
 }

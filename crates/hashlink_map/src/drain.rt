@@ -23,7 +23,7 @@ impl<'a, K: Eq + Hash + Drop, V: Drop, S: BuildHasher> Drop for Drain<'a, K, V, 
         ensures { Drains (state_of (drained_map self.entry).now) (state_of self.exit.0.now) }
     {
         let Drain { map } = self;
-        map.retain(|_, _| false);
+        map.list.remove_all();
     }
 }
 

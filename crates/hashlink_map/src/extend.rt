@@ -8,8 +8,8 @@ ghost use Rattle.hashlink_core.specs.Keyed.{state_of};
 ghost use Rattle.hashlink_map.specs.Extending.{TakesItems};
 ghost use Rattle.hashlink_map.specs.Reading.{ReadsAll, ReadsSome};
 
-use crate::extend_error::ExtendError;
 use crate::map::LinkedHashMap;
+use hashlink_core::ExtendError;
 use std::alloc::AllocError;
 use std::hash::{BuildHasher, Hash};
 
@@ -48,14 +48,7 @@ impl<K: Eq + Hash + Drop, V: Drop, S: BuildHasher> LinkedHashMap<K, V, S> {
             (λ e. (items : List (K × V)) × Yields I.next_gives iter.old items iter.new
             × StopsAt (InsertsPair K.eq) (state_of self.old) items (state_of self.new) e.taken e.pair []) }
     {
-        let mut taken = 0u64;
-        while let Some((key, value)) = iter.next() {
-            if let Err(pair) = self.insert(key, value) {
-                return Err(ExtendError { taken, pair });
-            }
-            taken = taken.saturating_add(1);
-        }
-        Ok(())
+        self.list.extend_from(iter)
     }
 }
 

@@ -10,7 +10,6 @@ mod cursor;
 mod drain;
 mod entry;
 mod extend;
-mod extend_error;
 mod hashing;
 mod index;
 mod into_iter;
@@ -26,9 +25,8 @@ pub use as_node::AsNode;
 pub use cursor::CursorMut;
 pub use drain::Drain;
 pub use entry::{Entry, OccupiedEntry, VacantEntry};
-pub use extend_error::ExtendError;
 pub use hashlink_core::{
-    DefaultHashBuilder, DefaultHasher, Equivalent, Iter, Keys, TryReserveError, Values,
+    DefaultHashBuilder, DefaultHasher, Equivalent, ExtendError, Iter, Keys, TryReserveError, Values,
 };
 pub use into_iter::IntoIter;
 pub use iter_mut::IterMut;

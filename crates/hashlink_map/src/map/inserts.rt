@@ -22,14 +22,7 @@ impl<K: Eq + Hash, V, S: BuildHasher> LinkedHashMap<K, V, S> {
             (length (entries_of self.old)) result }
         ensures distinct { IsEntries K.eq (entries_of self.new) }
     {
-        let hash = self.list.hash_of(&key);
-        if let Some(node) = self.list.find(hash, &key) {
-            let old = self.list.replace_value(node, value);
-            self.list.move_before(node, None);
-            return Ok(Some(old));
-        }
-        self.list.insert_before(None, hash, key, value)?;
-        Ok(None)
+        self.list.insert(key, value)
     }
 
     /// Puts the pair first, and returns the key's old value. A key that is there keeps its key object, takes
@@ -44,15 +37,7 @@ impl<K: Eq + Hash, V, S: BuildHasher> LinkedHashMap<K, V, S> {
         ensures inserts { Inserts K.eq (state_of self.old) (state_of self.new) key value 0 result }
         ensures distinct { IsEntries K.eq (entries_of self.new) }
     {
-        let hash = self.list.hash_of(&key);
-        if let Some(node) = self.list.find(hash, &key) {
-            let old = self.list.replace_value(node, value);
-            self.list.move_after(node, None);
-            return Ok(Some(old));
-        }
-        let first = self.list.first();
-        self.list.insert_before(first, hash, key, value)?;
-        Ok(None)
+        self.list.insert_first(key, value)
     }
 
     /// Gives the key the value, and returns its old one. A key that is there keeps its key object and its
@@ -67,11 +52,6 @@ impl<K: Eq + Hash, V, S: BuildHasher> LinkedHashMap<K, V, S> {
         ensures replaces { Replaces K.eq (state_of self.old) (state_of self.new) key value result }
         ensures distinct { IsEntries K.eq (entries_of self.new) }
     {
-        let hash = self.list.hash_of(&key);
-        if let Some(node) = self.list.find(hash, &key) {
-            return Ok(Some(self.list.replace_value(node, value)));
-        }
-        self.list.insert_before(None, hash, key, value)?;
-        Ok(None)
+        self.list.replace(key, value)
     }
 }

@@ -31,8 +31,7 @@ impl<K: Eq + Hash, V, S: BuildHasher> LinkedHashMap<K, V, S> {
         ensures removes { RemovesMatch (Q.matches key) (state_of self.old) (state_of self.new) result }
         ensures distinct { IsEntries K.eq (entries_of self.new) }
     {
-        let node = self.list.find(self.list.hash_of(key), key)?;
-        Some(self.list.remove(node))
+        self.list.remove_key(key)
     }
 
     /// Takes the first entry out and returns it. It takes constant time, hashes nothing, and stores at most
@@ -41,8 +40,7 @@ impl<K: Eq + Hash, V, S: BuildHasher> LinkedHashMap<K, V, S> {
         ensures pops { PopsFront (state_of self.old) (state_of self.new) result }
         ensures distinct { IsEntries K.eq (entries_of self.new) }
     {
-        let node = self.list.first()?;
-        Some(self.list.remove(node))
+        self.list.pop_first()
     }
 
     /// Takes the last entry out and returns it. It takes constant time, hashes nothing, and stores at most
@@ -51,8 +49,7 @@ impl<K: Eq + Hash, V, S: BuildHasher> LinkedHashMap<K, V, S> {
         ensures pops { PopsBack (state_of self.old) (state_of self.new) result }
         ensures distinct { IsEntries K.eq (entries_of self.new) }
     {
-        let node = self.list.last()?;
-        Some(self.list.remove(node))
+        self.list.pop_last()
     }
 
     /// Drops every entry and gives its node back to the allocator. The spare nodes stay, and the room. It

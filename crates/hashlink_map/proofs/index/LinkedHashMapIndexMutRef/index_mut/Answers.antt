@@ -4,7 +4,7 @@ use Rattle.std.specs.Map.{lookup}
 use Rattle.hashlink_model.specs.Entries.{place_of}
 use Rattle.hashlink_core.specs.Keyed.{HoldsKey, entries_of}
 use Rattle.hashlink_map.specs.Indexed.{HasKey, with_value_at_key}
-use Rattle.hashlink_map.proofs.Calls.{stored-value}
+use Rattle.hashlink_core.proofs.AtKeyNode.{stored-value}
 use Rattle.hashlink_map.proofs.Indexing.{found_there, written_there}
 use Rattle.hashlink_map.proofs.index.LinkedHashMapIndexMutRef.index_mut.Goals as goal
 

@@ -2,7 +2,7 @@ use Rattle.std.proofs.Common.{[], ◌∷◌, ◌++◌, ap, subst, sym, ◌∙◌
 use Rattle.hashlink_model.specs.Many.{AcceptsAll, MadeFrom, InsertsPair}
 use Rattle.hashlink_core.specs.Keyed.{entries_of, state_of}
 use Rattle.hashlink_map.specs.Cloning.{ArePairClones}
-use Rattle.hashlink_map.proofs.InTurn.{accepts_another}
+use Rattle.hashlink_core.proofs.InTurn.{accepts_another}
 use Rattle.hashlink_map.proofs.Clones.{cloned_another, clone_equal, clone_same}
 use Rattle.hashlink_model.specs.Entries.{IsEntries}
 use Rattle.hashlink_map.proofs.map.LinkedHashMap.clone.Given as given

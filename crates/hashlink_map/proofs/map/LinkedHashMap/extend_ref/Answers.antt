@@ -3,7 +3,7 @@ use Rattle.std.proofs.iter.Next as it
 use Rattle.std.specs.Map.Iter.{deref_pair}
 use Rattle.hashlink_model.specs.Many.{AcceptsAll, StopsAt, InsertsPair}
 use Rattle.hashlink_core.specs.Keyed.{state_of}
-use Rattle.hashlink_map.proofs.InTurn.{accepts_another, stops_after, counts_another, mapped_another}
+use Rattle.hashlink_core.proofs.InTurn.{accepts_another, stops_after, counts_another, mapped_another}
 use Rattle.hashlink_map.proofs.map.LinkedHashMap.extend_ref.Goals as goal
 
 pub returns-in-Err-clause-stopped : goal.returns-in-Err-clause-stopped

@@ -3,8 +3,8 @@ use Rattle.std.specs.Option.{option_map}
 use Rattle.std.specs.Map.{lookup_entry}
 use Rattle.std.specs.Map.Iter.{deref_pair}
 use Rattle.hashlink_core.specs.Keyed.{entries_of}
-use Rattle.hashlink_map.proofs.Calls.{stored}
-use Rattle.hashlink_map.proofs.Steps.{lookup_entry-unplaced}
+use Rattle.hashlink_core.proofs.AtKeyNode.{stored}
+use Rattle.hashlink_core.proofs.Steps.{lookup_entry-unplaced}
 use Rattle.hashlink_map.proofs.map.LinkedHashMap.get_key_value.Goals as goal
 
 pub returns-in_err-node : goal.returns-in_err-node

@@ -1,6 +1,6 @@
 use Rattle.hashlink_model.specs.Steps.{Shrinks}
 use Rattle.hashlink_core.specs.Keyed.{state_of}
-use Rattle.hashlink_map.proofs.Calls.{shrinks}
+use Rattle.hashlink_core.proofs.AtKeyNode.{shrinks}
 use Rattle.std.proofs.Common.{subst}
 use Rattle.hashlink_map.proofs.map.LinkedHashMap.shrink_to_fit.Goals as goal
 

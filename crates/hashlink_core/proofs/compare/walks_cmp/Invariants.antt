@@ -1,0 +1,12 @@
+-- What is left compares as the whole lists do.
+use Rattle.std.proofs.Common.{◌≡◌, length}
+use Rattle.hashlink_model.specs.Compare.{entries_cmp}
+use Rattle.hashlink_core.proofs.compare.walks_cmp.Given as goal
+
+abbrev pub invariant-loop-key : goal.invariant-loop-key
+invariant-loop-key g l =
+    entries_cmp g.K.Ord.cmp g.V.Ord.cmp l.left l.right
+    ≡ entries_cmp g.K.Ord.cmp g.V.Ord.cmp l.initial.left l.initial.right
+
+abbrev pub decreases-loop-key : goal.decreases-loop-key
+decreases-loop-key g l = length l.left

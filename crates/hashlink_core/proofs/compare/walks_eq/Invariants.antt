@@ -1,0 +1,14 @@
+-- What is left is as long on both sides, and equal where the whole lists are.
+use Rattle.std.proofs.Common.{◌≡◌, length}
+use Rattle.hashlink_model.specs.Compare.{entries_eq}
+use Rattle.hashlink_core.proofs.compare.walks_eq.Given as goal
+
+abbrev pub invariant-loop-key : goal.invariant-loop-key
+invariant-loop-key g l = record {
+  long : length l.left ≡ length l.right;
+  same : entries_eq g.K.PartialEq.eq g.V.PartialEq.eq l.left l.right
+      ≡ entries_eq g.K.PartialEq.eq g.V.PartialEq.eq l.initial.left l.initial.right;
+}
+
+abbrev pub decreases-loop-key : goal.decreases-loop-key
+decreases-loop-key g l = length l.left
