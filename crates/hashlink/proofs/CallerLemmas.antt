@@ -7,7 +7,7 @@ use Rattle.std.proofs.Common.{◌∙◌}
 use Rattle.std.proofs.Common.{◌⊎◌, inl, inr, true≢false, arith, filter, nat_le, le_refl, zero-le}
 use Rattle.std.specs.Prelude.{All, IfSome, IsSome, OnOk, insert, remove, slice_get, unwrap_or, MatchOption}
 use Rattle.std.specs.Prelude.{MatchResult}
-use Rattle.std.specs.Option.{option_map, option_map_or}
+use Rattle.std.specs.Option.{option_map_or}
 use Rattle.std.specs.Cmp.{IsEquivalence}
 use Rattle.std.specs.List.{AllPass, list_any}
 use Rattle.std.specs.List.Sorted.{IsNonDecreasingBy}
@@ -44,9 +44,8 @@ use Rattle.hashlink_run.specs.CallReplies.{insert_reply, is_refused}
 use Rattle.hashlink_run.specs.Chain.{Answered, replies_of}
 use Rattle.hashlink_run.specs.Run.{LawfulRun, Run, TakesKeysWhereShorter, keeps_nodes}
 use Rattle.hashlink_model.proofs.Distinct.{none_equal, none_others, IsEntries-middle, IsEntries-insert}
-use Rattle.hashlink_model.proofs.Finds.{lookup_is}
 use Rattle.hashlink_model.proofs.Puts.{none_without}
-use Rattle.hashlink_model.proofs.SetElements.{find-keys, keys-remove_entry}
+use Rattle.hashlink_model.proofs.SetElements.{find-keys}
 use Rattle.hashlink_model.proofs.Splits.{Stands, splits, remove_entry-here, stands_from_lookup}
 use Rattle.hashlink_model.proofs.Splits.{none_from_lookup}
 use Rattle.hashlink_model.proofs.Splits.{remove_entry-none, lookup_key-none, place_of-none, place_of-here}
@@ -82,6 +81,11 @@ pub use Rattle.hashlink_model.proofs.CacheSteps.{inserts_refused as cache_insert
 pub use Rattle.hashlink_model.proofs.CacheSteps.{gets_miss}
 -- goal: `lookup` at the key that a cache's insert put in, and at another key
 pub use Rattle.hashlink_model.proofs.Caches.{lookup-cache_put, lookup_entry-cache_put}
+-- goal: the entries, and a set's elements, after a removal, also where no key was found
+pub use Rattle.hashlink_lru.proofs.Leaving.{removes_entries}
+pub use Rattle.hashlink_set.proofs.Leaving.{removes_match_elements as set_removes}
+-- goal: the entry that a removal answers was there
+pub use Rattle.hashlink_lru.proofs.Leaving.{removed_was_there}
 -- goal: a set's elements after `insert` and `replace`, by their answers, and the last element written out
 pub use Rattle.hashlink_model.proofs.SetElements.{set_inserts, set_replaces, put_element_back}
 
@@ -459,16 +463,6 @@ module _ {K V S : Type 0} (eq : K → K → Bool) (laws : IsEquivalence eq)
       (none_without eq laws old.entries k d)
 
 module _ {K V S : Type 0} (old new : MapState K V S) where
-  -- goal: the entries after a removal, also where no key was found
-  pub removes_entries : (test : K → Bool) (r : Option (K × V)) → RemovesMatch test old new r
-      → new.entries ≡ remove_entry test old.entries
-  removes_entries test None s =
-      let none : lookup test old.entries ≡ None
-      = lookup_is test old.entries ∙ ap (option_map (λ e. e.1)) (sym s.answer) in
-      ap (λ m. m.entries) s.step
-      ∙ sym (remove_entry-none test old.entries (none_from_lookup test old.entries none))
-  removes_entries test (Some e) s = s.step.entries
-
   -- goal: of a pop from the front, or from the back, that answers none: there was no entry, and nothing
   -- changed
   pub pops_front_none : PopsFront old new None → (old.entries ≡ []) × (new ≡ old)
@@ -648,11 +642,6 @@ module _ {T S : Type 0} (old new : SetState T S) where
       (λ t. elements_of old ≡ t ∷ elements_of new)
   set_pops_front None s = let p = pops_front_entries old new None s in (ap keys_of p.0, ap keys_of p.1)
   set_pops_front (Some t) s = ap keys_of (pops_front_entries old new (Some (t, tt)) s)
-
-  -- goal: the elements after a removal, also where none was found
-  pub set_removes : (test : T → Bool) (r : Option (T × Unit {0})) → RemovesMatch test old new r
-      → elements_of new ≡ remove_key test (elements_of old)
-  set_removes test r s = ap keys_of (removes_entries old new test r s) ∙ keys-remove_entry test old.entries
 
 -- ---- the same of a cache's entries
 

@@ -1,11 +1,14 @@
 -- What a cache ends as, from what the map inside ends as.
 use Rattle.std.specs.Prelude.{◌≡◌, ℕ, Bool, Option, None, Some, OnSome, length}
-use Rattle.std.proofs.Common.{ap, ◌∙◌, subst, arith}
+use Rattle.std.specs.Option.{option_map_or}
+use Rattle.std.proofs.Common.{ap, sym, ◌∙◌, subst, arith}
 use Rattle.std.proofs.lemmas.Map.{length-set_value}
 use Rattle.hashlink_model.specs.Cache.{CacheState, CacheGetsMatch, CacheGetsMatchAndWrites, EvictsFront}
+use Rattle.hashlink_model.specs.Entries.{moved_at, moved_match}
 use Rattle.hashlink_model.specs.MapState.{MapState}
 use Rattle.hashlink_model.specs.Steps.{with_match_value}
 use Rattle.hashlink_model.proofs.CacheBounds.{within-gets_match, within-gets_match_and_writes}
+use Rattle.hashlink_model.proofs.Splits.{none_from_lookup, place_of-none}
 use Rattle.hashlink_core.specs.Keyed.{Keyed, state_of}
 use Rattle.hashlink_lru.specs.Cached.{StaysWithin}
 
@@ -21,9 +24,18 @@ evicted {old = old} cap same s = subst (λ m. EvictsFront old (state_of m) cap) 
 
 -- a step of the cache, and that it keeps a bound beyond the capacity
 module _ {K V S : Type 0} (test : K → Bool) (old new : CacheState K V S) where
+  gets_entries : (r : Option V) → CacheGetsMatch test old new r
+      → new.map.entries ≡ moved_match test old.map.entries (length old.map.entries)
+  gets_entries None s =
+      let es = old.map.entries in
+      let none = place_of-none test es (none_from_lookup test es (sym s.map.answer)) in
+      ap (λ m. m.entries) s.map.step
+      ∙ sym (ap (λ o. option_map_or (λ j. moved_at es j (length es)) o es) none)
+  gets_entries (Some w) s = s.map.step.entries
+
   pub used : (r : Option V) → CacheGetsMatch test old new r → CacheGetsMatch test old new r
-      × StaysWithin old new
-  used r s = (s, λ n. within-gets_match old new n test r s)
+      × StaysWithin old new × (new.map.entries ≡ moved_match test old.map.entries (length old.map.entries))
+  used r s = (s, λ n. within-gets_match old new n test r s, gets_entries r s)
 
   pub used_and_written : (v : V) → CacheGetsMatchAndWrites test old new v
       → CacheGetsMatchAndWrites test old new v × StaysWithin old new

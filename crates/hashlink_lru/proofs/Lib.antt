@@ -2,4 +2,5 @@ pub mod Dropping
 pub mod Ends
 pub mod Entering
 pub mod Extending
+pub mod Leaving
 pub mod Using

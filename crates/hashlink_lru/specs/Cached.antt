@@ -70,3 +70,7 @@ module _ {K V S T : Type 0} where
   -- the same cache with another map
   abbrev pub with_map : LruCache K V S T → Keyed K V S → LruCache K V S T
   with_map c m = record c { map = m }
+
+  -- two caches of one capacity
+  abbrev pub SameCapacity : LruCache K V S T → LruCache K V S T → Type 0
+  SameCapacity old new = new.capacity ≡ old.capacity

@@ -1,10 +1,11 @@
 -- What a cache ends as, once what was lent out of it has ended.
-use Rattle.std.specs.Prelude.{◌≡◌, Bool, Option, OnSome, Result, Err, IfErr, ⊤}
+use Rattle.std.specs.Prelude.{◌≡◌, Bool, Option, OnSome, Result, Err, IfErr, length, ⊤}
 use Rattle.std.specs.Borrow.{Fml, GName, RattleType, MutBor, Lends, LendsSo, LendsSoOk, follows, follows_so}
 use mathlib.Core.Option.{none}
 use Rattle.std.specs.declared.hash.Hasher as hasher
 use Rattle.std.specs.declared.hash.BuildHasher as builder
 use Rattle.hashlink_model.specs.Cache.{CacheGetsMatch, CacheGetsMatchAndWrites, CacheInserts}
+use Rattle.hashlink_model.specs.Entries.{moved_match}
 use Rattle.hashlink_model.specs.Steps.{with_match_value}
 use Rattle.hashlink_core.specs.Keyed.{Keyed}
 use Rattle.hashlink_core.specs.KeyedLends.{HashMembers}
@@ -12,7 +13,7 @@ use Rattle.hashlink_map.specs.Lends.{map_row}
 use Rattle.hashlink_map.specs.declared.try_insert_error.TryInsertError.{TryInsertError}
 use Rattle.hashlink_lru.specs.contracts.cache.LruCache.{the_row}
 use Rattle.hashlink_lru.specs.declared.cache.LruCache.{LruCache}
-use Rattle.hashlink_lru.specs.Cached.{state_in, with_map, StaysWithin, StaysWithinOne, UsesAndWrites}
+use Rattle.hashlink_lru.specs.Cached.{SameCapacity, entries_in, state_in, with_map, StaysWithin, StaysWithinOne, UsesAndWrites}
 use Rattle.hashlink_lru.specs.Cached.{FailsToUse}
 
 module _ (K V S T : RattleType) (g : HashMembers K.Denot) (b : builder.Ghosts S.Denot T.Denot)
@@ -55,7 +56,7 @@ module _ (K V S T : RattleType) (g : HashMembers K.Denot) (b : builder.Ghosts S.
       abbrev pub LendsValueIn : Option (MutBor V.Denot) → Fml
       LendsValueIn r =
           LendsSo cache_row V c r
-          (λ new v. OnSome r
+          (λ new v. SameCapacity c.now new × OnSome r
           ((state_in new ≡ record (state_in c.now) { map = with_match_value test (state_in c.now).map v })
           × StaysWithin (state_in c.now) (state_in new)))
           (λ new. state_in new ≡ state_in c.now)
@@ -65,7 +66,7 @@ module _ (K V S T : RattleType) (g : HashMembers K.Denot) (b : builder.Ghosts S.
       abbrev pub LendsUsed : Option (MutBor V.Denot) → Fml
       LendsUsed r =
           LendsSo cache_row V c r
-          (λ new v. OnSome r
+          (λ new v. SameCapacity c.now new × OnSome r
           (CacheGetsMatchAndWrites test (state_in c.now) (state_in new) v
           × StaysWithin (state_in c.now) (state_in new)))
           (λ new. state_in new ≡ state_in c.now)
@@ -75,5 +76,6 @@ module _ (K V S T : RattleType) (g : HashMembers K.Denot) (b : builder.Ghosts S.
       abbrev pub EndsUsed : Option V.Denot → Fml
       EndsUsed r =
           follows_so cache_row cache_row c.ghost_name none (λ _ _. ⊤)
-          (λ new. CacheGetsMatch test (state_in c.now) (state_in new) r × StaysWithin
-          (state_in c.now) (state_in new))
+          (λ new. CacheGetsMatch test (state_in c.now) (state_in new) r
+          × StaysWithin (state_in c.now) (state_in new)
+          × (entries_in new ≡ moved_match test (entries_in c.now) (length (entries_in c.now))))

@@ -1,5 +1,4 @@
-//! What stands at a place of a map, a node or the guard, and a pair put in there. Cursors are a few lines over
-//! these.
+//! What is done at a place of a map, a node or the guard. Cursors are a few lines over these.
 ghost use Rattle.std.specs.Prelude.{◌≡◌, slice_get, length, Option};
 ghost use Rattle.std.specs.Option.{option_map};
 ghost use Rattle.std.specs.Map.Iter.{deref_pair};

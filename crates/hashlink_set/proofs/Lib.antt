@@ -1,3 +1,5 @@
+pub mod Entering
+pub mod Leaving
 pub mod LentLast
 pub mod Moved
 pub mod OfClones

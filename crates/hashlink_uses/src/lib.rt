@@ -6,6 +6,7 @@ pub mod capacities;
 pub mod commands;
 pub mod config;
 pub mod curves;
+pub mod everyday;
 pub mod maps;
 pub mod memo;
 pub mod queue;

@@ -1,7 +1,7 @@
 //! How entries leave. The others keep their order, and each node that is freed serves the next new pair. None
 //! of these takes memory.
-ghost use Rattle.std.specs.Prelude.{◌≡◌};
-ghost use Rattle.std.specs.Map.{lookup, lookup_entry};
+ghost use Rattle.std.specs.Prelude.{◌≡◌, IfSome, Contains};
+ghost use Rattle.std.specs.Map.{lookup, lookup_entry, remove_entry};
 ghost use Rattle.std.specs.Map.Calls.{CalledAtPair, TakesPair, CallableOnEachPair};
 ghost use Rattle.hashlink_model.specs.Cache.{IsWithin, KeepsLast, OnMap, SetsCapacity};
 ghost use Rattle.hashlink_model.specs.Entries.{IsEntries};
@@ -21,6 +21,7 @@ impl<K: Eq + Hash, V, S: BuildHasher> LruCache<K, V, S> {
     where
         K: Drop,
         ensures value { result ≡ lookup (Q.matches key) (entries_in self.old) }
+        ensures entries { entries_in self.new ≡ remove_entry (Q.matches key) (entries_in self.old) }
         ensures removes { OnMap (λ a b. RemovesMatch (Q.matches key) a b
             (lookup_entry (Q.matches key) a.entries)) (state_in self.old) (state_in self.new) }
         ensures distinct { IsEntries K.eq (entries_in self.new) }
@@ -32,6 +33,7 @@ impl<K: Eq + Hash, V, S: BuildHasher> LruCache<K, V, S> {
     /// Takes the key's entry out and returns the stored pair. It looks for the key as `peek` does, and stores
     /// at most three links.
     pub fn remove_entry<Q: Equivalent<K>>(&mut self, key: Q) -> Option<(K, V)>
+        ensures held { IfSome result (Contains (entries_in self.old)) }
         ensures removes { OnMap (λ a b. RemovesMatch (Q.matches key) a b result) (state_in self.old)
             (state_in self.new) }
         ensures distinct { IsEntries K.eq (entries_in self.new) }

@@ -1,13 +1,16 @@
 //! How elements come in. Each call hashes the element once, and looks for it as `contains` does.
-ghost use Rattle.std.specs.Prelude.{◌≡◌, IsSome, None, option_copied, OnOk, IfOk, IfErr, Ok, Err, Some};
+ghost use Rattle.std.specs.Prelude.{◌≡◌, IsSome, IsTrue, IsOk, None, option_copied, OnOk, IfOk, IfErr, Ok, Err};
+ghost use Rattle.std.specs.Prelude.{Some, length, not};
 ghost use Rattle.std.specs.Borrow.{sem};
 ghost use Rattle.std.specs.Fn.{FnOnceReturnsAt};
 ghost use Rattle.std.specs.List.{find};
 ghost use Rattle.std.specs.Option.{UnwrapsOrElse};
+ghost use Rattle.std.specs.Set.{is_member};
 ghost use Rattle.hashlink_model.specs.MapState.{RefusesEntry};
 ghost use Rattle.hashlink_model.specs.Walk.{last_of};
 ghost use Rattle.std.specs.List.{IsDistinct};
-ghost use Rattle.hashlink_model.specs.Sets.{elements_of, stored_element, SetInserts, SetReplaces};
+ghost use Rattle.hashlink_model.specs.Sets.{elements_of, put_element, replaced, stored_element};
+ghost use Rattle.hashlink_model.specs.Sets.{SetInserts, SetReplaces};
 ghost use Rattle.hashlink_core.specs.Keyed.{state_of};
 ghost use Rattle.hashlink_set.specs.Made.{CanMakeAbsent, GetsOrMakes};
 
@@ -29,6 +32,10 @@ impl<T: Eq + Hash, S: BuildHasher> LinkedHashSet<T, S> {
     where
         T: Drop,
         ensures inserts { SetInserts T.eq self.old self.new value result }
+        ensures elements { OnOk result (elements_of self.new
+            ≡ put_element T.eq (elements_of self.old) value (length (elements_of self.old))) }
+        ensures new { IfOk result (λ new. new ≡ not (is_member T.eq (elements_of self.old) value)) }
+        ensures there { IsTrue (is_member T.eq (elements_of self.old) value) → IsOk result }
         ensures distinct { IsDistinct T.eq (elements_of self.new) }
     {
         match self.map.insert(value, ()) {
@@ -44,6 +51,8 @@ impl<T: Eq + Hash, S: BuildHasher> LinkedHashSet<T, S> {
     /// new one.
     pub fn replace(&mut self, value: T) -> Result<Option<T>, T>
         ensures replaces { SetReplaces T.eq self.old self.new value result }
+        ensures elements { OnOk result (elements_of self.new ≡ replaced T.eq (elements_of self.old) value) }
+        ensures old { IfOk result (λ old. old ≡ find (T.eq value) (elements_of self.old)) }
         ensures distinct { IsDistinct T.eq (elements_of self.new) }
     {
         match let_in(&mut self.map, value) {

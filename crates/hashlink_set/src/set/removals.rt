@@ -3,6 +3,8 @@
 ghost use Rattle.std.specs.Prelude.{◌≡◌};
 ghost use Rattle.std.specs.List.{IsDistinct, list_any};
 ghost use Rattle.std.specs.Map.{lookup_entry};
+ghost use Rattle.std.specs.Map.Iter.{TakesFirst, TakesLast};
+ghost use Rattle.std.specs.Set.{remove_key};
 ghost use Rattle.hashlink_model.specs.Steps.{RemovesMatch, PopsFront, PopsBack, Clears};
 ghost use Rattle.hashlink_model.specs.Sets.{elements_of};
 ghost use Rattle.hashlink_set.specs.Answers.{as_entry};
@@ -18,6 +20,7 @@ impl<T: Eq + Hash, S: BuildHasher> LinkedHashSet<T, S> {
     where
         T: Drop,
         ensures answer { result ≡ list_any (Q.matches value) (elements_of self.old) }
+        ensures elements { elements_of self.new ≡ remove_key (Q.matches value) (elements_of self.old) }
         ensures removes { RemovesMatch (Q.matches value) self.old self.new
             (lookup_entry (Q.matches value) self.old.entries) }
         ensures distinct { IsDistinct T.eq (elements_of self.new) }
@@ -39,6 +42,7 @@ impl<T: Eq + Hash, S: BuildHasher> LinkedHashSet<T, S> {
     /// three links.
     pub fn pop_front(&mut self) -> Option<T>
         ensures pops { PopsFront self.old self.new (as_entry result) }
+        ensures elements { TakesFirst (λ t. t) (elements_of self.old) result (elements_of self.new) }
         ensures distinct { IsDistinct T.eq (elements_of self.new) }
     {
         let (first, ()) = self.map.pop_front()?;
@@ -49,6 +53,7 @@ impl<T: Eq + Hash, S: BuildHasher> LinkedHashSet<T, S> {
     /// three links.
     pub fn pop_back(&mut self) -> Option<T>
         ensures pops { PopsBack self.old self.new (as_entry result) }
+        ensures elements { TakesLast (λ t. t) (elements_of self.old) result (elements_of self.new) }
         ensures distinct { IsDistinct T.eq (elements_of self.new) }
     {
         let (last, ()) = self.map.pop_back()?;

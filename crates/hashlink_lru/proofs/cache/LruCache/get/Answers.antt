@@ -1,4 +1,4 @@
-use Rattle.std.proofs.Common.{refl, ap, sym, ◌∙◌, Some}
+use Rattle.std.proofs.Common.{refl, ap, sym, ◌∙◌, None, Some}
 use Rattle.std.specs.Option.{option_copied_mut}
 use Rattle.hashlink_core.specs.Keyed.{state_of}
 use Rattle.hashlink_model.proofs.MovedLast.{moved_match_last}
@@ -25,4 +25,20 @@ returns-in-Some g c =
             }),
       ),
       record { used = tt; value = sym at; distinct = c.to_back.ensures.distinct },
+    )
+
+pub returns-in-None : goal.returns-in-None
+returns-in-None g c =
+    let test = g.Q.Equivalent.matches c.args.key in
+    let none = sym c.to_back.ensures.value ∙ ap option_copied_mut c.in-None.is in (
+      (
+        refl,
+        λ _. tt,
+        used test _ _ None
+            (record {
+              map = record { answer = sym none; step = c.to_back.follows.holds-at-none };
+              cap = refl;
+            }),
+      ),
+      record { used = tt; value = sym none; distinct = c.to_back.ensures.distinct },
     )

@@ -7,9 +7,12 @@ returns g c =
     let n = c.args.self.now.capacity in (
       (
         refl,
-        λ w. on_some c.to_back.result
-            (λ s. used_and_written (g.Q.Equivalent.matches c.args.key) _ _ w (record { map = s; cap = refl }))
-            (c.to_back.follows.holds w),
+        λ w. (
+          refl,
+          on_some c.to_back.result
+              (λ s. used_and_written (g.Q.Equivalent.matches c.args.key) _ _ w (record { map = s; cap = refl }))
+              (c.to_back.follows.holds w),
+        ),
         ap (λ m. record { map = m; cap = n }) c.to_back.follows.holds-at-none,
       ),
       record { lends = tt; value = c.to_back.ensures.value; distinct = c.to_back.ensures.distinct },

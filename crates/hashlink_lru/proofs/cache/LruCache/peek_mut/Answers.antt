@@ -7,9 +7,12 @@ returns g c =
     let n = c.args.self.now.capacity in (
       (
         refl,
-        λ w. on_some c.get_mut.result
-            (λ s. written (g.Q.Equivalent.matches c.args.key) _ _ w (ap (λ m. record { map = m; cap = n }) s))
-            (c.get_mut.follows.holds w),
+        λ w. (
+          refl,
+          on_some c.get_mut.result
+              (λ s. written (g.Q.Equivalent.matches c.args.key) _ _ w (ap (λ m. record { map = m; cap = n }) s))
+              (c.get_mut.follows.holds w),
+        ),
         ap (λ m. record { map = m; cap = n }) c.get_mut.follows.holds-at-none,
       ),
       record { lends = tt; value = c.get_mut.ensures.value },

@@ -1,0 +1,155 @@
+//! Everyday calls of a cache and of a set. Each caller is proved without a file of proof.
+ghost use Rattle.std.specs.Prelude.{◌≡◌, ◌≤◌, IfErr, IfOk, IfSome, IsOk, IsTrue, MatchOption, OnErr, OnOk, Contains};
+ghost use Rattle.std.specs.Prelude.{[], ◌∷◌, ◌++◌, Ok, length, nat_eq, not, unwrap_or};
+ghost use Rattle.std.specs.List.{find, list_any};
+ghost use Rattle.std.specs.Map.{lookup, remove_entry};
+ghost use Rattle.std.specs.Option.{UnwrapsOrElse};
+ghost use Rattle.std.specs.Set.{is_member, remove_key};
+ghost use Rattle.hashlink.specs.Cache.{cache_get, cache_put};
+ghost use Rattle.hashlink.specs.Cached.{UsesAndWrites, entries_in, state_in};
+ghost use Rattle.hashlink.specs.Sets.{elements_of, put_element, replaced};
+ghost use Rattle.hashlink.specs.TryInsert.{HandsBack};
+
+use hashlink::linked_hash_map::TryInsertError;
+use hashlink::{LinkedHashSet, LruCache};
+use std::hash::{BuildHasher, Hash};
+
+/// Remembers the size of a page, which is then the one used last, and returns the size that it replaces.
+pub fn remember(
+    sizes: &mut LruCache<u32, u64>,
+    page: u32,
+    size: u64,
+) -> Result<Option<u64>, (u32, u64)>
+    ensures entries { OnOk result (entries_in sizes.new
+        ≡ cache_put nat_eq (entries_in sizes.old) (state_in sizes.old).cap page size) }
+    ensures old { IfOk result (λ old. old ≡ lookup (nat_eq page) (entries_in sizes.old)) }
+    ensures unchanged { OnErr result (entries_in sizes.new ≡ entries_in sizes.old) }
+    ensures handed_back { IfErr result (λ pair. pair ≡ (page, size)) }
+    ensures fits { OnOk result (length (entries_in sizes.new) ≤ (state_in sizes.new).cap) }
+    ensures capacity { (state_in sizes.new).cap ≡ (state_in sizes.old).cap }
+{
+    sizes.insert(page, size)
+}
+
+/// The size of a page, which is then the one used last.
+pub fn recall(sizes: &mut LruCache<u32, u64>, page: u32) -> Option<u64>
+    ensures found { result ≡ lookup (nat_eq page) (entries_in sizes.old) }
+    ensures entries { entries_in sizes.new ≡ cache_get nat_eq (entries_in sizes.old) page }
+    ensures capacity { (state_in sizes.new).cap ≡ (state_in sizes.old).cap }
+{
+    sizes.get(&page).copied()
+}
+
+/// Adds one to the hits of a page, if they are counted.
+pub fn hit(hits: &mut LruCache<u32, u64>, page: u32)
+    ensures { (state_in hits.new).cap ≡ (state_in hits.old).cap }
+{
+    if let Some(count) = hits.get_mut(&page) {
+        *count = count.wrapping_add(1);
+    }
+}
+
+/// Takes the size of a page out.
+pub fn forget(sizes: &mut LruCache<u32, u64>, page: u32) -> Option<u64>
+    ensures found { result ≡ lookup (nat_eq page) (entries_in sizes.old) }
+    ensures entries { entries_in sizes.new ≡ remove_entry (nat_eq page) (entries_in sizes.old) }
+    ensures capacity { (state_in sizes.new).cap ≡ (state_in sizes.old).cap }
+{
+    sizes.remove(&page)
+}
+
+/// Takes a page out with its size. What is returned was in the cache.
+pub fn forget_entry(sizes: &mut LruCache<u32, u64>, page: u32) -> Option<(u32, u64)>
+    ensures { IfSome result (Contains (entries_in sizes.old)) }
+{
+    sizes.remove_entry(&page)
+}
+
+/// The value of a key, which is the one given where the key is absent, and is then put in.
+pub fn value_or<K: Eq + Hash + Drop, V: Copy, S: BuildHasher>(
+    cache: &mut LruCache<K, V, S>,
+    key: K,
+    value: V,
+) -> Result<V, (K, V)>
+    ensures value { IfOk result (λ v. v ≡ unwrap_or (lookup (K.eq key) (entries_in cache.old)) value) }
+    ensures used { IfOk result
+        (λ v. UsesAndWrites K.eq (state_in cache.old) (state_in cache.new) key v) }
+    ensures handed_back { IfErr result (λ pair. pair ≡ (key, value)) }
+    ensures unchanged { OnErr result (entries_in cache.new ≡ entries_in cache.old) }
+{
+    Ok(*cache.get_or_insert_with(key, || value)?)
+}
+
+/// The value of a key, which is made where the key is absent, and is then put in.
+pub fn value_or_made<
+    K: Eq + Hash + Drop,
+    V: Copy,
+    E,
+    S: BuildHasher,
+    F: FnOnce() -> Result<V, E> + Drop,
+>(cache: &mut LruCache<K, V, S>, key: K, make: F) -> Result<V, TryInsertError<K, V, E>>
+    requires { F.pre make }
+    ensures value { IfOk result
+        (λ v. UnwrapsOrElse (lookup (K.eq key) (entries_in cache.old)) (λ x. F.post make (Ok x)) v) }
+    ensures used { IfOk result
+        (λ v. UsesAndWrites K.eq (state_in cache.old) (state_in cache.new) key v) }
+    ensures handed_back { IfErr result (HandsBack (F.post make) key) }
+    ensures unchanged { OnErr result (entries_in cache.new ≡ entries_in cache.old) }
+{
+    Ok(*cache.get_or_try_insert_with(key, make)?)
+}
+
+/// Puts a word last, and returns whether it is new.
+pub fn add<T: Eq + Hash + Drop, S: BuildHasher>(
+    words: &mut LinkedHashSet<T, S>,
+    word: T,
+) -> Result<bool, T>
+    ensures elements { OnOk result (elements_of words.new
+        ≡ put_element T.eq (elements_of words.old) word (length (elements_of words.old))) }
+    ensures new { IfOk result (λ new. new ≡ not (is_member T.eq (elements_of words.old) word)) }
+    ensures unchanged { OnErr result (elements_of words.new ≡ elements_of words.old) }
+    ensures handed_back { IfErr result (λ back. back ≡ word) }
+    ensures there { IsTrue (is_member T.eq (elements_of words.old) word) → IsOk result }
+{
+    words.insert(word)
+}
+
+/// Puts a word in the place of the one that equals it, which is returned, or last.
+pub fn exchange<T: Eq + Hash, S: BuildHasher>(
+    words: &mut LinkedHashSet<T, S>,
+    word: T,
+) -> Result<Option<T>, T>
+    ensures elements { OnOk result (elements_of words.new ≡ replaced T.eq (elements_of words.old) word) }
+    ensures old { IfOk result (λ old. old ≡ find (T.eq word) (elements_of words.old)) }
+    ensures unchanged { OnErr result (elements_of words.new ≡ elements_of words.old) }
+    ensures handed_back { IfErr result (λ back. back ≡ word) }
+{
+    words.replace(word)
+}
+
+/// Takes a word out, and returns whether it was there.
+pub fn strike<T: Eq + Hash + Drop, S: BuildHasher>(
+    words: &mut LinkedHashSet<T, S>,
+    word: &T,
+) -> bool
+    ensures found { result ≡ list_any (T.eq word.now) (elements_of words.old) }
+    ensures elements { elements_of words.new ≡ remove_key (T.eq word.now) (elements_of words.old) }
+{
+    words.remove(word)
+}
+
+/// Takes the first word out.
+pub fn take_first<T: Eq + Hash, S: BuildHasher>(words: &mut LinkedHashSet<T, S>) -> Option<T>
+    ensures { MatchOption result ((elements_of words.old ≡ []) × (elements_of words.new ≡ []))
+        (λ word. elements_of words.old ≡ word ∷ elements_of words.new) }
+{
+    words.pop_front()
+}
+
+/// Takes the last word out.
+pub fn take_last<T: Eq + Hash, S: BuildHasher>(words: &mut LinkedHashSet<T, S>) -> Option<T>
+    ensures { MatchOption result ((elements_of words.old ≡ []) × (elements_of words.new ≡ []))
+        (λ word. elements_of words.old ≡ elements_of words.new ++ word ∷ []) }
+{
+    words.pop_back()
+}
