@@ -13,8 +13,8 @@ use Rattle.hashlink_map.specs.Lends.{map_row}
 use Rattle.hashlink_map.specs.declared.try_insert_error.TryInsertError.{TryInsertError}
 use Rattle.hashlink_lru.specs.contracts.cache.LruCache.{the_row}
 use Rattle.hashlink_lru.specs.declared.cache.LruCache.{LruCache}
-use Rattle.hashlink_lru.specs.Cached.{SameCapacity, entries_in, state_in, with_map, StaysWithin, StaysWithinOne, UsesAndWrites}
-use Rattle.hashlink_lru.specs.Cached.{FailsToUse}
+use Rattle.hashlink_lru.specs.Cached.{FailsToUse, SameCapacity, StaysWithin, StaysWithinOne, UsesAndWrites}
+use Rattle.hashlink_lru.specs.Cached.{entries_in, state_in, with_map}
 
 module _ (K V S T : RattleType) (g : HashMembers K.Denot) (b : builder.Ghosts S.Denot T.Denot)
     (w : hasher.Ghosts T.Denot) where
@@ -52,7 +52,8 @@ module _ (K V S T : RattleType) (g : HashMembers K.Denot) (b : builder.Ghosts S.
 
     module _ (test : K.Denot → Bool) where
       -- the value of the first key that passes is lent where it stands: the cache ends with what was written
-      -- there, and where none passes as it was. No more entries are beyond the capacity than before
+      -- there, and where none passes as it was. The capacity stays, and no more entries are beyond it than
+      -- before
       abbrev pub LendsValueIn : Option (MutBor V.Denot) → Fml
       LendsValueIn r =
           LendsSo cache_row V c r

@@ -14,7 +14,7 @@ use std::alloc::AllocError;
 use std::hash::{BuildHasher, Hash};
 
 impl<T: Eq + Hash + Drop, S: BuildHasher> LinkedHashSet<T, S> {
-    /// Inserts each element in turn, as `insert` does. The iterator has to end.
+    /// Inserts each element in turn, as `insert` does, and costs that for each. The iterator has to end.
     ///
     /// Where the memory for an element is refused, those before it are in, it is handed back, and nothing
     /// after it is read. No room is made before an element needs it.

@@ -19,8 +19,8 @@ use std::hash::{BuildHasher, Hash};
 use std::ops::{BitAnd, BitOr, BitXor, Sub};
 
 impl<T: Eq + Hash + Drop, S: BuildHasher + Default + Drop> LinkedHashSet<T, S> {
-    /// A set of the items, each inserted in turn as `insert` does, that hashes by `S::default()`. The
-    /// iterator has to end. No room is made before an item needs it.
+    /// A set of the items, each inserted in turn as `insert` does, that hashes by `S::default()`. It costs an
+    /// insert for each item. The iterator has to end. No room is made before an item needs it.
     ///
     /// It returns `AllocError` where the memory for an item is refused, and then nothing is left of the set.
     pub fn from_iter<I: IntoIterator<Item = T>>(alloc: Global, iter: I) -> Result<Self, AllocError>
@@ -48,7 +48,8 @@ impl<T: Eq + Hash + Drop, S: BuildHasher + Default + Drop> FromIterator<T> for L
 
 impl<T: Eq + Hash + Clone, S: BuildHasher + Clone> LinkedHashSet<T, S> {
     /// A set with a clone of the hasher, in which a clone of each element was inserted in turn, front first.
-    /// It is in the same allocator's memory, and has no spare node.
+    /// It is in the same allocator's memory, and has no spare node. It costs a clone and an insert for each
+    /// element.
     ///
     /// It returns `AllocError` where the memory for a clone or for a node is refused, and then nothing is
     /// left of the new set. A clone of an empty set is not refused where that of its hasher is not.
@@ -108,7 +109,8 @@ impl<T: Eq + Hash + Clone, S: BuildHasher> LinkedHashSet<T, S> {
     }
 }
 
-/// `&a | &b`: clones of what `union` gives, in the left set's allocator's memory.
+/// `&a | &b`: clones of what `union` gives, in the left set's allocator's memory. It costs
+/// that iterator, and a clone and an insert for each element that it gives.
 ///
 /// It returns `AllocError` where the memory for a clone or for a node is refused, and then nothing is left of
 /// the new set.
@@ -124,7 +126,8 @@ impl<'a, 'b, T: Eq + Hash + Clone, S: BuildHasher + Default + Drop> BitOr<&'b Li
     }
 }
 
-/// `&a & &b`: clones of what `intersection` gives, in the left set's allocator's memory.
+/// `&a & &b`: clones of what `intersection` gives, in the left set's allocator's memory. It costs
+/// that iterator, and a clone and an insert for each element that it gives.
 ///
 /// It returns `AllocError` where the memory for a clone or for a node is refused, and then nothing is left of
 /// the new set.
@@ -140,7 +143,8 @@ impl<'a, 'b, T: Eq + Hash + Clone, S: BuildHasher + Default + Drop> BitAnd<&'b L
     }
 }
 
-/// `&a ^ &b`: clones of what `symmetric_difference` gives, in the left set's allocator's memory.
+/// `&a ^ &b`: clones of what `symmetric_difference` gives, in the left set's allocator's memory. It costs
+/// that iterator, and a clone and an insert for each element that it gives.
 ///
 /// It returns `AllocError` where the memory for a clone or for a node is refused, and then nothing is left of
 /// the new set.
@@ -156,7 +160,8 @@ impl<'a, 'b, T: Eq + Hash + Clone, S: BuildHasher + Default + Drop> BitXor<&'b L
     }
 }
 
-/// `&a - &b`: clones of what `difference` gives, in the left set's allocator's memory.
+/// `&a - &b`: clones of what `difference` gives, in the left set's allocator's memory. It costs
+/// that iterator, and a clone and an insert for each element that it gives.
 ///
 /// It returns `AllocError` where the memory for a clone or for a node is refused, and then nothing is left of
 /// the new set.

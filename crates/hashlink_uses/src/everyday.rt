@@ -1,6 +1,6 @@
 //! Everyday calls of a cache and of a set. Each caller is proved without a file of proof.
-ghost use Rattle.std.specs.Prelude.{◌≡◌, ◌≤◌, IfErr, IfOk, IfSome, IsOk, IsTrue, MatchOption, OnErr, OnOk, Contains};
-ghost use Rattle.std.specs.Prelude.{[], ◌∷◌, ◌++◌, Ok, length, nat_eq, not, unwrap_or};
+ghost use Rattle.std.specs.Prelude.{◌≡◌, ◌≤◌, IfErr, IfOk, IfSome, IsOk, IsTrue, MatchOption, OnErr, OnOk};
+ghost use Rattle.std.specs.Prelude.{[], ◌∷◌, ◌++◌, Contains, Ok, length, nat_eq, not, unwrap_or};
 ghost use Rattle.std.specs.List.{find, list_any};
 ghost use Rattle.std.specs.Map.{lookup, remove_entry};
 ghost use Rattle.std.specs.Option.{UnwrapsOrElse};

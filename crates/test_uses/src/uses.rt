@@ -5,9 +5,11 @@ ghost use Rattle.std.specs.Cmp.Rules.{comparing};
 
 use crate::passes;
 use hashlink::run::Reply;
+use hashlink::linked_hash_map::TryInsertError;
 use hashlink::{LinkedHashMap, LruCache};
 use hashlink_uses::commands::remove_then_insert;
 use hashlink_uses::config::Settings;
+use hashlink_uses::everyday::{value_or, value_or_made};
 use hashlink_uses::memo::{Function, Memo};
 use hashlink_uses::queue::Queue;
 use hashlink_uses::statements::get_or_prepare;
@@ -91,4 +93,38 @@ fn is_answered(alloc: Global, map: &mut LinkedHashMap<u32, u32>) -> bool {
 #[test]
 fn an_insert_after_a_removal_is_answered(rt: HostRuntime) -> ExitCode {
     passes(is_answered(rt.alloc(), &mut LinkedHashMap::new(rt.alloc())))
+}
+
+/// What a cache of two places has for a key that is put in, for one that is there, and once a third key has
+/// dropped the one used the longest ago.
+fn values_used(alloc: Global) -> [Result<u32, (u32, u32)>; 5] {
+    let mut cache = LruCache::new(alloc, 2);
+    [
+        value_or(&mut cache, 1u32, 10u32),
+        value_or(&mut cache, 2, 20),
+        value_or(&mut cache, 1, 11),
+        value_or(&mut cache, 3, 30),
+        value_or(&mut cache, 2, 21),
+    ]
+}
+
+#[test]
+fn a_value_is_put_in_where_the_key_is_absent(rt: HostRuntime) -> ExitCode {
+    passes(values_used(rt.alloc()) == [Ok(10), Ok(20), Ok(10), Ok(30), Ok(21)])
+}
+
+/// Whether a value that cannot be made is none, one that is made is kept, and none is made for it again.
+fn is_made_once(alloc: Global) -> bool {
+    let mut cache = LruCache::new(alloc, 1);
+    let failed = value_or_made(&mut cache, 1u32, || Err::<u32, u8>(7));
+    let made = value_or_made(&mut cache, 1, || Ok::<u32, u8>(10));
+    let kept = value_or_made(&mut cache, 1, || Err::<u32, u8>(8));
+    matches!(failed, Err(TryInsertError::Make(1, 7)))
+        && matches!(made, Ok(10))
+        && matches!(kept, Ok(10))
+}
+
+#[test]
+fn a_value_is_made_once(rt: HostRuntime) -> ExitCode {
+    passes(is_made_once(rt.alloc()))
 }

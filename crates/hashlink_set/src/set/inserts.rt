@@ -1,6 +1,6 @@
 //! How elements come in. Each call hashes the element once, and looks for it as `contains` does.
-ghost use Rattle.std.specs.Prelude.{◌≡◌, IsSome, IsTrue, IsOk, None, option_copied, OnOk, IfOk, IfErr, Ok, Err};
-ghost use Rattle.std.specs.Prelude.{Some, length, not};
+ghost use Rattle.std.specs.Prelude.{◌≡◌, IsSome, IsTrue, IsOk, None, option_copied, OnOk, IfOk, IfErr, Ok};
+ghost use Rattle.std.specs.Prelude.{Err, Some, length, not};
 ghost use Rattle.std.specs.Borrow.{sem};
 ghost use Rattle.std.specs.Fn.{FnOnceReturnsAt};
 ghost use Rattle.std.specs.List.{find};

@@ -4,13 +4,14 @@ use Rattle.hashlink_lru.proofs.cache.LruCache.peek_mut.Goals as goal
 
 pub returns : goal.returns
 returns g c =
-    let n = c.args.self.now.capacity in (
+    let n = c.args.self.now.capacity in
+    let test = g.Q.Equivalent.matches c.args.key in (
       (
         refl,
         λ w. (
           refl,
           on_some c.get_mut.result
-              (λ s. written (g.Q.Equivalent.matches c.args.key) _ _ w (ap (λ m. record { map = m; cap = n }) s))
+              (λ s. written test _ _ w (ap (λ m. record { map = m; cap = n }) s))
               (c.get_mut.follows.holds w),
         ),
         ap (λ m. record { map = m; cap = n }) c.get_mut.follows.holds-at-none,
