@@ -11,6 +11,8 @@ from .texts import cut_row, is_answer
 from .words import MEMORY, Answers, Unread, Words, is_word
 
 HASHERS = ("default", "same_hash", "odd_or_even")
+#: those to which a row may be bound
+BOUND = HASHERS[:2]
 KINDS = {"map": Model, "set": SetModel, "cache": CacheModel, "weighted": WeightedModel}
 SAID = re.compile(r"row |=|\+ |\| |(left out|refused)$")
 SUMMARY = re.compile(
@@ -80,8 +82,11 @@ def judge_section(row, lines):
     section, words = Section(row, lines), Words(row.mode)
     try:
         kind = words.word()
+        if kind in BOUND:
+            kind = words.word()
         if kind in KINDS:
-            judge_calls(section, row, lambda: KINDS[kind](*(words.copy().size() for _ in words.words[1:])))
+            sizes = [words.size() for _ in words.words[words.read :]]
+            judge_calls(section, row, lambda: KINDS[kind](*sizes))
         elif kind == "commands":
             judge_runs(section, row, Model())
         elif kind == "cache_commands":
@@ -126,6 +131,9 @@ def say(models, words, answers):
         models[1].answer(rest, answers)
     elif name == "both":
         call_both(models, rest.word(), answers)
+    elif name == "cost":
+        answers.echo_number()
+        answers.echo_number()
     else:
         rest = words.copy()
         models[0].answer(rest, answers)
@@ -242,6 +250,8 @@ class Judge:
 def hashers_of(row):
     """The hashers under which a row is run."""
     kind = row.mode.split(" ")[0]
+    if kind in BOUND:
+        return (kind,)
     return HASHERS[:1] if kind in ("pair_commands", "uses", "text") else HASHERS
 
 

@@ -11,7 +11,7 @@ WRONG_TEXTS = (
     "weighted 5\ninsert 1 10 6\n=\nmemory",
 )
 
-LINES = "insert 1.2 10\nother insert 5 50\niter next left\nremove 1\ninsert 2 20\nreserve 9"
+LINES = "insert 1.2 10\nother insert 5 50\niter next left\nremove 1\ninsert 2 20\nreserve 9\ncost"
 ROW = Row("none", 1, "a row", "map", LINES, 3)
 SAID = """= -
 + 1 4 1.2:10
@@ -29,6 +29,9 @@ SAID = """= -
 + 1 4 2:20
 + 1 4 5:50
 = ok
++ 1 16 2:20
++ 1 4 5:50
+= 5 1
 + 1 16 2:20
 + 1 4 5:50
 """
@@ -54,7 +57,9 @@ WRONG_WORDS = (
         "= memory 1.2:10\n+ 1 4 1.2:10\n+ 0 0",
     ),
     ("a refusal of another pair", "= -\n+ 1 4 1.2:10\n+ 0 0", "= memory 1:10\n+ 0 0\n+ 0 0"),
-    ("no answer to the last line", "= ok\n+ 1 16 2:20\n+ 1 4 5:50\n", ""),
+    ("a cost that is no number", "= 5 1", "= 5 -"),
+    ("a cost of one number", "= 5 1", "= 5"),
+    ("no answer to the last line", "= 5 1\n+ 1 16 2:20\n+ 1 4 5:50\n", ""),
     ("an answer too many", "= ok\n", "= ok\n= ok\n"),
 )
 

@@ -185,6 +185,11 @@ class Answers:
         heard = self.hears()
         self.say(heard if heard in known else WRONG)
 
+    def echo_number(self):
+        """Says what was heard, of which a list knows no more than that it is a number."""
+        heard = self.hears()
+        self.say(WRONG if number(heard) is None else heard)
+
     def taken(self):
         """How many went in before one that was handed back, by what the container says, if one was."""
         if len(self.heard) > 2 and self.heard[0] == MEMORY:

@@ -1,7 +1,7 @@
-//! What no row of calls says of the containers: how often keys are hashed and compared and closures
-//! called, the texts of `{:?}` and of errors, loops and std's adapters, the forms in which std's maps
-//! are called, what becomes of items without size and of a drain that is forgotten, a curve of misses
-//! worked by hand, and what a program does whose input or output fails.
+//! What no row of calls says of the containers: how often closures are called, the texts of `{:?}` and of
+//! errors, loops and std's adapters, the forms in which std's maps are called, what becomes of items
+//! without size and of a drain that is forgotten, a curve of misses worked by hand, and what a program does
+//! whose input or output fails.
 #![tactic(auto)]
 
 #[cfg(test)]
@@ -10,8 +10,6 @@ mod adapters;
 mod closures;
 #[cfg(test)]
 mod commands;
-#[cfg(test)]
-mod costs;
 #[cfg(test)]
 mod curves;
 #[cfg(test)]

@@ -1,6 +1,4 @@
 //! Lists of commands, in two runs, and lists of uses.
-use crate::answers::{Answers, Name, Stop, Word, are_written, number};
-use crate::line::Words;
 use crate::row::cut;
 use crate::spoken::{Voice, say_room, say_word, say_words};
 use crate::texts::refuse;
@@ -12,6 +10,7 @@ use hashlink::{LinkedHashMap, LruCache};
 use hashlink_spelling::{CacheLine, Line, pair_command};
 use std::alloc::{AllocError, Global};
 use std::hash::BuildHasher;
+use test_items::{Answers, Name, Stop, Word, Words, are_written, number};
 
 /// A container that runs a list of commands.
 pub trait Listed {

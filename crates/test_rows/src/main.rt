@@ -8,29 +8,13 @@
 //! plain list.
 #![tactic(auto)]
 
-mod answers;
-mod cache_row;
-mod entries;
-mod entry_call;
 mod hashers;
-mod items;
-mod line;
 mod lists;
-mod map_cursors;
-mod map_row;
-mod raw_entries;
 mod row;
 mod rows;
-mod said;
-mod set_row;
 mod spoken;
-mod steps;
 mod texts;
-mod walks;
-mod weighted_row;
 
-use answers::{Answers, Tally, number};
-use items::Home;
 use row::{Row, Wrong};
 use rows::wrong;
 use spoken::{Voice, say_words};
@@ -38,6 +22,7 @@ use std::io::ErrorKind;
 use std::process::ExitCode;
 use std::rc::Rc;
 use std::{env, fs};
+use test_items::{Answers, Counts, Home, Tally, number};
 
 fn main(rt: HostRuntime) -> ExitCode {
     let mut tally = Tally::default();
@@ -84,17 +69,17 @@ fn is_file_right(rt: &HostRuntime, name: &str, is_said: bool, tally: &mut Tally)
         let _ = println!(rt; "{name}: {error}");
         return false;
     }
-    let (Ok(text), Ok(mut answers), Ok(life)) = (
+    let (Ok(text), Ok(mut answers), Ok(counts)) = (
         read,
         Answers::new(rt.alloc()),
-        Rc::new(rt.alloc(), 0u64),
+        Rc::new(rt.alloc(), Counts::new()),
     ) else {
         tally.left_out = tally.left_out.saturating_add(1);
         return true;
     };
     let home = Home {
         alloc: rt.alloc(),
-        life: &life,
+        counts: &counts,
     };
     answers.tally = *tally;
     let mut text = text.as_str();

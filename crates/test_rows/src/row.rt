@@ -1,6 +1,5 @@
 //! A row, and what is wrong with it.
-use crate::answers::Stop;
-use crate::line::Words;
+use test_items::{Stop, Words};
 
 /// A row of a file.
 #[derive(Clone, Copy)]

@@ -1,18 +1,15 @@
 //! A row, and what is done with it.
-use crate::answers::{Answers, Stop, are_written};
-use crate::cache_row::Cache;
 use crate::hashers::{OddOrEven, SameHash};
-use crate::items::Home;
-use crate::line::Words;
 use crate::lists::{are_runs_right, run_lines_of_pair, run_lines_of_uses};
-use crate::map_row::Map;
 use crate::row::{Row, Wrong, cut, words_of};
-use crate::set_row::Set;
 use crate::spoken::{Spoken, Voice, say_words};
 use crate::texts::is_text_right;
-use crate::weighted_row::Weighted;
 use hashlink::{DefaultHashBuilder, LinkedHashMap, LruCache};
 use std::hash::BuildHasher;
+use test_cache_rows::{Cache, Weighted};
+use test_items::{Answers, Home, Stop, Words, are_written};
+use test_map_rows::Map;
+use test_set_rows::Set;
 
 /// What is wrong with the row, if anything is. A row without memory of its own says so.
 pub fn wrong<'f>(
@@ -54,47 +51,57 @@ fn run<'f>(
     voice: Voice<'_>,
 ) -> Result<Option<Wrong<'f>>, Stop> {
     let mut words = Words::new(row.mode);
-    head(row, "default", voice);
+    let words_of_all = words;
     match words.word()? {
+        "default" => under::<DefaultHashBuilder>(row, "default", words, home, answers, voice),
+        "same_hash" => under::<SameHash>(row, "same_hash", words, home, answers, voice),
         "pair_commands" => {
+            head(row, "default", voice);
             let capacities = (words.size()?, words.size()?);
             run_lines_of_pair(home.alloc, capacities, row.lines, answers, voice)?;
             Ok(None)
         }
         "uses" => {
+            head(row, "default", voice);
             run_lines_of_uses(home.alloc, words.size()?, row.lines, answers, voice)?;
             Ok(None)
         }
-        "text" => Ok(whole(is_text_right(home.alloc, row.lines, answers, voice)?)),
-        _ => each(row, home, answers, voice),
+        "text" => {
+            head(row, "default", voice);
+            Ok(whole(is_text_right(home.alloc, row.lines, answers, voice)?))
+        }
+        _ => each(row, words_of_all, home, answers, voice),
     }
 }
 
 /// Under each hasher in turn.
 fn each<'f>(
     row: Row<'f>,
+    words: Words<'_>,
     home: Home<'_>,
     answers: &mut Answers,
     voice: Voice<'_>,
 ) -> Result<Option<Wrong<'f>>, Stop> {
-    if let Some(wrong) = by::<DefaultHashBuilder>(row, home, answers, voice)? {
+    if let Some(wrong) = under::<DefaultHashBuilder>(row, "default", words, home, answers, voice)? {
         return Ok(Some(wrong));
     }
-    head(row, "same_hash", voice);
-    if let Some(wrong) = by::<SameHash>(row, home, answers, voice)? {
+    if let Some(wrong) = under::<SameHash>(row, "same_hash", words, home, answers, voice)? {
         return Ok(Some(wrong));
     }
-    head(row, "odd_or_even", voice);
-    by::<OddOrEven>(row, home, answers, voice)
+    under::<OddOrEven>(row, "odd_or_even", words, home, answers, voice)
 }
 
-fn by<'f, S: BuildHasher + Copy + Default + Drop>(
+/// Under one hasher, of which the words say the container.
+fn under<'f, S: BuildHasher + Copy + Default + Drop>(
     row: Row<'f>,
+    hasher: &str,
+    words: Words<'_>,
     home: Home<'_>,
     answers: &mut Answers,
     voice: Voice<'_>,
 ) -> Result<Option<Wrong<'f>>, Stop> {
-    let mut words = Words::new(row.mode);
+    head(row, hasher, voice);
+    let mut words = words;
     match words.word()? {
         "map" => speak::<Map<S>>(row, 0, home, answers, voice),
         "set" => speak::<Set<S>>(row, 0, home, answers, voice),
@@ -129,6 +136,7 @@ fn speak<'f, C: Spoken + Drop>(
         second: C::make(home, capacity),
         is_sure: true,
     };
+    let _ = home.cost();
     let mut number = row.first;
     for line in row.lines.split('\n') {
         if !line.starts_with('#') {
@@ -139,6 +147,13 @@ fn speak<'f, C: Spoken + Drop>(
         number = number.saturating_add(1);
     }
     Ok(None)
+}
+
+/// Says how many hashes and how many comparisons there were since this was last said.
+fn say_cost(home: Home<'_>, answers: &mut Answers) -> Result<(), Stop> {
+    let (hashes, comparisons) = home.cost();
+    answers.count(hashes)?;
+    answers.count(comparisons)
 }
 
 /// The two containers of a row.
@@ -188,6 +203,7 @@ impl<C: Spoken> Speech<C> {
         match rest.word()? {
             "other" => self.second.call(home, &mut rest, answers),
             "both" => self.first.both(&mut self.second, rest.word()?, answers),
+            "cost" => say_cost(home, answers),
             _ => self.first.call(home, &mut { words }, answers),
         }
     }

@@ -1,16 +1,11 @@
 //! Containers that are called by the lines of a row, and what is said of them.
-use crate::answers::{Answers, Stop, Word};
-use crate::cache_row::{Cache, call_cache};
-use crate::items::Home;
-use crate::line::Words;
-use crate::map_row::{Map, call_map};
-use crate::said::{shown, weighed};
-use crate::set_row::{Set, call_set, call_sets};
-use crate::weighted_row::{Weighted, call_weighted};
 use hashlink::weighted::WeightedCache;
-use hashlink::{DefaultHashBuilder, LinkedHashMap, LinkedHashSet, LruCache};
-use std::cmp::Ordering;
+use hashlink::{LinkedHashMap, LinkedHashSet, LruCache};
 use std::hash::BuildHasher;
+use test_cache_rows::{Cache, Weighted, call_cache, call_weighted, weighed};
+use test_items::{Answers, Home, Stop, Word, Words, shown};
+use test_map_rows::{Map, call_map, compare};
+use test_set_rows::{Set, call_set, call_sets};
 
 /// Where it is said what comes and what stands: nowhere, unless the program is asked to.
 pub type Voice<'v> = Option<&'v HostRuntime>;
@@ -167,46 +162,4 @@ impl<S: BuildHasher + Default> Spoken for Weighted<S> {
             say_word(rt, weighed(entry));
         }
     }
-}
-
-/// Compares two maps by `eq`, `cmp` or `partial_cmp`, each way round, or says whether they feed a hasher the
-/// same.
-fn compare<S: BuildHasher>(
-    map: &Map<S>,
-    other: &Map<S>,
-    name: &str,
-    answers: &mut Answers,
-) -> Result<(), Stop> {
-    match name {
-        "eq" => {
-            let is_equal = map == other;
-            if (other == map) != is_equal || (map != other) == is_equal {
-                answers.say(Word::Wrong)?;
-            }
-            answers.is(is_equal)
-        }
-        "less" => {
-            let is_less = map < other;
-            if (map >= other) == is_less {
-                answers.say(Word::Wrong)?;
-            }
-            answers.is(is_less)
-        }
-        "cmp" => {
-            let order = map.cmp(other);
-            if other.cmp(map) != order.reverse() || map.partial_cmp(other) != Some(order) {
-                answers.say(Word::Wrong)?;
-            }
-            answers.is(order == Ordering::Less)?;
-            answers.is(order == Ordering::Equal)?;
-            answers.is(order == Ordering::Greater)
-        }
-        "hash" => { answers.is(hash_of(map) == hash_of(other)) }
-        _ => Err(Stop::Unread),
-    }
-}
-
-/// What a map feeds a hasher, as one number.
-fn hash_of<S: BuildHasher>(map: &Map<S>) -> u64 {
-    DefaultHashBuilder.hash_one(map)
 }

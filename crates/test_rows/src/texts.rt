@@ -1,9 +1,9 @@
 //! Texts that are run.
-use crate::answers::{Answers, Stop};
 use crate::spoken::Voice;
 use hashlink::run::run_text;
 use std::alloc::Global;
 use std::str::from_utf8;
+use test_items::{Answers, Stop};
 
 /// Whether the answer of `run_text`, where none of it is a refusal, is the one that is written after the text
 /// and a line

@@ -1,0 +1,104 @@
+//! The iterators of maps by steps from both ends.
+use hashlink_map::{Drain, IntoIter, Iter, IterMut, Keys, Values, ValuesMut};
+use std::hash::BuildHasher;
+use test_items::{Item, Step, Walk, Word, given, hinted, lend, lend_pair, lent, lent_item};
+
+/// An iterator that takes steps.
+#[derive(Clone, Drop)]
+pub struct Walked<I>(pub I);
+
+impl Walk for Walked<Iter<'_, Item, Item>> {
+    fn step(&mut self, step: Step) -> Option<Word> {
+        if step.is_back {
+            return lent(self.0.next_back());
+        }
+        lent(self.0.next())
+    }
+
+    fn left(&self) -> (usize, usize, Option<usize>) {
+        hinted(self.0.len(), self.0.size_hint())
+    }
+}
+
+impl Walk for Walked<Keys<'_, Item, Item>> {
+    fn step(&mut self, step: Step) -> Option<Word> {
+        if step.is_back {
+            return lent_item(self.0.next_back());
+        }
+        lent_item(self.0.next())
+    }
+
+    fn left(&self) -> (usize, usize, Option<usize>) {
+        hinted(self.0.len(), self.0.size_hint())
+    }
+}
+
+impl Walk for Walked<Values<'_, Item, Item>> {
+    fn step(&mut self, step: Step) -> Option<Word> {
+        if step.is_back {
+            return lent_item(self.0.next_back());
+        }
+        lent_item(self.0.next())
+    }
+
+    fn left(&self) -> (usize, usize, Option<usize>) {
+        hinted(self.0.len(), self.0.size_hint())
+    }
+}
+
+impl<S: BuildHasher> Walk for Walked<IterMut<'_, Item, Item, S>> {
+    fn step(&mut self, step: Step) -> Option<Word> {
+        match (step.is_value, step.is_back) {
+            (false, false) => lend_pair(self.0.next(), step),
+            (false, true) => lend_pair(self.0.next_back(), step),
+            (true, false) => lend(self.0.next_value(), step),
+            (true, true) => lend(self.0.next_value_back(), step),
+        }
+    }
+
+    fn left(&self) -> (usize, usize, Option<usize>) {
+        let left = self.0.len();
+        (left, left, Some(left))
+    }
+}
+
+impl<S: BuildHasher> Walk for Walked<ValuesMut<'_, Item, Item, S>> {
+    fn step(&mut self, step: Step) -> Option<Word> {
+        if step.is_back {
+            return lend(self.0.next_back(), step);
+        }
+        lend(self.0.next(), step)
+    }
+
+    fn left(&self) -> (usize, usize, Option<usize>) {
+        let left = self.0.len();
+        (left, left, Some(left))
+    }
+}
+
+impl<S: BuildHasher + Drop> Walk for Walked<IntoIter<Item, Item, S>> {
+    fn step(&mut self, step: Step) -> Option<Word> {
+        if step.is_back {
+            return given(self.0.next_back());
+        }
+        given(self.0.next())
+    }
+
+    fn left(&self) -> (usize, usize, Option<usize>) {
+        hinted(self.0.len(), self.0.size_hint())
+    }
+}
+
+impl<S: BuildHasher> Walk for Walked<Drain<'_, Item, Item, S>> {
+    fn step(&mut self, step: Step) -> Option<Word> {
+        if step.is_back {
+            return given(self.0.next_back());
+        }
+        given(self.0.next())
+    }
+
+    fn left(&self) -> (usize, usize, Option<usize>) {
+        let (least, most) = self.0.size_hint();
+        (least, least, most)
+    }
+}
