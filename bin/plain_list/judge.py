@@ -12,7 +12,6 @@ from .words import MEMORY, Answers, Unread, Words, is_word
 
 HASHERS = ("default", "same_hash", "odd_or_even")
 #: those to which a row may be bound
-BOUND = HASHERS[:2]
 KINDS = {"map": Model, "set": SetModel, "cache": CacheModel, "weighted": WeightedModel}
 SAID = re.compile(r"row |=|\+ |\| |(left out|refused)$")
 SUMMARY = re.compile(
@@ -82,7 +81,7 @@ def judge_section(row, lines):
     section, words = Section(row, lines), Words(row.mode)
     try:
         kind = words.word()
-        if kind in BOUND:
+        if kind in HASHERS:
             kind = words.word()
         if kind in KINDS:
             sizes = [words.size() for _ in words.words[words.read :]]
@@ -250,7 +249,7 @@ class Judge:
 def hashers_of(row):
     """The hashers under which a row is run."""
     kind = row.mode.split(" ")[0]
-    if kind in BOUND:
+    if kind in HASHERS:
         return (kind,)
     return HASHERS[:1] if kind in ("pair_commands", "uses", "text") else HASHERS
 

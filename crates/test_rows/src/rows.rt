@@ -55,6 +55,7 @@ fn run<'f>(
     match words.word()? {
         "default" => under::<DefaultHashBuilder>(row, "default", words, home, answers, voice),
         "same_hash" => under::<SameHash>(row, "same_hash", words, home, answers, voice),
+        "odd_or_even" => under::<OddOrEven>(row, "odd_or_even", words, home, answers, voice),
         "pair_commands" => {
             head(row, "default", voice);
             let capacities = (words.size()?, words.size()?);

@@ -4,8 +4,8 @@ ghost use Rattle.std.proofs.Common.{rules};
 ghost use Rattle.std.specs.Cmp.Rules.{comparing};
 
 use crate::passes;
-use hashlink::run::Reply;
 use hashlink::linked_hash_map::TryInsertError;
+use hashlink::run::Reply;
 use hashlink::{LinkedHashMap, LruCache};
 use hashlink_uses::commands::remove_then_insert;
 use hashlink_uses::config::Settings;
