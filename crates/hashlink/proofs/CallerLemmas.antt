@@ -82,10 +82,12 @@ pub use Rattle.hashlink_model.proofs.CacheSteps.{gets_miss}
 -- goal: `lookup` at the key that a cache's insert put in, and at another key
 pub use Rattle.hashlink_model.proofs.Caches.{lookup-cache_put, lookup_entry-cache_put}
 -- goal: the entries, and a set's elements, after a removal, also where no key was found
-pub use Rattle.hashlink_lru.proofs.Leaving.{removes_entries}
+pub use Rattle.hashlink_map.proofs.Outcomes.{removes_entries}
 pub use Rattle.hashlink_set.proofs.Leaving.{removes_match_elements as set_removes}
 -- goal: the entry that a removal answers was there
-pub use Rattle.hashlink_lru.proofs.Leaving.{removed_was_there}
+pub use Rattle.hashlink_map.proofs.Outcomes.{removed_was_there}
+-- goal: the entries after an insert and a replace, by what they return
+pub use Rattle.hashlink_map.proofs.Outcomes.{inserts_entries, replaces_entries}
 -- goal: a set's elements after `insert` and `replace`, by their answers, and the last element written out
 pub use Rattle.hashlink_model.proofs.SetElements.{set_inserts, set_replaces, put_element_back}
 
@@ -321,12 +323,6 @@ module _ {K V : Type 0} (eq : K → K → Bool) (laws : IsEquivalence eq) where
 -- ---- each step as an equation of entries
 
 module _ {K V S : Type 0} (eq : K → K → Bool) (old new : MapState K V S) (k : K) (v : V) where
-  -- goal: the entries after an insert that is not refused, and its answer
-  pub inserts_entries : (b : ℕ) (w : Option V) → Inserts eq old new k v b (Ok w)
-      → (new.entries ≡ put eq old.entries k v b) × (w ≡ lookup (eq k) old.entries)
-  inserts_entries b None s = (s.adds.entries, sym s.absent)
-  inserts_entries b (Some w) s = (s.puts.entries, sym s.old_value)
-
   -- what a call ends as that puts an absent key last: the pair is the last entry, or is handed back
   abbrev pub PutLast : Result (Option V) (K × V) → Type 0
   PutLast r =
@@ -349,7 +345,7 @@ module _ {K V S : Type 0} (eq : K → K → Bool) (old new : MapState K V S) (k 
       × (new.entries ≡ without eq old.entries k ++ (stored_key eq old.entries k, v) ∷ []))
       (λ pair. (pair ≡ (k, v)) × (new.entries ≡ old.entries))
   inserts_back (Ok w) s =
-      let e = inserts_entries (length old.entries) w s in (e.1, e.0 ∙ put_back eq old.entries k v)
+      let e = inserts_entries eq old new k v (length old.entries) w s in (e.1, e.0 ∙ put_back eq old.entries k v)
   inserts_back (Err pair) s = (s.handed_back, s.grows.entries)
 
   -- goal: the same of a caller that lets the answer go
@@ -363,7 +359,7 @@ module _ {K V S : Type 0} (eq : K → K → Bool) (old new : MapState K V S) (k 
       → Inserts eq old new k v (length old.entries) r
       → (r ≡ Ok (Some w)) × (new.entries ≡ without eq old.entries k ++ (stored_key eq old.entries k, v) ∷ [])
   inserts_there w there (Ok o) s =
-      let e = inserts_entries (length old.entries) o s in
+      let e = inserts_entries eq old new k v (length old.entries) o s in
       (ap Ok (e.1 ∙ there), e.0 ∙ put_back eq old.entries k v)
   inserts_there w there (Err pair) s = absurd (none-some w (sym s.may_refuse.absent ∙ there))
 
@@ -385,28 +381,13 @@ module _ {K V S : Type 0} (eq : K → K → Bool) (old new : MapState K V S) (k 
   replaces_there w there (Ok (Some x)) s = (ap Ok (sym s.old_value ∙ there), s.writes.entries)
   replaces_there w there (Err pair) s = absurd (none-some w (sym s.may_refuse.absent ∙ there))
 
-  -- goal: the entries after a replace that is not refused, as a put where the key stands
-  pub replaces_entries : (w : Option V) → Replaces eq old new k v (Ok w)
-      → new.entries ≡ put eq old.entries k v (place_or_end eq old.entries k)
-  replaces_entries None s =
-      s.adds.entries
-      ∙ ap (λ o. put eq old.entries k v (unwrap_or o (length old.entries)))
-      (sym (place_of-none (eq k) old.entries (none_from_lookup (eq k) old.entries s.absent)))
-  replaces_entries (Some w) s =
-      let at = stands_from_lookup (eq k) old.entries w s.old_value in
-      let place : place_of (eq k) old.entries ≡ Some (length at.0)
-      = ap (place_of (eq k)) at.3.is ∙ place_of-here (eq k) at.1 at.2 at.3.passes at.0 at.3.before in
-      s.writes.entries
-      ∙ sym (ap (λ o. put eq old.entries k v (unwrap_or o (length old.entries))) place
-      ∙ put_at_its_place eq old.entries k v (length at.0) place)
-
   -- no two keys are equal afterwards, as each call ensures
   module _ (laws : IsEquivalence eq) (d : IsEntries eq new.entries) where
     -- goal: the value found at the key after an insert, or a replace, that is not refused
     pub lookup-inserts : (b : ℕ) (r : Result (Option V) (K × V)) → Inserts eq old new k v b r
         → OnOk r (lookup (eq k) new.entries ≡ Some v)
     lookup-inserts b (Ok w) s =
-        let e = (inserts_entries b w s).0 in
+        let e = (inserts_entries eq old new k v b w s).0 in
         ap (lookup (eq k)) e
         ∙ lookup-put_same eq laws k old.entries k v b
         (distinct_before eq laws old.entries k v b (subst (IsEntries eq) e d)) (laws.refl k)
@@ -415,7 +396,7 @@ module _ {K V S : Type 0} (eq : K → K → Bool) (old new : MapState K V S) (k 
     pub lookup-replaces : (r : Result (Option V) (K × V)) → Replaces eq old new k v r
         → OnOk r (lookup (eq k) new.entries ≡ Some v)
     lookup-replaces (Ok w) s =
-        let e = replaces_entries w s in
+        let e = replaces_entries eq old new k v w s in
         let b = place_or_end eq old.entries k in
         ap (lookup (eq k)) e
         ∙ lookup-put_same eq laws k old.entries k v b
@@ -427,7 +408,7 @@ module _ {K V S : Type 0} (eq : K → K → Bool) (old new : MapState K V S) (k 
         → Inserts eq old new k v b r
         → lookup (eq q) new.entries ≡ lookup (eq q) old.entries
     lookup-inserts_other b q t (Ok w) s =
-        let e = (inserts_entries b w s).0 in
+        let e = (inserts_entries eq old new k v b w s).0 in
         ap (lookup (eq q)) e
         ∙ lookup-put eq laws q old.entries k v b
         (distinct_before eq laws old.entries k v b (subst (IsEntries eq) e d))
@@ -438,7 +419,7 @@ module _ {K V S : Type 0} (eq : K → K → Bool) (old new : MapState K V S) (k 
         → Replaces eq old new k v r
         → lookup (eq q) new.entries ≡ lookup (eq q) old.entries
     lookup-replaces_other q t (Ok w) s =
-        let e = replaces_entries w s in
+        let e = replaces_entries eq old new k v w s in
         let b = place_or_end eq old.entries k in
         ap (lookup (eq q)) e
         ∙ lookup-put eq laws q old.entries k v b

@@ -2,5 +2,4 @@ pub mod Dropping
 pub mod Ends
 pub mod Entering
 pub mod Extending
-pub mod Leaving
 pub mod Using

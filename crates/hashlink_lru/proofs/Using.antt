@@ -1,28 +1,27 @@
 -- A use of a key that may be absent, and what is written through the value that it lends, which stands last.
 use Rattle.std.specs.Prelude.{◌≡◌, ℕ, zero, suc, ◌+◌, ◌-◌, ◌<◌, max, Bool, List, [], ◌∷◌, ◌++◌, length}
-use Rattle.std.specs.Prelude.{drop, slice_get, Option, None, Some, MatchOption, false, is_some, option_copied}
-use Rattle.std.specs.Borrow.{Bor}
+use Rattle.std.specs.Prelude.{drop, slice_get, Option, None, Some, MatchOption, Ok, ◌≤◌}
 use Rattle.std.specs.Cmp.{IsEquivalence}
 use Rattle.std.specs.Map.{lookup}
 use Rattle.std.specs.Option.{option_map, UnwrapsOrElse}
 use Rattle.std.proofs.Common.{refl, ap, ap₂, sym, subst, ◌∙◌, arith}
 use Rattle.std.proofs.lemmas.Option.{none-some, same_Some}
-use Rattle.hashlink_model.specs.Cache.{CacheState, CacheGets, CacheGetsMatch, CacheGetsAndWrites}
-use Rattle.hashlink_model.specs.Cache.{InsertsLast, KeepsLast, last_entries}
-use Rattle.hashlink_model.specs.Entries.{IsEntries, place_of, set_value_at, without, stored_key}
-use Rattle.hashlink_model.specs.MapState.{MapState, with_value}
+use Rattle.hashlink_model.specs.Cache.{CacheState, CacheGets, CacheGetsAndWrites}
+use Rattle.hashlink_model.specs.Cache.{KeepsLast, last_entries}
+use Rattle.hashlink_model.specs.Entries.{IsEntries, moved, place_of, put, set_value_at, without, stored_key}
+use Rattle.hashlink_model.specs.MapState.{Changes, Inserts, MapState, with_value}
 use Rattle.hashlink_model.specs.Walk.{last_of}
-use Rattle.hashlink_model.proofs.Afterwards.{IsEntries-moved}
+use Rattle.hashlink_model.proofs.Afterwards.{IsEntries-moved, length-put_there, moved-there}
 use Rattle.hashlink_model.proofs.ByPlace.{length-set_value_at, set_value_at-place}
 use Rattle.hashlink_model.proofs.CacheBounds.{within-gets_match_and_writes}
 use Rattle.hashlink_model.proofs.Caches.{length-last_entries}
-use Rattle.hashlink_model.proofs.CacheSteps.{put_answer, gets_hit}
+use Rattle.hashlink_model.proofs.CacheSteps.{gets_hit}
 use Rattle.hashlink_model.proofs.Finds.{stored_key-equal}
 use Rattle.hashlink_model.proofs.Places.{place_of_its_key}
 use Rattle.hashlink_model.proofs.Puts.{put_back_absent}
 use Rattle.hashlink_model.proofs.Splits.{none_from_lookup}
 use Rattle.hashlink_map.proofs.AtNode.{adds-rewritten-at}
-use Rattle.hashlink_lru.specs.Cached.{PutsNewIn, UsesOrPuts, UsesAndWrites, StaysWithinOne}
+use Rattle.hashlink_lru.specs.Cached.{MovesOrMakes, PutsNewIn, UsesOrPuts, UsesAndWrites, StaysWithinOne}
 
 -- ---- the last of a list
 
@@ -61,37 +60,6 @@ module _ {K V : Type 0} where
       written-drop (f ∷ es) d w (omega arith) ∙ sym (ap (drop (suc d)) (written-more e f es w))
 
 -- ---- a miss, and the insert of an absent key
-
-pub copied_none : {X : Type 0} (o : Option (Bor X)) → is_some o ≡ false → option_copied o ≡ None
-copied_none None n = refl
-copied_none (Some x) n = absurd (cc)
-
--- a miss of `get` changes nothing
-pub missed : {K V S : Type 0} (old found : CacheState K V S) (test : K → Bool) (r : Option V) → r ≡ None
-    → CacheGetsMatch test old found r
-    → found ≡ old
-missed old found test None n s = ap₂ (λ m c. record { map = m; cap = c }) s.map.step s.cap
-missed old found test (Some w) n s = absurd (none-some w (sym n))
-
-module _ {K V S : Type 0} (eq : K → K → Bool) where
-  -- a miss, the map's insert of what was made, and what was dropped then
-  pub puts_new : (old found new : CacheState K V S) (between : MapState K V S) (k : K) (v : V)
-      (w : Option V) (n : ℕ)
-      → found ≡ old → lookup (eq k) old.map.entries ≡ None → InsertsLast eq k v w found.map between
-      → n ≡ max found.cap 1 → KeepsLast between new.map n → new.cap ≡ found.cap
-      → PutsNewIn eq old new k v
-  puts_new old found new between k v w n same absent put_in most keeps cap =
-      let none : w ≡ None
-      = put_answer eq found.map between k v w put_in ∙ ap (λ c. lookup (eq k) c.map.entries) same ∙ absent in
-      subst (λ c. PutsNewIn eq c new k v) same
-      (record {
-        map = record {
-          between = between;
-          inserts = subst (λ x. InsertsLast eq k v x found.map between) none put_in;
-          fits = subst (KeepsLast between new.map) most keeps;
-        };
-        cap = cap;
-      })
 
 module _ {K V S : Type 0} (eq : K → K → Bool) (laws : IsEquivalence eq) (old mid : CacheState K V S)
     (k : K) (v : V) (s : PutsNewIn eq old mid k v) where
@@ -187,14 +155,61 @@ module _ {K V S : Type 0} (eq : K → K → Bool) (laws : IsEquivalence eq) (old
 
 -- ---- either
 
-pub by_miss : {K V S : Type 0} (eq : K → K → Bool) (Makes : V → Type 0) (old new : CacheState K V S)
-    (k : K) (v : V)
-    → lookup (eq k) old.map.entries ≡ None → Makes v → PutsNewIn eq old new k v
-    → UsesOrPuts eq Makes old new k
-by_miss eq Makes old new k v absent made s =
-    subst
-    (λ o. MatchOption o ((u : _) × Makes u × PutsNewIn eq old new k u) (λ w. CacheGets eq old new k (Some w)))
-    (sym absent) (v, made, s)
+-- the map's step, by whether there is an entry more, and what was dropped then
+module _ {K V S : Type 0} (eq : K → K → Bool) (Makes : V → Type 0) (old new : CacheState K V S)
+    (between : MapState K V S) (k : K) where
+  abbrev End : ℕ
+  End = length old.map.entries
+
+  abbrev Made : Option V → Type 0
+  Made o = (v : V) × UnwrapsOrElse o Makes v × Inserts eq old.map between k v End (Ok o)
+
+  abbrev Used : Option V → Type 0
+  Used o = MatchOption o ((v : V) × Makes v × PutsNewIn eq old new k v) (λ w. CacheGets eq old new k (Some w))
+
+  pub used_new : MovesOrMakes eq Makes old.map between k → (length between.entries ≡ End → ⊥)
+      → (n : ℕ) → n ≡ max old.cap 1 → KeepsLast between new.map n → new.cap ≡ old.cap
+      → UsesOrPuts eq Makes old new k
+  used_new made more n most keeps cap = by (lookup (eq k) old.map.entries) refl made
+    where
+      by : (o : Option V) → lookup (eq k) old.map.entries ≡ o → Made o → Used o
+      by None l m = (
+        m.0,
+        m.1,
+        record {
+          map = record {
+            between = between;
+            inserts = m.2;
+            fits = subst (KeepsLast between new.map) most keeps;
+          };
+          cap = cap;
+        },
+      )
+      by (Some w) l m =
+          let same = ap length m.2.puts.entries ∙ length-put_there eq old.map.entries k m.0 End w l in
+          absurd (omega arith)
+
+  pub used_there : MovesOrMakes eq Makes old.map between k → length between.entries ≡ End
+      → new.map ≡ between → new.cap ≡ old.cap
+      → UsesOrPuts eq Makes old new k
+  used_there made few same kept = by (lookup (eq k) old.map.entries) refl made
+    where
+      by : (o : Option V) → lookup (eq k) old.map.entries ≡ o → Made o → Used o
+      by None l m =
+          let one = ap length m.2.adds.entries ∙ m.2.adds.more in
+          absurd (omega arith)
+      by (Some w) l m =
+          let es = old.map.entries in
+          let moves : Changes old.map between (moved eq es k End) 6
+          = subst (λ xs. Changes old.map between xs 6)
+          (ap (λ u. put eq es k u End) m.1 ∙ sym (moved-there eq es k End w l)) m.2.puts in
+          record {
+            map = record {
+              answer = sym l;
+              step = subst (λ a. Changes old.map a (moved eq es k End) 6) (sym same) moves;
+            };
+            cap = kept;
+          }
 
 module _ {K V S : Type 0} (eq : K → K → Bool) (laws : IsEquivalence eq) (Makes : V → Type 0)
     (old mid : CacheState K V S) (k : K) where

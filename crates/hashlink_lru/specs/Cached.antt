@@ -1,11 +1,13 @@
 -- What a contract sees of a cache.
 use Rattle.std.specs.Prelude.{◌≡◌, ℕ, ◌+◌, ◌≤◌, max, Bool, List, Option, None, Some, Result, Err, MatchOption}
 use Rattle.std.specs.Map.{lookup}
+use Rattle.std.specs.Option.{UnwrapsOrElse}
 use Rattle.hashlink_model.specs.Cache.{CacheState, CacheInserts, CacheGets, CacheGetsAndWrites, IsWithin}
 use Rattle.hashlink_model.specs.Cache.{OnMap}
 use Rattle.hashlink_model.specs.Cache.{InsertsLast, InsertsThenFits}
-use Rattle.hashlink_model.specs.MapState.{empty_map}
+use Rattle.hashlink_model.specs.MapState.{MapState, empty_map}
 use Rattle.hashlink_core.specs.Keyed.{Keyed, entries_of, state_of}
+use Rattle.hashlink_map.specs.EntryLends.{PutsLast}
 use Rattle.hashlink_map.specs.declared.try_insert_error.TryInsertError.{TryInsertError}
 use Rattle.hashlink_map.specs.declared.try_insert_error.TryInsertError.TheVariants.{Make, Memory}
 use Rattle.hashlink_lru.specs.declared.cache.LruCache.{LruCache}
@@ -33,6 +35,11 @@ module _ {K V S : Type 0} (eq : K → K → Bool) where
   -- one
   abbrev pub PutsNewIn : CacheState K V S → CacheState K V S → K → V → Type 0
   PutsNewIn old new k v = OnMap (λ a b. InsertsThenFits (InsertsLast eq k v None) (max old.cap 1) a b) old new
+
+  -- a key that is there moves last with its value, and an absent one goes last with a value that may be made
+  abbrev pub MovesOrMakes : (V → Type 0) → MapState K V S → MapState K V S → K → Type 0
+  MovesOrMakes Makes old new k =
+      (v : V) × UnwrapsOrElse (lookup (eq k) old.entries) Makes v × PutsLast eq old new k v
 
   -- a use of a key: a hit of `get`, or the insert of an absent key with a value that may be made
   abbrev pub UsesOrPuts : (V → Type 0) → CacheState K V S → CacheState K V S → K → Type 0

@@ -5,6 +5,7 @@ pub mod CursorPairs
 pub mod Extending
 pub mod Indexing
 pub mod LastMoved
+pub mod Outcomes
 pub mod PairRows
 pub mod PairSteps
 pub mod PairTies

@@ -2,6 +2,7 @@
 
 pub mod drains;
 pub mod entries;
+pub mod everyday;
 pub mod indexed;
 pub mod many;
 pub mod retains;

@@ -18,14 +18,16 @@ impl<K: Eq + Hash, V, S: BuildHasher> LruCache<K, V, S> {
 
     /// Whether the key is there. The order stays as it is.
     pub fn contains_key<Q: Equivalent<K>>(&self, key: Q) -> bool
-        ensures { result ≡ is_some (lookup (Q.matches key) (entries_in self.now)) }
+        ensures found { result ≡ is_some (lookup (Q.matches key) (entries_in self.now)) }
+        ensures distinct { IsEntries K.eq (entries_in self.now) }
     {
         self.map.contains_key(key)
     }
 
     /// The value of the key. The order stays as it is.
     pub fn peek<Q: Equivalent<K>>(&self, key: Q) -> Option<&V>
-        ensures { option_copied result ≡ lookup (Q.matches key) (entries_in self.now) }
+        ensures found { option_copied result ≡ lookup (Q.matches key) (entries_in self.now) }
+        ensures distinct { IsEntries K.eq (entries_in self.now) }
     {
         self.map.get(key)
     }
@@ -35,6 +37,7 @@ impl<K: Eq + Hash, V, S: BuildHasher> LruCache<K, V, S> {
         ensures* lends { sem 𝓛 (LendsValueIn K.row V.row S.row S.Hasher.row K.Hash
             S.BuildHasher S.Hasher.Hasher self.entry (Q.matches key) result) }
         ensures value { option_copied_mut result ≡ lookup (Q.matches key) (entries_in self.old) }
+        ensures distinct { IsEntries K.eq (entries_in self.old) }
     {
         self.map.get_mut(key)
     }
@@ -42,14 +45,16 @@ impl<K: Eq + Hash, V, S: BuildHasher> LruCache<K, V, S> {
     /// The front, which was used longest ago and is dropped next. The order stays as it is. It takes constant
     /// time and hashes nothing.
     pub fn peek_lru(&self) -> Option<(&K, &V)>
-        ensures { option_map deref_pair result ≡ first_of (entries_in self.now) }
+        ensures found { option_map deref_pair result ≡ first_of (entries_in self.now) }
+        ensures distinct { IsEntries K.eq (entries_in self.now) }
     {
         self.map.front()
     }
 
     /// The entry that was used last. The order stays as it is. It takes constant time and hashes nothing.
     pub fn back(&self) -> Option<(&K, &V)>
-        ensures { option_map deref_pair result ≡ last_of (entries_in self.now) }
+        ensures found { option_map deref_pair result ≡ last_of (entries_in self.now) }
+        ensures distinct { IsEntries K.eq (entries_in self.now) }
     {
         self.map.back()
     }

@@ -5,10 +5,13 @@ ghost use Rattle.std.specs.Option.{UnwrapsOrElse};
 ghost use Rattle.std.specs.Map.{lookup};
 ghost use Rattle.hashlink_model.specs.Cache.{CacheInserts};
 ghost use Rattle.hashlink_model.specs.Entries.{IsEntries};
-ghost use Rattle.hashlink_map.specs.TryInsert.{HandsBack};
+ghost use Rattle.hashlink_model.specs.MapState.{RefusesEntry};
+ghost use Rattle.hashlink_core.specs.Keyed.{entries_of, state_of};
+ghost use Rattle.hashlink_map.specs.TryInsert.{FailsToInsert, HandsBack};
+ghost use Rattle.hashlink_lru.specs.Cached.{MovesOrMakes};
 
 use super::LruCache;
-use hashlink_map::TryInsertError;
+use hashlink_map::{LinkedHashMap, TryInsertError};
 use std::hash::{BuildHasher, Hash};
 
 impl<K: Eq + Hash, V, S: BuildHasher> LruCache<K, V, S> {
@@ -26,8 +29,8 @@ impl<K: Eq + Hash, V, S: BuildHasher> LruCache<K, V, S> {
     /// It takes memory only for an absent key where no node is spare. Where that is refused, the key and the
     /// value that was made are handed back, no entry changes and nothing is dropped.
     ///
-    /// It hashes the key once for a hit and twice for a miss, and stores at most six links for a key that is
-    /// there, four for an absent one, and three for each entry that it drops.
+    /// It hashes the key once, and stores at most six links for a key that is there, four for an absent one,
+    /// and three for each entry that it drops.
     pub fn get_or_insert_with<F: FnOnce() -> V>(
         &mut self,
         key: K,
@@ -66,10 +69,11 @@ impl<K: Eq + Hash, V, S: BuildHasher> LruCache<K, V, S> {
         ensures made { IfErr result (λ pair. F.post make pair.1) }
         ensures distinct { IsEntries K.eq (entries_in self.old) }
     {
-        if self.get(&key).is_some() {
+        let before = self.map.len();
+        move_or_make(&mut self.map, key, make)?;
+        if self.map.len() == before {
             return Ok(());
         }
-        self.map.insert(key, make())?;
         self.keep_last(self.capacity.max(1));
         Ok(())
     }
@@ -119,17 +123,48 @@ impl<K: Eq + Hash, V, S: BuildHasher> LruCache<K, V, S> {
         ensures handed_back { IfErr result (HandsBack (F.post make) key) }
         ensures distinct { IsEntries K.eq (entries_in self.old) }
     {
-        if self.get(&key).is_some() {
+        let before = self.map.len();
+        move_or_try_make(&mut self.map, key, make)?;
+        if self.map.len() == before {
             return Ok(());
-        }
-        let value = match make() {
-            Ok(value) => value,
-            Err(error) => return Err(TryInsertError::Make(key, error)),
-        };
-        if let Err(pair) = self.map.insert(key, value) {
-            return Err(TryInsertError::Memory(pair));
         }
         self.keep_last(self.capacity.max(1));
         Ok(())
     }
+}
+
+/// Moves the entry of the key to the end, or puts in what `make` returns. It hashes the key once.
+fn move_or_make<K: Eq + Hash + Drop, V: Drop, S: BuildHasher, F: FnOnce() -> V + Drop>(
+    map: &mut LinkedHashMap<K, V, S>,
+    key: K,
+    make: F,
+) -> Result<(), (K, V)>
+    requires { lookup (K.eq key) (entries_of map.old) ≡ None → F.pre make }
+    ensures puts { OnOk result (MovesOrMakes K.eq (F.post make) (state_of map.old) (state_of map.new) key) }
+    ensures refused { IfErr result
+        (λ pair. RefusesEntry K.eq (state_of map.old) (state_of map.new) key pair.1 pair) }
+    ensures made { IfErr result (λ pair. F.post make pair.1) }
+    ensures distinct { IsEntries K.eq (entries_of map.old) }
+{
+    map.entry(key).or_insert_with(make)?;
+    Ok(())
+}
+
+/// `move_or_make` of what may fail to be made.
+fn move_or_try_make<
+    K: Eq + Hash + Drop,
+    V: Drop,
+    S: BuildHasher,
+    E,
+    F: FnOnce() -> Result<V, E> + Drop,
+>(map: &mut LinkedHashMap<K, V, S>, key: K, make: F) -> Result<(), TryInsertError<K, V, E>>
+    requires { lookup (K.eq key) (entries_of map.old) ≡ None → F.pre make }
+    ensures puts { OnOk result
+        (MovesOrMakes K.eq (λ v. F.post make (Ok v)) (state_of map.old) (state_of map.new) key) }
+    ensures failed { IfErr result (FailsToInsert K.eq (state_of map.old) (state_of map.new) key) }
+    ensures handed_back { IfErr result (HandsBack (F.post make) key) }
+    ensures distinct { IsEntries K.eq (entries_of map.old) }
+{
+    map.entry(key).or_try_insert_with(make)?;
+    Ok(())
 }

@@ -3,6 +3,7 @@
 ghost use Rattle.std.specs.Prelude.{◌≡◌, ◌^◌, ◌<◌, length};
 ghost use Rattle.std.specs.Borrow.{sem};
 ghost use Rattle.std.specs.Map.Iter.{ShowsInOrder, ShowsInReverse, deref_pair};
+ghost use Rattle.hashlink_model.specs.Entries.{IsEntries};
 
 use super::LruCache;
 use hashlink_map::{Drain, IntoIter, Iter, IterMut};
@@ -19,6 +20,7 @@ impl<K: Eq + Hash, V, S: BuildHasher> LruCache<K, V, S> {
     /// A walk over the entries, front first: what was used longest ago comes first.
     pub fn iter(&self) -> Iter<'_, K, V>
         ensures rest { result ≡ entries_in self.now }
+        ensures distinct { IsEntries K.eq (entries_in self.now) }
         ensures runs { ShowsInOrder (deref_pair {K = K} {X = V}) }
         ensures runs_back { ShowsInReverse (deref_pair {K = K} {X = V}) }
         ensures fits { length (entries_in self.now) < 2 ^ 63 }

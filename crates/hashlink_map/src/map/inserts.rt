@@ -1,6 +1,7 @@
 //! How pairs come in. Each insert hashes the key once, and looks for it as a lookup does.
-ghost use Rattle.std.specs.Prelude.{◌≡◌, length};
-ghost use Rattle.hashlink_model.specs.Entries.{IsEntries};
+ghost use Rattle.std.specs.Prelude.{◌≡◌, IfOk, IsOk, IsSome, OnOk, length};
+ghost use Rattle.std.specs.Map.{lookup};
+ghost use Rattle.hashlink_model.specs.Entries.{IsEntries, place_or_end, put};
 ghost use Rattle.hashlink_model.specs.MapState.{Inserts};
 ghost use Rattle.hashlink_model.specs.Steps.{Replaces};
 ghost use Rattle.hashlink_core.specs.Keyed.{state_of, entries_of};
@@ -20,6 +21,10 @@ impl<K: Eq + Hash, V, S: BuildHasher> LinkedHashMap<K, V, S> {
         K: Drop,
         ensures inserts { Inserts K.eq (state_of self.old) (state_of self.new) key value
             (length (entries_of self.old)) result }
+        ensures entries { OnOk result (entries_of self.new
+            ≡ put K.eq (entries_of self.old) key value (length (entries_of self.old))) }
+        ensures old { IfOk result (λ old. old ≡ lookup (K.eq key) (entries_of self.old)) }
+        ensures there { IsSome (lookup (K.eq key) (entries_of self.old)) → IsOk result }
         ensures distinct { IsEntries K.eq (entries_of self.new) }
     {
         self.list.insert(key, value)
@@ -35,6 +40,10 @@ impl<K: Eq + Hash, V, S: BuildHasher> LinkedHashMap<K, V, S> {
     where
         K: Drop,
         ensures inserts { Inserts K.eq (state_of self.old) (state_of self.new) key value 0 result }
+        ensures entries { OnOk result (entries_of self.new
+            ≡ put K.eq (entries_of self.old) key value 0) }
+        ensures old { IfOk result (λ old. old ≡ lookup (K.eq key) (entries_of self.old)) }
+        ensures there { IsSome (lookup (K.eq key) (entries_of self.old)) → IsOk result }
         ensures distinct { IsEntries K.eq (entries_of self.new) }
     {
         self.list.insert_first(key, value)
@@ -50,6 +59,10 @@ impl<K: Eq + Hash, V, S: BuildHasher> LinkedHashMap<K, V, S> {
     where
         K: Drop,
         ensures replaces { Replaces K.eq (state_of self.old) (state_of self.new) key value result }
+        ensures entries { OnOk result (entries_of self.new
+            ≡ put K.eq (entries_of self.old) key value (place_or_end K.eq (entries_of self.old) key)) }
+        ensures old { IfOk result (λ old. old ≡ lookup (K.eq key) (entries_of self.old)) }
+        ensures there { IsSome (lookup (K.eq key) (entries_of self.old)) → IsOk result }
         ensures distinct { IsEntries K.eq (entries_of self.new) }
     {
         self.list.replace(key, value)

@@ -4,6 +4,7 @@ ghost use Rattle.std.specs.Borrow.{sem};
 ghost use Rattle.std.specs.Option.{option_map, option_copied_mut};
 ghost use Rattle.std.specs.Map.{lookup, lookup_entry};
 ghost use Rattle.std.specs.Map.Iter.{deref_pair};
+ghost use Rattle.hashlink_model.specs.Entries.{IsEntries};
 ghost use Rattle.hashlink_model.specs.Walk.{first_of, last_of};
 ghost use Rattle.hashlink_core.specs.Keyed.{entries_of};
 
@@ -16,7 +17,8 @@ impl<K: Eq + Hash, V, S: BuildHasher> LinkedHashMap<K, V, S> {
 
     /// The value of the key. The order stays as it is.
     pub fn get<Q: Equivalent<K>>(&self, key: Q) -> Option<&V>
-        ensures { option_copied result ≡ lookup (Q.matches key) (entries_of self.now) }
+        ensures found { option_copied result ≡ lookup (Q.matches key) (entries_of self.now) }
+        ensures distinct { IsEntries K.eq (entries_of self.now) }
     {
         let (_, value) = self.get_key_value(key)?;
         Some(value)
@@ -25,7 +27,8 @@ impl<K: Eq + Hash, V, S: BuildHasher> LinkedHashMap<K, V, S> {
     /// The stored pair of the key, whose key object may be another one than the key given. The order stays as
     /// it is.
     pub fn get_key_value<Q: Equivalent<K>>(&self, key: Q) -> Option<(&K, &V)>
-        ensures { option_map deref_pair result ≡ lookup_entry (Q.matches key) (entries_of self.now) }
+        ensures found { option_map deref_pair result ≡ lookup_entry (Q.matches key) (entries_of self.now) }
+        ensures distinct { IsEntries K.eq (entries_of self.now) }
     {
         let node = self.list.find(self.list.hash_of(key), key)?;
         Some(self.list.entry(node))
@@ -33,7 +36,8 @@ impl<K: Eq + Hash, V, S: BuildHasher> LinkedHashMap<K, V, S> {
 
     /// Whether the key is there.
     pub fn contains_key<Q: Equivalent<K>>(&self, key: Q) -> bool
-        ensures { result ≡ is_some (lookup (Q.matches key) (entries_of self.now)) }
+        ensures found { result ≡ is_some (lookup (Q.matches key) (entries_of self.now)) }
+        ensures distinct { IsEntries K.eq (entries_of self.now) }
     {
         self.get_key_value(key).is_some()
     }
@@ -43,6 +47,7 @@ impl<K: Eq + Hash, V, S: BuildHasher> LinkedHashMap<K, V, S> {
         ensures* lends { sem 𝓛 (LendsValueOf K.row V.row S.row S.Hasher.row K.Hash
             S.BuildHasher S.Hasher.Hasher self.entry (Q.matches key) result) }
         ensures value { option_copied_mut result ≡ lookup (Q.matches key) (entries_of self.old) }
+        ensures distinct { IsEntries K.eq (entries_of self.old) }
     {
         let hash = self.list.hash_of(key);
         match self.list.find(hash, key) {
@@ -53,7 +58,8 @@ impl<K: Eq + Hash, V, S: BuildHasher> LinkedHashMap<K, V, S> {
 
     /// The first entry.
     pub fn front(&self) -> Option<(&K, &V)>
-        ensures { option_map deref_pair result ≡ first_of (entries_of self.now) }
+        ensures found { option_map deref_pair result ≡ first_of (entries_of self.now) }
+        ensures distinct { IsEntries K.eq (entries_of self.now) }
     {
         let node = self.list.first()?;
         Some(self.list.entry(node))
@@ -61,7 +67,8 @@ impl<K: Eq + Hash, V, S: BuildHasher> LinkedHashMap<K, V, S> {
 
     /// The last entry.
     pub fn back(&self) -> Option<(&K, &V)>
-        ensures { option_map deref_pair result ≡ last_of (entries_of self.now) }
+        ensures found { option_map deref_pair result ≡ last_of (entries_of self.now) }
+        ensures distinct { IsEntries K.eq (entries_of self.now) }
     {
         let node = self.list.last()?;
         Some(self.list.entry(node))

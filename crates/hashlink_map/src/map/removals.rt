@@ -1,7 +1,8 @@
 //! How entries leave. The other entries keep their order, and each node that is freed serves the next new
 //! pair. None of these takes memory.
-ghost use Rattle.std.specs.Prelude.{◌≡◌};
-ghost use Rattle.std.specs.Map.{lookup, lookup_entry};
+ghost use Rattle.std.specs.Prelude.{◌≡◌, Contains, IfSome};
+ghost use Rattle.std.specs.Map.{lookup, lookup_entry, remove_entry};
+ghost use Rattle.std.specs.Map.Iter.{TakesFirst, TakesLast};
 ghost use Rattle.hashlink_model.specs.Entries.{IsEntries};
 ghost use Rattle.hashlink_model.specs.Steps.{RemovesMatch, PopsFront, PopsBack, Clears};
 ghost use Rattle.hashlink_core.specs.Keyed.{state_of, entries_of};
@@ -17,6 +18,7 @@ impl<K: Eq + Hash, V, S: BuildHasher> LinkedHashMap<K, V, S> {
     where
         K: Drop,
         ensures value { result ≡ lookup (Q.matches key) (entries_of self.old) }
+        ensures entries { entries_of self.new ≡ remove_entry (Q.matches key) (entries_of self.old) }
         ensures removes { RemovesMatch (Q.matches key) (state_of self.old) (state_of self.new)
             (lookup_entry (Q.matches key) (entries_of self.old)) }
         ensures distinct { IsEntries K.eq (entries_of self.new) }
@@ -28,6 +30,9 @@ impl<K: Eq + Hash, V, S: BuildHasher> LinkedHashMap<K, V, S> {
     /// Takes the key's entry out and returns the stored pair. It looks for the key as `get` does, and stores
     /// at most three links.
     pub fn remove_entry<Q: Equivalent<K>>(&mut self, key: Q) -> Option<(K, V)>
+        ensures found { result ≡ lookup_entry (Q.matches key) (entries_of self.old) }
+        ensures entries { entries_of self.new ≡ remove_entry (Q.matches key) (entries_of self.old) }
+        ensures held { IfSome result (Contains (entries_of self.old)) }
         ensures removes { RemovesMatch (Q.matches key) (state_of self.old) (state_of self.new) result }
         ensures distinct { IsEntries K.eq (entries_of self.new) }
     {
@@ -38,6 +43,7 @@ impl<K: Eq + Hash, V, S: BuildHasher> LinkedHashMap<K, V, S> {
     /// three links.
     pub fn pop_front(&mut self) -> Option<(K, V)>
         ensures pops { PopsFront (state_of self.old) (state_of self.new) result }
+        ensures entries { TakesFirst (λ e. e) (entries_of self.old) result (entries_of self.new) }
         ensures distinct { IsEntries K.eq (entries_of self.new) }
     {
         self.list.pop_first()
@@ -47,6 +53,7 @@ impl<K: Eq + Hash, V, S: BuildHasher> LinkedHashMap<K, V, S> {
     /// three links.
     pub fn pop_back(&mut self) -> Option<(K, V)>
         ensures pops { PopsBack (state_of self.old) (state_of self.new) result }
+        ensures entries { TakesLast (λ e. e) (entries_of self.old) result (entries_of self.new) }
         ensures distinct { IsEntries K.eq (entries_of self.new) }
     {
         self.list.pop_last()

@@ -1,6 +1,6 @@
 //! What a set shows. Each lookup hashes the element once, and looks at the elements of one bucket.
 ghost use Rattle.std.specs.Prelude.{◌≡◌, option_copied};
-ghost use Rattle.std.specs.List.{find, list_any};
+ghost use Rattle.std.specs.List.{IsDistinct, find, list_any};
 ghost use Rattle.hashlink_model.specs.Walk.{first_of, last_of};
 ghost use Rattle.hashlink_model.specs.Sets.{elements_of};
 
@@ -11,7 +11,8 @@ use std::hash::{BuildHasher, Hash};
 impl<T: Eq + Hash, S: BuildHasher> LinkedHashSet<T, S> {
     /// Whether an equal element is there.
     pub fn contains<Q: Equivalent<T>>(&self, value: Q) -> bool
-        ensures { result ≡ list_any (Q.matches value) (elements_of self.now) }
+        ensures found { result ≡ list_any (Q.matches value) (elements_of self.now) }
+        ensures distinct { IsDistinct T.eq (elements_of self.now) }
     {
         self.map.contains_key(value)
     }
@@ -19,7 +20,8 @@ impl<T: Eq + Hash, S: BuildHasher> LinkedHashSet<T, S> {
     /// The element that is there and equal to the one given, which may be another object. The order stays as
     /// it is.
     pub fn get<Q: Equivalent<T>>(&self, value: Q) -> Option<&T>
-        ensures { option_copied result ≡ find (Q.matches value) (elements_of self.now) }
+        ensures found { option_copied result ≡ find (Q.matches value) (elements_of self.now) }
+        ensures distinct { IsDistinct T.eq (elements_of self.now) }
     {
         let (stored, _) = self.map.get_key_value(value)?;
         Some(stored)
@@ -27,7 +29,8 @@ impl<T: Eq + Hash, S: BuildHasher> LinkedHashSet<T, S> {
 
     /// The first element.
     pub fn front(&self) -> Option<&T>
-        ensures { option_copied result ≡ first_of (elements_of self.now) }
+        ensures found { option_copied result ≡ first_of (elements_of self.now) }
+        ensures distinct { IsDistinct T.eq (elements_of self.now) }
     {
         let (first, _) = self.map.front()?;
         Some(first)
@@ -35,7 +38,8 @@ impl<T: Eq + Hash, S: BuildHasher> LinkedHashSet<T, S> {
 
     /// The last element.
     pub fn back(&self) -> Option<&T>
-        ensures { option_copied result ≡ last_of (elements_of self.now) }
+        ensures found { option_copied result ≡ last_of (elements_of self.now) }
+        ensures distinct { IsDistinct T.eq (elements_of self.now) }
     {
         let (last, _) = self.map.back()?;
         Some(last)

@@ -28,6 +28,6 @@ returns-clause-said g c =
     moved_entries eq g.met.K.Eq.laws (state_of c.args.map.now) _
     c.args.key.now (length (entries_of c.args.map.now))
     c.in_ok-to_back.field-0.now c.to_back.ensures.distinct found left in
-    let read = c.back.ensures ∙ ap last_of moved
+    let read = c.back.ensures.found ∙ ap last_of moved
     ∙ last_of-moved eq es c.args.key.now c.in_ok-to_back.field-0.now found in
     rw read at c.said_of.ensures

@@ -28,6 +28,6 @@ returns-clause-said g c =
     moved_entries eq g.met.K.Eq.laws (state_of c.args.map.now) _
     c.args.key.now 0
     c.in_ok-to_front.field-0.now c.to_front.ensures.distinct found left in
-    let read = c.front.ensures ∙ ap first_of moved
+    let read = c.front.ensures.found ∙ ap first_of moved
     ∙ first_of-moved eq es c.args.key.now c.in_ok-to_front.field-0.now found in
     rw read at c.said_of.ensures

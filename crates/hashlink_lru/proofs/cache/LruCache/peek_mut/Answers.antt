@@ -16,5 +16,5 @@ returns g c =
         ),
         ap (λ m. record { map = m; cap = n }) c.get_mut.follows.holds-at-none,
       ),
-      record { lends = tt; value = c.get_mut.ensures.value },
+      record { lends = tt; value = c.get_mut.ensures.value; distinct = c.get_mut.ensures.distinct },
     )

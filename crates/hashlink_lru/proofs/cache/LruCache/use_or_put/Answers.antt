@@ -1,20 +1,23 @@
-use Rattle.std.proofs.Common.{sym, ◌∙◌}
+use Rattle.std.proofs.Common.{arith, refl}
 use Rattle.hashlink_core.specs.Keyed.{state_of}
 use Rattle.hashlink_lru.specs.Cached.{state_in}
-use Rattle.hashlink_lru.proofs.Using.{copied_none, missed, puts_new, by_miss}
+use Rattle.hashlink_lru.proofs.Using.{used_new, used_there}
 use Rattle.hashlink_lru.proofs.cache.LruCache.use_or_put.Goals as goal
+
+pub returns-then-len-before-clause-used : goal.returns-then-len-before-clause-used
+returns-then-len-before-clause-used g c =
+    let after = c.len.ensures.len in
+    let before = c.len-before.ensures.len in
+    let same = c.if-len-before.true in
+    used_there g.K.PartialEq.eq _ (state_in c.args.self.now) _ (state_of c.move_or_make.new.map) c.args.key
+    c.in_ok-move_or_make.ensures.puts (omega arith) refl refl
 
 pub returns-clause-used : goal.returns-clause-used
 returns-clause-used g c =
-    let eq = g.K.PartialEq.eq in
-    let old = state_in c.args.self.now in
-    let found = state_in c.get.follows.lender-at-none in
-    let new = state_in c.keep_last.new.self in
-    let none = copied_none c.get.result (sym c.is_some.ensures ∙ c.if-is_some.false) in
-    let absent = sym c.get.ensures.value ∙ none in
-    let same = missed old found (eq c.args.key) _ none c.get.follows.holds-at-none.0 in
+    let after = c.len.ensures.len in
+    let before = c.len-before.ensures.len in
+    let other = c.if-len-before.false in
     let keeps = c.keep_last.ensures.keeps in
-    by_miss eq _ old new c.args.key c.make.result absent c.make.ensures
-    (puts_new eq old found new (state_of c.insert.new.self) c.args.key c.make.result
-    c.in_ok-insert.field-0 c.max.result
-    same absent c.in_ok-insert.ensures.inserts c.max.ensures keeps.map keeps.cap)
+    used_new g.K.PartialEq.eq _ (state_in c.args.self.now) (state_in c.keep_last.new.self)
+    (state_of c.move_or_make.new.map) c.args.key c.in_ok-move_or_make.ensures.puts (λ same. omega arith) c.max.result c.max.ensures
+    keeps.map keeps.cap

@@ -6,10 +6,10 @@ use Rattle.hashlink_core.specs.Keyed.{entries_of}
 use Rattle.hashlink_core.proofs.AtKeyNode.{is_some-map}
 use Rattle.hashlink_map.proofs.map.LinkedHashMap.contains_key.Goals as goal
 
-pub returns : goal.returns
-returns g c =
+pub returns-clause-found : goal.returns-clause-found
+returns-clause-found g c =
     let test = g.Q.Equivalent.matches c.args.key in
     let es = entries_of c.args.self.now in
     c.is_some.ensures ∙ sym (is_some-map deref_pair c.get_key_value.result)
-    ∙ ap is_some c.get_key_value.ensures
+    ∙ ap is_some c.get_key_value.ensures.found
     ∙ sym (is_some-map (λ e. e.1) _) ∙ ap is_some (sym (lookup_is test es))

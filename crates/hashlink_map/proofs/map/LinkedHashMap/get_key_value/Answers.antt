@@ -7,15 +7,15 @@ use Rattle.hashlink_core.proofs.AtKeyNode.{stored}
 use Rattle.hashlink_core.proofs.Steps.{lookup_entry-unplaced}
 use Rattle.hashlink_map.proofs.map.LinkedHashMap.get_key_value.Goals as goal
 
-pub returns-in_err-node : goal.returns-in_err-node
-returns-in_err-node g c =
+pub returns-in_err-node-clause-found : goal.returns-in_err-node-clause-found
+returns-in_err-node-clause-found g c =
     let test = g.Q.Equivalent.matches c.args.key in
     ap (option_map deref_pair) c.from_residual.ensures
     ∙ sym (lookup_entry-unplaced test (entries_of c.self.inside.list) c.in_err-node.ensures.found)
     ∙ ap (λ m. lookup_entry test (entries_of m)) c.self.view_is
 
-pub returns : goal.returns
-returns g c =
+pub returns-clause-found : goal.returns-clause-found
+returns-clause-found g c =
     let test = g.Q.Equivalent.matches c.args.key in
     let m = c.self.inside.list in
     sym

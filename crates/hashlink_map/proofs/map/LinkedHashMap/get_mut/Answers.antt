@@ -1,5 +1,6 @@
-use Rattle.std.proofs.Common.{refl, ap, sym, ◌∙◌}
+use Rattle.std.proofs.Common.{refl, ap, subst, sym, ◌∙◌}
 use Rattle.std.specs.Map.{lookup}
+use Rattle.hashlink_model.specs.Entries.{IsEntries}
 use Rattle.hashlink_model.specs.Steps.{with_match_value}
 use Rattle.hashlink_core.specs.Keyed.{entries_of, state_of}
 use Rattle.hashlink_core.proofs.AtKeyNode.{lent, stored-value}
@@ -21,6 +22,8 @@ returns-in-Some g c =
         lends = tt;
         value = sym (stored-value test m m c.in-Some.node found c.value_mut.result.now
             c.value_mut.ensures.value) ∙ ap (λ l. lookup test (entries_of l)) c.self.view_is;
+        distinct = subst (λ l. IsEntries g.K.PartialEq.eq (entries_of l)) c.self.view_is
+            c.in-Some.ensures.sound.distinct;
       },
     )
 
@@ -32,5 +35,7 @@ returns-in-None g c =
         lends = tt;
         value = sym (lookup-unplaced test (entries_of c.self.inside.list) c.in-None.ensures.found)
             ∙ ap (λ l. lookup test (entries_of l)) c.self.view_is;
+        distinct = subst (λ l. IsEntries g.K.PartialEq.eq (entries_of l)) c.self.view_is
+            c.in-None.ensures.sound.distinct;
       },
     )

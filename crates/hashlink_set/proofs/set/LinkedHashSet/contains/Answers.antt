@@ -5,8 +5,8 @@ use Rattle.hashlink_model.specs.Sets.{elements_of}
 use Rattle.hashlink_algebra.proofs.Lookups.{member-found}
 use Rattle.hashlink_set.proofs.set.LinkedHashSet.contains.Goals as goal
 
-pub returns : goal.returns
-returns g c =
+pub returns-clause-found : goal.returns-clause-found
+returns-clause-found g c =
     let test = g.Q.Equivalent.matches c.args.value in
-    c.contains_key.ensures ∙ member-found (entries_of c.self.inside.map) test
+    c.contains_key.ensures.found ∙ member-found (entries_of c.self.inside.map) test
     ∙ ap (λ s. list_any test (elements_of s)) c.self.view_is

@@ -6,14 +6,14 @@ use Rattle.hashlink_model.specs.Sets.{elements_of}
 use Rattle.hashlink_algebra.proofs.Lookups.{element-found}
 use Rattle.hashlink_set.proofs.set.LinkedHashSet.get.Goals as goal
 
-pub returns-in_err-stored : goal.returns-in_err-stored
-returns-in_err-stored g c =
+pub returns-in_err-stored-clause-found : goal.returns-in_err-stored-clause-found
+returns-in_err-stored-clause-found g c =
     let test = g.Q.Equivalent.matches c.args.value in
-    ap option_copied c.from_residual.ensures ∙ ap (option_map (λ e. e.0)) c.in_err-stored.ensures
+    ap option_copied c.from_residual.ensures ∙ ap (option_map (λ e. e.0)) c.in_err-stored.ensures.found
     ∙ element-found (entries_of c.self.inside.map) test ∙ ap (λ s. find test (elements_of s)) c.self.view_is
 
-pub returns : goal.returns
-returns g c =
+pub returns-clause-found : goal.returns-clause-found
+returns-clause-found g c =
     let test = g.Q.Equivalent.matches c.args.value in
-    ap (option_map (λ e. e.0)) c.in_ok-stored.ensures
+    ap (option_map (λ e. e.0)) c.in_ok-stored.ensures.found
     ∙ element-found (entries_of c.self.inside.map) test ∙ ap (λ s. find test (elements_of s)) c.self.view_is

@@ -26,7 +26,7 @@ returns-in_err-value g c =
         value =
             ap option_copied c.from_residual.ensures
             ∙ ap without_weight
-            (sym shown ∙ ap (option_map (λ e. e.1)) c.back.ensures ∙ value);
+            (sym shown ∙ ap (option_map (λ e. e.1)) c.back.ensures.found ∙ value);
         distinct = c.move_last.ensures.distinct;
       },
     )
@@ -41,7 +41,7 @@ returns g c =
       (refl, λ _. tt, record { moves = c.move_last.ensures.moves; budget = refl }),
       record {
         used = tt;
-        value = ap without_weight (sym shown ∙ ap (option_map (λ e. e.1)) c.back.ensures ∙ value);
+        value = ap without_weight (sym shown ∙ ap (option_map (λ e. e.1)) c.back.ensures.found ∙ value);
         distinct = c.move_last.ensures.distinct;
       },
     )

@@ -1,0 +1,15 @@
+use Rattle.std.proofs.Common.{rules}
+use Rattle.hashlink_map.proofs.Outcomes.{replaces_outcome}
+use Rattle.hashlink_map.proofs.map.LinkedHashMap.replace.Goals as goal
+
+pub returns-clause-replaces : goal.returns-clause-replaces
+returns-clause-replaces g c = search rules
+
+pub returns-clause-entries : goal.returns-clause-entries
+returns-clause-entries g c = (replaces_outcome _ _ _ _ _ _ (returns-clause-replaces g c)).0
+
+pub returns-clause-old : goal.returns-clause-old
+returns-clause-old g c = (replaces_outcome _ _ _ _ _ _ (returns-clause-replaces g c)).1
+
+pub returns-clause-there : goal.returns-clause-there
+returns-clause-there g c = (replaces_outcome _ _ _ _ _ _ (returns-clause-replaces g c)).2
