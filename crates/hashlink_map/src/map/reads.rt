@@ -1,4 +1,4 @@
-//! What a map shows. Each lookup hashes the key once, and looks at the entries of one bucket.
+//! Reads of a map. Each lookup hashes the key once, and looks at the entries of one bucket.
 ghost use Rattle.std.specs.Prelude.{◌≡◌, is_some, option_copied};
 ghost use Rattle.std.specs.Borrow.{sem};
 ghost use Rattle.std.specs.Option.{option_map, option_copied_mut};
@@ -14,7 +14,7 @@ use std::hash::{BuildHasher, Hash};
 impl<K: Eq + Hash, V, S: BuildHasher> LinkedHashMap<K, V, S> {
     ghost use Rattle.hashlink_map.specs.Lends.{LendsValueOf, LendsLastValue};
 
-    /// The value of the key. The order stays as it is.
+    /// Returns a reference to the value of the key. The order does not change. It hashes the key once.
     pub fn get<Q: Equivalent<K>>(&self, key: Q) -> Option<&V>
         ensures { option_copied result ≡ lookup (Q.matches key) (entries_of self.now) }
     {
@@ -22,8 +22,8 @@ impl<K: Eq + Hash, V, S: BuildHasher> LinkedHashMap<K, V, S> {
         Some(value)
     }
 
-    /// The stored pair of the key, whose key object may be another one than the key given. The order stays as
-    /// it is.
+    /// Returns the stored pair of the key. The stored key may be a different object from the given one. The
+    /// order does not change. It hashes the key once.
     pub fn get_key_value<Q: Equivalent<K>>(&self, key: Q) -> Option<(&K, &V)>
         ensures { option_map deref_pair result ≡ lookup_entry (Q.matches key) (entries_of self.now) }
     {
@@ -31,14 +31,15 @@ impl<K: Eq + Hash, V, S: BuildHasher> LinkedHashMap<K, V, S> {
         Some(self.list.entry(node))
     }
 
-    /// Whether the key is there.
+    /// Returns whether the key is present. It hashes the key once.
     pub fn contains_key<Q: Equivalent<K>>(&self, key: Q) -> bool
         ensures { result ≡ is_some (lookup (Q.matches key) (entries_of self.now)) }
     {
         self.get_key_value(key).is_some()
     }
 
-    /// The value of the key, for writing. The order stays as it is.
+    /// Returns a mutable reference to the value of the key. The order does not change. It hashes the key
+    /// once.
     pub fn get_mut<Q: Equivalent<K>>(&mut self, key: Q) -> Option<&mut V>
         ensures* lends { sem 𝓛 (LendsValueOf K.row V.row S.row S.Hasher.row K.Hash
             S.BuildHasher S.Hasher.Hasher self.entry (Q.matches key) result) }
@@ -51,7 +52,7 @@ impl<K: Eq + Hash, V, S: BuildHasher> LinkedHashMap<K, V, S> {
         }
     }
 
-    /// The first entry.
+    /// Returns the first entry. It takes constant time and hashes nothing.
     pub fn front(&self) -> Option<(&K, &V)>
         ensures { option_map deref_pair result ≡ first_of (entries_of self.now) }
     {
@@ -59,7 +60,7 @@ impl<K: Eq + Hash, V, S: BuildHasher> LinkedHashMap<K, V, S> {
         Some(self.list.entry(node))
     }
 
-    /// The last entry.
+    /// Returns the last entry. It takes constant time and hashes nothing.
     pub fn back(&self) -> Option<(&K, &V)>
         ensures { option_map deref_pair result ≡ last_of (entries_of self.now) }
     {
@@ -67,8 +68,8 @@ impl<K: Eq + Hash, V, S: BuildHasher> LinkedHashMap<K, V, S> {
         Some(self.list.entry(node))
     }
 
-    /// The value of the last entry, for writing. The order stays as it is. It takes constant time and hashes
-    /// nothing.
+    /// Returns a mutable reference to the value of the last entry. The order does not change. It takes
+    /// constant time and hashes nothing.
     pub fn back_value_mut(&mut self) -> Option<&mut V>
         ensures* lends { sem 𝓛 (LendsLastValue K.row V.row S.row S.Hasher.row K.Hash
             S.BuildHasher S.Hasher.Hasher self.entry result) }

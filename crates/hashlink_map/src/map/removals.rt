@@ -1,5 +1,5 @@
-//! How entries leave. The other entries keep their order, and each node that is freed serves the next new
-//! pair. None of these takes memory.
+//! Removals. The other entries keep their order. Except for `clear`, each removal leaves a spare node, which
+//! the next insert of an absent key uses. No removal allocates.
 ghost use Rattle.std.specs.Prelude.{◌≡◌};
 ghost use Rattle.std.specs.Map.{lookup, lookup_entry};
 ghost use Rattle.hashlink_model.specs.Entries.{IsEntries};
@@ -11,7 +11,7 @@ use hashlink_core::Equivalent;
 use std::hash::{BuildHasher, Hash};
 
 impl<K: Eq + Hash, V, S: BuildHasher> LinkedHashMap<K, V, S> {
-    /// Takes the key's entry out and returns its value. It looks for the key as `get` does, and stores at
+    /// Removes the entry of the key, and returns its value. It looks the key up as `get` does, and stores at
     /// most three links.
     pub fn remove<Q: Equivalent<K>>(&mut self, key: Q) -> Option<V>
     where
@@ -25,8 +25,8 @@ impl<K: Eq + Hash, V, S: BuildHasher> LinkedHashMap<K, V, S> {
         Some(value)
     }
 
-    /// Takes the key's entry out and returns the stored pair. It looks for the key as `get` does, and stores
-    /// at most three links.
+    /// Removes the entry of the key, and returns the stored pair. It looks the key up as `get` does, and
+    /// stores at most three links.
     pub fn remove_entry<Q: Equivalent<K>>(&mut self, key: Q) -> Option<(K, V)>
         ensures removes { RemovesMatch (Q.matches key) (state_of self.old) (state_of self.new) result }
         ensures distinct { IsEntries K.eq (entries_of self.new) }
@@ -34,7 +34,7 @@ impl<K: Eq + Hash, V, S: BuildHasher> LinkedHashMap<K, V, S> {
         self.list.remove_key(key)
     }
 
-    /// Takes the first entry out and returns it. It takes constant time, hashes nothing, and stores at most
+    /// Removes the first entry, and returns it. It takes constant time, hashes nothing, and stores at most
     /// three links.
     pub fn pop_front(&mut self) -> Option<(K, V)>
         ensures pops { PopsFront (state_of self.old) (state_of self.new) result }
@@ -43,7 +43,7 @@ impl<K: Eq + Hash, V, S: BuildHasher> LinkedHashMap<K, V, S> {
         self.list.pop_first()
     }
 
-    /// Takes the last entry out and returns it. It takes constant time, hashes nothing, and stores at most
+    /// Removes the last entry, and returns it. It takes constant time, hashes nothing, and stores at most
     /// three links.
     pub fn pop_back(&mut self) -> Option<(K, V)>
         ensures pops { PopsBack (state_of self.old) (state_of self.new) result }
@@ -52,8 +52,8 @@ impl<K: Eq + Hash, V, S: BuildHasher> LinkedHashMap<K, V, S> {
         self.list.pop_last()
     }
 
-    /// Drops every entry and gives its node back to the allocator. The spare nodes stay, and the room. It
-    /// takes a step for each entry and each bucket.
+    /// Drops every entry and frees its node. The spare nodes and the room stay. It takes linear time in the
+    /// number of entries and buckets.
     pub fn clear(&mut self)
     where
         K: Drop,
