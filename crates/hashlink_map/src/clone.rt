@@ -15,8 +15,8 @@ impl<K: Eq + Hash + Drop, V: Drop, S: BuildHasher + Default + Drop> LinkedHashMa
     /// Builds a map from the items, each inserted in turn as by `insert`. It hashes with `S::default()`. The
     /// iterator has to end. No room is reserved in advance.
     ///
-    /// If an allocation for an item fails, it returns `AllocError`. Then it reads no further item, and drops
-    /// the map.
+    /// If an allocation for an item fails, it returns `AllocError`. Then no further item is read, and nothing
+    /// is left of the map.
     pub fn from_iter<I: IntoIterator<Item = (K, V)>>(
         alloc: Global,
         iter: I,
@@ -53,8 +53,8 @@ impl<K: Eq + Hash + Clone, V: Clone, S: BuildHasher + Clone> LinkedHashMap<K, V,
     /// Returns a clone: a map with a clone of the hasher and a clone of each pair, inserted in turn from the
     /// front. It uses the same allocator, and has no spare node.
     ///
-    /// If an allocation for a clone or for a node fails, it returns `AllocError` and drops the new map. The
-    /// clone of an empty map fails only if the clone of its hasher does.
+    /// If an allocation for a clone or for a node fails, it returns `AllocError`, and nothing is left of the
+    /// new map. The clone of an empty map fails only if the clone of its hasher does.
     pub fn clone(&self) -> Result<Self, AllocError>
         ensures made { IfOk result (λ map. (s : S) × S.is_clone self.now.hasher s × (clones : List (K × V))
             × ArePairClones K.is_clone V.is_clone (entries_of self.now) clones

@@ -16,8 +16,8 @@ use std::hash::{BuildHasher, Hash};
 impl<K: Eq + Hash + Drop, V: Drop, S: BuildHasher> LinkedHashMap<K, V, S> {
     /// Inserts each item in turn, as `insert` does. The iterator has to end. No room is reserved in advance.
     ///
-    /// If an allocation for an item fails, the error has that item and the number of items inserted before
-    /// it. It reads no further item.
+    /// If an allocation for an item fails, the items before it stay inserted. The error contains that item
+    /// and their number. No further item is read.
     pub fn extend<I: IntoIterator<Item = (K, V)>>(
         &mut self,
         iter: I,
@@ -55,8 +55,8 @@ impl<K: Eq + Hash + Drop, V: Drop, S: BuildHasher> LinkedHashMap<K, V, S> {
 impl<'a, K: Eq + Hash + Copy + 'a, V: Copy + 'a, S: BuildHasher> LinkedHashMap<K, V, S> {
     /// Inserts a copy of each pair in turn, as `extend` does.
     ///
-    /// If an allocation for a pair fails, the error has the copy of that pair and the number of pairs
-    /// inserted before it. It reads no further pair.
+    /// If an allocation for a pair fails, the pairs before it stay inserted. The error contains the copy of
+    /// that pair and their number. No further pair is read.
     pub fn extend_ref<I: IntoIterator<Item = (&'a K, &'a V)>>(
         &mut self,
         iter: I,

@@ -3,12 +3,12 @@ use std::error::Error;
 use std::fmt;
 
 /// Why a call that makes the value of an absent key did not insert it. No entry has changed, and nothing is
-/// lost: the error has what was given and what was made.
+/// lost: the error contains what was given and what was made.
 #[derive(Clone, Copy, Debug, PartialEq, Eq, Hash, Drop)]
 pub enum TryInsertError<K, V, E> {
-    /// The closure that makes the value failed. This has the key and the closure's error.
+    /// The closure that makes the value failed. Contains the given key and the closure's error.
     Make(K, E),
-    /// A node could not be allocated. This has the key and the value that was made.
+    /// The allocation of a node failed. Contains the given key and the value that was made.
     Memory((K, V)),
 }
 

@@ -11,7 +11,8 @@ use std::hash::{BuildHasher, Hash};
 
 impl<K: Eq + Hash, V, S: BuildHasher> LinkedHashMap<K, V, S> {
     /// Calls `keep` once on each entry, and removes those for which it returns false. It stores at most three
-    /// links for each removal. `keep` has to be callable on each entry, as the calls before have left it.
+    /// links for each removal. `keep` has to be callable on each entry, in the state that its earlier calls
+    /// have left it in.
     pub fn retain<F: FnMut(&K, &mut V) -> bool>(&mut self, keep: F)
     where
         K: Drop,
@@ -25,8 +26,8 @@ impl<K: Eq + Hash, V, S: BuildHasher> LinkedHashMap<K, V, S> {
     }
 
     /// Calls `keep` once on each entry, from the front, and removes those for which it returns false. It
-    /// stores at most three links for each removal. `keep` has to be callable on each entry, as the calls
-    /// before have left it.
+    /// stores at most three links for each removal. `keep` has to be callable on each entry, in the state
+    /// that its earlier calls have left it in.
     pub fn retain_with_order<F: FnMut(&K, &mut V) -> bool>(&mut self, keep: F)
     where
         K: Drop,
