@@ -2,7 +2,7 @@
 use std::mem::size_of;
 use std::ptr;
 
-/// A node of a ring: where its block lies. It owns nothing, and only the ring that made it can use it.
+/// A node of a ring: the address of its block. It owns nothing, and only the ring that made it can use it.
 #[derive(Clone, Copy)]
 pub struct Node {
     pub(crate) at: *mut u8,
@@ -11,7 +11,7 @@ pub struct Node {
 const _: () = prove!(size_of::<Node>() == 8);
 
 impl Node {
-    /// No node of any ring.
+    /// Returns a node that belongs to no ring.
     pub(crate) fn nowhere() -> Node {
         Node {
             at: ptr::null_mut(),
