@@ -12,8 +12,8 @@ use std::alloc::{AllocError, Global};
 use std::hash::{BuildHasher, Hash};
 
 impl<K: Eq + Hash + Drop, V: Drop, S: BuildHasher + Default + Drop> LinkedHashMap<K, V, S> {
-    /// Builds a map from the items, each inserted in turn as by `insert`. It hashes with `S::default()`. The
-    /// iterator has to end. No room is reserved in advance.
+    /// Builds a map from the items, each inserted in turn as by `insert`. It hashes with `S::default()`. It
+    /// costs an insert for each item. The iterator has to end. No room is reserved in advance.
     ///
     /// If an allocation for an item fails, it returns `AllocError`. Then no further item is read, and nothing
     /// is left of the map.
@@ -51,7 +51,8 @@ impl<K: Eq + Hash + Drop, V: Drop, S: BuildHasher + Default + Drop> FromIterator
 
 impl<K: Eq + Hash + Clone, V: Clone, S: BuildHasher + Clone> LinkedHashMap<K, V, S> {
     /// Returns a clone: a map with a clone of the hasher and a clone of each pair, inserted in turn from the
-    /// front. It uses the same allocator, and has no spare node.
+    /// front. It uses the same allocator, and has no spare node. It costs a clone and an insert for each
+    /// pair.
     ///
     /// If an allocation for a clone or for a node fails, it returns `AllocError`, and nothing is left of the
     /// new map. The clone of an empty map fails only if the clone of its hasher does.

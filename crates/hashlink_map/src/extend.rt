@@ -14,7 +14,8 @@ use std::alloc::AllocError;
 use std::hash::{BuildHasher, Hash};
 
 impl<K: Eq + Hash + Drop, V: Drop, S: BuildHasher> LinkedHashMap<K, V, S> {
-    /// Inserts each item in turn, as `insert` does. The iterator has to end. No room is reserved in advance.
+    /// Inserts each item in turn, as `insert` does, at the cost of an insert for each. The iterator has to
+    /// end. No room is reserved in advance.
     ///
     /// If an allocation for an item fails, the items before it stay inserted. The error contains that item
     /// and their number. No further item is read.

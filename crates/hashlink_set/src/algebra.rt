@@ -16,7 +16,8 @@ impl<T: Eq + Hash, S: BuildHasher> LinkedHashSet<T, S> {
     ghost use Rattle.hashlink_algebra.specs.Walks.{difference_rest, intersection_rest, union_rest, union_walk};
     ghost use Rattle.hashlink_algebra.specs.Walks.{symmetric_difference_rest, symmetric_difference_walk};
 
-    /// Returns an iterator over the elements that `other` lacks, in their order.
+    /// Returns an iterator over the elements that `other` lacks, in their order. It does not allocate. A step
+    /// hashes each element that it looks up, once.
     pub fn difference<'a>(&'a self, other: &'a Self) -> Difference<'a, T, S>
         ensures rest { difference_rest T.eq result
             ≡ difference_of T.eq (elements_of self.now) (elements_of other.now) }
@@ -28,7 +29,8 @@ impl<T: Eq + Hash, S: BuildHasher> LinkedHashSet<T, S> {
         Difference::of(&self.map, &other.map)
     }
 
-    /// Returns an iterator over the elements that `other` has, in the order of this set.
+    /// Returns an iterator over the elements that `other` has, in the order of this set. It does not
+    /// allocate. A step hashes each element that it looks up, once.
     pub fn intersection<'a>(&'a self, other: &'a Self) -> Intersection<'a, T, S>
         ensures rest { intersection_rest T.eq result
             ≡ intersection_of T.eq (elements_of self.now) (elements_of other.now) }
@@ -40,6 +42,7 @@ impl<T: Eq + Hash, S: BuildHasher> LinkedHashSet<T, S> {
     }
 
     /// Returns an iterator over the elements of this set, and then over those of `other` that this set lacks.
+    /// It does not allocate. A step hashes each element that it looks up, once.
     pub fn union<'a>(&'a self, other: &'a Self) -> Union<'a, T, S>
         ensures rest { union_rest T.eq result ≡ union_of T.eq (elements_of self.now) (elements_of other.now) }
         ensures unique { IsDistinct T.eq (union_rest T.eq result) }
@@ -54,7 +57,7 @@ impl<T: Eq + Hash, S: BuildHasher> LinkedHashSet<T, S> {
     }
 
     /// Returns an iterator over the elements that `other` lacks, and then over those of `other` that this set
-    /// lacks.
+    /// lacks. It does not allocate. A step hashes each element that it looks up, once.
     pub fn symmetric_difference<'a>(&'a self, other: &'a Self) -> SymmetricDifference<'a, T, S>
         ensures rest { symmetric_difference_rest T.eq result
             ≡ symmetric_difference_of T.eq (elements_of self.now) (elements_of other.now) }
@@ -83,7 +86,8 @@ impl<T: Eq + Hash, S: BuildHasher> LinkedHashSet<T, S> {
         self.difference(other).next().is_none()
     }
 
-    /// Returns whether each element of `other` is in this set.
+    /// Returns whether each element of `other` is in this set. It looks up each element of `other` in this
+    /// set, up to the first that is not there.
     pub fn is_superset(&self, other: &Self) -> bool
         ensures { result ≡ is_subset T.eq (elements_of other.now) (elements_of self.now) }
     {

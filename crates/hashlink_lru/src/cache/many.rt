@@ -17,7 +17,8 @@ use std::hash::{BuildHasher, Hash};
 impl<K: Eq + Hash + Drop, V: Drop, S: BuildHasher> LruCache<K, V, S> {
     ghost use Rattle.hashlink_lru.specs.Cached.{state_in, InsertsPairIn, StaysWithin};
 
-    /// Inserts each item in turn, as `insert` does. The iterator has to end.
+    /// Inserts each item in turn, as `insert` does, at the cost of an insert for each. The iterator has to
+    /// end.
     ///
     /// If an allocation for an item fails, the items before it stay inserted. The error contains that item
     /// and their number. No further item is read.

@@ -16,7 +16,8 @@ impl<K: Eq + Hash, V, S: BuildHasher> LruCache<K, V, S> {
     ghost use Rattle.hashlink_lru.specs.Cached.{entries_in, map_in};
     ghost use Rattle.hashlink_lru.specs.Lends.{HandsOnMap};
 
-    /// Returns an iterator over the entries, from front to back: the least recently used comes first.
+    /// Returns an iterator over the entries, from front to back: the least recently used comes first. It is
+    /// not a use. It does not allocate, and each step takes constant time.
     pub fn iter(&self) -> Iter<'_, K, V>
         ensures rest { result ≡ entries_in self.now }
         ensures runs { ShowsInOrder (deref_pair {K = K} {X = V}) }

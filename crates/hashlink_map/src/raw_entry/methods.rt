@@ -40,8 +40,8 @@ impl<'a, K: Eq + Hash, V, S: BuildHasher> RawEntryMut<'a, K, V, S> {
     }
 
     /// Returns the key and a mutable reference to the value. An occupied entry moves to the back. A vacant
-    /// one inserts the given pair at the back. So the map is afterwards as after an insert of the value that
-    /// is written.
+    /// one inserts the given pair at the back, whose key then has to be absent. So the map is afterwards as
+    /// after an insert of the value that is written.
     ///
     /// It allocates only if the entry is vacant and no node is spare. If that allocation fails, it returns
     /// the pair in `Err` and changes no entry.

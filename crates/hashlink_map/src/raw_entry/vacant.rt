@@ -1,8 +1,4 @@
-//! The methods of `RawVacantEntryMut`. Each inserts the pair at the back, and stores at most four links. The
-//! key of the pair has to be absent.
-//!
-//! It allocates only if no node is spare. If that allocation fails, it returns the pair in `Err` and changes
-//! no entry.
+//! The methods of `RawVacantEntryMut`.
 ghost use Rattle.std.specs.Prelude.{◌≡◌, ◌∷◌, None, IfOk, IfErr, length};
 ghost use Rattle.std.specs.Borrow.{sem};
 ghost use Rattle.std.specs.List.{All};
@@ -19,8 +15,11 @@ impl<'a, K: Eq + Hash, V, S: BuildHasher> RawVacantEntryMut<'a, K, V, S> {
     ghost use Rattle.hashlink_map.specs.RawLends.{HandsOnNew, LendsNewPair};
     ghost use Rattle.hashlink_model.specs.MapState.{AddsEntry};
 
-    /// Inserts the pair at the back, and returns its key and a mutable reference to its value. It hashes the
-    /// key once.
+    /// Inserts the pair at the back, and returns its key and a mutable reference to its value. The key has to
+    /// be absent. It hashes the key once, and stores at most four links.
+    ///
+    /// It allocates only if no node is spare. If that allocation fails, it returns the pair in `Err` and
+    /// changes no entry.
     pub fn insert(self, key: K, value: V) -> Result<(&'a K, &'a mut V), (K, V)>
         requires absent { place_of (K.eq key) (entries_of (raw_vacant_map self).now) ≡ None }
         ensures* lends { sem 𝓛 (LendsNewPair K.row V.row S.row S.Hasher.row K.Hash
@@ -32,7 +31,10 @@ impl<'a, K: Eq + Hash, V, S: BuildHasher> RawVacantEntryMut<'a, K, V, S> {
     }
 
     /// Inserts the pair at the back, and returns its key and a mutable reference to its value. The key has to
-    /// have this hash. It hashes nothing.
+    /// be absent and to have this hash. It hashes nothing, and stores at most four links.
+    ///
+    /// It allocates only if no node is spare. If that allocation fails, it returns the pair in `Err` and
+    /// changes no entry.
     pub fn insert_hashed_nocheck(
         self,
         hash: u64,
@@ -75,7 +77,11 @@ impl<'a, K: Eq + Hash, V, S: BuildHasher> RawVacantEntryMut<'a, K, V, S> {
         RawOccupiedEntryMut::pair_of(self.insert_entry_with_hasher(hash, key, value, hasher))
     }
 
-    /// Inserts the pair at the back, and returns its entry. It hashes the key once.
+    /// Inserts the pair at the back, and returns its entry. The key has to be absent. It hashes the key once,
+    /// and stores at most four links.
+    ///
+    /// It allocates only if no node is spare. If that allocation fails, it returns the pair in `Err` and
+    /// changes no entry.
     pub fn insert_entry(self, key: K, value: V) -> Result<RawOccupiedEntryMut<'a, K, V, S>, (K, V)>
         requires absent { place_of (K.eq key) (entries_of (raw_vacant_map self).now) ≡ None }
         ensures* hands_on { sem 𝓛 (HandsOnNew K.row V.row S.row S.Hasher.row
@@ -94,7 +100,11 @@ impl<'a, K: Eq + Hash, V, S: BuildHasher> RawVacantEntryMut<'a, K, V, S> {
         Ok(RawOccupiedEntryMut { map, node })
     }
 
-    /// Inserts the pair at the back, and returns its entry. The key has to have this hash. It hashes nothing.
+    /// Inserts the pair at the back, and returns its entry. The key has to be absent and to have this hash.
+    /// It hashes nothing, and stores at most four links.
+    ///
+    /// It allocates only if no node is spare. If that allocation fails, it returns the pair in `Err` and
+    /// changes no entry.
     pub fn insert_entry_hashed_nocheck(
         self,
         hash: u64,

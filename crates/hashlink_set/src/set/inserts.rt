@@ -1,4 +1,4 @@
-//! Inserts. Each one hashes the element once, and looks it up as `contains` does.
+//! Inserts. Each one hashes an element that it is given once, and looks it up as `contains` does.
 ghost use Rattle.std.specs.Prelude.{◌≡◌, IsSome, IsTrue, IsOk, None, option_copied, OnOk, IfOk, IfErr, Ok};
 ghost use Rattle.std.specs.Prelude.{Err, Some, length, not};
 ghost use Rattle.std.specs.Borrow.{sem};
@@ -63,8 +63,8 @@ impl<T: Eq + Hash, S: BuildHasher> LinkedHashSet<T, S> {
     }
 
     /// Inserts the element at the back, or moves the equal one to the back. Returns a reference to the one
-    /// that is then in the set. It is `insert`, and then the last element. It stores at most six links if the
-    /// element is present, and four if it is absent.
+    /// that is then in the set. It is `insert`, and then the last element. It hashes the element once, and
+    /// stores at most six links if the element is present and four if it is absent.
     ///
     /// It allocates only if the element is absent and no node is spare. If that allocation fails, it returns
     /// the element in `Err` and changes nothing.
@@ -82,8 +82,8 @@ impl<T: Eq + Hash, S: BuildHasher> LinkedHashSet<T, S> {
 
     /// Moves the element that is equal to `value` to the back, or inserts the one that `f` returns at the
     /// back. Returns a reference to the one that is then in the set. If none is equal to `value`, `f` is
-    /// called once, and what it returns has to be absent. It stores at most six links if the element is
-    /// present, and four if it is absent.
+    /// called once, and what it returns has to be absent. It hashes `value` once, and what `f` returns once.
+    /// It stores at most six links if the element is present, and four if it is absent.
     ///
     /// It allocates only if the element is absent and no node is spare. If that allocation fails, it returns
     /// what `f` returned in `Err`, and changes nothing.

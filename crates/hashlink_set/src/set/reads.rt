@@ -25,7 +25,7 @@ impl<T: Eq + Hash, S: BuildHasher> LinkedHashSet<T, S> {
         Some(stored)
     }
 
-    /// Returns the first element.
+    /// Returns the first element. It takes constant time and hashes nothing.
     pub fn front(&self) -> Option<&T>
         ensures { option_copied result ≡ first_of (elements_of self.now) }
     {
@@ -33,7 +33,7 @@ impl<T: Eq + Hash, S: BuildHasher> LinkedHashSet<T, S> {
         Some(first)
     }
 
-    /// Returns the last element.
+    /// Returns the last element. It takes constant time and hashes nothing.
     pub fn back(&self) -> Option<&T>
         ensures { option_copied result ≡ last_of (elements_of self.now) }
     {

@@ -9,7 +9,8 @@ use hashlink_algebra::Iter;
 use std::hash::{BuildHasher, Hash};
 
 impl<T: Eq + Hash, S: BuildHasher> LinkedHashSet<T, S> {
-    /// Returns an iterator over the elements, from front to back.
+    /// Returns an iterator over the elements, from front to back. It does not allocate, and each step takes
+    /// constant time.
     pub fn iter(&self) -> Iter<'_, T>
         ensures rest { result ≡ elements_of self.now }
         ensures runs { ShowsInOrder (deref {X = T}) }
