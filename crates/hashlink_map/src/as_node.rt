@@ -4,8 +4,8 @@ ghost use Rattle.std.specs.Prelude.{◌≡◌};
 use hashlink_core::Node;
 
 /// Stands for a node; `Node` alone implements it. An entry keeps its node behind a parameter with this bound.
-/// A clause can then say what the map is after a call that consumes the entry. Of a struct whose own field
-/// has a pointer in it, a clause could not.
+/// A clause can then say what the map is after a call that consumes the entry. It cannot say so of a struct
+/// whose own field has a pointer in it.
 pub trait AsNode: Copy {
     ghost use Rattle.hashlink_core.specs.Places.{Node};
 

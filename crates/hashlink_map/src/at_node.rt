@@ -1,4 +1,4 @@
-//! What is done at a node of a map. The methods of entries are a few lines over these.
+//! What is done at a node of a map. The methods of entries call these.
 ghost use Rattle.std.specs.Prelude.{◌≡◌, ◌-◌, length, slice_get, None, Some, IfOk};
 ghost use Rattle.std.specs.Borrow.{sem};
 ghost use Rattle.std.specs.Map.Iter.{deref_pair};

@@ -1,5 +1,4 @@
-//! What is done at a place of a map, which is a node or the guard. The methods of cursors are a few lines
-//! over these.
+//! What is done at a place of a map, which is a node or the guard. The methods of cursors call these.
 ghost use Rattle.std.specs.Prelude.{◌≡◌, slice_get, length, Option};
 ghost use Rattle.std.specs.Option.{option_map};
 ghost use Rattle.std.specs.Map.Iter.{deref_pair};
