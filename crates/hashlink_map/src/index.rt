@@ -9,8 +9,8 @@ use crate::map::LinkedHashMap;
 use std::hash::{BuildHasher, Hash};
 use std::ops::{Index, IndexMut};
 
-/// Returns a reference to the value of a key that is present, which `contains_key` tells. The order does not
-/// change. It costs a lookup.
+/// Returns a reference to the value of the key, which has to be present: `contains_key` tells whether it is.
+/// The order does not change. It costs a lookup.
 impl<'q, K: Eq + Hash, V, S: BuildHasher> Index<&'q K> for LinkedHashMap<K, V, S> {
     type Output = V;
 
@@ -23,7 +23,7 @@ impl<'q, K: Eq + Hash, V, S: BuildHasher> Index<&'q K> for LinkedHashMap<K, V, S
     }
 }
 
-/// Returns a mutable reference to the value of a key that is present.
+/// Returns a mutable reference to the value of the key, which has to be present.
 impl<'q, K: Eq + Hash, V, S: BuildHasher> IndexMut<&'q K> for LinkedHashMap<K, V, S> {
     fn index_mut(&mut self, key: &'q K) -> &mut V
         requires { HasKey K.eq self.old key.now }

@@ -9,9 +9,10 @@ use std::hash::{BuildHasher, Hash};
 impl<K: Eq + Hash, V, S: BuildHasher> LruCache<K, V, S> {
     ghost use Rattle.hashlink_lru.specs.Cached.{entries_in, state_in, StaysWithin};
 
-    /// Inserts the pair at the back, and returns the old value of the key. If the key is present, its entry
-    /// keeps the stored key, takes the new value and moves to the back. Then entries are evicted from the
-    /// front until there are no more than the capacity. So a cache of capacity 0 is empty afterwards.
+    /// Inserts the pair at the back, and returns the old value of the key if there was one. If the key is
+    /// present, its entry keeps the stored key, takes the new value and moves to the back. Then entries are
+    /// evicted from the front until there are no more than the capacity. So a cache of capacity 0 is empty
+    /// afterwards.
     ///
     /// It hashes the key once. It allocates only if the key is absent and no node is spare. If that
     /// allocation fails, it returns the pair in `Err` and evicts nothing.

@@ -23,15 +23,16 @@ impl<K: Eq + Hash, V, S: BuildHasher> LruCache<K, V, S> {
         self.map.contains_key(key)
     }
 
-    /// Returns a reference to the value of the key. The order does not change. It hashes the key once.
+    /// Returns a reference to the value of the key, or `None` if it is absent. The order does not change. It
+    /// hashes the key once.
     pub fn peek<Q: Equivalent<K>>(&self, key: Q) -> Option<&V>
         ensures { option_copied result ≡ lookup (Q.matches key) (entries_in self.now) }
     {
         self.map.get(key)
     }
 
-    /// Returns a mutable reference to the value of the key. The order does not change. It hashes the key
-    /// once.
+    /// Returns a mutable reference to the value of the key, or `None` if it is absent. The order does not
+    /// change. It hashes the key once.
     pub fn peek_mut<Q: Equivalent<K>>(&mut self, key: Q) -> Option<&mut V>
         ensures* lends { sem 𝓛 (LendsValueIn K.row V.row S.row S.Hasher.row K.Hash
             S.BuildHasher S.Hasher.Hasher self.entry (Q.matches key) result) }
@@ -40,16 +41,16 @@ impl<K: Eq + Hash, V, S: BuildHasher> LruCache<K, V, S> {
         self.map.get_mut(key)
     }
 
-    /// Returns the front, which is the least recently used entry and is evicted next. The order does not
-    /// change. It takes constant time and hashes nothing.
+    /// Returns the front, which is the least recently used entry and is evicted next, or `None` if the cache
+    /// is empty. The order does not change. It takes constant time and hashes nothing.
     pub fn peek_lru(&self) -> Option<(&K, &V)>
         ensures { option_map deref_pair result ≡ first_of (entries_in self.now) }
     {
         self.map.front()
     }
 
-    /// Returns the back, which is the most recently used entry. The order does not change. It takes constant
-    /// time and hashes nothing.
+    /// Returns the back, which is the most recently used entry, or `None` if the cache is empty. The order
+    /// does not change. It takes constant time and hashes nothing.
     pub fn back(&self) -> Option<(&K, &V)>
         ensures { option_map deref_pair result ≡ last_of (entries_in self.now) }
     {

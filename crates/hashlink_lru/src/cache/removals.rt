@@ -15,8 +15,8 @@ use std::hash::{BuildHasher, Hash};
 impl<K: Eq + Hash, V, S: BuildHasher> LruCache<K, V, S> {
     ghost use Rattle.hashlink_lru.specs.Cached.{entries_in, state_in, StaysWithin};
 
-    /// Removes the entry of the key, and returns its value. It looks the key up as `peek` does, and stores at
-    /// most three links.
+    /// Removes the entry of the key, and returns its value, or `None` if the key is absent. It looks the key
+    /// up as `peek` does, and stores at most three links.
     pub fn remove<Q: Equivalent<K>>(&mut self, key: Q) -> Option<V>
     where
         K: Drop,
@@ -30,8 +30,8 @@ impl<K: Eq + Hash, V, S: BuildHasher> LruCache<K, V, S> {
         self.map.remove(key)
     }
 
-    /// Removes the entry of the key, and returns the stored pair. It looks the key up as `peek` does, and
-    /// stores at most three links.
+    /// Removes the entry of the key, and returns the stored pair, or `None` if the key is absent. It looks
+    /// the key up as `peek` does, and stores at most three links.
     pub fn remove_entry<Q: Equivalent<K>>(&mut self, key: Q) -> Option<(K, V)>
         ensures held { IfSome result (Contains (entries_in self.old)) }
         ensures removes { OnMap (λ a b. RemovesMatch (Q.matches key) a b result) (state_in self.old)
@@ -42,8 +42,8 @@ impl<K: Eq + Hash, V, S: BuildHasher> LruCache<K, V, S> {
         self.map.remove_entry(key)
     }
 
-    /// Removes the front, which is the least recently used entry, and returns it. It takes constant time,
-    /// hashes nothing, and stores at most three links.
+    /// Removes the front, which is the least recently used entry, and returns it, or `None` if the cache is
+    /// empty. It takes constant time, hashes nothing, and stores at most three links.
     pub fn remove_lru(&mut self) -> Option<(K, V)>
         ensures pops { OnMap (λ a b. PopsFront a b result) (state_in self.old) (state_in self.new) }
         ensures distinct { IsEntries K.eq (entries_in self.new) }

@@ -201,11 +201,11 @@ impl<'a, K: Eq + Hash, V, S: BuildHasher> CursorMut<'a, K, V, S> {
         self.map.pair_at_place(self.map.place_before(self.place))
     }
 
-    /// Inserts the pair directly before the cursor, and returns the old value of the key. At the guard, the
-    /// pair becomes the last. If the key is present, its entry keeps the stored key, takes the new value and
-    /// moves there, unless it is there already. The cursor stays on its entry, wherever that is afterwards,
-    /// or on the guard. The call looks the key up as `get` does. It stores at most six links if the key is
-    /// present, and four if it is absent.
+    /// Inserts the pair directly before the cursor, and returns the old value of the key if there was one. At
+    /// the guard, the pair becomes the last. If the key is present, its entry keeps the stored key, takes the
+    /// new value and moves there, unless it is there already. The cursor stays on its entry, wherever that is
+    /// afterwards, or on the guard. The call looks the key up as `get` does. It stores at most six links if
+    /// the key is present, and four if it is absent.
     ///
     /// It allocates only if the key is absent and no node is spare. If that allocation fails, it returns the
     /// pair in `Err` and changes no entry.

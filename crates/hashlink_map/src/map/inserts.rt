@@ -9,9 +9,9 @@ use super::LinkedHashMap;
 use std::hash::{BuildHasher, Hash};
 
 impl<K: Eq + Hash, V, S: BuildHasher> LinkedHashMap<K, V, S> {
-    /// Inserts the pair at the back, and returns the old value of the key. If the key is present, its entry
-    /// keeps the stored key, takes the new value and moves to the back. It hashes the key once, and stores at
-    /// most six links if the key is present and four if it is absent.
+    /// Inserts the pair at the back, and returns the old value of the key if there was one. If the key is
+    /// present, its entry keeps the stored key, takes the new value and moves to the back. It hashes the key
+    /// once, and stores at most six links if the key is present and four if it is absent.
     ///
     /// It allocates only if the key is absent and no node is spare. If that allocation fails, it returns the
     /// pair in `Err` and changes no entry.
@@ -25,9 +25,9 @@ impl<K: Eq + Hash, V, S: BuildHasher> LinkedHashMap<K, V, S> {
         self.list.insert(key, value)
     }
 
-    /// Inserts the pair at the front, and returns the old value of the key. If the key is present, its entry
-    /// keeps the stored key, takes the new value and moves to the front. It hashes the key once, and stores
-    /// at most six links if the key is present and four if it is absent.
+    /// Inserts the pair at the front, and returns the old value of the key if there was one. If the key is
+    /// present, its entry keeps the stored key, takes the new value and moves to the front. It hashes the key
+    /// once, and stores at most six links if the key is present and four if it is absent.
     ///
     /// It allocates only if the key is absent and no node is spare. If that allocation fails, it returns the
     /// pair in `Err` and changes no entry.
@@ -40,9 +40,9 @@ impl<K: Eq + Hash, V, S: BuildHasher> LinkedHashMap<K, V, S> {
         self.list.insert_first(key, value)
     }
 
-    /// Sets the value of the key, and returns the old one. If the key is present, its entry keeps the stored
-    /// key and its place. If it is absent, the pair is inserted at the back. It hashes the key once, and
-    /// stores no link if the key is present and at most four if it is absent.
+    /// Sets the value of the key, and returns the old one if there was one. If the key is present, its entry
+    /// keeps the stored key and its place. If it is absent, the pair is inserted at the back. It hashes the
+    /// key once, and stores no link if the key is present and at most four if it is absent.
     ///
     /// It allocates only if the key is absent and no node is spare. If that allocation fails, it returns the
     /// pair in `Err` and changes no entry.

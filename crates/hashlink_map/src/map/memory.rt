@@ -36,7 +36,7 @@ impl<K: Eq + Hash, V, S: BuildHasher> LinkedHashMap<K, V, S> {
     /// of spare nodes and entries.
     ///
     /// For a moment it needs memory for the smaller table. If that allocation fails, it returns `AllocError`
-    /// and keeps the room. The spare nodes are freed all the same. With no entry it cannot fail, and the
+    /// and keeps the room. The spare nodes are freed all the same. With no entries it cannot fail, and the
     /// capacity is 0 afterwards.
     pub fn shrink_to_fit(&mut self) -> Result<(), AllocError>
         ensures { Shrinks (state_of self.old) (state_of self.new) result }

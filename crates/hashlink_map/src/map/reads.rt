@@ -14,7 +14,8 @@ use std::hash::{BuildHasher, Hash};
 impl<K: Eq + Hash, V, S: BuildHasher> LinkedHashMap<K, V, S> {
     ghost use Rattle.hashlink_map.specs.Lends.{LendsValueOf, LendsLastValue};
 
-    /// Returns a reference to the value of the key. The order does not change. It hashes the key once.
+    /// Returns a reference to the value of the key, or `None` if it is absent. The order does not change. It
+    /// hashes the key once.
     pub fn get<Q: Equivalent<K>>(&self, key: Q) -> Option<&V>
         ensures { option_copied result ≡ lookup (Q.matches key) (entries_of self.now) }
     {
@@ -22,8 +23,8 @@ impl<K: Eq + Hash, V, S: BuildHasher> LinkedHashMap<K, V, S> {
         Some(value)
     }
 
-    /// Returns the stored pair of the key. The stored key may be a different object from the given one. The
-    /// order does not change. It hashes the key once.
+    /// Returns the stored pair of the key, or `None` if it is absent. The stored key may be a different
+    /// object from the given one. The order does not change. It hashes the key once.
     pub fn get_key_value<Q: Equivalent<K>>(&self, key: Q) -> Option<(&K, &V)>
         ensures { option_map deref_pair result ≡ lookup_entry (Q.matches key) (entries_of self.now) }
     {
@@ -38,8 +39,8 @@ impl<K: Eq + Hash, V, S: BuildHasher> LinkedHashMap<K, V, S> {
         self.get_key_value(key).is_some()
     }
 
-    /// Returns a mutable reference to the value of the key. The order does not change. It hashes the key
-    /// once.
+    /// Returns a mutable reference to the value of the key, or `None` if it is absent. The order does not
+    /// change. It hashes the key once.
     pub fn get_mut<Q: Equivalent<K>>(&mut self, key: Q) -> Option<&mut V>
         ensures* lends { sem 𝓛 (LendsValueOf K.row V.row S.row S.Hasher.row K.Hash
             S.BuildHasher S.Hasher.Hasher self.entry (Q.matches key) result) }
@@ -52,7 +53,7 @@ impl<K: Eq + Hash, V, S: BuildHasher> LinkedHashMap<K, V, S> {
         }
     }
 
-    /// Returns the first entry. It takes constant time and hashes nothing.
+    /// Returns the first entry, or `None` if the map is empty. It takes constant time and hashes nothing.
     pub fn front(&self) -> Option<(&K, &V)>
         ensures { option_map deref_pair result ≡ first_of (entries_of self.now) }
     {
@@ -60,7 +61,7 @@ impl<K: Eq + Hash, V, S: BuildHasher> LinkedHashMap<K, V, S> {
         Some(self.list.entry(node))
     }
 
-    /// Returns the last entry. It takes constant time and hashes nothing.
+    /// Returns the last entry, or `None` if the map is empty. It takes constant time and hashes nothing.
     pub fn back(&self) -> Option<(&K, &V)>
         ensures { option_map deref_pair result ≡ last_of (entries_of self.now) }
     {
@@ -68,8 +69,8 @@ impl<K: Eq + Hash, V, S: BuildHasher> LinkedHashMap<K, V, S> {
         Some(self.list.entry(node))
     }
 
-    /// Returns a mutable reference to the value of the last entry. The order does not change. It takes
-    /// constant time and hashes nothing.
+    /// Returns a mutable reference to the value of the last entry, or `None` if the map is empty. The order
+    /// does not change. It takes constant time and hashes nothing.
     pub fn back_value_mut(&mut self) -> Option<&mut V>
         ensures* lends { sem 𝓛 (LendsLastValue K.row V.row S.row S.Hasher.row K.Hash
             S.BuildHasher S.Hasher.Hasher self.entry result) }

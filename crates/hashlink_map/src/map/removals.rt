@@ -11,8 +11,8 @@ use hashlink_core::Equivalent;
 use std::hash::{BuildHasher, Hash};
 
 impl<K: Eq + Hash, V, S: BuildHasher> LinkedHashMap<K, V, S> {
-    /// Removes the entry of the key, and returns its value. It looks the key up as `get` does, and stores at
-    /// most three links.
+    /// Removes the entry of the key, and returns its value, or `None` if the key is absent. It looks the key
+    /// up as `get` does, and stores at most three links.
     pub fn remove<Q: Equivalent<K>>(&mut self, key: Q) -> Option<V>
     where
         K: Drop,
@@ -25,8 +25,8 @@ impl<K: Eq + Hash, V, S: BuildHasher> LinkedHashMap<K, V, S> {
         Some(value)
     }
 
-    /// Removes the entry of the key, and returns the stored pair. It looks the key up as `get` does, and
-    /// stores at most three links.
+    /// Removes the entry of the key, and returns the stored pair, or `None` if the key is absent. It looks
+    /// the key up as `get` does, and stores at most three links.
     pub fn remove_entry<Q: Equivalent<K>>(&mut self, key: Q) -> Option<(K, V)>
         ensures removes { RemovesMatch (Q.matches key) (state_of self.old) (state_of self.new) result }
         ensures distinct { IsEntries K.eq (entries_of self.new) }
@@ -34,8 +34,8 @@ impl<K: Eq + Hash, V, S: BuildHasher> LinkedHashMap<K, V, S> {
         self.list.remove_key(key)
     }
 
-    /// Removes the first entry, and returns it. It takes constant time, hashes nothing, and stores at most
-    /// three links.
+    /// Removes the first entry, and returns it, or `None` if the map is empty. It takes constant time, hashes
+    /// nothing, and stores at most three links.
     pub fn pop_front(&mut self) -> Option<(K, V)>
         ensures pops { PopsFront (state_of self.old) (state_of self.new) result }
         ensures distinct { IsEntries K.eq (entries_of self.new) }
@@ -43,8 +43,8 @@ impl<K: Eq + Hash, V, S: BuildHasher> LinkedHashMap<K, V, S> {
         self.list.pop_first()
     }
 
-    /// Removes the last entry, and returns it. It takes constant time, hashes nothing, and stores at most
-    /// three links.
+    /// Removes the last entry, and returns it, or `None` if the map is empty. It takes constant time, hashes
+    /// nothing, and stores at most three links.
     pub fn pop_back(&mut self) -> Option<(K, V)>
         ensures pops { PopsBack (state_of self.old) (state_of self.new) result }
         ensures distinct { IsEntries K.eq (entries_of self.new) }

@@ -38,7 +38,7 @@ impl<K: Eq + Hash, V, S: BuildHasher> LinkedHashMap<K, V, S> {
         RawEntryBuilderMut { map: self }
     }
 
-    /// Returns the first entry. It takes constant time and hashes nothing.
+    /// Returns the first entry, or `None` if the map is empty. It takes constant time and hashes nothing.
     pub fn front_entry(&mut self) -> Option<RawOccupiedEntryMut<'_, K, V, S>>
         ensures* hands_on { sem 𝓛 (HandsOnOccupied K.row V.row S.row S.Hasher.row self.entry result) }
         ensures same_map { IfSome result (λ o. (raw_occupied_map o).ghost_name ≡ self.entry.ghost_name) }
@@ -50,7 +50,7 @@ impl<K: Eq + Hash, V, S: BuildHasher> LinkedHashMap<K, V, S> {
         Some(RawOccupiedEntryMut { map: self, node })
     }
 
-    /// Returns the last entry. It takes constant time and hashes nothing.
+    /// Returns the last entry, or `None` if the map is empty. It takes constant time and hashes nothing.
     pub fn back_entry(&mut self) -> Option<RawOccupiedEntryMut<'_, K, V, S>>
         ensures* hands_on { sem 𝓛 (HandsOnOccupied K.row V.row S.row S.Hasher.row self.entry result) }
         ensures same_map { IfSome result (λ o. (raw_occupied_map o).ghost_name ≡ self.entry.ghost_name) }
@@ -64,7 +64,7 @@ impl<K: Eq + Hash, V, S: BuildHasher> LinkedHashMap<K, V, S> {
 }
 
 impl<'a, K: Eq + Hash, V, S: BuildHasher> RawEntryBuilder<'a, K, V, S> {
-    /// Returns the stored pair of the key, which it hashes once.
+    /// Returns the stored pair of the key, or `None` if it is absent. It hashes the key once.
     pub fn from_key<Q: Equivalent<K>>(self, key: Q) -> Option<(&'a K, &'a V)>
         ensures { option_map deref_pair result ≡ lookup_entry (Q.matches key)
             (entries_of (read_map self.entry)) }
@@ -72,7 +72,8 @@ impl<'a, K: Eq + Hash, V, S: BuildHasher> RawEntryBuilder<'a, K, V, S> {
         self.map.get_key_value(key)
     }
 
-    /// Returns the stored pair of the key, which has to have this hash. It hashes nothing.
+    /// Returns the stored pair of the key, or `None` if it is absent. The key has to have this hash. It
+    /// hashes nothing.
     pub fn from_key_hashed_nocheck<Q: Equivalent<K>>(
         self,
         hash: u64,
@@ -88,8 +89,8 @@ impl<'a, K: Eq + Hash, V, S: BuildHasher> RawEntryBuilder<'a, K, V, S> {
         Some(map.pair_at(node))
     }
 
-    /// Returns the stored pair whose key has this hash and passes the test. The test has to tell the keys
-    /// that are equal to one key of this hash from all others. It hashes nothing.
+    /// Returns the stored pair whose key has this hash and passes the test, or `None` if there is none. The
+    /// test has to tell the keys that are equal to one key of this hash from all others. It hashes nothing.
     pub fn from_hash<F: Fn(&K) -> bool>(self, hash: u64, is_match: F) -> Option<(&'a K, &'a V)>
     where
         F: Drop,

@@ -44,9 +44,9 @@ impl<T: Eq + Hash, S: BuildHasher> LinkedHashSet<T, S> {
         }
     }
 
-    /// Replaces the equal element by the given one, at the same place, and returns the old one. An absent
-    /// element is inserted at the back. It hashes the element once, and stores no link if it is present and
-    /// at most four if it is absent.
+    /// Replaces the equal element by the given one, at the same place, and returns the old one if there was
+    /// one. An absent element is inserted at the back. It hashes the element once, and stores no link if it
+    /// is present and at most four if it is absent.
     ///
     /// It allocates only if the element is absent and no node is spare. If that allocation fails, it returns
     /// the element in `Err` and changes nothing.

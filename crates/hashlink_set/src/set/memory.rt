@@ -36,7 +36,7 @@ impl<T: Eq + Hash, S: BuildHasher> LinkedHashSet<T, S> {
     /// of spare nodes and elements.
     ///
     /// For a moment it needs memory for the smaller table. If that allocation fails, it returns `AllocError`
-    /// and keeps the room. The spare nodes are freed all the same. With no element it cannot fail, and the
+    /// and keeps the room. The spare nodes are freed all the same. With no elements it cannot fail, and the
     /// capacity is 0 afterwards.
     pub fn shrink_to_fit(&mut self) -> Result<(), AllocError>
         ensures { Shrinks self.old self.new result }

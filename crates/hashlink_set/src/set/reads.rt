@@ -16,8 +16,8 @@ impl<T: Eq + Hash, S: BuildHasher> LinkedHashSet<T, S> {
         self.map.contains_key(value)
     }
 
-    /// Returns the element that is present and equal to the given one. It may be a different object. The
-    /// order does not change. It hashes the element once.
+    /// Returns the equal element, which may be a different object, or `None` if there is none. The order does
+    /// not change. It hashes the element once.
     pub fn get<Q: Equivalent<T>>(&self, value: Q) -> Option<&T>
         ensures { option_copied result ≡ find (Q.matches value) (elements_of self.now) }
     {
@@ -25,7 +25,7 @@ impl<T: Eq + Hash, S: BuildHasher> LinkedHashSet<T, S> {
         Some(stored)
     }
 
-    /// Returns the first element. It takes constant time and hashes nothing.
+    /// Returns the first element, or `None` if the set is empty. It takes constant time and hashes nothing.
     pub fn front(&self) -> Option<&T>
         ensures { option_copied result ≡ first_of (elements_of self.now) }
     {
@@ -33,7 +33,7 @@ impl<T: Eq + Hash, S: BuildHasher> LinkedHashSet<T, S> {
         Some(first)
     }
 
-    /// Returns the last element. It takes constant time and hashes nothing.
+    /// Returns the last element, or `None` if the set is empty. It takes constant time and hashes nothing.
     pub fn back(&self) -> Option<&T>
         ensures { option_copied result ≡ last_of (elements_of self.now) }
     {

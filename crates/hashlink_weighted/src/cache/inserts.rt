@@ -23,10 +23,10 @@ fn take_apart<V>(old: Option<(V, u64)>) -> (Option<V>, u64)
 impl<K: Eq + Hash, V, S: BuildHasher> WeightedCache<K, V, S> {
     ghost use Rattle.hashlink_weighted.specs.Answers.{InsertsWithin};
 
-    /// Inserts the pair at the back with its weight, and returns the old value of the key. If the key is
-    /// present, its entry keeps the stored key, takes the new value and the new weight, and moves to the
-    /// back. Then entries are evicted from the front until the weights sum to at most the budget. The longest
-    /// end that fits stays, and the pair is always in it.
+    /// Inserts the pair at the back with its weight, and returns the old value of the key if there was one.
+    /// If the key is present, its entry keeps the stored key, takes the new value and the new weight, and
+    /// moves to the back. Then entries are evicted from the front until the weights sum to at most the
+    /// budget. The longest end that fits stays, and the pair is always in it.
     ///
     /// If the weight is above the budget, it returns the pair in `TooHeavy` and nothing changes, even if the
     /// key is present. It allocates only if the key is absent and no node is spare. If that allocation fails,

@@ -32,7 +32,8 @@ impl<K: Eq + Hash, V, S: BuildHasher> WeightedCache<K, V, S> {
     ghost use Rattle.hashlink_weighted.specs.Answers.{without_weight};
     ghost use Rattle.hashlink_weighted.specs.Lends.{EndsUsed};
 
-    /// Returns a reference to the value of the key. The order does not change. It hashes the key once.
+    /// Returns a reference to the value of the key, or `None` if it is absent. The order does not change. It
+    /// hashes the key once.
     pub fn peek<Q: Equivalent<K>>(&self, key: Q) -> Option<&V>
         ensures { option_copied result ≡ without_weight (lookup (Q.matches key) self.now.map.entries) }
     {
@@ -55,8 +56,9 @@ impl<K: Eq + Hash, V, S: BuildHasher> WeightedCache<K, V, S> {
         Some(value)
     }
 
-    /// Removes the entry of the key, and returns its value. It looks the key up as `peek` does, and stores at
-    /// most three links. The next insert of an absent key uses the spare node.
+    /// Removes the entry of the key, and returns its value, or `None` if the key is absent. It looks the key
+    /// up as `peek` does, and stores at most three links. The next insert of an absent key uses the spare
+    /// node.
     pub fn remove<Q: Equivalent<K>>(&mut self, key: Q) -> Option<V>
     where
         K: Drop,
