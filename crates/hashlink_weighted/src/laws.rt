@@ -26,8 +26,8 @@ pub fn what_an_accepted_insert_leaves<K, V, S>()
         → last_of new.map.entries ≡ Some (stored_key eq old.map.entries k, (v, weight)) }
 {}
 
-/// An insert that fails returns its pair. One that is too heavy changes nothing. An allocation fails only if
-/// the key is absent and no node is spare, and then no entry and no spare node changes.
+/// An insert that fails returns its pair. One that is too heavy changes nothing. An allocation can fail only
+/// if the key is absent and no node is spare, and then no entry and no spare node changes.
 pub fn what_a_refused_insert_leaves<K, V, S>()
     ensures too_heavy { (eq : K → K → Bool) (old new : WeightedState K V S) (k : K) (v : V) (weight : ℕ)
         (pair : K × V) → InsertsWithin eq old new k v weight (Err (TooHeavy pair))

@@ -2,10 +2,10 @@
 //! by one.
 //!
 //! What `entry` and `raw_entry_mut` return borrows the map inside the cache. Afterwards the cache has what
-//! the map then has, at the same capacity. For `entry` the proof of this is written by hand. Where a caller
-//! of a borrowed cache has a generated proof, it knows nothing of the cache once the entry is gone, except
-//! where a method takes the entry by value at once. `make_room` and then an entry of `map_mut` do the same,
-//! and the caller knows all of it. `hashlink_uses` has a proved caller for each form.
+//! the map then has, at the same capacity. For `entry` the proof of this is written by hand. If the cache of
+//! a caller is borrowed, its generated proof knows nothing of the cache once the entry is gone, unless a
+//! method takes the entry by value at once. `make_room` and then an entry of `map_mut` do the same, and leave
+//! all known. `hashlink_uses` has a proved caller for each form.
 ghost use Rattle.std.specs.Prelude.{◌≡◌};
 ghost use Rattle.std.specs.Borrow.{sem};
 ghost use Rattle.hashlink_model.specs.Cache.{EntersCache, EvictsFront};

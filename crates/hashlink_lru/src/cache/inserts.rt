@@ -35,8 +35,8 @@ impl<K: Eq + Hash, V, S: BuildHasher> LruCache<K, V, S> {
     }
 
     /// Evicts the front if there are more entries than the capacity. It takes constant time, hashes nothing,
-    /// and stores at most three links. The next insert of an absent key uses the spare node, and so cannot
-    /// fail.
+    /// and stores at most three links. If it evicts one, the next insert of an absent key uses its node, and
+    /// so cannot fail.
     pub fn make_room(&mut self)
     where
         K: Drop,
