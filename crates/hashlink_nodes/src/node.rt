@@ -11,7 +11,7 @@ pub struct Node {
 const _: () = prove!(size_of::<Node>() == 8);
 
 impl Node {
-    /// Returns a node that belongs to no ring.
+    /// No node of any ring.
     pub(crate) fn nowhere() -> Node {
         Node {
             at: ptr::null_mut(),
