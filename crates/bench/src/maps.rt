@@ -66,7 +66,7 @@ impl Row for Gets<'_> {
     }
 }
 
-/// A walk over all entries.
+/// An iterator over all entries.
 #[derive(Drop)]
 struct Walks<'a> {
     map: &'a Map,
@@ -168,7 +168,7 @@ fn time_reads_of<R: Runtime>(plan: &Plan<'_, R>, keys: &Keys, map: &Map) -> io::
     time_walks(plan, "iter", map)
 }
 
-/// Inserts of keys that are there, and a walk after them: the entries' order is then random in memory.
+/// Inserts of keys that are present, and an iterator after them: the entries' order is then random in memory.
 fn time_moves<R: Runtime>(plan: &Plan<'_, R>, keys: &Keys) -> io::Result<()> {
     let mut updates = Inserts {
         alloc: keys.alloc,

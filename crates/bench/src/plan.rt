@@ -17,7 +17,7 @@ pub(crate) trait Row {
         Ok(())
     }
 
-    /// The call that is timed, of an item and its place in the list. It returns the answer.
+    /// The call that is timed, of an item and its place in the list. It returns the result as a number.
     fn call(&mut self, place: u64, item: &Self::Item) -> Result<u64, AllocError>;
 }
 
@@ -52,7 +52,7 @@ impl<T> Lists<T> for Turns<'_, T> {
     }
 }
 
-/// Folds an answer into a sum.
+/// Folds a result into a sum.
 #[inline]
 pub(crate) fn fold(sum: u64, answer: u64) -> u64 {
     sum.rotate_left(5) ^ answer
@@ -124,7 +124,7 @@ impl<'a, R: Runtime> Plan<'a, R> {
         Ok((sum, spent))
     }
 
-    /// Makes ready, and returns the sum with the answers and the time that they took.
+    /// Makes ready, and returns the sum with the results and the time that they took.
     fn pass<W: Row, L: Lists<W::Item>>(
         &self,
         row: &mut W,
@@ -140,7 +140,7 @@ impl<'a, R: Runtime> Plan<'a, R> {
     }
 }
 
-/// Calls the row on each item, and folds the answers into the sum.
+/// Calls the row on each item, and folds the results into the sum.
 fn call_each<W: Row>(row: &mut W, items: &[W::Item], sum: u64) -> Result<u64, AllocError> {
     let mut sum = sum;
     for (place, item) in items.iter().enumerate() {

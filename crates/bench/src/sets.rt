@@ -32,7 +32,7 @@ impl Row for Inserts {
     }
 }
 
-/// A walk over the union of two sets.
+/// An iterator over the union of two sets.
 #[derive(Drop)]
 struct Unions<'a> {
     left: &'a Set,

@@ -19,7 +19,7 @@ pub mod linked_hash_set {
     };
 }
 
-/// The cache of a bounded size.
+/// The cache that holds up to a given number of entries.
 pub mod lru_cache {
     pub use hashlink_lru::{
         Drain, Entry, ExtendError, IntoIter, Iter, IterMut, LruCache, OccupiedEntry,
@@ -38,7 +38,8 @@ pub mod miss_curve {
     pub use hashlink_curve::{Falls, MissCurve, miss_curve};
 }
 
-/// Lists of commands to the containers, and the text form in which a program reads and answers them.
+/// Lists of commands to the containers, and the text form in which a program reads them and writes the
+/// answers.
 pub mod run {
     pub use hashlink_run::{
         CacheCommand, Command, CursorStep, EntryStep, Pair, PairCommand, Reply, Uses, answer_cache,

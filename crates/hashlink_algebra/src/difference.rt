@@ -1,4 +1,4 @@
-//! A walk over the elements of a set that another set lacks.
+//! The iterator over the elements of a set that another set lacks.
 ghost use Rattle.std.specs.Prelude.{◌≡◌, IfSome, length, ⊤};
 ghost use Rattle.std.specs.Iterator.{at_most, UpTo};
 ghost use Rattle.std.specs.Iterator.SizeHint.{IsWithinCount};
@@ -14,7 +14,8 @@ use std::fmt;
 use std::hash::{BuildHasher, Hash};
 use std::iter::FusedIterator;
 
-/// What `difference` returns. A step looks at the elements up to the next that the other set lacks.
+/// The iterator that `difference` returns. A step looks at the elements up to the next that the other set
+/// lacks.
 #[derive(Drop)]
 pub struct Difference<'a, T: Eq + Hash, S: BuildHasher = DefaultHashBuilder> {
     pub(crate) iter: Iter<'a, T>,
@@ -24,7 +25,7 @@ pub struct Difference<'a, T: Eq + Hash, S: BuildHasher = DefaultHashBuilder> {
 impl<'a, T: Eq + Hash, S: BuildHasher> Difference<'a, T, S> {
     ghost use Rattle.hashlink_algebra.specs.Walks.{difference_rest};
 
-    /// A walk over the keys of `first` that `second` lacks, in their order.
+    /// Returns an iterator over the keys of `first` that `second` lacks, in their order.
     pub fn of(first: &'a LinkedHashMap<T, (), S>, second: &'a LinkedHashMap<T, (), S>) -> Self
         ensures rest { difference_rest T.eq result
             ≡ difference_of T.eq (elements_in first.now) (elements_in second.now) }

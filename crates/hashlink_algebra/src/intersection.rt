@@ -1,4 +1,4 @@
-//! A walk over the elements of a set that another set has.
+//! The iterator over the elements of a set that another set has.
 ghost use Rattle.std.specs.Prelude.{◌≡◌, IfSome, length, ⊤};
 ghost use Rattle.std.specs.Iterator.{at_most, UpTo};
 ghost use Rattle.std.specs.Iterator.SizeHint.{IsWithinCount};
@@ -14,7 +14,8 @@ use std::fmt;
 use std::hash::{BuildHasher, Hash};
 use std::iter::FusedIterator;
 
-/// What `intersection` returns. A step looks at the elements up to the next that the other set has.
+/// The iterator that `intersection` returns. A step looks at the elements up to the next that the other set
+/// has.
 #[derive(Drop)]
 pub struct Intersection<'a, T: Eq + Hash, S: BuildHasher = DefaultHashBuilder> {
     pub(crate) iter: Iter<'a, T>,
@@ -24,7 +25,7 @@ pub struct Intersection<'a, T: Eq + Hash, S: BuildHasher = DefaultHashBuilder> {
 impl<'a, T: Eq + Hash, S: BuildHasher> Intersection<'a, T, S> {
     ghost use Rattle.hashlink_algebra.specs.Walks.{intersection_rest};
 
-    /// A walk over the keys of `first` that `second` has, in the order of `first`.
+    /// Returns an iterator over the keys of `first` that `second` has, in the order of `first`.
     pub fn of(first: &'a LinkedHashMap<T, (), S>, second: &'a LinkedHashMap<T, (), S>) -> Self
         ensures rest { intersection_rest T.eq result
             ≡ intersection_of T.eq (elements_in first.now) (elements_in second.now) }

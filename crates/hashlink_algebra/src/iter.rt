@@ -1,4 +1,4 @@
-//! A walk over the elements of a set.
+//! The iterator over the elements of a set.
 ghost use Rattle.std.specs.Prelude.{◌≡◌, ◌^◌, ◌<◌, Some, IfSome, length, ⊤};
 ghost use Rattle.std.specs.Iterator.{at_most, UpTo};
 ghost use Rattle.std.specs.Iterator.SizeHint.{IsWithinCount};
@@ -13,7 +13,8 @@ use std::hash::{BuildHasher, Hash};
 use std::iter::FusedIterator;
 use std::marker::Model;
 
-/// A walk over the elements, front first. Contracts see it as the list of the elements that it has left.
+/// An iterator over the elements, from front to back. Contracts see it as the list of the elements that are
+/// left.
 #[derive(Drop)]
 pub struct Iter<'a, T> {
     pub(crate) keys: Keys<'a, T, ()>,
@@ -28,7 +29,8 @@ impl<'a, T> Model for Iter<'a, T> {
 }
 
 impl<'a, T: Eq + Hash> Iter<'a, T> {
-    /// A walk over the keys of the map, front first. It takes no memory, and each step takes constant time.
+    /// Returns an iterator over the keys of the map, from front to back. It does not allocate, and each step
+    /// takes constant time.
     pub fn of<S: BuildHasher>(map: &'a LinkedHashMap<T, (), S>) -> Self
         ensures rest { result ≡ elements_in map.now }
         ensures runs { ShowsInOrder (deref {X = T}) }

@@ -1,6 +1,6 @@
-//! The walks over the elements of a set, and the lazy ones over two sets. A set is a map with nothing as
-//! value, and a walk holds the maps of its sets. None of these takes memory. A step over two sets hashes each
-//! element that it looks for in the other set, once.
+//! The iterator over the elements of a set, and the lazy ones over two sets. A set is a map with values of
+//! type `()`, and an iterator borrows the maps of its sets. None of them allocates. A step over two sets
+//! hashes each element that it looks up in the other set, once.
 #![tactic(auto)]
 
 mod difference;

@@ -6,7 +6,7 @@ ghost use Rattle.hashlink_algebra.specs.Elements.{elements_in};
 use hashlink_map::LinkedHashMap;
 use std::hash::{BuildHasher, Hash};
 
-/// Whether an equal element is there. The element is hashed once.
+/// Returns whether an equal element is present. The element is hashed once.
 pub(crate) fn contains<T: Eq + Hash, S: BuildHasher>(
     map: &LinkedHashMap<T, (), S>,
     element: &T,

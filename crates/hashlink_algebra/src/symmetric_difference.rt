@@ -1,4 +1,4 @@
-//! A walk over the elements that stand in one of two sets alone.
+//! The iterator over the elements that are in exactly one of two sets.
 ghost use Rattle.std.specs.Prelude.{◌≡◌, IfSome, length, ⊤};
 ghost use Rattle.std.specs.Iterator.{at_most, UpTo};
 ghost use Rattle.std.specs.Iterator.SizeHint.{IsWithinCount};
@@ -13,7 +13,8 @@ use std::fmt;
 use std::hash::{BuildHasher, Hash};
 use std::iter::FusedIterator;
 
-/// What `symmetric_difference` returns: what each of two sets has beyond the other, in turn.
+/// The iterator that `symmetric_difference` returns: over the elements of each set that the other lacks, in
+/// turn.
 #[derive(Drop)]
 pub struct SymmetricDifference<'a, T: Eq + Hash, S: BuildHasher = DefaultHashBuilder> {
     pub(crate) first: Difference<'a, T, S>,
@@ -23,8 +24,8 @@ pub struct SymmetricDifference<'a, T: Eq + Hash, S: BuildHasher = DefaultHashBui
 impl<'a, T: Eq + Hash, S: BuildHasher> SymmetricDifference<'a, T, S> {
     ghost use Rattle.hashlink_algebra.specs.Walks.{symmetric_difference_rest, symmetric_difference_walk};
 
-    /// A walk over the keys of `first` that `second` lacks, and then over those of `second` that `first`
-    /// lacks.
+    /// Returns an iterator over the keys of `first` that `second` lacks, and then over those of `second` that
+    /// `first` lacks.
     pub fn of(first: &'a LinkedHashMap<T, (), S>, second: &'a LinkedHashMap<T, (), S>) -> Self
         ensures rest { symmetric_difference_rest T.eq result
             ≡ symmetric_difference_of T.eq (elements_in first.now) (elements_in second.now) }

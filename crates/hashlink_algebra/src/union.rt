@@ -1,4 +1,4 @@
-//! A walk over the elements of two sets.
+//! The iterator over the elements of two sets.
 ghost use Rattle.std.specs.Prelude.{◌≡◌, IfSome, length, ⊤};
 ghost use Rattle.std.specs.Iterator.{at_most, UpTo};
 ghost use Rattle.std.specs.Iterator.SizeHint.{IsWithinCount};
@@ -14,7 +14,8 @@ use std::fmt;
 use std::hash::{BuildHasher, Hash};
 use std::iter::FusedIterator;
 
-/// What `union` returns: the elements of one set, and then those that the other has beyond it.
+/// The iterator that `union` returns: over the elements of one set, and then over those of the other that it
+/// lacks.
 #[derive(Drop)]
 pub struct Union<'a, T: Eq + Hash, S: BuildHasher = DefaultHashBuilder> {
     pub(crate) first: Iter<'a, T>,
@@ -24,7 +25,7 @@ pub struct Union<'a, T: Eq + Hash, S: BuildHasher = DefaultHashBuilder> {
 impl<'a, T: Eq + Hash, S: BuildHasher> Union<'a, T, S> {
     ghost use Rattle.hashlink_algebra.specs.Walks.{union_rest, union_walk};
 
-    /// A walk over the keys of `first`, and then over those of `second` that `first` lacks.
+    /// Returns an iterator over the keys of `first`, and then over those of `second` that `first` lacks.
     pub fn of(first: &'a LinkedHashMap<T, (), S>, second: &'a LinkedHashMap<T, (), S>) -> Self
         ensures rest { union_rest T.eq result
             ≡ union_of T.eq (elements_in first.now) (elements_in second.now) }

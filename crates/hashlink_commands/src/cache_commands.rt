@@ -3,37 +3,40 @@ use crate::commands::EntryStep;
 /// A call of a cache, with its arguments.
 #[derive(Clone, Copy, Debug, PartialEq, Eq, Drop)]
 pub enum CacheCommand<K, V> {
-    /// Puts the pair last, with the value given, and drops those at the front that are too many.
+    /// Inserts the pair at the back, with the given value, and evicts those at the front that are above the
+    /// capacity.
     Insert(K, V),
-    /// Moves the key's pair to the end and reads it. Where the key is absent, puts the pair in as an insert
+    /// Moves the key's pair to the back and reads it. If the key is absent, inserts the pair as `Insert`
     /// does.
     Use(K, V),
-    /// Drops the first pair where there are too many, looks for the key, and does this with it in hand.
+    /// Evicts the first pair if there are more than the capacity, looks the key up, and does this with the
+    /// given key.
     Entry(K, EntryStep<V>),
-    /// Moves the key's pair to the end, and reads it.
+    /// Moves the key's pair to the back, and reads it.
     Get(K),
-    /// Reads the key's pair where it stands.
+    /// Reads the key's pair at its place.
     Peek(K),
-    /// Takes the key's pair out, for its value.
+    /// Removes the key's pair, for its value.
     Remove(K),
-    /// Sets how many pairs the cache may have, and drops those at the front that are too many.
+    /// Sets how many pairs the cache may have, and evicts those at the front that are above that.
     SetCapacity(usize),
-    /// Drops every pair and gives its node back.
+    /// Drops every pair and frees its node.
     Clear,
-    /// Takes the first pair out, which is the one that was used the longest ago.
+    /// Removes the first pair, which is the least recently used one.
     RemoveLru,
 }
 
-/// A call that two caches get alike.
+/// A call that is made alike on two caches.
 #[derive(Clone, Copy, Debug, PartialEq, Eq, Drop)]
 pub enum PairCommand<K, V> {
-    /// Puts the pair last, with the value given, and drops the first pair where there are too many.
+    /// Inserts the pair at the back, with the given value, and evicts the first pair if there are more than
+    /// the capacity.
     Insert(K, V),
-    /// Moves the key's pair to the end and reads it. Where the key is absent, puts the pair in as an insert
+    /// Moves the key's pair to the back and reads it. If the key is absent, inserts the pair as `Insert`
     /// does.
     Use(K, V),
-    /// Takes the key's pair out, for its value.
+    /// Removes the key's pair, for its value.
     Remove(K),
-    /// Reads the key's pair where it stands.
+    /// Reads the key's pair at its place.
     Peek(K),
 }

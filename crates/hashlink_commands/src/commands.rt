@@ -1,25 +1,25 @@
 /// A call of a map, with its arguments.
 #[derive(Clone, Debug, PartialEq, Eq, Drop)]
 pub enum Command<K, V> {
-    /// Puts the pair last, with the value given.
+    /// Inserts the pair at the back, with the given value.
     Insert(K, V),
-    /// Puts the pair first, with the value given.
+    /// Inserts the pair at the front, with the given value.
     InsertFront(K, V),
-    /// Gives the key the value where it stands, and puts an absent one last.
+    /// Sets the value of the key at its place, or inserts the pair at the back if the key is absent.
     Replace(K, V),
     /// Reads the key's pair.
     Get(K),
-    /// Takes the key's pair out, for its value.
+    /// Removes the key's pair, for its value.
     Remove(K),
-    /// Takes the key's pair out.
+    /// Removes the key's pair.
     RemoveEntry(K),
-    /// Takes the first pair out.
+    /// Removes the first pair.
     PopFront,
-    /// Takes the last pair out.
+    /// Removes the last pair.
     PopBack,
     /// Moves the key's pair to the front, and reads it.
     ToFront(K),
-    /// Moves the key's pair to the end, and reads it.
+    /// Moves the key's pair to the back, and reads it.
     ToBack(K),
     /// Reads the first pair.
     Front,
@@ -27,41 +27,42 @@ pub enum Command<K, V> {
     Back,
     /// Asks how many pairs there are.
     Len,
-    /// Drops every pair and gives its node back.
+    /// Drops every pair and frees its node.
     Clear,
-    /// Gives the memory back that no pair needs.
+    /// Frees the memory that no pair needs.
     Shrink,
-    /// Drops every pair at which the run's closure returns false. The others keep their values and their
+    /// Removes every pair for which the run's closure returns false. The others keep their values and their
     /// order.
     Keep,
-    /// Looks for the key, and does this with it in hand.
+    /// Looks the key up, and does this with the given key.
     Entry(K, EntryStep<V>),
-    /// Puts a cursor on the first pair, or on the guard where there is none, and does these with it in turn.
+    /// Sets a cursor on the first pair, or on the guard if there is none, and does these with it in turn.
     Cursor(Vec<CursorStep<K, V>>),
 }
 
-/// What is done at the place of a key, with the key in hand: at the key's pair, or where the key is absent.
+/// What is done at the place of a key, with the given key: at the key's pair, or where the key is absent.
 #[derive(Clone, Copy, Debug, PartialEq, Eq, Drop)]
 pub enum EntryStep<V> {
     /// Reads the pair.
     Get,
-    /// Moves the pair to the end and reads it, or puts the key in hand and the value last.
+    /// Moves the pair to the back and reads it, or inserts the given key with the value at the back.
     OrInsert(V),
-    /// Gives the pair the value and moves it to the end, or puts the key in hand and the value last.
+    /// Sets the value of the pair and moves it to the back, or inserts the given key with the value at the
+    /// back.
     Insert(V),
-    /// Puts the key in hand and the value last, in place of the pair where there is one.
+    /// Inserts the given key with the value at the back, in place of the pair if there is one.
     InsertEntry(V),
-    /// Puts the key in hand and the value where the pair stands.
+    /// Replaces the pair by the given key and the value, at its place.
     ReplaceEntry(V),
-    /// Puts the key in hand where the stored key stands.
+    /// Replaces the stored key by the given key.
     ReplaceKey,
     /// Moves the pair to the front, and reads it.
     ToFront,
-    /// Moves the pair to the end, and reads it.
+    /// Moves the pair to the back, and reads it.
     ToBack,
-    /// Takes the pair out, for its value.
+    /// Removes the pair, for its value.
     Remove,
-    /// Takes the pair out.
+    /// Removes the pair.
     RemoveEntry,
 }
 
@@ -70,16 +71,16 @@ pub enum EntryStep<V> {
 pub enum CursorStep<K, V> {
     /// Moves to the next place, and reads the pair there.
     Next,
-    /// Moves to the place before, and reads the pair there.
+    /// Moves to the previous place, and reads the pair there.
     Prev,
     /// Reads the pair at the cursor's place.
     Current,
     /// Reads the pair at the next place.
     PeekNext,
-    /// Reads the pair at the place before.
+    /// Reads the pair at the previous place.
     PeekPrev,
-    /// Puts the pair directly before the cursor's place, with the value given.
+    /// Inserts the pair directly before the cursor's place, with the given value.
     Before(K, V),
-    /// Puts the pair directly after the cursor's place, with the value given.
+    /// Inserts the pair directly after the cursor's place, with the given value.
     After(K, V),
 }

@@ -1,21 +1,21 @@
-/// What a map answers to a command. Of a pair that a command reads, the reply has what the run's closure said
-/// of it.
+/// The reply of a map to a command. Of a pair that a command reads, the reply has what the run's closure
+/// returned for it.
 #[derive(Clone, Copy, Debug, PartialEq, Eq, Drop)]
 pub enum Reply<K, V, B = bool> {
     /// It is done.
     Done,
-    /// Memory was refused. Whatever could be done without it is done.
+    /// An allocation failed. What needs none was done.
     Denied,
     /// The value that was there, if any.
     Value(Option<V>),
     /// The pair that was there, if any.
     Pair(Option<(K, V)>),
-    /// The stored key that another took the place of, if there was one.
+    /// The stored key that was replaced, if there was one.
     Key(Option<K>),
-    /// What was said of the pair that was read, if there was one.
+    /// What the closure returned for the pair that was read, if there was one.
     Seen(Option<B>),
-    /// How many pairs there are.
+    /// The number of pairs.
     Length(usize),
-    /// The pair, handed back for want of memory.
+    /// The pair that was not inserted since an allocation failed.
     Refused(K, V),
 }

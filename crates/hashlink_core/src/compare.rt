@@ -1,4 +1,4 @@
-//! Walks compared, pair by pair, key before value.
+//! Comparisons of iterators, pair by pair, key before value.
 ghost use Rattle.std.specs.Prelude.{◌≡◌, ◌&&◌};
 ghost use Rattle.std.specs.Ordering.{ordering_then, partial_ordering_then};
 ghost use Rattle.hashlink_model.specs.Compare.{entries_eq, entries_cmp, entries_partial_cmp};
@@ -6,8 +6,9 @@ ghost use Rattle.hashlink_model.specs.Compare.{entries_eq, entries_cmp, entries_
 use crate::iter::Iter;
 use std::cmp::Ordering;
 
-/// Whether the walks have as many entries left, and at each place an equal key and an equal value. It takes a
-/// step for each entry up to the first that differs, and none where one walk is longer.
+/// Returns whether the iterators have the same number of entries left, and at each place equal keys and equal
+/// values. It takes linear time, up to the first entry that differs, and constant time if one iterator is
+/// longer.
 pub fn walks_eq<K: PartialEq, V: PartialEq>(
     mut left: Iter<'_, K, V>,
     mut right: Iter<'_, K, V>,
@@ -26,8 +27,8 @@ pub fn walks_eq<K: PartialEq, V: PartialEq>(
     true
 }
 
-/// How the walks compare at the first place where their entries do not compare as equal, key before value. A
-/// walk whose entries begin the other's is less.
+/// Compares the iterators at the first place where their entries do not compare as equal, key before value.
+/// An iterator whose entries are the beginning of the other's is less.
 pub fn walks_partial_cmp<K: PartialOrd, V: PartialOrd>(
     mut left: Iter<'_, K, V>,
     mut right: Iter<'_, K, V>,
@@ -53,7 +54,7 @@ pub fn walks_partial_cmp<K: PartialOrd, V: PartialOrd>(
     }
 }
 
-/// `walks_partial_cmp` of what always compares.
+/// Does the same as `walks_partial_cmp` for keys and values that always compare.
 pub fn walks_cmp<K: Ord, V: Ord>(mut left: Iter<'_, K, V>, mut right: Iter<'_, K, V>) -> Ordering
     ensures { result ≡ entries_cmp K.cmp V.cmp left.entry right.entry }
 {
@@ -73,14 +74,14 @@ pub fn walks_cmp<K: Ord, V: Ord>(mut left: Iter<'_, K, V>, mut right: Iter<'_, K
     }
 }
 
-// Whether both the keys and the values are equal.
+// Returns whether both the keys and the values are equal.
 fn pair_eq<K: PartialEq, V: PartialEq>(key: &K, value: &V, other_key: &K, other_value: &V) -> bool
     ensures { result ≡ (K.eq key.now other_key.now && V.eq value.now other_value.now) }
 {
     *key == *other_key && *value == *other_value
 }
 
-// How the keys compare, and the values where those are equal.
+// Compares the keys, and the values if the keys are equal.
 fn pair_partial_cmp<K: PartialOrd, V: PartialOrd>(
     key: &K,
     value: &V,
@@ -97,7 +98,7 @@ fn pair_partial_cmp<K: PartialOrd, V: PartialOrd>(
     }
 }
 
-// The same where they always compare.
+// Does the same as `pair_partial_cmp` for keys and values that always compare.
 fn pair_cmp<K: Ord, V: Ord>(key: &K, value: &V, other_key: &K, other_value: &V) -> Ordering
     ensures { result ≡ ordering_then (K.cmp key.now other_key.now) (V.cmp value.now other_value.now) }
 {

@@ -1,4 +1,4 @@
-//! What a look-up takes in place of a key.
+//! What a lookup takes in place of a key.
 ghost use Rattle.std.specs.Prelude.{◌≡◌, Bool, IsTrue};
 ghost use Rattle.std.specs.Box.{boxed_slice_items, boxed_str_bytes};
 ghost use Rattle.std.specs.Hash as fed;
@@ -16,14 +16,14 @@ use std::boxed::{BoxedSlice, BoxedStr};
 use std::hash::Hash;
 use std::rc::RcStr;
 
-/// What stands for a key in a look-up: a `&K` for a `K`, a `&str` for a `String`, a `&[T]` for a `Vec<T>`, so
-/// that
-/// `get(&key)` and `get("text")` are one call. A query of one's own says which keys it matches, and shows
-/// that it is hashed as they are and that they are those which equal one of them.
+/// A query: what stands for a key in a lookup. It is a `&K` for a `K`, a `&str` for a `String`, or a `&[T]`
+/// for a `Vec<T>`, so that `get(&key)` and `get("text")` are one method. An implementation says which keys a
+/// query matches. It proves that the query is hashed as these keys are, and that they are those which equal
+/// one of them.
 pub trait Equivalent<K: Eq + Hash>: Copy + Hash {
     ghost matches: { Self → K → Bool };
 
-    /// Whether the query matches the key.
+    /// Returns whether the query matches the key.
     fn equivalent(&self, key: &K) -> bool
         ensures { result ≡ matches self.now key.now };
 

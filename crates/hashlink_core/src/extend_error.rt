@@ -1,15 +1,15 @@
-//! How many items go in, and then one does not.
+//! How many items were inserted before one that was not.
 use std::alloc::AllocError;
 use std::error::Error;
 use std::fmt;
 
-/// Why items were not all inserted: the memory for one of them was refused. Those before it are in, it is
-/// handed back, and nothing after it was read.
+/// Why not all items were inserted: an allocation for one of them failed. The items before it stay inserted,
+/// this error contains it, and no further item was read.
 #[derive(Clone, Copy, Debug, PartialEq, Eq, Hash, Drop)]
 pub struct ExtendError<K, V> {
-    /// How many items are in. It stops at `u64::MAX`.
+    /// The number of items inserted. It stops at `u64::MAX`.
     pub taken: u64,
-    /// The pair that was refused.
+    /// The pair that was not inserted.
     pub pair: (K, V),
 }
 

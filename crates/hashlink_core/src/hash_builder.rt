@@ -1,8 +1,8 @@
-//! What makes the default hasher.
+//! The `BuildHasher` of the default hasher.
 use crate::hasher::DefaultHasher;
 use std::hash::{BuildHasher, FoldHasher};
 
-/// Makes a `DefaultHasher` for each key, the same for every map.
+/// Builds a `DefaultHasher` for each key, the same for every map.
 #[derive(Clone, Copy, Debug, Default)]
 pub struct DefaultHashBuilder;
 

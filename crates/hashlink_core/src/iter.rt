@@ -1,4 +1,4 @@
-//! A walk over the entries of a keyed list.
+//! The iterator over the entries of a keyed list.
 ghost use Rattle.std.specs.Prelude.{◌≡◌, ◌<◌, ◌^◌, Some, IfSome, length, ⊤};
 ghost use Rattle.std.specs.Iterator.{at_most, UpTo};
 ghost use Rattle.std.specs.Iterator.SizeHint.{IsWithinCount};
@@ -15,11 +15,11 @@ use std::iter::FusedIterator;
 use std::marker::Model;
 pub use values::Values;
 
-/// A walk over the entries, front first. Contracts see it as the list of the pairs that it has left.
+/// An iterator over the entries, from front to back. Contracts see it as the list of the pairs that are left.
 #[derive(Drop)]
 pub struct Iter<'a, K, V> {
     nodes: &'a Nodes<K, V>,
-    // The first and the last node left. Where none is left they mean nothing.
+    // The first and the last node left. If none is left, they mean nothing.
     first: Option<Node>,
     last: Option<Node>,
     left: usize,
@@ -39,7 +39,7 @@ impl<'a, K, V> Model for Iter<'a, K, V> {
 impl<'a, K, V> Iter<'a, K, V> {
     ghost use Rattle.hashlink_core.specs.Keyed.{pairs_in};
 
-    /// A walk over the whole ring.
+    /// Returns an iterator over the whole ring.
     pub(crate) fn new(nodes: &'a Nodes<K, V>) -> Self
         ensures rest { result ≡ pairs_in nodes.now.entries }
         ensures fits { length nodes.now.entries < 2 ^ 63 }

@@ -10,10 +10,9 @@ use std::alloc::{AllocError, Global};
 use std::hash::Hash;
 use std::marker::Model;
 
-/// How often a cache of each capacity misses, that drops what was used longest ago and is given the keys
-/// recorded.
+/// How often an LRU cache of each capacity misses if it is given the recorded keys.
 ///
-/// Its memory goes with the number of distinct keys, and not with that of the keys recorded.
+/// Its memory grows with the number of distinct keys, and not with the number of keys recorded.
 #[derive(Drop)]
 pub struct MissCurve<K: Eq + Hash> {
     recency: Recency<K>,
@@ -32,7 +31,7 @@ impl<K: Eq + Hash> Model for MissCurve<K> {
 }
 
 impl<K: Eq + Hash> MissCurve<K> {
-    /// The curve of no use at all. It takes no memory.
+    /// Creates the curve of no use at all. It does not allocate.
     pub fn new(alloc: Global) -> Self
         ensures { Counted K.eq [] result }
     {
@@ -43,11 +42,11 @@ impl<K: Eq + Hash> MissCurve<K> {
         }
     }
 
-    /// Records a use of the key, and returns how many other keys were used since its last use, or none at its
-    /// first.
+    /// Records a use of the key. Returns how many other keys were used since its last use, or `None` at its
+    /// first use.
     ///
-    /// It takes logarithmic time on average. Where memory runs out, and after 2 to the power of 64 less 1
-    /// uses, the key is handed back and nothing changes.
+    /// It takes logarithmic time on average. If memory runs out, and after 2 to the power of 64 less 1 uses,
+    /// it returns the key in `Err` and nothing changes.
     pub fn record(&mut self, key: K) -> Result<Option<usize>, K>
     where
         K: Drop,
@@ -75,22 +74,23 @@ impl<K: Eq + Hash> MissCurve<K> {
         }
     }
 
-    /// How many of the uses recorded a cache of this capacity misses, that is empty at first. It takes a step
-    /// for each distinct key at most.
+    /// Returns how many of the recorded uses a cache of this capacity misses that is empty at first. It takes
+    /// at most a step for each distinct key.
     pub fn misses(&self, capacity: usize) -> u64
-        // As the cache of the model, and so as any cache whose contract names it.
+        // The same as the cache of the model, and so as any cache whose contract names it.
         ensures counted { (used : List K) → Counted K.eq used self.now → result
             ≡ cache_misses K.eq capacity used }
         ensures exact { result ≡ misses_at self.now capacity }
 
-        // A larger capacity has no more of them, and from the number of distinct keys on it is that number.
+        // A larger capacity has no more misses. From the number of distinct keys on, the misses are that
+        // number.
         ensures falls { (c : ℕ) → c ≤ capacity → result ≤ misses_at self.now c }
         ensures floor { length self.now.keys ≤ capacity → result ≡ length self.now.keys }
     {
         self.recency.len() as u64 + sum_from(&self.reuses, capacity)
     }
 
-    /// How many uses were recorded.
+    /// Returns the number of uses recorded.
     pub fn accesses(&self) -> u64
         ensures counted { (used : List K) → Counted K.eq used self.now → result ≡ length used }
         ensures all { result ≡ misses_at self.now 0 }
@@ -98,14 +98,15 @@ impl<K: Eq + Hash> MissCurve<K> {
         self.accesses
     }
 
-    /// How many keys were recorded, where equal ones count once.
+    /// Returns the number of distinct keys recorded.
     pub fn distinct(&self) -> usize
         ensures { result ≡ length self.now.keys }
     {
         self.recency.len()
     }
 
-    /// The capacities at which the curve falls, from the smallest on, each with the misses there.
+    /// Returns an iterator over the capacities at which the curve falls, from the smallest on, each with the
+    /// misses there.
     pub fn falls(&self) -> Falls<'_>
         ensures { result ≡ falls_from (length self.now.keys) 0 self.now.reuses }
     {
@@ -113,7 +114,8 @@ impl<K: Eq + Hash> MissCurve<K> {
     }
 }
 
-/// The curve of these keys, used in turn. Where memory runs out, it returns `AllocError` and leaves nothing.
+/// Returns the curve of these keys, used in turn. If memory runs out, it returns `AllocError`, and nothing is
+/// left of the curve.
 pub fn miss_curve<K: Eq + Hash + Copy>(
     alloc: Global,
     keys: &[K],
@@ -129,7 +131,7 @@ pub fn miss_curve<K: Eq + Hash + Copy>(
     Ok(curve)
 }
 
-/// The sum of the counts from this place on.
+/// Returns the sum of the counts from this place on.
 fn sum_from(counts: &[u64], place: usize) -> u64
     requires { sum (drop place counts.now) < 2 ^ 64 }
     ensures { result ≡ sum (drop place counts.now) }

@@ -5,8 +5,8 @@ ghost use Rattle.hashlink_curve.specs.Curve.{falls_from};
 
 use std::marker::Model;
 
-/// The capacities at which a curve falls, from the smallest on, each with the misses there. Contracts see it
-/// as the list of what it has left.
+/// An iterator over the capacities at which a curve falls, from the smallest on, each with the misses there.
+/// Contracts see it as the list of the items that are left.
 #[derive(Drop)]
 pub struct Falls<'a> {
     reuses: &'a [u64],
@@ -26,7 +26,7 @@ impl<'a> Model for Falls<'a> {
 }
 
 impl<'a> Falls<'a> {
-    /// From the capacity 0 on, where all uses are misses.
+    /// Starts at capacity 0, at which all uses are misses.
     pub(crate) fn new(accesses: u64, reuses: &'a [u64]) -> Self
         requires counted { sum reuses.now ≤ accesses }
         requires fits { length reuses.now < 2 ^ 63 }

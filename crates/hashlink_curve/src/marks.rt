@@ -7,12 +7,12 @@ ghost use Rattle.hashlink_curve.specs.Marks.{Marked};
 use std::alloc::{AllocError, Global};
 use std::marker::Model;
 
-/// The greatest number of places that a tree is made for.
+/// The greatest number of places of a tree.
 const MOST_PLACES: usize = 1 << 60;
 
-/// Marks at places, in a binary tree of sums: the root is the node 1, the children of a node `j` are `2 * j`
-/// and
-/// `2 * j + 1`, and the leaves, one for each place, are the nodes from `width` on, which is a power of two.
+/// Marks at places, in a binary tree of sums. The root is the node 1, and the children of a node `j` are `2 *
+/// j` and `2 * j + 1`. The leaves, one for each place, are the nodes from `width` on, which is a power of
+/// two.
 #[derive(Drop)]
 pub(crate) struct Marks {
     sums: Vec<usize>,
@@ -30,7 +30,7 @@ impl Model for Marks {
 }
 
 impl Marks {
-    /// A tree without a place. It takes no memory.
+    /// Creates a tree without a place. It does not allocate.
     pub(crate) fn new(alloc: Global) -> Self
         ensures unmarked { Marked result [] }
         ensures none { result.width ≡ 0 }
@@ -41,7 +41,7 @@ impl Marks {
         }
     }
 
-    /// A tree with at least so many places and no mark, in one piece of memory.
+    /// Creates a tree with at least `places` places and no mark, in one allocation.
     pub(crate) fn with_places(alloc: Global, places: usize) -> Result<Self, AllocError>
         ensures unmarked { IfOk result (λ marks. Marked marks []) }
         ensures enough { IfOk result (λ marks. places ≤ marks.width) }
@@ -57,14 +57,14 @@ impl Marks {
         Ok(Marks { sums, width })
     }
 
-    /// How many places there are.
+    /// Returns the number of places.
     pub(crate) fn width(&self) -> usize
         ensures { result ≡ self.now.width }
     {
         self.width
     }
 
-    /// How many marks stand before the place. It takes a step for each level of the tree.
+    /// Returns the number of marks before the place. It takes a step for each level of the tree.
     pub(crate) fn before(&self, place: usize) -> usize
         requires { place < self.now.width }
         ensures { (places : List ℕ) → Marked self.now places → result ≡ count_by
@@ -81,7 +81,7 @@ impl Marks {
         count
     }
 
-    /// Puts a mark at the place. It takes a step for each level of the tree.
+    /// Sets a mark at the place. It takes a step for each level of the tree.
     pub(crate) fn mark(&mut self, place: usize)
         requires within { place < self.old.width }
         requires few { slice_index self.old.sums 1 < 2 ^ 64 - 1 }
@@ -96,7 +96,7 @@ impl Marks {
         }
     }
 
-    /// Takes a mark away from the place, which has one. It takes a step for each level of the tree.
+    /// Removes a mark from the place, which has to have one. It takes a step for each level of the tree.
     pub(crate) fn unmark(&mut self, place: usize)
         requires within { place < self.old.width }
         requires marked { 0 < slice_index self.old.sums (self.old.width + place) }

@@ -10,8 +10,8 @@ use std::alloc::{AllocError, Global};
 use std::hash::Hash;
 use std::marker::Model;
 
-/// Keys in the order of their last uses. Each has a place, and these rise in that order; a mark stands at the
-/// place of each, so that the marks behind a place are the keys that were used since.
+/// Keys in the order of their last uses. Each key has a place, and the places increase in that order. A mark
+/// is at the place of each key. So the marks after a place are the keys that were used since.
 #[derive(Drop)]
 pub(crate) struct Recency<K: Eq + Hash> {
     places: LinkedHashMap<K, usize>,
@@ -34,7 +34,7 @@ impl<K: Eq + Hash> Model for Recency<K> {
 }
 
 impl<K: Eq + Hash> Recency<K> {
-    /// No key. It takes no memory.
+    /// Creates an empty list. It does not allocate.
     pub(crate) fn new(alloc: Global) -> Self
         ensures { result ≡ [] }
     {
@@ -46,17 +46,18 @@ impl<K: Eq + Hash> Recency<K> {
         }
     }
 
-    /// How many keys there are.
+    /// Returns the number of keys.
     pub(crate) fn len(&self) -> usize
         ensures { result ≡ length self.now }
     {
         self.places.len()
     }
 
-    /// Makes the key the last, and returns how many keys were used since its last use, or none at its first.
+    /// Makes the key the last. Returns how many keys were used since its last use, or `None` at its first
+    /// use.
     ///
-    /// It takes logarithmic time, but that now and then each key gets a new place. Where memory runs out, the
-    /// key is handed back and nothing changes.
+    /// It takes logarithmic time, except that now and then each key is given a new place. If memory runs out,
+    /// it returns the key in `Err` and nothing changes.
     pub(crate) fn touch(&mut self, key: K) -> Result<Option<usize>, K>
     where
         K: Drop,
@@ -93,7 +94,7 @@ impl<K: Eq + Hash> Recency<K> {
     }
 }
 
-/// Sees to it that the place `next` is free, if need be by new places for all keys. Where memory runs out
+/// Makes sure that the place `next` is free, if need be by new places for all keys. If memory runs out,
 /// nothing changes.
 fn free_place<K: Eq + Hash + Drop>(
     alloc: Global,
@@ -114,11 +115,11 @@ fn free_place<K: Eq + Hash + Drop>(
     Ok(())
 }
 
-/// With more keys than this no tree is made, for which there could be no memory.
+/// With more keys than this no tree is built, since there could be no memory for it.
 const MOST_KEYS: usize = 1 << 58;
 
-/// Gives the keys the places from 0 on, in their order, and makes a tree with their marks and as many free
-/// places again. Where memory runs out nothing changes.
+/// Moves the keys to the places from 0 on, in their order, and builds a tree with their marks and as many
+/// free places again. If memory runs out, nothing changes.
 fn renumber<K: Eq + Hash + Drop>(
     alloc: Global,
     places: &mut LinkedHashMap<K, usize>,

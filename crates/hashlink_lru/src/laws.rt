@@ -4,9 +4,10 @@ ghost use Rattle.hashlink_model.specs.Cache.{CacheState, IsWithin, cache_extende
 ghost use Rattle.hashlink_model.specs.Many.{AcceptsAll, StopsAt};
 ghost use Rattle.hashlink_lru.specs.Cached.{InsertsPairIn};
 
-/// Items that go in one after another leave what an insert of each in turn leaves, at the same capacity, and
-/// so do those before a refused one. A cache of at most n entries beyond its capacity stays so, and has none
-/// beyond it once an item is in, however many it had.
+/// Items that are inserted one after another leave what an insert of each in turn leaves, at the same
+/// capacity. So do the items before one that is not inserted because memory runs out. A cache of at most n
+/// entries beyond its capacity stays so. Once an item is inserted it has none beyond its capacity, however
+/// many it had.
 pub fn what_many_items_leave<K, V, S>()
     ensures entries { (eq : K → K → Bool) (old new : CacheState K V S) (items : List (K × V))
         → AcceptsAll (InsertsPairIn eq) old items new

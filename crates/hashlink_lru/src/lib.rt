@@ -1,5 +1,5 @@
-//! `LruCache`: a map that holds a given number of entries, and drops the one that was used longest ago for a
-//! new one.
+//! `LruCache`: a map that holds up to a given number of entries, and evicts the least recently used one to
+//! make room for a new one.
 #![tactic(auto)]
 
 mod cache;

@@ -1,4 +1,4 @@
-//! What is done at a node of a map. Entries are a few lines over these.
+//! What is done at a node of a map. The methods of entries call these.
 ghost use Rattle.std.specs.Prelude.{◌≡◌, ◌-◌, length, slice_get, None, Some, IfOk};
 ghost use Rattle.std.specs.Borrow.{sem};
 ghost use Rattle.std.specs.Map.Iter.{deref_pair};
@@ -19,7 +19,7 @@ impl<K: Eq + Hash, V, S: BuildHasher> LinkedHashMap<K, V, S> {
     ghost use Rattle.hashlink_map.specs.Standing.{StaysHeld};
     ghost use Rattle.hashlink_map.specs.Lends.{LendsAtNode, StaysAsItWas};
 
-    /// The pair of the node.
+    /// Returns the pair of the node.
     #[inline]
     pub(crate) fn pair_at(&self, node: Node) -> (&K, &V)
         requires { Holds self.now.nodes node }
@@ -29,7 +29,7 @@ impl<K: Eq + Hash, V, S: BuildHasher> LinkedHashMap<K, V, S> {
         self.list.entry(node)
     }
 
-    /// The key of the node, and its value for writing.
+    /// Returns the key of the node and a mutable reference to its value.
     #[inline]
     pub(crate) fn pair_at_mut(&mut self, node: Node) -> (&K, &mut V)
         requires { Holds self.old.nodes node }
@@ -41,7 +41,7 @@ impl<K: Eq + Hash, V, S: BuildHasher> LinkedHashMap<K, V, S> {
         self.list.entry_mut(node)
     }
 
-    /// The value of the node, for writing.
+    /// Returns a mutable reference to the value of the node.
     #[inline]
     pub(crate) fn value_at_mut(&mut self, node: Node) -> &mut V
         requires { Holds self.old.nodes node }
@@ -53,7 +53,7 @@ impl<K: Eq + Hash, V, S: BuildHasher> LinkedHashMap<K, V, S> {
         self.list.value_mut(node)
     }
 
-    /// The key of the node, as long as the map is borrowed: the map ends as it was.
+    /// Returns the key of the node for as long as the map is borrowed. The map does not change.
     #[inline]
     pub(crate) fn key_for_good(&mut self, node: Node) -> &K
         requires { Holds self.old.nodes node }
@@ -65,7 +65,7 @@ impl<K: Eq + Hash, V, S: BuildHasher> LinkedHashMap<K, V, S> {
         self.pair_at(node).0
     }
 
-    /// Moves the node to the end.
+    /// Moves the node to the back.
     #[inline]
     pub(crate) fn move_to_back(&mut self, node: Node)
         requires { Holds self.old.nodes node }
@@ -73,7 +73,7 @@ impl<K: Eq + Hash, V, S: BuildHasher> LinkedHashMap<K, V, S> {
             (place_number self.old.nodes (Some node)) (length (entries_of self.old)) }
         ensures stays { StaysHeld K.eq self.old self.new node (length (entries_of self.old) - 1) }
 
-        // No two keys are equal, of this map as of every map.
+        // No two keys are equal, in this map as in every map.
         ensures distinct { IsEntries K.eq (entries_of self.old) }
     {
         self.list.move_before(node, None);
@@ -90,7 +90,7 @@ impl<K: Eq + Hash, V, S: BuildHasher> LinkedHashMap<K, V, S> {
         self.list.move_after(node, None);
     }
 
-    /// Puts the value in where the node stands, and returns the old one.
+    /// Replaces the value at the node, and returns the old one. The node keeps its place.
     #[inline]
     pub(crate) fn replace_value_at(&mut self, node: Node, value: V) -> V
         requires { Holds self.old.nodes node }
@@ -101,7 +101,7 @@ impl<K: Eq + Hash, V, S: BuildHasher> LinkedHashMap<K, V, S> {
         self.list.replace_value(node, value)
     }
 
-    /// Puts an equal key in where the node stands, and returns the old one.
+    /// Replaces the key at the node by an equal one, and returns the old one. The node keeps its place.
     #[inline]
     pub(crate) fn replace_key_at(&mut self, node: Node, key: K) -> K
         requires held { Holds self.old.nodes node }
@@ -114,7 +114,7 @@ impl<K: Eq + Hash, V, S: BuildHasher> LinkedHashMap<K, V, S> {
         self.list.replace_key(node, key)
     }
 
-    /// Puts the value in and moves the node to the end, and returns the old value.
+    /// Replaces the value, moves the node to the back, and returns the old value.
     pub(crate) fn put_value_last(&mut self, node: Node, value: V) -> V
         requires { Holds self.old.nodes node }
         ensures inserts { InsertsValue (state_of self.old) (state_of self.new)
@@ -126,7 +126,8 @@ impl<K: Eq + Hash, V, S: BuildHasher> LinkedHashMap<K, V, S> {
         old
     }
 
-    /// Puts an equal key and the value in where the node stands, and returns the old pair.
+    /// Replaces the pair at the node by one with an equal key, and returns the old pair. The node keeps its
+    /// place.
     pub(crate) fn replace_pair_at(&mut self, node: Node, key: K, value: V) -> (K, V)
         requires { HoldsKey K.eq self.old.nodes key node }
         ensures replaces { ReplacesEntry (state_of self.old) (state_of self.new)
@@ -136,7 +137,7 @@ impl<K: Eq + Hash, V, S: BuildHasher> LinkedHashMap<K, V, S> {
         self.list.replace_pair(node, key, value)
     }
 
-    /// Puts an equal key and the value in and moves the node to the end, and returns the old pair.
+    /// Replaces the pair by one with an equal key, moves the node to the back, and returns the old pair.
     pub(crate) fn put_pair_last(&mut self, node: Node, key: K, value: V) -> (K, V)
         requires { HoldsKey K.eq self.old.nodes key node }
         ensures { InsertsEntry (state_of self.old) (state_of self.new)
@@ -147,7 +148,7 @@ impl<K: Eq + Hash, V, S: BuildHasher> LinkedHashMap<K, V, S> {
         old
     }
 
-    /// Takes the node's entry out.
+    /// Removes the entry of the node, and returns it.
     #[inline]
     pub(crate) fn take_at(&mut self, node: Node) -> (K, V)
         requires { Holds self.old.nodes node }
@@ -157,7 +158,7 @@ impl<K: Eq + Hash, V, S: BuildHasher> LinkedHashMap<K, V, S> {
         self.list.remove(node)
     }
 
-    /// Puts a pair with an absent key, which has this hash, last.
+    /// Inserts a pair at the back. Its key is absent and has this hash.
     #[inline]
     pub(crate) fn push_back(&mut self, hash: u64, key: K, value: V) -> Result<Node, (K, V)>
         requires absent { place_of (K.eq key) (entries_of self.old) ≡ None }

@@ -1,4 +1,4 @@
-//! What is done at a place of a map, a node or the guard. Cursors are a few lines over these.
+//! What is done at a place of a map, which is a node or the guard. The methods of cursors call these.
 ghost use Rattle.std.specs.Prelude.{◌≡◌, slice_get, length, Option};
 ghost use Rattle.std.specs.Option.{option_map};
 ghost use Rattle.std.specs.Map.Iter.{deref_pair};
@@ -13,7 +13,7 @@ use hashlink_core::Node;
 use std::hash::{BuildHasher, Hash};
 
 impl<K: Eq + Hash, V, S: BuildHasher> LinkedHashMap<K, V, S> {
-    /// The place after a place: after the guard comes the first.
+    /// Returns the place after a place: after the guard comes the first.
     #[inline]
     pub(crate) fn place_after(&self, place: Option<Node>) -> Option<Node>
         requires { IsPlace self.now.nodes place }
@@ -23,7 +23,7 @@ impl<K: Eq + Hash, V, S: BuildHasher> LinkedHashMap<K, V, S> {
         self.list.next(place)
     }
 
-    /// The place before a place: before the first comes the guard.
+    /// Returns the place before a place: before the first comes the guard.
     #[inline]
     pub(crate) fn place_before(&self, place: Option<Node>) -> Option<Node>
         requires { IsPlace self.now.nodes place }
@@ -33,7 +33,7 @@ impl<K: Eq + Hash, V, S: BuildHasher> LinkedHashMap<K, V, S> {
         self.list.prev(place)
     }
 
-    /// The pair of the place, and none at the guard.
+    /// Returns the pair at the place, or `None` at the guard.
     #[inline]
     pub(crate) fn pair_at_place(&self, place: Option<Node>) -> Option<(&K, &V)>
         requires { IsPlace self.now.nodes place }
@@ -43,7 +43,8 @@ impl<K: Eq + Hash, V, S: BuildHasher> LinkedHashMap<K, V, S> {
         let node = place?;
         Some(self.pair_at(node))
     }
-    /// Puts the pair right before the place, as `KeyedList::insert_at` does. Each place stays on its entry.
+    /// Inserts the pair directly before the place, as `KeyedList::insert_at` does. Each place stays on its
+    /// entry.
     pub(crate) fn insert_at(
         &mut self,
         place: Option<Node>,

@@ -1,4 +1,4 @@
-//! Maps that are made whole: of the items of an iterator, and as a clone.
+//! Maps that are built whole: from the items of an iterator, and as a clone.
 ghost use Rattle.std.specs.Prelude.{◌≡◌, List, [], Bool, true, Option, Ok, IfOk, OnOk, OnErr};
 ghost use Rattle.std.specs.Iterator.{IsFiniteIterable};
 ghost use Rattle.hashlink_model.specs.Compare.{entries_eq};
@@ -12,11 +12,11 @@ use std::alloc::{AllocError, Global};
 use std::hash::{BuildHasher, Hash};
 
 impl<K: Eq + Hash + Drop, V: Drop, S: BuildHasher + Default + Drop> LinkedHashMap<K, V, S> {
-    /// A map of the items, each inserted in turn as `insert` does, that hashes by `S::default()`. The
-    /// iterator has to end. No room is made before an item needs it.
+    /// Builds a map from the items, each inserted in turn as by `insert`. It hashes with `S::default()`. It
+    /// costs an insert for each item. The iterator has to end. No room is reserved in advance.
     ///
-    /// It returns `AllocError` where the memory for an item is refused. Then nothing after that item is read,
-    /// and nothing is left of the map.
+    /// If an allocation for an item fails, it returns `AllocError`. Then no further item is read, and nothing
+    /// is left of the map.
     pub fn from_iter<I: IntoIterator<Item = (K, V)>>(
         alloc: Global,
         iter: I,
@@ -34,7 +34,7 @@ impl<K: Eq + Hash + Drop, V: Drop, S: BuildHasher + Default + Drop> LinkedHashMa
     }
 }
 
-/// `collect(alloc)` makes a map of the items as the function `from_iter` does.
+/// `collect(alloc)` builds a map from the items, as the function `from_iter` does.
 impl<K: Eq + Hash + Drop, V: Drop, S: BuildHasher + Default + Drop> FromIterator<(K, V)>
     for LinkedHashMap<K, V, S> {
     type Alloc = Global;
@@ -50,18 +50,19 @@ impl<K: Eq + Hash + Drop, V: Drop, S: BuildHasher + Default + Drop> FromIterator
 }
 
 impl<K: Eq + Hash + Clone, V: Clone, S: BuildHasher + Clone> LinkedHashMap<K, V, S> {
-    /// A map with a clone of the hasher, in which a clone of each pair was inserted in turn, front first. It
-    /// is in the same allocator's memory, and has no spare node.
+    /// Returns a clone: a map with a clone of the hasher and a clone of each pair, inserted in turn from the
+    /// front. It uses the same allocator, and has no spare node. It costs a clone and an insert for each
+    /// pair.
     ///
-    /// It returns `AllocError` where the memory for a clone or for a node is refused, and then nothing is
-    /// left of the new map. A clone of an empty map is not refused where that of its hasher is not.
+    /// If an allocation for a clone or for a node fails, it returns `AllocError`, and nothing is left of the
+    /// new map. The clone of an empty map fails only if the clone of its hasher does.
     pub fn clone(&self) -> Result<Self, AllocError>
         ensures made { IfOk result (λ map. (s : S) × S.is_clone self.now.hasher s × (clones : List (K × V))
             × ArePairClones K.is_clone V.is_clone (entries_of self.now) clones
             × MadeFrom (InsertsPair K.eq) clones s (state_of map)) }
         ensures refused { OnErr result (S.is_infallible self.now.hasher → entries_of self.now ≡ [] → ⊥) }
 
-        // Where clones are equal to their sources, the clone is equal to the map.
+        // If clones are equal to their sources, the clone is equal to the map.
         ensures equal { (eqv : V → V → Bool) → ((x y : K) → K.is_clone x y → K.eq x y ≡ true)
             → ((x y : V) → V.is_clone x y → eqv x y ≡ true)
             → IfOk result (λ map. entries_eq K.eq eqv (entries_of self.now) (entries_of map) ≡ true) }
@@ -89,7 +90,7 @@ impl<K: Eq + Hash + Clone, V: Clone, S: BuildHasher + Clone> LinkedHashMap<K, V,
     }
 }
 
-/// What holds a map may be cloned with it: a clone is made as the function `clone` makes it.
+/// A type that holds a map can be cloned with it: a clone is made by the function `clone`.
 impl<K: Eq + Hash + Clone, V: Clone, S: BuildHasher + Clone> Clone for LinkedHashMap<K, V, S> {
     ghost is_clone = { λ map made. IsOfPairClones K.eq K.is_clone V.is_clone (S.is_clone map.hasher)
         (entries_of map) (state_of made) };

@@ -1,4 +1,4 @@
-//! Maps compared: by their entries in order, whatever the hashers are.
+//! Comparisons of maps: by their entries in order, whatever the hashers are.
 ghost use Rattle.hashlink_map.specs.Compared.{maps_eq, maps_cmp, maps_partial_cmp};
 ghost use Rattle.hashlink_map.specs.Compared.{maps_per, maps_equiv, maps_po, maps_total, maps_agree};
 ghost use Rattle.hashlink_map.specs.Compared.{maps_tie};
@@ -8,8 +8,8 @@ use hashlink_core::{walks_cmp, walks_eq, walks_partial_cmp};
 use std::cmp::Ordering;
 use std::hash::{BuildHasher, Hash};
 
-/// Maps are equal where they have as many entries, and at each place an equal key and an equal value. It
-/// takes a step for each entry up to the first that differs.
+/// Two maps are equal if they have the same number of entries, and at each place equal keys and equal values.
+/// A comparison takes linear time, up to the first entry that differs.
 impl<K: Eq + Hash, V: PartialEq, S: BuildHasher> PartialEq for LinkedHashMap<K, V, S> {
     ghost eq = { maps_eq K.eq V.eq };
 
@@ -24,8 +24,8 @@ impl<K: Eq + Hash, V: Eq, S: BuildHasher> Eq for LinkedHashMap<K, V, S> {
     ghost laws = { maps_equiv K.Eq.laws V.Eq.laws };
 }
 
-/// Maps are ordered by the first place where their entries do not compare as equal, key before value. A map
-/// whose entries begin another's is less.
+/// Maps are ordered by the first place at which their entries do not compare as equal, key before value. A
+/// map whose entries are the beginning of another's is less.
 impl<K: Eq + Hash + PartialOrd, V: PartialOrd, S: BuildHasher> PartialOrd
     for LinkedHashMap<K, V, S> {
     ghost partial_cmp = { maps_partial_cmp K.partial_cmp V.partial_cmp };

@@ -1,6 +1,6 @@
-//! Cursors: a place among the entries of a map, which moves round the guard that stands between the last and
-//! the first. A clause sees a cursor as the map's state and the number of its place, which is the length at
-//! the guard.
+//! Cursors. A cursor stands on an entry of a map or on the guard, which stands between the last entry and the
+//! first. A clause sees a cursor as the map's state and the number of its place, which is the length at the
+//! guard.
 ghost use Rattle.std.specs.Prelude.{◌≡◌, ◌-◌, length};
 ghost use Rattle.std.specs.Option.{option_map};
 ghost use Rattle.hashlink_core.specs.Keyed.{entries_of};
@@ -25,7 +25,8 @@ pub struct CursorMut<'a, K: Eq + Hash, V, S: BuildHasher = DefaultHashBuilder, N
 impl<K: Eq + Hash, V, S: BuildHasher> LinkedHashMap<K, V, S> {
     ghost use Rattle.hashlink_map.specs.Cursor.{cursor_map, cursor_state};
 
-    /// A cursor on the first entry, or on the guard of an empty map. It takes constant time and no memory.
+    /// Returns a cursor on the first entry, or on the guard if the map is empty. It takes constant time and
+    /// does not allocate.
     pub fn cursor_front_mut(&mut self) -> CursorMut<'_, K, V, S>
         ensures same_map { (cursor_map result).ghost_name ≡ self.entry.ghost_name }
         ensures unchanged { (cursor_map result).now ≡ self.old }
@@ -35,7 +36,8 @@ impl<K: Eq + Hash, V, S: BuildHasher> LinkedHashMap<K, V, S> {
         CursorMut { map: self, place }
     }
 
-    /// A cursor on the last entry, or on the guard of an empty map. It takes constant time and no memory.
+    /// Returns a cursor on the last entry, or on the guard if the map is empty. It takes constant time and
+    /// does not allocate.
     pub fn cursor_back_mut(&mut self) -> CursorMut<'_, K, V, S>
         ensures same_map { (cursor_map result).ghost_name ≡ self.entry.ghost_name }
         ensures unchanged { (cursor_map result).now ≡ self.old }

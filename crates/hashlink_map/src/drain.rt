@@ -1,4 +1,4 @@
-//! A walk that takes the entries out of a map that it borrows.
+//! The draining iterator of a map.
 ghost use Rattle.std.specs.Prelude.{◌≡◌, Some, IfSome, length};
 ghost use Rattle.std.specs.Iterator.{at_most, UpTo};
 ghost use Rattle.std.specs.Iterator.SizeHint.{IsWithinCount};
@@ -10,8 +10,8 @@ use hashlink_core::DefaultHashBuilder;
 use std::hash::{BuildHasher, Hash};
 use std::iter::FusedIterator;
 
-/// A walk that gives the entries of a map away, front first. At its end, early or not, the map is empty and
-/// every node is spare.
+/// An iterator that removes the entries of a map and returns them, from front to back. When it is dropped,
+/// exhausted or not, the map is empty and every node is spare.
 pub struct Drain<'a, K: Eq + Hash, V, S: BuildHasher = DefaultHashBuilder> {
     pub(crate) map: &'a mut LinkedHashMap<K, V, S>,
 }
@@ -30,8 +30,8 @@ impl<'a, K: Eq + Hash + Drop, V: Drop, S: BuildHasher> Drop for Drain<'a, K, V, 
 impl<K: Eq + Hash + Drop, V: Drop, S: BuildHasher> LinkedHashMap<K, V, S> {
     ghost use Rattle.hashlink_map.specs.Drain.{drained_map};
 
-    /// A walk that takes the entries out, front first. At its end, early or not, the map is empty. It takes
-    /// constant time and no memory.
+    /// Returns an iterator that removes the entries and returns them, from front to back. When the iterator
+    /// is dropped, exhausted or not, the map is empty. The call takes constant time and does not allocate.
     pub fn drain(&mut self) -> Drain<'_, K, V, S>
         ensures same_map { (drained_map result).ghost_name ≡ self.entry.ghost_name }
         ensures unchanged { (drained_map result).now ≡ self.old }

@@ -1,5 +1,6 @@
-//! A key's place in a map that was looked up with the key in hand: an entry there, or room for one.
-//! A clause sees an entry as the map's state, the place of its node or none, and the key in hand.
+//! Entries of a map: the place of a key that was looked up, occupied or vacant. An entry holds the given key,
+//! which is the one that was passed to `entry`. A clause sees an entry as the map's state, the place of its
+//! node if it has one, and the given key.
 ghost use Rattle.std.specs.Prelude.{◌≡◌, None};
 ghost use Rattle.hashlink_model.specs.Entries.{place_of};
 ghost use Rattle.hashlink_core.specs.Keyed.{entries_of, HoldsKey};
@@ -14,19 +15,20 @@ mod methods;
 mod occupied;
 mod vacant;
 
-/// The place of a key in a map, with the key in hand.
+/// The place of a key in a map, with the given key.
 #[derive(Drop)]
 pub enum Entry<'a, K: Eq + Hash, V, S: BuildHasher = DefaultHashBuilder> {
-    /// The key is there.
+    /// The key is present.
     Occupied(OccupiedEntry<'a, K, V, S>),
     /// The key is absent.
     Vacant(VacantEntry<'a, K, V, S>),
 }
 
-/// An entry that is there, with a key in hand that equals its key.
+/// An occupied entry. It holds the given key, which equals the stored one.
 ///
-/// A caller who is generic in the key, and wants to prove what the map is afterwards, ends it by `into_key`
-/// or by another call that takes it by value: of an occupied entry that is dropped a contract says nothing.
+/// A caller that is generic in the key, and wants to prove what the map is afterwards, ends the entry by
+/// `into_key` or by another method that takes it by value: a contract says nothing of an occupied entry that
+/// is dropped.
 #[derive(Drop)]
 pub struct OccupiedEntry<
     'a,
@@ -41,7 +43,7 @@ pub struct OccupiedEntry<
     ghost stands: { HoldsKey K.eq map.now.nodes key (N.node node) },
 }
 
-/// A key in hand that the map does not have.
+/// A vacant entry. It holds the given key, which the map does not have.
 pub struct VacantEntry<'a, K: Eq + Hash, V, S: BuildHasher = DefaultHashBuilder> {
     pub(crate) map: &'a mut LinkedHashMap<K, V, S>,
     pub(crate) hash: u64,

@@ -1,4 +1,4 @@
-//! Many items in a row: each goes in by `insert`, in turn.
+//! Inserts of many items, each in turn by `insert`.
 ghost use Rattle.std.specs.Prelude.{List, [], None, OnOk, IfErr, map};
 ghost use Rattle.std.specs.Iterator.{IsFinite, IsFiniteIterable, Yields, YieldsThen};
 ghost use Rattle.std.specs.Map.Iter.{deref_pair};
@@ -14,10 +14,11 @@ use std::alloc::AllocError;
 use std::hash::{BuildHasher, Hash};
 
 impl<K: Eq + Hash + Drop, V: Drop, S: BuildHasher> LinkedHashMap<K, V, S> {
-    /// Inserts each item in turn, as `insert` does. The iterator has to end.
+    /// Inserts each item in turn, as `insert` does, at the cost of an insert for each. The iterator has to
+    /// end. No room is reserved in advance.
     ///
-    /// Where the memory for an item is refused, those before it are in, it is handed back, and nothing after
-    /// it is read. No room is made before an item needs it.
+    /// If an allocation for an item fails, the items before it stay inserted. The error contains that item
+    /// and their number. No further item is read.
     pub fn extend<I: IntoIterator<Item = (K, V)>>(
         &mut self,
         iter: I,
@@ -33,8 +34,8 @@ impl<K: Eq + Hash + Drop, V: Drop, S: BuildHasher> LinkedHashMap<K, V, S> {
         self.extend_from(&mut rest)
     }
 
-    /// The same out of an iterator that its caller keeps: it is left with the items after the refused one, or
-    /// with none.
+    /// Does the same as `extend` with an iterator that the caller keeps. If an allocation fails, the items
+    /// after the one in the error are left in the iterator. Otherwise none is left.
     pub fn extend_from<I: Iterator<Item = (K, V)>>(
         &mut self,
         iter: &mut I,
@@ -55,8 +56,8 @@ impl<K: Eq + Hash + Drop, V: Drop, S: BuildHasher> LinkedHashMap<K, V, S> {
 impl<'a, K: Eq + Hash + Copy + 'a, V: Copy + 'a, S: BuildHasher> LinkedHashMap<K, V, S> {
     /// Inserts a copy of each pair in turn, as `extend` does.
     ///
-    /// Where the memory for a pair is refused, those before it are in, its copy is handed back, and nothing
-    /// after it is read.
+    /// If an allocation for a pair fails, the pairs before it stay inserted. The error contains the copy of
+    /// that pair and their number. No further pair is read.
     pub fn extend_ref<I: IntoIterator<Item = (&'a K, &'a V)>>(
         &mut self,
         iter: I,
@@ -82,7 +83,7 @@ impl<'a, K: Eq + Hash + Copy + 'a, V: Copy + 'a, S: BuildHasher> LinkedHashMap<K
     }
 }
 
-/// The items go in as by the function `extend`. The refused one is dropped.
+/// Inserts the items as the function `extend` does. An item that is not inserted is dropped.
 impl<K: Eq + Hash + Drop, V: Drop, S: BuildHasher> Extend<(K, V)> for LinkedHashMap<K, V, S> {
     ghost extend_gives = { λ old items new. TakesItems (InsertsPair K.eq) (Grows 1) (state_of old) items
         (state_of new) };
@@ -93,7 +94,7 @@ impl<K: Eq + Hash + Drop, V: Drop, S: BuildHasher> Extend<(K, V)> for LinkedHash
     }
 }
 
-/// Copies of the pairs go in as by the function `extend_ref`.
+/// Inserts copies of the pairs as the function `extend_ref` does.
 impl<'a, K: Eq + Hash + Copy + 'a, V: Copy + 'a, S: BuildHasher> Extend<(&'a K, &'a V)>
     for LinkedHashMap<K, V, S> {
     ghost extend_gives = { λ old items new. TakesItems (InsertsPair K.eq) (Grows 1) (state_of old)

@@ -1,10 +1,10 @@
-//! What a map feeds a hasher: key, value, key, value in order, and no length.
+//! What a map feeds to a hasher: key, value, key, value in order, and no length.
 ghost use Rattle.hashlink_map.specs.Compared.{map_hash_input, maps_alike};
 
 use crate::map::LinkedHashMap;
 use std::hash::{BuildHasher, Hash, Hasher};
 
-/// A map is hashed by its entries in order, key before value, so that equal maps are hashed alike.
+/// Hashes a map by its entries in order, key before value, so that equal maps have equal hashes.
 impl<K: Eq + Hash, V: Hash, S: BuildHasher> Hash for LinkedHashMap<K, V, S> {
     ghost hash_input = { map_hash_input K.hash_input V.hash_input };
 

@@ -1,4 +1,4 @@
-//! `map[&key]`, where the key is there.
+//! `map[&key]`, for a key that is present.
 ghost use Rattle.std.specs.Prelude.{◌≡◌, Some};
 ghost use Rattle.std.specs.Borrow.{sem};
 ghost use Rattle.std.specs.Map.{lookup};
@@ -9,8 +9,8 @@ use crate::map::LinkedHashMap;
 use std::hash::{BuildHasher, Hash};
 use std::ops::{Index, IndexMut};
 
-/// The value of a key that is there, which `contains_key` tells. The order stays as it is. It takes what a
-/// lookup takes.
+/// Returns a reference to the value of the key, which has to be present: `contains_key` tells whether it is.
+/// The order does not change. It costs a lookup.
 impl<'q, K: Eq + Hash, V, S: BuildHasher> Index<&'q K> for LinkedHashMap<K, V, S> {
     type Output = V;
 
@@ -23,7 +23,7 @@ impl<'q, K: Eq + Hash, V, S: BuildHasher> Index<&'q K> for LinkedHashMap<K, V, S
     }
 }
 
-/// The same for writing.
+/// Returns a mutable reference to the value of the key, which has to be present.
 impl<'q, K: Eq + Hash, V, S: BuildHasher> IndexMut<&'q K> for LinkedHashMap<K, V, S> {
     fn index_mut(&mut self, key: &'q K) -> &mut V
         requires { HasKey K.eq self.old key.now }

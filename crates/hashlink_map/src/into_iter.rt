@@ -1,4 +1,4 @@
-//! A walk that takes the entries out of a map that it owns.
+//! The owning iterator of a map.
 ghost use Rattle.std.specs.Prelude.{◌≡◌, ◌^◌, ◌<◌, Some, IfSome, length};
 ghost use Rattle.std.specs.Iterator.{at_most, UpTo};
 ghost use Rattle.std.specs.Iterator.SizeHint.{IsWithinCount};
@@ -11,8 +11,8 @@ use std::hash::{BuildHasher, Hash};
 use std::iter::FusedIterator;
 use std::marker::Model;
 
-/// A walk that gives the entries away, front first. Contracts see it as the list of the pairs that it has
-/// left. Its end drops those that it has not given, and gives every node and the table back.
+/// An owning iterator over the entries, from front to back. Contracts see it as the list of the pairs that
+/// are left. When it is dropped, it drops these pairs, and frees every node and the table.
 #[derive(Drop)]
 pub struct IntoIter<K: Eq + Hash, V, S: BuildHasher = DefaultHashBuilder> {
     pub(crate) map: LinkedHashMap<K, V, S>,

@@ -1,5 +1,5 @@
-//! A walk that lends values for writing, one at a time, from both ends. A clause sees it as the map's state,
-//! the number of the first place left and how many entries are left.
+//! The lending iterator over the entries, from both ends. It lends one value at a time, mutably. A clause
+//! sees it as the map's state, the number of the first place left, and the number of entries left.
 ghost use Rattle.std.specs.Prelude.{◌≡◌, Some, length, slice_get};
 ghost use Rattle.std.specs.Borrow.{sem};
 ghost use Rattle.std.specs.Option.{option_map, option_copied_mut};
@@ -14,7 +14,7 @@ use crate::places_left::PlacesLeft;
 use hashlink_core::{DefaultHashBuilder, Node};
 use std::hash::{BuildHasher, Hash};
 
-/// A walk over the entries of a map, front first, that lends each value for writing.
+/// A lending iterator over the entries of a map, from front to back, with mutable references to the values.
 #[derive(Drop)]
 pub struct IterMut<'a, K: Eq + Hash, V, S: BuildHasher = DefaultHashBuilder, N: AsNode = Node> {
     pub(crate) map: &'a mut LinkedHashMap<K, V, S>,
@@ -26,8 +26,8 @@ impl<K: Eq + Hash, V, S: BuildHasher> LinkedHashMap<K, V, S> {
     ghost use Rattle.hashlink_map.specs.IterMut.{walk_map, walk_state};
     ghost use Rattle.hashlink_map.specs.WritingWalk.{writing_walk};
 
-    /// A walk over the entries, front first, that lends each value for writing. It takes constant time and no
-    /// memory.
+    /// Returns a lending iterator over the entries, from front to back, with mutable references to the
+    /// values. It takes constant time and does not allocate.
     pub fn iter_mut(&mut self) -> IterMut<'_, K, V, S>
         ensures same_map { (walk_map result).ghost_name ≡ self.entry.ghost_name }
         ensures unchanged { (walk_map result).now ≡ self.old }
@@ -45,7 +45,7 @@ impl<'a, K: Eq + Hash, V, S: BuildHasher> IterMut<'a, K, V, S> {
     ghost use Rattle.hashlink_map.specs.WritingWalk.{walk_rest, after_front, after_back, last_place};
     ghost use Rattle.hashlink_map.specs.IterMutLends.{LendsFromWalk, LentFrom, TakesOff};
 
-    /// The pair of the node.
+    /// Returns the pair of the node.
     fn pair_at_node(&mut self, node: Node) -> (&K, &mut V)
         requires { Holds (walk_map self.old).now.nodes node }
         ensures* lends { sem 𝓛 (LendsAtWalkNode K.row V.row S.row S.Hasher.row self.entry node result.1) }
@@ -55,7 +55,7 @@ impl<'a, K: Eq + Hash, V, S: BuildHasher> IterMut<'a, K, V, S> {
         self.map.pair_at_mut(node)
     }
 
-    /// The pair of the place that was taken.
+    /// Returns the pair of the place that was taken.
     fn pair_at(&mut self, taken: Option<Node>) -> Option<(&K, &mut V)>
         requires { IsPlace (walk_map self.old).now.nodes taken }
         ensures* lends { sem 𝓛 (LendsPairThere K.row V.row S.row S.Hasher.row self.entry
@@ -68,7 +68,7 @@ impl<'a, K: Eq + Hash, V, S: BuildHasher> IterMut<'a, K, V, S> {
         }
     }
 
-    /// The walk with its first place taken off, and that place.
+    /// Takes the first place off, and returns the iterator and that place.
     fn step_first(&mut self) -> (&mut Self, Option<Node>)
         ensures { TakesOff walk_map walk_state self.entry (walk_state self.old).at
             (after_front (walk_state self.old)) result.0 result.1 }
@@ -77,7 +77,7 @@ impl<'a, K: Eq + Hash, V, S: BuildHasher> IterMut<'a, K, V, S> {
         (self, taken)
     }
 
-    /// The walk with its last place taken off, and that place.
+    /// Takes the last place off, and returns the iterator and that place.
     fn step_last(&mut self) -> (&mut Self, Option<Node>)
         ensures { TakesOff walk_map walk_state self.entry (last_place (walk_state self.old))
             (after_back (walk_state self.old)) result.0 result.1 }
@@ -86,7 +86,8 @@ impl<'a, K: Eq + Hash, V, S: BuildHasher> IterMut<'a, K, V, S> {
         (self, taken)
     }
 
-    /// The first entry left, its value for writing. It takes constant time.
+    /// Returns the next key from the front and a mutable reference to its value, or `None` if none is left.
+    /// It takes constant time.
     pub fn next(&mut self) -> Option<(&K, &mut V)>
         ensures* lends { sem 𝓛 (LendsPairFromWalk K.row V.row S.row S.Hasher.row self.entry
             (after_front (walk_state self.old)) (walk_state self.old).at result) }
@@ -96,7 +97,8 @@ impl<'a, K: Eq + Hash, V, S: BuildHasher> IterMut<'a, K, V, S> {
         walk.pair_at(taken)
     }
 
-    /// The last entry left, its value for writing. It takes constant time.
+    /// Returns the next key from the back and a mutable reference to its value, or `None` if none is left. It
+    /// takes constant time.
     pub fn next_back(&mut self) -> Option<(&K, &mut V)>
         ensures* lends { sem 𝓛 (LendsPairFromWalk K.row V.row S.row S.Hasher.row self.entry
             (after_back (walk_state self.old)) (last_place (walk_state self.old)) result) }
@@ -106,8 +108,8 @@ impl<'a, K: Eq + Hash, V, S: BuildHasher> IterMut<'a, K, V, S> {
         walk.pair_at(taken)
     }
 
-    /// The value of the first entry left, for writing: `next` without the key, of which a caller knows in
-    /// full what the map is afterwards.
+    /// Returns a mutable reference to the next value from the front, or `None` if none is left. It is `next`
+    /// without the key: a caller can prove exactly what the map is afterwards.
     pub fn next_value(&mut self) -> Option<&mut V>
         ensures* lends { sem 𝓛 (LendsFromWalk K.row V.row S.row S.Hasher.row self.entry
             (after_front (walk_state self.old)) (walk_state self.old).at result) }
@@ -120,8 +122,8 @@ impl<'a, K: Eq + Hash, V, S: BuildHasher> IterMut<'a, K, V, S> {
         }
     }
 
-    /// The value of the last entry left, for writing: `next_back` without the key, of which a caller knows in
-    /// full what the map is afterwards.
+    /// Returns a mutable reference to the next value from the back, or `None` if none is left. It is
+    /// `next_back` without the key: a caller can prove exactly what the map is afterwards.
     pub fn next_value_back(&mut self) -> Option<&mut V>
         ensures* lends { sem 𝓛 (LendsFromWalk K.row V.row S.row S.Hasher.row self.entry
             (after_back (walk_state self.old)) (last_place (walk_state self.old)) result) }
@@ -134,7 +136,7 @@ impl<'a, K: Eq + Hash, V, S: BuildHasher> IterMut<'a, K, V, S> {
         }
     }
 
-    /// How many entries are left.
+    /// Returns the number of entries that are left.
     pub fn len(&self) -> usize
         ensures { result ≡ (walk_state self.now).left }
     {

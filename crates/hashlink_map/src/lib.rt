@@ -1,4 +1,4 @@
-//! `LinkedHashMap`: a hash map that keeps an order which its caller controls.
+//! `LinkedHashMap`: a hash map that keeps its entries in an order which the caller controls.
 #![tactic(auto)]
 
 mod as_node;

@@ -1,5 +1,5 @@
-//! The map. A clause sees it as its state: the entries, front first, and the numbers of spare nodes, of room
-//! and of stored links.
+//! The map. A clause sees it as its state: the entries from front to back, and the numbers of spare nodes, of
+//! room and of stored links.
 ghost use Rattle.std.specs.Prelude.{◌≡◌, ◌^◌, ◌<◌, ◌↔◌, length, IfOk, IsOk, IsTrue, Err};
 ghost use Rattle.hashlink_model.specs.Entries.{IsEntries};
 ghost use Rattle.hashlink_model.specs.MapState.{empty_map, HasRoom};
@@ -19,8 +19,8 @@ use std::alloc::Global;
 use std::hash::{BuildHasher, Hash};
 use std::marker::Model;
 
-/// A hash map whose entries stand in one order, front first. An insert puts its pair last, and moves a key
-/// that is there to the end.
+/// A hash map whose entries are in one order, from front to back. An insert puts its pair at the back. If the
+/// key is present, its entry moves to the back.
 #[derive(Drop)]
 pub struct LinkedHashMap<K: Eq + Hash, V, S: BuildHasher = DefaultHashBuilder> {
     pub(crate) list: KeyedList<K, V, S>,
@@ -37,18 +37,18 @@ impl<K: Eq + Hash, V, S: BuildHasher> Model for LinkedHashMap<K, V, S> {
 impl<K: Eq + Hash, V> LinkedHashMap<K, V, DefaultHashBuilder> {
     ghost use Rattle.hashlink_core.specs.Hashing.{default_builder};
 
-    /// An empty map, which hashes by `DefaultHasher`. It takes no memory.
+    /// Creates an empty map, which hashes with `DefaultHasher`. It does not allocate.
     pub fn new(alloc: Global) -> Self
         ensures { state_of result ≡ empty_map default_builder }
     {
         LinkedHashMap::with_hasher(alloc, DefaultHashBuilder)
     }
 
-    /// An empty map with room for so many entries, which hashes by `DefaultHasher`. For none it takes no
-    /// memory.
+    /// Creates an empty map with room for `capacity` entries, which hashes with `DefaultHasher`. It does not
+    /// allocate if `capacity` is 0.
     ///
-    /// It returns `CapacityOverflow` for more than 2 to the power of 62 entries, and `AllocError` where the
-    /// memory is refused.
+    /// It returns `CapacityOverflow` if `capacity` is above 2 to the power of 62, and `AllocError` if the
+    /// allocation fails.
     pub fn with_capacity(alloc: Global, capacity: usize) -> Result<Self, TryReserveError>
         ensures made { IfOk result (λ map. IsMadeWith capacity default_builder (state_of map)) }
         ensures none { capacity ≡ 0 → IsOk result }
@@ -59,7 +59,7 @@ impl<K: Eq + Hash, V> LinkedHashMap<K, V, DefaultHashBuilder> {
 }
 
 impl<K: Eq + Hash, V, S: BuildHasher> LinkedHashMap<K, V, S> {
-    /// An empty map that hashes by `hash_builder`. It takes no memory.
+    /// Creates an empty map that hashes with `hash_builder`. It does not allocate.
     pub fn with_hasher(alloc: Global, hash_builder: S) -> Self
         ensures { state_of result ≡ empty_map hash_builder }
     {
@@ -68,10 +68,11 @@ impl<K: Eq + Hash, V, S: BuildHasher> LinkedHashMap<K, V, S> {
         }
     }
 
-    /// An empty map with room for so many entries that hashes by `hash_builder`. For none it takes no memory.
+    /// Creates an empty map with room for `capacity` entries, which hashes with `hash_builder`. It does not
+    /// allocate if `capacity` is 0.
     ///
-    /// It returns `CapacityOverflow` for more than 2 to the power of 62 entries, and `AllocError` where the
-    /// memory is refused.
+    /// It returns `CapacityOverflow` if `capacity` is above 2 to the power of 62, and `AllocError` if the
+    /// allocation fails.
     pub fn with_capacity_and_hasher(
         alloc: Global,
         capacity: usize,
@@ -87,35 +88,36 @@ impl<K: Eq + Hash, V, S: BuildHasher> LinkedHashMap<K, V, S> {
         Ok(LinkedHashMap { list })
     }
 
-    /// How many entries there are. It takes constant time.
+    /// Returns the number of entries. It takes constant time.
     pub fn len(&self) -> usize
         ensures len { result ≡ length (entries_of self.now) }
         ensures small { result < 2 ^ 63 }
 
-        // No two keys are equal, of this map as of every map.
+        // No two keys are equal, in this map as in every map.
         ensures distinct { IsEntries K.eq (entries_of self.now) }
     {
         self.list.len()
     }
 
-    /// Whether there is no entry. It takes constant time.
+    /// Returns whether the map is empty. It takes constant time.
     pub fn is_empty(&self) -> bool
         ensures { IsTrue result ↔ (length (entries_of self.now) ≡ 0) }
     {
         self.list.len() == 0
     }
 
-    /// How many entries the map can have before its table has to grow. It takes constant time, and no memory.
+    /// Returns the number of entries that the map can hold before its table has to grow. It takes constant
+    /// time and does not allocate.
     pub fn capacity(&self) -> usize
         ensures capacity { result ≡ self.now.room }
 
-        // There is room for every node, in use and spare, of this map as of every map.
+        // There is room for every node, in use or spare, in this map as in every map.
         ensures enough { HasRoom (state_of self.now) }
     {
         self.list.capacity()
     }
 
-    /// What makes the map's hashers.
+    /// Returns a reference to the map's `BuildHasher`.
     pub fn hasher(&self) -> &S
         ensures { result.now ≡ self.now.hasher }
     {

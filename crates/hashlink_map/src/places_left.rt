@@ -1,4 +1,4 @@
-//! The places that a walk over a borrowed map has left. The walks that lend values take their steps here.
+//! The places that an iterator over a borrowed map has left. The lending iterators take their steps here.
 ghost use Rattle.std.specs.Prelude.{◌≡◌, length};
 ghost use Rattle.hashlink_core.specs.Keyed.{entries_of, state_of};
 ghost use Rattle.hashlink_map.specs.WritingWalk.{StandsIn, TakesPlace, walk_in, writing_walk};
@@ -9,7 +9,8 @@ use crate::map::LinkedHashMap;
 use hashlink_core::Node;
 use std::hash::{BuildHasher, Hash};
 
-/// The first and the last place left, and how many there are. Where none is left the two mean nothing.
+/// The first and the last place left, and the number of places left. If none is left, the two places mean
+/// nothing.
 #[derive(Clone, Copy)]
 pub(crate) struct PlacesLeft<N: AsNode = Node> {
     pub(crate) first: Option<N>,
@@ -18,7 +19,7 @@ pub(crate) struct PlacesLeft<N: AsNode = Node> {
 }
 
 impl PlacesLeft {
-    /// All places of the map.
+    /// Returns all places of the map.
     pub(crate) fn all<K: Eq + Hash, V, S: BuildHasher>(map: &LinkedHashMap<K, V, S>) -> Self
         ensures stands { StandsIn (λ n. n) map.now.nodes result }
         ensures rest { walk_in (λ n. n) map.now result
@@ -31,7 +32,7 @@ impl PlacesLeft {
         }
     }
 
-    /// Takes the first place off.
+    /// Takes the first place off and returns it, or returns `None` if none is left.
     pub(crate) fn take_first<K: Eq + Hash, V, S: BuildHasher>(
         &mut self,
         map: &LinkedHashMap<K, V, S>,
@@ -51,7 +52,7 @@ impl PlacesLeft {
         Some(node)
     }
 
-    /// Takes the last place off.
+    /// Takes the last place off and returns it, or returns `None` if none is left.
     pub(crate) fn take_last<K: Eq + Hash, V, S: BuildHasher>(
         &mut self,
         map: &LinkedHashMap<K, V, S>,

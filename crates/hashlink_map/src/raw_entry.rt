@@ -1,6 +1,6 @@
-//! Raw entries: a place in a map without a key in hand. Where a call has a condition, the caller keeps it,
-//! and the call does not test it again.
-//! A clause sees a raw entry as the map's state and the place of its node, or none.
+//! Raw entries: a place in a map, without a key of the caller's. If a method has a condition, the caller has
+//! to meet it, and the method does not test it again. A clause sees a raw entry as the map's state and the
+//! place of its node, if it has one.
 ghost use Rattle.hashlink_core.specs.Places.{Holds};
 
 use crate::as_node::AsNode;
@@ -13,13 +13,13 @@ mod methods;
 mod occupied;
 mod vacant;
 
-/// What finds entries to read.
+/// A builder that finds entries to read.
 #[derive(Clone, Copy)]
 pub struct RawEntryBuilder<'a, K: Eq + Hash, V, S: BuildHasher = DefaultHashBuilder> {
     pub(crate) map: &'a LinkedHashMap<K, V, S>,
 }
 
-/// What finds entries to change.
+/// A builder that finds entries to change.
 #[derive(Drop)]
 pub struct RawEntryBuilderMut<'a, K: Eq + Hash, V, S: BuildHasher = DefaultHashBuilder> {
     pub(crate) map: &'a mut LinkedHashMap<K, V, S>,
@@ -28,13 +28,13 @@ pub struct RawEntryBuilderMut<'a, K: Eq + Hash, V, S: BuildHasher = DefaultHashB
 /// A place in a map that was looked up.
 #[derive(Drop)]
 pub enum RawEntryMut<'a, K: Eq + Hash, V, S: BuildHasher = DefaultHashBuilder> {
-    /// An entry is there.
+    /// The key is present.
     Occupied(RawOccupiedEntryMut<'a, K, V, S>),
-    /// None is there.
+    /// The key is absent.
     Vacant(RawVacantEntryMut<'a, K, V, S>),
 }
 
-/// An entry that is there.
+/// An occupied raw entry.
 #[derive(Drop)]
 pub struct RawOccupiedEntryMut<
     'a,
@@ -48,7 +48,7 @@ pub struct RawOccupiedEntryMut<
     ghost stands: { Holds map.now.nodes (N.node node) },
 }
 
-/// Room for a pair whose key is absent.
+/// A vacant raw entry: a pair whose key is absent can be inserted here.
 #[derive(Drop)]
 pub struct RawVacantEntryMut<'a, K: Eq + Hash, V, S: BuildHasher = DefaultHashBuilder> {
     pub(crate) map: &'a mut LinkedHashMap<K, V, S>,

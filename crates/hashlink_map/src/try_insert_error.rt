@@ -1,14 +1,14 @@
-//! Why a value that had to be made did not go in.
+//! Why the value of an absent key was not inserted.
 use std::error::Error;
 use std::fmt;
 
-/// Why a call that makes the value of an absent key put none in. No entry has changed, and nothing is lost:
-/// what was given and what was made is in the error.
+/// Why a call that makes the value of an absent key did not insert it. No entry has changed, and nothing is
+/// lost: the error contains what was given and what was made.
 #[derive(Clone, Copy, Debug, PartialEq, Eq, Hash, Drop)]
 pub enum TryInsertError<K, V, E> {
-    /// What makes the value failed, with this error. The key is handed back.
+    /// The closure that makes the value failed. Contains the given key and the closure's error.
     Make(K, E),
-    /// Memory for a new node was refused. The key and the value that was made are handed back.
+    /// The allocation of a node failed. Contains the given key and the value that was made.
     Memory((K, V)),
 }
 

@@ -1,5 +1,4 @@
-//! A walk over the values alone that lends them for writing, one at a time, from both ends. A clause sees it
-//! as it sees `IterMut`.
+//! The lending iterator over the values alone, from both ends. A clause sees it as it sees `IterMut`.
 ghost use Rattle.std.specs.Prelude.{◌≡◌, length};
 ghost use Rattle.std.specs.Borrow.{sem};
 ghost use Rattle.std.specs.Option.{option_map, option_copied_mut};
@@ -13,7 +12,7 @@ use crate::places_left::PlacesLeft;
 use hashlink_core::{DefaultHashBuilder, Node};
 use std::hash::{BuildHasher, Hash};
 
-/// A walk over the values of a map, front first, that lends each for writing.
+/// A lending iterator over the values of a map, from front to back, with mutable references to them.
 #[derive(Drop)]
 pub struct ValuesMut<'a, K: Eq + Hash, V, S: BuildHasher = DefaultHashBuilder, N: AsNode = Node> {
     pub(crate) map: &'a mut LinkedHashMap<K, V, S>,
@@ -25,8 +24,8 @@ impl<K: Eq + Hash, V, S: BuildHasher> LinkedHashMap<K, V, S> {
     ghost use Rattle.hashlink_map.specs.IterMut.{values_map, values_state};
     ghost use Rattle.hashlink_map.specs.WritingWalk.{writing_walk};
 
-    /// A walk over the values, front first, that lends each for writing. It takes constant time and no
-    /// memory.
+    /// Returns a lending iterator over the values, from front to back, with mutable references to them. It
+    /// takes constant time and does not allocate.
     pub fn values_mut(&mut self) -> ValuesMut<'_, K, V, S>
         ensures same_map { (values_map result).ghost_name ≡ self.entry.ghost_name }
         ensures unchanged { (values_map result).now ≡ self.old }
@@ -43,7 +42,8 @@ impl<'a, K: Eq + Hash, V, S: BuildHasher> ValuesMut<'a, K, V, S> {
     ghost use Rattle.hashlink_map.specs.WritingWalk.{walk_rest, after_front, after_back, last_place};
     ghost use Rattle.hashlink_map.specs.IterMutLends.{LendsFromValues};
 
-    /// The first value left, for writing. It takes constant time.
+    /// Returns a mutable reference to the next value from the front, or `None` if none is left. It takes
+    /// constant time.
     pub fn next(&mut self) -> Option<&mut V>
         ensures* lends { sem 𝓛 (LendsFromValues K.row V.row S.row S.Hasher.row self.entry
             (after_front (values_state self.old)) (values_state self.old).at result) }
@@ -56,7 +56,8 @@ impl<'a, K: Eq + Hash, V, S: BuildHasher> ValuesMut<'a, K, V, S> {
         }
     }
 
-    /// The last value left, for writing. It takes constant time.
+    /// Returns a mutable reference to the next value from the back, or `None` if none is left. It takes
+    /// constant time.
     pub fn next_back(&mut self) -> Option<&mut V>
         ensures* lends { sem 𝓛 (LendsFromValues K.row V.row S.row S.Hasher.row self.entry
             (after_back (values_state self.old)) (last_place (values_state self.old)) result) }
@@ -69,7 +70,7 @@ impl<'a, K: Eq + Hash, V, S: BuildHasher> ValuesMut<'a, K, V, S> {
         }
     }
 
-    /// How many values are left.
+    /// Returns the number of values that are left.
     pub fn len(&self) -> usize
         ensures { result ≡ (values_state self.now).left }
     {

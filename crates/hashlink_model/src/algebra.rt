@@ -23,14 +23,14 @@ pub fn sets_together()
     ensures difference { numbers.difference (1 ∷ 2 ∷ []) (3 ∷ 1 ∷ []) ≡ 2 ∷ [] }
 {}
 
-/// What a walk over one side has left may all be passed over, or may all be given.
+/// What an iterator over one side has left may all be passed over, or may all be returned.
 pub fn hints_along_one_side()
     ensures two { part_hint {T = ℕ} (1 ∷ 2 ∷ []) ≡ (0, Some 2) }
     ensures none { part_hint {T = ℕ} [] ≡ (0, Some 0) }
 {}
 
-/// The size hints along the union of `1 2` and `3 1`: at the start, after one step, and at its end before and
-/// after the step that gives None.
+/// The size hints along the union of `1 2` and `3 1`: at the start, after one step, and at its end, before
+/// and after the step that returns `None`.
 pub fn hints_along_a_union()
     ensures start { union_hint {T = ℕ} (record { left = 1 ∷ 2 ∷ []; right = 3 ∷ 1 ∷ [] }) ≡ (2, Some 4) }
     ensures step { numbers.union_step (1 ∷ 2 ∷ []) (record { left = 1 ∷ 2 ∷ []; right = 3 ∷ 1 ∷ [] })
@@ -60,7 +60,7 @@ pub fn members_of_set_algebra<T>()
         → IsSymmetricDifference eq xs ys (symmetric_difference_of eq xs ys) }
 {}
 
-/// No two elements of what two sets give together are equal.
+/// No two elements of what two sets yield together are equal.
 pub fn set_algebra_keeps_elements_unequal<T>()
     ensures union { (eq : T → T → Bool) → IsEquivalence eq → (xs ys : List T) → IsDistinct eq xs
         → IsDistinct eq ys
@@ -92,7 +92,7 @@ pub fn subset_and_disjoint_by_membership<T>()
         → is_disjoint eq xs ys ≡ true }
 {}
 
-/// A lazy walk begins with all that the two sets give together, and each step takes the first of what is
+/// A lazy iterator begins with all that the two sets yield together, and each step takes the first of what is
 /// left.
 pub fn lazy_walks_give_set_algebra<T>()
     ensures union { (eq : T → T → Bool) (xs ys : List T)
@@ -115,8 +115,8 @@ pub fn hints_are_bounds<T>()
         (left_to_give (λ _. true) q w) }
 {}
 
-/// A walk over one side gives, step by step, the first of what passes, and what it has left to give is within
-/// its size hint.
+/// An iterator over one side returns, step by step, the first of what passes, and what it has left to return
+/// is within its size hint.
 pub fn a_walk_over_one_side<T>()
     ensures step { (p : T → Bool) (xs : List T)
         → TakesFirst (λ y. y) (filter p xs) (first_passing p xs).0 (filter p (first_passing p xs).1) }

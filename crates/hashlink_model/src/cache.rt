@@ -20,7 +20,7 @@ ghost use Rattle.hashlink_model.specs.Peak.{PassesInTurn};
 ghost use Rattle.hashlink_model.specs.Labels as labels;
 ghost use Rattle.hashlink_model.specs.Numbers as numbers;
 
-/// A cache of capacity 0 is empty after its insert, and an entry holds one pair in it.
+/// A cache of capacity 0 is empty after its insert, and an entry keeps one pair in it.
 pub fn a_cache_without_places()
     ensures or_insert { numbers.cache_or_insert [] 0 1 10 ≡ (1, 10) ∷ [] }
     ensures insert { numbers.cache_insert ((1, 10) ∷ []) 0 1 11 ≡ [] }
@@ -29,7 +29,7 @@ pub fn a_cache_without_places()
     ensures entry { front_evicted {K = ℕ} {V = ℕ} ((1, 12) ∷ []) 0 ≡ [] }
 {}
 
-/// An entry can pass the capacity by one, and the next entry then drops one pair at the front.
+/// An entry can exceed the capacity by one, and the next entry then evicts one pair at the front.
 pub fn an_entry_passes_the_capacity_by_one()
     ensures insert { numbers.cache_insert [] 1 1 10 ≡ (1, 10) ∷ [] }
     ensures or_insert { numbers.cache_or_insert ((1, 10) ∷ []) 1 2 20 ≡ (1, 10) ∷ (2, 20) ∷ [] }
@@ -38,8 +38,8 @@ pub fn an_entry_passes_the_capacity_by_one()
         ≡ (3, 30) ∷ (2, 20) ∷ [] }
 {}
 
-/// Of a cache that passes its capacity, by one or by more, an insert leaves the last pairs: all that are too
-/// many are dropped, even where the key was there.
+/// If a cache exceeds its capacity, by one or by more, an insert leaves the last pairs: all that exceed the
+/// capacity are evicted, even if the key is present.
 pub fn an_insert_drops_all_that_are_too_many()
     ensures one { numbers.cache_insert ((1, 10) ∷ (2, 20) ∷ []) 1 3 30 ≡ (3, 30) ∷ [] }
     ensures two { numbers.cache_insert ((1, 10) ∷ (3, 30) ∷ (2, 20) ∷ []) 1 4 40 ≡ (4, 40) ∷ [] }
@@ -51,7 +51,8 @@ pub fn an_insert_drops_all_that_are_too_many()
         ≡ (4, 40) ∷ [] }
 {}
 
-/// A hit moves its entry last, and the oldest is dropped; a smaller capacity keeps the last pairs.
+/// A hit moves its entry to the back, and the least recently used one is evicted. A smaller capacity keeps
+/// the last pairs.
 pub fn a_hit_is_kept()
     ensures hit { numbers.cache_get ((1, 10) ∷ (2, 20) ∷ []) 1 ≡ (2, 20) ∷ (1, 10) ∷ [] }
     ensures insert { numbers.cache_insert ((2, 20) ∷ (1, 10) ∷ []) 2 3 30 ≡ (1, 10) ∷ (3, 30) ∷ [] }
@@ -82,8 +83,8 @@ pub fn entries_leave_one_more_than_the_capacity()
         ≡ (8, 80) ∷ (9, 90) ∷ (10, 100) ∷ (11, 110) ∷ (12, 120) ∷ [] }
 {}
 
-/// Four pairs extend a cache of two: each is inserted in turn, so one that is there moves last and the oldest
-/// are dropped.
+/// Four pairs extend a cache of two: each is inserted in turn, so a present one moves to the back and the
+/// least recently used ones are evicted.
 pub fn an_extend_inserts_in_turn()
     ensures two { cache_extended {V = ℕ} nat_eq ((1, 10) ∷ (2, 20) ∷ []) 2
         ((3, 30) ∷ (2, 21) ∷ (4, 40) ∷ (2, 22) ∷ [])
@@ -91,8 +92,8 @@ pub fn an_extend_inserts_in_turn()
     ensures none { cache_extended {V = ℕ} nat_eq ((1, 10) ∷ []) 0 ((1, 11) ∷ []) ≡ [] }
 {}
 
-/// A hit of `get` returns the value and moves its entry last, a miss changes no entry; a capacity that is set
-/// keeps the last entries and drops the others.
+/// A hit of `get` returns the value and moves its entry to the back, a miss changes no entry. A capacity that
+/// is set keeps the last entries and evicts the others.
 pub fn what_a_get_and_a_capacity_leave<S>()
     ensures hit { (old new : CacheState ℕ ℕ S) (r : Option ℕ) → old.map.entries ≡ (1, 10) ∷ (2, 20) ∷ []
         → CacheGets nat_eq old new 1 r
@@ -111,7 +112,8 @@ pub fn what_a_get_and_a_capacity_leave<S>()
         → new.map.spare ≡ old.map.spare + 2 }
 {}
 
-/// The least recently used pair is the first one: reads that move nothing leave it, a hit of `get` does not.
+/// The least recently used pair is the first one: reads that move nothing do not change it, a hit of `get`
+/// does.
 pub fn the_first_is_the_least_recently_used()
     ensures peeked { numbers.lookup ((2, 20) ∷ (3, 30) ∷ (4, 40) ∷ (5, 50) ∷ (6, 60) ∷ []) 2 ≡ Some 20 }
     ensures hit { numbers.cache_get ((4, 40) ∷ (5, 50) ∷ (6, 60) ∷ []) 4 ≡ (5, 50) ∷ (6, 60) ∷ (4, 40) ∷ [] }
@@ -146,7 +148,7 @@ pub fn a_removal_from_both_caches()
     ensures large_again { numbers.cache_insert ((1, 10) ∷ []) 2 1 11 ≡ (1, 11) ∷ [] }
 {}
 
-/// An eviction drops at most one entry, at the front, and only where there are more than the capacity.
+/// An eviction removes at most one entry, at the front, and only if there are more than the capacity.
 pub fn an_eviction_drops_at_most_one<K, V>()
     ensures within { (es : List (K × V)) (cap : ℕ) → length es ≤ cap → front_evicted es cap ≡ es }
     ensures above { (es : List (K × V)) (cap : ℕ) → cap < length es → front_evicted es cap ≡ drop 1 es }
@@ -163,7 +165,7 @@ pub fn the_last_entries<K, V>()
 {}
 
 /// A cache has at most its capacity of entries after its insert, however many it had before, and all of them
-/// where there is a place; its keys are pairwise unequal.
+/// if there is a place. Its keys are pairwise unequal.
 pub fn an_insert_comes_within_the_capacity<K, V>()
     ensures at_most { (eq : K → K → Bool) (es : List (K × V)) (cap : ℕ) (k : K) (v : V)
         → length (cache_put eq es cap k v) ≤ cap }
@@ -178,8 +180,8 @@ pub fn an_insert_comes_within_the_capacity<K, V>()
         → IsEntries eq (drop n es) }
 {}
 
-/// A cache's insert returns the old value and leaves the last entries of the map's insert; a refused one
-/// names an absent key without a spare node and drops nothing.
+/// A cache's insert returns the old value and leaves the last entries of the map's insert. One that fails has
+/// an absent key and no spare node, and evicts nothing.
 pub fn what_a_cache_insert_leaves<K, V, S>()
     ensures answer { (eq : K → K → Bool) (old new : CacheState K V S) (k : K) (v : V) (w : Option V)
         → CacheInserts eq old new k v (Ok w)
@@ -197,8 +199,8 @@ pub fn what_a_cache_insert_leaves<K, V, S>()
         ≡ max (node_count old.map) (length (put eq old.map.entries k v (length old.map.entries))) }
 {}
 
-/// A hit of `get` leaves its entry last with the stored key and the value that stands, a miss leaves every
-/// entry; neither makes a node or sets the capacity.
+/// A hit of `get` leaves its entry last with the stored key and its value, a miss leaves every entry. Neither
+/// makes a node or sets the capacity.
 pub fn what_a_hit_and_a_miss_leave<K, V, S>()
     ensures hit { (eq : K → K → Bool) (old new : CacheState K V S) (k : K) (w : V)
         → CacheGets eq old new k (Some w)
@@ -213,7 +215,7 @@ pub fn what_a_hit_and_a_miss_leave<K, V, S>()
         → new.cap ≡ old.cap }
 {}
 
-/// A capacity n that is set leaves the last n entries, or all where there are no more, and every node.
+/// A capacity n that is set leaves the last n entries, or all if there are no more, and every node.
 pub fn what_a_capacity_leaves<K, V, S>()
     ensures length { (old new : CacheState K V S) (n : ℕ) → SetsCapacity old new n
         → length new.map.entries ≡ min n (length old.map.entries) }
@@ -243,8 +245,8 @@ pub fn a_cache_keeps_keys_unequal<K, V>()
         → IsEntries eq (last_entries es n) }
 {}
 
-/// After the insert into a cache with a place the key has the new value, and what is still there of the
-/// others is what was there.
+/// After the insert into a cache with a place the key has the new value, and every other key that is still
+/// present has its old one.
 pub fn lookup_after_a_cache_insert<K, V>()
     ensures at_key { (eq : K → K → Bool) → IsEquivalence eq → (q : K) (es : List (K × V))
         (cap : ℕ) (k : K) (v : V)
@@ -256,8 +258,8 @@ pub fn lookup_after_a_cache_insert<K, V>()
         → lookup_entry (eq q) es ≡ Some e }
 {}
 
-/// After a use in a cache with a place the key has the value that it had, or the one given where it was
-/// absent, and what is still there of the others is what was there.
+/// After a use in a cache with a place the key has its old value, or the given one if it was absent, and
+/// every other key that is still present has its old one.
 pub fn lookup_after_a_use<K, V>()
     ensures at_key { (eq : K → K → Bool) → IsEquivalence eq → (q : K) (es : List (K × V))
         (cap : ℕ) (k : K) (v : V)
@@ -269,8 +271,8 @@ pub fn lookup_after_a_use<K, V>()
         → lookup_entry (eq q) es ≡ Some e }
 {}
 
-/// Pairs that extend a cache may come in two parts, and a cache of at most n entries, where n is no less than
-/// its capacity, has at most n after them.
+/// Pairs that extend a cache may come in two parts. A cache of at most n entries, where n is no less than its
+/// capacity, has at most n after them.
 pub fn a_cache_extended_in_two_parts<K, V>()
     ensures parts { (eq : K → K → Bool) (es : List (K × V)) (cap : ℕ) (xs ys : List (K × V))
         → cache_extended eq es cap (xs ++ ys) ≡ cache_extended eq (cache_extended eq es cap xs) cap ys }
@@ -280,7 +282,7 @@ pub fn a_cache_extended_in_two_parts<K, V>()
 {}
 
 /// A cache of at most n entries beyond its capacity stays so under each of its calls that is made of these
-/// steps; after a capacity that is set, and after an insert that is not refused, there is none beyond it.
+/// steps. After a capacity that is set, and after an insert that succeeds, there is none beyond it.
 pub fn a_bound_beyond_the_capacity_is_kept<K, V, S>()
     ensures insert { (old new : CacheState K V S) (n : ℕ) (eq : K → K → Bool) (k : K) (v : V)
         (r : Result (Option V) (K × V))
@@ -319,8 +321,9 @@ pub fn a_bound_beyond_the_capacity_is_kept<K, V, S>()
         → length (cache_use eq es cap k v) ≤ n }
 {}
 
-/// An entry of a cache first drops what is one too many, so one insert through it stays within a bound above
-/// the capacity; and where something was dropped, its node is spare, and that insert is not refused.
+/// An entry of a cache first evicts the front if there are more entries than the capacity, so one insert
+/// through it stays within a bound above the capacity. If an entry was evicted, its node is spare, and that
+/// insert cannot fail.
 pub fn what_an_entry_of_a_cache_lets_in<K, V, S, A>()
     ensures entered { (eq : K → K → Bool) (old : CacheState K V S) (k : K) (e : EntryState K V S)
         → EntersCache eq old k e → (n : ℕ) → IsWithin old n
@@ -339,8 +342,8 @@ pub fn what_an_entry_of_a_cache_lets_in<K, V, S, A>()
         → (e.map.entries ≡ (2, 20) ∷ []) × (e.place ≡ None) × (e.key ≡ 1) }
 {}
 
-/// How many links an insert stores at most: four for a new key, six for one that was there, and three for
-/// each entry that it drops. So they are seven and nine where it drops one, and four for a new key where
+/// How many links an insert stores at most: four if the key is absent, six if it is present, and three for
+/// each entry that it evicts. So these are seven and nine if it evicts one, and four for an absent key if
 /// there is a place.
 pub fn links_of_a_cache_insert<K, V, S>()
     ensures new_key { (eq : K → K → Bool) (old new : CacheState K V S) (k : K) (v : V)
@@ -370,8 +373,8 @@ pub fn links_of_a_cache_insert<K, V, S>()
         → StoresAtMost (3 * (length old.map.entries - n)) old.map.link_writes new.map.link_writes }
 {}
 
-/// An insert that is not refused passes two lengths: that of the map's insert, and that after all that were
-/// too many were dropped.
+/// An insert that succeeds passes two lengths: that of the map's insert, and that after all entries above the
+/// capacity were evicted.
 pub fn lengths_that_a_cache_insert_passes<K, V, S>()
     ensures { (eq : K → K → Bool) (old new : CacheState K V S) (k : K) (v : V) (w : Option V)
         → CacheInserts eq old new k v (Ok w)
@@ -381,8 +384,8 @@ pub fn lengths_that_a_cache_insert_passes<K, V, S>()
         new.map }
 {}
 
-/// An insert that drops an entry leaves more nodes than the capacity and a spare one among them; while
-/// nothing but an entry lengthens the cache and no node is given back it stays so, and no insert is refused.
+/// An insert that evicts an entry leaves more nodes than the capacity and a spare one among them. This stays
+/// so, and no insert fails, while only inserts lengthen the cache and no node is freed.
 pub fn no_refusal_once_an_entry_was_dropped<K, V, S>()
     ensures dropped { (old new : CacheState K V S) (eq : K → K → Bool) (k : K) (v : V) (w : Option V)
         → CacheInserts eq old new k v (Ok w) → old.cap

@@ -67,14 +67,14 @@ pub fn equal_entries_are_hashed_alike<K, V, W>()
         → entries_hash_input hashk hashv xs ≡ entries_hash_input hashk hashv ys }
 {}
 
-/// Clones that are equal to their sources, inserted in turn into an empty list, give an equal list.
+/// Clones that are equal to their sources, inserted in turn into an empty list, yield an equal list.
 pub fn a_clone_is_equal<K, V>()
     ensures { (eqk : K → K → Bool) → IsEquivalence eqk → (eqv : V → V → Bool) (es clones : List (K × V))
         → IsEntries eqk es → AllZip (λ p q. (eqk p.0 q.0 ≡ true) × (eqv p.1 q.1 ≡ true)) es clones
         → entries_eq eqk eqv es (extended eqk [] clones) ≡ true }
 {}
 
-/// Where comparisons of keys and values always have an answer, that of maps is the total one's.
+/// If comparisons of keys and values always have a result, that of maps is the total one's.
 pub fn partial_order_of_entries<K, V>()
     ensures { (partk : K → K → Option Ordering) (partv : V → V → Option Ordering) (cmpk : K → K → Ordering)
         (cmpv : V → V → Ordering)

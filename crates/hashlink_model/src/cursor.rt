@@ -18,8 +18,8 @@ pub fn an_empty_map_has_the_guard_alone()
     ensures on_guard { numbers.place_kept [] [] 0 ≡ 0 }
 {}
 
-/// At 4 in `3 4` goes 5 before it; at 3 a step back leads to the guard, before which 6 goes last; at 5 the
-/// key 4, which stands behind it, moves before it.
+/// At 4 in `3 4`, an insert of 5 goes before it. At 3 a step back leads to the guard, before which 6 goes
+/// last. At 5 the key 4, which is after it, moves before it.
 pub fn cursor_inserts_before()
     ensures five { numbers.insert_before ((3, 3) ∷ (4, 4) ∷ []) 5 5 1 ≡ (3, 3) ∷ (5, 5) ∷ (4, 4) ∷ [] }
     ensures to_guard { preceding_place 3 0 ≡ 3 }
@@ -33,7 +33,7 @@ pub fn cursor_inserts_before()
         ≡ 2 }
 {}
 
-/// A key that is put before itself stays and takes the value.
+/// A key that is inserted before itself stays and takes the value.
 pub fn cursor_inserts_before_itself()
     ensures { numbers.insert_before ((2, 2) ∷ (3, 3) ∷ (4, 4) ∷ []) 3 5 1 ≡ (2, 2) ∷ (3, 5) ∷ (4, 4) ∷ [] }
 {}
@@ -47,7 +47,7 @@ pub fn cursor_inserts_after()
     ensures at_guard { numbers.insert_after ((1, 10) ∷ []) 2 20 1 ≡ (2, 20) ∷ (1, 10) ∷ [] }
 {}
 
-/// A key from before the cursor that is put after it: every place between moves up, and the cursor's with it.
+/// A key from before the cursor is inserted after it: every place between moves up, and the cursor's with it.
 pub fn cursor_follows_its_entry()
     ensures moved { numbers.insert_after ((1, 1) ∷ (2, 2) ∷ (3, 3) ∷ []) 1 11 1 ≡ (2, 2) ∷
         (1, 11) ∷ (3, 3) ∷ [] }
@@ -114,7 +114,7 @@ pub fn cursor_inserts_an_absent_key<K, V>()
         ≡ (stored_key eq es k, v) ∷ without eq es k }
 {}
 
-/// A refused insert leaves the entries and the cursor.
+/// An insert that fails leaves the entries and the cursor.
 pub fn a_refused_insert_leaves_the_cursor<K, V, S>()
     ensures before { (eq : K → K → Bool) → IsEquivalence eq
         → (old new : CursorState K V S) (k : K) (v : V) (pair : K × V) → IsEntries eq old.map.entries

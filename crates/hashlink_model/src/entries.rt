@@ -8,7 +8,7 @@ ghost use Rattle.hashlink_model.specs.Entries.{extended};
 ghost use Rattle.hashlink_model.specs.Labels as labels;
 ghost use Rattle.hashlink_model.specs.Numbers as numbers;
 
-/// A key that is there moves to either end, with the value that stands.
+/// A present key moves to either end, with its value.
 pub fn moves_to_either_end()
     ensures back { numbers.put ((1, 10) ∷ (2, 20) ∷ (3, 30) ∷ (4, 40) ∷ (5, 50) ∷ []) 1 10 5
         ≡ (2, 20) ∷ (3, 30) ∷ (4, 40) ∷ (5, 50) ∷ (1, 10) ∷ [] }
@@ -16,7 +16,7 @@ pub fn moves_to_either_end()
         ≡ (4, 40) ∷ (2, 20) ∷ (3, 30) ∷ (5, 50) ∷ (1, 10) ∷ [] }
 {}
 
-/// An insert moves a key that is there to the back, a replace leaves it where it is.
+/// An insert moves a present key to the back, a replace leaves it at its place.
 pub fn insert_moves_and_replace_stays()
     ensures insert { numbers.insert ((1, 1) ∷ (2, 2) ∷ (3, 3) ∷ (4, 4) ∷ []) 3 5
         ≡ (1, 1) ∷ (2, 2) ∷ (4, 4) ∷ (3, 5) ∷ [] }
@@ -25,7 +25,7 @@ pub fn insert_moves_and_replace_stays()
     ensures replace_absent { numbers.replace ((1, 10) ∷ []) 2 20 ≡ (1, 10) ∷ (2, 20) ∷ [] }
 {}
 
-/// Inserts at both ends in turn, and one at the front of a key that is there.
+/// Inserts at both ends in turn, and one at the front of a present key.
 pub fn inserts_at_both_ends()
     ensures three { numbers.insert_front (numbers.insert (numbers.insert_front [] 1 1) 2 2) 3 3
         ≡ (3, 3) ∷ (1, 1) ∷ (2, 2) ∷ [] }
@@ -33,7 +33,7 @@ pub fn inserts_at_both_ends()
     ensures old_value { numbers.lookup ((3, 3) ∷ (1, 1) ∷ (2, 2) ∷ []) 2 ≡ Some 2 }
 {}
 
-/// A whole run: inserts at both ends, a replace, a move, and the first pair taken out.
+/// A whole run: inserts at both ends, a replace, a move, and a removal of the first pair.
 pub fn a_run_of_steps()
     ensures { numbers.remove
         (numbers.to_back
@@ -57,7 +57,7 @@ pub fn places_close_up()
         ≡ (5, 50) ∷ (1, 10) ∷ (2, 20) ∷ (4, 40) ∷ (6, 60) ∷ (7, 70) ∷ [] }
 {}
 
-/// An insert keeps the key object that is there and takes the value that is given.
+/// An insert keeps the stored key and takes the given value.
 pub fn insert_keeps_the_stored_key()
     ensures { labels.insert (((7, 1), 10) ∷ ((8, 1), 20) ∷ []) (7, 2) 11 ≡ ((8, 1), 20) ∷ ((7, 1), 11) ∷ [] }
 {}
@@ -67,7 +67,7 @@ pub fn extend_is_inserts_in_a_row()
     ensures { numbers.extend [] ((1, 10) ∷ (2, 20) ∷ (1, 11) ∷ []) ≡ (2, 20) ∷ (1, 11) ∷ [] }
 {}
 
-/// After a key is put anywhere, taken out or moved, no two keys are equal, as before.
+/// After a key is put anywhere, removed or moved, no two keys are equal, as before.
 pub fn steps_keep_keys_unequal<K, V>()
     ensures put { (eq : K → K → Bool) → IsEquivalence eq → (es : List (K × V)) (k : K) (v : V) (b : ℕ)
         → IsEntries eq es
@@ -97,8 +97,7 @@ pub fn lengths_after_steps<K, V>()
         (moved eq es k b) ≡ length es }
 {}
 
-/// After a put the key has the new value and the key object that was there, and every other key has what it
-/// had.
+/// After a put the key has the new value and the stored key, and every other key has its old pair.
 pub fn lookup_after_put<K, V>()
     ensures at_key { (eq : K → K → Bool) → IsEquivalence eq → (q : K) (es : List (K × V))
         (k : K) (v : V) (b : ℕ)
@@ -115,7 +114,7 @@ pub fn lookup_after_put<K, V>()
         → eq k (stored_key eq es k) ≡ true }
 {}
 
-/// After a removal the key is gone, and every other key has what it had.
+/// After a removal the key is absent, and every other key has its old pair.
 pub fn lookup_after_removal<K, V>()
     ensures at_key { (eq : K → K → Bool) → IsEquivalence eq → (q : K) (es : List (K × V))
         (k : K) → IsEntries eq es

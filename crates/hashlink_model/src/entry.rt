@@ -1,4 +1,4 @@
-//! Rows and laws of entries, with the key in hand and raw.
+//! Rows and laws of entries, with a given key and raw.
 ghost use Rattle.std.specs.Prelude.{◌≡◌, ◌+◌, ◌≤◌, ◌<◌, ℕ, Bool, true, List, [], ◌∷◌, ◌++◌, None, Some};
 ghost use Rattle.std.specs.Prelude.{length, cond, slice_get, remove, nat_eq};
 ghost use Rattle.std.specs.Cmp.{IsEquivalence};
@@ -14,8 +14,8 @@ ghost use Rattle.hashlink_model.specs.MapState.{MapState};
 ghost use Rattle.hashlink_model.specs.Labels as labels;
 ghost use Rattle.hashlink_model.specs.Numbers as numbers;
 
-/// `insert_entry` on an occupied entry puts the key in hand last, also where it is another object than the
-/// stored key.
+/// `insert_entry` on an occupied entry puts the given key at the back, also if it is a different object from
+/// the stored key.
 pub fn key_in_hand_goes_in()
     ensures vacant { numbers.place_of ((1, 1) ∷ (2, 2) ∷ (3, 3) ∷ []) 4 ≡ None }
     ensures last { labels.insert_entry (((7, 1), 10) ∷ ((8, 1), 20) ∷ []) 0 (7, 2) 11
@@ -25,8 +25,8 @@ pub fn key_in_hand_goes_in()
         ≡ ((7, 2), 10) ∷ ((8, 1), 20) ∷ [] }
 {}
 
-/// A raw entry's value is replaced where it stands; `or_insert` moves a key that is there and puts an absent
-/// one last.
+/// A raw entry's value is replaced at its place. `or_insert` moves a present key to the back and inserts an
+/// absent one there.
 pub fn raw_entries_write_and_move()
     ensures value { numbers.set_value_at ((1, 10) ∷ (2, 20) ∷ []) 1 21 ≡ (1, 10) ∷ (2, 21) ∷ [] }
     ensures absent { numbers.or_insert ((1, 10) ∷ (2, 21) ∷ []) 3 30 ≡ (1, 10) ∷ (2, 21) ∷ (3, 30) ∷ [] }
@@ -40,8 +40,8 @@ pub fn entry_steps_in_a_row()
     ensures insert { numbers.insert_value ((2, 22) ∷ (1, 11) ∷ []) 0 23 ≡ (1, 11) ∷ (2, 23) ∷ [] }
 {}
 
-/// `or_insert` moves a key that is there to the back with the value that stands, and puts an absent one there
-/// with the value given.
+/// `or_insert` moves a present key to the back with its value, and inserts an absent one there with the given
+/// value.
 pub fn or_insert_is_a_move_or_an_insert<K, V>()
     ensures there { (eq : K → K → Bool) (es : List (K × V)) (k : K) (v w : V) → lookup (eq k) es ≡ Some w
         → or_insert eq es k v ≡ moved eq es k (length es) }
@@ -49,7 +49,7 @@ pub fn or_insert_is_a_move_or_an_insert<K, V>()
         → or_insert eq es k v ≡ put eq es k v (length es) }
 {}
 
-/// A key that goes in for an equal one keeps the keys pairwise unequal, and so does every other step on an
+/// A key that replaces an equal one keeps the keys pairwise unequal, and so does every other step on an
 /// entry.
 pub fn entries_keep_keys_unequal<K, V>()
     ensures insert_entry { (eq : K → K → Bool) → IsEquivalence eq
@@ -77,8 +77,8 @@ pub fn entries_keep_keys_unequal<K, V>()
         → IsEntries eq (or_insert eq es k v) }
 {}
 
-/// After `insert_entry` and `replace_entry` the key has the key object in hand and the new value, and every
-/// other key has what it had.
+/// After `insert_entry` and `replace_entry` the key has the given key object and the new value, and every
+/// other key has its old pair.
 pub fn lookup_after_entry_steps<K, V>()
     ensures insert_entry { (eq : K → K → Bool) → IsEquivalence eq
         → (q : K) (es : List (K × V)) (j : ℕ) (e : K × V) (h : K) (v : V) → IsEntries eq es
@@ -93,8 +93,8 @@ pub fn lookup_after_entry_steps<K, V>()
         ≡ cond (eq h q) (Some (h, v)) (lookup_entry (eq q) es) }
 {}
 
-/// A step that lets in a key or a value alone keeps the other one of its entry, and every other key has what
-/// it had.
+/// A step that replaces a key or a value alone keeps the other one of its entry, and every other key has its
+/// old pair.
 pub fn lookup_after_a_key_or_a_value_alone<K, V>()
     ensures insert_value { (eq : K → K → Bool) → IsEquivalence eq
         → (q : K) (es : List (K × V)) (j : ℕ) (e : K × V) (v : V) → IsEntries eq es → slice_get es j ≡ Some e
@@ -118,7 +118,7 @@ pub fn replacing_leaves_every_place<K, V>()
         → place_of (eq q) (replace_entry es j h v) ≡ place_of (eq q) es }
 {}
 
-/// An entry is vacant exactly where a look-up finds nothing.
+/// An entry is vacant exactly if a lookup finds nothing.
 pub fn vacant_where_nothing_is_found<K, V>()
     ensures vacant { (eq : K → K → Bool) → IsEquivalence eq → (k : K) (es : List (K × V))
         → place_of (eq k) es ≡ None
@@ -146,8 +146,7 @@ pub fn at_a_place_is_at_its_key<K, V>()
         → insert_entry es j h v ≡ without eq es e.0 ++ (h, v) ∷ [] }
 {}
 
-/// A key or a value that is replaced leaves the other part of its entry as the list has it, and stores no
-/// link.
+/// A key or a value that is replaced leaves the other part of its entry as it was, and stores no link.
 pub fn what_is_replaced_alone<S>()
     ensures value { numbers.set_value_at ((1, 10) ∷ (2, 20) ∷ []) 1 21 ≡ (1, 10) ∷ (2, 21) ∷ [] }
     ensures past_the_end { numbers.set_value_at ((1, 10) ∷ (2, 20) ∷ []) 2 21 ≡ (1, 10) ∷ (2, 20) ∷ [] }

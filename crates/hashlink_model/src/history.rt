@@ -24,8 +24,8 @@ pub fn others_are_counted_once()
     ensures just_used { numbers.reuse_distance (1 ∷ 2 ∷ []) 2 ≡ 0 }
 {}
 
-/// A schedule of two places for the keys 1, 2, 3, 1, 2, 3 that misses four times; one that always drops the
-/// key used longest ago misses all six.
+/// A schedule of two places for the keys 1, 2, 3, 1, 2, 3 that misses four times; one that always evicts the
+/// least recently used key misses all six.
 pub fn a_schedule_that_misses_four_times()
     ensures schedule { Schedule nat_eq 2 (1 ∷ 2 ∷ 3 ∷ 1 ∷ 2 ∷ 3 ∷ [])
         ((1 ∷ []) ∷ (1 ∷ 2 ∷ []) ∷ (1 ∷ 3 ∷ []) ∷ (1 ∷ 3 ∷ []) ∷ (2 ∷ 3 ∷ []) ∷ (2 ∷ 3 ∷ []) ∷ []) }

@@ -6,8 +6,8 @@ ghost use Rattle.hashlink_model.specs.MapState.{MapState};
 ghost use Rattle.hashlink_model.specs.Steps.{Drains};
 ghost use Rattle.hashlink_model.specs.Many.{AcceptsAll, StopsAt, MadeFrom, InsertsPair};
 
-/// Three pairs, of which the last has the key of the first, make a map of two; of two pairs that extend it,
-/// the second was refused.
+/// Three pairs, of which the last has the key of the first, make a map of two. Of two pairs that extend it,
+/// the insert of the second fails.
 pub fn items_in_a_row<S>()
     ensures made { (s : S) (m : MapState ℕ ℕ S) → MadeFrom (InsertsPair nat_eq)
         ((1, 10) ∷ (2, 20) ∷ (1, 11) ∷ []) s m
@@ -18,7 +18,7 @@ pub fn items_in_a_row<S>()
         → (taken ≡ 1) × (back ≡ (3, 30)) × (new.entries ≡ (1, 11) ∷ (2, 21) ∷ []) }
 {}
 
-/// Accepted items are inserted at the end in turn, and may come in two parts.
+/// Items whose inserts succeed are inserted at the back in turn, and may come in two parts.
 pub fn accepted_items<K, V, S>()
     ensures entries { (eq : K → K → Bool) (old new : MapState K V S) (items : List (K × V))
         → AcceptsAll (InsertsPair eq) old items new
@@ -28,8 +28,8 @@ pub fn accepted_items<K, V, S>()
         → AcceptsAll (InsertsPair eq) a (xs ++ ys) c }
 {}
 
-/// Where one item is refused, those before it are in, it is handed back, and the spare nodes are used up: so
-/// as many items as a drain left spare nodes all go in.
+/// If the insert of one item fails, those before it stay inserted, it is returned, and the spare nodes are
+/// used up. So as many items as a drain left spare nodes are all inserted.
 pub fn a_refused_item<K, V, S>()
     ensures entries { (eq : K → K → Bool) (old new : MapState K V S) (items : List (K × V))
         (taken : ℕ) (back : K × V) (left : List (K × V))

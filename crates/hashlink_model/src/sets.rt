@@ -19,13 +19,13 @@ ghost use Rattle.hashlink_model.specs.Sets.{stored_element, SetInserts, GetsOrIn
 ghost use Rattle.hashlink_model.specs.Labels as labels;
 ghost use Rattle.hashlink_model.specs.Numbers as numbers;
 
-/// A replace lets the new object in, an insert keeps the old one and moves it.
+/// A replace stores the new object, an insert keeps the old one and moves it.
 pub fn which_object_a_set_keeps()
     ensures replace { labels.replaced ((7, 1) ∷ []) (7, 2) ≡ (7, 2) ∷ [] }
     ensures insert { labels.insert_element ((7, 1) ∷ (8, 1) ∷ []) (7, 2) ≡ (8, 1) ∷ (7, 1) ∷ [] }
 {}
 
-/// Inserts move elements that are there, replaces leave them, and what is drained comes from both ends.
+/// Inserts move elements that are present, replaces leave them, and a drain returns elements from both ends.
 pub fn a_set_in_order()
     ensures get_or_insert { numbers.insert_element (1 ∷ 2 ∷ 3 ∷ []) 1 ≡ 2 ∷ 3 ∷ 1 ∷ [] }
     ensures absent { numbers.insert_element (2 ∷ 3 ∷ 1 ∷ []) 4 ≡ 2 ∷ 3 ∷ 1 ∷ 4 ∷ [] }
@@ -34,8 +34,8 @@ pub fn a_set_in_order()
         ≡ 2 ∷ 1 ∷ [] }
 {}
 
-/// A set is the map with nothing as value: its elements and its entries say the same, and an element is put
-/// as a key is.
+/// A set is the map with values of type `()`: its elements and its entries say the same, and an element is
+/// put as a key is.
 pub fn a_set_is_a_map<T>()
     ensures entries { (es : List (T × Unit {0})) → pairs_of (keys_of es) ≡ es }
     ensures elements { (ts : List T) → keys_of (pairs_of ts) ≡ ts }
@@ -51,8 +51,8 @@ pub fn set_steps_keep_elements_unequal<T>()
         → IsDistinct eq (replaced eq ts t) }
 {}
 
-/// After an element is put or replaced the members are the ones that were there and the one given, and the
-/// set is longer by one exactly where it was new.
+/// After an element is put or replaced the members are the old ones and the given one, and the set is longer
+/// by one exactly if it was new.
 pub fn members_after_set_steps<T>()
     ensures put { (eq : T → T → Bool) → IsEquivalence eq → (ts : List T) (t : T) (b : ℕ) (q : T)
         → is_member eq (put_element eq ts t b) q ≡ (eq t q || is_member eq ts q) }
@@ -68,7 +68,7 @@ pub fn members_after_set_steps<T>()
         → length (replaced eq ts t) ≡ length ts }
 {}
 
-/// A replace lets the element given in at the place of the equal one, and an absent one last; every other
+/// A replace stores the given element at the place of the equal one, and an absent one last. Every other
 /// element stays at its place.
 pub fn replacing_leaves_every_element<T>()
     ensures there { (eq : T → T → Bool) → IsEquivalence eq → (ts : List T) (t x : T)
@@ -82,7 +82,7 @@ pub fn replacing_leaves_every_element<T>()
         → slice_get (replaced eq ts t) i ≡ Some x }
 {}
 
-/// The elements after the map's steps on a set, and what those answer.
+/// The elements after the map's steps on a set, and what those return.
 pub fn elements_after_steps<T, S>()
     ensures insert { (eq : T → T → Bool) (old new : SetState T S) (t : T) (b : ℕ) (w : Option (Unit {0}))
         → Inserts eq old new t tt b (Ok w)
@@ -107,8 +107,8 @@ pub fn elements_after_steps<T, S>()
         → elements_of old ≡ elements_of new ++ e.0 ∷ [] }
 {}
 
-/// What the set's own steps leave and answer: an insert says whether the element was new and keeps the object
-/// that is there, a replace hands that object out and lets the new one in at its place.
+/// What the set's own steps leave and return: an insert says whether the element was new and keeps the stored
+/// object. A replace returns that object and stores the new one at its place.
 pub fn what_set_steps_leave<T, S>()
     ensures insert { (eq : T → T → Bool) (old new : SetState T S) (t : T) (b : Bool)
         → SetInserts eq old new t (Ok b)

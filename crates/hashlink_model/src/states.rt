@@ -13,8 +13,8 @@ ghost use Rattle.hashlink_model.specs.Steps.{PopsFront, PopsBack, KeepsOnly, Wri
 ghost use Rattle.hashlink_model.specs.Steps.{MovesAndWrites, RemovesKey, Clears, Drains, Reserves, Shrinks};
 ghost use Rattle.hashlink_model.specs.Steps.{IsMadeWith};
 
-/// An insert is refused only for an absent key without a spare node; the pair is handed back, and no entry
-/// and no spare node changes.
+/// An insert fails only if its key is absent and no node is spare. The pair is returned, and no entry and no
+/// spare node changes.
 pub fn a_refused_insert_changes_nothing<K, V, S>()
     ensures absent { (eq : K → K → Bool) (old new : MapState K V S) (k : K) (v : V) (b : ℕ) (pair : K × V)
         → Inserts eq old new k v b (Err pair)
@@ -30,8 +30,8 @@ pub fn a_refused_insert_changes_nothing<K, V, S>()
         → new.entries ≡ old.entries }
 {}
 
-/// Two entries, one taken out: the node is spare and serves the next new key without refusal, and the one
-/// after that may be refused.
+/// Two entries, one removed: the node is spare and serves the next absent key, whose insert cannot fail. The
+/// one after that may fail.
 pub fn a_spare_node_serves_the_next_key<S>()
     ensures removed { (old new : MapState ℕ ℕ S) → old.spare ≡ 0
         → Removes old new (without nat_eq ((1, 10) ∷ (2, 20) ∷ (3, 30) ∷ []) 2)
@@ -43,8 +43,8 @@ pub fn a_spare_node_serves_the_next_key<S>()
         → new.spare ≡ 0 }
 {}
 
-/// A drain leaves nothing and a spare node for each entry, also where it ends early; a clear leaves the spare
-/// nodes as they were.
+/// A drain leaves no entry and a spare node for each, also if it ends early. A clear leaves the spare nodes
+/// as they were.
 pub fn what_a_drain_and_a_clear_leave<K, V, S>()
     ensures drained { (old new : MapState K V S) → Drains old new
         → (new.entries ≡ []) × (new.spare ≡ old.spare + length old.entries) }
@@ -70,8 +70,8 @@ pub fn what_a_write_and_a_move_leave<S>()
         → new.entries ≡ (2, 20) ∷ (1, 11) ∷ [] }
 {}
 
-/// A replace of a key that is there returns the old value, leaves the key at its place and stores no link;
-/// one of an absent key is an insert.
+/// A replace of a present key returns the old value, leaves the key at its place and stores no link. One of
+/// an absent key is an insert.
 pub fn what_a_replace_leaves<K, V, S>()
     ensures there { (old new : MapState ℕ ℕ S) (w : ℕ) → old.entries ≡ (1, 10) ∷ (2, 20) ∷ []
         → Replaces nat_eq old new 1 11 (Ok (Some w))
@@ -118,8 +118,8 @@ pub fn writes_and_moves_keep_the_keys<K, V, S>()
         → node_count new ≡ node_count old }
 {}
 
-/// A reserve for a hundred more entries on a map of two leaves the entries and makes room for 102; where the
-/// room is enough it is not refused, and where it is refused it changes nothing.
+/// A reserve for a hundred more entries on a map of two leaves the entries and makes room for 102. If there
+/// is enough room it cannot fail, and if it fails it changes nothing.
 pub fn what_a_reserve_leaves<K, V, S, E>()
     ensures enough { (old new : MapState ℕ ℕ S) → old.entries ≡ (1, 10) ∷ (2, 20) ∷ []
         → Reserves {E = E} old new 100 (Ok tt)
@@ -130,8 +130,8 @@ pub fn what_a_reserve_leaves<K, V, S, E>()
         → IsOk r × (new ≡ old) }
 {}
 
-/// A shrink leaves no spare node, refused or not, so that the next new key may be refused. A refused one
-/// keeps the room, none raises it, and a map without entries has no room afterwards.
+/// A shrink leaves no spare node, whether it fails or not, so that an insert of the next absent key may fail.
+/// A shrink that fails keeps the room, none raises it, and a map without entries has no room afterwards.
 pub fn what_a_shrink_leaves<K, V, S, E>()
     ensures empty { (old new : MapState K V S) (r : Result (Unit {0}) E) → old.entries
         ≡ [] → Shrinks old new r
@@ -146,7 +146,7 @@ pub fn what_a_shrink_leaves<K, V, S, E>()
         → new.room ≡ 1 }
 {}
 
-/// A removal by key hands the stored pair out, and one of an absent key changes nothing.
+/// A removal by key returns the stored pair, and one of an absent key changes nothing.
 pub fn what_a_removal_leaves<S>()
     ensures there { (old new : MapState ℕ ℕ S) (r : Option (ℕ × ℕ)) → old.entries ≡ (1, 10) ∷
         (2, 20) ∷ (3, 30) ∷ []
@@ -164,7 +164,7 @@ pub fn what_a_map_is_made_with<K, V, S>()
     ensures none { (s : S) (m : MapState K V S) → IsMadeWith 0 s m → m ≡ empty_map s }
 {}
 
-/// Steps that only take entries away: two in a row are one, and a removal is one. No step of the kind adds an
+/// Steps that only remove entries: two in a row are one, and a removal is one. No step of the kind adds an
 /// entry.
 pub fn steps_that_take_away<K, V, S>()
     ensures removal { (old new : MapState K V S) (es : List (K × V)) → Removes old new es
@@ -179,8 +179,8 @@ pub fn steps_that_take_away<K, V, S>()
         → ⊥ }
 {}
 
-/// A pop hands out the first or the last entry and takes it out, as a removal by its key does; of an empty
-/// map it changes nothing.
+/// A pop removes the first or the last entry and returns it, as a removal by its key does. In an empty map it
+/// changes nothing.
 pub fn what_a_pop_leaves<K, V, S>()
     ensures front { (old new : MapState K V S) (e : K × V) → PopsFront old new (Some e)
         → (old.entries ≡ e ∷ new.entries) × (new.spare ≡ old.spare + 1) }
@@ -194,8 +194,8 @@ pub fn what_a_pop_leaves<K, V, S>()
         → without eq (es ++ e ∷ []) e.0 ≡ es }
 {}
 
-/// How many nodes a map keeps: an insert of a new key makes one only where none is spare, a removal keeps it,
-/// a shrink gives the spare ones back.
+/// How many nodes a map keeps: an insert of an absent key makes one only if none is spare, a removal keeps
+/// it, a shrink frees the spare ones.
 pub fn nodes_after_steps<K, V, S, E>()
     ensures adds { (old new : MapState K V S) (es : List (K × V)) → Adds old new es
         → node_count new ≡ max (node_count old) (length new.entries) }
@@ -210,7 +210,7 @@ pub fn nodes_after_steps<K, V, S, E>()
         → node_count new ≡ length old.entries }
 {}
 
-/// There is room for each node in a map as it is made, and after every step of one where there was.
+/// There is room for each node in a map as it is made, and after every step of one that had it.
 pub fn room_after_steps<K, V, S, E>()
     ensures empty { (s : S) → HasRoom (empty_map {K = K} {V = V} s) }
     ensures inserts { (eq : K → K → Bool) (old new : MapState K V S) (k : K) (v : V) (b : ℕ)
@@ -231,7 +231,7 @@ pub fn room_after_steps<K, V, S, E>()
     ensures shrinks { (old new : MapState K V S) (r : Result (Unit {0}) E) → Shrinks old new r → HasRoom new }
 {}
 
-/// Every node is kept, and one is made only where there are more entries than nodes: by each step but a clear
+/// Every node is kept, and one is made only if there are more entries than nodes: by each step but a clear
 /// and a shrink.
 pub fn every_node_is_kept<K, V, S, E>()
     ensures inserts { (old new : MapState K V S) (eq : K → K → Bool) (k : K) (v : V) (b : ℕ)
@@ -264,8 +264,8 @@ pub fn every_node_is_kept<K, V, S, E>()
         → KeepsNodes old new }
 {}
 
-/// So nodes fall only by a clear, which leaves the spare ones, and by a shrink. A map that has no fewer nodes
-/// than one that was longer has a spare one, and no insert into it is refused.
+/// So nodes become fewer only by a clear, which leaves the spare ones, and by a shrink. A map that has no
+/// fewer nodes than one that was longer has a spare one, and no insert into it fails.
 pub fn a_map_shorter_than_it_was<K, V, S>()
     ensures never_fall { (old new : MapState K V S) → KeepsNodes old new → node_count old ≤ node_count new }
     ensures cleared { (old new : MapState K V S) → Clears old new → node_count new ≡ old.spare }

@@ -1,4 +1,4 @@
-//! Rows and laws of walks.
+//! Rows and laws of iterators.
 ghost use Rattle.std.specs.Prelude.{◌≡◌, ℕ, ◌-◌, Bool, List, [], ◌∷◌, ◌++◌, Option, None, Some, length};
 ghost use Rattle.std.specs.Map.{keys_of, set_value};
 ghost use Rattle.std.specs.Map.Iter.{TakesFirst, TakesLast};
@@ -9,7 +9,7 @@ ghost use Rattle.hashlink_model.specs.Walk.{step_gives, step_leaves, walk_gives,
 ghost use Rattle.hashlink_model.specs.Walk.{given_back};
 ghost use Rattle.hashlink_model.specs.Numbers as numbers;
 
-/// Two from the front, two from the back, and then None from both.
+/// Two from the front, two from the back, and then `None` from both.
 pub fn a_walk_from_both_ends()
     ensures gives { walk_gives {X = ℕ} (Front ∷ Front ∷ Back ∷ Back ∷ Back ∷ Front ∷ []) (1 ∷ 2 ∷ 3 ∷ 4 ∷ [])
         ≡ Some 1 ∷ Some 2 ∷ Some 4 ∷ Some 3 ∷ None ∷ None ∷ [] }
@@ -19,7 +19,7 @@ pub fn a_walk_from_both_ends()
         ≡ (3, 30) ∷ [] }
 {}
 
-/// A writing walk changes the values at the places that it lent.
+/// A lending iterator changes the values at the places that it lent.
 pub fn a_walk_writes_in_place()
     ensures { numbers.set_value_at (numbers.set_value_at ((1, 10) ∷ (3, 30) ∷ (2, 20) ∷ []) 0 17) 2 23
         ≡ (1, 17) ∷ (3, 30) ∷ (2, 23) ∷ [] }
@@ -31,14 +31,14 @@ pub fn a_step_takes_an_end<X>()
     ensures back { (xs : List X) → TakesLast (λ x. x) xs (last_of xs) (before_last_of xs) }
 {}
 
-/// However a walk goes, each entry comes once: what the front gave, what is left and what the back gave are
-/// the list.
+/// Whatever ends the steps come from, each entry is returned once: what came from the front, what is left and
+/// what came from the back are the list.
 pub fn a_walk_gives_each_entry_once<X>()
     ensures { (steps : List End) (xs : List X)
         → given_front steps xs ++ (walk_leaves steps xs ++ given_back steps xs) ≡ xs }
 {}
 
-/// The size hint is what is left, and of an empty part both ends give None for good.
+/// The size hint is what is left. If nothing is left, both ends return `None` from then on.
 pub fn a_walk_ends<X>()
     ensures hint { (steps : List End) (xs : List X) → length (walk_leaves steps xs)
         ≡ length xs - length steps }

@@ -48,7 +48,7 @@ pub fn what_an_insert_within_a_budget_leaves<K, V>()
 {}
 
 /// After an insert within a budget of a pair that is not too heavy the key has the new value and weight, and
-/// what is still there of the others is what was there.
+/// every other key that is still present has its old ones.
 pub fn lookup_after_an_insert_within_a_budget<K, V>()
     ensures at_key { (eq : K → K → Bool) → IsEquivalence eq
         → (q : K) (es : List (K × (V × ℕ))) (budget : ℕ) (k : K) (v : V) (weight : ℕ) → IsEntries eq es
@@ -61,8 +61,8 @@ pub fn lookup_after_an_insert_within_a_budget<K, V>()
         → lookup_entry (eq q) es ≡ Some e }
 {}
 
-/// An accepted insert leaves the fitting end within the budget and returns the old value; one that is too
-/// heavy changes nothing, one for which memory was refused no entry, and a pair is never both.
+/// An insert that succeeds leaves the fitting end within the budget and returns the old value. One that is
+/// too heavy changes nothing. One that fails to allocate changes no entry. No insert is both.
 pub fn what_inserts_within_a_budget_leave<K, V, S>()
     ensures entries { (eq : K → K → Bool) (old new : WeightedState K V S) (k : K) (v : V) (weight : ℕ)
         (w : Option (V × ℕ))

@@ -1,4 +1,4 @@
-//! The owner of the nodes' blocks. All that follows a pointer stands here.
+//! The owner of the nodes' blocks. All code that follows a pointer is in this file.
 ghost use Rattle.std.specs.Prelude.{◌≡◌, ◌<◌, List, [], ◌∷◌, Some, IsSome, IsNone};
 ghost use Rattle.std.specs.Map.{lookup, remove_entry};
 ghost use Rattle.std.specs.Borrow.{sem};
@@ -12,7 +12,7 @@ use crate::node::Node;
 use std::alloc::Global;
 use std::marker::{Model, PhantomData};
 
-/// Values, each in a block of its own from `Global`. It takes no space: whoever uses it keeps the nodes.
+/// Values, each in a block of its own from `Global`. It takes no space: its user keeps the nodes.
 pub(crate) struct Arena<T> {
     mark: PhantomData<*const T>,
     pub(crate) ghost blocks: { List (Node × T) },
@@ -33,7 +33,7 @@ impl<T> Arena<T> {
         Arena { mark: PhantomData }
     }
 
-    /// Takes the block over, and returns where it lies.
+    /// Takes the block over, and returns its node.
     pub(crate) fn keep(&mut self, loose: Loose<T, Global>) -> Node
         requires { 0 < type_size T.row }
         ensures kept { self.new.blocks ≡ (result, loose.value) ∷ self.old.blocks }
@@ -43,7 +43,7 @@ impl<T> Arena<T> {
         Node { at: at as *mut u8 }
     }
 
-    /// Gives the node's block out again.
+    /// Returns the node's block to the caller.
     pub(crate) fn give_back(&mut self, node: Node, alloc: Global) -> Loose<T, Global>
         requires { IsSome (lookup (same_node node) self.old.blocks) }
         ensures value { lookup (same_node node) self.old.blocks ≡ Some result.value }
@@ -70,7 +70,7 @@ impl<T> Arena<T> {
         unsafe { &mut *(node.at as *mut T) }
     }
 
-    /// The end of an arena, which must have no block left.
+    /// Ends an arena, which must have no block left.
     pub(crate) fn end(self)
         requires { self.blocks ≡ [] }
     {

@@ -168,7 +168,7 @@ impl<K, V> Body<K, V> {
         }
     }
 
-    /// Puts something else in, and returns what was there.
+    /// Replaces what the body holds by `held`, and returns what it held before.
     #[inline]
     pub(crate) fn put(&mut self, held: Option<Held<K, V>>) -> Option<Held<K, V>>
         requires { IfSome held (λ h. h.number < 2 ^ 48) }

@@ -56,7 +56,7 @@ impl<K, V> Cells<K, V> {
         block.links.prev()
     }
 
-    /// Whether the node holds an entry.
+    /// Returns whether the node holds an entry.
     #[inline]
     pub(crate) fn is_full(&self, node: Node) -> bool
         requires { (state_of self.now).has node ≡ true }
@@ -104,7 +104,7 @@ impl<K, V> Cells<K, V> {
         block.links.store(Side::Prev, to, &mut self.writes);
     }
 
-    /// Puts something else into the node, and returns what it held.
+    /// Replaces what the node holds by `held`, and returns what it held before.
     #[inline]
     pub(crate) fn hold(&mut self, node: Node, held: Option<Held<K, V>>) -> Option<Held<K, V>>
         requires has { (state_of self.old).has node ≡ true }
@@ -116,7 +116,7 @@ impl<K, V> Cells<K, V> {
         block.held.put(held)
     }
 
-    /// Lends the value, beside the key.
+    /// Returns the key and a mutable reference to the value.
     #[inline]
     pub(crate) fn entry_mut(&mut self, node: Node) -> (&K, &mut V)
         requires has { (state_of self.old).has node ≡ true }
@@ -129,7 +129,7 @@ impl<K, V> Cells<K, V> {
         block.held.entry_mut()
     }
 
-    /// Puts a value in, and returns the old one.
+    /// Replaces the value, and returns the old one.
     #[inline]
     pub(crate) fn replace_value(&mut self, node: Node, value: V) -> V
         requires has { (state_of self.old).has node ≡ true }
@@ -143,7 +143,7 @@ impl<K, V> Cells<K, V> {
         block.held.replace_value(value)
     }
 
-    /// Puts a key in, and returns the old one.
+    /// Replaces the key, and returns the old one.
     pub(crate) fn replace_key(&mut self, node: Node, key: K) -> K
         requires has { (state_of self.old).has node ≡ true }
         requires held { IsSome ((state_of self.old).held node) }
@@ -168,7 +168,7 @@ impl<K, V> Cells<K, V> {
         block.held.set_number(number);
     }
 
-    /// Makes a node that holds nothing and links to itself. These two links are not counted.
+    /// Allocates a node that holds nothing and links to itself. These two links are not counted.
     pub(crate) fn make(&mut self, alloc: Global) -> Result<Node, AllocError>
         ensures made { IfOk result (λ n. state_of self.new ≡ add n (state_of self.old)) }
         ensures apart { IfOk result (λ n. (state_of self.old).has n ≡ false) }
@@ -189,7 +189,7 @@ impl<K, V> Cells<K, V> {
         }
     }
 
-    /// The guard, which is made where there is none.
+    /// Returns the guard, and allocates it if there is none.
     pub(crate) fn guard(&mut self, guard: Option<Node>, alloc: Global) -> Result<Node, AllocError>
         ensures made { IfOk result (λ g. GuardIs (state_of self.old) (state_of self.new) guard g) }
         ensures refused { OnErr result (self.new ≡ self.old) }
@@ -200,7 +200,7 @@ impl<K, V> Cells<K, V> {
         }
     }
 
-    /// Gives the node's block back, and returns what the node held.
+    /// Frees the node's block, and returns what the node held.
     pub(crate) fn give_back(&mut self, node: Node, alloc: Global) -> Option<Held<K, V>>
         requires { (state_of self.old).has node ≡ true }
         ensures held { result ≡ (state_of self.old).held node }
@@ -239,7 +239,7 @@ impl<K, V> Cells<K, V> {
         self.store_prev(next, node);
     }
 
-    /// The end, once no block is left.
+    /// Ends the cells, once no block is left.
     pub(crate) fn end(self)
         requires { (state_of self).size ≡ 0 }
     {

@@ -5,7 +5,8 @@ ghost use base.Fml.{ftrue};
 use std::marker::{Model, PhantomData};
 use std::mem::size_of;
 
-/// How many links were stored. It is a number of the contracts alone: it has no bytes, and no greatest value.
+/// The number of links that were stored. It is a number of the contracts alone: it has no bytes, and no
+/// greatest value.
 pub(crate) struct LinkWrites {
     mark: PhantomData<*mut u8>,
     pub(crate) ghost count: { ℕ },

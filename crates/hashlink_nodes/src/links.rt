@@ -20,7 +20,7 @@ pub(crate) struct Links {
 }
 
 impl Links {
-    /// Both links lead to the node: of the node itself these are the links of a ring of one.
+    /// Returns links that both lead to the node: of the node itself these are the links of a ring of one.
     pub(crate) fn around(node: Node) -> Links
         ensures { result ≡ around node }
     {

@@ -2,7 +2,7 @@
 use std::mem::size_of;
 use std::ptr;
 
-/// A node of a ring: where its block lies. It owns nothing, and only the ring that made it can use it.
+/// A node of a ring: the address of its block. It owns nothing, and only the ring that made it can use it.
 #[derive(Clone, Copy)]
 pub struct Node {
     pub(crate) at: *mut u8,

@@ -19,13 +19,13 @@ use crate::node::Node;
 use std::alloc::{AllocError, Global};
 use std::marker::Model;
 
-/// Entries in a ring of nodes, and spare nodes that serve the next new entries. Each node is a block of its
+/// Entries in a ring of nodes, and spare nodes, which the next new entries use. Each node is a block of its
 /// own.
 pub struct Nodes<K, V> {
     cells: Cells<K, V>,
     // The guard links the last entry to the first. The first push makes it.
     guard: Option<Node>,
-    // The spare nodes are chained by their links to the next. With none, this means nothing.
+    // The spare nodes are chained by their links to the next. If there is none, this means nothing.
     first_spare: Node,
     len: usize,
     spare: usize,
@@ -46,7 +46,7 @@ impl<K, V> Model for Nodes<K, V> {
 }
 
 impl<K, V> Nodes<K, V> {
-    /// An empty ring. It takes no memory.
+    /// Creates an empty ring. It does not allocate.
     pub fn new(alloc: Global) -> Self
         ensures { result ≡ ring [] [] 0 }
     {
@@ -60,14 +60,14 @@ impl<K, V> Nodes<K, V> {
         }
     }
 
-    /// The allocator of the blocks.
+    /// Returns the allocator of the blocks.
     pub fn allocator(&self) -> Global {
         self.alloc
     }
 
-    /// Puts an entry in right before the place, and takes memory only where no node is spare: then a refusal
-    /// hands the pair back, and no entry and no spare node changes. It stores four links; the two that the
-    /// guard gets as it is made are not counted.
+    /// Inserts an entry directly before the place, and returns its node. It allocates only if no node is
+    /// spare. If that allocation fails, it returns the pair in `Err`, and no entry and no spare node changes.
+    /// It stores four links. The two that the guard gets as it is allocated are not counted.
     pub fn push_before(
         &mut self,
         place: Option<Node>,
@@ -109,7 +109,7 @@ impl<K, V> Nodes<K, V> {
         Ok(node)
     }
 
-    /// Sees that a node is spare: of two blocks that this may take, the guard's comes first.
+    /// Makes sure that a node is spare. Of the two blocks that it may allocate, the guard's comes first.
     fn make_spare(&mut self) -> Result<(), AllocError>
         ensures entries { self.new.entries ≡ self.old.entries }
         ensures free { OnOk result
@@ -131,7 +131,8 @@ impl<K, V> Nodes<K, V> {
         Ok(())
     }
 
-    /// Takes the node's entry out of the ring. The node is the next spare one. It stores three links.
+    /// Removes the node's entry from the ring, and returns it. The node is the next spare one. It stores
+    /// three links.
     pub fn detach_into_free(&mut self, node: Node) -> (K, V)
         requires { Holds self.old.entries node }
         ensures pair { option_map pair_of (lookup (same_node node) self.old.entries) ≡ Some result }
@@ -157,7 +158,7 @@ impl<K, V> Nodes<K, V> {
     }
 }
 
-/// Drops the entries, and gives every node back, one after another.
+/// Drops the entries, and frees every node, one after another.
 impl<K: Drop, V: Drop> Drop for Nodes<K, V> {
     fn drop(mut self) {
         self.release_all();

@@ -11,15 +11,14 @@ use hashlink_lru::LruCache;
 use std::alloc::AllocError;
 use std::hash::{BuildHasher, Hash};
 
-/// Gives the commands to the cache in turn and returns the replies, one for each.
+/// Runs the commands on the cache in turn and returns the replies, one for each.
 ///
-/// A command that reads a pair has as its reply what `keep` says of it; `keep` has to take any pair. An
-/// insert that runs out of memory has a reply that says so and hands the pair back, and the run goes on. Each
-/// command costs what the calls of the cache do that it names.
+/// The reply to a command that reads a pair is what `keep` returns for that pair. `keep` has to be callable
+/// on every pair. An insert that runs out of memory has a reply that says so and contains the pair, and the
+/// run continues. Each command costs what the method of the cache costs that it names.
 ///
-/// Room for all replies is made first, from the allocator of the commands. Where memory for it runs out it
-/// returns
-/// `AllocError`, the commands are dropped and the cache is as it was.
+/// Room for all replies is reserved first, from the allocator of the commands. If memory for it runs out, it
+/// returns `AllocError`, the commands are dropped and the cache has not changed.
 pub fn run_cache<K, V, S, F>(
     cache: &mut LruCache<K, V, S>,
     commands: Vec<CacheCommand<K, V>>,
@@ -32,9 +31,9 @@ where
     F: Fn(&K, &V) -> bool,
     requires { F.IsAlwaysCallable keep.now }
 
-    // The replies and the state at the end are those of a chain of steps, along which the nodes stay within
-    // the peak, once an insert has dropped a pair none runs out of memory, the length stays within a bound by
-    // the capacity, and an insert that is not refused brings it within the capacity.
+    // The replies and the state at the end are those of a chain of steps. Along these the nodes stay within
+    // the peak, and none runs out of memory once an insert has evicted a pair. The length stays within a
+    // bound by the capacity, and an insert that succeeds brings it within the capacity.
     ensures ran { IfOk result
         (λ replies. LawfulCacheRun K.eq (ClosureSays F.Fn keep.now) (state_in cache.old)
         commands.items replies.items

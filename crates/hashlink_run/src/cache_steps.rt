@@ -13,8 +13,8 @@ use hashlink_commands::{CacheCommand, Reply};
 use hashlink_lru::LruCache;
 use std::hash::{BuildHasher, Hash};
 
-/// Gives the cache the command and returns its reply. Of a pair that is read it has what the closure says. It
-/// costs what the call costs that the command names.
+/// Runs the command on the cache and returns its reply. Of a pair that is read, the reply has what the
+/// closure returns. It costs what the method costs that the command names.
 pub fn answer_cache<K, V, S, B, F>(
     cache: &mut LruCache<K, V, S>,
     command: CacheCommand<K, V>,
@@ -51,8 +51,8 @@ where
     }
 }
 
-// Moves the key's pair to the end and answers what the closure says of it, or inserts the pair where it is
-// absent.
+// Moves the key's pair to the back and returns what the closure returns for it, or inserts the pair if the
+// key is absent.
 fn answer_use<K, V, S, B, F>(
     cache: &mut LruCache<K, V, S>,
     key: K,
@@ -77,7 +77,7 @@ where
     }
 }
 
-// Moves the key's pair to the end, and answers what the closure says of it.
+// Moves the key's pair to the back, and returns what the closure returns for it.
 fn said_of_get<K, V, S, B, F>(cache: &mut LruCache<K, V, S>, key: &K, says: &F) -> Option<B>
 where
     K: Eq + Hash,

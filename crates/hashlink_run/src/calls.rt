@@ -1,4 +1,4 @@
-//! Calls of caches in turn, which end where memory runs out.
+//! Calls of caches in turn, which end if memory runs out.
 ghost use Rattle.std.specs.Prelude.{◌≡◌, ◌≤◌, [], ◌∷◌, map, IfOk, OnOk};
 ghost use Rattle.hashlink_core.specs.Hashing.{default_builder};
 ghost use Rattle.hashlink_lru.specs.Cached.{entries_in, state_in};
@@ -13,8 +13,8 @@ use hashlink_lru::LruCache;
 use std::alloc::{AllocError, Global};
 use std::hash::Hash;
 
-/// What two caches have come to that were given the same commands, and what each returned for each of them:
-/// the old value, the value that a use hit, the value removed, or the value seen.
+/// Two caches after the same commands, and what each returned for each of them: the old value, the value that
+/// a use hit, the value removed, or the value read.
 #[derive(Drop)]
 pub struct Pair<K: Eq + Hash, V> {
     /// The smaller cache.
@@ -27,7 +27,7 @@ pub struct Pair<K: Eq + Hash, V> {
     pub large_replies: Vec<Option<V>>,
 }
 
-/// What a cache has come to that was given uses, and the value that each of them hit.
+/// A cache after a list of uses, and the value that each of them hit.
 #[derive(Drop)]
 pub struct Uses<K: Eq + Hash, V> {
     /// The cache.
@@ -36,11 +36,11 @@ pub struct Uses<K: Eq + Hash, V> {
     pub replies: Vec<Option<V>>,
 }
 
-/// Gives the commands to two empty caches of these capacities, of which the first is the smaller one.
+/// Runs the commands on two empty caches of these capacities, of which the first is the smaller one.
 ///
-/// Each command costs what the call of the cache does that it names. Where memory runs out, for the replies
-/// or for an insert, it returns `AllocError` and leaves nothing. `small_capacity` has to be at most
-/// `large_capacity`.
+/// Each command costs what the method of the cache costs that it names. If memory runs out, for the replies
+/// or for an insert, it returns `AllocError`, and nothing is left of the caches. `small_capacity` has to be
+/// at most `large_capacity`.
 pub fn run_pair<K, V>(
     alloc: Global,
     small_capacity: usize,
@@ -52,7 +52,8 @@ where
     V: Copy,
     requires { small_capacity ≤ large_capacity }
 
-    // The replies of each cache and the state at its end are those of a chain of steps without a refusal.
+    // The replies of each cache and the state at its end are those of a chain of steps in which no insert
+    // fails.
     ensures small { IfOk result (λ pair. RunsFromEmpty K.eq default_builder small_capacity
         (map event_of commands.now) pair.small_replies.items (state_in pair.small)) }
     ensures large { IfOk result (λ pair. RunsFromEmpty K.eq default_builder large_capacity
@@ -62,7 +63,7 @@ where
     ensures inclusion { IfOk result (λ pair. Includes K.eq (map event_of commands.now) (entries_in pair.small)
         (entries_in pair.large) pair.small_replies.items pair.large_replies.items) }
 
-    // Each holds and found what the history of uses says.
+    // Each cache holds and found what the history of uses says.
     ensures small_history { IfOk result
         (λ pair. FollowsHistory K.eq (map event_of commands.now) small_capacity
         (entries_in pair.small) pair.small_replies.items) }
@@ -82,10 +83,10 @@ where
     })
 }
 
-/// Gives an empty cache of this capacity a use of each pair in turn: a hit of `get`, or an insert.
+/// Runs a use of each pair in turn on an empty cache of this capacity: a hit of `get`, or an insert.
 ///
-/// Each use costs what these calls do. Where memory runs out, for the replies or for an insert, it returns
-/// `AllocError` and leaves nothing.
+/// Each use costs what these methods cost. If memory runs out, for the replies or for an insert, it returns
+/// `AllocError`, and nothing is left of the cache.
 pub fn run_uses<K, V>(
     alloc: Global,
     capacity: usize,
@@ -94,12 +95,12 @@ pub fn run_uses<K, V>(
 where
     K: Eq + Hash + Copy,
     V: Copy,
-    // The replies and the state at the end are those of a chain of steps without a refusal.
+    // The replies and the state at the end are those of a chain of steps in which no insert fails.
     ensures ran { IfOk result (λ uses. RunsFromEmpty K.eq default_builder capacity (map use_of pairs.now)
         uses.replies.items (state_in uses.cache)) }
 
-    // The cache holds and found what the history of the uses says, missed as often as that says, and not many
-    // times more than any other rule of replacement would.
+    // The cache holds and found what the history of the uses says. It missed as often as that says, and not
+    // many times more than any other rule of replacement would.
     ensures history { IfOk result (λ uses. FollowsHistory K.eq (map use_of pairs.now) capacity
         (entries_in uses.cache) uses.replies.items) }
     ensures misses { IfOk result (λ uses. MissesOfHistory K.eq capacity (map (λ p. p.0) pairs.now)
@@ -116,7 +117,7 @@ where
     Ok(Uses { cache, replies })
 }
 
-// Gives the commands to an empty cache of this capacity.
+// Runs the commands on an empty cache of this capacity.
 fn run_calls<K, V>(
     alloc: Global,
     capacity: usize,
@@ -136,8 +137,8 @@ where
     Ok((cache, replies))
 }
 
-/// Gives the cache the command and returns what the call returns that it names. An insert that fails to allocate
-/// returns `AllocError`. It costs what that call costs.
+/// Runs the command on the cache and returns what the method returns that it names. If an insert fails to
+/// allocate, it returns `AllocError`. It costs what that method costs.
 pub fn answer_call<K, V>(
     cache: &mut LruCache<K, V>,
     command: PairCommand<K, V>,
@@ -156,7 +157,8 @@ where
     }
 }
 
-// The value that the key has, which moves to the end, or an insert where it is absent.
+// Returns the value that the key has, and moves its entry to the back, or inserts the pair if the key is
+// absent.
 fn use_pair<K, V>(cache: &mut LruCache<K, V>, key: K, value: V) -> Result<Option<V>, (K, V)>
 where
     K: Eq + Hash + Copy,

@@ -12,7 +12,7 @@ use hashlink_map::{CursorMut, LinkedHashMap};
 use std::alloc::AllocError;
 use std::hash::{BuildHasher, Hash};
 
-// Goes over the steps with a cursor from the first entry on, and pushes the reply to each.
+// Runs the steps on a cursor that starts on the first entry, and pushes the reply to each.
 pub(crate) fn walk_cursor<K, V, S, B, F>(
     map: &mut LinkedHashMap<K, V, S>,
     steps: Vec<CursorStep<K, V>>,
@@ -40,7 +40,7 @@ where
     Ok(())
 }
 
-// What the cursor answers to the step.
+// Runs the step on the cursor, and returns its reply.
 fn reply_of_step<K, V, S, B, F>(
     cursor: &mut CursorMut<'_, K, V, S>,
     step: CursorStep<K, V>,

@@ -10,7 +10,7 @@ use hashlink_commands::{EntryStep, Reply};
 use hashlink_map::{Entry, LinkedHashMap, OccupiedEntry};
 use std::hash::{BuildHasher, Hash};
 
-// What the map answers to the step, which is done at the key's place with the key in hand.
+// Runs the step at the key's place in the map, with the given key, and returns its reply.
 pub(crate) fn reply_of_entry<K, V, S, B, F>(
     map: &mut LinkedHashMap<K, V, S>,
     key: K,
@@ -32,8 +32,9 @@ where
     }
 }
 
-// The reply to the step, or the pair where it is handed back. An entry that is there and that no call used up
-// ends by its `into_key`: where it goes out of scope with a key of any type, nothing is known of the map.
+// Returns the reply to the step, or the pair if it is not inserted. An occupied entry that no method has
+// consumed ends by its `into_key`: if it went out of scope with a key of any type, nothing would be known of
+// the map.
 fn done_at_entry<K, V, S, B, F>(
     map: &mut LinkedHashMap<K, V, S>,
     key: K,
@@ -100,7 +101,7 @@ where
     }
 }
 
-// What the closure says of the entry's pair.
+// Returns what the closure returns for the entry's pair.
 fn said_of_entry<K, V, S, B, F>(entry: &OccupiedEntry<'_, K, V, S>, says: &F) -> B
 where
     K: Eq + Hash,

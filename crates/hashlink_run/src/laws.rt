@@ -1,4 +1,4 @@
-//! What holds of every run that the definitions let be, and what a keep leaves. Each function has an empty
+//! What holds of every run that the definitions allow, and what a keep leaves. Each function has an empty
 //! body: its contract is the statement.
 ghost use Rattle.std.specs.Prelude.{◌≡◌, ◌≤◌, ℕ, Bool, List, [], filter};
 ghost use Rattle.hashlink_model.specs.Cache.{CacheState};
@@ -27,8 +27,8 @@ pub fn calls_of_two_caches<K: Eq, V>()
         → FollowsHistory K.eq events c (after_events K.eq c [] events) (answers K.eq c [] events) }
 {}
 
-/// Of any chain of a map's steps: the nodes stay within the peak, and where the map was longer, and gave no
-/// node back since, it has a spare node.
+/// Of any chain of a map's steps: the nodes stay within the peak. If the map was longer, and has freed no
+/// node since, it has a spare node.
 pub fn runs_of_a_map<K: Eq, V, S, F: Fn(&K, &V) -> bool>()
     ensures within_peak { (f : F) (old : MapState K V S) (commands : List (Command K V))
         (answers : List (Answered _ _))
@@ -40,9 +40,9 @@ pub fn runs_of_a_map<K: Eq, V, S, F: Fn(&K, &V) -> bool>()
         → TakesKeysWhereShorter old commands answers K.eq }
 {}
 
-/// Of any chain of a cache's steps: the nodes stay within the peak, once an insert has dropped a pair none
-/// runs out of memory, the length stays within a bound by the capacity, and an insert brings it within the
-/// capacity.
+/// Of any chain of a cache's steps: the nodes stay within the peak, and none runs out of memory once an
+/// insert has evicted a pair. The length stays within a bound by the capacity, and an insert brings it within
+/// the capacity.
 pub fn runs_of_a_cache<K: Eq, V, S, F: Fn(&K, &V) -> bool>()
     ensures within_peak { (f : F) (old : CacheState K V S) (commands : List (CacheCommand K V))
         (answers : List (Answered _ _)) → CacheRun K.eq (ClosureSays F.Fn f) old commands answers
@@ -58,7 +58,7 @@ pub fn runs_of_a_cache<K: Eq, V, S, F: Fn(&K, &V) -> bool>()
         → InsertsFit K.eq old commands answers }
 {}
 
-/// A keep by a closure that returns the same at the same key and value is a filter of the entries.
+/// A keep by a closure that always returns the same for the same key and value is a filter of the entries.
 pub fn a_keep_is_a_filter<K, V, S, F: Fn(&K, &V) -> bool>()
     ensures { (eq : K → K → Bool) (f : F) (p : K × V → Bool)
         → ((k : K) (v : V) (b : Bool) → ClosureSays F.Fn f k v b → b ≡ p (k, v))

@@ -12,17 +12,17 @@ use hashlink_map::LinkedHashMap;
 use std::alloc::AllocError;
 use std::hash::{BuildHasher, Hash};
 
-/// Gives the commands to the map in turn and returns the replies, one for each, and one for each step of a
+/// Runs the commands on the map in turn and returns the replies: one for each, and one for each step of a
 /// cursor.
 ///
-/// A command that reads a pair has as its reply what `keep` says of it, and `Command::Keep` removes the pairs
-/// at which it returns false; `keep` has to take any pair. An insert that runs out of memory has a reply that
-/// says so and hands the pair back, a shrink that does has one too, and the run goes on. Each command costs
-/// what the call of the map does that it names.
+/// The reply to a command that reads a pair is what `keep` returns for that pair. `Command::Keep` removes the
+/// pairs for which it returns false. `keep` has to be callable on every pair. An insert that runs out of
+/// memory has a reply that says so and contains the pair. A shrink that runs out of memory has one too, and
+/// the run continues. Each command costs what the method of the map costs that it names.
 ///
-/// Room for all replies is made first, from the allocator of the commands. Where memory for it runs out, or
-/// where their number is above `usize::MAX`, it returns `AllocError`, the commands are dropped and the map is
-/// as it was.
+/// Room for all replies is reserved first, from the allocator of the commands. If memory for it runs out, or
+/// if their number is above `usize::MAX`, it returns `AllocError`, the commands are dropped and the map has
+/// not changed.
 pub fn run<K, V, S, F>(
     map: &mut LinkedHashMap<K, V, S>,
     commands: Vec<Command<K, V>>,
@@ -35,15 +35,15 @@ where
     F: Fn(&K, &V) -> bool,
     requires { F.IsAlwaysCallable keep.now }
 
-    // The replies and the state at the end are those of a chain of steps, along which the nodes stay within
-    // the peak, and a map that was longer and gave no node back since has a spare node and takes the next
-    // command's pair.
+    // The replies and the state at the end are those of a chain of steps. Along these the nodes stay within
+    // the peak. A map that was longer, and has freed no node since, has a spare node, and the next command's
+    // insert cannot fail.
     ensures ran { IfOk result
         (λ replies. LawfulRun K.eq (ClosureSays F.Fn keep.now) (ClosureSays F.Fn keep.now) (state_of map.old)
         commands.items replies.items (state_of map.new)) }
     ensures refused { OnErr result (map.new ≡ map.old) }
 
-    // So a map that is left shorter than it was, by commands that gave no node back, has a spare node.
+    // So a map that is left shorter than it was, by commands that freed no node, has a spare node.
     ensures spare { OnOk result (AllPass keeps_nodes commands.items
         → length (entries_of map.new) < length (entries_of map.old) → 1 ≤ (state_of map.new).spare) }
     ensures distinct { OnOk result (IsEntries K.eq (entries_of map.new)) }
@@ -58,7 +58,8 @@ where
     Ok(replies)
 }
 
-// How many replies the commands have. A number above `usize::MAX` is as memory that is refused.
+// Returns the number of replies to the commands. A number above `usize::MAX` counts as an allocation that
+// fails.
 fn reply_total<K, V>(commands: &[Command<K, V>]) -> Result<usize, AllocError>
     ensures total { IfOk result (λ total. total ≡ reply_total commands.now) }
     ensures above { OnErr result (2 ^ 64 ≤ reply_total commands.now) }
@@ -70,7 +71,7 @@ fn reply_total<K, V>(commands: &[Command<K, V>]) -> Result<usize, AllocError>
     Ok(total)
 }
 
-// How many replies the command has.
+// Returns the number of replies to the command.
 fn reply_count<K, V>(command: &Command<K, V>) -> usize
     ensures { result ≡ reply_count command.now }
 {

@@ -19,9 +19,9 @@ use hashlink_map::LinkedHashMap;
 use std::alloc::AllocError;
 use std::hash::{BuildHasher, Hash};
 
-/// Gives the map the command and pushes its replies. Of a pair that is read they have what the first closure
-/// says, and the second one says which pairs a keep leaves. Where the replies' vector cannot grow it returns
-/// `AllocError`. It costs what the call costs that the command names.
+/// Runs the command on the map and pushes its replies. Of a pair that is read, the reply has what `says`
+/// returns. `keep` chooses the pairs that a keep leaves. If the vector of replies cannot grow, it returns
+/// `AllocError`. It costs what the method costs that the command names.
 pub fn answer_command<K, V, S, B, F, G>(
     map: &mut LinkedHashMap<K, V, S>,
     command: Command<K, V>,
@@ -53,7 +53,7 @@ where
     Ok(())
 }
 
-// Gives the map the command, which is no cursor's, and returns its reply.
+// Runs the command on the map, which is no cursor's, and returns its reply.
 fn reply_to<K, V, S, B, F, G>(
     map: &mut LinkedHashMap<K, V, S>,
     command: Command<K, V>,
@@ -100,7 +100,7 @@ where
     }
 }
 
-// Drops the pairs at which the closure answers false.
+// Removes the pairs for which the closure returns false.
 pub(crate) fn keep_where<K, V, S, G>(map: &mut LinkedHashMap<K, V, S>, keep: &G)
 where
     K: Eq + Hash + Drop,
@@ -119,7 +119,7 @@ where
     );
 }
 
-// The reply to an insert by its answer.
+// Returns the reply to an insert that returned `answer`.
 pub(crate) fn insert_reply<K, V, B>(answer: Result<Option<V>, (K, V)>) -> Reply<K, V, B>
     ensures { result ≡ insert_reply answer }
 {
@@ -129,7 +129,7 @@ pub(crate) fn insert_reply<K, V, B>(answer: Result<Option<V>, (K, V)>) -> Reply<
     }
 }
 
-// The reply to a shrink by its answer.
+// Returns the reply to a shrink that returned `answer`.
 fn shrink_reply<K, V, B>(answer: Result<(), AllocError>) -> Reply<K, V, B>
     ensures { result ≡ shrink_reply answer }
 {
@@ -139,7 +139,7 @@ fn shrink_reply<K, V, B>(answer: Result<(), AllocError>) -> Reply<K, V, B>
     }
 }
 
-// What the closure says of the pair, if there is one.
+// Returns what the closure returns for the pair, if there is one.
 pub(crate) fn said_of<K, V, B, F>(pair: Option<(&K, &V)>, says: &F) -> Option<B>
 where
     F: Fn(&K, &V) -> B,
@@ -150,7 +150,7 @@ where
     Some(says(key, value))
 }
 
-// Moves the key's pair to the front, and answers what the closure says of it.
+// Moves the key's pair to the front, and returns what the closure returns for it.
 fn to_front<K, V, S, B, F>(map: &mut LinkedHashMap<K, V, S>, key: &K, says: &F) -> Option<B>
 where
     K: Eq + Hash,
@@ -166,7 +166,7 @@ where
     said_of(map.front(), says)
 }
 
-// Moves the key's pair to the end, and answers what the closure says of it.
+// Moves the key's pair to the back, and returns what the closure returns for it.
 fn to_back<K, V, S, B, F>(map: &mut LinkedHashMap<K, V, S>, key: &K, says: &F) -> Option<B>
 where
     K: Eq + Hash,

@@ -1,5 +1,5 @@
-//! Set algebra, by the lazy walks of `hashlink_algebra` and by tests. None of these takes memory. A step of a
-//! walk hashes each element that it looks for in the other set, once.
+//! Set algebra, by the lazy iterators of `hashlink_algebra` and by tests. None of these methods allocates. A
+//! step of an iterator hashes each element that it looks up in the other set, once.
 ghost use Rattle.std.specs.Prelude.{◌≡◌};
 ghost use Rattle.std.specs.List.{IsDistinct};
 ghost use Rattle.hashlink_model.specs.Algebra.{difference_of, intersection_of, union_of};
@@ -16,7 +16,8 @@ impl<T: Eq + Hash, S: BuildHasher> LinkedHashSet<T, S> {
     ghost use Rattle.hashlink_algebra.specs.Walks.{difference_rest, intersection_rest, union_rest, union_walk};
     ghost use Rattle.hashlink_algebra.specs.Walks.{symmetric_difference_rest, symmetric_difference_walk};
 
-    /// A walk over the elements that `other` lacks, in their order.
+    /// Returns an iterator over the elements that `other` lacks, in their order. It does not allocate. A step
+    /// hashes each element that it looks up, once.
     pub fn difference<'a>(&'a self, other: &'a Self) -> Difference<'a, T, S>
         ensures rest { difference_rest T.eq result
             ≡ difference_of T.eq (elements_of self.now) (elements_of other.now) }
@@ -28,7 +29,8 @@ impl<T: Eq + Hash, S: BuildHasher> LinkedHashSet<T, S> {
         Difference::of(&self.map, &other.map)
     }
 
-    /// A walk over the elements that `other` has, in the order of this set.
+    /// Returns an iterator over the elements that `other` has, in the order of this set. It does not
+    /// allocate. A step hashes each element that it looks up, once.
     pub fn intersection<'a>(&'a self, other: &'a Self) -> Intersection<'a, T, S>
         ensures rest { intersection_rest T.eq result
             ≡ intersection_of T.eq (elements_of self.now) (elements_of other.now) }
@@ -39,7 +41,8 @@ impl<T: Eq + Hash, S: BuildHasher> LinkedHashSet<T, S> {
         Intersection::of(&self.map, &other.map)
     }
 
-    /// A walk over the elements of this set, and then over those of `other` that this set lacks.
+    /// Returns an iterator over the elements of this set, and then over those of `other` that this set lacks.
+    /// It does not allocate. A step hashes each element that it looks up, once.
     pub fn union<'a>(&'a self, other: &'a Self) -> Union<'a, T, S>
         ensures rest { union_rest T.eq result ≡ union_of T.eq (elements_of self.now) (elements_of other.now) }
         ensures unique { IsDistinct T.eq (union_rest T.eq result) }
@@ -53,7 +56,8 @@ impl<T: Eq + Hash, S: BuildHasher> LinkedHashSet<T, S> {
         Union::of(&self.map, &other.map)
     }
 
-    /// A walk over the elements that `other` lacks, and then over those of `other` that this set lacks.
+    /// Returns an iterator over the elements that `other` lacks, and then over those of `other` that this set
+    /// lacks. It does not allocate. A step hashes each element that it looks up, once.
     pub fn symmetric_difference<'a>(&'a self, other: &'a Self) -> SymmetricDifference<'a, T, S>
         ensures rest { symmetric_difference_rest T.eq result
             ≡ symmetric_difference_of T.eq (elements_of self.now) (elements_of other.now) }
@@ -66,23 +70,24 @@ impl<T: Eq + Hash, S: BuildHasher> LinkedHashSet<T, S> {
         SymmetricDifference::of(&self.map, &other.map)
     }
 
-    /// Whether no element of this set is in `other`. It looks for each element of this set, up to the first
-    /// that is.
+    /// Returns whether no element of this set is in `other`. It looks up each element of this set in `other`,
+    /// up to the first that is there.
     pub fn is_disjoint(&self, other: &Self) -> bool
         ensures { result ≡ is_disjoint T.eq (elements_of self.now) (elements_of other.now) }
     {
         self.intersection(other).next().is_none()
     }
 
-    /// Whether each element of this set is in `other`. It looks for each element of this set, up to the first
-    /// that is not.
+    /// Returns whether each element of this set is in `other`. It looks up each element of this set in
+    /// `other`, up to the first that is not there.
     pub fn is_subset(&self, other: &Self) -> bool
         ensures { result ≡ is_subset T.eq (elements_of self.now) (elements_of other.now) }
     {
         self.difference(other).next().is_none()
     }
 
-    /// Whether each element of `other` is in this set.
+    /// Returns whether each element of `other` is in this set. It looks up each element of `other` in this
+    /// set, up to the first that is not there.
     pub fn is_superset(&self, other: &Self) -> bool
         ensures { result ≡ is_subset T.eq (elements_of other.now) (elements_of self.now) }
     {

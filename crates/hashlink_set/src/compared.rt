@@ -1,12 +1,12 @@
-//! Sets compared and hashed: by their elements in order, whatever the hashers are. There is no order between
-//! sets.
+//! Comparisons and hashing of sets: by their elements in order, whatever the hashers are. There is no order
+//! between sets.
 ghost use Rattle.hashlink_set.specs.Compared.{sets_eq, sets_per, sets_equiv, set_hash_input, sets_alike};
 
 use crate::set::LinkedHashSet;
 use std::hash::{BuildHasher, Hash, Hasher};
 
-/// Sets are equal where they have as many elements, and an equal one at each place. It takes a step for each
-/// element up to the first that differs.
+/// Two sets are equal if they have the same number of elements, and equal ones at each place. A comparison
+/// takes linear time, up to the first element that differs.
 impl<T: Eq + Hash, S: BuildHasher> PartialEq for LinkedHashSet<T, S> {
     ghost eq = { sets_eq T.eq };
 
@@ -30,7 +30,7 @@ impl<T: Eq + Hash, S: BuildHasher> Eq for LinkedHashSet<T, S> {
     ghost laws = { sets_equiv T.Eq.laws };
 }
 
-/// A set feeds a hasher its elements in order, and no length, so that equal sets are hashed alike.
+/// Hashes a set by its elements in order and no length, so that equal sets have equal hashes.
 impl<T: Eq + Hash, S: BuildHasher> Hash for LinkedHashSet<T, S> {
     ghost hash_input = { set_hash_input T.hash_input };
 

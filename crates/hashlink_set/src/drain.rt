@@ -1,4 +1,4 @@
-//! A walk that takes the elements out of a set that it borrows.
+//! The draining iterator of a set.
 ghost use Rattle.std.specs.Prelude.{◌≡◌, Some, IfSome, length};
 ghost use Rattle.std.specs.Iterator.{at_most, UpTo};
 ghost use Rattle.std.specs.Iterator.SizeHint.{IsWithinCount};
@@ -9,8 +9,8 @@ use hashlink_map::DefaultHashBuilder;
 use std::hash::{BuildHasher, Hash};
 use std::iter::FusedIterator;
 
-/// A walk that gives the elements of a set away, front first. At its end, early or not, the set is empty and
-/// every node is spare.
+/// An iterator that removes the elements of a set and returns them, from front to back. When it is dropped,
+/// exhausted or not, the set is empty and every node is spare.
 pub struct Drain<'a, T: Eq + Hash, S: BuildHasher = DefaultHashBuilder> {
     pub(crate) set: &'a mut LinkedHashSet<T, S>,
 }
@@ -29,8 +29,8 @@ impl<'a, T: Eq + Hash + Drop, S: BuildHasher> Drop for Drain<'a, T, S> {
 impl<T: Eq + Hash + Drop, S: BuildHasher> LinkedHashSet<T, S> {
     ghost use Rattle.hashlink_set.specs.Drain.{drained_set};
 
-    /// A walk that takes the elements out, front first. At its end, early or not, the set is empty. It takes
-    /// constant time and no memory.
+    /// Returns an iterator that removes the elements and returns them, from front to back. When the iterator
+    /// is dropped, exhausted or not, the set is empty. The call takes constant time and does not allocate.
     pub fn drain(&mut self) -> Drain<'_, T, S>
         ensures same_set { (drained_set result).ghost_name ≡ self.entry.ghost_name }
         ensures unchanged { (drained_set result).now ≡ self.old }

@@ -1,4 +1,4 @@
-//! Many elements in a row: each goes in by `insert`, in turn.
+//! Inserts of many elements, each in turn by `insert`.
 ghost use Rattle.std.specs.Prelude.{List, [], None, OnOk, IfErr, map};
 ghost use Rattle.std.specs.Iterator.{IsFinite, IsFiniteIterable, Yields, YieldsThen};
 ghost use Rattle.std.specs.Map.Iter.{deref};
@@ -14,10 +14,11 @@ use std::alloc::AllocError;
 use std::hash::{BuildHasher, Hash};
 
 impl<T: Eq + Hash + Drop, S: BuildHasher> LinkedHashSet<T, S> {
-    /// Inserts each element in turn, as `insert` does, and costs that for each. The iterator has to end.
+    /// Inserts each element in turn, as `insert` does, at the cost of an insert for each. The iterator has to
+    /// end. No room is reserved in advance.
     ///
-    /// Where the memory for an element is refused, those before it are in, it is handed back, and nothing
-    /// after it is read. No room is made before an element needs it.
+    /// If an allocation for an element fails, the elements before it stay inserted. The error contains that
+    /// element and their number. No further element is read.
     pub fn extend<I: IntoIterator<Item = T>>(&mut self, iter: I) -> Result<(), ExtendError<T, ()>>
         requires { IsFiniteIterable I.into_iter_gives I.IntoIter.can_next I.IntoIter.remaining iter }
         ensures all { OnOk result (ReadsAll I.into_iter_gives I.IntoIter.next_gives iter
@@ -29,8 +30,8 @@ impl<T: Eq + Hash + Drop, S: BuildHasher> LinkedHashSet<T, S> {
         self.extend_from(&mut rest)
     }
 
-    /// The same out of an iterator that its caller keeps: it is left with the elements after the refused one,
-    /// or with none.
+    /// Does the same as `extend` with an iterator that the caller keeps. If an allocation fails, the elements
+    /// after the one in the error are left in the iterator. Otherwise none is left.
     pub fn extend_from<I: Iterator<Item = T>>(
         &mut self,
         iter: &mut I,
@@ -59,8 +60,8 @@ impl<T: Eq + Hash + Drop, S: BuildHasher> LinkedHashSet<T, S> {
 impl<'a, T: Eq + Hash + Copy + 'a, S: BuildHasher> LinkedHashSet<T, S> {
     /// Inserts a copy of each element in turn, as `extend` does.
     ///
-    /// Where the memory for an element is refused, those before it are in, its copy is handed back, and
-    /// nothing after it is read.
+    /// If an allocation for an element fails, the elements before it stay inserted. The error contains the
+    /// copy of that element and their number. No further element is read.
     pub fn extend_ref<I: IntoIterator<Item = &'a T>>(
         &mut self,
         iter: I,
@@ -86,7 +87,7 @@ impl<'a, T: Eq + Hash + Copy + 'a, S: BuildHasher> LinkedHashSet<T, S> {
     }
 }
 
-/// The elements go in as by the function `extend`. The refused one is dropped.
+/// Inserts the elements as the function `extend` does. An element that is not inserted is dropped.
 impl<T: Eq + Hash + Drop, S: BuildHasher> Extend<T> for LinkedHashSet<T, S> {
     ghost extend_gives = { TakesItems (SetInserts T.eq) (Grows 1) };
 
@@ -96,7 +97,7 @@ impl<T: Eq + Hash + Drop, S: BuildHasher> Extend<T> for LinkedHashSet<T, S> {
     }
 }
 
-/// Copies of the elements go in as by the function `extend_ref`.
+/// Inserts copies of the elements as the function `extend_ref` does.
 impl<'a, T: Eq + Hash + Copy + 'a, S: BuildHasher> Extend<&'a T> for LinkedHashSet<T, S> {
     ghost extend_gives = { λ old items. TakesItems (SetInserts T.eq) (Grows 1) old (map deref items) };
 

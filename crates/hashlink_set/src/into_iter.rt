@@ -1,4 +1,4 @@
-//! A walk that takes the elements out of a set that it owns.
+//! The owning iterator of a set.
 ghost use Rattle.std.specs.Prelude.{◌≡◌, ◌^◌, ◌<◌, Some, IfSome, length};
 ghost use Rattle.std.specs.Iterator.{at_most, UpTo};
 ghost use Rattle.std.specs.Iterator.SizeHint.{IsWithinCount};
@@ -12,8 +12,8 @@ use std::hash::{BuildHasher, Hash};
 use std::iter::FusedIterator;
 use std::marker::Model;
 
-/// A walk that gives the elements away, front first. Contracts see it as the list of the elements that it has
-/// left. Its end drops those that it has not given, and gives every node and the table back.
+/// An owning iterator over the elements, from front to back. Contracts see it as the list of the elements
+/// that are left. When it is dropped, it drops these elements, and frees every node and the table.
 #[derive(Drop)]
 pub struct IntoIter<T: Eq + Hash, S: BuildHasher = DefaultHashBuilder> {
     pub(crate) set: LinkedHashSet<T, S>,

@@ -1,4 +1,5 @@
-//! `LinkedHashSet`: a hash set that keeps an order which its caller controls, and set algebra.
+//! `LinkedHashSet`: a hash set that keeps its elements in an order which the caller controls, and set
+//! algebra.
 #![tactic(auto)]
 
 mod algebra;

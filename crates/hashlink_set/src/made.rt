@@ -1,5 +1,5 @@
-//! Sets that are made whole: of the items of an iterator, as a clone, and of clones of what two sets give
-//! together.
+//! Sets that are built whole: from the items of an iterator, as a clone, and from clones of the elements that
+//! two sets yield together.
 ghost use Rattle.std.specs.Prelude.{◌≡◌, List, [], Bool, Ok, IfOk, OnOk, OnErr, map};
 ghost use Rattle.std.specs.Borrow.{Bor};
 ghost use Rattle.std.specs.Iterator.{Drains, IsFinite, IsFiniteIterable};
@@ -19,10 +19,10 @@ use std::hash::{BuildHasher, Hash};
 use std::ops::{BitAnd, BitOr, BitXor, Sub};
 
 impl<T: Eq + Hash + Drop, S: BuildHasher + Default + Drop> LinkedHashSet<T, S> {
-    /// A set of the items, each inserted in turn as `insert` does, that hashes by `S::default()`. It costs an
-    /// insert for each item. The iterator has to end. No room is made before an item needs it.
+    /// Builds a set from the items, each inserted in turn as by `insert`. It hashes with `S::default()`. It
+    /// costs an insert for each item. The iterator has to end. No room is reserved in advance.
     ///
-    /// It returns `AllocError` where the memory for an item is refused, and then nothing is left of the set.
+    /// If an allocation for an item fails, it returns `AllocError`, and nothing is left of the set.
     pub fn from_iter<I: IntoIterator<Item = T>>(alloc: Global, iter: I) -> Result<Self, AllocError>
         requires { IsFiniteIterable I.into_iter_gives I.IntoIter.can_next I.IntoIter.remaining iter }
         ensures { IfOk result (λ set. (s : S) × S.is_default s
@@ -35,7 +35,7 @@ impl<T: Eq + Hash + Drop, S: BuildHasher + Default + Drop> LinkedHashSet<T, S> {
     }
 }
 
-/// `collect(alloc)` makes a set of the items as the function `from_iter` does.
+/// `collect(alloc)` builds a set from the items, as the function `from_iter` does.
 impl<T: Eq + Hash + Drop, S: BuildHasher + Default + Drop> FromIterator<T> for LinkedHashSet<T, S> {
     type Alloc = Global;
 
@@ -47,12 +47,12 @@ impl<T: Eq + Hash + Drop, S: BuildHasher + Default + Drop> FromIterator<T> for L
 }
 
 impl<T: Eq + Hash + Clone, S: BuildHasher + Clone> LinkedHashSet<T, S> {
-    /// A set with a clone of the hasher, in which a clone of each element was inserted in turn, front first.
-    /// It is in the same allocator's memory, and has no spare node. It costs a clone and an insert for each
+    /// Returns a clone: a set with a clone of the hasher and a clone of each element, inserted in turn from
+    /// the front. It uses the same allocator, and has no spare node. It costs a clone and an insert for each
     /// element.
     ///
-    /// It returns `AllocError` where the memory for a clone or for a node is refused, and then nothing is
-    /// left of the new set. A clone of an empty set is not refused where that of its hasher is not.
+    /// If an allocation for a clone or for a node fails, it returns `AllocError`, and nothing is left of the
+    /// new set. The clone of an empty set fails only if the clone of its hasher does.
     pub fn clone(&self) -> Result<Self, AllocError>
         ensures made { IfOk result (IsOfClones T.eq T.is_clone (S.is_clone self.now.hasher)
             (elements_of self.now)) }
@@ -66,7 +66,7 @@ impl<T: Eq + Hash + Clone, S: BuildHasher + Clone> LinkedHashSet<T, S> {
     }
 }
 
-/// What holds a set may be cloned with it: a clone is made as the function `clone` makes it.
+/// A type that holds a set can be cloned with it: a clone is made by the function `clone`.
 impl<T: Eq + Hash + Clone, S: BuildHasher + Clone> Clone for LinkedHashSet<T, S> {
     ghost is_clone = { λ set. IsOfClones T.eq T.is_clone (S.is_clone set.hasher) (elements_of set) };
 
@@ -77,7 +77,7 @@ impl<T: Eq + Hash + Clone, S: BuildHasher + Clone> Clone for LinkedHashSet<T, S>
     }
 }
 
-/// A set that hashes by `hash_builder`, in which a clone of each element that `rest` gives was inserted in
+/// Builds a set that hashes with `hash_builder`, from a clone of each element that `rest` yields, inserted in
 /// turn.
 fn of_clones<'a, T: Eq + Hash + Clone + 'a, S: BuildHasher + Drop, I: Iterator<Item = &'a T>>(
     alloc: Global,
@@ -109,11 +109,11 @@ impl<T: Eq + Hash + Clone, S: BuildHasher> LinkedHashSet<T, S> {
     }
 }
 
-/// `&a | &b`: clones of what `union` gives, in the left set's allocator's memory. It costs
-/// that iterator, and a clone and an insert for each element that it gives.
+/// `&a | &b`: clones of what `union` yields. They are allocated by the left set's allocator. It costs that
+/// iterator, and a clone and an insert for each element.
 ///
-/// It returns `AllocError` where the memory for a clone or for a node is refused, and then nothing is left of
-/// the new set.
+/// If an allocation for a clone or for a node fails, it returns `AllocError`, and nothing is left of the new
+/// set.
 impl<'a, 'b, T: Eq + Hash + Clone, S: BuildHasher + Default + Drop> BitOr<&'b LinkedHashSet<T, S>>
     for &'a LinkedHashSet<T, S> {
     type Output = Result<LinkedHashSet<T, S>, AllocError>;
@@ -126,11 +126,11 @@ impl<'a, 'b, T: Eq + Hash + Clone, S: BuildHasher + Default + Drop> BitOr<&'b Li
     }
 }
 
-/// `&a & &b`: clones of what `intersection` gives, in the left set's allocator's memory. It costs
-/// that iterator, and a clone and an insert for each element that it gives.
+/// `&a & &b`: clones of what `intersection` yields. They are allocated by the left set's allocator. It costs
+/// that iterator, and a clone and an insert for each element.
 ///
-/// It returns `AllocError` where the memory for a clone or for a node is refused, and then nothing is left of
-/// the new set.
+/// If an allocation for a clone or for a node fails, it returns `AllocError`, and nothing is left of the new
+/// set.
 impl<'a, 'b, T: Eq + Hash + Clone, S: BuildHasher + Default + Drop> BitAnd<&'b LinkedHashSet<T, S>>
     for &'a LinkedHashSet<T, S> {
     type Output = Result<LinkedHashSet<T, S>, AllocError>;
@@ -143,11 +143,11 @@ impl<'a, 'b, T: Eq + Hash + Clone, S: BuildHasher + Default + Drop> BitAnd<&'b L
     }
 }
 
-/// `&a ^ &b`: clones of what `symmetric_difference` gives, in the left set's allocator's memory. It costs
-/// that iterator, and a clone and an insert for each element that it gives.
+/// `&a ^ &b`: clones of what `symmetric_difference` yields. They are allocated by the left set's allocator.
+/// It costs that iterator, and a clone and an insert for each element.
 ///
-/// It returns `AllocError` where the memory for a clone or for a node is refused, and then nothing is left of
-/// the new set.
+/// If an allocation for a clone or for a node fails, it returns `AllocError`, and nothing is left of the new
+/// set.
 impl<'a, 'b, T: Eq + Hash + Clone, S: BuildHasher + Default + Drop> BitXor<&'b LinkedHashSet<T, S>>
     for &'a LinkedHashSet<T, S> {
     type Output = Result<LinkedHashSet<T, S>, AllocError>;
@@ -160,11 +160,11 @@ impl<'a, 'b, T: Eq + Hash + Clone, S: BuildHasher + Default + Drop> BitXor<&'b L
     }
 }
 
-/// `&a - &b`: clones of what `difference` gives, in the left set's allocator's memory. It costs
-/// that iterator, and a clone and an insert for each element that it gives.
+/// `&a - &b`: clones of what `difference` yields. They are allocated by the left set's allocator. It costs
+/// that iterator, and a clone and an insert for each element.
 ///
-/// It returns `AllocError` where the memory for a clone or for a node is refused, and then nothing is left of
-/// the new set.
+/// If an allocation for a clone or for a node fails, it returns `AllocError`, and nothing is left of the new
+/// set.
 impl<'a, 'b, T: Eq + Hash + Clone, S: BuildHasher + Default + Drop> Sub<&'b LinkedHashSet<T, S>>
     for &'a LinkedHashSet<T, S> {
     type Output = Result<LinkedHashSet<T, S>, AllocError>;

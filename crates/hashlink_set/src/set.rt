@@ -1,5 +1,5 @@
-//! The set. A clause sees it as a map's state with nothing as value: its elements, front first, and the
-//! numbers of spare nodes, of room and of stored links.
+//! The set. A clause sees it as the state of a map with values of type `()`: the elements from front to back,
+//! and the numbers of spare nodes, of room and of stored links.
 ghost use Rattle.std.specs.Prelude.{◌≡◌, ◌^◌, ◌<◌, ◌↔◌, length, IfOk, IsOk, IsTrue, Err};
 ghost use Rattle.std.specs.List.{IsDistinct};
 ghost use Rattle.hashlink_model.specs.MapState.{empty_map, HasRoom};
@@ -19,12 +19,12 @@ use std::alloc::Global;
 use std::hash::{BuildHasher, Hash};
 use std::marker::Model;
 
-/// A hash set whose elements stand in one order, front first. An insert puts its element last, and moves one
-/// that is there to the end.
+/// A hash set whose elements are in one order, from front to back. An insert puts its element at the back. If
+/// an equal element is present, that one moves to the back.
 #[derive(Drop)]
 pub struct LinkedHashSet<T: Eq + Hash, S: BuildHasher = DefaultHashBuilder> {
     pub(crate) map: LinkedHashMap<T, (), S>,
-    // The allocator of the map, for the sets that the operators make of this one.
+    // The allocator of the map, for the sets that the operators build from this one.
     pub(crate) alloc: Global,
 }
 
@@ -40,18 +40,18 @@ impl<T: Eq + Hash, S: BuildHasher> Model for LinkedHashSet<T, S> {
 impl<T: Eq + Hash> LinkedHashSet<T, DefaultHashBuilder> {
     ghost use Rattle.hashlink_core.specs.Hashing.{default_builder};
 
-    /// An empty set, which hashes by `DefaultHasher`. It takes no memory.
+    /// Creates an empty set, which hashes with `DefaultHasher`. It does not allocate.
     pub fn new(alloc: Global) -> Self
         ensures { result ≡ empty_map default_builder }
     {
         LinkedHashSet::with_hasher(alloc, DefaultHashBuilder)
     }
 
-    /// An empty set with room for so many elements, which hashes by `DefaultHasher`. For none it takes no
-    /// memory.
+    /// Creates an empty set with room for `capacity` elements, which hashes with `DefaultHasher`. It does not
+    /// allocate if `capacity` is 0.
     ///
-    /// It returns `CapacityOverflow` for more than 2 to the power of 62 elements, and `AllocError` where the
-    /// memory is refused.
+    /// It returns `CapacityOverflow` if `capacity` is above 2 to the power of 62, and `AllocError` if the
+    /// allocation fails.
     pub fn with_capacity(alloc: Global, capacity: usize) -> Result<Self, TryReserveError>
         ensures made { IfOk result (IsMadeWith capacity default_builder) }
         ensures none { capacity ≡ 0 → IsOk result }
@@ -62,7 +62,7 @@ impl<T: Eq + Hash> LinkedHashSet<T, DefaultHashBuilder> {
 }
 
 impl<T: Eq + Hash, S: BuildHasher> LinkedHashSet<T, S> {
-    /// An empty set that hashes by `hash_builder`. It takes no memory.
+    /// Creates an empty set that hashes with `hash_builder`. It does not allocate.
     pub fn with_hasher(alloc: Global, hash_builder: S) -> Self
         ensures { result ≡ empty_map hash_builder }
     {
@@ -72,11 +72,11 @@ impl<T: Eq + Hash, S: BuildHasher> LinkedHashSet<T, S> {
         }
     }
 
-    /// An empty set with room for so many elements that hashes by `hash_builder`. For none it takes no
-    /// memory.
+    /// Creates an empty set with room for `capacity` elements, which hashes with `hash_builder`. It does not
+    /// allocate if `capacity` is 0.
     ///
-    /// It returns `CapacityOverflow` for more than 2 to the power of 62 elements, and `AllocError` where the
-    /// memory is refused.
+    /// It returns `CapacityOverflow` if `capacity` is above 2 to the power of 62, and `AllocError` if the
+    /// allocation fails.
     pub fn with_capacity_and_hasher(
         alloc: Global,
         capacity: usize,
@@ -92,36 +92,36 @@ impl<T: Eq + Hash, S: BuildHasher> LinkedHashSet<T, S> {
         Ok(LinkedHashSet { map, alloc })
     }
 
-    /// How many elements there are. It takes constant time.
+    /// Returns the number of elements. It takes constant time.
     pub fn len(&self) -> usize
         ensures len { result ≡ length (elements_of self.now) }
         ensures small { result < 2 ^ 63 }
 
-        // No two elements are equal, of this set as of every set.
+        // No two elements are equal, in this set as in every set.
         ensures distinct { IsDistinct T.eq (elements_of self.now) }
     {
         self.map.len()
     }
 
-    /// Whether there is no element. It takes constant time.
+    /// Returns whether the set is empty. It takes constant time.
     pub fn is_empty(&self) -> bool
         ensures { IsTrue result ↔ (length (elements_of self.now) ≡ 0) }
     {
         self.len() == 0
     }
 
-    /// How many elements the set can have before its table has to grow. It takes constant time, and no
-    /// memory.
+    /// Returns the number of elements that the set can hold before its table has to grow. It takes constant
+    /// time and does not allocate.
     pub fn capacity(&self) -> usize
         ensures capacity { result ≡ self.now.room }
 
-        // There is room for every node, in use and spare, of this set as of every set.
+        // There is room for every node, in use or spare, in this set as in every set.
         ensures enough { HasRoom self.now }
     {
         self.map.capacity()
     }
 
-    /// What makes the set's hashers.
+    /// Returns a reference to the set's `BuildHasher`.
     pub fn hasher(&self) -> &S
         ensures { result.now ≡ self.now.hasher }
     {

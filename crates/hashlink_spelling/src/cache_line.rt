@@ -23,7 +23,7 @@ pub enum CacheLine {
 impl CacheLine {
     ghost use Rattle.hashlink_spelling.specs.CachesSay.{cache_says};
 
-    /// What the line says, or nothing where it is bad. It reads the line once.
+    /// Returns what the line says, or `None` if it is bad. It reads the line once.
     pub fn parse(text: &[u8]) -> Option<CacheLine>
         ensures { result ≡ cache_says text.now }
     {
@@ -38,7 +38,7 @@ impl CacheLine {
     }
 }
 
-// What a word says that stands alone.
+// Returns what a word says that stands alone.
 fn said_alone(name: &[u8]) -> Option<CacheLine>
     ensures { result ≡ lookup (bytes_eq name.now) lone_cache_words }
 {
@@ -53,7 +53,7 @@ fn said_alone(name: &[u8]) -> Option<CacheLine>
     )
 }
 
-// What a word says before a key, or before a capacity.
+// Returns what a word says before a key, or before a capacity.
 fn said_of_number(name: &[u8], number: u64) -> Option<CacheLine>
     ensures { result ≡ lookup (bytes_eq name.now) (cache_words_of_number number) }
 {
@@ -72,7 +72,7 @@ fn said_of_number(name: &[u8], number: u64) -> Option<CacheLine>
     )
 }
 
-// What a word says before a key and a value.
+// Returns what a word says before a key and a value.
 fn said_of_pair(name: &[u8], key: u64, value: u64) -> Option<CacheLine>
     ensures { result ≡ lookup (bytes_eq name.now) (cache_words_of_pair key value) }
 {

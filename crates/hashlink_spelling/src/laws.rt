@@ -19,8 +19,8 @@ pub fn spelling_says_it()
         → says text ≡ Some said }
 {}
 
-/// Lines end at a byte 10, and what follows the last one is a line where it isn't empty. A byte 13 is
-/// like any other.
+/// A line ends at a byte 10. What follows the last one is a line if it is not empty. A byte 13 is like any
+/// other.
 pub fn lines_of_texts()
     ensures empty { lines_of [] ≡ [] }
     ensures lone_end { lines_of (codes "\n") ≡ [] ∷ [] }

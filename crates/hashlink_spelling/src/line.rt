@@ -27,9 +27,9 @@ pub enum Line {
 impl Line {
     ghost use Rattle.hashlink_spelling.specs.Says.{says};
 
-    /// What the line says, or nothing where it is bad. It reads the line once.
+    /// Returns what the line says, or `None` if it is bad. It reads the line once.
     ///
-    /// Memory is taken for the steps of a cursor alone. Where that is refused it returns `AllocError`.
+    /// It allocates only for the steps of a cursor. If that allocation fails, it returns `AllocError`.
     pub fn parse(alloc: Global, text: &[u8]) -> Result<Option<Line>, AllocError>
         ensures { IfOk result (λ line. option_map said line ≡ says text.now) }
     {
@@ -45,7 +45,7 @@ impl Line {
     }
 }
 
-// What a word says with the words after it.
+// Returns what a word says with the words after it.
 fn said_of_name(name: &[u8], words: Words<'_>) -> Option<Line>
     ensures { option_map said result ≡ said_in words_before name.now (parts_left 32 words.entry.rest) }
 {
@@ -57,7 +57,7 @@ fn said_of_name(name: &[u8], words: Words<'_>) -> Option<Line>
     }
 }
 
-// What a word says that stands alone.
+// Returns what a word says that stands alone.
 fn said_alone(name: &[u8]) -> Option<Line>
     ensures { option_map said result ≡ lookup (bytes_eq name.now) lone_words }
 {
@@ -84,7 +84,7 @@ fn said_alone(name: &[u8]) -> Option<Line>
     }
 }
 
-// What a word says before one number.
+// Returns what a word says before one number.
 fn said_of_key(name: &[u8], key: u64) -> Option<Line>
     ensures { option_map said result ≡ lookup (bytes_eq name.now) (words_of_key key) }
 {
@@ -101,7 +101,7 @@ fn said_of_key(name: &[u8], key: u64) -> Option<Line>
     }
 }
 
-// What a word says before two numbers.
+// Returns what a word says before two numbers.
 fn said_of_pair(name: &[u8], key: u64, value: u64) -> Option<Line>
     ensures { option_map said result ≡ lookup (bytes_eq name.now) (words_of_pair key value) }
 {
@@ -116,7 +116,7 @@ fn said_of_pair(name: &[u8], key: u64, value: u64) -> Option<Line>
     }
 }
 
-// What the words after `entry` say: a key, what is done at its place, and the value for it.
+// Returns what the words after `entry` say: a key, what is done at its place, and the value for it.
 fn said_of_entry(mut words: Words<'_>) -> Option<Line>
     ensures { option_map said result ≡ entry_said (parts_left 32 words.entry.rest) }
 {
@@ -126,7 +126,7 @@ fn said_of_entry(mut words: Words<'_>) -> Option<Line>
     Some(Line::Do(Command::Entry(key, step)))
 }
 
-// What a word says is done at a key's place, with the words after it.
+// Returns the step at a key's place that a word says, with the words after it.
 fn said_of_step(name: &[u8], words: Words<'_>) -> Option<EntryStep<u64>>
     ensures { result ≡ said_in steps_before name.now (parts_left 32 words.entry.rest) }
 {
@@ -137,7 +137,7 @@ fn said_of_step(name: &[u8], words: Words<'_>) -> Option<EntryStep<u64>>
     }
 }
 
-// The step of a word that stands alone.
+// Returns the step of a word that stands alone.
 fn step_alone(name: &[u8]) -> Option<EntryStep<u64>>
     ensures { result ≡ lookup (bytes_eq name.now) lone_steps }
 {
@@ -152,7 +152,7 @@ fn step_alone(name: &[u8]) -> Option<EntryStep<u64>>
     )
 }
 
-// The step of a word before a value.
+// Returns the step of a word before a value.
 fn step_of_value(name: &[u8], value: u64) -> Option<EntryStep<u64>>
     ensures { result ≡ lookup (bytes_eq name.now) (steps_of_value value) }
 {
@@ -167,7 +167,7 @@ fn step_of_value(name: &[u8], value: u64) -> Option<EntryStep<u64>>
     )
 }
 
-// What the words after `cursor` say: one step or more.
+// Returns what the words after `cursor` say: one step or more.
 fn said_of_cursor(alloc: Global, mut words: Words<'_>) -> Result<Option<Line>, AllocError>
     ensures { IfOk result (λ line. option_map said line ≡ cursor_said (parts_left 32 words.entry.rest)) }
 {
@@ -184,7 +184,7 @@ fn said_of_cursor(alloc: Global, mut words: Words<'_>) -> Result<Option<Line>, A
     Ok(Some(Line::Do(Command::Cursor(steps))))
 }
 
-// The step of this name, which reads the numbers that stand after it.
+// Returns the step of this name, which reads the numbers that stand after it.
 fn cursor_step(name: &[u8], words: &mut Words<'_>) -> Option<CursorStep<u64, u64>>
     ensures said { result ≡ said_in cursor_steps_before name.now
         (take (numbers_after name.now) (parts_left 32 words.old.rest)) }
@@ -200,7 +200,7 @@ fn cursor_step(name: &[u8], words: &mut Words<'_>) -> Option<CursorStep<u64, u64
     }
 }
 
-// The step of a name that stands alone.
+// Returns the step of a name that stands alone.
 fn cursor_step_alone(name: &[u8]) -> Option<CursorStep<u64, u64>>
     ensures { result ≡ lookup (bytes_eq name.now) lone_cursor_steps }
 {
@@ -216,7 +216,7 @@ fn cursor_step_alone(name: &[u8]) -> Option<CursorStep<u64, u64>>
     )
 }
 
-// The step of a name before a key and a value.
+// Returns the step of a name before a key and a value.
 fn cursor_step_of_pair(name: &[u8], key: u64, value: u64) -> Option<CursorStep<u64, u64>>
     ensures { result ≡ lookup (bytes_eq name.now) (cursor_steps_of_pair key value) }
 {
@@ -229,7 +229,7 @@ fn cursor_step_of_pair(name: &[u8], key: u64, value: u64) -> Option<CursorStep<u
     )
 }
 
-// Whether it is that word.
+// Returns whether it is that word.
 fn is(name: &[u8], word: &[u8]) -> bool
     ensures { result ≡ bytes_eq name.now word.now }
 {

@@ -20,7 +20,7 @@ pub enum Mode {
     Weighted(u64),
 }
 
-/// The mode that the line names, or nothing where it is bad.
+/// Returns the mode that the line names, or `None` if it is bad.
 pub fn mode_of(line: &[u8]) -> Option<Mode>
     ensures { result ≡ mode_said line.now }
 {
@@ -34,7 +34,7 @@ pub fn mode_of(line: &[u8]) -> Option<Mode>
     }
 }
 
-// The mode of a word before a capacity, or before a budget.
+// Returns the mode of a word before a capacity, or before a budget.
 fn mode_of_number(name: &[u8], number: u64) -> Option<Mode>
     ensures { result ≡ lookup (bytes_eq name.now) (modes_of_number number) }
 {
@@ -48,7 +48,7 @@ fn mode_of_number(name: &[u8], number: u64) -> Option<Mode>
     )
 }
 
-// The mode of a word before two capacities.
+// Returns the mode of a word before two capacities.
 fn mode_of_two(name: &[u8], small: u64, large: u64) -> Option<Mode>
     ensures { result ≡ lookup (bytes_eq name.now) (modes_of_two small large) }
 {

@@ -16,7 +16,7 @@ pub(crate) enum Numbers {
     Three(u64, u64, u64),
 }
 
-// The numbers that the words spell, if each spells one and they are three at most.
+// Returns the numbers that the words spell, if each spells one and they are three at most.
 pub(crate) fn read_numbers(mut words: Words<'_>) -> Option<Numbers>
     ensures { result ≡ option_and_then three_at_most (numbers_of (parts_left 32 words.entry.rest)) }
 {
@@ -38,7 +38,7 @@ pub(crate) fn read_numbers(mut words: Words<'_>) -> Option<Numbers>
     }
 }
 
-// The number that the word spells in decimal digits, with no zero before others.
+// Returns the number that the word spells in decimal digits, with no leading zero.
 pub(crate) fn number(word: &[u8]) -> Option<u64>
     ensures { result ≡ number_of word.now }
 {
@@ -48,7 +48,7 @@ pub(crate) fn number(word: &[u8]) -> Option<u64>
     }
 }
 
-// The value of decimal digits, zeros before others among them.
+// Returns the value of decimal digits, with leading zeros or without.
 fn value(digits: &[u8]) -> Option<u64>
     ensures { result ≡ value_of digits.now }
 {
@@ -59,7 +59,7 @@ fn value(digits: &[u8]) -> Option<u64>
     Some(value)
 }
 
-// The value with one more digit at its end.
+// Returns the value with one more digit at its end.
 fn with_digit(value: u64, byte: u8) -> Option<u64>
     ensures { SomeIff result
         (IsInRange 48 57 byte × (value * 10 + (byte - 48) < 2 ^ 64))

@@ -8,7 +8,7 @@ use crate::tables::said_by;
 use crate::words::Words;
 use hashlink_commands::PairCommand;
 
-/// What a line to two caches says, or nothing where it is bad. It reads the line once.
+/// Returns what a line to two caches says, or `None` if it is bad. It reads the line once.
 pub fn pair_command(text: &[u8]) -> Option<PairCommand<u64, u64>>
     ensures { result ≡ pair_says text.now }
 {
@@ -22,7 +22,7 @@ pub fn pair_command(text: &[u8]) -> Option<PairCommand<u64, u64>>
     }
 }
 
-// What a word says before a key.
+// Returns what a word says before a key.
 fn said_of_key(name: &[u8], key: u64) -> Option<PairCommand<u64, u64>>
     ensures { result ≡ lookup (bytes_eq name.now) (pair_words_of_key key) }
 {
@@ -35,7 +35,7 @@ fn said_of_key(name: &[u8], key: u64) -> Option<PairCommand<u64, u64>>
     )
 }
 
-// What a word says before a key and a value.
+// Returns what a word says before a key and a value.
 fn said_of_pair(name: &[u8], key: u64, value: u64) -> Option<PairCommand<u64, u64>>
     ensures { result ≡ lookup (bytes_eq name.now) (pair_words_of_pair key value) }
 {

@@ -11,13 +11,13 @@ use crate::words::Words;
 /// What a line to a cache with a budget says.
 #[derive(Clone, Copy)]
 pub enum WeightedLine {
-    /// Puts the pair of the key and the value last, with the weight that comes third.
+    /// Inserts the pair of the key and the value at the back, with the weight that comes third.
     Insert(u64, u64, u64),
-    /// Moves the key's pair to the end, and reads it.
+    /// Moves the key's pair to the back, and reads it.
     Get(u64),
-    /// Reads the key's pair where it stands.
+    /// Reads the key's pair at its place.
     Peek(u64),
-    /// Takes the key's pair out, for its value.
+    /// Removes the key's pair, for its value.
     Remove(u64),
     /// Asks for the sum of the weights.
     Total,
@@ -30,7 +30,7 @@ pub enum WeightedLine {
 impl WeightedLine {
     ghost use Rattle.hashlink_spelling.specs.CachesSay.{weighted_says};
 
-    /// What the line says, or nothing where it is bad. It reads the line once.
+    /// Returns what the line says, or `None` if it is bad. It reads the line once.
     pub fn parse(text: &[u8]) -> Option<WeightedLine>
         ensures { result ≡ weighted_says text.now }
     {
@@ -45,7 +45,7 @@ impl WeightedLine {
     }
 }
 
-// What a word says that stands alone.
+// Returns what a word says that stands alone.
 fn said_alone(name: &[u8]) -> Option<WeightedLine>
     ensures { result ≡ lookup (bytes_eq name.now) lone_weighted_words }
 {
@@ -59,7 +59,7 @@ fn said_alone(name: &[u8]) -> Option<WeightedLine>
     )
 }
 
-// What a word says before a key.
+// Returns what a word says before a key.
 fn said_of_key(name: &[u8], key: u64) -> Option<WeightedLine>
     ensures { result ≡ lookup (bytes_eq name.now) (weighted_words_of_key key) }
 {
@@ -73,7 +73,7 @@ fn said_of_key(name: &[u8], key: u64) -> Option<WeightedLine>
     )
 }
 
-// What a word says before a key, a value and a weight.
+// Returns what a word says before a key, a value and a weight.
 fn said_of_entry(name: &[u8], key: u64, value: u64, weight: u64) -> Option<WeightedLine>
     ensures { result ≡ lookup (bytes_eq name.now) (weighted_words_of_entry key value weight) }
 {

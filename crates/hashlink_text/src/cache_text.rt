@@ -16,7 +16,7 @@ use hashlink_run::answer_cache;
 use hashlink_spelling::{CacheLine, Lines};
 use std::alloc::{AllocError, Global};
 
-// Answers the lines from an empty cache of this capacity on.
+// Pushes the answers to the lines, which speak to a cache of this capacity that is empty at first.
 pub(crate) fn run_cache_lines(
     alloc: Global,
     capacity: usize,
@@ -34,7 +34,7 @@ pub(crate) fn run_cache_lines(
     Ok(())
 }
 
-// Answers one line.
+// Pushes the answer to one line.
 fn answer_cache_line(
     cache: &mut LruCache<u64, u64>,
     line: &[u8],

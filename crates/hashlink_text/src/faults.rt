@@ -5,12 +5,12 @@ use std::alloc::AllocError;
 use std::error::Error;
 use std::fmt;
 
-/// Why a text was not answered.
+/// Why there is no answer to a text.
 #[derive(Clone, Copy, Debug, PartialEq, Eq)]
 pub enum Fault {
     /// The input could not be read to its end. Nothing was written.
     Reading,
-    /// Memory for the input or for its answer was refused. Nothing was written.
+    /// Memory for the input or for its answer ran out. Nothing was written.
     Memory,
     /// The answer could not be written. Part of it may have been.
     Writing,

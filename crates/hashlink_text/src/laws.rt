@@ -1,9 +1,9 @@
-//! Texts, and what may answer them. Each function has an empty body: its contract is the statement.
+//! Texts, and the answers that they can have. Each function has an empty body: its contract is the statement.
 ghost use Rattle.std.specs.Prelude.{◌≡◌, ◌⊎◌, ℕ, List, [], codes};
 ghost use Rattle.hashlink_text.specs.Text.{IsTranscript};
 
-/// What may answer these texts, and nothing else: where the map has no choice one text, and where an insert
-/// needs a new node one for its success and one for where memory runs out.
+/// These texts have these answers and no others: one if the map has no choice, and two if an insert needs a
+/// new node: one for its success, and one for when memory runs out.
 pub fn answers_to_texts()
     ensures no_line { (text : List ℕ) → IsTranscript [] text → text ≡ [] }
     ensures mode_alone { (text : List ℕ) → IsTranscript (codes "map") text → text ≡ [] }
@@ -16,8 +16,8 @@ pub fn answers_to_texts()
         → (text ≡ codes "-\n10\n1:10\n") ⊎ (text ≡ codes "memory\n-\nempty\n") }
 {}
 
-/// An empty map has nothing to show, to move or to take out at either end and at no entry, and its shrink
-/// does not run out of memory.
+/// An empty map has nothing to show, to move or to remove at either end or at any entry, and its shrink does
+/// not run out of memory.
 pub fn answers_of_an_empty_map()
     ensures ends { (text : List ℕ)
         → IsTranscript (codes "map\nlen\nfront\npop_back\nto_front 1\nclear\nshrink\niter\n") text
@@ -28,15 +28,15 @@ pub fn answers_of_an_empty_map()
         → text ≡ codes "-\n-\n-\n-\nempty\n" }
 {}
 
-/// A text with an insert of each kind, a read, a removal and the list, and the answer to it where no insert
-/// runs out of memory.
+/// A text with an insert of each kind, a read, a removal and the list, and its answer if no insert runs out
+/// of memory.
 pub fn a_worked_text()
     ensures { IsTranscript (codes "map\ninsert 1 10\ninsert 2 20\ninsert 1 11\nget 1\nremove 2\niter\n")
         (codes "-\n-\n10\n11\n20\n1:11\n") }
 {}
 
-/// A text with entries: one that is there moves last and keeps its value, one that is vacant goes in, and one
-/// is replaced where it stands.
+/// A text with entries: one that is occupied moves to the back and keeps its value, one that is vacant is
+/// inserted, and one is replaced at its place.
 pub fn a_worked_text_of_entries()
     ensures { IsTranscript (codes
         "map\ninsert 1 10\nentry 1 or_insert 5\nentry 2 or_insert 21\nentry 1 replace_entry 12\niter\n")

@@ -1,4 +1,4 @@
-//! The text form in which a program reads commands to a container and answers them.
+//! The text form in which a program reads commands to a container and writes the answers to them.
 #![tactic(auto)]
 
 mod cache_text;

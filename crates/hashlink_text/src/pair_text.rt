@@ -17,8 +17,9 @@ use hashlink_run::answer_call;
 use hashlink_spelling::{Lines, pair_command};
 use std::alloc::{AllocError, Global};
 
-// Answers the lines from two empty caches of these capacities on, and shows what they hold. An insert that is
-// refused is as memory that is refused for the answer.
+// Pushes the answers to the lines, which speak to two caches of these capacities that are empty at first, and
+// what the caches hold afterwards. An insert that fails to allocate counts as running out of memory for the
+// answer.
 pub(crate) fn run_pair_lines(
     alloc: Global,
     small_capacity: usize,
@@ -40,7 +41,7 @@ pub(crate) fn run_pair_lines(
     Ok(())
 }
 
-// Answers one line.
+// Pushes the answer to one line.
 fn answer_pair_line(
     small: &mut LruCache<u64, u64>,
     large: &mut LruCache<u64, u64>,
@@ -63,7 +64,7 @@ fn answer_pair_line(
     push_answers(small_answer, large_answer, out)
 }
 
-// The line that shows both answers.
+// Pushes the line that shows both answers.
 fn push_answers(small: Option<u64>, large: Option<u64>, out: &mut String) -> Result<(), AllocError>
     ensures { OnOk result (string_bytes out.new
         ≡ string_bytes out.old ++ ended (shown_by decimal small ++ (32 ∷ shown_by decimal large))) }
@@ -74,7 +75,7 @@ fn push_answers(small: Option<u64>, large: Option<u64>, out: &mut String) -> Res
     writeln!(out)
 }
 
-// A line for each cache that shows what it holds.
+// Pushes a line for each cache that shows what it holds.
 fn push_lists(
     small: &LruCache<u64, u64>,
     large: &LruCache<u64, u64>,

@@ -7,20 +7,20 @@ use crate::text::run_text;
 use std::alloc::Global;
 use std::io::{ErrorKind, Read, Write};
 
-/// Reads all that the reader gives, writes the answer of `run_text` to it, and flushes.
+/// Reads all of the reader's input, writes the answer of `run_text` to it, and flushes.
 ///
-/// The text and its answer are held in memory whole. Whether a read, a write or a growth fails is up
-/// to the reader, the writer and the memory, and no clause says it.
+/// The text and its answer are held in memory as a whole. Whether a read, a write or an allocation fails is
+/// up to the reader, the writer and the memory, and no clause says it.
 pub fn serve<R: Read, W: Write>(alloc: Global, reader: &mut R, writer: &mut W) -> Result<(), Fault>
-    // Where the reader and the writer tell their bytes, an answer to all that was read is written,
-    // and nothing else.
+    // If the bytes of the reader and the writer are known, an answer to all that was read is written, and
+    // nothing else.
     ensures answer { OnOk result (IfSome (R.remaining reader.old)
         (AppendsTranscript (W.contents writer.old) (W.contents writer.new))) }
     ensures end { OnOk result (IsAtEnd (R.remaining reader.new)) }
-    // Before the answer is whole, nothing is written.
+    // Nothing is written before the answer is complete.
     ensures reading { IsErrOf result Fault.Reading → writer.new ≡ writer.old }
     ensures memory { IsErrOf result Fault.Memory → writer.new ≡ writer.old }
-    // Where a write fails, all was read.
+    // If a write fails, all input was read.
     ensures writing { IsErrOf result Fault.Writing → IsAtEnd (R.remaining reader.new) }
 {
     let input = read_all(alloc, reader)?;
@@ -28,7 +28,7 @@ pub fn serve<R: Read, W: Write>(alloc: Global, reader: &mut R, writer: &mut W) -
     write_all(writer, &answer)
 }
 
-// All that the reader gives.
+// Returns all of the reader's input.
 fn read_all<R: Read>(alloc: Global, reader: &mut R) -> Result<Vec<u8>, Fault>
     ensures input { IfOk result (λ input. IfSome (R.remaining reader.old)
         (λ bytes. input.items ≡ bytes)) }
@@ -43,7 +43,7 @@ fn read_all<R: Read>(alloc: Global, reader: &mut R) -> Result<Vec<u8>, Fault>
     }
 }
 
-// Writes the bytes out.
+// Writes the bytes.
 fn write_all<W: Write>(writer: &mut W, bytes: &[u8]) -> Result<(), Fault>
     ensures written { OnOk result (Appends (W.contents writer.old) (W.contents writer.new) bytes.now) }
     ensures fault { IfErr result (λ fault. fault ≡ Fault.Writing) }

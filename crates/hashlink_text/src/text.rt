@@ -18,11 +18,11 @@ use hashlink_run::answer_command;
 use hashlink_spelling::{Line, Lines, Mode, mode_of};
 use std::alloc::{AllocError, Global};
 
-/// The answer to a text of lines, of which the first names what the others speak to.
+/// Returns the answer to a text of lines, of which the first names the container that the others speak to.
 ///
-/// It goes over the text once, and each line costs what the call of the container does that it names.
-/// It returns `AllocError` where memory for the answer runs out. An insert that runs out of memory has a line
-/// in the answer, and the next line follows; but in the mode `pair` it returns `AllocError` too.
+/// It reads the text once, and each line costs what the method of the container costs that it names. If
+/// memory for the answer runs out, it returns `AllocError`. An insert that runs out of memory has a line in
+/// the answer, and the next line follows. But in the mode `pair` it returns `AllocError` then, too.
 pub fn run_text(alloc: Global, input: &[u8]) -> Result<Vec<u8>, AllocError>
     ensures { IfOk result (λ text. IsTranscript input.now text.items) }
 {
@@ -40,7 +40,7 @@ pub fn run_text(alloc: Global, input: &[u8]) -> Result<Vec<u8>, AllocError>
     Ok(out.into_bytes())
 }
 
-// Answers the lines from an empty map on.
+// Pushes the answers to the lines, which speak to a map that is empty at first.
 fn run_map(alloc: Global, lines: Lines<'_>, out: &mut String) -> Result<(), AllocError>
     ensures { OnOk result ((text : List ℕ)
         × ModeRun DefaultHashBuilder (Some Map) (lines_of lines.entry.rest.now) text
@@ -54,7 +54,7 @@ fn run_map(alloc: Global, lines: Lines<'_>, out: &mut String) -> Result<(), Allo
     Ok(())
 }
 
-// Answers one line. The replies to it stand in a list of which the memory serves the next line.
+// Pushes the answer to one line. The replies to it are in a vector, whose memory the next line uses again.
 fn answer(
     alloc: Global,
     map: &mut LinkedHashMap<u64, u64>,
@@ -84,7 +84,7 @@ fn answer(
     }
 }
 
-// How the command shows a pair that it read.
+// Returns how the command shows a pair that it read.
 fn form_of(command: &Command<u64, u64>) -> Form
     ensures { result ≡ form_of command.now }
 {
@@ -95,7 +95,7 @@ fn form_of(command: &Command<u64, u64>) -> Form
     }
 }
 
-// The line that shows the replies to a command.
+// Pushes the line that shows the replies to a command.
 pub(crate) fn push_replies(
     form: Form,
     replies: &[Reply<u64, u64, (u64, u64)>],
@@ -116,7 +116,7 @@ pub(crate) fn push_replies(
     writeln!(out)
 }
 
-// One reply.
+// Pushes one reply.
 pub(crate) fn push_reply(
     form: Form,
     reply: Reply<u64, u64, (u64, u64)>,
@@ -136,7 +136,7 @@ pub(crate) fn push_reply(
     }
 }
 
-// What a command read.
+// Pushes what a command read.
 fn push_read(form: Form, pair: Option<(u64, u64)>, out: &mut String) -> Result<(), AllocError>
     ensures { OnOk result (string_bytes out.new ≡ string_bytes out.old ++ read_shown form pair) }
 {
@@ -148,7 +148,7 @@ fn push_read(form: Form, pair: Option<(u64, u64)>, out: &mut String) -> Result<(
     }
 }
 
-// The line that shows the pairs that a walk has left.
+// Pushes the line that shows the pairs that an iterator has left.
 pub(crate) fn push_list(mut pairs: Iter<'_, u64, u64>, out: &mut String) -> Result<(), AllocError>
     ensures { OnOk result (string_bytes out.new ≡ string_bytes out.old ++ ended (list_shown pairs.entry)) }
 {

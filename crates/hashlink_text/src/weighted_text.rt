@@ -12,7 +12,7 @@ use hashlink_spelling::{Lines, WeightedLine};
 use hashlink_weighted::{WeightError, WeightedCache, WeightedIter};
 use std::alloc::{AllocError, Global};
 
-// Answers the lines from an empty cache of this budget on.
+// Pushes the answers to the lines, which speak to a cache of this budget that is empty at first.
 pub(crate) fn run_weighted_lines(
     alloc: Global,
     budget: u64,
@@ -30,7 +30,7 @@ pub(crate) fn run_weighted_lines(
     Ok(())
 }
 
-// Answers one line.
+// Pushes the answer to one line.
 fn answer_weighted_line(
     cache: &mut WeightedCache<u64, u64>,
     line: &[u8],
@@ -54,7 +54,7 @@ fn answer_weighted_line(
     }
 }
 
-// The line that shows what an insert answered.
+// Pushes the line that shows what an insert returned.
 fn push_inserted(
     answer: Result<Option<u64>, WeightError<u64, u64>>,
     out: &mut String,
@@ -68,7 +68,7 @@ fn push_inserted(
     }
 }
 
-// The line that shows a value, or that there is none.
+// Pushes the line that shows a value, or that there is none.
 fn push_value(value: Option<u64>, out: &mut String) -> Result<(), AllocError>
     ensures { OnOk result (string_bytes out.new ≡ string_bytes out.old ++ ended (shown_by decimal value)) }
 {
@@ -78,7 +78,7 @@ fn push_value(value: Option<u64>, out: &mut String) -> Result<(), AllocError>
     }
 }
 
-// The line that shows the pairs that a walk has left, without their weights.
+// Pushes the line that shows the pairs that an iterator has left, without their weights.
 fn push_pairs(mut entries: WeightedIter<'_, u64, u64>, out: &mut String) -> Result<(), AllocError>
     ensures { OnOk result (string_bytes out.new
         ≡ string_bytes out.old ++ ended (list_shown (pairs_of entries.entry))) }

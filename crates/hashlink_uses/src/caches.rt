@@ -1,4 +1,4 @@
-//! Calls of a cache, and what is known of it once what was lent has ended.
+//! Calls of a cache, and what is known of it once a loan has ended.
 ghost use Rattle.std.specs.Prelude.{◌≡◌, ℕ, ◌+◌, ◌<◌, ◌^◌, IsTrue, IsFalse, IsOk, OnOk, IfErr, Ok, length};
 ghost use Rattle.std.specs.Prelude.{unwrap_or};
 ghost use Rattle.std.specs.Prelude.{option_copied};
@@ -14,7 +14,7 @@ use crate::maps::entries::count_word as count_word_in;
 use hashlink::LruCache;
 use std::hash::{BuildHasher, Hash};
 
-/// Writes the value of a key by `get_mut`, which is a use, and answers whether it is there.
+/// Writes the value of a key by `get_mut`, which is a use, and returns whether the key is present.
 pub fn use_and_write<K: Eq + Hash, V: Drop, S: BuildHasher>(
     cache: &mut LruCache<K, V, S>,
     key: &K,
@@ -33,7 +33,7 @@ pub fn use_and_write<K: Eq + Hash, V: Drop, S: BuildHasher>(
     }
 }
 
-/// Writes the value of a key by `peek_mut`, where it stands, and answers whether it is there.
+/// Writes the value of a key by `peek_mut`, at its place, and returns whether the key is present.
 pub fn write_in_place<K: Eq + Hash, V: Drop, S: BuildHasher>(
     cache: &mut LruCache<K, V, S>,
     key: &K,
@@ -57,7 +57,8 @@ pub fn write_in_place<K: Eq + Hash, V: Drop, S: BuildHasher>(
 #[derive(Drop)]
 pub struct Statement(pub u64);
 
-/// The statement of a text, by a cache of texts: the text is looked up as it is, and none is made.
+/// Returns the statement of a text from a cache of texts. The text is looked up as it is, and no `String` is
+/// made.
 pub fn find_statement<'c>(
     cache: &'c mut LruCache<String, Statement>,
     sql: &str,
@@ -67,7 +68,7 @@ pub fn find_statement<'c>(
     cache.get(sql)
 }
 
-/// Takes the statement of a text out of such a cache.
+/// Removes the statement of a text from such a cache, and returns it.
 pub fn drop_statement(cache: &mut LruCache<String, Statement>, sql: &str) -> Option<Statement>
     ensures value { result ≡ lookup (is_text sql.now) (entries_in cache.old) }
     ensures removes { OnMap (λ a b. RemovesMatch (is_text sql.now) a b
@@ -83,8 +84,8 @@ pub fn empty_out<K: Eq + Hash + Drop, V: Drop, S: BuildHasher>(cache: &mut LruCa
     let _rest = cache.drain();
 }
 
-/// Puts a value in by `entry` where the key is absent. Where there were more entries than the capacity, it is
-/// not refused.
+/// Inserts a value by `entry` if the key is absent. If there were more entries than the capacity, this cannot
+/// fail.
 pub fn put_by_entry<K: Eq + Hash + Drop, V: Drop, S: BuildHasher>(
     cache: &mut LruCache<K, V, S>,
     key: K,
@@ -96,8 +97,8 @@ pub fn put_by_entry<K: Eq + Hash + Drop, V: Drop, S: BuildHasher>(
     Ok(())
 }
 
-/// Counts a word by an entry of the map, once there is room: where there are too many entries the first is
-/// dropped, and then the map is as an insert of one more than the count so far leaves it.
+/// Counts a word by an entry of the map, once there is room. If there are more entries than the capacity, the
+/// first is evicted. Then the map is as an insert of one more than the count so far leaves it.
 pub fn count_word<K: Eq + Hash + Drop, S: BuildHasher>(
     cache: &mut LruCache<K, u64, S>,
     word: K,
@@ -119,9 +120,8 @@ pub fn count_word<K: Eq + Hash + Drop, S: BuildHasher>(
     count_word_in(cache.map_mut(), word)
 }
 
-/// Inserts two pairs. Where the first insert drops an entry, the second is not refused; a cache of so many
-/// entries beyond its capacity has no more afterwards, and none where the second is in, however many there
-/// were.
+/// Inserts two pairs. If the first insert evicts an entry, the second cannot fail. However many entries the
+/// cache has beyond its capacity, it has no more afterwards, and none if the second pair is inserted.
 pub fn insert_both<K: Eq + Hash + Drop, V: Drop, S: BuildHasher>(
     cache: &mut LruCache<K, V, S>,
     first: (K, V),

@@ -9,7 +9,7 @@ use hashlink::run::{Pair, PairCommand, run_pair, run_uses};
 use std::alloc::{AllocError, Global};
 use std::hash::Hash;
 
-/// Gives the commands to a smaller and to a larger cache. The smaller one holds an end of the larger one's
+/// Runs the commands on a smaller and on a larger cache. The smaller one holds an end of the larger one's
 /// keys.
 pub fn two_caches<K: Eq + Hash + Copy, V: Copy>(
     alloc: Global,
@@ -24,8 +24,8 @@ pub fn two_caches<K: Eq + Hash + Copy, V: Copy>(
     Ok((small, large))
 }
 
-/// How many of the uses miss in a cache of this capacity. With fewer places, however well they are filled,
-/// they miss not much more rarely.
+/// Returns how many of the uses miss in a cache of this capacity. With fewer places, however well they are
+/// filled, not much fewer miss.
 pub fn misses_in_a_cache<K: Eq + Hash + Copy, V: Copy>(
     alloc: Global,
     capacity: usize,
@@ -39,7 +39,7 @@ pub fn misses_in_a_cache<K: Eq + Hash + Copy, V: Copy>(
     Ok(misses_among(&uses.replies))
 }
 
-// How many of the replies are `None`.
+// Returns how many of the replies are `None`.
 pub(crate) fn misses_among<V>(replies: &[Option<V>]) -> usize
     ensures { result ≡ count_by is_none replies.now }
 {

@@ -14,8 +14,8 @@ use hashlink::{AllocError, LinkedHashMap, LruCache};
 use std::alloc::Global;
 use std::hash::{BuildHasher, Hash};
 
-/// Gives the commands to the cache and returns how many entries it has then: never more than its capacity, if
-/// it had no more before and no command goes through an entry.
+/// Runs the commands on the cache and returns how many entries it then has. These are never more than its
+/// capacity, if there were no more before and no command goes through an entry.
 pub fn length_after<K: Eq + Hash + Drop, V: Drop, S: BuildHasher>(
     cache: &mut LruCache<K, V, S>,
     commands: Vec<CacheCommand<K, V>>,
@@ -29,8 +29,8 @@ pub fn length_after<K: Eq + Hash + Drop, V: Drop, S: BuildHasher>(
     Ok(cache.len())
 }
 
-/// Gives the commands to the map, and inserts the pair where they left it shorter than it was. That insert
-/// does not run out of memory: it takes the node of an entry that was removed.
+/// Runs the commands on the map, and inserts the pair if they left it shorter than it was. That insert does
+/// not run out of memory: it uses the node of an entry that was removed.
 pub fn insert_where_shorter<K: Eq + Hash + Drop, V: Drop, S: BuildHasher>(
     map: &mut LinkedHashMap<K, V, S>,
     commands: Vec<Command<K, V>>,
@@ -50,8 +50,8 @@ pub fn insert_where_shorter<K: Eq + Hash + Drop, V: Drop, S: BuildHasher>(
     }
 }
 
-/// Removes a key and inserts a pair in one run, and returns the replies. Where the key was there, the insert
-/// takes the node that the removal left, so that its reply is a value and no pair that is handed back.
+/// Removes a key and inserts a pair in one run, and returns the replies. If the key was present, the insert
+/// uses the node that the removal left. So its reply is a value, and not the pair.
 pub fn remove_then_insert<K: Eq + Hash + Drop, V: Drop, S: BuildHasher>(
     alloc: Global,
     map: &mut LinkedHashMap<K, V, S>,

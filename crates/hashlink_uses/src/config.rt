@@ -23,7 +23,7 @@ impl<K: Eq + Hash, V> Model for Settings<K, V> {
 }
 
 impl<K: Eq + Hash, V> Settings<K, V> {
-    /// No setting.
+    /// Creates settings without an entry.
     pub fn new(alloc: Global) -> Self
         ensures { result ≡ [] }
     {
@@ -32,9 +32,9 @@ impl<K: Eq + Hash, V> Settings<K, V> {
         }
     }
 
-    /// Gives the key the value, and answers the one that it had. A key that was set before keeps its place, a
-    /// new one goes last. Where memory is refused, which only a new key needs, the pair is handed back and
-    /// nothing changes.
+    /// Sets the value of the key, and returns the old one. A key that was set before keeps its place, a new
+    /// one goes to the back. Only a new key may allocate. If that allocation fails, it returns the pair in
+    /// `Err` and nothing changes.
     pub fn set(&mut self, key: K, value: V) -> Result<Option<V>, (K, V)>
     where
         K: Drop,
@@ -51,7 +51,7 @@ impl<K: Eq + Hash, V> Settings<K, V> {
         self.values.replace(key, value)
     }
 
-    /// The value of a key.
+    /// Returns a reference to the value of the key.
     pub fn get(&self, key: &K) -> Option<&V>
         ensures { option_copied result ≡ lookup (K.eq key.now) self.now }
     {

@@ -1,4 +1,4 @@
-//! Curves of misses, and what is known of the misses that they tell.
+//! Curves of misses, and what is known of the misses that they report.
 ghost use Rattle.std.specs.Prelude.{◌≡◌, ◌*◌, ◌≤◌, ◌<◌, ◌^◌, map, IfOk};
 ghost use Rattle.hashlink.specs.History.{cache_misses};
 
@@ -8,7 +8,7 @@ use hashlink::run::run_uses;
 use std::alloc::{AllocError, Global};
 use std::hash::Hash;
 
-/// The misses at a capacity and at twice that: doubling it never adds one.
+/// Returns the misses at a capacity and at twice that: doubling it never adds a miss.
 pub fn doubled<K: Eq + Hash>(curve: &MissCurve<K>, capacity: usize) -> (u64, u64)
     requires { 2 * capacity < 2 ^ 64 }
     ensures { result.1 ≤ result.0 }
@@ -16,7 +16,7 @@ pub fn doubled<K: Eq + Hash>(curve: &MissCurve<K>, capacity: usize) -> (u64, u64
     (curve.misses(capacity), curve.misses(2 * capacity))
 }
 
-/// How often a cache of this capacity misses that is given these keys.
+/// Returns how often a cache of this capacity misses that is given these keys.
 pub fn misses_of<K: Eq + Hash + Copy>(
     alloc: Global,
     keys: &[K],
@@ -27,8 +27,8 @@ pub fn misses_of<K: Eq + Hash + Copy>(
     Ok(miss_curve(alloc, keys)?.misses(capacity))
 }
 
-/// How often a cache of this capacity misses that is given the uses: counted in its replies, and told by the
-/// curve of their keys. The two are one number.
+/// Returns how often a cache of this capacity misses that is given the uses: as counted in its replies, and
+/// as reported by the curve of their keys. The two are one number.
 pub fn misses_by_replies_and_by_curve<K: Eq + Hash + Copy, V: Copy>(
     alloc: Global,
     pairs: &[(K, V)],
@@ -44,7 +44,7 @@ pub fn misses_by_replies_and_by_curve<K: Eq + Hash + Copy, V: Copy>(
     ))
 }
 
-// The keys of the pairs.
+// Returns the keys of the pairs.
 fn keys_of<K: Copy, V: Copy>(alloc: Global, pairs: &[(K, V)]) -> Result<Vec<K>, AllocError>
     ensures { IfOk result (λ keys. keys.items ≡ map (λ p. p.0) pairs.now) }
 {

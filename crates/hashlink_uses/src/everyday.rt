@@ -14,7 +14,8 @@ use hashlink::linked_hash_map::TryInsertError;
 use hashlink::{LinkedHashSet, LruCache};
 use std::hash::{BuildHasher, Hash};
 
-/// Remembers the size of a page, which is then the one used last, and returns the size that it replaces.
+/// Stores the size of a page, which is then the most recently used one, and returns the size that it
+/// replaces.
 pub fn remember(
     sizes: &mut LruCache<u32, u64>,
     page: u32,
@@ -31,7 +32,7 @@ pub fn remember(
     sizes.insert(page, size)
 }
 
-/// The size of a page, which is then the one used last.
+/// Returns the size of a page, which is then the most recently used one.
 pub fn recall(sizes: &mut LruCache<u32, u64>, page: u32) -> Option<u64>
     ensures found { result ≡ lookup (nat_eq page) (entries_in sizes.old) }
     ensures entries { entries_in sizes.new ≡ cache_get nat_eq (entries_in sizes.old) page }
@@ -49,7 +50,7 @@ pub fn hit(hits: &mut LruCache<u32, u64>, page: u32)
     }
 }
 
-/// Takes the size of a page out.
+/// Removes a page, and returns its size.
 pub fn forget(sizes: &mut LruCache<u32, u64>, page: u32) -> Option<u64>
     ensures found { result ≡ lookup (nat_eq page) (entries_in sizes.old) }
     ensures entries { entries_in sizes.new ≡ remove_entry (nat_eq page) (entries_in sizes.old) }
@@ -58,14 +59,14 @@ pub fn forget(sizes: &mut LruCache<u32, u64>, page: u32) -> Option<u64>
     sizes.remove(&page)
 }
 
-/// Takes a page out with its size. What is returned was in the cache.
+/// Removes a page, and returns it with its size. What is returned was in the cache.
 pub fn forget_entry(sizes: &mut LruCache<u32, u64>, page: u32) -> Option<(u32, u64)>
     ensures { IfSome result (Contains (entries_in sizes.old)) }
 {
     sizes.remove_entry(&page)
 }
 
-/// The value of a key, which is the one given where the key is absent, and is then put in.
+/// Returns the value of a key. If the key is absent, this is the given value, which is then inserted.
 pub fn value_or<K: Eq + Hash + Drop, V: Copy, S: BuildHasher>(
     cache: &mut LruCache<K, V, S>,
     key: K,
@@ -80,7 +81,7 @@ pub fn value_or<K: Eq + Hash + Drop, V: Copy, S: BuildHasher>(
     Ok(*cache.get_or_insert_with(key, || value)?)
 }
 
-/// The value of a key, which is made where the key is absent, and is then put in.
+/// Returns the value of a key. If the key is absent, the value is made and inserted.
 pub fn value_or_made<
     K: Eq + Hash + Drop,
     V: Copy,
@@ -99,7 +100,7 @@ pub fn value_or_made<
     Ok(*cache.get_or_try_insert_with(key, make)?)
 }
 
-/// Puts a word last, and returns whether it is new.
+/// Inserts a word at the back, and returns whether it is new.
 pub fn add<T: Eq + Hash + Drop, S: BuildHasher>(
     words: &mut LinkedHashSet<T, S>,
     word: T,
@@ -114,7 +115,7 @@ pub fn add<T: Eq + Hash + Drop, S: BuildHasher>(
     words.insert(word)
 }
 
-/// Puts a word in the place of the one that equals it, which is returned, or last.
+/// Replaces the word that equals this one, and returns it, or inserts this one at the back.
 pub fn exchange<T: Eq + Hash, S: BuildHasher>(
     words: &mut LinkedHashSet<T, S>,
     word: T,
@@ -127,7 +128,7 @@ pub fn exchange<T: Eq + Hash, S: BuildHasher>(
     words.replace(word)
 }
 
-/// Takes a word out, and returns whether it was there.
+/// Removes a word, and returns whether it was present.
 pub fn strike<T: Eq + Hash + Drop, S: BuildHasher>(
     words: &mut LinkedHashSet<T, S>,
     word: &T,
@@ -138,7 +139,7 @@ pub fn strike<T: Eq + Hash + Drop, S: BuildHasher>(
     words.remove(word)
 }
 
-/// Takes the first word out.
+/// Removes the first word, and returns it.
 pub fn take_first<T: Eq + Hash, S: BuildHasher>(words: &mut LinkedHashSet<T, S>) -> Option<T>
     ensures { MatchOption result ((elements_of words.old ≡ []) × (elements_of words.new ≡ []))
         (λ word. elements_of words.old ≡ word ∷ elements_of words.new) }
@@ -146,7 +147,7 @@ pub fn take_first<T: Eq + Hash, S: BuildHasher>(words: &mut LinkedHashSet<T, S>)
     words.pop_front()
 }
 
-/// Takes the last word out.
+/// Removes the last word, and returns it.
 pub fn take_last<T: Eq + Hash, S: BuildHasher>(words: &mut LinkedHashSet<T, S>) -> Option<T>
     ensures { MatchOption result ((elements_of words.old ≡ []) × (elements_of words.new ≡ []))
         (λ word. elements_of words.old ≡ elements_of words.new ++ word ∷ []) }

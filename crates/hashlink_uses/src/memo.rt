@@ -15,7 +15,7 @@ pub trait Function<K: Eq, V> {
     ghost alike: { (x y : K) → IsTrue (K.eq x y) → value x ≡ value y };
 }
 
-/// The values that a function has at some keys, in the order in which they were asked for first. A clause
+/// The values that a function has at some keys, in the order in which they were first requested. A clause
 /// sees the pairs. The value beside each key is that of the function.
 #[derive(Drop)]
 pub struct Memo<K: Eq + Hash, V, F: Function<K, V>> {
@@ -32,7 +32,7 @@ impl<K: Eq + Hash, V, F: Function<K, V>> Model for Memo<K, V, F> {
 }
 
 impl<K: Copy + Eq + Hash, V: Copy, F: Function<K, V>> Memo<K, V, F> {
-    /// A table of no values.
+    /// Creates a table of no values.
     pub fn new(alloc: Global) -> Self
         ensures { result ≡ [] }
     {
@@ -42,8 +42,8 @@ impl<K: Copy + Eq + Hash, V: Copy, F: Function<K, V>> Memo<K, V, F> {
         }
     }
 
-    /// The value of the function at the key, which `compute` is asked for where it is not there yet. It is
-    /// kept, unless memory is refused.
+    /// Returns the value of the function at the key, and calls `compute` for it if it is not in the table. It
+    /// is then kept, unless the allocation for it fails.
     pub fn get<C: FnOnce(K) -> V>(&mut self, key: K, compute: C) -> V
         requires callable { C.pre compute key }
         requires computes { (v : V) → C.post compute key v → v ≡ F.value key }

@@ -23,7 +23,7 @@ impl<T: Eq + Hash> Model for Queue<T> {
 }
 
 impl<T: Eq + Hash> Queue<T> {
-    /// A queue in which nothing waits.
+    /// Creates a queue in which nothing waits.
     pub fn new(alloc: Global) -> Self
         ensures { result ≡ [] }
     {
@@ -32,8 +32,9 @@ impl<T: Eq + Hash> Queue<T> {
         }
     }
 
-    /// Puts the item last and answers true. One that equals a waiting one is let go: that one keeps its
-    /// place, and the answer is false. Where memory is refused, the item is handed back and nothing changes.
+    /// Puts the item last and returns true. If it equals a waiting one, it is dropped, the waiting one keeps
+    /// its place, and the call returns false. If an allocation fails, it returns the item in `Err` and
+    /// nothing changes.
     pub fn push(&mut self, item: T) -> Result<bool, T>
     where
         T: Drop,
@@ -48,7 +49,7 @@ impl<T: Eq + Hash> Queue<T> {
         self.waiting.insert(item)
     }
 
-    /// Takes the item out that waits longest.
+    /// Removes the item that waits longest, and returns it.
     pub fn pop(&mut self) -> Option<T>
         ensures { MatchOption result ((self.old ≡ []) × (self.new ≡ []))
             (λ item. self.old ≡ item ∷ self.new) }
@@ -56,11 +57,11 @@ impl<T: Eq + Hash> Queue<T> {
         self.waiting.pop_front()
     }
 
-    /// How many items wait.
+    /// Returns how many items wait.
     pub fn len(&self) -> usize
         ensures len { result ≡ length self.now }
 
-        // No two are equal, of this queue as of every queue.
+        // No two are equal, in this queue as in every queue.
         ensures once { IsDistinct T.eq self.now }
     {
         self.waiting.len()

@@ -1,4 +1,4 @@
-//! Sessions in the order of their last use, so that those which are too old stand in front.
+//! Sessions in the order of their last use, so that those which are too old are at the front.
 ghost use Rattle.std.specs.Prelude.{◌≡◌, ◌∷◌, ◌++◌, ◌+◌, ◌<◌, ◌≤◌, [], IsTrue, IsFalse, IfSome, IfNone, List};
 ghost use Rattle.std.specs.Prelude.{All, MatchOption, MatchResult, length, option_copied, take};
 ghost use Rattle.std.specs.List.{IsDistinct};
@@ -35,7 +35,7 @@ impl<K: Eq + Hash, S: BuildHasher> Model for SessionTable<K, S> {
 }
 
 impl<K: Eq + Hash, S: BuildHasher> SessionTable<K, S> {
-    /// No session. Where the keys come from outside, `hasher` is a `RandomState`.
+    /// Creates a table without a session. If the keys come from outside, `hasher` is a `RandomState`.
     pub fn with_hasher(alloc: Global, hasher: S) -> Self
         ensures { result ≡ [] }
     {
@@ -44,7 +44,7 @@ impl<K: Eq + Hash, S: BuildHasher> SessionTable<K, S> {
         }
     }
 
-    /// How many sessions there are.
+    /// Returns the number of sessions.
     pub fn len(&self) -> usize
         ensures len { result ≡ length self.now }
 
@@ -55,7 +55,7 @@ impl<K: Eq + Hash, S: BuildHasher> SessionTable<K, S> {
         self.sessions.len()
     }
 
-    /// When a session was used last, of all of them; 0 where there is none.
+    /// Returns when a session was last used, of all of them, or 0 if there is none.
     pub fn latest_use(&self) -> u64
         ensures { result ≡ latest_use self.now }
     {
@@ -65,15 +65,15 @@ impl<K: Eq + Hash, S: BuildHasher> SessionTable<K, S> {
         }
     }
 
-    /// The session of a key. To look at it is no use of it.
+    /// Returns the session of a key. This does not use it.
     pub fn get(&self, key: &K) -> Option<&Session>
         ensures { option_copied result ≡ lookup (K.eq key.now) self.now }
     {
         self.sessions.get(key)
     }
 
-    /// Begins a session of the user at the end, and answers the one that the key had until now. Where memory
-    /// is refused, the key and the session are handed back and nothing changes.
+    /// Begins a session of the user at the back, and returns the one that the key had until now. If an
+    /// allocation fails, it returns the key and the session in `Err` and nothing changes.
     pub fn open(&mut self, key: K, user: u64, now: u64) -> Result<Option<Session>, (K, Session)>
     where
         K: Drop,
@@ -91,7 +91,7 @@ impl<K: Eq + Hash, S: BuildHasher> SessionTable<K, S> {
         self.sessions.insert(key, session)
     }
 
-    /// Uses the session of a key, which goes to the end. The answer is whether there is one.
+    /// Uses the session of a key, which moves to the back, and returns whether there is one.
     pub fn touch(&mut self, key: &K, now: u64) -> bool
         requires in_time { latest_use self.old ≤ now }
         ensures used { MatchOption (lookup (K.eq key.now) self.old)
@@ -107,7 +107,7 @@ impl<K: Eq + Hash, S: BuildHasher> SessionTable<K, S> {
         true
     }
 
-    /// Ends the session of a key, and answers it beside the key that was kept.
+    /// Ends the session of a key, and returns it with the stored key.
     pub fn close(&mut self, key: &K) -> Option<(K, Session)>
         ensures closed { result ≡ lookup_entry (K.eq key.now) self.old }
         ensures left { self.new ≡ remove_entry (K.eq key.now) self.old }
@@ -116,7 +116,8 @@ impl<K: Eq + Hash, S: BuildHasher> SessionTable<K, S> {
         self.sessions.remove_entry(key)
     }
 
-    /// Takes the first session out, if it was used last before a time. Where it answers none, no session was.
+    /// Removes the first session and returns it, if it was last used before this time. If it returns `None`,
+    /// no session was.
     pub fn expire_first(&mut self, before: u64) -> Option<(K, Session)>
         ensures gone { IfSome result (λ e. (last_use e < before) × (self.old ≡ e ∷ self.new)) }
         ensures left { IfNone result ((self.new ≡ self.old) × All (λ e. before ≤ last_use e) self.new) }
@@ -130,8 +131,8 @@ impl<K: Eq + Hash, S: BuildHasher> SessionTable<K, S> {
         }
     }
 
-    /// Takes out every session that was used last before a time, and answers how many they were. They stand
-    /// in front, so it looks at no more than one that stays.
+    /// Removes every session that was last used before this time, and returns how many these were. They are
+    /// at the front, so it looks at no more than one that stays.
     pub fn expire(&mut self, before: u64) -> usize
     where
         K: Drop,

@@ -9,11 +9,10 @@ ghost use Rattle.hashlink_uses.specs.Texts.{is_text, PutsText};
 use hashlink::LruCache;
 use std::alloc::Global;
 
-/// The statement of a text, by a cache of texts: a text is looked up as it is, and the statement that is kept
-/// for it is the answer. Where none is, `prepare` makes one, which is kept beside a copy of the text unless
-/// memory is refused.
+/// Returns the statement of a text from a cache of texts. A text is looked up as it is. If the cache has no
+/// statement for it, `prepare` makes one, which is kept with a copy of the text unless an allocation fails.
 ///
-/// The cache has no more entries beyond its capacity than before, so none where it had none.
+/// The cache has no more entries beyond its capacity than before, so none if it had none.
 pub fn get_or_prepare<P: Copy, F: FnOnce(&str) -> P>(
     cache: &mut LruCache<String, P>,
     alloc: Global,

@@ -8,7 +8,7 @@ ghost use Rattle.hashlink.specs.Weighed.{WeightedGets};
 use hashlink::weighted::{WeightError, WeightedCache};
 use std::hash::{BuildHasher, Hash};
 
-/// Uses an entry, and answers its value. What `get` lent has ended, and the entry is the last.
+/// Uses an entry, and returns its value. The loan of `get` has ended, and the entry is the last.
 pub fn use_number<K: Eq + Hash, S: BuildHasher>(
     cache: &mut WeightedCache<K, u64, S>,
     key: &K,
@@ -20,7 +20,7 @@ pub fn use_number<K: Eq + Hash, S: BuildHasher>(
     Some(*value)
 }
 
-/// Inserts a pair, and answers the weights' sum afterwards.
+/// Inserts a pair, and returns the sum of the weights afterwards.
 pub fn insert_and_sum<K: Eq + Hash + Drop, V: Drop, S: BuildHasher>(
     cache: &mut WeightedCache<K, V, S>,
     key: K,
@@ -37,7 +37,7 @@ pub fn insert_and_sum<K: Eq + Hash + Drop, V: Drop, S: BuildHasher>(
     Ok(cache.total())
 }
 
-/// Inserts a pair without weight while a node is spare, which is not refused.
+/// Inserts a pair without weight while a node is spare, which cannot fail.
 pub fn insert_weightless<K: Eq + Hash + Drop, V: Drop, S: BuildHasher>(
     cache: &mut WeightedCache<K, V, S>,
     key: K,

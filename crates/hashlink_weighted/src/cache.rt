@@ -1,5 +1,5 @@
 //! The cache: a map whose values carry their weights, a budget, and the sum of the weights. A clause sees the
-//! map's state and the budget; the front of the map is the entry that was used longest ago.
+//! map's state and the budget. The front of the map is the least recently used entry.
 ghost use Rattle.std.specs.Prelude.{◌≡◌, ◌^◌, ◌<◌, ◌≤◌, ◌↔◌, length, IsTrue};
 ghost use Rattle.hashlink_model.specs.Entries.{IsEntries};
 ghost use Rattle.hashlink_model.specs.Weights.{total_weight};
@@ -15,8 +15,9 @@ use std::alloc::Global;
 use std::hash::{BuildHasher, Hash};
 use std::marker::Model;
 
-/// A hash map whose entries carry weights, which sum to at most a budget. Its order is that of their last
-/// uses, and what it drops for a new entry is at the front, which was used longest ago.
+/// A hash map whose entries carry weights, which sum to at most a budget. The entries are in the order of
+/// their last uses. To make room for a new entry, it evicts from the front, where the least recently used
+/// entry is.
 #[derive(Drop)]
 pub struct WeightedCache<K: Eq + Hash, V, S: BuildHasher = DefaultHashBuilder> {
     map: LinkedHashMap<K, (V, u64), S>,
@@ -39,7 +40,7 @@ impl<K: Eq + Hash, V, S: BuildHasher> Model for WeightedCache<K, V, S> {
 impl<K: Eq + Hash, V> WeightedCache<K, V, DefaultHashBuilder> {
     ghost use Rattle.hashlink_core.specs.Hashing.{default_builder};
 
-    /// An empty cache of this budget, which hashes by `DefaultHasher`. It takes no memory.
+    /// Creates an empty cache of this budget, which hashes with `DefaultHasher`. It does not allocate.
     pub fn new(alloc: Global, budget: u64) -> Self
         ensures { result ≡ empty_weighted default_builder budget }
     {
@@ -51,7 +52,7 @@ impl<K: Eq + Hash, V, S: BuildHasher> WeightedCache<K, V, S> {
     ghost use Rattle.std.specs.Map.Iter.{ShowsInOrder, ShowsInReverse};
     ghost use Rattle.hashlink_weighted.specs.Weighed.{deref_weighed};
 
-    /// An empty cache of this budget that hashes by `hash_builder`. It takes no memory.
+    /// Creates an empty cache of this budget, which hashes with `hash_builder`. It does not allocate.
     pub fn with_hasher(alloc: Global, budget: u64, hash_builder: S) -> Self
         ensures { result ≡ empty_weighted hash_builder budget }
     {
@@ -62,14 +63,14 @@ impl<K: Eq + Hash, V, S: BuildHasher> WeightedCache<K, V, S> {
         }
     }
 
-    /// The sum that the weights may have. It never changes.
+    /// Returns the budget: the greatest sum that the weights may have. It never changes.
     pub fn budget(&self) -> u64
         ensures { result ≡ self.now.budget }
     {
         self.budget
     }
 
-    /// The sum of the weights, of every cache at most its budget. It takes constant time.
+    /// Returns the sum of the weights, which in every cache is at most its budget. It takes constant time.
     pub fn total(&self) -> u64
         ensures sum { result ≡ total_weight self.now.map.entries }
         ensures within { result ≤ self.now.budget }
@@ -77,26 +78,26 @@ impl<K: Eq + Hash, V, S: BuildHasher> WeightedCache<K, V, S> {
         self.total
     }
 
-    /// How many entries there are. It takes constant time.
+    /// Returns the number of entries. It takes constant time.
     pub fn len(&self) -> usize
         ensures len { result ≡ length self.now.map.entries }
         ensures small { result < 2 ^ 63 }
 
-        // No two keys are equal, of this cache as of every cache.
+        // No two keys are equal, in this cache as in every cache.
         ensures distinct { IsEntries K.eq self.now.map.entries }
     {
         self.map.len()
     }
 
-    /// Whether there is no entry. It takes constant time.
+    /// Returns whether the cache is empty. It takes constant time.
     pub fn is_empty(&self) -> bool
         ensures { IsTrue result ↔ (length self.now.map.entries ≡ 0) }
     {
         self.map.is_empty()
     }
 
-    /// A walk over the entries with their weights, front first: what was used longest ago comes first. It is
-    /// not a use. It takes no memory, and each step takes constant time.
+    /// Returns an iterator over the entries with their weights, from front to back: the least recently used
+    /// comes first. It is not a use. It does not allocate, and each step takes constant time.
     pub fn iter(&self) -> WeightedIter<'_, K, V>
         ensures rest { result ≡ self.now.map.entries }
         ensures runs { ShowsInOrder (deref_weighed {K = K} {V = V}) }

@@ -1,22 +1,22 @@
-//! Why a cache with a budget took no pair.
+//! Why a cache with a budget did not insert a pair.
 ghost use Rattle.std.specs.Prelude.{◌≡◌};
 
 use std::error::Error;
 use std::fmt;
 
-/// Why an insert was refused, with the pair that it was given. No entry has changed.
+/// Why an insert failed, with the pair that it was given. No entry has changed.
 #[derive(Clone, Debug, Drop, PartialEq, Eq)]
 pub enum WeightError<K, V> {
     /// The weight is above the budget of the cache.
     TooHeavy((K, V)),
-    /// Memory for a new node was refused.
+    /// The allocation of a node failed.
     Memory((K, V)),
 }
 
 impl<K, V> WeightError<K, V> {
     ghost use Rattle.hashlink_weighted.specs.Answers.{refused_pair};
 
-    /// The pair that the insert was given.
+    /// Returns the pair that the insert was given.
     pub fn into_pair(self) -> (K, V)
         ensures { result ≡ refused_pair self }
     {

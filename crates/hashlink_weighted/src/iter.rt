@@ -1,4 +1,4 @@
-//! A walk over the entries of a cache with a budget.
+//! The iterator over the entries of a cache with a budget.
 ghost use Rattle.std.specs.Prelude.{◌≡◌, Some, IfSome, length, ⊤};
 ghost use Rattle.std.specs.Iterator.{at_most, UpTo};
 ghost use Rattle.std.specs.Iterator.SizeHint.{IsWithinCount};
@@ -11,8 +11,8 @@ use std::fmt;
 use std::iter::FusedIterator;
 use std::marker::Model;
 
-/// A walk over the keys, the values and the weights, front first. Contracts see it as the list of the entries
-/// that it has left.
+/// An iterator over the keys, the values and the weights, from front to back. Contracts see it as the list of
+/// the entries that are left.
 #[derive(Drop)]
 pub struct WeightedIter<'a, K, V> {
     inner: Iter<'a, K, (V, u64)>,
@@ -27,7 +27,7 @@ impl<'a, K, V> Model for WeightedIter<'a, K, V> {
 }
 
 impl<'a, K, V> WeightedIter<'a, K, V> {
-    /// The entries of a walk of the map.
+    /// Returns an iterator over the entries that an iterator of the map has left.
     pub(crate) fn new(inner: Iter<'a, K, (V, u64)>) -> Self
         ensures { result ≡ inner.entry }
     {

@@ -8,8 +8,9 @@ ghost use Rattle.hashlink_weighted.specs.Answers.{InsertsWithin, without_weight}
 ghost use Rattle.hashlink_weighted.specs.declared.error.WeightError.{WeightError};
 ghost use Rattle.hashlink_weighted.specs.declared.error.WeightError.TheVariants.{TooHeavy, Memory};
 
-/// An accepted insert leaves the fitting end of the map's insert, whose last entry is the pair with its
-/// weight, and returns the old value. The weights sum to at most the budget, which stays.
+/// A successful insert returns the old value. It leaves the longest end that fits of what the map's insert
+/// leaves, and its last entry is the pair with its weight. The weights sum to at most the budget, which does
+/// not change.
 pub fn what_an_accepted_insert_leaves<K, V, S>()
     ensures entries { (eq : K → K → Bool) (old new : WeightedState K V S) (k : K) (v : V) (weight : ℕ)
         (answer : Option V) → InsertsWithin eq old new k v weight (Ok answer)
@@ -25,8 +26,8 @@ pub fn what_an_accepted_insert_leaves<K, V, S>()
         → last_of new.map.entries ≡ Some (stored_key eq old.map.entries k, (v, weight)) }
 {}
 
-/// A refused insert hands its pair back. One that is too heavy changes nothing; memory is refused only for an
-/// absent key without a spare node, and then no entry and no spare node changes.
+/// An insert that fails returns its pair. One that is too heavy changes nothing. An allocation can fail only
+/// if the key is absent and no node is spare, and then no entry and no spare node changes.
 pub fn what_a_refused_insert_leaves<K, V, S>()
     ensures too_heavy { (eq : K → K → Bool) (old new : WeightedState K V S) (k : K) (v : V) (weight : ℕ)
         (pair : K × V) → InsertsWithin eq old new k v weight (Err (TooHeavy pair))

@@ -3,7 +3,7 @@ use crate::cache::WeightedCache;
 use std::fmt;
 use std::hash::{BuildHasher, Hash};
 
-/// The keys with their values, last first.
+/// Formats the keys with their values, from back to front.
 impl<K: Eq + Hash + fmt::Debug, V: fmt::Debug, S: BuildHasher> fmt::Debug
     for WeightedCache<K, V, S> {
     fn fmt<W: fmt::Write>(&self, f: &mut fmt::Formatter<W>) -> fmt::Result {

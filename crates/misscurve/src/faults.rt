@@ -1,7 +1,7 @@
 //! Why there is no curve.
 use std::fmt;
 
-/// Why a trace was not answered.
+/// Why a trace has no answer.
 #[derive(Clone, Copy, Debug, PartialEq, Eq)]
 pub enum Fault {
     /// An option is none of those that `--help` names.

@@ -7,8 +7,8 @@ use std::io::{self, BufRead, Eprint, ErrorKind};
 /// After so many lines it is said how far the reading is.
 const PROGRESS: u64 = 1 << 22;
 
-/// The curve of the keys that the reader gives, a line each, or of those in one of so many parts. A trace is
-/// not kept, only its distinct keys.
+/// Returns the curve of the keys that the reader has, a line each, or of those in one of so many parts. A
+/// trace is not kept, only its distinct keys.
 pub fn curve_of<B: BufRead + Drop>(
     rt: &impl Eprint,
     alloc: Global,
@@ -20,7 +20,7 @@ pub fn curve_of<B: BufRead + Drop>(
     Ok(curve)
 }
 
-/// Records each line that the reader gives.
+/// Records each line that the reader has.
 fn read_all<B: BufRead + Drop>(
     rt: &impl Eprint,
     alloc: Global,

@@ -170,7 +170,7 @@ fn a_key_is_dropped_by_the_call_that_needs_it_no_more(rt: HostRuntime) -> ExitCo
     passes(drops_of_calls(rt.alloc()) == (wanted, [1, 2]))
 }
 
-/// How many values were dropped once three went into a cache for two, once one was refused, and at
+/// How many values were dropped once three were inserted into a cache for two, once one insert failed, and at
 /// the end.
 fn drops_of_cache(alloc: Global) -> [u32; 3] {
     let drops = Cell::new(0);

@@ -1,5 +1,5 @@
-//! The forms in which std's maps are called: what stands for a key in a look-up, `?`, std's traits,
-//! operators and loops. That each compiles, is proved and runs is what is tested.
+//! The forms in which std's maps are called: what stands for a key in a lookup, `?`, std's traits, operators
+//! and loops. That each compiles, is proved and runs is what is tested.
 
 mod errors;
 mod look_ups;

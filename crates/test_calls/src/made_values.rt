@@ -111,7 +111,7 @@ fn try_in_map(map: &mut Map, key: u32, made: Result<u32, u8>) -> Made {
     }
 }
 
-/// What is handed on where no value is made for 2, where one is, and where none is needed for 1.
+/// What is returned if no value is made for 2, if one is, and if none is needed for 1.
 const TRIED: [Made; 3] = [Err(TryInsertError::Make(2, 7)), Ok(20), Ok(10)];
 
 #[test]

@@ -54,7 +54,7 @@ fn a_cache_without_a_bound_evicts_nothing(rt: HostRuntime) -> ExitCode {
     passes(without_bound(rt.alloc()) == (40, usize::MAX))
 }
 
-/// Puts a pair by the raw entry of a vacant entry.
+/// Inserts a pair by the raw entry of a vacant entry.
 fn put_raw(map: &mut Map, key: u32, value: u32) -> bool {
     match map.entry(key) {
         Entry::Vacant(entry) => entry.raw_entry_mut().insert(key, value).is_ok(),

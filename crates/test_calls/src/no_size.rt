@@ -7,7 +7,7 @@ use std::process::ExitCode;
 
 type Unit = LinkedHashMap<(), ()>;
 
-/// What stands in a map: its length, the length of its walk, and what its key has.
+/// What is in a map: its length, the length of its iterator, and what its key has.
 fn seen(map: &Unit) -> (usize, usize, Option<()>) {
     (map.len(), map.iter().count(), map.get(&()).copied())
 }
@@ -27,7 +27,7 @@ fn a_map_of_keys_without_size_has_one_entry(rt: HostRuntime) -> ExitCode {
     passes(((inserted, removed), seen(&map)) == (answers, (1, 1, Some(()))))
 }
 
-/// Whether an element goes in, and once more, and how many there are then.
+/// Whether an element is inserted, and once more, and how many there are then.
 fn fill_set(alloc: Global) -> ([Result<bool, ()>; 2], usize) {
     let mut set = LinkedHashSet::new(alloc);
     ([set.insert(()), set.insert(())], set.len())
@@ -71,7 +71,7 @@ fn a_cache_of_values_without_size_keeps_the_last_keys(rt: HostRuntime) -> ExitCo
     passes(kept == [(0, false, false), (2, true, false), (3, true, true)])
 }
 
-/// What a key weighs that is put in twice, and how often it is there.
+/// What a key weighs that is inserted twice, and how often it is there.
 fn weigh_twice(alloc: Global) -> (bool, bool, usize, u64) {
     let mut cache = WeightedCache::new(alloc, 3);
     let is_new = matches!(cache.insert((), (), 2), Ok(None));

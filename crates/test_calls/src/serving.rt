@@ -18,7 +18,7 @@ fn the_answer_follows_what_was_written_before(rt: HostRuntime) -> ExitCode {
     passes(is_appended(rt.alloc()) == Ok(true))
 }
 
-// A file that cannot be read for want of memory.
+// A file that cannot be read since an allocation fails.
 #[derive(Clone, Copy)]
 struct WithoutMemory;
 

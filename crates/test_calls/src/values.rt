@@ -31,7 +31,7 @@ fn a_hasher_is_fed_key_and_value_in_order_and_no_length(rt: HostRuntime) -> Exit
     passes(hash == fed(&(2u32, 20u32, 1u32, 10u32)))
 }
 
-/// The set of 2 and 1, with a hasher that gives each the hash 0.
+/// The set of 2 and 1, with a hasher by which each has the hash 0.
 fn two_and_one(alloc: Global) -> LinkedHashSet<u32, SameHash> {
     let mut set = LinkedHashSet::with_hasher(alloc, SameHash);
     let _taken = set.extend([2u32, 1]);

@@ -1,4 +1,4 @@
-//! What a call answers, word by word.
+//! What a call returns, word by word.
 use std::alloc::{AllocError, Global};
 use std::fmt;
 
@@ -50,7 +50,7 @@ pub enum Word {
     Item(u64, u64),
     /// A key and its value with a colon between them.
     Pair((u64, u64), (u64, u64)),
-    /// `memory`: there was none. What is handed back comes next.
+    /// `memory`: an allocation failed. What is returned in the `Err` comes next.
     Memory,
     /// `overflow`: more room than there can be.
     Overflow,
@@ -124,10 +124,10 @@ impl fmt::Display for Word {
     }
 }
 
-/// Why a line was not answered.
+/// Why a line has no answer.
 #[derive(Clone, Copy)]
 pub enum Stop {
-    /// There was no memory for what the row itself needs.
+    /// An allocation for the row itself failed.
     Memory,
     /// It is no line of this kind of row.
     Unread,
@@ -139,7 +139,7 @@ impl From<AllocError> for Stop {
     }
 }
 
-/// How many answers were refusals, and how many rows had no memory of their own.
+/// How many answers were failed allocations, and for how many rows an allocation of their own failed.
 #[derive(Clone, Copy, Default)]
 pub struct Tally {
     pub rows: usize,
@@ -147,7 +147,7 @@ pub struct Tally {
     pub left_out: usize,
 }
 
-/// What a line answers, and how it went before.
+/// The answers to a line, and how it went before.
 #[derive(Drop)]
 pub struct Answers {
     pub words: Vec<Word>,
@@ -186,31 +186,31 @@ impl Answers {
         self.say(pair.map_or(Word::Nothing, Word::pair))
     }
 
-    /// A pair is handed back for this reason.
+    /// A pair is returned for this reason.
     pub fn back(&mut self, why: Word, pair: Pair) -> Result<(), Stop> {
         self.say(why)?;
         self.say(Word::pair(pair))
     }
 
-    /// A pair is handed back for want of memory after so many were taken.
+    /// A pair is returned since an allocation failed after so many were inserted.
     pub fn back_after(&mut self, pair: Pair, taken: u64) -> Result<(), Stop> {
         self.back(Word::Memory, pair)?;
         self.count(taken)
     }
 
-    /// An element is handed back for want of memory.
+    /// An element is returned since an allocation failed.
     pub fn element_back(&mut self, element: Name) -> Result<(), Stop> {
         self.say(Word::Memory)?;
         self.item(Some(element))
     }
 
-    /// An element is handed back for want of memory after so many were taken.
+    /// An element is returned since an allocation failed after so many were inserted.
     pub fn element_back_after(&mut self, element: Name, taken: u64) -> Result<(), Stop> {
         self.element_back(element)?;
         self.count(taken)
     }
 
-    /// Counts the refusals that were said, and returns whether there was one.
+    /// Counts the failed allocations that were said, and returns whether there was one.
     pub fn count_refused(&mut self) -> bool {
         let words = self.words.iter();
         let refused = words.filter(|word| **word == Word::Memory).count();

@@ -10,18 +10,18 @@ pub enum EntryCall<'l> {
     Stay(&'l str),
     /// It ends the entry, and needs nothing more.
     End(&'l str),
-    /// It lends a value, into which this is written.
+    /// It lends a value, to which this is written.
     Write(&'l str, Option<Name>),
-    /// It puts this value where the key is absent, and lends the one that is there, into which the second is
-    /// written.
+    /// It inserts this value if the key is absent, and lends the one that is then present, to which the
+    /// second is written.
     Make(&'l str, Item, Option<Name>),
-    /// It puts this value.
+    /// It inserts this value.
     Put(&'l str, Item),
     /// Steps of a cursor follow.
     Cursor,
     /// A call of a vacant entry that needs nothing more.
     Vacant(&'l str),
-    /// One that puts this value, and may lend it.
+    /// One that inserts this value, and may lend it.
     PutVacant(&'l str, Item, Option<Name>),
 }
 

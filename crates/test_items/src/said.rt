@@ -1,4 +1,4 @@
-//! What is said of keys and values that a container gives or lends.
+//! What is said of keys and values that a container returns or lends.
 use crate::answers::{Answers, Name, Pair, Stop, Word};
 use crate::items::Item;
 use crate::steps::Step;
@@ -25,13 +25,13 @@ pub fn lent_item(item: Option<&Item>) -> Option<Word> {
     Some(Word::item(item?.name()))
 }
 
-/// What is said of a pair that was taken out.
+/// What is said of a pair that was removed.
 pub fn given(pair: Option<(Item, Item)>) -> Option<Word> {
     let (key, value) = pair?;
     Some(shown((&key, &value)))
 }
 
-/// What is said of an element that was taken out.
+/// What is said of an element that was removed.
 pub fn given_item(item: Option<Item>) -> Option<Word> {
     Some(Word::item(item?.name()))
 }
@@ -56,7 +56,7 @@ pub fn lend_pair(pair: Option<(&Item, &mut Item)>, step: Step) -> Option<Word> {
     Some(old)
 }
 
-/// Says the old value, or the pair that is handed back.
+/// Says the old value, or the pair in the `Err`.
 pub fn old(put: Result<Option<Item>, (Item, Item)>, answers: &mut Answers) -> Result<(), Stop> {
     match put {
         Ok(value) => taken_item(value, answers),
@@ -80,12 +80,12 @@ pub fn write(
     said
 }
 
-/// Says that a pair is handed back for want of memory.
+/// Says that a pair is returned since an allocation failed.
 pub fn no_memory((key, value): (Item, Item), answers: &mut Answers) -> Result<(), Stop> {
     answers.back(Word::Memory, (key.name(), value.name()))
 }
 
-/// Says a pair that was taken out.
+/// Says a pair that was removed.
 pub fn taken(pair: Option<(Item, Item)>, answers: &mut Answers) -> Result<(), Stop> {
     match pair {
         Some((key, value)) => answers.pair(Some((key.name(), value.name()))),
@@ -93,7 +93,7 @@ pub fn taken(pair: Option<(Item, Item)>, answers: &mut Answers) -> Result<(), St
     }
 }
 
-/// Says that a pair is handed back for want of memory after so many were taken.
+/// Says that a pair is returned since an allocation failed after so many were inserted.
 pub fn taken_before(
     (key, value): (Item, Item),
     taken: u64,
@@ -103,12 +103,12 @@ pub fn taken_before(
     answers.back_after(pair, taken)
 }
 
-/// Says that an element is handed back for want of memory after so many were taken.
+/// Says that an element is returned since an allocation failed after so many were inserted.
 pub fn element_taken_before(element: Item, taken: u64, answers: &mut Answers) -> Result<(), Stop> {
     answers.element_back_after(element.name(), taken)
 }
 
-/// Says an item that was taken out.
+/// Says an item that was removed.
 pub fn taken_item(item: Option<Item>, answers: &mut Answers) -> Result<(), Stop> {
     match item {
         Some(item) => answers.item(Some(item.name())),
@@ -126,7 +126,7 @@ pub fn written(pair: Option<(&Item, &mut Item)>, value: Option<Name>) -> Option<
     Some(old)
 }
 
-/// Says that an element is handed back for want of memory.
+/// Says that an element is returned since an allocation failed.
 pub fn back(element: Item, answers: &mut Answers) -> Result<(), Stop> {
     answers.element_back(element.name())
 }

@@ -40,7 +40,7 @@ pub fn take_steps<W: Walk>(
     Err(Stop::Unread)
 }
 
-/// The same of an iterator that is given away.
+/// The same of an iterator that is passed by value.
 pub fn walk_whole<W: Walk + Drop>(
     mut walk: W,
     words: &mut Words<'_>,

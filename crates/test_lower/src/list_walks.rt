@@ -1,4 +1,4 @@
-//! Callers of the walks, which show what is known after one.
+//! Callers of the iterators, which show what is known after one.
 ghost use Rattle.std.specs.Prelude.{◌≡◌, ℕ, ◌<◌, ◌≤◌, ◌^◌, List, [], ◌∷◌, ◌++◌, sum, length, IfOk};
 ghost use Rattle.std.specs.Prelude.{MatchOption};
 ghost use Rattle.std.specs.Map.{keys_of, values_of};

@@ -37,7 +37,7 @@ const HASHES: [Hashes; 4] = [
     },
 ];
 
-/// Puts two numbers in under the hash, and takes the first one out.
+/// Inserts two numbers under the hash, and removes the first one.
 #[tactic(auto, using(crate::proofs::Callers::inserted))]
 fn put_second(
     table: &mut Table<u32>,
@@ -60,7 +60,7 @@ fn kept_hash(table: &mut Table<u32>, hash: u64, number: u32) -> Result<u64, TryR
     Ok(table.hash(cell))
 }
 
-/// A table of the numbers below 300. Each was put in after another under the same hash, which was taken out
+/// A table of the numbers below 300. Each was inserted after another under the same hash, which was removed
 /// again.
 fn table_of(alloc: Global, hashes: Hashes) -> Result<Table<u32>, TryReserveError> {
     let mut table = Table::new(alloc);
@@ -75,7 +75,7 @@ fn has(table: &Table<u32>, hash: u64, number: u32) -> bool {
     table.look_up(hash, |node| node == number) == Some(number)
 }
 
-/// Whether the numbers below 300 are found, and none that was taken out.
+/// Whether the numbers below 300 are found, and none that was removed.
 fn finds(table: &Table<u32>, hashes: Hashes) -> bool {
     for number in 0..300u32 {
         let hash = hashes.of(number);
@@ -129,8 +129,8 @@ fn finds_each_of_500_in_1000_steps(rt: HostRuntime) -> Result<(), Fail> {
     Ok(())
 }
 
-/// What is found in a table: what stays, before and after it is shrunk, nothing under a hash that no
-/// number has, once it is cleared not what was there, and then what is put in.
+/// What is found in a table: what stays, before and after it is shrunk, nothing under a hash that no number
+/// has, once it is cleared not what was there, and then what is inserted.
 fn found(alloc: Global, hashes: Hashes) -> Result<[bool; 5], TryReserveError> {
     let mut table = table_of(alloc, hashes)?;
     let stays = finds(&table, hashes);

@@ -1,4 +1,4 @@
-//! Calls of the entry of a key that is in hand, of a map and of a cache.
+//! Calls of the entry of a given key, of a map and of a cache.
 use crate::map_cursors::take_all_steps;
 use crate::map_row::Map;
 use hashlink_map::{Entry, OccupiedEntry};
@@ -11,7 +11,7 @@ type InHand<'m, S> = Entry<'m, Item, Item, S>;
 
 type Occupied<'m, S> = OccupiedEntry<'m, Item, Item, S>;
 
-/// Says the value that is lent, and writes another there, or says the pair that is handed back.
+/// Says the value that is lent, and writes another there, or says the pair in the `Err`.
 macro_rules! say_lent {
     ($lent:expr, $written:expr, $answers:expr) => {
         match $lent {
@@ -225,7 +225,7 @@ fn put_vacant<S: BuildHasher>(
                 Ok(entry) => answers.pair(Some((entry.key().name(), entry.get().name()))),
                 Err(pair) => no_memory(pair, answers),
             },
-            // Puts the pair in, and takes it out at once.
+            // Inserts the pair, and removes it at once.
             _ => match entry.insert_entry(value) {
                 Ok(entry) => taken(Some(entry.remove_entry()), answers),
                 Err(pair) => no_memory(pair, answers),

@@ -12,9 +12,9 @@ pub enum End {
     Left,
     /// It becomes its entry, which is said.
     Entry,
-    /// It lends its entry, which is taken out.
+    /// It lends its entry, which is removed.
     TakeEntry,
-    /// It becomes its entry, which is taken out.
+    /// It becomes its entry, which is removed.
     TakeIntoEntry,
 }
 

@@ -297,7 +297,7 @@ fn ask_room<S: BuildHasher>(
     }
 }
 
-/// Says that all went in, or how many did before the one that is handed back.
+/// Says that all were inserted, or how many were before the one in the error.
 pub fn extended(
     answer: Result<(), ExtendError<Item, Item>>,
     answers: &mut Answers,

@@ -14,8 +14,7 @@ type Entries<'m, S> = RawEntryBuilderMut<'m, Item, Item, S>;
 
 type Occupied<'m, S> = RawOccupiedEntryMut<'m, Item, Item, S>;
 
-/// Says the stored key and the value that is lent, and writes another there, or says the pair that is handed
-/// back.
+/// Says the stored key and the value that is lent, and writes another there, or says the pair in the `Err`.
 macro_rules! say_lent {
     ($lent:expr, $written:expr, $answers:expr) => {
         match $lent {
@@ -25,7 +24,7 @@ macro_rules! say_lent {
     };
 }
 
-/// Says the entry of the pair that was put in, or the pair that is handed back.
+/// Says the entry of the pair that was inserted, or the pair in the `Err`.
 macro_rules! say_entry {
     ($entry:expr, $answers:expr) => {
         match $entry {
@@ -119,8 +118,8 @@ fn raw_of_test<'m, S: BuildHasher>(map: &'m mut Map<S>, way: Way, key: &Item) ->
     }
 }
 
-/// Makes the call of a raw entry of a map that the words say: the way, the key and the call. One that puts an
-/// absent key has another name than one that needs an entry.
+/// Makes the call of a raw entry of a map that the words say: the way, the key and the call. One that inserts
+/// an absent key has another name than one that needs an entry.
 pub fn call_raw<S: BuildHasher + Copy>(
     map: &mut Map<S>,
     home: Home<'_>,
@@ -218,7 +217,7 @@ fn modify<S: BuildHasher>(
     }
 }
 
-/// Makes a call that puts a pair where its key is absent, and lends the pair that is there.
+/// Makes a call that inserts a pair if its key is absent, and lends the pair that is then present.
 pub fn put_found<S: BuildHasher>(
     entries: Entries<'_, S>,
     name: &str,
@@ -353,7 +352,7 @@ fn lend<S: BuildHasher>(
     }
 }
 
-/// Makes a call that puts a pair whose key is absent.
+/// Makes a call that inserts a pair whose key is absent.
 fn put_absent<S: BuildHasher + Copy>(
     map: &mut Map<S>,
     name: &str,

@@ -11,7 +11,7 @@ use test_items::{Answers, Home, Stop, Words, are_written};
 use test_map_rows::Map;
 use test_set_rows::Set;
 
-/// What is wrong with the row, if anything is. A row without memory of its own says so.
+/// Returns what is wrong with the row, if anything is. A row for which an allocation failed says so.
 pub fn wrong<'f>(
     row: Row<'f>,
     home: Home<'_>,
@@ -162,7 +162,7 @@ fn say_cost(home: Home<'_>, answers: &mut Answers) -> Result<(), Stop> {
 struct Speech<C> {
     first: C,
     second: C,
-    /// Whether no answer that was written was refused, so that the next one has to come.
+    /// Whether no call whose answer is written failed to allocate, so that the next one has to come.
     is_sure: bool,
 }
 

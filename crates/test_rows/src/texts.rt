@@ -5,9 +5,8 @@ use std::alloc::Global;
 use std::str::from_utf8;
 use test_items::{Answers, Stop};
 
-/// Whether the answer of `run_text`, where none of it is a refusal, is the one that is written after the text
-/// and a line
-/// `=`, if one is. Each line of the answer is said.
+/// Returns whether the answer of `run_text`, if no allocation for it failed, is the one that is written after
+/// the text and a line `=`, if one is. Each line of the answer is said.
 pub fn is_text_right(
     alloc: Global,
     lines: &str,
@@ -34,7 +33,7 @@ pub fn is_text_right(
     Ok(written.is_none_or(|written| answer == written || answer.contains("memory")))
 }
 
-/// Counts and says that all of a run is refused.
+/// Counts and says that an allocation for the whole of a run failed.
 pub fn refuse(answers: &mut Answers, voice: Voice<'_>) {
     answers.add_refused(1);
     if let Some(rt) = voice {

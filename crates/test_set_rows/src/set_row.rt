@@ -133,7 +133,7 @@ fn put_made<S: BuildHasher>(
     }
 }
 
-/// What is lent where the made element goes in if its equal is absent.
+/// What is lent if the made element is inserted when its equal is absent.
 fn get_or_make<'s, S: BuildHasher>(
     set: &'s mut Set<S>,
     element: &Item,

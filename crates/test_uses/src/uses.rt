@@ -37,8 +37,8 @@ fn a_memo_computes_each_value_once(rt: HostRuntime) {
     assert_eq!(rt; memo_of_next(rt.alloc()), [256; 2]);
 }
 
-/// What a queue answers to three items, of which one was there, its length then, and what it hands
-/// out.
+/// What a queue returns for three items, of which one was present, its length then, and the items that it
+/// returns.
 fn queue_up(alloc: Global) -> ([Result<bool, u32>; 3], usize, [Option<u32>; 3]) {
     let mut queue = Queue::new(alloc);
     let pushed = [queue.push(2u32), queue.push(1), queue.push(2)];
@@ -63,7 +63,7 @@ fn a_setting_keeps_its_place_and_its_last_value(rt: HostRuntime) -> ExitCode {
     passes(has_last_value(&mut Settings::new(rt.alloc())))
 }
 
-/// The statements that a cache of one hands out for one, one, two and one.
+/// The statements that a cache of one returns for one, one, two and one.
 fn prepared(alloc: Global) -> [u32; 4] {
     let mut cache = LruCache::new(alloc, 1);
     [
@@ -79,7 +79,7 @@ fn a_statement_is_prepared_where_it_is_not_kept(rt: HostRuntime) {
     assert_eq!(rt; prepared(rt.alloc()), [1, 1, 2, 3]);
 }
 
-/// Whether a removal of the one key and an insert of another are answered.
+/// Whether a removal of the one key and an insert of another have the right replies.
 fn is_answered(alloc: Global, map: &mut LinkedHashMap<u32, u32>) -> bool {
     let _old = map.insert(1, 10);
     remove_then_insert(alloc, map, 1, 2, 20).is_ok_and(|replies| {
@@ -95,8 +95,8 @@ fn an_insert_after_a_removal_is_answered(rt: HostRuntime) -> ExitCode {
     passes(is_answered(rt.alloc(), &mut LinkedHashMap::new(rt.alloc())))
 }
 
-/// What a cache of two places has for a key that is put in, for one that is there, and once a third key has
-/// dropped the one used the longest ago.
+/// What a cache of two places has for a key that is inserted, for one that is present, and once a third key
+/// has evicted the least recently used one.
 fn values_used(alloc: Global) -> [Result<u32, (u32, u32)>; 5] {
     let mut cache = LruCache::new(alloc, 2);
     [

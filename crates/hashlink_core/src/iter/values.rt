@@ -1,4 +1,4 @@
-//! A walk over the values of a keyed list.
+//! The iterator over the values of a keyed list.
 ghost use Rattle.std.specs.Prelude.{◌≡◌, Some, IfSome, length, ⊤};
 ghost use Rattle.std.specs.Iterator.{at_most, UpTo};
 ghost use Rattle.std.specs.Iterator.SizeHint.{IsWithinCount};
@@ -11,7 +11,7 @@ use std::fmt;
 use std::iter::FusedIterator;
 use std::marker::Model;
 
-/// A walk over the values, front first. Contracts see it as the list of the values that it has left.
+/// An iterator over the values, from front to back. Contracts see it as the list of the values that are left.
 #[derive(Drop)]
 pub struct Values<'a, K, V> {
     inner: Iter<'a, K, V>,
@@ -27,7 +27,7 @@ impl<'a, K, V> Model for Values<'a, K, V> {
 }
 
 impl<'a, K, V> Values<'a, K, V> {
-    /// The values of a walk.
+    /// Returns an iterator over the values that an iterator over entries has left.
     pub(crate) fn new(inner: Iter<'a, K, V>) -> Self
         ensures { result ≡ values_of inner.entry }
     {

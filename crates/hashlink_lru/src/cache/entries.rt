@@ -1,12 +1,11 @@
-//! The map's entries, which act on the cache where they stand. An insert through one may pass the capacity by
-//! one.
+//! The map's entries, which act on the cache at their places. An insert through one can exceed the capacity
+//! by one.
 //!
-//! What comes of `entry` and `raw_entry_mut` borrows the map inside the cache: the cache ends with what its
-//! map ends as, at the same capacity, which for `entry` is proved by a walk written by hand. Of a cache that
-//! is borrowed so a caller's generated proof knows nothing once the entry is gone, except where a call takes
-//! it by value at once.
-//! `make_room` and then an entry of `map_mut` do the same, and leave all known: `hashlink_uses` has a proved
-//! caller for each form.
+//! What `entry` and `raw_entry_mut` return borrows the map inside the cache. Afterwards the cache has what
+//! the map then has, at the same capacity. For `entry` the proof of this is written by hand. If the cache of
+//! a caller is borrowed, its generated proof knows nothing of the cache once the entry is gone, unless a
+//! method takes the entry by value at once. `make_room` and then an entry of `map_mut` do the same, and leave
+//! all known. `hashlink_uses` has a proved caller for each form.
 ghost use Rattle.std.specs.Prelude.{◌≡◌};
 ghost use Rattle.std.specs.Borrow.{sem};
 ghost use Rattle.hashlink_model.specs.Cache.{EntersCache, EvictsFront};
@@ -23,7 +22,8 @@ impl<K: Eq + Hash, V, S: BuildHasher> LruCache<K, V, S> {
     ghost use Rattle.hashlink_lru.specs.Cached.{entries_in, map_in, state_in};
     ghost use Rattle.hashlink_lru.specs.Lends.{HandsOnMap, LendsMap};
 
-    /// The map of the cache, for any of its calls. None of them drops what is above the capacity.
+    /// Returns a mutable reference to the map of the cache, for any of its methods. None of them evicts what
+    /// is above the capacity.
     pub fn map_mut(&mut self) -> &mut LinkedHashMap<K, V, S>
         ensures* lends { sem 𝓛 (LendsMap K.row V.row S.row S.Hasher.row K.Hash S.BuildHasher S.Hasher.Hasher
             self.entry result) }
@@ -32,11 +32,11 @@ impl<K: Eq + Hash, V, S: BuildHasher> LruCache<K, V, S> {
         &mut self.map
     }
 
-    /// Drops the front where there are more entries than the capacity, even where it is the key's own entry,
-    /// and returns the place of the key, with the key in hand. It looks for the key as `peek` does.
+    /// Evicts the front if there are more entries than the capacity, even if it is the key's own entry. Then
+    /// returns the entry of the key, which holds the given key. It looks the key up as `peek` does.
     ///
-    /// So an insert through the entry can pass the capacity by one. Where an entry was dropped, its node is
-    /// spare, and that insert is not refused.
+    /// So an insert through the entry can exceed the capacity by one. If an entry was evicted, its node is
+    /// spare, and that insert cannot fail.
     pub fn entry(&mut self, key: K) -> Entry<'_, K, V, S>
     where
         K: Drop,
@@ -50,18 +50,19 @@ impl<K: Eq + Hash, V, S: BuildHasher> LruCache<K, V, S> {
         self.roomy_map().entry(key)
     }
 
-    /// What finds an entry to read, by a key, by a key and its hash, or by a hash and a test.
+    /// Returns a builder that finds an entry to read: by a key, by a key and its hash, or by a hash and a
+    /// test.
     pub fn raw_entry(&self) -> RawEntryBuilder<'_, K, V, S>
         ensures { read_map result ≡ map_in self.now }
     {
         self.map.raw_entry()
     }
 
-    /// Drops the front where there are more entries than the capacity, and returns what finds an entry to
-    /// change, by a key, by a key and its hash, or by a hash and a test.
+    /// Evicts the front if there are more entries than the capacity. Then returns a builder that finds an
+    /// entry to change: by a key, by a key and its hash, or by a hash and a test.
     ///
-    /// So an insert through the entry can pass the capacity by one. Where an entry was dropped, its node is
-    /// spare, and that insert is not refused.
+    /// So an insert through the entry can exceed the capacity by one. If an entry was evicted, its node is
+    /// spare, and that insert cannot fail.
     pub fn raw_entry_mut(&mut self) -> RawEntryBuilderMut<'_, K, V, S>
     where
         K: Drop,
@@ -76,7 +77,7 @@ impl<K: Eq + Hash, V, S: BuildHasher> LruCache<K, V, S> {
         self.roomy_map().raw_entry_mut()
     }
 
-    /// Drops the front where there are more entries than the capacity, and returns the map.
+    /// Evicts the front if there are more entries than the capacity, and returns the map.
     fn roomy_map(&mut self) -> &mut LinkedHashMap<K, V, S>
     where
         K: Drop,

@@ -1,4 +1,4 @@
-//! How pairs come in, and how the entries that were used longest ago make room.
+//! Inserts, and how the least recently used entries make room for them.
 ghost use Rattle.std.specs.Prelude.{◌≡◌, OnOk};
 ghost use Rattle.hashlink_model.specs.Cache.{CacheInserts, EvictsFront, IsWithin, OnMap};
 ghost use Rattle.hashlink_model.specs.Entries.{IsEntries};
@@ -9,16 +9,17 @@ use std::hash::{BuildHasher, Hash};
 impl<K: Eq + Hash, V, S: BuildHasher> LruCache<K, V, S> {
     ghost use Rattle.hashlink_lru.specs.Cached.{entries_in, state_in, StaysWithin};
 
-    /// Puts the pair last, and returns the key's old value. A key that is there keeps its key object, takes
-    /// the new value and moves to the end. Then entries are dropped from the front until there are no more
-    /// than the capacity, so a cache of capacity 0 is empty afterwards.
+    /// Inserts the pair at the back, and returns the old value of the key if there was one. If the key is
+    /// present, its entry keeps the stored key, takes the new value and moves to the back. Then entries are
+    /// evicted from the front until there are no more than the capacity. So a cache of capacity 0 is empty
+    /// afterwards.
     ///
-    /// It hashes the key once, and takes memory only for an absent key where no node is spare. Where that is
-    /// refused, the pair is handed back and nothing is dropped.
+    /// It hashes the key once. It allocates only if the key is absent and no node is spare. If that
+    /// allocation fails, it returns the pair in `Err` and evicts nothing.
     ///
-    /// It takes a step for each entry that it drops: one at most, unless entries, cursors or `map_mut` have
-    /// passed the capacity. It stores at most six links for a key that is there, four for an absent one, and
-    /// three for each entry that it drops.
+    /// It takes a step for each entry that it evicts: one at most, unless entries, cursors or `map_mut` have
+    /// exceeded the capacity. It stores at most six links if the key is present, four if it is absent, and
+    /// three for each entry that it evicts.
     pub fn insert(&mut self, key: K, value: V) -> Result<Option<V>, (K, V)>
     where
         K: Drop,
@@ -33,8 +34,9 @@ impl<K: Eq + Hash, V, S: BuildHasher> LruCache<K, V, S> {
         Ok(old)
     }
 
-    /// Drops the front where there are more entries than the capacity. It takes constant time, hashes
-    /// nothing, and stores at most three links. The node serves the next new pair, which is then not refused.
+    /// Evicts the front if there are more entries than the capacity. It takes constant time, hashes nothing,
+    /// and stores at most three links. If it evicts one, the next insert of an absent key uses its node, and
+    /// so cannot fail.
     pub fn make_room(&mut self)
     where
         K: Drop,

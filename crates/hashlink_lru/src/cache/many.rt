@@ -1,4 +1,4 @@
-//! Many items in a row, and clones.
+//! Inserts of many items, and clones.
 ghost use Rattle.std.specs.Prelude.{◌≡◌, Bool, true, List, [], None, OnOk, OnErr, IfOk, IfErr};
 ghost use Rattle.std.specs.Iterator.{IsFinite, IsFiniteIterable, Yields, YieldsThen};
 ghost use Rattle.hashlink_model.specs.Cache.{OnMap};
@@ -17,10 +17,11 @@ use std::hash::{BuildHasher, Hash};
 impl<K: Eq + Hash + Drop, V: Drop, S: BuildHasher> LruCache<K, V, S> {
     ghost use Rattle.hashlink_lru.specs.Cached.{state_in, InsertsPairIn, StaysWithin};
 
-    /// Inserts each item in turn, as `insert` does. The iterator has to end.
+    /// Inserts each item in turn, as `insert` does, at the cost of an insert for each. The iterator has to
+    /// end.
     ///
-    /// Where the memory for an item is refused, those before it are in, it is handed back, and nothing after
-    /// it is read.
+    /// If an allocation for an item fails, the items before it stay inserted. The error contains that item
+    /// and their number. No further item is read.
     pub fn extend<I: IntoIterator<Item = (K, V)>>(
         &mut self,
         iter: I,
@@ -37,8 +38,8 @@ impl<K: Eq + Hash + Drop, V: Drop, S: BuildHasher> LruCache<K, V, S> {
         self.extend_from(&mut rest)
     }
 
-    /// The same out of an iterator that its caller keeps: it is left with the items after the refused one, or
-    /// with none.
+    /// Does the same as `extend` with an iterator that the caller keeps. If an allocation fails, the items
+    /// after the one in the error are left in the iterator. Otherwise none is left.
     pub fn extend_from<I: Iterator<Item = (K, V)>>(
         &mut self,
         iter: &mut I,
@@ -64,7 +65,7 @@ impl<K: Eq + Hash + Drop, V: Drop, S: BuildHasher> LruCache<K, V, S> {
     }
 }
 
-/// The items go in as by the function `extend`. The refused one is dropped.
+/// Inserts the items as the function `extend` does. An item that is not inserted is dropped.
 impl<K: Eq + Hash + Drop, V: Drop, S: BuildHasher> Extend<(K, V)> for LruCache<K, V, S> {
     ghost use Rattle.hashlink_lru.specs.Cached.{state_in, InsertsPairIn};
 
@@ -80,11 +81,11 @@ impl<K: Eq + Hash + Drop, V: Drop, S: BuildHasher> Extend<(K, V)> for LruCache<K
 impl<K: Eq + Hash + Clone, V: Clone, S: BuildHasher + Clone> LruCache<K, V, S> {
     ghost use Rattle.hashlink_lru.specs.Cached.{entries_in, state_in};
 
-    /// A cache of the same capacity with a clone of the hasher, in which the map has a clone of each pair, in
-    /// the same order. It is in the same allocator's memory, and has no spare node.
+    /// Returns a clone: a cache of the same capacity, with a clone of the hasher and a clone of each pair in
+    /// the same order. It uses the same allocator, and has no spare node.
     ///
-    /// It returns `AllocError` where the memory for a clone or for a node is refused, and then nothing is
-    /// left of the new cache. A clone of an empty cache is not refused where that of its hasher is not.
+    /// If an allocation for a clone or for a node fails, it returns `AllocError`, and nothing is left of the
+    /// new cache. The clone of an empty cache fails only if the clone of its hasher does.
     pub fn clone(&self) -> Result<Self, AllocError>
         ensures capacity { IfOk result (λ cache. (state_in cache).cap ≡ (state_in self.now).cap) }
         ensures made { IfOk result (λ cache. (s : S) × S.is_clone (state_in self.now).map.hasher s
@@ -93,7 +94,7 @@ impl<K: Eq + Hash + Clone, V: Clone, S: BuildHasher + Clone> LruCache<K, V, S> {
         ensures refused { OnErr result (S.is_infallible (state_in self.now).map.hasher
             → entries_in self.now ≡ [] → ⊥) }
 
-        // Where clones are equal to their sources, the entries are equal to the cache's.
+        // If clones are equal to their sources, the entries are equal to the cache's.
         ensures equal { (eqv : V → V → Bool) → ((x y : K) → K.is_clone x y → K.eq x y ≡ true)
             → ((x y : V) → V.is_clone x y → eqv x y ≡ true)
             → IfOk result (λ cache. entries_eq K.eq eqv (entries_in self.now) (entries_in cache) ≡ true) }
@@ -108,7 +109,7 @@ impl<K: Eq + Hash + Clone, V: Clone, S: BuildHasher + Clone> LruCache<K, V, S> {
     }
 }
 
-/// What holds a cache may be cloned with it: a clone is made as the function `clone` makes it.
+/// A type that holds a cache can be cloned with it: a clone is made by the function `clone`.
 impl<K: Eq + Hash + Clone, V: Clone, S: BuildHasher + Clone> Clone for LruCache<K, V, S> {
     ghost use Rattle.hashlink_lru.specs.Cached.{entries_in, state_in};
 

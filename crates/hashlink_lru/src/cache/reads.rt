@@ -1,5 +1,5 @@
-//! What a cache shows. A `get` is a use and moves its entry to the end, a `peek` leaves the order. Each
-//! hashes the key once, takes no memory, and looks at the entries of one bucket.
+//! Reads of a cache. A `get` is a use and moves its entry to the back; a `peek` does not change the order.
+//! Each hashes the key once, does not allocate, and looks at the entries of one bucket.
 ghost use Rattle.std.specs.Prelude.{◌≡◌, is_some, option_copied};
 ghost use Rattle.std.specs.Borrow.{sem};
 ghost use Rattle.std.specs.Option.{option_map, option_copied_mut};
@@ -16,7 +16,7 @@ impl<K: Eq + Hash, V, S: BuildHasher> LruCache<K, V, S> {
     ghost use Rattle.hashlink_lru.specs.Cached.{entries_in, state_in};
     ghost use Rattle.hashlink_lru.specs.Lends.{LendsValueIn, LendsUsed, EndsUsed};
 
-    /// Whether the key is there. The order stays as it is.
+    /// Returns whether the key is present. The order does not change. It hashes the key once.
     pub fn contains_key<Q: Equivalent<K>>(&self, key: Q) -> bool
         ensures found { result ≡ is_some (lookup (Q.matches key) (entries_in self.now)) }
         ensures distinct { IsEntries K.eq (entries_in self.now) }
@@ -24,7 +24,8 @@ impl<K: Eq + Hash, V, S: BuildHasher> LruCache<K, V, S> {
         self.map.contains_key(key)
     }
 
-    /// The value of the key. The order stays as it is.
+    /// Returns a reference to the value of the key, or `None` if it is absent. The order does not change. It
+    /// hashes the key once.
     pub fn peek<Q: Equivalent<K>>(&self, key: Q) -> Option<&V>
         ensures found { option_copied result ≡ lookup (Q.matches key) (entries_in self.now) }
         ensures distinct { IsEntries K.eq (entries_in self.now) }
@@ -32,7 +33,8 @@ impl<K: Eq + Hash, V, S: BuildHasher> LruCache<K, V, S> {
         self.map.get(key)
     }
 
-    /// The value of the key, for writing. The order stays as it is.
+    /// Returns a mutable reference to the value of the key, or `None` if it is absent. The order does not
+    /// change. It hashes the key once.
     pub fn peek_mut<Q: Equivalent<K>>(&mut self, key: Q) -> Option<&mut V>
         ensures* lends { sem 𝓛 (LendsValueIn K.row V.row S.row S.Hasher.row K.Hash
             S.BuildHasher S.Hasher.Hasher self.entry (Q.matches key) result) }
@@ -42,8 +44,8 @@ impl<K: Eq + Hash, V, S: BuildHasher> LruCache<K, V, S> {
         self.map.get_mut(key)
     }
 
-    /// The front, which was used longest ago and is dropped next. The order stays as it is. It takes constant
-    /// time and hashes nothing.
+    /// Returns the front, which is the least recently used entry and is evicted next, or `None` if the cache
+    /// is empty. The order does not change. It takes constant time and hashes nothing.
     pub fn peek_lru(&self) -> Option<(&K, &V)>
         ensures found { option_map deref_pair result ≡ first_of (entries_in self.now) }
         ensures distinct { IsEntries K.eq (entries_in self.now) }
@@ -51,7 +53,8 @@ impl<K: Eq + Hash, V, S: BuildHasher> LruCache<K, V, S> {
         self.map.front()
     }
 
-    /// The entry that was used last. The order stays as it is. It takes constant time and hashes nothing.
+    /// Returns the back, which is the most recently used entry, or `None` if the cache is empty. The order
+    /// does not change. It takes constant time and hashes nothing.
     pub fn back(&self) -> Option<(&K, &V)>
         ensures found { option_map deref_pair result ≡ last_of (entries_in self.now) }
         ensures distinct { IsEntries K.eq (entries_in self.now) }
@@ -59,8 +62,8 @@ impl<K: Eq + Hash, V, S: BuildHasher> LruCache<K, V, S> {
         self.map.back()
     }
 
-    /// The value of the key, whose entry moves to the end. Of an absent key it returns none, and nothing
-    /// changes. It stores at most six links.
+    /// Returns a reference to the value of the key, and moves its entry to the back. If the key is absent, it
+    /// returns `None` and nothing changes. It hashes the key once, and stores at most six links.
     pub fn get<Q: Equivalent<K>>(&mut self, key: Q) -> Option<&V>
         ensures* used { sem 𝓛 (EndsUsed K.row V.row S.row S.Hasher.row K.Hash S.BuildHasher S.Hasher.Hasher
             self.entry (Q.matches key) (option_copied result)) }
@@ -73,8 +76,8 @@ impl<K: Eq + Hash, V, S: BuildHasher> LruCache<K, V, S> {
         }
     }
 
-    /// The value of the key, for writing. Its entry moves to the end. Of an absent key it returns none, and
-    /// nothing changes. It stores at most six links.
+    /// Returns a mutable reference to the value of the key, and moves its entry to the back. If the key is
+    /// absent, it returns `None` and nothing changes. It hashes the key once, and stores at most six links.
     pub fn get_mut<Q: Equivalent<K>>(&mut self, key: Q) -> Option<&mut V>
         ensures* lends { sem 𝓛 (LendsUsed K.row V.row S.row S.Hasher.row K.Hash S.BuildHasher S.Hasher.Hasher
             self.entry (Q.matches key) result) }

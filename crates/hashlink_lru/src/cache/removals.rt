@@ -1,5 +1,5 @@
-//! How entries leave. The others keep their order, and each node that is freed serves the next new pair. None
-//! of these takes memory.
+//! Removals. The other entries keep their order. Except for `clear`, each removal leaves a spare node, which
+//! the next insert of an absent key uses. No removal allocates.
 ghost use Rattle.std.specs.Prelude.{◌≡◌, IfSome, Contains};
 ghost use Rattle.std.specs.Map.{lookup, lookup_entry, remove_entry};
 ghost use Rattle.std.specs.Map.Calls.{CalledAtPair, TakesPair, CallableOnEachPair};
@@ -15,8 +15,8 @@ use std::hash::{BuildHasher, Hash};
 impl<K: Eq + Hash, V, S: BuildHasher> LruCache<K, V, S> {
     ghost use Rattle.hashlink_lru.specs.Cached.{entries_in, state_in, StaysWithin};
 
-    /// Takes the key's entry out and returns its value. It looks for the key as `peek` does, and stores at
-    /// most three links.
+    /// Removes the entry of the key, and returns its value, or `None` if the key is absent. It looks the key
+    /// up as `peek` does, and stores at most three links.
     pub fn remove<Q: Equivalent<K>>(&mut self, key: Q) -> Option<V>
     where
         K: Drop,
@@ -30,8 +30,8 @@ impl<K: Eq + Hash, V, S: BuildHasher> LruCache<K, V, S> {
         self.map.remove(key)
     }
 
-    /// Takes the key's entry out and returns the stored pair. It looks for the key as `peek` does, and stores
-    /// at most three links.
+    /// Removes the entry of the key, and returns the stored pair, or `None` if the key is absent. It looks
+    /// the key up as `peek` does, and stores at most three links.
     pub fn remove_entry<Q: Equivalent<K>>(&mut self, key: Q) -> Option<(K, V)>
         ensures held { IfSome result (Contains (entries_in self.old)) }
         ensures removes { OnMap (λ a b. RemovesMatch (Q.matches key) a b result) (state_in self.old)
@@ -42,8 +42,8 @@ impl<K: Eq + Hash, V, S: BuildHasher> LruCache<K, V, S> {
         self.map.remove_entry(key)
     }
 
-    /// Takes the front out, which was used longest ago, and returns it. It takes constant time, hashes
-    /// nothing, and stores at most three links.
+    /// Removes the front, which is the least recently used entry, and returns it, or `None` if the cache is
+    /// empty. It takes constant time, hashes nothing, and stores at most three links.
     pub fn remove_lru(&mut self) -> Option<(K, V)>
         ensures pops { OnMap (λ a b. PopsFront a b result) (state_in self.old) (state_in self.new) }
         ensures distinct { IsEntries K.eq (entries_in self.new) }
@@ -52,8 +52,8 @@ impl<K: Eq + Hash, V, S: BuildHasher> LruCache<K, V, S> {
         self.map.pop_front()
     }
 
-    /// Drops every entry and gives its node back to the allocator. The spare nodes stay, and the capacity. It
-    /// takes a step for each entry and each bucket.
+    /// Drops every entry and frees its node. The spare nodes and the capacity stay. It takes linear time in
+    /// the number of entries and buckets.
     pub fn clear(&mut self)
     where
         K: Drop,
@@ -64,8 +64,8 @@ impl<K: Eq + Hash, V, S: BuildHasher> LruCache<K, V, S> {
         self.map.clear();
     }
 
-    /// Sets the capacity, and drops entries from the front until there are no more than it. It takes a step
-    /// for each that it drops, hashes nothing, and stores at most three links for each.
+    /// Sets the capacity, and evicts entries from the front until there are no more than that. It takes a
+    /// step for each entry that it evicts, hashes nothing, and stores at most three links for each.
     pub fn set_capacity(&mut self, capacity: usize)
     where
         K: Drop,
@@ -78,7 +78,7 @@ impl<K: Eq + Hash, V, S: BuildHasher> LruCache<K, V, S> {
         self.capacity = capacity;
     }
 
-    /// Drops entries from the front until there are at most `count`.
+    /// Evicts entries from the front until there are at most `count`.
     pub(super) fn keep_last(&mut self, count: usize)
     where
         K: Drop,
@@ -91,9 +91,9 @@ impl<K: Eq + Hash, V, S: BuildHasher> LruCache<K, V, S> {
         }
     }
 
-    /// Calls `keep` once on each entry, and takes out those at which it returns false. It hashes nothing, and
-    /// stores at most three links for each entry that leaves. `keep` has to take each entry as the calls
-    /// before have left it.
+    /// Calls `keep` once on each entry, and removes those for which it returns false. It hashes nothing, and
+    /// stores at most three links for each removal. `keep` has to be callable on each entry, in the state
+    /// that its earlier calls have left it in.
     pub fn retain<F: FnMut(&K, &mut V) -> bool>(&mut self, keep: F)
     where
         K: Drop,

@@ -1,4 +1,5 @@
-//! Uses of a key that may be absent: a hit lends its value as `get_mut` does, a miss makes it and puts it in.
+//! Uses of a key that may be absent: a hit returns a reference to the value as `get_mut` does, a miss makes
+//! the value and inserts it.
 ghost use Rattle.std.specs.Prelude.{◌≡◌, None, Ok, Err, OnOk, IfOk, IfErr};
 ghost use Rattle.std.specs.Borrow.{sem};
 ghost use Rattle.std.specs.Option.{UnwrapsOrElse};
@@ -18,19 +19,19 @@ impl<K: Eq + Hash, V, S: BuildHasher> LruCache<K, V, S> {
     ghost use Rattle.hashlink_lru.specs.Cached.{entries_in, state_in, UsesOrPuts, FailsToUse};
     ghost use Rattle.hashlink_lru.specs.Lends.{LendsUsedOrNew, LendsUsedOrTryNew};
 
-    /// The value of the key, for writing. A key that is there moves to the end, and `make` is not called: it
-    /// is a hit of `get_mut`, and drops nothing. For an absent key `make` is called once, and what it gives
-    /// is put last with the key. Then entries are dropped from the front until there are no more than the
-    /// capacity.
+    /// Returns a mutable reference to the value of the key. If the key is present, its entry moves to the
+    /// back and `make` is not called: it is a hit of `get_mut`, and evicts nothing. If the key is absent,
+    /// `make` is called once, and the key is inserted at the back with what it returns. Then entries are
+    /// evicted from the front until there are no more than the capacity.
     ///
-    /// What is lent has to stand in the cache. So at capacity 0 the new pair stays, alone and one beyond the
-    /// capacity, as after an entry: the next insert drops it.
+    /// The value has to be in the cache while it is borrowed. So at capacity 0 the new pair stays, alone and
+    /// one beyond the capacity, as after an entry. The next insert evicts it.
     ///
-    /// It takes memory only for an absent key where no node is spare. Where that is refused, the key and the
-    /// value that was made are handed back, no entry changes and nothing is dropped.
+    /// It allocates only if the key is absent and no node is spare. If that allocation fails, it returns the
+    /// key and the value that was made in `Err`, changes no entry and evicts nothing.
     ///
-    /// It hashes the key once, and stores at most six links for a key that is there, four for an absent one,
-    /// and three for each entry that it drops.
+    /// It hashes the key once. It stores at most six links if the key is present, four if it is absent, and
+    /// three for each entry that it evicts.
     pub fn get_or_insert_with<F: FnOnce() -> V>(
         &mut self,
         key: K,
@@ -55,7 +56,7 @@ impl<K: Eq + Hash, V, S: BuildHasher> LruCache<K, V, S> {
         }
     }
 
-    /// `get_or_insert_with`, before anything is lent.
+    /// Does the same as `get_or_insert_with`, and returns no reference.
     fn use_or_put<F: FnOnce() -> V>(&mut self, key: K, make: F) -> Result<(), (K, V)>
     where
         K: Drop,
@@ -78,11 +79,11 @@ impl<K: Eq + Hash, V, S: BuildHasher> LruCache<K, V, S> {
         Ok(())
     }
 
-    /// `get_or_insert_with` of what may fail to be made. The error of `make` is handed on with the key, and
-    /// then nothing changes.
+    /// Does the same as `get_or_insert_with`, with a `make` that may fail. Its error is then returned with
+    /// the key, in `TryInsertError::Make`, and nothing changes.
     ///
-    /// It takes memory only for an absent key where no node is spare. Where that is refused, the key and the
-    /// value that was made are handed back, no entry changes and nothing is dropped.
+    /// It allocates only if the key is absent and no node is spare. If that allocation fails, it returns the
+    /// key and the value that was made, in `TryInsertError::Memory`, changes no entry and evicts nothing.
     pub fn get_or_try_insert_with<E, F: FnOnce() -> Result<V, E>>(
         &mut self,
         key: K,
@@ -106,7 +107,7 @@ impl<K: Eq + Hash, V, S: BuildHasher> LruCache<K, V, S> {
         }
     }
 
-    /// `get_or_try_insert_with`, before anything is lent.
+    /// Does the same as `get_or_try_insert_with`, and returns no reference.
     fn use_or_try_put<E, F: FnOnce() -> Result<V, E>>(
         &mut self,
         key: K,
@@ -133,7 +134,8 @@ impl<K: Eq + Hash, V, S: BuildHasher> LruCache<K, V, S> {
     }
 }
 
-/// Moves the entry of the key to the end, or puts in what `make` returns. It hashes the key once.
+/// Moves the entry of the key to the back, or, if the key is absent, inserts it there with what `make` returns.
+/// It hashes the key once.
 fn move_or_make<K: Eq + Hash + Drop, V: Drop, S: BuildHasher, F: FnOnce() -> V + Drop>(
     map: &mut LinkedHashMap<K, V, S>,
     key: K,
@@ -150,7 +152,7 @@ fn move_or_make<K: Eq + Hash + Drop, V: Drop, S: BuildHasher, F: FnOnce() -> V +
     Ok(())
 }
 
-/// `move_or_make` of what may fail to be made.
+/// Does the same as `move_or_make`, with a `make` that may fail.
 fn move_or_try_make<
     K: Eq + Hash + Drop,
     V: Drop,

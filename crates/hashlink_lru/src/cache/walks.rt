@@ -1,4 +1,4 @@
-//! Walks over a cache, from both ends. They do not count as a use. None of them takes memory, and each step
+//! Iterators over a cache, from both ends. They do not count as uses. None of them allocates, and each step
 //! takes constant time.
 ghost use Rattle.std.specs.Prelude.{◌≡◌, ◌^◌, ◌<◌, length};
 ghost use Rattle.std.specs.Borrow.{sem};
@@ -17,7 +17,8 @@ impl<K: Eq + Hash, V, S: BuildHasher> LruCache<K, V, S> {
     ghost use Rattle.hashlink_lru.specs.Cached.{entries_in, map_in};
     ghost use Rattle.hashlink_lru.specs.Lends.{HandsOnMap};
 
-    /// A walk over the entries, front first: what was used longest ago comes first.
+    /// Returns an iterator over the entries, from front to back: the least recently used comes first. It is
+    /// not a use. It does not allocate, and each step takes constant time.
     pub fn iter(&self) -> Iter<'_, K, V>
         ensures rest { result ≡ entries_in self.now }
         ensures distinct { IsEntries K.eq (entries_in self.now) }
@@ -28,7 +29,8 @@ impl<K: Eq + Hash, V, S: BuildHasher> LruCache<K, V, S> {
         self.map.iter()
     }
 
-    /// A walk over the entries, front first, that lends each value for writing.
+    /// Returns a lending iterator over the entries, from front to back, with mutable references to the
+    /// values.
     pub fn iter_mut(&mut self) -> IterMut<'_, K, V, S>
         ensures* hands_on { sem 𝓛
             (HandsOnMap K.row V.row S.row S.Hasher.row K.Hash S.BuildHasher S.Hasher.Hasher
@@ -40,7 +42,8 @@ impl<K: Eq + Hash, V, S: BuildHasher> LruCache<K, V, S> {
         self.map.iter_mut()
     }
 
-    /// A walk that takes the entries out, front first. At its end, early or not, the cache is empty.
+    /// Returns an iterator that removes the entries and returns them, from front to back. When the iterator
+    /// is dropped, exhausted or not, the cache is empty.
     pub fn drain(&mut self) -> Drain<'_, K, V, S>
     where
         K: Drop,

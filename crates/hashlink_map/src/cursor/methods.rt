@@ -1,4 +1,4 @@
-//! The calls of `CursorMut`.
+//! The methods of `CursorMut`.
 ghost use Rattle.std.specs.Prelude.{◌≡◌, IfOk, IfErr, IfSome, IfNone, Some, length, slice_get};
 ghost use Rattle.std.specs.Borrow.{sem};
 ghost use Rattle.std.specs.Option.{option_map, option_copied_mut};
@@ -20,8 +20,8 @@ impl<'a, K: Eq + Hash, V, S: BuildHasher> CursorMut<'a, K, V, S> {
     ghost use Rattle.hashlink_map.specs.RawEntry.{raw_occupied_map, raw_place};
     ghost use Rattle.hashlink_model.specs.Entry.{value_at};
 
-    /// Moves to the next place: from the last entry to the guard, and from there to the first. It stores no
-    /// link.
+    /// Moves to the next place: from the last entry to the guard, and from the guard to the first entry. It
+    /// stores no link.
     pub fn move_next(&mut self)
         ensures same_map { (cursor_map self.new).ghost_name ≡ (cursor_map self.old).ghost_name }
         ensures unchanged { (cursor_map self.new).now ≡ (cursor_map self.old).now }
@@ -31,8 +31,8 @@ impl<'a, K: Eq + Hash, V, S: BuildHasher> CursorMut<'a, K, V, S> {
         self.place = self.map.place_after(self.place);
     }
 
-    /// Moves to the place before: from the first entry to the guard, and from there to the last. It stores no
-    /// link.
+    /// Moves to the previous place: from the first entry to the guard, and from the guard to the last entry.
+    /// It stores no link.
     pub fn move_prev(&mut self)
         ensures same_map { (cursor_map self.new).ghost_name ≡ (cursor_map self.old).ghost_name }
         ensures unchanged { (cursor_map self.new).now ≡ (cursor_map self.old).now }
@@ -42,7 +42,7 @@ impl<'a, K: Eq + Hash, V, S: BuildHasher> CursorMut<'a, K, V, S> {
         self.place = self.map.place_before(self.place);
     }
 
-    /// The pair of the node.
+    /// Returns the pair of the node.
     fn pair_at_node(&mut self, node: Node) -> (&K, &mut V)
         requires { Holds (cursor_map self.old).now.nodes node }
         ensures* lends { sem 𝓛 (LendsAtCursorNode K.row V.row S.row S.Hasher.row self.entry node result.1) }
@@ -52,7 +52,7 @@ impl<'a, K: Eq + Hash, V, S: BuildHasher> CursorMut<'a, K, V, S> {
         self.map.pair_at_mut(node)
     }
 
-    /// The pair at the place, and none at the guard.
+    /// Returns the pair at the place, or `None` at the guard.
     fn pair_at(&mut self, place: Option<Node>) -> Option<(&K, &mut V)>
         requires { IsPlace (cursor_map self.old).now.nodes place }
         ensures* lends { sem 𝓛 (LendsPairFromCursor K.row V.row S.row S.Hasher.row self.entry
@@ -66,7 +66,7 @@ impl<'a, K: Eq + Hash, V, S: BuildHasher> CursorMut<'a, K, V, S> {
         }
     }
 
-    /// The cursor, and its place.
+    /// Returns the cursor and its place.
     fn with_place(&mut self) -> (&mut Self, Option<Node>)
         ensures cursor { result.0 ≡ self.entry }
         ensures place { result.1 ≡ cursor_node self.old }
@@ -75,7 +75,7 @@ impl<'a, K: Eq + Hash, V, S: BuildHasher> CursorMut<'a, K, V, S> {
         (self, place)
     }
 
-    /// The key at the cursor, and its value for writing: none at the guard.
+    /// Returns the key at the cursor and a mutable reference to its value, or `None` at the guard.
     pub fn current(&mut self) -> Option<(&K, &mut V)>
         ensures* lends { sem 𝓛 (LendsPairFromCursor K.row V.row S.row S.Hasher.row self.entry
             (cursor_state self.old).place result) }
@@ -86,7 +86,7 @@ impl<'a, K: Eq + Hash, V, S: BuildHasher> CursorMut<'a, K, V, S> {
         cursor.pair_at(place)
     }
 
-    /// The cursor, and the place after its own.
+    /// Returns the cursor and the place after its own.
     fn with_next(&mut self) -> (&mut Self, Option<Node>)
         ensures cursor { result.0 ≡ self.entry }
         ensures place { IsPlaceAt (cursor_map self.old).now.nodes result.1
@@ -96,7 +96,7 @@ impl<'a, K: Eq + Hash, V, S: BuildHasher> CursorMut<'a, K, V, S> {
         (self, next)
     }
 
-    /// The key at the next place, and its value for writing: none at the guard.
+    /// Returns the key at the next place and a mutable reference to its value, or `None` at the guard.
     pub fn peek_next(&mut self) -> Option<(&K, &mut V)>
         ensures* lends { sem 𝓛 (LendsPairFromCursor K.row V.row S.row S.Hasher.row self.entry
             (place_next (cursor_state self.old)) result) }
@@ -107,7 +107,7 @@ impl<'a, K: Eq + Hash, V, S: BuildHasher> CursorMut<'a, K, V, S> {
         cursor.pair_at(place)
     }
 
-    /// The cursor, and the place before its own.
+    /// Returns the cursor and the place before its own.
     fn with_previous(&mut self) -> (&mut Self, Option<Node>)
         ensures cursor { result.0 ≡ self.entry }
         ensures place { IsPlaceAt (cursor_map self.old).now.nodes result.1
@@ -117,7 +117,7 @@ impl<'a, K: Eq + Hash, V, S: BuildHasher> CursorMut<'a, K, V, S> {
         (self, previous)
     }
 
-    /// The key at the place before, and its value for writing: none at the guard.
+    /// Returns the key at the previous place and a mutable reference to its value, or `None` at the guard.
     pub fn peek_prev(&mut self) -> Option<(&K, &mut V)>
         ensures* lends { sem 𝓛 (LendsPairFromCursor K.row V.row S.row S.Hasher.row self.entry
             (place_previous (cursor_state self.old)) result) }
@@ -128,8 +128,8 @@ impl<'a, K: Eq + Hash, V, S: BuildHasher> CursorMut<'a, K, V, S> {
         cursor.pair_at(place)
     }
 
-    /// The value at the cursor, for writing: `current` without the key, of which a caller knows in full what
-    /// the map is afterwards.
+    /// Returns a mutable reference to the value at the cursor, or `None` at the guard. It is `current`
+    /// without the key: a caller can prove exactly what the map is afterwards.
     pub fn current_value(&mut self) -> Option<&mut V>
         ensures* lends { sem 𝓛 (LendsFromCursor K.row V.row S.row S.Hasher.row self.entry
             (cursor_state self.old).place result) }
@@ -142,7 +142,7 @@ impl<'a, K: Eq + Hash, V, S: BuildHasher> CursorMut<'a, K, V, S> {
         }
     }
 
-    /// The entry at the cursor. At the guard it gives the cursor back.
+    /// Returns the entry at the cursor. At the guard it returns the cursor in `Err`.
     pub fn current_entry(self) -> Result<RawOccupiedEntryMut<'a, K, V, S>, Self>
         ensures entry { IfOk result
             (λ o. ((raw_occupied_map o).ghost_name ≡ (cursor_map self.entry).ghost_name)
@@ -160,8 +160,8 @@ impl<'a, K: Eq + Hash, V, S: BuildHasher> CursorMut<'a, K, V, S> {
         }
     }
 
-    /// The entry at the cursor, and none at the guard: `current_entry` of which a caller knows in full what
-    /// the map is afterwards.
+    /// Returns the entry at the cursor, or `None` at the guard. Unlike with `current_entry`, a caller can
+    /// prove exactly what the map is afterwards.
     pub fn into_entry(self) -> Option<RawOccupiedEntryMut<'a, K, V, S>>
         ensures* hands_on { sem 𝓛 (HandsOnOccupied K.row V.row S.row S.Hasher.row
             (cursor_map self.entry) result) }
@@ -177,7 +177,7 @@ impl<'a, K: Eq + Hash, V, S: BuildHasher> CursorMut<'a, K, V, S> {
         Some(RawOccupiedEntryMut { map, node })
     }
 
-    /// The entry at the cursor, and none at the guard.
+    /// Returns the entry at the cursor, or `None` at the guard.
     pub fn current_pair(&self) -> Option<(&K, &V)>
         ensures { option_map deref_pair result ≡ entry_in (cursor_state self.now)
             (cursor_state self.now).place }
@@ -185,7 +185,7 @@ impl<'a, K: Eq + Hash, V, S: BuildHasher> CursorMut<'a, K, V, S> {
         self.map.pair_at_place(self.place)
     }
 
-    /// The entry at the next place, and none at the guard.
+    /// Returns the entry at the next place, or `None` at the guard.
     pub fn next_pair(&self) -> Option<(&K, &V)>
         ensures { option_map deref_pair result
             ≡ entry_in (cursor_state self.now) (place_next (cursor_state self.now)) }
@@ -193,7 +193,7 @@ impl<'a, K: Eq + Hash, V, S: BuildHasher> CursorMut<'a, K, V, S> {
         self.map.pair_at_place(self.map.place_after(self.place))
     }
 
-    /// The entry at the place before, and none at the guard.
+    /// Returns the entry at the previous place, or `None` at the guard.
     pub fn prev_pair(&self) -> Option<(&K, &V)>
         ensures { option_map deref_pair result
             ≡ entry_in (cursor_state self.now) (place_previous (cursor_state self.now)) }
@@ -201,13 +201,14 @@ impl<'a, K: Eq + Hash, V, S: BuildHasher> CursorMut<'a, K, V, S> {
         self.map.pair_at_place(self.map.place_before(self.place))
     }
 
-    /// Puts the pair right before the cursor, at the guard last, and returns the key's old value. A key that
-    /// is there keeps its key object, takes the new value and moves there, unless it stands there. The cursor
-    /// stays on its entry, wherever that is then, or on the guard. It looks for the key as `get` does, and
-    /// stores at most six links for a key that is there and four for an absent one.
+    /// Inserts the pair directly before the cursor, and returns the old value of the key if there was one. At
+    /// the guard, the pair becomes the last. If the key is present, its entry keeps the stored key, takes the
+    /// new value and moves there, unless it is there already. The cursor stays on its entry, wherever that is
+    /// afterwards, or on the guard. The call looks the key up as `get` does. It stores at most six links if
+    /// the key is present, and four if it is absent.
     ///
-    /// It takes memory only for an absent key where no node is spare. Where that is refused, the pair is
-    /// handed back and no entry changes.
+    /// It allocates only if the key is absent and no node is spare. If that allocation fails, it returns the
+    /// pair in `Err` and changes no entry.
     pub fn insert_before(&mut self, key: K, value: V) -> Result<Option<V>, (K, V)>
     where
         K: Drop,
@@ -219,7 +220,8 @@ impl<'a, K: Eq + Hash, V, S: BuildHasher> CursorMut<'a, K, V, S> {
         self.map.insert_at(place, key, value)
     }
 
-    /// `insert_before` for the place right after the cursor, at the guard the first.
+    /// Inserts the pair directly after the cursor, as `insert_before` does before it. At the guard, the pair
+    /// becomes the first.
     pub fn insert_after(&mut self, key: K, value: V) -> Result<Option<V>, (K, V)>
     where
         K: Drop,

@@ -1,4 +1,4 @@
-//! `entry`, and the calls of `Entry`.
+//! `entry`, and the methods of `Entry`.
 ghost use Rattle.std.specs.Prelude.{◌≡◌, None, Some, Ok, IfOk, IfErr, unwrap_or};
 ghost use Rattle.std.specs.Borrow.{sem, MutBor};
 ghost use Rattle.std.specs.Option.{UnwrapsOrElse};
@@ -16,8 +16,8 @@ use crate::try_insert_error::TryInsertError;
 use std::hash::{BuildHasher, Hash};
 
 impl<K: Eq + Hash, V, S: BuildHasher> LinkedHashMap<K, V, S> {
-    /// The place of the key, with the key in hand. It looks for the key as `get` does, with one hash; what is
-    /// done through the entry then hashes nothing.
+    /// Returns the entry of the key. It looks the key up as `get` does, with one hash. What is done through
+    /// the entry then hashes nothing.
     pub fn entry(&mut self, key: K) -> Entry<'_, K, V, S>
         ensures same_map { (entry_map result).ghost_name ≡ self.entry.ghost_name }
         ensures unchanged { (entry_map result).now ≡ self.old }
@@ -42,7 +42,7 @@ impl<K: Eq + Hash, V, S: BuildHasher> LinkedHashMap<K, V, S> {
 }
 
 impl<'a, K: Eq + Hash, V, S: BuildHasher> Entry<'a, K, V, S> {
-    /// The stored key where the entry is occupied, else the key in hand.
+    /// Returns a reference to the stored key if the entry is occupied, and to the given key if it is vacant.
     pub fn key(&self) -> &K
         ensures { result.now ≡ stored_key K.eq (entry_state self.now).map.entries (entry_state self.now).key }
     {
@@ -52,11 +52,12 @@ impl<'a, K: Eq + Hash, V, S: BuildHasher> Entry<'a, K, V, S> {
         }
     }
 
-    /// Lends the value. An occupied entry moves to the end, a vacant one puts the key in hand and the value
-    /// last. So the map ends as an insert of what is written would leave it.
+    /// Returns a mutable reference to the value. An occupied entry moves to the back. A vacant one inserts
+    /// the given key with `default` at the back. So the map is afterwards as after an insert of the value
+    /// that is written.
     ///
-    /// It takes memory only for a vacant entry where no node is spare. Where that is refused, the key in hand
-    /// and the value are handed back, and no entry changes.
+    /// It allocates only if the entry is vacant and no node is spare. If that allocation fails, it returns
+    /// the given key and `default` in `Err` and changes no entry.
     pub fn or_insert(self, default: V) -> Result<&'a mut V, (K, V)>
     where
         K: Drop,
@@ -71,7 +72,8 @@ impl<'a, K: Eq + Hash, V, S: BuildHasher> Entry<'a, K, V, S> {
         }
     }
 
-    /// `or_insert` of what `default` gives, which is called only where the entry is vacant.
+    /// Does the same as `or_insert` with the value that `default` returns. `default` is called only if the
+    /// entry is vacant.
     pub fn or_insert_with<F: FnOnce() -> V>(self, default: F) -> Result<&'a mut V, (K, V)>
     where
         K: Drop,
@@ -89,11 +91,12 @@ impl<'a, K: Eq + Hash, V, S: BuildHasher> Entry<'a, K, V, S> {
         }
     }
 
-    /// `or_insert` of what `default` gives, which is called only where the entry is vacant and may fail. Its
-    /// error is handed on with the key in hand, and then nothing changes.
+    /// Does the same as `or_insert` with the value that `default` returns. `default` is called only if the
+    /// entry is vacant, and it may fail. Then its error is returned with the given key, in
+    /// `TryInsertError::Make`, and nothing changes.
     ///
-    /// It takes memory only for a vacant entry where no node is spare. Where that is refused, the key in hand
-    /// and the value that was made are handed back, and no entry changes.
+    /// It allocates only if the entry is vacant and no node is spare. If that allocation fails, it returns
+    /// the given key and the value that was made, in `TryInsertError::Memory`, and changes no entry.
     pub fn or_try_insert_with<E, F: FnOnce() -> Result<V, E>>(
         self,
         default: F,
@@ -113,7 +116,7 @@ impl<'a, K: Eq + Hash, V, S: BuildHasher> Entry<'a, K, V, S> {
         }
     }
 
-    /// Calls `f` on the value where the entry is occupied. Nothing moves.
+    /// Calls `f` on the value if the entry is occupied. Nothing moves.
     pub fn and_modify<F: FnOnce(&mut V)>(self, f: F) -> Self
     where
         F: Drop,

@@ -1,4 +1,4 @@
-//! The calls of `OccupiedEntry`. None of them hashes or takes memory.
+//! The methods of `OccupiedEntry`. None of them hashes or allocates.
 ghost use Rattle.std.specs.Prelude.{◌≡◌, ◌-◌, length, Some, IfOk};
 ghost use Rattle.std.specs.Borrow.{sem};
 ghost use Rattle.hashlink_model.specs.MapState.{RemovesAt, MovesAt};
@@ -19,21 +19,21 @@ impl<'a, K: Eq + Hash, V, S: BuildHasher> OccupiedEntry<'a, K, V, S> {
     ghost use Rattle.hashlink_map.specs.RawEntry.{raw_occupied_map, raw_place};
     ghost use Rattle.hashlink_map.specs.EntryLends.{LendsFromOccupied, LendsForGood, LendsLast};
 
-    /// The stored key, which may be another object than the key in hand.
+    /// Returns a reference to the stored key, which may be a different object from the given key.
     pub fn key(&self) -> &K
         ensures { key_at (occupied_state self.now).map.entries (occupied_place self.now) ≡ Some result.now }
     {
         self.map.pair_at(self.node).0
     }
 
-    /// The value.
+    /// Returns a reference to the value.
     pub fn get(&self) -> &V
         ensures { value_at (occupied_state self.now).map.entries (occupied_place self.now) ≡ Some result.now }
     {
         self.map.pair_at(self.node).1
     }
 
-    /// The value, for writing.
+    /// Returns a mutable reference to the value.
     pub fn get_mut(&mut self) -> &mut V
         ensures* lends { sem 𝓛 (LendsFromOccupied K.row V.row S.row S.Hasher.row self.entry result) }
         ensures value { value_at (occupied_state self.old).map.entries (occupied_place self.old)
@@ -44,7 +44,7 @@ impl<'a, K: Eq + Hash, V, S: BuildHasher> OccupiedEntry<'a, K, V, S> {
         self.map.value_at_mut(node)
     }
 
-    /// The value, for writing as long as the map is borrowed.
+    /// Returns a mutable reference to the value for as long as the map is borrowed.
     pub fn into_mut(self) -> &'a mut V
     where
         K: Drop,
@@ -57,9 +57,9 @@ impl<'a, K: Eq + Hash, V, S: BuildHasher> OccupiedEntry<'a, K, V, S> {
         map.value_at_mut(node)
     }
 
-    /// Moves the entry to the end, and lends its value as long as the map is borrowed. It never returns an
-    /// `Err`: of a `Result` a clause can say by a relation what the map ends as, of a bare reference by a
-    /// function alone.
+    /// Moves the entry to the back, and returns a mutable reference to its value for as long as the map is
+    /// borrowed. It never returns an `Err`. It returns a `Result` since a clause can then describe the map
+    /// afterwards by a relation. Of a bare reference it could do so only by a function.
     pub(crate) fn into_last_mut<E>(self) -> Result<&'a mut V, E>
     where
         K: Drop,
@@ -72,7 +72,7 @@ impl<'a, K: Eq + Hash, V, S: BuildHasher> OccupiedEntry<'a, K, V, S> {
         Ok(map.value_at_mut(node))
     }
 
-    /// Moves the entry to the end. It stores at most six links.
+    /// Moves the entry to the back. It stores at most six links.
     pub fn to_back(&mut self)
         ensures same_map { (occupied_map self.new).ghost_name ≡ (occupied_map self.old).ghost_name }
         ensures moves { MovesAt (occupied_state self.old).map (occupied_state self.new).map
@@ -94,7 +94,7 @@ impl<'a, K: Eq + Hash, V, S: BuildHasher> OccupiedEntry<'a, K, V, S> {
         self.map.move_to_front(node);
     }
 
-    /// Puts the value in, moves the entry to the end, and returns the old value. The stored key stays. It
+    /// Replaces the value, moves the entry to the back, and returns the old value. The stored key stays. It
     /// stores at most six links.
     pub fn insert(&mut self, value: V) -> V
         ensures same_map { (occupied_map self.new).ghost_name ≡ (occupied_map self.old).ghost_name }
@@ -106,8 +106,8 @@ impl<'a, K: Eq + Hash, V, S: BuildHasher> OccupiedEntry<'a, K, V, S> {
         self.map.put_value_last(node, value)
     }
 
-    /// Puts the key in hand and the value in, moves the entry to the end, and returns the old pair. It stores
-    /// at most six links.
+    /// Replaces the pair by the given key and the value, moves the entry to the back, and returns the old
+    /// pair. It stores at most six links.
     pub fn insert_entry(self, value: V) -> (K, V)
         ensures { InsertsEntry (occupied_state self.entry).map (state_of self.exit.0.now)
             (occupied_place self.entry) (occupied_state self.entry).key value result }
@@ -117,7 +117,7 @@ impl<'a, K: Eq + Hash, V, S: BuildHasher> OccupiedEntry<'a, K, V, S> {
         self.map.put_pair_last(node, key, value)
     }
 
-    /// Puts the key in hand and the value in, and returns the old pair. The entry keeps its place.
+    /// Replaces the pair by the given key and the value, and returns the old pair. The entry keeps its place.
     pub fn replace_entry(self, value: V) -> (K, V)
         ensures { ReplacesEntry (occupied_state self.entry).map (state_of self.exit.0.now)
             (occupied_place self.entry) (occupied_state self.entry).key value result }
@@ -127,7 +127,8 @@ impl<'a, K: Eq + Hash, V, S: BuildHasher> OccupiedEntry<'a, K, V, S> {
         self.map.replace_pair_at(node, key, value)
     }
 
-    /// Puts the key in hand in, and returns the old key. The entry keeps its place and its value.
+    /// Replaces the stored key by the given key, and returns the old key. The entry keeps its place and its
+    /// value.
     pub fn replace_key(self) -> K
         ensures { ReplacesKey (occupied_state self.entry).map (state_of self.exit.0.now)
             (occupied_place self.entry) (occupied_state self.entry).key result }
@@ -137,7 +138,7 @@ impl<'a, K: Eq + Hash, V, S: BuildHasher> OccupiedEntry<'a, K, V, S> {
         self.map.replace_key_at(node, key)
     }
 
-    /// The key in hand, for good. The map stays as it is.
+    /// Returns the given key, and ends the entry. The map does not change.
     pub fn into_key(self) -> K
         ensures key { result ≡ (occupied_state self.entry).key }
         ensures unchanged { self.exit.0.now ≡ (occupied_map self.entry).now }
@@ -150,7 +151,7 @@ impl<'a, K: Eq + Hash, V, S: BuildHasher> OccupiedEntry<'a, K, V, S> {
         key
     }
 
-    /// A cursor on this entry. The key in hand is dropped.
+    /// Returns a cursor on this entry. The given key is dropped.
     pub fn cursor_mut(self) -> CursorMut<'a, K, V, S>
     where
         K: Drop,
@@ -165,7 +166,7 @@ impl<'a, K: Eq + Hash, V, S: BuildHasher> OccupiedEntry<'a, K, V, S> {
         }
     }
 
-    /// The raw entry of this place. The key in hand is dropped.
+    /// Returns the raw entry at this place. The given key is dropped.
     pub fn raw_entry_mut(self) -> RawOccupiedEntryMut<'a, K, V, S>
     where
         K: Drop,
@@ -177,8 +178,8 @@ impl<'a, K: Eq + Hash, V, S: BuildHasher> OccupiedEntry<'a, K, V, S> {
         RawOccupiedEntryMut { map, node }
     }
 
-    /// Takes the entry out and returns its value. The key in hand and the stored key are dropped. It stores
-    /// at most three links.
+    /// Removes the entry and returns its value. The given key and the stored key are dropped. It stores at
+    /// most three links.
     pub fn remove(self) -> V
     where
         K: Drop,
@@ -192,7 +193,7 @@ impl<'a, K: Eq + Hash, V, S: BuildHasher> OccupiedEntry<'a, K, V, S> {
         value
     }
 
-    /// Takes the entry out and returns the stored pair. The key in hand is dropped. It stores at most three
+    /// Removes the entry and returns the stored pair. The given key is dropped. It stores at most three
     /// links.
     pub fn remove_entry(self) -> (K, V)
     where

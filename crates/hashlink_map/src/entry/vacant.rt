@@ -1,4 +1,4 @@
-//! The calls of `VacantEntry`. None of them hashes.
+//! The methods of `VacantEntry`. None of them hashes.
 ghost use Rattle.std.specs.Prelude.{◌≡◌, Ok, IfOk, IfErr, length};
 ghost use Rattle.std.specs.Borrow.{sem};
 ghost use Rattle.hashlink_model.specs.MapState.{AddsEntry};
@@ -16,14 +16,14 @@ impl<'a, K: Eq + Hash, V, S: BuildHasher> VacantEntry<'a, K, V, S> {
     ghost use Rattle.hashlink_map.specs.RawEntry.{raw_occupied_map, raw_vacant_map, raw_place};
     ghost use Rattle.hashlink_map.specs.RawLends.{HandsOnNew};
 
-    /// The key in hand.
+    /// Returns a reference to the given key.
     pub fn key(&self) -> &K
         ensures { result.now ≡ (vacant_state self.now).key }
     {
         &self.key
     }
 
-    /// The key in hand, for good. The map stays as it is.
+    /// Returns the given key, and ends the entry. The map does not change.
     pub fn into_key(self) -> K
         ensures key { result ≡ (vacant_state self.entry).key }
         ensures unchanged { self.exit.0.now ≡ (vacant_map self.entry).now }
@@ -36,10 +36,11 @@ impl<'a, K: Eq + Hash, V, S: BuildHasher> VacantEntry<'a, K, V, S> {
         key
     }
 
-    /// Puts the key in hand and the value last, and lends the value. It stores at most four links.
+    /// Inserts the given key with the value at the back, and returns a mutable reference to the value. It
+    /// stores at most four links.
     ///
-    /// It takes memory only where no node is spare. Where that is refused, the key in hand and the value are
-    /// handed back, and no entry changes.
+    /// It allocates only if no node is spare. If that allocation fails, it returns the given key and the
+    /// value in `Err` and changes no entry.
     pub fn insert(self, value: V) -> Result<&'a mut V, (K, V)>
         ensures* lends { sem 𝓛 (LendsNew K.row V.row S.row S.Hasher.row self.entry value result) }
         ensures value { IfOk result (λ v. v.now ≡ value) }
@@ -50,7 +51,8 @@ impl<'a, K: Eq + Hash, V, S: BuildHasher> VacantEntry<'a, K, V, S> {
         Ok(map.value_at_mut(node))
     }
 
-    /// `insert` of a value that was made. Where it was not, the map stays as it is.
+    /// Does the same as `insert` with a value that may not have been made. If it was not, the map does not
+    /// change.
     pub(crate) fn try_insert<E>(
         self,
         made: Result<V, E>,
@@ -70,10 +72,10 @@ impl<'a, K: Eq + Hash, V, S: BuildHasher> VacantEntry<'a, K, V, S> {
         }
     }
 
-    /// Puts the key in hand and the value last, and returns the entry. It stores at most four links.
+    /// Inserts the given key with the value at the back, and returns the entry. It stores at most four links.
     ///
-    /// It takes memory only where no node is spare. Where that is refused, the key in hand and the value are
-    /// handed back, and no entry changes.
+    /// It allocates only if no node is spare. If that allocation fails, it returns the given key and the
+    /// value in `Err` and changes no entry.
     pub fn insert_entry(self, value: V) -> Result<RawOccupiedEntryMut<'a, K, V, S>, (K, V)>
         ensures* hands_on { sem 𝓛 (HandsOnNew K.row V.row S.row S.Hasher.row (vacant_map self.entry)
             (vacant_state self.entry).key value result) }
@@ -90,7 +92,7 @@ impl<'a, K: Eq + Hash, V, S: BuildHasher> VacantEntry<'a, K, V, S> {
         Ok(RawOccupiedEntryMut { map, node })
     }
 
-    /// The raw entry of this place. The key in hand is dropped.
+    /// Returns the raw entry at this place. The given key is dropped.
     pub fn raw_entry_mut(self) -> RawVacantEntryMut<'a, K, V, S>
     where
         K: Drop,

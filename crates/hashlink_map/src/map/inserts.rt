@@ -1,4 +1,4 @@
-//! How pairs come in. Each insert hashes the key once, and looks for it as a lookup does.
+//! Inserts. Each one hashes the key once, and looks it up as `get` does.
 ghost use Rattle.std.specs.Prelude.{◌≡◌, IfOk, IsOk, IsSome, OnOk, length};
 ghost use Rattle.std.specs.Map.{lookup};
 ghost use Rattle.hashlink_model.specs.Entries.{IsEntries, place_or_end, put};
@@ -10,12 +10,12 @@ use super::LinkedHashMap;
 use std::hash::{BuildHasher, Hash};
 
 impl<K: Eq + Hash, V, S: BuildHasher> LinkedHashMap<K, V, S> {
-    /// Puts the pair last, and returns the key's old value. A key that is there keeps its key object, takes
-    /// the new value and moves to the end.
+    /// Inserts the pair at the back, and returns the old value of the key if there was one. If the key is
+    /// present, its entry keeps the stored key, takes the new value and moves to the back. It hashes the key
+    /// once, and stores at most six links if the key is present and four if it is absent.
     ///
-    /// It takes memory only for an absent key where no node is spare. Where that is refused, the pair is
-    /// handed back and no entry changes.
-    /// It stores at most six links for a key that is there and four for an absent one.
+    /// It allocates only if the key is absent and no node is spare. If that allocation fails, it returns the
+    /// pair in `Err` and changes no entry.
     pub fn insert(&mut self, key: K, value: V) -> Result<Option<V>, (K, V)>
     where
         K: Drop,
@@ -30,12 +30,12 @@ impl<K: Eq + Hash, V, S: BuildHasher> LinkedHashMap<K, V, S> {
         self.list.insert(key, value)
     }
 
-    /// Puts the pair first, and returns the key's old value. A key that is there keeps its key object, takes
-    /// the new value and moves to the front.
+    /// Inserts the pair at the front, and returns the old value of the key if there was one. If the key is
+    /// present, its entry keeps the stored key, takes the new value and moves to the front. It hashes the key
+    /// once, and stores at most six links if the key is present and four if it is absent.
     ///
-    /// It takes memory only for an absent key where no node is spare. Where that is refused, the pair is
-    /// handed back and no entry changes.
-    /// It stores at most six links for a key that is there and four for an absent one.
+    /// It allocates only if the key is absent and no node is spare. If that allocation fails, it returns the
+    /// pair in `Err` and changes no entry.
     pub fn insert_front(&mut self, key: K, value: V) -> Result<Option<V>, (K, V)>
     where
         K: Drop,
@@ -49,12 +49,12 @@ impl<K: Eq + Hash, V, S: BuildHasher> LinkedHashMap<K, V, S> {
         self.list.insert_first(key, value)
     }
 
-    /// Gives the key the value, and returns its old one. A key that is there keeps its key object and its
-    /// place, an absent one goes last.
+    /// Sets the value of the key, and returns the old one if there was one. If the key is present, its entry
+    /// keeps the stored key and its place. If it is absent, the pair is inserted at the back. It hashes the
+    /// key once, and stores no link if the key is present and at most four if it is absent.
     ///
-    /// It takes memory only for an absent key where no node is spare. Where that is refused, the pair is
-    /// handed back and no entry changes.
-    /// It stores no link for a key that is there and at most four for an absent one.
+    /// It allocates only if the key is absent and no node is spare. If that allocation fails, it returns the
+    /// pair in `Err` and changes no entry.
     pub fn replace(&mut self, key: K, value: V) -> Result<Option<V>, (K, V)>
     where
         K: Drop,

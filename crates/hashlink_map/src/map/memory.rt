@@ -1,4 +1,4 @@
-//! The memory of a map. None of these changes an entry.
+//! The memory of a map. None of these methods changes an entry.
 ghost use Rattle.std.specs.Prelude.{◌≡◌, ◌+◌, ◌^◌, ◌<◌, ◌↔◌, length, Err};
 ghost use Rattle.hashlink_model.specs.Steps.{Reserves, Shrinks};
 ghost use Rattle.hashlink_core.specs.Keyed.{state_of, entries_of};
@@ -9,14 +9,12 @@ use std::alloc::AllocError;
 use std::hash::{BuildHasher, Hash};
 
 impl<K: Eq + Hash, V, S: BuildHasher> LinkedHashMap<K, V, S> {
-    /// Makes room for so many more entries. Where there is room for them already it is not refused, and
-    /// changes nothing; else
-    /// the table grows, which takes a step for each entry and hashes nothing.
+    /// Reserves room for `additional` more entries. If there is room for them already, it cannot fail and
+    /// changes nothing. Otherwise the table grows, which takes linear time in the number of entries and
+    /// hashes nothing.
     ///
-    /// It returns `CapacityOverflow` where the map could then have more than 2 to the power of 62 entries,
-    /// and
-    /// `AllocError`
-    /// where the memory is refused. A refusal changes nothing.
+    /// It returns `CapacityOverflow` if the map could then have more than 2 to the power of 62 entries, and
+    /// `AllocError` if the allocation fails. After an error nothing has changed.
     pub fn reserve(&mut self, additional: usize) -> Result<(), TryReserveError>
         ensures reserves { Reserves (state_of self.old) (state_of self.new) additional result }
         ensures overflow { (result ≡ Err TryReserveError.CapacityOverflow) ↔
@@ -25,7 +23,7 @@ impl<K: Eq + Hash, V, S: BuildHasher> LinkedHashMap<K, V, S> {
         self.list.reserve(additional)
     }
 
-    /// `reserve`, under the name that says that it may be refused.
+    /// Does the same as `reserve`. Its name says that it may fail.
     pub fn try_reserve(&mut self, additional: usize) -> Result<(), TryReserveError>
         ensures reserves { Reserves (state_of self.old) (state_of self.new) additional result }
         ensures overflow { (result ≡ Err TryReserveError.CapacityOverflow) ↔
@@ -34,13 +32,12 @@ impl<K: Eq + Hash, V, S: BuildHasher> LinkedHashMap<K, V, S> {
         self.reserve(additional)
     }
 
-    /// Gives the spare nodes back, and the room that the entries do not need. It takes a step for each spare
-    /// node and each entry.
+    /// Frees the spare nodes, and the room that the entries do not need. It takes linear time in the number
+    /// of spare nodes and entries.
     ///
-    /// The smaller table needs memory for a moment. Where that is refused, it returns `AllocError` and keeps
-    /// the room; the spare
-    /// nodes are given back all the same. Without entries it is not refused, and the capacity is 0
-    /// afterwards.
+    /// For a moment it needs memory for the smaller table. If that allocation fails, it returns `AllocError`
+    /// and keeps the room. The spare nodes are freed all the same. With no entries it cannot fail, and the
+    /// capacity is 0 afterwards.
     pub fn shrink_to_fit(&mut self) -> Result<(), AllocError>
         ensures { Shrinks (state_of self.old) (state_of self.new) result }
     {

@@ -1,4 +1,4 @@
-//! How an entry moves to either end. A move hashes the key once, takes no memory, and stores at most six
+//! Moves of an entry to either end. A move hashes the key once, does not allocate, and stores at most six
 //! links.
 ghost use Rattle.std.specs.Prelude.{◌≡◌, length};
 ghost use Rattle.std.specs.Borrow.{sem};
@@ -14,8 +14,8 @@ use std::hash::{BuildHasher, Hash};
 impl<K: Eq + Hash, V, S: BuildHasher> LinkedHashMap<K, V, S> {
     ghost use Rattle.hashlink_map.specs.Lends.{LendsMoved};
 
-    /// Moves the key's entry to the front and lends its value. Of an absent key it returns none, and nothing
-    /// changes.
+    /// Moves the entry of the key to the front, and returns a mutable reference to its value. If the key is
+    /// absent, it returns `None` and nothing changes. It hashes the key once, and stores at most six links.
     pub fn to_front<Q: Equivalent<K>>(&mut self, key: Q) -> Option<&mut V>
         ensures* lends { sem 𝓛 (LendsMoved K.row V.row S.row S.Hasher.row K.Hash S.BuildHasher S.Hasher.Hasher
             self.entry (Q.matches key) 0 result) }
@@ -32,8 +32,8 @@ impl<K: Eq + Hash, V, S: BuildHasher> LinkedHashMap<K, V, S> {
         }
     }
 
-    /// Moves the key's entry to the end and lends its value. Of an absent key it returns none, and nothing
-    /// changes.
+    /// Moves the entry of the key to the back, and returns a mutable reference to its value. If the key is
+    /// absent, it returns `None` and nothing changes. It hashes the key once, and stores at most six links.
     pub fn to_back<Q: Equivalent<K>>(&mut self, key: Q) -> Option<&mut V>
         ensures* lends { sem 𝓛 (LendsMoved K.row V.row S.row S.Hasher.row K.Hash S.BuildHasher S.Hasher.Hasher
             self.entry (Q.matches key) (length (entries_of self.old)) result) }

@@ -1,4 +1,4 @@
-//! What a map shows. Each lookup hashes the key once, and looks at the entries of one bucket.
+//! Reads of a map. Each lookup hashes the key once, and looks at the entries of one bucket.
 ghost use Rattle.std.specs.Prelude.{◌≡◌, is_some, option_copied};
 ghost use Rattle.std.specs.Borrow.{sem};
 ghost use Rattle.std.specs.Option.{option_map, option_copied_mut};
@@ -15,7 +15,8 @@ use std::hash::{BuildHasher, Hash};
 impl<K: Eq + Hash, V, S: BuildHasher> LinkedHashMap<K, V, S> {
     ghost use Rattle.hashlink_map.specs.Lends.{LendsValueOf, LendsLastValue};
 
-    /// The value of the key. The order stays as it is.
+    /// Returns a reference to the value of the key, or `None` if it is absent. The order does not change. It
+    /// hashes the key once.
     pub fn get<Q: Equivalent<K>>(&self, key: Q) -> Option<&V>
         ensures found { option_copied result ≡ lookup (Q.matches key) (entries_of self.now) }
         ensures distinct { IsEntries K.eq (entries_of self.now) }
@@ -24,8 +25,8 @@ impl<K: Eq + Hash, V, S: BuildHasher> LinkedHashMap<K, V, S> {
         Some(value)
     }
 
-    /// The stored pair of the key, whose key object may be another one than the key given. The order stays as
-    /// it is.
+    /// Returns the stored pair of the key, or `None` if it is absent. The stored key may be a different
+    /// object from the given one. The order does not change. It hashes the key once.
     pub fn get_key_value<Q: Equivalent<K>>(&self, key: Q) -> Option<(&K, &V)>
         ensures found { option_map deref_pair result ≡ lookup_entry (Q.matches key) (entries_of self.now) }
         ensures distinct { IsEntries K.eq (entries_of self.now) }
@@ -34,7 +35,7 @@ impl<K: Eq + Hash, V, S: BuildHasher> LinkedHashMap<K, V, S> {
         Some(self.list.entry(node))
     }
 
-    /// Whether the key is there.
+    /// Returns whether the key is present. It hashes the key once.
     pub fn contains_key<Q: Equivalent<K>>(&self, key: Q) -> bool
         ensures found { result ≡ is_some (lookup (Q.matches key) (entries_of self.now)) }
         ensures distinct { IsEntries K.eq (entries_of self.now) }
@@ -42,7 +43,8 @@ impl<K: Eq + Hash, V, S: BuildHasher> LinkedHashMap<K, V, S> {
         self.get_key_value(key).is_some()
     }
 
-    /// The value of the key, for writing. The order stays as it is.
+    /// Returns a mutable reference to the value of the key, or `None` if it is absent. The order does not
+    /// change. It hashes the key once.
     pub fn get_mut<Q: Equivalent<K>>(&mut self, key: Q) -> Option<&mut V>
         ensures* lends { sem 𝓛 (LendsValueOf K.row V.row S.row S.Hasher.row K.Hash
             S.BuildHasher S.Hasher.Hasher self.entry (Q.matches key) result) }
@@ -56,7 +58,7 @@ impl<K: Eq + Hash, V, S: BuildHasher> LinkedHashMap<K, V, S> {
         }
     }
 
-    /// The first entry.
+    /// Returns the first entry, or `None` if the map is empty. It takes constant time and hashes nothing.
     pub fn front(&self) -> Option<(&K, &V)>
         ensures found { option_map deref_pair result ≡ first_of (entries_of self.now) }
         ensures distinct { IsEntries K.eq (entries_of self.now) }
@@ -65,7 +67,7 @@ impl<K: Eq + Hash, V, S: BuildHasher> LinkedHashMap<K, V, S> {
         Some(self.list.entry(node))
     }
 
-    /// The last entry.
+    /// Returns the last entry, or `None` if the map is empty. It takes constant time and hashes nothing.
     pub fn back(&self) -> Option<(&K, &V)>
         ensures found { option_map deref_pair result ≡ last_of (entries_of self.now) }
         ensures distinct { IsEntries K.eq (entries_of self.now) }
@@ -74,8 +76,8 @@ impl<K: Eq + Hash, V, S: BuildHasher> LinkedHashMap<K, V, S> {
         Some(self.list.entry(node))
     }
 
-    /// The value of the last entry, for writing. The order stays as it is. It takes constant time and hashes
-    /// nothing.
+    /// Returns a mutable reference to the value of the last entry, or `None` if the map is empty. The order
+    /// does not change. It takes constant time and hashes nothing.
     pub fn back_value_mut(&mut self) -> Option<&mut V>
         ensures* lends { sem 𝓛 (LendsLastValue K.row V.row S.row S.Hasher.row K.Hash
             S.BuildHasher S.Hasher.Hasher self.entry result) }

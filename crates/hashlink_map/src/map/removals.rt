@@ -1,5 +1,5 @@
-//! How entries leave. The other entries keep their order, and each node that is freed serves the next new
-//! pair. None of these takes memory.
+//! Removals. The other entries keep their order. Except for `clear`, each removal leaves a spare node, which
+//! the next insert of an absent key uses. No removal allocates.
 ghost use Rattle.std.specs.Prelude.{◌≡◌, Contains, IfSome};
 ghost use Rattle.std.specs.Map.{lookup, lookup_entry, remove_entry};
 ghost use Rattle.std.specs.Map.Iter.{TakesFirst, TakesLast};
@@ -12,8 +12,8 @@ use hashlink_core::Equivalent;
 use std::hash::{BuildHasher, Hash};
 
 impl<K: Eq + Hash, V, S: BuildHasher> LinkedHashMap<K, V, S> {
-    /// Takes the key's entry out and returns its value. It looks for the key as `get` does, and stores at
-    /// most three links.
+    /// Removes the entry of the key, and returns its value, or `None` if the key is absent. It looks the key
+    /// up as `get` does, and stores at most three links.
     pub fn remove<Q: Equivalent<K>>(&mut self, key: Q) -> Option<V>
     where
         K: Drop,
@@ -27,8 +27,8 @@ impl<K: Eq + Hash, V, S: BuildHasher> LinkedHashMap<K, V, S> {
         Some(value)
     }
 
-    /// Takes the key's entry out and returns the stored pair. It looks for the key as `get` does, and stores
-    /// at most three links.
+    /// Removes the entry of the key, and returns the stored pair, or `None` if the key is absent. It looks
+    /// the key up as `get` does, and stores at most three links.
     pub fn remove_entry<Q: Equivalent<K>>(&mut self, key: Q) -> Option<(K, V)>
         ensures found { result ≡ lookup_entry (Q.matches key) (entries_of self.old) }
         ensures entries { entries_of self.new ≡ remove_entry (Q.matches key) (entries_of self.old) }
@@ -39,8 +39,8 @@ impl<K: Eq + Hash, V, S: BuildHasher> LinkedHashMap<K, V, S> {
         self.list.remove_key(key)
     }
 
-    /// Takes the first entry out and returns it. It takes constant time, hashes nothing, and stores at most
-    /// three links.
+    /// Removes the first entry, and returns it, or `None` if the map is empty. It takes constant time, hashes
+    /// nothing, and stores at most three links.
     pub fn pop_front(&mut self) -> Option<(K, V)>
         ensures pops { PopsFront (state_of self.old) (state_of self.new) result }
         ensures entries { TakesFirst (λ e. e) (entries_of self.old) result (entries_of self.new) }
@@ -49,8 +49,8 @@ impl<K: Eq + Hash, V, S: BuildHasher> LinkedHashMap<K, V, S> {
         self.list.pop_first()
     }
 
-    /// Takes the last entry out and returns it. It takes constant time, hashes nothing, and stores at most
-    /// three links.
+    /// Removes the last entry, and returns it, or `None` if the map is empty. It takes constant time, hashes
+    /// nothing, and stores at most three links.
     pub fn pop_back(&mut self) -> Option<(K, V)>
         ensures pops { PopsBack (state_of self.old) (state_of self.new) result }
         ensures entries { TakesLast (λ e. e) (entries_of self.old) result (entries_of self.new) }
@@ -59,8 +59,8 @@ impl<K: Eq + Hash, V, S: BuildHasher> LinkedHashMap<K, V, S> {
         self.list.pop_last()
     }
 
-    /// Drops every entry and gives its node back to the allocator. The spare nodes stay, and the room. It
-    /// takes a step for each entry and each bucket.
+    /// Drops every entry and frees its node. The spare nodes and the room stay. It takes linear time in the
+    /// number of entries and buckets.
     pub fn clear(&mut self)
     where
         K: Drop,

@@ -1,5 +1,6 @@
-//! How the entries that a closure chooses leave. The others keep their order, and hold what the closure
-//! wrote. None of these takes memory or hashes a key, and each node that is freed serves the next new pair.
+//! Removals of the entries that a closure chooses. The others keep their order, and have what the closure
+//! wrote. Neither method allocates or hashes a key. Each node that becomes spare serves the next insert of an
+//! absent key.
 ghost use Rattle.std.specs.Map.Calls.{CalledAtPair, TakesPair, CallableOnEachPair};
 ghost use Rattle.hashlink_model.specs.Entries.{IsEntries};
 ghost use Rattle.hashlink_model.specs.Retain.{RetainsInOrder};
@@ -9,9 +10,9 @@ use super::LinkedHashMap;
 use std::hash::{BuildHasher, Hash};
 
 impl<K: Eq + Hash, V, S: BuildHasher> LinkedHashMap<K, V, S> {
-    /// Calls `keep` once on each entry, and takes out those at which it returns false. It stores at most
-    /// three links for each entry that leaves. `keep` has to take each entry as the calls before have left
-    /// it.
+    /// Calls `keep` once on each entry, and removes those for which it returns false. It stores at most three
+    /// links for each removal. `keep` has to be callable on each entry, in the state that its earlier calls
+    /// have left it in.
     pub fn retain<F: FnMut(&K, &mut V) -> bool>(&mut self, keep: F)
     where
         K: Drop,
@@ -24,9 +25,9 @@ impl<K: Eq + Hash, V, S: BuildHasher> LinkedHashMap<K, V, S> {
         self.retain_with_order(keep);
     }
 
-    /// Calls `keep` once on each entry, from the front, and takes out those at which it returns false. It
-    /// stores at most three links for each entry that leaves. `keep` has to take each entry as the calls
-    /// before have left it.
+    /// Calls `keep` once on each entry, from the front, and removes those for which it returns false. It
+    /// stores at most three links for each removal. `keep` has to be callable on each entry, in the state
+    /// that its earlier calls have left it in.
     pub fn retain_with_order<F: FnMut(&K, &mut V) -> bool>(&mut self, keep: F)
     where
         K: Drop,

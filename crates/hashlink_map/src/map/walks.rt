@@ -1,4 +1,4 @@
-//! Walks over a map, from both ends. None of them takes memory, and each step takes constant time.
+//! Iterators over a map, from both ends. None of them allocates, and each step takes constant time.
 ghost use Rattle.std.specs.Prelude.{◌≡◌, ◌^◌, ◌<◌, length};
 ghost use Rattle.std.specs.Map.{keys_of, values_of};
 ghost use Rattle.std.specs.Map.Iter.{ShowsInOrder, ShowsInReverse, deref, deref_pair};
@@ -10,7 +10,8 @@ use hashlink_core::{Iter, Keys, Values};
 use std::hash::{BuildHasher, Hash};
 
 impl<K: Eq + Hash, V, S: BuildHasher> LinkedHashMap<K, V, S> {
-    /// A walk over the entries, front first.
+    /// Returns an iterator over the entries, from front to back. It does not allocate, and each step takes
+    /// constant time.
     pub fn iter(&self) -> Iter<'_, K, V>
         ensures rest { result ≡ entries_of self.now }
         ensures distinct { IsEntries K.eq (entries_of self.now) }
@@ -21,7 +22,8 @@ impl<K: Eq + Hash, V, S: BuildHasher> LinkedHashMap<K, V, S> {
         self.list.iter()
     }
 
-    /// A walk over the keys, front first.
+    /// Returns an iterator over the keys, from front to back. It does not allocate, and each step takes
+    /// constant time.
     pub fn keys(&self) -> Keys<'_, K, V>
         ensures rest { result ≡ keys_of (entries_of self.now) }
         ensures runs { ShowsInOrder (deref {X = K}) }
@@ -31,7 +33,8 @@ impl<K: Eq + Hash, V, S: BuildHasher> LinkedHashMap<K, V, S> {
         self.list.keys()
     }
 
-    /// A walk over the values, front first.
+    /// Returns an iterator over the values, from front to back. It does not allocate, and each step takes
+    /// constant time.
     pub fn values(&self) -> Values<'_, K, V>
         ensures rest { result ≡ values_of (entries_of self.now) }
         ensures runs { ShowsInOrder (deref {X = V}) }

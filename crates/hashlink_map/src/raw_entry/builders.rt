@@ -1,4 +1,4 @@
-//! How an entry is found by what stands for its key, and the entries at both ends.
+//! How raw entries are found: by a query for the key, by its hash, or at either end.
 ghost use Rattle.std.specs.Prelude.{◌≡◌, ◌-◌, [], Some, IfSome, IfNone, MatchOption, length, ⊤};
 ghost use Rattle.std.specs.Borrow.{sem};
 ghost use Rattle.std.specs.Option.{option_map};
@@ -21,14 +21,16 @@ use hashlink_core::Equivalent;
 use std::hash::{BuildHasher, Hash};
 
 impl<K: Eq + Hash, V, S: BuildHasher> LinkedHashMap<K, V, S> {
-    /// What finds an entry to read, by a key, by a key and its hash, or by a hash and a test.
+    /// Returns a builder that finds an entry to read: by a key, by a key and its hash, or by a hash and a
+    /// test.
     pub fn raw_entry(&self) -> RawEntryBuilder<'_, K, V, S>
         ensures { read_map result ≡ self.now }
     {
         RawEntryBuilder { map: self }
     }
 
-    /// What finds an entry to change, by a key, by a key and its hash, or by a hash and a test.
+    /// Returns a builder that finds an entry to change: by a key, by a key and its hash, or by a hash and a
+    /// test.
     pub fn raw_entry_mut(&mut self) -> RawEntryBuilderMut<'_, K, V, S>
         ensures same_map { (found_map result).ghost_name ≡ self.entry.ghost_name }
         ensures unchanged { (found_map result).now ≡ self.old }
@@ -36,7 +38,7 @@ impl<K: Eq + Hash, V, S: BuildHasher> LinkedHashMap<K, V, S> {
         RawEntryBuilderMut { map: self }
     }
 
-    /// The first entry. It takes constant time and hashes nothing.
+    /// Returns the first entry, or `None` if the map is empty. It takes constant time and hashes nothing.
     pub fn front_entry(&mut self) -> Option<RawOccupiedEntryMut<'_, K, V, S>>
         ensures* hands_on { sem 𝓛 (HandsOnOccupied K.row V.row S.row S.Hasher.row self.entry result) }
         ensures same_map { IfSome result (λ o. (raw_occupied_map o).ghost_name ≡ self.entry.ghost_name) }
@@ -48,7 +50,7 @@ impl<K: Eq + Hash, V, S: BuildHasher> LinkedHashMap<K, V, S> {
         Some(RawOccupiedEntryMut { map: self, node })
     }
 
-    /// The last entry. It takes constant time and hashes nothing.
+    /// Returns the last entry, or `None` if the map is empty. It takes constant time and hashes nothing.
     pub fn back_entry(&mut self) -> Option<RawOccupiedEntryMut<'_, K, V, S>>
         ensures* hands_on { sem 𝓛 (HandsOnOccupied K.row V.row S.row S.Hasher.row self.entry result) }
         ensures same_map { IfSome result (λ o. (raw_occupied_map o).ghost_name ≡ self.entry.ghost_name) }
@@ -62,7 +64,7 @@ impl<K: Eq + Hash, V, S: BuildHasher> LinkedHashMap<K, V, S> {
 }
 
 impl<'a, K: Eq + Hash, V, S: BuildHasher> RawEntryBuilder<'a, K, V, S> {
-    /// The stored pair of the key, which it hashes once.
+    /// Returns the stored pair of the key, or `None` if it is absent. It hashes the key once.
     pub fn from_key<Q: Equivalent<K>>(self, key: Q) -> Option<(&'a K, &'a V)>
         ensures { option_map deref_pair result ≡ lookup_entry (Q.matches key)
             (entries_of (read_map self.entry)) }
@@ -70,7 +72,8 @@ impl<'a, K: Eq + Hash, V, S: BuildHasher> RawEntryBuilder<'a, K, V, S> {
         self.map.get_key_value(key)
     }
 
-    /// The stored pair of the key, which has this hash. It hashes nothing.
+    /// Returns the stored pair of the key, or `None` if it is absent. The key has to have this hash. It
+    /// hashes nothing.
     pub fn from_key_hashed_nocheck<Q: Equivalent<K>>(
         self,
         hash: u64,
@@ -86,8 +89,8 @@ impl<'a, K: Eq + Hash, V, S: BuildHasher> RawEntryBuilder<'a, K, V, S> {
         Some(map.pair_at(node))
     }
 
-    /// The stored pair whose key has this hash and passes the test, which has to tell the keys that are equal
-    /// to one key of this hash from all others. It hashes nothing.
+    /// Returns the stored pair whose key has this hash and passes the test, or `None` if there is none. The
+    /// test has to tell the keys that are equal to one key of this hash from all others. It hashes nothing.
     pub fn from_hash<F: Fn(&K) -> bool>(self, hash: u64, is_match: F) -> Option<(&'a K, &'a V)>
     where
         F: Drop,
@@ -108,8 +111,8 @@ impl<'a, K: Eq + Hash, V, S: BuildHasher> RawEntryBuilder<'a, K, V, S> {
 }
 
 impl<K: Eq + Hash, V, S: BuildHasher> LinkedHashMap<K, V, S> {
-    /// The place of the key, which it hashes once: `raw_entry_mut` and `from_key` in one call, of which a
-    /// caller knows in full what the map is afterwards.
+    /// Returns the place of the key, which it hashes once. It is `raw_entry_mut` and `from_key` in one call:
+    /// a caller can prove exactly what the map is afterwards.
     pub fn raw_entry_of<Q: Equivalent<K>>(&mut self, key: Q) -> RawEntryMut<'_, K, V, S>
         ensures same_map { (raw_map result).ghost_name ≡ self.entry.ghost_name }
         ensures unchanged { (raw_map result).now ≡ self.old }
@@ -123,8 +126,8 @@ impl<K: Eq + Hash, V, S: BuildHasher> LinkedHashMap<K, V, S> {
         self.raw_entry_hashed_nocheck(hash, key)
     }
 
-    /// The place of the key, which has this hash. It hashes nothing: `raw_entry_mut` and
-    /// `from_key_hashed_nocheck` in one call, of which a caller knows in full what the map is afterwards.
+    /// Returns the place of the key, which has to have this hash. It hashes nothing. It is `raw_entry_mut`
+    /// and `from_key_hashed_nocheck` in one call: a caller can prove exactly what the map is afterwards.
     pub fn raw_entry_hashed_nocheck<Q: Equivalent<K>>(
         &mut self,
         hash: u64,
@@ -146,9 +149,9 @@ impl<K: Eq + Hash, V, S: BuildHasher> LinkedHashMap<K, V, S> {
         }
     }
 
-    /// The place whose key has this hash and passes the test, which has to tell the keys that are equal to
-    /// one key of this hash from all others. It hashes nothing: `raw_entry_mut` and `from_hash` in one call,
-    /// of which a caller knows in full what the map is afterwards.
+    /// Returns the place whose key has this hash and passes the test. The test has to tell the keys that are
+    /// equal to one key of this hash from all others. It hashes nothing. It is `raw_entry_mut` and
+    /// `from_hash` in one call: a caller can prove exactly what the map is afterwards.
     pub fn raw_entry_from_hash<F: Fn(&K) -> bool>(
         &mut self,
         hash: u64,
@@ -183,7 +186,7 @@ impl<K: Eq + Hash, V, S: BuildHasher> LinkedHashMap<K, V, S> {
 }
 
 impl<'a, K: Eq + Hash, V, S: BuildHasher> RawEntryBuilderMut<'a, K, V, S> {
-    /// The place of the key, which it hashes once.
+    /// Returns the place of the key, which it hashes once.
     pub fn from_key<Q: Equivalent<K>>(self, key: Q) -> RawEntryMut<'a, K, V, S>
         ensures same_map { (raw_map result).ghost_name ≡ (found_map self.entry).ghost_name }
         ensures unchanged { (raw_map result).now ≡ (found_map self.entry).now }
@@ -199,7 +202,7 @@ impl<'a, K: Eq + Hash, V, S: BuildHasher> RawEntryBuilderMut<'a, K, V, S> {
         map.raw_entry_of(key)
     }
 
-    /// The place of the key, which has this hash. It hashes nothing.
+    /// Returns the place of the key, which has to have this hash. It hashes nothing.
     pub fn from_key_hashed_nocheck<Q: Equivalent<K>>(
         self,
         hash: u64,
@@ -221,8 +224,8 @@ impl<'a, K: Eq + Hash, V, S: BuildHasher> RawEntryBuilderMut<'a, K, V, S> {
         map.raw_entry_hashed_nocheck(hash, key)
     }
 
-    /// The place whose key has this hash and passes the test, which has to tell the keys that are equal to
-    /// one key of this hash from all others. It hashes nothing.
+    /// Returns the place whose key has this hash and passes the test. The test has to tell the keys that are
+    /// equal to one key of this hash from all others. It hashes nothing.
     pub fn from_hash<F: Fn(&K) -> bool>(self, hash: u64, is_match: F) -> RawEntryMut<'a, K, V, S>
     where
         F: Drop,

@@ -1,4 +1,4 @@
-//! The calls of `RawEntryMut`.
+//! The methods of `RawEntryMut`.
 ghost use Rattle.std.specs.Prelude.{◌≡◌, None, Some, IfOk, IfErr, OnErr, MatchOption};
 ghost use Rattle.std.specs.Borrow.{sem, MutBor, Bor};
 ghost use Rattle.hashlink_model.specs.Entries.{place_of};
@@ -11,7 +11,8 @@ impl<'a, K: Eq + Hash, V, S: BuildHasher> RawEntryMut<'a, K, V, S> {
     ghost use Rattle.hashlink_map.specs.RawEntry.{RawModifies};
     ghost use Rattle.hashlink_map.specs.RawLends.{HandsOnLast, LendsLastPair, StandsLast};
 
-    /// The entry of the pair. An occupied one moves to the end, a vacant one puts the pair given last.
+    /// Returns the entry of the pair. An occupied entry moves to the back. A vacant one inserts the given
+    /// pair at the back.
     fn or_insert_entry(
         self,
         default_key: K,
@@ -38,11 +39,12 @@ impl<'a, K: Eq + Hash, V, S: BuildHasher> RawEntryMut<'a, K, V, S> {
         }
     }
 
-    /// Lends the key and the value. An occupied entry moves to the end, a vacant one puts the pair given
-    /// last. So the map ends as an insert of what is written would leave it.
+    /// Returns the key and a mutable reference to the value. An occupied entry moves to the back. A vacant
+    /// one inserts the given pair at the back, whose key then has to be absent. So the map is afterwards as
+    /// after an insert of the value that is written.
     ///
-    /// It takes memory only for a vacant entry where no node is spare. Where that is refused, the pair is
-    /// handed back, and no entry changes.
+    /// It allocates only if the entry is vacant and no node is spare. If that allocation fails, it returns
+    /// the pair in `Err` and changes no entry.
     pub fn or_insert(self, default_key: K, default_value: V) -> Result<(&'a K, &'a mut V), (K, V)>
     where
         K: Drop,
@@ -59,7 +61,8 @@ impl<'a, K: Eq + Hash, V, S: BuildHasher> RawEntryMut<'a, K, V, S> {
         RawOccupiedEntryMut::pair_of(self.or_insert_entry(default_key, default_value))
     }
 
-    /// `or_insert_entry` of what `default` gives, which is called only where the entry is vacant.
+    /// Does the same as `or_insert_entry` with the pair that `default` returns. `default` is called only if
+    /// the entry is vacant.
     fn or_insert_entry_with<F: FnOnce() -> (K, V)>(
         self,
         default: F,
@@ -88,7 +91,8 @@ impl<'a, K: Eq + Hash, V, S: BuildHasher> RawEntryMut<'a, K, V, S> {
         }
     }
 
-    /// `or_insert` of what `default` gives, which is called only where the entry is vacant.
+    /// Does the same as `or_insert` with the pair that `default` returns. `default` is called only if the
+    /// entry is vacant.
     pub fn or_insert_with<F: FnOnce() -> (K, V)>(
         self,
         default: F,
@@ -108,7 +112,7 @@ impl<'a, K: Eq + Hash, V, S: BuildHasher> RawEntryMut<'a, K, V, S> {
         RawOccupiedEntryMut::pair_of(self.or_insert_entry_with(default))
     }
 
-    /// Calls `f` on the key and the value where the entry is occupied. Nothing moves.
+    /// Calls `f` on the key and the value if the entry is occupied. Nothing moves.
     pub fn and_modify<F: FnOnce(&K, &mut V)>(self, f: F) -> Self
     where
         F: Drop,

@@ -1,4 +1,4 @@
-//! The calls of `RawOccupiedEntryMut`. None of them hashes or takes memory.
+//! The methods of `RawOccupiedEntryMut`. None of them hashes or allocates.
 ghost use Rattle.std.specs.Prelude.{◌≡◌, ◌-◌, length, slice_get, Some, Err, IfOk, IfErr, MatchResult};
 ghost use Rattle.std.specs.Borrow.{sem};
 ghost use Rattle.std.specs.Map.Iter.{deref_pair};
@@ -19,21 +19,21 @@ impl<'a, K: Eq + Hash, V, S: BuildHasher> RawOccupiedEntryMut<'a, K, V, S> {
     ghost use Rattle.hashlink_map.specs.RawLends.{LendsFromRaw, RawLendsForGood, RawRestsForGood};
     ghost use Rattle.hashlink_map.specs.RawLends.{LendsPairOf};
 
-    /// The stored key.
+    /// Returns a reference to the stored key.
     pub fn key(&self) -> &K
         ensures { key_at (raw_occupied_state self.now).map.entries (raw_place self.now) ≡ Some result.now }
     {
         self.map.pair_at(self.node).0
     }
 
-    /// The value.
+    /// Returns a reference to the value.
     pub fn get(&self) -> &V
         ensures { value_at (raw_occupied_state self.now).map.entries (raw_place self.now) ≡ Some result.now }
     {
         self.map.pair_at(self.node).1
     }
 
-    /// The pair.
+    /// Returns the stored pair.
     pub fn get_key_value(&self) -> (&K, &V)
         ensures { slice_get (raw_occupied_state self.now).map.entries (raw_place self.now)
             ≡ Some (deref_pair result) }
@@ -41,7 +41,7 @@ impl<'a, K: Eq + Hash, V, S: BuildHasher> RawOccupiedEntryMut<'a, K, V, S> {
         self.map.pair_at(self.node)
     }
 
-    /// The value, for writing.
+    /// Returns a mutable reference to the value.
     pub fn get_mut(&mut self) -> &mut V
         ensures* lends { sem 𝓛 (LendsFromRaw K.row V.row S.row S.Hasher.row self.entry result) }
         ensures value { value_at (raw_occupied_state self.old).map.entries (raw_place self.old)
@@ -52,7 +52,7 @@ impl<'a, K: Eq + Hash, V, S: BuildHasher> RawOccupiedEntryMut<'a, K, V, S> {
         self.map.value_at_mut(node)
     }
 
-    /// The key, and the value for writing.
+    /// Returns the stored key and a mutable reference to the value.
     pub fn get_key_value_mut(&mut self) -> (&K, &mut V)
         ensures* lends { sem 𝓛 (LendsFromRaw K.row V.row S.row S.Hasher.row self.entry result.1) }
         ensures pair { slice_get (raw_occupied_state self.old).map.entries (raw_place self.old)
@@ -63,7 +63,7 @@ impl<'a, K: Eq + Hash, V, S: BuildHasher> RawOccupiedEntryMut<'a, K, V, S> {
         self.map.pair_at_mut(node)
     }
 
-    /// The value, for writing as long as the map is borrowed.
+    /// Returns a mutable reference to the value for as long as the map is borrowed.
     pub fn into_mut(self) -> &'a mut V
         ensures* lends { sem 𝓛 (RawLendsForGood K.row V.row S.row S.Hasher.row self.entry result) }
         ensures value { value_at (raw_occupied_state self.entry).map.entries (raw_place self.entry)
@@ -74,7 +74,7 @@ impl<'a, K: Eq + Hash, V, S: BuildHasher> RawOccupiedEntryMut<'a, K, V, S> {
         map.value_at_mut(node)
     }
 
-    /// The stored key, as long as the map is borrowed.
+    /// Returns the stored key for as long as the map is borrowed.
     pub fn into_key(self) -> &'a K
         ensures* unchanged { sem 𝓛 (RawRestsForGood K.row V.row S.row S.Hasher.row self.entry) }
         ensures key { key_at (raw_occupied_state self.entry).map.entries (raw_place self.entry)
@@ -84,7 +84,7 @@ impl<'a, K: Eq + Hash, V, S: BuildHasher> RawOccupiedEntryMut<'a, K, V, S> {
         map.key_for_good(node)
     }
 
-    /// The stored key, and the value for writing, as long as the map is borrowed.
+    /// Returns the stored key and a mutable reference to the value, for as long as the map is borrowed.
     pub fn into_key_value(self) -> (&'a K, &'a mut V)
         ensures* lends { sem 𝓛 (RawLendsForGood K.row V.row S.row S.Hasher.row self.entry result.1) }
         ensures pair { slice_get (raw_occupied_state self.entry).map.entries (raw_place self.entry)
@@ -94,7 +94,7 @@ impl<'a, K: Eq + Hash, V, S: BuildHasher> RawOccupiedEntryMut<'a, K, V, S> {
         map.pair_at_mut(node)
     }
 
-    /// A cursor on this entry.
+    /// Returns a cursor on this entry.
     pub fn cursor_mut(self) -> CursorMut<'a, K, V, S>
         ensures same_map { (cursor_map result).ghost_name ≡ (raw_occupied_map self.entry).ghost_name }
         ensures unchanged { (cursor_map result).now ≡ (raw_occupied_map self.entry).now }
@@ -107,8 +107,8 @@ impl<'a, K: Eq + Hash, V, S: BuildHasher> RawOccupiedEntryMut<'a, K, V, S> {
         }
     }
 
-    /// The stored key of the entry, and its value for writing, as long as the map is borrowed, or the pair
-    /// that was handed back.
+    /// Returns the stored key of the entry and a mutable reference to its value, for as long as the map is
+    /// borrowed, or the pair that was not inserted.
     pub(crate) fn pair_of(entered: Result<Self, (K, V)>) -> Result<(&'a K, &'a mut V), (K, V)>
         ensures* lends { sem 𝓛 (LendsPairOf K.row V.row S.row S.Hasher.row entered.entry result) }
         ensures pair { IfOk result (λ p. MatchResult entered.entry
@@ -122,7 +122,7 @@ impl<'a, K: Eq + Hash, V, S: BuildHasher> RawOccupiedEntryMut<'a, K, V, S> {
         }
     }
 
-    /// Moves the entry to the end. It stores at most six links.
+    /// Moves the entry to the back. It stores at most six links.
     pub fn to_back(&mut self)
         ensures same_map { (raw_occupied_map self.new).ghost_name ≡ (raw_occupied_map self.old).ghost_name }
         ensures moves { MovesAt (raw_occupied_state self.old).map (raw_occupied_state self.new).map
@@ -144,7 +144,7 @@ impl<'a, K: Eq + Hash, V, S: BuildHasher> RawOccupiedEntryMut<'a, K, V, S> {
         self.map.move_to_front(node);
     }
 
-    /// Puts the value in, and returns the old one. The entry keeps its place.
+    /// Replaces the value, and returns the old one. The entry keeps its place.
     pub fn replace_value(&mut self, value: V) -> V
         ensures same_map { (raw_occupied_map self.new).ghost_name ≡ (raw_occupied_map self.old).ghost_name }
         ensures replaces { ReplacesValue (raw_occupied_state self.old).map (raw_occupied_state self.new).map
@@ -155,8 +155,8 @@ impl<'a, K: Eq + Hash, V, S: BuildHasher> RawOccupiedEntryMut<'a, K, V, S> {
         self.map.replace_value_at(node, value)
     }
 
-    /// Puts in a key that is equal to the stored one, and returns that. The entry keeps its place and its
-    /// value.
+    /// Replaces the stored key by one that has to be equal to it, and returns the old one. The entry keeps
+    /// its place and its value.
     pub fn replace_key(&mut self, key: K) -> K
         requires { EqualsKeyAt K.eq (raw_occupied_state self.old).map.entries (raw_place self.old) key }
         ensures same_map { (raw_occupied_map self.new).ghost_name ≡ (raw_occupied_map self.old).ghost_name }
@@ -172,7 +172,7 @@ impl<'a, K: Eq + Hash, V, S: BuildHasher> RawOccupiedEntryMut<'a, K, V, S> {
 impl<'a, K: Eq + Hash, V, S: BuildHasher, N: AsNode> RawOccupiedEntryMut<'a, K, V, S, N> {
     ghost use Rattle.hashlink_map.specs.RawEntry.{raw_place, raw_occupied_state};
 
-    /// Takes the entry out and returns its value. The key is dropped. It stores at most three links.
+    /// Removes the entry and returns its value. The key is dropped. It stores at most three links.
     pub fn remove(self) -> V
     where
         K: Drop,
@@ -186,7 +186,7 @@ impl<'a, K: Eq + Hash, V, S: BuildHasher, N: AsNode> RawOccupiedEntryMut<'a, K, 
         value
     }
 
-    /// Takes the entry out and returns its pair. It stores at most three links.
+    /// Removes the entry and returns its pair. It stores at most three links.
     pub fn remove_entry(self) -> (K, V)
         ensures { TakesEntry (raw_occupied_state self.entry).map (state_of self.exit.0.now)
             (raw_place self.entry) result }

@@ -1,7 +1,4 @@
-//! The calls of `RawVacantEntryMut`. Each puts the pair last, and stores at most four links.
-//!
-//! It takes memory only where no node is spare. Where that is refused, the pair is handed back, and no entry
-//! changes.
+//! The methods of `RawVacantEntryMut`.
 ghost use Rattle.std.specs.Prelude.{◌≡◌, ◌∷◌, None, IfOk, IfErr, length};
 ghost use Rattle.std.specs.Borrow.{sem};
 ghost use Rattle.std.specs.List.{All};
@@ -18,7 +15,11 @@ impl<'a, K: Eq + Hash, V, S: BuildHasher> RawVacantEntryMut<'a, K, V, S> {
     ghost use Rattle.hashlink_map.specs.RawLends.{HandsOnNew, LendsNewPair};
     ghost use Rattle.hashlink_model.specs.MapState.{AddsEntry};
 
-    /// Puts the pair last, and lends its key, and its value for writing. It hashes the key once.
+    /// Inserts the pair at the back, and returns its key and a mutable reference to its value. The key has to
+    /// be absent. It hashes the key once, and stores at most four links.
+    ///
+    /// It allocates only if no node is spare. If that allocation fails, it returns the pair in `Err` and
+    /// changes no entry.
     pub fn insert(self, key: K, value: V) -> Result<(&'a K, &'a mut V), (K, V)>
         requires absent { place_of (K.eq key) (entries_of (raw_vacant_map self).now) ≡ None }
         ensures* lends { sem 𝓛 (LendsNewPair K.row V.row S.row S.Hasher.row K.Hash
@@ -29,8 +30,11 @@ impl<'a, K: Eq + Hash, V, S: BuildHasher> RawVacantEntryMut<'a, K, V, S> {
         RawOccupiedEntryMut::pair_of(self.insert_entry(key, value))
     }
 
-    /// Puts the pair last, whose key has this hash, and lends its key, and its value for writing. It hashes
-    /// nothing.
+    /// Inserts the pair at the back, and returns its key and a mutable reference to its value. The key has to
+    /// be absent and to have this hash. It hashes nothing, and stores at most four links.
+    ///
+    /// It allocates only if no node is spare. If that allocation fails, it returns the pair in `Err` and
+    /// changes no entry.
     pub fn insert_hashed_nocheck(
         self,
         hash: u64,
@@ -48,8 +52,8 @@ impl<'a, K: Eq + Hash, V, S: BuildHasher> RawVacantEntryMut<'a, K, V, S> {
         RawOccupiedEntryMut::pair_of(self.insert_entry_hashed_nocheck(hash, key, value))
     }
 
-    /// `insert_hashed_nocheck`, with a hasher that has to answer for the new key and for every key of the map
-    /// as the map's own does. The map keeps each hash, so it is not called.
+    /// Does the same as `insert_hashed_nocheck`. The hasher has to return, for the new key and for every key
+    /// of the map, what the map's own hasher does. The map keeps each hash, so the hasher is not called.
     pub fn insert_with_hasher<F: Fn(&K) -> u64>(
         self,
         hash: u64,
@@ -73,7 +77,11 @@ impl<'a, K: Eq + Hash, V, S: BuildHasher> RawVacantEntryMut<'a, K, V, S> {
         RawOccupiedEntryMut::pair_of(self.insert_entry_with_hasher(hash, key, value, hasher))
     }
 
-    /// Puts the pair last, and returns its entry. It hashes the key once.
+    /// Inserts the pair at the back, and returns its entry. The key has to be absent. It hashes the key once,
+    /// and stores at most four links.
+    ///
+    /// It allocates only if no node is spare. If that allocation fails, it returns the pair in `Err` and
+    /// changes no entry.
     pub fn insert_entry(self, key: K, value: V) -> Result<RawOccupiedEntryMut<'a, K, V, S>, (K, V)>
         requires absent { place_of (K.eq key) (entries_of (raw_vacant_map self).now) ≡ None }
         ensures* hands_on { sem 𝓛 (HandsOnNew K.row V.row S.row S.Hasher.row
@@ -92,7 +100,11 @@ impl<'a, K: Eq + Hash, V, S: BuildHasher> RawVacantEntryMut<'a, K, V, S> {
         Ok(RawOccupiedEntryMut { map, node })
     }
 
-    /// Puts the pair last, whose key has this hash, and returns its entry. It hashes nothing.
+    /// Inserts the pair at the back, and returns its entry. The key has to be absent and to have this hash.
+    /// It hashes nothing, and stores at most four links.
+    ///
+    /// It allocates only if no node is spare. If that allocation fails, it returns the pair in `Err` and
+    /// changes no entry.
     pub fn insert_entry_hashed_nocheck(
         self,
         hash: u64,
@@ -117,8 +129,9 @@ impl<'a, K: Eq + Hash, V, S: BuildHasher> RawVacantEntryMut<'a, K, V, S> {
         Ok(RawOccupiedEntryMut { map, node })
     }
 
-    /// `insert_entry_hashed_nocheck`, with a hasher that has to answer for the new key and for every key of
-    /// the map as the map's own does. The map keeps each hash, so it is not called.
+    /// Does the same as `insert_entry_hashed_nocheck`. The hasher has to return, for the new key and for
+    /// every key of the map, what the map's own hasher does. The map keeps each hash, so the hasher is not
+    /// called.
     pub fn insert_entry_with_hasher<F: Fn(&K) -> u64>(
         self,
         hash: u64,

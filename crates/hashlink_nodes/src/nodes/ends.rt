@@ -1,4 +1,4 @@
-//! How nodes are given back.
+//! How nodes are freed.
 ghost use Rattle.std.specs.Prelude.{◌≡◌, ◌+◌, ◌*◌, ◌<◌, [], length, drop, slice_get, Some};
 ghost use Rattle.std.specs.Option.{option_map};
 
@@ -6,7 +6,7 @@ use super::Nodes;
 use crate::held::Held;
 
 impl<K, V> Nodes<K, V> {
-    /// Gives the spare nodes back.
+    /// Frees the spare nodes.
     pub fn release_free(&mut self)
         ensures entries { self.new.entries ≡ self.old.entries }
         ensures free { self.new.free ≡ [] }
@@ -33,8 +33,7 @@ impl<K, V> Nodes<K, V> {
         self.spare -= 1;
     }
 
-    /// Drops the entries and gives their nodes back. The spare nodes stay. It stores two links for each
-    /// entry.
+    /// Drops the entries and frees their nodes. The spare nodes stay. It stores two links for each entry.
     pub fn release_all(&mut self)
     where
         K: Drop,
@@ -69,7 +68,7 @@ impl<K, V> Nodes<K, V> {
         held
     }
 
-    /// The end of a ring without nodes: the guard's block goes back.
+    /// Ends a ring without nodes, and frees the guard's block.
     pub(super) fn end(self)
         requires entries { self.entries ≡ [] }
         requires free { self.free ≡ [] }

@@ -1,4 +1,4 @@
-//! How an entry moves.
+//! Moves of an entry.
 ghost use Rattle.std.specs.Prelude.{◌≡◌, ◌+◌};
 ghost use Rattle.std.specs.Map.{remove_entry};
 ghost use Rattle.hashlink_nodes.specs.Node.{same_node};
@@ -8,7 +8,7 @@ use super::Nodes;
 use crate::node::Node;
 
 impl<K, V> Nodes<K, V> {
-    /// Moves the node's entry right before another place. It stores six links.
+    /// Moves the node's entry directly before another place. It stores six links.
     pub fn move_before(&mut self, node: Node, place: Option<Node>)
         requires node { Holds self.old.entries node }
         requires place { IsPlace (remove_entry (same_node node) self.old.entries) place }
@@ -26,7 +26,7 @@ impl<K, V> Nodes<K, V> {
         self.cells.attach(node, prev, next);
     }
 
-    /// Moves the node's entry right after another place. It stores six links.
+    /// Moves the node's entry directly after another place. It stores six links.
     pub fn move_after(&mut self, node: Node, place: Option<Node>)
         requires node { Holds self.old.entries node }
         requires place { IsPlace (remove_entry (same_node node) self.old.entries) place }

@@ -1,4 +1,4 @@
-//! What a ring shows.
+//! Reads of a ring.
 ghost use Rattle.std.specs.Prelude.{◌≡◌, ◌+◌, ◌++◌, ◌^◌, ◌<◌, length, Some};
 ghost use Rattle.std.specs.Option.{option_map};
 ghost use Rattle.std.specs.List.{IsDistinct};
@@ -10,7 +10,7 @@ use super::Nodes;
 use crate::node::Node;
 
 impl<K, V> Nodes<K, V> {
-    /// How many entries there are.
+    /// Returns the number of entries.
     #[inline]
     pub fn len(&self) -> usize
         ensures len { result ≡ length self.now.entries }
@@ -20,7 +20,7 @@ impl<K, V> Nodes<K, V> {
         self.len
     }
 
-    /// No node stands twice in the ring and among the spare ones together. The call does nothing but say so.
+    /// Proves that no node is twice in the ring and the free list together. The call itself does nothing.
     #[inline]
     pub fn are_distinct(&self)
         ensures { IsDistinct same_node (keys_of self.now.entries ++ self.now.free) }
@@ -28,7 +28,7 @@ impl<K, V> Nodes<K, V> {
         let _first = self.first_spare;
     }
 
-    /// How many nodes are spare.
+    /// Returns the number of spare nodes.
     #[inline]
     pub fn spare(&self) -> usize
         ensures { result ≡ length self.now.free }
@@ -36,7 +36,8 @@ impl<K, V> Nodes<K, V> {
         self.spare
     }
 
-    /// The place after a place: after the guard comes the first node, and after the last node the guard.
+    /// Returns the place after a place: after the guard comes the first node, and after the last node the
+    /// guard.
     #[inline]
     pub fn next(&self, place: Option<Node>) -> Option<Node>
         requires { IsPlace self.now.entries place }
@@ -55,7 +56,8 @@ impl<K, V> Nodes<K, V> {
         }
     }
 
-    /// The place before a place: before the guard comes the last node, and before the first node the guard.
+    /// Returns the place before a place: before the guard comes the last node, and before the first node the
+    /// guard.
     #[inline]
     pub fn prev(&self, place: Option<Node>) -> Option<Node>
         requires { IsPlace self.now.entries place }
@@ -74,7 +76,7 @@ impl<K, V> Nodes<K, V> {
         }
     }
 
-    /// The node's key and value.
+    /// Returns the node's key and value.
     #[inline]
     pub fn entry(&self, node: Node) -> (&K, &V)
         requires { Holds self.now.entries node }
@@ -84,7 +86,7 @@ impl<K, V> Nodes<K, V> {
         self.cells.pair(node)
     }
 
-    /// The number that the owner gave the node's entry.
+    /// Returns the number that the owner gave the node's entry.
     #[inline]
     pub fn number(&self, node: Node) -> usize
         requires { Holds self.now.entries node }

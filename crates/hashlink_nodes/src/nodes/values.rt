@@ -1,4 +1,4 @@
-//! What can be changed in an entry that stays where it is.
+//! Changes of an entry that keeps its place.
 ghost use Rattle.std.specs.Prelude.{◌≡◌, ◌^◌, ◌<◌, Some, IfSome};
 ghost use Rattle.std.specs.Option.{option_map};
 ghost use Rattle.std.specs.Borrow.{sem};
@@ -12,7 +12,7 @@ use crate::node::Node;
 impl<K, V> Nodes<K, V> {
     ghost use Rattle.hashlink_nodes.specs.NodesLends.{LendsValueAt};
 
-    /// Gives the node's entry another number.
+    /// Sets the number of the node's entry.
     pub fn set_number(&mut self, node: Node, number: usize)
         requires node { Holds self.old.entries node }
         requires small { number < 2 ^ 48 }
@@ -24,7 +24,7 @@ impl<K, V> Nodes<K, V> {
         self.cells.set_number(node, number);
     }
 
-    /// Puts a value into the node's entry, and returns the old one.
+    /// Replaces the value of the node's entry, and returns the old one.
     pub fn replace_value(&mut self, node: Node, value: V) -> V
         requires { Holds self.old.entries node }
         ensures value { option_map (λ h. h.value) (lookup (same_node node) self.old.entries) ≡ Some result }
@@ -36,7 +36,7 @@ impl<K, V> Nodes<K, V> {
         self.cells.replace_value(node, value)
     }
 
-    /// Puts a key into the node's entry, and returns the old one.
+    /// Replaces the key of the node's entry, and returns the old one.
     pub fn set_key(&mut self, node: Node, key: K) -> K
         requires { Holds self.old.entries node }
         ensures key { option_map (λ h. h.key) (lookup (same_node node) self.old.entries) ≡ Some result }
@@ -48,7 +48,7 @@ impl<K, V> Nodes<K, V> {
         self.cells.replace_key(node, key)
     }
 
-    /// Lends the value of the node's entry, beside its key.
+    /// Returns the key of the node's entry and a mutable reference to its value.
     #[inline]
     pub fn entry_mut(&mut self, node: Node) -> (&K, &mut V)
         requires { Holds self.old.entries node }

@@ -1,4 +1,4 @@
-//! How elements come in. Each call hashes the element once, and looks for it as `contains` does.
+//! Inserts. Each one hashes an element that it is given once, and looks it up as `contains` does.
 ghost use Rattle.std.specs.Prelude.{◌≡◌, IsSome, IsTrue, IsOk, None, option_copied, OnOk, IfOk, IfErr, Ok};
 ghost use Rattle.std.specs.Prelude.{Err, Some, length, not};
 ghost use Rattle.std.specs.Borrow.{sem};
@@ -22,12 +22,12 @@ impl<T: Eq + Hash, S: BuildHasher> LinkedHashSet<T, S> {
     ghost use Rattle.hashlink_set.specs.SetLends.{EndsInserted, EndsMade, StaysAsItWas, PutsElement};
     ghost use Rattle.hashlink_set.specs.SetLends.{MakesElement};
 
-    /// Puts the element last, and returns whether it was new. An equal one that is there stays the object
-    /// that it is, and moves to the end.
+    /// Inserts the element at the back, and returns whether it was absent. If an equal element is present,
+    /// that one stays in the set and moves to the back. It hashes the element once, and stores at most six
+    /// links if it is present and four if it is absent.
     ///
-    /// It takes memory only for a new element where no node is spare. Where that is refused, the element is
-    /// handed back and nothing changes. It stores at most six links for an element that is there and four for
-    /// a new one.
+    /// It allocates only if the element is absent and no node is spare. If that allocation fails, it returns
+    /// the element in `Err` and changes nothing.
     pub fn insert(&mut self, value: T) -> Result<bool, T>
     where
         T: Drop,
@@ -44,11 +44,12 @@ impl<T: Eq + Hash, S: BuildHasher> LinkedHashSet<T, S> {
         }
     }
 
-    /// Puts the element in the place of the equal one that is there, which it returns. A new one goes last.
+    /// Replaces the equal element by the given one, at the same place, and returns the old one if there was
+    /// one. An absent element is inserted at the back. It hashes the element once, and stores no link if it
+    /// is present and at most four if it is absent.
     ///
-    /// It takes memory only for a new element where no node is spare. Where that is refused, the element is
-    /// handed back and nothing changes. It stores no link for an element that is there and at most four for a
-    /// new one.
+    /// It allocates only if the element is absent and no node is spare. If that allocation fails, it returns
+    /// the element in `Err` and changes nothing.
     pub fn replace(&mut self, value: T) -> Result<Option<T>, T>
         ensures replaces { SetReplaces T.eq self.old self.new value result }
         ensures elements { OnOk result (elements_of self.new ≡ replaced T.eq (elements_of self.old) value) }
@@ -61,12 +62,12 @@ impl<T: Eq + Hash, S: BuildHasher> LinkedHashSet<T, S> {
         }
     }
 
-    /// Puts the element last, or moves the equal one that is there to the end, and lends the one that then
-    /// stands there: it is `insert`, and then the last element.
+    /// Inserts the element at the back, or moves the equal one to the back. Returns a reference to the one
+    /// that is then in the set. It is `insert`, and then the last element. It hashes the element once, and
+    /// stores at most six links if the element is present and four if it is absent.
     ///
-    /// It takes memory only for a new element where no node is spare. Where that is refused, the element is
-    /// handed back and nothing changes. It stores at most six links for an element that is there and four for
-    /// a new one.
+    /// It allocates only if the element is absent and no node is spare. If that allocation fails, it returns
+    /// the element in `Err` and changes nothing.
     pub fn get_or_insert(&mut self, value: T) -> Result<&T, T>
     where
         T: Drop,
@@ -79,13 +80,13 @@ impl<T: Eq + Hash, S: BuildHasher> LinkedHashSet<T, S> {
         Self::lent_or_refused(set.last_for_good(), refused)
     }
 
-    /// Moves the element that is equal to the one given to the end, or puts the one that `f` makes last, and
-    /// lends the one that then stands there. Where none is equal, `f` is called once, and what it makes has
-    /// to be absent.
+    /// Moves the element that is equal to `value` to the back, or inserts the one that `f` returns at the
+    /// back. Returns a reference to the one that is then in the set. If none is equal to `value`, `f` is
+    /// called once, and what it returns has to be absent. It hashes `value` once, and what `f` returns once.
+    /// It stores at most six links if the element is present, and four if it is absent.
     ///
-    /// It takes memory only for a new element where no node is spare. Where that is refused, what `f` made is
-    /// handed back and nothing changes. It stores at most six links for an element that is there and four for
-    /// a new one.
+    /// It allocates only if the element is absent and no node is spare. If that allocation fails, it returns
+    /// what `f` returned in `Err`, and changes nothing.
     pub fn get_or_insert_with<F: FnOnce(&T) -> T>(&mut self, value: &T, f: F) -> Result<&T, T>
     where
         T: Drop,
@@ -101,7 +102,7 @@ impl<T: Eq + Hash, S: BuildHasher> LinkedHashSet<T, S> {
         Self::lent_or_refused(set.last_for_good(), refused)
     }
 
-    /// The last element, as long as the set is borrowed: the set ends as it was.
+    /// Returns the last element for as long as the set is borrowed. The set does not change.
     fn last_for_good(&mut self) -> Option<&T>
         ensures* unchanged { sem 𝓛 (StaysAsItWas T.row S.row S.Hasher.row T.Hash S.BuildHasher S.Hasher.Hasher
             self.entry) }
@@ -110,7 +111,7 @@ impl<T: Eq + Hash, S: BuildHasher> LinkedHashSet<T, S> {
         self.back()
     }
 
-    /// `insert`, which returns the set beside the element that was refused.
+    /// Does the same as `insert`, and returns the set and the element that was not inserted, if any.
     fn put_last(&mut self, value: T) -> (&mut Self, Option<T>)
     where
         T: Drop,
@@ -121,7 +122,7 @@ impl<T: Eq + Hash, S: BuildHasher> LinkedHashSet<T, S> {
         (self, refused)
     }
 
-    /// `move_or_make`, which returns the set beside the element that was refused.
+    /// Does the same as `move_or_make`, and returns the set and the element that was not inserted, if any.
     fn put_or_make<F: FnOnce(&T) -> T>(&mut self, value: &T, f: F) -> (&mut Self, Option<T>)
     where
         T: Drop,
@@ -135,7 +136,7 @@ impl<T: Eq + Hash, S: BuildHasher> LinkedHashSet<T, S> {
         (self, refused)
     }
 
-    /// The element that is lent, or the one that was refused.
+    /// Returns the element that was not inserted in `Err` if there is one, and otherwise the other.
     fn lent_or_refused(lent: Option<&T>, refused: Option<T>) -> Result<&T, T>
     where
         T: Drop,
@@ -149,7 +150,7 @@ impl<T: Eq + Hash, S: BuildHasher> LinkedHashSet<T, S> {
         }
     }
 
-    /// `get_or_insert_with`, before anything is lent.
+    /// Does the same as `get_or_insert_with`, and returns no reference.
     fn move_or_make<F: FnOnce(&T) -> T>(&mut self, value: &T, f: F) -> Result<(), T>
     where
         T: Drop,
@@ -170,7 +171,7 @@ impl<T: Eq + Hash, S: BuildHasher> LinkedHashSet<T, S> {
     }
 }
 
-/// `replace`, by the map.
+/// Does the same as `replace`, on the map.
 fn let_in<T: Eq + Hash, S: BuildHasher>(
     map: &mut LinkedHashMap<T, (), S>,
     value: T,

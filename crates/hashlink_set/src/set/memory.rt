@@ -1,4 +1,4 @@
-//! The memory of a set. None of these changes an element.
+//! The memory of a set. None of these methods changes an element.
 ghost use Rattle.std.specs.Prelude.{◌≡◌, ◌+◌, ◌^◌, ◌<◌, ◌↔◌, length, Err};
 ghost use Rattle.hashlink_model.specs.Steps.{Reserves, Shrinks};
 ghost use Rattle.hashlink_model.specs.Sets.{elements_of};
@@ -9,12 +9,12 @@ use std::alloc::AllocError;
 use std::hash::{BuildHasher, Hash};
 
 impl<T: Eq + Hash, S: BuildHasher> LinkedHashSet<T, S> {
-    /// Makes room for so many more elements. Where there is room for them already it is not refused, and
-    /// changes nothing; else the table grows, which takes a step for each element and hashes nothing.
+    /// Reserves room for `additional` more elements. If there is room for them already, it cannot fail and
+    /// changes nothing. Otherwise the table grows, which takes linear time in the number of elements and
+    /// hashes nothing.
     ///
-    /// It returns `CapacityOverflow` where the set could then have more than 2 to the power of 62 elements,
-    /// and
-    /// `AllocError` where the memory is refused. A refusal changes nothing.
+    /// It returns `CapacityOverflow` if the set could then have more than 2 to the power of 62 elements, and
+    /// `AllocError` if the allocation fails. After an error nothing has changed.
     pub fn reserve(&mut self, additional: usize) -> Result<(), TryReserveError>
         ensures reserves { Reserves self.old self.new additional result }
         ensures overflow { (result ≡ Err TryReserveError.CapacityOverflow) ↔
@@ -23,7 +23,7 @@ impl<T: Eq + Hash, S: BuildHasher> LinkedHashSet<T, S> {
         self.map.reserve(additional)
     }
 
-    /// `reserve`, under the name that says that it may be refused.
+    /// Does the same as `reserve`. Its name says that it may fail.
     pub fn try_reserve(&mut self, additional: usize) -> Result<(), TryReserveError>
         ensures reserves { Reserves self.old self.new additional result }
         ensures overflow { (result ≡ Err TryReserveError.CapacityOverflow) ↔
@@ -32,11 +32,11 @@ impl<T: Eq + Hash, S: BuildHasher> LinkedHashSet<T, S> {
         self.reserve(additional)
     }
 
-    /// Gives the spare nodes back, and the room that the elements do not need. It takes a step for each spare
-    /// node and each element.
+    /// Frees the spare nodes, and the room that the elements do not need. It takes linear time in the number
+    /// of spare nodes and elements.
     ///
-    /// The smaller table needs memory for a moment. Where that is refused, it returns `AllocError` and keeps
-    /// the room; the spare nodes are given back all the same. Without elements it is not refused, and the
+    /// For a moment it needs memory for the smaller table. If that allocation fails, it returns `AllocError`
+    /// and keeps the room. The spare nodes are freed all the same. With no elements it cannot fail, and the
     /// capacity is 0 afterwards.
     pub fn shrink_to_fit(&mut self) -> Result<(), AllocError>
         ensures { Shrinks self.old self.new result }

@@ -1,4 +1,4 @@
-//! How an element moves to either end. A move hashes the element once, takes no memory, and stores at most
+//! Moves of an element to either end. A move hashes the element once, does not allocate, and stores at most
 //! six links.
 ghost use Rattle.std.specs.Prelude.{◌≡◌, length};
 ghost use Rattle.std.specs.List.{IsDistinct};
@@ -11,14 +11,16 @@ use hashlink_map::Equivalent;
 use std::hash::{BuildHasher, Hash};
 
 impl<T: Eq + Hash, S: BuildHasher> LinkedHashSet<T, S> {
-    /// Moves the equal element to the front, and returns whether there is one. Else nothing changes.
+    /// Moves the equal element to the front, and returns whether there is one. If there is none, nothing
+    /// changes. It hashes the element once, and stores at most six links.
     pub fn to_front<Q: Equivalent<T>>(&mut self, value: Q) -> bool
         ensures moves { MovesMatch (Q.matches value) self.old self.new 0 (as_value result) }
     {
         self.find_to_front(value).is_some()
     }
 
-    /// Moves the equal element to the end, and returns whether there is one. Else nothing changes.
+    /// Moves the equal element to the back, and returns whether there is one. If there is none, nothing
+    /// changes. It hashes the element once, and stores at most six links.
     pub fn to_back<Q: Equivalent<T>>(&mut self, value: Q) -> bool
         ensures moves { MovesMatch (Q.matches value) self.old self.new (length self.old.entries)
             (as_value result) }
@@ -26,7 +28,7 @@ impl<T: Eq + Hash, S: BuildHasher> LinkedHashSet<T, S> {
         self.find_to_back(value).is_some()
     }
 
-    /// `to_front`, with nothing as the value of an element that is there.
+    /// Does the same as `to_front`, and returns `Some(())` if the element is present.
     fn find_to_front<Q: Equivalent<T>>(&mut self, value: Q) -> Option<()>
         ensures { MovesMatch (Q.matches value) self.old self.new 0 result }
     {
@@ -34,7 +36,7 @@ impl<T: Eq + Hash, S: BuildHasher> LinkedHashSet<T, S> {
         Some(())
     }
 
-    /// `to_back`, with nothing as the value of an element that is there.
+    /// Does the same as `to_back`, and returns `Some(())` if the element is present.
     fn find_to_back<Q: Equivalent<T>>(&mut self, value: Q) -> Option<()>
         ensures { MovesMatch (Q.matches value) self.old self.new (length self.old.entries) result }
     {

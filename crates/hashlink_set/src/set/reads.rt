@@ -1,4 +1,4 @@
-//! What a set shows. Each lookup hashes the element once, and looks at the elements of one bucket.
+//! Reads of a set. Each lookup hashes the element once, and looks at the elements of one bucket.
 ghost use Rattle.std.specs.Prelude.{◌≡◌, option_copied};
 ghost use Rattle.std.specs.List.{IsDistinct, find, list_any};
 ghost use Rattle.hashlink_model.specs.Walk.{first_of, last_of};
@@ -9,7 +9,7 @@ use hashlink_map::Equivalent;
 use std::hash::{BuildHasher, Hash};
 
 impl<T: Eq + Hash, S: BuildHasher> LinkedHashSet<T, S> {
-    /// Whether an equal element is there.
+    /// Returns whether an equal element is present. It hashes the element once.
     pub fn contains<Q: Equivalent<T>>(&self, value: Q) -> bool
         ensures found { result ≡ list_any (Q.matches value) (elements_of self.now) }
         ensures distinct { IsDistinct T.eq (elements_of self.now) }
@@ -17,8 +17,8 @@ impl<T: Eq + Hash, S: BuildHasher> LinkedHashSet<T, S> {
         self.map.contains_key(value)
     }
 
-    /// The element that is there and equal to the one given, which may be another object. The order stays as
-    /// it is.
+    /// Returns the equal element, which may be a different object, or `None` if there is none. The order does
+    /// not change. It hashes the element once.
     pub fn get<Q: Equivalent<T>>(&self, value: Q) -> Option<&T>
         ensures found { option_copied result ≡ find (Q.matches value) (elements_of self.now) }
         ensures distinct { IsDistinct T.eq (elements_of self.now) }
@@ -27,7 +27,7 @@ impl<T: Eq + Hash, S: BuildHasher> LinkedHashSet<T, S> {
         Some(stored)
     }
 
-    /// The first element.
+    /// Returns the first element, or `None` if the set is empty. It takes constant time and hashes nothing.
     pub fn front(&self) -> Option<&T>
         ensures found { option_copied result ≡ first_of (elements_of self.now) }
         ensures distinct { IsDistinct T.eq (elements_of self.now) }
@@ -36,7 +36,7 @@ impl<T: Eq + Hash, S: BuildHasher> LinkedHashSet<T, S> {
         Some(first)
     }
 
-    /// The last element.
+    /// Returns the last element, or `None` if the set is empty. It takes constant time and hashes nothing.
     pub fn back(&self) -> Option<&T>
         ensures found { option_copied result ≡ last_of (elements_of self.now) }
         ensures distinct { IsDistinct T.eq (elements_of self.now) }

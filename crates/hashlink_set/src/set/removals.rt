@@ -1,5 +1,5 @@
-//! How elements leave. The others keep their order, and each node that is freed serves the next new element.
-//! None of these takes memory.
+//! Removals. The other elements keep their order. Except for `clear`, each removal leaves a spare node, which
+//! the next insert of an absent element uses. No removal allocates.
 ghost use Rattle.std.specs.Prelude.{◌≡◌};
 ghost use Rattle.std.specs.List.{IsDistinct, list_any};
 ghost use Rattle.std.specs.Map.{lookup_entry};
@@ -14,7 +14,7 @@ use hashlink_map::Equivalent;
 use std::hash::{BuildHasher, Hash};
 
 impl<T: Eq + Hash, S: BuildHasher> LinkedHashSet<T, S> {
-    /// Takes the equal element out and drops it, and returns whether there was one. It looks for it as
+    /// Removes the equal element and drops it, and returns whether there was one. It looks the element up as
     /// `contains` does, and stores at most three links.
     pub fn remove<Q: Equivalent<T>>(&mut self, value: Q) -> bool
     where
@@ -28,8 +28,8 @@ impl<T: Eq + Hash, S: BuildHasher> LinkedHashSet<T, S> {
         self.map.remove_entry(value).is_some()
     }
 
-    /// Takes the equal element out and returns it. It looks for it as `contains` does, and stores at most
-    /// three links.
+    /// Removes the equal element and returns it, or returns `None` if there is none. It looks the element up
+    /// as `contains` does, and stores at most three links.
     pub fn take<Q: Equivalent<T>>(&mut self, value: Q) -> Option<T>
         ensures removes { RemovesMatch (Q.matches value) self.old self.new (as_entry result) }
         ensures distinct { IsDistinct T.eq (elements_of self.new) }
@@ -38,8 +38,8 @@ impl<T: Eq + Hash, S: BuildHasher> LinkedHashSet<T, S> {
         Some(stored)
     }
 
-    /// Takes the first element out and returns it. It takes constant time, hashes nothing, and stores at most
-    /// three links.
+    /// Removes the first element and returns it, or returns `None` if the set is empty. It takes constant
+    /// time, hashes nothing, and stores at most three links.
     pub fn pop_front(&mut self) -> Option<T>
         ensures pops { PopsFront self.old self.new (as_entry result) }
         ensures elements { TakesFirst (λ t. t) (elements_of self.old) result (elements_of self.new) }
@@ -49,8 +49,8 @@ impl<T: Eq + Hash, S: BuildHasher> LinkedHashSet<T, S> {
         Some(first)
     }
 
-    /// Takes the last element out and returns it. It takes constant time, hashes nothing, and stores at most
-    /// three links.
+    /// Removes the last element and returns it, or returns `None` if the set is empty. It takes constant
+    /// time, hashes nothing, and stores at most three links.
     pub fn pop_back(&mut self) -> Option<T>
         ensures pops { PopsBack self.old self.new (as_entry result) }
         ensures elements { TakesLast (λ t. t) (elements_of self.old) result (elements_of self.new) }
@@ -60,8 +60,8 @@ impl<T: Eq + Hash, S: BuildHasher> LinkedHashSet<T, S> {
         Some(last)
     }
 
-    /// Drops every element and gives its node back to the allocator. The spare nodes stay, and the room. It
-    /// takes a step for each element and each bucket.
+    /// Drops every element and frees its node. The spare nodes and the room stay. It takes linear time in the
+    /// number of elements and buckets.
     pub fn clear(&mut self)
     where
         T: Drop,

@@ -1,5 +1,5 @@
-//! How the elements that a closure chooses leave. The others keep their order. Neither call takes memory or
-//! hashes an element, and each node that is freed serves the next new element.
+//! Removals of the elements that a closure chooses. The others keep their order. Neither method allocates or
+//! hashes an element. Each node that becomes spare serves the next insert of an absent element.
 ghost use Rattle.std.specs.Fn.{CalledAt};
 ghost use Rattle.std.specs.List.{IsDistinct};
 ghost use Rattle.hashlink_model.specs.Retain.{RetainsInOrder};
@@ -10,9 +10,9 @@ use super::LinkedHashSet;
 use std::hash::{BuildHasher, Hash};
 
 impl<T: Eq + Hash, S: BuildHasher> LinkedHashSet<T, S> {
-    /// Calls `keep` once on each element, and takes out those at which it returns false. It stores at most
-    /// three links for each element that leaves. As the calls before have left it,
-    /// `keep` has to take each element.
+    /// Calls `keep` once on each element, and removes those for which it returns false. It stores at most
+    /// three links for each removal. `keep` has to be callable on each element, in the state that its earlier
+    /// calls have left it in.
     pub fn retain<F: FnMut(&T) -> bool>(&mut self, keep: F)
     where
         T: Drop,
@@ -24,9 +24,9 @@ impl<T: Eq + Hash, S: BuildHasher> LinkedHashSet<T, S> {
         self.retain_with_order(keep);
     }
 
-    /// Calls `keep` once on each element, from the front, and takes out those at which it returns false. It
-    /// stores at most three links for each element that leaves. As the calls before have left it,
-    /// `keep` has to take each element.
+    /// Calls `keep` once on each element, from the front, and removes those for which it returns false. It
+    /// stores at most three links for each removal. `keep` has to be callable on each element, in the state
+    /// that its earlier calls have left it in.
     pub fn retain_with_order<F: FnMut(&T) -> bool>(&mut self, mut keep: F)
     where
         T: Drop,

@@ -1,4 +1,4 @@
-//! A walk over a set, from both ends. It takes no memory, and each step takes constant time.
+//! The iterator over a set, from both ends. It does not allocate, and each step takes constant time.
 ghost use Rattle.std.specs.Prelude.{◌≡◌, ◌^◌, ◌<◌, length};
 ghost use Rattle.std.specs.List.{IsDistinct};
 ghost use Rattle.std.specs.Map.Iter.{ShowsInOrder, ShowsInReverse, deref};
@@ -9,7 +9,8 @@ use hashlink_algebra::Iter;
 use std::hash::{BuildHasher, Hash};
 
 impl<T: Eq + Hash, S: BuildHasher> LinkedHashSet<T, S> {
-    /// A walk over the elements, front first.
+    /// Returns an iterator over the elements, from front to back. It does not allocate, and each step takes
+    /// constant time.
     pub fn iter(&self) -> Iter<'_, T>
         ensures rest { result ≡ elements_of self.now }
         ensures runs { ShowsInOrder (deref {X = T}) }

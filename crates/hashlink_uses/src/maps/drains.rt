@@ -12,8 +12,8 @@ pub fn empty_out<K: Eq + Hash + Drop, V: Drop, S: BuildHasher>(map: &mut LinkedH
     let _rest = map.drain();
 }
 
-/// Takes so many entries from the front, so many from the back, and drops the others: the map ends as a drain
-/// of all leaves it.
+/// Removes so many entries from the front and so many from the back, and drops the others. The map ends as
+/// after a drain of all.
 pub fn take_ends<K: Eq + Hash + Drop, V: Drop, S: BuildHasher>(
     map: &mut LinkedHashMap<K, V, S>,
     front: usize,

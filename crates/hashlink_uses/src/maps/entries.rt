@@ -13,7 +13,7 @@ use hashlink::LinkedHashMap;
 use hashlink::linked_hash_map::{Entry, RawEntryMut};
 use std::hash::{BuildHasher, Hash};
 
-/// Counts a word: the map ends as an insert of one more than the count so far leaves it.
+/// Counts a word: the map ends as after an insert of one more than the count so far.
 pub fn count_word<K: Eq + Hash + Drop, S: BuildHasher>(
     map: &mut LinkedHashMap<K, u64, S>,
     word: K,
@@ -30,7 +30,7 @@ pub fn count_word<K: Eq + Hash + Drop, S: BuildHasher>(
     Ok(())
 }
 
-/// Takes the key's entry out through its entry, as the map's `remove_entry` does.
+/// Removes the key's entry through its entry, as the map's `remove_entry` does.
 pub fn take<K: Eq + Hash + Drop, V, S: BuildHasher>(
     map: &mut LinkedHashMap<K, V, S>,
     key: K,
@@ -43,7 +43,7 @@ pub fn take<K: Eq + Hash + Drop, V, S: BuildHasher>(
     }
 }
 
-/// Gives a key that is there the value and moves it to the end, as the map's `insert` does.
+/// Sets the value of a key that is present and moves it to the back, as the map's `insert` does.
 pub fn refresh<K: Eq + Hash + Drop, V: Drop, S: BuildHasher>(
     map: &mut LinkedHashMap<K, V, S>,
     key: K,
@@ -62,7 +62,7 @@ pub fn refresh<K: Eq + Hash + Drop, V: Drop, S: BuildHasher>(
     }
 }
 
-/// Writes the value of a key where it stands.
+/// Writes the value of a key at its place.
 pub fn write_in_place<K: Eq + Hash + Drop, V: Drop, S: BuildHasher>(
     map: &mut LinkedHashMap<K, V, S>,
     key: K,
@@ -76,7 +76,7 @@ pub fn write_in_place<K: Eq + Hash + Drop, V: Drop, S: BuildHasher>(
     }
 }
 
-/// The same, by a reference that lasts as long as the map is borrowed.
+/// Does the same, by a reference that lasts as long as the map is borrowed.
 pub fn write_for_good<K: Eq + Hash + Drop, V: Drop, S: BuildHasher>(
     map: &mut LinkedHashMap<K, V, S>,
     key: K,
@@ -89,7 +89,7 @@ pub fn write_for_good<K: Eq + Hash + Drop, V: Drop, S: BuildHasher>(
     }
 }
 
-/// The same, by a closure. It answers the key given.
+/// Does the same, by a closure. It returns the given key.
 pub fn set_to_seven<K: Eq + Hash + Drop, S: BuildHasher>(
     map: &mut LinkedHashMap<K, u64, S>,
     key: K,
@@ -102,7 +102,7 @@ pub fn set_to_seven<K: Eq + Hash + Drop, S: BuildHasher>(
     }
 }
 
-/// Puts what the closure makes last, where the key is absent.
+/// Inserts what the closure makes at the back, if the key is absent.
 pub fn put_seven<K: Eq + Hash + Drop, S: BuildHasher>(
     map: &mut LinkedHashMap<K, u64, S>,
     key: K,
@@ -117,7 +117,7 @@ pub fn put_seven<K: Eq + Hash + Drop, S: BuildHasher>(
     Ok(())
 }
 
-/// Writes the value of a key where it stands, by its raw entry.
+/// Writes the value of a key at its place, by its raw entry.
 pub fn write_raw<K: Eq + Hash, V: Drop, S: BuildHasher>(
     map: &mut LinkedHashMap<K, V, S>,
     key: &K,
@@ -132,7 +132,7 @@ pub fn write_raw<K: Eq + Hash, V: Drop, S: BuildHasher>(
     }
 }
 
-/// Puts a pair last and then writes its value, by a raw entry. The key has to be absent.
+/// Inserts a pair at the back and then writes its value, by a raw entry. The key has to be absent.
 pub fn put_absent<K: Eq + Hash, V: Drop, S: BuildHasher>(
     map: &mut LinkedHashMap<K, V, S>,
     key: K,
@@ -155,7 +155,7 @@ where
     }
 }
 
-/// Puts the key in for the equal one that is stored, by a raw entry, and answers that.
+/// Replaces the stored key by this equal one, by a raw entry, and returns the old one.
 pub fn renew_key<K: Eq + Hash + Drop, V, S: BuildHasher>(
     map: &mut LinkedHashMap<K, V, S>,
     key: K,
@@ -171,7 +171,7 @@ pub fn renew_key<K: Eq + Hash + Drop, V, S: BuildHasher>(
     }
 }
 
-/// Takes the last entry out by its raw entry, as the map's `pop_back` does.
+/// Removes the last entry by its raw entry, as the map's `pop_back` does.
 pub fn take_last<K: Eq + Hash, V, S: BuildHasher>(
     map: &mut LinkedHashMap<K, V, S>,
 ) -> Option<(K, V)>
@@ -181,7 +181,7 @@ pub fn take_last<K: Eq + Hash, V, S: BuildHasher>(
     Some(map.back_entry()?.remove_entry())
 }
 
-/// Gives the first entry a value, by its raw entry.
+/// Sets the value of the first entry, by its raw entry.
 pub fn set_front<K: Eq + Hash, V: Drop, S: BuildHasher>(
     map: &mut LinkedHashMap<K, V, S>,
     value: V,
@@ -195,7 +195,7 @@ pub fn set_front<K: Eq + Hash, V: Drop, S: BuildHasher>(
     }
 }
 
-/// Takes the entry before the last out, by a cursor.
+/// Removes the entry before the last, by a cursor.
 pub fn take_before_last<K: Eq + Hash, V, S: BuildHasher>(
     map: &mut LinkedHashMap<K, V, S>,
 ) -> Option<(K, V)>
@@ -208,7 +208,7 @@ pub fn take_before_last<K: Eq + Hash, V, S: BuildHasher>(
     Some(cursor.into_entry()?.remove_entry())
 }
 
-/// Puts a pair right after the first, by a cursor.
+/// Inserts a pair directly after the first, by a cursor.
 pub fn put_second<K: Eq + Hash + Drop, V: Drop, S: BuildHasher>(
     map: &mut LinkedHashMap<K, V, S>,
     key: K,
@@ -220,7 +220,7 @@ pub fn put_second<K: Eq + Hash + Drop, V: Drop, S: BuildHasher>(
     map.cursor_front_mut().insert_after(key, value)
 }
 
-/// Writes the value of the first entry, by a cursor, and answers whether there is one.
+/// Writes the value of the first entry, by a cursor, and returns whether there is one.
 pub fn write_first<K: Eq + Hash, V: Drop, S: BuildHasher>(
     map: &mut LinkedHashMap<K, V, S>,
     value: V,

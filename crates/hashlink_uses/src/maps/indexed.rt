@@ -7,7 +7,7 @@ ghost use Rattle.hashlink.specs.Indexed.{HasKey};
 use hashlink::LinkedHashMap;
 use std::hash::{BuildHasher, Hash};
 
-/// Gives a key that is there a value, where it stands.
+/// Sets the value of a key that is present, at its place.
 pub fn set_indexed<K: Eq + Hash, V: Drop, S: BuildHasher>(
     map: &mut LinkedHashMap<K, V, S>,
     key: &K,

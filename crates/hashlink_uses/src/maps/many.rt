@@ -1,4 +1,4 @@
-//! Maps that are made of many pairs or take them in, and what is known of them after it.
+//! Maps that are built from many pairs or extended by them, and what is known of them afterwards.
 ghost use Rattle.std.specs.Prelude.{◌≡◌, ◌≤◌, List, length, IsOk, OnOk, IfOk, IfErr};
 ghost use Rattle.hashlink.specs.Many.{AcceptsAll, StopsAt, InsertsPair};
 ghost use Rattle.hashlink.specs.Keyed.{state_of, entries_of};
@@ -9,7 +9,7 @@ use hashlink::linked_hash_map::ExtendError;
 use std::alloc::{AllocError, Global};
 use std::hash::{BuildHasher, Hash};
 
-/// Makes a map of another's entries, each taken out of it: the list is the same.
+/// Builds a map from another's entries, each moved out of it: the list is the same.
 pub fn rebuild<K: Eq + Hash + Drop, V: Drop, S: BuildHasher + Default + Drop>(
     alloc: Global,
     map: LinkedHashMap<K, V, S>,
@@ -21,7 +21,8 @@ pub fn rebuild<K: Eq + Hash + Drop, V: Drop, S: BuildHasher + Default + Drop>(
     LinkedHashMap::from_iter(alloc, map)
 }
 
-/// Moves another map's entries in, last. Where one is refused, those before it are in and it is handed back.
+/// Moves another map's entries to the back of this one. If an insert fails, the entries before it stay
+/// inserted, and the error contains its pair.
 pub fn append<K: Eq + Hash + Drop, V: Drop, S: BuildHasher + Drop>(
     map: &mut LinkedHashMap<K, V, S>,
     other: LinkedHashMap<K, V, S>,
@@ -35,8 +36,8 @@ pub fn append<K: Eq + Hash + Drop, V: Drop, S: BuildHasher + Drop>(
     map.extend(other)
 }
 
-/// Empties a map and moves in another's entries, of which there are no more: none of them is refused, as each
-/// finds a spare node.
+/// Empties a map and moves another's entries into it, of which there are no more. No insert fails, as each
+/// uses a spare node.
 pub fn refill<K: Eq + Hash + Drop, V: Drop, S: BuildHasher + Drop>(
     map: &mut LinkedHashMap<K, V, S>,
     other: LinkedHashMap<K, V, S>,

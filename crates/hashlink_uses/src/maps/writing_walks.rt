@@ -1,4 +1,4 @@
-//! Iterators that lend values, and what is known of a map after one.
+//! Lending iterators, and what is known of a map after one.
 ghost use Rattle.std.specs.Prelude.{◌≡◌, ◌-◌, length, IsTrue, IsFalse};
 ghost use Rattle.hashlink.specs.MapState.{with_value};
 ghost use Rattle.hashlink.specs.Keyed.{state_of, entries_of};
@@ -6,7 +6,7 @@ ghost use Rattle.hashlink.specs.Keyed.{state_of, entries_of};
 use hashlink::LinkedHashMap;
 use std::hash::{BuildHasher, Hash};
 
-/// Gives the first entry a value, and answers whether there was one.
+/// Sets the value of the first entry, and returns whether there was one.
 pub fn write_first<K: Eq + Hash, V: Drop, S: BuildHasher>(
     map: &mut LinkedHashMap<K, V, S>,
     value: V,
@@ -22,7 +22,7 @@ pub fn write_first<K: Eq + Hash, V: Drop, S: BuildHasher>(
     true
 }
 
-/// Gives the last entry a value, and answers whether there was one.
+/// Sets the value of the last entry, and returns whether there was one.
 pub fn write_last<K: Eq + Hash, V: Drop, S: BuildHasher>(
     map: &mut LinkedHashMap<K, V, S>,
     value: V,

@@ -9,9 +9,9 @@ ghost use Rattle.hashlink_weighted.specs.Weighed.{HasTotal, LastWeighs};
 use hashlink_map::LinkedHashMap;
 use std::hash::{BuildHasher, Hash};
 
-/// Drops entries from the front until the weights sum to at most the budget, and returns the sum. The last
+/// Evicts entries from the front until the weights sum to at most the budget, and returns the sum. The last
 /// entry has this weight, and all others together weigh `others`. It takes a step for each entry that it
-/// drops.
+/// evicts.
 ///
 /// It compares before it adds, so no sum wraps.
 pub(super) fn drop_until_fitting<K: Eq + Hash + Drop, V: Drop, S: BuildHasher>(

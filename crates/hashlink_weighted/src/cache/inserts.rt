@@ -1,4 +1,4 @@
-//! How pairs come in, and make room for themselves.
+//! Inserts, and how they make room.
 ghost use Rattle.std.specs.Prelude.{◌≡◌, ◌<◌, ◌↔◌, IfOk, Err};
 ghost use Rattle.hashlink_model.specs.Entries.{IsEntries};
 ghost use Rattle.hashlink_weighted.specs.Answers.{without_weight};
@@ -10,7 +10,7 @@ use super::dropping::drop_until_fitting;
 use crate::error::WeightError;
 use std::hash::{BuildHasher, Hash};
 
-/// A value that was there, and its weight, or none and 0.
+/// Splits an old value from its weight. Returns `None` and 0 if there was no value.
 fn take_apart<V>(old: Option<(V, u64)>) -> (Option<V>, u64)
     ensures { result ≡ (without_weight old, weight_or_none old) }
 {
@@ -23,17 +23,17 @@ fn take_apart<V>(old: Option<(V, u64)>) -> (Option<V>, u64)
 impl<K: Eq + Hash, V, S: BuildHasher> WeightedCache<K, V, S> {
     ghost use Rattle.hashlink_weighted.specs.Answers.{InsertsWithin};
 
-    /// Puts the pair last with its weight, and returns the key's old value. A key that is there keeps its key
-    /// object, takes the new value and the new weight, and moves to the end. Then entries at the front are
-    /// dropped until the weights sum to at most the budget: the longest end that fits stays, and the pair is
-    /// always in it.
+    /// Inserts the pair at the back with its weight, and returns the old value of the key if there was one.
+    /// If the key is present, its entry keeps the stored key, takes the new value and the new weight, and
+    /// moves to the back. Then entries are evicted from the front until the weights sum to at most the
+    /// budget. The longest end that fits stays, and the pair is always in it.
     ///
-    /// A weight above the budget is refused as too heavy, also for a key that is there, and nothing changes.
-    /// It takes memory only for an absent key where no node is spare. Where that is refused, the pair is
-    /// handed back and nothing is dropped.
+    /// If the weight is above the budget, it returns the pair in `TooHeavy` and nothing changes, even if the
+    /// key is present. It allocates only if the key is absent and no node is spare. If that allocation fails,
+    /// it returns the pair in `Memory` and evicts nothing.
     ///
-    /// It hashes the key once, and takes constant time but for what it drops. It stores at most six links for
-    /// a key that is there and four for an absent one, and at most three for each entry that it drops.
+    /// It hashes the key once, and takes constant time except for what it evicts. It stores at most six links
+    /// if the key is present and four if it is absent, and at most three for each entry that it evicts.
     pub fn insert(&mut self, key: K, value: V, weight: u64) -> Result<Option<V>, WeightError<K, V>>
     where
         K: Drop,

@@ -1,4 +1,4 @@
-//! Reads, uses and removals. Each hashes the key once, takes no memory, and looks at the entries of one
+//! Reads, uses and removals. Each hashes the key once, does not allocate, and looks at the entries of one
 //! bucket.
 ghost use Rattle.std.specs.Prelude.{◌≡◌, is_some, length, option_copied};
 ghost use Rattle.std.specs.Borrow.{sem};
@@ -12,7 +12,7 @@ use super::WeightedCache;
 use hashlink_map::{Equivalent, LinkedHashMap};
 use std::hash::{BuildHasher, Hash};
 
-/// Moves the key's entry to the end, and returns whether it is there.
+/// Moves the entry of the key to the back, and returns whether the key is present.
 fn move_last<K: Eq + Hash, V, S: BuildHasher, Q: Equivalent<K>>(
     map: &mut LinkedHashMap<K, (V, u64), S>,
     key: Q,
@@ -32,7 +32,8 @@ impl<K: Eq + Hash, V, S: BuildHasher> WeightedCache<K, V, S> {
     ghost use Rattle.hashlink_weighted.specs.Answers.{without_weight};
     ghost use Rattle.hashlink_weighted.specs.Lends.{EndsUsed};
 
-    /// The value of the key. The order stays as it is.
+    /// Returns a reference to the value of the key, or `None` if it is absent. The order does not change. It
+    /// hashes the key once.
     pub fn peek<Q: Equivalent<K>>(&self, key: Q) -> Option<&V>
         ensures { option_copied result ≡ without_weight (lookup (Q.matches key) self.now.map.entries) }
     {
@@ -40,8 +41,8 @@ impl<K: Eq + Hash, V, S: BuildHasher> WeightedCache<K, V, S> {
         Some(value)
     }
 
-    /// The value of the key, whose entry moves to the end. Of an absent key it returns none, and nothing
-    /// changes. It stores at most six links.
+    /// Returns a reference to the value of the key, and moves its entry to the back. If the key is absent, it
+    /// returns `None` and nothing changes. It hashes the key once, and stores at most six links.
     pub fn get<Q: Equivalent<K>>(&mut self, key: Q) -> Option<&V>
         ensures* used { sem 𝓛 (EndsUsed K.row V.row S.row S.Hasher.row K.Hash S.BuildHasher S.Hasher.Hasher
             self.entry (Q.matches key)) }
@@ -55,8 +56,9 @@ impl<K: Eq + Hash, V, S: BuildHasher> WeightedCache<K, V, S> {
         Some(value)
     }
 
-    /// Takes the key's entry out and returns its value. It looks for the key as `peek` does, and stores at
-    /// most three links. The node serves the next new pair.
+    /// Removes the entry of the key, and returns its value, or `None` if the key is absent. It looks the key
+    /// up as `peek` does, and stores at most three links. The next insert of an absent key uses the node of
+    /// the removed entry.
     pub fn remove<Q: Equivalent<K>>(&mut self, key: Q) -> Option<V>
     where
         K: Drop,

@@ -1,4 +1,4 @@
-//! `?` where memory is refused.
+//! `?` where an allocation fails.
 use hashlink::{LinkedHashMap, LinkedHashSet, TryReserveError};
 use std::alloc::{AllocError, Global};
 use std::error::Error;
@@ -17,13 +17,13 @@ fn set_has_room(alloc: Global) -> Result<bool, AllocError> {
     Ok(set.capacity() >= 4)
 }
 
-/// The pair of a refused insert is dropped for `?`.
+/// The pair of an insert that fails is dropped for `?`.
 fn put(map: &mut LinkedHashMap<u32, u32>, key: u32, value: u32) -> Result<(), AllocError> {
     map.insert(key, value).map_err(|_| AllocError)?;
     Ok(())
 }
 
-/// The refusal of a room that is too large, after a pair was put.
+/// The error of a room that is too large, after a pair was inserted.
 fn refuse_room(alloc: Global) -> (Result<(), AllocError>, Result<(), TryReserveError>) {
     let mut map = LinkedHashMap::new(alloc);
     (put(&mut map, 1, 10), map.reserve(usize::MAX))

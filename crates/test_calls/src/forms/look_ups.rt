@@ -1,4 +1,4 @@
-//! What stands for a key in a look-up: a text for a `String`, a slice for a `Vec`, a `&K` for a `K`.
+//! What stands for a key in a lookup: a text for a `String`, a slice for a `Vec`, a `&K` for a `K`.
 ghost use Rattle.std.specs.Prelude.{◌≡◌, option_copied};
 ghost use Rattle.std.specs.Map.{lookup};
 ghost use Rattle.std.specs.Str.{bytes_eq};
