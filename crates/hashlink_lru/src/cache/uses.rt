@@ -134,8 +134,8 @@ impl<K: Eq + Hash, V, S: BuildHasher> LruCache<K, V, S> {
     }
 }
 
-/// Moves the entry of the key to the back, or, if the key is absent, inserts it there with what `make` returns.
-/// It hashes the key once.
+/// Moves the entry of the key to the back. If the key is absent, it is inserted there with what `make` returns.
+/// The key is hashed once.
 fn move_or_make<K: Eq + Hash + Drop, V: Drop, S: BuildHasher, F: FnOnce() -> V + Drop>(
     map: &mut LinkedHashMap<K, V, S>,
     key: K,
