@@ -9,5 +9,5 @@ returns-else-first-before-clause-left g c =
     let first : g.row.K.Denot × Session = (c.in_ok-first.field-0-0.now, c.in_ok-first.first.now) in (
       refl,
       All-from_first last_use c.args.self.now c.args.before first (rw (← c.self.view_is) c.self.invariant)
-          (rw (← c.self.view_is) (sym c.in_ok-first.ensures)) c.if-first-before.false,
+          (rw (← c.self.view_is) (sym c.in_ok-first.ensures.found)) c.if-first-before.false,
     )
