@@ -44,7 +44,9 @@ pub fn rows(plan: &Plan, keys: &Keys) {
     let size = plan.size;
     let afresh = |map: &mut Map| *map = Map::new();
     let lists = &mut Turns::of(&keys.held);
-    plan.row_afresh("insert", size, lists, &mut Map::new(), afresh, insert);
+    let map = &mut Map::new();
+    plan.row_afresh("insert", size, lists, map, afresh, insert);
+    plan.longest("insert_longest", lists, map, afresh, insert);
     reads(plan, keys);
     moves(plan, keys);
     let sides = &mut Turns {

@@ -100,6 +100,39 @@ impl Plan {
             }
             least = least.min(spent.as_nanos() * 100 / timed);
         }
+        self.print_time(name, least, sum);
+    }
+
+    /// Does a row and writes a line with the longest call of a pass, the least of the rounds.
+    pub fn longest<S, T>(
+        &self,
+        name: &str,
+        lists: &mut impl Lists<T>,
+        state: &mut S,
+        mut ready: impl FnMut(&mut S),
+        mut call: impl FnMut(&mut S, u64, &T) -> u64,
+    ) {
+        if self.rounds == 0 {
+            return self.row_afresh(name, 1, lists, state, ready, call);
+        }
+        let mut least = u128::MAX;
+        let mut sum: u64 = 0;
+        for _ in 0..self.rounds {
+            ready(state);
+            let mut longest = Duration::ZERO;
+            sum = 0;
+            for (place, item) in lists.list().iter().enumerate() {
+                let start = Instant::now();
+                sum = fold(sum, call(state, place as u64, item));
+                longest = longest.max(start.elapsed());
+            }
+            least = least.min(longest.as_nanos() * 100);
+        }
+        self.print_time(name, least, sum);
+    }
+
+    fn print_time(&self, name: &str, least: u128, sum: u64) {
+        let size = self.size;
         println!("{name} {size} {}.{:02}", least / 100, least % 100);
         eprintln!("checksum {name} {size} {sum:016x}");
     }

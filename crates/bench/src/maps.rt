@@ -135,12 +135,9 @@ fn time_inserts<R: Runtime>(plan: &Plan<'_, R>, keys: &Keys) -> io::Result<()> {
         map: LinkedHashMap::new(keys.alloc),
         is_afresh: true,
     };
-    plan.row(
-        "insert",
-        keys.held.len(),
-        &mut Turns::of(&keys.held),
-        inserts,
-    )
+    let lists = &mut Turns::of(&keys.held);
+    plan.row("insert", keys.held.len(), lists, inserts)?;
+    plan.longest("insert_longest", lists, inserts)
 }
 
 fn time_gets<R: Runtime>(

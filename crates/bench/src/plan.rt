@@ -97,6 +97,40 @@ impl<'a, R: Runtime> Plan<'a, R> {
         self.print_time(name, least, sum)
     }
 
+    /// Does a row and writes a line with the longest call of a pass, the least of the rounds.
+    pub(crate) fn longest<W: Row, L: Lists<W::Item>>(
+        &self,
+        name: &str,
+        lists: &mut L,
+        row: &mut W,
+    ) -> io::Result<()> {
+        if self.rounds == 0 {
+            return self.row(name, 1, lists, row);
+        }
+        let mut least = u128::MAX;
+        let mut sum: u64 = 0;
+        for _ in 0..self.rounds {
+            row.ready()?;
+            let (answers, longest) = self.longest_call(row, lists.list()?)?;
+            sum = answers;
+            least = least.min(longest.as_nanos().saturating_mul(100));
+        }
+        self.print_time(name, least, sum)
+    }
+
+    /// Calls the row on each item, and returns the sum with the results and the time of the longest call.
+    fn longest_call<W: Row>(&self, row: &mut W, items: &[W::Item]) -> io::Result<(u64, Duration)> {
+        let mut sum: u64 = 0;
+        let mut longest = Duration::ZERO;
+        for (place, item) in items.iter().enumerate() {
+            let start = self.rt.monotonic()?;
+            sum = fold(sum, row.call(place as u64, item)?);
+            let end = self.rt.monotonic()?;
+            longest = longest.max(end.saturating_sub(start));
+        }
+        Ok((sum, longest))
+    }
+
     fn print_time(&self, name: &str, least: u128, sum: u64) -> io::Result<()> {
         let rt = self.rt;
         let size = self.size;
