@@ -80,9 +80,6 @@ impl<K: Eq + Hash, V, S: BuildHasher> KeyedList<K, V, S> {
         ensures sound { IsKeyed K.eq self.now }
     {
         let nodes = &self.nodes;
-        if nodes.len() == 0 {
-            return None;
-        }
         let holds_match = |node: Node| -> bool
             requires held { Holds nodes.now.entries node }
             requires callable { (x : _) → F.pre is_match x }
