@@ -2,8 +2,5 @@ pub mod Cells
 pub mod Linking
 pub mod Paths
 pub mod Results
-pub mod Sound
-pub mod Starts
 pub mod Threads
-pub mod Views
 pub mod Walks
