@@ -129,10 +129,11 @@ impl<N: Copy> Stored<N> {
 
     /// Takes the node out.
     #[inline]
-    pub fn clear(&mut self)
-        ensures { self.new ≡ record self.old { kept = None } }
+    pub fn set_free(&mut self, next: usize)
+        requires { next ≤ END }
+        ensures { self.new ≡ record { kept = None; next = next } }
     {
-        self.link = self.link % FREE + FREE;
+        self.link = FREE + next as u32;
     }
 
     #[inline]

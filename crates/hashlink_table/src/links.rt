@@ -112,8 +112,7 @@ pub fn take_out<N: Copy>(
 {
     unlink(firsts, cells, bucket, cell);
     let kept = cells[cell].there();
-    cells[cell].clear();
-    cells[cell].set_next(*free);
+    cells[cell].set_free(*free);
     *free = cell;
     kept
 }
@@ -155,7 +154,7 @@ pub fn take<N: Copy>(
             let kept = firsts[bucket].there();
             let next = firsts[bucket].next();
             if next == END {
-                firsts[bucket].clear();
+                firsts[bucket].set_free(END);
             } else {
                 let follower = take_out(firsts, cells, free, bucket, next);
                 firsts[bucket].put(follower);
