@@ -1,6 +1,7 @@
 pub mod Cells
 pub mod Chaining
 pub mod Linking
+pub mod Moving
 pub mod Nodes
 pub mod Paths
 pub mod Results

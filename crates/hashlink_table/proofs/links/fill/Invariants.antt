@@ -2,5 +2,6 @@ use Rattle.std.proofs.Common.{◌≡◌, ◌≤◌, replicate, None, vec_capacit
 use Rattle.hashlink_table.specs.Chains.{no_cell}
 use Rattle.hashlink_table.proofs.links.fill.Given as goal
 
+-- so many free cells were pushed
 abbrev pub invariant-loop : goal.invariant-loop
-invariant-loop g l = ?
+invariant-loop g l = (l.cells.items ≡ replicate l.WHICH no_cell) × (l.count ≤ vec_capacity l.cells)
