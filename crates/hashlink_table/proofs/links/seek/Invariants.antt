@@ -1,4 +1,4 @@
-use Rattle.std.proofs.Common.{◌≡◌, ◌+◌, ◌%◌, cond, is_some, length, Some, false}
+use Rattle.std.proofs.Common.{◌≡◌, ◌%◌, length, Some, false}
 use Rattle.hashlink_table.specs.Chains.{next_at, kept_at, chain_at, links_of}
 use Rattle.hashlink_table.proofs.Walks.{IsSearch, steps_left, in_bucket}
 use Rattle.hashlink_table.proofs.links.seek.Given as goal
@@ -16,7 +16,7 @@ invariant-loop-at g l =
     (λ cell. (node : g.row.N.Denot) → kept_at l.cells cell ≡ Some (record { hash = l.hash; node = node })
     → goal.F-post g l.is_match node false)
     (in_bucket l.cells (length (links_of l.firsts)) (l.hash % length (links_of l.firsts)))
-    (l.initial.steps + cond (is_some (kept_at l.firsts (l.hash % length l.firsts))) 1 0)
+    l.initial.steps
     l.steps
     × ((node : g.row.N.Denot) → kept_at l.firsts (l.hash % length l.firsts) ≡ Some
     (record { hash = l.hash; node = node })
