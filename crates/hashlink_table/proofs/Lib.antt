@@ -5,5 +5,6 @@ pub mod Moving
 pub mod Nodes
 pub mod Paths
 pub mod Results
+pub mod Sound
 pub mod Threads
 pub mod Walks

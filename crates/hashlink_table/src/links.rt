@@ -46,7 +46,7 @@ fn place<N: Copy>(cells: &mut Vec<Stored<N>>, free: &mut usize, cell: Stored<N>)
 }
 
 // Chains a node in a cell over, right after its bucket's own.
-pub fn chain<N: Copy>(
+fn chain<N: Copy>(
     firsts: &mut [Stored<N>],
     cells: &mut Vec<Stored<N>>,
     free: &mut usize,
@@ -68,6 +68,36 @@ pub fn chain<N: Copy>(
     let cell = Stored::taken(kept, firsts[bucket].next());
     let at = place(cells, free, cell);
     firsts[bucket].set_next(at);
+}
+
+// Puts a node into its bucket: into the bucket's own cell where that is free, and else into a cell over.
+#[inline]
+pub fn put<N: Copy>(
+    firsts: &mut [Stored<N>],
+    cells: &mut Vec<Stored<N>>,
+    free: &mut usize,
+    bucket: usize,
+    kept: Kept<N>,
+)
+    requires within { bucket < length firsts.old }
+    requires bucket { bucket ≡ kept.hash % length firsts.old }
+    requires linked { IsLinked (links_of firsts.old) cells.old.items free.old }
+    requires in_place { IsInPlace firsts.old }
+    requires reserved { free.old ≡ END → vec_len cells.old < vec_capacity cells.old }
+    requires small { vec_len cells.old < END }
+    ensures linked { IsLinked (links_of firsts.new) cells.new.items free.new }
+    ensures in_place { IsInPlace firsts.new }
+    ensures nodes { IsPermutation (kept ∷ nodes_in firsts.old ++ nodes_in cells.old.items)
+        (nodes_in firsts.new ++ nodes_in cells.new.items) }
+    ensures capacity { vec_capacity cells.new ≡ vec_capacity cells.old }
+    ensures full { free.old ≡ END → vec_len cells.new ≤ vec_len cells.old + 1 }
+    ensures reused { free.old ≢ END → vec_len cells.new ≤ vec_len cells.old }
+{
+    if firsts[bucket].is_taken() {
+        chain(firsts, cells, free, bucket, kept);
+    } else {
+        firsts[bucket].put(kept);
+    }
 }
 
 // Takes a cell out of its bucket's chain: the link to it leads past it.

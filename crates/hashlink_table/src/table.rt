@@ -144,11 +144,7 @@ impl<N: Copy> Table<N> {
     {
         let bucket = bucket_of(hash, self.firsts.len());
         let kept = Kept { hash, node };
-        if self.firsts[bucket].is_taken() {
-            links::chain(&mut self.firsts, &mut self.overs, &mut self.free, bucket, kept);
-        } else {
-            self.firsts[bucket].put(kept);
-        }
+        links::put(&mut self.firsts, &mut self.overs, &mut self.free, bucket, kept);
         self.len += 1;
     }
 
