@@ -1,7 +1,8 @@
 //! The keyed list, by places: a place is a node of it, or `None` for the guard, which stands after the last
 //! entry.
-ghost use Rattle.std.specs.Prelude.{◌≡◌, ◌*◌, ◌%◌, ◌^◌, ◌<◌, ◌≤◌, ◌↔◌, [], length, max, Ok, Err, IfOk};
+ghost use Rattle.std.specs.Prelude.{◌≡◌, ◌*◌, ◌^◌, ◌<◌, ◌≤◌, ◌↔◌, [], length, max, Ok, Err, IfOk};
 ghost use Rattle.hashlink_core.specs.Keyed.{keyed, entries_of, IsKeyed};
+ghost use Rattle.hashlink_core.specs.Tied.{short};
 ghost use Rattle.hashlink_table.specs.declared.error.TryReserveError.TheVariants.{CapacityOverflow};
 ghost use Rattle.hashlink_table.specs.declared.table.TheConstants.{MAX_ROOM};
 
@@ -23,7 +24,7 @@ use std::marker::Model;
 // What the table knows of a hash, and a node keeps as its number: the lower half of its bits.
 #[inline]
 fn short_hash(hash: u64) -> u32
-    ensures { result ≡ hash % 2 ^ 32 }
+    ensures { result ≡ short hash }
 {
     (hash % (1 << 32)) as u32
 }

@@ -1,6 +1,8 @@
 //! How entries come, move and leave.
 ghost use Rattle.std.specs.Prelude.{◌≡◌, [], length, slice_get, None, Some, IfOk, IfErr, OnErr};
-ghost use Rattle.std.specs.Map.{remove_entry};
+ghost use Rattle.std.specs.Prelude.{eqb};
+ghost use Rattle.std.specs.Option.{option_map};
+ghost use Rattle.std.specs.Map.{lookup, remove_entry};
 ghost use Rattle.hashlink_model.specs.Cursor.{following_place};
 ghost use Rattle.hashlink_model.specs.Entries.{place_of};
 ghost use Rattle.hashlink_nodes.specs.Node.{same_node};
@@ -81,18 +83,17 @@ impl<K: Eq + Hash, V, S: BuildHasher> KeyedList<K, V, S> {
         ensures removed { RemovesNode self.old self.new (place_number self.old.nodes (Some node)) }
         ensures sound { IsKeyed K.eq self.new }
     {
-        self.untie(node);
-        self.nodes.detach_into_free(node)
-    }
-
-    // Takes the node out of the table: it gets a number that no node in the table has, and is found by that. No
-    // key is hashed or compared.
-    fn untie(&mut self, node: Node) {
-        let hash = self.nodes.number(node);
+        // It gets a number that no node in the table has, and is found by that: no key is hashed or compared.
+        let number = self.nodes.number(node);
         self.nodes.set_number(node, LEAVING);
         let nodes = &self.nodes;
-        let is_leaving = |other: Node| nodes.number(other) == LEAVING;
-        self.table.remove(hash as u32, is_leaving);
+        let is_leaving = |other: Node| -> bool
+            requires { Holds nodes.now.entries other }
+            ensures { option_map (λ held. eqb held.number LEAVING)
+                (lookup (same_node other) nodes.entry.now.entries) ≡ Some result }
+        { nodes.number(other) == LEAVING };
+        self.table.remove(number as u32, is_leaving);
+        self.nodes.detach_into_free(node)
     }
 
     /// Drops every entry and gives its node back. The spare nodes and the room stay.
