@@ -1,6 +1,6 @@
 -- The fields of a table agree.
 use Rattle.std.proofs.Common.{◌≡◌, ◌≢◌, ℕ, zero, suc, ◌+◌, ◌-◌, ◌^◌, ◌<◌, ◌≤◌, true, inl, inr, List, [], ◌∷◌, ◌++◌, length}
-use Rattle.std.proofs.Common.{get_or, map, replicate, Option, Some, None, is_some, refl, sym, ap, ◌∙◌, subst, arith}
+use Rattle.std.proofs.Common.{get_or, replicate, Some, None, is_some, refl, sym, ap, ◌∙◌, subst, arith}
 use Rattle.std.specs.Prelude.{IsPermutation}
 use Rattle.std.specs.Int.{IsPowerOfTwo}
 use Rattle.std.proofs.lemmas.Bool.{cases_eq, cases_lt}
@@ -14,8 +14,6 @@ use Rattle.hashlink_table.specs.Chains.{no_cell, kept_at, next_at, chain_of, nod
 use Rattle.hashlink_table.specs.Contents.{Contents}
 use Rattle.hashlink_table.specs.Chains.{contents, IsInPlace, IsLinked, IsSound}
 use Rattle.hashlink_table.proofs.Cells.{chain_at_within}
-use Rattle.hashlink_table.proofs.Chaining.{length-links}
-use Rattle.hashlink_table.proofs.Moving.{within_kept}
 use Rattle.hashlink_table.proofs.Nodes.{nodes_in-full, nodes_in-free}
 
 -- no path that leads over a cell begins at the end

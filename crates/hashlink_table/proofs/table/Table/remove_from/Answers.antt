@@ -1,10 +1,5 @@
-use Rattle.std.proofs.Common.{◌≡◌, ◌+◌, ◌%◌, ◌<◌, true, ◌∷◌, ◌++◌, length, inl, inr, sym, ap, ◌∙◌, subst, arith}
-use Rattle.std.specs.Prelude.{IsPermutation}
-use Rattle.std.proofs.lemmas.Option.{same_Some}
+use Rattle.std.proofs.Common.{◌%◌, length, inl, inr, sym, ap, ◌∙◌}
 use Rattle.std.proofs.lemmas.List.{with_items_is}
-use Rattle.hashlink_table.specs.declared.kept.Kept.{Kept}
-use Rattle.hashlink_table.specs.Contents.{Contents, Keeps}
-use Rattle.hashlink_table.specs.Chains.{kept_by, nodes_in}
 use Rattle.hashlink_table.proofs.Sound.{sound-take}
 use Rattle.hashlink_table.proofs.Views.{keeps_first, keeps_over, keeps_cases}
 use Rattle.hashlink_table.proofs.table.Table.remove_from.Goals as goal
