@@ -1,15 +1,15 @@
 -- A node joins its bucket's chain, and leaves it.
-use Rattle.std.proofs.Common.{◌≡◌, ◌≢◌, ℕ, suc, ◌+◌, ◌%◌, ◌<◌, ◌≤◌, inl, inr, List, [], ◌∷◌, ◌++◌, length, get_or}
-use Rattle.std.proofs.Common.{set, map, Option, Some, None, IsSome, refl, sym, ap, ◌∙◌, subst, arith}
+use Rattle.std.proofs.Common.{◌≡◌, ◌≢◌, ℕ, ◌%◌, ◌<◌, inl, inr, List, [], ◌∷◌, ◌++◌, length, get_or}
+use Rattle.std.proofs.Common.{set, Option, Some, None, IsSome, refl, sym, ap, ◌∙◌, subst, arith}
 use Rattle.std.specs.Prelude.{IsPermutation}
 use Rattle.std.proofs.lemmas.List.{get_or-map, length-map, map-set}
 use Rattle.hashlink_table.specs.declared.kept.Kept.{Kept}
 use Rattle.hashlink_table.specs.declared.cell.Cell.{Cell}
 use Rattle.hashlink_table.specs.declared.cell.TheConstants.{END}
 use Rattle.hashlink_table.specs.Chains.{no_cell, kept_at, next_at, chain_of, chain_at, links_of, nodes_in, with_node}
-use Rattle.hashlink_table.specs.Chains.{IsLinked, IsLinkedBut, IsPlaced, SameNodes}
+use Rattle.hashlink_table.specs.Chains.{IsLinked, IsPlaced, SameNodes}
 use Rattle.hashlink_table.proofs.Cells.{chain_at_within, within_by_chain}
-use Rattle.hashlink_table.proofs.Linking.{linked-push, linked-reuse, linked-give, free_on}
+use Rattle.hashlink_table.proofs.Linking.{linked-push, linked-reuse, free_on}
 use Rattle.hashlink_table.proofs.Nodes.{nodes_in-set, nodes_in-push, nodes_in-same}
 
 module _ {N : Type 0} where

@@ -7,4 +7,5 @@ pub mod Paths
 pub mod Results
 pub mod Sound
 pub mod Threads
+pub mod Views
 pub mod Walks

@@ -1,11 +1,13 @@
 -- The nodes of a list of cells: what a write does to them, and which there are.
-use Rattle.std.proofs.Common.{◌≡◌, ℕ, zero, suc, ◌+◌, ◌<◌, ◌≤◌, List, [], ◌∷◌, ◌++◌, map, length, get_or, set}
-use Rattle.std.proofs.Common.{true, Option, Some, None, is_some, ◌⊎◌, inl, inr, refl, sym, ap, ◌∙◌, subst, arith}
+use Rattle.std.proofs.Common.{◌≡◌, ℕ, zero, suc, ◌+◌, ◌<◌, ◌≤◌, List, [], ◌∷◌, ◌++◌, map, length, get_or, set, take, drop}
+use Rattle.std.proofs.Common.{true, Option, Some, None, is_some, refl, sym, ap, ◌∙◌, subst, arith}
 use Rattle.std.specs.Prelude.{Contains, IsPermutation, replicate}
+use Rattle.std.proofs.Common.{append_assoc}
+use Rattle.std.proofs.lemmas.List.{take_more, take-append-drop, length-append}
 use Rattle.std.proofs.lemmas.Option.{same_Some}
 use Rattle.std.proofs.lemmas.List.Sorted.{IsPermutation-refl, IsPermutation-trans, IsPermutation-cons}
-use Rattle.std.proofs.lemmas.List.Sorted.{IsPermutation-middle, IsPermutation-sym, IsPermutation-append_left}
-use Rattle.std.proofs.lemmas.List.Sorted.{IsPermutation-append_right, IsPermutation-append_comm}
+use Rattle.std.proofs.lemmas.List.Sorted.{IsPermutation-middle}
+use Rattle.std.proofs.lemmas.List.Sorted.{IsPermutation-to_front}
 use Rattle.hashlink_table.specs.declared.kept.Kept.{Kept}
 use Rattle.hashlink_table.specs.declared.cell.Cell.{Cell}
 use Rattle.hashlink_table.specs.Chains.{no_cell, kept_at, with_node, nodes_in}
@@ -64,6 +66,27 @@ module _ {N : Type 0} where
       let rest = nodes_in-append xs more in
       elim x.kept as (λ k. with_node k (nodes_in (xs ++ more)) ≡ with_node k (nodes_in xs) ++ nodes_in more)
       [ None ↦ rest | Some k ↦ ap (λ ks. k ∷ ks) rest ]
+
+  -- the nodes of the first cells: one cell more, and no more than of all
+  pub nodes_in-more : (cells : List (Cell N)) (i : ℕ) (c : Cell N) → i < length cells → c ≡ get_or cells i c
+      → nodes_in (take (i + 1) cells) ≡ nodes_in (take i cells) ++ with_node c.kept []
+  nodes_in-more cells i c h read =
+      ap nodes_in (take_more cells i c h) ∙ nodes_in-append (take i cells) (get_or cells i c ∷ [])
+      ∙ ap (λ (d : Cell N). nodes_in (take i cells) ++ with_node d.kept []) (sym read)
+
+  pub nodes_in-part : (cells : List (Cell N)) (i : ℕ) → length (nodes_in (take i cells)) ≤ length (nodes_in cells)
+  nodes_in-part cells i =
+      let all = ap nodes_in (sym (take-append-drop i cells)) ∙ nodes_in-append (take i cells) (drop i cells) in
+      omega (arith, ap length all, length-append (nodes_in (take i cells)) (nodes_in (drop i cells)))
+
+  -- a node was put in after others
+  pub inserted-more : (old done now later : List (Kept N)) (k : Kept N) → IsPermutation (old ++ done) now
+      → IsPermutation (k ∷ now) later
+      → IsPermutation (old ++ (done ++ k ∷ [])) later
+  inserted-more old done now later k before step =
+      subst (λ ks. IsPermutation ks later) (append_assoc old done (k ∷ []))
+      (IsPermutation-trans _ _ _ (IsPermutation-to_front (old ++ done) k)
+      (IsPermutation-trans _ _ _ (IsPermutation-cons k _ _ before) step))
 
   -- free cells have none
   pub nodes_in-free : (n : ℕ) → nodes_in (replicate n (no_cell {N = N})) ≡ []

@@ -1,14 +1,20 @@
 -- The fields of a table agree.
-use Rattle.std.proofs.Common.{◌≡◌, ◌≢◌, ℕ, ◌+◌, ◌<◌, ◌≤◌, true, inl, inr, List, [], ◌∷◌, ◌++◌, length, get_or}
-use Rattle.std.proofs.Common.{Option, Some, None, is_some, refl, sym, ap, ◌∙◌, arith}
-use Rattle.std.proofs.lemmas.List.{get_or_at, length_push, length-append}
+use Rattle.std.proofs.Common.{◌≡◌, ◌≢◌, ℕ, zero, suc, ◌+◌, ◌-◌, ◌^◌, ◌<◌, ◌≤◌, true, inl, inr, List, [], ◌∷◌, ◌++◌, length}
+use Rattle.std.proofs.Common.{get_or, replicate, Some, None, is_some, refl, sym, ap, ◌∙◌, subst, arith}
+use Rattle.std.specs.Prelude.{IsPermutation}
+use Rattle.std.specs.Int.{IsPowerOfTwo}
+use Rattle.std.proofs.lemmas.Bool.{cases_eq, cases_lt}
+use Rattle.std.proofs.lemmas.List.{get_or_at, get_or_append_left, get_or-replicate, length_push, length-append}
+use Rattle.std.proofs.lemmas.List.{length-replicate}
+use Rattle.std.proofs.lemmas.List.Sorted.{length_permutation}
 use Rattle.hashlink_table.specs.declared.kept.Kept.{Kept}
 use Rattle.hashlink_table.specs.declared.cell.Cell.{Cell}
 use Rattle.hashlink_table.specs.declared.cell.TheConstants.{END}
-use Rattle.hashlink_table.specs.Chains.{kept_at, next_at, chain_of, nodes_in, links_of, Among, IsPath, IsLinked}
-use Rattle.hashlink_table.specs.Chains.{IsSound}
+use Rattle.hashlink_table.specs.Chains.{no_cell, kept_at, next_at, chain_of, nodes_in, links_of, Among, IsPath}
+use Rattle.hashlink_table.specs.Contents.{Contents}
+use Rattle.hashlink_table.specs.Chains.{contents, IsInPlace, IsLinked, IsSound}
 use Rattle.hashlink_table.proofs.Cells.{chain_at_within}
-use Rattle.hashlink_table.proofs.Nodes.{nodes_in-full}
+use Rattle.hashlink_table.proofs.Nodes.{nodes_in-full, nodes_in-free}
 
 -- no path that leads over a cell begins at the end
 none_from_end : (next : ℕ → ℕ) (from : ℕ) (path : List ℕ) → IsPath next from path → from ≡ END → (j : ℕ)
@@ -16,6 +22,33 @@ none_from_end : (next : ℕ → ℕ) (from : ℕ) (path : List ℕ) → IsPath n
     → ⊥
 none_from_end next from [] linked e j m = m
 none_from_end next from (x ∷ xs) linked e j m = linked.1 (sym linked.0 ∙ e)
+
+-- bare cells: no chain leads anywhere
+links-bare : (N : Type 0) (n : ℕ) → links_of (replicate n (no_cell {N = N})) ≡ replicate n END
+links-bare N zero = refl
+links-bare N (suc n) = ap (λ ls. END ∷ ls) (links-bare N n)
+
+bare_linked : (N : Type 0) (n : ℕ) → IsLinked {N = N} (replicate n END) [] END
+bare_linked N n b h =
+    let same = length-replicate n END in
+    let first : get_or (replicate n END ++ END ∷ []) b END ≡ END
+    = elim (cases_lt b n) as (λ _. get_or (replicate n END ++ END ∷ []) b END ≡ END) [
+      | inl low ↦ get_or_append_left (replicate n END) (END ∷ []) END b (omega arith)
+          ∙ get_or-replicate n b END END low
+      | inr high ↦ get_or_at (replicate n END) END [] END b
+          (omega (arith, high, h, same, length_push (replicate n END) END))
+    ] in
+    record {
+      path = [];
+      linked = first;
+      inside = λ i m. absurd m;
+      whole = λ i e. absurd (omega (arith, e, h, length_push (replicate n END) END));
+    }
+
+bare_empty : (N : Type 0) (n b : ℕ) → kept_at (replicate n (no_cell {N = N})) b ≡ None
+bare_empty N zero b = refl
+bare_empty N (suc n) zero = refl
+bare_empty N (suc n) (suc b) = bare_empty N n b
 
 module _ {N : Type 0} where
   -- where no cell is free, each has a node
@@ -45,3 +78,72 @@ module _ {N : Type 0} where
         length-append (nodes_in firsts) (nodes_in overs),
         nodes_in-full overs (all_taken (links_of firsts) overs free s.linked e),
       )
+
+  -- a table without nodes
+  pub sound-bare : (n capacity room : ℕ) → room ≤ n → room ≤ capacity → n ≤ 2 ^ 30 → (0 < n → IsPowerOfTwo n)
+      → IsSound (replicate n (no_cell {N = N})) [] capacity END 0 room
+  sound-bare n capacity room headed reserved small masked =
+      let same = length-replicate n (no_cell {N = N}) in
+      record {
+        linked = subst (λ ls. IsLinked {N = N} ls [] END) (sym (links-bare N n)) (bare_linked N n);
+        in_place = λ b k is. absurd (let none = bare_empty N n b in cc);
+        counted = rw (nodes_in-free {N = N} n) refl;
+        held = omega arith;
+        headed = omega arith;
+        reserved = reserved;
+        small = omega arith;
+        overs_small = omega arith;
+        masked = λ h. subst IsPowerOfTwo (sym same) (masked (omega arith));
+      }
+
+  -- one node more
+  pub sound-put : {firsts overs : List (Cell N)} {capacity free len room : ℕ}
+      (later more : List (Cell N)) (now next : ℕ) (k : Kept N)
+      → IsSound firsts overs capacity free len room → len < room → now ≡ capacity
+      → length later ≡ length firsts → IsLinked (links_of later) more next → IsInPlace later
+      → IsPermutation (k ∷ nodes_in firsts ++ nodes_in overs) (nodes_in later ++ nodes_in more)
+      → (free ≡ END → length more ≤ length overs + 1) → (free ≢ END → length more ≤ length overs)
+      → IsSound later more now next (len + 1) room
+  sound-put {firsts} {overs} {free = free} {len} {room} later more now next k
+      s room_left capacity buckets linked in_place nodes full reused =
+      record {
+        linked = linked;
+        in_place = in_place;
+        counted = omega (arith, s.counted, length_permutation _ _ nodes);
+        held = omega arith;
+        headed = omega (arith, s.headed, buckets);
+        reserved = omega (arith, s.reserved, capacity);
+        small = omega (arith, s.small, buckets);
+        overs_small = elim (cases_eq free END) as (λ _. length more ≤ 2 ^ 30) [
+          | inl e ↦ omega (arith, full e, full_overs s e, room_left, s.headed, s.small)
+          | inr ne ↦ omega (arith, reused ne, s.overs_small)
+        ];
+        masked = λ h. subst IsPowerOfTwo (sym buckets) (s.masked (omega (arith, h, buckets)));
+      }
+
+  -- one node less
+  pub sound-take : {firsts overs : List (Cell N)} {capacity free len room : ℕ}
+      (later less : List (Cell N)) (next : ℕ) (k : Kept N)
+      → IsSound firsts overs capacity free len room
+      → length later ≡ length firsts → length less ≡ length overs
+      → IsLinked (links_of later) less next → IsInPlace later
+      → IsPermutation (nodes_in firsts ++ nodes_in overs) (k ∷ nodes_in later ++ nodes_in less)
+      → IsSound later less capacity next (len - 1) room
+  sound-take {firsts} {overs} {len = len} later less next k s buckets cells linked in_place nodes =
+      record {
+        linked = linked;
+        in_place = in_place;
+        counted = omega (arith, s.counted, length_permutation _ _ nodes);
+        held = omega (arith, s.held);
+        headed = omega (arith, s.headed, buckets);
+        reserved = s.reserved;
+        small = omega (arith, s.small, buckets);
+        overs_small = omega (arith, s.overs_small, cells);
+        masked = λ h. subst IsPowerOfTwo (sym buckets) (s.masked (omega (arith, h, buckets)));
+      }
+
+-- and a contract sees none
+pub contents-bare : (N : Type 0) (n room : ℕ)
+    → contents (replicate n (no_cell {N = N})) [] room ≡ record { nodes = []; room = room }
+contents-bare N n room = ap (λ (ks : List (Kept N)). let t : Contents N = record { nodes = ks; room = room } in t)
+    (ap (λ (ks : List (Kept N)). ks ++ []) (nodes_in-free {N = N} n))

@@ -1,7 +1,6 @@
 -- The cell that a table stores.
 use Rattle.std.specs.Prelude.{ℕ, ◌%◌, ◌^◌, cond, None, Some}
 use Rattle.std.specs.Prelude.{ltb}
-use Rattle.hashlink_table.specs.declared.kept.Kept.{Kept}
 use Rattle.hashlink_table.specs.declared.cell.Cell.{Cell}
 
 -- what a free cell still has is no node of the table

@@ -149,7 +149,12 @@ pub fn take_out<N: Copy>(
 
 // What the cell has that a search found.
 #[inline]
-pub fn found<N: Copy>(firsts: &[Stored<N>], cells: &[Stored<N>], bucket: usize, spot: Spot) -> Kept<N>
+pub fn found<N: Copy>(
+    firsts: &[Stored<N>],
+    cells: &[Stored<N>],
+    bucket: usize,
+    spot: Spot,
+) -> Kept<N>
     requires { IsSome (kept_by firsts.now cells.now bucket spot) }
     ensures { kept_by firsts.now cells.now bucket spot ≡ Some result }
 {

@@ -89,7 +89,12 @@ impl<N: Copy> Table<N> {
     }
 
     // An empty table with so many buckets.
-    fn with_buckets(alloc: Global, filler: N, buckets: usize, room: usize) -> Result<Self, AllocError>
+    fn with_buckets(
+        alloc: Global,
+        filler: N,
+        buckets: usize,
+        room: usize,
+    ) -> Result<Self, AllocError>
         requires power { IsPowerOfTwo buckets }
         requires small { buckets ≤ 2 ^ 30 }
         requires headed { room ≤ buckets }
@@ -144,7 +149,13 @@ impl<N: Copy> Table<N> {
     {
         let bucket = bucket_of(hash, self.firsts.len());
         let kept = Kept { hash, node };
-        links::put(&mut self.firsts, &mut self.overs, &mut self.free, bucket, kept);
+        links::put(
+            &mut self.firsts,
+            &mut self.overs,
+            &mut self.free,
+            bucket,
+            kept,
+        );
         self.len += 1;
     }
 
@@ -191,7 +202,13 @@ impl<N: Copy> Table<N> {
             None => None,
             Some(spot) => {
                 let bucket = bucket_of(hash, self.firsts.len());
-                let kept = links::take(&mut self.firsts, &mut self.overs, &mut self.free, bucket, spot);
+                let kept = links::take(
+                    &mut self.firsts,
+                    &mut self.overs,
+                    &mut self.free,
+                    bucket,
+                    spot,
+                );
                 self.len -= 1;
                 Some(kept.node)
             }

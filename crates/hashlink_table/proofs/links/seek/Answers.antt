@@ -1,10 +1,9 @@
-use Rattle.std.proofs.Common.{◌≡◌, ℕ, ◌+◌, ◌<◌, ◌%◌, List, length, get_or, cond, is_some, Some, false, sym, ap, ◌∙◌, subst}
+use Rattle.std.proofs.Common.{◌≡◌, ℕ, ◌<◌, ◌%◌, List, length, get_or, cond, is_some, false, sym, ap, ◌∙◌, subst}
 use Rattle.std.proofs.Common.{arith}
 use Rattle.std.proofs.lemmas.Option.{MatchOption-at_none}
 use Rattle.std.proofs.lemmas.List.{get_or_read}
 use Rattle.std.specs.Prelude.{⊤}
 use Rattle.std.specs.Int.{IsPowerOfTwo}
-use Rattle.hashlink_table.specs.declared.kept.Kept.{Kept}
 use Rattle.hashlink_table.specs.declared.cell.Cell.{Cell}
 use Rattle.hashlink_table.specs.declared.cell.TheConstants.{END}
 use Rattle.hashlink_table.specs.Chains.{no_cell, kept_at, next_at, chain_of, links_of}
@@ -140,8 +139,7 @@ loop-at-preserved g c =
     c.loop-at-test.true c.index-cells-at.result c.index-cells-at.is in
     let some = search_some heads cells c.args.hash c.loop-at.invariant.0 power c.loop-at-test.true in
     let one : cond {A = ℕ} (is_some c.index-cells-at.result.kept) 1 0 ≡ 1 =
-    ap (λ o. cond {A = ℕ} (is_some o) 1 0) (sym read.0) ∙ ap (λ b. cond {A = ℕ} b 1 0) some in
-    (
+    ap (λ o. cond {A = ℕ} (is_some o) 1 0) (sym read.0) ∙ ap (λ b. cond {A = ℕ} b 1 0) some in (
       search_on c.loop-at.invariant.0 c.loop-at-test.true
           (λ node here. elim c.match-look-2.branch as (λ _. g.F.Fn.post c.args.is_match (node, tt) false) [
             | in-Some-look+else-is_match-2 w ↦

@@ -1,11 +1,10 @@
 use Rattle.std.proofs.lemmas.Option.{same_Some}
 use Rattle.hashlink_table.specs.declared.kept.Kept.{Kept}
-use Rattle.std.proofs.Common.{◌≡◌, ◌%◌, ◌<◌, Some, length, refl, sym, ap, ◌∙◌, subst, arith}
+use Rattle.std.proofs.Common.{◌≡◌, ◌%◌, ◌<◌, length, refl, sym, ap, ◌∙◌, subst, arith}
 use Rattle.std.proofs.Math.Seq.{map-set_same}
-use Rattle.std.specs.Prelude.{IsPermutation}
 use Rattle.std.proofs.lemmas.List.Sorted.{IsPermutation-append_left}
 use Rattle.hashlink_table.specs.declared.cell.Cell.{Cell}
-use Rattle.hashlink_table.specs.Chains.{links_of, nodes_in, IsLinked}
+use Rattle.hashlink_table.specs.Chains.{nodes_in, IsLinked}
 use Rattle.hashlink_table.proofs.Cells.{kept_at_read, next_at_read}
 use Rattle.hashlink_table.proofs.Chaining.{on_hash, taken-nodes, same_kept}
 use Rattle.hashlink_table.proofs.Moving.{in_place-same, in_place-set, follower_on, over-taken, first-followed}

@@ -1,6 +1,6 @@
-use Rattle.std.proofs.Common.{◌≡◌, ◌<◌, Some, IsSome, length, refl, sym, ap, ◌∙◌, subst, arith}
+use Rattle.std.proofs.Common.{◌<◌, IsSome, length, sym, ap, ◌∙◌, subst, arith}
 use Rattle.hashlink_table.specs.declared.cell.Cell.{Cell}
-use Rattle.hashlink_table.specs.Chains.{kept_at, next_at, links_of}
+use Rattle.hashlink_table.specs.Chains.{next_at, links_of}
 use Rattle.hashlink_table.proofs.Cells.{kept_at_read}
 use Rattle.hashlink_table.proofs.Linking.{free_small, linked-give}
 use Rattle.hashlink_table.proofs.Chaining.{on_within, on_some, taken-nodes, same_kept}

@@ -1,5 +1,5 @@
 use Rattle.hashlink_table.specs.declared.cell.Cell.{Cell}
-use Rattle.std.proofs.Common.{ℕ, ◌<◌, refl, length, sym, ap, ◌∙◌, subst, inl, inr, arith}
+use Rattle.std.proofs.Common.{ℕ, ◌<◌, length, sym, ap, ◌∙◌, subst, inl, inr, arith}
 use Rattle.std.proofs.Math.Seq.{map-set_same}
 use Rattle.hashlink_table.specs.Chains.{next_at, chain_at, links_of, Among, IsLinkedBut}
 use Rattle.hashlink_table.proofs.Chaining.{length-links, link_read, link_set}

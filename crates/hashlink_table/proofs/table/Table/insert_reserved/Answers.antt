@@ -1,0 +1,36 @@
+use Rattle.std.proofs.Common.{length, ap, sym, ◌∙◌, arith}
+use Rattle.std.proofs.lemmas.List.{with_items_is}
+use Rattle.hashlink_table.specs.Contents.{Contents, len_of}
+use Rattle.hashlink_table.proofs.Sound.{full_overs, sound-put}
+use Rattle.hashlink_table.proofs.table.Table.insert_reserved.Goals as goal
+
+pub put-requires-clause-reserved : goal.put-requires-clause-reserved
+put-requires-clause-reserved g c = λ e.
+    let t = c.self.inside in
+    let len = ap (λ (u : Contents g.row.N.Denot). len_of u) c.self.view_is in
+    let room = ap (λ (u : Contents g.row.N.Denot). u.room) c.self.view_is in
+    omega (
+      arith,
+      c.requires,
+      len,
+      room,
+      full_overs c.self.invariant e,
+      c.self.invariant.counted,
+      c.self.invariant.reserved,
+      t.overs.ok.0,
+    )
+
+pub invariant_of-self : goal.invariant_of-self
+invariant_of-self g c =
+    let t = c.self.inside in
+    let len = ap (λ (u : Contents g.row.N.Denot). len_of u) c.self.view_is in
+    let room = ap (λ (u : Contents g.row.N.Denot). u.room) c.self.view_is in
+    let buckets = c.put.auto.firsts ∙ ap length c.deref_mut.ensures.value in
+    let more = c.put.new.cells in
+    let nodes = rw c.deref_mut.ensures.value at c.put.ensures.nodes in
+    rw (with_items_is t.firsts c.put.new.firsts (buckets ∙ sym t.firsts.ok.0))
+    (sound-put c.put.new.firsts more.items _ c.put.new.free _ c.self.invariant
+    (omega (arith, c.requires, len, room, c.self.invariant.counted)) c.put.ensures.capacity buckets
+    c.put.ensures.linked c.put.ensures.in_place nodes
+    (λ e. omega (arith, c.put.ensures.full e, more.ok.0, t.overs.ok.0))
+    (λ ne. omega (arith, c.put.ensures.reused ne, more.ok.0, t.overs.ok.0)))
