@@ -16,7 +16,7 @@ use Rattle.hashlink_nodes.specs.declared.node.Node.{Node}
 use Rattle.hashlink_nodes.specs.declared.held.Held.{Held}
 use Rattle.hashlink_nodes.specs.Node.{same_node, same_node_equiv}
 use Rattle.hashlink_nodes.specs.Ring.{Holds, IsPlace, next_place, prev_place, Ring, held, pair_of, with_value}
-use Rattle.hashlink_nodes.specs.Ring.{with_key, with_number, MovesBefore, MovesAfter, put_before}
+use Rattle.hashlink_nodes.specs.Ring.{with_key, MovesBefore, MovesAfter, put_before}
 use Rattle.hashlink_nodes.specs.NodesLends.{with_value_at as ring_with_value_at}
 use Rattle.hashlink_table.specs.Contents.{Contents, len_of}
 use Rattle.hashlink_core.specs.Keyed.{Keyed, nodes_of, pairs_in, entries_of, state_of, keyed, seen_as}
@@ -35,7 +35,7 @@ use Rattle.hashlink_core.proofs.Mapped.{place_number-mapped, renewed-mapped, mov
 use Rattle.hashlink_core.proofs.Mapped.{values-renewed_key}
 use Rattle.hashlink_core.proofs.Neighbours.{distinct-left, next-number, prev-number}
 use Rattle.hashlink_core.proofs.Places.{IsNodeAt, node-at, put_before-at, set_value-at, renewed_at-is}
-use Rattle.hashlink_core.proofs.Places.{moves_before-at, moves_after-at, place_number-most}
+use Rattle.hashlink_core.proofs.Places.{moves_before-at, moves_after-at}
 use Rattle.hashlink_core.proofs.Stepping.{pair-at, length-pairs, step-in, step-out, step-renewed}
 use Rattle.hashlink_core.proofs.Stores.{stores-exactly}
 use Rattle.hashlink_core.proofs.Tying.{kept}

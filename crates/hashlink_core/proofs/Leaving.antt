@@ -98,8 +98,11 @@ module _ {K V : Type 0} {eq : K → K → Bool} {hash : K → ℕ} {r : Ring K V
                   ∙ old.here in
                   let is : eqb old.held.number leaving ≡ true
                   = cc (sym (ap (option_map (λ h. eqb h.number leaving)) now) ∙ answer) in
-                  absurd (omega (arith, eqb-true old.held.number leaving is,
-                  number-short m old.held old.here))
+                  absurd (omega (
+                    arith,
+                    eqb-true old.held.number leaving is,
+                    number-short m old.held old.here,
+                  ))
             ] refl
 
         own-leaving : (b : Bool) → IsLeaving n b → true ≡ b

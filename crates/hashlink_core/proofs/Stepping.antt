@@ -58,9 +58,12 @@ module _ {K V : Type 0} {eq : K → K → Bool} (laws : IsEquivalence eq) {hash 
       × IsEntries same_node es × IsNumbered hash es
       × IsTied es (record { nodes = []; room = t.room }) =
       λ es is. subst (λ (es : List (Node × Held K V)). IsEntries eq (pairs_in es) × IsEntries same_node es
-      × IsNumbered hash es × IsTied es (record { nodes = []; room = t.room })) (sym is)
-      (IsEntries-nil V eq, IsEntries-nil (Held K V) same_node, (λ n h found. absurd (cc found)),
-      tied-none t.room) in
+      × IsNumbered hash es × IsTied es (record { nodes = []; room = t.room })) (sym is) (
+        IsEntries-nil V eq,
+        IsEntries-nil (Held K V) same_node,
+        (λ n h found. absurd (cc found)),
+        tied-none t.room,
+      ) in
       let parts = at_none r.entries none in
       record {
         distinct = parts.0;

@@ -2,7 +2,7 @@
 use Rattle.std.proofs.Common.{◌≡◌, ◌⊎◌, ℕ, suc, Bool, true, false, cond, take, drop, List, [], ◌∷◌, ◌++◌, map}
 use Rattle.std.proofs.Common.{None, Some, zero, refl, ap, sym, subst, ◌∙◌, append_assoc, inl, inr, arith}
 use Rattle.std.specs.Prelude.{slice_get, insert, remove, Contains, IsPermutation}
-use Rattle.std.specs.List.{IsDistinct, AllByRecursion, All}
+use Rattle.std.specs.List.{IsDistinct, AllByRecursion}
 use Rattle.std.specs.Option.{option_map}
 use Rattle.std.specs.Map.{lookup, lookup_entry}
 use Rattle.std.proofs.lemmas.Map.{NonePasses, lookup-none}

@@ -1,6 +1,5 @@
 //! How entries come, move and leave.
-ghost use Rattle.std.specs.Prelude.{◌≡◌, [], length, slice_get, None, Some, IfOk, IfErr, OnErr};
-ghost use Rattle.std.specs.Prelude.{eqb};
+ghost use Rattle.std.specs.Prelude.{◌≡◌, [], length, slice_get, eqb, None, Some, IfOk, IfErr, OnErr};
 ghost use Rattle.std.specs.Option.{option_map};
 ghost use Rattle.std.specs.Map.{lookup, remove_entry};
 ghost use Rattle.hashlink_model.specs.Cursor.{following_place};

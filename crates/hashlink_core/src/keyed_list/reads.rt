@@ -144,7 +144,8 @@ impl<K: Eq + Hash, V, S: BuildHasher> KeyedList<K, V, S> {
         requires b { Holds self.now.nodes b }
         ensures { IsTrue result ↔ (a ≡ b) }
     {
-        self.nodes.number(a) == self.nodes.number(b) && *self.nodes.entry(a).0 == *self.nodes.entry(b).0
+        self.nodes.number(a) == self.nodes.number(b)
+            && *self.nodes.entry(a).0 == *self.nodes.entry(b).0
     }
 
     /// A walk over the entries, front first. It takes no memory, and each step takes constant time.
