@@ -1,6 +1,6 @@
 -- How a node leaves the table: its entry gets a number that is no short hash, and the table finds it by that.
-use Rattle.std.proofs.Common.{◌≡◌, ℕ, ◌^◌, ◌<◌, ◌≤◌, Bool, true, false, cond, eqb, eqb-true, eq-eqb, List, [], ◌∷◌}
-use Rattle.std.proofs.Common.{Option, None, Some, refl, ap, sym, subst, ◌∙◌, arith}
+use Rattle.std.proofs.Common.{◌≡◌, ℕ, ◌^◌, ◌<◌, ◌≤◌, Bool, true, false, cond, eqb, eqb-true, eq-eqb}
+use Rattle.std.proofs.Common.{List, [], ◌∷◌, Option, None, Some, refl, ap, sym, subst, ◌∙◌, arith}
 use Rattle.std.specs.Prelude.{is_some, IfSome, IfNone, IsPermutation}
 use Rattle.std.specs.Option.{option_map}
 use Rattle.std.specs.Map.{lookup, remove_entry, set_value}
@@ -20,7 +20,8 @@ remove_entry-set_value : {X : Type 0} (test : Node → Bool) (es : List (Node ×
     → remove_entry test (set_value test es w) ≡ remove_entry test es
 remove_entry-set_value test [] w = refl
 remove_entry-set_value test (e ∷ es) w =
-    elim (test e.0) as (λ b. test e.0 ≡ b → remove_entry test (cond b ((e.0, w) ∷ es) (e ∷ set_value test es w))
+    elim (test e.0) as (λ b. test e.0 ≡ b
+    → remove_entry test (cond b ((e.0, w) ∷ es) (e ∷ set_value test es w))
     ≡ cond b es (e ∷ remove_entry test es)) [
       | true ↦ λ is. rw is refl
       | false ↦ λ is. rw is (ap (λ r. e ∷ r) (remove_entry-set_value test es w))
@@ -49,8 +50,8 @@ module _ {K V : Type 0} {eq : K → K → Bool} {hash : K → ℕ} {r : Ring K V
     module _ (fs : List (Node × Held K V)) (leaving : ℕ) (renumbered : IfSome (lookup (same_node n) r.entries)
         (λ h. fs ≡ set_value (same_node n) r.entries (with_number h leaving))) where
       set-at : fs ≡ set_value (same_node n) r.entries (with_number own leaving)
-      set-at = subst (λ o. IfSome o (λ h. fs ≡ set_value (same_node n) r.entries (with_number h leaving))) found
-          renumbered
+      set-at = subst (λ o. IfSome o (λ h. fs ≡ set_value (same_node n) r.entries (with_number h leaving)))
+          found renumbered
 
       found-now : (m : Node) → lookup (same_node m) fs
           ≡ cond (same_node n m) (Some (with_number own leaving)) (lookup (same_node m) r.entries)

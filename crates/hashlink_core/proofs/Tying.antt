@@ -6,7 +6,8 @@ use Rattle.std.specs.List.{IsDistinct, AllByRecursion}
 use Rattle.std.specs.Option.{option_map}
 use Rattle.std.specs.Map.{lookup, lookup_entry}
 use Rattle.std.proofs.lemmas.Map.{NonePasses, lookup-none}
-use Rattle.std.proofs.lemmas.Map.Keys.{IsDistinct-head, IsDistinct-tail, IsDistinct-cons, IsDistinct-IsPermutation}
+use Rattle.std.proofs.lemmas.Map.Keys.{IsDistinct-head, IsDistinct-tail, IsDistinct-cons}
+use Rattle.std.proofs.lemmas.Map.Keys.{IsDistinct-IsPermutation}
 use Rattle.std.proofs.lemmas.List.{take-append-drop}
 use Rattle.std.proofs.lemmas.List.Sorted.{Contains-permutation, IsPermutation-sym, IsPermutation-map}
 use Rattle.hashlink_core.proofs.Edits.{split-at}
@@ -53,7 +54,8 @@ kept-each P (k ∷ ks) all j there =
 
 once-permuted : (ks js : List (Kept Node)) → IsPermutation ks js → IsDistinct same_node (table_nodes ks)
     → IsDistinct same_node (table_nodes js)
-once-permuted ks js same = IsDistinct-IsPermutation same_node same_node_equiv.symm (table_nodes ks) (table_nodes js)
+once-permuted ks js same =
+    IsDistinct-IsPermutation same_node same_node_equiv.symm (table_nodes ks) (table_nodes js)
     (IsPermutation-map (λ k. k.node) ks js same)
 
 once-none : IsDistinct same_node []

@@ -7,5 +7,6 @@ pub invariant_of-self : goal.invariant_of-self
 invariant_of-self g c =
     let f = c.release_free in
     let t = c.self.inside.table in
-    step-same g.met.K.Eq.laws c.self.inside.nodes f.new.self t t f.ensures.entries (IsPermutation-refl t.nodes)
+    let same = IsPermutation-refl t.nodes in
+    step-same g.met.K.Eq.laws c.self.inside.nodes f.new.self t t f.ensures.entries same
     (omega (arith, c.self.invariant.fits, ap length f.ensures.free)) c.self.invariant
