@@ -2,11 +2,10 @@
 use Rattle.std.proofs.Common.{◌≡◌, Result, Ok, Err, OnOk, OnErr, ℕ, ◌+◌, ◌-◌, ◌≤◌, Bool, true, List, ◌∷◌}
 use Rattle.std.proofs.Common.{◌++◌}
 use Rattle.std.proofs.Common.{length, drop, Option, None, Some, refl, ap, sym, subst, ◌∙◌, arith, length-drop}
-use Rattle.std.specs.Prelude.{slice_get, insert, remove}
+use Rattle.std.specs.Prelude.{slice_get, insert, remove, IsPermutation}
 use Rattle.std.specs.List.{IsDistinct}
 use Rattle.std.specs.Option.{option_map, option_map_or, IfSome}
 use Rattle.std.specs.Cmp.{IsEquivalence}
-use Rattle.std.specs.FinMap.{get, insert as put_in, remove as take_out}
 use Rattle.std.specs.Map.{lookup, remove_entry, set_value, keys_of, values_of}
 use Rattle.std.proofs.lemmas.Map.{NonePasses, lookup-none}
 use Rattle.std.proofs.lemmas.Option.{slice_get-map}
@@ -17,7 +16,7 @@ use Rattle.hashlink_nodes.specs.declared.node.Node.{Node}
 use Rattle.hashlink_nodes.specs.declared.held.Held.{Held}
 use Rattle.hashlink_nodes.specs.Node.{same_node, same_node_equiv}
 use Rattle.hashlink_nodes.specs.Ring.{Holds, IsPlace, next_place, prev_place, Ring, held, pair_of, with_value}
-use Rattle.hashlink_nodes.specs.Ring.{with_key, with_number, MovesBefore, MovesAfter, put_before}
+use Rattle.hashlink_nodes.specs.Ring.{with_key, MovesBefore, MovesAfter, put_before}
 use Rattle.hashlink_nodes.specs.NodesLends.{with_value_at as ring_with_value_at}
 use Rattle.hashlink_table.specs.Contents.{Contents, len_of}
 use Rattle.hashlink_core.specs.Keyed.{Keyed, nodes_of, pairs_in, entries_of, state_of, keyed, seen_as}
@@ -25,7 +24,7 @@ use Rattle.hashlink_core.specs.Keyed.{pair_with_value, pair_with_key, IsKeyed, H
 use Rattle.hashlink_core.specs.KeyedLends.{with_value_at}
 use Rattle.hashlink_core.specs.Places.{place_number, IsPlaceAt, renewed_at}
 use Rattle.hashlink_core.specs.Steps.{AddsNode, RemovesNode, MovesNode, WritesNode, SetsNodeKey, GrowsRoom}
-use Rattle.hashlink_core.specs.Tied.{IsInStep}
+use Rattle.hashlink_core.specs.Tied.{IsInStep, short}
 use Rattle.hashlink_core.proofs.Edits.{insert-map, remove-map, length-inserted, length-removed}
 use Rattle.hashlink_core.proofs.Edits.{remove_entry-at}
 use Rattle.hashlink_core.proofs.Edits.{moved_at-is, none-inserted, none_from_place, passes-at}
@@ -36,9 +35,10 @@ use Rattle.hashlink_core.proofs.Mapped.{place_number-mapped, renewed-mapped, mov
 use Rattle.hashlink_core.proofs.Mapped.{values-renewed_key}
 use Rattle.hashlink_core.proofs.Neighbours.{distinct-left, next-number, prev-number}
 use Rattle.hashlink_core.proofs.Places.{IsNodeAt, node-at, put_before-at, set_value-at, renewed_at-is}
-use Rattle.hashlink_core.proofs.Places.{moves_before-at, moves_after-at, renumbered-at, place_number-most}
+use Rattle.hashlink_core.proofs.Places.{moves_before-at, moves_after-at}
 use Rattle.hashlink_core.proofs.Stepping.{pair-at, length-pairs, step-in, step-out, step-renewed}
 use Rattle.hashlink_core.proofs.Stores.{stores-exactly}
+use Rattle.hashlink_core.proofs.Tying.{kept}
 
 or-some : {X Y : Type 0} (f : X → Y) (d : Y) (o : Option X) → IfSome o (λ x. option_map_or f o d ≡ f x)
 or-some f d None = tt
@@ -192,23 +192,23 @@ module _ {K V S : Type 0} {eq : K → K → Bool} (laws : IsEquivalence eq) {has
     -- ---- the node left the table, and then the ring
     module _ (s' : Ring K V) (u : Contents Node) (number : ℕ)
         (numbered : option_map (λ h. h.number) (lookup (same_node n) r.entries) ≡ Some number)
-        (untied : u ≡ record t { nodes = take_out t.nodes number })
+        (left : IsPermutation t.nodes (kept number n ∷ u.nodes)) (room : u.room ≡ t.room)
         (removed : s'.entries ≡ remove_entry (same_node n) r.entries) (freed : s'.free ≡ n ∷ r.free) where
       pub removed-step : IsInStep eq hash s' u
       removed-step =
-          let same : at.0.number ≡ number =
+          let same : number ≡ at.0.number =
           cc (sym (ap (option_map (λ h. h.number)) at.1.found) ∙ numbered) in
           let more : length s'.free ≡ length r.free + 1 = omega (arith, ap length freed) in
-          subst (IsInStep eq hash s') (ap (λ i. record t { nodes = take_out t.nodes i }) same ∙ sym untied)
-          (step-out laws r s' t n at.0 step (place_number r.entries (Some n)) at.1.at (removed
-          ∙ remove_entry-at same_node r.entries n) more)
+          step-out laws r s' t n at.0 step (place_number r.entries (Some n)) at.1.at u (removed
+          ∙ remove_entry-at same_node r.entries n) more
+          (subst (λ i. IsPermutation t.nodes (kept i n ∷ u.nodes)) same left) room
 
       pub removed-node : s'.link_writes ≡ r.link_writes + 3
           → RemovesNode seen (seen_as s' u s) (place_number seen.nodes (Some n))
       removed-node stored =
           let new = seen_as s' u s in
           let e = node-at (nodes_of r.entries) n (subst (λ m. Holds m.nodes n) (sym view) within) in
-          let left : nodes_of s'.entries
+          let gone : nodes_of s'.entries
           ≡ remove (nodes_of r.entries) (place_number (nodes_of r.entries) (Some n)) =
           ap nodes_of (removed ∙ remove_entry-at same_node r.entries n)
           ∙ remove-map (λ (e : Node × Held K V). (e.0, pair_of e.1)) r.entries
@@ -216,8 +216,8 @@ module _ {K V S : Type 0} {eq : K → K → Bool} (laws : IsEquivalence eq) {has
           ∙ ap (remove (nodes_of r.entries)) (sym (place_number-mapped pair_of r.entries (Some n))) in
           let more : length s'.free ≡ length r.free + 1 = omega (arith, ap length freed) in
           subst (λ m. RemovesNode m new (place_number m.nodes (Some n))) view
-          (removes-node (seen_as r t s) new (ap (λ c. c.room) untied) refl
-          (place_number (nodes_of r.entries) (Some n)) (n, e.0) e.1.at left more stored)
+          (removes-node (seen_as r t s) new room refl
+          (place_number (nodes_of r.entries) (Some n)) (n, e.0) e.1.at gone more stored)
 
     -- ---- the node moved right before, or right after, another place
     module _ (p : Option Node) (place : IsPlace (remove_entry (same_node n) seen.nodes) p)
@@ -334,61 +334,48 @@ module _ {K V S : Type 0} {eq : K → K → Bool} (laws : IsEquivalence eq) {has
   -- list was `old`
   module _ (old : Keyed K V S) (grown : GrowsRoom 1 old seen) (k : K) (v : V)
       (absent : place_of (eq k) (entries_of old) ≡ None) (ready : length old.nodes + 1 ≤ seen.room)
-      (p : Option Node) (n : Node) (cell asked : ℕ) (r1 r2 : Ring K V) (u : Contents Node)
-      (put : r1.entries ≡ put_before p (n, held 0 k v) r.entries)
-      (apart : IsDistinct same_node (keys_of r1.entries ++ r1.free))
-      (numbered : IfSome (lookup (same_node n) r1.entries)
-      (λ h. r2.entries ≡ set_value (same_node n) r1.entries (with_number h cell)))
-      (freed : r2.free ≡ drop 1 r.free)
-      (vacant : get t.nodes cell ≡ None)
-      (tied : u ≡ record t { nodes = put_in t.nodes cell (record { hash = asked; node = n }) }) where
-    put-at : r1.entries ≡ insert r.entries (place_number r.entries p) (n, held 0 k v)
-    put-at = put ∙ put_before-at r.entries p (n, held 0 k v)
-
-    still-apart : IsEntries same_node r1.entries
-    still-apart = distinct-left (keys_of r1.entries) r1.free apart
-
-    numbered-at : r2.entries ≡ insert r.entries (place_number r.entries p) (n, held cell k v)
-    numbered-at = renumbered-at (λ h. with_number h cell) r.entries r1.entries r2.entries
-        (place_number r.entries p) n (held 0 k v) (place_number-most r.entries p) put-at still-apart numbered
+      (p : Option Node) (n : Node) (number : ℕ) (r' : Ring K V) (u : Contents Node)
+      (put : r'.entries ≡ put_before p (n, held number k v) r.entries)
+      (apart : IsDistinct same_node (keys_of r'.entries ++ r'.free))
+      (freed : r'.free ≡ drop 1 r.free)
+      (came : IsPermutation (kept number n ∷ t.nodes) u.nodes) (kept_room : u.room ≡ t.room) where
+    put-at : r'.entries ≡ insert r.entries (place_number r.entries p) (n, held number k v)
+    put-at = put ∙ put_before-at r.entries p (n, held number k v)
 
     same-nodes : nodes_of r.entries ≡ old.nodes
     same-nodes = ap (λ m. m.nodes) (view ∙ grown.rest)
 
     fresh-inside : NonePasses (same_node n) r.entries
-    fresh-inside = none-inserted same_node same_node_equiv r1.entries still-apart r.entries
-        (place_number r.entries p) (n, held 0 k v) put-at
+    fresh-inside = none-inserted same_node same_node_equiv r'.entries
+        (distinct-left (keys_of r'.entries) r'.free apart) r.entries
+        (place_number r.entries p) (n, held number k v) put-at
 
-    fewer-free : length r2.free ≡ length r.free - 1
+    fewer-free : length r'.free ≡ length r.free - 1
     fewer-free = ap length freed ∙ length-drop 1 r.free
 
-    pub added-step : asked ≡ hash k → IsInStep eq hash r2 u
+    pub added-step : number ≡ short (hash k) → IsInStep eq hash r' u
     added-step is =
         let none : NonePasses (eq k) (pairs_in r.entries) =
         none_from_place (eq k) (pairs_in r.entries) (ap (λ ns. place_of (eq k) (values_of ns)) same-nodes
         ∙ absent) in
         let room : length r.entries + 1 ≤ t.room =
         omega (arith, ready, length-mapped pair_of r.entries, ap length same-nodes, ap (λ m. m.room) view) in
-        subst (IsInStep eq hash r2)
-        (ap (λ a. record t { nodes = put_in t.nodes cell (record { hash = a; node = n }) })
-        (sym is) ∙ sym tied)
-        (step-in laws r r2 t n (held cell k v) step (place_number r.entries p) none
-        fresh-inside numbered-at vacant
-        room fewer-free)
+        step-in laws r r' t n (held number k v) step (place_number r.entries p) u none fresh-inside put-at is
+        came kept_room room fewer-free
 
-    pub added-node : IsInStep eq hash r2 u → r2.link_writes ≡ r.link_writes + 4
-        → AddsNode old (seen_as r2 u s) (place_number old.nodes p) n k v
+    pub added-node : IsInStep eq hash r' u → r'.link_writes ≡ r.link_writes + 4
+        → AddsNode old (seen_as r' u s) (place_number old.nodes p) n k v
     added-node after stored =
         let before : seen_as r t s ≡ record old { room = seen.room } = view ∙ grown.rest in
-        let gone_in : nodes_of r2.entries ≡ insert old.nodes (place_number old.nodes p) (n, (k, v)) =
-        ap nodes_of numbered-at ∙ insert-map (λ (e : Node × Held K V). (e.0, pair_of e.1)) r.entries
-        (place_number r.entries p) (n, held cell k v)
+        let gone_in : nodes_of r'.entries ≡ insert old.nodes (place_number old.nodes p) (n, (k, v)) =
+        ap nodes_of put-at ∙ insert-map (λ (e : Node × Held K V). (e.0, pair_of e.1)) r.entries
+        (place_number r.entries p) (n, held number k v)
         ∙ ap (λ i. insert (nodes_of r.entries) i (n, (k, v))) (sym (place_number-mapped pair_of r.entries p))
         ∙ ap (λ ns. insert ns (place_number ns p) (n, (k, v))) same-nodes in
-        let entries : pairs_in r2.entries ≡ insert (entries_of old) (place_number old.nodes p) (k, v) =
+        let entries : pairs_in r'.entries ≡ insert (entries_of old) (place_number old.nodes p) (k, v) =
         ap values_of gone_in ∙ insert-map (λ (e : Node × (K × V)). e.1) old.nodes (place_number old.nodes p)
         (n, (k, v)) in
-        let room : u.room ≡ seen.room = ap (λ c. c.room) tied ∙ ap (λ m. m.room) view in
+        let room : u.room ≡ seen.room = kept_room ∙ ap (λ m. m.room) view in
         let more = length-inserted (entries_of old) (place_number old.nodes p) (k, v) in
         let long : length (insert (entries_of old) (place_number old.nodes p) (k, v)) ≡ length old.nodes + 1 =
         more ∙ ap (λ i. i + 1) (length-values_of old.nodes) in
@@ -406,15 +393,15 @@ module _ {K V S : Type 0} {eq : K → K → Bool} (laws : IsEquivalence eq) {has
               same = λ le. room ∙ grown.more.same (omega (arith, le, long));
               bound = omega (arith, grown.more.bound, room, long);
             };
-            fits = seen-fits r2 u after;
-            link_writes = stores-exactly 4 old.link_writes r2.link_writes (stored
+            fits = seen-fits r' u after;
+            link_writes = stores-exactly 4 old.link_writes r'.link_writes (stored
                 ∙ ap (λ w. w + 4) (ap (λ m. m.link_writes) before));
             hasher = ap (λ m. m.hasher) before;
           };
         }
 
--- a table that shrank to its nodes, or was refused that
-pub shrunk-table : {E : Type 0} (t u : Contents Node) (o : Result (Unit {0}) E) → len_of t ≤ t.room
-    → OnOk o (u ≡ record t { room = len_of t }) → OnErr o (u ≡ t) → (u.nodes ≡ t.nodes) × (len_of t ≤ u.room)
-shrunk-table t u (Ok x) fits ok err = (ap (λ c. c.nodes) ok, omega (arith, ap (λ c. c.room) ok))
-shrunk-table t u (Err e) fits ok err = (ap (λ c. c.nodes) err, omega (arith, fits, ap (λ c. c.room) err))
+-- a table that shrank to its nodes, or was refused that, has room for them
+pub shrunk-room : {E : Type 0} (t u : Contents Node) (o : Result (Unit {0}) E) → len_of t ≤ t.room
+    → OnOk o (u.room ≡ len_of t) → OnErr o (u ≡ t) → len_of t ≤ u.room
+shrunk-room t u (Ok x) fits ok err = omega (arith, ok)
+shrunk-room t u (Err e) fits ok err = omega (arith, fits, ap (λ c. c.room) err)

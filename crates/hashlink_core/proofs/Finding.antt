@@ -1,6 +1,7 @@
 -- Finding a key's node by the table, and telling two nodes apart.
 use Rattle.std.proofs.Common.{◌≡◌, ℕ, Bool, true, false, Option, None, Some, ap, sym, subst, ◌∙◌}
 use Rattle.std.specs.Option.{option_map, is_some, IfSome, IfNone, MatchOption}
+use Rattle.std.specs.Prelude.{slice_get}
 use Rattle.std.specs.Cmp.{IsEquivalence}
 use Rattle.std.specs.Map.{lookup}
 use Rattle.std.proofs.Math.Path.{fun_ext}
@@ -17,13 +18,11 @@ use Rattle.hashlink_table.specs.Contents.{Contents, Keeps}
 use Rattle.hashlink_core.specs.Keyed.{nodes_of, pairs_in, HoldsMatch}
 use Rattle.hashlink_core.specs.Places.{place_number}
 use Rattle.hashlink_core.specs.Telling.{Tells, TellsMatch}
-use Rattle.hashlink_core.specs.Tied.{IsInStep}
+use Rattle.hashlink_core.specs.Tied.{IsInStep, short}
 use Rattle.hashlink_core.proofs.Mapped.{lookup-mapped, place_number-mapped}
 use Rattle.hashlink_core.proofs.Places.{node-at}
 use Rattle.hashlink_core.proofs.Stepping.{pair-at}
-use Rattle.hashlink_core.proofs.Tying.{untied-absent, kept}
-use Rattle.std.specs.FinMap.{get}
-use Rattle.hashlink_table.specs.declared.kept.Kept.{Kept}
+use Rattle.hashlink_core.proofs.Tying.{untied-absent}
 
 -- what a call answered at a node's key
 pub answered-at : {K V : Type 0} (P : K → Type 0) (o : Option (Held K V)) (key : K) (value : V)
@@ -55,33 +54,32 @@ tells-key laws alike {k = k} tells = record {
   answers = λ x b r. tells.answers x b r ∙ laws.symm x.now k;
 }
 
-module _ {K V : Type 0} {eq : K → K → Bool} (laws : IsEquivalence eq) {hash : K
-    → ℕ} {r : Ring K V} {t : Contents Node} (step : IsInStep eq hash r t) where
+module _ {K V : Type 0} {eq : K → K → Bool} (laws : IsEquivalence eq) {hash : K → ℕ} {r : Ring K V}
+    {t : Contents Node} (step : IsInStep eq hash r t) where
   -- each node that the table has is of the ring
-  pub listed-holds : (cell found : ℕ) (n : Node) → Keeps t cell found n → Holds r.entries n
-  listed-holds cell found n there = ap is_some (step.tied.listed cell found n there).here
+  pub listed-holds : (number : ℕ) (n : Node) → Keeps t number n → Holds r.entries n
+  listed-holds number n there = ap is_some (step.tied.listed number n there).here
 
   -- what a search of the table answers, by calls that tell the keys that pass from the others
-  pub found-by_table : (passes : K → Bool) → IsKeyTest eq passes → (asked : ℕ)
+  pub found-by_table : (passes : K → Bool) → IsKeyTest eq passes → (asked i : ℕ) → i ≡ short asked
       → ((x : K) → passes x ≡ true → hash x ≡ asked)
       → (Answers : K → Bool → Type 0) → ((x : K) (b : Bool) → Answers x b → b ≡ passes x)
       → (o : Option Node)
-      → IfSome o (λ n. (cell : ℕ) × Keeps t cell asked n
+      → IfSome o (λ n. Keeps t i n
       × IfSome (lookup (same_node n) r.entries) (λ h. Answers h.key true))
-      → IfNone o ((cell : ℕ) (n : Node) → Keeps t cell asked n
+      → IfNone o ((n : Node) → Keeps t i n
       → IfSome (lookup (same_node n) r.entries) (λ h. Answers h.key false))
       → MatchOption o (place_of passes (pairs_in r.entries) ≡ None) (HoldsMatch passes (nodes_of r.entries))
-  found-by_table passes alike asked hashed Answers tells None some none =
+  found-by_table passes alike asked i is_short hashed Answers tells None some none =
       place_of-none passes (pairs_in r.entries)
-      (untied-absent hash passes r.entries t asked step.apart step.tied hashed
-      (λ cell n there h here.
-      sym (tells h.key false (subst (λ o. IfSome o (λ g. Answers g.key false)) here (none cell n there)))))
-  found-by_table passes alike asked hashed Answers tells (Some n) some none =
-      let old = step.tied.listed some.0 asked n some.1 in
-      let x = node-at r.entries n (ap is_some old.here) in
+      (untied-absent hash passes r.entries t asked i is_short step.apart step.numbered step.tied hashed
+      (λ n there h here.
+      sym (tells h.key false (subst (λ o. IfSome o (λ g. Answers g.key false)) here (none n there)))))
+  found-by_table passes alike asked i is_short hashed Answers tells (Some n) some none =
+      let x = node-at r.entries n (listed-holds i n some.0) in
       let k = x.0.key in
       let met : passes k ≡ true =
-      sym (tells k true (subst (λ o. IfSome o (λ g. Answers g.key true)) x.1.found some.2)) in
+      sym (tells k true (subst (λ o. IfSome o (λ g. Answers g.key true)) x.1.found some.1)) in
       let is : passes ≡ eq k = fun_ext (λ y. alike k y met) in
       record {
         within = ap is_some (lookup-mapped pair_of (same_node n) r.entries ∙ ap
@@ -92,28 +90,31 @@ module _ {K V : Type 0} {eq : K → K → Bool} (laws : IsEquivalence eq) {hash 
             ∙ ap Some (sym (place_number-mapped pair_of r.entries (Some n)));
       }
 
-  -- two nodes with one number are the same
-  pub same-number : (a b : Node) (i j : ℕ) → option_map (λ h. h.number) (lookup (same_node a) r.entries)
-      ≡ Some i
-      → option_map (λ h. h.number) (lookup (same_node b) r.entries) ≡ Some j → Holds r.entries a
-      → Holds r.entries b
-      → i ≡ j → a ≡ b
-  same-number a b i j at_a at_b held_a held_b same =
-      let x = node-at r.entries a held_a in
-      let y = node-at r.entries b held_b in
-      let number_a : x.0.number ≡ i = cc (sym (ap (option_map (λ h. h.number)) x.1.found) ∙ at_a) in
-      let number_b : y.0.number ≡ j = cc (sym (ap (option_map (λ h. h.number)) y.1.found) ∙ at_b) in
-      let kept_a = step.tied.kept a x.0 x.1.found in
-      let kept_b = step.tied.kept b y.0 y.1.found in
-      let one : Some (kept (hash x.0.key) a) ≡ Some (kept (hash y.0.key) b) = sym kept_a
-      ∙ ap (get t.nodes) (number_a ∙ same ∙ sym number_b) ∙ kept_b in
-      let whole : kept (hash x.0.key) a ≡ kept (hash y.0.key) b = cc one in
-      ap (λ (k : Kept Node). k.node) whole
+  -- two nodes are the same where their keys are equal
+  module _ (a b : Node) (held_a : Holds r.entries a) (held_b : Holds r.entries b) (p q : K × V)
+      (at_a : option_map pair_of (lookup (same_node a) r.entries) ≡ Some p)
+      (at_b : option_map pair_of (lookup (same_node b) r.entries) ≡ Some q) where
+    pub same-key : eq p.0 q.0 ≡ true → a ≡ b
+    same-key same =
+        let x = node-at r.entries a held_a in
+        let y = node-at r.entries b held_b in
+        let i = place_number r.entries (Some a) in
+        let j = place_number r.entries (Some b) in
+        let is_p : pair_of x.0 ≡ p = cc (sym (ap (option_map pair_of) x.1.found) ∙ at_a) in
+        let is_q : pair_of y.0 ≡ q = cc (sym (ap (option_map pair_of) y.1.found) ∙ at_b) in
+        let stands_a = place_of_its_key eq laws (pairs_in r.entries) i (pair_of x.0) p.0 step.distinct
+        (pair-at r.entries i a x.0 x.1.at) (subst (λ e. eq p.0 e.0 ≡ true) (sym is_p) (laws.refl p.0)) in
+        let stands_b = place_of_its_key eq laws (pairs_in r.entries) j (pair_of y.0) p.0 step.distinct
+        (pair-at r.entries j b y.0 y.1.at) (subst (λ e. eq p.0 e.0 ≡ true) (sym is_q) same) in
+        let one : i ≡ j = cc (sym stands_a ∙ stands_b) in
+        let both : ◌≡◌ {A = Option (Node × Held K V)} (Some (a, x.0)) (Some (b, y.0))
+        = sym x.1.at ∙ ap (slice_get r.entries) one ∙ y.1.at in
+        let entry : ◌≡◌ {A = Node × Held K V} (a, x.0) (b, y.0) = cc both in
+        ap (λ e. e.0) entry
 
-  pub number-of_same : (a b : Node) (i j : ℕ) → option_map (λ h. h.number) (lookup (same_node a) r.entries)
-      ≡ Some i
-      → option_map (λ h. h.number) (lookup (same_node b) r.entries) ≡ Some j → a ≡ b → i ≡ j
-  number-of_same a b i j at_a at_b same =
-      let one : Some i ≡ Some j = sym at_a
-      ∙ ap (λ n. option_map (λ h. h.number) (lookup (same_node n) r.entries)) same ∙ at_b in
-      cc one
+    pub key-of_same : a ≡ b → eq p.0 q.0 ≡ true
+    key-of_same same =
+        let one : Some p ≡ Some q = sym at_a
+        ∙ ap (λ n. option_map pair_of (lookup (same_node n) r.entries)) same ∙ at_b in
+        let is : p ≡ q = cc one in
+        subst (λ e. eq p.0 e.0 ≡ true) is (laws.refl p.0)

@@ -8,6 +8,7 @@ pub mod Finding
 pub mod Holding
 pub mod InTurn
 pub mod Keeping
+pub mod Leaving
 pub mod Mapped
 pub mod Neighbours
 pub mod Places

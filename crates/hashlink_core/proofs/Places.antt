@@ -184,13 +184,6 @@ module _ {X : Type 0} where
   renewed_twice f g (e ∷ es) zero = refl
   renewed_twice f g (e ∷ es) (suc j) = ap (λ r. e ∷ r) (renewed_twice f g es j)
 
-  renewed-inserted : (f : X → X) (es : List (Node × X)) (i : ℕ) (e : Node × X) → i ≤ length es
-      → renewed_at f (insert es i e) i ≡ insert es i (e.0, f e.1)
-  renewed-inserted f [] zero e le = refl
-  renewed-inserted f [] (suc i) e le = absurd (omega arith)
-  renewed-inserted f (y ∷ es) zero e le = refl
-  renewed-inserted f (y ∷ es) (suc i) e le = ap (λ r. y ∷ r) (renewed-inserted f es i e (omega (arith, le)))
-
   -- an entry that was put in is found, and stands where it was put
   pub inserted-at : (es : List (Node × X)) (i : ℕ) (n : Node) (x : X) → i ≤ length es
       → IsEntries same_node (insert es i (n, x)) → (lookup (same_node n) (insert es i (n, x)) ≡ Some x)
@@ -205,27 +198,6 @@ module _ {X : Type 0} where
             (place_of_its_key same_node same_node_equiv (insert es i (n, x)) i (n, x) n d at
             (same_node_equiv.refl n)),
       )
-
-  -- an entry that was put in and changed
-  pub renumbered-at : (f : X → X) (es fs gs : List (Node × X)) (i : ℕ) (n : Node) (x : X) → i ≤ length es
-      → fs ≡ insert es i (n, x) → IsEntries same_node fs
-      → IfSome (lookup (same_node n) fs) (λ y. gs ≡ set_value (same_node n) fs (f y))
-      → gs ≡ insert es i (n, f x)
-  renumbered-at f es fs gs i n x le put d set =
-      let o = inserted-at es i n x le (subst (IsEntries same_node) put d) in
-      let found : lookup (same_node n) fs ≡ Some x = ap (lookup (same_node n)) put ∙ o.0 in
-      subst (λ o. IfSome o (λ y. gs ≡ set_value (same_node n) fs (f y))) found set
-      ∙ set_value-at f fs n x found
-      ∙ ap (λ l. renewed_at f l (place_number l (Some n))) put ∙ ap (renewed_at f (insert es i (n, x))) o.1
-      ∙ renewed-inserted f es i (n, x) le
-
-  pub put_before-holds : (es fs : List (Node × X)) (p : Option Node) (n : Node) (x : X)
-      → fs ≡ put_before p (n, x) es → IsEntries same_node fs → Holds fs n
-  put_before-holds es fs p n x put d =
-      let is = put ∙ put_before-at es p (n, x) in
-      ap (λ l. is_some (lookup (same_node n) l)) is
-      ∙ ap is_some (inserted-at es (place_number es p) n x (place_number-most es p)
-      (subst (IsEntries same_node) is d)).0
 
   -- ---- where a place is once a node is taken out
   pub place_number-left : (es : List (Node × X)) (n : Node) (p : Option Node) → is_node p n ≡ false

@@ -1,16 +1,15 @@
 -- The ring and the table stay in step.
-use Rattle.std.proofs.Common.{◌≡◌, ◌≢◌, ◌⊎◌, ℕ, suc, Bool, true, false, cond, take, drop, List, [], ◌∷◌, ◌++◌}
-use Rattle.std.proofs.Common.{None}
-use Rattle.std.proofs.Common.{Some, refl, ap, sym, subst, ◌∙◌, append_assoc, inl, inr}
-use Rattle.std.specs.Ordering.{nat_cmp, eq_by_cmp}
-use Rattle.std.specs.Cmp.{nat_cmp_total, eq_by_cmp_equiv, Equal-is}
-use Rattle.std.specs.Prelude.{slice_get, insert, remove}
-use Rattle.std.specs.FinMap.{FinMap, get, insert as put_in, remove as take_out, empty, get-insert, get-remove}
-use Rattle.std.specs.FinMap.{get-empty, nat_cmp-IsAntisymmetric}
+use Rattle.std.proofs.Common.{◌≡◌, ◌⊎◌, ℕ, suc, Bool, true, false, cond, take, drop, List, [], ◌∷◌, ◌++◌, map}
+use Rattle.std.proofs.Common.{None, Some, zero, refl, ap, sym, subst, ◌∙◌, append_assoc, inl, inr, arith}
+use Rattle.std.specs.Prelude.{slice_get, insert, remove, Contains, IsPermutation}
+use Rattle.std.specs.List.{IsDistinct, AllByRecursion}
 use Rattle.std.specs.Option.{option_map}
 use Rattle.std.specs.Map.{lookup, lookup_entry}
 use Rattle.std.proofs.lemmas.Map.{NonePasses, lookup-none}
+use Rattle.std.proofs.lemmas.Map.Keys.{IsDistinct-head, IsDistinct-tail, IsDistinct-cons}
+use Rattle.std.proofs.lemmas.Map.Keys.{IsDistinct-IsPermutation}
 use Rattle.std.proofs.lemmas.List.{take-append-drop}
+use Rattle.std.proofs.lemmas.List.Sorted.{Contains-permutation, IsPermutation-sym, IsPermutation-map}
 use Rattle.hashlink_core.proofs.Edits.{split-at}
 use Rattle.hashlink_model.specs.Entries.{IsEntries}
 use Rattle.hashlink_model.proofs.Distinct.{none_others}
@@ -21,69 +20,64 @@ use Rattle.hashlink_nodes.specs.Node.{same_node, same_node_equiv, eq-same_node}
 use Rattle.hashlink_table.specs.Contents.{Contents, Keeps}
 use Rattle.hashlink_table.specs.declared.kept.Kept.{Kept}
 use Rattle.hashlink_core.specs.Keyed.{pairs_in}
-use Rattle.hashlink_core.specs.Tied.{IsTied, IsListed}
+use Rattle.hashlink_core.specs.Tied.{IsTied, IsListed, IsNumbered, short}
 
 abbrev pub kept : ℕ → Node → Kept Node
-kept h n = record { hash = h; node = n }
+kept number n = record { hash = number; node = n }
 
-same-cell : (a b : ℕ) → a ≡ b → eq_by_cmp nat_cmp a b ≡ true
-same-cell a b e = ap (eq_by_cmp nat_cmp a) (sym e) ∙ (eq_by_cmp_equiv nat_cmp_total).refl a
+-- ---- the nodes of a table
+abbrev pub table_nodes : List (Kept Node) → List Node
+table_nodes ks = map (λ k. k.node) ks
 
-is-cell : (a b : ℕ) → eq_by_cmp nat_cmp a b ≡ true → a ≡ b
-is-cell a b t = nat_cmp-IsAntisymmetric a b ((Equal-is (nat_cmp a b)).0 t)
+-- what a list has after one more is that one, or was there
+contains-cases : (k : Kept Node) (ks : List (Kept Node)) (j : Kept Node) → Contains (k ∷ ks) j
+    → (k ≡ j) ⊎ Contains ks j
+contains-cases k ks j (zero, lt, is) = inl is
+contains-cases k ks j (suc i, lt, is) = inr (i, omega arith, is)
 
--- ---- what a finite map of cells gives at a cell
-module _ (t : FinMap nat_cmp (Kept Node)) where
-  get-inserted : (c : ℕ) (k : Kept Node) (q : ℕ) → q ≡ c → get (put_in t c k) q ≡ Some k
-  get-inserted c k q e = get-insert nat_cmp_total t c k q
-      ∙ ap (λ b. cond b (Some k) (get t q)) (same-cell q c e)
+contains-later : (k : Kept Node) (ks : List (Kept Node)) (j : Kept Node) → Contains ks j → Contains (k ∷ ks) j
+contains-later k ks j (i, lt, is) = (suc i, omega arith, is)
 
-  -- at another cell, one that has a node where the new cell had none
-  get-kept : (c : ℕ) (k : Kept Node) (q : ℕ) (j : Kept Node) → get t c ≡ None → get t q ≡ Some j
-      → get (put_in t c k) q ≡ Some j
-  get-kept c k q j none some =
-      elim (eq_by_cmp nat_cmp q c) as (λ b. eq_by_cmp nat_cmp q c ≡ b → get (put_in t c k) q ≡ Some j) [
-        | true ↦ λ e. let same : get t q ≡ get t c = ap (get t) (is-cell q c e) in absurd
-            (cc (sym some ∙ same ∙ none))
-        | false ↦ λ e. get-insert nat_cmp_total t c k q ∙ ap (λ b. cond b (Some k) (get t q)) e ∙ some
-      ] refl
+-- what each node passes, each of them does
+each-kept : (P : Node → Type 0) (ks : List (Kept Node)) → ((j : Kept Node) → Contains ks j → P j.node)
+    → AllByRecursion P (table_nodes ks)
+each-kept P [] all = tt
+each-kept P (k ∷ ks) all =
+    (all k (0, omega arith, refl), each-kept P ks (λ j there. all j (contains-later k ks j there)))
 
-  -- a node that is there after an insert is the new one, or was there
-  found-inserted : (c : ℕ) (k : Kept Node) (q : ℕ) (j : Kept Node) → get (put_in t c k) q ≡ Some j
-      → ((q ≡ c) × (k ≡ j)) ⊎ (get t q ≡ Some j)
-  found-inserted c k q j there =
-      elim (eq_by_cmp nat_cmp q c) as (λ b. eq_by_cmp nat_cmp q c ≡ b → ((q ≡ c) × (k ≡ j))
-      ⊎ (get t q ≡ Some j)) [
-        | true ↦ λ e. let new : get (put_in t c k) q ≡ Some k = get-inserted c k q (is-cell q c e) in
-            let same : k ≡ j = cc (sym new ∙ there) in inl (is-cell q c e, same)
-        | false ↦ λ e. let old : get (put_in t c k) q ≡ get t q = get-insert nat_cmp_total t c k q
-            ∙ ap (λ b. cond b (Some k) (get t q)) e in inr (sym old ∙ there)
-      ] refl
+kept-each : (P : Node → Type 0) (ks : List (Kept Node)) → AllByRecursion P (table_nodes ks) → (j : Kept Node)
+    → Contains ks j → P j.node
+kept-each P [] all j there = absurd (omega arith)
+kept-each P (k ∷ ks) all j there =
+    elim (contains-cases k ks j there) as (λ _. P j.node)
+    [ inl e ↦ subst (λ (k : Kept Node). P k.node) e all.0 | inr e ↦ kept-each P ks all.1 j e ]
 
-  get-removed : (c q : ℕ) → q ≢ c → get (take_out t c) q ≡ get t q
-  get-removed c q apart =
-      elim (eq_by_cmp nat_cmp q c) as (λ b. eq_by_cmp nat_cmp q c ≡ b → get (take_out t c) q ≡ get t q) [
-        | true ↦ λ e. absurd (apart (is-cell q c e))
-        | false ↦ λ e. get-remove nat_cmp_total t c q ∙ ap (λ b. cond b None (get t q)) e
-      ] refl
+once-permuted : (ks js : List (Kept Node)) → IsPermutation ks js → IsDistinct same_node (table_nodes ks)
+    → IsDistinct same_node (table_nodes js)
+once-permuted ks js same =
+    IsDistinct-IsPermutation same_node same_node_equiv.symm (table_nodes ks) (table_nodes js)
+    (IsPermutation-map (λ k. k.node) ks js same)
 
-  -- a node that is there after a removal was there, in another cell
-  found-removed : (c q : ℕ) (j : Kept Node) → get (take_out t c) q ≡ Some j → (q ≢ c) × (get t q ≡ Some j)
-  found-removed c q j there =
-      elim (eq_by_cmp nat_cmp q c) as (λ b. eq_by_cmp nat_cmp q c ≡ b → (q ≢ c) × (get t q ≡ Some j)) [
-        | true ↦ λ e. let gone : get (take_out t c) q ≡ None = get-remove nat_cmp_total t c q
-            ∙ ap (λ b. cond b None (get t q)) e in absurd (cc (sym gone ∙ there))
-        | false ↦ λ e.
-            let old : get (take_out t c) q ≡ get t q = get-remove nat_cmp_total t c q
-            ∙ ap (λ b. cond b None (get t q)) e in
-            (λ same. absurd (cc (sym e ∙ same-cell q c same)), sym old ∙ there)
-      ] refl
+once-none : IsDistinct same_node []
+unfolding IsDistinct
+once-none = tt
 
-module _ {K V : Type 0} (hash : K → ℕ) where
-  pub tied-none : (room : ℕ) → IsTied {V = V} hash [] (record { nodes = empty; room = room })
+module _ {K V : Type 0} where
+  pub tied-none : (room : ℕ) → IsTied {K = K} {V = V} [] (record { nodes = []; room = room })
   tied-none room = record {
     kept = λ n h found. absurd (cc found);
-    listed = λ cell found n there. absurd (cc (sym (get-empty nat_cmp cell) ∙ there));
+    listed = λ number n there. absurd (omega arith);
+    once = once-none;
+  }
+
+  -- the table has the same nodes
+  pub tied-same : (es : List (Node × Held K V)) (t u : Contents Node) → IsPermutation t.nodes u.nodes
+      → IsTied es t → IsTied es u
+  tied-same es t u same tied = record {
+    kept = λ n h found. Contains-permutation t.nodes u.nodes (kept h.number n) same (tied.kept n h found);
+    listed = λ number n there. tied.listed number n
+        (Contains-permutation u.nodes t.nodes (kept number n) (IsPermutation-sym t.nodes u.nodes same) there);
+    once = once-permuted t.nodes u.nodes same tied.once;
   }
 
   -- the entries are those of the rest, and n with h
@@ -110,114 +104,115 @@ module _ {K V : Type 0} (hash : K → ℕ) where
               (e, sym (ap (λ b. cond b (Some h) (lookup (same_node m) rest)) e) ∙ sym (w.with m) ∙ found)
         ] refl
 
-    -- what is of the rest is found among the entries, and is not n
-    with-rest : (m : Node) (g : Held K V) → lookup (same_node m) rest ≡ Some g
-        → lookup (same_node m) es ≡ Some g
-    with-rest m g found =
-        elim (same_node n m) as (λ b. same_node n m ≡ b → lookup (same_node m) es ≡ Some g) [
+    -- what is of the rest is not n
+    with-apart : (m : Node) (g : Held K V) → lookup (same_node m) rest ≡ Some g → same_node n m ≡ false
+    with-apart m g found =
+        elim (same_node n m) as (λ b. same_node n m ≡ b → same_node n m ≡ false) [
           | true ↦ λ e. let same : lookup (same_node n) rest ≡ lookup (same_node m) rest =
               ap (λ k. lookup (same_node k) rest) (eq-same_node n m e) in absurd
               (cc (sym w.absent ∙ same ∙ found))
-          | false ↦ λ e. w.with m ∙ ap (λ b. cond b (Some h) (lookup (same_node m) rest)) e ∙ found
+          | false ↦ λ e. e
         ] refl
 
-    module _ (t : Contents Node) where
-      pub tied-added : IsTied hash rest t → get t.nodes h.number ≡ None
-          → IsTied hash es (record t
-          { nodes = put_in t.nodes h.number (record { hash = hash h.key; node = n }) })
-      tied-added tied free = record {
+    -- what is of the rest is found among the entries
+    with-rest : (m : Node) (g : Held K V) → lookup (same_node m) rest ≡ Some g
+        → lookup (same_node m) es ≡ Some g
+    with-rest m g found = w.with m
+        ∙ ap (λ b. cond b (Some h) (lookup (same_node m) rest)) (with-apart m g found) ∙ found
+
+    module _ (t u : Contents Node) where
+      pub tied-added : IsTied rest t → IsPermutation (kept h.number n ∷ t.nodes) u.nodes → IsTied es u
+      tied-added tied came = record {
         kept = λ m g found.
-            elim (with-found m g found)
-            as (λ _. get (put_in t.nodes h.number (kept (hash h.key) n)) g.number ≡ Some
-            (kept (hash g.key) m)) [
-              | inl e ↦ get-inserted t.nodes h.number (kept (hash h.key) n) g.number
-                  (ap (λ (x : Held K V). x.number) (sym e.1))
-                  ∙ ap (λ (x : Held K V). Some (kept (hash x.key) n)) e.1
-                  ∙ ap (λ k. Some (kept (hash g.key) k)) e.0
-              | inr e ↦ get-kept t.nodes h.number (kept (hash h.key) n) g.number (kept (hash g.key) m) free
-                  (tied.kept m g e.1)
-            ];
-        listed = λ cell found m there.
-            elim (found-inserted t.nodes h.number (kept (hash h.key) n) cell (kept found m) there)
-            as (λ _. IsListed hash es cell found m) [
+            Contains-permutation (kept h.number n ∷ t.nodes) u.nodes (kept g.number m) came
+            (elim (with-found m g found) as (λ _. Contains (kept h.number n ∷ t.nodes) (kept g.number m)) [
+              | inl e ↦ (0, omega arith, ap (λ (x : Held K V). kept x.number n) e.1 ∙ ap (kept g.number) e.0)
+              | inr e ↦ contains-later (kept h.number n) t.nodes (kept g.number m) (tied.kept m g e.1)
+            ]);
+        listed = λ number m there.
+            elim (contains-cases (kept h.number n) t.nodes (kept number m)
+            (Contains-permutation u.nodes (kept h.number n ∷ t.nodes) (kept number m)
+            (IsPermutation-sym _ _ came) there)) as (λ _. IsListed es number m) [
               | inl e ↦
-                  let node : n ≡ m = ap (λ (x : Kept Node). x.node) e.1 in
                   record {
                     held = h;
-                    here = ap (λ k. lookup (same_node k) es) (sym node) ∙ with-here;
-                    number = sym e.0;
-                    hashed = ap (λ (x : Kept Node). x.hash) e.1;
+                    here = ap (λ (k : Kept Node). lookup (same_node k.node) es) (sym e) ∙ with-here;
+                    is = ap (λ (k : Kept Node). k.hash) e;
                   }
               | inr e ↦
-                  let old = tied.listed cell found m e in
-                  record {
-                    held = old.held;
-                    here = with-rest m old.held old.here;
-                    number = old.number;
-                    hashed = old.hashed;
-                  }
+                  let old = tied.listed number m e in
+                  record { held = old.held; here = with-rest m old.held old.here; is = old.is }
             ];
+        once = once-permuted (kept h.number n ∷ t.nodes) u.nodes came
+            (IsDistinct-cons same_node n (table_nodes t.nodes)
+            (each-kept (λ m. same_node n m ≡ false) t.nodes
+            (λ j there. let old = tied.listed j.hash j.node there in with-apart j.node old.held old.here))
+            tied.once);
       }
 
-      pub tied-taken : IsTied hash es t → IsTied hash rest (record t { nodes = take_out t.nodes h.number })
-      tied-taken tied =
-          let at_n : get t.nodes h.number ≡ Some (kept (hash h.key) n) = tied.kept n h with-here in
+      pub tied-taken : IsTied es t → IsPermutation t.nodes (kept h.number n ∷ u.nodes) → IsTied rest u
+      tied-taken tied left =
+          let once = once-permuted t.nodes (kept h.number n ∷ u.nodes) left tied.once in
           record {
             kept = λ m g found.
-                let there : get t.nodes g.number ≡ Some (kept (hash g.key) m) =
-                tied.kept m g (with-rest m g found) in
-                let apart : g.number ≢ h.number = λ e.
-                let both : Some (kept (hash g.key) m) ≡ Some (kept (hash h.key) n) = sym there
-                ∙ ap (get t.nodes) e
-                ∙ at_n in
-                let whole : kept (hash g.key) m ≡ kept (hash h.key) n = cc both in
-                let node : m ≡ n = ap (λ (x : Kept Node). x.node) whole in
-                let gone : lookup (same_node m) rest ≡ None = ap (λ k. lookup (same_node k) rest) node
-                ∙ w.absent in
-                absurd (cc (sym gone ∙ found)) in
-                get-removed t.nodes h.number g.number apart ∙ there;
-            listed = λ cell found m there.
-                let was = found-removed t.nodes h.number cell (kept found m) there in
-                let old = tied.listed cell found m was.1 in
-                elim (with-found m old.held old.here) as (λ _. IsListed hash rest cell found m) [
-                  | inl e ↦ absurd (was.0 (sym old.number ∙ ap (λ (x : Held K V). x.number) (sym e.1)))
-                  | inr e ↦ record { held = old.held; here = e.1; number = old.number; hashed = old.hashed }
+                elim (contains-cases (kept h.number n) u.nodes (kept g.number m)
+                (Contains-permutation t.nodes (kept h.number n ∷ u.nodes) (kept g.number m) left
+                (tied.kept m g (with-rest m g found)))) as (λ _. Keeps u g.number m) [
+                  | inl e ↦
+                      let apart = with-apart m g found in
+                      let same : n ≡ m = ap (λ (k : Kept Node). k.node) e in
+                      absurd (cc (sym apart ∙ ap (same_node n) (sym same) ∙ same_node_equiv.refl n))
+                  | inr e ↦ e
                 ];
+            listed = λ number m there.
+                let old = tied.listed number m
+                (Contains-permutation (kept h.number n ∷ u.nodes) t.nodes (kept number m)
+                (IsPermutation-sym _ _ left)
+                (contains-later (kept h.number n) u.nodes (kept number m) there)) in
+                let other = kept-each (λ m. same_node n m ≡ false) u.nodes
+                (IsDistinct-head same_node n (table_nodes u.nodes) once) (kept number m) there in
+                elim (with-found m old.held old.here) as (λ _. IsListed rest number m) [
+                  | inl e ↦ absurd (cc (sym other ∙ ap (same_node n) (sym e.0) ∙ same_node_equiv.refl n))
+                  | inr e ↦ record { held = old.held; here = e.1; is = old.is }
+                ];
+            once = IsDistinct-tail same_node n (table_nodes u.nodes) once;
           }
 
-  -- another entry under the same node, with the same number and the same hash
+    -- ---- numbers
+    module _ (hash : K → ℕ) where
+      pub numbered-added : IsNumbered hash rest → h.number ≡ short (hash h.key) → IsNumbered hash es
+      numbered-added numbered is m g found =
+          elim (with-found m g found) as (λ _. g.number ≡ short (hash g.key)) [
+            | inl e ↦ subst (λ (x : Held K V). x.number ≡ short (hash x.key)) e.1 is
+            | inr e ↦ numbered m g e.1
+          ]
+
+      pub numbered-taken : IsNumbered hash es → IsNumbered hash rest
+      numbered-taken numbered m g found = numbered m g (with-rest m g found)
+
+  -- another entry under the same node, with the same number
   pub tied-changed : (rest es fs : List (Node × Held K V)) (n : Node) (h g : Held K V) (t : Contents Node)
-      → IsWith rest es n h → IsWith rest fs n g → g.number ≡ h.number → hash g.key
-      ≡ hash h.key → IsTied hash es t
-      → IsTied hash fs t
-  tied-changed rest es fs n h g t w x number hashed tied = record {
+      → IsWith rest es n h → IsWith rest fs n g → g.number ≡ h.number → IsTied es t → IsTied fs t
+  tied-changed rest es fs n h g t w x number tied = record {
     kept = λ m k found.
-        elim (with-found rest fs n g x m k found) as
-        (λ _. get t.nodes k.number ≡ Some (kept (hash k.key) m)) [
+        elim (with-found rest fs n g x m k found) as (λ _. Keeps t k.number m) [
           | inl e ↦
-              let there : get t.nodes h.number ≡ Some (kept (hash h.key) n)
-              = tied.kept n h (with-here rest es n h w) in
-              ap (get t.nodes) (ap (λ (y : Held K V). y.number) (sym e.1) ∙ number) ∙ there
-              ∙ ap (λ a. Some (kept a n)) (sym hashed) ∙ ap (λ (y : Held K V). Some (kept (hash y.key) n)) e.1
-              ∙ ap (λ l. Some (kept (hash k.key) l)) e.0
+              let same : h.number ≡ k.number = sym number ∙ ap (λ (y : Held K V). y.number) e.1 in
+              subst (λ m. Keeps t k.number m) e.0
+              (subst (λ i. Keeps t i n) same (tied.kept n h (with-here rest es n h w)))
           | inr e ↦ tied.kept m k (with-rest rest es n h w m k e.1)
         ];
-    listed = λ cell found m there.
-        let old = tied.listed cell found m there in
-        elim (with-found rest es n h w m old.held old.here) as (λ _. IsListed hash fs cell found m) [
+    listed = λ i m there.
+        let old = tied.listed i m there in
+        elim (with-found rest es n h w m old.held old.here) as (λ _. IsListed fs i m) [
           | inl e ↦ record {
             held = g;
             here = ap (λ k. lookup (same_node k) fs) (sym e.0) ∙ with-here rest fs n g x;
-            number = number ∙ ap (λ (y : Held K V). y.number) e.1 ∙ old.number;
-            hashed = hashed ∙ ap (λ (y : Held K V). hash y.key) e.1 ∙ old.hashed;
+            is = number ∙ ap (λ (y : Held K V). y.number) e.1 ∙ old.is;
           }
-          | inr e ↦ record {
-            held = old.held;
-            here = with-rest rest fs n g x m old.held e.1;
-            number = old.number;
-            hashed = old.hashed;
-          }
+          | inr e ↦ record { held = old.held; here = with-rest rest fs n g x m old.held e.1; is = old.is }
         ];
+    once = tied.once;
   }
 
   -- ---- what is with n in a list of entries whose nodes are apart
@@ -248,22 +243,22 @@ module _ {K V : Type 0} (hash : K → ℕ) where
         (with-middle (take i es) (drop i es) n h d)
 
   -- ---- finding a key by the table
-  -- where no node that has the hash of the keys that pass holds one, none passes
-  pub untied-absent : (passes : K → Bool) (es : List (Node × Held K V)) (t : Contents Node) (asked : ℕ)
-      → IsEntries same_node es → IsTied hash es t
+  -- where no node that has the short hash of the keys that pass holds one, none passes
+  pub untied-absent : (hash : K → ℕ) (passes : K → Bool) (es : List (Node × Held K V)) (t : Contents Node)
+      (asked i : ℕ) → i ≡ short asked → IsEntries same_node es → IsNumbered hash es → IsTied es t
       → ((x : K) → passes x ≡ true → hash x ≡ asked)
-      → ((cell : ℕ) (n : Node) → Keeps t cell asked n → (h : Held K V) → lookup (same_node n) es ≡ Some h
+      → ((n : Node) → Keeps t i n → (h : Held K V) → lookup (same_node n) es ≡ Some h
       → passes h.key ≡ false)
       → NonePasses passes (pairs_in es)
-  untied-absent passes es t asked d tied hashed unlike = from [] es refl
+  untied-absent hash passes es t asked i is_short d numbered tied hashed unlike = from [] es refl
     where
       other : (n : Node) (h : Held K V) → lookup (same_node n) es ≡ Some h → passes h.key ≡ false
       other n h here =
           elim (passes h.key) as (λ b. passes h.key ≡ b → passes h.key ≡ false) [
             | true ↦ λ e.
-                let there : Keeps t h.number asked n =
-                subst (λ x. Keeps t h.number x n) (hashed h.key e) (tied.kept n h here) in
-                unlike h.number n there h here
+                let number : h.number ≡ i = numbered n h here ∙ ap short (hashed h.key e) ∙ sym is_short in
+                let there : Keeps t i n = subst (λ i. Keeps t i n) number (tied.kept n h here) in
+                unlike n there h here
             | false ↦ λ e. e
           ] refl
 

@@ -2,6 +2,7 @@
 //! entry.
 ghost use Rattle.std.specs.Prelude.{◌≡◌, ◌*◌, ◌^◌, ◌<◌, ◌≤◌, ◌↔◌, [], length, max, Ok, Err, IfOk};
 ghost use Rattle.hashlink_core.specs.Keyed.{keyed, entries_of, IsKeyed};
+ghost use Rattle.hashlink_core.specs.Tied.{short};
 ghost use Rattle.hashlink_table.specs.declared.error.TryReserveError.TheVariants.{CapacityOverflow};
 ghost use Rattle.hashlink_table.specs.declared.table.TheConstants.{MAX_ROOM};
 
@@ -19,6 +20,14 @@ use hashlink_table::{Table, TryReserveError};
 use std::alloc::Global;
 use std::hash::{BuildHasher, Hash};
 use std::marker::Model;
+
+// What the table knows of a hash, and a node keeps as its number: the lower half of its bits.
+#[inline]
+fn short_hash(hash: u64) -> u32
+    ensures { result ≡ short hash }
+{
+    (hash % (1 << 32)) as u32
+}
 
 /// A list of pairs in a ring of nodes, found by a hash table of the nodes. No two keys are equal.
 #[derive(Drop)]
@@ -48,7 +57,7 @@ impl<K: Eq + Hash, V, S: BuildHasher> KeyedList<K, V, S> {
     {
         KeyedList {
             nodes: Nodes::new(alloc),
-            table: Table::new(alloc),
+            table: Table::new(alloc, Node::nowhere()),
             hash_builder,
         }
     }
@@ -63,7 +72,7 @@ impl<K: Eq + Hash, V, S: BuildHasher> KeyedList<K, V, S> {
         ensures nothing { room ≡ 0 → result ≡ Ok (keyed [] 0 0 0 hash_builder) }
         ensures overflow { (result ≡ Err CapacityOverflow) ↔ (MAX_ROOM < room) }
     {
-        let table = Table::with_room(alloc, room)?;
+        let table = Table::with_room(alloc, Node::nowhere(), room)?;
         Ok(KeyedList {
             nodes: Nodes::new(alloc),
             table,

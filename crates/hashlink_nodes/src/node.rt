@@ -12,7 +12,7 @@ const _: () = prove!(size_of::<Node>() == 8);
 
 impl Node {
     /// No node of any ring.
-    pub(crate) fn nowhere() -> Node {
+    pub fn nowhere() -> Node {
         Node {
             at: ptr::null_mut(),
         }

@@ -1,9 +1,11 @@
 pub mod Cells
+pub mod Chaining
 pub mod Linking
+pub mod Moving
+pub mod Nodes
 pub mod Paths
 pub mod Results
 pub mod Sound
-pub mod Starts
 pub mod Threads
 pub mod Views
 pub mod Walks

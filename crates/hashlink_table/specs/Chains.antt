@@ -1,14 +1,14 @@
 -- How a `Table` chains its cells. No public clause cites this module.
 use Rattle.std.specs.Prelude.{◌≡◌, ◌≢◌, ℕ, suc, ◌+◌, ◌%◌, ◌^◌, ◌<◌, ◌≤◌, ◌⊎◌, List, [], ◌∷◌, ◌++◌, map}
 use Rattle.std.specs.Prelude.{length}
-use Rattle.std.specs.Prelude.{Option, Some, None, is_some, count_by, slice_index_or, slice_set}
-use Rattle.std.specs.FinMap.{from_sorted}
+use Rattle.std.specs.Prelude.{Option, Some, None, slice_index_or, slice_set}
 use Rattle.std.specs.Int.{IsPowerOfTwo}
 use Rattle.hashlink_table.specs.Contents.{Contents}
-use Rattle.hashlink_table.specs.Heads.{Starts}
 use Rattle.hashlink_table.specs.declared.kept.Kept.{Kept}
 use Rattle.hashlink_table.specs.declared.cell.Cell.{Cell}
 use Rattle.hashlink_table.specs.declared.cell.TheConstants.{END}
+use Rattle.hashlink_table.specs.declared.spot.Spot.{Spot}
+use Rattle.hashlink_table.specs.declared.spot.Spot.TheVariants.{First, Over}
 
 module _ {N : Type 0} where
   -- what a read past the last cell gives
@@ -30,23 +30,23 @@ module _ {N : Type 0} where
   abbrev pub chain_at : ℕ → List (Cell N) → ℕ → ℕ
   chain_at buckets cells i = slice_index_or (map (λ c. chain_of buckets c.kept) cells) i (suc buckets)
 
-  -- the entry of a cell, before the entries of later cells
-  abbrev pub with_entry : ℕ → Option (Kept N) → List (ℕ × Kept N) → List (ℕ × Kept N)
-  with_entry i None es = es
-  with_entry i (Some k) es = (i, k) ∷ es
+  -- the node of a cell, before those of later cells
+  abbrev pub with_node : Option (Kept N) → List (Kept N) → List (Kept N)
+  with_node None ks = ks
+  with_node (Some k) ks = k ∷ ks
 
-  -- the nodes of these cells, where the first has this number
-  abbrev pub entries_from : ℕ → List (Cell N) → List (ℕ × Kept N)
-  entries_from i [] = []
-  entries_from i (c ∷ cs) = with_entry i c.kept (entries_from (suc i) cs)
+  -- the nodes of these cells
+  abbrev pub nodes_in : List (Cell N) → List (Kept N)
+  nodes_in [] = []
+  nodes_in (c ∷ cs) = with_node c.kept (nodes_in cs)
 
-  -- what a contract sees of a table with these cells
-  unfoldable pub contents : List (Cell N) → ℕ → Contents N
-  contents cells room = record { nodes = from_sorted (entries_from 0 cells); room = room }
+  -- what a contract sees of a table with these cells, those of the buckets and those over
+  abbrev pub contents : List (Cell N) → List (Cell N) → ℕ → Contents N
+  contents firsts overs room = record { nodes = nodes_in firsts ++ nodes_in overs; room = room }
 
-  -- how many cells have a node
-  abbrev pub taken : List (Cell N) → ℕ
-  taken cells = count_by (λ c. is_some c.kept) cells
+  -- where the chains go on after the buckets' own cells
+  abbrev pub links_of : List (Cell N) → List ℕ
+  links_of firsts = map (λ c. c.next) firsts
 
 -- i is one of the list
 abbrev pub Among : List ℕ → ℕ → Type 0
@@ -84,7 +84,7 @@ IsLinkedBut heads cells free i =
 
 -- each cell keeps its node
 abbrev pub SameNodes : {N : Type 0} → List (Cell N) → List (Cell N) → Type 0
-SameNodes old new = (i : ℕ) → kept_at new i ≡ kept_at old i
+SameNodes old new = map (λ c. c.kept) new ≡ map (λ c. c.kept) old
 
 -- the cell went to the first free place, or after the last cell where none was free
 abbrev pub IsPlaced : {N : Type 0} → List (Cell N) → List (Cell N) → ℕ → ℕ → Cell N → ℕ → Type 0
@@ -92,18 +92,24 @@ IsPlaced old new free now cell at =
     ((free ≡ END) × (at ≡ length old) × (new ≡ old ++ cell ∷ []) × (now ≡ END))
     ⊎ ((free ≢ END) × (at ≡ free) × (new ≡ slice_set old at cell) × (now ≡ next_at old at))
 
--- the heads have place for the number of each cell, now and at full room
-abbrev pub IsFit : {N : Type 0} → Starts → List (Cell N) → ℕ → Type 0
-IsFit heads cells room = (length cells ≤ heads.most) × (room ≤ heads.most)
+-- the node in each bucket's own cell is of that bucket
+abbrev pub IsInPlace : {N : Type 0} → List (Cell N) → Type 0
+IsInPlace {N} firsts = (b : ℕ) (k : Kept N) → kept_at firsts b ≡ Some k → k.hash % length firsts ≡ b
 
 -- the fields of a table agree
-pub record IsSound {N : Type 0} (heads : List ℕ) (cells : List (Cell N))
+pub record IsSound {N : Type 0} (firsts overs : List (Cell N))
     (capacity free len room : ℕ) : Type 0 where
-  pub linked : IsLinked heads cells free
-  pub counted : len ≡ taken cells
+  pub linked : IsLinked (links_of firsts) overs free
+  pub in_place : IsInPlace firsts
+  pub counted : len ≡ length (nodes_in firsts ++ nodes_in overs)
   pub held : len ≤ room
-  pub headed : room ≤ length heads
+  pub headed : room ≤ length firsts
   pub reserved : room ≤ capacity
-  pub small : length heads ≤ 2 ^ 47
-  pub cells_small : length cells ≤ 2 ^ 47
-  pub masked : 0 < length heads → IsPowerOfTwo (length heads)
+  pub small : length firsts ≤ 2 ^ 30
+  pub overs_small : length overs ≤ 2 ^ 30
+  pub masked : 0 < length firsts → IsPowerOfTwo (length firsts)
+
+-- the node that a search found
+abbrev pub kept_by : {N : Type 0} → List (Cell N) → List (Cell N) → ℕ → Spot → Option (Kept N)
+kept_by firsts overs bucket First = kept_at firsts bucket
+kept_by firsts overs bucket (Over at) = kept_at overs at

@@ -1,17 +1,15 @@
-ghost use Rattle.std.specs.Prelude.{◌≡◌, ◌≤◌, IsSome, Some, None};
+ghost use Rattle.std.specs.Prelude.{◌≡◌, ◌≤◌, ◌≢◌, IfNone, IfSome, IsSome, IsTrue, Some, None, ◌↔◌};
 
 use super::kept::Kept;
 use std::marker::Model;
 
-/// What stands in place of a cell's number after the last cell of a chain. No address space has so many
-/// cells.
-pub const END: usize = (1 << 48) - 1;
+/// What stands in place of a cell's number after the last cell of a chain. No table has so many cells.
+pub const END: usize = (1 << 31) - 1;
 
-// How many numbers the lower part of a link has.
-const LOW: usize = 1 << 32;
+// What is added to the link of a cell without a node.
+const FREE: u32 = 1 << 31;
 
-/// What contracts see of a cell, a place for one node. Each cell is on one chain: a cell with a node on its
-/// bucket's, an empty one on that of the free cells.
+/// What contracts see of a cell, a place for one node.
 #[derive(Clone, Copy)]
 pub struct Cell<N> {
     pub kept: Option<Kept<N>>,
@@ -19,15 +17,13 @@ pub struct Cell<N> {
     pub next: usize,
 }
 
-/// A cell as the table stores it, in 16 bytes and a node: a free one still has what it had, so that a read of
-/// a cell which is known to have a node tests nothing.
+/// A cell as the table stores it, in 8 bytes and a node. A free one has a node too, which means nothing.
 #[derive(Drop)]
 pub struct Stored<N> {
-    is_free: bool,
-    // The next cell, in 48 bits.
-    next_high: u16,
-    next_low: u32,
-    kept: Kept<N>,
+    node: N,
+    hash: u32,
+    // The next cell, and whether the cell is free.
+    link: u32,
 }
 
 impl<N> Model for Stored<N> {
@@ -37,10 +33,21 @@ impl<N> Model for Stored<N> {
 
     ghost use Rattle.hashlink_table.specs.Stored.{cell_of};
 
-    ghost view = { λ s. cell_of s.is_free s.kept s.next_high s.next_low };
+    ghost view = { λ s. cell_of s.node s.hash s.link };
 }
 
 impl<N: Copy> Stored<N> {
+    /// A cell without a node, on no chain.
+    pub fn free(filler: N) -> Self
+        ensures { result ≡ record { kept = None; next = END } }
+    {
+        Stored {
+            node: filler,
+            hash: 0,
+            link: FREE + (END as u32),
+        }
+    }
+
     /// A cell with a node.
     #[inline]
     pub fn taken(kept: Kept<N>, next: usize) -> Self
@@ -48,11 +55,18 @@ impl<N: Copy> Stored<N> {
         ensures { result ≡ record { kept = Some kept; next = next } }
     {
         Stored {
-            is_free: false,
-            next_high: (next / LOW) as u16,
-            next_low: (next % LOW) as u32,
-            kept,
+            node: kept.node,
+            hash: kept.hash,
+            link: next as u32,
         }
+    }
+
+    /// Whether the cell has a node.
+    #[inline]
+    pub fn is_taken(&self) -> bool
+        ensures { IsTrue result ↔ IsSome self.now.kept }
+    {
+        self.link < FREE
     }
 
     /// What a cell has that is known to have a node.
@@ -61,14 +75,38 @@ impl<N: Copy> Stored<N> {
         requires { IsSome self.now.kept }
         ensures { self.now.kept ≡ Some result }
     {
-        self.kept
+        Kept {
+            hash: self.hash,
+            node: self.node,
+        }
     }
 
     #[inline]
     pub fn kept(&self) -> Option<Kept<N>>
         ensures { result ≡ self.now.kept }
     {
-        if self.is_free { None } else { Some(self.kept) }
+        if self.link < FREE {
+            Some(Kept {
+                hash: self.hash,
+                node: self.node,
+            })
+        } else {
+            None
+        }
+    }
+
+    /// The cell's node, if it has one under this hash.
+    #[inline]
+    pub fn under(&self, hash: u32) -> Option<N>
+        ensures here { IfSome result (λ node. self.now.kept ≡ Some (record { hash = hash; node = node })) }
+        ensures not_here { IfNone result
+            ((node : N) → self.now.kept ≢ Some (record { hash = hash; node = node })) }
+    {
+        if self.hash == hash && self.link < FREE {
+            Some(self.node)
+        } else {
+            None
+        }
     }
 
     #[inline]
@@ -76,16 +114,17 @@ impl<N: Copy> Stored<N> {
         ensures value { result ≡ self.now.next }
         ensures small { result ≤ END }
     {
-        self.next_high as usize * LOW + self.next_low as usize
+        (self.link % FREE) as usize
     }
 
+    /// Puts a node in, in place of what the cell had.
     #[inline]
-    pub fn set_next(&mut self, to: usize)
-        requires { to ≤ END }
-        ensures { self.new ≡ record self.old { next = to } }
+    pub fn put(&mut self, kept: Kept<N>)
+        ensures { self.new ≡ record self.old { kept = Some kept } }
     {
-        self.next_high = (to / LOW) as u16;
-        self.next_low = (to % LOW) as u32;
+        self.node = kept.node;
+        self.hash = kept.hash;
+        self.link %= FREE;
     }
 
     /// Takes the node out.
@@ -94,7 +133,14 @@ impl<N: Copy> Stored<N> {
         requires { next ≤ END }
         ensures { self.new ≡ record { kept = None; next = next } }
     {
-        self.is_free = true;
-        self.set_next(next);
+        self.link = FREE + next as u32;
+    }
+
+    #[inline]
+    pub fn set_next(&mut self, to: usize)
+        requires { to ≤ END }
+        ensures { self.new ≡ record self.old { next = to } }
+    {
+        self.link = self.link - self.link % FREE + to as u32;
     }
 }

@@ -1,4 +1,4 @@
-//! A hash table of nodes: which node stands under which hash, and in which cell.
+//! A hash table of nodes: which nodes stand under which hash.
 //!
 //! The table holds small handles and the hashes that it was given with them. It never hashes, and never
 //! compares keys: a find asks its caller's closure. All growth happens in `reserve`, so that an insert takes
@@ -8,9 +8,9 @@
 mod bucket;
 mod cell;
 mod error;
-mod heads;
 mod kept;
 mod links;
+mod spot;
 mod steps;
 mod table;
 
@@ -19,5 +19,5 @@ pub use kept::Kept;
 pub use steps::Steps;
 pub use table::{MAX_ROOM, Table};
 
-// A cell takes 16 bytes beside its node.
-const _: () = prove!(std::mem::size_of::<cell::Stored<u64>>() == 24);
+// A cell takes 8 bytes beside its node.
+const _: () = prove!(std::mem::size_of::<cell::Stored<u64>>() == 16);

@@ -1,59 +1,33 @@
 //! The chains that lead through the cells.
-ghost use Rattle.std.specs.Prelude.{◌≡◌, ◌≢◌, ℕ, ◌+◌, ◌%◌, ◌^◌, ◌<◌, ◌≤◌, ◌==◌, length, count_by, false};
-ghost use Rattle.std.specs.Prelude.{replicate};
-ghost use Rattle.std.specs.Prelude.{true, IfNone, IfSome, IsSome, Some, vec_capacity, vec_len};
+ghost use Rattle.std.specs.Prelude.{◌≡◌, ◌≢◌, ℕ, ◌+◌, ◌%◌, ◌^◌, ◌<◌, ◌≤◌, ◌==◌, ◌∷◌, ◌++◌, length, count_by, false};
+ghost use Rattle.std.specs.Prelude.{cond, is_some, true, IfNone, IfSome, IsPermutation, IsSome, Some};
+ghost use Rattle.std.specs.Prelude.{[], replicate, None, vec_capacity, vec_len};
 ghost use Rattle.std.specs.Int.{IsPowerOfTwo};
-ghost use Rattle.hashlink_table.specs.Chains.{chain_at, chain_of, kept_at, IsLinked, IsLinkedBut, IsPlaced};
-ghost use Rattle.hashlink_table.specs.Chains.{SameNodes};
-ghost use Rattle.hashlink_table.specs.Heads.{SameSize};
+ghost use Rattle.hashlink_table.specs.Chains.{chain_at, chain_of, kept_at, kept_by, links_of, nodes_in};
+ghost use Rattle.hashlink_table.specs.Chains.{IsInPlace, IsLinked, IsLinkedBut, IsPlaced, SameNodes};
+ghost use Rattle.hashlink_table.specs.declared.spot.Spot.TheVariants.{Over};
 
 use super::bucket::bucket_of;
 use super::cell::{END, Stored};
-use super::heads::Heads;
+use super::kept::Kept;
+use super::spot::Spot;
 use super::steps::Steps;
 use std::sync::ledger::Ledger;
 
-// Chains every cell anew, from heads that lead nowhere, and answers with the first free cell.
-pub fn relink<N: Copy>(heads: &mut Heads, cells: &mut [Stored<N>]) -> usize
-    requires masked { IsPowerOfTwo (length heads.old.firsts) }
-    requires bare { heads.old.firsts ≡ replicate (length heads.old.firsts) END }
-    requires small { length cells.old < END }
-    requires fit { length cells.old ≤ heads.old.most }
-    ensures linked { IsLinked heads.new.firsts cells.new result }
-    ensures nodes { SameNodes cells.old cells.new }
-    ensures size { SameSize heads.old heads.new }
+// Makes so many free cells.
+pub fn fill<N: Copy>(cells: &mut Vec<Stored<N>>, filler: N, count: usize)
+    requires empty { cells.old.items ≡ [] }
+    requires reserved { count ≤ vec_capacity cells.old }
+    ensures { cells.new.items ≡ replicate count (record { kept = None; next = END }) }
 {
-    let mut free = END;
-    for at in 0..cells.len() {
-        if let Some(kept) = cells[at].kept() {
-            let bucket = bucket_of(kept.hash, heads.len());
-            cells[at].set_next(heads.first(bucket));
-            heads.set_first(bucket, at);
-        } else {
-            cells[at].set_next(free);
-            free = at;
-        }
+    for _ in 0..count {
+        cells.push_reserved(Stored::free(filler));
     }
-    free
-}
-
-// Drops the cells after the last that has a node.
-pub fn trim<N: Copy>(cells: &mut Vec<Stored<N>>)
-    ensures nodes { SameNodes cells.old.items cells.new.items }
-    ensures len { vec_len cells.new ≤ vec_len cells.old }
-    ensures trimmed { (last : ℕ) → last + 1 ≡ vec_len cells.new → IsSome (kept_at cells.new.items last) }
-    ensures capacity { vec_capacity cells.new ≡ vec_capacity cells.old }
-{
-    let mut len = cells.len();
-    while len > 0 && cells[len - 1].kept().is_none() {
-        len -= 1;
-    }
-    cells.truncate(len);
 }
 
 // Puts a cell where the first free one is, or after the last where none is free, and answers where.
 #[inline]
-pub fn place<N: Copy>(cells: &mut Vec<Stored<N>>, free: &mut usize, cell: Stored<N>) -> usize
+fn place<N: Copy>(cells: &mut Vec<Stored<N>>, free: &mut usize, cell: Stored<N>) -> usize
     requires within { free.old ≢ END → free.old < vec_len cells.old }
     requires reserved { free.old ≡ END → vec_len cells.old < vec_capacity cells.old }
     requires small { free.old ≡ END → vec_len cells.old < END }
@@ -71,23 +45,76 @@ pub fn place<N: Copy>(cells: &mut Vec<Stored<N>>, free: &mut usize, cell: Stored
     at
 }
 
-// Takes a cell out of its bucket's chain: the link to it leads past it.
+// Chains a node in a cell over, right after its bucket's own.
+fn chain<N: Copy>(
+    firsts: &mut [Stored<N>],
+    cells: &mut Vec<Stored<N>>,
+    free: &mut usize,
+    bucket: usize,
+    kept: Kept<N>,
+)
+    requires within { bucket < length firsts.old }
+    requires bucket { bucket ≡ kept.hash % length firsts.old }
+    requires linked { IsLinked (links_of firsts.old) cells.old.items free.old }
+    requires reserved { free.old ≡ END → vec_len cells.old < vec_capacity cells.old }
+    requires small { vec_len cells.old < END }
+    ensures linked { IsLinked (links_of firsts.new) cells.new.items free.new }
+    ensures firsts { SameNodes firsts.old firsts.new }
+    ensures nodes { IsPermutation (kept ∷ nodes_in cells.old.items) (nodes_in cells.new.items) }
+    ensures capacity { vec_capacity cells.new ≡ vec_capacity cells.old }
+    ensures full { free.old ≡ END → vec_len cells.new ≡ vec_len cells.old + 1 }
+    ensures reused { free.old ≢ END → vec_len cells.new ≡ vec_len cells.old }
+{
+    let cell = Stored::taken(kept, firsts[bucket].next());
+    let at = place(cells, free, cell);
+    firsts[bucket].set_next(at);
+}
+
+// Puts a node into its bucket: into the bucket's own cell where that is free, and else into a cell over.
 #[inline]
-pub fn unlink<N: Copy>(heads: &mut Heads, cells: &mut [Stored<N>], bucket: usize, cell: usize)
-    requires within { bucket < length heads.old.firsts }
-    requires on_chain { chain_at (length heads.old.firsts) cells.old cell ≡ bucket }
-    requires linked { (free : ℕ) × IsLinked heads.old.firsts cells.old free }
+pub fn put<N: Copy>(
+    firsts: &mut [Stored<N>],
+    cells: &mut Vec<Stored<N>>,
+    free: &mut usize,
+    bucket: usize,
+    kept: Kept<N>,
+)
+    requires within { bucket < length firsts.old }
+    requires bucket { bucket ≡ kept.hash % length firsts.old }
+    requires linked { IsLinked (links_of firsts.old) cells.old.items free.old }
+    requires in_place { IsInPlace firsts.old }
+    requires reserved { free.old ≡ END → vec_len cells.old < vec_capacity cells.old }
+    requires small { vec_len cells.old < END }
+    ensures linked { IsLinked (links_of firsts.new) cells.new.items free.new }
+    ensures in_place { IsInPlace firsts.new }
+    ensures nodes { IsPermutation (kept ∷ nodes_in firsts.old ++ nodes_in cells.old.items)
+        (nodes_in firsts.new ++ nodes_in cells.new.items) }
+    ensures capacity { vec_capacity cells.new ≡ vec_capacity cells.old }
+    ensures full { free.old ≡ END → vec_len cells.new ≤ vec_len cells.old + 1 }
+    ensures reused { free.old ≢ END → vec_len cells.new ≤ vec_len cells.old }
+{
+    if firsts[bucket].is_taken() {
+        chain(firsts, cells, free, bucket, kept);
+    } else {
+        firsts[bucket].put(kept);
+    }
+}
+
+// Takes a cell out of its bucket's chain: the link to it leads past it.
+fn unlink<N: Copy>(firsts: &mut [Stored<N>], cells: &mut [Stored<N>], bucket: usize, cell: usize)
+    requires within { bucket < length firsts.old }
+    requires on_chain { chain_at (length firsts.old) cells.old cell ≡ bucket }
+    requires linked { (free : ℕ) × IsLinked (links_of firsts.old) cells.old free }
     requires small { length cells.old < END }
-    requires fit { length cells.old ≤ heads.old.most }
-    ensures unlinked { (free : ℕ) → IsLinked heads.old.firsts cells.old free
-        → IsLinkedBut heads.new.firsts cells.new free cell }
+    ensures unlinked { (free : ℕ) → IsLinked (links_of firsts.old) cells.old free
+        → IsLinkedBut (links_of firsts.new) cells.new free cell }
+    ensures firsts { SameNodes firsts.old firsts.new }
     ensures nodes { SameNodes cells.old cells.new }
-    ensures size { SameSize heads.old heads.new }
 {
     let after = cells[cell].next();
-    let mut at = heads.first(bucket);
+    let mut at = firsts[bucket].next();
     if at == cell {
-        heads.set_first(bucket, after);
+        firsts[bucket].set_next(after);
         return;
     }
     while cells[at].next() != cell {
@@ -96,55 +123,143 @@ pub fn unlink<N: Copy>(heads: &mut Heads, cells: &mut [Stored<N>], bucket: usize
     cells[at].set_next(after);
 }
 
-// The node of a cell that has one, if its hash is this one. Finds look at a stored hash here alone, and each
-// look takes a step.
+// Takes a node out of its cell over, which is then the first free one.
+pub fn take_out<N: Copy>(
+    firsts: &mut [Stored<N>],
+    cells: &mut [Stored<N>],
+    free: &mut usize,
+    bucket: usize,
+    cell: usize,
+) -> Kept<N>
+    requires within { bucket < length firsts.old }
+    requires on_chain { chain_at (length firsts.old) cells.old cell ≡ bucket }
+    requires linked { IsLinked (links_of firsts.old) cells.old free.old }
+    requires small { length cells.old < END }
+    ensures linked { IsLinked (links_of firsts.new) cells.new free.new }
+    ensures firsts { SameNodes firsts.old firsts.new }
+    ensures kept { kept_at cells.old cell ≡ Some result }
+    ensures nodes { IsPermutation (nodes_in cells.old) (result ∷ nodes_in cells.new) }
+{
+    unlink(firsts, cells, bucket, cell);
+    let kept = cells[cell].there();
+    cells[cell].set_free(*free);
+    *free = cell;
+    kept
+}
+
+// What the cell has that a search found.
 #[inline]
-fn look<N: Copy, L: Ledger>(cell: &Stored<N>, hash: u64, steps: &mut Steps<L>) -> Option<N>
-    requires { IsSome cell.now.kept }
-    ensures step { steps.new ≡ steps.old + 1 }
+pub fn found<N: Copy>(
+    firsts: &[Stored<N>],
+    cells: &[Stored<N>],
+    bucket: usize,
+    spot: Spot,
+) -> Kept<N>
+    requires { IsSome (kept_by firsts.now cells.now bucket spot) }
+    ensures { kept_by firsts.now cells.now bucket spot ≡ Some result }
+{
+    match spot {
+        Spot::First => firsts[bucket].there(),
+        Spot::Over(at) => cells[at].there(),
+    }
+}
+
+// Takes the node out that a search found. Where it was in its bucket's own cell, the chain's next moves there.
+pub fn take<N: Copy>(
+    firsts: &mut [Stored<N>],
+    cells: &mut [Stored<N>],
+    free: &mut usize,
+    bucket: usize,
+    spot: Spot,
+) -> Kept<N>
+    requires within { bucket < length firsts.old }
+    requires there { IsSome (kept_by firsts.old cells.old bucket spot) }
+    requires on_chain { (at : ℕ) → spot ≡ Over at → chain_at (length firsts.old) cells.old at ≡ bucket }
+    requires linked { IsLinked (links_of firsts.old) cells.old free.old }
+    requires in_place { IsInPlace firsts.old }
+    requires small { length cells.old < END }
+    ensures linked { IsLinked (links_of firsts.new) cells.new free.new }
+    ensures in_place { IsInPlace firsts.new }
+    ensures kept { kept_by firsts.old cells.old bucket spot ≡ Some result }
+    ensures nodes { IsPermutation (nodes_in firsts.old ++ nodes_in cells.old)
+        (result ∷ nodes_in firsts.new ++ nodes_in cells.new) }
+{
+    match spot {
+        Spot::First => {
+            let kept = firsts[bucket].there();
+            let next = firsts[bucket].next();
+            if next == END {
+                firsts[bucket].set_free(END);
+            } else {
+                let follower = take_out(firsts, cells, free, bucket, next);
+                firsts[bucket].put(follower);
+            }
+            kept
+        }
+        Spot::Over(at) => take_out(firsts, cells, free, bucket, at),
+    }
+}
+
+// The cell's node, if it has one under this hash. Finds look at a stored hash here alone, and each look at a
+// node's takes a step.
+#[inline]
+fn look<N: Copy, L: Ledger>(cell: &Stored<N>, hash: u32, steps: &mut Steps<L>) -> Option<N>
+    ensures step { steps.new ≡ steps.old + cond (is_some cell.now.kept) 1 0 }
     ensures here { IfSome result (λ node. cell.now.kept ≡ Some (record { hash = hash; node = node })) }
     ensures not_here { IfNone result
         ((node : N) → cell.now.kept ≢ Some (record { hash = hash; node = node })) }
 {
-    steps.tick();
-    let kept = cell.there();
-    if kept.hash == hash {
-        Some(kept.node)
-    } else {
-        None
+    if cell.is_taken() {
+        steps.tick();
     }
+    cell.under(hash)
 }
 
-// The first node of its bucket's chain that has this hash and matches.
+// Where the first node of its bucket is that has this hash and matches.
 #[inline]
 pub fn seek<N: Copy, F: Fn(N) -> bool, L: Ledger>(
-    heads: &Heads,
+    firsts: &[Stored<N>],
     cells: &[Stored<N>],
-    hash: u64,
+    hash: u32,
     is_match: F,
     steps: &mut Steps<L>,
-) -> Option<N>
-    requires masked { IsPowerOfTwo (length heads.now.firsts) }
-    requires linked { (free : ℕ) × IsLinked heads.now.firsts cells.now free }
+) -> Option<Spot>
+    requires masked { IsPowerOfTwo (length firsts.now) }
+    requires linked { (free : ℕ) × IsLinked (links_of firsts.now) cells.now free }
+    requires callable_first { (node : N) → kept_at firsts.now (hash % length firsts.now) ≡ Some
+        (record { hash = hash; node = node })
+        → F.pre is_match node }
     requires callable { (cell : ℕ) (node : N) → kept_at cells.now cell ≡ Some
         (record { hash = hash; node = node })
         → F.pre is_match node }
     ensures found { IfSome result
-        (λ node. (cell : ℕ) × (kept_at cells.now cell ≡ Some (record { hash = hash; node = node }))
+        (λ spot. (node : N) × (kept_by firsts.now cells.now (hash % length firsts.now) spot ≡ Some
+        (record { hash = hash; node = node }))
         × F.post is_match node true) }
+    ensures none_first { IfNone result
+        ((node : N) → kept_at firsts.now (hash % length firsts.now) ≡ Some
+        (record { hash = hash; node = node })
+        → F.post is_match node false) }
     ensures none { IfNone result
         ((cell : ℕ) (node : N) → kept_at cells.now cell ≡ Some (record { hash = hash; node = node })
         → F.post is_match node false) }
     ensures goes_on { steps.old ≤ steps.new }
-    ensures cost { let m = length heads.now.firsts in steps.new
-        ≤ steps.old + count_by (λ c. chain_of m c.kept == hash % m) cells.now }
+    ensures cost { let m = length firsts.now in let b = hash % m in steps.new
+        ≤ steps.old + cond (is_some (kept_at firsts.now b)) 1 0
+        + count_by (λ c. chain_of m c.kept == b) cells.now }
 {
-    let mut at = heads.first(bucket_of(hash, heads.len()));
+    let first = &firsts[bucket_of(hash, firsts.len())];
+    if let Some(node) = look(first, hash, steps) {
+        if is_match(node) {
+            return Some(Spot::First);
+        }
+    }
+    let mut at = first.next();
     while at != END {
         let cell = &cells[at];
         if let Some(node) = look(cell, hash, steps) {
             if is_match(node) {
-                return Some(node);
+                return Some(Spot::Over(at));
             }
         }
         at = cell.next();

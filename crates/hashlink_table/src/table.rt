@@ -1,15 +1,14 @@
-ghost use Rattle.std.specs.Prelude.{◌≡◌, ℕ, ◌+◌, ◌*◌, ◌^◌, ◌<◌, ◌≤◌, ◌↔◌, false, true, IfNone, IfOk, IfSome};
-ghost use Rattle.std.specs.Prelude.{IsOk};
-ghost use Rattle.std.specs.Prelude.{IsSome, IsTrue, OnErr, OnOk, None, Ok, Err, max};
-ghost use Rattle.std.specs.FinMap.{empty, get, insert, remove};
+ghost use Rattle.std.specs.Prelude.{◌≡◌, ℕ, ◌+◌, ◌*◌, ◌^◌, ◌<◌, ◌≤◌, ◌↔◌, ◌∷◌, ◌++◌, [], false, true};
+ghost use Rattle.std.specs.Prelude.{IfNone, IfOk, IfSome, IsOk, IsPermutation, IsTrue, OnErr, OnOk, Ok, Err};
+ghost use Rattle.std.specs.Prelude.{length, max};
 ghost use Rattle.std.specs.Int.{IsPowerOfTwo};
 ghost use Rattle.hashlink_table.specs.declared.error.TryReserveError.TheVariants.{CapacityOverflow};
+ghost use Rattle.hashlink_table.specs.Chains.{nodes_in};
 ghost use Rattle.hashlink_table.specs.Contents.{agreeing, len_of, Keeps};
 
-use super::bucket::{bucket_of, buckets_for};
+use super::bucket::bucket_of;
 use super::cell::{END, Stored};
 use super::error::TryReserveError;
-use super::heads::Heads;
 use super::kept::Kept;
 use super::links;
 use super::steps::Steps;
@@ -20,27 +19,29 @@ use std::sync::ledger::{Blank, Ledger};
 /// The most nodes that a table can be asked to have room for.
 pub const MAX_ROOM: usize = 1 << 62;
 
-// The most buckets that a table has. No machine has the memory for as many heads, so the request for it is
-// refused.
-const MAX_BUCKETS: usize = 1 << 47;
+// The most buckets that a table has, so that the cells' numbers fit into a link. A request for more is refused
+// as one for memory.
+const MAX_BUCKETS: usize = 1 << 30;
 
 // The least room that a table grows to.
 const MIN_ROOM: usize = 4;
 
-/// Nodes by their hashes. A node keeps the number of its cell until it is removed.
+/// Nodes by their hashes.
 ///
-/// It takes no memory when made, then 4 bytes for each bucket's head, or 8 where there is room for 2 to the
-/// power of 32 nodes, and 16 bytes and a node for each cell.
+/// It takes no memory when made, then 8 bytes and a node for each bucket, of which there are as many as it has
+/// room for nodes or up to twice, and as much for each cell over.
 #[derive(Drop)]
 pub struct Table<N> {
-    // There are none or a power of two.
-    heads: Heads,
-    cells: Vec<Stored<N>>,
-    // The first cell without a node, or `END`.
+    // The buckets' own cells. There are none or a power of two.
+    firsts: Vec<Stored<N>>,
+    // The cells of the nodes that share a bucket with another.
+    overs: Vec<Stored<N>>,
+    // The first cell over without a node, or `END`.
     free: usize,
-    // How many cells have a node.
     len: usize,
     room: usize,
+    // What a cell without a node has in place of one.
+    filler: N,
 }
 
 impl<N> Model for Table<N> {
@@ -51,39 +52,65 @@ impl<N> Model for Table<N> {
 
     ghost coded = { contents_code N.code };
 
-    ghost use Rattle.hashlink_table.specs.Chains.{contents, IsFit, IsSound};
+    ghost use Rattle.hashlink_table.specs.Chains.{contents, IsSound};
 
-    ghost view = { λ t. contents t.cells.items t.room };
+    ghost view = { λ t. contents t.firsts.items t.overs.items t.room };
 
-    ghost invariant = { λ t. IsFit t.heads t.cells.items t.room
-        × IsSound t.heads.firsts t.cells.items (vec_capacity t.cells) t.free t.len t.room };
+    ghost invariant = { λ t. IsSound t.firsts.items t.overs.items (vec_capacity t.overs) t.free t.len
+        t.room };
 }
 
 impl<N: Copy> Table<N> {
-    /// An empty table, which takes no memory.
-    pub fn new(alloc: Global) -> Self
-        ensures { result ≡ record { nodes = empty; room = 0 } }
+    /// An empty table, which takes no memory. The filler is any node; cells that have none are filled with it.
+    pub fn new(alloc: Global, filler: N) -> Self
+        ensures { result ≡ record { nodes = []; room = 0 } }
     {
         Table {
-            heads: Heads::none(alloc),
-            cells: Vec::new(alloc),
+            firsts: Vec::new(alloc),
+            overs: Vec::new(alloc),
             free: END,
             len: 0,
             room: 0,
+            filler,
         }
     }
 
     /// An empty table with room for so many nodes, and without memory for none.
-    pub fn with_room(alloc: Global, room: usize) -> Result<Self, TryReserveError>
-        ensures empty { IfOk result (λ t. t.nodes ≡ empty) }
+    pub fn with_room(alloc: Global, filler: N, room: usize) -> Result<Self, TryReserveError>
+        ensures empty { IfOk result (λ t. t.nodes ≡ []) }
         ensures room { IfOk result (λ t. room ≤ t.room) }
         ensures bound { IfOk result (λ t. t.room ≤ 2 * max 4 room) }
-        ensures nothing { room ≡ 0 → result ≡ Ok (record { nodes = empty; room = 0 }) }
+        ensures nothing { room ≡ 0 → result ≡ Ok (record { nodes = []; room = 0 }) }
         ensures overflow { (result ≡ Err CapacityOverflow) ↔ (MAX_ROOM < room) }
     {
-        let mut table = Table::new(alloc);
+        let mut table = Table::new(alloc, filler);
         table.reserve(room)?;
         Ok(table)
+    }
+
+    // An empty table with so many buckets.
+    fn with_buckets(
+        alloc: Global,
+        filler: N,
+        buckets: usize,
+        room: usize,
+    ) -> Result<Self, AllocError>
+        requires power { IsPowerOfTwo buckets }
+        requires small { buckets ≤ 2 ^ 30 }
+        requires headed { room ≤ buckets }
+        ensures { IfOk result (λ t. t ≡ record { nodes = []; room = room }) }
+    {
+        let mut firsts = Vec::with_capacity(alloc, buckets)?;
+        links::fill(&mut firsts, filler, buckets);
+        let overs = Vec::with_capacity(alloc, room)?;
+        Ok(Table {
+            firsts,
+            overs,
+            free: END,
+            len: 0,
+            room,
+            filler,
+        })
     }
 
     /// How many nodes the table holds.
@@ -109,65 +136,99 @@ impl<N: Copy> Table<N> {
         ensures value { result ≡ self.now.room }
         ensures small { result ≤ 2 ^ 62 }
     {
-        self.room // which the heads and the memory of the cells allow
+        self.room // which the buckets and the memory of the cells over allow
     }
 
-    /// The hash that the node in a cell was inserted with.
+    /// Puts a node in under its hash. It takes no memory.
     #[inline]
-    pub fn hash(&self, cell: usize) -> u64
-        requires { IsSome (get self.now.nodes cell) }
-        ensures { IfSome (get self.now.nodes cell) (λ kept. result ≡ kept.hash) }
-    {
-        self.cells[cell].there().hash
-    }
-
-    /// Puts a node in under its hash, and returns the number of its cell. It takes no memory.
-    #[inline]
-    pub fn insert_reserved(&mut self, hash: u64, node: N) -> usize
+    pub fn insert_reserved(&mut self, hash: u32, node: N)
         requires { len_of self.old < self.old.room }
-        ensures was_free { get self.old.nodes result ≡ None }
-        ensures inserted { self.new ≡ record self.old {
-          nodes = insert self.old.nodes result (record { hash = hash; node = node });
-        } }
-        ensures small { result < 2 ^ 47 }
+        ensures inserted { IsPermutation (record { hash = hash; node = node } ∷ self.old.nodes)
+            self.new.nodes }
+        ensures room { self.new.room ≡ self.old.room }
     {
-        let bucket = bucket_of(hash, self.heads.len());
-        let cell = Stored::taken(Kept { hash, node }, self.heads.first(bucket));
-        let at = links::place(&mut self.cells, &mut self.free, cell);
-        self.heads.set_first(bucket, at);
+        let bucket = bucket_of(hash, self.firsts.len());
+        let kept = Kept { hash, node };
+        links::put(
+            &mut self.firsts,
+            &mut self.overs,
+            &mut self.free,
+            bucket,
+            kept,
+        );
         self.len += 1;
-        at
     }
 
-    /// Takes the node out of a cell, which frees its room. It walks the cells of that bucket alone, and
-    /// compares no keys.
+    /// Takes a node of this hash out that matches, which frees its room, and returns it. It asks `is_match` at
+    /// nodes of this hash alone, and compares no keys.
     #[inline]
-    pub fn remove(&mut self, cell: usize)
-        requires { IsSome (get self.old.nodes cell) }
-        ensures { self.new ≡ record self.old { nodes = remove self.old.nodes cell } }
+    pub fn remove<F: Fn(N) -> bool>(&mut self, hash: u32, is_match: F) -> Option<N>
+        requires { (node : N) → Keeps self.old hash node → F.pre is_match node }
+        ensures removed { IfSome result (λ node. IsPermutation self.old.nodes
+            (record { hash = hash; node = node } ∷ self.new.nodes)
+            × F.post is_match node true) }
+        ensures none { IfNone result
+            ((node : N) → Keeps self.old hash node → F.post is_match node false) }
+        ensures same { IfNone result (self.new ≡ self.old) }
+        ensures room { self.new.room ≡ self.old.room }
     {
-        let bucket = bucket_of(self.cells[cell].there().hash, self.heads.len());
-        links::unlink(&mut self.heads, &mut self.cells, bucket, cell);
-        self.cells[cell].set_free(self.free);
-        self.free = cell;
-        self.len -= 1;
+        self.remove_from::<F, Brand>(hash, is_match, Blank::new(1))
+    }
+
+    // `remove`, with a counter for the search.
+    fn remove_from<F: Fn(N) -> bool, L: Ledger>(
+        &mut self,
+        hash: u32,
+        is_match: F,
+        blank: Blank,
+    ) -> Option<N>
+        requires name { blank.name ≡ L.name }
+        requires parts { blank.parts ≡ L.parts }
+        requires some_part { 0 < blank.parts }
+        requires callable { (node : N) → Keeps self.old hash node → F.pre is_match node }
+        ensures removed { IfSome result (λ node. IsPermutation self.old.nodes
+            (record { hash = hash; node = node } ∷ self.new.nodes)
+            × F.post is_match node true) }
+        ensures none { IfNone result
+            ((node : N) → Keeps self.old hash node → F.post is_match node false) }
+        ensures same { IfNone result (self.new ≡ self.old) }
+        ensures room { self.new.room ≡ self.old.room }
+    {
+        if self.len == 0 {
+            return None;
+        }
+        let mut steps = Steps::<L>::new(blank);
+        match links::seek(&self.firsts, &self.overs, hash, is_match, &mut steps) {
+            None => None,
+            Some(spot) => {
+                let bucket = bucket_of(hash, self.firsts.len());
+                let kept = links::take(
+                    &mut self.firsts,
+                    &mut self.overs,
+                    &mut self.free,
+                    bucket,
+                    spot,
+                );
+                self.len -= 1;
+                Some(kept.node)
+            }
+        }
     }
 
     /// The node of this hash that matches, where no more than one does: the first of the hash's bucket. It
-    /// asks
-    /// `is_match` at nodes of this hash alone, and takes a step for each node of the bucket that it passes.
+    /// asks `is_match` at nodes of this hash alone, and takes a step for each node of the bucket that it
+    /// passes.
     #[inline]
     pub fn find<F: Fn(N) -> bool, L: Ledger>(
         &self,
-        hash: u64,
+        hash: u32,
         is_match: F,
         steps: &mut Steps<L>,
     ) -> Option<N>
-        requires { (cell : ℕ) (node : N) → Keeps self.now cell hash node → F.pre is_match node }
-        ensures found { IfSome result
-            (λ node. (cell : ℕ) × Keeps self.now cell hash node × F.post is_match node true) }
+        requires { (node : N) → Keeps self.now hash node → F.pre is_match node }
+        ensures found { IfSome result (λ node. Keeps self.now hash node × F.post is_match node true) }
         ensures none { IfNone result
-            ((cell : ℕ) (node : N) → Keeps self.now cell hash node → F.post is_match node false) }
+            ((node : N) → Keeps self.now hash node → F.post is_match node false) }
         ensures goes_on { steps.old ≤ steps.new }
         ensures cost { (m : ℕ) × (0 < m) × (self.now.room ≤ m)
             × (steps.new ≤ steps.old + agreeing self.now hash m) }
@@ -175,17 +236,23 @@ impl<N: Copy> Table<N> {
         if self.len == 0 {
             return None;
         }
-        links::seek(&self.heads, &self.cells, hash, is_match, steps)
+        match links::seek(&self.firsts, &self.overs, hash, is_match, steps) {
+            None => None,
+            Some(spot) => {
+                let bucket = bucket_of(hash, self.firsts.len());
+                Some(links::found(&self.firsts, &self.overs, bucket, spot).node)
+            }
+        }
     }
 
     /// `find`, where nobody counts the steps.
     #[inline]
-    pub fn look_up<F: Fn(N) -> bool>(&self, hash: u64, is_match: F) -> Option<N>
-        requires { (cell : ℕ) (node : N) → Keeps self.now cell hash node → F.pre is_match node }
+    pub fn look_up<F: Fn(N) -> bool>(&self, hash: u32, is_match: F) -> Option<N>
+        requires { (node : N) → Keeps self.now hash node → F.pre is_match node }
         ensures found { IfSome result
-            (λ node. (cell : ℕ) × Keeps self.now cell hash node × F.post is_match node true) }
+            (λ node. Keeps self.now hash node × F.post is_match node true) }
         ensures none { IfNone result
-            ((cell : ℕ) (node : N) → Keeps self.now cell hash node → F.post is_match node false) }
+            ((node : N) → Keeps self.now hash node → F.post is_match node false) }
     {
         self.find_from::<F, Brand>(hash, is_match, Blank::new(1))
     }
@@ -194,39 +261,41 @@ impl<N: Copy> Table<N> {
     #[inline]
     fn find_from<F: Fn(N) -> bool, L: Ledger>(
         &self,
-        hash: u64,
+        hash: u32,
         is_match: F,
         blank: Blank,
     ) -> Option<N>
         requires name { blank.name ≡ L.name }
         requires parts { blank.parts ≡ L.parts }
         requires some_part { 0 < blank.parts }
-        requires callable { (cell : ℕ) (node : N) → Keeps self.now cell hash node → F.pre is_match node }
+        requires callable { (node : N) → Keeps self.now hash node → F.pre is_match node }
         ensures found { IfSome result
-            (λ node. (cell : ℕ) × Keeps self.now cell hash node × F.post is_match node true) }
+            (λ node. Keeps self.now hash node × F.post is_match node true) }
         ensures none { IfNone result
-            ((cell : ℕ) (node : N) → Keeps self.now cell hash node → F.post is_match node false) }
+            ((node : N) → Keeps self.now hash node → F.post is_match node false) }
     {
         let mut steps = Steps::<L>::new(blank);
         self.find(hash, is_match, &mut steps)
     }
 
-    /// Takes every node out, and keeps the room. It walks the buckets' heads.
+    /// Takes every node out, and keeps the room. It walks the buckets.
     pub fn clear(&mut self)
-        ensures { self.new ≡ record self.old { nodes = empty } }
+        ensures { self.new ≡ record self.old { nodes = [] } }
     {
-        self.heads.clear();
-        self.cells.clear();
+        let buckets = self.firsts.len();
+        self.firsts.clear();
+        links::fill(&mut self.firsts, self.filler, buckets);
+        self.overs.clear();
         self.free = END;
         self.len = 0;
     }
 
-    /// Makes room for so many more nodes, by doubling, where there is less. It hashes nothing, and each node
-    /// keeps its cell. A refusal leaves everything as it was.
+    /// Makes room for so many more nodes, by doubling, where there is less. It hashes nothing. A refusal leaves
+    /// everything as it was.
     #[inline]
     pub fn reserve(&mut self, additional: usize) -> Result<(), TryReserveError>
         ensures ok { OnOk result (len_of self.old + additional ≤ self.new.room) }
-        ensures nodes { self.new.nodes ≡ self.old.nodes }
+        ensures nodes { IsPermutation self.old.nodes self.new.nodes }
         ensures room { self.old.room ≤ self.new.room }
         ensures bound { self.new.room ≤ max self.old.room (2 * max 4 (len_of self.old + additional)) }
         ensures err { OnErr result (self.new ≡ self.old) }
@@ -243,53 +312,58 @@ impl<N: Copy> Table<N> {
         }
         let needed = self.len + additional;
         let room = needed.max(MIN_ROOM).next_power_of_two();
-        self.rebuild(buckets_for(room), room)?;
+        self.rebuild(room, room)?;
         Ok(())
     }
 
-    /// Gives memory back: the room is the length afterwards, and without nodes the table holds no memory.
-    /// Each node keeps its cell, so that the memory of the cells below the last one with a node stays. A
+    /// Gives memory back: the room is the length afterwards, and without nodes the table holds no memory. A
     /// refusal leaves everything as it was.
     pub fn shrink(&mut self) -> Result<(), AllocError>
-        ensures ok { OnOk result (self.new ≡ record self.old { room = len_of self.old }) }
+        ensures nodes { IsPermutation self.old.nodes self.new.nodes }
+        ensures ok { OnOk result (self.new.room ≡ len_of self.old) }
         ensures err { OnErr result (self.new ≡ self.old) }
         ensures empty { len_of self.old ≡ 0 → IsOk result }
     {
         if self.len == 0 {
-            let alloc = *self.cells.allocator();
-            self.heads = Heads::none(alloc);
-            self.cells = Vec::new(alloc);
-            self.free = END;
-            self.room = 0;
+            let alloc = *self.overs.allocator();
+            *self = Table::new(alloc, self.filler);
             return Ok(());
         }
         let len = self.len;
-        self.rebuild(buckets_for(len.next_power_of_two()), len)?;
-        self.cells.shrink_to(len);
-        Ok(())
+        self.rebuild(len.next_power_of_two(), len)
     }
 
-    // Chains the cells anew from so many heads, for this room. A refusal leaves everything as it was.
+    // Puts the nodes into so many new buckets, for this room. A refusal leaves everything as it was.
     #[cold]
     fn rebuild(&mut self, buckets: usize, room: usize) -> Result<(), AllocError>
         requires power { IsPowerOfTwo buckets }
-        requires small { buckets ≤ 2 ^ 63 }
         requires held { len_of self.old ≤ room }
         requires headed { room ≤ buckets }
-        ensures ok { OnOk result (self.new ≡ record self.old { room = room }) }
+        ensures nodes { IsPermutation self.old.nodes self.new.nodes }
+        ensures ok { OnOk result (self.new.room ≡ room) }
         ensures err { OnErr result (self.new ≡ self.old) }
     {
         if buckets > MAX_BUCKETS {
             return Err(AllocError);
         }
-        let alloc = *self.cells.allocator();
-        let mut heads = Heads::new(alloc, buckets, room.max(self.cells.len()))?;
-        let more = room.saturating_sub(self.cells.len());
-        self.cells.reserve_exact(more)?;
-        links::trim(&mut self.cells);
-        self.free = links::relink(&mut heads, &mut self.cells);
-        self.heads = heads;
-        self.room = room;
+        let alloc = *self.overs.allocator();
+        let mut table = Table::with_buckets(alloc, self.filler, buckets, room)?;
+        table.insert_all(&self.firsts);
+        table.insert_all(&self.overs);
+        *self = table;
         Ok(())
+    }
+
+    // Puts the nodes of these cells in.
+    fn insert_all(&mut self, cells: &[Stored<N>])
+        requires { len_of self.old + length (nodes_in cells.now) ≤ self.old.room }
+        ensures inserted { IsPermutation (self.old.nodes ++ nodes_in cells.now) self.new.nodes }
+        ensures room { self.new.room ≡ self.old.room }
+    {
+        for cell in cells {
+            if let Some(kept) = cell.kept() {
+                self.insert_reserved(kept.hash, kept.node);
+            }
+        }
     }
 }

@@ -11,12 +11,12 @@ use std::test::Fail;
 #[derive(Clone, Copy)]
 struct Hashes {
     mask: u32,
-    factor: u64,
+    factor: u32,
 }
 
 impl Hashes {
-    fn of(self, number: u32) -> u64 {
-        u64::from(number & self.mask).wrapping_mul(self.factor)
+    fn of(self, number: u32) -> u32 {
+        (number & self.mask).wrapping_mul(self.factor)
     }
 }
 
@@ -41,29 +41,28 @@ const HASHES: [Hashes; 4] = [
 #[tactic(auto, using(crate::proofs::Callers::inserted))]
 fn put_second(
     table: &mut Table<u32>,
-    hash: u64,
+    hash: u32,
     first: u32,
     second: u32,
 ) -> Result<(), TryReserveError> {
     table.reserve(2)?;
-    let gone = table.insert_reserved(hash, first);
+    table.insert_reserved(hash, first);
     table.insert_reserved(hash, second);
-    table.remove(gone);
+    table.remove(hash, |node| node == first);
     Ok(())
 }
 
-/// Puts a number in under the hash, and returns the hash that is kept with it.
-#[tactic(auto, using(crate::proofs::Callers::inserted))]
-fn kept_hash(table: &mut Table<u32>, hash: u64, number: u32) -> Result<u64, TryReserveError> {
+/// Puts a number in under the hash.
+fn put(table: &mut Table<u32>, hash: u32, number: u32) -> Result<(), TryReserveError> {
     table.reserve(1)?;
-    let cell = table.insert_reserved(hash, number);
-    Ok(table.hash(cell))
+    table.insert_reserved(hash, number);
+    Ok(())
 }
 
 /// A table of the numbers below 300. Each was inserted after another under the same hash, which was removed
 /// again.
 fn table_of(alloc: Global, hashes: Hashes) -> Result<Table<u32>, TryReserveError> {
-    let mut table = Table::new(alloc);
+    let mut table = Table::new(alloc, 0);
     for number in 0..300u32 {
         put_second(&mut table, hashes.of(number), number + 1000, number)?;
     }
@@ -71,7 +70,7 @@ fn table_of(alloc: Global, hashes: Hashes) -> Result<Table<u32>, TryReserveError
 }
 
 /// Whether a number is found.
-fn has(table: &Table<u32>, hash: u64, number: u32) -> bool {
+fn has(table: &Table<u32>, hash: u32, number: u32) -> bool {
     table.look_up(hash, |node| node == number) == Some(number)
 }
 
@@ -90,10 +89,10 @@ fn finds(table: &Table<u32>, hashes: Hashes) -> bool {
 fn numbered(alloc: Global) -> Result<Table<u32>, Fail>
     ensures { IfOk result (λ t. (hash m : ℕ) → t.room ≤ m → agreeing t hash m ≤ 2) }
 {
-    let mut table = Table::new(alloc);
+    let mut table = Table::new(alloc, 0);
     for number in 1..501u32 {
         table.reserve(1)?;
-        table.insert_reserved(u64::from(number), number);
+        table.insert_reserved(number, number);
     }
     Ok(table)
 }
@@ -105,7 +104,7 @@ fn find_each<L: Ledger>(table: &Table<u32>, steps: &mut Steps<L>) -> bool
 {
     let mut all = true;
     for number in 1..501u32 {
-        if table.find(u64::from(number), |node| node == number, steps) != Some(number) {
+        if table.find(number, |node| node == number, steps) != Some(number) {
             all = false;
         }
     }
@@ -135,7 +134,7 @@ fn found(alloc: Global, hashes: Hashes) -> Result<[bool; 5], TryReserveError> {
     let mut table = table_of(alloc, hashes)?;
     let stays = finds(&table, hashes);
     // The test is asked of no number.
-    let is_strange = table.look_up(u64::MAX, |_node| true).is_some();
+    let is_strange = table.look_up(u32::MAX, |_node| true).is_some();
     let still = table.shrink().is_ok() && finds(&table, hashes);
     table.clear();
     let is_left = has(&table, hashes.of(7), 7);
@@ -165,11 +164,11 @@ fn finds_what_stays_whatever_the_hashes_agree_in(rt: HostRuntime) {
 
 /// What comes of an absurd room, and whether the table of one number then is as it was.
 fn refuse(alloc: Global) -> ([Result<(), TryReserveError>; 2], bool) {
-    let mut table = Table::<u32>::new(alloc);
-    let kept = kept_hash(&mut table, 5, 7);
+    let mut table = Table::<u32>::new(alloc, 0);
+    let is_put = put(&mut table, 5, 7).is_ok();
     let room = table.room();
     let refused = [table.reserve(1 << 61), table.reserve(usize::MAX)];
-    let is_same = (kept, table.len(), table.room()) == (Ok(5), 1, room);
+    let is_same = (is_put, table.len(), table.room()) == (true, 1, room);
     (refused, is_same & has(&table, 5, 7))
 }
 

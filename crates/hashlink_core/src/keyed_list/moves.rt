@@ -1,6 +1,7 @@
 //! How entries come, move and leave.
-ghost use Rattle.std.specs.Prelude.{◌≡◌, [], length, slice_get, None, Some, IfOk, IfErr, OnErr};
-ghost use Rattle.std.specs.Map.{remove_entry};
+ghost use Rattle.std.specs.Prelude.{◌≡◌, [], length, slice_get, eqb, None, Some, IfOk, IfErr, OnErr};
+ghost use Rattle.std.specs.Option.{option_map};
+ghost use Rattle.std.specs.Map.{lookup, remove_entry};
 ghost use Rattle.hashlink_model.specs.Cursor.{following_place};
 ghost use Rattle.hashlink_model.specs.Entries.{place_of};
 ghost use Rattle.hashlink_nodes.specs.Node.{same_node};
@@ -11,9 +12,12 @@ ghost use Rattle.hashlink_core.specs.Steps.{AddsNode, RemovesNode, MovesNode, Gr
 ghost use Rattle.hashlink_core.specs.Tied.{hash_with};
 ghost use Rattle.hashlink_model.specs.Steps.{Clears};
 
-use super::KeyedList;
+use super::{KeyedList, short_hash};
 use hashlink_nodes::Node;
 use std::hash::{BuildHasher, Hash};
+
+// The number of a node that leaves the table: no short hash.
+const LEAVING: usize = 1 << 32;
 
 impl<K: Eq + Hash, V, S: BuildHasher> KeyedList<K, V, S> {
     /// Puts a pair with a new key, which has this hash, right before the place. Where no node is spare it
@@ -40,9 +44,9 @@ impl<K: Eq + Hash, V, S: BuildHasher> KeyedList<K, V, S> {
         if self.reserve(1).is_err() {
             return Err((key, value));
         }
-        let node = self.nodes.push_before(place, 0, key, value)?;
-        let cell = self.table.insert_reserved(hash, node);
-        self.nodes.set_number(node, cell);
+        let short = short_hash(hash);
+        let node = self.nodes.push_before(place, short as usize, key, value)?;
+        self.table.insert_reserved(short, node);
         Ok(node)
     }
 
@@ -78,7 +82,16 @@ impl<K: Eq + Hash, V, S: BuildHasher> KeyedList<K, V, S> {
         ensures removed { RemovesNode self.old self.new (place_number self.old.nodes (Some node)) }
         ensures sound { IsKeyed K.eq self.new }
     {
-        self.table.remove(self.nodes.number(node));
+        // It gets a number that no node in the table has, and is found by that: no key is hashed or compared.
+        let number = self.nodes.number(node);
+        self.nodes.set_number(node, LEAVING);
+        let nodes = &self.nodes;
+        let is_leaving = |other: Node| -> bool
+            requires { Holds nodes.now.entries other }
+            ensures { option_map (λ held. eqb held.number LEAVING)
+                (lookup (same_node other) nodes.entry.now.entries) ≡ Some result }
+        { nodes.number(other) == LEAVING };
+        self.table.remove(number as u32, is_leaving);
         self.nodes.detach_into_free(node)
     }
 

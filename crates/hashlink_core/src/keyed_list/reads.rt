@@ -14,7 +14,7 @@ ghost use Rattle.hashlink_core.specs.Places.{place_number, IsPlaceAt};
 ghost use Rattle.hashlink_core.specs.Tied.{hash_with};
 ghost use Rattle.hashlink_core.specs.Telling.{Tells, TellsMatch};
 
-use super::KeyedList;
+use super::{KeyedList, short_hash};
 use crate::equivalent::Equivalent;
 use crate::iter::{Iter, Keys, Values};
 use hashlink_nodes::Node;
@@ -86,7 +86,7 @@ impl<K: Eq + Hash, V, S: BuildHasher> KeyedList<K, V, S> {
             ensures { IfSome (lookup (same_node node) nodes.entry.now.entries)
                 (λ held. FnReturnsAt F.Fn is_match held.key result) }
         { is_match(nodes.entry(node).0) };
-        self.table.look_up(hash, holds_match)
+        self.table.look_up(short_hash(hash), holds_match)
     }
 
     /// The first place: the guard where there is no entry.
@@ -145,6 +145,7 @@ impl<K: Eq + Hash, V, S: BuildHasher> KeyedList<K, V, S> {
         ensures { IsTrue result ↔ (a ≡ b) }
     {
         self.nodes.number(a) == self.nodes.number(b)
+            && *self.nodes.entry(a).0 == *self.nodes.entry(b).0
     }
 
     /// A walk over the entries, front first. It takes no memory, and each step takes constant time.

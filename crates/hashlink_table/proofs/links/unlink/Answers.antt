@@ -1,36 +1,51 @@
 use Rattle.hashlink_table.specs.declared.cell.Cell.{Cell}
-use Rattle.std.proofs.Common.{ℕ, ◌<◌, refl, length, sym, ap, ◌∙◌, subst, inl, inr, arith}
-use Rattle.std.proofs.lemmas.List.{length-set}
-use Rattle.hashlink_table.specs.Chains.{next_at, chain_at, Among}
+use Rattle.std.proofs.Common.{ℕ, ◌<◌, length, sym, ap, ◌∙◌, subst, inl, inr, arith}
+use Rattle.std.proofs.Math.Seq.{map-set_same}
+use Rattle.hashlink_table.specs.Chains.{next_at, chain_at, links_of, Among, IsLinkedBut}
+use Rattle.hashlink_table.proofs.Chaining.{length-links, link_read, link_set}
 use Rattle.hashlink_table.proofs.Cells.{within_by_chain, kept_at_read, next_at_read}
 use Rattle.hashlink_table.proofs.Linking.{unlinked_first, unlinked_next}
-use Rattle.hashlink_table.proofs.Walks.{IsWalk, walk_of, walk_on, walk_at, walk_goes, second_within}
+use Rattle.hashlink_table.proofs.Walks.{IsWalk, walk_of, walk_on, walk_at, walk_goes}
 use Rattle.hashlink_table.proofs.Walks.{steps_left}
 use Rattle.hashlink_table.proofs.Walks.{steps_left-falls}
 use Rattle.hashlink_table.proofs.links.unlink.Goals as goal
 
 pub returns-then-at-cell-clause-unlinked : goal.returns-then-at-cell-clause-unlinked
 returns-then-at-cell-clause-unlinked g c =
-    let heads = c.args.heads.now.firsts in let cells = c.args.cells.now in
+    let C : Type 0 = Cell g.row.N.Denot in
+    let firsts = c.args.firsts.now in let cells = c.args.cells.now in
+    let heads = links_of firsts in
+    let n = length-links firsts in
+    let on = ap (λ m. chain_at m cells c.args.cell) n ∙ c.requires.on_chain in
+    let low : c.args.bucket < length heads = omega (arith, c.requires.within, n) in
     let within : c.args.cell < length cells
-    = within_by_chain (length heads) cells c.args.cell c.args.bucket c.requires.on_chain (omega arith) in
-    λ free linked. rw (
-      c.set_first.ensures,
-      c.next-after.ensures.value ∙ next_at_read cells c.args.cell c.index-cells-cell.result within,
-    )
-    (unlinked_first heads cells free c.args.bucket c.args.cell c.requires.within
-    (sym c.first-at.ensures ∙ c.if-at-cell.true)
-    (λ e. omega arith) c.requires.on_chain linked)
+    = within_by_chain (length heads) cells c.args.cell c.args.bucket on (omega arith) in
+    let start = link_read firsts c.args.bucket c.requires.within
+    ∙ sym (next_at_read firsts c.args.bucket c.index-firsts-bucket.result c.requires.within)
+    ∙ sym c.next-at.ensures.value in
+    let to = ap (λ (d : C). d.next) c.set_next.ensures ∙ c.next-after.ensures.value
+    ∙ next_at_read cells c.args.cell c.index-cells-cell.result within in
+    λ free linked.
+    subst (λ hs. IsLinkedBut hs cells free c.args.cell)
+    (sym (link_set firsts c.args.bucket c.set_next.new.self (next_at cells c.args.cell) to))
+    (unlinked_first heads cells free c.args.bucket c.args.cell low (start ∙ c.if-at-cell.true)
+    (λ e. omega (arith, within, c.requires.small, e)) on linked)
 
 pub loop-cells-init : goal.loop-cells-init
 loop-cells-init g c =
-    let heads = c.args.heads.now.firsts in let cells = c.args.cells.now in
-    let start = sym c.first-at.ensures in
-    let w = walk_of heads cells c.requires.linked.0 c.args.bucket c.requires.linked.1 c.requires.within in
+    let firsts = c.args.firsts.now in let cells = c.args.cells.now in
+    let heads = links_of firsts in
+    let n = length-links firsts in
+    let on = ap (λ m. chain_at m cells c.args.cell) n ∙ c.requires.on_chain in
+    let low : c.args.bucket < length heads = omega (arith, c.requires.within, n) in
+    let start = link_read firsts c.args.bucket c.requires.within
+    ∙ sym (next_at_read firsts c.args.bucket c.index-firsts-bucket.result c.requires.within)
+    ∙ sym c.next-at.ensures.value in
+    let w = walk_of heads cells c.requires.linked.0 c.args.bucket c.requires.linked.1 low in
     let From : ℕ → Type 0
     = λ at. (v : IsWalk (next_at cells) (chain_at (length heads) cells) c.args.bucket at (length cells))
     × Among v.path c.args.cell in
-    let v = subst From start (w.0, w.1 c.args.cell c.requires.on_chain) in
+    let v = subst From start (w.0, w.1 c.args.cell on) in
     record {
       walk = v.0;
       to_come = v.1;
@@ -44,7 +59,7 @@ pub loop-cells-smaller : goal.loop-cells-smaller
 loop-cells-smaller g c =
     let cells = c.args.cells.now in
     let w = c.loop-cells.invariant.walk in
-    let next = c.next-at.ensures.value
+    let next = c.next-at-in-loop-cells.ensures.value
     ∙ next_at_read cells c.loop-cells.at c.index-cells-at-in-loop-cells.result
     c.loop-cells.invariant.within in
     subst
@@ -55,10 +70,11 @@ loop-cells-smaller g c =
 
 pub loop-cells-preserved : goal.loop-cells-preserved
 loop-cells-preserved g c =
-    let heads = c.args.heads.now.firsts in let cells = c.args.cells.now in
+    let heads = links_of c.args.firsts.now in let cells = c.args.cells.now in
+    let low : c.args.bucket < length heads = omega (arith, c.requires.within, length-links c.args.firsts.now) in
     let w = c.loop-cells.invariant.walk in
     let r = walk_on w (walk_goes w c.args.cell c.loop-cells.invariant.to_come) in
-    let next = c.next-at.ensures.value
+    let next = c.next-at-in-loop-cells.ensures.value
     ∙ next_at_read cells c.loop-cells.at c.index-cells-at-in-loop-cells.result
     c.loop-cells.invariant.within in
     let to_come : Among r.rest.path c.args.cell
@@ -85,34 +101,36 @@ loop-cells-preserved g c =
 
 pub returns-clause-unlinked : goal.returns-clause-unlinked
 returns-clause-unlinked g c =
-    let heads = c.args.heads.now.firsts in let cells = c.args.cells.now in
+    let heads = links_of c.args.firsts.now in let cells = c.args.cells.now in
+    let n = length-links c.args.firsts.now in
+    let low : c.args.bucket < length heads = omega (arith, c.requires.within, n) in
+    let on = ap (λ m. chain_at m cells c.args.cell) n ∙ c.requires.on_chain in
     let w = c.loop-cells.invariant.walk in
     let C : Type 0 = Cell g.row.N.Denot in
     let within = c.loop-cells.invariant.within in
     let there : c.args.cell < length cells
-    = within_by_chain (length heads) cells c.args.cell c.args.bucket c.requires.on_chain (omega arith) in
+    = within_by_chain (length heads) cells c.args.cell c.args.bucket on (omega arith) in
     λ free linked. unlinked_next heads cells free c.loop-cells.at c.args.cell _ within
     (sym (c.next.ensures.value ∙ next_at_read cells c.loop-cells.at c.index-cells-at.result within)
     ∙ c.loop-cells-test.false)
-    (ap (λ (d : C). d.next) c.set_next.ensures ∙ c.next-after.ensures.value
+    (ap (λ (d : C). d.next) c.set_next-2.ensures ∙ c.next-after.ensures.value
     ∙ next_at_read cells c.args.cell c.index-cells-cell.result there)
-    (ap (λ (d : C). d.kept) c.set_next.ensures ∙ kept_at_read cells c.loop-cells.at
+    (ap (λ (d : C). d.kept) c.set_next-2.ensures ∙ kept_at_read cells c.loop-cells.at
     c.index-cells-at-2.result within)
-    (λ e. omega arith)
-    (c.requires.on_chain ∙ sym (walk_at w (walk_goes w c.args.cell c.loop-cells.invariant.to_come)))
+    (λ e. omega (arith, there, c.requires.small, e))
+    (on ∙ sym (walk_at w (walk_goes w c.args.cell c.loop-cells.invariant.to_come)))
     linked
 
-pub set_first-requires-clause-fits : goal.set_first-requires-clause-fits
-set_first-requires-clause-fits g c =
-    let heads = c.args.heads.now.firsts in let cells = c.args.cells.now in
-    let within : c.args.cell < length cells
-    = within_by_chain (length heads) cells c.args.cell c.args.bucket c.requires.on_chain (omega arith) in
-    let next = c.next-after.ensures.value ∙ next_at_read cells c.args.cell c.index-cells-cell.result within in
-    λ ne.
-    let low = second_within heads cells c.requires.linked.0 c.args.bucket c.args.cell c.requires.linked.1
-    c.requires.within (sym c.first-at.ensures ∙ c.if-at-cell.true) (λ e. omega arith) (λ e. ne (next ∙ e)) in
-    omega (arith, low, next, c.requires.fit)
+pub returns-then-at-cell-clause-firsts : goal.returns-then-at-cell-clause-firsts
+returns-then-at-cell-clause-firsts g c =
+    let C : Type 0 = Cell g.row.N.Denot in
+    map-set_same (λ (d : C). d.kept) c.args.firsts.now c.args.bucket c.set_next.new.self
+    c.index-firsts-bucket-then-at-cell.result
+    (ap (λ (d : C). d.kept) c.set_next.ensures)
 
-pub returns-then-at-cell-clause-size : goal.returns-then-at-cell-clause-size
-returns-then-at-cell-clause-size g c = rw c.set_first.ensures
-    (length-set c.args.heads.now.firsts c.args.bucket _, refl)
+pub returns-clause-nodes : goal.returns-clause-nodes
+returns-clause-nodes g c =
+    let C : Type 0 = Cell g.row.N.Denot in
+    map-set_same (λ (d : C). d.kept) c.args.cells.now c.loop-cells.at c.set_next-2.new.self
+    c.index-cells-at-2.result
+    (ap (λ (d : C). d.kept) c.set_next-2.ensures)

@@ -15,15 +15,16 @@ returns-clause-found g c passes tells =
     subst (λ m. MatchOption c.look_up.result (place_of passes (entries_of m) ≡ None)
     (HoldsMatch passes m.nodes))
     c.self.view_is
-    (found-by_table g.met.K.Eq.laws c.self.invariant passes tells.alike c.args.hash
+    (found-by_table g.met.K.Eq.laws c.self.invariant passes tells.alike c.args.hash c.short_hash.result
+    c.short_hash.ensures
     (λ x e. ap (λ m. hash_with build H.write H.finish g.K.Hash.hash_input m.hasher x) c.self.view_is
     ∙ tells.hashed x e)
     (FnReturnsAt g.F.Fn c.args.is_match) (told tells) c.look_up.result c.look_up.ensures.found
     c.look_up.ensures.none)
 
 pub look_up-requires : goal.look_up-requires
-look_up-requires g c cell node there =
-    (listed-holds g.met.K.Eq.laws c.self.invariant cell _ node there, c.requires.1.callable)
+look_up-requires g c node there =
+    (listed-holds g.met.K.Eq.laws c.self.invariant _ node there, c.requires.1.callable)
 
 pub returns-clause-sound : goal.returns-clause-sound
 returns-clause-sound g c = sound g.met.K.Eq.laws c.self.view_is c.self.invariant

@@ -1,5 +1,5 @@
 use Rattle.std.proofs.Common.{refl, ap, ◌∙◌, arith}
-use Rattle.hashlink_core.proofs.Calls.{sound, shrunk-table}
+use Rattle.hashlink_core.proofs.Calls.{sound, shrunk-room}
 use Rattle.hashlink_core.proofs.Stepping.{step-same}
 use Rattle.hashlink_core.proofs.keyed_list.KeyedList.shrink_table.Goals as goal
 
@@ -7,10 +7,10 @@ pub invariant_of-self : goal.invariant_of-self
 invariant_of-self g c =
     let t = c.self.inside.table in
     let r = c.self.inside.nodes in
-    let u = shrunk-table t c.shrink.new.self c.shrink.result
+    let room = shrunk-room t c.shrink.new.self c.shrink.result
     (omega (arith, c.self.invariant.fits, c.self.invariant.count)) c.shrink.ensures.ok c.shrink.ensures.err in
-    step-same g.met.K.Eq.laws r r t c.shrink.new.self refl u.0
-    (omega (arith, u.1, c.self.invariant.count, ap (λ m. m.spare) c.self.view_is ∙ c.requires))
+    step-same g.met.K.Eq.laws r r t c.shrink.new.self refl c.shrink.ensures.nodes
+    (omega (arith, room, c.self.invariant.count, ap (λ m. m.spare) c.self.view_is ∙ c.requires))
     c.self.invariant
 
 pub returns-clause-sound : goal.returns-clause-sound

@@ -1,64 +1,47 @@
-use Rattle.std.proofs.Common.{◌≡◌, ◌≤◌, List, length, sym, ap, ◌∙◌, subst, arith}
-use Rattle.std.proofs.lemmas.List.{length-replicate, with_items_is}
-use Rattle.std.specs.Int.{IsPowerOfTwo}
+use Rattle.std.proofs.Common.{◌≡◌, ℕ, [], ◌++◌, List, length, sym, ap, subst, arith}
+use Rattle.std.specs.Prelude.{IsPermutation}
+use Rattle.std.proofs.lemmas.List.{length-append}
+use Rattle.std.proofs.lemmas.List.Sorted.{IsPermutation-append_left, IsPermutation-trans, length_permutation}
+use Rattle.hashlink_table.specs.declared.kept.Kept.{Kept}
 use Rattle.hashlink_table.specs.declared.cell.Cell.{Cell}
-use Rattle.hashlink_table.specs.declared.cell.TheConstants.{END}
-use Rattle.hashlink_table.specs.Contents.{Contents}
-use Rattle.hashlink_table.specs.Chains.{kept_at, SameNodes}
-use Rattle.hashlink_table.proofs.Sound.{sound-relink}
-use Rattle.hashlink_table.proofs.Views.{len_by_view, contents_kept}
+use Rattle.hashlink_table.specs.Contents.{Contents, len_of}
+use Rattle.hashlink_table.specs.Chains.{nodes_in}
 use Rattle.hashlink_table.proofs.table.Table.rebuild.Goals as goal
 
--- the nodes of the cells, before the memory was reserved and after the cells were chained anew
-nodes_stay : {N : Type 0} (first second third fourth last : List (Cell N)) → second ≡ first
-    → SameNodes second third
-    → fourth ≡ third → SameNodes fourth last
-    → SameNodes first last
-nodes_stay first second third fourth last a b c d i =
-    d i ∙ ap (λ cells. kept_at cells i) c ∙ b i ∙ ap (λ cells. kept_at cells i) a
+-- the nodes of some cells were put into an empty table
+into_empty : {N : Type 0} (empty : Contents N) (room : ℕ) (cells read : List (Cell N)) (now : List (Kept N))
+    → empty ≡ record { nodes = []; room = room } → read ≡ cells
+    → IsPermutation (empty.nodes ++ nodes_in read) now
+    → IsPermutation (nodes_in cells) now
+into_empty {N} empty room cells read now none same p =
+    subst (λ (cs : List (Cell N)). IsPermutation (nodes_in cs) now) same
+    (subst (λ (t : Contents N). IsPermutation (t.nodes ++ nodes_in read) now) none p)
 
-pub invariant_of-self-2 : goal.invariant_of-self-2
-invariant_of-self-2 g c =
+pub insert_all-requires-2 : goal.insert_all-requires-2
+insert_all-requires-2 g c =
     let t = c.self.inside in
-    let heads = c.in_ok-heads.heads in let cells = c.trim.new.cells in
-    let later = c.relink-self-inside.new.cells in let now = c.relink-self-inside.new.heads in
-    let len = len_by_view _ _ _ c.self.view_is in
-    let size = c.relink-self-inside.ensures.size in
-    let cs : length later ≡ cells.len = c.relink-self-inside.auto.cells ∙ c.deref_mut.ensures.len in
-    let buckets : length now.firsts ≡ c.args.buckets
-    = size.0 ∙ ap length c.in_ok-heads.ensures.bare ∙ length-replicate c.args.buckets END in
-    let same = nodes_stay t.cells.items _ _ _ later c.in_ok-reserve_exact.ensures.items c.trim.ensures.nodes
-    c.deref_mut.ensures.value c.relink-self-inside.ensures.nodes in
-    let fewer : length later ≤ length t.cells.items
-    = omega (arith, cs, c.trim.ensures.len, c.in_ok-reserve_exact.ensures.len, t.cells.ok.0) in
-    rw (with_items_is cells later cs) (
-      (
-        omega (arith, fewer, size.1, c.in_ok-heads.ensures.fit, c.max.ensures, c.len.ensures, t.cells.ok.0),
-        omega (arith, size.1, c.in_ok-heads.ensures.fit, c.max.ensures),
-      ),
-      sound-relink t.heads.firsts now.firsts t.cells.items later _ _ t.free _ t.len t.room c.args.room
-          c.self.invariant.1 c.relink-self-inside.ensures.linked same fewer
-          (omega (arith, c.requires.held, len, c.self.invariant.1.counted))
-          (omega (arith, buckets, c.requires.headed))
-          (omega (
-            arith,
-            c.trim.ensures.capacity,
-            c.in_ok-reserve_exact.ensures.ok,
-            c.in_ok-reserve_exact.ensures.len,
-            c.saturating_sub-more.ensures,
-            c.len-2.ensures,
-          ))
-          (omega (arith, buckets, c.if-buckets-gt-MAX_BUCKETS.false))
-          (subst IsPowerOfTwo (sym buckets) c.requires.power),
+    let first = into_empty c.in_ok-table.table c.args.room t.firsts.items c.deref.result.now _ c.in_ok-table.ensures
+    c.deref.ensures.value c.insert_all.ensures.inserted in
+    omega (
+      arith,
+      length_permutation _ _ first,
+      ap (λ (cs : List (Cell g.row.N.Denot)). length (nodes_in cs)) c.deref-2.ensures.value,
+      length-append (nodes_in t.firsts.items) (nodes_in t.overs.items),
+      ap (λ (u : Contents g.row.N.Denot). len_of u) c.self.view_is,
+      c.requires.held,
+      c.insert_all.ensures.room,
+      ap (λ (u : Contents g.row.N.Denot). u.room) c.in_ok-table.ensures,
     )
 
-pub returns-clause-ok : goal.returns-clause-ok
-returns-clause-ok g c =
+pub returns-clause-nodes : goal.returns-clause-nodes
+returns-clause-nodes g c =
     let t = c.self.inside in
-    let cells = c.trim.new.cells in
-    let later = c.relink-self-inside.new.cells in
-    let cs : length later ≡ cells.len = c.relink-self-inside.auto.cells ∙ c.deref_mut.ensures.len in
-    let same = nodes_stay t.cells.items _ _ _ later c.in_ok-reserve_exact.ensures.items c.trim.ensures.nodes
-    c.deref_mut.ensures.value c.relink-self-inside.ensures.nodes in
-    rw (with_items_is cells later cs) (contents_kept t.cells.items later t.room c.args.room same)
-    ∙ ap (λ (u : Contents g.row.N.Denot). record u { room = c.args.room }) c.self.view_is
+    let first = into_empty c.in_ok-table.table c.args.room t.firsts.items c.deref.result.now _ c.in_ok-table.ensures
+    c.deref.ensures.value c.insert_all.ensures.inserted in
+    let both = IsPermutation-trans _ _ _
+    (IsPermutation-append_left (nodes_in t.overs.items) _ _ first)
+    (rw c.deref-2.ensures.value at c.insert_all-2.ensures.inserted) in
+    subst (λ (u : Contents g.row.N.Denot). IsPermutation u.nodes
+    (nodes_in c.drop.inside.firsts.items ++ nodes_in c.drop.inside.overs.items)) c.self.view_is
+    (subst (λ (u : Contents g.row.N.Denot). IsPermutation (nodes_in t.firsts.items ++ nodes_in t.overs.items) u.nodes)
+    (sym c.drop.view_is) both)

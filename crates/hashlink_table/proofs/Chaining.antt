@@ -1,0 +1,125 @@
+-- A node joins its bucket's chain, and leaves it.
+use Rattle.std.proofs.Common.{◌≡◌, ◌≢◌, ℕ, ◌%◌, ◌<◌, inl, inr, List, [], ◌∷◌, ◌++◌, length, get_or}
+use Rattle.std.proofs.Common.{set, Option, Some, None, IsSome, refl, sym, ap, ◌∙◌, subst, arith}
+use Rattle.std.specs.Prelude.{IsPermutation}
+use Rattle.std.proofs.lemmas.List.{get_or-map, length-map, map-set}
+use Rattle.hashlink_table.specs.declared.kept.Kept.{Kept}
+use Rattle.hashlink_table.specs.declared.cell.Cell.{Cell}
+use Rattle.hashlink_table.specs.declared.cell.TheConstants.{END}
+use Rattle.hashlink_table.specs.Chains.{no_cell, kept_at, next_at, chain_of, chain_at, links_of, nodes_in, with_node}
+use Rattle.hashlink_table.specs.Chains.{IsLinked, IsPlaced, SameNodes}
+use Rattle.hashlink_table.proofs.Cells.{chain_at_within, within_by_chain}
+use Rattle.hashlink_table.proofs.Linking.{linked-push, linked-reuse, free_on}
+use Rattle.hashlink_table.proofs.Nodes.{nodes_in-set, nodes_in-push, nodes_in-same}
+
+module _ {N : Type 0} where
+  pub length-links : (firsts : List (Cell N)) → length (links_of firsts) ≡ length firsts
+  length-links firsts = length-map firsts (λ c. c.next)
+
+  -- a link of the buckets' own cells, read and written
+  pub link_read : (firsts : List (Cell N)) (b : ℕ) → b < length firsts
+      → get_or (links_of firsts) b END ≡ next_at firsts b
+  link_read firsts b low = get_or-map (λ (c : Cell N). c.next) firsts b no_cell END low
+
+  pub link_set : (firsts : List (Cell N)) (b : ℕ) (d : Cell N) (x : ℕ) → d.next ≡ x
+      → links_of (set firsts b d) ≡ set (links_of firsts) b x
+  link_set firsts b d x to = map-set (λ (c : Cell N). c.next) firsts b d ∙ ap (set (links_of firsts) b) to
+
+  -- the first free cell is a cell, and has no node
+  pub free_within : (heads : List ℕ) (cells : List (Cell N)) (free : ℕ) → IsLinked heads cells free → free ≢ END
+      → free < length cells
+  free_within heads cells free t ne =
+      within_by_chain (length heads) cells free (length heads) (free_on heads cells free t ne) (omega arith)
+
+  chain_none : (buckets : ℕ) (k : Option (Kept N)) → 0 < buckets → chain_of buckets k ≡ buckets → k ≡ None
+  chain_none buckets None some e = refl
+  chain_none buckets (Some k) some e = absurd (omega arith)
+
+  pub free_none : (heads : List ℕ) (cells : List (Cell N)) (free : ℕ) → IsLinked heads cells free → free ≢ END
+      → 0 < length heads
+      → kept_at cells free ≡ None
+  free_none heads cells free t ne some =
+      chain_none (length heads) (kept_at cells free) some
+      (sym (chain_at_within (length heads) cells free (free_within heads cells free t ne))
+      ∙ free_on heads cells free t ne)
+
+  -- a cell on a bucket's chain is a cell, and has a node of the bucket
+  pub on_within : (buckets : ℕ) (cells : List (Cell N)) (i b : ℕ) → chain_at buckets cells i ≡ b → b < buckets
+      → i < length cells
+  on_within buckets cells i b on low = within_by_chain buckets cells i b on (omega arith)
+
+  some_on : (buckets b : ℕ) (k : Option (Kept N)) → chain_of buckets k ≡ b → b < buckets → IsSome k
+  some_on buckets b None e low = absurd (omega arith)
+  some_on buckets b (Some k) e low = refl
+
+  pub on_some : (buckets : ℕ) (cells : List (Cell N)) (i b : ℕ) → chain_at buckets cells i ≡ b → b < buckets
+      → IsSome (kept_at cells i)
+  on_some buckets cells i b on low =
+      some_on buckets b (kept_at cells i)
+      (sym (chain_at_within buckets cells i (on_within buckets cells i b on low)) ∙ on) low
+
+  pub on_hash : (buckets : ℕ) (cells : List (Cell N)) (i b : ℕ) (k : Kept N) → chain_at buckets cells i ≡ b
+      → b < buckets → kept_at cells i ≡ Some k
+      → k.hash % buckets ≡ b
+  on_hash buckets cells i b k on low is =
+      sym (ap (chain_of buckets) is) ∙ sym (chain_at_within buckets cells i (on_within buckets cells i b on low)) ∙ on
+
+  -- a cell with a node was put somewhere, and linked from its bucket's own cell
+  pub chained : (firsts cells later : List (Cell N)) (free now at b : ℕ) (c d : Cell N) (k : Kept N)
+      → IsLinked (links_of firsts) cells free → b < length firsts → b ≡ k.hash % length firsts
+      → length cells < END → IsPlaced cells later free now c at → c.kept ≡ Some k
+      → c.next ≡ next_at firsts b → d.next ≡ at
+      → IsLinked (links_of (set firsts b d)) later now
+  chained firsts cells later free now at b c d k t low is small placed kept leads to =
+      let heads = links_of firsts in
+      let n = length-links firsts in
+      let low' : b < length heads = omega (arith, low, n) in
+      let read : c.next ≡ get_or heads b END = leads ∙ sym (link_read firsts b low) in
+      let on : chain_of (length heads) c.kept ≡ b =
+      ap (chain_of (length heads)) kept ∙ ap (λ m. k.hash % m) n ∙ sym is in
+      subst (λ hs. IsLinked hs later now) (sym (link_set firsts b d at to))
+      (elim placed as (λ _. IsLinked (set heads b at) later now) [
+        | inl p ↦ let e : now ≡ free = p.3 ∙ sym p.0 in
+            rw (p.2, p.1, e) (linked-push heads cells free b c low' small read on t)
+        | inr p ↦ let within = free_within heads cells free t p.0 in
+            rw (p.2, p.3, p.1) (linked-reuse heads cells free b c low' within small read on t)
+      ])
+
+  pub chained-nodes : (firsts cells later : List (Cell N)) (free now at : ℕ) (c : Cell N) (k : Kept N)
+      → IsLinked (links_of firsts) cells free → 0 < length firsts → IsPlaced cells later free now c at
+      → c.kept ≡ Some k
+      → IsPermutation (k ∷ nodes_in cells) (nodes_in later)
+  chained-nodes firsts cells later free now at c k t some placed kept =
+      let heads = links_of firsts in
+      elim placed as (λ _. IsPermutation (k ∷ nodes_in cells) (nodes_in later)) [
+        | inl p ↦ subst (λ l. IsPermutation (k ∷ nodes_in cells) (nodes_in l)) (sym p.2)
+            (subst (λ o. IsPermutation (with_node o (nodes_in cells)) (nodes_in (cells ++ c ∷ []))) kept
+            (nodes_in-push cells c))
+        | inr p ↦ let within = free_within heads cells free t p.0 in
+            let none = free_none heads cells free t p.0 (omega (arith, some, length-links firsts)) in
+            subst (λ l. IsPermutation (k ∷ nodes_in cells) (nodes_in l))
+            (ap (λ i. set cells i c) (sym p.1) ∙ sym p.2)
+            (subst (λ o. IsPermutation (k ∷ nodes_in cells) (with_node o (nodes_in (set cells free c)))) none
+            (subst (λ o. IsPermutation (with_node o (nodes_in cells))
+            (with_node (kept_at cells free) (nodes_in (set cells free c)))) kept
+            (nodes_in-set cells free c within)))
+      ]
+
+  -- a cell that is on no chain lost its node
+  pub taken-nodes : (cells later : List (Cell N)) (i : ℕ) (d : Cell N) (k : Kept N) → SameNodes cells later
+      → i < length later → kept_at later i ≡ Some k → d.kept ≡ None
+      → IsPermutation (nodes_in cells) (k ∷ nodes_in (set later i d))
+  taken-nodes cells later i d k same within is none =
+      subst (λ ks. IsPermutation ks (k ∷ nodes_in (set later i d))) (nodes_in-same cells later same)
+      (subst (λ o. IsPermutation (nodes_in later) (with_node o (nodes_in (set later i d)))) is
+      (subst (λ o. IsPermutation (with_node o (nodes_in later))
+      (with_node (kept_at later i) (nodes_in (set later i d)))) none (nodes_in-set later i d within)))
+
+  -- where each cell keeps its node
+  pub same_kept : (cells later : List (Cell N)) (i : ℕ) → SameNodes cells later → i < length cells
+      → i < length later
+      → kept_at later i ≡ kept_at cells i
+  same_kept cells later i same h h' =
+      sym (get_or-map (λ (c : Cell N). c.kept) later i no_cell None h')
+      ∙ ap (λ ks. get_or ks i None) same
+      ∙ get_or-map (λ (c : Cell N). c.kept) cells i no_cell None h

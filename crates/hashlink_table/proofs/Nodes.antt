@@ -1,0 +1,130 @@
+-- The nodes of a list of cells: what a write does to them, and which there are.
+use Rattle.std.proofs.Common.{◌≡◌, ℕ, zero, suc, ◌+◌, ◌<◌, ◌≤◌, List, [], ◌∷◌, ◌++◌, map, length, get_or, set, take, drop}
+use Rattle.std.proofs.Common.{true, Option, Some, None, is_some, refl, sym, ap, ◌∙◌, subst, arith}
+use Rattle.std.specs.Prelude.{Contains, IsPermutation, replicate}
+use Rattle.std.proofs.Common.{append_assoc}
+use Rattle.std.proofs.lemmas.List.{take_more, take-append-drop, length-append}
+use Rattle.std.proofs.lemmas.Option.{same_Some}
+use Rattle.std.proofs.lemmas.List.Sorted.{IsPermutation-refl, IsPermutation-trans, IsPermutation-cons}
+use Rattle.std.proofs.lemmas.List.Sorted.{IsPermutation-middle}
+use Rattle.std.proofs.lemmas.List.Sorted.{IsPermutation-to_front}
+use Rattle.hashlink_table.specs.declared.kept.Kept.{Kept}
+use Rattle.hashlink_table.specs.declared.cell.Cell.{Cell}
+use Rattle.hashlink_table.specs.Chains.{no_cell, kept_at, with_node, nodes_in}
+
+module _ {N : Type 0} where
+  -- two nodes may be exchanged
+  exchanged : (j k : Kept N) (ks : List (Kept N)) → IsPermutation (j ∷ k ∷ ks) (k ∷ j ∷ ks)
+  exchanged j k ks = IsPermutation-middle (j ∷ []) k ks
+
+  -- at most one node before a list
+  with_exchanged : (a b : Option (Kept N)) (ks : List (Kept N))
+      → IsPermutation (with_node a (with_node b ks)) (with_node b (with_node a ks))
+  with_exchanged None b ks = IsPermutation-refl _
+  with_exchanged (Some j) None ks = IsPermutation-refl _
+  with_exchanged (Some j) (Some k) ks = exchanged j k ks
+
+  with_permuted : (a : Option (Kept N)) (ks js : List (Kept N)) → IsPermutation ks js
+      → IsPermutation (with_node a ks) (with_node a js)
+  with_permuted None ks js p = p
+  with_permuted (Some j) ks js p = IsPermutation-cons j ks js p
+
+  -- a write to a cell: the new node comes and the old one goes
+  pub nodes_in-set : (cells : List (Cell N)) (i : ℕ) (c : Cell N) → i < length cells
+      → IsPermutation (with_node c.kept (nodes_in cells))
+      (with_node (kept_at cells i) (nodes_in (set cells i c)))
+  nodes_in-set [] i c h = absurd (omega arith)
+  nodes_in-set (x ∷ xs) zero c h = with_exchanged c.kept x.kept (nodes_in xs)
+  nodes_in-set (x ∷ xs) (suc i) c h =
+      let rest = nodes_in-set xs i c (omega arith) in
+      IsPermutation-trans _ _ _ (with_exchanged c.kept x.kept (nodes_in xs))
+      (IsPermutation-trans _ _ _ (with_permuted x.kept _ _ rest)
+      (with_exchanged x.kept (kept_at xs i) (nodes_in (set xs i c))))
+
+  -- a cell more
+  pub nodes_in-push : (cells : List (Cell N)) (c : Cell N)
+      → IsPermutation (with_node c.kept (nodes_in cells)) (nodes_in (cells ++ c ∷ []))
+  nodes_in-push [] c = IsPermutation-refl _
+  nodes_in-push (x ∷ xs) c =
+      IsPermutation-trans _ _ _ (with_exchanged c.kept x.kept (nodes_in xs))
+      (with_permuted x.kept _ _ (nodes_in-push xs c))
+
+  -- the cells have the same nodes where each cell has
+  pub nodes_in-same : (cells later : List (Cell N)) → map (λ c. c.kept) later ≡ map (λ c. c.kept) cells
+      → nodes_in later ≡ nodes_in cells
+  nodes_in-same [] [] e = refl
+  nodes_in-same [] (y ∷ ys) e = absurd (cc e)
+  nodes_in-same (x ∷ xs) [] e = absurd (cc e)
+  nodes_in-same (x ∷ xs) (y ∷ ys) e =
+      let here : y.kept ≡ x.kept = cc e in
+      let there : map (λ (c : Cell N). c.kept) ys ≡ map (λ (c : Cell N). c.kept) xs = cc e in
+      ap (λ k. with_node k (nodes_in ys)) here ∙ ap (with_node x.kept) (nodes_in-same xs ys there)
+
+  pub nodes_in-append : (cells more : List (Cell N)) → nodes_in (cells ++ more) ≡ nodes_in cells ++ nodes_in more
+  nodes_in-append [] more = refl
+  nodes_in-append (x ∷ xs) more =
+      let rest = nodes_in-append xs more in
+      elim x.kept as (λ k. with_node k (nodes_in (xs ++ more)) ≡ with_node k (nodes_in xs) ++ nodes_in more)
+      [ None ↦ rest | Some k ↦ ap (λ ks. k ∷ ks) rest ]
+
+  -- the nodes of the first cells: one cell more, and no more than of all
+  pub nodes_in-more : (cells : List (Cell N)) (i : ℕ) (c : Cell N) → i < length cells → c ≡ get_or cells i c
+      → nodes_in (take (i + 1) cells) ≡ nodes_in (take i cells) ++ with_node c.kept []
+  nodes_in-more cells i c h read =
+      ap nodes_in (take_more cells i c h) ∙ nodes_in-append (take i cells) (get_or cells i c ∷ [])
+      ∙ ap (λ (d : Cell N). nodes_in (take i cells) ++ with_node d.kept []) (sym read)
+
+  pub nodes_in-part : (cells : List (Cell N)) (i : ℕ) → length (nodes_in (take i cells)) ≤ length (nodes_in cells)
+  nodes_in-part cells i =
+      let all = ap nodes_in (sym (take-append-drop i cells)) ∙ nodes_in-append (take i cells) (drop i cells) in
+      omega (arith, ap length all, length-append (nodes_in (take i cells)) (nodes_in (drop i cells)))
+
+  -- a node was put in after others
+  pub inserted-more : (old done now later : List (Kept N)) (k : Kept N) → IsPermutation (old ++ done) now
+      → IsPermutation (k ∷ now) later
+      → IsPermutation (old ++ (done ++ k ∷ [])) later
+  inserted-more old done now later k before step =
+      subst (λ ks. IsPermutation ks later) (append_assoc old done (k ∷ []))
+      (IsPermutation-trans _ _ _ (IsPermutation-to_front (old ++ done) k)
+      (IsPermutation-trans _ _ _ (IsPermutation-cons k _ _ before) step))
+
+  -- free cells have none
+  pub nodes_in-free : (n : ℕ) → nodes_in (replicate n (no_cell {N = N})) ≡ []
+  nodes_in-free zero = refl
+  nodes_in-free (suc n) = nodes_in-free n
+
+  -- where each cell has a node, there are as many as cells
+  pub nodes_in-full : (cells : List (Cell N)) → ((i : ℕ) → i < length cells → is_some (kept_at cells i) ≡ true)
+      → length (nodes_in cells) ≡ length cells
+  nodes_in-full [] all = refl
+  nodes_in-full (x ∷ xs) all =
+      let rest = nodes_in-full xs (λ i h. all (suc i) (omega arith)) in
+      elim x.kept as (λ k. is_some k ≡ true → length (with_node k (nodes_in xs)) ≡ suc (length xs))
+      [ None ↦ λ e. absurd (cc e) | Some k ↦ λ e. ap suc rest ] (all zero (omega arith))
+
+  -- a node in a cell is one of them
+  pub contains-at : (cells : List (Cell N)) (i : ℕ) (k : Kept N) → kept_at cells i ≡ Some k
+      → Contains (nodes_in cells) k
+  contains-at [] i k e = absurd (cc e)
+  contains-at (x ∷ xs) zero k e = rw e (zero, omega arith, refl)
+  contains-at (x ∷ xs) (suc i) k e =
+      let rest = contains-at xs i k e in
+      elim x.kept as (λ j. Contains (with_node j (nodes_in xs)) k)
+      [ None ↦ rest | Some j ↦ (suc rest.0, omega (arith, rest.1), rest.2) ]
+
+  -- and each of them is in one
+  pub at-contains : (cells : List (Cell N)) (k : Kept N) → Contains (nodes_in cells) k
+      → (i : ℕ) × (kept_at cells i ≡ Some k)
+  at-contains [] k (j, h, e) = absurd (omega arith)
+  at-contains (x ∷ xs) k c = by (at-contains xs k) x.kept refl c
+    where
+      by : (Contains (nodes_in xs) k → (i : ℕ) × (kept_at xs i ≡ Some k)) → (o : Option (Kept N)) → x.kept ≡ o
+          → Contains (with_node o (nodes_in xs)) k
+          → (i : ℕ) × (kept_at (x ∷ xs) i ≡ Some k)
+      by rest None is there = let r = rest there in (suc r.0, r.1)
+      by rest (Some j) is (zero, h, e) = (zero, is ∙ ap Some e)
+      by rest (Some j) is (suc n, h, e) = let r = rest (n, omega arith, e) in (suc r.0, r.1)
+
+  -- a cell has one node
+  pub same_node : (j k : Kept N) → Some j ≡ Some k → j.node ≡ k.node
+  same_node j k e = ap (λ (m : Kept N). m.node) (same_Some j k e)

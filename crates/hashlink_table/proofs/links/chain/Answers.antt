@@ -1,0 +1,57 @@
+use Rattle.std.proofs.Common.{sym, ap, ◌∙◌, inl, inr, arith}
+use Rattle.std.proofs.Math.Seq.{map-set_same}
+use Rattle.std.proofs.lemmas.List.{get_or_read}
+use Rattle.hashlink_table.specs.declared.cell.Cell.{Cell}
+use Rattle.hashlink_table.specs.Chains.{no_cell, links_of}
+use Rattle.hashlink_table.proofs.Chaining.{chained, chained-nodes, free_within}
+use Rattle.hashlink_table.proofs.links.chain.Goals as goal
+
+pub place-at-requires-clause-within : goal.place-at-requires-clause-within
+place-at-requires-clause-within g c = λ ne.
+    omega (
+      arith,
+      free_within (links_of c.args.firsts.now) c.args.cells.now.items c.args.free.now c.requires.linked ne,
+      c.args.cells.now.ok.0,
+    )
+
+pub set_next-requires : goal.set_next-requires
+set_next-requires g c = elim c.place-at.ensures.placed [
+  | inl p ↦ omega (arith, p.1, c.requires.small, c.args.cells.now.ok.0)
+  | inr p ↦ omega (
+    arith,
+    p.1,
+    free_within (links_of c.args.firsts.now) c.args.cells.now.items c.args.free.now c.requires.linked p.0,
+    c.requires.small,
+    c.args.cells.now.ok.0,
+  )
+]
+
+pub returns-clause-linked : goal.returns-clause-linked
+returns-clause-linked g c =
+    let C : Type 0 = Cell g.row.N.Denot in
+    let firsts = c.args.firsts.now in
+    chained firsts c.args.cells.now.items c.place-at.new.cells.items c.args.free.now c.place-at.new.free
+    c.place-at.result c.args.bucket c.taken-cell.result c.set_next.new.self c.args.kept c.requires.linked
+    c.requires.within c.requires.bucket (omega (arith, c.requires.small, c.args.cells.now.ok.0))
+    c.place-at.ensures.placed
+    (ap (λ (d : C). d.kept) c.taken-cell.ensures)
+    (ap (λ (d : C). d.next) c.taken-cell.ensures ∙ c.next.ensures.value
+    ∙ ap (λ (d : C). d.next) (sym c.index-firsts-bucket.is ∙ get_or_read firsts c.args.bucket
+    c.index-firsts-bucket.result c.requires.within c.index-firsts-bucket.is no_cell))
+    (ap (λ (d : C). d.next) c.set_next.ensures)
+
+pub returns-clause-firsts : goal.returns-clause-firsts
+returns-clause-firsts g c =
+    let C : Type 0 = Cell g.row.N.Denot in
+    map-set_same (λ (d : C). d.kept) c.args.firsts.now c.args.bucket c.set_next.new.self
+    c.index-firsts-bucket-2.result
+    (ap (λ (d : C). d.kept) c.set_next.ensures)
+
+pub returns-clause-nodes : goal.returns-clause-nodes
+returns-clause-nodes g c =
+    let C : Type 0 = Cell g.row.N.Denot in
+    chained-nodes c.args.firsts.now c.args.cells.now.items c.place-at.new.cells.items c.args.free.now
+    c.place-at.new.free c.place-at.result c.taken-cell.result c.args.kept c.requires.linked
+    (omega (arith, c.requires.within))
+    c.place-at.ensures.placed
+    (ap (λ (d : C). d.kept) c.taken-cell.ensures)
