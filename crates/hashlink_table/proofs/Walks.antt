@@ -13,6 +13,7 @@ use Rattle.hashlink_table.specs.declared.cell.TheConstants.{END}
 use Rattle.hashlink_table.specs.Chains.{no_cell, kept_at, next_at, chain_of, chain_at, Among, IsPath}
 use Rattle.hashlink_table.specs.Chains.{IsLinked}
 use Rattle.hashlink_table.proofs.Paths.{first_among, path_length}
+use Rattle.hashlink_table.proofs.Chaining.{on_within, on_some}
 use Rattle.hashlink_table.proofs.Linking.{positive_by_power}
 use Rattle.hashlink_table.proofs.Cells.{within_by_chain, chain_at_within}
 
@@ -189,41 +190,27 @@ module _ {N : Type 0} where
             omega (arith, w.2);
       })
 
-  -- a search that has not ended reads a cell
-  pub search_within : (heads : List ℕ) (cells : List (Cell N)) (hash : ℕ) {at most all before now : ℕ}
-      {IsOther : ℕ → Type 0}
-      → IsSearch (next_at cells) (chain_at (length heads) cells) (hash % length heads) at
-      most IsOther all before now
+  -- a walk along a hash's bucket that has not ended is at a cell, which has a node
+  pub walk_within : (heads : List ℕ) (cells : List (Cell N)) (hash : ℕ) {at most : ℕ}
+      → IsWalk (next_at cells) (chain_at (length heads) cells) (hash % length heads) at most
       → IsPowerOfTwo (length heads) → at ≢ END
       → at < length cells
-  search_within heads cells hash {at} s power ne =
+  walk_within heads cells hash {at} w power ne =
       let some = positive_by_power (length heads) power in
-      within_by_chain (length heads) cells at (hash % length heads) (walk_at s.walk ne) (omega arith)
+      on_within (length heads) cells at (hash % length heads) (walk_at w ne) (omega arith)
 
-  pub search_read : (heads : List ℕ) (cells : List (Cell N)) (hash : ℕ) {at most all before now : ℕ}
-      {IsOther : ℕ → Type 0}
-      → IsSearch (next_at cells) (chain_at (length heads) cells) (hash % length heads) at
-      most IsOther all before now
+  pub walk_read : (heads : List ℕ) (cells : List (Cell N)) (hash : ℕ) {at most : ℕ}
+      → IsWalk (next_at cells) (chain_at (length heads) cells) (hash % length heads) at most
       → IsPowerOfTwo (length heads) → at ≢ END → (read : Cell N) → read ≡ get_or cells at read
       → (kept_at cells at ≡ read.kept) × (next_at cells at ≡ read.next)
-  search_read heads cells hash {at} s power ne read is =
-      let same = get_or_read cells at read (search_within heads cells hash s power ne) is no_cell in
+  walk_read heads cells hash {at} w power ne read is =
+      let same = get_or_read cells at read (walk_within heads cells hash w power ne) is no_cell in
       (ap (λ (c : Cell N). c.kept) (sym same), ap (λ (c : Cell N). c.next) (sym same))
 
-  -- where it is on a bucket's chain, a cell has a node
-  some_on : (buckets b : ℕ) (k : Option (Kept N)) → chain_of buckets k ≡ b → b < buckets → IsSome k
-  some_on buckets b None e low = absurd (omega arith)
-  some_on buckets b (Some k) e low = refl
-
-  pub search_some : (heads : List ℕ) (cells : List (Cell N)) (hash : ℕ) {at most all before now : ℕ}
-      {IsOther : ℕ → Type 0}
-      → IsSearch (next_at cells) (chain_at (length heads) cells) (hash % length heads) at
-      most IsOther all before now
+  pub walk_some : (heads : List ℕ) (cells : List (Cell N)) (hash : ℕ) {at most : ℕ}
+      → IsWalk (next_at cells) (chain_at (length heads) cells) (hash % length heads) at most
       → IsPowerOfTwo (length heads) → at ≢ END
       → IsSome (kept_at cells at)
-  search_some heads cells hash {at} s power ne =
+  walk_some heads cells hash {at} w power ne =
       let some = positive_by_power (length heads) power in
-      some_on (length heads) (hash % length heads) (kept_at cells at)
-      (sym (chain_at_within (length heads) cells at (search_within heads cells hash s power ne))
-      ∙ walk_at s.walk ne)
-      (omega arith)
+      on_some (length heads) cells at (hash % length heads) (walk_at w ne) (omega arith)
