@@ -159,17 +159,6 @@ module _ {N : Type 0} where
       ) in
       (record { path = c.path; linked = path; inside = c.inside; short = short }, c.whole, few)
 
-  -- the second cell of a bucket's chain is a cell
-  pub second_within : (heads : List ℕ) (cells : List (Cell N)) (free b at : ℕ) → IsLinked heads cells free
-      → b < length heads → get_or heads b END ≡ at → at ≢ END → next_at cells at ≢ END
-      → next_at cells at < length cells
-  second_within heads cells free b at linked h start ne more =
-      let w = walk_of heads cells free b linked h in
-      let From : ℕ → Type 0
-      = λ n. IsWalk (next_at cells) (chain_at (length heads) cells) b n (length cells) in
-      let r = walk_on (subst From start w.0) ne in
-      within_by_chain (length heads) cells _ b (walk_at r.rest more) (omega arith)
-
   -- a search from a bucket's head
   pub search_start : (heads : List ℕ) (cells : List (Cell N)) (free b at : ℕ)
       {IsOther : ℕ → Type 0} (before : ℕ)
