@@ -6,6 +6,7 @@ use Rattle.std.specs.Prelude.{slice_get, insert, remove, IsPermutation}
 use Rattle.std.specs.List.{IsDistinct}
 use Rattle.std.specs.Option.{option_map, option_map_or, IfSome}
 use Rattle.std.specs.Cmp.{IsEquivalence}
+use Rattle.std.specs.Int.{IsPowerOfTwo}
 use Rattle.std.specs.Map.{lookup, remove_entry, set_value, keys_of, values_of}
 use Rattle.std.proofs.lemmas.Map.{NonePasses, lookup-none}
 use Rattle.std.proofs.lemmas.Option.{slice_get-map}
@@ -392,6 +393,7 @@ module _ {K V S : Type 0} {eq : K → K → Bool} (laws : IsEquivalence eq) {has
               grows = omega (arith, grown.more.grows, room);
               same = λ le. room ∙ grown.more.same (omega (arith, le, long));
               bound = omega (arith, grown.more.bound, room, long);
+              power = λ le. subst IsPowerOfTwo (sym room) (grown.more.power (omega (arith, le, room)));
             };
             fits = seen-fits r' u after;
             link_writes = stores-exactly 4 old.link_writes r'.link_writes (stored

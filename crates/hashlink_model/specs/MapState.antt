@@ -1,9 +1,10 @@
 -- What a contract sees of a map, and the steps between two such states. A call's contract names the step that
 -- it takes.
-use Rattle.std.specs.Prelude.{◌≡◌, ℕ, ◌-◌, ◌+◌, ◌*◌, ◌≤◌, max, Bool, List, [], length, Option, None, Some}
+use Rattle.std.specs.Prelude.{◌≡◌, ℕ, ◌-◌, ◌+◌, ◌*◌, ◌≤◌, ◌<◌, max, Bool, List, [], length, Option, None, Some}
 use Rattle.std.specs.Prelude.{Result}
 use Rattle.std.specs.Prelude.{MatchOption, MatchResult, insert, remove, refl}
 use Rattle.std.specs.Coded.{Coded, code_by, coded×, coded_list, coded_ℕ}
+use Rattle.std.specs.Int.{IsPowerOfTwo}
 use Rattle.std.specs.Map.{lookup}
 use Rattle.hashlink_model.specs.Entries.{put, moved_at, set_value_at, set_key_at}
 
@@ -22,11 +23,12 @@ pub record StoresAtMost (most old new : ℕ) : Type 0 where
   pub bound : new ≤ old + most
 
 -- a room that is to hold n nodes: as it was where it holds them, else at most twice as much as they need, or
--- 8
+-- 8. It grows to a power of two, so a room that holds n nodes has grown no more often than n has binary digits
 pub record RoomFor (n old new : ℕ) : Type 0 where
   pub grows : old ≤ new
   pub same : n ≤ old → new ≡ old
   pub bound : new ≤ max old (2 * max 4 n)
+  pub power : old < new → IsPowerOfTwo new
 
 module _ {K V S : Type 0} where
   abbrev pub map_state : List (K × V) → ℕ → ℕ → ℕ → S → MapState K V S

@@ -298,6 +298,7 @@ impl<N: Copy> Table<N> {
         ensures nodes { IsPermutation self.old.nodes self.new.nodes }
         ensures room { self.old.room ≤ self.new.room }
         ensures bound { self.new.room ≤ max self.old.room (2 * max 4 (len_of self.old + additional)) }
+        ensures power { self.old.room < self.new.room → IsPowerOfTwo self.new.room }
         ensures err { OnErr result (self.new ≡ self.old) }
 
         // Where there is the room already it is not refused, and changes nothing.

@@ -6,6 +6,7 @@ use Rattle.std.specs.Fmt.{digits}
 use Rattle.std.specs.Map.{lookup_entry}
 use Rattle.hashlink_model.specs.MapState.{MapState, map_state, empty_map, StoresAtMost, Inserts, Adds}
 use Rattle.hashlink_model.specs.MapState.{Changes}
+use Rattle.std.specs.Int.{IsPowerOfTwo}
 use Rattle.hashlink_model.specs.MapState.{Removes, RoomFor}
 use Rattle.hashlink_core.specs.declared.hash_builder.DefaultHashBuilder.{DefaultHashBuilder}
 use Rattle.hashlink_core.specs.Hashing.{default_builder}
@@ -127,9 +128,14 @@ abbrev pub Stepped : MapState ℕ ℕ DefaultHashBuilder → Command ℕ ℕ →
     → Type 0
 Stepped old command reply new = Step nat_eq Itself IsEven old command (reply ∷ []) new
 
--- room that grows by one
-pub one_more : (n : ℕ) → RoomFor (n + 1) n (n + 1)
-one_more n = record { grows = omega arith; same = λ le. absurd (omega arith); bound = omega arith }
+-- room that grows by one, to a power of two
+pub one_more : (n : ℕ) → IsPowerOfTwo (n + 1) → RoomFor (n + 1) n (n + 1)
+one_more n power = record {
+  grows = omega arith;
+  same = λ le. absurd (omega arith);
+  bound = omega arith;
+  power = λ _. power;
+}
 
 pub first_insert : Stepped (empty_map default_builder) (Insert 1 10) (Value None) (state ((1, 10) ∷ []) 0 1 4)
 first_insert =
@@ -137,7 +143,7 @@ first_insert =
       entries = refl;
       more = refl;
       spare = refl;
-      room = one_more 0;
+      room = one_more 0 (0, refl);
       fits = lit≤ tt;
       link_writes = few 4 0 4 (lit≤ tt) (lit≤ tt);
       hasher = refl;
@@ -152,7 +158,7 @@ second_insert =
       entries = refl;
       more = refl;
       spare = refl;
-      room = one_more 1;
+      room = one_more 1 (1, refl);
       fits = lit≤ tt;
       link_writes = few 4 4 8 (lit≤ tt) (lit≤ tt);
       hasher = refl;

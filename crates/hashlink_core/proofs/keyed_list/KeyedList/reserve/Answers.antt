@@ -26,6 +26,7 @@ returns-clause-grown g c =
             let enough = c.reserve.ensures.enough (omega (arith, le, long, room, c.self.invariant.count)) in
             ap (λ t. t.room) enough.1 ∙ room;
         bound = omega (arith, room, long, c.self.invariant.count, c.reserve.ensures.bound);
+        power = λ more. c.reserve.ensures.power (omega (arith, more, room));
       };
       rest = ap (λ (m : Keyed _ _ _). keyed m.nodes m.spare u.room m.link_writes m.hasher) c.self.view_is;
     }
