@@ -38,17 +38,6 @@ module _ {N : Type 0} where
       → kept_at (set cells i c) j ≡ kept_at cells j
   kept_at-set_other cells i c j ne = ap (λ (d : Cell N). d.kept) (get_or-set_other cells i j c no_cell ne)
 
-  -- a write that changes no node keeps each node
-  pub kept_at-set_same : (cells : List (Cell N)) (i : ℕ) (c : Cell N) → i < length cells
-      → c.kept ≡ kept_at cells i
-      → (j : ℕ)
-      → kept_at (set cells i c) j ≡ kept_at cells j
-  kept_at-set_same cells i c h same j = elim (cases_eq j i) as
-      (λ _. kept_at (set cells i c) j ≡ kept_at cells j) [
-        | inl e ↦ ap (kept_at (set cells i c)) e ∙ kept_at-set cells i c h ∙ same ∙ ap (kept_at cells) (sym e)
-        | inr ne ↦ kept_at-set_other cells i c j ne
-      ]
-
   -- a read under any default
   pub kept_at_read : (cells : List (Cell N)) (i : ℕ) (d : Cell N) → i < length cells
       → (get_or cells i d).kept ≡ kept_at cells i
@@ -91,13 +80,6 @@ module _ {N : Type 0} where
   pub next_at-push_other : (cells : List (Cell N)) (c : Cell N)
       → SameBut (length cells) (next_at cells) (next_at (cells ++ c ∷ []))
   next_at-push_other cells c j ne = ap (λ (d : Cell N). d.next) (push_other cells c no_cell j ne)
-
-  pub kept_at-push : (cells : List (Cell N)) (c : Cell N) → kept_at (cells ++ c ∷ []) (length cells) ≡ c.kept
-  kept_at-push cells c = ap (λ (d : Cell N). d.kept) (get_or_push cells c no_cell (length cells) refl)
-
-  pub kept_at-push_other : (cells : List (Cell N)) (c : Cell N) (j : ℕ) → j ≢ length cells
-      → kept_at (cells ++ c ∷ []) j ≡ kept_at cells j
-  kept_at-push_other cells c j ne = ap (λ (d : Cell N). d.kept) (push_other cells c no_cell j ne)
 
   pub chain_at-push : (buckets : ℕ) (cells : List (Cell N)) (c : Cell N)
       → chain_at buckets (cells ++ c ∷ []) (length cells) ≡ chain_of buckets c.kept

@@ -4,7 +4,6 @@ pub mod Linking
 pub mod Moving
 pub mod Nodes
 pub mod Paths
-pub mod Results
 pub mod Sound
 pub mod Threads
 pub mod Views

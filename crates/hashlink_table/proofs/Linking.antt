@@ -1,12 +1,11 @@
 -- What the functions of `src/links.rt` and the inserts and removes of a table do to the chains.
-use Rattle.std.proofs.Common.{◌≡◌, ◌≢◌, ℕ, suc, ◌+◌, ◌/◌, ◌^◌, max, inl, inr, ◌<◌, ◌≤◌, cond, eqb, List, []}
+use Rattle.std.proofs.Common.{◌≡◌, ◌≢◌, ℕ, suc, ◌+◌, inl, inr, ◌<◌, ◌≤◌, cond, eqb, List, []}
 use Rattle.std.proofs.Common.{◌∷◌}
-use Rattle.std.proofs.Common.{◌++◌, length, get_or, set, take, None, refl, sym, ap, ◌∙◌, subst, arith}
-use Rattle.std.proofs.lemmas.Bool.{eq-eqb, ne_eqb, cases_eq, cases_lt}
-use Rattle.std.proofs.lemmas.List.{get_or_append_left, get_or_at, length-set, length_push, length-take-le}
-use Rattle.std.proofs.lemmas.List.{set-append_left, set_at, take_more_set}
+use Rattle.std.proofs.Common.{◌++◌, length, get_or, set, None, refl, sym, ap, ◌∙◌, subst, arith}
+use Rattle.std.proofs.lemmas.Bool.{eq-eqb, ne_eqb, cases_eq}
+use Rattle.std.proofs.lemmas.List.{get_or_append_left, get_or_at, length-set, length_push}
+use Rattle.std.proofs.lemmas.List.{set-append_left, set_at}
 use Rattle.std.proofs.lemmas.Nat.{pow_pos}
-use Rattle.std.proofs.Math.Pow.{pow_mono}
 use Rattle.std.specs.Int.{IsPowerOfTwo}
 use Rattle.hashlink_table.specs.declared.cell.Cell.{Cell}
 use Rattle.hashlink_table.specs.declared.cell.TheConstants.{END}
@@ -21,16 +20,6 @@ use Rattle.hashlink_table.proofs.Cells.{chain_at-set_same, off_past, within_by_c
 -- a power of two is above 0
 pub positive_by_power : (n : ℕ) → IsPowerOfTwo n → 0 < n
 positive_by_power n p = omega (arith, p.1, pow_pos p.0)
-
--- the next power of two is within a power of two that the number is within
-pub power_within : (p n : ℕ) → IsPowerOfTwo p → p / 2 < max 1 n → n ≤ 2 ^ 62 → p ≤ 2 ^ 62
-power_within p n power next small = elim (cases_lt power.0 63) as (λ _. p ≤ 2 ^ 62) [
-  | inl low ↦ let most : 2 ^ power.0
-      ≤ 2 ^ 62 = pow_mono {i = power.0} {j = 62} (omega arith) in omega (arith, power.1, most)
-  | inr high ↦ let least : 2 ^ 63
-      ≤ 2 ^ power.0 = pow_mono {i = 63} {j = power.0} high in absurd
-      (omega (arith, power.1, least, next, small))
-]
 
 -- what stands first in a chain is on it
 start_on : (starts : List ℕ) (next chain : ℕ → ℕ) (b : ℕ) → IsThreaded starts next chain → b < length starts
@@ -80,46 +69,6 @@ module _ {N : Type 0} where
   with_free heads next cells free x t =
       let Starts : List ℕ → Type 0 = λ starts. IsThreaded starts next (chain_at (length heads) cells) in
       subst Starts (set_at heads free [] x (length heads) refl) t
-
-  -- one cell more with a node, in a new chaining
-  pub more_taken : (heads : List ℕ) (cells : List (Cell N)) (free i b : ℕ) (c : Cell N) → b < length heads
-      → i < length cells → length cells < END → c.next ≡ get_or heads b END
-      → chain_of (length heads) c.kept ≡ b
-      → IsThreaded (heads ++ free ∷ []) (next_at cells) (chain_at (length heads) (take i cells))
-      → IsThreaded (set heads b i ++ free ∷ []) (next_at (set cells i c))
-      (chain_at (length (set heads b i)) (take (i + 1) (set cells i c)))
-  more_taken heads cells free i b c low within small leads on t =
-      let n : length (take i cells) ≡ i = length-take-le i cells (omega arith) in
-      let t' = join_new (heads ++ free ∷ []) (next_at cells) (next_at (set cells i c)) (length heads) i b
-      (take i cells) c n
-      (length_push heads free) t (omega (arith, length_push heads free)) (λ e. omega arith)
-      (next_at-set cells i c within ∙ leads ∙ sym (get_or_append_left heads (free ∷ []) END b low))
-      (next_at-set_other cells i c) on in
-      let Cells : List (Cell N) → Type 0
-      = λ cs. IsThreaded (set heads b i ++ free ∷ []) (next_at (set cells i c))
-      (chain_at (length (set heads b i)) cs)
-      in
-      subst Cells (sym (take_more_set cells i c within))
-      (with_head heads (next_at (set cells i c)) (take i cells ++ c ∷ []) free b i low t')
-
-  -- and without
-  pub more_free : (heads : List ℕ) (cells : List (Cell N)) (free i : ℕ) (c : Cell N) → i < length cells
-      → length cells < END → c.next ≡ free → c.kept ≡ None
-      → IsThreaded (heads ++ free ∷ []) (next_at cells) (chain_at (length heads) (take i cells))
-      → IsThreaded (heads ++ i ∷ []) (next_at (set cells i c))
-      (chain_at (length heads) (take (i + 1) (set cells i c)))
-  more_free heads cells free i c within small leads none t =
-      let n : length (take i cells) ≡ i = length-take-le i cells (omega arith) in
-      let t' = join_new (heads ++ free ∷ []) (next_at cells) (next_at (set cells i c))
-      (length heads) i (length heads)
-      (take i cells) c n
-      (length_push heads free) t (omega (arith, length_push heads free)) (λ e. omega arith)
-      (next_at-set cells i c within ∙ leads ∙ sym (get_or_at heads free [] END (length heads) refl))
-      (next_at-set_other cells i c) (ap (chain_of (length heads)) none) in
-      let Cells : List (Cell N) → Type 0
-      = λ cs. IsThreaded (heads ++ i ∷ []) (next_at (set cells i c)) (chain_at (length heads) cs) in
-      subst Cells (sym (take_more_set cells i c within))
-      (with_free heads (next_at (set cells i c)) (take i cells ++ c ∷ []) free i t')
 
   -- an insert into a new cell
   pub linked-push : (heads : List ℕ) (cells : List (Cell N)) (free b : ℕ) (c : Cell N) → b < length heads
@@ -246,18 +195,6 @@ module _ {N : Type 0} where
           few,
         )
       ]
-
-  pub head_small : (heads : List ℕ) (next : ℕ → ℕ) (cells : List (Cell N)) (free b : ℕ)
-      → IsThreaded (heads ++ free ∷ []) next (chain_at (length heads) cells) → b < length heads
-      → length cells ≤ END
-      → get_or heads b END ≤ END
-  head_small heads next cells free b t h few =
-      omega (
-        arith,
-        start_small (heads ++ free ∷ []) next cells (length heads) b t (omega (arith, length_push heads free))
-            (length_push heads free) few,
-        get_or_append_left heads (free ∷ []) END b h,
-      )
 
   pub free_small : (heads : List ℕ) (next : ℕ → ℕ) (cells : List (Cell N)) (free : ℕ)
       → IsThreaded (heads ++ free ∷ []) next (chain_at (length heads) cells) → length cells ≤ END

@@ -1,5 +1,5 @@
 -- A walk along a chain: it stays in the chain, and ends.
-use Rattle.std.proofs.Common.{◌≡◌, ◌≢◌, ℕ, zero, suc, ◌+◌, ◌%◌, ◌<◌, ◌≤◌, cond, eqb, Option, None, Some}
+use Rattle.std.proofs.Common.{◌≡◌, ◌≢◌, ℕ, zero, suc, ◌+◌, ◌%◌, ◌<◌, ◌≤◌, cond, eqb}
 use Rattle.std.proofs.Common.{IsSome, ◌⊎◌}
 use Rattle.std.proofs.Common.{inl, inr, List, [], ◌∷◌, length, get_or, count_by, refl, sym, ap, ◌∙◌, subst}
 use Rattle.std.proofs.Common.{arith}
@@ -7,12 +7,12 @@ use Rattle.std.proofs.lemmas.Bool.{eq-eqb, ne_eqb}
 use Rattle.std.proofs.lemmas.List.{get_or_append_left, get_or_read, length_push}
 use Rattle.std.proofs.lemmas.List.Sums.{count_by-le-length}
 use Rattle.std.specs.Int.{IsPowerOfTwo}
-use Rattle.hashlink_table.specs.declared.kept.Kept.{Kept}
 use Rattle.hashlink_table.specs.declared.cell.Cell.{Cell}
 use Rattle.hashlink_table.specs.declared.cell.TheConstants.{END}
 use Rattle.hashlink_table.specs.Chains.{no_cell, kept_at, next_at, chain_of, chain_at, Among, IsPath}
 use Rattle.hashlink_table.specs.Chains.{IsLinked}
 use Rattle.hashlink_table.proofs.Paths.{first_among, path_length}
+use Rattle.hashlink_table.proofs.Chaining.{on_within, on_some}
 use Rattle.hashlink_table.proofs.Linking.{positive_by_power}
 use Rattle.hashlink_table.proofs.Cells.{within_by_chain, chain_at_within}
 
@@ -158,17 +158,6 @@ module _ {N : Type 0} where
       ) in
       (record { path = c.path; linked = path; inside = c.inside; short = short }, c.whole, few)
 
-  -- the second cell of a bucket's chain is a cell
-  pub second_within : (heads : List ℕ) (cells : List (Cell N)) (free b at : ℕ) → IsLinked heads cells free
-      → b < length heads → get_or heads b END ≡ at → at ≢ END → next_at cells at ≢ END
-      → next_at cells at < length cells
-  second_within heads cells free b at linked h start ne more =
-      let w = walk_of heads cells free b linked h in
-      let From : ℕ → Type 0
-      = λ n. IsWalk (next_at cells) (chain_at (length heads) cells) b n (length cells) in
-      let r = walk_on (subst From start w.0) ne in
-      within_by_chain (length heads) cells _ b (walk_at r.rest more) (omega arith)
-
   -- a search from a bucket's head
   pub search_start : (heads : List ℕ) (cells : List (Cell N)) (free b at : ℕ)
       {IsOther : ℕ → Type 0} (before : ℕ)
@@ -189,41 +178,27 @@ module _ {N : Type 0} where
             omega (arith, w.2);
       })
 
-  -- a search that has not ended reads a cell
-  pub search_within : (heads : List ℕ) (cells : List (Cell N)) (hash : ℕ) {at most all before now : ℕ}
-      {IsOther : ℕ → Type 0}
-      → IsSearch (next_at cells) (chain_at (length heads) cells) (hash % length heads) at
-      most IsOther all before now
+  -- a walk along a hash's bucket that has not ended is at a cell, which has a node
+  pub walk_within : (heads : List ℕ) (cells : List (Cell N)) (hash : ℕ) {at most : ℕ}
+      → IsWalk (next_at cells) (chain_at (length heads) cells) (hash % length heads) at most
       → IsPowerOfTwo (length heads) → at ≢ END
       → at < length cells
-  search_within heads cells hash {at} s power ne =
+  walk_within heads cells hash {at} w power ne =
       let some = positive_by_power (length heads) power in
-      within_by_chain (length heads) cells at (hash % length heads) (walk_at s.walk ne) (omega arith)
+      on_within (length heads) cells at (hash % length heads) (walk_at w ne) (omega arith)
 
-  pub search_read : (heads : List ℕ) (cells : List (Cell N)) (hash : ℕ) {at most all before now : ℕ}
-      {IsOther : ℕ → Type 0}
-      → IsSearch (next_at cells) (chain_at (length heads) cells) (hash % length heads) at
-      most IsOther all before now
+  pub walk_read : (heads : List ℕ) (cells : List (Cell N)) (hash : ℕ) {at most : ℕ}
+      → IsWalk (next_at cells) (chain_at (length heads) cells) (hash % length heads) at most
       → IsPowerOfTwo (length heads) → at ≢ END → (read : Cell N) → read ≡ get_or cells at read
       → (kept_at cells at ≡ read.kept) × (next_at cells at ≡ read.next)
-  search_read heads cells hash {at} s power ne read is =
-      let same = get_or_read cells at read (search_within heads cells hash s power ne) is no_cell in
+  walk_read heads cells hash {at} w power ne read is =
+      let same = get_or_read cells at read (walk_within heads cells hash w power ne) is no_cell in
       (ap (λ (c : Cell N). c.kept) (sym same), ap (λ (c : Cell N). c.next) (sym same))
 
-  -- where it is on a bucket's chain, a cell has a node
-  some_on : (buckets b : ℕ) (k : Option (Kept N)) → chain_of buckets k ≡ b → b < buckets → IsSome k
-  some_on buckets b None e low = absurd (omega arith)
-  some_on buckets b (Some k) e low = refl
-
-  pub search_some : (heads : List ℕ) (cells : List (Cell N)) (hash : ℕ) {at most all before now : ℕ}
-      {IsOther : ℕ → Type 0}
-      → IsSearch (next_at cells) (chain_at (length heads) cells) (hash % length heads) at
-      most IsOther all before now
+  pub walk_some : (heads : List ℕ) (cells : List (Cell N)) (hash : ℕ) {at most : ℕ}
+      → IsWalk (next_at cells) (chain_at (length heads) cells) (hash % length heads) at most
       → IsPowerOfTwo (length heads) → at ≢ END
       → IsSome (kept_at cells at)
-  search_some heads cells hash {at} s power ne =
+  walk_some heads cells hash {at} w power ne =
       let some = positive_by_power (length heads) power in
-      some_on (length heads) (hash % length heads) (kept_at cells at)
-      (sym (chain_at_within (length heads) cells at (search_within heads cells hash s power ne))
-      ∙ walk_at s.walk ne)
-      (omega arith)
+      on_some (length heads) cells at (hash % length heads) (walk_at w ne) (omega arith)

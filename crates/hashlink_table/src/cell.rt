@@ -85,11 +85,8 @@ impl<N: Copy> Stored<N> {
     pub fn kept(&self) -> Option<Kept<N>>
         ensures { result ≡ self.now.kept }
     {
-        if self.link < FREE {
-            Some(Kept {
-                hash: self.hash,
-                node: self.node,
-            })
+        if self.is_taken() {
+            Some(self.there())
         } else {
             None
         }
@@ -102,7 +99,7 @@ impl<N: Copy> Stored<N> {
         ensures not_here { IfNone result
             ((node : N) → self.now.kept ≢ Some (record { hash = hash; node = node })) }
     {
-        if self.hash == hash && self.link < FREE {
+        if self.hash == hash && self.is_taken() {
             Some(self.node)
         } else {
             None

@@ -1,4 +1,3 @@
--- What an insert leaves in a table, and how many of the numbers put in agree with a hash.
+-- How many of the numbers put into a table agree with a hash.
 pub mod Agreeing
-pub mod Callers
 pub mod Numbered

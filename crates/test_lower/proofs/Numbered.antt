@@ -1,15 +1,12 @@
 -- A table of the numbers from 1 on, each under itself as its hash, for the tests.
-use Rattle.std.proofs.Common.{◌≡◌, ℕ, ◌+◌, ◌%◌, ◌<◌, ◌≤◌, List, [], map, count_by, cond, eqb, ◌⊎◌, inl, inr}
-use Rattle.std.proofs.Common.{None}
+use Rattle.std.proofs.Common.{◌≡◌, ℕ, ◌+◌, ◌%◌, ◌<◌, ◌≤◌, [], ◌∷◌, cond, eqb, ◌⊎◌, inl, inr}
 use Rattle.std.proofs.Common.{refl, sym, ap, ◌∙◌, arith}
+use Rattle.std.specs.Prelude.{IsPermutation}
 use Rattle.std.proofs.lemmas.Bool.{cases_eq, cases_lt, eq-eqb, ne_eqb}
-use Rattle.std.proofs.lemmas.List.{nil_from_length}
-use Rattle.std.specs.Ordering.{nat_cmp}
-use Rattle.std.specs.FinMap.{FinMap, get, insert, values, empty, len, len-empty, len-entries, entries}
+use Rattle.std.proofs.lemmas.List.Sorted.{length_permutation, sum_by-IsPermutation}
+use Rattle.std.proofs.Math.Nat.{mod-eq_of_lt, mod_self}
 use Rattle.hashlink_table.specs.declared.kept.Kept.{Kept}
 use Rattle.hashlink_table.specs.Contents.{Contents, agreeing, len_of}
-use Rattle.std.proofs.Math.Nat.{mod-eq_of_lt, mod_self}
-use Rattle.test_lower.proofs.Callers.{len_inserted}
 use Rattle.test_lower.proofs.Agreeing.{agreeing_inserted}
 
 -- the numbers from 1 up to below n were put in, each under itself as hash, where n is at most 501: no two of
@@ -19,17 +16,10 @@ pub record IsNumbered {N : Type 0} (t : Contents N) (n : ℕ) : Type 0 where
   pub few : (h m : ℕ) → 500 ≤ m
       → (agreeing t h m ≡ 0) ⊎ ((agreeing t h m ≡ 1) × ((j : ℕ) × (0 < j) × (j < n) × (j % m ≡ h % m)))
 
-entries_none : {X : Type 0} → entries (empty {X = X} {R = nat_cmp}) ≡ []
-entries_none {X} = nil_from_length _ (sym (len-entries _) ∙ len-empty nat_cmp X)
-
-pub numbered_none : {N : Type 0} (t : Contents N) → t ≡ record { nodes = empty; room = 0 } → IsNumbered t 1
+pub numbered_none : {N : Type 0} (t : Contents N) → t ≡ record { nodes = []; room = 0 } → IsNumbered t 1
 numbered_none {N} t is = record {
-  count = ap (λ (u : Contents N). len u.nodes + 1) is ∙ ap (λ n. n + 1) (len-empty nat_cmp (Kept N));
-  few =
-      λ h m low. inl
-      (ap (λ (u : Contents N). agreeing u h m) is
-      ∙ ap (λ (es : List (ℕ × Kept N)). count_by (λ k. eqb (k.hash % m) (h % m)) (map (λ e. e.1) es))
-      entries_none);
+  count = ap (λ (u : Contents N). len_of u + 1) is;
+  few = λ h m low. inl (ap (λ (u : Contents N). agreeing u h m) is);
 }
 
 -- two such numbers do not agree
@@ -42,20 +32,15 @@ apart j n m some below most low e =
           let second : n % m ≡ 0 = ap (λ k. k % m) whole ∙ mod_self m in omega arith
     ]
 
-pub numbered_more : {N : Type 0} (t same new : Contents N) (n at : ℕ) (node : N) → IsNumbered t n → n ≤ 500
-    → same.nodes ≡ t.nodes → get same.nodes at ≡ None
-    → new ≡ record same { nodes = insert same.nodes at (record { hash = n; node = node }) }
+pub numbered_more : {N : Type 0} (t same new : Contents N) (n : ℕ) (node : N) → IsNumbered t n → n ≤ 500
+    → IsPermutation t.nodes same.nodes → IsPermutation (record { hash = n; node = node } ∷ same.nodes) new.nodes
     → IsNumbered new (n + 1)
-numbered_more {N} t same new n at node numbered most nodes free is = record {
-  count =
-      let more = ap (λ (u : Contents N). len u.nodes) is
-      ∙ len_inserted same.nodes at (record { hash = n; node = node }) free in
-      let same_len = ap (λ (m : FinMap nat_cmp (Kept N)). len m) nodes in
-      omega (arith, more, same_len, numbered.count);
+numbered_more {N} t same new n node numbered most moved inserted = record {
+  count = omega (arith, length_permutation _ _ inserted, length_permutation _ _ moved, numbered.count);
   few = λ h m low.
       let was : agreeing same h m ≡ agreeing t h m
-      = ap (λ (ns : FinMap nat_cmp (Kept N)). count_by (λ k. eqb (k.hash % m) (h % m)) (values ns)) nodes in
-      let now = agreeing_inserted same new at n node free is h m in
+      = sum_by-IsPermutation (λ (k : Kept N). cond {A = ℕ} (eqb (k.hash % m) (h % m)) 1 0) _ _ moved in
+      let now = agreeing_inserted same new n node inserted h m in
       elim (cases_eq (n % m) (h % m)) as
       (λ _. (agreeing new h m ≡ 0)
       ⊎ ((agreeing new h m ≡ 1) × ((j : ℕ) × (0 < j) × (j < n + 1) × (j % m ≡ h % m)))) [

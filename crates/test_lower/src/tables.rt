@@ -38,7 +38,7 @@ const HASHES: [Hashes; 4] = [
 ];
 
 /// Puts two numbers in under the hash, and takes the first one out.
-#[tactic(auto, using(crate::proofs::Callers::inserted))]
+#[tactic(auto, using(std::proofs::lemmas::List::Sorted::length_permutation))]
 fn put_second(
     table: &mut Table<u32>,
     hash: u32,
@@ -53,6 +53,7 @@ fn put_second(
 }
 
 /// Puts a number in under the hash.
+#[tactic(auto, using(std::proofs::lemmas::List::Sorted::length_permutation))]
 fn put(table: &mut Table<u32>, hash: u32, number: u32) -> Result<(), TryReserveError> {
     table.reserve(1)?;
     table.insert_reserved(hash, number);
@@ -86,6 +87,7 @@ fn finds(table: &Table<u32>, hashes: Hashes) -> bool {
 }
 
 // A table of the numbers from 1 to 500, each under itself as its hash.
+#[tactic(auto, using(std::proofs::lemmas::List::Sorted::length_permutation))]
 fn numbered(alloc: Global) -> Result<Table<u32>, Fail>
     ensures { IfOk result (λ t. (hash m : ℕ) → t.room ≤ m → agreeing t hash m ≤ 2) }
 {

@@ -12,8 +12,8 @@ use Rattle.hashlink_table.proofs.Chaining.{length-links, link_read}
 use Rattle.hashlink_table.proofs.Linking.{positive_by_power}
 use Rattle.hashlink_table.proofs.Moving.{within_kept}
 use Rattle.hashlink_table.proofs.Nodes.{same_node}
-use Rattle.hashlink_table.proofs.Walks.{search_start, search_on, search_ends, search_within, search_read}
-use Rattle.hashlink_table.proofs.Walks.{search_some, walk_on, steps_left, steps_left-falls, in_bucket}
+use Rattle.hashlink_table.proofs.Walks.{search_start, search_on, search_ends, walk_within, walk_read}
+use Rattle.hashlink_table.proofs.Walks.{walk_some, walk_on, steps_left, steps_left-falls, in_bucket}
 use Rattle.hashlink_table.proofs.links.seek.Goals as goal
 use Rattle.hashlink_table.proofs.links.seek.Goals.{in-Some+else-is_match, in_default}
 use Rattle.hashlink_table.proofs.links.seek.Goals.{in-Some-look+else-is_match-2, in_default-look}
@@ -49,7 +49,7 @@ loop-at-init g c =
     let b = c.args.hash % length heads in
     let some = positive_by_power (length heads) (subst IsPowerOfTwo (sym n) c.requires.masked) in
     let low : b < length heads = omega arith in (
-      search_start heads cells c.requires.linked.0 b _ c.look.new.steps c.requires.linked.1 low
+      search_start heads cells c.requires.linked.0 b _ _ c.requires.linked.1 low
           (first.1 ∙ sym c.next-at.ensures.value),
       λ node here. elim c.match-look.branch as (λ _. g.F.Fn.post c.args.is_match (node, tt) false) [
         | in-Some+else-is_match w ↦
@@ -64,27 +64,27 @@ pub offset_bounds-cells-at : goal.offset_bounds-cells-at
 offset_bounds-cells-at g c =
     omega (
       arith,
-      search_within (links_of c.args.firsts.now) c.args.cells.now c.args.hash c.loop-at.invariant.0
+      walk_within (links_of c.args.firsts.now) c.args.cells.now c.args.hash c.loop-at.invariant.0.walk
           (subst IsPowerOfTwo (sym (length-links c.args.firsts.now)) c.requires.masked)
           c.loop-at-test.true,
     )
 
 pub bounds-cells-at : goal.bounds-cells-at
 bounds-cells-at g c =
-    search_within (links_of c.args.firsts.now) c.args.cells.now c.args.hash c.loop-at.invariant.0
+    walk_within (links_of c.args.firsts.now) c.args.cells.now c.args.hash c.loop-at.invariant.0.walk
     (subst IsPowerOfTwo (sym (length-links c.args.firsts.now)) c.requires.masked)
     c.loop-at-test.true
 
 pub is_match-requires-in-Some-look : goal.is_match-requires-in-Some-look
 is_match-requires-in-Some-look g c =
-    let read = search_read (links_of c.args.firsts.now) c.args.cells.now c.args.hash c.loop-at.invariant.0
+    let read = walk_read (links_of c.args.firsts.now) c.args.cells.now c.args.hash c.loop-at.invariant.0.walk
     (subst IsPowerOfTwo (sym (length-links c.args.firsts.now)) c.requires.masked)
     c.loop-at-test.true c.index-cells-at.result c.index-cells-at.is in
     c.requires.callable c.loop-at.at c.in-Some-look.node (read.0 ∙ c.in-Some-look.ensures.here)
 
 pub returns-then-is_match-2-clause-found : goal.returns-then-is_match-2-clause-found
 returns-then-is_match-2-clause-found g c =
-    let read = search_read (links_of c.args.firsts.now) c.args.cells.now c.args.hash c.loop-at.invariant.0
+    let read = walk_read (links_of c.args.firsts.now) c.args.cells.now c.args.hash c.loop-at.invariant.0.walk
     (subst IsPowerOfTwo (sym (length-links c.args.firsts.now)) c.requires.masked)
     c.loop-at-test.true c.index-cells-at.result c.index-cells-at.is in
     (c.in-Some-look.node, read.0 ∙ c.in-Some-look.ensures.here, c.if-is_match-2.ensures)
@@ -102,9 +102,9 @@ returns-then-is_match-2-clause-cost g c =
     = ap (λ m. in_bucket cells m (c.args.hash % m)) n in
     let own : cond {A = ℕ} (is_some (kept_at firsts (c.args.hash % length firsts))) 1 0
     ≡ cond (is_some c.index-firsts-bucket_of.result.kept) 1 0 = ap (λ o. cond {A = ℕ} (is_some o) 1 0) first.0 in
-    let read = search_read heads cells c.args.hash c.loop-at.invariant.0 power
+    let read = walk_read heads cells c.args.hash c.loop-at.invariant.0.walk power
     c.loop-at-test.true c.index-cells-at.result c.index-cells-at.is in
-    let some = search_some heads cells c.args.hash c.loop-at.invariant.0 power c.loop-at-test.true in
+    let some = walk_some heads cells c.args.hash c.loop-at.invariant.0.walk power c.loop-at-test.true in
     let one : cond {A = ℕ} (is_some c.index-cells-at.result.kept) 1 0 ≡ 1 =
     ap (λ o. cond {A = ℕ} (is_some o) 1 0) (sym read.0) ∙ ap (λ b. cond {A = ℕ} b 1 0) some in
     let r = walk_on c.loop-at.invariant.0.walk c.loop-at-test.true in
@@ -122,7 +122,7 @@ returns-then-is_match-2-clause-cost g c =
 pub loop-at-smaller : goal.loop-at-smaller
 loop-at-smaller g c =
     let cells = c.args.cells.now in
-    let read = search_read (links_of c.args.firsts.now) cells c.args.hash c.loop-at.invariant.0
+    let read = walk_read (links_of c.args.firsts.now) cells c.args.hash c.loop-at.invariant.0.walk
     (subst IsPowerOfTwo (sym (length-links c.args.firsts.now)) c.requires.masked)
     c.loop-at-test.true c.index-cells-at.result c.index-cells-at.is in
     subst (λ n. steps_left (next_at cells) (length cells) n < steps_left (next_at cells)
@@ -135,9 +135,9 @@ loop-at-preserved g c =
     let firsts = c.args.firsts.now in let cells = c.args.cells.now in
     let heads = links_of firsts in
     let power = subst IsPowerOfTwo (sym (length-links firsts)) c.requires.masked in
-    let read = search_read heads cells c.args.hash c.loop-at.invariant.0 power
+    let read = walk_read heads cells c.args.hash c.loop-at.invariant.0.walk power
     c.loop-at-test.true c.index-cells-at.result c.index-cells-at.is in
-    let some = search_some heads cells c.args.hash c.loop-at.invariant.0 power c.loop-at-test.true in
+    let some = walk_some heads cells c.args.hash c.loop-at.invariant.0.walk power c.loop-at-test.true in
     let one : cond {A = ℕ} (is_some c.index-cells-at.result.kept) 1 0 ≡ 1 =
     ap (λ o. cond {A = ℕ} (is_some o) 1 0) (sym read.0) ∙ ap (λ b. cond {A = ℕ} b 1 0) some in (
       search_on c.loop-at.invariant.0 c.loop-at-test.true
