@@ -12,9 +12,9 @@ use Rattle.hashlink_commands.specs.declared.cache_commands.CacheCommand.TheVaria
 use Rattle.hashlink_commands.specs.declared.cache_commands.CacheCommand.TheVariants.{SetCapacity, Clear}
 use Rattle.hashlink_commands.specs.declared.replies.Reply.{Reply}
 use Rattle.hashlink_run.specs.CacheCalls.{put_passed}
-use Rattle.hashlink_run.specs.CacheStep.{CacheRuns}
-use Rattle.hashlink_run.specs.CallReplies.{is_refused}
-use Rattle.hashlink_run.specs.Chain.{Answered, after}
+use Rattle.hashlink_steps.specs.CacheStep.{CacheRuns}
+use Rattle.hashlink_steps.specs.CallReplies.{is_refused}
+use Rattle.hashlink_steps.specs.Chain.{Answered, after}
 
 -- whether a command is none of those that set the capacity, give nodes back, or may leave a pair too many
 abbrev pub leaves_spare : {K V : Type 0} → CacheCommand K V → Bool

@@ -5,11 +5,12 @@ use Rattle.std.specs.List.{AllPass}
 use Rattle.hashlink_model.specs.History.{Passed, Length, Shrunk, peak}
 use Rattle.hashlink_model.specs.MapState.{MapState, node_count, MayRefuse}
 use Rattle.hashlink_commands.specs.declared.commands.Command.{Command}
-use Rattle.hashlink_commands.specs.declared.commands.Command.TheVariants.{Clear, Shrink, Cursor}
+use Rattle.hashlink_commands.specs.declared.commands.Command.TheVariants.{Clear, Shrink}
 use Rattle.hashlink_commands.specs.declared.replies.Reply.{Reply}
-use Rattle.hashlink_run.specs.CallReplies.{is_refused}
-use Rattle.hashlink_run.specs.Chain.{Answered, Chain, Chained, after}
-use Rattle.hashlink_run.specs.Step.{Step}
+use Rattle.hashlink_steps.specs.CallReplies.{is_refused}
+use Rattle.hashlink_steps.specs.Chain.{Answered, Chain, Chained, after}
+use Rattle.hashlink_steps.specs.Step.{Step}
+pub use Rattle.hashlink_steps.specs.Step.{IsNoCursor, reply_count}
 
 module _ {K V B S : Type 0} (eq : K → K → Bool) (Says : K → V → B → Type 0)
     (Keeps : K → V → Bool → Type 0) where
@@ -23,16 +24,7 @@ module _ {K V B S : Type 0} (eq : K → K → Bool) (Says : K → V → B → Ty
   Runs = Chained (Step eq Says Keeps)
 
 module _ {K V : Type 0} where
-  -- how many replies a command has: one, and a cursor's steps one each
-  abbrev pub reply_count : Command K V → ℕ
-  reply_count (Cursor steps) = length steps.items
-  reply_count command = 1
-
-  -- the command is no cursor's, so that it has one reply
-  abbrev pub IsNoCursor : Command K V → Type 0
-  IsNoCursor (Cursor steps) = ⊥
-  IsNoCursor command = Unit {0}
-
+  -- how many replies the commands have
   abbrev pub reply_total : List (Command K V) → ℕ
   reply_total [] = 0
   reply_total (command ∷ commands) = reply_count command + reply_total commands

@@ -3,11 +3,11 @@ ghost use Rattle.std.specs.Prelude.{◌≡◌, IfOk, OnOk, OnErr};
 ghost use Rattle.hashlink_lru.specs.Cached.{entries_in, state_in};
 ghost use Rattle.hashlink_model.specs.Entries.{IsEntries};
 ghost use Rattle.hashlink_run.specs.CacheRun.{LawfulCacheRun, StaysBounded};
-ghost use Rattle.hashlink_run.specs.Reads.{ClosureSays};
+ghost use Rattle.hashlink_steps.specs.Reads.{ClosureSays};
 
-use crate::cache_steps::answer_cache;
 use hashlink_commands::{CacheCommand, Reply};
 use hashlink_lru::LruCache;
+use hashlink_steps::answer_cache;
 use std::alloc::AllocError;
 use std::hash::{BuildHasher, Hash};
 

@@ -136,8 +136,8 @@ where
     Ok((cache, replies))
 }
 
-/// Gives the cache the command and returns what the call returns that it names. An insert that fails to allocate
-/// returns `AllocError`. It costs what that call costs.
+/// Gives the cache the command and returns what the call returns that it names. An insert that fails to
+/// allocate returns `AllocError`. It costs what that call costs.
 pub fn answer_call<K, V>(
     cache: &mut LruCache<K, V>,
     command: PairCommand<K, V>,

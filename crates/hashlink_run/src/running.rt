@@ -3,12 +3,13 @@ ghost use Rattle.std.specs.Prelude.{◌≡◌, ◌<◌, ◌≤◌, ◌^◌, leng
 ghost use Rattle.std.specs.List.{AllPass};
 ghost use Rattle.hashlink_core.specs.Keyed.{entries_of, state_of};
 ghost use Rattle.hashlink_model.specs.Entries.{IsEntries};
-ghost use Rattle.hashlink_run.specs.Reads.{ClosureSays};
-ghost use Rattle.hashlink_run.specs.Run.{LawfulRun, keeps_nodes, reply_count, reply_total};
+ghost use Rattle.hashlink_steps.specs.Reads.{ClosureSays};
+ghost use Rattle.hashlink_run.specs.Run.{LawfulRun, keeps_nodes, reply_total};
+ghost use Rattle.hashlink_steps.specs.Step.{reply_count};
 
-use crate::steps::answer_command;
 use hashlink_commands::{Command, Reply};
 use hashlink_map::LinkedHashMap;
+use hashlink_steps::answer_command;
 use std::alloc::AllocError;
 use std::hash::{BuildHasher, Hash};
 
