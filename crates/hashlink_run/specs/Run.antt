@@ -1,6 +1,6 @@
 -- Lists of commands: a run is a chain of steps, and what holds along it.
-use Rattle.std.specs.Prelude.{◌≡◌, ℕ, ◌+◌, ◌<◌, ◌≤◌, Bool, true, false, List, [], ◌∷◌, length, take, drop}
-use Rattle.std.specs.Prelude.{slice_get, Some}
+use Rattle.std.specs.Prelude.{◌≡◌, ◌⊎◌, ℕ, ◌+◌, ◌<◌, ◌≤◌, Bool, true, false, List, [], ◌∷◌, length, take}
+use Rattle.std.specs.Prelude.{drop, slice_get, Some}
 use Rattle.std.specs.List.{AllPass}
 use Rattle.hashlink_model.specs.History.{Passed, Length, Shrunk, peak}
 use Rattle.hashlink_model.specs.MapState.{MapState, node_count, MayRefuse}
@@ -8,8 +8,8 @@ use Rattle.hashlink_commands.specs.declared.commands.Command.{Command}
 use Rattle.hashlink_commands.specs.declared.commands.Command.TheVariants.{Clear, Shrink}
 use Rattle.hashlink_commands.specs.declared.replies.Reply.{Reply}
 use Rattle.hashlink_steps.specs.CallReplies.{is_refused}
-use Rattle.hashlink_steps.specs.Chain.{Answered, Chain, Chained, after}
-use Rattle.hashlink_steps.specs.Step.{Step}
+use Rattle.hashlink_steps.specs.Chain.{Answered, Chain, Chained, ComesTo, after}
+use Rattle.hashlink_steps.specs.Step.{AskedBy, ReadBy, Step}
 pub use Rattle.hashlink_steps.specs.Step.{IsNoCursor, reply_count}
 
 module _ {K V B S : Type 0} (eq : K → K → Bool) (Says : K → V → B → Type 0)
@@ -22,6 +22,11 @@ module _ {K V B S : Type 0} (eq : K → K → Bool) (Says : K → V → B → Ty
   -- and so by these replies, and go on to new
   abbrev pub Runs : MapState K V S → List (Command K V) → List (Reply K V B) → MapState K V S → Type 0
   Runs = Chained (Step eq Says Keeps)
+
+  -- from old, the commands may come to show the pair to the closure: one of them reads it, or keeps by it
+  pub record ShownBy (old : MapState K V S) (commands : List (Command K V)) (pair : K × V) : Type 0 where
+    pub comes : ComesTo (Step eq Says Keeps)
+        (λ now command pair. ReadBy eq Says now command pair ⊎ AskedBy now command pair) old commands pair
 
 module _ {K V : Type 0} where
   -- how many replies the commands have

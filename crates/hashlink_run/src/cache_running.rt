@@ -2,8 +2,8 @@
 ghost use Rattle.std.specs.Prelude.{◌≡◌, IfOk, OnOk, OnErr};
 ghost use Rattle.hashlink_lru.specs.Cached.{entries_in, state_in};
 ghost use Rattle.hashlink_model.specs.Entries.{IsEntries};
-ghost use Rattle.hashlink_run.specs.CacheRun.{LawfulCacheRun, StaysBounded};
-ghost use Rattle.hashlink_steps.specs.Reads.{ClosureSays};
+ghost use Rattle.hashlink_run.specs.CacheRun.{LawfulCacheRun, ShownByCache, StaysBounded};
+ghost use Rattle.hashlink_steps.specs.Reads.{CallableOn, ClosureSays};
 
 use hashlink_commands::{CacheCommand, Reply};
 use hashlink_lru::LruCache;
@@ -13,13 +13,12 @@ use std::hash::{BuildHasher, Hash};
 
 /// Gives the commands to the cache in turn and returns the replies, one for each.
 ///
-/// A command that reads a pair has as its reply what `keep` says of it; `keep` has to take any pair. An
-/// insert that runs out of memory has a reply that says so and hands the pair back, and the run goes on. Each
-/// command costs what the calls of the cache do that it names.
+/// A command that reads a pair has as its reply what `keep` says of it; `keep` has to take each pair that the
+/// commands may come to read. An insert that runs out of memory has a reply that says so and hands the pair
+/// back, and the run goes on. Each command costs what the calls of the cache do that it names.
 ///
 /// Room for all replies is made first, from the allocator of the commands. Where memory for it runs out it
-/// returns
-/// `AllocError`, the commands are dropped and the cache is as it was.
+/// returns `AllocError`, the commands are dropped and the cache is as it was.
 pub fn run_cache<K, V, S, F>(
     cache: &mut LruCache<K, V, S>,
     commands: Vec<CacheCommand<K, V>>,
@@ -30,7 +29,8 @@ where
     V: Drop,
     S: BuildHasher,
     F: Fn(&K, &V) -> bool,
-    requires { F.IsAlwaysCallable keep.now }
+    requires { CallableOn F.Fn keep.now
+        (ShownByCache K.eq (ClosureSays F.Fn keep.now) (state_in cache.old) commands.items) }
 
     // The replies and the state at the end are those of a chain of steps, along which the nodes stay within
     // the peak, once an insert has dropped a pair none runs out of memory, the length stays within a bound by

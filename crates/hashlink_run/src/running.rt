@@ -3,8 +3,8 @@ ghost use Rattle.std.specs.Prelude.{◌≡◌, ◌<◌, ◌≤◌, ◌^◌, leng
 ghost use Rattle.std.specs.List.{AllPass};
 ghost use Rattle.hashlink_core.specs.Keyed.{entries_of, state_of};
 ghost use Rattle.hashlink_model.specs.Entries.{IsEntries};
-ghost use Rattle.hashlink_steps.specs.Reads.{ClosureSays};
-ghost use Rattle.hashlink_run.specs.Run.{LawfulRun, keeps_nodes, reply_total};
+ghost use Rattle.hashlink_steps.specs.Reads.{CallableOn, ClosureSays};
+ghost use Rattle.hashlink_run.specs.Run.{LawfulRun, ShownBy, keeps_nodes, reply_total};
 ghost use Rattle.hashlink_steps.specs.Step.{reply_count};
 
 use hashlink_commands::{Command, Reply};
@@ -17,9 +17,9 @@ use std::hash::{BuildHasher, Hash};
 /// cursor.
 ///
 /// A command that reads a pair has as its reply what `keep` says of it, and `Command::Keep` removes the pairs
-/// at which it returns false; `keep` has to take any pair. An insert that runs out of memory has a reply that
-/// says so and hands the pair back, a shrink that does has one too, and the run goes on. Each command costs
-/// what the call of the map does that it names.
+/// at which it returns false; `keep` has to take each pair that the commands may come to show it. An insert
+/// that runs out of memory has a reply that says so and hands the pair back, a shrink that does has one too,
+/// and the run goes on. Each command costs what the call of the map does that it names.
 ///
 /// Room for all replies is made first, from the allocator of the commands. Where memory for it runs out, or
 /// where their number is above `usize::MAX`, it returns `AllocError`, the commands are dropped and the map is
@@ -34,7 +34,9 @@ where
     V: Drop,
     S: BuildHasher,
     F: Fn(&K, &V) -> bool,
-    requires { F.IsAlwaysCallable keep.now }
+    requires { CallableOn F.Fn keep.now
+        (ShownBy K.eq (ClosureSays F.Fn keep.now) (ClosureSays F.Fn keep.now) (state_of map.old)
+        commands.items) }
 
     // The replies and the state at the end are those of a chain of steps, along which the nodes stay within
     // the peak, and a map that was longer and gave no node back since has a spare node and takes the next

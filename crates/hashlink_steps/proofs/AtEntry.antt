@@ -1,8 +1,10 @@
 -- What is done through an entry is a step at the place of its key.
 use Rattle.std.proofs.Common.{◌≡◌, ℕ, ◌-◌, Bool, List, [], ◌∷◌, ◌++◌, length, slice_get, Option, None, Some}
-use Rattle.std.proofs.Common.{refl, sym, ap, ap₂, ◌∙◌, subst, arith, length-append}
+use Rattle.std.proofs.Common.{refl, sym, ap, ap₂, ◌∙◌, subst, arith, length-append, true, false, nat_lt}
+use Rattle.std.proofs.Common.{if◌then◌else◌}
+use Rattle.std.specs.Map.{lookup_entry}
 use Rattle.std.specs.Option.{option_map}
-use Rattle.std.specs.Prelude.{Result, Ok, Err}
+use Rattle.std.specs.Prelude.{Result, Ok, Err, insert, remove}
 use Rattle.std.specs.Result.{IsErrAnd}
 use Rattle.std.proofs.lemmas.Option.{none-some, same_Some}
 use Rattle.hashlink_model.specs.Entries.{place_of, moved_at}
@@ -10,7 +12,7 @@ use Rattle.hashlink_model.specs.Entry.{EntryState, entry_of, key_at, value_at, T
 use Rattle.hashlink_model.specs.MapState.{MapState, AddsEntry, MovesAt, RemovesAt}
 use Rattle.hashlink_model.proofs.ByPlace.{moved_at-last}
 use Rattle.hashlink_model.proofs.Places.{split_at, slice_get_here}
-use Rattle.hashlink_model.proofs.Splits.{stands_from_place}
+use Rattle.hashlink_model.proofs.Splits.{stands_from_place, lookup_entry-here}
 use Rattle.hashlink_commands.specs.declared.commands.EntryStep.{EntryStep}
 use Rattle.hashlink_commands.specs.declared.replies.Reply.{Reply}
 use Rattle.hashlink_commands.specs.declared.replies.Reply.TheVariants.{Seen}
@@ -77,25 +79,61 @@ module _ {K V : Type 0} where
       ap₂ (λ zs n. slice_get (moved_at zs n (length zs)) (length zs - 1)) s.2 (sym s.3)
       ∙ end_of_moved s.0 e s.1
 
--- so what is said of it there is said of it
-module _ {K V B S : Type 0} (eq : K → K → Bool) (Says : K → V → B → Type 0) {m : MapState K V S} {k : K}
-    {e : EntryState K V S} (is : e ≡ entry_of eq m k) (old new : MapState K V S) (j p : ℕ) (b : B)
-    (same : e.map ≡ old) (at : e.place ≡ Some j) where
-  stands : (x : K × V) × (slice_get old.entries j ≡ Some x)
+  first_inserted : (es : List (K × V)) (e : K × V) (b : Bool)
+      → slice_get (insert es (if b then 0 - 1 else 0) e) 0 ≡ Some e
+  first_inserted es e true = refl
+  first_inserted es e false = refl
+
+  -- and one that moves to the front stands there
+  pub moved_to_front : (es : List (K × V)) (j : ℕ) (e : K × V) → slice_get es j ≡ Some e
+      → slice_get (moved_at es j 0) 0 ≡ Some e
+  moved_to_front es j e at = rw at (first_inserted (remove es j) e (nat_lt j 0))
+
+-- what is read at the entry's place is the pair of its key
+module _ {K V S : Type 0} (eq : K → K → Bool) {m : MapState K V S} {k : K} {e : EntryState K V S}
+    (is : e ≡ entry_of eq m k) (old : MapState K V S) (j : ℕ) (same : e.map ≡ old)
+    (at : e.place ≡ Some j) where
+  stands : (x : K × V) × (slice_get old.entries j ≡ Some x) × (lookup_entry (eq k) m.entries ≡ Some x)
   stands =
       let map : m ≡ old = sym (ap (λ e. e.map) is) ∙ same in
       let place : place_of (eq k) old.entries ≡ Some j =
       ap (λ m. place_of (eq k) m.entries) (sym map) ∙ sym (ap (λ e. e.place) is) ∙ at in
-      let s = stands_from_place (eq k) old.entries j place in
-      (s.1, ap₂ slice_get s.3.is (sym s.4) ∙ slice_get_here s.0 s.1 s.2)
+      let s = stands_from_place (eq k) old.entries j place in (
+        s.1,
+        ap₂ slice_get s.3.is (sym s.4) ∙ slice_get_here s.0 s.1 s.2,
+        ap (λ m. lookup_entry (eq k) m.entries) map ∙ ap (lookup_entry (eq k)) s.3.is
+            ∙ lookup_entry-here (eq k) s.1 s.2 s.3.passes s.0 s.3.before,
+      )
 
+  module _ (pair : K × V) where
+    pub read_there : slice_get old.entries j ≡ Some pair → lookup_entry (eq k) m.entries ≡ Some pair
+    read_there read = stands.2 ∙ sym stands.1 ∙ read
+
+    -- also after it has moved to an end
+    module _ (new : MapState K V S) (p : ℕ) (read : slice_get new.entries p ≡ Some pair) where
+      pub read_at_end : MovesAt old new j (length old.entries) → Some p ≡ Some (length old.entries - 1)
+          → lookup_entry (eq k) m.entries ≡ Some pair
+      read_at_end moves end =
+          let is = ap₂ slice_get moves.entries (same_Some _ _ end) in
+          stands.2 ∙ sym (is ∙ moved_to_end old.entries j stands.0 stands.1) ∙ read
+
+      pub read_at_front : MovesAt old new j 0 → Some p ≡ Some 0 → lookup_entry (eq k) m.entries ≡ Some pair
+      read_at_front moves front =
+          let is = ap₂ slice_get moves.entries (same_Some _ _ front) in
+          stands.2 ∙ sym (is ∙ moved_to_front old.entries j stands.0 stands.1) ∙ read
+
+-- so what is said of it there is said of it
+module _ {K V B S : Type 0} (eq : K → K → Bool) (Says : K → V → B → Type 0) {m : MapState K V S} {k : K}
+    {e : EntryState K V S} (is : e ≡ entry_of eq m k) (old new : MapState K V S) (j p : ℕ) (b : B)
+    (same : e.map ≡ old) (at : e.place ≡ Some j) where
   pub said_at_end : MovesAt old new j (length old.entries) → Some p ≡ Some (length old.entries - 1)
       → SaysOf Says (slice_get new.entries p) (Some b)
       → Replies Says (slice_get old.entries j) (Seen (Some b) ∷ [])
   said_at_end moves end said =
+      let s = stands eq is old j same at in
       let read = ap₂ slice_get moves.entries (same_Some _ _ end)
-      ∙ moved_to_end old.entries j stands.0 stands.1
-      ∙ sym stands.1 in
+      ∙ moved_to_end old.entries j s.0 s.1
+      ∙ sym s.1 in
       (Some b, rw read at said, refl)
 
 -- a value that is taken out goes with its key

@@ -1,5 +1,8 @@
 -- What a keep leaves by one closure, another may leave that answers at least what it answers.
-use Rattle.std.proofs.Common.{◌≡◌, Bool, List, [], ◌∷◌, refl, subst, filter}
+use Rattle.std.proofs.Common.{◌≡◌, Bool, Contains, List, [], ◌∷◌, arith, refl, subst, sym, filter}
+use Rattle.std.specs.List.{FoldsTo}
+use Rattle.std.specs.Map.Calls.{CallableOnEachPair, SomeCallAtPair}
+use Rattle.std.proofs.lemmas.List.Elements.{Contains-append_right}
 use Rattle.hashlink_model.specs.MapState.{MapState}
 use Rattle.hashlink_model.specs.Retain.{KeepsInOrder, RetainsInOrder}
 use Rattle.hashlink_model.specs.Steps.{KeepsOnly}
@@ -22,6 +25,24 @@ module _ {F K V : Type 0} (T : F → K → V → Bool → V → F → Type 0) (K
       → KeepsWhere Keeps old new
   retained-asked old new g r =
       record { kept = r.kept; calls = kept-asked old.entries r.kept g r.calls; keeps = r.keeps }
+
+  -- which so stays as it is
+  unmoved : (es : List (K × V)) (g : F) → FoldsTo (SomeCallAtPair T) f es g → g ≡ f
+  unmoved [] g h = sym h
+  unmoved (e ∷ es) g h =
+      let same = (asks e.0 e.1 h.1.0 h.1.1 h.0 h.1.2).2 in
+      unmoved es g (subst (λ f'. FoldsTo (SomeCallAtPair T) f' es g) same h.2)
+
+  -- may be called on each entry as the calls before have left it, where it may be called on each now
+  pub callable_on_each : (May : F → K → V → Type 0) (es : List (K × V))
+      → ((pair : K × V) → Contains es pair → May f pair.0 pair.1) → CallableOnEachPair T May f es
+  callable_on_each May es each = record {
+    at = λ before after g k v is calls.
+        let first : Contains ((k, v) ∷ after) (k, v) = (0, omega arith, refl) in
+        let here = Contains-append_right before ((k, v) ∷ after) (k, v) first in
+        subst (λ f'. May f' k v) (sym (unmoved before g calls))
+        (each (k, v) (subst (λ xs. Contains xs (k, v)) (sym is) here));
+  }
 
 module _ {K V : Type 0} (Keeps Also : K → V → Bool → Type 0)
     (also : (k : K) (v : V) (b : Bool) → Keeps k v b → Also k v b) where

@@ -71,6 +71,20 @@ module _ {K V S : Type 0} (eq : K → K
       → new.entries ≡ moved eq old.entries k b
   moved_entries distinct found s = (moved_and_left distinct found s).entries
 
+  -- and the pair stands at the end that it moved to
+  module _ (distinct : IsEntries eq old.entries) (found : lookup (eq k) old.entries ≡ Some v) where
+    pub first_of-new : b ≡ 0 → MovesAndWrites eq old new k b v
+        → first_of new.entries ≡ lookup_entry (eq k) old.entries
+    first_of-new end s =
+        ap first_of (moved_entries distinct found s ∙ ap (moved eq old.entries k) end)
+        ∙ first_of-moved eq old.entries k v found
+
+    pub last_of-new : b ≡ length old.entries → MovesAndWrites eq old new k b v
+        → last_of new.entries ≡ lookup_entry (eq k) old.entries
+    last_of-new end s =
+        ap last_of (moved_entries distinct found s ∙ ap (moved eq old.entries k) end)
+        ∙ last_of-moved eq old.entries k v found
+
 -- an absent key has no entry
 pub lookup_entry-absent : {K V : Type 0} (test : K → Bool) (es : List (K × V)) → lookup test es ≡ None
     → lookup_entry test es ≡ None

@@ -1,6 +1,6 @@
 -- What a cache answers to a command, and what it goes on to. Of a pair that a command reads, a reply has what
 -- `Says` lets be said.
-use Rattle.std.specs.Prelude.{◌≡◌, Bool, List, [], ◌∷◌, Option, Result, MatchResult}
+use Rattle.std.specs.Prelude.{◌≡◌, Bool, List, [], ◌∷◌, Option, Some, Result, MatchResult}
 use Rattle.std.specs.Map.{lookup, lookup_entry}
 use Rattle.hashlink_model.specs.Cache.{CacheState, OnMap, EvictsFront, CacheInserts, CacheGets, CacheUses}
 use Rattle.hashlink_model.specs.Cache.{SetsCapacity}
@@ -17,8 +17,18 @@ use Rattle.hashlink_commands.specs.declared.replies.Reply.{Reply}
 use Rattle.hashlink_commands.specs.declared.replies.Reply.TheVariants.{Done, Value, Pair, Refused}
 use Rattle.hashlink_steps.specs.CallReplies.{insert_reply}
 use Rattle.hashlink_steps.specs.Chain.{Answered, Chain, Chained}
-use Rattle.hashlink_steps.specs.EntrySteps.{EntrySteps}
+use Rattle.hashlink_steps.specs.EntrySteps.{EntrySteps, ReadAtEntry}
 use Rattle.hashlink_steps.specs.Reads.{Replies}
+
+-- the command, from old, reads the pair
+abbrev pub ReadFromCache : {K V S : Type 0} → (K → K → Bool) → CacheState K V S → CacheCommand K V → K × V
+    → Type 0
+ReadFromCache eq old (Use k v) pair = lookup_entry (eq k) old.map.entries ≡ Some pair
+ReadFromCache {K} {V} {S} eq old (Entry k step) pair =
+    (between : MapState K V S) × EvictsFront old.map between old.cap × ReadAtEntry eq between k step pair
+ReadFromCache eq old (Get k) pair = lookup_entry (eq k) old.map.entries ≡ Some pair
+ReadFromCache eq old (Peek k) pair = lookup_entry (eq k) old.map.entries ≡ Some pair
+ReadFromCache eq old command pair = ⊥
 
 module _ {K V B S : Type 0} (eq : K → K → Bool) (Says : K → V → B → Type 0) where
   -- from old, the cache may answer the command by these replies and go on to new

@@ -1,5 +1,5 @@
 -- Chains of steps: each command has its replies, and leads on to a state.
-use Rattle.std.specs.Prelude.{◌≡◌, ℕ, List, [], ◌∷◌, take}
+use Rattle.std.specs.Prelude.{◌≡◌, ◌⊎◌, ℕ, List, [], ◌∷◌, take}
 use Rattle.std.specs.List.{flat_map}
 
 -- the replies to a command, and the state that it leads to
@@ -36,3 +36,10 @@ module _ {C R M : Type 0} (Step : M → C → List R → M → Type 0) where
     pub chain : Chain old commands answers
     pub joined : replies ≡ replies_of answers
     pub reached : new ≡ state_after old answers
+
+  -- from old, the commands may be answered in turn so that one of them comes to something of these
+  abbrev pub ComesTo : {P : Type 0} → (M → C → P → Type 0) → M → List C → P → Type 0
+  ComesTo These old [] p = ⊥
+  ComesTo These old (command ∷ commands) p =
+      These old command p
+      ⊎ ((a : Answered R M) × Step old command a.replies a.state × ComesTo These a.state commands p)

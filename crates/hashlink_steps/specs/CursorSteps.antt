@@ -1,5 +1,5 @@
 -- What a cursor answers to its steps, and what it goes on to.
-use Rattle.std.specs.Prelude.{◌≡◌, ℕ, Bool, List, [], ◌∷◌, ◌++◌, Option, Result}
+use Rattle.std.specs.Prelude.{◌≡◌, ◌⊎◌, ℕ, Bool, List, [], ◌∷◌, ◌++◌, Option, Some, Result}
 use Rattle.hashlink_model.specs.Cursor.{CursorState, at_place, entry_in, place_next, place_previous}
 use Rattle.hashlink_model.specs.Cursor.{InsertsBefore}
 use Rattle.hashlink_model.specs.Cursor.{InsertsAfter}
@@ -15,6 +15,16 @@ use Rattle.hashlink_steps.specs.Reads.{Replies}
 -- a cursor on the first entry of a map, or on its guard
 abbrev pub first_place : {K V S : Type 0} → MapState K V S → CursorState K V S
 first_place m = record { map = m; place = 0 }
+
+-- the step of a cursor reads the pair
+abbrev pub ReadByStep : {K V S : Type 0} → CursorState K V S → CursorStep K V → K × V → Type 0
+ReadByStep old Next pair = entry_in old (place_next old) ≡ Some pair
+ReadByStep old Prev pair = entry_in old (place_previous old) ≡ Some pair
+ReadByStep old Current pair = entry_in old old.place ≡ Some pair
+ReadByStep old PeekNext pair = entry_in old (place_next old) ≡ Some pair
+ReadByStep old PeekPrev pair = entry_in old (place_previous old) ≡ Some pair
+ReadByStep old (Before k v) pair = ⊥
+ReadByStep old (After k v) pair = ⊥
 
 module _ {K V B S : Type 0} (eq : K → K → Bool) (Says : K → V → B → Type 0) where
   -- the cursor goes to the place i, and what is there is read
@@ -53,3 +63,11 @@ module _ {K V B S : Type 0} (eq : K → K → Bool) (Says : K → V → B → Ty
       → MapState K V S → Type 0
   CursorSteps old steps replies new =
       (end : CursorState K V S) × CursorWalks (first_place old) steps replies end × (new ≡ end.map)
+
+  -- one of the steps in turn may come to read the pair
+  abbrev pub ReadOnWalk : CursorState K V S → List (CursorStep K V) → K × V → Type 0
+  ReadOnWalk old [] pair = ⊥
+  ReadOnWalk old (step ∷ steps) pair =
+      ReadByStep old step pair
+      ⊎ ((replies : List (Reply K V B)) × (next : CursorState K V S) × CursorStepped old step replies next
+      × ReadOnWalk next steps pair)

@@ -1,5 +1,6 @@
 -- What a map answers to a step on an entry, with the key k in hand, and what it goes on to.
 use Rattle.std.specs.Prelude.{◌≡◌, ℕ, Bool, List, [], ◌∷◌, length, slice_get, None, Some, MatchOption, Result}
+use Rattle.std.specs.Map.{lookup_entry}
 use Rattle.std.specs.Result.{result_map_both}
 use Rattle.hashlink_model.specs.Entries.{place_of}
 use Rattle.hashlink_model.specs.Entry.{InsertsValue, InsertsEntry, ReplacesEntry, ReplacesKey, TakesEntry}
@@ -73,3 +74,11 @@ module _ {K V B S : Type 0} (eq : K → K → Bool) where
   EntrySteps Says old k step replies new =
       MatchOption (place_of (eq k) old.entries) (VacantStep old k step replies new)
       (λ j. OccupiedStep Says old j k step replies new)
+
+-- the step reads the pair of its key
+abbrev pub ReadAtEntry : {K V S : Type 0} → (K → K → Bool) → MapState K V S → K → EntryStep V → K × V → Type 0
+ReadAtEntry eq old k Get pair = lookup_entry (eq k) old.entries ≡ Some pair
+ReadAtEntry eq old k (OrInsert v) pair = lookup_entry (eq k) old.entries ≡ Some pair
+ReadAtEntry eq old k ToFront pair = lookup_entry (eq k) old.entries ≡ Some pair
+ReadAtEntry eq old k ToBack pair = lookup_entry (eq k) old.entries ≡ Some pair
+ReadAtEntry eq old k step pair = ⊥

@@ -7,6 +7,15 @@ use Rattle.hashlink_model.specs.MapState.{MapState}
 use Rattle.hashlink_commands.specs.declared.replies.Reply.{Reply}
 use Rattle.hashlink_commands.specs.declared.replies.Reply.TheVariants.{Seen}
 
+module _ {F K V B : Type 0} (g : Shared F (Bor K × (Bor V × Unit {0})) B) (f : F) where
+  -- f may be called at references to k and v
+  abbrev pub CallableAt : K → V → Type 0
+  CallableAt k v = (key : Bor K) (value : Bor V) → key.now ≡ k → value.now ≡ v → g.pre f (key, (value, tt))
+
+  -- f may be called on each of these pairs
+  abbrev pub CallableOn : (K × V → Type 0) → Type 0
+  CallableOn These = (pair : K × V) → These pair → CallableAt pair.0 pair.1
+
 -- a call of the closure f at references to k and v may say b
 pub record ClosureSays {F K V B : Type 0} (g : Shared F (Bor K × (Bor V × Unit {0})) B) (f : F)
     (k : K) (v : V) (b : B) : Type 0 where

@@ -1,6 +1,6 @@
 -- What a map answers to a command, and what it goes on to. Of a pair that a command reads, a reply has what
 -- `Says` lets be said, and a keep goes by what `Keeps` lets be answered.
-use Rattle.std.specs.Prelude.{◌≡◌, ℕ, Bool, List, [], ◌∷◌, length, Option, Result}
+use Rattle.std.specs.Prelude.{◌≡◌, ℕ, Bool, List, [], ◌∷◌, length, Option, Some, Result, Contains}
 use Rattle.std.specs.Map.{lookup, lookup_entry}
 use Rattle.std.specs.declared.alloc.AllocError.{AllocError}
 use Rattle.hashlink_model.specs.MapState.{MapState, Inserts}
@@ -18,10 +18,10 @@ use Rattle.hashlink_commands.specs.declared.commands.Command.TheVariants.{Entry,
 use Rattle.hashlink_commands.specs.declared.replies.Reply.{Reply}
 use Rattle.hashlink_commands.specs.declared.replies.Reply.TheVariants.{Done, Value, Pair, Length}
 use Rattle.hashlink_steps.specs.CallReplies.{insert_reply, shrink_reply}
-use Rattle.hashlink_steps.specs.CursorSteps.{CursorSteps}
+use Rattle.hashlink_steps.specs.CursorSteps.{CursorSteps, ReadOnWalk, first_place}
 use Rattle.hashlink_steps.specs.Keeps.{KeepsWhere}
 use Rattle.hashlink_steps.specs.Reads.{Replies, Reads}
-use Rattle.hashlink_steps.specs.EntrySteps.{EntrySteps}
+use Rattle.hashlink_steps.specs.EntrySteps.{EntrySteps, ReadAtEntry}
 
 module _ {K V B S : Type 0} (eq : K → K → Bool) (Says : K → V → B → Type 0)
     (Keeps : K → V → Bool → Type 0) where
@@ -77,3 +77,20 @@ module _ {K V : Type 0} where
   abbrev pub IsNoCursor : Command K V → Type 0
   IsNoCursor (Cursor steps) = ⊥
   IsNoCursor command = Unit {0}
+
+-- the command, from old, may come to read the pair
+abbrev pub ReadBy : {K V B S : Type 0} → (K → K → Bool) → (K → V → B → Type 0) → MapState K V S → Command K V
+    → K × V → Type 0
+ReadBy eq Says old (Get k) pair = lookup_entry (eq k) old.entries ≡ Some pair
+ReadBy eq Says old (ToFront k) pair = lookup_entry (eq k) old.entries ≡ Some pair
+ReadBy eq Says old (ToBack k) pair = lookup_entry (eq k) old.entries ≡ Some pair
+ReadBy eq Says old Front pair = first_of old.entries ≡ Some pair
+ReadBy eq Says old Back pair = last_of old.entries ≡ Some pair
+ReadBy eq Says old (Entry k step) pair = ReadAtEntry eq old k step pair
+ReadBy eq Says old (Cursor steps) pair = ReadOnWalk eq Says (first_place old) steps.items pair
+ReadBy eq Says old command pair = ⊥
+
+-- the command is a keep, and asks of the pair
+abbrev pub AskedBy : {K V S : Type 0} → MapState K V S → Command K V → K × V → Type 0
+AskedBy old Keep pair = Contains old.entries pair
+AskedBy old command pair = ⊥

@@ -1,11 +1,11 @@
 //! One command to a cache.
-ghost use Rattle.std.specs.Prelude.{◌≡◌, [], ◌∷◌};
+ghost use Rattle.std.specs.Prelude.{◌≡◌, [], ◌∷◌, Some};
 ghost use Rattle.std.specs.Map.{lookup, lookup_entry};
 ghost use Rattle.hashlink_commands.specs.declared.cache_commands.CacheCommand.TheVariants.{Use};
 ghost use Rattle.hashlink_lru.specs.Cached.{entries_in, state_in};
 ghost use Rattle.hashlink_model.specs.Cache.{CacheGets};
-ghost use Rattle.hashlink_steps.specs.CacheStep.{CacheStep};
-ghost use Rattle.hashlink_steps.specs.Reads.{ClosureSays, SaysOf};
+ghost use Rattle.hashlink_steps.specs.CacheStep.{CacheStep, ReadFromCache};
+ghost use Rattle.hashlink_steps.specs.Reads.{CallableOn, ClosureSays, SaysOf};
 
 use crate::entries::reply_of_entry;
 use crate::steps::{insert_reply, said_of};
@@ -13,8 +13,8 @@ use hashlink_commands::{CacheCommand, Reply};
 use hashlink_lru::LruCache;
 use std::hash::{BuildHasher, Hash};
 
-/// Gives the cache the command and returns its reply. Of a pair that is read it has what the closure says. It
-/// costs what the call costs that the command names.
+/// Gives the cache the command and returns its reply. Of a pair that is read it has what the closure says,
+/// which has to take that pair. It costs what the call costs that the command names.
 pub fn answer_cache<K, V, S, B, F>(
     cache: &mut LruCache<K, V, S>,
     command: CacheCommand<K, V>,
@@ -25,7 +25,7 @@ where
     V: Drop,
     S: BuildHasher,
     F: Fn(&K, &V) -> B,
-    requires { F.IsAlwaysCallable says.now }
+    requires { CallableOn F.Fn says.now (ReadFromCache K.eq (state_in cache.old) command) }
     ensures { CacheStep K.eq (ClosureSays F.Fn says.now) (state_in cache.old) command (result ∷ [])
         (state_in cache.new) }
 {
@@ -64,7 +64,8 @@ where
     V: Drop,
     S: BuildHasher,
     F: Fn(&K, &V) -> B,
-    requires { F.IsAlwaysCallable says.now }
+    requires { CallableOn F.Fn says.now
+        (λ pair. lookup_entry (K.eq key) (entries_in cache.old) ≡ Some pair) }
     ensures { CacheStep K.eq (ClosureSays F.Fn says.now) (state_in cache.old) (Use key value) (result ∷ [])
         (state_in cache.new) }
 {
@@ -83,7 +84,8 @@ where
     K: Eq + Hash,
     S: BuildHasher,
     F: Fn(&K, &V) -> B,
-    requires { F.IsAlwaysCallable says.now }
+    requires { CallableOn F.Fn says.now
+        (λ pair. lookup_entry (K.eq key.now) (entries_in cache.old) ≡ Some pair) }
     ensures gets { CacheGets K.eq (state_in cache.old) (state_in cache.new) key.now
         (lookup (K.eq key.now) (entries_in cache.old)) }
     ensures said { SaysOf (ClosureSays F.Fn says.now)

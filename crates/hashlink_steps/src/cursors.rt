@@ -3,8 +3,9 @@ ghost use Rattle.std.specs.Prelude.{◌≡◌, ◌+◌, ◌≤◌, ◌++◌, [],
 ghost use Rattle.std.specs.Prelude.{vec_capacity};
 ghost use Rattle.hashlink_core.specs.Keyed.{state_of};
 ghost use Rattle.hashlink_map.specs.Cursor.{cursor_map, cursor_state};
-ghost use Rattle.hashlink_steps.specs.CursorSteps.{CursorStepped, CursorSteps};
-ghost use Rattle.hashlink_steps.specs.Reads.{ClosureSays};
+ghost use Rattle.hashlink_steps.specs.CursorSteps.{CursorStepped, CursorSteps, ReadByStep, ReadOnWalk};
+ghost use Rattle.hashlink_steps.specs.CursorSteps.{first_place};
+ghost use Rattle.hashlink_steps.specs.Reads.{CallableOn, ClosureSays};
 
 use crate::steps::{insert_reply, said_of};
 use hashlink_commands::{CursorStep, Reply};
@@ -25,7 +26,8 @@ where
     S: BuildHasher,
     B: Drop,
     F: Fn(&K, &V) -> B,
-    requires { F.IsAlwaysCallable says.now }
+    requires { CallableOn F.Fn says.now
+        (ReadOnWalk K.eq (ClosureSays F.Fn says.now) (first_place (state_of map.old)) steps.items) }
     ensures walked { OnOk result ((more : List (Reply K V B))
         × CursorSteps K.eq (ClosureSays F.Fn says.now) (state_of map.old) steps.items more (state_of map.new)
         × (replies.new.items ≡ replies.old.items ++ more)) }
@@ -51,7 +53,7 @@ where
     V: Drop,
     S: BuildHasher,
     F: Fn(&K, &V) -> B,
-    requires { F.IsAlwaysCallable says.now }
+    requires { CallableOn F.Fn says.now (ReadByStep (cursor_state cursor.old) step) }
     ensures same_map { (cursor_map cursor.new).ghost_name ≡ (cursor_map cursor.old).ghost_name }
     ensures stepped { CursorStepped K.eq (ClosureSays F.Fn says.now)
         (cursor_state cursor.old) step (result ∷ []) (cursor_state cursor.new) }

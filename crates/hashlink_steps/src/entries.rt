@@ -3,8 +3,8 @@ ghost use Rattle.std.specs.Prelude.{◌≡◌, [], ◌∷◌, Some, slice_get};
 ghost use Rattle.hashlink_core.specs.Keyed.{state_of};
 ghost use Rattle.hashlink_map.specs.Entry.{occupied_place, occupied_state};
 ghost use Rattle.hashlink_steps.specs.CallReplies.{reply_or_refused};
-ghost use Rattle.hashlink_steps.specs.EntrySteps.{EntrySteps};
-ghost use Rattle.hashlink_steps.specs.Reads.{ClosureSays, SaysOf};
+ghost use Rattle.hashlink_steps.specs.EntrySteps.{EntrySteps, ReadAtEntry};
+ghost use Rattle.hashlink_steps.specs.Reads.{CallableOn, ClosureSays, SaysOf};
 
 use hashlink_commands::{EntryStep, Reply};
 use hashlink_map::{Entry, LinkedHashMap, OccupiedEntry};
@@ -22,7 +22,7 @@ where
     V: Drop,
     S: BuildHasher,
     F: Fn(&K, &V) -> B,
-    requires { F.IsAlwaysCallable says.now }
+    requires { CallableOn F.Fn says.now (ReadAtEntry K.eq (state_of map.old) key step) }
     ensures { EntrySteps K.eq (ClosureSays F.Fn says.now) (state_of map.old) key step (result ∷ [])
         (state_of map.new) }
 {
@@ -45,7 +45,7 @@ where
     V: Drop,
     S: BuildHasher,
     F: Fn(&K, &V) -> B,
-    requires { F.IsAlwaysCallable says.now }
+    requires { CallableOn F.Fn says.now (ReadAtEntry K.eq (state_of map.old) key step) }
     ensures { EntrySteps K.eq (ClosureSays F.Fn says.now) (state_of map.old) key step
         (reply_or_refused result ∷ []) (state_of map.new) }
 {
@@ -106,7 +106,8 @@ where
     K: Eq + Hash,
     S: BuildHasher,
     F: Fn(&K, &V) -> B,
-    requires { F.IsAlwaysCallable says.now }
+    requires { CallableOn F.Fn says.now (λ pair.
+        slice_get (occupied_state entry.now).map.entries (occupied_place entry.now) ≡ Some pair) }
     ensures { SaysOf (ClosureSays F.Fn says.now)
         (slice_get (occupied_state entry.now).map.entries (occupied_place entry.now)) (Some result) }
 {

@@ -1,5 +1,5 @@
 //! One command to a map.
-ghost use Rattle.std.specs.Prelude.{◌≡◌, ◌+◌, ◌≤◌, ◌++◌, [], ◌∷◌, List, OnOk, IsOk, length};
+ghost use Rattle.std.specs.Prelude.{◌≡◌, ◌+◌, ◌≤◌, ◌++◌, [], ◌∷◌, Contains, List, OnOk, IsOk, Some, length};
 ghost use Rattle.std.specs.Prelude.{vec_len, vec_capacity};
 ghost use Rattle.std.specs.Map.{lookup, lookup_entry};
 ghost use Rattle.std.specs.Map.Iter.{deref_pair};
@@ -7,9 +7,9 @@ ghost use Rattle.std.specs.Option.{option_map};
 ghost use Rattle.hashlink_core.specs.Keyed.{entries_of, state_of};
 ghost use Rattle.hashlink_model.specs.Steps.{Moves};
 ghost use Rattle.hashlink_steps.specs.Keeps.{KeepsWhere};
-ghost use Rattle.hashlink_steps.specs.Reads.{ClosureSays, SaysOf};
+ghost use Rattle.hashlink_steps.specs.Reads.{CallableAt, CallableOn, ClosureSays, SaysOf};
 ghost use Rattle.hashlink_steps.specs.CallReplies.{insert_reply, shrink_reply};
-ghost use Rattle.hashlink_steps.specs.Step.{IsNoCursor, Step, reply_count};
+ghost use Rattle.hashlink_steps.specs.Step.{AskedBy, IsNoCursor, ReadBy, Step, reply_count};
 
 use crate::cursors::walk_cursor;
 use crate::entries::reply_of_entry;
@@ -19,8 +19,9 @@ use std::alloc::AllocError;
 use std::hash::{BuildHasher, Hash};
 
 /// Gives the map the command and pushes its replies. Of a pair that is read they have what the first closure
-/// says, and the second one says which pairs a keep leaves. Where the replies' vector cannot grow it returns
-/// `AllocError`. It costs what the call costs that the command names.
+/// says, and the second one says which pairs a keep leaves; each has to take the pairs that it may come to be
+/// shown. Where the replies' vector cannot grow it returns `AllocError`. It costs what the call costs that
+/// the command names.
 pub fn answer_command<K, V, S, B, F, G>(
     map: &mut LinkedHashMap<K, V, S>,
     command: Command<K, V>,
@@ -35,8 +36,9 @@ where
     B: Drop,
     F: Fn(&K, &V) -> B,
     G: Fn(&K, &V) -> bool,
-    requires says { F.IsAlwaysCallable says.now }
-    requires keep { G.IsAlwaysCallable keep.now }
+    requires says { CallableOn F.Fn says.now
+        (ReadBy K.eq (ClosureSays F.Fn says.now) (state_of map.old) command) }
+    requires keep { CallableOn G.Fn keep.now (AskedBy (state_of map.old) command) }
     ensures answered { OnOk result ((more : List (Reply K V B))
         × Step K.eq (ClosureSays F.Fn says.now) (ClosureSays G.Fn keep.now) (state_of map.old) command more
         (state_of map.new)
@@ -66,8 +68,9 @@ where
     F: Fn(&K, &V) -> B,
     G: Fn(&K, &V) -> bool,
     requires no_cursor { IsNoCursor command }
-    requires says { F.IsAlwaysCallable says.now }
-    requires keep { G.IsAlwaysCallable keep.now }
+    requires says { CallableOn F.Fn says.now
+        (ReadBy K.eq (ClosureSays F.Fn says.now) (state_of map.old) command) }
+    requires keep { CallableOn G.Fn keep.now (AskedBy (state_of map.old) command) }
     ensures { Step K.eq (ClosureSays F.Fn says.now) (ClosureSays G.Fn keep.now) (state_of map.old) command
         (result ∷ []) (state_of map.new) }
 {
@@ -106,12 +109,12 @@ where
     V: Drop,
     S: BuildHasher,
     G: Fn(&K, &V) -> bool,
-    requires { G.IsAlwaysCallable keep.now }
+    requires { CallableOn G.Fn keep.now (Contains (entries_of map.old)) }
     ensures { KeepsWhere (ClosureSays G.Fn keep.now) (state_of map.old) (state_of map.new) }
 {
     map.retain(
         |key, value|
-            requires { G.IsAlwaysCallable keep.now }
+            requires { CallableAt G.Fn keep.now key.now value.old }
             ensures says { ClosureSays G.Fn keep.entry.now key.now value.old result }
             ensures unchanged { (value.new ≡ value.old) × (keep.exit ≡ keep.entry) }
         { keep(key, value) },
@@ -142,7 +145,7 @@ fn shrink_reply<K, V, B>(answer: Result<(), AllocError>) -> Reply<K, V, B>
 pub(crate) fn said_of<K, V, B, F>(pair: Option<(&K, &V)>, says: &F) -> Option<B>
 where
     F: Fn(&K, &V) -> B,
-    requires { F.IsAlwaysCallable says.now }
+    requires { CallableOn F.Fn says.now (λ read. option_map deref_pair pair ≡ Some read) }
     ensures { SaysOf (ClosureSays F.Fn says.now) (option_map deref_pair pair.entry) result }
 {
     let (key, value) = pair?;
@@ -155,7 +158,8 @@ where
     K: Eq + Hash,
     S: BuildHasher,
     F: Fn(&K, &V) -> B,
-    requires { F.IsAlwaysCallable says.now }
+    requires { CallableOn F.Fn says.now
+        (λ pair. lookup_entry (K.eq key.now) (entries_of map.old) ≡ Some pair) }
     ensures moved { Moves K.eq (state_of map.old) (state_of map.new) key.now 0
         (lookup (K.eq key.now) (entries_of map.old)) }
     ensures said { SaysOf (ClosureSays F.Fn says.now)
@@ -171,7 +175,8 @@ where
     K: Eq + Hash,
     S: BuildHasher,
     F: Fn(&K, &V) -> B,
-    requires { F.IsAlwaysCallable says.now }
+    requires { CallableOn F.Fn says.now
+        (λ pair. lookup_entry (K.eq key.now) (entries_of map.old) ≡ Some pair) }
     ensures moved { Moves K.eq (state_of map.old) (state_of map.new) key.now (length (entries_of map.old))
         (lookup (K.eq key.now) (entries_of map.old)) }
     ensures said { SaysOf (ClosureSays F.Fn says.now)

@@ -1,9 +1,9 @@
 use Rattle.std.proofs.Common.{[], ◌∷◌, ◌++◌, length, refl, sym, ap, ◌∙◌, append-nil}
-use Rattle.std.proofs.Common.{append_assoc, arith, rules}
+use Rattle.std.proofs.Common.{append_assoc, arith, rules, inl, inr}
 use Rattle.std.specs.Vec.Iter.{into_iter_items}
 use Rattle.hashlink_core.specs.Keyed.{state_of}
 use Rattle.hashlink_map.specs.Cursor.{cursor_state}
-use Rattle.hashlink_steps.proofs.CursorProgress.{WalksOn-first, WalksOn-step, WalksOn-end}
+use Rattle.hashlink_steps.proofs.CursorProgress.{WalksOn-first, WalksOn-step, WalksOn-end, read_from_first}
 use Rattle.hashlink_steps.proofs.cursors.walk_cursor.Goals as goal
 
 pub loop-step-init : goal.loop-step-init
@@ -16,7 +16,13 @@ loop-step-init g c =
       sym (append-nil c.args.replies.now.items),
       refl,
       λ room. (omega (arith, ap length gives), omega arith),
+      λ pair read. c.requires pair (read_from_first _ _ _ _ _ _ (ap state_of cursor.ensures.unchanged)
+          cursor.ensures.first gives pair read),
     )
+
+pub reply_of_step-requires : goal.reply_of_step-requires
+reply_of_step-requires g c = λ pair read.
+    (rw c.in-Some.ensures.steps.0 at c.loop-step.invariant.5) pair (inl read)
 
 pub loop-step-preserved : goal.loop-step-preserved
 loop-step-preserved g c =
@@ -34,6 +40,7 @@ loop-step-preserved g c =
             omega (arith, before.0, ap length left, pushed.len),
             omega (arith, before.1, pushed.capacity),
           ),
+      λ pair read. (rw left at so_far.5) pair (inr (_, _, c.reply_of_step.ensures.stepped, read)),
     )
 
 pub returns-in_err-push-clause-room : goal.returns-in_err-push-clause-room

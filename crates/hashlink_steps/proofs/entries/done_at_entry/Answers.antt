@@ -4,7 +4,27 @@ use Rattle.hashlink_commands.specs.declared.replies.Reply.TheVariants.{Value, Pa
 use Rattle.hashlink_steps.specs.CallReplies.{reply_or_refused}
 use Rattle.hashlink_steps.specs.Reads.{ClosureSays}
 use Rattle.hashlink_steps.proofs.AtEntry.{at_occupied, at_vacant, added, handed_on, taken, said_at_end}
+use Rattle.hashlink_steps.proofs.AtEntry.{read_there, read_at_end, read_at_front}
 use Rattle.hashlink_steps.proofs.entries.done_at_entry.Goals as goal
+
+pub said_of_entry-said-requires : goal.said_of_entry-said-requires
+said_of_entry-said-requires g c = λ pair read.
+    let there = read_there g.K.PartialEq.eq c.in-Occupied.ensures.entry _ _ refl refl pair read in
+    c.requires pair (rw c.in-Get.is there)
+
+pub said_of_entry-said-requires-in-OrInsert : goal.said_of_entry-said-requires-in-OrInsert
+said_of_entry-said-requires-in-OrInsert g c = λ pair read.
+    let there =
+    read_at_end g.K.PartialEq.eq c.in-Occupied.ensures.entry _ _ refl refl pair _ _ read
+    c.to_back.ensures.moves (ap (λ e. e.place) c.to_back.ensures.stands) in
+    c.requires pair (⊎_elim (λ given. rw given.1 there) (λ given. rw given there) c.in-OrInsert.is)
+
+pub said_of_entry-said-requires-in-ToFront : goal.said_of_entry-said-requires-in-ToFront
+said_of_entry-said-requires-in-ToFront g c = λ pair read.
+    let there =
+    read_at_front g.K.PartialEq.eq c.in-Occupied.ensures.entry _ _ refl refl pair _ _ read
+    c.to_front.ensures.moves (ap (λ e. e.place) c.to_front.ensures.stands) in
+    c.requires pair (rw c.in-ToFront.is there)
 
 pub returns-in-OrInsert : goal.returns-in-OrInsert
 returns-in-OrInsert g c =

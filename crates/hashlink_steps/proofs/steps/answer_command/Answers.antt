@@ -1,5 +1,8 @@
 use Rattle.hashlink_steps.proofs.steps.answer_command.Goals as goal
 
+pub walk_cursor-requires : goal.walk_cursor-requires
+walk_cursor-requires g c = rw c.in-Cursor.is at c.requires.says
+
 pub returns-in_ok-walk_cursor-in-Cursor-clause-answered :
     goal.returns-in_ok-walk_cursor-in-Cursor-clause-answered
 returns-in_ok-walk_cursor-in-Cursor-clause-answered g c =

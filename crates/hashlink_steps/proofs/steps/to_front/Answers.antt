@@ -1,7 +1,6 @@
-use Rattle.std.proofs.Common.{ap, sym, ◌∙◌}
+use Rattle.std.proofs.Common.{sym, ◌∙◌, refl}
 use Rattle.hashlink_core.specs.Keyed.{entries_of, state_of}
-use Rattle.hashlink_model.specs.Walk.{first_of}
-use Rattle.hashlink_steps.proofs.Moved.{moved_entries, moves_and_left, first_of-moved, lookup_entry-absent}
+use Rattle.hashlink_steps.proofs.Moved.{moves_and_left, first_of-new, lookup_entry-absent}
 use Rattle.hashlink_steps.proofs.steps.to_front.Goals as goal
 
 pub returns-in_err-to_front-clause-said : goal.returns-in_err-to_front-clause-said
@@ -18,16 +17,19 @@ returns-clause-moved g c =
     c.in_ok-to_front.field-0.now c.to_front.ensures.distinct (sym c.in_ok-to_front.ensures.value)
     (rw c.in_ok-to_front.was at (c.to_front.follows.holds c.in_ok-to_front.field-0.now))
 
+pub said_of-requires : goal.said_of-requires
+said_of-requires g c = λ pair is.
+    let there =
+    first_of-new g.K.PartialEq.eq g.met.K.Eq.laws (state_of c.args.map.now) _ c.args.key.now 0
+    c.in_ok-to_front.field-0.now c.to_front.ensures.distinct (sym c.in_ok-to_front.ensures.value) refl
+    (rw c.in_ok-to_front.was at (c.to_front.follows.holds c.in_ok-to_front.field-0.now)) in
+    c.requires pair (sym there ∙ sym c.front.ensures ∙ is)
+
 pub returns-clause-said : goal.returns-clause-said
 returns-clause-said g c =
-    let eq = g.K.PartialEq.eq in
-    let es = entries_of c.args.map.now in
-    let found = sym c.in_ok-to_front.ensures.value in
-    let left = rw c.in_ok-to_front.was at (c.to_front.follows.holds c.in_ok-to_front.field-0.now) in
-    let moved =
-    moved_entries eq g.met.K.Eq.laws (state_of c.args.map.now) _
-    c.args.key.now 0
-    c.in_ok-to_front.field-0.now c.to_front.ensures.distinct found left in
-    let read = c.front.ensures ∙ ap first_of moved
-    ∙ first_of-moved eq es c.args.key.now c.in_ok-to_front.field-0.now found in
+    let there =
+    first_of-new g.K.PartialEq.eq g.met.K.Eq.laws (state_of c.args.map.now) _ c.args.key.now 0
+    c.in_ok-to_front.field-0.now c.to_front.ensures.distinct (sym c.in_ok-to_front.ensures.value) refl
+    (rw c.in_ok-to_front.was at (c.to_front.follows.holds c.in_ok-to_front.field-0.now)) in
+    let read = c.front.ensures ∙ there in
     rw read at c.said_of.ensures
