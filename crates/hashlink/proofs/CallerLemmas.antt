@@ -40,9 +40,10 @@ use Rattle.hashlink_commands.specs.declared.commands.Command.{Command}
 use Rattle.hashlink_commands.specs.declared.commands.Command.TheVariants.{Insert, Remove}
 use Rattle.hashlink_commands.specs.declared.replies.Reply.{Reply}
 use Rattle.hashlink_commands.specs.declared.replies.Reply.TheVariants.{Value}
-use Rattle.hashlink_run.specs.CallReplies.{insert_reply, is_refused}
-use Rattle.hashlink_run.specs.Chain.{Answered, replies_of}
-use Rattle.hashlink_run.specs.Run.{LawfulRun, Run, TakesKeysWhereShorter, keeps_nodes}
+use Rattle.hashlink_steps.specs.CallReplies.{insert_reply, is_refused}
+use Rattle.hashlink_steps.specs.Chain.{Answered, replies_of}
+use Rattle.hashlink_run.specs.Run.{LawfulRun, Run, ShownBy, TakesKeysWhereShorter, keeps_nodes}
+use Rattle.hashlink_steps.specs.Step.{AskedBy, ReadBy, Step}
 use Rattle.hashlink_model.proofs.Distinct.{none_equal, none_others, IsEntries-middle, IsEntries-insert}
 use Rattle.hashlink_model.proofs.Puts.{none_without}
 use Rattle.hashlink_model.proofs.SetElements.{find-keys}
@@ -715,3 +716,15 @@ module _ {K V B S : Type 0} {eq : K → K → Bool} {Says : K → V → B → Ty
       let ran = subst (λ cs. LawfulRun eq Says Keeps old cs replies new) is lawful in
       subst (λ rs. (was : Option V) × (slice_get rs 1 ≡ Some (Value was))) (sym ran.runs.joined)
       (second_answered eq Says Keeps old g k v ran.runs.answers ran.runs.chain ran.shorter p)
+
+  -- goal: what `run` requires of its closure. A pair that it may be shown it may be shown at the first command,
+  -- or later
+  pub shown_now_or_later : {old : MapState K V S} {command : Command K V} {commands : List (Command K V)}
+      {pair : K × V} → ShownBy eq Says Keeps old (command ∷ commands) pair
+      → (ReadBy eq Says old command pair ⊎ AskedBy old command pair)
+      ⊎ ((a : Answered (Reply K V B) (MapState K V S)) × Step eq Says Keeps old command a.replies a.state
+      × ShownBy eq Says Keeps a.state commands pair)
+  shown_now_or_later shown = elim shown.comes [
+    | inl now ↦ inl now
+    | inr later ↦ inr (later.0, later.1, record { comes = later.2 })
+  ]

@@ -3,12 +3,10 @@ use Rattle.std.proofs.Common.{◌≡◌, ◌≤◌, ◌<◌, Bool, true, List, [
 use Rattle.std.proofs.Common.{take, drop}
 use Rattle.std.proofs.Common.{refl, sym, ap, subst, arith}
 use Rattle.std.specs.List.{AllPass}
-use Rattle.std.specs.Map.{lookup_entry}
 use Rattle.std.proofs.lemmas.List.{take-take}
 use Rattle.std.proofs.lemmas.List.Elements.{All-head, All-tail}
 use Rattle.hashlink_model.specs.History.{Length}
 use Rattle.hashlink_model.specs.MapState.{MapState, node_count}
-use Rattle.hashlink_model.specs.Walk.{first_of, last_of}
 use Rattle.hashlink_model.specs.Peak.{KeepsNodes, Passes, PassesInTurn}
 use Rattle.hashlink_model.proofs.KeptNodes.{kept-inserts, kept-replaces, kept-moves, kept-removes_key}
 use Rattle.hashlink_model.proofs.KeptNodes.{kept-pops_front}
@@ -24,16 +22,14 @@ use Rattle.hashlink_commands.specs.declared.commands.Command.TheVariants.{Front,
 use Rattle.hashlink_commands.specs.declared.commands.Command.TheVariants.{Keep}
 use Rattle.hashlink_commands.specs.declared.commands.Command.TheVariants.{Entry, Cursor}
 use Rattle.hashlink_commands.specs.declared.replies.Reply.{Reply}
-use Rattle.hashlink_run.specs.Step.{Step}
-use Rattle.hashlink_run.specs.Chain.{Answered, state_after, after}
+use Rattle.hashlink_steps.specs.Step.{Step}
+use Rattle.hashlink_steps.specs.Chain.{Answered, state_after, after}
 use Rattle.hashlink_run.specs.Run.{Run, Runs, passed_at, keeps_nodes, passed_by}
 use Rattle.hashlink_run.specs.Run.{StaysWithinPeak, TakesKeysWhereShorter}
 use Rattle.hashlink_run.proofs.Chained.{Chain-take, Chain-drop, state_after-parts}
-use Rattle.hashlink_run.proofs.CursorNodes.{cursor-keeps, cursor-wider}
-use Rattle.hashlink_run.proofs.Kept.{keeps_where-wider}
+use Rattle.hashlink_run.proofs.CursorNodes.{cursor-keeps}
 use Rattle.hashlink_run.proofs.NotRefused.{map_taken_at}
-use Rattle.hashlink_run.proofs.EntryNodes.{kept_unchanged, entry-keeps, replies-wider, reads-wider}
-use Rattle.hashlink_run.proofs.EntryNodes.{entry-wider}
+use Rattle.hashlink_run.proofs.EntryNodes.{kept_unchanged, entry-keeps}
 
 -- ---- the nodes at one step
 
@@ -142,30 +138,3 @@ module _ {K V B S : Type 0} (eq : K → K → Bool) (Says : K → V → B → Ty
   spare_at_the_end old cs replies new r all shorter =
       let kept = run-keeps old cs r.answers r.chain all in
       spare_where_shorter old new (rw (sym r.reached) at kept) shorter
-
--- ---- what one closure says another may say too
-
-module _ {K V B : Type 0} (P Q : K → V → B → Type 0) (wider : (k : K) (v : V) (b : B) → P k v b → Q k v b)
-    (Keeps Also : K → V → Bool → Type 0) (also : (k : K) (v : V) (b : Bool) → Keeps k v b → Also k v b)
-    {S : Type 0} (eq : K → K → Bool) (old : MapState K V S) (replies : List (Reply K V B))
-    (new : MapState K V S) where
-  pub step-wider : (command : Command K V) → Step eq P Keeps old command replies new
-      → Step eq Q Also old command replies new
-  step-wider (Insert k v) s = s
-  step-wider (InsertFront k v) s = s
-  step-wider (Replace k v) s = s
-  step-wider (Get k) s = reads-wider P Q wider old replies new (lookup_entry (eq k) old.entries) s
-  step-wider (Remove k) s = s
-  step-wider (RemoveEntry k) s = s
-  step-wider PopFront s = s
-  step-wider PopBack s = s
-  step-wider (ToFront k) s = (s.0, replies-wider P Q wider (lookup_entry (eq k) old.entries) replies s.1)
-  step-wider (ToBack k) s = (s.0, replies-wider P Q wider (lookup_entry (eq k) old.entries) replies s.1)
-  step-wider Front s = reads-wider P Q wider old replies new (first_of old.entries) s
-  step-wider Back s = reads-wider P Q wider old replies new (last_of old.entries) s
-  step-wider Len s = s
-  step-wider Clear s = s
-  step-wider Shrink s = s
-  step-wider Keep s = (keeps_where-wider Keeps Also also old new s.0, s.1)
-  step-wider (Entry k step) s = entry-wider P Q wider old replies new eq k step s
-  step-wider (Cursor steps) s = cursor-wider P Q wider eq old new steps.items replies s

@@ -1,8 +1,7 @@
--- Steps of a cursor: every node is kept, no entry leaves, and what is said of a pair that is read may be said
--- more widely.
+-- Steps of a cursor: every node is kept, and no entry leaves.
 use Rattle.std.proofs.Common.{◌≡◌, ℕ, ◌≤◌, Bool, List, [], ◌∷◌, length, Option, None, Some, Result, Ok, Err}
 use Rattle.std.proofs.Common.{ap, arith}
-use Rattle.hashlink_model.specs.Cursor.{CursorState, entry_in, place_next, place_previous}
+use Rattle.hashlink_model.specs.Cursor.{CursorState, place_next}
 use Rattle.hashlink_model.specs.MapState.{MapState, Inserts}
 use Rattle.hashlink_model.specs.Peak.{KeepsNodes}
 use Rattle.hashlink_model.proofs.KeptNodes.{kept-inserts}
@@ -12,8 +11,8 @@ use Rattle.hashlink_commands.specs.declared.commands.CursorStep.TheVariants.{Nex
 use Rattle.hashlink_commands.specs.declared.commands.CursorStep.TheVariants.{PeekPrev}
 use Rattle.hashlink_commands.specs.declared.commands.CursorStep.TheVariants.{Before, After}
 use Rattle.hashlink_commands.specs.declared.replies.Reply.{Reply}
-use Rattle.hashlink_run.specs.CursorSteps.{CursorStepped, CursorWalks, CursorSteps, first_place}
-use Rattle.hashlink_run.proofs.EntryNodes.{kept_unchanged, replies-wider}
+use Rattle.hashlink_steps.specs.CursorSteps.{CursorStepped, CursorWalks, CursorSteps, first_place}
+use Rattle.hashlink_run.proofs.EntryNodes.{kept_unchanged}
 
 -- every node is kept, and no entry left
 record OnlyGrows {K V S : Type 0} (old new : MapState K V S) : Type 0 where
@@ -71,31 +70,3 @@ module _ {K V S : Type 0} where
     cursor-keeps old new steps replies s =
         (grows-then old s.0.map new (walk-grows (first_place old) s.0 steps replies s.1)
         (grows-same s.0.map new s.2)).kept
-
--- ---- what one closure says another may say too
-
-module _ {K V B : Type 0} (P Q : K → V → B → Type 0) (wider : (k : K) (v : V) (b : B) → P k v b → Q k v b)
-    {S : Type 0} (eq : K → K → Bool) where
-  step-wider : (old new : CursorState K V S) (step : CursorStep K V) (replies : List (Reply K V B))
-      → CursorStepped eq P old step replies new → CursorStepped eq Q old step replies new
-  step-wider old new Next replies s =
-      (s.0, replies-wider P Q wider (entry_in old (place_next old)) replies s.1)
-  step-wider old new Prev replies s =
-      (s.0, replies-wider P Q wider (entry_in old (place_previous old)) replies s.1)
-  step-wider old new Current replies s = (s.0, replies-wider P Q wider (entry_in old old.place) replies s.1)
-  step-wider old new PeekNext replies s =
-      (s.0, replies-wider P Q wider (entry_in old (place_next old)) replies s.1)
-  step-wider old new PeekPrev replies s =
-      (s.0, replies-wider P Q wider (entry_in old (place_previous old)) replies s.1)
-  step-wider old new (Before k v) replies s = s
-  step-wider old new (After k v) replies s = s
-
-  walk-wider : (old new : CursorState K V S) (steps : List (CursorStep K V)) (replies : List (Reply K V B))
-      → CursorWalks eq P old steps replies new → CursorWalks eq Q old steps replies new
-  walk-wider old new [] replies s = s
-  walk-wider old new (step ∷ steps) replies s =
-      (s.0, s.1, s.2, step-wider old s.1 step s.0 s.3, walk-wider s.1 new steps s.2 s.4, s.5)
-
-  pub cursor-wider : (old new : MapState K V S) (steps : List (CursorStep K V)) (replies : List (Reply K V B))
-      → CursorSteps eq P old steps replies new → CursorSteps eq Q old steps replies new
-  cursor-wider old new steps replies s = (s.0, walk-wider (first_place old) s.0 steps replies s.1, s.2)

@@ -1,5 +1,5 @@
--- Steps on entries: every node is kept, and what is said of a pair that is read may be said more widely.
-use Rattle.std.proofs.Common.{◌≡◌, ℕ, zero, suc, Bool, List, [], ◌∷◌, length, refl, slice_get, Option, None}
+-- Steps on entries: every node is kept.
+use Rattle.std.proofs.Common.{◌≡◌, ℕ, zero, suc, Bool, List, [], ◌∷◌, length, refl, Option, None}
 use Rattle.std.proofs.Common.{Some}
 use Rattle.std.proofs.Common.{Result, Ok, Err, ap, arith}
 use Rattle.std.proofs.Common.{MatchOption}
@@ -18,8 +18,7 @@ use Rattle.hashlink_commands.specs.declared.commands.EntryStep.TheVariants.{Repl
 use Rattle.hashlink_commands.specs.declared.commands.EntryStep.TheVariants.{ToBack}
 use Rattle.hashlink_commands.specs.declared.commands.EntryStep.TheVariants.{Remove, RemoveEntry}
 use Rattle.hashlink_commands.specs.declared.replies.Reply.{Reply}
-use Rattle.hashlink_run.specs.EntrySteps.{OccupiedStep, VacantStep, EntrySteps}
-use Rattle.hashlink_run.specs.Reads.{SaysOf, Replies, Reads}
+use Rattle.hashlink_steps.specs.EntrySteps.{OccupiedStep, VacantStep, EntrySteps}
 
 pub length_set_key : {K V : Type 0} (es : List (K × V)) (j : ℕ) (k : K)
     → length (set_key_at es j k) ≡ length es
@@ -85,47 +84,3 @@ module _ {K V S : Type 0} (old new : MapState K V S) where
             → KeepsNodes old new
         by None s = vacant-keeps eq step s
         by (Some j) s = occupied-keeps j step s
-
--- ---- what one closure says another may say too
-
-module _ {K V B : Type 0} (P Q : K → V → B → Type 0)
-    (wider : (k : K) (v : V) (b : B) → P k v b → Q k v b) where
-  said-wider : (pair : Option (K × V)) (said : Option B) → SaysOf P pair said → SaysOf Q pair said
-  said-wider None None s = tt
-  said-wider None (Some b) s = absurd s
-  said-wider (Some pair) None s = absurd s
-  said-wider (Some pair) (Some b) s = wider pair.0 pair.1 b s
-
-  pub replies-wider : (pair : Option (K × V)) (replies : List (Reply K V B)) → Replies P pair replies
-      → Replies Q pair replies
-  replies-wider pair replies s = (s.0, said-wider pair s.0 s.1, s.2)
-
-  module _ {S : Type 0} (old : MapState K V S) (replies : List (Reply K V B)) (new : MapState K V S) where
-    pub reads-wider : (pair : Option (K × V)) → Reads P old pair replies new → Reads Q old pair replies new
-    reads-wider pair s = (s.0, replies-wider pair replies s.1)
-
-    occupied-wider : (j : ℕ) (k : K) (step : EntryStep V) → OccupiedStep P old j k step replies new
-        → OccupiedStep Q old j k step replies new
-    occupied-wider j k Get s = reads-wider (slice_get old.entries j) s
-    occupied-wider j k (OrInsert v) s = (s.0, replies-wider (slice_get old.entries j) replies s.1)
-    occupied-wider j k (Insert v) s = s
-    occupied-wider j k (InsertEntry v) s = s
-    occupied-wider j k (ReplaceEntry v) s = s
-    occupied-wider j k ReplaceKey s = s
-    occupied-wider j k ToFront s = (s.0, replies-wider (slice_get old.entries j) replies s.1)
-    occupied-wider j k ToBack s = (s.0, replies-wider (slice_get old.entries j) replies s.1)
-    occupied-wider j k Remove s = s
-    occupied-wider j k RemoveEntry s = s
-
-    pub entry-wider : (eq : K → K → Bool) (k : K) (step : EntryStep V)
-        → EntrySteps eq P old k step replies new
-        → EntrySteps eq Q old k step replies new
-    entry-wider eq k step s = by (place_of (eq k) old.entries) s
-      where
-        by : (o : Option ℕ)
-            → MatchOption o (VacantStep eq old k step replies new)
-            (λ j. OccupiedStep P old j k step replies new)
-            → MatchOption o (VacantStep eq old k step replies new)
-            (λ j. OccupiedStep Q old j k step replies new)
-        by None s = s
-        by (Some j) s = occupied-wider j k step s

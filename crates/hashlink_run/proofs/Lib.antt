@@ -1,19 +1,14 @@
 -- Lemmas on runs of commands.
 pub mod Answering
-pub mod AtEntry
 pub mod Called
 pub mod CallLaws
 pub mod CacheLengths
 pub mod CachePasses
 pub mod CachePuts
 pub mod CacheSpare
-pub mod CacheUsed
 pub mod Chained
 pub mod Chains
 pub mod CursorNodes
-pub mod CursorProgress
 pub mod EntryNodes
-pub mod Kept
 pub mod Lawful
-pub mod Moved
 pub mod NotRefused

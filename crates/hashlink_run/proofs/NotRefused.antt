@@ -26,12 +26,12 @@ use Rattle.hashlink_commands.specs.declared.commands.CursorStep.TheVariants.{Bef
 use Rattle.hashlink_commands.specs.declared.commands.EntryStep.{EntryStep}
 use Rattle.hashlink_commands.specs.declared.commands.EntryStep.TheVariants as step
 use Rattle.hashlink_commands.specs.declared.replies.Reply.{Reply}
-use Rattle.hashlink_run.specs.CallReplies.{insert_reply, shrink_reply, reply_or_refused, is_refused}
-use Rattle.hashlink_run.specs.Chain.{Answered, after}
-use Rattle.hashlink_run.specs.CursorSteps.{CursorStepped, CursorWalks, first_place}
-use Rattle.hashlink_run.specs.EntrySteps.{OccupiedStep, VacantStep, EntrySteps}
+use Rattle.hashlink_steps.specs.CallReplies.{insert_reply, shrink_reply, reply_or_refused, is_refused}
+use Rattle.hashlink_steps.specs.Chain.{Answered, after}
+use Rattle.hashlink_steps.specs.CursorSteps.{CursorStepped, CursorWalks, first_place}
+use Rattle.hashlink_steps.specs.EntrySteps.{OccupiedStep, VacantStep, EntrySteps}
 use Rattle.hashlink_run.specs.Run.{Run}
-use Rattle.hashlink_run.specs.Step.{Step}
+use Rattle.hashlink_steps.specs.Step.{Step}
 
 shrink-taken : (K V B : Type 0) (answer : Result (Unit {0}) AllocError)
     → is_refused {K = K} {V = V} {B = B} (shrink_reply answer ∷ []) ≡ false

@@ -12,7 +12,7 @@ use Rattle.hashlink_model.specs.Steps.{RemovesKey}
 use Rattle.hashlink_lru.specs.Cached.{empty_cache}
 use Rattle.hashlink_commands.specs.declared.cache_commands.PairCommand.{PairCommand}
 use Rattle.hashlink_commands.specs.declared.cache_commands.PairCommand.TheVariants.{Insert, Use, Remove, Peek}
-use Rattle.hashlink_run.specs.Chain.{Chained, after}
+use Rattle.hashlink_steps.specs.Chain.{Chained, after}
 
 -- the call of the model that a command to two caches is
 abbrev pub event_of : {K V : Type 0} → PairCommand K V → CacheEvent K V

@@ -12,9 +12,14 @@ use Rattle.hashlink_commands.specs.declared.cache_commands.CacheCommand.TheVaria
 use Rattle.hashlink_commands.specs.declared.cache_commands.CacheCommand.TheVariants.{SetCapacity, Clear}
 use Rattle.hashlink_commands.specs.declared.replies.Reply.{Reply}
 use Rattle.hashlink_run.specs.CacheCalls.{put_passed}
-use Rattle.hashlink_run.specs.CacheStep.{CacheRuns}
-use Rattle.hashlink_run.specs.CallReplies.{is_refused}
-use Rattle.hashlink_run.specs.Chain.{Answered, after}
+use Rattle.hashlink_steps.specs.CacheStep.{CacheRuns, CacheStep, ReadFromCache}
+use Rattle.hashlink_steps.specs.CallReplies.{is_refused}
+use Rattle.hashlink_steps.specs.Chain.{Answered, ComesTo, after}
+
+-- from old, one of the commands may come to show the pair to the closure
+pub record ShownByCache {K V B S : Type 0} (eq : K → K → Bool) (Says : K → V → B → Type 0)
+    (old : CacheState K V S) (commands : List (CacheCommand K V)) (pair : K × V) : Type 0 where
+  pub comes : ComesTo (CacheStep eq Says) (ReadFromCache eq) old commands pair
 
 -- whether a command is none of those that set the capacity, give nodes back, or may leave a pair too many
 abbrev pub leaves_spare : {K V : Type 0} → CacheCommand K V → Bool

@@ -1,13 +1,5 @@
--- What commands do to a map, one by one and in lists.
-pub mod CallReplies
-pub mod Reads
-pub mod Keeps
-pub mod EntrySteps
-pub mod CursorSteps
-pub mod Step
-pub mod Chain
+-- What lists of commands do to a map and to caches.
 pub mod Run
 pub mod CacheCalls
 pub mod CacheLaws
-pub mod CacheStep
 pub mod CacheRun

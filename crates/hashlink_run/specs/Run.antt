@@ -1,15 +1,16 @@
 -- Lists of commands: a run is a chain of steps, and what holds along it.
-use Rattle.std.specs.Prelude.{◌≡◌, ℕ, ◌+◌, ◌<◌, ◌≤◌, Bool, true, false, List, [], ◌∷◌, length, take, drop}
-use Rattle.std.specs.Prelude.{slice_get, Some}
+use Rattle.std.specs.Prelude.{◌≡◌, ◌⊎◌, ℕ, ◌+◌, ◌<◌, ◌≤◌, Bool, true, false, List, [], ◌∷◌, length, take}
+use Rattle.std.specs.Prelude.{drop, slice_get, Some}
 use Rattle.std.specs.List.{AllPass}
 use Rattle.hashlink_model.specs.History.{Passed, Length, Shrunk, peak}
 use Rattle.hashlink_model.specs.MapState.{MapState, node_count, MayRefuse}
 use Rattle.hashlink_commands.specs.declared.commands.Command.{Command}
-use Rattle.hashlink_commands.specs.declared.commands.Command.TheVariants.{Clear, Shrink, Cursor}
+use Rattle.hashlink_commands.specs.declared.commands.Command.TheVariants.{Clear, Shrink}
 use Rattle.hashlink_commands.specs.declared.replies.Reply.{Reply}
-use Rattle.hashlink_run.specs.CallReplies.{is_refused}
-use Rattle.hashlink_run.specs.Chain.{Answered, Chain, Chained, after}
-use Rattle.hashlink_run.specs.Step.{Step}
+use Rattle.hashlink_steps.specs.CallReplies.{is_refused}
+use Rattle.hashlink_steps.specs.Chain.{Answered, Chain, Chained, ComesTo, after}
+use Rattle.hashlink_steps.specs.Step.{AskedBy, ReadBy, Step}
+pub use Rattle.hashlink_steps.specs.Step.{IsNoCursor, reply_count}
 
 module _ {K V B S : Type 0} (eq : K → K → Bool) (Says : K → V → B → Type 0)
     (Keeps : K → V → Bool → Type 0) where
@@ -22,17 +23,13 @@ module _ {K V B S : Type 0} (eq : K → K → Bool) (Says : K → V → B → Ty
   abbrev pub Runs : MapState K V S → List (Command K V) → List (Reply K V B) → MapState K V S → Type 0
   Runs = Chained (Step eq Says Keeps)
 
+  -- from old, the commands may come to show the pair to the closure: one of them reads it, or keeps by it
+  pub record ShownBy (old : MapState K V S) (commands : List (Command K V)) (pair : K × V) : Type 0 where
+    pub comes : ComesTo (Step eq Says Keeps)
+        (λ now command pair. ReadBy eq Says now command pair ⊎ AskedBy now command pair) old commands pair
+
 module _ {K V : Type 0} where
-  -- how many replies a command has: one, and a cursor's steps one each
-  abbrev pub reply_count : Command K V → ℕ
-  reply_count (Cursor steps) = length steps.items
-  reply_count command = 1
-
-  -- the command is no cursor's, so that it has one reply
-  abbrev pub IsNoCursor : Command K V → Type 0
-  IsNoCursor (Cursor steps) = ⊥
-  IsNoCursor command = Unit {0}
-
+  -- how many replies the commands have
   abbrev pub reply_total : List (Command K V) → ℕ
   reply_total [] = 0
   reply_total (command ∷ commands) = reply_count command + reply_total commands

@@ -2,20 +2,21 @@
 ghost use Rattle.std.specs.Prelude.{◌≡◌, IfOk, OnOk, OnErr};
 ghost use Rattle.hashlink_lru.specs.Cached.{entries_in, state_in};
 ghost use Rattle.hashlink_model.specs.Entries.{IsEntries};
-ghost use Rattle.hashlink_run.specs.CacheRun.{LawfulCacheRun, StaysBounded};
-ghost use Rattle.hashlink_run.specs.Reads.{ClosureSays};
+ghost use Rattle.hashlink_run.specs.CacheRun.{LawfulCacheRun, ShownByCache, StaysBounded};
+ghost use Rattle.hashlink_steps.specs.Reads.{CallableOn, ClosureSays};
 
-use crate::cache_steps::answer_cache;
 use hashlink_commands::{CacheCommand, Reply};
 use hashlink_lru::LruCache;
+use hashlink_steps::answer_cache;
 use std::alloc::AllocError;
 use std::hash::{BuildHasher, Hash};
 
 /// Runs the commands on the cache in turn and returns the replies, one for each.
 ///
 /// The reply to a command that reads a pair is what `keep` returns for that pair. `keep` has to be callable
-/// on every pair. An insert that runs out of memory has a reply that says so and contains the pair, and the
-/// run continues. Each command costs what the method of the cache costs that it names.
+/// on each pair that the commands may come to read. An insert that runs out of memory has a reply that says
+/// so and contains the pair, and the run continues. Each command costs what the method of the cache costs
+/// that it names.
 ///
 /// Room for all replies is reserved first, from the allocator of the commands. If memory for it runs out, it
 /// returns `AllocError`, the commands are dropped and the cache has not changed.
@@ -29,7 +30,8 @@ where
     V: Drop,
     S: BuildHasher,
     F: Fn(&K, &V) -> bool,
-    requires { F.IsAlwaysCallable keep.now }
+    requires { CallableOn F.Fn keep.now
+        (ShownByCache K.eq (ClosureSays F.Fn keep.now) (state_in cache.old) commands.items) }
 
     // The replies and the state at the end are those of a chain of steps. Along these the nodes stay within
     // the peak, and none runs out of memory once an insert has evicted a pair. The length stays within a

@@ -3,12 +3,13 @@ ghost use Rattle.std.specs.Prelude.{◌≡◌, ◌<◌, ◌≤◌, ◌^◌, leng
 ghost use Rattle.std.specs.List.{AllPass};
 ghost use Rattle.hashlink_core.specs.Keyed.{entries_of, state_of};
 ghost use Rattle.hashlink_model.specs.Entries.{IsEntries};
-ghost use Rattle.hashlink_run.specs.Reads.{ClosureSays};
-ghost use Rattle.hashlink_run.specs.Run.{LawfulRun, keeps_nodes, reply_count, reply_total};
+ghost use Rattle.hashlink_steps.specs.Reads.{CallableOn, ClosureSays};
+ghost use Rattle.hashlink_run.specs.Run.{LawfulRun, ShownBy, keeps_nodes, reply_total};
+ghost use Rattle.hashlink_steps.specs.Step.{reply_count};
 
-use crate::steps::answer_command;
 use hashlink_commands::{Command, Reply};
 use hashlink_map::LinkedHashMap;
+use hashlink_steps::answer_command;
 use std::alloc::AllocError;
 use std::hash::{BuildHasher, Hash};
 
@@ -16,9 +17,10 @@ use std::hash::{BuildHasher, Hash};
 /// cursor.
 ///
 /// The reply to a command that reads a pair is what `keep` returns for that pair. `Command::Keep` removes the
-/// pairs for which it returns false. `keep` has to be callable on every pair. An insert that runs out of
-/// memory has a reply that says so and contains the pair. A shrink that runs out of memory has one too, and
-/// the run continues. Each command costs what the method of the map costs that it names.
+/// pairs for which it returns false. `keep` has to be callable on each pair that the commands may come to
+/// show it. An insert that runs out of memory has a reply that says so and contains the pair. A shrink that
+/// runs out of memory has one too, and the run continues. Each command costs what the method of the map costs
+/// that it names.
 ///
 /// Room for all replies is reserved first, from the allocator of the commands. If memory for it runs out, or
 /// if their number is above `usize::MAX`, it returns `AllocError`, the commands are dropped and the map has
@@ -33,7 +35,9 @@ where
     V: Drop,
     S: BuildHasher,
     F: Fn(&K, &V) -> bool,
-    requires { F.IsAlwaysCallable keep.now }
+    requires { CallableOn F.Fn keep.now
+        (ShownBy K.eq (ClosureSays F.Fn keep.now) (ClosureSays F.Fn keep.now) (state_of map.old)
+        commands.items) }
 
     // The replies and the state at the end are those of a chain of steps. Along these the nodes stay within
     // the peak. A map that was longer, and has freed no node since, has a spare node, and the next command's

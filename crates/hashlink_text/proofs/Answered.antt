@@ -15,10 +15,10 @@ use Rattle.hashlink_commands.specs.declared.commands.Command.TheVariants.{Insert
 use Rattle.hashlink_spelling.specs.Says.{Do, Iter}
 use Rattle.hashlink_commands.specs.declared.replies.Reply.{Reply}
 use Rattle.hashlink_commands.specs.declared.replies.Reply.TheVariants.{Value, Seen}
-use Rattle.hashlink_run.specs.Reads.{SaysOf}
-use Rattle.hashlink_run.specs.CallReplies.{insert_reply}
-use Rattle.hashlink_run.specs.Keeps.{IsEven}
-use Rattle.hashlink_run.specs.Step.{Step}
+use Rattle.hashlink_steps.specs.Reads.{SaysOf}
+use Rattle.hashlink_steps.specs.CallReplies.{insert_reply}
+use Rattle.hashlink_steps.specs.Keeps.{IsEven}
+use Rattle.hashlink_steps.specs.Step.{Step}
 use Rattle.hashlink_text.specs.Text.{IsTranscript}
 use Rattle.hashlink_text.specs.Transcript.{Shows, LineShows, ShowsAll, Itself, ended, read_shown, list_shown}
 use Rattle.hashlink_text.specs.Transcript.{reply_shown}

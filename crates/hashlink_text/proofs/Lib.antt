@@ -1,6 +1,5 @@
 -- Lemmas on texts in answer to commands.
 pub mod Answered
-pub mod CacheWider
 pub mod Lists
 pub mod OfNothing
 pub mod Progress

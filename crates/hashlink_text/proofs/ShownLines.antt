@@ -6,8 +6,8 @@ use Rattle.hashlink_commands.specs.declared.commands.Command.{Command}
 use Rattle.hashlink_commands.specs.declared.commands.Command.TheVariants.{Cursor}
 use Rattle.hashlink_spelling.specs.declared.line.Line.TheVariants.{Do}
 use Rattle.hashlink_commands.specs.declared.replies.Reply.{Reply}
-use Rattle.hashlink_run.specs.Keeps.{IsEven}
-use Rattle.hashlink_run.specs.Step.{Step}
+use Rattle.hashlink_steps.specs.Keeps.{IsEven}
+use Rattle.hashlink_steps.specs.Step.{Step}
 use Rattle.hashlink_text.specs.Transcript.{Shows, Itself, form_of, replies_shown}
 
 -- a command that was read is answered by its replies, the steps of a cursor among them

@@ -14,9 +14,9 @@ use Rattle.hashlink_commands.specs.declared.commands.EntryStep.TheVariants.{OrIn
 use Rattle.hashlink_commands.specs.declared.replies.Reply.{Reply}
 use Rattle.hashlink_commands.specs.declared.replies.Reply.TheVariants.{Done, Denied, Value, Pair, Key, Seen}
 use Rattle.hashlink_commands.specs.declared.replies.Reply.TheVariants.{Length, Refused}
-use Rattle.hashlink_run.specs.CursorSteps.{CursorSteps}
-use Rattle.hashlink_run.specs.Keeps.{IsEven}
-use Rattle.hashlink_run.specs.Step.{Step}
+use Rattle.hashlink_steps.specs.CursorSteps.{CursorSteps}
+use Rattle.hashlink_steps.specs.Keeps.{IsEven}
+use Rattle.hashlink_steps.specs.Step.{Step}
 use Rattle.hashlink_text.specs.declared.shown.Form.{Form}
 use Rattle.hashlink_text.specs.declared.shown.Form.TheVariants.{Whole, OfValue, OrGiven}
 

@@ -14,8 +14,8 @@ use crate::shown::Form;
 use crate::weighted_text::run_weighted_lines;
 use hashlink_commands::{Command, EntryStep, Reply};
 use hashlink_map::{Iter, LinkedHashMap};
-use hashlink_run::answer_command;
 use hashlink_spelling::{Line, Lines, Mode, mode_of};
+use hashlink_steps::answer_command;
 use std::alloc::{AllocError, Global};
 
 /// Returns the answer to a text of lines, of which the first names the container that the others speak to.

@@ -1,5 +1,5 @@
 //! Lists of commands, and what is known of the container after them.
-ghost use Rattle.std.specs.Prelude.{◌≡◌, ◌≤◌, Option, Some, length, slice_get, IfOk, IsSome};
+ghost use Rattle.std.specs.Prelude.{◌≡◌, ◌≢◌, ◌≤◌, All, Option, Some, length, slice_get, IfOk, IsSome};
 ghost use Rattle.std.specs.List.{AllPass};
 ghost use Rattle.std.specs.Map.{lookup};
 ghost use Rattle.hashlink.specs.Cache.{IsWithin};
@@ -66,4 +66,22 @@ pub fn remove_then_insert<K: Eq + Hash + Drop, V: Drop, S: BuildHasher>(
     commands.push(Command::Remove(gone))?;
     commands.push(Command::Insert(key, value))?;
     run(map, commands, &|_: &K, _: &V| true)
+}
+
+/// Puts the pair in and leaves the entries whose value divides `total`, in one run, and returns the replies.
+/// The closure divides by the values that it is shown: those of the map and the one that goes in, none zero.
+pub fn insert_then_keep_divisors<K: Eq + Hash + Drop, S: BuildHasher>(
+    alloc: Global,
+    map: &mut LinkedHashMap<K, u64, S>,
+    key: K,
+    value: u64,
+    total: u64,
+) -> Result<Vec<Reply<K, u64>>, AllocError>
+    requires given { value ≢ 0 }
+    requires held { All (λ e. e.1 ≢ 0) (entries_of map.old) }
+{
+    let mut commands = Vec::with_capacity(alloc, 2)?;
+    commands.push(Command::Insert(key, value))?;
+    commands.push(Command::Keep)?;
+    run(map, commands, &|_: &K, value: &u64| total % *value == 0)
 }

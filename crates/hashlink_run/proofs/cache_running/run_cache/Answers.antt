@@ -1,7 +1,7 @@
-use Rattle.std.proofs.Common.{ap, sym, ◌∙◌, arith, length}
+use Rattle.std.proofs.Common.{inl, inr, ap, sym, ◌∙◌, arith, length}
 use Rattle.std.specs.Vec.Iter.{into_iter_items}
-use Rattle.hashlink_run.specs.CacheStep.{CacheStep}
-use Rattle.hashlink_run.specs.Reads.{ClosureSays}
+use Rattle.hashlink_steps.specs.CacheStep.{CacheStep}
+use Rattle.hashlink_steps.specs.Reads.{ClosureSays}
 use Rattle.hashlink_run.proofs.Answering.{HasAnswered-none, HasAnswered-more, HasAnswered-all}
 use Rattle.hashlink_run.proofs.Lawful.{lawful_cache_run, stays_bounded}
 use Rattle.hashlink_run.proofs.cache_running.run_cache.Goals as goal
@@ -11,6 +11,7 @@ loop-command-init g c =
     let gives = c.into_iter-command-iterator.ensures.into_iter_gives.0 in (
       rw (gives, c.in_ok-replies.ensures.items) (HasAnswered-none _ _ _),
       omega (arith, ap length gives, c.in_ok-replies.ensures.len, c.in_ok-replies.ensures.capacity),
+      rw gives c.requires,
     )
 
 pub loop-command-preserved : goal.loop-command-preserved
@@ -21,7 +22,13 @@ loop-command-preserved g c =
           (HasAnswered-more (CacheStep g.K.PartialEq.eq (ClosureSays g.F.Fn c.args.keep.now)) _ _ _ _
           (rw left at so_far.0) c.answer_cache.ensures),
       omega (arith, so_far.1, ap length left, c.in_ok-push.ensures.len, c.in_ok-push.ensures.capacity),
+      λ pair shown. (rw left at so_far.2) pair
+          (record { comes = inr (record { replies = _; state = _ }, c.answer_cache.ensures, shown.comes) }),
     )
+
+pub answer_cache-requires : goal.answer_cache-requires
+answer_cache-requires g c = λ pair read.
+    (rw c.in-Some.ensures.steps.0 at c.loop-command.invariant.2) pair (record { comes = inl read })
 
 pub returns-in_err-push-clause-refused : goal.returns-in_err-push-clause-refused
 returns-in_err-push-clause-refused g c =

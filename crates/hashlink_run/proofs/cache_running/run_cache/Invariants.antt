@@ -1,8 +1,9 @@
 use Rattle.std.proofs.Common.{◌+◌, ◌≤◌, length, vec_len, vec_capacity}
 use Rattle.std.specs.Vec.Iter.{into_iter_items}
 use Rattle.hashlink_lru.specs.Cached.{state_in}
-use Rattle.hashlink_run.specs.CacheStep.{CacheStep}
-use Rattle.hashlink_run.specs.Reads.{ClosureSays}
+use Rattle.hashlink_run.specs.CacheRun.{ShownByCache}
+use Rattle.hashlink_steps.specs.CacheStep.{CacheStep}
+use Rattle.hashlink_steps.specs.Reads.{CallableOn, ClosureSays}
 use Rattle.hashlink_run.proofs.Answering.{HasAnswered}
 use Rattle.hashlink_run.proofs.cache_running.run_cache.Given as goal
 
@@ -12,3 +13,5 @@ invariant-loop-command g l =
     (state_in l.cache)
     l.fn.commands.items (into_iter_items l.command-iterator) l.replies.items
     × (vec_len l.replies + length (into_iter_items l.command-iterator) ≤ vec_capacity l.replies)
+    × CallableOn g.F.Fn l.keep (ShownByCache g.K.PartialEq.eq (ClosureSays g.F.Fn l.keep) (state_in l.cache)
+    (into_iter_items l.command-iterator))

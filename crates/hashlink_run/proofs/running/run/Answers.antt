@@ -1,4 +1,4 @@
-use Rattle.std.proofs.Common.{◌≡◌, true, false, is_ok, ap, sym, ◌∙◌, arith}
+use Rattle.std.proofs.Common.{◌≡◌, true, false, inl, inr, is_ok, ap, sym, ◌∙◌, arith}
 use Rattle.std.specs.Vec.Iter.{into_iter_items}
 use Rattle.hashlink_run.specs.Run.{reply_total}
 use Rattle.hashlink_run.proofs.Chains.{spare_at_the_end}
@@ -18,6 +18,7 @@ loop-command-init g c =
         c.in_ok-reply_total.ensures.total,
         ap reply_total c.deref.ensures.value,
       ),
+      rw gives c.requires,
     )
 
 pub loop-command-preserved : goal.loop-command-preserved
@@ -28,7 +29,17 @@ loop-command-preserved g c =
     let room = c.answer_command.ensures.room (omega (arith, so_far.1, ap reply_total left)) in (
       rw answered.2 (HasAnswered-more _ _ _ _ _ (rw left at so_far.0) answered.1),
       omega (arith, so_far.1, ap reply_total left, room.1, room.2),
+      λ pair shown. (rw left at so_far.2) pair
+          (record { comes = inr (record { replies = _; state = _ }, answered.1, shown.comes) }),
     )
+
+pub answer_command-requires-clause-says : goal.answer_command-requires-clause-says
+answer_command-requires-clause-says g c = λ pair read.
+    (rw c.in-Some.ensures.steps.0 at c.loop-command.invariant.2) pair (record { comes = inl (inl read) })
+
+pub answer_command-requires-clause-keep : goal.answer_command-requires-clause-keep
+answer_command-requires-clause-keep g c = λ pair asked.
+    (rw c.in-Some.ensures.steps.0 at c.loop-command.invariant.2) pair (record { comes = inl (inr asked) })
 
 pub returns-in_err-answer_command-clause-refused : goal.returns-in_err-answer_command-clause-refused
 returns-in_err-answer_command-clause-refused g c =

@@ -1,9 +1,9 @@
 use Rattle.std.proofs.Common.{◌+◌, ◌≤◌, vec_len, vec_capacity}
 use Rattle.std.specs.Vec.Iter.{into_iter_items}
 use Rattle.hashlink_core.specs.Keyed.{state_of}
-use Rattle.hashlink_run.specs.Reads.{ClosureSays}
-use Rattle.hashlink_run.specs.Run.{reply_total}
-use Rattle.hashlink_run.specs.Step.{Step}
+use Rattle.hashlink_steps.specs.Reads.{CallableOn, ClosureSays}
+use Rattle.hashlink_run.specs.Run.{ShownBy, reply_total}
+use Rattle.hashlink_steps.specs.Step.{Step}
 use Rattle.hashlink_run.proofs.Answering.{HasAnswered}
 use Rattle.hashlink_run.proofs.running.run.Given as goal
 
@@ -13,3 +13,6 @@ invariant-loop-command g l =
     (state_of l.initial.map) (state_of l.map)
     l.fn.commands.items (into_iter_items l.command-iterator) l.replies.items
     × (vec_len l.replies + reply_total (into_iter_items l.command-iterator) ≤ vec_capacity l.replies)
+    × CallableOn g.F.Fn l.keep
+    (ShownBy g.K.PartialEq.eq (ClosureSays g.F.Fn l.keep) (ClosureSays g.F.Fn l.keep) (state_of l.map)
+    (into_iter_items l.command-iterator))

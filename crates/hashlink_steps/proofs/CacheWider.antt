@@ -1,0 +1,40 @@
+-- What one closure says of a pair that a cache read, another may say that says at least that.
+use Rattle.std.proofs.Common.{Bool, List, Option, Result, Ok, Err, MatchResult, ◌≡◌, [], ◌∷◌}
+use Rattle.std.specs.Map.{lookup_entry}
+use Rattle.hashlink_model.specs.Cache.{CacheState}
+use Rattle.hashlink_commands.specs.declared.cache_commands.CacheCommand.{CacheCommand}
+use Rattle.hashlink_commands.specs.declared.cache_commands.CacheCommand.TheVariants.{Insert, Use, Entry, Get}
+use Rattle.hashlink_commands.specs.declared.cache_commands.CacheCommand.TheVariants.{Peek}
+use Rattle.hashlink_commands.specs.declared.cache_commands.CacheCommand.TheVariants.{Remove, SetCapacity}
+use Rattle.hashlink_commands.specs.declared.cache_commands.CacheCommand.TheVariants.{Clear}
+use Rattle.hashlink_commands.specs.declared.cache_commands.CacheCommand.TheVariants.{RemoveLru}
+use Rattle.hashlink_commands.specs.declared.replies.Reply.{Reply}
+use Rattle.hashlink_commands.specs.declared.replies.Reply.TheVariants.{Refused}
+use Rattle.hashlink_steps.specs.CacheStep.{CacheStep}
+use Rattle.hashlink_steps.specs.Reads.{Replies}
+use Rattle.hashlink_steps.proofs.Wider.{replies-wider, entry-wider}
+
+module _ {K V B : Type 0} (P Q : K → V → B → Type 0) (wider : (k : K) (v : V) (b : B) → P k v b → Q k v b)
+    {S : Type 0} (eq : K → K → Bool) (old : CacheState K V S) (replies : List (Reply K V B))
+    (new : CacheState K V S) where
+  use-wider : (k : K) (answer : Result (Option V) (K × V))
+      → MatchResult answer (λ w. Replies P (lookup_entry (eq k) old.map.entries) replies)
+      (λ pair. replies ≡ Refused pair.0 pair.1 ∷ [])
+      → MatchResult answer (λ w. Replies Q (lookup_entry (eq k) old.map.entries) replies)
+      (λ pair. replies ≡ Refused pair.0 pair.1 ∷ [])
+  use-wider k (Ok w) s = replies-wider P Q wider (lookup_entry (eq k) old.map.entries) replies s
+  use-wider k (Err pair) s = s
+
+  pub cache_step-wider : (command : CacheCommand K V) → CacheStep eq P old command replies new
+      → CacheStep eq Q old command replies new
+  cache_step-wider (Insert k v) s = s
+  cache_step-wider (Use k v) s = (s.0, s.1, use-wider k s.0 s.2)
+  cache_step-wider (Entry k step) s = (s.0, s.1, entry-wider P Q wider s.0 replies new.map eq k step s.2, s.3)
+  cache_step-wider (Get k) s =
+      (s.0, replies-wider P Q wider (lookup_entry (eq k) old.map.entries) replies s.1)
+  cache_step-wider (Peek k) s =
+      (s.0, replies-wider P Q wider (lookup_entry (eq k) old.map.entries) replies s.1)
+  cache_step-wider (Remove k) s = s
+  cache_step-wider (SetCapacity n) s = s
+  cache_step-wider Clear s = s
+  cache_step-wider RemoveLru s = s

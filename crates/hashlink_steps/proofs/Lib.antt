@@ -1,0 +1,8 @@
+-- Lemmas on one command.
+pub mod AtEntry
+pub mod CacheUsed
+pub mod CacheWider
+pub mod CursorProgress
+pub mod Kept
+pub mod Moved
+pub mod Wider

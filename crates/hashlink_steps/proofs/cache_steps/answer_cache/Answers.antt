@@ -1,0 +1,24 @@
+use Rattle.std.proofs.Common.{rules}
+use Rattle.hashlink_lru.specs.Cached.{state_in}
+use Rattle.hashlink_steps.proofs.cache_steps.answer_cache.Goals as goal
+
+pub answer_use-requires : goal.answer_use-requires
+answer_use-requires g c = rw c.in-Use.is at c.requires
+
+pub reply_of_entry-requires : goal.reply_of_entry-requires
+reply_of_entry-requires g c = λ pair read.
+    let from = rw c.map_mut.ensures.unchanged at read in
+    let evicts = c.make_room.ensures.evicts in
+    (rw c.in-Entry.is at c.requires) pair ((state_in c.make_room.new.self).map, evicts.map, from)
+
+pub said_of_get-requires : goal.said_of_get-requires
+said_of_get-requires g c = rw c.in-Get.is at c.requires
+
+pub said_of-requires : goal.said_of-requires
+said_of-requires g c = let may = rw c.in-Peek.is at c.requires in search rules
+
+pub returns-in-Entry : goal.returns-in-Entry
+returns-in-Entry g c =
+    let from = rw c.map_mut.ensures.unchanged at c.reply_of_entry.ensures in
+    let evicts = c.make_room.ensures.evicts in
+    rw c.in-Entry.is ((state_in c.make_room.new.self).map, evicts.map, from, evicts.cap)

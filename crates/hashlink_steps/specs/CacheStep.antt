@@ -1,0 +1,69 @@
+-- What a cache answers to a command, and what it goes on to. Of a pair that a command reads, a reply has what
+-- `Says` lets be said.
+use Rattle.std.specs.Prelude.{◌≡◌, Bool, List, [], ◌∷◌, Option, Some, Result, MatchResult}
+use Rattle.std.specs.Map.{lookup, lookup_entry}
+use Rattle.hashlink_model.specs.Cache.{CacheState, OnMap, EvictsFront, CacheInserts, CacheGets, CacheUses}
+use Rattle.hashlink_model.specs.Cache.{SetsCapacity}
+use Rattle.hashlink_model.specs.MapState.{MapState}
+use Rattle.hashlink_model.specs.Steps.{RemovesKey, PopsFront, Clears}
+use Rattle.hashlink_model.specs.Walk.{first_of}
+use Rattle.hashlink_commands.specs.declared.cache_commands.CacheCommand.{CacheCommand}
+use Rattle.hashlink_commands.specs.declared.cache_commands.CacheCommand.TheVariants.{Insert, Use, Entry, Get}
+use Rattle.hashlink_commands.specs.declared.cache_commands.CacheCommand.TheVariants.{Peek}
+use Rattle.hashlink_commands.specs.declared.cache_commands.CacheCommand.TheVariants.{Remove, SetCapacity}
+use Rattle.hashlink_commands.specs.declared.cache_commands.CacheCommand.TheVariants.{Clear}
+use Rattle.hashlink_commands.specs.declared.cache_commands.CacheCommand.TheVariants.{RemoveLru}
+use Rattle.hashlink_commands.specs.declared.replies.Reply.{Reply}
+use Rattle.hashlink_commands.specs.declared.replies.Reply.TheVariants.{Done, Value, Pair, Refused}
+use Rattle.hashlink_steps.specs.CallReplies.{insert_reply}
+use Rattle.hashlink_steps.specs.Chain.{Answered, Chain, Chained}
+use Rattle.hashlink_steps.specs.EntrySteps.{EntrySteps, ReadAtEntry}
+use Rattle.hashlink_steps.specs.Reads.{Replies}
+
+-- the command, from old, reads the pair
+abbrev pub ReadFromCache : {K V S : Type 0} → (K → K → Bool) → CacheState K V S → CacheCommand K V → K × V
+    → Type 0
+ReadFromCache eq old (Use k v) pair = lookup_entry (eq k) old.map.entries ≡ Some pair
+ReadFromCache {K} {V} {S} eq old (Entry k step) pair =
+    (between : MapState K V S) × EvictsFront old.map between old.cap × ReadAtEntry eq between k step pair
+ReadFromCache eq old (Get k) pair = lookup_entry (eq k) old.map.entries ≡ Some pair
+ReadFromCache eq old (Peek k) pair = lookup_entry (eq k) old.map.entries ≡ Some pair
+ReadFromCache eq old command pair = ⊥
+
+module _ {K V B S : Type 0} (eq : K → K → Bool) (Says : K → V → B → Type 0) where
+  -- from old, the cache may answer the command by these replies and go on to new
+  abbrev pub CacheStep : CacheState K V S → CacheCommand K V → List (Reply K V B) → CacheState K V S → Type 0
+  CacheStep old (Insert k v) replies new =
+      (answer : Result (Option V) (K × V)) × CacheInserts eq old new k v answer
+      × (replies ≡ insert_reply answer ∷ [])
+  CacheStep old (Use k v) replies new =
+      (answer : Result (Option V) (K × V)) × CacheUses eq old new k v answer
+      × MatchResult answer (λ w. Replies Says (lookup_entry (eq k) old.map.entries) replies)
+      (λ pair. replies ≡ Refused pair.0 pair.1 ∷ [])
+  CacheStep old (Entry k step) replies new =
+      (between : MapState K V S) × EvictsFront old.map between old.cap
+      × EntrySteps eq Says between k step replies new.map × (new.cap ≡ old.cap)
+  CacheStep old (Get k) replies new =
+      CacheGets eq old new k (lookup (eq k) old.map.entries)
+      × Replies Says (lookup_entry (eq k) old.map.entries) replies
+  CacheStep old (Peek k) replies new = (new ≡ old)
+      × Replies Says (lookup_entry (eq k) old.map.entries) replies
+  CacheStep old (Remove k) replies new =
+      OnMap (λ a b. RemovesKey eq a b k (lookup_entry (eq k) a.entries)) old new
+      × (replies ≡ Value (lookup (eq k) old.map.entries) ∷ [])
+  CacheStep old (SetCapacity n) replies new = SetsCapacity old new n × (replies ≡ Done ∷ [])
+  CacheStep old Clear replies new = OnMap Clears old new × (replies ≡ Done ∷ [])
+  CacheStep old RemoveLru replies new =
+      OnMap (λ a b. PopsFront a b (first_of a.entries)) old new
+      × (replies ≡ Pair (first_of old.map.entries) ∷ [])
+
+  -- from old, the cache may answer the commands in turn so
+  abbrev pub CacheRun : CacheState K V S → List (CacheCommand K V)
+      → List (Answered (Reply K V B) (CacheState K V S))
+      → Type 0
+  CacheRun = Chain CacheStep
+
+  -- and so by these replies, and go on to new
+  abbrev pub CacheRuns : CacheState K V S → List (CacheCommand K V) → List (Reply K V B)
+      → CacheState K V S → Type 0
+  CacheRuns = Chained CacheStep

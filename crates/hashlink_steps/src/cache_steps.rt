@@ -1,0 +1,98 @@
+//! One command to a cache.
+ghost use Rattle.std.specs.Prelude.{◌≡◌, [], ◌∷◌, Some};
+ghost use Rattle.std.specs.Map.{lookup, lookup_entry};
+ghost use Rattle.hashlink_commands.specs.declared.cache_commands.CacheCommand.TheVariants.{Use};
+ghost use Rattle.hashlink_lru.specs.Cached.{entries_in, state_in};
+ghost use Rattle.hashlink_model.specs.Cache.{CacheGets};
+ghost use Rattle.hashlink_steps.specs.CacheStep.{CacheStep, ReadFromCache};
+ghost use Rattle.hashlink_steps.specs.Reads.{CallableOn, ClosureSays, SaysOf};
+
+use crate::entries::reply_of_entry;
+use crate::steps::{insert_reply, said_of};
+use hashlink_commands::{CacheCommand, Reply};
+use hashlink_lru::LruCache;
+use std::hash::{BuildHasher, Hash};
+
+/// Runs the command on the cache and returns its reply. Of a pair that is read, the reply has what the
+/// closure returns, which has to be callable on that pair. It costs what the method costs that the command
+/// names.
+pub fn answer_cache<K, V, S, B, F>(
+    cache: &mut LruCache<K, V, S>,
+    command: CacheCommand<K, V>,
+    says: &F,
+) -> Reply<K, V, B>
+where
+    K: Eq + Hash + Drop,
+    V: Drop,
+    S: BuildHasher,
+    F: Fn(&K, &V) -> B,
+    requires { CallableOn F.Fn says.now (ReadFromCache K.eq (state_in cache.old) command) }
+    ensures { CacheStep K.eq (ClosureSays F.Fn says.now) (state_in cache.old) command (result ∷ [])
+        (state_in cache.new) }
+{
+    match command {
+        CacheCommand::Insert(key, value) => insert_reply(cache.insert(key, value)),
+        CacheCommand::Use(key, value) => answer_use(cache, key, value, says),
+        CacheCommand::Entry(key, step) => {
+            cache.make_room();
+            reply_of_entry(cache.map_mut(), key, step, says)
+        }
+        CacheCommand::Get(key) => Reply::Seen(said_of_get(cache, &key, says)),
+        CacheCommand::Peek(key) => Reply::Seen(said_of(cache.raw_entry().from_key(&key), says)),
+        CacheCommand::Remove(key) => Reply::Value(cache.remove(&key)),
+        CacheCommand::SetCapacity(capacity) => {
+            cache.set_capacity(capacity);
+            Reply::Done
+        }
+        CacheCommand::Clear => {
+            cache.clear();
+            Reply::Done
+        }
+        CacheCommand::RemoveLru => Reply::Pair(cache.remove_lru()),
+    }
+}
+
+// Moves the key's pair to the back and returns what the closure returns for it, or inserts the pair if the
+// key is absent.
+fn answer_use<K, V, S, B, F>(
+    cache: &mut LruCache<K, V, S>,
+    key: K,
+    value: V,
+    says: &F,
+) -> Reply<K, V, B>
+where
+    K: Eq + Hash + Drop,
+    V: Drop,
+    S: BuildHasher,
+    F: Fn(&K, &V) -> B,
+    requires { CallableOn F.Fn says.now
+        (λ pair. lookup_entry (K.eq key) (entries_in cache.old) ≡ Some pair) }
+    ensures { CacheStep K.eq (ClosureSays F.Fn says.now) (state_in cache.old) (Use key value) (result ∷ [])
+        (state_in cache.new) }
+{
+    match said_of_get(cache, &key, says) {
+        Some(said) => Reply::Seen(Some(said)),
+        None => match cache.insert(key, value) {
+            Ok(_) => Reply::Seen(None),
+            Err((key, value)) => Reply::Refused(key, value),
+        },
+    }
+}
+
+// Moves the key's pair to the back, and returns what the closure returns for it.
+fn said_of_get<K, V, S, B, F>(cache: &mut LruCache<K, V, S>, key: &K, says: &F) -> Option<B>
+where
+    K: Eq + Hash,
+    S: BuildHasher,
+    F: Fn(&K, &V) -> B,
+    requires { CallableOn F.Fn says.now
+        (λ pair. lookup_entry (K.eq key.now) (entries_in cache.old) ≡ Some pair) }
+    ensures gets { CacheGets K.eq (state_in cache.old) (state_in cache.new) key.now
+        (lookup (K.eq key.now) (entries_in cache.old)) }
+    ensures said { SaysOf (ClosureSays F.Fn says.now)
+        (lookup_entry (K.eq key.now) (entries_in cache.old)) result }
+{
+    let said = said_of(cache.raw_entry().from_key(key), says);
+    cache.get(key);
+    said
+}
