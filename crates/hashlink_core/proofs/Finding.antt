@@ -1,7 +1,6 @@
 -- Finding a key's node by the table, and telling two nodes apart.
 use Rattle.std.proofs.Common.{◌≡◌, ℕ, Bool, true, false, Option, None, Some, ap, sym, subst, ◌∙◌}
 use Rattle.std.specs.Option.{option_map, is_some, IfSome, IfNone, MatchOption}
-use Rattle.std.specs.Prelude.{slice_get}
 use Rattle.std.specs.Cmp.{IsEquivalence}
 use Rattle.std.specs.Map.{lookup}
 use Rattle.std.proofs.Math.Path.{fun_ext}
@@ -89,32 +88,3 @@ module _ {K V : Type 0} {eq : K → K → Bool} (laws : IsEquivalence eq) {hash 
             step.distinct (pair-at r.entries (place_number r.entries (Some n)) n x.0 x.1.at) (laws.refl k)
             ∙ ap Some (sym (place_number-mapped pair_of r.entries (Some n)));
       }
-
-  -- two nodes are the same where their keys are equal
-  module _ (a b : Node) (held_a : Holds r.entries a) (held_b : Holds r.entries b) (p q : K × V)
-      (at_a : option_map pair_of (lookup (same_node a) r.entries) ≡ Some p)
-      (at_b : option_map pair_of (lookup (same_node b) r.entries) ≡ Some q) where
-    pub same-key : eq p.0 q.0 ≡ true → a ≡ b
-    same-key same =
-        let x = node-at r.entries a held_a in
-        let y = node-at r.entries b held_b in
-        let i = place_number r.entries (Some a) in
-        let j = place_number r.entries (Some b) in
-        let is_p : pair_of x.0 ≡ p = cc (sym (ap (option_map pair_of) x.1.found) ∙ at_a) in
-        let is_q : pair_of y.0 ≡ q = cc (sym (ap (option_map pair_of) y.1.found) ∙ at_b) in
-        let stands_a = place_of_its_key eq laws (pairs_in r.entries) i (pair_of x.0) p.0 step.distinct
-        (pair-at r.entries i a x.0 x.1.at) (subst (λ e. eq p.0 e.0 ≡ true) (sym is_p) (laws.refl p.0)) in
-        let stands_b = place_of_its_key eq laws (pairs_in r.entries) j (pair_of y.0) p.0 step.distinct
-        (pair-at r.entries j b y.0 y.1.at) (subst (λ e. eq p.0 e.0 ≡ true) (sym is_q) same) in
-        let one : i ≡ j = cc (sym stands_a ∙ stands_b) in
-        let both : ◌≡◌ {A = Option (Node × Held K V)} (Some (a, x.0)) (Some (b, y.0))
-        = sym x.1.at ∙ ap (slice_get r.entries) one ∙ y.1.at in
-        let entry : ◌≡◌ {A = Node × Held K V} (a, x.0) (b, y.0) = cc both in
-        ap (λ e. e.0) entry
-
-    pub key-of_same : a ≡ b → eq p.0 q.0 ≡ true
-    key-of_same same =
-        let one : Some p ≡ Some q = sym at_a
-        ∙ ap (λ n. option_map pair_of (lookup (same_node n) r.entries)) same ∙ at_b in
-        let is : p ≡ q = cc one in
-        subst (λ e. eq p.0 e.0 ≡ true) is (laws.refl p.0)

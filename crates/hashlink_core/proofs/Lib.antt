@@ -8,8 +8,8 @@ pub mod Finding
 pub mod Holding
 pub mod InTurn
 pub mod Keeping
-pub mod Leaving
 pub mod Mapped
+pub mod Marking
 pub mod Neighbours
 pub mod Places
 pub mod Retaining

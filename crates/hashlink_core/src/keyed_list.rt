@@ -29,6 +29,9 @@ fn short_hash(hash: u64) -> u32
     (hash % (1 << 32)) as u32
 }
 
+// The number of a node that is told from the others: no short hash.
+const MARKED: usize = 1 << 32;
+
 /// A list of pairs in a ring of nodes, found by a hash table of the nodes. No two keys are equal.
 #[derive(Drop)]
 pub struct KeyedList<K: Eq + Hash, V, S: BuildHasher> {

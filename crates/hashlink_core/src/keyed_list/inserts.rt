@@ -6,17 +6,37 @@ ghost use Rattle.hashlink_core.specs.Keyed.{entries_of, state_of, IsKeyed};
 ghost use Rattle.hashlink_core.specs.Places.{Node, Holds, IsPlace, place_number};
 ghost use Rattle.hashlink_core.specs.Steps.{KeepsPlace};
 
-use super::KeyedList;
+use super::{KeyedList, MARKED};
 use hashlink_nodes::Node;
 use std::hash::{BuildHasher, Hash};
 
 impl<K: Eq + Hash, V, S: BuildHasher> KeyedList<K, V, S> {
-    /// Whether the node stands at the place.
+    // Whether two nodes of the list are the same. Where they have one number, one is marked for the moment, so
+    // that no key is compared.
     #[inline]
-    fn is_at(&self, node: Node, place: Option<Node>) -> bool
-        requires node { Holds self.now.nodes node }
-        requires place { IsPlace self.now.nodes place }
-        ensures { IsTrue result ↔ (place ≡ Some node) }
+    fn is_same(&mut self, a: Node, b: Node) -> bool
+        requires a { Holds self.old.nodes a }
+        requires b { Holds self.old.nodes b }
+        ensures value { IsTrue result ↔ (a ≡ b) }
+        ensures same { self.new ≡ self.old }
+    {
+        let number = self.nodes.number(b);
+        if self.nodes.number(a) != number {
+            return false;
+        }
+        self.nodes.set_number(b, MARKED);
+        let is_same = self.nodes.number(a) == MARKED;
+        self.nodes.set_number(b, number);
+        is_same
+    }
+
+    // Whether the node stands at the place.
+    #[inline]
+    fn is_at(&mut self, node: Node, place: Option<Node>) -> bool
+        requires node { Holds self.old.nodes node }
+        requires place { IsPlace self.old.nodes place }
+        ensures value { IsTrue result ↔ (place ≡ Some node) }
+        ensures same { self.new ≡ self.old }
     {
         match place {
             Some(at) => self.is_same(at, node),

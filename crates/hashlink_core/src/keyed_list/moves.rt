@@ -12,12 +12,9 @@ ghost use Rattle.hashlink_core.specs.Steps.{AddsNode, RemovesNode, MovesNode, Gr
 ghost use Rattle.hashlink_core.specs.Tied.{hash_with};
 ghost use Rattle.hashlink_model.specs.Steps.{Clears};
 
-use super::{KeyedList, short_hash};
+use super::{KeyedList, MARKED, short_hash};
 use hashlink_nodes::Node;
 use std::hash::{BuildHasher, Hash};
-
-// The number of a node that leaves the table: no short hash.
-const LEAVING: usize = 1 << 32;
 
 impl<K: Eq + Hash, V, S: BuildHasher> KeyedList<K, V, S> {
     /// Puts a pair with a new key, which has this hash, right before the place. Where no node is spare it
@@ -82,16 +79,16 @@ impl<K: Eq + Hash, V, S: BuildHasher> KeyedList<K, V, S> {
         ensures removed { RemovesNode self.old self.new (place_number self.old.nodes (Some node)) }
         ensures sound { IsKeyed K.eq self.new }
     {
-        // It gets a number that no node in the table has, and is found by that: no key is hashed or compared.
+        // The table finds it by its mark: no key is hashed or compared.
         let number = self.nodes.number(node);
-        self.nodes.set_number(node, LEAVING);
+        self.nodes.set_number(node, MARKED);
         let nodes = &self.nodes;
-        let is_leaving = |other: Node| -> bool
+        let is_marked = |other: Node| -> bool
             requires { Holds nodes.now.entries other }
-            ensures { option_map (λ held. eqb held.number LEAVING)
+            ensures { option_map (λ held. eqb held.number MARKED)
                 (lookup (same_node other) nodes.entry.now.entries) ≡ Some result }
-        { nodes.number(other) == LEAVING };
-        self.table.remove(number as u32, is_leaving);
+        { nodes.number(other) == MARKED };
+        self.table.remove(number as u32, is_marked);
         self.nodes.detach_into_free(node)
     }
 

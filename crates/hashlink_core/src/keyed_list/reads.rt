@@ -1,7 +1,6 @@
 //! What a keyed list shows.
-ghost use Rattle.std.specs.Prelude.{◌≡◌, ◌-◌, ◌<◌, ◌^◌, ◌↔◌, length, slice_get, Bool, None, Some, IsTrue};
+ghost use Rattle.std.specs.Prelude.{◌≡◌, ◌-◌, ◌<◌, ◌^◌, length, slice_get, Bool, None, Some, IfSome};
 ghost use Rattle.std.specs.Prelude.{MatchOption};
-ghost use Rattle.std.specs.Prelude.{IfSome};
 ghost use Rattle.std.specs.Fn.{FnReturnsAt};
 ghost use Rattle.std.specs.Map.{lookup, keys_of, values_of};
 ghost use Rattle.std.specs.Map.Iter.{ShowsInOrder, ShowsInReverse, deref, deref_pair};
@@ -135,17 +134,6 @@ impl<K: Eq + Hash, V, S: BuildHasher> KeyedList<K, V, S> {
             ≡ Some (deref_pair result) }
     {
         self.nodes.entry(node)
-    }
-
-    /// Whether two nodes of the list are the same.
-    #[inline]
-    pub fn is_same(&self, a: Node, b: Node) -> bool
-        requires a { Holds self.now.nodes a }
-        requires b { Holds self.now.nodes b }
-        ensures { IsTrue result ↔ (a ≡ b) }
-    {
-        self.nodes.number(a) == self.nodes.number(b)
-            && *self.nodes.entry(a).0 == *self.nodes.entry(b).0
     }
 
     /// A walk over the entries, front first. It takes no memory, and each step takes constant time.

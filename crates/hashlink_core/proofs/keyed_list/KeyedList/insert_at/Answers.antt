@@ -1,8 +1,9 @@
-use Rattle.std.proofs.Common.{◌≡◌, Some, refl, sym, subst, rules}
+use Rattle.std.proofs.Common.{◌≡◌, Option, Some, refl, sym, subst, rules}
 use Rattle.hashlink_model.specs.Entry.{ReplacesValue}
 use Rattle.hashlink_model.specs.MapState.{Inserts, PutsEntry}
-use Rattle.hashlink_core.specs.Keyed.{state_of}
-use Rattle.hashlink_core.specs.Places.{place_number}
+use Rattle.hashlink_core.specs.Keyed.{state_of, IsKeyed}
+use Rattle.hashlink_core.specs.Places.{Node, Holds, IsPlace, place_number}
+use Rattle.hashlink_core.specs.Steps.{WritesNode, KeepsPlace}
 use Rattle.hashlink_core.proofs.AtKey.{stays-key}
 use Rattle.hashlink_core.proofs.AtKeyNode.{written-number, written-holds, put, added, refused, passed-on}
 use Rattle.hashlink_core.proofs.Keeping.{keeps-place, keys-added, keys-grown, keys-moved, keys-place}
@@ -60,40 +61,47 @@ is_at-requires-clause-place g c =
     keys-place old mid (keys-written old mid _ c.args.value c.replace_value-old.ensures.written) c.args.place
     c.requires
 
+-- the list is as `replace_value` left it
 pub returns-then-is_at-clause-inserts : goal.returns-then-is_at-clause-inserts
 returns-then-is_at-clause-inserts g c =
     let eq = g.K.PartialEq.eq in
     let old = c.args.self.now in
     let s = c.replace_value-old in
+    let mid = c.is_at.new.self in
     let n = c.in-Some.node in
-    let at : c.args.place ≡ Some n = c.is_at.ensures.0 (search rules) in
-    let replaces : ReplacesValue (state_of old) (state_of s.new.self) (place_number old.nodes (Some n))
+    let at : c.args.place ≡ Some n = c.is_at.ensures.value.0 (search rules) in
+    let written = subst (λ m. WritesNode old m (place_number old.nodes (Some n)) c.args.value)
+    (sym c.is_at.ensures.same) s.ensures.written in
+    let replaces : ReplacesValue (state_of old) (state_of mid) (place_number old.nodes (Some n))
     c.args.value s.result
-    = record { answer = s.ensures.value; step = s.ensures.written.state } in
+    = record { answer = s.ensures.value; step = written.state } in
     subst
-    (λ p. PutsEntry eq (state_of old) (state_of s.new.self) c.args.key c.args.value
+    (λ p. PutsEntry eq (state_of old) (state_of mid) c.args.key c.args.value
     (place_number old.nodes p) s.result)
     (sym at)
-    (stays-key eq (state_of old) (state_of s.new.self) c.args.key (place_number old.nodes (Some n))
+    (stays-key eq (state_of old) (state_of mid) c.args.key (place_number old.nodes (Some n))
     c.in-Some.ensures.found.place c.args.value s.result replaces)
 
 pub returns-then-is_at-clause-keeps : goal.returns-then-is_at-clause-keeps
 returns-then-is_at-clause-keeps g c =
     let old = c.args.self.now in
-    let mid = c.replace_value-old.new.self in
     let e = c.replace_value-old.ensures in
-    keeps-place old mid g.met.K.Eq.laws e.sound (keys-written old mid _ c.args.value e.written)
+    let mid = c.replace_value-old.new.self in
+    subst (λ m. (p : Option Node) → IsPlace old.nodes p → KeepsPlace g.K.PartialEq.eq old m p)
+    (sym c.is_at.ensures.same)
+    (keeps-place old mid g.met.K.Eq.laws e.sound (keys-written old mid _ c.args.value e.written))
 
 pub move_before-requires-clause-node : goal.move_before-requires-clause-node
 move_before-requires-clause-node g c =
-    written-holds c.args.self.now c.replace_value-old.new.self _ c.args.value c.in-Some.node
-    c.replace_value-old.ensures.written c.in-Some.ensures.found.within
+    subst (λ m. Holds m.nodes c.in-Some.node) (sym c.is_at.ensures.same)
+    (written-holds c.args.self.now c.replace_value-old.new.self _ c.args.value c.in-Some.node
+    c.replace_value-old.ensures.written c.in-Some.ensures.found.within)
 
 pub move_before-requires-clause-place : goal.move_before-requires-clause-place
 move_before-requires-clause-place g c =
     let old = c.args.self.now in
     let mid = c.replace_value-old.new.self in
-    left-place mid mid refl c.in-Some.node c.args.place (λ same. search rules)
+    left-place c.is_at.new.self mid c.is_at.ensures.same c.in-Some.node c.args.place (λ same. search rules)
     (keys-place old mid (keys-written old mid _ c.args.value c.replace_value-old.ensures.written) c.args.place
     c.requires)
 
@@ -102,21 +110,26 @@ returns-clause-inserts g c =
     let old = c.args.self.now in
     let s = c.replace_value-old in
     let n = c.in-Some.node in
-    let mid = s.new.self in
+    let mid = c.is_at.new.self in
+    let written = subst (λ m. WritesNode old m (place_number old.nodes (Some n)) c.args.value)
+    (sym c.is_at.ensures.same) s.ensures.written in
     put g.K.PartialEq.eq old c.move_before.new.self c.args.key n c.in-Some.ensures.found mid c.args.value
     s.result (place_number old.nodes c.args.place) _
-    (written-number old mid (place_number old.nodes (Some n)) c.args.value c.args.place s.ensures.written)
-    s.ensures.value s.ensures.written c.move_before.ensures.moved
+    (written-number old mid (place_number old.nodes (Some n)) c.args.value c.args.place written)
+    s.ensures.value written c.move_before.ensures.moved
 
 pub returns-clause-keeps : goal.returns-clause-keeps
 returns-clause-keeps g c =
     let old = c.args.self.now in
     let s = c.replace_value-old in
     let n = c.in-Some.node in
-    let mid = s.new.self in
+    let mid = c.is_at.new.self in
     let t = c.move_before in
-    let held = written-holds old mid (place_number old.nodes (Some n)) c.args.value n s.ensures.written
+    let written = subst (λ m. WritesNode old m (place_number old.nodes (Some n)) c.args.value)
+    (sym c.is_at.ensures.same) s.ensures.written in
+    let sound = subst (IsKeyed g.K.PartialEq.eq) (sym c.is_at.ensures.same) s.ensures.sound in
+    let held = written-holds old mid (place_number old.nodes (Some n)) c.args.value n written
     c.in-Some.ensures.found.within in
     keeps-place old t.new.self g.met.K.Eq.laws t.ensures.sound
-    (keys_twice old mid t.new.self (keys-written old mid _ c.args.value s.ensures.written)
-    (keys-moved mid t.new.self s.ensures.sound.apart _ n held t.ensures.moved))
+    (keys_twice old mid t.new.self (keys-written old mid _ c.args.value written)
+    (keys-moved mid t.new.self sound.apart _ n held t.ensures.moved))

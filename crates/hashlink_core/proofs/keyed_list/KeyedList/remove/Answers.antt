@@ -1,7 +1,7 @@
 use Rattle.std.proofs.Common.{◌∷◌, ◌+◌, ap, refl, ◌∙◌, arith, rules}
 use Rattle.hashlink_core.proofs.Calls.{sound, held-inside, stored, removed-step, removed-node}
-use Rattle.hashlink_core.proofs.Leaving.{asked-short, asked-holds, taken-out}
-use Rattle.hashlink_core.proofs.Leaving.{left-holds, left-pair, left-removed}
+use Rattle.hashlink_core.proofs.Marking.{asked-short, asked-holds, taken-out}
+use Rattle.hashlink_core.proofs.Marking.{marked-holds, left-pair, left-removed}
 use Rattle.hashlink_core.proofs.keyed_list.KeyedList.remove.Goals as goal
 
 pub number-number-requires : goal.number-number-requires
@@ -31,7 +31,8 @@ detach_into_free-requires g c =
     let held = held-inside g.met.K.Eq.laws c.self.view_is c.self.invariant c.args.node c.requires in
     let i = c.number-number in
     let s = c.set_number in
-    left-holds c.self.invariant c.args.node held i.result i.ensures s.new.self.entries _ s.ensures.entries
+    marked-holds c.self.invariant c.args.node held i.result i.ensures s.new.self.entries _ s.ensures.entries
+    c.args.node held
 
 pub returns-clause-pair : goal.returns-clause-pair
 returns-clause-pair g c =
