@@ -71,13 +71,25 @@ const PLAIN: [(&str, Word); 7] = [
     ("heavy", Word::Heavy),
 ];
 
+/// What the name stands for in a table.
+pub fn find<T: Copy>(table: &[(&str, T)], name: &str) -> Option<T> {
+    for (text, meant) in table {
+        if name == *text {
+            return Some(*meant);
+        }
+    }
+    None
+}
+
 impl Word {
     pub fn read(word: &str) -> Option<Word> {
-        for (text, meant) in PLAIN {
-            if word == text {
-                return Some(meant);
-            }
+        match find(&PLAIN, word) {
+            None => Word::read_items(word),
+            plain => plain,
         }
+    }
+
+    fn read_items(word: &str) -> Option<Word> {
         match word.split_once(':') {
             None => Some(Word::item(Name::read(word)?)),
             Some((key, value)) => Some(Word::pair((Name::read(key)?, Name::read(value)?))),
@@ -90,6 +102,24 @@ impl Word {
 
     pub fn pair((key, value): Pair) -> Word {
         Word::Pair((key.group, key.number), (value.group, value.number))
+    }
+
+    pub fn count(count: usize) -> Word {
+        Word::Item(count as u64, 0)
+    }
+
+    /// The text of a word that says no number.
+    fn text(self) -> &'static str {
+        match self {
+            Word::Nothing => "-",
+            Word::Done => "ok",
+            Word::Is(true) => "yes",
+            Word::Is(false) => "no",
+            Word::Memory => "memory",
+            Word::Overflow => "overflow",
+            Word::Heavy => "heavy",
+            Word::Wrong | Word::Item(..) | Word::Pair(..) => "wrong",
+        }
     }
 }
 
@@ -106,22 +136,25 @@ fn write_item<W: fmt::Write>(
 impl fmt::Display for Word {
     fn fmt<W: fmt::Write>(&self, f: &mut fmt::Formatter<W>) -> fmt::Result {
         match *self {
-            Word::Nothing => write!(f, "-"),
-            Word::Done => write!(f, "ok"),
-            Word::Is(true) => write!(f, "yes"),
-            Word::Is(false) => write!(f, "no"),
             Word::Item(group, number) => write_item(f, (group, number)),
             Word::Pair(key, value) => {
                 write_item(f, key)?;
                 write!(f, ":")?;
                 write_item(f, value)
             }
-            Word::Memory => write!(f, "memory"),
-            Word::Overflow => write!(f, "overflow"),
-            Word::Heavy => write!(f, "heavy"),
-            Word::Wrong => write!(f, "wrong"),
+            word => f.write_str(word.text()),
         }
     }
+}
+
+/// What a call answers.
+#[derive(Clone, Copy)]
+pub enum Answer {
+    Word(Word),
+    /// Why it hands something back, and what.
+    Back(Word, Word),
+    /// For want of memory it hands this back, after so many were taken.
+    BackAfter(Word, u64),
 }
 
 /// Why a line was not answered.
@@ -166,48 +199,18 @@ impl Answers {
         self.words.push(word).map_err(|_| Stop::Memory)
     }
 
-    pub fn done(&mut self) -> Result<(), Stop> {
-        self.say(Word::Done)
+    pub fn say_all(&mut self, words: &[Word]) -> Result<(), Stop> {
+        Ok(self.words.extend_from_slice(words)?)
     }
 
-    pub fn is(&mut self, is: bool) -> Result<(), Stop> {
-        self.say(Word::Is(is))
-    }
-
-    pub fn count(&mut self, count: u64) -> Result<(), Stop> {
-        self.say(Word::Item(count, 0))
-    }
-
-    pub fn item(&mut self, name: Option<Name>) -> Result<(), Stop> {
-        self.say(name.map_or(Word::Nothing, Word::item))
-    }
-
-    pub fn pair(&mut self, pair: Option<Pair>) -> Result<(), Stop> {
-        self.say(pair.map_or(Word::Nothing, Word::pair))
-    }
-
-    /// A pair is handed back for this reason.
-    pub fn back(&mut self, why: Word, pair: Pair) -> Result<(), Stop> {
-        self.say(why)?;
-        self.say(Word::pair(pair))
-    }
-
-    /// A pair is handed back for want of memory after so many were taken.
-    pub fn back_after(&mut self, pair: Pair, taken: u64) -> Result<(), Stop> {
-        self.back(Word::Memory, pair)?;
-        self.count(taken)
-    }
-
-    /// An element is handed back for want of memory.
-    pub fn element_back(&mut self, element: Name) -> Result<(), Stop> {
-        self.say(Word::Memory)?;
-        self.item(Some(element))
-    }
-
-    /// An element is handed back for want of memory after so many were taken.
-    pub fn element_back_after(&mut self, element: Name, taken: u64) -> Result<(), Stop> {
-        self.element_back(element)?;
-        self.count(taken)
+    pub fn give(&mut self, answer: Answer) -> Result<(), Stop> {
+        match answer {
+            Answer::Word(word) => self.say(word),
+            Answer::Back(why, back) => self.say_all(&[why, back]),
+            Answer::BackAfter(back, taken) => {
+                self.say_all(&[Word::Memory, back, Word::Item(taken, 0)])
+            }
+        }
     }
 
     /// Counts the refusals that were said, and returns whether there was one.
