@@ -89,7 +89,8 @@ def untold():
         assert old in SAID
         if not is_told(whole(SAID.replace(old, new, 1), refused=3 * new.count("memory"))):
             yield what
-    forgotten = right[: right.index("1 rows")] + "none: a row: 2 keys and values were not dropped\n"
+    others_live = "none:4: a row: remove 1\n  other keys and values live then than those that are held\n"
+    forgotten = right[: right.index("1 rows")] + others_live
     for what, said in (
         ("items that are not dropped", forgotten),
         ("no summary", right[: right.index("1 rows")]),

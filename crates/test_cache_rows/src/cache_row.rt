@@ -1,11 +1,15 @@
 //! Lines that speak to a cache.
+use crate::cache_calls::{
+    CACHE_CALLS, CacheCall, EndCall, KeyCall, LendCall, PairsCall, ReadCall, WalkCall,
+};
 use hashlink_lru::LruCache;
 use std::hash::BuildHasher;
 use std::mem;
 use std::vec::IntoIter;
 use test_items::{
-    Answers, EntryCall, Home, Item, Name, Stop, Words, is_raised, made, named, old, pairs_of,
-    take_steps, taken, taken_item, walk_and_clone, walk_whole, write,
+    Answer, Answers, EntryCall, Home, Item, KEEPS, Keep, Name, RawCall, Stop, Word, Words, given,
+    given_item, is_even, is_raised, lent, lent_item, made, pairs_of, put, take_steps,
+    walk_and_clone, walk_whole, write,
 };
 use test_map_rows::{Walked, call_entry, call_found, call_map, extended, put_found};
 
@@ -18,78 +22,48 @@ pub fn call_cache<S: BuildHasher + Copy + Default + Drop>(
     words: &mut Words<'_>,
     answers: &mut Answers,
 ) -> Result<(), Stop> {
-    let name = words.word()?;
-    match name {
-        "len" => answers.count(cache.len() as u64),
-        "is_empty" => answers.is(cache.is_empty()),
-        "capacity" => answers.count(cache.capacity() as u64),
-        "get" | "peek" | "contains_key" | "remove" | "remove_entry" => {
-            call_key(cache, name, &words.item(home)?, answers)
+    match words.named(&CACHE_CALLS)? {
+        CacheCall::Read(call) => answers.say(read(cache, call)),
+        CacheCall::End(call) => answers.say(call_at_end(cache, call)),
+        CacheCall::Key(call) => answers.say(call_key(cache, call, &words.item(home)?)),
+        CacheCall::Lend(call) => {
+            let (key, new) = words.lent_item(home)?;
+            answers.say(lend(cache, call, &key, new))
         }
-        "get_mut" | "peek_mut" => {
-            let key = words.name()?;
-            let value = words.optional()?;
-            lend(cache, name, &home.item(key)?, value, answers)
+        CacheCall::Insert => {
+            let (key, value) = words.pair(home)?;
+            answers.give(insert(cache, key, value))
         }
-        "insert" => put(cache, words.pair(home)?, answers),
-        _ => call_order(cache, home, name, words, answers),
-    }
-}
-
-fn put<S: BuildHasher>(
-    cache: &mut Cache<S>,
-    (key, value): (Item, Item),
-    answers: &mut Answers,
-) -> Result<(), Stop> {
-    old(cache.insert(key, value), answers)
-}
-
-fn call_order<S: BuildHasher + Copy + Default + Drop>(
-    cache: &mut Cache<S>,
-    home: Home<'_>,
-    name: &str,
-    words: &mut Words<'_>,
-    answers: &mut Answers,
-) -> Result<(), Stop> {
-    match name {
-        "make_room" => {
-            cache.make_room();
-            answers.done()
-        }
-        "remove_lru" => taken(cache.remove_lru(), answers),
-        "clear" => {
-            cache.clear();
-            answers.done()
-        }
-        "set_capacity" => {
+        CacheCall::SetCapacity => {
             cache.set_capacity(words.size()?);
-            answers.done()
+            answers.say(Word::Done)
         }
-        "inside" => call_map(cache.map_mut(), home, words, answers),
-        "retain" => retain(cache, words.word()?, answers),
-        _ => call_of_entry(cache, home, name, words, answers),
+        CacheCall::Pairs(call) => put_all(cache, call, pairs_of(home, words)?, answers),
+        CacheCall::Retain => answers.say(retain(cache, words.named(&KEEPS)?)),
+        CacheCall::Walk(call) => walk_cache(cache, home, call, words, answers),
+        CacheCall::Inside => call_map(cache.map_mut(), home, words, answers),
+        call => call_of_entry(cache, home, call, words, answers),
     }
 }
 
-fn call_of_entry<S: BuildHasher + Copy + Drop>(
+fn call_of_entry<S: BuildHasher>(
     cache: &mut Cache<S>,
     home: Home<'_>,
-    name: &str,
+    call: CacheCall,
     words: &mut Words<'_>,
     answers: &mut Answers,
 ) -> Result<(), Stop> {
-    match name {
-        "entry" => {
+    match call {
+        CacheCall::Entry => {
             let (key, call) = EntryCall::of_key(home, words)?;
             call_entry(cache.entry(key), call, home, words, answers)
         }
-        "raw" => call_raw(cache, home, words, answers),
-        "raw_read" => {
+        CacheCall::Raw => call_raw(cache, home, words, answers),
+        CacheCall::RawRead => {
             let _way = words.word()?;
-            read_raw(cache, &words.item(home)?, answers)
+            answers.say(read_raw(cache, &words.item(home)?))
         }
-        "extend" | "extend_from" => put_all(cache, name, pairs_of(home, words)?, answers),
-        _ => call_all(cache, home, name, words, answers),
+        _ => Err(Stop::Unread),
     }
 }
 
@@ -101,103 +75,104 @@ fn call_raw<S: BuildHasher>(
     answers: &mut Answers,
 ) -> Result<(), Stop> {
     let _way = words.word()?;
-    let (key, call) = EntryCall::of_key(home, words)?;
+    let (key, call) = RawCall::of_key(home, words)?;
     let entries = cache.raw_entry_mut();
     match call {
-        EntryCall::Make(name, value, written) => {
-            put_found(entries, name, (key, value), written, answers)
-        }
+        RawCall::Make(make, value, new) => answers.give(put_found(entries, make, key, value, new)),
         call => call_found(entries.from_key(&key), call, home, words, answers),
     }
 }
 
-fn read_raw<S: BuildHasher>(
-    cache: &Cache<S>,
-    key: &Item,
-    answers: &mut Answers,
-) -> Result<(), Stop> {
-    answers.pair(cache.raw_entry().from_key(key).map(named))
+fn read_raw<S: BuildHasher>(cache: &Cache<S>, key: &Item) -> Word {
+    lent(cache.raw_entry().from_key(key))
 }
 
-fn call_key<S: BuildHasher>(
-    cache: &mut Cache<S>,
-    name: &str,
-    key: &Item,
-    answers: &mut Answers,
-) -> Result<(), Stop> {
-    match name {
-        "get" => answers.item(cache.get(key).map(Item::name)),
-        "peek" => answers.item(cache.peek(key).map(Item::name)),
-        "contains_key" => answers.is(cache.contains_key(key)),
-        "remove" => taken_item(cache.remove(key), answers),
-        _ => taken(cache.remove_entry(key), answers),
+fn read<S: BuildHasher>(cache: &Cache<S>, call: ReadCall) -> Word {
+    match call {
+        ReadCall::Len => Word::count(cache.len()),
+        ReadCall::IsEmpty => Word::Is(cache.is_empty()),
+        ReadCall::Capacity => Word::count(cache.capacity()),
     }
+}
+
+fn call_at_end<S: BuildHasher + Copy + Drop>(cache: &mut Cache<S>, call: EndCall) -> Word {
+    match call {
+        EndCall::MakeRoom => cache.make_room(),
+        EndCall::Clear => cache.clear(),
+        EndCall::RemoveLru => return given(cache.remove_lru()),
+        EndCall::Clone => {
+            let clone = cache.clone();
+            return made(cache, clone);
+        }
+    }
+    Word::Done
+}
+
+fn call_key<S: BuildHasher>(cache: &mut Cache<S>, call: KeyCall, key: &Item) -> Word {
+    match call {
+        KeyCall::Get => lent_item(cache.get(key)),
+        KeyCall::Peek => lent_item(cache.peek(key)),
+        KeyCall::ContainsKey => Word::Is(cache.contains_key(key)),
+        KeyCall::Remove => given_item(cache.remove(key)),
+        KeyCall::RemoveEntry => given(cache.remove_entry(key)),
+    }
+}
+
+fn insert<S: BuildHasher>(cache: &mut Cache<S>, key: Item, value: Item) -> Answer {
+    put(cache.insert(key, value))
 }
 
 fn lend<S: BuildHasher>(
     cache: &mut Cache<S>,
-    name: &str,
+    call: LendCall,
     key: &Item,
-    value: Option<Name>,
-    answers: &mut Answers,
-) -> Result<(), Stop> {
-    match name {
-        "get_mut" => write(cache.get_mut(key), value, answers),
-        _ => write(cache.peek_mut(key), value, answers),
+    new: Option<Name>,
+) -> Word {
+    match call {
+        LendCall::GetMut => write(cache.get_mut(key), new),
+        LendCall::PeekMut => write(cache.peek_mut(key), new),
     }
 }
 
-fn retain<S: BuildHasher>(
-    cache: &mut Cache<S>,
-    keep: &str,
-    answers: &mut Answers,
-) -> Result<(), Stop> {
+fn retain<S: BuildHasher>(cache: &mut Cache<S>, keep: Keep) -> Word {
     match keep {
-        "even" => cache.retain(|_, value| value.group % 2 == 0),
-        "odd" => cache.retain(is_raised),
-        _ => return Err(Stop::Unread),
+        Keep::Even => cache.retain(is_even),
+        Keep::Odd => cache.retain(is_raised),
+        Keep::Others => return Word::Wrong,
     }
-    answers.done()
+    Word::Done
 }
 
-fn call_all<S: BuildHasher + Copy + Drop>(
+fn walk_cache<S: BuildHasher + Copy + Drop>(
     cache: &mut Cache<S>,
     home: Home<'_>,
-    name: &str,
+    call: WalkCall,
     words: &mut Words<'_>,
     answers: &mut Answers,
 ) -> Result<(), Stop> {
-    match name {
-        "iter" => walk_and_clone(Walked(cache.iter()), words, answers),
-        "iter_mut" => take_steps(&mut Walked(cache.iter_mut()), words, answers),
-        "drain" => take_steps(&mut Walked(cache.drain()), words, answers),
-        "into_iter" => {
+    match call {
+        WalkCall::Iter => walk_and_clone(Walked(cache.iter()), words, answers),
+        WalkCall::IterMut => take_steps(&mut Walked(cache.iter_mut()), words, answers),
+        WalkCall::Drain => take_steps(&mut Walked(cache.drain()), words, answers),
+        WalkCall::IntoIter => {
             let hasher = *cache.hasher();
             let empty = LruCache::with_hasher(home.alloc, cache.capacity(), hasher);
-            walk_whole(
-                Walked(mem::replace(cache, empty).into_iter()),
-                words,
-                answers,
-            )
+            let whole = mem::replace(cache, empty);
+            walk_whole(Walked(whole.into_iter()), words, answers)
         }
-        "clone" => {
-            let clone = cache.clone();
-            made(cache, clone, answers)
-        }
-        _ => Err(Stop::Unread),
     }
 }
 
 fn put_all<S: BuildHasher>(
     cache: &mut Cache<S>,
-    name: &str,
+    call: PairsCall,
     pairs: Vec<(Item, Item)>,
     answers: &mut Answers,
 ) -> Result<(), Stop> {
-    if name == "extend" {
-        return extended(cache.extend(pairs), answers);
+    match call {
+        PairsCall::Extend => answers.give(extended(cache.extend(pairs))),
+        PairsCall::ExtendFrom => extend_from(cache, &mut pairs.into_iter(), answers),
     }
-    extend_from(cache, &mut pairs.into_iter(), answers)
 }
 
 fn extend_from<S: BuildHasher>(
@@ -205,6 +180,6 @@ fn extend_from<S: BuildHasher>(
     pairs: &mut IntoIter<(Item, Item)>,
     answers: &mut Answers,
 ) -> Result<(), Stop> {
-    extended(cache.extend_from(pairs), answers)?;
-    answers.count(pairs.len() as u64)
+    answers.give(extended(cache.extend_from(pairs)))?;
+    answers.say(Word::count(pairs.len()))
 }

@@ -1,6 +1,7 @@
 //! Lines of rows that speak to a cache, or to one with a budget.
 #![tactic(auto)]
 
+mod cache_calls;
 mod cache_row;
 mod weighted_row;
 

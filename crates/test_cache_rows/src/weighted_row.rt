@@ -2,11 +2,51 @@
 use hashlink_weighted::{WeightError, WeightedCache, WeightedIter};
 use std::hash::BuildHasher;
 use test_items::{
-    Answers, Home, Item, Step, Stop, Walk, Word, Words, hinted, no_memory, shown, taken_item,
-    walk_and_clone,
+    Answer, Answers, Home, Item, Step, Stop, Walk, Word, Words, given_item, hinted, lent_item,
+    no_memory, shown, walk_and_clone,
 };
 
 pub type Weighted<S> = WeightedCache<Item, Item, S>;
+
+#[derive(Clone, Copy)]
+enum ReadCall {
+    Len,
+    IsEmpty,
+    Total,
+    Budget,
+}
+
+#[derive(Clone, Copy)]
+enum KeyCall {
+    Get,
+    Peek,
+    Remove,
+}
+
+/// A call, by what follows its name.
+#[derive(Clone, Copy)]
+enum WeightedCall {
+    /// Nothing.
+    Read(ReadCall),
+    /// A key.
+    Key(KeyCall),
+    /// A pair.
+    Insert,
+    /// Steps of an iterator.
+    Iter,
+}
+
+const CALLS: [(&str, WeightedCall); 9] = [
+    ("len", WeightedCall::Read(ReadCall::Len)),
+    ("is_empty", WeightedCall::Read(ReadCall::IsEmpty)),
+    ("total", WeightedCall::Read(ReadCall::Total)),
+    ("budget", WeightedCall::Read(ReadCall::Budget)),
+    ("get", WeightedCall::Key(KeyCall::Get)),
+    ("peek", WeightedCall::Key(KeyCall::Peek)),
+    ("remove", WeightedCall::Key(KeyCall::Remove)),
+    ("insert", WeightedCall::Insert),
+    ("iter", WeightedCall::Iter),
+];
 
 /// Makes the call that a line says. The number of a value is its weight.
 pub fn call_weighted<S: BuildHasher>(
@@ -15,44 +55,41 @@ pub fn call_weighted<S: BuildHasher>(
     words: &mut Words<'_>,
     answers: &mut Answers,
 ) -> Result<(), Stop> {
-    match words.word()? {
-        "len" => answers.count(cache.len() as u64),
-        "is_empty" => answers.is(cache.is_empty()),
-        "total" => answers.count(cache.total()),
-        "budget" => answers.count(cache.budget()),
-        "get" => {
-            let key = words.item(home)?;
-            answers.item(cache.get(&key).map(Item::name))
-        }
-        "peek" => {
-            let key = words.item(home)?;
-            answers.item(cache.peek(&key).map(Item::name))
-        }
-        "remove" => {
-            let key = words.item(home)?;
-            taken_item(cache.remove(&key), answers)
-        }
-        "insert" => {
+    match words.named(&CALLS)? {
+        WeightedCall::Read(call) => answers.say(read(cache, call)),
+        WeightedCall::Key(call) => answers.say(call_key(cache, call, &words.item(home)?)),
+        WeightedCall::Insert => {
             let (key, value) = words.pair(home)?;
-            insert(cache, key, value, answers)
+            answers.give(insert(cache, key, value))
         }
-        "iter" => walk_and_clone(Walked(cache.iter()), words, answers),
-        _ => Err(Stop::Unread),
+        WeightedCall::Iter => walk_and_clone(Walked(cache.iter()), words, answers),
     }
 }
 
-fn insert<S: BuildHasher>(
-    cache: &mut Weighted<S>,
-    key: Item,
-    value: Item,
-    answers: &mut Answers,
-) -> Result<(), Stop> {
+fn read<S: BuildHasher>(cache: &Weighted<S>, call: ReadCall) -> Word {
+    match call {
+        ReadCall::Len => Word::count(cache.len()),
+        ReadCall::IsEmpty => Word::Is(cache.is_empty()),
+        ReadCall::Total => Word::Item(cache.total(), 0),
+        ReadCall::Budget => Word::Item(cache.budget(), 0),
+    }
+}
+
+fn call_key<S: BuildHasher>(cache: &mut Weighted<S>, call: KeyCall, key: &Item) -> Word {
+    match call {
+        KeyCall::Get => lent_item(cache.get(key)),
+        KeyCall::Peek => lent_item(cache.peek(key)),
+        KeyCall::Remove => given_item(cache.remove(key)),
+    }
+}
+
+fn insert<S: BuildHasher>(cache: &mut Weighted<S>, key: Item, value: Item) -> Answer {
     let weight = value.name().number;
     match cache.insert(key, value, weight) {
-        Ok(old) => taken_item(old, answers),
-        Err(WeightError::Memory(pair)) => no_memory(pair, answers),
+        Ok(old) => Answer::Word(given_item(old)),
+        Err(WeightError::Memory(pair)) => no_memory(pair),
         Err(WeightError::TooHeavy((key, value))) => {
-            answers.back(Word::Heavy, (key.name(), value.name()))
+            Answer::Back(Word::Heavy, shown((&key, &value)))
         }
     }
 }
@@ -65,9 +102,11 @@ pub fn weighed((key, value, weight): (&Item, &Item, u64)) -> Word {
     shown((key, value))
 }
 
-fn lent_weighed(entry: Option<(&Item, &Item, u64)>) -> Option<Word> {
-    let (key, value, weight) = entry?;
-    Some(weighed((key, value, weight)))
+fn lent_weighed(entry: Option<(&Item, &Item, u64)>) -> Word {
+    match entry {
+        Some((key, value, weight)) => weighed((key, value, weight)),
+        None => Word::Nothing,
+    }
 }
 
 /// An iterator that takes steps.
@@ -75,7 +114,7 @@ fn lent_weighed(entry: Option<(&Item, &Item, u64)>) -> Option<Word> {
 struct Walked<I>(I);
 
 impl Walk for Walked<WeightedIter<'_, Item, Item>> {
-    fn step(&mut self, step: Step) -> Option<Word> {
+    fn step(&mut self, step: Step) -> Word {
         if step.is_back {
             return lent_weighed(self.0.next_back());
         }

@@ -1,4 +1,4 @@
-//! What a call returns, word by word.
+//! What a call answers, word by word.
 use std::alloc::{AllocError, Global};
 use std::fmt;
 
@@ -50,7 +50,7 @@ pub enum Word {
     Item(u64, u64),
     /// A key and its value with a colon between them.
     Pair((u64, u64), (u64, u64)),
-    /// `memory`: an allocation failed. What is returned in the `Err` comes next.
+    /// `memory`: there was none. What is handed back comes next.
     Memory,
     /// `overflow`: more room than there can be.
     Overflow,
@@ -71,13 +71,25 @@ const PLAIN: [(&str, Word); 7] = [
     ("heavy", Word::Heavy),
 ];
 
+/// What the name stands for in a table.
+pub fn find<T: Copy>(table: &[(&str, T)], name: &str) -> Option<T> {
+    for (text, meant) in table {
+        if name == *text {
+            return Some(*meant);
+        }
+    }
+    None
+}
+
 impl Word {
     pub fn read(word: &str) -> Option<Word> {
-        for (text, meant) in PLAIN {
-            if word == text {
-                return Some(meant);
-            }
+        match find(&PLAIN, word) {
+            None => Word::read_items(word),
+            plain => plain,
         }
+    }
+
+    fn read_items(word: &str) -> Option<Word> {
         match word.split_once(':') {
             None => Some(Word::item(Name::read(word)?)),
             Some((key, value)) => Some(Word::pair((Name::read(key)?, Name::read(value)?))),
@@ -90,6 +102,24 @@ impl Word {
 
     pub fn pair((key, value): Pair) -> Word {
         Word::Pair((key.group, key.number), (value.group, value.number))
+    }
+
+    pub fn count(count: usize) -> Word {
+        Word::Item(count as u64, 0)
+    }
+
+    /// The text of a word that says no number.
+    fn text(self) -> &'static str {
+        match self {
+            Word::Nothing => "-",
+            Word::Done => "ok",
+            Word::Is(true) => "yes",
+            Word::Is(false) => "no",
+            Word::Memory => "memory",
+            Word::Overflow => "overflow",
+            Word::Heavy => "heavy",
+            Word::Wrong | Word::Item(..) | Word::Pair(..) => "wrong",
+        }
     }
 }
 
@@ -106,28 +136,31 @@ fn write_item<W: fmt::Write>(
 impl fmt::Display for Word {
     fn fmt<W: fmt::Write>(&self, f: &mut fmt::Formatter<W>) -> fmt::Result {
         match *self {
-            Word::Nothing => write!(f, "-"),
-            Word::Done => write!(f, "ok"),
-            Word::Is(true) => write!(f, "yes"),
-            Word::Is(false) => write!(f, "no"),
             Word::Item(group, number) => write_item(f, (group, number)),
             Word::Pair(key, value) => {
                 write_item(f, key)?;
                 write!(f, ":")?;
                 write_item(f, value)
             }
-            Word::Memory => write!(f, "memory"),
-            Word::Overflow => write!(f, "overflow"),
-            Word::Heavy => write!(f, "heavy"),
-            Word::Wrong => write!(f, "wrong"),
+            word => f.write_str(word.text()),
         }
     }
 }
 
-/// Why a line has no answer.
+/// What a call answers.
+#[derive(Clone, Copy)]
+pub enum Answer {
+    Word(Word),
+    /// Why it hands something back, and what.
+    Back(Word, Word),
+    /// For want of memory it hands this back, after so many were taken.
+    BackAfter(Word, u64),
+}
+
+/// Why a line was not answered.
 #[derive(Clone, Copy)]
 pub enum Stop {
-    /// An allocation for the row itself failed.
+    /// There was no memory for what the row itself needs.
     Memory,
     /// It is no line of this kind of row.
     Unread,
@@ -139,7 +172,7 @@ impl From<AllocError> for Stop {
     }
 }
 
-/// How many answers were failed allocations, and for how many rows an allocation of their own failed.
+/// How many answers were refusals, and how many rows had no memory of their own.
 #[derive(Clone, Copy, Default)]
 pub struct Tally {
     pub rows: usize,
@@ -147,7 +180,7 @@ pub struct Tally {
     pub left_out: usize,
 }
 
-/// The answers to a line, and how it went before.
+/// What a line answers, and how it went before.
 #[derive(Drop)]
 pub struct Answers {
     pub words: Vec<Word>,
@@ -166,51 +199,21 @@ impl Answers {
         self.words.push(word).map_err(|_| Stop::Memory)
     }
 
-    pub fn done(&mut self) -> Result<(), Stop> {
-        self.say(Word::Done)
+    pub fn say_all(&mut self, words: &[Word]) -> Result<(), Stop> {
+        Ok(self.words.extend_from_slice(words)?)
     }
 
-    pub fn is(&mut self, is: bool) -> Result<(), Stop> {
-        self.say(Word::Is(is))
+    pub fn give(&mut self, answer: Answer) -> Result<(), Stop> {
+        match answer {
+            Answer::Word(word) => self.say(word),
+            Answer::Back(why, back) => self.say_all(&[why, back]),
+            Answer::BackAfter(back, taken) => {
+                self.say_all(&[Word::Memory, back, Word::Item(taken, 0)])
+            }
+        }
     }
 
-    pub fn count(&mut self, count: u64) -> Result<(), Stop> {
-        self.say(Word::Item(count, 0))
-    }
-
-    pub fn item(&mut self, name: Option<Name>) -> Result<(), Stop> {
-        self.say(name.map_or(Word::Nothing, Word::item))
-    }
-
-    pub fn pair(&mut self, pair: Option<Pair>) -> Result<(), Stop> {
-        self.say(pair.map_or(Word::Nothing, Word::pair))
-    }
-
-    /// A pair is returned for this reason.
-    pub fn back(&mut self, why: Word, pair: Pair) -> Result<(), Stop> {
-        self.say(why)?;
-        self.say(Word::pair(pair))
-    }
-
-    /// A pair is returned since an allocation failed after so many were inserted.
-    pub fn back_after(&mut self, pair: Pair, taken: u64) -> Result<(), Stop> {
-        self.back(Word::Memory, pair)?;
-        self.count(taken)
-    }
-
-    /// An element is returned since an allocation failed.
-    pub fn element_back(&mut self, element: Name) -> Result<(), Stop> {
-        self.say(Word::Memory)?;
-        self.item(Some(element))
-    }
-
-    /// An element is returned since an allocation failed after so many were inserted.
-    pub fn element_back_after(&mut self, element: Name, taken: u64) -> Result<(), Stop> {
-        self.element_back(element)?;
-        self.count(taken)
-    }
-
-    /// Counts the failed allocations that were said, and returns whether there was one.
+    /// Counts the refusals that were said, and returns whether there was one.
     pub fn count_refused(&mut self) -> bool {
         let words = self.words.iter();
         let refused = words.filter(|word| **word == Word::Memory).count();

@@ -3,77 +3,157 @@ use crate::answers::{Name, Stop};
 use crate::items::{Home, Item};
 use crate::line::Words;
 
-/// A call of an entry, by its name.
-#[derive(Drop)]
-pub enum EntryCall<'l> {
-    /// It leaves the entry, and needs nothing more.
-    Stay(&'l str),
-    /// It ends the entry, and needs nothing more.
-    End(&'l str),
-    /// It lends a value, to which this is written.
-    Write(&'l str, Option<Name>),
-    /// It inserts this value if the key is absent, and lends the one that is then present, to which the
-    /// second is written.
-    Make(&'l str, Item, Option<Name>),
-    /// It inserts this value.
-    Put(&'l str, Item),
-    /// Steps of a cursor follow.
-    Cursor,
-    /// A call of a vacant entry that needs nothing more.
-    Vacant(&'l str),
-    /// One that inserts this value, and may lend it.
-    PutVacant(&'l str, Item, Option<Name>),
+/// A call that leaves the entry.
+#[derive(Clone, Copy)]
+pub enum Stay {
+    Get,
+    ToFront,
+    ToBack,
 }
 
-impl<'l> EntryCall<'l> {
+/// A call that ends the entry.
+#[derive(Clone, Copy)]
+pub enum End {
+    ReplaceKey,
+    IntoKey,
+    Remove,
+    RemoveEntry,
+}
+
+/// A call that lends the value.
+#[derive(Clone, Copy)]
+pub enum Lend {
+    GetMut,
+    IntoMut,
+}
+
+/// A call that puts a value where the key is absent, and lends the one that is there.
+#[derive(Clone, Copy)]
+pub enum Make {
+    OrInsert,
+    OrInsertWith,
+}
+
+/// A call that puts a value where the key is there.
+#[derive(Clone, Copy)]
+pub enum Put {
+    Insert,
+    RawReplaceValue,
+    InsertEntry,
+    ReplaceEntry,
+}
+
+/// A call that needs nothing more and hands out the key that is absent.
+#[derive(Clone, Copy)]
+pub enum Vacant {
+    Key,
+    IntoKey,
+}
+
+/// A call that puts a value where the key is absent.
+#[derive(Clone, Copy)]
+pub enum PutVacant {
+    Insert,
+    InsertEntry,
+    /// Puts the pair in, and takes it out at once.
+    Take,
+}
+
+/// A call of an entry, with what it takes. What is lent is written where a name follows.
+#[derive(Drop)]
+pub enum EntryCall {
+    /// The key that is in hand.
+    Key,
+    Stay(Stay),
+    End(End),
+    Modify(Name),
+    Lend(Lend, Option<Name>),
+    Make(Make, Item, Option<Name>),
+    Put(Put, Item),
+    Vacant(Vacant),
+    PutVacant(PutVacant, Item, Option<Name>),
+    /// Steps of a cursor follow.
+    Cursor,
+}
+
+/// A call by its name alone.
+#[derive(Clone, Copy)]
+enum Named {
+    Key,
+    Stay(Stay),
+    End(End),
+    Modify,
+    Lend(Lend),
+    Make(Make),
+    Put(Put),
+    Vacant,
+    Cursor,
+}
+
+const CALLS: [(&str, Named); 19] = [
+    ("get", Named::Stay(Stay::Get)),
+    ("to_front", Named::Stay(Stay::ToFront)),
+    ("to_back", Named::Stay(Stay::ToBack)),
+    ("key", Named::Key),
+    ("replace_key", Named::End(End::ReplaceKey)),
+    ("into_key", Named::End(End::IntoKey)),
+    ("remove", Named::End(End::Remove)),
+    ("remove_entry", Named::End(End::RemoveEntry)),
+    ("and_modify", Named::Modify),
+    ("get_mut", Named::Lend(Lend::GetMut)),
+    ("into_mut", Named::Lend(Lend::IntoMut)),
+    ("or_insert", Named::Make(Make::OrInsert)),
+    ("or_insert_with", Named::Make(Make::OrInsertWith)),
+    ("insert", Named::Put(Put::Insert)),
+    ("raw_replace_value", Named::Put(Put::RawReplaceValue)),
+    ("insert_entry", Named::Put(Put::InsertEntry)),
+    ("replace_entry", Named::Put(Put::ReplaceEntry)),
+    ("vacant", Named::Vacant),
+    ("cursor", Named::Cursor),
+];
+
+const VACANT: [(&str, Vacant); 2] = [("key", Vacant::Key), ("into_key", Vacant::IntoKey)];
+
+const PUT_VACANT: [(&str, PutVacant); 3] = [
+    ("insert", PutVacant::Insert),
+    ("insert_entry", PutVacant::InsertEntry),
+    ("take", PutVacant::Take),
+];
+
+impl EntryCall {
     /// The key and the call that the next words say.
-    pub fn of_key(home: Home<'_>, words: &mut Words<'l>) -> Result<(Item, EntryCall<'l>), Stop> {
+    pub fn of_key(home: Home<'_>, words: &mut Words<'_>) -> Result<(Item, EntryCall), Stop> {
         let key = words.name()?;
         let call = EntryCall::read(home, words)?;
         Ok((home.item(key)?, call))
     }
 
     /// The call that the next words say.
-    pub fn read(home: Home<'_>, words: &mut Words<'l>) -> Result<EntryCall<'l>, Stop> {
-        let name = words.word()?;
-        match name {
-            "cursor" => Ok(EntryCall::Cursor),
-            "vacant" => EntryCall::read_vacant(home, words),
-            "and_modify" => Ok(EntryCall::Write(name, Some(words.name()?))),
-            "get_mut" | "into_mut" | "get_key_value_mut" | "into_key_value" => {
-                Ok(EntryCall::Write(name, words.optional()?))
+    fn read(home: Home<'_>, words: &mut Words<'_>) -> Result<EntryCall, Stop> {
+        match words.named(&CALLS)? {
+            Named::Key => Ok(EntryCall::Key),
+            Named::Stay(stay) => Ok(EntryCall::Stay(stay)),
+            Named::End(end) => Ok(EntryCall::End(end)),
+            Named::Modify => Ok(EntryCall::Modify(words.name()?)),
+            Named::Lend(lend) => Ok(EntryCall::Lend(lend, words.optional()?)),
+            Named::Make(make) => {
+                let (value, new) = words.lent_item(home)?;
+                Ok(EntryCall::Make(make, value, new))
             }
-            _ => EntryCall::read_plain(home, name, words),
+            Named::Put(put) => Ok(EntryCall::Put(put, words.item(home)?)),
+            Named::Vacant => EntryCall::read_vacant(home, words),
+            Named::Cursor => Ok(EntryCall::Cursor),
         }
     }
 
-    fn read_plain(
-        home: Home<'_>,
-        name: &'l str,
-        words: &mut Words<'l>,
-    ) -> Result<EntryCall<'l>, Stop> {
-        match name {
-            "get" | "get_key_value" | "to_front" | "to_back" => Ok(EntryCall::Stay(name)),
-            "key" | "replace_key" | "into_key" | "remove" | "remove_entry" => {
-                Ok(EntryCall::End(name))
-            }
-            "or_insert" | "or_insert_with" => {
-                let value = words.name()?;
-                let written = words.optional()?;
-                Ok(EntryCall::Make(name, home.item(value)?, written))
-            }
-            _ => Ok(EntryCall::Put(name, words.item(home)?)),
+    fn read_vacant(home: Home<'_>, words: &mut Words<'_>) -> Result<EntryCall, Stop> {
+        let mut rest = *words;
+        rest.word()?;
+        if rest.rest.is_empty() {
+            return Ok(EntryCall::Vacant(words.named(&VACANT)?));
         }
-    }
-
-    fn read_vacant(home: Home<'_>, words: &mut Words<'l>) -> Result<EntryCall<'l>, Stop> {
-        let name = words.word()?;
-        match words.optional()? {
-            None => Ok(EntryCall::Vacant(name)),
-            Some(value) => {
-                let written = words.optional()?;
-                Ok(EntryCall::PutVacant(name, home.item(value)?, written))
-            }
-        }
+        let put = words.named(&PUT_VACANT)?;
+        let (value, new) = words.lent_item(home)?;
+        Ok(EntryCall::PutVacant(put, value, new))
     }
 }

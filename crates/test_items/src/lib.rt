@@ -5,20 +5,23 @@ mod answers;
 mod counts;
 mod entry_call;
 mod items;
+mod keep;
 mod line;
+mod raw_call;
 mod said;
 mod steps;
 mod walk;
 
-pub use answers::{Answers, Name, Pair, Stop, Tally, Word, are_written, number};
+pub use answers::{Answer, Answers, Name, Pair, Stop, Tally, Word, are_written, number};
 pub use counts::Counts;
-pub use entry_call::EntryCall;
+pub use entry_call::{End, EntryCall, Lend, Make, Put, PutVacant, Stay, Vacant};
 pub use items::{Home, Item};
+pub use keep::{Asked, KEEPS, Keep, has_room, is_even, is_other, is_raised, say_met};
 pub use line::{Words, elements_of, pairs_of};
+pub use raw_call::{RawCall, RawEnd, RawLend, RawPut, RawStay};
 pub use said::{
-    back, element_taken_before, given, given_item, has_room, is_other, is_raised, lend, lend_pair,
-    lent, lent_item, made, named, no_memory, old, room, say_met, shown, taken, taken_before,
-    taken_item, write, written,
+    given, given_item, lent, lent_item, made, no_memory, no_memory_after, put, room, shown, write,
+    write_pair,
 };
 pub use steps::Step;
 pub use walk::{Walk, hinted, take_steps, walk_and_clone, walk_whole};

@@ -1,5 +1,5 @@
 //! The words of a line.
-use crate::answers::{Name, Pair, Stop, number};
+use crate::answers::{Name, Pair, Stop, find, number};
 use crate::items::{Home, Item};
 
 /// The words of a line that are not yet read.
@@ -27,6 +27,11 @@ impl<'l> Words<'l> {
 
     pub fn word(&mut self) -> Result<&'l str, Stop> {
         self.next().ok_or(Stop::Unread)
+    }
+
+    /// What the next word stands for in a table.
+    pub fn named<T: Copy>(&mut self, table: &[(&str, T)]) -> Result<T, Stop> {
+        find(table, self.word()?).ok_or(Stop::Unread)
     }
 
     pub fn name(&mut self) -> Result<Name, Stop> {
@@ -63,6 +68,13 @@ impl<'l> Words<'l> {
     /// The item that the next word names.
     pub fn item(&mut self, home: Home<'_>) -> Result<Item, Stop> {
         home.item(self.name()?)
+    }
+
+    /// The item that the next word names, and the name after it, if there is one.
+    pub fn lent_item(&mut self, home: Home<'_>) -> Result<(Item, Option<Name>), Stop> {
+        let item = self.name()?;
+        let new = self.optional()?;
+        Ok((home.item(item)?, new))
     }
 
     /// The pair that the next two words name.

@@ -1,5 +1,5 @@
 //! Steps of an iterator.
-use crate::answers::{Stop, number};
+use crate::answers::{Name, Stop, find, number};
 use crate::line::Words;
 
 /// A step of an iterator.
@@ -9,28 +9,35 @@ pub struct Step {
     /// Whether it is `next_value` or `next_value_back`, of those that lend pairs for writing.
     pub is_value: bool,
     /// What is written where the value is lent for writing.
-    pub written: Option<u64>,
+    pub written: Option<Name>,
 }
+
+/// The steps by their names: from which end, and whether of a value alone.
+const STEPS: [(&str, (bool, bool)); 4] = [
+    ("next", (false, false)),
+    ("back", (true, false)),
+    ("value", (false, true)),
+    ("value_back", (true, true)),
+];
 
 impl Step {
     /// The step of the word, and of a number that comes next.
     pub fn read(word: &str, words: &mut Words<'_>) -> Result<Step, Stop> {
-        let (is_back, is_value) = match word {
-            "next" => (false, false),
-            "back" => (true, false),
-            "value" => (false, true),
-            "value_back" => (true, true),
-            _ => return Err(Stop::Unread),
-        };
-        let mut rest = *words;
-        let written = rest.next().and_then(number);
-        if written.is_some() {
-            *words = rest;
+        match find(&STEPS, word) {
+            Some((is_back, is_value)) => Ok(Step {
+                is_back,
+                is_value,
+                written: read_number(words),
+            }),
+            None => Err(Stop::Unread),
         }
-        Ok(Step {
-            is_back,
-            is_value,
-            written,
-        })
     }
+}
+
+/// The next word, if it is a number.
+fn read_number(words: &mut Words<'_>) -> Option<Name> {
+    let mut rest = *words;
+    let written = rest.next().and_then(number)?;
+    *words = rest;
+    Some(Name::of(written))
 }

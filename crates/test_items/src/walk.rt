@@ -6,7 +6,7 @@ use crate::steps::Step;
 /// An iterator that goes from both ends and knows how many are left.
 pub trait Walk {
     /// What comes by the step. A value that is lent for writing is written.
-    fn step(&mut self, step: Step) -> Option<Word>;
+    fn step(&mut self, step: Step) -> Word;
 
     /// How many are left: by the length, and twice by the hint.
     fn left(&self) -> (usize, usize, Option<usize>);
@@ -26,21 +26,39 @@ pub fn take_steps<W: Walk>(
     for _ in 0..64 {
         match words.next() {
             None | Some("clone") => return Ok(()),
-            Some("left") => answers.count(walk.left().0 as u64)?,
-            Some(word) => {
-                let step = Step::read(word, words)?;
-                answers.say(walk.step(step).unwrap_or(Word::Nothing))?;
-            }
-        }
-        let (left, least, most) = walk.left();
-        if left != least || most != Some(left) {
-            answers.say(Word::Wrong)?;
+            Some(word) => say_step(walk, word, words, answers)?,
         }
     }
     Err(Stop::Unread)
 }
 
-/// The same of an iterator that is passed by value.
+fn say_step<W: Walk>(
+    walk: &mut W,
+    word: &str,
+    words: &mut Words<'_>,
+    answers: &mut Answers,
+) -> Result<(), Stop> {
+    answers.say(take_step(walk, word, words)?)?;
+    if is_hinted(walk) {
+        return Ok(());
+    }
+    answers.say(Word::Wrong)
+}
+
+fn take_step<W: Walk>(walk: &mut W, word: &str, words: &mut Words<'_>) -> Result<Word, Stop> {
+    if word == "left" {
+        return Ok(Word::count(walk.left().0));
+    }
+    Ok(walk.step(Step::read(word, words)?))
+}
+
+/// Whether the hint is how many are left.
+fn is_hinted<W: Walk>(walk: &W) -> bool {
+    let (left, least, most) = walk.left();
+    left == least && most == Some(left)
+}
+
+/// The same of an iterator that is given away.
 pub fn walk_whole<W: Walk + Drop>(
     mut walk: W,
     words: &mut Words<'_>,

@@ -3,43 +3,65 @@ use crate::map_row::Map;
 use hashlink_map::DefaultHashBuilder;
 use std::cmp::Ordering;
 use std::hash::BuildHasher;
-use test_items::{Answers, Stop, Word};
+use test_items::{Answers, Stop, Word, Words};
+
+#[derive(Clone, Copy)]
+enum Comparison {
+    Eq,
+    Less,
+    Cmp,
+    Hash,
+}
+
+const COMPARISONS: [(&str, Comparison); 4] = [
+    ("eq", Comparison::Eq),
+    ("less", Comparison::Less),
+    ("cmp", Comparison::Cmp),
+    ("hash", Comparison::Hash),
+];
 
 /// Compares two maps by `eq`, `cmp` or `partial_cmp`, each way round, or says whether they feed a hasher the
 /// same.
 pub fn compare<S: BuildHasher>(
     map: &Map<S>,
     other: &Map<S>,
-    name: &str,
+    words: &mut Words<'_>,
     answers: &mut Answers,
 ) -> Result<(), Stop> {
-    match name {
-        "eq" => {
-            let is_equal = map == other;
-            if (other == map) != is_equal || (map != other) == is_equal {
-                answers.say(Word::Wrong)?;
-            }
-            answers.is(is_equal)
-        }
-        "less" => {
-            let is_less = map < other;
-            if (map >= other) == is_less {
-                answers.say(Word::Wrong)?;
-            }
-            answers.is(is_less)
-        }
-        "cmp" => {
-            let order = map.cmp(other);
-            if other.cmp(map) != order.reverse() || map.partial_cmp(other) != Some(order) {
-                answers.say(Word::Wrong)?;
-            }
-            answers.is(order == Ordering::Less)?;
-            answers.is(order == Ordering::Equal)?;
-            answers.is(order == Ordering::Greater)
-        }
-        "hash" => { answers.is(hash_of(map) == hash_of(other)) }
-        _ => Err(Stop::Unread),
+    match words.named(&COMPARISONS)? {
+        Comparison::Eq => answers.say(equal(map, other)),
+        Comparison::Less => answers.say(less(map, other)),
+        Comparison::Cmp => answers.say_all(&ordered(map, other)),
+        Comparison::Hash => answers.say(Word::Is(hash_of(map) == hash_of(other))),
     }
+}
+
+fn equal<S: BuildHasher>(map: &Map<S>, other: &Map<S>) -> Word {
+    let is_equal = map == other;
+    if (other == map) != is_equal || (map != other) == is_equal {
+        return Word::Wrong;
+    }
+    Word::Is(is_equal)
+}
+
+fn less<S: BuildHasher>(map: &Map<S>, other: &Map<S>) -> Word {
+    let is_less = map < other;
+    if (map >= other) == is_less {
+        return Word::Wrong;
+    }
+    Word::Is(is_less)
+}
+
+fn ordered<S: BuildHasher>(map: &Map<S>, other: &Map<S>) -> [Word; 3] {
+    let order = map.cmp(other);
+    if other.cmp(map) != order.reverse() || map.partial_cmp(other) != Some(order) {
+        return [Word::Wrong; 3];
+    }
+    [
+        Word::Is(order == Ordering::Less),
+        Word::Is(order == Ordering::Equal),
+        Word::Is(order == Ordering::Greater),
+    ]
 }
 
 /// What a map feeds a hasher, as one number.

@@ -1,25 +1,16 @@
-//! Calls of the entry of a given key, of a map and of a cache.
+//! Calls of the entry of a key that is in hand, of a map and of a cache.
 use crate::map_cursors::take_all_steps;
 use crate::map_row::Map;
 use hashlink_map::{Entry, OccupiedEntry};
 use std::hash::BuildHasher;
 use test_items::{
-    Answers, EntryCall, Home, Item, Name, Stop, Word, Words, no_memory, taken, taken_item, write,
+    Answer, Answers, End, EntryCall, Home, Item, Lend, Make, Name, Put, PutVacant, Stay, Stop,
+    Vacant, Word, Words, given, given_item, no_memory, shown, write,
 };
 
 type InHand<'m, S> = Entry<'m, Item, Item, S>;
 
 type Occupied<'m, S> = OccupiedEntry<'m, Item, Item, S>;
-
-/// Says the value that is lent, and writes another there, or says the pair in the `Err`.
-macro_rules! say_lent {
-    ($lent:expr, $written:expr, $answers:expr) => {
-        match $lent {
-            Ok(lent) => write(Some(lent), $written, $answers),
-            Err(pair) => no_memory(pair, $answers),
-        }
-    };
-}
 
 /// Makes the call of the entry of a map's key that the words say.
 pub fn call_entry_of<S: BuildHasher>(
@@ -32,203 +23,141 @@ pub fn call_entry_of<S: BuildHasher>(
     call_entry(map.entry(key), call, home, words, answers)
 }
 
-/// Makes a call of an entry. One of an occupied entry says nothing where the key is absent, and one of a
-/// vacant entry nothing where it is there.
+/// Makes a call of an entry, which may have steps of a cursor behind it.
 pub fn call_entry<S: BuildHasher>(
     entry: InHand<'_, S>,
-    call: EntryCall<'_>,
+    call: EntryCall,
     home: Home<'_>,
     words: &mut Words<'_>,
     answers: &mut Answers,
 ) -> Result<(), Stop> {
     match call {
-        EntryCall::Stay(name) => stay_at(entry, name, answers),
-        EntryCall::End(name) => end(entry, name, answers),
-        EntryCall::Write(name, written) => write_at(entry, name, written, answers),
-        EntryCall::Make(name, value, written) => make(entry, name, value, written, answers),
-        EntryCall::Put(name, value) => put(entry, name, value, answers),
-        EntryCall::Vacant(name) => vacant(entry, name, answers),
-        EntryCall::PutVacant(name, value, written) => {
-            put_vacant(entry, name, value, written, answers)
-        }
         EntryCall::Cursor => steps_of(entry, home, words, answers),
+        call => answers.give(answer(entry, call)),
     }
 }
 
-fn stay_at<S: BuildHasher>(
-    entry: InHand<'_, S>,
-    name: &str,
-    answers: &mut Answers,
-) -> Result<(), Stop> {
+/// What a call of an entry answers. One of an occupied entry answers nothing where the key is absent, and one
+/// of a vacant entry nothing where it is there.
+fn answer<S: BuildHasher>(entry: InHand<'_, S>, call: EntryCall) -> Answer {
+    match call {
+        EntryCall::Key => Answer::Word(Word::item(entry.key().name())),
+        EntryCall::Stay(stay) => Answer::Word(stay_at(entry, stay)),
+        EntryCall::End(end) => Answer::Word(end_at(entry, end)),
+        EntryCall::Modify(value) => Answer::Word(modify(entry, value)),
+        EntryCall::Lend(lend, new) => Answer::Word(lend_at(entry, lend, new)),
+        EntryCall::Make(make, value, new) => make_at(entry, make, value, new),
+        EntryCall::Put(put, value) => Answer::Word(put_at(entry, put, value)),
+        EntryCall::Vacant(call) => Answer::Word(vacant(entry, call)),
+        EntryCall::PutVacant(put, value, new) => put_vacant(entry, put, value, new),
+        EntryCall::Cursor => Answer::Word(Word::Nothing),
+    }
+}
+
+fn stay_at<S: BuildHasher>(entry: InHand<'_, S>, stay: Stay) -> Word {
     match entry {
-        Entry::Occupied(mut entry) => stay(&mut entry, name, answers),
-        Entry::Vacant(_vacant) => answers.item(None),
+        Entry::Occupied(mut entry) => stay_in(&mut entry, stay),
+        Entry::Vacant(_vacant) => Word::Nothing,
     }
 }
 
-fn end<S: BuildHasher>(
-    entry: InHand<'_, S>,
-    name: &str,
-    answers: &mut Answers,
-) -> Result<(), Stop> {
-    if name == "key" {
-        return answers.item(Some(entry.key().name()));
+fn stay_in<S: BuildHasher>(entry: &mut Occupied<'_, S>, stay: Stay) -> Word {
+    match stay {
+        Stay::Get => return shown((entry.key(), entry.get())),
+        Stay::ToFront => entry.to_front(),
+        Stay::ToBack => entry.to_back(),
     }
-    let ended = match entry {
-        Entry::Occupied(entry) => match name {
-            "remove" => removed(entry),
-            "remove_entry" => removed_pair(entry),
-            "into_key" => key_in_hand(entry),
-            _ => replaced_key(entry),
+    Word::item(entry.get().name())
+}
+
+fn end_at<S: BuildHasher>(entry: InHand<'_, S>, end: End) -> Word {
+    match entry {
+        Entry::Occupied(entry) => match end {
+            End::ReplaceKey => given_item(Some(entry.replace_key())),
+            End::IntoKey => given_item(Some(entry.into_key())),
+            End::Remove => given_item(Some(entry.remove())),
+            End::RemoveEntry => given(Some(entry.remove_entry())),
         },
         Entry::Vacant(_vacant) => Word::Nothing,
-    };
-    answers.say(ended)
+    }
 }
 
-fn removed<S: BuildHasher>(entry: Occupied<'_, S>) -> Word {
-    word_of(entry.remove())
-}
-
-fn removed_pair<S: BuildHasher>(entry: Occupied<'_, S>) -> Word {
-    pair_of(entry.remove_entry())
-}
-
-fn key_in_hand<S: BuildHasher>(entry: Occupied<'_, S>) -> Word {
-    word_of(entry.into_key())
-}
-
-fn replaced_key<S: BuildHasher>(entry: Occupied<'_, S>) -> Word {
-    word_of(entry.replace_key())
-}
-
-fn word_of(item: Item) -> Word {
-    Word::item(item.name())
-}
-
-fn pair_of((key, value): (Item, Item)) -> Word {
-    Word::pair((key.name(), value.name()))
-}
-
-fn write_at<S: BuildHasher>(
-    entry: InHand<'_, S>,
-    name: &str,
-    written: Option<Name>,
-    answers: &mut Answers,
-) -> Result<(), Stop> {
-    match (name, written) {
-        ("and_modify", Some(value)) => modify(entry, value, answers),
-        _ => match entry {
-            Entry::Occupied(mut entry) => match name {
-                "get_mut" => write(Some(entry.get_mut()), written, answers),
-                _ => write(Some(entry.into_mut()), written, answers),
-            },
-            Entry::Vacant(_vacant) => answers.item(None),
+fn lend_at<S: BuildHasher>(entry: InHand<'_, S>, lend: Lend, new: Option<Name>) -> Word {
+    match entry {
+        Entry::Occupied(mut entry) => match lend {
+            Lend::GetMut => write(Some(entry.get_mut()), new),
+            Lend::IntoMut => write(Some(entry.into_mut()), new),
         },
+        Entry::Vacant(_vacant) => Word::Nothing,
     }
 }
 
 /// Writes the value where the key is there.
-fn modify<S: BuildHasher>(
-    entry: InHand<'_, S>,
-    value: Name,
-    answers: &mut Answers,
-) -> Result<(), Stop> {
+fn modify<S: BuildHasher>(entry: InHand<'_, S>, value: Name) -> Word {
     match entry.and_modify(|lent| lent.group = value.group) {
-        Entry::Occupied(entry) => answers.item(Some(entry.get().name())),
-        Entry::Vacant(_vacant) => answers.item(None),
+        Entry::Occupied(entry) => Word::item(entry.get().name()),
+        Entry::Vacant(_vacant) => Word::Nothing,
     }
 }
 
-fn make<S: BuildHasher>(
+fn make_at<S: BuildHasher>(
     entry: InHand<'_, S>,
-    name: &str,
+    make: Make,
     value: Item,
-    written: Option<Name>,
-    answers: &mut Answers,
-) -> Result<(), Stop> {
-    match name {
-        "or_insert" => say_lent!(entry.or_insert(value), written, answers),
-        _ => say_lent!(entry.or_insert_with(|| value), written, answers),
+    new: Option<Name>,
+) -> Answer {
+    let lent = match make {
+        Make::OrInsert => entry.or_insert(value),
+        Make::OrInsertWith => entry.or_insert_with(|| value),
+    };
+    match lent {
+        Ok(lent) => Answer::Word(write(Some(lent), new)),
+        Err(pair) => no_memory(pair),
     }
 }
 
-fn put<S: BuildHasher>(
-    entry: InHand<'_, S>,
-    name: &str,
-    value: Item,
-    answers: &mut Answers,
-) -> Result<(), Stop> {
-    match name {
-        "insert" | "raw_replace_value" => put_value(entry, name, value, answers),
-        _ => put_entry(entry, name, value, answers),
-    }
-}
-
-fn put_value<S: BuildHasher>(
-    entry: InHand<'_, S>,
-    name: &str,
-    value: Item,
-    answers: &mut Answers,
-) -> Result<(), Stop> {
+fn put_at<S: BuildHasher>(entry: InHand<'_, S>, put: Put, value: Item) -> Word {
     match entry {
-        Entry::Occupied(mut entry) => match name {
-            "insert" => taken_item(Some(entry.insert(value)), answers),
-            _ => taken_item(Some(entry.raw_entry_mut().replace_value(value)), answers),
+        Entry::Occupied(mut entry) => match put {
+            Put::Insert => given_item(Some(entry.insert(value))),
+            Put::RawReplaceValue => given_item(Some(entry.raw_entry_mut().replace_value(value))),
+            Put::InsertEntry => given(Some(entry.insert_entry(value))),
+            Put::ReplaceEntry => given(Some(entry.replace_entry(value))),
         },
-        Entry::Vacant(_vacant) => answers.item(None),
+        Entry::Vacant(_vacant) => Word::Nothing,
     }
 }
 
-fn put_entry<S: BuildHasher>(
-    entry: InHand<'_, S>,
-    name: &str,
-    value: Item,
-    answers: &mut Answers,
-) -> Result<(), Stop> {
+fn vacant<S: BuildHasher>(entry: InHand<'_, S>, call: Vacant) -> Word {
     match entry {
-        Entry::Occupied(entry) => match name {
-            "insert_entry" => taken(Some(entry.insert_entry(value)), answers),
-            "replace_entry" => taken(Some(entry.replace_entry(value)), answers),
-            _ => Err(Stop::Unread),
-        },
-        Entry::Vacant(_vacant) => answers.item(None),
-    }
-}
-
-fn vacant<S: BuildHasher>(
-    entry: InHand<'_, S>,
-    name: &str,
-    answers: &mut Answers,
-) -> Result<(), Stop> {
-    match entry {
-        Entry::Occupied(_occupied) => answers.item(None),
-        Entry::Vacant(entry) => match name {
-            "key" => answers.item(Some(entry.key().name())),
-            _ => taken_item(Some(entry.into_key()), answers),
+        Entry::Occupied(_occupied) => Word::Nothing,
+        Entry::Vacant(entry) => match call {
+            Vacant::Key => Word::item(entry.key().name()),
+            Vacant::IntoKey => given_item(Some(entry.into_key())),
         },
     }
 }
 
 fn put_vacant<S: BuildHasher>(
     entry: InHand<'_, S>,
-    name: &str,
+    put: PutVacant,
     value: Item,
-    written: Option<Name>,
-    answers: &mut Answers,
-) -> Result<(), Stop> {
+    new: Option<Name>,
+) -> Answer {
     match entry {
-        Entry::Occupied(_occupied) => answers.item(None),
-        Entry::Vacant(entry) => match name {
-            "insert" => say_lent!(entry.insert(value), written, answers),
-            "insert_entry" => match entry.insert_entry(value) {
-                Ok(entry) => answers.pair(Some((entry.key().name(), entry.get().name()))),
-                Err(pair) => no_memory(pair, answers),
+        Entry::Occupied(_occupied) => Answer::Word(Word::Nothing),
+        Entry::Vacant(entry) => match put {
+            PutVacant::Insert => match entry.insert(value) {
+                Ok(lent) => Answer::Word(write(Some(lent), new)),
+                Err(pair) => no_memory(pair),
             },
-            // Inserts the pair, and removes it at once.
-            _ => match entry.insert_entry(value) {
-                Ok(entry) => taken(Some(entry.remove_entry()), answers),
-                Err(pair) => no_memory(pair, answers),
+            PutVacant::InsertEntry => match entry.insert_entry(value) {
+                Ok(entry) => Answer::Word(shown((entry.key(), entry.get()))),
+                Err(pair) => no_memory(pair),
+            },
+            PutVacant::Take => match entry.insert_entry(value) {
+                Ok(entry) => Answer::Word(given(Some(entry.remove_entry()))),
+                Err(pair) => no_memory(pair),
             },
         },
     }
@@ -243,7 +172,7 @@ fn steps_of<S: BuildHasher>(
 ) -> Result<(), Stop> {
     match entry {
         Entry::Occupied(entry) => take_all_steps(&mut entry.cursor_mut(), home, words, answers),
-        Entry::Vacant(_vacant) => answers.pair(None),
+        Entry::Vacant(_vacant) => answers.say(Word::Nothing),
     }
 }
 
@@ -256,23 +185,4 @@ pub fn call_cursor_of<S: BuildHasher>(
 ) -> Result<(), Stop> {
     let key = words.item(home)?;
     steps_of(map.entry(key), home, words, answers)
-}
-
-fn stay<S: BuildHasher>(
-    entry: &mut Occupied<'_, S>,
-    name: &str,
-    answers: &mut Answers,
-) -> Result<(), Stop> {
-    match name {
-        "get" => answers.pair(Some((entry.key().name(), entry.get().name()))),
-        "to_front" => {
-            entry.to_front();
-            answers.item(Some(entry.get().name()))
-        }
-        "to_back" => {
-            entry.to_back();
-            answers.item(Some(entry.get().name()))
-        }
-        _ => Err(Stop::Unread),
-    }
 }

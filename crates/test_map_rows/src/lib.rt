@@ -3,6 +3,7 @@
 
 mod compared;
 mod entries;
+mod map_calls;
 mod map_cursors;
 mod map_row;
 mod raw_entries;

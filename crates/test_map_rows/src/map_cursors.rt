@@ -1,15 +1,18 @@
 //! Lines that speak to a cursor.
+use crate::map_calls::AtEnd;
 use crate::map_row::Map;
 use hashlink_map::CursorMut;
 use std::hash::BuildHasher;
-use test_items::{Answers, Home, Item, Name, Stop, Words, named, old, taken, write, written};
+use test_items::{
+    Answer, Answers, Home, Item, Name, Stop, Word, Words, given, lent, put, shown, write,
+    write_pair,
+};
 
 type Cursor<'m, S> = CursorMut<'m, Item, Item, S>;
 
 /// What is done with the cursor after its steps.
 #[derive(Clone, Copy)]
-pub enum End {
-    Left,
+enum Last {
     /// It becomes its entry, which is said.
     Entry,
     /// It lends its entry, which is removed.
@@ -18,6 +21,48 @@ pub enum End {
     TakeIntoEntry,
 }
 
+#[derive(Clone, Copy)]
+enum PutAt {
+    Before,
+    After,
+}
+
+#[derive(Clone, Copy)]
+enum WriteAt {
+    Here,
+    Pair,
+    Next,
+    Prev,
+}
+
+#[derive(Clone, Copy)]
+enum CursorStep {
+    Next,
+    Prev,
+    /// It says the entries before the cursor, at it and after it.
+    At,
+    Put(PutAt),
+    Write(WriteAt),
+    Last(Last),
+}
+
+const STEPS: [(&str, CursorStep); 12] = [
+    ("next", CursorStep::Next),
+    ("prev", CursorStep::Prev),
+    ("at", CursorStep::At),
+    ("before", CursorStep::Put(PutAt::Before)),
+    ("after", CursorStep::Put(PutAt::After)),
+    ("write", CursorStep::Write(WriteAt::Here)),
+    ("write_pair", CursorStep::Write(WriteAt::Pair)),
+    ("write_next", CursorStep::Write(WriteAt::Next)),
+    ("write_prev", CursorStep::Write(WriteAt::Prev)),
+    ("entry", CursorStep::Last(Last::Entry)),
+    ("take_entry", CursorStep::Last(Last::TakeEntry)),
+    ("take_into_entry", CursorStep::Last(Last::TakeIntoEntry)),
+];
+
+const ENDS: [(&str, AtEnd); 2] = [("front", AtEnd::Front), ("back", AtEnd::Back)];
+
 /// Steps of a cursor that starts at an end.
 pub fn call_cursor<S: BuildHasher>(
     map: &mut Map<S>,
@@ -25,29 +70,30 @@ pub fn call_cursor<S: BuildHasher>(
     words: &mut Words<'_>,
     answers: &mut Answers,
 ) -> Result<(), Stop> {
-    let mut cursor = cursor_at(map, words.word()?);
+    let end = words.named(&ENDS)?;
+    let mut cursor = cursor_at(map, end);
     match take_steps(&mut cursor, home, words, answers)? {
-        End::Left => Ok(()),
-        End::Entry => match cursor.current_entry() {
-            Ok(entry) => answers.pair(Some(named(entry.get_key_value()))),
-            Err(cursor) => around(&cursor, answers),
+        None => Ok(()),
+        Some(Last::Entry) => match cursor.current_entry() {
+            Ok(entry) => answers.say(shown(entry.get_key_value())),
+            Err(cursor) => answers.say_all(&around(&cursor)),
         },
-        End::TakeEntry => match cursor.current_entry() {
-            Ok(entry) => taken(Some(entry.remove_entry()), answers),
-            Err(_guard) => answers.pair(None),
+        Some(Last::TakeEntry) => match cursor.current_entry() {
+            Ok(entry) => answers.say(given(Some(entry.remove_entry()))),
+            Err(_guard) => answers.say(Word::Nothing),
         },
-        End::TakeIntoEntry => match cursor.into_entry() {
-            Some(entry) => taken(Some(entry.remove_entry()), answers),
-            None => answers.pair(None),
+        Some(Last::TakeIntoEntry) => match cursor.into_entry() {
+            Some(entry) => answers.say(given(Some(entry.remove_entry()))),
+            None => answers.say(Word::Nothing),
         },
     }
 }
 
-fn cursor_at<'m, S: BuildHasher>(map: &'m mut Map<S>, end: &str) -> Cursor<'m, S> {
-    if end == "front" {
-        return map.cursor_front_mut();
+fn cursor_at<'m, S: BuildHasher>(map: &'m mut Map<S>, end: AtEnd) -> Cursor<'m, S> {
+    match end {
+        AtEnd::Front => map.cursor_front_mut(),
+        AtEnd::Back => map.cursor_back_mut(),
     }
-    map.cursor_back_mut()
 }
 
 /// Takes the steps, after which the cursor is left.
@@ -58,82 +104,77 @@ pub fn take_all_steps<S: BuildHasher>(
     answers: &mut Answers,
 ) -> Result<(), Stop> {
     match take_steps(cursor, home, words, answers)? {
-        End::Left => Ok(()),
-        _ => Err(Stop::Unread),
+        Some(_last) => Err(Stop::Unread),
+        None => Ok(()),
     }
 }
 
-/// Takes the steps, and returns what is done then.
+/// Takes the steps, and returns what is done then, if anything is.
 fn take_steps<S: BuildHasher>(
     cursor: &mut Cursor<'_, S>,
     home: Home<'_>,
     words: &mut Words<'_>,
     answers: &mut Answers,
-) -> Result<End, Stop> {
+) -> Result<Option<Last>, Stop> {
     for _ in 0..64 {
-        match words.next() {
-            None => return Ok(End::Left),
-            Some("entry") => return Ok(End::Entry),
-            Some("take_entry") => return Ok(End::TakeEntry),
-            Some("take_into_entry") => return Ok(End::TakeIntoEntry),
-            Some(name) => step(cursor, home, name, words, answers)?,
+        if words.rest.is_empty() {
+            return Ok(None);
+        }
+        match words.named(&STEPS)? {
+            CursorStep::Last(last) => return Ok(Some(last)),
+            step => take_step(cursor, home, step, words, answers)?,
         }
     }
     Err(Stop::Unread)
 }
 
-/// Says the entries before the cursor, at it and after it.
-fn around<S: BuildHasher>(cursor: &Cursor<'_, S>, answers: &mut Answers) -> Result<(), Stop> {
-    answers.pair(cursor.prev_pair().map(named))?;
-    answers.pair(cursor.current_pair().map(named))?;
-    answers.pair(cursor.next_pair().map(named))
-}
-
-fn step<S: BuildHasher>(
+fn take_step<S: BuildHasher>(
     cursor: &mut Cursor<'_, S>,
     home: Home<'_>,
-    name: &str,
+    step: CursorStep,
     words: &mut Words<'_>,
     answers: &mut Answers,
 ) -> Result<(), Stop> {
-    match name {
-        "next" => {
-            cursor.move_next();
-            Ok(())
+    match step {
+        CursorStep::Next => cursor.move_next(),
+        CursorStep::Prev => cursor.move_prev(),
+        CursorStep::At => return answers.say_all(&around(cursor)),
+        CursorStep::Put(place) => {
+            let (key, value) = words.pair(home)?;
+            return answers.give(put_at(cursor, place, key, value));
         }
-        "prev" => {
-            cursor.move_prev();
-            Ok(())
-        }
-        "at" => around(cursor, answers),
-        "before" | "after" => put_at(cursor, name, words.pair(home)?, answers),
-        _ => write_at(cursor, name, words.name()?, answers),
+        CursorStep::Write(place) => return answers.say(write_at(cursor, place, words.name()?)),
+        CursorStep::Last(_last) => return Err(Stop::Unread),
     }
+    Ok(())
+}
+
+/// The entries before the cursor, at it and after it.
+fn around<S: BuildHasher>(cursor: &Cursor<'_, S>) -> [Word; 3] {
+    [
+        lent(cursor.prev_pair()),
+        lent(cursor.current_pair()),
+        lent(cursor.next_pair()),
+    ]
 }
 
 fn put_at<S: BuildHasher>(
     cursor: &mut Cursor<'_, S>,
-    name: &str,
-    (key, value): (Item, Item),
-    answers: &mut Answers,
-) -> Result<(), Stop> {
-    if name == "before" {
-        return old(cursor.insert_before(key, value), answers);
+    place: PutAt,
+    key: Item,
+    value: Item,
+) -> Answer {
+    match place {
+        PutAt::Before => put(cursor.insert_before(key, value)),
+        PutAt::After => put(cursor.insert_after(key, value)),
     }
-    old(cursor.insert_after(key, value), answers)
 }
 
-fn write_at<S: BuildHasher>(
-    cursor: &mut Cursor<'_, S>,
-    name: &str,
-    value: Name,
-    answers: &mut Answers,
-) -> Result<(), Stop> {
-    match name {
-        "write" => write(cursor.current_value(), Some(value), answers),
-        "write_pair" => answers.pair(written(cursor.current(), Some(value))),
-        "write_next" => answers.pair(written(cursor.peek_next(), Some(value))),
-        "write_prev" => answers.pair(written(cursor.peek_prev(), Some(value))),
-        _ => Err(Stop::Unread),
+fn write_at<S: BuildHasher>(cursor: &mut Cursor<'_, S>, place: WriteAt, new: Name) -> Word {
+    match place {
+        WriteAt::Here => write(cursor.current_value(), Some(new)),
+        WriteAt::Pair => write_pair(cursor.current(), Some(new)),
+        WriteAt::Next => write_pair(cursor.peek_next(), Some(new)),
+        WriteAt::Prev => write_pair(cursor.peek_prev(), Some(new)),
     }
 }

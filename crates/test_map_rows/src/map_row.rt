@@ -1,17 +1,21 @@
 //! Lines that speak to a map.
 use crate::entries::{call_cursor_of, call_entry_of};
+use crate::map_calls::{
+    EndCall, KeyCall, LendCall, MAP_CALLS, MapCall, PairCall, PairsCall, ReadCall, SizeCall,
+    WalkCall,
+};
 use crate::map_cursors::call_cursor;
 use crate::raw_entries::{call_end, call_raw, read_raw};
 use crate::walks::Walked;
-use hashlink_map::{ExtendError, LinkedHashMap, TryReserveError};
+use hashlink_map::{ExtendError, LinkedHashMap};
 use std::alloc::AllocError;
 use std::hash::BuildHasher;
 use std::mem;
 use std::vec::IntoIter;
 use test_items::{
-    Answers, Home, Item, Name, Stop, Word, Words, has_room, is_other, is_raised, made, named, old,
-    pairs_of, room, say_met, take_steps, taken, taken_before, taken_item, walk_and_clone,
-    walk_whole, write,
+    Answer, Answers, Home, Item, KEEPS, Keep, Name, Stop, Word, Words, given, given_item, has_room,
+    is_even, is_other, is_raised, lent, lent_item, made, no_memory_after, pairs_of, put, room,
+    say_met, take_steps, walk_and_clone, walk_whole, write,
 };
 
 pub type Map<S> = LinkedHashMap<Item, Item, S>;
@@ -23,302 +27,218 @@ pub fn call_map<S: BuildHasher + Copy + Default + Drop>(
     words: &mut Words<'_>,
     answers: &mut Answers,
 ) -> Result<(), Stop> {
-    let name = words.word()?;
-    match name {
-        "front" | "back" | "len" | "is_empty" => read_end(map, name, answers),
-        "get" | "contains_key" | "get_key_value" | "index" => {
-            read_key(map, name, &words.item(home)?, answers)
+    match words.named(&MAP_CALLS)? {
+        MapCall::Read(call) => answers.say(read(map, call)),
+        MapCall::End(call) => answers.say(call_at_end(map, call)),
+        MapCall::Key(call) => answers.say(call_key(map, call, &words.item(home)?)),
+        MapCall::Lend(call) => {
+            let (key, new) = words.lent_item(home)?;
+            answers.say(lend(map, call, &key, new))
         }
-        "insert" | "insert_front" | "replace" => put(map, name, words.pair(home)?, answers),
-        "get_mut" | "to_front" | "to_back" | "index_mut" => {
-            let key = words.name()?;
-            let value = words.optional()?;
-            lend(map, name, &home.item(key)?, value, answers)
+        MapCall::Pair(call) => {
+            let (key, value) = words.pair(home)?;
+            answers.give(put_pair(map, call, key, value))
         }
-        _ => call_taking(map, home, name, words, answers),
+        MapCall::Size(call) => answers.say(ask_room(map, call, home, words.size()?)),
+        MapCall::Pairs(call) => put_all(map, home, call, pairs_of(home, words)?, answers),
+        MapCall::Retain(is_ordered) => {
+            let keep = words.named(&KEEPS)?;
+            retain(map, home, is_ordered, keep, answers)
+        }
+        MapCall::Walk(call) => walk_map(map, home, call, words, answers),
+        call => call_of_entry(map, home, call, words, answers),
     }
 }
 
-fn call_taking<S: BuildHasher + Copy + Default + Drop>(
+fn call_of_entry<S: BuildHasher + Copy>(
     map: &mut Map<S>,
     home: Home<'_>,
-    name: &str,
+    call: MapCall,
     words: &mut Words<'_>,
     answers: &mut Answers,
 ) -> Result<(), Stop> {
-    match name {
-        "remove" | "remove_entry" => remove(map, name, &words.item(home)?, answers),
-        "pop_front" | "pop_back" | "clear" => remove_end(map, name, answers),
-        "retain" | "retain_with_order" => retain(map, home, name, words.word()?, answers),
-        "iter" | "keys" | "values" => read_each(map, name, words, answers),
-        "iter_mut" | "values_mut" | "drain" | "into_iter" => {
-            walk_map(map, home, name, words, answers)
-        }
-        _ => call_of_entry(map, home, name, words, answers),
-    }
-}
-
-fn call_of_entry<S: BuildHasher + Copy + Default + Drop>(
-    map: &mut Map<S>,
-    home: Home<'_>,
-    name: &str,
-    words: &mut Words<'_>,
-    answers: &mut Answers,
-) -> Result<(), Stop> {
-    match name {
-        "cursor" => call_cursor(map, home, words, answers),
-        "cursor_of" => call_cursor_of(map, home, words, answers),
-        "entry" => call_entry_of(map, home, words, answers),
-        "raw" => call_raw(map, home, words, answers),
-        "raw_read" => read_raw(map, home, words, answers),
-        "front_entry" | "back_entry" => call_end(map, home, name, words, answers),
-        _ => call_of_all(map, home, name, words, answers),
-    }
-}
-
-fn call_of_all<S: BuildHasher + Copy + Default + Drop>(
-    map: &mut Map<S>,
-    home: Home<'_>,
-    name: &str,
-    words: &mut Words<'_>,
-    answers: &mut Answers,
-) -> Result<(), Stop> {
-    match name {
-        "reserve" | "try_reserve" | "shrink" | "room" | "capacity" | "under" => {
-            ask_room(map, name, words, answers)
-        }
-        "extend" | "extend_from" | "from_iter" => {
-            put_all(map, home, name, pairs_of(home, words)?, answers)
-        }
-        "clone" => {
-            let clone = map.clone();
-            made(map, clone, answers)
-        }
-        "with_capacity" => make(map, home, words.size()?, answers),
+    match call {
+        MapCall::Cursor => call_cursor(map, home, words, answers),
+        MapCall::CursorOf => call_cursor_of(map, home, words, answers),
+        MapCall::Entry => call_entry_of(map, home, words, answers),
+        MapCall::Raw => call_raw(map, home, words, answers),
+        MapCall::RawRead => read_raw(map, home, words, answers),
+        MapCall::EntryAt(end) => call_end(map, home, end, words, answers),
         _ => Err(Stop::Unread),
     }
 }
 
-fn read_end<S: BuildHasher>(map: &Map<S>, name: &str, answers: &mut Answers) -> Result<(), Stop> {
-    match name {
-        "front" => answers.pair(map.front().map(named)),
-        "back" => answers.pair(map.back().map(named)),
-        "len" => answers.count(map.len() as u64),
-        _ => answers.is(map.is_empty()),
+fn read<S: BuildHasher>(map: &Map<S>, call: ReadCall) -> Word {
+    match call {
+        ReadCall::Front => lent(map.front()),
+        ReadCall::Back => lent(map.back()),
+        ReadCall::Len => Word::count(map.len()),
+        ReadCall::IsEmpty => Word::Is(map.is_empty()),
     }
 }
 
-fn read_key<S: BuildHasher>(
-    map: &Map<S>,
-    name: &str,
-    key: &Item,
-    answers: &mut Answers,
-) -> Result<(), Stop> {
-    match name {
-        "get" => answers.item(map.get(key).map(Item::name)),
-        "contains_key" => answers.is(map.contains_key(key)),
-        "get_key_value" => answers.pair(map.get_key_value(key).map(named)),
-        _ => {
+fn call_at_end<S: BuildHasher + Copy + Drop>(map: &mut Map<S>, call: EndCall) -> Word {
+    match call {
+        EndCall::PopFront => given(map.pop_front()),
+        EndCall::PopBack => given(map.pop_back()),
+        EndCall::Clear => {
+            map.clear();
+            Word::Done
+        }
+        EndCall::Shrink => match map.shrink_to_fit() {
+            Ok(()) => Word::Done,
+            Err(AllocError) => Word::Memory,
+        },
+        EndCall::Clone => {
+            let clone = map.clone();
+            made(map, clone)
+        }
+    }
+}
+
+fn call_key<S: BuildHasher>(map: &mut Map<S>, call: KeyCall, key: &Item) -> Word {
+    match call {
+        KeyCall::Get => lent_item(map.get(key)),
+        KeyCall::ContainsKey => Word::Is(map.contains_key(key)),
+        KeyCall::GetKeyValue => lent(map.get_key_value(key)),
+        KeyCall::Index => {
             if map.contains_key(key) {
-                answers.item(Some(map[key].name()))
+                Word::item(map[key].name())
             } else {
-                answers.item(None)
+                Word::Nothing
+            }
+        }
+        KeyCall::Remove => given_item(map.remove(key)),
+        KeyCall::RemoveEntry => given(map.remove_entry(key)),
+    }
+}
+
+fn put_pair<S: BuildHasher>(map: &mut Map<S>, call: PairCall, key: Item, value: Item) -> Answer {
+    match call {
+        PairCall::Insert => put(map.insert(key, value)),
+        PairCall::InsertFront => put(map.insert_front(key, value)),
+        PairCall::Replace => put(map.replace(key, value)),
+    }
+}
+
+fn lend<S: BuildHasher>(map: &mut Map<S>, call: LendCall, key: &Item, new: Option<Name>) -> Word {
+    match call {
+        LendCall::GetMut => write(map.get_mut(key), new),
+        LendCall::ToFront => write(map.to_front(key), new),
+        LendCall::ToBack => write(map.to_back(key), new),
+        LendCall::IndexMut => {
+            if map.contains_key(key) {
+                write(Some(&mut map[key]), new)
+            } else {
+                Word::Nothing
             }
         }
     }
 }
 
-fn put<S: BuildHasher>(
-    map: &mut Map<S>,
-    name: &str,
-    (key, value): (Item, Item),
-    answers: &mut Answers,
-) -> Result<(), Stop> {
-    match name {
-        "insert" => old(map.insert(key, value), answers),
-        "insert_front" => old(map.insert_front(key, value), answers),
-        _ => old(map.replace(key, value), answers),
-    }
-}
-
-fn lend<S: BuildHasher>(
-    map: &mut Map<S>,
-    name: &str,
-    key: &Item,
-    value: Option<Name>,
-    answers: &mut Answers,
-) -> Result<(), Stop> {
-    match name {
-        "get_mut" => write(map.get_mut(key), value, answers),
-        "to_front" => write(map.to_front(key), value, answers),
-        "to_back" => write(map.to_back(key), value, answers),
-        _ => lend_indexed(map, key, value, answers),
-    }
-}
-
-fn lend_indexed<S: BuildHasher>(
-    map: &mut Map<S>,
-    key: &Item,
-    value: Option<Name>,
-    answers: &mut Answers,
-) -> Result<(), Stop> {
-    if !map.contains_key(key) {
-        return answers.item(None);
-    }
-    write(Some(&mut map[key]), value, answers)
-}
-
-fn remove<S: BuildHasher>(
-    map: &mut Map<S>,
-    name: &str,
-    key: &Item,
-    answers: &mut Answers,
-) -> Result<(), Stop> {
-    match name {
-        "remove" => taken_item(map.remove(key), answers),
-        _ => taken(map.remove_entry(key), answers),
-    }
-}
-
-fn remove_end<S: BuildHasher>(
-    map: &mut Map<S>,
-    name: &str,
-    answers: &mut Answers,
-) -> Result<(), Stop> {
-    match name {
-        "pop_front" => taken(map.pop_front(), answers),
-        "pop_back" => taken(map.pop_back(), answers),
-        _ => {
-            map.clear();
-            answers.done()
-        }
-    }
-}
-
-/// Keeps by a test that the line names: `even` values; `odd` keys, whose values become ten times as much;
-/// `others` than the odd keys, which are said in the order in which they were met.
 fn retain<S: BuildHasher>(
     map: &mut Map<S>,
     home: Home<'_>,
-    name: &str,
-    keep: &str,
+    is_ordered: bool,
+    keep: Keep,
     answers: &mut Answers,
 ) -> Result<(), Stop> {
+    let mut met = Vec::new(home.alloc);
     match keep {
-        "even" => keep_even(map, name),
-        "odd" => keep_odd(map, name),
-        "others" => {
-            let mut met = Vec::with_capacity(home.alloc, map.len())?;
-            keep_others(map, name, &mut met);
-            return say_met(&met, answers);
+        Keep::Even => keep_even(map, is_ordered),
+        Keep::Odd => keep_odd(map, is_ordered),
+        Keep::Others => {
+            met.reserve(map.len())?;
+            keep_others(map, is_ordered, &mut met);
         }
-        _ => return Err(Stop::Unread),
     }
-    answers.done()
+    say_met(&met, answers)
 }
 
-fn keep_even<S: BuildHasher>(map: &mut Map<S>, name: &str) {
-    if name == "retain" {
-        map.retain(|_, value| value.group % 2 == 0);
+fn keep_even<S: BuildHasher>(map: &mut Map<S>, is_ordered: bool) {
+    if is_ordered {
+        map.retain_with_order(is_even);
     } else {
-        map.retain_with_order(|_, value| value.group % 2 == 0);
+        map.retain(is_even);
     }
 }
 
-fn keep_odd<S: BuildHasher>(map: &mut Map<S>, name: &str) {
-    if name == "retain" {
-        map.retain(is_raised);
-    } else {
+fn keep_odd<S: BuildHasher>(map: &mut Map<S>, is_ordered: bool) {
+    if is_ordered {
         map.retain_with_order(is_raised);
-    }
-}
-
-fn keep_others<S: BuildHasher>(map: &mut Map<S>, name: &str, met: &mut Vec<Name>) {
-    if name == "retain" {
-        retain_others(map, met);
     } else {
-        retain_others_with_order(map, met);
+        map.retain(is_raised);
     }
 }
 
-fn retain_others<S: BuildHasher>(map: &mut Map<S>, met: &mut Vec<Name>) {
-    map.retain(|key, _| is_other(key, met));
-}
-
-fn retain_others_with_order<S: BuildHasher>(map: &mut Map<S>, met: &mut Vec<Name>) {
-    map.retain_with_order(|key, _| is_other(key, met));
-}
-
-fn read_each<S: BuildHasher>(
-    map: &Map<S>,
-    name: &str,
-    words: &mut Words<'_>,
-    answers: &mut Answers,
-) -> Result<(), Stop> {
-    match name {
-        "iter" => walk_and_clone(Walked(map.iter()), words, answers),
-        "keys" => walk_and_clone(Walked(map.keys()), words, answers),
-        _ => walk_and_clone(Walked(map.values()), words, answers),
+fn keep_others<S: BuildHasher>(map: &mut Map<S>, is_ordered: bool, met: &mut Vec<Word>) {
+    if is_ordered {
+        map.retain_with_order(|key, _| is_other(key, met));
+    } else {
+        map.retain(|key, _| is_other(key, met));
     }
 }
 
 fn walk_map<S: BuildHasher + Copy + Drop>(
     map: &mut Map<S>,
     home: Home<'_>,
-    name: &str,
+    call: WalkCall,
     words: &mut Words<'_>,
     answers: &mut Answers,
 ) -> Result<(), Stop> {
-    match name {
-        "iter_mut" => take_steps(&mut Walked(map.iter_mut()), words, answers),
-        "values_mut" => take_steps(&mut Walked(map.values_mut()), words, answers),
-        "drain" => take_steps(&mut Walked(map.drain()), words, answers),
-        _ => {
+    match call {
+        WalkCall::Iter => walk_and_clone(Walked(map.iter()), words, answers),
+        WalkCall::Keys => walk_and_clone(Walked(map.keys()), words, answers),
+        WalkCall::Values => walk_and_clone(Walked(map.values()), words, answers),
+        WalkCall::IterMut => take_steps(&mut Walked(map.iter_mut()), words, answers),
+        WalkCall::ValuesMut => take_steps(&mut Walked(map.values_mut()), words, answers),
+        WalkCall::Drain => take_steps(&mut Walked(map.drain()), words, answers),
+        WalkCall::IntoIter => {
             let empty = LinkedHashMap::with_hasher(home.alloc, *map.hasher());
             walk_whole(Walked(mem::replace(map, empty).into_iter()), words, answers)
         }
     }
 }
 
-fn ask_room<S: BuildHasher>(
+fn ask_room<S: BuildHasher + Copy + Drop>(
     map: &mut Map<S>,
-    name: &str,
-    words: &mut Words<'_>,
-    answers: &mut Answers,
-) -> Result<(), Stop> {
-    match name {
-        "reserve" => room(map.reserve(words.size()?), answers),
-        "try_reserve" => room(map.try_reserve(words.size()?), answers),
-        "shrink" => match map.shrink_to_fit() {
-            Ok(()) => answers.done(),
-            Err(AllocError) => answers.say(Word::Memory),
-        },
-        _ => has_room(name, map.capacity(), map.len(), words.size()?, answers),
+    call: SizeCall,
+    home: Home<'_>,
+    size: usize,
+) -> Word {
+    match call {
+        SizeCall::Reserve => room(map.reserve(size)),
+        SizeCall::TryReserve => room(map.try_reserve(size)),
+        SizeCall::Has(asked) => has_room(asked, map.capacity(), map.len(), size),
+        SizeCall::WithCapacity => {
+            let hasher = *map.hasher();
+            match LinkedHashMap::with_capacity_and_hasher(home.alloc, size, hasher) {
+                Ok(new) => made(map, Ok(new)),
+                Err(refused) => room(Err(refused)),
+            }
+        }
     }
 }
 
-/// Says that all were inserted, or how many were before the one in the error.
-pub fn extended(
-    answer: Result<(), ExtendError<Item, Item>>,
-    answers: &mut Answers,
-) -> Result<(), Stop> {
+/// That all went in, or how many did before the one that is handed back.
+pub fn extended(answer: Result<(), ExtendError<Item, Item>>) -> Answer {
     match answer {
-        Ok(()) => answers.done(),
-        Err(refused) => taken_before(refused.pair, refused.taken, answers),
+        Ok(()) => Answer::Word(Word::Done),
+        Err(refused) => no_memory_after(refused.pair, refused.taken),
     }
 }
 
 fn put_all<S: BuildHasher + Copy + Default + Drop>(
     map: &mut Map<S>,
     home: Home<'_>,
-    name: &str,
+    call: PairsCall,
     pairs: Vec<(Item, Item)>,
     answers: &mut Answers,
 ) -> Result<(), Stop> {
-    match name {
-        "extend" => extended(map.extend(pairs), answers),
-        "extend_from" => extend_from(map, &mut pairs.into_iter(), answers),
-        _ => made(map, LinkedHashMap::from_iter(home.alloc, pairs), answers),
+    match call {
+        PairsCall::Extend => answers.give(extended(map.extend(pairs))),
+        PairsCall::ExtendFrom => extend_from(map, &mut pairs.into_iter(), answers),
+        PairsCall::FromIter => answers.say(made(map, LinkedHashMap::from_iter(home.alloc, pairs))),
     }
 }
 
@@ -327,19 +247,6 @@ fn extend_from<S: BuildHasher>(
     pairs: &mut IntoIter<(Item, Item)>,
     answers: &mut Answers,
 ) -> Result<(), Stop> {
-    extended(map.extend_from(pairs), answers)?;
-    answers.count(pairs.len() as u64)
-}
-
-fn make<S: BuildHasher + Copy + Drop>(
-    map: &mut Map<S>,
-    home: Home<'_>,
-    size: usize,
-    answers: &mut Answers,
-) -> Result<(), Stop> {
-    let hasher = *map.hasher();
-    match LinkedHashMap::with_capacity_and_hasher(home.alloc, size, hasher) {
-        Ok(new) => made(map, Ok(new), answers),
-        Err(refused) => room(Err(refused), answers),
-    }
+    answers.give(extended(map.extend_from(pairs)))?;
+    answers.say(Word::count(pairs.len()))
 }

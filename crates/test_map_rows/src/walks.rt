@@ -1,14 +1,14 @@
 //! The iterators of maps by steps from both ends.
 use hashlink_map::{Drain, IntoIter, Iter, IterMut, Keys, Values, ValuesMut};
 use std::hash::BuildHasher;
-use test_items::{Item, Step, Walk, Word, given, hinted, lend, lend_pair, lent, lent_item};
+use test_items::{Item, Step, Walk, Word, given, hinted, lent, lent_item, write, write_pair};
 
 /// An iterator that takes steps.
 #[derive(Clone, Drop)]
 pub struct Walked<I>(pub I);
 
 impl Walk for Walked<Iter<'_, Item, Item>> {
-    fn step(&mut self, step: Step) -> Option<Word> {
+    fn step(&mut self, step: Step) -> Word {
         if step.is_back {
             return lent(self.0.next_back());
         }
@@ -21,7 +21,7 @@ impl Walk for Walked<Iter<'_, Item, Item>> {
 }
 
 impl Walk for Walked<Keys<'_, Item, Item>> {
-    fn step(&mut self, step: Step) -> Option<Word> {
+    fn step(&mut self, step: Step) -> Word {
         if step.is_back {
             return lent_item(self.0.next_back());
         }
@@ -34,7 +34,7 @@ impl Walk for Walked<Keys<'_, Item, Item>> {
 }
 
 impl Walk for Walked<Values<'_, Item, Item>> {
-    fn step(&mut self, step: Step) -> Option<Word> {
+    fn step(&mut self, step: Step) -> Word {
         if step.is_back {
             return lent_item(self.0.next_back());
         }
@@ -47,12 +47,12 @@ impl Walk for Walked<Values<'_, Item, Item>> {
 }
 
 impl<S: BuildHasher> Walk for Walked<IterMut<'_, Item, Item, S>> {
-    fn step(&mut self, step: Step) -> Option<Word> {
+    fn step(&mut self, step: Step) -> Word {
         match (step.is_value, step.is_back) {
-            (false, false) => lend_pair(self.0.next(), step),
-            (false, true) => lend_pair(self.0.next_back(), step),
-            (true, false) => lend(self.0.next_value(), step),
-            (true, true) => lend(self.0.next_value_back(), step),
+            (false, false) => write_pair(self.0.next(), step.written),
+            (false, true) => write_pair(self.0.next_back(), step.written),
+            (true, false) => write(self.0.next_value(), step.written),
+            (true, true) => write(self.0.next_value_back(), step.written),
         }
     }
 
@@ -63,11 +63,11 @@ impl<S: BuildHasher> Walk for Walked<IterMut<'_, Item, Item, S>> {
 }
 
 impl<S: BuildHasher> Walk for Walked<ValuesMut<'_, Item, Item, S>> {
-    fn step(&mut self, step: Step) -> Option<Word> {
+    fn step(&mut self, step: Step) -> Word {
         if step.is_back {
-            return lend(self.0.next_back(), step);
+            return write(self.0.next_back(), step.written);
         }
-        lend(self.0.next(), step)
+        write(self.0.next(), step.written)
     }
 
     fn left(&self) -> (usize, usize, Option<usize>) {
@@ -77,7 +77,7 @@ impl<S: BuildHasher> Walk for Walked<ValuesMut<'_, Item, Item, S>> {
 }
 
 impl<S: BuildHasher + Drop> Walk for Walked<IntoIter<Item, Item, S>> {
-    fn step(&mut self, step: Step) -> Option<Word> {
+    fn step(&mut self, step: Step) -> Word {
         if step.is_back {
             return given(self.0.next_back());
         }
@@ -90,7 +90,7 @@ impl<S: BuildHasher + Drop> Walk for Walked<IntoIter<Item, Item, S>> {
 }
 
 impl<S: BuildHasher> Walk for Walked<Drain<'_, Item, Item, S>> {
-    fn step(&mut self, step: Step) -> Option<Word> {
+    fn step(&mut self, step: Step) -> Word {
         if step.is_back {
             return given(self.0.next_back());
         }

@@ -10,7 +10,7 @@ use hashlink::{LinkedHashMap, LruCache};
 use hashlink_spelling::{CacheLine, Line, pair_command};
 use std::alloc::{AllocError, Global};
 use std::hash::BuildHasher;
-use test_items::{Answers, Name, Stop, Word, Words, are_written, number};
+use test_items::{Answer, Answers, Name, Stop, Word, Words, are_written, number};
 
 /// A container that runs a list of commands.
 pub trait Listed {
@@ -108,21 +108,24 @@ fn say_all(
         return Ok(false);
     };
     for reply in replies.iter() {
-        match *reply {
-            Reply::Done => answers.done()?,
-            Reply::Denied => answers.say(Word::Memory)?,
-            Reply::Value(item) | Reply::Key(item) => answers.item(item.map(Name::of))?,
-            Reply::Pair(Some((key, value))) => answers.say(word_of((&key, &value)))?,
-            Reply::Seen(Some(is_even)) => answers.is(is_even)?,
-            Reply::Pair(None) | Reply::Seen(None) => answers.item(None)?,
-            Reply::Length(length) => answers.count(length as u64)?,
-            Reply::Refused(key, value) => answers.back(
-                Word::Memory,
-                (Name::of(key), Name::of(value)),
-            )?,
-        }
+        answers.give(said(*reply))?;
     }
     Ok(true)
+}
+
+fn said(reply: Reply<u64, u64>) -> Answer {
+    match reply {
+        Reply::Done => Answer::Word(Word::Done),
+        Reply::Denied => Answer::Word(Word::Memory),
+        Reply::Value(Some(item)) | Reply::Key(Some(item)) => Answer::Word(Word::Item(item, 0)),
+        Reply::Pair(Some((key, value))) => Answer::Word(word_of((&key, &value))),
+        Reply::Seen(Some(is_even)) => Answer::Word(Word::Is(is_even)),
+        Reply::Value(None) | Reply::Key(None) | Reply::Pair(None) | Reply::Seen(None) => {
+            Answer::Word(Word::Nothing)
+        }
+        Reply::Length(length) => Answer::Word(Word::count(length)),
+        Reply::Refused(key, value) => Answer::Back(Word::Memory, word_of((&key, &value))),
+    }
 }
 
 /// Runs the lines in two halves, each as one list, and returns whether each reply is the one that is written.

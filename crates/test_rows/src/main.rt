@@ -115,8 +115,9 @@ fn report(rt: &HostRuntime, file: &str, row: Row<'_>, wrong: Wrong<'_>, answers:
             let _ = println!(rt; "{file}:{number}: {name}: {line}");
             let _ = println!(rt; "  this is no line of such a row");
         }
-        Wrong::Living(living) => {
-            let _ = println!(rt; "{file}: {name}: {living} keys and values were not dropped");
+        Wrong::Living(number, line) => {
+            let _ = println!(rt; "{file}:{number}: {name}: {line}");
+            let _ = println!(rt; "  other keys and values live then than those that are held");
         }
         Wrong::Row => {
             let _ = println!(rt; "{file}: {name}: a wrong answer");

@@ -19,8 +19,8 @@ pub enum Wrong<'f> {
     Line(usize, &'f str),
     /// It is no line of such a row.
     Unread(usize, &'f str),
-    /// So many keys and values were not dropped.
-    Living(usize),
+    /// After the line of this number and text other items live than those that the containers hold.
+    Living(usize, &'f str),
     /// A row of commands or a text, which says no more.
     Row,
 }

@@ -7,7 +7,7 @@ use crate::texts::is_text_right;
 use hashlink::{DefaultHashBuilder, LinkedHashMap, LruCache};
 use std::hash::BuildHasher;
 use test_cache_rows::{Cache, Weighted};
-use test_items::{Answers, Home, Stop, Words, are_written};
+use test_items::{Answers, Home, Stop, Word, Words, are_written};
 use test_map_rows::Map;
 use test_set_rows::Set;
 
@@ -18,15 +18,16 @@ pub fn wrong<'f>(
     answers: &mut Answers,
     voice: Voice<'_>,
 ) -> Option<Wrong<'f>> {
-    let before = home.living();
     match run(row, home, answers, voice) {
         Err(Stop::Memory) => leave_out(answers, voice),
         Err(Stop::Unread) => return Some(Wrong::Unread(row.first, row.mode)),
         Ok(Some(wrong)) => return Some(wrong),
         Ok(None) => {}
     }
-    let left = home.living().saturating_sub(before);
-    (left > 0).then_some(Wrong::Living(left))
+    if home.living() > 0 {
+        return Some(Wrong::Living(row.first, row.mode));
+    }
+    None
 }
 
 fn leave_out(answers: &mut Answers, voice: Voice<'_>) {
@@ -153,8 +154,7 @@ fn speak<'f, C: Spoken + Drop>(
 /// Says how many hashes and how many comparisons there were since this was last said.
 fn say_cost(home: Home<'_>, answers: &mut Answers) -> Result<(), Stop> {
     let (hashes, comparisons) = home.cost();
-    answers.count(hashes)?;
-    answers.count(comparisons)
+    answers.say_all(&[Word::Item(hashes, 0), Word::Item(comparisons, 0)])
 }
 
 /// The two containers of a row.
@@ -189,8 +189,17 @@ impl<C: Spoken> Speech<C> {
             if !self.is_written(wanted, answers) {
                 return Ok(Some(Wrong::Line(number, line)));
             }
+            if home.living() != self.count_items() {
+                return Ok(Some(Wrong::Living(number, line)));
+            }
         }
         Ok(None)
+    }
+
+    fn count_items(&self) -> usize {
+        self.first
+            .count_items()
+            .saturating_add(self.second.count_items())
     }
 
     /// Makes a call of the first container, after `other` of the second, and after `both` of the two.
@@ -203,7 +212,7 @@ impl<C: Spoken> Speech<C> {
         let mut rest = words;
         match rest.word()? {
             "other" => self.second.call(home, &mut rest, answers),
-            "both" => self.first.both(&mut self.second, rest.word()?, answers),
+            "both" => self.first.both(&self.second, &mut rest, answers),
             "cost" => say_cost(home, answers),
             _ => self.first.call(home, &mut { words }, answers),
         }

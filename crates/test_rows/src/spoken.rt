@@ -42,8 +42,16 @@ pub trait Spoken: Sized {
         answers: &mut Answers,
     ) -> Result<(), Stop>;
 
-    /// Makes the call of two containers that has the name.
-    fn both(&mut self, other: &mut Self, name: &str, answers: &mut Answers) -> Result<(), Stop>;
+    /// Makes the call of two containers that the words say.
+    fn both(
+        &mut self,
+        other: &Self,
+        words: &mut Words<'_>,
+        answers: &mut Answers,
+    ) -> Result<(), Stop>;
+
+    /// How many items it holds.
+    fn count_items(&self) -> usize;
 
     /// Says its length, its capacity or what it has of one, and its pairs.
     fn stand(&self, rt: &HostRuntime);
@@ -63,8 +71,17 @@ impl<S: BuildHasher + Copy + Default + Drop> Spoken for Map<S> {
         call_map(self, home, words, answers)
     }
 
-    fn both(&mut self, other: &mut Map<S>, name: &str, answers: &mut Answers) -> Result<(), Stop> {
-        compare(self, other, name, answers)
+    fn both(
+        &mut self,
+        other: &Map<S>,
+        words: &mut Words<'_>,
+        answers: &mut Answers,
+    ) -> Result<(), Stop> {
+        compare(self, other, words, answers)
+    }
+
+    fn count_items(&self) -> usize {
+        self.len().saturating_mul(2)
     }
 
     fn stand(&self, rt: &HostRuntime) {
@@ -89,8 +106,17 @@ impl<S: BuildHasher + Copy + Default + Drop> Spoken for Set<S> {
         call_set(self, home, words, answers)
     }
 
-    fn both(&mut self, other: &mut Set<S>, name: &str, answers: &mut Answers) -> Result<(), Stop> {
-        call_sets(self, other, name, answers)
+    fn both(
+        &mut self,
+        other: &Set<S>,
+        words: &mut Words<'_>,
+        answers: &mut Answers,
+    ) -> Result<(), Stop> {
+        call_sets(self, other, words, answers)
+    }
+
+    fn count_items(&self) -> usize {
+        self.len()
     }
 
     fn stand(&self, rt: &HostRuntime) {
@@ -117,11 +143,15 @@ impl<S: BuildHasher + Copy + Default + Drop> Spoken for Cache<S> {
 
     fn both(
         &mut self,
-        _other: &mut Cache<S>,
-        _name: &str,
+        _other: &Cache<S>,
+        _words: &mut Words<'_>,
         _answers: &mut Answers,
     ) -> Result<(), Stop> {
         Err(Stop::Unread)
+    }
+
+    fn count_items(&self) -> usize {
+        self.len().saturating_mul(2)
     }
 
     fn stand(&self, rt: &HostRuntime) {
@@ -148,11 +178,15 @@ impl<S: BuildHasher + Default> Spoken for Weighted<S> {
 
     fn both(
         &mut self,
-        _other: &mut Weighted<S>,
-        _name: &str,
+        _other: &Weighted<S>,
+        _words: &mut Words<'_>,
         _answers: &mut Answers,
     ) -> Result<(), Stop> {
         Err(Stop::Unread)
+    }
+
+    fn count_items(&self) -> usize {
+        self.len().saturating_mul(2)
     }
 
     fn stand(&self, rt: &HostRuntime) {

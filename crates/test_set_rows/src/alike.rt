@@ -1,8 +1,8 @@
 //! Iterators over two sets, with their bounds, and beside a clone.
 use test_items::{Answers, Item, Name, Stop, Word};
 
-/// Says the bounds of how many are left and what comes, in turn, until nothing comes. A clone that is made
-/// after the first has to say the same.
+/// Says the bounds of how many are left and what comes, in turn, until nothing comes, after which nothing more
+/// may come. A clone that is made after the first has to say the same.
 pub fn say_all<'s, I: Iterator<Item = &'s Item> + Clone + Drop>(
     mut first: I,
     answers: &mut Answers,
@@ -14,7 +14,7 @@ pub fn say_all<'s, I: Iterator<Item = &'s Item> + Clone + Drop>(
             let mut clone = first.clone()?;
             say_alike(&mut first, &mut clone, answers)
         }
-        Ok(None) => Ok(()),
+        Ok(None) => say_end(&mut first, answers),
         Err(stop) => Err(stop),
     }
 }
@@ -33,10 +33,24 @@ fn say_alike<'s, I: Iterator<Item = &'s Item>>(
             answers.say(Word::Wrong)?;
         }
         if came.is_none() {
-            return Ok(());
+            return say_end(first, answers);
         }
     }
     Err(Stop::Unread)
+}
+
+/// Says that it is wrong if an iterator that has ended does not stay so.
+fn say_end<'s, I: Iterator<Item = &'s Item>>(
+    walk: &mut I,
+    answers: &mut Answers,
+) -> Result<(), Stop>
+    requires { (s : I) → I.can_next s }
+{
+    let came = walk.next().map(Item::name);
+    if came.is_none() && walk.size_hint() == (0, Some(0)) {
+        return Ok(());
+    }
+    answers.say(Word::Wrong)
 }
 
 fn say_step<'s, I: Iterator<Item = &'s Item>>(
@@ -46,12 +60,11 @@ fn say_step<'s, I: Iterator<Item = &'s Item>>(
     requires { (s : I) → I.can_next s }
 {
     let (least, most) = walk.size_hint();
-    answers.count(least as u64)?;
-    match most {
-        Some(most) => answers.count(most as u64)?,
-        None => answers.say(Word::Nothing)?,
-    }
     let came = walk.next().map(Item::name);
-    answers.item(came)?;
+    answers.say_all(&[
+        Word::count(least),
+        most.map_or(Word::Nothing, Word::count),
+        came.map_or(Word::Nothing, Word::item),
+    ])?;
     Ok(came)
 }

@@ -2,6 +2,7 @@
 #![tactic(auto)]
 
 mod alike;
+mod set_calls;
 mod set_row;
 mod walks;
 

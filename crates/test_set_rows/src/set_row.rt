@@ -2,6 +2,10 @@
 ghost use Rattle.std.specs.Prelude.{◌≡◌};
 
 use crate::alike::say_all;
+use crate::set_calls::{
+    AskOfTwo, ElementCall, ElementsCall, EndCall, IterateTwo, Operator, PutCall, ReadCall,
+    SET_CALLS, SETS_CALLS, SetCall, SetsCall, SizeCall, WalkCall,
+};
 use crate::walks::Walked;
 use hashlink_set::{DefaultHashBuilder, ExtendError, LinkedHashSet};
 use std::alloc::AllocError;
@@ -9,8 +13,8 @@ use std::hash::BuildHasher;
 use std::mem;
 use std::vec::IntoIter;
 use test_items::{
-    Answers, Home, Item, Name, Stop, Word, Words, back, element_taken_before, elements_of,
-    has_room, is_other, made, room, say_met, take_steps, taken_item, walk_and_clone, walk_whole,
+    Answer, Answers, Home, Item, KEEPS, Keep, Name, Stop, Word, Words, elements_of, given_item,
+    has_room, is_other, lent_item, made, room, say_met, take_steps, walk_and_clone, walk_whole,
 };
 
 pub type Set<S> = LinkedHashSet<Item, S>;
@@ -22,101 +26,103 @@ pub fn call_set<S: BuildHasher + Copy + Default + Drop>(
     words: &mut Words<'_>,
     answers: &mut Answers,
 ) -> Result<(), Stop> {
-    let name = words.word()?;
-    match name {
-        "front" | "back" | "len" | "is_empty" => read_end(set, name, answers),
-        "insert" | "replace" | "get_or_insert" => put(set, name, words.item(home)?, answers),
-        "get_or_insert_with" => put_made(set, home, words.name()?, answers),
-        "contains" | "get" | "to_front" | "to_back" | "remove" | "take" => {
-            call_element(set, name, &words.item(home)?, answers)
+    match words.named(&SET_CALLS)? {
+        SetCall::Read(call) => answers.say(read(set, call)),
+        SetCall::End(call) => answers.say(call_at_end(set, call)),
+        SetCall::Element(call) => answers.say(call_element(set, call, &words.item(home)?)),
+        SetCall::Put(call) => answers.give(put(set, call, words.item(home)?)),
+        SetCall::GetOrInsertWith => put_made(set, home, words.name()?, answers),
+        SetCall::Size(call) => answers.say(ask_room(set, call, home, words.size()?)),
+        SetCall::Elements(call) => put_all(set, home, call, elements_of(home, words)?, answers),
+        SetCall::Retain(is_ordered) => {
+            let keep = words.named(&KEEPS)?;
+            retain(set, home, is_ordered, keep, answers)
         }
-        _ => call_all(set, home, name, words, answers),
-    }
-}
-
-fn call_all<S: BuildHasher + Copy + Default + Drop>(
-    set: &mut Set<S>,
-    home: Home<'_>,
-    name: &str,
-    words: &mut Words<'_>,
-    answers: &mut Answers,
-) -> Result<(), Stop> {
-    match name {
-        "pop_front" | "pop_back" | "clear" => remove_end(set, name, answers),
-        "retain" | "retain_with_order" => retain(set, home, name, words.word()?, answers),
-        "iter" | "drain" | "into_iter" => walk_set(set, home, name, words, answers),
-        "reserve" | "try_reserve" | "shrink" | "room" | "capacity" | "under" => {
-            ask_room(set, name, words, answers)
-        }
-        "extend" | "extend_from" | "from_iter" => {
-            put_all(set, home, name, elements_of(home, words)?, answers)
-        }
-        _ => go_on(set, home, name, words, answers),
+        SetCall::Walk(call) => walk_set(set, home, call, words, answers),
     }
 }
 
 fn walk_set<S: BuildHasher + Copy + Drop>(
     set: &mut Set<S>,
     home: Home<'_>,
-    name: &str,
+    call: WalkCall,
     words: &mut Words<'_>,
     answers: &mut Answers,
 ) -> Result<(), Stop> {
-    match name {
-        "iter" => walk_and_clone(Walked(set.iter()), words, answers),
-        "drain" => take_steps(&mut Walked(set.drain()), words, answers),
-        _ => {
+    match call {
+        WalkCall::Iter => walk_and_clone(Walked(set.iter()), words, answers),
+        WalkCall::Drain => take_steps(&mut Walked(set.drain()), words, answers),
+        WalkCall::IntoIter => {
             let empty = LinkedHashSet::with_hasher(home.alloc, *set.hasher());
             walk_whole(Walked(mem::replace(set, empty).into_iter()), words, answers)
         }
     }
 }
 
-fn read_end<S: BuildHasher>(set: &Set<S>, name: &str, answers: &mut Answers) -> Result<(), Stop> {
-    match name {
-        "front" => answers.item(set.front().map(Item::name)),
-        "back" => answers.item(set.back().map(Item::name)),
-        "len" => answers.count(set.len() as u64),
-        _ => answers.is(set.is_empty()),
+fn read<S: BuildHasher>(set: &Set<S>, call: ReadCall) -> Word {
+    match call {
+        ReadCall::Front => lent_item(set.front()),
+        ReadCall::Back => lent_item(set.back()),
+        ReadCall::Len => Word::count(set.len()),
+        ReadCall::IsEmpty => Word::Is(set.is_empty()),
     }
 }
 
-fn call_element<S: BuildHasher>(
-    set: &mut Set<S>,
-    name: &str,
-    element: &Item,
-    answers: &mut Answers,
-) -> Result<(), Stop> {
-    match name {
-        "contains" => answers.is(set.contains(element)),
-        "get" => answers.item(set.get(element).map(Item::name)),
-        "to_front" => answers.is(set.to_front(element)),
-        "to_back" => answers.is(set.to_back(element)),
-        "remove" => answers.is(set.remove(element)),
-        _ => taken_item(set.take(element), answers),
+fn call_at_end<S: BuildHasher + Copy + Drop>(set: &mut Set<S>, call: EndCall) -> Word {
+    match call {
+        EndCall::PopFront => given_item(set.pop_front()),
+        EndCall::PopBack => given_item(set.pop_back()),
+        EndCall::Clear => {
+            set.clear();
+            Word::Done
+        }
+        EndCall::Shrink => match set.shrink_to_fit() {
+            Ok(()) => Word::Done,
+            Err(AllocError) => Word::Memory,
+        },
+        EndCall::Clone => {
+            let clone = set.clone();
+            made(set, clone)
+        }
     }
 }
 
-fn put<S: BuildHasher>(
-    set: &mut Set<S>,
-    name: &str,
-    element: Item,
-    answers: &mut Answers,
-) -> Result<(), Stop> {
-    match name {
-        "insert" => match set.insert(element) {
-            Ok(is_new) => answers.is(is_new),
-            Err(element) => back(element, answers),
-        },
-        "replace" => match set.replace(element) {
-            Ok(old) => taken_item(old, answers),
-            Err(element) => back(element, answers),
-        },
-        _ => match set.get_or_insert(element) {
-            Ok(lent) => answers.item(Some(lent.name())),
-            Err(element) => back(element, answers),
-        },
+fn call_element<S: BuildHasher>(set: &mut Set<S>, call: ElementCall, element: &Item) -> Word {
+    match call {
+        ElementCall::Contains => Word::Is(set.contains(element)),
+        ElementCall::Get => lent_item(set.get(element)),
+        ElementCall::ToFront => Word::Is(set.to_front(element)),
+        ElementCall::ToBack => Word::Is(set.to_back(element)),
+        ElementCall::Remove => Word::Is(set.remove(element)),
+        ElementCall::Take => given_item(set.take(element)),
     }
+}
+
+fn put<S: BuildHasher>(set: &mut Set<S>, call: PutCall, element: Item) -> Answer {
+    match call {
+        PutCall::Insert => match set.insert(element) {
+            Ok(is_new) => Answer::Word(Word::Is(is_new)),
+            Err(element) => back(element),
+        },
+        PutCall::Replace => match set.replace(element) {
+            Ok(old) => Answer::Word(given_item(old)),
+            Err(element) => back(element),
+        },
+        PutCall::GetOrInsert => lent_or_back(set.get_or_insert(element)),
+    }
+}
+
+/// The element that is lent, or the one that is handed back.
+fn lent_or_back(lent: Result<&Item, Item>) -> Answer {
+    match lent {
+        Ok(element) => Answer::Word(Word::item(element.name())),
+        Err(element) => back(element),
+    }
+}
+
+/// That an element is handed back for want of memory.
+fn back(element: Item) -> Answer {
+    Answer::Back(Word::Memory, Word::item(element.name()))
 }
 
 fn put_made<S: BuildHasher>(
@@ -127,10 +133,7 @@ fn put_made<S: BuildHasher>(
 ) -> Result<(), Stop> {
     let element = Item::new(home, name)?;
     let made = Item::new(home, name)?;
-    match get_or_make(set, &element, made) {
-        Ok(lent) => answers.item(Some(lent.name())),
-        Err(element) => back(element, answers),
-    }
+    answers.give(lent_or_back(get_or_make(set, &element, made)))
 }
 
 /// What is lent if the made element is inserted when its equal is absent.
@@ -149,92 +152,85 @@ fn get_or_make<'s, S: BuildHasher>(
     )
 }
 
-fn remove_end<S: BuildHasher>(
-    set: &mut Set<S>,
-    name: &str,
-    answers: &mut Answers,
-) -> Result<(), Stop> {
-    match name {
-        "pop_front" => taken_item(set.pop_front(), answers),
-        "pop_back" => taken_item(set.pop_back(), answers),
-        _ => {
-            set.clear();
-            answers.done()
-        }
-    }
-}
-
-/// Keeps `odd` elements, or `others`, and then says the odd ones in the order in which they were met.
 fn retain<S: BuildHasher>(
     set: &mut Set<S>,
     home: Home<'_>,
-    name: &str,
-    keep: &str,
+    is_ordered: bool,
+    keep: Keep,
     answers: &mut Answers,
 ) -> Result<(), Stop> {
+    let mut met = Vec::new(home.alloc);
     match keep {
-        "odd" => keep_odd(set, name),
-        "others" => {
-            let mut met = Vec::with_capacity(home.alloc, set.len())?;
-            keep_others(set, name, &mut met);
-            return say_met(&met, answers);
+        Keep::Odd => keep_odd(set, is_ordered),
+        Keep::Others => {
+            met.reserve(set.len())?;
+            keep_others(set, is_ordered, &mut met);
         }
-        _ => return Err(Stop::Unread),
+        Keep::Even => return Err(Stop::Unread),
     }
-    answers.done()
+    say_met(&met, answers)
 }
 
-fn keep_odd<S: BuildHasher>(set: &mut Set<S>, name: &str) {
-    if name == "retain" {
-        set.retain(|element| element.group % 2 == 1);
+fn is_odd(element: &Item) -> bool {
+    element.group % 2 == 1
+}
+
+fn keep_odd<S: BuildHasher>(set: &mut Set<S>, is_ordered: bool) {
+    if is_ordered {
+        set.retain_with_order(is_odd);
     } else {
-        set.retain_with_order(|element| element.group % 2 == 1);
+        set.retain(is_odd);
     }
 }
 
-fn keep_others<S: BuildHasher>(set: &mut Set<S>, name: &str, met: &mut Vec<Name>) {
-    if name == "retain" {
-        set.retain(|element| is_other(element, met));
-    } else {
+fn keep_others<S: BuildHasher>(set: &mut Set<S>, is_ordered: bool, met: &mut Vec<Word>) {
+    if is_ordered {
         set.retain_with_order(|element| is_other(element, met));
+    } else {
+        set.retain(|element| is_other(element, met));
     }
 }
 
-fn ask_room<S: BuildHasher>(
+fn ask_room<S: BuildHasher + Copy + Drop>(
     set: &mut Set<S>,
-    name: &str,
-    words: &mut Words<'_>,
-    answers: &mut Answers,
-) -> Result<(), Stop> {
-    match name {
-        "reserve" => room(set.reserve(words.size()?), answers),
-        "try_reserve" => room(set.try_reserve(words.size()?), answers),
-        "shrink" => match set.shrink_to_fit() {
-            Ok(()) => answers.done(),
-            Err(AllocError) => answers.say(Word::Memory),
-        },
-        _ => has_room(name, set.capacity(), set.len(), words.size()?, answers),
+    call: SizeCall,
+    home: Home<'_>,
+    size: usize,
+) -> Word {
+    match call {
+        SizeCall::Reserve => room(set.reserve(size)),
+        SizeCall::TryReserve => room(set.try_reserve(size)),
+        SizeCall::Has(asked) => has_room(asked, set.capacity(), set.len(), size),
+        SizeCall::WithCapacity => {
+            let hasher = *set.hasher();
+            match LinkedHashSet::with_capacity_and_hasher(home.alloc, size, hasher) {
+                Ok(new) => made(set, Ok(new)),
+                Err(refused) => room(Err(refused)),
+            }
+        }
     }
 }
 
-fn extended(answer: Result<(), ExtendError<Item, ()>>, answers: &mut Answers) -> Result<(), Stop> {
+fn extended(answer: Result<(), ExtendError<Item, ()>>) -> Answer {
     match answer {
-        Ok(()) => answers.done(),
-        Err(refused) => element_taken_before(refused.pair.0, refused.taken, answers),
+        Ok(()) => Answer::Word(Word::Done),
+        Err(refused) => Answer::BackAfter(given_item(Some(refused.pair.0)), refused.taken),
     }
 }
 
 fn put_all<S: BuildHasher + Copy + Default + Drop>(
     set: &mut Set<S>,
     home: Home<'_>,
-    name: &str,
+    call: ElementsCall,
     elements: Vec<Item>,
     answers: &mut Answers,
 ) -> Result<(), Stop> {
-    match name {
-        "extend" => extended(set.extend(elements), answers),
-        "extend_from" => extend_from(set, &mut elements.into_iter(), answers),
-        _ => made(set, LinkedHashSet::from_iter(home.alloc, elements), answers),
+    match call {
+        ElementsCall::Extend => answers.give(extended(set.extend(elements))),
+        ElementsCall::ExtendFrom => extend_from(set, &mut elements.into_iter(), answers),
+        ElementsCall::FromIter => {
+            answers.say(made(set, LinkedHashSet::from_iter(home.alloc, elements)))
+        }
     }
 }
 
@@ -243,108 +239,72 @@ fn extend_from<S: BuildHasher>(
     elements: &mut IntoIter<Item>,
     answers: &mut Answers,
 ) -> Result<(), Stop> {
-    extended(set.extend_from(elements), answers)?;
-    answers.count(elements.len() as u64)
-}
-
-/// The row goes on with a clone, or an empty set that has room.
-fn go_on<S: BuildHasher + Copy + Drop>(
-    set: &mut Set<S>,
-    home: Home<'_>,
-    name: &str,
-    words: &mut Words<'_>,
-    answers: &mut Answers,
-) -> Result<(), Stop> {
-    match name {
-        "clone" => {
-            let clone = set.clone();
-            made(set, clone, answers)
-        }
-        "with_capacity" => make(set, home, words.size()?, answers),
-        _ => Err(Stop::Unread),
-    }
-}
-
-fn make<S: BuildHasher + Copy + Drop>(
-    set: &mut Set<S>,
-    home: Home<'_>,
-    size: usize,
-    answers: &mut Answers,
-) -> Result<(), Stop> {
-    let hasher = *set.hasher();
-    match LinkedHashSet::with_capacity_and_hasher(home.alloc, size, hasher) {
-        Ok(new) => made(set, Ok(new), answers),
-        Err(refused) => room(Err(refused), answers),
-    }
+    answers.give(extended(set.extend_from(elements)))?;
+    answers.say(Word::count(elements.len()))
 }
 
 /// Makes the call of two sets that the words say. The row goes on with what an operator makes as its first
 /// set.
 pub fn call_sets<S: BuildHasher + Copy + Default + Drop>(
     set: &mut Set<S>,
-    other: &mut Set<S>,
-    name: &str,
+    other: &Set<S>,
+    words: &mut Words<'_>,
     answers: &mut Answers,
 ) -> Result<(), Stop> {
-    match name {
-        "eq" => {
-            let is_equal = set == other;
-            if (other == set) != is_equal {
-                answers.say(Word::Wrong)?;
-            }
-            answers.is(is_equal)
-        }
-        "hash" => {
-            let hash = DefaultHashBuilder.hash_one(&*set);
-            answers.is(hash == DefaultHashBuilder.hash_one(&*other))
-        }
-        "is_disjoint" => answers.is(set.is_disjoint(other)),
-        "is_subset" => answers.is(set.is_subset(other)),
-        "is_superset" => answers.is(set.is_superset(other)),
-        "union" | "intersection" | "difference" | "symmetric_difference" => {
-            iterate(set, other, name, answers)
-        }
-        _ => operate(set, other, name, answers),
+    match words.named(&SETS_CALLS)? {
+        SetsCall::Ask(call) => answers.say(ask_of_two(set, other, call)),
+        SetsCall::Iterate(call) => iterate(set, other, call, answers),
+        SetsCall::Operate(operator) => answers.say(operate(set, other, operator)),
     }
+}
+
+fn ask_of_two<S: BuildHasher>(set: &Set<S>, other: &Set<S>, call: AskOfTwo) -> Word {
+    match call {
+        AskOfTwo::Eq => equal(set, other),
+        AskOfTwo::Hash => Word::Is(hash_of(set) == hash_of(other)),
+        AskOfTwo::IsDisjoint => Word::Is(set.is_disjoint(other)),
+        AskOfTwo::IsSubset => Word::Is(set.is_subset(other)),
+        AskOfTwo::IsSuperset => Word::Is(set.is_superset(other)),
+    }
+}
+
+fn equal<S: BuildHasher>(set: &Set<S>, other: &Set<S>) -> Word {
+    let is_equal = set == other;
+    if (other == set) != is_equal || (set != other) == is_equal {
+        return Word::Wrong;
+    }
+    Word::Is(is_equal)
+}
+
+/// What a set feeds a hasher, as one number.
+fn hash_of<S: BuildHasher>(set: &Set<S>) -> u64 {
+    DefaultHashBuilder.hash_one(set)
 }
 
 fn iterate<S: BuildHasher>(
     set: &Set<S>,
     other: &Set<S>,
-    name: &str,
+    call: IterateTwo,
     answers: &mut Answers,
 ) -> Result<(), Stop> {
-    match name {
-        "union" => say_all(set.union(other), answers),
-        "intersection" => say_all(set.intersection(other), answers),
-        "difference" => say_all(set.difference(other), answers),
-        _ => say_all(set.symmetric_difference(other), answers),
+    match call {
+        IterateTwo::Union => say_all(set.union(other), answers),
+        IterateTwo::Intersection => say_all(set.intersection(other), answers),
+        IterateTwo::Difference => say_all(set.difference(other), answers),
+        IterateTwo::SymmetricDifference => say_all(set.symmetric_difference(other), answers),
     }
 }
 
 fn operate<S: BuildHasher + Copy + Default + Drop>(
     set: &mut Set<S>,
     other: &Set<S>,
-    name: &str,
-    answers: &mut Answers,
-) -> Result<(), Stop> {
-    match name {
-        "|" => {
-            let new = &*set | other;
-            made(set, new, answers)
-        },
-        "&" => {
-            let new = &*set & other;
-            made(set, new, answers)
-        },
-        "^" => {
-            let new = &*set ^ other;
-            made(set, new, answers)
-        },
-        "-" => {
-            let new = &*set - other;
-            made(set, new, answers)
-        },
-        _ => Err(Stop::Unread),
-    }
+    operator: Operator,
+) -> Word {
+    let new = match operator {
+        Operator::Or => &*set | other,
+        Operator::And => &*set & other,
+        Operator::Xor => &*set ^ other,
+        Operator::Sub => &*set - other,
+    };
+    made(set, new)
 }

@@ -8,7 +8,7 @@ use test_items::{Item, Step, Walk, Word, given_item, hinted, lent_item};
 pub struct Walked<I>(pub I);
 
 impl Walk for Walked<Iter<'_, Item>> {
-    fn step(&mut self, step: Step) -> Option<Word> {
+    fn step(&mut self, step: Step) -> Word {
         if step.is_back {
             return lent_item(self.0.next_back());
         }
@@ -21,7 +21,7 @@ impl Walk for Walked<Iter<'_, Item>> {
 }
 
 impl<S: BuildHasher + Drop> Walk for Walked<IntoIter<Item, S>> {
-    fn step(&mut self, step: Step) -> Option<Word> {
+    fn step(&mut self, step: Step) -> Word {
         if step.is_back {
             return given_item(self.0.next_back());
         }
@@ -34,7 +34,7 @@ impl<S: BuildHasher + Drop> Walk for Walked<IntoIter<Item, S>> {
 }
 
 impl<S: BuildHasher> Walk for Walked<Drain<'_, Item, S>> {
-    fn step(&mut self, step: Step) -> Option<Word> {
+    fn step(&mut self, step: Step) -> Word {
         if step.is_back {
             return given_item(self.0.next_back());
         }

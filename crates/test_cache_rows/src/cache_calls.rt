@@ -1,0 +1,106 @@
+//! The calls of a cache by their names.
+
+#[derive(Clone, Copy)]
+pub enum ReadCall {
+    Len,
+    IsEmpty,
+    Capacity,
+}
+
+#[derive(Clone, Copy)]
+pub enum EndCall {
+    MakeRoom,
+    RemoveLru,
+    Clear,
+    Clone,
+}
+
+#[derive(Clone, Copy)]
+pub enum KeyCall {
+    Get,
+    Peek,
+    ContainsKey,
+    Remove,
+    RemoveEntry,
+}
+
+#[derive(Clone, Copy)]
+pub enum LendCall {
+    GetMut,
+    PeekMut,
+}
+
+#[derive(Clone, Copy)]
+pub enum PairsCall {
+    Extend,
+    ExtendFrom,
+}
+
+#[derive(Clone, Copy)]
+pub enum WalkCall {
+    Iter,
+    IterMut,
+    Drain,
+    IntoIter,
+}
+
+/// A call, by what follows its name.
+#[derive(Clone, Copy)]
+pub enum CacheCall {
+    /// Nothing.
+    Read(ReadCall),
+    /// Nothing, and the cache changes.
+    End(EndCall),
+    /// A key.
+    Key(KeyCall),
+    /// A key, and what is written where its value is lent.
+    Lend(LendCall),
+    /// A pair.
+    Insert,
+    /// A number.
+    SetCapacity,
+    /// Pairs.
+    Pairs(PairsCall),
+    /// What is kept.
+    Retain,
+    /// Steps of an iterator.
+    Walk(WalkCall),
+    /// A call of the cache's map.
+    Inside,
+    /// A key, and a call of its entry.
+    Entry,
+    /// A way to look a key up, the key, and a call of its raw entry.
+    Raw,
+    /// A way and a key.
+    RawRead,
+}
+
+pub const CACHE_CALLS: [(&str, CacheCall); 27] = [
+    ("len", CacheCall::Read(ReadCall::Len)),
+    ("is_empty", CacheCall::Read(ReadCall::IsEmpty)),
+    ("capacity", CacheCall::Read(ReadCall::Capacity)),
+    ("make_room", CacheCall::End(EndCall::MakeRoom)),
+    ("remove_lru", CacheCall::End(EndCall::RemoveLru)),
+    ("clear", CacheCall::End(EndCall::Clear)),
+    ("clone", CacheCall::End(EndCall::Clone)),
+    ("get", CacheCall::Key(KeyCall::Get)),
+    ("peek", CacheCall::Key(KeyCall::Peek)),
+    ("contains_key", CacheCall::Key(KeyCall::ContainsKey)),
+    ("remove", CacheCall::Key(KeyCall::Remove)),
+    ("remove_entry", CacheCall::Key(KeyCall::RemoveEntry)),
+    ("get_mut", CacheCall::Lend(LendCall::GetMut)),
+    ("peek_mut", CacheCall::Lend(LendCall::PeekMut)),
+    ("insert", CacheCall::Insert),
+    ("set_capacity", CacheCall::SetCapacity),
+    ("extend", CacheCall::Pairs(PairsCall::Extend)),
+    ("extend_from", CacheCall::Pairs(PairsCall::ExtendFrom)),
+    ("retain", CacheCall::Retain),
+    ("iter", CacheCall::Walk(WalkCall::Iter)),
+    ("iter_mut", CacheCall::Walk(WalkCall::IterMut)),
+    ("drain", CacheCall::Walk(WalkCall::Drain)),
+    ("into_iter", CacheCall::Walk(WalkCall::IntoIter)),
+    ("inside", CacheCall::Inside),
+    ("entry", CacheCall::Entry),
+    ("raw", CacheCall::Raw),
+    ("raw_read", CacheCall::RawRead),
+];

@@ -1,0 +1,65 @@
+//! What retains keep, and what is asked of room.
+use crate::answers::{Answers, Stop, Word};
+use crate::items::Item;
+
+/// The test of a retain, by its word.
+#[derive(Clone, Copy)]
+pub enum Keep {
+    /// `even` values.
+    Even,
+    /// `odd` keys, whose values become ten times as much.
+    Odd,
+    /// `others` than the odd keys, which are said in the order in which they were met.
+    Others,
+}
+
+pub const KEEPS: [(&str, Keep); 3] = [
+    ("even", Keep::Even),
+    ("odd", Keep::Odd),
+    ("others", Keep::Others),
+];
+
+/// Whether the value is even.
+pub fn is_even(_key: &Item, value: &mut Item) -> bool {
+    value.group % 2 == 0
+}
+
+/// Whether the key is odd. Its value becomes ten times as much.
+pub fn is_raised(key: &Item, value: &mut Item) -> bool {
+    value.group = value.group.wrapping_mul(10);
+    key.group % 2 == 1
+}
+
+/// Whether the key is even. An odd one is met.
+pub fn is_other(key: &Item, met: &mut Vec<Word>) -> bool {
+    let is_even = key.group % 2 == 0;
+    if !is_even {
+        let _ = met.push(Word::item(key.name()));
+    }
+    is_even
+}
+
+/// Says what was met, and that it is done.
+pub fn say_met(met: &[Word], answers: &mut Answers) -> Result<(), Stop> {
+    answers.say_all(met)?;
+    answers.say(Word::Done)
+}
+
+/// What a row asks of the room of a container.
+#[derive(Clone, Copy)]
+pub enum Asked {
+    /// Whether so many more have room.
+    Room,
+    /// Whether the capacity is so much.
+    Capacity,
+    /// Whether it is less.
+    Under,
+}
+
+pub fn has_room(asked: Asked, capacity: usize, len: usize, size: usize) -> Word {
+    Word::Is(match asked {
+        Asked::Room => capacity.saturating_sub(len) >= size,
+        Asked::Capacity => capacity == size,
+        Asked::Under => capacity < size,
+    })
+}
