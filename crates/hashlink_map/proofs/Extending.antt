@@ -91,7 +91,12 @@ pub grows-none : {K V S : Type 0} (m : MapState K V S) → Grows 1 m m
 grows-none m = record {
   entries = refl;
   spare = refl;
-  room = record { grows = omega arith; same = λ _. refl; bound = omega arith };
+  room = record {
+    grows = omega arith;
+    same = λ _. refl;
+    bound = omega arith;
+    power = λ more. absurd (omega (arith, more));
+  };
   link_writes = refl;
   hasher = refl;
 }

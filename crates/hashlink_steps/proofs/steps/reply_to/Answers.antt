@@ -3,7 +3,7 @@ use Rattle.hashlink_steps.proofs.steps.reply_to.Goals as goal
 
 pub said_of-requires : goal.said_of-requires
 said_of-requires g c = λ pair read.
-    (rw c.in-Get.is at c.requires.says) pair (sym c.get_key_value.ensures ∙ read)
+    (rw c.in-Get.is at c.requires.says) pair (sym c.get_key_value.ensures.found ∙ read)
 
 pub to_front-requires : goal.to_front-requires
 to_front-requires g c = rw c.in-ToFront.is at c.requires.says
@@ -13,11 +13,11 @@ to_back-requires g c = rw c.in-ToBack.is at c.requires.says
 
 pub said_of-requires-in-Front : goal.said_of-requires-in-Front
 said_of-requires-in-Front g c = λ pair read.
-    (rw c.in-Front.is at c.requires.says) pair (sym c.front.ensures ∙ read)
+    (rw c.in-Front.is at c.requires.says) pair (sym c.front.ensures.found ∙ read)
 
 pub said_of-requires-in-Back : goal.said_of-requires-in-Back
 said_of-requires-in-Back g c = λ pair read.
-    (rw c.in-Back.is at c.requires.says) pair (sym c.back.ensures ∙ read)
+    (rw c.in-Back.is at c.requires.says) pair (sym c.back.ensures.found ∙ read)
 
 pub keep_where-requires : goal.keep_where-requires
 keep_where-requires g c = rw c.in-Keep.is at c.requires.keep
