@@ -55,7 +55,10 @@ pub fn rewrite<K: Eq + Hash + Drop, V, S: BuildHasher>(
 }
 
 /// The value of a key.
-pub fn read<K: Eq + Hash, V: Copy, S: BuildHasher>(map: &LinkedHashMap<K, V, S>, key: &K) -> Option<V>
+pub fn read<K: Eq + Hash, V: Copy, S: BuildHasher>(
+    map: &LinkedHashMap<K, V, S>,
+    key: &K,
+) -> Option<V>
     ensures found { result ≡ lookup (K.eq key.now) (entries_of map.now) }
     ensures distinct { IsEntries K.eq (entries_of map.now) }
 {
@@ -63,7 +66,10 @@ pub fn read<K: Eq + Hash, V: Copy, S: BuildHasher>(map: &LinkedHashMap<K, V, S>,
 }
 
 /// Takes the value of a key out.
-pub fn erase<K: Eq + Hash + Drop, V, S: BuildHasher>(map: &mut LinkedHashMap<K, V, S>, key: &K) -> Option<V>
+pub fn erase<K: Eq + Hash + Drop, V, S: BuildHasher>(
+    map: &mut LinkedHashMap<K, V, S>,
+    key: &K,
+) -> Option<V>
     ensures found { result ≡ lookup (K.eq key.now) (entries_of map.old) }
     ensures entries { entries_of map.new ≡ remove_entry (K.eq key.now) (entries_of map.old) }
     ensures distinct { IsEntries K.eq (entries_of map.new) }
@@ -84,7 +90,9 @@ pub fn erase_entry<K: Eq + Hash, V, S: BuildHasher>(
 }
 
 /// Takes the first entry out.
-pub fn take_first_entry<K: Eq + Hash, V, S: BuildHasher>(map: &mut LinkedHashMap<K, V, S>) -> Option<(K, V)>
+pub fn take_first_entry<K: Eq + Hash, V, S: BuildHasher>(
+    map: &mut LinkedHashMap<K, V, S>,
+) -> Option<(K, V)>
     ensures { MatchOption result ((entries_of map.old ≡ []) × (entries_of map.new ≡ []))
         (λ entry. entries_of map.old ≡ entry ∷ entries_of map.new) }
 {
@@ -92,7 +100,9 @@ pub fn take_first_entry<K: Eq + Hash, V, S: BuildHasher>(map: &mut LinkedHashMap
 }
 
 /// Takes the last entry out.
-pub fn take_last_entry<K: Eq + Hash, V, S: BuildHasher>(map: &mut LinkedHashMap<K, V, S>) -> Option<(K, V)>
+pub fn take_last_entry<K: Eq + Hash, V, S: BuildHasher>(
+    map: &mut LinkedHashMap<K, V, S>,
+) -> Option<(K, V)>
     ensures { MatchOption result ((entries_of map.old ≡ []) × (entries_of map.new ≡ []))
         (λ entry. entries_of map.old ≡ entries_of map.new ++ entry ∷ []) }
 {
