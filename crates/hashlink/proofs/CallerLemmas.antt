@@ -346,7 +346,8 @@ module _ {K V S : Type 0} (eq : K → K → Bool) (old new : MapState K V S) (k 
       × (new.entries ≡ without eq old.entries k ++ (stored_key eq old.entries k, v) ∷ []))
       (λ pair. (pair ≡ (k, v)) × (new.entries ≡ old.entries))
   inserts_back (Ok w) s =
-      let e = inserts_entries eq old new k v (length old.entries) w s in (e.1, e.0 ∙ put_back eq old.entries k v)
+      let e = inserts_entries eq old new k v (length old.entries) w s in
+      (e.1, e.0 ∙ put_back eq old.entries k v)
   inserts_back (Err pair) s = (s.handed_back, s.grows.entries)
 
   -- goal: the same of a caller that lets the answer go
@@ -717,7 +718,8 @@ module _ {K V B S : Type 0} {eq : K → K → Bool} {Says : K → V → B → Ty
       subst (λ rs. (was : Option V) × (slice_get rs 1 ≡ Some (Value was))) (sym ran.runs.joined)
       (second_answered eq Says Keeps old g k v ran.runs.answers ran.runs.chain ran.shorter p)
 
-  -- goal: what `run` requires of its closure. A pair that it may be shown it may be shown at the first command,
+  -- goal: what `run` requires of its closure. A pair that it may be shown it may be shown at the first
+  -- command,
   -- or later
   pub shown_now_or_later : {old : MapState K V S} {command : Command K V} {commands : List (Command K V)}
       {pair : K × V} → ShownBy eq Says Keeps old (command ∷ commands) pair

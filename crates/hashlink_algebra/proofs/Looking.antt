@@ -83,7 +83,8 @@ module _ {T : Type 0} where
       let step = skipped ∙ ap (first_passing p) is ∙ passes_first p x.now new h in
       record { gives = ap (λ s. s.0) (sym step); leaves = ap (λ s. s.1) (sym step) }
 
-  skips_first : (p : T → Bool) (x : T) (xs : List T) → p x ≡ false → first_passing p (x ∷ xs) ≡ first_passing p xs
+  skips_first : (p : T → Bool) (x : T) (xs : List T) → p x ≡ false → first_passing p (x ∷ xs)
+      ≡ first_passing p xs
   skips_first p x xs h = rw h refl
 
   pub skips_another : (p : T → Bool) (old here new : List T) (x : Bor T) → first_passing p old
@@ -154,7 +155,8 @@ module _ {T S H : Type 0} (eq : T → T → Bool) where
   symmetric_difference_steps old r new one two l = record {
     takes =
         subst
-        (λ (s : Keyed T (Unit {0}) S × Keyed T (Unit {0}) S). TakesFirst deref (symmetric_difference_rest eq old) r
+        (λ (s : Keyed T (Unit {0}) S × Keyed T (Unit {0}) S). TakesFirst deref
+        (symmetric_difference_rest eq old) r
         (left_to_give (lacks eq (elements_in s.0)) (lacks eq (elements_in s.1))
         (symmetric_difference_walk new)))
         (λ i. (sym one i, sym two i))

@@ -9,7 +9,7 @@ use std::cmp::Ordering;
 /// Returns whether the iterators have the same number of entries left, and at each place equal keys and equal
 /// values. It takes linear time, up to the first entry that differs, and constant time if one iterator is
 /// longer.
-pub fn walks_eq<K: PartialEq, V: PartialEq>(
+pub fn iter_eq<K: PartialEq, V: PartialEq>(
     mut left: Iter<'_, K, V>,
     mut right: Iter<'_, K, V>,
 ) -> bool
@@ -29,7 +29,7 @@ pub fn walks_eq<K: PartialEq, V: PartialEq>(
 
 /// Compares the iterators at the first place where their entries do not compare as equal, key before value.
 /// An iterator whose entries are the beginning of the other's is less.
-pub fn walks_partial_cmp<K: PartialOrd, V: PartialOrd>(
+pub fn iter_partial_cmp<K: PartialOrd, V: PartialOrd>(
     mut left: Iter<'_, K, V>,
     mut right: Iter<'_, K, V>,
 ) -> Option<Ordering>
@@ -54,8 +54,8 @@ pub fn walks_partial_cmp<K: PartialOrd, V: PartialOrd>(
     }
 }
 
-/// Does the same as `walks_partial_cmp` for keys and values that always compare.
-pub fn walks_cmp<K: Ord, V: Ord>(mut left: Iter<'_, K, V>, mut right: Iter<'_, K, V>) -> Ordering
+/// Does the same as `iter_partial_cmp` for keys and values that always compare.
+pub fn iter_cmp<K: Ord, V: Ord>(mut left: Iter<'_, K, V>, mut right: Iter<'_, K, V>) -> Ordering
     ensures { result ≡ entries_cmp K.cmp V.cmp left.entry right.entry }
 {
     while let Some((key, value)) = left.next() {

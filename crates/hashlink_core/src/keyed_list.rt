@@ -29,7 +29,7 @@ fn short_hash(hash: u64) -> u32
     (hash % (1 << 32)) as u32
 }
 
-// The number of a node that is told from the others: no short hash.
+// Marks a node for a moment: no short hash has this value.
 const MARKED: usize = 1 << 32;
 
 /// A list of pairs in a ring of nodes, found by a hash table of the nodes. No two keys are equal.
@@ -54,7 +54,7 @@ impl<K: Eq + Hash, V, S: BuildHasher> Model for KeyedList<K, V, S> {
 }
 
 impl<K: Eq + Hash, V, S: BuildHasher> KeyedList<K, V, S> {
-    /// An empty list. It takes no memory.
+    /// Creates an empty list. It does not allocate.
     pub fn with_hasher(alloc: Global, hash_builder: S) -> Self
         ensures { result ≡ keyed [] 0 0 0 hash_builder }
     {
@@ -65,7 +65,7 @@ impl<K: Eq + Hash, V, S: BuildHasher> KeyedList<K, V, S> {
         }
     }
 
-    /// An empty list with room for so many entries. For none it takes no memory.
+    /// Creates an empty list with room for so many entries. For none it does not allocate.
     pub fn with_room(alloc: Global, room: usize, hash_builder: S) -> Result<Self, TryReserveError>
     where
         S: Drop,
@@ -83,7 +83,7 @@ impl<K: Eq + Hash, V, S: BuildHasher> KeyedList<K, V, S> {
         })
     }
 
-    /// How many entries there are.
+    /// Returns the number of entries.
     #[inline]
     pub fn len(&self) -> usize
         ensures len { result ≡ length (entries_of self.now) }
@@ -93,7 +93,7 @@ impl<K: Eq + Hash, V, S: BuildHasher> KeyedList<K, V, S> {
         self.nodes.len()
     }
 
-    /// How many entries and spare nodes together there is room for.
+    /// Returns the number of entries and spare nodes together for which there is room.
     #[inline]
     pub fn capacity(&self) -> usize
         ensures capacity { result ≡ self.now.room }
@@ -102,14 +102,14 @@ impl<K: Eq + Hash, V, S: BuildHasher> KeyedList<K, V, S> {
         self.table.room()
     }
 
-    /// The allocator of the nodes.
+    /// Returns the allocator of the nodes.
     pub fn allocator(&self) -> Global
         ensures { IsKeyed K.eq self.now }
     {
         self.nodes.allocator()
     }
 
-    /// The hasher's builder.
+    /// Returns a reference to the list's `BuildHasher`.
     pub fn hasher(&self) -> &S
         ensures { result.now ≡ self.now.hasher }
     {

@@ -9,7 +9,7 @@ mod hasher;
 mod iter;
 mod keyed_list;
 
-pub use compare::{walks_cmp, walks_eq, walks_partial_cmp};
+pub use compare::{iter_cmp, iter_eq, iter_partial_cmp};
 pub use equivalent::Equivalent;
 pub use extend_error::ExtendError;
 pub use hash_builder::DefaultHashBuilder;

@@ -43,13 +43,23 @@ module _ {K V S : Type 0} (eq : K → K → Bool) (old new : MapState K V S) (k 
 
   pub inserts_outcome : (b : ℕ) (r : Result (Option V) (K × V)) → Inserts eq old new k v b r → PutsAt b r
   inserts_outcome b (Ok w) s = let e = inserts_entries b w s in (e.0, e.1, λ _. refl)
-  inserts_outcome b (Err pair) s = (tt, tt, λ there. absurd (true≢false (sym there ∙ ap is_some s.may_refuse.absent)))
+  inserts_outcome b (Err pair) s = (
+    tt,
+    tt,
+    λ there. absurd (true≢false
+        (sym there ∙ ap is_some s.may_refuse.absent)),
+  )
 
   pub replaces_outcome : (r : Result (Option V) (K × V)) → Replaces eq old new k v r
       → PutsAt (place_or_end eq old.entries k) r
   replaces_outcome (Ok None) s = (replaces_entries None s, sym s.absent, λ _. refl)
   replaces_outcome (Ok (Some w)) s = (replaces_entries (Some w) s, sym s.old_value, λ _. refl)
-  replaces_outcome (Err pair) s = (tt, tt, λ there. absurd (true≢false (sym there ∙ ap is_some s.may_refuse.absent)))
+  replaces_outcome (Err pair) s = (
+    tt,
+    tt,
+    λ there. absurd (true≢false
+        (sym there ∙ ap is_some s.may_refuse.absent)),
+  )
 
 module _ {K V : Type 0} (test : K → Bool) where
   Contains-lookup_entry : (es : List (K × V)) (e : K × V) → lookup_entry test es ≡ Some e → Contains es e

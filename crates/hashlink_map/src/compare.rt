@@ -4,7 +4,7 @@ ghost use Rattle.hashlink_map.specs.Compared.{maps_per, maps_equiv, maps_po, map
 ghost use Rattle.hashlink_map.specs.Compared.{maps_tie};
 
 use crate::map::LinkedHashMap;
-use hashlink_core::{walks_cmp, walks_eq, walks_partial_cmp};
+use hashlink_core::{iter_cmp, iter_eq, iter_partial_cmp};
 use std::cmp::Ordering;
 use std::hash::{BuildHasher, Hash};
 
@@ -16,7 +16,7 @@ impl<K: Eq + Hash, V: PartialEq, S: BuildHasher> PartialEq for LinkedHashMap<K, 
     ghost laws = { maps_per K.Eq.laws V.laws };
 
     fn eq(&self, other: &LinkedHashMap<K, V, S>) -> bool {
-        walks_eq(self.iter(), other.iter())
+        iter_eq(self.iter(), other.iter())
     }
 }
 
@@ -33,7 +33,7 @@ impl<K: Eq + Hash + PartialOrd, V: PartialOrd, S: BuildHasher> PartialOrd
     ghost laws = { maps_po K.PartialOrd.laws V.PartialOrd.laws };
 
     fn partial_cmp(&self, other: &LinkedHashMap<K, V, S>) -> Option<Ordering> {
-        walks_partial_cmp(self.iter(), other.iter())
+        iter_partial_cmp(self.iter(), other.iter())
     }
 }
 
@@ -47,6 +47,6 @@ impl<K: Ord + Hash, V: Ord, S: BuildHasher> Ord for LinkedHashMap<K, V, S> {
     ghost matches_eq = { maps_tie K.cmp V.cmp K.matches_eq V.matches_eq };
 
     fn cmp(&self, other: &LinkedHashMap<K, V, S>) -> Ordering {
-        walks_cmp(self.iter(), other.iter())
+        iter_cmp(self.iter(), other.iter())
     }
 }

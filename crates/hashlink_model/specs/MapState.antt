@@ -1,6 +1,7 @@
 -- What a contract sees of a map, and the steps between two such states. A call's contract names the step that
 -- it takes.
-use Rattle.std.specs.Prelude.{◌≡◌, ℕ, ◌-◌, ◌+◌, ◌*◌, ◌≤◌, ◌<◌, max, Bool, List, [], length, Option, None, Some}
+use Rattle.std.specs.Prelude.{◌≡◌, ℕ, ◌-◌, ◌+◌, ◌*◌, ◌≤◌, ◌<◌, max, Bool, List, [], length, Option, None}
+use Rattle.std.specs.Prelude.{Some}
 use Rattle.std.specs.Prelude.{Result}
 use Rattle.std.specs.Prelude.{MatchOption, MatchResult, insert, remove, refl}
 use Rattle.std.specs.Coded.{Coded, code_by, coded×, coded_list, coded_ℕ}
@@ -23,7 +24,8 @@ pub record StoresAtMost (most old new : ℕ) : Type 0 where
   pub bound : new ≤ old + most
 
 -- a room that is to hold n nodes: as it was where it holds them, else at most twice as much as they need, or
--- 8. It grows to a power of two, so a room that holds n nodes has grown no more often than n has binary digits
+-- 8. It grows to a power of two, so a room that holds n nodes has grown no more often than n has binary
+-- digits
 pub record RoomFor (n old new : ℕ) : Type 0 where
   pub grows : old ≤ new
   pub same : n ≤ old → new ≡ old

@@ -13,7 +13,8 @@ use hashlink_algebra::{Difference, Intersection, SymmetricDifference, Union};
 use std::hash::{BuildHasher, Hash};
 
 impl<T: Eq + Hash, S: BuildHasher> LinkedHashSet<T, S> {
-    ghost use Rattle.hashlink_algebra.specs.Walks.{difference_rest, intersection_rest, union_rest, union_walk};
+    ghost use Rattle.hashlink_algebra.specs.Walks.{difference_rest, intersection_rest, union_rest};
+    ghost use Rattle.hashlink_algebra.specs.Walks.{union_walk};
     ghost use Rattle.hashlink_algebra.specs.Walks.{symmetric_difference_rest, symmetric_difference_walk};
 
     /// Returns an iterator over the elements that `other` lacks, in their order. It does not allocate. A step

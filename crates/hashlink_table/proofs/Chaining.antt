@@ -6,7 +6,8 @@ use Rattle.std.proofs.lemmas.List.{get_or-map, length-map, map-set}
 use Rattle.hashlink_table.specs.declared.kept.Kept.{Kept}
 use Rattle.hashlink_table.specs.declared.cell.Cell.{Cell}
 use Rattle.hashlink_table.specs.declared.cell.TheConstants.{END}
-use Rattle.hashlink_table.specs.Chains.{no_cell, kept_at, next_at, chain_of, chain_at, links_of, nodes_in, with_node}
+use Rattle.hashlink_table.specs.Chains.{no_cell, kept_at, next_at, chain_of, chain_at, links_of, nodes_in}
+use Rattle.hashlink_table.specs.Chains.{with_node}
 use Rattle.hashlink_table.specs.Chains.{IsLinked, IsPlaced, SameNodes}
 use Rattle.hashlink_table.proofs.Cells.{chain_at_within, within_by_chain}
 use Rattle.hashlink_table.proofs.Linking.{linked-push, linked-reuse, free_on}
@@ -26,7 +27,8 @@ module _ {N : Type 0} where
   link_set firsts b d x to = map-set (λ (c : Cell N). c.next) firsts b d ∙ ap (set (links_of firsts) b) to
 
   -- the first free cell is a cell, and has no node
-  pub free_within : (heads : List ℕ) (cells : List (Cell N)) (free : ℕ) → IsLinked heads cells free → free ≢ END
+  pub free_within : (heads : List ℕ) (cells : List (Cell N)) (free : ℕ) → IsLinked heads cells free
+      → free ≢ END
       → free < length cells
   free_within heads cells free t ne =
       within_by_chain (length heads) cells free (length heads) (free_on heads cells free t ne) (omega arith)
@@ -62,7 +64,8 @@ module _ {N : Type 0} where
       → b < buckets → kept_at cells i ≡ Some k
       → k.hash % buckets ≡ b
   on_hash buckets cells i b k on low is =
-      sym (ap (chain_of buckets) is) ∙ sym (chain_at_within buckets cells i (on_within buckets cells i b on low)) ∙ on
+      sym (ap (chain_of buckets) is) ∙ sym (chain_at_within buckets cells i
+      (on_within buckets cells i b on low)) ∙ on
 
   -- a cell with a node was put somewhere, and linked from its bucket's own cell
   pub chained : (firsts cells later : List (Cell N)) (free now at b : ℕ) (c d : Cell N) (k : Kept N)

@@ -1,5 +1,6 @@
 -- The nodes of a list of cells: what a write does to them, and which there are.
-use Rattle.std.proofs.Common.{◌≡◌, ℕ, zero, suc, ◌+◌, ◌<◌, ◌≤◌, List, [], ◌∷◌, ◌++◌, map, length, get_or, set, take, drop}
+use Rattle.std.proofs.Common.{◌≡◌, ℕ, zero, suc, ◌+◌, ◌<◌, ◌≤◌, List, [], ◌∷◌, ◌++◌, map, length, get_or, set}
+use Rattle.std.proofs.Common.{take, drop}
 use Rattle.std.proofs.Common.{true, Option, Some, None, is_some, refl, sym, ap, ◌∙◌, subst, arith}
 use Rattle.std.specs.Prelude.{Contains, IsPermutation, replicate}
 use Rattle.std.proofs.Common.{append_assoc}
@@ -60,7 +61,8 @@ module _ {N : Type 0} where
       let there : map (λ (c : Cell N). c.kept) ys ≡ map (λ (c : Cell N). c.kept) xs = cc e in
       ap (λ k. with_node k (nodes_in ys)) here ∙ ap (with_node x.kept) (nodes_in-same xs ys there)
 
-  pub nodes_in-append : (cells more : List (Cell N)) → nodes_in (cells ++ more) ≡ nodes_in cells ++ nodes_in more
+  pub nodes_in-append : (cells more : List (Cell N)) → nodes_in (cells ++ more)
+      ≡ nodes_in cells ++ nodes_in more
   nodes_in-append [] more = refl
   nodes_in-append (x ∷ xs) more =
       let rest = nodes_in-append xs more in
@@ -74,9 +76,11 @@ module _ {N : Type 0} where
       ap nodes_in (take_more cells i c h) ∙ nodes_in-append (take i cells) (get_or cells i c ∷ [])
       ∙ ap (λ (d : Cell N). nodes_in (take i cells) ++ with_node d.kept []) (sym read)
 
-  pub nodes_in-part : (cells : List (Cell N)) (i : ℕ) → length (nodes_in (take i cells)) ≤ length (nodes_in cells)
+  pub nodes_in-part : (cells : List (Cell N)) (i : ℕ) → length (nodes_in (take i cells)) ≤ length
+      (nodes_in cells)
   nodes_in-part cells i =
-      let all = ap nodes_in (sym (take-append-drop i cells)) ∙ nodes_in-append (take i cells) (drop i cells) in
+      let all = ap nodes_in (sym (take-append-drop i cells)) ∙ nodes_in-append (take i cells)
+      (drop i cells) in
       omega (arith, ap length all, length-append (nodes_in (take i cells)) (nodes_in (drop i cells)))
 
   -- a node was put in after others
@@ -94,7 +98,8 @@ module _ {N : Type 0} where
   nodes_in-free (suc n) = nodes_in-free n
 
   -- where each cell has a node, there are as many as cells
-  pub nodes_in-full : (cells : List (Cell N)) → ((i : ℕ) → i < length cells → is_some (kept_at cells i) ≡ true)
+  pub nodes_in-full : (cells : List (Cell N)) → ((i : ℕ) → i < length cells → is_some (kept_at cells i)
+      ≡ true)
       → length (nodes_in cells) ≡ length cells
   nodes_in-full [] all = refl
   nodes_in-full (x ∷ xs) all =

@@ -1,16 +1,19 @@
 -- The fields of a table agree.
-use Rattle.std.proofs.Common.{◌≡◌, ◌≢◌, ℕ, zero, suc, ◌+◌, ◌-◌, ◌^◌, ◌<◌, ◌≤◌, true, inl, inr, List, [], ◌∷◌, ◌++◌, length}
+use Rattle.std.proofs.Common.{◌≡◌, ◌≢◌, ℕ, zero, suc, ◌+◌, ◌-◌, ◌^◌, ◌<◌, ◌≤◌, true, inl, inr, List, [], ◌∷◌}
+use Rattle.std.proofs.Common.{◌++◌, length}
 use Rattle.std.proofs.Common.{get_or, replicate, Some, None, is_some, refl, sym, ap, ◌∙◌, subst, arith}
 use Rattle.std.specs.Prelude.{IsPermutation}
 use Rattle.std.specs.Int.{IsPowerOfTwo}
 use Rattle.std.proofs.lemmas.Bool.{cases_eq, cases_lt}
-use Rattle.std.proofs.lemmas.List.{get_or_at, get_or_append_left, get_or-replicate, length_push, length-append}
+use Rattle.std.proofs.lemmas.List.{get_or_at, get_or_append_left, get_or-replicate, length_push}
+use Rattle.std.proofs.lemmas.List.{length-append}
 use Rattle.std.proofs.lemmas.List.{length-replicate}
 use Rattle.std.proofs.lemmas.List.Sorted.{length_permutation}
 use Rattle.hashlink_table.specs.declared.kept.Kept.{Kept}
 use Rattle.hashlink_table.specs.declared.cell.Cell.{Cell}
 use Rattle.hashlink_table.specs.declared.cell.TheConstants.{END}
-use Rattle.hashlink_table.specs.Chains.{no_cell, kept_at, next_at, chain_of, nodes_in, links_of, Among, IsPath}
+use Rattle.hashlink_table.specs.Chains.{no_cell, kept_at, next_at, chain_of, nodes_in, links_of, Among}
+use Rattle.hashlink_table.specs.Chains.{IsPath}
 use Rattle.hashlink_table.specs.Contents.{Contents}
 use Rattle.hashlink_table.specs.Chains.{contents, IsInPlace, IsLinked, IsSound}
 use Rattle.hashlink_table.proofs.Cells.{chain_at_within}
@@ -145,5 +148,6 @@ module _ {N : Type 0} where
 -- and a contract sees none
 pub contents-bare : (N : Type 0) (n room : ℕ)
     → contents (replicate n (no_cell {N = N})) [] room ≡ record { nodes = []; room = room }
-contents-bare N n room = ap (λ (ks : List (Kept N)). let t : Contents N = record { nodes = ks; room = room } in t)
+contents-bare N n room = ap (λ (ks : List (Kept N)). let t : Contents N = record { nodes = ks; room = room }
+    in t)
     (ap (λ (ks : List (Kept N)). ks ++ []) (nodes_in-free {N = N} n))

@@ -1,16 +1,19 @@
 -- What a contract sees of the cells: which nodes there are, and how many agree with a hash.
-use Rattle.std.proofs.Common.{◌≡◌, ℕ, ◌+◌, ◌%◌, ◌<◌, ◌≤◌, ◌⊎◌, inl, inr, Bool, false, cond, eqb, List, [], ◌∷◌, ◌++◌}
+use Rattle.std.proofs.Common.{◌≡◌, ℕ, ◌+◌, ◌%◌, ◌<◌, ◌≤◌, ◌⊎◌, inl, inr, Bool, false, cond, eqb, List, []}
+use Rattle.std.proofs.Common.{◌∷◌, ◌++◌}
 use Rattle.std.proofs.Common.{length, Option, Some, None, is_some, count_by, refl, sym, ap, ◌∙◌, subst, arith}
 use Rattle.std.specs.Prelude.{Contains}
 use Rattle.std.proofs.lemmas.Bool.{eq-eqb, ne_eqb}
-use Rattle.std.proofs.lemmas.List.Elements.{Contains-append_left, Contains-append_right, Contains-append_cases}
+use Rattle.std.proofs.lemmas.List.Elements.{Contains-append_left, Contains-append_right}
+use Rattle.std.proofs.lemmas.List.Elements.{Contains-append_cases}
 use Rattle.std.proofs.lemmas.List.Sums.{sum_by-cons, sum_by-append, get_or-le-sum_by}
 use Rattle.hashlink_table.specs.declared.kept.Kept.{Kept}
 use Rattle.hashlink_table.specs.declared.cell.Cell.{Cell}
 use Rattle.hashlink_table.specs.declared.spot.Spot.{Spot}
 use Rattle.hashlink_table.specs.declared.spot.Spot.TheVariants.{First, Over}
 use Rattle.hashlink_table.specs.Contents.{Contents, Keeps, agreeing}
-use Rattle.hashlink_table.specs.Chains.{no_cell, kept_at, kept_by, chain_of, with_node, nodes_in, contents, IsInPlace}
+use Rattle.hashlink_table.specs.Chains.{no_cell, kept_at, kept_by, chain_of, with_node, nodes_in, contents}
+use Rattle.hashlink_table.specs.Chains.{IsInPlace}
 use Rattle.hashlink_table.proofs.Nodes.{contains-at, at-contains}
 
 -- how many of the list pass, one element more
@@ -25,7 +28,8 @@ module _ {N : Type 0} where
       → count_by p (nodes_in cells) ≡ count_by (λ c. q c.kept) cells
   count_by-nodes_in p q [] none some = refl
   count_by-nodes_in p q (c ∷ cs) none some =
-      let rest : count_by p (nodes_in cs) ≡ count_by (λ c. q c.kept) cs = count_by-nodes_in p q cs none some in
+      let rest : count_by p (nodes_in cs) ≡ count_by (λ c. q c.kept) cs = count_by-nodes_in p q cs none some
+      in
       elim c.kept as
       (λ k. count_by p (with_node k (nodes_in cs)) ≡ cond (q k) 1 0 + count_by (λ c. q c.kept) cs) [
         | None ↦ rw none (omega arith)
@@ -55,11 +59,13 @@ module _ {N : Type 0} where
       let m = length firsts in let b = hash % m in
       let low : b < m = omega arith in
       let all : agreeing t hash m
-      ≡ count_by (λ k. eqb (k.hash % m) b) (nodes_in firsts) + count_by (λ k. eqb (k.hash % m) b) (nodes_in overs) =
+      ≡ count_by (λ k. eqb (k.hash % m) b) (nodes_in firsts) + count_by (λ k. eqb (k.hash % m) b)
+      (nodes_in overs) =
       ap (λ (u : Contents N). agreeing u hash m) (sym view)
       ∙ sum_by-append (λ (k : Kept N). cond (eqb (k.hash % m) b) 1 0) (nodes_in firsts) (nodes_in overs) in
       let own = own_agrees m b (kept_at firsts b) (in_place b) in
-      let least = get_or-le-sum_by (λ (c : Cell N). cond {A = ℕ} (eqb (chain_of m c.kept) b) 1 0) firsts b no_cell
+      let least = get_or-le-sum_by (λ (c : Cell N). cond {A = ℕ} (eqb (chain_of m c.kept) b) 1 0) firsts b
+      no_cell
       low in
       omega (arith, all, own, least, in_bucket-nodes firsts hash m some, in_bucket-nodes overs hash m some)
 
@@ -82,7 +88,8 @@ module _ {N : Type 0} where
       → contents firsts overs room ≡ t
       → kept_by firsts overs b spot ≡ Some (record { hash = hash; node = node })
       → Keeps t hash node
-  keeps_found firsts overs room hash b First node t view is = keeps_first firsts overs room hash b node t view is
+  keeps_found firsts overs room hash b First node t view is = keeps_first firsts overs room hash b node t
+      view is
   keeps_found firsts overs room hash b (Over at) node t view is =
       keeps_over firsts overs room hash at node t view is
 

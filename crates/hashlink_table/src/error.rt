@@ -1,12 +1,12 @@
 use std::error::Error;
 use std::{alloc, fmt};
 
-/// Why `Table::reserve` or `Table::with_room` was refused.
+/// Why `Table::reserve` or `Table::with_room` failed.
 #[derive(Clone, Copy, Debug, PartialEq, Eq)]
 pub enum TryReserveError {
     /// No table has that much room.
     CapacityOverflow,
-    /// The memory was refused.
+    /// An allocation failed.
     AllocError,
 }
 

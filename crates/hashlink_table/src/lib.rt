@@ -1,8 +1,8 @@
 //! A hash table of nodes: which nodes stand under which hash.
 //!
 //! The table holds small handles and the hashes that it was given with them. It never hashes, and never
-//! compares keys: a find asks its caller's closure. All growth happens in `reserve`, so that an insert takes
-//! no memory.
+//! compares keys: a find asks its caller's closure. All growth happens in `reserve`, so that an insert does
+//! not allocate.
 #![tactic(auto)]
 
 mod bucket;

@@ -1,5 +1,6 @@
 //! The chains that lead through the cells.
-ghost use Rattle.std.specs.Prelude.{◌≡◌, ◌≢◌, ℕ, ◌+◌, ◌%◌, ◌^◌, ◌<◌, ◌≤◌, ◌==◌, ◌∷◌, ◌++◌, length, count_by, false};
+ghost use Rattle.std.specs.Prelude.{◌≡◌, ◌≢◌, ℕ, ◌+◌, ◌%◌, ◌^◌, ◌<◌, ◌≤◌, ◌==◌, ◌∷◌, ◌++◌, length, count_by};
+ghost use Rattle.std.specs.Prelude.{false};
 ghost use Rattle.std.specs.Prelude.{cond, is_some, true, IfNone, IfSome, IsPermutation, IsSome, Some};
 ghost use Rattle.std.specs.Prelude.{[], replicate, None, vec_capacity, vec_len};
 ghost use Rattle.std.specs.Int.{IsPowerOfTwo};
@@ -25,7 +26,7 @@ pub fn fill<N: Copy>(cells: &mut Vec<Stored<N>>, filler: N, count: usize)
     }
 }
 
-// Puts a cell where the first free one is, or after the last where none is free, and answers where.
+// Puts a cell where the first free one is, or after the last if none is free, and returns where.
 #[inline]
 fn place<N: Copy>(cells: &mut Vec<Stored<N>>, free: &mut usize, cell: Stored<N>) -> usize
     requires within { free.old ≢ END → free.old < vec_len cells.old }
@@ -100,7 +101,7 @@ pub fn put<N: Copy>(
     }
 }
 
-// Takes a cell out of its bucket's chain: the link to it leads past it.
+// Removes a cell from its bucket's chain: the link to it leads past it.
 fn unlink<N: Copy>(firsts: &mut [Stored<N>], cells: &mut [Stored<N>], bucket: usize, cell: usize)
     requires within { bucket < length firsts.old }
     requires on_chain { chain_at (length firsts.old) cells.old cell ≡ bucket }
@@ -123,7 +124,7 @@ fn unlink<N: Copy>(firsts: &mut [Stored<N>], cells: &mut [Stored<N>], bucket: us
     cells[at].set_next(after);
 }
 
-// Takes a node out of its cell over, which is then the first free one.
+// Removes a node from its cell over, which is then the first free one.
 pub fn take_out<N: Copy>(
     firsts: &mut [Stored<N>],
     cells: &mut [Stored<N>],
@@ -164,7 +165,8 @@ pub fn found<N: Copy>(
     }
 }
 
-// Takes the node out that a search found. Where it was in its bucket's own cell, the chain's next moves there.
+// Removes the node that a search found. If it was in its bucket's own cell, the next of the chain moves
+// there.
 pub fn take<N: Copy>(
     firsts: &mut [Stored<N>],
     cells: &mut [Stored<N>],

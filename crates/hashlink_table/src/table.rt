@@ -19,8 +19,8 @@ use std::sync::ledger::{Blank, Ledger};
 /// The most nodes that a table can be asked to have room for.
 pub const MAX_ROOM: usize = 1 << 62;
 
-// The most buckets that a table has, so that the cells' numbers fit into a link. A request for more is refused
-// as one for memory.
+// The most buckets that a table has, so that the cells' numbers fit into a link. A request for more fails as
+// an allocation does.
 const MAX_BUCKETS: usize = 1 << 30;
 
 // The least room that a table grows to.
@@ -28,8 +28,8 @@ const MIN_ROOM: usize = 4;
 
 /// Nodes by their hashes.
 ///
-/// It takes no memory when made, then 8 bytes and a node for each bucket, of which there are as many as it has
-/// room for nodes or up to twice, and as much for each cell over.
+/// A new table does not allocate. It takes then 8 bytes and a node for each bucket, of which there are as
+/// many as it has room for nodes or up to twice, and as much for each cell over.
 #[derive(Drop)]
 pub struct Table<N> {
     // The buckets' own cells. There are none or a power of two.
@@ -61,7 +61,8 @@ impl<N> Model for Table<N> {
 }
 
 impl<N: Copy> Table<N> {
-    /// An empty table, which takes no memory. The filler is any node; cells that have none are filled with it.
+    /// Creates an empty table. It does not allocate. The filler is any node; cells that have none are filled
+    /// with it.
     pub fn new(alloc: Global, filler: N) -> Self
         ensures { result ≡ record { nodes = []; room = 0 } }
     {
@@ -75,7 +76,7 @@ impl<N: Copy> Table<N> {
         }
     }
 
-    /// An empty table with room for so many nodes, and without memory for none.
+    /// Creates an empty table with room for so many nodes. For none it does not allocate.
     pub fn with_room(alloc: Global, filler: N, room: usize) -> Result<Self, TryReserveError>
         ensures empty { IfOk result (λ t. t.nodes ≡ []) }
         ensures room { IfOk result (λ t. room ≤ t.room) }
@@ -88,7 +89,7 @@ impl<N: Copy> Table<N> {
         Ok(table)
     }
 
-    // An empty table with so many buckets.
+    // Creates an empty table with so many buckets.
     fn with_buckets(
         alloc: Global,
         filler: N,
@@ -113,7 +114,7 @@ impl<N: Copy> Table<N> {
         })
     }
 
-    /// How many nodes the table holds.
+    /// Returns the number of nodes.
     #[inline]
     pub fn len(&self) -> usize
         ensures value { result ≡ len_of self.now }
@@ -122,7 +123,7 @@ impl<N: Copy> Table<N> {
         self.len // counted, so nothing is walked
     }
 
-    /// Whether the table holds no node.
+    /// Returns whether the table holds no node.
     #[inline]
     pub fn is_empty(&self) -> bool
         ensures { IsTrue result ↔ (len_of self.now ≡ 0) }
@@ -130,7 +131,7 @@ impl<N: Copy> Table<N> {
         self.len() == 0
     }
 
-    /// How many nodes fit with no more memory.
+    /// Returns the number of nodes that fit without an allocation.
     #[inline]
     pub fn room(&self) -> usize
         ensures value { result ≡ self.now.room }
@@ -139,7 +140,7 @@ impl<N: Copy> Table<N> {
         self.room // which the buckets and the memory of the cells over allow
     }
 
-    /// Puts a node in under its hash. It takes no memory.
+    /// Inserts a node under its hash. It does not allocate.
     #[inline]
     pub fn insert_reserved(&mut self, hash: u32, node: N)
         requires { len_of self.old < self.old.room }
@@ -159,7 +160,7 @@ impl<N: Copy> Table<N> {
         self.len += 1;
     }
 
-    /// Takes a node of this hash out that matches, which frees its room, and returns it. It asks `is_match` at
+    /// Removes a node of this hash that matches, which frees its room, and returns it. It calls `is_match` on
     /// nodes of this hash alone, and compares no keys.
     #[inline]
     pub fn remove<F: Fn(N) -> bool>(&mut self, hash: u32, is_match: F) -> Option<N>
@@ -215,8 +216,8 @@ impl<N: Copy> Table<N> {
         }
     }
 
-    /// The node of this hash that matches, where no more than one does: the first of the hash's bucket. It
-    /// asks `is_match` at nodes of this hash alone, and takes a step for each node of the bucket that it
+    /// Returns the node of this hash that matches, if no more than one does: the first of the hash's bucket.
+    /// It calls `is_match` on nodes of this hash alone, and takes a step for each node of the bucket that it
     /// passes.
     #[inline]
     pub fn find<F: Fn(N) -> bool, L: Ledger>(
@@ -278,7 +279,7 @@ impl<N: Copy> Table<N> {
         self.find(hash, is_match, &mut steps)
     }
 
-    /// Takes every node out, and keeps the room. It walks the buckets.
+    /// Removes every node, and keeps the room. It takes linear time in the number of buckets.
     pub fn clear(&mut self)
         ensures { self.new ≡ record self.old { nodes = [] } }
     {
@@ -290,8 +291,8 @@ impl<N: Copy> Table<N> {
         self.len = 0;
     }
 
-    /// Makes room for so many more nodes, by doubling, where there is less. It hashes nothing. A refusal leaves
-    /// everything as it was.
+    /// Makes room for so many more nodes, by doubling, if there is less. It hashes nothing. If it fails, it
+    /// changes nothing.
     #[inline]
     pub fn reserve(&mut self, additional: usize) -> Result<(), TryReserveError>
         ensures ok { OnOk result (len_of self.old + additional ≤ self.new.room) }
@@ -301,7 +302,7 @@ impl<N: Copy> Table<N> {
         ensures power { self.old.room < self.new.room → IsPowerOfTwo self.new.room }
         ensures err { OnErr result (self.new ≡ self.old) }
 
-        // Where there is the room already it is not refused, and changes nothing.
+        // If there is enough room it does not fail, and changes nothing.
         ensures enough { len_of self.old + additional ≤ self.old.room → IsOk result × (self.new ≡ self.old) }
         ensures overflow { (result ≡ Err CapacityOverflow) ↔ (MAX_ROOM < len_of self.old + additional) }
     {
@@ -317,8 +318,8 @@ impl<N: Copy> Table<N> {
         Ok(())
     }
 
-    /// Gives memory back: the room is the length afterwards, and without nodes the table holds no memory. A
-    /// refusal leaves everything as it was.
+    /// Frees memory: the room is the length afterwards, and without nodes the table holds no memory. If it
+    /// fails, it changes nothing.
     pub fn shrink(&mut self) -> Result<(), AllocError>
         ensures nodes { IsPermutation self.old.nodes self.new.nodes }
         ensures ok { OnOk result (self.new.room ≡ len_of self.old) }
@@ -334,7 +335,7 @@ impl<N: Copy> Table<N> {
         self.rebuild(len.next_power_of_two(), len)
     }
 
-    // Puts the nodes into so many new buckets, for this room. A refusal leaves everything as it was.
+    // Puts the nodes into so many new buckets, for this room. If it fails, it changes nothing.
     #[cold]
     fn rebuild(&mut self, buckets: usize, room: usize) -> Result<(), AllocError>
         requires power { IsPowerOfTwo buckets }

@@ -9,7 +9,7 @@ use std::fmt;
 pub enum WeightError<K, V> {
     /// The weight is above the budget of the cache.
     TooHeavy((K, V)),
-    /// The allocation of a node failed.
+    /// The allocation of a node, or of a larger table, failed.
     Memory((K, V)),
 }
 

@@ -49,6 +49,21 @@ fn an_entry_modifies_what_is_there_and_makes_what_is_not(rt: HostRuntime) -> Exi
     passes(each_is_called_once(&mut one_to_three(rt.alloc())))
 }
 
+/// The keys of which a retain with a lent closure asks, by what the closure has written, and how many are left.
+fn retain_of_lent(map: &mut Map) -> (u32, usize) {
+    let mut digits = 0u32;
+    map.retain_from(&mut |key: &u32, value: &mut u32| {
+        digits = digits.wrapping_mul(10).wrapping_add(*key);
+        *value != 20
+    });
+    (digits, map.len())
+}
+
+#[test]
+fn a_retain_leaves_a_lent_closure_to_its_caller(rt: HostRuntime) -> ExitCode {
+    passes(retain_of_lent(&mut one_to_three(rt.alloc())) == (123, 2))
+}
+
 /// The keys of which retains of a map ask, and how many are left.
 fn retains_of_map(alloc: Global) -> (u32, usize) {
     let digits = Cell::new(0);

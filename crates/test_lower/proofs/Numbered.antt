@@ -33,7 +33,8 @@ apart j n m some below most low e =
     ]
 
 pub numbered_more : {N : Type 0} (t same new : Contents N) (n : ℕ) (node : N) → IsNumbered t n → n ≤ 500
-    → IsPermutation t.nodes same.nodes → IsPermutation (record { hash = n; node = node } ∷ same.nodes) new.nodes
+    → IsPermutation t.nodes same.nodes → IsPermutation (record { hash = n; node = node } ∷ same.nodes)
+    new.nodes
     → IsNumbered new (n + 1)
 numbered_more {N} t same new n node numbered most moved inserted = record {
   count = omega (arith, length_permutation _ _ inserted, length_permutation _ _ moved, numbered.count);

@@ -9,11 +9,11 @@ use crate::extend_error::ExtendError;
 use std::hash::{BuildHasher, Hash};
 
 impl<K: Eq + Hash + Drop, V: Drop, S: BuildHasher> KeyedList<K, V, S> {
-    /// Inserts each item in turn, as `insert` does. The iterator has to end, and is left with the items after
-    /// a refused one, or with none.
+    /// Inserts each item in turn, as `insert` does. The iterator has to end. It is left with the items after
+    /// the one whose insert fails, or with none.
     ///
-    /// Where the memory for an item is refused, those before it are in, it is handed back, and nothing after
-    /// it is read.
+    /// If the allocation for an item fails, those before it are in, its pair is returned in `Err`, and no
+    /// further item is read.
     pub fn extend_from<I: Iterator<Item = (K, V)>>(
         &mut self,
         iter: &mut I,

@@ -11,7 +11,7 @@ use std::alloc::AllocError;
 use std::hash::{BuildHasher, Hash};
 
 impl<K: Eq + Hash, V, S: BuildHasher> KeyedList<K, V, S> {
-    /// Makes room for so many more entries. Where there is the room already it takes no memory. A refusal
+    /// Makes room for so many more entries. If there is enough room, it does not allocate. If it fails, it
     /// changes nothing.
     pub fn reserve(&mut self, additional: usize) -> Result<(), TryReserveError>
         ensures ok { OnOk result (length self.old.nodes + additional ≤ self.new.room) }
@@ -25,15 +25,15 @@ impl<K: Eq + Hash, V, S: BuildHasher> KeyedList<K, V, S> {
         self.table.reserve(additional)
     }
 
-    /// Gives the spare nodes back. The room stays.
+    /// Frees the spare nodes. The room stays.
     pub fn release_spare(&mut self)
         ensures { self.new ≡ record self.old { spare = 0 } }
     {
         self.nodes.release_free();
     }
 
-    /// Gives the spare nodes back, and then the room beyond the entries. A refusal leaves the room as it was;
-    /// without entries there is none, and no room is left.
+    /// Frees the spare nodes, and then the room beyond the entries. If it fails, the room stays as it was.
+    /// Without entries it cannot fail, and no room is left.
     pub fn shrink(&mut self) -> Result<(), AllocError>
         ensures ok { OnOk result (self.new ≡ record self.old { spare = 0; room = length self.old.nodes }) }
         ensures err { OnErr result (self.new ≡ record self.old { spare = 0 }) }
@@ -44,7 +44,7 @@ impl<K: Eq + Hash, V, S: BuildHasher> KeyedList<K, V, S> {
         self.shrink_table()
     }
 
-    /// Gives the room beyond the entries back, where no node is spare.
+    /// Frees the room beyond the entries, where no node is spare.
     fn shrink_table(&mut self) -> Result<(), AllocError>
         requires { self.old.spare ≡ 0 }
         ensures ok { OnOk result (self.new ≡ record self.old { room = length self.old.nodes }) }

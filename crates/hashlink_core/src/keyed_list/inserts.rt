@@ -1,4 +1,4 @@
-//! How a pair comes in by its key. Each call hashes the key once, and looks for it as `find` does.
+//! Inserts of a pair by its key. Each call hashes the key once, and looks it up as `find` does.
 ghost use Rattle.std.specs.Prelude.{◌≡◌, ◌↔◌, length, Option, Some, IsTrue};
 ghost use Rattle.hashlink_model.specs.MapState.{Inserts};
 ghost use Rattle.hashlink_model.specs.Steps.{Replaces};
@@ -11,8 +11,8 @@ use hashlink_nodes::Node;
 use std::hash::{BuildHasher, Hash};
 
 impl<K: Eq + Hash, V, S: BuildHasher> KeyedList<K, V, S> {
-    // Whether two nodes of the list are the same. Where they have one number, one is marked for the moment, so
-    // that no key is compared.
+    // Returns whether the two nodes are the same. Nodes have no equality, and no key is compared: if both
+    // have one number, one is marked for a moment and the other is read.
     #[inline]
     fn is_same(&mut self, a: Node, b: Node) -> bool
         requires a { Holds self.old.nodes a }
@@ -30,7 +30,7 @@ impl<K: Eq + Hash, V, S: BuildHasher> KeyedList<K, V, S> {
         is_same
     }
 
-    // Whether the node stands at the place.
+    // Returns whether the node stands at the place.
     #[inline]
     fn is_at(&mut self, node: Node, place: Option<Node>) -> bool
         requires node { Holds self.old.nodes node }
@@ -44,13 +44,12 @@ impl<K: Eq + Hash, V, S: BuildHasher> KeyedList<K, V, S> {
         }
     }
 
-    /// Puts the pair right before the place, and returns the key's old value. A key that is there keeps its
-    /// key object, takes the new value and moves there, unless it stands there. Each place stays on its
-    /// entry.
+    /// Inserts the pair directly before the place, and returns the old value of its key. If the key is
+    /// present, the stored key stays, takes the new value and moves there, unless it stands there. Each place
+    /// stays on its entry. It stores at most six links if the key is present and four if it is absent.
     ///
-    /// It takes memory only for an absent key where no node is spare. Where that is refused, the pair is
-    /// handed back and no entry changes.
-    /// It stores at most six links for a key that is there and four for an absent one.
+    /// It allocates only if the key is absent and no node is spare. If that allocation fails, it returns the
+    /// pair in `Err` and changes no entry.
     pub fn insert_at(&mut self, place: Option<Node>, key: K, value: V) -> Result<Option<V>, (K, V)>
     where
         K: Drop,
@@ -73,7 +72,7 @@ impl<K: Eq + Hash, V, S: BuildHasher> KeyedList<K, V, S> {
         Ok(Some(old))
     }
 
-    /// Puts the pair last, as `insert_at` does.
+    /// Inserts the pair at the back, as `insert_at` does.
     pub fn insert(&mut self, key: K, value: V) -> Result<Option<V>, (K, V)>
     where
         K: Drop,
@@ -84,7 +83,7 @@ impl<K: Eq + Hash, V, S: BuildHasher> KeyedList<K, V, S> {
         self.insert_at(None, key, value)
     }
 
-    /// Puts the pair first, as `insert_at` does.
+    /// Inserts the pair at the front, as `insert_at` does.
     pub fn insert_first(&mut self, key: K, value: V) -> Result<Option<V>, (K, V)>
     where
         K: Drop,
@@ -95,12 +94,12 @@ impl<K: Eq + Hash, V, S: BuildHasher> KeyedList<K, V, S> {
         self.insert_at(first, key, value)
     }
 
-    /// Gives the key the value, and returns its old one. A key that is there keeps its key object and its
-    /// place, an absent one goes last.
+    /// Sets the value of the key, and returns the old one. If the key is present, the stored key and its
+    /// place stay. An absent key is inserted at the back. It stores no link if the key is present and at most
+    /// four if it is absent.
     ///
-    /// It takes memory only for an absent key where no node is spare. Where that is refused, the pair is
-    /// handed back and no entry changes.
-    /// It stores no link for a key that is there and at most four for an absent one.
+    /// It allocates only if the key is absent and no node is spare. If that allocation fails, it returns the
+    /// pair in `Err` and changes no entry.
     pub fn replace(&mut self, key: K, value: V) -> Result<Option<V>, (K, V)>
     where
         K: Drop,

@@ -1,4 +1,4 @@
-//! How entries come, move and leave.
+//! Inserts, moves and removals of entries by their nodes.
 ghost use Rattle.std.specs.Prelude.{◌≡◌, [], length, slice_get, eqb, None, Some, IfOk, IfErr, OnErr};
 ghost use Rattle.std.specs.Option.{option_map};
 ghost use Rattle.std.specs.Map.{lookup, remove_entry};
@@ -17,9 +17,11 @@ use hashlink_nodes::Node;
 use std::hash::{BuildHasher, Hash};
 
 impl<K: Eq + Hash, V, S: BuildHasher> KeyedList<K, V, S> {
-    /// Puts a pair with a new key, which has this hash, right before the place. Where no node is spare it
-    /// takes memory, and changes the list only after that:
-    /// a refusal hands the pair back. It stores four links.
+    /// Inserts a pair with an absent key, which has this hash, directly before the place. It stores four
+    /// links.
+    ///
+    /// It allocates only if no node is spare, and changes the list only after that. If an allocation fails,
+    /// it returns the pair in `Err`.
     pub fn insert_before(
         &mut self,
         place: Option<Node>,
@@ -47,7 +49,7 @@ impl<K: Eq + Hash, V, S: BuildHasher> KeyedList<K, V, S> {
         Ok(node)
     }
 
-    /// Moves the node's entry right before another place. It stores six links.
+    /// Moves the node's entry directly before another place. It stores six links.
     #[inline]
     pub fn move_before(&mut self, node: Node, place: Option<Node>)
         requires node { Holds self.old.nodes node }
@@ -59,7 +61,7 @@ impl<K: Eq + Hash, V, S: BuildHasher> KeyedList<K, V, S> {
         self.nodes.move_before(node, place);
     }
 
-    /// Moves the node's entry right after another place. It stores six links.
+    /// Moves the node's entry directly after another place. It stores six links.
     #[inline]
     pub fn move_after(&mut self, node: Node, place: Option<Node>)
         requires node { Holds self.old.nodes node }
@@ -71,7 +73,8 @@ impl<K: Eq + Hash, V, S: BuildHasher> KeyedList<K, V, S> {
         self.nodes.move_after(node, place);
     }
 
-    /// Takes the node's entry out. The node is then spare. It takes no memory and stores three links.
+    /// Removes the node's entry and returns it. The node is then spare. It does not allocate, and stores
+    /// three links.
     pub fn remove(&mut self, node: Node) -> (K, V)
         requires { Holds self.old.nodes node }
         ensures pair { slice_get (entries_of self.old) (place_number self.old.nodes (Some node))
@@ -92,7 +95,7 @@ impl<K: Eq + Hash, V, S: BuildHasher> KeyedList<K, V, S> {
         self.nodes.detach_into_free(node)
     }
 
-    /// Drops every entry and gives its node back. The spare nodes and the room stay.
+    /// Drops every entry and frees its node. The spare nodes and the room stay.
     pub fn clear(&mut self)
     where
         K: Drop,

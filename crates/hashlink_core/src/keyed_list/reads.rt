@@ -1,4 +1,4 @@
-//! What a keyed list shows.
+//! Reads of a keyed list.
 ghost use Rattle.std.specs.Prelude.{◌≡◌, ◌-◌, ◌<◌, ◌^◌, length, slice_get, Bool, None, Some, IfSome};
 ghost use Rattle.std.specs.Prelude.{MatchOption};
 ghost use Rattle.std.specs.Fn.{FnReturnsAt};
@@ -20,7 +20,7 @@ use hashlink_nodes::Node;
 use std::hash::{BuildHasher, Hash};
 
 impl<K: Eq + Hash, V, S: BuildHasher> KeyedList<K, V, S> {
-    /// The hash of a key, or of what stands for one.
+    /// Returns the hash of a key, or of a query for one.
     #[inline]
     pub fn hash_of<Q: Equivalent<K>>(&self, key: Q) -> u64
         ensures { result ≡ hash_with S.build_hasher S.Hasher.write S.Hasher.finish Q.hash_input
@@ -29,8 +29,8 @@ impl<K: Eq + Hash, V, S: BuildHasher> KeyedList<K, V, S> {
         self.hash_builder.hash_one(key)
     }
 
-    /// The node that holds a key equal to this one, or one that this query matches, which has this hash. It
-    /// looks at the nodes of one bucket.
+    /// Returns the node whose key the query matches, which has this hash. It looks at the nodes of one
+    /// bucket.
     #[inline]
     pub fn find<Q: Equivalent<K>>(&self, hash: u64, key: Q) -> Option<Node>
         requires { hash ≡ hash_with S.build_hasher S.Hasher.write S.Hasher.finish Q.hash_input
@@ -45,9 +45,9 @@ impl<K: Eq + Hash, V, S: BuildHasher> KeyedList<K, V, S> {
         self.find_match(hash, is_match)
     }
 
-    /// The node that holds a key equal to the one that the hash and the test stand for: the hash has to be
-    /// that key's, and the test has to answer of each key whether it is equal to it. It looks at the nodes of
-    /// one bucket.
+    /// Returns the node whose key is equal to the one that the hash and the test stand for. The hash has to
+    /// be that key's, and the test has to return of each key whether it is equal to it. It looks at the nodes
+    /// of one bucket.
     #[inline]
     pub fn find_with<F: Fn(&K) -> bool>(&self, hash: u64, is_match: F) -> Option<Node>
         requires { (k : K) × Tells F.Fn K.eq
@@ -63,8 +63,8 @@ impl<K: Eq + Hash, V, S: BuildHasher> KeyedList<K, V, S> {
         self.find_match(hash, is_match)
     }
 
-    /// The node that holds a key which passes the test: each key that passes has to have the hash and to
-    /// equal each other that does. It looks at the nodes of one bucket.
+    /// Returns the node whose key passes the test. The keys that pass have to have the hash and to be equal
+    /// to each other. It looks at the nodes of one bucket.
     #[inline]
     pub fn find_match<F: Fn(&K) -> bool>(&self, hash: u64, is_match: F) -> Option<Node>
         requires { (passes : K → Bool) × TellsMatch F.Fn K.eq
@@ -88,7 +88,7 @@ impl<K: Eq + Hash, V, S: BuildHasher> KeyedList<K, V, S> {
         self.table.look_up(short_hash(hash), holds_match)
     }
 
-    /// The first place: the guard where there is no entry.
+    /// Returns the first place: the guard if there is no entry.
     #[inline]
     pub fn first(&self) -> Option<Node>
         ensures place { IsPlaceAt self.now.nodes result 0 }
@@ -97,7 +97,7 @@ impl<K: Eq + Hash, V, S: BuildHasher> KeyedList<K, V, S> {
         self.nodes.next(None)
     }
 
-    /// The place of the last entry: the guard where there is none.
+    /// Returns the place of the last entry: the guard if there is none.
     #[inline]
     pub fn last(&self) -> Option<Node>
         ensures place { IsPlaceAt self.now.nodes result (length self.now.nodes - 1) }
@@ -106,7 +106,7 @@ impl<K: Eq + Hash, V, S: BuildHasher> KeyedList<K, V, S> {
         self.nodes.prev(None)
     }
 
-    /// The place after a place: after the guard comes the first.
+    /// Returns the place after a place: after the guard comes the first.
     #[inline]
     pub fn next(&self, place: Option<Node>) -> Option<Node>
         requires { IsPlace self.now.nodes place }
@@ -116,7 +116,7 @@ impl<K: Eq + Hash, V, S: BuildHasher> KeyedList<K, V, S> {
         self.nodes.next(place)
     }
 
-    /// The place before a place: before the first comes the guard.
+    /// Returns the place before a place: before the first comes the guard.
     #[inline]
     pub fn prev(&self, place: Option<Node>) -> Option<Node>
         requires { IsPlace self.now.nodes place }
@@ -126,7 +126,7 @@ impl<K: Eq + Hash, V, S: BuildHasher> KeyedList<K, V, S> {
         self.nodes.prev(place)
     }
 
-    /// The node's pair.
+    /// Returns the node's pair.
     #[inline]
     pub fn entry(&self, node: Node) -> (&K, &V)
         requires { Holds self.now.nodes node }
@@ -136,7 +136,8 @@ impl<K: Eq + Hash, V, S: BuildHasher> KeyedList<K, V, S> {
         self.nodes.entry(node)
     }
 
-    /// A walk over the entries, front first. It takes no memory, and each step takes constant time.
+    /// Returns an iterator over the entries, front to back. It does not allocate, and each step takes
+    /// constant time.
     pub fn iter(&self) -> Iter<'_, K, V>
         ensures rest { result ≡ entries_of self.now }
         ensures runs { ShowsInOrder (deref_pair {K = K} {X = V}) }
@@ -147,7 +148,8 @@ impl<K: Eq + Hash, V, S: BuildHasher> KeyedList<K, V, S> {
         Iter::new(&self.nodes)
     }
 
-    /// A walk over the keys, front first. It takes no memory, and each step takes constant time.
+    /// Returns an iterator over the keys, front to back. It does not allocate, and each step takes constant
+    /// time.
     pub fn keys(&self) -> Keys<'_, K, V>
         ensures rest { result ≡ keys_of (entries_of self.now) }
         ensures runs { ShowsInOrder (deref {X = K}) }
@@ -157,7 +159,8 @@ impl<K: Eq + Hash, V, S: BuildHasher> KeyedList<K, V, S> {
         Keys::new(self.iter())
     }
 
-    /// A walk over the values, front first. It takes no memory, and each step takes constant time.
+    /// Returns an iterator over the values, front to back. It does not allocate, and each step takes constant
+    /// time.
     pub fn values(&self) -> Values<'_, K, V>
         ensures rest { result ≡ values_of (entries_of self.now) }
         ensures runs { ShowsInOrder (deref {X = V}) }

@@ -1,4 +1,4 @@
-//! How the entries that a closure chooses leave.
+//! Removals of the entries that a closure chooses.
 ghost use Rattle.std.specs.Map.Calls.{CalledAtPair, TakesPair, CallableOnEachPair};
 ghost use Rattle.hashlink_model.specs.Retain.{RetainsInOrder};
 ghost use Rattle.hashlink_core.specs.Keyed.{entries_of, state_of, IsKeyed};
@@ -7,16 +7,17 @@ use super::KeyedList;
 use std::hash::{BuildHasher, Hash};
 
 impl<K: Eq + Hash, V, S: BuildHasher> KeyedList<K, V, S> {
-    /// Calls `keep` once on each entry, from the front, and takes out those at which it returns false. Their
-    /// nodes are then spare. It takes no memory, hashes nothing, and stores at most three links for each
-    /// entry that leaves.
-    pub fn retain_in_order<F: FnMut(&K, &mut V) -> bool>(&mut self, mut keep: F)
+    /// Calls `keep` once on each entry, from the front, and removes those for which it returns false. Their
+    /// nodes are then spare. It does not allocate, hashes nothing, and stores at most three links for each
+    /// removal.
+    pub fn retain_in_order<F: FnMut(&K, &mut V) -> bool>(&mut self, keep: &mut F)
     where
         K: Drop,
         V: Drop,
-        requires { CallableOnEachPair (CalledAtPair F.FnMut) (TakesPair F.FnMut) keep (entries_of self.old) }
-        ensures retained { (end : F) × RetainsInOrder (CalledAtPair F.FnMut) keep (state_of self.old)
-            (state_of self.new) end }
+        requires { CallableOnEachPair (CalledAtPair F.FnMut) (TakesPair F.FnMut) keep.old
+            (entries_of self.old) }
+        ensures retained { RetainsInOrder (CalledAtPair F.FnMut) keep.old (state_of self.old)
+            (state_of self.new) keep.new }
         ensures sound { IsKeyed K.eq self.new }
     {
         let mut place = self.first();

@@ -1,4 +1,4 @@
-//! What can be changed in an entry that stays where it is.
+//! Changes of an entry that stays at its place.
 ghost use Rattle.std.specs.Prelude.{◌≡◌, slice_get, Some};
 ghost use Rattle.std.specs.Borrow.{sem};
 ghost use Rattle.std.specs.Option.{option_map};
@@ -15,7 +15,7 @@ use std::hash::{BuildHasher, Hash};
 impl<K: Eq + Hash, V, S: BuildHasher> KeyedList<K, V, S> {
     ghost use Rattle.hashlink_core.specs.KeyedLends.{LendsValueAt};
 
-    /// Lends the value of the node's entry for writing, beside its key. It takes constant time.
+    /// Returns the key of the node's entry and a mutable reference to its value. It takes constant time.
     #[inline]
     pub fn entry_mut(&mut self, node: Node) -> (&K, &mut V)
         requires { Holds self.old.nodes node }
@@ -27,7 +27,7 @@ impl<K: Eq + Hash, V, S: BuildHasher> KeyedList<K, V, S> {
         self.nodes.entry_mut(node)
     }
 
-    /// Lends the value of the node's entry for writing. It takes constant time.
+    /// Returns a mutable reference to the value of the node's entry. It takes constant time.
     #[inline]
     pub fn value_mut(&mut self, node: Node) -> &mut V
         requires { Holds self.old.nodes node }
@@ -40,7 +40,7 @@ impl<K: Eq + Hash, V, S: BuildHasher> KeyedList<K, V, S> {
         value
     }
 
-    /// Puts a value into the node's entry, and returns the old one.
+    /// Replaces the value of the node's entry, and returns the old one.
     #[inline]
     pub fn replace_value(&mut self, node: Node, value: V) -> V
         requires { Holds self.old.nodes node }
@@ -52,7 +52,7 @@ impl<K: Eq + Hash, V, S: BuildHasher> KeyedList<K, V, S> {
         self.nodes.replace_value(node, value)
     }
 
-    /// Puts a key into the entry of an equal one, and returns the old one.
+    /// Replaces the key of the node's entry by an equal one, and returns the old one.
     #[inline]
     pub fn replace_key(&mut self, node: Node, key: K) -> K
         requires held { Holds self.old.nodes node }
@@ -65,7 +65,7 @@ impl<K: Eq + Hash, V, S: BuildHasher> KeyedList<K, V, S> {
     {
         self.nodes.set_key(node, key)
     }
-    /// Puts an equal key and a value into the node's entry, and returns the old pair.
+    /// Replaces the key of the node's entry by an equal one and its value, and returns the old pair.
     pub fn replace_pair(&mut self, node: Node, key: K, value: V) -> (K, V)
         requires { HoldsKey K.eq self.old.nodes key node }
         ensures replaces { ReplacesEntry (state_of self.old) (state_of self.new)

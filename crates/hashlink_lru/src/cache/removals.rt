@@ -106,4 +106,20 @@ impl<K: Eq + Hash, V, S: BuildHasher> LruCache<K, V, S> {
     {
         self.map.retain(keep);
     }
+
+    /// Does the same as `retain`, with a closure that the caller keeps: after the last call of `keep`, the
+    /// caller can read from it what its calls left in it.
+    pub fn retain_from<F: FnMut(&K, &mut V) -> bool>(&mut self, keep: &mut F)
+    where
+        K: Drop,
+        V: Drop,
+        requires { CallableOnEachPair (CalledAtPair F.FnMut) (TakesPair F.FnMut) keep.old
+            (entries_in self.old) }
+        ensures retained { OnMap (λ a b. RetainsInOrder (CalledAtPair F.FnMut) keep.old a b keep.new)
+            (state_in self.old) (state_in self.new) }
+        ensures distinct { IsEntries K.eq (entries_in self.new) }
+        ensures within { StaysWithin (state_in self.old) (state_in self.new) }
+    {
+        self.map.retain_from(keep);
+    }
 }

@@ -52,11 +52,12 @@ impl<K: Eq + Hash, V, S: BuildHasher> LruCache<K, V, S> {
         self.use_or_put(key, make)?;
         match self.map.back_value_mut() {
             Some(value) => Ok(value),
-            None => unreachable!(),
+            None => unreachable!(), // the entry that was just used stands last
         }
     }
 
-    /// Does the same as `get_or_insert_with`, and returns no reference.
+    /// Moves the entry of the key to the back. If the key is absent, it is inserted there with what `make`
+    /// returns, and entries are evicted as by `insert`, but at least one stays.
     fn use_or_put<F: FnOnce() -> V>(&mut self, key: K, make: F) -> Result<(), (K, V)>
     where
         K: Drop,
@@ -103,11 +104,11 @@ impl<K: Eq + Hash, V, S: BuildHasher> LruCache<K, V, S> {
         self.use_or_try_put(key, make)?;
         match self.map.back_value_mut() {
             Some(value) => Ok(value),
-            None => unreachable!(),
+            None => unreachable!(), // the entry that was just used stands last
         }
     }
 
-    /// Does the same as `get_or_try_insert_with`, and returns no reference.
+    /// Does the same as `use_or_put`, with a `make` that may fail.
     fn use_or_try_put<E, F: FnOnce() -> Result<V, E>>(
         &mut self,
         key: K,
@@ -134,8 +135,8 @@ impl<K: Eq + Hash, V, S: BuildHasher> LruCache<K, V, S> {
     }
 }
 
-/// Moves the entry of the key to the back. If the key is absent, it is inserted there with what `make` returns.
-/// The key is hashed once.
+/// Moves the entry of the key to the back. If the key is absent, it is inserted there with what `make`
+/// returns. The key is hashed once.
 fn move_or_make<K: Eq + Hash + Drop, V: Drop, S: BuildHasher, F: FnOnce() -> V + Drop>(
     map: &mut LinkedHashMap<K, V, S>,
     key: K,

@@ -13,7 +13,7 @@ impl<K: Eq + Hash, V, S: BuildHasher> LinkedHashMap<K, V, S> {
     /// Calls `keep` once on each entry, and removes those for which it returns false. It stores at most three
     /// links for each removal. `keep` has to be callable on each entry, in the state that its earlier calls
     /// have left it in.
-    pub fn retain<F: FnMut(&K, &mut V) -> bool>(&mut self, keep: F)
+    pub fn retain<F: FnMut(&K, &mut V) -> bool>(&mut self, mut keep: F)
     where
         K: Drop,
         V: Drop,
@@ -22,19 +22,34 @@ impl<K: Eq + Hash, V, S: BuildHasher> LinkedHashMap<K, V, S> {
             (state_of self.new) end }
         ensures distinct { IsEntries K.eq (entries_of self.new) }
     {
-        self.retain_with_order(keep);
+        self.retain_from(&mut keep);
     }
 
     /// Calls `keep` once on each entry, from the front, and removes those for which it returns false. It
     /// stores at most three links for each removal. `keep` has to be callable on each entry, in the state
     /// that its earlier calls have left it in.
-    pub fn retain_with_order<F: FnMut(&K, &mut V) -> bool>(&mut self, keep: F)
+    pub fn retain_with_order<F: FnMut(&K, &mut V) -> bool>(&mut self, mut keep: F)
     where
         K: Drop,
         V: Drop,
         requires { CallableOnEachPair (CalledAtPair F.FnMut) (TakesPair F.FnMut) keep (entries_of self.old) }
         ensures retained { (end : F) × RetainsInOrder (CalledAtPair F.FnMut) keep (state_of self.old)
             (state_of self.new) end }
+        ensures distinct { IsEntries K.eq (entries_of self.new) }
+    {
+        self.retain_from(&mut keep);
+    }
+
+    /// Does the same as `retain_with_order`, with a closure that the caller keeps: after the last call of
+    /// `keep`, the caller can read from it what its calls left in it.
+    pub fn retain_from<F: FnMut(&K, &mut V) -> bool>(&mut self, keep: &mut F)
+    where
+        K: Drop,
+        V: Drop,
+        requires { CallableOnEachPair (CalledAtPair F.FnMut) (TakesPair F.FnMut) keep.old
+            (entries_of self.old) }
+        ensures retained { RetainsInOrder (CalledAtPair F.FnMut) keep.old (state_of self.old)
+            (state_of self.new) keep.new }
         ensures distinct { IsEntries K.eq (entries_of self.new) }
     {
         self.list.retain_in_order(keep);

@@ -27,7 +27,7 @@ impl<T: Eq + Hash, S: BuildHasher> LinkedHashSet<T, S> {
     /// links if it is present and four if it is absent.
     ///
     /// It allocates only if the element is absent and no node is spare. If that allocation fails, it returns
-    /// the element in `Err` and changes nothing.
+    /// the element in `Err` and changes no element; the room may have grown.
     pub fn insert(&mut self, value: T) -> Result<bool, T>
     where
         T: Drop,
@@ -49,14 +49,14 @@ impl<T: Eq + Hash, S: BuildHasher> LinkedHashSet<T, S> {
     /// is present and at most four if it is absent.
     ///
     /// It allocates only if the element is absent and no node is spare. If that allocation fails, it returns
-    /// the element in `Err` and changes nothing.
+    /// the element in `Err` and changes no element; the room may have grown.
     pub fn replace(&mut self, value: T) -> Result<Option<T>, T>
         ensures replaces { SetReplaces T.eq self.old self.new value result }
         ensures elements { OnOk result (elements_of self.new ≡ replaced T.eq (elements_of self.old) value) }
         ensures old { IfOk result (λ old. old ≡ find (T.eq value) (elements_of self.old)) }
         ensures distinct { IsDistinct T.eq (elements_of self.new) }
     {
-        match let_in(&mut self.map, value) {
+        match replace_in_map(&mut self.map, value) {
             Ok(was) => Ok(was),
             Err((value, ())) => Err(value),
         }
@@ -67,7 +67,7 @@ impl<T: Eq + Hash, S: BuildHasher> LinkedHashSet<T, S> {
     /// stores at most six links if the element is present and four if it is absent.
     ///
     /// It allocates only if the element is absent and no node is spare. If that allocation fails, it returns
-    /// the element in `Err` and changes nothing.
+    /// the element in `Err` and changes no element; the room may have grown.
     pub fn get_or_insert(&mut self, value: T) -> Result<&T, T>
     where
         T: Drop,
@@ -86,7 +86,7 @@ impl<T: Eq + Hash, S: BuildHasher> LinkedHashSet<T, S> {
     /// It stores at most six links if the element is present, and four if it is absent.
     ///
     /// It allocates only if the element is absent and no node is spare. If that allocation fails, it returns
-    /// what `f` returned in `Err`, and changes nothing.
+    /// what `f` returned in `Err`, and changes no element; the room may have grown.
     pub fn get_or_insert_with<F: FnOnce(&T) -> T>(&mut self, value: &T, f: F) -> Result<&T, T>
     where
         T: Drop,
@@ -172,7 +172,7 @@ impl<T: Eq + Hash, S: BuildHasher> LinkedHashSet<T, S> {
 }
 
 /// Does the same as `replace`, on the map.
-fn let_in<T: Eq + Hash, S: BuildHasher>(
+fn replace_in_map<T: Eq + Hash, S: BuildHasher>(
     map: &mut LinkedHashMap<T, (), S>,
     value: T,
 ) -> Result<Option<T>, (T, ())>

@@ -14,7 +14,7 @@ use std::hash::{BuildHasher, Hash};
 /// evicts.
 ///
 /// It compares before it adds, so no sum wraps.
-pub(super) fn drop_until_fitting<K: Eq + Hash + Drop, V: Drop, S: BuildHasher>(
+pub(super) fn evict_until_fitting<K: Eq + Hash + Drop, V: Drop, S: BuildHasher>(
     map: &mut LinkedHashMap<K, (V, u64), S>,
     others: u64,
     weight: u64,

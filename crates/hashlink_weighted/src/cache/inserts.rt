@@ -6,7 +6,7 @@ ghost use Rattle.hashlink_weighted.specs.Weighed.{weight_or_none};
 ghost use Rattle.hashlink_weighted.specs.declared.error.WeightError.TheVariants.{TooHeavy};
 
 use super::WeightedCache;
-use super::dropping::drop_until_fitting;
+use super::dropping::evict_until_fitting;
 use crate::error::WeightError;
 use std::hash::{BuildHasher, Hash};
 
@@ -49,7 +49,7 @@ impl<K: Eq + Hash, V, S: BuildHasher> WeightedCache<K, V, S> {
             Ok(old) => {
                 let (old_value, old_weight) = take_apart(old);
                 let others = self.total - old_weight;
-                self.total = drop_until_fitting(&mut self.map, others, weight, self.budget);
+                self.total = evict_until_fitting(&mut self.map, others, weight, self.budget);
                 Ok(old_value)
             }
             Err(pair) => {

@@ -5,4 +5,5 @@ use Rattle.hashlink_algebra.proofs.lookup.contains.Goals as goal
 
 pub returns : goal.returns
 returns g c =
-    c.contains_key.ensures.found ∙ member-found (entries_of c.args.map.now) (g.T.PartialEq.eq c.args.element.now)
+    c.contains_key.ensures.found ∙ member-found (entries_of c.args.map.now)
+    (g.T.PartialEq.eq c.args.element.now)

@@ -1,4 +1,5 @@
-use Rattle.std.proofs.Common.{◌≡◌, false, Option, Some, None, IsSome, IsTrue, ◌∷◌, ◌++◌, slice_set, refl, sym, ap, ◌∙◌, subst}
+use Rattle.std.proofs.Common.{◌≡◌, false, Option, Some, None, IsSome, IsTrue, ◌∷◌, ◌++◌, slice_set, refl, sym}
+use Rattle.std.proofs.Common.{ap, ◌∙◌, subst}
 use Rattle.std.proofs.lemmas.Bool.{false≢true}
 use Rattle.std.proofs.Math.Seq.{map-set_same}
 use Rattle.std.specs.Prelude.{IsPermutation}
@@ -26,7 +27,8 @@ returns-then-is_taken-clause-nodes g c =
     let later = nodes_in c.chain.new.cells.items in
     subst (λ ns. IsPermutation (c.args.kept ∷ (nodes_in firsts ++ overs)) (ns ++ later))
     (sym (nodes_in-same firsts c.chain.new.firsts c.chain.ensures.firsts))
-    (IsPermutation-trans _ _ _ (IsPermutation-sym _ _ (IsPermutation-middle (nodes_in firsts) c.args.kept overs))
+    (IsPermutation-trans _ _ _ (IsPermutation-sym _ _ (IsPermutation-middle
+    (nodes_in firsts) c.args.kept overs))
     (IsPermutation-append_right (nodes_in firsts) _ _ c.chain.ensures.nodes))
 
 pub returns-else-is_taken-clause-linked : goal.returns-else-is_taken-clause-linked

@@ -1,4 +1,5 @@
-use Rattle.std.proofs.Common.{◌≡◌, ℕ, ◌<◌, ◌%◌, List, length, get_or, cond, is_some, false, sym, ap, ◌∙◌, subst}
+use Rattle.std.proofs.Common.{◌≡◌, ℕ, ◌<◌, ◌%◌, List, length, get_or, cond, is_some, false, sym, ap, ◌∙◌}
+use Rattle.std.proofs.Common.{subst}
 use Rattle.std.proofs.Common.{arith}
 use Rattle.std.proofs.lemmas.Option.{MatchOption-at_none}
 use Rattle.std.proofs.lemmas.List.{get_or_read}
@@ -53,8 +54,10 @@ loop-at-init g c =
           (first.1 ∙ sym c.next-at.ensures.value),
       λ node here. elim c.match-look.branch as (λ _. g.F.Fn.post c.args.is_match (node, tt) false) [
         | in-Some+else-is_match w ↦
-            let same : w.in-Some.node ≡ node = same_node _ _ (sym w.in-Some.ensures.here ∙ sym first.0 ∙ here) in
-            subst (λ (n : g.row.N.Denot). g.F.Fn.post c.args.is_match (n, tt) false) same w.if-is_match.ensures
+            let same : w.in-Some.node ≡ node = same_node _ _ (sym w.in-Some.ensures.here ∙ sym first.0 ∙
+            here) in
+            subst (λ (n : g.row.N.Denot). g.F.Fn.post c.args.is_match (n, tt) false) same
+            w.if-is_match.ensures
         | in_default w ↦ absurd
             (MatchOption-at_none _ (λ _. ⊤) w.in_default.is c.look.ensures.not_here node (sym first.0 ∙ here))
       ],
@@ -101,7 +104,8 @@ returns-then-is_match-2-clause-cost g c =
     ≡ in_bucket cells (length firsts) (c.args.hash % length firsts)
     = ap (λ m. in_bucket cells m (c.args.hash % m)) n in
     let own : cond {A = ℕ} (is_some (kept_at firsts (c.args.hash % length firsts))) 1 0
-    ≡ cond (is_some c.index-firsts-bucket_of.result.kept) 1 0 = ap (λ o. cond {A = ℕ} (is_some o) 1 0) first.0 in
+    ≡ cond (is_some c.index-firsts-bucket_of.result.kept) 1 0 = ap
+    (λ o. cond {A = ℕ} (is_some o) 1 0) first.0 in
     let read = walk_read heads cells c.args.hash c.loop-at.invariant.0.walk power
     c.loop-at-test.true c.index-cells-at.result c.index-cells-at.is in
     let some = walk_some heads cells c.args.hash c.loop-at.invariant.0.walk power c.loop-at-test.true in
@@ -150,7 +154,8 @@ loop-at-preserved g c =
             | in_default-look w ↦ absurd
                 (MatchOption-at_none _ (λ _. ⊤) w.in_default-look.is c.look-in-loop-at.ensures.not_here node
                 (sym read.0 ∙ here))
-          ]) _ _ (read.1 ∙ sym c.next-at-in-loop-at.ensures.value) (omega (arith, one, c.look-in-loop-at.ensures.step)),
+          ]) _ _ (read.1 ∙ sym c.next-at-in-loop-at.ensures.value)
+          (omega (arith, one, c.look-in-loop-at.ensures.step)),
       c.loop-at.invariant.1,
     )
 
@@ -174,5 +179,6 @@ returns-clause-cost g c =
     ≡ in_bucket cells (length firsts) (c.args.hash % length firsts)
     = ap (λ m. in_bucket cells m (c.args.hash % m)) n in
     let own : cond {A = ℕ} (is_some (kept_at firsts (c.args.hash % length firsts))) 1 0
-    ≡ cond (is_some c.index-firsts-bucket_of.result.kept) 1 0 = ap (λ o. cond {A = ℕ} (is_some o) 1 0) first.0 in
+    ≡ cond (is_some c.index-firsts-bucket_of.result.kept) 1 0 = ap
+    (λ o. cond {A = ℕ} (is_some o) 1 0) first.0 in
     omega (arith, c.loop-at.invariant.0.cost, all, own, c.look.ensures.step)

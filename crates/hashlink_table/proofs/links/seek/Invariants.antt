@@ -3,7 +3,8 @@ use Rattle.hashlink_table.specs.Chains.{next_at, kept_at, chain_at, links_of}
 use Rattle.hashlink_table.proofs.Walks.{IsSearch, steps_left, in_bucket}
 use Rattle.hashlink_table.proofs.links.seek.Given as goal
 
--- the bucket's own cell has not the node; where no cell that is still to come has it, none has; and there is a
+-- the bucket's own cell has not the node; where no cell that is still to come has it, none has; and there is
+-- a
 -- step for each cell of the bucket
 abbrev pub invariant-loop-at : goal.invariant-loop-at
 invariant-loop-at g l =

@@ -12,7 +12,8 @@ use Rattle.hashlink_table.proofs.links.take.Goals as goal
 
 pub take_out-follower-requires-clause-on_chain : goal.take_out-follower-requires-clause-on_chain
 take_out-follower-requires-clause-on_chain g c =
-    follower_on c.args.firsts.now c.args.cells.now c.args.free.now c.args.bucket c.next-next.result c.requires.linked
+    follower_on c.args.firsts.now c.args.cells.now c.args.free.now c.args.bucket c.next-next.result
+    c.requires.linked
     c.requires.within
     (sym (c.next-next.ensures.value
     ∙ next_at_read c.args.firsts.now c.args.bucket c.index-firsts-bucket-in-First.result c.requires.within))

@@ -71,7 +71,12 @@ loop-cells-smaller g c =
 pub loop-cells-preserved : goal.loop-cells-preserved
 loop-cells-preserved g c =
     let heads = links_of c.args.firsts.now in let cells = c.args.cells.now in
-    let low : c.args.bucket < length heads = omega (arith, c.requires.within, length-links c.args.firsts.now) in
+    let low : c.args.bucket < length heads = omega (
+      arith,
+      c.requires.within,
+      length-links
+          c.args.firsts.now,
+    ) in
     let w = c.loop-cells.invariant.walk in
     let r = walk_on w (walk_goes w c.args.cell c.loop-cells.invariant.to_come) in
     let next = c.next-at-in-loop-cells.ensures.value

@@ -6,7 +6,8 @@ use Rattle.hashlink_table.proofs.links.unlink.Given as goal
 -- the cell is still to come
 abbrev pub invariant-loop-cells : goal.invariant-loop-cells
 invariant-loop-cells g l = record {
-  walk : IsWalk (next_at l.cells) (chain_at (length (links_of l.firsts)) l.cells) l.bucket l.at (length l.cells);
+  walk : IsWalk (next_at l.cells) (chain_at (length (links_of l.firsts)) l.cells) l.bucket l.at
+      (length l.cells);
   to_come : Among walk.path l.cell;
   apart : l.at ≢ l.cell;
   within : l.at < length l.cells;

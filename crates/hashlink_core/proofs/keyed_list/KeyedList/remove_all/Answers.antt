@@ -10,4 +10,4 @@ returns g c =
     let old = c.args.self.now in
     subst (KeepsOnly (state_of old) (state_of c.retain_in_order.new.self)) (none-passes (entries_of old))
     (retained_by_predicate _ (λ e. false) (λ f k v b w g call. search rules) _ _ _ _
-    c.retain_in_order.ensures.retained.1)
+    c.retain_in_order.ensures.retained)

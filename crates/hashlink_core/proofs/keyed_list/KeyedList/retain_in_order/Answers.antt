@@ -9,7 +9,7 @@ use Rattle.hashlink_core.proofs.keyed_list.KeyedList.retain_in_order.Goals as go
 
 pub loop-place-init : goal.loop-place-init
 loop-place-init g c = (
-  retaining-first (CalledAtPair g.F.FnMut) (TakesPair g.F.FnMut) c.args.keep c.args.self.now
+  retaining-first (CalledAtPair g.F.FnMut) (TakesPair g.F.FnMut) c.args.keep.now c.args.self.now
       c.first-place.result c.first-place.ensures.place c.requires,
   c.first-place.ensures.sound,
 )
@@ -17,7 +17,7 @@ loop-place-init g c = (
 pub keep-requires : goal.keep-requires
 keep-requires g c =
     let at = c.loop-place in
-    takes-pair (CalledAtPair g.F.FnMut) (TakesPair g.F.FnMut) c.args.keep c.args.self.now
+    takes-pair (CalledAtPair g.F.FnMut) (TakesPair g.F.FnMut) c.args.keep.now c.args.self.now
     at.keep at.self at.place
     c.in-Some.node c.in-Some.is at.invariant.0 _ _ c.entry_mut-value.ensures.pair _ _ refl refl
 
@@ -30,7 +30,7 @@ remove-requires g c =
 pub loop-place-smaller-then-not-keep : goal.loop-place-smaller-then-not-keep
 loop-place-smaller-then-not-keep g c =
     let at = c.loop-place in
-    fewer-left_then (CalledAtPair g.F.FnMut) (TakesPair g.F.FnMut) c.args.keep c.args.self.now
+    fewer-left_then (CalledAtPair g.F.FnMut) (TakesPair g.F.FnMut) c.args.keep.now c.args.self.now
     at.keep at.self at.place
     c.in-Some.node c.in-Some.is at.invariant.0 _ _ c.entry_mut-value.ensures.pair
     c.keep.new.arg3 c.keep.new.self
@@ -41,7 +41,7 @@ loop-place-smaller-then-not-keep g c =
 pub loop-place-preserved-then-not-keep : goal.loop-place-preserved-then-not-keep
 loop-place-preserved-then-not-keep g c =
     let at = c.loop-place in (
-      retaining-left (CalledAtPair g.F.FnMut) (TakesPair g.F.FnMut) c.args.keep
+      retaining-left (CalledAtPair g.F.FnMut) (TakesPair g.F.FnMut) c.args.keep.now
           c.args.self.now at.keep at.self
           at.place c.in-Some.node c.in-Some.is at.invariant.0 _ _ c.entry_mut-value.ensures.pair
           c.keep.new.arg3
@@ -55,7 +55,7 @@ loop-place-preserved-then-not-keep g c =
 pub loop-place-smaller : goal.loop-place-smaller
 loop-place-smaller g c =
     let at = c.loop-place in
-    fewer-left (CalledAtPair g.F.FnMut) (TakesPair g.F.FnMut) c.args.keep c.args.self.now
+    fewer-left (CalledAtPair g.F.FnMut) (TakesPair g.F.FnMut) c.args.keep.now c.args.self.now
     at.keep at.self at.place
     c.in-Some.node c.in-Some.is at.invariant.0 _ _ c.entry_mut-value.ensures.pair
     c.keep.new.arg3 c.keep.new.self
@@ -64,7 +64,7 @@ loop-place-smaller g c =
 pub loop-place-preserved : goal.loop-place-preserved
 loop-place-preserved g c =
     let at = c.loop-place in (
-      retaining-kept (CalledAtPair g.F.FnMut) (TakesPair g.F.FnMut) c.args.keep
+      retaining-kept (CalledAtPair g.F.FnMut) (TakesPair g.F.FnMut) c.args.keep.now
           c.args.self.now at.keep at.self
           at.place c.in-Some.node c.in-Some.is at.invariant.0 _ _ c.entry_mut-value.ensures.pair
           c.keep.new.arg3
@@ -76,8 +76,7 @@ loop-place-preserved g c =
 
 pub returns-clause-retained : goal.returns-clause-retained
 returns-clause-retained g c =
-    let at = c.loop-place in (
-      at.keep,
-      retained-all (CalledAtPair g.F.FnMut) (TakesPair g.F.FnMut) c.args.keep c.args.self.now at.keep at.self
-          at.place c.in_default.is at.invariant.0,
-    )
+    let at = c.loop-place in
+    retained-all (CalledAtPair g.F.FnMut) (TakesPair g.F.FnMut) c.args.keep.now c.args.self.now at.keep
+    at.self
+    at.place c.in_default.is at.invariant.0

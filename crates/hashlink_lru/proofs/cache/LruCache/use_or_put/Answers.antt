@@ -19,5 +19,6 @@ returns-clause-used g c =
     let other = c.if-len-before.false in
     let keeps = c.keep_last.ensures.keeps in
     used_new g.K.PartialEq.eq _ (state_in c.args.self.now) (state_in c.keep_last.new.self)
-    (state_of c.move_or_make.new.map) c.args.key c.in_ok-move_or_make.ensures.puts (λ same. omega arith) c.max.result c.max.ensures
+    (state_of c.move_or_make.new.map) c.args.key c.in_ok-move_or_make.ensures.puts
+    (λ same. omega arith) c.max.result c.max.ensures
     keeps.map keeps.cap

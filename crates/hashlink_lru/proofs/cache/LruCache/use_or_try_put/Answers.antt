@@ -9,7 +9,8 @@ returns-then-len-before-clause-used g c =
     let after = c.len.ensures.len in
     let before = c.len-before.ensures.len in
     let same = c.if-len-before.true in
-    used_there g.K.PartialEq.eq _ (state_in c.args.self.now) _ (state_of c.move_or_try_make.new.map) c.args.key
+    used_there g.K.PartialEq.eq _ (state_in c.args.self.now) _
+    (state_of c.move_or_try_make.new.map) c.args.key
     c.in_ok-move_or_try_make.ensures.puts (omega arith) refl refl
 
 pub returns-clause-used : goal.returns-clause-used
@@ -19,5 +20,6 @@ returns-clause-used g c =
     let other = c.if-len-before.false in
     let keeps = c.keep_last.ensures.keeps in
     used_new g.K.PartialEq.eq _ (state_in c.args.self.now) (state_in c.keep_last.new.self)
-    (state_of c.move_or_try_make.new.map) c.args.key c.in_ok-move_or_try_make.ensures.puts (λ same. omega arith) c.max.result c.max.ensures
+    (state_of c.move_or_try_make.new.map) c.args.key c.in_ok-move_or_try_make.ensures.puts
+    (λ same. omega arith) c.max.result c.max.ensures
     keeps.map keeps.cap

@@ -8,7 +8,8 @@ use Rattle.hashlink_set.proofs.set.LinkedHashSet.difference.Goals as goal
 pub returns-clause-rest : goal.returns-clause-rest
 returns-clause-rest g c =
     c.of.ensures.rest
-    ∙ ap₂ (λ s t. difference_of g.T.PartialEq.eq (elements_of s) (elements_of t)) c.self.view_is c.other.view_is
+    ∙ ap₂ (λ s t. difference_of g.T.PartialEq.eq (elements_of s) (elements_of t)) c.self.view_is
+    c.other.view_is
 
 pub returns-clause-unique : goal.returns-clause-unique
 returns-clause-unique g c = c.of.ensures.unique

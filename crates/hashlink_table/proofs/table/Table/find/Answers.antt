@@ -40,7 +40,8 @@ returns-in-None-clause-cost g c =
     let t = c.self.inside in let s = c.self.invariant in
     let some : 0 < length t.firsts.items = omega (arith, c.if-self-eq0.false, s.held, s.headed) in
     let room = ap (λ (u : Contents g.row.N.Denot). u.room) c.self.view_is in
-    let all = searched_agree t.firsts.items t.overs.items t.room c.args.hash c.args.self.now c.self.view_is some
+    let all = searched_agree t.firsts.items t.overs.items t.room c.args.hash c.args.self.now c.self.view_is
+    some
     s.in_place in
     let cost = rw (c.deref.ensures.value, c.deref-2.ensures.value) at c.seek.ensures.cost in
     (length t.firsts.items, some, omega (arith, room, s.headed), omega (arith, all, cost))
@@ -66,7 +67,8 @@ returns-in-Some-clause-cost g c =
     let t = c.self.inside in let s = c.self.invariant in
     let some : 0 < length t.firsts.items = omega (arith, c.if-self-eq0.false, s.held, s.headed) in
     let room = ap (λ (u : Contents g.row.N.Denot). u.room) c.self.view_is in
-    let all = searched_agree t.firsts.items t.overs.items t.room c.args.hash c.args.self.now c.self.view_is some
+    let all = searched_agree t.firsts.items t.overs.items t.room c.args.hash c.args.self.now c.self.view_is
+    some
     s.in_place in
     let cost = rw (c.deref.ensures.value, c.deref-2.ensures.value) at c.seek.ensures.cost in
     (length t.firsts.items, some, omega (arith, room, s.headed), omega (arith, all, cost))

@@ -1,4 +1,5 @@
-use Rattle.std.proofs.Common.{◌≡◌, ◌+◌, ◌++◌, [], ◌∷◌, length, take, Option, None, Some, refl, sym, ap, ◌∙◌, subst, arith}
+use Rattle.std.proofs.Common.{◌≡◌, ◌+◌, ◌++◌, [], ◌∷◌, length, take, Option, None, Some, refl, sym, ap, ◌∙◌}
+use Rattle.std.proofs.Common.{subst, arith}
 use Rattle.std.specs.Prelude.{IsPermutation}
 use Rattle.std.proofs.lemmas.List.{append-nil, length-append, length_push, take_all}
 use Rattle.std.proofs.lemmas.List.Sorted.{IsPermutation-refl, length_permutation}
@@ -41,11 +42,13 @@ loop-cell-preserved g c =
     let old = c.args.self.now.nodes in
     let so_far = nodes_in (take i cells) in
     let more = nodes_in-more cells i c.cell-item.result c.loop-cell-test.true c.cell-item.is in
-    let with : Option (Kept g.row.N.Denot) → Type 0 = λ o. nodes_in (take (i + 1) cells) ≡ so_far ++ with_node o [] in
+    let with : Option (Kept g.row.N.Denot) → Type 0 = λ o. nodes_in (take (i + 1) cells)
+    ≡ so_far ++ with_node o [] in
     elim c.match-kept.branch [
       | in-Some w ↦
           let one : with (Some w.in-Some.kept) = subst with (sym c.kept.ensures ∙ w.in-Some.is) more in
-          let step = subst (λ (t : Contents g.row.N.Denot). IsPermutation (w.in-Some.kept ∷ c.loop-cell.self.nodes) t.nodes)
+          let step = subst (λ (t : Contents g.row.N.Denot). IsPermutation
+          (w.in-Some.kept ∷ c.loop-cell.self.nodes) t.nodes)
           (sym w.self-is) w.insert_reserved.ensures.inserted in
           record {
             inserted =
@@ -59,7 +62,8 @@ loop-cell-preserved g c =
           let none : with None = subst with (sym c.kept.ensures ∙ w.in_default.is) more in
           record {
             inserted =
-                subst (λ ks. IsPermutation (old ++ ks) c.match-kept.self.nodes) (sym (none ∙ append-nil so_far))
+                subst (λ ks. IsPermutation (old ++ ks) c.match-kept.self.nodes)
+                (sym (none ∙ append-nil so_far))
                 (subst (λ (t : Contents g.row.N.Denot). IsPermutation (old ++ so_far) t.nodes) (sym w.self-is)
                 c.loop-cell.invariant.inserted);
             room = ap (λ (t : Contents g.row.N.Denot). t.room) w.self-is ∙ c.loop-cell.invariant.room;

@@ -20,7 +20,8 @@ into_empty {N} empty room cells read now none same p =
 pub insert_all-requires-2 : goal.insert_all-requires-2
 insert_all-requires-2 g c =
     let t = c.self.inside in
-    let first = into_empty c.in_ok-table.table c.args.room t.firsts.items c.deref.result.now _ c.in_ok-table.ensures
+    let first = into_empty c.in_ok-table.table c.args.room t.firsts.items c.deref.result.now _
+    c.in_ok-table.ensures
     c.deref.ensures.value c.insert_all.ensures.inserted in
     omega (
       arith,
@@ -36,12 +37,14 @@ insert_all-requires-2 g c =
 pub returns-clause-nodes : goal.returns-clause-nodes
 returns-clause-nodes g c =
     let t = c.self.inside in
-    let first = into_empty c.in_ok-table.table c.args.room t.firsts.items c.deref.result.now _ c.in_ok-table.ensures
+    let first = into_empty c.in_ok-table.table c.args.room t.firsts.items c.deref.result.now _
+    c.in_ok-table.ensures
     c.deref.ensures.value c.insert_all.ensures.inserted in
     let both = IsPermutation-trans _ _ _
     (IsPermutation-append_left (nodes_in t.overs.items) _ _ first)
     (rw c.deref-2.ensures.value at c.insert_all-2.ensures.inserted) in
     subst (λ (u : Contents g.row.N.Denot). IsPermutation u.nodes
     (nodes_in c.drop.inside.firsts.items ++ nodes_in c.drop.inside.overs.items)) c.self.view_is
-    (subst (λ (u : Contents g.row.N.Denot). IsPermutation (nodes_in t.firsts.items ++ nodes_in t.overs.items) u.nodes)
+    (subst (λ (u : Contents g.row.N.Denot). IsPermutation (nodes_in t.firsts.items ++ nodes_in
+    t.overs.items) u.nodes)
     (sym c.drop.view_is) both)

@@ -10,9 +10,9 @@ overflow_sub-others g c =
     c.args.key c.args.value
     c.args.weight c.in-Ok.old c.in-Ok.ensures.inserts c.self.inside.total c.self.invariant.sum)
 
-pub drop_until_fitting-self-inside-requires-clause-last :
-    goal.drop_until_fitting-self-inside-requires-clause-last
-drop_until_fitting-self-inside-requires-clause-last g c =
+pub evict_until_fitting-self-inside-requires-clause-last :
+    goal.evict_until_fitting-self-inside-requires-clause-last
+evict_until_fitting-self-inside-requires-clause-last g c =
     rw c.take_apart-old_value.ensures
     (leaves_last g.K.PartialEq.eq (state_of c.self.inside.map) (state_of c.insert.new.self)
     c.args.key c.args.value
@@ -24,5 +24,5 @@ returns-in-Ok-clause-inserts g c =
     rw (c.take_apart-old_value.ensures, ← c.self.view_is)
     (accepts g.K.PartialEq.eq (state_of c.self.inside.map) (state_of c.insert.new.self)
     c.args.key c.args.value
-    c.args.weight c.in-Ok.old c.in-Ok.ensures.inserts (state_of c.drop_until_fitting-self-inside.new.map)
-    c.self.inside.budget fits c.drop_until_fitting-self-inside.ensures.keeps)
+    c.args.weight c.in-Ok.old c.in-Ok.ensures.inserts (state_of c.evict_until_fitting-self-inside.new.map)
+    c.self.inside.budget fits c.evict_until_fitting-self-inside.ensures.keeps)

@@ -1,9 +1,9 @@
 use Rattle.std.proofs.Common.{refl, arith, ◌≡◌, ◌≤◌, ◌-◌}
 use Rattle.hashlink_core.specs.Keyed.{state_of}
 use Rattle.hashlink_weighted.proofs.Dropping.{none_dropped, drops_one, not_none, drops_enough}
-use Rattle.hashlink_weighted.proofs.cache.dropping.drop_until_fitting.Goals.{else-loop-others-test}
-use Rattle.hashlink_weighted.proofs.cache.dropping.drop_until_fitting.Goals.{then-loop-others-test+in_default}
-use Rattle.hashlink_weighted.proofs.cache.dropping.drop_until_fitting.Goals as goal
+use Rattle.hashlink_weighted.proofs.cache.dropping.evict_until_fitting.Goals.{else-loop-others-test}
+use Rattle.hashlink_weighted.proofs.cache.dropping.evict_until_fitting.Goals.{then-loop-others-test+in_default}
+use Rattle.hashlink_weighted.proofs.cache.dropping.evict_until_fitting.Goals as goal
 
 pub loop-others-init : goal.loop-others-init
 loop-others-init g c =

@@ -2,7 +2,7 @@ use Rattle.std.proofs.Common.{◌≡◌, ◌-◌, length}
 use Rattle.hashlink_core.specs.Keyed.{state_of, entries_of}
 use Rattle.hashlink_model.specs.Entries.{IsEntries}
 use Rattle.hashlink_weighted.proofs.Dropping.{HasDropped}
-use Rattle.hashlink_weighted.proofs.cache.dropping.drop_until_fitting.Given as goal
+use Rattle.hashlink_weighted.proofs.cache.dropping.evict_until_fitting.Given as goal
 
 abbrev pub invariant-loop-others : goal.invariant-loop-others
 invariant-loop-others g l = record {

@@ -1,6 +1,6 @@
 use Rattle.std.proofs.Common.{sym, ◌&&◌, ◌∙◌}
 use Rattle.std.specs.Cmp.Lexicographic.{unequal}
-use Rattle.hashlink_core.proofs.compare.walks_eq.Goals as goal
+use Rattle.hashlink_core.proofs.compare.iter_eq.Goals as goal
 
 pub returns-then-len : goal.returns-then-len
 returns-then-len g c =

@@ -1,0 +1,119 @@
+//! What `misscurve` does, in Rust over hashlink, to compare its time with (docs/dev/speed.md).
+//!
+//! curve-bench            one pass over the trace on standard input, by the same algorithm
+//! curve-bench caches N   N caches, of N capacities up to the number of distinct keys, given the same keys
+
+use hashlink::{LinkedHashMap, LruCache};
+use std::io::{self, BufRead};
+
+/// Marks at places, in a binary tree of sums whose leaves are the places.
+struct Marks {
+    sums: Vec<usize>,
+    width: usize,
+}
+
+impl Marks {
+    fn with_places(places: usize) -> Marks {
+        let width = places.next_power_of_two();
+        Marks { sums: vec![0; 2 * width], width }
+    }
+
+    fn before(&self, place: usize) -> usize {
+        let mut node = self.width + place;
+        let mut count = 0;
+        while node > 1 {
+            if node % 2 == 1 {
+                count += self.sums[node - 1];
+            }
+            node /= 2;
+        }
+        count
+    }
+
+    fn add(&mut self, place: usize, change: isize) {
+        let mut node = self.width + place;
+        while node > 0 {
+            self.sums[node] = self.sums[node].wrapping_add_signed(change);
+            node /= 2;
+        }
+    }
+}
+
+/// Keys in the order of their last uses, and how often each number of others was used between two uses.
+struct Curve {
+    places: LinkedHashMap<Vec<u8>, usize>,
+    marks: Marks,
+    next: usize,
+    reuses: Vec<u64>,
+}
+
+impl Curve {
+    fn new() -> Curve {
+        Curve { places: LinkedHashMap::new(), marks: Marks::with_places(1), next: 0, reuses: Vec::new() }
+    }
+
+    fn record(&mut self, key: Vec<u8>) {
+        if self.next == self.marks.width {
+            self.renumber();
+        }
+        let count = self.places.len();
+        match self.places.insert(key, self.next) {
+            Some(place) => {
+                self.reuses[count - 1 - self.marks.before(place)] += 1;
+                self.marks.add(place, -1);
+            }
+            None => self.reuses.push(0),
+        }
+        self.marks.add(self.next, 1);
+        self.next += 1;
+    }
+
+    fn renumber(&mut self) {
+        self.marks = Marks::with_places(2 * self.places.len() + 1);
+        for (place, (_, old)) in self.places.iter_mut().enumerate() {
+            *old = place;
+            self.marks.add(place, 1);
+        }
+        self.next = self.places.len();
+    }
+}
+
+fn main() {
+    let lines = io::stdin().lock().split(b'\n').map(|line| line.expect("reading failed"));
+    let arguments: Vec<String> = std::env::args().collect();
+    if let [_, word, number] = &arguments[..] {
+        assert_eq!(word, "caches");
+        return run_caches(lines.collect(), number.parse().expect("a number"));
+    }
+    let mut curve = Curve::new();
+    let mut uses = 0;
+    for key in lines {
+        curve.record(key);
+        uses += 1;
+    }
+    println!("# {} uses of {} keys", uses, curve.places.len());
+    let mut misses = uses;
+    for (others, count) in curve.reuses.iter().enumerate() {
+        misses -= count;
+        if *count > 0 {
+            println!("{} {}", others + 1, misses);
+        }
+    }
+}
+
+/// Prints how often a cache of each of so many capacities misses.
+fn run_caches(keys: Vec<Vec<u8>>, number: usize) {
+    let distinct = keys.iter().collect::<std::collections::HashSet<_>>().len();
+    for part in 1..=number {
+        let capacity = distinct * part / number;
+        let mut cache = LruCache::new(capacity);
+        let mut misses = 0;
+        for key in &keys {
+            if cache.get(key).is_none() {
+                misses += 1;
+                cache.insert(key.clone(), ());
+            }
+        }
+        println!("{capacity} {misses}");
+    }
+}
