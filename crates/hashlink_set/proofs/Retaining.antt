@@ -1,5 +1,5 @@
 -- What the calls of a closure at pairs are to another one that it calls at each element.
-use Rattle.std.proofs.Common.{Bool, List, [], ◌∷◌, ap}
+use Rattle.std.proofs.Common.{◌≡◌, Bool, List, [], ◌∷◌, ◌∙◌, ap, subst, sym}
 use Rattle.std.specs.List.{FoldsTo}
 use Rattle.std.specs.Map.Calls.{CallableOnEachPair, SomeCallAtPair}
 use Rattle.hashlink_model.specs.Retain.{KeepsInOrder, RetainsInOrder}
@@ -34,3 +34,15 @@ module _ {C F T : Type 0} (see : C → F) (P : C → T → Unit {0} → Bool →
     at = λ before after d t v e calls. serves d t
         (h.at before after (see d) t v e (folds_seen c before d calls));
   }
+
+-- what no call changes of a closure, such as the reference that it holds, is as it was after all of them
+module _ {C N T : Type 0} (name : C → N) (P : C → T → Unit {0} → Bool → Unit {0} → C → Type 0)
+    (keeps : (c : C) (t : T) (b : Bool) (d : C) → P c t tt b tt d → name d ≡ name c) where
+  pub name_kept : (c : C) (es kept : List (T × Unit {0})) (d : C) → KeepsInOrder P c es kept d
+      → name c ≡ name d
+  name_kept c [] kept d r = sym (ap name r.1)
+  name_kept c (e ∷ es) kept d r = sym (keeps c e.0 r.0 r.2 r.4) ∙ name_kept r.2 es r.3 d r.5
+
+-- what holds of the value behind a reference holds of the variable that was lent by it
+pub back : {V N : Type 0} (P : V → Type 0) {x v : V} {a b : N} → (a ≡ b → x ≡ v) → a ≡ b → P v → P x
+back P is name p = subst P (sym (is name)) p

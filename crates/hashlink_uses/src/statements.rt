@@ -8,13 +8,14 @@ ghost use Rattle.hashlink_uses.specs.Texts.{is_text, PutsText};
 
 use hashlink::LruCache;
 use std::alloc::Global;
+use std::hash::BuildHasher;
 
 /// Returns the statement of a text from a cache of texts. A text is looked up as it is. If the cache has no
 /// statement for it, `prepare` makes one, which is kept with a copy of the text unless an allocation fails.
 ///
 /// The cache has no more entries beyond its capacity than before, so none if it had none.
-pub fn get_or_prepare<P: Copy, F: FnOnce(&str) -> P>(
-    cache: &mut LruCache<String, P>,
+pub fn get_or_prepare<P: Copy, F: FnOnce(&str) -> P, S: BuildHasher>(
+    cache: &mut LruCache<String, P, S>,
     alloc: Global,
     sql: &str,
     prepare: F,

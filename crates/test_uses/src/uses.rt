@@ -6,10 +6,11 @@ ghost use Rattle.std.specs.Cmp.Rules.{comparing};
 use crate::passes;
 use hashlink::linked_hash_map::TryInsertError;
 use hashlink::run::Reply;
-use hashlink::{LinkedHashMap, LruCache};
+use hashlink::{LinkedHashMap, LinkedHashSet, LruCache};
 use hashlink_uses::commands::remove_then_insert;
 use hashlink_uses::config::Settings;
 use hashlink_uses::everyday::{value_or, value_or_made};
+use hashlink_uses::maps::retains::{take_even, take_zeros};
 use hashlink_uses::memo::{Function, Memo};
 use hashlink_uses::queue::Queue;
 use hashlink_uses::statements::get_or_prepare;
@@ -127,4 +128,32 @@ fn is_made_once(alloc: Global) -> bool {
 #[test]
 fn a_value_is_made_once(rt: HostRuntime) -> ExitCode {
     passes(is_made_once(rt.alloc()))
+}
+
+/// How many of three zeros among four values are taken where two may be, and how many entries are left.
+fn zeros_taken(alloc: Global) -> Option<(usize, usize)> {
+    let mut map = LinkedHashMap::new(alloc);
+    for (key, value) in [(1u8, 0u64), (2, 5), (3, 0), (4, 0)] {
+        map.insert(key, value).ok()?;
+    }
+    Some((take_zeros(&mut map, 2), map.len()))
+}
+
+#[test]
+fn a_retain_counts_what_it_takes_of_a_map(rt: HostRuntime) {
+    assert_eq!(rt; zeros_taken(rt.alloc()), Some((2, 2)));
+}
+
+/// How many of the even elements of 1 to 4 are taken where three may be, and how many elements are left.
+fn even_taken(alloc: Global) -> Option<(usize, usize)> {
+    let mut set = LinkedHashSet::new(alloc);
+    for element in 1..5u64 {
+        set.insert(element).ok()?;
+    }
+    Some((take_even(&mut set, 3), set.len()))
+}
+
+#[test]
+fn a_retain_counts_what_it_takes_of_a_set(rt: HostRuntime) {
+    assert_eq!(rt; even_taken(rt.alloc()), Some((2, 2)));
 }

@@ -1,5 +1,5 @@
-//! Removals of the elements that a closure chooses. The others keep their order. Neither method allocates or
-//! hashes an element. Each node that becomes spare serves the next insert of an absent element.
+//! Removals of the elements that a closure chooses. The others keep their order. None of these methods allocates
+//! or hashes an element. Each node that becomes spare serves the next insert of an absent element.
 ghost use Rattle.std.specs.Fn.{CalledAt};
 ghost use Rattle.std.specs.List.{IsDistinct};
 ghost use Rattle.hashlink_model.specs.Retain.{RetainsInOrder};
@@ -13,7 +13,7 @@ impl<T: Eq + Hash, S: BuildHasher> LinkedHashSet<T, S> {
     /// Calls `keep` once on each element, and removes those for which it returns false. It stores at most
     /// three links for each removal. `keep` has to be callable on each element, in the state that its earlier
     /// calls have left it in.
-    pub fn retain<F: FnMut(&T) -> bool>(&mut self, keep: F)
+    pub fn retain<F: FnMut(&T) -> bool>(&mut self, mut keep: F)
     where
         T: Drop,
         requires { CallableOnEachElement F.FnMut keep self.old }
@@ -21,7 +21,7 @@ impl<T: Eq + Hash, S: BuildHasher> LinkedHashSet<T, S> {
             self.old self.new end }
         ensures distinct { IsDistinct T.eq (elements_of self.new) }
     {
-        self.retain_with_order(keep);
+        self.retain_from(&mut keep);
     }
 
     /// Calls `keep` once on each element, from the front, and removes those for which it returns false. It
@@ -35,9 +35,22 @@ impl<T: Eq + Hash, S: BuildHasher> LinkedHashSet<T, S> {
             self.old self.new end }
         ensures distinct { IsDistinct T.eq (elements_of self.new) }
     {
-        self.map.retain_with_order(
-            move |element, _|
-                requires { F.pre keep element }
+        self.retain_from(&mut keep);
+    }
+
+    /// Does the same as `retain_with_order`, with a closure that the caller keeps: after the last call of
+    /// `keep`, the caller can read from it what its calls left in it.
+    pub fn retain_from<F: FnMut(&T) -> bool>(&mut self, keep: &mut F)
+    where
+        T: Drop,
+        requires { CallableOnEachElement F.FnMut keep.old self.old }
+        ensures retained { RetainsInOrder (at_element (CalledAt F.FnMut)) keep.old self.old self.new
+            keep.new }
+        ensures distinct { IsDistinct T.eq (elements_of self.new) }
+    {
+        self.map.retain_from(
+            &mut |element: &T, _: &mut ()|
+                requires { F.pre keep.now element }
             { keep(element) },
         );
     }

@@ -1,9 +1,10 @@
-//! Retains, and what is known of a map after one.
-ghost use Rattle.std.specs.Prelude.{◌≡◌, ◌%◌, filter, nat_eq};
+//! Retains, and what is known of a map or a set after one.
+ghost use Rattle.std.specs.Prelude.{◌≡◌, ◌+◌, ◌%◌, ◌≤◌, cond, filter, length, nat_eq};
 ghost use Rattle.hashlink.specs.Steps.{KeepsOnly};
 ghost use Rattle.hashlink.specs.Keyed.{state_of, entries_of};
+ghost use Rattle.hashlink.specs.Sets.{elements_of};
 
-use hashlink::LinkedHashMap;
+use hashlink::{LinkedHashMap, LinkedHashSet};
 use std::hash::{BuildHasher, Hash};
 
 /// Keeps the entries whose value is even: a retain by a predicate is a filter.
@@ -12,4 +13,49 @@ pub fn keep_even<K: Eq + Hash + Drop, S: BuildHasher>(map: &mut LinkedHashMap<K,
         (filter (λ e. nat_eq (e.1 % 2) 0) (entries_of map.old)) }
 {
     map.retain(|_, value| *value % 2 == 0);
+}
+
+/// Removes the entries whose value is zero, but no more than `most`, those nearest to the front, and returns
+/// how many it removed. The closure counts, and the count is read after the retain.
+pub fn take_zeros<K: Eq + Hash + Drop, S: BuildHasher>(
+    map: &mut LinkedHashMap<K, u64, S>,
+    most: usize,
+) -> usize
+    ensures most { result ≤ most }
+    ensures taken { result + length (entries_of map.new) ≡ length (entries_of map.old) }
+{
+    let mut left = most;
+    map.retain_from(
+        &mut |_: &K, value: &mut u64|
+            ensures { left.exit + cond result 0 1 ≡ left.entry }
+        {
+            let leaves = *value == 0 && left > 0;
+            if leaves {
+                left -= 1;
+            }
+            !leaves
+        },
+    );
+    most - left
+}
+
+/// Removes the even elements, but no more than `most`, those nearest to the front, and returns how many it
+/// removed.
+pub fn take_even<S: BuildHasher>(set: &mut LinkedHashSet<u64, S>, most: usize) -> usize
+    ensures most { result ≤ most }
+    ensures taken { result + length (elements_of set.new) ≡ length (elements_of set.old) }
+{
+    let mut left = most;
+    set.retain_from(
+        &mut |element: &u64|
+            ensures { left.exit + cond result 0 1 ≡ left.entry }
+        {
+            let leaves = *element % 2 == 0 && left > 0;
+            if leaves {
+                left -= 1;
+            }
+            !leaves
+        },
+    );
+    most - left
 }
