@@ -36,8 +36,21 @@ class CacheModel(Model):
                 self.write(key, rest.optional())
             words.read = rest.read
             answers.value(used)
+        elif name in ("get_or_insert_with", "get_or_try_insert_with"):
+            words.read = rest.read
+            self.get_or_insert(words, answers)
         else:
             self.call(words, answers)
+
+    def get_or_insert(self, words, answers):
+        """Uses what is there, or puts what is made, which stays even where there is no room. After `fail`
+        nothing is made."""
+        key = words.name()
+        is_absent = self.list.find(key) is None
+        if self.try_insert(key, words, answers) and is_absent:
+            capacity, self.capacity = self.capacity, max(self.capacity, 1)
+            self.drop_first()
+            self.capacity = capacity
 
 
 class WeightedModel(Model):

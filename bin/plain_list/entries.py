@@ -26,6 +26,8 @@ class Entries:
             stands = self.or_insert((key, words.name()), words.optional(), answers)
             if stands:
                 answers.value(stands)
+        elif name == "or_try_insert_with":
+            self.try_insert(key, words, answers)
         elif name == "vacant":
             self.vacant(key, words, answers)
         elif old:
@@ -42,6 +44,24 @@ class Entries:
         stands = self.list.find(pair[0]) or pair
         self.put("back", stands)
         self.write(pair[0], value)
+        return stands
+
+    def try_insert(self, key, words, answers):
+        """As `or_insert`, but after `fail` nothing is made, and where the key is absent, that is handed back
+        with why. Returns what stands there then."""
+        rest = words.copy()
+        if rest.word() != "fail":
+            stands = self.or_insert((key, words.name()), words.optional(), answers)
+        else:
+            words.read = rest.read
+            why, stands = words.name(), self.list.find(key)
+            if stands:
+                self.put("back", stands)
+            else:
+                answers.say(NOTHING)
+                answers.pair((key, why))
+        if stands:
+            answers.value(stands)
         return stands
 
     def occupied(self, old, key, name, words, answers):

@@ -12,7 +12,12 @@ from .words import MEMORY, Answers, Unread, Words, is_word
 
 HASHERS = ("default", "same_hash", "odd_or_even")
 #: those to which a row may be bound
-KINDS = {"map": Model, "set": SetModel, "cache": CacheModel, "weighted": WeightedModel}
+KINDS = {
+    **dict.fromkeys(("map", "copied_map"), Model),
+    **dict.fromkeys(("set", "copied_set"), SetModel),
+    "cache": CacheModel,
+    "weighted": WeightedModel,
+}
 SAID = re.compile(r"row |=|\+ |\| |(left out|refused)$")
 SUMMARY = re.compile(
     r"(\d+) rows: each answer is right, and (\d+) of them refused; (\d+) rows had no memory of their own"
@@ -129,7 +134,7 @@ def say(models, words, answers):
     if name == "other":
         models[1].answer(rest, answers)
     elif name == "both":
-        call_both(models, rest.word(), answers)
+        call_both(models, rest, answers)
     elif name == "cost":
         answers.echo_number()
         answers.echo_number()
@@ -140,12 +145,13 @@ def say(models, words, answers):
         raise Unread
 
 
-def call_both(models, name, answers):
+def call_both(models, words, answers):
     if models[0].kind == "set":
-        call_sets(*models, name, answers)
+        call_sets(*models, words, answers)
         return
     if models[0].kind != "map":
         raise Unread
+    name = words.word()
     first, second = ([(key[0], value[0]) for key, value in model.list.pairs] for model in models)
     if name in ("eq", "hash"):
         answers.tell(first == second)
@@ -173,15 +179,17 @@ def judge_runs(section, row, model):
 
 
 def judge_found(section, row, capacities):
-    """What caches of these capacities find by the lines, none refused."""
+    """What caches of these capacities find by the lines, none refused. The number of a key is that of its
+    line."""
     for capacity in capacities:
         where = (row.first, row.mode)
         heard = section.hear(where)
         if heard is None:
             return
         model, answers = CacheModel(capacity), Answers(heard, "text")
-        for line in row.commands():
-            command(model, line, answers)
+        for number, line in enumerate(row.commands(), 1):
+            name, key, *rest = line.split(" ")
+            command(model, " ".join((name, f"{key}.{number}", *rest)), answers)
         section.compare(where, answers)
         section.stand(where, model)
 

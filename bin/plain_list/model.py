@@ -7,6 +7,7 @@ from .words import DONE, GREATEST, MEMORY, NOTHING, OVERFLOW, WRONG
 from .words import Unread, is_word, item_word, number, pair_word
 
 NO_CAPACITY = GREATEST - 1
+WALKS = ("iter", "keys", "values", "iter_mut", "values_mut", "drain", "forgotten_drain", "into_iter")
 
 
 class Model(Entries, Cursors):
@@ -49,7 +50,7 @@ class Model(Entries, Cursors):
     def call(self, words, answers):
         """Answers a call of a map, or one that a cache answers as a map does."""
         name = words.word()
-        if name in ("front", "back", "len", "is_empty"):
+        if name in ("front", "peek_lru", "back", "len", "is_empty"):
             self.read_end(name, answers)
         elif name in ("get", "peek", "contains_key", "get_key_value", "index"):
             self.read_key(name, words.name(), answers)
@@ -58,6 +59,8 @@ class Model(Entries, Cursors):
         elif name in ("get_mut", "peek_mut", "to_front", "to_back", "index_mut"):
             key = words.name()
             self.lend(name, key, words.optional(), answers)
+        elif name == "back_value_mut":
+            self.lend_last(words.optional(), answers)
         else:
             self.call_take(name, words, answers)
 
@@ -73,9 +76,9 @@ class Model(Entries, Cursors):
         elif name == "clear":
             self.list.clear()
             answers.done()
-        elif name in ("retain", "retain_with_order"):
+        elif name in ("retain", "retain_with_order", "retain_from"):
             self.retain(words.word(), answers)
-        elif name in ("iter", "keys", "values", "iter_mut", "values_mut", "drain", "into_iter"):
+        elif name in WALKS:
             self.walk(name, words, answers)
         else:
             self.call_entry(name, words, answers)
@@ -113,7 +116,12 @@ class Model(Entries, Cursors):
             if not answers.is_refused():
                 self.forget_room(0)
             answers.echo(DONE, MEMORY)
-        elif name in ("extend", "extend_from", "from_iter"):
+        elif name == "collect":
+            self.forget_room(0)
+            if answers.is_refused():
+                self.list.clear()
+            answers.echo(DONE, MEMORY)
+        elif name in ("extend", "extend_ref", "extend_from", "from_iter"):
             self.extend(name, words, answers)
         else:
             raise Unread
@@ -148,7 +156,7 @@ class Model(Entries, Cursors):
             answers.echo(MEMORY, OVERFLOW)
 
     def read_end(self, name, answers):
-        if name == "front":
+        if name in ("front", "peek_lru"):
             answers.pair(self.list.first())
         elif name == "back":
             answers.pair(self.list.last())
@@ -202,6 +210,12 @@ class Model(Entries, Cursors):
         self.write(key, value)
         answers.value(old)
 
+    def lend_last(self, value, answers):
+        last = self.list.last()
+        if last:
+            self.write(last[0], value)
+        answers.value(last)
+
     def retain(self, keep, answers):
         """Keeps by the test, and says which odd keys were met, where it asks for them."""
         if keep == "odd":
@@ -226,6 +240,9 @@ class Model(Entries, Cursors):
             self.steps(name, ends, again, answers)
         if name == "drain":
             self.list.keep(lambda pair: False)
+        if name == "forgotten_drain":
+            left = self.list.pairs[ends[0] : ends[1]]
+            self.list.keep(lambda pair: pair in left)
         if name == "into_iter":
             self.forget_room(0)
             self.list.clear()

@@ -21,7 +21,7 @@ class SetModel(Model):
             self.put_element(name, rest.name(), answers)
         elif name in ("contains", "get", "to_front", "to_back", "remove", "take"):
             self.call_element(name, rest.name(), answers)
-        elif name in ("iter", "drain", "into_iter"):
+        elif name in ("iter", "drain", "forgotten_drain", "into_iter"):
             self.walk(name, rest, answers)
         else:
             self.call(words, answers)
@@ -82,8 +82,9 @@ class SetModel(Model):
         return self.is_element_refused(pair[0], answers)
 
 
-def call_sets(model, other, name, answers):
+def call_sets(model, other, words, answers):
     """Answers the call of two sets that has the name."""
+    name = words.word()
     keys, others = ([pair[0] for pair in each.list.pairs] for each in (model, other))
     inside = sum(other.list.find(key) is not None for key in keys)
     if name in ("eq", "hash"):
@@ -95,7 +96,7 @@ def call_sets(model, other, name, answers):
     elif name == "is_superset":
         answers.tell(inside == len(others))
     elif name in ("union", "intersection", "difference", "symmetric_difference"):
-        iterate(model, other, name, answers)
+        iterate(model, other, name, words.optional(), answers)
     else:
         operate(model, other, name, answers)
 
@@ -112,10 +113,11 @@ def comes(model, other, name, element, is_first):
     return not is_in_both
 
 
-def iterate(model, other, name, answers):
-    """Says the bounds of how many are left and what comes, in turn. Of those left in each set a union has all
-    of the first at least, and one of the first alone, as an intersection or a difference, none of the second
-    at most."""
+def iterate(model, other, name, steps, answers):
+    """Says the bounds of how many are left and what comes, in turn, for so many steps if their number is
+    given, also after the end. Of those left in each set a union has all of the first at least, and one of the
+    first alone, as an intersection or a difference, none of the second at most."""
+    begin = len(answers.words)
     left = [len(model.list.pairs), len(other.list.pairs)]
     bounds(name, left, answers)
     for place, each in enumerate((model, other)):
@@ -125,6 +127,11 @@ def iterate(model, other, name, answers):
                 answers.item(key)
                 bounds(name, left, answers)
     answers.say(NOTHING)
+    if steps:
+        while len(answers.words) < begin + 3 * steps[0]:
+            bounds(name, left, answers)
+            answers.say(NOTHING)
+        del answers.words[begin + 3 * steps[0] :]
 
 
 def bounds(name, left, answers):

@@ -5,6 +5,8 @@ pub enum ReadCall {
     Len,
     IsEmpty,
     Capacity,
+    PeekLru,
+    Back,
 }
 
 #[derive(Clone, Copy)]
@@ -57,12 +59,16 @@ pub enum CacheCall {
     Lend(LendCall),
     /// A pair.
     Insert,
+    /// A key, what is made where it is absent, and what is written there.
+    GetOrInsertWith,
+    /// The same, or `fail` and why nothing is made.
+    GetOrTryInsertWith,
     /// A number.
     SetCapacity,
     /// Pairs.
     Pairs(PairsCall),
-    /// What is kept.
-    Retain,
+    /// What is kept. Whether it is `retain_from`, of a closure that is lent.
+    Retain(bool),
     /// Steps of an iterator.
     Walk(WalkCall),
     /// A call of the cache's map.
@@ -75,10 +81,12 @@ pub enum CacheCall {
     RawRead,
 }
 
-pub const CACHE_CALLS: [(&str, CacheCall); 27] = [
+pub const CACHE_CALLS: [(&str, CacheCall); 32] = [
     ("len", CacheCall::Read(ReadCall::Len)),
     ("is_empty", CacheCall::Read(ReadCall::IsEmpty)),
     ("capacity", CacheCall::Read(ReadCall::Capacity)),
+    ("peek_lru", CacheCall::Read(ReadCall::PeekLru)),
+    ("back", CacheCall::Read(ReadCall::Back)),
     ("make_room", CacheCall::End(EndCall::MakeRoom)),
     ("remove_lru", CacheCall::End(EndCall::RemoveLru)),
     ("clear", CacheCall::End(EndCall::Clear)),
@@ -91,10 +99,13 @@ pub const CACHE_CALLS: [(&str, CacheCall); 27] = [
     ("get_mut", CacheCall::Lend(LendCall::GetMut)),
     ("peek_mut", CacheCall::Lend(LendCall::PeekMut)),
     ("insert", CacheCall::Insert),
+    ("get_or_insert_with", CacheCall::GetOrInsertWith),
+    ("get_or_try_insert_with", CacheCall::GetOrTryInsertWith),
     ("set_capacity", CacheCall::SetCapacity),
     ("extend", CacheCall::Pairs(PairsCall::Extend)),
     ("extend_from", CacheCall::Pairs(PairsCall::ExtendFrom)),
-    ("retain", CacheCall::Retain),
+    ("retain", CacheCall::Retain(false)),
+    ("retain_from", CacheCall::Retain(true)),
     ("iter", CacheCall::Walk(WalkCall::Iter)),
     ("iter_mut", CacheCall::Walk(WalkCall::IterMut)),
     ("drain", CacheCall::Walk(WalkCall::Drain)),

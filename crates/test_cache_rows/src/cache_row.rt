@@ -8,10 +8,10 @@ use std::mem;
 use std::vec::IntoIter;
 use test_items::{
     Answer, Answers, EntryCall, Home, Item, KEEPS, Keep, Name, RawCall, Stop, Word, Words, given,
-    given_item, is_even, is_raised, lent, lent_item, made, pairs_of, put, take_steps,
+    given_item, is_even, is_raised, lent, lent_item, made, no_memory, pairs_of, put, take_steps,
     walk_and_clone, walk_whole, write,
 };
-use test_map_rows::{Walked, call_entry, call_found, call_map, extended, put_found};
+use test_map_rows::{Walked, call_entry, call_found, call_map, extended, not_made, put_found};
 
 pub type Cache<S> = LruCache<Item, Item, S>;
 
@@ -34,12 +34,22 @@ pub fn call_cache<S: BuildHasher + Copy + Default + Drop>(
             let (key, value) = words.pair(home)?;
             answers.give(insert(cache, key, value))
         }
+        CacheCall::GetOrInsertWith => {
+            let key = words.name()?;
+            let (value, new) = words.lent_item(home)?;
+            answers.give(get_or_make(cache, home.item(key)?, value, new))
+        }
+        CacheCall::GetOrTryInsertWith => {
+            let key = words.name()?;
+            let (made, new) = words.tried(home)?;
+            answers.give(get_or_try(cache, home.item(key)?, made, new))
+        }
         CacheCall::SetCapacity => {
             cache.set_capacity(words.size()?);
             answers.say(Word::Done)
         }
         CacheCall::Pairs(call) => put_all(cache, call, pairs_of(home, words)?, answers),
-        CacheCall::Retain => answers.say(retain(cache, words.named(&KEEPS)?)),
+        CacheCall::Retain(is_lent) => answers.say(retain(cache, is_lent, words.named(&KEEPS)?)),
         CacheCall::Walk(call) => walk_cache(cache, home, call, words, answers),
         CacheCall::Inside => call_map(cache.map_mut(), home, words, answers),
         call => call_of_entry(cache, home, call, words, answers),
@@ -92,6 +102,8 @@ fn read<S: BuildHasher>(cache: &Cache<S>, call: ReadCall) -> Word {
         ReadCall::Len => Word::count(cache.len()),
         ReadCall::IsEmpty => Word::Is(cache.is_empty()),
         ReadCall::Capacity => Word::count(cache.capacity()),
+        ReadCall::PeekLru => lent(cache.peek_lru()),
+        ReadCall::Back => lent(cache.back()),
     }
 }
 
@@ -122,6 +134,30 @@ fn insert<S: BuildHasher>(cache: &mut Cache<S>, key: Item, value: Item) -> Answe
     put(cache.insert(key, value))
 }
 
+fn get_or_make<S: BuildHasher>(
+    cache: &mut Cache<S>,
+    key: Item,
+    value: Item,
+    new: Option<Name>,
+) -> Answer {
+    match cache.get_or_insert_with(key, || value) {
+        Ok(lent) => Answer::Word(write(Some(lent), new)),
+        Err(pair) => no_memory(pair),
+    }
+}
+
+fn get_or_try<S: BuildHasher>(
+    cache: &mut Cache<S>,
+    key: Item,
+    made: Result<Item, Item>,
+    new: Option<Name>,
+) -> Answer {
+    match cache.get_or_try_insert_with(key, || made) {
+        Ok(lent) => Answer::Word(write(Some(lent), new)),
+        Err(error) => not_made(error),
+    }
+}
+
 fn lend<S: BuildHasher>(
     cache: &mut Cache<S>,
     call: LendCall,
@@ -134,11 +170,13 @@ fn lend<S: BuildHasher>(
     }
 }
 
-fn retain<S: BuildHasher>(cache: &mut Cache<S>, keep: Keep) -> Word {
-    match keep {
-        Keep::Even => cache.retain(is_even),
-        Keep::Odd => cache.retain(is_raised),
-        Keep::Others => return Word::Wrong,
+fn retain<S: BuildHasher>(cache: &mut Cache<S>, is_lent: bool, keep: Keep) -> Word {
+    match (keep, is_lent) {
+        (Keep::Even, false) => cache.retain(is_even),
+        (Keep::Even, true) => cache.retain_from(&mut is_even),
+        (Keep::Odd, false) => cache.retain(is_raised),
+        (Keep::Odd, true) => cache.retain_from(&mut is_raised),
+        (Keep::Others, _) => return Word::Wrong,
     }
     Word::Done
 }

@@ -1,4 +1,4 @@
-//! Loops, std's adapters, and iterators past their end.
+//! Loops and std's adapters.
 use crate::few::{Map, cache_of, map_of, passes, set_of};
 use hashlink::linked_hash_map::{Iter, Keys, Values};
 use hashlink::{LinkedHashSet, LruCache};
@@ -81,55 +81,7 @@ fn digits_of_set(set: &LinkedHashSet<u32>) -> u32 {
     digits
 }
 
-type Set = LinkedHashSet<u32>;
-
-/// What an iterator says that has ended.
-const ENDED: (Option<&u32>, (usize, Option<usize>)) = (None, (0, Some(0)));
-
-fn union_stays_ended(left: &Set, right: &Set) -> bool {
-    let mut both = left.union(right);
-    both.by_ref().copied().eq([2, 1, 3]) & ((both.next(), both.size_hint()) == ENDED)
-}
-
-fn symmetric_difference_stays_ended(left: &Set, right: &Set) -> bool {
-    let mut either = left.symmetric_difference(right);
-    either.by_ref().copied().eq([2, 3]) & ((either.next(), either.size_hint()) == ENDED)
-}
-
-fn intersection_stays_ended(left: &Set, right: &Set) -> bool {
-    let mut shared = left.intersection(right);
-    shared.by_ref().copied().eq([1]) & ((shared.next(), shared.size_hint()) == ENDED)
-}
-
-fn difference_stays_ended(left: &Set, right: &Set) -> bool {
-    let mut apart = left.difference(right);
-    apart.by_ref().copied().eq([2]) & ((apart.next(), apart.size_hint()) == ENDED)
-}
-
-/// Whether the iterators over two sets stay ended.
-fn stay_ended(left: &Set, right: &Set) -> bool {
-    union_stays_ended(left, right)
-        & symmetric_difference_stays_ended(left, right)
-        & intersection_stays_ended(left, right)
-        & difference_stays_ended(left, right)
-}
-
-/// Whether iterators over two sets, which then end, begin with these elements.
-fn begin_with_first(left: &Set, right: &Set) -> bool {
-    (left.union(right).next() == Some(&2))
-        & (left.symmetric_difference(right).next() == Some(&2))
-        & (left.intersection(right).next() == Some(&1))
-        & (left.difference(right).next() == Some(&2))
-}
-
-/// Whether a set goes through a loop, and is not equal to another one.
-fn is_read(left: &Set, right: &Set) -> bool {
-    (digits_of_set(left) == 21) & (left != right)
-}
-
 #[test]
-fn iterators_over_two_sets_end_early_and_stay_ended(rt: HostRuntime) -> ExitCode {
-    let (left, right) = (set_of(rt.alloc(), &[2, 1]), set_of(rt.alloc(), &[3, 1]));
-    let is_read = is_read(&left, &right) & begin_with_first(&left, &right);
-    passes(is_read & stay_ended(&left, &right))
+fn a_borrowed_set_is_iterated(rt: HostRuntime) -> ExitCode {
+    passes(digits_of_set(&set_of(rt.alloc(), &[2, 1])) == 21)
 }

@@ -1,7 +1,7 @@
 //! Lists of commands with keys that are equal and yet differ.
 use crate::few::{map_of, passes};
-use hashlink::run::{Command, EntryStep, PairCommand, Reply, run, run_pair};
-use hashlink::{LinkedHashMap, LruCache};
+use hashlink::LinkedHashMap;
+use hashlink::run::{Command, EntryStep, Reply, run};
 use std::alloc::{AllocError, Global};
 use std::process::ExitCode;
 use test_keys::Numbered;
@@ -84,29 +84,4 @@ fn run_without_commands(alloc: Global) -> Result<(usize, Option<u32>, usize), Al
 fn what_has_no_commands_and_no_steps_has_no_reply(rt: HostRuntime) -> ExitCode {
     let no_steps = run_without_steps(rt.alloc()) == Ok(true);
     passes(no_steps & (run_without_commands(rt.alloc()) == Ok((1, Some(10), 0))))
-}
-
-/// The number of the last key of a cache, and the value of the first group.
-type LastKey = (Option<u32>, Option<u32>);
-
-fn last_key(cache: &LruCache<Numbered, u32>) -> LastKey {
-    let number = cache.back().map(|(key, _)| key.number);
-    (number, cache.peek(&key(1, 4)).copied())
-}
-
-/// Those of the smaller and of the larger of two caches.
-fn last_keys(alloc: Global) -> Result<(LastKey, LastKey), AllocError> {
-    let commands = [
-        PairCommand::Insert(key(1, 1), 10u32),
-        PairCommand::Insert(key(2, 1), 20),
-        PairCommand::Insert(key(1, 2), 11),
-        PairCommand::Use(key(1, 3), 12),
-    ];
-    let pair = run_pair(alloc, 1, 2, &commands)?;
-    Ok((last_key(&pair.small), last_key(&pair.large)))
-}
-
-#[test]
-fn the_smaller_of_two_caches_may_hold_another_key_that_is_equal(rt: HostRuntime) -> ExitCode {
-    passes(last_keys(rt.alloc()) == Ok(((Some(2), Some(11)), (Some(1), Some(11)))))
 }

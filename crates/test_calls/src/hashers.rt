@@ -1,6 +1,6 @@
 //! The default hasher hashes as std's does.
 use crate::few::passes;
-use hashlink::{DefaultHashBuilder, DefaultHasher, LinkedHashMap};
+use hashlink::{DefaultHashBuilder, DefaultHasher, LinkedHashMap, LinkedHashSet};
 use std::alloc::Global;
 use std::hash::{BuildHasher, FoldHasher, Hash, Hasher};
 use std::process::ExitCode;
@@ -55,6 +55,17 @@ fn hashes_of_map(alloc: Global) -> [u64; 3] {
 #[test]
 fn the_hasher_of_a_new_map_hashes_as_that_of_std(rt: HostRuntime) -> ExitCode {
     passes(hashes_of_map(rt.alloc()) == hashes(&mut FoldHasher::default()))
+}
+
+/// The same of a new set.
+fn hashes_of_set(alloc: Global) -> [u64; 3] {
+    let set = LinkedHashSet::<u32>::new(alloc);
+    hashes(&mut set.hasher().build_hasher())
+}
+
+#[test]
+fn the_hasher_of_a_new_set_hashes_as_that_of_std(rt: HostRuntime) -> ExitCode {
+    passes(hashes_of_set(rt.alloc()) == hashes(&mut FoldHasher::default()))
 }
 
 #[test]

@@ -1,7 +1,6 @@
 //! What no row of calls says of the containers: how often closures are called, the texts of `{:?}` and of
 //! errors, loops and std's adapters, the forms in which std's maps are called, what becomes of items
-//! without size and of a drain that is forgotten, a curve of misses worked by hand, and what a program does
-//! whose input or output fails.
+//! without size, a curve of misses worked by hand, and what a program does whose input or output fails.
 #![tactic(auto)]
 
 #[cfg(test)]
@@ -13,8 +12,6 @@ mod commands;
 #[cfg(test)]
 mod curves;
 #[cfg(test)]
-mod early_ends;
-#[cfg(test)]
 mod few;
 #[cfg(test)]
 mod forms;
@@ -22,8 +19,6 @@ mod forms;
 mod hashers;
 #[cfg(test)]
 mod large;
-#[cfg(test)]
-mod made_values;
 #[cfg(test)]
 mod many;
 #[cfg(test)]

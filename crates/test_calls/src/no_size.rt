@@ -57,6 +57,19 @@ fn a_cache_of_keys_without_size_has_one_entry_at_most(rt: HostRuntime) {
     }
 }
 
+/// The value that a cache has of the one key without size, of two that are inserted.
+fn last_value(alloc: Global, capacity: usize) -> Option<u32> {
+    let mut cache = LruCache::new(alloc, capacity);
+    let _taken = cache.extend([((), 1u32), ((), 2)]);
+    cache.peek(&()).copied()
+}
+
+#[test]
+fn a_cache_of_keys_without_size_keeps_the_last_value(rt: HostRuntime) -> ExitCode {
+    let values = [last_value(rt.alloc(), 0), last_value(rt.alloc(), 1)];
+    passes(values == [None, Some(2)])
+}
+
 /// What a cache keeps of the keys 3, 1, 2 and 1: how many, and whether 1 and 3 are there.
 fn kept(alloc: Global, capacity: usize) -> (usize, bool, bool) {
     let mut cache = LruCache::new(alloc, capacity);

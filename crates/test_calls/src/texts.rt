@@ -1,6 +1,7 @@
 //! The texts of `{:?}`, and of errors.
 use crate::few::{Map, cache_of, map_of, passes, set_of};
 use hashlink::linked_hash_map::ExtendError;
+use hashlink::lru_cache::TryInsertError;
 use hashlink::weighted::{WeightError, WeightedCache};
 use hashlink::{LinkedHashMap, LinkedHashSet};
 use std::alloc::Global;
@@ -70,23 +71,25 @@ fn iterators_that_read_show_what_is_left(rt: HostRuntime) -> ExitCode {
 /// Whether the iterator over the map that writes values in pairs shows what is left.
 fn pairs_show_what_is_left(alloc: Global, map: &mut Map) -> bool {
     let mut pairs = map.iter_mut();
+    let both_are_left = shows(alloc, &pairs, PAIRS);
     pairs.next_back();
     let one_is_left = shows(alloc, &pairs, "[(1, 10)]");
     pairs.next();
     let none_is_left = shows(alloc, &pairs, "[]");
     let mut pairs = map.iter_mut();
     pairs.next();
-    one_is_left & none_is_left & shows(alloc, &pairs, "[(2, 20)]")
+    both_are_left & one_is_left & none_is_left & shows(alloc, &pairs, "[(2, 20)]")
 }
 
 /// The same of the iterator that writes values alone.
 fn values_show_what_is_left(alloc: Global, map: &mut Map) -> bool {
     let mut values = map.values_mut();
+    let both_are_left = shows(alloc, &values, "[10, 20]");
     values.next();
     let last_is_left = shows(alloc, &values, "[20]");
     let mut values = map.values_mut();
     values.next_back();
-    last_is_left & shows(alloc, &values, "[10]")
+    both_are_left & last_is_left & shows(alloc, &values, "[10]")
 }
 
 #[test]
@@ -189,4 +192,15 @@ fn a_refused_weight_says_why_and_hands_its_pair_back(rt: HostRuntime) -> ExitCod
     let is_shown = shows(rt.alloc(), &clone, "Ok(TooHeavy((1, 10)))");
     let is_handed_back = (heavy.into_pair() == (1, 10)) & (refused.into_pair() == (2, 20));
     passes(is_said & is_shown & is_handed_back)
+}
+
+#[test]
+fn a_value_that_was_not_made_says_why(rt: HostRuntime) {
+    let failed = TryInsertError::<u32, u32, u8>::Make(1, 7);
+    let refused = TryInsertError::<u32, u32, u8>::Memory((1, 10));
+    let says_why = says(rt.alloc(), &failed, "no value was made: 7");
+    let says_memory = says(rt.alloc(), &refused, "memory allocation failed");
+    assert_eq!(rt; [says_why, says_memory, failed != refused], [true; 3]);
+    let clone: Result<_, _> = failed.clone();
+    assert_eq!(rt; clone, Ok(failed));
 }

@@ -1,6 +1,6 @@
 //! Values that are not equal to themselves, what a hasher is fed, and hashers that are lent.
 use crate::few::{map_of, passes};
-use hashlink::{LinkedHashMap, LinkedHashSet};
+use hashlink::{LinkedHashMap, LinkedHashSet, LruCache};
 use std::alloc::Global;
 use std::hash::{BuildHasher, FoldHasher, Hash, Hasher};
 use std::process::ExitCode;
@@ -43,14 +43,18 @@ fn a_hasher_is_fed_the_elements_in_order_and_no_length(rt: HostRuntime) -> ExitC
     passes(fed(&two_and_one(rt.alloc())) == fed(&(2u32, 1u32)))
 }
 
-/// The hash of a number by the hashers of a map and of a set.
-fn lent(alloc: Global) -> [u64; 2] {
+/// The hash of a number by the hashers of a map, of a set and of a cache.
+fn lent(alloc: Global) -> [u64; 3] {
     let map = LinkedHashMap::<u32, u32, _>::with_hasher(alloc, SameHash);
-    let of_map = map.hasher().hash_one(7u32);
-    [of_map, two_and_one(alloc).hasher().hash_one(7u32)]
+    let cache = LruCache::<u32, u32, _>::with_hasher(alloc, 2, SameHash);
+    [
+        map.hasher().hash_one(7u32),
+        two_and_one(alloc).hasher().hash_one(7u32),
+        cache.hasher().hash_one(7u32),
+    ]
 }
 
 #[test]
 fn a_container_lends_the_hasher_that_it_was_made_with(rt: HostRuntime) -> ExitCode {
-    passes(lent(rt.alloc()) == [0, 0])
+    passes(lent(rt.alloc()) == [0; 3])
 }

@@ -9,9 +9,10 @@ pub fn number(word: &str) -> Option<u64> {
     is_plain.then_some(number)
 }
 
-/// How an item is written: its group, and after a dot its number, if it has one.
+/// How an item is written: its group, and after a dot its number, if it has one. As a key it is compared and
+/// hashed by its group alone.
 #[derive(Clone, Copy)]
-#[derive_where(PartialEq)]
+#[derive_where(PartialEq, Eq, Hash)]
 pub struct Name {
     pub group: u64,
     #[derive_where(skip(EqHashOrd))]

@@ -69,6 +69,8 @@ pub enum EntryCall {
     Modify(Name),
     Lend(Lend, Option<Name>),
     Make(Make, Item, Option<Name>),
+    /// Puts what was made, or hands on why nothing was.
+    TryMake(Result<Item, Item>, Option<Name>),
     Put(Put, Item),
     Vacant(Vacant),
     PutVacant(PutVacant, Item, Option<Name>),
@@ -85,12 +87,13 @@ enum Named {
     Modify,
     Lend(Lend),
     Make(Make),
+    TryMake,
     Put(Put),
     Vacant,
     Cursor,
 }
 
-const CALLS: [(&str, Named); 19] = [
+const CALLS: [(&str, Named); 20] = [
     ("get", Named::Stay(Stay::Get)),
     ("to_front", Named::Stay(Stay::ToFront)),
     ("to_back", Named::Stay(Stay::ToBack)),
@@ -104,6 +107,7 @@ const CALLS: [(&str, Named); 19] = [
     ("into_mut", Named::Lend(Lend::IntoMut)),
     ("or_insert", Named::Make(Make::OrInsert)),
     ("or_insert_with", Named::Make(Make::OrInsertWith)),
+    ("or_try_insert_with", Named::TryMake),
     ("insert", Named::Put(Put::Insert)),
     ("raw_replace_value", Named::Put(Put::RawReplaceValue)),
     ("insert_entry", Named::Put(Put::InsertEntry)),
@@ -139,6 +143,10 @@ impl EntryCall {
             Named::Make(make) => {
                 let (value, new) = words.lent_item(home)?;
                 Ok(EntryCall::Make(make, value, new))
+            }
+            Named::TryMake => {
+                let (made, new) = words.tried(home)?;
+                Ok(EntryCall::TryMake(made, new))
             }
             Named::Put(put) => Ok(EntryCall::Put(put, words.item(home)?)),
             Named::Vacant => EntryCall::read_vacant(home, words),

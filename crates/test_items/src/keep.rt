@@ -2,6 +2,15 @@
 use crate::answers::{Answers, Stop, Word};
 use crate::items::Item;
 
+/// The call of a retain.
+#[derive(Clone, Copy)]
+pub enum Retain {
+    Any,
+    WithOrder,
+    /// `retain_from`, of a closure that is lent.
+    From,
+}
+
 /// The test of a retain, by its word.
 #[derive(Clone, Copy)]
 pub enum Keep {

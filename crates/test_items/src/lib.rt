@@ -16,7 +16,7 @@ pub use answers::{Answer, Answers, Name, Pair, Stop, Tally, Word, are_written, n
 pub use counts::Counts;
 pub use entry_call::{End, EntryCall, Lend, Make, Put, PutVacant, Stay, Vacant};
 pub use items::{Home, Item};
-pub use keep::{Asked, KEEPS, Keep, has_room, is_even, is_other, is_raised, say_met};
+pub use keep::{Asked, KEEPS, Keep, Retain, has_room, is_even, is_other, is_raised, say_met};
 pub use line::{Words, elements_of, pairs_of};
 pub use raw_call::{RawCall, RawEnd, RawLend, RawPut, RawStay};
 pub use said::{

@@ -77,6 +77,18 @@ impl<'l> Words<'l> {
         Ok((home.item(item)?, new))
     }
 
+    /// What the next word names as made, and the name after it, if there is one, or what the word after `fail`
+    /// names as why nothing is made.
+    pub fn tried(&mut self, home: Home<'_>) -> Result<(Result<Item, Item>, Option<Name>), Stop> {
+        let mut rest = *self;
+        if rest.next() != Some("fail") {
+            let (made, new) = self.lent_item(home)?;
+            return Ok((Ok(made), new));
+        }
+        *self = rest;
+        Ok((Err(self.item(home)?), None))
+    }
+
     /// The pair that the next two words name.
     pub fn pair(&mut self, home: Home<'_>) -> Result<(Item, Item), Stop> {
         home.pair(self.names()?)

@@ -182,3 +182,31 @@ fn refuses_an_absurd_room(rt: HostRuntime) {
     ];
     assert_eq!(rt; refuse(rt.alloc()), (refused, true));
 }
+
+/// The room of an empty table that is made with this room.
+fn made_with_room(alloc: Global, room: usize) -> Result<usize, TryReserveError> {
+    Ok(Table::with_room(alloc, 0u32, room)?.room())
+}
+
+/// The room of a table that held a number, before and after it is shrunk without one.
+fn rooms_of_none(alloc: Global) -> Result<(usize, usize), TryReserveError> {
+    let mut table = Table::new(alloc, 0);
+    put(&mut table, 5, 7)?;
+    table.clear();
+    let kept = table.room();
+    table.shrink()?;
+    Ok((kept, table.room()))
+}
+
+#[test]
+fn has_the_room_that_it_is_asked_for(rt: HostRuntime) {
+    for (room, made) in [
+        (0, Ok(0)),
+        (5, Ok(8)),
+        (1 << 61, Err(TryReserveError::AllocError)),
+        (usize::MAX, Err(TryReserveError::CapacityOverflow)),
+    ] {
+        assert_eq!(rt; made_with_room(rt.alloc(), room), made);
+    }
+    assert_eq!(rt; rooms_of_none(rt.alloc()), Ok((4, 0)));
+}

@@ -1,7 +1,7 @@
 //! Calls of the entry of a key that is in hand, of a map and of a cache.
 use crate::map_cursors::take_all_steps;
 use crate::map_row::Map;
-use hashlink_map::{Entry, OccupiedEntry};
+use hashlink_map::{Entry, OccupiedEntry, TryInsertError};
 use std::hash::BuildHasher;
 use test_items::{
     Answer, Answers, End, EntryCall, Home, Item, Lend, Make, Name, Put, PutVacant, Stay, Stop,
@@ -47,6 +47,7 @@ fn answer<S: BuildHasher>(entry: InHand<'_, S>, call: EntryCall) -> Answer {
         EntryCall::Modify(value) => Answer::Word(modify(entry, value)),
         EntryCall::Lend(lend, new) => Answer::Word(lend_at(entry, lend, new)),
         EntryCall::Make(make, value, new) => make_at(entry, make, value, new),
+        EntryCall::TryMake(made, new) => try_make_at(entry, made, new),
         EntryCall::Put(put, value) => Answer::Word(put_at(entry, put, value)),
         EntryCall::Vacant(call) => Answer::Word(vacant(entry, call)),
         EntryCall::PutVacant(put, value, new) => put_vacant(entry, put, value, new),
@@ -113,6 +114,25 @@ fn make_at<S: BuildHasher>(
     match lent {
         Ok(lent) => Answer::Word(write(Some(lent), new)),
         Err(pair) => no_memory(pair),
+    }
+}
+
+fn try_make_at<S: BuildHasher>(
+    entry: InHand<'_, S>,
+    made: Result<Item, Item>,
+    new: Option<Name>,
+) -> Answer {
+    match entry.or_try_insert_with(|| made) {
+        Ok(lent) => Answer::Word(write(Some(lent), new)),
+        Err(error) => not_made(error),
+    }
+}
+
+/// The key and why nothing was made for it, or the pair that is handed back.
+pub fn not_made(error: TryInsertError<Item, Item, Item>) -> Answer {
+    match error {
+        TryInsertError::Make(key, why) => Answer::Back(Word::Nothing, shown((&key, &why))),
+        TryInsertError::Memory(pair) => no_memory(pair),
     }
 }
 

@@ -10,7 +10,7 @@ mod raw_entries;
 mod walks;
 
 pub use compared::compare;
-pub use entries::call_entry;
+pub use entries::{call_entry, not_made};
 pub use map_row::{Map, call_map, extended};
 pub use raw_entries::{call_found, put_found};
 pub use walks::Walked;

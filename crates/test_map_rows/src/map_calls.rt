@@ -1,5 +1,5 @@
 //! The calls of a map by their names.
-use test_items::Asked;
+use test_items::{Asked, Retain};
 
 #[derive(Clone, Copy)]
 pub enum ReadCall {
@@ -66,7 +66,11 @@ pub enum WalkCall {
     IterMut,
     ValuesMut,
     Drain,
+    /// A drain that is forgotten after its steps.
+    ForgottenDrain,
     IntoIter,
+    /// Makes the map anew of its own pairs.
+    Collect,
 }
 
 #[derive(Clone, Copy)]
@@ -86,14 +90,16 @@ pub enum MapCall {
     Key(KeyCall),
     /// A key, and what is written where its value is lent.
     Lend(LendCall),
+    /// What is written where the last value is lent.
+    LendBack,
     /// A pair.
     Pair(PairCall),
     /// A number.
     Size(SizeCall),
     /// Pairs.
     Pairs(PairsCall),
-    /// What is kept. Whether it is `retain_with_order`.
-    Retain(bool),
+    /// What is kept.
+    Retain(Retain),
     /// Steps of an iterator.
     Walk(WalkCall),
     /// An end, and steps of a cursor.
@@ -110,7 +116,7 @@ pub enum MapCall {
     EntryAt(AtEnd),
 }
 
-pub const MAP_CALLS: [(&str, MapCall); 47] = [
+pub const MAP_CALLS: [(&str, MapCall); 51] = [
     ("front", MapCall::Read(ReadCall::Front)),
     ("back", MapCall::Read(ReadCall::Back)),
     ("len", MapCall::Read(ReadCall::Len)),
@@ -130,6 +136,7 @@ pub const MAP_CALLS: [(&str, MapCall); 47] = [
     ("to_front", MapCall::Lend(LendCall::ToFront)),
     ("to_back", MapCall::Lend(LendCall::ToBack)),
     ("index_mut", MapCall::Lend(LendCall::IndexMut)),
+    ("back_value_mut", MapCall::LendBack),
     ("insert", MapCall::Pair(PairCall::Insert)),
     ("insert_front", MapCall::Pair(PairCall::InsertFront)),
     ("replace", MapCall::Pair(PairCall::Replace)),
@@ -142,15 +149,18 @@ pub const MAP_CALLS: [(&str, MapCall); 47] = [
     ("extend", MapCall::Pairs(PairsCall::Extend)),
     ("extend_from", MapCall::Pairs(PairsCall::ExtendFrom)),
     ("from_iter", MapCall::Pairs(PairsCall::FromIter)),
-    ("retain", MapCall::Retain(false)),
-    ("retain_with_order", MapCall::Retain(true)),
+    ("retain", MapCall::Retain(Retain::Any)),
+    ("retain_with_order", MapCall::Retain(Retain::WithOrder)),
+    ("retain_from", MapCall::Retain(Retain::From)),
     ("iter", MapCall::Walk(WalkCall::Iter)),
     ("keys", MapCall::Walk(WalkCall::Keys)),
     ("values", MapCall::Walk(WalkCall::Values)),
     ("iter_mut", MapCall::Walk(WalkCall::IterMut)),
     ("values_mut", MapCall::Walk(WalkCall::ValuesMut)),
     ("drain", MapCall::Walk(WalkCall::Drain)),
+    ("forgotten_drain", MapCall::Walk(WalkCall::ForgottenDrain)),
     ("into_iter", MapCall::Walk(WalkCall::IntoIter)),
+    ("collect", MapCall::Walk(WalkCall::Collect)),
     ("cursor", MapCall::Cursor),
     ("cursor_of", MapCall::CursorOf),
     ("entry", MapCall::Entry),

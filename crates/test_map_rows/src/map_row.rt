@@ -13,9 +13,9 @@ use std::hash::BuildHasher;
 use std::mem;
 use std::vec::IntoIter;
 use test_items::{
-    Answer, Answers, Home, Item, KEEPS, Keep, Name, Stop, Word, Words, given, given_item, has_room,
-    is_even, is_other, is_raised, lent, lent_item, made, no_memory_after, pairs_of, put, room,
-    say_met, take_steps, walk_and_clone, walk_whole, write,
+    Answer, Answers, Home, Item, KEEPS, Keep, Name, Retain, Stop, Word, Words, given, given_item,
+    has_room, is_even, is_other, is_raised, lent, lent_item, made, no_memory_after, pairs_of, put,
+    room, say_met, take_steps, walk_and_clone, walk_whole, write,
 };
 
 pub type Map<S> = LinkedHashMap<Item, Item, S>;
@@ -35,16 +35,14 @@ pub fn call_map<S: BuildHasher + Copy + Default + Drop>(
             let (key, new) = words.lent_item(home)?;
             answers.say(lend(map, call, &key, new))
         }
+        MapCall::LendBack => answers.say(lend_back(map, words.optional()?)),
         MapCall::Pair(call) => {
             let (key, value) = words.pair(home)?;
             answers.give(put_pair(map, call, key, value))
         }
         MapCall::Size(call) => answers.say(ask_room(map, call, home, words.size()?)),
         MapCall::Pairs(call) => put_all(map, home, call, pairs_of(home, words)?, answers),
-        MapCall::Retain(is_ordered) => {
-            let keep = words.named(&KEEPS)?;
-            retain(map, home, is_ordered, keep, answers)
-        }
+        MapCall::Retain(call) => retain(map, home, call, words.named(&KEEPS)?, answers),
         MapCall::Walk(call) => walk_map(map, home, call, words, answers),
         call => call_of_entry(map, home, call, words, answers),
     }
@@ -136,50 +134,55 @@ fn lend<S: BuildHasher>(map: &mut Map<S>, call: LendCall, key: &Item, new: Optio
     }
 }
 
+fn lend_back<S: BuildHasher>(map: &mut Map<S>, new: Option<Name>) -> Word {
+    write(map.back_value_mut(), new)
+}
+
 fn retain<S: BuildHasher>(
     map: &mut Map<S>,
     home: Home<'_>,
-    is_ordered: bool,
+    call: Retain,
     keep: Keep,
     answers: &mut Answers,
 ) -> Result<(), Stop> {
     let mut met = Vec::new(home.alloc);
     match keep {
-        Keep::Even => keep_even(map, is_ordered),
-        Keep::Odd => keep_odd(map, is_ordered),
+        Keep::Even => keep_even(map, call),
+        Keep::Odd => keep_odd(map, call),
         Keep::Others => {
             met.reserve(map.len())?;
-            keep_others(map, is_ordered, &mut met);
+            keep_others(map, call, &mut met);
         }
     }
     say_met(&met, answers)
 }
 
-fn keep_even<S: BuildHasher>(map: &mut Map<S>, is_ordered: bool) {
-    if is_ordered {
-        map.retain_with_order(is_even);
-    } else {
-        map.retain(is_even);
+fn keep_even<S: BuildHasher>(map: &mut Map<S>, call: Retain) {
+    match call {
+        Retain::Any => map.retain(is_even),
+        Retain::WithOrder => map.retain_with_order(is_even),
+        Retain::From => map.retain_from(&mut is_even),
     }
 }
 
-fn keep_odd<S: BuildHasher>(map: &mut Map<S>, is_ordered: bool) {
-    if is_ordered {
-        map.retain_with_order(is_raised);
-    } else {
-        map.retain(is_raised);
+fn keep_odd<S: BuildHasher>(map: &mut Map<S>, call: Retain) {
+    match call {
+        Retain::Any => map.retain(is_raised),
+        Retain::WithOrder => map.retain_with_order(is_raised),
+        Retain::From => map.retain_from(&mut is_raised),
     }
 }
 
-fn keep_others<S: BuildHasher>(map: &mut Map<S>, is_ordered: bool, met: &mut Vec<Word>) {
-    if is_ordered {
-        map.retain_with_order(|key, _| is_other(key, met));
-    } else {
-        map.retain(|key, _| is_other(key, met));
+fn keep_others<S: BuildHasher>(map: &mut Map<S>, call: Retain, met: &mut Vec<Word>) {
+    let mut keep = |key: &Item, _value: &mut Item| is_other(key, met);
+    match call {
+        Retain::Any => map.retain(keep),
+        Retain::WithOrder => map.retain_with_order(keep),
+        Retain::From => map.retain_from(&mut keep),
     }
 }
 
-fn walk_map<S: BuildHasher + Copy + Drop>(
+fn walk_map<S: BuildHasher + Copy + Default + Drop>(
     map: &mut Map<S>,
     home: Home<'_>,
     call: WalkCall,
@@ -193,11 +196,24 @@ fn walk_map<S: BuildHasher + Copy + Drop>(
         WalkCall::IterMut => take_steps(&mut Walked(map.iter_mut()), words, answers),
         WalkCall::ValuesMut => take_steps(&mut Walked(map.values_mut()), words, answers),
         WalkCall::Drain => take_steps(&mut Walked(map.drain()), words, answers),
-        WalkCall::IntoIter => {
-            let empty = LinkedHashMap::with_hasher(home.alloc, *map.hasher());
-            walk_whole(Walked(mem::replace(map, empty).into_iter()), words, answers)
+        WalkCall::ForgottenDrain => {
+            let mut drain = Walked(map.drain());
+            let taken = take_steps(&mut drain, words, answers);
+            mem::forget(drain);
+            taken
+        }
+        WalkCall::IntoIter => walk_whole(Walked(taken(map, home).into_iter()), words, answers),
+        WalkCall::Collect => {
+            let own = taken(map, home);
+            answers.say(made(map, LinkedHashMap::from_iter(home.alloc, own)))
         }
     }
+}
+
+/// The map, in whose place stands an empty one.
+fn taken<S: BuildHasher + Copy + Drop>(map: &mut Map<S>, home: Home<'_>) -> Map<S> {
+    let empty = LinkedHashMap::with_hasher(home.alloc, *map.hasher());
+    mem::replace(map, empty)
 }
 
 fn ask_room<S: BuildHasher + Copy + Drop>(

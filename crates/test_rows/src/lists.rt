@@ -137,10 +137,20 @@ pub fn are_runs_right<C: Listed + Drop>(
     voice: Voice<'_>,
 ) -> Result<bool, Stop> {
     let lines: Vec<&str> = lines.split('\n').collect(alloc)?;
-    let (first, second) = lines.as_slice().split_at(lines.len() / 2);
+    are_halves_right(&mut container, alloc, lines.as_slice(), answers, voice)
+}
+
+fn are_halves_right<C: Listed>(
+    container: &mut C,
+    alloc: Global,
+    lines: &[&str],
+    answers: &mut Answers,
+    voice: Voice<'_>,
+) -> Result<bool, Stop> {
+    let (first, second) = lines.split_at(lines.len() / 2);
     Ok(
-        is_run_right(&mut container, alloc, first, answers, voice)?
-            && is_run_right(&mut container, alloc, second, answers, voice)?,
+        is_run_right(container, alloc, first, answers, voice)?
+            && is_run_right(container, alloc, second, answers, voice)?,
     )
 }
 
@@ -191,54 +201,78 @@ fn count_replies(call: &str) -> usize {
     }
 }
 
-/// Runs the lines on two caches.
+/// Runs the lines on two caches. What they find is judged beside the plain list alone. The number of a key is
+/// that of its line, so that what stands shows which of equal keys it is.
 pub fn run_lines_of_pair(
     alloc: Global,
     capacities: (usize, usize),
     lines: &str,
     answers: &mut Answers,
     voice: Voice<'_>,
-) -> Result<(), Stop> {
-    let commands: Vec<PairCommand<u64, u64>> = lines
-        .split('\n')
-        .filter_map(|line| pair_command(line.as_bytes()))
-        .collect(alloc)?;
+) -> Result<bool, Stop> {
+    let commands = commands_of_pair(alloc, lines)?;
     let (small, large) = (capacities.0.min(capacities.1), capacities.1);
-    let Ok(pair) = run_pair(alloc, small, large, &commands) else {
-        refuse(answers, voice);
-        return Ok(());
-    };
-    say_found(&pair.small, &pair.small_replies, voice);
-    say_found(&pair.large, &pair.large_replies, voice);
-    Ok(())
+    match run_pair(alloc, small, large, &commands) {
+        Ok(pair) => {
+            say_found(&pair.small, &pair.small_replies, voice);
+            say_found(&pair.large, &pair.large_replies, voice);
+        }
+        Err(AllocError) => refuse(answers, voice),
+    }
+    Ok(true)
 }
 
-/// Runs the lines, which are all uses, on a cache.
+/// What the lines say to two caches.
+fn commands_of_pair(alloc: Global, lines: &str) -> Result<Vec<PairCommand<Name, u64>>, Stop> {
+    let mut commands = Vec::new(alloc);
+    let mut number = 0u64;
+    for line in lines.split('\n') {
+        number = number.saturating_add(1);
+        if let Some(command) = pair_command(line.as_bytes()) {
+            commands
+                .push(numbered(command, number))
+                .map_err(|_| Stop::Memory)?;
+        }
+    }
+    Ok(commands)
+}
+
+/// The command with a key of this number.
+fn numbered(command: PairCommand<u64, u64>, number: u64) -> PairCommand<Name, u64> {
+    match command {
+        PairCommand::Insert(group, value) => PairCommand::Insert(Name { group, number }, value),
+        PairCommand::Use(group, value) => PairCommand::Use(Name { group, number }, value),
+        PairCommand::Remove(group) => PairCommand::Remove(Name { group, number }),
+        PairCommand::Peek(group) => PairCommand::Peek(Name { group, number }),
+    }
+}
+
+/// Runs the lines, which are all uses, on a cache, with keys that are numbered in the same way.
 pub fn run_lines_of_uses(
     alloc: Global,
     capacity: usize,
     lines: &str,
     answers: &mut Answers,
     voice: Voice<'_>,
-) -> Result<(), Stop> {
-    let pairs: Vec<(u64, u64)> = lines.split('\n').filter_map(used).collect(alloc)?;
-    let Ok(uses) = run_uses(alloc, capacity, &pairs) else {
-        refuse(answers, voice);
-        return Ok(());
-    };
-    say_found(&uses.cache, &uses.replies, voice);
-    Ok(())
+) -> Result<bool, Stop> {
+    let commands = commands_of_pair(alloc, lines)?;
+    let pairs: Vec<(Name, u64)> = commands.iter().filter_map(used).collect(alloc)?;
+    match run_uses(alloc, capacity, &pairs) {
+        Ok(uses) => say_found(&uses.cache, &uses.replies, voice),
+        Err(AllocError) => refuse(answers, voice),
+    }
+    Ok(true)
 }
 
-fn used(line: &str) -> Option<(u64, u64)> {
-    match pair_command(line.as_bytes()) {
-        Some(PairCommand::Use(key, value)) => Some((key, value)),
+fn used(command: &PairCommand<Name, u64>) -> Option<(Name, u64)> {
+    match *command {
+        PairCommand::Use(key, value) => Some((key, value)),
         _ => None,
     }
 }
 
 /// Says what a cache found, and what then stands in it.
-fn say_found(cache: &LruCache<u64, u64>, found: &[Option<u64>], voice: Voice<'_>) {
+fn say_found(cache: &LruCache<Name, u64>, found: &[Option<u64>], voice: Voice<'_>) {
     if let Some(rt) = voice {
         let _ = print!(rt; "=");
         for value in found {
@@ -248,7 +282,10 @@ fn say_found(cache: &LruCache<u64, u64>, found: &[Option<u64>], voice: Voice<'_>
             );
         }
         let _ = println!(rt; "");
-        cache.stand(rt);
+        say_room(rt, cache.len(), cache.capacity());
+        for (key, value) in cache.iter() {
+            say_word(rt, Word::pair((*key, Name::of(*value))));
+        }
         let _ = println!(rt; "");
     }
 }

@@ -8,6 +8,7 @@
 //! plain list.
 #![tactic(auto)]
 
+mod copied;
 mod hashers;
 mod lists;
 mod row;

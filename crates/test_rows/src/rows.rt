@@ -4,10 +4,11 @@ use crate::lists::{are_runs_right, run_lines_of_pair, run_lines_of_uses};
 use crate::row::{Row, Wrong, cut, words_of};
 use crate::spoken::{Spoken, Voice, say_words};
 use crate::texts::is_text_right;
-use hashlink::{DefaultHashBuilder, LinkedHashMap, LruCache};
+use hashlink::{DefaultHashBuilder, LinkedHashMap, LinkedHashSet, LruCache};
+use std::alloc::Global;
 use std::hash::BuildHasher;
 use test_cache_rows::{Cache, Weighted};
-use test_items::{Answers, Home, Stop, Word, Words, are_written};
+use test_items::{Answers, Home, Name, Stop, Word, Words, are_written};
 use test_map_rows::Map;
 use test_set_rows::Set;
 
@@ -45,34 +46,110 @@ fn head(row: Row<'_>, hasher: &str, voice: Voice<'_>) {
     }
 }
 
+/// A hasher, by its word.
+#[derive(Clone, Copy)]
+enum Hashing {
+    Default,
+    SameHash,
+    OddOrEven,
+}
+
+const HASHERS: [(&str, Hashing); 3] = [
+    ("default", Hashing::Default),
+    ("same_hash", Hashing::SameHash),
+    ("odd_or_even", Hashing::OddOrEven),
+];
+
+/// What is run under the default hasher alone.
+#[derive(Clone, Copy)]
+enum Alone {
+    PairCommands,
+    Uses,
+    Text,
+}
+
+const ALONE: [(&str, Alone); 3] = [
+    ("pair_commands", Alone::PairCommands),
+    ("uses", Alone::Uses),
+    ("text", Alone::Text),
+];
+
+/// What the lines of a row call.
+#[derive(Clone, Copy)]
+enum Called {
+    Map,
+    Set,
+    Cache,
+    Weighted,
+    Commands,
+    CacheCommands,
+    CopiedMap,
+    CopiedSet,
+}
+
+const CALLED: [(&str, Called); 8] = [
+    ("map", Called::Map),
+    ("set", Called::Set),
+    ("cache", Called::Cache),
+    ("weighted", Called::Weighted),
+    ("commands", Called::Commands),
+    ("cache_commands", Called::CacheCommands),
+    ("copied_map", Called::CopiedMap),
+    ("copied_set", Called::CopiedSet),
+];
+
 fn run<'f>(
     row: Row<'f>,
     home: Home<'_>,
     answers: &mut Answers,
     voice: Voice<'_>,
 ) -> Result<Option<Wrong<'f>>, Stop> {
-    let mut words = Words::new(row.mode);
-    let words_of_all = words;
-    match words.word()? {
-        "default" => under::<DefaultHashBuilder>(row, "default", words, home, answers, voice),
-        "same_hash" => under::<SameHash>(row, "same_hash", words, home, answers, voice),
-        "odd_or_even" => under::<OddOrEven>(row, "odd_or_even", words, home, answers, voice),
-        "pair_commands" => {
-            head(row, "default", voice);
+    let words = Words::new(row.mode);
+    let mut rest = words;
+    if let Ok(hashing) = rest.named(&HASHERS) {
+        return under_one(row, hashing, rest, home, answers, voice);
+    }
+    let mut rest = words;
+    match rest.named(&ALONE) {
+        Ok(kind) => Ok(whole(is_right_alone(row, kind, rest, home.alloc, answers, voice)?)),
+        Err(_) => each(row, words, home, answers, voice),
+    }
+}
+
+fn is_right_alone(
+    row: Row<'_>,
+    kind: Alone,
+    words: Words<'_>,
+    alloc: Global,
+    answers: &mut Answers,
+    voice: Voice<'_>,
+) -> Result<bool, Stop> {
+    head(row, "default", voice);
+    let mut words = words;
+    match kind {
+        Alone::PairCommands => {
             let capacities = (words.size()?, words.size()?);
-            run_lines_of_pair(home.alloc, capacities, row.lines, answers, voice)?;
-            Ok(None)
+            run_lines_of_pair(alloc, capacities, row.lines, answers, voice)
         }
-        "uses" => {
-            head(row, "default", voice);
-            run_lines_of_uses(home.alloc, words.size()?, row.lines, answers, voice)?;
-            Ok(None)
+        Alone::Uses => run_lines_of_uses(alloc, words.size()?, row.lines, answers, voice),
+        Alone::Text => is_text_right(alloc, row.lines, answers, voice),
+    }
+}
+
+fn under_one<'f>(
+    row: Row<'f>,
+    hashing: Hashing,
+    words: Words<'_>,
+    home: Home<'_>,
+    answers: &mut Answers,
+    voice: Voice<'_>,
+) -> Result<Option<Wrong<'f>>, Stop> {
+    match hashing {
+        Hashing::Default => {
+            under::<DefaultHashBuilder>(row, "default", words, home, answers, voice)
         }
-        "text" => {
-            head(row, "default", voice);
-            Ok(whole(is_text_right(home.alloc, row.lines, answers, voice)?))
-        }
-        _ => each(row, words_of_all, home, answers, voice),
+        Hashing::SameHash => under::<SameHash>(row, "same_hash", words, home, answers, voice),
+        Hashing::OddOrEven => under::<OddOrEven>(row, "odd_or_even", words, home, answers, voice),
     }
 }
 
@@ -104,20 +181,21 @@ fn under<'f, S: BuildHasher + Copy + Default + Drop>(
 ) -> Result<Option<Wrong<'f>>, Stop> {
     head(row, hasher, voice);
     let mut words = words;
-    match words.word()? {
-        "map" => speak::<Map<S>>(row, 0, home, answers, voice),
-        "set" => speak::<Set<S>>(row, 0, home, answers, voice),
-        "cache" => speak::<Cache<S>>(row, words.size()?, home, answers, voice),
-        "weighted" => speak::<Weighted<S>>(row, words.size()?, home, answers, voice),
-        "commands" => {
+    match words.named(&CALLED)? {
+        Called::Map => speak::<Map<S>>(row, 0, home, answers, voice),
+        Called::Set => speak::<Set<S>>(row, 0, home, answers, voice),
+        Called::Cache => speak::<Cache<S>>(row, words.size()?, home, answers, voice),
+        Called::Weighted => speak::<Weighted<S>>(row, words.size()?, home, answers, voice),
+        Called::CopiedMap => speak::<LinkedHashMap<Name, Name, S>>(row, 0, home, answers, voice),
+        Called::CopiedSet => speak::<LinkedHashSet<Name, S>>(row, 0, home, answers, voice),
+        Called::Commands => {
             let map = LinkedHashMap::with_hasher(home.alloc, S::default());
             Ok(whole(are_runs_right(map, home.alloc, row.lines, answers, voice)?))
         }
-        "cache_commands" => {
+        Called::CacheCommands => {
             let cache = LruCache::with_hasher(home.alloc, words.size()?, S::default());
             Ok(whole(are_runs_right(cache, home.alloc, row.lines, answers, voice)?))
         }
-        _ => Err(Stop::Unread),
     }
 }
 

@@ -1,9 +1,26 @@
 //! Iterators over two sets, with their bounds, and beside a clone.
 use test_items::{Answers, Item, Name, Stop, Word};
 
-/// Says the bounds of how many are left and what comes, in turn, until nothing comes, after which nothing more
-/// may come. A clone that is made after the first has to say the same.
-pub fn say_all<'s, I: Iterator<Item = &'s Item> + Clone + Drop>(
+/// Says the bounds of how many are left and what comes, in turn, for so many steps, or where no number of steps
+/// is given until nothing comes. Then nothing more may come, and a clone that is made after the first step has
+/// to say the same.
+pub fn say_steps<'s, I: Iterator<Item = &'s Item> + Clone + Drop>(
+    mut first: I,
+    steps: Option<Name>,
+    answers: &mut Answers,
+) -> Result<(), Stop>
+    requires { (s : I) → I.can_next s }
+{
+    let Some(steps) = steps else {
+        return say_all(first, answers);
+    };
+    for _ in 0..steps.group {
+        say_step(&mut first, answers)?;
+    }
+    Ok(())
+}
+
+fn say_all<'s, I: Iterator<Item = &'s Item> + Clone + Drop>(
     mut first: I,
     answers: &mut Answers,
 ) -> Result<(), Stop>

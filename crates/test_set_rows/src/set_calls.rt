@@ -54,6 +54,8 @@ pub enum ElementsCall {
 pub enum WalkCall {
     Iter,
     Drain,
+    /// A drain that is forgotten after its steps.
+    ForgottenDrain,
     IntoIter,
 }
 
@@ -80,7 +82,7 @@ pub enum SetCall {
     Walk(WalkCall),
 }
 
-pub const SET_CALLS: [(&str, SetCall); 33] = [
+pub const SET_CALLS: [(&str, SetCall); 34] = [
     ("front", SetCall::Read(ReadCall::Front)),
     ("back", SetCall::Read(ReadCall::Back)),
     ("len", SetCall::Read(ReadCall::Len)),
@@ -113,6 +115,7 @@ pub const SET_CALLS: [(&str, SetCall); 33] = [
     ("retain_with_order", SetCall::Retain(true)),
     ("iter", SetCall::Walk(WalkCall::Iter)),
     ("drain", SetCall::Walk(WalkCall::Drain)),
+    ("forgotten_drain", SetCall::Walk(WalkCall::ForgottenDrain)),
     ("into_iter", SetCall::Walk(WalkCall::IntoIter)),
 ];
 

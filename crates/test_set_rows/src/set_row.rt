@@ -1,7 +1,7 @@
 //! Lines that speak to a set, and to two sets.
 ghost use Rattle.std.specs.Prelude.{◌≡◌};
 
-use crate::alike::say_all;
+use crate::alike::say_steps;
 use crate::set_calls::{
     AskOfTwo, ElementCall, ElementsCall, EndCall, IterateTwo, Operator, PutCall, ReadCall,
     SET_CALLS, SETS_CALLS, SetCall, SetsCall, SizeCall, WalkCall,
@@ -52,6 +52,12 @@ fn walk_set<S: BuildHasher + Copy + Drop>(
     match call {
         WalkCall::Iter => walk_and_clone(Walked(set.iter()), words, answers),
         WalkCall::Drain => take_steps(&mut Walked(set.drain()), words, answers),
+        WalkCall::ForgottenDrain => {
+            let mut drain = Walked(set.drain());
+            let taken = take_steps(&mut drain, words, answers);
+            mem::forget(drain);
+            taken
+        }
         WalkCall::IntoIter => {
             let empty = LinkedHashSet::with_hasher(home.alloc, *set.hasher());
             walk_whole(Walked(mem::replace(set, empty).into_iter()), words, answers)
@@ -253,7 +259,7 @@ pub fn call_sets<S: BuildHasher + Copy + Default + Drop>(
 ) -> Result<(), Stop> {
     match words.named(&SETS_CALLS)? {
         SetsCall::Ask(call) => answers.say(ask_of_two(set, other, call)),
-        SetsCall::Iterate(call) => iterate(set, other, call, answers),
+        SetsCall::Iterate(call) => iterate(set, other, call, words.optional()?, answers),
         SetsCall::Operate(operator) => answers.say(operate(set, other, operator)),
     }
 }
@@ -285,13 +291,16 @@ fn iterate<S: BuildHasher>(
     set: &Set<S>,
     other: &Set<S>,
     call: IterateTwo,
+    steps: Option<Name>,
     answers: &mut Answers,
 ) -> Result<(), Stop> {
     match call {
-        IterateTwo::Union => say_all(set.union(other), answers),
-        IterateTwo::Intersection => say_all(set.intersection(other), answers),
-        IterateTwo::Difference => say_all(set.difference(other), answers),
-        IterateTwo::SymmetricDifference => say_all(set.symmetric_difference(other), answers),
+        IterateTwo::Union => say_steps(set.union(other), steps, answers),
+        IterateTwo::Intersection => say_steps(set.intersection(other), steps, answers),
+        IterateTwo::Difference => say_steps(set.difference(other), steps, answers),
+        IterateTwo::SymmetricDifference => {
+            say_steps(set.symmetric_difference(other), steps, answers)
+        }
     }
 }
 
