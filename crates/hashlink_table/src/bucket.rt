@@ -1,4 +1,4 @@
-ghost use Rattle.std.specs.Prelude.{◌≡◌, ◌%◌};
+ghost use Rattle.std.specs.Prelude.{◌≡◌, ◌%◌, ◌≤◌};
 ghost use Rattle.std.specs.Int.{IsPowerOfTwo};
 
 /// Which of so many buckets a hash belongs to.
@@ -8,4 +8,16 @@ pub fn bucket_of(hash: u32, buckets: usize) -> usize
     ensures { result ≡ hash % buckets }
 {
     (hash as usize) & (buckets - 1)
+}
+
+// The most room for which a table has two buckets for each node, and not one.
+const MAX_SPARSE_ROOM: usize = 1 << 12;
+
+/// How many buckets a table has that grows to this room.
+pub fn buckets_for(room: usize) -> usize
+    requires { IsPowerOfTwo room }
+    ensures power { IsPowerOfTwo result }
+    ensures enough { room ≤ result }
+{
+    if room <= MAX_SPARSE_ROOM { 2 * room } else { room }
 }

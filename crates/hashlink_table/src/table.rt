@@ -1,12 +1,12 @@
 ghost use Rattle.std.specs.Prelude.{◌≡◌, ℕ, ◌+◌, ◌*◌, ◌^◌, ◌<◌, ◌≤◌, ◌↔◌, ◌∷◌, ◌++◌, [], false, true};
-ghost use Rattle.std.specs.Prelude.{IfNone, IfOk, IfSome, IsOk, IsPermutation, IsTrue, OnErr, OnOk, Ok, Err};
+ghost use Rattle.std.specs.Prelude.{IfNone, IfOk, IfSome, IsOk, IsPermutation, OnErr, OnOk, Ok, Err};
 ghost use Rattle.std.specs.Prelude.{length, max};
 ghost use Rattle.std.specs.Int.{IsPowerOfTwo};
 ghost use Rattle.hashlink_table.specs.declared.error.TryReserveError.TheVariants.{CapacityOverflow};
 ghost use Rattle.hashlink_table.specs.Chains.{nodes_in};
 ghost use Rattle.hashlink_table.specs.Contents.{agreeing, len_of, Keeps};
 
-use super::bucket::bucket_of;
+use super::bucket::{bucket_of, buckets_for};
 use super::cell::{END, Stored};
 use super::error::TryReserveError;
 use super::kept::Kept;
@@ -121,14 +121,6 @@ impl<N: Copy> Table<N> {
         ensures within { result ≤ self.now.room }
     {
         self.len // counted, so nothing is walked
-    }
-
-    /// Returns whether the table holds no node.
-    #[inline]
-    pub fn is_empty(&self) -> bool
-        ensures { IsTrue result ↔ (len_of self.now ≡ 0) }
-    {
-        self.len() == 0
     }
 
     /// Returns the number of nodes that fit without an allocation.
@@ -314,7 +306,7 @@ impl<N: Copy> Table<N> {
         }
         let needed = self.len + additional;
         let room = needed.max(MIN_ROOM).next_power_of_two();
-        self.rebuild(room, room)?;
+        self.rebuild(buckets_for(room), room)?;
         Ok(())
     }
 
@@ -332,7 +324,7 @@ impl<N: Copy> Table<N> {
             return Ok(());
         }
         let len = self.len;
-        self.rebuild(len.next_power_of_two(), len)
+        self.rebuild(buckets_for(len.next_power_of_two()), len)
     }
 
     // Puts the nodes into so many new buckets, for this room. If it fails, it changes nothing.
