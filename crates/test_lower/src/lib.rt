@@ -1,10 +1,7 @@
-//! The ring of nodes, the table and the keyed list, by their crates' public names alone: what no test of a
-//! map says of them.
+//! The table and the keyed list, by their crates' public names alone: what no test of a map says of them.
 #![tactic(auto)]
 
 #[cfg(test)]
 mod list_walks;
-#[cfg(test)]
-mod nodes;
 #[cfg(test)]
 mod tables;

@@ -20,14 +20,6 @@ impl<K, V> Nodes<K, V> {
         self.len
     }
 
-    /// Proves that no node is twice in the ring and the free list together. The call itself does nothing.
-    #[inline]
-    pub fn are_distinct(&self)
-        ensures { IsDistinct same_node (keys_of self.now.entries ++ self.now.free) }
-    {
-        let _first = self.first_spare;
-    }
-
     /// Returns the number of spare nodes.
     #[inline]
     pub fn spare(&self) -> usize
