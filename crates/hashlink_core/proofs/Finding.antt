@@ -1,9 +1,13 @@
 -- Finding a key's node by the table, and telling two nodes apart.
-use Rattle.std.proofs.Common.{◌≡◌, ℕ, Bool, true, false, Option, None, Some, ap, sym, subst, ◌∙◌}
+use Rattle.std.proofs.Common.{◌≡◌, ℕ, List, ◌∷◌, Bool, true, false, Option, None, Some, refl, ap, sym}
+use Rattle.std.proofs.Common.{subst, ◌∙◌, arith}
+use Rattle.std.specs.Prelude.{IsPermutation}
 use Rattle.std.specs.Option.{option_map, is_some, IfSome, IfNone, MatchOption}
 use Rattle.std.specs.Cmp.{IsEquivalence}
+use Rattle.std.specs.List.{fold}
 use Rattle.std.specs.Map.{lookup}
 use Rattle.std.proofs.Math.Path.{fun_ext}
+use Rattle.std.proofs.lemmas.List.Sorted.{Contains-permutation, IsPermutation-sym}
 use Rattle.hashlink_model.specs.Entries.{place_of, IsKeyTest}
 use Rattle.hashlink_model.proofs.Places.{place_of_its_key}
 use Rattle.hashlink_model.proofs.Splits.{place_of-none}
@@ -17,11 +21,11 @@ use Rattle.hashlink_table.specs.Contents.{Contents, Keeps}
 use Rattle.hashlink_core.specs.Keyed.{nodes_of, pairs_in, HoldsMatch}
 use Rattle.hashlink_core.specs.Places.{place_number}
 use Rattle.hashlink_core.specs.Telling.{Tells, TellsMatch}
-use Rattle.hashlink_core.specs.Tied.{IsInStep, short}
+use Rattle.hashlink_core.specs.Tied.{IsInStep, short, hash_with}
 use Rattle.hashlink_core.proofs.Mapped.{lookup-mapped, place_number-mapped}
 use Rattle.hashlink_core.proofs.Places.{node-at}
 use Rattle.hashlink_core.proofs.Stepping.{pair-at}
-use Rattle.hashlink_core.proofs.Tying.{untied-absent}
+use Rattle.hashlink_core.proofs.Tying.{kept, untied-absent}
 
 -- what a call answered at a node's key
 pub answered-at : {K V : Type 0} (P : K → Type 0) (o : Option (Held K V)) (key : K) (value : V)
@@ -53,11 +57,36 @@ tells-key laws alike {k = k} tells = record {
   answers = λ x b r. tells.answers x b r ∙ laws.symm x.now k;
 }
 
+-- the keys that a query matches have its hash
+pub query-hashed : {K S H : Type 0} (build : S → H) (write : H → List ℕ → H) (finish : H → ℕ)
+    (input : K → List (List ℕ)) (matches : K → Bool) (query : List (List ℕ))
+    → ((x : K) → matches x ≡ true → query ≡ input x) → (s now : S) → s ≡ now
+    → (asked : ℕ) → asked ≡ finish (fold write (build now) query)
+    → (x : K) → matches x ≡ true
+    → hash_with build write finish input s x ≡ asked
+query-hashed build write finish input matches query alike s now same asked is x e =
+    ap (λ s. hash_with build write finish input s x) same
+    ∙ ap (λ i. finish (fold write (build now) i)) (sym (alike x e)) ∙ sym is
+
+-- what a removal took out of a table was in it
+pub was-kept : (t u : Contents Node) (number : ℕ) (n : Node) → IsPermutation t.nodes (kept number n ∷ u.nodes)
+    → Keeps t number n
+was-kept t u number n left =
+    Contains-permutation (kept number n ∷ u.nodes) t.nodes (kept number n) (IsPermutation-sym _ _ left)
+    (0, omega arith, refl)
+
 module _ {K V : Type 0} {eq : K → K → Bool} (laws : IsEquivalence eq) {hash : K → ℕ} {r : Ring K V}
     {t : Contents Node} (step : IsInStep eq hash r t) where
   -- each node that the table has is of the ring
   pub listed-holds : (number : ℕ) (n : Node) → Keeps t number n → Holds r.entries n
   listed-holds number n there = ap is_some (step.tied.listed number n there).here
+
+  -- so its entry has that number
+  pub listed-number : (number : ℕ) (n : Node) → Keeps t number n
+      → option_map (λ h. h.number) (lookup (same_node n) r.entries) ≡ Some number
+  listed-number number n there =
+      let listed = step.tied.listed number n there in
+      ap (option_map (λ h. h.number)) listed.here ∙ ap Some listed.is
 
   -- what a search of the table answers, by calls that tell the keys that pass from the others
   pub found-by_table : (passes : K → Bool) → IsKeyTest eq passes → (asked i : ℕ) → i ≡ short asked

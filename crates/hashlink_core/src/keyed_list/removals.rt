@@ -1,10 +1,15 @@
 //! Removals by key, at the ends, and of all. The other entries keep their order, and each removal leaves a
 //! spare node, which the next insert of an absent key uses. No removal allocates.
+ghost use Rattle.std.specs.Prelude.{◌≡◌, IfSome};
+ghost use Rattle.std.specs.Map.{lookup};
+ghost use Rattle.hashlink_nodes.specs.Node.{same_node};
+ghost use Rattle.hashlink_nodes.specs.Ring.{Holds};
 ghost use Rattle.hashlink_model.specs.Steps.{RemovesMatch, PopsFront, PopsBack, Drains};
 ghost use Rattle.hashlink_core.specs.Keyed.{state_of, IsKeyed};
 
-use super::KeyedList;
+use super::{KeyedList, short_hash};
 use crate::equivalent::Equivalent;
+use hashlink_nodes::Node;
 use std::hash::{BuildHasher, Hash};
 
 impl<K: Eq + Hash, V, S: BuildHasher> KeyedList<K, V, S> {
@@ -14,8 +19,15 @@ impl<K: Eq + Hash, V, S: BuildHasher> KeyedList<K, V, S> {
         ensures removes { RemovesMatch (Q.matches key) (state_of self.old) (state_of self.new) result }
         ensures sound { IsKeyed K.eq self.new }
     {
-        let node = self.find(self.hash_of(key), key)?;
-        Some(self.remove(node))
+        let hash = short_hash(self.hash_of(key));
+        let nodes = &self.nodes;
+        let holds_match = |node: Node| -> bool
+            requires { Holds nodes.now.entries node }
+            ensures { IfSome (lookup (same_node node) nodes.entry.now.entries)
+                (λ held. result ≡ Q.matches key held.key) }
+        { key.equivalent(nodes.entry(node).0) };
+        let node = self.table.remove(hash, holds_match)?;
+        Some(self.nodes.detach_into_free(node))
     }
 
     /// Removes the first entry and returns it. It takes constant time, hashes nothing, and stores at most

@@ -1,19 +1,85 @@
-use Rattle.std.proofs.Common.{refl, sym}
-use Rattle.hashlink_core.specs.Keyed.{entries_of}
+use Rattle.std.proofs.Common.{◌≡◌, Some, None, refl, ap, sym, subst, ◌∙◌}
+use Rattle.hashlink_model.specs.Entries.{place_of}
+use Rattle.hashlink_core.specs.Keyed.{entries_of, state_of, seen_as, HoldsMatch, IsKeyed}
 use Rattle.hashlink_core.proofs.AtKeyNode.{removed}
+use Rattle.hashlink_core.proofs.Calls.{sound, stored, removed-step, removed-node}
+use Rattle.hashlink_core.proofs.Finding.{query-hashed, was-kept, listed-holds, listed-number, found-by_table}
 use Rattle.hashlink_core.proofs.Steps.{lookup_entry-unplaced}
+use Rattle.hashlink_core.proofs.keyed_list.KeyedList.remove_key.Given as given
 use Rattle.hashlink_core.proofs.keyed_list.KeyedList.remove_key.Goals as goal
+
+pub remove-requires : goal.remove-requires
+remove-requires g c node there = listed-holds g.met.K.Eq.laws c.self.invariant _ node there
 
 pub returns-in_err-node-clause-removes : goal.returns-in_err-node-clause-removes
 returns-in_err-node-clause-removes g c =
+    let H = g.S.Hasher.Hasher in
+    let passes = g.Q.Equivalent.matches c.args.key in
+    let absent = found-by_table g.met.K.Eq.laws c.self.invariant passes
+    (g.met.Q.Equivalent.finds_equal c.args.key) c.hash_of.result c.short_hash-hash.result
+    c.short_hash-hash.ensures
+    (query-hashed g.S.BuildHasher.build_hasher H.write H.finish g.K.Hash.hash_input passes _
+    (g.met.Q.Equivalent.hashed_alike c.args.key) c.self.inside.hash_builder c.args.self.now.hasher
+    (ap (λ m. m.hasher) c.self.view_is) c.hash_of.result c.hash_of.ensures)
+    (λ x b. b ≡ passes x) (λ x b is. is) None tt c.in_err-node.ensures.none in
     rw c.from_residual.ensures
     (record {
-      answer = sym (lookup_entry-unplaced (g.Q.Equivalent.matches c.args.key) (entries_of c.args.self.now)
-          c.in_err-node.ensures.found);
-      step = refl;
+      answer = sym (lookup_entry-unplaced passes (entries_of c.args.self.now)
+          (subst (λ m. place_of passes (entries_of m) ≡ None) c.self.view_is absent));
+      step = ap (λ u. state_of (seen_as c.self.inside.nodes u c.self.inside.hash_builder))
+          c.in_err-node.ensures.same ∙ ap state_of c.self.view_is;
     })
+
+pub returns-in_err-node-clause-sound : goal.returns-in_err-node-clause-sound
+returns-in_err-node-clause-sound g c =
+    subst (λ u. IsKeyed g.K.PartialEq.eq (seen_as c.self.inside.nodes u c.self.inside.hash_builder))
+    (sym c.in_err-node.ensures.same) (sound g.met.K.Eq.laws refl c.self.invariant)
+
+pub detach_into_free-requires : goal.detach_into_free-requires
+detach_into_free-requires g c =
+    let left = c.in_ok-node.ensures.removed.0 in
+    listed-holds g.met.K.Eq.laws c.self.invariant _ c.in_ok-node.node (was-kept c.self.inside.table c.remove.new.self _ _ left)
+
+-- the node that the table gave back is the key's
+found : (g : given.Over) (c : goal.After-detach_into_free g)
+    → HoldsMatch (g.Q.Equivalent.matches c.args.key) c.args.self.now.nodes c.in_ok-node.node
+found g c =
+    let H = g.S.Hasher.Hasher in
+    let passes = g.Q.Equivalent.matches c.args.key in
+    let r = c.in_ok-node.ensures.removed in
+    subst (λ m. HoldsMatch passes m.nodes c.in_ok-node.node) c.self.view_is
+    (found-by_table g.met.K.Eq.laws c.self.invariant passes
+    (g.met.Q.Equivalent.finds_equal c.args.key) c.hash_of.result c.short_hash-hash.result
+    c.short_hash-hash.ensures
+    (query-hashed g.S.BuildHasher.build_hasher H.write H.finish g.K.Hash.hash_input passes _
+    (g.met.Q.Equivalent.hashed_alike c.args.key) c.self.inside.hash_builder c.args.self.now.hasher
+    (ap (λ m. m.hasher) c.self.view_is) c.hash_of.result c.hash_of.ensures)
+    (λ x b. b ≡ passes x) (λ x b is. is) (Some c.in_ok-node.node)
+    (was-kept c.self.inside.table c.remove.new.self _ _ r.0, r.1) tt)
+
+pub invariant_of-self-2 : goal.invariant_of-self-2
+invariant_of-self-2 g c =
+    let left = c.in_ok-node.ensures.removed.0 in
+    let there = was-kept c.self.inside.table c.remove.new.self _ _ left in
+    let d = c.detach_into_free in
+    removed-step g.met.K.Eq.laws c.self.view_is c.self.invariant c.in_ok-node.node (found g c).within
+    d.new.self c.remove.new.self c.short_hash-hash.result
+    (listed-number g.met.K.Eq.laws c.self.invariant _ c.in_ok-node.node there) left c.remove.ensures.room
+    d.ensures.entries d.ensures.free
 
 pub returns-clause-removes : goal.returns-clause-removes
 returns-clause-removes g c =
-    removed (g.Q.Equivalent.matches c.args.key) c.args.self.now c.remove.new.self c.in_ok-node.node
-    c.in_ok-node.ensures.found c.remove.result c.remove.ensures.pair c.remove.ensures.removed
+    let left = c.in_ok-node.ensures.removed.0 in
+    let there = was-kept c.self.inside.table c.remove.new.self _ _ left in
+    let d = c.detach_into_free in
+    let n = c.in_ok-node.node in
+    let laws = g.met.K.Eq.laws in
+    let within = (found g c).within in
+    removed (g.Q.Equivalent.matches c.args.key) c.args.self.now _ n (found g c) d.result
+    (stored laws c.self.view_is c.self.invariant n within ∙ d.ensures.pair)
+    (removed-node laws c.self.view_is c.self.invariant n within d.new.self c.remove.new.self
+    c.short_hash-hash.result (listed-number laws c.self.invariant _ n there) left c.remove.ensures.room
+    d.ensures.entries d.ensures.free d.ensures.link_writes)
+
+pub returns-clause-sound : goal.returns-clause-sound
+returns-clause-sound g c = sound g.met.K.Eq.laws refl (invariant_of-self-2 g c)
