@@ -11,7 +11,7 @@ pub fn bucket_of(hash: u32, buckets: usize) -> usize
 }
 
 // The most room for which a table has two buckets for each node, and not one.
-const MAX_SPARSE_ROOM: usize = 1 << 12;
+const MAX_SPARSE_ROOM: usize = 1 << 10;
 
 /// How many buckets a table has that grows to this room.
 pub fn buckets_for(room: usize) -> usize
@@ -19,5 +19,9 @@ pub fn buckets_for(room: usize) -> usize
     ensures power { IsPowerOfTwo result }
     ensures enough { room ≤ result }
 {
-    if room <= MAX_SPARSE_ROOM { 2 * room } else { room }
+    if room <= MAX_SPARSE_ROOM {
+        2 * room
+    } else {
+        room
+    }
 }

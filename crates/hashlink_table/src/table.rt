@@ -29,7 +29,8 @@ const MIN_ROOM: usize = 4;
 /// Nodes by their hashes.
 ///
 /// A new table does not allocate. It takes then 8 bytes and a node for each bucket, of which there are as
-/// many as it has room for nodes or up to twice, and as much for each cell over.
+/// many as it has room for nodes or up to twice, and twice that in a small table, and as much for each cell
+/// over.
 #[derive(Drop)]
 pub struct Table<N> {
     // The buckets' own cells. There are none or a power of two.

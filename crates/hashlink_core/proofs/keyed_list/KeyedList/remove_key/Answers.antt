@@ -37,8 +37,8 @@ returns-in_err-node-clause-sound g c =
 
 pub detach_into_free-requires : goal.detach_into_free-requires
 detach_into_free-requires g c =
-    let left = c.in_ok-node.ensures.removed.0 in
-    listed-holds g.met.K.Eq.laws c.self.invariant _ c.in_ok-node.node (was-kept c.self.inside.table c.remove.new.self _ _ left)
+    listed-holds g.met.K.Eq.laws c.self.invariant _ c.in_ok-node.node
+    (was-kept c.self.inside.table c.remove.new.self _ _ c.in_ok-node.ensures.removed.0)
 
 -- the node that the table gave back is the key's
 found : (g : given.Over) (c : goal.After-detach_into_free g)
