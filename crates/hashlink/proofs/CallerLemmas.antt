@@ -43,7 +43,7 @@ use Rattle.hashlink_commands.specs.declared.replies.Reply.TheVariants.{Value}
 use Rattle.hashlink_steps.specs.CallReplies.{insert_reply, is_refused}
 use Rattle.hashlink_steps.specs.Chain.{Answered, replies_of}
 use Rattle.hashlink_run.specs.Run.{LawfulRun, Run, ShownBy, TakesKeysWhereShorter, keeps_nodes}
-use Rattle.hashlink_steps.specs.Step.{AskedBy, ReadBy, Step}
+use Rattle.hashlink_steps.specs.Step.{KeepAsks, ReadBy, Step}
 use Rattle.hashlink_model.proofs.Distinct.{none_equal, none_others, IsEntries-middle, IsEntries-insert}
 use Rattle.hashlink_model.proofs.Puts.{none_without}
 use Rattle.hashlink_model.proofs.SetElements.{find-keys}
@@ -723,10 +723,10 @@ module _ {K V B S : Type 0} {eq : K → K → Bool} {Says : K → V → B → Ty
   -- or later
   pub shown_now_or_later : {old : MapState K V S} {command : Command K V} {commands : List (Command K V)}
       {pair : K × V} → ShownBy eq Says Keeps old (command ∷ commands) pair
-      → (ReadBy eq Says old command pair ⊎ AskedBy old command pair)
+      → (ReadBy eq Says old command pair ⊎ KeepAsks old command pair)
       ⊎ ((a : Answered (Reply K V B) (MapState K V S)) × Step eq Says Keeps old command a.replies a.state
       × ShownBy eq Says Keeps a.state commands pair)
   shown_now_or_later shown = elim shown.comes [
-    | inl now ↦ inl now
+    | inl now ↦ inl (elim now [ inl read ↦ inl read | inr asked ↦ inr asked.asks ])
     | inr later ↦ inr (later.0, later.1, record { comes = later.2 })
   ]

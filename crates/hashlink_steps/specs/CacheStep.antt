@@ -21,14 +21,19 @@ use Rattle.hashlink_steps.specs.EntrySteps.{EntrySteps, ReadAtEntry}
 use Rattle.hashlink_steps.specs.Reads.{Replies}
 
 -- the command, from old, reads the pair
-abbrev pub ReadFromCache : {K V S : Type 0} → (K → K → Bool) → CacheState K V S → CacheCommand K V → K × V
+abbrev pub CommandReads : {K V S : Type 0} → (K → K → Bool) → CacheState K V S → CacheCommand K V → K × V
     → Type 0
-ReadFromCache eq old (Use k v) pair = lookup_entry (eq k) old.map.entries ≡ Some pair
-ReadFromCache {K} {V} {S} eq old (Entry k step) pair =
+CommandReads eq old (Use k v) pair = lookup_entry (eq k) old.map.entries ≡ Some pair
+CommandReads {K} {V} {S} eq old (Entry k step) pair =
     (between : MapState K V S) × EvictsFront old.map between old.cap × ReadAtEntry eq between k step pair
-ReadFromCache eq old (Get k) pair = lookup_entry (eq k) old.map.entries ≡ Some pair
-ReadFromCache eq old (Peek k) pair = lookup_entry (eq k) old.map.entries ≡ Some pair
-ReadFromCache eq old command pair = ⊥
+CommandReads eq old (Get k) pair = lookup_entry (eq k) old.map.entries ≡ Some pair
+CommandReads eq old (Peek k) pair = lookup_entry (eq k) old.map.entries ≡ Some pair
+CommandReads eq old command pair = ⊥
+
+-- the same as a record: terms of it are compared by its arguments, and so at little cost
+pub record ReadFromCache {K V S : Type 0} (eq : K → K → Bool) (old : CacheState K V S)
+    (command : CacheCommand K V) (pair : K × V) : Type 0 where
+  pub reads : CommandReads eq old command pair
 
 module _ {K V B S : Type 0} (eq : K → K → Bool) (Says : K → V → B → Type 0) where
   -- from old, the cache may answer the command by these replies and go on to new

@@ -1,8 +1,12 @@
 -- A keep by a closure that writes nothing: `Keeps k v b` says that it may answer b at the key k with the
 -- value v.
-use Rattle.std.specs.Prelude.{◌≡◌, ℕ, ◌%◌, Bool, nat_eq}
+use Rattle.std.specs.Prelude.{◌≡◌, ℕ, ◌%◌, Bool, List, Contains, nat_eq}
 use Rattle.hashlink_model.specs.MapState.{MapState}
 use Rattle.hashlink_model.specs.Retain.{RetainsInOrder}
+
+-- the pair is one of the entries: a record, as `AskedBy` is
+pub record IsEntryOf {K V : Type 0} (es : List (K × V)) (pair : K × V) : Type 0 where
+  pub stands : Contains es pair
 
 module _ {K V : Type 0} (Keeps : K → V → Bool → Type 0) where
   -- it is asked at an entry, and the value stays

@@ -91,6 +91,11 @@ ReadBy eq Says old (Cursor steps) pair = ReadOnWalk eq Says (first_place old) st
 ReadBy eq Says old command pair = ⊥
 
 -- the command is a keep, and asks of the pair
-abbrev pub AskedBy : {K V S : Type 0} → MapState K V S → Command K V → K × V → Type 0
-AskedBy old Keep pair = Contains old.entries pair
-AskedBy old command pair = ⊥
+abbrev pub KeepAsks : {K V S : Type 0} → MapState K V S → Command K V → K × V → Type 0
+KeepAsks old Keep pair = Contains old.entries pair
+KeepAsks old command pair = ⊥
+
+-- the same as a record: terms of it are compared by its arguments, and so at little cost
+pub record AskedBy {K V S : Type 0} (old : MapState K V S) (command : Command K V) (pair : K × V)
+    : Type 0 where
+  pub asks : KeepAsks old command pair

@@ -1,12 +1,12 @@
 //! One command to a map.
-ghost use Rattle.std.specs.Prelude.{◌≡◌, ◌+◌, ◌≤◌, ◌++◌, [], ◌∷◌, Contains, List, OnOk, IsOk, Some, length};
+ghost use Rattle.std.specs.Prelude.{◌≡◌, ◌+◌, ◌≤◌, ◌++◌, [], ◌∷◌, List, OnOk, IsOk, Some, length};
 ghost use Rattle.std.specs.Prelude.{vec_len, vec_capacity};
 ghost use Rattle.std.specs.Map.{lookup, lookup_entry};
 ghost use Rattle.std.specs.Map.Iter.{deref_pair};
 ghost use Rattle.std.specs.Option.{option_map};
 ghost use Rattle.hashlink_core.specs.Keyed.{entries_of, state_of};
 ghost use Rattle.hashlink_model.specs.Steps.{Moves};
-ghost use Rattle.hashlink_steps.specs.Keeps.{KeepsWhere};
+ghost use Rattle.hashlink_steps.specs.Keeps.{IsEntryOf, KeepsWhere};
 ghost use Rattle.hashlink_steps.specs.Reads.{CallableAt, CallableOn, ClosureSays, SaysOf};
 ghost use Rattle.hashlink_steps.specs.CallReplies.{insert_reply, shrink_reply};
 ghost use Rattle.hashlink_steps.specs.Step.{AskedBy, IsNoCursor, ReadBy, Step, reply_count};
@@ -109,7 +109,7 @@ where
     V: Drop,
     S: BuildHasher,
     G: Fn(&K, &V) -> bool,
-    requires { CallableOn G.Fn keep.now (Contains (entries_of map.old)) }
+    requires { CallableOn G.Fn keep.now (IsEntryOf (entries_of map.old)) }
     ensures { KeepsWhere (ClosureSays G.Fn keep.now) (state_of map.old) (state_of map.new) }
 {
     map.retain(

@@ -1,21 +1,38 @@
-use Rattle.std.proofs.Common.{rules}
+use Rattle.std.proofs.Common.{◌≡◌, Bool, ap, subst, sym, ◌∙◌}
+use Rattle.std.specs.Map.{lookup_entry}
+use Rattle.hashlink_core.specs.Keyed.{entries_of}
+use Rattle.hashlink_commands.specs.declared.cache_commands.CacheCommand.{CacheCommand}
 use Rattle.hashlink_lru.specs.Cached.{state_in}
+use Rattle.hashlink_model.specs.Cache.{CacheState}
+use Rattle.hashlink_steps.specs.CacheStep.{CommandReads, ReadFromCache}
 use Rattle.hashlink_steps.proofs.cache_steps.answer_cache.Goals as goal
 
+-- what the command of an arm reads, the command that was given reads
+reads_of : {K V S : Type 0} (eq : K → K → Bool) (old : CacheState K V S) (pair : K × V)
+    (given of_arm : CacheCommand K V) → given ≡ of_arm → CommandReads eq old of_arm pair
+    → ReadFromCache eq old given pair
+reads_of eq old pair given of_arm is read =
+    record { reads = subst (λ command. CommandReads eq old command pair) (sym is) read }
+
 pub answer_use-requires : goal.answer_use-requires
-answer_use-requires g c = rw c.in-Use.is at c.requires
+answer_use-requires g c = λ pair read. c.requires pair (reads_of _ _ pair _ _ c.in-Use.is read)
 
 pub reply_of_entry-requires : goal.reply_of_entry-requires
 reply_of_entry-requires g c = λ pair read.
     let from = rw c.map_mut.ensures.unchanged at read in
     let evicts = c.make_room.ensures.evicts in
-    (rw c.in-Entry.is at c.requires) pair ((state_in c.make_room.new.self).map, evicts.map, from)
+    c.requires pair
+    (reads_of _ _ pair _ _ c.in-Entry.is ((state_in c.make_room.new.self).map, evicts.map, from))
 
 pub said_of_get-requires : goal.said_of_get-requires
-said_of_get-requires g c = rw c.in-Get.is at c.requires
+said_of_get-requires g c = λ pair read. c.requires pair (reads_of _ _ pair _ _ c.in-Get.is read)
 
 pub said_of-requires : goal.said_of-requires
-said_of-requires g c = let may = rw c.in-Peek.is at c.requires in search rules
+said_of-requires g c = λ pair read.
+    let there =
+    c.from_key.ensures ∙ ap (λ map. lookup_entry (g.K.PartialEq.eq c.in-Peek.key) (entries_of map))
+    c.raw_entry.ensures in
+    c.requires pair (reads_of _ _ pair _ _ c.in-Peek.is (sym there ∙ read))
 
 pub returns-in-Entry : goal.returns-in-Entry
 returns-in-Entry g c =

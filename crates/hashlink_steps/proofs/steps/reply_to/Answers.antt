@@ -20,7 +20,8 @@ said_of-requires-in-Back g c = λ pair read.
     (rw c.in-Back.is at c.requires.says) pair (sym c.back.ensures.found ∙ read)
 
 pub keep_where-requires : goal.keep_where-requires
-keep_where-requires g c = rw c.in-Keep.is at c.requires.keep
+keep_where-requires g c = λ pair is.
+    c.requires.keep pair (record { asks = rw c.in-Keep.is is.stands })
 
 pub reply_of_entry-requires : goal.reply_of_entry-requires
 reply_of_entry-requires g c = rw c.in-Entry.is at c.requires.says
