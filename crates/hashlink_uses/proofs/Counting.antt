@@ -65,17 +65,19 @@ module _ {F K V N : Type 0} (T : F → K → V → Bool → V → F → Type 0) 
         entries = h.0 ∙ sym (without_first-none passes (left f));
         count = omega arith;
         fewer = omega arith;
-        same = sym (ap name h.1) }
+        same = sym (ap name h.1);
+      }
   counts_down f (e ∷ es) kept g h =
       let one = call f e.0 e.1 h.0 h.1 h.2 h.4 in
       let more = counts_down h.2 es h.3 g h.5 in
       let count = counted_more f h.2 g e es kept h.3 h.0 h.1 one.1 h.6 more.count more.fewer in
       record {
         entries = without_first-cons passes (passes e) h.0 (left f) (left h.2) e (e.0, h.1) es h.3 kept refl
-          one.0 one.1 (ap (λ v. (e.0, v)) one.2) h.6 more.entries;
+            one.0 one.1 (ap (λ v. (e.0, v)) one.2) h.6 more.entries;
         count = count.0;
         fewer = count.1;
-        same = one.3 ∙ more.same }
+        same = one.3 ∙ more.same;
+      }
 
   -- the whole retain: the first entries that pass have left, as many as the number fell by
   pub record RemovesFirst {S : Type 0} (f : F) (old new : MapState K V S) (g : F) : Type 0 where
@@ -92,7 +94,8 @@ module _ {F K V N : Type 0} (T : F → K → V → Bool → V → F → Type 0) 
         left_are = subst (KeepsOnly old new) all.entries r.keeps;
         count = ap (λ es. left f + length es) r.keeps.entries ∙ all.count;
         fewer = all.fewer;
-        same = all.same }
+        same = all.same;
+      }
 
 -- of a set, whose elements are the keys
 module _ {K V : Type 0} (passes : K → Bool) where

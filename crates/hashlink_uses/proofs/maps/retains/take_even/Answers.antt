@@ -23,6 +23,7 @@ returns g c =
     let after = length-map c.retain_from.new.self.entries (λ e. e.0) in
     record {
       left = ap keys_of all.left_are.entries
-        ∙ without_first-keys (λ t. nat_eq (t % 2) 0) c.args.most c.args.set.now.entries;
+          ∙ without_first-keys (λ t. nat_eq (t % 2) 0) c.args.most c.args.set.now.entries;
       taken = grind (arith, count, fewer, same, before, after);
-      most = omega arith }
+      most = omega arith;
+    }
