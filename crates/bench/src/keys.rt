@@ -22,15 +22,6 @@ impl Keys {
         let mut random = Xorshift::new();
         let held = random.numbers(alloc, size)?;
         let absent = random.numbers(alloc, size)?;
-        Keys::mix(alloc, &mut random, held, absent)
-    }
-
-    fn mix(
-        alloc: Global,
-        random: &mut Xorshift,
-        held: Vec<u64>,
-        absent: Vec<u64>,
-    ) -> Result<Self, AllocError> {
         let mixed = random.shuffle(alloc, &held)?;
         let mixed_again = random.shuffle(alloc, &held)?;
         let absent_mixed = random.shuffle(alloc, &absent)?;

@@ -130,19 +130,11 @@ fn pairs(alloc: Global, leave: &[u64], come: &[u64]) -> Result<Vec<(u64, u64)>, 
 }
 
 fn time_inserts<R: Runtime>(plan: &Plan<'_, R>, keys: &Keys) -> io::Result<()> {
-    let mut inserts = Inserts {
+    let inserts = &mut Inserts {
         alloc: keys.alloc,
         map: LinkedHashMap::new(keys.alloc),
         is_afresh: true,
     };
-    time_inserts_into(plan, keys, &mut inserts)
-}
-
-fn time_inserts_into<R: Runtime>(
-    plan: &Plan<'_, R>,
-    keys: &Keys,
-    inserts: &mut Inserts,
-) -> io::Result<()> {
     let lists = &mut Turns::of(&keys.held);
     plan.row("insert", keys.held.len(), lists, inserts)?;
     plan.longest("insert_longest", lists, inserts)
@@ -173,16 +165,17 @@ fn time_reads_of<R: Runtime>(plan: &Plan<'_, R>, keys: &Keys, map: &Map) -> io::
     time_walks(plan, "iter", map)
 }
 
+/// Inserts of keys that are present, and an iterator after them: the entries' order is then random in memory.
 fn time_moves<R: Runtime>(plan: &Plan<'_, R>, keys: &Keys) -> io::Result<()> {
     let mut updates = Inserts {
         alloc: keys.alloc,
         map: filled(keys.alloc, &keys.held)?,
         is_afresh: false,
     };
-    time_updates(plan, keys, &mut updates)
+    time_updates(plan, keys, &mut updates)?;
+    time_walks(plan, "iter_moved", &updates.map)
 }
 
-/// Inserts of keys that are present, and an iterator after them: the entries' order is then random in memory.
 /// In two orders by turns, so that a key's neighbours are not those of the last time.
 fn time_updates<R: Runtime>(
     plan: &Plan<'_, R>,
@@ -190,8 +183,7 @@ fn time_updates<R: Runtime>(
     updates: &mut Inserts,
 ) -> io::Result<()> {
     let orders = &mut Turns::new(&keys.mixed, &keys.mixed_again);
-    plan.row("update", keys.held.len(), orders, updates)?;
-    time_walks(plan, "iter_moved", &updates.map)
+    plan.row("update", keys.held.len(), orders, updates)
 }
 
 fn time_churn<R: Runtime>(plan: &Plan<'_, R>, keys: &Keys) -> io::Result<()> {

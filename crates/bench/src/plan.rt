@@ -79,10 +79,22 @@ impl<'a, R: Runtime> Plan<'a, R> {
         lists: &mut L,
         row: &mut W,
     ) -> io::Result<()> {
+        let rt = self.rt;
+        let size = self.size;
         if self.rounds == 0 {
-            return self.row_once(name, lists, row);
+            let (sum, _) = self.pass(row, lists, 0)?;
+            return println!(rt; "{name} {size} {sum:016x}");
         }
-        self.row_timed(name, calls, lists, row)
+        let passes = (CALLS / calls.max(1)).max(1);
+        let timed = passes.saturating_mul(calls).max(1) as u128;
+        let mut least = u128::MAX;
+        let mut sum: u64 = 0;
+        for _ in 0..self.rounds {
+            let (answers, spent) = self.round(passes, row, lists, sum)?;
+            sum = answers;
+            least = least.min(spent.as_nanos().saturating_mul(100) / timed);
+        }
+        self.print_time(name, least, sum)
     }
 
     /// Does a row and writes a line with the longest call of a pass, the least of the rounds.
@@ -93,64 +105,17 @@ impl<'a, R: Runtime> Plan<'a, R> {
         row: &mut W,
     ) -> io::Result<()> {
         if self.rounds == 0 {
-            return self.row_once(name, lists, row);
+            return self.row(name, 1, lists, row);
         }
-        self.longest_timed(name, lists, row)
-    }
-
-    fn row_once<W: Row, L: Lists<W::Item>>(
-        &self,
-        name: &str,
-        lists: &mut L,
-        row: &mut W,
-    ) -> io::Result<()> {
-        let (sum, _) = self.pass(row, lists, 0)?;
-        self.print_once(name, sum)
-    }
-
-    fn row_timed<W: Row, L: Lists<W::Item>>(
-        &self,
-        name: &str,
-        calls: usize,
-        lists: &mut L,
-        row: &mut W,
-    ) -> io::Result<()> {
-        let passes = (CALLS / calls.max(1)).max(1);
-        let timed = passes.saturating_mul(calls);
         let mut least = u128::MAX;
         let mut sum: u64 = 0;
         for _ in 0..self.rounds {
-            let (answers, spent) = self.round(passes, row, lists, sum)?;
+            row.ready()?;
+            let (answers, longest) = self.longest_call(row, lists.list()?)?;
             sum = answers;
-            least = least.min(time_of_each(spent, timed));
+            least = least.min(longest.as_nanos().saturating_mul(100));
         }
         self.print_time(name, least, sum)
-    }
-
-    fn longest_timed<W: Row, L: Lists<W::Item>>(
-        &self,
-        name: &str,
-        lists: &mut L,
-        row: &mut W,
-    ) -> io::Result<()> {
-        let mut least = u128::MAX;
-        let mut sum: u64 = 0;
-        for _ in 0..self.rounds {
-            let (answers, longest) = self.longest_of_pass(row, lists)?;
-            sum = answers;
-            least = least.min(time_of_each(longest, 1));
-        }
-        self.print_time(name, least, sum)
-    }
-
-    /// Makes ready, and returns the sum with the results of a pass and the time of its longest call.
-    fn longest_of_pass<W: Row, L: Lists<W::Item>>(
-        &self,
-        row: &mut W,
-        lists: &mut L,
-    ) -> io::Result<(u64, Duration)> {
-        row.ready()?;
-        self.longest_call(row, lists.list()?)
     }
 
     /// Calls the row on each item, and returns the sum with the results and the time of the longest call.
@@ -158,48 +123,18 @@ impl<'a, R: Runtime> Plan<'a, R> {
         let mut sum: u64 = 0;
         let mut longest = Duration::ZERO;
         for (place, item) in items.iter().enumerate() {
-            let (answers, time) = self.time_call(row, place as u64, item, sum)?;
-            sum = answers;
-            longest = longest.max(time);
+            let start = self.rt.monotonic()?;
+            sum = fold(sum, row.call(place as u64, item)?);
+            let end = self.rt.monotonic()?;
+            longest = longest.max(end.saturating_sub(start));
         }
         Ok((sum, longest))
     }
 
-    /// Returns the sum with the result of a call, and the time that it took.
-    #[inline]
-    fn time_call<W: Row>(
-        &self,
-        row: &mut W,
-        place: u64,
-        item: &W::Item,
-        sum: u64,
-    ) -> io::Result<(u64, Duration)> {
-        let start = self.rt.monotonic()?;
-        let sum = fold(sum, row.call(place, item)?);
-        let end = self.rt.monotonic()?;
-        Ok((sum, end.saturating_sub(start)))
-    }
-
-    fn print_once(&self, name: &str, sum: u64) -> io::Result<()> {
-        let rt = self.rt;
-        let size = self.size;
-        println!(rt; "{name} {size} {sum:016x}")
-    }
-
     fn print_time(&self, name: &str, least: u128, sum: u64) -> io::Result<()> {
-        self.print_least(name, least)?;
-        self.print_checksum(name, sum)
-    }
-
-    fn print_least(&self, name: &str, least: u128) -> io::Result<()> {
         let rt = self.rt;
         let size = self.size;
-        println!(rt; "{name} {size} {}.{:02}", least / 100, least % 100)
-    }
-
-    fn print_checksum(&self, name: &str, sum: u64) -> io::Result<()> {
-        let rt = self.rt;
-        let size = self.size;
+        println!(rt; "{name} {size} {}.{:02}", least / 100, least % 100)?;
         eprintln!(rt; "checksum {name} {size} {sum:016x}")
     }
 
@@ -231,26 +166,12 @@ impl<'a, R: Runtime> Plan<'a, R> {
         sum: u64,
     ) -> io::Result<(u64, Duration)> {
         row.ready()?;
-        self.time_calls(row, lists.list()?, sum)
-    }
-
-    /// Calls the row on each item, and returns the sum with the results and the time that they took.
-    fn time_calls<W: Row>(
-        &self,
-        row: &mut W,
-        items: &[W::Item],
-        sum: u64,
-    ) -> io::Result<(u64, Duration)> {
+        let items = lists.list()?;
         let start = self.rt.monotonic()?;
         let sum = call_each(row, items, sum)?;
         let end = self.rt.monotonic()?;
         Ok((sum, end.saturating_sub(start)))
     }
-}
-
-/// The hundredths of a nanosecond that each of so many calls took.
-fn time_of_each(spent: Duration, calls: usize) -> u128 {
-    spent.as_nanos().saturating_mul(100) / calls.max(1) as u128
 }
 
 /// Calls the row on each item, and folds the results into the sum.
