@@ -1,4 +1,4 @@
-use Rattle.std.proofs.Common.{◌≢◌, ℕ, Bool, All, [], ◌∷◌, ◌++◌, inl, inr, length, ap, subst, sym, rules, ◌∙◌}
+use Rattle.std.proofs.Common.{◌≢◌, ℕ, Bool, All, [], ◌∷◌, inl, inr, length, subst, sym, rules}
 use Rattle.std.proofs.lemmas.List.Elements.{All-contains}
 use Rattle.hashlink.specs.MapState.{MapState}
 use Rattle.hashlink.specs.Run.{ShownBy}

@@ -1,4 +1,4 @@
-use Rattle.std.proofs.Common.{◌%◌, ◌∙◌, ap, arith, length, nat_eq, rules}
+use Rattle.std.proofs.Common.{◌%◌, ◌∙◌, ap, arith, nat_eq, rules}
 use Rattle.std.proofs.lemmas.List.{length-map}
 use Rattle.std.specs.Map.{keys_of}
 use Rattle.hashlink_uses.proofs.Counting.{removes_first, without_first-keys}
