@@ -40,8 +40,11 @@ fn main(rt: HostRuntime) -> io::Result<()> {
 
 /// Each row at one size, in the order of the table.
 fn all_rows<R: Runtime>(rt: &R, alloc: Global, rounds: usize, size: usize) -> io::Result<()> {
-    let plan = &Plan::new(rt, rounds, size);
-    let keys = &Keys::new(alloc, size)?;
+    let keys = Keys::new(alloc, size)?;
+    rows_of(&Plan::new(rt, rounds, size), &keys)
+}
+
+fn rows_of<R: Runtime>(plan: &Plan<'_, R>, keys: &Keys) -> io::Result<()> {
     maps::rows(plan, keys)?;
     caches::rows(plan, keys)?;
     sets::rows(plan, keys)?;

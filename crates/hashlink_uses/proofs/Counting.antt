@@ -1,41 +1,116 @@
--- Counts that a closure keeps.
-use Rattle.std.proofs.Common.{◌≡◌, ◌+◌, ◌-◌, ◌≤◌, ℕ, Bool, true, false, cond, List, [], ◌∷◌, length, ap, sym, ◌∙◌}
-use Rattle.std.proofs.Common.{arith}
-use Rattle.hashlink.specs.Retain.{KeepsInOrder}
+-- What a retain leaves whose closure counts down.
+use Rattle.std.proofs.Common.{◌≡◌, ◌+◌, ◌≤◌, ℕ, zero, suc, Bool, true, false, cond, not, ◌&&◌, nat_lt}
+use Rattle.std.proofs.Common.{List, [], ◌∷◌, length, ap, refl, sym, subst, ◌∙◌, arith}
+use Rattle.std.specs.Map.{keys_of}
+use Rattle.hashlink.specs.MapState.{MapState}
+use Rattle.hashlink.specs.Retain.{KeepsInOrder, RetainsInOrder}
+use Rattle.hashlink.specs.Steps.{KeepsOnly}
+use Rattle.hashlink_uses.specs.WithoutFirst.{without_first}
 
--- What the calls of a retain's closure leave of a number that one call lowers by one where it returns false. The
--- number stands behind a reference whose name stays.
-module _ {F K V N : Type 0} (T : F → K → V → Bool → V → F → Type 0) (left : F → ℕ) (name : F → N)
+module _ {X : Type 0} (passes : X → Bool) where
+  without_first-none : (n : ℕ) → without_first passes n [] ≡ []
+  without_first-none zero = refl
+  without_first-none (suc n) = refl
+
+  -- where x is kept or not by whether it passes and n is not zero, and of the items behind it m are removed
+  without_first-cons : (p b : Bool) (n m : ℕ) (x y : X) (xs rest kept : List X) → passes x ≡ p
+      → b ≡ not (p && nat_lt 0 n) → m + cond b 0 1 ≡ n → y ≡ x → kept ≡ cond b (y ∷ rest) rest
+      → rest ≡ without_first passes m xs → kept ≡ without_first passes n (x ∷ xs)
+  without_first-cons true true zero m x y xs rest kept px answer count same is behind =
+      let none : m ≡ 0 = omega arith in
+      let there = behind ∙ ap (λ k. without_first passes k xs) none in
+      grind (arith, there)
+  without_first-cons true true (suc n) m x y xs rest kept px answer count same is behind = grind arith
+  without_first-cons true false zero m x y xs rest kept px answer count same is behind = grind arith
+  without_first-cons true false (suc n) m x y xs rest kept px answer count same is behind =
+      let less : m ≡ n = omega arith in
+      let there = behind ∙ ap (λ k. without_first passes k xs) less in
+      grind (arith, there)
+  without_first-cons false true n m x y xs rest kept px answer count same is behind =
+      passed_over n (let more : m ≡ n = omega arith in behind ∙ ap (λ k. without_first passes k xs) more)
+    where
+      passed_over : (n : ℕ) → rest ≡ without_first passes n xs → kept ≡ without_first passes n (x ∷ xs)
+      passed_over zero there = grind (arith, there)
+      passed_over (suc n) there = grind (arith, there)
+  without_first-cons false false n m x y xs rest kept px answer count same is behind = grind arith
+
+-- T says what a call does. It removes an entry that passes while its number is not zero, lowers the number by
+-- one for it, and writes no value. The number stands behind a reference whose name stays.
+module _ {F K V N : Type 0} (T : F → K → V → Bool → V → F → Type 0) (passes : K × V → Bool)
+    (left : F → ℕ) (name : F → N)
     (call : (f : F) (k : K) (v : V) (b : Bool) (w : V) (g : F) → T f k v b w g
-    → (left g + cond b 0 1 ≡ left f) × (name f ≡ name g)) where
-  pub record Counted (f : F) (es kept : List (K × V)) (g : F) : Type 0 where
+    → (b ≡ not (passes (k, v) && nat_lt 0 (left f))) × (left g + cond b 0 1 ≡ left f) × (w ≡ v)
+    × (name f ≡ name g)) where
+  record CountsDown (f : F) (es kept : List (K × V)) (g : F) : Type 0 where
+    pub entries : kept ≡ without_first passes (left f) es
     pub count : left f + length kept ≡ left g + length es
     pub fewer : left g ≤ left f
     pub same : name f ≡ name g
 
-  counted_more : (f f' g : F) (e : K × V) (es kept rest : List (K × V)) (w : V) (b : Bool)
-      → left f' + cond b 0 1 ≡ left f → name f ≡ name f' → kept ≡ cond b ((e.0, w) ∷ rest) rest
-      → Counted f' es rest g → Counted f (e ∷ es) kept g
-  counted_more f f' g e es kept rest w true left' name' is c =
-      let more = c.count in
-      let below = c.fewer in
-      let long = ap length is in
-      record { count = omega arith; fewer = omega arith; same = name' ∙ c.same }
-  counted_more f f' g e es kept rest w false left' name' is c =
-      let more = c.count in
-      let below = c.fewer in
-      let long = ap length is in
-      record { count = omega arith; fewer = omega arith; same = name' ∙ c.same }
+  counted_more : (f f' g : F) (e : K × V) (es kept rest : List (K × V)) (b : Bool) (w : V)
+      → left f' + cond b 0 1 ≡ left f → kept ≡ cond b ((e.0, w) ∷ rest) rest
+      → left f' + length rest ≡ left g + length es → left g ≤ left f'
+      → (left f + length kept ≡ left g + length (e ∷ es)) × (left g ≤ left f)
+  counted_more f f' g e es kept rest true w count is more below =
+      let long = ap length is in (omega arith, omega arith)
+  counted_more f f' g e es kept rest false w count is more below =
+      let long = ap length is in (omega arith, omega arith)
 
-  pub counted : (f : F) (es kept : List (K × V)) (g : F) → KeepsInOrder T f es kept g → Counted f es kept g
-  counted f [] kept g h =
+  counts_down : (f : F) (es kept : List (K × V)) (g : F) → KeepsInOrder T f es kept g
+      → CountsDown f es kept g
+  counts_down f [] kept g h =
       let none = ap length h.0 in
-      let same = ap left h.1 in
-      record { count = omega arith; fewer = omega arith; same = sym (ap name h.1) }
-  counted f (e ∷ es) kept g h =
+      let left-same = ap left h.1 in
+      record {
+        entries = h.0 ∙ sym (without_first-none passes (left f));
+        count = omega arith;
+        fewer = omega arith;
+        same = sym (ap name h.1);
+      }
+  counts_down f (e ∷ es) kept g h =
       let one = call f e.0 e.1 h.0 h.1 h.2 h.4 in
-      counted_more f h.2 g e es kept h.3 h.1 h.0 one.0 one.1 h.6 (counted h.2 es h.3 g h.5)
+      let more = counts_down h.2 es h.3 g h.5 in
+      let count = counted_more f h.2 g e es kept h.3 h.0 h.1 one.1 h.6 more.count more.fewer in
+      record {
+        entries = without_first-cons passes (passes e) h.0 (left f) (left h.2) e (e.0, h.1) es h.3 kept refl
+            one.0 one.1 (ap (λ v. (e.0, v)) one.2) h.6 more.entries;
+        count = count.0;
+        fewer = count.1;
+        same = one.3 ∙ more.same;
+      }
 
--- the number's variable once the reference has ended
-pub taken_by : (x v most k n : ℕ) → most + k ≡ v + n → v ≤ most → x ≡ v → (most - x) + k ≡ n
-taken_by x v most k n count fewer is = omega arith
+  -- the whole retain: the first entries that pass have left, as many as the number fell by
+  pub record RemovesFirst {S : Type 0} (f : F) (old new : MapState K V S) (g : F) : Type 0 where
+    pub left_are : KeepsOnly old new (without_first passes (left f) old.entries)
+    pub count : left f + length new.entries ≡ left g + length old.entries
+    pub fewer : left g ≤ left f
+    pub same : name f ≡ name g
+
+  pub removes_first : {S : Type 0} (f : F) (old new : MapState K V S) (g : F) → RetainsInOrder T f old new g
+      → RemovesFirst f old new g
+  removes_first f old new g r =
+      let all = counts_down f old.entries r.kept g r.calls in
+      record {
+        left_are = subst (KeepsOnly old new) all.entries r.keeps;
+        count = ap (λ es. left f + length es) r.keeps.entries ∙ all.count;
+        fewer = all.fewer;
+        same = all.same;
+      }
+
+-- of a set, whose elements are the keys
+module _ {K V : Type 0} (passes : K → Bool) where
+  pub without_first-keys : (n : ℕ) (es : List (K × V))
+      → keys_of (without_first (λ e. passes e.0) n es) ≡ without_first passes n (keys_of es)
+  without_first-keys zero es = refl
+  without_first-keys (suc n) [] = refl
+  without_first-keys (suc n) (e ∷ es) =
+      by (passes e.0) (without_first-keys n es) (without_first-keys (suc n) es)
+    where
+      by : (b : Bool)
+          → keys_of (without_first (λ d. passes d.0) n es) ≡ without_first passes n (keys_of es)
+          → keys_of (without_first (λ d. passes d.0) (suc n) es) ≡ without_first passes (suc n) (keys_of es)
+          → keys_of (cond b (without_first (λ d. passes d.0) n es)
+          (e ∷ without_first (λ d. passes d.0) (suc n) es))
+          ≡ cond b (without_first passes n (keys_of es)) (e.0 ∷ without_first passes (suc n) (keys_of es))
+      by true less more = less
+      by false less more = ap (λ ks. e.0 ∷ ks) more

@@ -1,5 +1,5 @@
 //! Lists of commands, and what is known of the container after them.
-ghost use Rattle.std.specs.Prelude.{◌≡◌, ◌≢◌, ◌≤◌, All, Option, Some, length, slice_get, IfOk, IsSome};
+ghost use Rattle.std.specs.Prelude.{[], ◌∷◌, ◌≡◌, ◌≢◌, ◌≤◌, All, Option, Some, length, slice_get, IfOk, IsSome};
 ghost use Rattle.std.specs.List.{AllPass};
 ghost use Rattle.std.specs.Map.{lookup};
 ghost use Rattle.hashlink.specs.Cache.{IsWithin};
@@ -50,6 +50,20 @@ pub fn insert_where_shorter<K: Eq + Hash + Drop, V: Drop, S: BuildHasher>(
     }
 }
 
+// Returns a list of the two commands.
+fn two_commands<K: Drop, V: Drop>(
+    alloc: Global,
+    first: Command<K, V>,
+    second: Command<K, V>,
+) -> Result<Vec<Command<K, V>>, AllocError>
+    ensures { IfOk result (λ commands. commands.items ≡ first ∷ second ∷ []) }
+{
+    let mut commands = Vec::with_capacity(alloc, 2)?;
+    commands.push(first)?;
+    commands.push(second)?;
+    Ok(commands)
+}
+
 /// Removes a key and inserts a pair in one run, and returns the replies. If the key was present, the insert
 /// uses the node that the removal left. So its reply is a value, and not the pair.
 pub fn remove_then_insert<K: Eq + Hash + Drop, V: Drop, S: BuildHasher>(
@@ -62,9 +76,7 @@ pub fn remove_then_insert<K: Eq + Hash + Drop, V: Drop, S: BuildHasher>(
     ensures answered { IfOk result (λ replies. IsSome (lookup (K.eq gone) (entries_of map.old))
         → (was : Option V) × (slice_get replies.items 1 ≡ Some (Value was))) }
 {
-    let mut commands = Vec::with_capacity(alloc, 2)?;
-    commands.push(Command::Remove(gone))?;
-    commands.push(Command::Insert(key, value))?;
+    let commands = two_commands(alloc, Command::Remove(gone), Command::Insert(key, value))?;
     run(map, commands, &|_: &K, _: &V| true)
 }
 
@@ -80,8 +92,6 @@ pub fn insert_then_keep_divisors<K: Eq + Hash + Drop, S: BuildHasher>(
     requires given { value ≢ 0 }
     requires held { All (λ e. e.1 ≢ 0) (entries_of map.old) }
 {
-    let mut commands = Vec::with_capacity(alloc, 2)?;
-    commands.push(Command::Insert(key, value))?;
-    commands.push(Command::Keep)?;
+    let commands = two_commands(alloc, Command::Insert(key, value), Command::Keep)?;
     run(map, commands, &|_: &K, value: &u64| total % *value == 0)
 }

@@ -1,8 +1,9 @@
 //! Retains, and what is known of a map or a set after one.
-ghost use Rattle.std.specs.Prelude.{◌≡◌, ◌+◌, ◌%◌, ◌≤◌, cond, filter, length, nat_eq};
+ghost use Rattle.std.specs.Prelude.{◌≡◌, ◌+◌, ◌%◌, ◌≤◌, ◌&&◌, cond, filter, length, nat_eq, nat_lt, not};
 ghost use Rattle.hashlink.specs.Steps.{KeepsOnly};
 ghost use Rattle.hashlink.specs.Keyed.{state_of, entries_of};
 ghost use Rattle.hashlink.specs.Sets.{elements_of};
+ghost use Rattle.hashlink_uses.specs.WithoutFirst.{without_first};
 
 use hashlink::{LinkedHashMap, LinkedHashSet};
 use std::hash::{BuildHasher, Hash};
@@ -21,13 +22,17 @@ pub fn take_zeros<K: Eq + Hash + Drop, S: BuildHasher>(
     map: &mut LinkedHashMap<K, u64, S>,
     most: usize,
 ) -> usize
-    ensures most { result ≤ most }
+    ensures left { KeepsOnly (state_of map.old) (state_of map.new)
+        (without_first (λ e. nat_eq e.1 0) most (entries_of map.old)) }
     ensures taken { result + length (entries_of map.new) ≡ length (entries_of map.old) }
+    ensures most { result ≤ most }
 {
     let mut left = most;
     map.retain_from(
         &mut |_: &K, value: &mut u64|
-            ensures { left.exit + cond result 0 1 ≡ left.entry }
+            ensures kept { result ≡ not (nat_eq value.old 0 && nat_lt 0 left.entry) }
+            ensures count { left.exit + cond result 0 1 ≡ left.entry }
+            ensures value { value.new ≡ value.old }
         {
             let leaves = *value == 0 && left > 0;
             if leaves {
@@ -42,13 +47,16 @@ pub fn take_zeros<K: Eq + Hash + Drop, S: BuildHasher>(
 /// Removes the even elements, but no more than `most`, those nearest to the front, and returns how many it
 /// removed.
 pub fn take_even<S: BuildHasher>(set: &mut LinkedHashSet<u64, S>, most: usize) -> usize
-    ensures most { result ≤ most }
+    ensures left { elements_of set.new
+        ≡ without_first (λ element. nat_eq (element % 2) 0) most (elements_of set.old) }
     ensures taken { result + length (elements_of set.new) ≡ length (elements_of set.old) }
+    ensures most { result ≤ most }
 {
     let mut left = most;
     set.retain_from(
         &mut |element: &u64|
-            ensures { left.exit + cond result 0 1 ≡ left.entry }
+            ensures kept { result ≡ not (nat_eq (element.now % 2) 0 && nat_lt 0 left.entry) }
+            ensures count { left.exit + cond result 0 1 ≡ left.entry }
         {
             let leaves = *element % 2 == 0 && left > 0;
             if leaves {

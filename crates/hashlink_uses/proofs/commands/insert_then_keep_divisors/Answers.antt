@@ -1,4 +1,4 @@
-use Rattle.std.proofs.Common.{◌≢◌, ℕ, Bool, All, [], ◌∷◌, ◌++◌, inl, inr, length, ap, subst, sym, rules, ◌∙◌}
+use Rattle.std.proofs.Common.{◌≢◌, ℕ, Bool, All, [], ◌∷◌, inl, inr, length, subst, sym, rules}
 use Rattle.std.proofs.lemmas.List.Elements.{All-contains}
 use Rattle.hashlink.specs.MapState.{MapState}
 use Rattle.hashlink.specs.Run.{ShownBy}
@@ -30,9 +30,7 @@ module _ {K B S : Type 0} {eq : K → K → Bool} {Says : K → ℕ → B → Ty
 
 pub run-requires : goal.run-requires
 run-requires g c = λ pair shown key value first second.
-    let one = ap (λ xs. xs ++ Insert c.args.key c.args.value ∷ []) c.in_ok-commands.ensures.items in
-    let two = ap (λ xs. xs ++ Keep ∷ []) (c.in_ok-push.ensures.items ∙ one) in
-    let commands = c.in_ok-push-2.ensures.items ∙ two in
+    let commands = c.in_ok-commands.ensures in
     let not_zero = shown_by_both c.requires.given c.requires.held (rw commands at shown) in
     let here : value.now ≢ 0 = subst (λ n. n ≢ 0) (sym second) not_zero in
     search rules

@@ -1,22 +1,20 @@
-use Rattle.std.proofs.Common.{ap, length, arith, rules}
-use Rattle.hashlink_uses.proofs.Counting.{counted}
+use Rattle.std.proofs.Common.{arith, nat_eq, rules}
+use Rattle.hashlink_uses.proofs.Counting.{removes_first}
 use Rattle.hashlink_uses.proofs.maps.retains.take_zeros.Goals as goal
 
 pub overflow_sub-result : goal.overflow_sub-result
 overflow_sub-result g c =
-    let done = counted _ (λ f. f.0.now) (λ f. f.0.ghost_name) (λ f k v b w g call. search rules) _ _ _ _
-    c.retain_from.ensures.retained.calls in
-    let fewer = done.fewer in
-    let same = done.same in
+    let all = removes_first _ (λ e. nat_eq e.1 0) (λ f. f.0.now) (λ f. f.0.ghost_name)
+    (λ f k v b w g call. search rules) _ _ _ _ c.retain_from.ensures.retained in
+    let fewer = all.fewer in
+    let same = all.same in
     grind (arith, fewer, same)
 
-pub returns-clause-taken : goal.returns-clause-taken
-returns-clause-taken g c =
-    let r = c.retain_from.ensures.retained in
-    let done = counted _ (λ f. f.0.now) (λ f. f.0.ghost_name) (λ f k v b w g call. search rules) _ _ _ _
-    r.calls in
-    let count = done.count in
-    let fewer = done.fewer in
-    let same = done.same in
-    let kept = ap length r.keeps.entries in
-    grind (arith, count, fewer, same, kept)
+pub returns : goal.returns
+returns g c =
+    let all = removes_first _ (λ e. nat_eq e.1 0) (λ f. f.0.now) (λ f. f.0.ghost_name)
+    (λ f k v b w g call. search rules) _ _ _ _ c.retain_from.ensures.retained in
+    let count = all.count in
+    let fewer = all.fewer in
+    let same = all.same in
+    record { left = all.left_are; taken = grind (arith, count, fewer, same); most = omega arith }
