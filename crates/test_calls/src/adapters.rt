@@ -20,11 +20,8 @@ fn digits(map: &Map) -> u32 {
 
 /// The same from the back, by adapters.
 fn keys_backwards(keys: Keys<'_, u32, u32>) -> u32 {
-    let mut digits = 0u32;
-    for key in keys.rev().copied() {
-        digits = with_digit(digits, key);
-    }
-    digits
+    keys.rev()
+        .fold(0u32, |digits, key| with_digit(digits, *key))
 }
 
 /// The values, each with its last digit left out, from the back.

@@ -35,14 +35,15 @@ fn all_commands(alloc: Global) -> Commands {
     and(commands, Command::Entry(key(5), EntryStep::RemoveEntry))
 }
 
-/// The replies, of which the one to a read says whether the stored key has the number 1.
+/// What a read is told of its pair: whether the stored key has the number 1.
+fn is_first(key: &Numbered, _value: &u32) -> bool {
+    key.number == 1
+}
+
+/// The replies of a run of all commands.
 fn run_all(alloc: Global) -> Result<Replies, AllocError> {
     let mut map = LinkedHashMap::new(alloc);
-    run(
-        &mut map,
-        all_commands(alloc),
-        &|key: &Numbered, _| { key.number == 1 },
-    )
+    run(&mut map, all_commands(alloc), &is_first)
 }
 
 /// Whether the inserts keep the first key, and the cursor has no reply.
