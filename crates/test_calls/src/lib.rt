@@ -1,5 +1,5 @@
-//! What no row of calls says of the containers: whether an entry calls its closure, the texts of `{:?}` and of
-//! errors, loops and std's adapters, the forms in which std's maps are called, what becomes of items
+//! What no row of calls says of the containers: whether an entry calls its closure, the texts of `{:?}` and
+//! of errors, loops and std's adapters, the forms in which std's maps are called, what becomes of items
 //! without size, and what a program does whose input or output fails.
 #![tactic(auto)]
 
