@@ -217,14 +217,13 @@ class Model(Entries, Cursors):
         answers.value(last)
 
     def retain(self, keep, answers):
-        """Keeps by the test, and says which odd keys were met, where it asks for them."""
+        """Keeps by the test, and says which keys were met, where it asks for them."""
         if keep == "odd":
             raised = [(key, (value[0] * 10 % GREATEST, value[1])) for key, value in self.list.pairs]
             self.list.pairs = raised
         if keep == "others":
             for key, _ in self.list.pairs:
-                if key[0] % 2 == 1:
-                    answers.item(key)
+                answers.item(key)
         tests = {"even": lambda pair: pair[1][0] % 2 == 0, "odd": lambda pair: pair[0][0] % 2 == 1}
         self.list.keep(tests.get(keep, lambda pair: pair[0][0] % 2 == 0))
         answers.done()

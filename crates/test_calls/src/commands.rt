@@ -1,87 +1,86 @@
-//! Lists of commands with keys that are equal and yet differ.
-use crate::few::{map_of, passes};
+//! A list of commands with keys that are equal and yet differ.
+use crate::few::passes;
 use hashlink::LinkedHashMap;
 use hashlink::run::{Command, EntryStep, Reply, run};
 use std::alloc::{AllocError, Global};
 use std::process::ExitCode;
 use test_keys::Numbered;
 
-/// A key of this group.
-fn key(group: u32, number: u32) -> Numbered {
-    Numbered { group, number }
+type Commands = Vec<Command<Numbered, u32>>;
+
+type Replies = Vec<Reply<Numbered, u32>>;
+
+/// The key of this number. All are equal.
+fn key(number: u32) -> Numbered {
+    Numbered { group: 1, number }
 }
 
-/// Replies, and the number and the value of the first entry that is left.
-type Ran = (Vec<Reply<Numbered, u32>>, Option<(u32, u32)>);
+/// The commands and one more.
+fn and(mut commands: Commands, command: Command<Numbered, u32>) -> Commands {
+    let _pushed = commands.push(command);
+    commands
+}
 
-/// What comes of an insert and of further commands, of which a read is told whether the key has the number 1.
-fn run_after_insert(
-    alloc: Global,
-    second: Command<Numbered, u32>,
-    third: Command<Numbered, u32>,
-) -> Result<Ran, AllocError> {
-    let commands = vec![in alloc; Command::Insert(key(1, 1), 10u32), second, third]?;
+/// Two inserts, with a cursor without steps between.
+fn inserts(alloc: Global) -> Commands {
+    let commands = and(Vec::new(alloc), Command::Insert(key(1), 10));
+    let commands = and(commands, Command::Cursor(Vec::new(alloc)));
+    and(commands, Command::Insert(key(2), 11))
+}
+
+/// The inserts, a read, and two steps of entries.
+fn all_commands(alloc: Global) -> Commands {
+    let commands = and(inserts(alloc), Command::Get(key(3)));
+    let commands = and(commands, Command::Entry(key(4), EntryStep::ReplaceKey));
+    and(commands, Command::Entry(key(5), EntryStep::RemoveEntry))
+}
+
+/// What a read is told of its pair: whether the stored key has the number 1.
+fn is_first(key: &Numbered, _value: &u32) -> bool {
+    key.number == 1
+}
+
+/// The replies of a run of all commands.
+fn run_all(alloc: Global) -> Result<Replies, AllocError> {
     let mut map = LinkedHashMap::new(alloc);
-    let replies = run(&mut map, commands, &|key, _| key.number == 1)?;
-    let first = map.front().map(|(key, value)| (key.number, *value));
-    Ok((replies, first))
+    run(&mut map, all_commands(alloc), &is_first)
+}
+
+/// Whether the inserts keep the first key, and the cursor has no reply.
+fn is_first_kept(replies: &[Reply<Numbered, u32>]) -> bool {
+    matches!(
+        replies,
+        [
+            Reply::Value(None),
+            Reply::Value(Some(10)),
+            Reply::Seen(Some(true))
+        ]
+    )
+}
+
+/// Whether the first key is replaced, and the one in its place is handed out.
+fn is_replaced(replies: &[Reply<Numbered, u32>]) -> bool {
+    matches!(
+        replies,
+        [
+            Reply::Key(Some(Numbered { number: 1, .. })),
+            Reply::Pair(Some((Numbered { number: 4, .. }, 11)))
+        ]
+    )
+}
+
+/// Whether three replies and those after them are right.
+fn are_right(replies: &[Reply<Numbered, u32>]) -> bool {
+    match replies.split_at_checked(3) {
+        Some((first, rest)) => is_first_kept(first) & is_replaced(rest),
+        None => false,
+    }
 }
 
 #[test]
-fn a_run_keeps_the_key_that_is_stored(rt: HostRuntime) -> ExitCode {
-    let insert = Command::Insert(key(1, 2), 11);
-    let ran = run_after_insert(rt.alloc(), insert, Command::Get(key(1, 3)));
-    passes(ran.is_ok_and(|(replies, first)| {
-        first == Some((1, 11))
-            && matches!(
-                replies.as_slice(),
-                [
-                    Reply::Value(None),
-                    Reply::Value(Some(10)),
-                    Reply::Seen(Some(true))
-                ]
-            )
-    }))
-}
-
-#[test]
-fn a_run_hands_out_the_key_that_was_stored(rt: HostRuntime) -> ExitCode {
-    let replace = Command::Entry(key(1, 2), EntryStep::ReplaceKey);
-    let remove = Command::Entry(key(1, 3), EntryStep::RemoveEntry);
-    let ran = run_after_insert(rt.alloc(), replace, remove);
-    passes(ran.is_ok_and(|(replies, first)| {
-        first.is_none()
-            && matches!(
-                replies.as_slice(),
-                [
-                    Reply::Value(None),
-                    Reply::Key(Some(Numbered { number: 1, .. })),
-                    Reply::Pair(Some((Numbered { number: 2, .. }, 10))),
-                ]
-            )
-    }))
-}
-
-/// Whether an insert and a question for the length have a reply, and a cursor without steps between none.
-fn run_without_steps(alloc: Global) -> Result<bool, AllocError> {
-    let commands = vec![in alloc;
-        Command::Insert(1u32, 10u32),
-        Command::Cursor(Vec::new(alloc)),
-        Command::Len,
-    ]?;
-    let replies = run(&mut map_of(alloc, &[]), commands, &|_, _| true)?;
-    Ok(matches!(replies.as_slice(), [Reply::Value(None), Reply::Length(1)]))
-}
-
-/// What is left of a map, and how many replies there are, after no commands.
-fn run_without_commands(alloc: Global) -> Result<(usize, Option<u32>, usize), AllocError> {
-    let mut map = map_of(alloc, &[(1, 10)]);
-    let replies = run(&mut map, Vec::new(alloc), &|_, _| true)?.len();
-    Ok((map.len(), map.get(&1).copied(), replies))
-}
-
-#[test]
-fn what_has_no_commands_and_no_steps_has_no_reply(rt: HostRuntime) -> ExitCode {
-    let no_steps = run_without_steps(rt.alloc()) == Ok(true);
-    passes(no_steps & (run_without_commands(rt.alloc()) == Ok((1, Some(10), 0))))
+fn a_run_keeps_the_stored_key_and_hands_it_out(rt: HostRuntime) -> ExitCode {
+    passes(match run_all(rt.alloc()) {
+        Ok(replies) => are_right(&replies),
+        Err(_) => false,
+    })
 }

@@ -16,24 +16,25 @@ pub(crate) type Map = LinkedHashMap<u32, u32>;
 
 pub(crate) fn map_of(alloc: Global, pairs: &[(u32, u32)]) -> Map {
     let mut map = LinkedHashMap::new(alloc);
-    let _taken = map.extend(pairs.iter().copied());
+    for (key, value) in pairs {
+        let _old = map.insert(*key, *value);
+    }
     map
-}
-
-/// The keys from 1 to 3 with ten times their numbers.
-pub(crate) fn one_to_three(alloc: Global) -> Map {
-    map_of(alloc, &[(1, 10), (2, 20), (3, 30)])
 }
 
 pub(crate) fn set_of(alloc: Global, elements: &[u32]) -> LinkedHashSet<u32> {
     let mut set = LinkedHashSet::new(alloc);
-    let _taken = set.extend_ref(elements);
+    for element in elements {
+        let _is_new = set.insert(*element);
+    }
     set
 }
 
 /// A cache into which the pairs went.
 pub(crate) fn cache_of(alloc: Global, capacity: usize, pairs: &[(u32, u32)]) -> LruCache<u32, u32> {
     let mut cache = LruCache::new(alloc, capacity);
-    let _taken = cache.extend(pairs.iter().copied());
+    for (key, value) in pairs {
+        let _old = cache.insert(*key, *value);
+    }
     cache
 }

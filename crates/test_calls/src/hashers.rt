@@ -1,10 +1,8 @@
 //! The default hasher hashes as std's does.
 use crate::few::passes;
-use hashlink::{DefaultHashBuilder, DefaultHasher, LinkedHashMap, LinkedHashSet};
-use std::alloc::Global;
+use hashlink::{DefaultHashBuilder, DefaultHasher};
 use std::hash::{BuildHasher, FoldHasher, Hash, Hasher};
 use std::process::ExitCode;
-use std::test::Fail;
 
 /// Feeds a hasher bytes, and numbers of each type.
 fn feed<H: Hasher>(state: &mut H) {
@@ -46,32 +44,19 @@ fn the_default_hasher_hashes_as_that_of_std(rt: HostRuntime) -> ExitCode {
     passes(hashes(&mut own) == hashes(&mut FoldHasher::default()))
 }
 
-/// The hashes of the hasher of a new map.
-fn hashes_of_map(alloc: Global) -> [u64; 3] {
-    let map = LinkedHashMap::<u32, u32>::new(alloc);
-    hashes(&mut map.hasher().build_hasher())
+/// Whether a clone of a hasher that was fed is the same.
+fn is_cloned(hasher: &mut DefaultHasher) -> bool {
+    feed(hasher);
+    match hasher.clone() {
+        Ok(clone) => clone.finish() == hasher.finish(),
+        Err(_) => false,
+    }
 }
 
 #[test]
-fn the_hasher_of_a_new_map_hashes_as_that_of_std(rt: HostRuntime) -> ExitCode {
-    passes(hashes_of_map(rt.alloc()) == hashes(&mut FoldHasher::default()))
-}
-
-/// The same of a new set.
-fn hashes_of_set(alloc: Global) -> [u64; 3] {
-    let set = LinkedHashSet::<u32>::new(alloc);
-    hashes(&mut set.hasher().build_hasher())
-}
-
-#[test]
-fn the_hasher_of_a_new_set_hashes_as_that_of_std(rt: HostRuntime) -> ExitCode {
-    passes(hashes_of_set(rt.alloc()) == hashes(&mut FoldHasher::default()))
-}
-
-#[test]
-fn hashers_and_their_builders_are_cloned(rt: HostRuntime) -> Result<(), Fail> {
-    let mut own: DefaultHasher = DefaultHashBuilder::default().clone()?.build_hasher();
-    feed(&mut own);
-    assert_eq!(rt; own.clone()?.finish(), own.finish());
-    Ok(())
+fn hashers_and_their_builders_are_cloned(rt: HostRuntime) -> ExitCode {
+    passes(match DefaultHashBuilder::default().clone() {
+        Ok(builder) => is_cloned(&mut builder.build_hasher()),
+        Err(_) => false,
+    })
 }

@@ -1,85 +1,79 @@
 //! One large run of each container.
-use crate::few::passes;
+use crate::few::{Map, map_of, passes, set_of};
 use hashlink::weighted::WeightedCache;
-use hashlink::{LinkedHashMap, LinkedHashSet, LruCache};
-use std::alloc::Global;
+use hashlink::{LinkedHashSet, LruCache};
 use std::process::ExitCode;
 
 /// More than a million, so that no bound of a million is met by it.
 const MANY: u32 = 1_100_000;
 
-/// A map of the numbers below a bound.
-fn map_below(alloc: Global, bound: u32) -> LinkedHashMap<u32, u32> {
-    let mut map = LinkedHashMap::new(alloc);
+/// Puts the numbers below a bound into a map.
+fn fill(map: &mut Map, bound: u32) {
     for key in 0..bound {
         let _old = map.insert(key, key);
     }
-    map
 }
 
-/// How large a map is, and what it has of the first key and of one past the last.
-fn large_map(alloc: Global) -> (usize, Option<u32>, Option<u32>) {
-    let map = map_below(alloc, MANY);
-    (map.len(), map.get(&0).copied(), map.get(&MANY).copied())
+/// Whether a map takes each pair, and has the first key and none past the last.
+fn takes_each_pair(map: &mut Map) -> bool {
+    fill(map, MANY);
+    (map.len() == 1_100_000) & (map.get(&0) == Some(&0)) & !map.contains_key(&MANY)
+}
+
+#[test]
+fn a_large_map_takes_each_pair(rt: HostRuntime) -> ExitCode {
+    passes(takes_each_pair(&mut map_of(rt.alloc(), &[])))
 }
 
 /// Whether the clone of a map of thousands is equal to it.
-fn is_cloned(alloc: Global) -> bool {
-    let map = map_below(alloc, 5_000);
+fn is_cloned(map: &mut Map) -> bool {
+    fill(map, 5_000);
     match map.clone() {
-        Ok(clone) => clone == map,
+        Ok(clone) => clone == *map,
         Err(_) => false,
     }
 }
 
 #[test]
-fn a_large_map_takes_each_pair_and_one_of_thousands_is_cloned(rt: HostRuntime) {
-    assert_eq!(rt; large_map(rt.alloc()), (1_100_000, Some(0), None));
-    assert!(rt; is_cloned(rt.alloc()));
+fn a_map_of_thousands_is_cloned(rt: HostRuntime) -> ExitCode {
+    passes(is_cloned(&mut map_of(rt.alloc(), &[])))
 }
 
-/// The same of a set.
-fn large_set(alloc: Global) -> (usize, bool, bool) {
-    let mut set = LinkedHashSet::new(alloc);
+/// Whether a set takes each element.
+fn takes_each_element(set: &mut LinkedHashSet<u32>) -> bool {
     for element in 0..MANY {
         let _added = set.insert(element);
     }
-    (set.len(), set.contains(&0), set.contains(&MANY))
+    (set.len() == 1_100_000) & set.contains(&0) & !set.contains(&MANY)
 }
 
 #[test]
 fn a_large_set_takes_each_element(rt: HostRuntime) -> ExitCode {
-    passes(large_set(rt.alloc()) == (1_100_000, true, false))
+    passes(takes_each_element(&mut set_of(rt.alloc(), &[])))
 }
 
-/// How large a cache is, and whether it has the last key that had to leave, and the next one.
-fn large_cache(alloc: Global) -> (usize, bool, bool) {
-    let mut cache = LruCache::new(alloc, 1_000_001);
+/// Whether a cache keeps as many as it may, and the last key that had to leave is gone.
+fn keeps_the_last_pairs(cache: &mut LruCache<u32, ()>) -> bool {
     for key in 0..MANY {
         let _old = cache.insert(key, ());
     }
-    (
-        cache.len(),
-        cache.peek(&99_998).is_some(),
-        cache.peek(&99_999).is_some(),
-    )
+    (cache.len() == 1_000_001) & !cache.contains_key(&99_998) & cache.contains_key(&99_999)
 }
 
 #[test]
 fn a_large_cache_keeps_the_last_pairs(rt: HostRuntime) -> ExitCode {
-    passes(large_cache(rt.alloc()) == (1_000_001, false, true))
+    passes(keeps_the_last_pairs(&mut LruCache::new(rt.alloc(), 1_000_001)))
 }
 
-/// How large a cache with a budget is, and what it weighs.
-fn large_weighted_cache(alloc: Global) -> (usize, u64) {
-    let mut cache = WeightedCache::new(alloc, 2_000_002);
+/// Whether a cache with a budget keeps as many as weigh no more.
+fn keeps_what_fits(cache: &mut WeightedCache<u32, ()>) -> bool {
     for key in 0..MANY {
         let _old = cache.insert(key, (), 2);
     }
-    (cache.len(), cache.total())
+    (cache.len() == 1_000_001) & (cache.total() == 2_000_002)
 }
 
 #[test]
 fn a_large_cache_with_a_budget_keeps_what_fits(rt: HostRuntime) -> ExitCode {
-    passes(large_weighted_cache(rt.alloc()) == (1_000_001, 2_000_002))
+    passes(keeps_what_fits(&mut WeightedCache::new(rt.alloc(), 2_000_002)))
 }

@@ -1,16 +1,14 @@
-//! What no row of calls says of the containers: how often closures are called, the texts of `{:?}` and of
-//! errors, loops and std's adapters, the forms in which std's maps are called, what becomes of items
-//! without size, a curve of misses worked by hand, and what a program does whose input or output fails.
+//! What no row of calls says of the containers: whether an entry calls its closure, the texts of `{:?}` and
+//! of errors, loops and std's adapters, the forms in which std's maps are called, what becomes of items
+//! without size, and what a program does whose input or output fails.
 #![tactic(auto)]
 
 #[cfg(test)]
 mod adapters;
 #[cfg(test)]
-mod closures;
-#[cfg(test)]
 mod commands;
 #[cfg(test)]
-mod curves;
+mod entries;
 #[cfg(test)]
 mod few;
 #[cfg(test)]
@@ -19,8 +17,6 @@ mod forms;
 mod hashers;
 #[cfg(test)]
 mod large;
-#[cfg(test)]
-mod many;
 #[cfg(test)]
 mod no_size;
 #[cfg(test)]

@@ -1,6 +1,8 @@
-//! Containers that are made with room, without a hasher.
-use hashlink::{LinkedHashMap, LinkedHashSet, TryReserveError};
+//! Containers that are made with room, without a hasher, and a cache without a bound.
+use crate::few::passes;
+use hashlink::{LinkedHashMap, LinkedHashSet, LruCache, TryReserveError};
 use std::alloc::Global;
+use std::process::ExitCode;
 
 /// Whether a map with that room is empty and has it.
 fn map_with_room(alloc: Global, room: usize) -> Result<bool, TryReserveError> {
@@ -15,12 +17,17 @@ fn set_with_room(alloc: Global, room: usize) -> Result<bool, TryReserveError> {
 }
 
 #[test]
-fn a_map_and_a_set_are_made_with_room(rt: HostRuntime) {
-    for (room, made) in [
-        (10, Ok(true)),
-        (usize::MAX, Err(TryReserveError::CapacityOverflow)),
-    ] {
-        assert_eq!(rt; map_with_room(rt.alloc(), room), made);
-        assert_eq!(rt; set_with_room(rt.alloc(), room), made);
-    }
+fn a_map_and_a_set_are_made_with_room(rt: HostRuntime) -> ExitCode {
+    let overflow = Err(TryReserveError::CapacityOverflow);
+    passes(
+        (map_with_room(rt.alloc(), 10) == Ok(true))
+            & (set_with_room(rt.alloc(), 10) == Ok(true))
+            & (map_with_room(rt.alloc(), usize::MAX) == overflow)
+            & (set_with_room(rt.alloc(), usize::MAX) == overflow),
+    )
+}
+
+#[test]
+fn a_cache_without_a_bound_has_the_greatest_capacity(rt: HostRuntime) -> ExitCode {
+    passes(LruCache::<u32, u32>::new_unbounded(rt.alloc()).capacity() == usize::MAX)
 }

@@ -25,31 +25,48 @@ fn shows<T: fmt::Debug>(alloc: Global, value: &T, text: &str) -> bool {
 
 #[test]
 fn a_map_shows_its_entries(rt: HostRuntime) -> ExitCode {
-    let is_empty = shows(rt.alloc(), &Map::new(rt.alloc()), "{}");
-    passes(is_empty & shows(rt.alloc(), &one_and_two(rt.alloc()), "{1: 10, 2: 20}"))
+    passes(
+        shows(rt.alloc(), &map_of(rt.alloc(), &[]), "{}")
+            & shows(rt.alloc(), &one_and_two(rt.alloc()), "{1: 10, 2: 20}"),
+    )
+}
+
+/// Whether a set of 1 and 2 and its iterator show the elements.
+fn elements_are_shown(alloc: Global, set: &LinkedHashSet<u32>) -> bool {
+    shows(alloc, set, "{1, 2}") & shows(alloc, &set.iter(), "[1, 2]")
 }
 
 #[test]
 fn a_set_shows_its_elements(rt: HostRuntime) -> ExitCode {
-    let set = set_of(rt.alloc(), &[1, 2]);
-    let is_shown = shows(rt.alloc(), &set, "{1, 2}") & shows(rt.alloc(), &set.iter(), "[1, 2]");
-    passes(is_shown & shows(rt.alloc(), &set_of(rt.alloc(), &[]), "{}"))
+    passes(
+        elements_are_shown(rt.alloc(), &set_of(rt.alloc(), &[1, 2]))
+            & shows(rt.alloc(), &set_of(rt.alloc(), &[]), "{}"),
+    )
 }
 
 #[test]
 fn a_cache_shows_what_was_used_last_first(rt: HostRuntime) -> ExitCode {
-    let is_empty = shows(rt.alloc(), &cache_of(rt.alloc(), 2, &[]), "{}");
-    let cache = cache_of(rt.alloc(), 2, &[(1, 10), (2, 20)]);
-    passes(is_empty & shows(rt.alloc(), &cache, "{2: 20, 1: 10}"))
+    passes(
+        shows(rt.alloc(), &cache_of(rt.alloc(), 2, &[]), "{}")
+            & shows(
+                rt.alloc(),
+                &cache_of(rt.alloc(), 2, &[(1, 10), (2, 20)]),
+                "{2: 20, 1: 10}",
+            ),
+    )
+}
+
+/// Whether a cache with a budget and its iterator show two pairs that are put in.
+fn weighted_pairs_are_shown(alloc: Global, cache: &mut WeightedCache<u32, u32>) -> bool {
+    let _first = cache.insert(1, 10, 1);
+    let _second = cache.insert(2, 20, 1);
+    shows(alloc, cache, "{2: 20, 1: 10}") & shows(alloc, &cache.iter(), "[(1, 10, 1), (2, 20, 1)]")
 }
 
 #[test]
 fn a_cache_with_a_budget_shows_what_was_used_last_first(rt: HostRuntime) -> ExitCode {
-    let mut cache = WeightedCache::new(rt.alloc(), 2);
-    let _first = cache.insert(1u32, 10u32, 1);
-    let _second = cache.insert(2, 20, 1);
-    let is_shown = shows(rt.alloc(), &cache, "{2: 20, 1: 10}");
-    passes(is_shown & shows(rt.alloc(), &cache.iter(), "[(1, 10, 1), (2, 20, 1)]"))
+    let cache = &mut WeightedCache::new(rt.alloc(), 2);
+    passes(weighted_pairs_are_shown(rt.alloc(), cache))
 }
 
 /// Whether the iterators over the map that read show what is left.
@@ -75,10 +92,7 @@ fn pairs_show_what_is_left(alloc: Global, map: &mut Map) -> bool {
     pairs.next_back();
     let one_is_left = shows(alloc, &pairs, "[(1, 10)]");
     pairs.next();
-    let none_is_left = shows(alloc, &pairs, "[]");
-    let mut pairs = map.iter_mut();
-    pairs.next();
-    both_are_left & one_is_left & none_is_left & shows(alloc, &pairs, "[(2, 20)]")
+    both_are_left & one_is_left & shows(alloc, &pairs, "[]")
 }
 
 /// The same of the iterator that writes values alone.
@@ -86,28 +100,22 @@ fn values_show_what_is_left(alloc: Global, map: &mut Map) -> bool {
     let mut values = map.values_mut();
     let both_are_left = shows(alloc, &values, "[10, 20]");
     values.next();
-    let last_is_left = shows(alloc, &values, "[20]");
-    let mut values = map.values_mut();
-    values.next_back();
-    both_are_left & last_is_left & shows(alloc, &values, "[10]")
+    both_are_left & shows(alloc, &values, "[20]")
+}
+
+/// The same of the iterators that write, and then of a drain.
+fn writers_show_what_is_left(alloc: Global, map: &mut Map) -> bool {
+    pairs_show_what_is_left(alloc, map)
+        & values_show_what_is_left(alloc, map)
+        & shows(alloc, &map.drain(), PAIRS)
 }
 
 #[test]
-fn iterators_that_write_show_what_is_left(rt: HostRuntime) -> ExitCode {
-    let mut map = one_and_two(rt.alloc());
-    let pairs_show = pairs_show_what_is_left(rt.alloc(), &mut map);
-    passes(pairs_show & values_show_what_is_left(rt.alloc(), &mut map))
-}
-
-/// Whether a drain of the map shows what is left.
-fn drain_shows_what_is_left(alloc: Global, map: &mut Map) -> bool {
-    shows(alloc, &map.drain(), PAIRS)
-}
-
-#[test]
-fn iterators_that_own_show_what_is_left(rt: HostRuntime) -> ExitCode {
-    let drain_shows = drain_shows_what_is_left(rt.alloc(), &mut one_and_two(rt.alloc()));
-    passes(drain_shows & shows(rt.alloc(), &one_and_two(rt.alloc()).into_iter(), PAIRS))
+fn iterators_that_write_or_own_show_what_is_left(rt: HostRuntime) -> ExitCode {
+    passes(
+        writers_show_what_is_left(rt.alloc(), &mut one_and_two(rt.alloc()))
+            & shows(rt.alloc(), &one_and_two(rt.alloc()).into_iter(), PAIRS),
+    )
 }
 
 /// Whether each iterator over two sets shows what is left.
@@ -124,8 +132,11 @@ fn lazy_ones_show_what_is_left(
 
 #[test]
 fn iterators_over_two_sets_show_what_is_left(rt: HostRuntime) -> ExitCode {
-    let (left, right) = (set_of(rt.alloc(), &[1, 2]), set_of(rt.alloc(), &[2, 3]));
-    passes(lazy_ones_show_what_is_left(rt.alloc(), &left, &right))
+    passes(lazy_ones_show_what_is_left(
+        rt.alloc(),
+        &set_of(rt.alloc(), &[1, 2]),
+        &set_of(rt.alloc(), &[2, 3]),
+    ))
 }
 
 /// The key of a group, of which a map keeps the first that it is given.
@@ -133,37 +144,51 @@ fn key(group: u32, number: u32) -> Numbered {
     Numbered { group, number }
 }
 
-/// A map of one entry, whose key has the number 5.
-fn map_of_one(alloc: Global) -> LinkedHashMap<Numbered, u32> {
-    let mut map = LinkedHashMap::new(alloc);
+type NumberedMap = LinkedHashMap<Numbered, u32>;
+
+/// Puts in one entry, whose key has the number 5.
+fn put_one(map: &mut NumberedMap) {
     let _old = map.insert(key(1, 5), 10);
-    map
 }
 
-#[test]
-fn an_entry_shows_the_stored_key(rt: HostRuntime) -> ExitCode {
-    let mut map = map_of_one(rt.alloc());
+/// Whether the entries of a key that is there and of one that is absent show themselves.
+fn entries_are_shown(alloc: Global, map: &mut NumberedMap) -> bool {
     let text = "Entry(OccupiedEntry { key: Numbered { group: 1, number: 5 }, value: 10 })";
-    let occupied = shows(rt.alloc(), &map.entry(key(1, 6)), text);
+    let occupied = shows(alloc, &map.entry(key(1, 6)), text);
     let text = "Entry(VacantEntry(Numbered { group: 2, number: 6 }))";
-    passes(occupied & shows(rt.alloc(), &map.entry(key(2, 6)), text))
+    occupied & shows(alloc, &map.entry(key(2, 6)), text)
 }
 
-#[test]
-fn a_raw_entry_shows_the_stored_key(rt: HostRuntime) -> ExitCode {
-    let mut map = map_of_one(rt.alloc());
+/// The same of raw entries.
+fn raw_entries_are_shown(alloc: Global, map: &mut NumberedMap) -> bool {
     let text = "RawEntry(RawOccupiedEntryMut { key: Numbered { group: 1, number: 5 }, value: 10 })";
-    let occupied = shows(rt.alloc(), &map.raw_entry_of(&key(1, 6)), text);
-    let text = "RawEntry(RawVacantEntryMut)";
-    passes(occupied & shows(rt.alloc(), &map.raw_entry_of(&key(2, 6)), text))
+    let occupied = shows(alloc, &map.raw_entry_of(&key(1, 6)), text);
+    occupied
+        & shows(
+            alloc,
+            &map.raw_entry_of(&key(2, 6)),
+            "RawEntry(RawVacantEntryMut)",
+        )
+}
+
+/// Whether builders show their names.
+fn builders_are_shown(alloc: Global, map: &mut NumberedMap) -> bool {
+    shows(alloc, &map.raw_entry(), "RawEntryBuilder")
+        & shows(alloc, &map.raw_entry_mut(), "RawEntryBuilder")
+        & shows(alloc, map.hasher(), "DefaultHashBuilder")
+}
+
+/// Whether the entries of a map of one and its builders show themselves.
+fn all_is_shown(alloc: Global, map: &mut NumberedMap) -> bool {
+    put_one(map);
+    entries_are_shown(alloc, map)
+        & raw_entries_are_shown(alloc, map)
+        & builders_are_shown(alloc, map)
 }
 
 #[test]
-fn a_builder_shows_its_name(rt: HostRuntime) -> ExitCode {
-    let mut map = map_of_one(rt.alloc());
-    let of_reads = shows(rt.alloc(), &map.raw_entry(), "RawEntryBuilder");
-    let of_writes = shows(rt.alloc(), &map.raw_entry_mut(), "RawEntryBuilder");
-    passes(of_reads & of_writes & shows(rt.alloc(), map.hasher(), "DefaultHashBuilder"))
+fn an_entry_shows_the_stored_key_and_a_builder_its_name(rt: HostRuntime) -> ExitCode {
+    passes(all_is_shown(rt.alloc(), &mut LinkedHashMap::new(rt.alloc())))
 }
 
 /// Whether the error has this text.
@@ -172,35 +197,64 @@ fn says<E: Error>(alloc: Global, error: &E, text: &str) -> bool {
     said.is_ok_and(|said| said.as_str() == text)
 }
 
+/// Whether a clone of the value is equal to it.
+fn is_cloned<T: Clone + PartialEq + Drop>(value: &T) -> bool {
+    match value.clone() {
+        Ok(clone) => clone == *value,
+        Err(_) => false,
+    }
+}
+
+type Stopped = ExtendError<u32, u32>;
+
 #[test]
 fn an_extend_that_ran_out_of_memory_says_after_how_many(rt: HostRuntime) -> ExitCode {
     let pair = (3u32, 30u32);
-    let error = ExtendError { taken: 2, pair };
-    let is_said = says(rt.alloc(), &error, "no memory for an item, after 2 items");
-    let shown = "Ok(ExtendError { taken: 2, pair: (3, 30) })";
-    let clone: Result<_, _> = error.clone();
-    passes(is_said & shows(rt.alloc(), &clone, shown))
+    let error: Stopped = ExtendError { taken: 2, pair };
+    passes(
+        says(rt.alloc(), &error, "no memory for an item, after 2 items")
+            & shows(
+                rt.alloc(),
+                &error,
+                "ExtendError { taken: 2, pair: (3, 30) }",
+            )
+            & is_cloned(&error)
+            & (error != ExtendError { taken: 3, pair }),
+    )
+}
+
+type Refused = WeightError<u32, u32>;
+
+/// Whether an error of a weight says and shows why.
+fn weight_says_why(alloc: Global, heavy: &Refused, refused: &Refused) -> bool {
+    says(alloc, heavy, "the weight is above the budget")
+        & says(alloc, refused, "memory allocation failed")
+        & shows(alloc, heavy, "TooHeavy((1, 10))")
 }
 
 #[test]
 fn a_refused_weight_says_why_and_hands_its_pair_back(rt: HostRuntime) -> ExitCode {
-    let heavy = WeightError::TooHeavy((1u32, 10u32));
-    let refused = WeightError::Memory((2u32, 20u32));
-    let is_said = says(rt.alloc(), &heavy, "the weight is above the budget")
-        & says(rt.alloc(), &refused, "memory allocation failed");
-    let clone: Result<_, _> = heavy.clone();
-    let is_shown = shows(rt.alloc(), &clone, "Ok(TooHeavy((1, 10)))");
-    let is_handed_back = (heavy.into_pair() == (1, 10)) & (refused.into_pair() == (2, 20));
-    passes(is_said & is_shown & is_handed_back)
+    let heavy: Refused = WeightError::TooHeavy((1, 10));
+    let refused: Refused = WeightError::Memory((1, 10));
+    passes(
+        weight_says_why(rt.alloc(), &heavy, &refused)
+            & is_cloned(&heavy)
+            & (heavy != refused)
+            & (heavy.into_pair() == (1, 10))
+            & (refused.into_pair() == (1, 10)),
+    )
 }
 
+type NotMade = TryInsertError<u32, u32, u8>;
+
 #[test]
-fn a_value_that_was_not_made_says_why(rt: HostRuntime) {
-    let failed = TryInsertError::<u32, u32, u8>::Make(1, 7);
-    let refused = TryInsertError::<u32, u32, u8>::Memory((1, 10));
-    let says_why = says(rt.alloc(), &failed, "no value was made: 7");
-    let says_memory = says(rt.alloc(), &refused, "memory allocation failed");
-    assert_eq!(rt; [says_why, says_memory, failed != refused], [true; 3]);
-    let clone: Result<_, _> = failed.clone();
-    assert_eq!(rt; clone, Ok(failed));
+fn a_value_that_was_not_made_says_why(rt: HostRuntime) -> ExitCode {
+    let failed: NotMade = TryInsertError::Make(1, 7);
+    let refused: NotMade = TryInsertError::Memory((1, 10));
+    passes(
+        says(rt.alloc(), &failed, "no value was made: 7")
+            & says(rt.alloc(), &refused, "memory allocation failed")
+            & is_cloned(&failed)
+            & (failed != refused),
+    )
 }

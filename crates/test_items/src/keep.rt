@@ -18,7 +18,7 @@ pub enum Keep {
     Even,
     /// `odd` keys, whose values become ten times as much.
     Odd,
-    /// `others` than the odd keys, which are said in the order in which they were met.
+    /// `others` than the odd keys. Each key that is met is said, in turn.
     Others,
 }
 
@@ -39,13 +39,10 @@ pub fn is_raised(key: &Item, value: &mut Item) -> bool {
     key.group % 2 == 1
 }
 
-/// Whether the key is even. An odd one is met.
+/// Whether the key, which is met, is even.
 pub fn is_other(key: &Item, met: &mut Vec<Word>) -> bool {
-    let is_even = key.group % 2 == 0;
-    if !is_even {
-        let _ = met.push(Word::item(key.name()));
-    }
-    is_even
+    let _ = met.push(Word::item(key.name()));
+    key.group % 2 == 0
 }
 
 /// Says what was met, and that it is done.

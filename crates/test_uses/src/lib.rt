@@ -2,6 +2,8 @@
 #![tactic(auto)]
 
 #[cfg(test)]
+mod curves;
+#[cfg(test)]
 mod sessions;
 #[cfg(test)]
 mod uses;

@@ -1,32 +1,20 @@
 //! `?` where an allocation fails.
-use hashlink::{LinkedHashMap, LinkedHashSet, TryReserveError};
+use crate::few::{Map, map_of, passes};
+use hashlink::TryReserveError;
 use std::alloc::{AllocError, Global};
 use std::error::Error;
+use std::process::ExitCode;
 
-/// Whether a map has room.
-fn map_has_room(alloc: Global) -> Result<bool, AllocError> {
-    let mut map = LinkedHashMap::<u32, u32>::with_capacity(alloc, 2)?;
-    map.reserve(4)?;
-    Ok(map.capacity() >= 4)
-}
-
-/// Whether a set has room.
-fn set_has_room(alloc: Global) -> Result<bool, AllocError> {
-    let mut set = LinkedHashSet::<u32>::with_capacity(alloc, 2)?;
-    set.reserve(4)?;
-    Ok(set.capacity() >= 4)
-}
-
-/// The pair of an insert that fails is dropped for `?`.
-fn put(map: &mut LinkedHashMap<u32, u32>, key: u32, value: u32) -> Result<(), AllocError> {
-    map.insert(key, value).map_err(|_| AllocError)?;
+/// Makes room. The pair of an insert that fails is dropped for `?`.
+fn put(map: &mut Map, room: usize) -> Result<(), AllocError> {
+    map.reserve(room)?;
+    map.insert(1, 10).map_err(|_| AllocError)?;
     Ok(())
 }
 
-/// The error of a room that is too large, after a pair was inserted.
-fn refuse_room(alloc: Global) -> (Result<(), AllocError>, Result<(), TryReserveError>) {
-    let mut map = LinkedHashMap::new(alloc);
-    (put(&mut map, 1, 10), map.reserve(usize::MAX))
+/// Whether a pair is put where there can be room, and only there.
+fn is_room_refused(map: &mut Map) -> bool {
+    put(map, 4).is_ok() & put(map, usize::MAX).is_err()
 }
 
 /// Whether an error has a text.
@@ -38,12 +26,9 @@ fn has_text<E: Error>(alloc: Global, error: &E) -> bool {
 }
 
 #[test]
-fn a_refusal_is_an_error(rt: HostRuntime) {
-    let refusal = TryReserveError::CapacityOverflow;
-    let rooms = [map_has_room(rt.alloc()), set_has_room(rt.alloc())];
-    assert_eq!(rt;
-        (rooms, refuse_room(rt.alloc())),
-        ([Ok(true); 2], (Ok(()), Err(refusal)))
-    );
-    assert!(rt; has_text(rt.alloc(), &refusal));
+fn a_refusal_is_an_error(rt: HostRuntime) -> ExitCode {
+    passes(
+        is_room_refused(&mut map_of(rt.alloc(), &[]))
+            & has_text(rt.alloc(), &TryReserveError::CapacityOverflow),
+    )
 }

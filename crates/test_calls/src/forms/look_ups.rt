@@ -1,166 +1,148 @@
 //! What stands for a key in a lookup: a text for a `String`, a slice for a `Vec`, a `&K` for a `K`.
-ghost use Rattle.std.specs.Prelude.{◌≡◌, option_copied};
-ghost use Rattle.std.specs.Map.{lookup};
-ghost use Rattle.std.specs.Str.{bytes_eq};
-ghost use Rattle.std.specs.String.{string_bytes};
-ghost use Rattle.hashlink.specs.Cached.{entries_in};
-ghost use Rattle.hashlink.specs.Keyed.{entries_of};
-
+use crate::few::passes;
 use hashlink::weighted::WeightedCache;
 use hashlink::{LinkedHashMap, LinkedHashSet, LruCache};
-use std::alloc::Global;
-use std::hash::{BuildHasher, Hash};
-use std::test::Fail;
+use std::process::ExitCode;
 
-/// The one entry "one".
-fn one(alloc: Global) -> Result<LinkedHashMap<String, u32>, Fail> {
-    let mut map = LinkedHashMap::new(alloc);
-    map.insert("one".to_string(alloc)?, 1)?;
-    Ok(map)
+type Texts = LinkedHashMap<String, u32>;
+
+/// Whether a text and a `String` find the value.
+fn finds_value(map: &Texts, key: &String) -> bool {
+    (map.get("one") == Some(&1)) & (map.get(key) == Some(&1)) & (map.get(key.as_str()) == Some(&1))
 }
 
-/// A value by a key, in code that is generic in it.
-fn value_of<'m, K: Eq + Hash, V, S: BuildHasher>(
-    map: &'m LinkedHashMap<K, V, S>,
-    key: &K,
-) -> Option<&'m V>
-    ensures { option_copied result ≡ lookup (K.eq key.now) (entries_of map.now) }
-{
-    map.get(key)
+/// Whether a text finds the entry, and another does not.
+fn finds_entry(map: &Texts) -> bool {
+    map.get_key_value("one").is_some()
+        & map.contains_key("one")
+        & map.raw_entry().from_key("one").is_some()
+        & map.get("two").is_none()
 }
 
-/// A statement by its text, of which no `String` is made.
-fn statement<'c>(cache: &'c mut LruCache<String, u32>, sql: &str) -> Option<&'c u32>
-    ensures { option_copied result ≡ lookup (λ key. bytes_eq sql.now (string_bytes key))
-        (entries_in cache.old) }
-{
-    cache.get(sql)
+/// Whether the calls of a text find the entry that move it or write its value.
+fn moves_entry(map: &mut Texts) -> bool {
+    map.get_mut("one").is_some() & map.to_front("one").is_some() & map.to_back("one").is_some()
 }
 
-/// What a text finds in a map of texts.
-fn read(map: &LinkedHashMap<String, u32>, key: &String) -> ([Option<u32>; 4], [bool; 4]) {
-    let values = [
-        map.get("one").copied(),
-        map.get(key).copied(),
-        map.get(key.as_str()).copied(),
-        value_of(map, key).copied(),
-    ];
-    let found = [
-        map.get_key_value("one").is_some(),
-        map.contains_key("one"),
-        map.raw_entry().from_key("one").is_some(),
-        map.get("two").is_some(),
-    ];
-    (values, found)
+/// Whether a text removes the entry, and finds it no more.
+fn removes_entry(map: &mut Texts) -> bool {
+    (map.remove("one") == Some(1)) & map.remove_entry("one").is_none()
 }
 
-#[test]
-fn a_text_reads_a_map_of_texts(rt: HostRuntime) -> Result<(), Fail> {
-    let key = "one".to_string(rt.alloc())?;
-    let map = one(rt.alloc())?;
-    assert_eq!(rt; read(&map, &key), ([Some(1); 4], [true, true, true, false]));
-    Ok(())
+/// Whether the calls of a text find what a map has under it.
+fn finds_all(map: &mut Texts, key: &String) -> bool {
+    finds_value(map, key) & finds_entry(map) & moves_entry(map) & removes_entry(map)
 }
 
-/// What the calls of a text find that change a map of texts.
-fn change(map: &mut LinkedHashMap<String, u32>) -> ([bool; 3], Option<u32>) {
-    if let Some(value) = map.get_mut("one") {
-        *value = 2;
+/// Whether they do in a map that takes the key.
+fn is_found(map: &mut Texts, key: String, again: &String) -> bool {
+    map.insert(key, 1).is_ok() & finds_all(map, again)
+}
+
+/// Whether they do in a map that takes a clone of the key.
+fn is_clone_found(map: &mut Texts, key: &String) -> bool {
+    match key.clone() {
+        Ok(clone) => is_found(map, clone, key),
+        Err(_) => false,
     }
-    let moved = [map.to_front("one").is_some(), map.to_back("one").is_some()];
-    let removed = map.remove("one");
-    (
-        [moved[0], moved[1], map.remove_entry("one").is_some()],
-        removed,
-    )
 }
 
 #[test]
-fn a_text_changes_a_map_of_texts(rt: HostRuntime) -> Result<(), Fail> {
-    let mut map = one(rt.alloc())?;
-    assert_eq!(rt; change(&mut map), ([true, true, false], Some(2)));
-    Ok(())
+fn a_text_finds_its_entry(rt: HostRuntime) -> ExitCode {
+    passes(match "one".to_string(rt.alloc()) {
+        Ok(key) => is_clone_found(&mut LinkedHashMap::new(rt.alloc()), &key),
+        Err(_) => false,
+    })
 }
 
-/// What bytes find in a map of two bytes: those, and more.
-fn read_bytes(alloc: Global) -> Result<[Option<u32>; 2], Fail> {
-    let bytes = [1u8, 2, 3];
-    let key = Vec::from_slice(alloc, &bytes[..2])?;
-    let mut map = LinkedHashMap::new(alloc);
-    let _old = map.insert(key, 1u32);
-    Ok([map.get(&bytes[..2]).copied(), map.get(&bytes[..]).copied()])
-}
-
-/// What a text and a reference to it find in a map of borrowed texts.
-fn read_borrowed(alloc: Global) -> [Option<u32>; 2] {
-    let mut map = LinkedHashMap::new(alloc);
-    let _old = map.insert("one", 1u32);
-    [map.get("one").copied(), map.get(&"one").copied()]
+/// Whether bytes find the value that a map has under them, and no others do.
+fn is_found_by_bytes(map: &mut LinkedHashMap<Vec<u8>, u32>, key: Vec<u8>) -> bool {
+    map.insert(key, 1).is_ok()
+        & (map.get(b"one".as_slice()) == Some(&1))
+        & map.get(b"on".as_slice()).is_none()
 }
 
 #[test]
-fn bytes_and_borrowed_texts_read_their_maps(rt: HostRuntime) -> Result<(), Fail> {
-    let found = [read_bytes(rt.alloc())?, read_borrowed(rt.alloc())];
-    assert_eq!(rt; found, [[Some(1), None], [Some(1); 2]]);
-    Ok(())
+fn bytes_find_their_entry(rt: HostRuntime) -> ExitCode {
+    passes(match b"one".to_vec(rt.alloc()) {
+        Ok(key) => is_found_by_bytes(&mut LinkedHashMap::new(rt.alloc()), key),
+        Err(_) => false,
+    })
 }
 
-/// What the calls of a text find in a set of texts.
-fn find_element(set: &mut LinkedHashSet<String>) -> [bool; 6] {
-    [
-        set.contains("one"),
-        set.get("one").is_some(),
-        set.to_front("one"),
-        set.to_back("one"),
-        set.take("one").is_some(),
-        set.remove("one"),
-    ]
+/// Whether a text and a reference to it find the value in a map of borrowed texts.
+fn is_found_borrowed(map: &mut LinkedHashMap<&'static str, u32>) -> bool {
+    map.insert("one", 1).is_ok() & (map.get("one") == Some(&1)) & (map.get(&"one") == Some(&1))
 }
 
 #[test]
-fn a_text_finds_its_element(rt: HostRuntime) -> Result<(), Fail> {
-    let mut set = LinkedHashSet::new(rt.alloc());
-    set.insert("one".to_string(rt.alloc())?)?;
-    assert_eq!(rt;
-        find_element(&mut set),
-        [true, true, true, true, true, false]
-    );
-    Ok(())
+fn a_borrowed_text_finds_its_entry(rt: HostRuntime) -> ExitCode {
+    passes(is_found_borrowed(&mut LinkedHashMap::new(rt.alloc())))
 }
 
-/// What the calls of a text find in a cache of statements.
-fn find_statement(cache: &mut LruCache<String, u32>) -> ([bool; 4], [Option<u32>; 3]) {
-    let value = statement(cache, "select 1").copied();
-    let peeked = cache.peek("select 1").copied();
-    let found = [
-        cache.get_mut("select 1").is_some(),
-        cache.peek_mut("select 1").is_some(),
-        cache.contains_key("select 1"),
-    ];
-    let removed = cache.remove("select 1");
-    let is_left = cache.remove_entry("select 1").is_some();
-    (
-        [found[0], found[1], found[2], is_left],
-        [value, peeked, removed],
-    )
+/// Whether the calls of a text find the element of a set.
+fn finds_element(set: &mut LinkedHashSet<String>) -> bool {
+    set.contains("one") & set.get("one").is_some() & set.to_front("one") & set.to_back("one")
+}
+
+/// Whether a text takes the element out, and finds it no more.
+fn takes_element(set: &mut LinkedHashSet<String>) -> bool {
+    set.take("one").is_some() & !set.remove("one")
+}
+
+/// Whether a set takes the element and a text finds it.
+fn is_element_found(set: &mut LinkedHashSet<String>, element: String) -> bool {
+    set.insert(element).is_ok() & finds_element(set) & takes_element(set)
 }
 
 #[test]
-fn a_text_finds_its_statement(rt: HostRuntime) -> Result<(), Fail> {
-    let mut cache = LruCache::new(rt.alloc(), 2);
-    cache.insert("select 1".to_string(rt.alloc())?, 1u32)?;
-    assert_eq!(rt;
-        find_statement(&mut cache),
-        ([true, true, true, false], [Some(1); 3])
-    );
-    Ok(())
+fn a_text_finds_its_element(rt: HostRuntime) -> ExitCode {
+    passes(match "one".to_string(rt.alloc()) {
+        Ok(element) => is_element_found(&mut LinkedHashSet::new(rt.alloc()), element),
+        Err(_) => false,
+    })
+}
+
+/// Whether the calls of a text that read find its statement.
+fn reads_statement(cache: &mut LruCache<String, u32>) -> bool {
+    (cache.get("select 1") == Some(&1))
+        & (cache.peek("select 1") == Some(&1))
+        & cache.contains_key("select 1")
+}
+
+/// Whether the calls of a text that write or remove find it.
+fn removes_statement(cache: &mut LruCache<String, u32>) -> bool {
+    cache.get_mut("select 1").is_some()
+        & cache.peek_mut("select 1").is_some()
+        & (cache.remove("select 1") == Some(1))
+        & cache.remove_entry("select 1").is_none()
+}
+
+/// Whether a cache takes the statement and a text finds it.
+fn is_statement_found(cache: &mut LruCache<String, u32>, sql: String) -> bool {
+    cache.insert(sql, 1).is_ok() & reads_statement(cache) & removes_statement(cache)
 }
 
 #[test]
-fn a_text_finds_what_has_a_weight(rt: HostRuntime) -> Result<(), Fail> {
-    let mut cache = WeightedCache::new(rt.alloc(), 2);
-    cache.insert("one".to_string(rt.alloc())?, 1u32, 1)?;
-    let read = [cache.get("one").copied(), cache.peek("one").copied()];
-    assert_eq!(rt; (read, cache.remove("one")), ([Some(1); 2], Some(1)));
-    Ok(())
+fn a_text_finds_its_statement(rt: HostRuntime) -> ExitCode {
+    passes(match "select 1".to_string(rt.alloc()) {
+        Ok(sql) => is_statement_found(&mut LruCache::new(rt.alloc(), 2), sql),
+        Err(_) => false,
+    })
+}
+
+/// Whether a cache with a budget takes a value, and a text finds it.
+fn is_weighed(cache: &mut WeightedCache<String, u32>, key: String) -> bool {
+    cache.insert(key, 1, 1).is_ok()
+        & (cache.get("one") == Some(&1))
+        & (cache.peek("one") == Some(&1))
+        & (cache.remove("one") == Some(1))
+}
+
+#[test]
+fn a_text_finds_what_has_a_weight(rt: HostRuntime) -> ExitCode {
+    passes(match "one".to_string(rt.alloc()) {
+        Ok(key) => is_weighed(&mut WeightedCache::new(rt.alloc(), 2), key),
+        Err(_) => false,
+    })
 }

@@ -1,7 +1,8 @@
 //! std's traits: what `collect` makes, what a derive clones, and `extend` by its trait.
+use crate::few::{Map, passes};
 use hashlink::{LinkedHashMap, LinkedHashSet, LruCache};
 use std::alloc::{AllocError, Global};
-use std::test::Fail;
+use std::process::ExitCode;
 
 /// What holds containers.
 #[derive(Clone, Drop)]
@@ -11,39 +12,54 @@ struct Index {
     recent: LruCache<u32, u32>,
 }
 
-/// An index of the numbers from 1 to 3.
-fn one_to_three(alloc: Global) -> Result<Index, AllocError> {
+/// A map of the numbers from 1 to 3.
+fn values(alloc: Global) -> Result<Map, AllocError> {
+    (1u32..4).map(|x| (x, x)).collect(alloc)
+}
+
+/// A set of them.
+fn seen(alloc: Global) -> Result<LinkedHashSet<u32>, AllocError> {
+    (1u32..4).collect(alloc)
+}
+
+/// A cache of the last of them.
+fn recent(alloc: Global) -> LruCache<u32, u32> {
     let mut recent = LruCache::new(alloc, 2);
-    Extend::extend(&mut recent, (1u32..4).map(|x| (x, x)))?;
-    let values = (1u32..4).map(|x| (x, x)).collect(alloc)?;
-    let seen = (1u32..4).collect(alloc)?;
+    let _taken = Extend::extend(&mut recent, (1u32..4).map(|x| (x, x)));
+    recent
+}
+
+/// An index of them.
+fn one_to_three(alloc: Global) -> Result<Index, AllocError> {
     Ok(Index {
-        values,
-        seen,
-        recent,
+        values: values(alloc)?,
+        seen: seen(alloc)?,
+        recent: recent(alloc),
     })
 }
 
-/// Clears what an index holds.
-fn clear(index: &mut Index) {
-    index.values.clear();
-    index.seen.clear();
-    index.recent.clear();
+/// Whether an index holds as many as it should, and 3 in each part.
+fn holds_three(index: &Index) -> bool {
+    (index.values.len() == 3)
+        & (index.values.get(&3) == Some(&3))
+        & (index.seen.len() == 3)
+        & index.seen.contains(&3)
+        & (index.recent.len() == 2)
+        & (index.recent.peek(&3) == Some(&3))
 }
 
-/// How many of the numbers an index holds, and whether each part has 3.
-fn held(index: &Index) -> ([usize; 3], [bool; 3]) {
-    let sizes = [index.values.len(), index.seen.len(), index.recent.len()];
-    let has_value = index.values.get(&3) == Some(&3);
-    let has_recent = index.recent.peek(&3) == Some(&3);
-    (sizes, [has_value, index.seen.contains(&3), has_recent])
+/// Whether a clone holds what it should.
+fn is_cloned(index: &Index) -> bool {
+    match index.clone() {
+        Ok(clone) => holds_three(&clone),
+        Err(_) => false,
+    }
 }
 
 #[test]
-fn what_holds_containers_is_cloned(rt: HostRuntime) -> Result<(), Fail> {
-    let mut made = one_to_three(rt.alloc())?;
-    let copy = made.clone()?;
-    clear(&mut made);
-    assert_eq!(rt; held(&copy), ([3, 3, 2], [true; 3]));
-    Ok(())
+fn what_holds_containers_is_cloned(rt: HostRuntime) -> ExitCode {
+    passes(match one_to_three(rt.alloc()) {
+        Ok(index) => is_cloned(&index),
+        Err(_) => false,
+    })
 }
