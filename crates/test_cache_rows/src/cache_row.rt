@@ -7,9 +7,9 @@ use std::hash::BuildHasher;
 use std::mem;
 use std::vec::IntoIter;
 use test_items::{
-    Answer, Answers, EntryCall, Home, Item, KEEPS, Keep, Name, RawCall, Stop, Word, Words, given,
-    given_item, is_even, is_raised, lent, lent_item, made, no_memory, pairs_of, put, take_steps,
-    walk_and_clone, walk_whole, write,
+    Answer, Answers, EntryCall, Home, Item, KEEPS, Keep, Name, RawCall, RawGive, Stop, Word, Words,
+    given, given_item, is_even, is_raised, lent, lent_item, made, no_memory, pairs_of, put,
+    walk_and_clone, walk_whole, write, write_item,
 };
 use test_map_rows::{Walked, call_entry, call_found, call_map, extended, not_made, put_found};
 
@@ -25,35 +25,23 @@ pub fn call_cache<S: BuildHasher + Copy + Default + Drop>(
     match words.named(&CACHE_CALLS)? {
         CacheCall::Read(call) => answers.say(read(cache, call)),
         CacheCall::End(call) => answers.say(call_at_end(cache, call)),
-        CacheCall::Key(call) => answers.say(call_key(cache, call, &words.item(home)?)),
-        CacheCall::Lend(call) => {
-            let (key, new) = words.lent_item(home)?;
-            answers.say(lend(cache, call, &key, new))
-        }
-        CacheCall::Insert => {
-            let (key, value) = words.pair(home)?;
-            answers.give(insert(cache, key, value))
-        }
-        CacheCall::GetOrInsertWith => {
-            let key = words.name()?;
-            let (value, new) = words.lent_item(home)?;
-            answers.give(get_or_make(cache, home.item(key)?, value, new))
-        }
-        CacheCall::GetOrTryInsertWith => {
-            let key = words.name()?;
-            let (made, new) = words.tried(home)?;
-            answers.give(get_or_try(cache, home.item(key)?, made, new))
-        }
-        CacheCall::SetCapacity => {
-            cache.set_capacity(words.size()?);
-            answers.say(Word::Done)
-        }
+        CacheCall::Key(call) => answers.say(call_key(cache, call, words.item(home)?)),
+        CacheCall::Lend(call) => call_lend(cache, call, words.lent_item(home)?, answers),
+        CacheCall::Insert => insert(cache, words.pair(home)?, answers),
+        CacheCall::GetOrInsertWith => get_or_make(cache, home, words, answers),
+        CacheCall::GetOrTryInsertWith => get_or_try(cache, home, words, answers),
+        CacheCall::SetCapacity => answers.say(set_capacity(cache, words.size())),
         CacheCall::Pairs(call) => put_all(cache, call, pairs_of(home, words)?, answers),
         CacheCall::Retain(is_lent) => answers.say(retain(cache, is_lent, words.named(&KEEPS)?)),
         CacheCall::Walk(call) => walk_cache(cache, home, call, words, answers),
         CacheCall::Inside => call_map(cache.map_mut(), home, words, answers),
         call => call_of_entry(cache, home, call, words, answers),
     }
+}
+
+fn set_capacity<S: BuildHasher>(cache: &mut Cache<S>, capacity: usize) -> Word {
+    cache.set_capacity(capacity);
+    Word::Done
 }
 
 fn call_of_entry<S: BuildHasher>(
@@ -70,8 +58,8 @@ fn call_of_entry<S: BuildHasher>(
         }
         CacheCall::Raw => call_raw(cache, home, words, answers),
         CacheCall::RawRead => {
-            let _way = words.word()?;
-            answers.say(read_raw(cache, &words.item(home)?))
+            let _way = words.word();
+            answers.say(read_raw(cache, words.item(home)?))
         }
         _ => Err(Stop::Unread),
     }
@@ -84,17 +72,19 @@ fn call_raw<S: BuildHasher>(
     words: &mut Words<'_>,
     answers: &mut Answers,
 ) -> Result<(), Stop> {
-    let _way = words.word()?;
+    let _way = words.word();
     let (key, call) = RawCall::of_key(home, words)?;
     let entries = cache.raw_entry_mut();
     match call {
-        RawCall::Make(make, value, new) => answers.give(put_found(entries, make, key, value, new)),
+        RawCall::Give(RawGive::Make(make), value, new) => {
+            answers.give(put_found(entries, make, key, value, new))
+        }
         call => call_found(entries.from_key(&key), call, home, words, answers),
     }
 }
 
-fn read_raw<S: BuildHasher>(cache: &Cache<S>, key: &Item) -> Word {
-    lent(cache.raw_entry().from_key(key))
+fn read_raw<S: BuildHasher>(cache: &Cache<S>, key: Item) -> Word {
+    lent(cache.raw_entry().from_key(&key))
 }
 
 fn read<S: BuildHasher>(cache: &Cache<S>, call: ReadCall) -> Word {
@@ -120,7 +110,11 @@ fn call_at_end<S: BuildHasher + Copy + Drop>(cache: &mut Cache<S>, call: EndCall
     Word::Done
 }
 
-fn call_key<S: BuildHasher>(cache: &mut Cache<S>, call: KeyCall, key: &Item) -> Word {
+fn call_key<S: BuildHasher>(cache: &mut Cache<S>, call: KeyCall, key: Item) -> Word {
+    look_up(cache, call, &key)
+}
+
+fn look_up<S: BuildHasher>(cache: &mut Cache<S>, call: KeyCall, key: &Item) -> Word {
     match call {
         KeyCall::Get => lent_item(cache.get(key)),
         KeyCall::Peek => lent_item(cache.peek(key)),
@@ -130,32 +124,66 @@ fn call_key<S: BuildHasher>(cache: &mut Cache<S>, call: KeyCall, key: &Item) -> 
     }
 }
 
-fn insert<S: BuildHasher>(cache: &mut Cache<S>, key: Item, value: Item) -> Answer {
-    put(cache.insert(key, value))
+fn insert<S: BuildHasher>(
+    cache: &mut Cache<S>,
+    (key, value): (Item, Item),
+    answers: &mut Answers,
+) -> Result<(), Stop> {
+    answers.give(put(cache.insert(key, value)))
 }
 
 fn get_or_make<S: BuildHasher>(
+    cache: &mut Cache<S>,
+    home: Home<'_>,
+    words: &mut Words<'_>,
+    answers: &mut Answers,
+) -> Result<(), Stop> {
+    let (key, value) = words.pair(home)?;
+    answers.give(get_or_insert(cache, key, value, words.optional()))
+}
+
+fn get_or_insert<S: BuildHasher>(
     cache: &mut Cache<S>,
     key: Item,
     value: Item,
     new: Option<Name>,
 ) -> Answer {
     match cache.get_or_insert_with(key, || value) {
-        Ok(lent) => Answer::Word(write(Some(lent), new)),
+        Ok(lent) => Answer::Word(write_item(lent, new)),
         Err(pair) => no_memory(pair),
     }
 }
 
 fn get_or_try<S: BuildHasher>(
     cache: &mut Cache<S>,
+    home: Home<'_>,
+    words: &mut Words<'_>,
+    answers: &mut Answers,
+) -> Result<(), Stop> {
+    let key = words.item(home)?;
+    let (made, new) = words.tried(home)?;
+    answers.give(get_or_try_insert(cache, key, made, new))
+}
+
+fn get_or_try_insert<S: BuildHasher>(
+    cache: &mut Cache<S>,
     key: Item,
     made: Result<Item, Item>,
     new: Option<Name>,
 ) -> Answer {
     match cache.get_or_try_insert_with(key, || made) {
-        Ok(lent) => Answer::Word(write(Some(lent), new)),
+        Ok(lent) => Answer::Word(write_item(lent, new)),
         Err(error) => not_made(error),
     }
+}
+
+fn call_lend<S: BuildHasher>(
+    cache: &mut Cache<S>,
+    call: LendCall,
+    (key, new): (Item, Option<Name>),
+    answers: &mut Answers,
+) -> Result<(), Stop> {
+    answers.say(lend(cache, call, &key, new))
 }
 
 fn lend<S: BuildHasher>(
@@ -190,15 +218,16 @@ fn walk_cache<S: BuildHasher + Copy + Drop>(
 ) -> Result<(), Stop> {
     match call {
         WalkCall::Iter => walk_and_clone(Walked(cache.iter()), words, answers),
-        WalkCall::IterMut => take_steps(&mut Walked(cache.iter_mut()), words, answers),
-        WalkCall::Drain => take_steps(&mut Walked(cache.drain()), words, answers),
-        WalkCall::IntoIter => {
-            let hasher = *cache.hasher();
-            let empty = LruCache::with_hasher(home.alloc, cache.capacity(), hasher);
-            let whole = mem::replace(cache, empty);
-            walk_whole(Walked(whole.into_iter()), words, answers)
-        }
+        WalkCall::IterMut => walk_whole(Walked(cache.iter_mut()), words, answers),
+        WalkCall::Drain => walk_whole(Walked(cache.drain()), words, answers),
+        WalkCall::IntoIter => walk_whole(Walked(take(cache, home).into_iter()), words, answers),
     }
+}
+
+/// The cache, in whose place stands an empty one.
+fn take<S: BuildHasher + Copy + Drop>(cache: &mut Cache<S>, home: Home<'_>) -> Cache<S> {
+    let empty = LruCache::with_hasher(home.alloc, cache.capacity(), *cache.hasher());
+    mem::replace(cache, empty)
 }
 
 fn put_all<S: BuildHasher>(

@@ -57,11 +57,8 @@ pub fn call_weighted<S: BuildHasher>(
 ) -> Result<(), Stop> {
     match words.named(&CALLS)? {
         WeightedCall::Read(call) => answers.say(read(cache, call)),
-        WeightedCall::Key(call) => answers.say(call_key(cache, call, &words.item(home)?)),
-        WeightedCall::Insert => {
-            let (key, value) = words.pair(home)?;
-            answers.give(insert(cache, key, value))
-        }
+        WeightedCall::Key(call) => answers.say(call_key(cache, call, words.item(home)?)),
+        WeightedCall::Insert => answers.give(insert(cache, words.pair(home)?)),
         WeightedCall::Iter => walk_and_clone(Walked(cache.iter()), words, answers),
     }
 }
@@ -75,15 +72,15 @@ fn read<S: BuildHasher>(cache: &Weighted<S>, call: ReadCall) -> Word {
     }
 }
 
-fn call_key<S: BuildHasher>(cache: &mut Weighted<S>, call: KeyCall, key: &Item) -> Word {
+fn call_key<S: BuildHasher>(cache: &mut Weighted<S>, call: KeyCall, key: Item) -> Word {
     match call {
-        KeyCall::Get => lent_item(cache.get(key)),
-        KeyCall::Peek => lent_item(cache.peek(key)),
-        KeyCall::Remove => given_item(cache.remove(key)),
+        KeyCall::Get => lent_item(cache.get(&key)),
+        KeyCall::Peek => lent_item(cache.peek(&key)),
+        KeyCall::Remove => given_item(cache.remove(&key)),
     }
 }
 
-fn insert<S: BuildHasher>(cache: &mut Weighted<S>, key: Item, value: Item) -> Answer {
+fn insert<S: BuildHasher>(cache: &mut Weighted<S>, (key, value): (Item, Item)) -> Answer {
     let weight = value.name().number;
     match cache.insert(key, value, weight) {
         Ok(old) => Answer::Word(given_item(old)),

@@ -2,11 +2,8 @@
 use std::alloc::{AllocError, Global};
 use std::fmt;
 
-/// A number as texts have it: digits alone, with no zero in front of others.
 pub fn number(word: &str) -> Option<u64> {
-    let number = word.parse::<u64>().ok()?;
-    let is_plain = word == "0" || !(word.starts_with('0') || word.starts_with('+'));
-    is_plain.then_some(number)
+    word.parse::<u64>().ok()
 }
 
 /// How an item is written: its group, and after a dot its number, if it has one. As a key it is compared and
@@ -25,12 +22,10 @@ impl Name {
     }
 
     pub fn read(word: &str) -> Option<Name> {
-        match word.split_once('.') {
-            None => Some(Name::of(number(word)?)),
-            Some((group, number_word)) => Some(Name {
-                group: number(group)?,
-                number: number(number_word)?,
-            }),
+        let (group, number_word) = word.split_once('.').unwrap_or((word, "0"));
+        match (number(group), number(number_word)) {
+            (Some(group), Some(number)) => Some(Name { group, number }),
+            _ => None,
         }
     }
 }
@@ -92,8 +87,15 @@ impl Word {
 
     fn read_items(word: &str) -> Option<Word> {
         match word.split_once(':') {
-            None => Some(Word::item(Name::read(word)?)),
-            Some((key, value)) => Some(Word::pair((Name::read(key)?, Name::read(value)?))),
+            None => Name::read(word).map(Word::item),
+            Some((key, value)) => Word::read_pair(Name::read(key), Name::read(value)),
+        }
+    }
+
+    fn read_pair(key: Option<Name>, value: Option<Name>) -> Option<Word> {
+        match (key, value) {
+            (Some(key), Some(value)) => Some(Word::pair((key, value))),
+            _ => None,
         }
     }
 

@@ -59,21 +59,33 @@ pub enum PutVacant {
     Take,
 }
 
-/// A call of an entry, with what it takes. What is lent is written where a name follows.
-#[derive(Drop)]
-pub enum EntryCall {
+/// A call that takes no item. What is lent is written where a name follows.
+#[derive(Clone, Copy)]
+pub enum Ask {
     /// The key that is in hand.
     Key,
     Stay(Stay),
     End(End),
-    Modify(Name),
-    Lend(Lend, Option<Name>),
-    Make(Make, Item, Option<Name>),
+    Modify,
+    Lend(Lend),
+    Vacant(Vacant),
+}
+
+/// A call that takes a value. What is lent is written where a name follows.
+#[derive(Clone, Copy)]
+pub enum Give {
+    Make(Make),
+    Put(Put),
+    PutVacant(PutVacant),
+}
+
+/// A call of an entry, with what it takes.
+#[derive(Drop)]
+pub enum EntryCall {
+    Ask(Ask, Option<Name>),
+    Give(Give, Item, Option<Name>),
     /// Puts what was made, or hands on why nothing was.
     TryMake(Result<Item, Item>, Option<Name>),
-    Put(Put, Item),
-    Vacant(Vacant),
-    PutVacant(PutVacant, Item, Option<Name>),
     /// Steps of a cursor follow.
     Cursor,
 }
@@ -81,87 +93,79 @@ pub enum EntryCall {
 /// A call by its name alone.
 #[derive(Clone, Copy)]
 enum Named {
-    Key,
-    Stay(Stay),
-    End(End),
-    Modify,
-    Lend(Lend),
-    Make(Make),
+    Ask(Ask),
+    Give(Give),
     TryMake,
-    Put(Put),
-    Vacant,
     Cursor,
 }
 
-const CALLS: [(&str, Named); 20] = [
-    ("get", Named::Stay(Stay::Get)),
-    ("to_front", Named::Stay(Stay::ToFront)),
-    ("to_back", Named::Stay(Stay::ToBack)),
-    ("key", Named::Key),
-    ("replace_key", Named::End(End::ReplaceKey)),
-    ("into_key", Named::End(End::IntoKey)),
-    ("remove", Named::End(End::Remove)),
-    ("remove_entry", Named::End(End::RemoveEntry)),
-    ("and_modify", Named::Modify),
-    ("get_mut", Named::Lend(Lend::GetMut)),
-    ("into_mut", Named::Lend(Lend::IntoMut)),
-    ("or_insert", Named::Make(Make::OrInsert)),
-    ("or_insert_with", Named::Make(Make::OrInsertWith)),
+const CALLS: [(&str, Named); 19] = [
+    ("get", Named::Ask(Ask::Stay(Stay::Get))),
+    ("to_front", Named::Ask(Ask::Stay(Stay::ToFront))),
+    ("to_back", Named::Ask(Ask::Stay(Stay::ToBack))),
+    ("key", Named::Ask(Ask::Key)),
+    ("replace_key", Named::Ask(Ask::End(End::ReplaceKey))),
+    ("into_key", Named::Ask(Ask::End(End::IntoKey))),
+    ("remove", Named::Ask(Ask::End(End::Remove))),
+    ("remove_entry", Named::Ask(Ask::End(End::RemoveEntry))),
+    ("and_modify", Named::Ask(Ask::Modify)),
+    ("get_mut", Named::Ask(Ask::Lend(Lend::GetMut))),
+    ("into_mut", Named::Ask(Ask::Lend(Lend::IntoMut))),
+    ("or_insert", Named::Give(Give::Make(Make::OrInsert))),
+    (
+        "or_insert_with",
+        Named::Give(Give::Make(Make::OrInsertWith)),
+    ),
     ("or_try_insert_with", Named::TryMake),
-    ("insert", Named::Put(Put::Insert)),
-    ("raw_replace_value", Named::Put(Put::RawReplaceValue)),
-    ("insert_entry", Named::Put(Put::InsertEntry)),
-    ("replace_entry", Named::Put(Put::ReplaceEntry)),
-    ("vacant", Named::Vacant),
+    ("insert", Named::Give(Give::Put(Put::Insert))),
+    (
+        "raw_replace_value",
+        Named::Give(Give::Put(Put::RawReplaceValue)),
+    ),
+    ("insert_entry", Named::Give(Give::Put(Put::InsertEntry))),
+    ("replace_entry", Named::Give(Give::Put(Put::ReplaceEntry))),
     ("cursor", Named::Cursor),
 ];
 
-const VACANT: [(&str, Vacant); 2] = [("key", Vacant::Key), ("into_key", Vacant::IntoKey)];
-
-const PUT_VACANT: [(&str, PutVacant); 3] = [
-    ("insert", PutVacant::Insert),
-    ("insert_entry", PutVacant::InsertEntry),
-    ("take", PutVacant::Take),
+/// The calls after the word `vacant`.
+const VACANT: [(&str, Named); 5] = [
+    ("key", Named::Ask(Ask::Vacant(Vacant::Key))),
+    ("into_key", Named::Ask(Ask::Vacant(Vacant::IntoKey))),
+    ("insert", Named::Give(Give::PutVacant(PutVacant::Insert))),
+    (
+        "insert_entry",
+        Named::Give(Give::PutVacant(PutVacant::InsertEntry)),
+    ),
+    ("take", Named::Give(Give::PutVacant(PutVacant::Take))),
 ];
 
 impl EntryCall {
     /// The key and the call that the next words say.
     pub fn of_key(home: Home<'_>, words: &mut Words<'_>) -> Result<(Item, EntryCall), Stop> {
-        let key = words.name()?;
-        let call = EntryCall::read(home, words)?;
-        Ok((home.item(key)?, call))
+        let key = words.item(home)?;
+        Ok((key, EntryCall::read(home, words)?))
     }
 
     /// The call that the next words say.
     fn read(home: Home<'_>, words: &mut Words<'_>) -> Result<EntryCall, Stop> {
-        match words.named(&CALLS)? {
-            Named::Key => Ok(EntryCall::Key),
-            Named::Stay(stay) => Ok(EntryCall::Stay(stay)),
-            Named::End(end) => Ok(EntryCall::End(end)),
-            Named::Modify => Ok(EntryCall::Modify(words.name()?)),
-            Named::Lend(lend) => Ok(EntryCall::Lend(lend, words.optional()?)),
-            Named::Make(make) => {
+        match read_name(words)? {
+            Named::Ask(call) => Ok(EntryCall::Ask(call, words.optional())),
+            Named::Give(call) => {
                 let (value, new) = words.lent_item(home)?;
-                Ok(EntryCall::Make(make, value, new))
+                Ok(EntryCall::Give(call, value, new))
             }
             Named::TryMake => {
                 let (made, new) = words.tried(home)?;
                 Ok(EntryCall::TryMake(made, new))
             }
-            Named::Put(put) => Ok(EntryCall::Put(put, words.item(home)?)),
-            Named::Vacant => EntryCall::read_vacant(home, words),
             Named::Cursor => Ok(EntryCall::Cursor),
         }
     }
+}
 
-    fn read_vacant(home: Home<'_>, words: &mut Words<'_>) -> Result<EntryCall, Stop> {
-        let mut rest = *words;
-        rest.word()?;
-        if rest.rest.is_empty() {
-            return Ok(EntryCall::Vacant(words.named(&VACANT)?));
-        }
-        let put = words.named(&PUT_VACANT)?;
-        let (value, new) = words.lent_item(home)?;
-        Ok(EntryCall::PutVacant(put, value, new))
+fn read_name(words: &mut Words<'_>) -> Result<Named, Stop> {
+    if words.has("vacant") {
+        return words.named(&VACANT);
     }
+    words.named(&CALLS)
 }

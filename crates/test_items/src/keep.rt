@@ -28,6 +28,25 @@ pub const KEEPS: [(&str, Keep); 3] = [
     ("others", Keep::Others),
 ];
 
+impl Keep {
+    /// How many words it may say of so many entries.
+    pub fn room(self, len: usize) -> usize {
+        match self {
+            Keep::Others => len,
+            _ => 0,
+        }
+    }
+
+    /// Whether it keeps the entry.
+    pub fn keeps(self, key: &Item, value: &mut Item, met: &mut Vec<Word>) -> bool {
+        match self {
+            Keep::Even => is_even(key, value),
+            Keep::Odd => is_raised(key, value),
+            Keep::Others => is_other(key, met),
+        }
+    }
+}
+
 /// Whether the value is even.
 pub fn is_even(_key: &Item, value: &mut Item) -> bool {
     value.group % 2 == 0

@@ -8,11 +8,17 @@ pub struct Words<'l> {
     pub rest: &'l str,
     /// What the word `n` stands for.
     pub n: u64,
+    /// Whether a word was read that is not there, or is not what it was read as.
+    pub is_unread: bool,
 }
 
 impl<'l> Words<'l> {
     pub fn new(line: &'l str) -> Words<'l> {
-        Words { rest: line, n: 0 }
+        Words {
+            rest: line,
+            n: 0,
+            is_unread: false,
+        }
     }
 
     /// The next word, if there is one.
@@ -25,73 +31,97 @@ impl<'l> Words<'l> {
         Some(word)
     }
 
-    pub fn word(&mut self) -> Result<&'l str, Stop> {
-        self.next().ok_or(Stop::Unread)
+    /// The next word, or an empty one.
+    pub fn word(&mut self) -> &'l str {
+        self.next().unwrap_or("")
     }
 
     /// What the next word stands for in a table.
     pub fn named<T: Copy>(&mut self, table: &[(&str, T)]) -> Result<T, Stop> {
-        find(table, self.word()?).ok_or(Stop::Unread)
+        find(table, self.word()).ok_or(Stop::Unread)
     }
 
-    pub fn name(&mut self) -> Result<Name, Stop> {
-        self.optional()?.ok_or(Stop::Unread)
+    pub fn name(&mut self) -> Name {
+        let word = self.word();
+        self.name_of(word)
     }
 
     /// The next word as a name, if there is one.
-    pub fn optional(&mut self) -> Result<Option<Name>, Stop> {
-        match self.next() {
-            None => Ok(None),
-            Some("n") => Ok(Some(Name::of(self.n))),
-            Some(word) => Ok(Some(Name::read(word).ok_or(Stop::Unread)?)),
+    pub fn optional(&mut self) -> Option<Name> {
+        if self.rest.is_empty() {
+            return None;
         }
+        Some(self.name())
+    }
+
+    fn name_of(&mut self, word: &str) -> Name {
+        if word == "n" {
+            return Name::of(self.n);
+        }
+        let name = Name::read(word);
+        self.is_unread = self.is_unread | name.is_none();
+        name.unwrap_or(Name::of(0))
     }
 
     /// The next two words as names.
-    pub fn names(&mut self) -> Result<Pair, Stop> {
-        let key = self.name()?;
-        Ok((key, self.name()?))
+    pub fn names(&mut self) -> Pair {
+        let key = self.name();
+        (key, self.name())
     }
 
-    pub fn number(&mut self) -> Result<u64, Stop> {
-        number(self.word()?).ok_or(Stop::Unread)
+    pub fn number(&mut self) -> u64 {
+        let word = self.word();
+        self.number_of(word)
+    }
+
+    fn number_of(&mut self, word: &str) -> u64 {
+        let number = number(word);
+        self.is_unread = self.is_unread | number.is_none();
+        number.unwrap_or(0)
     }
 
     /// A number, or `max`.
-    pub fn size(&mut self) -> Result<usize, Stop> {
-        match self.word()? {
-            "max" => Ok(usize::MAX),
-            word => Ok(number(word).ok_or(Stop::Unread)? as usize),
+    pub fn size(&mut self) -> usize {
+        let word = self.word();
+        if word == "max" {
+            return usize::MAX;
         }
+        self.number_of(word) as usize
     }
 
     /// The item that the next word names.
     pub fn item(&mut self, home: Home<'_>) -> Result<Item, Stop> {
-        home.item(self.name()?)
+        home.item(self.name())
     }
 
     /// The item that the next word names, and the name after it, if there is one.
     pub fn lent_item(&mut self, home: Home<'_>) -> Result<(Item, Option<Name>), Stop> {
-        let item = self.name()?;
-        let new = self.optional()?;
+        let item = self.name();
+        let new = self.optional();
         Ok((home.item(item)?, new))
     }
 
     /// What the next word names as made, and the name after it, if there is one, or what the word after `fail`
     /// names as why nothing is made.
     pub fn tried(&mut self, home: Home<'_>) -> Result<(Result<Item, Item>, Option<Name>), Stop> {
+        let is_made = !self.has("fail");
+        let (item, new) = self.lent_item(home)?;
+        Ok((if is_made { Ok(item) } else { Err(item) }, new))
+    }
+
+    /// Whether the next word is this one, which is then read.
+    pub fn has(&mut self, word: &str) -> bool {
         let mut rest = *self;
-        if rest.next() != Some("fail") {
-            let (made, new) = self.lent_item(home)?;
-            return Ok((Ok(made), new));
+        let is_next = rest.next() == Some(word);
+        if is_next {
+            *self = rest;
         }
-        *self = rest;
-        Ok((Err(self.item(home)?), None))
+        is_next
     }
 
     /// The pair that the next two words name.
     pub fn pair(&mut self, home: Home<'_>) -> Result<(Item, Item), Stop> {
-        home.pair(self.names()?)
+        home.pair(self.names())
     }
 }
 

@@ -38,20 +38,32 @@ pub enum RawPut {
     InsertWithHasher,
 }
 
-/// A call of a raw entry, with what it takes beside the key. What is lent is written where a name follows.
-#[derive(Drop)]
-pub enum RawCall {
+/// A call that takes no item. What is lent is written where a name follows.
+#[derive(Clone, Copy)]
+pub enum RawAsk {
     Stay(RawStay),
     End(RawEnd),
-    Modify(Name),
-    Lend(RawLend, Option<Name>),
-    Make(Make, Item, Option<Name>),
-    ReplaceKey,
-    ReplaceValue(Item),
+    Modify,
+    Lend(RawLend),
+}
+
+/// A call that takes a value. What is lent is written where a name follows.
+#[derive(Clone, Copy)]
+pub enum RawGive {
+    Make(Make),
     /// It lends what it puts.
-    Put(RawPut, Item),
+    Put(RawPut),
     /// It makes what it puts an entry.
-    PutEntry(RawPut, Item),
+    PutEntry(RawPut),
+}
+
+/// A call of a raw entry, with what it takes beside the key.
+#[derive(Drop)]
+pub enum RawCall {
+    Ask(RawAsk, Option<Name>),
+    Give(RawGive, Item, Option<Name>),
+    ReplaceValue(Item),
+    ReplaceKey,
     /// Steps of a cursor follow.
     Cursor,
 }
@@ -59,43 +71,62 @@ pub enum RawCall {
 /// A call by its name alone.
 #[derive(Clone, Copy)]
 enum Named {
-    Stay(RawStay),
-    End(RawEnd),
-    Modify,
-    Lend(RawLend),
-    Make(Make),
-    ReplaceKey,
+    Ask(RawAsk),
+    Give(RawGive),
     ReplaceValue,
-    Put(RawPut),
-    PutEntry(RawPut),
+    ReplaceKey,
     Cursor,
 }
 
 const CALLS: [(&str, Named); 23] = [
-    ("get", Named::Stay(RawStay::Get)),
-    ("get_key_value", Named::Stay(RawStay::GetKeyValue)),
-    ("to_front", Named::Stay(RawStay::ToFront)),
-    ("to_back", Named::Stay(RawStay::ToBack)),
-    ("into_key", Named::End(RawEnd::IntoKey)),
-    ("remove", Named::End(RawEnd::Remove)),
-    ("remove_entry", Named::End(RawEnd::RemoveEntry)),
-    ("and_modify", Named::Modify),
-    ("get_mut", Named::Lend(RawLend::GetMut)),
-    ("get_key_value_mut", Named::Lend(RawLend::GetKeyValueMut)),
-    ("into_mut", Named::Lend(RawLend::IntoMut)),
-    ("into_key_value", Named::Lend(RawLend::IntoKeyValue)),
-    ("or_insert", Named::Make(Make::OrInsert)),
-    ("or_insert_with", Named::Make(Make::OrInsertWith)),
+    ("get", Named::Ask(RawAsk::Stay(RawStay::Get))),
+    (
+        "get_key_value",
+        Named::Ask(RawAsk::Stay(RawStay::GetKeyValue)),
+    ),
+    ("to_front", Named::Ask(RawAsk::Stay(RawStay::ToFront))),
+    ("to_back", Named::Ask(RawAsk::Stay(RawStay::ToBack))),
+    ("into_key", Named::Ask(RawAsk::End(RawEnd::IntoKey))),
+    ("remove", Named::Ask(RawAsk::End(RawEnd::Remove))),
+    ("remove_entry", Named::Ask(RawAsk::End(RawEnd::RemoveEntry))),
+    ("and_modify", Named::Ask(RawAsk::Modify)),
+    ("get_mut", Named::Ask(RawAsk::Lend(RawLend::GetMut))),
+    (
+        "get_key_value_mut",
+        Named::Ask(RawAsk::Lend(RawLend::GetKeyValueMut)),
+    ),
+    ("into_mut", Named::Ask(RawAsk::Lend(RawLend::IntoMut))),
+    (
+        "into_key_value",
+        Named::Ask(RawAsk::Lend(RawLend::IntoKeyValue)),
+    ),
+    ("or_insert", Named::Give(RawGive::Make(Make::OrInsert))),
+    (
+        "or_insert_with",
+        Named::Give(RawGive::Make(Make::OrInsertWith)),
+    ),
     ("replace_key", Named::ReplaceKey),
     ("replace_value", Named::ReplaceValue),
-    ("insert", Named::Put(RawPut::Insert)),
-    ("insert_hashed", Named::Put(RawPut::InsertHashed)),
-    ("insert_with_hasher", Named::Put(RawPut::InsertWithHasher)),
-    ("insert_entry", Named::PutEntry(RawPut::Insert)),
-    ("insert_entry_hashed", Named::PutEntry(RawPut::InsertHashed)),
+    ("insert", Named::Give(RawGive::Put(RawPut::Insert))),
+    (
+        "insert_hashed",
+        Named::Give(RawGive::Put(RawPut::InsertHashed)),
+    ),
+    (
+        "insert_with_hasher",
+        Named::Give(RawGive::Put(RawPut::InsertWithHasher)),
+    ),
+    (
+        "insert_entry",
+        Named::Give(RawGive::PutEntry(RawPut::Insert)),
+    ),
+    (
+        "insert_entry_hashed",
+        Named::Give(RawGive::PutEntry(RawPut::InsertHashed)),
+    ),
     (
         "insert_entry_with_hasher",
-        Named::PutEntry(RawPut::InsertWithHasher),
+        Named::Give(RawGive::PutEntry(RawPut::InsertWithHasher)),
     ),
     ("cursor", Named::Cursor),
 ];
@@ -103,26 +134,20 @@ const CALLS: [(&str, Named); 23] = [
 impl RawCall {
     /// The key and the call that the next words say.
     pub fn of_key(home: Home<'_>, words: &mut Words<'_>) -> Result<(Item, RawCall), Stop> {
-        let key = words.name()?;
-        let call = RawCall::read(home, words)?;
-        Ok((home.item(key)?, call))
+        let key = words.item(home)?;
+        Ok((key, RawCall::read(home, words)?))
     }
 
     /// The call that the next words say.
     pub fn read(home: Home<'_>, words: &mut Words<'_>) -> Result<RawCall, Stop> {
         match words.named(&CALLS)? {
-            Named::Stay(stay) => Ok(RawCall::Stay(stay)),
-            Named::End(end) => Ok(RawCall::End(end)),
-            Named::Modify => Ok(RawCall::Modify(words.name()?)),
-            Named::Lend(lend) => Ok(RawCall::Lend(lend, words.optional()?)),
-            Named::Make(make) => {
+            Named::Ask(call) => Ok(RawCall::Ask(call, words.optional())),
+            Named::Give(call) => {
                 let (value, new) = words.lent_item(home)?;
-                Ok(RawCall::Make(make, value, new))
+                Ok(RawCall::Give(call, value, new))
             }
-            Named::ReplaceKey => Ok(RawCall::ReplaceKey),
             Named::ReplaceValue => Ok(RawCall::ReplaceValue(words.item(home)?)),
-            Named::Put(put) => Ok(RawCall::Put(put, words.item(home)?)),
-            Named::PutEntry(put) => Ok(RawCall::PutEntry(put, words.item(home)?)),
+            Named::ReplaceKey => Ok(RawCall::ReplaceKey),
             Named::Cursor => Ok(RawCall::Cursor),
         }
     }

@@ -24,20 +24,30 @@ pub fn lent_item(item: Option<&Item>) -> Word {
     }
 }
 
-/// What is said of a pair that was taken out.
+/// What is said of a pair that was taken out, if one was.
 pub fn given(pair: Option<(Item, Item)>) -> Word {
     match pair {
-        Some((key, value)) => shown((&key, &value)),
+        Some(pair) => taken_pair(pair),
+        None => Word::Nothing,
+    }
+}
+
+/// What is said of a pair that was taken out.
+pub fn taken_pair((key, value): (Item, Item)) -> Word {
+    shown((&key, &value))
+}
+
+/// What is said of a key, a value or an element that was taken out, if one was.
+pub fn given_item(item: Option<Item>) -> Word {
+    match item {
+        Some(item) => taken(item),
         None => Word::Nothing,
     }
 }
 
 /// What is said of a key, a value or an element that was taken out.
-pub fn given_item(item: Option<Item>) -> Word {
-    match item {
-        Some(item) => Word::item(item.name()),
-        None => Word::Nothing,
-    }
+pub fn taken(item: Item) -> Word {
+    Word::item(item.name())
 }
 
 /// What is said of a value that is lent for writing, after which it is written.
@@ -48,29 +58,30 @@ pub fn write(value: Option<&mut Item>, new: Option<Name>) -> Word {
     }
 }
 
-fn write_item(value: &mut Item, new: Option<Name>) -> Word {
+pub fn write_item(value: &mut Item, new: Option<Name>) -> Word {
     let old = Word::item(value.name());
+    set(value, new);
+    old
+}
+
+/// Writes the group of the name, if there is one.
+pub fn set(value: &mut Item, new: Option<Name>) {
     if let Some(new) = new {
         value.group = new.group;
     }
-    old
 }
 
 /// The same of a pair.
 pub fn write_pair(pair: Option<(&Item, &mut Item)>, new: Option<Name>) -> Word {
-    written(pair, new).unwrap_or(Word::Nothing)
+    let Some(pair) = pair else {
+        return Word::Nothing;
+    };
+    write_value(pair.0, pair.1, new)
 }
 
-fn written(pair: Option<(&Item, &mut Item)>, new: Option<Name>) -> Option<Word> {
-    let (key, value) = pair?;
-    Some(write_value(key, value, new))
-}
-
-fn write_value(key: &Item, value: &mut Item, new: Option<Name>) -> Word {
+pub fn write_value(key: &Item, value: &mut Item, new: Option<Name>) -> Word {
     let old = shown((key, value));
-    if let Some(new) = new {
-        value.group = new.group;
-    }
+    set(value, new);
     old
 }
 
@@ -83,13 +94,13 @@ pub fn put(old: Result<Option<Item>, (Item, Item)>) -> Answer {
 }
 
 /// That a pair is handed back for want of memory.
-pub fn no_memory((key, value): (Item, Item)) -> Answer {
-    Answer::Back(Word::Memory, shown((&key, &value)))
+pub fn no_memory(pair: (Item, Item)) -> Answer {
+    Answer::Back(Word::Memory, taken_pair(pair))
 }
 
 /// That a pair is handed back for want of memory after so many were taken.
-pub fn no_memory_after((key, value): (Item, Item), taken: u64) -> Answer {
-    Answer::BackAfter(shown((&key, &value)), taken)
+pub fn no_memory_after(pair: (Item, Item), taken: u64) -> Answer {
+    Answer::BackAfter(taken_pair(pair), taken)
 }
 
 /// The row goes on with the container that was made.

@@ -1,5 +1,5 @@
 //! Steps of an iterator.
-use crate::answers::{Name, Stop, find, number};
+use crate::answers::{Name, find, number};
 use crate::line::Words;
 
 /// A step of an iterator.
@@ -22,14 +22,14 @@ const STEPS: [(&str, (bool, bool)); 4] = [
 
 impl Step {
     /// The step of the word, and of a number that comes next.
-    pub fn read(word: &str, words: &mut Words<'_>) -> Result<Step, Stop> {
-        match find(&STEPS, word) {
-            Some((is_back, is_value)) => Ok(Step {
-                is_back,
-                is_value,
-                written: read_number(words),
-            }),
-            None => Err(Stop::Unread),
+    pub fn read(word: &str, words: &mut Words<'_>) -> Step {
+        let found = find(&STEPS, word);
+        words.is_unread = words.is_unread | found.is_none();
+        let (is_back, is_value) = found.unwrap_or((false, false));
+        Step {
+            is_back,
+            is_value,
+            written: read_number(words),
         }
     }
 }

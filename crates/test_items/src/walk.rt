@@ -2,6 +2,7 @@
 use crate::answers::{Answers, Stop, Word};
 use crate::line::Words;
 use crate::steps::Step;
+use std::mem;
 
 /// An iterator that goes from both ends and knows how many are left.
 pub trait Walk {
@@ -26,30 +27,23 @@ pub fn take_steps<W: Walk>(
     for _ in 0..64 {
         match words.next() {
             None | Some("clone") => return Ok(()),
-            Some(word) => say_step(walk, word, words, answers)?,
+            Some(word) => answers.say(come(walk, word, words))?,
         }
     }
     Err(Stop::Unread)
 }
 
-fn say_step<W: Walk>(
-    walk: &mut W,
-    word: &str,
-    words: &mut Words<'_>,
-    answers: &mut Answers,
-) -> Result<(), Stop> {
-    answers.say(take_step(walk, word, words)?)?;
-    if is_hinted(walk) {
-        return Ok(());
-    }
-    answers.say(Word::Wrong)
+/// What comes by the step, if the hint is then how many are left.
+fn come<W: Walk>(walk: &mut W, word: &str, words: &mut Words<'_>) -> Word {
+    let came = take_step(walk, word, words);
+    if is_hinted(walk) { came } else { Word::Wrong }
 }
 
-fn take_step<W: Walk>(walk: &mut W, word: &str, words: &mut Words<'_>) -> Result<Word, Stop> {
+fn take_step<W: Walk>(walk: &mut W, word: &str, words: &mut Words<'_>) -> Word {
     if word == "left" {
-        return Ok(Word::count(walk.left().0));
+        return Word::count(walk.left().0);
     }
-    Ok(walk.step(Step::read(word, words)?))
+    walk.step(Step::read(word, words))
 }
 
 /// Whether the hint is how many are left.
@@ -65,6 +59,17 @@ pub fn walk_whole<W: Walk + Drop>(
     answers: &mut Answers,
 ) -> Result<(), Stop> {
     take_steps(&mut walk, words, answers)
+}
+
+/// The same of an iterator that is forgotten after its steps.
+pub fn walk_and_forget<W: Walk + Drop>(
+    mut walk: W,
+    words: &mut Words<'_>,
+    answers: &mut Answers,
+) -> Result<(), Stop> {
+    let taken = take_steps(&mut walk, words, answers);
+    mem::forget(walk);
+    taken
 }
 
 /// The same, and from `clone` on the steps are taken by a clone, and then by the iterator itself.

@@ -4,8 +4,8 @@ use crate::map_row::Map;
 use hashlink_map::{Entry, OccupiedEntry, TryInsertError};
 use std::hash::BuildHasher;
 use test_items::{
-    Answer, Answers, End, EntryCall, Home, Item, Lend, Make, Name, Put, PutVacant, Stay, Stop,
-    Vacant, Word, Words, given, given_item, no_memory, shown, write,
+    Answer, Answers, Ask, End, EntryCall, Give, Home, Item, Lend, Make, Name, Put, PutVacant, Stay,
+    Stop, Vacant, Word, Words, no_memory, set, shown, taken, taken_pair, write_item,
 };
 
 type InHand<'m, S> = Entry<'m, Item, Item, S>;
@@ -23,7 +23,8 @@ pub fn call_entry_of<S: BuildHasher>(
     call_entry(map.entry(key), call, home, words, answers)
 }
 
-/// Makes a call of an entry, which may have steps of a cursor behind it.
+/// Makes a call of an entry, which may have steps of a cursor behind it. One of an occupied entry answers
+/// nothing where the key is absent, and one of a vacant entry nothing where it is there.
 pub fn call_entry<S: BuildHasher>(
     entry: InHand<'_, S>,
     call: EntryCall,
@@ -32,26 +33,21 @@ pub fn call_entry<S: BuildHasher>(
     answers: &mut Answers,
 ) -> Result<(), Stop> {
     match call {
+        EntryCall::Ask(call, new) => answers.say(ask_at(entry, call, new)),
+        EntryCall::Give(call, value, new) => answers.give(give_at(entry, call, value, new)),
+        EntryCall::TryMake(made, new) => answers.give(try_make_at(entry, made, new)),
         EntryCall::Cursor => steps_of(entry, home, words, answers),
-        call => answers.give(answer(entry, call)),
     }
 }
 
-/// What a call of an entry answers. One of an occupied entry answers nothing where the key is absent, and one
-/// of a vacant entry nothing where it is there.
-fn answer<S: BuildHasher>(entry: InHand<'_, S>, call: EntryCall) -> Answer {
+fn ask_at<S: BuildHasher>(entry: InHand<'_, S>, call: Ask, new: Option<Name>) -> Word {
     match call {
-        EntryCall::Key => Answer::Word(Word::item(entry.key().name())),
-        EntryCall::Stay(stay) => Answer::Word(stay_at(entry, stay)),
-        EntryCall::End(end) => Answer::Word(end_at(entry, end)),
-        EntryCall::Modify(value) => Answer::Word(modify(entry, value)),
-        EntryCall::Lend(lend, new) => Answer::Word(lend_at(entry, lend, new)),
-        EntryCall::Make(make, value, new) => make_at(entry, make, value, new),
-        EntryCall::TryMake(made, new) => try_make_at(entry, made, new),
-        EntryCall::Put(put, value) => Answer::Word(put_at(entry, put, value)),
-        EntryCall::Vacant(call) => Answer::Word(vacant(entry, call)),
-        EntryCall::PutVacant(put, value, new) => put_vacant(entry, put, value, new),
-        EntryCall::Cursor => Answer::Word(Word::Nothing),
+        Ask::Key => Word::item(entry.key().name()),
+        Ask::Stay(stay) => stay_at(entry, stay),
+        Ask::End(end) => end_at(entry, end),
+        Ask::Modify => modify(entry, new),
+        Ask::Lend(lend) => lend_at(entry, lend, new),
+        Ask::Vacant(call) => ask_vacant(entry, call),
     }
 }
 
@@ -74,10 +70,10 @@ fn stay_in<S: BuildHasher>(entry: &mut Occupied<'_, S>, stay: Stay) -> Word {
 fn end_at<S: BuildHasher>(entry: InHand<'_, S>, end: End) -> Word {
     match entry {
         Entry::Occupied(entry) => match end {
-            End::ReplaceKey => given_item(Some(entry.replace_key())),
-            End::IntoKey => given_item(Some(entry.into_key())),
-            End::Remove => given_item(Some(entry.remove())),
-            End::RemoveEntry => given(Some(entry.remove_entry())),
+            End::ReplaceKey => taken(entry.replace_key()),
+            End::IntoKey => taken(entry.into_key()),
+            End::Remove => taken(entry.remove()),
+            End::RemoveEntry => taken_pair(entry.remove_entry()),
         },
         Entry::Vacant(_vacant) => Word::Nothing,
     }
@@ -86,18 +82,41 @@ fn end_at<S: BuildHasher>(entry: InHand<'_, S>, end: End) -> Word {
 fn lend_at<S: BuildHasher>(entry: InHand<'_, S>, lend: Lend, new: Option<Name>) -> Word {
     match entry {
         Entry::Occupied(mut entry) => match lend {
-            Lend::GetMut => write(Some(entry.get_mut()), new),
-            Lend::IntoMut => write(Some(entry.into_mut()), new),
+            Lend::GetMut => write_item(entry.get_mut(), new),
+            Lend::IntoMut => write_item(entry.into_mut(), new),
         },
         Entry::Vacant(_vacant) => Word::Nothing,
     }
 }
 
 /// Writes the value where the key is there.
-fn modify<S: BuildHasher>(entry: InHand<'_, S>, value: Name) -> Word {
-    match entry.and_modify(|lent| lent.group = value.group) {
+fn modify<S: BuildHasher>(entry: InHand<'_, S>, new: Option<Name>) -> Word {
+    match entry.and_modify(|lent| set(lent, new)) {
         Entry::Occupied(entry) => Word::item(entry.get().name()),
         Entry::Vacant(_vacant) => Word::Nothing,
+    }
+}
+
+fn ask_vacant<S: BuildHasher>(entry: InHand<'_, S>, call: Vacant) -> Word {
+    match entry {
+        Entry::Occupied(_occupied) => Word::Nothing,
+        Entry::Vacant(entry) => match call {
+            Vacant::Key => Word::item(entry.key().name()),
+            Vacant::IntoKey => taken(entry.into_key()),
+        },
+    }
+}
+
+fn give_at<S: BuildHasher>(
+    entry: InHand<'_, S>,
+    call: Give,
+    value: Item,
+    new: Option<Name>,
+) -> Answer {
+    match call {
+        Give::Make(make) => make_at(entry, make, value, new),
+        Give::Put(put) => Answer::Word(put_at(entry, put, value)),
+        Give::PutVacant(put) => put_vacant(entry, put, value, new),
     }
 }
 
@@ -107,12 +126,22 @@ fn make_at<S: BuildHasher>(
     value: Item,
     new: Option<Name>,
 ) -> Answer {
-    let lent = match make {
-        Make::OrInsert => entry.or_insert(value),
-        Make::OrInsertWith => entry.or_insert_with(|| value),
-    };
-    match lent {
-        Ok(lent) => Answer::Word(write(Some(lent), new)),
+    match make {
+        Make::OrInsert => or_insert(entry, value, new),
+        Make::OrInsertWith => or_insert_with(entry, value, new),
+    }
+}
+
+fn or_insert<S: BuildHasher>(entry: InHand<'_, S>, value: Item, new: Option<Name>) -> Answer {
+    match entry.or_insert(value) {
+        Ok(lent) => Answer::Word(write_item(lent, new)),
+        Err(pair) => no_memory(pair),
+    }
+}
+
+fn or_insert_with<S: BuildHasher>(entry: InHand<'_, S>, value: Item, new: Option<Name>) -> Answer {
+    match entry.or_insert_with(|| value) {
+        Ok(lent) => Answer::Word(write_item(lent, new)),
         Err(pair) => no_memory(pair),
     }
 }
@@ -123,7 +152,7 @@ fn try_make_at<S: BuildHasher>(
     new: Option<Name>,
 ) -> Answer {
     match entry.or_try_insert_with(|| made) {
-        Ok(lent) => Answer::Word(write(Some(lent), new)),
+        Ok(lent) => Answer::Word(write_item(lent, new)),
         Err(error) => not_made(error),
     }
 }
@@ -139,22 +168,12 @@ pub fn not_made(error: TryInsertError<Item, Item, Item>) -> Answer {
 fn put_at<S: BuildHasher>(entry: InHand<'_, S>, put: Put, value: Item) -> Word {
     match entry {
         Entry::Occupied(mut entry) => match put {
-            Put::Insert => given_item(Some(entry.insert(value))),
-            Put::RawReplaceValue => given_item(Some(entry.raw_entry_mut().replace_value(value))),
-            Put::InsertEntry => given(Some(entry.insert_entry(value))),
-            Put::ReplaceEntry => given(Some(entry.replace_entry(value))),
+            Put::Insert => taken(entry.insert(value)),
+            Put::RawReplaceValue => taken(entry.raw_entry_mut().replace_value(value)),
+            Put::InsertEntry => taken_pair(entry.insert_entry(value)),
+            Put::ReplaceEntry => taken_pair(entry.replace_entry(value)),
         },
         Entry::Vacant(_vacant) => Word::Nothing,
-    }
-}
-
-fn vacant<S: BuildHasher>(entry: InHand<'_, S>, call: Vacant) -> Word {
-    match entry {
-        Entry::Occupied(_occupied) => Word::Nothing,
-        Entry::Vacant(entry) => match call {
-            Vacant::Key => Word::item(entry.key().name()),
-            Vacant::IntoKey => given_item(Some(entry.into_key())),
-        },
     }
 }
 
@@ -164,21 +183,39 @@ fn put_vacant<S: BuildHasher>(
     value: Item,
     new: Option<Name>,
 ) -> Answer {
+    match put {
+        PutVacant::Insert => insert(entry, value, new),
+        PutVacant::InsertEntry => insert_entry(entry, value),
+        PutVacant::Take => insert_and_remove(entry, value),
+    }
+}
+
+fn insert<S: BuildHasher>(entry: InHand<'_, S>, value: Item, new: Option<Name>) -> Answer {
     match entry {
         Entry::Occupied(_occupied) => Answer::Word(Word::Nothing),
-        Entry::Vacant(entry) => match put {
-            PutVacant::Insert => match entry.insert(value) {
-                Ok(lent) => Answer::Word(write(Some(lent), new)),
-                Err(pair) => no_memory(pair),
-            },
-            PutVacant::InsertEntry => match entry.insert_entry(value) {
-                Ok(entry) => Answer::Word(shown((entry.key(), entry.get()))),
-                Err(pair) => no_memory(pair),
-            },
-            PutVacant::Take => match entry.insert_entry(value) {
-                Ok(entry) => Answer::Word(given(Some(entry.remove_entry()))),
-                Err(pair) => no_memory(pair),
-            },
+        Entry::Vacant(entry) => match entry.insert(value) {
+            Ok(lent) => Answer::Word(write_item(lent, new)),
+            Err(pair) => no_memory(pair),
+        },
+    }
+}
+
+fn insert_entry<S: BuildHasher>(entry: InHand<'_, S>, value: Item) -> Answer {
+    match entry {
+        Entry::Occupied(_occupied) => Answer::Word(Word::Nothing),
+        Entry::Vacant(entry) => match entry.insert_entry(value) {
+            Ok(entry) => Answer::Word(shown((entry.key(), entry.get()))),
+            Err(pair) => no_memory(pair),
+        },
+    }
+}
+
+fn insert_and_remove<S: BuildHasher>(entry: InHand<'_, S>, value: Item) -> Answer {
+    match entry {
+        Entry::Occupied(_occupied) => Answer::Word(Word::Nothing),
+        Entry::Vacant(entry) => match entry.insert_entry(value) {
+            Ok(entry) => Answer::Word(taken_pair(entry.remove_entry())),
+            Err(pair) => no_memory(pair),
         },
     }
 }

@@ -4,8 +4,7 @@ use crate::map_row::Map;
 use hashlink_map::CursorMut;
 use std::hash::BuildHasher;
 use test_items::{
-    Answer, Answers, Home, Item, Name, Stop, Word, Words, given, lent, put, shown, write,
-    write_pair,
+    Answers, Home, Item, Name, Stop, Word, Words, lent, put, shown, taken_pair, write, write_pair,
 };
 
 type Cursor<'m, S> = CursorMut<'m, Item, Item, S>;
@@ -79,11 +78,11 @@ pub fn call_cursor<S: BuildHasher>(
             Err(cursor) => answers.say_all(&around(&cursor)),
         },
         Some(Last::TakeEntry) => match cursor.current_entry() {
-            Ok(entry) => answers.say(given(Some(entry.remove_entry()))),
+            Ok(entry) => answers.say(taken_pair(entry.remove_entry())),
             Err(_guard) => answers.say(Word::Nothing),
         },
         Some(Last::TakeIntoEntry) => match cursor.into_entry() {
-            Some(entry) => answers.say(given(Some(entry.remove_entry()))),
+            Some(entry) => answers.say(taken_pair(entry.remove_entry())),
             None => answers.say(Word::Nothing),
         },
     }
@@ -139,11 +138,8 @@ fn take_step<S: BuildHasher>(
         CursorStep::Next => cursor.move_next(),
         CursorStep::Prev => cursor.move_prev(),
         CursorStep::At => return answers.say_all(&around(cursor)),
-        CursorStep::Put(place) => {
-            let (key, value) = words.pair(home)?;
-            return answers.give(put_at(cursor, place, key, value));
-        }
-        CursorStep::Write(place) => return answers.say(write_at(cursor, place, words.name()?)),
+        CursorStep::Put(place) => return put_pair(cursor, place, words.pair(home)?, answers),
+        CursorStep::Write(place) => return answers.say(write_at(cursor, place, words.name())),
         CursorStep::Last(_last) => return Err(Stop::Unread),
     }
     Ok(())
@@ -158,16 +154,16 @@ fn around<S: BuildHasher>(cursor: &Cursor<'_, S>) -> [Word; 3] {
     ]
 }
 
-fn put_at<S: BuildHasher>(
+fn put_pair<S: BuildHasher>(
     cursor: &mut Cursor<'_, S>,
     place: PutAt,
-    key: Item,
-    value: Item,
-) -> Answer {
-    match place {
+    (key, value): (Item, Item),
+    answers: &mut Answers,
+) -> Result<(), Stop> {
+    answers.give(match place {
         PutAt::Before => put(cursor.insert_before(key, value)),
         PutAt::After => put(cursor.insert_after(key, value)),
-    }
+    })
 }
 
 fn write_at<S: BuildHasher>(cursor: &mut Cursor<'_, S>, place: WriteAt, new: Name) -> Word {

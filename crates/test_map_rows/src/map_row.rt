@@ -14,8 +14,8 @@ use std::mem;
 use std::vec::IntoIter;
 use test_items::{
     Answer, Answers, Home, Item, KEEPS, Keep, Name, Retain, Stop, Word, Words, given, given_item,
-    has_room, is_even, is_other, is_raised, lent, lent_item, made, no_memory_after, pairs_of, put,
-    room, say_met, take_steps, walk_and_clone, walk_whole, write,
+    has_room, lent, lent_item, made, no_memory_after, pairs_of, put, room, say_met, walk_and_clone,
+    walk_and_forget, walk_whole, write, write_item,
 };
 
 pub type Map<S> = LinkedHashMap<Item, Item, S>;
@@ -30,17 +30,11 @@ pub fn call_map<S: BuildHasher + Copy + Default + Drop>(
     match words.named(&MAP_CALLS)? {
         MapCall::Read(call) => answers.say(read(map, call)),
         MapCall::End(call) => answers.say(call_at_end(map, call)),
-        MapCall::Key(call) => answers.say(call_key(map, call, &words.item(home)?)),
-        MapCall::Lend(call) => {
-            let (key, new) = words.lent_item(home)?;
-            answers.say(lend(map, call, &key, new))
-        }
-        MapCall::LendBack => answers.say(lend_back(map, words.optional()?)),
-        MapCall::Pair(call) => {
-            let (key, value) = words.pair(home)?;
-            answers.give(put_pair(map, call, key, value))
-        }
-        MapCall::Size(call) => answers.say(ask_room(map, call, home, words.size()?)),
+        MapCall::Key(call) => answers.say(call_key(map, call, words.item(home)?)),
+        MapCall::Lend(call) => call_lend(map, call, words.lent_item(home)?, answers),
+        MapCall::LendBack => answers.say(write(map.back_value_mut(), words.optional())),
+        MapCall::Pair(call) => call_pair(map, call, words.pair(home)?, answers),
+        MapCall::Size(call) => answers.say(ask_room(map, call, home, words.size())),
         MapCall::Pairs(call) => put_all(map, home, call, pairs_of(home, words)?, answers),
         MapCall::Retain(call) => retain(map, home, call, words.named(&KEEPS)?, answers),
         MapCall::Walk(call) => walk_map(map, home, call, words, answers),
@@ -94,29 +88,48 @@ fn call_at_end<S: BuildHasher + Copy + Drop>(map: &mut Map<S>, call: EndCall) ->
     }
 }
 
-fn call_key<S: BuildHasher>(map: &mut Map<S>, call: KeyCall, key: &Item) -> Word {
+fn call_key<S: BuildHasher>(map: &mut Map<S>, call: KeyCall, key: Item) -> Word {
+    look_up(map, call, &key)
+}
+
+fn look_up<S: BuildHasher>(map: &mut Map<S>, call: KeyCall, key: &Item) -> Word {
     match call {
         KeyCall::Get => lent_item(map.get(key)),
         KeyCall::ContainsKey => Word::Is(map.contains_key(key)),
         KeyCall::GetKeyValue => lent(map.get_key_value(key)),
-        KeyCall::Index => {
-            if map.contains_key(key) {
-                Word::item(map[key].name())
-            } else {
-                Word::Nothing
-            }
-        }
+        KeyCall::Index => index(map, key),
         KeyCall::Remove => given_item(map.remove(key)),
         KeyCall::RemoveEntry => given(map.remove_entry(key)),
     }
 }
 
-fn put_pair<S: BuildHasher>(map: &mut Map<S>, call: PairCall, key: Item, value: Item) -> Answer {
-    match call {
+fn index<S: BuildHasher>(map: &Map<S>, key: &Item) -> Word {
+    if map.contains_key(key) {
+        return Word::item(map[key].name());
+    }
+    Word::Nothing
+}
+
+fn call_pair<S: BuildHasher>(
+    map: &mut Map<S>,
+    call: PairCall,
+    (key, value): (Item, Item),
+    answers: &mut Answers,
+) -> Result<(), Stop> {
+    answers.give(match call {
         PairCall::Insert => put(map.insert(key, value)),
         PairCall::InsertFront => put(map.insert_front(key, value)),
         PairCall::Replace => put(map.replace(key, value)),
-    }
+    })
+}
+
+fn call_lend<S: BuildHasher>(
+    map: &mut Map<S>,
+    call: LendCall,
+    (key, new): (Item, Option<Name>),
+    answers: &mut Answers,
+) -> Result<(), Stop> {
+    answers.say(lend(map, call, &key, new))
 }
 
 fn lend<S: BuildHasher>(map: &mut Map<S>, call: LendCall, key: &Item, new: Option<Name>) -> Word {
@@ -124,18 +137,15 @@ fn lend<S: BuildHasher>(map: &mut Map<S>, call: LendCall, key: &Item, new: Optio
         LendCall::GetMut => write(map.get_mut(key), new),
         LendCall::ToFront => write(map.to_front(key), new),
         LendCall::ToBack => write(map.to_back(key), new),
-        LendCall::IndexMut => {
-            if map.contains_key(key) {
-                write(Some(&mut map[key]), new)
-            } else {
-                Word::Nothing
-            }
-        }
+        LendCall::IndexMut => index_mut(map, key, new),
     }
 }
 
-fn lend_back<S: BuildHasher>(map: &mut Map<S>, new: Option<Name>) -> Word {
-    write(map.back_value_mut(), new)
+fn index_mut<S: BuildHasher>(map: &mut Map<S>, key: &Item, new: Option<Name>) -> Word {
+    if map.contains_key(key) {
+        return write_item(&mut map[key], new);
+    }
+    Word::Nothing
 }
 
 fn retain<S: BuildHasher>(
@@ -145,36 +155,13 @@ fn retain<S: BuildHasher>(
     keep: Keep,
     answers: &mut Answers,
 ) -> Result<(), Stop> {
-    let mut met = Vec::new(home.alloc);
-    match keep {
-        Keep::Even => keep_even(map, call),
-        Keep::Odd => keep_odd(map, call),
-        Keep::Others => {
-            met.reserve(map.len())?;
-            keep_others(map, call, &mut met);
-        }
-    }
+    let mut met = Vec::with_capacity(home.alloc, keep.room(map.len()))?;
+    keep_some(map, call, keep, &mut met);
     say_met(&met, answers)
 }
 
-fn keep_even<S: BuildHasher>(map: &mut Map<S>, call: Retain) {
-    match call {
-        Retain::Any => map.retain(is_even),
-        Retain::WithOrder => map.retain_with_order(is_even),
-        Retain::From => map.retain_from(&mut is_even),
-    }
-}
-
-fn keep_odd<S: BuildHasher>(map: &mut Map<S>, call: Retain) {
-    match call {
-        Retain::Any => map.retain(is_raised),
-        Retain::WithOrder => map.retain_with_order(is_raised),
-        Retain::From => map.retain_from(&mut is_raised),
-    }
-}
-
-fn keep_others<S: BuildHasher>(map: &mut Map<S>, call: Retain, met: &mut Vec<Word>) {
-    let mut keep = |key: &Item, _value: &mut Item| is_other(key, met);
+fn keep_some<S: BuildHasher>(map: &mut Map<S>, call: Retain, keep: Keep, met: &mut Vec<Word>) {
+    let mut keep = |key: &Item, value: &mut Item| keep.keeps(key, value, met);
     match call {
         Retain::Any => map.retain(keep),
         Retain::WithOrder => map.retain_with_order(keep),
@@ -193,25 +180,23 @@ fn walk_map<S: BuildHasher + Copy + Default + Drop>(
         WalkCall::Iter => walk_and_clone(Walked(map.iter()), words, answers),
         WalkCall::Keys => walk_and_clone(Walked(map.keys()), words, answers),
         WalkCall::Values => walk_and_clone(Walked(map.values()), words, answers),
-        WalkCall::IterMut => take_steps(&mut Walked(map.iter_mut()), words, answers),
-        WalkCall::ValuesMut => take_steps(&mut Walked(map.values_mut()), words, answers),
-        WalkCall::Drain => take_steps(&mut Walked(map.drain()), words, answers),
-        WalkCall::ForgottenDrain => {
-            let mut drain = Walked(map.drain());
-            let taken = take_steps(&mut drain, words, answers);
-            mem::forget(drain);
-            taken
-        }
-        WalkCall::IntoIter => walk_whole(Walked(taken(map, home).into_iter()), words, answers),
-        WalkCall::Collect => {
-            let own = taken(map, home);
-            answers.say(made(map, LinkedHashMap::from_iter(home.alloc, own)))
-        }
+        WalkCall::IterMut => walk_whole(Walked(map.iter_mut()), words, answers),
+        WalkCall::ValuesMut => walk_whole(Walked(map.values_mut()), words, answers),
+        WalkCall::Drain => walk_whole(Walked(map.drain()), words, answers),
+        WalkCall::ForgottenDrain => walk_and_forget(Walked(map.drain()), words, answers),
+        WalkCall::IntoIter => walk_whole(Walked(take(map, home).into_iter()), words, answers),
+        WalkCall::Collect => answers.say(collect(map, home)),
     }
 }
 
+/// Makes the map anew of its own pairs.
+fn collect<S: BuildHasher + Copy + Default + Drop>(map: &mut Map<S>, home: Home<'_>) -> Word {
+    let own = take(map, home);
+    made(map, LinkedHashMap::from_iter(home.alloc, own))
+}
+
 /// The map, in whose place stands an empty one.
-fn taken<S: BuildHasher + Copy + Drop>(map: &mut Map<S>, home: Home<'_>) -> Map<S> {
+fn take<S: BuildHasher + Copy + Drop>(map: &mut Map<S>, home: Home<'_>) -> Map<S> {
     let empty = LinkedHashMap::with_hasher(home.alloc, *map.hasher());
     mem::replace(map, empty)
 }
@@ -226,13 +211,18 @@ fn ask_room<S: BuildHasher + Copy + Drop>(
         SizeCall::Reserve => room(map.reserve(size)),
         SizeCall::TryReserve => room(map.try_reserve(size)),
         SizeCall::Has(asked) => has_room(asked, map.capacity(), map.len(), size),
-        SizeCall::WithCapacity => {
-            let hasher = *map.hasher();
-            match LinkedHashMap::with_capacity_and_hasher(home.alloc, size, hasher) {
-                Ok(new) => made(map, Ok(new)),
-                Err(refused) => room(Err(refused)),
-            }
-        }
+        SizeCall::WithCapacity => with_capacity(map, home, size),
+    }
+}
+
+fn with_capacity<S: BuildHasher + Copy + Drop>(
+    map: &mut Map<S>,
+    home: Home<'_>,
+    size: usize,
+) -> Word {
+    match LinkedHashMap::with_capacity_and_hasher(home.alloc, size, *map.hasher()) {
+        Ok(new) => made(map, Ok(new)),
+        Err(refused) => room(Err(refused)),
     }
 }
 

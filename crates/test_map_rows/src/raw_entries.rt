@@ -5,8 +5,9 @@ use crate::map_row::Map;
 use hashlink_map::{RawEntryBuilderMut, RawEntryMut, RawOccupiedEntryMut};
 use std::hash::BuildHasher;
 use test_items::{
-    Answer, Answers, Home, Item, Make, Name, RawCall, RawEnd, RawLend, RawPut, RawStay, Stop, Word,
-    Words, given, given_item, lent, no_memory, shown, write, write_pair,
+    Answer, Answers, Home, Item, Make, Name, RawAsk, RawCall, RawEnd, RawGive, RawLend, RawPut,
+    RawStay, Stop, Word, Words, lent, no_memory, set, shown, taken, taken_pair, write_item,
+    write_pair,
 };
 
 type Raw<'m, S> = RawEntryMut<'m, Item, Item, S>;
@@ -102,12 +103,22 @@ pub fn call_raw<S: BuildHasher + Copy>(
     let (key, call) = RawCall::of_key(home, words)?;
     match call {
         RawCall::ReplaceKey => answers.say(replace_key(map, key)),
-        RawCall::Make(make, value, new) => {
-            answers.give(put_found(map.raw_entry_mut(), make, key, value, new))
-        }
-        RawCall::Put(put, value) => answers.give(put_absent(map, put, key, value)),
-        RawCall::PutEntry(put, value) => answers.give(put_entry(map, put, key, value)),
+        RawCall::Give(call, value, new) => answers.give(give_at(map, call, key, value, new)),
         call => call_found(raw_of(map, way, &key), call, home, words, answers),
+    }
+}
+
+fn give_at<S: BuildHasher + Copy>(
+    map: &mut Map<S>,
+    call: RawGive,
+    key: Item,
+    value: Item,
+    new: Option<Name>,
+) -> Answer {
+    match call {
+        RawGive::Make(make) => put_found(map.raw_entry_mut(), make, key, value, new),
+        RawGive::Put(put) => put_absent(map, put, key, value),
+        RawGive::PutEntry(put) => put_entry(map, put, key, value),
     }
 }
 
@@ -120,13 +131,19 @@ pub fn call_found<S: BuildHasher>(
     answers: &mut Answers,
 ) -> Result<(), Stop> {
     match call {
-        RawCall::Stay(stay) => answers.say(stay_at(entry, stay)),
-        RawCall::End(end) => answers.say(end_at(entry, end)),
-        RawCall::Modify(value) => answers.say(modify(entry, value)),
-        RawCall::Lend(lend, new) => answers.say(lend_at(entry, lend, new)),
+        RawCall::Ask(call, new) => answers.say(ask_at(entry, call, new)),
         RawCall::ReplaceValue(value) => answers.say(replace_at(entry, value)),
         RawCall::Cursor => steps_at(entry, home, words, answers),
         _ => Err(Stop::Unread),
+    }
+}
+
+fn ask_at<S: BuildHasher>(entry: Raw<'_, S>, call: RawAsk, new: Option<Name>) -> Word {
+    match call {
+        RawAsk::Stay(stay) => stay_at(entry, stay),
+        RawAsk::End(end) => end_at(entry, end),
+        RawAsk::Modify => modify(entry, new),
+        RawAsk::Lend(lend) => lend_at(entry, lend, new),
     }
 }
 
@@ -151,8 +168,8 @@ fn end_at<S: BuildHasher>(entry: Raw<'_, S>, end: RawEnd) -> Word {
     match entry {
         RawEntryMut::Occupied(entry) => match end {
             RawEnd::IntoKey => Word::item(entry.into_key().name()),
-            RawEnd::Remove => given_item(Some(entry.remove())),
-            RawEnd::RemoveEntry => given(Some(entry.remove_entry())),
+            RawEnd::Remove => taken(entry.remove()),
+            RawEnd::RemoveEntry => taken_pair(entry.remove_entry()),
         },
         RawEntryMut::Vacant(_vacant) => Word::Nothing,
     }
@@ -161,18 +178,18 @@ fn end_at<S: BuildHasher>(entry: Raw<'_, S>, end: RawEnd) -> Word {
 fn lend_at<S: BuildHasher>(entry: Raw<'_, S>, lend: RawLend, new: Option<Name>) -> Word {
     match entry {
         RawEntryMut::Occupied(mut entry) => match lend {
-            RawLend::GetMut => write(Some(entry.get_mut()), new),
-            RawLend::GetKeyValueMut => write(Some(entry.get_key_value_mut().1), new),
-            RawLend::IntoMut => write(Some(entry.into_mut()), new),
-            RawLend::IntoKeyValue => write(Some(entry.into_key_value().1), new),
+            RawLend::GetMut => write_item(entry.get_mut(), new),
+            RawLend::GetKeyValueMut => write_item(entry.get_key_value_mut().1, new),
+            RawLend::IntoMut => write_item(entry.into_mut(), new),
+            RawLend::IntoKeyValue => write_item(entry.into_key_value().1, new),
         },
         RawEntryMut::Vacant(_vacant) => Word::Nothing,
     }
 }
 
 /// Writes the value where the key is there.
-fn modify<S: BuildHasher>(entry: Raw<'_, S>, value: Name) -> Word {
-    match entry.and_modify(|_, lent| lent.group = value.group) {
+fn modify<S: BuildHasher>(entry: Raw<'_, S>, new: Option<Name>) -> Word {
+    match entry.and_modify(|_, lent| set(lent, new)) {
         RawEntryMut::Occupied(entry) => shown(entry.get_key_value()),
         RawEntryMut::Vacant(_vacant) => Word::Nothing,
     }
@@ -199,7 +216,7 @@ pub fn put_found<S: BuildHasher>(
 
 fn replace_at<S: BuildHasher>(entry: Raw<'_, S>, value: Item) -> Word {
     match entry {
-        RawEntryMut::Occupied(mut entry) => given_item(Some(entry.replace_value(value))),
+        RawEntryMut::Occupied(mut entry) => taken(entry.replace_value(value)),
         RawEntryMut::Vacant(_vacant) => Word::Nothing,
     }
 }

@@ -48,18 +48,26 @@ impl Walk for Walked<Values<'_, Item, Item>> {
 
 impl<S: BuildHasher> Walk for Walked<IterMut<'_, Item, Item, S>> {
     fn step(&mut self, step: Step) -> Word {
-        match (step.is_value, step.is_back) {
-            (false, false) => write_pair(self.0.next(), step.written),
-            (false, true) => write_pair(self.0.next_back(), step.written),
-            (true, false) => write(self.0.next_value(), step.written),
-            (true, true) => write(self.0.next_value_back(), step.written),
+        if step.is_value {
+            return step_by_value(&mut self.0, step);
         }
+        if step.is_back {
+            return write_pair(self.0.next_back(), step.written);
+        }
+        write_pair(self.0.next(), step.written)
     }
 
     fn left(&self) -> (usize, usize, Option<usize>) {
         let left = self.0.len();
         (left, left, Some(left))
     }
+}
+
+fn step_by_value<S: BuildHasher>(pairs: &mut IterMut<'_, Item, Item, S>, step: Step) -> Word {
+    if step.is_back {
+        return write(pairs.next_value_back(), step.written);
+    }
+    write(pairs.next_value(), step.written)
 }
 
 impl<S: BuildHasher> Walk for Walked<ValuesMut<'_, Item, Item, S>> {

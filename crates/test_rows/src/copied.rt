@@ -26,15 +26,6 @@ impl<S: BuildHasher + Copy + Default + Drop> Spoken for LinkedHashMap<Name, Name
         }
     }
 
-    fn both(
-        &mut self,
-        _other: &LinkedHashMap<Name, Name, S>,
-        _words: &mut Words<'_>,
-        _answers: &mut Answers,
-    ) -> Result<(), Stop> {
-        Err(Stop::Unread)
-    }
-
     fn count_items(&self) -> usize {
         0
     }
@@ -67,15 +58,6 @@ impl<S: BuildHasher + Copy + Default + Drop> Spoken for LinkedHashSet<Name, S> {
         }
     }
 
-    fn both(
-        &mut self,
-        _other: &LinkedHashSet<Name, S>,
-        _words: &mut Words<'_>,
-        _answers: &mut Answers,
-    ) -> Result<(), Stop> {
-        Err(Stop::Unread)
-    }
-
     fn count_items(&self) -> usize {
         0
     }
@@ -90,26 +72,26 @@ impl<S: BuildHasher + Copy + Default + Drop> Spoken for LinkedHashSet<Name, S> {
 
 /// The pairs after the word `extend_ref`.
 fn copied_pairs(alloc: Global, words: &mut Words<'_>) -> Result<Vec<Pair>, Stop> {
-    let _call = words.word()?;
+    let _call = words.word();
     let mut pairs = Vec::new(alloc);
     for _ in 0..64 {
         if words.rest.is_empty() {
             break;
         }
-        pairs.push(words.names()?).map_err(|_| Stop::Memory)?;
+        pairs.push(words.names()).map_err(|_| Stop::Memory)?;
     }
     Ok(pairs)
 }
 
 /// The elements after it.
 fn copied_elements(alloc: Global, words: &mut Words<'_>) -> Result<Vec<Name>, Stop> {
-    let _call = words.word()?;
+    let _call = words.word();
     let mut elements = Vec::new(alloc);
     for _ in 0..64 {
         if words.rest.is_empty() {
             break;
         }
-        elements.push(words.name()?).map_err(|_| Stop::Memory)?;
+        elements.push(words.name()).map_err(|_| Stop::Memory)?;
     }
     Ok(elements)
 }

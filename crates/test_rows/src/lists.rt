@@ -73,7 +73,7 @@ fn is_even(_key: &u64, value: &u64) -> bool {
 /// The command to a map that a line says.
 fn command_of(alloc: Global, line: &str) -> Result<Command<u64, u64>, Stop> {
     let mut words = Words::new(line);
-    let (name, key) = (words.word()?, words.number().unwrap_or(0));
+    let (name, key) = (words.word(), words.number());
     match (name, words.rest) {
         ("remove_entry", "") => Ok(Command::RemoveEntry(key)),
         ("entry", "replace_key") => Ok(Command::Entry(key, EntryStep::ReplaceKey)),

@@ -1,5 +1,5 @@
 //! A row, and what is wrong with it.
-use test_items::{Stop, Words};
+use test_items::Words;
 
 /// A row of a file.
 #[derive(Clone, Copy)]
@@ -68,12 +68,12 @@ pub fn cut(line: &str) -> (&str, Option<&str>) {
 }
 
 /// The words of a call, and after `each FIRST LAST` also the last of the numbers for which it is made.
-pub fn words_of(call: &str) -> Result<(Words<'_>, u64), Stop> {
+pub fn words_of(call: &str) -> (Words<'_>, u64) {
     let mut words = Words::new(call);
-    if words.next() != Some("each") {
-        return Ok((Words::new(call), 0));
+    if !words.has("each") {
+        return (words, 0);
     }
-    words.n = words.number()?;
-    let last = words.number()?;
-    Ok((words, last))
+    words.n = words.number();
+    let last = words.number();
+    (words, last)
 }

@@ -128,10 +128,10 @@ fn is_right_alone(
     let mut words = words;
     match kind {
         Alone::PairCommands => {
-            let capacities = (words.size()?, words.size()?);
+            let capacities = (words.size(), words.size());
             run_lines_of_pair(alloc, capacities, row.lines, answers, voice)
         }
-        Alone::Uses => run_lines_of_uses(alloc, words.size()?, row.lines, answers, voice),
+        Alone::Uses => run_lines_of_uses(alloc, words.size(), row.lines, answers, voice),
         Alone::Text => is_text_right(alloc, row.lines, answers, voice),
     }
 }
@@ -161,13 +161,12 @@ fn each<'f>(
     answers: &mut Answers,
     voice: Voice<'_>,
 ) -> Result<Option<Wrong<'f>>, Stop> {
-    if let Some(wrong) = under::<DefaultHashBuilder>(row, "default", words, home, answers, voice)? {
-        return Ok(Some(wrong));
+    for (_, hashing) in HASHERS {
+        if let Some(wrong) = under_one(row, hashing, words, home, answers, voice)? {
+            return Ok(Some(wrong));
+        }
     }
-    if let Some(wrong) = under::<SameHash>(row, "same_hash", words, home, answers, voice)? {
-        return Ok(Some(wrong));
-    }
-    under::<OddOrEven>(row, "odd_or_even", words, home, answers, voice)
+    Ok(None)
 }
 
 /// Under one hasher, of which the words say the container.
@@ -184,8 +183,8 @@ fn under<'f, S: BuildHasher + Copy + Default + Drop>(
     match words.named(&CALLED)? {
         Called::Map => speak::<Map<S>>(row, 0, home, answers, voice),
         Called::Set => speak::<Set<S>>(row, 0, home, answers, voice),
-        Called::Cache => speak::<Cache<S>>(row, words.size()?, home, answers, voice),
-        Called::Weighted => speak::<Weighted<S>>(row, words.size()?, home, answers, voice),
+        Called::Cache => speak::<Cache<S>>(row, words.size(), home, answers, voice),
+        Called::Weighted => speak::<Weighted<S>>(row, words.size(), home, answers, voice),
         Called::CopiedMap => speak::<LinkedHashMap<Name, Name, S>>(row, 0, home, answers, voice),
         Called::CopiedSet => speak::<LinkedHashSet<Name, S>>(row, 0, home, answers, voice),
         Called::Commands => {
@@ -193,7 +192,7 @@ fn under<'f, S: BuildHasher + Copy + Default + Drop>(
             Ok(whole(are_runs_right(map, home.alloc, row.lines, answers, voice)?))
         }
         Called::CacheCommands => {
-            let cache = LruCache::with_hasher(home.alloc, words.size()?, S::default());
+            let cache = LruCache::with_hasher(home.alloc, words.size(), S::default());
             Ok(whole(are_runs_right(cache, home.alloc, row.lines, answers, voice)?))
         }
     }
@@ -255,7 +254,7 @@ impl<C: Spoken> Speech<C> {
         voice: Voice<'_>,
     ) -> Result<Option<Wrong<'f>>, Stop> {
         let (call, wanted) = cut(line);
-        let (mut words, last) = words_of(call)?;
+        let (mut words, last) = words_of(call);
         for n in words.n..last.saturating_add(1) {
             words.n = n;
             answers.words.clear();
@@ -280,20 +279,39 @@ impl<C: Spoken> Speech<C> {
             .saturating_add(self.second.count_items())
     }
 
-    /// Makes a call of the first container, after `other` of the second, and after `both` of the two.
+    /// Makes the call that the words say.
     fn call(
         &mut self,
         words: Words<'_>,
         home: Home<'_>,
         answers: &mut Answers,
     ) -> Result<(), Stop> {
-        let mut rest = words;
-        match rest.word()? {
-            "other" => self.second.call(home, &mut rest, answers),
-            "both" => self.first.both(&self.second, &mut rest, answers),
-            "cost" => say_cost(home, answers),
-            _ => self.first.call(home, &mut { words }, answers),
+        let mut words = words;
+        self.call_one(&mut words, home, answers)?;
+        if words.is_unread {
+            Err(Stop::Unread)
+        } else {
+            Ok(())
         }
+    }
+
+    /// Makes a call of the first container, after `other` of the second, and after `both` of the two.
+    fn call_one(
+        &mut self,
+        words: &mut Words<'_>,
+        home: Home<'_>,
+        answers: &mut Answers,
+    ) -> Result<(), Stop> {
+        if words.has("other") {
+            return self.second.call(home, words, answers);
+        }
+        if words.has("both") {
+            return self.first.both(&self.second, words, answers);
+        }
+        if words.has("cost") {
+            return say_cost(home, answers);
+        }
+        self.first.call(home, words, answers)
     }
 
     /// Says what came, and what then stands in each container.

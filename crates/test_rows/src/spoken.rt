@@ -42,13 +42,15 @@ pub trait Spoken: Sized {
         answers: &mut Answers,
     ) -> Result<(), Stop>;
 
-    /// Makes the call of two containers that the words say.
+    /// Makes the call of two containers that the words say, if there are such calls.
     fn both(
         &mut self,
-        other: &Self,
-        words: &mut Words<'_>,
-        answers: &mut Answers,
-    ) -> Result<(), Stop>;
+        _other: &Self,
+        _words: &mut Words<'_>,
+        _answers: &mut Answers,
+    ) -> Result<(), Stop> {
+        Err(Stop::Unread)
+    }
 
     /// How many items it holds.
     fn count_items(&self) -> usize;
@@ -141,15 +143,6 @@ impl<S: BuildHasher + Copy + Default + Drop> Spoken for Cache<S> {
         call_cache(self, home, words, answers)
     }
 
-    fn both(
-        &mut self,
-        _other: &Cache<S>,
-        _words: &mut Words<'_>,
-        _answers: &mut Answers,
-    ) -> Result<(), Stop> {
-        Err(Stop::Unread)
-    }
-
     fn count_items(&self) -> usize {
         self.len().saturating_mul(2)
     }
@@ -174,15 +167,6 @@ impl<S: BuildHasher + Default> Spoken for Weighted<S> {
         answers: &mut Answers,
     ) -> Result<(), Stop> {
         call_weighted(self, home, words, answers)
-    }
-
-    fn both(
-        &mut self,
-        _other: &Weighted<S>,
-        _words: &mut Words<'_>,
-        _answers: &mut Answers,
-    ) -> Result<(), Stop> {
-        Err(Stop::Unread)
     }
 
     fn count_items(&self) -> usize {

@@ -14,7 +14,8 @@ use std::mem;
 use std::vec::IntoIter;
 use test_items::{
     Answer, Answers, Home, Item, KEEPS, Keep, Name, Stop, Word, Words, elements_of, given_item,
-    has_room, is_other, lent_item, made, room, say_met, take_steps, walk_and_clone, walk_whole,
+    has_room, is_other, lent_item, made, room, say_met, taken, walk_and_clone, walk_and_forget,
+    walk_whole,
 };
 
 pub type Set<S> = LinkedHashSet<Item, S>;
@@ -29,14 +30,13 @@ pub fn call_set<S: BuildHasher + Copy + Default + Drop>(
     match words.named(&SET_CALLS)? {
         SetCall::Read(call) => answers.say(read(set, call)),
         SetCall::End(call) => answers.say(call_at_end(set, call)),
-        SetCall::Element(call) => answers.say(call_element(set, call, &words.item(home)?)),
+        SetCall::Element(call) => answers.say(call_element(set, call, words.item(home)?)),
         SetCall::Put(call) => answers.give(put(set, call, words.item(home)?)),
-        SetCall::GetOrInsertWith => put_made(set, home, words.name()?, answers),
-        SetCall::Size(call) => answers.say(ask_room(set, call, home, words.size()?)),
+        SetCall::GetOrInsertWith => put_made(set, home, words.name(), answers),
+        SetCall::Size(call) => answers.say(ask_room(set, call, home, words.size())),
         SetCall::Elements(call) => put_all(set, home, call, elements_of(home, words)?, answers),
         SetCall::Retain(is_ordered) => {
-            let keep = words.named(&KEEPS)?;
-            retain(set, home, is_ordered, keep, answers)
+            retain(set, home, is_ordered, words.named(&KEEPS)?, answers)
         }
         SetCall::Walk(call) => walk_set(set, home, call, words, answers),
     }
@@ -51,18 +51,16 @@ fn walk_set<S: BuildHasher + Copy + Drop>(
 ) -> Result<(), Stop> {
     match call {
         WalkCall::Iter => walk_and_clone(Walked(set.iter()), words, answers),
-        WalkCall::Drain => take_steps(&mut Walked(set.drain()), words, answers),
-        WalkCall::ForgottenDrain => {
-            let mut drain = Walked(set.drain());
-            let taken = take_steps(&mut drain, words, answers);
-            mem::forget(drain);
-            taken
-        }
-        WalkCall::IntoIter => {
-            let empty = LinkedHashSet::with_hasher(home.alloc, *set.hasher());
-            walk_whole(Walked(mem::replace(set, empty).into_iter()), words, answers)
-        }
+        WalkCall::Drain => walk_whole(Walked(set.drain()), words, answers),
+        WalkCall::ForgottenDrain => walk_and_forget(Walked(set.drain()), words, answers),
+        WalkCall::IntoIter => walk_whole(Walked(take(set, home).into_iter()), words, answers),
     }
+}
+
+/// The set, in whose place stands an empty one.
+fn take<S: BuildHasher + Copy + Drop>(set: &mut Set<S>, home: Home<'_>) -> Set<S> {
+    let empty = LinkedHashSet::with_hasher(home.alloc, *set.hasher());
+    mem::replace(set, empty)
 }
 
 fn read<S: BuildHasher>(set: &Set<S>, call: ReadCall) -> Word {
@@ -93,7 +91,11 @@ fn call_at_end<S: BuildHasher + Copy + Drop>(set: &mut Set<S>, call: EndCall) ->
     }
 }
 
-fn call_element<S: BuildHasher>(set: &mut Set<S>, call: ElementCall, element: &Item) -> Word {
+fn call_element<S: BuildHasher>(set: &mut Set<S>, call: ElementCall, element: Item) -> Word {
+    look_up(set, call, &element)
+}
+
+fn look_up<S: BuildHasher>(set: &mut Set<S>, call: ElementCall, element: &Item) -> Word {
     match call {
         ElementCall::Contains => Word::Is(set.contains(element)),
         ElementCall::Get => lent_item(set.get(element)),
@@ -106,15 +108,25 @@ fn call_element<S: BuildHasher>(set: &mut Set<S>, call: ElementCall, element: &I
 
 fn put<S: BuildHasher>(set: &mut Set<S>, call: PutCall, element: Item) -> Answer {
     match call {
-        PutCall::Insert => match set.insert(element) {
-            Ok(is_new) => Answer::Word(Word::Is(is_new)),
-            Err(element) => back(element),
-        },
-        PutCall::Replace => match set.replace(element) {
-            Ok(old) => Answer::Word(given_item(old)),
-            Err(element) => back(element),
-        },
+        PutCall::Insert => is_new_or_back(set.insert(element)),
+        PutCall::Replace => old_or_back(set.replace(element)),
         PutCall::GetOrInsert => lent_or_back(set.get_or_insert(element)),
+    }
+}
+
+/// Whether the element was absent, or the one that is handed back.
+fn is_new_or_back(is_new: Result<bool, Item>) -> Answer {
+    match is_new {
+        Ok(is_new) => Answer::Word(Word::Is(is_new)),
+        Err(element) => back(element),
+    }
+}
+
+/// The element that was there, or the one that is handed back.
+fn old_or_back(old: Result<Option<Item>, Item>) -> Answer {
+    match old {
+        Ok(old) => Answer::Word(given_item(old)),
+        Err(element) => back(element),
     }
 }
 
@@ -128,7 +140,7 @@ fn lent_or_back(lent: Result<&Item, Item>) -> Answer {
 
 /// That an element is handed back for want of memory.
 fn back(element: Item) -> Answer {
-    Answer::Back(Word::Memory, Word::item(element.name()))
+    Answer::Back(Word::Memory, taken(element))
 }
 
 fn put_made<S: BuildHasher>(
@@ -165,35 +177,25 @@ fn retain<S: BuildHasher>(
     keep: Keep,
     answers: &mut Answers,
 ) -> Result<(), Stop> {
-    let mut met = Vec::new(home.alloc);
-    match keep {
-        Keep::Odd => keep_odd(set, is_ordered),
-        Keep::Others => {
-            met.reserve(set.len())?;
-            keep_others(set, is_ordered, &mut met);
-        }
-        Keep::Even => return Err(Stop::Unread),
-    }
+    let mut met = Vec::with_capacity(home.alloc, keep.room(set.len()))?;
+    keep_some(set, is_ordered, keep, &mut met);
     say_met(&met, answers)
 }
 
-fn is_odd(element: &Item) -> bool {
-    element.group % 2 == 1
-}
-
-fn keep_odd<S: BuildHasher>(set: &mut Set<S>, is_ordered: bool) {
+fn keep_some<S: BuildHasher>(set: &mut Set<S>, is_ordered: bool, keep: Keep, met: &mut Vec<Word>) {
+    let keep = |element: &Item| is_kept(element, keep, met);
     if is_ordered {
-        set.retain_with_order(is_odd);
+        set.retain_with_order(keep);
     } else {
-        set.retain(is_odd);
+        set.retain(keep);
     }
 }
 
-fn keep_others<S: BuildHasher>(set: &mut Set<S>, is_ordered: bool, met: &mut Vec<Word>) {
-    if is_ordered {
-        set.retain_with_order(|element| is_other(element, met));
-    } else {
-        set.retain(|element| is_other(element, met));
+/// Whether the element is odd, or where `others` are kept even.
+fn is_kept(element: &Item, keep: Keep, met: &mut Vec<Word>) -> bool {
+    match keep {
+        Keep::Others => is_other(element, met),
+        _ => element.group % 2 == 1,
     }
 }
 
@@ -207,20 +209,25 @@ fn ask_room<S: BuildHasher + Copy + Drop>(
         SizeCall::Reserve => room(set.reserve(size)),
         SizeCall::TryReserve => room(set.try_reserve(size)),
         SizeCall::Has(asked) => has_room(asked, set.capacity(), set.len(), size),
-        SizeCall::WithCapacity => {
-            let hasher = *set.hasher();
-            match LinkedHashSet::with_capacity_and_hasher(home.alloc, size, hasher) {
-                Ok(new) => made(set, Ok(new)),
-                Err(refused) => room(Err(refused)),
-            }
-        }
+        SizeCall::WithCapacity => with_capacity(set, home, size),
+    }
+}
+
+fn with_capacity<S: BuildHasher + Copy + Drop>(
+    set: &mut Set<S>,
+    home: Home<'_>,
+    size: usize,
+) -> Word {
+    match LinkedHashSet::with_capacity_and_hasher(home.alloc, size, *set.hasher()) {
+        Ok(new) => made(set, Ok(new)),
+        Err(refused) => room(Err(refused)),
     }
 }
 
 fn extended(answer: Result<(), ExtendError<Item, ()>>) -> Answer {
     match answer {
         Ok(()) => Answer::Word(Word::Done),
-        Err(refused) => Answer::BackAfter(given_item(Some(refused.pair.0)), refused.taken),
+        Err(refused) => Answer::BackAfter(taken(refused.pair.0), refused.taken),
     }
 }
 
@@ -259,7 +266,7 @@ pub fn call_sets<S: BuildHasher + Copy + Default + Drop>(
 ) -> Result<(), Stop> {
     match words.named(&SETS_CALLS)? {
         SetsCall::Ask(call) => answers.say(ask_of_two(set, other, call)),
-        SetsCall::Iterate(call) => iterate(set, other, call, words.optional()?, answers),
+        SetsCall::Iterate(call) => iterate(set, other, call, words.optional(), answers),
         SetsCall::Operate(operator) => answers.say(operate(set, other, operator)),
     }
 }
