@@ -12,7 +12,8 @@ pub(crate) enum Side {
     Prev,
 }
 
-/// The links of a node, to the one after it and to the one before it. No other module writes them.
+/// The links of a node, to the one after it and to the one before it. Where a node is made, both are set at
+/// once. After that no other module writes them.
 #[derive(Drop)]
 pub(crate) struct Links {
     next: Node,

@@ -2,6 +2,7 @@
 use std::alloc::{AllocError, Global};
 use std::fmt;
 
+/// The number that the digits say.
 pub fn number(word: &str) -> Option<u64> {
     word.parse::<u64>().ok()
 }

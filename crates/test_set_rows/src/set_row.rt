@@ -13,12 +13,14 @@ use std::hash::BuildHasher;
 use std::mem;
 use std::vec::IntoIter;
 use test_items::{
-    Answer, Answers, Home, Item, KEEPS, Keep, Name, Stop, Word, Words, elements_of, given_item,
-    has_room, is_other, lent_item, made, room, say_met, taken, walk_and_clone, walk_and_forget,
-    walk_whole,
+    Answer, Answers, Home, Item, Keep, Name, Stop, Word, Words, elements_of, given_item, has_room,
+    is_other, lent_item, made, room, say_met, taken, walk_and_clone, walk_and_forget, walk_whole,
 };
 
 pub type Set<S> = LinkedHashSet<Item, S>;
+
+/// What a retain of a set keeps. It has no values that could be even.
+const KEEPS: [(&str, Keep); 2] = [("odd", Keep::Odd), ("others", Keep::Others)];
 
 /// Makes the call that a line says.
 pub fn call_set<S: BuildHasher + Copy + Default + Drop>(

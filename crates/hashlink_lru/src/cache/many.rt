@@ -82,7 +82,8 @@ impl<K: Eq + Hash + Clone, V: Clone, S: BuildHasher + Clone> LruCache<K, V, S> {
     ghost use Rattle.hashlink_lru.specs.Cached.{entries_in, state_in};
 
     /// Returns a clone: a cache of the same capacity, with a clone of the hasher and a clone of each pair in
-    /// the same order. It uses the same allocator, and has no spare node.
+    /// the same order. It uses the same allocator, and has no spare node. It costs a clone and an insert for
+    /// each pair.
     ///
     /// If an allocation for a clone or for a node fails, it returns `AllocError`, and nothing is left of the
     /// new cache. The clone of an empty cache fails only if the clone of its hasher does.
