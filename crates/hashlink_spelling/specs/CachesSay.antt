@@ -21,13 +21,13 @@ lone_cache_words =
     ∷ (codes "iter", Iter)
     ∷ []
 
--- those that stand before a key, or before a capacity
+-- those that stand before a capacity, or before a key
 abbrev pub cache_words_of_number : ℕ → List (List ℕ × CacheLine)
 cache_words_of_number n =
-    (codes "get", Do (cache.Get n))
+    (codes "set_capacity", Do (cache.SetCapacity n))
+    ∷ (codes "get", Do (cache.Get n))
     ∷ (codes "peek", Do (cache.Peek n))
     ∷ (codes "remove", Do (cache.Remove n))
-    ∷ (codes "set_capacity", Do (cache.SetCapacity n))
     ∷ []
 
 -- those that stand before a key and a value

@@ -6,7 +6,7 @@ ghost use Rattle.hashlink_spelling.specs.CachesSay.{cache_words_of_pair};
 
 use crate::numbers::{Numbers, read_numbers};
 use crate::tables::said_by;
-use crate::words::Words;
+use crate::words::{Words, is};
 use hashlink_commands::CacheCommand;
 
 /// What a line to a cache says.
@@ -53,21 +53,20 @@ fn said_alone(name: &[u8]) -> Option<CacheLine>
     )
 }
 
-// Returns what a word says before a key, or before a capacity.
+// Returns what a word says before a capacity, or before a key.
 fn said_of_number(name: &[u8], number: u64) -> Option<CacheLine>
     ensures { result ≡ lookup (bytes_eq name.now) (cache_words_of_number number) }
 {
-    let capacity = usize::try_from(number).ok()?;
+    if is(name, b"set_capacity") {
+        let capacity = usize::try_from(number).ok()?;
+        return Some(CacheLine::Do(CacheCommand::SetCapacity(capacity)));
+    }
     said_by(
         name,
         &[
             (b"get", CacheLine::Do(CacheCommand::Get(number))),
             (b"peek", CacheLine::Do(CacheCommand::Peek(number))),
             (b"remove", CacheLine::Do(CacheCommand::Remove(number))),
-            (
-                b"set_capacity",
-                CacheLine::Do(CacheCommand::SetCapacity(capacity)),
-            ),
         ],
     )
 }

@@ -11,7 +11,7 @@ ghost use Rattle.hashlink_spelling.specs.Tables.{said_in};
 
 use crate::numbers::{Numbers, number, read_numbers};
 use crate::tables::said_by;
-use crate::words::Words;
+use crate::words::{Words, is};
 use hashlink_commands::{Command, CursorStep, EntryStep};
 use std::alloc::{AllocError, Global};
 
@@ -37,10 +37,12 @@ impl Line {
         let Some(name) = words.next() else {
             return Ok(None);
         };
-        match name {
-            b"entry" => Ok(said_of_entry(words)),
-            b"cursor" => said_of_cursor(alloc, words),
-            name => Ok(said_of_name(name, words)),
+        if is(name, b"entry") {
+            Ok(said_of_entry(words))
+        } else if is(name, b"cursor") {
+            said_of_cursor(alloc, words)
+        } else {
+            Ok(said_of_name(name, words))
         }
     }
 }
@@ -227,11 +229,4 @@ fn cursor_step_of_pair(name: &[u8], key: u64, value: u64) -> Option<CursorStep<u
             (b"after", CursorStep::After(key, value)),
         ],
     )
-}
-
-// Returns whether it is that word.
-fn is(name: &[u8], word: &[u8]) -> bool
-    ensures { result ≡ bytes_eq name.now word.now }
-{
-    name == word
 }

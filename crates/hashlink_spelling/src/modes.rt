@@ -5,7 +5,7 @@ ghost use Rattle.hashlink_spelling.specs.Modes.{mode_said, modes_of_number, mode
 
 use crate::numbers::{Numbers, read_numbers};
 use crate::tables::said_by;
-use crate::words::Words;
+use crate::words::{Words, is};
 
 /// What the lines after the first speak to.
 #[derive(Clone, Copy)]
@@ -38,14 +38,13 @@ pub fn mode_of(line: &[u8]) -> Option<Mode>
 fn mode_of_number(name: &[u8], number: u64) -> Option<Mode>
     ensures { result ≡ lookup (bytes_eq name.now) (modes_of_number number) }
 {
-    let capacity = usize::try_from(number).ok()?;
-    said_by(
-        name,
-        &[
-            (b"cache", Mode::Cache(capacity)),
-            (b"weighted", Mode::Weighted(number)),
-        ],
-    )
+    if is(name, b"cache") {
+        Some(Mode::Cache(usize::try_from(number).ok()?))
+    } else if is(name, b"weighted") {
+        Some(Mode::Weighted(number))
+    } else {
+        None
+    }
 }
 
 // Returns the mode of a word before two capacities.

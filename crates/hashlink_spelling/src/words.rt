@@ -1,9 +1,17 @@
 ghost use Rattle.std.specs.Prelude.{◌≡◌};
 ghost use Rattle.std.specs.Iterator.{YieldsFirstRef, item_count};
+ghost use Rattle.std.specs.Str.{bytes_eq};
 ghost use Rattle.hashlink_spelling.specs.Cuts.{parts_left};
 ghost use Rattle.hashlink_spelling.specs.Lines.{words_of};
 
 use crate::cuts::cut;
+
+// Returns whether it is that word.
+pub(crate) fn is(name: &[u8], word: &[u8]) -> bool
+    ensures { result ≡ bytes_eq name.now word.now }
+{
+    name == word
+}
 
 // The words of a line that are not read yet, by the text behind the last space read. After the last
 // word there is none.

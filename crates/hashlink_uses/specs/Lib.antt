@@ -1,5 +1,4 @@
 -- What the contracts of the uses cite, beside the definitions that `hashlink` hands on.
 pub mod ByLastUse
-pub mod Divisors
 pub mod Texts
 pub mod WithoutFirst

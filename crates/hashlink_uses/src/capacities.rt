@@ -1,7 +1,7 @@
 //! What a larger or a smaller capacity of a cache is worth.
 ghost use Rattle.std.specs.Prelude.{◌≡◌, ◌≤◌, ◌+◌, ◌-◌, ◌*◌, ℕ, List, map, IfOk, count_by, is_none};
 ghost use Rattle.hashlink.specs.Cached.{entries_in};
-ghost use Rattle.hashlink.specs.History.{Schedule, misses};
+ghost use Rattle.hashlink.specs.History.{Schedule, cache_misses, misses};
 ghost use Rattle.hashlink.specs.Inclusion.{IsEndOf, SameKey};
 
 use hashlink::LruCache;
@@ -24,14 +24,16 @@ pub fn two_caches<K: Eq + Hash + Copy, V: Copy>(
     Ok((small, large))
 }
 
-/// Returns how many of the uses miss in a cache of this capacity. With fewer places, however well they are
-/// filled, not much fewer miss.
+/// Returns how many of the uses miss in a cache of this capacity, which is as many as the history of their
+/// keys says. With fewer places, however well they are filled, not much fewer miss.
 pub fn misses_in_a_cache<K: Eq + Hash + Copy, V: Copy>(
     alloc: Global,
     capacity: usize,
     pairs: &[(K, V)],
 ) -> Result<usize, AllocError>
-    ensures { IfOk result (λ missed. (places : ℕ) → 1 ≤ places → places ≤ capacity
+    ensures counted { IfOk result (λ missed. missed
+        ≡ cache_misses K.eq capacity (map (λ p. p.0) pairs.now)) }
+    ensures compared { IfOk result (λ missed. (places : ℕ) → 1 ≤ places → places ≤ capacity
         → (held : List (List K)) → Schedule K.eq places (map (λ p. p.0) pairs.now) held
         → (capacity - places + 1) * missed ≤ capacity * misses K.eq (map (λ p. p.0) pairs.now) held) }
 {
@@ -40,7 +42,7 @@ pub fn misses_in_a_cache<K: Eq + Hash + Copy, V: Copy>(
 }
 
 // Returns how many of the replies are `None`.
-pub(crate) fn misses_among<V>(replies: &[Option<V>]) -> usize
+fn misses_among<V>(replies: &[Option<V>]) -> usize
     ensures { result ≡ count_by is_none replies.now }
 {
     replies.iter().filter(|reply| reply.is_none()).count()

@@ -1,5 +1,5 @@
 //! Lists of commands, and what is known of the container after them.
-ghost use Rattle.std.specs.Prelude.{[], ◌∷◌, ◌≡◌, ◌≢◌, ◌≤◌, Option, Some, length, slice_get, IfOk, IsSome};
+ghost use Rattle.std.specs.Prelude.{[], ◌∷◌, ◌≡◌, ◌≢◌, ◌≤◌, All, Option, Some, length, slice_get, IfOk, IsSome};
 ghost use Rattle.std.specs.List.{AllPass};
 ghost use Rattle.std.specs.Map.{lookup};
 ghost use Rattle.hashlink.specs.Cache.{IsWithin};
@@ -8,7 +8,6 @@ ghost use Rattle.hashlink.specs.Cached.{entries_in, state_in};
 ghost use Rattle.hashlink.specs.Keyed.{entries_of};
 ghost use Rattle.hashlink.specs.Run.{keeps_nodes};
 ghost use Rattle.hashlink.specs.declared.run.Reply.TheVariants.{Value};
-ghost use Rattle.hashlink_uses.specs.Divisors.{HaveNoZero};
 
 use hashlink::run::{CacheCommand, Command, Reply, run, run_cache};
 use hashlink::{AllocError, LinkedHashMap, LruCache};
@@ -59,7 +58,7 @@ fn two_commands<K: Drop, V: Drop>(
 ) -> Result<Vec<Command<K, V>>, AllocError>
     ensures { IfOk result (λ commands. commands.items ≡ first ∷ second ∷ []) }
 {
-    let mut commands = Vec::with_capacity(alloc, 2)?;
+    let mut commands = Vec::new(alloc);
     commands.push(first)?;
     commands.push(second)?;
     Ok(commands)
@@ -91,7 +90,7 @@ pub fn insert_then_keep_divisors<K: Eq + Hash + Drop, S: BuildHasher>(
     total: u64,
 ) -> Result<Vec<Reply<K, u64>>, AllocError>
     requires given { value ≢ 0 }
-    requires held { HaveNoZero (entries_of map.old) }
+    requires held { All (λ e. e.1 ≢ 0) (entries_of map.old) }
 {
     let commands = two_commands(alloc, Command::Insert(key, value), Command::Keep)?;
     run(map, commands, &|_: &K, value: &u64| total % *value == 0)

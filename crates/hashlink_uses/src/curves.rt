@@ -2,9 +2,8 @@
 ghost use Rattle.std.specs.Prelude.{◌≡◌, ◌*◌, ◌≤◌, ◌<◌, ◌^◌, map, IfOk};
 ghost use Rattle.hashlink.specs.History.{cache_misses};
 
-use crate::capacities::misses_among;
+use crate::capacities::misses_in_a_cache;
 use hashlink::miss_curve::{MissCurve, miss_curve};
-use hashlink::run::run_uses;
 use std::alloc::{AllocError, Global};
 use std::hash::Hash;
 
@@ -36,12 +35,9 @@ pub fn misses_by_replies_and_by_curve<K: Eq + Hash + Copy, V: Copy>(
 ) -> Result<(usize, u64), AllocError>
     ensures { IfOk result (λ misses. misses.0 ≡ misses.1) }
 {
-    let uses = run_uses(alloc, capacity, pairs)?;
+    let by_replies = misses_in_a_cache(alloc, capacity, pairs)?;
     let keys = keys_of(alloc, pairs)?;
-    Ok((
-        misses_among(&uses.replies),
-        misses_of(alloc, &keys, capacity)?,
-    ))
+    Ok((by_replies, misses_of(alloc, &keys, capacity)?))
 }
 
 // Returns the keys of the pairs.

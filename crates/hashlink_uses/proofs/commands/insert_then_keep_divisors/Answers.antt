@@ -31,6 +31,6 @@ module _ {K B S : Type 0} {eq : K → K → Bool} {Says : K → ℕ → B → Ty
 pub run-requires : goal.run-requires
 run-requires g c = λ pair shown key value first second.
     let commands = c.in_ok-commands.ensures in
-    let not_zero = shown_by_both c.requires.given c.requires.held.each (rw commands at shown) in
+    let not_zero = shown_by_both c.requires.given c.requires.held (rw commands at shown) in
     let here : value.now ≢ 0 = subst (λ n. n ≢ 0) (sym second) not_zero in
     search rules
