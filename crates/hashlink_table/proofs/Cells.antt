@@ -1,8 +1,8 @@
 -- What a write to the cells does to their chains.
 use Rattle.std.proofs.Common.{◌≡◌, ◌≢◌, ℕ, zero, suc, ◌+◌, ◌<◌, ◌≤◌, inl, inr, List, [], ◌∷◌, ◌++◌, map}
-use Rattle.std.proofs.Common.{length}
-use Rattle.std.proofs.Common.{get_or, set, refl, sym, ap, ◌∙◌, arith}
-use Rattle.std.proofs.lemmas.Bool.{cases_eq, cases_lt}
+use Rattle.std.proofs.Common.{IsSome, length}
+use Rattle.std.proofs.Common.{get_or, set, refl, sym, ap, ◌∙◌, subst, arith}
+use Rattle.std.proofs.lemmas.Bool.{cases_eq, cases_lt, false≢true}
 use Rattle.std.proofs.lemmas.List.{get_or-set_same, get_or-set_other, get_or_push, get_or-map, get_or_past}
 use Rattle.std.proofs.lemmas.List.{get_or_default, length-map, map-set, map_push}
 use Rattle.hashlink_table.specs.declared.cell.Cell.{Cell}
@@ -112,6 +112,14 @@ module _ {N : Type 0} where
   within_by_chain buckets cells i b e low = elim (cases_lt i (length cells)) as (λ _. i < length cells) [
     | inl h ↦ h
     | inr past ↦ absurd (let q = chain_at_past buckets cells i past in omega arith)
+  ]
+
+  -- only a cell has a node
+  pub within_by_kept : (cells : List (Cell N)) (i : ℕ) → IsSome (kept_at cells i) → i < length cells
+  within_by_kept cells i some = elim (cases_lt i (length cells)) as (λ _. i < length cells) [
+    | inl h ↦ h
+    | inr past ↦ absurd (false≢true
+        (subst IsSome (ap (λ (c : Cell N). c.kept) (get_or_past cells i no_cell past)) some))
   ]
 
   pub off_past : (chains buckets : ℕ) (cells : List (Cell N)) (i : ℕ) → chains

@@ -1,18 +1,18 @@
 -- The buckets' own cells: a node comes into one, leaves it, and is followed there by the next of its chain.
 use Rattle.std.proofs.Common.{◌≡◌, ◌≢◌, ℕ, ◌%◌, ◌<◌, inl, inr, List, ◌∷◌, ◌++◌, length}
-use Rattle.std.proofs.Common.{get_or, set, Some, None, sym, ap, ◌∙◌, subst, arith}
+use Rattle.std.proofs.Common.{get_or, is_some, set, Some, sym, ap, ◌∙◌, subst, arith}
 use Rattle.std.specs.Prelude.{IsPermutation}
-use Rattle.std.proofs.lemmas.Bool.{cases_eq, cases_lt}
-use Rattle.std.proofs.lemmas.List.{get_or_past, length-set}
+use Rattle.std.proofs.lemmas.Bool.{cases_eq}
+use Rattle.std.proofs.lemmas.List.{length-set}
 use Rattle.std.proofs.lemmas.List.Sorted.{IsPermutation-trans, IsPermutation-middle}
 use Rattle.std.proofs.lemmas.List.Sorted.{IsPermutation-append_left}
 use Rattle.std.proofs.lemmas.List.Sorted.{IsPermutation-append_right}
 use Rattle.hashlink_table.specs.declared.kept.Kept.{Kept}
 use Rattle.hashlink_table.specs.declared.cell.Cell.{Cell}
 use Rattle.hashlink_table.specs.declared.cell.TheConstants.{END}
-use Rattle.hashlink_table.specs.Chains.{no_cell, kept_at, next_at, chain_at, links_of, nodes_in, with_node}
+use Rattle.hashlink_table.specs.Chains.{kept_at, next_at, chain_at, links_of, nodes_in, with_node}
 use Rattle.hashlink_table.specs.Chains.{IsInPlace, IsLinked, SameNodes}
-use Rattle.hashlink_table.proofs.Cells.{kept_at-set, kept_at-set_other}
+use Rattle.hashlink_table.proofs.Cells.{kept_at-set, kept_at-set_other, within_by_kept}
 use Rattle.hashlink_table.proofs.Chaining.{length-links, link_read, same_kept}
 use Rattle.hashlink_table.proofs.Nodes.{nodes_in-set, nodes_in-same}
 use Rattle.hashlink_table.proofs.Walks.{walk_of, walk_at}
@@ -20,12 +20,7 @@ use Rattle.hashlink_table.proofs.Walks.{walk_of, walk_at}
 module _ {N : Type 0} where
   -- a cell with a node is one of the list
   pub within_kept : (cells : List (Cell N)) (i : ℕ) (k : Kept N) → kept_at cells i ≡ Some k → i < length cells
-  within_kept cells i k is = elim (cases_lt i (length cells)) as (λ _. i < length cells) [
-    | inl h ↦ h
-    | inr past ↦ absurd
-        (let none : kept_at cells i ≡ None = ap (λ (c : Cell N). c.kept) (get_or_past cells i no_cell past) in
-        cc (sym none ∙ is))
-  ]
+  within_kept cells i k is = within_by_kept cells i (ap is_some is)
 
   pub in_place-same : (f g : List (Cell N)) → SameNodes f g → length g ≡ length f → IsInPlace f → IsInPlace g
   in_place-same f g same n p b k is =

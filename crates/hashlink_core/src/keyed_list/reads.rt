@@ -39,10 +39,13 @@ impl<K: Eq + Hash, V, S: BuildHasher> KeyedList<K, V, S> {
             (HoldsMatch (Q.matches key) self.now.nodes) }
         ensures sound { IsKeyed K.eq self.now }
     {
-        let is_match = |other: &K| -> bool
-            ensures { result ≡ Q.matches key other.now }
-        { key.equivalent(other) };
-        self.find_match(hash, is_match)
+        let nodes = &self.nodes;
+        let holds_match = |node: Node| -> bool
+            requires { Holds nodes.now.entries node }
+            ensures { IfSome (lookup (same_node node) nodes.entry.now.entries)
+                (λ held. result ≡ Q.matches key held.key) }
+        { key.equivalent(nodes.entry(node).0) };
+        self.table.look_up(short_hash(hash), holds_match)
     }
 
     /// Returns the node whose key is equal to the one that the hash and the test stand for. The hash has to

@@ -1,6 +1,6 @@
-use Rattle.std.proofs.Common.{sym, ap, ◌∙◌, inl, inr, arith}
+use Rattle.std.proofs.Common.{length, sym, ap, ◌∙◌, inl, inr, arith}
 use Rattle.std.proofs.Math.Seq.{map-set_same}
-use Rattle.std.proofs.lemmas.List.{get_or_read}
+use Rattle.std.proofs.lemmas.List.{get_or_read, length_push}
 use Rattle.hashlink_table.specs.declared.cell.Cell.{Cell}
 use Rattle.hashlink_table.specs.Chains.{no_cell, links_of}
 use Rattle.hashlink_table.proofs.Chaining.{chained, chained-nodes, free_within}
@@ -55,3 +55,17 @@ returns-clause-nodes g c =
     (omega (arith, c.requires.within))
     c.place-at.ensures.placed
     (ap (λ (d : C). d.kept) c.taken-cell.ensures)
+
+pub returns-clause-full : goal.returns-clause-full
+returns-clause-full g c = λ full.
+    let later = c.place-at.new.cells in
+    elim c.place-at.ensures.placed [
+      | inl p ↦ omega (
+        arith,
+        ap length p.2,
+        length_push c.args.cells.now.items c.taken-cell.result,
+        c.args.cells.now.ok.0,
+        later.ok.0,
+      )
+      | inr p ↦ absurd (p.0 full)
+    ]

@@ -182,3 +182,15 @@ returns-clause-cost g c =
     ≡ cond (is_some c.index-firsts-bucket_of.result.kept) 1 0 = ap
     (λ o. cond {A = ℕ} (is_some o) 1 0) first.0 in
     omega (arith, c.loop-at.invariant.0.cost, all, own, c.look.ensures.step)
+
+pub returns-then-is_match-clause-found : goal.returns-then-is_match-clause-found
+returns-then-is_match-clause-found g c =
+    let first = first_read c.args.firsts.now c.args.hash c.bucket_of.result c.index-firsts-bucket_of.result
+    c.requires.masked c.bucket_of.ensures c.index-firsts-bucket_of.is in
+    (c.in-Some.node, first.0 ∙ c.in-Some.ensures.here, c.if-is_match.ensures)
+
+pub returns-then-is_match-clause-cost : goal.returns-then-is_match-clause-cost
+returns-then-is_match-clause-cost g c =
+    let first = first_read c.args.firsts.now c.args.hash c.bucket_of.result c.index-firsts-bucket_of.result
+    c.requires.masked c.bucket_of.ensures c.index-firsts-bucket_of.is in
+    omega (arith, ap (λ o. cond {A = ℕ} (is_some o) 1 0) first.0, c.look.ensures.step)

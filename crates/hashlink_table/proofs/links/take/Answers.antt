@@ -1,6 +1,6 @@
 use Rattle.std.proofs.lemmas.Option.{same_Some}
 use Rattle.hashlink_table.specs.declared.kept.Kept.{Kept}
-use Rattle.std.proofs.Common.{◌≡◌, ◌%◌, ◌<◌, length, refl, sym, ap, ◌∙◌, subst, arith}
+use Rattle.std.proofs.Common.{◌≡◌, ◌%◌, ◌<◌, IsSome, length, refl, sym, ap, ◌∙◌, subst, arith}
 use Rattle.std.proofs.Math.Seq.{map-set_same}
 use Rattle.std.proofs.lemmas.List.Sorted.{IsPermutation-append_left}
 use Rattle.hashlink_table.specs.declared.cell.Cell.{Cell}
@@ -91,3 +91,27 @@ returns-in-Over-clause-nodes g c =
     let t = c.take_out in
     over-taken c.args.firsts.now t.new.firsts c.args.cells.now t.new.cells t.result t.ensures.firsts
     t.ensures.nodes
+
+pub there-kept-requires : goal.there-kept-requires
+there-kept-requires g c =
+    subst IsSome
+    (sym (kept_at_read c.args.firsts.now c.args.bucket c.index-firsts-bucket.result c.requires.within))
+    (rw c.in-First.is at c.requires.there)
+
+pub returns-then-next-eq-END-clause-in_place : goal.returns-then-next-eq-END-clause-in_place
+returns-then-next-eq-END-clause-in_place g c =
+    let C : Type 0 = Cell g.row.N.Denot in
+    in_place-set c.args.firsts.now c.args.bucket c.set_free.new.self c.requires.within c.requires.in_place
+    (λ k is. let none = ap (λ (d : C). d.kept) c.set_free.ensures in cc)
+
+pub returns-then-next-eq-END-clause-kept : goal.returns-then-next-eq-END-clause-kept
+returns-then-next-eq-END-clause-kept g c =
+    rw c.in-First.is
+    (sym (kept_at_read c.args.firsts.now c.args.bucket c.index-firsts-bucket.result c.requires.within)
+    ∙ c.there-kept.ensures)
+
+pub returns-else-next-eq-END-clause-kept : goal.returns-else-next-eq-END-clause-kept
+returns-else-next-eq-END-clause-kept g c =
+    rw c.in-First.is
+    (sym (kept_at_read c.args.firsts.now c.args.bucket c.index-firsts-bucket.result c.requires.within)
+    ∙ c.there-kept.ensures)

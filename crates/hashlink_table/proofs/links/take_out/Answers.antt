@@ -1,4 +1,4 @@
-use Rattle.std.proofs.Common.{◌<◌, IsSome, length, sym, ap, ◌∙◌, subst, arith}
+use Rattle.std.proofs.Common.{◌<◌, IsSome, length, sym, ap, ◌∙◌, subst, arith, rules}
 use Rattle.hashlink_table.specs.declared.cell.Cell.{Cell}
 use Rattle.hashlink_table.specs.Chains.{next_at, links_of}
 use Rattle.hashlink_table.proofs.Cells.{kept_at_read}
@@ -54,3 +54,29 @@ returns-clause-nodes g c =
     c.unlink.ensures.nodes now
     (sym (kept_at_read c.unlink.new.cells c.args.cell c.index-cells-cell.result now) ∙ c.there-kept.ensures)
     (ap (λ (d : C). d.kept) c.set_free.ensures)
+
+pub bounds-cells-cell : goal.bounds-cells-cell
+bounds-cells-cell g c =
+    let old = on_within (length c.args.firsts.now) c.args.cells.now c.args.cell c.args.bucket
+    c.requires.on_chain c.requires.within in
+    omega (arith, old, c.unlink.auto.cells)
+
+pub offset_bounds-cells-cell : goal.offset_bounds-cells-cell
+offset_bounds-cells-cell g c =
+    let old = on_within (length c.args.firsts.now) c.args.cells.now c.args.cell c.args.bucket
+    c.requires.on_chain c.requires.within in
+    let now : c.args.cell < length c.unlink.new.cells = omega (arith, old, c.unlink.auto.cells) in
+    search rules
+
+pub bounds-cells-cell-2 : goal.bounds-cells-cell-2
+bounds-cells-cell-2 g c =
+    let old = on_within (length c.args.firsts.now) c.args.cells.now c.args.cell c.args.bucket
+    c.requires.on_chain c.requires.within in
+    omega (arith, old, c.unlink.auto.cells)
+
+pub offset_bounds-cells-cell-2 : goal.offset_bounds-cells-cell-2
+offset_bounds-cells-cell-2 g c =
+    let old = on_within (length c.args.firsts.now) c.args.cells.now c.args.cell c.args.bucket
+    c.requires.on_chain c.requires.within in
+    let now : c.args.cell < length c.unlink.new.cells = omega (arith, old, c.unlink.auto.cells) in
+    search rules

@@ -1,8 +1,8 @@
 use Rattle.hashlink_table.specs.declared.cell.Cell.{Cell}
-use Rattle.std.proofs.Common.{ℕ, ◌<◌, length, sym, ap, ◌∙◌, subst, inl, inr, arith}
+use Rattle.std.proofs.Common.{ℕ, ◌<◌, length, sym, ap, ◌∙◌, subst, inl, inr, arith, rules}
 use Rattle.std.proofs.Math.Seq.{map-set_same}
 use Rattle.hashlink_table.specs.Chains.{next_at, chain_at, links_of, Among, IsLinkedBut}
-use Rattle.hashlink_table.proofs.Chaining.{length-links, link_read, link_set}
+use Rattle.hashlink_table.proofs.Chaining.{length-links, link_read, link_set, on_within}
 use Rattle.hashlink_table.proofs.Cells.{within_by_chain, kept_at_read, next_at_read}
 use Rattle.hashlink_table.proofs.Linking.{unlinked_first, unlinked_next}
 use Rattle.hashlink_table.proofs.Walks.{IsWalk, walk_of, walk_on, walk_at, walk_goes}
@@ -139,3 +139,14 @@ returns-clause-nodes g c =
     map-set_same (λ (d : C). d.kept) c.args.cells.now c.loop-cells.at c.set_next-2.new.self
     c.index-cells-at-2.result
     (ap (λ (d : C). d.kept) c.set_next-2.ensures)
+
+pub bounds-cells-cell : goal.bounds-cells-cell
+bounds-cells-cell g c =
+    on_within (length c.args.firsts.now) c.args.cells.now c.args.cell c.args.bucket c.requires.on_chain
+    c.requires.within
+
+pub offset_bounds-cells-cell : goal.offset_bounds-cells-cell
+offset_bounds-cells-cell g c =
+    let within = on_within (length c.args.firsts.now) c.args.cells.now c.args.cell c.args.bucket
+    c.requires.on_chain c.requires.within in
+    search rules

@@ -1,4 +1,4 @@
-use Rattle.std.proofs.Common.{◌%◌, ◌<◌, true, length, inl, inr, sym, ap, ◌∙◌, subst, arith}
+use Rattle.std.proofs.Common.{◌+◌, ◌%◌, ◌<◌, true, length, inl, inr, sym, ap, ◌∙◌, subst, arith}
 use Rattle.std.proofs.lemmas.Option.{same_Some}
 use Rattle.hashlink_table.specs.declared.kept.Kept.{Kept}
 use Rattle.hashlink_table.specs.Contents.{Contents, Keeps}
@@ -72,3 +72,7 @@ returns-in-Some-clause-cost g c =
     s.in_place in
     let cost = rw (c.deref.ensures.value, c.deref-2.ensures.value) at c.seek.ensures.cost in
     (length t.firsts.items, some, omega (arith, room, s.headed), omega (arith, all, cost))
+
+pub returns-then-self-eq0-clause-cost : goal.returns-then-self-eq0-clause-cost
+returns-then-self-eq0-clause-cost g c =
+    (c.args.self.now.room + 1, omega arith, omega arith, omega arith)

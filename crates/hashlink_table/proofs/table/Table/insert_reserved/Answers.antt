@@ -1,4 +1,7 @@
-use Rattle.std.proofs.Common.{length, ap, sym, ◌∙◌, arith}
+use Rattle.std.proofs.Common.{◌∷◌, ◌++◌, length, ap, sym, ◌∙◌, subst, arith}
+use Rattle.std.specs.Prelude.{IsPermutation}
+use Rattle.hashlink_table.specs.declared.kept.Kept.{Kept}
+use Rattle.hashlink_table.specs.Chains.{nodes_in}
 use Rattle.std.proofs.lemmas.List.{with_items_is}
 use Rattle.hashlink_table.specs.Contents.{Contents, len_of}
 use Rattle.hashlink_table.proofs.Sound.{full_overs, sound-put}
@@ -34,3 +37,14 @@ invariant_of-self g c =
     c.put.ensures.linked c.put.ensures.in_place nodes
     (λ e. omega (arith, c.put.ensures.full e, more.ok.0, t.overs.ok.0))
     (λ ne. omega (arith, c.put.ensures.reused ne, more.ok.0, t.overs.ok.0)))
+
+pub returns-clause-inserted : goal.returns-clause-inserted
+returns-clause-inserted g c =
+    let N : Type 0 = g.row.N.Denot in
+    let t = c.self.inside in
+    let buckets = c.put.auto.firsts ∙ ap length c.deref_mut.ensures.value in
+    let new : Kept N = record { hash = c.args.hash; node = c.args.node } in
+    rw (with_items_is t.firsts c.put.new.firsts (buckets ∙ sym t.firsts.ok.0))
+    (subst (λ (u : Contents N). IsPermutation (new ∷ u.nodes)
+    (nodes_in c.put.new.firsts ++ nodes_in c.put.new.cells.items)) c.self.view_is
+    (rw c.deref_mut.ensures.value at c.put.ensures.nodes))

@@ -48,3 +48,16 @@ returns-clause-nodes g c =
     (subst (λ (u : Contents g.row.N.Denot). IsPermutation (nodes_in t.firsts.items ++ nodes_in
     t.overs.items) u.nodes)
     (sym c.drop.view_is) both)
+
+pub insert_all-requires : goal.insert_all-requires
+insert_all-requires g c =
+    let t = c.self.inside in
+    omega (
+      arith,
+      ap (λ (u : Contents g.row.N.Denot). len_of u) c.in_ok-table.ensures,
+      ap (λ (u : Contents g.row.N.Denot). u.room) c.in_ok-table.ensures,
+      ap (λ (cs : List (Cell g.row.N.Denot)). length (nodes_in cs)) c.deref.ensures.value,
+      length-append (nodes_in t.firsts.items) (nodes_in t.overs.items),
+      ap (λ (u : Contents g.row.N.Denot). len_of u) c.self.view_is,
+      c.requires.held,
+    )

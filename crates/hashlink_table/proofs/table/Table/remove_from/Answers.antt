@@ -1,5 +1,12 @@
-use Rattle.std.proofs.Common.{◌%◌, length, inl, inr, sym, ap, ◌∙◌}
+use Rattle.std.proofs.Common.{◌≡◌, ◌%◌, ◌∷◌, ◌++◌, Some, true, length, inl, inr, sym, ap, ◌∙◌, subst}
+use Rattle.std.specs.Prelude.{IsPermutation}
+use Rattle.std.proofs.lemmas.Option.{same_Some}
 use Rattle.std.proofs.lemmas.List.{with_items_is}
+use Rattle.hashlink_table.specs.declared.kept.Kept.{Kept}
+use Rattle.hashlink_table.specs.Contents.{Contents}
+use Rattle.hashlink_table.specs.Chains.{chain_of, kept_at, kept_by, nodes_in}
+use Rattle.hashlink_table.proofs.Cells.{chain_at_within}
+use Rattle.hashlink_table.proofs.Moving.{within_kept}
 use Rattle.hashlink_table.proofs.Sound.{sound-take}
 use Rattle.hashlink_table.proofs.Views.{keeps_first, keeps_over, keeps_cases}
 use Rattle.hashlink_table.proofs.table.Table.remove_from.Goals as goal
@@ -49,3 +56,39 @@ invariant_of-self g c =
     (sound-take taken.new.firsts taken.new.cells taken.new.free taken.result c.self.invariant firsts cells
     taken.ensures.linked taken.ensures.in_place
     (rw (c.deref_mut.ensures.value, c.deref_mut-in-Some.ensures.value) at taken.ensures.nodes))
+
+pub take-kept-requires-clause-on_chain : goal.take-kept-requires-clause-on_chain
+take-kept-requires-clause-on_chain g c = λ at over.
+    let t = c.self.inside in
+    let firsts = t.firsts.items in let overs = t.overs.items in
+    let sought = rw (c.deref.ensures.value, c.deref-2.ensures.value) at c.in-Some.ensures.found in
+    let bucket = c.bucket_of-bucket.ensures ∙ ap (λ n. c.args.hash % n) (c.len.ensures ∙ t.firsts.ok.0) in
+    let is : kept_at overs at ≡ Some (record { hash = c.args.hash; node = sought.0 })
+    = sym (ap (kept_by firsts overs (c.args.hash % length firsts)) over) ∙ sought.1 in
+    rw (c.deref_mut.ensures.value, c.deref_mut-in-Some.ensures.value)
+    (chain_at_within (length firsts) overs at (within_kept overs at _ is)
+    ∙ ap (chain_of (length firsts)) is ∙ sym bucket)
+
+pub returns-clause-removed : goal.returns-clause-removed
+returns-clause-removed g c =
+    let t = c.self.inside in let taken = c.take-kept in
+    let sought = rw (c.deref.ensures.value, c.deref-2.ensures.value) at c.in-Some.ensures.found in
+    let read = rw (c.deref_mut.ensures.value, c.deref_mut-in-Some.ensures.value) at taken.ensures.kept in
+    let nodes = rw (c.deref_mut.ensures.value, c.deref_mut-in-Some.ensures.value) at taken.ensures.nodes in
+    let bucket = c.bucket_of-bucket.ensures ∙ ap (λ n. c.args.hash % n) (c.len.ensures ∙ t.firsts.ok.0) in
+    let same = same_Some _ _
+    (sym sought.1 ∙ ap (λ b. kept_by t.firsts.items t.overs.items b c.in-Some.spot) (sym bucket) ∙ read) in
+    let firsts = taken.auto.firsts ∙ ap length c.deref_mut.ensures.value in
+    let cells = taken.auto.cells ∙ ap length c.deref_mut-in-Some.ensures.value in
+    let K : Type 0 = Kept g.row.N.Denot in
+    let rest = nodes_in taken.new.firsts ++ nodes_in taken.new.cells in
+    rw (
+      with_items_is t.firsts taken.new.firsts (firsts ∙ sym t.firsts.ok.0),
+      with_items_is t.overs taken.new.cells (cells ∙ sym t.overs.ok.0),
+    ) (
+      subst (λ (u : Contents g.row.N.Denot). IsPermutation u.nodes
+          (record { hash = c.args.hash; node = taken.result.node } ∷ rest)) c.self.view_is
+          (subst (λ h. IsPermutation (nodes_in t.firsts.items ++ nodes_in t.overs.items)
+          (record { hash = h; node = taken.result.node } ∷ rest)) (sym (ap (λ (k : K). k.hash) same)) nodes),
+      subst (λ (k : K). g.F.Fn.post c.args.is_match (k.node, tt) true) same sought.2,
+    )

@@ -1,4 +1,4 @@
-use Rattle.std.proofs.Common.{◌≤◌, arith}
+use Rattle.std.proofs.Common.{◌≤◌, refl, ap, arith, rules}
 use Rattle.hashlink_core.specs.Keyed.{state_of}
 use Rattle.hashlink_weighted.proofs.Inserted.{old_weight, leaves_last, accepts}
 use Rattle.hashlink_weighted.proofs.cache.WeightedCache.insert.Goals as goal
@@ -26,3 +26,25 @@ returns-in-Ok-clause-inserts g c =
     c.args.key c.args.value
     c.args.weight c.in-Ok.old c.in-Ok.ensures.inserts (state_of c.evict_until_fitting-self-inside.new.map)
     c.self.inside.budget fits c.evict_until_fitting-self-inside.ensures.keeps)
+
+pub returns-then-weight-self-clause-inserts : goal.returns-then-weight-self-clause-inserts
+returns-then-weight-self-clause-inserts g c = (
+  refl,
+  record {
+    too_heavy = rw (← c.self.view_is) c.if-weight-self.true;
+    unchanged = refl;
+  },
+)
+
+pub returns-in-Err-clause-inserts : goal.returns-in-Err-clause-inserts
+returns-in-Err-clause-inserts g c =
+    let refused = c.in-Err.ensures.inserts in
+    let same = refused.handed_back in
+    rw (← c.self.view_is) (
+      ap (λ p. (p.0, p.1.0)) same,
+      record {
+        not_too_heavy = c.if-weight-self.false;
+        refuses = rw same at refused;
+        budget = refl;
+      },
+    )

@@ -1,0 +1,11 @@
+use Rattle.std.proofs.Common.{◌≡◌}
+use Rattle.std.specs.Map.{lookup}
+use Rattle.hashlink_nodes.specs.Node.{same_node}
+use Rattle.hashlink_core.proofs.Finding.{answered-at}
+use Rattle.hashlink_core.proofs.keyed_list.fn.KeyedList.find.holds_match.Goals as goal
+
+pub returns : goal.returns
+returns g c =
+    answered-at (λ x. c.equivalent.result ≡ g.Q.Equivalent.matches c.captures.key x)
+    (lookup (same_node c.args.node) c.captures.nodes.now.entries) c.entry.result.0.now c.entry.result.1.now
+    c.entry.ensures c.equivalent.ensures
