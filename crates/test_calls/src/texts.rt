@@ -1,5 +1,6 @@
 //! The texts of `{:?}`, and of errors.
 use crate::few::{Map, cache_of, map_of, passes, set_of};
+use crate::keys::Numbered;
 use hashlink::linked_hash_map::ExtendError;
 use hashlink::lru_cache::TryInsertError;
 use hashlink::weighted::{WeightError, WeightedCache};
@@ -8,7 +9,6 @@ use std::alloc::Global;
 use std::error::Error;
 use std::fmt;
 use std::process::ExitCode;
-use test_keys::Numbered;
 
 const PAIRS: &str = "[(1, 10), (2, 20)]";
 
