@@ -6,7 +6,6 @@ use hashlink::LruCache;
 use hashlink::weighted::WeightedCache;
 use std::alloc::{AllocError, Global};
 use std::io;
-use std::rt::Runtime;
 
 /// A lookup of a key, and an insert where it is not there.
 #[derive(Drop)]
@@ -63,8 +62,8 @@ impl Row for WeightedUses {
 }
 
 /// A row of a cache of that capacity.
-fn time_uses<R: Runtime, L: Lists<u64>>(
-    plan: &Plan<'_, R>,
+fn time_uses<L: Lists<u64>>(
+    plan: &Plan<'_>,
     name: &str,
     capacity: usize,
     keys: &Keys,
@@ -75,25 +74,20 @@ fn time_uses<R: Runtime, L: Lists<u64>>(
 }
 
 /// In two orders by turns, so that a key's neighbours are not those of the last time.
-fn time_hits<R: Runtime>(plan: &Plan<'_, R>, keys: &Keys) -> io::Result<()> {
+fn time_hits(plan: &Plan<'_>, keys: &Keys) -> io::Result<()> {
     let orders = &mut Turns::new(&keys.mixed, &keys.mixed_again);
     time_uses(plan, "lru_hit", keys.held.len(), keys, orders)
 }
 
 /// Of a cache for half of the keys.
-fn time_choices<R: Runtime>(
-    plan: &Plan<'_, R>,
-    name: &str,
-    keys: &Keys,
-    parts: u64,
-) -> io::Result<()> {
+fn time_choices(plan: &Plan<'_>, name: &str, keys: &Keys, parts: u64) -> io::Result<()> {
     let half = (keys.held.len() / 2).max(1);
     let chosen = &mut Choices::new(keys.alloc, &keys.held, parts);
     time_uses(plan, name, half, keys, chosen)
 }
 
 /// Of a cache with a budget for about half of the keys, empty at first.
-fn time_weighted<R: Runtime>(plan: &Plan<'_, R>, keys: &Keys, parts: u64) -> io::Result<()> {
+fn time_weighted(plan: &Plan<'_>, keys: &Keys, parts: u64) -> io::Result<()> {
     let size = keys.held.len();
     let budget = (size as u64).saturating_mul(4).max(16);
     let cache = WeightedCache::new(keys.alloc, budget);
@@ -101,7 +95,7 @@ fn time_weighted<R: Runtime>(plan: &Plan<'_, R>, keys: &Keys, parts: u64) -> io:
     plan.row("weighted_zipf", size, chosen, &mut WeightedUses { cache })
 }
 
-pub(crate) fn rows<R: Runtime>(plan: &Plan<'_, R>, keys: &Keys) -> io::Result<()> {
+pub(crate) fn rows(plan: &Plan<'_>, keys: &Keys) -> io::Result<()> {
     let parts = u64::from((keys.held.len() as u64).max(1).ilog2()) + 1;
     time_hits(plan, keys)?;
     time_choices(plan, "lru_zipf", keys, parts)?;

@@ -18,7 +18,6 @@ mod texts;
 use keys::Keys;
 use plan::Plan;
 use std::alloc::Global;
-use std::rt::Runtime;
 use std::{env, io};
 
 fn main(rt: HostRuntime) -> io::Result<()> {
@@ -39,12 +38,12 @@ fn main(rt: HostRuntime) -> io::Result<()> {
 }
 
 /// Each row at one size, in the order of the table.
-fn all_rows<R: Runtime>(rt: &R, alloc: Global, rounds: usize, size: usize) -> io::Result<()> {
+fn all_rows(rt: &HostRuntime, alloc: Global, rounds: usize, size: usize) -> io::Result<()> {
     let keys = Keys::new(alloc, size)?;
     rows_of(&Plan::new(rt, rounds, size), &keys)
 }
 
-fn rows_of<R: Runtime>(plan: &Plan<'_, R>, keys: &Keys) -> io::Result<()> {
+fn rows_of(plan: &Plan<'_>, keys: &Keys) -> io::Result<()> {
     maps::rows(plan, keys)?;
     caches::rows(plan, keys)?;
     sets::rows(plan, keys)?;

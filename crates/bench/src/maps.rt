@@ -4,7 +4,6 @@ use crate::plan::{Plan, Row, Turns, fold};
 use hashlink::LinkedHashMap;
 use std::alloc::{AllocError, Global};
 use std::io;
-use std::rt::Runtime;
 
 type Map = LinkedHashMap<u64, u64>;
 
@@ -122,14 +121,14 @@ impl Row for Queues {
 
 /// Keys that leave, each with the one that comes for it.
 fn pairs(alloc: Global, leave: &[u64], come: &[u64]) -> Result<Vec<(u64, u64)>, AllocError> {
-    leave
-        .iter()
-        .copied()
-        .zip(come.iter().copied())
-        .collect(alloc)
+    let mut pairs = Vec::new(alloc);
+    for (leaves, comes) in leave.iter().zip(come) {
+        pairs.push((*leaves, *comes))?;
+    }
+    Ok(pairs)
 }
 
-fn time_inserts<R: Runtime>(plan: &Plan<'_, R>, keys: &Keys) -> io::Result<()> {
+fn time_inserts(plan: &Plan<'_>, keys: &Keys) -> io::Result<()> {
     let inserts = &mut Inserts {
         alloc: keys.alloc,
         map: LinkedHashMap::new(keys.alloc),
@@ -140,33 +139,28 @@ fn time_inserts<R: Runtime>(plan: &Plan<'_, R>, keys: &Keys) -> io::Result<()> {
     plan.longest("insert_longest", lists, inserts)
 }
 
-fn time_gets<R: Runtime>(
-    plan: &Plan<'_, R>,
-    name: &str,
-    map: &Map,
-    keys: &[u64],
-) -> io::Result<()> {
+fn time_gets(plan: &Plan<'_>, name: &str, map: &Map, keys: &[u64]) -> io::Result<()> {
     plan.row(name, keys.len(), &mut Turns::of(keys), &mut Gets { map })
 }
 
-fn time_walks<R: Runtime>(plan: &Plan<'_, R>, name: &str, map: &Map) -> io::Result<()> {
+fn time_walks(plan: &Plan<'_>, name: &str, map: &Map) -> io::Result<()> {
     plan.row(name, map.len(), &mut Turns::of(&[()]), &mut Walks { map })
 }
 
 /// The rows that only read.
-fn time_reads<R: Runtime>(plan: &Plan<'_, R>, keys: &Keys) -> io::Result<()> {
+fn time_reads(plan: &Plan<'_>, keys: &Keys) -> io::Result<()> {
     let map = filled(keys.alloc, &keys.held)?;
     time_reads_of(plan, keys, &map)
 }
 
-fn time_reads_of<R: Runtime>(plan: &Plan<'_, R>, keys: &Keys, map: &Map) -> io::Result<()> {
+fn time_reads_of(plan: &Plan<'_>, keys: &Keys, map: &Map) -> io::Result<()> {
     time_gets(plan, "get_hit", map, &keys.mixed)?;
     time_gets(plan, "get_miss", map, &keys.absent)?;
     time_walks(plan, "iter", map)
 }
 
 /// Inserts of keys that are present, and an iterator after them: the entries' order is then random in memory.
-fn time_moves<R: Runtime>(plan: &Plan<'_, R>, keys: &Keys) -> io::Result<()> {
+fn time_moves(plan: &Plan<'_>, keys: &Keys) -> io::Result<()> {
     let mut updates = Inserts {
         alloc: keys.alloc,
         map: filled(keys.alloc, &keys.held)?,
@@ -177,23 +171,19 @@ fn time_moves<R: Runtime>(plan: &Plan<'_, R>, keys: &Keys) -> io::Result<()> {
 }
 
 /// In two orders by turns, so that a key's neighbours are not those of the last time.
-fn time_updates<R: Runtime>(
-    plan: &Plan<'_, R>,
-    keys: &Keys,
-    updates: &mut Inserts,
-) -> io::Result<()> {
+fn time_updates(plan: &Plan<'_>, keys: &Keys, updates: &mut Inserts) -> io::Result<()> {
     let orders = &mut Turns::new(&keys.mixed, &keys.mixed_again);
     plan.row("update", keys.held.len(), orders, updates)
 }
 
-fn time_churn<R: Runtime>(plan: &Plan<'_, R>, keys: &Keys) -> io::Result<()> {
+fn time_churn(plan: &Plan<'_>, keys: &Keys) -> io::Result<()> {
     let there = pairs(keys.alloc, &keys.mixed, &keys.absent)?;
     let back = pairs(keys.alloc, &keys.absent_mixed, &keys.held)?;
     time_exchanges(plan, keys, &there, &back)
 }
 
-fn time_exchanges<R: Runtime>(
-    plan: &Plan<'_, R>,
+fn time_exchanges(
+    plan: &Plan<'_>,
     keys: &Keys,
     there: &[(u64, u64)],
     back: &[(u64, u64)],
@@ -203,13 +193,13 @@ fn time_exchanges<R: Runtime>(
     plan.row("churn", keys.held.len(), sides, &mut Exchanges { map })
 }
 
-fn time_queue<R: Runtime>(plan: &Plan<'_, R>, keys: &Keys) -> io::Result<()> {
+fn time_queue(plan: &Plan<'_>, keys: &Keys) -> io::Result<()> {
     let map = filled(keys.alloc, &keys.held)?;
     let sides = &mut Turns::new(&keys.absent, &keys.held);
     plan.row("pop_insert", keys.held.len(), sides, &mut Queues { map })
 }
 
-pub(crate) fn rows<R: Runtime>(plan: &Plan<'_, R>, keys: &Keys) -> io::Result<()> {
+pub(crate) fn rows(plan: &Plan<'_>, keys: &Keys) -> io::Result<()> {
     time_inserts(plan, keys)?;
     time_reads(plan, keys)?;
     time_moves(plan, keys)?;

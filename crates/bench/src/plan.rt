@@ -1,7 +1,7 @@
 //! How a row is timed and told.
 use std::alloc::AllocError;
 use std::io;
-use std::rt::Runtime;
+use std::rt::Clock;
 use std::time::Duration;
 
 /// About so many calls make a round.
@@ -60,14 +60,14 @@ pub(crate) fn fold(sum: u64, answer: u64) -> u64 {
 
 /// How often each row is done, and with how many keys.
 #[derive(Drop)]
-pub(crate) struct Plan<'a, R: Runtime> {
-    rt: &'a R,
+pub(crate) struct Plan<'a> {
+    rt: &'a HostRuntime,
     rounds: usize,
     size: usize,
 }
 
-impl<'a, R: Runtime> Plan<'a, R> {
-    pub(crate) fn new(rt: &'a R, rounds: usize, size: usize) -> Self {
+impl<'a> Plan<'a> {
+    pub(crate) fn new(rt: &'a HostRuntime, rounds: usize, size: usize) -> Self {
         Plan { rt, rounds, size }
     }
 

@@ -4,7 +4,6 @@ use crate::plan::{Plan, Row, Turns, fold};
 use hashlink::LinkedHashSet;
 use std::alloc::{AllocError, Global};
 use std::io;
-use std::rt::Runtime;
 
 type Set = LinkedHashSet<u64>;
 
@@ -57,12 +56,14 @@ fn filled(alloc: Global, even: &[u64], odd: &[u64]) -> Result<Set, AllocError> {
     let mut set = LinkedHashSet::new(alloc);
     for (key, other) in even.iter().zip(odd) {
         let element = if *key % 2 == 0 { *key } else { *other };
-        set.insert(element).map_err(|_| AllocError)?;
+        if set.insert(element).is_err() {
+            return Err(AllocError);
+        }
     }
     Ok(set)
 }
 
-fn time_inserts<R: Runtime>(plan: &Plan<'_, R>, keys: &Keys) -> io::Result<()> {
+fn time_inserts(plan: &Plan<'_>, keys: &Keys) -> io::Result<()> {
     let alloc = keys.alloc;
     let set = LinkedHashSet::new(alloc);
     let lists = &mut Turns::of(&keys.held);
@@ -75,19 +76,14 @@ fn time_inserts<R: Runtime>(plan: &Plan<'_, R>, keys: &Keys) -> io::Result<()> {
 }
 
 /// Of two sets that have about half of their elements in common.
-fn time_unions<R: Runtime>(plan: &Plan<'_, R>, keys: &Keys) -> io::Result<()> {
+fn time_unions(plan: &Plan<'_>, keys: &Keys) -> io::Result<()> {
     let left = filled(keys.alloc, &keys.held, &keys.held)?;
     let right = filled(keys.alloc, &keys.mixed, &keys.absent)?;
     time_union(plan, keys, &left, &right)
 }
 
 /// A call is a look at one element.
-fn time_union<R: Runtime>(
-    plan: &Plan<'_, R>,
-    keys: &Keys,
-    left: &Set,
-    right: &Set,
-) -> io::Result<()> {
+fn time_union(plan: &Plan<'_>, keys: &Keys, left: &Set, right: &Set) -> io::Result<()> {
     let calls = keys.held.len().saturating_mul(2);
     plan.row(
         "set_union",
@@ -97,7 +93,7 @@ fn time_union<R: Runtime>(
     )
 }
 
-pub(crate) fn rows<R: Runtime>(plan: &Plan<'_, R>, keys: &Keys) -> io::Result<()> {
+pub(crate) fn rows(plan: &Plan<'_>, keys: &Keys) -> io::Result<()> {
     time_inserts(plan, keys)?;
     time_unions(plan, keys)
 }

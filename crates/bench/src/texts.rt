@@ -4,7 +4,6 @@ use crate::plan::{Plan, Row, Turns};
 use hashlink::LinkedHashMap;
 use std::alloc::{AllocError, Global};
 use std::io;
-use std::rt::Runtime;
 
 type Map = LinkedHashMap<String, u64>;
 
@@ -62,7 +61,7 @@ fn texts(alloc: Global, keys: &[u64]) -> Result<Vec<String>, AllocError> {
     Ok(texts)
 }
 
-fn time_gets<R: Runtime>(plan: &Plan<'_, R>, keys: &Keys, map: &Map) -> io::Result<()> {
+fn time_gets(plan: &Plan<'_>, keys: &Keys, map: &Map) -> io::Result<()> {
     let mixed = texts(keys.alloc, &keys.mixed)?;
     plan.row(
         "text_get_hit",
@@ -73,7 +72,7 @@ fn time_gets<R: Runtime>(plan: &Plan<'_, R>, keys: &Keys, map: &Map) -> io::Resu
 }
 
 /// The lookups are in the map that the last of the inserts have left.
-pub(crate) fn rows<R: Runtime>(plan: &Plan<'_, R>, keys: &Keys) -> io::Result<()> {
+pub(crate) fn rows(plan: &Plan<'_>, keys: &Keys) -> io::Result<()> {
     let inserts = &mut Inserts {
         alloc: keys.alloc,
         keys: &keys.held,

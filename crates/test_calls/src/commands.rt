@@ -1,10 +1,10 @@
 //! A list of commands with keys that are equal and yet differ.
 use crate::few::passes;
+use crate::keys::Numbered;
 use hashlink::LinkedHashMap;
 use hashlink::run::{Command, EntryStep, Reply, run};
 use std::alloc::{AllocError, Global};
 use std::process::ExitCode;
-use test_keys::Numbered;
 
 type Commands = Vec<Command<Numbered, u32>>;
 

@@ -1,6 +1,6 @@
-//! What no row of calls says of the containers: whether an entry calls its closure, the texts of `{:?}` and
+//! What no row of calls says: of the containers whether an entry calls its closure, the texts of `{:?}` and
 //! of errors, loops and std's adapters, the forms in which std's maps are called, what becomes of items
-//! without size, and what a program does whose input or output fails.
+//! without size, and what a program does whose input or output fails; then what is below the map.
 #![tactic(auto)]
 
 #[cfg(test)]
@@ -16,7 +16,11 @@ mod forms;
 #[cfg(test)]
 mod hashers;
 #[cfg(test)]
+mod keys;
+#[cfg(test)]
 mod large;
+#[cfg(test)]
+mod lower;
 #[cfg(test)]
 mod no_size;
 #[cfg(test)]

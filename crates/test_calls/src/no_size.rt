@@ -46,7 +46,7 @@ fn a_set_of_elements_without_size_has_one(rt: HostRuntime) -> ExitCode {
 }
 
 /// Whether two inserts into a cache find nothing, and a read and a removal find none of them.
-fn keeps_nothing(cache: &mut LruCache<(), u32>) -> bool {
+fn keeps_nothing(mut cache: LruCache<(), u32>) -> bool {
     (cache.insert((), 1) == Ok(None))
         & (cache.insert((), 2) == Ok(None))
         & cache.get(&()).is_none()
@@ -54,7 +54,7 @@ fn keeps_nothing(cache: &mut LruCache<(), u32>) -> bool {
 }
 
 /// Whether the second of two inserts replaces the first, and a read and a removal find it.
-fn keeps_the_last_value(cache: &mut LruCache<(), u32>) -> bool {
+fn keeps_the_last_value(mut cache: LruCache<(), u32>) -> bool {
     (cache.insert((), 1) == Ok(None))
         & (cache.insert((), 2) == Ok(Some(1)))
         & (cache.get(&()) == Some(&2))
@@ -64,9 +64,9 @@ fn keeps_the_last_value(cache: &mut LruCache<(), u32>) -> bool {
 #[test]
 fn a_cache_of_keys_without_size_has_one_entry_at_most(rt: HostRuntime) -> ExitCode {
     passes(
-        keeps_nothing(&mut LruCache::new(rt.alloc(), 0))
-            & keeps_the_last_value(&mut LruCache::new(rt.alloc(), 1))
-            & keeps_the_last_value(&mut LruCache::new_unbounded(rt.alloc())),
+        keeps_nothing(LruCache::new(rt.alloc(), 0))
+            & keeps_the_last_value(LruCache::new(rt.alloc(), 1))
+            & keeps_the_last_value(LruCache::new_unbounded(rt.alloc())),
     )
 }
 

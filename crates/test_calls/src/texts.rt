@@ -1,5 +1,6 @@
 //! The texts of `{:?}`, and of errors.
 use crate::few::{Map, cache_of, map_of, passes, set_of};
+use crate::keys::Numbered;
 use hashlink::linked_hash_map::ExtendError;
 use hashlink::lru_cache::TryInsertError;
 use hashlink::weighted::{WeightError, WeightedCache};
@@ -8,7 +9,6 @@ use std::alloc::Global;
 use std::error::Error;
 use std::fmt;
 use std::process::ExitCode;
-use test_keys::Numbered;
 
 const PAIRS: &str = "[(1, 10), (2, 20)]";
 
@@ -17,8 +17,8 @@ fn one_and_two(alloc: Global) -> Map {
     map_of(alloc, &[(1, 10), (2, 20)])
 }
 
-/// Whether the value shows itself so.
-fn shows<T: fmt::Debug>(alloc: Global, value: &T, text: &str) -> bool {
+/// Whether the value shows itself so. It takes the value, so that a test has none to drop.
+fn shows<T: fmt::Debug + Drop>(alloc: Global, value: T, text: &str) -> bool {
     let shown = format!(in alloc; "{value:?}");
     shown.is_ok_and(|shown| shown.as_str() == text)
 }
@@ -26,31 +26,31 @@ fn shows<T: fmt::Debug>(alloc: Global, value: &T, text: &str) -> bool {
 #[test]
 fn a_map_shows_its_entries(rt: HostRuntime) -> ExitCode {
     passes(
-        shows(rt.alloc(), &map_of(rt.alloc(), &[]), "{}")
-            & shows(rt.alloc(), &one_and_two(rt.alloc()), "{1: 10, 2: 20}"),
+        shows(rt.alloc(), map_of(rt.alloc(), &[]), "{}")
+            & shows(rt.alloc(), one_and_two(rt.alloc()), "{1: 10, 2: 20}"),
     )
 }
 
 /// Whether a set of 1 and 2 and its iterator show the elements.
 fn elements_are_shown(alloc: Global, set: &LinkedHashSet<u32>) -> bool {
-    shows(alloc, set, "{1, 2}") & shows(alloc, &set.iter(), "[1, 2]")
+    shows(alloc, set, "{1, 2}") & shows(alloc, set.iter(), "[1, 2]")
 }
 
 #[test]
 fn a_set_shows_its_elements(rt: HostRuntime) -> ExitCode {
     passes(
         elements_are_shown(rt.alloc(), &set_of(rt.alloc(), &[1, 2]))
-            & shows(rt.alloc(), &set_of(rt.alloc(), &[]), "{}"),
+            & shows(rt.alloc(), set_of(rt.alloc(), &[]), "{}"),
     )
 }
 
 #[test]
 fn a_cache_shows_what_was_used_last_first(rt: HostRuntime) -> ExitCode {
     passes(
-        shows(rt.alloc(), &cache_of(rt.alloc(), 2, &[]), "{}")
+        shows(rt.alloc(), cache_of(rt.alloc(), 2, &[]), "{}")
             & shows(
                 rt.alloc(),
-                &cache_of(rt.alloc(), 2, &[(1, 10), (2, 20)]),
+                cache_of(rt.alloc(), 2, &[(1, 10), (2, 20)]),
                 "{2: 20, 1: 10}",
             ),
     )
@@ -60,7 +60,7 @@ fn a_cache_shows_what_was_used_last_first(rt: HostRuntime) -> ExitCode {
 fn weighted_pairs_are_shown(alloc: Global, cache: &mut WeightedCache<u32, u32>) -> bool {
     let _first = cache.insert(1, 10, 1);
     let _second = cache.insert(2, 20, 1);
-    shows(alloc, cache, "{2: 20, 1: 10}") & shows(alloc, &cache.iter(), "[(1, 10, 1), (2, 20, 1)]")
+    shows(alloc, &*cache, "{2: 20, 1: 10}") & shows(alloc, cache.iter(), "[(1, 10, 1), (2, 20, 1)]")
 }
 
 #[test]
@@ -76,8 +76,8 @@ fn readers_show_what_is_left(alloc: Global, map: &Map) -> bool {
     pairs.next_back();
     at_first
         & shows(alloc, &pairs, "[(1, 10)]")
-        & shows(alloc, &map.keys(), "[1, 2]")
-        & shows(alloc, &map.values(), "[10, 20]")
+        & shows(alloc, map.keys(), "[1, 2]")
+        & shows(alloc, map.values(), "[10, 20]")
 }
 
 #[test]
@@ -107,14 +107,14 @@ fn values_show_what_is_left(alloc: Global, map: &mut Map) -> bool {
 fn writers_show_what_is_left(alloc: Global, map: &mut Map) -> bool {
     pairs_show_what_is_left(alloc, map)
         & values_show_what_is_left(alloc, map)
-        & shows(alloc, &map.drain(), PAIRS)
+        & shows(alloc, map.drain(), PAIRS)
 }
 
 #[test]
 fn iterators_that_write_or_own_show_what_is_left(rt: HostRuntime) -> ExitCode {
     passes(
         writers_show_what_is_left(rt.alloc(), &mut one_and_two(rt.alloc()))
-            & shows(rt.alloc(), &one_and_two(rt.alloc()).into_iter(), PAIRS),
+            & shows(rt.alloc(), one_and_two(rt.alloc()).into_iter(), PAIRS),
     )
 }
 
@@ -124,10 +124,10 @@ fn lazy_ones_show_what_is_left(
     left: &LinkedHashSet<u32>,
     right: &LinkedHashSet<u32>,
 ) -> bool {
-    shows(alloc, &left.difference(right), "[1]")
-        & shows(alloc, &left.intersection(right), "[2]")
-        & shows(alloc, &left.union(right), "[1, 2, 3]")
-        & shows(alloc, &left.symmetric_difference(right), "[1, 3]")
+    shows(alloc, left.difference(right), "[1]")
+        & shows(alloc, left.intersection(right), "[2]")
+        & shows(alloc, left.union(right), "[1, 2, 3]")
+        & shows(alloc, left.symmetric_difference(right), "[1, 3]")
 }
 
 #[test]
@@ -154,27 +154,27 @@ fn put_one(map: &mut NumberedMap) {
 /// Whether the entries of a key that is there and of one that is absent show themselves.
 fn entries_are_shown(alloc: Global, map: &mut NumberedMap) -> bool {
     let text = "Entry(OccupiedEntry { key: Numbered { group: 1, number: 5 }, value: 10 })";
-    let occupied = shows(alloc, &map.entry(key(1, 6)), text);
+    let occupied = shows(alloc, map.entry(key(1, 6)), text);
     let text = "Entry(VacantEntry(Numbered { group: 2, number: 6 }))";
-    occupied & shows(alloc, &map.entry(key(2, 6)), text)
+    occupied & shows(alloc, map.entry(key(2, 6)), text)
 }
 
 /// The same of raw entries.
 fn raw_entries_are_shown(alloc: Global, map: &mut NumberedMap) -> bool {
     let text = "RawEntry(RawOccupiedEntryMut { key: Numbered { group: 1, number: 5 }, value: 10 })";
-    let occupied = shows(alloc, &map.raw_entry_of(&key(1, 6)), text);
+    let occupied = shows(alloc, map.raw_entry_of(&key(1, 6)), text);
     occupied
         & shows(
             alloc,
-            &map.raw_entry_of(&key(2, 6)),
+            map.raw_entry_of(&key(2, 6)),
             "RawEntry(RawVacantEntryMut)",
         )
 }
 
 /// Whether builders show their names.
 fn builders_are_shown(alloc: Global, map: &mut NumberedMap) -> bool {
-    shows(alloc, &map.raw_entry(), "RawEntryBuilder")
-        & shows(alloc, &map.raw_entry_mut(), "RawEntryBuilder")
+    shows(alloc, map.raw_entry(), "RawEntryBuilder")
+        & shows(alloc, map.raw_entry_mut(), "RawEntryBuilder")
         & shows(alloc, map.hasher(), "DefaultHashBuilder")
 }
 

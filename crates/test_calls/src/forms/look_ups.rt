@@ -2,7 +2,16 @@
 use crate::few::passes;
 use hashlink::weighted::WeightedCache;
 use hashlink::{LinkedHashMap, LinkedHashSet, LruCache};
+use std::alloc::Global;
 use std::process::ExitCode;
+
+/// The text as a `String`, or an empty one where there is no memory.
+fn owned(alloc: Global, text: &str) -> String {
+    match text.to_string(alloc) {
+        Ok(owned) => owned,
+        Err(_) => String::new(alloc),
+    }
+}
 
 type Texts = LinkedHashMap<String, u32>;
 
@@ -39,20 +48,14 @@ fn is_found(map: &mut Texts, key: String, again: &String) -> bool {
     map.insert(key, 1).is_ok() & finds_all(map, again)
 }
 
-/// Whether they do in a map that takes a clone of the key.
-fn is_clone_found(map: &mut Texts, key: &String) -> bool {
-    match key.clone() {
-        Ok(clone) => is_found(map, clone, key),
-        Err(_) => false,
-    }
-}
-
 #[test]
 fn a_text_finds_its_entry(rt: HostRuntime) -> ExitCode {
-    passes(match "one".to_string(rt.alloc()) {
-        Ok(key) => is_clone_found(&mut LinkedHashMap::new(rt.alloc()), &key),
-        Err(_) => false,
-    })
+    let key = &owned(rt.alloc(), "one");
+    passes(is_found(
+        &mut LinkedHashMap::new(rt.alloc()),
+        owned(rt.alloc(), "one"),
+        key,
+    ))
 }
 
 /// Whether bytes find the value that a map has under them, and no others do.
@@ -97,10 +100,8 @@ fn is_element_found(set: &mut LinkedHashSet<String>, element: String) -> bool {
 
 #[test]
 fn a_text_finds_its_element(rt: HostRuntime) -> ExitCode {
-    passes(match "one".to_string(rt.alloc()) {
-        Ok(element) => is_element_found(&mut LinkedHashSet::new(rt.alloc()), element),
-        Err(_) => false,
-    })
+    let element = owned(rt.alloc(), "one");
+    passes(is_element_found(&mut LinkedHashSet::new(rt.alloc()), element))
 }
 
 /// Whether the calls of a text that read find its statement.
@@ -125,10 +126,8 @@ fn is_statement_found(cache: &mut LruCache<String, u32>, sql: String) -> bool {
 
 #[test]
 fn a_text_finds_its_statement(rt: HostRuntime) -> ExitCode {
-    passes(match "select 1".to_string(rt.alloc()) {
-        Ok(sql) => is_statement_found(&mut LruCache::new(rt.alloc(), 2), sql),
-        Err(_) => false,
-    })
+    let sql = owned(rt.alloc(), "select 1");
+    passes(is_statement_found(&mut LruCache::new(rt.alloc(), 2), sql))
 }
 
 /// Whether a cache with a budget takes a value, and a text finds it.
@@ -141,8 +140,6 @@ fn is_weighed(cache: &mut WeightedCache<String, u32>, key: String) -> bool {
 
 #[test]
 fn a_text_finds_what_has_a_weight(rt: HostRuntime) -> ExitCode {
-    passes(match "one".to_string(rt.alloc()) {
-        Ok(key) => is_weighed(&mut WeightedCache::new(rt.alloc(), 2), key),
-        Err(_) => false,
-    })
+    let key = owned(rt.alloc(), "one");
+    passes(is_weighed(&mut WeightedCache::new(rt.alloc(), 2), key))
 }

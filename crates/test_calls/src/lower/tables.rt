@@ -1,9 +1,11 @@
 ghost use Rattle.std.specs.Prelude.{◌≡◌, ℕ, ◌+◌, ◌<◌, ◌≤◌, IfOk};
 ghost use Rattle.hashlink_table.specs.Contents.{agreeing};
 
+use crate::few::passes;
 use hashlink_table::{Steps, Table, TryReserveError};
 use std::alloc::Global;
 use std::marker::Brand;
+use std::process::ExitCode;
 use std::sync::ledger::{Blank, Ledger};
 use std::test::Fail;
 
@@ -154,14 +156,13 @@ fn rooms(alloc: Global, hashes: Hashes) -> Result<[(usize, usize); 2], TryReserv
 }
 
 #[test]
-fn finds_what_stays_whatever_the_hashes_agree_in(rt: HostRuntime) {
+fn finds_what_stays_whatever_the_hashes_agree_in(rt: HostRuntime) -> ExitCode {
+    let mut all = true;
     for hashes in HASHES {
-        assert_eq!(rt;
-            found(rt.alloc(), hashes),
-            Ok([true, false, true, false, true])
-        );
-        assert_eq!(rt; rooms(rt.alloc(), hashes), Ok([(300, 512), (0, 300)]));
+        all &= found(rt.alloc(), hashes) == Ok([true, false, true, false, true]);
+        all &= rooms(rt.alloc(), hashes) == Ok([(300, 512), (0, 300)]);
     }
+    passes(all)
 }
 
 /// What comes of an absurd room, and whether the table of one number then is as it was.
@@ -175,12 +176,12 @@ fn refuse(alloc: Global) -> ([Result<(), TryReserveError>; 2], bool) {
 }
 
 #[test]
-fn refuses_an_absurd_room(rt: HostRuntime) {
+fn refuses_an_absurd_room(rt: HostRuntime) -> ExitCode {
     let refused = [
         Err(TryReserveError::AllocError),
         Err(TryReserveError::CapacityOverflow),
     ];
-    assert_eq!(rt; refuse(rt.alloc()), (refused, true));
+    passes(refuse(rt.alloc()) == (refused, true))
 }
 
 /// The room of an empty table that is made with this room.
@@ -199,14 +200,15 @@ fn rooms_of_none(alloc: Global) -> Result<(usize, usize), TryReserveError> {
 }
 
 #[test]
-fn has_the_room_that_it_is_asked_for(rt: HostRuntime) {
+fn has_the_room_that_it_is_asked_for(rt: HostRuntime) -> ExitCode {
+    let mut all = rooms_of_none(rt.alloc()) == Ok((4, 0));
     for (room, made) in [
         (0, Ok(0)),
         (5, Ok(8)),
         (1 << 61, Err(TryReserveError::AllocError)),
         (usize::MAX, Err(TryReserveError::CapacityOverflow)),
     ] {
-        assert_eq!(rt; made_with_room(rt.alloc(), room), made);
+        all &= made_with_room(rt.alloc(), room) == made;
     }
-    assert_eq!(rt; rooms_of_none(rt.alloc()), Ok((4, 0)));
+    passes(all)
 }

@@ -1,6 +1,6 @@
 use Rattle.std.proofs.Common.{arith}
 use Rattle.std.proofs.lemmas.List.Sorted.{length_permutation}
-use Rattle.test_lower.proofs.tables.put_second.Goals as goal
+use Rattle.test_calls.proofs.lower.tables.put_second.Goals as goal
 
 pub insert_reserved-requires-2 : goal.insert_reserved-requires-2
 insert_reserved-requires-2 c =

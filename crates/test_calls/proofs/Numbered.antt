@@ -7,7 +7,7 @@ use Rattle.std.proofs.lemmas.List.Sorted.{length_permutation, sum_by-IsPermutati
 use Rattle.std.proofs.Math.Nat.{mod-eq_of_lt, mod_self}
 use Rattle.hashlink_table.specs.declared.kept.Kept.{Kept}
 use Rattle.hashlink_table.specs.Contents.{Contents, agreeing, len_of}
-use Rattle.test_lower.proofs.Agreeing.{agreeing_inserted}
+use Rattle.test_calls.proofs.Agreeing.{agreeing_inserted}
 
 -- the numbers from 1 up to below n were put in, each under itself as hash, where n is at most 501: no two of
 -- them agree

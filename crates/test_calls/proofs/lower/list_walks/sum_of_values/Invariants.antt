@@ -1,7 +1,7 @@
 use Rattle.std.proofs.Common.{◌≡◌, ◌+◌, sum}
 use Rattle.std.specs.Map.{values_of}
 use Rattle.hashlink_core.specs.Keyed.{entries_of}
-use Rattle.test_lower.proofs.list_walks.sum_of_values.Given as goal
+use Rattle.test_calls.proofs.lower.list_walks.sum_of_values.Given as goal
 
 abbrev pub invariant-loop-value : goal.invariant-loop-value
 invariant-loop-value l =

@@ -3,8 +3,8 @@
 /// Two numbers, compared and hashed by the group alone.
 #[derive(Clone, Copy, Debug)]
 #[derive_where(PartialEq, Eq, Hash)]
-pub struct Numbered {
-    pub group: u32,
+pub(crate) struct Numbered {
+    pub(crate) group: u32,
     #[derive_where(skip(EqHashOrd))]
-    pub number: u32,
+    pub(crate) number: u32,
 }

@@ -1,7 +1,7 @@
 use Rattle.std.proofs.Common.{◌≤◌}
 use Rattle.hashlink_table.specs.Contents.{len_of}
-use Rattle.test_lower.proofs.Numbered.{IsNumbered}
-use Rattle.test_lower.proofs.tables.numbered.Given as goal
+use Rattle.test_calls.proofs.Numbered.{IsNumbered}
+use Rattle.test_calls.proofs.lower.tables.numbered.Given as goal
 
 abbrev pub invariant-loop-number : goal.invariant-loop-number
 invariant-loop-number l = IsNumbered l.table l.number × (len_of l.table ≤ l.table.room)
