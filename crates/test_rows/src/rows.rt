@@ -7,10 +7,8 @@ use crate::texts::is_text_right;
 use hashlink::{DefaultHashBuilder, LinkedHashMap, LinkedHashSet, LruCache};
 use std::alloc::Global;
 use std::hash::BuildHasher;
-use test_cache_rows::{Cache, Weighted};
 use test_items::{Answers, Home, Name, Stop, Word, Words, are_written};
-use test_map_rows::Map;
-use test_set_rows::Set;
+use test_row_calls::{Cache, Map, Set, Weighted};
 
 /// Returns what is wrong with the row, if anything is. A row for which an allocation failed says so.
 pub fn wrong<'f>(

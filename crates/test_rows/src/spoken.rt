@@ -2,10 +2,11 @@
 use hashlink::weighted::WeightedCache;
 use hashlink::{LinkedHashMap, LinkedHashSet, LruCache};
 use std::hash::BuildHasher;
-use test_cache_rows::{Cache, Weighted, call_cache, call_weighted, weighed};
 use test_items::{Answers, Home, Stop, Word, Words, shown};
-use test_map_rows::{Map, call_map, compare};
-use test_set_rows::{Set, call_set, call_sets};
+use test_row_calls::{
+    Cache, Map, Set, Weighted, call_cache, call_map, call_set, call_sets, call_weighted, compare,
+    weighed,
+};
 
 /// Where it is said what comes and what stands: nowhere, unless the program is asked to.
 pub type Voice<'v> = Option<&'v HostRuntime>;

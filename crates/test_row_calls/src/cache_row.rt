@@ -2,6 +2,10 @@
 use crate::cache_calls::{
     CACHE_CALLS, CacheCall, EndCall, KeyCall, LendCall, PairsCall, ReadCall, WalkCall,
 };
+use crate::entries::{call_entry, not_made};
+use crate::map_row::{call_map, extended};
+use crate::raw_entries::{call_found, put_found};
+use crate::walks::Walked;
 use hashlink_lru::LruCache;
 use std::hash::BuildHasher;
 use std::mem;
@@ -11,7 +15,6 @@ use test_items::{
     given, given_item, is_even, is_raised, lent, lent_item, made, no_memory, pairs_of, put,
     walk_and_clone, walk_whole, write, write_item,
 };
-use test_map_rows::{Walked, call_entry, call_found, call_map, extended, not_made, put_found};
 
 pub type Cache<S> = LruCache<Item, Item, S>;
 

@@ -1,4 +1,5 @@
 //! Lines that speak to a cache with a budget.
+use crate::walks::Walked;
 use hashlink_weighted::{WeightError, WeightedCache, WeightedIter};
 use std::hash::BuildHasher;
 use test_items::{
@@ -105,10 +106,6 @@ fn lent_weighed(entry: Option<(&Item, &Item, u64)>) -> Word {
         None => Word::Nothing,
     }
 }
-
-/// An iterator that takes steps.
-#[derive(Clone, Drop)]
-struct Walked<I>(I);
 
 impl Walk for Walked<WeightedIter<'_, Item, Item>> {
     fn step(&mut self, step: Step) -> Word {

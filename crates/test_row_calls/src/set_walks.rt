@@ -1,11 +1,8 @@
 //! The iterators of sets by steps from both ends.
+use crate::walks::Walked;
 use hashlink_set::{Drain, IntoIter, Iter};
 use std::hash::BuildHasher;
 use test_items::{Item, Step, Walk, Word, given_item, hinted, lent_item};
-
-/// An iterator that takes steps.
-#[derive(Clone, Drop)]
-pub struct Walked<I>(pub I);
 
 impl Walk for Walked<Iter<'_, Item>> {
     fn step(&mut self, step: Step) -> Word {
