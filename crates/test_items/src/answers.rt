@@ -200,7 +200,10 @@ impl Answers {
     }
 
     pub fn say(&mut self, word: Word) -> Result<(), Stop> {
-        self.words.push(word).map_err(|_| Stop::Memory)
+        match self.words.push(word) {
+            Ok(()) => Ok(()),
+            Err(_word) => Err(Stop::Memory),
+        }
     }
 
     pub fn say_all(&mut self, words: &[Word]) -> Result<(), Stop> {

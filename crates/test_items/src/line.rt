@@ -125,48 +125,61 @@ impl<'l> Words<'l> {
     }
 }
 
-/// The pairs of the rest of the line.
-pub fn pairs_of(home: Home<'_>, words: &mut Words<'_>) -> Result<Vec<(Item, Item)>, Stop> {
-    let mut pairs = Vec::with_capacity(home.alloc, 16)?;
-    push_pairs(home, words, &mut pairs)?;
-    Ok(pairs)
+/// What is read from the next words of a line.
+pub trait Read: Sized {
+    fn read(home: Home<'_>, words: &mut Words<'_>) -> Result<Self, Stop>;
 }
 
-fn push_pairs(
+impl Read for Item {
+    fn read(home: Home<'_>, words: &mut Words<'_>) -> Result<Item, Stop> {
+        words.item(home)
+    }
+}
+
+impl Read for (Item, Item) {
+    fn read(home: Home<'_>, words: &mut Words<'_>) -> Result<(Item, Item), Stop> {
+        words.pair(home)
+    }
+}
+
+impl Read for Name {
+    fn read(_home: Home<'_>, words: &mut Words<'_>) -> Result<Name, Stop> {
+        Ok(words.name())
+    }
+}
+
+impl Read for Pair {
+    fn read(_home: Home<'_>, words: &mut Words<'_>) -> Result<Pair, Stop> {
+        Ok(words.names())
+    }
+}
+
+/// All that the rest of the line names.
+pub fn rest_of<T: Read + Drop>(home: Home<'_>, words: &mut Words<'_>) -> Result<Vec<T>, Stop> {
+    let mut named = Vec::with_capacity(home.alloc, 16)?;
+    push_rest(home, words, &mut named)?;
+    Ok(named)
+}
+
+pub fn push_rest<T: Read + Drop>(
     home: Home<'_>,
     words: &mut Words<'_>,
-    pairs: &mut Vec<(Item, Item)>,
+    named: &mut Vec<T>,
 ) -> Result<(), Stop> {
     for _ in 0..64 {
         if words.rest.is_empty() {
             break;
         }
-        if pairs.push(words.pair(home)?).is_err() {
-            return Err(Stop::Memory);
-        }
+        let next = T::read(home, words)?;
+        push(named, next)?;
     }
     Ok(())
 }
 
-/// The elements of the rest of the line.
-pub fn elements_of(home: Home<'_>, words: &mut Words<'_>) -> Result<Vec<Item>, Stop> {
-    let mut elements = Vec::with_capacity(home.alloc, 16)?;
-    push_elements(home, words, &mut elements)?;
-    Ok(elements)
-}
-
-fn push_elements(
-    home: Home<'_>,
-    words: &mut Words<'_>,
-    elements: &mut Vec<Item>,
-) -> Result<(), Stop> {
-    for _ in 0..64 {
-        if words.rest.is_empty() {
-            break;
-        }
-        if elements.push(words.item(home)?).is_err() {
-            return Err(Stop::Memory);
-        }
+/// Pushes what a row itself needs.
+pub fn push<T: Drop>(items: &mut Vec<T>, item: T) -> Result<(), Stop> {
+    match items.push(item) {
+        Ok(()) => Ok(()),
+        Err(_item) => Err(Stop::Memory),
     }
-    Ok(())
 }

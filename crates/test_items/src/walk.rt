@@ -61,14 +61,17 @@ pub fn walk_whole<W: Walk + Drop>(
     take_steps(&mut walk, words, answers)
 }
 
-/// The same of an iterator that is forgotten after its steps.
-pub fn walk_and_forget<W: Walk + Drop>(
+/// The same of an iterator that may be forgotten after its steps.
+pub fn walk_or_forget<W: Walk + Drop>(
     mut walk: W,
+    is_forgotten: bool,
     words: &mut Words<'_>,
     answers: &mut Answers,
 ) -> Result<(), Stop> {
     let taken = take_steps(&mut walk, words, answers);
-    mem::forget(walk);
+    if is_forgotten {
+        mem::forget(walk);
+    }
     taken
 }
 

@@ -1,5 +1,8 @@
 //! Iterators over two sets, with their bounds, and beside a clone.
-use test_items::{Answers, Item, Name, Stop, Word};
+use test_items::{Answers, Item, Name, Stop, Word, lent_item};
+
+/// The bounds of how many are left, and what comes.
+type Came = [Word; 3];
 
 /// Says the bounds of how many are left and what comes, in turn, for so many steps, or where no number of steps
 /// is given until nothing comes. Then nothing more may come, and a clone that is made after the first step has
@@ -15,7 +18,7 @@ pub fn say_steps<'s, I: Iterator<Item = &'s Item> + Clone + Drop>(
         return say_all(first, answers);
     };
     for _ in 0..steps.group {
-        say_step(&mut first, answers)?;
+        answers.say_all(&step(&mut first))?;
     }
     Ok(())
 }
@@ -26,14 +29,13 @@ fn say_all<'s, I: Iterator<Item = &'s Item> + Clone + Drop>(
 ) -> Result<(), Stop>
     requires { (s : I) → I.can_next s }
 {
-    match say_step(&mut first, answers) {
-        Ok(Some(_)) => {
-            let mut clone = first.clone()?;
-            say_alike(&mut first, &mut clone, answers)
-        }
-        Ok(None) => say_end(&mut first, answers),
-        Err(stop) => Err(stop),
+    let came = step(&mut first);
+    answers.say_all(&came)?;
+    if is_end(came) {
+        return say_end(&mut first, answers);
     }
+    let mut clone = first.clone()?;
+    say_alike(&mut first, &mut clone, answers)
 }
 
 fn say_alike<'s, I: Iterator<Item = &'s Item>>(
@@ -44,12 +46,12 @@ fn say_alike<'s, I: Iterator<Item = &'s Item>>(
     requires { (s : I) → I.can_next s }
 {
     for _ in 0..64 {
-        let is_hinted = first.size_hint() == clone.size_hint();
-        let came = say_step(first, answers)?;
-        if !is_hinted || clone.next().map(Item::name) != came {
+        let came = step(first);
+        answers.say_all(&came)?;
+        if step(clone) != came {
             answers.say(Word::Wrong)?;
         }
-        if came.is_none() {
+        if is_end(came) {
             return say_end(first, answers);
         }
     }
@@ -63,25 +65,23 @@ fn say_end<'s, I: Iterator<Item = &'s Item>>(
 ) -> Result<(), Stop>
     requires { (s : I) → I.can_next s }
 {
-    let came = walk.next().map(Item::name);
-    if came.is_none() && walk.size_hint() == (0, Some(0)) {
+    if walk.next().is_none() && walk.size_hint() == (0, Some(0)) {
         return Ok(());
     }
     answers.say(Word::Wrong)
 }
 
-fn say_step<'s, I: Iterator<Item = &'s Item>>(
-    walk: &mut I,
-    answers: &mut Answers,
-) -> Result<Option<Name>, Stop>
+fn is_end(came: Came) -> bool {
+    came[2] == Word::Nothing
+}
+
+fn step<'s, I: Iterator<Item = &'s Item>>(walk: &mut I) -> Came
     requires { (s : I) → I.can_next s }
 {
     let (least, most) = walk.size_hint();
-    let came = walk.next().map(Item::name);
-    answers.say_all(&[
+    [
         Word::count(least),
         most.map_or(Word::Nothing, Word::count),
-        came.map_or(Word::Nothing, Word::item),
-    ])?;
-    Ok(came)
+        lent_item(walk.next()),
+    ]
 }

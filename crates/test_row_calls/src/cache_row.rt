@@ -12,7 +12,7 @@ use std::mem;
 use std::vec::IntoIter;
 use test_items::{
     Answer, Answers, EntryCall, Home, Item, KEEPS, Keep, Name, RawCall, RawGive, Stop, Word, Words,
-    given, given_item, is_even, is_raised, lent, lent_item, made, no_memory, pairs_of, put,
+    given, given_item, is_even, is_raised, lent, lent_item, made, no_memory, put, rest_of,
     walk_and_clone, walk_whole, write, write_item,
 };
 
@@ -28,14 +28,14 @@ pub fn call_cache<S: BuildHasher + Copy + Default + Drop>(
     match words.named(&CACHE_CALLS)? {
         CacheCall::Read(call) => answers.say(read(cache, call)),
         CacheCall::End(call) => answers.say(call_at_end(cache, call)),
-        CacheCall::Key(call) => answers.say(call_key(cache, call, words.item(home)?)),
-        CacheCall::Lend(call) => call_lend(cache, call, words.lent_item(home)?, answers),
-        CacheCall::Insert => insert(cache, words.pair(home)?, answers),
+        CacheCall::Key(call) => call_key(cache, call, home, words, answers),
+        CacheCall::Lend(call) => call_lend(cache, call, home, words, answers),
+        CacheCall::Insert => insert(cache, home, words, answers),
         CacheCall::GetOrInsertWith => get_or_make(cache, home, words, answers),
         CacheCall::GetOrTryInsertWith => get_or_try(cache, home, words, answers),
         CacheCall::SetCapacity => answers.say(set_capacity(cache, words.size())),
-        CacheCall::Pairs(call) => put_all(cache, call, pairs_of(home, words)?, answers),
-        CacheCall::Retain(is_lent) => answers.say(retain(cache, is_lent, words.named(&KEEPS)?)),
+        CacheCall::Pairs(call) => put_all(cache, call, home, words, answers),
+        CacheCall::Retain(is_lent) => retain(cache, is_lent, words, answers),
         CacheCall::Walk(call) => walk_cache(cache, home, call, words, answers),
         CacheCall::Inside => call_map(cache.map_mut(), home, words, answers),
         call => call_of_entry(cache, home, call, words, answers),
@@ -55,17 +55,22 @@ fn call_of_entry<S: BuildHasher>(
     answers: &mut Answers,
 ) -> Result<(), Stop> {
     match call {
-        CacheCall::Entry => {
-            let (key, call) = EntryCall::of_key(home, words)?;
-            call_entry(cache.entry(key), call, home, words, answers)
-        }
+        CacheCall::Entry => call_entry_of(cache, home, words, answers),
         CacheCall::Raw => call_raw(cache, home, words, answers),
-        CacheCall::RawRead => {
-            let _way = words.word();
-            answers.say(read_raw(cache, words.item(home)?))
-        }
+        CacheCall::RawRead => read_raw(cache, home, words, answers),
         _ => Err(Stop::Unread),
     }
+}
+
+/// Makes the call of the entry of a key that the words say.
+fn call_entry_of<S: BuildHasher>(
+    cache: &mut Cache<S>,
+    home: Home<'_>,
+    words: &mut Words<'_>,
+    answers: &mut Answers,
+) -> Result<(), Stop> {
+    let (key, call) = EntryCall::of_key(home, words)?;
+    call_entry(cache.entry(key), call, home, words, answers)
 }
 
 /// Makes the call of a raw entry that the words say.
@@ -86,8 +91,16 @@ fn call_raw<S: BuildHasher>(
     }
 }
 
-fn read_raw<S: BuildHasher>(cache: &Cache<S>, key: Item) -> Word {
-    lent(cache.raw_entry().from_key(&key))
+/// Reads the pair of a key.
+fn read_raw<S: BuildHasher>(
+    cache: &Cache<S>,
+    home: Home<'_>,
+    words: &mut Words<'_>,
+    answers: &mut Answers,
+) -> Result<(), Stop> {
+    let _way = words.word();
+    let key = words.item(home)?;
+    answers.say(lent(cache.raw_entry().from_key(&key)))
 }
 
 fn read<S: BuildHasher>(cache: &Cache<S>, call: ReadCall) -> Word {
@@ -113,8 +126,15 @@ fn call_at_end<S: BuildHasher + Copy + Drop>(cache: &mut Cache<S>, call: EndCall
     Word::Done
 }
 
-fn call_key<S: BuildHasher>(cache: &mut Cache<S>, call: KeyCall, key: Item) -> Word {
-    look_up(cache, call, &key)
+fn call_key<S: BuildHasher>(
+    cache: &mut Cache<S>,
+    call: KeyCall,
+    home: Home<'_>,
+    words: &mut Words<'_>,
+    answers: &mut Answers,
+) -> Result<(), Stop> {
+    let key = words.item(home)?;
+    answers.say(look_up(cache, call, &key))
 }
 
 fn look_up<S: BuildHasher>(cache: &mut Cache<S>, call: KeyCall, key: &Item) -> Word {
@@ -129,9 +149,11 @@ fn look_up<S: BuildHasher>(cache: &mut Cache<S>, call: KeyCall, key: &Item) -> W
 
 fn insert<S: BuildHasher>(
     cache: &mut Cache<S>,
-    (key, value): (Item, Item),
+    home: Home<'_>,
+    words: &mut Words<'_>,
     answers: &mut Answers,
 ) -> Result<(), Stop> {
+    let (key, value) = words.pair(home)?;
     answers.give(put(cache.insert(key, value)))
 }
 
@@ -183,9 +205,11 @@ fn get_or_try_insert<S: BuildHasher>(
 fn call_lend<S: BuildHasher>(
     cache: &mut Cache<S>,
     call: LendCall,
-    (key, new): (Item, Option<Name>),
+    home: Home<'_>,
+    words: &mut Words<'_>,
     answers: &mut Answers,
 ) -> Result<(), Stop> {
+    let (key, new) = words.lent_item(home)?;
     answers.say(lend(cache, call, &key, new))
 }
 
@@ -201,7 +225,17 @@ fn lend<S: BuildHasher>(
     }
 }
 
-fn retain<S: BuildHasher>(cache: &mut Cache<S>, is_lent: bool, keep: Keep) -> Word {
+fn retain<S: BuildHasher>(
+    cache: &mut Cache<S>,
+    is_lent: bool,
+    words: &mut Words<'_>,
+    answers: &mut Answers,
+) -> Result<(), Stop> {
+    let keep = words.named(&KEEPS)?;
+    answers.say(keep_some(cache, is_lent, keep))
+}
+
+fn keep_some<S: BuildHasher>(cache: &mut Cache<S>, is_lent: bool, keep: Keep) -> Word {
     match (keep, is_lent) {
         (Keep::Even, false) => cache.retain(is_even),
         (Keep::Even, true) => cache.retain_from(&mut is_even),
@@ -236,9 +270,11 @@ fn take<S: BuildHasher + Copy + Drop>(cache: &mut Cache<S>, home: Home<'_>) -> C
 fn put_all<S: BuildHasher>(
     cache: &mut Cache<S>,
     call: PairsCall,
-    pairs: Vec<(Item, Item)>,
+    home: Home<'_>,
+    words: &mut Words<'_>,
     answers: &mut Answers,
 ) -> Result<(), Stop> {
+    let pairs: Vec<(Item, Item)> = rest_of(home, words)?;
     match call {
         PairsCall::Extend => answers.give(extended(cache.extend(pairs))),
         PairsCall::ExtendFrom => extend_from(cache, &mut pairs.into_iter(), answers),

@@ -65,9 +65,8 @@ pub enum WalkCall {
     Values,
     IterMut,
     ValuesMut,
-    Drain,
-    /// A drain that is forgotten after its steps.
-    ForgottenDrain,
+    /// Whether it is forgotten after its steps.
+    Drain(bool),
     IntoIter,
     /// Makes the map anew of its own pairs.
     Collect,
@@ -157,8 +156,8 @@ pub const MAP_CALLS: [(&str, MapCall); 51] = [
     ("values", MapCall::Walk(WalkCall::Values)),
     ("iter_mut", MapCall::Walk(WalkCall::IterMut)),
     ("values_mut", MapCall::Walk(WalkCall::ValuesMut)),
-    ("drain", MapCall::Walk(WalkCall::Drain)),
-    ("forgotten_drain", MapCall::Walk(WalkCall::ForgottenDrain)),
+    ("drain", MapCall::Walk(WalkCall::Drain(false))),
+    ("forgotten_drain", MapCall::Walk(WalkCall::Drain(true))),
     ("into_iter", MapCall::Walk(WalkCall::IntoIter)),
     ("collect", MapCall::Walk(WalkCall::Collect)),
     ("cursor", MapCall::Cursor),

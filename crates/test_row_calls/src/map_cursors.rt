@@ -4,7 +4,8 @@ use crate::map_row::Map;
 use hashlink_map::CursorMut;
 use std::hash::BuildHasher;
 use test_items::{
-    Answers, Home, Item, Name, Stop, Word, Words, lent, put, shown, taken_pair, write, write_pair,
+    Answer, Answers, Home, Item, Name, Stop, Word, Words, lent, put, shown, taken_pair, write,
+    write_pair,
 };
 
 type Cursor<'m, S> = CursorMut<'m, Item, Item, S>;
@@ -138,7 +139,7 @@ fn take_step<S: BuildHasher>(
         CursorStep::Next => cursor.move_next(),
         CursorStep::Prev => cursor.move_prev(),
         CursorStep::At => return answers.say_all(&around(cursor)),
-        CursorStep::Put(place) => return put_pair(cursor, place, words.pair(home)?, answers),
+        CursorStep::Put(place) => return put_pair(cursor, place, home, words, answers),
         CursorStep::Write(place) => return answers.say(write_at(cursor, place, words.name())),
         CursorStep::Last(_last) => return Err(Stop::Unread),
     }
@@ -157,13 +158,24 @@ fn around<S: BuildHasher>(cursor: &Cursor<'_, S>) -> [Word; 3] {
 fn put_pair<S: BuildHasher>(
     cursor: &mut Cursor<'_, S>,
     place: PutAt,
-    (key, value): (Item, Item),
+    home: Home<'_>,
+    words: &mut Words<'_>,
     answers: &mut Answers,
 ) -> Result<(), Stop> {
-    answers.give(match place {
+    let (key, value) = words.pair(home)?;
+    answers.give(put_at(cursor, place, key, value))
+}
+
+fn put_at<S: BuildHasher>(
+    cursor: &mut Cursor<'_, S>,
+    place: PutAt,
+    key: Item,
+    value: Item,
+) -> Answer {
+    match place {
         PutAt::Before => put(cursor.insert_before(key, value)),
         PutAt::After => put(cursor.insert_after(key, value)),
-    })
+    }
 }
 
 fn write_at<S: BuildHasher>(cursor: &mut Cursor<'_, S>, place: WriteAt, new: Name) -> Word {

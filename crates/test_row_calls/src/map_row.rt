@@ -14,8 +14,8 @@ use std::mem;
 use std::vec::IntoIter;
 use test_items::{
     Answer, Answers, Home, Item, KEEPS, Keep, Name, Retain, Stop, Word, Words, given, given_item,
-    has_room, lent, lent_item, made, no_memory_after, pairs_of, put, room, say_met, walk_and_clone,
-    walk_and_forget, walk_whole, write, write_item,
+    has_room, lent, lent_item, made, no_memory_after, put, rest_of, room, say_met, walk_and_clone,
+    walk_or_forget, walk_whole, write, write_item,
 };
 
 pub type Map<S> = LinkedHashMap<Item, Item, S>;
@@ -30,13 +30,13 @@ pub fn call_map<S: BuildHasher + Copy + Default + Drop>(
     match words.named(&MAP_CALLS)? {
         MapCall::Read(call) => answers.say(read(map, call)),
         MapCall::End(call) => answers.say(call_at_end(map, call)),
-        MapCall::Key(call) => answers.say(call_key(map, call, words.item(home)?)),
-        MapCall::Lend(call) => call_lend(map, call, words.lent_item(home)?, answers),
+        MapCall::Key(call) => call_key(map, call, home, words, answers),
+        MapCall::Lend(call) => call_lend(map, call, home, words, answers),
         MapCall::LendBack => answers.say(write(map.back_value_mut(), words.optional())),
-        MapCall::Pair(call) => call_pair(map, call, words.pair(home)?, answers),
+        MapCall::Pair(call) => call_pair(map, call, home, words, answers),
         MapCall::Size(call) => answers.say(ask_room(map, call, home, words.size())),
-        MapCall::Pairs(call) => put_all(map, home, call, pairs_of(home, words)?, answers),
-        MapCall::Retain(call) => retain(map, home, call, words.named(&KEEPS)?, answers),
+        MapCall::Pairs(call) => put_all(map, call, home, words, answers),
+        MapCall::Retain(call) => retain(map, call, home, words, answers),
         MapCall::Walk(call) => walk_map(map, home, call, words, answers),
         call => call_of_entry(map, home, call, words, answers),
     }
@@ -88,8 +88,15 @@ fn call_at_end<S: BuildHasher + Copy + Drop>(map: &mut Map<S>, call: EndCall) ->
     }
 }
 
-fn call_key<S: BuildHasher>(map: &mut Map<S>, call: KeyCall, key: Item) -> Word {
-    look_up(map, call, &key)
+fn call_key<S: BuildHasher>(
+    map: &mut Map<S>,
+    call: KeyCall,
+    home: Home<'_>,
+    words: &mut Words<'_>,
+    answers: &mut Answers,
+) -> Result<(), Stop> {
+    let key = words.item(home)?;
+    answers.say(look_up(map, call, &key))
 }
 
 fn look_up<S: BuildHasher>(map: &mut Map<S>, call: KeyCall, key: &Item) -> Word {
@@ -113,22 +120,30 @@ fn index<S: BuildHasher>(map: &Map<S>, key: &Item) -> Word {
 fn call_pair<S: BuildHasher>(
     map: &mut Map<S>,
     call: PairCall,
-    (key, value): (Item, Item),
+    home: Home<'_>,
+    words: &mut Words<'_>,
     answers: &mut Answers,
 ) -> Result<(), Stop> {
-    answers.give(match call {
+    let (key, value) = words.pair(home)?;
+    answers.give(put_pair(map, call, key, value))
+}
+
+fn put_pair<S: BuildHasher>(map: &mut Map<S>, call: PairCall, key: Item, value: Item) -> Answer {
+    match call {
         PairCall::Insert => put(map.insert(key, value)),
         PairCall::InsertFront => put(map.insert_front(key, value)),
         PairCall::Replace => put(map.replace(key, value)),
-    })
+    }
 }
 
 fn call_lend<S: BuildHasher>(
     map: &mut Map<S>,
     call: LendCall,
-    (key, new): (Item, Option<Name>),
+    home: Home<'_>,
+    words: &mut Words<'_>,
     answers: &mut Answers,
 ) -> Result<(), Stop> {
+    let (key, new) = words.lent_item(home)?;
     answers.say(lend(map, call, &key, new))
 }
 
@@ -150,11 +165,12 @@ fn index_mut<S: BuildHasher>(map: &mut Map<S>, key: &Item, new: Option<Name>) ->
 
 fn retain<S: BuildHasher>(
     map: &mut Map<S>,
-    home: Home<'_>,
     call: Retain,
-    keep: Keep,
+    home: Home<'_>,
+    words: &mut Words<'_>,
     answers: &mut Answers,
 ) -> Result<(), Stop> {
+    let keep = words.named(&KEEPS)?;
     let mut met = Vec::with_capacity(home.alloc, keep.room(map.len()))?;
     keep_some(map, call, keep, &mut met);
     say_met(&met, answers)
@@ -182,8 +198,9 @@ fn walk_map<S: BuildHasher + Copy + Default + Drop>(
         WalkCall::Values => walk_and_clone(Walked(map.values()), words, answers),
         WalkCall::IterMut => walk_whole(Walked(map.iter_mut()), words, answers),
         WalkCall::ValuesMut => walk_whole(Walked(map.values_mut()), words, answers),
-        WalkCall::Drain => walk_whole(Walked(map.drain()), words, answers),
-        WalkCall::ForgottenDrain => walk_and_forget(Walked(map.drain()), words, answers),
+        WalkCall::Drain(is_forgotten) => {
+            walk_or_forget(Walked(map.drain()), is_forgotten, words, answers)
+        }
         WalkCall::IntoIter => walk_whole(Walked(take(map, home).into_iter()), words, answers),
         WalkCall::Collect => answers.say(collect(map, home)),
     }
@@ -236,11 +253,12 @@ pub fn extended(answer: Result<(), ExtendError<Item, Item>>) -> Answer {
 
 fn put_all<S: BuildHasher + Copy + Default + Drop>(
     map: &mut Map<S>,
-    home: Home<'_>,
     call: PairsCall,
-    pairs: Vec<(Item, Item)>,
+    home: Home<'_>,
+    words: &mut Words<'_>,
     answers: &mut Answers,
 ) -> Result<(), Stop> {
+    let pairs: Vec<(Item, Item)> = rest_of(home, words)?;
     match call {
         PairsCall::Extend => answers.give(extended(map.extend(pairs))),
         PairsCall::ExtendFrom => extend_from(map, &mut pairs.into_iter(), answers),

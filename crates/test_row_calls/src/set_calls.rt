@@ -53,9 +53,8 @@ pub enum ElementsCall {
 #[derive(Clone, Copy)]
 pub enum WalkCall {
     Iter,
-    Drain,
-    /// A drain that is forgotten after its steps.
-    ForgottenDrain,
+    /// Whether it is forgotten after its steps.
+    Drain(bool),
     IntoIter,
 }
 
@@ -114,8 +113,8 @@ pub const SET_CALLS: [(&str, SetCall); 34] = [
     ("retain", SetCall::Retain(false)),
     ("retain_with_order", SetCall::Retain(true)),
     ("iter", SetCall::Walk(WalkCall::Iter)),
-    ("drain", SetCall::Walk(WalkCall::Drain)),
-    ("forgotten_drain", SetCall::Walk(WalkCall::ForgottenDrain)),
+    ("drain", SetCall::Walk(WalkCall::Drain(false))),
+    ("forgotten_drain", SetCall::Walk(WalkCall::Drain(true))),
     ("into_iter", SetCall::Walk(WalkCall::IntoIter)),
 ];
 

@@ -13,8 +13,8 @@ use std::hash::BuildHasher;
 use std::mem;
 use std::vec::IntoIter;
 use test_items::{
-    Answer, Answers, Home, Item, Keep, Name, Stop, Word, Words, elements_of, given_item, has_room,
-    is_other, lent_item, made, room, say_met, taken, walk_and_clone, walk_and_forget, walk_whole,
+    Answer, Answers, Home, Item, Keep, Name, Stop, Word, Words, given_item, has_room, is_other,
+    lent_item, made, rest_of, room, say_met, taken, walk_and_clone, walk_or_forget, walk_whole,
 };
 
 pub type Set<S> = LinkedHashSet<Item, S>;
@@ -32,14 +32,12 @@ pub fn call_set<S: BuildHasher + Copy + Default + Drop>(
     match words.named(&SET_CALLS)? {
         SetCall::Read(call) => answers.say(read(set, call)),
         SetCall::End(call) => answers.say(call_at_end(set, call)),
-        SetCall::Element(call) => answers.say(call_element(set, call, words.item(home)?)),
-        SetCall::Put(call) => answers.give(put(set, call, words.item(home)?)),
+        SetCall::Element(call) => call_element(set, call, home, words, answers),
+        SetCall::Put(call) => call_put(set, call, home, words, answers),
         SetCall::GetOrInsertWith => put_made(set, home, words.name(), answers),
         SetCall::Size(call) => answers.say(ask_room(set, call, home, words.size())),
-        SetCall::Elements(call) => put_all(set, home, call, elements_of(home, words)?, answers),
-        SetCall::Retain(is_ordered) => {
-            retain(set, home, is_ordered, words.named(&KEEPS)?, answers)
-        }
+        SetCall::Elements(call) => put_all(set, call, home, words, answers),
+        SetCall::Retain(is_ordered) => retain(set, is_ordered, home, words, answers),
         SetCall::Walk(call) => walk_set(set, home, call, words, answers),
     }
 }
@@ -53,8 +51,9 @@ fn walk_set<S: BuildHasher + Copy + Drop>(
 ) -> Result<(), Stop> {
     match call {
         WalkCall::Iter => walk_and_clone(Walked(set.iter()), words, answers),
-        WalkCall::Drain => walk_whole(Walked(set.drain()), words, answers),
-        WalkCall::ForgottenDrain => walk_and_forget(Walked(set.drain()), words, answers),
+        WalkCall::Drain(is_forgotten) => {
+            walk_or_forget(Walked(set.drain()), is_forgotten, words, answers)
+        }
         WalkCall::IntoIter => walk_whole(Walked(take(set, home).into_iter()), words, answers),
     }
 }
@@ -93,8 +92,15 @@ fn call_at_end<S: BuildHasher + Copy + Drop>(set: &mut Set<S>, call: EndCall) ->
     }
 }
 
-fn call_element<S: BuildHasher>(set: &mut Set<S>, call: ElementCall, element: Item) -> Word {
-    look_up(set, call, &element)
+fn call_element<S: BuildHasher>(
+    set: &mut Set<S>,
+    call: ElementCall,
+    home: Home<'_>,
+    words: &mut Words<'_>,
+    answers: &mut Answers,
+) -> Result<(), Stop> {
+    let element = words.item(home)?;
+    answers.say(look_up(set, call, &element))
 }
 
 fn look_up<S: BuildHasher>(set: &mut Set<S>, call: ElementCall, element: &Item) -> Word {
@@ -106,6 +112,17 @@ fn look_up<S: BuildHasher>(set: &mut Set<S>, call: ElementCall, element: &Item) 
         ElementCall::Remove => Word::Is(set.remove(element)),
         ElementCall::Take => given_item(set.take(element)),
     }
+}
+
+fn call_put<S: BuildHasher>(
+    set: &mut Set<S>,
+    call: PutCall,
+    home: Home<'_>,
+    words: &mut Words<'_>,
+    answers: &mut Answers,
+) -> Result<(), Stop> {
+    let element = words.item(home)?;
+    answers.give(put(set, call, element))
 }
 
 fn put<S: BuildHasher>(set: &mut Set<S>, call: PutCall, element: Item) -> Answer {
@@ -174,11 +191,12 @@ fn get_or_make<'s, S: BuildHasher>(
 
 fn retain<S: BuildHasher>(
     set: &mut Set<S>,
-    home: Home<'_>,
     is_ordered: bool,
-    keep: Keep,
+    home: Home<'_>,
+    words: &mut Words<'_>,
     answers: &mut Answers,
 ) -> Result<(), Stop> {
+    let keep = words.named(&KEEPS)?;
     let mut met = Vec::with_capacity(home.alloc, keep.room(set.len()))?;
     keep_some(set, is_ordered, keep, &mut met);
     say_met(&met, answers)
@@ -235,11 +253,12 @@ fn extended(answer: Result<(), ExtendError<Item, ()>>) -> Answer {
 
 fn put_all<S: BuildHasher + Copy + Default + Drop>(
     set: &mut Set<S>,
-    home: Home<'_>,
     call: ElementsCall,
-    elements: Vec<Item>,
+    home: Home<'_>,
+    words: &mut Words<'_>,
     answers: &mut Answers,
 ) -> Result<(), Stop> {
+    let elements: Vec<Item> = rest_of(home, words)?;
     match call {
         ElementsCall::Extend => answers.give(extended(set.extend(elements))),
         ElementsCall::ExtendFrom => extend_from(set, &mut elements.into_iter(), answers),

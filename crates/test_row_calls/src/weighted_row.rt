@@ -58,8 +58,8 @@ pub fn call_weighted<S: BuildHasher>(
 ) -> Result<(), Stop> {
     match words.named(&CALLS)? {
         WeightedCall::Read(call) => answers.say(read(cache, call)),
-        WeightedCall::Key(call) => answers.say(call_key(cache, call, words.item(home)?)),
-        WeightedCall::Insert => answers.give(insert(cache, words.pair(home)?)),
+        WeightedCall::Key(call) => call_key(cache, call, home, words, answers),
+        WeightedCall::Insert => put_pair(cache, home, words, answers),
         WeightedCall::Iter => walk_and_clone(Walked(cache.iter()), words, answers),
     }
 }
@@ -73,15 +73,36 @@ fn read<S: BuildHasher>(cache: &Weighted<S>, call: ReadCall) -> Word {
     }
 }
 
-fn call_key<S: BuildHasher>(cache: &mut Weighted<S>, call: KeyCall, key: Item) -> Word {
+fn call_key<S: BuildHasher>(
+    cache: &mut Weighted<S>,
+    call: KeyCall,
+    home: Home<'_>,
+    words: &mut Words<'_>,
+    answers: &mut Answers,
+) -> Result<(), Stop> {
+    let key = words.item(home)?;
+    answers.say(look_up(cache, call, &key))
+}
+
+fn look_up<S: BuildHasher>(cache: &mut Weighted<S>, call: KeyCall, key: &Item) -> Word {
     match call {
-        KeyCall::Get => lent_item(cache.get(&key)),
-        KeyCall::Peek => lent_item(cache.peek(&key)),
-        KeyCall::Remove => given_item(cache.remove(&key)),
+        KeyCall::Get => lent_item(cache.get(key)),
+        KeyCall::Peek => lent_item(cache.peek(key)),
+        KeyCall::Remove => given_item(cache.remove(key)),
     }
 }
 
-fn insert<S: BuildHasher>(cache: &mut Weighted<S>, (key, value): (Item, Item)) -> Answer {
+fn put_pair<S: BuildHasher>(
+    cache: &mut Weighted<S>,
+    home: Home<'_>,
+    words: &mut Words<'_>,
+    answers: &mut Answers,
+) -> Result<(), Stop> {
+    let (key, value) = words.pair(home)?;
+    answers.give(insert(cache, key, value))
+}
+
+fn insert<S: BuildHasher>(cache: &mut Weighted<S>, key: Item, value: Item) -> Answer {
     let weight = value.name().number;
     match cache.insert(key, value, weight) {
         Ok(old) => Answer::Word(given_item(old)),

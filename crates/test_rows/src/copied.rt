@@ -2,9 +2,8 @@
 use crate::spoken::{Spoken, say_room, say_word};
 use hashlink::linked_hash_map::ExtendError;
 use hashlink::{LinkedHashMap, LinkedHashSet};
-use std::alloc::Global;
 use std::hash::BuildHasher;
-use test_items::{Answer, Answers, Home, Name, Pair, Stop, Word, Words};
+use test_items::{Answer, Answers, Home, Name, Pair, Read, Stop, Word, Words, push_rest};
 
 impl<S: BuildHasher + Copy + Default + Drop> Spoken for LinkedHashMap<Name, Name, S> {
     fn make(home: Home<'_>, _capacity: usize) -> LinkedHashMap<Name, Name, S> {
@@ -17,7 +16,7 @@ impl<S: BuildHasher + Copy + Default + Drop> Spoken for LinkedHashMap<Name, Name
         words: &mut Words<'_>,
         answers: &mut Answers,
     ) -> Result<(), Stop> {
-        let pairs = copied_pairs(home.alloc, words)?;
+        let pairs: Vec<Pair> = copied(home, words)?;
         match self.extend_ref(pairs.iter().map(|(key, value)| (key, value))) {
             Ok(()) => answers.say(Word::Done),
             Err(ExtendError { taken, pair }) => {
@@ -49,7 +48,7 @@ impl<S: BuildHasher + Copy + Default + Drop> Spoken for LinkedHashSet<Name, S> {
         words: &mut Words<'_>,
         answers: &mut Answers,
     ) -> Result<(), Stop> {
-        let elements = copied_elements(home.alloc, words)?;
+        let elements: Vec<Name> = copied(home, words)?;
         match self.extend_ref(elements.as_slice()) {
             Ok(()) => answers.say(Word::Done),
             Err(ExtendError { taken, pair }) => {
@@ -70,28 +69,10 @@ impl<S: BuildHasher + Copy + Default + Drop> Spoken for LinkedHashSet<Name, S> {
     }
 }
 
-/// The pairs after the word `extend_ref`.
-fn copied_pairs(alloc: Global, words: &mut Words<'_>) -> Result<Vec<Pair>, Stop> {
+/// What is named after the word `extend_ref`.
+fn copied<T: Read + Drop>(home: Home<'_>, words: &mut Words<'_>) -> Result<Vec<T>, Stop> {
     let _call = words.word();
-    let mut pairs = Vec::new(alloc);
-    for _ in 0..64 {
-        if words.rest.is_empty() {
-            break;
-        }
-        pairs.push(words.names()).map_err(|_| Stop::Memory)?;
-    }
-    Ok(pairs)
-}
-
-/// The elements after it.
-fn copied_elements(alloc: Global, words: &mut Words<'_>) -> Result<Vec<Name>, Stop> {
-    let _call = words.word();
-    let mut elements = Vec::new(alloc);
-    for _ in 0..64 {
-        if words.rest.is_empty() {
-            break;
-        }
-        elements.push(words.name()).map_err(|_| Stop::Memory)?;
-    }
-    Ok(elements)
+    let mut named = Vec::new(home.alloc);
+    push_rest(home, words, &mut named)?;
+    Ok(named)
 }

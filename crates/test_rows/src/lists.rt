@@ -10,10 +10,13 @@ use hashlink::{LinkedHashMap, LruCache};
 use hashlink_spelling::{CacheLine, Line, pair_command};
 use std::alloc::{AllocError, Global};
 use std::hash::BuildHasher;
-use test_items::{Answer, Answers, Name, Stop, Word, Words, are_written, number};
+use test_items::{Answer, Answers, Name, Stop, Word, Words, are_written, number, push};
 
 /// A container that runs a list of commands.
-pub trait Listed {
+pub trait Listed: Sized {
+    /// An empty one, of this capacity if it has one.
+    fn make(alloc: Global, capacity: usize) -> Self;
+
     /// Runs these lines, and says the replies. It returns whether it had the memory for them.
     fn run(&mut self, alloc: Global, lines: &[&str], answers: &mut Answers) -> Result<bool, Stop>;
 
@@ -21,13 +24,16 @@ pub trait Listed {
     fn stand(&self, rt: &HostRuntime);
 }
 
-impl<S: BuildHasher> Listed for LinkedHashMap<u64, u64, S> {
+impl<S: BuildHasher + Default> Listed for LinkedHashMap<u64, u64, S> {
+    fn make(alloc: Global, _capacity: usize) -> LinkedHashMap<u64, u64, S> {
+        LinkedHashMap::with_hasher(alloc, S::default())
+    }
+
     fn run(&mut self, alloc: Global, lines: &[&str], answers: &mut Answers) -> Result<bool, Stop> {
         let mut commands = Vec::with_capacity(alloc, lines.len())?;
         for line in lines {
-            commands
-                .push(command_of(alloc, cut(line).0)?)
-                .map_err(|_| Stop::Memory)?;
+            let command = command_of(alloc, cut(line).0)?;
+            push(&mut commands, command)?;
         }
         let replies = run(self, commands, &is_even);
         say_all(replies, answers)
@@ -41,13 +47,16 @@ impl<S: BuildHasher> Listed for LinkedHashMap<u64, u64, S> {
     }
 }
 
-impl<S: BuildHasher> Listed for LruCache<u64, u64, S> {
+impl<S: BuildHasher + Default> Listed for LruCache<u64, u64, S> {
+    fn make(alloc: Global, capacity: usize) -> LruCache<u64, u64, S> {
+        LruCache::with_hasher(alloc, capacity, S::default())
+    }
+
     fn run(&mut self, alloc: Global, lines: &[&str], answers: &mut Answers) -> Result<bool, Stop> {
         let mut commands = Vec::with_capacity(alloc, lines.len())?;
         for line in lines {
-            commands
-                .push(cache_command_of(alloc, cut(line).0)?)
-                .map_err(|_| Stop::Memory)?;
+            let command = cache_command_of(alloc, cut(line).0)?;
+            push(&mut commands, command)?;
         }
         let replies = run_cache(self, commands, &is_even);
         say_all(replies, answers)
@@ -130,13 +139,14 @@ fn said(reply: Reply<u64, u64>) -> Answer {
 
 /// Runs the lines in two halves, each as one list, and returns whether each reply is the one that is written.
 pub fn are_runs_right<C: Listed + Drop>(
-    mut container: C,
+    capacity: usize,
     alloc: Global,
     lines: &str,
     answers: &mut Answers,
     voice: Voice<'_>,
 ) -> Result<bool, Stop> {
     let lines: Vec<&str> = lines.split('\n').collect(alloc)?;
+    let mut container = C::make(alloc, capacity);
     are_halves_right(&mut container, alloc, lines.as_slice(), answers, voice)
 }
 
@@ -229,9 +239,7 @@ fn commands_of_pair(alloc: Global, lines: &str) -> Result<Vec<PairCommand<Name, 
     for line in lines.split('\n') {
         number = number.saturating_add(1);
         if let Some(command) = pair_command(line.as_bytes()) {
-            commands
-                .push(numbered(command, number))
-                .map_err(|_| Stop::Memory)?;
+            push(&mut commands, numbered(command, number))?;
         }
     }
     Ok(commands)

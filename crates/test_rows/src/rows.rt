@@ -1,6 +1,6 @@
 //! A row, and what is done with it.
 use crate::hashers::{OddOrEven, SameHash};
-use crate::lists::{are_runs_right, run_lines_of_pair, run_lines_of_uses};
+use crate::lists::{Listed, are_runs_right, run_lines_of_pair, run_lines_of_uses};
 use crate::row::{Row, Wrong, cut, words_of};
 use crate::spoken::{Spoken, Voice, say_words};
 use crate::texts::is_text_right;
@@ -109,7 +109,7 @@ fn run<'f>(
     }
     let mut rest = words;
     match rest.named(&ALONE) {
-        Ok(kind) => Ok(whole(is_right_alone(row, kind, rest, home.alloc, answers, voice)?)),
+        Ok(kind) => whole(is_right_alone(row, kind, rest, home.alloc, answers, voice)),
         Err(_) => each(row, words, home, answers, voice),
     }
 }
@@ -185,19 +185,26 @@ fn under<'f, S: BuildHasher + Copy + Default + Drop>(
         Called::Weighted => speak::<Weighted<S>>(row, words.size(), home, answers, voice),
         Called::CopiedMap => speak::<LinkedHashMap<Name, Name, S>>(row, 0, home, answers, voice),
         Called::CopiedSet => speak::<LinkedHashSet<Name, S>>(row, 0, home, answers, voice),
-        Called::Commands => {
-            let map = LinkedHashMap::with_hasher(home.alloc, S::default());
-            Ok(whole(are_runs_right(map, home.alloc, row.lines, answers, voice)?))
-        }
+        Called::Commands => list::<LinkedHashMap<u64, u64, S>>(row, 0, home, answers, voice),
         Called::CacheCommands => {
-            let cache = LruCache::with_hasher(home.alloc, words.size(), S::default());
-            Ok(whole(are_runs_right(cache, home.alloc, row.lines, answers, voice)?))
+            list::<LruCache<u64, u64, S>>(row, words.size(), home, answers, voice)
         }
     }
 }
 
-fn whole<'f>(is_right: bool) -> Option<Wrong<'f>> {
-    if is_right { None } else { Some(Wrong::Row) }
+/// Runs a list of commands to an empty container.
+fn list<'f, C: Listed + Drop>(
+    row: Row<'f>,
+    capacity: usize,
+    home: Home<'_>,
+    answers: &mut Answers,
+    voice: Voice<'_>,
+) -> Result<Option<Wrong<'f>>, Stop> {
+    whole(are_runs_right::<C>(capacity, home.alloc, row.lines, answers, voice))
+}
+
+fn whole<'f>(is_right: Result<bool, Stop>) -> Result<Option<Wrong<'f>>, Stop> {
+    Ok(if is_right? { None } else { Some(Wrong::Row) })
 }
 
 /// Speaks to two empty containers.

@@ -3,7 +3,7 @@ use crate::spoken::Voice;
 use hashlink::run::run_text;
 use std::alloc::Global;
 use std::str::from_utf8;
-use test_items::{Answers, Stop};
+use test_items::{Answers, Stop, push};
 
 /// Returns whether the answer of `run_text`, if no allocation for it failed, is the one that is written after
 /// the text and a line `=`, if one is. Each line of the answer is said.
@@ -63,7 +63,7 @@ pub fn bytes_of(alloc: Global, text: &str) -> Result<Vec<u8>, Stop> {
         };
         is_escaped = *byte == b'\\';
         if let Some(meant) = meant {
-            bytes.push(meant).map_err(|_| Stop::Memory)?;
+            push(&mut bytes, meant)?;
         }
     }
     Ok(bytes)
