@@ -1,7 +1,8 @@
 -- What a step of a lazy walk looks at, gives and leaves.
 use Rattle.std.proofs.Common.{◌≡◌, ℕ, ◌+◌, ◌^◌, ◌≤◌, nat_lt, Bool, true, false, cond, List, [], ◌∷◌}
-use Rattle.std.proofs.Common.{filter, Option, None}
+use Rattle.std.proofs.Common.{filter, not, Option, None}
 use Rattle.std.proofs.Common.{Some, refl, sym, ap, ap₂, subst, ◌∙◌}
+use Rattle.std.specs.Bool.{beq}
 use Rattle.std.specs.Prelude.{option_copied, is_none, IfSome}
 use Rattle.std.specs.Iterator.{at_most, UpTo}
 use Rattle.std.specs.Set.{is_member}
@@ -12,13 +13,11 @@ use Rattle.hashlink_model.specs.Algebra.{at_most_both}
 use Rattle.hashlink_core.specs.Keyed.{Keyed}
 use Rattle.hashlink_algebra.specs.Elements.{elements_in}
 use Rattle.hashlink_model.proofs.LazyWalks.{first_passing-takes, pair_step-takes}
-use Rattle.hashlink_algebra.specs.Walks.{lacks, LooksOn, LooksOnBoth, difference_rest, DifferenceSteps}
-use Rattle.hashlink_algebra.specs.Walks.{intersection_rest}
-use Rattle.hashlink_algebra.specs.Walks.{IntersectionSteps, union_walk, union_rest, UnionSteps}
+use Rattle.hashlink_algebra.specs.Walks.{lacks, sifts, LooksOn, LooksOnBoth, sifted_rest, SiftedSteps}
+use Rattle.hashlink_algebra.specs.Walks.{union_walk, union_rest, UnionSteps}
 use Rattle.hashlink_algebra.specs.Walks.{symmetric_difference_walk}
 use Rattle.hashlink_algebra.specs.Walks.{symmetric_difference_rest, SymmetricDifferenceSteps}
-use Rattle.hashlink_algebra.specs.declared.difference.Difference.{Difference}
-use Rattle.hashlink_algebra.specs.declared.intersection.Intersection.{Intersection}
+use Rattle.hashlink_algebra.specs.declared.sifted.Sifted.{Sifted}
 use Rattle.hashlink_algebra.specs.declared.symmetric_difference.SymmetricDifference.{SymmetricDifference}
 use Rattle.hashlink_algebra.specs.declared.union.Union.{Union}
 
@@ -101,30 +100,30 @@ module _ {T : Type 0} where
       let step = skipped ∙ ap (first_passing p) is.0 in
       record { gives = ap (λ s. s.0) (sym step); leaves = is.1 ∙ ap (λ s. s.1) (sym step) }
 
--- ---- the steps of the four walks
+  -- an element passes where the other set has it, or lacks it, as asked
+  pub sifts_asked : (eq : T → T → Bool) (asked : Bool) (ys : List T) (x : T) (b : Bool)
+      → b ≡ is_member eq ys x → beq b asked ≡ true
+      → sifts eq asked ys x ≡ true
+  sifts_asked eq true ys x true is same = sym is
+  sifts_asked eq true ys x false is same = absurd (cc same)
+  sifts_asked eq false ys x true is same = absurd (cc same)
+  sifts_asked eq false ys x false is same = ap not (sym is)
+
+-- ---- the steps of the walks
 
 module _ {T S H : Type 0} (eq : T → T → Bool) where
-  pub difference_steps : (old : Difference T S H) (r : Option (Bor T)) (new : Difference T S H)
-      → new.other.now ≡ old.other.now → LooksOn (lacks eq (elements_in old.other.now)) old.iter r new.iter
-      → DifferenceSteps eq old r new
-  difference_steps old r new same l = record {
+  pub sifted_steps : {has : ℕ} (asked : Bool) (old : Sifted T S has H) (r : Option (Bor T))
+      (new : Sifted T S has H)
+      → new.other.now ≡ old.other.now
+      → LooksOn (sifts eq asked (elements_in old.other.now)) old.iter r new.iter
+      → SiftedSteps eq asked old r new
+  sifted_steps asked old r new same l = record {
     takes =
-        subst (λ s. TakesFirst deref (difference_rest eq old) r (filter (lacks eq (elements_in s)) new.iter))
+        subst
+        (λ s. TakesFirst deref (sifted_rest eq asked old) r
+        (filter (sifts eq asked (elements_in s)) new.iter))
         (sym same)
-        (looks_takes (lacks eq (elements_in old.other.now)) old.iter new.iter r l);
-    looks = l;
-    same_other = same;
-  }
-
-  pub intersection_steps : (old : Intersection T S H) (r : Option (Bor T)) (new : Intersection T S H)
-      → new.other.now ≡ old.other.now → LooksOn (is_member eq (elements_in old.other.now)) old.iter r new.iter
-      → IntersectionSteps eq old r new
-  intersection_steps old r new same l = record {
-    takes =
-        subst (λ s. TakesFirst deref (intersection_rest eq old) r
-        (filter (is_member eq (elements_in s)) new.iter))
-        (sym same)
-        (looks_takes (is_member eq (elements_in old.other.now)) old.iter new.iter r l);
+        (looks_takes (sifts eq asked (elements_in old.other.now)) old.iter new.iter r l);
     looks = l;
     same_other = same;
   }

@@ -1,13 +1,12 @@
 -- What a contract sees of the lazy walks over two sets: what each has not looked at, and what it has left to
 -- give.
-use Rattle.std.specs.Prelude.{◌≡◌, Bool, true, not, List, filter, Option, option_copied}
+use Rattle.std.specs.Prelude.{◌≡◌, ℕ, Bool, true, false, not, List, filter, Option, option_copied}
 use Rattle.std.specs.Borrow.{Bor}
 use Rattle.std.specs.Map.Iter.{TakesFirst, deref}
 use Rattle.std.specs.Set.{is_member}
 use Rattle.hashlink_model.specs.Algebra.{PairWalk, first_passing, pair_step, left_to_give}
 use Rattle.hashlink_algebra.specs.Elements.{elements_in}
-use Rattle.hashlink_algebra.specs.declared.difference.Difference.{Difference}
-use Rattle.hashlink_algebra.specs.declared.intersection.Intersection.{Intersection}
+use Rattle.hashlink_algebra.specs.declared.sifted.Sifted.{Sifted}
 use Rattle.hashlink_algebra.specs.declared.symmetric_difference.SymmetricDifference.{SymmetricDifference}
 use Rattle.hashlink_algebra.specs.declared.union.Union.{Union}
 
@@ -15,6 +14,11 @@ module _ {T : Type 0} where
   -- no element of ys is equal
   abbrev pub lacks : (T → T → Bool) → List T → T → Bool
   lacks eq ys x = not (is_member eq ys x)
+
+  -- an element of ys is equal, or none is, as asked
+  abbrev pub sifts : (T → T → Bool) → Bool → List T → T → Bool
+  sifts eq true ys = is_member eq ys
+  sifts eq false ys = lacks eq ys
 
   -- a step looks at the elements up to the first that passes p, which it gives
   pub record LooksOn (p : T → Bool) (old : List T) (r : Option (Bor T)) (new : List T) : Type 0 where
@@ -36,27 +40,33 @@ module _ {T S H : Type 0} where
   symmetric_difference_walk d = record { left = d.first.iter; right = d.second.iter }
 
 module _ {T S H : Type 0} (eq : T → T → Bool) where
-  -- ---- the elements that the other set lacks
+  -- ---- the elements that the other set has, or those that it lacks, as asked: an `Intersection` is a
+  -- `Sifted` whose number is 1, and a `Difference` one whose number is 0
 
-  abbrev pub difference_rest : Difference T S H → List T
-  difference_rest d = filter (lacks eq (elements_in d.other.now)) d.iter
+  abbrev pub sifted_rest : {has : ℕ} → Bool → Sifted T S has H → List T
+  sifted_rest asked d = filter (sifts eq asked (elements_in d.other.now)) d.iter
 
-  pub record DifferenceSteps (old : Difference T S H) (r : Option (Bor T))
-      (new : Difference T S H) : Type 0 where
-    pub takes : TakesFirst deref (difference_rest old) r (difference_rest new)
-    pub looks : LooksOn (lacks eq (elements_in old.other.now)) old.iter r new.iter
+  pub record SiftedSteps {has : ℕ} (asked : Bool) (old : Sifted T S has H) (r : Option (Bor T))
+      (new : Sifted T S has H) : Type 0 where
+    pub takes : TakesFirst deref (sifted_rest asked old) r (sifted_rest asked new)
+    pub looks : LooksOn (sifts eq asked (elements_in old.other.now)) old.iter r new.iter
     pub same_other : new.other.now ≡ old.other.now
 
   -- ---- the elements that the other set has
 
-  abbrev pub intersection_rest : Intersection T S H → List T
-  intersection_rest d = filter (is_member eq (elements_in d.other.now)) d.iter
+  abbrev pub intersection_rest : Sifted T S 1 H → List T
+  intersection_rest = sifted_rest true
 
-  pub record IntersectionSteps (old : Intersection T S H) (r : Option (Bor T))
-      (new : Intersection T S H) : Type 0 where
-    pub takes : TakesFirst deref (intersection_rest old) r (intersection_rest new)
-    pub looks : LooksOn (is_member eq (elements_in old.other.now)) old.iter r new.iter
-    pub same_other : new.other.now ≡ old.other.now
+  abbrev pub IntersectionSteps : Sifted T S 1 H → Option (Bor T) → Sifted T S 1 H → Type 0
+  IntersectionSteps = SiftedSteps true
+
+  -- ---- the elements that the other set lacks
+
+  abbrev pub difference_rest : Sifted T S 0 H → List T
+  difference_rest = sifted_rest false
+
+  abbrev pub DifferenceSteps : Sifted T S 0 H → Option (Bor T) → Sifted T S 0 H → Type 0
+  DifferenceSteps = SiftedSteps false
 
   -- ---- the elements of either set
 

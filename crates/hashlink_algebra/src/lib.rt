@@ -3,15 +3,13 @@
 //! hashes each element that it looks up in the other set, once.
 #![tactic(auto)]
 
-mod difference;
-mod intersection;
 mod iter;
 mod lookup;
+mod sifted;
 mod symmetric_difference;
 mod union;
 
-pub use difference::Difference;
-pub use intersection::Intersection;
 pub use iter::Iter;
+pub use sifted::{Difference, Intersection};
 pub use symmetric_difference::SymmetricDifference;
 pub use union::Union;

@@ -6,7 +6,7 @@ ghost use Rattle.std.specs.List.{IsDistinct};
 ghost use Rattle.hashlink_model.specs.Algebra.{symmetric_difference_hint, symmetric_difference_of};
 ghost use Rattle.hashlink_algebra.specs.Elements.{elements_in};
 
-use crate::difference::Difference;
+use crate::sifted::Difference;
 use hashlink_map::{DefaultHashBuilder, LinkedHashMap};
 use std::alloc::AllocError;
 use std::fmt;

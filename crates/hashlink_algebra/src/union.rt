@@ -6,8 +6,8 @@ ghost use Rattle.std.specs.List.{IsDistinct};
 ghost use Rattle.hashlink_model.specs.Algebra.{union_hint, union_of};
 ghost use Rattle.hashlink_algebra.specs.Elements.{elements_in};
 
-use crate::difference::Difference;
 use crate::iter::Iter;
+use crate::sifted::Difference;
 use hashlink_map::{DefaultHashBuilder, LinkedHashMap};
 use std::alloc::AllocError;
 use std::fmt;

@@ -4,16 +4,14 @@ ghost use Rattle.std.specs.Iterator.{at_most, UpTo};
 ghost use Rattle.std.specs.Iterator.SizeHint.{IsWithinCount};
 ghost use Rattle.std.specs.Map.Iter.{TakesFirst, TakesLast, deref_pair};
 
-mod keys;
-mod values;
+mod parts;
 
 use hashlink_nodes::{Node, Nodes};
-pub use keys::Keys;
+pub use parts::{Keys, Values};
 use std::alloc::AllocError;
 use std::fmt;
 use std::iter::FusedIterator;
 use std::marker::Model;
-pub use values::Values;
 
 /// An iterator over the entries, from front to back. Contracts see it as the list of the pairs that are left.
 #[derive(Drop)]

@@ -1,7 +1,8 @@
 -- The places next to a place of a sound ring.
-use Rattle.std.proofs.Common.{◌≡◌, ℕ, true, false, List, [], ◌∷◌, ◌++◌, Option, None, Some, refl, sym, ap}
-use Rattle.std.proofs.Common.{◌∙◌, subst}
+use Rattle.std.proofs.Common.{◌≡◌, ℕ, Bool, true, false, List, [], ◌∷◌, ◌++◌, Option, None, Some, refl, sym}
+use Rattle.std.proofs.Common.{ap, ◌∙◌, subst}
 use Rattle.std.proofs.Common.{◌⊎◌, inl, inr}
+use Rattle.std.specs.Bool.{then_some}
 use Rattle.std.specs.Prelude.{is_some, unwrap_or, slice_get}
 use Rattle.std.specs.List.{AllByRecursion}
 use Rattle.std.specs.Map.{keys_of}
@@ -122,17 +123,14 @@ module _ {K V : Type 0} where
               e);
         }
 
-  pub tells_bare : (s : State K V) (r : Node) (answer : Option Node) → Tells s r answer
-      → is_some (s.held r) ≡ false
-      → None ≡ answer
-  tells_bare s r answer (inl t) bare = sym t.1
-  tells_bare s r answer (inr t) bare = absurd (cc (sym bare ∙ t.0))
-
-  pub tells_full : (s : State K V) (r : Node) (answer : Option Node) → Tells s r answer
-      → is_some (s.held r) ≡ true
-      → Some r ≡ answer
-  tells_full s r answer (inl t) full = absurd (cc (sym (ap is_some t.0) ∙ full))
-  tells_full s r answer (inr t) full = sym t.1
+  -- what is returned where the node is tested for an entry
+  pub tells : (s : State K V) (r : Node) (answer : Option Node) → Tells s r answer → (full : Bool)
+      → is_some (s.held r) ≡ full
+      → then_some full r ≡ answer
+  tells s r answer (inl t) true is = absurd (cc (sym is ∙ ap is_some t.0))
+  tells s r answer (inl t) false is = sym t.1
+  tells s r answer (inr t) true is = sym t.1
+  tells s r answer (inr t) false is = absurd (cc (sym is ∙ t.0))
 
   pub no_next : (s : State K V) (guard : Option Node) (first : Node) (len spare : ℕ) (v : Ring K V)
       → ring_of s guard first len spare ≡ v → guard ≡ None → (place : Option Node)

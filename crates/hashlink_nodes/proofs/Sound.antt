@@ -2,7 +2,7 @@
 use Rattle.std.proofs.Common.{◌≡◌, ℕ, zero, suc, ◌+◌, ◌-◌, ◌^◌, ◌<◌, true, false, List, [], ◌∷◌, ◌++◌, length}
 use Rattle.std.proofs.Common.{Option}
 use Rattle.std.proofs.Common.{None, Some, refl, sym, ap, ◌∙◌, subst, arith}
-use Rattle.std.specs.Prelude.{IfSome}
+use Rattle.std.specs.Prelude.{IfSome, IsSome}
 use Rattle.std.specs.List.{AllByRecursion, IsDistinct}
 use Rattle.std.specs.Map.{lookup, keys_of}
 use Rattle.std.proofs.lemmas.List.{length-append, append_assoc}
@@ -38,6 +38,10 @@ none_some e = cc
 
 pub same_some : {X : Type 0} {x y : X} → Some x ≡ Some y → x ≡ y
 same_some e = cc
+
+pub some_unless : {X : Type 0} (o : Option X) → (o ≡ None → ⊥) → IsSome o
+some_unless None h = absurd (h refl)
+some_unless (Some x) h = refl
 
 module _ {K V : Type 0} where
   -- a shaped ring of the nodes ns and the spare fs is sound, and is seen so

@@ -16,10 +16,7 @@ impl<K, V> Nodes<K, V> {
         ensures free { self.new.free ≡ self.old.free }
         ensures link_writes { self.new.link_writes ≡ self.old.link_writes + 6 }
     {
-        let guard = match self.guard {
-            Some(guard) => guard,
-            None => unreachable!(),
-        };
+        let guard = self.guard.unwrap();
         self.cells.detach(node);
         let next = place.unwrap_or(guard);
         let prev = self.cells.prev(next);
@@ -34,10 +31,7 @@ impl<K, V> Nodes<K, V> {
         ensures free { self.new.free ≡ self.old.free }
         ensures link_writes { self.new.link_writes ≡ self.old.link_writes + 6 }
     {
-        let guard = match self.guard {
-            Some(guard) => guard,
-            None => unreachable!(),
-        };
+        let guard = self.guard.unwrap();
         self.cells.detach(node);
         let before = place.unwrap_or(guard);
         let after = self.cells.next(before);

@@ -36,16 +36,9 @@ impl<K, V> Nodes<K, V> {
         ensures place { result ≡ next_place (keys_of self.now.entries) place }
         ensures apart { IsDistinct same_node (keys_of self.now.entries ++ self.now.free) }
     {
-        let guard = match self.guard {
-            Some(guard) => guard,
-            None => return None,
-        };
+        let guard = self.guard?;
         let next = self.cells.next(place.unwrap_or(guard));
-        if self.cells.is_full(next) {
-            Some(next)
-        } else {
-            None
-        }
+        self.cells.is_full(next).then_some(next)
     }
 
     /// Returns the place before a place: before the guard comes the last node, and before the first node the
@@ -56,16 +49,9 @@ impl<K, V> Nodes<K, V> {
         ensures place { result ≡ prev_place (keys_of self.now.entries) place }
         ensures apart { IsDistinct same_node (keys_of self.now.entries ++ self.now.free) }
     {
-        let guard = match self.guard {
-            Some(guard) => guard,
-            None => return None,
-        };
+        let guard = self.guard?;
         let prev = self.cells.prev(place.unwrap_or(guard));
-        if self.cells.is_full(prev) {
-            Some(prev)
-        } else {
-            None
-        }
+        self.cells.is_full(prev).then_some(prev)
     }
 
     /// Returns the node's key and value.

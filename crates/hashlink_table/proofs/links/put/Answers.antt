@@ -1,5 +1,5 @@
-use Rattle.std.proofs.Common.{◌≡◌, ◌%◌, length, false, Option, Some, None, IsSome, IsTrue, ◌∷◌, ◌++◌, slice_set, refl, sym}
-use Rattle.std.proofs.Common.{ap, ◌∙◌, subst}
+use Rattle.std.proofs.Common.{◌≡◌, ◌%◌, length, false, Option, Some, None, IsSome, IsTrue, ◌∷◌, ◌++◌}
+use Rattle.std.proofs.Common.{slice_set, refl, sym, ap, ◌∙◌, subst}
 use Rattle.std.proofs.lemmas.Bool.{false≢true}
 use Rattle.std.proofs.lemmas.Option.{same_Some}
 use Rattle.hashlink_table.specs.declared.kept.Kept.{Kept}

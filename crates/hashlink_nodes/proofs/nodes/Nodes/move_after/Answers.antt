@@ -1,14 +1,16 @@
 use Rattle.std.proofs.Common.{ap, ◌∙◌}
 use Rattle.hashlink_nodes.specs.Cells.{state_of}
 use Rattle.hashlink_nodes.specs.State.{State}
-use Rattle.hashlink_nodes.proofs.Sound.{node_of, has_detached, guard_there, opened}
+use Rattle.hashlink_nodes.proofs.Sound.{node_of, has_detached, guard_there, some_unless, opened}
 use Rattle.hashlink_nodes.proofs.Moving.{after_steps, move_after_done}
 use Rattle.hashlink_nodes.proofs.nodes.Nodes.move_after.Goals as goal
 
-pub unreachable-requires : goal.unreachable-requires
-unreachable-requires g c =
-    guard_there (state_of c.self.inside.cells) c.self.inside.guard c.self.inside.first_spare c.self.inside.len
-    c.self.inside.spare c.args.self.now c.self.view_is c.args.node c.requires.node c.in-None.is
+pub unwrap-guard-requires : goal.unwrap-guard-requires
+unwrap-guard-requires g c =
+    some_unless c.self.inside.guard
+    (guard_there (state_of c.self.inside.cells) c.self.inside.guard c.self.inside.first_spare
+    c.self.inside.len
+    c.self.inside.spare c.args.self.now c.self.view_is c.args.node c.requires.node)
 
 pub detach-requires-clause-node : goal.detach-requires-clause-node
 detach-requires-clause-node g c =
@@ -32,10 +34,12 @@ next-after-requires g c =
     ∙ ap (λ f. f c.unwrap_or-before.result) (has_detached (state_of c.self.inside.cells) c.args.node))
     ∙ ap (state_of c.self.inside.cells).has c.unwrap_or-before.ensures
     ∙
-    (after_steps (state_of c.self.inside.cells) c.self.inside.guard c.in-Some.guard c.self.inside.first_spare
+    (after_steps (state_of c.self.inside.cells) c.self.inside.guard c.unwrap-guard.result
+    c.self.inside.first_spare
     c.self.inside.len c.self.inside.spare c.args.self.now
-    (opened (state_of c.self.inside.cells) c.self.inside.guard c.in-Some.guard c.self.inside.first_spare
-    c.self.inside.len c.self.inside.spare c.self.invariant c.in-Some.is c.args.self.now c.self.view_is)
+    (opened (state_of c.self.inside.cells) c.self.inside.guard c.unwrap-guard.result c.self.inside.first_spare
+    c.self.inside.len c.self.inside.spare c.self.invariant c.unwrap-guard.ensures
+    c.args.self.now c.self.view_is)
     c.args.node c.requires.node c.args.place c.requires.place).has_prev)
 
 pub attach-requires-clause-node : goal.attach-requires-clause-node
@@ -54,10 +58,12 @@ attach-requires-clause-prev g c =
     ∙ ap (λ f. f c.unwrap_or-before.result) (has_detached (state_of c.self.inside.cells) c.args.node))
     ∙ ap (state_of c.self.inside.cells).has c.unwrap_or-before.ensures
     ∙
-    (after_steps (state_of c.self.inside.cells) c.self.inside.guard c.in-Some.guard c.self.inside.first_spare
+    (after_steps (state_of c.self.inside.cells) c.self.inside.guard c.unwrap-guard.result
+    c.self.inside.first_spare
     c.self.inside.len c.self.inside.spare c.args.self.now
-    (opened (state_of c.self.inside.cells) c.self.inside.guard c.in-Some.guard c.self.inside.first_spare
-    c.self.inside.len c.self.inside.spare c.self.invariant c.in-Some.is c.args.self.now c.self.view_is)
+    (opened (state_of c.self.inside.cells) c.self.inside.guard c.unwrap-guard.result c.self.inside.first_spare
+    c.self.inside.len c.self.inside.spare c.self.invariant c.unwrap-guard.ensures
+    c.args.self.now c.self.view_is)
     c.args.node c.requires.node c.args.place c.requires.place).has_prev)
 
 pub attach-requires-clause-next : goal.attach-requires-clause-next
@@ -68,52 +74,58 @@ attach-requires-clause-next g c =
     ∙ ap (state_of c.self.inside.cells).has
     (c.next-after.ensures ∙ (λ i. (c.detach.ensures i).next (c.unwrap_or-before.ensures i)))
     ∙
-    (after_steps (state_of c.self.inside.cells) c.self.inside.guard c.in-Some.guard c.self.inside.first_spare
+    (after_steps (state_of c.self.inside.cells) c.self.inside.guard c.unwrap-guard.result
+    c.self.inside.first_spare
     c.self.inside.len c.self.inside.spare c.args.self.now
-    (opened (state_of c.self.inside.cells) c.self.inside.guard c.in-Some.guard c.self.inside.first_spare
-    c.self.inside.len c.self.inside.spare c.self.invariant c.in-Some.is c.args.self.now c.self.view_is)
+    (opened (state_of c.self.inside.cells) c.self.inside.guard c.unwrap-guard.result c.self.inside.first_spare
+    c.self.inside.len c.self.inside.spare c.self.invariant c.unwrap-guard.ensures
+    c.args.self.now c.self.view_is)
     c.args.node c.requires.node c.args.place c.requires.place).has_next)
 
 pub invariant_of-self : goal.invariant_of-self
 invariant_of-self g c =
-    (move_after_done (state_of c.self.inside.cells) c.self.inside.guard c.in-Some.guard
+    (move_after_done (state_of c.self.inside.cells) c.self.inside.guard c.unwrap-guard.result
     c.self.inside.first_spare
     c.self.inside.len c.self.inside.spare c.args.self.now
-    (opened (state_of c.self.inside.cells) c.self.inside.guard c.in-Some.guard c.self.inside.first_spare
-    c.self.inside.len c.self.inside.spare c.self.invariant c.in-Some.is c.args.self.now c.self.view_is)
+    (opened (state_of c.self.inside.cells) c.self.inside.guard c.unwrap-guard.result c.self.inside.first_spare
+    c.self.inside.len c.self.inside.spare c.self.invariant c.unwrap-guard.ensures
+    c.args.self.now c.self.view_is)
     c.args.node c.requires.node c.args.place c.requires.place (state_of c.detach.new.self)
     (state_of c.attach.new.self) c.unwrap_or-before.result c.next-after.result c.detach.ensures
     c.unwrap_or-before.ensures c.next-after.ensures c.attach.ensures).sound
 
 pub returns-clause-moved : goal.returns-clause-moved
 returns-clause-moved g c =
-    (move_after_done (state_of c.self.inside.cells) c.self.inside.guard c.in-Some.guard
+    (move_after_done (state_of c.self.inside.cells) c.self.inside.guard c.unwrap-guard.result
     c.self.inside.first_spare
     c.self.inside.len c.self.inside.spare c.args.self.now
-    (opened (state_of c.self.inside.cells) c.self.inside.guard c.in-Some.guard c.self.inside.first_spare
-    c.self.inside.len c.self.inside.spare c.self.invariant c.in-Some.is c.args.self.now c.self.view_is)
+    (opened (state_of c.self.inside.cells) c.self.inside.guard c.unwrap-guard.result c.self.inside.first_spare
+    c.self.inside.len c.self.inside.spare c.self.invariant c.unwrap-guard.ensures
+    c.args.self.now c.self.view_is)
     c.args.node c.requires.node c.args.place c.requires.place (state_of c.detach.new.self)
     (state_of c.attach.new.self) c.unwrap_or-before.result c.next-after.result c.detach.ensures
     c.unwrap_or-before.ensures c.next-after.ensures c.attach.ensures).moved
 
 pub returns-clause-free : goal.returns-clause-free
 returns-clause-free g c =
-    (move_after_done (state_of c.self.inside.cells) c.self.inside.guard c.in-Some.guard
+    (move_after_done (state_of c.self.inside.cells) c.self.inside.guard c.unwrap-guard.result
     c.self.inside.first_spare
     c.self.inside.len c.self.inside.spare c.args.self.now
-    (opened (state_of c.self.inside.cells) c.self.inside.guard c.in-Some.guard c.self.inside.first_spare
-    c.self.inside.len c.self.inside.spare c.self.invariant c.in-Some.is c.args.self.now c.self.view_is)
+    (opened (state_of c.self.inside.cells) c.self.inside.guard c.unwrap-guard.result c.self.inside.first_spare
+    c.self.inside.len c.self.inside.spare c.self.invariant c.unwrap-guard.ensures
+    c.args.self.now c.self.view_is)
     c.args.node c.requires.node c.args.place c.requires.place (state_of c.detach.new.self)
     (state_of c.attach.new.self) c.unwrap_or-before.result c.next-after.result c.detach.ensures
     c.unwrap_or-before.ensures c.next-after.ensures c.attach.ensures).free
 
 pub returns-clause-link_writes : goal.returns-clause-link_writes
 returns-clause-link_writes g c =
-    (move_after_done (state_of c.self.inside.cells) c.self.inside.guard c.in-Some.guard
+    (move_after_done (state_of c.self.inside.cells) c.self.inside.guard c.unwrap-guard.result
     c.self.inside.first_spare
     c.self.inside.len c.self.inside.spare c.args.self.now
-    (opened (state_of c.self.inside.cells) c.self.inside.guard c.in-Some.guard c.self.inside.first_spare
-    c.self.inside.len c.self.inside.spare c.self.invariant c.in-Some.is c.args.self.now c.self.view_is)
+    (opened (state_of c.self.inside.cells) c.self.inside.guard c.unwrap-guard.result c.self.inside.first_spare
+    c.self.inside.len c.self.inside.spare c.self.invariant c.unwrap-guard.ensures
+    c.args.self.now c.self.view_is)
     c.args.node c.requires.node c.args.place c.requires.place (state_of c.detach.new.self)
     (state_of c.attach.new.self) c.unwrap_or-before.result c.next-after.result c.detach.ensures
     c.unwrap_or-before.ensures c.next-after.ensures c.attach.ensures).writes

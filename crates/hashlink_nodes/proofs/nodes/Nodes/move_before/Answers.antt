@@ -1,14 +1,16 @@
 use Rattle.std.proofs.Common.{ap, ◌∙◌}
 use Rattle.hashlink_nodes.specs.Cells.{state_of}
 use Rattle.hashlink_nodes.specs.State.{State}
-use Rattle.hashlink_nodes.proofs.Sound.{node_of, has_detached, guard_there, opened}
+use Rattle.hashlink_nodes.proofs.Sound.{node_of, has_detached, guard_there, some_unless, opened}
 use Rattle.hashlink_nodes.proofs.Moving.{before_steps, move_before_done}
 use Rattle.hashlink_nodes.proofs.nodes.Nodes.move_before.Goals as goal
 
-pub unreachable-requires : goal.unreachable-requires
-unreachable-requires g c =
-    guard_there (state_of c.self.inside.cells) c.self.inside.guard c.self.inside.first_spare c.self.inside.len
-    c.self.inside.spare c.args.self.now c.self.view_is c.args.node c.requires.node c.in-None.is
+pub unwrap-guard-requires : goal.unwrap-guard-requires
+unwrap-guard-requires g c =
+    some_unless c.self.inside.guard
+    (guard_there (state_of c.self.inside.cells) c.self.inside.guard c.self.inside.first_spare
+    c.self.inside.len
+    c.self.inside.spare c.args.self.now c.self.view_is c.args.node c.requires.node)
 
 pub detach-requires-clause-node : goal.detach-requires-clause-node
 detach-requires-clause-node g c =
@@ -32,10 +34,12 @@ prev-prev-requires g c =
     ∙ ap (λ f. f c.unwrap_or-next.result) (has_detached (state_of c.self.inside.cells) c.args.node))
     ∙ ap (state_of c.self.inside.cells).has c.unwrap_or-next.ensures
     ∙
-    (before_steps (state_of c.self.inside.cells) c.self.inside.guard c.in-Some.guard c.self.inside.first_spare
+    (before_steps (state_of c.self.inside.cells) c.self.inside.guard c.unwrap-guard.result
+    c.self.inside.first_spare
     c.self.inside.len c.self.inside.spare c.args.self.now
-    (opened (state_of c.self.inside.cells) c.self.inside.guard c.in-Some.guard c.self.inside.first_spare
-    c.self.inside.len c.self.inside.spare c.self.invariant c.in-Some.is c.args.self.now c.self.view_is)
+    (opened (state_of c.self.inside.cells) c.self.inside.guard c.unwrap-guard.result c.self.inside.first_spare
+    c.self.inside.len c.self.inside.spare c.self.invariant c.unwrap-guard.ensures
+    c.args.self.now c.self.view_is)
     c.args.node c.requires.node c.args.place c.requires.place).has_next)
 
 pub attach-requires-clause-node : goal.attach-requires-clause-node
@@ -55,10 +59,12 @@ attach-requires-clause-prev g c =
     ∙ ap (state_of c.self.inside.cells).has
     (c.prev-prev.ensures ∙ (λ i. (c.detach.ensures i).prev (c.unwrap_or-next.ensures i)))
     ∙
-    (before_steps (state_of c.self.inside.cells) c.self.inside.guard c.in-Some.guard c.self.inside.first_spare
+    (before_steps (state_of c.self.inside.cells) c.self.inside.guard c.unwrap-guard.result
+    c.self.inside.first_spare
     c.self.inside.len c.self.inside.spare c.args.self.now
-    (opened (state_of c.self.inside.cells) c.self.inside.guard c.in-Some.guard c.self.inside.first_spare
-    c.self.inside.len c.self.inside.spare c.self.invariant c.in-Some.is c.args.self.now c.self.view_is)
+    (opened (state_of c.self.inside.cells) c.self.inside.guard c.unwrap-guard.result c.self.inside.first_spare
+    c.self.inside.len c.self.inside.spare c.self.invariant c.unwrap-guard.ensures
+    c.args.self.now c.self.view_is)
     c.args.node c.requires.node c.args.place c.requires.place).has_prev)
 
 pub attach-requires-clause-next : goal.attach-requires-clause-next
@@ -68,19 +74,22 @@ attach-requires-clause-next g c =
     ∙ ap (λ f. f c.unwrap_or-next.result) (has_detached (state_of c.self.inside.cells) c.args.node))
     ∙ ap (state_of c.self.inside.cells).has c.unwrap_or-next.ensures
     ∙
-    (before_steps (state_of c.self.inside.cells) c.self.inside.guard c.in-Some.guard c.self.inside.first_spare
+    (before_steps (state_of c.self.inside.cells) c.self.inside.guard c.unwrap-guard.result
+    c.self.inside.first_spare
     c.self.inside.len c.self.inside.spare c.args.self.now
-    (opened (state_of c.self.inside.cells) c.self.inside.guard c.in-Some.guard c.self.inside.first_spare
-    c.self.inside.len c.self.inside.spare c.self.invariant c.in-Some.is c.args.self.now c.self.view_is)
+    (opened (state_of c.self.inside.cells) c.self.inside.guard c.unwrap-guard.result c.self.inside.first_spare
+    c.self.inside.len c.self.inside.spare c.self.invariant c.unwrap-guard.ensures
+    c.args.self.now c.self.view_is)
     c.args.node c.requires.node c.args.place c.requires.place).has_next)
 
 pub invariant_of-self : goal.invariant_of-self
 invariant_of-self g c =
-    (move_before_done (state_of c.self.inside.cells) c.self.inside.guard c.in-Some.guard
+    (move_before_done (state_of c.self.inside.cells) c.self.inside.guard c.unwrap-guard.result
     c.self.inside.first_spare
     c.self.inside.len c.self.inside.spare c.args.self.now
-    (opened (state_of c.self.inside.cells) c.self.inside.guard c.in-Some.guard c.self.inside.first_spare
-    c.self.inside.len c.self.inside.spare c.self.invariant c.in-Some.is c.args.self.now c.self.view_is)
+    (opened (state_of c.self.inside.cells) c.self.inside.guard c.unwrap-guard.result c.self.inside.first_spare
+    c.self.inside.len c.self.inside.spare c.self.invariant c.unwrap-guard.ensures
+    c.args.self.now c.self.view_is)
     c.args.node c.requires.node c.args.place c.requires.place (state_of c.detach.new.self)
     (state_of c.attach.new.self) c.prev-prev.result c.unwrap_or-next.result c.detach.ensures
     c.unwrap_or-next.ensures
@@ -88,11 +97,12 @@ invariant_of-self g c =
 
 pub returns-clause-moved : goal.returns-clause-moved
 returns-clause-moved g c =
-    (move_before_done (state_of c.self.inside.cells) c.self.inside.guard c.in-Some.guard
+    (move_before_done (state_of c.self.inside.cells) c.self.inside.guard c.unwrap-guard.result
     c.self.inside.first_spare
     c.self.inside.len c.self.inside.spare c.args.self.now
-    (opened (state_of c.self.inside.cells) c.self.inside.guard c.in-Some.guard c.self.inside.first_spare
-    c.self.inside.len c.self.inside.spare c.self.invariant c.in-Some.is c.args.self.now c.self.view_is)
+    (opened (state_of c.self.inside.cells) c.self.inside.guard c.unwrap-guard.result c.self.inside.first_spare
+    c.self.inside.len c.self.inside.spare c.self.invariant c.unwrap-guard.ensures
+    c.args.self.now c.self.view_is)
     c.args.node c.requires.node c.args.place c.requires.place (state_of c.detach.new.self)
     (state_of c.attach.new.self) c.prev-prev.result c.unwrap_or-next.result c.detach.ensures
     c.unwrap_or-next.ensures
@@ -100,11 +110,12 @@ returns-clause-moved g c =
 
 pub returns-clause-free : goal.returns-clause-free
 returns-clause-free g c =
-    (move_before_done (state_of c.self.inside.cells) c.self.inside.guard c.in-Some.guard
+    (move_before_done (state_of c.self.inside.cells) c.self.inside.guard c.unwrap-guard.result
     c.self.inside.first_spare
     c.self.inside.len c.self.inside.spare c.args.self.now
-    (opened (state_of c.self.inside.cells) c.self.inside.guard c.in-Some.guard c.self.inside.first_spare
-    c.self.inside.len c.self.inside.spare c.self.invariant c.in-Some.is c.args.self.now c.self.view_is)
+    (opened (state_of c.self.inside.cells) c.self.inside.guard c.unwrap-guard.result c.self.inside.first_spare
+    c.self.inside.len c.self.inside.spare c.self.invariant c.unwrap-guard.ensures
+    c.args.self.now c.self.view_is)
     c.args.node c.requires.node c.args.place c.requires.place (state_of c.detach.new.self)
     (state_of c.attach.new.self) c.prev-prev.result c.unwrap_or-next.result c.detach.ensures
     c.unwrap_or-next.ensures
@@ -112,11 +123,12 @@ returns-clause-free g c =
 
 pub returns-clause-link_writes : goal.returns-clause-link_writes
 returns-clause-link_writes g c =
-    (move_before_done (state_of c.self.inside.cells) c.self.inside.guard c.in-Some.guard
+    (move_before_done (state_of c.self.inside.cells) c.self.inside.guard c.unwrap-guard.result
     c.self.inside.first_spare
     c.self.inside.len c.self.inside.spare c.args.self.now
-    (opened (state_of c.self.inside.cells) c.self.inside.guard c.in-Some.guard c.self.inside.first_spare
-    c.self.inside.len c.self.inside.spare c.self.invariant c.in-Some.is c.args.self.now c.self.view_is)
+    (opened (state_of c.self.inside.cells) c.self.inside.guard c.unwrap-guard.result c.self.inside.first_spare
+    c.self.inside.len c.self.inside.spare c.self.invariant c.unwrap-guard.ensures
+    c.args.self.now c.self.view_is)
     c.args.node c.requires.node c.args.place c.requires.place (state_of c.detach.new.self)
     (state_of c.attach.new.self) c.prev-prev.result c.unwrap_or-next.result c.detach.ensures
     c.unwrap_or-next.ensures

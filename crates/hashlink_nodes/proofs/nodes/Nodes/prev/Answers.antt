@@ -1,20 +1,22 @@
-use Rattle.std.proofs.Common.{ap, sym, ◌∙◌, Some}
+use Rattle.std.proofs.Common.{ap, sym, ◌∙◌}
+use Rattle.std.specs.Bool.{then_some}
 use Rattle.std.specs.Prelude.{is_some, unwrap_or}
 use Rattle.hashlink_nodes.specs.declared.node.Node.{Node}
 use Rattle.std.specs.Map.{keys_of}
 use Rattle.hashlink_nodes.specs.Cells.{state_of}
 use Rattle.hashlink_nodes.specs.Ring.{prev_place}
 use Rattle.hashlink_nodes.proofs.Sound.{facts, opened}
-use Rattle.hashlink_nodes.proofs.Neighbours.{prev_to_place, tells_bare, tells_full, no_prev}
+use Rattle.hashlink_nodes.proofs.Neighbours.{prev_to_place, tells, no_prev}
 use Rattle.hashlink_nodes.proofs.nodes.Nodes.prev.Goals as goal
 
-pub returns-in-None-clause-place : goal.returns-in-None-clause-place
-returns-in-None-clause-place g c =
-    no_prev (state_of c.self.inside.cells) c.self.inside.guard c.self.inside.first_spare c.self.inside.len
-    c.self.inside.spare c.args.self.now c.self.view_is c.in-None.is c.args.place
+pub returns-in_err-guard-clause-place : goal.returns-in_err-guard-clause-place
+returns-in_err-guard-clause-place g c =
+    c.from_residual.ensures
+    ∙ no_prev (state_of c.self.inside.cells) c.self.inside.guard c.self.inside.first_spare c.self.inside.len
+    c.self.inside.spare c.args.self.now c.self.view_is c.in_err-guard.was c.args.place
 
-pub returns-in-None-clause-apart : goal.returns-in-None-clause-apart
-returns-in-None-clause-apart g c =
+pub returns-in_err-guard-clause-apart : goal.returns-in_err-guard-clause-apart
+returns-in_err-guard-clause-apart g c =
     (facts (state_of c.self.inside.cells) c.self.inside.guard c.self.inside.first_spare c.self.inside.len
     c.self.inside.spare c.self.invariant c.args.self.now c.self.view_is).differ
 
@@ -22,11 +24,11 @@ pub prev-prev-requires : goal.prev-prev-requires
 prev-prev-requires g c =
     ap (state_of c.self.inside.cells).has c.unwrap_or.ensures
     ∙
-    (prev_to_place (state_of c.self.inside.cells) c.self.inside.guard c.in-Some.guard
+    (prev_to_place (state_of c.self.inside.cells) c.self.inside.guard c.in_ok-guard.guard
     c.self.inside.first_spare
     c.self.inside.len c.self.inside.spare c.args.self.now
-    (opened (state_of c.self.inside.cells) c.self.inside.guard c.in-Some.guard c.self.inside.first_spare
-    c.self.inside.len c.self.inside.spare c.self.invariant c.in-Some.is c.args.self.now c.self.view_is)
+    (opened (state_of c.self.inside.cells) c.self.inside.guard c.in_ok-guard.guard c.self.inside.first_spare
+    c.self.inside.len c.self.inside.spare c.self.invariant c.in_ok-guard.was c.args.self.now c.self.view_is)
     c.args.place c.requires).has_place
 
 pub is_full-requires : goal.is_full-requires
@@ -34,50 +36,29 @@ is_full-requires g c =
     ap (state_of c.self.inside.cells).has
     (c.prev-prev.ensures ∙ ap (state_of c.self.inside.cells).prev c.unwrap_or.ensures)
     ∙
-    (prev_to_place (state_of c.self.inside.cells) c.self.inside.guard c.in-Some.guard
+    (prev_to_place (state_of c.self.inside.cells) c.self.inside.guard c.in_ok-guard.guard
     c.self.inside.first_spare
     c.self.inside.len c.self.inside.spare c.args.self.now
-    (opened (state_of c.self.inside.cells) c.self.inside.guard c.in-Some.guard c.self.inside.first_spare
-    c.self.inside.len c.self.inside.spare c.self.invariant c.in-Some.is c.args.self.now c.self.view_is)
+    (opened (state_of c.self.inside.cells) c.self.inside.guard c.in_ok-guard.guard c.self.inside.first_spare
+    c.self.inside.len c.self.inside.spare c.self.invariant c.in_ok-guard.was c.args.self.now c.self.view_is)
     c.args.place c.requires).has_answer
 
-pub returns-then-is_full-clause-place : goal.returns-then-is_full-clause-place
-returns-then-is_full-clause-place g c =
-    ap Some (c.prev-prev.ensures ∙ ap (state_of c.self.inside.cells).prev c.unwrap_or.ensures)
-    ∙ tells_full (state_of c.self.inside.cells)
-    ((state_of c.self.inside.cells).prev (unwrap_or c.args.place c.in-Some.guard))
+pub returns-clause-place : goal.returns-clause-place
+returns-clause-place g c =
+    let s = state_of c.self.inside.cells in
+    let is = c.prev-prev.ensures ∙ ap s.prev c.unwrap_or.ensures in
+    c.then_some.ensures ∙ ap (then_some c.is_full.result) is
+    ∙ tells s (s.prev (unwrap_or c.args.place c.in_ok-guard.guard))
     (prev_place (keys_of c.args.self.now.entries) c.args.place)
-    (prev_to_place (state_of c.self.inside.cells) c.self.inside.guard c.in-Some.guard
+    (prev_to_place (state_of c.self.inside.cells) c.self.inside.guard c.in_ok-guard.guard
     c.self.inside.first_spare
     c.self.inside.len c.self.inside.spare c.args.self.now
-    (opened (state_of c.self.inside.cells) c.self.inside.guard c.in-Some.guard c.self.inside.first_spare
-    c.self.inside.len c.self.inside.spare c.self.invariant c.in-Some.is c.args.self.now c.self.view_is)
+    (opened (state_of c.self.inside.cells) c.self.inside.guard c.in_ok-guard.guard c.self.inside.first_spare
+    c.self.inside.len c.self.inside.spare c.self.invariant c.in_ok-guard.was c.args.self.now c.self.view_is)
     c.args.place c.requires).tells
-    (ap (λ (m : Node). is_some ((state_of c.self.inside.cells).held m))
-    (sym (c.prev-prev.ensures ∙ ap (state_of c.self.inside.cells).prev c.unwrap_or.ensures))
-    ∙ c.is_full.ensures ∙ c.if-is_full.true)
+    c.is_full.result (ap (λ (m : Node). is_some (s.held m)) (sym is) ∙ c.is_full.ensures)
 
-pub returns-then-is_full-clause-apart : goal.returns-then-is_full-clause-apart
-returns-then-is_full-clause-apart g c =
-    (facts (state_of c.self.inside.cells) c.self.inside.guard c.self.inside.first_spare c.self.inside.len
-    c.self.inside.spare c.self.invariant c.args.self.now c.self.view_is).differ
-
-pub returns-else-is_full-clause-place : goal.returns-else-is_full-clause-place
-returns-else-is_full-clause-place g c =
-    tells_bare (state_of c.self.inside.cells)
-    ((state_of c.self.inside.cells).prev (unwrap_or c.args.place c.in-Some.guard))
-    (prev_place (keys_of c.args.self.now.entries) c.args.place)
-    (prev_to_place (state_of c.self.inside.cells) c.self.inside.guard c.in-Some.guard
-    c.self.inside.first_spare
-    c.self.inside.len c.self.inside.spare c.args.self.now
-    (opened (state_of c.self.inside.cells) c.self.inside.guard c.in-Some.guard c.self.inside.first_spare
-    c.self.inside.len c.self.inside.spare c.self.invariant c.in-Some.is c.args.self.now c.self.view_is)
-    c.args.place c.requires).tells
-    (ap (λ (m : Node). is_some ((state_of c.self.inside.cells).held m))
-    (sym (c.prev-prev.ensures ∙ ap (state_of c.self.inside.cells).prev c.unwrap_or.ensures))
-    ∙ c.is_full.ensures ∙ c.if-is_full.false)
-
-pub returns-else-is_full-clause-apart : goal.returns-else-is_full-clause-apart
-returns-else-is_full-clause-apart g c =
+pub returns-clause-apart : goal.returns-clause-apart
+returns-clause-apart g c =
     (facts (state_of c.self.inside.cells) c.self.inside.guard c.self.inside.first_spare c.self.inside.len
     c.self.inside.spare c.self.invariant c.args.self.now c.self.view_is).differ
