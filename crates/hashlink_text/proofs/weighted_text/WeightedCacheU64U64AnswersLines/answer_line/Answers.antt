@@ -1,6 +1,6 @@
 use Rattle.std.proofs.Common.{codes, refl, sym}
 use Rattle.std.proofs.lemmas.Result.{on_ok_weaker}
-use Rattle.hashlink_text.proofs.weighted_text.answer_weighted_line.Goals as goal
+use Rattle.hashlink_text.proofs.weighted_text.WeightedCacheU64U64AnswersLines.answer_line.Goals as goal
 
 pub returns-in-None : goal.returns-in-None
 returns-in-None c =

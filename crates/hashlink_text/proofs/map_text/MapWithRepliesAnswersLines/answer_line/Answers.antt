@@ -5,7 +5,7 @@ use Rattle.hashlink_steps.specs.Keeps.{IsEven}
 use Rattle.hashlink_text.specs.Transcript.{Itself, ended, form_of, replies_shown}
 use Rattle.hashlink_steps.proofs.Wider.{step-wider}
 use Rattle.hashlink_text.proofs.ShownLines.{shows-command}
-use Rattle.hashlink_text.proofs.text.answer.Goals as goal
+use Rattle.hashlink_text.proofs.map_text.MapWithRepliesAnswersLines.answer_line.Goals as goal
 
 pub returns-in-None : goal.returns-in-None
 returns-in-None c =
@@ -26,8 +26,8 @@ returns-in_ok-answer_command-in-Some-Do c =
     read ∙ ap (λ x. (x, s.value.now)) s.shows.0 ∙ ap (λ y. (k, y)) s.shows.1) _ IsEven
     (λ k v b s. let even : b ≡ nat_eq (s.value.now % 2) 0 = search rules in
     even ∙ ap (λ y. nat_eq (y % 2) 0) s.shows.1) nat_eq
-    (state_of c.args.map.now) answered.0 (state_of c.answer_command.new.map) command answered.1 in
-    let shows = shows-command (state_of c.args.map.now) (state_of c.answer_command.new.map)
+    (state_of c.args.self.now.map) answered.0 (state_of c.answer_command.new.map) command answered.1 in
+    let shows = shows-command (state_of c.args.self.now.map) (state_of c.answer_command.new.map)
     command answered.0 step in
     rw (sym line)
     (on_ok_weaker c.push_replies.result
