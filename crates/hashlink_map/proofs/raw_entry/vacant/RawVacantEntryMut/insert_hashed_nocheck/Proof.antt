@@ -1,10 +1,10 @@
--- `insert` lends the pair of the entry that `insert_entry` answers.
+-- `insert_hashed_nocheck` lends the pair of the entry that `insert_entry_hashed_nocheck` answers.
 use Rattle.std.proofs.Common.{◌≡◌, List, [], ◌∷◌, refl, sym, subst}
-use base.Logic.{SProp, ent, emp, id⊢, via}
+use base.Logic.{SProp, ent, sep, emp, id⊢, via}
 use base.Fml.{ftrue, fsep}
-use mir.Syntax.{a_type, dcons, dnil}
+use mir.Syntax.{a_type, w64, dcons, dnil}
 use mir.MapTy.{inst_fn}
-use mir.Val.{Val}
+use mir.Val.{Val, vint}
 use prog.Wp.{WpFn}
 use types.Logic.{sem}
 use types.Kit.{‵, raw, ◌⊛◌, some, later, ◌$◌, ◌∵◌, !, qed, by, move, keep, drop, split, join, fjoin, pick}
@@ -16,7 +16,8 @@ use contract.BorrowLft.{◌⊑◌}
 use contract.Lifetimes.{Lfts}
 use contract.Monad.{fact, fact_i}
 use contract.Running.{tables}
-use denote.Exit.{no}
+use denote.Builtin.{u64}
+use denote.Exit.{no, yes}
 use denote.Laws.{Is, shows}
 use denote.Param.{bounded, param}
 use denote.Param.Laws.{param_laws}
@@ -40,16 +41,16 @@ use Rattle.hashlink_map.proofs.PairRows.{Answer, answer_laws, Entered, entered_l
 use Rattle.hashlink_map.proofs.PairTies.{ok_carried, err_carried, carries, IsLent, IsHandedOn, new_written}
 use Rattle.hashlink_map.proofs.PairTies.{new_parts}
 use Rattle.hashlink_map.proofs.PairValues.{value_of}
-use Rattle.hashlink_map.specs.contracts.raw_entry.RawVacantEntryMut.insert as f
-use Rattle.hashlink_map.specs.contracts.raw_entry.RawVacantEntryMut.insert_entry as enters
+use Rattle.hashlink_map.specs.contracts.raw_entry.vacant.RawVacantEntryMut.insert_hashed_nocheck as f
+use Rattle.hashlink_map.specs.contracts.raw_entry.vacant.RawVacantEntryMut.insert_entry_hashed_nocheck as puts
 use Rattle.hashlink_map.specs.contracts.raw_entry.occupied.RawOccupiedEntryMut+K+V+S.pair_of as lends
-use Rattle.hashlink_map.proofs.raw_entry.RawVacantEntryMut.insert_entry.Met as entered
+use Rattle.hashlink_map.proofs.raw_entry.vacant.RawVacantEntryMut.insert_entry_hashed_nocheck.Met as entered
 use Rattle.hashlink_map.proofs.raw_entry.occupied.RawOccupiedEntryMut+K+V+S.pair_of.Met as lent
-use Rattle.hashlink_map.proofs.raw_entry.RawVacantEntryMut.insert.Statement.{statement}
-use Rattle.hashlink_map.proofs.raw_entry.RawVacantEntryMut.insert.Code as code
+use Rattle.hashlink_map.proofs.raw_entry.vacant.RawVacantEntryMut.insert_hashed_nocheck.Statement.{statement}
+use Rattle.hashlink_map.proofs.raw_entry.vacant.RawVacantEntryMut.insert_hashed_nocheck.Code as code
 
-pub insert_spec : {M : Type 1} → statement M
-insert_spec 𝓤 𝓛 𝓜 𝓡 wired K V S T LK LV LS LT e de p dp h dh b db w dw dd me mp mh mb mw md =
+pub insert_hashed_nocheck_spec : {M : Type 1} → statement M
+insert_hashed_nocheck_spec 𝓤 𝓛 𝓜 𝓡 wired K V S T LK LV LS LT e de p dp h dh b db w dw dd me mp mh mb mw md =
     let H = 𝓛.H in let 𝓣 = tables 𝓤 H 𝓜 𝓡 𝓡.env in
     let En = f.ended K V S T e de p dp h dh b db w dw dd in
     let c = f.clauses K V S T e de p dp h dh b db w dw dd 𝓛 𝓜.mem 𝓡.returns in
@@ -58,45 +59,71 @@ insert_spec 𝓤 𝓛 𝓜 𝓡 wired K V S T LK LV LS LT e de p dp h dh b db w 
     let fn = inst_fn inst code.function in
     let KR : RattleType = param 0 K in let VR : RattleType = param 1 V in
     let self = plain (λ (κs : Lfts 5). Vacant K V LK LV κs.0 S T LS LT p h b w) in
-    let key = plain (λ (κs : Lfts 5). KR) in let value = plain (λ (κs : Lfts 5). VR) in
+    let number = plain (λ (κs : Lfts 5). u64) in let key = plain (λ (κs : Lfts 5). KR) in
+    let value = plain (λ (κs : Lfts 5). VR) in
     let hs : Stays En.signature.params En.kept
-    = (stay_dropped self no, (stay_dropped key no, (stay_dropped value no, tt))) in
+    = (stay_dropped self no, (stay_dropped number yes, (stay_dropped key no, (stay_dropped value no, tt)))) in
     proved_at 𝓛 En hs c 𝓜 𝓡 (
       λ κs x f us ok. via 𝓤 (sem 𝓛 (fsep ftrue ftrue)) (qed 𝓛 (‵ ftrue ∷ []) ∵ nothing ! $ fjoin ! $ done !)
           (𝓛.laws.⇛_intro (sem 𝓛 (fsep ftrue ftrue))),
-      (Goes-dropped 𝓛 5 key no (λ κs x f. refl), (Goes-dropped 𝓛 5 value no (λ κs x f. refl), tt)),
+      (
+        Goes-dropped 𝓛 5 number yes (λ κs x f. refl),
+        (
+          Goes-dropped 𝓛 5 key no (λ κs x f. refl),
+          (Goes-dropped 𝓛 5 value no (λ κs x f. refl), tt),
+        ),
+      ),
     )
     (f.Key.name inst) fn (code.unfolded 𝓤 H 𝓜 𝓡 wired (K, (V, (S, (T, tt)))) de dp dh db dw dd) (λ z are.
     let κs = z.0.0 in let qs = z.0.1 in let a = z.0.3 in let κ = κs.0 in
     let W = walk_of 𝓛 En hs c in
     let self_at = value_of 𝓛 (Vacant K V LK LV κ S T LS LT p h b w)
     (vacant_laws K V LK LV κ S T LS LT p h b w) a.0 z.0.4.0 are.0 in
-    let key_at = value_of 𝓛 KR (param_laws 0 K LK) a.1.0 z.0.4.1.0 are.1.0 in
-    let value_at = value_of 𝓛 VR (param_laws 1 V LV) a.1.1.0 z.0.4.1.1.0 are.1.1.0 in
-    let vs : List Val = self_at.0 ∷ key_at.0 ∷ value_at.0 ∷ [] in
+    let key_at = value_of 𝓛 KR (param_laws 0 K LK) a.1.1.0 z.0.4.1.1.0 are.1.1.0 in
+    let value_at = value_of 𝓛 VR (param_laws 1 V LV) a.1.1.1.0 z.0.4.1.1.1.0 are.1.1.1.0 in
+    let vs : List Val = self_at.0 ∷ vint w64 a.1.0 ∷ key_at.0 ∷ value_at.0 ∷ [] in
     let At : Valss (types_at En.signature.params κs) → W.Ghost = λ vss. ((κs, qs, z.0.2, a, vss), z.1) in
-    let vss : Valss (types_at En.signature.params κs) =
-    (self_at.0 ∷ [], (key_at.0 ∷ [], (value_at.0 ∷ [], tt))) in
+    let vss : Valss (types_at En.signature.params κs) = (
+      self_at.0 ∷ [],
+      (
+        vint w64 a.1.0 ∷ [],
+        (
+          key_at.0 ∷ [],
+          (value_at.0 ∷ [], tt),
+        ),
+      ),
+    ) in
     let Post : Val → SProp 𝓤 = W.post (At vss) in
-    let Y = triple_of 𝓛 (enters.signature K V S T e de p dp h dh b db w dw dd)
-    (enters.spec K V S T e de p dp h dh b db w dw dd 𝓛 𝓜.mem 𝓡.returns) in
+    let Y = triple_of 𝓛 (puts.signature K V S T e de p dp h dh b db w dw dd)
+    (puts.spec K V S T e de p dp h dh b db w dw dd 𝓛 𝓜.mem 𝓡.returns) in
     let y : Y.Ghost = ((κs, qs, z.0.2, a, vss), tt) in
     let Again : SProp 𝓤 → SProp 𝓤 = Asks 𝓤 (κs.1.0 ⊑ K.lives) (κs.1.1.0 ⊑ V.lives) (κs.1.1.1.0 ⊑ S.lives)
     (κs.1.1.1.1.0 ⊑ T.lives) in
-    let Rest : SProp 𝓤 = f.requires-absent K V S T e de p dp h dh b db w dw dd 𝓛 κs 𝓜.mem 𝓡.returns a.0 a.1.0
-    a.1.1.0 in
+    let Rest : SProp 𝓤 = sep 𝓤
+    (f.requires-absent K V S T e de p dp h dh b db w dw dd 𝓛 κs 𝓜.mem 𝓡.returns a.0 a.1.0 a.1.1.0 a.1.1.1.0)
+    (f.requires-hash K V S T e de p dp h dh b db w dw dd 𝓛 κs 𝓜.mem 𝓡.returns a.0 a.1.0 a.1.1.0 a.1.1.1.0) in
     subst (λ (us : Valss (types_at En.signature.params κs)). ent 𝓤 (W.pre (At us))
     (WpFn 𝓤 H 𝓣.C 𝓣.Λ fn (W.args
     (At us)) (W.post (At us))))
-    (λ i. (sym self_at.1 i, (sym key_at.1 i, (sym value_at.1 i, tt)))) (
+    (λ i. (sym self_at.1 i, (sym are.1.0.0 i, (sym key_at.1 i, (sym value_at.1 i, tt))))) (
     qed 𝓛 (raw (on_entry 𝓛 En.signature κs qs a vss) ∷ raw ((c κs a).requires z.1) ∷ []) ∵ move ! (1 ∷ []) $
     use1 𝓛 (raw (Again (Rest)) ⊛ raw (Again (emp 𝓤))) (asks_again 𝓤 (κs.1.0 ⊑ K.lives) (κs.1.1.0 ⊑ V.lives)
     (κs.1.1.1.0 ⊑ S.lives) (κs.1.1.1.1.0 ⊑ T.lives) 𝓛 Rest) $ split ! $
     move ! (2 ∷ 0 ∷ []) $ join ! $ use1 𝓛 (raw (Y.pre y)) (id⊢ 𝓤 (Y.pre y)) $
-    enter ! 𝓣.C 𝓣.Λ fn vs Post $ alloc_all ! (λ l. pass_all ! refl (self_at.2, (key_at.2, (value_at.2, tt))) $
+    enter ! 𝓣.C 𝓣.Λ fn vs Post $
+    alloc_all ! (λ l. pass_all ! refl (
+      self_at.2,
+      (
+        (tt, record { fits = are.1.0.1 }),
+        (
+          key_at.2,
+          (value_at.2, tt),
+        ),
+      ),
+    ) $
     sets ! (of_opd ! (get ! refl)) refl self_at.2 $ sets ! (of_opd ! (get ! refl)) refl key_at.2 $
     sets ! (of_opd ! (get ! refl)) refl value_at.2 $
-    let m = a.0.map in let old = state_of m.now in let k = a.1.0 in let u = a.1.1.0 in
+    let m = a.0.map in let old = state_of m.now in let k = a.1.1.0 in let u = a.1.1.1.0 in
     let In : RattleType = Entered K V LK LV κ S T LS LT p h b w in
     let Out : RattleType = Answer K V LK LV κ in
     let Rests : In.Denot → SProp 𝓤 = λ x. sem 𝓛 (HandsOnNew KR VR (param 2 S) (param 3 T) m k u x) in
@@ -106,12 +133,13 @@ insert_spec 𝓤 𝓛 𝓜 𝓡 wired K V S T LK LV LS LT e de p dp h dh b db w 
     (length (entries_of m.now))) in
     let Last : In.Denot → Type 0 = λ x. IfOk x (λ o. raw_place o ≡ length (entries_of m.now)) in
     let Back : In.Denot → Type 0 = λ x. IfErr x (λ e. e ≡ (k, u)) in
-    let E₁ = enters.ended K V S T e de p dp h dh b db w dw dd in
+    let E₁ = puts.ended K V S T e de p dp h dh b db w dw dd in
     calls_at ! (framed 𝓤 H 𝓜 𝓣) Y (entered.met 𝓤 𝓛 𝓜 𝓡
-    (code.calls-hashlink_map::raw_entry::RawVacantEntryMut::insert_entry 𝓡.env wired) K V
-    S T LK LV LS LT e de p dp
-    h dh b db w dw dd me mp mh mb mw md) y
-    (and_then ! (get ! refl) (and_then ! (get ! refl) (and_then ! (get ! refl) (no_more !)))) (λ v.
+    (code.calls-hashlink_map::raw_entry::vacant::RawVacantEntryMut::insert_entry_hashed_nocheck 𝓡.env wired)
+    K V S T LK LV
+    LS LT e de p dp h dh b db w dw dd me mp mh mb mw md) y
+    (and_then ! (get ! refl) (and_then ! (get ! refl) (and_then ! (get ! refl) (and_then ! (get ! refl)
+    (no_more !))))) (λ v.
     use1 𝓛 (later (some (λ (x : In.Denot). (raw (alive 𝓛 En.signature κs qs) ⊛ ‵ (In.own_val x (v ∷ []))) ⊛
     some
     (λ (ls : Lasts E₁ κs a). ‵ (lasts E₁ κs a ls) ⊛ (raw (Rests x) ⊛ raw (fact 𝓤 (Same x)) ⊛ raw (fact 𝓤
@@ -160,6 +188,7 @@ insert_spec 𝓤 𝓛 𝓜 𝓡 wired K V S T LK LV LS LT e de p dp h dh b db w 
     (fact_i 𝓤 (Back' r) (emp 𝓤) (err_carried x r (λ e. e ≡ (k, u)) given back)) $
     move ! (1 ∷ 0 ∷ []) $ join ! $ move ! (1 ∷ 0 ∷ []) $ join ! $
     -- [what is ensured; the result; the tokens]
-    nothing ! $ nothing ! $ fjoin ! $ nothing ! $ fjoin ! $ nothing ! $ fjoin ! $
+    nothing ! $ nothing ! $ fjoin ! $ nothing ! $ fjoin ! $ nothing ! $ fjoin ! $ nothing ! $ fjoin ! $
     keep ! (3 ∷ 0 ∷ 2 ∷ 1 ∷ []) $
-    by ! (leaves 𝓛 En hs c (At vss) v₂ r ((tt, tt), (tt, (tt, tt))) (tt, (tt, (tt, tt)))))))))))))))))))))
+    by ! (leaves 𝓛 En hs c (At vss) v₂ r ((tt, tt), (tt, (tt, (tt, tt))))
+    (tt, (tt, (tt, (tt, tt))))))))))))))))))))))

@@ -41,13 +41,13 @@ use Rattle.hashlink_map.proofs.PairRows.{Answer, answer_laws, Entered, entered_l
 use Rattle.hashlink_map.proofs.PairTies.{ok_carried, err_carried, carries, IsLent, IsHandedOn, new_written}
 use Rattle.hashlink_map.proofs.PairTies.{new_parts}
 use Rattle.hashlink_map.proofs.PairValues.{value_of}
-use Rattle.hashlink_map.specs.contracts.raw_entry.RawVacantEntryMut.insert_with_hasher as f
-use Rattle.hashlink_map.specs.contracts.raw_entry.RawVacantEntryMut.insert_entry_with_hasher as enters
+use Rattle.hashlink_map.specs.contracts.raw_entry.vacant.RawVacantEntryMut.insert_with_hasher as f
+use Rattle.hashlink_map.specs.contracts.raw_entry.vacant.RawVacantEntryMut.insert_entry_with_hasher as enters
 use Rattle.hashlink_map.specs.contracts.raw_entry.occupied.RawOccupiedEntryMut+K+V+S.pair_of as lends
-use Rattle.hashlink_map.proofs.raw_entry.RawVacantEntryMut.insert_entry_with_hasher.Met as entered
+use Rattle.hashlink_map.proofs.raw_entry.vacant.RawVacantEntryMut.insert_entry_with_hasher.Met as entered
 use Rattle.hashlink_map.proofs.raw_entry.occupied.RawOccupiedEntryMut+K+V+S.pair_of.Met as lent
-use Rattle.hashlink_map.proofs.raw_entry.RawVacantEntryMut.insert_with_hasher.Statement.{statement}
-use Rattle.hashlink_map.proofs.raw_entry.RawVacantEntryMut.insert_with_hasher.Code as code
+use Rattle.hashlink_map.proofs.raw_entry.vacant.RawVacantEntryMut.insert_with_hasher.Statement.{statement}
+use Rattle.hashlink_map.proofs.raw_entry.vacant.RawVacantEntryMut.insert_with_hasher.Code as code
 
 pub insert_with_hasher_spec : {M : Type 1} → statement M
 insert_with_hasher_spec 𝓤 𝓛 𝓜 𝓡 wired K V S T F LK LV LS LT LF e de p dp h dh b db w dw
@@ -167,7 +167,7 @@ insert_with_hasher_spec 𝓤 𝓛 𝓜 𝓡 wired K V S T F LK LV LS LT LF e de 
     let Back : In.Denot → Type 0 = λ g. IfErr g (λ e. e ≡ (k, u)) in
     let E₁ = enters.ended K V S T F e de p dp h dh b db w dw dd x dx dm dn dt in
     calls_at ! (framed 𝓤 H 𝓜 𝓣) Y (entered.met 𝓤 𝓛 𝓜 𝓡
-    (code.calls-hashlink_map::raw_entry::RawVacantEntryMut::insert_entry_with_hasher 𝓡.env wired)
+    (code.calls-hashlink_map::raw_entry::vacant::RawVacantEntryMut::insert_entry_with_hasher 𝓡.env wired)
     K V S T F LK LV
     LS LT LF e de p dp h dh b db w dw dd x dx dm dn dt me mp mh mb mw md mx mm mo mt) y
     (and_then ! (get ! refl) (and_then ! (get ! refl) (and_then ! (get ! refl) (and_then ! (get ! refl)

@@ -1,6 +1,6 @@
 use Rattle.std.proofs.Common.{Ok, refl, sym, ap, ◌∙◌}
 use Rattle.hashlink_map.proofs.AtNode.{adds-written, added-value}
-use Rattle.hashlink_map.proofs.entry.VacantEntry.try_insert.Goals as goal
+use Rattle.hashlink_map.proofs.entry.vacant.VacantEntry.try_insert.Goals as goal
 
 pub returns-in-Ok-push_back : goal.returns-in-Ok-push_back
 returns-in-Ok-push_back g c =

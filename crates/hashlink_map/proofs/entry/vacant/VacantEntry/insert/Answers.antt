@@ -1,6 +1,6 @@
 use Rattle.std.proofs.Common.{refl}
 use Rattle.hashlink_map.proofs.AtNode.{adds-written, added-value}
-use Rattle.hashlink_map.proofs.entry.VacantEntry.insert.Goals as goal
+use Rattle.hashlink_map.proofs.entry.vacant.VacantEntry.insert.Goals as goal
 
 pub returns : goal.returns
 returns g c =

@@ -3,7 +3,7 @@ use Rattle.std.specs.Option.{option_map}
 use Rattle.std.specs.Map.Iter.{deref_pair}
 use Rattle.hashlink_core.specs.Keyed.{entries_of}
 use Rattle.hashlink_core.proofs.Steps.{lookup_entry-place, lookup_entry-unplaced}
-use Rattle.hashlink_map.proofs.raw_entry.RawEntryBuilder.from_key_hashed_nocheck.Goals as goal
+use Rattle.hashlink_map.proofs.raw_entry.builders.RawEntryBuilder.from_key_hashed_nocheck.Goals as goal
 
 pub returns-in_err-node : goal.returns-in_err-node
 returns-in_err-node g c =
