@@ -21,7 +21,7 @@ use Rattle.hashlink_core.specs.Places.{Node, Holds, place_number}
 use Rattle.hashlink_core.proofs.Holding.{at-node}
 use Rattle.hashlink_core.proofs.Places.{node-at}
 use Rattle.hashlink_map.specs.declared.as_node.AsNode as as_node
-use Rattle.hashlink_map.specs.declared.raw_entry.RawOccupiedEntryMut.{RawOccupiedEntryMut}
+use Rattle.hashlink_map.specs.declared.raw_entry.occupied.RawOccupiedEntryMut.{RawOccupiedEntryMut}
 use Rattle.hashlink_map.specs.RawEntry.{raw_occupied_state, raw_occupied_map, raw_place, raw_pair}
 use Rattle.hashlink_map.specs.EntryLends.{PutsLast}
 use Rattle.hashlink_map.specs.RawLends.{StandsLast}

@@ -19,12 +19,12 @@ use Rattle.std.proofs.result.Result.TheLaws as result_laws
 use Rattle.hashlink_core.specs.contracts.Node as node
 use Rattle.hashlink_core.proofs.Node.TheLaws as node_laws
 use Rattle.hashlink_map.specs.contracts.as_node.NodeAsNode.TheImpl
-use Rattle.hashlink_map.specs.contracts.raw_entry.RawOccupiedEntryMut as entry
+use Rattle.hashlink_map.specs.contracts.raw_entry.occupied.RawOccupiedEntryMut as entry
 use Rattle.hashlink_map.specs.contracts.raw_entry.RawEntryMut as found
-use Rattle.hashlink_map.specs.contracts.raw_entry.RawVacantEntryMut as vacant
+use Rattle.hashlink_map.specs.contracts.raw_entry.vacant.RawVacantEntryMut as vacant
 use Rattle.hashlink_map.proofs.raw_entry.RawEntryMut.TheLaws as place_laws
-use Rattle.hashlink_map.proofs.raw_entry.RawOccupiedEntryMut.TheLaws as entry_laws
-use Rattle.hashlink_map.proofs.raw_entry.RawVacantEntryMut.TheLaws as empty_laws
+use Rattle.hashlink_map.proofs.raw_entry.occupied.RawOccupiedEntryMut.TheLaws as entry_laws
+use Rattle.hashlink_map.proofs.raw_entry.vacant.RawVacantEntryMut.TheLaws as empty_laws
 
 abbrev at_lft : Lft → NamedLft
 at_lft κ = record { mir = named 0; lft = κ }

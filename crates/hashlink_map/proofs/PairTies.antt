@@ -19,7 +19,7 @@ use Rattle.hashlink_core.specs.Places.{Node}
 use Rattle.hashlink_core.specs.KeyedLends.{with_value_at}
 use Rattle.hashlink_map.specs.contracts.as_node.NodeAsNode.TheImpl
 use Rattle.hashlink_map.specs.contracts.map.LinkedHashMap.{the_row}
-use Rattle.hashlink_map.specs.declared.raw_entry.RawOccupiedEntryMut.{RawOccupiedEntryMut}
+use Rattle.hashlink_map.specs.declared.raw_entry.occupied.RawOccupiedEntryMut.{RawOccupiedEntryMut}
 use Rattle.hashlink_map.specs.RawEntry.{raw_occupied_map, raw_occupied_state, raw_place}
 use Rattle.hashlink_map.specs.RawLends.{LendsPairOf}
 use Rattle.hashlink_map.proofs.AtNode.{adds-written, added-parts}

@@ -6,8 +6,8 @@ use Rattle.std.specs.declared.cmp.PartialEq as eq
 use Rattle.std.specs.declared.hash.Hash as hash
 use Rattle.std.specs.declared.hash.Hasher as hasher
 use Rattle.std.specs.declared.hash.BuildHasher as builder
-use Rattle.hashlink_model.specs.Cursor.{CursorState, with_value_in}
-use Rattle.hashlink_core.specs.Places.{Node, place_number}
+use Rattle.hashlink_model.specs.Cursor.{CursorState, entry_in, with_value_in}
+use Rattle.hashlink_core.specs.Places.{Node, IsPlaceAt, place_number}
 use Rattle.hashlink_core.specs.Keyed.{Keyed, state_of}
 use Rattle.hashlink_map.specs.declared.as_node.AsNode as as_node
 use Rattle.hashlink_map.specs.declared.cursor.CursorMut.{CursorMut}
@@ -15,6 +15,10 @@ use Rattle.hashlink_map.specs.declared.cursor.CursorMut.{CursorMut}
 -- the pair behind a key that is lent beside its value
 abbrev pub lent_pair : {K V : Type 0} → Bor K × MutBor V → K × V
 lent_pair p = (p.0.now, p.1.now)
+
+-- the pair at the place i is lent, and none at the guard
+abbrev pub LentAt : {K V S : Type 0} → CursorState K V S → ℕ → Option (Bor K × MutBor V) → Type 0
+LentAt c i r = option_map lent_pair r ≡ entry_in c i
 
 module _ {K V S T : Type 0} {g : eq.Ghosts K} {h : hash.Ghosts K} {b : builder.Ghosts S T}
     {w : hasher.Ghosts T}
@@ -30,6 +34,10 @@ module _ {K V S T : Type 0} {g : eq.Ghosts K} {h : hash.Ghosts K} {b : builder.G
   -- its map, and the number of its place
   abbrev pub cursor_state : CursorMut K V S N T g h b w n → CursorState K V S
   cursor_state c = record { map = state_of c.map.now; place = place_number c.map.now.nodes (cursor_node c) }
+
+  -- a place of its map, which has the number i
+  abbrev pub IsPlaceIn : CursorMut K V S N T g h b w n → Option Node → ℕ → Type 0
+  IsPlaceIn c place i = IsPlaceAt c.map.now.nodes place i
 
   -- the same cursor, after w was written as the value at the place i
   abbrev pub CursorWritten : CursorMut K V S N T g h b w n → CursorMut K V S N T g h b w n → ℕ → V → Type 0

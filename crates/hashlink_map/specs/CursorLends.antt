@@ -6,6 +6,7 @@ use Rattle.std.specs.declared.cmp.PartialEq as eq
 use Rattle.std.specs.declared.hash.Hash as hash
 use Rattle.std.specs.declared.hash.Hasher as hasher
 use Rattle.std.specs.declared.hash.BuildHasher as builder
+use Rattle.hashlink_model.specs.Cursor.{place_next, place_previous}
 use Rattle.hashlink_core.specs.Places.{Node, place_number}
 use Rattle.hashlink_core.specs.KeyedLends.{node_row, with_value_at}
 use Rattle.hashlink_map.specs.contracts.cursor.CursorMut as cursor
@@ -51,6 +52,17 @@ module _ (K V S T : RattleType) {g : eq.Ghosts K.Denot} {h : hash.Ghosts K.Denot
       (λ v new. OnSome r (CursorWritten c.now new i v))
       (λ new. ((cursor_map new).ghost_name ≡ (cursor_map c.now).ghost_name)
       × ((cursor_map new).now ≡ (cursor_map c.now).now) × (cursor_state new ≡ cursor_state c.now))
+
+  -- the same at the next place, and at the one before
+  abbrev pub LendsNextPair : MutBor (CursorMut K.Denot V.Denot S.Denot Node T.Denot g h b w n)
+      → Option (Bor K.Denot × MutBor V.Denot)
+      → Fml
+  LendsNextPair c r = LendsPairFromCursor c (place_next (cursor_state c.now)) r
+
+  abbrev pub LendsPreviousPair : MutBor (CursorMut K.Denot V.Denot S.Denot Node T.Denot g h b w n)
+      → Option (Bor K.Denot × MutBor V.Denot)
+      → Fml
+  LendsPreviousPair c r = LendsPairFromCursor c (place_previous (cursor_state c.now)) r
 
   -- the cursor with what was written as the value of the node
   abbrev pub LendsAtCursorNode : MutBor (CursorMut K.Denot V.Denot S.Denot Node T.Denot g h b w n) → Node

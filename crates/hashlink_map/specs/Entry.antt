@@ -15,8 +15,8 @@ use Rattle.hashlink_map.specs.Standing.{still_holds_match}
 use Rattle.hashlink_map.specs.declared.as_node.AsNode as as_node
 use Rattle.hashlink_map.specs.declared.entry.Entry.{Entry}
 use Rattle.hashlink_map.specs.declared.entry.Entry.TheVariants.{Occupied, Vacant}
-use Rattle.hashlink_map.specs.declared.entry.OccupiedEntry.{OccupiedEntry}
-use Rattle.hashlink_map.specs.declared.entry.VacantEntry.{VacantEntry}
+use Rattle.hashlink_map.specs.declared.entry.occupied.OccupiedEntry.{OccupiedEntry}
+use Rattle.hashlink_map.specs.declared.entry.vacant.VacantEntry.{VacantEntry}
 
 module _ {K V S : Type 0} where
   -- the value at the place, none where there is no entry

@@ -12,11 +12,11 @@ use Rattle.hashlink_core.specs.Keyed.{state_of, entries_of}
 use Rattle.hashlink_core.specs.Places.{Node}
 use Rattle.hashlink_core.specs.KeyedLends.{node_row, with_value_at}
 use Rattle.hashlink_map.specs.contracts.map.LinkedHashMap.{the_row}
-use Rattle.hashlink_map.specs.contracts.entry.OccupiedEntry as occupied
+use Rattle.hashlink_map.specs.contracts.entry.occupied.OccupiedEntry as occupied
 use Rattle.hashlink_map.specs.declared.as_node.AsNode as as_node
 use Rattle.hashlink_map.specs.declared.entry.Entry.{Entry}
-use Rattle.hashlink_map.specs.declared.entry.OccupiedEntry.{OccupiedEntry}
-use Rattle.hashlink_map.specs.declared.entry.VacantEntry.{VacantEntry}
+use Rattle.hashlink_map.specs.declared.entry.occupied.OccupiedEntry.{OccupiedEntry}
+use Rattle.hashlink_map.specs.declared.entry.vacant.VacantEntry.{VacantEntry}
 use Rattle.hashlink_map.specs.declared.try_insert_error.TryInsertError.{TryInsertError}
 use Rattle.hashlink_map.specs.Entry.{occupied_with, entry_map, entry_state}
 use Rattle.hashlink_map.specs.TryInsert.{FailsToInsert}

@@ -13,12 +13,12 @@ use Rattle.hashlink_core.specs.Keyed.{Keyed, state_of}
 use Rattle.hashlink_core.specs.KeyedLends.{with_value_at}
 use Rattle.hashlink_map.specs.Standing.{still_holds}
 use Rattle.hashlink_map.specs.declared.as_node.AsNode as as_node
-use Rattle.hashlink_map.specs.declared.raw_entry.RawEntryBuilder.{RawEntryBuilder}
-use Rattle.hashlink_map.specs.declared.raw_entry.RawEntryBuilderMut.{RawEntryBuilderMut}
+use Rattle.hashlink_map.specs.declared.raw_entry.builders.RawEntryBuilder.{RawEntryBuilder}
+use Rattle.hashlink_map.specs.declared.raw_entry.builders.RawEntryBuilderMut.{RawEntryBuilderMut}
 use Rattle.hashlink_map.specs.declared.raw_entry.RawEntryMut.{RawEntryMut}
 use Rattle.hashlink_map.specs.declared.raw_entry.RawEntryMut.TheVariants.{Occupied, Vacant}
-use Rattle.hashlink_map.specs.declared.raw_entry.RawOccupiedEntryMut.{RawOccupiedEntryMut}
-use Rattle.hashlink_map.specs.declared.raw_entry.RawVacantEntryMut.{RawVacantEntryMut}
+use Rattle.hashlink_map.specs.declared.raw_entry.occupied.RawOccupiedEntryMut.{RawOccupiedEntryMut}
+use Rattle.hashlink_map.specs.declared.raw_entry.vacant.RawVacantEntryMut.{RawVacantEntryMut}
 
 -- the hasher may be called on the key, and answers its hash
 pub record Hashes {K F : Type 0} (calls : Shared F (Bor K × Unit {0}) ℕ) (hash : K → ℕ) (hasher : F) (k : K)

@@ -17,10 +17,10 @@ use Rattle.hashlink_core.specs.Keyed.{Keyed, state_of, entries_of}
 use Rattle.hashlink_core.specs.Places.{Node}
 use Rattle.hashlink_core.specs.KeyedLends.{HashMembers, node_row, with_value_at}
 use Rattle.hashlink_map.specs.contracts.map.LinkedHashMap.{the_row}
-use Rattle.hashlink_map.specs.contracts.raw_entry.RawOccupiedEntryMut as occupied
+use Rattle.hashlink_map.specs.contracts.raw_entry.occupied.RawOccupiedEntryMut as occupied
 use Rattle.hashlink_map.specs.declared.as_node.AsNode as as_node
 use Rattle.hashlink_map.specs.declared.raw_entry.RawEntryMut.{RawEntryMut}
-use Rattle.hashlink_map.specs.declared.raw_entry.RawOccupiedEntryMut.{RawOccupiedEntryMut}
+use Rattle.hashlink_map.specs.declared.raw_entry.occupied.RawOccupiedEntryMut.{RawOccupiedEntryMut}
 use Rattle.hashlink_map.specs.EntryLends.{PutsLast}
 use Rattle.hashlink_map.specs.Lends.{map_row}
 use Rattle.hashlink_map.specs.RawEntry.{raw_occupied_map, raw_with, raw_map, raw_state}

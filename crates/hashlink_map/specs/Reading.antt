@@ -1,7 +1,8 @@
--- What a call that is given an iterator by value says of it: what it read, and that it read no more.
+-- What a call says of an iterator: what it read, and that it read no more.
 use Rattle.std.specs.Prelude.{List, Option, None}
 use Rattle.std.specs.Iterator.{Yields, YieldsThen}
 
+-- of what is given by value, and becomes an iterator
 module _ {Given State Item : Type 0} (becomes : Given → State → Type 0)
     (steps : State → Option Item → State → Type 0) (given : Given) where
   -- the items for which P holds came out of the iterator that the given value became, and then `None`
@@ -16,3 +17,13 @@ module _ {Given State Item : Type 0} (becomes : Given → State → Type 0)
   ReadsSome P =
       (it : State) × (items : List Item) × (rest : State) × becomes given it
       × Yields steps it items rest × P items
+
+-- of an iterator that the caller keeps, from before the call to after it
+module _ {State Item : Type 0} (steps : State → Option Item → State → Type 0) (before after : State) where
+  -- the items for which P holds came out of it, and then `None`
+  abbrev pub GivesAll : (List Item → Type 0) → Type 0
+  GivesAll P = (items : List Item) × YieldsThen steps before items None after × P items
+
+  -- the items for which P holds came out of it, and it was asked for no more
+  abbrev pub GivesSome : (List Item → Type 0) → Type 0
+  GivesSome P = (items : List Item) × Yields steps before items after × P items

@@ -1,12 +1,12 @@
 //! Inserts of many items, each in turn by `insert`.
-ghost use Rattle.std.specs.Prelude.{List, [], None, OnOk, IfErr, map};
-ghost use Rattle.std.specs.Iterator.{IsFinite, IsFiniteIterable, Yields, YieldsThen};
+ghost use Rattle.std.specs.Prelude.{[], OnOk, IfErr, map};
+ghost use Rattle.std.specs.Iterator.{IsFinite, IsFiniteIterable};
 ghost use Rattle.std.specs.Map.Iter.{deref_pair};
 ghost use Rattle.hashlink_model.specs.Many.{AcceptsAll, StopsAt, InsertsPair};
 ghost use Rattle.hashlink_model.specs.MapState.{Grows};
 ghost use Rattle.hashlink_core.specs.Keyed.{state_of};
 ghost use Rattle.hashlink_map.specs.Extending.{TakesItems};
-ghost use Rattle.hashlink_map.specs.Reading.{ReadsAll, ReadsSome};
+ghost use Rattle.hashlink_map.specs.Reading.{GivesAll, GivesSome, ReadsAll, ReadsSome};
 
 use crate::map::LinkedHashMap;
 use hashlink_core::ExtendError;
@@ -42,12 +42,10 @@ impl<K: Eq + Hash + Drop, V: Drop, S: BuildHasher> LinkedHashMap<K, V, S> {
     ) -> Result<(), ExtendError<K, V>>
         requires may { I.can_next iter.old }
         requires ends { IsFinite (I.remaining iter.old) }
-        ensures all { OnOk result
-            ((items : List (K × V)) × YieldsThen I.next_gives iter.old items None iter.new
-            × AcceptsAll (InsertsPair K.eq) (state_of self.old) items (state_of self.new)) }
-        ensures stopped { IfErr result
-            (λ e. (items : List (K × V)) × Yields I.next_gives iter.old items iter.new
-            × StopsAt (InsertsPair K.eq) (state_of self.old) items (state_of self.new) e.taken e.pair []) }
+        ensures all { OnOk result (GivesAll I.next_gives iter.old iter.new
+            (λ items. AcceptsAll (InsertsPair K.eq) (state_of self.old) items (state_of self.new))) }
+        ensures stopped { IfErr result (λ e. GivesSome I.next_gives iter.old iter.new (λ items.
+            StopsAt (InsertsPair K.eq) (state_of self.old) items (state_of self.new) e.taken e.pair [])) }
     {
         self.list.extend_from(iter)
     }

@@ -58,6 +58,19 @@ impl<'a, K: Eq + Hash, V: fmt::Debug, S: BuildHasher> fmt::Debug for ValuesMut<'
     }
 }
 
+/// Writes a struct of this name with a key and a value.
+fn debug_pair<K: fmt::Debug, V: fmt::Debug, W: fmt::Write>(
+    f: &mut fmt::Formatter<W>,
+    name: &str,
+    key: &K,
+    value: &V,
+) -> fmt::Result {
+    f.debug_struct(name)
+        .field("key", key)
+        .field("value", value)
+        .finish()
+}
+
 impl<'a, K: Eq + Hash + fmt::Debug, V: fmt::Debug, S: BuildHasher> fmt::Debug
     for Entry<'a, K, V, S> {
     fn fmt<W: fmt::Write>(&self, f: &mut fmt::Formatter<W>) -> fmt::Result {
@@ -71,10 +84,7 @@ impl<'a, K: Eq + Hash + fmt::Debug, V: fmt::Debug, S: BuildHasher> fmt::Debug
 impl<'a, K: Eq + Hash + fmt::Debug, V: fmt::Debug, S: BuildHasher> fmt::Debug
     for OccupiedEntry<'a, K, V, S> {
     fn fmt<W: fmt::Write>(&self, f: &mut fmt::Formatter<W>) -> fmt::Result {
-        f.debug_struct("OccupiedEntry")
-            .field("key", self.key())
-            .field("value", self.get())
-            .finish()
+        debug_pair(f, "OccupiedEntry", self.key(), self.get())
     }
 }
 
@@ -97,10 +107,7 @@ impl<'a, K: Eq + Hash + fmt::Debug, V: fmt::Debug, S: BuildHasher> fmt::Debug
 impl<'a, K: Eq + Hash + fmt::Debug, V: fmt::Debug, S: BuildHasher> fmt::Debug
     for RawOccupiedEntryMut<'a, K, V, S> {
     fn fmt<W: fmt::Write>(&self, f: &mut fmt::Formatter<W>) -> fmt::Result {
-        f.debug_struct("RawOccupiedEntryMut")
-            .field("key", self.key())
-            .field("value", self.get())
-            .finish()
+        debug_pair(f, "RawOccupiedEntryMut", self.key(), self.get())
     }
 }
 

@@ -1,12 +1,12 @@
 //! Inserts of many elements, each in turn by `insert`.
-ghost use Rattle.std.specs.Prelude.{List, [], None, OnOk, IfErr, map};
-ghost use Rattle.std.specs.Iterator.{IsFinite, IsFiniteIterable, Yields, YieldsThen};
+ghost use Rattle.std.specs.Prelude.{[], OnOk, IfErr, map};
+ghost use Rattle.std.specs.Iterator.{IsFinite, IsFiniteIterable};
 ghost use Rattle.std.specs.Map.Iter.{deref};
 ghost use Rattle.hashlink_model.specs.Many.{AcceptsAll, StopsAt};
 ghost use Rattle.hashlink_model.specs.MapState.{Grows};
 ghost use Rattle.hashlink_model.specs.Sets.{SetInserts};
 ghost use Rattle.hashlink_map.specs.Extending.{TakesItems};
-ghost use Rattle.hashlink_map.specs.Reading.{ReadsAll, ReadsSome};
+ghost use Rattle.hashlink_map.specs.Reading.{GivesAll, GivesSome, ReadsAll, ReadsSome};
 
 use crate::set::LinkedHashSet;
 use hashlink_map::ExtendError;
@@ -38,10 +38,10 @@ impl<T: Eq + Hash + Drop, S: BuildHasher> LinkedHashSet<T, S> {
     ) -> Result<(), ExtendError<T, ()>>
         requires may { I.can_next iter.old }
         requires ends { IsFinite (I.remaining iter.old) }
-        ensures all { OnOk result ((items : List T) × YieldsThen I.next_gives iter.old items None iter.new
-            × AcceptsAll (SetInserts T.eq) self.old items self.new) }
-        ensures stopped { IfErr result (λ e. (items : List T) × Yields I.next_gives iter.old items iter.new
-            × StopsAt (SetInserts T.eq) self.old items self.new e.taken e.pair.0 []) }
+        ensures all { OnOk result (GivesAll I.next_gives iter.old iter.new
+            (λ items. AcceptsAll (SetInserts T.eq) self.old items self.new)) }
+        ensures stopped { IfErr result (λ e. GivesSome I.next_gives iter.old iter.new
+            (λ items. StopsAt (SetInserts T.eq) self.old items self.new e.taken e.pair.0 [])) }
     {
         let mut taken = 0u64;
         while let Some(element) = iter.next() {

@@ -11,7 +11,7 @@ ghost use Rattle.hashlink_model.specs.Many.{MadeFrom};
 ghost use Rattle.hashlink_model.specs.Sets.{elements_of, SetInserts};
 ghost use Rattle.hashlink_map.specs.Cloning.{IsMadeOf};
 ghost use Rattle.hashlink_map.specs.Reading.{ReadsAll};
-ghost use Rattle.hashlink_set.specs.Cloned.{IsOfClones};
+ghost use Rattle.hashlink_set.specs.Cloned.{GivesClonesOf, IsOfClones};
 
 use crate::set::LinkedHashSet;
 use std::alloc::{AllocError, Global};
@@ -118,8 +118,7 @@ impl<'a, 'b, T: Eq + Hash + Clone, S: BuildHasher + Default + Drop> BitOr<&'b Li
     for &'a LinkedHashSet<T, S> {
     type Output = Result<LinkedHashSet<T, S>, AllocError>;
 
-    ghost bitor_gives = { λ a b r. IfOk r (IsOfClones T.eq T.is_clone S.is_default
-        (union_of T.eq (elements_of a.now) (elements_of b.now))) };
+    ghost bitor_gives = { GivesClonesOf (union_of T.eq) T.eq T.is_clone S.is_default };
 
     fn bitor(self, other: &'b LinkedHashSet<T, S>) -> Result<LinkedHashSet<T, S>, AllocError> {
         of_clones(self.alloc, S::default(), self.union(other))
@@ -135,8 +134,7 @@ impl<'a, 'b, T: Eq + Hash + Clone, S: BuildHasher + Default + Drop> BitAnd<&'b L
     for &'a LinkedHashSet<T, S> {
     type Output = Result<LinkedHashSet<T, S>, AllocError>;
 
-    ghost bitand_gives = { λ a b r. IfOk r (IsOfClones T.eq T.is_clone S.is_default
-        (intersection_of T.eq (elements_of a.now) (elements_of b.now))) };
+    ghost bitand_gives = { GivesClonesOf (intersection_of T.eq) T.eq T.is_clone S.is_default };
 
     fn bitand(self, other: &'b LinkedHashSet<T, S>) -> Result<LinkedHashSet<T, S>, AllocError> {
         of_clones(self.alloc, S::default(), self.intersection(other))
@@ -152,8 +150,7 @@ impl<'a, 'b, T: Eq + Hash + Clone, S: BuildHasher + Default + Drop> BitXor<&'b L
     for &'a LinkedHashSet<T, S> {
     type Output = Result<LinkedHashSet<T, S>, AllocError>;
 
-    ghost bitxor_gives = { λ a b r. IfOk r (IsOfClones T.eq T.is_clone S.is_default
-        (symmetric_difference_of T.eq (elements_of a.now) (elements_of b.now))) };
+    ghost bitxor_gives = { GivesClonesOf (symmetric_difference_of T.eq) T.eq T.is_clone S.is_default };
 
     fn bitxor(self, other: &'b LinkedHashSet<T, S>) -> Result<LinkedHashSet<T, S>, AllocError> {
         of_clones(self.alloc, S::default(), self.symmetric_difference(other))
@@ -169,8 +166,7 @@ impl<'a, 'b, T: Eq + Hash + Clone, S: BuildHasher + Default + Drop> Sub<&'b Link
     for &'a LinkedHashSet<T, S> {
     type Output = Result<LinkedHashSet<T, S>, AllocError>;
 
-    ghost sub_gives = { λ a b r. IfOk r (IsOfClones T.eq T.is_clone S.is_default
-        (difference_of T.eq (elements_of a.now) (elements_of b.now))) };
+    ghost sub_gives = { GivesClonesOf (difference_of T.eq) T.eq T.is_clone S.is_default };
 
     fn sub(self, other: &'b LinkedHashSet<T, S>) -> Result<LinkedHashSet<T, S>, AllocError> {
         of_clones(self.alloc, S::default(), self.difference(other))

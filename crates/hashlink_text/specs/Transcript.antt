@@ -3,8 +3,10 @@
 -- The map's own choices are open: whether an insert that needs a new node is refused, whether a shrink of a
 -- map that isn't empty is, and for how many nodes there is room.
 use Rattle.std.specs.Prelude.{◌≡◌, ℕ, List, [], ◌∷◌, ◌++◌, map, codes, decimal, nat_eq, Option, None, Some}
+use Rattle.std.specs.Prelude.{string_bytes}
 use Rattle.std.specs.List.{join_with_byte}
 use Rattle.std.specs.Option.{option_map_or}
+use Rattle.std.specs.declared.string.String.{String}
 use Rattle.hashlink_model.specs.MapState.{MapState}
 use Rattle.hashlink_spelling.specs.Says.{Said, Do, Cursor, Iter, says}
 use Rattle.hashlink_commands.specs.declared.commands.Command.{Command}
@@ -97,3 +99,14 @@ module _ {M : Type 0} (ShowsLine : M → List ℕ → List ℕ → M → Type 0)
   ShowsAll old (line ∷ lines) text new =
       (answer : List ℕ) × (between : M) × (more : List ℕ)
       × ShowsLine old line answer between × ShowsAll between lines more new × (text ≡ ended answer ++ more)
+
+-- ---- what is written to the end of a text
+
+module _ {A : Type 0} where
+  -- a text for which P holds
+  abbrev pub Pushes : (List ℕ → Type 0) → String A → String A → Type 0
+  Pushes P old new = (text : List ℕ) × P text × (string_bytes new ≡ string_bytes old ++ text)
+
+  -- such a text and the end of its line
+  abbrev pub PushesLine : (List ℕ → Type 0) → String A → String A → Type 0
+  PushesLine P old new = (text : List ℕ) × P text × (string_bytes new ≡ string_bytes old ++ ended text)

@@ -4,6 +4,8 @@
 mod cache_text;
 mod faults;
 pub mod laws;
+mod lines;
+mod map_text;
 mod pair_text;
 mod serving;
 mod shown;

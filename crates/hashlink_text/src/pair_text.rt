@@ -1,5 +1,5 @@
 //! Lines to two caches, and what they hold at the end.
-ghost use Rattle.std.specs.Prelude.{◌≡◌, ◌++◌, ◌∷◌, ℕ, List, Some, OnOk, decimal, string_bytes};
+ghost use Rattle.std.specs.Prelude.{◌≡◌, ◌++◌, ◌∷◌, Some, OnOk, decimal, string_bytes};
 ghost use Rattle.hashlink_core.specs.declared.hash_builder.DefaultHashBuilder.{DefaultHashBuilder};
 ghost use Rattle.hashlink_spelling.specs.CachesSay.{pair_says};
 ghost use Rattle.hashlink_spelling.specs.Lines.{lines_of};
@@ -7,7 +7,7 @@ ghost use Rattle.hashlink_spelling.specs.declared.modes.Mode.TheVariants.{Pair};
 ghost use Rattle.hashlink_lru.specs.Cached.{entries_in, state_in};
 ghost use Rattle.hashlink_text.specs.CacheTranscript.{PairShows, lists_shown};
 ghost use Rattle.hashlink_text.specs.Text.{ModeRun};
-ghost use Rattle.hashlink_text.specs.Transcript.{ended, shown_by};
+ghost use Rattle.hashlink_text.specs.Transcript.{Pushes, PushesLine, ended, shown_by};
 
 use crate::shown::Form;
 use crate::text::{push_list, push_reply};
@@ -27,10 +27,8 @@ pub(crate) fn run_pair_lines(
     lines: Lines<'_>,
     out: &mut String,
 ) -> Result<(), AllocError>
-    ensures { OnOk result ((text : List ℕ)
-        × ModeRun DefaultHashBuilder (Some (Pair small_capacity large_capacity))
-        (lines_of lines.entry.rest.now) text
-        × (string_bytes out.new ≡ string_bytes out.old ++ text)) }
+    ensures { OnOk result (Pushes (ModeRun DefaultHashBuilder (Some (Pair small_capacity large_capacity))
+        (lines_of lines.entry.rest.now)) out.old out.new) }
 {
     let mut small = LruCache::new(alloc, small_capacity);
     let mut large = LruCache::new(alloc, large_capacity);
@@ -48,11 +46,10 @@ fn answer_pair_line(
     line: &[u8],
     out: &mut String,
 ) -> Result<(), AllocError>
-    ensures shown { OnOk result ((text : List ℕ)
-        × PairShows (state_in small.old).cap (state_in large.old).cap
+    ensures shown { OnOk result (PushesLine
+        (λ text. PairShows (state_in small.old).cap (state_in large.old).cap
         (entries_in small.old, entries_in large.old)
-        (pair_says line.now) text (entries_in small.new, entries_in large.new)
-        × (string_bytes out.new ≡ string_bytes out.old ++ ended text)) }
+        (pair_says line.now) text (entries_in small.new, entries_in large.new)) out.old out.new) }
     ensures small_capacity { OnOk result ((state_in small.new).cap ≡ (state_in small.old).cap) }
     ensures large_capacity { OnOk result ((state_in large.new).cap ≡ (state_in large.old).cap) }
 {

@@ -1,13 +1,13 @@
 //! Lines to a cache with a budget.
-ghost use Rattle.std.specs.Prelude.{◌≡◌, ◌++◌, ℕ, List, Some, OnOk, decimal, string_bytes};
+ghost use Rattle.std.specs.Prelude.{◌≡◌, ◌++◌, Some, OnOk, decimal, string_bytes};
 ghost use Rattle.hashlink_core.specs.declared.hash_builder.DefaultHashBuilder.{DefaultHashBuilder};
-ghost use Rattle.hashlink_spelling.specs.CachesSay.{weighted_says};
 ghost use Rattle.hashlink_spelling.specs.Lines.{lines_of};
 ghost use Rattle.hashlink_spelling.specs.declared.modes.Mode.TheVariants.{Weighted};
 ghost use Rattle.hashlink_text.specs.Text.{ModeRun};
-ghost use Rattle.hashlink_text.specs.Transcript.{ended, list_shown, shown_by};
-ghost use Rattle.hashlink_text.specs.WeightedTranscript.{WeightedShows, insert_shown, pairs_of};
+ghost use Rattle.hashlink_text.specs.Transcript.{Pushes, ended, list_shown, shown_by};
+ghost use Rattle.hashlink_text.specs.WeightedTranscript.{WeightedLineShows, insert_shown, pairs_of};
 
+use crate::lines::{AnswersLines, answer_lines};
 use hashlink_spelling::{Lines, WeightedLine};
 use hashlink_weighted::{WeightError, WeightedCache, WeightedIter};
 use std::alloc::{AllocError, Global};
@@ -19,38 +19,29 @@ pub(crate) fn run_weighted_lines(
     lines: Lines<'_>,
     out: &mut String,
 ) -> Result<(), AllocError>
-    ensures { OnOk result ((text : List ℕ)
-        × ModeRun DefaultHashBuilder (Some (Weighted budget)) (lines_of lines.entry.rest.now) text
-        × (string_bytes out.new ≡ string_bytes out.old ++ text)) }
+    ensures { OnOk result (Pushes (ModeRun DefaultHashBuilder (Some (Weighted budget))
+        (lines_of lines.entry.rest.now)) out.old out.new) }
 {
     let mut cache = WeightedCache::new(alloc, budget);
-    for line in lines {
-        answer_weighted_line(&mut cache, line, out)?;
-    }
-    Ok(())
+    answer_lines(&mut cache, lines, out)
 }
 
-// Pushes the answer to one line.
-fn answer_weighted_line(
-    cache: &mut WeightedCache<u64, u64>,
-    line: &[u8],
-    out: &mut String,
-) -> Result<(), AllocError>
-    ensures { OnOk result ((text : List ℕ)
-        × WeightedShows cache.old (weighted_says line.now) text cache.new
-        × (string_bytes out.new ≡ string_bytes out.old ++ ended text)) }
-{
-    match WeightedLine::parse(line) {
-        Some(WeightedLine::Insert(key, value, weight)) => {
-            push_inserted(cache.insert(key, value, weight), out)
+impl AnswersLines for WeightedCache<u64, u64> {
+    ghost shows = { WeightedLineShows };
+
+    fn answer_line(&mut self, line: &[u8], out: &mut String) -> Result<(), AllocError> {
+        match WeightedLine::parse(line) {
+            Some(WeightedLine::Insert(key, value, weight)) => {
+                push_inserted(self.insert(key, value, weight), out)
+            }
+            Some(WeightedLine::Get(key)) => push_value(self.get(&key).copied(), out),
+            Some(WeightedLine::Peek(key)) => push_value(self.peek(&key).copied(), out),
+            Some(WeightedLine::Remove(key)) => push_value(self.remove(&key), out),
+            Some(WeightedLine::Total) => writeln!(out, "{}", self.total()),
+            Some(WeightedLine::Len) => writeln!(out, "{}", self.len()),
+            Some(WeightedLine::Iter) => push_pairs(self.iter(), out),
+            None => writeln!(out, "bad"),
         }
-        Some(WeightedLine::Get(key)) => push_value(cache.get(&key).copied(), out),
-        Some(WeightedLine::Peek(key)) => push_value(cache.peek(&key).copied(), out),
-        Some(WeightedLine::Remove(key)) => push_value(cache.remove(&key), out),
-        Some(WeightedLine::Total) => writeln!(out, "{}", cache.total()),
-        Some(WeightedLine::Len) => writeln!(out, "{}", cache.len()),
-        Some(WeightedLine::Iter) => push_pairs(cache.iter(), out),
-        None => writeln!(out, "bad"),
     }
 }
 

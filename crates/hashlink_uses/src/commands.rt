@@ -1,5 +1,6 @@
 //! Lists of commands, and what is known of the container after them.
-ghost use Rattle.std.specs.Prelude.{[], ◌∷◌, ◌≡◌, ◌≢◌, ◌≤◌, All, Option, Some, length, slice_get, IfOk, IsSome};
+ghost use Rattle.std.specs.Prelude.{[], ◌∷◌, ◌≡◌, ◌≢◌, ◌≤◌, All, Option, Some, length, slice_get, IfOk};
+ghost use Rattle.std.specs.Prelude.{IsSome};
 ghost use Rattle.std.specs.List.{AllPass};
 ghost use Rattle.std.specs.Map.{lookup};
 ghost use Rattle.hashlink.specs.Cache.{IsWithin};

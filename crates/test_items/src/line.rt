@@ -101,8 +101,8 @@ impl<'l> Words<'l> {
         Ok((home.item(item)?, new))
     }
 
-    /// What the next word names as made, and the name after it, if there is one, or what the word after `fail`
-    /// names as why nothing is made.
+    /// What the next word names as made, and the name after it, if there is one, or what the word after
+    /// `fail` names as why nothing is made.
     pub fn tried(&mut self, home: Home<'_>) -> Result<(Result<Item, Item>, Option<Name>), Stop> {
         let is_made = !self.has("fail");
         let (item, new) = self.lent_item(home)?;

@@ -4,9 +4,9 @@ use test_items::{Answers, Item, Name, Stop, Word, lent_item};
 /// The bounds of how many are left, and what comes.
 type Came = [Word; 3];
 
-/// Says the bounds of how many are left and what comes, in turn, for so many steps, or where no number of steps
-/// is given until nothing comes. Then nothing more may come, and a clone that is made after the first step has
-/// to say the same.
+/// Says the bounds of how many are left and what comes, in turn, for so many steps, or where no number of
+/// steps is given until nothing comes. Then nothing more may come, and a clone that is made after the first
+/// step has to say the same.
 pub fn say_steps<'s, I: Iterator<Item = &'s Item> + Clone + Drop>(
     mut first: I,
     steps: Option<Name>,

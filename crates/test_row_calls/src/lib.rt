@@ -1,5 +1,5 @@
-//! The calls that the lines of rows make: of a map with its entries and cursors, of a set, of two of either, of
-//! a cache, and of a cache with a budget.
+//! The calls that the lines of rows make: of a map with its entries and cursors, of a set, of two of either,
+//! of a cache, and of a cache with a budget.
 #![tactic(auto)]
 
 mod alike;

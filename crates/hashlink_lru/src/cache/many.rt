@@ -1,13 +1,13 @@
 //! Inserts of many items, and clones.
-ghost use Rattle.std.specs.Prelude.{◌≡◌, Bool, true, List, [], None, OnOk, OnErr, IfOk, IfErr};
-ghost use Rattle.std.specs.Iterator.{IsFinite, IsFiniteIterable, Yields, YieldsThen};
+ghost use Rattle.std.specs.Prelude.{◌≡◌, Bool, true, List, [], OnOk, OnErr, IfOk, IfErr};
+ghost use Rattle.std.specs.Iterator.{IsFinite, IsFiniteIterable};
 ghost use Rattle.hashlink_model.specs.Cache.{OnMap};
 ghost use Rattle.hashlink_model.specs.Compare.{entries_eq};
 ghost use Rattle.hashlink_model.specs.Many.{AcceptsAll, StopsAt, MadeFrom, InsertsPair};
 ghost use Rattle.hashlink_model.specs.MapState.{Grows};
 ghost use Rattle.hashlink_map.specs.Cloning.{ArePairClones, IsOfPairClones};
 ghost use Rattle.hashlink_map.specs.Extending.{TakesItems};
-ghost use Rattle.hashlink_map.specs.Reading.{ReadsAll, ReadsSome};
+ghost use Rattle.hashlink_map.specs.Reading.{GivesAll, GivesSome, ReadsAll, ReadsSome};
 
 use super::LruCache;
 use hashlink_map::ExtendError;
@@ -46,12 +46,10 @@ impl<K: Eq + Hash + Drop, V: Drop, S: BuildHasher> LruCache<K, V, S> {
     ) -> Result<(), ExtendError<K, V>>
         requires may { I.can_next iter.old }
         requires ends { IsFinite (I.remaining iter.old) }
-        ensures all { OnOk result
-            ((items : List (K × V)) × YieldsThen I.next_gives iter.old items None iter.new
-            × AcceptsAll (InsertsPairIn K.eq) (state_in self.old) items (state_in self.new)) }
-        ensures stopped { IfErr result
-            (λ e. (items : List (K × V)) × Yields I.next_gives iter.old items iter.new
-            × StopsAt (InsertsPairIn K.eq) (state_in self.old) items (state_in self.new) e.taken e.pair []) }
+        ensures all { OnOk result (GivesAll I.next_gives iter.old iter.new
+            (λ items. AcceptsAll (InsertsPairIn K.eq) (state_in self.old) items (state_in self.new))) }
+        ensures stopped { IfErr result (λ e. GivesSome I.next_gives iter.old iter.new (λ items.
+            StopsAt (InsertsPairIn K.eq) (state_in self.old) items (state_in self.new) e.taken e.pair [])) }
         ensures within { StaysWithin (state_in self.old) (state_in self.new) }
     {
         let mut taken = 0u64;

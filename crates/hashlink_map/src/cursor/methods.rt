@@ -6,7 +6,7 @@ ghost use Rattle.std.specs.Map.Iter.{deref_pair};
 ghost use Rattle.hashlink_model.specs.Cursor.{at_place, entry_in, place_next, place_previous};
 ghost use Rattle.hashlink_model.specs.Cursor.{InsertsBefore, InsertsAfter};
 ghost use Rattle.hashlink_core.specs.Keyed.{entries_of};
-ghost use Rattle.hashlink_core.specs.Places.{Holds, IsPlace, IsPlaceAt, place_number};
+ghost use Rattle.hashlink_core.specs.Places.{Holds, IsPlace, place_number};
 
 use super::CursorMut;
 use crate::raw_entry::RawOccupiedEntryMut;
@@ -15,7 +15,9 @@ use std::hash::{BuildHasher, Hash};
 
 impl<'a, K: Eq + Hash, V, S: BuildHasher> CursorMut<'a, K, V, S> {
     ghost use Rattle.hashlink_map.specs.Cursor.{cursor_map, cursor_node, cursor_state, lent_pair};
+    ghost use Rattle.hashlink_map.specs.Cursor.{IsPlaceIn, LentAt};
     ghost use Rattle.hashlink_map.specs.CursorLends.{LendsFromCursor, LendsPairFromCursor, LendsAtCursorNode};
+    ghost use Rattle.hashlink_map.specs.CursorLends.{LendsNextPair, LendsPreviousPair};
     ghost use Rattle.hashlink_map.specs.RawLends.{HandsOnOccupied};
     ghost use Rattle.hashlink_map.specs.RawEntry.{raw_occupied_map, raw_place};
     ghost use Rattle.hashlink_model.specs.Entry.{value_at};
@@ -57,8 +59,8 @@ impl<'a, K: Eq + Hash, V, S: BuildHasher> CursorMut<'a, K, V, S> {
         requires { IsPlace (cursor_map self.old).now.nodes place }
         ensures* lends { sem 𝓛 (LendsPairFromCursor K.row V.row S.row S.Hasher.row self.entry
             (place_number (cursor_map self.old).now.nodes place) result) }
-        ensures pair { option_map lent_pair result ≡ entry_in (cursor_state self.old)
-            (place_number (cursor_map self.old).now.nodes place) }
+        ensures pair { LentAt (cursor_state self.old)
+            (place_number (cursor_map self.old).now.nodes place) result }
     {
         match place {
             Some(node) => Some(self.pair_at_node(node)),
@@ -79,8 +81,7 @@ impl<'a, K: Eq + Hash, V, S: BuildHasher> CursorMut<'a, K, V, S> {
     pub fn current(&mut self) -> Option<(&K, &mut V)>
         ensures* lends { sem 𝓛 (LendsPairFromCursor K.row V.row S.row S.Hasher.row self.entry
             (cursor_state self.old).place result) }
-        ensures pair { option_map lent_pair result ≡ entry_in (cursor_state self.old)
-            (cursor_state self.old).place }
+        ensures pair { LentAt (cursor_state self.old) (cursor_state self.old).place result }
     {
         let (cursor, place) = self.with_place();
         cursor.pair_at(place)
@@ -89,8 +90,7 @@ impl<'a, K: Eq + Hash, V, S: BuildHasher> CursorMut<'a, K, V, S> {
     /// Returns the cursor and the place after its own.
     fn with_next(&mut self) -> (&mut Self, Option<Node>)
         ensures cursor { result.0 ≡ self.entry }
-        ensures place { IsPlaceAt (cursor_map self.old).now.nodes result.1
-            (place_next (cursor_state self.old)) }
+        ensures place { IsPlaceIn self.old result.1 (place_next (cursor_state self.old)) }
     {
         let next = self.map.place_after(self.place);
         (self, next)
@@ -98,10 +98,8 @@ impl<'a, K: Eq + Hash, V, S: BuildHasher> CursorMut<'a, K, V, S> {
 
     /// Returns the key at the next place and a mutable reference to its value, or `None` at the guard.
     pub fn peek_next(&mut self) -> Option<(&K, &mut V)>
-        ensures* lends { sem 𝓛 (LendsPairFromCursor K.row V.row S.row S.Hasher.row self.entry
-            (place_next (cursor_state self.old)) result) }
-        ensures pair { option_map lent_pair result
-            ≡ entry_in (cursor_state self.old) (place_next (cursor_state self.old)) }
+        ensures* lends { sem 𝓛 (LendsNextPair K.row V.row S.row S.Hasher.row self.entry result) }
+        ensures pair { LentAt (cursor_state self.old) (place_next (cursor_state self.old)) result }
     {
         let (cursor, place) = self.with_next();
         cursor.pair_at(place)
@@ -110,8 +108,7 @@ impl<'a, K: Eq + Hash, V, S: BuildHasher> CursorMut<'a, K, V, S> {
     /// Returns the cursor and the place before its own.
     fn with_previous(&mut self) -> (&mut Self, Option<Node>)
         ensures cursor { result.0 ≡ self.entry }
-        ensures place { IsPlaceAt (cursor_map self.old).now.nodes result.1
-            (place_previous (cursor_state self.old)) }
+        ensures place { IsPlaceIn self.old result.1 (place_previous (cursor_state self.old)) }
     {
         let previous = self.map.place_before(self.place);
         (self, previous)
@@ -119,10 +116,8 @@ impl<'a, K: Eq + Hash, V, S: BuildHasher> CursorMut<'a, K, V, S> {
 
     /// Returns the key at the previous place and a mutable reference to its value, or `None` at the guard.
     pub fn peek_prev(&mut self) -> Option<(&K, &mut V)>
-        ensures* lends { sem 𝓛 (LendsPairFromCursor K.row V.row S.row S.Hasher.row self.entry
-            (place_previous (cursor_state self.old)) result) }
-        ensures pair { option_map lent_pair result
-            ≡ entry_in (cursor_state self.old) (place_previous (cursor_state self.old)) }
+        ensures* lends { sem 𝓛 (LendsPreviousPair K.row V.row S.row S.Hasher.row self.entry result) }
+        ensures pair { LentAt (cursor_state self.old) (place_previous (cursor_state self.old)) result }
     {
         let (cursor, place) = self.with_previous();
         cursor.pair_at(place)

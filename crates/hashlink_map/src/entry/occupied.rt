@@ -1,15 +1,36 @@
-//! The methods of `OccupiedEntry`. None of them hashes or allocates.
+//! Occupied entries. None of their methods hashes or allocates.
 ghost use Rattle.std.specs.Prelude.{◌≡◌, ◌-◌, length, Some, IfOk};
 ghost use Rattle.std.specs.Borrow.{sem};
 ghost use Rattle.hashlink_model.specs.MapState.{RemovesAt, MovesAt};
 ghost use Rattle.hashlink_model.specs.Entry.{key_at, value_at, InsertsValue, InsertsEntry, ReplacesEntry};
 ghost use Rattle.hashlink_model.specs.Entry.{ReplacesKey, TakesEntry};
-ghost use Rattle.hashlink_core.specs.Keyed.{state_of};
+ghost use Rattle.hashlink_core.specs.Keyed.{state_of, HoldsKey};
 
-use super::OccupiedEntry;
+use crate::as_node::AsNode;
 use crate::cursor::CursorMut;
+use crate::map::LinkedHashMap;
 use crate::raw_entry::RawOccupiedEntryMut;
+use hashlink_core::{DefaultHashBuilder, Node};
 use std::hash::{BuildHasher, Hash};
+
+/// An occupied entry. It holds the given key, which equals the stored one.
+///
+/// A caller that is generic in the key, and wants to prove what the map is afterwards, ends the entry by
+/// `into_key` or by another method that takes it by value: a contract says nothing of an occupied entry that
+/// is dropped.
+#[derive(Drop)]
+pub struct OccupiedEntry<
+    'a,
+    K: Eq + Hash,
+    V,
+    S: BuildHasher = DefaultHashBuilder,
+    N: AsNode = Node,
+> {
+    pub(crate) map: &'a mut LinkedHashMap<K, V, S>,
+    pub(crate) node: N,
+    pub(crate) key: K,
+    ghost stands: { HoldsKey K.eq map.now.nodes key (N.node node) },
+}
 
 impl<'a, K: Eq + Hash, V, S: BuildHasher> OccupiedEntry<'a, K, V, S> {
     ghost use Rattle.hashlink_map.specs.Entry.{occupied_map, occupied_place, occupied_state, occupied_with};

@@ -1,13 +1,38 @@
-//! The methods of `VacantEntry`. None of them hashes.
-ghost use Rattle.std.specs.Prelude.{◌≡◌, Ok, IfOk, IfErr, length};
+//! Vacant entries. None of their methods hashes.
+ghost use Rattle.std.specs.Prelude.{◌≡◌, None, Ok, IfOk, IfErr, length};
 ghost use Rattle.std.specs.Borrow.{sem};
+ghost use Rattle.hashlink_model.specs.Entries.{place_of};
 ghost use Rattle.hashlink_model.specs.MapState.{AddsEntry};
-ghost use Rattle.hashlink_core.specs.Keyed.{state_of};
+ghost use Rattle.hashlink_core.specs.Keyed.{entries_of, state_of};
+ghost use Rattle.hashlink_core.specs.Tied.{hash_with};
 
-use super::VacantEntry;
+use crate::map::LinkedHashMap;
 use crate::raw_entry::{RawOccupiedEntryMut, RawVacantEntryMut};
 use crate::try_insert_error::TryInsertError;
+use hashlink_core::DefaultHashBuilder;
 use std::hash::{BuildHasher, Hash};
+
+/// A vacant entry. It holds the given key, which the map does not have.
+pub struct VacantEntry<'a, K: Eq + Hash, V, S: BuildHasher = DefaultHashBuilder> {
+    pub(crate) map: &'a mut LinkedHashMap<K, V, S>,
+    pub(crate) hash: u64,
+    pub(crate) key: K,
+    ghost hashed: { hash ≡ hash_with S.build_hasher S.Hasher.write S.Hasher.finish K.hash_input
+        map.now.hasher key },
+    ghost absent: { place_of (K.eq key) (entries_of map.now) ≡ None },
+}
+
+impl<K: Eq + Hash + Drop, V, S: BuildHasher> Drop for VacantEntry<'_, K, V, S> {
+    fn drop(self)
+        ensures { self.exit.0.now ≡ self.entry.map.now }
+    {
+        let VacantEntry {
+            map: _,
+            hash: _,
+            key: _,
+        } = self;
+    }
+}
 
 impl<'a, K: Eq + Hash, V, S: BuildHasher> VacantEntry<'a, K, V, S> {
     ghost use Rattle.hashlink_map.specs.Entry.{vacant_map, vacant_state};

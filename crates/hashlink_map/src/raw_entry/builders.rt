@@ -13,12 +13,22 @@ ghost use Rattle.hashlink_map.specs.RawEntry.{read_map, found_map, raw_map, raw_
 ghost use Rattle.hashlink_map.specs.RawEntry.{raw_occupied_map, raw_place};
 ghost use Rattle.hashlink_map.specs.RawLends.{HandsOnOccupied};
 
-use super::{
-    RawEntryBuilder, RawEntryBuilderMut, RawEntryMut, RawOccupiedEntryMut, RawVacantEntryMut,
-};
+use super::{RawEntryMut, RawOccupiedEntryMut, RawVacantEntryMut};
 use crate::map::LinkedHashMap;
-use hashlink_core::Equivalent;
+use hashlink_core::{DefaultHashBuilder, Equivalent};
 use std::hash::{BuildHasher, Hash};
+
+/// A builder that finds entries to read.
+#[derive(Clone, Copy)]
+pub struct RawEntryBuilder<'a, K: Eq + Hash, V, S: BuildHasher = DefaultHashBuilder> {
+    pub(crate) map: &'a LinkedHashMap<K, V, S>,
+}
+
+/// A builder that finds entries to change.
+#[derive(Drop)]
+pub struct RawEntryBuilderMut<'a, K: Eq + Hash, V, S: BuildHasher = DefaultHashBuilder> {
+    pub(crate) map: &'a mut LinkedHashMap<K, V, S>,
+}
 
 impl<K: Eq + Hash, V, S: BuildHasher> LinkedHashMap<K, V, S> {
     /// Returns a builder that finds an entry to read: by a key, by a key and its hash, or by a hash and a

@@ -1,15 +1,31 @@
-//! The methods of `RawOccupiedEntryMut`. None of them hashes or allocates.
+//! Occupied raw entries. None of their methods hashes or allocates.
 ghost use Rattle.std.specs.Prelude.{◌≡◌, ◌-◌, length, slice_get, Some, Err, IfOk, IfErr, MatchResult};
 ghost use Rattle.std.specs.Borrow.{sem};
 ghost use Rattle.std.specs.Map.Iter.{deref_pair};
 ghost use Rattle.hashlink_model.specs.MapState.{RemovesAt, MovesAt};
 ghost use Rattle.hashlink_model.specs.Entry.{key_at, value_at, ReplacesKey, ReplacesValue, TakesEntry};
 ghost use Rattle.hashlink_core.specs.Keyed.{state_of};
+ghost use Rattle.hashlink_core.specs.Places.{Holds};
 
-use super::RawOccupiedEntryMut;
 use crate::as_node::AsNode;
 use crate::cursor::CursorMut;
+use crate::map::LinkedHashMap;
+use hashlink_core::{DefaultHashBuilder, Node};
 use std::hash::{BuildHasher, Hash};
+
+/// An occupied raw entry.
+#[derive(Drop)]
+pub struct RawOccupiedEntryMut<
+    'a,
+    K: Eq + Hash,
+    V,
+    S: BuildHasher = DefaultHashBuilder,
+    N: AsNode = Node,
+> {
+    pub(crate) map: &'a mut LinkedHashMap<K, V, S>,
+    pub(crate) node: N,
+    ghost stands: { Holds map.now.nodes (N.node node) },
+}
 
 impl<'a, K: Eq + Hash, V, S: BuildHasher> RawOccupiedEntryMut<'a, K, V, S> {
     ghost use Rattle.hashlink_map.specs.RawEntry.{raw_occupied_map, raw_occupied_state, raw_place, raw_with};

@@ -1,4 +1,4 @@
-//! The methods of `RawVacantEntryMut`.
+//! Vacant raw entries.
 ghost use Rattle.std.specs.Prelude.{◌≡◌, ◌∷◌, None, IfOk, IfErr, length};
 ghost use Rattle.std.specs.Borrow.{sem};
 ghost use Rattle.std.specs.List.{All};
@@ -7,8 +7,16 @@ ghost use Rattle.hashlink_model.specs.Entries.{place_of};
 ghost use Rattle.hashlink_core.specs.Keyed.{state_of, entries_of};
 ghost use Rattle.hashlink_core.specs.Tied.{hash_with};
 
-use super::{RawOccupiedEntryMut, RawVacantEntryMut};
+use super::RawOccupiedEntryMut;
+use crate::map::LinkedHashMap;
+use hashlink_core::DefaultHashBuilder;
 use std::hash::{BuildHasher, Hash};
+
+/// A vacant raw entry: a pair whose key is absent can be inserted here.
+#[derive(Drop)]
+pub struct RawVacantEntryMut<'a, K: Eq + Hash, V, S: BuildHasher = DefaultHashBuilder> {
+    pub(crate) map: &'a mut LinkedHashMap<K, V, S>,
+}
 
 impl<'a, K: Eq + Hash, V, S: BuildHasher> RawVacantEntryMut<'a, K, V, S> {
     ghost use Rattle.hashlink_map.specs.RawEntry.{raw_vacant_map, raw_occupied_map, raw_place, Hashes};

@@ -1,5 +1,5 @@
-//! Removals of the elements that a closure chooses. The others keep their order. None of these methods allocates
-//! or hashes an element. Each node that becomes spare serves the next insert of an absent element.
+//! Removals of the elements that a closure chooses. The others keep their order. None of these methods
+//! allocates or hashes an element. Each node that becomes spare serves the next insert of an absent element.
 ghost use Rattle.std.specs.Fn.{CalledAt};
 ghost use Rattle.std.specs.List.{IsDistinct};
 ghost use Rattle.hashlink_model.specs.Retain.{RetainsInOrder};

@@ -1,32 +1,18 @@
-use Rattle.std.proofs.Common.{[], ◌++◌, sym, ap, ◌∙◌, append-nil, append_assoc, string_bytes}
+use Rattle.std.proofs.lemmas.Result.{on_ok_weaker}
 use Rattle.hashlink_core.specs.Hashing.{default_builder}
+use Rattle.hashlink_spelling.specs.Lines.{lines_of}
 use Rattle.hashlink_lru.specs.Cached.{state_in}
 use Rattle.hashlink_text.specs.CacheTranscript.{CacheLineShows}
-use Rattle.hashlink_text.specs.Transcript.{ended}
-use Rattle.hashlink_text.proofs.Progress.{HasCome-start, HasCome-line, ShowsAll-whole}
+use Rattle.hashlink_text.proofs.Progress.{Pushes-seen}
 use Rattle.hashlink_text.proofs.cache_text.run_cache_lines.Goals as goal
-
-pub loop-line-init : goal.loop-line-init
-loop-line-init c = (
-  [],
-  rw c.into_iter-line-iterator.ensures.into_iter_gives (HasCome-start CacheLineShows _ _),
-  sym (append-nil _),
-)
-
-pub loop-line-preserved : goal.loop-line-preserved
-loop-line-preserved c =
-    let come = c.loop-line.invariant in
-    let shown = c.in_ok-answer_cache_line.ensures in (
-      come.0 ++ ended shown.0,
-      HasCome-line CacheLineShows c.in-Some.line.now shown.0 (rw c.in-Some.ensures.steps at come.1) shown.1,
-      shown.2 ∙ ap (λ w. w ++ ended shown.0) come.2
-          ∙ append_assoc (string_bytes c.args.out.now) come.0 (ended shown.0),
-    )
 
 pub returns : goal.returns
 returns c =
-    let come = c.loop-line.invariant in
-    let whole =
-    ShowsAll-whole CacheLineShows (state_in c.new-cache.result) (state_in c.loop-line.cache) _ come.0
-    (rw c.in-None.ensures.steps.0 at come.1) in
-    (come.0, (default_builder, state_in c.loop-line.cache, rw c.new-cache.ensures at whole), come.2)
+    let new = c.answer_lines.new in
+    on_ok_weaker c.answer_lines.result
+    (λ pushed.
+    let seen =
+    Pushes-seen state_in CacheLineShows c.args.out.now new.out c.new-cache.result
+    (lines_of c.args.lines.rest.now) new.container pushed in
+    (seen.0, (default_builder, state_in new.container, rw c.new-cache.ensures at seen.1), seen.2))
+    c.answer_lines.ensures

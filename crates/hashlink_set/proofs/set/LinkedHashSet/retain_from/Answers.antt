@@ -30,7 +30,8 @@ returns-clause-retained g c =
       called = search (rules, call.called);
     })
     _ _ _ _ r in
-    let name = name_kept (λ f. f.0.ghost_name) _ (λ f t b d call. search (rules, call.called)) _ _ _ _ r.calls in
+    let name =
+    name_kept (λ f. f.0.ghost_name) _ (λ f t b d call. search (rules, call.called)) _ _ _ _ r.calls in
     let at_self = subst (λ s. RetainsInOrder Called c.args.keep.now s new c.retain_from.new.keep.0.now)
     c.self.view_is seen in
     back (RetainsInOrder Called c.args.keep.now c.args.self.now new) c.keep-1.given.1 name at_self

@@ -1,8 +1,6 @@
 use Rattle.std.proofs.Common.{refl, arith, ◌≡◌, ◌≤◌, ◌-◌}
 use Rattle.hashlink_core.specs.Keyed.{state_of}
 use Rattle.hashlink_weighted.proofs.Dropping.{none_dropped, drops_one, not_none, drops_enough}
-use Rattle.hashlink_weighted.proofs.cache.dropping.evict_until_fitting.Goals.{else-loop-others-test}
-use Rattle.hashlink_weighted.proofs.cache.dropping.evict_until_fitting.Goals.{then-loop-others-test+in_default}
 use Rattle.hashlink_weighted.proofs.cache.dropping.evict_until_fitting.Goals as goal
 
 pub loop-others-init : goal.loop-others-init
@@ -37,8 +35,8 @@ loop-others-preserved g c =
 -- the loop ends only where the others fit
 fits : (g : _) (c : goal.Left-loop-others g) → c.loop-others.others ≤ c.args.budget - c.args.weight
 fits g c = elim c.loop-others-test.branch [
-  | else-loop-others-test w ↦ w.loop-others-test.false
-  | then-loop-others-test+in_default w ↦ absurd
+  | goal.else-loop-others-test w ↦ w.loop-others-test.false
+  | goal.then-loop-others-test+in_default w ↦ absurd
       (not_none (state_of c.args.map.now) (state_of c.loop-others.map)
       (state_of w.pop_front.new.self) c.loop-others.others c.args.weight c.args.budget
       c.loop-others.invariant.dropped
@@ -47,8 +45,8 @@ fits g c = elim c.loop-others-test.branch [
 
 left : (g : _) (c : goal.Left-loop-others g) → c.loop-others-test.map ≡ c.loop-others.map
 left g c = elim c.loop-others-test.branch [
-  | else-loop-others-test w ↦ w.map-is
-  | then-loop-others-test+in_default w ↦ absurd
+  | goal.else-loop-others-test w ↦ w.map-is
+  | goal.then-loop-others-test+in_default w ↦ absurd
       (not_none (state_of c.args.map.now) (state_of c.loop-others.map)
       (state_of w.pop_front.new.self) c.loop-others.others c.args.weight c.args.budget
       c.loop-others.invariant.dropped

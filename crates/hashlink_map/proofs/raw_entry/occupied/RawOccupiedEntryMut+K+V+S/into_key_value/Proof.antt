@@ -36,7 +36,7 @@ use Rattle.hashlink_core.specs.Places.{Holds}
 use Rattle.hashlink_core.specs.contracts.Node.{the_row as node_row}
 use Rattle.hashlink_map.specs.contracts.as_node.NodeAsNode.TheImpl
 use Rattle.hashlink_map.specs.contracts.map.LinkedHashMap as map
-use Rattle.hashlink_map.specs.contracts.raw_entry.RawOccupiedEntryMut as entry
+use Rattle.hashlink_map.specs.contracts.raw_entry.occupied.RawOccupiedEntryMut as entry
 use Rattle.hashlink_map.specs.contracts.raw_entry.occupied.RawOccupiedEntryMut+K+V+S.into_key_value as f
 use Rattle.hashlink_map.specs.contracts.map.LinkedHashMap.pair_at_mut as g
 use Rattle.hashlink_map.proofs.map.LinkedHashMap.pair_at_mut.Met.{met}
