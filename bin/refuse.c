@@ -7,7 +7,8 @@
      SHORT_FROM, SHORT_TO     reads and writes of several bytes there, which move one
 
    For each that it met it writes a byte to the file descriptor that MET_FILE numbers, and as the program ends
-   one to that of LEFT_FILE for each block of memory that was not given back.
+   one to that of LEFT_FILE for each block of memory that was not given back. To that of HELD_FILE, where it is
+   there, it writes a line at each request for memory: how many bytes the program has then.
 
    Where EACH_FILE is there instead, the program runs once and is copied at each request for memory: one copy
    goes on with this request refused, one with this and all that follow, and then the program itself, with
@@ -37,6 +38,7 @@ void *__libc_calloc(size_t, size_t);
 void *__libc_realloc(void *, size_t);
 void *__libc_memalign(size_t, size_t);
 void __libc_free(void *);
+size_t malloc_usable_size(void *);
 char *getenv(const char *);
 long syscall(long, ...);
 int *__errno_location(void);
@@ -77,8 +79,8 @@ static int is_met(struct range *range) {
     return 1;
 }
 
-/* How many blocks the program has. */
-static unsigned long blocks;
+/* How many blocks the program has, and how many bytes. */
+static unsigned long blocks, held;
 
 /* Whether the program is copied at each request, whether this is a copy, and what was written so far. */
 static int is_each, is_copy;
@@ -135,7 +137,14 @@ static int run_copy(int is_all) {
     return 0;
 }
 
+static void tell_held(void) {
+    char line[32];
+    if (getenv("HELD_FILE"))
+        syscall(SYSTEM_WRITE, number_in("HELD_FILE"), line, (long)snprintf(line, sizeof line, "%lu\n", held));
+}
+
 static int is_refused(void) {
+    tell_held();
     if (is_each && !is_copy && !run_copy(0) && !run_copy(1)) {
         refused.count++;
         return 0;
@@ -146,8 +155,18 @@ static int is_refused(void) {
 }
 
 static void *given(void *block) {
-    if (block) blocks++;
+    if (block) {
+        blocks++;
+        held += malloc_usable_size(block);
+    }
     return block;
+}
+
+static void *given_again(void *block, size_t size) {
+    size_t had = malloc_usable_size(block);
+    void *moved = __libc_realloc(block, size);
+    if (moved) held += malloc_usable_size(moved) - had;
+    return moved;
 }
 
 IS_SEEN void *malloc(size_t size) {
@@ -160,7 +179,7 @@ IS_SEEN void *calloc(size_t count, size_t size) {
 
 IS_SEEN void *realloc(void *block, size_t size) {
     if (is_refused()) return 0;
-    return block ? __libc_realloc(block, size) : given(__libc_malloc(size));
+    return block ? given_again(block, size) : given(__libc_malloc(size));
 }
 
 IS_SEEN void *aligned_alloc(size_t alignment, size_t size) {
@@ -174,7 +193,10 @@ IS_SEEN int posix_memalign(void **block, size_t alignment, size_t size) {
 }
 
 IS_SEEN void free(void *block) {
-    if (block) blocks--;
+    if (block) {
+        blocks--;
+        held -= malloc_usable_size(block);
+    }
     __libc_free(block);
 }
 
