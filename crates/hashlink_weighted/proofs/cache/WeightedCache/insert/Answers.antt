@@ -1,4 +1,4 @@
-use Rattle.std.proofs.Common.{◌≤◌, refl, ap, arith, rules}
+use Rattle.std.proofs.Common.{◌≤◌, refl, ap, arith}
 use Rattle.hashlink_core.specs.Keyed.{state_of}
 use Rattle.hashlink_weighted.proofs.Inserted.{old_weight, leaves_last, accepts}
 use Rattle.hashlink_weighted.proofs.cache.WeightedCache.insert.Goals as goal
