@@ -3,6 +3,7 @@ pub mod Hashing
 pub mod Keyed
 pub mod KeyedLends
 pub mod Places
+pub mod Refusals
 pub mod Steps
 pub mod Telling
 pub mod Tied

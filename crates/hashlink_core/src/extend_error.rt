@@ -14,6 +14,11 @@ pub struct ExtendError<K, V> {
 }
 
 impl<K, V> fmt::Display for ExtendError<K, V> {
+    ghost use Rattle.std.specs.Prelude.{Some};
+    ghost use Rattle.hashlink_core.specs.Refusals.{extend_shown};
+
+    ghost output = { λ e. Some (extend_shown e) };
+
     fn fmt<W: fmt::Write>(&self, f: &mut fmt::Formatter<W>) -> fmt::Result {
         write!(f, "no memory for an item, after {} items", self.taken)
     }

@@ -1,6 +1,7 @@
 -- What a walk ends as, once a `&mut` to a value that came through it has ended.
 use Rattle.std.specs.Prelude.{◌≡◌, ℕ, [], Option, None, Some, OnSome, IfNone, MatchOption, slice_get}
 use Rattle.std.specs.Borrow.{Fml, RattleType, Bor, MutBor, Lends, LendsSo, follows_so, name_if_some}
+use Rattle.std.specs.Option.{option_map, option_copied_mut}
 use mir.Syntax.{named}
 use Rattle.std.specs.declared.cmp.PartialEq as eq
 use Rattle.std.specs.declared.hash.Hash as hash
@@ -15,7 +16,7 @@ use Rattle.hashlink_map.specs.declared.as_node.AsNode as as_node
 use Rattle.hashlink_map.specs.declared.iter_mut.IterMut.{IterMut}
 use Rattle.hashlink_map.specs.declared.values_mut.ValuesMut.{ValuesMut}
 use Rattle.hashlink_map.specs.IterMut.{walk_map, walk_state, values_map, values_state}
-use Rattle.hashlink_map.specs.WritingWalk.{WritingWalk, TakesPlace, walk_with}
+use Rattle.hashlink_map.specs.WritingWalk.{WritingWalk, TakesPlace, walk_with, after_front, after_back, last_place}
 use Rattle.hashlink_map.specs.Cursor.{lent_pair}
 use Rattle.hashlink_map.specs.Standing.{still_standing}
 
@@ -47,6 +48,10 @@ LentFrom {K} {V} m taken r =
     (λ n. (p : Bor K × MutBor V) × (r ≡ Some p)
     × (slice_get (entries_of m) (place_number m.nodes (Some n)) ≡ Some (lent_pair p)))
 
+-- the value of the entry is lent, and none where there is no entry
+abbrev pub LentValue : {K V : Type 0} → Option (K × V) → Option (MutBor V) → Type 0
+LentValue e r = option_copied_mut r ≡ option_map (λ e. e.1) e
+
 module _ {K V S T : Type 0} {g : eq.Ghosts K} {h : hash.Ghosts K} {b : builder.Ghosts S T}
     {w : hasher.Ghosts T}
     {N : Type 0} {n : as_node.Ghosts N} where
@@ -72,6 +77,17 @@ module _ (K V S T : RattleType) {g : eq.Ghosts K.Denot} {h : hash.Ghosts K.Denot
       (λ new v. OnSome r (StepsAndWrites walk_map walk_state i.now new stepped j v))
       (λ new. IfNone r (StaysThere walk_map walk_state i.now new))
 
+  -- the first place that is left is taken off, and lent; and so the last one
+  abbrev pub LendsFirst : MutBor (IterMut K.Denot V.Denot S.Denot Node T.Denot g h b w n)
+      → Option (MutBor V.Denot)
+      → Fml
+  LendsFirst i r = LendsFromWalk i (after_front (walk_state i.now)) (walk_state i.now).at r
+
+  abbrev pub LendsLast : MutBor (IterMut K.Denot V.Denot S.Denot Node T.Denot g h b w n)
+      → Option (MutBor V.Denot)
+      → Fml
+  LendsLast i r = LendsFromWalk i (after_back (walk_state i.now)) (last_place (walk_state i.now)) r
+
   -- the same of the walk over the values alone
   abbrev pub LendsFromValues : MutBor (ValuesMut K.Denot V.Denot S.Denot Node T.Denot g h b w n)
       → WritingWalk K.Denot V.Denot S.Denot → ℕ → Option (MutBor V.Denot)
@@ -80,6 +96,17 @@ module _ (K V S T : RattleType) {g : eq.Ghosts K.Denot} {h : hash.Ghosts K.Denot
       LendsSo (values.the_row (record { mir = named 1; lft = [] }) K V S node_row T g h b w n) V i r
       (λ new v. OnSome r (StepsAndWrites values_map values_state i.now new stepped j v))
       (λ new. IfNone r (StaysThere values_map values_state i.now new))
+
+  abbrev pub LendsFirstValue : MutBor (ValuesMut K.Denot V.Denot S.Denot Node T.Denot g h b w n)
+      → Option (MutBor V.Denot)
+      → Fml
+  LendsFirstValue i r = LendsFromValues i (after_front (values_state i.now)) (values_state i.now).at r
+
+  abbrev pub LendsLastValue : MutBor (ValuesMut K.Denot V.Denot S.Denot Node T.Denot g h b w n)
+      → Option (MutBor V.Denot)
+      → Fml
+  LendsLastValue i r =
+      LendsFromValues i (after_back (values_state i.now)) (last_place (values_state i.now)) r
 
   -- the walk with what was written as the value of the node
   abbrev pub LendsAtWalkNode : MutBor (IterMut K.Denot V.Denot S.Denot Node T.Denot g h b w n)

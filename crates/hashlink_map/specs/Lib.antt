@@ -14,6 +14,7 @@ pub mod Lends
 pub mod RawEntry
 pub mod RawLends
 pub mod Reading
+pub mod Refusals
 pub mod Standing
 pub mod TryInsert
 pub mod WritingWalk

@@ -2,7 +2,7 @@
 //! sees it as the map's state, the number of the first place left, and the number of entries left.
 ghost use Rattle.std.specs.Prelude.{◌≡◌, Some, length, slice_get};
 ghost use Rattle.std.specs.Borrow.{sem};
-ghost use Rattle.std.specs.Option.{option_map, option_copied_mut};
+ghost use Rattle.std.specs.Option.{option_map};
 ghost use Rattle.hashlink_core.specs.Keyed.{entries_of, state_of};
 ghost use Rattle.hashlink_core.specs.Places.{Holds, IsPlace, place_number};
 ghost use Rattle.hashlink_model.specs.Walk.{first_of, last_of};
@@ -11,6 +11,7 @@ ghost use Rattle.hashlink_map.specs.WritingWalk.{StandsIn, StandsIn-prop};
 use crate::as_node::AsNode;
 use crate::map::LinkedHashMap;
 use crate::places_left::PlacesLeft;
+use crate::values_mut::ValuesMut;
 use hashlink_core::{DefaultHashBuilder, Node};
 use std::hash::{BuildHasher, Hash};
 
@@ -23,7 +24,7 @@ pub struct IterMut<'a, K: Eq + Hash, V, S: BuildHasher = DefaultHashBuilder, N: 
 }
 
 impl<K: Eq + Hash, V, S: BuildHasher> LinkedHashMap<K, V, S> {
-    ghost use Rattle.hashlink_map.specs.IterMut.{walk_map, walk_state};
+    ghost use Rattle.hashlink_map.specs.IterMut.{walk_map, walk_state, values_map, values_state};
     ghost use Rattle.hashlink_map.specs.WritingWalk.{writing_walk};
 
     /// Returns a lending iterator over the entries, from front to back, with mutable references to the
@@ -33,8 +34,24 @@ impl<K: Eq + Hash, V, S: BuildHasher> LinkedHashMap<K, V, S> {
         ensures unchanged { (walk_map result).now ≡ self.old }
         ensures rest { walk_state result ≡ writing_walk (state_of self.old) 0 (length (entries_of self.old)) }
     {
-        let places = PlacesLeft::all(self);
-        IterMut { map: self, places }
+        IterMut {
+            places: PlacesLeft::all(self),
+            map: self,
+        }
+    }
+
+    /// Returns a lending iterator over the values, from front to back, with mutable references to them. It
+    /// takes constant time and does not allocate.
+    pub fn values_mut(&mut self) -> ValuesMut<'_, K, V, S>
+        ensures same_map { (values_map result).ghost_name ≡ self.entry.ghost_name }
+        ensures unchanged { (values_map result).now ≡ self.old }
+        ensures rest { values_state result ≡ writing_walk (state_of self.old) 0
+            (length (entries_of self.old)) }
+    {
+        ValuesMut {
+            places: PlacesLeft::all(self),
+            map: self,
+        }
     }
 }
 
@@ -43,7 +60,7 @@ impl<'a, K: Eq + Hash, V, S: BuildHasher> IterMut<'a, K, V, S> {
     ghost use Rattle.hashlink_map.specs.IterMut.{walk_map, walk_state};
     ghost use Rattle.hashlink_map.specs.IterMutLends.{LendsAtWalkNode, LendsPairThere, LendsPairFromWalk};
     ghost use Rattle.hashlink_map.specs.WritingWalk.{walk_rest, after_front, after_back, last_place};
-    ghost use Rattle.hashlink_map.specs.IterMutLends.{LendsFromWalk, LentFrom, TakesOff};
+    ghost use Rattle.hashlink_map.specs.IterMutLends.{LendsFirst, LendsLast, LentFrom, LentValue, TakesOff};
 
     /// Returns the pair of the node.
     fn pair_at_node(&mut self, node: Node) -> (&K, &mut V)
@@ -111,10 +128,8 @@ impl<'a, K: Eq + Hash, V, S: BuildHasher> IterMut<'a, K, V, S> {
     /// Returns a mutable reference to the next value from the front, or `None` if none is left. It is `next`
     /// without the key: a caller can prove exactly what the map is afterwards.
     pub fn next_value(&mut self) -> Option<&mut V>
-        ensures* lends { sem 𝓛 (LendsFromWalk K.row V.row S.row S.Hasher.row self.entry
-            (after_front (walk_state self.old)) (walk_state self.old).at result) }
-        ensures value { option_copied_mut result
-            ≡ option_map (λ e. e.1) (first_of (walk_rest (walk_state self.old))) }
+        ensures* lends { sem 𝓛 (LendsFirst K.row V.row S.row S.Hasher.row self.entry result) }
+        ensures value { LentValue (first_of (walk_rest (walk_state self.old))) result }
     {
         match self.places.take_first(self.map) {
             Some(node) => Some(self.map.value_at_mut(node)),
@@ -125,10 +140,8 @@ impl<'a, K: Eq + Hash, V, S: BuildHasher> IterMut<'a, K, V, S> {
     /// Returns a mutable reference to the next value from the back, or `None` if none is left. It is
     /// `next_back` without the key: a caller can prove exactly what the map is afterwards.
     pub fn next_value_back(&mut self) -> Option<&mut V>
-        ensures* lends { sem 𝓛 (LendsFromWalk K.row V.row S.row S.Hasher.row self.entry
-            (after_back (walk_state self.old)) (last_place (walk_state self.old)) result) }
-        ensures value { option_copied_mut result
-            ≡ option_map (λ e. e.1) (last_of (walk_rest (walk_state self.old))) }
+        ensures* lends { sem 𝓛 (LendsLast K.row V.row S.row S.Hasher.row self.entry result) }
+        ensures value { LentValue (last_of (walk_rest (walk_state self.old))) result }
     {
         match self.places.take_last(self.map) {
             Some(node) => Some(self.map.value_at_mut(node)),

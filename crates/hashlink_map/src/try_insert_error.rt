@@ -13,6 +13,10 @@ pub enum TryInsertError<K, V, E> {
 }
 
 impl<K, V, E: fmt::Display> fmt::Display for TryInsertError<K, V, E> {
+    ghost use Rattle.hashlink_map.specs.Refusals.{try_insert_shown};
+
+    ghost output = { try_insert_shown E.output };
+
     fn fmt<W: fmt::Write>(&self, f: &mut fmt::Formatter<W>) -> fmt::Result {
         match self {
             TryInsertError::Make(_, error) => write!(f, "no value was made: {error}"),
