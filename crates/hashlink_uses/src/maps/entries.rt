@@ -30,6 +30,29 @@ pub fn count_word<K: Eq + Hash + Drop, S: BuildHasher>(
     Ok(())
 }
 
+/// Inserts a pair at the back if its key is absent, and returns whether it was.
+pub fn put_new<K: Eq + Hash + Drop, V: Drop, S: BuildHasher>(
+    map: &mut LinkedHashMap<K, V, S>,
+    key: K,
+    value: V,
+) -> Result<bool, (K, V)>
+    ensures new { result ≡ Ok true → AddsEntry K.eq (state_of map.old) (state_of map.new) key value
+        (length (entries_of map.old)) }
+    ensures there { result ≡ Ok false → state_of map.new ≡ state_of map.old }
+    ensures refused { IfErr result (RefusesEntry K.eq (state_of map.old) (state_of map.new) key value) }
+{
+    match map.entry(key) {
+        Entry::Occupied(entry) => {
+            entry.into_key();
+            Ok(false)
+        }
+        Entry::Vacant(entry) => {
+            entry.insert(value)?;
+            Ok(true)
+        }
+    }
+}
+
 /// Removes the key's entry through its entry, as the map's `remove_entry` does.
 pub fn take<K: Eq + Hash + Drop, V, S: BuildHasher>(
     map: &mut LinkedHashMap<K, V, S>,
