@@ -80,7 +80,7 @@ pub fn has_value<K: Eq + Hash, V: PartialEq, S: BuildHasher>(
 ) -> bool
     ensures { result ≡ list_any (λ e. V.eq e.1 value.now) (entries_of map.now) }
 {
-    for (_, stored) in map {
+    for (_, stored) in map.iter() {
         if stored == value {
             return true;
         }
