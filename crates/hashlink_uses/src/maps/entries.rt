@@ -30,7 +30,8 @@ pub fn count_word<K: Eq + Hash + Drop, S: BuildHasher>(
     Ok(())
 }
 
-/// Counts a word: adds one to the count that there is, or begins with one. The map ends as after `count_word`.
+/// Counts a word: adds one to the count that there is, or begins with one. The map ends as after
+/// `count_word`.
 pub fn count_on<K: Eq + Hash + Drop, S: BuildHasher>(
     map: &mut LinkedHashMap<K, u64, S>,
     word: K,
@@ -42,7 +43,9 @@ pub fn count_on<K: Eq + Hash + Drop, S: BuildHasher>(
         (Ok (lookup (K.eq word) (entries_of map.old)))) }
     ensures refused { IfErr result (RefusesEntry K.eq (state_of map.old) (state_of map.new) word 1) }
 {
-    map.entry(word).and_modify(|count| *count += 1).or_insert(1)?;
+    map.entry(word)
+        .and_modify(|count| *count += 1)
+        .or_insert(1)?;
     Ok(())
 }
 
