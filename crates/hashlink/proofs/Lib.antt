@@ -1,5 +1,6 @@
 -- The lemmas for callers stand in CallerLemmas; the files after it are passed on.
 pub mod CallerLemmas
+pub mod Modified
 pub use Rattle.hashlink_model.proofs.Extends
 pub use Rattle.hashlink_model.proofs.Filtered
 pub use Rattle.hashlink_model.proofs.InTurn

@@ -11,5 +11,6 @@ pub mod maps;
 pub mod memo;
 pub mod queue;
 pub mod sessions;
+pub mod sets;
 pub mod statements;
 pub mod weighted;

@@ -1,9 +1,12 @@
 //! Calls of a map, and what is known of it afterwards.
 
+pub mod cursors;
 pub mod drains;
 pub mod entries;
 pub mod everyday;
 pub mod indexed;
+pub mod lent_values;
 pub mod many;
+pub mod raw_entries;
 pub mod retains;
 pub mod writing_walks;

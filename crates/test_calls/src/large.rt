@@ -1,7 +1,9 @@
-//! One large run of each container.
+//! One large run of each container, and of a text.
 use crate::few::{Map, map_of, passes, set_of};
+use hashlink::run::run_text;
 use hashlink::weighted::WeightedCache;
 use hashlink::{LinkedHashSet, LruCache};
+use std::alloc::Global;
 use std::process::ExitCode;
 
 /// More than a million, so that no bound of a million is met by it.
@@ -76,4 +78,27 @@ fn keeps_what_fits(cache: &mut WeightedCache<u32, ()>) -> bool {
 #[test]
 fn a_large_cache_with_a_budget_keeps_what_fits(rt: HostRuntime) -> ExitCode {
     passes(keeps_what_fits(&mut WeightedCache::new(rt.alloc(), 2_000_002)))
+}
+
+/// A text of more than a megabyte, which inserts one pair again and again.
+fn long_text(alloc: Global) -> Vec<u8> {
+    let mut text = Vec::new(alloc);
+    let _mode = text.extend_from_slice(b"map\n");
+    for _ in 0..100_000 {
+        let _line = text.extend_from_slice(b"insert 1 10\n");
+    }
+    text
+}
+
+/// Whether the answer to it has a line of two bytes, and 99,999 lines of three.
+fn is_answered(alloc: Global, text: &[u8]) -> bool {
+    match run_text(alloc, text) {
+        Ok(answer) => (text.len() == 1_200_004) & (answer.len() == 299_999),
+        Err(_) => false,
+    }
+}
+
+#[test]
+fn a_text_of_more_than_a_megabyte_is_answered(rt: HostRuntime) -> ExitCode {
+    passes(is_answered(rt.alloc(), &long_text(rt.alloc())))
 }

@@ -4,7 +4,11 @@
 #[cfg(test)]
 mod curves;
 #[cfg(test)]
+mod maps;
+#[cfg(test)]
 mod sessions;
+#[cfg(test)]
+mod sets;
 #[cfg(test)]
 mod uses;
 

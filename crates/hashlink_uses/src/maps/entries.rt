@@ -30,6 +30,48 @@ pub fn count_word<K: Eq + Hash + Drop, S: BuildHasher>(
     Ok(())
 }
 
+/// Counts a word: adds one to the count that there is, or begins with one. The map ends as after
+/// `count_word`.
+pub fn count_on<K: Eq + Hash + Drop, S: BuildHasher>(
+    map: &mut LinkedHashMap<K, u64, S>,
+    word: K,
+) -> Result<(), (K, u64)>
+    requires { unwrap_or (lookup (K.eq word) (entries_of map.old)) 0 + 1 < 2 ^ 64 }
+    ensures counts { OnOk result
+        (Inserts K.eq (state_of map.old) (state_of map.new) word
+        (unwrap_or (lookup (K.eq word) (entries_of map.old)) 0 + 1) (length (entries_of map.old))
+        (Ok (lookup (K.eq word) (entries_of map.old)))) }
+    ensures refused { IfErr result (RefusesEntry K.eq (state_of map.old) (state_of map.new) word 1) }
+{
+    map.entry(word)
+        .and_modify(|count| *count += 1)
+        .or_insert(1)?;
+    Ok(())
+}
+
+/// Inserts a pair at the back if its key is absent, and returns whether it was.
+pub fn put_new<K: Eq + Hash + Drop, V: Drop, S: BuildHasher>(
+    map: &mut LinkedHashMap<K, V, S>,
+    key: K,
+    value: V,
+) -> Result<bool, (K, V)>
+    ensures new { result ≡ Ok true → AddsEntry K.eq (state_of map.old) (state_of map.new) key value
+        (length (entries_of map.old)) }
+    ensures there { result ≡ Ok false → state_of map.new ≡ state_of map.old }
+    ensures refused { IfErr result (RefusesEntry K.eq (state_of map.old) (state_of map.new) key value) }
+{
+    match map.entry(key) {
+        Entry::Occupied(entry) => {
+            entry.into_key();
+            Ok(false)
+        }
+        Entry::Vacant(entry) => {
+            entry.insert(value)?;
+            Ok(true)
+        }
+    }
+}
+
 /// Removes the key's entry through its entry, as the map's `remove_entry` does.
 pub fn take<K: Eq + Hash + Drop, V, S: BuildHasher>(
     map: &mut LinkedHashMap<K, V, S>,

@@ -1,11 +1,12 @@
 //! Maps that are built from many pairs or extended by them, and what is known of them afterwards.
 ghost use Rattle.std.specs.Prelude.{◌≡◌, ◌≤◌, List, length, IsOk, OnOk, IfOk, IfErr};
+ghost use Rattle.std.specs.List.{list_any};
 ghost use Rattle.hashlink.specs.Many.{AcceptsAll, StopsAt, InsertsPair};
 ghost use Rattle.hashlink.specs.Keyed.{state_of, entries_of};
 
 use super::drains::empty_out;
 use hashlink::LinkedHashMap;
-use hashlink::linked_hash_map::ExtendError;
+use hashlink::linked_hash_map::{ExtendError, IntoIter};
 use std::alloc::{AllocError, Global};
 use std::hash::{BuildHasher, Hash};
 
@@ -47,4 +48,42 @@ pub fn refill<K: Eq + Hash + Drop, V: Drop, S: BuildHasher + Drop>(
 {
     empty_out(map);
     append(map, other)
+}
+
+/// Moves the entries that an iterator over another map has left to the back of this one. If an insert fails,
+/// those after its pair are still left.
+pub fn append_rest<K: Eq + Hash + Drop, V: Drop, S: BuildHasher + Drop>(
+    map: &mut LinkedHashMap<K, V, S>,
+    rest: &mut IntoIter<K, V, S>,
+) -> Result<(), ExtendError<K, V>>
+    ensures all { OnOk result
+        (AcceptsAll (InsertsPair K.eq) (state_of map.old) rest.old (state_of map.new)) }
+    ensures stopped { IfErr result (λ e. StopsAt (InsertsPair K.eq) (state_of map.old) rest.old
+        (state_of map.new) e.taken e.pair rest.new) }
+{
+    map.extend_from(rest)
+}
+
+/// Returns a map of the same numbers.
+pub fn copy_of<S: BuildHasher + Clone>(
+    map: &LinkedHashMap<u64, u64, S>,
+) -> Result<LinkedHashMap<u64, u64, S>, AllocError>
+    ensures { IfOk result (λ copy. entries_of copy ≡ entries_of map.now) }
+{
+    map.clone()
+}
+
+/// Returns whether an entry has this value.
+pub fn has_value<K: Eq + Hash, V: PartialEq, S: BuildHasher>(
+    map: &LinkedHashMap<K, V, S>,
+    value: &V,
+) -> bool
+    ensures { result ≡ list_any (λ e. V.eq e.1 value.now) (entries_of map.now) }
+{
+    for (_, stored) in map.iter() {
+        if stored == value {
+            return true;
+        }
+    }
+    false
 }

@@ -1,0 +1,10 @@
+use Rattle.std.proofs.Common.{rules}
+use Rattle.hashlink.specs.Keyed.{state_of}
+use Rattle.hashlink.specs.RawEntry.{raw_place}
+use Rattle.hashlink.proofs.AtKey.{written-key}
+use Rattle.hashlink_uses.proofs.maps.raw_entries.write_value.Goals as goal
+
+pub returns-in-Occupied-clause-there : goal.returns-in-Occupied-clause-there
+returns-in-Occupied-clause-there g c _ =
+    written-key g.K.PartialEq.eq (state_of c.args.map.now) _ c.args.key.now (raw_place c.in-Occupied.entry)
+    (search rules) c.args.value (search rules)

@@ -1,0 +1,64 @@
+//! Values that a map lends for writing, and what is known of the map afterwards.
+ghost use Rattle.std.specs.Prelude.{◌≡◌, IsFalse, IsTrue, length};
+ghost use Rattle.hashlink.specs.Keyed.{entries_of, state_of};
+ghost use Rattle.hashlink.specs.Steps.{MovesAndWrites, with_value_of};
+
+use hashlink::LinkedHashMap;
+use std::hash::{BuildHasher, Hash};
+
+/// Writes the value of a key at its place, and returns whether the key is present.
+pub fn write<K: Eq + Hash, V: Drop, S: BuildHasher>(
+    map: &mut LinkedHashMap<K, V, S>,
+    key: &K,
+    value: V,
+) -> bool
+    ensures there { IsTrue result
+        → state_of map.new ≡ with_value_of K.eq (state_of map.old) key.now value }
+    ensures absent { IsFalse result → state_of map.new ≡ state_of map.old }
+{
+    match map.get_mut(key) {
+        Some(stored) => {
+            *stored = value;
+            true
+        }
+        None => false,
+    }
+}
+
+/// Moves the entry of a key to the front and writes its value, and returns whether the key is present.
+pub fn write_to_front<K: Eq + Hash, V: Drop, S: BuildHasher>(
+    map: &mut LinkedHashMap<K, V, S>,
+    key: &K,
+    value: V,
+) -> bool
+    ensures there { IsTrue result
+        → MovesAndWrites K.eq (state_of map.old) (state_of map.new) key.now 0 value }
+    ensures absent { IsFalse result → state_of map.new ≡ state_of map.old }
+{
+    match map.to_front(key) {
+        Some(stored) => {
+            *stored = value;
+            true
+        }
+        None => false,
+    }
+}
+
+/// Moves the entry of a key to the back and writes its value, and returns whether the key is present.
+pub fn write_to_back<K: Eq + Hash, V: Drop, S: BuildHasher>(
+    map: &mut LinkedHashMap<K, V, S>,
+    key: &K,
+    value: V,
+) -> bool
+    ensures there { IsTrue result → MovesAndWrites K.eq (state_of map.old) (state_of map.new) key.now
+        (length (entries_of map.old)) value }
+    ensures absent { IsFalse result → state_of map.new ≡ state_of map.old }
+{
+    match map.to_back(key) {
+        Some(stored) => {
+            *stored = value;
+            true
+        }
+        None => false,
+    }
+}

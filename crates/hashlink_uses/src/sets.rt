@@ -1,0 +1,44 @@
+//! Calls of a set, and what is known of it afterwards.
+ghost use Rattle.std.specs.Prelude.{◌≡◌, IfOk, OnOk};
+ghost use Rattle.hashlink.specs.Many.{AcceptsAll};
+ghost use Rattle.hashlink.specs.SetAnswers.{as_value};
+ghost use Rattle.hashlink.specs.Sets.{SetInserts, elements_of};
+ghost use Rattle.hashlink.specs.Steps.{Drains, Moves};
+
+use hashlink::LinkedHashSet;
+use hashlink::linked_hash_map::ExtendError;
+use std::alloc::AllocError;
+use std::hash::{BuildHasher, Hash};
+
+/// Moves a word to the front, and returns whether it is present.
+pub fn promote<T: Eq + Hash, S: BuildHasher>(words: &mut LinkedHashSet<T, S>, word: &T) -> bool
+    ensures { Moves T.eq words.old words.new word.now 0 (as_value result) }
+{
+    words.to_front(word)
+}
+
+/// Empties a set, and keeps its nodes.
+pub fn empty_out<T: Eq + Hash + Drop, S: BuildHasher>(words: &mut LinkedHashSet<T, S>)
+    ensures { Drains words.old words.new }
+{
+    let _rest = words.drain();
+}
+
+/// Moves another set's words to the back of this one. If an insert fails, those before it stay inserted.
+pub fn append<T: Eq + Hash + Drop, S: BuildHasher + Drop>(
+    words: &mut LinkedHashSet<T, S>,
+    other: LinkedHashSet<T, S>,
+) -> Result<(), ExtendError<T, ()>>
+    ensures { OnOk result (AcceptsAll (SetInserts T.eq) words.old (elements_of other) words.new) }
+{
+    words.extend(other)
+}
+
+/// Returns a set of the same numbers.
+pub fn copy_of<S: BuildHasher + Clone>(
+    numbers: &LinkedHashSet<u64, S>,
+) -> Result<LinkedHashSet<u64, S>, AllocError>
+    ensures { IfOk result (λ copy. elements_of copy ≡ elements_of numbers.now) }
+{
+    numbers.clone()
+}
