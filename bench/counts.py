@@ -36,8 +36,10 @@ def counts_of(program, size, rounds, room):
         events = re.search(r"^events: (.*)$", text, re.M)
         totals = re.search(r"^(?:summary|totals): (.*)$", text, re.M)
         if row and events and totals:
+            # Zeros at the end of the totals are left out.
             of = dict(zip(events[1].split(), map(int, totals[1].split())))
-            found[row[1]] = (of["Ir"], of["DLmr"] + of["DLmw"], of["Bcm"] + of["Bim"])
+            kinds = ("Ir",), ("DLmr", "DLmw"), ("Bcm", "Bim")
+            found[row[1]] = [sum(of.get(it, 0) for it in kind) for kind in kinds]
     return found
 
 
