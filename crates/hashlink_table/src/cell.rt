@@ -1,4 +1,4 @@
-ghost use Rattle.std.specs.Prelude.{◌≡◌, ◌≤◌, ◌≢◌, IfNone, IfSome, IsSome, IsTrue, Some, None, ◌↔◌};
+ghost use Rattle.std.specs.Prelude.{◌≡◌, ◌≤◌, ◌≢◌, ◌^◌, IfNone, IfSome, IsSome, IsTrue, Some, None, ◌↔◌};
 
 use super::kept::Kept;
 use std::marker::Model;
@@ -8,6 +8,9 @@ pub const END: usize = (1 << 31) - 1;
 
 // What is added to the link of a cell without a node.
 const FREE: u32 = 1 << 31;
+
+// Above each hash.
+const ABOVE_HASHES: u64 = 1 << 32;
 
 /// What contracts see of a cell, a place for one node.
 #[derive(Clone, Copy)]
@@ -92,6 +95,16 @@ impl<N: Copy> Stored<N> {
         }
     }
 
+    // The hash of the cell's node, and of a free cell a number above all hashes. It is compared at once, which
+    // nearly always fails for an absent key, where a test for a node alone comes out either way by chance.
+    #[inline]
+    fn mark(&self) -> u64
+        ensures taken { IfSome self.now.kept (λ kept. result ≡ kept.hash) }
+        ensures free { IfNone self.now.kept (2 ^ 32 ≤ result) }
+    {
+        u64::from(self.hash) + u64::from(self.link / FREE) * ABOVE_HASHES
+    }
+
     /// The cell's node, if it has one under this hash.
     #[inline]
     pub fn under(&self, hash: u32) -> Option<N>
@@ -99,7 +112,7 @@ impl<N: Copy> Stored<N> {
         ensures not_here { IfNone result
             ((node : N) → self.now.kept ≢ Some (record { hash = hash; node = node })) }
     {
-        if self.hash == hash && self.is_taken() {
+        if self.mark() == u64::from(hash) {
             Some(self.node)
         } else {
             None

@@ -1,7 +1,6 @@
 //! Calls of a cache, and what is known of it once a loan has ended.
 ghost use Rattle.std.specs.Prelude.{◌≡◌, ℕ, ◌+◌, ◌<◌, ◌^◌, IsTrue, IsFalse, IsOk, OnOk, IfErr, Ok, length};
-ghost use Rattle.std.specs.Prelude.{unwrap_or};
-ghost use Rattle.std.specs.Prelude.{option_copied};
+ghost use Rattle.std.specs.Prelude.{is_some, option_copied, unwrap_or};
 ghost use Rattle.std.specs.Map.{lookup, lookup_entry};
 ghost use Rattle.hashlink.specs.Cache.{CacheGetsAndWrites, EvictsFront, OnMap, IsWithin, front_evicted};
 ghost use Rattle.hashlink.specs.Entries.{put};
@@ -20,6 +19,7 @@ pub fn use_and_write<K: Eq + Hash, V: Drop, S: BuildHasher>(
     key: &K,
     value: V,
 ) -> bool
+    ensures found { result ≡ is_some (lookup (K.eq key.now) (entries_in cache.old)) }
     ensures there { IsTrue result → CacheGetsAndWrites K.eq (state_in cache.old)
         (state_in cache.new) key.now value }
     ensures absent { IsFalse result → state_in cache.new ≡ state_in cache.old }
@@ -39,6 +39,7 @@ pub fn write_in_place<K: Eq + Hash, V: Drop, S: BuildHasher>(
     key: &K,
     value: V,
 ) -> bool
+    ensures found { result ≡ is_some (lookup (K.eq key.now) (entries_in cache.old)) }
     ensures there { IsTrue result
         → state_in cache.new
         ≡ record (state_in cache.old) { map = with_value_of K.eq (state_in cache.old).map key.now value } }

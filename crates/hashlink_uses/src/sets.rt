@@ -1,6 +1,6 @@
 //! Calls of a set, and what is known of it afterwards.
-ghost use Rattle.std.specs.Prelude.{◌≡◌, IfOk, OnOk};
-ghost use Rattle.hashlink.specs.Many.{AcceptsAll};
+ghost use Rattle.std.specs.Prelude.{◌≡◌, [], List, IfErr, IfOk, OnErr, OnOk};
+ghost use Rattle.hashlink.specs.Many.{AcceptsAll, StopsAt};
 ghost use Rattle.hashlink.specs.SetAnswers.{as_value};
 ghost use Rattle.hashlink.specs.Sets.{SetInserts, elements_of};
 ghost use Rattle.hashlink.specs.Steps.{Drains, Moves};
@@ -29,7 +29,9 @@ pub fn append<T: Eq + Hash + Drop, S: BuildHasher + Drop>(
     words: &mut LinkedHashSet<T, S>,
     other: LinkedHashSet<T, S>,
 ) -> Result<(), ExtendError<T, ()>>
-    ensures { OnOk result (AcceptsAll (SetInserts T.eq) words.old (elements_of other) words.new) }
+    ensures all { OnOk result (AcceptsAll (SetInserts T.eq) words.old (elements_of other) words.new) }
+    ensures stopped { IfErr result (λ e. (left : List T)
+        × StopsAt (SetInserts T.eq) words.old (elements_of other) words.new e.taken e.pair.0 left) }
 {
     words.extend(other)
 }
@@ -38,7 +40,8 @@ pub fn append<T: Eq + Hash + Drop, S: BuildHasher + Drop>(
 pub fn copy_of<S: BuildHasher + Clone>(
     numbers: &LinkedHashSet<u64, S>,
 ) -> Result<LinkedHashSet<u64, S>, AllocError>
-    ensures { IfOk result (λ copy. elements_of copy ≡ elements_of numbers.now) }
+    ensures same { IfOk result (λ copy. elements_of copy ≡ elements_of numbers.now) }
+    ensures refused { OnErr result (S.is_infallible numbers.now.hasher → elements_of numbers.now ≡ [] → ⊥) }
 {
     numbers.clone()
 }

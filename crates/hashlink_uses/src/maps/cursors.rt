@@ -1,5 +1,6 @@
 //! Cursors of entries, and what is known of a map after one.
-ghost use Rattle.std.specs.Prelude.{◌≡◌, ℕ, Some, MatchOption, length};
+ghost use Rattle.std.specs.Prelude.{◌≡◌, ℕ, None, Some, IfNone, MatchOption, length};
+ghost use Rattle.std.specs.Map.{lookup};
 ghost use Rattle.hashlink.specs.Cursor.{following_place};
 ghost use Rattle.hashlink.specs.Entries.{place_of};
 ghost use Rattle.hashlink.specs.Keyed.{entries_of, state_of};
@@ -17,7 +18,8 @@ pub fn put_after<K: Eq + Hash + Drop, V: Drop, S: BuildHasher>(
     key: K,
     value: V,
 ) -> Option<Result<Option<V>, (K, V)>>
-    ensures { MatchOption result (state_of map.new ≡ state_of map.old)
+    ensures absent { IfNone result (lookup (K.eq before) (entries_of map.old) ≡ None) }
+    ensures inserts { MatchOption result (state_of map.new ≡ state_of map.old)
         (λ inserted. (j : ℕ) × (place_of (K.eq before) (entries_of map.old) ≡ Some j)
         × Inserts K.eq (state_of map.old) (state_of map.new) key value
         (following_place (length (entries_of map.old)) j) inserted) }

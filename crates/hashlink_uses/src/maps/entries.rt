@@ -1,6 +1,6 @@
 //! Calls through entries, raw entries and cursors, and what is known of a map once they are gone.
-ghost use Rattle.std.specs.Prelude.{◌≡◌, ℕ, ◌+◌, ◌-◌, ◌<◌, ◌^◌, Some, Ok, OnOk, IfErr};
-ghost use Rattle.std.specs.Prelude.{MatchOption, length, unwrap_or, true, false};
+ghost use Rattle.std.specs.Prelude.{◌≡◌, ℕ, ◌+◌, ◌-◌, ◌<◌, ◌^◌, [], Some, Ok, IfOk, OnOk, IfErr, IfNone};
+ghost use Rattle.std.specs.Prelude.{MatchOption, is_none, is_some, length, unwrap_or, true, false};
 ghost use Rattle.std.specs.Map.{lookup};
 ghost use Rattle.hashlink.specs.Cursor.{following_place, preceding_place};
 ghost use Rattle.hashlink.specs.Entry.{TakesEntry, ReplacesKey, ReplacesValue};
@@ -55,6 +55,7 @@ pub fn put_new<K: Eq + Hash + Drop, V: Drop, S: BuildHasher>(
     key: K,
     value: V,
 ) -> Result<bool, (K, V)>
+    ensures added { IfOk result (λ added. added ≡ is_none (lookup (K.eq key) (entries_of map.old))) }
     ensures new { result ≡ Ok true → AddsEntry K.eq (state_of map.old) (state_of map.new) key value
         (length (entries_of map.old)) }
     ensures there { result ≡ Ok false → state_of map.new ≡ state_of map.old }
@@ -91,7 +92,8 @@ pub fn refresh<K: Eq + Hash + Drop, V: Drop, S: BuildHasher>(
     key: K,
     value: V,
 ) -> Option<V>
-    ensures { MatchOption result (state_of map.new ≡ state_of map.old)
+    ensures found { is_some result ≡ is_some (lookup (K.eq key) (entries_of map.old)) }
+    ensures puts { MatchOption result (state_of map.new ≡ state_of map.old)
         (PutsEntry K.eq (state_of map.old) (state_of map.new) key value (length (entries_of map.old))) }
 {
     match map.entry(key) {
@@ -165,7 +167,8 @@ pub fn write_raw<K: Eq + Hash, V: Drop, S: BuildHasher>(
     key: &K,
     value: V,
 ) -> Option<V>
-    ensures { MatchOption result (map.new ≡ map.old)
+    ensures found { is_some result ≡ is_some (lookup (K.eq key.now) (entries_of map.old)) }
+    ensures writes { MatchOption result (map.new ≡ map.old)
         (WritesEntry K.eq (state_of map.old) (state_of map.new) key.now value) }
 {
     match map.raw_entry_of(key) {
@@ -183,6 +186,7 @@ pub fn put_absent<K: Eq + Hash, V: Drop, S: BuildHasher>(
 ) -> Result<bool, (K, V)>
 where
     K: Drop,
+    ensures added { IfOk result (λ added. added ≡ is_none (lookup (K.eq key) (entries_of map.old))) }
     ensures put { result ≡ Ok true → AddsEntry K.eq (state_of map.old) (state_of map.new) key written
         (length (entries_of map.old)) }
     ensures there { result ≡ Ok false → map.new ≡ map.old }
@@ -202,7 +206,8 @@ pub fn renew_key<K: Eq + Hash + Drop, V, S: BuildHasher>(
     map: &mut LinkedHashMap<K, V, S>,
     key: K,
 ) -> Option<K>
-    ensures { MatchOption result (map.new ≡ map.old)
+    ensures found { is_some result ≡ is_some (lookup (K.eq key) (entries_of map.old)) }
+    ensures replaces { MatchOption result (map.new ≡ map.old)
         (λ stored. (j : ℕ) × (place_of (K.eq key) (entries_of map.old) ≡ Some j)
         × ReplacesKey (state_of map.old) (state_of map.new) j key stored) }
 {
@@ -217,7 +222,8 @@ pub fn renew_key<K: Eq + Hash + Drop, V, S: BuildHasher>(
 pub fn take_last<K: Eq + Hash, V, S: BuildHasher>(
     map: &mut LinkedHashMap<K, V, S>,
 ) -> Option<(K, V)>
-    ensures { MatchOption result (map.new ≡ map.old)
+    ensures none { IfNone result (entries_of map.old ≡ []) }
+    ensures takes { MatchOption result (map.new ≡ map.old)
         (TakesEntry (state_of map.old) (state_of map.new) (length (entries_of map.old) - 1)) }
 {
     Some(map.back_entry()?.remove_entry())
@@ -228,7 +234,8 @@ pub fn set_front<K: Eq + Hash, V: Drop, S: BuildHasher>(
     map: &mut LinkedHashMap<K, V, S>,
     value: V,
 ) -> Option<V>
-    ensures { MatchOption result (map.new ≡ map.old)
+    ensures none { IfNone result (entries_of map.old ≡ []) }
+    ensures replaces { MatchOption result (map.new ≡ map.old)
         (ReplacesValue (state_of map.old) (state_of map.new) 0 value) }
 {
     match map.front_entry() {
@@ -241,7 +248,8 @@ pub fn set_front<K: Eq + Hash, V: Drop, S: BuildHasher>(
 pub fn take_before_last<K: Eq + Hash, V, S: BuildHasher>(
     map: &mut LinkedHashMap<K, V, S>,
 ) -> Option<(K, V)>
-    ensures { MatchOption result (map.new ≡ map.old)
+    ensures none { IfNone result (length (entries_of map.old) < 2) }
+    ensures takes { MatchOption result (map.new ≡ map.old)
         (TakesEntry (state_of map.old) (state_of map.new)
         (preceding_place (length (entries_of map.old)) (length (entries_of map.old) - 1))) }
 {
@@ -268,7 +276,8 @@ pub fn write_first<K: Eq + Hash, V: Drop, S: BuildHasher>(
     value: V,
 ) -> bool
     ensures there { result ≡ true → state_of map.new ≡ with_value (state_of map.old) 0 value }
-    ensures empty { result ≡ false → state_of map.new ≡ state_of map.old }
+    ensures none { result ≡ false → entries_of map.old ≡ [] }
+    ensures unchanged { result ≡ false → state_of map.new ≡ state_of map.old }
 {
     let mut cursor = map.cursor_front_mut();
     match cursor.current_value() {

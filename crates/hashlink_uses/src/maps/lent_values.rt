@@ -1,5 +1,6 @@
 //! Values that a map lends for writing, and what is known of the map afterwards.
-ghost use Rattle.std.specs.Prelude.{◌≡◌, IsFalse, IsTrue, length};
+ghost use Rattle.std.specs.Prelude.{◌≡◌, IsFalse, IsTrue, is_some, length};
+ghost use Rattle.std.specs.Map.{lookup};
 ghost use Rattle.hashlink.specs.Keyed.{entries_of, state_of};
 ghost use Rattle.hashlink.specs.Steps.{MovesAndWrites, with_value_of};
 
@@ -12,6 +13,7 @@ pub fn write<K: Eq + Hash, V: Drop, S: BuildHasher>(
     key: &K,
     value: V,
 ) -> bool
+    ensures found { result ≡ is_some (lookup (K.eq key.now) (entries_of map.old)) }
     ensures there { IsTrue result
         → state_of map.new ≡ with_value_of K.eq (state_of map.old) key.now value }
     ensures absent { IsFalse result → state_of map.new ≡ state_of map.old }
@@ -31,6 +33,7 @@ pub fn write_to_front<K: Eq + Hash, V: Drop, S: BuildHasher>(
     key: &K,
     value: V,
 ) -> bool
+    ensures found { result ≡ is_some (lookup (K.eq key.now) (entries_of map.old)) }
     ensures there { IsTrue result
         → MovesAndWrites K.eq (state_of map.old) (state_of map.new) key.now 0 value }
     ensures absent { IsFalse result → state_of map.new ≡ state_of map.old }
@@ -50,6 +53,7 @@ pub fn write_to_back<K: Eq + Hash, V: Drop, S: BuildHasher>(
     key: &K,
     value: V,
 ) -> bool
+    ensures found { result ≡ is_some (lookup (K.eq key.now) (entries_of map.old)) }
     ensures there { IsTrue result → MovesAndWrites K.eq (state_of map.old) (state_of map.new) key.now
         (length (entries_of map.old)) value }
     ensures absent { IsFalse result → state_of map.new ≡ state_of map.old }

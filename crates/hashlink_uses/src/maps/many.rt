@@ -1,5 +1,5 @@
 //! Maps that are built from many pairs or extended by them, and what is known of them afterwards.
-ghost use Rattle.std.specs.Prelude.{◌≡◌, ◌≤◌, List, length, IsOk, OnOk, IfOk, IfErr};
+ghost use Rattle.std.specs.Prelude.{◌≡◌, ◌≤◌, [], List, length, IsOk, OnErr, OnOk, IfOk, IfErr};
 ghost use Rattle.std.specs.List.{list_any};
 ghost use Rattle.hashlink.specs.Many.{AcceptsAll, StopsAt, InsertsPair};
 ghost use Rattle.hashlink.specs.Keyed.{state_of, entries_of};
@@ -68,7 +68,8 @@ pub fn append_rest<K: Eq + Hash + Drop, V: Drop, S: BuildHasher + Drop>(
 pub fn copy_of<S: BuildHasher + Clone>(
     map: &LinkedHashMap<u64, u64, S>,
 ) -> Result<LinkedHashMap<u64, u64, S>, AllocError>
-    ensures { IfOk result (λ copy. entries_of copy ≡ entries_of map.now) }
+    ensures same { IfOk result (λ copy. entries_of copy ≡ entries_of map.now) }
+    ensures refused { OnErr result (S.is_infallible map.now.hasher → entries_of map.now ≡ [] → ⊥) }
 {
     map.clone()
 }

@@ -1,6 +1,7 @@
 //! Values that raw entries lend, entries that are found by a hash, and what is known of a map afterwards.
-ghost use Rattle.std.specs.Prelude.{◌≡◌, IsFalse, IsTrue};
-ghost use Rattle.hashlink.specs.Keyed.{state_of};
+ghost use Rattle.std.specs.Prelude.{◌≡◌, IsFalse, IsTrue, is_some};
+ghost use Rattle.std.specs.Map.{lookup};
+ghost use Rattle.hashlink.specs.Keyed.{entries_of, state_of};
 ghost use Rattle.hashlink.specs.Steps.{RemovesKey, with_value_of};
 
 use hashlink::LinkedHashMap;
@@ -13,6 +14,7 @@ pub fn write_value<K: Eq + Hash, V: Drop, S: BuildHasher>(
     key: &K,
     value: V,
 ) -> bool
+    ensures found { result ≡ is_some (lookup (K.eq key.now) (entries_of map.old)) }
     ensures there { IsTrue result
         → state_of map.new ≡ with_value_of K.eq (state_of map.old) key.now value }
     ensures absent { IsFalse result → map.new ≡ map.old }
@@ -32,6 +34,7 @@ pub fn write_beside_key<K: Eq + Hash, V: Drop, S: BuildHasher>(
     key: &K,
     value: V,
 ) -> bool
+    ensures found { result ≡ is_some (lookup (K.eq key.now) (entries_of map.old)) }
     ensures there { IsTrue result
         → state_of map.new ≡ with_value_of K.eq (state_of map.old) key.now value }
     ensures absent { IsFalse result → map.new ≡ map.old }

@@ -3,6 +3,7 @@ use Rattle.hashlink.specs.MapState.{AddsEntry}
 use Rattle.hashlink.specs.Keyed.{state_of, entries_of}
 use Rattle.hashlink.specs.RawEntry.{raw_place}
 use Rattle.hashlink.proofs.AtNode.{adds-rewritten-at}
+use Rattle.hashlink_uses.proofs.Found.{is-not-absent}
 use Rattle.hashlink_uses.proofs.maps.entries.put_absent.Goals as goal
 
 pub returns-in_ok-map-in-Vacant-clause-put : goal.returns-in_ok-map-in-Vacant-clause-put
@@ -19,3 +20,8 @@ returns-in_ok-map-in-Vacant-clause-put g c ok =
     adds-rewritten-at g.met.K.Eq.laws (state_of old) (state_of o.map.now) c.args.key c.args.value
     (raw_place o) _
     c.args.written adds last (search rules)
+
+pub returns-in-Occupied-clause-added : goal.returns-in-Occupied-clause-added
+returns-in-Occupied-clause-added g c =
+    is-not-absent (g.K.PartialEq.eq c.args.key) (entries_of c.args.map.now) (raw_place c.in-Occupied.field-0)
+    (search rules)

@@ -1,8 +1,9 @@
 use Rattle.std.proofs.Common.{◌∙◌, ap, ap₂, subst, rules}
 use Rattle.std.specs.Prelude.{OnSome}
 use Rattle.hashlink.specs.MapState.{with_value}
-use Rattle.hashlink.specs.Keyed.{state_of}
+use Rattle.hashlink.specs.Keyed.{entries_of, state_of}
 use Rattle.hashlink.specs.MapCursor.{CursorWritten, cursor_state}
+use Rattle.hashlink_uses.proofs.Found.{no-value-first}
 use Rattle.hashlink_uses.proofs.maps.entries.write_first.Goals as goal
 
 pub returns-in-Some-clause-there : goal.returns-in-Some-clause-there
@@ -15,3 +16,6 @@ returns-in-Some-clause-there g c ok =
     c.in-Some.is (f.holds w) in
     (search rules) ∙ ap (λ s. s.map) written.1
     ∙ ap₂ (λ m i. with_value (state_of m) i w) made.ensures.unchanged made.ensures.first
+
+pub returns-in-None-clause-none : goal.returns-in-None-clause-none
+returns-in-None-clause-none g c _ = no-value-first (entries_of c.args.map.now) (search rules)

@@ -1,10 +1,20 @@
 use Rattle.std.proofs.Common.{rules}
-use Rattle.hashlink.specs.Keyed.{state_of}
+use Rattle.hashlink.specs.Keyed.{entries_of, state_of}
 use Rattle.hashlink.specs.RawEntry.{raw_place}
 use Rattle.hashlink.proofs.AtKey.{written-key}
+use Rattle.hashlink_uses.proofs.Found.{is-found, is-not-found}
 use Rattle.hashlink_uses.proofs.maps.raw_entries.write_beside_key.Goals as goal
 
 pub returns-in-Occupied-clause-there : goal.returns-in-Occupied-clause-there
 returns-in-Occupied-clause-there g c _ =
     written-key g.K.PartialEq.eq (state_of c.args.map.now) _ c.args.key.now (raw_place c.in-Occupied.entry)
     (search rules) c.args.value (search rules)
+
+pub returns-in-Occupied-clause-found : goal.returns-in-Occupied-clause-found
+returns-in-Occupied-clause-found g c =
+    is-found (g.K.PartialEq.eq c.args.key.now) (entries_of c.args.map.now) (raw_place c.in-Occupied.entry)
+    (search rules)
+
+pub returns-in-Vacant-clause-found : goal.returns-in-Vacant-clause-found
+returns-in-Vacant-clause-found g c =
+    is-not-found (g.K.PartialEq.eq c.args.key.now) (entries_of c.args.map.now) (search rules)

@@ -1,6 +1,8 @@
 use Rattle.std.proofs.Common.{rules, ap, ◌∙◌}
+use Rattle.hashlink.specs.Keyed.{entries_of}
 use Rattle.hashlink.specs.MapState.{with_value}
 use Rattle.hashlink.proofs.Walking.{on-some, walk-ends}
+use Rattle.hashlink_uses.proofs.Found.{no-value-left}
 use Rattle.hashlink_uses.proofs.maps.writing_walks.write_first.Goals as goal
 
 pub returns-clause-written : goal.returns-clause-written
@@ -9,3 +11,6 @@ returns-clause-written g c _ =
     let told = on-some c.in-Some.is (c.next_value.follows.holds v) in
     walk-ends (c.next_value.follows.lender v).map.now (search rules)
     (ap (λ s. s.map) told.1 ∙ ap (λ s. with_value s.map s.at v) c.iter_mut-walk.ensures.rest)
+
+pub returns-in_default-clause-none : goal.returns-in_default-clause-none
+returns-in_default-clause-none g c _ = no-value-left (entries_of c.args.map.now) (search rules)

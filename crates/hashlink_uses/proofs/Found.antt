@@ -1,0 +1,56 @@
+-- A key is found exactly where it has a place, and a first value exactly where there is an entry.
+use Rattle.std.proofs.Common.{◌≡◌, ℕ, zero, suc, ◌+◌, ◌-◌, ◌<◌, ◌%◌, Bool, true, false, cond, List, [], ◌∷◌}
+use Rattle.std.proofs.Common.{Option, None, Some, is_some, is_none, refl, sym, ap, ◌∙◌, arith, mod-eq_of_lt}
+use Rattle.std.proofs.Math.Nat.{add-mod_right}
+use Rattle.std.specs.Prelude.{drop, length, option_map, slice_get, take}
+use Rattle.std.specs.Map.{lookup}
+use Rattle.hashlink.specs.Cursor.{preceding_place}
+use Rattle.hashlink.specs.Entries.{place_of}
+use Rattle.hashlink.specs.Walk.{first_of}
+
+module _ {K V : Type 0} (test : K → Bool) where
+  found-head : (b : Bool) (e : K × V) (o : Option V) (p : Option ℕ) → is_some o ≡ is_some p
+      → is_some (cond b (Some e.1) o) ≡ is_some (cond b (Some 0) (option_map (λ j. j + 1) p))
+  found-head true e o p q = refl
+  found-head false e o None q = q
+  found-head false e o (Some j) q = q
+
+  found-placed : (es : List (K × V)) → is_some (lookup test es) ≡ is_some (place_of test es)
+  found-placed [] = refl
+  found-placed (e ∷ es) = found-head (test e.0) e (lookup test es) (place_of test es) (found-placed es)
+
+  pub is-found : (es : List (K × V)) (j : ℕ) → place_of test es ≡ Some j → true ≡ is_some (lookup test es)
+  is-found es j p = sym (found-placed es ∙ ap is_some p)
+
+  pub is-not-found : (es : List (K × V)) → place_of test es ≡ None → false ≡ is_some (lookup test es)
+  is-not-found es p = sym (found-placed es ∙ ap is_some p)
+
+  pub is-not-absent : (es : List (K × V)) (j : ℕ) → place_of test es ≡ Some j
+      → false ≡ is_none (lookup test es)
+  is-not-absent es j p = not-none (lookup test es) (is-found es j p)
+    where
+      not-none : (o : Option V) → true ≡ is_some o → false ≡ is_none o
+      not-none None q = absurd (cc)
+      not-none (Some v) q = refl
+
+pub no-value-first : {K V : Type 0} (es : List (K × V)) → option_map (λ e. e.1) (slice_get es 0) ≡ None
+    → es ≡ []
+no-value-first [] p = refl
+no-value-first (e ∷ es) p = absurd (cc)
+
+pub no-value-left : {K V : Type 0} (es : List (K × V))
+    → option_map (λ e. e.1) (first_of (take (length es) (drop 0 es))) ≡ None
+    → es ≡ []
+no-value-left [] p = refl
+no-value-left (e ∷ es) p = absurd (cc)
+
+-- the place before the last is the guard only where there are fewer than two entries
+pub few-before-last : (n : ℕ) → preceding_place n (n - 1) ≡ n → n < 2
+few-before-last zero p = omega arith
+few-before-last (suc zero) p = omega arith
+few-before-last (suc (suc n)) p =
+    let turn : suc (suc n) - 1 + suc (suc n) ≡ n + (suc (suc n) + 1) = omega arith in
+    let is : preceding_place (suc (suc n)) (suc (suc n) - 1) ≡ n =
+    ap (λ m. m % (suc (suc n) + 1)) turn ∙ add-mod_right n (suc (suc n) + 1) ∙ mod-eq_of_lt (omega arith) in
+    let same : n ≡ suc (suc n) = sym is ∙ p in
+    omega (arith, same)
