@@ -62,7 +62,7 @@ pub use Rattle.hashlink_spelling.specs.Says
 pub use Rattle.hashlink_run.specs.CacheCalls
 pub use Rattle.hashlink_run.specs.CacheLaws
 pub use Rattle.hashlink_run.specs.CacheRun
-pub use Rattle.hashlink_steps.specs.CacheStep
+pub use Rattle.hashlink_run.specs.CacheStep
 pub use Rattle.hashlink_text.specs.CacheTranscript
 pub use Rattle.hashlink_steps.specs.CallReplies
 pub use Rattle.hashlink_steps.specs.Chain

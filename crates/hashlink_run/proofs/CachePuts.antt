@@ -20,7 +20,7 @@ use Rattle.hashlink_commands.specs.declared.replies.Reply.{Reply}
 use Rattle.hashlink_commands.specs.declared.replies.Reply.TheVariants.{Refused}
 use Rattle.hashlink_run.specs.CacheCalls.{put_passed}
 use Rattle.hashlink_run.specs.CacheRun.{command_put, InsertsFit}
-use Rattle.hashlink_steps.specs.CacheStep.{CacheStep, CacheRun}
+use Rattle.hashlink_run.specs.CacheStep.{CacheStep, CacheRun}
 use Rattle.hashlink_steps.specs.CallReplies.{insert_reply, is_refused}
 use Rattle.hashlink_steps.specs.Chain.{Answered, after}
 use Rattle.hashlink_steps.specs.Reads.{Replies}

@@ -22,7 +22,7 @@ use Rattle.hashlink_commands.specs.declared.cache_commands.CacheCommand.TheVaria
 use Rattle.hashlink_commands.specs.declared.replies.Reply.{Reply}
 use Rattle.hashlink_commands.specs.declared.replies.Reply.TheVariants.{Refused}
 use Rattle.hashlink_run.specs.CacheRun.{leaves_spare, DropsPair, TakesAllAfterADrop}
-use Rattle.hashlink_steps.specs.CacheStep.{CacheStep, CacheRun}
+use Rattle.hashlink_run.specs.CacheStep.{CacheStep, CacheRun}
 use Rattle.hashlink_steps.specs.CallReplies.{insert_reply, is_refused}
 use Rattle.hashlink_steps.specs.Chain.{Answered, state_after, after}
 use Rattle.hashlink_steps.specs.Reads.{Replies}

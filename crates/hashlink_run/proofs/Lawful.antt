@@ -8,7 +8,7 @@ use Rattle.hashlink_commands.specs.declared.cache_commands.CacheCommand.{CacheCo
 use Rattle.hashlink_commands.specs.declared.commands.Command.{Command}
 use Rattle.hashlink_commands.specs.declared.replies.Reply.{Reply}
 use Rattle.hashlink_run.specs.CacheRun.{LawfulCacheRun, StaysBounded, names_no_entry}
-use Rattle.hashlink_steps.specs.CacheStep.{CacheStep, CacheRuns}
+use Rattle.hashlink_run.specs.CacheStep.{CacheStep, CacheRuns}
 use Rattle.hashlink_steps.specs.Chain.{after}
 use Rattle.hashlink_run.specs.Run.{LawfulRun, Runs}
 use Rattle.hashlink_run.proofs.CacheLengths.{keeps_bounds}

@@ -6,6 +6,8 @@ pub mod CacheLengths
 pub mod CachePasses
 pub mod CachePuts
 pub mod CacheSpare
+pub mod CacheUsed
+pub mod CacheWider
 pub mod Chained
 pub mod Chains
 pub mod CursorNodes

@@ -12,7 +12,7 @@ use Rattle.hashlink_commands.specs.declared.cache_commands.CacheCommand.TheVaria
 use Rattle.hashlink_commands.specs.declared.cache_commands.CacheCommand.TheVariants.{SetCapacity, Clear}
 use Rattle.hashlink_commands.specs.declared.replies.Reply.{Reply}
 use Rattle.hashlink_run.specs.CacheCalls.{put_passed}
-use Rattle.hashlink_steps.specs.CacheStep.{CacheRuns, CacheStep, ReadFromCache}
+use Rattle.hashlink_run.specs.CacheStep.{CacheRuns, CacheStep, ReadFromCache}
 use Rattle.hashlink_steps.specs.CallReplies.{is_refused}
 use Rattle.hashlink_steps.specs.Chain.{Answered, ComesTo, after}
 

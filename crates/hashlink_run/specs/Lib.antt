@@ -2,4 +2,5 @@
 pub mod Run
 pub mod CacheCalls
 pub mod CacheLaws
+pub mod CacheStep
 pub mod CacheRun

@@ -5,9 +5,9 @@ ghost use Rattle.hashlink_model.specs.Entries.{IsEntries};
 ghost use Rattle.hashlink_run.specs.CacheRun.{LawfulCacheRun, ShownByCache, StaysBounded};
 ghost use Rattle.hashlink_steps.specs.Reads.{CallableOn, ClosureSays};
 
+use crate::cache_steps::answer_cache;
 use hashlink_commands::{CacheCommand, Reply};
 use hashlink_lru::LruCache;
-use hashlink_steps::answer_cache;
 use std::alloc::AllocError;
 use std::hash::{BuildHasher, Hash};
 

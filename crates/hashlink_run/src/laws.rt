@@ -11,7 +11,7 @@ ghost use Rattle.hashlink_commands.specs.declared.commands.Command.TheVariants.{
 ghost use Rattle.hashlink_commands.specs.declared.replies.Reply.{Reply};
 ghost use Rattle.hashlink_run.specs.CacheLaws.{Includes, FollowsHistory};
 ghost use Rattle.hashlink_run.specs.CacheRun.{CacheWithinPeak, InsertsFit, KeepsBounds, TakesAllAfterADrop};
-ghost use Rattle.hashlink_steps.specs.CacheStep.{CacheRun};
+ghost use Rattle.hashlink_run.specs.CacheStep.{CacheRun};
 ghost use Rattle.hashlink_steps.specs.Chain.{Answered};
 ghost use Rattle.hashlink_steps.specs.Reads.{ClosureSays};
 ghost use Rattle.hashlink_run.specs.Run.{Run, StaysWithinPeak, TakesKeysWhereShorter};

@@ -1,7 +1,5 @@
 -- Lemmas on one command.
 pub mod AtEntry
-pub mod CacheUsed
-pub mod CacheWider
 pub mod CursorProgress
 pub mod Kept
 pub mod Moved

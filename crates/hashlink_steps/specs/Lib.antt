@@ -1,4 +1,4 @@
--- What one command does to a map or to a cache, and chains of steps.
+-- What one command does to a map, and chains of steps.
 pub mod CallReplies
 pub mod Reads
 pub mod Keeps
@@ -6,4 +6,3 @@ pub mod EntrySteps
 pub mod CursorSteps
 pub mod Step
 pub mod Chain
-pub mod CacheStep

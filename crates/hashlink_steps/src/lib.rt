@@ -1,10 +1,9 @@
-//! One command, answered by a map or by a cache.
+//! One command, answered by a map.
 #![tactic(auto)]
 
-mod cache_steps;
 mod cursors;
 mod entries;
 mod steps;
 
-pub use cache_steps::answer_cache;
-pub use steps::answer_command;
+pub use entries::reply_of_entry;
+pub use steps::{answer_command, insert_reply, said_of};

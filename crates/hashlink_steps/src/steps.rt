@@ -121,8 +121,8 @@ where
     );
 }
 
-// Returns the reply to an insert that returned `answer`.
-pub(crate) fn insert_reply<K, V, B>(answer: Result<Option<V>, (K, V)>) -> Reply<K, V, B>
+/// Returns the reply to an insert that returned `answer`, in constant time.
+pub fn insert_reply<K, V, B>(answer: Result<Option<V>, (K, V)>) -> Reply<K, V, B>
     ensures { result ≡ insert_reply answer }
 {
     match answer {
@@ -141,8 +141,8 @@ fn shrink_reply<K, V, B>(answer: Result<(), AllocError>) -> Reply<K, V, B>
     }
 }
 
-// Returns what the closure returns for the pair, if there is one.
-pub(crate) fn said_of<K, V, B, F>(pair: Option<(&K, &V)>, says: &F) -> Option<B>
+/// Returns what the closure returns for the pair, if there is one. It calls the closure at most once.
+pub fn said_of<K, V, B, F>(pair: Option<(&K, &V)>, says: &F) -> Option<B>
 where
     F: Fn(&K, &V) -> B,
     requires { CallableOn F.Fn says.now (λ read. option_map deref_pair pair ≡ Some read) }

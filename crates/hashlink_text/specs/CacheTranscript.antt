@@ -8,7 +8,7 @@ use Rattle.hashlink_spelling.specs.declared.cache_line.CacheLine.{CacheLine}
 use Rattle.hashlink_spelling.specs.declared.cache_line.CacheLine.TheVariants.{Do, Len, Iter}
 use Rattle.hashlink_commands.specs.declared.replies.Reply.{Reply}
 use Rattle.hashlink_run.specs.CacheCalls.{event_of}
-use Rattle.hashlink_steps.specs.CacheStep.{CacheStep}
+use Rattle.hashlink_run.specs.CacheStep.{CacheStep}
 use Rattle.hashlink_text.specs.Transcript.{Itself, ended, shown_by, list_shown, replies_shown}
 use Rattle.hashlink_text.specs.declared.shown.Form.TheVariants.{OfValue}
 

@@ -12,8 +12,8 @@ use crate::lines::{AnswersLines, answer_lines};
 use crate::shown::Form;
 use crate::text::{push_list, push_replies};
 use hashlink_lru::LruCache;
+use hashlink_run::answer_cache;
 use hashlink_spelling::{CacheLine, Lines};
-use hashlink_steps::answer_cache;
 use std::alloc::{AllocError, Global};
 
 // Pushes the answers to the lines, which speak to a cache of this capacity that is empty at first.

@@ -3,7 +3,7 @@ use Rattle.std.proofs.lemmas.Result.{on_ok_weaker}
 use Rattle.hashlink_lru.specs.Cached.{state_in}
 use Rattle.hashlink_text.specs.Transcript.{Itself, replies_shown}
 use Rattle.hashlink_text.specs.declared.shown.Form.TheVariants.{OfValue}
-use Rattle.hashlink_steps.proofs.CacheWider.{cache_step-wider}
+use Rattle.hashlink_run.proofs.CacheWider.{cache_step-wider}
 use Rattle.hashlink_text.proofs.cache_text.LruCacheU64U64AnswersLines.answer_line.Goals as goal
 
 pub returns-in-None : goal.returns-in-None

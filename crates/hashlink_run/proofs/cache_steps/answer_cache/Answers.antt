@@ -4,8 +4,8 @@ use Rattle.hashlink_core.specs.Keyed.{entries_of}
 use Rattle.hashlink_commands.specs.declared.cache_commands.CacheCommand.{CacheCommand}
 use Rattle.hashlink_lru.specs.Cached.{state_in}
 use Rattle.hashlink_model.specs.Cache.{CacheState}
-use Rattle.hashlink_steps.specs.CacheStep.{CommandReads, ReadFromCache}
-use Rattle.hashlink_steps.proofs.cache_steps.answer_cache.Goals as goal
+use Rattle.hashlink_run.specs.CacheStep.{CommandReads, ReadFromCache}
+use Rattle.hashlink_run.proofs.cache_steps.answer_cache.Goals as goal
 
 -- what the command of an arm reads, the command that was given reads
 reads_of : {K V S : Type 0} (eq : K → K → Bool) (old : CacheState K V S) (pair : K × V)

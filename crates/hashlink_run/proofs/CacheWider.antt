@@ -10,7 +10,7 @@ use Rattle.hashlink_commands.specs.declared.cache_commands.CacheCommand.TheVaria
 use Rattle.hashlink_commands.specs.declared.cache_commands.CacheCommand.TheVariants.{RemoveLru}
 use Rattle.hashlink_commands.specs.declared.replies.Reply.{Reply}
 use Rattle.hashlink_commands.specs.declared.replies.Reply.TheVariants.{Refused}
-use Rattle.hashlink_steps.specs.CacheStep.{CacheStep}
+use Rattle.hashlink_run.specs.CacheStep.{CacheStep}
 use Rattle.hashlink_steps.specs.Reads.{Replies}
 use Rattle.hashlink_steps.proofs.Wider.{replies-wider, entry-wider}
 

@@ -7,7 +7,7 @@ use Rattle.hashlink_model.specs.Cache.{CacheState, CacheInserts, CacheGets}
 use Rattle.hashlink_model.proofs.Finds.{lookup_is}
 use Rattle.hashlink_commands.specs.declared.cache_commands.CacheCommand.TheVariants.{Use}
 use Rattle.hashlink_commands.specs.declared.replies.Reply.TheVariants.{Seen, Refused}
-use Rattle.hashlink_steps.specs.CacheStep.{CacheStep}
+use Rattle.hashlink_run.specs.CacheStep.{CacheStep}
 use Rattle.hashlink_steps.specs.Reads.{SaysOf}
 
 module _ {K V B S : Type 0} (eq : K → K → Bool) (Says : K → V → B → Type 0) (old : CacheState K V S) (k : K)
