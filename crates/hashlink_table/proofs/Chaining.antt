@@ -7,7 +7,7 @@ use Rattle.hashlink_table.specs.declared.kept.Kept.{Kept}
 use Rattle.hashlink_table.specs.declared.cell.Cell.{Cell}
 use Rattle.hashlink_table.specs.declared.cell.TheConstants.{END}
 use Rattle.hashlink_table.specs.Chains.{no_cell, kept_at, next_at, chain_of, chain_at, links_of, nodes_in}
-use Rattle.hashlink_table.specs.Chains.{with_node}
+use Rattle.hashlink_table.specs.Chains.{stored_in, with_node}
 use Rattle.hashlink_table.specs.Chains.{IsLinked, IsPlaced, SameNodes}
 use Rattle.hashlink_table.proofs.Cells.{chain_at_within, within_by_chain}
 use Rattle.hashlink_table.proofs.Linking.{linked-push, linked-reuse, free_on}
@@ -118,11 +118,17 @@ module _ {N : Type 0} where
       (subst (λ o. IsPermutation (with_node o (nodes_in later))
       (with_node (kept_at later i) (nodes_in (set later i d)))) none (nodes_in-set later i d within)))
 
-  -- where each cell keeps its node
+  -- where each cell keeps its node and the hash that it stores
+  pub same_stored : (cells later : List (Cell N)) (i : ℕ) → SameNodes cells later → i < length cells
+      → i < length later
+      → stored_in (get_or later i no_cell) ≡ stored_in (get_or cells i no_cell)
+  same_stored cells later i same h h' =
+      let none : Option (Kept N) × ℕ = stored_in no_cell in
+      sym (get_or-map stored_in later i no_cell none h') ∙ ap (λ ss. get_or ss i none) same
+      ∙ get_or-map stored_in cells i no_cell none h
+
   pub same_kept : (cells later : List (Cell N)) (i : ℕ) → SameNodes cells later → i < length cells
       → i < length later
       → kept_at later i ≡ kept_at cells i
   same_kept cells later i same h h' =
-      sym (get_or-map (λ (c : Cell N). c.kept) later i no_cell None h')
-      ∙ ap (λ ks. get_or ks i None) same
-      ∙ get_or-map (λ (c : Cell N). c.kept) cells i no_cell None h
+      ap (λ (s : Option (Kept N) × ℕ). s.0) (same_stored cells later i same h h')

@@ -1,21 +1,30 @@
 -- The buckets' own cells: a node comes into one, leaves it, and is followed there by the next of its chain.
-use Rattle.std.proofs.Common.{◌≡◌, ◌≢◌, ℕ, ◌%◌, ◌<◌, inl, inr, List, ◌∷◌, ◌++◌, length}
-use Rattle.std.proofs.Common.{get_or, is_some, set, Some, sym, ap, ◌∙◌, subst, arith}
+use Rattle.std.proofs.Common.{◌≡◌, ◌≢◌, ℕ, ◌+◌, ◌%◌, ◌<◌, inl, inr, List, ◌∷◌, ◌++◌, length}
+use Rattle.std.proofs.Common.{get_or, is_some, set, Option, Some, sym, ap, ◌∙◌, subst, arith}
 use Rattle.std.specs.Prelude.{IsPermutation}
-use Rattle.std.proofs.lemmas.Bool.{cases_eq}
-use Rattle.std.proofs.lemmas.List.{length-set}
+use Rattle.std.proofs.lemmas.Bool.{cases_eq, cases_lt}
+use Rattle.std.proofs.lemmas.List.{get_or-set_same, get_or-set_other, length-set}
+use Rattle.std.proofs.Math.Nat.{mod-eq_of_lt, mod_self}
 use Rattle.std.proofs.lemmas.List.Sorted.{IsPermutation-trans, IsPermutation-middle}
 use Rattle.std.proofs.lemmas.List.Sorted.{IsPermutation-append_left}
 use Rattle.std.proofs.lemmas.List.Sorted.{IsPermutation-append_right}
 use Rattle.hashlink_table.specs.declared.kept.Kept.{Kept}
 use Rattle.hashlink_table.specs.declared.cell.Cell.{Cell}
 use Rattle.hashlink_table.specs.declared.cell.TheConstants.{END}
-use Rattle.hashlink_table.specs.Chains.{kept_at, next_at, chain_at, links_of, nodes_in, with_node}
-use Rattle.hashlink_table.specs.Chains.{IsInPlace, IsLinked, SameNodes}
-use Rattle.hashlink_table.proofs.Cells.{kept_at-set, kept_at-set_other, within_by_kept}
-use Rattle.hashlink_table.proofs.Chaining.{length-links, link_read, same_kept}
+use Rattle.hashlink_table.specs.Chains.{no_cell, kept_at, next_at, chain_at, links_of, nodes_in, with_node}
+use Rattle.hashlink_table.specs.Chains.{hash_at, IsInPlace, IsLinked, IsOf, SameNodes}
+use Rattle.hashlink_table.proofs.Cells.{within_by_kept}
+use Rattle.hashlink_table.proofs.Chaining.{length-links, link_read, same_stored}
 use Rattle.hashlink_table.proofs.Nodes.{nodes_in-set, nodes_in-same}
 use Rattle.hashlink_table.proofs.Walks.{walk_of, walk_at}
+
+-- a bare cell stores the hash of another bucket, if there is one
+pub bare_apart : (buckets b : ℕ) → b < buckets → buckets ≢ 1 → (b + 1) % buckets ≢ b
+bare_apart buckets b low two e = elim (cases_lt (b + 1) buckets) as (λ _. ⊥) [
+  | inl h ↦ omega (arith, sym (mod-eq_of_lt h) ∙ e)
+  | inr past ↦ let all : b + 1 ≡ buckets = omega arith in
+      two (omega (arith, all, sym (mod_self buckets) ∙ ap (λ n. n % buckets) (sym all) ∙ e))
+]
 
 module _ {N : Type 0} where
   -- a cell with a node is one of the list
@@ -23,20 +32,23 @@ module _ {N : Type 0} where
   within_kept cells i k is = within_by_kept cells i (ap is_some is)
 
   pub in_place-same : (f g : List (Cell N)) → SameNodes f g → length g ≡ length f → IsInPlace f → IsInPlace g
-  in_place-same f g same n p b k is =
-      let h' = within_kept g b k is in
-      let h : b < length f = omega (arith, h', n) in
-      ap (λ m. k.hash % m) n ∙ p b k (sym (same_kept f g b same h h') ∙ is)
+  in_place-same f g same n p b low =
+      let h : b < length f = omega (arith, low, n) in
+      subst (λ (s : Option (Kept N) × ℕ). IsOf (length g) b s.0 s.1) (sym (same_stored f g b same h low))
+      (subst (λ m. IsOf m b (kept_at f b) (hash_at f b)) (sym n) (p b h))
 
   pub in_place-set : (f : List (Cell N)) (b : ℕ) (d : Cell N) → b < length f → IsInPlace f
-      → ((k : Kept N) → d.kept ≡ Some k → k.hash % length f ≡ b)
+      → IsOf (length f) b d.kept d.hash
       → IsInPlace (set f b d)
-  in_place-set f b d h p q j k is =
-      ap (λ m. k.hash % m) (length-set f b d)
-      ∙ elim (cases_eq j b) as (λ _. k.hash % length f ≡ j) [
-        | inl e ↦ q k (sym (kept_at-set f b d h) ∙ ap (kept_at (set f b d)) (sym e) ∙ is) ∙ sym e
-        | inr ne ↦ p j k (sym (kept_at-set_other f b d j ne) ∙ is)
-      ]
+  in_place-set f b d h p q j low =
+      let n = length-set f b d in
+      let Fits : ℕ → Cell N → Type 0 = λ i c. IsOf (length f) i c.kept c.hash in
+      subst (λ m. IsOf m j (kept_at (set f b d) j) (hash_at (set f b d) j)) (sym n)
+      (elim (cases_eq j b) as (λ _. Fits j (get_or (set f b d) j no_cell)) [
+        | inl e ↦ subst (λ i. Fits i (get_or (set f b d) i no_cell)) (sym e)
+            (subst (Fits b) (sym (get_or-set_same f b d no_cell h)) q)
+        | inr ne ↦ subst (Fits j) (sym (get_or-set_other f b j d no_cell ne)) (p j (omega (arith, low, n)))
+      ])
 
   -- the link of a bucket's own cell leads to a cell of the bucket, or to the end
   pub follower_on : (firsts cells : List (Cell N)) (free b at : ℕ) → IsLinked (links_of firsts) cells free

@@ -2,7 +2,8 @@
 use Rattle.std.proofs.Common.{◌≡◌, ℕ, zero, suc, ◌+◌, ◌<◌, ◌≤◌, List, [], ◌∷◌, ◌++◌, map, length, get_or, set}
 use Rattle.std.proofs.Common.{take, drop}
 use Rattle.std.proofs.Common.{true, Option, Some, None, is_some, refl, sym, ap, ◌∙◌, subst, arith}
-use Rattle.std.specs.Prelude.{Contains, IsPermutation, replicate}
+use Rattle.std.specs.Prelude.{Contains, IsPermutation}
+use Rattle.std.specs.List.{range_with_len}
 use Rattle.std.proofs.Common.{append_assoc}
 use Rattle.std.proofs.lemmas.List.{take_more, take-append-drop, length-append}
 use Rattle.std.proofs.lemmas.Option.{same_Some}
@@ -11,7 +12,8 @@ use Rattle.std.proofs.lemmas.List.Sorted.{IsPermutation-middle}
 use Rattle.std.proofs.lemmas.List.Sorted.{IsPermutation-to_front}
 use Rattle.hashlink_table.specs.declared.kept.Kept.{Kept}
 use Rattle.hashlink_table.specs.declared.cell.Cell.{Cell}
-use Rattle.hashlink_table.specs.Chains.{no_cell, kept_at, with_node, nodes_in}
+use Rattle.hashlink_table.specs.Chains.{bare_cells, kept_at, stored_in, with_node, nodes_in, SameNodes}
+use Rattle.hashlink_table.specs.Stored.{bare_cell}
 
 module _ {N : Type 0} where
   -- two nodes may be exchanged
@@ -51,15 +53,15 @@ module _ {N : Type 0} where
       (with_permuted x.kept _ _ (nodes_in-push xs c))
 
   -- the cells have the same nodes where each cell has
-  pub nodes_in-same : (cells later : List (Cell N)) → map (λ c. c.kept) later ≡ map (λ c. c.kept) cells
-      → nodes_in later ≡ nodes_in cells
+  pub nodes_in-same : (cells later : List (Cell N)) → SameNodes cells later → nodes_in later ≡ nodes_in cells
   nodes_in-same [] [] e = refl
   nodes_in-same [] (y ∷ ys) e = absurd (cc e)
   nodes_in-same (x ∷ xs) [] e = absurd (cc e)
   nodes_in-same (x ∷ xs) (y ∷ ys) e =
-      let here : y.kept ≡ x.kept = cc e in
-      let there : map (λ (c : Cell N). c.kept) ys ≡ map (λ (c : Cell N). c.kept) xs = cc e in
-      ap (λ k. with_node k (nodes_in ys)) here ∙ ap (with_node x.kept) (nodes_in-same xs ys there)
+      let here : stored_in y ≡ stored_in x = cc e in
+      let there : SameNodes xs ys = cc e in
+      ap (λ (s : Option (Kept N) × ℕ). with_node s.0 (nodes_in ys)) here
+      ∙ ap (with_node x.kept) (nodes_in-same xs ys there)
 
   pub nodes_in-append : (cells more : List (Cell N)) → nodes_in (cells ++ more)
       ≡ nodes_in cells ++ nodes_in more
@@ -92,10 +94,13 @@ module _ {N : Type 0} where
       (IsPermutation-trans _ _ _ (IsPermutation-to_front (old ++ done) k)
       (IsPermutation-trans _ _ _ (IsPermutation-cons k _ _ before) step))
 
-  -- free cells have none
-  pub nodes_in-free : (n : ℕ) → nodes_in (replicate n (no_cell {N = N})) ≡ []
-  nodes_in-free zero = refl
-  nodes_in-free (suc n) = nodes_in-free n
+  -- bare cells have none
+  bare-from : (a n : ℕ) → nodes_in (map (bare_cell {N = N}) (range_with_len a n)) ≡ []
+  bare-from a zero = refl
+  bare-from a (suc n) = bare-from (a + 1) n
+
+  pub nodes_in-bare : (n : ℕ) → nodes_in (bare_cells {N = N} n) ≡ []
+  nodes_in-bare n = bare-from 0 n
 
   -- where each cell has a node, there are as many as cells
   pub nodes_in-full : (cells : List (Cell N)) → ((i : ℕ) → i < length cells → is_some (kept_at cells i)

@@ -1,8 +1,10 @@
 -- The fields of a table agree.
-use Rattle.std.proofs.Common.{◌≡◌, ◌≢◌, ℕ, zero, suc, ◌+◌, ◌-◌, ◌^◌, ◌<◌, ◌≤◌, true, inl, inr, List, [], ◌∷◌}
-use Rattle.std.proofs.Common.{◌++◌, length}
+use Rattle.std.proofs.Common.{◌≡◌, ◌≢◌, ℕ, zero, suc, ◌+◌, ◌-◌, ◌%◌, ◌^◌, ◌<◌, ◌≤◌, true, inl, inr, List, []}
+use Rattle.std.proofs.Common.{◌∷◌, ◌++◌, length, map}
 use Rattle.std.proofs.Common.{get_or, replicate, Some, None, is_some, refl, sym, ap, ◌∙◌, subst, arith}
 use Rattle.std.specs.Prelude.{IsPermutation}
+use Rattle.std.specs.List.{range_with_len}
+use Rattle.std.proofs.lemmas.List.FromFn.{get_or-map-range_with_len, length-map-range_with_len}
 use Rattle.std.specs.Int.{IsPowerOfTwo}
 use Rattle.std.proofs.lemmas.Bool.{cases_eq, cases_lt}
 use Rattle.std.proofs.lemmas.List.{get_or_at, get_or_append_left, get_or-replicate, length_push}
@@ -13,11 +15,13 @@ use Rattle.hashlink_table.specs.declared.kept.Kept.{Kept}
 use Rattle.hashlink_table.specs.declared.cell.Cell.{Cell}
 use Rattle.hashlink_table.specs.declared.cell.TheConstants.{END}
 use Rattle.hashlink_table.specs.Chains.{no_cell, kept_at, next_at, chain_of, nodes_in, links_of, Among}
-use Rattle.hashlink_table.specs.Chains.{IsPath}
+use Rattle.hashlink_table.specs.Chains.{bare_cells, IsOf, IsPath}
+use Rattle.hashlink_table.specs.Stored.{bare_cell}
 use Rattle.hashlink_table.specs.Contents.{Contents}
 use Rattle.hashlink_table.specs.Chains.{contents, IsInPlace, IsLinked, IsSound}
 use Rattle.hashlink_table.proofs.Cells.{chain_at_within}
-use Rattle.hashlink_table.proofs.Nodes.{nodes_in-full, nodes_in-free}
+use Rattle.hashlink_table.proofs.Moving.{bare_apart}
+use Rattle.hashlink_table.proofs.Nodes.{nodes_in-full, nodes_in-bare}
 
 -- no path that leads over a cell begins at the end
 none_from_end : (next : ℕ → ℕ) (from : ℕ) (path : List ℕ) → IsPath next from path → from ≡ END → (j : ℕ)
@@ -27,9 +31,10 @@ none_from_end next from [] linked e j m = m
 none_from_end next from (x ∷ xs) linked e j m = linked.1 (sym linked.0 ∙ e)
 
 -- bare cells: no chain leads anywhere
-links-bare : (N : Type 0) (n : ℕ) → links_of (replicate n (no_cell {N = N})) ≡ replicate n END
-links-bare N zero = refl
-links-bare N (suc n) = ap (λ ls. END ∷ ls) (links-bare N n)
+links-bare : (N : Type 0) (a n : ℕ)
+    → links_of (map (bare_cell {N = N}) (range_with_len a n)) ≡ replicate n END
+links-bare N a zero = refl
+links-bare N a (suc n) = ap (λ ls. END ∷ ls) (links-bare N (a + 1) n)
 
 bare_linked : (N : Type 0) (n : ℕ) → IsLinked {N = N} (replicate n END) [] END
 bare_linked N n b h =
@@ -48,10 +53,13 @@ bare_linked N n b h =
       whole = λ i e. absurd (omega (arith, e, h, length_push (replicate n END) END));
     }
 
-bare_empty : (N : Type 0) (n b : ℕ) → kept_at (replicate n (no_cell {N = N})) b ≡ None
-bare_empty N zero b = refl
-bare_empty N (suc n) zero = refl
-bare_empty N (suc n) (suc b) = bare_empty N n b
+bare_in_place : (N : Type 0) (n : ℕ) → n ≢ 1 → IsInPlace (bare_cells {N = N} n)
+bare_in_place N n two b low =
+    let same = length-map-range_with_len (bare_cell {N = N}) 0 n in
+    let within : b < n = omega (arith, low, same) in
+    subst (λ (c : Cell N). IsOf (length (bare_cells {N = N} n)) b c.kept c.hash)
+    (sym (get_or-map-range_with_len bare_cell 0 n b b no_cell within (omega arith)))
+    (subst (λ m. (b + 1) % m ≢ b) (sym same) (bare_apart n b within two))
 
 module _ {N : Type 0} where
   -- where no cell is free, each has a node
@@ -84,19 +92,21 @@ module _ {N : Type 0} where
 
   -- a table without nodes
   pub sound-bare : (n capacity room : ℕ) → room ≤ n → room ≤ capacity → n ≤ 2 ^ 30 → (0 < n → IsPowerOfTwo n)
-      → IsSound (replicate n (no_cell {N = N})) [] capacity END 0 room
-  sound-bare n capacity room headed reserved small masked =
-      let same = length-replicate n (no_cell {N = N}) in
+      → n ≢ 1
+      → IsSound (bare_cells {N = N} n) [] capacity END 0 room
+  sound-bare n capacity room headed reserved small masked two =
+      let same = length-map-range_with_len (bare_cell {N = N}) 0 n in
       record {
-        linked = subst (λ ls. IsLinked {N = N} ls [] END) (sym (links-bare N n)) (bare_linked N n);
-        in_place = λ b k is. absurd (let none = bare_empty N n b in cc);
-        counted = rw (nodes_in-free {N = N} n) refl;
+        linked = subst (λ ls. IsLinked {N = N} ls [] END) (sym (links-bare N 0 n)) (bare_linked N n);
+        in_place = bare_in_place N n two;
+        counted = rw (nodes_in-bare {N = N} n) refl;
         held = omega arith;
         headed = omega arith;
         reserved = reserved;
         small = omega arith;
         overs_small = omega arith;
         masked = λ h. subst IsPowerOfTwo (sym same) (masked (omega arith));
+        two = λ one. two (sym same ∙ one);
       }
 
   -- one node more
@@ -122,6 +132,7 @@ module _ {N : Type 0} where
           | inr ne ↦ omega (arith, reused ne, s.overs_small)
         ];
         masked = λ h. subst IsPowerOfTwo (sym buckets) (s.masked (omega (arith, h, buckets)));
+        two = λ one. s.two (sym buckets ∙ one);
       }
 
   -- one node less
@@ -143,11 +154,12 @@ module _ {N : Type 0} where
         small = omega (arith, s.small, buckets);
         overs_small = omega (arith, s.overs_small, cells);
         masked = λ h. subst IsPowerOfTwo (sym buckets) (s.masked (omega (arith, h, buckets)));
+        two = λ one. s.two (sym buckets ∙ one);
       }
 
 -- and a contract sees none
 pub contents-bare : (N : Type 0) (n room : ℕ)
-    → contents (replicate n (no_cell {N = N})) [] room ≡ record { nodes = []; room = room }
+    → contents (bare_cells {N = N} n) [] room ≡ record { nodes = []; room = room }
 contents-bare N n room = ap (λ (ks : List (Kept N)). let t : Contents N = record { nodes = ks; room = room }
     in t)
-    (ap (λ (ks : List (Kept N)). ks ++ []) (nodes_in-free {N = N} n))
+    (ap (λ (ks : List (Kept N)). ks ++ []) (nodes_in-bare {N = N} n))

@@ -13,7 +13,8 @@ use Rattle.hashlink_table.specs.declared.spot.Spot.{Spot}
 use Rattle.hashlink_table.specs.declared.spot.Spot.TheVariants.{First, Over}
 use Rattle.hashlink_table.specs.Contents.{Contents, Keeps, agreeing}
 use Rattle.hashlink_table.specs.Chains.{no_cell, kept_at, kept_by, chain_of, with_node, nodes_in, contents}
-use Rattle.hashlink_table.specs.Chains.{IsInPlace}
+use Rattle.hashlink_table.specs.Chains.{hash_at, IsInPlace, IsOf}
+use Rattle.hashlink_table.proofs.Cells.{within_by_kept}
 use Rattle.hashlink_table.proofs.Nodes.{contains-at, at-contains}
 
 -- how many of the list pass, one element more
@@ -49,6 +50,13 @@ module _ {N : Type 0} where
   own_agrees m b None at = omega arith
   own_agrees m b (Some k) at = rw (eq-eqb (k.hash % m) b (at k refl)) (omega arith)
 
+  -- the node in a bucket's own cell is of the bucket
+  in_place-kept : (firsts : List (Cell N)) → IsInPlace firsts → (b : ℕ) (k : Kept N)
+      → kept_at firsts b ≡ Some k → k.hash % length firsts ≡ b
+  in_place-kept firsts in_place b k is =
+      subst (λ o. IsOf (length firsts) b o (hash_at firsts b)) is
+      (in_place b (within_by_kept firsts b (ap is_some is)))
+
   -- the cells that a search may look at agree with its hash
   pub searched_agree : (firsts overs : List (Cell N)) (room hash : ℕ) (t : Contents N)
       → contents firsts overs room ≡ t → 0 < length firsts → IsInPlace firsts
@@ -63,7 +71,7 @@ module _ {N : Type 0} where
       (nodes_in overs) =
       ap (λ (u : Contents N). agreeing u hash m) (sym view)
       ∙ sum_by-append (λ (k : Kept N). cond (eqb (k.hash % m) b) 1 0) (nodes_in firsts) (nodes_in overs) in
-      let own = own_agrees m b (kept_at firsts b) (in_place b) in
+      let own = own_agrees m b (kept_at firsts b) (in_place-kept firsts in_place b) in
       let least = get_or-le-sum_by (λ (c : Cell N). cond {A = ℕ} (eqb (chain_of m c.kept) b) 1 0) firsts b
       no_cell
       low in
@@ -105,6 +113,6 @@ module _ {N : Type 0} where
       elim (Contains-append_cases (nodes_in firsts) (nodes_in overs) k there) as
       (λ _. (kept_at firsts (hash % length firsts) ≡ Some k) ⊎ ((at : ℕ) × (kept_at overs at ≡ Some k))) [
         | inl own ↦ let at = at-contains firsts k own in
-            inl (ap (kept_at firsts) (in_place at.0 k at.1) ∙ at.1)
+            inl (ap (kept_at firsts) (in_place-kept firsts in_place at.0 k at.1) ∙ at.1)
         | inr over ↦ inr (at-contains overs k over)
       ]

@@ -3,20 +3,25 @@ use Rattle.std.specs.Prelude.{◌≡◌, ◌≢◌, ℕ, suc, ◌+◌, ◌%◌, 
 use Rattle.std.specs.Prelude.{length}
 use Rattle.std.specs.Prelude.{Option, Some, None, slice_index_or, slice_set}
 use Rattle.std.specs.Int.{IsPowerOfTwo}
+use Rattle.std.specs.List.{range_with_len}
 use Rattle.hashlink_table.specs.Contents.{Contents}
 use Rattle.hashlink_table.specs.declared.kept.Kept.{Kept}
 use Rattle.hashlink_table.specs.declared.cell.Cell.{Cell}
 use Rattle.hashlink_table.specs.declared.cell.TheConstants.{END}
+use Rattle.hashlink_table.specs.Stored.{bare_cell}
 use Rattle.hashlink_table.specs.declared.spot.Spot.{Spot}
 use Rattle.hashlink_table.specs.declared.spot.Spot.TheVariants.{First, Over}
 
 module _ {N : Type 0} where
   -- what a read past the last cell gives
   abbrev pub no_cell : Cell N
-  no_cell = record { kept = None; next = END }
+  no_cell = record { kept = None; hash = 0; next = END }
 
   abbrev pub kept_at : List (Cell N) → ℕ → Option (Kept N)
   kept_at cells i = (slice_index_or cells i no_cell).kept
+
+  abbrev pub hash_at : List (Cell N) → ℕ → ℕ
+  hash_at cells i = (slice_index_or cells i no_cell).hash
 
   abbrev pub next_at : List (Cell N) → ℕ → ℕ
   next_at cells i = (slice_index_or cells i no_cell).next
@@ -47,6 +52,20 @@ module _ {N : Type 0} where
   -- where the chains go on after the buckets' own cells
   abbrev pub links_of : List (Cell N) → List ℕ
   links_of firsts = map (λ c. c.next) firsts
+
+  -- what a cell has but its link
+  abbrev pub stored_in : Cell N → Option (Kept N) × ℕ
+  stored_in c = (c.kept, c.hash)
+
+  -- the own cells of n buckets, without nodes
+  abbrev pub bare_cells : ℕ → List (Cell N)
+  bare_cells n = map bare_cell (range_with_len 0 n)
+
+  -- what the own cell of bucket b has and the hash that it stores: a node of the bucket, or none and a hash
+  -- of another
+  abbrev pub IsOf : ℕ → ℕ → Option (Kept N) → ℕ → Type 0
+  IsOf buckets b None hash = hash % buckets ≢ b
+  IsOf buckets b (Some k) hash = k.hash % buckets ≡ b
 
 -- i is one of the list
 abbrev pub Among : List ℕ → ℕ → Type 0
@@ -82,9 +101,9 @@ IsLinkedBut heads cells free i =
     → ((j : ℕ) → j ≢ i → now j ≡ chain_at (length heads) cells j)
     → IsThreaded (heads ++ free ∷ []) (next_at cells) now
 
--- each cell keeps its node
+-- each cell keeps its node and the hash that it stores
 abbrev pub SameNodes : {N : Type 0} → List (Cell N) → List (Cell N) → Type 0
-SameNodes old new = map (λ c. c.kept) new ≡ map (λ c. c.kept) old
+SameNodes old new = map stored_in new ≡ map stored_in old
 
 -- the cell went to the first free place, or after the last cell where none was free
 abbrev pub IsPlaced : {N : Type 0} → List (Cell N) → List (Cell N) → ℕ → ℕ → Cell N → ℕ → Type 0
@@ -92,9 +111,11 @@ IsPlaced old new free now cell at =
     ((free ≡ END) × (at ≡ length old) × (new ≡ old ++ cell ∷ []) × (now ≡ END))
     ⊎ ((free ≢ END) × (at ≡ free) × (new ≡ slice_set old at cell) × (now ≡ next_at old at))
 
--- the node in each bucket's own cell is of that bucket
+-- the node in each bucket's own cell is of that bucket; a cell without one stores a hash of another bucket,
+-- so that a search compares hashes alone
 abbrev pub IsInPlace : {N : Type 0} → List (Cell N) → Type 0
-IsInPlace {N} firsts = (b : ℕ) (k : Kept N) → kept_at firsts b ≡ Some k → k.hash % length firsts ≡ b
+IsInPlace firsts =
+    (b : ℕ) → b < length firsts → IsOf (length firsts) b (kept_at firsts b) (hash_at firsts b)
 
 -- the fields of a table agree
 pub record IsSound {N : Type 0} (firsts overs : List (Cell N))
@@ -108,6 +129,7 @@ pub record IsSound {N : Type 0} (firsts overs : List (Cell N))
   pub small : length firsts ≤ 2 ^ 30
   pub overs_small : length overs ≤ 2 ^ 30
   pub masked : 0 < length firsts → IsPowerOfTwo (length firsts)
+  pub two : length firsts ≢ 1
 
 -- the node that a search found
 abbrev pub kept_by : {N : Type 0} → List (Cell N) → List (Cell N) → ℕ → Spot → Option (Kept N)

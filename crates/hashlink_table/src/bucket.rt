@@ -18,6 +18,7 @@ pub fn buckets_for(room: usize) -> usize
     requires { IsPowerOfTwo room }
     ensures power { IsPowerOfTwo result }
     ensures enough { room ≤ result }
+    ensures two { 2 ≤ result }
 {
     if room <= MAX_SPARSE_ROOM {
         2 * room

@@ -1,4 +1,6 @@
-ghost use Rattle.std.specs.Prelude.{◌≡◌, ◌≤◌, ◌≢◌, ◌^◌, IfNone, IfSome, IsSome, IsTrue, Some, None, ◌↔◌};
+ghost use Rattle.std.specs.Prelude.{◌≡◌, ◌+◌, ◌<◌, ◌≤◌, ◌≢◌, ◌^◌, ◌↔◌, Some, None};
+ghost use Rattle.std.specs.Prelude.{IfNone, IfSome, IsSome, IsTrue};
+ghost use Rattle.hashlink_table.specs.Stored.{bare_cell};
 
 use super::kept::Kept;
 use std::marker::Model;
@@ -9,13 +11,12 @@ pub const END: usize = (1 << 31) - 1;
 // What is added to the link of a cell without a node.
 const FREE: u32 = 1 << 31;
 
-// Above each hash.
-const ABOVE_HASHES: u64 = 1 << 32;
-
 /// What contracts see of a cell, a place for one node.
 #[derive(Clone, Copy)]
 pub struct Cell<N> {
     pub kept: Option<Kept<N>>,
+    // The hash that is stored: the node's, if there is one.
+    pub hash: u32,
     // The next cell of the chain, or `END`.
     pub next: usize,
 }
@@ -40,14 +41,15 @@ impl<N> Model for Stored<N> {
 }
 
 impl<N: Copy> Stored<N> {
-    /// A cell without a node, on no chain.
-    pub fn free(filler: N) -> Self
-        ensures { result ≡ record { kept = None; next = END } }
+    /// This bucket's own cell, without a node. It stores a hash of the next bucket.
+    pub fn bare(filler: N, bucket: usize) -> Self
+        requires { bucket + 1 < 2 ^ 32 }
+        ensures { result ≡ bare_cell bucket }
     {
         Stored {
             node: filler,
-            hash: 0,
-            link: FREE + (END as u32),
+            hash: bucket as u32 + 1,
+            link: FREE + END as u32,
         }
     }
 
@@ -55,7 +57,7 @@ impl<N: Copy> Stored<N> {
     #[inline]
     pub fn taken(kept: Kept<N>, next: usize) -> Self
         requires { next ≤ END }
-        ensures { result ≡ record { kept = Some kept; next = next } }
+        ensures { result ≡ record { kept = Some kept; hash = kept.hash; next = next } }
     {
         Stored {
             node: kept.node,
@@ -95,24 +97,16 @@ impl<N: Copy> Stored<N> {
         }
     }
 
-    // The hash of the cell's node, and of a free cell a number above all hashes. It is compared at once, which
-    // nearly always fails for an absent key, where a test for a node alone comes out either way by chance.
-    #[inline]
-    fn mark(&self) -> u64
-        ensures taken { IfSome self.now.kept (λ kept. result ≡ kept.hash) }
-        ensures free { IfNone self.now.kept (2 ^ 32 ≤ result) }
-    {
-        u64::from(self.hash) + u64::from(self.link / FREE) * ABOVE_HASHES
-    }
-
-    /// The cell's node, if it has one under this hash.
+    /// The cell's node, if it has one under this hash. A cell without one stores another hash, so the hashes
+    /// alone are compared.
     #[inline]
     pub fn under(&self, hash: u32) -> Option<N>
+        requires { IfNone self.now.kept (self.now.hash ≢ hash) }
         ensures here { IfSome result (λ node. self.now.kept ≡ Some (record { hash = hash; node = node })) }
         ensures not_here { IfNone result
             ((node : N) → self.now.kept ≢ Some (record { hash = hash; node = node })) }
     {
-        if self.mark() == u64::from(hash) {
+        if self.hash == hash {
             Some(self.node)
         } else {
             None
@@ -130,7 +124,7 @@ impl<N: Copy> Stored<N> {
     /// Puts a node in, in place of what the cell had.
     #[inline]
     pub fn put(&mut self, kept: Kept<N>)
-        ensures { self.new ≡ record self.old { kept = Some kept } }
+        ensures { self.new ≡ record self.old { kept = Some kept; hash = kept.hash } }
     {
         self.node = kept.node;
         self.hash = kept.hash;
@@ -141,9 +135,18 @@ impl<N: Copy> Stored<N> {
     #[inline]
     pub fn set_free(&mut self, next: usize)
         requires { next ≤ END }
-        ensures { self.new ≡ record { kept = None; next = next } }
+        ensures { self.new ≡ record self.old { kept = None; next = next } }
     {
         self.link = FREE + next as u32;
+    }
+
+    /// Takes the node out of this bucket's own cell, which is then the only one of its chain.
+    #[inline]
+    pub fn set_bare(&mut self, bucket: usize)
+        requires { bucket + 1 < 2 ^ 32 }
+        ensures { self.new ≡ bare_cell bucket }
+    {
+        *self = Stored::bare(self.node, bucket);
     }
 
     #[inline]

@@ -2,10 +2,10 @@
 ghost use Rattle.std.specs.Prelude.{◌≡◌, ◌≢◌, ℕ, ◌+◌, ◌%◌, ◌^◌, ◌<◌, ◌≤◌, ◌==◌, ◌∷◌, ◌++◌, length, count_by};
 ghost use Rattle.std.specs.Prelude.{false};
 ghost use Rattle.std.specs.Prelude.{cond, is_some, true, IfNone, IfSome, IsPermutation, IsSome, Some};
-ghost use Rattle.std.specs.Prelude.{[], replicate, None, vec_capacity, vec_len};
+ghost use Rattle.std.specs.Prelude.{[], vec_capacity, vec_len};
 ghost use Rattle.std.specs.Int.{IsPowerOfTwo};
-ghost use Rattle.hashlink_table.specs.Chains.{chain_at, chain_of, kept_at, kept_by, links_of, nodes_in};
-ghost use Rattle.hashlink_table.specs.Chains.{IsInPlace, IsLinked, IsLinkedBut, IsPlaced, SameNodes};
+ghost use Rattle.hashlink_table.specs.Chains.{bare_cells, chain_at, chain_of, kept_at, kept_by, links_of};
+ghost use Rattle.hashlink_table.specs.Chains.{nodes_in, IsInPlace, IsLinked, IsLinkedBut, IsPlaced, SameNodes};
 ghost use Rattle.hashlink_table.specs.declared.spot.Spot.TheVariants.{Over};
 
 use super::bucket::bucket_of;
@@ -15,14 +15,15 @@ use super::spot::Spot;
 use super::steps::Steps;
 use std::sync::ledger::Ledger;
 
-// Makes so many free cells.
-pub fn fill<N: Copy>(cells: &mut Vec<Stored<N>>, filler: N, count: usize)
-    requires empty { cells.old.items ≡ [] }
-    requires reserved { count ≤ vec_capacity cells.old }
-    ensures { cells.new.items ≡ replicate count (record { kept = None; next = END }) }
+// Makes the own cells of so many buckets, without nodes.
+pub fn fill<N: Copy>(firsts: &mut Vec<Stored<N>>, filler: N, buckets: usize)
+    requires empty { firsts.old.items ≡ [] }
+    requires reserved { buckets ≤ vec_capacity firsts.old }
+    requires small { buckets ≤ 2 ^ 30 }
+    ensures { firsts.new.items ≡ bare_cells buckets }
 {
-    for _ in 0..count {
-        cells.push_reserved(Stored::free(filler));
+    for bucket in 0..buckets {
+        firsts.push_reserved(Stored::bare(filler, bucket));
     }
 }
 
@@ -179,6 +180,8 @@ pub fn take<N: Copy>(
     requires on_chain { (at : ℕ) → spot ≡ Over at → chain_at (length firsts.old) cells.old at ≡ bucket }
     requires linked { IsLinked (links_of firsts.old) cells.old free.old }
     requires in_place { IsInPlace firsts.old }
+    requires two { length firsts.old ≢ 1 }
+    requires few { length firsts.old ≤ 2 ^ 30 }
     requires small { length cells.old < END }
     ensures linked { IsLinked (links_of firsts.new) cells.new free.new }
     ensures in_place { IsInPlace firsts.new }
@@ -191,7 +194,7 @@ pub fn take<N: Copy>(
             let kept = firsts[bucket].there();
             let next = firsts[bucket].next();
             if next == END {
-                firsts[bucket].set_free(END);
+                firsts[bucket].set_bare(bucket);
             } else {
                 let follower = take_out(firsts, cells, free, bucket, next);
                 firsts[bucket].put(follower);
@@ -206,6 +209,7 @@ pub fn take<N: Copy>(
 // node's takes a step.
 #[inline]
 fn look<N: Copy, L: Ledger>(cell: &Stored<N>, hash: u32, steps: &mut Steps<L>) -> Option<N>
+    requires { IfNone cell.now.kept (cell.now.hash ≢ hash) }
     ensures step { steps.new ≡ steps.old + cond (is_some cell.now.kept) 1 0 }
     ensures here { IfSome result (λ node. cell.now.kept ≡ Some (record { hash = hash; node = node })) }
     ensures not_here { IfNone result
@@ -227,6 +231,7 @@ pub fn seek<N: Copy, F: Fn(N) -> bool, L: Ledger>(
     steps: &mut Steps<L>,
 ) -> Option<Spot>
     requires masked { IsPowerOfTwo (length firsts.now) }
+    requires in_place { IsInPlace firsts.now }
     requires linked { (free : ℕ) × IsLinked (links_of firsts.now) cells.now free }
     requires callable_first { (node : N) → kept_at firsts.now (hash % length firsts.now) ≡ Some
         (record { hash = hash; node = node })

@@ -100,6 +100,7 @@ impl<N: Copy> Table<N> {
         requires power { IsPowerOfTwo buckets }
         requires small { buckets ≤ 2 ^ 30 }
         requires headed { room ≤ buckets }
+        requires two { 2 ≤ buckets }
         ensures { IfOk result (λ t. t ≡ record { nodes = []; room = room }) }
     {
         let mut firsts = Vec::with_capacity(alloc, buckets)?;
@@ -334,6 +335,7 @@ impl<N: Copy> Table<N> {
         requires power { IsPowerOfTwo buckets }
         requires held { len_of self.old ≤ room }
         requires headed { room ≤ buckets }
+        requires two { 2 ≤ buckets }
         ensures nodes { IsPermutation self.old.nodes self.new.nodes }
         ensures ok { OnOk result (self.new.room ≡ room) }
         ensures err { OnErr result (self.new ≡ self.old) }

@@ -2,7 +2,7 @@ use Rattle.std.proofs.Common.{length, sym, ap, ◌∙◌, inl, inr, arith}
 use Rattle.std.proofs.Math.Seq.{map-set_same}
 use Rattle.std.proofs.lemmas.List.{get_or_read, length_push}
 use Rattle.hashlink_table.specs.declared.cell.Cell.{Cell}
-use Rattle.hashlink_table.specs.Chains.{no_cell, links_of}
+use Rattle.hashlink_table.specs.Chains.{no_cell, links_of, stored_in}
 use Rattle.hashlink_table.proofs.Chaining.{chained, chained-nodes, free_within}
 use Rattle.hashlink_table.proofs.links.chain.Goals as goal
 
@@ -43,9 +43,9 @@ returns-clause-linked g c =
 pub returns-clause-firsts : goal.returns-clause-firsts
 returns-clause-firsts g c =
     let C : Type 0 = Cell g.row.N.Denot in
-    map-set_same (λ (d : C). d.kept) c.args.firsts.now c.args.bucket c.set_next.new.self
+    map-set_same stored_in c.args.firsts.now c.args.bucket c.set_next.new.self
     c.index-firsts-bucket-2.result
-    (ap (λ (d : C). d.kept) c.set_next.ensures)
+    (ap stored_in c.set_next.ensures)
 
 pub returns-clause-nodes : goal.returns-clause-nodes
 returns-clause-nodes g c =

@@ -1,15 +1,28 @@
-use Rattle.std.proofs.Common.{length, ap, arith}
-use Rattle.std.proofs.lemmas.List.{length-replicate}
-use Rattle.hashlink_table.specs.Chains.{no_cell}
+use Rattle.std.proofs.Common.{List, [], ◌∷◌, ◌++◌, length, sym, ap, ◌∙◌, arith}
+use Rattle.std.proofs.lemmas.List.FromFn.{length-map-range_with_len, map-range_with_len_more}
+use Rattle.hashlink_table.specs.declared.cell.Cell.{Cell}
+use Rattle.hashlink_table.specs.Chains.{bare_cells}
+use Rattle.hashlink_table.specs.Stored.{bare_cell}
 use Rattle.hashlink_table.proofs.links.fill.Goals as goal
 
 pub push_reserved-requires : goal.push_reserved-requires
 push_reserved-requires g c =
-    let cells = c.loop.cells in
+    let firsts = c.loop-bucket.firsts in
     omega (
       arith,
-      ap length c.loop.invariant.0,
-      length-replicate c.loop.counter (no_cell {N = g.row.N.Denot}),
-      c.loop.invariant.1,
-      cells.ok.0,
+      ap length c.loop-bucket.invariant.0,
+      length-map-range_with_len (bare_cell {N = g.row.N.Denot}) 0 c.loop-bucket.bucket,
+      c.loop-bucket.invariant.1,
+      firsts.ok.0,
+    )
+
+pub loop-bucket-preserved : goal.loop-bucket-preserved
+loop-bucket-preserved g c =
+    let C : Type 0 = Cell g.row.N.Denot in
+    let bucket = c.loop-bucket.bucket in (
+      c.push_reserved.ensures.items
+          ∙ ap (λ (cells : List C). cells ++ c.bare.result ∷ []) c.loop-bucket.invariant.0
+          ∙ ap (λ (cell : C). bare_cells bucket ++ cell ∷ []) c.bare.ensures
+          ∙ sym (map-range_with_len_more bare_cell 0 bucket bucket (omega arith)),
+      omega (arith, c.loop-bucket.invariant.1, c.push_reserved.ensures.capacity),
     )

@@ -1,7 +1,7 @@
-use Rattle.std.proofs.Common.{◌≡◌, ◌≤◌, replicate, vec_capacity}
-use Rattle.hashlink_table.specs.Chains.{no_cell}
+use Rattle.std.proofs.Common.{◌≡◌, ◌≤◌, vec_capacity}
+use Rattle.hashlink_table.specs.Chains.{bare_cells}
 use Rattle.hashlink_table.proofs.links.fill.Given as goal
 
--- so many free cells were pushed
-abbrev pub invariant-loop : goal.invariant-loop
-invariant-loop g l = (l.cells.items ≡ replicate l.counter no_cell) × (l.count ≤ vec_capacity l.cells)
+-- the cells of the buckets so far were pushed
+abbrev pub invariant-loop-bucket : goal.invariant-loop-bucket
+invariant-loop-bucket g l = (l.firsts.items ≡ bare_cells l.bucket) × (l.buckets ≤ vec_capacity l.firsts)

@@ -1,14 +1,12 @@
-use Rattle.std.proofs.Common.{◌≡◌, ◌%◌, length, false, Option, Some, None, IsSome, IsTrue, ◌∷◌, ◌++◌}
+use Rattle.std.proofs.Common.{◌≡◌, length, false, Option, Some, None, IsSome, IsTrue, ◌∷◌, ◌++◌}
 use Rattle.std.proofs.Common.{slice_set, refl, sym, ap, ◌∙◌, subst}
 use Rattle.std.proofs.lemmas.Bool.{false≢true}
-use Rattle.std.proofs.lemmas.Option.{same_Some}
-use Rattle.hashlink_table.specs.declared.kept.Kept.{Kept}
 use Rattle.std.proofs.Math.Seq.{map-set_same}
 use Rattle.std.specs.Prelude.{IsPermutation}
 use Rattle.std.proofs.lemmas.List.Sorted.{IsPermutation-trans, IsPermutation-sym, IsPermutation-middle}
 use Rattle.std.proofs.lemmas.List.Sorted.{IsPermutation-append_left, IsPermutation-append_right}
 use Rattle.hashlink_table.specs.declared.cell.Cell.{Cell}
-use Rattle.hashlink_table.specs.Chains.{kept_at, nodes_in, with_node, IsLinked}
+use Rattle.hashlink_table.specs.Chains.{kept_at, nodes_in, with_node, IsLinked, IsOf}
 use Rattle.hashlink_table.proofs.Cells.{kept_at_read}
 use Rattle.hashlink_table.proofs.Moving.{in_place-same, in_place-set}
 use Rattle.hashlink_table.proofs.Nodes.{nodes_in-same, nodes_in-set}
@@ -61,6 +59,5 @@ returns-else-is_taken-clause-in_place g c =
     let C : Type 0 = Cell g.row.N.Denot in
     let firsts = c.args.firsts.now in
     in_place-set firsts c.args.bucket c.put.new.self c.requires.within c.requires.in_place
-    (λ k is.
-    let same : c.args.kept ≡ k = same_Some _ _ (sym (ap (λ (d : C). d.kept) c.put.ensures) ∙ is) in
-    ap (λ (j : Kept g.row.N.Denot). j.hash % length firsts) (sym same) ∙ sym c.requires.bucket)
+    (subst (λ (d : C). IsOf (length firsts) c.args.bucket d.kept d.hash) (sym c.put.ensures)
+    (sym c.requires.bucket))

@@ -1,13 +1,14 @@
 use Rattle.std.proofs.Common.{◌≡◌, ℕ, ◌<◌, ◌%◌, List, length, get_or, cond, is_some, false, sym, ap, ◌∙◌}
-use Rattle.std.proofs.Common.{subst}
-use Rattle.std.proofs.Common.{arith}
+use Rattle.std.proofs.Common.{◌≢◌, IfNone, IsSome, None, Option, Some, subst, arith}
+use Rattle.std.proofs.lemmas.Bool.{false≢true}
 use Rattle.std.proofs.lemmas.Option.{MatchOption-at_none}
 use Rattle.std.proofs.lemmas.List.{get_or_read}
 use Rattle.std.specs.Prelude.{⊤}
 use Rattle.std.specs.Int.{IsPowerOfTwo}
 use Rattle.hashlink_table.specs.declared.cell.Cell.{Cell}
 use Rattle.hashlink_table.specs.declared.cell.TheConstants.{END}
-use Rattle.hashlink_table.specs.Chains.{no_cell, kept_at, next_at, chain_of, links_of}
+use Rattle.hashlink_table.specs.Chains.{no_cell, kept_at, next_at, chain_of, links_of, IsInPlace, IsOf}
+use Rattle.hashlink_table.specs.declared.kept.Kept.{Kept}
 use Rattle.hashlink_table.proofs.Cells.{chain_at_within}
 use Rattle.hashlink_table.proofs.Chaining.{length-links, link_read}
 use Rattle.hashlink_table.proofs.Linking.{positive_by_power}
@@ -19,7 +20,19 @@ use Rattle.hashlink_table.proofs.links.seek.Goals as goal
 use Rattle.hashlink_table.proofs.links.seek.Goals.{in-Some+else-is_match, in_default}
 use Rattle.hashlink_table.proofs.links.seek.Goals.{in-Some-look+else-is_match-2, in_default-look}
 
+-- a claim on what is not there
+unless_some : {X : Type 0} (P : Type 0) (o : Option X) → IsSome o → IfNone o P
+unless_some P None some = absurd (false≢true some)
+unless_some P (Some x) some = tt
+
 module _ {N : Type 0} where
+  -- what is of another bucket than a hash is not that hash
+  apart : (buckets b hash : ℕ) (o : Option (Kept N)) (stored : ℕ) → b ≡ hash % buckets
+      → IsOf buckets b o stored
+      → IfNone o (stored ≢ hash)
+  apart buckets b hash None stored is other = λ e. other (ap (λ h. h % buckets) e ∙ sym is)
+  apart buckets b hash (Some k) stored is own = tt
+
   -- the bucket's own cell, as it was read
   first_read : (firsts : List (Cell N)) (hash b : ℕ) (c : Cell N) → IsPowerOfTwo (length firsts)
       → b ≡ hash % length firsts → c ≡ get_or firsts b c
@@ -33,6 +46,32 @@ module _ {N : Type 0} where
         ap (λ i. get_or (links_of firsts) i END) (ap (λ m. hash % m) (length-links firsts) ∙ sym is)
             ∙ link_read firsts b within ∙ ap (λ (d : Cell N). d.next) at,
       )
+
+  -- it stores another hash than the one that is sought, if it has no node
+  first_apart : (firsts : List (Cell N)) (hash b : ℕ) (c : Cell N) → IsPowerOfTwo (length firsts)
+      → b ≡ hash % length firsts → c ≡ get_or firsts b c → IsInPlace firsts
+      → IfNone c.kept (c.hash ≢ hash)
+  first_apart firsts hash b c power is read in_place =
+      let some = positive_by_power (length firsts) power in
+      let within : b < length firsts = omega (arith, is, some) in
+      apart (length firsts) b hash c.kept c.hash is
+      (subst (λ (d : Cell N). IsOf (length firsts) b d.kept d.hash)
+      (sym (get_or_read firsts b c within read no_cell)) (in_place b within))
+
+pub look-requires : goal.look-requires
+look-requires g c =
+    first_apart c.args.firsts.now c.args.hash c.bucket_of.result c.index-firsts-bucket_of.result
+    c.requires.masked c.bucket_of.ensures c.index-firsts-bucket_of.is c.requires.in_place
+
+pub look-requires-in-loop-at : goal.look-requires-in-loop-at
+look-requires-in-loop-at g c =
+    let heads = links_of c.args.firsts.now in let cells = c.args.cells.now in
+    let power = subst IsPowerOfTwo (sym (length-links c.args.firsts.now)) c.requires.masked in
+    let read = walk_read heads cells c.args.hash c.loop-at.invariant.0.walk power
+    c.loop-at-test.true c.index-cells-at.result c.index-cells-at.is in
+    let some = walk_some heads cells c.args.hash c.loop-at.invariant.0.walk power c.loop-at-test.true in
+    let read_cell = c.index-cells-at.result in
+    unless_some (read_cell.hash ≢ c.args.hash) read_cell.kept (subst IsSome read.0 some)
 
 pub is_match-requires : goal.is_match-requires
 is_match-requires g c =

@@ -1,13 +1,12 @@
-use Rattle.std.proofs.lemmas.Option.{same_Some}
-use Rattle.hashlink_table.specs.declared.kept.Kept.{Kept}
-use Rattle.std.proofs.Common.{◌≡◌, ◌%◌, ◌<◌, IsSome, length, refl, sym, ap, ◌∙◌, subst, arith}
+use Rattle.std.proofs.Common.{◌%◌, ◌<◌, IsSome, length, refl, sym, ap, ◌∙◌, subst, arith}
 use Rattle.std.proofs.Math.Seq.{map-set_same}
 use Rattle.std.proofs.lemmas.List.Sorted.{IsPermutation-append_left}
 use Rattle.hashlink_table.specs.declared.cell.Cell.{Cell}
-use Rattle.hashlink_table.specs.Chains.{nodes_in, IsLinked}
+use Rattle.hashlink_table.specs.Chains.{nodes_in, IsLinked, IsOf}
 use Rattle.hashlink_table.proofs.Cells.{kept_at_read, next_at_read}
 use Rattle.hashlink_table.proofs.Chaining.{on_hash, taken-nodes, same_kept}
-use Rattle.hashlink_table.proofs.Moving.{in_place-same, in_place-set, follower_on, over-taken, first-followed}
+use Rattle.hashlink_table.proofs.Moving.{bare_apart, in_place-same, in_place-set, follower_on, over-taken}
+use Rattle.hashlink_table.proofs.Moving.{first-followed}
 use Rattle.hashlink_table.proofs.links.take.Goals as goal
 
 pub take_out-follower-requires-clause-on_chain : goal.take_out-follower-requires-clause-on_chain
@@ -23,9 +22,9 @@ pub returns-then-next-eq-END-clause-linked : goal.returns-then-next-eq-END-claus
 returns-then-next-eq-END-clause-linked g c =
     let C : Type 0 = Cell g.row.N.Denot in
     subst (λ ls. IsLinked ls c.args.cells.now c.args.free.now)
-    (sym (map-set_same (λ (d : C). d.next) c.args.firsts.now c.args.bucket c.set_free.new.self
+    (sym (map-set_same (λ (d : C). d.next) c.args.firsts.now c.args.bucket c.set_bare.new.self
     c.index-firsts-bucket-in-First.result
-    (ap (λ (d : C). d.next) c.set_free.ensures ∙ sym c.if-next-eq-END.true ∙ c.next-next.ensures.value)))
+    (ap (λ (d : C). d.next) c.set_bare.ensures ∙ sym c.if-next-eq-END.true ∙ c.next-next.ensures.value)))
     c.requires.linked
 
 pub returns-then-next-eq-END-clause-nodes : goal.returns-then-next-eq-END-clause-nodes
@@ -33,10 +32,10 @@ returns-then-next-eq-END-clause-nodes g c =
     let C : Type 0 = Cell g.row.N.Denot in
     let firsts = c.args.firsts.now in
     IsPermutation-append_left (nodes_in c.args.cells.now) _ _
-    (taken-nodes firsts firsts c.args.bucket c.set_free.new.self c.there-kept.result refl c.requires.within
+    (taken-nodes firsts firsts c.args.bucket c.set_bare.new.self c.there-kept.result refl c.requires.within
     (sym (kept_at_read firsts c.args.bucket c.index-firsts-bucket.result c.requires.within)
     ∙ c.there-kept.ensures)
-    (ap (λ (d : C). d.kept) c.set_free.ensures))
+    (ap (λ (d : C). d.kept) c.set_bare.ensures))
 
 pub returns-else-next-eq-END-clause-linked : goal.returns-else-next-eq-END-clause-linked
 returns-else-next-eq-END-clause-linked g c =
@@ -63,10 +62,8 @@ returns-else-next-eq-END-clause-in_place g c =
     in_place-set t.new.firsts c.args.bucket c.put.new.self
     (omega (arith, c.requires.within, t.auto.firsts))
     (in_place-same firsts t.new.firsts t.ensures.firsts t.auto.firsts c.requires.in_place)
-    (λ k is.
-    let same : t.result ≡ k = same_Some _ _ (sym (ap (λ (d : C). d.kept) c.put.ensures) ∙ is) in
-    ap (λ m. k.hash % m) t.auto.firsts
-    ∙ ap (λ (j : Kept g.row.N.Denot). j.hash % length firsts) (sym same) ∙ hashed)
+    (subst (λ (d : C). IsOf (length t.new.firsts) c.args.bucket d.kept d.hash) (sym c.put.ensures)
+    (ap (λ m. t.result.hash % m) t.auto.firsts ∙ hashed))
 
 pub returns-else-next-eq-END-clause-nodes : goal.returns-else-next-eq-END-clause-nodes
 returns-else-next-eq-END-clause-nodes g c =
@@ -101,8 +98,10 @@ there-kept-requires g c =
 pub returns-then-next-eq-END-clause-in_place : goal.returns-then-next-eq-END-clause-in_place
 returns-then-next-eq-END-clause-in_place g c =
     let C : Type 0 = Cell g.row.N.Denot in
-    in_place-set c.args.firsts.now c.args.bucket c.set_free.new.self c.requires.within c.requires.in_place
-    (λ k is. let none = ap (λ (d : C). d.kept) c.set_free.ensures in cc)
+    let m = length c.args.firsts.now in
+    in_place-set c.args.firsts.now c.args.bucket c.set_bare.new.self c.requires.within c.requires.in_place
+    (subst (λ (d : C). IsOf m c.args.bucket d.kept d.hash) (sym c.set_bare.ensures)
+    (bare_apart m c.args.bucket c.requires.within c.requires.two))
 
 pub returns-then-next-eq-END-clause-kept : goal.returns-then-next-eq-END-clause-kept
 returns-then-next-eq-END-clause-kept g c =

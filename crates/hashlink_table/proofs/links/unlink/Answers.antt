@@ -1,7 +1,7 @@
 use Rattle.hashlink_table.specs.declared.cell.Cell.{Cell}
 use Rattle.std.proofs.Common.{ℕ, ◌<◌, length, sym, ap, ◌∙◌, subst, inl, inr, arith, rules}
 use Rattle.std.proofs.Math.Seq.{map-set_same}
-use Rattle.hashlink_table.specs.Chains.{next_at, chain_at, links_of, Among, IsLinkedBut}
+use Rattle.hashlink_table.specs.Chains.{next_at, chain_at, links_of, Among, IsLinkedBut, stored_in}
 use Rattle.hashlink_table.proofs.Chaining.{length-links, link_read, link_set, on_within}
 use Rattle.hashlink_table.proofs.Cells.{within_by_chain, kept_at_read, next_at_read}
 use Rattle.hashlink_table.proofs.Linking.{unlinked_first, unlinked_next}
@@ -129,16 +129,16 @@ returns-clause-unlinked g c =
 pub returns-then-at-cell-clause-firsts : goal.returns-then-at-cell-clause-firsts
 returns-then-at-cell-clause-firsts g c =
     let C : Type 0 = Cell g.row.N.Denot in
-    map-set_same (λ (d : C). d.kept) c.args.firsts.now c.args.bucket c.set_next.new.self
+    map-set_same stored_in c.args.firsts.now c.args.bucket c.set_next.new.self
     c.index-firsts-bucket-then-at-cell.result
-    (ap (λ (d : C). d.kept) c.set_next.ensures)
+    (ap stored_in c.set_next.ensures)
 
 pub returns-clause-nodes : goal.returns-clause-nodes
 returns-clause-nodes g c =
     let C : Type 0 = Cell g.row.N.Denot in
-    map-set_same (λ (d : C). d.kept) c.args.cells.now c.loop-cells.at c.set_next-2.new.self
+    map-set_same stored_in c.args.cells.now c.loop-cells.at c.set_next-2.new.self
     c.index-cells-at-2.result
-    (ap (λ (d : C). d.kept) c.set_next-2.ensures)
+    (ap stored_in c.set_next-2.ensures)
 
 pub bounds-cells-cell : goal.bounds-cells-cell
 bounds-cells-cell g c =

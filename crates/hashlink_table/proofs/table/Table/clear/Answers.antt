@@ -1,4 +1,4 @@
-use Rattle.std.proofs.Common.{[], ap, ◌∙◌, arith}
+use Rattle.std.proofs.Common.{[], sym, ap, ◌∙◌, arith}
 use Rattle.hashlink_table.specs.Contents.{Contents}
 use Rattle.hashlink_table.proofs.Sound.{sound-bare, contents-bare}
 use Rattle.hashlink_table.proofs.table.Table.clear.Goals as goal
@@ -10,7 +10,7 @@ invariant_of-self g c =
     rw (c.fill.ensures, c.clear-2.ensures.items)
     (sound-bare c.len-buckets.result _ t.room (omega (arith, s.headed, buckets))
     (omega (arith, s.reserved, c.clear-2.ensures.capacity)) (omega (arith, s.small, buckets))
-    (λ h. rw buckets (s.masked (omega (arith, h, buckets)))))
+    (λ h. rw buckets (s.masked (omega (arith, h, buckets)))) (λ one. s.two (sym buckets ∙ one)))
 
 pub returns : goal.returns
 returns g c =

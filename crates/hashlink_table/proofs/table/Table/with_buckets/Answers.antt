@@ -6,7 +6,8 @@ pub invariant_of-result : goal.invariant_of-result
 invariant_of-result g c =
     rw (c.fill.ensures, c.in_ok-overs.ensures.items)
     (sound-bare c.args.buckets _ c.args.room c.requires.headed
-    (omega (arith, c.in_ok-overs.ensures.capacity)) c.requires.small (λ _. c.requires.power))
+    (omega (arith, c.in_ok-overs.ensures.capacity)) c.requires.small (λ _. c.requires.power)
+    (λ one. omega (arith, one, c.requires.two)))
 
 pub returns : goal.returns
 returns g c =
