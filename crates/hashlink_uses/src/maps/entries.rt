@@ -1,6 +1,6 @@
 //! Calls through entries, raw entries and cursors, and what is known of a map once they are gone.
 ghost use Rattle.std.specs.Prelude.{◌≡◌, ℕ, ◌+◌, ◌-◌, ◌<◌, ◌^◌, [], Some, Ok, IfOk, OnOk, IfErr, IfNone};
-ghost use Rattle.std.specs.Prelude.{MatchOption, is_none, is_some, length, unwrap_or, true, false};
+ghost use Rattle.std.specs.Prelude.{◌≢◌, MatchOption, is_none, is_some, length, unwrap_or, true, false};
 ghost use Rattle.std.specs.Map.{lookup};
 ghost use Rattle.hashlink.specs.Cursor.{following_place, preceding_place};
 ghost use Rattle.hashlink.specs.Entry.{TakesEntry, ReplacesKey, ReplacesValue};
@@ -276,6 +276,7 @@ pub fn write_first<K: Eq + Hash, V: Drop, S: BuildHasher>(
     value: V,
 ) -> bool
     ensures there { result ≡ true → state_of map.new ≡ with_value (state_of map.old) 0 value }
+    ensures some { result ≡ true → entries_of map.old ≢ [] }
     ensures none { result ≡ false → entries_of map.old ≡ [] }
     ensures unchanged { result ≡ false → state_of map.new ≡ state_of map.old }
 {

@@ -1,5 +1,5 @@
 //! Lending iterators, and what is known of a map after one.
-ghost use Rattle.std.specs.Prelude.{◌≡◌, ◌-◌, [], length, IsTrue, IsFalse};
+ghost use Rattle.std.specs.Prelude.{◌≡◌, ◌≢◌, ◌-◌, [], length, IsTrue, IsFalse};
 ghost use Rattle.hashlink.specs.MapState.{with_value};
 ghost use Rattle.hashlink.specs.Keyed.{state_of, entries_of};
 
@@ -12,6 +12,7 @@ pub fn write_first<K: Eq + Hash, V: Drop, S: BuildHasher>(
     value: V,
 ) -> bool
     ensures written { IsTrue result → state_of map.new ≡ with_value (state_of map.old) 0 value }
+    ensures some { IsTrue result → entries_of map.old ≢ [] }
     ensures none { IsFalse result → entries_of map.old ≡ [] }
     ensures unchanged { IsFalse result → map.new ≡ map.old }
 {
@@ -30,6 +31,7 @@ pub fn write_last<K: Eq + Hash, V: Drop, S: BuildHasher>(
 ) -> bool
     ensures written { IsTrue result
         → state_of map.new ≡ with_value (state_of map.old) (length (entries_of map.old) - 1) value }
+    ensures some { IsTrue result → entries_of map.old ≢ [] }
     ensures none { IsFalse result → entries_of map.old ≡ [] }
     ensures unchanged { IsFalse result → map.new ≡ map.old }
 {
