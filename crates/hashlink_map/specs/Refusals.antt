@@ -5,6 +5,7 @@ use Rattle.hashlink_map.specs.declared.try_insert_error.TryInsertError.{TryInser
 use Rattle.hashlink_map.specs.declared.try_insert_error.TryInsertError.TheVariants.{Make, Memory}
 
 -- an error of the closure is printed as `shown` says, if it says how
-abbrev pub try_insert_shown : {K V E : Type 0} → (E → Option (List ℕ)) → TryInsertError K V E → Option (List ℕ)
+abbrev pub try_insert_shown : {K V E : Type 0} → (E → Option (List ℕ)) → TryInsertError K V E
+    → Option (List ℕ)
 try_insert_shown shown (Make _ error) = option_map (λ text. codes "no value was made: " ++ text) (shown error)
 try_insert_shown shown (Memory _) = Some (codes "memory allocation failed")

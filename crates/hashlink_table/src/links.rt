@@ -5,7 +5,8 @@ ghost use Rattle.std.specs.Prelude.{cond, is_some, true, IfNone, IfSome, IsPermu
 ghost use Rattle.std.specs.Prelude.{[], vec_capacity, vec_len};
 ghost use Rattle.std.specs.Int.{IsPowerOfTwo};
 ghost use Rattle.hashlink_table.specs.Chains.{bare_cells, chain_at, chain_of, kept_at, kept_by, links_of};
-ghost use Rattle.hashlink_table.specs.Chains.{nodes_in, IsInPlace, IsLinked, IsLinkedBut, IsPlaced, SameNodes};
+ghost use Rattle.hashlink_table.specs.Chains.{nodes_in, IsInPlace, IsLinked, IsLinkedBut, IsPlaced};
+ghost use Rattle.hashlink_table.specs.Chains.{SameNodes};
 ghost use Rattle.hashlink_table.specs.declared.spot.Spot.TheVariants.{Over};
 
 use super::bucket::bucket_of;

@@ -6,5 +6,6 @@ use Rattle.hashlink_uses.proofs.maps.entries.put_new.Goals as goal
 
 pub returns-in-Occupied-clause-added : goal.returns-in-Occupied-clause-added
 returns-in-Occupied-clause-added g c =
-    is-not-absent (g.K.PartialEq.eq c.args.key) (entries_of c.args.map.now) (occupied_place c.in-Occupied.entry)
+    is-not-absent (g.K.PartialEq.eq c.args.key) (entries_of c.args.map.now)
+    (occupied_place c.in-Occupied.entry)
     (search rules)
