@@ -10,6 +10,9 @@ pub seek-requires-clause-linked : goal.seek-requires-clause-linked
 seek-requires-clause-linked g c =
     rw (c.deref.ensures.value, c.deref-2.ensures.value) (c.self.inside.free, c.self.invariant.linked)
 
+pub seek-requires-clause-in_place : goal.seek-requires-clause-in_place
+seek-requires-clause-in_place g c = rw c.deref.ensures.value c.self.invariant.in_place
+
 pub seek-requires-clause-callable_first : goal.seek-requires-clause-callable_first
 seek-requires-clause-callable_first g c = λ node here.
     let t = c.self.inside in

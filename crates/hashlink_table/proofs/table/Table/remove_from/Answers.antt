@@ -15,6 +15,9 @@ pub seek-requires-clause-linked : goal.seek-requires-clause-linked
 seek-requires-clause-linked g c =
     rw (c.deref.ensures.value, c.deref-2.ensures.value) (c.self.inside.free, c.self.invariant.linked)
 
+pub seek-requires-clause-in_place : goal.seek-requires-clause-in_place
+seek-requires-clause-in_place g c = rw c.deref.ensures.value c.self.invariant.in_place
+
 pub seek-requires-clause-callable_first : goal.seek-requires-clause-callable_first
 seek-requires-clause-callable_first g c = λ node here.
     let t = c.self.inside in
@@ -43,6 +46,15 @@ returns-in-None-clause-none g c = λ node keeps.
 pub take-kept-requires-clause-linked : goal.take-kept-requires-clause-linked
 take-kept-requires-clause-linked g c =
     rw (c.deref_mut.ensures.value, c.deref_mut-in-Some.ensures.value) c.self.invariant.linked
+
+pub take-kept-requires-clause-in_place : goal.take-kept-requires-clause-in_place
+take-kept-requires-clause-in_place g c = rw c.deref_mut.ensures.value c.self.invariant.in_place
+
+pub take-kept-requires-clause-two : goal.take-kept-requires-clause-two
+take-kept-requires-clause-two g c = rw c.deref_mut.ensures.value c.self.invariant.two
+
+pub take-kept-requires-clause-few : goal.take-kept-requires-clause-few
+take-kept-requires-clause-few g c = rw c.deref_mut.ensures.value c.self.invariant.small
 
 pub invariant_of-self : goal.invariant_of-self
 invariant_of-self g c =
