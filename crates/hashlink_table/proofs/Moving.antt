@@ -1,10 +1,10 @@
 -- The buckets' own cells: a node comes into one, leaves it, and is followed there by the next of its chain.
-use Rattle.std.proofs.Common.{◌≡◌, ◌≢◌, ℕ, ◌+◌, ◌%◌, ◌<◌, inl, inr, List, ◌∷◌, ◌++◌, length}
+use Rattle.std.proofs.Common.{◌≡◌, ◌≢◌, ℕ, zero, suc, ◌%◌, ◌<◌, inl, inr, List, ◌∷◌, ◌++◌, length}
 use Rattle.std.proofs.Common.{get_or, is_some, set, Option, Some, sym, ap, ◌∙◌, subst, arith}
 use Rattle.std.specs.Prelude.{IsPermutation}
-use Rattle.std.proofs.lemmas.Bool.{cases_eq, cases_lt}
+use Rattle.std.proofs.lemmas.Bool.{cases_eq}
 use Rattle.std.proofs.lemmas.List.{get_or-set_same, get_or-set_other, length-set}
-use Rattle.std.proofs.Math.Nat.{mod-eq_of_lt, mod_self}
+use Rattle.std.proofs.Math.Nat.{mod-eq_of_lt}
 use Rattle.std.proofs.lemmas.List.Sorted.{IsPermutation-trans, IsPermutation-middle}
 use Rattle.std.proofs.lemmas.List.Sorted.{IsPermutation-append_left}
 use Rattle.std.proofs.lemmas.List.Sorted.{IsPermutation-append_right}
@@ -13,18 +13,20 @@ use Rattle.hashlink_table.specs.declared.cell.Cell.{Cell}
 use Rattle.hashlink_table.specs.declared.cell.TheConstants.{END}
 use Rattle.hashlink_table.specs.Chains.{no_cell, kept_at, next_at, chain_at, links_of, nodes_in, with_node}
 use Rattle.hashlink_table.specs.Chains.{hash_at, IsInPlace, IsLinked, IsOf, SameNodes}
+use Rattle.hashlink_table.specs.Stored.{apart}
 use Rattle.hashlink_table.proofs.Cells.{within_by_kept}
 use Rattle.hashlink_table.proofs.Chaining.{length-links, link_read, same_stored}
 use Rattle.hashlink_table.proofs.Nodes.{nodes_in-set, nodes_in-same}
 use Rattle.hashlink_table.proofs.Walks.{walk_of, walk_at}
 
 -- a bare cell stores the hash of another bucket, if there is one
-pub bare_apart : (buckets b : ℕ) → b < buckets → buckets ≢ 1 → (b + 1) % buckets ≢ b
-bare_apart buckets b low two e = elim (cases_lt (b + 1) buckets) as (λ _. ⊥) [
-  | inl h ↦ omega (arith, sym (mod-eq_of_lt h) ∙ e)
-  | inr past ↦ let all : b + 1 ≡ buckets = omega arith in
-      two (omega (arith, all, sym (mod_self buckets) ∙ ap (λ n. n % buckets) (sym all) ∙ e))
-]
+pub bare_apart : (buckets b : ℕ) → b < buckets → buckets ≢ 1 → apart b % buckets ≢ b
+bare_apart buckets zero low two e =
+    let more : 1 < buckets = omega arith in
+    omega (arith, sym (mod-eq_of_lt more) ∙ e)
+bare_apart buckets (suc b) low two e =
+    let some : 0 < buckets = omega arith in
+    omega (arith, sym (mod-eq_of_lt some) ∙ e)
 
 module _ {N : Type 0} where
   -- a cell with a node is one of the list

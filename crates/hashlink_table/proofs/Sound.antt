@@ -16,7 +16,7 @@ use Rattle.hashlink_table.specs.declared.cell.Cell.{Cell}
 use Rattle.hashlink_table.specs.declared.cell.TheConstants.{END}
 use Rattle.hashlink_table.specs.Chains.{no_cell, kept_at, next_at, chain_of, nodes_in, links_of, Among}
 use Rattle.hashlink_table.specs.Chains.{bare_cells, IsOf, IsPath}
-use Rattle.hashlink_table.specs.Stored.{bare_cell}
+use Rattle.hashlink_table.specs.Stored.{apart, bare_cell}
 use Rattle.hashlink_table.specs.Contents.{Contents}
 use Rattle.hashlink_table.specs.Chains.{contents, IsInPlace, IsLinked, IsSound}
 use Rattle.hashlink_table.proofs.Cells.{chain_at_within}
@@ -59,7 +59,7 @@ bare_in_place N n two b low =
     let within : b < n = omega (arith, low, same) in
     subst (λ (c : Cell N). IsOf (length (bare_cells {N = N} n)) b c.kept c.hash)
     (sym (get_or-map-range_with_len bare_cell 0 n b b no_cell within (omega arith)))
-    (subst (λ m. (b + 1) % m ≢ b) (sym same) (bare_apart n b within two))
+    (subst (λ m. apart b % m ≢ b) (sym same) (bare_apart n b within two))
 
 module _ {N : Type 0} where
   -- where no cell is free, each has a node

@@ -1,5 +1,5 @@
 -- The cell that a table stores.
-use Rattle.std.specs.Prelude.{ℕ, ◌+◌, ◌%◌, ◌^◌, cond, None, Some}
+use Rattle.std.specs.Prelude.{ℕ, zero, suc, ◌%◌, ◌^◌, cond, None, Some}
 use Rattle.std.specs.Prelude.{ltb}
 use Rattle.hashlink_table.specs.declared.cell.Cell.{Cell}
 use Rattle.hashlink_table.specs.declared.cell.TheConstants.{END}
@@ -12,6 +12,11 @@ cell_of node hash link = record {
   next = link % 2 ^ 31;
 }
 
--- the own cell of bucket b, without a node: the number b + 1 is a hash of the next bucket
+-- a hash of another bucket than b, if there is one
+abbrev pub apart : ℕ → ℕ
+apart zero = 1
+apart (suc b) = 0
+
+-- the own cell of bucket b, without a node
 abbrev pub bare_cell : {N : Type 0} → ℕ → Cell N
-bare_cell b = record { kept = None; hash = b + 1; next = END }
+bare_cell b = record { kept = None; hash = apart b; next = END }

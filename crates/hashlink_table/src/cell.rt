@@ -41,14 +41,15 @@ impl<N> Model for Stored<N> {
 }
 
 impl<N: Copy> Stored<N> {
-    /// This bucket's own cell, without a node. It stores a hash of the next bucket.
+    /// This bucket's own cell, without a node. It stores a hash of another bucket: nearly all such cells are
+    /// alike, and quickly written.
+    #[inline]
     pub fn bare(filler: N, bucket: usize) -> Self
-        requires { bucket + 1 < 2 ^ 32 }
         ensures { result ≡ bare_cell bucket }
     {
         Stored {
             node: filler,
-            hash: bucket as u32 + 1,
+            hash: if bucket == 0 { 1 } else { 0 },
             link: FREE + END as u32,
         }
     }
@@ -143,7 +144,6 @@ impl<N: Copy> Stored<N> {
     /// Takes the node out of this bucket's own cell, which is then the only one of its chain.
     #[inline]
     pub fn set_bare(&mut self, bucket: usize)
-        requires { bucket + 1 < 2 ^ 32 }
         ensures { self.new ≡ bare_cell bucket }
     {
         *self = Stored::bare(self.node, bucket);

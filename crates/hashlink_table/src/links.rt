@@ -20,11 +20,14 @@ use std::sync::ledger::Ledger;
 pub fn fill<N: Copy>(firsts: &mut Vec<Stored<N>>, filler: N, buckets: usize)
     requires empty { firsts.old.items ≡ [] }
     requires reserved { buckets ≤ vec_capacity firsts.old }
-    requires small { buckets ≤ 2 ^ 30 }
     ensures { firsts.new.items ≡ bare_cells buckets }
 {
-    for bucket in 0..buckets {
-        firsts.push_reserved(Stored::bare(filler, bucket));
+    if buckets == 0 {
+        return;
+    }
+    firsts.push_reserved(Stored::bare(filler, 0));
+    for bucket in 1..buckets {
+        firsts.push_reserved(Stored::bare(filler, bucket)); // each of them the same
     }
 }
 
@@ -182,7 +185,6 @@ pub fn take<N: Copy>(
     requires linked { IsLinked (links_of firsts.old) cells.old free.old }
     requires in_place { IsInPlace firsts.old }
     requires two { length firsts.old ≢ 1 }
-    requires few { length firsts.old ≤ 2 ^ 30 }
     requires small { length cells.old < END }
     ensures linked { IsLinked (links_of firsts.new) cells.new free.new }
     ensures in_place { IsInPlace firsts.new }

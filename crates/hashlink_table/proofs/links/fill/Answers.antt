@@ -5,8 +5,8 @@ use Rattle.hashlink_table.specs.Chains.{bare_cells}
 use Rattle.hashlink_table.specs.Stored.{bare_cell}
 use Rattle.hashlink_table.proofs.links.fill.Goals as goal
 
-pub push_reserved-requires : goal.push_reserved-requires
-push_reserved-requires g c =
+pub push_reserved-requires-in-loop-bucket : goal.push_reserved-requires-in-loop-bucket
+push_reserved-requires-in-loop-bucket g c =
     let firsts = c.loop-bucket.firsts in
     omega (
       arith,
@@ -20,9 +20,9 @@ pub loop-bucket-preserved : goal.loop-bucket-preserved
 loop-bucket-preserved g c =
     let C : Type 0 = Cell g.row.N.Denot in
     let bucket = c.loop-bucket.bucket in (
-      c.push_reserved.ensures.items
-          ∙ ap (λ (cells : List C). cells ++ c.bare.result ∷ []) c.loop-bucket.invariant.0
-          ∙ ap (λ (cell : C). bare_cells bucket ++ cell ∷ []) c.bare.ensures
+      c.push_reserved-in-loop-bucket.ensures.items
+          ∙ ap (λ (cells : List C). cells ++ c.bare-in-loop-bucket.result ∷ []) c.loop-bucket.invariant.0
+          ∙ ap (λ (cell : C). bare_cells bucket ++ cell ∷ []) c.bare-in-loop-bucket.ensures
           ∙ sym (map-range_with_len_more bare_cell 0 bucket bucket (omega arith)),
-      omega (arith, c.loop-bucket.invariant.1, c.push_reserved.ensures.capacity),
+      omega (arith, c.loop-bucket.invariant.1, c.push_reserved-in-loop-bucket.ensures.capacity),
     )

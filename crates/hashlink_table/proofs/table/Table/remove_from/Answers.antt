@@ -53,9 +53,6 @@ take-kept-requires-clause-in_place g c = rw c.deref_mut.ensures.value c.self.inv
 pub take-kept-requires-clause-two : goal.take-kept-requires-clause-two
 take-kept-requires-clause-two g c = rw c.deref_mut.ensures.value c.self.invariant.two
 
-pub take-kept-requires-clause-few : goal.take-kept-requires-clause-few
-take-kept-requires-clause-few g c = rw c.deref_mut.ensures.value c.self.invariant.small
-
 pub invariant_of-self : goal.invariant_of-self
 invariant_of-self g c =
     let t = c.self.inside in let taken = c.take-kept in
