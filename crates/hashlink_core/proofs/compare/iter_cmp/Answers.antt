@@ -11,18 +11,21 @@ first R xs ys xs' ys' p q o left right at =
 
 pub loop-key-preserved : goal.loop-key-preserved
 loop-key-preserved g c =
-    sym (first (λ p q. ordering_then (g.K.Ord.cmp p.0 q.0) (g.V.Ord.cmp p.1 q.1)) c.loop-key.left c.loop-key.right
-    c.next.new.self c.next-in-Some.new.self _ _ _ c.in-Some.ensures.steps c.in-Some-next.ensures.steps
+    sym (first (λ p q. ordering_then (g.K.Ord.cmp p.0 q.0) (g.V.Ord.cmp p.1 q.1)) c.loop-key.left
+    c.loop-key.right c.next.new.self c.next-in-Some.new.self _ _ _ c.in-Some.ensures.steps
+    c.in-Some-next.ensures.steps
     (sym c.pair_cmp.ensures ∙ c.in-Equal.is)) ∙ c.loop-key.invariant
 
 pub returns-in-Less : goal.returns-in-Less
 returns-in-Less g c =
-    sym (first (λ p q. ordering_then (g.K.Ord.cmp p.0 q.0) (g.V.Ord.cmp p.1 q.1)) c.loop-key.left c.loop-key.right
-    c.next.new.self c.next-in-Some.new.self _ _ _ c.in-Some.ensures.steps c.in-Some-next.ensures.steps
+    sym (first (λ p q. ordering_then (g.K.Ord.cmp p.0 q.0) (g.V.Ord.cmp p.1 q.1)) c.loop-key.left
+    c.loop-key.right c.next.new.self c.next-in-Some.new.self _ _ _ c.in-Some.ensures.steps
+    c.in-Some-next.ensures.steps
     (sym c.pair_cmp.ensures ∙ c.in-Less.is)) ∙ c.loop-key.invariant
 
 pub returns-in-Greater : goal.returns-in-Greater
 returns-in-Greater g c =
-    sym (first (λ p q. ordering_then (g.K.Ord.cmp p.0 q.0) (g.V.Ord.cmp p.1 q.1)) c.loop-key.left c.loop-key.right
-    c.next.new.self c.next-in-Some.new.self _ _ _ c.in-Some.ensures.steps c.in-Some-next.ensures.steps
+    sym (first (λ p q. ordering_then (g.K.Ord.cmp p.0 q.0) (g.V.Ord.cmp p.1 q.1)) c.loop-key.left
+    c.loop-key.right c.next.new.self c.next-in-Some.new.self _ _ _ c.in-Some.ensures.steps
+    c.in-Some-next.ensures.steps
     (sym c.pair_cmp.ensures ∙ c.in-Greater.is)) ∙ c.loop-key.invariant

@@ -1,5 +1,5 @@
-use Rattle.std.proofs.Common.{◌≡◌, ◌≢◌, ℕ, ◌+◌, ◌≤◌, length, Result, Ok, Err, OnErr, refl, ap, sym, subst}
-use Rattle.std.proofs.Common.{true, ◌∙◌, rules, arith}
+use Rattle.std.proofs.Common.{◌≡◌, ◌≢◌, ℕ, ◌+◌, ◌≤◌, length, Result, Ok, Err, OnErr}
+use Rattle.std.proofs.Common.{true, refl, ap, sym, subst, ◌∙◌, rules, arith}
 use Rattle.std.specs.Result.{is_ok, is_err}
 use Rattle.std.proofs.lemmas.Bool.{true≢false}
 use Rattle.std.proofs.lemmas.Map.Entries.{length-values_of}
@@ -61,7 +61,8 @@ pub returns-then-is_err-clause-no_spare : goal.returns-then-is_err-clause-no_spa
 returns-then-is_err-clause-no_spare g c =
     let old = c.args.self.now in
     let r = c.reserve.ensures in
-    let fits : length old.nodes + old.spare ≤ old.room = omega (arith, r.sound.fits, length-values_of old.nodes) in
+    let fits : length old.nodes + old.spare ≤ old.room
+    = omega (arith, r.sound.fits, length-values_of old.nodes) in
     full (length old.nodes) old.spare old.room fits
     (λ more. not-both c.reserve.result (sym c.is_err.ensures.value ∙ c.if-is_err.true) (r.enough more).0)
 
