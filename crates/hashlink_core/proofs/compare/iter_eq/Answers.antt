@@ -9,3 +9,6 @@ returns-then-len g c =
 
 pub returns-then-not-pair_eq : goal.returns-then-not-pair_eq
 returns-then-not-pair_eq g c = search rules
+
+pub loop-key-preserved : goal.loop-key-preserved
+loop-key-preserved g c = search rules

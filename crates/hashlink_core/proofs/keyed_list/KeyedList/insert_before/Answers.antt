@@ -1,9 +1,26 @@
-use Rattle.std.proofs.Common.{◌≡◌, ◌+◌, ◌≤◌, length, refl, ap, sym, subst, ◌∙◌, rules}
+use Rattle.std.proofs.Common.{◌≡◌, ◌≢◌, ℕ, ◌+◌, ◌≤◌, length, Result, Ok, Err, OnErr}
+use Rattle.std.proofs.Common.{true, refl, ap, sym, subst, ◌∙◌, rules, arith}
+use Rattle.std.specs.Result.{is_ok, is_err}
+use Rattle.std.proofs.lemmas.Bool.{true≢false}
+use Rattle.std.proofs.lemmas.Map.Entries.{length-values_of}
 use Rattle.hashlink_nodes.specs.Ring.{IsPlace}
-use Rattle.hashlink_core.specs.Keyed.{Keyed}
+use Rattle.hashlink_core.specs.Keyed.{Keyed, seen_as}
+use Rattle.hashlink_core.specs.Steps.{GrowsRoom}
 use Rattle.hashlink_core.specs.Tied.{hash_with, short}
 use Rattle.hashlink_core.proofs.Calls.{sound, place-inside, added-step, added-node}
 use Rattle.hashlink_core.proofs.keyed_list.KeyedList.insert_before.Goals as goal
+
+-- where there is no room for one more, none is spare
+full : (n spare room : ℕ) → n + spare ≤ room → (n + 1 ≤ room → ⊥) → spare ≡ 0
+full n spare room fits more = omega arith
+
+not-both : {A B : Type 0} (r : Result A B) → is_err r ≡ true → is_ok r ≢ true
+not-both (Ok x) e o = absurd (true≢false (sym e))
+not-both (Err x) e o = absurd (true≢false (sym o))
+
+on-err : {A B P : Type 0} (r : Result A B) → P → OnErr r P
+on-err (Ok x) p = tt
+on-err (Err e) p = p
 
 pub push_before-requires-clause-place : goal.push_before-requires-clause-place
 push_before-requires-clause-place g c =
@@ -39,3 +56,20 @@ returns-clause-added g c =
 
 pub returns-clause-sound : goal.returns-clause-sound
 returns-clause-sound g c = sound g.met.K.Eq.laws refl (invariant_of-self-2 g c)
+
+pub returns-then-is_err-clause-no_spare : goal.returns-then-is_err-clause-no_spare
+returns-then-is_err-clause-no_spare g c =
+    let old = c.args.self.now in
+    let r = c.reserve.ensures in
+    let fits : length old.nodes + old.spare ≤ old.room
+    = omega (arith, r.sound.fits, length-values_of old.nodes) in
+    full (length old.nodes) old.spare old.room fits
+    (λ more. not-both c.reserve.result (sym c.is_err.ensures.value ∙ c.if-is_err.true) (r.enough more).0)
+
+pub returns-in_err-node-clause-refused : goal.returns-in_err-node-clause-refused
+returns-in_err-node-clause-refused g c =
+    on-err c.from_residual.result
+    (subst (GrowsRoom 1 c.args.self.now)
+    (sym (ap (λ ns. seen_as ns c.self.inside.table c.self.inside.hash_builder) c.in_err-node.ensures.refused
+    ∙ c.self.view_is))
+    c.reserve.ensures.grown)

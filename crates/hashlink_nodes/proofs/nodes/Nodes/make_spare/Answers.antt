@@ -17,6 +17,12 @@ returns-then-self-gt0-clause-free g c = (
   refl,
 )
 
+pub returns-then-self-gt0-clause-entries : goal.returns-then-self-gt0-clause-entries
+returns-then-self-gt0-clause-entries g c = refl
+
+pub returns-then-self-gt0-clause-link_writes : goal.returns-then-self-gt0-clause-link_writes
+returns-then-self-gt0-clause-link_writes g c = refl
+
 pub returns-then-self-ge-MOST-clause-succeeds : goal.returns-then-self-ge-MOST-clause-succeeds
 returns-then-self-ge-MOST-clause-succeeds g c =
     λ some. absurd
