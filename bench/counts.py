@@ -1,10 +1,10 @@
 #!/usr/bin/env python3
 """Counts what a call of each row takes: bench/counts.py N NAME=PROGRAM ..
 
-Each program is run under callgrind, with one round of each row and with two; the difference is one round's. It
-prints for each call the instructions, the misses of a cache of 1 MiB, and the branches that were mispredicted,
-as callgrind models them. The counts of a program are the same on each machine, whatever else runs there. It
-needs valgrind with its headers and a C compiler, and takes minutes.
+Each program is run under callgrind, with one round of each row and with two; the difference is one round's.
+It prints for each call the instructions, the misses of a cache of 1 MiB, and the branches that were
+mispredicted, as callgrind models them. The counts of a program are the same on each machine, whatever else
+runs there. It needs valgrind with its headers and a C compiler, and takes minutes.
 """
 
 import re

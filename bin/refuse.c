@@ -7,8 +7,8 @@
      SHORT_FROM, SHORT_TO     reads and writes of several bytes there, which move one
 
    For each that it met it writes a byte to the file descriptor that MET_FILE numbers, and as the program ends
-   one to that of LEFT_FILE for each block of memory that was not given back. To that of HELD_FILE, where it is
-   there, it writes a line at each request for memory: how many bytes the program has then.
+   one to that of LEFT_FILE for each block of memory that was not given back. To that of HELD_FILE, where it
+   is there, it writes a line at each request for memory: how many bytes the program has then.
 
    Where EACH_FILE is there instead, the program runs once and is copied at each request for memory: one copy
    goes on with this request refused, one with this and all that follow, and then the program itself, with
@@ -132,7 +132,8 @@ static int run_copy(int is_all) {
     }
     if (waitpid(copy, &status, 0) != copy) abort();
     for (file = 0; file < FILES; file++)
-        if (places[file] >= 0 && (unsigned long)file != number_in("EACH_FILE")) lseek(file, places[file], FROM_START);
+        if (places[file] >= 0 && (unsigned long)file != number_in("EACH_FILE"))
+            lseek(file, places[file], FROM_START);
     tell(line, (size_t)snprintf(line, sizeof line, "ended %lu %d %d\n", refused.count + 1, is_all, status));
     return 0;
 }

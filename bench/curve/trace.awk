@@ -1,4 +1,5 @@
-# A trace of `uses` uses of `n` keys: each key once, the others drawn so that a key is the rarer, the later it is.
+# A trace of `uses` uses of `n` keys: each key once, the others drawn so that a key is the rarer, the later it
+# is.
 # awk -v n=10000 -v uses=2000000 -f trace.awk
 BEGIN {
     srand(7)
