@@ -75,7 +75,7 @@ impl<K: Eq + Hash> MissCurve<K> {
     }
 
     /// Returns how many of the recorded uses a cache of this capacity misses that is empty at first. It takes
-    /// at most a step for each distinct key.
+    /// a step for each distinct key beyond `capacity`, and does not allocate.
     pub fn misses(&self, capacity: usize) -> u64
         // The same as the cache of the model, and so as any cache whose contract names it.
         ensures counted { (used : List K) → Counted K.eq used self.now → result
@@ -90,7 +90,7 @@ impl<K: Eq + Hash> MissCurve<K> {
         self.recency.len() as u64 + sum_from(&self.reuses, capacity)
     }
 
-    /// Returns the number of uses recorded.
+    /// Returns the number of uses recorded. It takes constant time.
     pub fn accesses(&self) -> u64
         ensures counted { (used : List K) → Counted K.eq used self.now → result ≡ length used }
         ensures all { result ≡ misses_at self.now 0 }
@@ -98,7 +98,7 @@ impl<K: Eq + Hash> MissCurve<K> {
         self.accesses
     }
 
-    /// Returns the number of distinct keys recorded.
+    /// Returns the number of distinct keys recorded. It takes constant time.
     pub fn distinct(&self) -> usize
         ensures { result ≡ length self.now.keys }
     {
@@ -106,7 +106,8 @@ impl<K: Eq + Hash> MissCurve<K> {
     }
 
     /// Returns an iterator over the capacities at which the curve falls, from the smallest on, each with the
-    /// misses there.
+    /// misses there. It takes constant time and does not allocate. The iterator takes a step for each
+    /// distinct key in all.
     pub fn falls(&self) -> Falls<'_>
         ensures { result ≡ falls_from (length self.now.keys) 0 self.now.reuses }
     {
@@ -114,8 +115,8 @@ impl<K: Eq + Hash> MissCurve<K> {
     }
 }
 
-/// Returns the curve of these keys, used in turn. If memory runs out, it returns `AllocError`, and nothing is
-/// left of the curve.
+/// Returns the curve of these keys, used in turn. It costs a `record` for each key. If memory runs out, it
+/// returns `AllocError`, and nothing is left of the curve.
 pub fn miss_curve<K: Eq + Hash + Copy>(
     alloc: Global,
     keys: &[K],

@@ -57,15 +57,16 @@ impl<K: Eq + Hash, V, S: BuildHasher> LruCache<K, V, S> {
         }
     }
 
-    /// Returns a reference to the cache's `BuildHasher`.
+    /// Returns a reference to the cache's `BuildHasher`. It takes constant time.
     pub fn hasher(&self) -> &S
         ensures { result.now ≡ (state_in self.now).map.hasher }
     {
         self.map.hasher()
     }
 
-    /// Returns the capacity: the number of entries that the cache holds. An insert through an entry can
-    /// exceed it.
+    /// Returns the capacity: the number of entries that the cache holds. Inserts through entries, cursors or
+    /// `map_mut` can exceed it, and at capacity 0 so can `get_or_insert_with` and `get_or_try_insert_with`.
+    /// It takes constant time.
     pub fn capacity(&self) -> usize
         ensures { result ≡ (state_in self.now).cap }
     {

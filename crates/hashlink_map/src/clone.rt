@@ -13,7 +13,8 @@ use std::hash::{BuildHasher, Hash};
 
 impl<K: Eq + Hash + Drop, V: Drop, S: BuildHasher + Default + Drop> LinkedHashMap<K, V, S> {
     /// Builds a map from the items, each inserted in turn as by `insert`. It hashes with `S::default()`. It
-    /// costs an insert for each item. The iterator has to end. No room is reserved in advance.
+    /// costs an insert for each item. The iterator has to end, and its `next` to be callable. No room is
+    /// reserved in advance.
     ///
     /// If an allocation for an item fails, it returns `AllocError`. Then no further item is read, and nothing
     /// is left of the map.

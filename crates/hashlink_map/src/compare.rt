@@ -9,7 +9,8 @@ use std::cmp::Ordering;
 use std::hash::{BuildHasher, Hash};
 
 /// Two maps are equal if they have the same number of entries, and at each place equal keys and equal values.
-/// A comparison takes linear time, up to the first entry that differs.
+/// A comparison takes linear time, up to the first entry that differs, and constant time if the numbers
+/// differ.
 impl<K: Eq + Hash, V: PartialEq, S: BuildHasher> PartialEq for LinkedHashMap<K, V, S> {
     ghost eq = { maps_eq K.eq V.eq };
 
@@ -25,7 +26,8 @@ impl<K: Eq + Hash, V: Eq, S: BuildHasher> Eq for LinkedHashMap<K, V, S> {
 }
 
 /// Maps are ordered by the first place at which their entries do not compare as equal, key before value. A
-/// map whose entries are the beginning of another's is less.
+/// map whose entries are the beginning of another's is less. A comparison takes linear time in the smaller
+/// number of entries, up to that place.
 impl<K: Eq + Hash + PartialOrd, V: PartialOrd, S: BuildHasher> PartialOrd
     for LinkedHashMap<K, V, S> {
     ghost partial_cmp = { maps_partial_cmp K.partial_cmp V.partial_cmp };
@@ -37,6 +39,7 @@ impl<K: Eq + Hash + PartialOrd, V: PartialOrd, S: BuildHasher> PartialOrd
     }
 }
 
+/// Maps whose keys and values always compare are ordered as by `PartialOrd`, at the same cost.
 impl<K: Ord + Hash, V: Ord, S: BuildHasher> Ord for LinkedHashMap<K, V, S> {
     ghost cmp = { maps_cmp K.cmp V.cmp };
 

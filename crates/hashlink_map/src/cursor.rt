@@ -25,8 +25,8 @@ pub struct CursorMut<'a, K: Eq + Hash, V, S: BuildHasher = DefaultHashBuilder, N
 impl<K: Eq + Hash, V, S: BuildHasher> LinkedHashMap<K, V, S> {
     ghost use Rattle.hashlink_map.specs.Cursor.{cursor_map, cursor_state};
 
-    /// Returns a cursor on the first entry, or on the guard if the map is empty. It takes constant time and
-    /// does not allocate.
+    /// Returns a cursor on the entry at the front, or on the guard if the map is empty. It takes constant
+    /// time and does not allocate.
     pub fn cursor_front_mut(&mut self) -> CursorMut<'_, K, V, S>
         ensures same_map { (cursor_map result).ghost_name ≡ self.entry.ghost_name }
         ensures unchanged { (cursor_map result).now ≡ self.old }
@@ -36,8 +36,8 @@ impl<K: Eq + Hash, V, S: BuildHasher> LinkedHashMap<K, V, S> {
         CursorMut { map: self, place }
     }
 
-    /// Returns a cursor on the last entry, or on the guard if the map is empty. It takes constant time and
-    /// does not allocate.
+    /// Returns a cursor on the entry at the back, or on the guard if the map is empty. It takes constant time
+    /// and does not allocate.
     pub fn cursor_back_mut(&mut self) -> CursorMut<'_, K, V, S>
         ensures same_map { (cursor_map result).ghost_name ≡ self.entry.ghost_name }
         ensures unchanged { (cursor_map result).now ≡ self.old }

@@ -30,8 +30,10 @@ impl<'a, K: Eq + Hash + Drop, V: Drop, S: BuildHasher> Drop for Drain<'a, K, V, 
 impl<K: Eq + Hash + Drop, V: Drop, S: BuildHasher> LinkedHashMap<K, V, S> {
     ghost use Rattle.hashlink_map.specs.Drain.{drained_map};
 
-    /// Returns an iterator that removes the entries and returns them, from front to back. When the iterator
-    /// is dropped, exhausted or not, the map is empty. The call takes constant time and does not allocate.
+    /// Returns an iterator that removes the entries and returns them, from front to back. The call takes
+    /// constant time and does not allocate. When the iterator is dropped, exhausted or not, the map is empty.
+    /// The drop takes linear time in the number of entries that are left, hashes nothing, does not allocate,
+    /// and stores at most three links for each.
     pub fn drain(&mut self) -> Drain<'_, K, V, S>
         ensures same_map { (drained_map result).ghost_name ≡ self.entry.ghost_name }
         ensures unchanged { (drained_map result).now ≡ self.old }

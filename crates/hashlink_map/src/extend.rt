@@ -15,7 +15,7 @@ use std::hash::{BuildHasher, Hash};
 
 impl<K: Eq + Hash + Drop, V: Drop, S: BuildHasher> LinkedHashMap<K, V, S> {
     /// Inserts each item in turn, as `insert` does, at the cost of an insert for each. The iterator has to
-    /// end. No room is reserved in advance.
+    /// end, and its `next` to be callable. No room is reserved in advance.
     ///
     /// If an allocation for an item fails, the items before it stay inserted. The error contains that item
     /// and their number. No further item is read.
@@ -34,8 +34,9 @@ impl<K: Eq + Hash + Drop, V: Drop, S: BuildHasher> LinkedHashMap<K, V, S> {
         self.extend_from(&mut rest)
     }
 
-    /// Does the same as `extend` with an iterator that the caller keeps. If an allocation fails, the items
-    /// after the one in the error are left in the iterator. Otherwise none is left.
+    /// Does the same as `extend` with an iterator that the caller keeps. It has to end, and its `next` to be
+    /// callable. If an allocation fails, the items after the one in the error are left in the iterator.
+    /// Otherwise none is left.
     pub fn extend_from<I: Iterator<Item = (K, V)>>(
         &mut self,
         iter: &mut I,
@@ -52,7 +53,8 @@ impl<K: Eq + Hash + Drop, V: Drop, S: BuildHasher> LinkedHashMap<K, V, S> {
 }
 
 impl<'a, K: Eq + Hash + Copy + 'a, V: Copy + 'a, S: BuildHasher> LinkedHashMap<K, V, S> {
-    /// Inserts a copy of each pair in turn, as `extend` does.
+    /// Inserts a copy of each pair in turn, as `extend` does, at the cost of an insert for each. The iterator
+    /// has to end, and its `next` to be callable.
     ///
     /// If an allocation for a pair fails, the pairs before it stay inserted. The error contains the copy of
     /// that pair and their number. No further pair is read.
@@ -81,7 +83,8 @@ impl<'a, K: Eq + Hash + Copy + 'a, V: Copy + 'a, S: BuildHasher> LinkedHashMap<K
     }
 }
 
-/// Inserts the items as the function `extend` does. An item that is not inserted is dropped.
+/// Inserts the items as the function `extend` does. If memory runs out, it returns `AllocError`, and what was
+/// inserted stays. The item that was not inserted is dropped.
 impl<K: Eq + Hash + Drop, V: Drop, S: BuildHasher> Extend<(K, V)> for LinkedHashMap<K, V, S> {
     ghost extend_gives = { λ old items new. TakesItems (InsertsPair K.eq) (Grows 1) (state_of old) items
         (state_of new) };
@@ -92,7 +95,8 @@ impl<K: Eq + Hash + Drop, V: Drop, S: BuildHasher> Extend<(K, V)> for LinkedHash
     }
 }
 
-/// Inserts copies of the pairs as the function `extend_ref` does.
+/// Inserts copies of the pairs as the function `extend_ref` does. If memory runs out, it returns
+/// `AllocError`, and what was inserted stays.
 impl<'a, K: Eq + Hash + Copy + 'a, V: Copy + 'a, S: BuildHasher> Extend<(&'a K, &'a V)>
     for LinkedHashMap<K, V, S> {
     ghost extend_gives = { λ old items new. TakesItems (InsertsPair K.eq) (Grows 1) (state_of old)

@@ -4,7 +4,8 @@ ghost use Rattle.hashlink_map.specs.Compared.{map_hash_input, maps_alike};
 use crate::map::LinkedHashMap;
 use std::hash::{BuildHasher, Hash, Hasher};
 
-/// Hashes a map by its entries in order, key before value, so that equal maps have equal hashes.
+/// Hashes a map by its entries in order, key before value, so that equal maps have equal hashes. It takes
+/// linear time in the number of entries.
 impl<K: Eq + Hash, V: Hash, S: BuildHasher> Hash for LinkedHashMap<K, V, S> {
     ghost hash_input = { map_hash_input K.hash_input V.hash_input };
 

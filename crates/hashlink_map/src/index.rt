@@ -23,7 +23,8 @@ impl<'q, K: Eq + Hash, V, S: BuildHasher> Index<&'q K> for LinkedHashMap<K, V, S
     }
 }
 
-/// Returns a mutable reference to the value of the key, which has to be present.
+/// Returns a mutable reference to the value of the key, which has to be present. The order does not change.
+/// It costs a lookup.
 impl<'q, K: Eq + Hash, V, S: BuildHasher> IndexMut<&'q K> for LinkedHashMap<K, V, S> {
     fn index_mut(&mut self, key: &'q K) -> &mut V
         requires { HasKey K.eq self.old key.now }

@@ -65,6 +65,8 @@ impl<K: Eq + Hash + Drop, V: Drop, S: BuildHasher + Drop> ExactSizeIterator for 
 
 impl<K: Eq + Hash + Drop, V: Drop, S: BuildHasher + Drop> FusedIterator for IntoIter<K, V, S> {}
 
+/// Turns the map into an owning iterator over its entries, from front to back. It takes constant time and
+/// does not allocate.
 impl<K: Eq + Hash + Drop, V: Drop, S: BuildHasher + Drop> IntoIterator for LinkedHashMap<K, V, S> {
     type Item = (K, V);
 
@@ -77,6 +79,8 @@ impl<K: Eq + Hash + Drop, V: Drop, S: BuildHasher + Drop> IntoIterator for Linke
     }
 }
 
+/// Returns the iterator that `iter` returns: over the entries, from front to back. It takes constant time and
+/// does not allocate.
 impl<'a, K: Eq + Hash, V, S: BuildHasher> IntoIterator for &'a LinkedHashMap<K, V, S> {
     type Item = (&'a K, &'a V);
 

@@ -125,8 +125,8 @@ impl<'a, K: Eq + Hash, V, S: BuildHasher> IterMut<'a, K, V, S> {
         walk.pair_at(taken)
     }
 
-    /// Returns a mutable reference to the next value from the front, or `None` if none is left. It is `next`
-    /// without the key: a caller can prove exactly what the map is afterwards.
+    /// Returns a mutable reference to the next value from the front, or `None` if none is left. It takes
+    /// constant time. It is `next` without the key: a caller can prove exactly what the map is afterwards.
     pub fn next_value(&mut self) -> Option<&mut V>
         ensures* lends { sem 𝓛 (LendsFirst K.row V.row S.row S.Hasher.row self.entry result) }
         ensures value { LentValue (first_of (walk_rest (walk_state self.old))) result }
@@ -137,8 +137,9 @@ impl<'a, K: Eq + Hash, V, S: BuildHasher> IterMut<'a, K, V, S> {
         }
     }
 
-    /// Returns a mutable reference to the next value from the back, or `None` if none is left. It is
-    /// `next_back` without the key: a caller can prove exactly what the map is afterwards.
+    /// Returns a mutable reference to the next value from the back, or `None` if none is left. It takes
+    /// constant time. It is `next_back` without the key: a caller can prove exactly what the map is
+    /// afterwards.
     pub fn next_value_back(&mut self) -> Option<&mut V>
         ensures* lends { sem 𝓛 (LendsLast K.row V.row S.row S.Hasher.row self.entry result) }
         ensures value { LentValue (last_of (walk_rest (walk_state self.old))) result }
@@ -149,7 +150,7 @@ impl<'a, K: Eq + Hash, V, S: BuildHasher> IterMut<'a, K, V, S> {
         }
     }
 
-    /// Returns the number of entries that are left.
+    /// Returns the number of entries that are left. It takes constant time.
     pub fn len(&self) -> usize
         ensures { result ≡ (walk_state self.now).left }
     {

@@ -44,11 +44,11 @@ impl<K: Eq + Hash, V> LinkedHashMap<K, V, DefaultHashBuilder> {
         LinkedHashMap::with_hasher(alloc, DefaultHashBuilder)
     }
 
-    /// Creates an empty map with room for `capacity` entries, which hashes with `DefaultHasher`. It does not
-    /// allocate if `capacity` is 0.
+    /// Creates an empty map with room for `capacity` entries, which hashes with `DefaultHasher`. It takes
+    /// linear time in `capacity`, and does not allocate if that is 0.
     ///
     /// It returns `CapacityOverflow` if `capacity` is above 2 to the power of 62, and `AllocError` if the
-    /// allocation fails.
+    /// allocation fails or the table would need more than 2 to the power of 30 buckets.
     pub fn with_capacity(alloc: Global, capacity: usize) -> Result<Self, TryReserveError>
         ensures made { IfOk result (λ map. IsMadeWith capacity default_builder (state_of map)) }
         ensures none { capacity ≡ 0 → IsOk result }
@@ -68,11 +68,11 @@ impl<K: Eq + Hash, V, S: BuildHasher> LinkedHashMap<K, V, S> {
         }
     }
 
-    /// Creates an empty map with room for `capacity` entries, which hashes with `hash_builder`. It does not
-    /// allocate if `capacity` is 0.
+    /// Creates an empty map with room for `capacity` entries, which hashes with `hash_builder`. It takes
+    /// linear time in `capacity`, and does not allocate if that is 0.
     ///
     /// It returns `CapacityOverflow` if `capacity` is above 2 to the power of 62, and `AllocError` if the
-    /// allocation fails.
+    /// allocation fails or the table would need more than 2 to the power of 30 buckets.
     pub fn with_capacity_and_hasher(
         alloc: Global,
         capacity: usize,
@@ -117,7 +117,7 @@ impl<K: Eq + Hash, V, S: BuildHasher> LinkedHashMap<K, V, S> {
         self.list.capacity()
     }
 
-    /// Returns a reference to the map's `BuildHasher`.
+    /// Returns a reference to the map's `BuildHasher`. It takes constant time.
     pub fn hasher(&self) -> &S
         ensures { result.now ≡ self.now.hasher }
     {

@@ -8,7 +8,8 @@ use std::fmt;
 pub enum TryInsertError<K, V, E> {
     /// The closure that makes the value failed. Contains the given key and the closure's error.
     Make(K, E),
-    /// The allocation of a node failed. Contains the given key and the value that was made.
+    /// The allocation of a node, or of a larger table, failed. Contains the given key and the value that was
+    /// made.
     Memory((K, V)),
 }
 

@@ -23,7 +23,7 @@ impl<'a, K: Eq + Hash, V, S: BuildHasher> ValuesMut<'a, K, V, S> {
     ghost use Rattle.hashlink_map.specs.WritingWalk.{walk_rest};
     ghost use Rattle.hashlink_map.specs.IterMutLends.{LendsFirstValue, LendsLastValue, LentValue};
 
-    /// Returns the number of values that are left.
+    /// Returns the number of values that are left. It takes constant time.
     pub fn len(&self) -> usize
         ensures { result ≡ (values_state self.now).left }
     {

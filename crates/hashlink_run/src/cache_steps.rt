@@ -14,7 +14,7 @@ use std::hash::{BuildHasher, Hash};
 
 /// Runs the command on the cache and returns its reply. Of a pair that is read, the reply has what the
 /// closure returns, which has to be callable on that pair. It costs what the method costs that the command
-/// names.
+/// names. If an insert fails to allocate, the reply is `Refused` with the pair, and no entry changes.
 pub fn answer_cache<K, V, S, B, F>(
     cache: &mut LruCache<K, V, S>,
     command: CacheCommand<K, V>,

@@ -138,7 +138,8 @@ where
 }
 
 /// Runs the command on the cache and returns what the method returns that it names. If an insert fails to
-/// allocate, it returns `AllocError`. It costs what that method costs.
+/// allocate, it returns `AllocError`. Then no entry has changed, though the contract says nothing of the
+/// cache after an `Err`. It costs what that method costs.
 pub fn answer_call<K, V>(
     cache: &mut LruCache<K, V>,
     command: PairCommand<K, V>,

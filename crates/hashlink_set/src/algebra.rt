@@ -72,7 +72,7 @@ impl<T: Eq + Hash, S: BuildHasher> LinkedHashSet<T, S> {
     }
 
     /// Returns whether no element of this set is in `other`. It looks up each element of this set in `other`,
-    /// up to the first that is there.
+    /// up to the first that is present.
     pub fn is_disjoint(&self, other: &Self) -> bool
         ensures { result ≡ is_disjoint T.eq (elements_of self.now) (elements_of other.now) }
     {
@@ -80,7 +80,7 @@ impl<T: Eq + Hash, S: BuildHasher> LinkedHashSet<T, S> {
     }
 
     /// Returns whether each element of this set is in `other`. It looks up each element of this set in
-    /// `other`, up to the first that is not there.
+    /// `other`, up to the first that is absent.
     pub fn is_subset(&self, other: &Self) -> bool
         ensures { result ≡ is_subset T.eq (elements_of self.now) (elements_of other.now) }
     {
@@ -88,7 +88,7 @@ impl<T: Eq + Hash, S: BuildHasher> LinkedHashSet<T, S> {
     }
 
     /// Returns whether each element of `other` is in this set. It looks up each element of `other` in this
-    /// set, up to the first that is not there.
+    /// set, up to the first that is absent.
     pub fn is_superset(&self, other: &Self) -> bool
         ensures { result ≡ is_subset T.eq (elements_of other.now) (elements_of self.now) }
     {

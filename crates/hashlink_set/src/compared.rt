@@ -6,7 +6,7 @@ use crate::set::LinkedHashSet;
 use std::hash::{BuildHasher, Hash, Hasher};
 
 /// Two sets are equal if they have the same number of elements, and equal ones at each place. A comparison
-/// takes linear time, up to the first element that differs.
+/// takes linear time, up to the first element that differs, and constant time if the numbers differ.
 impl<T: Eq + Hash, S: BuildHasher> PartialEq for LinkedHashSet<T, S> {
     ghost eq = { sets_eq T.eq };
 
@@ -30,7 +30,8 @@ impl<T: Eq + Hash, S: BuildHasher> Eq for LinkedHashSet<T, S> {
     ghost laws = { sets_equiv T.Eq.laws };
 }
 
-/// Hashes a set by its elements in order and no length, so that equal sets have equal hashes.
+/// Hashes a set by its elements in order and no length, so that equal sets have equal hashes. It takes linear
+/// time in the number of elements.
 impl<T: Eq + Hash, S: BuildHasher> Hash for LinkedHashSet<T, S> {
     ghost hash_input = { set_hash_input T.hash_input };
 

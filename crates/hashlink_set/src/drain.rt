@@ -29,8 +29,10 @@ impl<'a, T: Eq + Hash + Drop, S: BuildHasher> Drop for Drain<'a, T, S> {
 impl<T: Eq + Hash + Drop, S: BuildHasher> LinkedHashSet<T, S> {
     ghost use Rattle.hashlink_set.specs.Drain.{drained_set};
 
-    /// Returns an iterator that removes the elements and returns them, from front to back. When the iterator
-    /// is dropped, exhausted or not, the set is empty. The call takes constant time and does not allocate.
+    /// Returns an iterator that removes the elements and returns them, from front to back. The call takes
+    /// constant time and does not allocate. When the iterator is dropped, exhausted or not, the set is empty.
+    /// The drop takes linear time in the number of elements that are left, hashes nothing, does not allocate,
+    /// and stores at most three links for each.
     pub fn drain(&mut self) -> Drain<'_, T, S>
         ensures same_set { (drained_set result).ghost_name ≡ self.entry.ghost_name }
         ensures unchanged { (drained_set result).now ≡ self.old }

@@ -65,6 +65,8 @@ impl<T: Eq + Hash + Drop, S: BuildHasher + Drop> ExactSizeIterator for IntoIter<
 
 impl<T: Eq + Hash + Drop, S: BuildHasher + Drop> FusedIterator for IntoIter<T, S> {}
 
+/// Turns the set into an owning iterator over its elements, from front to back. It takes constant time and
+/// does not allocate.
 impl<T: Eq + Hash + Drop, S: BuildHasher + Drop> IntoIterator for LinkedHashSet<T, S> {
     type Item = T;
 
@@ -77,6 +79,8 @@ impl<T: Eq + Hash + Drop, S: BuildHasher + Drop> IntoIterator for LinkedHashSet<
     }
 }
 
+/// Returns the iterator that `iter` returns: over the elements, from front to back. It takes constant time
+/// and does not allocate.
 impl<'a, T: Eq + Hash, S: BuildHasher> IntoIterator for &'a LinkedHashSet<T, S> {
     type Item = &'a T;
 

@@ -20,9 +20,11 @@ use std::ops::{BitAnd, BitOr, BitXor, Sub};
 
 impl<T: Eq + Hash + Drop, S: BuildHasher + Default + Drop> LinkedHashSet<T, S> {
     /// Builds a set from the items, each inserted in turn as by `insert`. It hashes with `S::default()`. It
-    /// costs an insert for each item. The iterator has to end. No room is reserved in advance.
+    /// costs an insert for each item. The iterator has to end, and its `next` to be callable. No room is
+    /// reserved in advance.
     ///
-    /// If an allocation for an item fails, it returns `AllocError`, and nothing is left of the set.
+    /// If an allocation for an item fails, it returns `AllocError`. Then no further item is read, and nothing
+    /// is left of the set.
     pub fn from_iter<I: IntoIterator<Item = T>>(alloc: Global, iter: I) -> Result<Self, AllocError>
         requires { IsFiniteIterable I.into_iter_gives I.IntoIter.can_next I.IntoIter.remaining iter }
         ensures { IfOk result (λ set. (s : S) × S.is_default s

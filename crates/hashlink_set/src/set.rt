@@ -47,11 +47,11 @@ impl<T: Eq + Hash> LinkedHashSet<T, DefaultHashBuilder> {
         LinkedHashSet::with_hasher(alloc, DefaultHashBuilder)
     }
 
-    /// Creates an empty set with room for `capacity` elements, which hashes with `DefaultHasher`. It does not
-    /// allocate if `capacity` is 0.
+    /// Creates an empty set with room for `capacity` elements, which hashes with `DefaultHasher`. It takes
+    /// linear time in `capacity`, and does not allocate if that is 0.
     ///
     /// It returns `CapacityOverflow` if `capacity` is above 2 to the power of 62, and `AllocError` if the
-    /// allocation fails.
+    /// allocation fails or the table would need more than 2 to the power of 30 buckets.
     pub fn with_capacity(alloc: Global, capacity: usize) -> Result<Self, TryReserveError>
         ensures made { IfOk result (IsMadeWith capacity default_builder) }
         ensures none { capacity ≡ 0 → IsOk result }
@@ -72,11 +72,11 @@ impl<T: Eq + Hash, S: BuildHasher> LinkedHashSet<T, S> {
         }
     }
 
-    /// Creates an empty set with room for `capacity` elements, which hashes with `hash_builder`. It does not
-    /// allocate if `capacity` is 0.
+    /// Creates an empty set with room for `capacity` elements, which hashes with `hash_builder`. It takes
+    /// linear time in `capacity`, and does not allocate if that is 0.
     ///
     /// It returns `CapacityOverflow` if `capacity` is above 2 to the power of 62, and `AllocError` if the
-    /// allocation fails.
+    /// allocation fails or the table would need more than 2 to the power of 30 buckets.
     pub fn with_capacity_and_hasher(
         alloc: Global,
         capacity: usize,
@@ -121,7 +121,7 @@ impl<T: Eq + Hash, S: BuildHasher> LinkedHashSet<T, S> {
         self.map.capacity()
     }
 
-    /// Returns a reference to the set's `BuildHasher`.
+    /// Returns a reference to the set's `BuildHasher`. It takes constant time.
     pub fn hasher(&self) -> &S
         ensures { result.now ≡ self.now.hasher }
     {

@@ -10,8 +10,9 @@ use hashlink_commands::{EntryStep, Reply};
 use hashlink_map::{Entry, LinkedHashMap, OccupiedEntry};
 use std::hash::{BuildHasher, Hash};
 
-/// Runs the step at the key's place in the map, with the given key, and returns its reply. It costs what the
-/// methods of an entry cost that the step names. If it fails to allocate, it replies `Refused` with the pair.
+/// Runs the step at the key's place in the map, with the given key, and returns its reply. `says` has to be
+/// callable on the pair that the step reads. It costs what the methods of an entry cost that the step names.
+/// If it fails to allocate, it replies `Refused` with the pair.
 pub fn reply_of_entry<K, V, S, B, F>(
     map: &mut LinkedHashMap<K, V, S>,
     key: K,

@@ -20,8 +20,12 @@ use std::hash::{BuildHasher, Hash};
 
 /// Runs the command on the map and pushes its replies. Of a pair that is read, the reply has what `says`
 /// returns. `keep` chooses the pairs that a keep leaves. Each has to be callable on the pairs that it may
-/// come to be shown. If the vector of replies cannot grow, it returns `AllocError`. It costs what the method
-/// costs that the command names.
+/// come to be shown. It costs what the method costs that the command names.
+///
+/// If the vector of replies has no room for a reply and cannot grow, it returns `AllocError`. The command has
+/// then been carried out, and its reply is dropped with what it contains. Of the steps of a cursor, those up
+/// to the one whose reply is dropped have been carried out, and the replies to the ones before it stay in the
+/// vector. The contract says nothing of the map after an `Err`.
 pub fn answer_command<K, V, S, B, F, G>(
     map: &mut LinkedHashMap<K, V, S>,
     command: Command<K, V>,
@@ -141,7 +145,8 @@ fn shrink_reply<K, V, B>(answer: Result<(), AllocError>) -> Reply<K, V, B>
     }
 }
 
-/// Returns what the closure returns for the pair, if there is one. It calls the closure at most once.
+/// Returns what the closure returns for the pair, if there is one. It calls the closure at most once. The
+/// closure has to be callable on the pair.
 pub fn said_of<K, V, B, F>(pair: Option<(&K, &V)>, says: &F) -> Option<B>
 where
     F: Fn(&K, &V) -> B,

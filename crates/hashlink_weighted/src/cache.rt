@@ -63,7 +63,8 @@ impl<K: Eq + Hash, V, S: BuildHasher> WeightedCache<K, V, S> {
         }
     }
 
-    /// Returns the budget: the greatest sum that the weights may have. It never changes.
+    /// Returns the budget: the greatest sum that the weights may have. It never changes. It takes constant
+    /// time.
     pub fn budget(&self) -> u64
         ensures { result ≡ self.now.budget }
     {

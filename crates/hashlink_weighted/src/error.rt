@@ -16,7 +16,7 @@ pub enum WeightError<K, V> {
 impl<K, V> WeightError<K, V> {
     ghost use Rattle.hashlink_weighted.specs.Answers.{refused_pair};
 
-    /// Returns the pair that the insert was given.
+    /// Returns the pair that the insert was given. It takes constant time.
     pub fn into_pair(self) -> (K, V)
         ensures { result ≡ refused_pair self }
     {

@@ -23,7 +23,7 @@ impl<K: Eq + Hash, V, S: BuildHasher> LruCache<K, V, S> {
     ghost use Rattle.hashlink_lru.specs.Lends.{HandsOnMap, LendsMap};
 
     /// Returns a mutable reference to the map of the cache, for any of its methods. None of them evicts what
-    /// is above the capacity.
+    /// is above the capacity. It takes constant time.
     pub fn map_mut(&mut self) -> &mut LinkedHashMap<K, V, S>
         ensures* lends { sem 𝓛 (LendsMap K.row V.row S.row S.Hasher.row K.Hash S.BuildHasher S.Hasher.Hasher
             self.entry result) }
@@ -33,7 +33,8 @@ impl<K: Eq + Hash, V, S: BuildHasher> LruCache<K, V, S> {
     }
 
     /// Evicts the front if there are more entries than the capacity, even if it is the key's own entry. Then
-    /// returns the entry of the key, which holds the given key. It looks the key up as `peek` does.
+    /// returns the entry of the key, which holds the given key. It looks the key up as `peek` does. It stores
+    /// at most three links and does not allocate.
     ///
     /// So an insert through the entry can exceed the capacity by one. If an entry was evicted, its node is
     /// spare, and that insert cannot fail.
@@ -51,7 +52,7 @@ impl<K: Eq + Hash, V, S: BuildHasher> LruCache<K, V, S> {
     }
 
     /// Returns a builder that finds an entry to read: by a key, by a key and its hash, or by a hash and a
-    /// test.
+    /// test. It takes constant time and hashes nothing.
     pub fn raw_entry(&self) -> RawEntryBuilder<'_, K, V, S>
         ensures { read_map result ≡ map_in self.now }
     {
@@ -59,7 +60,8 @@ impl<K: Eq + Hash, V, S: BuildHasher> LruCache<K, V, S> {
     }
 
     /// Evicts the front if there are more entries than the capacity. Then returns a builder that finds an
-    /// entry to change: by a key, by a key and its hash, or by a hash and a test.
+    /// entry to change: by a key, by a key and its hash, or by a hash and a test. It takes constant time,
+    /// hashes nothing, stores at most three links and does not allocate.
     ///
     /// So an insert through the entry can exceed the capacity by one. If an entry was evicted, its node is
     /// spare, and that insert cannot fail.

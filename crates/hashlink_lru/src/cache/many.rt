@@ -18,7 +18,7 @@ impl<K: Eq + Hash + Drop, V: Drop, S: BuildHasher> LruCache<K, V, S> {
     ghost use Rattle.hashlink_lru.specs.Cached.{state_in, InsertsPairIn, StaysWithin};
 
     /// Inserts each item in turn, as `insert` does, at the cost of an insert for each. The iterator has to
-    /// end.
+    /// end, and its `next` to be callable.
     ///
     /// If an allocation for an item fails, the items before it stay inserted. The error contains that item
     /// and their number. No further item is read.
@@ -38,8 +38,9 @@ impl<K: Eq + Hash + Drop, V: Drop, S: BuildHasher> LruCache<K, V, S> {
         self.extend_from(&mut rest)
     }
 
-    /// Does the same as `extend` with an iterator that the caller keeps. If an allocation fails, the items
-    /// after the one in the error are left in the iterator. Otherwise none is left.
+    /// Does the same as `extend` with an iterator that the caller keeps. It has to end, and its `next` to be
+    /// callable. If an allocation fails, the items after the one in the error are left in the iterator.
+    /// Otherwise none is left.
     pub fn extend_from<I: Iterator<Item = (K, V)>>(
         &mut self,
         iter: &mut I,
@@ -63,7 +64,8 @@ impl<K: Eq + Hash + Drop, V: Drop, S: BuildHasher> LruCache<K, V, S> {
     }
 }
 
-/// Inserts the items as the function `extend` does. An item that is not inserted is dropped.
+/// Inserts the items as the function `extend` does. If memory runs out, it returns `AllocError`, and what was
+/// inserted stays. The item that was not inserted is dropped.
 impl<K: Eq + Hash + Drop, V: Drop, S: BuildHasher> Extend<(K, V)> for LruCache<K, V, S> {
     ghost use Rattle.hashlink_lru.specs.Cached.{state_in, InsertsPairIn};
 

@@ -91,9 +91,9 @@ impl<K: Eq + Hash, V, S: BuildHasher> LruCache<K, V, S> {
         }
     }
 
-    /// Calls `keep` once on each entry, and removes those for which it returns false. It hashes nothing, and
-    /// stores at most three links for each removal. `keep` has to be callable on each entry, in the state
-    /// that its earlier calls have left it in.
+    /// Calls `keep` once on each entry, from the front, and removes those for which it returns false. It
+    /// takes linear time in the number of entries, hashes nothing, and stores at most three links for each
+    /// removal. `keep` has to be callable on each entry, in the state that its earlier calls have left it in.
     pub fn retain<F: FnMut(&K, &mut V) -> bool>(&mut self, keep: F)
     where
         K: Drop,
@@ -108,7 +108,9 @@ impl<K: Eq + Hash, V, S: BuildHasher> LruCache<K, V, S> {
     }
 
     /// Does the same as `retain`, with a closure that the caller keeps: after the last call of `keep`, the
-    /// caller can read from it what its calls left in it.
+    /// caller can read from it what its calls left in it. It takes linear time in the number of entries,
+    /// hashes nothing, and stores at most three links for each removal. `keep` has to be callable on each
+    /// entry, in the state that its earlier calls have left it in.
     pub fn retain_from<F: FnMut(&K, &mut V) -> bool>(&mut self, keep: &mut F)
     where
         K: Drop,

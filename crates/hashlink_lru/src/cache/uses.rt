@@ -21,14 +21,15 @@ impl<K: Eq + Hash, V, S: BuildHasher> LruCache<K, V, S> {
 
     /// Returns a mutable reference to the value of the key. If the key is present, its entry moves to the
     /// back and `make` is not called: it is a hit of `get_mut`, and evicts nothing. If the key is absent,
-    /// `make` is called once, and the key is inserted at the back with what it returns. Then entries are
-    /// evicted from the front until there are no more than the capacity.
+    /// `make` has to be callable and is called once, and the key is inserted at the back with what it
+    /// returns. Then entries are evicted from the front until there are no more than the capacity.
     ///
     /// The value has to be in the cache while it is borrowed. So at capacity 0 the new pair stays, alone and
     /// one beyond the capacity, as after an entry. The next insert evicts it.
     ///
-    /// It allocates only if the key is absent and no node is spare. If that allocation fails, it returns the
-    /// key and the value that was made in `Err`, changes no entry and evicts nothing.
+    /// It allocates only if the key is absent and no node is spare. If the table is full then, it grows
+    /// first, in linear time in the number of entries. If an allocation fails, it returns the key and the
+    /// value that was made in `Err`, changes no entry and evicts nothing; the room may have grown.
     ///
     /// It hashes the key once. It stores at most six links if the key is present, four if it is absent, and
     /// three for each entry that it evicts.
@@ -80,11 +81,13 @@ impl<K: Eq + Hash, V, S: BuildHasher> LruCache<K, V, S> {
         Ok(())
     }
 
-    /// Does the same as `get_or_insert_with`, with a `make` that may fail. Its error is then returned with
-    /// the key, in `TryInsertError::Make`, and nothing changes.
+    /// Does the same as `get_or_insert_with`, with a `make` that may fail. `make` has to be callable if the
+    /// key is absent. If it fails, its error is returned with the key, in `TryInsertError::Make`, and nothing
+    /// changes.
     ///
-    /// It allocates only if the key is absent and no node is spare. If that allocation fails, it returns the
-    /// key and the value that was made, in `TryInsertError::Memory`, changes no entry and evicts nothing.
+    /// It allocates only if the key is absent and no node is spare. If an allocation fails, it returns the
+    /// key and the value that was made, in `TryInsertError::Memory`, changes no entry and evicts nothing; the
+    /// room may have grown.
     pub fn get_or_try_insert_with<E, F: FnOnce() -> Result<V, E>>(
         &mut self,
         key: K,

@@ -30,7 +30,7 @@ impl<K: Eq + Hash, V, S: BuildHasher> LruCache<K, V, S> {
     }
 
     /// Returns a lending iterator over the entries, from front to back, with mutable references to the
-    /// values.
+    /// values. It is not a use. It takes constant time and does not allocate.
     pub fn iter_mut(&mut self) -> IterMut<'_, K, V, S>
         ensures* hands_on { sem 𝓛
             (HandsOnMap K.row V.row S.row S.Hasher.row K.Hash S.BuildHasher S.Hasher.Hasher
@@ -42,8 +42,10 @@ impl<K: Eq + Hash, V, S: BuildHasher> LruCache<K, V, S> {
         self.map.iter_mut()
     }
 
-    /// Returns an iterator that removes the entries and returns them, from front to back. When the iterator
-    /// is dropped, exhausted or not, the cache is empty.
+    /// Returns an iterator that removes the entries and returns them, from front to back. The call takes
+    /// constant time and does not allocate. When the iterator is dropped, exhausted or not, the cache is
+    /// empty. The drop takes linear time in the number of entries that are left, hashes nothing, does not
+    /// allocate, and stores at most three links for each.
     pub fn drain(&mut self) -> Drain<'_, K, V, S>
     where
         K: Drop,
@@ -57,6 +59,8 @@ impl<K: Eq + Hash, V, S: BuildHasher> LruCache<K, V, S> {
     }
 }
 
+/// Turns the cache into an owning iterator over its entries, from front to back. It takes constant time and
+/// does not allocate.
 impl<K: Eq + Hash + Drop, V: Drop, S: BuildHasher + Drop> IntoIterator for LruCache<K, V, S> {
     ghost use Rattle.hashlink_lru.specs.Cached.{entries_in};
 
@@ -72,6 +76,8 @@ impl<K: Eq + Hash + Drop, V: Drop, S: BuildHasher + Drop> IntoIterator for LruCa
     }
 }
 
+/// Returns the iterator that `iter` returns: over the entries, from front to back. It takes constant time and
+/// does not allocate.
 impl<'a, K: Eq + Hash, V, S: BuildHasher> IntoIterator for &'a LruCache<K, V, S> {
     ghost use Rattle.hashlink_lru.specs.Cached.{entries_in};
 

@@ -22,8 +22,8 @@ impl<'a, K: Eq + Hash, V, S: BuildHasher> CursorMut<'a, K, V, S> {
     ghost use Rattle.hashlink_map.specs.RawEntry.{raw_occupied_map, raw_place};
     ghost use Rattle.hashlink_model.specs.Entry.{value_at};
 
-    /// Moves to the next place: from the last entry to the guard, and from the guard to the first entry. It
-    /// stores no link.
+    /// Moves to the next place: from the entry at the back to the guard, and from the guard to the entry at
+    /// the front. It takes constant time, hashes nothing and stores no link.
     pub fn move_next(&mut self)
         ensures same_map { (cursor_map self.new).ghost_name ≡ (cursor_map self.old).ghost_name }
         ensures unchanged { (cursor_map self.new).now ≡ (cursor_map self.old).now }
@@ -33,8 +33,8 @@ impl<'a, K: Eq + Hash, V, S: BuildHasher> CursorMut<'a, K, V, S> {
         self.place = self.map.place_after(self.place);
     }
 
-    /// Moves to the previous place: from the first entry to the guard, and from the guard to the last entry.
-    /// It stores no link.
+    /// Moves to the previous place: from the entry at the front to the guard, and from the guard to the entry
+    /// at the back. It takes constant time, hashes nothing and stores no link.
     pub fn move_prev(&mut self)
         ensures same_map { (cursor_map self.new).ghost_name ≡ (cursor_map self.old).ghost_name }
         ensures unchanged { (cursor_map self.new).now ≡ (cursor_map self.old).now }
@@ -77,7 +77,8 @@ impl<'a, K: Eq + Hash, V, S: BuildHasher> CursorMut<'a, K, V, S> {
         (self, place)
     }
 
-    /// Returns the key at the cursor and a mutable reference to its value, or `None` at the guard.
+    /// Returns the key at the cursor and a mutable reference to its value, or `None` at the guard. It takes
+    /// constant time and hashes nothing.
     pub fn current(&mut self) -> Option<(&K, &mut V)>
         ensures* lends { sem 𝓛 (LendsPairFromCursor K.row V.row S.row S.Hasher.row self.entry
             (cursor_state self.old).place result) }
@@ -96,7 +97,8 @@ impl<'a, K: Eq + Hash, V, S: BuildHasher> CursorMut<'a, K, V, S> {
         (self, next)
     }
 
-    /// Returns the key at the next place and a mutable reference to its value, or `None` at the guard.
+    /// Returns the key at the next place and a mutable reference to its value, or `None` at the guard. It
+    /// takes constant time and hashes nothing.
     pub fn peek_next(&mut self) -> Option<(&K, &mut V)>
         ensures* lends { sem 𝓛 (LendsNextPair K.row V.row S.row S.Hasher.row self.entry result) }
         ensures pair { LentAt (cursor_state self.old) (place_next (cursor_state self.old)) result }
@@ -114,7 +116,8 @@ impl<'a, K: Eq + Hash, V, S: BuildHasher> CursorMut<'a, K, V, S> {
         (self, previous)
     }
 
-    /// Returns the key at the previous place and a mutable reference to its value, or `None` at the guard.
+    /// Returns the key at the previous place and a mutable reference to its value, or `None` at the guard. It
+    /// takes constant time and hashes nothing.
     pub fn peek_prev(&mut self) -> Option<(&K, &mut V)>
         ensures* lends { sem 𝓛 (LendsPreviousPair K.row V.row S.row S.Hasher.row self.entry result) }
         ensures pair { LentAt (cursor_state self.old) (place_previous (cursor_state self.old)) result }
@@ -123,8 +126,9 @@ impl<'a, K: Eq + Hash, V, S: BuildHasher> CursorMut<'a, K, V, S> {
         cursor.pair_at(place)
     }
 
-    /// Returns a mutable reference to the value at the cursor, or `None` at the guard. It is `current`
-    /// without the key: a caller can prove exactly what the map is afterwards.
+    /// Returns a mutable reference to the value at the cursor, or `None` at the guard. It takes constant time
+    /// and hashes nothing. It is `current` without the key: a caller can prove exactly what the map is
+    /// afterwards.
     pub fn current_value(&mut self) -> Option<&mut V>
         ensures* lends { sem 𝓛 (LendsFromCursor K.row V.row S.row S.Hasher.row self.entry
             (cursor_state self.old).place result) }
@@ -137,7 +141,8 @@ impl<'a, K: Eq + Hash, V, S: BuildHasher> CursorMut<'a, K, V, S> {
         }
     }
 
-    /// Returns the entry at the cursor. At the guard it returns the cursor in `Err`.
+    /// Returns the entry at the cursor. At the guard it returns the cursor in `Err`. It takes constant time
+    /// and hashes nothing.
     pub fn current_entry(self) -> Result<RawOccupiedEntryMut<'a, K, V, S>, Self>
         ensures entry { IfOk result
             (λ o. ((raw_occupied_map o).ghost_name ≡ (cursor_map self.entry).ghost_name)
@@ -155,8 +160,8 @@ impl<'a, K: Eq + Hash, V, S: BuildHasher> CursorMut<'a, K, V, S> {
         }
     }
 
-    /// Returns the entry at the cursor, or `None` at the guard. Unlike with `current_entry`, a caller can
-    /// prove exactly what the map is afterwards.
+    /// Returns the entry at the cursor, or `None` at the guard. It takes constant time and hashes nothing.
+    /// Unlike with `current_entry`, a caller can prove exactly what the map is afterwards.
     pub fn into_entry(self) -> Option<RawOccupiedEntryMut<'a, K, V, S>>
         ensures* hands_on { sem 𝓛 (HandsOnOccupied K.row V.row S.row S.Hasher.row
             (cursor_map self.entry) result) }
@@ -172,7 +177,7 @@ impl<'a, K: Eq + Hash, V, S: BuildHasher> CursorMut<'a, K, V, S> {
         Some(RawOccupiedEntryMut { map, node })
     }
 
-    /// Returns the entry at the cursor, or `None` at the guard.
+    /// Returns the entry at the cursor, or `None` at the guard. It takes constant time and hashes nothing.
     pub fn current_pair(&self) -> Option<(&K, &V)>
         ensures { option_map deref_pair result ≡ entry_in (cursor_state self.now)
             (cursor_state self.now).place }
@@ -180,7 +185,8 @@ impl<'a, K: Eq + Hash, V, S: BuildHasher> CursorMut<'a, K, V, S> {
         self.map.pair_at_place(self.place)
     }
 
-    /// Returns the entry at the next place, or `None` at the guard.
+    /// Returns the entry at the next place, or `None` at the guard. It takes constant time and hashes
+    /// nothing.
     pub fn next_pair(&self) -> Option<(&K, &V)>
         ensures { option_map deref_pair result
             ≡ entry_in (cursor_state self.now) (place_next (cursor_state self.now)) }
@@ -188,7 +194,8 @@ impl<'a, K: Eq + Hash, V, S: BuildHasher> CursorMut<'a, K, V, S> {
         self.map.pair_at_place(self.map.place_after(self.place))
     }
 
-    /// Returns the entry at the previous place, or `None` at the guard.
+    /// Returns the entry at the previous place, or `None` at the guard. It takes constant time and hashes
+    /// nothing.
     pub fn prev_pair(&self) -> Option<(&K, &V)>
         ensures { option_map deref_pair result
             ≡ entry_in (cursor_state self.now) (place_previous (cursor_state self.now)) }
@@ -197,13 +204,14 @@ impl<'a, K: Eq + Hash, V, S: BuildHasher> CursorMut<'a, K, V, S> {
     }
 
     /// Inserts the pair directly before the cursor, and returns the old value of the key if there was one. At
-    /// the guard, the pair becomes the last. If the key is present, its entry keeps the stored key, takes the
+    /// the guard, the pair goes to the back. If the key is present, its entry keeps the stored key, takes the
     /// new value and moves there, unless it is there already. The cursor stays on its entry, wherever that is
     /// afterwards, or on the guard. The call looks the key up as `get` does. It stores at most six links if
     /// the key is present, and four if it is absent.
     ///
-    /// It allocates only if the key is absent and no node is spare. If that allocation fails, it returns the
-    /// pair in `Err` and changes no entry.
+    /// It allocates only if the key is absent and no node is spare. If the table is full then, it grows
+    /// first, in linear time in the new capacity. If an allocation fails, it returns the pair in `Err` and
+    /// changes no entry; the room may have grown.
     pub fn insert_before(&mut self, key: K, value: V) -> Result<Option<V>, (K, V)>
     where
         K: Drop,
@@ -215,8 +223,9 @@ impl<'a, K: Eq + Hash, V, S: BuildHasher> CursorMut<'a, K, V, S> {
         self.map.insert_at(place, key, value)
     }
 
-    /// Inserts the pair directly after the cursor, as `insert_before` does before it. At the guard, the pair
-    /// becomes the first.
+    /// Inserts the pair directly after the cursor, as `insert_before` does before it, and at the same cost.
+    /// At the guard, the pair goes to the front. If an allocation fails, it returns the pair in `Err` and
+    /// changes no entry; the room may have grown.
     pub fn insert_after(&mut self, key: K, value: V) -> Result<Option<V>, (K, V)>
     where
         K: Drop,

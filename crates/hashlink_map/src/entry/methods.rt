@@ -43,6 +43,7 @@ impl<K: Eq + Hash, V, S: BuildHasher> LinkedHashMap<K, V, S> {
 
 impl<'a, K: Eq + Hash, V, S: BuildHasher> Entry<'a, K, V, S> {
     /// Returns a reference to the stored key if the entry is occupied, and to the given key if it is vacant.
+    /// It takes constant time.
     pub fn key(&self) -> &K
         ensures { result.now ≡ stored_key K.eq (entry_state self.now).map.entries (entry_state self.now).key }
     {
@@ -54,10 +55,12 @@ impl<'a, K: Eq + Hash, V, S: BuildHasher> Entry<'a, K, V, S> {
 
     /// Returns a mutable reference to the value. An occupied entry moves to the back. A vacant one inserts
     /// the given key with `default` at the back. So the map is afterwards as after an insert of the value
-    /// that is written.
+    /// that is written. It hashes nothing, and stores at most six links if the entry is occupied and four if
+    /// it is vacant.
     ///
-    /// It allocates only if the entry is vacant and no node is spare. If that allocation fails, it returns
-    /// the given key and `default` in `Err` and changes no entry.
+    /// It allocates only if the entry is vacant and no node is spare. If the table is full then, it grows
+    /// first, in linear time in the new capacity. If an allocation fails, it returns the given key and
+    /// `default` in `Err` and changes no entry; the room may have grown.
     pub fn or_insert(self, default: V) -> Result<&'a mut V, (K, V)>
     where
         K: Drop,
@@ -73,7 +76,8 @@ impl<'a, K: Eq + Hash, V, S: BuildHasher> Entry<'a, K, V, S> {
     }
 
     /// Does the same as `or_insert` with the value that `default` returns. `default` is called only if the
-    /// entry is vacant.
+    /// entry is vacant. It then has to be callable. If an allocation fails, it returns the given key and what
+    /// `default` returned in `Err` and changes no entry; the room may have grown.
     pub fn or_insert_with<F: FnOnce() -> V>(self, default: F) -> Result<&'a mut V, (K, V)>
     where
         K: Drop,
@@ -92,11 +96,12 @@ impl<'a, K: Eq + Hash, V, S: BuildHasher> Entry<'a, K, V, S> {
     }
 
     /// Does the same as `or_insert` with the value that `default` returns. `default` is called only if the
-    /// entry is vacant, and it may fail. Then its error is returned with the given key, in
-    /// `TryInsertError::Make`, and nothing changes.
+    /// entry is vacant, and then has to be callable. If it fails, its error is returned with the given key,
+    /// in `TryInsertError::Make`, and nothing changes.
     ///
-    /// It allocates only if the entry is vacant and no node is spare. If that allocation fails, it returns
-    /// the given key and the value that was made, in `TryInsertError::Memory`, and changes no entry.
+    /// It allocates only if the entry is vacant and no node is spare. If the table is full then, it grows
+    /// first, in linear time in the new capacity. If an allocation fails, it returns the given key and the
+    /// value that was made, in `TryInsertError::Memory`, and changes no entry; the room may have grown.
     pub fn or_try_insert_with<E, F: FnOnce() -> Result<V, E>>(
         self,
         default: F,
@@ -116,7 +121,8 @@ impl<'a, K: Eq + Hash, V, S: BuildHasher> Entry<'a, K, V, S> {
         }
     }
 
-    /// Calls `f` on the value if the entry is occupied. Nothing moves.
+    /// Calls `f` on the value if the entry is occupied, and returns the entry. Nothing moves. `f` then has to
+    /// be callable on the value. Apart from `f`, the call hashes nothing and does not allocate.
     pub fn and_modify<F: FnOnce(&mut V)>(self, f: F) -> Self
     where
         F: Drop,

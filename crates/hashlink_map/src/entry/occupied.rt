@@ -1,4 +1,4 @@
-//! Occupied entries. None of their methods hashes or allocates.
+//! Occupied entries. Each of their methods takes constant time, and none hashes or allocates.
 ghost use Rattle.std.specs.Prelude.{◌≡◌, ◌-◌, length, Some, IfOk};
 ghost use Rattle.std.specs.Borrow.{sem};
 ghost use Rattle.hashlink_model.specs.MapState.{RemovesAt, MovesAt};
@@ -40,21 +40,22 @@ impl<'a, K: Eq + Hash, V, S: BuildHasher> OccupiedEntry<'a, K, V, S> {
     ghost use Rattle.hashlink_map.specs.RawEntry.{raw_occupied_map, raw_place};
     ghost use Rattle.hashlink_map.specs.EntryLends.{LendsFromOccupied, LendsForGood, LendsLast};
 
-    /// Returns a reference to the stored key, which may be a different object from the given key.
+    /// Returns a reference to the stored key, which may be a different object from the given key. It takes
+    /// constant time.
     pub fn key(&self) -> &K
         ensures { key_at (occupied_state self.now).map.entries (occupied_place self.now) ≡ Some result.now }
     {
         self.map.pair_at(self.node).0
     }
 
-    /// Returns a reference to the value.
+    /// Returns a reference to the value. It takes constant time.
     pub fn get(&self) -> &V
         ensures { value_at (occupied_state self.now).map.entries (occupied_place self.now) ≡ Some result.now }
     {
         self.map.pair_at(self.node).1
     }
 
-    /// Returns a mutable reference to the value.
+    /// Returns a mutable reference to the value. It takes constant time.
     pub fn get_mut(&mut self) -> &mut V
         ensures* lends { sem 𝓛 (LendsFromOccupied K.row V.row S.row S.Hasher.row self.entry result) }
         ensures value { value_at (occupied_state self.old).map.entries (occupied_place self.old)
@@ -65,7 +66,7 @@ impl<'a, K: Eq + Hash, V, S: BuildHasher> OccupiedEntry<'a, K, V, S> {
         self.map.value_at_mut(node)
     }
 
-    /// Returns a mutable reference to the value for as long as the map is borrowed.
+    /// Returns a mutable reference to the value for as long as the map is borrowed. It takes constant time.
     pub fn into_mut(self) -> &'a mut V
     where
         K: Drop,
@@ -139,6 +140,7 @@ impl<'a, K: Eq + Hash, V, S: BuildHasher> OccupiedEntry<'a, K, V, S> {
     }
 
     /// Replaces the pair by the given key and the value, and returns the old pair. The entry keeps its place.
+    /// It stores no link.
     pub fn replace_entry(self, value: V) -> (K, V)
         ensures { ReplacesEntry (occupied_state self.entry).map (state_of self.exit.0.now)
             (occupied_place self.entry) (occupied_state self.entry).key value result }
@@ -149,7 +151,7 @@ impl<'a, K: Eq + Hash, V, S: BuildHasher> OccupiedEntry<'a, K, V, S> {
     }
 
     /// Replaces the stored key by the given key, and returns the old key. The entry keeps its place and its
-    /// value.
+    /// value. It stores no link.
     pub fn replace_key(self) -> K
         ensures { ReplacesKey (occupied_state self.entry).map (state_of self.exit.0.now)
             (occupied_place self.entry) (occupied_state self.entry).key result }
@@ -159,7 +161,7 @@ impl<'a, K: Eq + Hash, V, S: BuildHasher> OccupiedEntry<'a, K, V, S> {
         self.map.replace_key_at(node, key)
     }
 
-    /// Returns the given key, and ends the entry. The map does not change.
+    /// Returns the given key, and ends the entry. The map does not change. It takes constant time.
     pub fn into_key(self) -> K
         ensures key { result ≡ (occupied_state self.entry).key }
         ensures unchanged { self.exit.0.now ≡ (occupied_map self.entry).now }
@@ -172,7 +174,7 @@ impl<'a, K: Eq + Hash, V, S: BuildHasher> OccupiedEntry<'a, K, V, S> {
         key
     }
 
-    /// Returns a cursor on this entry. The given key is dropped.
+    /// Returns a cursor on this entry. The given key is dropped. It takes constant time.
     pub fn cursor_mut(self) -> CursorMut<'a, K, V, S>
     where
         K: Drop,
@@ -187,7 +189,7 @@ impl<'a, K: Eq + Hash, V, S: BuildHasher> OccupiedEntry<'a, K, V, S> {
         }
     }
 
-    /// Returns the raw entry at this place. The given key is dropped.
+    /// Returns the raw entry at this place. The given key is dropped. It takes constant time.
     pub fn raw_entry_mut(self) -> RawOccupiedEntryMut<'a, K, V, S>
     where
         K: Drop,

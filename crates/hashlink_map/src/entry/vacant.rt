@@ -12,7 +12,7 @@ use crate::try_insert_error::TryInsertError;
 use hashlink_core::DefaultHashBuilder;
 use std::hash::{BuildHasher, Hash};
 
-/// A vacant entry. It holds the given key, which the map does not have.
+/// A vacant entry. It holds the given key, which is absent from the map.
 pub struct VacantEntry<'a, K: Eq + Hash, V, S: BuildHasher = DefaultHashBuilder> {
     pub(crate) map: &'a mut LinkedHashMap<K, V, S>,
     pub(crate) hash: u64,
@@ -41,14 +41,14 @@ impl<'a, K: Eq + Hash, V, S: BuildHasher> VacantEntry<'a, K, V, S> {
     ghost use Rattle.hashlink_map.specs.RawEntry.{raw_occupied_map, raw_vacant_map, raw_place};
     ghost use Rattle.hashlink_map.specs.RawLends.{HandsOnNew};
 
-    /// Returns a reference to the given key.
+    /// Returns a reference to the given key. It takes constant time.
     pub fn key(&self) -> &K
         ensures { result.now ≡ (vacant_state self.now).key }
     {
         &self.key
     }
 
-    /// Returns the given key, and ends the entry. The map does not change.
+    /// Returns the given key, and ends the entry. The map does not change. It takes constant time.
     pub fn into_key(self) -> K
         ensures key { result ≡ (vacant_state self.entry).key }
         ensures unchanged { self.exit.0.now ≡ (vacant_map self.entry).now }
@@ -64,8 +64,9 @@ impl<'a, K: Eq + Hash, V, S: BuildHasher> VacantEntry<'a, K, V, S> {
     /// Inserts the given key with the value at the back, and returns a mutable reference to the value. It
     /// stores at most four links.
     ///
-    /// It allocates only if no node is spare. If that allocation fails, it returns the given key and the
-    /// value in `Err` and changes no entry.
+    /// It allocates only if no node is spare. If the table is full then, it grows first, in linear time in
+    /// the new capacity. If an allocation fails, it returns the given key and the value in `Err` and changes
+    /// no entry; the room may have grown.
     pub fn insert(self, value: V) -> Result<&'a mut V, (K, V)>
         ensures* lends { sem 𝓛 (LendsNew K.row V.row S.row S.Hasher.row self.entry value result) }
         ensures value { IfOk result (λ v. v.now ≡ value) }
@@ -99,8 +100,9 @@ impl<'a, K: Eq + Hash, V, S: BuildHasher> VacantEntry<'a, K, V, S> {
 
     /// Inserts the given key with the value at the back, and returns the entry. It stores at most four links.
     ///
-    /// It allocates only if no node is spare. If that allocation fails, it returns the given key and the
-    /// value in `Err` and changes no entry.
+    /// It allocates only if no node is spare. If the table is full then, it grows first, in linear time in
+    /// the new capacity. If an allocation fails, it returns the given key and the value in `Err` and changes
+    /// no entry; the room may have grown.
     pub fn insert_entry(self, value: V) -> Result<RawOccupiedEntryMut<'a, K, V, S>, (K, V)>
         ensures* hands_on { sem 𝓛 (HandsOnNew K.row V.row S.row S.Hasher.row (vacant_map self.entry)
             (vacant_state self.entry).key value result) }
@@ -117,7 +119,7 @@ impl<'a, K: Eq + Hash, V, S: BuildHasher> VacantEntry<'a, K, V, S> {
         Ok(RawOccupiedEntryMut { map, node })
     }
 
-    /// Returns the raw entry at this place. The given key is dropped.
+    /// Returns the raw entry at this place. The given key is dropped. It takes constant time.
     pub fn raw_entry_mut(self) -> RawVacantEntryMut<'a, K, V, S>
     where
         K: Drop,

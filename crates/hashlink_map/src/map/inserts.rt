@@ -14,8 +14,9 @@ impl<K: Eq + Hash, V, S: BuildHasher> LinkedHashMap<K, V, S> {
     /// present, its entry keeps the stored key, takes the new value and moves to the back. It hashes the key
     /// once, and stores at most six links if the key is present and four if it is absent.
     ///
-    /// It allocates only if the key is absent and no node is spare. If that allocation fails, it returns the
-    /// pair in `Err` and changes no entry.
+    /// It allocates only if the key is absent and no node is spare. If the table is full then, it grows
+    /// first, in linear time in the new capacity. If an allocation fails, it returns the pair in `Err` and
+    /// changes no entry; the room may have grown.
     pub fn insert(&mut self, key: K, value: V) -> Result<Option<V>, (K, V)>
     where
         K: Drop,
@@ -34,8 +35,9 @@ impl<K: Eq + Hash, V, S: BuildHasher> LinkedHashMap<K, V, S> {
     /// present, its entry keeps the stored key, takes the new value and moves to the front. It hashes the key
     /// once, and stores at most six links if the key is present and four if it is absent.
     ///
-    /// It allocates only if the key is absent and no node is spare. If that allocation fails, it returns the
-    /// pair in `Err` and changes no entry.
+    /// It allocates only if the key is absent and no node is spare. If the table is full then, it grows
+    /// first, in linear time in the new capacity. If an allocation fails, it returns the pair in `Err` and
+    /// changes no entry; the room may have grown.
     pub fn insert_front(&mut self, key: K, value: V) -> Result<Option<V>, (K, V)>
     where
         K: Drop,
@@ -53,8 +55,9 @@ impl<K: Eq + Hash, V, S: BuildHasher> LinkedHashMap<K, V, S> {
     /// keeps the stored key and its place. If it is absent, the pair is inserted at the back. It hashes the
     /// key once, and stores no link if the key is present and at most four if it is absent.
     ///
-    /// It allocates only if the key is absent and no node is spare. If that allocation fails, it returns the
-    /// pair in `Err` and changes no entry.
+    /// It allocates only if the key is absent and no node is spare. If the table is full then, it grows
+    /// first, in linear time in the new capacity. If an allocation fails, it returns the pair in `Err` and
+    /// changes no entry; the room may have grown.
     pub fn replace(&mut self, key: K, value: V) -> Result<Option<V>, (K, V)>
     where
         K: Drop,

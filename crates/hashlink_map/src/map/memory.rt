@@ -10,11 +10,12 @@ use std::hash::{BuildHasher, Hash};
 
 impl<K: Eq + Hash, V, S: BuildHasher> LinkedHashMap<K, V, S> {
     /// Reserves room for `additional` more entries. If there is room for them already, it cannot fail and
-    /// changes nothing. Otherwise the table grows, which takes linear time in the number of entries and
-    /// hashes nothing.
+    /// changes nothing. Otherwise the table grows, which takes linear time in the new capacity and hashes
+    /// nothing.
     ///
     /// It returns `CapacityOverflow` if the map could then have more than 2 to the power of 62 entries, and
-    /// `AllocError` if the allocation fails. After an error nothing has changed.
+    /// `AllocError` if the allocation fails or the table would need more than 2 to the power of 30 buckets.
+    /// After an error nothing has changed.
     pub fn reserve(&mut self, additional: usize) -> Result<(), TryReserveError>
         ensures reserves { Reserves (state_of self.old) (state_of self.new) additional result }
         ensures overflow { (result ≡ Err TryReserveError.CapacityOverflow) ↔
@@ -32,8 +33,8 @@ impl<K: Eq + Hash, V, S: BuildHasher> LinkedHashMap<K, V, S> {
         self.reserve(additional)
     }
 
-    /// Frees the spare nodes, and the room that the entries do not need. It takes linear time in the number
-    /// of spare nodes and entries.
+    /// Frees the spare nodes, and the room that the entries do not need. It takes linear time in the old
+    /// capacity, which is at least the number of entries and spare nodes.
     ///
     /// For a moment it needs memory for the smaller table. If that allocation fails, it returns `AllocError`
     /// and keeps the room. The spare nodes are freed all the same. With no entries it cannot fail, and the

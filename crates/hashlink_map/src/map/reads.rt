@@ -58,7 +58,8 @@ impl<K: Eq + Hash, V, S: BuildHasher> LinkedHashMap<K, V, S> {
         }
     }
 
-    /// Returns the first entry, or `None` if the map is empty. It takes constant time and hashes nothing.
+    /// Returns the entry at the front, or `None` if the map is empty. It takes constant time and hashes
+    /// nothing.
     pub fn front(&self) -> Option<(&K, &V)>
         ensures found { option_map deref_pair result ≡ first_of (entries_of self.now) }
         ensures distinct { IsEntries K.eq (entries_of self.now) }
@@ -67,7 +68,8 @@ impl<K: Eq + Hash, V, S: BuildHasher> LinkedHashMap<K, V, S> {
         Some(self.list.entry(node))
     }
 
-    /// Returns the last entry, or `None` if the map is empty. It takes constant time and hashes nothing.
+    /// Returns the entry at the back, or `None` if the map is empty. It takes constant time and hashes
+    /// nothing.
     pub fn back(&self) -> Option<(&K, &V)>
         ensures found { option_map deref_pair result ≡ last_of (entries_of self.now) }
         ensures distinct { IsEntries K.eq (entries_of self.now) }
@@ -76,8 +78,8 @@ impl<K: Eq + Hash, V, S: BuildHasher> LinkedHashMap<K, V, S> {
         Some(self.list.entry(node))
     }
 
-    /// Returns a mutable reference to the value of the last entry, or `None` if the map is empty. The order
-    /// does not change. It takes constant time and hashes nothing.
+    /// Returns a mutable reference to the value of the entry at the back, or `None` if the map is empty. The
+    /// order does not change. It takes constant time and hashes nothing.
     pub fn back_value_mut(&mut self) -> Option<&mut V>
         ensures* lends { sem 𝓛 (LendsLastValue K.row V.row S.row S.Hasher.row K.Hash
             S.BuildHasher S.Hasher.Hasher self.entry result) }

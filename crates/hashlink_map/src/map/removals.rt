@@ -39,8 +39,8 @@ impl<K: Eq + Hash, V, S: BuildHasher> LinkedHashMap<K, V, S> {
         self.list.remove_key(key)
     }
 
-    /// Removes the first entry, and returns it, or `None` if the map is empty. It takes constant time, hashes
-    /// nothing, and stores at most three links.
+    /// Removes the entry at the front, and returns it, or `None` if the map is empty. It takes constant time,
+    /// hashes nothing, and stores at most three links.
     pub fn pop_front(&mut self) -> Option<(K, V)>
         ensures pops { PopsFront (state_of self.old) (state_of self.new) result }
         ensures entries { TakesFirst (λ e. e) (entries_of self.old) result (entries_of self.new) }
@@ -49,8 +49,8 @@ impl<K: Eq + Hash, V, S: BuildHasher> LinkedHashMap<K, V, S> {
         self.list.pop_first()
     }
 
-    /// Removes the last entry, and returns it, or `None` if the map is empty. It takes constant time, hashes
-    /// nothing, and stores at most three links.
+    /// Removes the entry at the back, and returns it, or `None` if the map is empty. It takes constant time,
+    /// hashes nothing, and stores at most three links.
     pub fn pop_back(&mut self) -> Option<(K, V)>
         ensures pops { PopsBack (state_of self.old) (state_of self.new) result }
         ensures entries { TakesLast (λ e. e) (entries_of self.old) result (entries_of self.new) }

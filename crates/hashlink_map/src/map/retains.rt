@@ -1,6 +1,6 @@
 //! Removals of the entries that a closure chooses. The others keep their order, and have what the closure
-//! wrote. Neither method allocates or hashes a key. Each node that becomes spare serves the next insert of an
-//! absent key.
+//! wrote. None of these methods allocates or hashes a key. Each node that becomes spare serves the next
+//! insert of an absent key.
 ghost use Rattle.std.specs.Map.Calls.{CalledAtPair, TakesPair, CallableOnEachPair};
 ghost use Rattle.hashlink_model.specs.Entries.{IsEntries};
 ghost use Rattle.hashlink_model.specs.Retain.{RetainsInOrder};
@@ -10,9 +10,9 @@ use super::LinkedHashMap;
 use std::hash::{BuildHasher, Hash};
 
 impl<K: Eq + Hash, V, S: BuildHasher> LinkedHashMap<K, V, S> {
-    /// Calls `keep` once on each entry, and removes those for which it returns false. It stores at most three
-    /// links for each removal. `keep` has to be callable on each entry, in the state that its earlier calls
-    /// have left it in.
+    /// Calls `keep` once on each entry, from the front, and removes those for which it returns false. It
+    /// takes linear time in the number of entries, and stores at most three links for each removal. `keep`
+    /// has to be callable on each entry, in the state that its earlier calls have left it in.
     pub fn retain<F: FnMut(&K, &mut V) -> bool>(&mut self, mut keep: F)
     where
         K: Drop,
@@ -26,8 +26,8 @@ impl<K: Eq + Hash, V, S: BuildHasher> LinkedHashMap<K, V, S> {
     }
 
     /// Calls `keep` once on each entry, from the front, and removes those for which it returns false. It
-    /// stores at most three links for each removal. `keep` has to be callable on each entry, in the state
-    /// that its earlier calls have left it in.
+    /// takes linear time in the number of entries, and stores at most three links for each removal. `keep`
+    /// has to be callable on each entry, in the state that its earlier calls have left it in.
     pub fn retain_with_order<F: FnMut(&K, &mut V) -> bool>(&mut self, mut keep: F)
     where
         K: Drop,
@@ -41,7 +41,9 @@ impl<K: Eq + Hash, V, S: BuildHasher> LinkedHashMap<K, V, S> {
     }
 
     /// Does the same as `retain_with_order`, with a closure that the caller keeps: after the last call of
-    /// `keep`, the caller can read from it what its calls left in it.
+    /// `keep`, the caller can read from it what its calls left in it. It takes linear time in the number of
+    /// entries, and stores at most three links for each removal. `keep` has to be callable on each entry, in
+    /// the state that its earlier calls have left it in.
     pub fn retain_from<F: FnMut(&K, &mut V) -> bool>(&mut self, keep: &mut F)
     where
         K: Drop,

@@ -32,7 +32,7 @@ pub struct RawEntryBuilderMut<'a, K: Eq + Hash, V, S: BuildHasher = DefaultHashB
 
 impl<K: Eq + Hash, V, S: BuildHasher> LinkedHashMap<K, V, S> {
     /// Returns a builder that finds an entry to read: by a key, by a key and its hash, or by a hash and a
-    /// test.
+    /// test. It takes constant time and hashes nothing.
     pub fn raw_entry(&self) -> RawEntryBuilder<'_, K, V, S>
         ensures { read_map result ≡ self.now }
     {
@@ -40,7 +40,7 @@ impl<K: Eq + Hash, V, S: BuildHasher> LinkedHashMap<K, V, S> {
     }
 
     /// Returns a builder that finds an entry to change: by a key, by a key and its hash, or by a hash and a
-    /// test.
+    /// test. It takes constant time and hashes nothing.
     pub fn raw_entry_mut(&mut self) -> RawEntryBuilderMut<'_, K, V, S>
         ensures same_map { (found_map result).ghost_name ≡ self.entry.ghost_name }
         ensures unchanged { (found_map result).now ≡ self.old }
@@ -48,7 +48,8 @@ impl<K: Eq + Hash, V, S: BuildHasher> LinkedHashMap<K, V, S> {
         RawEntryBuilderMut { map: self }
     }
 
-    /// Returns the first entry, or `None` if the map is empty. It takes constant time and hashes nothing.
+    /// Returns the entry at the front, or `None` if the map is empty. It takes constant time and hashes
+    /// nothing.
     pub fn front_entry(&mut self) -> Option<RawOccupiedEntryMut<'_, K, V, S>>
         ensures* hands_on { sem 𝓛 (HandsOnOccupied K.row V.row S.row S.Hasher.row self.entry result) }
         ensures same_map { IfSome result (λ o. (raw_occupied_map o).ghost_name ≡ self.entry.ghost_name) }
@@ -60,7 +61,8 @@ impl<K: Eq + Hash, V, S: BuildHasher> LinkedHashMap<K, V, S> {
         Some(RawOccupiedEntryMut { map: self, node })
     }
 
-    /// Returns the last entry, or `None` if the map is empty. It takes constant time and hashes nothing.
+    /// Returns the entry at the back, or `None` if the map is empty. It takes constant time and hashes
+    /// nothing.
     pub fn back_entry(&mut self) -> Option<RawOccupiedEntryMut<'_, K, V, S>>
         ensures* hands_on { sem 𝓛 (HandsOnOccupied K.row V.row S.row S.Hasher.row self.entry result) }
         ensures same_map { IfSome result (λ o. (raw_occupied_map o).ghost_name ≡ self.entry.ghost_name) }
@@ -99,8 +101,9 @@ impl<'a, K: Eq + Hash, V, S: BuildHasher> RawEntryBuilder<'a, K, V, S> {
         Some(map.pair_at(node))
     }
 
-    /// Returns the stored pair whose key has this hash and passes the test, or `None` if there is none. The
-    /// test has to tell the keys that are equal to one key of this hash from all others. It hashes nothing.
+    /// Returns the stored pair whose key has this hash and passes the test `is_match`, or `None` if there is
+    /// none. `is_match` has to be callable on every key, and to tell the keys that are equal to one key of
+    /// this hash from all others. The call hashes nothing.
     pub fn from_hash<F: Fn(&K) -> bool>(self, hash: u64, is_match: F) -> Option<(&'a K, &'a V)>
     where
         F: Drop,
@@ -159,9 +162,10 @@ impl<K: Eq + Hash, V, S: BuildHasher> LinkedHashMap<K, V, S> {
         }
     }
 
-    /// Returns the place whose key has this hash and passes the test. The test has to tell the keys that are
-    /// equal to one key of this hash from all others. It hashes nothing. It is `raw_entry_mut` and
-    /// `from_hash` in one call: a caller can prove exactly what the map is afterwards.
+    /// Returns the place whose key has this hash and passes the test `is_match`. `is_match` has to be
+    /// callable on every key, and to tell the keys that are equal to one key of this hash from all others.
+    /// The call hashes nothing. It is `raw_entry_mut` and `from_hash` in one call: a caller can prove exactly
+    /// what the map is afterwards.
     pub fn raw_entry_from_hash<F: Fn(&K) -> bool>(
         &mut self,
         hash: u64,
@@ -234,8 +238,9 @@ impl<'a, K: Eq + Hash, V, S: BuildHasher> RawEntryBuilderMut<'a, K, V, S> {
         map.raw_entry_hashed_nocheck(hash, key)
     }
 
-    /// Returns the place whose key has this hash and passes the test. The test has to tell the keys that are
-    /// equal to one key of this hash from all others. It hashes nothing.
+    /// Returns the place whose key has this hash and passes the test `is_match`. `is_match` has to be
+    /// callable on every key, and to tell the keys that are equal to one key of this hash from all others.
+    /// The call hashes nothing.
     pub fn from_hash<F: Fn(&K) -> bool>(self, hash: u64, is_match: F) -> RawEntryMut<'a, K, V, S>
     where
         F: Drop,

@@ -1,4 +1,4 @@
-//! Occupied raw entries. None of their methods hashes or allocates.
+//! Occupied raw entries. Each of their methods takes constant time, and none hashes or allocates.
 ghost use Rattle.std.specs.Prelude.{◌≡◌, ◌-◌, length, slice_get, Some, Err, IfOk, IfErr, MatchResult};
 ghost use Rattle.std.specs.Borrow.{sem};
 ghost use Rattle.std.specs.Map.Iter.{deref_pair};
@@ -35,21 +35,21 @@ impl<'a, K: Eq + Hash, V, S: BuildHasher> RawOccupiedEntryMut<'a, K, V, S> {
     ghost use Rattle.hashlink_map.specs.RawLends.{LendsFromRaw, RawLendsForGood, RawRestsForGood};
     ghost use Rattle.hashlink_map.specs.RawLends.{LendsPairOf};
 
-    /// Returns a reference to the stored key.
+    /// Returns a reference to the stored key. It takes constant time.
     pub fn key(&self) -> &K
         ensures { key_at (raw_occupied_state self.now).map.entries (raw_place self.now) ≡ Some result.now }
     {
         self.map.pair_at(self.node).0
     }
 
-    /// Returns a reference to the value.
+    /// Returns a reference to the value. It takes constant time.
     pub fn get(&self) -> &V
         ensures { value_at (raw_occupied_state self.now).map.entries (raw_place self.now) ≡ Some result.now }
     {
         self.map.pair_at(self.node).1
     }
 
-    /// Returns the stored pair.
+    /// Returns the stored pair. It takes constant time.
     pub fn get_key_value(&self) -> (&K, &V)
         ensures { slice_get (raw_occupied_state self.now).map.entries (raw_place self.now)
             ≡ Some (deref_pair result) }
@@ -57,7 +57,7 @@ impl<'a, K: Eq + Hash, V, S: BuildHasher> RawOccupiedEntryMut<'a, K, V, S> {
         self.map.pair_at(self.node)
     }
 
-    /// Returns a mutable reference to the value.
+    /// Returns a mutable reference to the value. It takes constant time.
     pub fn get_mut(&mut self) -> &mut V
         ensures* lends { sem 𝓛 (LendsFromRaw K.row V.row S.row S.Hasher.row self.entry result) }
         ensures value { value_at (raw_occupied_state self.old).map.entries (raw_place self.old)
@@ -68,7 +68,7 @@ impl<'a, K: Eq + Hash, V, S: BuildHasher> RawOccupiedEntryMut<'a, K, V, S> {
         self.map.value_at_mut(node)
     }
 
-    /// Returns the stored key and a mutable reference to the value.
+    /// Returns the stored key and a mutable reference to the value. It takes constant time.
     pub fn get_key_value_mut(&mut self) -> (&K, &mut V)
         ensures* lends { sem 𝓛 (LendsFromRaw K.row V.row S.row S.Hasher.row self.entry result.1) }
         ensures pair { slice_get (raw_occupied_state self.old).map.entries (raw_place self.old)
@@ -79,7 +79,7 @@ impl<'a, K: Eq + Hash, V, S: BuildHasher> RawOccupiedEntryMut<'a, K, V, S> {
         self.map.pair_at_mut(node)
     }
 
-    /// Returns a mutable reference to the value for as long as the map is borrowed.
+    /// Returns a mutable reference to the value for as long as the map is borrowed. It takes constant time.
     pub fn into_mut(self) -> &'a mut V
         ensures* lends { sem 𝓛 (RawLendsForGood K.row V.row S.row S.Hasher.row self.entry result) }
         ensures value { value_at (raw_occupied_state self.entry).map.entries (raw_place self.entry)
@@ -90,7 +90,7 @@ impl<'a, K: Eq + Hash, V, S: BuildHasher> RawOccupiedEntryMut<'a, K, V, S> {
         map.value_at_mut(node)
     }
 
-    /// Returns the stored key for as long as the map is borrowed.
+    /// Returns the stored key for as long as the map is borrowed. It takes constant time.
     pub fn into_key(self) -> &'a K
         ensures* unchanged { sem 𝓛 (RawRestsForGood K.row V.row S.row S.Hasher.row self.entry) }
         ensures key { key_at (raw_occupied_state self.entry).map.entries (raw_place self.entry)
@@ -100,7 +100,8 @@ impl<'a, K: Eq + Hash, V, S: BuildHasher> RawOccupiedEntryMut<'a, K, V, S> {
         map.key_for_good(node)
     }
 
-    /// Returns the stored key and a mutable reference to the value, for as long as the map is borrowed.
+    /// Returns the stored key and a mutable reference to the value, for as long as the map is borrowed. It
+    /// takes constant time.
     pub fn into_key_value(self) -> (&'a K, &'a mut V)
         ensures* lends { sem 𝓛 (RawLendsForGood K.row V.row S.row S.Hasher.row self.entry result.1) }
         ensures pair { slice_get (raw_occupied_state self.entry).map.entries (raw_place self.entry)
@@ -110,7 +111,7 @@ impl<'a, K: Eq + Hash, V, S: BuildHasher> RawOccupiedEntryMut<'a, K, V, S> {
         map.pair_at_mut(node)
     }
 
-    /// Returns a cursor on this entry.
+    /// Returns a cursor on this entry. It takes constant time.
     pub fn cursor_mut(self) -> CursorMut<'a, K, V, S>
         ensures same_map { (cursor_map result).ghost_name ≡ (raw_occupied_map self.entry).ghost_name }
         ensures unchanged { (cursor_map result).now ≡ (raw_occupied_map self.entry).now }
@@ -160,7 +161,7 @@ impl<'a, K: Eq + Hash, V, S: BuildHasher> RawOccupiedEntryMut<'a, K, V, S> {
         self.map.move_to_front(node);
     }
 
-    /// Replaces the value, and returns the old one. The entry keeps its place.
+    /// Replaces the value, and returns the old one. The entry keeps its place. It stores no link.
     pub fn replace_value(&mut self, value: V) -> V
         ensures same_map { (raw_occupied_map self.new).ghost_name ≡ (raw_occupied_map self.old).ghost_name }
         ensures replaces { ReplacesValue (raw_occupied_state self.old).map (raw_occupied_state self.new).map
@@ -172,7 +173,7 @@ impl<'a, K: Eq + Hash, V, S: BuildHasher> RawOccupiedEntryMut<'a, K, V, S> {
     }
 
     /// Replaces the stored key by one that has to be equal to it, and returns the old one. The entry keeps
-    /// its place and its value.
+    /// its place and its value. It stores no link.
     pub fn replace_key(&mut self, key: K) -> K
         requires { EqualsKeyAt K.eq (raw_occupied_state self.old).map.entries (raw_place self.old) key }
         ensures same_map { (raw_occupied_map self.new).ghost_name ≡ (raw_occupied_map self.old).ghost_name }

@@ -26,8 +26,9 @@ impl<'a, K: Eq + Hash, V, S: BuildHasher> RawVacantEntryMut<'a, K, V, S> {
     /// Inserts the pair at the back, and returns its key and a mutable reference to its value. The key has to
     /// be absent. It hashes the key once, and stores at most four links.
     ///
-    /// It allocates only if no node is spare. If that allocation fails, it returns the pair in `Err` and
-    /// changes no entry.
+    /// It allocates only if no node is spare. If the table is full then, it grows first, in linear time in
+    /// the new capacity. If an allocation fails, it returns the pair in `Err` and changes no entry; the room
+    /// may have grown.
     pub fn insert(self, key: K, value: V) -> Result<(&'a K, &'a mut V), (K, V)>
         requires absent { place_of (K.eq key) (entries_of (raw_vacant_map self).now) ≡ None }
         ensures* lends { sem 𝓛 (LendsNewPair K.row V.row S.row S.Hasher.row K.Hash
@@ -41,8 +42,9 @@ impl<'a, K: Eq + Hash, V, S: BuildHasher> RawVacantEntryMut<'a, K, V, S> {
     /// Inserts the pair at the back, and returns its key and a mutable reference to its value. The key has to
     /// be absent and to have this hash. It hashes nothing, and stores at most four links.
     ///
-    /// It allocates only if no node is spare. If that allocation fails, it returns the pair in `Err` and
-    /// changes no entry.
+    /// It allocates only if no node is spare. If the table is full then, it grows first, in linear time in
+    /// the new capacity. If an allocation fails, it returns the pair in `Err` and changes no entry; the room
+    /// may have grown.
     pub fn insert_hashed_nocheck(
         self,
         hash: u64,
@@ -88,8 +90,9 @@ impl<'a, K: Eq + Hash, V, S: BuildHasher> RawVacantEntryMut<'a, K, V, S> {
     /// Inserts the pair at the back, and returns its entry. The key has to be absent. It hashes the key once,
     /// and stores at most four links.
     ///
-    /// It allocates only if no node is spare. If that allocation fails, it returns the pair in `Err` and
-    /// changes no entry.
+    /// It allocates only if no node is spare. If the table is full then, it grows first, in linear time in
+    /// the new capacity. If an allocation fails, it returns the pair in `Err` and changes no entry; the room
+    /// may have grown.
     pub fn insert_entry(self, key: K, value: V) -> Result<RawOccupiedEntryMut<'a, K, V, S>, (K, V)>
         requires absent { place_of (K.eq key) (entries_of (raw_vacant_map self).now) ≡ None }
         ensures* hands_on { sem 𝓛 (HandsOnNew K.row V.row S.row S.Hasher.row
@@ -111,8 +114,9 @@ impl<'a, K: Eq + Hash, V, S: BuildHasher> RawVacantEntryMut<'a, K, V, S> {
     /// Inserts the pair at the back, and returns its entry. The key has to be absent and to have this hash.
     /// It hashes nothing, and stores at most four links.
     ///
-    /// It allocates only if no node is spare. If that allocation fails, it returns the pair in `Err` and
-    /// changes no entry.
+    /// It allocates only if no node is spare. If the table is full then, it grows first, in linear time in
+    /// the new capacity. If an allocation fails, it returns the pair in `Err` and changes no entry; the room
+    /// may have grown.
     pub fn insert_entry_hashed_nocheck(
         self,
         hash: u64,

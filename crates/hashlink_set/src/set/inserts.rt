@@ -26,8 +26,9 @@ impl<T: Eq + Hash, S: BuildHasher> LinkedHashSet<T, S> {
     /// that one stays in the set and moves to the back. It hashes the element once, and stores at most six
     /// links if it is present and four if it is absent.
     ///
-    /// It allocates only if the element is absent and no node is spare. If that allocation fails, it returns
-    /// the element in `Err` and changes no element; the room may have grown.
+    /// It allocates only if the element is absent and no node is spare. If the table is full then, it grows
+    /// first, in linear time in the new capacity. If an allocation fails, it returns the element in `Err` and
+    /// changes no element; the room may have grown.
     pub fn insert(&mut self, value: T) -> Result<bool, T>
     where
         T: Drop,
@@ -48,8 +49,9 @@ impl<T: Eq + Hash, S: BuildHasher> LinkedHashSet<T, S> {
     /// one. An absent element is inserted at the back. It hashes the element once, and stores no link if it
     /// is present and at most four if it is absent.
     ///
-    /// It allocates only if the element is absent and no node is spare. If that allocation fails, it returns
-    /// the element in `Err` and changes no element; the room may have grown.
+    /// It allocates only if the element is absent and no node is spare. If the table is full then, it grows
+    /// first, in linear time in the new capacity. If an allocation fails, it returns the element in `Err` and
+    /// changes no element; the room may have grown.
     pub fn replace(&mut self, value: T) -> Result<Option<T>, T>
         ensures replaces { SetReplaces T.eq self.old self.new value result }
         ensures elements { OnOk result (elements_of self.new ≡ replaced T.eq (elements_of self.old) value) }
@@ -63,11 +65,12 @@ impl<T: Eq + Hash, S: BuildHasher> LinkedHashSet<T, S> {
     }
 
     /// Inserts the element at the back, or moves the equal one to the back. Returns a reference to the one
-    /// that is then in the set. It is `insert`, and then the last element. It hashes the element once, and
-    /// stores at most six links if the element is present and four if it is absent.
+    /// that is then in the set. It is `insert`, and then `back`. It hashes the element once, and stores at
+    /// most six links if the element is present and four if it is absent.
     ///
-    /// It allocates only if the element is absent and no node is spare. If that allocation fails, it returns
-    /// the element in `Err` and changes no element; the room may have grown.
+    /// It allocates only if the element is absent and no node is spare. If the table is full then, it grows
+    /// first, in linear time in the new capacity. If an allocation fails, it returns the element in `Err` and
+    /// changes no element; the room may have grown.
     pub fn get_or_insert(&mut self, value: T) -> Result<&T, T>
     where
         T: Drop,
@@ -82,11 +85,13 @@ impl<T: Eq + Hash, S: BuildHasher> LinkedHashSet<T, S> {
 
     /// Moves the element that is equal to `value` to the back, or inserts the one that `f` returns at the
     /// back. Returns a reference to the one that is then in the set. If none is equal to `value`, `f` is
-    /// called once, and what it returns has to be absent. It hashes `value` once, and what `f` returns once.
-    /// It stores at most six links if the element is present, and four if it is absent.
+    /// called once: it has to be callable on `value`, and what it returns has to be absent. It hashes `value`
+    /// once, and what `f` returns once. It stores at most six links if the element is present, and four if it
+    /// is absent.
     ///
-    /// It allocates only if the element is absent and no node is spare. If that allocation fails, it returns
-    /// what `f` returned in `Err`, and changes no element; the room may have grown.
+    /// It allocates only if the element is absent and no node is spare. If the table is full then, it grows
+    /// first, in linear time in the new capacity. If an allocation fails, it returns what `f` returned in
+    /// `Err`, and changes no element; the room may have grown.
     pub fn get_or_insert_with<F: FnOnce(&T) -> T>(&mut self, value: &T, f: F) -> Result<&T, T>
     where
         T: Drop,

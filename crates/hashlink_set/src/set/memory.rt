@@ -10,11 +10,12 @@ use std::hash::{BuildHasher, Hash};
 
 impl<T: Eq + Hash, S: BuildHasher> LinkedHashSet<T, S> {
     /// Reserves room for `additional` more elements. If there is room for them already, it cannot fail and
-    /// changes nothing. Otherwise the table grows, which takes linear time in the number of elements and
-    /// hashes nothing.
+    /// changes nothing. Otherwise the table grows, which takes linear time in the new capacity and hashes
+    /// nothing.
     ///
     /// It returns `CapacityOverflow` if the set could then have more than 2 to the power of 62 elements, and
-    /// `AllocError` if the allocation fails. After an error nothing has changed.
+    /// `AllocError` if the allocation fails or the table would need more than 2 to the power of 30 buckets.
+    /// After an error nothing has changed.
     pub fn reserve(&mut self, additional: usize) -> Result<(), TryReserveError>
         ensures reserves { Reserves self.old self.new additional result }
         ensures overflow { (result ≡ Err TryReserveError.CapacityOverflow) ↔
@@ -32,8 +33,8 @@ impl<T: Eq + Hash, S: BuildHasher> LinkedHashSet<T, S> {
         self.reserve(additional)
     }
 
-    /// Frees the spare nodes, and the room that the elements do not need. It takes linear time in the number
-    /// of spare nodes and elements.
+    /// Frees the spare nodes, and the room that the elements do not need. It takes linear time in the old
+    /// capacity, which is at least the number of elements and spare nodes.
     ///
     /// For a moment it needs memory for the smaller table. If that allocation fails, it returns `AllocError`
     /// and keeps the room. The spare nodes are freed all the same. With no elements it cannot fail, and the

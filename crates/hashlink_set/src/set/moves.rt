@@ -11,7 +11,7 @@ use hashlink_map::Equivalent;
 use std::hash::{BuildHasher, Hash};
 
 impl<T: Eq + Hash, S: BuildHasher> LinkedHashSet<T, S> {
-    /// Moves the equal element to the front, and returns whether there is one. If there is none, nothing
+    /// Moves the equal element to the front, and returns whether it is present. If it is absent, nothing
     /// changes. It hashes the element once, and stores at most six links.
     pub fn to_front<Q: Equivalent<T>>(&mut self, value: Q) -> bool
         ensures moves { MovesMatch (Q.matches value) self.old self.new 0 (as_value result) }
@@ -19,7 +19,7 @@ impl<T: Eq + Hash, S: BuildHasher> LinkedHashSet<T, S> {
         self.find_to_front(value).is_some()
     }
 
-    /// Moves the equal element to the back, and returns whether there is one. If there is none, nothing
+    /// Moves the equal element to the back, and returns whether it is present. If it is absent, nothing
     /// changes. It hashes the element once, and stores at most six links.
     pub fn to_back<Q: Equivalent<T>>(&mut self, value: Q) -> bool
         ensures moves { MovesMatch (Q.matches value) self.old self.new (length self.old.entries)

@@ -17,7 +17,7 @@ impl<T: Eq + Hash, S: BuildHasher> LinkedHashSet<T, S> {
         self.map.contains_key(value)
     }
 
-    /// Returns the equal element, which may be a different object, or `None` if there is none. The order does
+    /// Returns the equal element, which may be a different object, or `None` if it is absent. The order does
     /// not change. It hashes the element once.
     pub fn get<Q: Equivalent<T>>(&self, value: Q) -> Option<&T>
         ensures found { option_copied result ≡ find (Q.matches value) (elements_of self.now) }
@@ -27,7 +27,8 @@ impl<T: Eq + Hash, S: BuildHasher> LinkedHashSet<T, S> {
         Some(stored)
     }
 
-    /// Returns the first element, or `None` if the set is empty. It takes constant time and hashes nothing.
+    /// Returns the element at the front, or `None` if the set is empty. It takes constant time and hashes
+    /// nothing.
     pub fn front(&self) -> Option<&T>
         ensures found { option_copied result ≡ first_of (elements_of self.now) }
         ensures distinct { IsDistinct T.eq (elements_of self.now) }
@@ -36,7 +37,8 @@ impl<T: Eq + Hash, S: BuildHasher> LinkedHashSet<T, S> {
         Some(first)
     }
 
-    /// Returns the last element, or `None` if the set is empty. It takes constant time and hashes nothing.
+    /// Returns the element at the back, or `None` if the set is empty. It takes constant time and hashes
+    /// nothing.
     pub fn back(&self) -> Option<&T>
         ensures found { option_copied result ≡ last_of (elements_of self.now) }
         ensures distinct { IsDistinct T.eq (elements_of self.now) }

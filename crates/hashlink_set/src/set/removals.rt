@@ -14,7 +14,7 @@ use hashlink_map::Equivalent;
 use std::hash::{BuildHasher, Hash};
 
 impl<T: Eq + Hash, S: BuildHasher> LinkedHashSet<T, S> {
-    /// Removes the equal element and drops it, and returns whether there was one. It looks the element up as
+    /// Removes the equal element and drops it, and returns whether it was present. It looks the element up as
     /// `contains` does, and stores at most three links.
     pub fn remove<Q: Equivalent<T>>(&mut self, value: Q) -> bool
     where
@@ -28,7 +28,7 @@ impl<T: Eq + Hash, S: BuildHasher> LinkedHashSet<T, S> {
         self.map.remove_entry(value).is_some()
     }
 
-    /// Removes the equal element and returns it, or returns `None` if there is none. It looks the element up
+    /// Removes the equal element and returns it, or returns `None` if it is absent. It looks the element up
     /// as `contains` does, and stores at most three links.
     pub fn take<Q: Equivalent<T>>(&mut self, value: Q) -> Option<T>
         ensures removes { RemovesMatch (Q.matches value) self.old self.new (as_entry result) }
@@ -38,8 +38,8 @@ impl<T: Eq + Hash, S: BuildHasher> LinkedHashSet<T, S> {
         Some(stored)
     }
 
-    /// Removes the first element and returns it, or returns `None` if the set is empty. It takes constant
-    /// time, hashes nothing, and stores at most three links.
+    /// Removes the element at the front and returns it, or returns `None` if the set is empty. It takes
+    /// constant time, hashes nothing, and stores at most three links.
     pub fn pop_front(&mut self) -> Option<T>
         ensures pops { PopsFront self.old self.new (as_entry result) }
         ensures elements { TakesFirst (λ t. t) (elements_of self.old) result (elements_of self.new) }
@@ -49,8 +49,8 @@ impl<T: Eq + Hash, S: BuildHasher> LinkedHashSet<T, S> {
         Some(first)
     }
 
-    /// Removes the last element and returns it, or returns `None` if the set is empty. It takes constant
-    /// time, hashes nothing, and stores at most three links.
+    /// Removes the element at the back and returns it, or returns `None` if the set is empty. It takes
+    /// constant time, hashes nothing, and stores at most three links.
     pub fn pop_back(&mut self) -> Option<T>
         ensures pops { PopsBack self.old self.new (as_entry result) }
         ensures elements { TakesLast (λ t. t) (elements_of self.old) result (elements_of self.new) }

@@ -10,9 +10,9 @@ use super::LinkedHashSet;
 use std::hash::{BuildHasher, Hash};
 
 impl<T: Eq + Hash, S: BuildHasher> LinkedHashSet<T, S> {
-    /// Calls `keep` once on each element, and removes those for which it returns false. It stores at most
-    /// three links for each removal. `keep` has to be callable on each element, in the state that its earlier
-    /// calls have left it in.
+    /// Calls `keep` once on each element, from the front, and removes those for which it returns false. It
+    /// takes linear time in the number of elements, and stores at most three links for each removal. `keep`
+    /// has to be callable on each element, in the state that its earlier calls have left it in.
     pub fn retain<F: FnMut(&T) -> bool>(&mut self, mut keep: F)
     where
         T: Drop,
@@ -25,8 +25,8 @@ impl<T: Eq + Hash, S: BuildHasher> LinkedHashSet<T, S> {
     }
 
     /// Calls `keep` once on each element, from the front, and removes those for which it returns false. It
-    /// stores at most three links for each removal. `keep` has to be callable on each element, in the state
-    /// that its earlier calls have left it in.
+    /// takes linear time in the number of elements, and stores at most three links for each removal. `keep`
+    /// has to be callable on each element, in the state that its earlier calls have left it in.
     pub fn retain_with_order<F: FnMut(&T) -> bool>(&mut self, mut keep: F)
     where
         T: Drop,
@@ -39,7 +39,9 @@ impl<T: Eq + Hash, S: BuildHasher> LinkedHashSet<T, S> {
     }
 
     /// Does the same as `retain_with_order`, with a closure that the caller keeps: after the last call of
-    /// `keep`, the caller can read from it what its calls left in it.
+    /// `keep`, the caller can read from it what its calls left in it. It takes linear time in the number of
+    /// elements, and stores at most three links for each removal. `keep` has to be callable on each element,
+    /// in the state that its earlier calls have left it in.
     pub fn retain_from<F: FnMut(&T) -> bool>(&mut self, keep: &mut F)
     where
         T: Drop,

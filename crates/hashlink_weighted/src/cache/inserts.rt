@@ -29,11 +29,13 @@ impl<K: Eq + Hash, V, S: BuildHasher> WeightedCache<K, V, S> {
     /// budget. The longest end that fits stays, and the pair is always in it.
     ///
     /// If the weight is above the budget, it returns the pair in `TooHeavy` and nothing changes, even if the
-    /// key is present. It allocates only if the key is absent and no node is spare. If that allocation fails,
-    /// it returns the pair in `Memory` and evicts nothing.
+    /// key is present. It allocates only if the key is absent and no node is spare. If the table is full
+    /// then, it grows first, in linear time in the number of entries. If an allocation fails, it returns the
+    /// pair in `Memory`, changes no entry and evicts nothing; the room may have grown.
     ///
-    /// It hashes the key once, and takes constant time except for what it evicts. It stores at most six links
-    /// if the key is present and four if it is absent, and at most three for each entry that it evicts.
+    /// It hashes the key once, and takes constant time except for such a growth and for what it evicts. It
+    /// stores at most six links if the key is present and four if it is absent, and at most three for each
+    /// entry that it evicts.
     pub fn insert(&mut self, key: K, value: V, weight: u64) -> Result<Option<V>, WeightError<K, V>>
     where
         K: Drop,
