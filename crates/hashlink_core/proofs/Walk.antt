@@ -1,8 +1,8 @@
 -- A walk along a ring, by where it stands at both ends.
-use Rattle.std.proofs.Common.{◌≡◌, ℕ, zero, suc, ◌+◌, ◌-◌, ◌<◌, ◌≢◌, true, false, cond, List, [], ◌∷◌, ◌++◌}
-use Rattle.std.proofs.Common.{length}
+use Rattle.std.proofs.Common.{◌≡◌, ℕ, zero, suc, ◌+◌, ◌-◌, ◌<◌, ◌≤◌, ◌≢◌, true, false, cond, List, [], ◌∷◌}
+use Rattle.std.proofs.Common.{◌++◌, length, nat_lt, ltb-true, ltb-false}
 use Rattle.std.proofs.Common.{take, drop, Option, None, Some, refl, ap, sym, subst, ◌∙◌, arith}
-use Rattle.std.specs.Prelude.{slice_get, is_some}
+use Rattle.std.specs.Prelude.{slice_get, is_some, unwrap_or, IfSome}
 use Rattle.std.specs.Option.{option_map}
 use Rattle.std.specs.Map.{lookup, keys_of}
 use Rattle.std.specs.Map.Iter.{TakesFirst, TakesLast, ShowsInOrder, ShowsInReverse}
@@ -17,7 +17,7 @@ use Rattle.hashlink_nodes.specs.Ring.{next_place, prev_place, pair_of, Holds}
 use Rattle.hashlink_core.specs.Keyed.{pairs_in}
 use Rattle.hashlink_core.specs.Places.{place_number}
 use Rattle.hashlink_core.specs.Walk.{pairs_from, StandsBetween}
-use Rattle.hashlink_core.proofs.Edits.{drop-at, place_or_end-cons}
+use Rattle.hashlink_core.proofs.Edits.{drop-at, place_or_end-cons, place_or_end-most}
 use Rattle.hashlink_core.proofs.Neighbours.{next-number, prev-number, before-guard, before-suc}
 use Rattle.hashlink_core.proofs.Places.{node-at, around, following-within}
 
@@ -59,105 +59,152 @@ pairs_in-last : {K V : Type 0} (es : List (Node × Held K V)) (n : Node) (h : He
 pairs_in-last [] n h = refl
 pairs_in-last (e ∷ es) n h = ap (λ ps. pair_of e.1 ∷ ps) (pairs_in-last es n h)
 
+module _ {X : Type 0} (es : List (Node × X)) where
+  -- no place stands after the guard
+  most : (n : Node) → place_number es (Some n) ≤ length es
+  most n = place_or_end-most same_node es n
+
+  -- the node that stands where a place does that is not the guard
+  beside-number : (o : Option Node) (q : Node) (i : ℕ) → IfSome o (λ m. q ≡ m) → place_number es o ≡ i
+      → i < length es → place_number es (Some q) ≡ i
+  beside-number None q i same number lt = absurd (omega (arith, number, lt))
+  beside-number (Some m) q i same number lt = ap (λ n. place_number es (Some n)) same ∙ number
+
+  -- the node of a place, where it is the guard's only if there is no node
+  node-number : (o : Option Node) (z : Node) (i : ℕ) → place_number es o ≡ i
+      → (0 < length es → i < length es) → i ≤ length es → place_number es (Some (unwrap_or o z)) ≡ i
+  node-number None z i number some few =
+      elim (nat_lt 0 (length es)) as (λ c. nat_lt 0 (length es) ≡ c → place_number es (Some z) ≡ i) [
+        | true ↦ λ e. absurd (omega (arith, number, some (ltb-true 0 (length es) e)))
+        | false ↦ λ e. omega (arith, number, few, ltb-false 0 (length es) e, most z)
+      ] refl
+  node-number (Some m) z i number some few = number
+
 module _ {K V : Type 0} (es : List (Node × Held K V)) (d : IsEntries same_node es) where
   -- ---- over all entries
-  first-of_all : (q : Option Node) → q ≡ next_place (keys_of es) None → place_number es q ≡ 0
-  first-of_all q is = ap (place_number es) is ∙ (next-number es d None tt).number ∙ around (length es)
+  pub first-of_all : (q : Option Node) (z n : Node) → q ≡ next_place (keys_of es) None → n ≡ unwrap_or q z
+      → place_number es (Some n) ≡ 0
+  first-of_all q z n is same =
+      ap (λ m. place_number es (Some m)) same
+      ∙ node-number es q z 0
+      (ap (place_number es) is ∙ (next-number es d None tt).number ∙ around (length es))
+      (λ some. some) (omega arith)
 
-  last-of_all : (q : Option Node) → q ≡ prev_place (keys_of es) None → place_number es q ≡ length es - 1
-  last-of_all q is = ap (place_number es) is ∙ (prev-number es d None tt).number ∙ before-guard (length es)
+  pub last-of_all : (q : Option Node) (z n : Node) → q ≡ prev_place (keys_of es) None → n ≡ unwrap_or q z
+      → place_number es (Some n) ≡ length es - 1
+  last-of_all q z n is same =
+      ap (λ m. place_number es (Some m)) same
+      ∙ node-number es q z (length es - 1)
+      (ap (place_number es) is ∙ (prev-number es d None tt).number ∙ before-guard (length es))
+      (λ some. omega (arith, some)) (omega arith)
 
-  module _ (first last : Option Node) (left : ℕ) (is_first : first ≡ next_place (keys_of es) None)
-      (all : left ≡ length es) where
-    pub stands-at_all : last ≡ prev_place (keys_of es) None → StandsBetween es first last left
-    stands-at_all is_last = record {
-      few = omega (arith, all, first-of_all first is_first);
-      ends = λ some. omega (arith, all, some, first-of_all first is_first, last-of_all last is_last);
-    }
+  pub stands-at_all : (first last : Node) (left : ℕ) → place_number es (Some first) ≡ 0
+      → place_number es (Some last) ≡ length es - 1 → left ≡ length es
+      → StandsBetween es (Some first) (Some last) left
+  stands-at_all first last left is_first is_last all = record {
+    few = omega (arith, all, is_first);
+    ends = λ some. omega (arith, all, some, is_first, is_last);
+  }
 
-    pub all-left : pairs_from es first left ≡ pairs_in es
-    all-left =
-        ap (λ i. pairs_in (take left (drop i es))) (first-of_all first is_first)
-        ∙ ap (λ n. pairs_in (take n es)) all
-        ∙ ap pairs_in (take-length es)
+  pub all-left : (first : Node) (left : ℕ) → place_number es (Some first) ≡ 0 → left ≡ length es
+      → pairs_from es (Some first) left ≡ pairs_in es
+  all-left first left is_first all =
+      ap (λ i. pairs_in (take left (drop i es))) is_first
+      ∙ ap (λ n. pairs_in (take n es)) all
+      ∙ ap pairs_in (take-length es)
 
-module _ {K V : Type 0} (es : List (Node × Held K V)) (first last : Option Node) (left : ℕ)
-    (w : StandsBetween es first last left) (some : left ≢ 0) where
+module _ {K V : Type 0} (es : List (Node × Held K V)) (first last : Node) (left : ℕ)
+    (w : StandsBetween es (Some first) (Some last) left) (some : left ≢ 0) where
   one-more : left ≡ suc (left - 1)
   one-more = omega (arith, some)
 
   -- ---- at the front
-  module _ (n : Node) (is : first ≡ Some n) where
-    pub first-holds : Holds es n
-    first-holds = within-holds es n (omega (arith, w.few, ap (place_number es) is, some))
+  pub first-holds : Holds es first
+  first-holds = within-holds es first (omega (arith, w.few, some))
 
-    module _ (d : IsEntries same_node es) (q : Option Node)
-        (next : q ≡ next_place (keys_of es) (Some n)) where
-      next-first : place_number es q ≡ suc (place_number es first)
-      next-first =
-          let x = node-at es n first-holds in
-          ap (place_number es) next ∙ (next-number es d (Some n) first-holds).number
-          ∙ following-within (length es) (place_number es (Some n)) x.1.within
-          ∙ ap (λ p. suc (place_number es p)) (sym is)
+  module _ (d : IsEntries same_node es) (q : Node)
+      (next : IfSome (next_place (keys_of es) (Some first)) (λ m. q ≡ m)) where
+    next-first : 1 < left → place_number es (Some q) ≡ suc (place_number es (Some first))
+    next-first more =
+        let x = node-at es first first-holds in
+        beside-number es (next_place (keys_of es) (Some first)) q (suc (place_number es (Some first))) next
+        ((next-number es d (Some first) first-holds).number
+        ∙ following-within (length es) (place_number es (Some first)) x.1.within)
+        (omega (arith, w.few, more))
 
-      pub stands-next : StandsBetween es q last (left - 1)
-      stands-next = record {
-        few = omega (arith, w.few, next-first, some);
-        ends = λ more. let ends = w.ends (omega (arith, some)) in omega (arith, ends, more, next-first);
-      }
+    pub stands-next : StandsBetween es (Some q) (Some last) (left - 1)
+    stands-next = record {
+      few =
+          elim (nat_lt 1 left) as (λ c. nat_lt 1 left ≡ c → place_number es (Some q) + (left - 1) ≤ length es) [
+            | true ↦ λ e. omega (arith, w.few, next-first (ltb-true 1 left e))
+            | false ↦ λ e. omega (arith, ltb-false 1 left e, most es q)
+          ] refl;
+      ends = λ more. let ends = w.ends (omega (arith, some)) in
+          omega (arith, ends, more, next-first (omega (arith, more)));
+    }
 
-      pub gives-first : (pair : K × V) → option_map pair_of (lookup (same_node n) es) ≡ Some pair
-          → pairs_from es first left ≡ pair ∷ pairs_from es q (left - 1)
-      gives-first pair here =
-          let x = node-at es n first-holds in
-          let i = place_number es first in
-          let at : slice_get es i ≡ Some (n, x.0) = ap (λ p. slice_get es (place_number es p)) is ∙ x.1.at in
-          let same : pair_of x.0 ≡ pair = cc (sym (ap (option_map pair_of) x.1.found) ∙ here) in
-          ap (λ m. pairs_in (take m (drop i es))) one-more
-          ∙ ap (λ l. pairs_in (take (suc (left - 1)) l)) (drop-at es i (n, x.0) at)
-          ∙ ap (λ f. f ∷ pairs_in (take (left - 1) (drop (suc i) es))) same
-          ∙ ap (λ m. pair ∷ pairs_in (take (left - 1) (drop m es))) (sym next-first)
+    -- the pairs after the first
+    rest-first : pairs_in (take (left - 1) (drop (suc (place_number es (Some first))) es))
+        ≡ pairs_from es (Some q) (left - 1)
+    rest-first =
+        elim (nat_lt 1 left) as (λ c. nat_lt 1 left ≡ c
+        → pairs_in (take (left - 1) (drop (suc (place_number es (Some first))) es))
+        ≡ pairs_from es (Some q) (left - 1)) [
+          | true ↦ λ e. ap (λ m. pairs_in (take (left - 1) (drop m es))) (sym (next-first (ltb-true 1 left e)))
+          | false ↦ λ e.
+              let none : left - 1 ≡ 0 = omega (arith, ltb-false 1 left e) in
+              ap (λ m. pairs_in (take m (drop (suc (place_number es (Some first))) es))) none
+              ∙ sym (ap (λ m. pairs_in (take m (drop (place_number es (Some q)) es))) none)
+        ] refl
+
+    pub gives-first : (pair : K × V) → option_map pair_of (lookup (same_node first) es) ≡ Some pair
+        → pairs_from es (Some first) left ≡ pair ∷ pairs_from es (Some q) (left - 1)
+    gives-first pair here =
+        let x = node-at es first first-holds in
+        let i = place_number es (Some first) in
+        let same : pair_of x.0 ≡ pair = cc (sym (ap (option_map pair_of) x.1.found) ∙ here) in
+        ap (λ m. pairs_in (take m (drop i es))) one-more
+        ∙ ap (λ l. pairs_in (take (suc (left - 1)) l)) (drop-at es i (first, x.0) x.1.at)
+        ∙ ap (λ f. f ∷ pairs_in (take (left - 1) (drop (suc i) es))) same
+        ∙ ap (λ l. pair ∷ l) rest-first
 
   -- ---- at the back
-  module _ (n : Node) (is : last ≡ Some n) where
-    pub last-holds : Holds es n
-    last-holds =
-        let ends = w.ends (omega (arith, some)) in
-        within-holds es n (omega (arith, w.few, ends, ap (place_number es) is))
+  last-number : place_number es (Some last) + 1 ≡ place_number es (Some first) + left
+  last-number = w.ends (omega (arith, some))
 
-    module _ (d : IsEntries same_node es) (q : Option Node)
-        (prev : q ≡ prev_place (keys_of es) (Some n)) where
-      prev-last : 1 < left → place_number es q + 1 ≡ place_number es last
-      prev-last more =
-          let ends = w.ends (omega (arith, some)) in
-          let i = place_number es last in
-          let later : i ≡ suc (i - 1) = omega (arith, ends, more) in
-          let before : place_number es q ≡ i - 1 =
-          ap (place_number es) prev ∙ (prev-number es d (Some n) last-holds).number
-          ∙ ap (λ p. preceding_place (length es) (place_number es p)) (sym is)
-          ∙ ap (preceding_place (length es)) later
-          ∙ before-suc (length es) (i - 1) (omega (arith, w.few, ends)) in
-          omega (arith, before, later)
+  pub last-holds : Holds es last
+  last-holds = within-holds es last (omega (arith, w.few, last-number))
 
-      pub stands-prev : StandsBetween es first q (left - 1)
-      stands-prev = record {
-        few = omega (arith, w.few);
-        ends = λ more. let ends = w.ends (omega (arith, some)) in
-            omega (arith, ends, more, prev-last (omega (arith, more)));
-      }
+  module _ (d : IsEntries same_node es) (q : Node)
+      (prev : IfSome (prev_place (keys_of es) (Some last)) (λ m. q ≡ m)) where
+    prev-last : 1 < left → place_number es (Some q) + 1 ≡ place_number es (Some last)
+    prev-last more =
+        let i = place_number es (Some last) in
+        let later : i ≡ suc (i - 1) = omega (arith, last-number, more) in
+        let before : place_number es (Some q) ≡ i - 1 =
+        beside-number es (prev_place (keys_of es) (Some last)) q (i - 1) prev
+        ((prev-number es d (Some last) last-holds).number
+        ∙ ap (preceding_place (length es)) later
+        ∙ before-suc (length es) (i - 1) (omega (arith, w.few, last-number)))
+        (omega (arith, w.few, last-number, later)) in
+        omega (arith, before, later)
 
-      pub gives-last : (pair : K × V) → option_map pair_of (lookup (same_node n) es) ≡ Some pair
-          → pairs_from es first left ≡ pairs_from es first (left - 1) ++ pair ∷ []
-      gives-last pair here =
-          let x = node-at es n last-holds in
-          let i = place_number es first in
-          let ends = w.ends (omega (arith, some)) in
-          let far : i + (left - 1) ≡ place_number es last = omega (arith, ends, some) in
-          let at : slice_get (drop i es) (left - 1) ≡ Some (n, x.0) =
-          slice_get-drop es i (left - 1) (place_number es last) far
-          ∙ ap (λ p. slice_get es (place_number es p)) is ∙ x.1.at in
-          let same : pair_of x.0 ≡ pair = cc (sym (ap (option_map pair_of) x.1.found) ∙ here) in
-          ap (λ m. pairs_in (take m (drop i es))) one-more
-          ∙ ap pairs_in (take-one_more (drop i es) (left - 1) (n, x.0) at)
-          ∙ pairs_in-last (take (left - 1) (drop i es)) n x.0
-          ∙ ap (λ p. pairs_from es first (left - 1) ++ p ∷ []) same
+    pub stands-prev : StandsBetween es (Some first) (Some q) (left - 1)
+    stands-prev = record {
+      few = omega (arith, w.few);
+      ends = λ more. omega (arith, last-number, more, prev-last (omega (arith, more)));
+    }
+
+  pub gives-last : (pair : K × V) → option_map pair_of (lookup (same_node last) es) ≡ Some pair
+      → pairs_from es (Some first) left ≡ pairs_from es (Some first) (left - 1) ++ pair ∷ []
+  gives-last pair here =
+      let x = node-at es last last-holds in
+      let i = place_number es (Some first) in
+      let far : i + (left - 1) ≡ place_number es (Some last) = omega (arith, last-number, some) in
+      let at : slice_get (drop i es) (left - 1) ≡ Some (last, x.0) =
+      slice_get-drop es i (left - 1) (place_number es (Some last)) far ∙ x.1.at in
+      let same : pair_of x.0 ≡ pair = cc (sym (ap (option_map pair_of) x.1.found) ∙ here) in
+      ap (λ m. pairs_in (take m (drop i es))) one-more
+      ∙ ap pairs_in (take-one_more (drop i es) (left - 1) (last, x.0) at)
+      ∙ pairs_in-last (take (left - 1) (drop i es)) last x.0
+      ∙ ap (λ p. pairs_from es (Some first) (left - 1) ++ p ∷ []) same

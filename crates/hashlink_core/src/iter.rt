@@ -18,20 +18,20 @@ use std::marker::Model;
 pub struct Iter<'a, K, V> {
     nodes: &'a Nodes<K, V>,
     // The first and the last node left. If none is left, they mean nothing.
-    first: Option<Node>,
-    last: Option<Node>,
+    first: Node,
+    last: Node,
     left: usize,
 }
 
 impl<'a, K, V> Model for Iter<'a, K, V> {
-    ghost use Rattle.std.specs.Prelude.{List};
+    ghost use Rattle.std.specs.Prelude.{List, Some};
     ghost use Rattle.hashlink_core.specs.Walk.{pairs_from, StandsBetween};
 
     ghost Value = { List (K × V) };
 
-    ghost view = { λ i. pairs_from i.nodes.now.entries i.first i.left };
+    ghost view = { λ i. pairs_from i.nodes.now.entries (Some i.first) i.left };
 
-    ghost invariant = { λ i. StandsBetween i.nodes.now.entries i.first i.last i.left };
+    ghost invariant = { λ i. StandsBetween i.nodes.now.entries (Some i.first) (Some i.last) i.left };
 }
 
 impl<'a, K, V> Iter<'a, K, V> {
@@ -44,8 +44,8 @@ impl<'a, K, V> Iter<'a, K, V> {
     {
         Iter {
             nodes,
-            first: nodes.next(None),
-            last: nodes.prev(None),
+            first: nodes.next(None).unwrap_or(Node::nowhere()),
+            last: nodes.prev(None).unwrap_or(Node::nowhere()),
             left: nodes.len(),
         }
     }
@@ -62,8 +62,8 @@ impl<'a, K, V> Iterator for Iter<'a, K, V> {
         if self.left == 0 {
             return None;
         }
-        let (nodes, node) = (self.nodes, self.first?);
-        self.first = nodes.next(Some(node));
+        let (nodes, node) = (self.nodes, self.first);
+        self.first = nodes.after(node);
         self.left -= 1;
         Some(nodes.entry(node))
     }
@@ -84,8 +84,8 @@ impl<'a, K, V> DoubleEndedIterator for Iter<'a, K, V> {
         if self.left == 0 {
             return None;
         }
-        let (nodes, node) = (self.nodes, self.last?);
-        self.last = nodes.prev(Some(node));
+        let (nodes, node) = (self.nodes, self.last);
+        self.last = nodes.before(node);
         self.left -= 1;
         Some(nodes.entry(node))
     }

@@ -3,20 +3,20 @@ use Rattle.std.proofs.Common.{◌≡◌, ℕ, Bool, true, false, List, [], ◌�
 use Rattle.std.proofs.Common.{ap, ◌∙◌, subst}
 use Rattle.std.proofs.Common.{◌⊎◌, inl, inr}
 use Rattle.std.specs.Bool.{then_some}
-use Rattle.std.specs.Prelude.{is_some, unwrap_or, slice_get}
+use Rattle.std.specs.Prelude.{is_some, unwrap_or, slice_get, IfSome}
 use Rattle.std.specs.List.{AllByRecursion}
 use Rattle.std.specs.Map.{keys_of}
 use Rattle.std.proofs.lemmas.List.{append_assoc, append-nil}
 use Rattle.hashlink_nodes.specs.declared.node.Node.{Node}
 use Rattle.hashlink_nodes.specs.State.{State}
-use Rattle.hashlink_nodes.specs.Shape.{IsPath, IsWayBack, ring_of, walk, entries_of}
+use Rattle.hashlink_nodes.specs.Shape.{IsPath, IsSound, IsWayBack, ring_of, walk, entries_of}
 use Rattle.hashlink_nodes.specs.Ring.{Ring, IsPlace, Holds, next_place, prev_place, node_after, node_before}
 use Rattle.hashlink_nodes.specs.Ring.{last_node}
 use Rattle.hashlink_nodes.proofs.Paths.{head_or, last_or, all_left, all_right, all_middle, path_at}
 use Rattle.hashlink_nodes.proofs.Paths.{path_first}
 use Rattle.hashlink_nodes.proofs.Paths.{back_at, back_last}
 use Rattle.hashlink_nodes.proofs.Entries.{CutAt, cut_at, keys-entries, after_cut, before_cut, last_is}
-use Rattle.hashlink_nodes.proofs.Sound.{of_last, of_head, entries_in, Opened}
+use Rattle.hashlink_nodes.proofs.Sound.{of_last, of_head, entries_in, if_some, no_entry, opened, Opened}
 
 module _ {K V : Type 0} where
   -- r is the guard and there is no node, or it is the node
@@ -131,6 +131,39 @@ module _ {K V : Type 0} where
   tells s r answer (inl t) false is = sym t.1
   tells s r answer (inr t) true is = sym t.1
   tells s r answer (inr t) false is = absurd (cc (sym is ∙ t.0))
+
+  -- ---- beside a node of the ring
+  -- n is a node, and r is the one beside it, if there is one
+  pub record Beside (s : State K V) (n r : Node) (answer : Option Node) : Type 0 where
+    pub has_node : s.has n ≡ true
+    pub is : IfSome answer (λ m. r ≡ m)
+
+  beside : (s : State K V) (n r : Node) (answer : Option Node) → NextTo s n r answer → Beside s n r answer
+  beside s n r answer x = record { has_node = x.has_place; is = told x.tells }
+    where
+      told : Tells s r answer → IfSome answer (λ m. r ≡ m)
+      told (inl t) = subst (λ o. IfSome o (λ m. r ≡ m)) (sym t.1) tt
+      told (inr t) = if_some (λ m. r ≡ m) t.1 refl
+
+  module _ (s : State K V) (first : Node) (len spare : ℕ) (v : Ring K V) (n : Node)
+      (there : Holds v.entries n) where
+    pub after_node : (guard : Option Node) → IsSound s guard first len spare
+        → ring_of s guard first len spare ≡ v → Beside s n (s.next n) (next_place (keys_of v.entries) (Some n))
+    after_node None sound view =
+        absurd (no_entry s first n len spare (subst (λ (r : Ring K V). Holds r.entries n) (sym view) there))
+    after_node (Some g) sound view =
+        let o = opened s (Some g) g first len spare sound refl v view in
+        beside s n (s.next n) (next_place (keys_of v.entries) (Some n))
+        (next_to_place s (Some g) g first len spare v o (Some n) there)
+
+    pub before_node : (guard : Option Node) → IsSound s guard first len spare
+        → ring_of s guard first len spare ≡ v → Beside s n (s.prev n) (prev_place (keys_of v.entries) (Some n))
+    before_node None sound view =
+        absurd (no_entry s first n len spare (subst (λ (r : Ring K V). Holds r.entries n) (sym view) there))
+    before_node (Some g) sound view =
+        let o = opened s (Some g) g first len spare sound refl v view in
+        beside s n (s.prev n) (prev_place (keys_of v.entries) (Some n))
+        (prev_to_place s (Some g) g first len spare v o (Some n) there)
 
   pub no_next : (s : State K V) (guard : Option Node) (first : Node) (len spare : ℕ) (v : Ring K V)
       → ring_of s guard first len spare ≡ v → guard ≡ None → (place : Option Node)

@@ -1,5 +1,5 @@
 //! Reads of a ring.
-ghost use Rattle.std.specs.Prelude.{◌≡◌, ◌+◌, ◌++◌, ◌^◌, ◌<◌, length, Some};
+ghost use Rattle.std.specs.Prelude.{◌≡◌, ◌+◌, ◌++◌, ◌^◌, ◌<◌, length, Some, IfSome};
 ghost use Rattle.std.specs.Option.{option_map};
 ghost use Rattle.std.specs.List.{IsDistinct};
 ghost use Rattle.std.specs.Map.{keys_of, lookup};
@@ -52,6 +52,27 @@ impl<K, V> Nodes<K, V> {
         let guard = self.guard?;
         let prev = self.cells.prev(place.unwrap_or(guard));
         self.cells.is_full(prev).then_some(prev)
+    }
+
+    /// Returns the node after this one. After the last it returns the guard's, of which nothing is said: it
+    /// is not told from an entry's, so the node that is returned need not be read.
+    #[inline]
+    pub fn after(&self, node: Node) -> Node
+        requires { Holds self.now.entries node }
+        ensures next { IfSome (next_place (keys_of self.now.entries) (Some node)) (λ next. result ≡ next) }
+        ensures apart { IsDistinct same_node (keys_of self.now.entries ++ self.now.free) }
+    {
+        self.cells.next(node)
+    }
+
+    /// Returns the node before this one. Before the first it returns the guard's, of which nothing is said.
+    #[inline]
+    pub fn before(&self, node: Node) -> Node
+        requires { Holds self.now.entries node }
+        ensures prev { IfSome (prev_place (keys_of self.now.entries) (Some node)) (λ prev. result ≡ prev) }
+        ensures apart { IsDistinct same_node (keys_of self.now.entries ++ self.now.free) }
+    {
+        self.cells.prev(node)
     }
 
     /// Returns the node's key and value.
