@@ -1,5 +1,5 @@
 //! Calls of caches in turn, which end if memory runs out.
-ghost use Rattle.std.specs.Prelude.{◌≡◌, ◌≤◌, [], ◌∷◌, map, IfOk, OnOk};
+ghost use Rattle.std.specs.Prelude.{◌≡◌, ◌≤◌, [], ◌∷◌, map, IfOk, OnOk, OnErr};
 ghost use Rattle.hashlink_core.specs.Hashing.{default_builder};
 ghost use Rattle.hashlink_lru.specs.Cached.{entries_in, state_in};
 ghost use Rattle.hashlink_model.specs.Cache.{CacheUses};
@@ -138,8 +138,7 @@ where
 }
 
 /// Runs the command on the cache and returns what the method returns that it names. If an insert fails to
-/// allocate, it returns `AllocError`. Then no entry has changed, though the contract says nothing of the
-/// cache after an `Err`. It costs what that method costs.
+/// allocate, it returns `AllocError`, and no entry has changed. It costs what that method costs.
 pub fn answer_call<K, V>(
     cache: &mut LruCache<K, V>,
     command: PairCommand<K, V>,
@@ -147,8 +146,10 @@ pub fn answer_call<K, V>(
 where
     K: Eq + Hash + Copy,
     V: Copy,
-    ensures { IfOk result (λ answer. EventStep K.eq (state_in cache.old) (event_of command) (answer ∷ [])
-        (state_in cache.new)) }
+    ensures answered { IfOk result (λ answer. EventStep K.eq (state_in cache.old) (event_of command)
+        (answer ∷ []) (state_in cache.new)) }
+    ensures unchanged { OnErr result (entries_in cache.new ≡ entries_in cache.old) }
+    ensures capacity { (state_in cache.new).cap ≡ (state_in cache.old).cap }
 {
     match command {
         PairCommand::Insert(key, value) => cache.insert(key, value).map_err(|_| AllocError),

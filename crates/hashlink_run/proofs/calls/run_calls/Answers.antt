@@ -14,7 +14,7 @@ loop-command-preserved g c =
     c.command-item.is in
     rw c.in_ok-push.ensures.items
     (HasAnswered-more (EventStep g.K.PartialEq.eq) _ _ _ _ (rw rest at c.loop-command.invariant)
-    c.in_ok-answer_call.ensures)
+    c.in_ok-answer_call.ensures.answered)
 
 pub returns : goal.returns
 returns g c =

@@ -15,7 +15,7 @@ loop-key-preserved g c =
     c.loop-key-item.is in
     rw c.in_ok-push.ensures.items
     (HasAnswered-more (EventStep g.K.PartialEq.eq) _ _ _ _ (rw rest at c.loop-key.invariant)
-    c.in_ok-answer_call.ensures)
+    c.in_ok-answer_call.ensures.answered)
 
 pub returns-clause-ran : goal.returns-clause-ran
 returns-clause-ran g c =
