@@ -1,7 +1,7 @@
 -- What a set is that was made of clones of distinct elements.
 use Rattle.std.proofs.Common.{◌≡◌, Bool, true, cond, List, [], ◌∷◌, ◌++◌, Option, None, Some, map, refl, ap}
-use Rattle.std.proofs.Common.{ap₂}
-use Rattle.std.proofs.Common.{subst, sym, ◌∙◌, append-nil}
+use Rattle.std.proofs.Common.{Result, Ok, Err, ap₂, subst, sym, ◌∙◌, append-nil}
+use Rattle.std.specs.Prelude.{IfOk, OnErr, MatchResult}
 use Rattle.std.specs.Borrow.{Bor}
 use Rattle.std.specs.Cmp.{IsEquivalence}
 use Rattle.std.specs.Iterator.{Yields, Drains}
@@ -81,6 +81,19 @@ module _ {T S : Type 0} (eq : T → T → Bool) where
     is_of_items items clones is cloned made = is_of_clones clones
         (subst (λ xs. AllZip C xs clones) is cloned) made
 
+-- what holds anyhow holds where there is an error
+pub on_err : {A E : Type 0} (r : Result A E) (P : Type 0) → P → OnErr r P
+on_err (Ok x) P p = tt
+on_err (Err e) P p = p
+
+-- where calls gave an item at the end, the first of them gave one
+pub first_gave : {St X : Type 0} (steps : St → Option X → St → Type 0) (s t u : St) (xs : List X) (x : X)
+    → Yields steps s xs t
+    → steps t (Some x) u
+    → (y : X) × (j : St) × steps s (Some y) j
+first_gave steps s t u [] x y step = (x, u, subst (λ k. steps k (Some x) u) (sym y) step)
+first_gave steps s t u (z ∷ xs) x y step = (z, y.0, y.1)
+
 -- a walk whose steps take the first of what it has left to give gives all of it
 module _ {St T : Type 0} (steps : St → Option (Bor T) → St → Type 0) (rest : St → List T)
     (takes : (s : St) (r : Option (Bor T)) (t : St) → steps s r t → TakesFirst deref
@@ -95,3 +108,21 @@ module _ {St T : Type 0} (steps : St → Option (Bor T) → St → Type 0) (rest
       sym
       (given_front s xs y.0 y.1 ∙ ap (λ l. map deref xs ++ l) (takes y.0 None d.0 y.2).0
       ∙ append-nil (map deref xs))
+
+  -- so a set of clones of what it gives is made, by the answer, and may fail only if it has some left
+  pub clones_by_answer : {S E : Type 0} (eq : T → T → Bool) → IsEquivalence eq → (C : T → T → Type 0)
+      → (H : S → Type 0)
+      → (ts : List T) → IsDistinct eq ts
+      → (b : S) → H b
+      → (s : St) → rest s ≡ ts
+      → (r : Result (SetState T S) E)
+      → IfOk r (λ new. (items : List (Bor T)) × (clones : List T) × Drains steps s items
+      × AllZip C (map deref items) clones × MadeFrom (SetInserts eq) clones b new)
+      → OnErr r ((x : Bor T) × (t : St) × steps s (Some x) t)
+      → MatchResult r (IsOfClones eq C H ts) (λ _. ts ≡ [] → ⊥)
+  clones_by_answer eq laws C H ts distinct b hasher s is (Ok new) made refused =
+      is_of_items eq laws C H ts distinct b hasher new made.0 made.1 (given_all s made.0 made.2 ∙ is)
+      made.3 made.4
+  clones_by_answer eq laws C H ts distinct b hasher s is (Err e) made refused = λ none.
+      let given = takes s (Some refused.0) refused.1 refused.2 in
+      let left = sym given ∙ is ∙ none in absurd (cc)

@@ -1,5 +1,5 @@
 -- What a set is that was made of clones.
-use Rattle.std.specs.Prelude.{◌≡◌, Bool, true, List, Result, IfOk}
+use Rattle.std.specs.Prelude.{◌≡◌, Bool, true, List, [], Result, MatchResult}
 use Rattle.std.specs.Borrow.{Bor}
 use Rattle.std.specs.List.{AllZip}
 use Rattle.hashlink_model.specs.Compare.{elements_eq}
@@ -18,9 +18,11 @@ pub record IsOfClones {T S : Type 0} (eq : T → T → Bool) (clones-element : T
   pub equal : ((x y : T) → clones-element x y → eq x y ≡ true) → elements_eq eq ts (elements_of new) ≡ true
   pub same : ((x y : T) → clones-element x y → y ≡ x) → elements_of new ≡ ts
 
--- an operator over two sets returns a set of clones of what `both` lists of their elements, or an error
+-- an operator over two sets returns a set of clones of what `both` lists of their elements, or an error, but
+-- none where it lists nothing
 abbrev pub GivesClonesOf : {T S E : Type 0} → (List T → List T → List T) → (T → T → Bool)
     → (T → T → Type 0) → (S → Type 0)
     → Bor (SetState T S) → Bor (SetState T S) → Result (SetState T S) E → Type 0
 GivesClonesOf both eq clones-element H a b r =
-    IfOk r (IsOfClones eq clones-element H (both (elements_of a.now) (elements_of b.now)))
+    let ts = both (elements_of a.now) (elements_of b.now) in
+    MatchResult r (IsOfClones eq clones-element H ts) (λ _. ts ≡ [] → ⊥)

@@ -1,6 +1,6 @@
 //! Sets that are built whole: from the items of an iterator, as a clone, and from clones of the elements that
 //! two sets yield together.
-ghost use Rattle.std.specs.Prelude.{◌≡◌, List, [], Bool, Ok, IfOk, OnOk, OnErr, map};
+ghost use Rattle.std.specs.Prelude.{◌≡◌, List, [], Bool, Some, Ok, IfOk, OnOk, OnErr, map};
 ghost use Rattle.std.specs.Borrow.{Bor};
 ghost use Rattle.std.specs.Iterator.{Drains, IsFinite, IsFiniteIterable};
 ghost use Rattle.std.specs.List.{AllZip};
@@ -9,8 +9,8 @@ ghost use Rattle.hashlink_model.specs.Algebra.{union_of, intersection_of, differ
 ghost use Rattle.hashlink_model.specs.Algebra.{symmetric_difference_of};
 ghost use Rattle.hashlink_model.specs.Many.{MadeFrom};
 ghost use Rattle.hashlink_model.specs.Sets.{elements_of, SetInserts};
-ghost use Rattle.hashlink_map.specs.Cloning.{IsMadeOf};
-ghost use Rattle.hashlink_map.specs.Reading.{ReadsAll};
+ghost use Rattle.hashlink_map.specs.Cloning.{IsMadeOf, StopsMaking};
+ghost use Rattle.hashlink_map.specs.Reading.{ReadsAll, ReadsSome};
 ghost use Rattle.hashlink_set.specs.Cloned.{GivesClonesOf, IsOfClones};
 
 use crate::set::LinkedHashSet;
@@ -27,9 +27,11 @@ impl<T: Eq + Hash + Drop, S: BuildHasher + Default + Drop> LinkedHashSet<T, S> {
     /// is left of the set.
     pub fn from_iter<I: IntoIterator<Item = T>>(alloc: Global, iter: I) -> Result<Self, AllocError>
         requires { IsFiniteIterable I.into_iter_gives I.IntoIter.can_next I.IntoIter.remaining iter }
-        ensures { IfOk result (λ set. (s : S) × S.is_default s
+        ensures made { IfOk result (λ set. (s : S) × S.is_default s
             × ReadsAll I.into_iter_gives I.IntoIter.next_gives iter
             (λ items. MadeFrom (SetInserts T.eq) items s set)) }
+        ensures stopped { OnErr result ((s : S) × S.is_default s
+            × ReadsSome I.into_iter_gives I.IntoIter.next_gives iter (StopsMaking (SetInserts T.eq) s)) }
     {
         let mut set = LinkedHashSet::with_hasher(alloc, S::default());
         set.extend(iter)?;
@@ -80,7 +82,7 @@ impl<T: Eq + Hash + Clone, S: BuildHasher + Clone> Clone for LinkedHashSet<T, S>
 }
 
 /// Builds a set that hashes with `hash_builder`, from a clone of each element that `rest` yields, inserted in
-/// turn.
+/// turn. It fails only if `rest` yields an element.
 fn of_clones<'a, T: Eq + Hash + Clone + 'a, S: BuildHasher + Drop, I: Iterator<Item = &'a T>>(
     alloc: Global,
     hash_builder: S,
@@ -88,8 +90,11 @@ fn of_clones<'a, T: Eq + Hash + Clone + 'a, S: BuildHasher + Drop, I: Iterator<I
 ) -> Result<LinkedHashSet<T, S>, AllocError>
     requires may { I.can_next rest }
     requires ends { IsFinite (I.remaining rest) }
-    ensures { IfOk result (λ set. (items : List (Bor T)) × (clones : List T) × Drains I.next_gives rest items
-        × AllZip T.is_clone (map deref items) clones × MadeFrom (SetInserts T.eq) clones hash_builder set) }
+    ensures made { IfOk result (λ set. (items : List (Bor T)) × (clones : List T)
+        × Drains I.next_gives rest items × AllZip T.is_clone (map deref items) clones
+        × MadeFrom (SetInserts T.eq) clones hash_builder set) }
+    ensures refused { OnErr result ((element : Bor T) × (after : I)
+        × I.next_gives rest (Some element) after) }
 {
     let mut set = LinkedHashSet::with_hasher(alloc, hash_builder);
     while let Some(element) = rest.next() {
@@ -115,7 +120,7 @@ impl<T: Eq + Hash + Clone, S: BuildHasher> LinkedHashSet<T, S> {
 /// iterator, and a clone and an insert for each element.
 ///
 /// If an allocation for a clone or for a node fails, it returns `AllocError`, and nothing is left of the new
-/// set.
+/// set. It does not fail if the new set has no elements.
 impl<'a, 'b, T: Eq + Hash + Clone, S: BuildHasher + Default + Drop> BitOr<&'b LinkedHashSet<T, S>>
     for &'a LinkedHashSet<T, S> {
     type Output = Result<LinkedHashSet<T, S>, AllocError>;
@@ -131,7 +136,7 @@ impl<'a, 'b, T: Eq + Hash + Clone, S: BuildHasher + Default + Drop> BitOr<&'b Li
 /// that iterator, and a clone and an insert for each element.
 ///
 /// If an allocation for a clone or for a node fails, it returns `AllocError`, and nothing is left of the new
-/// set.
+/// set. It does not fail if the new set has no elements.
 impl<'a, 'b, T: Eq + Hash + Clone, S: BuildHasher + Default + Drop> BitAnd<&'b LinkedHashSet<T, S>>
     for &'a LinkedHashSet<T, S> {
     type Output = Result<LinkedHashSet<T, S>, AllocError>;
@@ -147,7 +152,7 @@ impl<'a, 'b, T: Eq + Hash + Clone, S: BuildHasher + Default + Drop> BitAnd<&'b L
 /// It costs that iterator, and a clone and an insert for each element.
 ///
 /// If an allocation for a clone or for a node fails, it returns `AllocError`, and nothing is left of the new
-/// set.
+/// set. It does not fail if the new set has no elements.
 impl<'a, 'b, T: Eq + Hash + Clone, S: BuildHasher + Default + Drop> BitXor<&'b LinkedHashSet<T, S>>
     for &'a LinkedHashSet<T, S> {
     type Output = Result<LinkedHashSet<T, S>, AllocError>;
@@ -163,7 +168,7 @@ impl<'a, 'b, T: Eq + Hash + Clone, S: BuildHasher + Default + Drop> BitXor<&'b L
 /// that iterator, and a clone and an insert for each element.
 ///
 /// If an allocation for a clone or for a node fails, it returns `AllocError`, and nothing is left of the new
-/// set.
+/// set. It does not fail if the new set has no elements.
 impl<'a, 'b, T: Eq + Hash + Clone, S: BuildHasher + Default + Drop> Sub<&'b LinkedHashSet<T, S>>
     for &'a LinkedHashSet<T, S> {
     type Output = Result<LinkedHashSet<T, S>, AllocError>;

@@ -5,7 +5,7 @@ use Rattle.std.specs.Map.Iter.{deref}
 use Rattle.hashlink_model.specs.Many.{AcceptsAll}
 use Rattle.hashlink_model.specs.Sets.{SetInserts}
 use Rattle.hashlink_map.proofs.InTurn.{accepts_another, mapped_another}
-use Rattle.hashlink_set.proofs.OfClones.{zip_another}
+use Rattle.hashlink_set.proofs.OfClones.{first_gave, on_err, zip_another}
 use Rattle.hashlink_set.proofs.made.of_clones.Goals as goal
 
 pub loop-element-init : goal.loop-element-init
@@ -25,8 +25,15 @@ loop-element-preserved g c =
           c.insert_clone.new.self h.0 new.0 new.1 h.2 new.3,
     )
 
-pub returns : goal.returns
-returns g c =
+pub returns-in_err-insert_clone-clause-refused : goal.returns-in_err-insert_clone-clause-refused
+returns-in_err-insert_clone-clause-refused g c =
+    let inv = c.loop-element.invariant in
+    on_err c.from_residual.result _
+    (first_gave g.I.Iterator.next_gives c.args.rest c.loop-element.rest c.next.new.self inv.seen
+    c.in-Some.element inv.gave c.in-Some.ensures.steps)
+
+pub returns-clause-made : goal.returns-clause-made
+returns-clause-made g c =
     let inv = c.loop-element.invariant in
     let h = inv.holds in (
       inv.seen,

@@ -7,5 +7,6 @@ pub returns : goal.returns
 returns g c = record {
   ran = made_by_answer g.I.IntoIter.Iterator.next_gives g.I.IntoIterator.into_iter_gives
       g.S.Default.is_default
-      (MadeFrom (SetInserts g.T.PartialEq.eq)) c.args.iter c.from_iter.result c.from_iter.ensures;
+      (MadeFrom (SetInserts g.T.PartialEq.eq)) c.args.iter c.from_iter.result
+      c.from_iter.ensures.made;
 }
