@@ -135,7 +135,8 @@ module _ {K V : Type 0} (es : List (Node × Held K V)) (first last : Node) (left
     pub stands-next : StandsBetween es (Some q) (Some last) (left - 1)
     stands-next = record {
       few =
-          elim (nat_lt 1 left) as (λ c. nat_lt 1 left ≡ c → place_number es (Some q) + (left - 1) ≤ length es) [
+          elim (nat_lt 1 left) as
+          (λ c. nat_lt 1 left ≡ c → place_number es (Some q) + (left - 1) ≤ length es) [
             | true ↦ λ e. omega (arith, w.few, next-first (ltb-true 1 left e))
             | false ↦ λ e. omega (arith, ltb-false 1 left e, most es q)
           ] refl;
@@ -150,7 +151,8 @@ module _ {K V : Type 0} (es : List (Node × Held K V)) (first last : Node) (left
         elim (nat_lt 1 left) as (λ c. nat_lt 1 left ≡ c
         → pairs_in (take (left - 1) (drop (suc (place_number es (Some first))) es))
         ≡ pairs_from es (Some q) (left - 1)) [
-          | true ↦ λ e. ap (λ m. pairs_in (take (left - 1) (drop m es))) (sym (next-first (ltb-true 1 left e)))
+          | true ↦ λ e.
+              ap (λ m. pairs_in (take (left - 1) (drop m es))) (sym (next-first (ltb-true 1 left e)))
           | false ↦ λ e.
               let none : left - 1 ≡ 0 = omega (arith, ltb-false 1 left e) in
               ap (λ m. pairs_in (take m (drop (suc (place_number es (Some first))) es))) none

@@ -148,7 +148,8 @@ module _ {K V : Type 0} where
   module _ (s : State K V) (first : Node) (len spare : ℕ) (v : Ring K V) (n : Node)
       (there : Holds v.entries n) where
     pub after_node : (guard : Option Node) → IsSound s guard first len spare
-        → ring_of s guard first len spare ≡ v → Beside s n (s.next n) (next_place (keys_of v.entries) (Some n))
+        → ring_of s guard first len spare ≡ v
+        → Beside s n (s.next n) (next_place (keys_of v.entries) (Some n))
     after_node None sound view =
         absurd (no_entry s first n len spare (subst (λ (r : Ring K V). Holds r.entries n) (sym view) there))
     after_node (Some g) sound view =
@@ -157,7 +158,8 @@ module _ {K V : Type 0} where
         (next_to_place s (Some g) g first len spare v o (Some n) there)
 
     pub before_node : (guard : Option Node) → IsSound s guard first len spare
-        → ring_of s guard first len spare ≡ v → Beside s n (s.prev n) (prev_place (keys_of v.entries) (Some n))
+        → ring_of s guard first len spare ≡ v
+        → Beside s n (s.prev n) (prev_place (keys_of v.entries) (Some n))
     before_node None sound view =
         absurd (no_entry s first n len spare (subst (λ (r : Ring K V). Holds r.entries n) (sym view) there))
     before_node (Some g) sound view =
