@@ -21,10 +21,10 @@ returns-clause-shown c =
     let line = rw c.in-Some.is at c.pair_command.ensures in
     let small =
     left nat_eq (state_in c.args.small.now) (event_of command) (c.in_ok-small_answer.small_answer ∷ []) _
-    c.in_ok-small_answer.ensures in
+    c.in_ok-small_answer.ensures.answered in
     let large =
     left nat_eq (state_in c.args.large.now) (event_of command) (c.in_ok-large_answer.large_answer ∷ []) _
-    c.in_ok-large_answer.ensures in
+    c.in_ok-large_answer.ensures.answered in
     let held : Held = (entries_in c.args.small.now, entries_in c.args.large.now) in
     let first : c.in_ok-small_answer.small_answer ≡ answer_to nat_eq held.0 (event_of command) =
     cc (small.answer) in
