@@ -88,32 +88,48 @@ module _ {K V : Type 0} {eq : K → K → Bool} (laws : IsEquivalence eq) {hash 
       let listed = step.tied.listed number n there in
       ap (option_map (λ h. h.number)) listed.here ∙ ap Some listed.is
 
-  -- what a search of the table answers, by calls that tell the keys that pass from the others
-  pub found-by_table : (passes : K → Bool) → IsKeyTest eq passes → (asked i : ℕ) → i ≡ short asked
-      → ((x : K) → passes x ≡ true → hash x ≡ asked)
-      → (Answers : K → Bool → Type 0) → ((x : K) (b : Bool) → Answers x b → b ≡ passes x)
-      → (o : Option Node)
-      → IfSome o (λ n. Keeps t i n
-      × IfSome (lookup (same_node n) r.entries) (λ h. Answers h.key true))
-      → IfNone o ((n : Node) → Keeps t i n
-      → IfSome (lookup (same_node n) r.entries) (λ h. Answers h.key false))
-      → MatchOption o (place_of passes (pairs_in r.entries) ≡ None) (HoldsMatch passes (nodes_of r.entries))
-  found-by_table passes alike asked i is_short hashed Answers tells None some none =
-      place_of-none passes (pairs_in r.entries)
-      (untied-absent hash passes r.entries t asked i is_short step.apart step.numbered step.tied hashed
-      (λ n there h here.
-      sym (tells h.key false (subst (λ o. IfSome o (λ g. Answers g.key false)) here (none n there)))))
-  found-by_table passes alike asked i is_short hashed Answers tells (Some n) some none =
-      let x = node-at r.entries n (listed-holds i n some.0) in
-      let k = x.0.key in
-      let met : passes k ≡ true =
-      sym (tells k true (subst (λ o. IfSome o (λ g. Answers g.key true)) x.1.found some.1)) in
-      let is : passes ≡ eq k = fun_ext (λ y. alike k y met) in
-      record {
-        within = ap is_some (lookup-mapped pair_of (same_node n) r.entries ∙ ap
-            (option_map pair_of) x.1.found);
-        place = ap (λ test. place_of test (pairs_in r.entries)) is
-            ∙ place_of_its_key eq laws (pairs_in r.entries) (place_number r.entries (Some n)) (pair_of x.0) k
-            step.distinct (pair-at r.entries (place_number r.entries (Some n)) n x.0 x.1.at) (laws.refl k)
-            ∙ ap Some (sym (place_number-mapped pair_of r.entries (Some n)));
-      }
+  -- ---- by calls that tell the keys that pass, which have the hash, from the others
+  module _ (passes : K → Bool) (asked i : ℕ) (is_short : i ≡ short asked)
+      (hashed : (x : K) → passes x ≡ true → hash x ≡ asked)
+      (Answers : K → Bool → Type 0) (tells : (x : K) (b : Bool) → Answers x b → b ≡ passes x) where
+    answered : (n : Node) (h : Held K V) (b : Bool) → lookup (same_node n) r.entries ≡ Some h
+        → IfSome (lookup (same_node n) r.entries) (λ g. Answers g.key b)
+        → passes h.key ≡ b
+    answered n h b here answer =
+        sym (tells h.key b (subst (λ o. IfSome o (λ g. Answers g.key b)) here answer))
+
+    -- a node whose key is told to pass is kept under the short hash
+    pub told-hash : (number : ℕ) (n : Node) → Keeps t number n
+        → IfSome (lookup (same_node n) r.entries) (λ h. Answers h.key true)
+        → number ≡ i
+    told-hash number n there answer =
+        let listed = step.tied.listed number n there in
+        let h = listed.held in
+        sym listed.is ∙ step.numbered n h listed.here
+        ∙ ap short (hashed h.key (answered n h true listed.here answer)) ∙ sym is_short
+
+    -- what a search of the table answers
+    pub found-by_table : IsKeyTest eq passes → (o : Option Node)
+        → IfSome o (λ n. Keeps t i n
+        × IfSome (lookup (same_node n) r.entries) (λ h. Answers h.key true))
+        → IfNone o ((n : Node) → Keeps t i n
+        → IfSome (lookup (same_node n) r.entries) (λ h. Answers h.key false))
+        → MatchOption o (place_of passes (pairs_in r.entries) ≡ None)
+        (HoldsMatch passes (nodes_of r.entries))
+    found-by_table alike None some none =
+        place_of-none passes (pairs_in r.entries)
+        (untied-absent hash passes r.entries t asked i is_short step.apart step.numbered step.tied hashed
+        (λ n there h here. answered n h false here (none n there)))
+    found-by_table alike (Some n) some none =
+        let x = node-at r.entries n (listed-holds i n some.0) in
+        let k = x.0.key in
+        let met : passes k ≡ true = answered n x.0 true x.1.found some.1 in
+        let is : passes ≡ eq k = fun_ext (λ y. alike k y met) in
+        record {
+          within = ap is_some (lookup-mapped pair_of (same_node n) r.entries ∙ ap
+              (option_map pair_of) x.1.found);
+          place = ap (λ test. place_of test (pairs_in r.entries)) is
+              ∙ place_of_its_key eq laws (pairs_in r.entries) (place_number r.entries (Some n)) (pair_of x.0)
+              k step.distinct (pair-at r.entries (place_number r.entries (Some n)) n x.0 x.1.at) (laws.refl k)
+              ∙ ap Some (sym (place_number-mapped pair_of r.entries (Some n)));
+        }

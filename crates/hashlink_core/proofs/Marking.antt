@@ -109,17 +109,17 @@ module _ {K V : Type 0} {eq : K → K → Bool} {hash : K → ℕ} {r : Ring K V
         restored-step = subst (λ r. IsInStep eq hash r t) (sym restored-ring) step
 
       -- ---- by the table
-      pub asked-holds : (m : Node) → Keeps t number m → Holds fs m
-      asked-holds m there = marked-holds m (ap is_some (step.tied.listed number m there).here)
+      pub asked-holds : (i : ℕ) (m : Node) → Keeps t i m → Holds fs m
+      asked-holds i m there = marked-holds m (ap is_some (step.tied.listed i m there).here)
 
       -- whether a node is found to have that number
       abbrev IsMarked : Node → Bool → Type 0
       IsMarked m b = option_map (λ h. eqb h.number mark) (lookup (same_node m) fs) ≡ Some b
 
       module _ (long : 2 ^ 32 ≤ mark) where
-        only : (m : Node) → Keeps t number m → IsMarked m true → n ≡ m
-        only m there answer =
-            let old = step.tied.listed number m there in
+        only : (i : ℕ) (m : Node) → Keeps t i m → IsMarked m true → n ≡ m
+        only i m there answer =
+            let old = step.tied.listed i m there in
             elim (same_node n m) as (λ b. same_node n m ≡ b → n ≡ m) [
               | true ↦ λ e. eq-same_node n m e
               | false ↦ λ e.
@@ -134,6 +134,15 @@ module _ {K V : Type 0} {eq : K → K → Bool} {hash : K → ℕ} {r : Ring K V
                     number-short m old.held old.here,
                   ))
             ] refl
+
+        -- a node that is told to be marked is n, which is kept under its old number
+        pub asked-told : (i : ℕ) (m : Node) → Keeps t i m → IsMarked m true → i ≡ number
+        asked-told i m there answer =
+            let listed = step.tied.listed i m there in
+            let at : lookup (same_node m) r.entries ≡ Some own
+            = ap (λ k. lookup (same_node k) r.entries) (sym (only i m there answer)) ∙ found in
+            let same : listed.held ≡ own = cc (sym listed.here ∙ at) in
+            sym listed.is ∙ ap (λ (h : Held K V). h.number) same ∙ own-number
 
         -- a node has the mark where it is n
         pub marked-same : (m : Node) → Holds r.entries m → (i : ℕ)
@@ -175,4 +184,5 @@ module _ {K V : Type 0} {eq : K → K → Bool} {hash : K → ℕ} {r : Ring K V
             let there : Keeps t number m
             = Contains-permutation (kept number m ∷ u.nodes) t.nodes (kept number m)
             (IsPermutation-sym _ _ some.0) (0, omega arith, refl) in
-            subst (λ m. IsPermutation t.nodes (kept number m ∷ u.nodes)) (sym (only m there some.1)) some.0
+            subst (λ m. IsPermutation t.nodes (kept number m ∷ u.nodes)) (sym (only number m there some.1))
+            some.0

@@ -1,10 +1,13 @@
 pub mod Cells
 pub mod Chaining
+pub mod Groups
 pub mod Linking
+pub mod Masks
 pub mod Moving
 pub mod Nodes
 pub mod Paths
 pub mod Sound
+pub mod Storing
 pub mod Threads
 pub mod Views
 pub mod Walks

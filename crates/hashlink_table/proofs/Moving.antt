@@ -1,56 +1,126 @@
--- The buckets' own cells: a node comes into one, leaves it, and is followed there by the next of its chain.
-use Rattle.std.proofs.Common.{◌≡◌, ◌≢◌, ℕ, zero, suc, ◌%◌, ◌<◌, inl, inr, List, ◌∷◌, ◌++◌, length}
-use Rattle.std.proofs.Common.{get_or, is_some, set, Option, Some, sym, ap, ◌∙◌, subst, arith}
+-- The buckets' own cells: a node comes into one, leaves it, and is followed there by the first of a chain.
+use Rattle.std.proofs.Common.{◌≡◌, ◌≢◌, ℕ, ◌+◌, ◌-◌, ◌%◌, ◌<◌, ◌≤◌, inl, inr, List, ◌∷◌, ◌++◌, length}
+use Rattle.std.proofs.Common.{get_or, is_some, set, IsSome, None, Some, refl, sym, ap, ◌∙◌, subst, arith}
 use Rattle.std.specs.Prelude.{IsPermutation}
-use Rattle.std.proofs.lemmas.Bool.{cases_eq}
-use Rattle.std.proofs.lemmas.List.{get_or-set_same, get_or-set_other, length-set}
-use Rattle.std.proofs.Math.Nat.{mod-eq_of_lt}
+use Rattle.std.proofs.lemmas.Bool.{cases_eq, cases_lt}
+use Rattle.std.proofs.lemmas.List.{get_or_past, length-map, length-set}
 use Rattle.std.proofs.lemmas.List.Sorted.{IsPermutation-trans, IsPermutation-middle}
 use Rattle.std.proofs.lemmas.List.Sorted.{IsPermutation-append_left}
 use Rattle.std.proofs.lemmas.List.Sorted.{IsPermutation-append_right}
+use Rattle.std.proofs.Math.Seq.{map-set_same}
 use Rattle.hashlink_table.specs.declared.kept.Kept.{Kept}
 use Rattle.hashlink_table.specs.declared.cell.Cell.{Cell}
 use Rattle.hashlink_table.specs.declared.cell.TheConstants.{END}
 use Rattle.hashlink_table.specs.Chains.{no_cell, kept_at, next_at, chain_at, links_of, nodes_in, with_node}
-use Rattle.hashlink_table.specs.Chains.{hash_at, IsInPlace, IsLinked, IsOf, SameNodes}
-use Rattle.hashlink_table.specs.Stored.{apart}
+use Rattle.hashlink_table.specs.Chains.{stored_in, AreGrouped, AreTaken, IsFilled, IsInPlace, IsLinked}
+use Rattle.hashlink_table.specs.Chains.{SameNodes}
+use Rattle.hashlink_table.specs.Own.{with_kept, with_next, without_kept}
+use Rattle.hashlink_table.proofs.Cells.{kept_at-set, kept_at-set_other, next_at-set, next_at-set_other}
 use Rattle.hashlink_table.proofs.Cells.{within_by_kept}
-use Rattle.hashlink_table.proofs.Chaining.{length-links, link_read, same_stored}
+use Rattle.hashlink_table.proofs.Chaining.{length-links, link_read, same_kept}
 use Rattle.hashlink_table.proofs.Nodes.{nodes_in-set, nodes_in-same}
 use Rattle.hashlink_table.proofs.Walks.{walk_of, walk_at}
-
--- a bare cell stores the hash of another bucket, if there is one
-pub bare_apart : (buckets b : ℕ) → b < buckets → buckets ≢ 1 → apart b % buckets ≢ b
-bare_apart buckets zero low two e =
-    let more : 1 < buckets = omega arith in
-    omega (arith, sym (mod-eq_of_lt more) ∙ e)
-bare_apart buckets (suc b) low two e =
-    let some : 0 < buckets = omega arith in
-    omega (arith, sym (mod-eq_of_lt some) ∙ e)
 
 module _ {N : Type 0} where
   -- a cell with a node is one of the list
   pub within_kept : (cells : List (Cell N)) (i : ℕ) (k : Kept N) → kept_at cells i ≡ Some k → i < length cells
   within_kept cells i k is = within_by_kept cells i (ap is_some is)
 
-  pub in_place-same : (f g : List (Cell N)) → SameNodes f g → length g ≡ length f → IsInPlace f → IsInPlace g
-  in_place-same f g same n p b low =
-      let h : b < length f = omega (arith, low, n) in
-      subst (λ (s : Option (Kept N) × ℕ). IsOf (length g) b s.0 s.1) (sym (same_stored f g b same h low))
-      (subst (λ m. IsOf m b (kept_at f b) (hash_at f b)) (sym n) (p b h))
+  pub same_length : (f g : List (Cell N)) → SameNodes f g → length g ≡ length f
+  same_length f g same = sym (length-map g stored_in) ∙ ap length same ∙ length-map f stored_in
 
-  pub in_place-set : (f : List (Cell N)) (b : ℕ) (d : Cell N) → b < length f → IsInPlace f
-      → IsOf (length f) b d.kept d.hash
-      → IsInPlace (set f b d)
-  in_place-set f b d h p q j low =
-      let n = length-set f b d in
-      let Fits : ℕ → Cell N → Type 0 = λ i c. IsOf (length f) i c.kept c.hash in
-      subst (λ m. IsOf m j (kept_at (set f b d) j) (hash_at (set f b d) j)) (sym n)
-      (elim (cases_eq j b) as (λ _. Fits j (get_or (set f b d) j no_cell)) [
-        | inl e ↦ subst (λ i. Fits i (get_or (set f b d) i no_cell)) (sym e)
-            (subst (Fits b) (sym (get_or-set_same f b d no_cell h)) q)
-        | inr ne ↦ subst (Fits j) (sym (get_or-set_other f b j d no_cell ne)) (p j (omega (arith, low, n)))
+  -- where each cell keeps its node
+  pub kept-same : (f g : List (Cell N)) → SameNodes f g → length g ≡ length f → (i : ℕ)
+      → kept_at g i ≡ kept_at f i
+  kept-same f g same n i = elim (cases_lt i (length f)) as (λ _. kept_at g i ≡ kept_at f i) [
+    | inl low ↦ same_kept f g i same low (omega (arith, low, n))
+    | inr past ↦ ap (λ (c : Cell N). c.kept) (get_or_past g i no_cell (omega (arith, past, n)) ∙ sym
+        (get_or_past f i no_cell past))
+  ]
+
+  pub in_place-same : (f g : List (Cell N)) → SameNodes f g → length g ≡ length f → IsInPlace f → IsInPlace g
+  in_place-same f g same n p at k is =
+      subst (λ m. AreGrouped (k.hash % m) at) (sym n) (p at k (sym (kept-same f g same n at) ∙ is))
+
+  pub in_place-set : (f : List (Cell N)) (i : ℕ) (d : Cell N) → i < length f → IsInPlace f
+      → ((k : Kept N) → d.kept ≡ Some k → AreGrouped (k.hash % length f) i)
+      → IsInPlace (set f i d)
+  in_place-set f i d low p q at k is =
+      subst (λ m. AreGrouped (k.hash % m) at) (sym (length-set f i d))
+      (elim (cases_eq at i) as (λ _. AreGrouped (k.hash % length f) at) [
+        | inl e ↦ subst (AreGrouped (k.hash % length f)) (sym e)
+            (q k (sym (kept_at-set f i d low) ∙ ap (kept_at (set f i d)) (sym e) ∙ is))
+        | inr ne ↦ p at k (sym (kept_at-set_other f i d at ne) ∙ is)
       ])
+
+  -- a write to a cell that leaves its link
+  pub next-set_same : (f : List (Cell N)) (i : ℕ) (d : Cell N) → i < length f → d.next ≡ next_at f i
+      → (b : ℕ)
+      → next_at (set f i d) b ≡ next_at f b
+  next-set_same f i d low next b = elim (cases_eq b i) as (λ _. next_at (set f i d) b ≡ next_at f b) [
+    | inl e ↦ ap (next_at (set f i d)) e ∙ next_at-set f i d low ∙ next ∙ ap (next_at f) (sym e)
+    | inr ne ↦ next_at-set_other f i d b ne
+  ]
+
+  -- no bucket has a chain where a cell of its group is free: where no chain begins that did not before and
+  -- each cell keeps its node, and where a node comes into a cell
+  pub filled-same : (f g : List (Cell N)) → SameNodes f g → length g ≡ length f
+      → ((b : ℕ) → next_at g b ≢ END → next_at f b ≢ END) → IsFilled f
+      → IsFilled g
+  filled-same f g same n begun full b low ne at from to =
+      subst IsSome (sym (kept-same f g same n at)) (full b (omega (arith, low, n)) (begun b ne) at from to)
+
+  pub filled-put : (f : List (Cell N)) (i : ℕ) (d : Cell N) → i < length f → IsSome d.kept
+      → d.next ≡ next_at f i → IsFilled f
+      → IsFilled (set f i d)
+  filled-put f i d low some next full b h ne at from to =
+      elim (cases_eq at i) as (λ _. IsSome (kept_at (set f i d) at)) [
+        | inl e ↦ subst IsSome (ap (kept_at (set f i d)) (sym e)) (subst IsSome (sym (kept_at-set f i d low)) some)
+        | inr apart ↦ subst IsSome (sym (kept_at-set_other f i d at apart))
+            (full b (omega (arith, h, length-set f i d)) (λ e. ne (next-set_same f i d low next b ∙ e)) at from to)
+      ]
+
+  -- the node left a cell of a group in which no bucket has a chain
+  pub filled-freed : (f : List (Cell N)) (i : ℕ) (d : Cell N) → i < length f → d.next ≡ next_at f i
+      → ((b : ℕ) → i - i % 16 ≤ b → b < i - i % 16 + 16 → next_at f b ≡ END) → IsFilled f
+      → IsFilled (set f i d)
+  filled-freed f i d low next none full b h ne at from to =
+      elim (cases_eq at i) as (λ _. IsSome (kept_at (set f i d) at)) [
+        | inl e ↦ absurd (ne (next-set_same f i d low next b ∙ none b (omega (arith, e, from, to))
+            (omega (arith, e, from, to))))
+        | inr apart ↦ subst IsSome (sym (kept_at-set_other f i d at apart))
+            (full b (omega (arith, h, length-set f i d)) (λ e. ne (next-set_same f i d low next b ∙ e)) at from to)
+      ]
+
+  -- a bucket of a full group may have a chain
+  pub filled-chained : (f g : List (Cell N)) (b : ℕ) → SameNodes f g → length g ≡ length f
+      → ((a : ℕ) → a ≢ b → next_at g a ≡ next_at f a) → AreTaken f (b - b % 16) → IsFilled f
+      → IsFilled g
+  filled-chained f g b same n others taken full a low ne at from to =
+      subst IsSome (sym (kept-same f g same n at)) (elim (cases_eq a b) as (λ _. IsSome (kept_at f at)) [
+        | inl e ↦ taken at (subst (λ x. x - x % 16 ≤ at) e from) (subst (λ x. at < x - x % 16 + 16) e to)
+        | inr apart ↦ full a (omega (arith, low, n)) (λ e. ne (others a apart ∙ e)) at from to
+      ])
+
+  -- a node came into a free cell, and a node left its cell
+  pub put-nodes : (f : List (Cell N)) (i : ℕ) (k : Kept N) → i < length f → kept_at f i ≡ None
+      → IsPermutation (k ∷ nodes_in f) (nodes_in (with_kept f i k))
+  put-nodes f i k low none =
+      subst (λ o. IsPermutation (k ∷ nodes_in f) (with_node o (nodes_in (with_kept f i k)))) none
+      (nodes_in-set f i (record (get_or f i no_cell) { kept = Some k; hash = k.hash }) low)
+
+  pub free-nodes : (f : List (Cell N)) (i : ℕ) (k : Kept N) → i < length f → kept_at f i ≡ Some k
+      → IsPermutation (nodes_in f) (k ∷ nodes_in (without_kept f i))
+  free-nodes f i k low is =
+      subst (λ o. IsPermutation (nodes_in f) (with_node o (nodes_in (without_kept f i)))) is
+      (nodes_in-set f i (record (get_or f i no_cell) { kept = None }) low)
+
+  -- neither changes a link
+  pub put-links : (f : List (Cell N)) (i : ℕ) (k : Kept N) → links_of (with_kept f i k) ≡ links_of f
+  put-links f i k = map-set_same (λ (c : Cell N). c.next) f i _ no_cell refl
+
+  pub free-links : (f : List (Cell N)) (i : ℕ) → links_of (without_kept f i) ≡ links_of f
+  free-links f i = map-set_same (λ (c : Cell N). c.next) f i _ no_cell refl
 
   -- the link of a bucket's own cell leads to a cell of the bucket, or to the end
   pub follower_on : (firsts cells : List (Cell N)) (free b at : ℕ) → IsLinked (links_of firsts) cells free
@@ -85,3 +155,17 @@ module _ {N : Type 0} where
       (with_node (kept_at later b) (nodes_in (set later b d)))) is (nodes_in-set later b d within)) in
       IsPermutation-trans _ _ _ (over-taken firsts later cells less j same p)
       (IsPermutation-append_left (nodes_in less) _ _ exchange)
+
+  -- a bucket's chain begins elsewhere
+  pub next-same : (f : List (Cell N)) (b to : ℕ) → SameNodes f (with_next f b to)
+  next-same f b to = map-set_same stored_in f b _ no_cell refl
+
+  pub next-others : (f : List (Cell N)) (b to a : ℕ) → a ≢ b → next_at (with_next f b to) a ≡ next_at f a
+  next-others f b to a ne = next_at-set_other f b _ a ne
+
+  pub next-begun : (f : List (Cell N)) (b to a : ℕ) → next_at f b ≢ END → next_at (with_next f b to) a ≢ END
+      → next_at f a ≢ END
+  next-begun f b to a was ne = elim (cases_eq a b) as (λ _. next_at f a ≢ END) [
+    | inl e ↦ λ q. was (ap (next_at f) (sym e) ∙ q)
+    | inr apart ↦ λ q. ne (next-others f b to a apart ∙ q)
+  ]

@@ -1,18 +1,18 @@
 -- The nodes of a list of cells: what a write does to them, and which there are.
-use Rattle.std.proofs.Common.{◌≡◌, ℕ, zero, suc, ◌+◌, ◌<◌, ◌≤◌, List, [], ◌∷◌, ◌++◌, map, length, get_or, set}
+use Rattle.std.proofs.Common.{◌≡◌, ℕ, zero, suc, ◌+◌, ◌<◌, ◌≤◌, List, [], ◌∷◌, ◌++◌, length, get_or, set}
+use Rattle.std.proofs.Common.{replicate}
 use Rattle.std.proofs.Common.{take, drop}
 use Rattle.std.proofs.Common.{true, Option, Some, None, is_some, refl, sym, ap, ◌∙◌, subst, arith}
 use Rattle.std.specs.Prelude.{Contains, IsPermutation}
-use Rattle.std.specs.List.{range_with_len}
 use Rattle.std.proofs.Common.{append_assoc}
-use Rattle.std.proofs.lemmas.List.{take_more, take-append-drop, length-append}
+use Rattle.std.proofs.lemmas.List.{get_or_default, take_more, take-append-drop, length-append}
 use Rattle.std.proofs.lemmas.Option.{same_Some}
 use Rattle.std.proofs.lemmas.List.Sorted.{IsPermutation-refl, IsPermutation-trans, IsPermutation-cons}
 use Rattle.std.proofs.lemmas.List.Sorted.{IsPermutation-middle}
 use Rattle.std.proofs.lemmas.List.Sorted.{IsPermutation-to_front}
 use Rattle.hashlink_table.specs.declared.kept.Kept.{Kept}
 use Rattle.hashlink_table.specs.declared.cell.Cell.{Cell}
-use Rattle.hashlink_table.specs.Chains.{bare_cells, kept_at, stored_in, with_node, nodes_in, SameNodes}
+use Rattle.hashlink_table.specs.Chains.{no_cell, kept_at, stored_in, with_node, nodes_in, SameNodes}
 use Rattle.hashlink_table.specs.Stored.{bare_cell}
 
 module _ {N : Type 0} where
@@ -78,6 +78,12 @@ module _ {N : Type 0} where
       ap nodes_in (take_more cells i c h) ∙ nodes_in-append (take i cells) (get_or cells i c ∷ [])
       ∙ ap (λ (d : Cell N). nodes_in (take i cells) ++ with_node d.kept []) (sym read)
 
+  pub nodes_in-more_at : (cells : List (Cell N)) (i : ℕ) → i < length cells
+      → nodes_in (take (i + 1) cells) ≡ nodes_in (take i cells) ++ with_node (kept_at cells i) []
+  nodes_in-more_at cells i h =
+      let c = get_or cells i no_cell in
+      nodes_in-more cells i c h (get_or_default cells i no_cell c h)
+
   pub nodes_in-part : (cells : List (Cell N)) (i : ℕ) → length (nodes_in (take i cells)) ≤ length
       (nodes_in cells)
   nodes_in-part cells i =
@@ -95,12 +101,9 @@ module _ {N : Type 0} where
       (IsPermutation-trans _ _ _ (IsPermutation-cons k _ _ before) step))
 
   -- bare cells have none
-  bare-from : (a n : ℕ) → nodes_in (map (bare_cell {N = N}) (range_with_len a n)) ≡ []
-  bare-from a zero = refl
-  bare-from a (suc n) = bare-from (a + 1) n
-
-  pub nodes_in-bare : (n : ℕ) → nodes_in (bare_cells {N = N} n) ≡ []
-  nodes_in-bare n = bare-from 0 n
+  pub nodes_in-bare : (n : ℕ) → nodes_in (replicate n (bare_cell {N = N})) ≡ []
+  nodes_in-bare zero = refl
+  nodes_in-bare (suc n) = nodes_in-bare n
 
   -- where each cell has a node, there are as many as cells
   pub nodes_in-full : (cells : List (Cell N)) → ((i : ℕ) → i < length cells → is_some (kept_at cells i)

@@ -1,10 +1,8 @@
 -- The fields of a table agree.
 use Rattle.std.proofs.Common.{◌≡◌, ◌≢◌, ℕ, zero, suc, ◌+◌, ◌-◌, ◌%◌, ◌^◌, ◌<◌, ◌≤◌, true, inl, inr, List, []}
-use Rattle.std.proofs.Common.{◌∷◌, ◌++◌, length, map}
+use Rattle.std.proofs.Common.{◌∷◌, ◌++◌, length}
 use Rattle.std.proofs.Common.{get_or, replicate, Some, None, is_some, refl, sym, ap, ◌∙◌, subst, arith}
 use Rattle.std.specs.Prelude.{IsPermutation}
-use Rattle.std.specs.List.{range_with_len}
-use Rattle.std.proofs.lemmas.List.FromFn.{get_or-map-range_with_len, length-map-range_with_len}
 use Rattle.std.specs.Int.{IsPowerOfTwo}
 use Rattle.std.proofs.lemmas.Bool.{cases_eq, cases_lt}
 use Rattle.std.proofs.lemmas.List.{get_or_at, get_or_append_left, get_or-replicate, length_push}
@@ -14,13 +12,12 @@ use Rattle.std.proofs.lemmas.List.Sorted.{length_permutation}
 use Rattle.hashlink_table.specs.declared.kept.Kept.{Kept}
 use Rattle.hashlink_table.specs.declared.cell.Cell.{Cell}
 use Rattle.hashlink_table.specs.declared.cell.TheConstants.{END}
-use Rattle.hashlink_table.specs.Chains.{no_cell, kept_at, next_at, chain_of, nodes_in, links_of, Among}
-use Rattle.hashlink_table.specs.Chains.{bare_cells, IsOf, IsPath}
-use Rattle.hashlink_table.specs.Stored.{apart, bare_cell}
+use Rattle.hashlink_table.specs.Chains.{kept_at, next_at, chain_of, nodes_in, links_of, Among}
+use Rattle.hashlink_table.specs.Chains.{IsPath}
+use Rattle.hashlink_table.specs.Stored.{bare_cell}
 use Rattle.hashlink_table.specs.Contents.{Contents}
-use Rattle.hashlink_table.specs.Chains.{contents, IsInPlace, IsLinked, IsSound}
+use Rattle.hashlink_table.specs.Chains.{contents, IsFilled, IsInPlace, IsLinked, IsSound}
 use Rattle.hashlink_table.proofs.Cells.{chain_at_within}
-use Rattle.hashlink_table.proofs.Moving.{bare_apart}
 use Rattle.hashlink_table.proofs.Nodes.{nodes_in-full, nodes_in-bare}
 
 -- no path that leads over a cell begins at the end
@@ -31,10 +28,16 @@ none_from_end next from [] linked e j m = m
 none_from_end next from (x ∷ xs) linked e j m = linked.1 (sym linked.0 ∙ e)
 
 -- bare cells: no chain leads anywhere
-links-bare : (N : Type 0) (a n : ℕ)
-    → links_of (map (bare_cell {N = N}) (range_with_len a n)) ≡ replicate n END
-links-bare N a zero = refl
-links-bare N a (suc n) = ap (λ ls. END ∷ ls) (links-bare N (a + 1) n)
+links-bare : (N : Type 0) (n : ℕ) → links_of (replicate n (bare_cell {N = N})) ≡ replicate n END
+links-bare N zero = refl
+links-bare N (suc n) = ap (λ ls. END ∷ ls) (links-bare N n)
+
+-- and each reads as one past the last
+bare_read : (N : Type 0) (n i : ℕ) → (kept_at (replicate n (bare_cell {N = N})) i ≡ None)
+    × (next_at (replicate n (bare_cell {N = N})) i ≡ END)
+bare_read N zero i = (refl, refl)
+bare_read N (suc n) zero = (refl, refl)
+bare_read N (suc n) (suc i) = bare_read N n i
 
 bare_linked : (N : Type 0) (n : ℕ) → IsLinked {N = N} (replicate n END) [] END
 bare_linked N n b h =
@@ -52,14 +55,6 @@ bare_linked N n b h =
       inside = λ i m. absurd m;
       whole = λ i e. absurd (omega (arith, e, h, length_push (replicate n END) END));
     }
-
-bare_in_place : (N : Type 0) (n : ℕ) → n ≢ 1 → IsInPlace (bare_cells {N = N} n)
-bare_in_place N n two b low =
-    let same = length-map-range_with_len (bare_cell {N = N}) 0 n in
-    let within : b < n = omega (arith, low, same) in
-    subst (λ (c : Cell N). IsOf (length (bare_cells {N = N} n)) b c.kept c.hash)
-    (sym (get_or-map-range_with_len bare_cell 0 n b b no_cell within (omega arith)))
-    (subst (λ m. apart b % m ≢ b) (sym same) (bare_apart n b within two))
 
 module _ {N : Type 0} where
   -- where no cell is free, each has a node
@@ -92,36 +87,38 @@ module _ {N : Type 0} where
 
   -- a table without nodes
   pub sound-bare : (n capacity room : ℕ) → room ≤ n → room ≤ capacity → n ≤ 2 ^ 30 → (0 < n → IsPowerOfTwo n)
-      → n ≢ 1
-      → IsSound (bare_cells {N = N} n) [] capacity END 0 room
-  sound-bare n capacity room headed reserved small masked two =
-      let same = length-map-range_with_len (bare_cell {N = N}) 0 n in
+      → n % 16 ≡ 0
+      → IsSound (replicate n (bare_cell {N = N})) [] capacity END 0 room
+  sound-bare n capacity room headed reserved small masked whole =
+      let same = length-replicate n (bare_cell {N = N}) in
       record {
-        linked = subst (λ ls. IsLinked {N = N} ls [] END) (sym (links-bare N 0 n)) (bare_linked N n);
-        in_place = bare_in_place N n two;
+        linked = subst (λ ls. IsLinked {N = N} ls [] END) (sym (links-bare N n)) (bare_linked N n);
+        in_place = λ at k is. absurd (cc (sym (bare_read N n at).0 ∙ is));
+        filled = λ b low ne. absurd (ne (bare_read N n b).1);
         counted = rw (nodes_in-bare {N = N} n) refl;
         held = omega arith;
-        headed = omega arith;
+        headed = omega (arith, headed, same);
         reserved = reserved;
-        small = omega arith;
+        small = omega (arith, small, same);
         overs_small = omega arith;
-        masked = λ h. subst IsPowerOfTwo (sym same) (masked (omega arith));
-        two = λ one. two (sym same ∙ one);
+        masked = λ h. subst IsPowerOfTwo (sym same) (masked (omega (arith, h, same)));
+        whole = ap (λ m. m % 16) same ∙ whole;
       }
 
   -- one node more
   pub sound-put : {firsts overs : List (Cell N)} {capacity free len room : ℕ}
       (later more : List (Cell N)) (now next : ℕ) (k : Kept N)
       → IsSound firsts overs capacity free len room → len < room → now ≡ capacity
-      → length later ≡ length firsts → IsLinked (links_of later) more next → IsInPlace later
+      → length later ≡ length firsts → IsLinked (links_of later) more next → IsInPlace later → IsFilled later
       → IsPermutation (k ∷ nodes_in firsts ++ nodes_in overs) (nodes_in later ++ nodes_in more)
       → (free ≡ END → length more ≤ length overs + 1) → (free ≢ END → length more ≤ length overs)
       → IsSound later more now next (len + 1) room
   sound-put {firsts} {overs} {free = free} {len} {room} later more now next k
-      s room_left capacity buckets linked in_place nodes full reused =
+      s room_left capacity buckets linked in_place filled nodes full reused =
       record {
         linked = linked;
         in_place = in_place;
+        filled = filled;
         counted = omega (arith, s.counted, length_permutation _ _ nodes);
         held = omega arith;
         headed = omega (arith, s.headed, buckets);
@@ -132,7 +129,7 @@ module _ {N : Type 0} where
           | inr ne ↦ omega (arith, reused ne, s.overs_small)
         ];
         masked = λ h. subst IsPowerOfTwo (sym buckets) (s.masked (omega (arith, h, buckets)));
-        two = λ one. s.two (sym buckets ∙ one);
+        whole = ap (λ m. m % 16) buckets ∙ s.whole;
       }
 
   -- one node less
@@ -140,13 +137,14 @@ module _ {N : Type 0} where
       (later less : List (Cell N)) (next : ℕ) (k : Kept N)
       → IsSound firsts overs capacity free len room
       → length later ≡ length firsts → length less ≡ length overs
-      → IsLinked (links_of later) less next → IsInPlace later
+      → IsLinked (links_of later) less next → IsInPlace later → IsFilled later
       → IsPermutation (nodes_in firsts ++ nodes_in overs) (k ∷ nodes_in later ++ nodes_in less)
       → IsSound later less capacity next (len - 1) room
-  sound-take {firsts} {overs} {len = len} later less next k s buckets cells linked in_place nodes =
+  sound-take {firsts} {overs} {len = len} later less next k s buckets cells linked in_place filled nodes =
       record {
         linked = linked;
         in_place = in_place;
+        filled = filled;
         counted = omega (arith, s.counted, length_permutation _ _ nodes);
         held = omega (arith, s.held);
         headed = omega (arith, s.headed, buckets);
@@ -154,12 +152,12 @@ module _ {N : Type 0} where
         small = omega (arith, s.small, buckets);
         overs_small = omega (arith, s.overs_small, cells);
         masked = λ h. subst IsPowerOfTwo (sym buckets) (s.masked (omega (arith, h, buckets)));
-        two = λ one. s.two (sym buckets ∙ one);
+        whole = ap (λ m. m % 16) buckets ∙ s.whole;
       }
 
 -- and a contract sees none
 pub contents-bare : (N : Type 0) (n room : ℕ)
-    → contents (bare_cells {N = N} n) [] room ≡ record { nodes = []; room = room }
+    → contents (replicate n (bare_cell {N = N})) [] room ≡ record { nodes = []; room = room }
 contents-bare N n room = ap (λ (ks : List (Kept N)). let t : Contents N = record { nodes = ks; room = room }
     in t)
     (ap (λ (ks : List (Kept N)). ks ++ []) (nodes_in-bare {N = N} n))

@@ -1,26 +1,47 @@
 -- What a contract sees of the cells: which nodes there are, and how many agree with a hash.
-use Rattle.std.proofs.Common.{◌≡◌, ℕ, ◌+◌, ◌%◌, ◌<◌, ◌≤◌, ◌⊎◌, inl, inr, Bool, false, cond, eqb, List, []}
-use Rattle.std.proofs.Common.{◌∷◌, ◌++◌}
-use Rattle.std.proofs.Common.{length, Option, Some, None, is_some, count_by, refl, sym, ap, ◌∙◌, subst, arith}
+use Rattle.std.proofs.Common.{◌≡◌, ℕ, zero, suc, ◌+◌, ◌-◌, ◌%◌, ◌<◌, ◌≤◌, ◌⊎◌, inl, inr, Bool, true, false, cond}
+use Rattle.std.proofs.Common.{eqb, List, [], ◌∷◌, ◌++◌, length, get_or, take, drop, Option, Some, None, count_by}
+use Rattle.std.proofs.Common.{refl, sym, ap, ◌∙◌, subst, arith}
 use Rattle.std.specs.Prelude.{Contains}
-use Rattle.std.proofs.lemmas.Bool.{eq-eqb, ne_eqb}
+use Rattle.std.proofs.Math.Nat.{mod-mod_of_dvd}
+use Rattle.std.proofs.lemmas.Nat.Gcd.{dvd_of_mod-eq-zero}
+use Rattle.std.proofs.lemmas.Bool.{eq-eqb, eqb-true, ne_eqb, true≢false}
+use Rattle.std.proofs.lemmas.List.{take-append-drop}
 use Rattle.std.proofs.lemmas.List.Elements.{Contains-append_left, Contains-append_right}
 use Rattle.std.proofs.lemmas.List.Elements.{Contains-append_cases}
-use Rattle.std.proofs.lemmas.List.Sums.{sum_by-cons, sum_by-append, get_or-le-sum_by}
+use Rattle.std.proofs.lemmas.List.Sums.{sum_by-cons, sum_by-append}
+use Rattle.std.proofs.lemmas.Simd.{chunk-drop, get_or-chunk, length-chunk}
 use Rattle.hashlink_table.specs.declared.kept.Kept.{Kept}
 use Rattle.hashlink_table.specs.declared.cell.Cell.{Cell}
 use Rattle.hashlink_table.specs.declared.spot.Spot.{Spot}
-use Rattle.hashlink_table.specs.declared.spot.Spot.TheVariants.{First, Over}
+use Rattle.hashlink_table.specs.declared.spot.Spot.TheVariants.{Own, Over}
 use Rattle.hashlink_table.specs.Contents.{Contents, Keeps, agreeing}
 use Rattle.hashlink_table.specs.Chains.{no_cell, kept_at, kept_by, chain_of, with_node, nodes_in, contents}
-use Rattle.hashlink_table.specs.Chains.{hash_at, IsInPlace, IsOf}
-use Rattle.hashlink_table.proofs.Cells.{within_by_kept}
+use Rattle.hashlink_table.specs.Chains.{AreGrouped, IsInPlace}
+use Rattle.hashlink_table.specs.Own.{kept_may_be, lanes_of, may_be}
+use Rattle.hashlink_table.specs.Stored.{tag_of}
+use Rattle.hashlink_table.proofs.Groups.{group_within, grouped_in}
 use Rattle.hashlink_table.proofs.Nodes.{contains-at, at-contains}
 
 -- how many of the list pass, one element more
 count_by-cons : {X : Type 0} (p : X → Bool) (x : X) (xs : List X)
     → count_by p (x ∷ xs) ≡ cond (p x) 1 0 + count_by p xs
 count_by-cons p x xs = sum_by-cons (λ y. cond (p y) 1 0) x xs
+
+-- fewer pass a stronger test
+count_by-weaker : {X : Type 0} (p q : X → Bool) (d : X) (xs : List X)
+    → ((k : ℕ) → k < length xs → p (get_or xs k d) ≡ true → q (get_or xs k d) ≡ true)
+    → count_by p xs ≤ count_by q xs
+count_by-weaker p q d [] weaker = omega arith
+count_by-weaker p q d (x ∷ xs) weaker =
+    let rest = count_by-weaker p q d xs (λ k low e. weaker (suc k) (omega (arith, low)) e) in
+    let here : cond {A = ℕ} (p x) 1 0 ≤ cond (q x) 1 0 = by (p x) (q x) (weaker zero (omega arith)) in
+    omega (arith, rest, here, count_by-cons p x xs, count_by-cons q x xs)
+  where
+    by : (a b : Bool) → (a ≡ true → b ≡ true) → cond {A = ℕ} a 1 0 ≤ cond b 1 0
+    by true b h = rw (h refl) (omega arith)
+    by false true h = omega arith
+    by false false h = omega arith
 
 module _ {N : Type 0} where
   -- the nodes of the cells are counted by counting cells
@@ -44,38 +65,61 @@ module _ {N : Type 0} where
       count_by-nodes_in (λ k. eqb (k.hash % m) (hash % m)) (λ k. eqb (chain_of m k) (hash % m)) cells
       (ne_eqb m (hash % m) (λ e. omega arith)) (λ k. refl)
 
-  -- the bucket's own cell counts
-  own_agrees : (m b : ℕ) (o : Option (Kept N)) → ((k : Kept N) → o ≡ Some k → k.hash % m ≡ b)
-      → cond {A = ℕ} (is_some o) 1 0 ≤ cond {A = ℕ} (eqb (chain_of m o) b) 1 0
-  own_agrees m b None at = omega arith
-  own_agrees m b (Some k) at = rw (eq-eqb (k.hash % m) b (at k refl)) (omega arith)
+  -- a node of the group whose tag is the hash's agrees with the hash
+  tag_agrees : (m b hash at : ℕ) (o : Option (Kept N)) → 0 < m → m % 16 ≡ 0 → b ≡ hash % m
+      → ((k : Kept N) → o ≡ Some k → AreGrouped (k.hash % m) at) → AreGrouped b at
+      → kept_may_be hash o ≡ true
+      → eqb (chain_of m o) b ≡ true
+  tag_agrees m b hash at None some whole is own here e = absurd (true≢false (sym e))
+  tag_agrees m b hash at (Some k) some whole is own here e =
+      let divides = dvd_of_mod-eq-zero 16 whole in
+      let low : k.hash % m % 16 ≡ k.hash % 16 = mod-mod_of_dvd 16 k.hash divides in
+      let sought : hash % m % 16 ≡ hash % 16 = mod-mod_of_dvd 16 hash divides in
+      let tags : tag_of k.hash ≡ tag_of hash = eqb-true (tag_of k.hash) (tag_of hash) e in
+      let grouped = own k refl in
+      eq-eqb (k.hash % m) b (omega (arith, low, sought, tags, grouped, here, is))
 
-  -- the node in a bucket's own cell is of the bucket
-  in_place-kept : (firsts : List (Cell N)) → IsInPlace firsts → (b : ℕ) (k : Kept N)
-      → kept_at firsts b ≡ Some k → k.hash % length firsts ≡ b
-  in_place-kept firsts in_place b k is =
-      subst (λ o. IsOf (length firsts) b o (hash_at firsts b)) is
-      (in_place b (within_by_kept firsts b (ap is_some is)))
+  -- what is counted in a group is counted in all
+  count_by-lanes : (p q : Cell N → Bool) (cells : List (Cell N)) (base : ℕ) → base + 16 ≤ length cells
+      → ((k : ℕ) → k < 16 → p (get_or cells (base + k) no_cell) ≡ true
+      → q (get_or cells (base + k) no_cell) ≡ true)
+      → count_by p (lanes_of cells base) ≤ count_by q cells
+  count_by-lanes p q cells base room weaker =
+      let lanes = lanes_of cells base in
+      let rest = drop (base + 16) cells in
+      let long = length-chunk base 16 cells room in
+      let fewer : count_by p lanes ≤ count_by q lanes
+      = count_by-weaker p q no_cell lanes (λ k low e.
+      let at = get_or-chunk base 16 cells k no_cell (omega (arith, low, long)) in
+      ap q at ∙ weaker k (omega (arith, low, long)) (ap p (sym at) ∙ e)) in
+      let cut : cells ≡ take base cells ++ (lanes ++ rest)
+      = sym (take-append-drop base cells) ∙ ap (λ (ys : List (Cell N)). take base cells ++ ys)
+      (chunk-drop base 16 cells) in
+      let all : count_by q cells ≡ count_by q (take base cells) + (count_by q lanes + count_by q rest)
+      = ap (count_by q) cut ∙ sum_by-append (λ c. cond (q c) 1 0) (take base cells) (lanes ++ rest)
+      ∙ ap (λ n. count_by q (take base cells) + n) (sum_by-append (λ c. cond (q c) 1 0) lanes rest) in
+      omega (arith, fewer, all)
 
   -- the cells that a search may look at agree with its hash
   pub searched_agree : (firsts overs : List (Cell N)) (room hash : ℕ) (t : Contents N)
-      → contents firsts overs room ≡ t → 0 < length firsts → IsInPlace firsts
-      → cond (is_some (kept_at firsts (hash % length firsts))) 1 0
+      → contents firsts overs room ≡ t → 0 < length firsts → length firsts % 16 ≡ 0 → IsInPlace firsts
+      → count_by (may_be hash) (lanes_of firsts (hash % length firsts - hash % length firsts % 16))
       + count_by (λ c. eqb (chain_of (length firsts) c.kept) (hash % length firsts)) overs
       ≤ agreeing t hash (length firsts)
-  searched_agree firsts overs room hash t view some in_place =
+  searched_agree firsts overs room hash t view some whole in_place =
       let m = length firsts in let b = hash % m in
       let low : b < m = omega arith in
+      let base = b - b % 16 in
       let all : agreeing t hash m
       ≡ count_by (λ k. eqb (k.hash % m) b) (nodes_in firsts) + count_by (λ k. eqb (k.hash % m) b)
       (nodes_in overs) =
       ap (λ (u : Contents N). agreeing u hash m) (sym view)
       ∙ sum_by-append (λ (k : Kept N). cond (eqb (k.hash % m) b) 1 0) (nodes_in firsts) (nodes_in overs) in
-      let own = own_agrees m b (kept_at firsts b) (in_place-kept firsts in_place b) in
-      let least = get_or-le-sum_by (λ (c : Cell N). cond {A = ℕ} (eqb (chain_of m c.kept) b) 1 0) firsts b
-      no_cell
-      low in
-      omega (arith, all, own, least, in_bucket-nodes firsts hash m some, in_bucket-nodes overs hash m some)
+      let own = count_by-lanes (may_be hash) (λ c. eqb (chain_of m c.kept) b) firsts base
+      (group_within b m low whole)
+      (λ k lane e. tag_agrees m b hash (base + k) (kept_at firsts (base + k)) some whole refl
+      (λ j is. in_place (base + k) j is) (grouped_in b (base + k) (omega arith) (omega (arith, lane))) e) in
+      omega (arith, all, own, in_bucket-nodes firsts hash m some, in_bucket-nodes overs hash m some)
 
   -- the node in a cell is one that the table keeps
   pub keeps_first : (firsts overs : List (Cell N)) (room hash b : ℕ) (node : N) (t : Contents N)
@@ -92,27 +136,26 @@ module _ {N : Type 0} where
       subst (λ (u : Contents N). Keeps u hash node) view
       (Contains-append_right (nodes_in firsts) (nodes_in overs) _ (contains-at overs at _ is))
 
-  pub keeps_found : (firsts overs : List (Cell N)) (room hash b : ℕ) (spot : Spot) (node : N) (t : Contents N)
+  pub keeps_found : (firsts overs : List (Cell N)) (room hash : ℕ) (spot : Spot) (node : N) (t : Contents N)
       → contents firsts overs room ≡ t
-      → kept_by firsts overs b spot ≡ Some (record { hash = hash; node = node })
+      → kept_by firsts overs spot ≡ Some (record { hash = hash; node = node })
       → Keeps t hash node
-  keeps_found firsts overs room hash b First node t view is = keeps_first firsts overs room hash b node t
+  keeps_found firsts overs room hash (Own at) node t view is = keeps_first firsts overs room hash at node t
       view is
-  keeps_found firsts overs room hash b (Over at) node t view is =
+  keeps_found firsts overs room hash (Over at) node t view is =
       keeps_over firsts overs room hash at node t view is
 
-  -- a node that the table keeps is in its bucket's own cell, or in a cell over
+  -- a node that the table keeps is in a bucket's own cell, or in a cell over
   pub keeps_cases : (firsts overs : List (Cell N)) (room hash : ℕ) (node : N) (t : Contents N)
-      → contents firsts overs room ≡ t → IsInPlace firsts → Keeps t hash node
-      → (kept_at firsts (hash % length firsts) ≡ Some (record { hash = hash; node = node }))
+      → contents firsts overs room ≡ t → Keeps t hash node
+      → ((at : ℕ) × (kept_at firsts at ≡ Some (record { hash = hash; node = node })))
       ⊎ ((at : ℕ) × (kept_at overs at ≡ Some (record { hash = hash; node = node })))
-  keeps_cases firsts overs room hash node t view in_place keeps =
+  keeps_cases firsts overs room hash node t view keeps =
       let k : Kept N = record { hash = hash; node = node } in
       let there : Contains (nodes_in firsts ++ nodes_in overs) k =
       subst (λ (u : Contents N). Contains u.nodes k) (sym view) keeps in
       elim (Contains-append_cases (nodes_in firsts) (nodes_in overs) k there) as
-      (λ _. (kept_at firsts (hash % length firsts) ≡ Some k) ⊎ ((at : ℕ) × (kept_at overs at ≡ Some k))) [
-        | inl own ↦ let at = at-contains firsts k own in
-            inl (ap (kept_at firsts) (in_place-kept firsts in_place at.0 k at.1) ∙ at.1)
+      (λ _. ((at : ℕ) × (kept_at firsts at ≡ Some k)) ⊎ ((at : ℕ) × (kept_at overs at ≡ Some k))) [
+        | inl own ↦ inl (at-contains firsts k own)
         | inr over ↦ inr (at-contains overs k over)
       ]

@@ -1,16 +1,14 @@
 -- How a `Table` chains its cells. No public clause cites this module.
-use Rattle.std.specs.Prelude.{◌≡◌, ◌≢◌, ℕ, suc, ◌+◌, ◌%◌, ◌^◌, ◌<◌, ◌≤◌, ◌⊎◌, List, [], ◌∷◌, ◌++◌, map}
+use Rattle.std.specs.Prelude.{◌≡◌, ◌≢◌, ℕ, suc, ◌+◌, ◌-◌, ◌/◌, ◌%◌, ◌^◌, ◌<◌, ◌≤◌, ◌⊎◌, List, [], ◌∷◌, ◌++◌, map}
 use Rattle.std.specs.Prelude.{length}
-use Rattle.std.specs.Prelude.{Option, Some, None, slice_index_or, slice_set}
+use Rattle.std.specs.Prelude.{Option, Some, None, IsSome, slice_index_or, slice_set}
 use Rattle.std.specs.Int.{IsPowerOfTwo}
-use Rattle.std.specs.List.{range_with_len}
 use Rattle.hashlink_table.specs.Contents.{Contents}
 use Rattle.hashlink_table.specs.declared.kept.Kept.{Kept}
 use Rattle.hashlink_table.specs.declared.cell.Cell.{Cell}
 use Rattle.hashlink_table.specs.declared.cell.TheConstants.{END}
-use Rattle.hashlink_table.specs.Stored.{bare_cell}
 use Rattle.hashlink_table.specs.declared.spot.Spot.{Spot}
-use Rattle.hashlink_table.specs.declared.spot.Spot.TheVariants.{First, Over}
+use Rattle.hashlink_table.specs.declared.spot.Spot.TheVariants.{Own, Over}
 
 module _ {N : Type 0} where
   -- what a read past the last cell gives
@@ -19,9 +17,6 @@ module _ {N : Type 0} where
 
   abbrev pub kept_at : List (Cell N) → ℕ → Option (Kept N)
   kept_at cells i = (slice_index_or cells i no_cell).kept
-
-  abbrev pub hash_at : List (Cell N) → ℕ → ℕ
-  hash_at cells i = (slice_index_or cells i no_cell).hash
 
   abbrev pub next_at : List (Cell N) → ℕ → ℕ
   next_at cells i = (slice_index_or cells i no_cell).next
@@ -56,16 +51,6 @@ module _ {N : Type 0} where
   -- what a cell has but its link
   abbrev pub stored_in : Cell N → Option (Kept N) × ℕ
   stored_in c = (c.kept, c.hash)
-
-  -- the own cells of n buckets, without nodes
-  abbrev pub bare_cells : ℕ → List (Cell N)
-  bare_cells n = map bare_cell (range_with_len 0 n)
-
-  -- what the own cell of bucket b has and the hash that it stores: a node of the bucket, or none and a hash
-  -- of another
-  abbrev pub IsOf : ℕ → ℕ → Option (Kept N) → ℕ → Type 0
-  IsOf buckets b None hash = hash % buckets ≢ b
-  IsOf buckets b (Some k) hash = k.hash % buckets ≡ b
 
 -- i is one of the list
 abbrev pub Among : List ℕ → ℕ → Type 0
@@ -111,17 +96,30 @@ IsPlaced old new free now cell at =
     ((free ≡ END) × (at ≡ length old) × (new ≡ old ++ cell ∷ []) × (now ≡ END))
     ⊎ ((free ≢ END) × (at ≡ free) × (new ≡ slice_set old at cell) × (now ≡ next_at old at))
 
--- the node in each bucket's own cell is of that bucket; a cell without one stores a hash of another bucket,
--- so that a search compares hashes alone
+-- two buckets of one group
+abbrev pub AreGrouped : ℕ → ℕ → Type 0
+AreGrouped a b = a / 16 ≡ b / 16
+
+-- the node in an own cell is of a bucket of its group
 abbrev pub IsInPlace : {N : Type 0} → List (Cell N) → Type 0
 IsInPlace firsts =
-    (b : ℕ) → b < length firsts → IsOf (length firsts) b (kept_at firsts b) (hash_at firsts b)
+    (at : ℕ) (k : Kept _) → kept_at firsts at ≡ Some k → AreGrouped (k.hash % length firsts) at
+
+-- each of the sixteen cells from this one on has a node
+abbrev pub AreTaken : {N : Type 0} → List (Cell N) → ℕ → Type 0
+AreTaken firsts base = (at : ℕ) → base ≤ at → at < base + 16 → IsSome (kept_at firsts at)
+
+-- where a bucket has a chain, no cell of its group is free
+abbrev pub IsFilled : {N : Type 0} → List (Cell N) → Type 0
+IsFilled firsts =
+    (b : ℕ) → b < length firsts → next_at firsts b ≢ END → AreTaken firsts (b - b % 16)
 
 -- the fields of a table agree
 pub record IsSound {N : Type 0} (firsts overs : List (Cell N))
     (capacity free len room : ℕ) : Type 0 where
   pub linked : IsLinked (links_of firsts) overs free
   pub in_place : IsInPlace firsts
+  pub filled : IsFilled firsts
   pub counted : len ≡ length (nodes_in firsts ++ nodes_in overs)
   pub held : len ≤ room
   pub headed : room ≤ length firsts
@@ -129,9 +127,9 @@ pub record IsSound {N : Type 0} (firsts overs : List (Cell N))
   pub small : length firsts ≤ 2 ^ 30
   pub overs_small : length overs ≤ 2 ^ 30
   pub masked : 0 < length firsts → IsPowerOfTwo (length firsts)
-  pub two : length firsts ≢ 1
+  pub whole : length firsts % 16 ≡ 0
 
 -- the node that a search found
-abbrev pub kept_by : {N : Type 0} → List (Cell N) → List (Cell N) → ℕ → Spot → Option (Kept N)
-kept_by firsts overs bucket First = kept_at firsts bucket
-kept_by firsts overs bucket (Over at) = kept_at overs at
+abbrev pub kept_by : {N : Type 0} → List (Cell N) → List (Cell N) → Spot → Option (Kept N)
+kept_by firsts overs (Own at) = kept_at firsts at
+kept_by firsts overs (Over at) = kept_at overs at

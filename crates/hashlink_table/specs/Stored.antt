@@ -1,5 +1,5 @@
--- The cell that a table stores.
-use Rattle.std.specs.Prelude.{ℕ, zero, suc, ◌%◌, ◌^◌, cond, None, Some}
+-- The cells that a table stores.
+use Rattle.std.specs.Prelude.{ℕ, ◌+◌, ◌*◌, ◌/◌, ◌%◌, ◌^◌, cond, None, Some}
 use Rattle.std.specs.Prelude.{ltb}
 use Rattle.hashlink_table.specs.declared.cell.Cell.{Cell}
 use Rattle.hashlink_table.specs.declared.cell.TheConstants.{END}
@@ -12,11 +12,10 @@ cell_of node hash link = record {
   next = link % 2 ^ 31;
 }
 
--- a hash of another bucket than b, if there is one
-abbrev pub apart : ℕ → ℕ
-apart zero = 1
-apart (suc b) = 0
+-- a bucket's own cell, without a node, where the bucket has no chain
+abbrev pub bare_cell : {N : Type 0} → Cell N
+bare_cell = record { kept = None; hash = 0; next = END }
 
--- the own cell of bucket b, without a node
-abbrev pub bare_cell : {N : Type 0} → ℕ → Cell N
-bare_cell b = record { kept = None; hash = apart b; next = END }
+-- the byte that stands for a node of this hash: the highest three bits of the hash and its lowest four
+abbrev pub tag_of : ℕ → ℕ
+tag_of hash = hash / 2 ^ 29 * 16 + hash % 16 + 128

@@ -1,5 +1,7 @@
-ghost use Rattle.std.specs.Prelude.{◌≡◌, ◌%◌, ◌≤◌};
+ghost use Rattle.std.specs.Prelude.{◌≡◌, ◌-◌, ◌%◌, ◌≤◌};
 ghost use Rattle.std.specs.Int.{IsPowerOfTwo};
+
+use super::lanes::LANES;
 
 /// Which of so many buckets a hash belongs to.
 #[inline]
@@ -10,17 +12,27 @@ pub fn bucket_of(hash: u32, buckets: usize) -> usize
     (hash as usize) & (buckets - 1)
 }
 
+/// The first bucket of this bucket's group.
+#[inline]
+pub fn group_of(bucket: usize) -> usize
+    ensures { result ≡ bucket - bucket % LANES }
+{
+    bucket - bucket % LANES
+}
+
 // The most room for which a table has two buckets for each node, and not one.
 const MAX_SPARSE_ROOM: usize = 1 << 10;
 
-/// How many buckets a table has that grows to this room.
+/// How many buckets a table has that grows to this room: whole groups.
 pub fn buckets_for(room: usize) -> usize
     requires { IsPowerOfTwo room }
     ensures power { IsPowerOfTwo result }
     ensures enough { room ≤ result }
-    ensures two { 2 ≤ result }
+    ensures grouped { result % LANES ≡ 0 }
 {
-    if room <= MAX_SPARSE_ROOM {
+    if room <= LANES / 2 {
+        LANES
+    } else if room <= MAX_SPARSE_ROOM {
         2 * room
     } else {
         room

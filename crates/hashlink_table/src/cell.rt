@@ -1,6 +1,4 @@
-ghost use Rattle.std.specs.Prelude.{◌≡◌, ◌+◌, ◌<◌, ◌≤◌, ◌≢◌, ◌^◌, ◌↔◌, Some, None};
-ghost use Rattle.std.specs.Prelude.{IfNone, IfSome, IsSome, IsTrue};
-ghost use Rattle.hashlink_table.specs.Stored.{bare_cell};
+ghost use Rattle.std.specs.Prelude.{◌≡◌, ◌≤◌, ◌↔◌, IsSome, IsTrue, None, Some};
 
 use super::kept::Kept;
 use std::marker::Model;
@@ -8,8 +6,8 @@ use std::marker::Model;
 /// What stands in place of a cell's number after the last cell of a chain. No table has so many cells.
 pub const END: usize = (1 << 31) - 1;
 
-// What is added to the link of a cell without a node.
-const FREE: u32 = 1 << 31;
+/// What is added to the link of a cell over without a node. It is above each link.
+pub const FREE: u32 = 1 << 31;
 
 /// What contracts see of a cell, a place for one node.
 #[derive(Clone, Copy)]
@@ -41,19 +39,6 @@ impl<N> Model for Stored<N> {
 }
 
 impl<N: Copy> Stored<N> {
-    /// This bucket's own cell, without a node. It stores a hash of another bucket: nearly all such cells are
-    /// alike, and quickly written.
-    #[inline]
-    pub fn bare(filler: N, bucket: usize) -> Self
-        ensures { result ≡ bare_cell bucket }
-    {
-        Stored {
-            node: filler,
-            hash: if bucket == 0 { 1 } else { 0 },
-            link: FREE + END as u32,
-        }
-    }
-
     /// A cell with a node.
     #[inline]
     pub fn taken(kept: Kept<N>, next: usize) -> Self
@@ -98,38 +83,12 @@ impl<N: Copy> Stored<N> {
         }
     }
 
-    /// The cell's node, if it has one under this hash. A cell without one stores another hash, so the hashes
-    /// alone are compared.
-    #[inline]
-    pub fn under(&self, hash: u32) -> Option<N>
-        requires { IfNone self.now.kept (self.now.hash ≢ hash) }
-        ensures here { IfSome result (λ node. self.now.kept ≡ Some (record { hash = hash; node = node })) }
-        ensures not_here { IfNone result
-            ((node : N) → self.now.kept ≢ Some (record { hash = hash; node = node })) }
-    {
-        if self.hash == hash {
-            Some(self.node)
-        } else {
-            None
-        }
-    }
-
     #[inline]
     pub fn next(&self) -> usize
         ensures value { result ≡ self.now.next }
         ensures small { result ≤ END }
     {
         (self.link % FREE) as usize
-    }
-
-    /// Puts a node in, in place of what the cell had.
-    #[inline]
-    pub fn put(&mut self, kept: Kept<N>)
-        ensures { self.new ≡ record self.old { kept = Some kept; hash = kept.hash } }
-    {
-        self.node = kept.node;
-        self.hash = kept.hash;
-        self.link %= FREE;
     }
 
     /// Takes the node out.
@@ -139,14 +98,6 @@ impl<N: Copy> Stored<N> {
         ensures { self.new ≡ record self.old { kept = None; next = next } }
     {
         self.link = FREE + next as u32;
-    }
-
-    /// Takes the node out of this bucket's own cell, which is then the only one of its chain.
-    #[inline]
-    pub fn set_bare(&mut self, bucket: usize)
-        ensures { self.new ≡ bare_cell bucket }
-    {
-        *self = Stored::bare(self.node, bucket);
     }
 
     #[inline]

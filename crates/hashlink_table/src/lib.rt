@@ -9,7 +9,10 @@ mod bucket;
 mod cell;
 mod error;
 mod kept;
+mod lanes;
 mod links;
+mod own;
+mod repeated;
 mod spot;
 mod steps;
 mod table;
@@ -19,5 +22,7 @@ pub use kept::Kept;
 pub use steps::Steps;
 pub use table::{MAX_ROOM, Table};
 
-// A cell takes 8 bytes beside its node.
+// A cell over takes 8 bytes beside its node, and a bucket's own cell 9.
 const _: () = prove!(std::mem::size_of::<cell::Stored<u64>>() == 16);
+
+const _: () = prove!(std::mem::size_of::<own::Cold>() == 8);

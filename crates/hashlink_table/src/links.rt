@@ -1,35 +1,23 @@
 //! The chains that lead through the cells.
-ghost use Rattle.std.specs.Prelude.{◌≡◌, ◌≢◌, ℕ, ◌+◌, ◌%◌, ◌^◌, ◌<◌, ◌≤◌, ◌==◌, ◌∷◌, ◌++◌, length, count_by};
-ghost use Rattle.std.specs.Prelude.{false};
-ghost use Rattle.std.specs.Prelude.{cond, is_some, true, IfNone, IfSome, IsPermutation, IsSome, Some};
-ghost use Rattle.std.specs.Prelude.{[], vec_capacity, vec_len};
+ghost use Rattle.std.specs.Prelude.{◌≡◌, ◌≢◌, ℕ, ◌+◌, ◌-◌, ◌%◌, ◌<◌, ◌≤◌, ◌==◌, ◌∷◌, ◌++◌, length};
+ghost use Rattle.std.specs.Prelude.{count_by, false, true, IfNone, IfSome, IsPermutation, IsSome, Some};
+ghost use Rattle.std.specs.Prelude.{vec_capacity, vec_len};
 ghost use Rattle.std.specs.Int.{IsPowerOfTwo};
-ghost use Rattle.hashlink_table.specs.Chains.{bare_cells, chain_at, chain_of, kept_at, kept_by, links_of};
-ghost use Rattle.hashlink_table.specs.Chains.{nodes_in, IsInPlace, IsLinked, IsLinkedBut, IsPlaced};
-ghost use Rattle.hashlink_table.specs.Chains.{SameNodes};
+ghost use Rattle.hashlink_table.specs.declared.kept.Kept.{Kept};
 ghost use Rattle.hashlink_table.specs.declared.spot.Spot.TheVariants.{Over};
+ghost use Rattle.hashlink_table.specs.Own.{lanes_of, may_be};
+ghost use Rattle.hashlink_table.specs.Chains.{chain_at, chain_of, kept_at, kept_by, links_of, next_at};
+ghost use Rattle.hashlink_table.specs.Chains.{nodes_in, AreTaken, IsFilled, IsInPlace, IsLinked, IsLinkedBut};
+ghost use Rattle.hashlink_table.specs.Chains.{IsPlaced, SameNodes};
 
-use super::bucket::bucket_of;
+use super::bucket::{bucket_of, group_of};
 use super::cell::{END, Stored};
 use super::kept::Kept;
+use super::lanes::LANES;
+use super::own::Own;
 use super::spot::Spot;
 use super::steps::Steps;
 use std::sync::ledger::Ledger;
-
-// Makes the own cells of so many buckets, without nodes.
-pub fn fill<N: Copy>(firsts: &mut Vec<Stored<N>>, filler: N, buckets: usize)
-    requires empty { firsts.old.items ≡ [] }
-    requires reserved { buckets ≤ vec_capacity firsts.old }
-    ensures { firsts.new.items ≡ bare_cells buckets }
-{
-    if buckets == 0 {
-        return;
-    }
-    firsts.push_reserved(Stored::bare(filler, 0));
-    for bucket in 1..buckets {
-        firsts.push_reserved(Stored::bare(filler, bucket)); // each of them the same
-    }
-}
 
 // Puts a cell where the first free one is, or after the last if none is free, and returns where.
 #[inline]
@@ -51,9 +39,9 @@ fn place<N: Copy>(cells: &mut Vec<Stored<N>>, free: &mut usize, cell: Stored<N>)
     at
 }
 
-// Chains a node in a cell over, right after its bucket's own.
+// Chains a node in a cell over, which is then the first of its bucket's chain.
 fn chain<N: Copy>(
-    firsts: &mut [Stored<N>],
+    firsts: &mut Own<N>,
     cells: &mut Vec<Stored<N>>,
     free: &mut usize,
     bucket: usize,
@@ -66,20 +54,21 @@ fn chain<N: Copy>(
     requires small { vec_len cells.old < END }
     ensures linked { IsLinked (links_of firsts.new) cells.new.items free.new }
     ensures firsts { SameNodes firsts.old firsts.new }
+    ensures others { (b : ℕ) → b ≢ bucket → next_at firsts.new b ≡ next_at firsts.old b }
     ensures nodes { IsPermutation (kept ∷ nodes_in cells.old.items) (nodes_in cells.new.items) }
     ensures capacity { vec_capacity cells.new ≡ vec_capacity cells.old }
     ensures full { free.old ≡ END → vec_len cells.new ≡ vec_len cells.old + 1 }
     ensures reused { free.old ≢ END → vec_len cells.new ≡ vec_len cells.old }
 {
-    let cell = Stored::taken(kept, firsts[bucket].next());
+    let cell = Stored::taken(kept, firsts.next(bucket));
     let at = place(cells, free, cell);
-    firsts[bucket].set_next(at);
+    firsts.set_next(bucket, at);
 }
 
-// Puts a node into its bucket: into the bucket's own cell where that is free, and else into a cell over.
+// Puts a node into its bucket: into a free cell of the bucket's group, or else into a cell over.
 #[inline]
 pub fn put<N: Copy>(
-    firsts: &mut [Stored<N>],
+    firsts: &mut Own<N>,
     cells: &mut Vec<Stored<N>>,
     free: &mut usize,
     bucket: usize,
@@ -87,27 +76,33 @@ pub fn put<N: Copy>(
 )
     requires within { bucket < length firsts.old }
     requires bucket { bucket ≡ kept.hash % length firsts.old }
+    requires whole { length firsts.old % LANES ≡ 0 }
     requires linked { IsLinked (links_of firsts.old) cells.old.items free.old }
     requires in_place { IsInPlace firsts.old }
+    requires filled { IsFilled firsts.old }
     requires reserved { free.old ≡ END → vec_len cells.old < vec_capacity cells.old }
     requires small { vec_len cells.old < END }
     ensures linked { IsLinked (links_of firsts.new) cells.new.items free.new }
     ensures in_place { IsInPlace firsts.new }
+    ensures filled { IsFilled firsts.new }
+    ensures len { length firsts.new ≡ length firsts.old }
     ensures nodes { IsPermutation (kept ∷ nodes_in firsts.old ++ nodes_in cells.old.items)
         (nodes_in firsts.new ++ nodes_in cells.new.items) }
     ensures capacity { vec_capacity cells.new ≡ vec_capacity cells.old }
     ensures full { free.old ≡ END → vec_len cells.new ≤ vec_len cells.old + 1 }
     ensures reused { free.old ≢ END → vec_len cells.new ≤ vec_len cells.old }
 {
-    if firsts[bucket].is_taken() {
+    let base = group_of(bucket);
+    let free_cells = firsts.free(base);
+    if free_cells == 0 {
         chain(firsts, cells, free, bucket, kept);
     } else {
-        firsts[bucket].put(kept);
+        firsts.put(base + free_cells.trailing_zeros() as usize, kept);
     }
 }
 
 // Removes a cell from its bucket's chain: the link to it leads past it.
-fn unlink<N: Copy>(firsts: &mut [Stored<N>], cells: &mut [Stored<N>], bucket: usize, cell: usize)
+fn unlink<N: Copy>(firsts: &mut Own<N>, cells: &mut [Stored<N>], bucket: usize, cell: usize)
     requires within { bucket < length firsts.old }
     requires on_chain { chain_at (length firsts.old) cells.old cell ≡ bucket }
     requires linked { (free : ℕ) × IsLinked (links_of firsts.old) cells.old free }
@@ -115,12 +110,13 @@ fn unlink<N: Copy>(firsts: &mut [Stored<N>], cells: &mut [Stored<N>], bucket: us
     ensures unlinked { (free : ℕ) → IsLinked (links_of firsts.old) cells.old free
         → IsLinkedBut (links_of firsts.new) cells.new free cell }
     ensures firsts { SameNodes firsts.old firsts.new }
+    ensures begun { (b : ℕ) → next_at firsts.new b ≢ END → next_at firsts.old b ≢ END }
     ensures nodes { SameNodes cells.old cells.new }
 {
     let after = cells[cell].next();
-    let mut at = firsts[bucket].next();
+    let mut at = firsts.next(bucket);
     if at == cell {
-        firsts[bucket].set_next(after);
+        firsts.set_next(bucket, after);
         return;
     }
     while cells[at].next() != cell {
@@ -131,7 +127,7 @@ fn unlink<N: Copy>(firsts: &mut [Stored<N>], cells: &mut [Stored<N>], bucket: us
 
 // Removes a node from its cell over, which is then the first free one.
 pub fn take_out<N: Copy>(
-    firsts: &mut [Stored<N>],
+    firsts: &mut Own<N>,
     cells: &mut [Stored<N>],
     free: &mut usize,
     bucket: usize,
@@ -143,6 +139,7 @@ pub fn take_out<N: Copy>(
     requires small { length cells.old < END }
     ensures linked { IsLinked (links_of firsts.new) cells.new free.new }
     ensures firsts { SameNodes firsts.old firsts.new }
+    ensures begun { (b : ℕ) → next_at firsts.new b ≢ END → next_at firsts.old b ≢ END }
     ensures kept { kept_at cells.old cell ≡ Some result }
     ensures nodes { IsPermutation (nodes_in cells.old) (result ∷ nodes_in cells.new) }
 {
@@ -155,52 +152,72 @@ pub fn take_out<N: Copy>(
 
 // What the cell has that a search found.
 #[inline]
-pub fn found<N: Copy>(
-    firsts: &[Stored<N>],
-    cells: &[Stored<N>],
-    bucket: usize,
-    spot: Spot,
-) -> Kept<N>
-    requires { IsSome (kept_by firsts.now cells.now bucket spot) }
-    ensures { kept_by firsts.now cells.now bucket spot ≡ Some result }
+pub fn found<N: Copy>(firsts: &Own<N>, cells: &[Stored<N>], spot: Spot) -> Kept<N>
+    requires { IsSome (kept_by firsts.now cells.now spot) }
+    ensures { kept_by firsts.now cells.now spot ≡ Some result }
 {
     match spot {
-        Spot::First => firsts[bucket].there(),
+        Spot::Own(at) => firsts.there(at),
         Spot::Over(at) => cells[at].there(),
     }
 }
 
-// Removes the node that a search found. If it was in its bucket's own cell, the next of the chain moves
-// there.
+// The first bucket of a group that has a chain.
+fn first_chained<N: Copy>(firsts: &Own<N>, base: usize) -> Option<usize>
+    requires within { base + LANES ≤ length firsts.now }
+    requires base { base % LANES ≡ 0 }
+    requires filled { IsFilled firsts.now }
+    ensures some { IfSome result (λ bucket. (base ≤ bucket) × (bucket < base + LANES)
+        × (next_at firsts.now bucket ≢ END)) }
+    ensures none { IfNone result
+        ((bucket : ℕ) → base ≤ bucket → bucket < base + LANES → next_at firsts.now bucket ≡ END) }
+{
+    if firsts.free(base) != 0 {
+        return None;
+    }
+    for bucket in base..base + LANES {
+        if firsts.next(bucket) != END {
+            return Some(bucket);
+        }
+    }
+    None
+}
+
+// Removes the node that a search found. If it was in a bucket's own cell and a bucket of the group has a
+// chain, the first of that chain moves there.
 pub fn take<N: Copy>(
-    firsts: &mut [Stored<N>],
+    firsts: &mut Own<N>,
     cells: &mut [Stored<N>],
     free: &mut usize,
     bucket: usize,
     spot: Spot,
 ) -> Kept<N>
     requires within { bucket < length firsts.old }
-    requires there { IsSome (kept_by firsts.old cells.old bucket spot) }
+    requires whole { length firsts.old % LANES ≡ 0 }
+    requires there { IsSome (kept_by firsts.old cells.old spot) }
     requires on_chain { (at : ℕ) → spot ≡ Over at → chain_at (length firsts.old) cells.old at ≡ bucket }
     requires linked { IsLinked (links_of firsts.old) cells.old free.old }
     requires in_place { IsInPlace firsts.old }
-    requires two { length firsts.old ≢ 1 }
+    requires filled { IsFilled firsts.old }
     requires small { length cells.old < END }
     ensures linked { IsLinked (links_of firsts.new) cells.new free.new }
     ensures in_place { IsInPlace firsts.new }
-    ensures kept { kept_by firsts.old cells.old bucket spot ≡ Some result }
+    ensures filled { IsFilled firsts.new }
+    ensures len { length firsts.new ≡ length firsts.old }
+    ensures kept { kept_by firsts.old cells.old spot ≡ Some result }
     ensures nodes { IsPermutation (nodes_in firsts.old ++ nodes_in cells.old)
         (result ∷ nodes_in firsts.new ++ nodes_in cells.new) }
 {
     match spot {
-        Spot::First => {
-            let kept = firsts[bucket].there();
-            let next = firsts[bucket].next();
-            if next == END {
-                firsts[bucket].set_bare(bucket);
-            } else {
-                let follower = take_out(firsts, cells, free, bucket, next);
-                firsts[bucket].put(follower);
+        Spot::Own(at) => {
+            let kept = firsts.there(at);
+            match first_chained(firsts, group_of(at)) {
+                None => firsts.set_free(at),
+                Some(chained) => {
+                    let next = firsts.next(chained);
+                    let follower = take_out(firsts, cells, free, chained, next);
+                    firsts.put(at, follower);
+                }
             }
             kept
         }
@@ -208,71 +225,126 @@ pub fn take<N: Copy>(
     }
 }
 
-// The cell's node, if it has one under this hash. Finds look at a stored hash here alone, and each look at a
-// node's takes a step.
+// The first cell of a group whose node has this hash and matches. It looks closer at the nodes alone of
+// which the tag is the hash's, and takes a step for each.
 #[inline]
-fn look<N: Copy, L: Ledger>(cell: &Stored<N>, hash: u32, steps: &mut Steps<L>) -> Option<N>
-    requires { IfNone cell.now.kept (cell.now.hash ≢ hash) }
-    ensures step { steps.new ≡ steps.old + cond (is_some cell.now.kept) 1 0 }
-    ensures here { IfSome result (λ node. cell.now.kept ≡ Some (record { hash = hash; node = node })) }
-    ensures not_here { IfNone result
-        ((node : N) → cell.now.kept ≢ Some (record { hash = hash; node = node })) }
+fn seek_own<N: Copy, F: Fn(N) -> bool, L: Ledger>(
+    firsts: &Own<N>,
+    base: usize,
+    hash: u32,
+    is_match: &F,
+    steps: &mut Steps<L>,
+) -> Option<usize>
+    requires within { base + LANES ≤ length firsts.now }
+    requires callable { (at : ℕ) (kept : Kept N) → kept_at firsts.now at ≡ Some kept
+        → F.pre is_match.now kept.node }
+    ensures found { IfSome result (λ at. (kept : Kept N) × (kept_at firsts.now at ≡ Some kept)
+        × F.post is_match.now kept.node true) }
+    ensures none { IfNone result
+        ((at : ℕ) (node : N) → base ≤ at → at < base + LANES
+        → kept_at firsts.now at ≡ Some (record { hash = hash; node = node })
+        → F.post is_match.now node false) }
+    ensures goes_on { steps.old ≤ steps.new }
+    ensures cost { steps.new ≤ steps.old + count_by (may_be hash) (lanes_of firsts.now base) }
 {
-    if cell.is_taken() {
+    let mut at = base;
+    let mut hits = firsts.under(base, hash);
+    while hits != 0 {
+        let skipped = hits.trailing_zeros();
+        at += skipped as usize;
         steps.tick();
+        if is_match(firsts.node(at)) {
+            return Some(at);
+        }
+        at += 1;
+        hits = (hits >> skipped) / 2;
     }
-    cell.under(hash)
+    None
 }
 
-// Where the first node of its bucket is that has this hash and matches.
-#[inline]
-pub fn seek<N: Copy, F: Fn(N) -> bool, L: Ledger>(
-    firsts: &[Stored<N>],
+// The first cell of the hash's chain whose node has this hash and matches. It takes a step for each cell
+// that it passes.
+fn seek_over<N: Copy, F: Fn(N) -> bool, L: Ledger>(
+    firsts: &Own<N>,
     cells: &[Stored<N>],
     hash: u32,
-    is_match: F,
+    is_match: &F,
     steps: &mut Steps<L>,
-) -> Option<Spot>
+) -> Option<usize>
     requires masked { IsPowerOfTwo (length firsts.now) }
-    requires in_place { IsInPlace firsts.now }
     requires linked { (free : ℕ) × IsLinked (links_of firsts.now) cells.now free }
-    requires callable_first { (node : N) → kept_at firsts.now (hash % length firsts.now) ≡ Some
-        (record { hash = hash; node = node })
-        → F.pre is_match node }
     requires callable { (cell : ℕ) (node : N) → kept_at cells.now cell ≡ Some
         (record { hash = hash; node = node })
-        → F.pre is_match node }
+        → F.pre is_match.now node }
     ensures found { IfSome result
-        (λ spot. (node : N) × (kept_by firsts.now cells.now (hash % length firsts.now) spot ≡ Some
-        (record { hash = hash; node = node }))
-        × F.post is_match node true) }
-    ensures none_first { IfNone result
-        ((node : N) → kept_at firsts.now (hash % length firsts.now) ≡ Some
-        (record { hash = hash; node = node })
-        → F.post is_match node false) }
+        (λ at. (node : N) × (kept_at cells.now at ≡ Some (record { hash = hash; node = node }))
+        × F.post is_match.now node true) }
     ensures none { IfNone result
         ((cell : ℕ) (node : N) → kept_at cells.now cell ≡ Some (record { hash = hash; node = node })
-        → F.post is_match node false) }
+        → F.post is_match.now node false) }
     ensures goes_on { steps.old ≤ steps.new }
     ensures cost { let m = length firsts.now in let b = hash % m in steps.new
-        ≤ steps.old + cond (is_some (kept_at firsts.now b)) 1 0
-        + count_by (λ c. chain_of m c.kept == b) cells.now }
+        ≤ steps.old + count_by (λ c. chain_of m c.kept == b) cells.now }
 {
-    let first = &firsts[bucket_of(hash, firsts.len())];
-    if let Some(node) = look(first, hash, steps) {
-        if is_match(node) {
-            return Some(Spot::First);
-        }
-    }
-    let mut at = first.next();
+    let mut at = firsts.next(bucket_of(hash, firsts.len()));
     while at != END {
         let cell = &cells[at];
-        if let Some(node) = look(cell, hash, steps) {
-            if is_match(node) {
-                return Some(Spot::Over(at));
-            }
+        let kept = cell.there();
+        steps.tick();
+        if kept.hash == hash && is_match(kept.node) {
+            return Some(at);
         }
         at = cell.next();
     }
     None
+}
+
+// Where the first node is that has this hash and matches: in the cells of its group, or else in the chain of
+// its bucket.
+#[inline]
+pub fn seek<N: Copy, F: Fn(N) -> bool, L: Ledger>(
+    firsts: &Own<N>,
+    cells: &[Stored<N>],
+    hash: u32,
+    is_match: &F,
+    steps: &mut Steps<L>,
+) -> Option<Spot>
+    requires masked { IsPowerOfTwo (length firsts.now) }
+    requires whole { length firsts.now % LANES ≡ 0 }
+    requires in_place { IsInPlace firsts.now }
+    requires filled { IsFilled firsts.now }
+    requires linked { (free : ℕ) × IsLinked (links_of firsts.now) cells.now free }
+    requires callable_own { (at : ℕ) (kept : Kept N) → kept_at firsts.now at ≡ Some kept
+        → F.pre is_match.now kept.node }
+    requires telling { (at : ℕ) (kept : Kept N) → kept_at firsts.now at ≡ Some kept
+        → F.post is_match.now kept.node true → kept.hash ≡ hash }
+    requires callable { (cell : ℕ) (node : N) → kept_at cells.now cell ≡ Some
+        (record { hash = hash; node = node })
+        → F.pre is_match.now node }
+    ensures found { IfSome result
+        (λ spot. (node : N) × (kept_by firsts.now cells.now spot ≡ Some
+        (record { hash = hash; node = node }))
+        × F.post is_match.now node true) }
+    ensures none_own { IfNone result
+        ((at : ℕ) (node : N) → kept_at firsts.now at ≡ Some (record { hash = hash; node = node })
+        → F.post is_match.now node false) }
+    ensures none { IfNone result
+        ((cell : ℕ) (node : N) → kept_at cells.now cell ≡ Some (record { hash = hash; node = node })
+        → F.post is_match.now node false) }
+    ensures goes_on { steps.old ≤ steps.new }
+    ensures cost { let m = length firsts.now in let b = hash % m in steps.new
+        ≤ steps.old + count_by (may_be hash) (lanes_of firsts.now (b - b % LANES))
+        + count_by (λ c. chain_of m c.kept == b) cells.now }
+{
+    let base = group_of(bucket_of(hash, firsts.len()));
+    if let Some(at) = seek_own(firsts, base, hash, is_match, steps) {
+        return Some(Spot::Own(at));
+    }
+    if firsts.free(base) != 0 {
+        return None; // no bucket of the group has a chain
+    }
+    match seek_over(firsts, cells, hash, is_match, steps) {
+        Some(at) => Some(Spot::Over(at)),
+        None => None,
+    }
 }

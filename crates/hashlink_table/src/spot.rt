@@ -1,6 +1,6 @@
-/// Where a node stands: in its bucket's own cell, or in a cell over.
+/// Where a node stands: in a bucket's own cell, or in a cell over.
 #[derive(Clone, Copy)]
 pub enum Spot {
-    First,
+    Own(usize),
     Over(usize),
 }

@@ -1,4 +1,4 @@
-ghost use Rattle.std.specs.Prelude.{◌≡◌, ℕ, ◌+◌, ◌*◌, ◌^◌, ◌<◌, ◌≤◌, ◌↔◌, ◌∷◌, ◌++◌, [], false, true};
+ghost use Rattle.std.specs.Prelude.{◌≡◌, ℕ, ◌+◌, ◌*◌, ◌%◌, ◌^◌, ◌<◌, ◌≤◌, ◌↔◌, ◌∷◌, ◌++◌, [], false, true};
 ghost use Rattle.std.specs.Prelude.{IfNone, IfOk, IfSome, IsOk, IsPermutation, OnErr, OnOk, Ok, Err};
 ghost use Rattle.std.specs.Prelude.{length, max};
 ghost use Rattle.std.specs.Int.{IsPowerOfTwo};
@@ -10,7 +10,9 @@ use super::bucket::{bucket_of, buckets_for};
 use super::cell::{END, Stored};
 use super::error::TryReserveError;
 use super::kept::Kept;
+use super::lanes::LANES;
 use super::links;
+use super::own::Own;
 use super::steps::Steps;
 use std::alloc::{AllocError, Global};
 use std::marker::{Brand, Model};
@@ -28,14 +30,14 @@ const MIN_ROOM: usize = 4;
 
 /// Nodes by their hashes.
 ///
-/// A new table does not allocate. It takes then 8 bytes and a node for each bucket, of which there are as
-/// many as it has room for nodes or up to twice, and twice that in a small table, and as much for each cell
-/// over.
+/// A new table does not allocate. It takes then 9 bytes and a node for each bucket, of which there are as
+/// many as it has room for nodes, or twice as many in a small table, and at least 16. It takes 8 bytes and a
+/// node for each cell over.
 #[derive(Drop)]
 pub struct Table<N> {
-    // The buckets' own cells. There are none or a power of two.
-    firsts: Vec<Stored<N>>,
-    // The cells of the nodes that share a bucket with another.
+    // The buckets' own cells. There are none or a power of two, and whole groups.
+    firsts: Own<N>,
+    // The cells of the nodes for which there was no place in their group.
     overs: Vec<Stored<N>>,
     // The first cell over without a node, or `END`.
     free: usize,
@@ -55,9 +57,9 @@ impl<N> Model for Table<N> {
 
     ghost use Rattle.hashlink_table.specs.Chains.{contents, IsSound};
 
-    ghost view = { λ t. contents t.firsts.items t.overs.items t.room };
+    ghost view = { λ t. contents t.firsts t.overs.items t.room };
 
-    ghost invariant = { λ t. IsSound t.firsts.items t.overs.items (vec_capacity t.overs) t.free t.len
+    ghost invariant = { λ t. IsSound t.firsts t.overs.items (vec_capacity t.overs) t.free t.len
         t.room };
 }
 
@@ -68,7 +70,7 @@ impl<N: Copy> Table<N> {
         ensures { result ≡ record { nodes = []; room = 0 } }
     {
         Table {
-            firsts: Vec::new(alloc),
+            firsts: Own::new(alloc),
             overs: Vec::new(alloc),
             free: END,
             len: 0,
@@ -100,11 +102,10 @@ impl<N: Copy> Table<N> {
         requires power { IsPowerOfTwo buckets }
         requires small { buckets ≤ 2 ^ 30 }
         requires headed { room ≤ buckets }
-        requires two { 2 ≤ buckets }
+        requires whole { buckets % LANES ≡ 0 }
         ensures { IfOk result (λ t. t ≡ record { nodes = []; room = room }) }
     {
-        let mut firsts = Vec::with_capacity(alloc, buckets)?;
-        links::fill(&mut firsts, filler, buckets);
+        let firsts = Own::with_cells(alloc, filler, buckets)?;
         let overs = Vec::with_capacity(alloc, room)?;
         Ok(Table {
             firsts,
@@ -154,11 +155,13 @@ impl<N: Copy> Table<N> {
         self.len += 1;
     }
 
-    /// Removes a node of this hash that matches, which frees its room, and returns it. It calls `is_match` on
-    /// nodes of this hash alone, and compares no keys.
+    /// Removes a node of this hash that matches, which frees its room, and returns it. It looks for it as `find`
+    /// does, and compares no keys.
     #[inline]
     pub fn remove<F: Fn(N) -> bool>(&mut self, hash: u32, is_match: F) -> Option<N>
-        requires { (node : N) → Keeps self.old hash node → F.pre is_match node }
+        requires callable { (h : ℕ) (node : N) → Keeps self.old h node → F.pre is_match node }
+        requires telling { (h : ℕ) (node : N) → Keeps self.old h node → F.post is_match node true
+            → h ≡ hash }
         ensures removed { IfSome result (λ node. IsPermutation self.old.nodes
             (record { hash = hash; node = node } ∷ self.new.nodes)
             × F.post is_match node true) }
@@ -180,7 +183,9 @@ impl<N: Copy> Table<N> {
         requires name { blank.name ≡ L.name }
         requires parts { blank.parts ≡ L.parts }
         requires some_part { 0 < blank.parts }
-        requires callable { (node : N) → Keeps self.old hash node → F.pre is_match node }
+        requires callable { (h : ℕ) (node : N) → Keeps self.old h node → F.pre is_match node }
+        requires telling { (h : ℕ) (node : N) → Keeps self.old h node → F.post is_match node true
+            → h ≡ hash }
         ensures removed { IfSome result (λ node. IsPermutation self.old.nodes
             (record { hash = hash; node = node } ∷ self.new.nodes)
             × F.post is_match node true) }
@@ -193,7 +198,7 @@ impl<N: Copy> Table<N> {
             return None;
         }
         let mut steps = Steps::<L>::new(blank);
-        match links::seek(&self.firsts, &self.overs, hash, is_match, &mut steps) {
+        match links::seek(&self.firsts, &self.overs, hash, &is_match, &mut steps) {
             None => None,
             Some(spot) => {
                 let bucket = bucket_of(hash, self.firsts.len());
@@ -210,9 +215,10 @@ impl<N: Copy> Table<N> {
         }
     }
 
-    /// Returns the node of this hash that matches, if no more than one does: the first of the hash's bucket.
-    /// It calls `is_match` on nodes of this hash alone, and takes a step for each node of the bucket that it
-    /// passes.
+    /// Returns the node of this hash that matches, if no more than one does: the first that it looks at. It
+    /// takes a step for each node that it looks at: those of the hash's group of which the tag is the hash's,
+    /// and then those of its chain. It calls `is_match` on nodes that it looks at alone, which may be of other
+    /// hashes.
     #[inline]
     pub fn find<F: Fn(N) -> bool, L: Ledger>(
         &self,
@@ -220,7 +226,9 @@ impl<N: Copy> Table<N> {
         is_match: F,
         steps: &mut Steps<L>,
     ) -> Option<N>
-        requires { (node : N) → Keeps self.now hash node → F.pre is_match node }
+        requires callable { (h : ℕ) (node : N) → Keeps self.now h node → F.pre is_match node }
+        requires telling { (h : ℕ) (node : N) → Keeps self.now h node → F.post is_match node true
+            → h ≡ hash }
         ensures found { IfSome result (λ node. Keeps self.now hash node × F.post is_match node true) }
         ensures none { IfNone result
             ((node : N) → Keeps self.now hash node → F.post is_match node false) }
@@ -231,19 +239,18 @@ impl<N: Copy> Table<N> {
         if self.len == 0 {
             return None;
         }
-        match links::seek(&self.firsts, &self.overs, hash, is_match, steps) {
+        match links::seek(&self.firsts, &self.overs, hash, &is_match, steps) {
             None => None,
-            Some(spot) => {
-                let bucket = bucket_of(hash, self.firsts.len());
-                Some(links::found(&self.firsts, &self.overs, bucket, spot).node)
-            }
+            Some(spot) => Some(links::found(&self.firsts, &self.overs, spot).node),
         }
     }
 
     /// `find`, where nobody counts the steps.
     #[inline]
     pub fn look_up<F: Fn(N) -> bool>(&self, hash: u32, is_match: F) -> Option<N>
-        requires { (node : N) → Keeps self.now hash node → F.pre is_match node }
+        requires callable { (h : ℕ) (node : N) → Keeps self.now h node → F.pre is_match node }
+        requires telling { (h : ℕ) (node : N) → Keeps self.now h node → F.post is_match node true
+            → h ≡ hash }
         ensures found { IfSome result
             (λ node. Keeps self.now hash node × F.post is_match node true) }
         ensures none { IfNone result
@@ -263,7 +270,9 @@ impl<N: Copy> Table<N> {
         requires name { blank.name ≡ L.name }
         requires parts { blank.parts ≡ L.parts }
         requires some_part { 0 < blank.parts }
-        requires callable { (node : N) → Keeps self.now hash node → F.pre is_match node }
+        requires callable { (h : ℕ) (node : N) → Keeps self.now h node → F.pre is_match node }
+        requires telling { (h : ℕ) (node : N) → Keeps self.now h node → F.post is_match node true
+            → h ≡ hash }
         ensures found { IfSome result
             (λ node. Keeps self.now hash node × F.post is_match node true) }
         ensures none { IfNone result
@@ -277,9 +286,7 @@ impl<N: Copy> Table<N> {
     pub fn clear(&mut self)
         ensures { self.new ≡ record self.old { nodes = [] } }
     {
-        let buckets = self.firsts.len();
         self.firsts.clear();
-        links::fill(&mut self.firsts, self.filler, buckets);
         self.overs.clear();
         self.free = END;
         self.len = 0;
@@ -335,7 +342,7 @@ impl<N: Copy> Table<N> {
         requires power { IsPowerOfTwo buckets }
         requires held { len_of self.old ≤ room }
         requires headed { room ≤ buckets }
-        requires two { 2 ≤ buckets }
+        requires whole { buckets % LANES ≡ 0 }
         ensures nodes { IsPermutation self.old.nodes self.new.nodes }
         ensures ok { OnOk result (self.new.room ≡ room) }
         ensures err { OnErr result (self.new ≡ self.old) }
@@ -345,14 +352,27 @@ impl<N: Copy> Table<N> {
         }
         let alloc = *self.overs.allocator();
         let mut table = Table::with_buckets(alloc, self.filler, buckets, room)?;
-        table.insert_all(&self.firsts);
-        table.insert_all(&self.overs);
+        table.insert_own(&self.firsts);
+        table.insert_overs(&self.overs);
         *self = table;
         Ok(())
     }
 
-    // Puts the nodes of these cells in.
-    fn insert_all(&mut self, cells: &[Stored<N>])
+    // Puts the nodes of the buckets' own cells in.
+    fn insert_own(&mut self, cells: &Own<N>)
+        requires { len_of self.old + length (nodes_in cells.now) ≤ self.old.room }
+        ensures inserted { IsPermutation (self.old.nodes ++ nodes_in cells.now) self.new.nodes }
+        ensures room { self.new.room ≡ self.old.room }
+    {
+        for at in 0..cells.len() {
+            if let Some(own) = cells.kept(at) {
+                self.insert_reserved(own.hash, own.node);
+            }
+        }
+    }
+
+    // Puts the nodes of the cells over in.
+    fn insert_overs(&mut self, cells: &[Stored<N>])
         requires { len_of self.old + length (nodes_in cells.now) ≤ self.old.room }
         ensures inserted { IsPermutation (self.old.nodes ++ nodes_in cells.now) self.new.nodes }
         ensures room { self.new.room ≡ self.old.room }

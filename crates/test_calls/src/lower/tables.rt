@@ -1,5 +1,6 @@
 ghost use Rattle.std.specs.Prelude.{◌≡◌, ℕ, ◌+◌, ◌<◌, ◌≤◌, IfOk};
 ghost use Rattle.hashlink_table.specs.Contents.{agreeing};
+ghost use Rattle.test_calls.specs.Telling.{Tells};
 
 use crate::few::passes;
 use hashlink_table::{Steps, Table, TryReserveError};
@@ -39,33 +40,57 @@ const HASHES: [Hashes; 4] = [
     },
 ];
 
+/// A number, with the hash under which a table keeps it.
+#[derive(Clone, Copy, PartialEq, Eq)]
+struct Entry {
+    hash: u32,
+    number: u32,
+}
+
+impl Entry {
+    fn new(hash: u32, number: u32) -> Self
+        ensures { result ≡ record { hash = hash; number = number } }
+    {
+        Entry { hash, number }
+    }
+}
+
 /// Inserts two numbers under the hash, and removes the first one.
 #[tactic(auto, using(std::proofs::lemmas::List::Sorted::length_permutation))]
 fn put_second(
-    table: &mut Table<u32>,
+    table: &mut Table<Entry>,
     hash: u32,
     first: u32,
     second: u32,
-) -> Result<(), TryReserveError> {
+) -> Result<(), TryReserveError>
+    requires { Tells (λ e. e.hash) table.old }
+    ensures { Tells (λ e. e.hash) table.new }
+{
+    let entry = Entry::new(hash, first);
     table.reserve(2)?;
-    table.insert_reserved(hash, first);
-    table.insert_reserved(hash, second);
-    table.remove(hash, |node| node == first);
+    table.insert_reserved(hash, entry);
+    table.insert_reserved(hash, Entry::new(hash, second));
+    table.remove(hash, |node| node == entry);
     Ok(())
 }
 
 /// Puts a number in under the hash.
 #[tactic(auto, using(std::proofs::lemmas::List::Sorted::length_permutation))]
-fn put(table: &mut Table<u32>, hash: u32, number: u32) -> Result<(), TryReserveError> {
+fn put(table: &mut Table<Entry>, hash: u32, number: u32) -> Result<(), TryReserveError>
+    requires { Tells (λ e. e.hash) table.old }
+    ensures { Tells (λ e. e.hash) table.new }
+{
     table.reserve(1)?;
-    table.insert_reserved(hash, number);
+    table.insert_reserved(hash, Entry::new(hash, number));
     Ok(())
 }
 
 /// A table of the numbers below 300. Each was inserted after another under the same hash, which was removed
 /// again.
-fn table_of(alloc: Global, hashes: Hashes) -> Result<Table<u32>, TryReserveError> {
-    let mut table = Table::new(alloc, 0);
+fn table_of(alloc: Global, hashes: Hashes) -> Result<Table<Entry>, TryReserveError>
+    ensures { IfOk result (Tells (λ e. e.hash)) }
+{
+    let mut table = Table::new(alloc, Entry::new(0, 0));
     for number in 0..300u32 {
         put_second(&mut table, hashes.of(number), number + 1000, number)?;
     }
@@ -73,12 +98,17 @@ fn table_of(alloc: Global, hashes: Hashes) -> Result<Table<u32>, TryReserveError
 }
 
 /// Whether a number is found.
-fn has(table: &Table<u32>, hash: u32, number: u32) -> bool {
-    table.look_up(hash, |node| node == number) == Some(number)
+fn has(table: &Table<Entry>, hash: u32, number: u32) -> bool
+    requires { Tells (λ e. e.hash) table.now }
+{
+    let entry = Entry::new(hash, number);
+    table.look_up(hash, |node| node == entry) == Some(entry)
 }
 
 /// Whether the numbers below 300 are found, and none that was removed.
-fn finds(table: &Table<u32>, hashes: Hashes) -> bool {
+fn finds(table: &Table<Entry>, hashes: Hashes) -> bool
+    requires { Tells (λ e. e.hash) table.now }
+{
     for number in 0..300u32 {
         let hash = hashes.of(number);
         if !has(table, hash, number) || has(table, hash, number + 1000) {
@@ -91,7 +121,8 @@ fn finds(table: &Table<u32>, hashes: Hashes) -> bool {
 // A table of the numbers from 1 to 500, each under itself as its hash.
 #[tactic(auto, using(std::proofs::lemmas::List::Sorted::length_permutation))]
 fn numbered(alloc: Global) -> Result<Table<u32>, Fail>
-    ensures { IfOk result (λ t. (hash m : ℕ) → t.room ≤ m → agreeing t hash m ≤ 2) }
+    ensures few { IfOk result (λ t. (hash m : ℕ) → t.room ≤ m → agreeing t hash m ≤ 2) }
+    ensures telling { IfOk result (Tells (λ n. n)) }
 {
     let mut table = Table::new(alloc, 0);
     for number in 1..501u32 {
@@ -103,7 +134,8 @@ fn numbered(alloc: Global) -> Result<Table<u32>, Fail>
 
 // Finds those numbers. A thousand steps are enough for all.
 fn find_each<L: Ledger>(table: &Table<u32>, steps: &mut Steps<L>) -> bool
-    requires { (hash m : ℕ) → table.now.room ≤ m → agreeing table.now hash m ≤ 2 }
+    requires few { (hash m : ℕ) → table.now.room ≤ m → agreeing table.now hash m ≤ 2 }
+    requires telling { Tells (λ n. n) table.now }
     ensures { steps.new ≤ steps.old + 1000 }
 {
     let mut all = true;
@@ -137,8 +169,9 @@ fn finds_each_of_500_in_1000_steps(rt: HostRuntime) -> Result<(), Fail> {
 fn found(alloc: Global, hashes: Hashes) -> Result<[bool; 5], TryReserveError> {
     let mut table = table_of(alloc, hashes)?;
     let stays = finds(&table, hashes);
-    // The test is asked of no number.
-    let is_strange = table.look_up(u32::MAX, |_node| true).is_some();
+    let is_strange = table
+        .look_up(u32::MAX, |node| node.hash == u32::MAX)
+        .is_some();
     let still = table.shrink().is_ok() && finds(&table, hashes);
     table.clear();
     let is_left = has(&table, hashes.of(7), 7);
@@ -167,7 +200,7 @@ fn finds_what_stays_whatever_the_hashes_agree_in(rt: HostRuntime) -> ExitCode {
 
 /// What comes of an absurd room, and whether the table of one number then is as it was.
 fn refuse(alloc: Global) -> ([Result<(), TryReserveError>; 2], bool) {
-    let mut table = Table::<u32>::new(alloc, 0);
+    let mut table = Table::new(alloc, Entry::new(0, 0));
     let is_put = put(&mut table, 5, 7).is_ok();
     let room = table.room();
     let refused = [table.reserve(1 << 61), table.reserve(usize::MAX)];
@@ -186,12 +219,12 @@ fn refuses_an_absurd_room(rt: HostRuntime) -> ExitCode {
 
 /// The room of an empty table that is made with this room.
 fn made_with_room(alloc: Global, room: usize) -> Result<usize, TryReserveError> {
-    Ok(Table::with_room(alloc, 0u32, room)?.room())
+    Ok(Table::with_room(alloc, Entry::new(0, 0), room)?.room())
 }
 
 /// The room of a table that held a number, before and after it is shrunk without one.
 fn rooms_of_none(alloc: Global) -> Result<(usize, usize), TryReserveError> {
-    let mut table = Table::new(alloc, 0);
+    let mut table = Table::new(alloc, Entry::new(0, 0));
     put(&mut table, 5, 7)?;
     table.clear();
     let kept = table.room();

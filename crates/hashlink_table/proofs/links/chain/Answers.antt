@@ -1,9 +1,9 @@
-use Rattle.std.proofs.Common.{length, sym, ap, ◌∙◌, inl, inr, arith}
-use Rattle.std.proofs.Math.Seq.{map-set_same}
-use Rattle.std.proofs.lemmas.List.{get_or_read, length_push}
+use Rattle.std.proofs.Common.{List, length, refl, sym, ap, ◌∙◌, inl, inr, subst, arith}
+use Rattle.std.proofs.lemmas.List.{length_push}
 use Rattle.hashlink_table.specs.declared.cell.Cell.{Cell}
-use Rattle.hashlink_table.specs.Chains.{no_cell, links_of, stored_in}
+use Rattle.hashlink_table.specs.Chains.{links_of, next_at, IsLinked, SameNodes}
 use Rattle.hashlink_table.proofs.Chaining.{chained, chained-nodes, free_within}
+use Rattle.hashlink_table.proofs.Moving.{next-same, next-others}
 use Rattle.hashlink_table.proofs.links.chain.Goals as goal
 
 pub place-at-requires-clause-within : goal.place-at-requires-clause-within
@@ -30,22 +30,25 @@ pub returns-clause-linked : goal.returns-clause-linked
 returns-clause-linked g c =
     let C : Type 0 = Cell g.row.N.Denot in
     let firsts = c.args.firsts.now in
-    chained firsts c.args.cells.now.items c.place-at.new.cells.items c.args.free.now c.place-at.new.free
-    c.place-at.result c.args.bucket c.taken-cell.result c.set_next.new.self c.args.kept c.requires.linked
+    let cells = c.place-at.new.cells.items in
+    subst (λ (f : List C). IsLinked (links_of f) cells c.place-at.new.free) (sym c.set_next.ensures)
+    (chained firsts c.args.cells.now.items cells c.args.free.now c.place-at.new.free
+    c.place-at.result c.args.bucket c.taken-cell.result _ c.args.kept c.requires.linked
     c.requires.within c.requires.bucket (omega (arith, c.requires.small, c.args.cells.now.ok.0))
     c.place-at.ensures.placed
     (ap (λ (d : C). d.kept) c.taken-cell.ensures)
-    (ap (λ (d : C). d.next) c.taken-cell.ensures ∙ c.next.ensures.value
-    ∙ ap (λ (d : C). d.next) (sym c.index-firsts-bucket.is ∙ get_or_read firsts c.args.bucket
-    c.index-firsts-bucket.result c.requires.within c.index-firsts-bucket.is no_cell))
-    (ap (λ (d : C). d.next) c.set_next.ensures)
+    (ap (λ (d : C). d.next) c.taken-cell.ensures ∙ c.next.ensures.value)
+    refl)
 
 pub returns-clause-firsts : goal.returns-clause-firsts
 returns-clause-firsts g c =
-    let C : Type 0 = Cell g.row.N.Denot in
-    map-set_same stored_in c.args.firsts.now c.args.bucket c.set_next.new.self
-    c.index-firsts-bucket-2.result
-    (ap stored_in c.set_next.ensures)
+    subst (SameNodes c.args.firsts.now) (sym c.set_next.ensures)
+    (next-same c.args.firsts.now c.args.bucket c.place-at.result)
+
+pub returns-clause-others : goal.returns-clause-others
+returns-clause-others g c = λ b ne.
+    ap (λ (f : List (Cell g.row.N.Denot)). next_at f b) c.set_next.ensures
+    ∙ next-others c.args.firsts.now c.args.bucket c.place-at.result b ne
 
 pub returns-clause-nodes : goal.returns-clause-nodes
 returns-clause-nodes g c =

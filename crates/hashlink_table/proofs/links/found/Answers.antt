@@ -3,31 +3,11 @@ use Rattle.hashlink_table.specs.declared.cell.Cell.{Cell}
 use Rattle.hashlink_table.proofs.Cells.{kept_at_read, within_by_kept}
 use Rattle.hashlink_table.proofs.links.found.Goals as goal
 
-pub bounds-firsts-bucket : goal.bounds-firsts-bucket
-bounds-firsts-bucket g c =
-    within_by_kept c.args.firsts.now c.args.bucket (rw c.in-First.is at c.requires)
-
-pub offset_bounds-firsts-bucket : goal.offset_bounds-firsts-bucket
-offset_bounds-firsts-bucket g c =
-    omega (arith, within_by_kept c.args.firsts.now c.args.bucket (rw c.in-First.is at c.requires))
-
 pub there-requires : goal.there-requires
-there-requires g c =
-    let C : Type 0 = Cell g.row.N.Denot in
-    let some = rw c.in-First.is at c.requires in
-    subst IsSome
-    (sym (ap (λ (d : C). d.kept) c.index-firsts-bucket.is
-    ∙ kept_at_read c.args.firsts.now c.args.bucket c.index-firsts-bucket.result
-    (within_by_kept c.args.firsts.now c.args.bucket some)))
-    some
+there-requires g c = rw c.in-Own.is at c.requires
 
-pub returns-in-First : goal.returns-in-First
-returns-in-First g c =
-    let C : Type 0 = Cell g.row.N.Denot in
-    let within = within_by_kept c.args.firsts.now c.args.bucket (rw c.in-First.is at c.requires) in
-    rw c.in-First.is
-    (sym (kept_at_read c.args.firsts.now c.args.bucket c.index-firsts-bucket.result within)
-    ∙ sym (ap (λ (d : C). d.kept) c.index-firsts-bucket.is) ∙ c.there.ensures)
+pub returns-in-Own : goal.returns-in-Own
+returns-in-Own g c = rw c.in-Own.is c.there.ensures
 
 pub bounds-cells-at : goal.bounds-cells-at
 bounds-cells-at g c =

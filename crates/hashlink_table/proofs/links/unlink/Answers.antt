@@ -1,10 +1,12 @@
 use Rattle.hashlink_table.specs.declared.cell.Cell.{Cell}
-use Rattle.std.proofs.Common.{ℕ, ◌<◌, length, sym, ap, ◌∙◌, subst, inl, inr, arith, rules}
+use Rattle.std.proofs.Common.{ℕ, ◌<◌, ◌≢◌, List, length, sym, ap, ◌∙◌, subst, inl, inr, arith, rules}
 use Rattle.std.proofs.Math.Seq.{map-set_same}
-use Rattle.hashlink_table.specs.Chains.{next_at, chain_at, links_of, Among, IsLinkedBut, stored_in}
+use Rattle.hashlink_table.specs.declared.cell.TheConstants.{END}
+use Rattle.hashlink_table.specs.Chains.{next_at, chain_at, links_of, Among, IsLinkedBut, SameNodes, stored_in}
 use Rattle.hashlink_table.proofs.Chaining.{length-links, link_read, link_set, on_within}
 use Rattle.hashlink_table.proofs.Cells.{within_by_chain, kept_at_read, next_at_read}
 use Rattle.hashlink_table.proofs.Linking.{unlinked_first, unlinked_next}
+use Rattle.hashlink_table.proofs.Moving.{next-same, next-begun}
 use Rattle.hashlink_table.proofs.Walks.{IsWalk, walk_of, walk_on, walk_at, walk_goes}
 use Rattle.hashlink_table.proofs.Walks.{steps_left}
 use Rattle.hashlink_table.proofs.Walks.{steps_left-falls}
@@ -20,14 +22,12 @@ returns-then-at-cell-clause-unlinked g c =
     let low : c.args.bucket < length heads = omega (arith, c.requires.within, n) in
     let within : c.args.cell < length cells
     = within_by_chain (length heads) cells c.args.cell c.args.bucket on (omega arith) in
-    let start = link_read firsts c.args.bucket c.requires.within
-    ∙ sym (next_at_read firsts c.args.bucket c.index-firsts-bucket.result c.requires.within)
-    ∙ sym c.next-at.ensures.value in
-    let to = ap (λ (d : C). d.next) c.set_next.ensures ∙ c.next-after.ensures.value
-    ∙ next_at_read cells c.args.cell c.index-cells-cell.result within in
+    let start = link_read firsts c.args.bucket c.requires.within ∙ sym c.next-at.ensures.value in
+    let to = c.next-after.ensures.value ∙ next_at_read cells c.args.cell c.index-cells-cell.result within in
     λ free linked.
     subst (λ hs. IsLinkedBut hs cells free c.args.cell)
-    (sym (link_set firsts c.args.bucket c.set_next.new.self (next_at cells c.args.cell) to))
+    (sym (ap (λ (f : List C). links_of f) c.set_next.ensures
+    ∙ link_set firsts c.args.bucket _ (next_at cells c.args.cell) to))
     (unlinked_first heads cells free c.args.bucket c.args.cell low (start ∙ c.if-at-cell.true)
     (λ e. omega (arith, within, c.requires.small, e)) on linked)
 
@@ -38,9 +38,7 @@ loop-cells-init g c =
     let n = length-links firsts in
     let on = ap (λ m. chain_at m cells c.args.cell) n ∙ c.requires.on_chain in
     let low : c.args.bucket < length heads = omega (arith, c.requires.within, n) in
-    let start = link_read firsts c.args.bucket c.requires.within
-    ∙ sym (next_at_read firsts c.args.bucket c.index-firsts-bucket.result c.requires.within)
-    ∙ sym c.next-at.ensures.value in
+    let start = link_read firsts c.args.bucket c.requires.within ∙ sym c.next-at.ensures.value in
     let w = walk_of heads cells c.requires.linked.0 c.args.bucket c.requires.linked.1 low in
     let From : ℕ → Type 0
     = λ at. (v : IsWalk (next_at cells) (chain_at (length heads) cells) c.args.bucket at (length cells))
@@ -128,10 +126,18 @@ returns-clause-unlinked g c =
 
 pub returns-then-at-cell-clause-firsts : goal.returns-then-at-cell-clause-firsts
 returns-then-at-cell-clause-firsts g c =
-    let C : Type 0 = Cell g.row.N.Denot in
-    map-set_same stored_in c.args.firsts.now c.args.bucket c.set_next.new.self
-    c.index-firsts-bucket-then-at-cell.result
-    (ap stored_in c.set_next.ensures)
+    subst (SameNodes c.args.firsts.now) (sym c.set_next.ensures)
+    (next-same c.args.firsts.now c.args.bucket c.next-after.result)
+
+pub returns-then-at-cell-clause-begun : goal.returns-then-at-cell-clause-begun
+returns-then-at-cell-clause-begun g c = λ b.
+    let within : c.args.cell < length c.args.cells.now
+    = on_within (length c.args.firsts.now) c.args.cells.now c.args.cell c.args.bucket c.requires.on_chain
+    c.requires.within in
+    subst (λ (f : List (Cell g.row.N.Denot)). next_at f b ≢ END → next_at c.args.firsts.now b ≢ END)
+    (sym c.set_next.ensures)
+    (next-begun c.args.firsts.now c.args.bucket c.next-after.result b
+    (λ e. omega (arith, within, c.requires.small, c.if-at-cell.true, c.next-at.ensures.value, e)))
 
 pub returns-clause-nodes : goal.returns-clause-nodes
 returns-clause-nodes g c =

@@ -1,6 +1,6 @@
 use Rattle.std.proofs.Common.{◌∷◌, ◌+◌, ap, refl, ◌∙◌, arith, rules}
 use Rattle.hashlink_core.proofs.Calls.{sound, held-inside, stored, removed-step, removed-node}
-use Rattle.hashlink_core.proofs.Marking.{asked-short, asked-holds, taken-out}
+use Rattle.hashlink_core.proofs.Marking.{asked-short, asked-holds, asked-told, taken-out}
 use Rattle.hashlink_core.proofs.Marking.{marked-holds, left-pair, left-removed}
 use Rattle.hashlink_core.proofs.keyed_list.KeyedList.remove.Goals as goal
 
@@ -19,12 +19,20 @@ overflow_cast-number g c =
     let small = asked-short c.self.invariant c.args.node held i.result i.ensures in
     search rules
 
-pub remove-requires : goal.remove-requires
-remove-requires g c =
+pub remove-requires-clause-callable : goal.remove-requires-clause-callable
+remove-requires-clause-callable g c =
     let held = held-inside g.met.K.Eq.laws c.self.view_is c.self.invariant c.args.node c.requires in
     let i = c.number-number in
     let s = c.set_number in
     asked-holds c.self.invariant c.args.node held i.result i.ensures s.new.self.entries _ s.ensures.entries
+
+pub remove-requires-clause-telling : goal.remove-requires-clause-telling
+remove-requires-clause-telling g c =
+    let held = held-inside g.met.K.Eq.laws c.self.view_is c.self.invariant c.args.node c.requires in
+    let i = c.number-number in
+    let s = c.set_number in
+    asked-told c.self.invariant c.args.node held i.result i.ensures s.new.self.entries _ s.ensures.entries
+    (omega arith)
 
 pub detach_into_free-requires : goal.detach_into_free-requires
 detach_into_free-requires g c =

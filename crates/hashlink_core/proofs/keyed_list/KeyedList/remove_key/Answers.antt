@@ -1,27 +1,47 @@
-use Rattle.std.proofs.Common.{◌≡◌, Some, None, refl, ap, sym, subst, ◌∙◌}
+use Rattle.std.proofs.Common.{◌≡◌, true, Some, None, refl, ap, sym, subst, ◌∙◌}
 use Rattle.hashlink_model.specs.Entries.{place_of}
 use Rattle.hashlink_core.specs.Keyed.{entries_of, state_of, seen_as, HoldsMatch, IsKeyed}
+use Rattle.hashlink_core.specs.Tied.{hash_with}
 use Rattle.hashlink_core.proofs.AtKeyNode.{removed}
 use Rattle.hashlink_core.proofs.Calls.{sound, stored, removed-step, removed-node}
-use Rattle.hashlink_core.proofs.Finding.{query-hashed, was-kept, listed-holds, listed-number, found-by_table}
+use Rattle.hashlink_core.proofs.Finding.{query-hashed, was-kept, listed-holds, listed-number, told-hash}
+use Rattle.hashlink_core.proofs.Finding.{found-by_table}
 use Rattle.hashlink_core.proofs.Steps.{lookup_entry-unplaced}
 use Rattle.hashlink_core.proofs.keyed_list.KeyedList.remove_key.Given as given
+use Rattle.hashlink_core.proofs.keyed_list.KeyedList.remove_key.Goals.{After-short_hash-hash}
 use Rattle.hashlink_core.proofs.keyed_list.KeyedList.remove_key.Goals as goal
 
-pub remove-requires : goal.remove-requires
-remove-requires g c node there = listed-holds g.met.K.Eq.laws c.self.invariant _ node there
+-- the keys that the query matches have its hash
+hashed : (g : given.Over) (c : After-short_hash-hash g) → (x : g.row.K.Denot)
+    → g.Q.Equivalent.matches c.args.key x ≡ true
+    → hash_with g.S.BuildHasher.build_hasher g.S.Hasher.Hasher.write g.S.Hasher.Hasher.finish
+    g.K.Hash.hash_input c.self.inside.hash_builder x
+    ≡ c.hash_of.result
+hashed g c =
+    let H = g.S.Hasher.Hasher in
+    query-hashed g.S.BuildHasher.build_hasher H.write H.finish g.K.Hash.hash_input
+    (g.Q.Equivalent.matches c.args.key) _ (g.met.Q.Equivalent.hashed_alike c.args.key)
+    c.self.inside.hash_builder c.args.self.now.hasher (ap (λ m. m.hasher) c.self.view_is) c.hash_of.result
+    c.hash_of.ensures
+
+pub remove-requires-clause-callable : goal.remove-requires-clause-callable
+remove-requires-clause-callable g c = listed-holds g.met.K.Eq.laws c.self.invariant
+
+pub remove-requires-clause-telling : goal.remove-requires-clause-telling
+remove-requires-clause-telling g c =
+    let passes = g.Q.Equivalent.matches c.args.key in
+    told-hash g.met.K.Eq.laws c.self.invariant passes c.hash_of.result c.short_hash-hash.result
+    c.short_hash-hash.ensures (hashed g (goal.at.remove-requires-clause-telling g c).After-short_hash-hash)
+    (λ x b. b ≡ passes x) (λ x b is. is)
 
 pub returns-in_err-node-clause-removes : goal.returns-in_err-node-clause-removes
 returns-in_err-node-clause-removes g c =
-    let H = g.S.Hasher.Hasher in
     let passes = g.Q.Equivalent.matches c.args.key in
-    let absent = found-by_table g.met.K.Eq.laws c.self.invariant passes
-    (g.met.Q.Equivalent.finds_equal c.args.key) c.hash_of.result c.short_hash-hash.result
-    c.short_hash-hash.ensures
-    (query-hashed g.S.BuildHasher.build_hasher H.write H.finish g.K.Hash.hash_input passes _
-    (g.met.Q.Equivalent.hashed_alike c.args.key) c.self.inside.hash_builder c.args.self.now.hasher
-    (ap (λ m. m.hasher) c.self.view_is) c.hash_of.result c.hash_of.ensures)
-    (λ x b. b ≡ passes x) (λ x b is. is) None tt c.in_err-node.ensures.none in
+    let absent = found-by_table g.met.K.Eq.laws c.self.invariant passes c.hash_of.result
+    c.short_hash-hash.result c.short_hash-hash.ensures
+    (hashed g (goal.at.returns-in_err-node-clause-removes g c).After-short_hash-hash)
+    (λ x b. b ≡ passes x) (λ x b is. is) (g.met.Q.Equivalent.finds_equal c.args.key) None tt
+    c.in_err-node.ensures.none in
     rw c.from_residual.ensures
     (record {
       answer = sym (lookup_entry-unplaced passes (entries_of c.args.self.now)
@@ -44,17 +64,12 @@ detach_into_free-requires g c =
 found : (g : given.Over) (c : goal.After-detach_into_free g)
     → HoldsMatch (g.Q.Equivalent.matches c.args.key) c.args.self.now.nodes c.in_ok-node.node
 found g c =
-    let H = g.S.Hasher.Hasher in
     let passes = g.Q.Equivalent.matches c.args.key in
     let r = c.in_ok-node.ensures.removed in
     subst (λ m. HoldsMatch passes m.nodes c.in_ok-node.node) c.self.view_is
-    (found-by_table g.met.K.Eq.laws c.self.invariant passes
-    (g.met.Q.Equivalent.finds_equal c.args.key) c.hash_of.result c.short_hash-hash.result
-    c.short_hash-hash.ensures
-    (query-hashed g.S.BuildHasher.build_hasher H.write H.finish g.K.Hash.hash_input passes _
-    (g.met.Q.Equivalent.hashed_alike c.args.key) c.self.inside.hash_builder c.args.self.now.hasher
-    (ap (λ m. m.hasher) c.self.view_is) c.hash_of.result c.hash_of.ensures)
-    (λ x b. b ≡ passes x) (λ x b is. is) (Some c.in_ok-node.node)
+    (found-by_table g.met.K.Eq.laws c.self.invariant passes c.hash_of.result c.short_hash-hash.result
+    c.short_hash-hash.ensures (hashed g (goal.at.returns-clause-removes g c).After-short_hash-hash)
+    (λ x b. b ≡ passes x) (λ x b is. is) (g.met.Q.Equivalent.finds_equal c.args.key) (Some c.in_ok-node.node)
     (was-kept c.self.inside.table c.remove.new.self _ _ r.0, r.1) tt)
 
 pub invariant_of-self-2 : goal.invariant_of-self-2

@@ -1,8 +1,7 @@
-use Rattle.std.proofs.Common.{◌∷◌, ◌++◌, length, ap, sym, ◌∙◌, subst, arith}
+use Rattle.std.proofs.Common.{◌∷◌, ◌++◌, ap, subst, arith}
 use Rattle.std.specs.Prelude.{IsPermutation}
 use Rattle.hashlink_table.specs.declared.kept.Kept.{Kept}
 use Rattle.hashlink_table.specs.Chains.{nodes_in}
-use Rattle.std.proofs.lemmas.List.{with_items_is}
 use Rattle.hashlink_table.specs.Contents.{Contents, len_of}
 use Rattle.hashlink_table.proofs.Sound.{full_overs, sound-put}
 use Rattle.hashlink_table.proofs.table.Table.insert_reserved.Goals as goal
@@ -28,23 +27,16 @@ invariant_of-self g c =
     let t = c.self.inside in
     let len = ap (λ (u : Contents g.row.N.Denot). len_of u) c.self.view_is in
     let room = ap (λ (u : Contents g.row.N.Denot). u.room) c.self.view_is in
-    let buckets = c.put.auto.firsts ∙ ap length c.deref_mut.ensures.value in
     let more = c.put.new.cells in
-    let nodes = rw c.deref_mut.ensures.value at c.put.ensures.nodes in
-    rw (with_items_is t.firsts c.put.new.firsts (buckets ∙ sym t.firsts.ok.0))
-    (sound-put c.put.new.firsts more.items _ c.put.new.free _ c.self.invariant
-    (omega (arith, c.requires, len, room, c.self.invariant.counted)) c.put.ensures.capacity buckets
-    c.put.ensures.linked c.put.ensures.in_place nodes
+    sound-put c.put.new.firsts more.items _ c.put.new.free _ c.self.invariant
+    (omega (arith, c.requires, len, room, c.self.invariant.counted)) c.put.ensures.capacity c.put.ensures.len
+    c.put.ensures.linked c.put.ensures.in_place c.put.ensures.filled c.put.ensures.nodes
     (λ e. omega (arith, c.put.ensures.full e, more.ok.0, t.overs.ok.0))
-    (λ ne. omega (arith, c.put.ensures.reused ne, more.ok.0, t.overs.ok.0)))
+    (λ ne. omega (arith, c.put.ensures.reused ne, more.ok.0, t.overs.ok.0))
 
 pub returns-clause-inserted : goal.returns-clause-inserted
 returns-clause-inserted g c =
     let N : Type 0 = g.row.N.Denot in
-    let t = c.self.inside in
-    let buckets = c.put.auto.firsts ∙ ap length c.deref_mut.ensures.value in
     let new : Kept N = record { hash = c.args.hash; node = c.args.node } in
-    rw (with_items_is t.firsts c.put.new.firsts (buckets ∙ sym t.firsts.ok.0))
-    (subst (λ (u : Contents N). IsPermutation (new ∷ u.nodes)
-    (nodes_in c.put.new.firsts ++ nodes_in c.put.new.cells.items)) c.self.view_is
-    (rw c.deref_mut.ensures.value at c.put.ensures.nodes))
+    subst (λ (u : Contents N). IsPermutation (new ∷ u.nodes)
+    (nodes_in c.put.new.firsts ++ nodes_in c.put.new.cells.items)) c.self.view_is c.put.ensures.nodes

@@ -1,4 +1,4 @@
-use Rattle.std.proofs.Common.{◌≡◌, ℕ, [], ◌++◌, List, length, sym, ap, subst, arith}
+use Rattle.std.proofs.Common.{◌≡◌, ℕ, [], ◌++◌, List, length, refl, sym, ap, subst, arith}
 use Rattle.std.specs.Prelude.{IsPermutation}
 use Rattle.std.proofs.lemmas.List.{length-append}
 use Rattle.std.proofs.lemmas.List.Sorted.{IsPermutation-append_left, IsPermutation-trans, length_permutation}
@@ -17,47 +17,46 @@ into_empty {N} empty room cells read now none same p =
     subst (λ (cs : List (Cell N)). IsPermutation (nodes_in cs) now) same
     (subst (λ (t : Contents N). IsPermutation (t.nodes ++ nodes_in read) now) none p)
 
-pub insert_all-requires-2 : goal.insert_all-requires-2
-insert_all-requires-2 g c =
+pub insert_overs-requires : goal.insert_overs-requires
+insert_overs-requires g c =
     let t = c.self.inside in
-    let first = into_empty c.in_ok-table.table c.args.room t.firsts.items c.deref.result.now _
+    let first = into_empty c.in_ok-table.table c.args.room t.firsts t.firsts _
     c.in_ok-table.ensures
-    c.deref.ensures.value c.insert_all.ensures.inserted in
+    refl c.insert_own.ensures.inserted in
     omega (
       arith,
       length_permutation _ _ first,
-      ap (λ (cs : List (Cell g.row.N.Denot)). length (nodes_in cs)) c.deref-2.ensures.value,
-      length-append (nodes_in t.firsts.items) (nodes_in t.overs.items),
+      ap (λ (cs : List (Cell g.row.N.Denot)). length (nodes_in cs)) c.deref.ensures.value,
+      length-append (nodes_in t.firsts) (nodes_in t.overs.items),
       ap (λ (u : Contents g.row.N.Denot). len_of u) c.self.view_is,
       c.requires.held,
-      c.insert_all.ensures.room,
+      c.insert_own.ensures.room,
       ap (λ (u : Contents g.row.N.Denot). u.room) c.in_ok-table.ensures,
     )
 
 pub returns-clause-nodes : goal.returns-clause-nodes
 returns-clause-nodes g c =
     let t = c.self.inside in
-    let first = into_empty c.in_ok-table.table c.args.room t.firsts.items c.deref.result.now _
+    let first = into_empty c.in_ok-table.table c.args.room t.firsts t.firsts _
     c.in_ok-table.ensures
-    c.deref.ensures.value c.insert_all.ensures.inserted in
+    refl c.insert_own.ensures.inserted in
     let both = IsPermutation-trans _ _ _
     (IsPermutation-append_left (nodes_in t.overs.items) _ _ first)
-    (rw c.deref-2.ensures.value at c.insert_all-2.ensures.inserted) in
+    (rw c.deref.ensures.value at c.insert_overs.ensures.inserted) in
     subst (λ (u : Contents g.row.N.Denot). IsPermutation u.nodes
-    (nodes_in c.drop.inside.firsts.items ++ nodes_in c.drop.inside.overs.items)) c.self.view_is
-    (subst (λ (u : Contents g.row.N.Denot). IsPermutation (nodes_in t.firsts.items ++ nodes_in
+    (nodes_in c.drop.inside.firsts ++ nodes_in c.drop.inside.overs.items)) c.self.view_is
+    (subst (λ (u : Contents g.row.N.Denot). IsPermutation (nodes_in t.firsts ++ nodes_in
     t.overs.items) u.nodes)
     (sym c.drop.view_is) both)
 
-pub insert_all-requires : goal.insert_all-requires
-insert_all-requires g c =
+pub insert_own-requires : goal.insert_own-requires
+insert_own-requires g c =
     let t = c.self.inside in
     omega (
       arith,
       ap (λ (u : Contents g.row.N.Denot). len_of u) c.in_ok-table.ensures,
       ap (λ (u : Contents g.row.N.Denot). u.room) c.in_ok-table.ensures,
-      ap (λ (cs : List (Cell g.row.N.Denot)). length (nodes_in cs)) c.deref.ensures.value,
-      length-append (nodes_in t.firsts.items) (nodes_in t.overs.items),
+      length-append (nodes_in t.firsts) (nodes_in t.overs.items),
       ap (λ (u : Contents g.row.N.Denot). len_of u) c.self.view_is,
       c.requires.held,
     )

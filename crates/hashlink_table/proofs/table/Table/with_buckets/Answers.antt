@@ -4,11 +4,12 @@ use Rattle.hashlink_table.proofs.table.Table.with_buckets.Goals as goal
 
 pub invariant_of-result : goal.invariant_of-result
 invariant_of-result g c =
-    rw (c.fill.ensures, c.in_ok-overs.ensures.items)
+    rw (c.in_ok-firsts.ensures, c.in_ok-overs.ensures.items)
     (sound-bare c.args.buckets _ c.args.room c.requires.headed
     (omega (arith, c.in_ok-overs.ensures.capacity)) c.requires.small (λ _. c.requires.power)
-    (λ one. omega (arith, one, c.requires.two)))
+    c.requires.whole)
 
 pub returns : goal.returns
 returns g c =
-    rw (c.fill.ensures, c.in_ok-overs.ensures.items) (contents-bare g.row.N.Denot c.args.buckets c.args.room)
+    rw (c.in_ok-firsts.ensures, c.in_ok-overs.ensures.items)
+    (contents-bare g.row.N.Denot c.args.buckets c.args.room)

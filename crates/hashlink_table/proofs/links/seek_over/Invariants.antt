@@ -1,11 +1,9 @@
 use Rattle.std.proofs.Common.{◌≡◌, ◌%◌, length, Some, false}
 use Rattle.hashlink_table.specs.Chains.{next_at, kept_at, chain_at, links_of}
 use Rattle.hashlink_table.proofs.Walks.{IsSearch, steps_left, in_bucket}
-use Rattle.hashlink_table.proofs.links.seek.Given as goal
+use Rattle.hashlink_table.proofs.links.seek_over.Given as goal
 
--- the bucket's own cell has not the node; where no cell that is still to come has it, none has; and there is
--- a
--- step for each cell of the bucket
+-- where no cell that is still to come has the node, none has; and there is a step for each cell of the bucket
 abbrev pub invariant-loop-at : goal.invariant-loop-at
 invariant-loop-at g l =
     IsSearch
@@ -19,9 +17,6 @@ invariant-loop-at g l =
     (in_bucket l.cells (length (links_of l.firsts)) (l.hash % length (links_of l.firsts)))
     l.initial.steps
     l.steps
-    × ((node : g.row.N.Denot) → kept_at l.firsts (l.hash % length l.firsts) ≡ Some
-    (record { hash = l.hash; node = node })
-    → goal.F-post g l.is_match node false)
 
 abbrev pub decreases-loop-at : goal.decreases-loop-at
 decreases-loop-at g l = steps_left (next_at l.cells) (length l.cells) l.at

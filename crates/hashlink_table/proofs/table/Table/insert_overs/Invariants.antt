@@ -1,7 +1,7 @@
 use Rattle.std.proofs.Common.{◌≡◌, ◌++◌, take}
 use Rattle.std.specs.Prelude.{IsPermutation}
 use Rattle.hashlink_table.specs.Chains.{nodes_in}
-use Rattle.hashlink_table.proofs.table.Table.insert_all.Given as goal
+use Rattle.hashlink_table.proofs.table.Table.insert_overs.Given as goal
 
 -- the nodes of the cells so far were put in
 abbrev pub invariant-loop-cell : goal.invariant-loop-cell

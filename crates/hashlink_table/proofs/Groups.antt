@@ -1,0 +1,38 @@
+-- Groups of sixteen.
+use Rattle.std.proofs.Common.{◌≡◌, ℕ, zero, suc, ◌+◌, ◌-◌, ◌/◌, ◌%◌, ◌<◌, ◌≤◌, arith}
+use Rattle.std.proofs.Math.Nat.{pow-succ'}
+use Rattle.std.specs.Int.{IsPowerOfTwo}
+
+-- a power of two that is not small is whole groups
+pub whole_power : (m : ℕ) → IsPowerOfTwo m → 16 ≤ m → m % 16 ≡ 0
+whole_power m (zero, e) h = absurd (omega (arith, e, h))
+whole_power m (suc zero, e) h = absurd (omega (arith, e, h))
+whole_power m (suc (suc zero), e) h = absurd (omega (arith, e, h))
+whole_power m (suc (suc (suc zero)), e) h = absurd (omega (arith, e, h))
+whole_power m (suc (suc (suc (suc k))), e) h =
+    omega (
+      arith,
+      e,
+      pow-succ' 2 (suc (suc (suc k))),
+      pow-succ' 2 (suc (suc k)),
+      pow-succ' 2 (suc k),
+      pow-succ' 2 k,
+    )
+
+-- the group of a bucket lies among the buckets
+pub group_within : (b m : ℕ) → b < m → m % 16 ≡ 0 → b - b % 16 + 16 ≤ m
+group_within b m low whole = omega (arith, low, whole)
+
+-- a cell of the group
+pub grouped_in : (b at : ℕ) → b - b % 16 ≤ at → at < b - b % 16 + 16 → b / 16 ≡ at / 16
+grouped_in b at from to = omega (arith, from, to)
+
+-- the first bucket of a cell's group, and the first of a bucket's
+pub one_base : (base b : ℕ) → base % 16 ≡ 0 → base ≤ b → b < base + 16 → base ≡ b - b % 16
+one_base base b whole from to = omega (arith, whole, from, to)
+
+pub from_base : (b at : ℕ) → b / 16 ≡ at / 16 → b - b % 16 ≤ at
+from_base b at same = omega (arith, same)
+
+pub to_base : (b at : ℕ) → b / 16 ≡ at / 16 → at < b - b % 16 + 16
+to_base b at same = omega (arith, same)

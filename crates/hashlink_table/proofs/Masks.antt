@@ -1,0 +1,215 @@
+-- The bits of a mask: which cells of a group pass a test.
+use Rattle.std.proofs.Common.{◌≡◌, ℕ, zero, suc, ◌+◌, ◌-◌, ◌*◌, ◌/◌, ◌%◌, ◌^◌, ◌<◌, ◌≤◌, Bool, true, false, cond}
+use Rattle.std.proofs.Common.{not, List, [], ◌∷◌, map, length, drop, get_or, count_by, None, Some, IsSome}
+use Rattle.std.proofs.Common.{inl, inr, Option, refl, sym, ap, ◌∙◌, subst, arith}
+use Rattle.std.specs.Prelude.{is_none}
+use Rattle.std.specs.List.{prefix_len}
+use Rattle.std.proofs.lemmas.Bool.{cases_eq, false≢true, true≢false}
+use Rattle.std.proofs.lemmas.List.{drop-drop, get_or-drop, length-drop}
+use Rattle.std.proofs.lemmas.List.Sums.{sum_by-cons}
+use Rattle.std.proofs.lemmas.Simd.{length-chunk, get_or-chunk, trailing_mask_l, none_from_empty_mask}
+use native.Mathlib.Numerals.{one-add}
+use lib.Count.{count_trailing_zeros}
+use lib.Lanes.{mask_l}
+use lib.Pow.{shr-shr}
+use Rattle.hashlink_table.specs.declared.cell.Cell.{Cell}
+use Rattle.hashlink_table.specs.declared.cell.TheConstants.{END}
+use Rattle.hashlink_table.specs.Chains.{no_cell, kept_at, next_at, AreTaken, IsFilled}
+use Rattle.hashlink_table.specs.Own.{lanes_of}
+
+module _ {X : Type 0} (p : X → Bool) where
+  -- r elements come before the first that passes, and after it come those of the rest of the mask
+  pub record IsFirst (xs : List X) (r : ℕ) : Type 0 where
+    pub within : r < length xs
+    pub before : (k : ℕ) (d : X) → k < r → p (get_or xs k d) ≡ false
+    pub here : (d : X) → p (get_or xs r d) ≡ true
+    pub rest : mask_l (map p xs) / 2 ^ r / 2 ≡ mask_l (map p (drop (r + 1) xs))
+    pub count : count_by p xs ≡ 1 + count_by p (drop (r + 1) xs)
+
+  count-one : (x : X) (xs : List X) (b : Bool) → p x ≡ b → count_by p (x ∷ xs) ≡ cond b 1 0 + count_by p xs
+  count-one x xs b e = sum_by-cons (λ y. cond (p y) 1 0) x xs ∙ ap (λ c. cond {A = ℕ} c 1 0 + count_by p xs) e
+
+  half : (m r : ℕ) → 2 * m / 2 ^ suc r / 2 ≡ m / 2 ^ r / 2
+  half m r =
+      let once : 2 * m / 2 ^ 1 ≡ m = omega arith in
+      ap (λ n. n / 2)
+      (ap (λ j. 2 * m / 2 ^ j) (sym (one-add r)) ∙ sym (shr-shr (2 * m) 1 r) ∙ ap (λ n. n / 2 ^ r) once)
+
+  first : (xs : List X) → (mask_l (map p xs) ≡ 0 → ⊥) → IsFirst xs (prefix_len (λ x. not (p x)) xs)
+  first [] h = absurd (h refl)
+  first (x ∷ xs) h = by (first xs) (p x) refl
+    where
+      by : ((mask_l (map p xs) ≡ 0 → ⊥) → IsFirst xs (prefix_len (λ x. not (p x)) xs)) → (b : Bool)
+          → p x ≡ b
+          → IsFirst (x ∷ xs) (prefix_len (λ x. not (p x)) (x ∷ xs))
+      by later true e = rw e (record {
+        within = omega arith;
+        before = λ k d low. absurd (omega arith);
+        here = λ d. e;
+        rest = rw e (let m = mask_l (map p xs) in omega arith);
+        count = count-one x xs true e;
+      })
+      by later false e =
+          let m = mask_l (map p xs) in
+          let none : m ≡ 0 → ⊥ = λ z. h (rw e (omega (arith, z))) in
+          let f = later none in
+          let r = prefix_len (λ x. not (p x)) xs in
+          let next : suc (r + 1) ≡ suc r + 1 = omega arith in
+          let bits : mask_l (map p (x ∷ xs)) ≡ 2 * m = rw e (omega arith) in
+          let counted : count_by p (x ∷ xs) ≡ count_by p xs = count-one x xs false e ∙ omega arith in
+          let is : suc r ≡ prefix_len (λ x. not (p x)) (x ∷ xs)
+          = sym (one-add r) ∙ ap (λ b. cond (not b) (1 + r) 0) (sym e) in
+          subst (IsFirst (x ∷ xs)) is (record {
+            within = omega (arith, f.within);
+            before = λ k d low. elim k as (λ k. k < suc r → p (get_or (x ∷ xs) k d) ≡ false) [
+              | zero ↦ λ _. e
+              | suc k ↦ λ low. f.before k d (omega (arith, low))
+            ] low;
+            here = λ d. f.here d;
+            rest = ap (λ n. n / 2 ^ suc r / 2) bits ∙ half m r ∙ f.rest
+                ∙ ap (λ n. mask_l (map p (drop n (x ∷ xs)))) next;
+            count = counted ∙ f.count ∙ ap (λ n. 1 + count_by p (drop n (x ∷ xs))) next;
+          })
+
+  -- the first element that passes is where the lowest bit is
+  pub first_set : (xs : List X) → length xs ≤ 16 → (mask_l (map p xs) ≡ 0 → ⊥)
+      → IsFirst xs (count_trailing_zeros 64 (mask_l (map p xs)))
+  first_set xs few some =
+      subst (IsFirst xs)
+      (sym (trailing_mask_l p 64 xs (omega (arith, few)) (positive (mask_l (map p xs)) some)))
+      (first xs some)
+    where
+      positive : (n : ℕ) → (n ≡ 0 → ⊥) → 0 < n
+      positive n h = omega (arith, h)
+
+none_pass : {X : Type 0} (p : X → Bool) (xs : List X) → mask_l (map p xs) ≡ 0 → (k : ℕ) (d : X)
+    → k < length xs
+    → p (get_or xs k d) ≡ false
+none_pass p [] e k d low = absurd (omega arith)
+none_pass p (x ∷ xs) e zero d low = by (p x) (mask_l (map p xs)) e
+  where
+    by : (b : Bool) (m : ℕ) → cond b 1 0 + 2 * m ≡ 0 → b ≡ false
+    by true m e = absurd (omega (arith, e))
+    by false m e = refl
+none_pass p (x ∷ xs) e (suc k) d low =
+    none_pass p xs (by (p x) (mask_l (map p xs)) e) k d (omega (arith, low))
+  where
+    by : (b : Bool) (m : ℕ) → cond b 1 0 + 2 * m ≡ 0 → m ≡ 0
+    by true m e = absurd (omega (arith, e))
+    by false m e = omega (arith, e)
+
+-- the cells of a group from one on, by a mask of those that pass a test
+module _ {N : Type 0} (cells : List (Cell N)) (base : ℕ) (room : base + 16 ≤ length cells)
+    (q : Cell N → Bool) where
+  abbrev from : ℕ → List (Cell N)
+  from at = drop (at - base) (lanes_of cells base)
+
+  -- the lowest bit is that of the first that passes
+  pub record IsHit (at hits : ℕ) : Type 0 where
+    pub to : at + count_trailing_zeros 64 hits < base + 16
+    pub before : (i : ℕ) → at ≤ i → i < at + count_trailing_zeros 64 hits → q (get_or cells i no_cell) ≡ false
+    pub here : q (get_or cells (at + count_trailing_zeros 64 hits) no_cell) ≡ true
+    pub rest : hits / 2 ^ count_trailing_zeros 64 hits / 2
+        ≡ mask_l (map q (from (at + count_trailing_zeros 64 hits + 1)))
+    pub count : count_by q (from at) ≡ 1 + count_by q (from (at + count_trailing_zeros 64 hits + 1))
+
+  from_long : (at : ℕ) → base ≤ at → length (from at) ≡ base + 16 - at
+  from_long at low =
+      omega (arith, low, length-drop (at - base) (lanes_of cells base), length-chunk base 16 cells room)
+
+  from_at : (at k : ℕ) → base ≤ at → k < length (from at)
+      → get_or (from at) k no_cell ≡ get_or cells (at + k) no_cell
+  from_at at k low within =
+      let n = at - base in
+      let index : base + (n + k) ≡ at + k = omega (arith, low) in
+      get_or-drop n (lanes_of cells base) k no_cell
+      ∙ get_or-chunk base 16 cells (n + k) no_cell (omega (arith, low, within, from_long at low))
+      ∙ ap (λ i. get_or cells i no_cell) index
+
+  pub hit : (at hits : ℕ) → base ≤ at → hits ≡ mask_l (map q (from at)) → (hits ≡ 0 → ⊥) → IsHit at hits
+  hit at hits low is some = subst (IsHit at) (sym is) here
+    where
+      here : IsHit at (mask_l (map q (from at)))
+      here =
+          let xs = from at in
+          let f = first_set q xs (omega (arith, from_long at low)) (λ e. some (is ∙ e)) in
+          let t = count_trailing_zeros 64 (mask_l (map q xs)) in
+          let n = at - base in
+          let index : n + (t + 1) ≡ at + t + 1 - base = omega (arith, low) in
+          let later : drop (t + 1) xs ≡ from (at + t + 1)
+          = drop-drop (t + 1) n (lanes_of cells base) ∙ ap (λ j. drop j (lanes_of cells base)) index in
+          record {
+            to = omega (arith, f.within, from_long at low);
+            before = λ i from_i to_i.
+                let k = i - at in
+                let index : at + k ≡ i = omega (arith, from_i) in
+                ap q (sym (from_at at k low (omega (arith, f.within, from_i, to_i))
+                ∙ ap (λ j. get_or cells j no_cell) index))
+                ∙ f.before k no_cell (omega (arith, from_i, to_i));
+            here = ap q (sym (from_at at t low f.within)) ∙ f.here no_cell;
+            rest = f.rest ∙ ap (λ (ys : List (Cell N)). mask_l (map q ys)) later;
+            count = f.count ∙ ap (λ (ys : List (Cell N)). 1 + count_by q ys) later;
+          }
+
+  pub no_hit : (at : ℕ) → base ≤ at → mask_l (map q (from at)) ≡ 0 → (i : ℕ) → at ≤ i → i < base + 16
+      → q (get_or cells i no_cell) ≡ false
+  no_hit at low empty i from_i to_i =
+      let k = i - at in
+      let index : at + k ≡ i = omega (arith, from_i) in
+      let within : k < length (from at) = omega (arith, from_long at low, from_i, to_i) in
+      ap q (sym (from_at at k low within ∙ ap (λ j. get_or cells j no_cell) index))
+      ∙ none_pass q (from at) empty k no_cell within
+
+module _ {N : Type 0} where
+  -- where the mask of a group's free cells is empty, each cell of it has a node
+  pub all_taken : (cells : List (Cell N)) (base : ℕ) → base + 16 ≤ length cells
+      → mask_l (map (λ c. is_none c.kept) (lanes_of cells base)) ≡ 0
+      → AreTaken cells base
+  all_taken cells base room empty at from to =
+      some_by (kept_at cells at)
+      (none_from_empty_mask (λ (c : Cell N). is_none c.kept) cells base 16 no_cell room empty at from to)
+    where
+      some_by : {A : Type 0} (o : Option A) → is_none o ≡ false → IsSome o
+      some_by None e = absurd (true≢false e)
+      some_by (Some x) e = refl
+
+  -- and else the lowest bit is that of a free cell
+  pub record IsFree (cells : List (Cell N)) (base at : ℕ) : Type 0 where
+    pub from : base ≤ at
+    pub to : at < base + 16
+    pub none : kept_at cells at ≡ None
+
+  pub first_free : (cells : List (Cell N)) (base : ℕ) → base + 16 ≤ length cells
+      → (mask_l (map (λ c. is_none c.kept) (lanes_of cells base)) ≡ 0 → ⊥)
+      → IsFree cells base
+      (base + count_trailing_zeros 64 (mask_l (map (λ c. is_none c.kept) (lanes_of cells base))))
+  first_free cells base room some =
+      let long = length-chunk base 16 cells room in
+      let f = first_set (λ (c : Cell N). is_none c.kept) (lanes_of cells base) (omega (arith, long)) some in
+      let t = count_trailing_zeros 64 (mask_l (map (λ c. is_none c.kept) (lanes_of cells base))) in
+      let low : t < 16 = omega (arith, f.within, long) in
+      record {
+        from = omega arith;
+        to = omega (arith, low);
+        none = none_by (kept_at cells (base + t))
+            (ap (λ (c : Cell N). is_none c.kept) (sym (get_or-chunk base 16 cells t no_cell low))
+            ∙ f.here no_cell);
+      }
+    where
+      none_by : {A : Type 0} (o : Option A) → is_none o ≡ true → o ≡ None
+      none_by None e = refl
+      none_by (Some x) e = absurd (true≢false (sym e))
+
+  -- and then no bucket of the group has a chain
+  pub no_chain : (firsts : List (Cell N)) (base b : ℕ) → base ≡ b - b % 16 → base + 16 ≤ length firsts
+      → IsFilled firsts
+      → (mask_l (map (λ c. is_none c.kept) (lanes_of firsts base)) ≡ 0 → ⊥)
+      → next_at firsts b ≡ END
+  no_chain firsts base b at room filled some =
+      let f = first_free firsts base room some in
+      let low : b < length firsts = omega (arith, at, room) in
+      elim (cases_eq (next_at firsts b) END) as (λ _. next_at firsts b ≡ END) [
+        | inl e ↦ e
+        | inr ne ↦ absurd (false≢true (subst IsSome f.none (filled b low ne _
+            (omega (arith, at, f.from)) (omega (arith, at, f.to)))))
+      ]

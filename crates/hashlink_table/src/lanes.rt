@@ -1,0 +1,19 @@
+//! Sixteen tags at once.
+ghost use Rattle.std.specs.Prelude.{◌≡◌, ◌+◌, ◌≤◌, ◌==◌, length, map};
+ghost use Rattle.std.specs.Simd.Lanes.{chunk, mask_l};
+
+use std::simd::prelude::*;
+
+/// How many cells a group has.
+pub const LANES: usize = 16;
+
+/// Which tags of the group that begins here are this one: one bit for each, the lowest for the first.
+#[inline]
+pub fn lanes_with(tags: &[u8], base: usize, tag: u8) -> u64
+    requires { base + LANES ≤ length tags.now }
+    ensures { result ≡ mask_l (map (λ t. t == tag) (chunk base 16 tags.now)) }
+{
+    u8x16::from_slice(&tags[base..])
+        .simd_eq(u8x16::splat(tag))
+        .to_bitmask()
+}

@@ -1,0 +1,196 @@
+//! The buckets' own cells, in groups.
+ghost use Rattle.std.specs.Prelude.{◌≡◌, ◌+◌, ◌^◌, ◌<◌, ◌≤◌, [], IfOk, IfSome, IsSome, Some};
+ghost use Rattle.std.specs.Prelude.{length, map, replicate, is_none};
+ghost use Rattle.std.specs.Simd.Lanes.{mask_l};
+ghost use Rattle.hashlink_table.specs.Chains.{kept_at, next_at};
+ghost use Rattle.hashlink_table.specs.Stored.{bare_cell, tag_of};
+ghost use Rattle.hashlink_table.specs.Own.{may_be, lanes_of, with_kept, without_kept, with_next};
+
+use super::cell::{END, FREE};
+use super::kept::Kept;
+use super::lanes::{LANES, lanes_with};
+use super::repeated::repeated;
+use std::alloc::{AllocError, Global};
+use std::marker::Model;
+
+/// What a cell stores beside its node: the node's hash, and where its bucket's chain begins.
+#[derive(Clone, Copy)]
+pub struct Cold {
+    hash: u32,
+    link: u32,
+}
+
+/// One cell for each bucket. Sixteen make a group, and a node of a bucket stands in any cell of its group.
+///
+/// Apart from the cells there is a byte for each: 0 if the cell has no node, and else a tag of the node's
+/// hash. A search compares the tags of a group at once.
+#[derive(Drop)]
+pub struct Own<N> {
+    tags: Vec<u8>,
+    nodes: Vec<N>,
+    colds: Vec<Cold>,
+}
+
+impl<N> Model for Own<N> {
+    ghost use Rattle.std.specs.Prelude.{List};
+    ghost use Rattle.hashlink_table.specs.declared.cell.Cell.{Cell};
+    ghost use Rattle.hashlink_table.specs.Own.{cells_in, IsTagged};
+
+    ghost Value = { List (Cell N) };
+
+    ghost view = { λ o. cells_in o.tags.items o.nodes.items o.colds.items };
+
+    ghost invariant = { λ o. IsTagged o.tags.items o.nodes.items o.colds.items };
+}
+
+// The tag of a hash: four bits that say which cell of its group is its bucket's, and three that its bucket
+// does not depend on.
+#[inline]
+fn tag(hash: u32) -> u8
+    ensures { result ≡ tag_of hash }
+{
+    (hash / (1 << 29) * 16 + hash % 16) as u8 + 128
+}
+
+impl<N: Copy> Own<N> {
+    /// No cells. It does not allocate.
+    pub fn new(alloc: Global) -> Self
+        ensures { result ≡ [] }
+    {
+        Own {
+            tags: Vec::new(alloc),
+            nodes: Vec::new(alloc),
+            colds: Vec::new(alloc),
+        }
+    }
+
+    /// So many cells without nodes.
+    pub fn with_cells(alloc: Global, filler: N, count: usize) -> Result<Self, AllocError>
+        ensures { IfOk result (λ o. o ≡ replicate count bare_cell) }
+    {
+        let tags = repeated(alloc, 0, count)?;
+        let nodes = repeated(alloc, filler, count)?;
+        let bare = Cold {
+            hash: 0,
+            link: END as u32,
+        };
+        let colds = repeated(alloc, bare, count)?;
+        Ok(Own { tags, nodes, colds })
+    }
+
+    /// How many cells there are.
+    #[inline]
+    pub fn len(&self) -> usize
+        ensures { result ≡ length self.now }
+    {
+        self.tags.len()
+    }
+
+    /// Where the chain of the bucket begins, or `END`.
+    #[inline]
+    pub fn next(&self, bucket: usize) -> usize
+        requires { bucket < length self.now }
+        ensures value { result ≡ next_at self.now bucket }
+        ensures small { result ≤ END }
+    {
+        (self.colds[bucket].link % FREE) as usize
+    }
+
+    /// Sets where the chain of the bucket begins.
+    #[inline]
+    pub fn set_next(&mut self, bucket: usize, to: usize)
+        requires within { bucket < length self.old }
+        requires small { to ≤ END }
+        ensures { self.new ≡ with_next self.old bucket to }
+    {
+        self.colds[bucket].link = to as u32;
+    }
+
+    /// The node of a cell that is known to have one.
+    #[inline]
+    pub fn node(&self, at: usize) -> N
+        requires { IsSome (kept_at self.now at) }
+        ensures { IfSome (kept_at self.now at) (λ kept. kept.node ≡ result) }
+    {
+        self.nodes[at]
+    }
+
+    /// What a cell has that is known to have a node.
+    #[inline]
+    pub fn there(&self, at: usize) -> Kept<N>
+        requires { IsSome (kept_at self.now at) }
+        ensures { kept_at self.now at ≡ Some result }
+    {
+        Kept {
+            hash: self.colds[at].hash,
+            node: self.nodes[at],
+        }
+    }
+
+    #[inline]
+    pub fn kept(&self, at: usize) -> Option<Kept<N>>
+        requires { at < length self.now }
+        ensures { result ≡ kept_at self.now at }
+    {
+        if self.tags[at] == 0 {
+            None
+        } else {
+            Some(Kept {
+                hash: self.colds[at].hash,
+                node: self.nodes[at],
+            })
+        }
+    }
+
+    /// Puts a node into a cell, in place of what it had.
+    #[inline]
+    pub fn put(&mut self, at: usize, kept: Kept<N>)
+        requires { at < length self.old }
+        ensures { self.new ≡ with_kept self.old at kept }
+    {
+        self.tags[at] = tag(kept.hash);
+        self.nodes[at] = kept.node;
+        self.colds[at].hash = kept.hash;
+    }
+
+    /// Takes the node out of a cell.
+    #[inline]
+    pub fn set_free(&mut self, at: usize)
+        requires { at < length self.old }
+        ensures { self.new ≡ without_kept self.old at }
+    {
+        self.tags[at] = 0;
+    }
+
+    /// The cells of the group that begins here which may have a node of this hash, one bit for each. Each has
+    /// a node.
+    #[inline]
+    pub fn under(&self, base: usize, hash: u32) -> u64
+        requires { base + LANES ≤ length self.now }
+        ensures lanes { result ≡ mask_l (map (may_be hash) (lanes_of self.now base)) }
+        ensures small { base + LANES < 2 ^ 64 }
+    {
+        lanes_with(&self.tags, base, tag(hash))
+    }
+
+    /// The cells of the group that begins here which have no node, one bit for each.
+    #[inline]
+    pub fn free(&self, base: usize) -> u64
+        requires { base + LANES ≤ length self.now }
+        ensures lanes { result ≡ mask_l (map (λ c. is_none c.kept) (lanes_of self.now base)) }
+        ensures small { base + LANES < 2 ^ 64 }
+    {
+        lanes_with(&self.tags, base, 0)
+    }
+
+    /// Takes all nodes out, and ends all chains.
+    pub fn clear(&mut self)
+        ensures { self.new ≡ replicate (length self.old) bare_cell }
+    {
+        self.tags.fill(0);
+        self.colds.fill(Cold {
+            hash: 0,
+            link: END as u32,
+        });
+    }
+}

@@ -1,0 +1,39 @@
+-- Nodes that tell their hashes, as a table changes.
+use Rattle.std.proofs.Common.{◌≡◌, ℕ, suc, zero, [], ◌∷◌, Option, None, Some, sym, ap}
+use Rattle.std.proofs.Common.{subst, ◌∙◌, arith}
+use Rattle.std.specs.Prelude.{IsPermutation, Contains, IfSome, IfNone}
+use Rattle.std.proofs.lemmas.List.Sorted.{Contains-permutation, IsPermutation-sym}
+use Rattle.hashlink_table.specs.declared.kept.Kept.{Kept}
+use Rattle.hashlink_table.specs.Contents.{Contents, len_of}
+use Rattle.test_calls.specs.Telling.{Tells}
+
+module _ {N : Type 0} (told : N → ℕ) where
+  pub tells-none : (t : Contents N) → t ≡ record { nodes = []; room = 0 } → Tells told t
+  tells-none t none hash node there =
+      absurd (omega (arith, there.1, ap (λ (t : Contents N). len_of t) none))
+
+  module _ (old new : Contents N) where
+    pub tells-same : IsPermutation old.nodes new.nodes → Tells told old → Tells told new
+    tells-same same tells hash node there =
+        tells hash node (Contains-permutation _ _ _ (IsPermutation-sym _ _ same) there)
+
+    module _ (k : Kept N) where
+      pub tells-more : IsPermutation (k ∷ old.nodes) new.nodes → k.hash ≡ told k.node → Tells told old
+          → Tells told new
+      tells-more came is tells hash node there =
+          cases (Contains-permutation _ _ _ (IsPermutation-sym _ _ came) there)
+        where
+          cases : Contains (k ∷ old.nodes) (record { hash = hash; node = node }) → hash ≡ told node
+          cases (zero, lt, at) =
+              sym (ap (λ (k : Kept N). k.hash) at) ∙ is ∙ ap (λ (k : Kept N). told k.node) at
+          cases (suc i, lt, at) = tells hash node (i, omega arith, at)
+
+    -- by what a removal says
+    pub tells-removed : (P : N → Type 0) (i : ℕ) (o : Option N)
+        → IfSome o (λ node. IsPermutation old.nodes (record { hash = i; node = node } ∷ new.nodes) × P node)
+        → IfNone o (new ≡ old) → Tells told old
+        → Tells told new
+    tells-removed P i None some none tells hash node there =
+        subst (Tells told) (sym none) tells hash node there
+    tells-removed P i (Some n) some none tells hash node (j, lt, at) =
+        tells hash node (Contains-permutation _ _ _ (IsPermutation-sym _ _ some.0) (suc j, omega arith, at))
