@@ -1,21 +1,35 @@
 -- What stays of a sound ring where nodes are given back.
-use Rattle.std.proofs.Common.{◌≡◌, ℕ, ◌+◌, ◌-◌, ◌<◌, true, List, [], ◌∷◌, length, drop, Option, None, Some}
-use Rattle.std.proofs.Common.{refl, sym}
-use Rattle.std.proofs.Common.{ap, ◌∙◌, subst, arith}
-use Rattle.std.specs.Prelude.{slice_get}
+use Rattle.std.proofs.Common.{◌≡◌, ℕ, ◌+◌, ◌-◌, ◌<◌, true, List, [], ◌∷◌, ◌++◌, length, drop, Option, None}
+use Rattle.std.proofs.Common.{Some, refl, sym, ap, ◌∙◌, subst, arith}
+use Rattle.std.specs.Prelude.{is_some}
+use Rattle.std.proofs.lemmas.List.{append-nil, length-append}
 use Rattle.hashlink_nodes.specs.declared.node.Node.{Node}
 use Rattle.hashlink_nodes.specs.declared.held.Held.{Held}
 use Rattle.hashlink_nodes.specs.State.{State, store_next, store_prev, detached, Drops}
 use Rattle.hashlink_nodes.specs.Shape.{IsShaped, IsSound, ring_of, walk, entries_of}
-use Rattle.hashlink_nodes.specs.Ring.{Ring}
+use Rattle.hashlink_nodes.specs.Ring.{Ring, Holds}
 use Rattle.hashlink_nodes.proofs.ArenaBlocks.{found}
-use Rattle.hashlink_nodes.proofs.Paths.{Off, Agrees, all_left, distinct_head, agrees_off, path_at, back_at}
-use Rattle.hashlink_nodes.proofs.Paths.{length-walk}
+use Rattle.hashlink_nodes.proofs.Paths.{last_or, Off, Agrees, all_left, all_middle, distinct_head}
+use Rattle.hashlink_nodes.proofs.Paths.{agrees_off, back_last, length-walk}
 use Rattle.hashlink_nodes.proofs.Shapes.{IsLoose, take_spare, detach_loose, drop_loose}
-use Rattle.hashlink_nodes.proofs.Entries.{entries-cons, entries_same}
-use Rattle.hashlink_nodes.proofs.Sound.{walk-more, of_head, presents, length-ring, Leaves, entries_in}
-use Rattle.hashlink_nodes.proofs.Sound.{held_detached}
-use Rattle.hashlink_nodes.proofs.Sound.{Opened, closed, no_spare}
+use Rattle.hashlink_nodes.proofs.Entries.{entries-append, entries-cons, entries-nil, length-entries}
+use Rattle.hashlink_nodes.proofs.Entries.{entries_same}
+use Rattle.hashlink_nodes.proofs.Places.{pushed_holds}
+use Rattle.hashlink_nodes.proofs.Sound.{walk-more, presents, length-ring, Leaves, entries_in, free_in}
+use Rattle.hashlink_nodes.proofs.Sound.{held_detached, InRing, in_the_ring, Opened, closed, no_spare}
+
+-- the nodes end in n
+record LastOf (n : Node) (ns : List Node) : Type 0 where
+  pub before : List Node
+  pub is : ns ≡ before ++ n ∷ []
+
+last_of : (a : Node) (ns : List Node) → 0 < length ns → LastOf (last_or a ns) ns
+last_of a [] some = absurd (omega (arith, some))
+last_of a (n ∷ []) some = record { before = []; is = refl }
+last_of a (n ∷ m ∷ ns) some = let rest = last_of n (m ∷ ns) (omega arith) in record {
+  before = n ∷ rest.before;
+  is = ap (λ l. n ∷ l) rest.is;
+}
 
 module _ {K V : Type 0} where
   pub record SpareOut (s : State K V) (first : Node) (spare : ℕ) : Type 0 where
@@ -66,86 +80,80 @@ module _ {K V : Type 0} where
         free = seen.free ∙ sym (ap (drop 1) more) ∙ ap (λ (r : Ring K V). drop 1 r.free) view;
       })
 
-  pub record FirstOut (s : State K V) (g : Node) (len : ℕ) (v : Ring K V) : Type 0 where
-    pub value : Held K V
-    pub has_guard : s.has g ≡ true
-    pub has_node : s.has (s.next g) ≡ true
-    pub has_next : s.has (s.next (s.next g)) ≡ true
-    pub has_prev : s.has (s.prev (s.next g)) ≡ true
-    pub holds : s.held (s.next g) ≡ Some value
-    pub first_is : slice_get v.entries 0 ≡ Some (s.next g, value)
-    pub some : 0 < len
+  -- what stays of a ring where n, the last node, is given back
+  pub record LastGone (s s' : State K V) (guard : Option Node) (first : Node) (len spare : ℕ) (v : Ring K V)
+      (n : Node) : Type 0 where
+    pub sound : IsSound s' guard first len spare
+    pub last : (h : Held K V) → s.held n ≡ Some h
+        → v.entries ≡ entries_in s' guard first len spare ++ (n, h) ∷ []
+    pub free : free_in s' guard first len spare ≡ v.free
 
   module _ (s : State K V) (guard : Option Node) (g first : Node) (len spare : ℕ) (v : Ring K V)
-      (o : Opened s guard g first len spare v) (some : 0 < length v.entries) where
-    first_there : 0 < len
-    first_there =
-        omega (
-          arith,
-          some,
-          ap (λ (r : Ring K V). length r.entries) o.view,
-          length-ring s first len spare (Some g) o.sound,
-        )
-
-    abbrev other_nodes : List Node
-    other_nodes = walk s.next (s.next (s.next g)) (len - 1)
+      (o : Opened s guard g first len spare v) (some : 0 < length v.entries) (n : Node)
+      (is_n : n ≡ s.prev g) where
+    abbrev all_nodes : List Node
+    all_nodes = walk s.next (s.next g) len
 
     abbrev all_free : List Node
     all_free = walk s.next first spare
 
-    first_more : walk s.next (s.next g) len ≡ s.next g ∷ other_nodes
-    first_more = walk-more s.next (s.next g) len first_there
+    last : LastOf n all_nodes
+    last =
+        subst (λ m. LastOf m all_nodes) (sym (is_n ∙ back_last s.prev g all_nodes g o.sound.backward))
+        (last_of g all_nodes
+        (omega (
+          arith,
+          some,
+          ap (λ (r : Ring K V). length r.entries) o.view,
+          length-entries s.held all_nodes o.sound.full,
+        )))
 
-    first_shaped : IsShaped s g first (s.next g ∷ other_nodes) all_free
-    first_shaped = subst (λ l. IsShaped s g first l all_free) first_more o.sound
+    last_shaped : IsShaped s g first (last.before ++ n ∷ []) all_free
+    last_shaped = subst (λ l. IsShaped s g first l all_free) last.is o.sound
 
-    pub first_out : FirstOut s g len v
-    first_out =
-        let h = first_shaped in
-        let x = found (s.held (s.next g)) h.full.0 in let H : Node → Type 0 = λ m. s.has m ≡ true in
-        let there = all_left H (s.next g ∷ other_nodes) all_free h.there.1 in
-        record {
-          value = x.0;
-          has_guard = h.there.0;
-          has_node = h.there.1.0;
-          has_next =
-              ap s.has (path_at s.next (s.next g) g [] other_nodes g h.forward)
-              ∙ of_head H g (s.next g ∷ []) other_nodes h.there.0 there;
-          has_prev = ap s.has (back_at s.prev (s.next g) g [] other_nodes g h.backward) ∙ h.there.0;
-          holds = x.1;
-          first_is =
-              ap (λ (r : Ring K V). slice_get r.entries 0) (sym o.view)
-              ∙ ap (λ l. slice_get (entries_of s.held l) 0) first_more
-              ∙ ap (λ l. slice_get l 0) (entries-cons s.held (s.next g) other_nodes x.0 x.1);
-          some = first_there;
-        }
+    last_entry : (h : Held K V) → s.held n ≡ Some h
+        → v.entries ≡ entries_of s.held last.before ++ (n, h) ∷ []
+    last_entry h holds =
+        ap (λ (r : Ring K V). r.entries) (sym o.view) ∙ ap (entries_of s.held) last.is
+        ∙ entries-append s.held last.before (n ∷ [])
+        ∙ ap (λ l. entries_of s.held last.before ++ l)
+        (entries-cons s.held n [] h holds ∙ ap (λ l. (n, h) ∷ l) (entries-nil s.held))
 
-    pub first_gone : (s₁ s₂ : State K V) (n : Node) → n ≡ s.next g → s₁ ≡ detached n s → Drops n s₁ s₂
-        → Leaves s₂ guard first (len - 1) spare (drop 1 v.entries) v.free
-    first_gone s₁ s₂ n is_n is₁ drops =
-        let d : s₁ ≡ detached (s.next g) s = is₁ ∙ ap (λ m. detached m s) is_n in
-        let loose = subst (λ t. IsLoose t g first other_nodes all_free (s.next g)) (sym d)
-        (detach_loose s g first [] (s.next g) other_nodes all_free first_shaped) in
-        let drops' = subst (λ m. Drops m s₁ s₂) is_n drops in
-        let shaped = drop_loose s₁ g first s₂ other_nodes all_free (s.next g) loose drops' in
-        let seen = presents s₂ g first (len - 1) spare other_nodes all_free shaped
-        (length-walk s.next (s.next (s.next g)) (len - 1)) (length-walk s.next first spare) in
-        let off = distinct_head (s.next g) _ loose.apart in
-        let same : Agrees s₂.held s₁.held other_nodes
-        = agrees_off s₂.held s₁.held (s.next g) other_nodes drops'.held
-        (all_left (Off (s.next g)) other_nodes all_free off.1) in
-        let x = found (s.held (s.next g)) first_shaped.full.0 in
-        closed s₂ guard g first (len - 1) spare (drop 1 v.entries) v.free o.is (record {
+    -- the last node is one of the ring
+    pub last_out : InRing s (Some g) first len spare n
+    last_out =
+        let x = found (s.held n)
+        (all_middle (λ m. is_some (s.held m) ≡ true) last.before n [] last_shaped.full) in
+        in_the_ring s (Some g) first len spare n o.sound
+        (subst (λ l. Holds l n) (sym (ap (λ (r : Ring K V). r.entries) o.view ∙ last_entry x.0 x.1))
+        (pushed_holds (entries_of s.held last.before) n x.0))
+
+    pub last_gone : (s₁ s₂ : State K V) → s₁ ≡ detached n s → Drops n s₁ s₂
+        → LastGone s s₂ guard first (len - 1) spare v n
+    last_gone s₁ s₂ is₁ drops =
+        let ns = last.before in
+        let loose = subst (λ (x : State K V × List Node). IsLoose x.0 g first x.1 all_free n)
+        (λ i. (sym is₁ i, append-nil ns i)) (detach_loose s g first ns n [] all_free last_shaped) in
+        let shaped = drop_loose s₁ g first s₂ ns all_free n loose drops in
+        let seen = presents s₂ g first (len - 1) spare ns all_free shaped
+        (omega (arith, length-walk s.next (s.next g) len, ap length last.is, length-append ns (n ∷ [])))
+        (length-walk s.next first spare) in
+        let off = distinct_head n _ loose.apart in
+        let same : Agrees s₂.held s₁.held ns
+        = agrees_off s₂.held s₁.held n ns drops.held (all_left (Off n) ns all_free off.1) in
+        let left = closed s₂ guard g first (len - 1) spare (entries_of s.held ns) v.free o.is (record {
           sound = seen.sound;
           entries =
-              seen.entries ∙ entries_same s₂.held s₁.held other_nodes same
-              ∙ ap (λ (t : State K V). entries_of t.held other_nodes) d
-              ∙ ap (λ f. entries_of f other_nodes) (held_detached s (s.next g))
-              ∙ sym (ap (drop 1) (entries-cons s.held (s.next g) other_nodes x.0 x.1))
-              ∙ sym (ap (λ l. drop 1 (entries_of s.held l)) first_more)
-              ∙ ap (λ (r : Ring K V). drop 1 r.entries) o.view;
+              seen.entries ∙ entries_same s₂.held s₁.held ns same
+              ∙ ap (λ (t : State K V). entries_of t.held ns) is₁
+              ∙ ap (λ f. entries_of f ns) (held_detached s n);
           free = seen.free ∙ ap (λ (r : Ring K V). r.free) o.view;
-        })
+        }) in
+        record {
+          sound = left.sound;
+          last = λ h holds. last_entry h holds ∙ ap (λ es. es ++ (n, h) ∷ []) (sym left.entries);
+          free = left.free;
+        }
 
   pub writes_detached : (s s₁ s₂ : State K V) (n : Node) (w : ℕ) → s.link_writes ≡ w → s₁ ≡ detached n s
       → Drops n s₁ s₂

@@ -1,5 +1,6 @@
 -- For callers: a place that a ring shows is a place of it.
-use Rattle.std.proofs.Common.{◌≡◌, true, false, cond, List, [], ◌∷◌, Option, None, Some, refl, sym, ap, ◌∙◌}
+use Rattle.std.proofs.Common.{◌≡◌, true, false, cond, List, [], ◌∷◌, ◌++◌, Option, None, Some, refl, sym}
+use Rattle.std.proofs.Common.{ap, ◌∙◌}
 use Rattle.std.specs.Prelude.{is_some, IfSome}
 use Rattle.std.specs.Map.{lookup, keys_of}
 use Rattle.hashlink_nodes.specs.declared.node.Node.{Node}
@@ -20,6 +21,11 @@ module _ {X : Type 0} where
   later_holds x es n h =
       elim (same_node n x.0) as (λ y. is_some (cond y (Some x.1) (lookup (same_node n) es)) ≡ true)
       [ true ↦ refl | false ↦ h ]
+
+  -- so is one at the end
+  pub pushed_holds : (es : List (Node × X)) (n : Node) (x : X) → Holds (es ++ (n, x) ∷ []) n
+  pushed_holds [] n x = first_holds ((n, x) ∷ []) n refl
+  pushed_holds (e ∷ es) n x = later_holds e (es ++ (n, x) ∷ []) n (pushed_holds es n x)
 
   last_of : (x : Node × X) (es : List (Node × X)) (n : Node) → last_node (Some x.0) (keys_of es) ≡ Some n
       → Holds (x ∷ es) n

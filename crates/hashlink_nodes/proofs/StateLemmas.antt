@@ -7,13 +7,11 @@ use Rattle.std.specs.Map.{lookup, set_value, remove_entry}
 use Rattle.std.proofs.lemmas.Map.{lookup-set_value, length-set_value}
 use Rattle.std.specs.declared.mem.ManuallyDrop.{ManuallyDrop}
 use Rattle.hashlink_nodes.specs.Node.{same_node, same_node_equiv, eq-same_node, same_node-refl}
-use Rattle.hashlink_nodes.specs.Links.{around, with_link}
 use Rattle.hashlink_nodes.specs.State.{State, Blocks, state, set_at, next_in, prev_in, held_in, store_next}
 use Rattle.hashlink_nodes.specs.State.{store_prev, hold, add, Drops}
 use Rattle.hashlink_nodes.specs.declared.node.Node.{Node}
 use Rattle.hashlink_nodes.specs.declared.held.Held.{Held}
-use Rattle.hashlink_nodes.specs.declared.links.Links.{Links}
-use Rattle.hashlink_nodes.specs.declared.links.Side.TheVariants.{Next, Prev}
+use Rattle.hashlink_nodes.specs.declared.link.Link.{Link}
 use Rattle.hashlink_nodes.specs.declared.block.Block.{Block}
 use Rattle.hashlink_nodes.specs.declared.cells.Cells.{Cells}
 use Rattle.hashlink_nodes.specs.Cells.{state_of}
@@ -104,49 +102,56 @@ module _ {K V : Type 0} (bs : Blocks K V) (count count' : ℕ) (n : Node) (found
   abbrev Has : Node → Option (ManuallyDrop (Block K V)) → Bool
   Has m = is_some
 
-  abbrev written : Links → Option (Held K V) → ManuallyDrop (Block K V)
-  written l h = record { value = record { links = l; held = h } }
+  abbrev written : Link → Option (Held K V) → Link → ManuallyDrop (Block K V)
+  written next h prev = record { value = record { next = next; held = h; prev = prev } }
 
-  pub stored_next : (to : Node) (links : Links) → links ≡ with_link Next to old.links → count' ≡ count + 1
-      → state (set_value (same_node n) bs (written links old.held)) count' ≡ store_next n to (state bs count)
+  same_next : old.next.to ≡ found.value.next.to
+  same_next = ap (λ (o : Block K V). o.next.to) is_old
+
+  same_prev : old.prev.to ≡ found.value.prev.to
+  same_prev = ap (λ (o : Block K V). o.prev.to) is_old
+
+  same_held : old.held ≡ found.value.held
+  same_held = ap (λ (o : Block K V). o.held) is_old
+
+  pub stored_next : (to : Node) (link : Link) → link ≡ record { to = to } → count' ≡ count + 1
+      → state (set_value (same_node n) bs (written link old.held old.prev)) count'
+      ≡ store_next n to (state bs count)
   unfolding store_next
-  stored_next to links is_new raised = let w = written links old.held in λ i. record {
+  stored_next to link is_new raised = let w = written link old.held old.prev in λ i. record {
     next =
         (seen_at Next_of n bs found w e
-        ∙ ap (λ x. set_at (state bs count).next n x) (ap (λ (l : Links). l.next) is_new))
+        ∙ ap (λ x. set_at (state bs count).next n x) (ap (λ (l : Link). l.to) is_new))
         i;
-    prev =
-        seen_same Prev_of n bs found w e
-        (ap (λ (l : Links). l.prev) is_new ∙ ap (λ (o : Block K V). o.links.prev) is_old) i;
-    held = seen_same Held_of n bs found w e (ap (λ (o : Block K V). o.held) is_old) i;
+    prev = seen_same Prev_of n bs found w e same_prev i;
+    held = seen_same Held_of n bs found w e same_held i;
     has = seen_same Has n bs found w e refl i;
     size = length-set_value (same_node n) bs w i;
     link_writes = raised i;
   }
 
-  pub stored_prev : (to : Node) (links : Links) → links ≡ with_link Prev to old.links → count' ≡ count + 1
-      → state (set_value (same_node n) bs (written links old.held)) count' ≡ store_prev n to (state bs count)
+  pub stored_prev : (to : Node) (link : Link) → link ≡ record { to = to } → count' ≡ count + 1
+      → state (set_value (same_node n) bs (written old.next old.held link)) count'
+      ≡ store_prev n to (state bs count)
   unfolding store_prev
-  stored_prev to links is_new raised = let w = written links old.held in λ i. record {
-    next =
-        seen_same Next_of n bs found w e
-        (ap (λ (l : Links). l.next) is_new ∙ ap (λ (o : Block K V). o.links.next) is_old) i;
+  stored_prev to link is_new raised = let w = written old.next old.held link in λ i. record {
+    next = seen_same Next_of n bs found w e same_next i;
     prev =
         (seen_at Prev_of n bs found w e
-        ∙ ap (λ x. set_at (state bs count).prev n x) (ap (λ (l : Links). l.prev) is_new))
+        ∙ ap (λ x. set_at (state bs count).prev n x) (ap (λ (l : Link). l.to) is_new))
         i;
-    held = seen_same Held_of n bs found w e (ap (λ (o : Block K V). o.held) is_old) i;
+    held = seen_same Held_of n bs found w e same_held i;
     has = seen_same Has n bs found w e refl i;
     size = length-set_value (same_node n) bs w i;
     link_writes = raised i;
   }
 
   pub held_anew : (h h' : Option (Held K V)) → h' ≡ h
-      → state (set_value (same_node n) bs (written old.links h')) count ≡ hold n h (state bs count)
+      → state (set_value (same_node n) bs (written old.next h' old.prev)) count ≡ hold n h (state bs count)
   unfolding hold
-  held_anew h h' is_new = let w = written old.links h' in λ i. record {
-    next = seen_same Next_of n bs found w e (ap (λ (o : Block K V). o.links.next) is_old) i;
-    prev = seen_same Prev_of n bs found w e (ap (λ (o : Block K V). o.links.prev) is_old) i;
+  held_anew h h' is_new = let w = written old.next h' old.prev in λ i. record {
+    next = seen_same Next_of n bs found w e same_next i;
+    prev = seen_same Prev_of n bs found w e same_prev i;
     held = (seen_at Held_of n bs found w e ∙ ap (λ x. set_at (state bs count).held n x) is_new) i;
     has = seen_same Has n bs found w e refl i;
     size = length-set_value (same_node n) bs w i;
@@ -156,21 +161,20 @@ module _ {K V : Type 0} (bs : Blocks K V) (count count' : ℕ) (n : Node) (found
 module _ {K V : Type 0} where
   -- n's block is the first, and links to n itself
   added_first : (bs : Blocks K V) (count : ℕ) (n : Node) (w : ManuallyDrop (Block K V))
-      → w.value.links ≡ around n
-      → w.value.held ≡ None
+      → w.value.next ≡ record { to = n } → w.value.prev ≡ record { to = n } → w.value.held ≡ None
       → state ((n, w) ∷ bs) count ≡ add n (state bs count)
   unfolding add
-  added_first bs count n w links held =
+  added_first bs count n w next prev held =
       λ i. record {
         next =
             λ m.
             (seen_first next_in n m w (lookup (same_node m) bs)
-            ∙ ap (λ x. cond (same_node m n) x ((state bs count).next m)) (ap (λ (l : Links). l.next) links))
+            ∙ ap (λ x. cond (same_node m n) x ((state bs count).next m)) (ap (λ (l : Link). l.to) next))
             i;
         prev =
             λ m.
             (seen_first prev_in n m w (lookup (same_node m) bs)
-            ∙ ap (λ x. cond (same_node m n) x ((state bs count).prev m)) (ap (λ (l : Links). l.prev) links))
+            ∙ ap (λ x. cond (same_node m n) x ((state bs count).prev m)) (ap (λ (l : Link). l.to) prev))
             i;
         held =
             λ m.
@@ -183,15 +187,16 @@ module _ {K V : Type 0} where
       }
 
   pub added : (bs bs' : Blocks K V) (count : ℕ) (n : Node) (kept found : ManuallyDrop (Block K V))
-      (old : Block K V) (links : Links)
+      (old : Block K V) (next prev : Link)
       → bs' ≡ (n, kept) ∷ bs → lookup (same_node n) bs' ≡ Some found → old ≡ found.value
       → kept.value.held ≡ None
-      → links ≡ around n
-      → state (set_value (same_node n) bs' (record { value = record { links = links; held = old.held } }))
-      count
+      → next ≡ record { to = n } → prev ≡ record { to = n }
+      → state (set_value (same_node n) bs'
+      (record { value = record { next = next; held = old.held; prev = prev } })) count
       ≡ add n (state bs count)
-  added bs bs' count n kept found old links is e is_old bare is_around =
-      let w : ManuallyDrop (Block K V) = record { value = record { links = links; held = old.held } } in
+  added bs bs' count n kept found old next prev is e is_old bare is_next is_prev =
+      let w : ManuallyDrop (Block K V)
+      = record { value = record { next = next; held = old.held; prev = prev } } in
       let here = same_node-refl n in
       let first : Some kept ≡ Some found
       = sym (ap (λ y. cond y (Some kept) (lookup (same_node n) bs)) here)
@@ -202,7 +207,7 @@ module _ {K V : Type 0} where
       ∙ bare in
       ap (λ (cs : Blocks K V). state (set_value (same_node n) cs w) count) is
       ∙ ap (λ y. state (cond y ((n, w) ∷ bs) ((n, kept) ∷ set_value (same_node n) bs w)) count) here
-      ∙ added_first bs count n w is_around none
+      ∙ added_first bs count n w is_next is_prev none
 
   pub kept_first : (bs bs' : Blocks K V) (n : Node) (kept : ManuallyDrop (Block K V)) → bs' ≡ (n, kept) ∷ bs
       → IsSome (lookup (same_node n) bs')

@@ -16,7 +16,7 @@ alter test f (e ∷ es) = cond (test e.0) ((e.0, f e.1) ∷ es) (e ∷ alter tes
 
 -- the same block with another value, as the arena keeps it
 abbrev pub kept_with : {K V : Type 0} → V → ManuallyDrop (Block K V) → ManuallyDrop (Block K V)
-kept_with w m = record { value = record { links = m.value.links; held = body_with m.value.held w } }
+kept_with w m = record { value = record m.value { held = body_with m.value.held w } }
 
 -- the same blocks with w as the node's value
 abbrev pub cells_with : {K V : Type 0} → Cells K V → Node → V → Cells K V

@@ -2,7 +2,6 @@
 pub mod Node
 pub mod Ownership
 pub mod ArenaLends
-pub mod Links
 pub mod State
 pub mod Cells
 pub mod Ring

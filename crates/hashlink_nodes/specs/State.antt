@@ -28,11 +28,11 @@ module _ {K V : Type 0} where
   -- a node without a block reads as one that links to itself and holds nothing
   abbrev pub next_in : Node → Option (ManuallyDrop (Block K V)) → Node
   next_in n None = n
-  next_in n (Some b) = b.value.links.next
+  next_in n (Some b) = b.value.next.to
 
   abbrev pub prev_in : Node → Option (ManuallyDrop (Block K V)) → Node
   prev_in n None = n
-  prev_in n (Some b) = b.value.links.prev
+  prev_in n (Some b) = b.value.prev.to
 
   abbrev pub held_in : Option (ManuallyDrop (Block K V)) → Option (Held K V)
   held_in None = None

@@ -13,8 +13,8 @@ use crate::arena::Arena;
 use crate::block::Block;
 use crate::body::Body;
 use crate::held::Held;
+use crate::link::Link;
 use crate::link_writes::LinkWrites;
-use crate::links::{Links, Side};
 use crate::loose::Loose;
 use crate::node::Node;
 use std::alloc::{AllocError, Global};
@@ -44,7 +44,7 @@ impl<K, V> Cells<K, V> {
         ensures { result ≡ (state_of self.now).next node }
     {
         let block: &Block<K, V> = self.arena.get(node);
-        block.links.next()
+        block.next.to()
     }
 
     #[inline]
@@ -53,7 +53,7 @@ impl<K, V> Cells<K, V> {
         ensures { result ≡ (state_of self.now).prev node }
     {
         let block: &Block<K, V> = self.arena.get(node);
-        block.links.prev()
+        block.prev.to()
     }
 
     /// Returns whether the node holds an entry.
@@ -92,7 +92,7 @@ impl<K, V> Cells<K, V> {
         ensures { state_of self.new ≡ store_next node to (state_of self.old) }
     {
         let block: &mut Block<K, V> = self.arena.get_mut(node);
-        block.links.store(Side::Next, to, &mut self.writes);
+        block.next.store(to, &mut self.writes);
     }
 
     #[inline]
@@ -101,7 +101,7 @@ impl<K, V> Cells<K, V> {
         ensures { state_of self.new ≡ store_prev node to (state_of self.old) }
     {
         let block: &mut Block<K, V> = self.arena.get_mut(node);
-        block.links.store(Side::Prev, to, &mut self.writes);
+        block.prev.store(to, &mut self.writes);
     }
 
     /// Replaces what the node holds by `held`, and returns what it held before.
@@ -175,14 +175,16 @@ impl<K, V> Cells<K, V> {
         ensures refused { OnErr result (self.new ≡ self.old) }
     {
         let block = Block {
-            links: Links::around(Node::nowhere()),
+            next: Link::new(Node::nowhere()),
             held: Body::bare(),
+            prev: Link::new(Node::nowhere()),
         };
         match Box::new(alloc, unsafe { ManuallyDrop::new_unchecked(block) }) {
             Ok(boxed) => {
                 let node = self.arena.keep(Loose::of(boxed));
                 let block: &mut Block<K, V> = self.arena.get_mut(node);
-                block.links = Links::around(node);
+                block.next = Link::new(node);
+                block.prev = Link::new(node);
                 Ok(node)
             }
             Err(_) => Err(AllocError),
@@ -207,7 +209,12 @@ impl<K, V> Cells<K, V> {
         ensures dropped { Drops node (state_of self.old) (state_of self.new) }
     {
         let boxed = self.arena.give_back(node, alloc).into_box();
-        let Block { links: _, held } = ManuallyDrop::into_inner(Box::into_inner(boxed));
+        let block = ManuallyDrop::into_inner(Box::into_inner(boxed));
+        let Block {
+            next: _,
+            held,
+            prev: _,
+        } = block;
         held.into_held()
     }
 

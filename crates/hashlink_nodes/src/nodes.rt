@@ -23,11 +23,12 @@ use std::marker::Model;
 /// own.
 pub struct Nodes<K, V> {
     cells: Cells<K, V>,
+    // It lies apart from `spare`: each is then read and written on its own, and not both by one instruction.
+    len: usize,
     // The guard links the last entry to the first. The first push makes it.
     guard: Option<Node>,
     // The spare nodes are chained by their links to the next. If there is none, this means nothing.
     first_spare: Node,
-    len: usize,
     spare: usize,
     alloc: Global,
 }
@@ -158,7 +159,7 @@ impl<K, V> Nodes<K, V> {
     }
 }
 
-/// Drops the entries, and frees every node, one after another.
+/// Drops the entries, from the last to the first, and frees every node, one after another.
 impl<K: Drop, V: Drop> Drop for Nodes<K, V> {
     fn drop(mut self) {
         self.release_all();

@@ -16,6 +16,6 @@ cell_of node hash link = record {
 abbrev pub bare_cell : {N : Type 0} → Cell N
 bare_cell = record { kept = None; hash = 0; next = END }
 
--- the byte that stands for a node of this hash: the highest three bits of the hash and its lowest four
+-- the byte that stands for a node of this hash: the lowest four bits of the hash and its highest three
 abbrev pub tag_of : ℕ → ℕ
-tag_of hash = hash / 2 ^ 29 * 16 + hash % 16 + 128
+tag_of hash = hash % 16 * 8 + hash / 2 ^ 29 % 8 + 128

@@ -15,7 +15,7 @@ use super::cell::{END, Stored};
 use super::kept::Kept;
 use super::lanes::LANES;
 use super::own::Own;
-use super::spot::Spot;
+use super::spot::{Found, Spot};
 use super::steps::Steps;
 use std::sync::ledger::Ledger;
 
@@ -150,18 +150,6 @@ pub fn take_out<N: Copy>(
     kept
 }
 
-// What the cell has that a search found.
-#[inline]
-pub fn found<N: Copy>(firsts: &Own<N>, cells: &[Stored<N>], spot: Spot) -> Kept<N>
-    requires { IsSome (kept_by firsts.now cells.now spot) }
-    ensures { kept_by firsts.now cells.now spot ≡ Some result }
-{
-    match spot {
-        Spot::Own(at) => firsts.there(at),
-        Spot::Over(at) => cells[at].there(),
-    }
-}
-
 // The first bucket of a group that has a chain.
 fn first_chained<N: Copy>(firsts: &Own<N>, base: usize) -> Option<usize>
     requires within { base + LANES ≤ length firsts.now }
@@ -225,8 +213,8 @@ pub fn take<N: Copy>(
     }
 }
 
-// The first cell of a group whose node has this hash and matches. It looks closer at the nodes alone of
-// which the tag is the hash's, and takes a step for each.
+// The first cell of a group whose node has this hash and matches, and the node. It looks closer at the nodes
+// alone of which the tag is the hash's, and takes a step for each.
 #[inline]
 fn seek_own<N: Copy, F: Fn(N) -> bool, L: Ledger>(
     firsts: &Own<N>,
@@ -234,12 +222,15 @@ fn seek_own<N: Copy, F: Fn(N) -> bool, L: Ledger>(
     hash: u32,
     is_match: &F,
     steps: &mut Steps<L>,
-) -> Option<usize>
+) -> Option<(usize, N)>
     requires within { base + LANES ≤ length firsts.now }
     requires callable { (at : ℕ) (kept : Kept N) → kept_at firsts.now at ≡ Some kept
         → F.pre is_match.now kept.node }
-    ensures found { IfSome result (λ at. (kept : Kept N) × (kept_at firsts.now at ≡ Some kept)
-        × F.post is_match.now kept.node true) }
+    requires telling { (at : ℕ) (kept : Kept N) → kept_at firsts.now at ≡ Some kept
+        → F.post is_match.now kept.node true → kept.hash ≡ hash }
+    ensures found { IfSome result
+        (λ f. (kept_at firsts.now f.0 ≡ Some (record { hash = hash; node = f.1 }))
+        × F.post is_match.now f.1 true) }
     ensures none { IfNone result
         ((at : ℕ) (node : N) → base ≤ at → at < base + LANES
         → kept_at firsts.now at ≡ Some (record { hash = hash; node = node })
@@ -253,8 +244,9 @@ fn seek_own<N: Copy, F: Fn(N) -> bool, L: Ledger>(
         let skipped = hits.trailing_zeros();
         at += skipped as usize;
         steps.tick();
-        if is_match(firsts.node(at)) {
-            return Some(at);
+        let node = firsts.node(at);
+        if is_match(node) {
+            return Some((at, node));
         }
         at += 1;
         hits = (hits >> skipped) / 2;
@@ -262,23 +254,25 @@ fn seek_own<N: Copy, F: Fn(N) -> bool, L: Ledger>(
     None
 }
 
-// The first cell of the hash's chain whose node has this hash and matches. It takes a step for each cell
-// that it passes.
+// The first cell of the bucket's chain whose node has this hash and matches, and the node. It takes a step
+// for each cell that it passes.
 fn seek_over<N: Copy, F: Fn(N) -> bool, L: Ledger>(
     firsts: &Own<N>,
     cells: &[Stored<N>],
+    bucket: usize,
     hash: u32,
     is_match: &F,
     steps: &mut Steps<L>,
-) -> Option<usize>
+) -> Option<(usize, N)>
     requires masked { IsPowerOfTwo (length firsts.now) }
+    requires bucket { bucket ≡ hash % length firsts.now }
     requires linked { (free : ℕ) × IsLinked (links_of firsts.now) cells.now free }
     requires callable { (cell : ℕ) (node : N) → kept_at cells.now cell ≡ Some
         (record { hash = hash; node = node })
         → F.pre is_match.now node }
     ensures found { IfSome result
-        (λ at. (node : N) × (kept_at cells.now at ≡ Some (record { hash = hash; node = node }))
-        × F.post is_match.now node true) }
+        (λ f. (kept_at cells.now f.0 ≡ Some (record { hash = hash; node = f.1 }))
+        × F.post is_match.now f.1 true) }
     ensures none { IfNone result
         ((cell : ℕ) (node : N) → kept_at cells.now cell ≡ Some (record { hash = hash; node = node })
         → F.post is_match.now node false) }
@@ -286,13 +280,13 @@ fn seek_over<N: Copy, F: Fn(N) -> bool, L: Ledger>(
     ensures cost { let m = length firsts.now in let b = hash % m in steps.new
         ≤ steps.old + count_by (λ c. chain_of m c.kept == b) cells.now }
 {
-    let mut at = firsts.next(bucket_of(hash, firsts.len()));
+    let mut at = firsts.next(bucket);
     while at != END {
         let cell = &cells[at];
         let kept = cell.there();
         steps.tick();
         if kept.hash == hash && is_match(kept.node) {
-            return Some(at);
+            return Some((at, kept.node));
         }
         at = cell.next();
     }
@@ -308,7 +302,7 @@ pub fn seek<N: Copy, F: Fn(N) -> bool, L: Ledger>(
     hash: u32,
     is_match: &F,
     steps: &mut Steps<L>,
-) -> Option<Spot>
+) -> Option<Found<N>>
     requires masked { IsPowerOfTwo (length firsts.now) }
     requires whole { length firsts.now % LANES ≡ 0 }
     requires in_place { IsInPlace firsts.now }
@@ -322,9 +316,8 @@ pub fn seek<N: Copy, F: Fn(N) -> bool, L: Ledger>(
         (record { hash = hash; node = node })
         → F.pre is_match.now node }
     ensures found { IfSome result
-        (λ spot. (node : N) × (kept_by firsts.now cells.now spot ≡ Some
-        (record { hash = hash; node = node }))
-        × F.post is_match.now node true) }
+        (λ f. (kept_by firsts.now cells.now f.spot ≡ Some (record { hash = hash; node = f.node }))
+        × F.post is_match.now f.node true) }
     ensures none_own { IfNone result
         ((at : ℕ) (node : N) → kept_at firsts.now at ≡ Some (record { hash = hash; node = node })
         → F.post is_match.now node false) }
@@ -336,15 +329,20 @@ pub fn seek<N: Copy, F: Fn(N) -> bool, L: Ledger>(
         ≤ steps.old + count_by (may_be hash) (lanes_of firsts.now (b - b % LANES))
         + count_by (λ c. chain_of m c.kept == b) cells.now }
 {
-    let base = group_of(bucket_of(hash, firsts.len()));
-    if let Some(at) = seek_own(firsts, base, hash, is_match, steps) {
-        return Some(Spot::Own(at));
+    let bucket = bucket_of(hash, firsts.len());
+    let base = group_of(bucket);
+    if let Some((at, node)) = seek_own(firsts, base, hash, is_match, steps) {
+        let spot = Spot::Own(at);
+        return Some(Found { spot, node });
     }
     if firsts.free(base) != 0 {
         return None; // no bucket of the group has a chain
     }
-    match seek_over(firsts, cells, hash, is_match, steps) {
-        Some(at) => Some(Spot::Over(at)),
+    match seek_over(firsts, cells, bucket, hash, is_match, steps) {
+        Some((at, node)) => {
+            let spot = Spot::Over(at);
+            Some(Found { spot, node })
+        }
         None => None,
     }
 }

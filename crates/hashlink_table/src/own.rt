@@ -49,7 +49,7 @@ impl<N> Model for Own<N> {
 fn tag(hash: u32) -> u8
     ensures { result ≡ tag_of hash }
 {
-    (hash / (1 << 29) * 16 + hash % 16) as u8 + 128
+    (hash % 16 * 8 + hash / (1 << 29)) as u8 + 128
 }
 
 impl<N: Copy> Own<N> {

@@ -4,3 +4,10 @@ pub enum Spot {
     Own(usize),
     Over(usize),
 }
+
+/// What a search found: a node, and where it stands.
+#[derive(Clone, Copy)]
+pub struct Found<N> {
+    pub spot: Spot,
+    pub node: N,
+}

@@ -200,14 +200,14 @@ impl<N: Copy> Table<N> {
         let mut steps = Steps::<L>::new(blank);
         match links::seek(&self.firsts, &self.overs, hash, &is_match, &mut steps) {
             None => None,
-            Some(spot) => {
+            Some(found) => {
                 let bucket = bucket_of(hash, self.firsts.len());
                 let kept = links::take(
                     &mut self.firsts,
                     &mut self.overs,
                     &mut self.free,
                     bucket,
-                    spot,
+                    found.spot,
                 );
                 self.len -= 1;
                 Some(kept.node)
@@ -241,7 +241,7 @@ impl<N: Copy> Table<N> {
         }
         match links::seek(&self.firsts, &self.overs, hash, &is_match, steps) {
             None => None,
-            Some(spot) => Some(links::found(&self.firsts, &self.overs, spot).node),
+            Some(found) => Some(found.node),
         }
     }
 

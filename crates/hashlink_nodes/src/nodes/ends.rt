@@ -1,6 +1,6 @@
 //! How nodes are freed.
-ghost use Rattle.std.specs.Prelude.{◌≡◌, ◌+◌, ◌*◌, ◌<◌, [], length, drop, slice_get, Some};
-ghost use Rattle.std.specs.Option.{option_map};
+ghost use Rattle.std.specs.Prelude.{◌≡◌, ◌+◌, ◌*◌, ◌<◌, [], ◌∷◌, ◌++◌, length, drop};
+ghost use Rattle.hashlink_nodes.specs.declared.node.Node.{Node};
 
 use super::Nodes;
 use crate::held::Held;
@@ -33,7 +33,8 @@ impl<K, V> Nodes<K, V> {
         self.spare -= 1;
     }
 
-    /// Drops the entries and frees their nodes. The spare nodes stay. It stores two links for each entry.
+    /// Drops the entries and frees their nodes, from the last to the first. The spare nodes stay. It stores
+    /// two links for each entry.
     pub fn release_all(&mut self)
     where
         K: Drop,
@@ -43,14 +44,13 @@ impl<K, V> Nodes<K, V> {
         ensures link_writes { self.new.link_writes ≡ self.old.link_writes + 2 * length self.old.entries }
     {
         while self.len() > 0 {
-            let _held = self.give_back_first();
+            let _held = self.give_back_last();
         }
     }
 
-    fn give_back_first(&mut self) -> Held<K, V>
+    fn give_back_last(&mut self) -> Held<K, V>
         requires { 0 < length self.old.entries }
-        ensures held { option_map (λ e. e.1) (slice_get self.old.entries 0) ≡ Some result }
-        ensures entries { self.new.entries ≡ drop 1 self.old.entries }
+        ensures last { (node : Node) × (self.old.entries ≡ self.new.entries ++ (node, result) ∷ []) }
         ensures free { self.new.free ≡ self.old.free }
         ensures link_writes { self.new.link_writes ≡ self.old.link_writes + 2 }
     {
@@ -58,7 +58,7 @@ impl<K, V> Nodes<K, V> {
             Some(guard) => guard,
             None => unreachable!(),
         };
-        let node = self.cells.next(guard);
+        let node = self.cells.prev(guard);
         self.cells.detach(node);
         let held = match self.cells.give_back(node, self.alloc) {
             Some(held) => held,

@@ -9,6 +9,10 @@ use Rattle.hashlink_table.proofs.Moving.{within_kept}
 use Rattle.hashlink_table.proofs.Walks.{walk_of, walk_goes}
 use Rattle.hashlink_table.proofs.links.seek.Goals as goal
 
+pub seek_over-requires-clause-bucket : goal.seek_over-requires-clause-bucket
+seek_over-requires-clause-bucket g c =
+    c.bucket_of-bucket.ensures ∙ ap (λ m. c.args.hash % m) c.len.ensures
+
 -- the group of a hash's bucket
 base_of : (hash m len bucket base : ℕ) → len ≡ m → bucket ≡ hash % len → base ≡ bucket - bucket % 16
     → base ≡ hash % m - hash % m % 16
@@ -18,8 +22,8 @@ base_of hash m len bucket base n b is =
 pub returns-then-free-ne0-clause-none_own : goal.returns-then-free-ne0-clause-none_own
 returns-then-free-ne0-clause-none_own g c = λ at node is.
     let b = c.args.hash % length c.args.firsts.now in
-    let base = base_of c.args.hash _ c.len.result c.bucket_of.result c.group_of-base.result c.len.ensures
-    c.bucket_of.ensures c.group_of-base.ensures in
+    let base = base_of c.args.hash _ c.len.result c.bucket_of-bucket.result c.group_of-base.result c.len.ensures
+    c.bucket_of-bucket.ensures c.group_of-base.ensures in
     let same = c.requires.in_place at _ is in
     c.in_default.ensures.none at node (omega (arith, base, from_base b at same))
     (omega (arith, base, to_base b at same)) is
@@ -33,8 +37,8 @@ returns-then-free-ne0-clause-none g c = λ cell node is.
     let some = positive_by_power (length firsts) c.requires.masked in
     let low : b < length heads = omega (arith, n, some) in
     let bucket : b ≡ c.args.hash % length firsts = ap (λ m. c.args.hash % m) n in
-    let base = base_of c.args.hash _ c.len.result c.bucket_of.result c.group_of-base.result c.len.ensures
-    c.bucket_of.ensures c.group_of-base.ensures ∙ ap (λ k. k - k % 16) (sym bucket) in
+    let base = base_of c.args.hash _ c.len.result c.bucket_of-bucket.result c.group_of-base.result c.len.ensures
+    c.bucket_of-bucket.ensures c.group_of-base.ensures ∙ ap (λ k. k - k % 16) (sym bucket) in
     let room = group_within b (length firsts) (omega (arith, low, n)) c.requires.whole in
     let none = no_chain firsts c.group_of-base.result b base (omega (arith, room, base)) c.requires.filled
     (λ e. c.if-free-ne0.true (c.free.ensures.lanes ∙ e)) in
@@ -47,8 +51,8 @@ returns-then-free-ne0-clause-none g c = λ cell node is.
 pub returns-in-None-clause-none_own : goal.returns-in-None-clause-none_own
 returns-in-None-clause-none_own g c = λ at node is.
     let b = c.args.hash % length c.args.firsts.now in
-    let base = base_of c.args.hash _ c.len.result c.bucket_of.result c.group_of-base.result c.len.ensures
-    c.bucket_of.ensures c.group_of-base.ensures in
+    let base = base_of c.args.hash _ c.len.result c.bucket_of-bucket.result c.group_of-base.result c.len.ensures
+    c.bucket_of-bucket.ensures c.group_of-base.ensures in
     let same = c.requires.in_place at _ is in
     c.in_default.ensures.none at node (omega (arith, base, from_base b at same))
     (omega (arith, base, to_base b at same)) is

@@ -23,8 +23,7 @@ loop-at-init g c =
     let b = c.args.hash % length heads in
     let some = positive_by_power (length heads) (subst IsPowerOfTwo (sym n) c.requires.masked) in
     let low : b < length heads = omega arith in
-    let at : b ≡ c.bucket_of.result
-    = ap (λ m. c.args.hash % m) (n ∙ sym c.len.ensures) ∙ sym c.bucket_of.ensures in
+    let at : b ≡ c.args.bucket = ap (λ m. c.args.hash % m) n ∙ sym c.requires.bucket in
     let first : get_or heads b END ≡ c.next-at.result
     = link_read firsts b (omega (arith, low, n)) ∙ ap (next_at firsts) at ∙ sym c.next-at.ensures.value in
     search_start heads cells c.requires.linked.0 b _ _ c.requires.linked.1 low first
@@ -69,7 +68,6 @@ returns-then-is_match-clause-found g c =
     let power = subst IsPowerOfTwo (sym (length-links c.args.firsts.now)) c.requires.masked in
     let read = walk_read heads cells c.args.hash c.loop-at.invariant.walk power
     c.loop-at-test.true c.index-cells-at.result c.index-cells-at.is in (
-      c.there-kept.result.node,
       read.0 ∙ c.there-kept.ensures
           ∙ ap (λ h. let k : Kept g.row.N.Denot = record { hash = h; node = c.there-kept.result.node } in Some k)
           c.if-kept-hash.true,

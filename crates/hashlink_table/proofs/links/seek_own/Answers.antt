@@ -24,6 +24,11 @@ own_hash : {N : Type 0} (hash : ℕ) (o : Option (Kept N)) (node : N)
     → kept_may_be hash o ≡ true
 own_hash hash o node is = rw is (eq-eqb (tag_of hash) (tag_of hash) refl)
 
+-- what the cell has, by its parts
+parts : {N : Type 0} (k : Kept N) (hash : ℕ) (node : N) → k.hash ≡ hash → k.node ≡ node
+    → Some k ≡ Some (record { hash = hash; node = node })
+parts k hash node h n = rw (sym h, sym n) refl
+
 -- what is said of something that is there
 of_some : {X : Type 0} (P : X → Type 0) (o : Option X) → IsSome o → IfSome o P → (x : X) × (o ≡ Some x) × P x
 of_some P None some p = absurd (false≢true some)
@@ -42,8 +47,8 @@ overflow_add-at g c =
     v.from v.left c.loop-hits-test.true in
     record { fits = omega (arith, h.to, c.under-hits.ensures.small) }
 
-pub node-requires : goal.node-requires
-node-requires g c =
+pub node-node-requires : goal.node-node-requires
+node-node-requires g c =
     let v = c.loop-hits.invariant in
     let h = found_at c.args.firsts.now c.args.base c.args.hash c.requires.within c.loop-hits.at c.loop-hits.hits
     v.from v.left c.loop-hits-test.true in
@@ -55,7 +60,7 @@ is_match-requires g c =
     let v = c.loop-hits.invariant in
     let h = found_at firsts c.args.base c.args.hash c.requires.within c.loop-hits.at c.loop-hits.hits
     v.from v.left c.loop-hits-test.true in
-    let k = of_some _ _ (there c.args.hash _ h.here) c.node.ensures in
+    let k = of_some _ _ (there c.args.hash _ h.here) c.node-node.ensures in
     subst (λ (n : g.row.N.Denot). g.F.Fn.pre c.args.is_match.now (n, tt)) k.2 (c.requires.callable _ k.0 k.1)
 
 pub returns-then-is_match-clause-found : goal.returns-then-is_match-clause-found
@@ -64,12 +69,10 @@ returns-then-is_match-clause-found g c =
     let v = c.loop-hits.invariant in
     let h = found_at firsts c.args.base c.args.hash c.requires.within c.loop-hits.at c.loop-hits.hits
     v.from v.left c.loop-hits-test.true in
-    let k = of_some _ _ (there c.args.hash _ h.here) c.node.ensures in (
-      k.0,
-      k.1,
-      subst (λ (n : g.row.N.Denot). g.F.Fn.post c.args.is_match.now (n, tt) true) (sym k.2)
-          c.if-is_match.ensures,
-    )
+    let k = of_some _ _ (there c.args.hash _ h.here) c.node-node.ensures in
+    let matches = subst (λ (n : g.row.N.Denot). g.F.Fn.post c.args.is_match.now (n, tt) true) (sym k.2)
+    c.if-is_match.ensures in
+    (k.1 ∙ parts k.0 _ _ (c.requires.telling _ k.0 k.1 matches) k.2, c.if-is_match.ensures)
 
 pub returns-then-is_match-clause-cost : goal.returns-then-is_match-clause-cost
 returns-then-is_match-clause-cost g c =
@@ -91,7 +94,7 @@ loop-hits-preserved g c =
     let v = c.loop-hits.invariant in
     let h = found_at firsts c.args.base c.args.hash c.requires.within c.loop-hits.at c.loop-hits.hits
     v.from v.left c.loop-hits-test.true in
-    let k = of_some _ _ (there c.args.hash _ h.here) c.node.ensures in
+    let k = of_some _ _ (there c.args.hash _ h.here) c.node-node.ensures in
     let now = c.loop-hits.at + count_trailing_zeros 64 c.loop-hits.hits in
     let Other : g.row.N.Denot → Type 0 = λ n. g.F.Fn.post c.args.is_match.now (n, tt) false in
     record {

@@ -21,7 +21,7 @@ returns g c =
             blocks =
                 (ap
                 (λ (b : B). set_value (same_node c.args.node) bs
-                (record { value = record { links = b.links; held = body_with b.held w } }))
+                (record { value = record b { held = body_with b.held w } }))
                 c.deref_mut-block.ensures.value
                 ∙ sym
                 (alter_is (same_node c.args.node) (kept_with w) bs c.get_mut.result.now

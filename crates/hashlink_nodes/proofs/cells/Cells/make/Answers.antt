@@ -18,6 +18,7 @@ returns-in-Ok-clause-made g c =
     ∙ (ap (λ (b : B). b.held) c.new_unchecked.ensures ∙ c.bare.ensures) in
     added c.args.self.now.arena.blocks c.keep-node.new.self.blocks c.args.self.now.writes.count
     c.keep-node.result
-    c.of.result.value c.get_mut.result.now c.deref_mut-block.result.now c.around-block.result
-    c.keep-node.ensures.kept
-    c.get_mut.ensures.value c.deref_mut-block.ensures.value bare c.around-block.ensures
+    c.of.result.value c.get_mut.result.now c.deref_mut-block.result.now c.new-block.result
+    c.new-block-in-Ok.result c.keep-node.ensures.kept
+    c.get_mut.ensures.value c.deref_mut-block.ensures.value bare c.new-block.ensures
+    c.new-block-in-Ok.ensures

@@ -1,7 +1,5 @@
-use Rattle.std.proofs.Common.{◌+◌, ◌<◌, true, length, inl, inr, sym, ap, ◌∙◌, subst, arith}
-use Rattle.std.proofs.lemmas.Option.{same_Some}
-use Rattle.hashlink_table.specs.declared.kept.Kept.{Kept}
-use Rattle.hashlink_table.specs.Contents.{Contents, Keeps}
+use Rattle.std.proofs.Common.{◌+◌, ◌<◌, length, inl, inr, ap, arith}
+use Rattle.hashlink_table.specs.Contents.{Contents}
 use Rattle.hashlink_table.proofs.Views.{keeps_first, keeps_over, keeps_found, keeps_cases, searched_agree}
 use Rattle.hashlink_table.proofs.table.Table.find.Goals as goal
 
@@ -49,15 +47,10 @@ returns-in-None-clause-cost g c =
 pub returns-clause-found : goal.returns-clause-found
 returns-clause-found g c =
     let t = c.self.inside in
-    let sought = rw c.deref.ensures.value at c.in-Some.ensures.found in
-    let read = rw c.deref-in-Some.ensures.value at c.found.ensures in
-    let same = same_Some _ _ (sym sought.1 ∙ read) in
-    let Found : Kept g.row.N.Denot → Type 0
-    = λ k. Keeps c.args.self.now c.args.hash k.node × g.F.Fn.post c.args.is_match (k.node, tt) true in
-    subst Found same (
-      keeps_found t.firsts t.overs.items t.room c.args.hash c.in-Some.spot sought.0 c.args.self.now
-          c.self.view_is sought.1,
-      sought.2,
+    let sought = rw c.deref.ensures.value at c.in-Some.ensures.found in (
+      keeps_found t.firsts t.overs.items t.room c.args.hash c.in-Some.found.spot c.in-Some.found.node
+          c.args.self.now c.self.view_is sought.0,
+      sought.1,
     )
 
 pub returns-clause-cost : goal.returns-clause-cost

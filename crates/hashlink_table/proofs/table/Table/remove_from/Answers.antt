@@ -60,8 +60,8 @@ take-kept-requires-clause-on_chain g c = λ at over.
     let overs = t.overs.items in
     let sought = rw c.deref.ensures.value at c.in-Some.ensures.found in
     let bucket = c.bucket_of-bucket.ensures ∙ ap (λ n. c.args.hash % n) c.len.ensures in
-    let is : kept_at overs at ≡ Some (record { hash = c.args.hash; node = sought.0 })
-    = sym (ap (kept_by t.firsts overs) over) ∙ sought.1 in
+    let is : kept_at overs at ≡ Some (record { hash = c.args.hash; node = c.in-Some.found.node })
+    = sym (ap (kept_by t.firsts overs) over) ∙ sought.0 in
     rw c.deref_mut.ensures.value
     (chain_at_within (length t.firsts) overs at (within_kept overs at _ is)
     ∙ ap (chain_of (length t.firsts)) is ∙ sym bucket)
@@ -72,7 +72,7 @@ returns-clause-removed g c =
     let sought = rw c.deref.ensures.value at c.in-Some.ensures.found in
     let read = rw c.deref_mut.ensures.value at taken.ensures.kept in
     let nodes = rw c.deref_mut.ensures.value at taken.ensures.nodes in
-    let same = same_Some _ _ (sym sought.1 ∙ read) in
+    let same = same_Some _ _ (sym sought.0 ∙ read) in
     let cells = taken.auto.cells ∙ ap length c.deref_mut.ensures.value in
     let K : Type 0 = Kept g.row.N.Denot in
     let rest = nodes_in taken.new.firsts ++ nodes_in taken.new.cells in
@@ -81,5 +81,5 @@ returns-clause-removed g c =
           (record { hash = c.args.hash; node = taken.result.node } ∷ rest)) c.self.view_is
           (subst (λ h. IsPermutation (nodes_in t.firsts ++ nodes_in t.overs.items)
           (record { hash = h; node = taken.result.node } ∷ rest)) (sym (ap (λ (k : K). k.hash) same)) nodes),
-      subst (λ (k : K). g.F.Fn.post c.args.is_match (k.node, tt) true) same sought.2,
+      subst (λ (k : K). g.F.Fn.post c.args.is_match (k.node, tt) true) same sought.1,
     )
