@@ -1,26 +1,31 @@
 /* Loaded before the programs of a turn (LD_PRELOAD), which run side by side: it lets one of them run at a
- * time, all on one processor, so that what else the machine does slows all of them alike. TURNS names a file
- * of zeros that they share, TURNS_OF says how many they are, and TURNS_ME which of them this one is, from 0.
+ * time, all on one processor, so that what else the machine does slows all of them alike. SLICES names a file
+ * of zeros that they share, SLICES_OF says how many they are, SLICES_ME which of them this one is, from 0,
+ * and SLICES_ROWS how many rows of the others come before its first.
  *
- * A program reads the clock before what it times and after it, and writes a line for each row. Before what
- * it times it hands its turn on, if it has had it for long enough or is a row ahead of another. */
+ * Each program reads CLOCK_MONOTONIC before what it times and after it, and at no other time, and writes a
+ * line for each row. Before what it times it lets another program run, if it has run for long enough or is a
+ * row ahead of another. */
 #define _GNU_SOURCE
 #include <dlfcn.h>
 #include <fcntl.h>
 #include <linux/futex.h>
 #include <sched.h>
+#include <signal.h>
 #include <stdatomic.h>
 #include <stdbool.h>
+#include <stdio.h>
 #include <stdlib.h>
 #include <sys/mman.h>
+#include <sys/prctl.h>
 #include <sys/syscall.h>
 #include <time.h>
 #include <unistd.h>
 
-enum { MOST_PROGRAMS = 8, TURN_NS = 5000000 };
+enum { MOST_PROGRAMS = 8, SLICE_NS = 5000000 };
 
 struct shared {
-    atomic_int turn;                /* whose turn it is */
+    atomic_int running;             /* which program runs */
     atomic_int processor;           /* on which all run, and one more */
     atomic_int rows[MOST_PROGRAMS]; /* how many rows each has done */
     atomic_bool ended[MOST_PROGRAMS];
@@ -28,7 +33,7 @@ struct shared {
 
 static struct shared *shared;
 static int me, of;
-static long began; /* when this turn began */
+static long began; /* when this slice began */
 
 static int read_clock(clockid_t clock, struct timespec *time) {
     static int (*next)(clockid_t, struct timespec *);
@@ -42,23 +47,23 @@ static long nanoseconds(void) {
     return time.tv_sec * 1000000000L + time.tv_nsec;
 }
 
-static void wait_for_turn(void) {
-    for (int turn; (turn = shared->turn) != me;)
-        syscall(SYS_futex, &shared->turn, FUTEX_WAIT, turn, NULL, NULL, 0);
+static void wait_to_run(void) {
+    for (int running; (running = shared->running) != me;)
+        syscall(SYS_futex, &shared->running, FUTEX_WAIT, running, NULL, NULL, 0);
     began = nanoseconds();
 }
 
-static void hand_on(int program) {
-    shared->turn = program;
-    syscall(SYS_futex, &shared->turn, FUTEX_WAKE, MOST_PROGRAMS, NULL, NULL, 0);
+static void let_run(int program) {
+    shared->running = program;
+    syscall(SYS_futex, &shared->running, FUTEX_WAKE, MOST_PROGRAMS, NULL, NULL, 0);
 }
 
 /* The next program that has not ended, of those that are no row ahead of this one; or this one. */
 static int next_program(void) {
     for (int step = 1; step < of; step++) {
         int program = (me + step) % of;
-        bool is_ahead = !shared->ended[me] && shared->rows[program] > shared->rows[me];
-        if (!shared->ended[program] && !is_ahead) return program;
+        bool other_is_ahead = !shared->ended[me] && shared->rows[program] > shared->rows[me];
+        if (!shared->ended[program] && !other_is_ahead) return program;
     }
     return me;
 }
@@ -69,41 +74,57 @@ static bool is_ahead(void) {
     return false;
 }
 
+static void check(bool holds) {
+    if (holds) return;
+    perror("slices");
+    _exit(2);
+}
+
 static void stay_on_one_processor(void) {
     int none = 0;
     atomic_compare_exchange_strong(&shared->processor, &none, sched_getcpu() + 1);
     cpu_set_t set;
     CPU_ZERO(&set);
     CPU_SET(shared->processor - 1, &set);
-    sched_setaffinity(0, sizeof set, &set);
+    check(sched_setaffinity(0, sizeof set, &set) == 0);
+}
+
+static int number(const char *name) {
+    const char *text = getenv(name);
+    return text ? atoi(text) : 0;
 }
 
 __attribute__((constructor)) static void begin(void) {
-    const char *name = getenv("TURNS"), *number = getenv("TURNS_ME"), *count = getenv("TURNS_OF");
-    if (!name || !number || !count) return;
+    const char *name = getenv("SLICES");
+    if (!name) return;
+    me = number("SLICES_ME");
+    of = number("SLICES_OF");
+    check(me < of && of <= MOST_PROGRAMS);
+    check(prctl(PR_SET_PDEATHSIG, SIGTERM) == 0); /* ends with the shell that began it */
     int file = open(name, O_RDWR);
+    check(file >= 0);
     void *memory = mmap(NULL, sizeof *shared, PROT_READ | PROT_WRITE, MAP_SHARED, file, 0);
-    if (memory == MAP_FAILED) return;
+    check(memory != MAP_FAILED);
     shared = memory;
-    me = atoi(number);
-    of = atoi(count);
-    wait_for_turn();
+    shared->rows[me] = number("SLICES_ROWS");
+    wait_to_run();
     stay_on_one_processor();
 }
 
 __attribute__((destructor)) static void end(void) {
     if (!shared) return;
     shared->ended[me] = true;
-    hand_on(next_program());
+    let_run(next_program());
 }
 
 int clock_gettime(clockid_t clock, struct timespec *time) {
     static bool is_timing;
+    if (clock != CLOCK_MONOTONIC || !shared) return read_clock(clock, time);
     is_timing = !is_timing;
-    if (shared && is_timing && (is_ahead() || nanoseconds() - began >= TURN_NS)) {
+    if (is_timing && (is_ahead() || nanoseconds() - began >= SLICE_NS)) {
         int program = next_program();
-        if (program != me) hand_on(program);
-        wait_for_turn();
+        if (program != me) let_run(program);
+        wait_to_run();
     }
     return read_clock(clock, time);
 }
