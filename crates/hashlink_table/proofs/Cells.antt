@@ -6,7 +6,8 @@ use Rattle.std.proofs.lemmas.Bool.{cases_eq, cases_lt, false≢true}
 use Rattle.std.proofs.lemmas.List.{get_or-set_same, get_or-set_other, get_or_push, get_or-map, get_or_past}
 use Rattle.std.proofs.lemmas.List.{get_or_default, length-map, map-set, map_push}
 use Rattle.hashlink_table.specs.declared.cell.Cell.{Cell}
-use Rattle.hashlink_table.specs.Chains.{no_cell, kept_at, next_at, chain_of, chain_at}
+use Rattle.hashlink_table.specs.Chains.{kept_at, next_at, chain_of, chain_at}
+use Rattle.hashlink_table.specs.Stored.{bare_cell}
 use Rattle.hashlink_table.proofs.Threads.{IsOff, SameBut}
 
 -- one element more changes no other place
@@ -24,28 +25,28 @@ module _ {N : Type 0} where
   -- after a write
   pub next_at-set : (cells : List (Cell N)) (i : ℕ) (c : Cell N) → i < length cells
       → next_at (set cells i c) i ≡ c.next
-  next_at-set cells i c h = ap (λ (d : Cell N). d.next) (get_or-set_same cells i c no_cell h)
+  next_at-set cells i c h = ap (λ (d : Cell N). d.next) (get_or-set_same cells i c bare_cell h)
 
   pub next_at-set_other : (cells : List (Cell N)) (i : ℕ) (c : Cell N)
       → SameBut i (next_at cells) (next_at (set cells i c))
-  next_at-set_other cells i c j ne = ap (λ (d : Cell N). d.next) (get_or-set_other cells i j c no_cell ne)
+  next_at-set_other cells i c j ne = ap (λ (d : Cell N). d.next) (get_or-set_other cells i j c bare_cell ne)
 
   pub kept_at-set : (cells : List (Cell N)) (i : ℕ) (c : Cell N) → i < length cells
       → kept_at (set cells i c) i ≡ c.kept
-  kept_at-set cells i c h = ap (λ (d : Cell N). d.kept) (get_or-set_same cells i c no_cell h)
+  kept_at-set cells i c h = ap (λ (d : Cell N). d.kept) (get_or-set_same cells i c bare_cell h)
 
   pub kept_at-set_other : (cells : List (Cell N)) (i : ℕ) (c : Cell N) (j : ℕ) → j ≢ i
       → kept_at (set cells i c) j ≡ kept_at cells j
-  kept_at-set_other cells i c j ne = ap (λ (d : Cell N). d.kept) (get_or-set_other cells i j c no_cell ne)
+  kept_at-set_other cells i c j ne = ap (λ (d : Cell N). d.kept) (get_or-set_other cells i j c bare_cell ne)
 
   -- a read under any default
   pub kept_at_read : (cells : List (Cell N)) (i : ℕ) (d : Cell N) → i < length cells
       → (get_or cells i d).kept ≡ kept_at cells i
-  kept_at_read cells i d h = ap (λ (c : Cell N). c.kept) (get_or_default cells i d no_cell h)
+  kept_at_read cells i d h = ap (λ (c : Cell N). c.kept) (get_or_default cells i d bare_cell h)
 
   pub next_at_read : (cells : List (Cell N)) (i : ℕ) (d : Cell N) → i < length cells
       → (get_or cells i d).next ≡ next_at cells i
-  next_at_read cells i d h = ap (λ (c : Cell N). c.next) (get_or_default cells i d no_cell h)
+  next_at_read cells i d h = ap (λ (c : Cell N). c.next) (get_or_default cells i d bare_cell h)
 
   pub chain_at-set : (buckets : ℕ) (cells : List (Cell N)) (i : ℕ) (c : Cell N) → i < length cells
       → chain_at buckets (set cells i c) i ≡ chain_of buckets c.kept
@@ -68,18 +69,18 @@ module _ {N : Type 0} where
       elim (cases_eq j i) as (λ _. chain_at buckets (set cells i c) j ≡ chain_at buckets cells j) [
         | inl e ↦ ap (chain_at buckets (set cells i c)) e ∙ chain_at-set buckets cells i c h
             ∙ ap (chain_of buckets) same
-            ∙ sym (get_or-map (label buckets) cells i no_cell (suc buckets) h)
+            ∙ sym (get_or-map (label buckets) cells i bare_cell (suc buckets) h)
             ∙ ap (chain_at buckets cells) (sym e)
         | inr ne ↦ chain_at-set_other buckets cells i c j ne
       ]
 
   -- after a push
   pub next_at-push : (cells : List (Cell N)) (c : Cell N) → next_at (cells ++ c ∷ []) (length cells) ≡ c.next
-  next_at-push cells c = ap (λ (d : Cell N). d.next) (get_or_push cells c no_cell (length cells) refl)
+  next_at-push cells c = ap (λ (d : Cell N). d.next) (get_or_push cells c bare_cell (length cells) refl)
 
   pub next_at-push_other : (cells : List (Cell N)) (c : Cell N)
       → SameBut (length cells) (next_at cells) (next_at (cells ++ c ∷ []))
-  next_at-push_other cells c j ne = ap (λ (d : Cell N). d.next) (push_other cells c no_cell j ne)
+  next_at-push_other cells c j ne = ap (λ (d : Cell N). d.next) (push_other cells c bare_cell j ne)
 
   pub chain_at-push : (buckets : ℕ) (cells : List (Cell N)) (c : Cell N)
       → chain_at buckets (cells ++ c ∷ []) (length cells) ≡ chain_of buckets c.kept
@@ -104,7 +105,7 @@ module _ {N : Type 0} where
 
   pub chain_at_within : (buckets : ℕ) (cells : List (Cell N)) (i : ℕ) → i < length cells
       → chain_at buckets cells i ≡ chain_of buckets (kept_at cells i)
-  chain_at_within buckets cells i h = get_or-map (label buckets) cells i no_cell (suc buckets) h
+  chain_at_within buckets cells i h = get_or-map (label buckets) cells i bare_cell (suc buckets) h
 
   pub within_by_chain : (buckets : ℕ) (cells : List (Cell N)) (i b : ℕ) → chain_at buckets cells i
       ≡ b → b ≤ buckets
@@ -119,7 +120,7 @@ module _ {N : Type 0} where
   within_by_kept cells i some = elim (cases_lt i (length cells)) as (λ _. i < length cells) [
     | inl h ↦ h
     | inr past ↦ absurd (false≢true
-        (subst IsSome (ap (λ (c : Cell N). c.kept) (get_or_past cells i no_cell past)) some))
+        (subst IsSome (ap (λ (c : Cell N). c.kept) (get_or_past cells i bare_cell past)) some))
   ]
 
   pub off_past : (chains buckets : ℕ) (cells : List (Cell N)) (i : ℕ) → chains

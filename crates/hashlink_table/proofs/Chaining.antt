@@ -6,9 +6,10 @@ use Rattle.std.proofs.lemmas.List.{get_or-map, length-map, map-set}
 use Rattle.hashlink_table.specs.declared.kept.Kept.{Kept}
 use Rattle.hashlink_table.specs.declared.cell.Cell.{Cell}
 use Rattle.hashlink_table.specs.declared.cell.TheConstants.{END}
-use Rattle.hashlink_table.specs.Chains.{no_cell, kept_at, next_at, chain_of, chain_at, links_of, nodes_in}
+use Rattle.hashlink_table.specs.Chains.{kept_at, next_at, chain_of, chain_at, links_of, nodes_in}
 use Rattle.hashlink_table.specs.Chains.{stored_in, with_node}
 use Rattle.hashlink_table.specs.Chains.{IsLinked, IsPlaced, SameNodes}
+use Rattle.hashlink_table.specs.Stored.{bare_cell}
 use Rattle.hashlink_table.proofs.Cells.{chain_at_within, within_by_chain}
 use Rattle.hashlink_table.proofs.Linking.{linked-push, linked-reuse, free_on}
 use Rattle.hashlink_table.proofs.Nodes.{nodes_in-set, nodes_in-push, nodes_in-same}
@@ -20,7 +21,7 @@ module _ {N : Type 0} where
   -- a link of the buckets' own cells, read and written
   pub link_read : (firsts : List (Cell N)) (b : ℕ) → b < length firsts
       → get_or (links_of firsts) b END ≡ next_at firsts b
-  link_read firsts b low = get_or-map (λ (c : Cell N). c.next) firsts b no_cell END low
+  link_read firsts b low = get_or-map (λ (c : Cell N). c.next) firsts b bare_cell END low
 
   pub link_set : (firsts : List (Cell N)) (b : ℕ) (d : Cell N) (x : ℕ) → d.next ≡ x
       → links_of (set firsts b d) ≡ set (links_of firsts) b x
@@ -121,11 +122,11 @@ module _ {N : Type 0} where
   -- where each cell keeps its node and the hash that it stores
   pub same_stored : (cells later : List (Cell N)) (i : ℕ) → SameNodes cells later → i < length cells
       → i < length later
-      → stored_in (get_or later i no_cell) ≡ stored_in (get_or cells i no_cell)
+      → stored_in (get_or later i bare_cell) ≡ stored_in (get_or cells i bare_cell)
   same_stored cells later i same h h' =
-      let none : Option (Kept N) × ℕ = stored_in no_cell in
-      sym (get_or-map stored_in later i no_cell none h') ∙ ap (λ ss. get_or ss i none) same
-      ∙ get_or-map stored_in cells i no_cell none h
+      let none : Option (Kept N) × ℕ = stored_in bare_cell in
+      sym (get_or-map stored_in later i bare_cell none h') ∙ ap (λ ss. get_or ss i none) same
+      ∙ get_or-map stored_in cells i bare_cell none h
 
   pub same_kept : (cells later : List (Cell N)) (i : ℕ) → SameNodes cells later → i < length cells
       → i < length later

@@ -14,7 +14,8 @@ use lib.Lanes.{mask_l}
 use lib.Pow.{shr-shr}
 use Rattle.hashlink_table.specs.declared.cell.Cell.{Cell}
 use Rattle.hashlink_table.specs.declared.cell.TheConstants.{END}
-use Rattle.hashlink_table.specs.Chains.{no_cell, kept_at, next_at, AreTaken, IsFilled}
+use Rattle.hashlink_table.specs.Chains.{kept_at, next_at, AreTaken, IsFilled}
+use Rattle.hashlink_table.specs.Stored.{bare_cell}
 use Rattle.hashlink_table.specs.Own.{lanes_of}
 
 module _ {X : Type 0} (p : X → Bool) where
@@ -107,8 +108,8 @@ module _ {N : Type 0} (cells : List (Cell N)) (base : ℕ) (room : base + 16 ≤
   -- the lowest bit is that of the first that passes
   pub record IsHit (at hits : ℕ) : Type 0 where
     pub to : at + count_trailing_zeros 64 hits < base + 16
-    pub before : (i : ℕ) → at ≤ i → i < at + count_trailing_zeros 64 hits → q (get_or cells i no_cell) ≡ false
-    pub here : q (get_or cells (at + count_trailing_zeros 64 hits) no_cell) ≡ true
+    pub before : (i : ℕ) → at ≤ i → i < at + count_trailing_zeros 64 hits → q (get_or cells i bare_cell) ≡ false
+    pub here : q (get_or cells (at + count_trailing_zeros 64 hits) bare_cell) ≡ true
     pub rest : hits / 2 ^ count_trailing_zeros 64 hits / 2
         ≡ mask_l (map q (from (at + count_trailing_zeros 64 hits + 1)))
     pub count : count_by q (from at) ≡ 1 + count_by q (from (at + count_trailing_zeros 64 hits + 1))
@@ -118,13 +119,13 @@ module _ {N : Type 0} (cells : List (Cell N)) (base : ℕ) (room : base + 16 ≤
       omega (arith, low, length-drop (at - base) (lanes_of cells base), length-chunk base 16 cells room)
 
   from_at : (at k : ℕ) → base ≤ at → k < length (from at)
-      → get_or (from at) k no_cell ≡ get_or cells (at + k) no_cell
+      → get_or (from at) k bare_cell ≡ get_or cells (at + k) bare_cell
   from_at at k low within =
       let n = at - base in
       let index : base + (n + k) ≡ at + k = omega (arith, low) in
-      get_or-drop n (lanes_of cells base) k no_cell
-      ∙ get_or-chunk base 16 cells (n + k) no_cell (omega (arith, low, within, from_long at low))
-      ∙ ap (λ i. get_or cells i no_cell) index
+      get_or-drop n (lanes_of cells base) k bare_cell
+      ∙ get_or-chunk base 16 cells (n + k) bare_cell (omega (arith, low, within, from_long at low))
+      ∙ ap (λ i. get_or cells i bare_cell) index
 
   pub hit : (at hits : ℕ) → base ≤ at → hits ≡ mask_l (map q (from at)) → (hits ≡ 0 → ⊥) → IsHit at hits
   hit at hits low is some = subst (IsHit at) (sym is) here
@@ -144,21 +145,21 @@ module _ {N : Type 0} (cells : List (Cell N)) (base : ℕ) (room : base + 16 ≤
                 let k = i - at in
                 let index : at + k ≡ i = omega (arith, from_i) in
                 ap q (sym (from_at at k low (omega (arith, f.within, from_i, to_i))
-                ∙ ap (λ j. get_or cells j no_cell) index))
-                ∙ f.before k no_cell (omega (arith, from_i, to_i));
-            here = ap q (sym (from_at at t low f.within)) ∙ f.here no_cell;
+                ∙ ap (λ j. get_or cells j bare_cell) index))
+                ∙ f.before k bare_cell (omega (arith, from_i, to_i));
+            here = ap q (sym (from_at at t low f.within)) ∙ f.here bare_cell;
             rest = f.rest ∙ ap (λ (ys : List (Cell N)). mask_l (map q ys)) later;
             count = f.count ∙ ap (λ (ys : List (Cell N)). 1 + count_by q ys) later;
           }
 
   pub no_hit : (at : ℕ) → base ≤ at → mask_l (map q (from at)) ≡ 0 → (i : ℕ) → at ≤ i → i < base + 16
-      → q (get_or cells i no_cell) ≡ false
+      → q (get_or cells i bare_cell) ≡ false
   no_hit at low empty i from_i to_i =
       let k = i - at in
       let index : at + k ≡ i = omega (arith, from_i) in
       let within : k < length (from at) = omega (arith, from_long at low, from_i, to_i) in
-      ap q (sym (from_at at k low within ∙ ap (λ j. get_or cells j no_cell) index))
-      ∙ none_pass q (from at) empty k no_cell within
+      ap q (sym (from_at at k low within ∙ ap (λ j. get_or cells j bare_cell) index))
+      ∙ none_pass q (from at) empty k bare_cell within
 
 module _ {N : Type 0} where
   -- where the mask of a group's free cells is empty, each cell of it has a node
@@ -167,7 +168,7 @@ module _ {N : Type 0} where
       → AreTaken cells base
   all_taken cells base room empty at from to =
       some_by (kept_at cells at)
-      (none_from_empty_mask (λ (c : Cell N). is_none c.kept) cells base 16 no_cell room empty at from to)
+      (none_from_empty_mask (λ (c : Cell N). is_none c.kept) cells base 16 bare_cell room empty at from to)
     where
       some_by : {A : Type 0} (o : Option A) → is_none o ≡ false → IsSome o
       some_by None e = absurd (true≢false e)
@@ -192,8 +193,8 @@ module _ {N : Type 0} where
         from = omega arith;
         to = omega (arith, low);
         none = none_by (kept_at cells (base + t))
-            (ap (λ (c : Cell N). is_none c.kept) (sym (get_or-chunk base 16 cells t no_cell low))
-            ∙ f.here no_cell);
+            (ap (λ (c : Cell N). is_none c.kept) (sym (get_or-chunk base 16 cells t bare_cell low))
+            ∙ f.here bare_cell);
       }
     where
       none_by : {A : Type 0} (o : Option A) → is_none o ≡ true → o ≡ None

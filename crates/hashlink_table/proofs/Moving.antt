@@ -11,9 +11,10 @@ use Rattle.std.proofs.Math.Seq.{map-set_same}
 use Rattle.hashlink_table.specs.declared.kept.Kept.{Kept}
 use Rattle.hashlink_table.specs.declared.cell.Cell.{Cell}
 use Rattle.hashlink_table.specs.declared.cell.TheConstants.{END}
-use Rattle.hashlink_table.specs.Chains.{no_cell, kept_at, next_at, chain_at, links_of, nodes_in, with_node}
+use Rattle.hashlink_table.specs.Chains.{kept_at, next_at, chain_at, links_of, nodes_in, with_node}
 use Rattle.hashlink_table.specs.Chains.{stored_in, AreGrouped, AreTaken, IsFilled, IsInPlace, IsLinked}
 use Rattle.hashlink_table.specs.Chains.{SameNodes}
+use Rattle.hashlink_table.specs.Stored.{bare_cell}
 use Rattle.hashlink_table.specs.Own.{with_kept, with_next, without_kept}
 use Rattle.hashlink_table.proofs.Cells.{kept_at-set, kept_at-set_other, next_at-set, next_at-set_other}
 use Rattle.hashlink_table.proofs.Cells.{within_by_kept}
@@ -34,8 +35,8 @@ module _ {N : Type 0} where
       → kept_at g i ≡ kept_at f i
   kept-same f g same n i = elim (cases_lt i (length f)) as (λ _. kept_at g i ≡ kept_at f i) [
     | inl low ↦ same_kept f g i same low (omega (arith, low, n))
-    | inr past ↦ ap (λ (c : Cell N). c.kept) (get_or_past g i no_cell (omega (arith, past, n)) ∙ sym
-        (get_or_past f i no_cell past))
+    | inr past ↦ ap (λ (c : Cell N). c.kept) (get_or_past g i bare_cell (omega (arith, past, n)) ∙ sym
+        (get_or_past f i bare_cell past))
   ]
 
   pub in_place-same : (f g : List (Cell N)) → SameNodes f g → length g ≡ length f → IsInPlace f → IsInPlace g
@@ -107,20 +108,20 @@ module _ {N : Type 0} where
       → IsPermutation (k ∷ nodes_in f) (nodes_in (with_kept f i k))
   put-nodes f i k low none =
       subst (λ o. IsPermutation (k ∷ nodes_in f) (with_node o (nodes_in (with_kept f i k)))) none
-      (nodes_in-set f i (record (get_or f i no_cell) { kept = Some k; hash = k.hash }) low)
+      (nodes_in-set f i (record (get_or f i bare_cell) { kept = Some k; hash = k.hash }) low)
 
   pub free-nodes : (f : List (Cell N)) (i : ℕ) (k : Kept N) → i < length f → kept_at f i ≡ Some k
       → IsPermutation (nodes_in f) (k ∷ nodes_in (without_kept f i))
   free-nodes f i k low is =
       subst (λ o. IsPermutation (nodes_in f) (with_node o (nodes_in (without_kept f i)))) is
-      (nodes_in-set f i (record (get_or f i no_cell) { kept = None }) low)
+      (nodes_in-set f i (record (get_or f i bare_cell) { kept = None }) low)
 
   -- neither changes a link
   pub put-links : (f : List (Cell N)) (i : ℕ) (k : Kept N) → links_of (with_kept f i k) ≡ links_of f
-  put-links f i k = map-set_same (λ (c : Cell N). c.next) f i _ no_cell refl
+  put-links f i k = map-set_same (λ (c : Cell N). c.next) f i _ bare_cell refl
 
   pub free-links : (f : List (Cell N)) (i : ℕ) → links_of (without_kept f i) ≡ links_of f
-  free-links f i = map-set_same (λ (c : Cell N). c.next) f i _ no_cell refl
+  free-links f i = map-set_same (λ (c : Cell N). c.next) f i _ bare_cell refl
 
   -- the link of a bucket's own cell leads to a cell of the bucket, or to the end
   pub follower_on : (firsts cells : List (Cell N)) (free b at : ℕ) → IsLinked (links_of firsts) cells free
@@ -158,7 +159,7 @@ module _ {N : Type 0} where
 
   -- a bucket's chain begins elsewhere
   pub next-same : (f : List (Cell N)) (b to : ℕ) → SameNodes f (with_next f b to)
-  next-same f b to = map-set_same stored_in f b _ no_cell refl
+  next-same f b to = map-set_same stored_in f b _ bare_cell refl
 
   pub next-others : (f : List (Cell N)) (b to a : ℕ) → a ≢ b → next_at (with_next f b to) a ≡ next_at f a
   next-others f b to a ne = next_at-set_other f b _ a ne

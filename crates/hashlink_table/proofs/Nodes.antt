@@ -12,7 +12,7 @@ use Rattle.std.proofs.lemmas.List.Sorted.{IsPermutation-middle}
 use Rattle.std.proofs.lemmas.List.Sorted.{IsPermutation-to_front}
 use Rattle.hashlink_table.specs.declared.kept.Kept.{Kept}
 use Rattle.hashlink_table.specs.declared.cell.Cell.{Cell}
-use Rattle.hashlink_table.specs.Chains.{no_cell, kept_at, stored_in, with_node, nodes_in, SameNodes}
+use Rattle.hashlink_table.specs.Chains.{kept_at, stored_in, with_node, nodes_in, SameNodes}
 use Rattle.hashlink_table.specs.Stored.{bare_cell}
 
 module _ {N : Type 0} where
@@ -81,8 +81,8 @@ module _ {N : Type 0} where
   pub nodes_in-more_at : (cells : List (Cell N)) (i : ℕ) → i < length cells
       → nodes_in (take (i + 1) cells) ≡ nodes_in (take i cells) ++ with_node (kept_at cells i) []
   nodes_in-more_at cells i h =
-      let c = get_or cells i no_cell in
-      nodes_in-more cells i c h (get_or_default cells i no_cell c h)
+      let c = get_or cells i bare_cell in
+      nodes_in-more cells i c h (get_or_default cells i bare_cell c h)
 
   pub nodes_in-part : (cells : List (Cell N)) (i : ℕ) → length (nodes_in (take i cells)) ≤ length
       (nodes_in cells)

@@ -16,10 +16,10 @@ use Rattle.hashlink_table.specs.declared.cell.Cell.{Cell}
 use Rattle.hashlink_table.specs.declared.spot.Spot.{Spot}
 use Rattle.hashlink_table.specs.declared.spot.Spot.TheVariants.{Own, Over}
 use Rattle.hashlink_table.specs.Contents.{Contents, Keeps, agreeing}
-use Rattle.hashlink_table.specs.Chains.{no_cell, kept_at, kept_by, chain_of, with_node, nodes_in, contents}
+use Rattle.hashlink_table.specs.Chains.{kept_at, kept_by, chain_of, with_node, nodes_in, contents}
 use Rattle.hashlink_table.specs.Chains.{AreGrouped, IsInPlace}
 use Rattle.hashlink_table.specs.Own.{kept_may_be, lanes_of, may_be}
-use Rattle.hashlink_table.specs.Stored.{tag_of}
+use Rattle.hashlink_table.specs.Stored.{bare_cell, tag_of}
 use Rattle.hashlink_table.proofs.Groups.{group_within, grouped_in}
 use Rattle.hashlink_table.proofs.Nodes.{contains-at, at-contains}
 
@@ -81,16 +81,16 @@ module _ {N : Type 0} where
 
   -- what is counted in a group is counted in all
   count_by-lanes : (p q : Cell N → Bool) (cells : List (Cell N)) (base : ℕ) → base + 16 ≤ length cells
-      → ((k : ℕ) → k < 16 → p (get_or cells (base + k) no_cell) ≡ true
-      → q (get_or cells (base + k) no_cell) ≡ true)
+      → ((k : ℕ) → k < 16 → p (get_or cells (base + k) bare_cell) ≡ true
+      → q (get_or cells (base + k) bare_cell) ≡ true)
       → count_by p (lanes_of cells base) ≤ count_by q cells
   count_by-lanes p q cells base room weaker =
       let lanes = lanes_of cells base in
       let rest = drop (base + 16) cells in
       let long = length-chunk base 16 cells room in
       let fewer : count_by p lanes ≤ count_by q lanes
-      = count_by-weaker p q no_cell lanes (λ k low e.
-      let at = get_or-chunk base 16 cells k no_cell (omega (arith, low, long)) in
+      = count_by-weaker p q bare_cell lanes (λ k low e.
+      let at = get_or-chunk base 16 cells k bare_cell (omega (arith, low, long)) in
       ap q at ∙ weaker k (omega (arith, low, long)) (ap p (sym at) ∙ e)) in
       let cut : cells ≡ take base cells ++ (lanes ++ rest)
       = sym (take-append-drop base cells) ∙ ap (λ (ys : List (Cell N)). take base cells ++ ys)

@@ -9,8 +9,9 @@ use Rattle.std.proofs.lemmas.List.Sums.{count_by-le-length}
 use Rattle.std.specs.Int.{IsPowerOfTwo}
 use Rattle.hashlink_table.specs.declared.cell.Cell.{Cell}
 use Rattle.hashlink_table.specs.declared.cell.TheConstants.{END}
-use Rattle.hashlink_table.specs.Chains.{no_cell, kept_at, next_at, chain_of, chain_at, Among, IsPath}
+use Rattle.hashlink_table.specs.Chains.{kept_at, next_at, chain_of, chain_at, Among, IsPath}
 use Rattle.hashlink_table.specs.Chains.{IsLinked}
+use Rattle.hashlink_table.specs.Stored.{bare_cell}
 use Rattle.hashlink_table.proofs.Paths.{first_among, path_length}
 use Rattle.hashlink_table.proofs.Chaining.{on_within, on_some}
 use Rattle.hashlink_table.proofs.Linking.{positive_by_power}
@@ -142,7 +143,7 @@ module _ {N : Type 0} where
       let Path : ℕ → Type 0 = λ n. IsPath (next_at cells) n c.path in
       let path = subst Path (get_or_append_left heads (free ∷ []) END b h) c.linked in
       let few : length c.path ≤ in_bucket cells (length heads) b =
-      path_length (λ d. eqb (chain_of (length heads) d.kept) b) (next_at cells) _ c.path cells no_cell path
+      path_length (λ d. eqb (chain_of (length heads) d.kept) b) (next_at cells) _ c.path cells bare_cell path
       (ne_eqb (length heads) b (λ e. omega arith))
       (λ j m. let e = c.inside j m in
       eq-eqb _ b
@@ -192,7 +193,7 @@ module _ {N : Type 0} where
       → IsPowerOfTwo (length heads) → at ≢ END → (read : Cell N) → read ≡ get_or cells at read
       → (kept_at cells at ≡ read.kept) × (next_at cells at ≡ read.next)
   walk_read heads cells hash {at} w power ne read is =
-      let same = get_or_read cells at read (walk_within heads cells hash w power ne) is no_cell in
+      let same = get_or_read cells at read (walk_within heads cells hash w power ne) is bare_cell in
       (ap (λ (c : Cell N). c.kept) (sym same), ap (λ (c : Cell N). c.next) (sym same))
 
   pub walk_some : (heads : List ℕ) (cells : List (Cell N)) (hash : ℕ) {at most : ℕ}

@@ -4,6 +4,7 @@ use Rattle.std.specs.Prelude.{length}
 use Rattle.std.specs.Prelude.{Option, Some, None, IsSome, slice_index_or, slice_set}
 use Rattle.std.specs.Int.{IsPowerOfTwo}
 use Rattle.hashlink_table.specs.Contents.{Contents}
+use Rattle.hashlink_table.specs.Stored.{bare_cell}
 use Rattle.hashlink_table.specs.declared.kept.Kept.{Kept}
 use Rattle.hashlink_table.specs.declared.cell.Cell.{Cell}
 use Rattle.hashlink_table.specs.declared.cell.TheConstants.{END}
@@ -11,15 +12,11 @@ use Rattle.hashlink_table.specs.declared.spot.Spot.{Spot}
 use Rattle.hashlink_table.specs.declared.spot.Spot.TheVariants.{Own, Over}
 
 module _ {N : Type 0} where
-  -- what a read past the last cell gives
-  abbrev pub no_cell : Cell N
-  no_cell = record { kept = None; hash = 0; next = END }
-
   abbrev pub kept_at : List (Cell N) → ℕ → Option (Kept N)
-  kept_at cells i = (slice_index_or cells i no_cell).kept
+  kept_at cells i = (slice_index_or cells i bare_cell).kept
 
   abbrev pub next_at : List (Cell N) → ℕ → ℕ
-  next_at cells i = (slice_index_or cells i no_cell).next
+  next_at cells i = (slice_index_or cells i bare_cell).next
 
   -- the chain of a cell: that of its bucket, and after the buckets' chains that of the free cells
   abbrev pub chain_of : ℕ → Option (Kept N) → ℕ

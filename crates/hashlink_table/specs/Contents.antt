@@ -1,5 +1,5 @@
 -- What a contract sees of a `Table`.
-use Rattle.std.specs.Prelude.{ℕ, ◌%◌, ◌==◌, List, length, count_by, Contains, refl}
+use Rattle.std.specs.Prelude.{◌≡◌, ℕ, ◌%◌, ◌==◌, List, length, count_by, Contains, refl}
 use Rattle.std.specs.Coded.{Coded, code_by, coded×, coded_ℕ, coded_list}
 use Rattle.hashlink_table.specs.declared.kept.Kept.{Kept}
 
@@ -32,6 +32,13 @@ module _ {N : Type 0} where
   -- the table has this node under this hash
   abbrev pub Keeps : Contents N → ℕ → N → Type 0
   Keeps t hash node = Contains t.nodes (record { hash = hash; node = node })
+
+  -- each node of the table may be asked about, and of them those of this hash alone are accepted
+  abbrev pub CanAsk : Contents N → (N → Type 0) → Type 0
+  CanAsk t asked = (h : ℕ) (node : N) → Keeps t h node → asked node
+
+  abbrev pub AcceptsOnly : Contents N → ℕ → (N → Type 0) → Type 0
+  AcceptsOnly t hash accepted = (h : ℕ) (node : N) → Keeps t h node → accepted node → h ≡ hash
 
   -- how many nodes there are
   abbrev pub len_of : Contents N → ℕ

@@ -5,8 +5,7 @@ use Rattle.std.specs.Simd.Lanes.{chunk}
 use Rattle.hashlink_table.specs.declared.kept.Kept.{Kept}
 use Rattle.hashlink_table.specs.declared.cell.Cell.{Cell}
 use Rattle.hashlink_table.specs.declared.own.Cold.{Cold}
-use Rattle.hashlink_table.specs.Chains.{no_cell}
-use Rattle.hashlink_table.specs.Stored.{tag_of}
+use Rattle.hashlink_table.specs.Stored.{bare_cell, tag_of}
 
 -- the tag is the hash's, or there is none
 abbrev pub IsTagOf : ℕ → ℕ → Type 0
@@ -51,10 +50,10 @@ module _ {N : Type 0} where
   -- the cells, where one has this node, has none, or links on to this cell
   abbrev pub with_kept : List (Cell N) → ℕ → Kept N → List (Cell N)
   with_kept cells at k =
-      slice_set cells at (record (slice_index_or cells at no_cell) { kept = Some k; hash = k.hash })
+      slice_set cells at (record (slice_index_or cells at bare_cell) { kept = Some k; hash = k.hash })
 
   abbrev pub without_kept : List (Cell N) → ℕ → List (Cell N)
-  without_kept cells at = slice_set cells at (record (slice_index_or cells at no_cell) { kept = None })
+  without_kept cells at = slice_set cells at (record (slice_index_or cells at bare_cell) { kept = None })
 
   abbrev pub with_next : List (Cell N) → ℕ → ℕ → List (Cell N)
-  with_next cells at to = slice_set cells at (record (slice_index_or cells at no_cell) { next = to })
+  with_next cells at to = slice_set cells at (record (slice_index_or cells at bare_cell) { next = to })

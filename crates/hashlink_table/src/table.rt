@@ -4,7 +4,7 @@ ghost use Rattle.std.specs.Prelude.{length, max};
 ghost use Rattle.std.specs.Int.{IsPowerOfTwo};
 ghost use Rattle.hashlink_table.specs.declared.error.TryReserveError.TheVariants.{CapacityOverflow};
 ghost use Rattle.hashlink_table.specs.Chains.{nodes_in};
-ghost use Rattle.hashlink_table.specs.Contents.{agreeing, len_of, Keeps};
+ghost use Rattle.hashlink_table.specs.Contents.{agreeing, len_of, AcceptsOnly, CanAsk, Keeps};
 
 use super::bucket::{bucket_of, buckets_for};
 use super::cell::{END, Stored};
@@ -159,9 +159,8 @@ impl<N: Copy> Table<N> {
     /// does, and compares no keys.
     #[inline]
     pub fn remove<F: Fn(N) -> bool>(&mut self, hash: u32, is_match: F) -> Option<N>
-        requires callable { (h : ℕ) (node : N) → Keeps self.old h node → F.pre is_match node }
-        requires telling { (h : ℕ) (node : N) → Keeps self.old h node → F.post is_match node true
-            → h ≡ hash }
+        requires callable { CanAsk self.old (λ node. F.pre is_match node) }
+        requires telling { AcceptsOnly self.old hash (λ node. F.post is_match node true) }
         ensures removed { IfSome result (λ node. IsPermutation self.old.nodes
             (record { hash = hash; node = node } ∷ self.new.nodes)
             × F.post is_match node true) }
@@ -183,9 +182,8 @@ impl<N: Copy> Table<N> {
         requires name { blank.name ≡ L.name }
         requires parts { blank.parts ≡ L.parts }
         requires some_part { 0 < blank.parts }
-        requires callable { (h : ℕ) (node : N) → Keeps self.old h node → F.pre is_match node }
-        requires telling { (h : ℕ) (node : N) → Keeps self.old h node → F.post is_match node true
-            → h ≡ hash }
+        requires callable { CanAsk self.old (λ node. F.pre is_match node) }
+        requires telling { AcceptsOnly self.old hash (λ node. F.post is_match node true) }
         ensures removed { IfSome result (λ node. IsPermutation self.old.nodes
             (record { hash = hash; node = node } ∷ self.new.nodes)
             × F.post is_match node true) }
@@ -226,9 +224,8 @@ impl<N: Copy> Table<N> {
         is_match: F,
         steps: &mut Steps<L>,
     ) -> Option<N>
-        requires callable { (h : ℕ) (node : N) → Keeps self.now h node → F.pre is_match node }
-        requires telling { (h : ℕ) (node : N) → Keeps self.now h node → F.post is_match node true
-            → h ≡ hash }
+        requires callable { CanAsk self.now (λ node. F.pre is_match node) }
+        requires telling { AcceptsOnly self.now hash (λ node. F.post is_match node true) }
         ensures found { IfSome result (λ node. Keeps self.now hash node × F.post is_match node true) }
         ensures none { IfNone result
             ((node : N) → Keeps self.now hash node → F.post is_match node false) }
@@ -248,9 +245,8 @@ impl<N: Copy> Table<N> {
     /// `find`, where nobody counts the steps.
     #[inline]
     pub fn look_up<F: Fn(N) -> bool>(&self, hash: u32, is_match: F) -> Option<N>
-        requires callable { (h : ℕ) (node : N) → Keeps self.now h node → F.pre is_match node }
-        requires telling { (h : ℕ) (node : N) → Keeps self.now h node → F.post is_match node true
-            → h ≡ hash }
+        requires callable { CanAsk self.now (λ node. F.pre is_match node) }
+        requires telling { AcceptsOnly self.now hash (λ node. F.post is_match node true) }
         ensures found { IfSome result
             (λ node. Keeps self.now hash node × F.post is_match node true) }
         ensures none { IfNone result
@@ -270,9 +266,8 @@ impl<N: Copy> Table<N> {
         requires name { blank.name ≡ L.name }
         requires parts { blank.parts ≡ L.parts }
         requires some_part { 0 < blank.parts }
-        requires callable { (h : ℕ) (node : N) → Keeps self.now h node → F.pre is_match node }
-        requires telling { (h : ℕ) (node : N) → Keeps self.now h node → F.post is_match node true
-            → h ≡ hash }
+        requires callable { CanAsk self.now (λ node. F.pre is_match node) }
+        requires telling { AcceptsOnly self.now hash (λ node. F.post is_match node true) }
         ensures found { IfSome result
             (λ node. Keeps self.now hash node × F.post is_match node true) }
         ensures none { IfNone result

@@ -1,21 +1,19 @@
-use Rattle.std.proofs.Common.{length, ◌∙◌}
-use Rattle.hashlink_table.proofs.Storing.{all_free, all_bare, tags_long, nodes_long, colds_long}
+use Rattle.std.proofs.Common.{length}
+use Rattle.hashlink_table.proofs.Storing.{all_bare, all_free, colds_len, nodes_long, tags_len}
 use Rattle.hashlink_table.proofs.own.Own.clear.Goals as goal
 
 pub invariant_of-self : goal.invariant_of-self
 invariant_of-self g c =
-    let o = c.self.inside in let v = c.args.self.now in
-    let t = tags_long o.tags.items o.nodes.items o.colds.items v c.self.invariant c.self.view_is in
-    let n = nodes_long o.tags.items o.nodes.items o.colds.items v c.self.invariant c.self.view_is in
-    let d = colds_long o.tags.items o.nodes.items o.colds.items v c.self.invariant c.self.view_is in
+    let v = c.args.self.now in
     rw (c.fill.ensures.items (λ y e. e), c.fill-2.ensures.items (λ y e. e))
-    (all_free o.nodes.items _ _ _ (length v) n (o.tags.ok.0 ∙ t) (o.colds.ok.0 ∙ d))
+    (all_free c.self.inside.nodes.items _ _ (length v) (nodes_long c.self.inside v c.self.invariant c.self.view_is)
+    (tags_len c.self.inside v c.self.invariant c.self.view_is)
+    (colds_len c.self.inside v c.self.invariant c.self.view_is))
 
 pub returns : goal.returns
 returns g c =
-    let o = c.self.inside in let v = c.args.self.now in
-    let t = tags_long o.tags.items o.nodes.items o.colds.items v c.self.invariant c.self.view_is in
-    let n = nodes_long o.tags.items o.nodes.items o.colds.items v c.self.invariant c.self.view_is in
-    let d = colds_long o.tags.items o.nodes.items o.colds.items v c.self.invariant c.self.view_is in
+    let v = c.args.self.now in
     rw (c.fill.ensures.items (λ y e. e), c.fill-2.ensures.items (λ y e. e))
-    (all_bare o.nodes.items _ _ _ (length v) n (o.tags.ok.0 ∙ t) (o.colds.ok.0 ∙ d))
+    (all_bare c.self.inside.nodes.items _ _ (length v) (nodes_long c.self.inside v c.self.invariant c.self.view_is)
+    (tags_len c.self.inside v c.self.invariant c.self.view_is)
+    (colds_len c.self.inside v c.self.invariant c.self.view_is))

@@ -8,11 +8,11 @@ invariant_of-result g c =
     let n = c.args.count in
     let nodes = c.in_ok-nodes.nodes.items in
     rw (c.in_ok-tags.ensures, c.in_ok-colds.ensures)
-    (all_free nodes _ n n n (ap length c.in_ok-nodes.ensures ∙ length-replicate n c.args.filler) refl refl)
+    (all_free nodes n n n (ap length c.in_ok-nodes.ensures ∙ length-replicate n c.args.filler) refl refl)
 
 pub returns : goal.returns
 returns g c =
     let n = c.args.count in
     let nodes = c.in_ok-nodes.nodes.items in
     rw (c.in_ok-tags.ensures, c.in_ok-colds.ensures)
-    (all_bare nodes _ n n n (ap length c.in_ok-nodes.ensures ∙ length-replicate n c.args.filler) refl refl)
+    (all_bare nodes n n n (ap length c.in_ok-nodes.ensures ∙ length-replicate n c.args.filler) refl refl)
