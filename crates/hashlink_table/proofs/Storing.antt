@@ -1,11 +1,10 @@
 -- The buckets' own cells: what is stored is what contracts see.
-use Rattle.std.proofs.Common.{◌≡◌, ℕ, zero, suc, ◌+◌, ◌%◌, ◌^◌, ◌<◌, ◌≤◌, inl, inr, Bool, true, false, cond}
+use Rattle.std.proofs.Common.{◌≡◌, ℕ, zero, suc, ◌+◌, ◌^◌, ◌<◌, ◌≤◌, ◌⊎◌, inl, inr, Bool, true, false, cond}
 use Rattle.std.proofs.Common.{eqb, List, [], ◌∷◌, length, map, take, drop, get_or, set, replicate, Option, Some}
 use Rattle.std.proofs.Common.{None, refl, sym, ap, ◌∙◌, subst, arith}
 use Rattle.std.specs.Prelude.{is_none, vec_len, IfSome, IsSome}
 use Rattle.std.proofs.lemmas.Bool.{ne_eqb, false≢true}
 use Rattle.std.proofs.lemmas.List.{get_or_read, get_or_default, set-get_or, take-map, drop-map}
-use Rattle.std.proofs.Math.Nat.{mod-eq_of_lt}
 use Rattle.std.specs.Simd.Lanes.{chunk, mask_l}
 use Rattle.hashlink_table.specs.declared.kept.Kept.{Kept}
 use Rattle.hashlink_table.specs.declared.cell.Cell.{Cell}
@@ -15,7 +14,7 @@ use Rattle.hashlink_table.specs.declared.own.Own.TheInside.{Inside}
 use Rattle.hashlink_table.specs.Chains.{kept_at, next_at}
 use Rattle.hashlink_table.specs.Stored.{bare_cell, tag_of}
 use Rattle.hashlink_table.specs.Own.{own_cell, cells_in, may_be, with_kept, with_next, without_kept}
-use Rattle.hashlink_table.specs.Own.{IsTagged, IsTagOf}
+use Rattle.hashlink_table.specs.Own.{IsStored, IsTagged}
 
 -- what a bare cell stores beside its node
 abbrev bare : Cold
@@ -23,7 +22,7 @@ bare = record { hash = 0; link = END }
 
 -- what a test says of a tag, and of its cell
 abbrev AgreesOn : {N : Type 0} → (ℕ → Bool) → (Cell N → Bool) → ℕ → Cold → Type 0
-AgreesOn {N} p q t c = (n : N) → IsTagOf c.hash t → p t ≡ q (own_cell t n c)
+AgreesOn {N} p q t c = (n : N) → IsStored c t → p t ≡ q (own_cell t n c)
 
 module _ {N : Type 0} where
   -- there are as many of each
@@ -62,15 +61,15 @@ module _ {N : Type 0} where
   cell_at (t ∷ ts) (m ∷ ns) (d ∷ cs) zero n c h low = refl
   cell_at (t ∷ ts) (m ∷ ns) (d ∷ cs) (suc i) n c h low = cell_at ts ns cs i n c h.1 (omega arith)
 
-  -- its tag
-  tagged_at : (ts : List ℕ) (ns : List N) (cs : List Cold) (i : ℕ) (c : Cold) → IsTagged ts ns cs
+  -- what is stored of it
+  stored_at : (ts : List ℕ) (ns : List N) (cs : List Cold) (i : ℕ) (c : Cold) → IsTagged ts ns cs
       → i < length ts
-      → IsTagOf (get_or cs i c).hash (get_or ts i 0)
-  tagged_at [] ns cs i c h low = absurd (omega arith)
-  tagged_at (t ∷ ts) [] cs i c h low = absurd h
-  tagged_at (t ∷ ts) (m ∷ ns) [] i c h low = absurd h
-  tagged_at (t ∷ ts) (m ∷ ns) (d ∷ cs) zero c h low = h.0
-  tagged_at (t ∷ ts) (m ∷ ns) (d ∷ cs) (suc i) c h low = tagged_at ts ns cs i c h.1 (omega arith)
+      → IsStored (get_or cs i c) (get_or ts i 0)
+  stored_at [] ns cs i c h low = absurd (omega arith)
+  stored_at (t ∷ ts) [] cs i c h low = absurd h
+  stored_at (t ∷ ts) (m ∷ ns) [] i c h low = absurd h
+  stored_at (t ∷ ts) (m ∷ ns) (d ∷ cs) zero c h low = h.0
+  stored_at (t ∷ ts) (m ∷ ns) (d ∷ cs) (suc i) c h low = stored_at ts ns cs i c h.1 (omega arith)
 
   -- a cell, written
   cells-set : (ts : List ℕ) (ns : List N) (cs : List Cold) (i t : ℕ) (n : N) (c : Cold)
@@ -86,7 +85,7 @@ module _ {N : Type 0} where
       ap (λ rest. own_cell s m d ∷ rest) (cells-set ts ns cs i t n c h.1)
 
   tagged-set : (ts : List ℕ) (ns : List N) (cs : List Cold) (i t : ℕ) (n : N) (c : Cold)
-      → IsTagged ts ns cs → IsTagOf c.hash t
+      → IsTagged ts ns cs → IsStored c t
       → IsTagged (set ts i t) (set ns i n) (set cs i c)
   tagged-set [] [] [] i t n c h is = h
   tagged-set [] [] (d ∷ cs) i t n c h is = absurd h
@@ -124,7 +123,7 @@ module _ {N : Type 0} where
   tagged-bare zero (n ∷ ns) e = absurd (omega (arith, e))
   tagged-bare (suc count) [] e = absurd (omega (arith, e))
   tagged-bare (suc count) (n ∷ ns) e =
-      (inl refl, tagged-bare count ns (omega (arith, e)))
+      (record { tagged = inl refl; small = omega arith }, tagged-bare count ns (omega (arith, e)))
 
 module _ {N : Type 0} (ns : List N) (a b n : ℕ) (long : length ns ≡ n) (tags : a ≡ n) (rest : b ≡ n) where
   pub all_free : IsTagged (replicate a 0) ns (replicate b bare)
@@ -147,8 +146,11 @@ agrees_free {N} t c n is = by (eqb t 0)
 
 pub agrees_under : {N : Type 0} (hash t : ℕ) (c : Cold)
     → AgreesOn {N = N} (λ t. eqb t (tag_of hash)) (may_be hash) t c
-agrees_under hash t c n (inl e) = rw e (ne_eqb 0 (tag_of hash) (λ e. omega (arith, e)))
-agrees_under hash t c n (inr e) = rw (e, tag_some c.hash) refl
+agrees_under hash t c n is = by is.tagged
+  where
+    by : (t ≡ 0) ⊎ (t ≡ tag_of c.hash) → eqb t (tag_of hash) ≡ may_be hash (own_cell t n c)
+    by (inl e) = rw e (ne_eqb 0 (tag_of hash) (λ e. omega (arith, e)))
+    by (inr e) = rw (e, tag_some c.hash) refl
 
 -- what is stored, seen as v
 module _ {N : Type 0} (o : Inside N) (v : List (Cell N))
@@ -266,10 +268,10 @@ module _ {N : Type 0} (o : Inside N) (v : List (Cell N))
         ∙ ap (λ (m : N). own_cell t m (get_or cs i c)) (sym at_n)
         ∙ ap (λ (d : Cold). own_cell t n d) (sym at_c)
 
-    tag_read : (c : Cold) → c ≡ get_or cs i c → IsTagOf c.hash tag
+    stored : (c : Cold) → c ≡ get_or cs i c → IsStored c tag
     unfolding tag
-    tag_read c at_c =
-        subst (λ (d : Cold). IsTagOf d.hash (get_or ts i 0)) (sym at_c) (tagged_at ts ns cs i c tagged in_tags)
+    stored c at_c =
+        subst (λ (d : Cold). IsStored d (get_or ts i 0)) (sym at_c) (stored_at ts ns cs i c tagged in_tags)
 
     -- one without a node, and one with a node
     pub none_read : (t : ℕ) → t ≡ get_or ts i t → t ≡ 0 → None ≡ kept_at v i
@@ -303,8 +305,11 @@ module _ {N : Type 0} (o : Inside N) (v : List (Cell N))
         subst (λ (o : Option (Kept N)). IfSome o (λ k. k.node ≡ n)) (sym (kept_read n cold at_n cold_at some)) refl
 
     -- where the chain of its bucket begins
-    pub next_read : (c : Cold) → c ≡ get_or cs i c → next_at v i ≡ c.link % 2 ^ 31
+    pub next_read : (c : Cold) → c ≡ get_or cs i c → next_at v i ≡ c.link
     next_read c at_c = ap (λ (d : Cell N). d.next) (cell_read tag node c tag_at node_at at_c)
+
+    pub next_small : (c : Cold) → c ≡ get_or cs i c → c.link ≤ END
+    next_small c at_c = (stored c at_c).small
 
     -- the cell, written
     written : (t : ℕ) (n : N) (c : Cold) (d : Cell N) → own_cell t n c ≡ d
@@ -319,14 +324,15 @@ module _ {N : Type 0} (o : Inside N) (v : List (Cell N))
     -- a node came into it
     module _ (k : Kept N) (c : Cold) (at_c : c ≡ get_or cs i c) where
       pub tagged-put : IsTagged (set ts i (tag_of k.hash)) (set ns i k.node) (set cs i (record c { hash = k.hash }))
-      tagged-put = tagged-set ts ns cs i (tag_of k.hash) k.node (record c { hash = k.hash }) tagged (inr refl)
+      tagged-put = tagged-set ts ns cs i (tag_of k.hash) k.node (record c { hash = k.hash }) tagged
+          (record { tagged = inr refl; small = next_small c at_c })
 
       pub put_in : cells_in (set ts i (tag_of k.hash)) (set ns i k.node) (set cs i (record c { hash = k.hash }))
           ≡ with_kept v i k
       put_in =
           written (tag_of k.hash) k.node (record c { hash = k.hash }) _
-          (ap (λ e. let d : Cell N = record { kept = cond e None (Some k); hash = k.hash; next = c.link % 2 ^ 31 }
-          in d) (tag_some k.hash)
+          (ap (λ e. let d : Cell N = record { kept = cond e None (Some k); hash = k.hash; next = c.link } in d)
+          (tag_some k.hash)
           ∙ ap (λ (d : Cell N). record d { kept = Some k; hash = k.hash }) (was c at_c))
 
     -- the node was taken out of it
@@ -334,7 +340,7 @@ module _ {N : Type 0} (o : Inside N) (v : List (Cell N))
     tagged-freed =
         subst (λ (ms : List N). IsTagged (set ts i 0) ms cs) node_stays
         (subst (IsTagged (set ts i 0) (set ns i node)) cold_stays
-        (tagged-set ts ns cs i 0 node cold tagged (inl refl)))
+        (tagged-set ts ns cs i 0 node cold tagged (record { tagged = inl refl; small = next_small cold cold_at })))
 
     pub freed : cells_in (set ts i 0) ns cs ≡ without_kept v i
     freed =
@@ -344,16 +350,16 @@ module _ {N : Type 0} (o : Inside N) (v : List (Cell N))
 
     -- its bucket's chain begins elsewhere
     module _ (to : ℕ) (c : Cold) (at_c : c ≡ get_or cs i c) where
-      pub tagged-linked : IsTagged ts ns (set cs i (record c { link = to }))
-      tagged-linked =
+      pub tagged-linked : to ≤ END → IsTagged ts ns (set cs i (record c { link = to }))
+      tagged-linked small =
           subst (λ (ms : List N). IsTagged ts ms (set cs i (record c { link = to }))) node_stays
           (subst (λ us. IsTagged us (set ns i node) (set cs i (record c { link = to }))) tag_stays
-          (tagged-set ts ns cs i tag node (record c { link = to }) tagged (tag_read c at_c)))
+          (tagged-set ts ns cs i tag node (record c { link = to }) tagged
+          (record { tagged = (stored c at_c).tagged; small = small })))
 
-      pub linked_on : to ≤ END → cells_in ts ns (set cs i (record c { link = to })) ≡ with_next v i to
-      linked_on small =
+      pub linked_on : cells_in ts ns (set cs i (record c { link = to })) ≡ with_next v i to
+      linked_on =
           ap (λ (ms : List N). cells_in ts ms (set cs i (record c { link = to }))) (sym node_stays)
           ∙ ap (λ us. cells_in us (set ns i node) (set cs i (record c { link = to }))) (sym tag_stays)
           ∙ written tag node (record c { link = to }) _
-          (ap (λ (d : Cell N). record d { next = to % 2 ^ 31 }) (was c at_c)
-          ∙ ap (λ n. record (get_or v i bare_cell) { next = n }) (mod-eq_of_lt (omega (arith, small))))
+          (ap (λ (d : Cell N). record d { next = to }) (was c at_c))

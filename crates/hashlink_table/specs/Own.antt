@@ -1,15 +1,17 @@
 -- The buckets' own cells, as they are stored and as contracts see them.
-use Rattle.std.specs.Prelude.{◌≡◌, ℕ, ◌%◌, ◌^◌, ◌==◌, ◌⊎◌, Bool, false, cond, List, [], ◌∷◌, slice_index_or}
+use Rattle.std.specs.Prelude.{◌≡◌, ℕ, ◌≤◌, ◌==◌, ◌⊎◌, Bool, false, cond, List, [], ◌∷◌, slice_index_or}
 use Rattle.std.specs.Prelude.{slice_set, Option, None, Some}
 use Rattle.std.specs.Simd.Lanes.{chunk}
 use Rattle.hashlink_table.specs.declared.kept.Kept.{Kept}
 use Rattle.hashlink_table.specs.declared.cell.Cell.{Cell}
+use Rattle.hashlink_table.specs.declared.cell.TheConstants.{END}
 use Rattle.hashlink_table.specs.declared.own.Cold.{Cold}
 use Rattle.hashlink_table.specs.Stored.{bare_cell, tag_of}
 
--- the tag is the hash's, or there is none
-abbrev pub IsTagOf : ℕ → ℕ → Type 0
-IsTagOf hash tag = (tag ≡ 0) ⊎ (tag ≡ tag_of hash)
+-- what is stored of a cell: a tag that is the hash's, or none, and a link
+pub record IsStored (cold : Cold) (tag : ℕ) : Type 0 where
+  pub tagged : (tag ≡ 0) ⊎ (tag ≡ tag_of cold.hash)
+  pub small : cold.link ≤ END
 
 -- the cell may have a node of this hash
 abbrev pub kept_may_be : {N : Type 0} → ℕ → Option (Kept N) → Bool
@@ -25,7 +27,7 @@ module _ {N : Type 0} where
   own_cell tag node cold = record {
     kept = cond (tag == 0) None (Some (record { hash = cold.hash; node = node }));
     hash = cold.hash;
-    next = cold.link % 2 ^ 31;
+    next = cold.link;
   }
 
   abbrev pub cells_in : List ℕ → List N → List Cold → List (Cell N)
@@ -34,14 +36,14 @@ module _ {N : Type 0} where
   cells_in (t ∷ ts) (n ∷ ns) [] = []
   cells_in (t ∷ ts) (n ∷ ns) (c ∷ cs) = own_cell t n c ∷ cells_in ts ns cs
 
-  -- there are as many of each, and each tag is the hash's
+  -- there are as many of each, and what is stored of each cell agrees
   abbrev pub IsTagged : List ℕ → List N → List Cold → Type 0
   IsTagged [] [] [] = Unit {0}
   IsTagged [] [] (c ∷ cs) = ⊥
   IsTagged [] (n ∷ ns) cs = ⊥
   IsTagged (t ∷ ts) [] cs = ⊥
   IsTagged (t ∷ ts) (n ∷ ns) [] = ⊥
-  IsTagged (t ∷ ts) (n ∷ ns) (c ∷ cs) = IsTagOf c.hash t × IsTagged ts ns cs
+  IsTagged (t ∷ ts) (n ∷ ns) (c ∷ cs) = IsStored c t × IsTagged ts ns cs
 
   -- the sixteen cells from this one on
   abbrev pub lanes_of : List (Cell N) → ℕ → List (Cell N)

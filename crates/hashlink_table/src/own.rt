@@ -6,7 +6,7 @@ ghost use Rattle.hashlink_table.specs.Chains.{kept_at, next_at};
 ghost use Rattle.hashlink_table.specs.Stored.{bare_cell, tag_of};
 ghost use Rattle.hashlink_table.specs.Own.{may_be, lanes_of, with_kept, without_kept, with_next};
 
-use super::cell::{END, FREE};
+use super::cell::END;
 use super::kept::Kept;
 use super::lanes::{LANES, lanes_with};
 use super::repeated::repeated;
@@ -93,7 +93,7 @@ impl<N: Copy> Own<N> {
         ensures value { result ≡ next_at self.now bucket }
         ensures small { result ≤ END }
     {
-        (self.colds[bucket].link % FREE) as usize
+        self.colds[bucket].link as usize
     }
 
     /// Sets where the chain of the bucket begins.
