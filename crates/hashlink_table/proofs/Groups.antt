@@ -1,5 +1,5 @@
 -- Groups of sixteen.
-use Rattle.std.proofs.Common.{◌≡◌, ℕ, zero, suc, ◌+◌, ◌-◌, ◌/◌, ◌%◌, ◌<◌, ◌≤◌, arith}
+use Rattle.std.proofs.Common.{◌≡◌, ℕ, zero, suc, ◌+◌, ◌-◌, ◌/◌, ◌%◌, ◌^◌, ◌<◌, ◌≤◌, ap, ◌∙◌, arith}
 use Rattle.std.proofs.Math.Nat.{pow-succ'}
 use Rattle.std.specs.Int.{IsPowerOfTwo}
 
@@ -18,6 +18,15 @@ whole_power m (suc (suc (suc (suc k))), e) h =
       pow-succ' 2 (suc k),
       pow-succ' 2 k,
     )
+
+-- and whole groups that are a power of two are sixteen or more of them
+pub groups_of : (m : ℕ) → IsPowerOfTwo m → m % 16 ≡ 0 → (k : ℕ) × (m ≡ 2 ^ (k + 4))
+groups_of m (zero, e) h = absurd (omega (arith, e, h))
+groups_of m (suc zero, e) h = absurd (omega (arith, e, h))
+groups_of m (suc (suc zero), e) h = absurd (omega (arith, e, h))
+groups_of m (suc (suc (suc zero)), e) h = absurd (omega (arith, e, h))
+groups_of m (suc (suc (suc (suc k))), e) h =
+    let n : suc (suc (suc (suc k))) ≡ k + 4 = omega arith in (k, e ∙ ap (λ j. 2 ^ j) n)
 
 -- the group of a bucket lies among the buckets
 pub group_within : (b m : ℕ) → b < m → m % 16 ≡ 0 → b - b % 16 + 16 ≤ m

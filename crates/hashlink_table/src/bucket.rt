@@ -12,6 +12,16 @@ pub fn bucket_of(hash: u32, buckets: usize) -> usize
     (hash as usize) & (buckets - 1)
 }
 
+/// The first bucket of the group that a hash belongs to.
+#[inline]
+pub fn base_of(hash: u32, buckets: usize) -> usize
+    requires power { IsPowerOfTwo buckets }
+    requires whole { buckets % LANES ≡ 0 }
+    ensures { result ≡ hash % buckets - hash % buckets % LANES }
+{
+    (hash as usize) & (buckets - LANES)
+}
+
 /// The first bucket of this bucket's group.
 #[inline]
 pub fn group_of(bucket: usize) -> usize

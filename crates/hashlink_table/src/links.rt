@@ -10,7 +10,7 @@ ghost use Rattle.hashlink_table.specs.Chains.{chain_at, chain_of, kept_at, kept_
 ghost use Rattle.hashlink_table.specs.Chains.{nodes_in, AreTaken, IsFilled, IsInPlace, IsLinked, IsLinkedBut};
 ghost use Rattle.hashlink_table.specs.Chains.{IsPlaced, SameNodes};
 
-use super::bucket::{bucket_of, group_of};
+use super::bucket::{base_of, bucket_of, group_of};
 use super::cell::{END, Stored};
 use super::kept::Kept;
 use super::lanes::LANES;
@@ -329,8 +329,8 @@ pub fn seek<N: Copy, F: Fn(N) -> bool, L: Ledger>(
         ≤ steps.old + count_by (may_be hash) (lanes_of firsts.now (b - b % LANES))
         + count_by (λ c. chain_of m c.kept == b) cells.now }
 {
-    let bucket = bucket_of(hash, firsts.len());
-    let base = group_of(bucket);
+    let buckets = firsts.len();
+    let base = base_of(hash, buckets);
     if let Some((at, node)) = seek_own(firsts, base, hash, is_match, steps) {
         let spot = Spot::Own(at);
         return Some(Found { spot, node });
@@ -338,6 +338,7 @@ pub fn seek<N: Copy, F: Fn(N) -> bool, L: Ledger>(
     if firsts.free(base) != 0 {
         return None; // no bucket of the group has a chain
     }
+    let bucket = bucket_of(hash, buckets);
     match seek_over(firsts, cells, bucket, hash, is_match, steps) {
         Some((at, node)) => {
             let spot = Spot::Over(at);

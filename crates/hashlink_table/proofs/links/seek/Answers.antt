@@ -11,19 +11,16 @@ use Rattle.hashlink_table.proofs.links.seek.Goals as goal
 
 pub seek_over-requires-clause-bucket : goal.seek_over-requires-clause-bucket
 seek_over-requires-clause-bucket g c =
-    c.bucket_of-bucket.ensures ∙ ap (λ m. c.args.hash % m) c.len.ensures
+    c.bucket_of-bucket.ensures ∙ ap (λ m. c.args.hash % m) c.len-buckets.ensures
 
--- the group of a hash's bucket
-base_of : (hash m len bucket base : ℕ) → len ≡ m → bucket ≡ hash % len → base ≡ bucket - bucket % 16
-    → base ≡ hash % m - hash % m % 16
-base_of hash m len bucket base n b is =
-    is ∙ (let e : bucket ≡ hash % m = b ∙ ap (λ k. hash % k) n in ap (λ k. k - k % 16) e)
+-- the group of a hash
+group_is : (hash m len base : ℕ) → len ≡ m → base ≡ hash % len - hash % len % 16 → base ≡ hash % m - hash % m % 16
+group_is hash m len base n is = is ∙ ap (λ k. hash % k - hash % k % 16) n
 
 pub returns-then-free-ne0-clause-none_own : goal.returns-then-free-ne0-clause-none_own
 returns-then-free-ne0-clause-none_own g c = λ at node is.
     let b = c.args.hash % length c.args.firsts.now in
-    let base = base_of c.args.hash _ c.len.result c.bucket_of-bucket.result c.group_of-base.result c.len.ensures
-    c.bucket_of-bucket.ensures c.group_of-base.ensures in
+    let base = group_is c.args.hash _ _ _ c.len-buckets.ensures c.base_of-base.ensures in
     let same = c.requires.in_place at _ is in
     c.in_default.ensures.none at node (omega (arith, base, from_base b at same))
     (omega (arith, base, to_base b at same)) is
@@ -37,10 +34,10 @@ returns-then-free-ne0-clause-none g c = λ cell node is.
     let some = positive_by_power (length firsts) c.requires.masked in
     let low : b < length heads = omega (arith, n, some) in
     let bucket : b ≡ c.args.hash % length firsts = ap (λ m. c.args.hash % m) n in
-    let base = base_of c.args.hash _ c.len.result c.bucket_of-bucket.result c.group_of-base.result c.len.ensures
-    c.bucket_of-bucket.ensures c.group_of-base.ensures ∙ ap (λ k. k - k % 16) (sym bucket) in
+    let base = group_is c.args.hash _ _ _ c.len-buckets.ensures c.base_of-base.ensures
+    ∙ ap (λ k. k - k % 16) (sym bucket) in
     let room = group_within b (length firsts) (omega (arith, low, n)) c.requires.whole in
-    let none = no_chain firsts c.group_of-base.result b base (omega (arith, room, base)) c.requires.filled
+    let none = no_chain firsts c.base_of-base.result b base (omega (arith, room, base)) c.requires.filled
     (λ e. c.if-free-ne0.true (c.free.ensures.lanes ∙ e)) in
     let on : chain_at (length heads) cells cell ≡ b
     = chain_at_within (length heads) cells cell (within_kept cells cell _ is)
@@ -51,8 +48,7 @@ returns-then-free-ne0-clause-none g c = λ cell node is.
 pub returns-in-None-clause-none_own : goal.returns-in-None-clause-none_own
 returns-in-None-clause-none_own g c = λ at node is.
     let b = c.args.hash % length c.args.firsts.now in
-    let base = base_of c.args.hash _ c.len.result c.bucket_of-bucket.result c.group_of-base.result c.len.ensures
-    c.bucket_of-bucket.ensures c.group_of-base.ensures in
+    let base = group_is c.args.hash _ _ _ c.len-buckets.ensures c.base_of-base.ensures in
     let same = c.requires.in_place at _ is in
     c.in_default.ensures.none at node (omega (arith, base, from_base b at same))
     (omega (arith, base, to_base b at same)) is
