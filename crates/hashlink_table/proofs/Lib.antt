@@ -1,5 +1,6 @@
 pub mod Cells
 pub mod Chaining
+pub mod Copying
 pub mod Groups
 pub mod Linking
 pub mod Masks

@@ -1,5 +1,5 @@
 -- What a contract sees of the cells: which nodes there are, and how many agree with a hash.
-use Rattle.std.proofs.Common.{◌≡◌, ℕ, zero, suc, ◌+◌, ◌-◌, ◌%◌, ◌<◌, ◌≤◌, ◌⊎◌, inl, inr, Bool, true, false, cond}
+use Rattle.std.proofs.Common.{◌≡◌, ℕ, zero, suc, ◌+◌, ◌-◌, ◌%◌, ◌<◌, ◌≤◌, inl, inr, Bool, true, false, cond}
 use Rattle.std.proofs.Common.{eqb, List, [], ◌∷◌, ◌++◌, length, get_or, take, drop, Option, Some, None, count_by}
 use Rattle.std.proofs.Common.{refl, sym, ap, ◌∙◌, subst, arith}
 use Rattle.std.specs.Prelude.{Contains}
@@ -15,7 +15,8 @@ use Rattle.hashlink_table.specs.declared.kept.Kept.{Kept}
 use Rattle.hashlink_table.specs.declared.cell.Cell.{Cell}
 use Rattle.hashlink_table.specs.declared.spot.Spot.{Spot}
 use Rattle.hashlink_table.specs.declared.spot.Spot.TheVariants.{Own, Over}
-use Rattle.hashlink_table.specs.Contents.{Contents, Keeps, agreeing}
+use Rattle.hashlink_table.specs.declared.table.Table.TheInside.{Inside}
+use Rattle.hashlink_table.specs.Contents.{Contents, agreeing, AcceptsOnly, CanAsk, Keeps}
 use Rattle.hashlink_table.specs.Chains.{kept_at, kept_by, chain_of, with_node, nodes_in, contents}
 use Rattle.hashlink_table.specs.Chains.{AreGrouped, IsInPlace}
 use Rattle.hashlink_table.specs.Own.{kept_may_be, lanes_of, may_be}
@@ -100,62 +101,93 @@ module _ {N : Type 0} where
       ∙ ap (λ n. count_by q (take base cells) + n) (sum_by-append (λ c. cond (q c) 1 0) lanes rest) in
       omega (arith, fewer, all)
 
-  -- the cells that a search may look at agree with its hash
-  pub searched_agree : (firsts overs : List (Cell N)) (room hash : ℕ) (t : Contents N)
-      → contents firsts overs room ≡ t → 0 < length firsts → length firsts % 16 ≡ 0 → IsInPlace firsts
-      → count_by (may_be hash) (lanes_of firsts (hash % length firsts - hash % length firsts % 16))
-      + count_by (λ c. eqb (chain_of (length firsts) c.kept) (hash % length firsts)) overs
-      ≤ agreeing t hash (length firsts)
-  searched_agree firsts overs room hash t view some whole in_place =
-      let m = length firsts in let b = hash % m in
-      let low : b < m = omega arith in
-      let base = b - b % 16 in
-      let all : agreeing t hash m
-      ≡ count_by (λ k. eqb (k.hash % m) b) (nodes_in firsts) + count_by (λ k. eqb (k.hash % m) b)
-      (nodes_in overs) =
-      ap (λ (u : Contents N). agreeing u hash m) (sym view)
-      ∙ sum_by-append (λ (k : Kept N). cond (eqb (k.hash % m) b) 1 0) (nodes_in firsts) (nodes_in overs) in
-      let own = count_by-lanes (may_be hash) (λ c. eqb (chain_of m c.kept) b) firsts base
-      (group_within b m low whole)
-      (λ k lane e. tag_agrees m b hash (base + k) (kept_at firsts (base + k)) some whole refl
-      (λ j is. in_place (base + k) j is) (grouped_in b (base + k) (omega arith) (omega (arith, lane))) e) in
-      omega (arith, all, own, in_bucket-nodes firsts hash m some, in_bucket-nodes overs hash m some)
-
+-- what is stored of a table, seen as v
+module _ {N : Type 0} (t : Inside N) (v : Contents N)
+    (view : contents t.firsts t.overs.items t.room ≡ v) where
   -- the node in a cell is one that the table keeps
-  pub keeps_first : (firsts overs : List (Cell N)) (room hash b : ℕ) (node : N) (t : Contents N)
-      → contents firsts overs room ≡ t → kept_at firsts b ≡ Some (record { hash = hash; node = node })
-      → Keeps t hash node
-  keeps_first firsts overs room hash b node t view is =
-      subst (λ (u : Contents N). Keeps u hash node) view
-      (Contains-append_left (nodes_in firsts) (nodes_in overs) _ (contains-at firsts b _ is))
+  keeps_own : (at : ℕ) (k : Kept N) → kept_at t.firsts at ≡ Some k → Keeps v k.hash k.node
+  keeps_own at k is =
+      subst (λ (u : Contents N). Keeps u k.hash k.node) view
+      (Contains-append_left (nodes_in t.firsts) (nodes_in t.overs.items) k (contains-at t.firsts at k is))
 
-  pub keeps_over : (firsts overs : List (Cell N)) (room hash at : ℕ) (node : N) (t : Contents N)
-      → contents firsts overs room ≡ t → kept_at overs at ≡ Some (record { hash = hash; node = node })
-      → Keeps t hash node
-  keeps_over firsts overs room hash at node t view is =
-      subst (λ (u : Contents N). Keeps u hash node) view
-      (Contains-append_right (nodes_in firsts) (nodes_in overs) _ (contains-at overs at _ is))
+  keeps_over : (at : ℕ) (k : Kept N) → kept_at t.overs.items at ≡ Some k → Keeps v k.hash k.node
+  keeps_over at k is =
+      subst (λ (u : Contents N). Keeps u k.hash k.node) view
+      (Contains-append_right (nodes_in t.firsts) (nodes_in t.overs.items) k (contains-at t.overs.items at k is))
 
-  pub keeps_found : (firsts overs : List (Cell N)) (room hash : ℕ) (spot : Spot) (node : N) (t : Contents N)
-      → contents firsts overs room ≡ t
-      → kept_by firsts overs spot ≡ Some (record { hash = hash; node = node })
-      → Keeps t hash node
-  keeps_found firsts overs room hash (Own at) node t view is = keeps_first firsts overs room hash at node t
-      view is
-  keeps_found firsts overs room hash (Over at) node t view is =
-      keeps_over firsts overs room hash at node t view is
+  -- so a search may ask about it, and accepts it for its hash alone
+  pub own_asked : (asked : N → Type 0) → CanAsk v asked
+      → (at : ℕ) (k : Kept N) → kept_at t.firsts at ≡ Some k → asked k.node
+  own_asked asked can at k is = can k.hash k.node (keeps_own at k is)
 
-  -- a node that the table keeps is in a bucket's own cell, or in a cell over
-  pub keeps_cases : (firsts overs : List (Cell N)) (room hash : ℕ) (node : N) (t : Contents N)
-      → contents firsts overs room ≡ t → Keeps t hash node
-      → ((at : ℕ) × (kept_at firsts at ≡ Some (record { hash = hash; node = node })))
-      ⊎ ((at : ℕ) × (kept_at overs at ≡ Some (record { hash = hash; node = node })))
-  keeps_cases firsts overs room hash node t view keeps =
-      let k : Kept N = record { hash = hash; node = node } in
-      let there : Contains (nodes_in firsts ++ nodes_in overs) k =
-      subst (λ (u : Contents N). Contains u.nodes k) (sym view) keeps in
-      elim (Contains-append_cases (nodes_in firsts) (nodes_in overs) k there) as
-      (λ _. ((at : ℕ) × (kept_at firsts at ≡ Some k)) ⊎ ((at : ℕ) × (kept_at overs at ≡ Some k))) [
-        | inl own ↦ inl (at-contains firsts k own)
-        | inr over ↦ inr (at-contains overs k over)
-      ]
+  pub own_accepted : (hash : ℕ) (accepted : N → Type 0) → AcceptsOnly v hash accepted
+      → (at : ℕ) (k : Kept N) → kept_at t.firsts at ≡ Some k → accepted k.node → k.hash ≡ hash
+  own_accepted hash accepted only at k is = only k.hash k.node (keeps_own at k is)
+
+  -- the cells over, as they were lent to the search
+  module _ (overs : List (Cell N)) (lent : overs ≡ t.overs.items) (hash : ℕ) where
+    over_at : (at : ℕ) (node : N) → kept_at overs at ≡ Some (record { hash = hash; node = node })
+        → kept_at t.overs.items at ≡ Some (record { hash = hash; node = node })
+    over_at at node is = ap (λ (cs : List (Cell N)). kept_at cs at) (sym lent) ∙ is
+
+    pub over_asked : (asked : N → Type 0) → CanAsk v asked
+        → (at : ℕ) (node : N) → kept_at overs at ≡ Some (record { hash = hash; node = node })
+        → asked node
+    over_asked asked can at node is = can hash node (keeps_over at _ (over_at at node is))
+
+    -- what it found is kept
+    pub keeps_found : (spot : Spot) (node : N)
+        → kept_by t.firsts overs spot ≡ Some (record { hash = hash; node = node })
+        → Keeps v hash node
+    keeps_found (Own at) node is = keeps_own at _ is
+    keeps_found (Over at) node is = keeps_over at _ (over_at at node is)
+
+    -- if it found none, it refused each node of the hash
+    pub none_left : (refused : N → Type 0)
+        → ((at : ℕ) (node : N) → kept_at t.firsts at ≡ Some (record { hash = hash; node = node }) → refused node)
+        → ((at : ℕ) (node : N) → kept_at overs at ≡ Some (record { hash = hash; node = node }) → refused node)
+        → (node : N) → Keeps v hash node → refused node
+    none_left refused own over node keeps =
+        let k : Kept N = record { hash = hash; node = node } in
+        let there : Contains (nodes_in t.firsts ++ nodes_in t.overs.items) k =
+        subst (λ (u : Contents N). Contains u.nodes k) (sym view) keeps in
+        elim (Contains-append_cases (nodes_in t.firsts) (nodes_in t.overs.items) k there) as (λ _. refused node) [
+          | inl first ↦ let at = at-contains t.firsts k first in own at.0 node at.1
+          | inr later ↦
+              let at = at-contains t.overs.items k later in
+              over at.0 node (ap (λ (cs : List (Cell N)). kept_at cs at.0) lent ∙ at.1)
+        ]
+
+    -- the cells that it looks at agree with the hash
+    pub search_cost : 0 < length t.firsts → length t.firsts % 16 ≡ 0 → IsInPlace t.firsts → t.room ≤ length t.firsts
+        → (before after : ℕ)
+        → after ≤ before
+        + count_by (may_be hash) (lanes_of t.firsts (hash % length t.firsts - hash % length t.firsts % 16))
+        + count_by (λ c. eqb (chain_of (length t.firsts) c.kept) (hash % length t.firsts)) overs
+        → (m : ℕ) × (0 < m) × (v.room ≤ m) × (after ≤ before + agreeing v hash m)
+    search_cost some whole in_place headed before after cost =
+        let firsts = t.firsts in let m = length firsts in let b = hash % m in
+        let low : b < m = omega arith in
+        let base = b - b % 16 in
+        let all : agreeing v hash m
+        ≡ count_by (λ k. eqb (k.hash % m) b) (nodes_in firsts) + count_by (λ k. eqb (k.hash % m) b)
+        (nodes_in t.overs.items) =
+        ap (λ (u : Contents N). agreeing u hash m) (sym view)
+        ∙ sum_by-append (λ (k : Kept N). cond (eqb (k.hash % m) b) 1 0) (nodes_in firsts)
+        (nodes_in t.overs.items) in
+        let own = count_by-lanes (may_be hash) (λ c. eqb (chain_of m c.kept) b) firsts base
+        (group_within b m low whole)
+        (λ k lane e. tag_agrees m b hash (base + k) (kept_at firsts (base + k)) some whole refl
+        (λ j is. in_place (base + k) j is) (grouped_in b (base + k) (omega arith) (omega (arith, lane))) e) in
+        let over = ap (λ (cs : List (Cell N)). count_by (λ c. eqb (chain_of m c.kept) b) cs) lent in
+        let room = ap (λ (u : Contents N). u.room) view in
+        let agree : after ≤ before + agreeing v hash m = omega (
+          arith,
+          all,
+          own,
+          over,
+          cost,
+          in_bucket-nodes firsts hash m some,
+          in_bucket-nodes t.overs.items hash m some,
+        ) in
+        (m, some, omega (arith, room, headed), agree)

@@ -1,4 +1,4 @@
-use Rattle.std.proofs.Common.{◌≡◌, ◌%◌, ◌∷◌, ◌++◌, Some, true, length, inl, inr, sym, ap, ◌∙◌, subst}
+use Rattle.std.proofs.Common.{◌≡◌, ◌%◌, ◌∷◌, ◌++◌, Some, true, length, sym, ap, ◌∙◌, subst}
 use Rattle.std.specs.Prelude.{IsPermutation}
 use Rattle.std.proofs.lemmas.Option.{same_Some}
 use Rattle.std.proofs.lemmas.List.{with_items_is}
@@ -8,39 +8,28 @@ use Rattle.hashlink_table.specs.Chains.{chain_of, kept_at, kept_by, nodes_in}
 use Rattle.hashlink_table.proofs.Cells.{chain_at_within}
 use Rattle.hashlink_table.proofs.Moving.{within_kept}
 use Rattle.hashlink_table.proofs.Sound.{sound-take}
-use Rattle.hashlink_table.proofs.Views.{keeps_first, keeps_over, keeps_cases}
+use Rattle.hashlink_table.proofs.Views.{none_left, over_asked, own_accepted, own_asked}
 use Rattle.hashlink_table.proofs.table.Table.remove_from.Goals as goal
 
 pub seek-requires-clause-linked : goal.seek-requires-clause-linked
 seek-requires-clause-linked g c = rw c.deref.ensures.value (c.self.inside.free, c.self.invariant.linked)
 
 pub seek-requires-clause-callable_own : goal.seek-requires-clause-callable_own
-seek-requires-clause-callable_own g c = λ at kept is.
-    let t = c.self.inside in
-    c.requires.callable kept.hash kept.node
-    (keeps_first t.firsts t.overs.items t.room kept.hash at kept.node c.args.self.now c.self.view_is is)
+seek-requires-clause-callable_own g c =
+    own_asked c.self.inside c.args.self.now c.self.view_is _ c.requires.callable
 
 pub seek-requires-clause-telling : goal.seek-requires-clause-telling
-seek-requires-clause-telling g c = λ at kept is matches.
-    let t = c.self.inside in
-    c.requires.telling kept.hash kept.node
-    (keeps_first t.firsts t.overs.items t.room kept.hash at kept.node c.args.self.now c.self.view_is is) matches
+seek-requires-clause-telling g c =
+    own_accepted c.self.inside c.args.self.now c.self.view_is c.args.hash _ c.requires.telling
 
 pub seek-requires-clause-callable : goal.seek-requires-clause-callable
-seek-requires-clause-callable g c = λ cell node here.
-    let t = c.self.inside in
-    c.requires.callable c.args.hash node
-    (keeps_over t.firsts t.overs.items t.room c.args.hash cell node c.args.self.now c.self.view_is
-    (rw c.deref.ensures.value at here))
+seek-requires-clause-callable g c =
+    over_asked c.self.inside c.args.self.now c.self.view_is _ c.deref.ensures.value c.args.hash _ c.requires.callable
 
 pub returns-in-None-clause-none : goal.returns-in-None-clause-none
-returns-in-None-clause-none g c = λ node keeps.
-    let t = c.self.inside in
-    let over = rw c.deref.ensures.value at c.in-None.ensures.none in
-    elim (keeps_cases t.firsts t.overs.items t.room c.args.hash node c.args.self.now c.self.view_is keeps) [
-      | inl own ↦ c.in-None.ensures.none_own own.0 node own.1
-      | inr there ↦ over there.0 node there.1
-    ]
+returns-in-None-clause-none g c =
+    none_left c.self.inside c.args.self.now c.self.view_is _ c.deref.ensures.value c.args.hash _
+    c.in-None.ensures.none_own c.in-None.ensures.none
 
 pub take-kept-requires-clause-linked : goal.take-kept-requires-clause-linked
 take-kept-requires-clause-linked g c = rw c.deref_mut.ensures.value c.self.invariant.linked
