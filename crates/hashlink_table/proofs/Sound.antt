@@ -1,6 +1,6 @@
 -- The fields of a table agree.
-use Rattle.std.proofs.Common.{◌≡◌, ◌≢◌, ℕ, zero, suc, ◌+◌, ◌-◌, ◌%◌, ◌^◌, ◌<◌, ◌≤◌, true, inl, inr, List, []}
-use Rattle.std.proofs.Common.{◌∷◌, ◌++◌, length}
+use Rattle.std.proofs.Common.{◌≡◌, ◌≢◌, ℕ, zero, suc, ◌+◌, ◌-◌, ◌*◌, ◌%◌, ◌^◌, ◌<◌, ◌≤◌, true, inl, inr, List, []}
+use Rattle.std.proofs.Common.{◌∷◌, ◌++◌, length, max}
 use Rattle.std.proofs.Common.{get_or, replicate, Some, None, is_some, refl, sym, ap, ◌∙◌, subst, arith}
 use Rattle.std.specs.Prelude.{IsPermutation}
 use Rattle.std.specs.Int.{IsPowerOfTwo}
@@ -86,10 +86,10 @@ module _ {N : Type 0} where
       )
 
   -- a table without nodes
-  pub sound-bare : (n capacity room : ℕ) → room ≤ n → room ≤ capacity → n ≤ 2 ^ 30 → (0 < n → IsPowerOfTwo n)
-      → n % 16 ≡ 0
+  pub sound-bare : (n capacity room : ℕ) → room ≤ n → n ≤ 4 * max 8 room → room ≤ capacity → n ≤ 2 ^ 30
+      → (0 < n → IsPowerOfTwo n) → n % 16 ≡ 0
       → IsSound (replicate n (bare_cell {N = N})) [] capacity END 0 room
-  sound-bare n capacity room headed reserved small masked whole =
+  sound-bare n capacity room headed bounded reserved small masked whole =
       let same = length-replicate n (bare_cell {N = N}) in
       record {
         linked = subst (λ ls. IsLinked {N = N} ls [] END) (sym (links-bare N n)) (bare_linked N n);
@@ -98,6 +98,7 @@ module _ {N : Type 0} where
         counted = rw (nodes_in-bare {N = N} n) refl;
         held = omega arith;
         headed = omega (arith, headed, same);
+        bounded = omega (arith, bounded, same);
         reserved = reserved;
         small = omega (arith, small, same);
         overs_small = omega arith;
@@ -122,6 +123,7 @@ module _ {N : Type 0} where
         counted = omega (arith, s.counted, length_permutation _ _ nodes);
         held = omega arith;
         headed = omega (arith, s.headed, buckets);
+        bounded = omega (arith, s.bounded, buckets);
         reserved = omega (arith, s.reserved, capacity);
         small = omega (arith, s.small, buckets);
         overs_small = elim (cases_eq free END) as (λ _. length more ≤ 2 ^ 30) [
@@ -148,6 +150,7 @@ module _ {N : Type 0} where
         counted = omega (arith, s.counted, length_permutation _ _ nodes);
         held = omega (arith, s.held);
         headed = omega (arith, s.headed, buckets);
+        bounded = omega (arith, s.bounded, buckets);
         reserved = s.reserved;
         small = omega (arith, s.small, buckets);
         overs_small = omega (arith, s.overs_small, cells);

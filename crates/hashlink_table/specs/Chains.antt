@@ -1,6 +1,6 @@
 -- How a `Table` chains its cells. No public clause cites this module.
-use Rattle.std.specs.Prelude.{◌≡◌, ◌≢◌, ℕ, suc, ◌+◌, ◌-◌, ◌/◌, ◌%◌, ◌^◌, ◌<◌, ◌≤◌, ◌⊎◌, List, [], ◌∷◌, ◌++◌, map}
-use Rattle.std.specs.Prelude.{length}
+use Rattle.std.specs.Prelude.{◌≡◌, ◌≢◌, ℕ, suc, ◌+◌, ◌-◌, ◌*◌, ◌/◌, ◌%◌, ◌^◌, ◌<◌, ◌≤◌, ◌⊎◌, List, [], ◌∷◌, ◌++◌, map}
+use Rattle.std.specs.Prelude.{length, max}
 use Rattle.std.specs.Prelude.{Option, Some, None, IsSome, slice_index_or, slice_set}
 use Rattle.std.specs.Int.{IsPowerOfTwo}
 use Rattle.hashlink_table.specs.Contents.{Contents}
@@ -120,6 +120,7 @@ pub record IsSound {N : Type 0} (firsts overs : List (Cell N))
   pub counted : len ≡ length (nodes_in firsts ++ nodes_in overs)
   pub held : len ≤ room
   pub headed : room ≤ length firsts
+  pub bounded : length firsts ≤ 4 * max 8 room
   pub reserved : room ≤ capacity
   pub small : length firsts ≤ 2 ^ 30
   pub overs_small : length overs ≤ 2 ^ 30

@@ -1,4 +1,4 @@
-ghost use Rattle.std.specs.Prelude.{◌≡◌, ◌-◌, ◌%◌, ◌≤◌};
+ghost use Rattle.std.specs.Prelude.{◌≡◌, ◌-◌, ◌*◌, ◌%◌, ◌≤◌, max};
 ghost use Rattle.std.specs.Int.{IsPowerOfTwo};
 
 use super::lanes::LANES;
@@ -39,6 +39,7 @@ pub fn buckets_for(room: usize) -> usize
     ensures power { IsPowerOfTwo result }
     ensures enough { room ≤ result }
     ensures grouped { result % LANES ≡ 0 }
+    ensures bounded { result ≤ 2 * max 8 room }
 {
     if room <= LANES / 2 {
         LANES

@@ -31,8 +31,8 @@ const MIN_ROOM: usize = 4;
 /// Nodes by their hashes.
 ///
 /// A new table does not allocate. It takes then 9 bytes and a node for each bucket, of which there are as
-/// many as it has room for nodes, or twice as many in a small table, and at least 16. It takes 8 bytes and a
-/// node for each cell over.
+/// many as it has room for nodes, or twice as many in a small table, and at least 16; a shrink may leave up to
+/// twice these. It takes 8 bytes and a node for each cell over.
 #[derive(Drop)]
 pub struct Table<N> {
     // The buckets' own cells. There are none or a power of two, and whole groups.
@@ -102,6 +102,7 @@ impl<N: Copy> Table<N> {
         requires power { IsPowerOfTwo buckets }
         requires small { buckets ≤ 2 ^ 30 }
         requires headed { room ≤ buckets }
+        requires bounded { buckets ≤ 4 * max 8 room }
         requires whole { buckets % LANES ≡ 0 }
         ensures { IfOk result (λ t. t ≡ record { nodes = []; room = room }) }
     {
@@ -337,6 +338,7 @@ impl<N: Copy> Table<N> {
         requires power { IsPowerOfTwo buckets }
         requires held { len_of self.old ≤ room }
         requires headed { room ≤ buckets }
+        requires bounded { buckets ≤ 4 * max 8 room }
         requires whole { buckets % LANES ≡ 0 }
         ensures nodes { IsPermutation self.old.nodes self.new.nodes }
         ensures ok { OnOk result (self.new.room ≡ room) }

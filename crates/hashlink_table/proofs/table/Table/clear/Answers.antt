@@ -7,7 +7,7 @@ pub invariant_of-self : goal.invariant_of-self
 invariant_of-self g c =
     let t = c.self.inside in let s = c.self.invariant in
     rw (c.clear.ensures, c.clear-2.ensures.items)
-    (sound-bare (length t.firsts) _ t.room s.headed (omega (arith, s.reserved, c.clear-2.ensures.capacity))
+    (sound-bare (length t.firsts) _ t.room s.headed s.bounded (omega (arith, s.reserved, c.clear-2.ensures.capacity))
     s.small s.masked s.whole)
 
 pub returns : goal.returns

@@ -5,7 +5,7 @@ use Rattle.hashlink_table.proofs.table.Table.with_buckets.Goals as goal
 pub invariant_of-result : goal.invariant_of-result
 invariant_of-result g c =
     rw (c.in_ok-firsts.ensures, c.in_ok-overs.ensures.items)
-    (sound-bare c.args.buckets _ c.args.room c.requires.headed
+    (sound-bare c.args.buckets _ c.args.room c.requires.headed c.requires.bounded
     (omega (arith, c.in_ok-overs.ensures.capacity)) c.requires.small (λ _. c.requires.power)
     c.requires.whole)
 
