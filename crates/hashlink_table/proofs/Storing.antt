@@ -9,7 +9,7 @@ use Rattle.std.specs.Simd.Lanes.{chunk, mask_l}
 use Rattle.hashlink_table.specs.declared.kept.Kept.{Kept}
 use Rattle.hashlink_table.specs.declared.cell.Cell.{Cell}
 use Rattle.hashlink_table.specs.declared.cell.TheConstants.{END}
-use Rattle.hashlink_table.specs.declared.own.Cold.{Cold}
+use Rattle.hashlink_table.specs.declared.own.Rest.{Rest}
 use Rattle.hashlink_table.specs.declared.own.Own.TheInside.{Inside}
 use Rattle.hashlink_table.specs.Chains.{kept_at, next_at}
 use Rattle.hashlink_table.specs.Stored.{bare_cell, tag_of}
@@ -17,97 +17,97 @@ use Rattle.hashlink_table.specs.Own.{own_cell, cells_in, may_be, with_kept, with
 use Rattle.hashlink_table.specs.Own.{IsStored, IsTagged}
 
 -- what a bare cell stores beside its node
-abbrev bare : Cold
+abbrev bare : Rest
 bare = record { hash = 0; link = END }
 
 -- what a test says of a tag, and of its cell
-abbrev AgreesOn : {N : Type 0} → (ℕ → Bool) → (Cell N → Bool) → ℕ → Cold → Type 0
-AgreesOn {N} p q t c = (n : N) → IsStored c t → p t ≡ q (own_cell t n c)
+abbrev AgreesOn : {N : Type 0} → (ℕ → Bool) → (Cell N → Bool) → ℕ → Rest → Type 0
+AgreesOn {N} p q t r = (n : N) → IsStored r t → p t ≡ q (own_cell t n r)
 
 module _ {N : Type 0} where
   -- there are as many of each
-  length-cells : (ts : List ℕ) (ns : List N) (cs : List Cold) → IsTagged ts ns cs
-      → length (cells_in ts ns cs) ≡ length ts
+  length-cells : (ts : List ℕ) (ns : List N) (rs : List Rest) → IsTagged ts ns rs
+      → length (cells_in ts ns rs) ≡ length ts
   length-cells [] [] [] h = refl
-  length-cells [] [] (c ∷ cs) h = absurd h
-  length-cells [] (n ∷ ns) cs h = absurd h
-  length-cells (t ∷ ts) [] cs h = absurd h
+  length-cells [] [] (r ∷ rs) h = absurd h
+  length-cells [] (n ∷ ns) rs h = absurd h
+  length-cells (t ∷ ts) [] rs h = absurd h
   length-cells (t ∷ ts) (n ∷ ns) [] h = absurd h
-  length-cells (t ∷ ts) (n ∷ ns) (c ∷ cs) h = ap suc (length-cells ts ns cs h.1)
+  length-cells (t ∷ ts) (n ∷ ns) (r ∷ rs) h = ap suc (length-cells ts ns rs h.1)
 
-  length-nodes : (ts : List ℕ) (ns : List N) (cs : List Cold) → IsTagged ts ns cs → length ns ≡ length ts
+  length-nodes : (ts : List ℕ) (ns : List N) (rs : List Rest) → IsTagged ts ns rs → length ns ≡ length ts
   length-nodes [] [] [] h = refl
-  length-nodes [] [] (c ∷ cs) h = absurd h
-  length-nodes [] (n ∷ ns) cs h = absurd h
-  length-nodes (t ∷ ts) [] cs h = absurd h
+  length-nodes [] [] (r ∷ rs) h = absurd h
+  length-nodes [] (n ∷ ns) rs h = absurd h
+  length-nodes (t ∷ ts) [] rs h = absurd h
   length-nodes (t ∷ ts) (n ∷ ns) [] h = absurd h
-  length-nodes (t ∷ ts) (n ∷ ns) (c ∷ cs) h = ap suc (length-nodes ts ns cs h.1)
+  length-nodes (t ∷ ts) (n ∷ ns) (r ∷ rs) h = ap suc (length-nodes ts ns rs h.1)
 
-  length-colds : (ts : List ℕ) (ns : List N) (cs : List Cold) → IsTagged ts ns cs → length cs ≡ length ts
-  length-colds [] [] [] h = refl
-  length-colds [] [] (c ∷ cs) h = absurd h
-  length-colds [] (n ∷ ns) cs h = absurd h
-  length-colds (t ∷ ts) [] cs h = absurd h
-  length-colds (t ∷ ts) (n ∷ ns) [] h = absurd h
-  length-colds (t ∷ ts) (n ∷ ns) (c ∷ cs) h = ap suc (length-colds ts ns cs h.1)
+  length-rests : (ts : List ℕ) (ns : List N) (rs : List Rest) → IsTagged ts ns rs → length rs ≡ length ts
+  length-rests [] [] [] h = refl
+  length-rests [] [] (r ∷ rs) h = absurd h
+  length-rests [] (n ∷ ns) rs h = absurd h
+  length-rests (t ∷ ts) [] rs h = absurd h
+  length-rests (t ∷ ts) (n ∷ ns) [] h = absurd h
+  length-rests (t ∷ ts) (n ∷ ns) (r ∷ rs) h = ap suc (length-rests ts ns rs h.1)
 
   -- a cell, read
-  cell_at : (ts : List ℕ) (ns : List N) (cs : List Cold) (i : ℕ) (n : N) (c : Cold) → IsTagged ts ns cs
+  cell_at : (ts : List ℕ) (ns : List N) (rs : List Rest) (i : ℕ) (n : N) (r : Rest) → IsTagged ts ns rs
       → i < length ts
-      → get_or (cells_in ts ns cs) i bare_cell ≡ own_cell (get_or ts i 0) (get_or ns i n) (get_or cs i c)
-  cell_at [] ns cs i n c h low = absurd (omega arith)
-  cell_at (t ∷ ts) [] cs i n c h low = absurd h
-  cell_at (t ∷ ts) (m ∷ ns) [] i n c h low = absurd h
-  cell_at (t ∷ ts) (m ∷ ns) (d ∷ cs) zero n c h low = refl
-  cell_at (t ∷ ts) (m ∷ ns) (d ∷ cs) (suc i) n c h low = cell_at ts ns cs i n c h.1 (omega arith)
+      → get_or (cells_in ts ns rs) i bare_cell ≡ own_cell (get_or ts i 0) (get_or ns i n) (get_or rs i r)
+  cell_at [] ns rs i n r h low = absurd (omega arith)
+  cell_at (t ∷ ts) [] rs i n r h low = absurd h
+  cell_at (t ∷ ts) (m ∷ ns) [] i n r h low = absurd h
+  cell_at (t ∷ ts) (m ∷ ns) (d ∷ rs) zero n r h low = refl
+  cell_at (t ∷ ts) (m ∷ ns) (d ∷ rs) (suc i) n r h low = cell_at ts ns rs i n r h.1 (omega arith)
 
   -- what is stored of it
-  stored_at : (ts : List ℕ) (ns : List N) (cs : List Cold) (i : ℕ) (c : Cold) → IsTagged ts ns cs
+  stored_at : (ts : List ℕ) (ns : List N) (rs : List Rest) (i : ℕ) (r : Rest) → IsTagged ts ns rs
       → i < length ts
-      → IsStored (get_or cs i c) (get_or ts i 0)
-  stored_at [] ns cs i c h low = absurd (omega arith)
-  stored_at (t ∷ ts) [] cs i c h low = absurd h
-  stored_at (t ∷ ts) (m ∷ ns) [] i c h low = absurd h
-  stored_at (t ∷ ts) (m ∷ ns) (d ∷ cs) zero c h low = h.0
-  stored_at (t ∷ ts) (m ∷ ns) (d ∷ cs) (suc i) c h low = stored_at ts ns cs i c h.1 (omega arith)
+      → IsStored (get_or rs i r) (get_or ts i 0)
+  stored_at [] ns rs i r h low = absurd (omega arith)
+  stored_at (t ∷ ts) [] rs i r h low = absurd h
+  stored_at (t ∷ ts) (m ∷ ns) [] i r h low = absurd h
+  stored_at (t ∷ ts) (m ∷ ns) (d ∷ rs) zero r h low = h.0
+  stored_at (t ∷ ts) (m ∷ ns) (d ∷ rs) (suc i) r h low = stored_at ts ns rs i r h.1 (omega arith)
 
   -- a cell, written
-  cells-set : (ts : List ℕ) (ns : List N) (cs : List Cold) (i t : ℕ) (n : N) (c : Cold)
-      → IsTagged ts ns cs
-      → cells_in (set ts i t) (set ns i n) (set cs i c) ≡ set (cells_in ts ns cs) i (own_cell t n c)
-  cells-set [] [] [] i t n c h = refl
-  cells-set [] [] (d ∷ cs) i t n c h = absurd h
-  cells-set [] (m ∷ ns) cs i t n c h = absurd h
-  cells-set (s ∷ ts) [] cs i t n c h = absurd h
-  cells-set (s ∷ ts) (m ∷ ns) [] i t n c h = absurd h
-  cells-set (s ∷ ts) (m ∷ ns) (d ∷ cs) zero t n c h = refl
-  cells-set (s ∷ ts) (m ∷ ns) (d ∷ cs) (suc i) t n c h =
-      ap (λ rest. own_cell s m d ∷ rest) (cells-set ts ns cs i t n c h.1)
+  cells-set : (ts : List ℕ) (ns : List N) (rs : List Rest) (i t : ℕ) (n : N) (r : Rest)
+      → IsTagged ts ns rs
+      → cells_in (set ts i t) (set ns i n) (set rs i r) ≡ set (cells_in ts ns rs) i (own_cell t n r)
+  cells-set [] [] [] i t n r h = refl
+  cells-set [] [] (d ∷ rs) i t n r h = absurd h
+  cells-set [] (m ∷ ns) rs i t n r h = absurd h
+  cells-set (s ∷ ts) [] rs i t n r h = absurd h
+  cells-set (s ∷ ts) (m ∷ ns) [] i t n r h = absurd h
+  cells-set (s ∷ ts) (m ∷ ns) (d ∷ rs) zero t n r h = refl
+  cells-set (s ∷ ts) (m ∷ ns) (d ∷ rs) (suc i) t n r h =
+      ap (λ rest. own_cell s m d ∷ rest) (cells-set ts ns rs i t n r h.1)
 
-  tagged-set : (ts : List ℕ) (ns : List N) (cs : List Cold) (i t : ℕ) (n : N) (c : Cold)
-      → IsTagged ts ns cs → IsStored c t
-      → IsTagged (set ts i t) (set ns i n) (set cs i c)
-  tagged-set [] [] [] i t n c h is = h
-  tagged-set [] [] (d ∷ cs) i t n c h is = absurd h
-  tagged-set [] (m ∷ ns) cs i t n c h is = absurd h
-  tagged-set (s ∷ ts) [] cs i t n c h is = absurd h
-  tagged-set (s ∷ ts) (m ∷ ns) [] i t n c h is = absurd h
-  tagged-set (s ∷ ts) (m ∷ ns) (d ∷ cs) zero t n c h is = (is, h.1)
-  tagged-set (s ∷ ts) (m ∷ ns) (d ∷ cs) (suc i) t n c h is = (h.0, tagged-set ts ns cs i t n c h.1 is)
+  tagged-set : (ts : List ℕ) (ns : List N) (rs : List Rest) (i t : ℕ) (n : N) (r : Rest)
+      → IsTagged ts ns rs → IsStored r t
+      → IsTagged (set ts i t) (set ns i n) (set rs i r)
+  tagged-set [] [] [] i t n r h is = h
+  tagged-set [] [] (d ∷ rs) i t n r h is = absurd h
+  tagged-set [] (m ∷ ns) rs i t n r h is = absurd h
+  tagged-set (s ∷ ts) [] rs i t n r h is = absurd h
+  tagged-set (s ∷ ts) (m ∷ ns) [] i t n r h is = absurd h
+  tagged-set (s ∷ ts) (m ∷ ns) (d ∷ rs) zero t n r h is = (is, h.1)
+  tagged-set (s ∷ ts) (m ∷ ns) (d ∷ rs) (suc i) t n r h is = (h.0, tagged-set ts ns rs i t n r h.1 is)
 
   -- a test of the tags is one of the cells
-  tests-cells : (p : ℕ → Bool) (q : Cell N → Bool) (ts : List ℕ) (ns : List N) (cs : List Cold)
-      → ((t : ℕ) (c : Cold) → AgreesOn {N = N} p q t c) → IsTagged ts ns cs
-      → map p ts ≡ map q (cells_in ts ns cs)
+  tests-cells : (p : ℕ → Bool) (q : Cell N → Bool) (ts : List ℕ) (ns : List N) (rs : List Rest)
+      → ((t : ℕ) (r : Rest) → AgreesOn {N = N} p q t r) → IsTagged ts ns rs
+      → map p ts ≡ map q (cells_in ts ns rs)
   tests-cells p q [] [] [] agree h = refl
-  tests-cells p q [] [] (c ∷ cs) agree h = absurd h
-  tests-cells p q [] (n ∷ ns) cs agree h = absurd h
-  tests-cells p q (t ∷ ts) [] cs agree h = absurd h
+  tests-cells p q [] [] (r ∷ rs) agree h = absurd h
+  tests-cells p q [] (n ∷ ns) rs agree h = absurd h
+  tests-cells p q (t ∷ ts) [] rs agree h = absurd h
   tests-cells p q (t ∷ ts) (n ∷ ns) [] agree h = absurd h
-  tests-cells p q (t ∷ ts) (n ∷ ns) (c ∷ cs) agree h =
-      let here : p t ≡ q (own_cell t n c) = agree t c n h.0 in
-      let rest : map p ts ≡ map q (cells_in ts ns cs) = tests-cells p q ts ns cs agree h.1 in
-      ap (λ b. b ∷ map p ts) here ∙ ap (λ bs. q (own_cell t n c) ∷ bs) rest
+  tests-cells p q (t ∷ ts) (n ∷ ns) (r ∷ rs) agree h =
+      let here : p t ≡ q (own_cell t n r) = agree t r n h.0 in
+      let rest : map p ts ≡ map q (cells_in ts ns rs) = tests-cells p q ts ns rs agree h.1 in
+      ap (λ b. b ∷ map p ts) here ∙ ap (λ bs. q (own_cell t n r) ∷ bs) rest
 
   -- so many bare cells
   cells-bare : (count : ℕ) (ns : List N) → length ns ≡ count
@@ -137,49 +137,49 @@ tag_some : (hash : ℕ) → eqb (tag_of hash) 0 ≡ false
 tag_some hash = ne_eqb (tag_of hash) 0 (λ e. omega (arith, e))
 
 -- the tests of tags
-pub agrees_free : {N : Type 0} (t : ℕ) (c : Cold) → AgreesOn {N = N} (λ t. eqb t 0) (λ d. is_none d.kept) t c
-agrees_free {N} t c n is = by (eqb t 0)
+pub agrees_free : {N : Type 0} (t : ℕ) (r : Rest) → AgreesOn {N = N} (λ t. eqb t 0) (λ d. is_none d.kept) t r
+agrees_free {N} t r n is = by (eqb t 0)
   where
-    by : (b : Bool) → b ≡ is_none (cond b None (Some (let k : Kept N = record { hash = c.hash; node = n } in k)))
+    by : (b : Bool) → b ≡ is_none (cond b None (Some (let k : Kept N = record { hash = r.hash; node = n } in k)))
     by true = refl
     by false = refl
 
-pub agrees_under : {N : Type 0} (hash t : ℕ) (c : Cold)
-    → AgreesOn {N = N} (λ t. eqb t (tag_of hash)) (may_be hash) t c
-agrees_under hash t c n is = by is.tagged
+pub agrees_may_have : {N : Type 0} (hash t : ℕ) (r : Rest)
+    → AgreesOn {N = N} (λ t. eqb t (tag_of hash)) (may_be hash) t r
+agrees_may_have hash t r n is = by is.tagged
   where
-    by : (t ≡ 0) ⊎ (t ≡ tag_of c.hash) → eqb t (tag_of hash) ≡ may_be hash (own_cell t n c)
+    by : (t ≡ 0) ⊎ (t ≡ tag_of r.hash) → eqb t (tag_of hash) ≡ may_be hash (own_cell t n r)
     by (inl e) = rw e (ne_eqb 0 (tag_of hash) (λ e. omega (arith, e)))
-    by (inr e) = rw (e, tag_some c.hash) refl
+    by (inr e) = rw (e, tag_some r.hash) refl
 
 -- what is stored, seen as v
 module _ {N : Type 0} (o : Inside N) (v : List (Cell N))
-    (tagged : IsTagged o.tags.items o.nodes.items o.colds.items)
-    (view : cells_in o.tags.items o.nodes.items o.colds.items ≡ v) where
+    (tagged : IsTagged o.tags.items o.nodes.items o.rests.items)
+    (view : cells_in o.tags.items o.nodes.items o.rests.items ≡ v) where
   abbrev ts : List ℕ
   ts = o.tags.items
 
   abbrev ns : List N
   ns = o.nodes.items
 
-  abbrev cs : List Cold
-  cs = o.colds.items
+  abbrev rs : List Rest
+  rs = o.rests.items
 
   -- there are as many of each
   tags_long : length ts ≡ length v
-  tags_long = sym (length-cells ts ns cs tagged) ∙ ap length view
+  tags_long = sym (length-cells ts ns rs tagged) ∙ ap length view
 
   pub nodes_long : length ns ≡ length v
-  nodes_long = length-nodes ts ns cs tagged ∙ tags_long
+  nodes_long = length-nodes ts ns rs tagged ∙ tags_long
 
-  colds_long : length cs ≡ length v
-  colds_long = length-colds ts ns cs tagged ∙ tags_long
+  rests_long : length rs ≡ length v
+  rests_long = length-rests ts ns rs tagged ∙ tags_long
 
   pub tags_len : vec_len o.tags ≡ length v
   tags_len = o.tags.ok.0 ∙ tags_long
 
-  pub colds_len : vec_len o.colds ≡ length v
-  colds_len = o.colds.ok.0 ∙ colds_long
+  pub rests_len : vec_len o.rests ≡ length v
+  rests_len = o.rests.ok.0 ∙ rests_long
 
   -- the sixteen bytes from this one on
   module _ (base : ℕ) (room : base + 16 ≤ length v) where
@@ -190,13 +190,13 @@ module _ {N : Type 0} (o : Inside N) (v : List (Cell N))
     lanes_small = omega (arith, room, o.tags.small, tags_len)
 
     -- a test of them is one of the cells
-    pub group_tests : (p : ℕ → Bool) (q : Cell N → Bool) → ((t : ℕ) (c : Cold) → AgreesOn {N = N} p q t c)
+    pub group_tests : (p : ℕ → Bool) (q : Cell N → Bool) → ((t : ℕ) (r : Rest) → AgreesOn {N = N} p q t r)
         → (bits : ℕ) (bytes : List ℕ) → bits ≡ mask_l (map p (chunk base 16 bytes)) → bytes ≡ ts
         → bits ≡ mask_l (map q (chunk base 16 v))
     group_tests p q agree bits bytes is at =
         is ∙ ap (λ bs. mask_l (map p (chunk base 16 bs))) at
         ∙ ap mask_l (sym (map-chunk p ts)
-        ∙ ap (chunk base 16) (tests-cells p q ts ns cs agree tagged ∙ ap (map q) view) ∙ map-chunk q v)
+        ∙ ap (chunk base 16) (tests-cells p q ts ns rs agree tagged ∙ ap (map q) view) ∙ map-chunk q v)
       where
         map-chunk : {X : Type 0} (f : X → Bool) (xs : List X) → chunk base 16 (map f xs) ≡ map f (chunk base 16 xs)
         map-chunk f xs = ap (take 16) (drop-map f base xs) ∙ take-map f 16 (drop base xs)
@@ -209,8 +209,8 @@ module _ {N : Type 0} (o : Inside N) (v : List (Cell N))
     in_nodes : i < length ns
     in_nodes = omega (arith, low, nodes_long)
 
-    in_colds : i < length cs
-    in_colds = omega (arith, low, colds_long)
+    in_colds : i < length rs
+    in_colds = omega (arith, low, rests_long)
 
     pub tag_within : i < vec_len o.tags
     tag_within = omega (arith, low, tags_len)
@@ -218,8 +218,8 @@ module _ {N : Type 0} (o : Inside N) (v : List (Cell N))
     pub node_within : i < vec_len o.nodes
     node_within = omega (arith, low, o.nodes.ok.0, nodes_long)
 
-    pub cold_within : i < vec_len o.colds
-    cold_within = omega (arith, low, colds_len)
+    pub rest_within : i < vec_len o.rests
+    rest_within = omega (arith, low, rests_len)
 
     -- what stands in the lists
     tag : ℕ
@@ -248,52 +248,52 @@ module _ {N : Type 0} (o : Inside N) (v : List (Cell N))
     unfolding node
     node_stays = set-get_or ns i _
 
-    cold : Cold
-    cold = get_or cs i (record { hash = 0; link = 0 })
+    rest : Rest
+    rest = get_or rs i (record { hash = 0; link = 0 })
 
-    cold_at : cold ≡ get_or cs i cold
-    unfolding cold
-    cold_at = get_or_default cs i _ cold in_colds
+    rest_at : rest ≡ get_or rs i rest
+    unfolding rest
+    rest_at = get_or_default rs i _ rest in_colds
 
-    cold_stays : set cs i cold ≡ cs
-    unfolding cold
-    cold_stays = set-get_or cs i _
+    rest_stays : set rs i rest ≡ rs
+    unfolding rest
+    rest_stays = set-get_or rs i _
 
     -- the cell, as it was read
-    cell_read : (t : ℕ) (n : N) (c : Cold) → t ≡ get_or ts i t → n ≡ get_or ns i n → c ≡ get_or cs i c
-        → get_or v i bare_cell ≡ own_cell t n c
-    cell_read t n c at_t at_n at_c =
-        ap (λ (w : List (Cell N)). get_or w i bare_cell) (sym view) ∙ cell_at ts ns cs i n c tagged in_tags
-        ∙ ap (λ s. own_cell s (get_or ns i n) (get_or cs i c)) (sym (get_or_read ts i t in_tags at_t 0))
-        ∙ ap (λ (m : N). own_cell t m (get_or cs i c)) (sym at_n)
-        ∙ ap (λ (d : Cold). own_cell t n d) (sym at_c)
+    cell_read : (t : ℕ) (n : N) (r : Rest) → t ≡ get_or ts i t → n ≡ get_or ns i n → r ≡ get_or rs i r
+        → get_or v i bare_cell ≡ own_cell t n r
+    cell_read t n r at_t at_n at_r =
+        ap (λ (w : List (Cell N)). get_or w i bare_cell) (sym view) ∙ cell_at ts ns rs i n r tagged in_tags
+        ∙ ap (λ s. own_cell s (get_or ns i n) (get_or rs i r)) (sym (get_or_read ts i t in_tags at_t 0))
+        ∙ ap (λ (m : N). own_cell t m (get_or rs i r)) (sym at_n)
+        ∙ ap (λ (d : Rest). own_cell t n d) (sym at_r)
 
-    stored : (c : Cold) → c ≡ get_or cs i c → IsStored c tag
+    stored : (r : Rest) → r ≡ get_or rs i r → IsStored r tag
     unfolding tag
-    stored c at_c =
-        subst (λ (d : Cold). IsStored d (get_or ts i 0)) (sym at_c) (stored_at ts ns cs i c tagged in_tags)
+    stored r at_r =
+        subst (λ (d : Rest). IsStored d (get_or ts i 0)) (sym at_r) (stored_at ts ns rs i r tagged in_tags)
 
     -- one without a node, and one with a node
     pub none_read : (t : ℕ) → t ≡ get_or ts i t → t ≡ 0 → None ≡ kept_at v i
     none_read t at_t is =
-        let k : Kept N = record { hash = cold.hash; node = node } in
-        sym (ap (λ (d : Cell N). d.kept) (cell_read t node cold at_t node_at cold_at)
+        let k : Kept N = record { hash = rest.hash; node = node } in
+        sym (ap (λ (d : Cell N). d.kept) (cell_read t node rest at_t node_at rest_at)
         ∙ ap (λ n. cond (eqb n 0) None (Some k)) is)
 
-    pub some_read : (t : ℕ) (n : N) (c : Cold) → t ≡ get_or ts i t → n ≡ get_or ns i n → c ≡ get_or cs i c
+    pub some_read : (t : ℕ) (n : N) (r : Rest) → t ≡ get_or ts i t → n ≡ get_or ns i n → r ≡ get_or rs i r
         → (t ≡ 0 → ⊥)
-        → Some (record { hash = c.hash; node = n }) ≡ kept_at v i
-    some_read t n c at_t at_n at_c some =
-        let k : Kept N = record { hash = c.hash; node = n } in
-        sym (ap (λ (d : Cell N). d.kept) (cell_read t n c at_t at_n at_c)
+        → Some (record { hash = r.hash; node = n }) ≡ kept_at v i
+    some_read t n r at_t at_n at_r some =
+        let k : Kept N = record { hash = r.hash; node = n } in
+        sym (ap (λ (d : Cell N). d.kept) (cell_read t n r at_t at_n at_r)
         ∙ ap (λ b. cond b None (Some k)) (ne_eqb t 0 some))
 
     -- one that is known to have a node
-    pub kept_read : (n : N) (c : Cold) → n ≡ get_or ns i n → c ≡ get_or cs i c → IsSome (kept_at v i)
-        → kept_at v i ≡ Some (record { hash = c.hash; node = n })
-    kept_read n c at_n at_c some =
-        let is = cell_read tag n c tag_at at_n at_c in
-        let k : Kept N = record { hash = c.hash; node = n } in
+    pub kept_read : (n : N) (r : Rest) → n ≡ get_or ns i n → r ≡ get_or rs i r → IsSome (kept_at v i)
+        → kept_at v i ≡ Some (record { hash = r.hash; node = n })
+    kept_read n r at_n at_r some =
+        let is = cell_read tag n r tag_at at_n at_r in
+        let k : Kept N = record { hash = r.hash; node = n } in
         ap (λ (d : Cell N). d.kept) is
         ∙ (elim (eqb tag 0) as (λ b. IsSome (cond b None (Some k)) → cond b None (Some k) ≡ Some k) [
           | true ↦ λ no. absurd (false≢true no)
@@ -302,64 +302,64 @@ module _ {N : Type 0} (o : Inside N) (v : List (Cell N))
 
     pub node_read : (n : N) → n ≡ get_or ns i n → IsSome (kept_at v i) → IfSome (kept_at v i) (λ k. k.node ≡ n)
     node_read n at_n some =
-        subst (λ (o : Option (Kept N)). IfSome o (λ k. k.node ≡ n)) (sym (kept_read n cold at_n cold_at some)) refl
+        subst (λ (o : Option (Kept N)). IfSome o (λ k. k.node ≡ n)) (sym (kept_read n rest at_n rest_at some)) refl
 
     -- where the chain of its bucket begins
-    pub next_read : (c : Cold) → c ≡ get_or cs i c → next_at v i ≡ c.link
-    next_read c at_c = ap (λ (d : Cell N). d.next) (cell_read tag node c tag_at node_at at_c)
+    pub next_read : (r : Rest) → r ≡ get_or rs i r → next_at v i ≡ r.link
+    next_read r at_r = ap (λ (d : Cell N). d.next) (cell_read tag node r tag_at node_at at_r)
 
-    pub next_small : (c : Cold) → c ≡ get_or cs i c → c.link ≤ END
-    next_small c at_c = (stored c at_c).small
+    pub next_small : (r : Rest) → r ≡ get_or rs i r → r.link ≤ END
+    next_small r at_r = (stored r at_r).small
 
     -- the cell, written
-    written : (t : ℕ) (n : N) (c : Cold) (d : Cell N) → own_cell t n c ≡ d
-        → cells_in (set ts i t) (set ns i n) (set cs i c) ≡ set v i d
-    written t n c d is =
-        cells-set ts ns cs i t n c tagged ∙ ap (λ (w : List (Cell N)). set w i (own_cell t n c)) view
+    written : (t : ℕ) (n : N) (r : Rest) (d : Cell N) → own_cell t n r ≡ d
+        → cells_in (set ts i t) (set ns i n) (set rs i r) ≡ set v i d
+    written t n r d is =
+        cells-set ts ns rs i t n r tagged ∙ ap (λ (w : List (Cell N)). set w i (own_cell t n r)) view
         ∙ ap (set v i) is
 
-    was : (c : Cold) → c ≡ get_or cs i c → own_cell tag node c ≡ get_or v i bare_cell
-    was c at_c = sym (cell_read tag node c tag_at node_at at_c)
+    was : (r : Rest) → r ≡ get_or rs i r → own_cell tag node r ≡ get_or v i bare_cell
+    was r at_r = sym (cell_read tag node r tag_at node_at at_r)
 
     -- a node came into it
-    module _ (k : Kept N) (c : Cold) (at_c : c ≡ get_or cs i c) where
-      pub tagged-put : IsTagged (set ts i (tag_of k.hash)) (set ns i k.node) (set cs i (record c { hash = k.hash }))
-      tagged-put = tagged-set ts ns cs i (tag_of k.hash) k.node (record c { hash = k.hash }) tagged
-          (record { tagged = inr refl; small = next_small c at_c })
+    module _ (k : Kept N) (r : Rest) (at_r : r ≡ get_or rs i r) where
+      pub tagged-put : IsTagged (set ts i (tag_of k.hash)) (set ns i k.node) (set rs i (record r { hash = k.hash }))
+      tagged-put = tagged-set ts ns rs i (tag_of k.hash) k.node (record r { hash = k.hash }) tagged
+          (record { tagged = inr refl; small = next_small r at_r })
 
-      pub put_in : cells_in (set ts i (tag_of k.hash)) (set ns i k.node) (set cs i (record c { hash = k.hash }))
+      pub put_in : cells_in (set ts i (tag_of k.hash)) (set ns i k.node) (set rs i (record r { hash = k.hash }))
           ≡ with_kept v i k
       put_in =
-          written (tag_of k.hash) k.node (record c { hash = k.hash }) _
-          (ap (λ e. let d : Cell N = record { kept = cond e None (Some k); hash = k.hash; next = c.link } in d)
+          written (tag_of k.hash) k.node (record r { hash = k.hash }) _
+          (ap (λ e. let d : Cell N = record { kept = cond e None (Some k); hash = k.hash; next = r.link } in d)
           (tag_some k.hash)
-          ∙ ap (λ (d : Cell N). record d { kept = Some k; hash = k.hash }) (was c at_c))
+          ∙ ap (λ (d : Cell N). record d { kept = Some k; hash = k.hash }) (was r at_r))
 
     -- the node was taken out of it
-    pub tagged-freed : IsTagged (set ts i 0) ns cs
+    pub tagged-freed : IsTagged (set ts i 0) ns rs
     tagged-freed =
-        subst (λ (ms : List N). IsTagged (set ts i 0) ms cs) node_stays
-        (subst (IsTagged (set ts i 0) (set ns i node)) cold_stays
-        (tagged-set ts ns cs i 0 node cold tagged (record { tagged = inl refl; small = next_small cold cold_at })))
+        subst (λ (ms : List N). IsTagged (set ts i 0) ms rs) node_stays
+        (subst (IsTagged (set ts i 0) (set ns i node)) rest_stays
+        (tagged-set ts ns rs i 0 node rest tagged (record { tagged = inl refl; small = next_small rest rest_at })))
 
-    pub freed : cells_in (set ts i 0) ns cs ≡ without_kept v i
+    pub freed : cells_in (set ts i 0) ns rs ≡ without_kept v i
     freed =
-        ap (λ (ms : List N). cells_in (set ts i 0) ms cs) (sym node_stays)
-        ∙ ap (cells_in (set ts i 0) (set ns i node)) (sym cold_stays)
-        ∙ written 0 node cold _ (ap (λ (d : Cell N). record d { kept = None }) (was cold cold_at))
+        ap (λ (ms : List N). cells_in (set ts i 0) ms rs) (sym node_stays)
+        ∙ ap (cells_in (set ts i 0) (set ns i node)) (sym rest_stays)
+        ∙ written 0 node rest _ (ap (λ (d : Cell N). record d { kept = None }) (was rest rest_at))
 
     -- its bucket's chain begins elsewhere
-    module _ (to : ℕ) (c : Cold) (at_c : c ≡ get_or cs i c) where
-      pub tagged-linked : to ≤ END → IsTagged ts ns (set cs i (record c { link = to }))
+    module _ (to : ℕ) (r : Rest) (at_r : r ≡ get_or rs i r) where
+      pub tagged-linked : to ≤ END → IsTagged ts ns (set rs i (record r { link = to }))
       tagged-linked small =
-          subst (λ (ms : List N). IsTagged ts ms (set cs i (record c { link = to }))) node_stays
-          (subst (λ us. IsTagged us (set ns i node) (set cs i (record c { link = to }))) tag_stays
-          (tagged-set ts ns cs i tag node (record c { link = to }) tagged
-          (record { tagged = (stored c at_c).tagged; small = small })))
+          subst (λ (ms : List N). IsTagged ts ms (set rs i (record r { link = to }))) node_stays
+          (subst (λ us. IsTagged us (set ns i node) (set rs i (record r { link = to }))) tag_stays
+          (tagged-set ts ns rs i tag node (record r { link = to }) tagged
+          (record { tagged = (stored r at_r).tagged; small = small })))
 
-      pub linked_on : cells_in ts ns (set cs i (record c { link = to })) ≡ with_next v i to
+      pub linked_on : cells_in ts ns (set rs i (record r { link = to })) ≡ with_next v i to
       linked_on =
-          ap (λ (ms : List N). cells_in ts ms (set cs i (record c { link = to }))) (sym node_stays)
-          ∙ ap (λ us. cells_in us (set ns i node) (set cs i (record c { link = to }))) (sym tag_stays)
-          ∙ written tag node (record c { link = to }) _
-          (ap (λ (d : Cell N). record d { next = to }) (was c at_c))
+          ap (λ (ms : List N). cells_in ts ms (set rs i (record r { link = to }))) (sym node_stays)
+          ∙ ap (λ us. cells_in us (set ns i node) (set rs i (record r { link = to }))) (sym tag_stays)
+          ∙ written tag node (record r { link = to }) _
+          (ap (λ (d : Cell N). record d { next = to }) (was r at_r))

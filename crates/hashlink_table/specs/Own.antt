@@ -5,13 +5,13 @@ use Rattle.std.specs.Simd.Lanes.{chunk}
 use Rattle.hashlink_table.specs.declared.kept.Kept.{Kept}
 use Rattle.hashlink_table.specs.declared.cell.Cell.{Cell}
 use Rattle.hashlink_table.specs.declared.cell.TheConstants.{END}
-use Rattle.hashlink_table.specs.declared.own.Cold.{Cold}
+use Rattle.hashlink_table.specs.declared.own.Rest.{Rest}
 use Rattle.hashlink_table.specs.Stored.{bare_cell, tag_of}
 
 -- what is stored of a cell: a tag that is the hash's, or none, and a link
-pub record IsStored (cold : Cold) (tag : ℕ) : Type 0 where
-  pub tagged : (tag ≡ 0) ⊎ (tag ≡ tag_of cold.hash)
-  pub small : cold.link ≤ END
+pub record IsStored (rest : Rest) (tag : ℕ) : Type 0 where
+  pub tagged : (tag ≡ 0) ⊎ (tag ≡ tag_of rest.hash)
+  pub small : rest.link ≤ END
 
 -- the cell may have a node of this hash
 abbrev pub kept_may_be : {N : Type 0} → ℕ → Option (Kept N) → Bool
@@ -23,27 +23,27 @@ may_be hash c = kept_may_be hash c.kept
 
 module _ {N : Type 0} where
   -- a cell of which these are the tag, the node and the rest
-  abbrev pub own_cell : ℕ → N → Cold → Cell N
-  own_cell tag node cold = record {
-    kept = cond (tag == 0) None (Some (record { hash = cold.hash; node = node }));
-    hash = cold.hash;
-    next = cold.link;
+  abbrev pub own_cell : ℕ → N → Rest → Cell N
+  own_cell tag node rest = record {
+    kept = cond (tag == 0) None (Some (record { hash = rest.hash; node = node }));
+    hash = rest.hash;
+    next = rest.link;
   }
 
-  abbrev pub cells_in : List ℕ → List N → List Cold → List (Cell N)
-  cells_in [] ns cs = []
-  cells_in (t ∷ ts) [] cs = []
+  abbrev pub cells_in : List ℕ → List N → List Rest → List (Cell N)
+  cells_in [] ns rs = []
+  cells_in (t ∷ ts) [] rs = []
   cells_in (t ∷ ts) (n ∷ ns) [] = []
-  cells_in (t ∷ ts) (n ∷ ns) (c ∷ cs) = own_cell t n c ∷ cells_in ts ns cs
+  cells_in (t ∷ ts) (n ∷ ns) (r ∷ rs) = own_cell t n r ∷ cells_in ts ns rs
 
   -- there are as many of each, and what is stored of each cell agrees
-  abbrev pub IsTagged : List ℕ → List N → List Cold → Type 0
+  abbrev pub IsTagged : List ℕ → List N → List Rest → Type 0
   IsTagged [] [] [] = Unit {0}
-  IsTagged [] [] (c ∷ cs) = ⊥
-  IsTagged [] (n ∷ ns) cs = ⊥
-  IsTagged (t ∷ ts) [] cs = ⊥
+  IsTagged [] [] (r ∷ rs) = ⊥
+  IsTagged [] (n ∷ ns) rs = ⊥
+  IsTagged (t ∷ ts) [] rs = ⊥
   IsTagged (t ∷ ts) (n ∷ ns) [] = ⊥
-  IsTagged (t ∷ ts) (n ∷ ns) (c ∷ cs) = IsStored c t × IsTagged ts ns cs
+  IsTagged (t ∷ ts) (n ∷ ns) (r ∷ rs) = IsStored r t × IsTagged ts ns rs
 
   -- the sixteen cells from this one on
   abbrev pub lanes_of : List (Cell N) → ℕ → List (Cell N)

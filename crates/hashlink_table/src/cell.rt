@@ -62,7 +62,7 @@ impl<N: Copy> Stored<N> {
 
     /// What a cell has that is known to have a node.
     #[inline]
-    pub fn there(&self) -> Kept<N>
+    pub fn known(&self) -> Kept<N>
         requires { IsSome self.now.kept }
         ensures { self.now.kept ≡ Some result }
     {
@@ -77,7 +77,7 @@ impl<N: Copy> Stored<N> {
         ensures { result ≡ self.now.kept }
     {
         if self.is_taken() {
-            Some(self.there())
+            Some(self.known())
         } else {
             None
         }

@@ -25,4 +25,4 @@ pub use table::{MAX_ROOM, Table};
 // A cell over takes 8 bytes beside its node, and a bucket's own cell 9.
 const _: () = prove!(std::mem::size_of::<cell::Stored<u64>>() == 16);
 
-const _: () = prove!(std::mem::size_of::<own::Cold>() == 8);
+const _: () = prove!(std::mem::size_of::<own::Rest>() == 8);

@@ -144,7 +144,7 @@ pub fn take_out<N: Copy>(
     ensures nodes { IsPermutation (nodes_in cells.old) (result ∷ nodes_in cells.new) }
 {
     unlink(firsts, cells, bucket, cell);
-    let kept = cells[cell].there();
+    let kept = cells[cell].known();
     cells[cell].set_free(*free);
     *free = cell;
     kept
@@ -198,7 +198,7 @@ pub fn take<N: Copy>(
 {
     match spot {
         Spot::Own(at) => {
-            let kept = firsts.there(at);
+            let kept = firsts.known(at);
             match first_chained(firsts, group_of(at)) {
                 None => firsts.set_free(at),
                 Some(chained) => {
@@ -239,7 +239,7 @@ fn seek_own<N: Copy, F: Fn(N) -> bool, L: Ledger>(
     ensures cost { steps.new ≤ steps.old + count_by (may_be hash) (lanes_of firsts.now base) }
 {
     let mut at = base;
-    let mut hits = firsts.under(base, hash);
+    let mut hits = firsts.may_have(base, hash);
     while hits != 0 {
         let skipped = hits.trailing_zeros();
         at += skipped as usize;
@@ -283,7 +283,7 @@ fn seek_over<N: Copy, F: Fn(N) -> bool, L: Ledger>(
     let mut at = firsts.next(bucket);
     while at != END {
         let cell = &cells[at];
-        let kept = cell.there();
+        let kept = cell.known();
         steps.tick();
         if kept.hash == hash && is_match(kept.node) {
             return Some((at, kept.node));

@@ -15,7 +15,7 @@ use std::marker::Model;
 
 /// What a cell stores beside its node: the node's hash, and where its bucket's chain begins.
 #[derive(Clone, Copy)]
-pub struct Cold {
+pub struct Rest {
     hash: u32,
     link: u32,
 }
@@ -28,7 +28,7 @@ pub struct Cold {
 pub struct Own<N> {
     tags: Vec<u8>,
     nodes: Vec<N>,
-    colds: Vec<Cold>,
+    rests: Vec<Rest>,
 }
 
 impl<N> Model for Own<N> {
@@ -38,9 +38,9 @@ impl<N> Model for Own<N> {
 
     ghost Value = { List (Cell N) };
 
-    ghost view = { λ o. cells_in o.tags.items o.nodes.items o.colds.items };
+    ghost view = { λ o. cells_in o.tags.items o.nodes.items o.rests.items };
 
-    ghost invariant = { λ o. IsTagged o.tags.items o.nodes.items o.colds.items };
+    ghost invariant = { λ o. IsTagged o.tags.items o.nodes.items o.rests.items };
 }
 
 // The tag of a hash: four bits that say which cell of its group is its bucket's, and three that its bucket
@@ -60,7 +60,7 @@ impl<N: Copy> Own<N> {
         Own {
             tags: Vec::new(alloc),
             nodes: Vec::new(alloc),
-            colds: Vec::new(alloc),
+            rests: Vec::new(alloc),
         }
     }
 
@@ -70,12 +70,12 @@ impl<N: Copy> Own<N> {
     {
         let tags = repeated(alloc, 0, count)?;
         let nodes = repeated(alloc, filler, count)?;
-        let bare = Cold {
+        let bare = Rest {
             hash: 0,
             link: END as u32,
         };
-        let colds = repeated(alloc, bare, count)?;
-        Ok(Own { tags, nodes, colds })
+        let rests = repeated(alloc, bare, count)?;
+        Ok(Own { tags, nodes, rests })
     }
 
     /// How many cells there are.
@@ -93,7 +93,7 @@ impl<N: Copy> Own<N> {
         ensures value { result ≡ next_at self.now bucket }
         ensures small { result ≤ END }
     {
-        self.colds[bucket].link as usize
+        self.rests[bucket].link as usize
     }
 
     /// Sets where the chain of the bucket begins.
@@ -103,7 +103,7 @@ impl<N: Copy> Own<N> {
         requires small { to ≤ END }
         ensures { self.new ≡ with_next self.old bucket to }
     {
-        self.colds[bucket].link = to as u32;
+        self.rests[bucket].link = to as u32;
     }
 
     /// The node of a cell that is known to have one.
@@ -117,12 +117,12 @@ impl<N: Copy> Own<N> {
 
     /// What a cell has that is known to have a node.
     #[inline]
-    pub fn there(&self, at: usize) -> Kept<N>
+    pub fn known(&self, at: usize) -> Kept<N>
         requires { IsSome (kept_at self.now at) }
         ensures { kept_at self.now at ≡ Some result }
     {
         Kept {
-            hash: self.colds[at].hash,
+            hash: self.rests[at].hash,
             node: self.nodes[at],
         }
     }
@@ -136,7 +136,7 @@ impl<N: Copy> Own<N> {
             None
         } else {
             Some(Kept {
-                hash: self.colds[at].hash,
+                hash: self.rests[at].hash,
                 node: self.nodes[at],
             })
         }
@@ -150,7 +150,7 @@ impl<N: Copy> Own<N> {
     {
         self.tags[at] = tag(kept.hash);
         self.nodes[at] = kept.node;
-        self.colds[at].hash = kept.hash;
+        self.rests[at].hash = kept.hash;
     }
 
     /// Takes the node out of a cell.
@@ -165,7 +165,7 @@ impl<N: Copy> Own<N> {
     /// The cells of the group that begins here which may have a node of this hash, one bit for each. Each has
     /// a node.
     #[inline]
-    pub fn under(&self, base: usize, hash: u32) -> u64
+    pub fn may_have(&self, base: usize, hash: u32) -> u64
         requires { base + LANES ≤ length self.now }
         ensures lanes { result ≡ mask_l (map (may_be hash) (lanes_of self.now base)) }
         ensures small { base + LANES < 2 ^ 64 }
@@ -188,7 +188,7 @@ impl<N: Copy> Own<N> {
         ensures { self.new ≡ replicate (length self.old) bare_cell }
     {
         self.tags.fill(0);
-        self.colds.fill(Cold {
+        self.rests.fill(Rest {
             hash: 0,
             link: END as u32,
         });

@@ -45,7 +45,7 @@ overflow_add-at g c =
     let v = c.loop-hits.invariant in
     let h = found_at c.args.firsts.now c.args.base c.args.hash c.requires.within c.loop-hits.at c.loop-hits.hits
     v.from v.left c.loop-hits-test.true in
-    record { fits = omega (arith, h.to, c.under-hits.ensures.small) }
+    record { fits = omega (arith, h.to, c.may_have-hits.ensures.small) }
 
 pub node-node-requires : goal.node-node-requires
 node-node-requires g c =
@@ -86,7 +86,7 @@ overflow_add-at-in-loop-hits g c =
     let v = c.loop-hits.invariant in
     let h = found_at c.args.firsts.now c.args.base c.args.hash c.requires.within c.loop-hits.at c.loop-hits.hits
     v.from v.left c.loop-hits-test.true in
-    record { fits = omega (arith, h.to, c.under-hits.ensures.small) }
+    record { fits = omega (arith, h.to, c.may_have-hits.ensures.small) }
 
 pub loop-hits-preserved : goal.loop-hits-preserved
 loop-hits-preserved g c =

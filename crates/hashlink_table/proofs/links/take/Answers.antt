@@ -55,9 +55,9 @@ returns-in-None-clause-nodes g c =
     let firsts = c.args.firsts.now in let overs = nodes_in c.args.cells.now in
     let low = within_by_kept firsts c.in-Own.at (rw c.in-Own.is at c.requires.there) in
     subst (λ (f : List (Cell g.row.N.Denot)). IsPermutation (nodes_in firsts ++ overs)
-    (c.there-kept.result ∷ (nodes_in f ++ overs))) (sym c.set_free.ensures)
-    (IsPermutation-append_left overs _ _ (free-nodes firsts c.in-Own.at c.there-kept.result low
-    c.there-kept.ensures))
+    (c.known-kept.result ∷ (nodes_in f ++ overs))) (sym c.set_free.ensures)
+    (IsPermutation-append_left overs _ _ (free-nodes firsts c.in-Own.at c.known-kept.result low
+    c.known-kept.ensures))
 
 pub returns-in-Some-clause-linked : goal.returns-in-Some-clause-linked
 returns-in-Some-clause-linked g c =
@@ -106,10 +106,10 @@ returns-in-Some-clause-nodes g c =
     let low = within_by_kept firsts at (rw c.in-Own.is at c.requires.there) in
     let n = same_length firsts t.new.firsts t.ensures.firsts in
     subst (λ (f : List (Cell g.row.N.Denot)). IsPermutation (nodes_in firsts ++ nodes_in c.args.cells.now)
-    (c.there-kept.result ∷ (nodes_in f ++ nodes_in t.new.cells))) (sym c.put.ensures)
-    (first-followed firsts t.new.firsts c.args.cells.now t.new.cells at _ c.there-kept.result t.result
+    (c.known-kept.result ∷ (nodes_in f ++ nodes_in t.new.cells))) (sym c.put.ensures)
+    (first-followed firsts t.new.firsts c.args.cells.now t.new.cells at _ c.known-kept.result t.result
     t.ensures.firsts (omega (arith, low, n))
-    (kept-same firsts t.new.firsts t.ensures.firsts n at ∙ c.there-kept.ensures) refl t.ensures.nodes)
+    (kept-same firsts t.new.firsts t.ensures.firsts n at ∙ c.known-kept.ensures) refl t.ensures.nodes)
 
 pub returns-in-Over-clause-in_place : goal.returns-in-Over-clause-in_place
 returns-in-Over-clause-in_place g c =

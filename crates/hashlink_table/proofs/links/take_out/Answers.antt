@@ -6,8 +6,8 @@ use Rattle.hashlink_table.proofs.Linking.{free_small, linked-give}
 use Rattle.hashlink_table.proofs.Chaining.{on_within, on_some, taken-nodes, same_kept}
 use Rattle.hashlink_table.proofs.links.take_out.Goals as goal
 
-pub there-kept-requires : goal.there-kept-requires
-there-kept-requires g c =
+pub known-kept-requires : goal.known-kept-requires
+known-kept-requires g c =
     let cells = c.args.cells.now in let m = length c.args.firsts.now in
     let old : c.args.cell < length cells = on_within m cells c.args.cell c.args.bucket c.requires.on_chain
     c.requires.within in
@@ -41,7 +41,7 @@ returns-clause-kept g c =
     c.requires.within in
     let now : c.args.cell < length c.unlink.new.cells = omega (arith, old, c.unlink.auto.cells) in
     sym (same_kept cells c.unlink.new.cells c.args.cell c.unlink.ensures.nodes old now)
-    ∙ sym (kept_at_read c.unlink.new.cells c.args.cell c.index-cells-cell.result now) ∙ c.there-kept.ensures
+    ∙ sym (kept_at_read c.unlink.new.cells c.args.cell c.index-cells-cell.result now) ∙ c.known-kept.ensures
 
 pub returns-clause-nodes : goal.returns-clause-nodes
 returns-clause-nodes g c =
@@ -50,9 +50,9 @@ returns-clause-nodes g c =
     let old : c.args.cell < length cells = on_within m cells c.args.cell c.args.bucket c.requires.on_chain
     c.requires.within in
     let now : c.args.cell < length c.unlink.new.cells = omega (arith, old, c.unlink.auto.cells) in
-    taken-nodes cells c.unlink.new.cells c.args.cell c.set_free.new.self c.there-kept.result
+    taken-nodes cells c.unlink.new.cells c.args.cell c.set_free.new.self c.known-kept.result
     c.unlink.ensures.nodes now
-    (sym (kept_at_read c.unlink.new.cells c.args.cell c.index-cells-cell.result now) ∙ c.there-kept.ensures)
+    (sym (kept_at_read c.unlink.new.cells c.args.cell c.index-cells-cell.result now) ∙ c.known-kept.ensures)
     (ap (λ (d : C). d.kept) c.set_free.ensures)
 
 pub bounds-cells-cell : goal.bounds-cells-cell

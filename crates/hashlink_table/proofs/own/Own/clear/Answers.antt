@@ -1,5 +1,5 @@
 use Rattle.std.proofs.Common.{length}
-use Rattle.hashlink_table.proofs.Storing.{all_bare, all_free, colds_len, nodes_long, tags_len}
+use Rattle.hashlink_table.proofs.Storing.{all_bare, all_free, nodes_long, rests_len, tags_len}
 use Rattle.hashlink_table.proofs.own.Own.clear.Goals as goal
 
 pub invariant_of-self : goal.invariant_of-self
@@ -8,7 +8,7 @@ invariant_of-self g c =
     rw (c.fill.ensures.items (λ y e. e), c.fill-2.ensures.items (λ y e. e))
     (all_free c.self.inside.nodes.items _ _ (length v) (nodes_long c.self.inside v c.self.invariant c.self.view_is)
     (tags_len c.self.inside v c.self.invariant c.self.view_is)
-    (colds_len c.self.inside v c.self.invariant c.self.view_is))
+    (rests_len c.self.inside v c.self.invariant c.self.view_is))
 
 pub returns : goal.returns
 returns g c =
@@ -16,4 +16,4 @@ returns g c =
     rw (c.fill.ensures.items (λ y e. e), c.fill-2.ensures.items (λ y e. e))
     (all_bare c.self.inside.nodes.items _ _ (length v) (nodes_long c.self.inside v c.self.invariant c.self.view_is)
     (tags_len c.self.inside v c.self.invariant c.self.view_is)
-    (colds_len c.self.inside v c.self.invariant c.self.view_is))
+    (rests_len c.self.inside v c.self.invariant c.self.view_is))

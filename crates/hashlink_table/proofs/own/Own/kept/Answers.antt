@@ -1,4 +1,4 @@
-use Rattle.hashlink_table.proofs.Storing.{cold_within, node_within, none_read, some_read, tag_within}
+use Rattle.hashlink_table.proofs.Storing.{node_within, none_read, rest_within, some_read, tag_within}
 use Rattle.hashlink_table.proofs.own.Own.kept.Goals as goal
 
 pub index-requires : goal.index-requires
@@ -7,7 +7,7 @@ index-requires g c =
 
 pub index-requires-else-index-eq0 : goal.index-requires-else-index-eq0
 index-requires-else-index-eq0 g c =
-    cold_within c.self.inside c.args.self.now c.self.invariant c.self.view_is c.args.at c.requires
+    rest_within c.self.inside c.args.self.now c.self.invariant c.self.view_is c.args.at c.requires
 
 pub index-requires-else-index-eq0-2 : goal.index-requires-else-index-eq0-2
 index-requires-else-index-eq0-2 g c =

@@ -1,4 +1,4 @@
-use Rattle.hashlink_table.proofs.Storing.{cold_within, node_within, put_in, tag_within, tagged-put}
+use Rattle.hashlink_table.proofs.Storing.{node_within, put_in, rest_within, tag_within, tagged-put}
 use Rattle.hashlink_table.proofs.own.Own.put.Goals as goal
 
 pub index_mut-requires : goal.index_mut-requires
@@ -11,7 +11,7 @@ index_mut-requires-2 g c =
 
 pub index_mut-requires-3 : goal.index_mut-requires-3
 index_mut-requires-3 g c =
-    cold_within c.self.inside c.args.self.now c.self.invariant c.self.view_is c.args.at c.requires
+    rest_within c.self.inside c.args.self.now c.self.invariant c.self.view_is c.args.at c.requires
 
 pub invariant_of-self : goal.invariant_of-self
 invariant_of-self g c =

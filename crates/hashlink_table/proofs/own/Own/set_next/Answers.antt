@@ -1,9 +1,9 @@
-use Rattle.hashlink_table.proofs.Storing.{cold_within, linked_on, tagged-linked}
+use Rattle.hashlink_table.proofs.Storing.{linked_on, rest_within, tagged-linked}
 use Rattle.hashlink_table.proofs.own.Own.set_next.Goals as goal
 
 pub index_mut-requires : goal.index_mut-requires
 index_mut-requires g c =
-    cold_within c.self.inside c.args.self.now c.self.invariant c.self.view_is c.args.bucket c.requires.within
+    rest_within c.self.inside c.args.self.now c.self.invariant c.self.view_is c.args.bucket c.requires.within
 
 pub invariant_of-self : goal.invariant_of-self
 invariant_of-self g c =

@@ -1,10 +1,10 @@
 use Rattle.hashlink_table.proofs.Cells.{within_by_kept}
-use Rattle.hashlink_table.proofs.Storing.{cold_within, kept_read, node_within}
-use Rattle.hashlink_table.proofs.own.Own.there.Goals as goal
+use Rattle.hashlink_table.proofs.Storing.{kept_read, node_within, rest_within}
+use Rattle.hashlink_table.proofs.own.Own.known.Goals as goal
 
 pub index-requires : goal.index-requires
 index-requires g c =
-    cold_within c.self.inside c.args.self.now c.self.invariant c.self.view_is c.args.at
+    rest_within c.self.inside c.args.self.now c.self.invariant c.self.view_is c.args.at
     (within_by_kept c.args.self.now c.args.at c.requires)
 
 pub index-requires-2 : goal.index-requires-2
