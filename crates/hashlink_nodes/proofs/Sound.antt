@@ -92,8 +92,6 @@ module _ {K V : Type 0} where
         subst (λ l. IsDistinct same_node (l ++ walk s.next first spare)) (sym (keys-entries s.held _ h.full))
         (distinct_tail g _ h.apart)
 
-  -- a node of the ring has a block, and so have its neighbours
-
   pub record Leaves (s' : State K V) (guard : Option Node) (first : Node) (len spare : ℕ)
       (es : List (Node × Held K V)) (fs : List Node) : Type 0 where
     pub sound : IsSound s' guard first len spare

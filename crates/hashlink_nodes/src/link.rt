@@ -4,8 +4,7 @@ ghost use Rattle.std.specs.Prelude.{◌≡◌, ◌+◌};
 use crate::link_writes::LinkWrites;
 use crate::node::Node;
 
-/// A link of a node, to the one after it or to the one before it. Where a node is made, both are set at once.
-/// After that no other module writes them.
+/// A link of a node, to the one after it or to the one before it. After the node is made only `store` changes it.
 #[derive(Drop)]
 pub(crate) struct Link {
     to: Node,

@@ -6,7 +6,7 @@ ghost use Rattle.hashlink_table.specs.declared.error.TryReserveError.TheVariants
 ghost use Rattle.hashlink_table.specs.Chains.{nodes_in};
 ghost use Rattle.hashlink_table.specs.Contents.{agreeing, len_of, AcceptsOnly, CanAsk, Keeps};
 
-use super::bucket::{bucket_of, buckets_for};
+use super::bucket::{bucket_of, buckets_for, group_of};
 use super::cell::{END, Stored};
 use super::error::TryReserveError;
 use super::kept::Kept;
@@ -355,15 +355,40 @@ impl<N: Copy> Table<N> {
         Ok(())
     }
 
-    // Puts the nodes of the buckets' own cells in.
+    // Inserts a node as `insert_reserved` does, and into this cell if it is a free one of the node's group, which
+    // is then not searched.
+    #[inline]
+    fn insert_into(&mut self, at: usize, kept: Kept<N>)
+        requires { len_of self.old < self.old.room }
+        ensures inserted { IsPermutation (kept ∷ self.old.nodes) self.new.nodes }
+        ensures room { self.new.room ≡ self.old.room }
+    {
+        let bucket = bucket_of(kept.hash, self.firsts.len());
+        if group_of(at) == group_of(bucket) && self.firsts.kept(at).is_none() {
+            self.firsts.put(at, kept);
+            self.len += 1;
+        } else {
+            self.insert_reserved(kept.hash, kept.node);
+        }
+    }
+
+    // Puts the nodes of the buckets' own cells in. If there were half as many buckets, the nodes of a group now
+    // go to two groups, each into the next cell of its group: a search would wait for the tag stored before.
     fn insert_own(&mut self, cells: &Own<N>)
         requires { len_of self.old + length (nodes_in cells.now) ≤ self.old.room }
         ensures inserted { IsPermutation (self.old.nodes ++ nodes_in cells.now) self.new.nodes }
         ensures room { self.new.room ≡ self.old.room }
     {
-        for at in 0..cells.len() {
+        let buckets = cells.len();
+        let mut next = [0, buckets];
+        for at in 0..buckets {
+            if at % LANES == 0 {
+                next = [at, at.wrapping_add(buckets)];
+            }
             if let Some(own) = cells.kept(at) {
-                self.insert_reserved(own.hash, own.node);
+                let half = (own.hash as usize & buckets != 0) as usize;
+                self.insert_into(next[half], own);
+                next[half] = next[half].wrapping_add(1);
             }
         }
     }
