@@ -177,13 +177,11 @@ pub fn take<N: Copy>(
     firsts: &mut Own<N>,
     cells: &mut [Stored<N>],
     free: &mut usize,
-    bucket: usize,
     spot: Spot,
 ) -> Kept<N>
-    requires within { bucket < length firsts.old }
+    requires masked { IsPowerOfTwo (length firsts.old) }
     requires whole { length firsts.old % LANES ≡ 0 }
     requires there { IsSome (kept_by firsts.old cells.old spot) }
-    requires on_chain { (at : ℕ) → spot ≡ Over at → chain_at (length firsts.old) cells.old at ≡ bucket }
     requires linked { IsLinked (links_of firsts.old) cells.old free.old }
     requires in_place { IsInPlace firsts.old }
     requires filled { IsFilled firsts.old }
@@ -209,7 +207,10 @@ pub fn take<N: Copy>(
             }
             kept
         }
-        Spot::Over(at) => take_out(firsts, cells, free, bucket, at),
+        Spot::Over(at) => {
+            let bucket = bucket_of(cells[at].known().hash, firsts.len());
+            take_out(firsts, cells, free, bucket, at)
+        }
     }
 }
 

@@ -200,12 +200,10 @@ impl<N: Copy> Table<N> {
         match links::seek(&self.firsts, &self.overs, hash, &is_match, &mut steps) {
             None => None,
             Some(found) => {
-                let bucket = bucket_of(hash, self.firsts.len());
                 let kept = links::take(
                     &mut self.firsts,
                     &mut self.overs,
                     &mut self.free,
-                    bucket,
                     found.spot,
                 );
                 self.len -= 1;

@@ -1,12 +1,10 @@
-use Rattle.std.proofs.Common.{◌≡◌, ◌%◌, ◌∷◌, ◌++◌, Some, true, length, sym, ap, ◌∙◌, subst}
+use Rattle.std.proofs.Common.{◌∷◌, ◌++◌, true, length, sym, ap, ◌∙◌, subst}
 use Rattle.std.specs.Prelude.{IsPermutation}
 use Rattle.std.proofs.lemmas.Option.{same_Some}
 use Rattle.std.proofs.lemmas.List.{with_items_is}
 use Rattle.hashlink_table.specs.declared.kept.Kept.{Kept}
 use Rattle.hashlink_table.specs.Contents.{Contents}
-use Rattle.hashlink_table.specs.Chains.{chain_of, kept_at, kept_by, nodes_in}
-use Rattle.hashlink_table.proofs.Cells.{chain_at_within}
-use Rattle.hashlink_table.proofs.Moving.{within_kept}
+use Rattle.hashlink_table.specs.Chains.{nodes_in}
 use Rattle.hashlink_table.proofs.Sound.{sound-take}
 use Rattle.hashlink_table.proofs.Views.{none_left, over_asked, own_accepted, own_asked}
 use Rattle.hashlink_table.proofs.table.Table.remove_from.Goals as goal
@@ -42,18 +40,6 @@ invariant_of-self g c =
     (sound-take taken.new.firsts taken.new.cells taken.new.free taken.result c.self.invariant taken.ensures.len
     cells taken.ensures.linked taken.ensures.in_place taken.ensures.filled
     (rw c.deref_mut.ensures.value at taken.ensures.nodes))
-
-pub take-kept-requires-clause-on_chain : goal.take-kept-requires-clause-on_chain
-take-kept-requires-clause-on_chain g c = λ at over.
-    let t = c.self.inside in
-    let overs = t.overs.items in
-    let sought = rw c.deref.ensures.value at c.in-Some.ensures.found in
-    let bucket = c.bucket_of-bucket.ensures ∙ ap (λ n. c.args.hash % n) c.len.ensures in
-    let is : kept_at overs at ≡ Some (record { hash = c.args.hash; node = c.in-Some.found.node })
-    = sym (ap (kept_by t.firsts overs) over) ∙ sought.0 in
-    rw c.deref_mut.ensures.value
-    (chain_at_within (length t.firsts) overs at (within_kept overs at _ is)
-    ∙ ap (chain_of (length t.firsts)) is ∙ sym bucket)
 
 pub returns-clause-removed : goal.returns-clause-removed
 returns-clause-removed g c =
