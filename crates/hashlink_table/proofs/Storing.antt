@@ -209,8 +209,8 @@ module _ {N : Type 0} (o : Inside N) (v : List (Cell N))
     in_nodes : i < length ns
     in_nodes = omega (arith, low, nodes_long)
 
-    in_colds : i < length rs
-    in_colds = omega (arith, low, rests_long)
+    in_rests : i < length rs
+    in_rests = omega (arith, low, rests_long)
 
     pub tag_within : i < vec_len o.tags
     tag_within = omega (arith, low, tags_len)
@@ -253,7 +253,7 @@ module _ {N : Type 0} (o : Inside N) (v : List (Cell N))
 
     rest_at : rest ≡ get_or rs i rest
     unfolding rest
-    rest_at = get_or_default rs i _ rest in_colds
+    rest_at = get_or_default rs i _ rest in_rests
 
     rest_stays : set rs i rest ≡ rs
     unfolding rest

@@ -33,7 +33,7 @@ pub fn group_of(bucket: usize) -> usize
 // The most room for which a table has two buckets for each node, and not one.
 const MAX_SPARSE_ROOM: usize = 1 << 10;
 
-/// How many buckets a table has that grows to this room: whole groups.
+/// How many buckets a table with this room has, or with the next smaller ones after a shrink: whole groups.
 pub fn buckets_for(room: usize) -> usize
     requires { IsPowerOfTwo room }
     ensures power { IsPowerOfTwo result }

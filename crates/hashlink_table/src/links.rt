@@ -7,7 +7,7 @@ ghost use Rattle.hashlink_table.specs.declared.kept.Kept.{Kept};
 ghost use Rattle.hashlink_table.specs.declared.spot.Spot.TheVariants.{Over};
 ghost use Rattle.hashlink_table.specs.Own.{lanes_of, may_be};
 ghost use Rattle.hashlink_table.specs.Chains.{chain_at, chain_of, kept_at, kept_by, links_of, next_at};
-ghost use Rattle.hashlink_table.specs.Chains.{nodes_in, AreTaken, IsFilled, IsInPlace, IsLinked, IsLinkedBut};
+ghost use Rattle.hashlink_table.specs.Chains.{nodes_in, IsFilled, IsInPlace, IsLinked, IsLinkedBut};
 ghost use Rattle.hashlink_table.specs.Chains.{IsPlaced, SameNodes};
 
 use super::bucket::{base_of, bucket_of, group_of};

@@ -30,9 +30,9 @@ const MIN_ROOM: usize = 4;
 
 /// Nodes by their hashes.
 ///
-/// A new table does not allocate. It takes then 9 bytes and a node for each bucket, of which there are as
+/// A new table does not allocate. One with room takes 9 bytes and a node for each bucket, of which there are as
 /// many as it has room for nodes, or twice as many in a small table, and at least 16; a shrink may leave up to
-/// twice these. It takes 8 bytes and a node for each cell over.
+/// twice these. It takes 8 bytes and a node more for each node of its room, for the cells over.
 #[derive(Drop)]
 pub struct Table<N> {
     // The buckets' own cells. There are none or a power of two, and whole groups.
@@ -370,23 +370,24 @@ impl<N: Copy> Table<N> {
         }
     }
 
-    // Puts the nodes of the buckets' own cells in. If there were half as many buckets, the nodes of a group now
-    // go to two groups, each into the next cell of its group: a search would wait for the tag stored before.
+    // Puts the nodes of the buckets' own cells in. Where the table doubles, the nodes of a group go to two groups,
+    // each into the next cell of its own. That cell is a guess, which `insert_into` tests. A search for a free cell
+    // would read the tag that was stored just before, and wait for it.
     fn insert_own(&mut self, cells: &Own<N>)
         requires { len_of self.old + length (nodes_in cells.now) ≤ self.old.room }
         ensures inserted { IsPermutation (self.old.nodes ++ nodes_in cells.now) self.new.nodes }
         ensures room { self.new.room ≡ self.old.room }
     {
         let buckets = cells.len();
-        let mut next = [0, buckets];
+        let mut guesses = [0, 0]; // for the lower half of the buckets, and for the upper
         for at in 0..buckets {
             if at % LANES == 0 {
-                next = [at, at.wrapping_add(buckets)];
+                guesses = [at, at.wrapping_add(buckets)];
             }
-            if let Some(own) = cells.kept(at) {
-                let half = (own.hash as usize & buckets != 0) as usize;
-                self.insert_into(next[half], own);
-                next[half] = next[half].wrapping_add(1);
+            if let Some(kept) = cells.kept(at) {
+                let half = (kept.hash as usize & buckets != 0) as usize;
+                self.insert_into(guesses[half], kept);
+                guesses[half] = guesses[half].wrapping_add(1);
             }
         }
     }

@@ -9,7 +9,7 @@ loop-at-init g c = none_copied c.args.self.now c.args.cells.now
 pub insert_into-requires : goal.insert_into-requires
 insert_into-requires g c =
     has_room c.args.self.now c.args.cells.now c.loop-at.at (omega (arith, c.loop-at-test.true, c.len-buckets.ensures))
-    c.kept.result c.kept.ensures c.loop-at.self c.loop-at.invariant c.in-Some.own c.in-Some.is c.requires
+    c.kept.result c.kept.ensures c.loop-at.self c.loop-at.invariant c.in-Some.kept c.in-Some.is c.requires
 
 pub loop-at-preserved : goal.loop-at-preserved
 loop-at-preserved g c =
@@ -18,7 +18,7 @@ loop-at-preserved g c =
     elim c.match-kept.branch [
       | in-Some w ↦
           one_copied c.args.self.now cells c.loop-at.at low c.kept.result c.kept.ensures c.loop-at.self
-          c.loop-at.invariant w.in-Some.own _ c.match-kept.self w.in-Some.is w.self-is
+          c.loop-at.invariant w.in-Some.kept _ c.match-kept.self w.in-Some.is w.self-is
           w.insert_into.ensures.inserted w.insert_into.ensures.room
       | in_default w ↦
           passed c.args.self.now cells c.loop-at.at low c.kept.result c.kept.ensures c.loop-at.self
