@@ -5,7 +5,8 @@ use Rattle.std.proofs.Common.{get_or, replicate, Some, None, is_some, refl, sym,
 use Rattle.std.specs.Prelude.{IsPermutation}
 use Rattle.std.specs.Int.{IsPowerOfTwo}
 use Rattle.std.proofs.lemmas.Bool.{cases_eq, cases_lt}
-use Rattle.std.proofs.lemmas.List.{get_or_at, get_or_append_left, get_or-replicate, length_push}
+use Rattle.std.proofs.Math.ListN.{get_or-map}
+use Rattle.std.proofs.lemmas.List.{get_or_at, get_or_append_left, length_push}
 use Rattle.std.proofs.lemmas.List.{length-append}
 use Rattle.std.proofs.lemmas.List.{length-replicate}
 use Rattle.std.proofs.lemmas.List.Sorted.{length_permutation}
@@ -27,36 +28,35 @@ none_from_end : (next : ℕ → ℕ) (from : ℕ) (path : List ℕ) → IsPath n
 none_from_end next from [] linked e j m = m
 none_from_end next from (x ∷ xs) linked e j m = linked.1 (sym linked.0 ∙ e)
 
--- bare cells: no chain leads anywhere
-links-bare : (N : Type 0) (n : ℕ) → links_of (replicate n (bare_cell {N = N})) ≡ replicate n END
-links-bare N zero = refl
-links-bare N (suc n) = ap (λ ls. END ∷ ls) (links-bare N n)
-
--- and each reads as one past the last
+-- each bare cell reads as one past the last
 bare_read : (N : Type 0) (n i : ℕ) → (kept_at (replicate n (bare_cell {N = N})) i ≡ None)
     × (next_at (replicate n (bare_cell {N = N})) i ≡ END)
 bare_read N zero i = (refl, refl)
 bare_read N (suc n) zero = (refl, refl)
 bare_read N (suc n) (suc i) = bare_read N n i
 
-bare_linked : (N : Type 0) (n : ℕ) → IsLinked {N = N} (replicate n END) [] END
-bare_linked N n b h =
-    let same = length-replicate n END in
-    let first : get_or (replicate n END ++ END ∷ []) b END ≡ END
-    = elim (cases_lt b n) as (λ _. get_or (replicate n END ++ END ∷ []) b END ≡ END) [
-      | inl low ↦ get_or_append_left (replicate n END) (END ∷ []) END b (omega arith)
-          ∙ get_or-replicate n b END END low
-      | inr high ↦ get_or_at (replicate n END) END [] END b
-          (omega (arith, high, h, same, length_push (replicate n END) END))
-    ] in
-    record {
-      path = [];
-      linked = first;
-      inside = λ i m. absurd m;
-      whole = λ i e. absurd (omega (arith, e, h, length_push (replicate n END) END));
-    }
-
 module _ {N : Type 0} where
+  -- no bucket has a chain: no link leads anywhere, and each cell may be free
+  pub linked-none : (firsts : List (Cell N)) → ((b : ℕ) → next_at firsts b ≡ END)
+      → IsLinked {N = N} (links_of firsts) [] END
+  linked-none firsts none b h =
+      let heads = links_of firsts in
+      let first : get_or (heads ++ END ∷ []) b END ≡ END
+      = elim (cases_lt b (length heads)) as (λ _. get_or (heads ++ END ∷ []) b END ≡ END) [
+        | inl low ↦ get_or_append_left heads (END ∷ []) END b low
+            ∙ get_or-map (λ (c : Cell N). c.next) firsts b bare_cell ∙ none b
+        | inr high ↦ get_or_at heads END [] END b (omega (arith, high, h, length_push heads END))
+      ] in
+      record {
+        path = [];
+        linked = first;
+        inside = λ i m. absurd m;
+        whole = λ i e. absurd (omega (arith, e, h, length_push heads END));
+      }
+
+  pub filled-none : (firsts : List (Cell N)) → ((b : ℕ) → next_at firsts b ≡ END) → IsFilled firsts
+  filled-none firsts none b low ne = absurd (ne (none b))
+
   -- where no cell is free, each has a node
   all_taken : (heads : List ℕ) (cells : List (Cell N)) (free : ℕ) → IsLinked heads cells free
       → free ≡ END → (i : ℕ)
@@ -92,9 +92,9 @@ module _ {N : Type 0} where
   sound-bare n capacity room headed bounded reserved small masked whole =
       let same = length-replicate n (bare_cell {N = N}) in
       record {
-        linked = subst (λ ls. IsLinked {N = N} ls [] END) (sym (links-bare N n)) (bare_linked N n);
+        linked = linked-none (replicate n bare_cell) (λ b. (bare_read N n b).1);
         in_place = λ at k is. absurd (cc (sym (bare_read N n at).0 ∙ is));
-        filled = λ b low ne. absurd (ne (bare_read N n b).1);
+        filled = filled-none (replicate n bare_cell) (λ b. (bare_read N n b).1);
         counted = rw (nodes_in-bare {N = N} n) refl;
         held = omega arith;
         headed = omega (arith, headed, same);
@@ -164,3 +164,39 @@ pub contents-bare : (N : Type 0) (n room : ℕ)
 contents-bare N n room = ap (λ (ks : List (Kept N)). let t : Contents N = record { nodes = ks; room = room }
     in t)
     (ap (λ (ks : List (Kept N)). ks ++ []) (nodes_in-bare {N = N} n))
+
+module _ {N : Type 0} where
+  -- the buckets were doubled, and the nodes of the cells over taken out
+  pub sound-doubled : {firsts overs : List (Cell N)} {capacity free len room : ℕ}
+      (later less : List (Cell N)) (taken : List (Kept N)) (buckets block count more : ℕ)
+      → IsSound firsts overs capacity free len room
+      → IsPowerOfTwo buckets → buckets % 16 ≡ 0 → buckets ≤ 2 ^ 30 → buckets ≤ 4 * max 8 more
+      → room ≤ more → more ≤ buckets → more ≤ block → length later ≡ buckets
+      → IsLinked (links_of later) less END → IsInPlace later → IsFilled later → less ≡ []
+      → count ≡ length taken → IsPermutation (nodes_in firsts ++ nodes_in overs) (nodes_in later ++ taken)
+      → IsSound later less block END (len - count) more
+  sound-doubled {firsts} {overs} {len = len} later less taken buckets block count more
+      s power whole small bounded grown headed reserved size linked in_place filled none counted nodes =
+      record {
+        linked = linked;
+        in_place = in_place;
+        filled = filled;
+        counted =
+            omega (
+              arith,
+              s.counted,
+              counted,
+              length_permutation _ _ nodes,
+              length-append (nodes_in later) taken,
+              length-append (nodes_in later) (nodes_in less),
+              ap (λ (cs : List (Cell N)). length (nodes_in cs)) none,
+            );
+        held = omega (arith, s.held, grown);
+        headed = omega (arith, headed, size);
+        bounded = omega (arith, bounded, size);
+        reserved = reserved;
+        small = omega (arith, small, size);
+        overs_small = omega (arith, ap length none);
+        masked = λ _. subst IsPowerOfTwo (sym size) power;
+        whole = ap (λ m. m % 16) size ∙ whole;
+      }

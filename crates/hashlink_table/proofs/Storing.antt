@@ -1,10 +1,11 @@
 -- The buckets' own cells: what is stored is what contracts see.
-use Rattle.std.proofs.Common.{◌≡◌, ℕ, zero, suc, ◌+◌, ◌^◌, ◌<◌, ◌≤◌, ◌⊎◌, inl, inr, Bool, true, false, cond}
-use Rattle.std.proofs.Common.{eqb, List, [], ◌∷◌, length, map, take, drop, get_or, set, replicate, Option, Some}
+use Rattle.std.proofs.Common.{◌≡◌, ℕ, zero, suc, ◌+◌, ◌-◌, ◌^◌, ◌<◌, ◌≤◌, ◌⊎◌, inl, inr, Bool, true, false, cond}
+use Rattle.std.proofs.Common.{◌++◌, eqb, List, [], ◌∷◌, length, map, take, drop, get_or, set, replicate, Option, Some}
 use Rattle.std.proofs.Common.{None, refl, sym, ap, ◌∙◌, subst, arith}
 use Rattle.std.specs.Prelude.{is_none, vec_len, IfSome, IsSome}
 use Rattle.std.proofs.lemmas.Bool.{ne_eqb, false≢true}
-use Rattle.std.proofs.lemmas.List.{get_or_read, get_or_default, set-get_or, take-map, drop-map}
+use Rattle.std.proofs.lemmas.List.{get_or_read, get_or_default, set-get_or, take-map, drop-map, take_all}
+use Rattle.std.proofs.lemmas.List.{length-replicate}
 use Rattle.std.specs.Simd.Lanes.{chunk, mask_l}
 use Rattle.hashlink_table.specs.declared.kept.Kept.{Kept}
 use Rattle.hashlink_table.specs.declared.cell.Cell.{Cell}
@@ -17,7 +18,7 @@ use Rattle.hashlink_table.specs.Own.{own_cell, cells_in, may_be, with_kept, with
 use Rattle.hashlink_table.specs.Own.{IsStored, IsTagged}
 
 -- what a bare cell stores beside its node
-abbrev bare : Rest
+abbrev pub bare : Rest
 bare = record { hash = 0; link = END }
 
 -- what a test says of a tag, and of its cell
@@ -26,7 +27,7 @@ AgreesOn {N} p q t r = (n : N) → IsStored r t → p t ≡ q (own_cell t n r)
 
 module _ {N : Type 0} where
   -- there are as many of each
-  length-cells : (ts : List ℕ) (ns : List N) (rs : List Rest) → IsTagged ts ns rs
+  pub length-cells : (ts : List ℕ) (ns : List N) (rs : List Rest) → IsTagged ts ns rs
       → length (cells_in ts ns rs) ≡ length ts
   length-cells [] [] [] h = refl
   length-cells [] [] (r ∷ rs) h = absurd h
@@ -51,8 +52,16 @@ module _ {N : Type 0} where
   length-rests (t ∷ ts) (n ∷ ns) [] h = absurd h
   length-rests (t ∷ ts) (n ∷ ns) (r ∷ rs) h = ap suc (length-rests ts ns rs h.1)
 
+  pub within_nodes : (ts : List ℕ) (ns : List N) (rs : List Rest) → IsTagged ts ns rs → (i : ℕ) → i < length ts
+      → i < length ns
+  within_nodes ts ns rs h i low = omega (arith, low, length-nodes ts ns rs h)
+
+  pub within_rests : (ts : List ℕ) (ns : List N) (rs : List Rest) → IsTagged ts ns rs → (i : ℕ) → i < length ts
+      → i < length rs
+  within_rests ts ns rs h i low = omega (arith, low, length-rests ts ns rs h)
+
   -- a cell, read
-  cell_at : (ts : List ℕ) (ns : List N) (rs : List Rest) (i : ℕ) (n : N) (r : Rest) → IsTagged ts ns rs
+  pub cell_at : (ts : List ℕ) (ns : List N) (rs : List Rest) (i : ℕ) (n : N) (r : Rest) → IsTagged ts ns rs
       → i < length ts
       → get_or (cells_in ts ns rs) i bare_cell ≡ own_cell (get_or ts i 0) (get_or ns i n) (get_or rs i r)
   cell_at [] ns rs i n r h low = absurd (omega arith)
@@ -62,7 +71,7 @@ module _ {N : Type 0} where
   cell_at (t ∷ ts) (m ∷ ns) (d ∷ rs) (suc i) n r h low = cell_at ts ns rs i n r h.1 (omega arith)
 
   -- what is stored of it
-  stored_at : (ts : List ℕ) (ns : List N) (rs : List Rest) (i : ℕ) (r : Rest) → IsTagged ts ns rs
+  pub stored_at : (ts : List ℕ) (ns : List N) (rs : List Rest) (i : ℕ) (r : Rest) → IsTagged ts ns rs
       → i < length ts
       → IsStored (get_or rs i r) (get_or ts i 0)
   stored_at [] ns rs i r h low = absurd (omega arith)
@@ -72,7 +81,7 @@ module _ {N : Type 0} where
   stored_at (t ∷ ts) (m ∷ ns) (d ∷ rs) (suc i) r h low = stored_at ts ns rs i r h.1 (omega arith)
 
   -- a cell, written
-  cells-set : (ts : List ℕ) (ns : List N) (rs : List Rest) (i t : ℕ) (n : N) (r : Rest)
+  pub cells-set : (ts : List ℕ) (ns : List N) (rs : List Rest) (i t : ℕ) (n : N) (r : Rest)
       → IsTagged ts ns rs
       → cells_in (set ts i t) (set ns i n) (set rs i r) ≡ set (cells_in ts ns rs) i (own_cell t n r)
   cells-set [] [] [] i t n r h = refl
@@ -84,7 +93,7 @@ module _ {N : Type 0} where
   cells-set (s ∷ ts) (m ∷ ns) (d ∷ rs) (suc i) t n r h =
       ap (λ rest. own_cell s m d ∷ rest) (cells-set ts ns rs i t n r h.1)
 
-  tagged-set : (ts : List ℕ) (ns : List N) (rs : List Rest) (i t : ℕ) (n : N) (r : Rest)
+  pub tagged-set : (ts : List ℕ) (ns : List N) (rs : List Rest) (i t : ℕ) (n : N) (r : Rest)
       → IsTagged ts ns rs → IsStored r t
       → IsTagged (set ts i t) (set ns i n) (set rs i r)
   tagged-set [] [] [] i t n r h is = h
@@ -94,6 +103,28 @@ module _ {N : Type 0} where
   tagged-set (s ∷ ts) (m ∷ ns) [] i t n r h is = absurd h
   tagged-set (s ∷ ts) (m ∷ ns) (d ∷ rs) zero t n r h is = (is, h.1)
   tagged-set (s ∷ ts) (m ∷ ns) (d ∷ rs) (suc i) t n r h is = (h.0, tagged-set ts ns rs i t n r h.1 is)
+
+  -- more cells, after these
+  cells-append : (ts : List ℕ) (ns : List N) (rs : List Rest) (us : List ℕ) (ms : List N) (ds : List Rest)
+      → IsTagged ts ns rs
+      → cells_in (ts ++ us) (ns ++ ms) (rs ++ ds) ≡ cells_in ts ns rs ++ cells_in us ms ds
+  cells-append [] [] [] us ms ds h = refl
+  cells-append [] [] (r ∷ rs) us ms ds h = absurd h
+  cells-append [] (n ∷ ns) rs us ms ds h = absurd h
+  cells-append (t ∷ ts) [] rs us ms ds h = absurd h
+  cells-append (t ∷ ts) (n ∷ ns) [] us ms ds h = absurd h
+  cells-append (t ∷ ts) (n ∷ ns) (r ∷ rs) us ms ds h =
+      ap (λ rest. own_cell t n r ∷ rest) (cells-append ts ns rs us ms ds h.1)
+
+  tagged-append : (ts : List ℕ) (ns : List N) (rs : List Rest) (us : List ℕ) (ms : List N) (ds : List Rest)
+      → IsTagged ts ns rs → IsTagged us ms ds
+      → IsTagged (ts ++ us) (ns ++ ms) (rs ++ ds)
+  tagged-append [] [] [] us ms ds h more = more
+  tagged-append [] [] (r ∷ rs) us ms ds h more = absurd h
+  tagged-append [] (n ∷ ns) rs us ms ds h more = absurd h
+  tagged-append (t ∷ ts) [] rs us ms ds h more = absurd h
+  tagged-append (t ∷ ts) (n ∷ ns) [] us ms ds h more = absurd h
+  tagged-append (t ∷ ts) (n ∷ ns) (r ∷ rs) us ms ds h more = (h.0, tagged-append ts ns rs us ms ds h.1 more)
 
   -- a test of the tags is one of the cells
   tests-cells : (p : ℕ → Bool) (q : Cell N → Bool) (ts : List ℕ) (ns : List N) (rs : List Rest)
@@ -132,6 +163,17 @@ module _ {N : Type 0} (ns : List N) (a b n : ℕ) (long : length ns ≡ n) (tags
   pub all_bare : cells_in (replicate a 0) ns (replicate b bare) ≡ replicate n bare_cell
   all_bare = rw (tags, rest) (cells-bare n ns long)
 
+-- a list that was resized has the value so many times more
+pub grown : {X : Type 0} (old mid new : List X) (x : X) (len n all count : ℕ) → mid ≡ old → length old ≡ n
+    → len ≡ n → all ≡ n + count
+    → new ≡ take all mid ++ replicate (all - len) x
+    → new ≡ old ++ replicate count x
+grown {X} old mid new x len n all count kept long at_len to is =
+    let more : all - len ≡ count = omega (arith, at_len, to) in
+    is ∙ ap (λ (ys : List X). take all ys ++ replicate (all - len) x) kept
+    ∙ ap (λ (ys : List X). ys ++ replicate (all - len) x) (take_all all old (omega (arith, long, to)))
+    ∙ ap (λ m. old ++ replicate m x) more
+
 -- a tag is not 0
 tag_some : (hash : ℕ) → eqb (tag_of hash) 0 ≡ false
 tag_some hash = ne_eqb (tag_of hash) 0 (λ e. omega (arith, e))
@@ -166,20 +208,39 @@ module _ {N : Type 0} (o : Inside N) (v : List (Cell N))
   rs = o.rests.items
 
   -- there are as many of each
-  tags_long : length ts ≡ length v
+  pub tags_long : length ts ≡ length v
   tags_long = sym (length-cells ts ns rs tagged) ∙ ap length view
 
   pub nodes_long : length ns ≡ length v
   nodes_long = length-nodes ts ns rs tagged ∙ tags_long
 
-  rests_long : length rs ≡ length v
+  pub rests_long : length rs ≡ length v
   rests_long = length-rests ts ns rs tagged ∙ tags_long
 
   pub tags_len : vec_len o.tags ≡ length v
   tags_len = o.tags.ok.0 ∙ tags_long
 
+  pub nodes_len : vec_len o.nodes ≡ length v
+  nodes_len = o.nodes.ok.0 ∙ nodes_long
+
   pub rests_len : vec_len o.rests ≡ length v
   rests_len = o.rests.ok.0 ∙ rests_long
+
+  -- so many bare cells came after them
+  module _ (count : ℕ) (filler : N) (us : List ℕ) (ms : List N) (ds : List Rest) (tags : us ≡ ts ++ replicate count 0)
+      (nodes : ms ≡ ns ++ replicate count filler) (rests : ds ≡ rs ++ replicate count bare) where
+    pub tagged-wider : IsTagged us ms ds
+    tagged-wider =
+        rw (tags, nodes, rests) (tagged-append ts ns rs _ _ _ tagged
+        (tagged-bare count (replicate count filler) (length-replicate count filler)))
+
+    pub wider : cells_in us ms ds ≡ v ++ replicate count bare_cell
+    wider =
+        let C : Type 0 = Cell N in
+        let fillers : List N = replicate count filler in
+        rw (tags, nodes, rests) (cells-append ts ns rs _ _ _ tagged
+        ∙ ap (λ (cs : List C). cs ++ cells_in (replicate count 0) fillers (replicate count bare)) view
+        ∙ ap (λ (cs : List C). v ++ cs) (cells-bare count fillers (length-replicate count filler)))
 
   -- the sixteen bytes from this one on
   module _ (base : ℕ) (room : base + 16 ≤ length v) where

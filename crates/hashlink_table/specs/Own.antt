@@ -1,6 +1,6 @@
 -- The buckets' own cells, as they are stored and as contracts see them.
-use Rattle.std.specs.Prelude.{◌≡◌, ℕ, ◌≤◌, ◌==◌, ◌⊎◌, Bool, false, cond, List, [], ◌∷◌, slice_index_or}
-use Rattle.std.specs.Prelude.{slice_set, Option, None, Some}
+use Rattle.std.specs.Prelude.{◌≡◌, ℕ, ◌+◌, ◌*◌, ◌%◌, ◌≤◌, ◌==◌, ◌⊎◌, Bool, false, cond, ltb, List, [], ◌∷◌, ◌++◌}
+use Rattle.std.specs.Prelude.{slice_index_or, slice_set, length, map, Option, None, Some}
 use Rattle.std.specs.Simd.Lanes.{chunk}
 use Rattle.hashlink_table.specs.declared.kept.Kept.{Kept}
 use Rattle.hashlink_table.specs.declared.cell.Cell.{Cell}
@@ -59,3 +59,28 @@ module _ {N : Type 0} where
 
   abbrev pub with_next : List (Cell N) → ℕ → ℕ → List (Cell N)
   with_next cells at to = slice_set cells at (record (slice_index_or cells at bare_cell) { next = to })
+
+  -- the node that a cell has in the lower half, and in the upper, where so many buckets are doubled
+  abbrev pub low_kept : ℕ → Option (Kept N) → Option (Kept N)
+  low_kept count None = None
+  low_kept count (Some k) = cond (ltb (k.hash % (2 * count)) count) (Some k) None
+
+  abbrev pub high_kept : ℕ → Option (Kept N) → Option (Kept N)
+  high_kept count None = None
+  high_kept count (Some k) = cond (ltb (k.hash % (2 * count)) count) None (Some k)
+
+  -- what a cell becomes where so many are doubled, and what stands so many cells later; no bucket has a chain
+  abbrev pub low_half : ℕ → Cell N → Cell N
+  low_half count c = record { kept = low_kept count c.kept; hash = c.hash; next = END }
+
+  abbrev pub high_half : ℕ → Cell N → Cell N
+  high_half count c = record { kept = high_kept count c.kept; hash = c.hash; next = END }
+
+  abbrev pub doubled : List (Cell N) → List (Cell N)
+  doubled cells = map (low_half (length cells)) cells ++ map (high_half (length cells)) cells
+
+  -- the cells, where this one alone is doubled
+  abbrev pub parted : List (Cell N) → ℕ → ℕ → List (Cell N)
+  parted cells at count =
+      slice_set (slice_set cells at (low_half count (slice_index_or cells at bare_cell))) (at + count)
+      (high_half count (slice_index_or cells at bare_cell))

@@ -1,6 +1,6 @@
 -- The cells that a table stores.
 use Rattle.std.specs.Prelude.{ℕ, ◌+◌, ◌*◌, ◌/◌, ◌%◌, ◌^◌, cond, None, Some}
-use Rattle.std.specs.Prelude.{ltb}
+use Rattle.std.specs.Prelude.{ltb, max}
 use Rattle.hashlink_table.specs.declared.cell.Cell.{Cell}
 use Rattle.hashlink_table.specs.declared.cell.TheConstants.{END}
 
@@ -16,6 +16,6 @@ cell_of node hash link = record {
 abbrev pub bare_cell : {N : Type 0} → Cell N
 bare_cell = record { kept = None; hash = 0; next = END }
 
--- the byte that stands for a node of this hash: the lowest four bits of the hash and its highest three
+-- the byte that stands for a node of this hash: the lowest four bits of the hash and its highest four, where 0 is 1
 abbrev pub tag_of : ℕ → ℕ
-tag_of hash = hash % 16 * 8 + hash / 2 ^ 29 % 8 + 128
+tag_of hash = max 1 (hash % 16 * 16 + hash / 2 ^ 28 % 16)

@@ -1,7 +1,7 @@
 //! The chains that lead through the cells.
-ghost use Rattle.std.specs.Prelude.{◌≡◌, ◌≢◌, ℕ, ◌+◌, ◌-◌, ◌%◌, ◌<◌, ◌≤◌, ◌==◌, ◌∷◌, ◌++◌, length};
-ghost use Rattle.std.specs.Prelude.{count_by, false, true, IfNone, IfSome, IsPermutation, IsSome, Some};
-ghost use Rattle.std.specs.Prelude.{vec_capacity, vec_len};
+ghost use Rattle.std.specs.Prelude.{◌≡◌, ◌≢◌, ℕ, ◌+◌, ◌-◌, ◌*◌, ◌%◌, ◌^◌, ◌<◌, ◌≤◌, ◌==◌, [], ◌∷◌, ◌++◌};
+ghost use Rattle.std.specs.Prelude.{IfNone, IfOk, IfSome, IsPermutation, IsSome, OnErr, OnOk, Some};
+ghost use Rattle.std.specs.Prelude.{count_by, false, length, min, true, vec_capacity, vec_len};
 ghost use Rattle.std.specs.Int.{IsPowerOfTwo};
 ghost use Rattle.hashlink_table.specs.declared.kept.Kept.{Kept};
 ghost use Rattle.hashlink_table.specs.declared.spot.Spot.TheVariants.{Over};
@@ -17,6 +17,7 @@ use super::lanes::LANES;
 use super::own::Own;
 use super::spot::{Found, Spot};
 use super::steps::Steps;
+use std::alloc::{AllocError, Global};
 use std::sync::ledger::Ledger;
 
 // Puts a cell where the first free one is, or after the last if none is free, and returns where.
@@ -347,4 +348,68 @@ pub fn seek<N: Copy, F: Fn(N) -> bool, L: Ledger>(
         }
         None => None,
     }
+}
+
+/// Returns the nodes of the cells over.
+pub fn chained<N: Copy>(alloc: Global, cells: &[Stored<N>]) -> Result<Vec<Kept<N>>, AllocError>
+    ensures { IfOk result (λ list. list.items ≡ nodes_in cells.now) }
+{
+    let mut nodes = Vec::with_capacity(alloc, cells.len())?;
+    for cell in cells {
+        if let Some(kept) = cell.kept() {
+            nodes.push_reserved(kept);
+        }
+    }
+    Ok(nodes)
+}
+
+/// Moves the cells over to this block. If it fails, nothing changes.
+pub fn move_to<N: Copy>(
+    cells: &mut Vec<Stored<N>>,
+    mut block: Vec<Stored<N>>,
+) -> Result<(), AllocError>
+    requires { block.items ≡ [] }
+    ensures items { cells.new.items ≡ cells.old.items }
+    ensures capacity { min (vec_capacity block) (vec_capacity cells.old) ≤ vec_capacity cells.new }
+    ensures moved { OnOk result (vec_capacity block ≤ vec_capacity cells.new) }
+{
+    block.append(cells)?;
+    *cells = block;
+    Ok(())
+}
+
+/// Doubles the buckets. The cells over move to this block, and their nodes are taken out and returned. If it fails,
+/// no node changes, and the block may be kept.
+//
+// The cells over move before the buckets' cells, which then find room where the cells over were: so the heap stays
+// small, and `malloc` gives less of it back to the system, to take it again. They are emptied last, so that nothing
+// is lost where the buckets' cells get no memory.
+pub fn double<N: Copy>(
+    firsts: &mut Own<N>,
+    cells: &mut Vec<Stored<N>>,
+    block: Vec<Stored<N>>,
+    filler: N,
+) -> Result<Vec<Kept<N>>, AllocError>
+    requires power { IsPowerOfTwo (length firsts.old) }
+    requires whole { length firsts.old % LANES ≡ 0 }
+    requires small { length firsts.old ≤ 2 ^ 30 }
+    requires in_place { IsInPlace firsts.old }
+    requires empty { block.items ≡ [] }
+    ensures in_place { OnOk result (IsInPlace firsts.new) }
+    ensures filled { OnOk result (IsFilled firsts.new) }
+    ensures linked { OnOk result (IsLinked (links_of firsts.new) cells.new.items END) }
+    ensures none_over { OnOk result (cells.new.items ≡ []) }
+    ensures len { OnOk result (length firsts.new ≡ 2 * length firsts.old) }
+    ensures nodes { IfOk result (λ list. IsPermutation (nodes_in firsts.old ++ nodes_in cells.old.items)
+        (nodes_in firsts.new ++ list.items)) }
+    ensures roomy { OnOk result (vec_capacity block ≤ vec_capacity cells.new) }
+    ensures firsts_same { OnErr result (firsts.new ≡ firsts.old) }
+    ensures cells_same { OnErr result (cells.new.items ≡ cells.old.items) }
+    ensures capacity { min (vec_capacity block) (vec_capacity cells.old) ≤ vec_capacity cells.new }
+{
+    let nodes = chained(*cells.allocator(), cells)?;
+    move_to(cells, block)?;
+    firsts.double(filler)?;
+    cells.clear();
+    Ok(nodes)
 }

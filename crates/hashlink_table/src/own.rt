@@ -1,11 +1,14 @@
 //! The buckets' own cells, in groups.
-ghost use Rattle.std.specs.Prelude.{◌≡◌, ◌+◌, ◌^◌, ◌<◌, ◌≤◌, [], IfOk, IfSome, IsSome, Some};
+ghost use Rattle.std.specs.Prelude.{◌≡◌, ◌+◌, ◌*◌, ◌^◌, ◌<◌, ◌≤◌, ◌++◌, [], IfOk, IfSome, IsSome, OnErr, OnOk, Some};
 ghost use Rattle.std.specs.Prelude.{length, map, replicate, is_none};
+ghost use Rattle.std.specs.Int.{IsPowerOfTwo};
 ghost use Rattle.std.specs.Simd.Lanes.{mask_l};
 ghost use Rattle.hashlink_table.specs.Chains.{kept_at, next_at};
 ghost use Rattle.hashlink_table.specs.Stored.{bare_cell, tag_of};
 ghost use Rattle.hashlink_table.specs.Own.{may_be, lanes_of, with_kept, without_kept, with_next};
+ghost use Rattle.hashlink_table.specs.Own.{cells_in, doubled, parted, IsTagged};
 
+use super::bucket::bucket_of;
 use super::cell::END;
 use super::kept::Kept;
 use super::lanes::{LANES, lanes_with};
@@ -43,13 +46,43 @@ impl<N> Model for Own<N> {
     ghost invariant = { λ o. IsTagged o.tags.items o.nodes.items o.rests.items };
 }
 
-// The tag of a hash: four bits that say which cell of its group is its bucket's, and three that its bucket
-// does not depend on.
+// The tag of a hash: four bits that say which cell of its group is its bucket's, and four that its bucket does not
+// depend on. A cell without a node has the tag 0, so 1 stands in its place.
 #[inline]
 fn tag(hash: u32) -> u8
     ensures { result ≡ tag_of hash }
 {
-    (hash % 16 * 8 + hash / (1 << 29)) as u8 + 128
+    ((hash % 16 * 16 + hash / (1 << 28)) as u8).max(1)
+}
+
+// Makes two cells of one, itself and the one `count` cells on. Its node stays, or goes to the other one if its bucket,
+// of twice as many, is in the upper half; no chain begins at either. Both are written, by a choice of values: a branch
+// would be mispredicted half the time.
+#[inline]
+fn part<N: Copy>(tags: &mut [u8], nodes: &mut [N], rests: &mut [Rest], at: usize, count: usize)
+    requires power { IsPowerOfTwo (2 * count) }
+    requires small { 2 * count < 2 ^ 64 }
+    requires within { at + count < length tags.old }
+    requires tagged { IsTagged tags.old nodes.old rests.old }
+    ensures tagged { IsTagged tags.new nodes.new rests.new }
+    ensures parted { cells_in tags.new nodes.new rests.new
+        ≡ parted (cells_in tags.old nodes.old rests.old) at count }
+{
+    let rest = Rest {
+        hash: rests[at].hash,
+        link: END as u32,
+    };
+    let tag = tags[at];
+    let (low, high) = if bucket_of(rest.hash, 2 * count) < count {
+        (tag, 0)
+    } else {
+        (0, tag)
+    };
+    tags[at] = low;
+    tags[at + count] = high;
+    nodes[at + count] = nodes[at];
+    rests[at] = rest;
+    rests[at + count] = rest;
 }
 
 impl<N: Copy> Own<N> {
@@ -76,6 +109,45 @@ impl<N: Copy> Own<N> {
         };
         let rests = repeated(alloc, bare, count)?;
         Ok(Own { tags, nodes, rests })
+    }
+
+    /// Doubles the cells, and ends all chains. The node of a cell stays, or goes to the same place in the upper
+    /// half if its bucket is there now. If it fails, it changes nothing.
+    pub fn double(&mut self, filler: N) -> Result<(), AllocError>
+        requires power { IsPowerOfTwo (length self.old) }
+        requires small { length self.old ≤ 2 ^ 30 }
+        ensures ok { OnOk result (self.new ≡ doubled self.old) }
+        ensures err { OnErr result (self.new ≡ self.old) }
+    {
+        let count = self.len();
+        self.widen(count, filler)?;
+        let tags = self.tags.as_mut_slice();
+        let nodes = self.nodes.as_mut_slice();
+        let rests = self.rests.as_mut_slice();
+        for at in 0..count {
+            part(tags, nodes, rests, at, count);
+        }
+        Ok(())
+    }
+
+    // Adds so many cells without nodes. It reserves all that it needs first, so a failure changes nothing.
+    fn widen(&mut self, count: usize, filler: N) -> Result<(), AllocError>
+        requires small { length self.old + count < 2 ^ 64 }
+        ensures ok { OnOk result (self.new ≡ self.old ++ replicate count bare_cell) }
+        ensures err { OnErr result (self.new ≡ self.old) }
+    {
+        self.rests.reserve_exact(count)?;
+        self.nodes.reserve_exact(count)?;
+        self.tags.reserve_exact(count)?;
+        let all = self.tags.len() + count;
+        let bare = Rest {
+            hash: 0,
+            link: END as u32,
+        };
+        self.rests.resize(all, bare)?;
+        self.nodes.resize(all, filler)?;
+        self.tags.resize(all, 0)?;
+        Ok(())
     }
 
     /// How many cells there are.

@@ -6,7 +6,7 @@ ghost use Rattle.hashlink_table.specs.declared.error.TryReserveError.TheVariants
 ghost use Rattle.hashlink_table.specs.Chains.{nodes_in};
 ghost use Rattle.hashlink_table.specs.Contents.{agreeing, len_of, AcceptsOnly, CanAsk, Keeps};
 
-use super::bucket::{bucket_of, buckets_for, group_of};
+use super::bucket::{bucket_of, buckets_for};
 use super::cell::{END, Stored};
 use super::error::TryReserveError;
 use super::kept::Kept;
@@ -309,7 +309,7 @@ impl<N: Copy> Table<N> {
         }
         let needed = self.len + additional;
         let room = needed.max(MIN_ROOM).next_power_of_two();
-        self.rebuild(buckets_for(room), room)?;
+        self.grow(buckets_for(room), room)?;
         Ok(())
     }
 
@@ -330,6 +330,38 @@ impl<N: Copy> Table<N> {
         self.rebuild(buckets_for(len.next_power_of_two()), len)
     }
 
+    // Grows to so many buckets, for this room. If they stay as many, only the cells over get more memory. If they
+    // double, the nodes in the buckets' own cells move without a search. Else a new table is made. If it fails, it
+    // changes no node and no room, but may keep memory that it took.
+    #[cold]
+    fn grow(&mut self, buckets: usize, room: usize) -> Result<(), AllocError>
+        requires power { IsPowerOfTwo buckets }
+        requires more { self.old.room ≤ room }
+        requires headed { room ≤ buckets }
+        requires bounded { buckets ≤ 4 * max 8 room }
+        requires whole { buckets % LANES ≡ 0 }
+        ensures nodes { IsPermutation self.old.nodes self.new.nodes }
+        ensures ok { OnOk result (self.new.room ≡ room) }
+        ensures err { OnErr result (self.new ≡ self.old) }
+    {
+        let now = self.firsts.len();
+        if (buckets != now && buckets != 2 * now) || buckets > MAX_BUCKETS {
+            return self.rebuild(buckets, room);
+        }
+        let block = Vec::with_capacity(*self.overs.allocator(), room)?;
+        if buckets == now {
+            links::move_to(&mut self.overs, block)?;
+            self.room = room;
+            return Ok(());
+        }
+        let chained = links::double(&mut self.firsts, &mut self.overs, block, self.filler)?;
+        self.free = END;
+        self.len -= chained.len();
+        self.room = room;
+        self.insert_all(&chained);
+        Ok(())
+    }
+
     // Puts the nodes into so many new buckets, for this room. If it fails, it changes nothing.
     #[cold]
     fn rebuild(&mut self, buckets: usize, room: usize) -> Result<(), AllocError>
@@ -347,61 +379,34 @@ impl<N: Copy> Table<N> {
         }
         let alloc = *self.overs.allocator();
         let mut table = Table::with_buckets(alloc, self.filler, buckets, room)?;
+        let chained = links::chained(alloc, &self.overs)?;
         table.insert_own(&self.firsts);
-        table.insert_overs(&self.overs);
+        table.insert_all(&chained);
         *self = table;
         Ok(())
     }
 
-    // Inserts a node as `insert_reserved` does, and into this cell if it is a free one of the node's group, which
-    // is then not searched.
-    #[inline]
-    fn insert_into(&mut self, at: usize, kept: Kept<N>)
-        requires { len_of self.old < self.old.room }
-        ensures inserted { IsPermutation (kept ∷ self.old.nodes) self.new.nodes }
-        ensures room { self.new.room ≡ self.old.room }
-    {
-        let bucket = bucket_of(kept.hash, self.firsts.len());
-        if group_of(at) == group_of(bucket) && self.firsts.kept(at).is_none() {
-            self.firsts.put(at, kept);
-            self.len += 1;
-        } else {
-            self.insert_reserved(kept.hash, kept.node);
-        }
-    }
-
-    // Puts the nodes of the buckets' own cells in. Where the table doubles, the nodes of a group go to two groups,
-    // each into the next cell of its own. That cell is a guess, which `insert_into` tests. A search for a free cell
-    // would read the tag that was stored just before, and wait for it.
+    // Puts the nodes in that another table has in its buckets' own cells.
     fn insert_own(&mut self, cells: &Own<N>)
         requires { len_of self.old + length (nodes_in cells.now) ≤ self.old.room }
         ensures inserted { IsPermutation (self.old.nodes ++ nodes_in cells.now) self.new.nodes }
         ensures room { self.new.room ≡ self.old.room }
     {
-        let buckets = cells.len();
-        let mut guesses = [0, 0]; // for the lower half of the buckets, and for the upper
-        for at in 0..buckets {
-            if at % LANES == 0 {
-                guesses = [at, at.wrapping_add(buckets)];
-            }
+        for at in 0..cells.len() {
             if let Some(kept) = cells.kept(at) {
-                let half = (kept.hash as usize & buckets != 0) as usize;
-                self.insert_into(guesses[half], kept);
-                guesses[half] = guesses[half].wrapping_add(1);
+                self.insert_reserved(kept.hash, kept.node);
             }
         }
     }
 
-    // Puts the nodes of the cells over in.
-    fn insert_overs(&mut self, cells: &[Stored<N>])
-        requires { len_of self.old + length (nodes_in cells.now) ≤ self.old.room }
-        ensures inserted { IsPermutation (self.old.nodes ++ nodes_in cells.now) self.new.nodes }
+    // Puts these nodes in.
+    fn insert_all(&mut self, list: &[Kept<N>])
+        requires { len_of self.old + length list.now ≤ self.old.room }
+        ensures inserted { IsPermutation (self.old.nodes ++ list.now) self.new.nodes }
         ensures room { self.new.room ≡ self.old.room }
     {
-        for cell in cells {
-            if let Some(kept) = cell.kept() {
-                self.insert_reserved(kept.hash, kept.node);
-            }
+        for kept in list {
+            self.insert_reserved(kept.hash, kept.node);
         }
     }
 }

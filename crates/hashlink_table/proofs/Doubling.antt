@@ -1,0 +1,157 @@
+-- The buckets' own cells are doubled: where each node is then, and that no bucket has a chain.
+use Rattle.std.proofs.Common.{◌≡◌, ℕ, ◌+◌, ◌-◌, ◌*◌, ◌/◌, ◌%◌, ◌<◌, ◌≤◌, ltb, Bool, true, false, cond, inl, inr}
+use Rattle.std.proofs.Common.{List, [], ◌∷◌, ◌++◌, length, map, get_or, Option, None, Some}
+use Rattle.std.proofs.Common.{refl, sym, ap, ◌∙◌, subst, arith}
+use Rattle.std.specs.Prelude.{IsPermutation}
+use Rattle.std.proofs.Math.Arith.{mod-mul}
+use Rattle.std.proofs.Math.ListN.{get_or-map}
+use Rattle.std.proofs.lemmas.Bool.{cases_lt, ltb-true, ltb-false}
+use Rattle.std.proofs.lemmas.List.{get_or_append_left, get_or-append_right, length-append, length-map}
+use Rattle.std.proofs.lemmas.List.Sorted.{IsPermutation-refl, IsPermutation-sym, IsPermutation-trans}
+use Rattle.std.proofs.lemmas.List.Sorted.{IsPermutation-cons, IsPermutation-middle}
+use Rattle.std.proofs.lemmas.Nat.{mod_below}
+use Rattle.std.proofs.lemmas.Option.{same_Some}
+use Rattle.hashlink_table.specs.declared.kept.Kept.{Kept}
+use Rattle.hashlink_table.specs.declared.cell.Cell.{Cell}
+use Rattle.hashlink_table.specs.declared.cell.TheConstants.{END}
+use Rattle.hashlink_table.specs.Chains.{next_at, links_of, nodes_in, with_node}
+use Rattle.hashlink_table.specs.Chains.{AreGrouped, IsFilled, IsInPlace, IsLinked}
+use Rattle.hashlink_table.specs.Stored.{bare_cell}
+use Rattle.hashlink_table.specs.Own.{doubled, high_half, high_kept, low_half, low_kept}
+use Rattle.hashlink_table.proofs.Moving.{within_kept}
+use Rattle.hashlink_table.proofs.Nodes.{nodes_in-append}
+use Rattle.hashlink_table.proofs.Sound.{filled-none, linked-none}
+
+-- a hash's bucket among twice as many: the same, or so many further on
+bucket_low : (h m : ℕ) → 0 < m → h % (2 * m) < m → h % (2 * m) ≡ h % m
+bucket_low h m some low = elim (cases_lt (h / m % 2) 1) as (λ _. h % (2 * m) ≡ h % m) [
+  | inl none ↦
+      let e : h / m % 2 ≡ 0 = omega (arith, none) in
+      omega (arith, mod-mul h {m = 2} (omega arith) some ∙ ap (λ q. q * m + h % m) e)
+  | inr one ↦
+      let e : h / m % 2 ≡ 1 = omega (arith, one) in
+      absurd (omega (arith, low, mod-mul h {m = 2} (omega arith) some ∙ ap (λ q. q * m + h % m) e))
+]
+
+bucket_high : (h m : ℕ) → 0 < m → m ≤ h % (2 * m) → h % (2 * m) ≡ h % m + m
+bucket_high h m some high = elim (cases_lt (h / m % 2) 1) as (λ _. h % (2 * m) ≡ h % m + m) [
+  | inl none ↦
+      let e : h / m % 2 ≡ 0 = omega (arith, none) in
+      absurd (omega (
+        arith,
+        high,
+        mod_below h m some,
+        mod-mul h {m = 2} (omega arith) some
+            ∙ ap (λ q. q * m + h % m) e,
+      ))
+  | inr one ↦
+      let e : h / m % 2 ≡ 1 = omega (arith, one) in
+      omega (arith, mod-mul h {m = 2} (omega arith) some ∙ ap (λ q. q * m + h % m) e)
+]
+
+module _ {N : Type 0} where
+  -- a node that stays, and one that moves
+  stays : (m : ℕ) (o : Option (Kept N)) (k : Kept N) → low_kept m o ≡ Some k
+      → (o ≡ Some k) × (k.hash % (2 * m) < m)
+  stays m None k e = absurd (cc e)
+  stays m (Some j) k e = by (ltb (j.hash % (2 * m)) m) refl e
+    where
+      by : (b : Bool) → ltb (j.hash % (2 * m)) m ≡ b → cond b (Some j) None ≡ Some k
+          → (Some j ≡ Some k) × (k.hash % (2 * m) < m)
+      by true is e = (e, subst (λ (i : Kept N). i.hash % (2 * m) < m) (same_Some j k e) (ltb-true _ m is))
+      by false is e = absurd (cc e)
+
+  moves : (m : ℕ) (o : Option (Kept N)) (k : Kept N) → high_kept m o ≡ Some k
+      → (o ≡ Some k) × (m ≤ k.hash % (2 * m))
+  moves m None k e = absurd (cc e)
+  moves m (Some j) k e = by (ltb (j.hash % (2 * m)) m) refl e
+    where
+      by : (b : Bool) → ltb (j.hash % (2 * m)) m ≡ b → cond b None (Some j) ≡ Some k
+          → (Some j ≡ Some k) × (m ≤ k.hash % (2 * m))
+      by true is e = absurd (cc e)
+      by false is e = (e, subst (λ (i : Kept N). m ≤ i.hash % (2 * m)) (same_Some j k e) (ltb-false _ m is))
+
+  -- the nodes of both halves
+  parted-nodes : (m : ℕ) (cells : List (Cell N))
+      → IsPermutation (nodes_in cells) (nodes_in (map (low_half m) cells) ++ nodes_in (map (high_half m) cells))
+  parted-nodes m [] = IsPermutation-refl []
+  parted-nodes m (c ∷ cs) = by c.kept (parted-nodes m cs)
+    where
+      low : List (Kept N)
+      low = nodes_in (map (low_half m) cs)
+
+      high : List (Kept N)
+      high = nodes_in (map (high_half m) cs)
+
+      by : (o : Option (Kept N)) → IsPermutation (nodes_in cs) (low ++ high)
+          → IsPermutation (with_node o (nodes_in cs)) (with_node (low_kept m o) low ++ with_node (high_kept m o) high)
+      by None rest = rest
+      by (Some k) rest =
+          elim (ltb (k.hash % (2 * m)) m) as (λ b. IsPermutation (k ∷ nodes_in cs)
+          (with_node (cond b (Some k) None) low ++ with_node (cond b None (Some k)) high)) [
+            | true ↦ IsPermutation-cons k _ _ rest
+            | false ↦ IsPermutation-trans _ _ _ (IsPermutation-cons k _ _ rest)
+                (IsPermutation-sym _ _ (IsPermutation-middle low k high))
+          ]
+
+  module _ (cells : List (Cell N)) where
+    abbrev lower : List (Cell N)
+    lower = map (low_half (length cells)) cells
+
+    abbrev upper : List (Cell N)
+    upper = map (high_half (length cells)) cells
+
+    length-lower : length lower ≡ length cells
+    length-lower = length-map cells (low_half (length cells))
+
+    pub length-doubled : length (doubled cells) ≡ 2 * length cells
+    length-doubled =
+        omega (arith, length-append lower upper, length-lower, length-map cells (high_half (length cells)))
+
+    -- what stands in each half
+    read_low : (at : ℕ) → at < length cells
+        → get_or (doubled cells) at bare_cell ≡ low_half (length cells) (get_or cells at bare_cell)
+    read_low at low =
+        get_or_append_left lower upper bare_cell at (omega (arith, low, length-lower))
+        ∙ get_or-map (low_half (length cells)) cells at bare_cell
+
+    read_high : (at : ℕ) → length cells ≤ at
+        → get_or (doubled cells) at bare_cell
+        ≡ high_half (length cells) (get_or cells (at - length cells) bare_cell)
+    read_high at high =
+        get_or-append_right lower upper (length cells) at bare_cell length-lower high
+        ∙ get_or-map (high_half (length cells)) cells (at - length cells) bare_cell
+
+    -- no bucket has a chain
+    none-doubled : (b : ℕ) → next_at (doubled cells) b ≡ END
+    none-doubled b = elim (cases_lt b (length cells)) as (λ _. next_at (doubled cells) b ≡ END) [
+      | inl low ↦ ap (λ (c : Cell N). c.next) (read_low b low)
+      | inr high ↦ ap (λ (c : Cell N). c.next) (read_high b high)
+    ]
+
+    pub linked-doubled : IsLinked {N = N} (links_of (doubled cells)) [] END
+    linked-doubled = linked-none (doubled cells) none-doubled
+
+    pub filled-doubled : IsFilled (doubled cells)
+    filled-doubled = filled-none (doubled cells) none-doubled
+
+    -- each node is still in the group of its bucket
+    pub in_place-doubled : length cells % 16 ≡ 0 → IsInPlace cells → IsInPlace (doubled cells)
+    in_place-doubled whole p at k is =
+        subst (λ n. AreGrouped (k.hash % n) at) (sym length-doubled)
+        (elim (cases_lt at (length cells)) as (λ _. AreGrouped (k.hash % (2 * length cells)) at) [
+          | inl low ↦
+              let s = stays (length cells) _ k (sym (ap (λ (c : Cell N). c.kept) (read_low at low)) ∙ is) in
+              let bucket = bucket_low k.hash (length cells) (omega (arith, low)) s.1 in
+              ap (λ b. b / 16) bucket ∙ p at k s.0
+          | inr high ↦
+              let s = moves (length cells) _ k (sym (ap (λ (c : Cell N). c.kept) (read_high at high)) ∙ is) in
+              let within = within_kept cells (at - length cells) k s.0 in
+              let bucket = bucket_high k.hash (length cells) (omega (arith, within)) s.1 in
+              omega (arith, whole, high, bucket, p (at - length cells) k s.0)
+        ])
+
+    -- and it is the same nodes
+    pub nodes_in-doubled : IsPermutation (nodes_in cells) (nodes_in (doubled cells))
+    nodes_in-doubled =
+        subst (IsPermutation (nodes_in cells)) (sym (nodes_in-append lower upper)) (parted-nodes (length cells) cells)
