@@ -8,8 +8,8 @@ use Rattle.std.proofs.lemmas.List.{append_assoc, length-append}
 use Rattle.hashlink_nodes.specs.declared.node.Node.{Node}
 use Rattle.hashlink_nodes.specs.declared.held.Held.{Held}
 use Rattle.hashlink_nodes.specs.Node.{same_node, eq-same_node}
-use Rattle.hashlink_nodes.specs.State.{State, set_at, store_next, store_prev, hold, add, detached, attached}
-use Rattle.hashlink_nodes.specs.State.{Drops}
+use Rattle.hashlink_nodes.specs.State.{State, set_at, store_next, store_prev, hold, detached, attached}
+use Rattle.hashlink_nodes.specs.State.{Adds, MakesGuard, Drops}
 use Rattle.hashlink_nodes.specs.Shape.{IsPath, IsWayBack, IsChain, IsShaped}
 use Rattle.hashlink_nodes.proofs.Paths.{head_or, last_or, Off, IsOff, flip, set_at_here, set_at_other}
 use Rattle.hashlink_nodes.proofs.Paths.{all_left}
@@ -84,6 +84,12 @@ module _ {K V : Type 0} where
     pub size : s.size ≡ length nodes + length free + 2
     pub few : length nodes + length free + 1 < 2 ^ 63
 
+  has_not : (s : State K V) (n m : Node) → s.has n ≡ false → s.has m ≡ true → same_node n m ≡ false
+  has_not s n m h k = (elim (same_node n m) as (λ (y : Bool). same_node n m ≡ y → y ≡ false) [
+    | true ↦ λ e. let same : n ≡ m = eq-same_node n m e in sym k ∙ ap s.has (sym same) ∙ h
+    | false ↦ λ e. refl
+  ]) refl
+
   module _ (s : State K V) (g first : Node) where
     pub take_spare : (ns : List Node) (n : Node) (fs : List Node) → IsShaped s g first ns (n ∷ fs)
         → IsLoose s g (s.next n) ns fs n
@@ -98,6 +104,34 @@ module _ {K V : Type 0} where
       size = omega (arith, h.size);
       few = omega (arith, h.few);
     }
+
+    pub add_loose : (s' : State K V) (ns fs : List Node) (n : Node) (o : Option (Held K V))
+        → IsShaped s g first ns fs → Adds n o s s' → length ns + length fs + 1 < 2 ^ 63
+        → IsLoose s' g first ns fs n
+    add_loose s' ns fs n o h a few =
+        let off : IsOff n (g ∷ (ns ++ fs)) = all_as (λ m k. has_not s n m a.absent k) (g ∷ (ns ++ fs)) h.there in
+        let on_ring = all_left (Off n) (g ∷ ns) fs off in let on_free = all_right (Off n) (g ∷ ns) fs off in
+        let holds : (m : Node) → same_node n m ≡ false → s'.held m ≡ s.held m
+        = λ m k. ap (λ f. f m) a.held ∙ set_at_other s.held n m o (flip n m k) in
+        let there : (m : Node) → same_node n m ≡ false → s'.has m ≡ s.has m
+        = λ m k. ap (λ f. f m) a.has ∙ set_at_other s.has n m true (flip n m k) in
+        record {
+          forward = path_same s'.next s.next g ns g (agrees_off s'.next s.next n (g ∷ ns) a.next on_ring)
+              h.forward;
+          backward =
+              back_same s'.prev s.prev g ns g (agrees_off s'.prev s.prev n ns a.prev on_ring.1)
+              (a.prev g (flip n g off.0)) h.backward;
+          chain = chain_same s'.next s.next first fs (agrees_off s'.next s.next n fs a.next on_free) h.chain;
+          apart = distinct_cons n _ off h.apart;
+          full = all_zip (λ m k d. ap is_some (holds m d) ∙ k) ns h.full on_ring.1;
+          bare = (holds g off.0 ∙ h.bare.0, all_zip (λ m k d. holds m d ∙ k) fs h.bare.1 on_free);
+          there = (
+            ap (λ f. f n) a.has ∙ set_at_here s.has n true,
+            all_zip (λ m k d. there m d ∙ k) (g ∷ (ns ++ fs)) h.there off,
+          );
+          size = omega (arith, h.size, a.size);
+          few = few;
+        }
 
     pub detach_loose : (xs : List Node) (n : Node) (ys fs : List Node) → IsShaped s g first (xs ++ n ∷ ys) fs
         → IsLoose (detached n s) g first (xs ++ ys) fs n
@@ -239,52 +273,18 @@ module _ {K V : Type 0} where
           few = omega (arith, h.few);
         }
 
-  pub has_not : (s : State K V) (n m : Node) → s.has n ≡ false → s.has m ≡ true → same_node n m ≡ false
-  has_not s n m h k = (elim (same_node n m) as (λ (y : Bool). same_node n m ≡ y → y ≡ false) [
-    | true ↦ λ e. let same : n ≡ m = eq-same_node n m e in sym k ∙ ap s.has (sym same) ∙ h
-    | false ↦ λ e. refl
-  ]) refl
-
-  -- a new node is spare, where none was
-  pub fresh_spare : (s : State K V) (g first : Node) (ns : List Node) (n : Node) → IsShaped s g first ns []
-      → s.has n ≡ false → length ns + 1 < 2 ^ 63
-      → IsShaped (add n s) g n ns (n ∷ [])
-  unfolding add
-  fresh_spare s g first ns n h new few =
-      let off : IsOff n (g ∷ (ns ++ [])) = all_as (λ m k. has_not s n m new k) (g ∷ (ns ++ [])) h.there in
-      let on_ring : IsOff n (g ∷ ns) = all_left (Off n) (g ∷ ns) [] off in
-      record {
-        forward =
-            path_same (set_at s.next n n) s.next g ns g
-            (agrees_off (set_at s.next n n) s.next n (g ∷ ns) (λ m k. set_at_other s.next n m n k) on_ring)
-            h.forward;
-        backward =
-            back_same (set_at s.prev n n) s.prev g ns g
-            (agrees_off (set_at s.prev n n) s.prev n ns (λ m k. set_at_other s.prev n m n k) on_ring.1)
-            (set_at_other s.prev n g n (flip n g off.0)) h.backward;
-        chain = (refl, tt);
-        apart = distinct_middle (g ∷ ns) n [] off h.apart;
-        full = all_zip (λ m k o. ap is_some (set_at_other s.held n m None (flip n m o)) ∙ k)
-            ns h.full on_ring.1;
-        bare = (set_at_other s.held n g None (flip n g off.0) ∙ h.bare.0, (set_at_here s.held n None, tt));
-        there =
-            all_with (λ m. set_at s.has n true m ≡ true) (g ∷ ns) n [] (set_at_here s.has n true)
-            (all_zip (λ m k o. set_at_other s.has n m true (flip n m o) ∙ k) (g ∷ (ns ++ [])) h.there off);
-        size = omega (arith, h.size);
-        few = omega (arith, few);
-      }
-
   -- a first node is the guard
-  pub guard_made : (s : State K V) (g first : Node) → s.size ≡ 0 → IsShaped (add g s) g first [] []
-  unfolding add IsDistinct
-  guard_made s g first none = record {
-    forward = set_at_here s.next g g;
-    backward = set_at_here s.prev g g;
+  pub guard_made : (s s' : State K V) (g first : Node) → s.size ≡ 0 → MakesGuard g s s'
+      → IsShaped s' g first [] []
+  unfolding IsDistinct
+  guard_made s s' g first none m = record {
+    forward = m.next;
+    backward = m.prev;
     chain = tt;
     apart = (tt, tt);
     full = tt;
-    bare = (set_at_here s.held g None, tt);
-    there = (set_at_here s.has g true, tt);
-    size = omega (arith, none);
+    bare = (ap (λ f. f g) m.adds.held ∙ set_at_here s.held g None, tt);
+    there = (ap (λ f. f g) m.adds.has ∙ set_at_here s.has g true, tt);
+    size = omega (arith, none, m.adds.size);
     few = lit< tt;
   }

@@ -131,10 +131,6 @@ module _ {K V : Type 0} where
   unfolding hold
   has_held t m o = refl
 
-  pub prev_held : (t : State K V) (m : Node) (o : Option (Held K V)) → (hold m o t).prev ≡ t.prev
-  unfolding hold
-  prev_held t m o = refl
-
   pub held_moved : (t : State K V) (m p q : Node) → (attached m p q (detached m t)).held ≡ t.held
   unfolding store_next store_prev detached attached
   held_moved t m p q = refl

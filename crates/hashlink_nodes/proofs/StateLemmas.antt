@@ -1,18 +1,19 @@
 -- What the state of the blocks is after one of them changed, came or went.
 use Rattle.std.proofs.Common.{◌≡◌, ℕ, ◌+◌, Bool, true, false, cond, List, [], ◌∷◌, length, Option, None, Some}
-use Rattle.std.proofs.Common.{IsSome}
+use Rattle.std.specs.Prelude.{IsNone}
 use Rattle.std.proofs.Common.{refl, sym, ap, ◌∙◌, arith}
 use Rattle.std.specs.Prelude.{is_some}
 use Rattle.std.specs.Map.{lookup, set_value, remove_entry}
 use Rattle.std.proofs.lemmas.Map.{lookup-set_value, length-set_value}
 use Rattle.std.specs.declared.mem.ManuallyDrop.{ManuallyDrop}
-use Rattle.hashlink_nodes.specs.Node.{same_node, same_node_equiv, eq-same_node, same_node-refl}
+use Rattle.hashlink_nodes.specs.Node.{same_node, same_node_equiv, eq-same_node}
 use Rattle.hashlink_nodes.specs.State.{State, Blocks, state, set_at, next_in, prev_in, held_in, store_next}
-use Rattle.hashlink_nodes.specs.State.{store_prev, hold, add, Drops}
+use Rattle.hashlink_nodes.specs.State.{store_prev, hold, Adds, MakesGuard, Drops}
 use Rattle.hashlink_nodes.specs.declared.node.Node.{Node}
+use Rattle.hashlink_nodes.proofs.Paths.{set_at_here, set_at_other}
 use Rattle.hashlink_nodes.specs.declared.held.Held.{Held}
-use Rattle.hashlink_nodes.specs.declared.link.Link.{Link}
-use Rattle.hashlink_nodes.specs.declared.block.Block.{Block}
+use Rattle.hashlink_nodes.specs.declared.cells.links.Link.{Link}
+use Rattle.hashlink_nodes.specs.declared.cells.links.Block.{Block}
 use Rattle.hashlink_nodes.specs.declared.cells.Cells.{Cells}
 use Rattle.hashlink_nodes.specs.Cells.{state_of}
 use Rattle.hashlink_nodes.specs.CellsLends.{alter, kept_with, cells_with}
@@ -158,62 +159,56 @@ module _ {K V : Type 0} (bs : Blocks K V) (count count' : ℕ) (n : Node) (found
     link_writes = count;
   }
 
-module _ {K V : Type 0} where
-  -- n's block is the first, and links to n itself
-  added_first : (bs : Blocks K V) (count : ℕ) (n : Node) (w : ManuallyDrop (Block K V))
-      → w.value.next ≡ record { to = n } → w.value.prev ≡ record { to = n } → w.value.held ≡ None
-      → state ((n, w) ∷ bs) count ≡ add n (state bs count)
-  unfolding add
-  added_first bs count n w next prev held =
-      λ i. record {
-        next =
-            λ m.
-            (seen_first next_in n m w (lookup (same_node m) bs)
-            ∙ ap (λ x. cond (same_node m n) x ((state bs count).next m)) (ap (λ (l : Link). l.to) next))
-            i;
-        prev =
-            λ m.
-            (seen_first prev_in n m w (lookup (same_node m) bs)
-            ∙ ap (λ x. cond (same_node m n) x ((state bs count).prev m)) (ap (λ (l : Link). l.to) prev))
-            i;
-        held =
-            λ m.
-            (seen_first (λ (k : Node). held_in) n m w (lookup (same_node m) bs)
-            ∙ ap (λ x. cond (same_node m n) x ((state bs count).held m)) held)
-            i;
-        has = λ m. seen_first (λ (k : Node). is_some) n m w (lookup (same_node m) bs) i;
-        size = (let e : length ((n, w) ∷ bs) ≡ length bs + 1 = omega arith in e) i;
-        link_writes = count;
+  -- both links of n, which is new, lead to n itself
+  pub looped : (s : State K V) (next prev : Link) → next ≡ record { to = n } → prev ≡ record { to = n }
+      → Adds n None s (state bs count)
+      → MakesGuard n s (state (set_value (same_node n) bs (written next old.held prev)) count)
+  looped s next prev is_next is_prev a =
+      let w = written next old.held prev in let t = state (set_value (same_node n) bs w) count in
+      let after : t.next ≡ set_at (state bs count).next n n
+      = seen_at Next_of n bs found w e
+      ∙ ap (λ x. set_at (state bs count).next n x) (ap (λ (l : Link). l.to) is_next) in
+      let before : t.prev ≡ set_at (state bs count).prev n n
+      = seen_at Prev_of n bs found w e
+      ∙ ap (λ x. set_at (state bs count).prev n x) (ap (λ (l : Link). l.to) is_prev) in
+      record {
+        adds = record {
+          absent = a.absent;
+          next = λ m k. ap (λ f. f m) after ∙ set_at_other (state bs count).next n m n k ∙ a.next m k;
+          prev = λ m k. ap (λ f. f m) before ∙ set_at_other (state bs count).prev n m n k ∙ a.prev m k;
+          held = seen_same Held_of n bs found w e same_held ∙ a.held;
+          has = seen_same Has n bs found w e refl ∙ a.has;
+          size = length-set_value (same_node n) bs w ∙ a.size;
+          link_writes = a.link_writes;
+        };
+        next = ap (λ f. f n) after ∙ set_at_here (state bs count).next n n;
+        prev = ap (λ f. f n) before ∙ set_at_here (state bs count).prev n n;
       }
 
-  pub added : (bs bs' : Blocks K V) (count : ℕ) (n : Node) (kept found : ManuallyDrop (Block K V))
-      (old : Block K V) (next prev : Link)
-      → bs' ≡ (n, kept) ∷ bs → lookup (same_node n) bs' ≡ Some found → old ≡ found.value
-      → kept.value.held ≡ None
-      → next ≡ record { to = n } → prev ≡ record { to = n }
-      → state (set_value (same_node n) bs'
-      (record { value = record { next = next; held = old.held; prev = prev } })) count
-      ≡ add n (state bs count)
-  added bs bs' count n kept found old next prev is e is_old bare is_next is_prev =
-      let w : ManuallyDrop (Block K V)
-      = record { value = record { next = next; held = old.held; prev = prev } } in
-      let here = same_node-refl n in
-      let first : Some kept ≡ Some found
-      = sym (ap (λ y. cond y (Some kept) (lookup (same_node n) bs)) here)
-      ∙ sym (ap (lookup (same_node n)) is) ∙ e in
-      let same : kept ≡ found = cc in
-      let none : old.held ≡ None
-      = ap (λ (o : Block K V). o.held) (is_old ∙ ap (λ (m : ManuallyDrop (Block K V)). m.value) (sym same))
-      ∙ bare in
-      ap (λ (cs : Blocks K V). state (set_value (same_node n) cs w) count) is
-      ∙ ap (λ y. state (cond y ((n, w) ∷ bs) ((n, kept) ∷ set_value (same_node n) bs w)) count) here
-      ∙ added_first bs count n w is_next is_prev none
-
-  pub kept_first : (bs bs' : Blocks K V) (n : Node) (kept : ManuallyDrop (Block K V)) → bs' ≡ (n, kept) ∷ bs
-      → IsSome (lookup (same_node n) bs')
-  kept_first bs bs' n kept is =
-      ap (λ (cs : Blocks K V). is_some (lookup (same_node n) cs)) is
-      ∙ ap (λ y. is_some (cond y (Some kept) (lookup (same_node n) bs))) (same_node-refl n)
+module _ {K V : Type 0} where
+  -- a block came in
+  pub added : (bs bs' : Blocks K V) (count : ℕ) (n : Node) (b : ManuallyDrop (Block K V))
+      (h : Option (Held K V))
+      → bs' ≡ (n, b) ∷ bs → IsNone (lookup (same_node n) bs) → b.value.held ≡ h
+      → Adds n h (state bs count) (state bs' count)
+  added bs bs' count n b h is apart held =
+      let at : (m : Node) → lookup (same_node m) bs' ≡ cond (same_node m n) (Some b) (lookup (same_node m) bs)
+      = λ m. ap (lookup (same_node m)) is in
+      let off : (m : Node) → same_node m n ≡ false → lookup (same_node m) bs' ≡ lookup (same_node m) bs
+      = λ m k. at m ∙ ap (λ y. cond y (Some b) (lookup (same_node m) bs)) k in
+      record {
+        absent = apart;
+        next = λ m k. ap (next_in m) (off m k);
+        prev = λ m k. ap (prev_in m) (off m k);
+        held = λ i m.
+            (ap held_in (at m) ∙ seen_first (λ (k : Node). held_in) n m b (lookup (same_node m) bs)
+            ∙ ap (λ x. cond (same_node m n) x ((state bs count).held m)) held)
+            i;
+        has = λ i m.
+            (ap is_some (at m) ∙ seen_first (λ (k : Node). is_some) n m b (lookup (same_node m) bs)) i;
+        size = ap length is ∙ omega arith;
+        link_writes = refl;
+      }
 
   pub dropped : (bs bs' : Blocks K V) (count : ℕ) (n : Node) → is_some (lookup (same_node n) bs) ≡ true
       → bs' ≡ remove_entry (same_node n) bs

@@ -5,7 +5,7 @@ use Rattle.std.specs.declared.mem.ManuallyDrop.{ManuallyDrop}
 use Rattle.hashlink_nodes.specs.Node.{same_node}
 use Rattle.hashlink_nodes.specs.declared.node.Node.{Node}
 use Rattle.hashlink_nodes.specs.declared.held.Held.{Held}
-use Rattle.hashlink_nodes.specs.declared.block.Block.{Block}
+use Rattle.hashlink_nodes.specs.declared.cells.links.Block.{Block}
 
 pub record State (K V : Type 0) : Type 0 where
   pub next : Node → Node
@@ -59,16 +59,21 @@ module _ {K V : Type 0} where
   unfoldable pub hold : Node → Option (Held K V) → State K V → State K V
   hold n h s = record s { held = set_at s.held n h }
 
-  -- n is new: it links to itself, and holds nothing
-  unfoldable pub add : Node → State K V → State K V
-  add n s =
-      record s {
-        next = set_at s.next n n;
-        prev = set_at s.prev n n;
-        held = set_at s.held n None;
-        has = set_at s.has n true;
-        size = s.size + 1;
-      }
+  -- n is new and holds h, its links lead anywhere, and no other node changed
+  pub record Adds (n : Node) (h : Option (Held K V)) (old new : State K V) : Type 0 where
+    pub absent : old.has n ≡ false
+    pub next : (m : Node) → same_node m n ≡ false → new.next m ≡ old.next m
+    pub prev : (m : Node) → same_node m n ≡ false → new.prev m ≡ old.prev m
+    pub held : new.held ≡ set_at old.held n h
+    pub has : new.has ≡ set_at old.has n true
+    pub size : new.size ≡ old.size + 1
+    pub link_writes : new.link_writes ≡ old.link_writes
+
+  -- g is new: it links to itself, and holds nothing
+  pub record MakesGuard (g : Node) (old new : State K V) : Type 0 where
+    pub adds : Adds g None old new
+    pub next : new.next g ≡ g
+    pub prev : new.prev g ≡ g
 
   -- the neighbours of n link past it
   unfoldable pub detached : Node → State K V → State K V
@@ -89,5 +94,5 @@ module _ {K V : Type 0} where
 
   -- the guard is there, or it was made
   abbrev pub GuardIs : State K V → State K V → Option Node → Node → Type 0
-  GuardIs s s' None g = s' ≡ add g s
+  GuardIs s s' None g = MakesGuard g s s'
   GuardIs s s' (Some x) g = (g ≡ x) × (s' ≡ s)

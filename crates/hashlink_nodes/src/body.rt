@@ -75,10 +75,20 @@ impl<K, V> Model for Body<K, V> {
 impl<K, V> Body<K, V> {
     ghost use Rattle.hashlink_nodes.specs.BodyLends.{LendsValueOf};
 
-    pub(crate) fn bare() -> Self
-        ensures { result ≡ None }
+    #[inline]
+    pub(crate) fn of(held: Option<Held<K, V>>) -> Self
+        requires { IfSome held (λ h. h.number < 2 ^ 48) }
+        ensures { result ≡ held }
     {
-        Body { slot: Slot::Bare }
+        let slot = match held {
+            Some(Held { number, key, value }) => Slot::Full {
+                number_high: (number / LOW) as u16,
+                number_low: (number % LOW) as u32,
+                pair: Pair { key, value },
+            },
+            None => Slot::Bare,
+        };
+        Body { slot }
     }
 
     #[inline]
@@ -175,18 +185,7 @@ impl<K, V> Body<K, V> {
         ensures was { result ≡ self.old }
         ensures is { self.new ≡ held }
     {
-        let slot = match held {
-            Some(Held { number, key, value }) => Slot::Full {
-                number_high: (number / LOW) as u16,
-                number_low: (number % LOW) as u32,
-                pair: Pair { key, value },
-            },
-            None => Slot::Bare,
-        };
-        Body {
-            slot: mem::replace(&mut self.slot, slot),
-        }
-        .into_held()
+        mem::replace(self, Body::of(held)).into_held()
     }
 
     #[inline]

@@ -1,7 +1,7 @@
 //! The blocks of a ring, by their nodes: safe code over the arena.
 ghost use Rattle.std.specs.Prelude.{◌≡◌, ◌^◌, ◌<◌, true, false, [], IfOk, OnErr, Some, IsSome, IfSome};
 ghost use Rattle.std.specs.Prelude.{is_some};
-ghost use Rattle.hashlink_nodes.specs.State.{state, store_next, store_prev, hold, add, detached, attached};
+ghost use Rattle.hashlink_nodes.specs.State.{state, hold, detached, attached};
 ghost use Rattle.hashlink_nodes.specs.State.{Drops};
 ghost use Rattle.hashlink_nodes.specs.State.{GuardIs};
 ghost use Rattle.std.specs.Option.{option_map};
@@ -9,13 +9,12 @@ ghost use Rattle.std.specs.Borrow.{sem};
 ghost use Rattle.hashlink_nodes.specs.Ring.{pair_of, with_value, with_key, with_number};
 ghost use Rattle.hashlink_nodes.specs.Cells.{state_of};
 
+mod links;
+
+use self::links::Block;
 use crate::arena::Arena;
-use crate::block::Block;
-use crate::body::Body;
 use crate::held::Held;
-use crate::link::Link;
 use crate::link_writes::LinkWrites;
-use crate::loose::Loose;
 use crate::node::Node;
 use std::alloc::{AllocError, Global};
 use std::mem::ManuallyDrop;
@@ -36,24 +35,6 @@ impl<K, V> Cells<K, V> {
             arena: Arena::new(),
             writes: LinkWrites::new(),
         }
-    }
-
-    #[inline]
-    pub(crate) fn next(&self, node: Node) -> Node
-        requires { (state_of self.now).has node ≡ true }
-        ensures { result ≡ (state_of self.now).next node }
-    {
-        let block: &Block<K, V> = self.arena.get(node);
-        block.next.to()
-    }
-
-    #[inline]
-    pub(crate) fn prev(&self, node: Node) -> Node
-        requires { (state_of self.now).has node ≡ true }
-        ensures { result ≡ (state_of self.now).prev node }
-    {
-        let block: &Block<K, V> = self.arena.get(node);
-        block.prev.to()
     }
 
     /// Returns whether the node holds an entry.
@@ -84,24 +65,6 @@ impl<K, V> Cells<K, V> {
     {
         let block: &Block<K, V> = self.arena.get(node);
         block.held.pair()
-    }
-
-    #[inline]
-    pub(crate) fn store_next(&mut self, node: Node, to: Node)
-        requires { (state_of self.old).has node ≡ true }
-        ensures { state_of self.new ≡ store_next node to (state_of self.old) }
-    {
-        let block: &mut Block<K, V> = self.arena.get_mut(node);
-        block.next.store(to, &mut self.writes);
-    }
-
-    #[inline]
-    pub(crate) fn store_prev(&mut self, node: Node, to: Node)
-        requires { (state_of self.old).has node ≡ true }
-        ensures { state_of self.new ≡ store_prev node to (state_of self.old) }
-    {
-        let block: &mut Block<K, V> = self.arena.get_mut(node);
-        block.prev.store(to, &mut self.writes);
     }
 
     /// Replaces what the node holds by `held`, and returns what it held before.
@@ -168,29 +131,6 @@ impl<K, V> Cells<K, V> {
         block.held.set_number(number);
     }
 
-    /// Allocates a node that holds nothing and links to itself. These two links are not counted.
-    pub(crate) fn make(&mut self, alloc: Global) -> Result<Node, AllocError>
-        ensures made { IfOk result (λ n. state_of self.new ≡ add n (state_of self.old)) }
-        ensures apart { IfOk result (λ n. (state_of self.old).has n ≡ false) }
-        ensures refused { OnErr result (self.new ≡ self.old) }
-    {
-        let block = Block {
-            next: Link::new(Node::nowhere()),
-            held: Body::bare(),
-            prev: Link::new(Node::nowhere()),
-        };
-        match Box::new(alloc, unsafe { ManuallyDrop::new_unchecked(block) }) {
-            Ok(boxed) => {
-                let node = self.arena.keep(Loose::of(boxed));
-                let block: &mut Block<K, V> = self.arena.get_mut(node);
-                block.next = Link::new(node);
-                block.prev = Link::new(node);
-                Ok(node)
-            }
-            Err(_) => Err(AllocError),
-        }
-    }
-
     /// Returns the guard, and allocates it if there is none.
     pub(crate) fn guard(&mut self, guard: Option<Node>, alloc: Global) -> Result<Node, AllocError>
         ensures made { IfOk result (λ g. GuardIs (state_of self.old) (state_of self.new) guard g) }
@@ -198,7 +138,7 @@ impl<K, V> Cells<K, V> {
     {
         match guard {
             Some(guard) => Ok(guard),
-            None => self.make(alloc),
+            None => self.make_guard(alloc),
         }
     }
 
@@ -209,13 +149,7 @@ impl<K, V> Cells<K, V> {
         ensures dropped { Drops node (state_of self.old) (state_of self.new) }
     {
         let boxed = self.arena.give_back(node, alloc).into_box();
-        let block = ManuallyDrop::into_inner(Box::into_inner(boxed));
-        let Block {
-            next: _,
-            held,
-            prev: _,
-        } = block;
-        held.into_held()
+        ManuallyDrop::into_inner(Box::into_inner(boxed)).into_held()
     }
 
     /// Links the neighbours of the node past it.

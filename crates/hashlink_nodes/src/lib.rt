@@ -2,11 +2,9 @@
 #![tactic(auto)]
 
 mod arena;
-mod block;
 mod body;
 mod cells;
 mod held;
-mod link;
 mod link_writes;
 mod loose;
 mod node;

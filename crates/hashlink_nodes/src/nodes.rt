@@ -16,7 +16,7 @@ mod values;
 use crate::cells::Cells;
 use crate::held::Held;
 use crate::node::Node;
-use std::alloc::{AllocError, Global};
+use std::alloc::Global;
 use std::marker::Model;
 
 /// Entries in a ring of nodes, and spare nodes, which the next new entries use. Each node is a block of its
@@ -69,7 +69,7 @@ impl<K, V> Nodes<K, V> {
 
     /// Inserts an entry directly before the place, and returns its node. It allocates only if no node is
     /// spare. If that allocation fails, it returns the pair in `Err`, and no entry and no spare node changes.
-    /// It stores four links. The two that the guard gets as it is allocated are not counted.
+    /// It stores four links, also for a new node. The two that the guard gets as it is made are not counted.
     pub fn push_before(
         &mut self,
         place: Option<Node>,
@@ -88,14 +88,10 @@ impl<K, V> Nodes<K, V> {
         ensures refused { OnErr result (self.new ≡ self.old) }
         ensures succeeds { 0 < length self.old.free → IsOk result }
     {
-        match self.make_spare() {
-            Ok(()) => {}
-            Err(_) => return Err((key, value)),
+        if self.spare == 0 {
+            return self.push_new(place, number, key, value);
         }
-        let guard = match self.guard {
-            Some(guard) => guard,
-            None => unreachable!(),
-        };
+        let guard = self.guard.unwrap();
         let node = self.first_spare;
         let first_spare = self.cells.next(node);
         match self.cells.hold(node, Some(Held { number, key, value })) {
@@ -111,26 +107,48 @@ impl<K, V> Nodes<K, V> {
         Ok(node)
     }
 
-    /// Makes sure that a node is spare. Of the two blocks that it may allocate, the guard's comes first.
-    fn make_spare(&mut self) -> Result<(), AllocError>
-        ensures entries { self.new.entries ≡ self.old.entries }
-        ensures free { OnOk result
-            ((0 < length self.new.free) × (drop 1 self.new.free ≡ drop 1 self.old.free)) }
-        ensures link_writes { self.new.link_writes ≡ self.old.link_writes }
+    /// Inserts an entry in a new node, where none is spare. Of the two blocks that it may allocate, the guard's
+    /// comes first, and stays if the other is refused.
+    fn push_new(
+        &mut self,
+        place: Option<Node>,
+        number: usize,
+        key: K,
+        value: V,
+    ) -> Result<Node, (K, V)>
+        requires place { IsPlace self.old.entries place }
+        requires small { number < 2 ^ 48 }
+        requires none { self.old.free ≡ [] }
+        ensures entries { IfOk result
+            (λ n. self.new.entries ≡ put_before place (n, held number key value) self.old.entries) }
+        ensures free { OnOk result (self.new.free ≡ []) }
+        ensures apart { OnOk result (IsDistinct same_node (keys_of self.new.entries ++ self.new.free)) }
+        ensures link_writes { OnOk result (self.new.link_writes ≡ self.old.link_writes + 4) }
+        ensures handed_back { IfErr result (λ pair. pair ≡ (key, value)) }
         ensures refused { OnErr result (self.new ≡ self.old) }
-        ensures succeeds { 0 < length self.old.free → IsOk result }
     {
-        if self.spare > 0 {
-            return Ok(());
-        }
         if self.len >= MOST {
-            return Err(AllocError);
+            return Err((key, value));
         }
-        let guard = self.cells.guard(self.guard, self.alloc)?;
+        let guard = match self.cells.guard(self.guard, self.alloc) {
+            Ok(guard) => guard,
+            Err(_) => return Err((key, value)),
+        };
         self.guard = Some(guard);
-        self.first_spare = self.cells.make(self.alloc)?;
-        self.spare = 1;
-        Ok(())
+        match self
+            .cells
+            .make(Some(Held { number, key, value }), self.alloc)
+        {
+            Ok(node) => {
+                let next = place.unwrap_or(guard);
+                let prev = self.cells.prev(next);
+                self.cells.attach(node, prev, next);
+                self.len += 1;
+                Ok(node)
+            }
+            Err(Some(held)) => Err((held.key, held.value)),
+            Err(None) => unreachable!(),
+        }
     }
 
     /// Removes the node's entry from the ring, and returns it. The node is the next spare one. It stores

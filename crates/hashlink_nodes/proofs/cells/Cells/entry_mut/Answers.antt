@@ -6,7 +6,7 @@ use Rattle.hashlink_nodes.specs.BodyLends.{body_with}
 use Rattle.hashlink_nodes.specs.CellsLends.{kept_with}
 use Rattle.hashlink_nodes.specs.State.{held_in}
 use Rattle.hashlink_nodes.specs.Ring.{Held, pair_of}
-use Rattle.hashlink_nodes.specs.declared.block.Block.{Block}
+use Rattle.hashlink_nodes.specs.declared.cells.links.Block.{Block}
 use Rattle.hashlink_nodes.proofs.StateLemmas.{alter_is}
 use Rattle.hashlink_nodes.proofs.cells.Cells.entry_mut.Goals as goal
 

@@ -1,6 +1,6 @@
 use Rattle.std.proofs.Common.{ap, sym, ◌∙◌}
 use Rattle.std.specs.Option.{option_map}
-use Rattle.hashlink_nodes.specs.declared.block.Block.{Block}
+use Rattle.hashlink_nodes.specs.declared.cells.links.Block.{Block}
 use Rattle.std.specs.Map.{lookup}
 use Rattle.hashlink_nodes.specs.Node.{same_node}
 use Rattle.hashlink_nodes.specs.State.{held_in}

@@ -1,208 +1,246 @@
-use Rattle.std.proofs.Common.{◌+◌, ◌-◌, Some, ap, ◌∙◌, arith}
-use Rattle.std.specs.Prelude.{unwrap_or}
+use Rattle.std.proofs.Common.{◌+◌, ◌-◌, ◌<◌, ◌≡◌, drop, ap, sym, subst, ◌∙◌, arith}
+use Rattle.std.specs.Prelude.{OnOk}
+use Rattle.std.proofs.lemmas.List.{nil_from_length}
 use Rattle.hashlink_nodes.specs.Cells.{state_of}
-use Rattle.hashlink_nodes.specs.State.{State}
-use Rattle.hashlink_nodes.specs.Ring.{Ring, held}
-use Rattle.hashlink_nodes.proofs.Sound.{opened, has_held, prev_held, apart}
-use Rattle.hashlink_nodes.proofs.Pushing.{push_from, push_done, push_writes}
+use Rattle.hashlink_nodes.specs.Ring.{held}
+use Rattle.hashlink_nodes.proofs.Sound.{facts, opened, apart, none_some}
+use Rattle.hashlink_nodes.proofs.Pushing.{first_spare, with_free, ready_spare, pushes, pushed, push_writes}
 use Rattle.hashlink_nodes.proofs.nodes.Nodes.push_before.Goals as goal
+
+pub push_new-requires-clause-none : goal.push_new-requires-clause-none
+push_new-requires-clause-none g c =
+    nil_from_length c.args.self.now.free
+    ((facts (state_of c.self.inside.cells) c.self.inside.guard c.self.inside.first_spare c.self.inside.len
+    c.self.inside.spare c.self.invariant c.args.self.now c.self.view_is).is_spare
+    ∙ c.if-self-eq0.true)
+
+pub returns-then-self-eq0-clause-free : goal.returns-then-self-eq0-clause-free
+returns-then-self-eq0-clause-free g c =
+    subst (λ l. OnOk c.push_new.result (c.push_new.new.self.free ≡ drop 1 l))
+    (sym (nil_from_length c.args.self.now.free
+    ((facts (state_of c.self.inside.cells) c.self.inside.guard c.self.inside.first_spare c.self.inside.len
+    c.self.inside.spare c.self.invariant c.args.self.now c.self.view_is).is_spare
+    ∙ c.if-self-eq0.true)))
+    c.push_new.ensures.free
+
+pub returns-then-self-eq0-clause-succeeds : goal.returns-then-self-eq0-clause-succeeds
+returns-then-self-eq0-clause-succeeds g c =
+    λ some. absurd
+    (omega (
+      arith,
+      some,
+      (facts (state_of c.self.inside.cells) c.self.inside.guard c.self.inside.first_spare c.self.inside.len
+          c.self.inside.spare c.self.invariant c.args.self.now c.self.view_is).is_spare,
+      c.if-self-eq0.true,
+    ))
 
 pub next-first_spare-requires : goal.next-first_spare-requires
 next-first_spare-requires g c =
-    (push_from (state_of c.self.inside.cells) c.self.inside.guard c.in-Some.guard c.self.inside.first_spare
-    c.self.inside.len c.self.inside.spare c.make_spare.new.self
-    (opened (state_of c.self.inside.cells) c.self.inside.guard c.in-Some.guard c.self.inside.first_spare
-    c.self.inside.len c.self.inside.spare c.self.invariant c.in-Some.is c.make_spare.new.self c.self.view_is)
-    c.in-Ok.ensures.free.0 c.args.self.now.entries c.in-Ok.ensures.entries c.args.place c.requires.place
-    (held c.args.number c.args.key c.args.value)).has_node
+    let some : 0 < c.self.inside.spare = omega (arith, c.if-self-eq0.false) in
+    (first_spare (state_of c.self.inside.cells) c.unwrap-guard.result c.self.inside.first_spare
+    c.self.inside.len c.self.inside.spare
+    (opened (state_of c.self.inside.cells) c.self.inside.guard c.unwrap-guard.result c.self.inside.first_spare
+    c.self.inside.len c.self.inside.spare c.self.invariant c.unwrap-guard.ensures c.args.self.now c.self.view_is).sound
+    some).0
 
 pub hold-requires-clause-has : goal.hold-requires-clause-has
 hold-requires-clause-has g c =
-    (push_from (state_of c.self.inside.cells) c.self.inside.guard c.in-Some.guard c.self.inside.first_spare
-    c.self.inside.len c.self.inside.spare c.make_spare.new.self
-    (opened (state_of c.self.inside.cells) c.self.inside.guard c.in-Some.guard c.self.inside.first_spare
-    c.self.inside.len c.self.inside.spare c.self.invariant c.in-Some.is c.make_spare.new.self c.self.view_is)
-    c.in-Ok.ensures.free.0 c.args.self.now.entries c.in-Ok.ensures.entries c.args.place c.requires.place
-    (held c.args.number c.args.key c.args.value)).has_node
+    let some : 0 < c.self.inside.spare = omega (arith, c.if-self-eq0.false) in
+    (first_spare (state_of c.self.inside.cells) c.unwrap-guard.result c.self.inside.first_spare
+    c.self.inside.len c.self.inside.spare
+    (opened (state_of c.self.inside.cells) c.self.inside.guard c.unwrap-guard.result c.self.inside.first_spare
+    c.self.inside.len c.self.inside.spare c.self.invariant c.unwrap-guard.ensures c.args.self.now c.self.view_is).sound
+    some).0
+
+pub unreachable-requires : goal.unreachable-requires
+unreachable-requires g c =
+    let some : 0 < c.self.inside.spare = omega (arith, c.if-self-eq0.false) in
+    none_some
+    (sym
+    (first_spare (state_of c.self.inside.cells) c.unwrap-guard.result c.self.inside.first_spare
+    c.self.inside.len c.self.inside.spare
+    (opened (state_of c.self.inside.cells) c.self.inside.guard c.unwrap-guard.result c.self.inside.first_spare
+    c.self.inside.len c.self.inside.spare c.self.invariant c.unwrap-guard.ensures c.args.self.now c.self.view_is).sound
+    some).1
+    ∙ sym c.hold.ensures.was ∙ c.in-Some.is)
 
 pub prev-prev-requires : goal.prev-prev-requires
 prev-prev-requires g c =
-    let S : Type 0 = State g.row.K.Denot g.row.V.Denot in
-    (ap (λ (s : S). s.has c.unwrap_or-next.result) c.hold.ensures.is
-    ∙ ap (λ f. f c.unwrap_or-next.result)
-    (has_held (state_of c.self.inside.cells) c.self.inside.first_spare
-    (Some (held c.args.number c.args.key c.args.value))))
-    ∙ ap (state_of c.self.inside.cells).has c.unwrap_or-next.ensures
+    let some : 0 < c.self.inside.spare = omega (arith, c.if-self-eq0.false) in
+    ap (state_of c.hold.new.self).has c.unwrap_or-next.ensures
     ∙
-    (push_from (state_of c.self.inside.cells) c.self.inside.guard c.in-Some.guard c.self.inside.first_spare
-    c.self.inside.len c.self.inside.spare c.make_spare.new.self
-    (opened (state_of c.self.inside.cells) c.self.inside.guard c.in-Some.guard c.self.inside.first_spare
-    c.self.inside.len c.self.inside.spare c.self.invariant c.in-Some.is c.make_spare.new.self c.self.view_is)
-    c.in-Ok.ensures.free.0 c.args.self.now.entries c.in-Ok.ensures.entries c.args.place c.requires.place
-    (held c.args.number c.args.key c.args.value)).has_next
+    (pushes (state_of c.hold.new.self) c.unwrap-guard.result c.next-first_spare.result c.self.inside.first_spare
+    (held c.args.number c.args.key c.args.value) c.self.inside.len (c.self.inside.spare - 1)
+    (with_free c.args.self.now (drop 1 c.args.self.now.free)) c.args.place
+    (ready_spare (state_of c.self.inside.cells) (state_of c.hold.new.self) c.unwrap-guard.result
+    c.self.inside.first_spare c.next-first_spare.result c.self.inside.len c.self.inside.spare c.args.self.now
+    (held c.args.number c.args.key c.args.value)
+    (opened (state_of c.self.inside.cells) c.self.inside.guard c.unwrap-guard.result c.self.inside.first_spare
+    c.self.inside.len c.self.inside.spare c.self.invariant c.unwrap-guard.ensures c.args.self.now c.self.view_is).sound
+    (opened (state_of c.self.inside.cells) c.self.inside.guard c.unwrap-guard.result c.self.inside.first_spare
+    c.self.inside.len c.self.inside.spare c.self.invariant c.unwrap-guard.ensures c.args.self.now c.self.view_is).view
+    some c.next-first_spare.ensures c.hold.ensures.is)
+    c.requires.place).has_next
 
 pub attach-requires-clause-node : goal.attach-requires-clause-node
 attach-requires-clause-node g c =
-    let S : Type 0 = State g.row.K.Denot g.row.V.Denot in
-    (ap (λ (s : S). s.has c.self.inside.first_spare) c.hold.ensures.is
-    ∙ ap (λ f. f c.self.inside.first_spare)
-    (has_held (state_of c.self.inside.cells) c.self.inside.first_spare
-    (Some (held c.args.number c.args.key c.args.value))))
-    ∙
-    (push_from (state_of c.self.inside.cells) c.self.inside.guard c.in-Some.guard c.self.inside.first_spare
-    c.self.inside.len c.self.inside.spare c.make_spare.new.self
-    (opened (state_of c.self.inside.cells) c.self.inside.guard c.in-Some.guard c.self.inside.first_spare
-    c.self.inside.len c.self.inside.spare c.self.invariant c.in-Some.is c.make_spare.new.self c.self.view_is)
-    c.in-Ok.ensures.free.0 c.args.self.now.entries c.in-Ok.ensures.entries c.args.place c.requires.place
-    (held c.args.number c.args.key c.args.value)).has_node
+    let some : 0 < c.self.inside.spare = omega (arith, c.if-self-eq0.false) in
+    (pushes (state_of c.hold.new.self) c.unwrap-guard.result c.next-first_spare.result c.self.inside.first_spare
+    (held c.args.number c.args.key c.args.value) c.self.inside.len (c.self.inside.spare - 1)
+    (with_free c.args.self.now (drop 1 c.args.self.now.free)) c.args.place
+    (ready_spare (state_of c.self.inside.cells) (state_of c.hold.new.self) c.unwrap-guard.result
+    c.self.inside.first_spare c.next-first_spare.result c.self.inside.len c.self.inside.spare c.args.self.now
+    (held c.args.number c.args.key c.args.value)
+    (opened (state_of c.self.inside.cells) c.self.inside.guard c.unwrap-guard.result c.self.inside.first_spare
+    c.self.inside.len c.self.inside.spare c.self.invariant c.unwrap-guard.ensures c.args.self.now c.self.view_is).sound
+    (opened (state_of c.self.inside.cells) c.self.inside.guard c.unwrap-guard.result c.self.inside.first_spare
+    c.self.inside.len c.self.inside.spare c.self.invariant c.unwrap-guard.ensures c.args.self.now c.self.view_is).view
+    some c.next-first_spare.ensures c.hold.ensures.is)
+    c.requires.place).has_node
 
 pub attach-requires-clause-prev : goal.attach-requires-clause-prev
 attach-requires-clause-prev g c =
-    let S : Type 0 = State g.row.K.Denot g.row.V.Denot in
-    (ap (λ (s : S). s.has c.prev-prev.result) c.hold.ensures.is
-    ∙ ap (λ f. f c.prev-prev.result)
-    (has_held (state_of c.self.inside.cells) c.self.inside.first_spare
-    (Some (held c.args.number c.args.key c.args.value))))
-    ∙ ap (state_of c.self.inside.cells).has
-    (c.prev-prev.ensures ∙ (λ i. (c.hold.ensures.is i).prev (c.unwrap_or-next.ensures i))
-    ∙ ap (λ f. f (unwrap_or c.args.place c.in-Some.guard))
-    (prev_held (state_of c.self.inside.cells) c.self.inside.first_spare
-    (Some (held c.args.number c.args.key c.args.value))))
+    let some : 0 < c.self.inside.spare = omega (arith, c.if-self-eq0.false) in
+    ap (state_of c.hold.new.self).has
+    (c.prev-prev.ensures ∙ ap (state_of c.hold.new.self).prev c.unwrap_or-next.ensures)
     ∙
-    (push_from (state_of c.self.inside.cells) c.self.inside.guard c.in-Some.guard c.self.inside.first_spare
-    c.self.inside.len c.self.inside.spare c.make_spare.new.self
-    (opened (state_of c.self.inside.cells) c.self.inside.guard c.in-Some.guard c.self.inside.first_spare
-    c.self.inside.len c.self.inside.spare c.self.invariant c.in-Some.is c.make_spare.new.self c.self.view_is)
-    c.in-Ok.ensures.free.0 c.args.self.now.entries c.in-Ok.ensures.entries c.args.place c.requires.place
-    (held c.args.number c.args.key c.args.value)).has_prev
+    (pushes (state_of c.hold.new.self) c.unwrap-guard.result c.next-first_spare.result c.self.inside.first_spare
+    (held c.args.number c.args.key c.args.value) c.self.inside.len (c.self.inside.spare - 1)
+    (with_free c.args.self.now (drop 1 c.args.self.now.free)) c.args.place
+    (ready_spare (state_of c.self.inside.cells) (state_of c.hold.new.self) c.unwrap-guard.result
+    c.self.inside.first_spare c.next-first_spare.result c.self.inside.len c.self.inside.spare c.args.self.now
+    (held c.args.number c.args.key c.args.value)
+    (opened (state_of c.self.inside.cells) c.self.inside.guard c.unwrap-guard.result c.self.inside.first_spare
+    c.self.inside.len c.self.inside.spare c.self.invariant c.unwrap-guard.ensures c.args.self.now c.self.view_is).sound
+    (opened (state_of c.self.inside.cells) c.self.inside.guard c.unwrap-guard.result c.self.inside.first_spare
+    c.self.inside.len c.self.inside.spare c.self.invariant c.unwrap-guard.ensures c.args.self.now c.self.view_is).view
+    some c.next-first_spare.ensures c.hold.ensures.is)
+    c.requires.place).has_prev
 
 pub attach-requires-clause-next : goal.attach-requires-clause-next
 attach-requires-clause-next g c =
-    let S : Type 0 = State g.row.K.Denot g.row.V.Denot in
-    (ap (λ (s : S). s.has c.unwrap_or-next.result) c.hold.ensures.is
-    ∙ ap (λ f. f c.unwrap_or-next.result)
-    (has_held (state_of c.self.inside.cells) c.self.inside.first_spare
-    (Some (held c.args.number c.args.key c.args.value))))
-    ∙ ap (state_of c.self.inside.cells).has c.unwrap_or-next.ensures
+    let some : 0 < c.self.inside.spare = omega (arith, c.if-self-eq0.false) in
+    ap (state_of c.hold.new.self).has c.unwrap_or-next.ensures
     ∙
-    (push_from (state_of c.self.inside.cells) c.self.inside.guard c.in-Some.guard c.self.inside.first_spare
-    c.self.inside.len c.self.inside.spare c.make_spare.new.self
-    (opened (state_of c.self.inside.cells) c.self.inside.guard c.in-Some.guard c.self.inside.first_spare
-    c.self.inside.len c.self.inside.spare c.self.invariant c.in-Some.is c.make_spare.new.self c.self.view_is)
-    c.in-Ok.ensures.free.0 c.args.self.now.entries c.in-Ok.ensures.entries c.args.place c.requires.place
-    (held c.args.number c.args.key c.args.value)).has_next
-
-pub overflow_sub-self : goal.overflow_sub-self
-overflow_sub-self g c =
-    omega (
-      arith,
-      (push_from (state_of c.self.inside.cells) c.self.inside.guard c.in-Some.guard c.self.inside.first_spare
-          c.self.inside.len c.self.inside.spare c.make_spare.new.self
-          (opened (state_of c.self.inside.cells) c.self.inside.guard c.in-Some.guard c.self.inside.first_spare
-          c.self.inside.len c.self.inside.spare c.self.invariant c.in-Some.is
-          c.make_spare.new.self c.self.view_is)
-          c.in-Ok.ensures.free.0 c.args.self.now.entries c.in-Ok.ensures.entries c.args.place c.requires.place
-          (held c.args.number c.args.key c.args.value)).some,
-    )
+    (pushes (state_of c.hold.new.self) c.unwrap-guard.result c.next-first_spare.result c.self.inside.first_spare
+    (held c.args.number c.args.key c.args.value) c.self.inside.len (c.self.inside.spare - 1)
+    (with_free c.args.self.now (drop 1 c.args.self.now.free)) c.args.place
+    (ready_spare (state_of c.self.inside.cells) (state_of c.hold.new.self) c.unwrap-guard.result
+    c.self.inside.first_spare c.next-first_spare.result c.self.inside.len c.self.inside.spare c.args.self.now
+    (held c.args.number c.args.key c.args.value)
+    (opened (state_of c.self.inside.cells) c.self.inside.guard c.unwrap-guard.result c.self.inside.first_spare
+    c.self.inside.len c.self.inside.spare c.self.invariant c.unwrap-guard.ensures c.args.self.now c.self.view_is).sound
+    (opened (state_of c.self.inside.cells) c.self.inside.guard c.unwrap-guard.result c.self.inside.first_spare
+    c.self.inside.len c.self.inside.spare c.self.invariant c.unwrap-guard.ensures c.args.self.now c.self.view_is).view
+    some c.next-first_spare.ensures c.hold.ensures.is)
+    c.requires.place).has_next
 
 pub overflow_add-self : goal.overflow_add-self
 overflow_add-self g c =
     record {
-      fits =
-          omega (
-            arith,
-            (push_from (state_of c.self.inside.cells) c.self.inside.guard c.in-Some.guard
-                c.self.inside.first_spare c.self.inside.len c.self.inside.spare c.make_spare.new.self
-                (opened (state_of c.self.inside.cells) c.self.inside.guard c.in-Some.guard
-                c.self.inside.first_spare
-                c.self.inside.len c.self.inside.spare c.self.invariant c.in-Some.is c.make_spare.new.self
-                c.self.view_is)
-                c.in-Ok.ensures.free.0 c.args.self.now.entries c.in-Ok.ensures.entries
-                c.args.place c.requires.place
-                (held c.args.number c.args.key c.args.value)).room,
-          );
+      fits = omega (
+        arith,
+        (facts (state_of c.self.inside.cells) c.self.inside.guard c.self.inside.first_spare c.self.inside.len
+            c.self.inside.spare c.self.invariant c.args.self.now c.self.view_is).small,
+      );
     }
 
 pub invariant_of-self : goal.invariant_of-self
 invariant_of-self g c =
-    (push_done (state_of c.self.inside.cells) (state_of c.hold.new.self) (state_of c.attach.new.self)
-    c.self.inside.guard c.in-Some.guard c.self.inside.first_spare c.next-first_spare.result c.prev-prev.result
-    c.unwrap_or-next.result c.self.inside.len c.self.inside.spare c.make_spare.new.self
-    (opened (state_of c.self.inside.cells) c.self.inside.guard c.in-Some.guard c.self.inside.first_spare
-    c.self.inside.len c.self.inside.spare c.self.invariant c.in-Some.is c.make_spare.new.self c.self.view_is)
-    c.args.self.now.entries c.in-Ok.ensures.entries c.args.self.now.free c.in-Ok.ensures.free.1 c.args.place
+    let some : 0 < c.self.inside.spare = omega (arith, c.if-self-eq0.false) in
+    (pushed (state_of c.hold.new.self) (state_of c.attach.new.self) c.self.inside.guard c.unwrap-guard.result
+    c.next-first_spare.result c.self.inside.first_spare c.prev-prev.result c.unwrap_or-next.result
+    (held c.args.number c.args.key c.args.value) c.self.inside.len (c.self.inside.spare - 1)
+    (with_free c.args.self.now (drop 1 c.args.self.now.free)) c.args.place c.unwrap-guard.ensures
+    (pushes (state_of c.hold.new.self) c.unwrap-guard.result c.next-first_spare.result c.self.inside.first_spare
+    (held c.args.number c.args.key c.args.value) c.self.inside.len (c.self.inside.spare - 1)
+    (with_free c.args.self.now (drop 1 c.args.self.now.free)) c.args.place
+    (ready_spare (state_of c.self.inside.cells) (state_of c.hold.new.self) c.unwrap-guard.result
+    c.self.inside.first_spare c.next-first_spare.result c.self.inside.len c.self.inside.spare c.args.self.now
     (held c.args.number c.args.key c.args.value)
-    (push_from (state_of c.self.inside.cells) c.self.inside.guard c.in-Some.guard c.self.inside.first_spare
-    c.self.inside.len c.self.inside.spare c.make_spare.new.self
-    (opened (state_of c.self.inside.cells) c.self.inside.guard c.in-Some.guard c.self.inside.first_spare
-    c.self.inside.len c.self.inside.spare c.self.invariant c.in-Some.is c.make_spare.new.self c.self.view_is)
-    c.in-Ok.ensures.free.0 c.args.self.now.entries c.in-Ok.ensures.entries c.args.place c.requires.place
-    (held c.args.number c.args.key c.args.value))
-    c.next-first_spare.ensures c.hold.ensures.is c.unwrap_or-next.ensures c.prev-prev.ensures
-    c.attach.ensures).sound
+    (opened (state_of c.self.inside.cells) c.self.inside.guard c.unwrap-guard.result c.self.inside.first_spare
+    c.self.inside.len c.self.inside.spare c.self.invariant c.unwrap-guard.ensures c.args.self.now c.self.view_is).sound
+    (opened (state_of c.self.inside.cells) c.self.inside.guard c.unwrap-guard.result c.self.inside.first_spare
+    c.self.inside.len c.self.inside.spare c.self.invariant c.unwrap-guard.ensures c.args.self.now c.self.view_is).view
+    some c.next-first_spare.ensures c.hold.ensures.is)
+    c.requires.place)
+    c.unwrap_or-next.ensures c.prev-prev.ensures c.attach.ensures).sound
 
 pub returns-clause-entries : goal.returns-clause-entries
 returns-clause-entries g c =
-    (push_done (state_of c.self.inside.cells) (state_of c.hold.new.self) (state_of c.attach.new.self)
-    c.self.inside.guard c.in-Some.guard c.self.inside.first_spare c.next-first_spare.result c.prev-prev.result
-    c.unwrap_or-next.result c.self.inside.len c.self.inside.spare c.make_spare.new.self
-    (opened (state_of c.self.inside.cells) c.self.inside.guard c.in-Some.guard c.self.inside.first_spare
-    c.self.inside.len c.self.inside.spare c.self.invariant c.in-Some.is c.make_spare.new.self c.self.view_is)
-    c.args.self.now.entries c.in-Ok.ensures.entries c.args.self.now.free c.in-Ok.ensures.free.1 c.args.place
+    let some : 0 < c.self.inside.spare = omega (arith, c.if-self-eq0.false) in
+    (pushed (state_of c.hold.new.self) (state_of c.attach.new.self) c.self.inside.guard c.unwrap-guard.result
+    c.next-first_spare.result c.self.inside.first_spare c.prev-prev.result c.unwrap_or-next.result
+    (held c.args.number c.args.key c.args.value) c.self.inside.len (c.self.inside.spare - 1)
+    (with_free c.args.self.now (drop 1 c.args.self.now.free)) c.args.place c.unwrap-guard.ensures
+    (pushes (state_of c.hold.new.self) c.unwrap-guard.result c.next-first_spare.result c.self.inside.first_spare
+    (held c.args.number c.args.key c.args.value) c.self.inside.len (c.self.inside.spare - 1)
+    (with_free c.args.self.now (drop 1 c.args.self.now.free)) c.args.place
+    (ready_spare (state_of c.self.inside.cells) (state_of c.hold.new.self) c.unwrap-guard.result
+    c.self.inside.first_spare c.next-first_spare.result c.self.inside.len c.self.inside.spare c.args.self.now
     (held c.args.number c.args.key c.args.value)
-    (push_from (state_of c.self.inside.cells) c.self.inside.guard c.in-Some.guard c.self.inside.first_spare
-    c.self.inside.len c.self.inside.spare c.make_spare.new.self
-    (opened (state_of c.self.inside.cells) c.self.inside.guard c.in-Some.guard c.self.inside.first_spare
-    c.self.inside.len c.self.inside.spare c.self.invariant c.in-Some.is c.make_spare.new.self c.self.view_is)
-    c.in-Ok.ensures.free.0 c.args.self.now.entries c.in-Ok.ensures.entries c.args.place c.requires.place
-    (held c.args.number c.args.key c.args.value))
-    c.next-first_spare.ensures c.hold.ensures.is c.unwrap_or-next.ensures c.prev-prev.ensures
-    c.attach.ensures).entries
+    (opened (state_of c.self.inside.cells) c.self.inside.guard c.unwrap-guard.result c.self.inside.first_spare
+    c.self.inside.len c.self.inside.spare c.self.invariant c.unwrap-guard.ensures c.args.self.now c.self.view_is).sound
+    (opened (state_of c.self.inside.cells) c.self.inside.guard c.unwrap-guard.result c.self.inside.first_spare
+    c.self.inside.len c.self.inside.spare c.self.invariant c.unwrap-guard.ensures c.args.self.now c.self.view_is).view
+    some c.next-first_spare.ensures c.hold.ensures.is)
+    c.requires.place)
+    c.unwrap_or-next.ensures c.prev-prev.ensures c.attach.ensures).entries
 
 pub returns-clause-free : goal.returns-clause-free
 returns-clause-free g c =
-    (push_done (state_of c.self.inside.cells) (state_of c.hold.new.self) (state_of c.attach.new.self)
-    c.self.inside.guard c.in-Some.guard c.self.inside.first_spare c.next-first_spare.result c.prev-prev.result
-    c.unwrap_or-next.result c.self.inside.len c.self.inside.spare c.make_spare.new.self
-    (opened (state_of c.self.inside.cells) c.self.inside.guard c.in-Some.guard c.self.inside.first_spare
-    c.self.inside.len c.self.inside.spare c.self.invariant c.in-Some.is c.make_spare.new.self c.self.view_is)
-    c.args.self.now.entries c.in-Ok.ensures.entries c.args.self.now.free c.in-Ok.ensures.free.1 c.args.place
+    let some : 0 < c.self.inside.spare = omega (arith, c.if-self-eq0.false) in
+    (pushed (state_of c.hold.new.self) (state_of c.attach.new.self) c.self.inside.guard c.unwrap-guard.result
+    c.next-first_spare.result c.self.inside.first_spare c.prev-prev.result c.unwrap_or-next.result
+    (held c.args.number c.args.key c.args.value) c.self.inside.len (c.self.inside.spare - 1)
+    (with_free c.args.self.now (drop 1 c.args.self.now.free)) c.args.place c.unwrap-guard.ensures
+    (pushes (state_of c.hold.new.self) c.unwrap-guard.result c.next-first_spare.result c.self.inside.first_spare
+    (held c.args.number c.args.key c.args.value) c.self.inside.len (c.self.inside.spare - 1)
+    (with_free c.args.self.now (drop 1 c.args.self.now.free)) c.args.place
+    (ready_spare (state_of c.self.inside.cells) (state_of c.hold.new.self) c.unwrap-guard.result
+    c.self.inside.first_spare c.next-first_spare.result c.self.inside.len c.self.inside.spare c.args.self.now
     (held c.args.number c.args.key c.args.value)
-    (push_from (state_of c.self.inside.cells) c.self.inside.guard c.in-Some.guard c.self.inside.first_spare
-    c.self.inside.len c.self.inside.spare c.make_spare.new.self
-    (opened (state_of c.self.inside.cells) c.self.inside.guard c.in-Some.guard c.self.inside.first_spare
-    c.self.inside.len c.self.inside.spare c.self.invariant c.in-Some.is c.make_spare.new.self c.self.view_is)
-    c.in-Ok.ensures.free.0 c.args.self.now.entries c.in-Ok.ensures.entries c.args.place c.requires.place
-    (held c.args.number c.args.key c.args.value))
-    c.next-first_spare.ensures c.hold.ensures.is c.unwrap_or-next.ensures c.prev-prev.ensures
-    c.attach.ensures).free
-
-pub returns-clause-link_writes : goal.returns-clause-link_writes
-returns-clause-link_writes g c =
-    let R : Type 0 = Ring g.row.K.Denot g.row.V.Denot in
-    push_writes (state_of c.self.inside.cells) (state_of c.hold.new.self) (state_of c.attach.new.self)
-    c.self.inside.first_spare c.prev-prev.result c.unwrap_or-next.result
-    (held c.args.number c.args.key c.args.value)
-    c.args.self.now.link_writes (ap (λ (r : R). r.link_writes) c.self.view_is ∙ c.in-Ok.ensures.link_writes)
-    c.hold.ensures.is c.attach.ensures
+    (opened (state_of c.self.inside.cells) c.self.inside.guard c.unwrap-guard.result c.self.inside.first_spare
+    c.self.inside.len c.self.inside.spare c.self.invariant c.unwrap-guard.ensures c.args.self.now c.self.view_is).sound
+    (opened (state_of c.self.inside.cells) c.self.inside.guard c.unwrap-guard.result c.self.inside.first_spare
+    c.self.inside.len c.self.inside.spare c.self.invariant c.unwrap-guard.ensures c.args.self.now c.self.view_is).view
+    some c.next-first_spare.ensures c.hold.ensures.is)
+    c.requires.place)
+    c.unwrap_or-next.ensures c.prev-prev.ensures c.attach.ensures).free
 
 pub returns-clause-apart : goal.returns-clause-apart
 returns-clause-apart g c =
+    let some : 0 < c.self.inside.spare = omega (arith, c.if-self-eq0.false) in
     apart (state_of c.attach.new.self) c.next-first_spare.result (c.self.inside.len + 1)
-    (c.self.inside.spare - 1)
-    c.self.inside.guard
-    (push_done (state_of c.self.inside.cells) (state_of c.hold.new.self) (state_of c.attach.new.self)
-    c.self.inside.guard c.in-Some.guard c.self.inside.first_spare c.next-first_spare.result c.prev-prev.result
-    c.unwrap_or-next.result c.self.inside.len c.self.inside.spare c.make_spare.new.self
-    (opened (state_of c.self.inside.cells) c.self.inside.guard c.in-Some.guard c.self.inside.first_spare
-    c.self.inside.len c.self.inside.spare c.self.invariant c.in-Some.is c.make_spare.new.self c.self.view_is)
-    c.args.self.now.entries c.in-Ok.ensures.entries c.args.self.now.free c.in-Ok.ensures.free.1 c.args.place
+    (c.self.inside.spare - 1) c.self.inside.guard
+    (pushed (state_of c.hold.new.self) (state_of c.attach.new.self) c.self.inside.guard c.unwrap-guard.result
+    c.next-first_spare.result c.self.inside.first_spare c.prev-prev.result c.unwrap_or-next.result
+    (held c.args.number c.args.key c.args.value) c.self.inside.len (c.self.inside.spare - 1)
+    (with_free c.args.self.now (drop 1 c.args.self.now.free)) c.args.place c.unwrap-guard.ensures
+    (pushes (state_of c.hold.new.self) c.unwrap-guard.result c.next-first_spare.result c.self.inside.first_spare
+    (held c.args.number c.args.key c.args.value) c.self.inside.len (c.self.inside.spare - 1)
+    (with_free c.args.self.now (drop 1 c.args.self.now.free)) c.args.place
+    (ready_spare (state_of c.self.inside.cells) (state_of c.hold.new.self) c.unwrap-guard.result
+    c.self.inside.first_spare c.next-first_spare.result c.self.inside.len c.self.inside.spare c.args.self.now
     (held c.args.number c.args.key c.args.value)
-    (push_from (state_of c.self.inside.cells) c.self.inside.guard c.in-Some.guard c.self.inside.first_spare
-    c.self.inside.len c.self.inside.spare c.make_spare.new.self
-    (opened (state_of c.self.inside.cells) c.self.inside.guard c.in-Some.guard c.self.inside.first_spare
-    c.self.inside.len c.self.inside.spare c.self.invariant c.in-Some.is c.make_spare.new.self c.self.view_is)
-    c.in-Ok.ensures.free.0 c.args.self.now.entries c.in-Ok.ensures.entries c.args.place c.requires.place
-    (held c.args.number c.args.key c.args.value))
-    c.next-first_spare.ensures c.hold.ensures.is c.unwrap_or-next.ensures c.prev-prev.ensures
-    c.attach.ensures).sound
+    (opened (state_of c.self.inside.cells) c.self.inside.guard c.unwrap-guard.result c.self.inside.first_spare
+    c.self.inside.len c.self.inside.spare c.self.invariant c.unwrap-guard.ensures c.args.self.now c.self.view_is).sound
+    (opened (state_of c.self.inside.cells) c.self.inside.guard c.unwrap-guard.result c.self.inside.first_spare
+    c.self.inside.len c.self.inside.spare c.self.invariant c.unwrap-guard.ensures c.args.self.now c.self.view_is).view
+    some c.next-first_spare.ensures c.hold.ensures.is)
+    c.requires.place)
+    c.unwrap_or-next.ensures c.prev-prev.ensures c.attach.ensures).sound
+
+pub returns-clause-link_writes : goal.returns-clause-link_writes
+returns-clause-link_writes g c =
+    let some : 0 < c.self.inside.spare = omega (arith, c.if-self-eq0.false) in
+    push_writes (state_of c.hold.new.self) (state_of c.attach.new.self) c.self.inside.first_spare
+    c.prev-prev.result c.unwrap_or-next.result c.args.self.now.link_writes
+    (ready_spare (state_of c.self.inside.cells) (state_of c.hold.new.self) c.unwrap-guard.result
+    c.self.inside.first_spare c.next-first_spare.result c.self.inside.len c.self.inside.spare c.args.self.now
+    (held c.args.number c.args.key c.args.value)
+    (opened (state_of c.self.inside.cells) c.self.inside.guard c.unwrap-guard.result c.self.inside.first_spare
+    c.self.inside.len c.self.inside.spare c.self.invariant c.unwrap-guard.ensures c.args.self.now c.self.view_is).sound
+    (opened (state_of c.self.inside.cells) c.self.inside.guard c.unwrap-guard.result c.self.inside.first_spare
+    c.self.inside.len c.self.inside.spare c.self.invariant c.unwrap-guard.ensures c.args.self.now c.self.view_is).view
+    some c.next-first_spare.ensures c.hold.ensures.is).writes c.attach.ensures
