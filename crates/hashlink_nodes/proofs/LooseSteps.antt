@@ -23,7 +23,7 @@ use Rattle.std.proofs.alloc.Calls.{Al, handle_tells}
 use Rattle.std.proofs.RcSteps.{Good}
 use Rattle.std.specs.Box.Ownership.{box_owns}
 use Rattle.std.proofs.ResultValues.{and_tt}
-use Rattle.hashlink_nodes.specs.contracts.loose.Loose as loose
+use Rattle.hashlink_nodes.specs.contracts.arena.loose.Loose as loose
 
 -- a pointer and a handle
 abbrev pub both : Val → Val → Val

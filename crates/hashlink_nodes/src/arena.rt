@@ -1,4 +1,4 @@
-//! The owner of the nodes' blocks. All code that follows a pointer is in this file.
+//! The owner of the nodes' blocks. All code that follows a pointer is in this file and in `arena/loose.rt`.
 ghost use Rattle.std.specs.Prelude.{◌≡◌, ◌<◌, List, [], ◌∷◌, Some, IsSome, IsNone};
 ghost use Rattle.std.specs.Map.{lookup, remove_entry};
 ghost use Rattle.std.specs.Borrow.{sem};
@@ -7,7 +7,9 @@ ghost use Rattle.hashlink_nodes.specs.Node.{same_node};
 ghost use Rattle.hashlink_nodes.specs.declared.node.Node.{Node};
 ghost use Rattle.hashlink_nodes.specs.Ownership.{blocks_own, blocks_lent};
 
-use crate::loose::Loose;
+mod loose;
+
+pub(crate) use self::loose::Loose;
 use crate::node::Node;
 use std::alloc::Global;
 use std::marker::{Model, PhantomData};

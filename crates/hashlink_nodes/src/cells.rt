@@ -148,8 +148,8 @@ impl<K, V> Cells<K, V> {
         ensures held { result ≡ (state_of self.old).held node }
         ensures dropped { Drops node (state_of self.old) (state_of self.new) }
     {
-        let boxed = self.arena.give_back(node, alloc).into_box();
-        ManuallyDrop::into_inner(Box::into_inner(boxed)).into_held()
+        let block = self.arena.give_back(node, alloc).free();
+        ManuallyDrop::into_inner(block).into_held()
     }
 
     /// Links the neighbours of the node past it.

@@ -6,7 +6,6 @@ mod body;
 mod cells;
 mod held;
 mod link_writes;
-mod loose;
 mod node;
 mod nodes;
 

@@ -4,10 +4,10 @@ ghost use Rattle.hashlink_nodes.specs.Cells.{state_of};
 ghost use Rattle.hashlink_nodes.specs.State.{store_next, store_prev, Adds, MakesGuard};
 
 use super::Cells;
+use crate::arena::Loose;
 use crate::body::Body;
 use crate::held::Held;
 use crate::link_writes::LinkWrites;
-use crate::loose::Loose;
 use crate::node::Node;
 use std::alloc::{AllocError, Global};
 use std::mem::{ManuallyDrop, size_of};

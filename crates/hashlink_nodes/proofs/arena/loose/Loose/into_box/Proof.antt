@@ -36,10 +36,10 @@ use Rattle.std.proofs.raw_atomic.Walks.{proved_at, leaves}
 use Rattle.std.specs.contracts.boxed.Box.from_raw as callee
 use Rattle.std.proofs.boxed.Box.from_raw.Met.{met}
 use Rattle.hashlink_nodes.proofs.LooseSteps.{both, Lo, loose_good, loose_out}
-use Rattle.hashlink_nodes.specs.contracts.loose.Loose.into_box.{ended, clauses}
-use Rattle.hashlink_nodes.specs.contracts.loose.Loose.into_box.Key.{name as #self}
-use Rattle.hashlink_nodes.proofs.loose.Loose.into_box.Statement.{statement}
-use Rattle.hashlink_nodes.proofs.loose.Loose.into_box.Code as code
+use Rattle.hashlink_nodes.specs.contracts.arena.loose.Loose.into_box.{ended, clauses}
+use Rattle.hashlink_nodes.specs.contracts.arena.loose.Loose.into_box.Key.{name as #self}
+use Rattle.hashlink_nodes.proofs.arena.loose.Loose.into_box.Statement.{statement}
+use Rattle.hashlink_nodes.proofs.arena.loose.Loose.into_box.Code as code
 
 pub into_box_spec : {M : Type 1} → statement M
 into_box_spec 𝓤 𝓛 𝓜 𝓡 wired T A L LA g d dd allocator glued =

@@ -37,10 +37,10 @@ use Rattle.std.proofs.raw_atomic.Walks.{proved_at, leaves}
 use Rattle.std.specs.contracts.boxed.Box.into_raw_with_allocator as callee
 use Rattle.std.proofs.boxed.Box.into_raw_with_allocator.Met.{met}
 use Rattle.hashlink_nodes.proofs.LooseSteps.{both, loose_good, loose_in}
-use Rattle.hashlink_nodes.specs.contracts.loose.Loose.of.{ended, clauses}
-use Rattle.hashlink_nodes.specs.contracts.loose.Loose.of.Key.{name as #self}
-use Rattle.hashlink_nodes.proofs.loose.Loose.of.Statement.{statement}
-use Rattle.hashlink_nodes.proofs.loose.Loose.of.Code as code
+use Rattle.hashlink_nodes.specs.contracts.arena.loose.Loose.of.{ended, clauses}
+use Rattle.hashlink_nodes.specs.contracts.arena.loose.Loose.of.Key.{name as #self}
+use Rattle.hashlink_nodes.proofs.arena.loose.Loose.of.Statement.{statement}
+use Rattle.hashlink_nodes.proofs.arena.loose.Loose.of.Code as code
 
 pub of_spec : {M : Type 1} → statement M
 of_spec 𝓤 𝓛 𝓜 𝓡 wired T A L LA g d dd dx allocator glued glue =

@@ -6,10 +6,11 @@ ghost use Rattle.std.specs.Box.Ownership.{box_owns};
 use std::alloc::Allocator;
 use std::marker::Model;
 
-/// The block of a box, with the value in it and the allocator that it is freed by.
+/// The block of a box, with the value in it and the allocator that it is freed by. It is not `Drop`, and its fields
+/// are hidden: code above that has one must free it or give it to an arena.
 pub(crate) struct Loose<T, A: Allocator> {
-    pub(crate) at: *mut T,
-    pub(crate) alloc: A,
+    pub(super) at: *mut T,
+    pub(super) alloc: A,
     pub(crate) ghost value: { T },
 }
 
@@ -27,7 +28,14 @@ impl<T, A: Allocator> Loose<T, A> {
         Loose { at, alloc }
     }
 
-    pub(crate) fn into_box(self) -> Box<T, A>
+    /// Frees the block, and returns the value that was in it.
+    pub(crate) fn free(self) -> T
+        ensures { result ≡ self.value }
+    {
+        Box::into_inner(self.into_box())
+    }
+
+    fn into_box(self) -> Box<T, A>
         ensures { result.value ≡ self.value }
     {
         let Loose { at, alloc } = self;
