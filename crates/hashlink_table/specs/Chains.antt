@@ -122,8 +122,11 @@ pub record IsSound {N : Type 0} (firsts overs : List (Cell N))
   pub headed : room ≤ length firsts
   pub bounded : length firsts ≤ 4 * max 8 room
   pub reserved : room ≤ capacity
-  pub small : length firsts ≤ 2 ^ 30
-  pub overs_small : length overs ≤ 2 ^ 30
+  pub spare : capacity ≤ 8 * max 8 room
+  pub none : room ≡ 0 → (length firsts ≡ 0) × (capacity ≡ 0)
+  pub small : length firsts ≤ 2 ^ 31
+  pub overs_few : length overs ≤ room
+  pub overs_small : length overs < END
   pub masked : 0 < length firsts → IsPowerOfTwo (length firsts)
   pub whole : length firsts % 16 ≡ 0
 

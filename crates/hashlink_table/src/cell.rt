@@ -1,7 +1,9 @@
-ghost use Rattle.std.specs.Prelude.{◌≡◌, ◌≤◌, ◌↔◌, IsSome, IsTrue, None, Some};
+ghost use Rattle.std.specs.Prelude.{◌≡◌, ◌+◌, ◌≤◌, ◌↔◌, IsSome, IsTrue, None, Some};
 
 use super::kept::Kept;
+use super::steps::Steps;
 use std::marker::Model;
+use std::sync::ledger::Ledger;
 
 /// What stands in place of a cell's number after the last cell of a chain. No table has so many cells.
 pub const END: usize = (1 << 31) - 1;
@@ -52,6 +54,18 @@ impl<N: Copy> Stored<N> {
         }
     }
 
+    /// The same cell, for a move to another block.
+    #[inline]
+    pub fn copied(&self) -> Self
+        ensures { result ≡ self.now }
+    {
+        Stored {
+            node: self.node,
+            hash: self.hash,
+            link: self.link,
+        }
+    }
+
     /// Whether the cell has a node.
     #[inline]
     pub fn is_taken(&self) -> bool
@@ -60,7 +74,18 @@ impl<N: Copy> Stored<N> {
         self.link < FREE
     }
 
-    /// What a cell has that is known to have a node.
+    /// What a search reads of a cell that is known to have a node. It takes a step.
+    #[inline]
+    pub fn look<L: Ledger>(&self, steps: &mut Steps<L>) -> Kept<N>
+        requires { IsSome self.now.kept }
+        ensures value { self.now.kept ≡ Some result }
+        ensures step { steps.new ≡ steps.old + 1 }
+    {
+        steps.tick();
+        self.known()
+    }
+
+    /// What a cell has that is known to have a node, for a move of the node.
     #[inline]
     pub fn known(&self) -> Kept<N>
         requires { IsSome self.now.kept }
@@ -72,6 +97,7 @@ impl<N: Copy> Stored<N> {
         }
     }
 
+    /// What a cell has, for a move of its node.
     #[inline]
     pub fn kept(&self) -> Option<Kept<N>>
         ensures { result ≡ self.now.kept }

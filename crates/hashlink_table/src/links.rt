@@ -1,10 +1,11 @@
 //! The chains that lead through the cells.
 ghost use Rattle.std.specs.Prelude.{◌≡◌, ◌≢◌, ℕ, ◌+◌, ◌-◌, ◌*◌, ◌%◌, ◌^◌, ◌<◌, ◌≤◌, ◌==◌, [], ◌∷◌, ◌++◌};
 ghost use Rattle.std.specs.Prelude.{IfNone, IfOk, IfSome, IsPermutation, IsSome, OnErr, OnOk, Some};
-ghost use Rattle.std.specs.Prelude.{count_by, false, length, min, true, vec_capacity, vec_len};
+ghost use Rattle.std.specs.Prelude.{count_by, false, length, max, min, true, vec_capacity, vec_len};
 ghost use Rattle.std.specs.Int.{IsPowerOfTwo};
 ghost use Rattle.hashlink_table.specs.declared.kept.Kept.{Kept};
 ghost use Rattle.hashlink_table.specs.declared.spot.Spot.TheVariants.{Over};
+ghost use Rattle.hashlink_table.specs.Stored.{tag_of};
 ghost use Rattle.hashlink_table.specs.Own.{lanes_of, may_be};
 ghost use Rattle.hashlink_table.specs.Chains.{chain_at, chain_of, kept_at, kept_by, links_of, next_at};
 ghost use Rattle.hashlink_table.specs.Chains.{nodes_in, IsFilled, IsInPlace, IsLinked, IsLinkedBut};
@@ -226,7 +227,8 @@ fn seek_own<N: Copy, F: Fn(N) -> bool, L: Ledger>(
     steps: &mut Steps<L>,
 ) -> Option<(usize, N)>
     requires within { base + LANES ≤ length firsts.now }
-    requires callable { (at : ℕ) (kept : Kept N) → kept_at firsts.now at ≡ Some kept
+    requires callable { (at : ℕ) (kept : Kept N) → base ≤ at → at < base + LANES
+        → kept_at firsts.now at ≡ Some kept → tag_of kept.hash ≡ tag_of hash
         → F.pre is_match.now kept.node }
     requires telling { (at : ℕ) (kept : Kept N) → kept_at firsts.now at ≡ Some kept
         → F.post is_match.now kept.node true → kept.hash ≡ hash }
@@ -245,8 +247,7 @@ fn seek_own<N: Copy, F: Fn(N) -> bool, L: Ledger>(
     while hits != 0 {
         let skipped = hits.trailing_zeros();
         at += skipped as usize;
-        steps.tick();
-        let node = firsts.node(at);
+        let node = firsts.look(at, steps);
         if is_match(node) {
             return Some((at, node));
         }
@@ -285,8 +286,7 @@ fn seek_over<N: Copy, F: Fn(N) -> bool, L: Ledger>(
     let mut at = firsts.next(bucket);
     while at != END {
         let cell = &cells[at];
-        let kept = cell.known();
-        steps.tick();
+        let kept = cell.look(steps);
         if kept.hash == hash && is_match(kept.node) {
             return Some((at, kept.node));
         }
@@ -311,6 +311,7 @@ pub fn seek<N: Copy, F: Fn(N) -> bool, L: Ledger>(
     requires filled { IsFilled firsts.now }
     requires linked { (free : ℕ) × IsLinked (links_of firsts.now) cells.now free }
     requires callable_own { (at : ℕ) (kept : Kept N) → kept_at firsts.now at ≡ Some kept
+        → kept.hash % length firsts.now ≡ hash % length firsts.now
         → F.pre is_match.now kept.node }
     requires telling { (at : ℕ) (kept : Kept N) → kept_at firsts.now at ≡ Some kept
         → F.post is_match.now kept.node true → kept.hash ≡ hash }
@@ -363,19 +364,17 @@ pub fn chained<N: Copy>(alloc: Global, cells: &[Stored<N>]) -> Result<Vec<Kept<N
     Ok(nodes)
 }
 
-/// Moves the cells over to this block. If it fails, nothing changes.
-pub fn move_to<N: Copy>(
-    cells: &mut Vec<Stored<N>>,
-    mut block: Vec<Stored<N>>,
-) -> Result<(), AllocError>
-    requires { block.items ≡ [] }
+/// Moves the cells over to this block.
+pub fn move_to<N: Copy>(cells: &mut Vec<Stored<N>>, mut block: Vec<Stored<N>>)
+    requires empty { block.items ≡ [] }
+    requires roomy { vec_len cells.old ≤ vec_capacity block }
     ensures items { cells.new.items ≡ cells.old.items }
-    ensures capacity { min (vec_capacity block) (vec_capacity cells.old) ≤ vec_capacity cells.new }
-    ensures moved { OnOk result (vec_capacity block ≤ vec_capacity cells.new) }
+    ensures capacity { vec_capacity cells.new ≡ vec_capacity block }
 {
-    block.append(cells)?;
+    for cell in cells.iter() {
+        block.push_reserved(cell.copied());
+    }
     *cells = block;
-    Ok(())
 }
 
 /// Doubles the buckets. The cells over move to this block, and their nodes are taken out and returned. If it fails,
@@ -395,6 +394,7 @@ pub fn double<N: Copy>(
     requires small { length firsts.old ≤ 2 ^ 30 }
     requires in_place { IsInPlace firsts.old }
     requires empty { block.items ≡ [] }
+    requires roomy { vec_len cells.old ≤ vec_capacity block }
     ensures in_place { OnOk result (IsInPlace firsts.new) }
     ensures filled { OnOk result (IsFilled firsts.new) }
     ensures linked { OnOk result (IsLinked (links_of firsts.new) cells.new.items END) }
@@ -402,13 +402,14 @@ pub fn double<N: Copy>(
     ensures len { OnOk result (length firsts.new ≡ 2 * length firsts.old) }
     ensures nodes { IfOk result (λ list. IsPermutation (nodes_in firsts.old ++ nodes_in cells.old.items)
         (nodes_in firsts.new ++ list.items)) }
-    ensures roomy { OnOk result (vec_capacity block ≤ vec_capacity cells.new) }
+    ensures moved { OnOk result (vec_capacity cells.new ≡ vec_capacity block) }
     ensures firsts_same { OnErr result (firsts.new ≡ firsts.old) }
     ensures cells_same { OnErr result (cells.new.items ≡ cells.old.items) }
-    ensures capacity { min (vec_capacity block) (vec_capacity cells.old) ≤ vec_capacity cells.new }
+    ensures least { min (vec_capacity block) (vec_capacity cells.old) ≤ vec_capacity cells.new }
+    ensures most { vec_capacity cells.new ≤ max (vec_capacity block) (vec_capacity cells.old) }
 {
     let nodes = chained(*cells.allocator(), cells)?;
-    move_to(cells, block)?;
+    move_to(cells, block);
     firsts.double(filler)?;
     cells.clear();
     Ok(nodes)

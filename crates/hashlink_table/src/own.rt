@@ -13,8 +13,10 @@ use super::cell::END;
 use super::kept::Kept;
 use super::lanes::{LANES, lanes_with};
 use super::repeated::repeated;
+use super::steps::Steps;
 use std::alloc::{AllocError, Global};
 use std::marker::Model;
+use std::sync::ledger::Ledger;
 
 /// What a cell stores beside its node: the node's hash, and where its bucket's chain begins.
 #[derive(Clone, Copy)]
@@ -178,16 +180,18 @@ impl<N: Copy> Own<N> {
         self.rests[bucket].link = to as u32;
     }
 
-    /// The node of a cell that is known to have one.
+    /// What a search reads of a cell that is known to have a node: the node. It takes a step.
     #[inline]
-    pub fn node(&self, at: usize) -> N
+    pub fn look<L: Ledger>(&self, at: usize, steps: &mut Steps<L>) -> N
         requires { IsSome (kept_at self.now at) }
-        ensures { IfSome (kept_at self.now at) (λ kept. kept.node ≡ result) }
+        ensures node { IfSome (kept_at self.now at) (λ kept. kept.node ≡ result) }
+        ensures step { steps.new ≡ steps.old + 1 }
     {
+        steps.tick();
         self.nodes[at]
     }
 
-    /// What a cell has that is known to have a node.
+    /// What a cell has that is known to have a node, for a move of the node.
     #[inline]
     pub fn known(&self, at: usize) -> Kept<N>
         requires { IsSome (kept_at self.now at) }
@@ -199,6 +203,7 @@ impl<N: Copy> Own<N> {
         }
     }
 
+    /// What a cell has, for a move of its node.
     #[inline]
     pub fn kept(&self, at: usize) -> Option<Kept<N>>
         requires { at < length self.now }

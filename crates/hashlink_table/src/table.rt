@@ -4,7 +4,7 @@ ghost use Rattle.std.specs.Prelude.{length, max};
 ghost use Rattle.std.specs.Int.{IsPowerOfTwo};
 ghost use Rattle.hashlink_table.specs.declared.error.TryReserveError.TheVariants.{CapacityOverflow};
 ghost use Rattle.hashlink_table.specs.Chains.{nodes_in};
-ghost use Rattle.hashlink_table.specs.Contents.{agreeing, len_of, AcceptsOnly, CanAsk, Keeps};
+ghost use Rattle.hashlink_table.specs.Contents.{agreeing, len_of, AcceptsOnly, AreBuckets, CanAsk, Keeps};
 
 use super::bucket::{bucket_of, buckets_for};
 use super::cell::{END, Stored};
@@ -23,7 +23,7 @@ pub const MAX_ROOM: usize = 1 << 62;
 
 // The most buckets that a table has, so that the cells' numbers fit into a link. A request for more fails as
 // an allocation does.
-const MAX_BUCKETS: usize = 1 << 30;
+const MAX_BUCKETS: usize = 1 << 31;
 
 // The least room that a table grows to.
 const MIN_ROOM: usize = 4;
@@ -100,7 +100,8 @@ impl<N: Copy> Table<N> {
         room: usize,
     ) -> Result<Self, AllocError>
         requires power { IsPowerOfTwo buckets }
-        requires small { buckets ≤ 2 ^ 30 }
+        requires small { buckets ≤ 2 ^ 31 }
+        requires some { 0 < room }
         requires headed { room ≤ buckets }
         requires bounded { buckets ≤ 4 * max 8 room }
         requires whole { buckets % LANES ≡ 0 }
@@ -156,11 +157,10 @@ impl<N: Copy> Table<N> {
         self.len += 1;
     }
 
-    /// Removes a node of this hash that matches, which frees its room, and returns it. It looks for it as `find`
-    /// does, and compares no keys.
+    /// `remove_counted`, where nobody counts the steps.
     #[inline]
     pub fn remove<F: Fn(N) -> bool>(&mut self, hash: u32, is_match: F) -> Option<N>
-        requires callable { CanAsk self.old (λ node. F.pre is_match node) }
+        requires callable { CanAsk self.old hash (λ node. F.pre is_match node) }
         requires telling { AcceptsOnly self.old hash (λ node. F.post is_match node true) }
         ensures removed { IfSome result (λ node. IsPermutation self.old.nodes
             (record { hash = hash; node = node } ∷ self.new.nodes)
@@ -173,7 +173,7 @@ impl<N: Copy> Table<N> {
         self.remove_from::<F, Brand>(hash, is_match, Blank::new(1))
     }
 
-    // `remove`, with a counter for the search.
+    // `remove_counted`, with a counter of its own.
     fn remove_from<F: Fn(N) -> bool, L: Ledger>(
         &mut self,
         hash: u32,
@@ -183,7 +183,7 @@ impl<N: Copy> Table<N> {
         requires name { blank.name ≡ L.name }
         requires parts { blank.parts ≡ L.parts }
         requires some_part { 0 < blank.parts }
-        requires callable { CanAsk self.old (λ node. F.pre is_match node) }
+        requires callable { CanAsk self.old hash (λ node. F.pre is_match node) }
         requires telling { AcceptsOnly self.old hash (λ node. F.post is_match node true) }
         ensures removed { IfSome result (λ node. IsPermutation self.old.nodes
             (record { hash = hash; node = node } ∷ self.new.nodes)
@@ -193,11 +193,35 @@ impl<N: Copy> Table<N> {
         ensures same { IfNone result (self.new ≡ self.old) }
         ensures room { self.new.room ≡ self.old.room }
     {
+        let mut steps = Steps::<L>::new(blank);
+        self.remove_counted(hash, is_match, &mut steps)
+    }
+
+    /// Removes a node of this hash that matches, which frees its room, and returns it. It looks for it as `find`
+    /// does, and compares no keys.
+    #[inline]
+    pub fn remove_counted<F: Fn(N) -> bool, L: Ledger>(
+        &mut self,
+        hash: u32,
+        is_match: F,
+        steps: &mut Steps<L>,
+    ) -> Option<N>
+        requires callable { CanAsk self.old hash (λ node. F.pre is_match node) }
+        requires telling { AcceptsOnly self.old hash (λ node. F.post is_match node true) }
+        ensures removed { IfSome result (λ node. IsPermutation self.old.nodes
+            (record { hash = hash; node = node } ∷ self.new.nodes)
+            × F.post is_match node true) }
+        ensures none { IfNone result
+            ((node : N) → Keeps self.old hash node → F.post is_match node false) }
+        ensures same { IfNone result (self.new ≡ self.old) }
+        ensures room { self.new.room ≡ self.old.room }
+        ensures goes_on { steps.old ≤ steps.new }
+        ensures cost { (m : ℕ) × AreBuckets self.old m × (steps.new ≤ steps.old + agreeing self.old hash m) }
+    {
         if self.len == 0 {
             return None;
         }
-        let mut steps = Steps::<L>::new(blank);
-        match links::seek(&self.firsts, &self.overs, hash, &is_match, &mut steps) {
+        match links::seek(&self.firsts, &self.overs, hash, &is_match, steps) {
             None => None,
             Some(found) => {
                 let kept = links::take(
@@ -214,8 +238,8 @@ impl<N: Copy> Table<N> {
 
     /// Returns the node of this hash that matches, if no more than one does: the first that it looks at. It
     /// takes a step for each node that it looks at: those of the hash's group of which the tag is the hash's,
-    /// and then those of its chain. It calls `is_match` on nodes that it looks at alone, which may be of other
-    /// hashes.
+    /// and then those of its chain. They are all of the hash's bucket. It calls `is_match` on nodes that it looks
+    /// at alone, which may be of other hashes.
     #[inline]
     pub fn find<F: Fn(N) -> bool, L: Ledger>(
         &self,
@@ -223,14 +247,13 @@ impl<N: Copy> Table<N> {
         is_match: F,
         steps: &mut Steps<L>,
     ) -> Option<N>
-        requires callable { CanAsk self.now (λ node. F.pre is_match node) }
+        requires callable { CanAsk self.now hash (λ node. F.pre is_match node) }
         requires telling { AcceptsOnly self.now hash (λ node. F.post is_match node true) }
         ensures found { IfSome result (λ node. Keeps self.now hash node × F.post is_match node true) }
         ensures none { IfNone result
             ((node : N) → Keeps self.now hash node → F.post is_match node false) }
         ensures goes_on { steps.old ≤ steps.new }
-        ensures cost { (m : ℕ) × (0 < m) × (self.now.room ≤ m)
-            × (steps.new ≤ steps.old + agreeing self.now hash m) }
+        ensures cost { (m : ℕ) × AreBuckets self.now m × (steps.new ≤ steps.old + agreeing self.now hash m) }
     {
         if self.len == 0 {
             return None;
@@ -244,7 +267,7 @@ impl<N: Copy> Table<N> {
     /// `find`, where nobody counts the steps.
     #[inline]
     pub fn look_up<F: Fn(N) -> bool>(&self, hash: u32, is_match: F) -> Option<N>
-        requires callable { CanAsk self.now (λ node. F.pre is_match node) }
+        requires callable { CanAsk self.now hash (λ node. F.pre is_match node) }
         requires telling { AcceptsOnly self.now hash (λ node. F.post is_match node true) }
         ensures found { IfSome result
             (λ node. Keeps self.now hash node × F.post is_match node true) }
@@ -265,7 +288,7 @@ impl<N: Copy> Table<N> {
         requires name { blank.name ≡ L.name }
         requires parts { blank.parts ≡ L.parts }
         requires some_part { 0 < blank.parts }
-        requires callable { CanAsk self.now (λ node. F.pre is_match node) }
+        requires callable { CanAsk self.now hash (λ node. F.pre is_match node) }
         requires telling { AcceptsOnly self.now hash (λ node. F.post is_match node true) }
         ensures found { IfSome result
             (λ node. Keeps self.now hash node × F.post is_match node true) }
@@ -337,6 +360,7 @@ impl<N: Copy> Table<N> {
     fn grow(&mut self, buckets: usize, room: usize) -> Result<(), AllocError>
         requires power { IsPowerOfTwo buckets }
         requires more { self.old.room ≤ room }
+        requires some { 0 < room }
         requires headed { room ≤ buckets }
         requires bounded { buckets ≤ 4 * max 8 room }
         requires whole { buckets % LANES ≡ 0 }
@@ -350,7 +374,7 @@ impl<N: Copy> Table<N> {
         }
         let block = Vec::with_capacity(*self.overs.allocator(), room)?;
         if buckets == now {
-            links::move_to(&mut self.overs, block)?;
+            links::move_to(&mut self.overs, block);
             self.room = room;
             return Ok(());
         }
@@ -367,6 +391,7 @@ impl<N: Copy> Table<N> {
     fn rebuild(&mut self, buckets: usize, room: usize) -> Result<(), AllocError>
         requires power { IsPowerOfTwo buckets }
         requires held { len_of self.old ≤ room }
+        requires some { 0 < room }
         requires headed { room ≤ buckets }
         requires bounded { buckets ≤ 4 * max 8 room }
         requires whole { buckets % LANES ≡ 0 }

@@ -1,11 +1,14 @@
-use Rattle.std.proofs.Common.{ℕ, ◌-◌, ◌%◌, ◌<◌, ◌≡◌, length, sym, ap, ◌∙◌, arith}
-use Rattle.hashlink_table.specs.Chains.{chain_at, chain_of, links_of}
+use Rattle.std.proofs.Common.{ℕ, ◌-◌, ◌%◌, ◌<◌, ◌≡◌, length, refl, sym, ap, ◌∙◌, arith}
+use Rattle.std.proofs.lemmas.Bool.{eq-eqb, eqb-true}
+use Rattle.hashlink_table.specs.Chains.{chain_at, chain_of, kept_at, links_of}
+use Rattle.hashlink_table.specs.Stored.{tag_of}
 use Rattle.hashlink_table.proofs.Cells.{chain_at_within}
 use Rattle.hashlink_table.proofs.Chaining.{length-links, link_read}
-use Rattle.hashlink_table.proofs.Groups.{from_base, group_within, to_base}
+use Rattle.hashlink_table.proofs.Groups.{from_base, group_within, grouped_in, to_base}
 use Rattle.hashlink_table.proofs.Linking.{positive_by_power}
 use Rattle.hashlink_table.proofs.Masks.{no_chain}
 use Rattle.hashlink_table.proofs.Moving.{within_kept}
+use Rattle.hashlink_table.proofs.Views.{tag_agrees}
 use Rattle.hashlink_table.proofs.Walks.{walk_of, walk_goes}
 use Rattle.hashlink_table.proofs.links.seek.Goals as goal
 
@@ -16,6 +19,19 @@ seek_over-requires-clause-bucket g c =
 -- the group of a hash
 group_is : (hash m len base : ℕ) → len ≡ m → base ≡ hash % len - hash % len % 16 → base ≡ hash % m - hash % m % 16
 group_is hash m len base n is = is ∙ ap (λ k. hash % k - hash % k % 16) n
+
+-- a node of the group with the tag of the hash is of its bucket
+pub seek_own-requires-clause-callable : goal.seek_own-requires-clause-callable
+seek_own-requires-clause-callable g c at kept from to is same =
+    let firsts = c.args.firsts.now in
+    let m = length firsts in
+    let b = c.args.hash % m in
+    let some = positive_by_power m c.requires.masked in
+    let base = group_is c.args.hash _ _ _ c.len-buckets.ensures c.base_of-base.ensures in
+    let own = tag_agrees m b c.args.hash at (kept_at firsts at) some c.requires.whole refl (c.requires.in_place at)
+    (grouped_in b at (omega (arith, base, from)) (omega (arith, base, to)))
+    (rw is (eq-eqb (tag_of kept.hash) (tag_of c.args.hash) same)) in
+    c.requires.callable_own at kept is (eqb-true (kept.hash % m) b (rw is at own))
 
 pub returns-then-free-ne0-clause-none_own : goal.returns-then-free-ne0-clause-none_own
 returns-then-free-ne0-clause-none_own g c = λ at node is.

@@ -43,8 +43,8 @@ bounds-cells-at g c =
     (subst IsPowerOfTwo (sym (length-links c.args.firsts.now)) c.requires.masked)
     c.loop-at-test.true
 
-pub known-kept-requires : goal.known-kept-requires
-known-kept-requires g c =
+pub look-kept-requires : goal.look-kept-requires
+look-kept-requires g c =
     let heads = links_of c.args.firsts.now in let cells = c.args.cells.now in
     let power = subst IsPowerOfTwo (sym (length-links c.args.firsts.now)) c.requires.masked in
     let read = walk_read heads cells c.args.hash c.loop-at.invariant.walk power
@@ -57,9 +57,9 @@ is_match-requires g c =
     let power = subst IsPowerOfTwo (sym (length-links c.args.firsts.now)) c.requires.masked in
     let read = walk_read heads cells c.args.hash c.loop-at.invariant.walk power
     c.loop-at-test.true c.index-cells-at.result c.index-cells-at.is in
-    c.requires.callable c.loop-at.at c.known-kept.result.node
-    (read.0 ∙ c.known-kept.ensures
-    ∙ ap (λ h. let k : Kept g.row.N.Denot = record { hash = h; node = c.known-kept.result.node } in Some k)
+    c.requires.callable c.loop-at.at c.look-kept.result.node
+    (read.0 ∙ c.look-kept.ensures.value
+    ∙ ap (λ h. let k : Kept g.row.N.Denot = record { hash = h; node = c.look-kept.result.node } in Some k)
     c.if-kept-hash.true)
 
 pub returns-then-is_match-clause-found : goal.returns-then-is_match-clause-found
@@ -68,8 +68,8 @@ returns-then-is_match-clause-found g c =
     let power = subst IsPowerOfTwo (sym (length-links c.args.firsts.now)) c.requires.masked in
     let read = walk_read heads cells c.args.hash c.loop-at.invariant.walk power
     c.loop-at-test.true c.index-cells-at.result c.index-cells-at.is in (
-      read.0 ∙ c.known-kept.ensures
-          ∙ ap (λ h. let k : Kept g.row.N.Denot = record { hash = h; node = c.known-kept.result.node } in Some k)
+      read.0 ∙ c.look-kept.ensures.value
+          ∙ ap (λ h. let k : Kept g.row.N.Denot = record { hash = h; node = c.look-kept.result.node } in Some k)
           c.if-kept-hash.true,
       c.if-is_match.ensures,
     )
@@ -82,7 +82,7 @@ returns-then-is_match-clause-cost g c =
     ≡ in_bucket cells (length firsts) (c.args.hash % length firsts)
     = ap (λ m. in_bucket cells m (c.args.hash % m)) (length-links firsts) in
     let r = walk_on c.loop-at.invariant.walk c.loop-at-test.true in
-    omega (arith, c.loop-at.invariant.cost, r.shorter, all, c.tick.ensures)
+    omega (arith, c.loop-at.invariant.cost, r.shorter, all, c.look-kept.ensures.step)
 
 pub loop-at-smaller : goal.loop-at-smaller
 loop-at-smaller g c =
@@ -103,14 +103,14 @@ loop-at-preserved g c =
     c.loop-at-test.true c.index-cells-at.result c.index-cells-at.is in
     search_on c.loop-at.invariant c.loop-at-test.true
     (λ node here.
-    let same = same_Some _ _ (sym c.known-kept.ensures ∙ sym read.0 ∙ here) in
+    let same = same_Some _ _ (sym c.look-kept.ensures.value ∙ sym read.0 ∙ here) in
     elim c.else-kept-hash.branch as (λ _. g.F.Fn.post c.args.is_match.now (node, tt) false) [
       | else-kept-hash-via-then-kept-hash+else-is_match w ↦
           subst (λ (k : Kept g.row.N.Denot). g.F.Fn.post c.args.is_match.now (k.node, tt) false) same
           w.if-is_match.ensures
       | else-kept-hash-via-else-kept-hash w ↦
           absurd (w.if-kept-hash.false (ap (λ (k : Kept g.row.N.Denot). k.hash) same))
-    ]) _ _ (read.1 ∙ sym c.next-at-in-loop-at.ensures.value) c.tick.ensures
+    ]) _ _ (read.1 ∙ sym c.next-at-in-loop-at.ensures.value) c.look-kept.ensures.step
 
 pub returns-clause-none : goal.returns-clause-none
 returns-clause-none g c = λ cell node here.

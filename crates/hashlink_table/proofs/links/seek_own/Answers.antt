@@ -1,7 +1,7 @@
 use Rattle.std.proofs.Common.{◌≡◌, ℕ, ◌+◌, ◌-◌, ◌≤◌, true, false, inl, inr, List, length, map}
 use Rattle.std.proofs.Common.{drop, Option, None, Some, IsSome, refl, sym, ap, ◌∙◌, subst, arith}
 use Rattle.std.specs.Prelude.{IfSome}
-use Rattle.std.proofs.lemmas.Bool.{cases_eq, cases_lt, eq-eqb, true≢false, false≢true}
+use Rattle.std.proofs.lemmas.Bool.{cases_eq, cases_lt, eq-eqb, eqb-true, true≢false, false≢true}
 use Rattle.std.proofs.lemmas.Option.{same_Some}
 use lib.Count.{count_trailing_zeros}
 use lib.Lanes.{mask_l}
@@ -17,6 +17,11 @@ use Rattle.hashlink_table.proofs.links.seek_own.Goals as goal
 there : {N : Type 0} (hash : ℕ) (o : Option (Kept N)) → kept_may_be hash o ≡ true → IsSome o
 there hash None e = absurd (true≢false (sym e))
 there hash (Some k) e = refl
+
+-- with the tag of the hash
+same_tag : {N : Type 0} (hash : ℕ) (o : Option (Kept N)) (k : Kept N) → o ≡ Some k → kept_may_be hash o ≡ true
+    → tag_of k.hash ≡ tag_of hash
+same_tag hash o k is e = eqb-true (tag_of k.hash) (tag_of hash) (rw is at e)
 
 -- one with a node of the hash may have it
 own_hash : {N : Type 0} (hash : ℕ) (o : Option (Kept N)) (node : N)
@@ -47,8 +52,8 @@ overflow_add-at g c =
     v.from v.left c.loop-hits-test.true in
     record { fits = omega (arith, h.to, c.may_have-hits.ensures.small) }
 
-pub node-node-requires : goal.node-node-requires
-node-node-requires g c =
+pub look-node-requires : goal.look-node-requires
+look-node-requires g c =
     let v = c.loop-hits.invariant in
     let h = found_at c.args.firsts.now c.args.base c.args.hash c.requires.within c.loop-hits.at c.loop-hits.hits
     v.from v.left c.loop-hits-test.true in
@@ -60,8 +65,9 @@ is_match-requires g c =
     let v = c.loop-hits.invariant in
     let h = found_at firsts c.args.base c.args.hash c.requires.within c.loop-hits.at c.loop-hits.hits
     v.from v.left c.loop-hits-test.true in
-    let k = of_some _ _ (there c.args.hash _ h.here) c.node-node.ensures in
-    subst (λ (n : g.row.N.Denot). g.F.Fn.pre c.args.is_match.now (n, tt)) k.2 (c.requires.callable _ k.0 k.1)
+    let k = of_some _ _ (there c.args.hash _ h.here) c.look-node.ensures.node in
+    subst (λ (n : g.row.N.Denot). g.F.Fn.pre c.args.is_match.now (n, tt)) k.2
+    (c.requires.callable _ k.0 (omega (arith, v.from)) h.to k.1 (same_tag c.args.hash _ k.0 k.1 h.here))
 
 pub returns-then-is_match-clause-found : goal.returns-then-is_match-clause-found
 returns-then-is_match-clause-found g c =
@@ -69,7 +75,7 @@ returns-then-is_match-clause-found g c =
     let v = c.loop-hits.invariant in
     let h = found_at firsts c.args.base c.args.hash c.requires.within c.loop-hits.at c.loop-hits.hits
     v.from v.left c.loop-hits-test.true in
-    let k = of_some _ _ (there c.args.hash _ h.here) c.node-node.ensures in
+    let k = of_some _ _ (there c.args.hash _ h.here) c.look-node.ensures.node in
     let matches = subst (λ (n : g.row.N.Denot). g.F.Fn.post c.args.is_match.now (n, tt) true) (sym k.2)
     c.if-is_match.ensures in
     (k.1 ∙ parts k.0 _ _ (c.requires.telling _ k.0 k.1 matches) k.2, c.if-is_match.ensures)
@@ -79,7 +85,7 @@ returns-then-is_match-clause-cost g c =
     let v = c.loop-hits.invariant in
     let h = found_at c.args.firsts.now c.args.base c.args.hash c.requires.within c.loop-hits.at c.loop-hits.hits
     v.from v.left c.loop-hits-test.true in
-    omega (arith, v.cost, h.count, c.tick.ensures)
+    omega (arith, v.cost, h.count, c.look-node.ensures.step)
 
 pub overflow_add-at-in-loop-hits : goal.overflow_add-at-in-loop-hits
 overflow_add-at-in-loop-hits g c =
@@ -94,7 +100,7 @@ loop-hits-preserved g c =
     let v = c.loop-hits.invariant in
     let h = found_at firsts c.args.base c.args.hash c.requires.within c.loop-hits.at c.loop-hits.hits
     v.from v.left c.loop-hits-test.true in
-    let k = of_some _ _ (there c.args.hash _ h.here) c.node-node.ensures in
+    let k = of_some _ _ (there c.args.hash _ h.here) c.look-node.ensures.node in
     let now = c.loop-hits.at + count_trailing_zeros 64 c.loop-hits.hits in
     let Other : g.row.N.Denot → Type 0 = λ n. g.F.Fn.post c.args.is_match.now (n, tt) false in
     record {
@@ -111,8 +117,8 @@ loop-hits-preserved g c =
               ∙ h.before i late (omega (arith, to, ne))))
         ]
       ];
-      cost = omega (arith, v.cost, h.count, c.tick.ensures);
-      goes_on = omega (arith, v.goes_on, c.tick.ensures);
+      cost = omega (arith, v.cost, h.count, c.look-node.ensures.step);
+      goes_on = omega (arith, v.goes_on, c.look-node.ensures.step);
     }
 
 pub returns-clause-none : goal.returns-clause-none

@@ -1,5 +1,5 @@
-use Rattle.std.proofs.Common.{◌+◌, arith}
-use Rattle.hashlink_table.proofs.Views.{keeps_found, none_left, over_asked, own_accepted, own_asked, search_cost}
+use Rattle.std.proofs.Common.{arith}
+use Rattle.hashlink_table.proofs.Views.{keeps_found, no_cost, none_left, over_asked, own_accepted, own_asked, search_cost}
 use Rattle.hashlink_table.proofs.table.Table.find.Goals as goal
 
 pub seek-requires-clause-linked : goal.seek-requires-clause-linked
@@ -7,7 +7,9 @@ seek-requires-clause-linked g c = rw c.deref.ensures.value (c.self.inside.free, 
 
 pub seek-requires-clause-callable_own : goal.seek-requires-clause-callable_own
 seek-requires-clause-callable_own g c =
-    own_asked c.self.inside c.args.self.now c.self.view_is _ c.requires.callable
+    let s = c.self.invariant in
+    own_asked c.self.inside c.args.self.now c.self.view_is _ c.args.hash c.requires.callable s.masked
+    (omega (arith, c.if-self-eq0.false, s.held, s.headed)) s.headed
 
 pub seek-requires-clause-telling : goal.seek-requires-clause-telling
 seek-requires-clause-telling g c =
@@ -15,7 +17,9 @@ seek-requires-clause-telling g c =
 
 pub seek-requires-clause-callable : goal.seek-requires-clause-callable
 seek-requires-clause-callable g c =
-    over_asked c.self.inside c.args.self.now c.self.view_is _ c.deref.ensures.value c.args.hash _ c.requires.callable
+    let s = c.self.invariant in
+    over_asked c.self.inside c.args.self.now c.self.view_is _ c.deref.ensures.value c.args.hash _
+    c.requires.callable s.masked (omega (arith, c.if-self-eq0.false, s.held, s.headed)) s.headed
 
 pub returns-in-None-clause-none : goal.returns-in-None-clause-none
 returns-in-None-clause-none g c =
@@ -25,7 +29,7 @@ returns-in-None-clause-none g c =
 pub returns-in-None-clause-cost : goal.returns-in-None-clause-cost
 returns-in-None-clause-cost g c =
     let s = c.self.invariant in
-    search_cost c.self.inside c.args.self.now c.self.view_is _ c.deref.ensures.value c.args.hash
+    search_cost c.self.inside c.args.self.now c.self.view_is _ c.deref.ensures.value c.args.hash s.masked
     (omega (arith, c.if-self-eq0.false, s.held, s.headed)) s.whole s.in_place s.headed _ _ c.seek.ensures.cost
 
 pub returns-clause-found : goal.returns-clause-found
@@ -39,9 +43,10 @@ returns-clause-found g c =
 pub returns-clause-cost : goal.returns-clause-cost
 returns-clause-cost g c =
     let s = c.self.invariant in
-    search_cost c.self.inside c.args.self.now c.self.view_is _ c.deref.ensures.value c.args.hash
+    search_cost c.self.inside c.args.self.now c.self.view_is _ c.deref.ensures.value c.args.hash s.masked
     (omega (arith, c.if-self-eq0.false, s.held, s.headed)) s.whole s.in_place s.headed _ _ c.seek.ensures.cost
 
 pub returns-then-self-eq0-clause-cost : goal.returns-then-self-eq0-clause-cost
 returns-then-self-eq0-clause-cost g c =
-    (c.args.self.now.room + 1, omega arith, omega arith, omega arith)
+    let s = c.self.invariant in
+    no_cost c.self.inside c.args.self.now c.self.view_is s.masked s.headed c.args.hash _

@@ -1,4 +1,4 @@
-use Rattle.std.proofs.Common.{◌∷◌, ◌++◌, true, length, sym, ap, ◌∙◌, subst}
+use Rattle.std.proofs.Common.{◌∷◌, ◌++◌, true, length, sym, ap, ◌∙◌, subst, arith}
 use Rattle.std.specs.Prelude.{IsPermutation}
 use Rattle.std.proofs.lemmas.Option.{same_Some}
 use Rattle.std.proofs.lemmas.List.{with_items_is}
@@ -6,15 +6,17 @@ use Rattle.hashlink_table.specs.declared.kept.Kept.{Kept}
 use Rattle.hashlink_table.specs.Contents.{Contents}
 use Rattle.hashlink_table.specs.Chains.{nodes_in}
 use Rattle.hashlink_table.proofs.Sound.{sound-take}
-use Rattle.hashlink_table.proofs.Views.{none_left, over_asked, own_accepted, own_asked}
-use Rattle.hashlink_table.proofs.table.Table.remove_from.Goals as goal
+use Rattle.hashlink_table.proofs.Views.{no_cost, none_left, over_asked, own_accepted, own_asked, search_cost}
+use Rattle.hashlink_table.proofs.table.Table.remove_counted.Goals as goal
 
 pub seek-requires-clause-linked : goal.seek-requires-clause-linked
 seek-requires-clause-linked g c = rw c.deref.ensures.value (c.self.inside.free, c.self.invariant.linked)
 
 pub seek-requires-clause-callable_own : goal.seek-requires-clause-callable_own
 seek-requires-clause-callable_own g c =
-    own_asked c.self.inside c.args.self.now c.self.view_is _ c.requires.callable
+    let s = c.self.invariant in
+    own_asked c.self.inside c.args.self.now c.self.view_is _ c.args.hash c.requires.callable s.masked
+    (omega (arith, c.if-self-eq0.false, s.held, s.headed)) s.headed
 
 pub seek-requires-clause-telling : goal.seek-requires-clause-telling
 seek-requires-clause-telling g c =
@@ -22,12 +24,20 @@ seek-requires-clause-telling g c =
 
 pub seek-requires-clause-callable : goal.seek-requires-clause-callable
 seek-requires-clause-callable g c =
-    over_asked c.self.inside c.args.self.now c.self.view_is _ c.deref.ensures.value c.args.hash _ c.requires.callable
+    let s = c.self.invariant in
+    over_asked c.self.inside c.args.self.now c.self.view_is _ c.deref.ensures.value c.args.hash _
+    c.requires.callable s.masked (omega (arith, c.if-self-eq0.false, s.held, s.headed)) s.headed
 
 pub returns-in-None-clause-none : goal.returns-in-None-clause-none
 returns-in-None-clause-none g c =
     none_left c.self.inside c.args.self.now c.self.view_is _ c.deref.ensures.value c.args.hash _
     c.in-None.ensures.none_own c.in-None.ensures.none
+
+pub returns-in-None-clause-cost : goal.returns-in-None-clause-cost
+returns-in-None-clause-cost g c =
+    let s = c.self.invariant in
+    search_cost c.self.inside c.args.self.now c.self.view_is _ c.deref.ensures.value c.args.hash s.masked
+    (omega (arith, c.if-self-eq0.false, s.held, s.headed)) s.whole s.in_place s.headed _ _ c.seek.ensures.cost
 
 pub take-kept-requires-clause-linked : goal.take-kept-requires-clause-linked
 take-kept-requires-clause-linked g c = rw c.deref_mut.ensures.value c.self.invariant.linked
@@ -58,3 +68,14 @@ returns-clause-removed g c =
           (record { hash = h; node = taken.result.node } ∷ rest)) (sym (ap (λ (k : K). k.hash) same)) nodes),
       subst (λ (k : K). g.F.Fn.post c.args.is_match (k.node, tt) true) same sought.1,
     )
+
+pub returns-clause-cost : goal.returns-clause-cost
+returns-clause-cost g c =
+    let s = c.self.invariant in
+    search_cost c.self.inside c.args.self.now c.self.view_is _ c.deref.ensures.value c.args.hash s.masked
+    (omega (arith, c.if-self-eq0.false, s.held, s.headed)) s.whole s.in_place s.headed _ _ c.seek.ensures.cost
+
+pub returns-then-self-eq0-clause-cost : goal.returns-then-self-eq0-clause-cost
+returns-then-self-eq0-clause-cost g c =
+    let s = c.self.invariant in
+    no_cost c.self.inside c.args.self.now c.self.view_is s.masked s.headed c.args.hash _
