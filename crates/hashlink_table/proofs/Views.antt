@@ -13,10 +13,10 @@ use Rattle.std.proofs.lemmas.List.Elements.{Contains-append_cases}
 use Rattle.std.proofs.lemmas.List.Sums.{sum_by-cons, sum_by-append}
 use Rattle.std.proofs.lemmas.Simd.{chunk-drop, get_or-chunk, length-chunk}
 use Rattle.hashlink_table.specs.declared.kept.Kept.{Kept}
-use Rattle.hashlink_table.specs.declared.cell.Cell.{Cell}
-use Rattle.hashlink_table.specs.declared.spot.Spot.{Spot}
-use Rattle.hashlink_table.specs.declared.spot.Spot.TheVariants.{Own, Over}
-use Rattle.hashlink_table.specs.declared.table.Table.TheInside.{Inside}
+use Rattle.hashlink_table.specs.declared.store.cell.Cell.{Cell}
+use Rattle.hashlink_table.specs.declared.store.spot.Spot.{Spot}
+use Rattle.hashlink_table.specs.declared.store.spot.Spot.TheVariants.{Own, Over}
+use Rattle.hashlink_table.specs.declared.store.table.Table.TheInside.{Inside}
 use Rattle.hashlink_table.specs.Contents.{Contents, agreeing, AcceptsOnly, AreBuckets, CanAsk, Keeps}
 use Rattle.hashlink_table.specs.Chains.{kept_at, kept_by, chain_of, with_node, nodes_in, contents}
 use Rattle.hashlink_table.specs.Chains.{AreGrouped, IsInPlace}

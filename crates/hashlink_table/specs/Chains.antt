@@ -6,10 +6,10 @@ use Rattle.std.specs.Int.{IsPowerOfTwo}
 use Rattle.hashlink_table.specs.Contents.{Contents}
 use Rattle.hashlink_table.specs.Stored.{bare_cell}
 use Rattle.hashlink_table.specs.declared.kept.Kept.{Kept}
-use Rattle.hashlink_table.specs.declared.cell.Cell.{Cell}
-use Rattle.hashlink_table.specs.declared.cell.TheConstants.{END}
-use Rattle.hashlink_table.specs.declared.spot.Spot.{Spot}
-use Rattle.hashlink_table.specs.declared.spot.Spot.TheVariants.{Own, Over}
+use Rattle.hashlink_table.specs.declared.store.cell.Cell.{Cell}
+use Rattle.hashlink_table.specs.declared.store.cell.TheConstants.{END}
+use Rattle.hashlink_table.specs.declared.store.spot.Spot.{Spot}
+use Rattle.hashlink_table.specs.declared.store.spot.Spot.TheVariants.{Own, Over}
 
 module _ {N : Type 0} where
   abbrev pub kept_at : List (Cell N) → ℕ → Option (Kept N)
