@@ -1,11 +1,12 @@
 -- Finding a key's node by the table, and telling two nodes apart.
-use Rattle.std.proofs.Common.{◌≡◌, ℕ, List, ◌∷◌, Bool, true, false, Option, None, Some, refl, ap, sym}
+use Rattle.std.proofs.Common.{◌≡◌, ℕ, suc, List, [], ◌∷◌, Bool, true, false, cond, Option, None, Some, refl, ap, sym}
 use Rattle.std.proofs.Common.{subst, ◌∙◌, arith}
-use Rattle.std.specs.Prelude.{IsPermutation}
+use Rattle.std.specs.Prelude.{Contains, IsPermutation}
 use Rattle.std.specs.Option.{option_map, is_some, IfSome, IfNone, MatchOption}
 use Rattle.std.specs.Cmp.{IsEquivalence}
 use Rattle.std.specs.List.{fold}
-use Rattle.std.specs.Map.{lookup}
+use Rattle.std.specs.Map.{keys_of, lookup}
+use Rattle.std.proofs.lemmas.Option.{same_Some}
 use Rattle.std.proofs.Math.Path.{fun_ext}
 use Rattle.std.proofs.lemmas.List.Sorted.{Contains-permutation, IsPermutation-sym}
 use Rattle.hashlink_model.specs.Entries.{place_of, IsKeyTest}
@@ -20,7 +21,7 @@ use Rattle.hashlink_nodes.specs.Ring.{Ring, pair_of, Holds}
 use Rattle.hashlink_table.specs.Contents.{Contents, Keeps}
 use Rattle.hashlink_core.specs.Keyed.{nodes_of, pairs_in, HoldsMatch}
 use Rattle.hashlink_core.specs.Places.{place_number}
-use Rattle.hashlink_core.specs.Telling.{Tells, TellsMatch}
+use Rattle.hashlink_core.specs.Telling.{Tells}
 use Rattle.hashlink_core.specs.Tied.{IsInStep, short, hash_with}
 use Rattle.hashlink_core.proofs.Mapped.{lookup-mapped, place_number-mapped}
 use Rattle.hashlink_core.proofs.Places.{node-at}
@@ -36,26 +37,36 @@ answered-at P (Some h) key value is p =
     let same : pair_of h ≡ (key, value) = cc is in
     subst P (sym (ap (λ q. q.0) same)) p
 
--- the answers of a test that tells the keys that pass from the others
-pub told : {K F : Type 0} {calls : Shared F (Bor K × Unit {0}) Bool} {eq : K → K → Bool}
-    {hash : K → ℕ} {test : F}
-    {asked : ℕ} {passes : K → Bool} → TellsMatch calls eq hash test asked passes → (x : K) (b : Bool)
-    → FnReturnsAt calls test x b
-    → b ≡ passes x
-told {passes = passes} tells x b r = tells.answers r.shown b r.says.met ∙ ap passes r.shows
+-- the entry that a node's pair was read from
+pub read-from : {K V : Type 0} (o : Option (Held K V)) (key : K) (value : V)
+    → option_map pair_of o ≡ Some (key, value)
+    → (h : Held K V) × (o ≡ Some h) × (key ≡ h.key)
+read-from None key value is = absurd (cc is)
+read-from (Some h) key value is =
+    let same : pair_of h ≡ (key, value) = cc is in
+    (h, refl, sym (ap (λ q. q.0) same))
 
--- one that tells the keys equal to k from the others
-pub tells-key : {K F : Type 0} {calls : Shared F (Bor K × Unit {0}) Bool} {eq : K → K → Bool}
-    (laws : IsEquivalence eq)
-    {hash : K → ℕ} → ((k x : K) → eq k x ≡ true → hash k ≡ hash x) → {test : F} {asked : ℕ} {k : K}
-    → Tells calls eq hash test asked k
-    → TellsMatch calls eq hash test asked (eq k)
-tells-key laws alike {k = k} tells = record {
-  hashed = λ x e. sym (alike k x e) ∙ sym tells.hashed;
-  alike = laws.congr k;
-  callable = tells.callable;
-  answers = λ x b r. tells.answers x b r ∙ laws.symm x.now k;
-}
+-- the answers of a test that tells the keys equal to k from the others
+pub told : {K F : Type 0} {calls : Shared F (Bor K × Unit {0}) Bool} {eq : K → K → Bool} (laws : IsEquivalence eq)
+    {hash : K → ℕ} {held : List K} {test : F} {asked : ℕ} {k : K}
+    → Tells calls eq hash held test asked k → (x : K) (b : Bool) → Contains held x
+    → FnReturnsAt calls test x b
+    → b ≡ eq k x
+told {eq = eq} laws {held = held} {k = k} tells x b within r =
+    tells.answers r.shown b (subst (Contains held) (sym r.shows) within) r.says.met
+    ∙ ap (λ y. eq y k) r.shows ∙ laws.symm x k
+
+-- the key of a node's entry is among the keys
+pub key-held : {K V : Type 0} (es : List (Node × Held K V)) (n : Node) (h : Held K V)
+    → lookup (same_node n) es ≡ Some h
+    → Contains (keys_of (pairs_in es)) h.key
+key-held [] n h is = absurd (cc is)
+key-held (e ∷ es) n h is =
+    elim (same_node n e.0) as
+    (λ b. cond b (Some e.1) (lookup (same_node n) es) ≡ Some h → Contains (e.1.key ∷ keys_of (pairs_in es)) h.key) [
+      | true ↦ λ is. (0, omega arith, ap (λ g. g.key) (same_Some _ _ is))
+      | false ↦ λ is. let rest = key-held es n h is in (suc rest.0, omega (arith, rest.1), rest.2)
+    ] is
 
 -- the keys that a query matches have its hash
 pub query-hashed : {K S H : Type 0} (build : S → H) (write : H → List ℕ → H) (finish : H → ℕ)
@@ -91,12 +102,14 @@ module _ {K V : Type 0} {eq : K → K → Bool} (laws : IsEquivalence eq) {hash 
   -- ---- by calls that tell the keys that pass, which have the hash, from the others
   module _ (passes : K → Bool) (asked i : ℕ) (is_short : i ≡ short asked)
       (hashed : (x : K) → passes x ≡ true → hash x ≡ asked)
-      (Answers : K → Bool → Type 0) (tells : (x : K) (b : Bool) → Answers x b → b ≡ passes x) where
+      (Answers : K → Bool → Type 0)
+      (tells : (n : Node) (h : Held K V) → lookup (same_node n) r.entries ≡ Some h
+      → (b : Bool) → Answers h.key b → b ≡ passes h.key) where
     answered : (n : Node) (h : Held K V) (b : Bool) → lookup (same_node n) r.entries ≡ Some h
         → IfSome (lookup (same_node n) r.entries) (λ g. Answers g.key b)
         → passes h.key ≡ b
     answered n h b here answer =
-        sym (tells h.key b (subst (λ o. IfSome o (λ g. Answers g.key b)) here answer))
+        sym (tells n h here b (subst (λ o. IfSome o (λ g. Answers g.key b)) here answer))
 
     -- a node whose key is told to pass is kept under the short hash
     pub told-hash : (number : ℕ) (n : Node) → Keeps t number n

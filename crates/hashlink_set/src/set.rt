@@ -51,7 +51,7 @@ impl<T: Eq + Hash> LinkedHashSet<T, DefaultHashBuilder> {
     /// linear time in `capacity`, and does not allocate if that is 0.
     ///
     /// It returns `CapacityOverflow` if `capacity` is above 2 to the power of 62, and `AllocError` if the
-    /// allocation fails or the table would need more than 2 to the power of 30 buckets.
+    /// allocation fails or the table would need more than 2 to the power of 31 buckets.
     pub fn with_capacity(alloc: Global, capacity: usize) -> Result<Self, TryReserveError>
         ensures made { IfOk result (IsMadeWith capacity default_builder) }
         ensures none { capacity ≡ 0 → IsOk result }
@@ -76,7 +76,7 @@ impl<T: Eq + Hash, S: BuildHasher> LinkedHashSet<T, S> {
     /// linear time in `capacity`, and does not allocate if that is 0.
     ///
     /// It returns `CapacityOverflow` if `capacity` is above 2 to the power of 62, and `AllocError` if the
-    /// allocation fails or the table would need more than 2 to the power of 30 buckets.
+    /// allocation fails or the table would need more than 2 to the power of 31 buckets.
     pub fn with_capacity_and_hasher(
         alloc: Global,
         capacity: usize,

@@ -5,7 +5,7 @@ use Rattle.std.proofs.Common.{get_or, set, refl, sym, ap, ◌∙◌, subst, arit
 use Rattle.std.proofs.lemmas.Bool.{cases_eq, cases_lt, false≢true}
 use Rattle.std.proofs.lemmas.List.{get_or-set_same, get_or-set_other, get_or_push, get_or-map, get_or_past}
 use Rattle.std.proofs.lemmas.List.{get_or_default, length-map, map-set, map_push}
-use Rattle.hashlink_table.specs.declared.cell.Cell.{Cell}
+use Rattle.hashlink_table.specs.declared.store.cell.Cell.{Cell}
 use Rattle.hashlink_table.specs.Chains.{kept_at, next_at, chain_of, chain_at}
 use Rattle.hashlink_table.specs.Stored.{bare_cell}
 use Rattle.hashlink_table.proofs.Threads.{IsOff, SameBut}

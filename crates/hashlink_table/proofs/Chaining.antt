@@ -4,8 +4,8 @@ use Rattle.std.proofs.Common.{set, Option, Some, None, IsSome, refl, sym, ap, â—
 use Rattle.std.specs.Prelude.{IsPermutation}
 use Rattle.std.proofs.lemmas.List.{get_or-map, length-map, map-set}
 use Rattle.hashlink_table.specs.declared.kept.Kept.{Kept}
-use Rattle.hashlink_table.specs.declared.cell.Cell.{Cell}
-use Rattle.hashlink_table.specs.declared.cell.TheConstants.{END}
+use Rattle.hashlink_table.specs.declared.store.cell.Cell.{Cell}
+use Rattle.hashlink_table.specs.declared.store.cell.TheConstants.{END}
 use Rattle.hashlink_table.specs.Chains.{kept_at, next_at, chain_of, chain_at, links_of, nodes_in}
 use Rattle.hashlink_table.specs.Chains.{stored_in, with_node}
 use Rattle.hashlink_table.specs.Chains.{IsLinked, IsPlaced, SameNodes}

@@ -8,9 +8,9 @@ use Rattle.std.proofs.lemmas.Bool.{lt-ltb, le-ltb}
 use Rattle.std.proofs.lemmas.List.{set-get_or, set-append_left, set-append_right, get_or_append_left}
 use Rattle.std.proofs.lemmas.List.{length-append, length-replicate}
 use Rattle.hashlink_table.specs.declared.kept.Kept.{Kept}
-use Rattle.hashlink_table.specs.declared.cell.Cell.{Cell}
-use Rattle.hashlink_table.specs.declared.cell.TheConstants.{END}
-use Rattle.hashlink_table.specs.declared.own.Rest.{Rest}
+use Rattle.hashlink_table.specs.declared.store.cell.Cell.{Cell}
+use Rattle.hashlink_table.specs.declared.store.cell.TheConstants.{END}
+use Rattle.hashlink_table.specs.declared.store.own.Rest.{Rest}
 use Rattle.hashlink_table.specs.Stored.{bare_cell, tag_of}
 use Rattle.hashlink_table.specs.Own.{own_cell, cells_in, low_kept, high_kept, low_half, high_half, doubled, parted}
 use Rattle.hashlink_table.specs.Own.{IsStored, IsTagged}

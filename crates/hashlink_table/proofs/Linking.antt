@@ -7,8 +7,8 @@ use Rattle.std.proofs.lemmas.List.{get_or_append_left, get_or_at, length-set, le
 use Rattle.std.proofs.lemmas.List.{set-append_left, set_at}
 use Rattle.std.proofs.lemmas.Nat.{pow_pos}
 use Rattle.std.specs.Int.{IsPowerOfTwo}
-use Rattle.hashlink_table.specs.declared.cell.Cell.{Cell}
-use Rattle.hashlink_table.specs.declared.cell.TheConstants.{END}
+use Rattle.hashlink_table.specs.declared.store.cell.Cell.{Cell}
+use Rattle.hashlink_table.specs.declared.store.cell.TheConstants.{END}
 use Rattle.hashlink_table.specs.Chains.{next_at, chain_of, chain_at, kept_at, IsThreaded, IsLinked}
 use Rattle.hashlink_table.specs.Chains.{IsLinkedBut}
 use Rattle.hashlink_table.proofs.Paths.{first_among}

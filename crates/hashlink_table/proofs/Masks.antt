@@ -12,8 +12,8 @@ use native.Mathlib.Numerals.{one-add}
 use lib.Count.{count_trailing_zeros}
 use lib.Lanes.{mask_l}
 use lib.Pow.{shr-shr}
-use Rattle.hashlink_table.specs.declared.cell.Cell.{Cell}
-use Rattle.hashlink_table.specs.declared.cell.TheConstants.{END}
+use Rattle.hashlink_table.specs.declared.store.cell.Cell.{Cell}
+use Rattle.hashlink_table.specs.declared.store.cell.TheConstants.{END}
 use Rattle.hashlink_table.specs.Chains.{kept_at, next_at, AreTaken, IsFilled}
 use Rattle.hashlink_table.specs.Stored.{bare_cell}
 use Rattle.hashlink_table.specs.Own.{lanes_of}

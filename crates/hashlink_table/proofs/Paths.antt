@@ -5,7 +5,7 @@ use Rattle.std.proofs.Common.{get_or, set, count_by, refl, sym, ap, ◌∙◌, s
 use Rattle.std.proofs.lemmas.Bool.{cases_lt, true≢false}
 use Rattle.std.proofs.lemmas.List.{get_or-set_other, get_or_past}
 use Rattle.std.proofs.lemmas.List.Sums.{sum_by-set}
-use Rattle.hashlink_table.specs.declared.cell.TheConstants.{END}
+use Rattle.hashlink_table.specs.declared.store.cell.TheConstants.{END}
 use Rattle.hashlink_table.specs.Chains.{Among, IsPath}
 
 -- from one cell there is one path

@@ -1,7 +1,7 @@
 -- The fields of a table agree.
 use Rattle.std.proofs.Common.{◌≡◌, ◌≢◌, ℕ, zero, suc, ◌+◌, ◌-◌, ◌*◌, ◌%◌, ◌^◌, ◌<◌, ◌≤◌, true, inl, inr, List, []}
 use Rattle.std.proofs.Common.{◌∷◌, ◌++◌, length, max}
-use Rattle.std.proofs.Common.{get_or, replicate, Some, None, is_some, refl, sym, ap, ◌∙◌, subst, arith}
+use Rattle.std.proofs.Common.{get_or, replicate, Option, Some, None, is_some, refl, sym, ap, ◌∙◌, subst, arith}
 use Rattle.std.specs.Prelude.{IsPermutation}
 use Rattle.std.specs.Int.{IsPowerOfTwo}
 use Rattle.std.proofs.lemmas.Bool.{cases_eq, cases_lt}
@@ -11,15 +11,22 @@ use Rattle.std.proofs.lemmas.List.{length-append}
 use Rattle.std.proofs.lemmas.List.{length-replicate}
 use Rattle.std.proofs.lemmas.List.Sorted.{length_permutation}
 use Rattle.hashlink_table.specs.declared.kept.Kept.{Kept}
-use Rattle.hashlink_table.specs.declared.cell.Cell.{Cell}
-use Rattle.hashlink_table.specs.declared.cell.TheConstants.{END}
+use Rattle.hashlink_table.specs.declared.store.cell.Cell.{Cell}
+use Rattle.hashlink_table.specs.declared.store.cell.TheConstants.{END}
 use Rattle.hashlink_table.specs.Chains.{kept_at, next_at, chain_of, nodes_in, links_of, Among}
 use Rattle.hashlink_table.specs.Chains.{IsPath}
 use Rattle.hashlink_table.specs.Stored.{bare_cell}
 use Rattle.hashlink_table.specs.Contents.{Contents}
 use Rattle.hashlink_table.specs.Chains.{contents, IsFilled, IsInPlace, IsLinked, IsSound}
 use Rattle.hashlink_table.proofs.Cells.{chain_at_within}
-use Rattle.hashlink_table.proofs.Nodes.{nodes_in-full, nodes_in-bare}
+use Rattle.hashlink_table.proofs.Chaining.{length-links, link_read}
+use Rattle.hashlink_table.proofs.Nodes.{nodes_in-full, nodes_in-bare, two_nodes}
+use Rattle.hashlink_table.proofs.Walks.{walk_of, walk_goes}
+
+-- what a cell with a node has
+of_kept : {N : Type 0} (o : Option (Kept N)) → is_some o ≡ true → (k : Kept N) × (o ≡ Some k)
+of_kept None some = absurd (cc some)
+of_kept (Some k) some = (k, refl)
 
 -- no path that leads over a cell begins at the end
 none_from_end : (next : ℕ → ℕ) (from : ℕ) (path : List ℕ) → IsPath next from path → from ≡ END → (j : ℕ)
@@ -85,11 +92,33 @@ module _ {N : Type 0} where
         nodes_in-full overs (all_taken (links_of firsts) overs free s.linked e),
       )
 
+  -- and if there is one, two nodes at least have a bucket's own cell: its bucket has a chain, so its group is full
+  full_group : {firsts overs : List (Cell N)} {capacity free len room : ℕ}
+      → IsSound firsts overs capacity free len room → free ≡ END → 0 < length overs
+      → length overs + 2 ≤ len
+  full_group {firsts} {overs} {free = free} s e some =
+      let heads = links_of firsts in
+      let taken = all_taken heads overs free s.linked e in
+      let all = nodes_in-full overs taken in
+      let both = length-append (nodes_in firsts) (nodes_in overs) in
+      let first = of_kept (kept_at overs 0) (taken 0 some) in
+      let n = length-links firsts in
+      let b = first.0.hash % length heads in
+      let low : b < length firsts = omega (arith, n, s.counted, s.held, s.headed, all, both, some) in
+      let on = chain_at_within (length heads) overs 0 some ∙ ap (chain_of (length heads)) first.1 in
+      let w = walk_of heads overs free b s.linked (omega (arith, low, n)) in
+      let full = s.filled b low (λ end. walk_goes w.0 0 (w.1 0 on) (link_read firsts b low ∙ end)) in
+      let base = b - b % 16 in
+      let two = two_nodes firsts base (base + 1) (omega arith) (full base (omega arith) (omega arith))
+      (full (base + 1) (omega arith) (omega arith)) in
+      omega (arith, s.counted, all, both, two)
+
   -- a table without nodes
-  pub sound-bare : (n capacity room : ℕ) → room ≤ n → n ≤ 4 * max 8 room → room ≤ capacity → n ≤ 2 ^ 30
+  pub sound-bare : (n capacity room : ℕ) → room ≤ n → n ≤ 4 * max 8 room → room ≤ capacity
+      → capacity ≤ 8 * max 8 room → (room ≡ 0 → (n ≡ 0) × (capacity ≡ 0)) → n ≤ 2 ^ 31
       → (0 < n → IsPowerOfTwo n) → n % 16 ≡ 0
       → IsSound (replicate n (bare_cell {N = N})) [] capacity END 0 room
-  sound-bare n capacity room headed bounded reserved small masked whole =
+  sound-bare n capacity room headed bounded reserved spare none small masked whole =
       let same = length-replicate n (bare_cell {N = N}) in
       record {
         linked = linked-none (replicate n bare_cell) (λ b. (bare_read N n b).1);
@@ -100,7 +129,10 @@ module _ {N : Type 0} where
         headed = omega (arith, headed, same);
         bounded = omega (arith, bounded, same);
         reserved = reserved;
+        spare = spare;
+        none = λ e. (same ∙ (none e).0, (none e).1);
         small = omega (arith, small, same);
+        overs_few = omega arith;
         overs_small = omega arith;
         masked = λ h. subst IsPowerOfTwo (sym same) (masked (omega (arith, h, same)));
         whole = ap (λ m. m % 16) same ∙ whole;
@@ -125,9 +157,19 @@ module _ {N : Type 0} where
         headed = omega (arith, s.headed, buckets);
         bounded = omega (arith, s.bounded, buckets);
         reserved = omega (arith, s.reserved, capacity);
+        spare = omega (arith, s.spare, capacity);
+        none = λ e. absurd (omega (arith, room_left, e));
         small = omega (arith, s.small, buckets);
-        overs_small = elim (cases_eq free END) as (λ _. length more ≤ 2 ^ 30) [
-          | inl e ↦ omega (arith, full e, full_overs s e, room_left, s.headed, s.small)
+        overs_few = elim (cases_eq free END) as (λ _. length more ≤ room) [
+          | inl e ↦ omega (arith, full e, full_overs s e, room_left)
+          | inr ne ↦ omega (arith, reused ne, s.overs_few)
+        ];
+        overs_small = elim (cases_eq free END) as (λ _. length more < END) [
+          | inl e ↦
+              elim (cases_lt 0 (length overs)) as (λ _. length more < END) [
+                | inl some ↦ omega (arith, full e, full_group s e some, room_left, s.headed, s.small)
+                | inr none ↦ omega (arith, full e, none)
+              ]
           | inr ne ↦ omega (arith, reused ne, s.overs_small)
         ];
         masked = λ h. subst IsPowerOfTwo (sym buckets) (s.masked (omega (arith, h, buckets)));
@@ -152,11 +194,39 @@ module _ {N : Type 0} where
         headed = omega (arith, s.headed, buckets);
         bounded = omega (arith, s.bounded, buckets);
         reserved = s.reserved;
+        spare = s.spare;
+        none = λ e. (buckets ∙ (s.none e).0, (s.none e).1);
         small = omega (arith, s.small, buckets);
+        overs_few = omega (arith, s.overs_few, cells);
         overs_small = omega (arith, s.overs_small, cells);
         masked = λ h. subst IsPowerOfTwo (sym buckets) (s.masked (omega (arith, h, buckets)));
         whole = ap (λ m. m % 16) buckets ∙ s.whole;
       }
+
+  -- the memory of the cells over is of another size
+  pub sound-moved : {firsts overs : List (Cell N)} {capacity free len room : ℕ}
+      (later more : List (Cell N)) (block : ℕ)
+      → IsSound firsts overs capacity free len room → later ≡ firsts → more ≡ overs
+      → room ≤ block → block ≤ 8 * max 8 room → (room ≡ 0 → block ≡ 0)
+      → IsSound later more block free len room
+  sound-moved later more block s same kept reserved spare none =
+      rw (same, kept) (record {
+        linked = s.linked;
+        in_place = s.in_place;
+        filled = s.filled;
+        counted = s.counted;
+        held = s.held;
+        headed = s.headed;
+        bounded = s.bounded;
+        reserved = reserved;
+        spare = spare;
+        none = λ e. ((s.none e).0, none e);
+        small = s.small;
+        overs_few = s.overs_few;
+        overs_small = s.overs_small;
+        masked = s.masked;
+        whole = s.whole;
+      })
 
 -- and a contract sees none
 pub contents-bare : (N : Type 0) (n room : ℕ)
@@ -170,13 +240,13 @@ module _ {N : Type 0} where
   pub sound-doubled : {firsts overs : List (Cell N)} {capacity free len room : ℕ}
       (later less : List (Cell N)) (taken : List (Kept N)) (buckets block count more : ℕ)
       → IsSound firsts overs capacity free len room
-      → IsPowerOfTwo buckets → buckets % 16 ≡ 0 → buckets ≤ 2 ^ 30 → buckets ≤ 4 * max 8 more
-      → room ≤ more → more ≤ buckets → more ≤ block → length later ≡ buckets
+      → IsPowerOfTwo buckets → buckets % 16 ≡ 0 → buckets ≤ 2 ^ 31 → buckets ≤ 4 * max 8 more
+      → room ≤ more → 0 < more → more ≤ buckets → more ≡ block → length later ≡ buckets
       → IsLinked (links_of later) less END → IsInPlace later → IsFilled later → less ≡ []
       → count ≡ length taken → IsPermutation (nodes_in firsts ++ nodes_in overs) (nodes_in later ++ taken)
       → IsSound later less block END (len - count) more
   sound-doubled {firsts} {overs} {len = len} later less taken buckets block count more
-      s power whole small bounded grown headed reserved size linked in_place filled none counted nodes =
+      s power whole small bounded grown some headed reserved size linked in_place filled none counted nodes =
       record {
         linked = linked;
         in_place = in_place;
@@ -194,8 +264,11 @@ module _ {N : Type 0} where
         held = omega (arith, s.held, grown);
         headed = omega (arith, headed, size);
         bounded = omega (arith, bounded, size);
-        reserved = reserved;
+        reserved = omega (arith, reserved);
+        spare = omega (arith, reserved);
+        none = λ e. absurd (omega (arith, some, e));
         small = omega (arith, small, size);
+        overs_few = omega (arith, ap length none);
         overs_small = omega (arith, ap length none);
         masked = λ _. subst IsPowerOfTwo (sym size) power;
         whole = ap (λ m. m % 16) size ∙ whole;

@@ -8,10 +8,10 @@ use Rattle.std.proofs.lemmas.List.{get_or_read, get_or_default, set-get_or, take
 use Rattle.std.proofs.lemmas.List.{length-replicate}
 use Rattle.std.specs.Simd.Lanes.{chunk, mask_l}
 use Rattle.hashlink_table.specs.declared.kept.Kept.{Kept}
-use Rattle.hashlink_table.specs.declared.cell.Cell.{Cell}
-use Rattle.hashlink_table.specs.declared.cell.TheConstants.{END}
-use Rattle.hashlink_table.specs.declared.own.Rest.{Rest}
-use Rattle.hashlink_table.specs.declared.own.Own.TheInside.{Inside}
+use Rattle.hashlink_table.specs.declared.store.cell.Cell.{Cell}
+use Rattle.hashlink_table.specs.declared.store.cell.TheConstants.{END}
+use Rattle.hashlink_table.specs.declared.store.own.Rest.{Rest}
+use Rattle.hashlink_table.specs.declared.store.own.Own.TheInside.{Inside}
 use Rattle.hashlink_table.specs.Chains.{kept_at, next_at}
 use Rattle.hashlink_table.specs.Stored.{bare_cell, tag_of}
 use Rattle.hashlink_table.specs.Own.{own_cell, cells_in, may_be, with_kept, with_next, without_kept}

@@ -4,7 +4,7 @@ use Rattle.std.proofs.Common.{subst}
 use Rattle.std.proofs.Common.{arith}
 use Rattle.std.proofs.lemmas.Bool.{cases_eq}
 use Rattle.std.proofs.lemmas.List.{get_or-set_same, get_or-set_other, length-set}
-use Rattle.hashlink_table.specs.declared.cell.TheConstants.{END}
+use Rattle.hashlink_table.specs.declared.store.cell.TheConstants.{END}
 use Rattle.hashlink_table.specs.Chains.{Among, IsPath, IsChain, IsThreaded}
 use Rattle.hashlink_table.proofs.Paths.{path_same, IsWithout, path_without_first, path_without_next}
 

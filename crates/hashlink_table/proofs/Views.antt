@@ -3,20 +3,21 @@ use Rattle.std.proofs.Common.{◌≡◌, ℕ, zero, suc, ◌+◌, ◌-◌, ◌%�
 use Rattle.std.proofs.Common.{eqb, List, [], ◌∷◌, ◌++◌, length, get_or, take, drop, Option, Some, None, count_by}
 use Rattle.std.proofs.Common.{refl, sym, ap, ◌∙◌, subst, arith}
 use Rattle.std.specs.Prelude.{Contains}
+use Rattle.std.specs.Int.{IsPowerOfTwo}
 use Rattle.std.proofs.Math.Nat.{mod-mod_of_dvd}
 use Rattle.std.proofs.lemmas.Nat.Gcd.{dvd_of_mod-eq-zero}
-use Rattle.std.proofs.lemmas.Bool.{eq-eqb, eqb-true, ne_eqb, true≢false}
+use Rattle.std.proofs.lemmas.Bool.{cases_lt, eq-eqb, eqb-true, ne_eqb, true≢false}
 use Rattle.std.proofs.lemmas.List.{take-append-drop}
 use Rattle.std.proofs.lemmas.List.Elements.{Contains-append_left, Contains-append_right}
 use Rattle.std.proofs.lemmas.List.Elements.{Contains-append_cases}
 use Rattle.std.proofs.lemmas.List.Sums.{sum_by-cons, sum_by-append}
 use Rattle.std.proofs.lemmas.Simd.{chunk-drop, get_or-chunk, length-chunk}
 use Rattle.hashlink_table.specs.declared.kept.Kept.{Kept}
-use Rattle.hashlink_table.specs.declared.cell.Cell.{Cell}
-use Rattle.hashlink_table.specs.declared.spot.Spot.{Spot}
-use Rattle.hashlink_table.specs.declared.spot.Spot.TheVariants.{Own, Over}
-use Rattle.hashlink_table.specs.declared.table.Table.TheInside.{Inside}
-use Rattle.hashlink_table.specs.Contents.{Contents, agreeing, AcceptsOnly, CanAsk, Keeps}
+use Rattle.hashlink_table.specs.declared.store.cell.Cell.{Cell}
+use Rattle.hashlink_table.specs.declared.store.spot.Spot.{Spot}
+use Rattle.hashlink_table.specs.declared.store.spot.Spot.TheVariants.{Own, Over}
+use Rattle.hashlink_table.specs.declared.store.table.Table.TheInside.{Inside}
+use Rattle.hashlink_table.specs.Contents.{Contents, agreeing, AcceptsOnly, AreBuckets, CanAsk, Keeps}
 use Rattle.hashlink_table.specs.Chains.{kept_at, kept_by, chain_of, with_node, nodes_in, contents}
 use Rattle.hashlink_table.specs.Chains.{AreGrouped, IsInPlace}
 use Rattle.hashlink_table.specs.Own.{kept_may_be, lanes_of, may_be}
@@ -67,7 +68,7 @@ module _ {N : Type 0} where
       (ne_eqb m (hash % m) (λ e. omega arith)) (λ k. refl)
 
   -- a node of the group whose tag is the hash's agrees with the hash
-  tag_agrees : (m b hash at : ℕ) (o : Option (Kept N)) → 0 < m → m % 16 ≡ 0 → b ≡ hash % m
+  pub tag_agrees : (m b hash at : ℕ) (o : Option (Kept N)) → 0 < m → m % 16 ≡ 0 → b ≡ hash % m
       → ((k : Kept N) → o ≡ Some k → AreGrouped (k.hash % m) at) → AreGrouped b at
       → kept_may_be hash o ≡ true
       → eqb (chain_of m o) b ≡ true
@@ -115,10 +116,33 @@ module _ {N : Type 0} (t : Inside N) (v : Contents N)
       subst (λ (u : Contents N). Keeps u k.hash k.node) view
       (Contains-append_right (nodes_in t.firsts) (nodes_in t.overs.items) k (contains-at t.overs.items at k is))
 
-  -- so a search may ask about it, and accepts it for its hash alone
-  pub own_asked : (asked : N → Type 0) → CanAsk v asked
-      → (at : ℕ) (k : Kept N) → kept_at t.firsts at ≡ Some k → asked k.node
-  own_asked asked can at k is = can k.hash k.node (keeps_own at k is)
+  -- so many buckets it has
+  buckets_are : (0 < length t.firsts → IsPowerOfTwo (length t.firsts)) → 0 < length t.firsts
+      → t.room ≤ length t.firsts
+      → AreBuckets v (length t.firsts)
+  buckets_are masked some headed =
+      record { power = masked some; roomy = omega (arith, headed, ap (λ (u : Contents N). u.room) view) }
+
+  -- what a search that looks at nothing takes
+  pub no_cost : (0 < length t.firsts → IsPowerOfTwo (length t.firsts)) → t.room ≤ length t.firsts → (hash before : ℕ)
+      → (m : ℕ) × AreBuckets v m × (before ≤ before + agreeing v hash m)
+  no_cost masked headed hash before =
+      elim (cases_lt 0 (length t.firsts)) as
+      (λ _. (m : ℕ) × AreBuckets v m × (before ≤ before + agreeing v hash m)) [
+        | inl some ↦ (length t.firsts, buckets_are masked some headed, omega arith)
+        | inr none ↦
+            let room = ap (λ (u : Contents N). u.room) view in
+            (1, record { power = (0, refl); roomy = omega (arith, headed, none, room) }, omega arith)
+      ]
+
+  -- so a search may ask about it where the hashes agree, and accepts it for its hash alone
+  pub own_asked : (asked : N → Type 0) (hash : ℕ) → CanAsk v hash asked
+      → (0 < length t.firsts → IsPowerOfTwo (length t.firsts)) → 0 < length t.firsts → t.room ≤ length t.firsts
+      → (at : ℕ) (k : Kept N) → kept_at t.firsts at ≡ Some k
+      → k.hash % length t.firsts ≡ hash % length t.firsts
+      → asked k.node
+  own_asked asked hash can masked some headed at k is agree =
+      can k.hash k.node (keeps_own at k is) (length t.firsts, buckets_are masked some headed, agree)
 
   pub own_accepted : (hash : ℕ) (accepted : N → Type 0) → AcceptsOnly v hash accepted
       → (at : ℕ) (k : Kept N) → kept_at t.firsts at ≡ Some k → accepted k.node → k.hash ≡ hash
@@ -130,10 +154,13 @@ module _ {N : Type 0} (t : Inside N) (v : Contents N)
         → kept_at t.overs.items at ≡ Some (record { hash = hash; node = node })
     over_at at node is = ap (λ (cs : List (Cell N)). kept_at cs at) (sym lent) ∙ is
 
-    pub over_asked : (asked : N → Type 0) → CanAsk v asked
+    pub over_asked : (asked : N → Type 0) → CanAsk v hash asked
+        → (0 < length t.firsts → IsPowerOfTwo (length t.firsts)) → 0 < length t.firsts → t.room ≤ length t.firsts
         → (at : ℕ) (node : N) → kept_at overs at ≡ Some (record { hash = hash; node = node })
         → asked node
-    over_asked asked can at node is = can hash node (keeps_over at _ (over_at at node is))
+    over_asked asked can masked some headed at node is =
+        can hash node (keeps_over at _ (over_at at node is))
+        (length t.firsts, buckets_are masked some headed, refl)
 
     -- what it found is kept
     pub keeps_found : (spot : Spot) (node : N)
@@ -159,13 +186,14 @@ module _ {N : Type 0} (t : Inside N) (v : Contents N)
         ]
 
     -- the cells that it looks at agree with the hash
-    pub search_cost : 0 < length t.firsts → length t.firsts % 16 ≡ 0 → IsInPlace t.firsts → t.room ≤ length t.firsts
+    pub search_cost : (0 < length t.firsts → IsPowerOfTwo (length t.firsts)) → 0 < length t.firsts
+        → length t.firsts % 16 ≡ 0 → IsInPlace t.firsts → t.room ≤ length t.firsts
         → (before after : ℕ)
         → after ≤ before
         + count_by (may_be hash) (lanes_of t.firsts (hash % length t.firsts - hash % length t.firsts % 16))
         + count_by (λ c. eqb (chain_of (length t.firsts) c.kept) (hash % length t.firsts)) overs
-        → (m : ℕ) × (0 < m) × (v.room ≤ m) × (after ≤ before + agreeing v hash m)
-    search_cost some whole in_place headed before after cost =
+        → (m : ℕ) × AreBuckets v m × (after ≤ before + agreeing v hash m)
+    search_cost masked some whole in_place headed before after cost =
         let firsts = t.firsts in let m = length firsts in let b = hash % m in
         let low : b < m = omega arith in
         let base = b - b % 16 in
@@ -180,7 +208,6 @@ module _ {N : Type 0} (t : Inside N) (v : Contents N)
         (λ k lane e. tag_agrees m b hash (base + k) (kept_at firsts (base + k)) some whole refl
         (λ j is. in_place (base + k) j is) (grouped_in b (base + k) (omega arith) (omega (arith, lane))) e) in
         let over = ap (λ (cs : List (Cell N)). count_by (λ c. eqb (chain_of m c.kept) b) cs) lent in
-        let room = ap (λ (u : Contents N). u.room) view in
         let agree : after ≤ before + agreeing v hash m = omega (
           arith,
           all,
@@ -190,4 +217,4 @@ module _ {N : Type 0} (t : Inside N) (v : Contents N)
           in_bucket-nodes firsts hash m some,
           in_bucket-nodes t.overs.items hash m some,
         ) in
-        (m, some, omega (arith, room, headed), agree)
+        (m, buckets_are masked some headed, agree)

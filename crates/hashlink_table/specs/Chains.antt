@@ -6,10 +6,10 @@ use Rattle.std.specs.Int.{IsPowerOfTwo}
 use Rattle.hashlink_table.specs.Contents.{Contents}
 use Rattle.hashlink_table.specs.Stored.{bare_cell}
 use Rattle.hashlink_table.specs.declared.kept.Kept.{Kept}
-use Rattle.hashlink_table.specs.declared.cell.Cell.{Cell}
-use Rattle.hashlink_table.specs.declared.cell.TheConstants.{END}
-use Rattle.hashlink_table.specs.declared.spot.Spot.{Spot}
-use Rattle.hashlink_table.specs.declared.spot.Spot.TheVariants.{Own, Over}
+use Rattle.hashlink_table.specs.declared.store.cell.Cell.{Cell}
+use Rattle.hashlink_table.specs.declared.store.cell.TheConstants.{END}
+use Rattle.hashlink_table.specs.declared.store.spot.Spot.{Spot}
+use Rattle.hashlink_table.specs.declared.store.spot.Spot.TheVariants.{Own, Over}
 
 module _ {N : Type 0} where
   abbrev pub kept_at : List (Cell N) → ℕ → Option (Kept N)
@@ -122,8 +122,11 @@ pub record IsSound {N : Type 0} (firsts overs : List (Cell N))
   pub headed : room ≤ length firsts
   pub bounded : length firsts ≤ 4 * max 8 room
   pub reserved : room ≤ capacity
-  pub small : length firsts ≤ 2 ^ 30
-  pub overs_small : length overs ≤ 2 ^ 30
+  pub spare : capacity ≤ 8 * max 8 room
+  pub none : room ≡ 0 → (length firsts ≡ 0) × (capacity ≡ 0)
+  pub small : length firsts ≤ 2 ^ 31
+  pub overs_few : length overs ≤ room
+  pub overs_small : length overs < END
   pub masked : 0 < length firsts → IsPowerOfTwo (length firsts)
   pub whole : length firsts % 16 ≡ 0
 

@@ -1,5 +1,6 @@
 -- What a contract sees of a `Table`.
-use Rattle.std.specs.Prelude.{◌≡◌, ℕ, ◌%◌, ◌==◌, List, length, count_by, Contains, refl}
+use Rattle.std.specs.Prelude.{◌≡◌, ℕ, ◌%◌, ◌≤◌, ◌==◌, List, length, count_by, Contains, refl}
+use Rattle.std.specs.Int.{IsPowerOfTwo}
 use Rattle.std.specs.Coded.{Coded, code_by, coded×, coded_ℕ, coded_list}
 use Rattle.hashlink_table.specs.declared.kept.Kept.{Kept}
 
@@ -33,9 +34,18 @@ module _ {N : Type 0} where
   abbrev pub Keeps : Contents N → ℕ → N → Type 0
   Keeps t hash node = Contains t.nodes (record { hash = hash; node = node })
 
-  -- each node of the table may be asked about, and of them those of this hash alone are accepted
-  abbrev pub CanAsk : Contents N → (N → Type 0) → Type 0
-  CanAsk t asked = (h : ℕ) (node : N) → Keeps t h node → asked node
+  -- so many buckets: a power of two, and no fewer than the room
+  pub record AreBuckets (t : Contents N) (m : ℕ) : Type 0 where
+    pub power : IsPowerOfTwo m
+    pub roomy : t.room ≤ m
+
+  -- both hashes belong to one of so many buckets
+  abbrev pub ShareBucket : Contents N → ℕ → ℕ → Type 0
+  ShareBucket t hash h = (m : ℕ) × AreBuckets t m × (h % m ≡ hash % m)
+
+  -- each node of the hash's bucket may be asked about, and of the table's nodes those of this hash alone are accepted
+  abbrev pub CanAsk : Contents N → ℕ → (N → Type 0) → Type 0
+  CanAsk t hash asked = (h : ℕ) (node : N) → Keeps t h node → ShareBucket t hash h → asked node
 
   abbrev pub AcceptsOnly : Contents N → ℕ → (N → Type 0) → Type 0
   AcceptsOnly t hash accepted = (h : ℕ) (node : N) → Keeps t h node → accepted node → h ≡ hash

@@ -3,9 +3,9 @@ use Rattle.std.specs.Prelude.{◌≡◌, ℕ, ◌+◌, ◌*◌, ◌%◌, ◌≤�
 use Rattle.std.specs.Prelude.{slice_index_or, slice_set, length, map, Option, None, Some}
 use Rattle.std.specs.Simd.Lanes.{chunk}
 use Rattle.hashlink_table.specs.declared.kept.Kept.{Kept}
-use Rattle.hashlink_table.specs.declared.cell.Cell.{Cell}
-use Rattle.hashlink_table.specs.declared.cell.TheConstants.{END}
-use Rattle.hashlink_table.specs.declared.own.Rest.{Rest}
+use Rattle.hashlink_table.specs.declared.store.cell.Cell.{Cell}
+use Rattle.hashlink_table.specs.declared.store.cell.TheConstants.{END}
+use Rattle.hashlink_table.specs.declared.store.own.Rest.{Rest}
 use Rattle.hashlink_table.specs.Stored.{bare_cell, tag_of}
 
 -- what is stored of a cell: a tag that is the hash's, or none, and a link

@@ -1,8 +1,8 @@
 -- The cells that a table stores.
 use Rattle.std.specs.Prelude.{ℕ, ◌+◌, ◌*◌, ◌/◌, ◌%◌, ◌^◌, cond, None, Some}
 use Rattle.std.specs.Prelude.{ltb, max}
-use Rattle.hashlink_table.specs.declared.cell.Cell.{Cell}
-use Rattle.hashlink_table.specs.declared.cell.TheConstants.{END}
+use Rattle.hashlink_table.specs.declared.store.cell.Cell.{Cell}
+use Rattle.hashlink_table.specs.declared.store.cell.TheConstants.{END}
 
 -- what a free cell still has is no node of the table
 abbrev pub cell_of : {N : Type 0} → N → ℕ → ℕ → Cell N

@@ -5,24 +5,18 @@
 //! not allocate.
 #![tactic(auto)]
 
-mod bucket;
-mod cell;
 mod error;
 mod kept;
-mod lanes;
-mod links;
-mod own;
-mod repeated;
-mod spot;
+mod search;
 mod steps;
-mod table;
+mod store;
 
 pub use error::TryReserveError;
 pub use kept::Kept;
 pub use steps::Steps;
-pub use table::{MAX_ROOM, Table};
+pub use store::table::{MAX_ROOM, Table};
 
 // A cell over takes 8 bytes beside its node, and a bucket's own cell 9.
-const _: () = prove!(std::mem::size_of::<cell::Stored<u64>>() == 16);
+const _: () = prove!(std::mem::size_of::<store::cell::Stored<u64>>() == 16);
 
-const _: () = prove!(std::mem::size_of::<own::Rest>() == 8);
+const _: () = prove!(std::mem::size_of::<store::own::Rest>() == 8);

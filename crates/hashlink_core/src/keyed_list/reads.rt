@@ -1,8 +1,9 @@
 //! Reads of a keyed list.
-ghost use Rattle.std.specs.Prelude.{◌≡◌, ◌-◌, ◌<◌, ◌^◌, length, slice_get, Bool, None, Some, IfSome};
-ghost use Rattle.std.specs.Prelude.{MatchOption};
+ghost use Rattle.std.specs.Prelude.{◌≡◌, ◌-◌, ◌<◌, ◌^◌, length, slice_get, None, Some, IfSome, MatchOption};
+ghost use Rattle.std.specs.Borrow.{Bor};
 ghost use Rattle.std.specs.Fn.{FnReturnsAt};
 ghost use Rattle.std.specs.Map.{lookup, keys_of, values_of};
+ghost use Rattle.std.specs.Option.{ForSome};
 ghost use Rattle.std.specs.Map.Iter.{ShowsInOrder, ShowsInReverse, deref, deref_pair};
 ghost use Rattle.hashlink_model.specs.Cursor.{following_place, preceding_place};
 ghost use Rattle.hashlink_model.specs.Entries.{place_of};
@@ -11,7 +12,7 @@ ghost use Rattle.hashlink_nodes.specs.Ring.{Holds, IsPlace};
 ghost use Rattle.hashlink_core.specs.Keyed.{entries_of, HoldsKey, HoldsMatch, IsKeyed};
 ghost use Rattle.hashlink_core.specs.Places.{place_number, IsPlaceAt};
 ghost use Rattle.hashlink_core.specs.Tied.{hash_with};
-ghost use Rattle.hashlink_core.specs.Telling.{Tells, TellsMatch};
+ghost use Rattle.hashlink_core.specs.Telling.{Tells};
 
 use super::{KeyedList, short_hash};
 use crate::equivalent::Equivalent;
@@ -49,42 +50,25 @@ impl<K: Eq + Hash, V, S: BuildHasher> KeyedList<K, V, S> {
     }
 
     /// Returns the node whose key is equal to the one that the hash and the test stand for. The hash has to
-    /// be that key's, and the test has to return of each key whether it is equal to it. It looks at the nodes
-    /// of one bucket.
+    /// be that key's, and the test has to return of each key in the list whether it is equal to it. It looks
+    /// at the nodes of one bucket.
     #[inline]
     pub fn find_with<F: Fn(&K) -> bool>(&self, hash: u64, is_match: F) -> Option<Node>
         requires { (k : K) × Tells F.Fn K.eq
             (hash_with S.build_hasher S.Hasher.write S.Hasher.finish K.hash_input self.now.hasher)
-            is_match hash k }
+            (keys_of (entries_of self.now)) is_match hash k }
         ensures found { (k : K) → Tells F.Fn K.eq
             (hash_with S.build_hasher S.Hasher.write S.Hasher.finish K.hash_input self.now.hasher)
-            is_match hash k
+            (keys_of (entries_of self.now)) is_match hash k
             → MatchOption result (place_of (K.eq k) (entries_of self.now) ≡ None)
             (HoldsKey K.eq self.now.nodes k) }
-        ensures sound { IsKeyed K.eq self.now }
-    {
-        self.find_match(hash, is_match)
-    }
-
-    /// Returns the node whose key passes the test. The keys that pass have to have the hash and to be equal
-    /// to each other. It looks at the nodes of one bucket.
-    #[inline]
-    pub fn find_match<F: Fn(&K) -> bool>(&self, hash: u64, is_match: F) -> Option<Node>
-        requires { (passes : K → Bool) × TellsMatch F.Fn K.eq
-            (hash_with S.build_hasher S.Hasher.write S.Hasher.finish K.hash_input self.now.hasher)
-            is_match hash
-            passes }
-        ensures found { (passes : K → Bool) → TellsMatch F.Fn K.eq
-            (hash_with S.build_hasher S.Hasher.write S.Hasher.finish K.hash_input self.now.hasher)
-            is_match hash passes
-            → MatchOption result (place_of passes (entries_of self.now) ≡ None)
-            (HoldsMatch passes self.now.nodes) }
         ensures sound { IsKeyed K.eq self.now }
     {
         let nodes = &self.nodes;
         let holds_match = |node: Node| -> bool
             requires held { Holds nodes.now.entries node }
-            requires callable { (x : _) → F.pre is_match x }
+            requires callable { ForSome (lookup (same_node node) nodes.now.entries)
+                (λ held. (x : Bor K) → x.now ≡ held.key → F.pre is_match x) }
             ensures { IfSome (lookup (same_node node) nodes.entry.now.entries)
                 (λ held. FnReturnsAt F.Fn is_match held.key result) }
         { is_match(nodes.entry(node).0) };

@@ -14,7 +14,7 @@ impl<K: Eq + Hash, V, S: BuildHasher> LinkedHashMap<K, V, S> {
     /// nothing.
     ///
     /// It returns `CapacityOverflow` if the map could then have more than 2 to the power of 62 entries, and
-    /// `AllocError` if the allocation fails or the table would need more than 2 to the power of 30 buckets.
+    /// `AllocError` if the allocation fails or the table would need more than 2 to the power of 31 buckets.
     /// After an error nothing has changed.
     pub fn reserve(&mut self, additional: usize) -> Result<(), TryReserveError>
         ensures reserves { Reserves (state_of self.old) (state_of self.new) additional result }

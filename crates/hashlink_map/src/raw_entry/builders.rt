@@ -2,7 +2,7 @@
 ghost use Rattle.std.specs.Prelude.{◌≡◌, ◌-◌, [], Some, IfSome, IfNone, MatchOption, length, ⊤};
 ghost use Rattle.std.specs.Borrow.{sem};
 ghost use Rattle.std.specs.Option.{option_map};
-ghost use Rattle.std.specs.Map.{lookup_entry};
+ghost use Rattle.std.specs.Map.{keys_of, lookup_entry};
 ghost use Rattle.std.specs.Map.Iter.{deref_pair};
 ghost use Rattle.hashlink_model.specs.Entries.{IsEntries};
 ghost use Rattle.hashlink_model.specs.Entry.{raw_entry_of, raw_entry_match};
@@ -102,19 +102,17 @@ impl<'a, K: Eq + Hash, V, S: BuildHasher> RawEntryBuilder<'a, K, V, S> {
     }
 
     /// Returns the stored pair whose key has this hash and passes the test `is_match`, or `None` if there is
-    /// none. `is_match` has to be callable on every key, and to tell the keys that are equal to one key of
-    /// this hash from all others. The call hashes nothing.
+    /// none. `is_match` has to be callable on each key in the map, and to tell those that are equal to one key
+    /// of this hash from the others. The call hashes nothing.
     pub fn from_hash<F: Fn(&K) -> bool>(self, hash: u64, is_match: F) -> Option<(&'a K, &'a V)>
     where
         F: Drop,
         requires { (k : K) × Tells F.Fn K.eq
             (hash_with S.build_hasher S.Hasher.write S.Hasher.finish K.hash_input (read_map self).hasher)
-            is_match
-            hash k }
+            (keys_of (entries_of (read_map self))) is_match hash k }
         ensures { (k : K) → Tells F.Fn K.eq
             (hash_with S.build_hasher S.Hasher.write S.Hasher.finish K.hash_input
-            (read_map self.entry).hasher) is_match
-            hash k
+            (read_map self.entry).hasher) (keys_of (entries_of (read_map self.entry))) is_match hash k
             → option_map deref_pair result ≡ lookup_entry (K.eq k) (entries_of (read_map self.entry)) }
     {
         let map = self.map;
@@ -163,7 +161,7 @@ impl<K: Eq + Hash, V, S: BuildHasher> LinkedHashMap<K, V, S> {
     }
 
     /// Returns the place whose key has this hash and passes the test `is_match`. `is_match` has to be
-    /// callable on every key, and to tell the keys that are equal to one key of this hash from all others.
+    /// callable on each key in the map, and to tell those that are equal to one key of this hash from the others.
     /// The call hashes nothing. It is `raw_entry_mut` and `from_hash` in one call: a caller can prove exactly
     /// what the map is afterwards.
     pub fn raw_entry_from_hash<F: Fn(&K) -> bool>(
@@ -175,20 +173,20 @@ impl<K: Eq + Hash, V, S: BuildHasher> LinkedHashMap<K, V, S> {
         F: Drop,
         requires { (k : K) × Tells F.Fn K.eq
             (hash_with S.build_hasher S.Hasher.write S.Hasher.finish K.hash_input self.old.hasher)
-            is_match hash k }
+            (keys_of (entries_of self.old)) is_match hash k }
         ensures same_map { (raw_map result).ghost_name ≡ self.entry.ghost_name }
         ensures unchanged { (raw_map result).now ≡ self.old }
         ensures found { (k : K) → Tells F.Fn K.eq
             (hash_with S.build_hasher S.Hasher.write S.Hasher.finish K.hash_input self.old.hasher)
-            is_match hash k
+            (keys_of (entries_of self.old)) is_match hash k
             → raw_state result ≡ raw_entry_of K.eq (state_of self.old) k }
         ensures pair { (k : K) → Tells F.Fn K.eq
             (hash_with S.build_hasher S.Hasher.write S.Hasher.finish K.hash_input self.old.hasher)
-            is_match hash k
+            (keys_of (entries_of self.old)) is_match hash k
             → raw_pair (raw_state result) ≡ lookup_entry (K.eq k) (entries_of self.old) }
         ensures equal { (k : K) → Tells F.Fn K.eq
             (hash_with S.build_hasher S.Hasher.write S.Hasher.finish K.hash_input self.old.hasher)
-            is_match hash k
+            (keys_of (entries_of self.old)) is_match hash k
             → MatchOption (raw_state result).place ⊤ (PassesAt (K.eq k) (entries_of self.old)) }
         ensures distinct { IsEntries K.eq (entries_of self.old) }
     {
@@ -239,29 +237,27 @@ impl<'a, K: Eq + Hash, V, S: BuildHasher> RawEntryBuilderMut<'a, K, V, S> {
     }
 
     /// Returns the place whose key has this hash and passes the test `is_match`. `is_match` has to be
-    /// callable on every key, and to tell the keys that are equal to one key of this hash from all others.
+    /// callable on each key in the map, and to tell those that are equal to one key of this hash from the others.
     /// The call hashes nothing.
     pub fn from_hash<F: Fn(&K) -> bool>(self, hash: u64, is_match: F) -> RawEntryMut<'a, K, V, S>
     where
         F: Drop,
         requires { (k : K) × Tells F.Fn K.eq
             (hash_with S.build_hasher S.Hasher.write S.Hasher.finish K.hash_input (found_map self).now.hasher)
-            is_match hash k }
+            (keys_of (entries_of (found_map self).now)) is_match hash k }
         ensures same_map { (raw_map result).ghost_name ≡ (found_map self.entry).ghost_name }
         ensures unchanged { (raw_map result).now ≡ (found_map self.entry).now }
         ensures found { (k : K) → Tells F.Fn K.eq
             (hash_with S.build_hasher S.Hasher.write S.Hasher.finish K.hash_input
-            (found_map self.entry).now.hasher)
-            is_match hash k → raw_state result ≡ raw_entry_of K.eq (state_of (found_map self.entry).now) k }
+            (found_map self.entry).now.hasher) (keys_of (entries_of (found_map self.entry).now)) is_match hash k
+            → raw_state result ≡ raw_entry_of K.eq (state_of (found_map self.entry).now) k }
         ensures pair { (k : K) → Tells F.Fn K.eq
             (hash_with S.build_hasher S.Hasher.write S.Hasher.finish K.hash_input
-            (found_map self.entry).now.hasher)
-            is_match hash k
+            (found_map self.entry).now.hasher) (keys_of (entries_of (found_map self.entry).now)) is_match hash k
             → raw_pair (raw_state result) ≡ lookup_entry (K.eq k) (entries_of (found_map self.entry).now) }
         ensures equal { (k : K) → Tells F.Fn K.eq
             (hash_with S.build_hasher S.Hasher.write S.Hasher.finish K.hash_input
-            (found_map self.entry).now.hasher)
-            is_match hash k
+            (found_map self.entry).now.hasher) (keys_of (entries_of (found_map self.entry).now)) is_match hash k
             → MatchOption (raw_state result).place ⊤
             (PassesAt (K.eq k) (entries_of (found_map self.entry).now)) }
         ensures distinct { IsEntries K.eq (entries_of (found_map self.entry).now) }

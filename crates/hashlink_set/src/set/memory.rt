@@ -14,7 +14,7 @@ impl<T: Eq + Hash, S: BuildHasher> LinkedHashSet<T, S> {
     /// nothing.
     ///
     /// It returns `CapacityOverflow` if the set could then have more than 2 to the power of 62 elements, and
-    /// `AllocError` if the allocation fails or the table would need more than 2 to the power of 30 buckets.
+    /// `AllocError` if the allocation fails or the table would need more than 2 to the power of 31 buckets.
     /// After an error nothing has changed.
     pub fn reserve(&mut self, additional: usize) -> Result<(), TryReserveError>
         ensures reserves { Reserves self.old self.new additional result }

@@ -23,14 +23,15 @@ hashed g c =
     c.requires
 
 pub look_up-requires-clause-callable : goal.look_up-requires-clause-callable
-look_up-requires-clause-callable g c = listed-holds g.met.K.Eq.laws c.self.invariant
+look_up-requires-clause-callable g c number node there _ =
+    listed-holds g.met.K.Eq.laws c.self.invariant number node there
 
 pub look_up-requires-clause-telling : goal.look_up-requires-clause-telling
 look_up-requires-clause-telling g c =
     let passes = g.Q.Equivalent.matches c.args.key in
     told-hash g.met.K.Eq.laws c.self.invariant passes c.args.hash c.short_hash.result c.short_hash.ensures
     (hashed g (goal.at.look_up-requires-clause-telling g c).After-short_hash) (λ x b. b ≡ passes x)
-    (λ x b is. is)
+    (λ n h here b is. is)
 
 pub returns-clause-found : goal.returns-clause-found
 returns-clause-found g c =
@@ -40,7 +41,7 @@ returns-clause-found g c =
     c.self.view_is
     (found-by_table g.met.K.Eq.laws c.self.invariant passes c.args.hash c.short_hash.result
     c.short_hash.ensures (hashed g (goal.at.returns-clause-found g c).After-short_hash)
-    (λ x b. b ≡ passes x) (λ x b is. is) (g.met.Q.Equivalent.finds_equal c.args.key) c.look_up.result
+    (λ x b. b ≡ passes x) (λ n h here b is. is) (g.met.Q.Equivalent.finds_equal c.args.key) c.look_up.result
     c.look_up.ensures.found c.look_up.ensures.none)
 
 pub returns-clause-sound : goal.returns-clause-sound

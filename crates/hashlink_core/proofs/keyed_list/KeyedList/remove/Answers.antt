@@ -20,11 +20,12 @@ overflow_cast-number g c =
     search rules
 
 pub remove-requires-clause-callable : goal.remove-requires-clause-callable
-remove-requires-clause-callable g c =
+remove-requires-clause-callable g c number node there _ =
     let held = held-inside g.met.K.Eq.laws c.self.view_is c.self.invariant c.args.node c.requires in
     let i = c.number-number in
     let s = c.set_number in
     asked-holds c.self.invariant c.args.node held i.result i.ensures s.new.self.entries _ s.ensures.entries
+    number node there
 
 pub remove-requires-clause-telling : goal.remove-requires-clause-telling
 remove-requires-clause-telling g c =

@@ -25,14 +25,15 @@ hashed g c =
     c.hash_of.ensures
 
 pub remove-requires-clause-callable : goal.remove-requires-clause-callable
-remove-requires-clause-callable g c = listed-holds g.met.K.Eq.laws c.self.invariant
+remove-requires-clause-callable g c number node there _ =
+    listed-holds g.met.K.Eq.laws c.self.invariant number node there
 
 pub remove-requires-clause-telling : goal.remove-requires-clause-telling
 remove-requires-clause-telling g c =
     let passes = g.Q.Equivalent.matches c.args.key in
     told-hash g.met.K.Eq.laws c.self.invariant passes c.hash_of.result c.short_hash-hash.result
     c.short_hash-hash.ensures (hashed g (goal.at.remove-requires-clause-telling g c).After-short_hash-hash)
-    (λ x b. b ≡ passes x) (λ x b is. is)
+    (λ x b. b ≡ passes x) (λ n h here b is. is)
 
 pub returns-in_err-node-clause-removes : goal.returns-in_err-node-clause-removes
 returns-in_err-node-clause-removes g c =
@@ -40,7 +41,7 @@ returns-in_err-node-clause-removes g c =
     let absent = found-by_table g.met.K.Eq.laws c.self.invariant passes c.hash_of.result
     c.short_hash-hash.result c.short_hash-hash.ensures
     (hashed g (goal.at.returns-in_err-node-clause-removes g c).After-short_hash-hash)
-    (λ x b. b ≡ passes x) (λ x b is. is) (g.met.Q.Equivalent.finds_equal c.args.key) None tt
+    (λ x b. b ≡ passes x) (λ n h here b is. is) (g.met.Q.Equivalent.finds_equal c.args.key) None tt
     c.in_err-node.ensures.none in
     rw c.from_residual.ensures
     (record {
@@ -69,7 +70,7 @@ found g c =
     subst (λ m. HoldsMatch passes m.nodes c.in_ok-node.node) c.self.view_is
     (found-by_table g.met.K.Eq.laws c.self.invariant passes c.hash_of.result c.short_hash-hash.result
     c.short_hash-hash.ensures (hashed g (goal.at.returns-clause-removes g c).After-short_hash-hash)
-    (λ x b. b ≡ passes x) (λ x b is. is) (g.met.Q.Equivalent.finds_equal c.args.key) (Some c.in_ok-node.node)
+    (λ x b. b ≡ passes x) (λ n h here b is. is) (g.met.Q.Equivalent.finds_equal c.args.key) (Some c.in_ok-node.node)
     (was-kept c.self.inside.table c.remove.new.self _ _ r.0, r.1) tt)
 
 pub invariant_of-self-2 : goal.invariant_of-self-2

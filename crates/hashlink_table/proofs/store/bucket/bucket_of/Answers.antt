@@ -1,0 +1,9 @@
+-- A power of two less one is a mask of the low bits.
+use Rattle.std.proofs.Common.{◌≡◌, ℕ, ◌-◌, ◌%◌, bit_and, sym, subst}
+use Rattle.std.proofs.lemmas.Nat.{and_mask}
+use Rattle.hashlink_table.proofs.store.bucket.bucket_of.Goals as goal
+
+pub returns : goal.returns
+returns c =
+    let Masks : ℕ → Type 0 = λ n. bit_and c.args.hash (n - 1) ≡ c.args.hash % n in
+    subst Masks (sym c.requires.1) (and_mask c.args.hash c.requires.0)

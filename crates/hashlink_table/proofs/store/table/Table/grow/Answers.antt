@@ -1,0 +1,86 @@
+use Rattle.std.proofs.Common.{◌≡◌, ◌*◌, ◌++◌, List, length, sym, ap, ◌∙◌, subst, arith}
+use Rattle.std.specs.Prelude.{IsPermutation}
+use Rattle.std.proofs.lemmas.Bool.{eqb-true, not-false}
+use Rattle.std.proofs.lemmas.List.{append-nil, length-append}
+use Rattle.std.proofs.lemmas.List.Sorted.{IsPermutation-trans, length_permutation}
+use Rattle.hashlink_table.specs.declared.store.cell.Cell.{Cell}
+use Rattle.hashlink_table.specs.Contents.{Contents}
+use Rattle.hashlink_table.specs.Chains.{nodes_in}
+use Rattle.hashlink_table.proofs.Sound.{sound-doubled, sound-moved}
+use Rattle.hashlink_table.proofs.store.table.Table.grow.Goals as goal
+use Rattle.hashlink_table.proofs.store.table.Table.grow.Goals.{then-buckets-now, else-buckets-now}
+
+pub overflow_sub-self : goal.overflow_sub-self
+overflow_sub-self g c =
+    let later = c.double.new.firsts in let taken = c.in_ok-chained.chained in
+    omega (
+      arith,
+      c.len.ensures,
+      taken.ok.0,
+      c.self.invariant.counted,
+      length_permutation _ _ c.in_ok-chained.ensures.nodes,
+      length-append (nodes_in later) taken.items,
+    )
+
+-- the cells over may keep the block that they were moved to
+pub invariant_of-self-in_err-chained : goal.invariant_of-self-in_err-chained
+invariant_of-self-in_err-chained g c =
+    let s = c.self.invariant in let failed = c.in_err-chained.ensures in
+    let twice : c.args.buckets ≡ 2 * c.len-now.result =
+    elim c.if-buckets-now.branch [
+      | then-buckets-now w ↦ eqb-true _ _ (not-false _ (sym w.value-is ∙ c.if-buckets-now-2.false))
+      | else-buckets-now w ↦ absurd (c.if-buckets-now-3.false w.if-buckets-now.false)
+    ] in
+    let exact = c.in_ok-block.ensures.exact in
+    sound-moved c.double.new.firsts c.double.new.cells.items _ s failed.firsts_same failed.cells_same
+    (omega (
+      arith,
+      failed.least,
+      exact,
+      s.reserved,
+      c.requires.more,
+      ap (λ (u : Contents g.row.N.Denot). u.room) c.self.view_is,
+    ))
+    (omega (arith, failed.most, exact, s.spare, s.bounded, c.requires.headed, twice, c.len-now.ensures))
+    (λ e. absurd (omega (arith, (s.none e).0, c.requires.some, c.requires.headed, twice, c.len-now.ensures)))
+
+pub invariant_of-self-2 : goal.invariant_of-self-2
+invariant_of-self-2 g c =
+    let new = c.double.new in let taken = c.in_ok-chained.chained in let doubled = c.in_ok-chained.ensures in
+    let twice : c.args.buckets ≡ 2 * c.len-now.result =
+    elim c.if-buckets-now.branch [
+      | then-buckets-now w ↦ eqb-true _ _ (not-false _ (sym w.value-is ∙ c.if-buckets-now-2.false))
+      | else-buckets-now w ↦ absurd (c.if-buckets-now-3.false w.if-buckets-now.false)
+    ] in
+    sound-doubled new.firsts new.cells.items taken.items c.args.buckets _ _ c.args.room c.self.invariant
+    c.requires.power c.requires.whole (omega (arith, c.if-buckets-gt-MAX_BUCKETS.false)) c.requires.bounded
+    (omega (arith, c.requires.more, ap (λ (u : Contents g.row.N.Denot). u.room) c.self.view_is)) c.requires.some
+    c.requires.headed (omega (arith, doubled.moved, c.in_ok-block.ensures.exact))
+    (omega (arith, twice, doubled.len, c.len-now.ensures)) doubled.linked doubled.in_place doubled.filled
+    doubled.none_over (omega (arith, c.len.ensures, taken.ok.0)) doubled.nodes
+
+pub insert_all-requires : goal.insert_all-requires
+insert_all-requires g c =
+    let later = c.double.new.firsts in let taken = c.in_ok-chained.chained in let less = c.double.new.cells.items in
+    omega (
+      arith,
+      c.requires.more,
+      ap (λ (u : Contents g.row.N.Denot). u.room) c.self.view_is,
+      c.self.invariant.counted,
+      c.self.invariant.held,
+      ap length c.deref.ensures.value,
+      length_permutation _ _ c.in_ok-chained.ensures.nodes,
+      length-append (nodes_in later) taken.items,
+      length-append (nodes_in later) (nodes_in less),
+      ap (λ (cs : List (Cell g.row.N.Denot)). length (nodes_in cs)) c.in_ok-chained.ensures.none_over,
+    )
+
+pub returns-clause-nodes : goal.returns-clause-nodes
+returns-clause-nodes g c =
+    let later = c.double.new.firsts in
+    let inserted : IsPermutation ((nodes_in later ++ nodes_in c.double.new.cells.items) ++ c.deref.result.now)
+    c.insert_all.new.self.nodes
+    = c.insert_all.ensures.inserted in
+    subst (λ (u : Contents g.row.N.Denot). IsPermutation u.nodes c.insert_all.new.self.nodes) c.self.view_is
+    (IsPermutation-trans _ _ _ c.in_ok-chained.ensures.nodes
+    (rw (c.in_ok-chained.ensures.none_over, append-nil (nodes_in later), c.deref.ensures.value) at inserted))

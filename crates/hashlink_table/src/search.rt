@@ -1,0 +1,151 @@
+//! Searches. What they read of a node they read by `look`, which counts it.
+ghost use Rattle.std.specs.Prelude.{◌≡◌, ℕ, ◌+◌, ◌-◌, ◌%◌, ◌<◌, ◌≤◌, ◌==◌};
+ghost use Rattle.std.specs.Prelude.{IfNone, IfSome, Some, count_by, false, length, true};
+ghost use Rattle.std.specs.Int.{IsPowerOfTwo};
+ghost use Rattle.hashlink_table.specs.declared.kept.Kept.{Kept};
+ghost use Rattle.hashlink_table.specs.Stored.{tag_of};
+ghost use Rattle.hashlink_table.specs.Own.{lanes_of, may_be};
+ghost use Rattle.hashlink_table.specs.Chains.{chain_of, kept_at, kept_by, links_of, IsFilled, IsInPlace, IsLinked};
+
+use super::steps::Steps;
+use super::store::bucket::{base_of, bucket_of};
+use super::store::cell::{END, Stored};
+use super::store::lanes::LANES;
+use super::store::own::Own;
+use super::store::spot::{Found, Spot};
+use std::sync::ledger::Ledger;
+
+// The first cell of a group whose node has this hash and matches, and the node. It looks closer at the nodes
+// alone of which the tag is the hash's, and takes a step for each.
+#[inline]
+fn seek_own<N: Copy, F: Fn(N) -> bool, L: Ledger>(
+    firsts: &Own<N>,
+    base: usize,
+    hash: u32,
+    is_match: &F,
+    steps: &mut Steps<L>,
+) -> Option<(usize, N)>
+    requires within { base + LANES ≤ length firsts.now }
+    requires callable { (at : ℕ) (kept : Kept N) → base ≤ at → at < base + LANES
+        → kept_at firsts.now at ≡ Some kept → tag_of kept.hash ≡ tag_of hash
+        → F.pre is_match.now kept.node }
+    requires telling { (at : ℕ) (kept : Kept N) → kept_at firsts.now at ≡ Some kept
+        → F.post is_match.now kept.node true → kept.hash ≡ hash }
+    ensures found { IfSome result
+        (λ f. (kept_at firsts.now f.0 ≡ Some (record { hash = hash; node = f.1 }))
+        × F.post is_match.now f.1 true) }
+    ensures none { IfNone result
+        ((at : ℕ) (node : N) → base ≤ at → at < base + LANES
+        → kept_at firsts.now at ≡ Some (record { hash = hash; node = node })
+        → F.post is_match.now node false) }
+    ensures goes_on { steps.old ≤ steps.new }
+    ensures cost { steps.new ≤ steps.old + count_by (may_be hash) (lanes_of firsts.now base) }
+{
+    let mut at = base;
+    let mut hits = firsts.may_have(base, hash);
+    while hits != 0 {
+        let skipped = hits.trailing_zeros();
+        at += skipped as usize;
+        let node = firsts.look(at, steps);
+        if is_match(node) {
+            return Some((at, node));
+        }
+        at += 1;
+        hits = (hits >> skipped) / 2;
+    }
+    None
+}
+
+// The first cell of the bucket's chain whose node has this hash and matches, and the node. It takes a step
+// for each cell that it passes.
+fn seek_over<N: Copy, F: Fn(N) -> bool, L: Ledger>(
+    firsts: &Own<N>,
+    cells: &[Stored<N>],
+    bucket: usize,
+    hash: u32,
+    is_match: &F,
+    steps: &mut Steps<L>,
+) -> Option<(usize, N)>
+    requires masked { IsPowerOfTwo (length firsts.now) }
+    requires bucket { bucket ≡ hash % length firsts.now }
+    requires linked { (free : ℕ) × IsLinked (links_of firsts.now) cells.now free }
+    requires callable { (cell : ℕ) (node : N) → kept_at cells.now cell ≡ Some
+        (record { hash = hash; node = node })
+        → F.pre is_match.now node }
+    ensures found { IfSome result
+        (λ f. (kept_at cells.now f.0 ≡ Some (record { hash = hash; node = f.1 }))
+        × F.post is_match.now f.1 true) }
+    ensures none { IfNone result
+        ((cell : ℕ) (node : N) → kept_at cells.now cell ≡ Some (record { hash = hash; node = node })
+        → F.post is_match.now node false) }
+    ensures goes_on { steps.old ≤ steps.new }
+    ensures cost { let m = length firsts.now in let b = hash % m in steps.new
+        ≤ steps.old + count_by (λ c. chain_of m c.kept == b) cells.now }
+{
+    let mut at = firsts.next(bucket);
+    while at != END {
+        let cell = &cells[at];
+        let kept = cell.look(steps);
+        if kept.hash == hash && is_match(kept.node) {
+            return Some((at, kept.node));
+        }
+        at = cell.next();
+    }
+    None
+}
+
+// Where the first node is that has this hash and matches: in the cells of its group, or else in the chain of
+// its bucket.
+#[inline]
+pub fn seek<N: Copy, F: Fn(N) -> bool, L: Ledger>(
+    firsts: &Own<N>,
+    cells: &[Stored<N>],
+    hash: u32,
+    is_match: &F,
+    steps: &mut Steps<L>,
+) -> Option<Found<N>>
+    requires masked { IsPowerOfTwo (length firsts.now) }
+    requires whole { length firsts.now % LANES ≡ 0 }
+    requires in_place { IsInPlace firsts.now }
+    requires filled { IsFilled firsts.now }
+    requires linked { (free : ℕ) × IsLinked (links_of firsts.now) cells.now free }
+    requires callable_own { (at : ℕ) (kept : Kept N) → kept_at firsts.now at ≡ Some kept
+        → kept.hash % length firsts.now ≡ hash % length firsts.now
+        → F.pre is_match.now kept.node }
+    requires telling { (at : ℕ) (kept : Kept N) → kept_at firsts.now at ≡ Some kept
+        → F.post is_match.now kept.node true → kept.hash ≡ hash }
+    requires callable { (cell : ℕ) (node : N) → kept_at cells.now cell ≡ Some
+        (record { hash = hash; node = node })
+        → F.pre is_match.now node }
+    ensures found { IfSome result
+        (λ f. (kept_by firsts.now cells.now f.spot ≡ Some (record { hash = hash; node = f.node }))
+        × F.post is_match.now f.node true) }
+    ensures none_own { IfNone result
+        ((at : ℕ) (node : N) → kept_at firsts.now at ≡ Some (record { hash = hash; node = node })
+        → F.post is_match.now node false) }
+    ensures none { IfNone result
+        ((cell : ℕ) (node : N) → kept_at cells.now cell ≡ Some (record { hash = hash; node = node })
+        → F.post is_match.now node false) }
+    ensures goes_on { steps.old ≤ steps.new }
+    ensures cost { let m = length firsts.now in let b = hash % m in steps.new
+        ≤ steps.old + count_by (may_be hash) (lanes_of firsts.now (b - b % LANES))
+        + count_by (λ c. chain_of m c.kept == b) cells.now }
+{
+    let buckets = firsts.len();
+    let base = base_of(hash, buckets);
+    if let Some((at, node)) = seek_own(firsts, base, hash, is_match, steps) {
+        let spot = Spot::Own(at);
+        return Some(Found { spot, node });
+    }
+    if firsts.free(base) != 0 {
+        return None; // no bucket of the group has a chain
+    }
+    let bucket = bucket_of(hash, buckets);
+    match seek_over(firsts, cells, bucket, hash, is_match, steps) {
+        Some((at, node)) => {
+            let spot = Spot::Over(at);
+            Some(Found { spot, node })
+        }
+        None => None,
+    }
+}

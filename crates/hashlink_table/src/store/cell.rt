@@ -1,0 +1,136 @@
+ghost use Rattle.std.specs.Prelude.{◌≡◌, ◌+◌, ◌≤◌, ◌↔◌, IsSome, IsTrue, None, Some};
+
+use crate::kept::Kept;
+use crate::steps::Steps;
+use std::marker::Model;
+use std::sync::ledger::Ledger;
+
+/// What stands in place of a cell's number after the last cell of a chain. No table has so many cells.
+pub const END: usize = (1 << 31) - 1;
+
+/// What is added to the link of a cell over without a node. It is above each link.
+pub const FREE: u32 = 1 << 31;
+
+/// What contracts see of a cell, a place for one node.
+#[derive(Clone, Copy)]
+pub struct Cell<N> {
+    pub kept: Option<Kept<N>>,
+    // The hash that is stored: the node's, if there is one.
+    pub hash: u32,
+    // The next cell of the chain, or `END`.
+    pub next: usize,
+}
+
+/// A cell as the table stores it, in 8 bytes and a node. A free one has a node too, which means nothing.
+#[derive(Drop)]
+pub struct Stored<N> {
+    node: N,
+    hash: u32,
+    // The next cell, and whether the cell is free.
+    link: u32,
+}
+
+impl<N> Model for Stored<N> {
+    ghost use Rattle.hashlink_table.specs.declared.store.cell.Cell.{Cell};
+
+    ghost Value = { Cell N };
+
+    ghost use Rattle.hashlink_table.specs.Stored.{cell_of};
+
+    ghost view = { λ s. cell_of s.node s.hash s.link };
+}
+
+impl<N: Copy> Stored<N> {
+    /// A cell with a node.
+    #[inline]
+    pub fn taken(kept: Kept<N>, next: usize) -> Self
+        requires { next ≤ END }
+        ensures { result ≡ record { kept = Some kept; hash = kept.hash; next = next } }
+    {
+        Stored {
+            node: kept.node,
+            hash: kept.hash,
+            link: next as u32,
+        }
+    }
+
+    /// The same cell, for a move to another block.
+    #[inline]
+    pub(super) fn copied(&self) -> Self
+        ensures { result ≡ self.now }
+    {
+        Stored {
+            node: self.node,
+            hash: self.hash,
+            link: self.link,
+        }
+    }
+
+    /// Whether the cell has a node.
+    #[inline]
+    pub fn is_taken(&self) -> bool
+        ensures { IsTrue result ↔ IsSome self.now.kept }
+    {
+        self.link < FREE
+    }
+
+    /// What a search reads of a cell that is known to have a node. It takes a step.
+    #[inline]
+    pub fn look<L: Ledger>(&self, steps: &mut Steps<L>) -> Kept<N>
+        requires { IsSome self.now.kept }
+        ensures value { self.now.kept ≡ Some result }
+        ensures step { steps.new ≡ steps.old + 1 }
+    {
+        steps.tick();
+        self.known()
+    }
+
+    /// What a cell has that is known to have a node, for a move of the node.
+    #[inline]
+    pub(super) fn known(&self) -> Kept<N>
+        requires { IsSome self.now.kept }
+        ensures { self.now.kept ≡ Some result }
+    {
+        Kept {
+            hash: self.hash,
+            node: self.node,
+        }
+    }
+
+    /// What a cell has, for a move of its node.
+    #[inline]
+    pub(super) fn kept(&self) -> Option<Kept<N>>
+        ensures { result ≡ self.now.kept }
+    {
+        if self.is_taken() {
+            Some(self.known())
+        } else {
+            None
+        }
+    }
+
+    #[inline]
+    pub fn next(&self) -> usize
+        ensures value { result ≡ self.now.next }
+        ensures small { result ≤ END }
+    {
+        (self.link % FREE) as usize
+    }
+
+    /// Takes the node out.
+    #[inline]
+    pub fn set_free(&mut self, next: usize)
+        requires { next ≤ END }
+        ensures { self.new ≡ record self.old { kept = None; next = next } }
+    {
+        self.link = FREE + next as u32;
+    }
+
+    #[inline]
+    pub fn set_next(&mut self, to: usize)
+        requires { to ≤ END }
+        ensures { self.new ≡ record self.old { next = to } }
+    {
+        self.link = self.link - self.link % FREE + to as u32;
+    }
+}
