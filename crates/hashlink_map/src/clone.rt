@@ -42,10 +42,7 @@ impl<K: Eq + Hash + Drop, V: Drop, S: BuildHasher + Default + Drop> FromIterator
 
     ghost from_iter_gives = { λ items map. IsMadeOf (InsertsPair K.eq) S.is_default items (state_of map) };
 
-    fn from_iter<I: IntoIterator<Item = (K, V)>>(
-        alloc: Global,
-        iter: I,
-    ) -> Result<Self, AllocError>
+    fn from_iter<I: IntoIterator<Item = (K, V)>>(alloc: Global, iter: I) -> Result<Self, AllocError>
         requires { IsFiniteIterable I.into_iter_gives I.IntoIter.can_next I.IntoIter.remaining iter }
         ensures ran { IfOk result (λ map. (it : I.IntoIter) × (items : List (K × V))
             × I.into_iter_gives iter it × DrainsIf I.IntoIter.next_gives ⊤ it items

@@ -104,10 +104,7 @@ impl<'a, K: Eq + Hash + Copy + 'a, V: Copy + 'a, S: BuildHasher> Extend<(&'a K, 
     ghost extend_gives = { λ old items new. TakesItems (InsertsPair K.eq) (Grows 1) (state_of old)
         (map deref_pair items) (state_of new) };
 
-    fn extend<I: IntoIterator<Item = (&'a K, &'a V)>>(
-        &mut self,
-        iter: I,
-    ) -> Result<(), AllocError>
+    fn extend<I: IntoIterator<Item = (&'a K, &'a V)>>(&mut self, iter: I) -> Result<(), AllocError>
         requires { IsFiniteIterable I.into_iter_gives I.IntoIter.can_next I.IntoIter.remaining iter }
         ensures ran { ExtendsWithItems I.into_iter_gives I.IntoIter.next_gives
             (λ old items new. TakesItems (InsertsPair K.eq) (Grows 1) (state_of old)

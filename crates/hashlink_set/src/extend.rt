@@ -86,8 +86,8 @@ impl<T: Eq + Hash + Drop, S: BuildHasher> Extend<T> for LinkedHashSet<T, S> {
 
     fn extend<I: IntoIterator<Item = T>>(&mut self, iter: I) -> Result<(), AllocError>
         requires { IsFiniteIterable I.into_iter_gives I.IntoIter.can_next I.IntoIter.remaining iter }
-        ensures ran { ExtendsWithItems I.into_iter_gives I.IntoIter.next_gives extend_gives
-            iter self.old self.new result }
+        ensures ran { ExtendsWithItems I.into_iter_gives I.IntoIter.next_gives
+            (TakesItems (SetInserts T.eq) (Grows 1)) iter self.old self.new result }
         ensures all { OnOk result (ReadsAll I.into_iter_gives I.IntoIter.next_gives iter
             (λ items. AcceptsAll (SetInserts T.eq) self.old items self.new)) }
         ensures stopped { OnErr result (ReadsSome I.into_iter_gives I.IntoIter.next_gives iter
