@@ -2,11 +2,15 @@
 use Rattle.std.proofs.Common.{◌≡◌, ℕ, List, [], ◌∷◌, ◌++◌, map, length, drop, get_or, Option, Result, Ok, Err}
 use Rattle.std.proofs.Common.{refl, ap, ap₂, sym, subst, arith, true≢false}
 use Rattle.std.specs.Iterator.{Yields, Drains, DrainsIf}
-use Rattle.std.specs.Prelude.{IsErr, IfOk, MatchResult, ⊤}
-use Rattle.hashlink_model.specs.Many.{AcceptsAll, StopsAt}
+use Rattle.std.specs.Prelude.{IsErr, IfOk, OnErr, MatchResult, ⊤}
+use Rattle.hashlink_model.specs.Many.{AcceptsAll, StopsAt, StopsAtLast}
 use Rattle.hashlink_model.specs.MapState.{MapState, Grows}
 use Rattle.hashlink_map.specs.Extending.{TakesItems}
 use Rattle.hashlink_map.specs.Reading.{ReadsAll, ReadsSome}
+
+pub on_err : {A E : Type 0} (r : Result A E) (P : Type 0) → P → OnErr r P
+on_err (Ok x) P p = tt
+on_err (Err e) P p = p
 
 module _ {It Raw : Type 0} (nexts : It → Option Raw → It → Type 0) where
   module _ {Item : Type 0} (fs : List Raw → List Item) where
@@ -42,6 +46,13 @@ module _ {It Raw : Type 0} (nexts : It → Option Raw → It → Type 0) where
                 (stop.between, stop.accepted, stays stop.between new stop.item back stop.refused),
             (came.2, came.3),
           )
+
+      -- the same stop, without the number and the item of the error
+      pub stopped_at_last : {B E : Type 0} (r : Result B E) (taken : ℕ) (back : Item)
+          → ReadsSome becomes nexts given (λ raw. StopsAt step old (fs raw) new taken back [])
+          → OnErr r (ReadsSome becomes nexts given (λ raw. StopsAtLast step old (fs raw) new))
+      stopped_at_last r taken back read =
+          on_err r _ (read.0, read.1, read.2, read.3, read.4, (taken, back, read.5))
 
   -- what was made of the items up to `None`, by its answer
   pub made_by_answer : {Given S M E : Type 0} (becomes : Given → It → Type 0) (H : S → Type 0)

@@ -1,6 +1,7 @@
 pub mod Answering
 pub mod AtNode
 pub mod Clones
+pub mod Copying
 pub mod CursorPairs
 pub mod Extending
 pub mod Indexing

@@ -1,8 +1,8 @@
 -- What a map is made of, and when it is not.
-use Rattle.std.specs.Prelude.{◌≡◌, ℕ, Bool, true, List, [], Result}
+use Rattle.std.specs.Prelude.{◌≡◌, Bool, true, List, Result}
 use Rattle.std.specs.List.{AllZip}
 use Rattle.hashlink_model.specs.Compare.{entries_eq}
-use Rattle.hashlink_model.specs.Many.{StopsAt, MadeFrom, InsertsPair}
+use Rattle.hashlink_model.specs.Many.{StopsAtLast, MadeFrom, InsertsPair}
 use Rattle.hashlink_model.specs.MapState.{MapState, empty_map}
 
 -- each pair of the second list is made of a clone of the key and a clone of the value of the pair in its
@@ -16,7 +16,7 @@ abbrev pub StopsMaking : {K V S Item A : Type 0}
     → (MapState K V S → MapState K V S → Item → Result A Item → Type 0)
     → S → List Item → Type 0
 StopsMaking {K} {V} {S} {Item} step s items =
-    (m : MapState K V S) × (taken : ℕ) × (back : Item) × StopsAt step (empty_map s) items m taken back []
+    (m : MapState K V S) × StopsAtLast step (empty_map s) items m
 
 -- the items made a map with a hasher of which H holds
 abbrev pub IsMadeOf : {K V S Item A : Type 0}

@@ -1,4 +1,4 @@
--- What a call says of an iterator: what it read, and that it read no more.
+-- What a call says of an iterator: what it read, and of one that its caller keeps that it read no more.
 use Rattle.std.specs.Prelude.{List, Option, None}
 use Rattle.std.specs.Iterator.{Yields, YieldsThen}
 
@@ -12,7 +12,8 @@ module _ {Given State Item : Type 0} (becomes : Given → State → Type 0)
       × YieldsThen steps it items None rest
       × P items
 
-  -- the items for which P holds came out of it, and it was asked for no more
+  -- the items for which P holds came out of it. It is gone after the call, so that nothing can be said of
+  -- what it was asked afterwards
   abbrev pub ReadsSome : (List Item → Type 0) → Type 0
   ReadsSome P =
       (it : State) × (items : List Item) × (rest : State) × becomes given it

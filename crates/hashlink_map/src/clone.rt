@@ -1,6 +1,6 @@
 //! Maps that are built whole: from the items of an iterator, and as a clone.
-ghost use Rattle.std.specs.Prelude.{◌≡◌, List, [], Bool, true, Option, Ok, IfOk, OnOk, OnErr};
-ghost use Rattle.std.specs.Iterator.{IsFiniteIterable};
+ghost use Rattle.std.specs.Prelude.{◌≡◌, List, [], Bool, true, Option, Ok, IfOk, OnOk, OnErr, ⊤};
+ghost use Rattle.std.specs.Iterator.{DrainsIf, IsFiniteIterable};
 ghost use Rattle.hashlink_model.specs.Compare.{entries_eq};
 ghost use Rattle.hashlink_model.specs.Many.{MadeFrom, InsertsPair};
 ghost use Rattle.hashlink_core.specs.Keyed.{state_of, entries_of};
@@ -42,10 +42,14 @@ impl<K: Eq + Hash + Drop, V: Drop, S: BuildHasher + Default + Drop> FromIterator
 
     ghost from_iter_gives = { λ items map. IsMadeOf (InsertsPair K.eq) S.is_default items (state_of map) };
 
-    fn from_iter<I: IntoIterator<Item = (K, V)>>(
-        alloc: Global,
-        iter: I,
-    ) -> Result<Self, AllocError> {
+    fn from_iter<I: IntoIterator<Item = (K, V)>>(alloc: Global, iter: I) -> Result<Self, AllocError>
+        requires { IsFiniteIterable I.into_iter_gives I.IntoIter.can_next I.IntoIter.remaining iter }
+        ensures ran { IfOk result (λ map. (it : I.IntoIter) × (items : List (K × V))
+            × I.into_iter_gives iter it × DrainsIf I.IntoIter.next_gives ⊤ it items
+            × IsMadeOf (InsertsPair K.eq) S.is_default items (state_of map)) }
+        ensures stopped { OnErr result ((s : S) × S.is_default s
+            × ReadsSome I.into_iter_gives I.IntoIter.next_gives iter (StopsMaking (InsertsPair K.eq) s)) }
+    {
         LinkedHashMap::from_iter(alloc, iter)
     }
 }

@@ -1,8 +1,8 @@
 //! Inserts of many items, each in turn by `insert`.
-ghost use Rattle.std.specs.Prelude.{[], OnOk, IfErr, map};
-ghost use Rattle.std.specs.Iterator.{IsFinite, IsFiniteIterable};
+ghost use Rattle.std.specs.Prelude.{[], OnOk, OnErr, IfErr, map};
+ghost use Rattle.std.specs.Iterator.{ExtendsWithItems, IsFinite, IsFiniteIterable};
 ghost use Rattle.std.specs.Map.Iter.{deref_pair};
-ghost use Rattle.hashlink_model.specs.Many.{AcceptsAll, StopsAt, InsertsPair};
+ghost use Rattle.hashlink_model.specs.Many.{AcceptsAll, StopsAt, StopsAtLast, InsertsPair};
 ghost use Rattle.hashlink_model.specs.MapState.{Grows};
 ghost use Rattle.hashlink_core.specs.Keyed.{state_of};
 ghost use Rattle.hashlink_map.specs.Extending.{TakesItems};
@@ -71,15 +71,8 @@ impl<'a, K: Eq + Hash + Copy + 'a, V: Copy + 'a, S: BuildHasher> LinkedHashMap<K
             (state_of self.new)
             e.taken e.pair [])) }
     {
-        let mut rest = iter.into_iter();
-        let mut taken = 0u64;
-        while let Some((key, value)) = rest.next() {
-            if let Err(pair) = self.insert(*key, *value) {
-                return Err(ExtendError { taken, pair });
-            }
-            taken = taken.saturating_add(1);
-        }
-        Ok(())
+        let mut copies = iter.into_iter().map(|(key, value)| (*key, *value));
+        self.extend_from(&mut copies)
     }
 }
 
@@ -89,7 +82,16 @@ impl<K: Eq + Hash + Drop, V: Drop, S: BuildHasher> Extend<(K, V)> for LinkedHash
     ghost extend_gives = { λ old items new. TakesItems (InsertsPair K.eq) (Grows 1) (state_of old) items
         (state_of new) };
 
-    fn extend<I: IntoIterator<Item = (K, V)>>(&mut self, iter: I) -> Result<(), AllocError> {
+    fn extend<I: IntoIterator<Item = (K, V)>>(&mut self, iter: I) -> Result<(), AllocError>
+        requires { IsFiniteIterable I.into_iter_gives I.IntoIter.can_next I.IntoIter.remaining iter }
+        ensures ran { ExtendsWithItems I.into_iter_gives I.IntoIter.next_gives
+            (λ old items new. TakesItems (InsertsPair K.eq) (Grows 1) (state_of old) items (state_of new))
+            iter self.old self.new result }
+        ensures all { OnOk result (ReadsAll I.into_iter_gives I.IntoIter.next_gives iter
+            (λ items. AcceptsAll (InsertsPair K.eq) (state_of self.old) items (state_of self.new))) }
+        ensures stopped { OnErr result (ReadsSome I.into_iter_gives I.IntoIter.next_gives iter
+            (λ items. StopsAtLast (InsertsPair K.eq) (state_of self.old) items (state_of self.new))) }
+    {
         LinkedHashMap::extend(self, iter)?;
         Ok(())
     }
@@ -102,10 +104,19 @@ impl<'a, K: Eq + Hash + Copy + 'a, V: Copy + 'a, S: BuildHasher> Extend<(&'a K, 
     ghost extend_gives = { λ old items new. TakesItems (InsertsPair K.eq) (Grows 1) (state_of old)
         (map deref_pair items) (state_of new) };
 
-    fn extend<I: IntoIterator<Item = (&'a K, &'a V)>>(
-        &mut self,
-        iter: I,
-    ) -> Result<(), AllocError> {
+    fn extend<I: IntoIterator<Item = (&'a K, &'a V)>>(&mut self, iter: I) -> Result<(), AllocError>
+        requires { IsFiniteIterable I.into_iter_gives I.IntoIter.can_next I.IntoIter.remaining iter }
+        ensures ran { ExtendsWithItems I.into_iter_gives I.IntoIter.next_gives
+            (λ old items new. TakesItems (InsertsPair K.eq) (Grows 1) (state_of old)
+            (map deref_pair items) (state_of new))
+            iter self.old self.new result }
+        ensures all { OnOk result (ReadsAll I.into_iter_gives I.IntoIter.next_gives iter
+            (λ items. AcceptsAll (InsertsPair K.eq) (state_of self.old) (map deref_pair items)
+            (state_of self.new))) }
+        ensures stopped { OnErr result (ReadsSome I.into_iter_gives I.IntoIter.next_gives iter
+            (λ items. StopsAtLast (InsertsPair K.eq) (state_of self.old) (map deref_pair items)
+            (state_of self.new))) }
+    {
         self.extend_ref(iter)?;
         Ok(())
     }

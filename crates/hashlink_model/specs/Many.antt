@@ -25,6 +25,10 @@ module _ {State Item A : Type 0} (step : State → State → Item → Result A I
     pub refused : step between new item (Err back)
     pub count : taken ≡ min (length before) (2 ^ 64 - 1)
 
+  -- the same of an answer that names neither the item nor the number: the last of the items was refused
+  abbrev pub StopsAtLast : State → List Item → State → Type 0
+  StopsAtLast old items new = (taken : ℕ) × (back : Item) × StopsAt old items new taken back []
+
   -- many items, by the answer: all went in, or (taken, back, left) of the one that was refused
   abbrev pub Extends : {B : Type 0} → State → List Item → State → Result B (ℕ × Item × List Item) → Type 0
   Extends old items new r =

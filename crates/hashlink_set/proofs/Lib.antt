@@ -1,3 +1,4 @@
+pub mod Copied
 pub mod Entering
 pub mod Leaving
 pub mod LentLast

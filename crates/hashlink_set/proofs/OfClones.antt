@@ -81,11 +81,6 @@ module _ {T S : Type 0} (eq : T → T → Bool) where
     is_of_items items clones is cloned made = is_of_clones clones
         (subst (λ xs. AllZip C xs clones) is cloned) made
 
--- what holds anyhow holds where there is an error
-pub on_err : {A E : Type 0} (r : Result A E) (P : Type 0) → P → OnErr r P
-on_err (Ok x) P p = tt
-on_err (Err e) P p = p
-
 -- where calls gave an item at the end, the first of them gave one
 pub first_gave : {St X : Type 0} (steps : St → Option X → St → Type 0) (s t u : St) (xs : List X) (x : X)
     → Yields steps s xs t

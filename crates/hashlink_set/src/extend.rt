@@ -1,8 +1,8 @@
 //! Inserts of many elements, each in turn by `insert`.
-ghost use Rattle.std.specs.Prelude.{[], OnOk, IfErr, map};
-ghost use Rattle.std.specs.Iterator.{IsFinite, IsFiniteIterable};
+ghost use Rattle.std.specs.Prelude.{[], OnOk, OnErr, IfErr, map};
+ghost use Rattle.std.specs.Iterator.{ExtendsWithItems, IsFinite, IsFiniteIterable};
 ghost use Rattle.std.specs.Map.Iter.{deref};
-ghost use Rattle.hashlink_model.specs.Many.{AcceptsAll, StopsAt};
+ghost use Rattle.hashlink_model.specs.Many.{AcceptsAll, StopsAt, StopsAtLast};
 ghost use Rattle.hashlink_model.specs.MapState.{Grows};
 ghost use Rattle.hashlink_model.specs.Sets.{SetInserts};
 ghost use Rattle.hashlink_map.specs.Extending.{TakesItems};
@@ -74,18 +74,8 @@ impl<'a, T: Eq + Hash + Copy + 'a, S: BuildHasher> LinkedHashSet<T, S> {
         ensures stopped { IfErr result (λ e. ReadsSome I.into_iter_gives I.IntoIter.next_gives iter
             (λ items. StopsAt (SetInserts T.eq) self.old (map deref items) self.new e.taken e.pair.0 [])) }
     {
-        let mut rest = iter.into_iter();
-        let mut taken = 0u64;
-        while let Some(element) = rest.next() {
-            if let Err(back) = self.insert(*element) {
-                return Err(ExtendError {
-                    taken,
-                    pair: (back, ()),
-                });
-            }
-            taken = taken.saturating_add(1);
-        }
-        Ok(())
+        let mut copies = iter.into_iter().copied();
+        self.extend_from(&mut copies)
     }
 }
 
@@ -94,7 +84,15 @@ impl<'a, T: Eq + Hash + Copy + 'a, S: BuildHasher> LinkedHashSet<T, S> {
 impl<T: Eq + Hash + Drop, S: BuildHasher> Extend<T> for LinkedHashSet<T, S> {
     ghost extend_gives = { TakesItems (SetInserts T.eq) (Grows 1) };
 
-    fn extend<I: IntoIterator<Item = T>>(&mut self, iter: I) -> Result<(), AllocError> {
+    fn extend<I: IntoIterator<Item = T>>(&mut self, iter: I) -> Result<(), AllocError>
+        requires { IsFiniteIterable I.into_iter_gives I.IntoIter.can_next I.IntoIter.remaining iter }
+        ensures ran { ExtendsWithItems I.into_iter_gives I.IntoIter.next_gives
+            (TakesItems (SetInserts T.eq) (Grows 1)) iter self.old self.new result }
+        ensures all { OnOk result (ReadsAll I.into_iter_gives I.IntoIter.next_gives iter
+            (λ items. AcceptsAll (SetInserts T.eq) self.old items self.new)) }
+        ensures stopped { OnErr result (ReadsSome I.into_iter_gives I.IntoIter.next_gives iter
+            (λ items. StopsAtLast (SetInserts T.eq) self.old items self.new)) }
+    {
         LinkedHashSet::extend(self, iter)?;
         Ok(())
     }
@@ -105,7 +103,16 @@ impl<T: Eq + Hash + Drop, S: BuildHasher> Extend<T> for LinkedHashSet<T, S> {
 impl<'a, T: Eq + Hash + Copy + 'a, S: BuildHasher> Extend<&'a T> for LinkedHashSet<T, S> {
     ghost extend_gives = { λ old items. TakesItems (SetInserts T.eq) (Grows 1) old (map deref items) };
 
-    fn extend<I: IntoIterator<Item = &'a T>>(&mut self, iter: I) -> Result<(), AllocError> {
+    fn extend<I: IntoIterator<Item = &'a T>>(&mut self, iter: I) -> Result<(), AllocError>
+        requires { IsFiniteIterable I.into_iter_gives I.IntoIter.can_next I.IntoIter.remaining iter }
+        ensures ran { ExtendsWithItems I.into_iter_gives I.IntoIter.next_gives
+            (λ old items. TakesItems (SetInserts T.eq) (Grows 1) old (map deref items))
+            iter self.old self.new result }
+        ensures all { OnOk result (ReadsAll I.into_iter_gives I.IntoIter.next_gives iter
+            (λ items. AcceptsAll (SetInserts T.eq) self.old (map deref items) self.new)) }
+        ensures stopped { OnErr result (ReadsSome I.into_iter_gives I.IntoIter.next_gives iter
+            (λ items. StopsAtLast (SetInserts T.eq) self.old (map deref items) self.new)) }
+    {
         self.extend_ref(iter)?;
         Ok(())
     }

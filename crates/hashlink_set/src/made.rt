@@ -1,8 +1,8 @@
 //! Sets that are built whole: from the items of an iterator, as a clone, and from clones of the elements that
 //! two sets yield together.
-ghost use Rattle.std.specs.Prelude.{◌≡◌, List, [], Bool, Some, Ok, IfOk, OnOk, OnErr, map};
+ghost use Rattle.std.specs.Prelude.{◌≡◌, List, [], Bool, Some, Ok, IfOk, OnOk, OnErr, map, ⊤};
 ghost use Rattle.std.specs.Borrow.{Bor};
-ghost use Rattle.std.specs.Iterator.{Drains, IsFinite, IsFiniteIterable};
+ghost use Rattle.std.specs.Iterator.{Drains, DrainsIf, IsFinite, IsFiniteIterable};
 ghost use Rattle.std.specs.List.{AllZip};
 ghost use Rattle.std.specs.Map.Iter.{deref};
 ghost use Rattle.hashlink_model.specs.Algebra.{union_of, intersection_of, difference_of};
@@ -45,7 +45,13 @@ impl<T: Eq + Hash + Drop, S: BuildHasher + Default + Drop> FromIterator<T> for L
 
     ghost from_iter_gives = { IsMadeOf (SetInserts T.eq) S.is_default };
 
-    fn from_iter<I: IntoIterator<Item = T>>(alloc: Global, iter: I) -> Result<Self, AllocError> {
+    fn from_iter<I: IntoIterator<Item = T>>(alloc: Global, iter: I) -> Result<Self, AllocError>
+        requires { IsFiniteIterable I.into_iter_gives I.IntoIter.can_next I.IntoIter.remaining iter }
+        ensures ran { IfOk result (λ set. (it : I.IntoIter) × (items : List T) × I.into_iter_gives iter it
+            × DrainsIf I.IntoIter.next_gives ⊤ it items × IsMadeOf (SetInserts T.eq) S.is_default items set) }
+        ensures stopped { OnErr result ((s : S) × S.is_default s
+            × ReadsSome I.into_iter_gives I.IntoIter.next_gives iter (StopsMaking (SetInserts T.eq) s)) }
+    {
         LinkedHashSet::from_iter(alloc, iter)
     }
 }

@@ -22,8 +22,10 @@ impl<K: Eq + Hash, V, S: BuildHasher> LruCache<K, V, S> {
     ghost use Rattle.hashlink_lru.specs.Cached.{entries_in, map_in, state_in};
     ghost use Rattle.hashlink_lru.specs.Lends.{HandsOnMap, LendsMap};
 
-    /// Returns a mutable reference to the map of the cache, for any of its methods. None of them evicts what
-    /// is above the capacity. It takes constant time.
+    /// Returns a mutable reference to the map of the cache, for any of its methods. It takes constant time.
+    ///
+    /// None of them evicts what is above the capacity. So through this reference alone, and through a cursor,
+    /// the cache can exceed its capacity by any number, until one of its own inserts succeeds.
     pub fn map_mut(&mut self) -> &mut LinkedHashMap<K, V, S>
         ensures* lends { sem 𝓛 (LendsMap K.row V.row S.row S.Hasher.row K.Hash S.BuildHasher S.Hasher.Hasher
             self.entry result) }

@@ -1,9 +1,9 @@
 //! Inserts of many items, and clones.
 ghost use Rattle.std.specs.Prelude.{◌≡◌, Bool, true, List, [], OnOk, OnErr, IfOk, IfErr};
-ghost use Rattle.std.specs.Iterator.{IsFinite, IsFiniteIterable};
+ghost use Rattle.std.specs.Iterator.{ExtendsWithItems, IsFinite, IsFiniteIterable};
 ghost use Rattle.hashlink_model.specs.Cache.{OnMap};
 ghost use Rattle.hashlink_model.specs.Compare.{entries_eq};
-ghost use Rattle.hashlink_model.specs.Many.{AcceptsAll, StopsAt, MadeFrom, InsertsPair};
+ghost use Rattle.hashlink_model.specs.Many.{AcceptsAll, StopsAt, StopsAtLast, MadeFrom, InsertsPair};
 ghost use Rattle.hashlink_model.specs.MapState.{Grows};
 ghost use Rattle.hashlink_map.specs.Cloning.{ArePairClones, IsOfPairClones};
 ghost use Rattle.hashlink_map.specs.Extending.{TakesItems};
@@ -67,12 +67,23 @@ impl<K: Eq + Hash + Drop, V: Drop, S: BuildHasher> LruCache<K, V, S> {
 /// Inserts the items as the function `extend` does. If memory runs out, it returns `AllocError`, and what was
 /// inserted stays. The item that was not inserted is dropped.
 impl<K: Eq + Hash + Drop, V: Drop, S: BuildHasher> Extend<(K, V)> for LruCache<K, V, S> {
-    ghost use Rattle.hashlink_lru.specs.Cached.{state_in, InsertsPairIn};
+    ghost use Rattle.hashlink_lru.specs.Cached.{state_in, InsertsPairIn, StaysWithin};
 
     ghost extend_gives = { λ old items new. TakesItems (InsertsPairIn K.eq) (OnMap (Grows 1))
         (state_in old) items (state_in new) };
 
-    fn extend<I: IntoIterator<Item = (K, V)>>(&mut self, iter: I) -> Result<(), AllocError> {
+    fn extend<I: IntoIterator<Item = (K, V)>>(&mut self, iter: I) -> Result<(), AllocError>
+        requires { IsFiniteIterable I.into_iter_gives I.IntoIter.can_next I.IntoIter.remaining iter }
+        ensures ran { ExtendsWithItems I.into_iter_gives I.IntoIter.next_gives
+            (λ old items new. TakesItems (InsertsPairIn K.eq) (OnMap (Grows 1)) (state_in old) items
+            (state_in new))
+            iter self.old self.new result }
+        ensures all { OnOk result (ReadsAll I.into_iter_gives I.IntoIter.next_gives iter
+            (λ items. AcceptsAll (InsertsPairIn K.eq) (state_in self.old) items (state_in self.new))) }
+        ensures stopped { OnErr result (ReadsSome I.into_iter_gives I.IntoIter.next_gives iter
+            (λ items. StopsAtLast (InsertsPairIn K.eq) (state_in self.old) items (state_in self.new))) }
+        ensures within { StaysWithin (state_in self.old) (state_in self.new) }
+    {
         LruCache::extend(self, iter)?;
         Ok(())
     }

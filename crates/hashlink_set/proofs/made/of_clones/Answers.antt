@@ -5,7 +5,8 @@ use Rattle.std.specs.Map.Iter.{deref}
 use Rattle.hashlink_model.specs.Many.{AcceptsAll}
 use Rattle.hashlink_model.specs.Sets.{SetInserts}
 use Rattle.hashlink_map.proofs.InTurn.{accepts_another, mapped_another}
-use Rattle.hashlink_set.proofs.OfClones.{first_gave, on_err, zip_another}
+use Rattle.hashlink_map.proofs.Extending.{on_err}
+use Rattle.hashlink_set.proofs.OfClones.{first_gave, zip_another}
 use Rattle.hashlink_set.proofs.made.of_clones.Goals as goal
 
 pub loop-element-init : goal.loop-element-init

@@ -1,25 +1,29 @@
 use Rattle.hashlink_model.specs.Many.{InsertsPair}
 use Rattle.hashlink_model.specs.MapState.{Grows}
 use Rattle.hashlink_core.specs.Keyed.{state_of}
-use Rattle.hashlink_map.proofs.Extending.{grows-none, took_all, took_some, cuts_item}
+use Rattle.hashlink_map.proofs.Extending.{grows-none, took_all, took_some, stopped_at_last, cuts_item}
 use Rattle.hashlink_map.proofs.extend.LinkedHashMapExtendTuple2.extend.Goals as goal
 
-pub returns-in_err-extend : goal.returns-in_err-extend
-returns-in_err-extend g c =
+pub returns-in_err-extend-clause-ran : goal.returns-in_err-extend-clause-ran
+returns-in_err-extend-clause-ran g c =
     let e = c.in_err-extend.field-0.0 in
-    let nexts = g.I.IntoIter.Iterator.next_gives in record {
-      ran = took_some nexts (λ raw. raw) g.I.IntoIterator.into_iter_gives
-          (InsertsPair g.K.PartialEq.eq) (Grows 1)
-          c.args.iter (state_of c.args.self.now) (state_of c.extend.new.self)
-          c.from_residual.result e.taken e.pair
-          c.from_residual.ensures.0 (cuts_item nexts) (λ a b x y refused. refused.grows)
-          c.in_err-extend.ensures.stopped;
-    }
+    let nexts = g.I.IntoIter.Iterator.next_gives in
+    took_some nexts (λ raw. raw) g.I.IntoIterator.into_iter_gives (InsertsPair g.K.PartialEq.eq) (Grows 1)
+    c.args.iter (state_of c.args.self.now) (state_of c.extend.new.self) c.from_residual.result e.taken e.pair
+    c.from_residual.ensures.0 (cuts_item nexts) (λ a b x y refused. refused.grows)
+    c.in_err-extend.ensures.stopped
 
-pub returns : goal.returns
-returns g c = record {
-  ran = took_all g.I.IntoIter.Iterator.next_gives (λ raw. raw) g.I.IntoIterator.into_iter_gives
-      (InsertsPair g.K.PartialEq.eq) (Grows 1) c.args.iter (state_of c.args.self.now)
-      (state_of c.extend.new.self)
-      c.in_ok-extend.ensures.all (grows-none (state_of c.extend.new.self));
-}
+pub returns-in_err-extend-clause-stopped : goal.returns-in_err-extend-clause-stopped
+returns-in_err-extend-clause-stopped g c =
+    let e = c.in_err-extend.field-0.0 in
+    stopped_at_last g.I.IntoIter.Iterator.next_gives (λ raw. raw) g.I.IntoIterator.into_iter_gives
+    (InsertsPair g.K.PartialEq.eq) (Grows 1)
+    c.args.iter (state_of c.args.self.now) (state_of c.extend.new.self) c.from_residual.result e.taken e.pair
+    c.in_err-extend.ensures.stopped
+
+pub returns-clause-ran : goal.returns-clause-ran
+returns-clause-ran g c =
+    took_all g.I.IntoIter.Iterator.next_gives (λ raw. raw) g.I.IntoIterator.into_iter_gives
+    (InsertsPair g.K.PartialEq.eq) (Grows 1) c.args.iter (state_of c.args.self.now)
+    (state_of c.extend.new.self)
+    c.in_ok-extend.ensures.all (grows-none (state_of c.extend.new.self))

@@ -1,12 +1,8 @@
-use Rattle.std.proofs.Common.{[], Result, Ok, Err, subst}
-use Rattle.std.specs.Prelude.{OnErr}
+use Rattle.std.proofs.Common.{[], subst}
 use Rattle.hashlink_model.specs.Many.{AcceptsAll, StopsAt, InsertsPair}
 use Rattle.hashlink_core.specs.Keyed.{state_of}
+use Rattle.hashlink_map.proofs.Extending.{on_err}
 use Rattle.hashlink_map.proofs.map.LinkedHashMap.from_iter.Goals as goal
-
-on_err : {A E : Type 0} (r : Result A E) (P : Type 0) → P → OnErr r P
-on_err (Ok x) P p = tt
-on_err (Err e) P p = p
 
 pub returns-clause-made : goal.returns-clause-made
 returns-clause-made g c =
@@ -40,10 +36,12 @@ returns-in_err-extend-clause-stopped g c =
         read.4,
         (
           new,
-          e.taken,
-          e.pair,
-          subst (λ m. StopsAt (InsertsPair g.K.PartialEq.eq) m read.1 new e.taken e.pair [])
-              c.with_hasher-map.ensures read.5,
+          (
+            e.taken,
+            e.pair,
+            subst (λ m. StopsAt (InsertsPair g.K.PartialEq.eq) m read.1 new e.taken e.pair [])
+                c.with_hasher-map.ensures read.5,
+          ),
         ),
       ),
     )

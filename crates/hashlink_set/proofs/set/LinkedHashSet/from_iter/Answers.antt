@@ -1,7 +1,7 @@
 use Rattle.std.proofs.Common.{[], subst}
 use Rattle.hashlink_model.specs.Many.{AcceptsAll, StopsAt}
 use Rattle.hashlink_model.specs.Sets.{SetInserts}
-use Rattle.hashlink_set.proofs.OfClones.{on_err}
+use Rattle.hashlink_map.proofs.Extending.{on_err}
 use Rattle.hashlink_set.proofs.set.LinkedHashSet.from_iter.Goals as goal
 
 pub returns-clause-made : goal.returns-clause-made
@@ -36,10 +36,12 @@ returns-in_err-extend-clause-stopped g c =
         read.4,
         (
           new,
-          e.taken,
-          e.pair.0,
-          subst (λ s. StopsAt (SetInserts g.T.PartialEq.eq) s read.1 new e.taken e.pair.0 [])
-              c.with_hasher-set.ensures read.5,
+          (
+            e.taken,
+            e.pair.0,
+            subst (λ s. StopsAt (SetInserts g.T.PartialEq.eq) s read.1 new e.taken e.pair.0 [])
+                c.with_hasher-set.ensures read.5,
+          ),
         ),
       ),
     )
