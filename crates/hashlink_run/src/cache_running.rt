@@ -46,7 +46,7 @@ where
     ensures bounded { OnOk result (StaysBounded (state_in cache.old) commands.items (state_in cache.new)) }
     ensures distinct { OnOk result (IsEntries K.eq (entries_in cache.new)) }
 {
-    let mut replies = Vec::with_capacity(*commands.allocator(), commands.len())?;
+    let mut replies = Vec::with_capacity(cache.allocator(), commands.len())?;
     for command in commands {
         replies.push(answer_cache(cache, command, keep))?;
     }

@@ -52,7 +52,7 @@ where
         → length (entries_of map.new) < length (entries_of map.old) → 1 ≤ (state_of map.new).spare) }
     ensures distinct { OnOk result (IsEntries K.eq (entries_of map.new)) }
 {
-    let mut replies = Vec::with_capacity(*commands.allocator(), reply_total(&commands)?)?;
+    let mut replies = Vec::with_capacity(map.allocator(), reply_total(&commands)?)?;
     for command in commands {
         answer_command(map, command, keep, keep, &mut replies)?;
     }
