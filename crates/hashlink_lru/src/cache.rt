@@ -57,6 +57,11 @@ impl<K: Eq + Hash, V, S: BuildHasher> LruCache<K, V, S> {
         }
     }
 
+    /// Returns the allocator of the cache, which is the one that it was made with. It takes constant time.
+    pub fn allocator(&self) -> Global {
+        self.map.allocator()
+    }
+
     /// Returns a reference to the cache's `BuildHasher`. It takes constant time.
     pub fn hasher(&self) -> &S
         ensures { result.now ≡ (state_in self.now).map.hasher }

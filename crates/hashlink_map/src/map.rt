@@ -117,6 +117,11 @@ impl<K: Eq + Hash, V, S: BuildHasher> LinkedHashMap<K, V, S> {
         self.list.capacity()
     }
 
+    /// Returns the allocator of the map, which is the one that it was made with. It takes constant time.
+    pub fn allocator(&self) -> Global {
+        self.list.allocator()
+    }
+
     /// Returns a reference to the map's `BuildHasher`. It takes constant time.
     pub fn hasher(&self) -> &S
         ensures { result.now ≡ self.now.hasher }

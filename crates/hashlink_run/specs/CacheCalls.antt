@@ -7,7 +7,7 @@ use Rattle.hashlink_model.specs.CacheRuns.{CacheEvent, after_event, after_events
 use Rattle.hashlink_model.specs.CacheRuns as event
 use Rattle.hashlink_model.specs.Entries.{put}
 use Rattle.hashlink_model.specs.History.{Passed, Length, peak}
-use Rattle.hashlink_model.specs.MapState.{node_count}
+use Rattle.hashlink_model.specs.MapState.{Grows, MayRefuse, node_count}
 use Rattle.hashlink_model.specs.Steps.{RemovesKey}
 use Rattle.hashlink_lru.specs.Cached.{empty_cache}
 use Rattle.hashlink_commands.specs.declared.cache_commands.PairCommand.{PairCommand}
@@ -36,6 +36,14 @@ module _ {K V S : Type 0} (eq : K → K → Bool) where
       OnMap (λ a b. RemovesKey eq a b k (lookup_entry (eq k) a.entries)) old new
       × (answers ≡ lookup (eq k) old.map.entries ∷ [])
   EventStep old (event.Peek k) answers new = (new ≡ old) × (answers ≡ lookup (eq k) old.map.entries ∷ [])
+
+  -- one call that was refused: it inserts, and the rule lets the insert of its key be refused. Nothing
+  -- changed but the room
+  abbrev pub EventRefused : CacheState K V S → CacheEvent K V → CacheState K V S → Type 0
+  EventRefused old (event.Insert k v) new = MayRefuse eq old.map k × OnMap (Grows 1) old new
+  EventRefused old (event.Use k v) new = MayRefuse eq old.map k × OnMap (Grows 1) old new
+  EventRefused old (event.Remove k) new = ⊥
+  EventRefused old (event.Peek k) new = ⊥
 
 module _ {K V : Type 0} (eq : K → K → Bool) (cap : ℕ) where
   -- the length that a call passes before anything is dropped

@@ -1,5 +1,5 @@
 //! Lists of commands to a cache.
-ghost use Rattle.std.specs.Prelude.{◌≡◌, IfOk, OnOk, OnErr};
+ghost use Rattle.std.specs.Prelude.{◌≡◌, [], IfOk, IsOk, OnOk, OnErr};
 ghost use Rattle.hashlink_lru.specs.Cached.{entries_in, state_in};
 ghost use Rattle.hashlink_model.specs.Entries.{IsEntries};
 ghost use Rattle.hashlink_run.specs.CacheRun.{LawfulCacheRun, ShownByCache, StaysBounded};
@@ -18,8 +18,9 @@ use std::hash::{BuildHasher, Hash};
 /// so and contains the pair, and the run continues. Each command costs what the method of the cache costs
 /// that it names.
 ///
-/// Room for all replies is reserved first, from the allocator of the commands. If memory for it runs out, it
-/// returns `AllocError`, the commands are dropped and the cache has not changed.
+/// Room for all replies is reserved first, from the allocator of the cache. If memory for it runs out, it
+/// returns `AllocError`, the commands are dropped and the cache has not changed. For no command it needs no
+/// memory.
 pub fn run_cache<K, V, S, F>(
     cache: &mut LruCache<K, V, S>,
     commands: Vec<CacheCommand<K, V>>,
@@ -41,10 +42,11 @@ where
         commands.items replies.items
         (state_in cache.new)) }
     ensures refused { OnErr result (cache.new ≡ cache.old) }
+    ensures none { commands.items ≡ [] → IsOk result }
     ensures bounded { OnOk result (StaysBounded (state_in cache.old) commands.items (state_in cache.new)) }
     ensures distinct { OnOk result (IsEntries K.eq (entries_in cache.new)) }
 {
-    let mut replies = Vec::with_capacity(*commands.allocator(), commands.len())?;
+    let mut replies = Vec::with_capacity(cache.allocator(), commands.len())?;
     for command in commands {
         replies.push(answer_cache(cache, command, keep))?;
     }

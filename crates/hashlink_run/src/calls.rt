@@ -1,10 +1,10 @@
 //! Calls of caches in turn, which end if memory runs out.
-ghost use Rattle.std.specs.Prelude.{◌≡◌, ◌≤◌, [], ◌∷◌, map, IfOk, OnOk, OnErr};
+ghost use Rattle.std.specs.Prelude.{◌≡◌, ◌≤◌, [], ◌∷◌, map, IfOk, IsOk, OnOk, OnErr};
 ghost use Rattle.hashlink_core.specs.Hashing.{default_builder};
 ghost use Rattle.hashlink_lru.specs.Cached.{entries_in, state_in};
 ghost use Rattle.hashlink_model.specs.Cache.{CacheUses};
 ghost use Rattle.hashlink_model.specs.Entries.{IsEntries};
-ghost use Rattle.hashlink_run.specs.CacheCalls.{EventStep, RunsFromEmpty, event_of, use_of};
+ghost use Rattle.hashlink_run.specs.CacheCalls.{EventRefused, EventStep, RunsFromEmpty, event_of, use_of};
 ghost use Rattle.hashlink_run.specs.CacheLaws.{BearsComparison, FollowsHistory, Includes, MissesOfHistory};
 ghost use Rattle.hashlink_run.specs.CacheLaws.{UsedLast};
 
@@ -39,8 +39,8 @@ pub struct Uses<K: Eq + Hash, V> {
 /// Runs the commands on two empty caches of these capacities, of which the first is the smaller one.
 ///
 /// Each command costs what the method of the cache costs that it names. If memory runs out, for the replies
-/// or for an insert, it returns `AllocError`, and nothing is left of the caches. `small_capacity` has to be
-/// at most `large_capacity`.
+/// or for an insert, it returns `AllocError`, and nothing is left of the caches. For no command it needs no
+/// memory. `small_capacity` has to be at most `large_capacity`.
 pub fn run_pair<K, V>(
     alloc: Global,
     small_capacity: usize,
@@ -72,6 +72,7 @@ where
         (entries_in pair.large) pair.large_replies.items) }
     ensures small_distinct { IfOk result (λ pair. IsEntries K.eq (entries_in pair.small)) }
     ensures large_distinct { IfOk result (λ pair. IsEntries K.eq (entries_in pair.large)) }
+    ensures none { commands.now ≡ [] → IsOk result }
 {
     let (small, small_replies) = run_calls(alloc, small_capacity, commands)?;
     let (large, large_replies) = run_calls(alloc, large_capacity, commands)?;
@@ -86,7 +87,7 @@ where
 /// Runs a use of each pair in turn on an empty cache of this capacity: a hit of `get`, or an insert.
 ///
 /// Each use costs what these methods cost. If memory runs out, for the replies or for an insert, it returns
-/// `AllocError`, and nothing is left of the cache.
+/// `AllocError`, and nothing is left of the cache. For no use it needs no memory.
 pub fn run_uses<K, V>(
     alloc: Global,
     capacity: usize,
@@ -108,6 +109,7 @@ where
     ensures comparison { IfOk result (λ uses. BearsComparison K.eq capacity (map (λ p. p.0) pairs.now)
         uses.replies.items) }
     ensures distinct { IfOk result (λ uses. IsEntries K.eq (entries_in uses.cache)) }
+    ensures none { pairs.now ≡ [] → IsOk result }
 {
     let mut cache = LruCache::new(alloc, capacity);
     let mut replies = Vec::with_capacity(alloc, pairs.len())?;
@@ -126,8 +128,9 @@ fn run_calls<K, V>(
 where
     K: Eq + Hash + Copy,
     V: Copy,
-    ensures { IfOk result (λ ran. RunsFromEmpty K.eq default_builder capacity (map event_of commands.now)
+    ensures ran { IfOk result (λ ran. RunsFromEmpty K.eq default_builder capacity (map event_of commands.now)
         ran.1.items (state_in ran.0)) }
+    ensures none { commands.now ≡ [] → IsOk result }
 {
     let mut cache = LruCache::new(alloc, capacity);
     let mut replies = Vec::with_capacity(alloc, commands.len())?;
@@ -137,8 +140,11 @@ where
     Ok((cache, replies))
 }
 
-/// Runs the command on the cache and returns what the method returns that it names. If an insert fails to
-/// allocate, it returns `AllocError`, and no entry has changed. It costs what that method costs.
+/// Runs the command on the cache and returns what the method returns that it names. It costs what that method
+/// costs.
+///
+/// If it inserts, the key is absent, no node is spare and an allocation fails, it returns `AllocError`, and
+/// nothing has changed; the room may have grown.
 pub fn answer_call<K, V>(
     cache: &mut LruCache<K, V>,
     command: PairCommand<K, V>,
@@ -148,7 +154,8 @@ where
     V: Copy,
     ensures answered { IfOk result (λ answer. EventStep K.eq (state_in cache.old) (event_of command)
         (answer ∷ []) (state_in cache.new)) }
-    ensures unchanged { OnErr result (entries_in cache.new ≡ entries_in cache.old) }
+    ensures refused { OnErr result (EventRefused K.eq (state_in cache.old) (event_of command)
+        (state_in cache.new)) }
     ensures capacity { (state_in cache.new).cap ≡ (state_in cache.old).cap }
 {
     match command {

@@ -1,15 +1,14 @@
 //! Lists of commands to a map.
-ghost use Rattle.std.specs.Prelude.{◌≡◌, ◌<◌, ◌≤◌, ◌^◌, length, IfOk, OnOk, OnErr};
+ghost use Rattle.std.specs.Prelude.{◌≡◌, ◌<◌, ◌≤◌, ◌^◌, length, IfOk, IsOk, OnOk, OnErr};
 ghost use Rattle.std.specs.List.{AllPass};
 ghost use Rattle.hashlink_core.specs.Keyed.{entries_of, state_of};
 ghost use Rattle.hashlink_model.specs.Entries.{IsEntries};
 ghost use Rattle.hashlink_steps.specs.Reads.{CallableOn, ClosureSays};
 ghost use Rattle.hashlink_run.specs.Run.{LawfulRun, ShownBy, keeps_nodes, reply_total};
-ghost use Rattle.hashlink_steps.specs.Step.{reply_count};
 
 use hashlink_commands::{Command, Reply};
 use hashlink_map::LinkedHashMap;
-use hashlink_steps::answer_command;
+use hashlink_steps::{answer_command, reply_count};
 use std::alloc::AllocError;
 use std::hash::{BuildHasher, Hash};
 
@@ -22,9 +21,9 @@ use std::hash::{BuildHasher, Hash};
 /// runs out of memory has one too, and the run continues. Each command costs what the method of the map costs
 /// that it names.
 ///
-/// Room for all replies is reserved first, from the allocator of the commands. If memory for it runs out, or
-/// if their number is above `usize::MAX`, it returns `AllocError`, the commands are dropped and the map has
-/// not changed.
+/// Room for all replies is reserved first, from the allocator of the map. If memory for it runs out, or if
+/// their number is above `usize::MAX`, it returns `AllocError`, the commands are dropped and the map has not
+/// changed. For no reply it needs no memory.
 pub fn run<K, V, S, F>(
     map: &mut LinkedHashMap<K, V, S>,
     commands: Vec<Command<K, V>>,
@@ -46,13 +45,14 @@ where
         (λ replies. LawfulRun K.eq (ClosureSays F.Fn keep.now) (ClosureSays F.Fn keep.now) (state_of map.old)
         commands.items replies.items (state_of map.new)) }
     ensures refused { OnErr result (map.new ≡ map.old) }
+    ensures none { reply_total commands.items ≡ 0 → IsOk result }
 
     // So a map that is left shorter than it was, by commands that freed no node, has a spare node.
     ensures spare { OnOk result (AllPass keeps_nodes commands.items
         → length (entries_of map.new) < length (entries_of map.old) → 1 ≤ (state_of map.new).spare) }
     ensures distinct { OnOk result (IsEntries K.eq (entries_of map.new)) }
 {
-    let mut replies = Vec::with_capacity(*commands.allocator(), reply_total(&commands)?)?;
+    let mut replies = Vec::with_capacity(map.allocator(), reply_total(&commands)?)?;
     for command in commands {
         answer_command(map, command, keep, keep, &mut replies)?;
     }
@@ -73,14 +73,4 @@ fn reply_total<K, V>(commands: &[Command<K, V>]) -> Result<usize, AllocError>
         total = total.checked_add(reply_count(command)).ok_or(AllocError)?;
     }
     Ok(total)
-}
-
-// Returns the number of replies to the command.
-fn reply_count<K, V>(command: &Command<K, V>) -> usize
-    ensures { result ≡ reply_count command.now }
-{
-    match command {
-        Command::Cursor(steps) => steps.len(),
-        _ => 1,
-    }
 }

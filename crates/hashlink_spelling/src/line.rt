@@ -1,8 +1,9 @@
-ghost use Rattle.std.specs.Prelude.{◌≡◌, take, drop, IfOk, OnSome};
+ghost use Rattle.std.specs.Prelude.{◌≡◌, ℕ, List, ◌∷◌, codes, take, drop, IfOk, OnErr, OnSome};
 ghost use Rattle.std.specs.Map.{lookup};
 ghost use Rattle.std.specs.Option.{option_map};
 ghost use Rattle.std.specs.Str.{bytes_eq};
 ghost use Rattle.hashlink_spelling.specs.Cuts.{parts_left};
+ghost use Rattle.hashlink_spelling.specs.Lines.{words_of};
 ghost use Rattle.hashlink_spelling.specs.Says.{said, lone_words, words_of_key, words_of_pair, words_before};
 ghost use Rattle.hashlink_spelling.specs.Says.{lone_steps, steps_of_value, steps_before, entry_said};
 ghost use Rattle.hashlink_spelling.specs.Says.{lone_cursor_steps, cursor_steps_of_pair, cursor_steps_before};
@@ -29,9 +30,12 @@ impl Line {
 
     /// Returns what the line says, or `None` if it is bad. It reads the line once.
     ///
-    /// It allocates only for the steps of a cursor. If that allocation fails, it returns `AllocError`.
+    /// It allocates only for the steps of a cursor, in a line whose first word is `cursor`. If that allocation
+    /// fails, it returns `AllocError`.
     pub fn parse(alloc: Global, text: &[u8]) -> Result<Option<Line>, AllocError>
-        ensures { IfOk result (λ line. option_map said line ≡ says text.now) }
+        ensures said { IfOk result (λ line. option_map said line ≡ says text.now) }
+        ensures refused { OnErr result ((words : List (List ℕ))
+            × (words_of text.now ≡ codes "cursor" ∷ words)) }
     {
         let mut words = Words::new(text);
         let Some(name) = words.next() else {

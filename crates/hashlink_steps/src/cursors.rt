@@ -1,6 +1,5 @@
 //! The steps of a cursor in a map.
-ghost use Rattle.std.specs.Prelude.{◌≡◌, ◌+◌, ◌≤◌, ◌++◌, [], ◌∷◌, List, OnOk, IsOk, length, vec_len};
-ghost use Rattle.std.specs.Prelude.{vec_capacity};
+ghost use Rattle.std.specs.Prelude.{◌≡◌, ◌+◌, ◌≤◌, ◌++◌, [], ◌∷◌, List, length, vec_len, vec_capacity};
 ghost use Rattle.hashlink_core.specs.Keyed.{state_of};
 ghost use Rattle.hashlink_map.specs.Cursor.{cursor_map, cursor_state};
 ghost use Rattle.hashlink_steps.specs.CursorSteps.{CursorStepped, CursorSteps, ReadByStep, ReadOnWalk};
@@ -10,36 +9,34 @@ ghost use Rattle.hashlink_steps.specs.Reads.{CallableOn, ClosureSays};
 use crate::steps::{insert_reply, said_of};
 use hashlink_commands::{CursorStep, Reply};
 use hashlink_map::{CursorMut, LinkedHashMap};
-use std::alloc::AllocError;
 use std::hash::{BuildHasher, Hash};
 
-// Runs the steps on a cursor that starts on the first entry, and pushes the reply to each.
+// Runs the steps on a cursor that starts on the first entry, and pushes the reply to each, for which there is
+// room.
 pub(crate) fn walk_cursor<K, V, S, B, F>(
     map: &mut LinkedHashMap<K, V, S>,
     steps: Vec<CursorStep<K, V>>,
     says: &F,
     replies: &mut Vec<Reply<K, V, B>>,
-) -> Result<(), AllocError>
+)
 where
     K: Eq + Hash + Drop,
     V: Drop,
     S: BuildHasher,
-    B: Drop,
     F: Fn(&K, &V) -> B,
-    requires { CallableOn F.Fn says.now
+    requires says { CallableOn F.Fn says.now
         (ReadOnWalk K.eq (ClosureSays F.Fn says.now) (first_place (state_of map.old)) steps.items) }
-    ensures walked { OnOk result ((more : List (Reply K V B))
+    requires room { vec_len replies.old + length steps.items ≤ vec_capacity replies.old }
+    ensures walked { (more : List (Reply K V B))
         × CursorSteps K.eq (ClosureSays F.Fn says.now) (state_of map.old) steps.items more (state_of map.new)
-        × (replies.new.items ≡ replies.old.items ++ more)) }
-    ensures room { vec_len replies.old + length steps.items ≤ vec_capacity replies.old
-        → IsOk result × (vec_len replies.new ≡ vec_len replies.old + length steps.items)
-        × (vec_capacity replies.old ≤ vec_capacity replies.new) }
+        × (replies.new.items ≡ replies.old.items ++ more) }
+    ensures len { vec_len replies.new ≡ vec_len replies.old + length steps.items }
+    ensures capacity { vec_capacity replies.new ≡ vec_capacity replies.old }
 {
     let mut cursor = map.cursor_front_mut();
     for step in steps {
-        replies.push(reply_of_step(&mut cursor, step, says))?;
+        replies.push_reserved(reply_of_step(&mut cursor, step, says));
     }
-    Ok(())
 }
 
 // Runs the step on the cursor, and returns its reply.

@@ -6,4 +6,4 @@ mod entries;
 mod steps;
 
 pub use entries::reply_of_entry;
-pub use steps::{answer_command, insert_reply, said_of};
+pub use steps::{answer_command, insert_reply, reply_count, said_of};

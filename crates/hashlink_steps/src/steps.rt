@@ -1,6 +1,6 @@
 //! One command to a map.
-ghost use Rattle.std.specs.Prelude.{◌≡◌, ◌+◌, ◌≤◌, ◌++◌, [], ◌∷◌, List, OnOk, IsOk, Some, length};
-ghost use Rattle.std.specs.Prelude.{vec_len, vec_capacity};
+ghost use Rattle.std.specs.Prelude.{◌≡◌, ◌+◌, ◌≤◌, ◌++◌, [], ◌∷◌, List, OnOk, OnErr, IsOk, Some};
+ghost use Rattle.std.specs.Prelude.{length, vec_len, vec_capacity};
 ghost use Rattle.std.specs.Map.{lookup, lookup_entry};
 ghost use Rattle.std.specs.Map.Iter.{deref_pair};
 ghost use Rattle.std.specs.Option.{option_map};
@@ -22,10 +22,9 @@ use std::hash::{BuildHasher, Hash};
 /// returns. `keep` chooses the pairs that a keep leaves. Each has to be callable on the pairs that it may
 /// come to be shown. It costs what the method costs that the command names.
 ///
-/// If the vector of replies has no room for a reply and cannot grow, it returns `AllocError`. The command has
-/// then been carried out, and its reply is dropped with what it contains. Of the steps of a cursor, those up
-/// to the one whose reply is dropped have been carried out, and the replies to the ones before it stay in the
-/// vector. The contract says nothing of the map after an `Err`.
+/// Room for all replies to the command is reserved first. If the vector of replies has no room for them and
+/// cannot grow, it returns `AllocError`, the command is dropped, and neither the map nor the vector has
+/// changed.
 pub fn answer_command<K, V, S, B, F, G>(
     map: &mut LinkedHashMap<K, V, S>,
     command: Command<K, V>,
@@ -37,7 +36,6 @@ where
     K: Eq + Hash + Drop,
     V: Drop,
     S: BuildHasher,
-    B: Drop,
     F: Fn(&K, &V) -> B,
     G: Fn(&K, &V) -> bool,
     requires says { CallableOn F.Fn says.now
@@ -47,15 +45,56 @@ where
         × Step K.eq (ClosureSays F.Fn says.now) (ClosureSays G.Fn keep.now) (state_of map.old) command more
         (state_of map.new)
         × (replies.new.items ≡ replies.old.items ++ more)) }
-    ensures room { vec_len replies.old + reply_count command ≤ vec_capacity replies.old
-        → IsOk result × (vec_len replies.new ≡ vec_len replies.old + reply_count command)
-        × (vec_capacity replies.old ≤ vec_capacity replies.new) }
+    ensures count { OnOk result (vec_len replies.new ≡ vec_len replies.old + reply_count command) }
+    ensures refused { OnErr result ((map.new ≡ map.old) × (replies.new.items ≡ replies.old.items)
+        × (vec_capacity replies.new ≡ vec_capacity replies.old)) }
+    ensures room { vec_len replies.old + reply_count command ≤ vec_capacity replies.old → IsOk result }
+    ensures capacity { vec_capacity replies.old ≤ vec_capacity replies.new }
+{
+    replies.reserve(reply_count(&command))?;
+    answer_in_room(map, command, says, keep, replies);
+    Ok(())
+}
+
+// Runs the command on the map and pushes its replies, for which there is room.
+fn answer_in_room<K, V, S, B, F, G>(
+    map: &mut LinkedHashMap<K, V, S>,
+    command: Command<K, V>,
+    says: &F,
+    keep: &G,
+    replies: &mut Vec<Reply<K, V, B>>,
+)
+where
+    K: Eq + Hash + Drop,
+    V: Drop,
+    S: BuildHasher,
+    F: Fn(&K, &V) -> B,
+    G: Fn(&K, &V) -> bool,
+    requires says { CallableOn F.Fn says.now
+        (ReadBy K.eq (ClosureSays F.Fn says.now) (state_of map.old) command) }
+    requires keep { CallableOn G.Fn keep.now (AskedBy (state_of map.old) command) }
+    requires room { vec_len replies.old + reply_count command ≤ vec_capacity replies.old }
+    ensures answered { (more : List (Reply K V B))
+        × Step K.eq (ClosureSays F.Fn says.now) (ClosureSays G.Fn keep.now) (state_of map.old) command more
+        (state_of map.new)
+        × (replies.new.items ≡ replies.old.items ++ more) }
+    ensures count { vec_len replies.new ≡ vec_len replies.old + reply_count command }
+    ensures capacity { vec_capacity replies.new ≡ vec_capacity replies.old }
 {
     match command {
-        Command::Cursor(steps) => walk_cursor(map, steps, says, replies)?,
-        command => replies.push(reply_to(map, command, says, keep))?,
+        Command::Cursor(steps) => walk_cursor(map, steps, says, replies),
+        command => replies.push_reserved(reply_to(map, command, says, keep)),
     }
-    Ok(())
+}
+
+/// Returns the number of replies to the command, in constant time: one, or one for each step of a cursor.
+pub fn reply_count<K, V>(command: &Command<K, V>) -> usize
+    ensures { result ≡ reply_count command.now }
+{
+    match command {
+        Command::Cursor(steps) => steps.len(),
+        _ => 1,
+    }
 }
 
 // Runs the command on the map, which is no cursor's, and returns its reply.

@@ -16,8 +16,8 @@ loop-command-preserved g c =
     (HasAnswered-more (EventStep g.K.PartialEq.eq) _ _ _ _ (rw rest at c.loop-command.invariant)
     c.in_ok-answer_call.ensures.answered)
 
-pub returns : goal.returns
-returns g c =
+pub returns-clause-ran : goal.returns-clause-ran
+returns-clause-ran g c =
     let none = at_drop_all (λ cs. length (map event_of cs)) c.args.commands.now c.loop-command.command-index
     c.loop-command-test.false in
     runs_from_empty g.K.PartialEq.eq _ _ _ _ _ (HasAnswered-all (EventStep g.K.PartialEq.eq) _ none

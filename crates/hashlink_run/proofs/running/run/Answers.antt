@@ -25,10 +25,10 @@ pub loop-command-preserved : goal.loop-command-preserved
 loop-command-preserved g c =
     let so_far = c.loop-command.invariant in
     let left = c.in-Some.ensures.steps.0 in
-    let answered = c.in_ok-answer_command.ensures.answered in
-    let room = c.answer_command.ensures.room (omega (arith, so_far.1, ap reply_total left)) in (
+    let ensures = c.in_ok-answer_command.ensures in
+    let answered = ensures.answered in (
       rw answered.2 (HasAnswered-more _ _ _ _ _ (rw left at so_far.0) answered.1),
-      omega (arith, so_far.1, ap reply_total left, room.1, room.2),
+      omega (arith, so_far.1, ap reply_total left, ensures.count, ensures.capacity),
       λ pair shown. (rw left at so_far.2) pair
           (record { comes = inr (record { replies = _; state = _ }, answered.1, shown.comes) }),
     )
@@ -44,9 +44,8 @@ answer_command-requires-clause-keep g c = λ pair asked.
 pub returns-in_err-answer_command-clause-refused : goal.returns-in_err-answer_command-clause-refused
 returns-in_err-answer_command-clause-refused g c =
     let left = c.in-Some.ensures.steps.0 in
-    let room = c.answer_command.ensures.room
-    (omega (arith, c.loop-command.invariant.1, ap reply_total left)) in
-    let answered : is_ok c.answer_command.result ≡ true = room.0 in
+    let answered : is_ok c.answer_command.result ≡ true =
+    c.answer_command.ensures.room (omega (arith, c.loop-command.invariant.1, ap reply_total left)) in
     let failed : is_ok c.answer_command.result ≡ false = ap is_ok c.in_err-answer_command.was in
     absurd (let both : true ≡ false = sym answered ∙ failed in cc)
 

@@ -15,44 +15,36 @@ loop-step-init g c =
           (ap state_of cursor.ensures.unchanged) cursor.ensures.first gives,
       sym (append-nil c.args.replies.now.items),
       refl,
-      λ room. (omega (arith, ap length gives), omega arith),
-      λ pair read. c.requires pair (read_from_first _ _ _ _ _ _ (ap state_of cursor.ensures.unchanged)
+      omega (arith, ap length gives),
+      refl,
+      λ pair read. c.requires.says pair (read_from_first _ _ _ _ _ _ (ap state_of cursor.ensures.unchanged)
           cursor.ensures.first gives pair read),
     )
 
 pub reply_of_step-requires : goal.reply_of_step-requires
 reply_of_step-requires g c = λ pair read.
-    (rw c.in-Some.ensures.steps.0 at c.loop-step.invariant.5) pair (inl read)
+    (rw c.in-Some.ensures.steps.0 at c.loop-step.invariant.6) pair (inl read)
+
+pub push_reserved-requires : goal.push_reserved-requires
+push_reserved-requires g c =
+    let so_far = c.loop-step.invariant in
+    omega (arith, c.requires.room, so_far.4, so_far.5, ap length c.in-Some.ensures.steps.0)
 
 pub loop-step-preserved : goal.loop-step-preserved
 loop-step-preserved g c =
     let so_far = c.loop-step.invariant in
     let left = c.in-Some.ensures.steps.0 in
     let reply = c.reply_of_step.result in
-    let pushed = c.in_ok-push.ensures in (
+    let pushed = c.push_reserved.ensures in (
       so_far.0 ++ reply ∷ [],
       WalksOn-step _ _ c.in-Some.step _ reply _ (rw left at so_far.1) c.reply_of_step.ensures.stepped,
       pushed.items ∙ ap (λ rs. rs ++ reply ∷ []) so_far.2
           ∙ append_assoc c.args.replies.now.items so_far.0 (reply ∷ []),
       c.reply_of_step.ensures.same_map ∙ so_far.3,
-      λ room.
-          let before = so_far.4 room in (
-            omega (arith, before.0, ap length left, pushed.len),
-            omega (arith, before.1, pushed.capacity),
-          ),
-      λ pair read. (rw left at so_far.5) pair (inr (_, _, c.reply_of_step.ensures.stepped, read)),
+      omega (arith, so_far.4, ap length left, pushed.len),
+      pushed.capacity ∙ so_far.5,
+      λ pair read. (rw left at so_far.6) pair (inr (_, _, c.reply_of_step.ensures.stepped, read)),
     )
-
-pub returns-in_err-push-clause-room : goal.returns-in_err-push-clause-room
-returns-in_err-push-clause-room g c = λ room.
-    let before = c.loop-step.invariant.4 room in
-    absurd (omega (
-      arith,
-      before.0,
-      before.1,
-      ap length c.in-Some.ensures.steps.0,
-      c.in_err-push.ensures.full,
-    ))
 
 pub returns-clause-walked : goal.returns-clause-walked
 returns-clause-walked g c =
@@ -68,9 +60,8 @@ returns-clause-walked g c =
       so_far.2,
     )
 
-pub returns-clause-room : goal.returns-clause-room
-returns-clause-room g c = λ room.
-    let before = c.loop-step.invariant.4 room in
+pub returns-clause-len : goal.returns-clause-len
+returns-clause-len g c =
     let left = c.loop-step.step-iterator in
     let none = sym left.rest.ok.0 ∙ c.in-None.ensures.steps.0 in
-    (refl, omega (arith, before.0, none), before.1)
+    omega (arith, c.loop-step.invariant.4, none)

@@ -1,4 +1,4 @@
-use Rattle.std.proofs.Common.{◌≡◌, ◌+◌, ◌≤◌, ◌++◌, List, length, vec_len, vec_capacity}
+use Rattle.std.proofs.Common.{◌≡◌, ◌+◌, ◌++◌, List, length, vec_len, vec_capacity}
 use Rattle.std.specs.Vec.Iter.{into_iter_items}
 use Rattle.hashlink_commands.specs.declared.replies.Reply.{Reply}
 use Rattle.hashlink_core.specs.Keyed.{state_of}
@@ -15,9 +15,8 @@ invariant-loop-step g l = (replies : List (Reply _ _ _))
     l.fn.steps.items (into_iter_items l.step-iterator) replies
     × (l.replies.items ≡ l.fn.replies.items ++ replies)
     × ((cursor_map l.cursor).ghost_name ≡ (cursor_map l.initial.cursor).ghost_name)
-    × (vec_len l.fn.replies + length l.fn.steps.items ≤ vec_capacity l.fn.replies
-    → (vec_len l.replies + length (into_iter_items l.step-iterator) ≡ vec_len l.fn.replies +
+    × (vec_len l.replies + length (into_iter_items l.step-iterator) ≡ vec_len l.fn.replies +
     length l.fn.steps.items)
-    × (vec_capacity l.fn.replies ≤ vec_capacity l.replies))
+    × (vec_capacity l.replies ≡ vec_capacity l.fn.replies)
     × CallableOn g.F.Fn l.says (ReadOnWalk g.K.PartialEq.eq (ClosureSays g.F.Fn l.says)
     (cursor_state l.cursor) (into_iter_items l.step-iterator))
