@@ -2,22 +2,24 @@
 use Rattle.std.proofs.Common.{◌≡◌, ℕ, zero, suc, ◌+◌, ◌≤◌, ◌<◌, Bool, true, false, ◌&&◌, ◌||◌, cond, List, []}
 use Rattle.std.proofs.Common.{◌∷◌, ◌++◌, length, drop, nat_lt, None, Some, refl, sym, ap, ap₂, ◌∙◌}
 use Rattle.std.proofs.Common.{subst, subst₂, arith, append_assoc, length-append, true≢false, get_or, set}
-use Rattle.std.proofs.Common.{add-zero}
+use Rattle.std.proofs.Common.{add-zero, Option}
 use Rattle.std.specs.Prelude.{sum}
 use Rattle.std.specs.Cmp.{IsEquivalence}
-use Rattle.std.specs.List.{AllZip, after_last}
+use Rattle.std.specs.List.{AllZip, after_last, list_any}
 use Rattle.std.specs.Set.{is_member, unique_keys, remove_key, distinct_count}
+use Rattle.std.proofs.Math.Path.{fun_ext}
 use Rattle.std.proofs.Math.Seq.{drop-nil}
 use Rattle.std.proofs.lemmas.Bool.Decides.{nat_tests}
 use Rattle.std.proofs.lemmas.List.{append-nil}
 use Rattle.std.proofs.lemmas.List.Sums.{sum_by-cons}
+use Rattle.hashlink_model.specs.Entries.{IsKeyTest}
 use Rattle.hashlink_model.specs.History.{reuse_distance, cache_misses, cache_misses_from}
 use Rattle.hashlink_model.proofs.Members.{is_member-append, none_from_is_member, is_member_from_none}
 use Rattle.hashlink_model.proofs.Recency.{zip_push, zip_length, remove_key-left, remove_key-right}
 use Rattle.hashlink_model.proofs.Recency.{is_member-unique}
 use Rattle.hashlink_model.proofs.Recency.{unique_keys-push, last_use, unique_keys-last, answers_alike}
 use Rattle.hashlink_model.proofs.Recency.{after_last-here}
-use Rattle.hashlink_curve.specs.Curve.{CurveState, Counted, distance_of, misses_at}
+use Rattle.hashlink_curve.specs.Curve.{CurveState, Counted, Counts, distance_of, misses_at}
 use Rattle.hashlink_curve.specs.Recency.{MovesPast, GoesLast}
 
 -- ---- what a cache of c places misses of one use more
@@ -221,14 +223,14 @@ module _ {K : Type 0} (eq : K → K → Bool) (laws : IsEquivalence eq) where
       )
 
   pub Counted-again : (used : List K) (old new : CurveState K) (k : K) (d : ℕ)
-      → MovesPast eq old.keys new.keys k d → length old.reuses ≡ length old.keys
+      → MovesPast (eq k) old.keys new.keys d → length old.reuses ≡ length old.keys
       → new.reuses ≡ set old.reuses d (get_or old.reuses d 0 + 1) → Counted eq used old
       → Counted eq (used ++ k ∷ []) new × (Some d ≡ distance_of eq used k)
   Counted-again used old new k d p long n h =
       let split = subst (λ zs. Alike zs (unique_keys eq used)) p.split h.keys in
       let held : is_member eq (unique_keys eq used) k ≡ true
       = sym (zip_member k (p.front ++ p.key ∷ p.back) (unique_keys eq used) split)
-      ∙ there k p.front p.key p.back p.equal
+      ∙ there k p.front p.key p.back p.passes
       in
       let used_before : is_member eq used k ≡ true = sym (is_member-unique eq laws used k) ∙ held in
       let s = last_use eq laws used k used_before in
@@ -238,19 +240,19 @@ module _ {K : Type 0} (eq : K → K → Bool) (laws : IsEquivalence eq) where
       = ap (λ zs. distinct_count eq (after_last (eq k) zs)) s.3.is
       ∙ ap (distinct_count eq) (after_last-here eq laws k s.0 s.1 s.2 s.3.equal s.3.after) in
       let behind = zip_behind k p.front p.key p.back u.0 s.1 (unique_keys eq s.2)
-      (subst (Alike _) all split) p.equal
+      (subst (Alike _) all split) p.passes
       s.3.equal p.none_after (is_member-unique eq laws s.2 k ∙ is_member_from_none eq laws s.2 k s.3.after) in
       let distance : reuse_distance eq used k ≡ d = since ∙ sym behind ∙ sym p.count in
       let removed : remove_key (eq k) (p.front ++ p.key ∷ p.back) ≡ p.front ++ p.back
       = remove_key-right eq laws k p.front (p.key ∷ p.back)
       (none_from_is_member eq laws p.front k p.none_before)
-      ∙ ap (λ b. p.front ++ cond b p.back (p.key ∷ remove_key (eq k) p.back)) p.equal in
+      ∙ ap (λ b. p.front ++ cond b p.back (p.key ∷ remove_key (eq k) p.back)) p.passes in
       let others = subst (λ zs. Alike zs (remove_key (eq k) (unique_keys eq used))) removed
       (zip_remove k (p.front ++ p.key ∷ p.back) (unique_keys eq used) split) in (
         record {
           keys = subst₂ Alike (sym p.moved) (sym (unique_keys-push eq laws used k))
               (zip_push _ (p.front ++ p.back) (remove_key (eq k) (unique_keys eq used)) p.key k others
-              (laws.symm p.key k ∙ p.equal));
+              (laws.symm p.key k ∙ p.passes));
           misses = λ c.
               let a = cache_misses-push eq c used k in
               let b : missed eq c used k ≡ unless_below d c =
@@ -270,6 +272,55 @@ module _ {K : Type 0} (eq : K → K → Bool) (laws : IsEquivalence eq) where
         },
         distance_by used k d used_before distance,
       )
+
+  -- ---- keys that pass a test, and keys that are equal
+
+  pub list_any-last : (test : K → Bool) (ks : List K) (k : K) → test k ≡ true
+      → list_any test (ks ++ k ∷ []) ≡ true
+  list_any-last test [] k t = ap (λ b. b || false) t
+  list_any-last test (q ∷ ks) k t = ap (λ b. test q || b) (list_any-last test ks k t) ∙ or_true (test q)
+
+  -- a test that passes a key is the equality with it
+  pub test_is : (test : K → Bool) → IsKeyTest eq test → (k : K) → test k ≡ true → test ≡ eq k
+  test_is test tells k t = fun_ext (λ y. tells k y t)
+
+  zip_last : (xs us : List K) (k q : K) → eq k q ≡ true → Alike xs (us ++ k ∷ []) → Alike xs (us ++ q ∷ [])
+  zip_last [] [] k q t z = absurd z
+  zip_last [] (u ∷ us) k q t z = absurd z
+  zip_last (x ∷ xs) [] k q t z = (sym (answers_alike eq laws x k q t) ∙ z.0, z.1)
+  zip_last (x ∷ xs) (u ∷ us) k q t z = (z.0, zip_last xs us k q t z.1)
+
+  -- a use of a key is one of each that equals it
+  pub Counts-alike : (used : List K) (old new : CurveState K) (k q : K) (d : Option ℕ) → eq k q ≡ true
+      → Counts eq used old new k d → Counts eq used old new q d
+  Counts-alike used old new k q d t h counted =
+      let s = h counted in
+      let test : eq k ≡ eq q = fun_ext (λ y. laws.congr k q y t) in
+      let unique : (z : K) → unique_keys eq (used ++ z ∷ []) ≡ remove_key (eq z) (unique_keys eq used) ++ z ∷ []
+      = unique_keys-push eq laws used in (
+        record {
+          keys = subst (Alike new.keys)
+              (ap (λ e. remove_key e (unique_keys eq used) ++ q ∷ []) test ∙ sym (unique q))
+              (zip_last new.keys (remove_key (eq k) (unique_keys eq used)) k q t
+              (subst (Alike new.keys) (unique k) s.0.keys));
+          misses = λ c.
+              s.0.misses c ∙ cache_misses-push eq c used k
+              ∙ ap (λ e. cache_misses eq c used + missed_by_test c used e) test
+              ∙ sym (cache_misses-push eq c used q);
+        },
+        s.1 ∙ ap (distance_by_test used) test,
+      )
+    where
+      missed_by_test : ℕ → List K → (K → Bool) → ℕ
+      missed_by_test c used e =
+          cond (list_any e used && nat_lt (distinct_count eq (after_last e used)) c) 0 1
+
+      distance_by_test : List K → (K → Bool) → Option ℕ
+      distance_by_test used e = cond (list_any e used) (Some (distinct_count eq (after_last e used))) None
+
+  pub Counted-distinct : (used : List K) (s : CurveState K) → Counted eq used s
+      → length s.keys ≡ distinct_count eq used
+  Counted-distinct used s h = zip_length _ s.keys (unique_keys eq used) h.keys
 
   -- every use is a miss or a reuse
   pub Counted-accesses : (used : List K) (s : CurveState K) → Counted eq used s → misses_at s 0 ≡ length used

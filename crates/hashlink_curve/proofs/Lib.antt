@@ -1,5 +1,6 @@
 -- Lemmas on trees of sums, on places and on histories.
 pub mod Climbs
+pub mod FallsListed
 pub mod Histories
 pub mod Placing
 pub mod Sums

@@ -6,22 +6,24 @@ use Rattle.std.proofs.Common.{append_assoc}
 use Rattle.std.proofs.Common.{length-append, get_or, subst₂, ◌||◌}
 use Rattle.std.specs.Prelude.{nat_eq, nat_lt}
 use Rattle.std.specs.Cmp.{IsEquivalence}
-use Rattle.std.specs.List.{count_by}
-use Rattle.std.specs.Map.{lookup, keys_of, values_of}
-use Rattle.std.specs.Set.{is_member}
+use Rattle.std.specs.List.{count_by, list_any}
+use Rattle.std.specs.Map.{lookup, keys_of, values_of, set_value}
 use Rattle.std.proofs.lemmas.Bool.Decides.{nat_tests}
 use Rattle.std.proofs.lemmas.List.{append-nil, map-append, length-map}
 use Rattle.std.proofs.lemmas.Map.{NonePasses}
 use Rattle.std.proofs.lemmas.Option.{none-some, same_Some}
-use Rattle.hashlink_model.specs.Entries.{IsEntries, put}
+use Rattle.hashlink_model.specs.Entries.{IsEntries, IsKeyTest, put, stored_key, without}
 use Rattle.hashlink_model.specs.MapState.{MapState, Inserts}
-use Rattle.hashlink_model.specs.Steps.{PopsFront}
+use Rattle.hashlink_model.specs.Steps.{MovesAndWrites, MovesMatchAndWrites, PopsFront}
 use Rattle.hashlink_model.specs.Walk.{first_of, after_first_of}
 use Rattle.hashlink_model.proofs.Splits.{stands_from_lookup, lookup-none, lookup-here, none_from_lookup}
+use Rattle.hashlink_model.proofs.Splits.{key_from_lookup, set_value-here}
 use Rattle.hashlink_model.proofs.Distinct.{IsEntries-head, none_equal, none_others}
-use Rattle.hashlink_model.proofs.Puts.{put_back_absent, put_back_here}
+use Rattle.hashlink_model.proofs.ByPlace.{moved-there}
+use Rattle.hashlink_model.proofs.Finds.{stored_key-equal}
+use Rattle.hashlink_model.proofs.Puts.{none_without, put_back, put_back_absent, put_back_here}
 use Rattle.hashlink_curve.specs.Marks.{Tree, Marked}
-use Rattle.hashlink_curve.specs.Recency.{Rises, IsPlaced, MovesPast, GoesLast}
+use Rattle.hashlink_curve.specs.Recency.{Rises, IsPlaced, MovesPast, MovesLast, GoesLast}
 use Rattle.hashlink_curve.proofs.Climbs.{count_by-middle}
 use Rattle.hashlink_curve.proofs.Sums.{count_by-cons}
 
@@ -97,10 +99,10 @@ module _ {K : Type 0} where
       → values_of (xs ++ e ∷ ys) ≡ values_of xs ++ e.1 ∷ values_of ys
   values_of-middle xs e ys = map-append (λ e. e.1) xs (e ∷ ys)
 
-  is_member-keys : (eq : K → K → Bool) (k : K) (es : List (K × ℕ)) → NonePasses (eq k) es
-      → is_member eq (keys_of es) k ≡ false
-  is_member-keys eq k [] n = refl
-  is_member-keys eq k (e ∷ es) n = ap₂ (λ a b. a || b) n.0 (is_member-keys eq k es n.1)
+  pub list_any-keys : (test : K → Bool) (es : List (K × ℕ)) → NonePasses test es
+      → list_any test (keys_of es) ≡ false
+  list_any-keys test [] n = refl
+  list_any-keys test (e ∷ es) n = ap₂ (λ a b. a || b) n.0 (list_any-keys test es n.1)
 
   keys_of-append : (xs ys : List (K × ℕ)) → keys_of (xs ++ ys) ≡ keys_of xs ++ keys_of ys
   keys_of-append xs ys = map-append (λ e. e.0) xs ys
@@ -165,11 +167,18 @@ module _ {K : Type 0} (eq : K → K → Bool) (laws : IsEquivalence eq) where
       one_if : Bool → ℕ
       one_if b = cond b 1 0
 
+  -- the same of the key that passed a test and moved last
+  pub found_match : (test : K → Bool) (es new : List (K × ℕ)) (tree : Tree) (next place w : ℕ)
+      → IsPlaced eq es tree next → lookup test es ≡ Some place → (m : MovesLast eq test es new w)
+      → Found es tree next m.key place
+  found_match test es new tree next place w p l m =
+      found es tree next m.key place p (subst (λ t. lookup t es ≡ Some place) m.tells l)
+
   -- after it the key is the last, at the next place
   pub found_moves : (es new : List (K × ℕ)) (tree : Tree) (next : ℕ) (k : K) (place others : ℕ)
       → (f : Found es tree next k place) → new ≡ put eq es k next (length es) → others
       ≡ length es - 1 - length f.front
-      → MovesPast eq (keys_of es) (keys_of new) k others
+      → MovesPast (eq k) (keys_of es) (keys_of new) others
   found_moves es new tree next k place others f n o =
       let e : K × ℕ = (f.key, place) in
       let there : new ≡ (f.front ++ f.back) ++ (f.key, next) ∷ []
@@ -183,9 +192,9 @@ module _ {K : Type 0} (eq : K → K → Bool) (laws : IsEquivalence eq) where
         key = f.key;
         back = keys_of f.back;
         split = ap keys_of f.is ∙ keys_of-append f.front (e ∷ f.back);
-        equal = f.equal;
-        none_before = is_member-keys eq k f.front f.none;
-        none_after = is_member-keys eq k f.back f.none_after;
+        passes = f.equal;
+        none_before = list_any-keys (eq k) f.front f.none;
+        none_after = list_any-keys (eq k) f.back f.none_after;
         moved = ap keys_of there ∙ keys_of-append (f.front ++ f.back) ((f.key, next) ∷ [])
             ∙ ap (λ zs. zs ++ f.key ∷ []) (keys_of-append f.front f.back);
         count = omega arith;
@@ -226,7 +235,7 @@ module _ {K : Type 0} (eq : K → K → Bool) (laws : IsEquivalence eq) where
   absent_last es new k next l n =
       let none = none_from_lookup (eq k) es l in
       record {
-        absent = is_member-keys eq k es none;
+        absent = list_any-keys (eq k) es none;
         last = ap keys_of (n ∙ put_back_absent eq es k next none) ∙ keys_of-append es ((k, next) ∷ []);
       }
 
@@ -247,6 +256,37 @@ module _ {K : Type 0} (eq : K → K → Bool) (laws : IsEquivalence eq) where
         within = omega arith;
         few = omega arith;
       }
+
+-- what moved last, with w written through what was lent, was put last
+pub puts_last : {K S : Type 0} (eq : K → K → Bool) → IsEquivalence eq → (old new : MapState K ℕ S)
+    → (k : K) (v w : ℕ)
+    → IsEntries eq old.entries → lookup (eq k) old.entries ≡ Some v
+    → MovesAndWrites eq old new k (length old.entries) w
+    → new.entries ≡ put eq old.entries k w (length old.entries)
+puts_last eq laws old new k v w d there s =
+    let left = without eq old.entries k in
+    let stored = stored_key eq old.entries k in
+    ap (λ m. m.entries) s.writes
+    ∙ ap (λ es. set_value (eq k) es w)
+    (s.moves.entries ∙ moved-there eq old.entries k (length old.entries) v there ∙ put_back eq old.entries k v)
+    ∙ set_value-here (eq k) (stored, v) [] (stored_key-equal eq laws k old.entries) w left
+    (none_without eq laws old.entries k d)
+    ∙ sym (put_back eq old.entries k w)
+
+-- the same by a test of keys
+pub moves_last : {K S : Type 0} (eq : K → K → Bool) → IsEquivalence eq → (test : K → Bool)
+    → IsKeyTest eq test → (old new : MapState K ℕ S) (v w : ℕ)
+    → IsEntries eq old.entries → lookup test old.entries ≡ Some v
+    → MovesMatchAndWrites test old new (length old.entries) w
+    → MovesLast eq test old.entries new.entries w
+moves_last eq laws test tells old new v w d at s =
+    let k = key_from_lookup test eq tells old.entries v at in
+    record {
+      key = k.0;
+      tells = k.1;
+      entries = puts_last eq laws old new k.0 v w d (subst (λ t. lookup t old.entries ≡ Some v) k.1 at)
+          (subst (λ t. MovesMatchAndWrites t old new (length old.entries) w) k.1 s);
+    }
 
 -- ---- new places for all
 

@@ -1,8 +1,8 @@
 -- What a curve of misses has counted of a history.
-use Rattle.std.specs.Prelude.{◌≡◌, ℕ, ◌+◌, ◌^◌, ◌<◌, ◌≤◌, Bool, true, nat_eq, List, [], ◌∷◌, length, drop}
-use Rattle.std.specs.Prelude.{sum}
+use Rattle.std.specs.Prelude.{◌≡◌, ℕ, ◌+◌, ◌-◌, ◌^◌, ◌<◌, ◌≤◌, Bool, true, false, nat_eq, List, [], ◌∷◌, ◌++◌}
+use Rattle.std.specs.Prelude.{length, drop, sum, All, AllPairs, Contains, IsTrue}
 use Rattle.std.specs.Prelude.{Option, None, Some, if◌then◌else◌}
-use Rattle.std.specs.List.{AllZip}
+use Rattle.std.specs.List.{AllZip, list_any}
 use Rattle.std.specs.Set.{is_member, unique_keys}
 use Rattle.hashlink_model.specs.History.{reuse_distance, cache_misses}
 
@@ -22,6 +22,19 @@ falls_from cold c [] = []
 falls_from cold c (n ∷ ns) =
     if nat_eq n 0 then falls_from cold (c + 1) ns else ((c + 1, cold + sum ns) ∷ falls_from cold (c + 1) ns)
 
+-- each capacity at which the misses are fewer than at the one before, from the smallest on, with the misses
+-- there
+pub record ListsFalls {K : Type 0} (s : CurveState K) (items : List (ℕ × ℕ)) : Type 0 where
+  pub each : All (λ item. (0 < item.0) × (item.1 ≡ misses_at s item.0) × (item.1 < misses_at s (item.0 - 1)))
+      items
+  pub every : (c : ℕ) → misses_at s (c + 1) < misses_at s c → Contains items (c + 1, misses_at s (c + 1))
+  pub rising : AllPairs (λ a b. a.0 < b.0) items
+
+-- where none of the keys passes the test, a key may be made, and each that may be made passes
+abbrev pub CanMakeMatch : {K : Type 0} → (K → Bool) → Type 0 → (K → Type 0) → List K → Type 0
+CanMakeMatch test Callable Made keys =
+    list_any test keys ≡ false → Callable × ((k : _) → Made k → IsTrue (test k))
+
 module _ {K : Type 0} (eq : K → K → Bool) where
   -- how many other keys were used since the last use of k, or none where it was not used
   abbrev pub distance_of : List K → K → Option ℕ
@@ -31,6 +44,19 @@ module _ {K : Type 0} (eq : K → K → Bool) where
   pub record Counted (used : List K) (s : CurveState K) : Type 0 where
     pub keys : AllZip (λ a b. eq a b ≡ true) s.keys (unique_keys eq used)
     pub misses : (c : ℕ) → misses_at s c ≡ cache_misses eq c used
+
+  -- a use of the key k more was counted, and what it returned is the distance
+  abbrev pub Counts : List K → CurveState K → CurveState K → K → Option ℕ → Type 0
+  Counts used old new k distance =
+      Counted used old → Counted (used ++ k ∷ []) new × (distance ≡ distance_of used k)
+
+  -- a use of the key that passes the test, by what it returned: no key passes and nothing changed, or one
+  -- does, and a use of it was counted
+  abbrev pub CountsMatch : (K → Bool) → CurveState K → CurveState K → Option ℕ → Type 0
+  CountsMatch test old new None = (list_any test old.keys ≡ false) × (new ≡ old)
+  CountsMatch test old new (Some others) =
+      IsTrue (list_any test new.keys)
+      × ((used : List K) (k : K) → IsTrue (test k) → Counts used old new k (Some others))
 
 -- what the parts of a curve say of each other: a place for each distance that there may be, and how many uses
 -- there were

@@ -3,8 +3,9 @@
 use Rattle.std.specs.Prelude.{◌≡◌, ℕ, ◌+◌, ◌^◌, ◌≤◌, Bool, true, false, List, [], ◌∷◌, ◌++◌, length, Option}
 use Rattle.std.specs.Prelude.{None, Some}
 use Rattle.std.specs.Map.{values_of}
+use Rattle.std.specs.List.{list_any}
 use Rattle.std.specs.Set.{is_member}
-use Rattle.hashlink_model.specs.Entries.{IsEntries}
+use Rattle.hashlink_model.specs.Entries.{IsEntries, put}
 use Rattle.hashlink_curve.specs.Marks.{Tree, Marked}
 
 -- the places rise from `low` on, and each is below `next`
@@ -21,19 +22,37 @@ pub record IsPlaced {K : Type 0} (eq : K → K → Bool) (es : List (K × ℕ)) 
   pub within : next ≤ tree.width
   pub few : length es ≤ 2 ^ 63
 
-module _ {K : Type 0} (eq : K → K → Bool) where
-  -- a key that is there moves last, past so many others
-  pub record MovesPast (old new : List K) (k : K) (others : ℕ) : Type 0 where
+-- the entry whose key passes the test goes last, with the place `next`. The keys that pass equal its key
+pub record MovesLast {K : Type 0} (eq : K → K → Bool) (test : K → Bool) (old new : List (K × ℕ))
+    (next : ℕ) : Type 0 where
+  pub key : K
+  pub tells : test ≡ eq key
+  pub entries : new ≡ put eq old key next (length old)
+
+module _ {K : Type 0} where
+  -- a key that passes the test is there and moves last, past so many others
+  pub record MovesPast (test : K → Bool) (old new : List K) (others : ℕ) : Type 0 where
     pub front : List K
     pub key : K
     pub back : List K
     pub split : old ≡ front ++ key ∷ back
-    pub equal : eq k key ≡ true
-    pub none_before : is_member eq front k ≡ false
-    pub none_after : is_member eq back k ≡ false
+    pub passes : test key ≡ true
+    pub none_before : list_any test front ≡ false
+    pub none_after : list_any test back ≡ false
     pub moved : new ≡ (front ++ back) ++ key ∷ []
     pub count : others ≡ length back
 
+  -- no key passes the test, and none moves
+  pub record PassesNone (test : K → Bool) (old new : List K) : Type 0 where
+    pub absent : list_any test old ≡ false
+    pub unchanged : new ≡ old
+
+  -- a use of the key that passes the test, if one does, by what it returns
+  abbrev pub TouchesMatch : (K → Bool) → List K → List K → Option ℕ → Type 0
+  TouchesMatch test old new None = PassesNone test old new
+  TouchesMatch test old new (Some others) = MovesPast test old new others
+
+module _ {K : Type 0} (eq : K → K → Bool) where
   -- a key that was absent goes last
   pub record GoesLast (old new : List K) (k : K) : Type 0 where
     pub absent : is_member eq old k ≡ false
@@ -42,4 +61,4 @@ module _ {K : Type 0} (eq : K → K → Bool) where
   -- a use of a key, by what it returns
   abbrev pub Touches : List K → List K → K → Option ℕ → Type 0
   Touches old new k None = GoesLast old new k
-  Touches old new k (Some others) = MovesPast old new k others
+  Touches old new k (Some others) = MovesPast (eq k) old new others

@@ -1,26 +1,30 @@
 //! The curve of misses.
-ghost use Rattle.std.specs.Prelude.{◌≡◌, ◌≤◌, ◌<◌, ◌^◌, ℕ, List, [], ◌∷◌, ◌++◌, length, drop, sum, IfOk};
-ghost use Rattle.std.specs.Prelude.{IfErr, OnErr};
+ghost use Rattle.std.specs.Prelude.{◌≡◌, ◌≤◌, ◌<◌, ◌^◌, ℕ, List, [], length, drop, sum, Ok, IfOk, IsOk};
+ghost use Rattle.std.specs.Prelude.{IfErr, OnErr, OnOk, IsTrue};
+ghost use Rattle.std.specs.List.{list_any};
+ghost use Rattle.std.specs.Set.{distinct_count, is_member};
 ghost use Rattle.hashlink_model.specs.History.{cache_misses};
-ghost use Rattle.hashlink_curve.specs.Curve.{Counted, distance_of, misses_at, falls_from};
+ghost use Rattle.hashlink_curve.specs.Curve.{Counted, Counts, CountsMatch, CanMakeMatch, misses_at};
+ghost use Rattle.hashlink_curve.specs.Curve.{falls_from, ListsFalls};
 
 use crate::falls::Falls;
 use crate::recency::Recency;
+use hashlink_map::{DefaultHashBuilder, Equivalent};
 use std::alloc::{AllocError, Global};
-use std::hash::Hash;
+use std::hash::{BuildHasher, Hash};
 use std::marker::Model;
 
 /// How often an LRU cache of each capacity misses if it is given the recorded keys.
 ///
 /// Its memory grows with the number of distinct keys, and not with the number of keys recorded.
 #[derive(Drop)]
-pub struct MissCurve<K: Eq + Hash> {
-    recency: Recency<K>,
+pub struct MissCurve<K: Eq + Hash, S: BuildHasher = DefaultHashBuilder> {
+    recency: Recency<K, S>,
     reuses: Vec<u64>,
     accesses: u64,
 }
 
-impl<K: Eq + Hash> Model for MissCurve<K> {
+impl<K: Eq + Hash, S: BuildHasher> Model for MissCurve<K, S> {
     ghost use Rattle.hashlink_curve.specs.Curve.{CurveState, IsTallied};
 
     ghost Value = { CurveState K };
@@ -30,13 +34,23 @@ impl<K: Eq + Hash> Model for MissCurve<K> {
     ghost invariant = { λ c. IsTallied c.recency c.reuses.items c.accesses };
 }
 
-impl<K: Eq + Hash> MissCurve<K> {
-    /// Creates the curve of no use at all. It does not allocate.
+impl<K: Eq + Hash> MissCurve<K, DefaultHashBuilder> {
+    /// Creates the curve of no use at all, whose keys are hashed with `DefaultHasher`. It does not allocate.
     pub fn new(alloc: Global) -> Self
         ensures { Counted K.eq [] result }
     {
+        MissCurve::with_hasher(alloc, DefaultHashBuilder)
+    }
+}
+
+impl<K: Eq + Hash, S: BuildHasher> MissCurve<K, S> {
+    /// Creates the curve of no use at all, whose keys are hashed with `hash_builder`. It does not allocate.
+    /// No answer depends on the hasher.
+    pub fn with_hasher(alloc: Global, hash_builder: S) -> Self
+        ensures { Counted K.eq [] result }
+    {
         MissCurve {
-            recency: Recency::new(alloc),
+            recency: Recency::with_hasher(alloc, hash_builder),
             reuses: Vec::new(alloc),
             accesses: 0,
         }
@@ -50,8 +64,9 @@ impl<K: Eq + Hash> MissCurve<K> {
     pub fn record(&mut self, key: K) -> Result<Option<usize>, K>
     where
         K: Drop,
-        ensures counted { IfOk result (λ distance. (used : List K) → Counted K.eq used self.old
-            → Counted K.eq (used ++ key ∷ []) self.new × (distance ≡ distance_of K.eq used key)) }
+        ensures counted { IfOk result (λ distance. (used : List K)
+            → Counts K.eq used self.old self.new key distance) }
+        ensures there { OnOk result (IsTrue (is_member K.eq self.new.keys key)) }
         ensures handed_back { IfErr result (λ k. k ≡ key) }
         ensures unchanged { OnErr result (self.new ≡ self.old) }
     {
@@ -72,6 +87,55 @@ impl<K: Eq + Hash> MissCurve<K> {
                 Ok(None)
             }
         }
+    }
+
+    /// Does the same as `record` for a key that the query matches. If none is recorded yet, `make` has to be
+    /// callable, and is called once: what it returns has to be a key that the query matches, and is recorded.
+    ///
+    /// It takes as long as `record`, and hashes the key a second time if it is a new one. If memory runs out,
+    /// if `make` fails, and after 2 to the power of 64 less 1 uses, it returns `AllocError` and nothing
+    /// changes.
+    pub fn record_with<Q: Equivalent<K>, F: FnOnce() -> Result<K, AllocError>>(
+        &mut self,
+        query: Q,
+        make: F,
+    ) -> Result<Option<usize>, AllocError>
+    where
+        K: Drop,
+        F: Drop,
+        requires { CanMakeMatch (Q.matches query) (F.pre make) (λ k. F.post make (Ok k)) self.old.keys }
+        ensures counted { IfOk result (λ distance. (used : List K) (key : K) → IsTrue (Q.matches query key)
+            → Counts K.eq used self.old self.new key distance) }
+        ensures there { OnOk result (IsTrue (list_any (Q.matches query) self.new.keys)) }
+        ensures unchanged { OnErr result (self.new ≡ self.old) }
+    {
+        if let Some(others) = self.record_match(query)? {
+            return Ok(Some(others));
+        }
+        let key = make()?;
+        let Ok(distance) = self.record(key) else {
+            return Err(AllocError);
+        };
+        Ok(distance)
+    }
+
+    /// Does the same as `record` for the key that the query matches, and returns `None` and changes nothing
+    /// if none is recorded yet.
+    fn record_match<Q: Equivalent<K>>(&mut self, query: Q) -> Result<Option<usize>, AllocError>
+    where
+        K: Drop,
+        ensures counted { IfOk result (CountsMatch K.eq (Q.matches query) self.old self.new) }
+        ensures unchanged { OnErr result (self.new ≡ self.old) }
+    {
+        if self.accesses == u64::MAX {
+            return Err(AllocError);
+        }
+        let Some(others) = self.recency.touch_match(query)? else {
+            return Ok(None);
+        };
+        self.reuses[others] += 1;
+        self.accesses += 1;
+        Ok(Some(others))
     }
 
     /// Returns how many of the recorded uses a cache of this capacity misses that is empty at first. It takes
@@ -100,7 +164,8 @@ impl<K: Eq + Hash> MissCurve<K> {
 
     /// Returns the number of distinct keys recorded. It takes constant time.
     pub fn distinct(&self) -> usize
-        ensures { result ≡ length self.now.keys }
+        ensures counted { (used : List K) → Counted K.eq used self.now → result ≡ distinct_count K.eq used }
+        ensures all { result ≡ length self.now.keys }
     {
         self.recency.len()
     }
@@ -109,7 +174,8 @@ impl<K: Eq + Hash> MissCurve<K> {
     /// misses there. It takes constant time and does not allocate. The iterator takes a step for each
     /// distinct key in all.
     pub fn falls(&self) -> Falls<'_>
-        ensures { result ≡ falls_from (length self.now.keys) 0 self.now.reuses }
+        ensures falls { ListsFalls self.now result }
+        ensures exact { result ≡ falls_from (length self.now.keys) 0 self.now.reuses }
     {
         Falls::new(self.accesses, &self.reuses)
     }
@@ -121,7 +187,8 @@ pub fn miss_curve<K: Eq + Hash + Copy>(
     alloc: Global,
     keys: &[K],
 ) -> Result<MissCurve<K>, AllocError>
-    ensures { IfOk result (Counted K.eq keys.now) }
+    ensures counted { IfOk result (Counted K.eq keys.now) }
+    ensures nothing { length keys.now ≡ 0 → IsOk result }
 {
     let mut curve = MissCurve::new(alloc);
     for key in keys {

@@ -1,26 +1,27 @@
 //! Keys in the order of their last uses.
-ghost use Rattle.std.specs.Prelude.{◌≡◌, ◌<◌, [], length, IfOk, IfErr, OnOk, OnErr};
-ghost use Rattle.std.specs.Map.{keys_of};
+ghost use Rattle.std.specs.Prelude.{◌≡◌, ◌<◌, [], length, IfOk, IfErr, OnOk, OnErr, OnSome, IfNone};
+ghost use Rattle.std.specs.Map.{keys_of, lookup};
 ghost use Rattle.hashlink_core.specs.Keyed.{entries_of};
-ghost use Rattle.hashlink_curve.specs.Recency.{Touches, IsPlaced};
+ghost use Rattle.hashlink_model.specs.Entries.{IsEntries};
+ghost use Rattle.hashlink_curve.specs.Recency.{Touches, TouchesMatch, IsPlaced, MovesLast};
 
 use crate::marks::Marks;
-use hashlink_map::LinkedHashMap;
+use hashlink_map::{Equivalent, LinkedHashMap};
 use std::alloc::{AllocError, Global};
-use std::hash::Hash;
+use std::hash::{BuildHasher, Hash};
 use std::marker::Model;
 
 /// Keys in the order of their last uses. Each key has a place, and the places increase in that order. A mark
 /// is at the place of each key. So the marks after a place are the keys that were used since.
 #[derive(Drop)]
-pub(crate) struct Recency<K: Eq + Hash> {
-    places: LinkedHashMap<K, usize>,
+pub(crate) struct Recency<K: Eq + Hash, S: BuildHasher> {
+    places: LinkedHashMap<K, usize, S>,
     marks: Marks,
     next: usize,
     alloc: Global,
 }
 
-impl<K: Eq + Hash> Model for Recency<K> {
+impl<K: Eq + Hash, S: BuildHasher> Model for Recency<K, S> {
     ghost use Rattle.std.specs.Prelude.{List};
     ghost use Rattle.std.specs.Map.{keys_of};
     ghost use Rattle.hashlink_core.specs.Keyed.{entries_of};
@@ -33,13 +34,13 @@ impl<K: Eq + Hash> Model for Recency<K> {
     ghost invariant = { λ r. IsPlaced K.eq (entries_of r.places) r.marks r.next };
 }
 
-impl<K: Eq + Hash> Recency<K> {
-    /// Creates an empty list. It does not allocate.
-    pub(crate) fn new(alloc: Global) -> Self
+impl<K: Eq + Hash, S: BuildHasher> Recency<K, S> {
+    /// Creates an empty list, whose map hashes with `hash_builder`. It does not allocate.
+    pub(crate) fn with_hasher(alloc: Global, hash_builder: S) -> Self
         ensures { result ≡ [] }
     {
         Recency {
-            places: LinkedHashMap::new(alloc),
+            places: LinkedHashMap::with_hasher(alloc, hash_builder),
             marks: Marks::new(alloc),
             next: 0,
             alloc,
@@ -92,13 +93,64 @@ impl<K: Eq + Hash> Recency<K> {
             Err((key, _)) => Err(key),
         }
     }
+
+    /// Makes the key that the query matches the last, if it is there, and returns how many keys were used
+    /// since its last use. It returns `None` if no key matches.
+    ///
+    /// It takes as long as `touch`. If memory runs out, nothing changes.
+    pub(crate) fn touch_match<Q: Equivalent<K>>(
+        &mut self,
+        query: Q,
+    ) -> Result<Option<usize>, AllocError>
+    where
+        K: Drop,
+        ensures touched { IfOk result (TouchesMatch (Q.matches query) self.old self.new) }
+        ensures unchanged { OnErr result (self.new ≡ self.old) }
+    {
+        free_place(
+            self.alloc,
+            &mut self.places,
+            &mut self.marks,
+            &mut self.next,
+        )?;
+        let count = self.places.len();
+        let Some(place) = move_last(&mut self.places, query, self.next) else {
+            return Ok(None);
+        };
+        let others = count - self.marks.before(place) - 1;
+        self.marks.unmark(place);
+        self.marks.mark(self.next);
+        self.next += 1;
+        Ok(Some(others))
+    }
+}
+
+/// Moves the entry of the key that the query matches to the back and gives it the place `next`. Returns the
+/// place that it had, or `None` if no key matches.
+fn move_last<K: Eq + Hash, S: BuildHasher, Q: Equivalent<K>>(
+    places: &mut LinkedHashMap<K, usize, S>,
+    query: Q,
+    next: usize,
+) -> Option<usize>
+    ensures found { result ≡ lookup (Q.matches query) (entries_of places.old) }
+    ensures moved { OnSome result (MovesLast K.eq (Q.matches query) (entries_of places.old)
+        (entries_of places.new) next) }
+    ensures unchanged { IfNone result (entries_of places.new ≡ entries_of places.old) }
+    ensures distinct { IsEntries K.eq (entries_of places.old) }
+{
+    let Some(place) = places.to_back(query) else {
+        return None;
+    };
+    let old = *place;
+    *place = next;
+    Some(old)
 }
 
 /// Makes sure that the place `next` is free, if need be by new places for all keys. If memory runs out,
 /// nothing changes.
-fn free_place<K: Eq + Hash + Drop>(
+fn free_place<K: Eq + Hash + Drop, S: BuildHasher>(
     alloc: Global,
-    places: &mut LinkedHashMap<K, usize>,
+    places: &mut LinkedHashMap<K, usize, S>,
     marks: &mut Marks,
     next: &mut usize,
 ) -> Result<(), AllocError>
@@ -120,9 +172,9 @@ const MOST_KEYS: usize = 1 << 58;
 
 /// Moves the keys to the places from 0 on, in their order, and builds a tree with their marks and as many
 /// free places again. If memory runs out, nothing changes.
-fn renumber<K: Eq + Hash + Drop>(
+fn renumber<K: Eq + Hash + Drop, S: BuildHasher>(
     alloc: Global,
-    places: &mut LinkedHashMap<K, usize>,
+    places: &mut LinkedHashMap<K, usize, S>,
 ) -> Result<Marks, AllocError>
     ensures placed { IfOk result (λ marks. IsPlaced K.eq (entries_of places.new) marks
         (length (entries_of places.new))) }

@@ -132,7 +132,7 @@ returns-in-Ok-Some-clause-touched g c =
     let n = c.before-in-Ok-Some.ensures (values_of es) p.marked ∙ f.before in
     let count = c.len-count.ensures.len in
     let old = c.free_place.ensures.keys ∙ c.self.view_is in
-    subst (λ ks. MovesPast g.K.PartialEq.eq ks (keys_of (entries_of c.insert.new.self)) c.args.key
+    subst (λ ks. MovesPast (g.K.PartialEq.eq c.args.key) ks (keys_of (entries_of c.insert.new.self))
     (c.len-count.result - 1 - c.before-in-Ok-Some.result)) old
     (found_moves g.K.PartialEq.eq g.met.K.Eq.laws es (entries_of c.insert.new.self) c.free_place.new.marks
     c.free_place.new.next c.args.key c.in-Ok-Some.place

@@ -1,0 +1,121 @@
+-- The list of a curve's falls.
+use Rattle.std.proofs.Common.{◌≡◌, ℕ, suc, ◌+◌, ◌-◌, ◌≤◌, ◌<◌, ◌⊎◌, inl, inr, Bool, true, false, cond, List, []}
+use Rattle.std.proofs.Common.{◌∷◌, length, drop, refl, sym, ap, ◌∙◌, arith}
+use Rattle.std.specs.Prelude.{nat_eq, sum, All, AllPairs, Contains}
+use Rattle.std.proofs.Math.Nat.{eq-or-lt_of_le}
+use Rattle.std.proofs.Math.Seq.{drop-nil}
+use Rattle.std.proofs.lemmas.Bool.Decides.{nat_tests}
+use Rattle.std.proofs.lemmas.List.Elements.{All-nil, All-cons}
+use Rattle.std.proofs.lemmas.List.Kept.{AllPairs-cons}
+use Rattle.std.proofs.lemmas.List.Sums.{sum_by-cons}
+use Rattle.hashlink_curve.specs.Curve.{CurveState, ListsFalls, falls_from, misses_at}
+
+pub Contains-later : {X : Type 0} (y : X) (xs : List X) (x : X) → Contains xs x → Contains (y ∷ xs) x
+Contains-later y xs x h = (suc h.0, omega (arith, h.1), h.2)
+
+module _ (f : ℕ → ℕ) where
+  -- the misses at the item's capacity, which is above c, fewer than at the one before
+  abbrev FallsAbove : ℕ → ℕ × ℕ → Type 0
+  FallsAbove c item = (c < item.0) × (item.1 ≡ f item.0) × (item.1 < f (item.0 - 1))
+
+  -- the falls from c on
+  record ListsFrom (c : ℕ) (items : List (ℕ × ℕ)) : Type 0 where
+    each : All (FallsAbove c) items
+    every : (i : ℕ) → c ≤ i → f (i + 1) < f i → Contains items (i + 1, f (i + 1))
+    rising : AllPairs (λ a b. a.0 < b.0) items
+
+  -- the curve from c on, where `cold` are never hits
+  abbrev IsLeft : ℕ → ℕ → List ℕ → Type 0
+  IsLeft cold c ns = (j : ℕ) → f (c + j) ≡ cold + sum (drop j ns)
+
+  left_after : (cold c n : ℕ) (ns : List ℕ) → IsLeft cold c (n ∷ ns) → IsLeft cold (c + 1) ns
+  left_after cold c n ns h j =
+      let at : c + 1 + j ≡ c + suc j = omega arith in
+      ap f at ∙ h (suc j)
+
+  level_at : (cold c i : ℕ) → IsLeft cold c [] → c ≤ i → f i ≡ cold
+  level_at cold c i h l =
+      let at : i ≡ c + (i - c) = omega arith in
+      let is : f i ≡ cold + sum (drop (i - c) []) = ap f at ∙ h (i - c) in
+      let none = ap sum (drop-nil {A = ℕ} (i - c)) in
+      omega arith
+
+  lists_by : (b : Bool) (cold c n : ℕ) (ns : List ℕ) (items : List (ℕ × ℕ)) → nat_eq n 0 ≡ b
+      → IsLeft cold c (n ∷ ns) → ListsFrom (c + 1) items
+      → ListsFrom c (cond b items ((c + 1, cold + sum ns) ∷ items))
+  lists_by true cold c n ns items zero_uses h rest =
+      record {
+        each = λ k d l. let r = rest.each k d l in (omega (arith, r.0), r.1, r.2);
+        every = λ i l fall. every_by i (eq-or-lt_of_le l) fall;
+        rising = rest.rising;
+      }
+    where
+      level : f (c + 1) ≡ f c
+      level =
+          let none : n ≡ 0 = grind (arith, nat_tests, zero_uses) in
+          let here : f (c + 0) ≡ cold + sum (n ∷ ns) = h 0 in
+          let next : f (c + 1) ≡ cold + sum ns = h 1 in
+          let more = sum_by-cons (λ (m : ℕ). m) n ns in
+          let at : c + 0 ≡ c = omega arith in
+          let same = ap f at in
+          omega arith
+
+      every_by : (i : ℕ) → (c ≡ i) ⊎ (c < i) → f (i + 1) < f i → Contains items (i + 1, f (i + 1))
+      every_by i (inl e) fall =
+          let a = ap f e in
+          let b = ap (λ (m : ℕ). f (m + 1)) e in
+          let l = level in
+          absurd (omega arith)
+      every_by i (inr l) fall = rest.every i (omega arith) fall
+  lists_by false cold c n ns items some_uses h rest =
+      record {
+        each = All-cons (FallsAbove c) (c + 1, cold + sum ns) items first_falls
+            (λ k d l. let r = rest.each k d l in (omega (arith, r.0), r.1, r.2));
+        every = λ i l fall. every_by i (eq-or-lt_of_le l) fall;
+        rising = AllPairs-cons (λ a b. a.0 < b.0) (c + 1, cold + sum ns) items
+            (λ k d l. (rest.each k d l).0) rest.rising;
+      }
+    where
+      next : f (c + 1) ≡ cold + sum ns
+      next = h 1
+
+      first_falls : FallsAbove c (c + 1, cold + sum ns)
+      first_falls =
+          let some : 0 < n = grind (arith, nat_tests, some_uses) in
+          let here : f (c + 0) ≡ cold + sum (n ∷ ns) = h 0 in
+          let more = sum_by-cons (λ (m : ℕ). m) n ns in
+          let at : c + 1 - 1 ≡ c + 0 = omega arith in
+          let same = ap f at in
+          (omega arith, sym next, omega arith)
+
+      every_by : (i : ℕ) → (c ≡ i) ⊎ (c < i) → f (i + 1) < f i
+          → Contains ((c + 1, cold + sum ns) ∷ items) (i + 1, f (i + 1))
+      every_by i (inl e) fall =
+          (0, omega arith, ap (λ m. (c + 1, m)) (sym next) ∙ ap (λ (m : ℕ). (m + 1, f (m + 1))) e)
+      every_by i (inr l) fall =
+          Contains-later (c + 1, cold + sum ns) items (i + 1, f (i + 1)) (rest.every i (omega arith) fall)
+
+  lists_from : (cold c : ℕ) (ns : List ℕ) → IsLeft cold c ns → ListsFrom c (falls_from cold c ns)
+  lists_from cold c [] h =
+      record {
+        each = All-nil (FallsAbove c);
+        every = λ i l fall.
+            let a = level_at cold c i h l in
+            let b = level_at cold c (i + 1) h (omega arith) in
+            absurd (omega arith);
+        rising = λ i j d l m. absurd (omega arith);
+      }
+  lists_from cold c (n ∷ ns) h =
+      lists_by (nat_eq n 0) cold c n ns (falls_from cold (c + 1) ns) refl h
+      (lists_from cold (c + 1) ns (left_after cold c n ns h))
+
+-- the falls of a curve
+pub lists_falls : {K : Type 0} (s : CurveState K) → ListsFalls s (falls_from (length s.keys) 0 s.reuses)
+lists_falls s =
+    let all = lists_from (misses_at s) (length s.keys) 0 s.reuses
+    (λ j. ap (λ n. length s.keys + sum (drop n s.reuses)) (omega arith)) in
+    record {
+      each = all.each;
+      every = λ c fall. all.every c (omega arith) fall;
+      rising = all.rising;
+    }
