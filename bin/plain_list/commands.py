@@ -84,7 +84,10 @@ def command(model, line, answers):
     elif name == "peek":
         answers.seen(model.list.find(words.name()), False)
     elif name == "keep":
-        model.retain("even", answers)
+        if answers.form == "whole replies":
+            answers.done()
+        else:
+            model.retain("even", answers)
     elif name in ("to_front", "to_back"):
         move(model, name[3:], words.name(), answers)
     elif name == "use":

@@ -92,9 +92,9 @@ def judge_section(row, lines):
             sizes = [words.size() for _ in words.words[words.read :]]
             judge_calls(section, row, lambda: KINDS[kind](*sizes))
         elif kind == "commands":
-            judge_runs(section, row, Model())
+            judge_runs(section, row, Model(), words.next())
         elif kind == "cache_commands":
-            judge_runs(section, row, CacheModel(words.size()))
+            judge_runs(section, row, CacheModel(words.size()), words.next())
         elif kind == "pair_commands":
             sizes = (words.size(), words.size())
             judge_found(section, row, (min(sizes), sizes[1]))
@@ -163,15 +163,16 @@ def call_both(models, words, answers):
         raise Unread
 
 
-def judge_runs(section, row, model):
-    """Two runs, each of a list of commands, which changes nothing where it is refused."""
+def judge_runs(section, row, model, whole):
+    """Two runs, each of a list of commands, which changes nothing where it is refused, or after `whole` one,
+    in which every pair is kept and seen to be so."""
     commands = row.commands()
     half = len(commands) // 2
-    for run in (commands[:half], commands[half:]):
+    for run in (commands,) if whole else (commands[:half], commands[half:]):
         where = (row.first, f"the run of {len(run)} commands that begins with {run[0] if run else 'none'}")
         heard = section.hear(where)
         if heard is not None:
-            answers = Answers(heard, "replies")
+            answers = Answers(heard, "whole replies" if whole else "replies")
             for line in run:
                 command(model, line, answers)
             section.compare(where, answers)

@@ -7,6 +7,8 @@ from .words import DONE, GREATEST, MEMORY, NOTHING, OVERFLOW, WRONG
 from .words import Unread, is_word, item_word, number, pair_word
 
 NO_CAPACITY = GREATEST - 1
+#: those after which the row says how many items were not read
+KEPT = ("extend_from", "extend_kept", "extend_ref", "extend_by_trait")
 WALKS = ("iter", "keys", "values", "iter_mut", "values_mut", "drain", "forgotten_drain", "into_iter")
 
 
@@ -121,7 +123,7 @@ class Model(Entries, Cursors):
             if answers.is_refused():
                 self.list.clear()
             answers.echo(DONE, MEMORY)
-        elif name in ("extend", "extend_ref", "extend_from", "from_iter"):
+        elif name in ("extend", *KEPT, "from_iter"):
             self.extend(name, words, answers)
         else:
             raise Unread
@@ -221,9 +223,10 @@ class Model(Entries, Cursors):
         if keep == "odd":
             raised = [(key, (value[0] * 10 % GREATEST, value[1])) for key, value in self.list.pairs]
             self.list.pairs = raised
-        if keep == "others":
+        if keep in ("others", "without_odd"):
             for key, _ in self.list.pairs:
-                answers.item(key)
+                if keep == "others" or key[0] % 2 == 1:
+                    answers.item(key)
         tests = {"even": lambda pair: pair[1][0] % 2 == 0, "odd": lambda pair: pair[0][0] % 2 == 1}
         self.list.keep(tests.get(keep, lambda pair: pair[0][0] % 2 == 0))
         answers.done()
@@ -250,6 +253,10 @@ class Model(Entries, Cursors):
         while (word := words.next()) not in (None, "clone"):
             if word == "left":
                 answers.count(ends[1] - ends[0])
+            elif word == "times":
+                count, word = words.name()[0], words.word()
+                for _ in range(count):
+                    answers.say(self.step(name, ends, word, None))
             elif word in ("next", "back", "value", "value_back"):
                 rest = words.copy()
                 written = number(rest.next())
@@ -296,6 +303,8 @@ class Model(Entries, Cursors):
             self.list.clear()
             self.forget_room(0)
         taken, went, is_back = answers.taken(), 0, False
+        if name == "extend_by_trait":
+            taken = answers.read(self.count_many(words))
         while words.are_left() and not is_back:
             pair = self.next_of_many(words)
             is_back = taken == went
@@ -303,16 +312,33 @@ class Model(Entries, Cursors):
                 self.put("back", pair)
                 self.drop_first()
                 went += 1
-            elif self.back_of_many(pair, answers):
-                answers.count(went)
-            else:
+            elif not self.stops(name, pair, went, answers):
                 answers.say(WRONG)
                 return
         if not is_back:
             answers.done()
-        left = 0
+        left = self.count_many(words)
+        words.drop()
+        if name in KEPT:
+            answers.count(left)
+
+    def stops(self, name, pair, went, answers):
+        """Says that a pair of many was not put in after so many, if that may be. std's `Extend` says neither
+        which nor after how many."""
+        if name != "extend_by_trait":
+            is_back = self.back_of_many(pair, answers)
+            if is_back:
+                answers.count(went)
+            return is_back
+        is_refused = answers.is_refused() and self.list.may_refuse(pair[0])
+        if is_refused:
+            answers.say(MEMORY)
+        return is_refused
+
+    def count_many(self, words):
+        """How many items a line lists that are not read."""
+        words, count = words.copy(), 0
         while words.are_left():
             self.next_of_many(words)
-            left += 1
-        if name == "extend_from":
-            answers.count(left)
+            count += 1
+        return count

@@ -11,7 +11,10 @@ WRONG_TEXTS = (
     "weighted 5\ninsert 1 10 6\n=\nmemory",
 )
 
-LINES = "insert 1.2 10\nother insert 5 50\niter next left\nremove 1\ninsert 2 20\nreserve 9\ncost"
+LINES = (
+    "insert 1.2 10\nother insert 5 50\niter next left\nremove 1\ninsert 2 20\nreserve 9\ncost\n"
+    "extend_kept 3 30 4 40 5 50\nextend_by_trait 6 60 7 70 8 80\niter times 2 next"
+)
 ROW = Row("none", 1, "a row", "map", LINES, 3)
 SAID = """= -
 + 1 4 1.2:10
@@ -33,6 +36,15 @@ SAID = """= -
 + 1 4 5:50
 = 5 1
 + 1 16 2:20
++ 1 4 5:50
+= memory 4:40 1 1
++ 2 16 2:20 3:30
++ 1 4 5:50
+= memory 1
++ 3 16 2:20 3:30 6:60
++ 1 4 5:50
+= 2:20 3:30
++ 3 16 2:20 3:30 6:60
 + 1 4 5:50
 """
 SUMMARY = (
@@ -59,13 +71,23 @@ WRONG_WORDS = (
     ("a refusal of another pair", "= -\n+ 1 4 1.2:10\n+ 0 0", "= memory 1:10\n+ 0 0\n+ 0 0"),
     ("a cost that is no number", "= 5 1", "= 5 -"),
     ("a cost of one number", "= 5 1", "= 5"),
-    ("no answer to the last line", "= 5 1\n+ 1 16 2:20\n+ 1 4 5:50\n", ""),
+    ("an item read after the one that is handed back", "= memory 4:40 1 1", "= memory 4:40 1 0"),
+    ("an item read after the one that std's Extend did not put in", "= memory 1\n", "= memory 0\n"),
+    (
+        "an item that std's Extend did not put in before it gave up",
+        "= memory 1\n+ 3 16 2:20 3:30 6:60",
+        "= memory 1\n+ 2 16 2:20 3:30",
+    ),
+    ("a step too few", "= 2:20 3:30", "= 2:20"),
+    ("no answer to the last line", "= 2:20 3:30\n+ 3 16 2:20 3:30 6:60\n+ 1 4 5:50\n", ""),
     ("an answer too many", "= ok\n", "= ok\n= ok\n"),
 )
 
 
-def whole(said, refused=0, left_out=0):
+def whole(said, more=0, left_out=0):
+    """What is said of the row under each hasher, and at the end how many answers are refusals, and more."""
     heads = (f"row 3 {hasher}\n" for hasher in ("default", "same_hash", "odd_or_even"))
+    refused = 3 * said.count("memory") + more
     return "".join(head + said for head in heads) + SUMMARY.format(refused=refused, left_out=left_out)
 
 
@@ -87,7 +109,7 @@ def untold():
         yield "a right row"
     for what, old, new in WRONG_WORDS:
         assert old in SAID
-        if not is_told(whole(SAID.replace(old, new, 1), refused=3 * new.count("memory"))):
+        if not is_told(whole(SAID.replace(old, new, 1))):
             yield what
     others_live = "none:4: a row: remove 1\n  other keys and values live then than those that are held\n"
     forgotten = right[: right.index("1 rows")] + others_live
@@ -95,7 +117,7 @@ def untold():
         ("items that are not dropped", forgotten),
         ("no summary", right[: right.index("1 rows")]),
         ("a hasher that is left out", right.replace("row 3 same_hash\n" + SAID, "")),
-        ("another count of refusals", whole(SAID, refused=1)),
+        ("another count of refusals", whole(SAID, more=1)),
         ("a row that is left out, and says so at its end alone", whole(SAID, left_out=1)),
     ):
         if not is_told(said):

@@ -120,8 +120,8 @@ class Answers:
     def __init__(self, heard, form="calls"):
         self.heard = heard
         self.words = []
-        #: `calls`; `replies`, which say of a pair that is read whether its value is even; or `text`, which
-        #: shows no numbers and hands nothing back
+        #: `calls`; `replies`, which say of a pair that is read whether its value is even; `whole replies`,
+        #: which say that it is so of every pair; or `text`, which shows no numbers and hands nothing back
         self.form = form
 
     def say(self, word):
@@ -153,8 +153,8 @@ class Answers:
 
     def seen(self, pair, is_whole):
         """A pair that was read, by its value alone where it is not to be shown whole."""
-        if pair and self.form == "replies":
-            self.tell(pair[1][0] % 2 == 0)
+        if pair and self.form in ("replies", "whole replies"):
+            self.tell(self.form == "whole replies" or pair[1][0] % 2 == 0)
         elif is_whole:
             self.pair(pair)
         else:
@@ -195,3 +195,9 @@ class Answers:
         if len(self.heard) > 2 and self.heard[0] == MEMORY:
             return number(self.heard[2])
         return None
+
+    def read(self, count):
+        """How many of so many items went in before one that was not, by how many the container says it did
+        not read, if one was not put in."""
+        left = number(self.heard[1]) if len(self.heard) > 1 and self.heard[0] == MEMORY else None
+        return None if left is None else count - left - 1

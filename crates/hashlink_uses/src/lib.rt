@@ -7,6 +7,7 @@ pub mod commands;
 pub mod config;
 pub mod curves;
 pub mod everyday;
+pub mod forms;
 pub mod maps;
 pub mod memo;
 pub mod queue;

@@ -8,6 +8,8 @@ mod adapters;
 #[cfg(test)]
 mod commands;
 #[cfg(test)]
+mod counting;
+#[cfg(test)]
 mod entries;
 #[cfg(test)]
 mod few;

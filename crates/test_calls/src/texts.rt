@@ -1,7 +1,7 @@
 //! The texts of `{:?}`, and of errors.
 use crate::few::{Map, cache_of, map_of, passes, set_of};
 use crate::keys::Numbered;
-use hashlink::linked_hash_map::ExtendError;
+use hashlink::linked_hash_map::{Entry, ExtendError, RawEntryMut};
 use hashlink::lru_cache::TryInsertError;
 use hashlink::weighted::{WeightError, WeightedCache};
 use hashlink::{LinkedHashMap, LinkedHashSet};
@@ -137,6 +137,82 @@ fn iterators_over_two_sets_show_what_is_left(rt: HostRuntime) -> ExitCode {
         &set_of(rt.alloc(), &[1, 2]),
         &set_of(rt.alloc(), &[2, 3]),
     ))
+}
+
+/// Whether the iterators over the elements of either of two sets show two of them.
+fn those_over_both_show_two(
+    alloc: Global,
+    left: &LinkedHashSet<u32>,
+    right: &LinkedHashSet<u32>,
+) -> bool {
+    shows(alloc, left.union(right), "[1, 2]")
+        & shows(alloc, left.symmetric_difference(right), "[1, 2]")
+}
+
+/// Whether the iterators over the elements of the first of two sets show two of them.
+fn those_over_one_show_two(
+    alloc: Global,
+    left: &LinkedHashSet<u32>,
+    other: &LinkedHashSet<u32>,
+) -> bool {
+    shows(alloc, left.intersection(left), "[1, 2]") & shows(alloc, left.difference(other), "[1, 2]")
+}
+
+#[test]
+fn iterators_over_two_sets_show_two_that_are_left(rt: HostRuntime) -> ExitCode {
+    let (one, two) = (set_of(rt.alloc(), &[1]), set_of(rt.alloc(), &[2]));
+    let (both, other) = (set_of(rt.alloc(), &[1, 2]), set_of(rt.alloc(), &[3]));
+    passes(
+        those_over_both_show_two(rt.alloc(), &one, &two)
+            & those_over_one_show_two(rt.alloc(), &both, &other),
+    )
+}
+
+/// Whether an occupied entry shows itself.
+fn occupied_is_shown(alloc: Global, map: &mut Map) -> bool {
+    match map.entry(1) {
+        Entry::Occupied(entry) => shows(alloc, entry, "OccupiedEntry { key: 1, value: 10 }"),
+        Entry::Vacant(_vacant) => false,
+    }
+}
+
+/// Whether a vacant one does.
+fn vacant_is_shown(alloc: Global, map: &mut Map) -> bool {
+    match map.entry(3) {
+        Entry::Vacant(entry) => shows(alloc, entry, "VacantEntry(3)"),
+        Entry::Occupied(_occupied) => false,
+    }
+}
+
+/// Whether an occupied raw entry does.
+fn raw_occupied_is_shown(alloc: Global, map: &mut Map) -> bool {
+    match map.raw_entry_of(&1) {
+        RawEntryMut::Occupied(entry) => {
+            shows(alloc, entry, "RawOccupiedEntryMut { key: 1, value: 10 }")
+        }
+        RawEntryMut::Vacant(_vacant) => false,
+    }
+}
+
+/// Whether a vacant raw entry does.
+fn raw_vacant_is_shown(alloc: Global, map: &mut Map) -> bool {
+    match map.raw_entry_of(&3) {
+        RawEntryMut::Vacant(entry) => shows(alloc, entry, "RawVacantEntryMut"),
+        RawEntryMut::Occupied(_occupied) => false,
+    }
+}
+
+/// Whether each of the four does.
+fn each_is_shown(alloc: Global, map: &mut Map) -> bool {
+    occupied_is_shown(alloc, map)
+        & vacant_is_shown(alloc, map)
+        & raw_occupied_is_shown(alloc, map)
+        & raw_vacant_is_shown(alloc, map)
+}
+
+#[test]
+fn an_entry_that_was_matched_shows_itself(rt: HostRuntime) -> ExitCode {
+    passes(each_is_shown(rt.alloc(), &mut map_of(rt.alloc(), &[(1, 10)])))
 }
 
 /// The key of a group, of which a map keeps the first that it is given.

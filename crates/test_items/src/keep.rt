@@ -20,20 +20,23 @@ pub enum Keep {
     Odd,
     /// `others` than the odd keys. Each key that is met is said, in turn.
     Others,
+    /// The same by `without_odd`, where each odd key is said, in turn.
+    WithoutOdd,
 }
 
-pub const KEEPS: [(&str, Keep); 3] = [
+pub const KEEPS: [(&str, Keep); 4] = [
     ("even", Keep::Even),
     ("odd", Keep::Odd),
     ("others", Keep::Others),
+    ("without_odd", Keep::WithoutOdd),
 ];
 
 impl Keep {
     /// How many words it may say of so many entries.
     pub fn room(self, len: usize) -> usize {
         match self {
-            Keep::Others => len,
-            _ => 0,
+            Keep::Others | Keep::WithoutOdd => len,
+            Keep::Even | Keep::Odd => 0,
         }
     }
 
@@ -43,6 +46,7 @@ impl Keep {
             Keep::Even => is_even(key, value),
             Keep::Odd => is_raised(key, value),
             Keep::Others => is_other(key, met),
+            Keep::WithoutOdd => key.group % 2 == 0 || is_other(key, met),
         }
     }
 }

@@ -18,7 +18,8 @@ pub fn hinted(left: usize, (least, most): (usize, Option<usize>)) -> (usize, usi
     (left, least, most)
 }
 
-/// Takes the steps up to a word `clone`: each says what comes, or `left` how many are left.
+/// Takes the steps up to a word `clone`: each says what comes, or `left` how many are left. After `times` a
+/// step is taken so often.
 pub fn take_steps<W: Walk>(
     walk: &mut W,
     words: &mut Words<'_>,
@@ -27,10 +28,21 @@ pub fn take_steps<W: Walk>(
     for _ in 0..64 {
         match words.next() {
             None | Some("clone") => return Ok(()),
+            Some("times") => repeat(walk, words, answers)?,
             Some(word) => answers.say(come(walk, word, words))?,
         }
     }
     Err(Stop::Unread)
+}
+
+/// Takes as many steps as the next word says, each by the word after it.
+fn repeat<W: Walk>(walk: &mut W, words: &mut Words<'_>, answers: &mut Answers) -> Result<(), Stop> {
+    let count = words.name().group;
+    let word = words.word();
+    for _ in 0..count {
+        answers.say(come(walk, word, words))?;
+    }
+    Ok(())
 }
 
 /// What comes by the step, if the hint is then how many are left.

@@ -36,6 +36,10 @@ pub enum LendCall {
 pub enum PairsCall {
     Extend,
     ExtendFrom,
+    /// `extend` with an iterator that is kept.
+    ExtendKept,
+    /// std's `Extend`, with such an iterator.
+    ExtendByTrait,
 }
 
 #[derive(Clone, Copy)]
@@ -81,7 +85,7 @@ pub enum CacheCall {
     RawRead,
 }
 
-pub const CACHE_CALLS: [(&str, CacheCall); 32] = [
+pub const CACHE_CALLS: [(&str, CacheCall); 34] = [
     ("len", CacheCall::Read(ReadCall::Len)),
     ("is_empty", CacheCall::Read(ReadCall::IsEmpty)),
     ("capacity", CacheCall::Read(ReadCall::Capacity)),
@@ -104,6 +108,11 @@ pub const CACHE_CALLS: [(&str, CacheCall); 32] = [
     ("set_capacity", CacheCall::SetCapacity),
     ("extend", CacheCall::Pairs(PairsCall::Extend)),
     ("extend_from", CacheCall::Pairs(PairsCall::ExtendFrom)),
+    ("extend_kept", CacheCall::Pairs(PairsCall::ExtendKept)),
+    (
+        "extend_by_trait",
+        CacheCall::Pairs(PairsCall::ExtendByTrait),
+    ),
     ("retain", CacheCall::Retain(false)),
     ("retain_from", CacheCall::Retain(true)),
     ("iter", CacheCall::Walk(WalkCall::Iter)),

@@ -1,4 +1,5 @@
 //! Lines that speak to a cache.
+use crate::by_trait::extend_by_trait;
 use crate::cache_calls::{
     CACHE_CALLS, CacheCall, EndCall, KeyCall, LendCall, PairsCall, ReadCall, WalkCall,
 };
@@ -241,7 +242,7 @@ fn keep_some<S: BuildHasher>(cache: &mut Cache<S>, is_lent: bool, keep: Keep) ->
         (Keep::Even, true) => cache.retain_from(&mut is_even),
         (Keep::Odd, false) => cache.retain(is_raised),
         (Keep::Odd, true) => cache.retain_from(&mut is_raised),
-        (Keep::Others, _) => return Word::Wrong,
+        (Keep::Others | Keep::WithoutOdd, _) => return Word::Wrong,
     }
     Word::Done
 }
@@ -278,6 +279,8 @@ fn put_all<S: BuildHasher>(
     match call {
         PairsCall::Extend => answers.give(extended(cache.extend(pairs))),
         PairsCall::ExtendFrom => extend_from(cache, &mut pairs.into_iter(), answers),
+        PairsCall::ExtendKept => extend_kept(cache, &mut pairs.into_iter(), answers),
+        PairsCall::ExtendByTrait => extend_by_trait(cache, &mut pairs.into_iter(), answers),
     }
 }
 
@@ -287,5 +290,14 @@ fn extend_from<S: BuildHasher>(
     answers: &mut Answers,
 ) -> Result<(), Stop> {
     answers.give(extended(cache.extend_from(pairs)))?;
+    answers.say(Word::count(pairs.len()))
+}
+
+fn extend_kept<S: BuildHasher>(
+    cache: &mut Cache<S>,
+    pairs: &mut IntoIter<(Item, Item)>,
+    answers: &mut Answers,
+) -> Result<(), Stop> {
+    answers.give(extended(cache.extend(&mut *pairs)))?;
     answers.say(Word::count(pairs.len()))
 }

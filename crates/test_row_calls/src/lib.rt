@@ -3,6 +3,7 @@
 #![tactic(auto)]
 
 mod alike;
+mod by_trait;
 mod cache_calls;
 mod cache_row;
 mod compared;
@@ -17,6 +18,7 @@ mod set_walks;
 mod walks;
 mod weighted_row;
 
+pub use by_trait::extend_by_trait;
 pub use cache_row::{Cache, call_cache};
 pub use compared::compare;
 pub use map_row::{Map, call_map};

@@ -55,6 +55,10 @@ pub enum SizeCall {
 pub enum PairsCall {
     Extend,
     ExtendFrom,
+    /// `extend` with an iterator that is kept.
+    ExtendKept,
+    /// std's `Extend`, with such an iterator.
+    ExtendByTrait,
     FromIter,
 }
 
@@ -115,7 +119,7 @@ pub enum MapCall {
     EntryAt(AtEnd),
 }
 
-pub const MAP_CALLS: [(&str, MapCall); 51] = [
+pub const MAP_CALLS: [(&str, MapCall); 53] = [
     ("front", MapCall::Read(ReadCall::Front)),
     ("back", MapCall::Read(ReadCall::Back)),
     ("len", MapCall::Read(ReadCall::Len)),
@@ -147,6 +151,8 @@ pub const MAP_CALLS: [(&str, MapCall); 51] = [
     ("with_capacity", MapCall::Size(SizeCall::WithCapacity)),
     ("extend", MapCall::Pairs(PairsCall::Extend)),
     ("extend_from", MapCall::Pairs(PairsCall::ExtendFrom)),
+    ("extend_kept", MapCall::Pairs(PairsCall::ExtendKept)),
+    ("extend_by_trait", MapCall::Pairs(PairsCall::ExtendByTrait)),
     ("from_iter", MapCall::Pairs(PairsCall::FromIter)),
     ("retain", MapCall::Retain(Retain::Any)),
     ("retain_with_order", MapCall::Retain(Retain::WithOrder)),

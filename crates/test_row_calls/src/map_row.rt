@@ -1,4 +1,5 @@
 //! Lines that speak to a map.
+use crate::by_trait::extend_by_trait;
 use crate::entries::{call_cursor_of, call_entry_of};
 use crate::map_calls::{
     EndCall, KeyCall, LendCall, MAP_CALLS, MapCall, PairCall, PairsCall, ReadCall, SizeCall,
@@ -262,6 +263,8 @@ fn put_all<S: BuildHasher + Copy + Default + Drop>(
     match call {
         PairsCall::Extend => answers.give(extended(map.extend(pairs))),
         PairsCall::ExtendFrom => extend_from(map, &mut pairs.into_iter(), answers),
+        PairsCall::ExtendKept => extend_kept(map, &mut pairs.into_iter(), answers),
+        PairsCall::ExtendByTrait => extend_by_trait(map, &mut pairs.into_iter(), answers),
         PairsCall::FromIter => answers.say(made(map, LinkedHashMap::from_iter(home.alloc, pairs))),
     }
 }
@@ -272,5 +275,14 @@ fn extend_from<S: BuildHasher>(
     answers: &mut Answers,
 ) -> Result<(), Stop> {
     answers.give(extended(map.extend_from(pairs)))?;
+    answers.say(Word::count(pairs.len()))
+}
+
+fn extend_kept<S: BuildHasher>(
+    map: &mut Map<S>,
+    pairs: &mut IntoIter<(Item, Item)>,
+    answers: &mut Answers,
+) -> Result<(), Stop> {
+    answers.give(extended(map.extend(&mut *pairs)))?;
     answers.say(Word::count(pairs.len()))
 }

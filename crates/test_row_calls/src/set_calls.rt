@@ -47,6 +47,10 @@ pub enum SizeCall {
 pub enum ElementsCall {
     Extend,
     ExtendFrom,
+    /// `extend` with an iterator that is kept.
+    ExtendKept,
+    /// std's `Extend`, with such an iterator.
+    ExtendByTrait,
     FromIter,
 }
 
@@ -81,7 +85,7 @@ pub enum SetCall {
     Walk(WalkCall),
 }
 
-pub const SET_CALLS: [(&str, SetCall); 34] = [
+pub const SET_CALLS: [(&str, SetCall); 36] = [
     ("front", SetCall::Read(ReadCall::Front)),
     ("back", SetCall::Read(ReadCall::Back)),
     ("len", SetCall::Read(ReadCall::Len)),
@@ -109,6 +113,11 @@ pub const SET_CALLS: [(&str, SetCall); 34] = [
     ("with_capacity", SetCall::Size(SizeCall::WithCapacity)),
     ("extend", SetCall::Elements(ElementsCall::Extend)),
     ("extend_from", SetCall::Elements(ElementsCall::ExtendFrom)),
+    ("extend_kept", SetCall::Elements(ElementsCall::ExtendKept)),
+    (
+        "extend_by_trait",
+        SetCall::Elements(ElementsCall::ExtendByTrait),
+    ),
     ("from_iter", SetCall::Elements(ElementsCall::FromIter)),
     ("retain", SetCall::Retain(false)),
     ("retain_with_order", SetCall::Retain(true)),

@@ -2,6 +2,7 @@
 ghost use Rattle.std.specs.Prelude.{◌≡◌};
 
 use crate::alike::say_steps;
+use crate::by_trait::extend_by_trait;
 use crate::set_calls::{
     AskOfTwo, ElementCall, ElementsCall, EndCall, IterateTwo, Operator, PutCall, ReadCall,
     SET_CALLS, SETS_CALLS, SetCall, SetsCall, SizeCall, WalkCall,
@@ -262,6 +263,8 @@ fn put_all<S: BuildHasher + Copy + Default + Drop>(
     match call {
         ElementsCall::Extend => answers.give(extended(set.extend(elements))),
         ElementsCall::ExtendFrom => extend_from(set, &mut elements.into_iter(), answers),
+        ElementsCall::ExtendKept => extend_kept(set, &mut elements.into_iter(), answers),
+        ElementsCall::ExtendByTrait => extend_by_trait(set, &mut elements.into_iter(), answers),
         ElementsCall::FromIter => {
             answers.say(made(set, LinkedHashSet::from_iter(home.alloc, elements)))
         }
@@ -274,6 +277,15 @@ fn extend_from<S: BuildHasher>(
     answers: &mut Answers,
 ) -> Result<(), Stop> {
     answers.give(extended(set.extend_from(elements)))?;
+    answers.say(Word::count(elements.len()))
+}
+
+fn extend_kept<S: BuildHasher>(
+    set: &mut Set<S>,
+    elements: &mut IntoIter<Item>,
+    answers: &mut Answers,
+) -> Result<(), Stop> {
+    answers.give(extended(set.extend(&mut *elements)))?;
     answers.say(Word::count(elements.len()))
 }
 

@@ -4,6 +4,7 @@ use hashlink::linked_hash_map::ExtendError;
 use hashlink::{LinkedHashMap, LinkedHashSet};
 use std::hash::BuildHasher;
 use test_items::{Answer, Answers, Home, Name, Pair, Read, Stop, Word, Words, push_rest};
+use test_row_calls::extend_by_trait;
 
 impl<S: BuildHasher + Copy + Default + Drop> Spoken for LinkedHashMap<Name, Name, S> {
     fn make(home: Home<'_>, _capacity: usize) -> LinkedHashMap<Name, Name, S> {
@@ -16,13 +17,18 @@ impl<S: BuildHasher + Copy + Default + Drop> Spoken for LinkedHashMap<Name, Name
         words: &mut Words<'_>,
         answers: &mut Answers,
     ) -> Result<(), Stop> {
+        let is_by_trait = words.named(&CALLS)?;
         let pairs: Vec<Pair> = copied(home, words)?;
-        match self.extend_ref(pairs.iter().map(|(key, value)| (key, value))) {
-            Ok(()) => answers.say(Word::Done),
-            Err(ExtendError { taken, pair }) => {
-                answers.give(Answer::BackAfter(Word::pair(pair), taken))
-            }
+        let lent: Vec<(&Name, &Name)> = pairs.iter().map(lend_pair).collect(home.alloc)?;
+        let mut lent = lent.into_iter();
+        if is_by_trait {
+            return extend_by_trait(self, &mut lent, answers);
         }
+        answers.give(match self.extend_ref(&mut lent) {
+            Ok(()) => Answer::Word(Word::Done),
+            Err(ExtendError { taken, pair }) => Answer::BackAfter(Word::pair(pair), taken),
+        })?;
+        answers.say(Word::count(lent.len()))
     }
 
     fn count_items(&self) -> usize {
@@ -48,13 +54,18 @@ impl<S: BuildHasher + Copy + Default + Drop> Spoken for LinkedHashSet<Name, S> {
         words: &mut Words<'_>,
         answers: &mut Answers,
     ) -> Result<(), Stop> {
+        let is_by_trait = words.named(&CALLS)?;
         let elements: Vec<Name> = copied(home, words)?;
-        match self.extend_ref(elements.as_slice()) {
-            Ok(()) => answers.say(Word::Done),
-            Err(ExtendError { taken, pair }) => {
-                answers.give(Answer::BackAfter(Word::item(pair.0), taken))
-            }
+        let lent: Vec<&Name> = elements.iter().collect(home.alloc)?;
+        let mut lent = lent.into_iter();
+        if is_by_trait {
+            return extend_by_trait(self, &mut lent, answers);
         }
+        answers.give(match self.extend_ref(&mut lent) {
+            Ok(()) => Answer::Word(Word::Done),
+            Err(ExtendError { taken, pair }) => Answer::BackAfter(Word::item(pair.0), taken),
+        })?;
+        answers.say(Word::count(lent.len()))
     }
 
     fn count_items(&self) -> usize {
@@ -69,10 +80,16 @@ impl<S: BuildHasher + Copy + Default + Drop> Spoken for LinkedHashSet<Name, S> {
     }
 }
 
-/// What is named after the word `extend_ref`.
+/// The calls by their names, and whether they go by std's `Extend`.
+const CALLS: [(&str, bool); 2] = [("extend_ref", false), ("extend_by_trait", true)];
+
+/// What is named after the call.
 fn copied<T: Read + Drop>(home: Home<'_>, words: &mut Words<'_>) -> Result<Vec<T>, Stop> {
-    let _call = words.word();
     let mut named = Vec::new(home.alloc);
     push_rest(home, words, &mut named)?;
     Ok(named)
+}
+
+fn lend_pair((key, value): &Pair) -> (&Name, &Name) {
+    (key, value)
 }

@@ -17,8 +17,14 @@ pub trait Listed: Sized {
     /// An empty one, of this capacity if it has one.
     fn make(alloc: Global, capacity: usize) -> Self;
 
-    /// Runs these lines, and says the replies. It returns whether it had the memory for them.
-    fn run(&mut self, alloc: Global, lines: &[&str], answers: &mut Answers) -> Result<bool, Stop>;
+    /// Runs these lines as one list, and says the replies. It returns whether it had the memory for them.
+    fn run(
+        &mut self,
+        alloc: Global,
+        lines: &[&str],
+        seen: Seen,
+        answers: &mut Answers,
+    ) -> Result<bool, Stop>;
 
     /// Says its length, its capacity and its pairs.
     fn stand(&self, rt: &HostRuntime);
@@ -29,13 +35,22 @@ impl<S: BuildHasher + Default> Listed for LinkedHashMap<u64, u64, S> {
         LinkedHashMap::with_hasher(alloc, S::default())
     }
 
-    fn run(&mut self, alloc: Global, lines: &[&str], answers: &mut Answers) -> Result<bool, Stop> {
+    fn run(
+        &mut self,
+        alloc: Global,
+        lines: &[&str],
+        seen: Seen,
+        answers: &mut Answers,
+    ) -> Result<bool, Stop> {
         let mut commands = Vec::with_capacity(alloc, lines.len())?;
         for line in lines {
             let command = command_of(alloc, cut(line).0)?;
             push(&mut commands, command)?;
         }
-        let replies = run(self, commands, &is_even);
+        let replies = match seen {
+            Seen::Even => run(self, commands, &is_even),
+            Seen::Always => run(self, commands, &is_any),
+        };
         say_all(replies, answers)
     }
 
@@ -52,13 +67,22 @@ impl<S: BuildHasher + Default> Listed for LruCache<u64, u64, S> {
         LruCache::with_hasher(alloc, capacity, S::default())
     }
 
-    fn run(&mut self, alloc: Global, lines: &[&str], answers: &mut Answers) -> Result<bool, Stop> {
+    fn run(
+        &mut self,
+        alloc: Global,
+        lines: &[&str],
+        seen: Seen,
+        answers: &mut Answers,
+    ) -> Result<bool, Stop> {
         let mut commands = Vec::with_capacity(alloc, lines.len())?;
         for line in lines {
             let command = cache_command_of(alloc, cut(line).0)?;
             push(&mut commands, command)?;
         }
-        let replies = run_cache(self, commands, &is_even);
+        let replies = match seen {
+            Seen::Even => run_cache(self, commands, &is_even),
+            Seen::Always => run_cache(self, commands, &is_any),
+        };
         say_all(replies, answers)
     }
 
@@ -74,9 +98,21 @@ fn word_of((key, value): (&u64, &u64)) -> Word {
     Word::pair((Name::of(*key), Name::of(*value)))
 }
 
-/// Whether a pair is kept, and what is said of it.
+/// What the closure of a run says of a pair: whether it is kept, and what is replied where it is read.
+#[derive(Clone, Copy)]
+pub enum Seen {
+    /// Whether the value is even.
+    Even,
+    /// That it is so, of every pair.
+    Always,
+}
+
 fn is_even(_key: &u64, value: &u64) -> bool {
     *value % 2 == 0
+}
+
+fn is_any(_key: &u64, _value: &u64) -> bool {
+    true
 }
 
 /// The command to a map that a line says.
@@ -137,9 +173,11 @@ fn said(reply: Reply<u64, u64>) -> Answer {
     }
 }
 
-/// Runs the lines in two halves, each as one list, and returns whether each reply is the one that is written.
+/// Runs the lines in two halves, each as one list, or as one list with a closure that is true of every pair,
+/// and returns whether each reply is the one that is written.
 pub fn are_runs_right<C: Listed + Drop>(
     capacity: usize,
+    is_one: bool,
     alloc: Global,
     lines: &str,
     answers: &mut Answers,
@@ -147,7 +185,10 @@ pub fn are_runs_right<C: Listed + Drop>(
 ) -> Result<bool, Stop> {
     let lines: Vec<&str> = lines.split('\n').collect(alloc)?;
     let mut container = C::make(alloc, capacity);
-    are_halves_right(&mut container, alloc, lines.as_slice(), answers, voice)
+    if is_one {
+        return is_run_right(&mut container, alloc, &lines, Seen::Always, answers, voice);
+    }
+    are_halves_right(&mut container, alloc, &lines, answers, voice)
 }
 
 fn are_halves_right<C: Listed>(
@@ -159,8 +200,8 @@ fn are_halves_right<C: Listed>(
 ) -> Result<bool, Stop> {
     let (first, second) = lines.split_at(lines.len() / 2);
     Ok(
-        is_run_right(container, alloc, first, answers, voice)?
-            && is_run_right(container, alloc, second, answers, voice)?,
+        is_run_right(container, alloc, first, Seen::Even, answers, voice)?
+            && is_run_right(container, alloc, second, Seen::Even, answers, voice)?,
     )
 }
 
@@ -168,11 +209,12 @@ fn is_run_right<C: Listed>(
     container: &mut C,
     alloc: Global,
     lines: &[&str],
+    seen: Seen,
     answers: &mut Answers,
     voice: Voice<'_>,
 ) -> Result<bool, Stop> {
     answers.words.clear();
-    if container.run(alloc, lines, answers)? {
+    if container.run(alloc, lines, seen, answers)? {
         let _ = answers.count_refused();
         say_words(voice, answers.words.as_slice());
     } else {

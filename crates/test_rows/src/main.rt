@@ -42,14 +42,23 @@ fn main(rt: HostRuntime) -> ExitCode {
     if !are_right {
         return ExitCode::FAILURE;
     }
+    end(&rt, is_said, tally);
+    ExitCode::SUCCESS
+}
+
+/// Says that each answer is right, and counts rows and refusals where it says each answer or there are some.
+fn end(rt: &HostRuntime, is_said: bool, tally: Tally) {
     let Tally {
         rows,
         refused,
         left_out,
     } = tally;
-    let _ = print!(&rt; "{rows} rows: each answer is right, and {refused} of them refused; ");
-    let _ = println!(&rt; "{left_out} rows had no memory of their own");
-    ExitCode::SUCCESS
+    if is_said || refused > 0 || left_out > 0 {
+        let _ = print!(rt; "{rows} rows: each answer is right, and {refused} of them refused; ");
+        let _ = println!(rt; "{left_out} rows had no memory of their own");
+    } else {
+        let _ = println!(rt; "each answer is right");
+    }
 }
 
 /// Where it is said what comes and what stands.

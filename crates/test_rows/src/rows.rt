@@ -185,22 +185,26 @@ fn under<'f, S: BuildHasher + Copy + Default + Drop>(
         Called::Weighted => speak::<Weighted<S>>(row, words.size(), home, answers, voice),
         Called::CopiedMap => speak::<LinkedHashMap<Name, Name, S>>(row, 0, home, answers, voice),
         Called::CopiedSet => speak::<LinkedHashSet<Name, S>>(row, 0, home, answers, voice),
-        Called::Commands => list::<LinkedHashMap<u64, u64, S>>(row, 0, home, answers, voice),
+        Called::Commands => list::<LinkedHashMap<u64, u64, S>>(row, 0, words, home, answers, voice),
         Called::CacheCommands => {
-            list::<LruCache<u64, u64, S>>(row, words.size(), home, answers, voice)
+            let capacity = words.size();
+            list::<LruCache<u64, u64, S>>(row, capacity, words, home, answers, voice)
         }
     }
 }
 
-/// Runs a list of commands to an empty container.
+/// Runs a list of commands to an empty container, at once where the words say so.
 fn list<'f, C: Listed + Drop>(
     row: Row<'f>,
     capacity: usize,
+    words: Words<'_>,
     home: Home<'_>,
     answers: &mut Answers,
     voice: Voice<'_>,
 ) -> Result<Option<Wrong<'f>>, Stop> {
-    whole(are_runs_right::<C>(capacity, home.alloc, row.lines, answers, voice))
+    let mut words = words;
+    let is_one = words.has("whole");
+    whole(are_runs_right::<C>(capacity, is_one, home.alloc, row.lines, answers, voice))
 }
 
 fn whole<'f>(is_right: Result<bool, Stop>) -> Result<Option<Wrong<'f>>, Stop> {

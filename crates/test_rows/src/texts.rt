@@ -28,6 +28,9 @@ pub fn is_text_right(
     let Ok(answer) = from_utf8(answer.as_slice()) else {
         return Ok(false);
     };
+    if !answer.is_empty() && !answer.ends_with('\n') {
+        return Ok(false);
+    }
     let answer = answer.strip_suffix('\n').unwrap_or(answer);
     say_lines(answer, voice);
     Ok(written.is_none_or(|written| answer == written || answer.contains("memory")))

@@ -4,6 +4,8 @@
 #[cfg(test)]
 mod curves;
 #[cfg(test)]
+mod forms;
+#[cfg(test)]
 mod maps;
 #[cfg(test)]
 mod sessions;

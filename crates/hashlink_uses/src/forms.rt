@@ -1,0 +1,97 @@
+//! Forms that a caller writes by habit: loops over borrowed containers, `?` on what needs memory, operators.
+ghost use Rattle.std.specs.Prelude.{◌≡◌, [], IfOk, OnErr, OnOk, nat_eq};
+ghost use Rattle.std.specs.List.{list_any};
+ghost use Rattle.hashlink.specs.Algebra.{intersection_of};
+ghost use Rattle.hashlink.specs.Cached.{entries_in};
+ghost use Rattle.hashlink.specs.Keyed.{entries_of, state_of};
+ghost use Rattle.hashlink.specs.Many.{AcceptsAll, InsertsPair};
+ghost use Rattle.hashlink.specs.Sets.{elements_of};
+
+use hashlink::{LinkedHashMap, LinkedHashSet, LruCache};
+use std::alloc::AllocError;
+use std::hash::{BuildHasher, Hash};
+
+/// Returns whether an entry has this value.
+pub fn has_value<K: Eq + Hash, V: PartialEq, S: BuildHasher>(
+    map: &LinkedHashMap<K, V, S>,
+    value: &V,
+) -> bool
+    ensures { result ≡ list_any (λ e. V.eq e.1 value.now) (entries_of map.now) }
+{
+    for (_, stored) in map {
+        if stored == value {
+            return true;
+        }
+    }
+    false
+}
+
+/// Returns whether an element of a set equals this one.
+pub fn has_element<T: Eq + Hash, S: BuildHasher>(set: &LinkedHashSet<T, S>, wanted: &T) -> bool
+    ensures { result ≡ list_any (λ x. T.eq x wanted.now) (elements_of set.now) }
+{
+    for element in set {
+        if element == wanted {
+            return true;
+        }
+    }
+    false
+}
+
+/// Returns whether an entry of a cache has this value.
+pub fn has_cached<K: Eq + Hash, V: PartialEq, S: BuildHasher>(
+    cache: &LruCache<K, V, S>,
+    value: &V,
+) -> bool
+    ensures { result ≡ list_any (λ e. V.eq e.1 value.now) (entries_in cache.now) }
+{
+    for (_, stored) in cache {
+        if stored == value {
+            return true;
+        }
+    }
+    false
+}
+
+/// Makes room for three more, and inserts a pair. If memory runs out, the pair is dropped, and no entry has
+/// changed.
+pub fn insert_with_room<K: Eq + Hash + Drop, V: Drop, S: BuildHasher>(
+    map: &mut LinkedHashMap<K, V, S>,
+    key: K,
+    value: V,
+) -> Result<(), AllocError>
+    ensures unchanged { OnErr result (entries_of map.new ≡ entries_of map.old) }
+{
+    map.reserve(3)?;
+    map.insert(key, value).map_err(|_| AllocError)?;
+    Ok(())
+}
+
+/// Inserts each pair in turn. If memory runs out, those before the pair that was refused stay inserted.
+pub fn insert_all<K: Eq + Hash + Drop, V: Drop, S: BuildHasher>(
+    map: &mut LinkedHashMap<K, V, S>,
+    pairs: Vec<(K, V)>,
+) -> Result<(), AllocError>
+    ensures { OnOk result (AcceptsAll (InsertsPair K.eq) (state_of map.old) pairs (state_of map.new)) }
+{
+    map.extend(pairs)?;
+    Ok(())
+}
+
+/// Removes the entries in turn, front first.
+pub fn pop_each<K: Eq + Hash + Drop, V: Drop, S: BuildHasher>(map: &mut LinkedHashMap<K, V, S>)
+    ensures { entries_of map.new ≡ [] }
+{
+    while let Some(_pair) = map.pop_front() {}
+}
+
+/// Returns a set of the numbers that two sets share.
+pub fn shared<S: BuildHasher + Default + Drop>(
+    left: &LinkedHashSet<u64, S>,
+    right: &LinkedHashSet<u64, S>,
+) -> Result<LinkedHashSet<u64, S>, AllocError>
+    ensures { IfOk result (λ set. elements_of set
+        ≡ intersection_of nat_eq (elements_of left.now) (elements_of right.now)) }
+{
+    left & right
+}

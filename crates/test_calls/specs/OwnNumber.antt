@@ -1,0 +1,7 @@
+-- What the hasher computes that gives a number itself.
+use Rattle.std.specs.Prelude.{ℕ, ◌+◌, ◌*◌, List, ◌∷◌}
+
+-- the number of the first two bytes
+abbrev pub number_of : List ℕ → ℕ
+number_of (low ∷ high ∷ _) = low + 256 * high
+number_of _ = 0
