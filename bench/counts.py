@@ -1,30 +1,30 @@
-#!/usr/bin/env python3
-"""Counts what a call of each row takes: bench/counts.py N NAME=PROGRAM ..
+"""Counts what a call of each row takes.
 
 Each program is run under callgrind, with one round of each row and with two; the difference is one round's.
-It prints for each call the instructions, the misses of a cache of 1 MiB, and the branches that were
+For each call there are the instructions, the misses of a cache of 1 MiB, and the branches that were
 mispredicted, as callgrind models them. The counts of a program are the same on each machine, whatever else
 runs there. It needs valgrind with its headers and a C compiler, and takes minutes.
 """
 
 import re
 import subprocess
-import sys
 import tempfile
 from concurrent.futures import ThreadPoolExecutor
 from pathlib import Path
 
 CALLS = 1_000_000  # of a round, about (crates/bench/src/plan.rt)
+#: the longest insert is left out: it is no mean of calls
+KINDS = ("maps", "caches", "sets", "texts")
 HERE = Path(__file__).resolve().parent
 
 
-def counts_of(program, size, rounds, room):
-    """What each row of the program took, by its name: instructions, misses, mispredictions."""
-    out = Path(room) / f"{Path(program).name}.{rounds}"
+def counts_of(program, kind, size, rounds, room):
+    """What each row of the kind took, by its name: instructions, misses, mispredictions."""
+    out = Path(room) / f"{kind}.{rounds}"
     tool = ["valgrind", "--tool=callgrind", "--cache-sim=yes", "--branch-sim=yes", "--LL=1048576,16,64"]
     subprocess.run(
-        [*tool, f"--callgrind-out-file={out}", program, str(rounds), str(size)],
-        env={"LD_PRELOAD": f"{room}/dump.so"},
+        [*tool, f"--callgrind-out-file={out}", program, kind, str(rounds), str(size)],
+        env={"LD_PRELOAD": f"{Path(room).parent}/dump.so"},
         stdout=subprocess.DEVNULL,
         stderr=subprocess.DEVNULL,
         check=True,
@@ -47,37 +47,36 @@ def for_each_call(once, twice, size):
     """What a call took of each row."""
     rows = {}
     for row in twice:
-        if row != "insert_longest":
-            calls = 2 * size if row == "set_union" else size
-            calls *= max(CALLS // calls, 1)
-            rows[row] = [max(b - a, 0) / calls for a, b in zip(once[row], twice[row])]
+        calls = 2 * size if row == "set_union" else size
+        calls *= max(CALLS // calls, 1)
+        rows[row] = [max(b - a, 0) / calls for a, b in zip(once[row], twice[row])]
     return rows
 
 
-def main(words):
-    if len(words) < 2 or not words[0].isdigit() or any("=" not in it for it in words[1:]):
-        print(__doc__.strip(), file=sys.stderr)
-        return 2
-    size = int(words[0])
-    programs = dict(it.split("=", 1) for it in words[1:])
+def begun(program, size, room, pool):
+    """The runs of a program, of each kind with one round and with two."""
+    Path(room).mkdir()
+    return [[pool.submit(counts_of, program, kind, size, it, room) for it in (1, 2)] for kind in KINDS]
+
+
+def ended(runs, size):
+    """What a call took of each row."""
+    rows = {}
+    for once, twice in runs:
+        rows |= for_each_call(once.result(), twice.result(), size)
+    return rows
+
+
+def print_counts(size, programs):
+    """Prints a table of what a call of each row takes, of the programs by their names."""
     with tempfile.TemporaryDirectory() as room:
         library = ["cc", "-O1", "-shared", "-fPIC", "-o", f"{room}/dump.so", HERE / "dump.c", "-ldl"]
         subprocess.run(library, check=True)
-        rooms = {}
         with ThreadPoolExecutor() as pool:
-            for name, program in programs.items():
-                Path(room, name).mkdir()
-                Path(room, name, "dump.so").symlink_to(f"{room}/dump.so")
-                runs = [pool.submit(counts_of, program, size, it, f"{room}/{name}") for it in (1, 2)]
-                rooms[name] = runs
-            rows = {name: for_each_call(a.result(), b.result(), size) for name, (a, b) in rooms.items()}
+            all_runs = [begun(it, size, f"{room}/{name}", pool) for name, it in programs.items()]
+            rows = [ended(runs, size) for runs in all_runs]
     print(f"| N = {size:,} | {' | '.join(programs)} |")
     print("|---" * (1 + len(programs)) + "|")
-    for row in next(iter(rows.values())):
-        cells = ["{:.0f}, {:.2f}, {:.2f}".format(*rows[name][row]) for name in programs]
+    for row in rows[0]:
+        cells = ["{:.0f}, {:.2f}, {:.2f}".format(*it[row]) for it in rows]
         print(f"| {row} | {' | '.join(cells)} |")
-    return 0
-
-
-if __name__ == "__main__":
-    sys.exit(main(sys.argv[1:]))

@@ -1,13 +1,17 @@
 """Texts of `linkrun` and their answers."""
 
 import re
+from functools import partial
 
 from .caches import CacheModel, WeightedModel
 from .commands import answer_text, is_line, show
 from .model import Model
-from .words import Answers, number
+from .words import MEMORY, Answers, number
 
 SHOWN_BYTES = {"\\r": "\r", "\\x": "\xff", "\\": ""}
+#: how many numbers follow the name of each mode
+MODE_NUMBERS = {"map": 0, "cache": 1, "weighted": 1, "pair": 2}
+PAIR_WORDS = ("insert", "use", "remove", "peek")
 
 
 def meant(text):
@@ -26,60 +30,66 @@ def mode_of(line):
     """What the first line of a text names, or nothing where it is bad."""
     name, *words = line.split(" ")
     numbers = [number(word) for word in words]
-    if None in numbers or len(numbers) != {"map": 0, "cache": 1, "weighted": 1, "pair": 2}.get(name):
+    if None in numbers or len(numbers) != MODE_NUMBERS.get(name):
         return None
     if name == "pair" and numbers[0] > numbers[1]:
         return None
     return name, numbers
 
 
-def is_answer(text, answer):
-    """Whether a text may be answered so. A refusal is no answer where it is the only one: that is an
-    error."""
+def answers_to(text):
+    """What answers each line of the answer to a text, one after the other."""
     if not text:
-        return not answer
+        return []
     first, *lines = text.removesuffix("\n").split("\n")
     mode = mode_of(first)
     if mode is None:
-        return answer == "bad"
+        return [say_bad]
     name, numbers = mode
-    said = answer.split("\n")
     if name == "pair":
-        return are_pair_answers(*map(CacheModel, numbers), lines, said)
-    kinds = {"map": Model, "cache": CacheModel, "weighted": WeightedModel}
-    return are_answers(kinds[name](*numbers), lines, said)
+        caches = [CacheModel(number) for number in numbers]
+        return [partial(answer_pair, caches, line) for line in lines] + [partial(show, it) for it in caches]
+    model = {"map": Model, "cache": CacheModel, "weighted": WeightedModel}[name](*numbers)
+    return [partial(answer_text, model, line) for line in lines]
 
 
-def are_answers(model, lines, said):
-    """Whether the lines may be answered so from the empty container on."""
+def say_bad(answers):
+    answers.say("bad")
+
+
+def answer_pair(caches, line, answers):
+    """Has both caches answer a line."""
+    if line.split(" ")[0] in PAIR_WORDS and is_line("cache", line):
+        for cache in caches:
+            answer_text(cache, line, answers)
+    else:
+        say_bad(answers)
+
+
+def is_answer(text, answer):
+    """Whether a text may be answered so. A refusal is no answer where it is the only one: that is an error.
+    No insert into two caches is refused."""
+    lines = answers_to(text)
     if not lines:
-        return said == [""]
-    return len(said) == len(lines) and all(
-        is_said(heard, lambda answers: answer_text(model, line, answers)) for line, heard in zip(lines, said)
-    )
-
-
-def are_pair_answers(small, large, lines, said):
-    """The same of two caches, whose pairs are shown at the end. No insert into them is refused."""
-    if len(said) != len(lines) + 2 or any("memory" in line for line in said):
+        return not answer
+    said = answer.split("\n")
+    if MEMORY in answer and text.startswith("pair "):
         return False
-
-    def answer(line, answers):
-        if line.split(" ")[0] in ("insert", "use", "remove", "peek") and is_line("cache", line):
-            answer_text(small, line, answers)
-            answer_text(large, line, answers)
-        else:
-            answers.say("bad")
-
-    return (
-        all(is_said(heard, lambda answers: answer(line, answers)) for line, heard in zip(lines, said))
-        and is_said(said[-2], lambda answers: show(small, answers))
-        and is_said(said[-1], lambda answers: show(large, answers))
-    )
+    return len(said) == len(lines) and all(is_said(heard, line) for heard, line in zip(said, lines))
 
 
-def is_said(heard, answer):
+def is_said(heard, line):
     """Whether the line that is heard is what the list answers."""
     answers = Answers(heard.split(" "), "text")
-    answer(answers)
+    line(answers)
     return answers.words == answers.heard
+
+
+def answer_of(text):
+    """What the list answers to a text where nothing is refused."""
+    said = []
+    for line in answers_to(text):
+        answers = Answers([], "text")
+        line(answers)
+        said.append(" ".join(answers.words) + "\n")
+    return "".join(said)

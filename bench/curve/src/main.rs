@@ -5,6 +5,7 @@
 
 use hashlink::{LinkedHashMap, LruCache};
 use std::io::{self, BufRead};
+use std::process::ExitCode;
 
 /// Marks at places, in a binary tree of sums whose leaves are the places.
 struct Marks {
@@ -78,12 +79,27 @@ impl Curve {
     }
 }
 
-fn main() {
+fn usage() -> ExitCode {
+    eprintln!("usage: curve-bench [caches N] < TRACE");
+    ExitCode::from(2)
+}
+
+/// The N of `caches N`.
+fn number_of_caches(arguments: &[String]) -> Option<usize> {
+    match arguments {
+        [word, number] if word == "caches" => number.parse().ok().filter(|number| *number > 0),
+        _ => None,
+    }
+}
+
+fn main() -> ExitCode {
     let lines = io::stdin().lock().split(b'\n').map(|line| line.expect("reading failed"));
-    let arguments: Vec<String> = std::env::args().collect();
-    if let [_, word, number] = &arguments[..] {
-        assert_eq!(word, "caches");
-        return run_caches(lines.collect(), number.parse().expect("a number"));
+    let arguments: Vec<String> = std::env::args().skip(1).collect();
+    if !arguments.is_empty() {
+        return match number_of_caches(&arguments) {
+            Some(number) => run_caches(lines.collect(), number),
+            None => usage(),
+        };
     }
     let mut curve = Curve::new();
     let mut uses = 0;
@@ -99,10 +115,11 @@ fn main() {
             println!("{} {}", others + 1, misses);
         }
     }
+    ExitCode::SUCCESS
 }
 
 /// Prints how often a cache of each of so many capacities misses.
-fn run_caches(keys: Vec<Vec<u8>>, number: usize) {
+fn run_caches(keys: Vec<Vec<u8>>, number: usize) -> ExitCode {
     let distinct = keys.iter().collect::<std::collections::HashSet<_>>().len();
     for part in 1..=number {
         let capacity = distinct * part / number;
@@ -116,4 +133,5 @@ fn run_caches(keys: Vec<Vec<u8>>, number: usize) {
         }
         println!("{capacity} {misses}");
     }
+    ExitCode::SUCCESS
 }

@@ -1,7 +1,7 @@
 //! The rows of bench/rust that the crate lru can do: the same keys, the same calls, the same lines and
 //! checksums.
 //!
-//! usage: lru-bench ROUNDS [N ..]
+//! usage: lru-bench KIND ROUNDS [N ..], where only caches, and all, have rows
 
 // Some of what these have is for maps alone.
 #[path = "../../rust/src/command.rs"]
@@ -13,6 +13,7 @@ mod keys;
 #[path = "../../rust/src/plan.rs"]
 mod plan;
 
+use command::Kind;
 use keys::{Choices, Keys};
 use lru::LruCache;
 use plan::{Plan, Turns};
@@ -40,7 +41,10 @@ fn used(capacity: usize, keys: &[u64]) -> Cache {
     cache
 }
 
-fn rows(plan: &Plan, keys: &Keys) {
+fn rows(kind: &Kind, plan: &Plan, keys: &Keys) {
+    if !kind.has("caches") {
+        return;
+    }
     let size = plan.size;
     let held = &keys.held;
     let orders = &mut Turns {
@@ -60,5 +64,5 @@ fn rows(plan: &Plan, keys: &Keys) {
 }
 
 fn main() -> ExitCode {
-    command::run("lru-bench ROUNDS [N ..]", rows)
+    command::run("lru-bench", rows)
 }

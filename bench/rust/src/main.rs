@@ -1,7 +1,7 @@
 //! The rows of crates/bench over hashlink in Rust: the same keys, the same calls, the same lines and
 //! checksums.
 //!
-//! usage: hashlink-bench ROUNDS [N ..]
+//! usage: hashlink-bench KIND ROUNDS [N ..]
 
 mod caches;
 mod command;
@@ -14,10 +14,21 @@ mod texts;
 use std::process::ExitCode;
 
 fn main() -> ExitCode {
-    command::run("hashlink-bench ROUNDS [N ..]", |plan, keys| {
-        maps::rows(plan, keys);
-        caches::rows(plan, keys);
-        sets::rows(plan, keys);
-        texts::rows(plan, keys);
+    command::run("hashlink-bench", |kind, plan, keys| {
+        if kind.has("maps") {
+            maps::rows(plan, keys);
+        }
+        if kind.has("growth") {
+            maps::growth(plan, keys);
+        }
+        if kind.has("caches") {
+            caches::rows(plan, keys);
+        }
+        if kind.has("sets") {
+            sets::rows(plan, keys);
+        }
+        if kind.has("texts") {
+            texts::rows(plan, keys);
+        }
     })
 }

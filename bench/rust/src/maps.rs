@@ -7,9 +7,13 @@ use std::hint::black_box;
 
 type Map = LinkedHashMap<u64, u64>;
 
-/// Each key with its place in the list as its value.
+/// Each key with its place in the list as its value, by inserts.
 fn filled(keys: &[u64]) -> Map {
-    black_box(keys.iter().copied().zip(0..).collect())
+    let mut map = Map::new();
+    for (place, key) in keys.iter().enumerate() {
+        insert(&mut map, place as u64, key);
+    }
+    black_box(map)
 }
 
 fn insert(map: &mut Map, place: u64, key: &u64) -> u64 {
@@ -40,13 +44,21 @@ fn pairs(leave: &[u64], come: &[u64]) -> Vec<(u64, u64)> {
     leave.iter().copied().zip(come.iter().copied()).collect()
 }
 
+/// The growth of a map is timed, and its end is not.
+fn empty(map: &mut Map) {
+    *map = Map::new();
+}
+
+/// The longest insert, which is a growth.
+pub fn growth(plan: &Plan, keys: &Keys) {
+    let lists = &mut Turns::of(&keys.held);
+    plan.longest("insert_longest", lists, &mut Map::new(), empty, insert);
+}
+
 pub fn rows(plan: &Plan, keys: &Keys) {
     let size = plan.size;
-    let afresh = |map: &mut Map| *map = Map::new();
     let lists = &mut Turns::of(&keys.held);
-    let map = &mut Map::new();
-    plan.row_afresh("insert", size, lists, map, afresh, insert);
-    plan.longest("insert_longest", lists, map, afresh, insert);
+    plan.row_afresh("insert", size, lists, &mut Map::new(), empty, insert);
     reads(plan, keys);
     moves(plan, keys);
     let sides = &mut Turns {

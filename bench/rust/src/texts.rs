@@ -27,6 +27,7 @@ fn get(map: &mut &LinkedHashMap<String, u64>, place: u64, text: &String) -> u64 
     map.get(text.as_str()).copied().unwrap_or(place)
 }
 
+/// The lookups are in the map that the last of the inserts have left.
 pub fn rows(plan: &Plan, keys: &Keys) {
     let size = plan.size;
     let mut state = Texts::default();
@@ -36,10 +37,6 @@ pub fn rows(plan: &Plan, keys: &Keys) {
     };
     let lists = &mut Turns::of(&keys.held);
     plan.row_afresh("text_insert", size, lists, &mut state, afresh, insert);
-    afresh(&mut state);
-    for (place, key) in keys.held.iter().enumerate() {
-        insert(&mut state, place as u64, key);
-    }
     let mixed = texts(&keys.mixed);
     let lists = &mut Turns::of(&mixed);
     plan.row("text_get_hit", size, lists, &mut &state.map, get);

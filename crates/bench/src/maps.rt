@@ -15,7 +15,7 @@ fn insert(map: &mut Map, key: u64, value: u64) -> Result<Option<u64>, AllocError
     }
 }
 
-/// Each key with its place in the list as its value.
+/// Each key with its place in the list as its value, by inserts.
 fn filled(alloc: Global, keys: &[u64]) -> Result<Map, AllocError> {
     let mut map = LinkedHashMap::new(alloc);
     for (place, key) in keys.iter().enumerate() {
@@ -31,6 +31,16 @@ struct Inserts {
     alloc: Global,
     map: Map,
     is_afresh: bool,
+}
+
+impl Inserts {
+    fn afresh(alloc: Global) -> Self {
+        Inserts {
+            alloc,
+            map: LinkedHashMap::new(alloc),
+            is_afresh: true,
+        }
+    }
 }
 
 impl Row for Inserts {
@@ -129,14 +139,19 @@ fn pairs(alloc: Global, leave: &[u64], come: &[u64]) -> Result<Vec<(u64, u64)>, 
 }
 
 fn time_inserts(plan: &Plan<'_>, keys: &Keys) -> io::Result<()> {
-    let inserts = &mut Inserts {
-        alloc: keys.alloc,
-        map: LinkedHashMap::new(keys.alloc),
-        is_afresh: true,
-    };
-    let lists = &mut Turns::of(&keys.held);
-    plan.row("insert", keys.held.len(), lists, inserts)?;
-    plan.longest("insert_longest", lists, inserts)
+    let inserts = &mut Inserts::afresh(keys.alloc);
+    plan.row(
+        "insert",
+        keys.held.len(),
+        &mut Turns::of(&keys.held),
+        inserts,
+    )
+}
+
+/// The longest insert, which is a growth.
+pub(crate) fn growth(plan: &Plan<'_>, keys: &Keys) -> io::Result<()> {
+    let inserts = &mut Inserts::afresh(keys.alloc);
+    plan.longest("insert_longest", &mut Turns::of(&keys.held), inserts)
 }
 
 fn time_gets(plan: &Plan<'_>, name: &str, map: &Map, keys: &[u64]) -> io::Result<()> {
