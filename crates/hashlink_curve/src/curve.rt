@@ -1,7 +1,7 @@
 //! The curve of misses.
 ghost use Rattle.std.specs.Prelude.{◌≡◌, ◌≤◌, ◌<◌, ◌^◌, ℕ, List, [], ◌∷◌, ◌++◌, length, drop, sum, IfOk};
 ghost use Rattle.std.specs.Prelude.{IfErr, OnErr};
-ghost use Rattle.hashlink_model.specs.History.{cache_misses};
+ghost use Rattle.hashlink_history.specs.History.{cache_misses};
 ghost use Rattle.hashlink_curve.specs.Curve.{Counted, distance_of, misses_at, falls_from};
 
 use crate::falls::Falls;
