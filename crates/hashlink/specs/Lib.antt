@@ -2,16 +2,16 @@
 -- name, the container stands before it here.
 pub use Rattle.hashlink_model.specs.Algebra
 pub use Rattle.hashlink_model.specs.Cache
-pub use Rattle.hashlink_model.specs.CacheRuns
+pub use Rattle.hashlink_history.specs.CacheRuns
 pub use Rattle.hashlink_model.specs.Compare
 pub use Rattle.hashlink_model.specs.Cursor
 pub use Rattle.hashlink_model.specs.Entries
 pub use Rattle.hashlink_model.specs.Entry
-pub use Rattle.hashlink_model.specs.History
-pub use Rattle.hashlink_model.specs.Inclusion
+pub use Rattle.hashlink_history.specs.History
+pub use Rattle.hashlink_history.specs.Inclusion
 pub use Rattle.hashlink_model.specs.Many
 pub use Rattle.hashlink_model.specs.MapState
-pub use Rattle.hashlink_model.specs.Peak
+pub use Rattle.hashlink_history.specs.Peak
 pub use Rattle.hashlink_model.specs.Retain
 pub use Rattle.hashlink_model.specs.Sets
 pub use Rattle.hashlink_model.specs.Steps

@@ -13,12 +13,13 @@ use Rattle.std.proofs.lemmas.Bool.Decides.{nat_tests}
 use Rattle.std.proofs.lemmas.List.{append-nil}
 use Rattle.std.proofs.lemmas.List.Sums.{sum_by-cons}
 use Rattle.hashlink_model.specs.Entries.{IsKeyTest}
-use Rattle.hashlink_model.specs.History.{reuse_distance, cache_misses, cache_misses_from}
+use Rattle.hashlink_history.specs.History.{reuse_distance, cache_misses, cache_misses_from}
 use Rattle.hashlink_model.proofs.Members.{is_member-append, none_from_is_member, is_member_from_none}
-use Rattle.hashlink_model.proofs.Recency.{zip_push, zip_length, remove_key-left, remove_key-right}
-use Rattle.hashlink_model.proofs.Recency.{is_member-unique}
-use Rattle.hashlink_model.proofs.Recency.{unique_keys-push, last_use, unique_keys-last, answers_alike}
-use Rattle.hashlink_model.proofs.Recency.{after_last-here}
+use Rattle.hashlink_history.proofs.Recency.{zip_push, zip_length, remove_key-left, remove_key-right}
+use Rattle.hashlink_history.proofs.Recency.{is_member-unique}
+use Rattle.hashlink_history.proofs.Recency.{unique_keys-push, last_use, unique_keys-last}
+use Rattle.hashlink_model.proofs.Distinct.{answers_alike}
+use Rattle.hashlink_history.proofs.Recency.{after_last-here}
 use Rattle.hashlink_curve.specs.Curve.{CurveState, Counted, Counts, distance_of, misses_at}
 use Rattle.hashlink_curve.specs.Recency.{MovesPast, GoesLast}
 

@@ -4,7 +4,7 @@ use Rattle.std.specs.Prelude.{length, drop, sum, All, AllPairs, Contains, IsTrue
 use Rattle.std.specs.Prelude.{Option, None, Some, if◌then◌else◌}
 use Rattle.std.specs.List.{AllZip, list_any}
 use Rattle.std.specs.Set.{is_member, unique_keys}
-use Rattle.hashlink_model.specs.History.{reuse_distance, cache_misses}
+use Rattle.hashlink_history.specs.History.{reuse_distance, cache_misses}
 
 -- the keys in the order of their last uses, each once, and at each distance how many uses had it
 pub record CurveState (K : Type 0) : Type 0 where

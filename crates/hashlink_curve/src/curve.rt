@@ -3,7 +3,7 @@ ghost use Rattle.std.specs.Prelude.{◌≡◌, ◌≤◌, ◌<◌, ◌^◌, ℕ,
 ghost use Rattle.std.specs.Prelude.{IfErr, OnErr, OnOk, IsTrue};
 ghost use Rattle.std.specs.List.{list_any};
 ghost use Rattle.std.specs.Set.{distinct_count, is_member};
-ghost use Rattle.hashlink_model.specs.History.{cache_misses};
+ghost use Rattle.hashlink_history.specs.History.{cache_misses};
 ghost use Rattle.hashlink_curve.specs.Curve.{Counted, Counts, CountsMatch, CanMakeMatch, misses_at};
 ghost use Rattle.hashlink_curve.specs.Curve.{falls_from, ListsFalls};
 

@@ -1,7 +1,7 @@
 -- How long a cache is after its calls, which of them is never refused, and how many links they store.
-use Rattle.std.proofs.Common.{◌≡◌, ℕ, ◌+◌, ◌-◌, ◌*◌, ◌≤◌, ◌<◌, Bool, List, [], ◌∷◌, length, Option, None}
+use Rattle.std.proofs.Common.{◌≡◌, ℕ, ◌+◌, ◌-◌, ◌*◌, ◌≤◌, ◌<◌, Bool, List, length, Option, None}
 use Rattle.std.proofs.Common.{Some}
-use Rattle.std.proofs.Common.{Result, Ok, Err, refl, sym, ap, ◌∙◌, ◌⊎◌, inl, inr, subst, arith, length-drop}
+use Rattle.std.proofs.Common.{Result, Ok, Err, sym, ap, ◌∙◌, ◌⊎◌, inl, inr, subst, arith, length-drop}
 use Rattle.std.proofs.lemmas.Bool.{cases_lt}
 use Rattle.std.proofs.lemmas.Map.{length-set_value}
 use Rattle.hashlink_model.specs.Entries.{put}
@@ -11,14 +11,12 @@ use Rattle.hashlink_model.specs.Entry.{EntryState, VacantInserts}
 use Rattle.hashlink_model.specs.Cache.{CacheState, OnMap, IsWithin, HasNodeToSpare, InsertsLast, KeepsLast}
 use Rattle.hashlink_model.specs.Cache.{CacheInserts, CacheGets, CacheGetsAndWrites, SetsCapacity, EntersCache}
 use Rattle.hashlink_model.specs.Cache.{CacheGetsMatch, CacheGetsMatchAndWrites, last_entries}
-use Rattle.hashlink_model.specs.History.{Length}
-use Rattle.hashlink_model.specs.Peak.{Passes, PassesInTurn}
 use Rattle.hashlink_model.proofs.Afterwards.{length-put_absent, length-put_there, length-moved_match}
 use Rattle.hashlink_model.proofs.Caches.{front_evicted-above, front_evicted-at_most}
 use Rattle.hashlink_model.proofs.Caches.{length-last_entries, cache_put-at_most}
 use Rattle.hashlink_model.proofs.CacheSteps.{put_entries, inserts_entries}
 use Rattle.hashlink_model.proofs.NodeCounts.{moves_match_length, node_count-keeps}
-use Rattle.hashlink_model.proofs.KeptNodes.{kept-keeps, kept-inserts, passes-kept}
+use Rattle.hashlink_model.proofs.KeptNodes.{kept-inserts}
 
 -- ---- a bound of the capacity and n more
 
@@ -279,37 +277,6 @@ module _ {K V S : Type 0} where
     links-cache_insert_within s l =
         store_more (4 + 3 * (length old.map.entries + 1 - old.cap)) 4 old.map.link_writes new.map.link_writes
         (omega arith) (links-cache_insert_new s)
-
-    -- ---- the two lengths that an insert passes
-
-    passes-both : (w : Option V) (between : MapState K V S) → InsertsLast eq k v w old.map between
-        → KeepsLast between new.map old.cap
-        → PassesInTurn old.map
-        (Length (length (put eq old.map.entries k v (length old.map.entries))) ∷ Length
-        (length new.map.entries)
-        ∷ [])
-        new.map
-    passes-both w between s t =
-        let first = passes-kept old.map between
-        (kept-inserts old.map between eq k v (length old.map.entries) (Ok w) s) in (
-          between,
-          subst (λ n. Passes old.map (Length n) between) (ap length (put_entries eq old.map between k v w s))
-              first,
-          (
-            new.map,
-            passes-kept between new.map
-                (kept-keeps between new.map (last_entries between.entries old.cap) t),
-            refl,
-          ),
-        )
-
-    pub passes-cache_insert : (w : Option V) → CacheInserts eq old new k v (Ok w)
-        → PassesInTurn old.map
-        (Length (length (put eq old.map.entries k v (length old.map.entries))) ∷ Length
-        (length new.map.entries)
-        ∷ [])
-        new.map
-    passes-cache_insert w s = passes-both w s.map.between s.map.inserts s.map.fits
 
   module _ (old new : CacheState K V S) (n : ℕ) where
     pub links-sets : SetsCapacity old new n

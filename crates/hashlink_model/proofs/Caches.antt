@@ -15,6 +15,7 @@ use Rattle.hashlink_model.proofs.Distinct.{IsEntries-tail}
 use Rattle.hashlink_model.proofs.Puts.{IsEntries-put}
 use Rattle.hashlink_model.proofs.Finds.{lookup-equal}
 use Rattle.hashlink_model.proofs.Afterwards.{length-put, length-put_absent, length-put_there, moved-there}
+use Rattle.hashlink_model.proofs.Afterwards.{length-moved}
 use Rattle.hashlink_model.proofs.Afterwards.{lookup-moved, lookup_entry-put_other, IsEntries-moved}
 use Rattle.hashlink_model.proofs.Remaining.{lookup-put_remaining, lookup_entry-put_remaining}
 
@@ -122,6 +123,14 @@ module _ {K V : Type 0} where
   cache_extended-at_most eq es cap n (p ∷ pairs) c m =
       let few = cache_put-at_most eq es cap p.0 p.1 in
       cache_extended-at_most eq (cache_put eq es cap p.0 p.1) cap n pairs c (omega arith)
+
+  pub cache_use-at_most : (eq : K → K → Bool) (es : List (K × V)) (cap n : ℕ) (k : K) (v : V) → cap ≤ n → length es ≤ n
+      → length (cache_use eq es cap k v) ≤ n
+  cache_use-at_most eq es cap n k v c m = by (lookup (eq k) es)
+    where
+      by : (o : Option V) → length (option_map_or (λ w. cache_get eq es k) o (cache_put eq es cap k v)) ≤ n
+      by None = let few = cache_put-at_most eq es cap k v in omega arith
+      by (Some w) = let same = length-moved eq es k (length es) in omega arith
 
   pub IsEntries-cache_extended : (eq : K → K → Bool) → IsEquivalence eq
       → (es : List (K × V)) (cap : ℕ) (pairs : List (K × V)) → IsEntries eq es

@@ -5,9 +5,9 @@ use Rattle.std.specs.List.{AllZip}
 use Rattle.std.proofs.lemmas.Map.{NonePasses}
 use Rattle.hashlink_model.specs.Entries.{IsEntries, extended}
 use Rattle.hashlink_model.specs.Compare.{entries_eq}
-use Rattle.hashlink_model.proofs.Distinct.{IsEntries-cons, IsEntries-head, IsEntries-tail, none_equal}
+use Rattle.hashlink_model.proofs.Distinct.{answers_alike, IsEntries-cons, IsEntries-head, IsEntries-tail}
+use Rattle.hashlink_model.proofs.Distinct.{none_equal}
 use Rattle.hashlink_model.proofs.Extends.{extended-own}
-use Rattle.hashlink_model.proofs.Recency.{answers_alike}
 
 module _ {K V : Type 0} (eq : K → K → Bool) (laws : IsEquivalence eq) (eqv : V → V → Bool) where
   none_cloned : (k : K) (xs ys : List (K × V))

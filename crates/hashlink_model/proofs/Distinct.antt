@@ -35,6 +35,11 @@ pub each-weaker : {X : Type 0} (P Q : X → Type 0) → ((x : X) → P x → Q x
 each-weaker P Q f [] a = tt
 each-weaker P Q f (x ∷ xs) a = (f x a.0, each-weaker P Q f xs a.1)
 
+-- equal keys answer a test alike
+pub answers_alike : {K : Type 0} (eq : K → K → Bool) → IsEquivalence eq → (k a b : K) → eq a b ≡ true
+    → eq k a ≡ eq k b
+answers_alike eq laws k a b t = laws.symm k a ∙ laws.congr a b k t ∙ laws.symm b k
+
 pub IsEntries-nil : {K : Type 0} (V : Type 0) (eq : K → K → Bool) → IsEntries {V = V} eq []
 unfolding IsDistinct
 IsEntries-nil V eq = tt

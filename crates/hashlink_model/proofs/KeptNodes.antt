@@ -1,19 +1,17 @@
--- No step gives a node back but a clear and a shrink, none makes one beyond need, and a run stays within its
--- peak.
-use Rattle.std.proofs.Common.{◌≡◌, ℕ, ◌+◌, ◌≤◌, ◌<◌, max, le_refl, List, [], ◌∷◌, ◌++◌, length, Bool, Option}
+-- No step gives a node back but a clear and a shrink, and none makes one beyond need.
+use Rattle.std.proofs.Common.{◌≡◌, ℕ, ◌+◌, ◌≤◌, ◌<◌, List, length, Bool, Option}
 use Rattle.std.proofs.Common.{None}
-use Rattle.std.proofs.Common.{Some, Result, Ok, Err, refl, sym, ap, ◌∙◌, subst, arith}
+use Rattle.std.proofs.Common.{Some, Result, Ok, Err, ap, ◌∙◌, arith}
 use Rattle.std.proofs.lemmas.Map.{length-set_value}
 use Rattle.hashlink_model.specs.Entries.{put, moved, without}
-use Rattle.hashlink_model.specs.MapState.{MapState, node_count, MayRefuse, Changes, Grows, Inserts}
+use Rattle.hashlink_model.specs.MapState.{MapState, node_count, KeepsNodes, MayRefuse, Changes, Grows}
+use Rattle.hashlink_model.specs.MapState.{Inserts}
 use Rattle.hashlink_model.specs.Steps.{KeepsOnly, Replaces, Moves, MovesAndWrites, RemovesKey, PopsFront}
 use Rattle.hashlink_model.specs.Steps.{PopsBack}
-use Rattle.hashlink_model.specs.Steps.{Clears, Reserves, Shrinks}
-use Rattle.hashlink_model.specs.History.{Passed, Length, Shrunk, peak}
-use Rattle.hashlink_model.specs.Peak.{KeepsNodes, Passes, PassesInTurn}
+use Rattle.hashlink_model.specs.Steps.{Clears, Reserves}
 use Rattle.hashlink_model.specs.Walk.{after_first_of, before_last_of}
 use Rattle.hashlink_model.proofs.NodeCounts.{node_count-adds, node_count-removes, node_count-keeps}
-use Rattle.hashlink_model.proofs.NodeCounts.{node_count-changes, node_count-puts, node_count-shrinks}
+use Rattle.hashlink_model.proofs.NodeCounts.{node_count-changes, node_count-puts}
 use Rattle.hashlink_model.proofs.NodeCounts.{writes_nodes}
 use Rattle.hashlink_model.proofs.NodeCounts.{moves_nodes}
 use Rattle.hashlink_model.proofs.Afterwards.{length-moved}
@@ -90,42 +88,5 @@ module _ {K V S : Type 0} (old new : MapState K V S) where
       → MayRefuse eq new k → ⊥
   not_refused_where_shorter eq k n l m = let none = m.no_spare in omega arith
 
-  -- ---- what a step passes
-
-  pub passes-kept : KeepsNodes old new → Passes old (Length (length new.entries)) new
-  passes-kept s = (refl, omega arith)
-
   pub cleared_nodes : Clears old new → node_count new ≡ old.spare
   cleared_nodes s = let same = ap length s.entries in let spare = s.spare in omega arith
-
-  pub passes-clears : Clears old new → Passes old (Length 0) new
-  passes-clears s = let n = cleared_nodes s in (ap length s.entries, omega arith)
-
-  pub passes-shrinks : {E : Type 0} (r : Result (Unit {0}) E) → Shrinks old new r
-      → Passes old (Shrunk (length new.entries)) new
-  passes-shrinks r s = (refl, node_count-shrinks old new r s ∙ sym (ap length s.entries))
-
--- ---- a run of steps
-
-pub peak-grows : (n m : ℕ) (ps : List Passed) → n ≤ m → peak n ps ≤ peak m ps
-peak-grows n m [] l = l
-peak-grows n m (Length p ∷ ps) l = peak-grows (max n p) (max m p) ps (omega arith)
-peak-grows n m (Shrunk p ∷ ps) l = le_refl (peak p ps)
-
-module _ {K V S : Type 0} where
-  pub within_the_peak : (old new : MapState K V S) (ps : List Passed) → PassesInTurn old ps new
-      → node_count new ≤ peak (node_count old) ps
-  within_the_peak old new [] s = let same = ap node_count s in omega arith
-  within_the_peak old new (Length n ∷ ps) s =
-      let most = s.1.1 in
-      let more = peak-grows (node_count s.0) (max (node_count old) n) ps most in
-      let rest = within_the_peak s.0 new ps s.2 in
-      omega arith
-  within_the_peak old new (Shrunk n ∷ ps) s =
-      subst (λ m. node_count new ≤ peak m ps) s.1.1 (within_the_peak s.0 new ps s.2)
-
-  pub passes_in_parts : (a b c : MapState K V S) (ps qs : List Passed) → PassesInTurn a ps b
-      → PassesInTurn b qs c
-      → PassesInTurn a (ps ++ qs) c
-  passes_in_parts a b c [] qs s t = subst (λ m. PassesInTurn m qs c) s t
-  passes_in_parts a b c (p ∷ ps) qs s t = (s.0, s.1, passes_in_parts s.0 b c ps qs s.2 t)

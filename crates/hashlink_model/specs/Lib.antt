@@ -1,18 +1,14 @@
 -- What every contract of the containers cites: lists of entries, and the steps that a map may take.
 pub mod Algebra
 pub mod Cache
-pub mod CacheRuns
 pub mod Compare
 pub mod Cursor
 pub mod Entries
 pub mod Entry
-pub mod History
-pub mod Inclusion
 pub mod Labels
 pub mod Many
 pub mod MapState
 pub mod Numbers
-pub mod Peak
 pub mod Retain
 pub mod RetainRows
 pub mod Sets

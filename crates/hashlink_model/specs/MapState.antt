@@ -55,6 +55,10 @@ module _ {K V S : Type 0} where
   abbrev pub HasRoom : MapState K V S → Type 0
   HasRoom m = node_count m ≤ m.room
 
+  -- every node is kept, and one is made only where there are more entries than nodes
+  abbrev pub KeepsNodes : MapState K V S → MapState K V S → Type 0
+  KeepsNodes old new = node_count new ≡ max (node_count old) (length new.entries)
+
   -- ---- what may become of a state, by the entries `es` that it has now
 
   -- as many nodes are spare as before, and `most` links were stored at most: a move, or a key or a value that

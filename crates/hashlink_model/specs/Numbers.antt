@@ -1,17 +1,15 @@
 -- The definitions at keys, values and elements that are numbers, for rows that they compute to.
-use Rattle.std.specs.Prelude.{ℕ, Bool, true, not, List, [], length, fold, Option, nat_eq}
+use Rattle.std.specs.Prelude.{ℕ, Bool, true, not, List, length, fold, Option, nat_eq}
 use Rattle.std.specs.Map as map
 use Rattle.std.specs.Ordering.{nat_cmp}
 use Rattle.std.specs.Set.{is_member}
 use Rattle.std.specs.declared.cmp.Ordering.{Ordering}
 use Rattle.hashlink_model.specs.Algebra as algebra
 use Rattle.hashlink_model.specs.Cache as cache
-use Rattle.hashlink_model.specs.CacheRuns as runs
 use Rattle.hashlink_model.specs.Compare as compare
 use Rattle.hashlink_model.specs.Cursor as cursor
 use Rattle.hashlink_model.specs.Entries as entries
 use Rattle.hashlink_model.specs.Entry as entry
-use Rattle.hashlink_model.specs.History as history
 use Rattle.hashlink_model.specs.Sets as sets
 use Rattle.hashlink_model.specs.Weights as weights
 
@@ -133,26 +131,6 @@ cache_or_insert es cap k v = or_insert (cache.front_evicted es cap) k v
 -- the same of each pair in turn
 abbrev pub cache_or_inserts : Pairs → ℕ → Pairs → Pairs
 cache_or_inserts es cap pairs = fold (λ zs p. cache_or_insert zs cap p.0 p.1) es pairs
-
--- calls of a cache that starts empty
-abbrev pub answers : ℕ → List (runs.CacheEvent ℕ ℕ) → List (Option ℕ)
-answers cap events = runs.answers nat_eq cap [] events
-
-abbrev pub after_events : ℕ → List (runs.CacheEvent ℕ ℕ) → Pairs
-after_events cap events = runs.after_events nat_eq cap [] events
-
--- histories
-abbrev pub reuse_distance : List ℕ → ℕ → ℕ
-reuse_distance = history.reuse_distance nat_eq
-
-abbrev pub misses : List ℕ → List (List ℕ) → ℕ
-misses = history.misses nat_eq
-
-abbrev pub cache_misses : ℕ → List ℕ → ℕ
-cache_misses = history.cache_misses nat_eq
-
-abbrev pub missed_uses : ℕ → Pairs → Pairs → ℕ
-missed_uses = cache.missed_uses nat_eq
 
 -- entries of (key, (value, weight))
 abbrev pub Weighted : Type 0

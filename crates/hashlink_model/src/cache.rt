@@ -15,8 +15,6 @@ ghost use Rattle.std.specs.Map.{lookup, lookup_entry};
 ghost use Rattle.hashlink_model.specs.MapState.{MapState, StoresAtMost, Changes, node_count};
 ghost use Rattle.hashlink_model.specs.Steps.{KeepsOnly, Clears, RemovesKey, PopsFront, PopsBack};
 ghost use Rattle.hashlink_model.specs.Entry.{EntryState, VacantInserts};
-ghost use Rattle.hashlink_model.specs.History.{Length};
-ghost use Rattle.hashlink_model.specs.Peak.{PassesInTurn};
 ghost use Rattle.hashlink_model.specs.Labels as labels;
 ghost use Rattle.hashlink_model.specs.Numbers as numbers;
 
@@ -371,17 +369,6 @@ pub fn links_of_a_cache_insert<K, V, S>()
         → StoresAtMost (6 + 3 * (length b.entries - length es)) a.link_writes c.link_writes }
     ensures set_capacity { (old new : CacheState K V S) (n : ℕ) → SetsCapacity old new n
         → StoresAtMost (3 * (length old.map.entries - n)) old.map.link_writes new.map.link_writes }
-{}
-
-/// An insert that succeeds passes two lengths: that of the map's insert, and that after all entries above the
-/// capacity were evicted.
-pub fn lengths_that_a_cache_insert_passes<K, V, S>()
-    ensures { (eq : K → K → Bool) (old new : CacheState K V S) (k : K) (v : V) (w : Option V)
-        → CacheInserts eq old new k v (Ok w)
-        → PassesInTurn old.map
-        (Length (length (put eq old.map.entries k v (length old.map.entries))) ∷ Length
-        (length new.map.entries) ∷ [])
-        new.map }
 {}
 
 /// An insert that evicts an entry leaves more nodes than the capacity and a spare one among them. This stays

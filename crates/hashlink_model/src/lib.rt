@@ -8,8 +8,6 @@ pub mod compare;
 pub mod cursor;
 pub mod entries;
 pub mod entry;
-pub mod history;
-pub mod inclusion;
 pub mod many;
 pub mod retain;
 pub mod sets;

@@ -8,7 +8,7 @@ ghost use Rattle.hashlink_model.specs.Entries.{IsEntries, without};
 ghost use Rattle.hashlink_model.specs.MapState.{MapState, empty_map, node_count, HasRoom, MayRefuse, Changes};
 ghost use Rattle.hashlink_model.specs.MapState.{Adds};
 ghost use Rattle.hashlink_model.specs.MapState.{Removes, Grows, AddsEntry, PutsEntry, Inserts};
-ghost use Rattle.hashlink_model.specs.Peak.{KeepsNodes};
+ghost use Rattle.hashlink_model.specs.MapState.{KeepsNodes};
 ghost use Rattle.hashlink_model.specs.Steps.{PopsFront, PopsBack, KeepsOnly, WritesEntry, Replaces, Moves};
 ghost use Rattle.hashlink_model.specs.Steps.{MovesAndWrites, RemovesKey, Clears, Drains, Reserves, Shrinks};
 ghost use Rattle.hashlink_model.specs.Steps.{IsMadeWith};

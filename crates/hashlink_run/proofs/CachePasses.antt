@@ -4,13 +4,14 @@ use Rattle.std.proofs.Common.{Err}
 use Rattle.std.proofs.Common.{MatchOption, MatchResult, append_assoc, arith, max, refl, sym, ap, ◌∙◌, subst}
 use Rattle.std.specs.Map.{lookup, lookup_entry}
 use Rattle.hashlink_model.specs.Cache.{CacheState, CacheInserts, CacheGets, CacheUses, EvictsFront}
-use Rattle.hashlink_model.specs.CacheRuns as event
-use Rattle.hashlink_model.specs.History.{Passed, Length}
+use Rattle.hashlink_history.specs.CacheRuns as event
+use Rattle.hashlink_history.specs.Peak.{Passed, Length}
 use Rattle.hashlink_model.specs.MapState.{MapState, node_count}
-use Rattle.hashlink_model.specs.Peak.{KeepsNodes, Passes, PassesInTurn}
+use Rattle.hashlink_model.specs.MapState.{KeepsNodes}
+use Rattle.hashlink_history.specs.Peak.{Passes, PassesInTurn}
 use Rattle.hashlink_model.proofs.KeptNodes.{kept-inserts, kept-keeps, kept-moves, kept-removes_key}
 use Rattle.hashlink_model.proofs.KeptNodes.{kept-pops_front}
-use Rattle.hashlink_model.proofs.KeptNodes.{passes-clears, passes_in_parts, within_the_peak}
+use Rattle.hashlink_history.proofs.Peaks.{passes-clears, passes_in_parts, within_the_peak}
 use Rattle.hashlink_commands.specs.declared.cache_commands.CacheCommand.{CacheCommand}
 use Rattle.hashlink_commands.specs.declared.cache_commands.CacheCommand.TheVariants.{Insert, Use, Entry, Get}
 use Rattle.hashlink_commands.specs.declared.cache_commands.CacheCommand.TheVariants.{Peek}

@@ -6,9 +6,9 @@ use Rattle.std.specs.Map.{lookup, lookup_entry}
 use Rattle.std.specs.Option.{option_map_or}
 use Rattle.std.proofs.lemmas.Option.{same_Some}
 use Rattle.hashlink_model.specs.Cache.{CacheState, IsWithin, CacheInserts, CacheGets, CacheUses}
-use Rattle.hashlink_model.specs.CacheRuns as event
+use Rattle.hashlink_history.specs.CacheRuns as event
 use Rattle.hashlink_model.specs.Entries.{put}
-use Rattle.hashlink_model.specs.History.{Passed, Length}
+use Rattle.hashlink_history.specs.Peak.{Passed, Length}
 use Rattle.hashlink_model.proofs.CacheBounds.{within-inserted}
 use Rattle.hashlink_commands.specs.declared.cache_commands.CacheCommand.{CacheCommand}
 use Rattle.hashlink_commands.specs.declared.cache_commands.CacheCommand.TheVariants.{Insert, Use, Entry, Get}

@@ -5,13 +5,14 @@ use Rattle.std.proofs.Common.{refl, sym, ap, subst, arith}
 use Rattle.std.specs.List.{AllPass}
 use Rattle.std.proofs.lemmas.List.{take-take}
 use Rattle.std.proofs.lemmas.List.Elements.{All-head, All-tail}
-use Rattle.hashlink_model.specs.History.{Length}
+use Rattle.hashlink_history.specs.Peak.{Length}
 use Rattle.hashlink_model.specs.MapState.{MapState, node_count}
-use Rattle.hashlink_model.specs.Peak.{KeepsNodes, Passes, PassesInTurn}
+use Rattle.hashlink_model.specs.MapState.{KeepsNodes}
+use Rattle.hashlink_history.specs.Peak.{Passes, PassesInTurn}
 use Rattle.hashlink_model.proofs.KeptNodes.{kept-inserts, kept-replaces, kept-moves, kept-removes_key}
 use Rattle.hashlink_model.proofs.KeptNodes.{kept-pops_front}
 use Rattle.hashlink_model.proofs.KeptNodes.{kept-keeps, kept-pops_back, kept-never_fall, spare_where_shorter}
-use Rattle.hashlink_model.proofs.KeptNodes.{passes-kept, passes-clears, passes-shrinks, within_the_peak}
+use Rattle.hashlink_history.proofs.Peaks.{passes-kept, passes-clears, passes-shrinks, within_the_peak}
 use Rattle.hashlink_commands.specs.declared.commands.Command.{Command}
 use Rattle.hashlink_commands.specs.declared.commands.Command.TheVariants.{Insert, InsertFront, Replace, Get}
 use Rattle.hashlink_commands.specs.declared.commands.Command.TheVariants.{Remove}

@@ -3,7 +3,7 @@ use Rattle.std.proofs.Common.{◌≡◌, ℕ, ◌≤◌, Bool, List, [], ◌∷�
 use Rattle.std.proofs.Common.{ap, arith}
 use Rattle.hashlink_model.specs.Cursor.{CursorState, place_next}
 use Rattle.hashlink_model.specs.MapState.{MapState, Inserts}
-use Rattle.hashlink_model.specs.Peak.{KeepsNodes}
+use Rattle.hashlink_model.specs.MapState.{KeepsNodes}
 use Rattle.hashlink_model.proofs.KeptNodes.{kept-inserts}
 use Rattle.hashlink_model.proofs.NodeCounts.{node_count-puts}
 use Rattle.hashlink_commands.specs.declared.commands.CursorStep.{CursorStep}

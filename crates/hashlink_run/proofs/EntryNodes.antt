@@ -6,7 +6,7 @@ use Rattle.std.proofs.Common.{MatchOption}
 use Rattle.hashlink_model.specs.Entries.{place_of, moved_at, set_key_at}
 use Rattle.hashlink_model.specs.Entry.{insert_value, insert_entry, replace_entry, VacantInserts}
 use Rattle.hashlink_model.specs.MapState.{MapState, Removes, node_count, MovesAt}
-use Rattle.hashlink_model.specs.Peak.{KeepsNodes}
+use Rattle.hashlink_model.specs.MapState.{KeepsNodes}
 use Rattle.hashlink_model.proofs.KeptNodes.{kept-changes, kept-inserts}
 use Rattle.hashlink_model.proofs.NodeCounts.{node_count-removes}
 use Rattle.hashlink_model.proofs.Occupied.{length-moved_at, length-insert_value, length-insert_entry}

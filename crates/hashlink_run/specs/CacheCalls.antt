@@ -3,10 +3,10 @@ use Rattle.std.specs.Prelude.{◌≡◌, ℕ, ◌≤◌, Bool, List, [], ◌∷�
 use Rattle.std.specs.Map.{lookup, lookup_entry}
 use Rattle.std.specs.Option.{option_map_or}
 use Rattle.hashlink_model.specs.Cache.{CacheState, OnMap, CacheInserts, CacheUses}
-use Rattle.hashlink_model.specs.CacheRuns.{CacheEvent, after_event, after_events, answers}
-use Rattle.hashlink_model.specs.CacheRuns as event
+use Rattle.hashlink_history.specs.CacheRuns.{CacheEvent, after_event, after_events, answers}
+use Rattle.hashlink_history.specs.CacheRuns as event
 use Rattle.hashlink_model.specs.Entries.{put}
-use Rattle.hashlink_model.specs.History.{Passed, Length, peak}
+use Rattle.hashlink_history.specs.Peak.{Passed, Length, peak}
 use Rattle.hashlink_model.specs.MapState.{Grows, MayRefuse, node_count}
 use Rattle.hashlink_model.specs.Steps.{RemovesKey}
 use Rattle.hashlink_lru.specs.Cached.{empty_cache}

@@ -4,9 +4,9 @@ use Rattle.std.specs.Prelude.{Option, Some, is_some, is_none, slice_get}
 use Rattle.std.specs.List.{AllZip, count_by}
 use Rattle.std.specs.Map.{lookup}
 use Rattle.std.specs.Set.{is_member}
-use Rattle.hashlink_model.specs.CacheRuns.{CacheEvent, key_of, used_keys, NoUse, NoRemoval}
-use Rattle.hashlink_model.specs.History.{reuse_distance, HoldsRecent, cache_misses, Schedule, misses}
-use Rattle.hashlink_model.specs.Inclusion.{IsEndOf, SameKey, SameEntry, AlsoFinds, FindsTheSame}
+use Rattle.hashlink_history.specs.CacheRuns.{CacheEvent, key_of, used_keys, NoUse, NoRemoval}
+use Rattle.hashlink_history.specs.History.{reuse_distance, HoldsRecent, cache_misses, Schedule, misses}
+use Rattle.hashlink_history.specs.Inclusion.{IsEndOf, SameKey, SameEntry, AlsoFinds, FindsTheSame}
 
 -- the key was used, and fewer than c others since
 abbrev pub is_recent : {K : Type 0} → (K → K → Bool) → ℕ → List K → K → Bool

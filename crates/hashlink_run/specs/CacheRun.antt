@@ -4,8 +4,8 @@ use Rattle.std.specs.Prelude.{take}
 use Rattle.std.specs.Prelude.{drop, slice_get, Some}
 use Rattle.std.specs.List.{AllPass}
 use Rattle.hashlink_model.specs.Cache.{CacheState, IsWithin}
-use Rattle.hashlink_model.specs.CacheRuns as event
-use Rattle.hashlink_model.specs.History.{Passed, Length, peak}
+use Rattle.hashlink_history.specs.CacheRuns as event
+use Rattle.hashlink_history.specs.Peak.{Passed, Length, peak}
 use Rattle.hashlink_model.specs.MapState.{MayRefuse, node_count}
 use Rattle.hashlink_commands.specs.declared.cache_commands.CacheCommand.{CacheCommand}
 use Rattle.hashlink_commands.specs.declared.cache_commands.CacheCommand.TheVariants.{Insert, Use, Entry}

@@ -2,7 +2,7 @@
 use Rattle.std.specs.Prelude.{◌≡◌, ◌⊎◌, ℕ, ◌+◌, ◌<◌, ◌≤◌, Bool, true, false, List, [], ◌∷◌, length, take}
 use Rattle.std.specs.Prelude.{drop, slice_get, Some}
 use Rattle.std.specs.List.{AllPass}
-use Rattle.hashlink_model.specs.History.{Passed, Length, Shrunk, peak}
+use Rattle.hashlink_history.specs.Peak.{Passed, Length, Shrunk, peak}
 use Rattle.hashlink_model.specs.MapState.{MapState, node_count, MayRefuse}
 use Rattle.hashlink_commands.specs.declared.commands.Command.{Command}
 use Rattle.hashlink_commands.specs.declared.commands.Command.TheVariants.{Clear, Shrink}

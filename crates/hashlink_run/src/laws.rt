@@ -2,7 +2,7 @@
 //! body: its contract is the statement.
 ghost use Rattle.std.specs.Prelude.{◌≡◌, ◌≤◌, ℕ, Bool, List, [], filter};
 ghost use Rattle.hashlink_model.specs.Cache.{CacheState};
-ghost use Rattle.hashlink_model.specs.CacheRuns.{CacheEvent, after_events, answers};
+ghost use Rattle.hashlink_history.specs.CacheRuns.{CacheEvent, after_events, answers};
 ghost use Rattle.hashlink_model.specs.MapState.{MapState};
 ghost use Rattle.hashlink_model.specs.Steps.{KeepsOnly};
 ghost use Rattle.hashlink_commands.specs.declared.cache_commands.CacheCommand.{CacheCommand};

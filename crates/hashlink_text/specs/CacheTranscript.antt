@@ -1,7 +1,7 @@
 -- What answers a line to a cache, and a line to two caches.
 use Rattle.std.specs.Prelude.{◌≡◌, ℕ, List, ◌∷◌, ◌++◌, length, codes, decimal, nat_eq, Option, None, Some}
 use Rattle.hashlink_model.specs.Cache.{CacheState}
-use Rattle.hashlink_model.specs.CacheRuns.{answer_to, after_event}
+use Rattle.hashlink_history.specs.CacheRuns.{answer_to, after_event}
 use Rattle.hashlink_spelling.specs.CachesSay.{cache_says, pair_says}
 use Rattle.hashlink_commands.specs.declared.cache_commands.PairCommand.{PairCommand}
 use Rattle.hashlink_spelling.specs.declared.cache_line.CacheLine.{CacheLine}

@@ -1,4 +1,4 @@
-use Rattle.hashlink_model.proofs.CacheRuns.{cache_use-at_most}
+use Rattle.hashlink_model.proofs.Caches.{cache_use-at_most}
 use Rattle.hashlink_model.proofs.CacheBounds.{within-inserts, within-gets, within-gets_and_writes}
 use Rattle.hashlink_model.proofs.CacheBounds.{within-removes}
 use Rattle.hashlink_model.proofs.CacheBounds.{within-pops_front, within-pops_back, within-changes}

@@ -1,7 +1,7 @@
 use Rattle.std.proofs.Common.{◌≡◌, ◌++◌, [], ◌∷◌, codes, decimal, nat_eq, refl, sym, ap, ap₂, ◌∙◌}
 use Rattle.std.proofs.Common.{string_bytes}
 use Rattle.std.proofs.lemmas.Result.{on_ok_weaker}
-use Rattle.hashlink_model.specs.CacheRuns.{answer_to}
+use Rattle.hashlink_history.specs.CacheRuns.{answer_to}
 use Rattle.hashlink_lru.specs.Cached.{entries_in, state_in}
 use Rattle.hashlink_run.specs.CacheCalls.{event_of}
 use Rattle.hashlink_text.specs.CacheTranscript.{Held, answers_shown}

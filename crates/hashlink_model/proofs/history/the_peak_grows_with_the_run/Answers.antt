@@ -1,8 +1,0 @@
-use Rattle.hashlink_model.proofs.Peaks.{peak-length, peak-shrink}
-use Rattle.hashlink_model.proofs.history.the_peak_grows_with_the_run.Goals as goal
-
-pub returns : goal.returns
-returns c = record {
-  length = peak-length;
-  shrink = peak-shrink;
-}
