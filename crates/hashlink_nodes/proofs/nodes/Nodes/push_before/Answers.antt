@@ -1,12 +1,16 @@
-use Rattle.std.proofs.Common.{◌+◌, ◌-◌, ◌<◌, ◌≡◌, drop, ap, sym, subst, ◌∙◌, arith}
+use Rattle.std.proofs.Common.{◌+◌, ◌-◌, ◌≡◌, true, None, ap, sym, subst, ◌∙◌, drop, arith}
 use Rattle.std.specs.Prelude.{OnOk}
 use Rattle.std.proofs.lemmas.List.{nil_from_length}
 use Rattle.hashlink_nodes.specs.Cells.{state_of}
-use Rattle.hashlink_nodes.specs.Ring.{held}
-use Rattle.hashlink_nodes.proofs.Sound.{facts, opened, apart, none_some}
-use Rattle.hashlink_nodes.proofs.Pushing.{first_spare, with_free, ready_spare, pushes, pushed, push_writes}
+use Rattle.hashlink_nodes.specs.Ring.{held, put_before}
+use Rattle.hashlink_nodes.proofs.Sound.{Leaves, facts, opened, apart, none_some}
+use Rattle.hashlink_nodes.proofs.Pushing.{Ready, Pushes, first_spare, with_free, ready_spare, pushes, pushed}
+use Rattle.hashlink_nodes.proofs.Pushing.{push_writes}
+use Rattle.hashlink_nodes.proofs.nodes.Nodes.push_before.Given as given
+use Rattle.hashlink_nodes.proofs.nodes.Nodes.push_before.Goals.{After-unwrap-guard, After-hold, After-attach}
 use Rattle.hashlink_nodes.proofs.nodes.Nodes.push_before.Goals as goal
 
+-- ---- no node is spare
 pub push_new-requires-clause-none : goal.push_new-requires-clause-none
 push_new-requires-clause-none g c =
     nil_from_length c.args.self.now.free
@@ -34,213 +38,118 @@ returns-then-self-eq0-clause-succeeds g c =
       c.if-self-eq0.true,
     ))
 
-pub next-first_spare-requires : goal.next-first_spare-requires
-next-first_spare-requires g c =
-    let some : 0 < c.self.inside.spare = omega (arith, c.if-self-eq0.false) in
-    (first_spare (state_of c.self.inside.cells) c.unwrap-guard.result c.self.inside.first_spare
+-- ---- the first spare node is taken
+first : (g : given.Over) (c : After-unwrap-guard g)
+    → ((state_of c.self.inside.cells).has c.self.inside.first_spare ≡ true)
+    × ((state_of c.self.inside.cells).held c.self.inside.first_spare ≡ None)
+first g c =
+    first_spare (state_of c.self.inside.cells) c.unwrap-guard.result c.self.inside.first_spare
     c.self.inside.len c.self.inside.spare
     (opened (state_of c.self.inside.cells) c.self.inside.guard c.unwrap-guard.result c.self.inside.first_spare
-    c.self.inside.len c.self.inside.spare c.self.invariant c.unwrap-guard.ensures c.args.self.now c.self.view_is).sound
-    some).0
+    c.self.inside.len c.self.inside.spare c.self.invariant c.unwrap-guard.ensures c.args.self.now
+    c.self.view_is).sound
+    (omega (arith, c.if-self-eq0.false))
+
+pub next-first_spare-requires : goal.next-first_spare-requires
+next-first_spare-requires g c = (first g (goal.at.next-first_spare-requires g c).After-unwrap-guard).0
 
 pub hold-requires-clause-has : goal.hold-requires-clause-has
-hold-requires-clause-has g c =
-    let some : 0 < c.self.inside.spare = omega (arith, c.if-self-eq0.false) in
-    (first_spare (state_of c.self.inside.cells) c.unwrap-guard.result c.self.inside.first_spare
-    c.self.inside.len c.self.inside.spare
-    (opened (state_of c.self.inside.cells) c.self.inside.guard c.unwrap-guard.result c.self.inside.first_spare
-    c.self.inside.len c.self.inside.spare c.self.invariant c.unwrap-guard.ensures c.args.self.now c.self.view_is).sound
-    some).0
+hold-requires-clause-has g c = (first g (goal.at.hold-requires-clause-has g c).After-unwrap-guard).0
 
 pub unreachable-requires : goal.unreachable-requires
 unreachable-requires g c =
-    let some : 0 < c.self.inside.spare = omega (arith, c.if-self-eq0.false) in
     none_some
-    (sym
-    (first_spare (state_of c.self.inside.cells) c.unwrap-guard.result c.self.inside.first_spare
-    c.self.inside.len c.self.inside.spare
-    (opened (state_of c.self.inside.cells) c.self.inside.guard c.unwrap-guard.result c.self.inside.first_spare
-    c.self.inside.len c.self.inside.spare c.self.invariant c.unwrap-guard.ensures c.args.self.now c.self.view_is).sound
-    some).1
-    ∙ sym c.hold.ensures.was ∙ c.in-Some.is)
+    (sym (first g (goal.at.unreachable-requires g c).After-unwrap-guard).1 ∙ sym c.hold.ensures.was ∙ c.in-Some.is)
+
+-- ---- it is ready, and goes in
+ready : (g : given.Over) (c : After-hold g)
+    → Ready (state_of c.hold.new.self) c.unwrap-guard.result c.next-first_spare.result c.self.inside.first_spare
+    (held c.args.number c.args.key c.args.value) c.self.inside.len (c.self.inside.spare - 1)
+    (with_free c.args.self.now (drop 1 c.args.self.now.free))
+ready g c =
+    let o = opened (state_of c.self.inside.cells) c.self.inside.guard c.unwrap-guard.result
+    c.self.inside.first_spare c.self.inside.len c.self.inside.spare c.self.invariant c.unwrap-guard.ensures
+    c.args.self.now c.self.view_is in
+    ready_spare (state_of c.self.inside.cells) (state_of c.hold.new.self) c.unwrap-guard.result
+    c.self.inside.first_spare c.next-first_spare.result c.self.inside.len c.self.inside.spare c.args.self.now
+    (held c.args.number c.args.key c.args.value) o.sound o.view (omega (arith, c.if-self-eq0.false))
+    c.next-first_spare.ensures c.hold.ensures.is
+
+goes : (g : given.Over) (c : After-hold g)
+    → Pushes (state_of c.hold.new.self) c.unwrap-guard.result c.next-first_spare.result
+    c.self.inside.first_spare
+    (held c.args.number c.args.key c.args.value) c.self.inside.len (c.self.inside.spare - 1)
+    (with_free c.args.self.now (drop 1 c.args.self.now.free)) c.args.place
+goes g c =
+    pushes (state_of c.hold.new.self) c.unwrap-guard.result c.next-first_spare.result
+    c.self.inside.first_spare
+    (held c.args.number c.args.key c.args.value) c.self.inside.len (c.self.inside.spare - 1)
+    (with_free c.args.self.now (drop 1 c.args.self.now.free)) c.args.place (ready g c) c.requires.place
 
 pub prev-prev-requires : goal.prev-prev-requires
 prev-prev-requires g c =
-    let some : 0 < c.self.inside.spare = omega (arith, c.if-self-eq0.false) in
     ap (state_of c.hold.new.self).has c.unwrap_or-next.ensures
-    ∙
-    (pushes (state_of c.hold.new.self) c.unwrap-guard.result c.next-first_spare.result c.self.inside.first_spare
-    (held c.args.number c.args.key c.args.value) c.self.inside.len (c.self.inside.spare - 1)
-    (with_free c.args.self.now (drop 1 c.args.self.now.free)) c.args.place
-    (ready_spare (state_of c.self.inside.cells) (state_of c.hold.new.self) c.unwrap-guard.result
-    c.self.inside.first_spare c.next-first_spare.result c.self.inside.len c.self.inside.spare c.args.self.now
-    (held c.args.number c.args.key c.args.value)
-    (opened (state_of c.self.inside.cells) c.self.inside.guard c.unwrap-guard.result c.self.inside.first_spare
-    c.self.inside.len c.self.inside.spare c.self.invariant c.unwrap-guard.ensures c.args.self.now c.self.view_is).sound
-    (opened (state_of c.self.inside.cells) c.self.inside.guard c.unwrap-guard.result c.self.inside.first_spare
-    c.self.inside.len c.self.inside.spare c.self.invariant c.unwrap-guard.ensures c.args.self.now c.self.view_is).view
-    some c.next-first_spare.ensures c.hold.ensures.is)
-    c.requires.place).has_next
+    ∙ (goes g (goal.at.prev-prev-requires g c).After-hold).has_next
 
 pub attach-requires-clause-node : goal.attach-requires-clause-node
-attach-requires-clause-node g c =
-    let some : 0 < c.self.inside.spare = omega (arith, c.if-self-eq0.false) in
-    (pushes (state_of c.hold.new.self) c.unwrap-guard.result c.next-first_spare.result c.self.inside.first_spare
-    (held c.args.number c.args.key c.args.value) c.self.inside.len (c.self.inside.spare - 1)
-    (with_free c.args.self.now (drop 1 c.args.self.now.free)) c.args.place
-    (ready_spare (state_of c.self.inside.cells) (state_of c.hold.new.self) c.unwrap-guard.result
-    c.self.inside.first_spare c.next-first_spare.result c.self.inside.len c.self.inside.spare c.args.self.now
-    (held c.args.number c.args.key c.args.value)
-    (opened (state_of c.self.inside.cells) c.self.inside.guard c.unwrap-guard.result c.self.inside.first_spare
-    c.self.inside.len c.self.inside.spare c.self.invariant c.unwrap-guard.ensures c.args.self.now c.self.view_is).sound
-    (opened (state_of c.self.inside.cells) c.self.inside.guard c.unwrap-guard.result c.self.inside.first_spare
-    c.self.inside.len c.self.inside.spare c.self.invariant c.unwrap-guard.ensures c.args.self.now c.self.view_is).view
-    some c.next-first_spare.ensures c.hold.ensures.is)
-    c.requires.place).has_node
+attach-requires-clause-node g c = (goes g (goal.at.attach-requires-clause-node g c).After-hold).has_node
 
 pub attach-requires-clause-prev : goal.attach-requires-clause-prev
 attach-requires-clause-prev g c =
-    let some : 0 < c.self.inside.spare = omega (arith, c.if-self-eq0.false) in
     ap (state_of c.hold.new.self).has
     (c.prev-prev.ensures ∙ ap (state_of c.hold.new.self).prev c.unwrap_or-next.ensures)
-    ∙
-    (pushes (state_of c.hold.new.self) c.unwrap-guard.result c.next-first_spare.result c.self.inside.first_spare
-    (held c.args.number c.args.key c.args.value) c.self.inside.len (c.self.inside.spare - 1)
-    (with_free c.args.self.now (drop 1 c.args.self.now.free)) c.args.place
-    (ready_spare (state_of c.self.inside.cells) (state_of c.hold.new.self) c.unwrap-guard.result
-    c.self.inside.first_spare c.next-first_spare.result c.self.inside.len c.self.inside.spare c.args.self.now
-    (held c.args.number c.args.key c.args.value)
-    (opened (state_of c.self.inside.cells) c.self.inside.guard c.unwrap-guard.result c.self.inside.first_spare
-    c.self.inside.len c.self.inside.spare c.self.invariant c.unwrap-guard.ensures c.args.self.now c.self.view_is).sound
-    (opened (state_of c.self.inside.cells) c.self.inside.guard c.unwrap-guard.result c.self.inside.first_spare
-    c.self.inside.len c.self.inside.spare c.self.invariant c.unwrap-guard.ensures c.args.self.now c.self.view_is).view
-    some c.next-first_spare.ensures c.hold.ensures.is)
-    c.requires.place).has_prev
+    ∙ (goes g (goal.at.attach-requires-clause-prev g c).After-hold).has_prev
 
 pub attach-requires-clause-next : goal.attach-requires-clause-next
 attach-requires-clause-next g c =
-    let some : 0 < c.self.inside.spare = omega (arith, c.if-self-eq0.false) in
     ap (state_of c.hold.new.self).has c.unwrap_or-next.ensures
-    ∙
-    (pushes (state_of c.hold.new.self) c.unwrap-guard.result c.next-first_spare.result c.self.inside.first_spare
-    (held c.args.number c.args.key c.args.value) c.self.inside.len (c.self.inside.spare - 1)
-    (with_free c.args.self.now (drop 1 c.args.self.now.free)) c.args.place
-    (ready_spare (state_of c.self.inside.cells) (state_of c.hold.new.self) c.unwrap-guard.result
-    c.self.inside.first_spare c.next-first_spare.result c.self.inside.len c.self.inside.spare c.args.self.now
-    (held c.args.number c.args.key c.args.value)
-    (opened (state_of c.self.inside.cells) c.self.inside.guard c.unwrap-guard.result c.self.inside.first_spare
-    c.self.inside.len c.self.inside.spare c.self.invariant c.unwrap-guard.ensures c.args.self.now c.self.view_is).sound
-    (opened (state_of c.self.inside.cells) c.self.inside.guard c.unwrap-guard.result c.self.inside.first_spare
-    c.self.inside.len c.self.inside.spare c.self.invariant c.unwrap-guard.ensures c.args.self.now c.self.view_is).view
-    some c.next-first_spare.ensures c.hold.ensures.is)
-    c.requires.place).has_next
+    ∙ (goes g (goal.at.attach-requires-clause-next g c).After-hold).has_next
 
 pub overflow_add-self : goal.overflow_add-self
 overflow_add-self g c =
     record {
-      fits = omega (
-        arith,
-        (facts (state_of c.self.inside.cells) c.self.inside.guard c.self.inside.first_spare c.self.inside.len
-            c.self.inside.spare c.self.invariant c.args.self.now c.self.view_is).small,
-      );
+      fits =
+          omega (
+            arith,
+            (facts (state_of c.self.inside.cells) c.self.inside.guard c.self.inside.first_spare
+                c.self.inside.len c.self.inside.spare c.self.invariant c.args.self.now c.self.view_is).small,
+          );
     }
 
-pub invariant_of-self : goal.invariant_of-self
-invariant_of-self g c =
-    let some : 0 < c.self.inside.spare = omega (arith, c.if-self-eq0.false) in
-    (pushed (state_of c.hold.new.self) (state_of c.attach.new.self) c.self.inside.guard c.unwrap-guard.result
+done : (g : given.Over) (c : After-attach g)
+    → Pushes (state_of c.hold.new.self) c.unwrap-guard.result c.next-first_spare.result
+    c.self.inside.first_spare
+    (held c.args.number c.args.key c.args.value) c.self.inside.len (c.self.inside.spare - 1)
+    (with_free c.args.self.now (drop 1 c.args.self.now.free)) c.args.place
+    → Leaves (state_of c.attach.new.self) c.self.inside.guard c.next-first_spare.result
+    (c.self.inside.len + 1) (c.self.inside.spare - 1)
+    (put_before c.args.place (c.self.inside.first_spare, held c.args.number c.args.key c.args.value)
+    c.args.self.now.entries)
+    (drop 1 c.args.self.now.free)
+done g c push =
+    pushed (state_of c.hold.new.self) (state_of c.attach.new.self) c.self.inside.guard c.unwrap-guard.result
     c.next-first_spare.result c.self.inside.first_spare c.prev-prev.result c.unwrap_or-next.result
     (held c.args.number c.args.key c.args.value) c.self.inside.len (c.self.inside.spare - 1)
     (with_free c.args.self.now (drop 1 c.args.self.now.free)) c.args.place c.unwrap-guard.ensures
-    (pushes (state_of c.hold.new.self) c.unwrap-guard.result c.next-first_spare.result c.self.inside.first_spare
-    (held c.args.number c.args.key c.args.value) c.self.inside.len (c.self.inside.spare - 1)
-    (with_free c.args.self.now (drop 1 c.args.self.now.free)) c.args.place
-    (ready_spare (state_of c.self.inside.cells) (state_of c.hold.new.self) c.unwrap-guard.result
-    c.self.inside.first_spare c.next-first_spare.result c.self.inside.len c.self.inside.spare c.args.self.now
-    (held c.args.number c.args.key c.args.value)
-    (opened (state_of c.self.inside.cells) c.self.inside.guard c.unwrap-guard.result c.self.inside.first_spare
-    c.self.inside.len c.self.inside.spare c.self.invariant c.unwrap-guard.ensures c.args.self.now c.self.view_is).sound
-    (opened (state_of c.self.inside.cells) c.self.inside.guard c.unwrap-guard.result c.self.inside.first_spare
-    c.self.inside.len c.self.inside.spare c.self.invariant c.unwrap-guard.ensures c.args.self.now c.self.view_is).view
-    some c.next-first_spare.ensures c.hold.ensures.is)
-    c.requires.place)
-    c.unwrap_or-next.ensures c.prev-prev.ensures c.attach.ensures).sound
+    push c.unwrap_or-next.ensures c.prev-prev.ensures c.attach.ensures
+
+pub invariant_of-self : goal.invariant_of-self
+invariant_of-self g c = let at = goal.at.invariant_of-self g c in (done g at.After-attach (goes g at.After-hold)).sound
 
 pub returns-clause-entries : goal.returns-clause-entries
-returns-clause-entries g c =
-    let some : 0 < c.self.inside.spare = omega (arith, c.if-self-eq0.false) in
-    (pushed (state_of c.hold.new.self) (state_of c.attach.new.self) c.self.inside.guard c.unwrap-guard.result
-    c.next-first_spare.result c.self.inside.first_spare c.prev-prev.result c.unwrap_or-next.result
-    (held c.args.number c.args.key c.args.value) c.self.inside.len (c.self.inside.spare - 1)
-    (with_free c.args.self.now (drop 1 c.args.self.now.free)) c.args.place c.unwrap-guard.ensures
-    (pushes (state_of c.hold.new.self) c.unwrap-guard.result c.next-first_spare.result c.self.inside.first_spare
-    (held c.args.number c.args.key c.args.value) c.self.inside.len (c.self.inside.spare - 1)
-    (with_free c.args.self.now (drop 1 c.args.self.now.free)) c.args.place
-    (ready_spare (state_of c.self.inside.cells) (state_of c.hold.new.self) c.unwrap-guard.result
-    c.self.inside.first_spare c.next-first_spare.result c.self.inside.len c.self.inside.spare c.args.self.now
-    (held c.args.number c.args.key c.args.value)
-    (opened (state_of c.self.inside.cells) c.self.inside.guard c.unwrap-guard.result c.self.inside.first_spare
-    c.self.inside.len c.self.inside.spare c.self.invariant c.unwrap-guard.ensures c.args.self.now c.self.view_is).sound
-    (opened (state_of c.self.inside.cells) c.self.inside.guard c.unwrap-guard.result c.self.inside.first_spare
-    c.self.inside.len c.self.inside.spare c.self.invariant c.unwrap-guard.ensures c.args.self.now c.self.view_is).view
-    some c.next-first_spare.ensures c.hold.ensures.is)
-    c.requires.place)
-    c.unwrap_or-next.ensures c.prev-prev.ensures c.attach.ensures).entries
+returns-clause-entries g c = let at = goal.at.returns-clause-entries g c in (done g at.After-attach (goes g at.After-hold)).entries
 
 pub returns-clause-free : goal.returns-clause-free
-returns-clause-free g c =
-    let some : 0 < c.self.inside.spare = omega (arith, c.if-self-eq0.false) in
-    (pushed (state_of c.hold.new.self) (state_of c.attach.new.self) c.self.inside.guard c.unwrap-guard.result
-    c.next-first_spare.result c.self.inside.first_spare c.prev-prev.result c.unwrap_or-next.result
-    (held c.args.number c.args.key c.args.value) c.self.inside.len (c.self.inside.spare - 1)
-    (with_free c.args.self.now (drop 1 c.args.self.now.free)) c.args.place c.unwrap-guard.ensures
-    (pushes (state_of c.hold.new.self) c.unwrap-guard.result c.next-first_spare.result c.self.inside.first_spare
-    (held c.args.number c.args.key c.args.value) c.self.inside.len (c.self.inside.spare - 1)
-    (with_free c.args.self.now (drop 1 c.args.self.now.free)) c.args.place
-    (ready_spare (state_of c.self.inside.cells) (state_of c.hold.new.self) c.unwrap-guard.result
-    c.self.inside.first_spare c.next-first_spare.result c.self.inside.len c.self.inside.spare c.args.self.now
-    (held c.args.number c.args.key c.args.value)
-    (opened (state_of c.self.inside.cells) c.self.inside.guard c.unwrap-guard.result c.self.inside.first_spare
-    c.self.inside.len c.self.inside.spare c.self.invariant c.unwrap-guard.ensures c.args.self.now c.self.view_is).sound
-    (opened (state_of c.self.inside.cells) c.self.inside.guard c.unwrap-guard.result c.self.inside.first_spare
-    c.self.inside.len c.self.inside.spare c.self.invariant c.unwrap-guard.ensures c.args.self.now c.self.view_is).view
-    some c.next-first_spare.ensures c.hold.ensures.is)
-    c.requires.place)
-    c.unwrap_or-next.ensures c.prev-prev.ensures c.attach.ensures).free
+returns-clause-free g c = let at = goal.at.returns-clause-free g c in (done g at.After-attach (goes g at.After-hold)).free
 
 pub returns-clause-apart : goal.returns-clause-apart
 returns-clause-apart g c =
-    let some : 0 < c.self.inside.spare = omega (arith, c.if-self-eq0.false) in
+    let at = goal.at.returns-clause-apart g c in
     apart (state_of c.attach.new.self) c.next-first_spare.result (c.self.inside.len + 1)
-    (c.self.inside.spare - 1) c.self.inside.guard
-    (pushed (state_of c.hold.new.self) (state_of c.attach.new.self) c.self.inside.guard c.unwrap-guard.result
-    c.next-first_spare.result c.self.inside.first_spare c.prev-prev.result c.unwrap_or-next.result
-    (held c.args.number c.args.key c.args.value) c.self.inside.len (c.self.inside.spare - 1)
-    (with_free c.args.self.now (drop 1 c.args.self.now.free)) c.args.place c.unwrap-guard.ensures
-    (pushes (state_of c.hold.new.self) c.unwrap-guard.result c.next-first_spare.result c.self.inside.first_spare
-    (held c.args.number c.args.key c.args.value) c.self.inside.len (c.self.inside.spare - 1)
-    (with_free c.args.self.now (drop 1 c.args.self.now.free)) c.args.place
-    (ready_spare (state_of c.self.inside.cells) (state_of c.hold.new.self) c.unwrap-guard.result
-    c.self.inside.first_spare c.next-first_spare.result c.self.inside.len c.self.inside.spare c.args.self.now
-    (held c.args.number c.args.key c.args.value)
-    (opened (state_of c.self.inside.cells) c.self.inside.guard c.unwrap-guard.result c.self.inside.first_spare
-    c.self.inside.len c.self.inside.spare c.self.invariant c.unwrap-guard.ensures c.args.self.now c.self.view_is).sound
-    (opened (state_of c.self.inside.cells) c.self.inside.guard c.unwrap-guard.result c.self.inside.first_spare
-    c.self.inside.len c.self.inside.spare c.self.invariant c.unwrap-guard.ensures c.args.self.now c.self.view_is).view
-    some c.next-first_spare.ensures c.hold.ensures.is)
-    c.requires.place)
-    c.unwrap_or-next.ensures c.prev-prev.ensures c.attach.ensures).sound
+    (c.self.inside.spare - 1) c.self.inside.guard (done g at.After-attach (goes g at.After-hold)).sound
 
 pub returns-clause-link_writes : goal.returns-clause-link_writes
 returns-clause-link_writes g c =
-    let some : 0 < c.self.inside.spare = omega (arith, c.if-self-eq0.false) in
     push_writes (state_of c.hold.new.self) (state_of c.attach.new.self) c.self.inside.first_spare
     c.prev-prev.result c.unwrap_or-next.result c.args.self.now.link_writes
-    (ready_spare (state_of c.self.inside.cells) (state_of c.hold.new.self) c.unwrap-guard.result
-    c.self.inside.first_spare c.next-first_spare.result c.self.inside.len c.self.inside.spare c.args.self.now
-    (held c.args.number c.args.key c.args.value)
-    (opened (state_of c.self.inside.cells) c.self.inside.guard c.unwrap-guard.result c.self.inside.first_spare
-    c.self.inside.len c.self.inside.spare c.self.invariant c.unwrap-guard.ensures c.args.self.now c.self.view_is).sound
-    (opened (state_of c.self.inside.cells) c.self.inside.guard c.unwrap-guard.result c.self.inside.first_spare
-    c.self.inside.len c.self.inside.spare c.self.invariant c.unwrap-guard.ensures c.args.self.now c.self.view_is).view
-    some c.next-first_spare.ensures c.hold.ensures.is).writes c.attach.ensures
+    (ready g (goal.at.returns-clause-link_writes g c).After-hold).writes c.attach.ensures
