@@ -1,10 +1,10 @@
 -- A use of a key that may be absent, and what is written through the value that it lends, which stands last.
 use Rattle.std.specs.Prelude.{◌≡◌, ℕ, zero, suc, ◌+◌, ◌-◌, ◌<◌, max, Bool, List, [], ◌∷◌, ◌++◌, length}
-use Rattle.std.specs.Prelude.{drop, slice_get, Option, None, Some, MatchOption, Ok, ◌≤◌}
+use Rattle.std.specs.Prelude.{drop, slice_get, Option, None, Some, MatchOption, Ok}
 use Rattle.std.specs.Cmp.{IsEquivalence}
 use Rattle.std.specs.Map.{lookup}
 use Rattle.std.specs.Option.{option_map, UnwrapsOrElse}
-use Rattle.std.proofs.Common.{refl, ap, ap₂, sym, subst, ◌∙◌, arith}
+use Rattle.std.proofs.Common.{refl, ap, sym, subst, ◌∙◌, arith}
 use Rattle.std.proofs.lemmas.Option.{none-some, same_Some}
 use Rattle.hashlink_model.specs.Cache.{CacheState, CacheGets, CacheGetsAndWrites}
 use Rattle.hashlink_model.specs.Cache.{KeepsLast, last_entries}
