@@ -1,4 +1,5 @@
-ghost use Rattle.std.specs.Prelude.{◌≡◌, ◌++◌, IfOk, OnOk, string_bytes};
+ghost use Rattle.std.specs.Prelude.{◌≡◌, [], ◌++◌, IfOk, IsOk, OnOk, string_bytes};
+ghost use Rattle.hashlink_spelling.specs.Lines.{lines_of};
 ghost use Rattle.hashlink_text.specs.Text.{IsTranscript};
 ghost use Rattle.hashlink_text.specs.Transcript.{ended, list_shown, read_shown, reply_shown, replies_shown};
 
@@ -16,9 +17,11 @@ use std::alloc::{AllocError, Global};
 ///
 /// It reads the text once, and each line costs what the method of the container costs that it names. If
 /// memory for the answer runs out, it returns `AllocError`. An insert that runs out of memory has a line in
-/// the answer, and the next line follows. But in the mode `pair` it returns `AllocError` then, too.
+/// the answer, and the next line follows. But in the mode `pair` it returns `AllocError` then, too. For a
+/// text without a line it needs no memory.
 pub fn run_text(alloc: Global, input: &[u8]) -> Result<Vec<u8>, AllocError>
-    ensures { IfOk result (λ text. IsTranscript input.now text.items) }
+    ensures answer { IfOk result (λ text. IsTranscript input.now text.items) }
+    ensures none { lines_of input.now ≡ [] → IsOk result }
 {
     let mut out = String::new(alloc);
     let mut lines = Lines::new(input);

@@ -9,14 +9,14 @@ use Rattle.hashlink_text.proofs.map_text.MapWithRepliesAnswersLines.answer_line.
 
 pub returns-in-None : goal.returns-in-None
 returns-in-None c =
-    let line = rw c.in-None.is at c.in_ok-command.ensures in
+    let line = rw c.in-None.is at c.in_ok-command.ensures.said in
     rw (sym line)
     (on_ok_weaker c.writeln.result (λ e. (codes "bad", (refl, refl), e)) c.writeln.ensures.bytes)
 
 pub returns-in_ok-answer_command-in-Some-Do : goal.returns-in_ok-answer_command-in-Some-Do
 returns-in_ok-answer_command-in-Some-Do c =
     let command = c.in-Some-Do.command in
-    let line = rw (c.in-Some-Do.is, c.in-Some-Do.field-0-is) at c.in_ok-command.ensures in
+    let line = rw (c.in-Some-Do.is, c.in-Some-Do.field-0-is) at c.in_ok-command.ensures.said in
     let answered = c.in_ok-answer_command-in-Some-Do.ensures.answered in
     let replies : c.deref.result.now ≡ answered.0 =
     c.deref.ensures.value ∙ answered.2 ∙ ap (λ old. old ++ answered.0) c.clear.ensures.items in
