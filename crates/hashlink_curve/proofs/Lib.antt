@@ -2,5 +2,6 @@
 pub mod Climbs
 pub mod FallsListed
 pub mod Histories
+pub mod MappedKeys
 pub mod Placing
 pub mod Sums

@@ -1,11 +1,17 @@
 //! Why there is no curve.
+ghost use Rattle.std.specs.Prelude.{◌≡◌};
+ghost use Rattle.misscurve.specs.declared.faults.Fault.TheVariants.{Memory};
+
+use std::alloc::AllocError;
 use std::fmt;
 
 /// Why a trace has no answer.
 #[derive(Clone, Copy, Debug, PartialEq, Eq)]
 pub enum Fault {
-    /// An option is none of those that `--help` names.
+    /// An option is none of those that `--help` names, or lacks its value.
     Options,
+    /// There is no random number for the hasher to begin with. Nothing was written.
+    Random,
     /// The trace could not be read to its end. Nothing was written.
     Reading,
     /// Memory ran out. Nothing was written.
@@ -14,13 +20,32 @@ pub enum Fault {
     Writing,
 }
 
+impl Fault {
+    /// Returns the exit status of the program: 2 where it was called wrongly, and else 1.
+    pub fn status(self) -> u8 {
+        match self {
+            Fault::Options => 2,
+            _ => 1,
+        }
+    }
+}
+
 impl fmt::Display for Fault {
     fn fmt<W: fmt::Write>(&self, f: &mut fmt::Formatter<W>) -> fmt::Result {
         match self {
             Fault::Options => write!(f, "misscurve: no such option, see misscurve --help"),
+            Fault::Random => write!(f, "misscurve: no random number"),
             Fault::Reading => write!(f, "misscurve: reading failed"),
             Fault::Memory => write!(f, "misscurve: no memory"),
             Fault::Writing => write!(f, "misscurve: writing failed"),
         }
+    }
+}
+
+impl From<AllocError> for Fault {
+    ghost from_gives = { λ _ fault. fault ≡ Memory };
+
+    fn from(_e: AllocError) -> Fault {
+        Fault::Memory
     }
 }

@@ -1,17 +1,21 @@
 //! Reads a trace, a key a line, and writes how often caches of every capacity miss that are given its keys.
 #![tactic(auto)]
 
+mod answers;
 mod faults;
 mod options;
 mod picture;
 mod report;
+#[cfg(test)]
+mod tests;
 mod trace;
 
+use answers::answer;
 use faults::Fault;
-use options::{Form, Options};
-use std::alloc::Global;
+use options::Options;
 use std::env;
-use std::io::{self, BufReader, BufWriter};
+use std::hash::RandomState;
+use std::io::{self, BufReader, BufWriter, ErrorKind};
 use std::process::ExitCode;
 
 fn main(rt: HostRuntime) -> ExitCode {
@@ -19,24 +23,30 @@ fn main(rt: HostRuntime) -> ExitCode {
         Ok(()) => ExitCode::SUCCESS,
         Err(fault) => {
             let _ = eprintln!(rt; "{fault}");
-            ExitCode::FAILURE
+            ExitCode::from(fault.status())
         }
     }
 }
 
 fn run(rt: &HostRuntime) -> Result<(), Fault> {
     let alloc = rt.alloc();
-    let arguments = env::args(rt).map_err(|_| Fault::Memory)?;
-    let options = Options::parse(arguments)?;
+    let arguments: Vec<String> = env::args(rt).map_err(fault_of)?.collect(alloc)?;
+    let words: Vec<&str> = arguments
+        .iter()
+        .skip(1)
+        .map(|word| word.as_str())
+        .collect(alloc)?;
+    let options = Options::parse(&words)?;
+    let hash_builder = RandomState::new(rt).map_err(|_| Fault::Random)?;
     let mut writer = BufWriter::new(alloc, io::writer(rt)).map_err(|_| Fault::Memory)?;
-    if options.form == Form::Help {
-        return report::write_help(&mut writer).map_err(|_| Fault::Writing);
+    let mut reader = BufReader::new(alloc, rt.reader()).map_err(|_| Fault::Memory)?;
+    answer(rt, alloc, options, hash_builder, &mut reader, &mut writer)
+}
+
+/// Why there are no arguments: they are to be UTF-8.
+fn fault_of(error: io::Error) -> Fault {
+    match error.kind() {
+        ErrorKind::OutOfMemory => Fault::Memory,
+        _ => Fault::Options,
     }
-    let reader = BufReader::new(alloc, rt.reader()).map_err(|_| Fault::Memory)?;
-    let curve = trace::curve_of(rt, alloc, reader, options.parts)?;
-    let written = match options.form {
-        Form::Picture => picture::write_picture(&mut writer, &curve, options.parts),
-        _ => report::write_table(&mut writer, &curve, options),
-    };
-    written.map_err(|_| Fault::Writing)
 }

@@ -1,6 +1,6 @@
 //! What the program is asked for.
+
 use crate::faults::Fault;
-use std::env::Args;
 
 /// What is written.
 #[derive(Clone, Copy, Debug, PartialEq, Eq)]
@@ -25,29 +25,36 @@ pub struct Options {
 }
 
 impl Options {
-    /// Reads the arguments after the program's name.
-    pub fn parse(arguments: Args) -> Result<Options, Fault> {
+    /// Reads the arguments. Help is what is asked for wherever it stands among them, whatever the others are.
+    pub fn parse(arguments: &[&str]) -> Result<Options, Fault> {
         let mut options = Options {
             form: Form::Table,
             parts: 1,
         };
-        let mut is_parts = false;
-        for argument in arguments.skip(1) {
-            let word = argument.as_str();
-            if is_parts {
-                options.parts = parts_of(word)?;
-                is_parts = false;
+        let mut wants_parts = false;
+        let mut is_wrong = false;
+        for word in arguments {
+            let word = *word;
+            if word == "--help" {
+                options.form = Form::Help;
+                return Ok(options);
+            }
+            if wants_parts {
+                wants_parts = false;
+                match parts_of(word) {
+                    Some(parts) => options.parts = parts,
+                    None => is_wrong = true,
+                }
                 continue;
             }
             match word {
                 "--all" => options.form = Form::WholeTable,
                 "--svg" => options.form = Form::Picture,
-                "--help" => options.form = Form::Help,
-                "--sample" => is_parts = true,
-                _ => return Err(Fault::Options),
+                "--sample" => wants_parts = true,
+                _ => is_wrong = true,
             }
         }
-        if is_parts {
+        if is_wrong || wants_parts {
             return Err(Fault::Options);
         }
         Ok(options)
@@ -55,12 +62,10 @@ impl Options {
 }
 
 /// The N of `1/N`, at least 1.
-fn parts_of(word: &str) -> Result<u64, Fault> {
-    let Some(number) = word.strip_prefix("1/") else {
-        return Err(Fault::Options);
-    };
+fn parts_of(word: &str) -> Option<u64> {
+    let number = word.strip_prefix("1/")?;
     match number.parse::<u64>() {
-        Ok(0) | Err(_) => Err(Fault::Options),
-        Ok(parts) => Ok(parts),
+        Ok(0) | Err(_) => None,
+        Ok(parts) => Some(parts),
     }
 }

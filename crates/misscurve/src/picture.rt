@@ -1,6 +1,7 @@
 //! The curve as a picture.
 use crate::report::{WHOLE, ratio_of};
 use hashlink_curve::MissCurve;
+use std::hash::{BuildHasher, Hash};
 use std::io::{self, Write};
 
 /// How many steps to the right a doubled capacity is.
@@ -37,17 +38,20 @@ fn down(ratio: u64) -> u64 {
 }
 
 /// Writes the picture: to the right the capacity, doubled at each line, and upwards the ratio of misses. The
-/// dashed line is that of the first uses of the keys, which every cache misses.
-pub fn write_picture<W: Write>(
+/// dashed line is that of the first uses of the keys, which every cache misses. Where one part of the keys was
+/// read, each number but the ratios is times the parts.
+pub fn write_picture<W: Write, K: Eq + Hash, S: BuildHasher>(
     writer: &mut W,
-    curve: &MissCurve<Vec<u8>>,
+    curve: &MissCurve<K, S>,
     parts: u64,
 ) -> io::Result<()> {
     let accesses = curve.accesses();
+    let uses = accesses.saturating_mul(parts);
     let keys = (curve.distinct() as u64).saturating_mul(parts);
     let width = across(keys).saturating_add(OCTAVE);
-    write_head(writer, width)?;
+    write_head(writer, width, uses, keys, note(parts))?;
     write_lines(writer, width)?;
+    write_axes(writer, width)?;
     let cold = down(ratio_of(curve.distinct() as u64, accesses));
     let first = down(ratio_of(accesses, accesses));
     write!(
@@ -59,30 +63,47 @@ pub fn write_picture<W: Write>(
         let x = across((capacity as u64).saturating_mul(parts));
         write!(writer, "H{x}V{}", down(ratio_of(misses, accesses)))?;
     }
-    let note = note(parts);
     writeln!(
         writer,
         "H{width}\" stroke=\"black\" stroke-width=\"2\" fill=\"none\"/>\n\
-         <text x=\"0\" y=\"-12\">misses of {accesses} uses of {keys} keys{note}</text>\n\
          </svg>"
     )?;
     writer.flush()
 }
 
-/// Writes how large the picture is, and its ground.
-fn write_head<W: Write>(writer: &mut W, width: u64) -> io::Result<()> {
-    let right = width.saturating_add(90);
-    writeln!(
-        writer,
-        "<svg xmlns=\"http://www.w3.org/2000/svg\" viewBox=\"-60 -30 {right} 480\" \
-         font-family=\"sans-serif\" font-size=\"11\">\n\
-         <rect x=\"-60\" y=\"-30\" width=\"100%\" height=\"100%\" fill=\"white\"/>"
-    )
-}
-
 /// What is said of a picture of some of the keys.
 fn note(parts: u64) -> &'static str {
     if parts > 1 { ", an estimate" } else { "" }
+}
+
+/// Writes how large the picture is, what it shows, and its ground.
+fn write_head<W: Write>(
+    writer: &mut W,
+    width: u64,
+    uses: u64,
+    keys: u64,
+    note: &str,
+) -> io::Result<()> {
+    let right = width.saturating_add(90);
+    writeln!(
+        writer,
+        "<svg xmlns=\"http://www.w3.org/2000/svg\" viewBox=\"-60 -30 {right} 480\" role=\"img\" \
+         font-family=\"sans-serif\" font-size=\"11\">\n\
+         <title>Misses of an LRU cache by its capacity: {uses} uses of {keys} keys{note}</title>\n\
+         <rect x=\"-60\" y=\"-30\" width=\"100%\" height=\"100%\" fill=\"white\"/>\n\
+         <text x=\"0\" y=\"-12\">misses of {uses} uses of {keys} keys{note}</text>"
+    )
+}
+
+/// Writes the names of the axes.
+fn write_axes<W: Write>(writer: &mut W, width: u64) -> io::Result<()> {
+    let middle = width / 2;
+    writeln!(
+        writer,
+        "<text x=\"{middle}\" y=\"438\" text-anchor=\"middle\">capacity, in keys</text>\n\
+         <text transform=\"rotate(-90)\" x=\"-200\" y=\"-44\" text-anchor=\"middle\">misses, in percent \
+         of the uses</text>"
+    )
 }
 
 /// Writes the lines of the capacities that are powers of two, and of each quarter of the misses.

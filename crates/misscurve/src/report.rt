@@ -1,6 +1,7 @@
 //! The curve as a table.
 use crate::options::{Form, Options};
 use hashlink_curve::MissCurve;
+use std::hash::{BuildHasher, Hash};
 use std::io::{self, Write};
 
 /// Of so many parts of all accesses the ratio of misses is told.
@@ -22,25 +23,27 @@ pub fn write_help<W: Write>(writer: &mut W) -> io::Result<()> {
          Reads a key a line, and writes how often an LRU cache of each capacity misses.\n\
          \x20 --all         each capacity at which the misses fall\n\
          \x20 --svg         a picture\n\
-         \x20 --sample 1/N  an estimate from one key in N"
+         \x20 --sample 1/N  an estimate from one key in N, each number times N\n\
+         \x20 --help        this text, and nothing is read"
     )?;
     writer.flush()
 }
 
-/// Writes the table.
-pub fn write_table<W: Write>(
+/// Writes the table. Where one part of the keys was read, each number but the ratios is times the parts.
+pub fn write_table<W: Write, K: Eq + Hash, S: BuildHasher>(
     writer: &mut W,
-    curve: &MissCurve<Vec<u8>>,
+    curve: &MissCurve<K, S>,
     options: Options,
 ) -> io::Result<()> {
     if options.parts > 1 {
         writeln!(writer, "# an estimate from one key in {}", options.parts)?;
     }
     let accesses = curve.accesses();
+    let uses = accesses.saturating_mul(options.parts);
+    let keys = (curve.distinct() as u64).saturating_mul(options.parts);
     writeln!(
         writer,
-        "# {accesses} uses of {} keys\ncapacity misses ratio",
-        curve.distinct()
+        "# {uses} uses of {keys} keys\ncapacity misses ratio"
     )?;
     let mut row = Row {
         writer,

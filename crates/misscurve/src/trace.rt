@@ -1,55 +1,94 @@
 //! How a trace is read.
+ghost use Rattle.std.specs.Prelude.{◌≡◌, ◌<◌, length, IfOk, OnOk, IfSome};
+ghost use Rattle.std.specs.Bool.{OnTrue, OnFalse};
+ghost use Rattle.std.specs.Io.BufRead.{take_through, strip_last, DropsThrough};
+ghost use Rattle.std.specs.Io.KnownBytes.{IsAtEnd};
+ghost use Rattle.misscurve.specs.Trace.{CountsLine, CountsTrace, is_picked, mixed};
+
 use crate::faults::Fault;
 use hashlink_curve::MissCurve;
-use std::alloc::Global;
+use std::alloc::{AllocError, Global};
+use std::hash::BuildHasher;
 use std::io::{self, BufRead, Eprint, ErrorKind};
 
 /// After so many lines it is said how far the reading is.
 const PROGRESS: u64 = 1 << 22;
 
 /// Returns the curve of the keys that the reader has, a line each, or of those in one of so many parts. A
-/// trace is not kept, only its distinct keys.
-pub fn curve_of<B: BufRead + Drop>(
+/// trace is not kept, only its distinct keys: each is allocated once, and no line is.
+///
+/// Whether a read or an allocation fails is up to the reader and the memory, and no clause says it.
+pub fn curve_of<B: BufRead, S: BuildHasher + Drop>(
     rt: &impl Eprint,
     alloc: Global,
-    reader: B,
+    hash_builder: S,
+    reader: &mut B,
     parts: u64,
-) -> Result<MissCurve<Vec<u8>>, Fault> {
-    let mut curve = MissCurve::new(alloc);
-    read_all(rt, alloc, reader, parts, &mut curve)?;
-    Ok(curve)
-}
-
-/// Records each line that the reader has.
-fn read_all<B: BufRead + Drop>(
-    rt: &impl Eprint,
-    alloc: Global,
-    reader: B,
-    parts: u64,
-    curve: &mut MissCurve<Vec<u8>>,
-) -> Result<(), Fault> {
-    let mut lines = 0u64;
-    for line in reader.split(alloc, b'\n') {
-        record(curve, line, parts)?;
-        lines = lines.saturating_add(1);
-        if lines % PROGRESS == 0 {
-            tell(rt, lines, curve);
+) -> Result<MissCurve<Vec<u8>, S>, Fault>
+    // If the bytes of the reader are known, the lines that they have are counted, and nothing else.
+    ensures counted { IfOk result (λ curve. IfSome (B.remaining reader.old)
+        (λ bytes. CountsTrace parts bytes curve)) }
+    ensures end { OnOk result (IfSome (B.remaining reader.old) (λ _. IsAtEnd (B.remaining reader.new))) }
+{
+    let mut curve = MissCurve::with_hasher(alloc, hash_builder);
+    let mut line = Vec::new(alloc);
+    for count in 1..u64::MAX {
+        if !read_line(reader, &mut line)? {
+            return Ok(curve);
+        }
+        record(&mut curve, alloc, without_end(&line), parts)?;
+        if count % PROGRESS == 0 {
+            tell(rt, count, curve.distinct());
         }
     }
+    Err(Fault::Reading) // more lines than are counted
+}
+
+/// Reads the next line, with the byte that ends it, and returns whether there was one.
+fn read_line<B: BufRead>(reader: &mut B, line: &mut Vec<u8>) -> Result<bool, Fault>
+    ensures read { OnOk result (IfSome (B.remaining reader.old)
+        (λ bytes. line.new.items ≡ take_through 10 bytes)) }
+    ensures rest { OnOk result (DropsThrough (B.remaining reader.old) (B.remaining reader.new) 10) }
+    ensures more { IfOk result (λ more. OnTrue more (0 < length line.new.items)) }
+    ensures end { IfOk result (λ more. OnFalse more (IsAtEnd (B.remaining reader.old))) }
+{
+    line.clear();
+    match reader.read_until(b'\n', line) {
+        Ok(count) => Ok(count > 0),
+        Err(error) => Err(fault_of(error)),
+    }
+}
+
+/// Returns the line without the byte that ends it, if it has one.
+fn without_end(line: &[u8]) -> &[u8]
+    ensures { result.now ≡ strip_last 10 line.now }
+{
+    match line.split_last() {
+        Some((b'\n', front)) => front,
+        _ => line,
+    }
+}
+
+/// Records the line, if it falls in the part that is read. Only a new key is allocated.
+fn record<S: BuildHasher>(
+    curve: &mut MissCurve<Vec<u8>, S>,
+    alloc: Global,
+    line: &[u8],
+    parts: u64,
+) -> Result<(), AllocError>
+    ensures { OnOk result (CountsLine parts line.now curve.old curve.new) }
+{
+    if is_picked(line, parts) {
+        curve.record_with(line, || key_of(alloc, line))?;
+    }
     Ok(())
 }
 
-/// Records the key that was read, if it falls in the part that is read.
-fn record(
-    curve: &mut MissCurve<Vec<u8>>,
-    line: io::Result<Vec<u8>>,
-    parts: u64,
-) -> Result<(), Fault> {
-    let key = line.map_err(fault_of)?;
-    if is_in_part(&key, parts) && curve.record(key).is_err() {
-        return Err(Fault::Memory);
-    }
-    Ok(())
+/// Returns the line as a key.
+fn key_of(alloc: Global, line: &[u8]) -> Result<Vec<u8>, AllocError>
+    ensures { IfOk result (λ key. key.items ≡ line.now) }
+{
+    line.to_vec(alloc)
 }
 
 /// Why a line could not be read.
@@ -61,17 +100,21 @@ fn fault_of(error: io::Error) -> Fault {
 }
 
 /// Says how far the reading is.
-fn tell(rt: &impl Eprint, lines: u64, curve: &MissCurve<Vec<u8>>) {
-    let _ = eprintln!(rt; "misscurve: {lines} lines, {} keys", curve.distinct());
+fn tell(rt: &impl Eprint, lines: u64, keys: usize) {
+    let _ = eprintln!(rt; "misscurve: {lines} lines, {keys} keys");
 }
 
 /// Whether the key falls in the part that is read, which its bytes alone say.
-fn is_in_part(key: &[u8], parts: u64) -> bool {
+fn is_picked(key: &[u8], parts: u64) -> bool
+    ensures { result ≡ is_picked parts key.now }
+{
     parts <= 1 || mixed(key) % parts == 0
 }
 
 /// A number that spreads over the keys: the bytes multiplied in, and then the high bits brought down.
-fn mixed(key: &[u8]) -> u64 {
+fn mixed(key: &[u8]) -> u64
+    ensures { result ≡ mixed key.now }
+{
     let mut sum = 0xcbf2_9ce4_8422_2325u64;
     for byte in key {
         sum = (sum ^ *byte as u64).wrapping_mul(0x0000_0100_0000_01b3);

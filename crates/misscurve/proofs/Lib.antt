@@ -1,0 +1,2 @@
+-- Lemmas on the lines of a trace.
+pub mod Lines

@@ -1,0 +1,37 @@
+//! What is read and written for the options given.
+ghost use Rattle.std.specs.Prelude.{◌≡◌};
+ghost use Rattle.misscurve.specs.declared.options.Form.TheVariants.{Help};
+
+use crate::faults::Fault;
+use crate::options::{Form, Options};
+use crate::picture::write_picture;
+use crate::report::{write_help, write_table};
+use crate::trace::curve_of;
+use std::alloc::Global;
+use std::hash::BuildHasher;
+use std::io::{BufRead, Eprint, Write};
+
+/// Writes what the options ask for, of the trace that the reader has. For help nothing is read.
+pub fn answer<B: BufRead, W: Write, S: BuildHasher + Drop>(
+    rt: &impl Eprint,
+    alloc: Global,
+    options: Options,
+    hash_builder: S,
+    reader: &mut B,
+    writer: &mut W,
+) -> Result<(), Fault>
+    ensures help { options.form ≡ Help → reader.new ≡ reader.old }
+{
+    let written = match options.form {
+        Form::Help => write_help(writer),
+        Form::Picture => {
+            let curve = curve_of(rt, alloc, hash_builder, reader, options.parts)?;
+            write_picture(writer, &curve, options.parts)
+        }
+        Form::Table | Form::WholeTable => {
+            let curve = curve_of(rt, alloc, hash_builder, reader, options.parts)?;
+            write_table(writer, &curve, options)
+        }
+    };
+    written.map_err(|_| Fault::Writing)
+}
