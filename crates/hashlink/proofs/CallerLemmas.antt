@@ -36,14 +36,14 @@ use Rattle.hashlink_model.specs.Steps.{MovesMatchAndWrites}
 use Rattle.hashlink_model.specs.Steps.{MovesAndWrites}
 use Rattle.hashlink_model.specs.Walk.{first_of, last_of}
 use Rattle.hashlink_set.specs.Answers.{as_entry}
-use Rattle.hashlink_commands.specs.declared.commands.Command.{Command}
-use Rattle.hashlink_commands.specs.declared.commands.Command.TheVariants.{Insert, Remove}
-use Rattle.hashlink_commands.specs.declared.replies.Reply.{Reply}
-use Rattle.hashlink_commands.specs.declared.replies.Reply.TheVariants.{Value}
-use Rattle.hashlink_steps.specs.CallReplies.{insert_reply, is_refused}
-use Rattle.hashlink_steps.specs.Chain.{Answered, replies_of}
+use Rattle.hashlink_run.specs.declared.commands.Command.{Command}
+use Rattle.hashlink_run.specs.declared.commands.Command.TheVariants.{Insert, Remove}
+use Rattle.hashlink_run.specs.declared.replies.Reply.{Reply}
+use Rattle.hashlink_run.specs.declared.replies.Reply.TheVariants.{Value}
+use Rattle.hashlink_run.specs.CallReplies.{insert_reply, is_refused}
+use Rattle.hashlink_run.specs.Chain.{Answered, replies_of}
 use Rattle.hashlink_run.specs.Run.{LawfulRun, Run, ShownBy, TakesKeysWhereShorter, keeps_nodes}
-use Rattle.hashlink_steps.specs.Step.{KeepAsks, ReadBy, Step}
+use Rattle.hashlink_run.specs.Step.{KeepAsks, ReadBy, Step}
 use Rattle.hashlink_model.proofs.Distinct.{none_equal, none_others, IsEntries-middle, IsEntries-insert}
 use Rattle.hashlink_model.proofs.Puts.{none_without}
 use Rattle.hashlink_model.proofs.SetElements.{find-keys}

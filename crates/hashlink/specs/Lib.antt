@@ -41,8 +41,8 @@ pub use Rattle.hashlink_map.specs.Reading
 pub use Rattle.hashlink_map.specs.Standing
 pub use Rattle.hashlink_map.specs.TryInsert
 pub use Rattle.hashlink_map.specs.WritingWalk
-pub use Rattle.hashlink_algebra.specs.Elements as SetElements
-pub use Rattle.hashlink_algebra.specs.Walks as SetWalks
+pub use Rattle.hashlink_set.specs.Elements as SetElements
+pub use Rattle.hashlink_set.specs.Walks as SetWalks
 pub use Rattle.hashlink_set.specs.Answers as SetAnswers
 pub use Rattle.hashlink_set.specs.Called as SetCalled
 pub use Rattle.hashlink_set.specs.Cloned as SetCloned
@@ -56,23 +56,23 @@ pub use Rattle.hashlink_weighted.specs.Answers
 pub use Rattle.hashlink_weighted.specs.Lends as WeightedLends
 pub use Rattle.hashlink_weighted.specs.Weighed
 pub use Rattle.hashlink_curve.specs.Curve
-pub use Rattle.hashlink_spelling.specs.CachesSay
-pub use Rattle.hashlink_spelling.specs.Lines
-pub use Rattle.hashlink_spelling.specs.Says
+pub use Rattle.hashlink_text.specs.CachesSay
+pub use Rattle.hashlink_text.specs.Lines
+pub use Rattle.hashlink_text.specs.Says
 pub use Rattle.hashlink_run.specs.CacheCalls
 pub use Rattle.hashlink_run.specs.CacheLaws
 pub use Rattle.hashlink_run.specs.CacheRun
 pub use Rattle.hashlink_run.specs.CacheStep
 pub use Rattle.hashlink_text.specs.CacheTranscript
-pub use Rattle.hashlink_steps.specs.CallReplies
-pub use Rattle.hashlink_steps.specs.Chain
-pub use Rattle.hashlink_steps.specs.CursorSteps
-pub use Rattle.hashlink_steps.specs.EntrySteps
+pub use Rattle.hashlink_run.specs.CallReplies
+pub use Rattle.hashlink_run.specs.Chain
+pub use Rattle.hashlink_run.specs.CursorSteps
+pub use Rattle.hashlink_run.specs.EntrySteps
 pub use Rattle.hashlink_text.specs.Faults
-pub use Rattle.hashlink_steps.specs.Keeps
-pub use Rattle.hashlink_steps.specs.Reads
+pub use Rattle.hashlink_run.specs.Keeps
+pub use Rattle.hashlink_run.specs.Reads
 pub use Rattle.hashlink_run.specs.Run
-pub use Rattle.hashlink_steps.specs.Step
+pub use Rattle.hashlink_run.specs.Step
 pub use Rattle.hashlink_text.specs.Text
 pub use Rattle.hashlink_text.specs.Transcript
 pub use Rattle.hashlink_text.specs.WeightedTranscript

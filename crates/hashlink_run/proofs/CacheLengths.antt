@@ -17,19 +17,19 @@ use Rattle.hashlink_model.proofs.CacheBounds.{within-pops_front}
 use Rattle.hashlink_model.proofs.Caches.{front_evicted-at_most}
 use Rattle.hashlink_model.proofs.Occupied.{length-moved_at, length-insert_value, length-insert_entry}
 use Rattle.hashlink_model.proofs.Occupied.{length-replace_entry}
-use Rattle.hashlink_commands.specs.declared.cache_commands.CacheCommand.{CacheCommand}
-use Rattle.hashlink_commands.specs.declared.cache_commands.CacheCommand.TheVariants.{Insert, Use, Entry, Get}
-use Rattle.hashlink_commands.specs.declared.cache_commands.CacheCommand.TheVariants.{Peek}
-use Rattle.hashlink_commands.specs.declared.cache_commands.CacheCommand.TheVariants.{Remove, SetCapacity}
-use Rattle.hashlink_commands.specs.declared.cache_commands.CacheCommand.TheVariants.{Clear}
-use Rattle.hashlink_commands.specs.declared.cache_commands.CacheCommand.TheVariants.{RemoveLru}
-use Rattle.hashlink_commands.specs.declared.commands.EntryStep.{EntryStep}
-use Rattle.hashlink_commands.specs.declared.commands.EntryStep.TheVariants as step
-use Rattle.hashlink_commands.specs.declared.replies.Reply.{Reply}
+use Rattle.hashlink_run.specs.declared.cache_commands.CacheCommand.{CacheCommand}
+use Rattle.hashlink_run.specs.declared.cache_commands.CacheCommand.TheVariants.{Insert, Use, Entry, Get}
+use Rattle.hashlink_run.specs.declared.cache_commands.CacheCommand.TheVariants.{Peek}
+use Rattle.hashlink_run.specs.declared.cache_commands.CacheCommand.TheVariants.{Remove, SetCapacity}
+use Rattle.hashlink_run.specs.declared.cache_commands.CacheCommand.TheVariants.{Clear}
+use Rattle.hashlink_run.specs.declared.cache_commands.CacheCommand.TheVariants.{RemoveLru}
+use Rattle.hashlink_run.specs.declared.commands.EntryStep.{EntryStep}
+use Rattle.hashlink_run.specs.declared.commands.EntryStep.TheVariants as step
+use Rattle.hashlink_run.specs.declared.replies.Reply.{Reply}
 use Rattle.hashlink_run.specs.CacheRun.{names_no_entry, KeepsBounds}
 use Rattle.hashlink_run.specs.CacheStep.{CacheStep, CacheRun}
-use Rattle.hashlink_steps.specs.Chain.{Answered, state_after, after}
-use Rattle.hashlink_steps.specs.EntrySteps.{OccupiedStep, VacantStep, EntrySteps}
+use Rattle.hashlink_run.specs.Chain.{Answered, state_after, after}
+use Rattle.hashlink_run.specs.EntrySteps.{OccupiedStep, VacantStep, EntrySteps}
 use Rattle.hashlink_run.proofs.Chained.{Chain-take, Chain-drop, state_after-parts}
 use Rattle.hashlink_run.proofs.EntryNodes.{length_set_key}
 

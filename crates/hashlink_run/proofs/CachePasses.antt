@@ -12,20 +12,20 @@ use Rattle.hashlink_history.specs.Peak.{Passes, PassesInTurn}
 use Rattle.hashlink_model.proofs.KeptNodes.{kept-inserts, kept-keeps, kept-moves, kept-removes_key}
 use Rattle.hashlink_model.proofs.KeptNodes.{kept-pops_front}
 use Rattle.hashlink_history.proofs.Peaks.{passes-clears, passes_in_parts, within_the_peak}
-use Rattle.hashlink_commands.specs.declared.cache_commands.CacheCommand.{CacheCommand}
-use Rattle.hashlink_commands.specs.declared.cache_commands.CacheCommand.TheVariants.{Insert, Use, Entry, Get}
-use Rattle.hashlink_commands.specs.declared.cache_commands.CacheCommand.TheVariants.{Peek}
-use Rattle.hashlink_commands.specs.declared.cache_commands.CacheCommand.TheVariants.{Remove, SetCapacity}
-use Rattle.hashlink_commands.specs.declared.cache_commands.CacheCommand.TheVariants.{Clear}
-use Rattle.hashlink_commands.specs.declared.cache_commands.CacheCommand.TheVariants.{RemoveLru}
-use Rattle.hashlink_commands.specs.declared.replies.Reply.{Reply}
-use Rattle.hashlink_commands.specs.declared.replies.Reply.TheVariants.{Refused}
+use Rattle.hashlink_run.specs.declared.cache_commands.CacheCommand.{CacheCommand}
+use Rattle.hashlink_run.specs.declared.cache_commands.CacheCommand.TheVariants.{Insert, Use, Entry, Get}
+use Rattle.hashlink_run.specs.declared.cache_commands.CacheCommand.TheVariants.{Peek}
+use Rattle.hashlink_run.specs.declared.cache_commands.CacheCommand.TheVariants.{Remove, SetCapacity}
+use Rattle.hashlink_run.specs.declared.cache_commands.CacheCommand.TheVariants.{Clear}
+use Rattle.hashlink_run.specs.declared.cache_commands.CacheCommand.TheVariants.{RemoveLru}
+use Rattle.hashlink_run.specs.declared.replies.Reply.{Reply}
+use Rattle.hashlink_run.specs.declared.replies.Reply.TheVariants.{Refused}
 use Rattle.hashlink_run.specs.CacheCalls.{put_passed}
 use Rattle.hashlink_run.specs.CacheRun.{command_put, cache_passed, CacheWithinPeak}
 use Rattle.hashlink_run.specs.CacheStep.{CacheStep, CacheRun}
-use Rattle.hashlink_steps.specs.CallReplies.{insert_reply}
-use Rattle.hashlink_steps.specs.Chain.{Answered, state_after, after}
-use Rattle.hashlink_steps.specs.Reads.{Replies}
+use Rattle.hashlink_run.specs.CallReplies.{insert_reply}
+use Rattle.hashlink_run.specs.Chain.{Answered, state_after, after}
+use Rattle.hashlink_run.specs.Reads.{Replies}
 use Rattle.hashlink_run.proofs.Called.{passed_one, passed_two, used}
 use Rattle.hashlink_run.proofs.Chained.{Chain-take}
 use Rattle.hashlink_run.proofs.EntryNodes.{kept_unchanged, entry-keeps}

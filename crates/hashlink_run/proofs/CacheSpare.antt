@@ -13,19 +13,19 @@ use Rattle.hashlink_model.specs.Steps.{RemovesKey, PopsFront}
 use Rattle.hashlink_model.proofs.CacheBounds.{to_spare-kept, to_spare-dropped, to_spare-inserts}
 use Rattle.hashlink_model.proofs.KeptNodes.{kept-moves, kept-removes_key, kept-pops_front, kept-never_fall}
 use Rattle.hashlink_model.proofs.NodeCounts.{moves_length}
-use Rattle.hashlink_commands.specs.declared.cache_commands.CacheCommand.{CacheCommand}
-use Rattle.hashlink_commands.specs.declared.cache_commands.CacheCommand.TheVariants.{Insert, Use, Entry, Get}
-use Rattle.hashlink_commands.specs.declared.cache_commands.CacheCommand.TheVariants.{Peek}
-use Rattle.hashlink_commands.specs.declared.cache_commands.CacheCommand.TheVariants.{Remove, SetCapacity}
-use Rattle.hashlink_commands.specs.declared.cache_commands.CacheCommand.TheVariants.{Clear}
-use Rattle.hashlink_commands.specs.declared.cache_commands.CacheCommand.TheVariants.{RemoveLru}
-use Rattle.hashlink_commands.specs.declared.replies.Reply.{Reply}
-use Rattle.hashlink_commands.specs.declared.replies.Reply.TheVariants.{Refused}
+use Rattle.hashlink_run.specs.declared.cache_commands.CacheCommand.{CacheCommand}
+use Rattle.hashlink_run.specs.declared.cache_commands.CacheCommand.TheVariants.{Insert, Use, Entry, Get}
+use Rattle.hashlink_run.specs.declared.cache_commands.CacheCommand.TheVariants.{Peek}
+use Rattle.hashlink_run.specs.declared.cache_commands.CacheCommand.TheVariants.{Remove, SetCapacity}
+use Rattle.hashlink_run.specs.declared.cache_commands.CacheCommand.TheVariants.{Clear}
+use Rattle.hashlink_run.specs.declared.cache_commands.CacheCommand.TheVariants.{RemoveLru}
+use Rattle.hashlink_run.specs.declared.replies.Reply.{Reply}
+use Rattle.hashlink_run.specs.declared.replies.Reply.TheVariants.{Refused}
 use Rattle.hashlink_run.specs.CacheRun.{leaves_spare, DropsPair, TakesAllAfterADrop}
 use Rattle.hashlink_run.specs.CacheStep.{CacheStep, CacheRun}
-use Rattle.hashlink_steps.specs.CallReplies.{insert_reply, is_refused}
-use Rattle.hashlink_steps.specs.Chain.{Answered, state_after, after}
-use Rattle.hashlink_steps.specs.Reads.{Replies}
+use Rattle.hashlink_run.specs.CallReplies.{insert_reply, is_refused}
+use Rattle.hashlink_run.specs.Chain.{Answered, state_after, after}
+use Rattle.hashlink_run.specs.Reads.{Replies}
 use Rattle.hashlink_run.proofs.CachePuts.{step-puts}
 use Rattle.hashlink_run.proofs.Chained.{Chain-take}
 use Rattle.hashlink_run.proofs.NotRefused.{entry-taken}

@@ -5,10 +5,10 @@ use Rattle.std.specs.Map.{lookup, lookup_entry}
 use Rattle.std.specs.Option.{option_map}
 use Rattle.hashlink_model.specs.Cache.{CacheState, CacheInserts, CacheGets}
 use Rattle.hashlink_model.proofs.Finds.{lookup_is}
-use Rattle.hashlink_commands.specs.declared.cache_commands.CacheCommand.TheVariants.{Use}
-use Rattle.hashlink_commands.specs.declared.replies.Reply.TheVariants.{Seen, Refused}
+use Rattle.hashlink_run.specs.declared.cache_commands.CacheCommand.TheVariants.{Use}
+use Rattle.hashlink_run.specs.declared.replies.Reply.TheVariants.{Seen, Refused}
 use Rattle.hashlink_run.specs.CacheStep.{CacheStep}
-use Rattle.hashlink_steps.specs.Reads.{SaysOf}
+use Rattle.hashlink_run.specs.Reads.{SaysOf}
 
 module _ {K V B S : Type 0} (eq : K → K → Bool) (Says : K → V → B → Type 0) (old : CacheState K V S) (k : K)
     (v : V) where

@@ -2,17 +2,17 @@
 use Rattle.std.proofs.Common.{Bool, List, Option, Result, Ok, Err, MatchResult, ◌≡◌, [], ◌∷◌}
 use Rattle.std.specs.Map.{lookup_entry}
 use Rattle.hashlink_model.specs.Cache.{CacheState}
-use Rattle.hashlink_commands.specs.declared.cache_commands.CacheCommand.{CacheCommand}
-use Rattle.hashlink_commands.specs.declared.cache_commands.CacheCommand.TheVariants.{Insert, Use, Entry, Get}
-use Rattle.hashlink_commands.specs.declared.cache_commands.CacheCommand.TheVariants.{Peek}
-use Rattle.hashlink_commands.specs.declared.cache_commands.CacheCommand.TheVariants.{Remove, SetCapacity}
-use Rattle.hashlink_commands.specs.declared.cache_commands.CacheCommand.TheVariants.{Clear}
-use Rattle.hashlink_commands.specs.declared.cache_commands.CacheCommand.TheVariants.{RemoveLru}
-use Rattle.hashlink_commands.specs.declared.replies.Reply.{Reply}
-use Rattle.hashlink_commands.specs.declared.replies.Reply.TheVariants.{Refused}
+use Rattle.hashlink_run.specs.declared.cache_commands.CacheCommand.{CacheCommand}
+use Rattle.hashlink_run.specs.declared.cache_commands.CacheCommand.TheVariants.{Insert, Use, Entry, Get}
+use Rattle.hashlink_run.specs.declared.cache_commands.CacheCommand.TheVariants.{Peek}
+use Rattle.hashlink_run.specs.declared.cache_commands.CacheCommand.TheVariants.{Remove, SetCapacity}
+use Rattle.hashlink_run.specs.declared.cache_commands.CacheCommand.TheVariants.{Clear}
+use Rattle.hashlink_run.specs.declared.cache_commands.CacheCommand.TheVariants.{RemoveLru}
+use Rattle.hashlink_run.specs.declared.replies.Reply.{Reply}
+use Rattle.hashlink_run.specs.declared.replies.Reply.TheVariants.{Refused}
 use Rattle.hashlink_run.specs.CacheStep.{CacheStep}
-use Rattle.hashlink_steps.specs.Reads.{Replies}
-use Rattle.hashlink_steps.proofs.Wider.{replies-wider, entry-wider}
+use Rattle.hashlink_run.specs.Reads.{Replies}
+use Rattle.hashlink_run.proofs.Wider.{replies-wider, entry-wider}
 
 module _ {K V B : Type 0} (P Q : K → V → B → Type 0) (wider : (k : K) (v : V) (b : B) → P k v b → Q k v b)
     {S : Type 0} (eq : K → K → Bool) (old : CacheState K V S) (replies : List (Reply K V B))

@@ -22,7 +22,7 @@ use Rattle.hashlink_model.proofs.KeptNodes.{kept-moves, kept-removes_key}
 use Rattle.hashlink_history.proofs.Peaks.{passes-kept, passes_in_parts}
 use Rattle.hashlink_history.proofs.Peaks.{within_the_peak}
 use Rattle.hashlink_lru.specs.Cached.{empty_cache}
-use Rattle.hashlink_steps.specs.Chain.{Answered, Chain, Chained, state_after, replies_of}
+use Rattle.hashlink_run.specs.Chain.{Answered, Chain, Chained, state_after, replies_of}
 use Rattle.hashlink_run.specs.CacheCalls.{EventStep, put_passed, events_passed, RunsFromEmpty}
 use Rattle.hashlink_run.proofs.Chained.{Chain-take}
 use Rattle.hashlink_run.proofs.EntryNodes.{kept_unchanged}

@@ -2,7 +2,7 @@
 use Rattle.std.proofs.Common.{◌≡◌, ℕ, zero, suc, List, [], ◌∷◌, ◌++◌, take, drop, length, refl, ap, ◌∙◌}
 use Rattle.std.proofs.Common.{append-nil}
 use Rattle.std.proofs.lemmas.List.Concat.{flat_map-append}
-use Rattle.hashlink_steps.specs.Chain.{Answered, Chain, replies_of, state_after, after}
+use Rattle.hashlink_run.specs.Chain.{Answered, Chain, replies_of, state_after, after}
 
 module _ {R M : Type 0} where
   pub replies_of-more : (xs : List (Answered R M)) (x : Answered R M)

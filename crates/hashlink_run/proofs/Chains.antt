@@ -13,18 +13,18 @@ use Rattle.hashlink_model.proofs.KeptNodes.{kept-inserts, kept-replaces, kept-mo
 use Rattle.hashlink_model.proofs.KeptNodes.{kept-pops_front}
 use Rattle.hashlink_model.proofs.KeptNodes.{kept-keeps, kept-pops_back, kept-never_fall, spare_where_shorter}
 use Rattle.hashlink_history.proofs.Peaks.{passes-kept, passes-clears, passes-shrinks, within_the_peak}
-use Rattle.hashlink_commands.specs.declared.commands.Command.{Command}
-use Rattle.hashlink_commands.specs.declared.commands.Command.TheVariants.{Insert, InsertFront, Replace, Get}
-use Rattle.hashlink_commands.specs.declared.commands.Command.TheVariants.{Remove}
-use Rattle.hashlink_commands.specs.declared.commands.Command.TheVariants.{RemoveEntry, PopFront, PopBack}
-use Rattle.hashlink_commands.specs.declared.commands.Command.TheVariants.{ToFront}
-use Rattle.hashlink_commands.specs.declared.commands.Command.TheVariants.{ToBack}
-use Rattle.hashlink_commands.specs.declared.commands.Command.TheVariants.{Front, Back, Len, Clear, Shrink}
-use Rattle.hashlink_commands.specs.declared.commands.Command.TheVariants.{Keep}
-use Rattle.hashlink_commands.specs.declared.commands.Command.TheVariants.{Entry, Cursor}
-use Rattle.hashlink_commands.specs.declared.replies.Reply.{Reply}
-use Rattle.hashlink_steps.specs.Step.{Step}
-use Rattle.hashlink_steps.specs.Chain.{Answered, state_after, after}
+use Rattle.hashlink_run.specs.declared.commands.Command.{Command}
+use Rattle.hashlink_run.specs.declared.commands.Command.TheVariants.{Insert, InsertFront, Replace, Get}
+use Rattle.hashlink_run.specs.declared.commands.Command.TheVariants.{Remove}
+use Rattle.hashlink_run.specs.declared.commands.Command.TheVariants.{RemoveEntry, PopFront, PopBack}
+use Rattle.hashlink_run.specs.declared.commands.Command.TheVariants.{ToFront}
+use Rattle.hashlink_run.specs.declared.commands.Command.TheVariants.{ToBack}
+use Rattle.hashlink_run.specs.declared.commands.Command.TheVariants.{Front, Back, Len, Clear, Shrink}
+use Rattle.hashlink_run.specs.declared.commands.Command.TheVariants.{Keep}
+use Rattle.hashlink_run.specs.declared.commands.Command.TheVariants.{Entry, Cursor}
+use Rattle.hashlink_run.specs.declared.replies.Reply.{Reply}
+use Rattle.hashlink_run.specs.Step.{Step}
+use Rattle.hashlink_run.specs.Chain.{Answered, state_after, after}
 use Rattle.hashlink_run.specs.Run.{Run, Runs, passed_at, keeps_nodes, passed_by}
 use Rattle.hashlink_run.specs.Run.{StaysWithinPeak, TakesKeysWhereShorter}
 use Rattle.hashlink_run.proofs.Chained.{Chain-take, Chain-drop, state_after-parts}

@@ -6,12 +6,12 @@ use Rattle.hashlink_model.specs.MapState.{MapState, Inserts}
 use Rattle.hashlink_model.specs.MapState.{KeepsNodes}
 use Rattle.hashlink_model.proofs.KeptNodes.{kept-inserts}
 use Rattle.hashlink_model.proofs.NodeCounts.{node_count-puts}
-use Rattle.hashlink_commands.specs.declared.commands.CursorStep.{CursorStep}
-use Rattle.hashlink_commands.specs.declared.commands.CursorStep.TheVariants.{Next, Prev, Current, PeekNext}
-use Rattle.hashlink_commands.specs.declared.commands.CursorStep.TheVariants.{PeekPrev}
-use Rattle.hashlink_commands.specs.declared.commands.CursorStep.TheVariants.{Before, After}
-use Rattle.hashlink_commands.specs.declared.replies.Reply.{Reply}
-use Rattle.hashlink_steps.specs.CursorSteps.{CursorStepped, CursorWalks, CursorSteps, first_place}
+use Rattle.hashlink_run.specs.declared.commands.CursorStep.{CursorStep}
+use Rattle.hashlink_run.specs.declared.commands.CursorStep.TheVariants.{Next, Prev, Current, PeekNext}
+use Rattle.hashlink_run.specs.declared.commands.CursorStep.TheVariants.{PeekPrev}
+use Rattle.hashlink_run.specs.declared.commands.CursorStep.TheVariants.{Before, After}
+use Rattle.hashlink_run.specs.declared.replies.Reply.{Reply}
+use Rattle.hashlink_run.specs.CursorSteps.{CursorStepped, CursorWalks, CursorSteps, first_place}
 use Rattle.hashlink_run.proofs.EntryNodes.{kept_unchanged}
 
 -- every node is kept, and no entry left

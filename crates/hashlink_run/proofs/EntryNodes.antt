@@ -11,14 +11,14 @@ use Rattle.hashlink_model.proofs.KeptNodes.{kept-changes, kept-inserts}
 use Rattle.hashlink_model.proofs.NodeCounts.{node_count-removes}
 use Rattle.hashlink_model.proofs.Occupied.{length-moved_at, length-insert_value, length-insert_entry}
 use Rattle.hashlink_model.proofs.Occupied.{length-replace_entry}
-use Rattle.hashlink_commands.specs.declared.commands.EntryStep.{EntryStep}
-use Rattle.hashlink_commands.specs.declared.commands.EntryStep.TheVariants.{Get, OrInsert, Insert}
-use Rattle.hashlink_commands.specs.declared.commands.EntryStep.TheVariants.{InsertEntry}
-use Rattle.hashlink_commands.specs.declared.commands.EntryStep.TheVariants.{ReplaceEntry, ReplaceKey, ToFront}
-use Rattle.hashlink_commands.specs.declared.commands.EntryStep.TheVariants.{ToBack}
-use Rattle.hashlink_commands.specs.declared.commands.EntryStep.TheVariants.{Remove, RemoveEntry}
-use Rattle.hashlink_commands.specs.declared.replies.Reply.{Reply}
-use Rattle.hashlink_steps.specs.EntrySteps.{OccupiedStep, VacantStep, EntrySteps}
+use Rattle.hashlink_run.specs.declared.commands.EntryStep.{EntryStep}
+use Rattle.hashlink_run.specs.declared.commands.EntryStep.TheVariants.{Get, OrInsert, Insert}
+use Rattle.hashlink_run.specs.declared.commands.EntryStep.TheVariants.{InsertEntry}
+use Rattle.hashlink_run.specs.declared.commands.EntryStep.TheVariants.{ReplaceEntry, ReplaceKey, ToFront}
+use Rattle.hashlink_run.specs.declared.commands.EntryStep.TheVariants.{ToBack}
+use Rattle.hashlink_run.specs.declared.commands.EntryStep.TheVariants.{Remove, RemoveEntry}
+use Rattle.hashlink_run.specs.declared.replies.Reply.{Reply}
+use Rattle.hashlink_run.specs.EntrySteps.{OccupiedStep, VacantStep, EntrySteps}
 
 pub length_set_key : {K V : Type 0} (es : List (K × V)) (j : ℕ) (k : K)
     → length (set_key_at es j k) ≡ length es

@@ -4,12 +4,12 @@ use Rattle.std.specs.List.{AllPass}
 use Rattle.std.proofs.lemmas.List.{take_all}
 use Rattle.hashlink_model.specs.Cache.{CacheState, IsWithin}
 use Rattle.hashlink_model.specs.MapState.{MapState}
-use Rattle.hashlink_commands.specs.declared.cache_commands.CacheCommand.{CacheCommand}
-use Rattle.hashlink_commands.specs.declared.commands.Command.{Command}
-use Rattle.hashlink_commands.specs.declared.replies.Reply.{Reply}
+use Rattle.hashlink_run.specs.declared.cache_commands.CacheCommand.{CacheCommand}
+use Rattle.hashlink_run.specs.declared.commands.Command.{Command}
+use Rattle.hashlink_run.specs.declared.replies.Reply.{Reply}
 use Rattle.hashlink_run.specs.CacheRun.{LawfulCacheRun, StaysBounded, names_no_entry}
 use Rattle.hashlink_run.specs.CacheStep.{CacheStep, CacheRuns}
-use Rattle.hashlink_steps.specs.Chain.{after}
+use Rattle.hashlink_run.specs.Chain.{after}
 use Rattle.hashlink_run.specs.Run.{LawfulRun, Runs}
 use Rattle.hashlink_run.proofs.CacheLengths.{keeps_bounds}
 use Rattle.hashlink_run.proofs.CachePasses.{cache_within_peak}

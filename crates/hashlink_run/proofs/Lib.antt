@@ -1,4 +1,9 @@
 -- Lemmas on runs of commands.
+pub mod AtEntry
+pub mod CursorProgress
+pub mod Kept
+pub mod Moved
+pub mod Wider
 pub mod Answering
 pub mod Called
 pub mod CallLaws

@@ -10,28 +10,28 @@ use Rattle.hashlink_model.specs.Entries.{place_of}
 use Rattle.hashlink_model.specs.Entry.{VacantInserts}
 use Rattle.hashlink_model.specs.MapState.{MapState, Inserts}
 use Rattle.hashlink_model.specs.Steps.{Replaces}
-use Rattle.hashlink_commands.specs.declared.commands.Command.{Command}
-use Rattle.hashlink_commands.specs.declared.commands.Command.TheVariants.{Insert, InsertFront, Replace, Get}
-use Rattle.hashlink_commands.specs.declared.commands.Command.TheVariants.{Remove}
-use Rattle.hashlink_commands.specs.declared.commands.Command.TheVariants.{RemoveEntry, PopFront, PopBack}
-use Rattle.hashlink_commands.specs.declared.commands.Command.TheVariants.{ToFront}
-use Rattle.hashlink_commands.specs.declared.commands.Command.TheVariants.{ToBack}
-use Rattle.hashlink_commands.specs.declared.commands.Command.TheVariants.{Front, Back, Len, Clear, Shrink}
-use Rattle.hashlink_commands.specs.declared.commands.Command.TheVariants.{Keep}
-use Rattle.hashlink_commands.specs.declared.commands.Command.TheVariants.{Entry, Cursor}
-use Rattle.hashlink_commands.specs.declared.commands.CursorStep.{CursorStep}
-use Rattle.hashlink_commands.specs.declared.commands.CursorStep.TheVariants.{Next, Prev, Current, PeekNext}
-use Rattle.hashlink_commands.specs.declared.commands.CursorStep.TheVariants.{PeekPrev}
-use Rattle.hashlink_commands.specs.declared.commands.CursorStep.TheVariants.{Before, After}
-use Rattle.hashlink_commands.specs.declared.commands.EntryStep.{EntryStep}
-use Rattle.hashlink_commands.specs.declared.commands.EntryStep.TheVariants as step
-use Rattle.hashlink_commands.specs.declared.replies.Reply.{Reply}
-use Rattle.hashlink_steps.specs.CallReplies.{insert_reply, shrink_reply, reply_or_refused, is_refused}
-use Rattle.hashlink_steps.specs.Chain.{Answered, after}
-use Rattle.hashlink_steps.specs.CursorSteps.{CursorStepped, CursorWalks, first_place}
-use Rattle.hashlink_steps.specs.EntrySteps.{OccupiedStep, VacantStep, EntrySteps}
+use Rattle.hashlink_run.specs.declared.commands.Command.{Command}
+use Rattle.hashlink_run.specs.declared.commands.Command.TheVariants.{Insert, InsertFront, Replace, Get}
+use Rattle.hashlink_run.specs.declared.commands.Command.TheVariants.{Remove}
+use Rattle.hashlink_run.specs.declared.commands.Command.TheVariants.{RemoveEntry, PopFront, PopBack}
+use Rattle.hashlink_run.specs.declared.commands.Command.TheVariants.{ToFront}
+use Rattle.hashlink_run.specs.declared.commands.Command.TheVariants.{ToBack}
+use Rattle.hashlink_run.specs.declared.commands.Command.TheVariants.{Front, Back, Len, Clear, Shrink}
+use Rattle.hashlink_run.specs.declared.commands.Command.TheVariants.{Keep}
+use Rattle.hashlink_run.specs.declared.commands.Command.TheVariants.{Entry, Cursor}
+use Rattle.hashlink_run.specs.declared.commands.CursorStep.{CursorStep}
+use Rattle.hashlink_run.specs.declared.commands.CursorStep.TheVariants.{Next, Prev, Current, PeekNext}
+use Rattle.hashlink_run.specs.declared.commands.CursorStep.TheVariants.{PeekPrev}
+use Rattle.hashlink_run.specs.declared.commands.CursorStep.TheVariants.{Before, After}
+use Rattle.hashlink_run.specs.declared.commands.EntryStep.{EntryStep}
+use Rattle.hashlink_run.specs.declared.commands.EntryStep.TheVariants as step
+use Rattle.hashlink_run.specs.declared.replies.Reply.{Reply}
+use Rattle.hashlink_run.specs.CallReplies.{insert_reply, shrink_reply, reply_or_refused, is_refused}
+use Rattle.hashlink_run.specs.Chain.{Answered, after}
+use Rattle.hashlink_run.specs.CursorSteps.{CursorStepped, CursorWalks, first_place}
+use Rattle.hashlink_run.specs.EntrySteps.{OccupiedStep, VacantStep, EntrySteps}
 use Rattle.hashlink_run.specs.Run.{Run}
-use Rattle.hashlink_steps.specs.Step.{Step}
+use Rattle.hashlink_run.specs.Step.{Step}
 
 shrink-taken : (K V B : Type 0) (answer : Result (Unit {0}) AllocError)
     → is_refused {K = K} {V = V} {B = B} (shrink_reply answer ∷ []) ≡ false

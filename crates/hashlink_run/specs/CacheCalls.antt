@@ -10,9 +10,9 @@ use Rattle.hashlink_history.specs.Peak.{Passed, Length, peak}
 use Rattle.hashlink_model.specs.MapState.{Grows, MayRefuse, node_count}
 use Rattle.hashlink_model.specs.Steps.{RemovesKey}
 use Rattle.hashlink_lru.specs.Cached.{empty_cache}
-use Rattle.hashlink_commands.specs.declared.cache_commands.PairCommand.{PairCommand}
-use Rattle.hashlink_commands.specs.declared.cache_commands.PairCommand.TheVariants.{Insert, Use, Remove, Peek}
-use Rattle.hashlink_steps.specs.Chain.{Chained, after}
+use Rattle.hashlink_run.specs.declared.cache_commands.PairCommand.{PairCommand}
+use Rattle.hashlink_run.specs.declared.cache_commands.PairCommand.TheVariants.{Insert, Use, Remove, Peek}
+use Rattle.hashlink_run.specs.Chain.{Chained, after}
 
 -- the call of the model that a command to two caches is
 abbrev pub event_of : {K V : Type 0} → PairCommand K V → CacheEvent K V

@@ -7,14 +7,14 @@ use Rattle.hashlink_model.specs.Cache.{CacheState, IsWithin}
 use Rattle.hashlink_history.specs.CacheRuns as event
 use Rattle.hashlink_history.specs.Peak.{Passed, Length, peak}
 use Rattle.hashlink_model.specs.MapState.{MayRefuse, node_count}
-use Rattle.hashlink_commands.specs.declared.cache_commands.CacheCommand.{CacheCommand}
-use Rattle.hashlink_commands.specs.declared.cache_commands.CacheCommand.TheVariants.{Insert, Use, Entry}
-use Rattle.hashlink_commands.specs.declared.cache_commands.CacheCommand.TheVariants.{SetCapacity, Clear}
-use Rattle.hashlink_commands.specs.declared.replies.Reply.{Reply}
+use Rattle.hashlink_run.specs.declared.cache_commands.CacheCommand.{CacheCommand}
+use Rattle.hashlink_run.specs.declared.cache_commands.CacheCommand.TheVariants.{Insert, Use, Entry}
+use Rattle.hashlink_run.specs.declared.cache_commands.CacheCommand.TheVariants.{SetCapacity, Clear}
+use Rattle.hashlink_run.specs.declared.replies.Reply.{Reply}
 use Rattle.hashlink_run.specs.CacheCalls.{put_passed}
 use Rattle.hashlink_run.specs.CacheStep.{CacheRuns, CacheStep, ReadFromCache}
-use Rattle.hashlink_steps.specs.CallReplies.{is_refused}
-use Rattle.hashlink_steps.specs.Chain.{Answered, ComesTo, after}
+use Rattle.hashlink_run.specs.CallReplies.{is_refused}
+use Rattle.hashlink_run.specs.Chain.{Answered, ComesTo, after}
 
 -- from old, one of the commands may come to show the pair to the closure
 pub record ShownByCache {K V B S : Type 0} (eq : K → K → Bool) (Says : K → V → B → Type 0)

@@ -7,18 +7,18 @@ use Rattle.hashlink_model.specs.Cache.{SetsCapacity}
 use Rattle.hashlink_model.specs.MapState.{MapState}
 use Rattle.hashlink_model.specs.Steps.{RemovesKey, PopsFront, Clears}
 use Rattle.hashlink_model.specs.Walk.{first_of}
-use Rattle.hashlink_commands.specs.declared.cache_commands.CacheCommand.{CacheCommand}
-use Rattle.hashlink_commands.specs.declared.cache_commands.CacheCommand.TheVariants.{Insert, Use, Entry, Get}
-use Rattle.hashlink_commands.specs.declared.cache_commands.CacheCommand.TheVariants.{Peek}
-use Rattle.hashlink_commands.specs.declared.cache_commands.CacheCommand.TheVariants.{Remove, SetCapacity}
-use Rattle.hashlink_commands.specs.declared.cache_commands.CacheCommand.TheVariants.{Clear}
-use Rattle.hashlink_commands.specs.declared.cache_commands.CacheCommand.TheVariants.{RemoveLru}
-use Rattle.hashlink_commands.specs.declared.replies.Reply.{Reply}
-use Rattle.hashlink_commands.specs.declared.replies.Reply.TheVariants.{Done, Value, Pair, Refused}
-use Rattle.hashlink_steps.specs.CallReplies.{insert_reply}
-use Rattle.hashlink_steps.specs.Chain.{Answered, Chain, Chained}
-use Rattle.hashlink_steps.specs.EntrySteps.{EntrySteps, ReadAtEntry}
-use Rattle.hashlink_steps.specs.Reads.{Replies}
+use Rattle.hashlink_run.specs.declared.cache_commands.CacheCommand.{CacheCommand}
+use Rattle.hashlink_run.specs.declared.cache_commands.CacheCommand.TheVariants.{Insert, Use, Entry, Get}
+use Rattle.hashlink_run.specs.declared.cache_commands.CacheCommand.TheVariants.{Peek}
+use Rattle.hashlink_run.specs.declared.cache_commands.CacheCommand.TheVariants.{Remove, SetCapacity}
+use Rattle.hashlink_run.specs.declared.cache_commands.CacheCommand.TheVariants.{Clear}
+use Rattle.hashlink_run.specs.declared.cache_commands.CacheCommand.TheVariants.{RemoveLru}
+use Rattle.hashlink_run.specs.declared.replies.Reply.{Reply}
+use Rattle.hashlink_run.specs.declared.replies.Reply.TheVariants.{Done, Value, Pair, Refused}
+use Rattle.hashlink_run.specs.CallReplies.{insert_reply}
+use Rattle.hashlink_run.specs.Chain.{Answered, Chain, Chained}
+use Rattle.hashlink_run.specs.EntrySteps.{EntrySteps, ReadAtEntry}
+use Rattle.hashlink_run.specs.Reads.{Replies}
 
 -- the command, from old, reads the pair
 abbrev pub CommandReads : {K V S : Type 0} → (K → K → Bool) → CacheState K V S → CacheCommand K V → K × V

@@ -1,4 +1,11 @@
 -- What lists of commands do to a map and to caches.
+pub mod CallReplies
+pub mod Reads
+pub mod Keeps
+pub mod EntrySteps
+pub mod CursorSteps
+pub mod Step
+pub mod Chain
 pub mod Run
 pub mod CacheCalls
 pub mod CacheLaws

@@ -4,13 +4,13 @@ use Rattle.std.specs.Prelude.{drop, slice_get, Some}
 use Rattle.std.specs.List.{AllPass}
 use Rattle.hashlink_history.specs.Peak.{Passed, Length, Shrunk, peak}
 use Rattle.hashlink_model.specs.MapState.{MapState, node_count, MayRefuse}
-use Rattle.hashlink_commands.specs.declared.commands.Command.{Command}
-use Rattle.hashlink_commands.specs.declared.commands.Command.TheVariants.{Clear, Shrink}
-use Rattle.hashlink_commands.specs.declared.replies.Reply.{Reply}
-use Rattle.hashlink_steps.specs.CallReplies.{is_refused}
-use Rattle.hashlink_steps.specs.Chain.{Answered, Chain, Chained, ComesTo, after}
-use Rattle.hashlink_steps.specs.Step.{AskedBy, ReadBy, Step}
-pub use Rattle.hashlink_steps.specs.Step.{IsNoCursor, reply_count}
+use Rattle.hashlink_run.specs.declared.commands.Command.{Command}
+use Rattle.hashlink_run.specs.declared.commands.Command.TheVariants.{Clear, Shrink}
+use Rattle.hashlink_run.specs.declared.replies.Reply.{Reply}
+use Rattle.hashlink_run.specs.CallReplies.{is_refused}
+use Rattle.hashlink_run.specs.Chain.{Answered, Chain, Chained, ComesTo, after}
+use Rattle.hashlink_run.specs.Step.{AskedBy, ReadBy, Step}
+pub use Rattle.hashlink_run.specs.Step.{IsNoCursor, reply_count}
 
 module _ {K V B S : Type 0} (eq : K → K → Bool) (Says : K → V → B → Type 0)
     (Keeps : K → V → Bool → Type 0) where

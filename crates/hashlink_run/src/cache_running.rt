@@ -3,10 +3,10 @@ ghost use Rattle.std.specs.Prelude.{◌≡◌, [], IfOk, IsOk, OnOk, OnErr};
 ghost use Rattle.hashlink_lru.specs.Cached.{entries_in, state_in};
 ghost use Rattle.hashlink_model.specs.Entries.{IsEntries};
 ghost use Rattle.hashlink_run.specs.CacheRun.{LawfulCacheRun, ShownByCache, StaysBounded};
-ghost use Rattle.hashlink_steps.specs.Reads.{CallableOn, ClosureSays};
+ghost use Rattle.hashlink_run.specs.Reads.{CallableOn, ClosureSays};
 
 use crate::cache_steps::answer_cache;
-use hashlink_commands::{CacheCommand, Reply};
+use crate::{CacheCommand, Reply};
 use hashlink_lru::LruCache;
 use std::alloc::AllocError;
 use std::hash::{BuildHasher, Hash};

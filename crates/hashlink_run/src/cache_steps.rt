@@ -1,15 +1,14 @@
 //! One command to a cache.
 ghost use Rattle.std.specs.Prelude.{◌≡◌, [], ◌∷◌, Some};
 ghost use Rattle.std.specs.Map.{lookup, lookup_entry};
-ghost use Rattle.hashlink_commands.specs.declared.cache_commands.CacheCommand.TheVariants.{Use};
+ghost use Rattle.hashlink_run.specs.declared.cache_commands.CacheCommand.TheVariants.{Use};
 ghost use Rattle.hashlink_lru.specs.Cached.{entries_in, state_in};
 ghost use Rattle.hashlink_model.specs.Cache.{CacheGets};
 ghost use Rattle.hashlink_run.specs.CacheStep.{CacheStep, ReadFromCache};
-ghost use Rattle.hashlink_steps.specs.Reads.{CallableOn, ClosureSays, SaysOf};
+ghost use Rattle.hashlink_run.specs.Reads.{CallableOn, ClosureSays, SaysOf};
 
-use hashlink_commands::{CacheCommand, Reply};
+use crate::{CacheCommand, Reply, insert_reply, reply_of_entry, said_of};
 use hashlink_lru::LruCache;
-use hashlink_steps::{insert_reply, reply_of_entry, said_of};
 use std::hash::{BuildHasher, Hash};
 
 /// Runs the command on the cache and returns its reply. Of a pair that is read, the reply has what the

@@ -8,7 +8,7 @@ ghost use Rattle.hashlink_run.specs.CacheCalls.{EventRefused, EventStep, RunsFro
 ghost use Rattle.hashlink_run.specs.CacheLaws.{BearsComparison, FollowsHistory, Includes, MissesOfHistory};
 ghost use Rattle.hashlink_run.specs.CacheLaws.{UsedLast};
 
-use hashlink_commands::PairCommand;
+use crate::PairCommand;
 use hashlink_lru::LruCache;
 use std::alloc::{AllocError, Global};
 use std::hash::Hash;

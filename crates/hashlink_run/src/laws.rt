@@ -5,17 +5,17 @@ ghost use Rattle.hashlink_model.specs.Cache.{CacheState};
 ghost use Rattle.hashlink_history.specs.CacheRuns.{CacheEvent, after_events, answers};
 ghost use Rattle.hashlink_model.specs.MapState.{MapState};
 ghost use Rattle.hashlink_model.specs.Steps.{KeepsOnly};
-ghost use Rattle.hashlink_commands.specs.declared.cache_commands.CacheCommand.{CacheCommand};
-ghost use Rattle.hashlink_commands.specs.declared.commands.Command.{Command};
-ghost use Rattle.hashlink_commands.specs.declared.commands.Command.TheVariants.{Keep};
-ghost use Rattle.hashlink_commands.specs.declared.replies.Reply.{Reply};
+ghost use Rattle.hashlink_run.specs.declared.cache_commands.CacheCommand.{CacheCommand};
+ghost use Rattle.hashlink_run.specs.declared.commands.Command.{Command};
+ghost use Rattle.hashlink_run.specs.declared.commands.Command.TheVariants.{Keep};
+ghost use Rattle.hashlink_run.specs.declared.replies.Reply.{Reply};
 ghost use Rattle.hashlink_run.specs.CacheLaws.{Includes, FollowsHistory};
 ghost use Rattle.hashlink_run.specs.CacheRun.{CacheWithinPeak, InsertsFit, KeepsBounds, TakesAllAfterADrop};
 ghost use Rattle.hashlink_run.specs.CacheStep.{CacheRun};
-ghost use Rattle.hashlink_steps.specs.Chain.{Answered};
-ghost use Rattle.hashlink_steps.specs.Reads.{ClosureSays};
+ghost use Rattle.hashlink_run.specs.Chain.{Answered};
+ghost use Rattle.hashlink_run.specs.Reads.{ClosureSays};
 ghost use Rattle.hashlink_run.specs.Run.{Run, StaysWithinPeak, TakesKeysWhereShorter};
-ghost use Rattle.hashlink_steps.specs.Step.{Step};
+ghost use Rattle.hashlink_run.specs.Step.{Step};
 
 /// Of any calls of two empty caches, and so after each one of a list of them: the smaller cache holds an end
 /// of the larger one's keys, and each holds and found what the history of uses says.

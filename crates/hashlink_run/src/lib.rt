@@ -1,15 +1,24 @@
 //! Lists of commands to a map, to a cache and to two caches, with what holds of every run.
 #![tactic(auto)]
 
+mod cache_commands;
 mod cache_running;
 mod cache_steps;
 mod calls;
+mod commands;
+mod cursors;
+mod entries;
 pub mod laws;
+mod replies;
 mod running;
+mod steps;
 
+pub use cache_commands::{CacheCommand, PairCommand};
 pub use cache_running::run_cache;
 pub use cache_steps::answer_cache;
 pub use calls::{Pair, Uses, answer_call, run_pair, run_uses};
-pub use hashlink_commands::{CacheCommand, Command, CursorStep, EntryStep, PairCommand, Reply};
-pub use hashlink_steps::answer_command;
+pub use commands::{Command, CursorStep, EntryStep};
+pub use entries::reply_of_entry;
+pub use replies::Reply;
 pub use running::run;
+pub use steps::{answer_command, insert_reply, reply_count, said_of};

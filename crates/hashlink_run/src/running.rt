@@ -3,12 +3,11 @@ ghost use Rattle.std.specs.Prelude.{◌≡◌, ◌<◌, ◌≤◌, ◌^◌, leng
 ghost use Rattle.std.specs.List.{AllPass};
 ghost use Rattle.hashlink_core.specs.Keyed.{entries_of, state_of};
 ghost use Rattle.hashlink_model.specs.Entries.{IsEntries};
-ghost use Rattle.hashlink_steps.specs.Reads.{CallableOn, ClosureSays};
+ghost use Rattle.hashlink_run.specs.Reads.{CallableOn, ClosureSays};
 ghost use Rattle.hashlink_run.specs.Run.{LawfulRun, ShownBy, keeps_nodes, reply_total};
 
-use hashlink_commands::{Command, Reply};
+use crate::{Command, Reply, answer_command, reply_count};
 use hashlink_map::LinkedHashMap;
-use hashlink_steps::{answer_command, reply_count};
 use std::alloc::AllocError;
 use std::hash::{BuildHasher, Hash};
 

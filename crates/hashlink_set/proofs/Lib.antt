@@ -1,3 +1,5 @@
+pub mod Looking
+pub mod Lookups
 pub mod Copied
 pub mod Entering
 pub mod Leaving

@@ -1,4 +1,6 @@
 -- What the contracts of the set cite, beside `hashlink_model`.
+pub mod Elements
+pub mod Walks
 pub mod Answers
 pub mod Called
 pub mod Cloned

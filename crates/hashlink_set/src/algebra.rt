@@ -1,4 +1,4 @@
-//! Set algebra, by the lazy iterators of `hashlink_algebra` and by tests. None of these methods allocates. A
+//! Set algebra, by the lazy iterators of `hashlink_set` and by tests. None of these methods allocates. A
 //! step of an iterator hashes each element that it looks up in the other set, once.
 ghost use Rattle.std.specs.Prelude.{◌≡◌};
 ghost use Rattle.std.specs.List.{IsDistinct};
@@ -9,13 +9,13 @@ ghost use Rattle.hashlink_model.specs.Sets.{elements_of};
 ghost use Rattle.hashlink_core.specs.Keyed.{state_of};
 
 use crate::set::LinkedHashSet;
-use hashlink_algebra::{Difference, Intersection, SymmetricDifference, Union};
+use crate::{Difference, Intersection, SymmetricDifference, Union};
 use std::hash::{BuildHasher, Hash};
 
 impl<T: Eq + Hash, S: BuildHasher> LinkedHashSet<T, S> {
-    ghost use Rattle.hashlink_algebra.specs.Walks.{difference_rest, intersection_rest, union_rest};
-    ghost use Rattle.hashlink_algebra.specs.Walks.{union_walk};
-    ghost use Rattle.hashlink_algebra.specs.Walks.{symmetric_difference_rest, symmetric_difference_walk};
+    ghost use Rattle.hashlink_set.specs.Walks.{difference_rest, intersection_rest, union_rest};
+    ghost use Rattle.hashlink_set.specs.Walks.{union_walk};
+    ghost use Rattle.hashlink_set.specs.Walks.{symmetric_difference_rest, symmetric_difference_walk};
 
     /// Returns an iterator over the elements that `other` lacks, in their order. It does not allocate. A step
     /// hashes each element that it looks up, once.

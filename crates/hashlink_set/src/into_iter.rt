@@ -5,8 +5,8 @@ ghost use Rattle.std.specs.Iterator.SizeHint.{IsWithinCount};
 ghost use Rattle.std.specs.Map.Iter.{TakesFirst, TakesLast, ShowsInOrder, deref};
 ghost use Rattle.hashlink_model.specs.Sets.{elements_of};
 
+use crate::Iter;
 use crate::set::LinkedHashSet;
-use hashlink_algebra::Iter;
 use hashlink_map::DefaultHashBuilder;
 use std::hash::{BuildHasher, Hash};
 use std::iter::FusedIterator;

@@ -7,14 +7,22 @@ mod compared;
 mod drain;
 mod extend;
 mod into_iter;
+mod iter;
+mod lookup;
 mod made;
 mod set;
+mod sifted;
+mod symmetric_difference;
 mod texts;
+mod union;
 
 pub use drain::Drain;
-pub use hashlink_algebra::{Difference, Intersection, Iter, SymmetricDifference, Union};
 pub use hashlink_map::{
     DefaultHashBuilder, DefaultHasher, Equivalent, ExtendError, TryReserveError,
 };
 pub use into_iter::IntoIter;
+pub use iter::Iter;
 pub use set::LinkedHashSet;
+pub use sifted::{Difference, Intersection};
+pub use symmetric_difference::SymmetricDifference;
+pub use union::Union;

@@ -10,15 +10,15 @@ use Rattle.std.specs.Int.{IsPowerOfTwo}
 use Rattle.hashlink_model.specs.MapState.{Removes, RoomFor}
 use Rattle.hashlink_core.specs.declared.hash_builder.DefaultHashBuilder.{DefaultHashBuilder}
 use Rattle.hashlink_core.specs.Hashing.{default_builder}
-use Rattle.hashlink_commands.specs.declared.commands.Command.{Command}
-use Rattle.hashlink_commands.specs.declared.commands.Command.TheVariants.{Insert, Get, Remove}
-use Rattle.hashlink_spelling.specs.Says.{Do, Iter}
-use Rattle.hashlink_commands.specs.declared.replies.Reply.{Reply}
-use Rattle.hashlink_commands.specs.declared.replies.Reply.TheVariants.{Value, Seen}
-use Rattle.hashlink_steps.specs.Reads.{SaysOf}
-use Rattle.hashlink_steps.specs.CallReplies.{insert_reply}
-use Rattle.hashlink_steps.specs.Keeps.{IsEven}
-use Rattle.hashlink_steps.specs.Step.{Step}
+use Rattle.hashlink_run.specs.declared.commands.Command.{Command}
+use Rattle.hashlink_run.specs.declared.commands.Command.TheVariants.{Insert, Get, Remove}
+use Rattle.hashlink_text.specs.Says.{Do, Iter}
+use Rattle.hashlink_run.specs.declared.replies.Reply.{Reply}
+use Rattle.hashlink_run.specs.declared.replies.Reply.TheVariants.{Value, Seen}
+use Rattle.hashlink_run.specs.Reads.{SaysOf}
+use Rattle.hashlink_run.specs.CallReplies.{insert_reply}
+use Rattle.hashlink_run.specs.Keeps.{IsEven}
+use Rattle.hashlink_run.specs.Step.{Step}
 use Rattle.hashlink_text.specs.Text.{IsTranscript}
 use Rattle.hashlink_text.specs.Transcript.{Shows, LineShows, ShowsAll, Itself, ended, read_shown, list_shown}
 use Rattle.hashlink_text.specs.Transcript.{reply_shown}

@@ -1,4 +1,9 @@
 -- Lemmas on texts in answer to commands.
+pub mod CursorSteps
+pub mod Cutting
+pub mod Digits
+pub mod Spelled
+pub mod WordTables
 pub mod Answered
 pub mod Lists
 pub mod OfNothing

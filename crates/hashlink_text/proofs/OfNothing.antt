@@ -5,11 +5,11 @@ use Rattle.std.specs.Fmt.{digits}
 use Rattle.std.specs.Result.{IsOk}
 use Rattle.std.specs.declared.alloc.AllocError.{AllocError}
 use Rattle.hashlink_model.specs.MapState.{MapState, map_state}
-use Rattle.hashlink_spelling.specs.Says.{says}
-use Rattle.hashlink_commands.specs.declared.replies.Reply.{Reply}
-use Rattle.hashlink_commands.specs.declared.replies.Reply.TheVariants.{Done, Seen}
-use Rattle.hashlink_steps.specs.Reads.{Replies}
-use Rattle.hashlink_steps.specs.CallReplies.{shrink_reply}
+use Rattle.hashlink_text.specs.Says.{says}
+use Rattle.hashlink_run.specs.declared.replies.Reply.{Reply}
+use Rattle.hashlink_run.specs.declared.replies.Reply.TheVariants.{Done, Seen}
+use Rattle.hashlink_run.specs.Reads.{Replies}
+use Rattle.hashlink_run.specs.CallReplies.{shrink_reply}
 use Rattle.hashlink_text.specs.Text.{IsTranscript}
 use Rattle.hashlink_text.specs.Transcript.{Shows, LineShows, ShowsAll, Itself, ended, replies_shown}
 use Rattle.hashlink_text.specs.declared.shown.Form.TheVariants.{Whole, OfValue}

@@ -1,13 +1,13 @@
 -- What a line says that was read, and what may answer it.
 use Rattle.std.proofs.Common.{ℕ, List, Some, nat_eq, refl}
 use Rattle.hashlink_model.specs.MapState.{MapState}
-use Rattle.hashlink_spelling.specs.Says.{said}
-use Rattle.hashlink_commands.specs.declared.commands.Command.{Command}
-use Rattle.hashlink_commands.specs.declared.commands.Command.TheVariants.{Cursor}
-use Rattle.hashlink_spelling.specs.declared.line.Line.TheVariants.{Do}
-use Rattle.hashlink_commands.specs.declared.replies.Reply.{Reply}
-use Rattle.hashlink_steps.specs.Keeps.{IsEven}
-use Rattle.hashlink_steps.specs.Step.{Step}
+use Rattle.hashlink_text.specs.Says.{said}
+use Rattle.hashlink_run.specs.declared.commands.Command.{Command}
+use Rattle.hashlink_run.specs.declared.commands.Command.TheVariants.{Cursor}
+use Rattle.hashlink_text.specs.declared.line.Line.TheVariants.{Do}
+use Rattle.hashlink_run.specs.declared.replies.Reply.{Reply}
+use Rattle.hashlink_run.specs.Keeps.{IsEven}
+use Rattle.hashlink_run.specs.Step.{Step}
 use Rattle.hashlink_text.specs.Transcript.{Shows, Itself, form_of, replies_shown}
 
 -- a command that was read is answered by its replies, the steps of a cursor among them

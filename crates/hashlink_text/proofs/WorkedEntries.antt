@@ -4,9 +4,9 @@ use Rattle.std.specs.Fmt.{digits}
 use Rattle.hashlink_model.specs.MapState.{MapState, Adds, Changes}
 use Rattle.hashlink_core.specs.declared.hash_builder.DefaultHashBuilder.{DefaultHashBuilder}
 use Rattle.hashlink_core.specs.Hashing.{default_builder}
-use Rattle.hashlink_commands.specs.declared.commands.Command.TheVariants.{Entry}
-use Rattle.hashlink_commands.specs.declared.commands.EntryStep.TheVariants.{OrInsert, ReplaceEntry}
-use Rattle.hashlink_commands.specs.declared.replies.Reply.TheVariants.{Value, Pair, Seen}
+use Rattle.hashlink_run.specs.declared.commands.Command.TheVariants.{Entry}
+use Rattle.hashlink_run.specs.declared.commands.EntryStep.TheVariants.{OrInsert, ReplaceEntry}
+use Rattle.hashlink_run.specs.declared.replies.Reply.TheVariants.{Value, Pair, Seen}
 use Rattle.hashlink_text.specs.Text.{IsTranscript}
 use Rattle.hashlink_text.specs.Transcript.{LineShows, ShowsAll}
 use Rattle.hashlink_text.proofs.Answered.{few, one_more, state, Stepped, first_insert}

@@ -2,11 +2,11 @@
 use Rattle.std.specs.Prelude.{◌≡◌, ℕ, List, ◌∷◌, ◌++◌, length, codes, decimal, nat_eq, Option, None, Some}
 use Rattle.hashlink_model.specs.Cache.{CacheState}
 use Rattle.hashlink_history.specs.CacheRuns.{answer_to, after_event}
-use Rattle.hashlink_spelling.specs.CachesSay.{cache_says, pair_says}
-use Rattle.hashlink_commands.specs.declared.cache_commands.PairCommand.{PairCommand}
-use Rattle.hashlink_spelling.specs.declared.cache_line.CacheLine.{CacheLine}
-use Rattle.hashlink_spelling.specs.declared.cache_line.CacheLine.TheVariants.{Do, Len, Iter}
-use Rattle.hashlink_commands.specs.declared.replies.Reply.{Reply}
+use Rattle.hashlink_text.specs.CachesSay.{cache_says, pair_says}
+use Rattle.hashlink_run.specs.declared.cache_commands.PairCommand.{PairCommand}
+use Rattle.hashlink_text.specs.declared.cache_line.CacheLine.{CacheLine}
+use Rattle.hashlink_text.specs.declared.cache_line.CacheLine.TheVariants.{Do, Len, Iter}
+use Rattle.hashlink_run.specs.declared.replies.Reply.{Reply}
 use Rattle.hashlink_run.specs.CacheCalls.{event_of}
 use Rattle.hashlink_run.specs.CacheStep.{CacheStep}
 use Rattle.hashlink_text.specs.Transcript.{Itself, ended, shown_by, list_shown, replies_shown}

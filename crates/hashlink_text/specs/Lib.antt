@@ -1,4 +1,11 @@
 -- What is written in answer to a text of commands.
+pub mod Lines
+pub mod Cuts
+pub mod Tables
+pub mod Says
+pub mod Modes
+pub mod CachesSay
+pub mod Spelling
 pub mod Transcript
 pub mod CacheTranscript
 pub mod WeightedTranscript

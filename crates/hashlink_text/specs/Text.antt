@@ -7,10 +7,10 @@ use Rattle.hashlink_model.specs.Weights.{WeightedState}
 use Rattle.hashlink_core.specs.declared.hash_builder.DefaultHashBuilder.{DefaultHashBuilder}
 use Rattle.hashlink_lru.specs.Cached.{empty_cache}
 use Rattle.hashlink_weighted.specs.Weighed.{empty_weighted}
-use Rattle.hashlink_spelling.specs.Lines.{lines_of}
-use Rattle.hashlink_spelling.specs.Modes.{mode_said}
-use Rattle.hashlink_spelling.specs.declared.modes.Mode.{Mode}
-use Rattle.hashlink_spelling.specs.declared.modes.Mode.TheVariants.{Map, Cache, Pair, Weighted}
+use Rattle.hashlink_text.specs.Lines.{lines_of}
+use Rattle.hashlink_text.specs.Modes.{mode_said}
+use Rattle.hashlink_text.specs.declared.modes.Mode.{Mode}
+use Rattle.hashlink_text.specs.declared.modes.Mode.TheVariants.{Map, Cache, Pair, Weighted}
 use Rattle.hashlink_text.specs.CacheTranscript.{CacheLineShows, Held, PairLineShows, lists_shown}
 use Rattle.hashlink_text.specs.Transcript.{LineShows, ShowsAll, ended}
 use Rattle.hashlink_text.specs.WeightedTranscript.{WeightedLineShows}

@@ -8,17 +8,17 @@ use Rattle.std.specs.List.{join_with_byte}
 use Rattle.std.specs.Option.{option_map_or}
 use Rattle.std.specs.declared.string.String.{String}
 use Rattle.hashlink_model.specs.MapState.{MapState}
-use Rattle.hashlink_spelling.specs.Says.{Said, Do, Cursor, Iter, says}
-use Rattle.hashlink_commands.specs.declared.commands.Command.{Command}
-use Rattle.hashlink_commands.specs.declared.commands.Command.TheVariants as command
-use Rattle.hashlink_commands.specs.declared.commands.Command.TheVariants.{Front, Back, Entry}
-use Rattle.hashlink_commands.specs.declared.commands.EntryStep.TheVariants.{OrInsert}
-use Rattle.hashlink_commands.specs.declared.replies.Reply.{Reply}
-use Rattle.hashlink_commands.specs.declared.replies.Reply.TheVariants.{Done, Denied, Value, Pair, Key, Seen}
-use Rattle.hashlink_commands.specs.declared.replies.Reply.TheVariants.{Length, Refused}
-use Rattle.hashlink_steps.specs.CursorSteps.{CursorSteps}
-use Rattle.hashlink_steps.specs.Keeps.{IsEven}
-use Rattle.hashlink_steps.specs.Step.{Step}
+use Rattle.hashlink_text.specs.Says.{Said, Do, Cursor, Iter, says}
+use Rattle.hashlink_run.specs.declared.commands.Command.{Command}
+use Rattle.hashlink_run.specs.declared.commands.Command.TheVariants as command
+use Rattle.hashlink_run.specs.declared.commands.Command.TheVariants.{Front, Back, Entry}
+use Rattle.hashlink_run.specs.declared.commands.EntryStep.TheVariants.{OrInsert}
+use Rattle.hashlink_run.specs.declared.replies.Reply.{Reply}
+use Rattle.hashlink_run.specs.declared.replies.Reply.TheVariants.{Done, Denied, Value, Pair, Key, Seen}
+use Rattle.hashlink_run.specs.declared.replies.Reply.TheVariants.{Length, Refused}
+use Rattle.hashlink_run.specs.CursorSteps.{CursorSteps}
+use Rattle.hashlink_run.specs.Keeps.{IsEven}
+use Rattle.hashlink_run.specs.Step.{Step}
 use Rattle.hashlink_text.specs.declared.shown.Form.{Form}
 use Rattle.hashlink_text.specs.declared.shown.Form.TheVariants.{Whole, OfValue, OrGiven}
 

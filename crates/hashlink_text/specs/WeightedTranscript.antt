@@ -7,10 +7,10 @@ use Rattle.hashlink_weighted.specs.Answers.{InsertsWithin, without_weight}
 use Rattle.hashlink_weighted.specs.Weighed.{WeightedGets, WeightedRemoves}
 use Rattle.hashlink_weighted.specs.declared.error.WeightError.{WeightError}
 use Rattle.hashlink_weighted.specs.declared.error.WeightError.TheVariants.{TooHeavy, Memory}
-use Rattle.hashlink_spelling.specs.CachesSay.{weighted_says}
-use Rattle.hashlink_spelling.specs.declared.weighted_line.WeightedLine.{WeightedLine}
-use Rattle.hashlink_spelling.specs.declared.weighted_line.WeightedLine.TheVariants.{Insert, Get, Peek, Remove}
-use Rattle.hashlink_spelling.specs.declared.weighted_line.WeightedLine.TheVariants.{Total, Len, Iter}
+use Rattle.hashlink_text.specs.CachesSay.{weighted_says}
+use Rattle.hashlink_text.specs.declared.weighted_line.WeightedLine.{WeightedLine}
+use Rattle.hashlink_text.specs.declared.weighted_line.WeightedLine.TheVariants.{Insert, Get, Peek, Remove}
+use Rattle.hashlink_text.specs.declared.weighted_line.WeightedLine.TheVariants.{Total, Len, Iter}
 use Rattle.hashlink_text.specs.Transcript.{shown_by, list_shown}
 
 -- the entries without their weights

@@ -1,19 +1,19 @@
 //! Lines to a cache.
 ghost use Rattle.std.specs.Prelude.{Some, OnOk};
 ghost use Rattle.hashlink_core.specs.declared.hash_builder.DefaultHashBuilder.{DefaultHashBuilder};
-ghost use Rattle.hashlink_spelling.specs.Lines.{lines_of};
-ghost use Rattle.hashlink_spelling.specs.declared.modes.Mode.TheVariants.{Cache};
+ghost use Rattle.hashlink_text.specs.Lines.{lines_of};
+ghost use Rattle.hashlink_text.specs.declared.modes.Mode.TheVariants.{Cache};
 ghost use Rattle.hashlink_lru.specs.Cached.{state_in};
 ghost use Rattle.hashlink_text.specs.CacheTranscript.{CacheLineShows};
 ghost use Rattle.hashlink_text.specs.Text.{ModeRun};
 ghost use Rattle.hashlink_text.specs.Transcript.{Pushes};
 
-use crate::lines::{AnswersLines, answer_lines};
+use crate::reading::{AnswersLines, answer_lines};
 use crate::shown::Form;
 use crate::text::{push_list, push_replies};
+use crate::{CacheLine, Lines};
 use hashlink_lru::LruCache;
 use hashlink_run::answer_cache;
-use hashlink_spelling::{CacheLine, Lines};
 use std::alloc::{AllocError, Global};
 
 // Pushes the answers to the lines, which speak to a cache of this capacity that is empty at first.

@@ -1,32 +1,36 @@
-//! Lines in turn, each of which has one line in answer.
-ghost use Rattle.std.specs.Prelude.{ℕ, List, OnOk};
-ghost use Rattle.hashlink_spelling.specs.Lines.{lines_of};
-ghost use Rattle.hashlink_text.specs.Transcript.{Pushes, PushesLine, ShowsAll};
+ghost use Rattle.std.specs.Prelude.{◌≡◌};
+ghost use Rattle.std.specs.Iterator.{YieldsFirstRef, item_count};
+ghost use Rattle.hashlink_text.specs.Lines.{lines_of};
 
-use hashlink_spelling::Lines;
-use std::alloc::AllocError;
+use crate::cuts::cut;
 
-// A container that lines of a text speak to.
-pub(crate) trait AnswersLines {
-    // what may answer a line to the container, and what the container is afterwards
-    ghost shows: { Self → List ℕ → List ℕ → Self → Type 0 };
-
-    // Pushes the answer to one line.
-    fn answer_line(&mut self, line: &[u8], out: &mut String) -> Result<(), AllocError>
-        ensures { OnOk result (PushesLine (λ text. shows self.old line.now text self.new) out.old out.new) };
+// The lines of a text that are not read yet.
+#[derive(Drop)]
+pub struct Lines<'a> {
+    rest: &'a [u8],
 }
 
-// Pushes the answers to the lines.
-pub(crate) fn answer_lines<C: AnswersLines>(
-    container: &mut C,
-    lines: Lines<'_>,
-    out: &mut String,
-) -> Result<(), AllocError>
-    ensures { OnOk result (Pushes (λ text. ShowsAll C.shows container.old (lines_of lines.entry.rest.now)
-        text container.new) out.old out.new) }
-{
-    for line in lines {
-        container.answer_line(line, out)?;
+impl<'a> Lines<'a> {
+    pub fn new(text: &'a [u8]) -> Lines<'a>
+        ensures { lines_of result.rest.now ≡ lines_of text.now }
+    {
+        Lines { rest: text }
     }
-    Ok(())
+}
+
+impl<'a> Iterator for Lines<'a> {
+    type Item = &'a [u8];
+
+    ghost next_gives = { YieldsFirstRef (λ s. lines_of s.rest.now) };
+
+    ghost remaining = { item_count (λ s. lines_of s.rest.now) };
+
+    fn next(&mut self) -> Option<&'a [u8]> {
+        if self.rest.is_empty() {
+            return None;
+        }
+        let (line, rest) = cut(self.rest, b'\n');
+        self.rest = rest.unwrap_or(&[]);
+        Some(line)
+    }
 }

@@ -2,18 +2,17 @@
 ghost use Rattle.std.specs.Prelude.{◌≡◌, Some, OnOk};
 ghost use Rattle.hashlink_core.specs.declared.hash_builder.DefaultHashBuilder.{DefaultHashBuilder};
 ghost use Rattle.hashlink_core.specs.Keyed.{state_of};
-ghost use Rattle.hashlink_spelling.specs.Lines.{lines_of};
-ghost use Rattle.hashlink_spelling.specs.declared.modes.Mode.TheVariants.{Map};
+ghost use Rattle.hashlink_text.specs.Lines.{lines_of};
+ghost use Rattle.hashlink_text.specs.declared.modes.Mode.TheVariants.{Map};
 ghost use Rattle.hashlink_text.specs.Text.{ModeRun};
 ghost use Rattle.hashlink_text.specs.Transcript.{LineShows, Pushes, form_of};
 
-use crate::lines::{AnswersLines, answer_lines};
+use crate::reading::{AnswersLines, answer_lines};
 use crate::shown::Form;
 use crate::text::{push_list, push_replies};
-use hashlink_commands::{Command, EntryStep, Reply};
+use crate::{Line, Lines};
 use hashlink_map::LinkedHashMap;
-use hashlink_spelling::{Line, Lines};
-use hashlink_steps::answer_command;
+use hashlink_run::{Command, EntryStep, Reply, answer_command};
 use std::alloc::{AllocError, Global};
 
 // Pushes the answers to the lines, which speak to a map that is empty at first.

@@ -1,9 +1,9 @@
 //! Lines to two caches, and what they hold at the end.
 ghost use Rattle.std.specs.Prelude.{◌≡◌, ◌++◌, ◌∷◌, Some, OnOk, decimal, string_bytes};
 ghost use Rattle.hashlink_core.specs.declared.hash_builder.DefaultHashBuilder.{DefaultHashBuilder};
-ghost use Rattle.hashlink_spelling.specs.CachesSay.{pair_says};
-ghost use Rattle.hashlink_spelling.specs.Lines.{lines_of};
-ghost use Rattle.hashlink_spelling.specs.declared.modes.Mode.TheVariants.{Pair};
+ghost use Rattle.hashlink_text.specs.CachesSay.{pair_says};
+ghost use Rattle.hashlink_text.specs.Lines.{lines_of};
+ghost use Rattle.hashlink_text.specs.declared.modes.Mode.TheVariants.{Pair};
 ghost use Rattle.hashlink_lru.specs.Cached.{entries_in, state_in};
 ghost use Rattle.hashlink_text.specs.CacheTranscript.{PairShows, lists_shown};
 ghost use Rattle.hashlink_text.specs.Text.{ModeRun};
@@ -11,10 +11,9 @@ ghost use Rattle.hashlink_text.specs.Transcript.{Pushes, PushesLine, ended, show
 
 use crate::shown::Form;
 use crate::text::{push_list, push_reply};
-use hashlink_commands::Reply;
+use crate::{Lines, pair_command};
 use hashlink_lru::LruCache;
-use hashlink_run::answer_call;
-use hashlink_spelling::{Lines, pair_command};
+use hashlink_run::{Reply, answer_call};
 use std::alloc::{AllocError, Global};
 
 // Pushes the answers to the lines, which speak to two caches of these capacities that are empty at first, and

@@ -1,5 +1,5 @@
 ghost use Rattle.std.specs.Prelude.{◌≡◌, [], ◌++◌, IfOk, IsOk, OnOk, string_bytes};
-ghost use Rattle.hashlink_spelling.specs.Lines.{lines_of};
+ghost use Rattle.hashlink_text.specs.Lines.{lines_of};
 ghost use Rattle.hashlink_text.specs.Text.{IsTranscript};
 ghost use Rattle.hashlink_text.specs.Transcript.{ended, list_shown, read_shown, reply_shown, replies_shown};
 
@@ -8,9 +8,9 @@ use crate::map_text::run_map_lines;
 use crate::pair_text::run_pair_lines;
 use crate::shown::Form;
 use crate::weighted_text::run_weighted_lines;
-use hashlink_commands::Reply;
+use crate::{Lines, Mode, mode_of};
 use hashlink_map::Iter;
-use hashlink_spelling::{Lines, Mode, mode_of};
+use hashlink_run::Reply;
 use std::alloc::{AllocError, Global};
 
 /// Returns the answer to a text of lines, of which the first names the container that the others speak to.

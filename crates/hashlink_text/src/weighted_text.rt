@@ -1,14 +1,14 @@
 //! Lines to a cache with a budget.
 ghost use Rattle.std.specs.Prelude.{◌≡◌, ◌++◌, Some, OnOk, decimal, string_bytes};
 ghost use Rattle.hashlink_core.specs.declared.hash_builder.DefaultHashBuilder.{DefaultHashBuilder};
-ghost use Rattle.hashlink_spelling.specs.Lines.{lines_of};
-ghost use Rattle.hashlink_spelling.specs.declared.modes.Mode.TheVariants.{Weighted};
+ghost use Rattle.hashlink_text.specs.Lines.{lines_of};
+ghost use Rattle.hashlink_text.specs.declared.modes.Mode.TheVariants.{Weighted};
 ghost use Rattle.hashlink_text.specs.Text.{ModeRun};
 ghost use Rattle.hashlink_text.specs.Transcript.{Pushes, ended, list_shown, shown_by};
 ghost use Rattle.hashlink_text.specs.WeightedTranscript.{WeightedLineShows, insert_shown, pairs_of};
 
-use crate::lines::{AnswersLines, answer_lines};
-use hashlink_spelling::{Lines, WeightedLine};
+use crate::reading::{AnswersLines, answer_lines};
+use crate::{Lines, WeightedLine};
 use hashlink_weighted::{WeightError, WeightedCache, WeightedIter};
 use std::alloc::{AllocError, Global};
 

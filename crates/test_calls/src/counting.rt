@@ -2,12 +2,12 @@
 ghost use Rattle.test_calls.specs.OwnNumber.{number_of};
 
 use crate::few::passes;
+use crate::items::{Counts, Home, Item, Name, Stop};
 use hashlink::LinkedHashMap;
 use std::alloc::Global;
 use std::hash::{BuildHasher, Hasher};
 use std::process::ExitCode;
 use std::rc::Rc;
-use test_items::{Counts, Home, Item, Name, Stop};
 
 /// Gives a number below 65,536 itself as its hash.
 #[derive(Clone, Copy, Default)]

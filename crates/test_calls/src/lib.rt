@@ -32,4 +32,6 @@ mod serving;
 #[cfg(test)]
 mod texts;
 #[cfg(test)]
+mod uses;
+#[cfg(test)]
 mod values;

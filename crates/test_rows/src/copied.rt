@@ -1,10 +1,10 @@
 //! Maps and sets of what can be copied, which take items by reference.
+use crate::calls::extend_by_trait;
+use crate::items::{Answer, Answers, Home, Name, Pair, Read, Stop, Word, Words, push_rest};
 use crate::spoken::{Spoken, say_room, say_word};
 use hashlink::linked_hash_map::ExtendError;
 use hashlink::{LinkedHashMap, LinkedHashSet};
 use std::hash::BuildHasher;
-use test_items::{Answer, Answers, Home, Name, Pair, Read, Stop, Word, Words, push_rest};
-use test_row_calls::extend_by_trait;
 
 impl<S: BuildHasher + Copy + Default + Drop> Spoken for LinkedHashMap<Name, Name, S> {
     fn make(home: Home<'_>, _capacity: usize) -> LinkedHashMap<Name, Name, S> {

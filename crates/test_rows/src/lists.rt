@@ -1,4 +1,5 @@
 //! Lists of commands, in two runs, and lists of uses.
+use crate::items::{Answer, Answers, Name, Stop, Word, Words, are_written, number, push};
 use crate::row::cut;
 use crate::spoken::{Voice, say_room, say_word, say_words};
 use crate::texts::refuse;
@@ -7,10 +8,9 @@ use hashlink::run::{
     run_uses,
 };
 use hashlink::{LinkedHashMap, LruCache};
-use hashlink_spelling::{CacheLine, Line, pair_command};
+use hashlink_text::{CacheLine, Line, pair_command};
 use std::alloc::{AllocError, Global};
 use std::hash::BuildHasher;
-use test_items::{Answer, Answers, Name, Stop, Word, Words, are_written, number, push};
 
 /// A container that runs a list of commands.
 pub trait Listed: Sized {

@@ -8,14 +8,17 @@
 //! plain list.
 #![tactic(auto)]
 
+mod calls;
 mod copied;
 mod hashers;
+mod items;
 mod lists;
 mod row;
 mod rows;
 mod spoken;
 mod texts;
 
+use crate::items::{Answers, Counts, Home, Tally, number};
 use row::{Row, Wrong};
 use rows::wrong;
 use spoken::{Voice, say_words};
@@ -23,7 +26,6 @@ use std::io::ErrorKind;
 use std::process::ExitCode;
 use std::rc::Rc;
 use std::{env, fs};
-use test_items::{Answers, Counts, Home, Tally, number};
 
 fn main(rt: HostRuntime) -> ExitCode {
     let mut tally = Tally::default();

@@ -1,5 +1,5 @@
 //! A row, and what is wrong with it.
-use test_items::Words;
+use crate::items::Words;
 
 /// A row of a file.
 #[derive(Clone, Copy)]

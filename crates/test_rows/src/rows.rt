@@ -1,5 +1,7 @@
 //! A row, and what is done with it.
+use crate::calls::{Cache, Map, Set, Weighted};
 use crate::hashers::{OddOrEven, SameHash};
+use crate::items::{Answers, Home, Name, Stop, Word, Words, are_written};
 use crate::lists::{Listed, are_runs_right, run_lines_of_pair, run_lines_of_uses};
 use crate::row::{Row, Wrong, cut, words_of};
 use crate::spoken::{Spoken, Voice, say_words};
@@ -7,8 +9,6 @@ use crate::texts::is_text_right;
 use hashlink::{DefaultHashBuilder, LinkedHashMap, LinkedHashSet, LruCache};
 use std::alloc::Global;
 use std::hash::BuildHasher;
-use test_items::{Answers, Home, Name, Stop, Word, Words, are_written};
-use test_row_calls::{Cache, Map, Set, Weighted};
 
 /// Returns what is wrong with the row, if anything is. A row for which an allocation failed says so.
 pub fn wrong<'f>(

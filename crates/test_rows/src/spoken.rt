@@ -1,12 +1,12 @@
 //! Containers that are called by the lines of a row, and what is said of them.
-use hashlink::weighted::WeightedCache;
-use hashlink::{LinkedHashMap, LinkedHashSet, LruCache};
-use std::hash::BuildHasher;
-use test_items::{Answers, Home, Stop, Word, Words, shown};
-use test_row_calls::{
+use crate::calls::{
     Cache, Map, Set, Weighted, call_cache, call_map, call_set, call_sets, call_weighted, compare,
     weighed,
 };
+use crate::items::{Answers, Home, Stop, Word, Words, shown};
+use hashlink::weighted::WeightedCache;
+use hashlink::{LinkedHashMap, LinkedHashSet, LruCache};
+use std::hash::BuildHasher;
 
 /// Where it is said what comes and what stands: nowhere, unless the program is asked to.
 pub type Voice<'v> = Option<&'v HostRuntime>;

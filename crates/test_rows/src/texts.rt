@@ -1,9 +1,9 @@
 //! Texts that are run.
+use crate::items::{Answers, Stop, push};
 use crate::spoken::Voice;
 use hashlink::run::run_text;
 use std::alloc::Global;
 use std::str::from_utf8;
-use test_items::{Answers, Stop, push};
 
 /// Returns whether the answer of `run_text`, if no allocation for it failed, is the one that is written after
 /// the text and a line `=`, if one is. Each line of the answer is said.

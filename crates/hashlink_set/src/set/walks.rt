@@ -5,7 +5,7 @@ ghost use Rattle.std.specs.Map.Iter.{ShowsInOrder, ShowsInReverse, deref};
 ghost use Rattle.hashlink_model.specs.Sets.{elements_of};
 
 use super::LinkedHashSet;
-use hashlink_algebra::Iter;
+use crate::Iter;
 use std::hash::{BuildHasher, Hash};
 
 impl<T: Eq + Hash, S: BuildHasher> LinkedHashSet<T, S> {

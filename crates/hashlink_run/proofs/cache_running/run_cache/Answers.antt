@@ -1,7 +1,7 @@
 use Rattle.std.proofs.Common.{inl, inr, ap, sym, ◌∙◌, arith, length}
 use Rattle.std.specs.Vec.Iter.{into_iter_items}
 use Rattle.hashlink_run.specs.CacheStep.{CacheStep}
-use Rattle.hashlink_steps.specs.Reads.{ClosureSays}
+use Rattle.hashlink_run.specs.Reads.{ClosureSays}
 use Rattle.hashlink_run.proofs.Answering.{HasAnswered-none, HasAnswered-more, HasAnswered-all}
 use Rattle.hashlink_run.proofs.Lawful.{lawful_cache_run, stays_bounded}
 use Rattle.hashlink_run.proofs.cache_running.run_cache.Goals as goal

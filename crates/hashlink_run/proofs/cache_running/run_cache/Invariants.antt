@@ -3,7 +3,7 @@ use Rattle.std.specs.Vec.Iter.{into_iter_items}
 use Rattle.hashlink_lru.specs.Cached.{state_in}
 use Rattle.hashlink_run.specs.CacheRun.{ShownByCache}
 use Rattle.hashlink_run.specs.CacheStep.{CacheStep}
-use Rattle.hashlink_steps.specs.Reads.{CallableOn, ClosureSays}
+use Rattle.hashlink_run.specs.Reads.{CallableOn, ClosureSays}
 use Rattle.hashlink_run.proofs.Answering.{HasAnswered}
 use Rattle.hashlink_run.proofs.cache_running.run_cache.Given as goal
 

@@ -1,7 +1,7 @@
 use Rattle.std.proofs.Common.{◌≡◌, Bool, ap, subst, sym, ◌∙◌}
 use Rattle.std.specs.Map.{lookup_entry}
 use Rattle.hashlink_core.specs.Keyed.{entries_of}
-use Rattle.hashlink_commands.specs.declared.cache_commands.CacheCommand.{CacheCommand}
+use Rattle.hashlink_run.specs.declared.cache_commands.CacheCommand.{CacheCommand}
 use Rattle.hashlink_lru.specs.Cached.{state_in}
 use Rattle.hashlink_model.specs.Cache.{CacheState}
 use Rattle.hashlink_run.specs.CacheStep.{CommandReads, ReadFromCache}

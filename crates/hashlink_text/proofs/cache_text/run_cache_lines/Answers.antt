@@ -1,6 +1,6 @@
 use Rattle.std.proofs.lemmas.Result.{on_ok_weaker}
 use Rattle.hashlink_core.specs.Hashing.{default_builder}
-use Rattle.hashlink_spelling.specs.Lines.{lines_of}
+use Rattle.hashlink_text.specs.Lines.{lines_of}
 use Rattle.hashlink_lru.specs.Cached.{state_in}
 use Rattle.hashlink_text.specs.CacheTranscript.{CacheLineShows}
 use Rattle.hashlink_text.proofs.Progress.{Pushes-seen}

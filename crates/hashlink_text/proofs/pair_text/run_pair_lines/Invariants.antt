@@ -1,5 +1,5 @@
 use Rattle.std.proofs.Common.{◌≡◌, ◌++◌, ℕ, List, [], string_bytes}
-use Rattle.hashlink_spelling.specs.Lines.{lines_of}
+use Rattle.hashlink_text.specs.Lines.{lines_of}
 use Rattle.hashlink_lru.specs.Cached.{entries_in, state_in}
 use Rattle.hashlink_text.specs.CacheTranscript.{PairLineShows}
 use Rattle.hashlink_text.proofs.Progress.{HasCome}

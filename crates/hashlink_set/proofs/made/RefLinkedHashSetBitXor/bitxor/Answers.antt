@@ -2,7 +2,7 @@ use Rattle.std.proofs.Common.{subst}
 use Rattle.std.specs.List.{IsDistinct}
 use Rattle.hashlink_model.specs.Algebra.{symmetric_difference_of}
 use Rattle.hashlink_model.specs.Sets.{elements_of}
-use Rattle.hashlink_algebra.specs.Walks.{symmetric_difference_rest, SymmetricDifferenceSteps}
+use Rattle.hashlink_set.specs.Walks.{symmetric_difference_rest, SymmetricDifferenceSteps}
 use Rattle.hashlink_set.proofs.OfClones.{clones_by_answer}
 use Rattle.hashlink_set.proofs.made.RefLinkedHashSetBitXor.bitxor.Goals as goal
 

@@ -2,7 +2,7 @@ use Rattle.std.proofs.Common.{subst}
 use Rattle.std.specs.List.{IsDistinct}
 use Rattle.hashlink_model.specs.Algebra.{difference_of}
 use Rattle.hashlink_model.specs.Sets.{elements_of}
-use Rattle.hashlink_algebra.specs.Walks.{difference_rest, DifferenceSteps}
+use Rattle.hashlink_set.specs.Walks.{difference_rest, DifferenceSteps}
 use Rattle.hashlink_set.proofs.OfClones.{clones_by_answer}
 use Rattle.hashlink_set.proofs.made.RefLinkedHashSetSub.sub.Goals as goal
 

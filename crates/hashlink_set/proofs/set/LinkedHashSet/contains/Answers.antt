@@ -2,7 +2,7 @@ use Rattle.std.proofs.Common.{ap, ◌∙◌}
 use Rattle.std.specs.List.{list_any}
 use Rattle.hashlink_core.specs.Keyed.{entries_of}
 use Rattle.hashlink_model.specs.Sets.{elements_of}
-use Rattle.hashlink_algebra.proofs.Lookups.{member-found}
+use Rattle.hashlink_set.proofs.Lookups.{member-found}
 use Rattle.hashlink_set.proofs.set.LinkedHashSet.contains.Goals as goal
 
 pub returns-clause-found : goal.returns-clause-found

@@ -3,7 +3,7 @@ use Rattle.std.specs.List.{find}
 use Rattle.std.specs.Option.{option_map}
 use Rattle.hashlink_core.specs.Keyed.{entries_of}
 use Rattle.hashlink_model.specs.Sets.{elements_of}
-use Rattle.hashlink_algebra.proofs.Lookups.{element-found}
+use Rattle.hashlink_set.proofs.Lookups.{element-found}
 use Rattle.hashlink_set.proofs.set.LinkedHashSet.get.Goals as goal
 
 pub returns-in_err-stored-clause-found : goal.returns-in_err-stored-clause-found

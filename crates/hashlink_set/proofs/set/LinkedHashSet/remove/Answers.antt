@@ -3,7 +3,7 @@ use Rattle.std.specs.List.{list_any}
 use Rattle.std.specs.Set.{remove_key}
 use Rattle.hashlink_core.specs.Keyed.{entries_of, state_of}
 use Rattle.hashlink_model.specs.Sets.{elements_of}
-use Rattle.hashlink_algebra.proofs.Lookups.{member-entry}
+use Rattle.hashlink_set.proofs.Lookups.{member-entry}
 use Rattle.hashlink_set.proofs.Leaving.{removes_match_elements}
 use Rattle.hashlink_set.proofs.set.LinkedHashSet.remove.Goals as goal
 

@@ -1,9 +1,9 @@
 use Rattle.std.proofs.Common.{◌≡◌, ◌++◌, ◌%◌, codes, nat_eq, refl, sym, ap, ap₂, ◌∙◌, rules, string_bytes}
 use Rattle.std.proofs.lemmas.Result.{on_ok_weaker}
 use Rattle.hashlink_core.specs.Keyed.{state_of}
-use Rattle.hashlink_steps.specs.Keeps.{IsEven}
+use Rattle.hashlink_run.specs.Keeps.{IsEven}
 use Rattle.hashlink_text.specs.Transcript.{Itself, ended, form_of, replies_shown}
-use Rattle.hashlink_steps.proofs.Wider.{step-wider}
+use Rattle.hashlink_run.proofs.Wider.{step-wider}
 use Rattle.hashlink_text.proofs.ShownLines.{shows-command}
 use Rattle.hashlink_text.proofs.map_text.MapWithRepliesAnswersLines.answer_line.Goals as goal
 

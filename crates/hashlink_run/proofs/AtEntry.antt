@@ -1,0 +1,147 @@
+-- What is done through an entry is a step at the place of its key.
+use Rattle.std.proofs.Common.{◌≡◌, ℕ, ◌-◌, Bool, List, [], ◌∷◌, ◌++◌, length, slice_get, Option, None, Some}
+use Rattle.std.proofs.Common.{refl, sym, ap, ap₂, ◌∙◌, subst, arith, length-append, true, false, nat_lt}
+use Rattle.std.proofs.Common.{if◌then◌else◌}
+use Rattle.std.specs.Map.{lookup_entry}
+use Rattle.std.specs.Option.{option_map}
+use Rattle.std.specs.Prelude.{Result, Ok, Err, insert, remove}
+use Rattle.std.specs.Result.{IsErrAnd}
+use Rattle.std.proofs.lemmas.Option.{none-some, same_Some}
+use Rattle.hashlink_model.specs.Entries.{place_of, moved_at}
+use Rattle.hashlink_model.specs.Entry.{EntryState, entry_of, key_at, value_at, TakesEntry}
+use Rattle.hashlink_model.specs.MapState.{MapState, AddsEntry, MovesAt, RemovesAt}
+use Rattle.hashlink_model.proofs.ByPlace.{moved_at-last}
+use Rattle.hashlink_model.proofs.Places.{split_at, slice_get_here}
+use Rattle.hashlink_model.proofs.Splits.{stands_from_place, lookup_entry-here}
+use Rattle.hashlink_run.specs.declared.commands.EntryStep.{EntryStep}
+use Rattle.hashlink_run.specs.declared.replies.Reply.{Reply}
+use Rattle.hashlink_run.specs.declared.replies.Reply.TheVariants.{Seen}
+use Rattle.hashlink_run.specs.EntrySteps.{OccupiedStep, VacantStep, EntrySteps}
+use Rattle.hashlink_run.specs.Reads.{SaysOf, Replies}
+
+module _ {K V B S : Type 0} (eq : K → K → Bool) (Says : K → V → B → Type 0) {m : MapState K V S} {k : K}
+    {e : EntryState K V S} (is : e ≡ entry_of eq m k) {step s : EntryStep V} (given : step ≡ s)
+    (replies : List (Reply K V B)) (new : MapState K V S) where
+  pub at_occupied : {j : ℕ} → e.place ≡ Some j → OccupiedStep Says e.map j e.key s replies new
+      → EntrySteps eq Says m k step replies new
+  at_occupied {j} at done =
+      let place : place_of (eq k) m.entries ≡ Some j = sym (ap (λ e. e.place) is) ∙ at in
+      let here : OccupiedStep Says m j k step replies new =
+      rw (given, ← ap (λ e. e.map) is, ← ap (λ e. e.key) is) done in
+      rw place here
+
+  pub at_vacant : e.place ≡ None → VacantStep eq e.map e.key s replies new
+      → EntrySteps eq Says m k step replies new
+  at_vacant at done =
+      let place : place_of (eq k) m.entries ≡ None = sym (ap (λ e. e.place) is) ∙ at in
+      let here : VacantStep eq m k step replies new =
+      rw (given, ← ap (λ e. e.map) is, ← ap (λ e. e.key) is) done in
+      rw place here
+
+-- with the value that stands where it was lent
+pub added : {K V S : Type 0} {eq : K → K → Bool} {old new : MapState K V S} {k : K} {w v : V} {b : ℕ} → w ≡ v
+    → AddsEntry eq old new k w b → AddsEntry eq old new k v b
+added {eq = eq} {old} {new} {k} {b = b} same adds = subst (λ v. AddsEntry eq old new k v b) same adds
+
+-- and what was handed back goes on
+pub handed_on : {A E : Type 0} (r : Result A E) (p : E) → IsErrAnd r (λ x. x ≡ p) → r ≡ Err p
+handed_on (Ok a) p e = absurd e
+handed_on (Err x) p e = ap Err e
+
+-- ---- the pair that is read
+
+module _ {K V : Type 0} where
+  pub pair_at : (es : List (K × V)) (j : ℕ) (k : K) (v : V) → key_at es j ≡ Some k → value_at es j ≡ Some v
+      → slice_get es j ≡ Some (k, v)
+  pair_at es j k v key value = by (slice_get es j) key value
+    where
+      by : (o : Option (K × V)) → option_map (λ e. e.0) o ≡ Some k → option_map (λ e. e.1) o ≡ Some v
+          → o ≡ Some (k, v)
+      by None key value = absurd (none-some k key)
+      by (Some e) key value =
+          let first : e.0 ≡ k = same_Some e.0 k key in
+          let second : e.1 ≡ v = same_Some e.1 v value in
+          ap (λ k. Some (k, e.1)) first ∙ ap (λ v. Some (k, v)) second
+
+  end_of_moved : (xs : List (K × V)) (e : K × V) (ys : List (K × V))
+      → slice_get (moved_at (xs ++ e ∷ ys) (length xs) (length (xs ++ e ∷ ys))) (length (xs ++ e ∷ ys) - 1)
+      ≡ Some e
+  end_of_moved xs e ys =
+      let n : length (xs ++ e ∷ ys) - 1 ≡ length (xs ++ ys) =
+      omega (arith, length-append xs (e ∷ ys), length-append xs ys) in
+      rw (moved_at-last xs e ys, n) (slice_get_here (xs ++ ys) e [])
+
+  -- an entry that moves to the end stands there
+  pub moved_to_end : (es : List (K × V)) (j : ℕ) (e : K × V) → slice_get es j ≡ Some e
+      → slice_get (moved_at es j (length es)) (length es - 1) ≡ Some e
+  moved_to_end es j e at =
+      let s = split_at es j e at in
+      ap₂ (λ zs n. slice_get (moved_at zs n (length zs)) (length zs - 1)) s.2 (sym s.3)
+      ∙ end_of_moved s.0 e s.1
+
+  first_inserted : (es : List (K × V)) (e : K × V) (b : Bool)
+      → slice_get (insert es (if b then 0 - 1 else 0) e) 0 ≡ Some e
+  first_inserted es e true = refl
+  first_inserted es e false = refl
+
+  -- and one that moves to the front stands there
+  pub moved_to_front : (es : List (K × V)) (j : ℕ) (e : K × V) → slice_get es j ≡ Some e
+      → slice_get (moved_at es j 0) 0 ≡ Some e
+  moved_to_front es j e at = rw at (first_inserted (remove es j) e (nat_lt j 0))
+
+-- what is read at the entry's place is the pair of its key
+module _ {K V S : Type 0} (eq : K → K → Bool) {m : MapState K V S} {k : K} {e : EntryState K V S}
+    (is : e ≡ entry_of eq m k) (old : MapState K V S) (j : ℕ) (same : e.map ≡ old)
+    (at : e.place ≡ Some j) where
+  stands : (x : K × V) × (slice_get old.entries j ≡ Some x) × (lookup_entry (eq k) m.entries ≡ Some x)
+  stands =
+      let map : m ≡ old = sym (ap (λ e. e.map) is) ∙ same in
+      let place : place_of (eq k) old.entries ≡ Some j =
+      ap (λ m. place_of (eq k) m.entries) (sym map) ∙ sym (ap (λ e. e.place) is) ∙ at in
+      let s = stands_from_place (eq k) old.entries j place in (
+        s.1,
+        ap₂ slice_get s.3.is (sym s.4) ∙ slice_get_here s.0 s.1 s.2,
+        ap (λ m. lookup_entry (eq k) m.entries) map ∙ ap (lookup_entry (eq k)) s.3.is
+            ∙ lookup_entry-here (eq k) s.1 s.2 s.3.passes s.0 s.3.before,
+      )
+
+  module _ (pair : K × V) where
+    pub read_there : slice_get old.entries j ≡ Some pair → lookup_entry (eq k) m.entries ≡ Some pair
+    read_there read = stands.2 ∙ sym stands.1 ∙ read
+
+    -- also after it has moved to an end
+    module _ (new : MapState K V S) (p : ℕ) (read : slice_get new.entries p ≡ Some pair) where
+      pub read_at_end : MovesAt old new j (length old.entries) → Some p ≡ Some (length old.entries - 1)
+          → lookup_entry (eq k) m.entries ≡ Some pair
+      read_at_end moves end =
+          let is = ap₂ slice_get moves.entries (same_Some _ _ end) in
+          stands.2 ∙ sym (is ∙ moved_to_end old.entries j stands.0 stands.1) ∙ read
+
+      pub read_at_front : MovesAt old new j 0 → Some p ≡ Some 0 → lookup_entry (eq k) m.entries ≡ Some pair
+      read_at_front moves front =
+          let is = ap₂ slice_get moves.entries (same_Some _ _ front) in
+          stands.2 ∙ sym (is ∙ moved_to_front old.entries j stands.0 stands.1) ∙ read
+
+-- so what is said of it there is said of it
+module _ {K V B S : Type 0} (eq : K → K → Bool) (Says : K → V → B → Type 0) {m : MapState K V S} {k : K}
+    {e : EntryState K V S} (is : e ≡ entry_of eq m k) (old new : MapState K V S) (j p : ℕ) (b : B)
+    (same : e.map ≡ old) (at : e.place ≡ Some j) where
+  pub said_at_end : MovesAt old new j (length old.entries) → Some p ≡ Some (length old.entries - 1)
+      → SaysOf Says (slice_get new.entries p) (Some b)
+      → Replies Says (slice_get old.entries j) (Seen (Some b) ∷ [])
+  said_at_end moves end said =
+      let s = stands eq is old j same at in
+      let read = ap₂ slice_get moves.entries (same_Some _ _ end)
+      ∙ moved_to_end old.entries j s.0 s.1
+      ∙ sym s.1 in
+      (Some b, rw read at said, refl)
+
+-- a value that is taken out goes with its key
+pub taken : {K V S : Type 0} (old new : MapState K V S) (j : ℕ) (v : V) → value_at old.entries j ≡ Some v
+    → RemovesAt old new j → (e : K × V) × TakesEntry old new j e × (v ≡ e.1)
+taken {K} {V} old new j v value removes = by (slice_get old.entries j) refl value
+  where
+    by : (o : Option (K × V)) → slice_get old.entries j ≡ o → option_map (λ e. e.1) o ≡ Some v
+        → (e : K × V) × TakesEntry old new j e × (v ≡ e.1)
+    by None at value = absurd (none-some v value)
+    by (Some e) at value = (e, record { answer = at; step = removes }, sym (same_Some e.1 v value))

@@ -1,0 +1,126 @@
+-- What one closure says of a pair that a map read, another may say that says at least that.
+use Rattle.std.proofs.Common.{ℕ, Bool, List, [], ◌∷◌, slice_get, Option, None, Some, MatchOption}
+use Rattle.std.specs.Map.{lookup_entry}
+use Rattle.hashlink_model.specs.Cursor.{CursorState, entry_in, place_next, place_previous}
+use Rattle.hashlink_model.specs.Entries.{place_of}
+use Rattle.hashlink_model.specs.MapState.{MapState}
+use Rattle.hashlink_model.specs.Walk.{first_of, last_of}
+use Rattle.hashlink_run.specs.declared.commands.Command.{Command}
+use Rattle.hashlink_run.specs.declared.commands.Command.TheVariants.{Insert, InsertFront, Replace, Get}
+use Rattle.hashlink_run.specs.declared.commands.Command.TheVariants.{Remove}
+use Rattle.hashlink_run.specs.declared.commands.Command.TheVariants.{RemoveEntry, PopFront, PopBack}
+use Rattle.hashlink_run.specs.declared.commands.Command.TheVariants.{ToFront}
+use Rattle.hashlink_run.specs.declared.commands.Command.TheVariants.{ToBack}
+use Rattle.hashlink_run.specs.declared.commands.Command.TheVariants.{Front, Back, Len, Clear, Shrink}
+use Rattle.hashlink_run.specs.declared.commands.Command.TheVariants.{Keep}
+use Rattle.hashlink_run.specs.declared.commands.Command.TheVariants.{Entry, Cursor}
+use Rattle.hashlink_run.specs.declared.commands.CursorStep.{CursorStep}
+use Rattle.hashlink_run.specs.declared.commands.CursorStep.TheVariants.{Next, Prev, Current, PeekNext}
+use Rattle.hashlink_run.specs.declared.commands.CursorStep.TheVariants.{PeekPrev}
+use Rattle.hashlink_run.specs.declared.commands.CursorStep.TheVariants.{Before, After}
+use Rattle.hashlink_run.specs.declared.commands.EntryStep.{EntryStep}
+use Rattle.hashlink_run.specs.declared.commands.EntryStep.TheVariants as step
+use Rattle.hashlink_run.specs.declared.replies.Reply.{Reply}
+use Rattle.hashlink_run.specs.CursorSteps.{CursorStepped, CursorWalks, CursorSteps, first_place}
+use Rattle.hashlink_run.specs.EntrySteps.{OccupiedStep, VacantStep, EntrySteps}
+use Rattle.hashlink_run.specs.Reads.{SaysOf, Replies, Reads}
+use Rattle.hashlink_run.specs.Step.{Step}
+use Rattle.hashlink_run.proofs.Kept.{keeps_where-wider}
+
+module _ {K V B : Type 0} (P Q : K → V → B → Type 0)
+    (wider : (k : K) (v : V) (b : B) → P k v b → Q k v b) where
+  said-wider : (pair : Option (K × V)) (said : Option B) → SaysOf P pair said → SaysOf Q pair said
+  said-wider None None s = tt
+  said-wider None (Some b) s = absurd s
+  said-wider (Some pair) None s = absurd s
+  said-wider (Some pair) (Some b) s = wider pair.0 pair.1 b s
+
+  pub replies-wider : (pair : Option (K × V)) (replies : List (Reply K V B)) → Replies P pair replies
+      → Replies Q pair replies
+  replies-wider pair replies s = (s.0, said-wider pair s.0 s.1, s.2)
+
+  module _ {S : Type 0} (old : MapState K V S) (replies : List (Reply K V B)) (new : MapState K V S) where
+    pub reads-wider : (pair : Option (K × V)) → Reads P old pair replies new → Reads Q old pair replies new
+    reads-wider pair s = (s.0, replies-wider pair replies s.1)
+
+    occupied-wider : (j : ℕ) (k : K) (step : EntryStep V) → OccupiedStep P old j k step replies new
+        → OccupiedStep Q old j k step replies new
+    occupied-wider j k step.Get s = reads-wider (slice_get old.entries j) s
+    occupied-wider j k (step.OrInsert v) s = (s.0, replies-wider (slice_get old.entries j) replies s.1)
+    occupied-wider j k (step.Insert v) s = s
+    occupied-wider j k (step.InsertEntry v) s = s
+    occupied-wider j k (step.ReplaceEntry v) s = s
+    occupied-wider j k step.ReplaceKey s = s
+    occupied-wider j k step.ToFront s = (s.0, replies-wider (slice_get old.entries j) replies s.1)
+    occupied-wider j k step.ToBack s = (s.0, replies-wider (slice_get old.entries j) replies s.1)
+    occupied-wider j k step.Remove s = s
+    occupied-wider j k step.RemoveEntry s = s
+
+    pub entry-wider : (eq : K → K → Bool) (k : K) (step : EntryStep V)
+        → EntrySteps eq P old k step replies new
+        → EntrySteps eq Q old k step replies new
+    entry-wider eq k step s = by (place_of (eq k) old.entries) s
+      where
+        by : (o : Option ℕ)
+            → MatchOption o (VacantStep eq old k step replies new)
+            (λ j. OccupiedStep P old j k step replies new)
+            → MatchOption o (VacantStep eq old k step replies new)
+            (λ j. OccupiedStep Q old j k step replies new)
+        by None s = s
+        by (Some j) s = occupied-wider j k step s
+
+-- ---- a cursor
+
+module _ {K V B : Type 0} (P Q : K → V → B → Type 0) (wider : (k : K) (v : V) (b : B) → P k v b → Q k v b)
+    {S : Type 0} (eq : K → K → Bool) where
+  cursor_step-wider : (old new : CursorState K V S) (step : CursorStep K V) (replies : List (Reply K V B))
+      → CursorStepped eq P old step replies new → CursorStepped eq Q old step replies new
+  cursor_step-wider old new Next replies s =
+      (s.0, replies-wider P Q wider (entry_in old (place_next old)) replies s.1)
+  cursor_step-wider old new Prev replies s =
+      (s.0, replies-wider P Q wider (entry_in old (place_previous old)) replies s.1)
+  cursor_step-wider old new Current replies s =
+      (s.0, replies-wider P Q wider (entry_in old old.place) replies s.1)
+  cursor_step-wider old new PeekNext replies s =
+      (s.0, replies-wider P Q wider (entry_in old (place_next old)) replies s.1)
+  cursor_step-wider old new PeekPrev replies s =
+      (s.0, replies-wider P Q wider (entry_in old (place_previous old)) replies s.1)
+  cursor_step-wider old new (Before k v) replies s = s
+  cursor_step-wider old new (After k v) replies s = s
+
+  walk-wider : (old new : CursorState K V S) (steps : List (CursorStep K V)) (replies : List (Reply K V B))
+      → CursorWalks eq P old steps replies new → CursorWalks eq Q old steps replies new
+  walk-wider old new [] replies s = s
+  walk-wider old new (step ∷ steps) replies s =
+      (s.0, s.1, s.2, cursor_step-wider old s.1 step s.0 s.3, walk-wider s.1 new steps s.2 s.4, s.5)
+
+  pub cursor-wider : (old new : MapState K V S) (steps : List (CursorStep K V)) (replies : List (Reply K V B))
+      → CursorSteps eq P old steps replies new → CursorSteps eq Q old steps replies new
+  cursor-wider old new steps replies s = (s.0, walk-wider (first_place old) s.0 steps replies s.1, s.2)
+
+-- ---- a command
+
+module _ {K V B : Type 0} (P Q : K → V → B → Type 0) (wider : (k : K) (v : V) (b : B) → P k v b → Q k v b)
+    (Keeps Also : K → V → Bool → Type 0) (also : (k : K) (v : V) (b : Bool) → Keeps k v b → Also k v b)
+    {S : Type 0} (eq : K → K → Bool) (old : MapState K V S) (replies : List (Reply K V B))
+    (new : MapState K V S) where
+  pub step-wider : (command : Command K V) → Step eq P Keeps old command replies new
+      → Step eq Q Also old command replies new
+  step-wider (Insert k v) s = s
+  step-wider (InsertFront k v) s = s
+  step-wider (Replace k v) s = s
+  step-wider (Get k) s = reads-wider P Q wider old replies new (lookup_entry (eq k) old.entries) s
+  step-wider (Remove k) s = s
+  step-wider (RemoveEntry k) s = s
+  step-wider PopFront s = s
+  step-wider PopBack s = s
+  step-wider (ToFront k) s = (s.0, replies-wider P Q wider (lookup_entry (eq k) old.entries) replies s.1)
+  step-wider (ToBack k) s = (s.0, replies-wider P Q wider (lookup_entry (eq k) old.entries) replies s.1)
+  step-wider Front s = reads-wider P Q wider old replies new (first_of old.entries) s
+  step-wider Back s = reads-wider P Q wider old replies new (last_of old.entries) s
+  step-wider Len s = s
+  step-wider Clear s = s
+  step-wider Shrink s = s
+  step-wider Keep s = (keeps_where-wider Keeps Also also old new s.0, s.1)
+  step-wider (Entry k step) s = entry-wider P Q wider old replies new eq k step s
+  step-wider (Cursor steps) s = cursor-wider P Q wider eq old new steps.items replies s

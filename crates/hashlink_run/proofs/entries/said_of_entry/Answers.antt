@@ -1,0 +1,22 @@
+use Rattle.std.proofs.Common.{refl}
+use Rattle.hashlink_map.specs.Entry.{occupied_place, occupied_state}
+use Rattle.hashlink_run.specs.Reads.{ClosureSays}
+use Rattle.hashlink_run.proofs.AtEntry.{pair_at}
+use Rattle.hashlink_run.proofs.entries.said_of_entry.Goals as goal
+
+pub says-requires : goal.says-requires
+says-requires g c =
+    let there =
+    pair_at (occupied_state c.args.entry.now).map.entries (occupied_place c.args.entry.now)
+    c.key.result.now c.get.result.now c.key.ensures c.get.ensures in
+    c.requires (c.key.result.now, c.get.result.now) there c.key.result c.get.result refl refl
+
+pub returns : goal.returns
+returns g c =
+    let says : ClosureSays g.F.Fn c.args.says.now c.key.result.now c.get.result.now c.says.result = record {
+      key = c.key.result;
+      value = c.get.result;
+      shows = (refl, refl);
+      says = record { met = c.says.ensures };
+    } in
+    rw (pair_at _ _ _ _ c.key.ensures c.get.ensures) says

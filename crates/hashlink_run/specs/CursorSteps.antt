@@ -1,0 +1,73 @@
+-- What a cursor answers to its steps, and what it goes on to.
+use Rattle.std.specs.Prelude.{◌≡◌, ◌⊎◌, ℕ, Bool, List, [], ◌∷◌, ◌++◌, Option, Some, Result}
+use Rattle.hashlink_model.specs.Cursor.{CursorState, at_place, entry_in, place_next, place_previous}
+use Rattle.hashlink_model.specs.Cursor.{InsertsBefore}
+use Rattle.hashlink_model.specs.Cursor.{InsertsAfter}
+use Rattle.hashlink_model.specs.MapState.{MapState}
+use Rattle.hashlink_run.specs.declared.commands.CursorStep.{CursorStep}
+use Rattle.hashlink_run.specs.declared.commands.CursorStep.TheVariants.{Next, Prev, Current, PeekNext}
+use Rattle.hashlink_run.specs.declared.commands.CursorStep.TheVariants.{PeekPrev}
+use Rattle.hashlink_run.specs.declared.commands.CursorStep.TheVariants.{Before, After}
+use Rattle.hashlink_run.specs.declared.replies.Reply.{Reply}
+use Rattle.hashlink_run.specs.CallReplies.{insert_reply}
+use Rattle.hashlink_run.specs.Reads.{Replies}
+
+-- a cursor on the first entry of a map, or on its guard
+abbrev pub first_place : {K V S : Type 0} → MapState K V S → CursorState K V S
+first_place m = record { map = m; place = 0 }
+
+-- the step of a cursor reads the pair
+abbrev pub ReadByStep : {K V S : Type 0} → CursorState K V S → CursorStep K V → K × V → Type 0
+ReadByStep old Next pair = entry_in old (place_next old) ≡ Some pair
+ReadByStep old Prev pair = entry_in old (place_previous old) ≡ Some pair
+ReadByStep old Current pair = entry_in old old.place ≡ Some pair
+ReadByStep old PeekNext pair = entry_in old (place_next old) ≡ Some pair
+ReadByStep old PeekPrev pair = entry_in old (place_previous old) ≡ Some pair
+ReadByStep old (Before k v) pair = ⊥
+ReadByStep old (After k v) pair = ⊥
+
+module _ {K V B S : Type 0} (eq : K → K → Bool) (Says : K → V → B → Type 0) where
+  -- the cursor goes to the place i, and what is there is read
+  abbrev pub GoesAndReads : CursorState K V S → ℕ → List (Reply K V B) → CursorState K V S → Type 0
+  GoesAndReads old i replies new = (new ≡ at_place old i) × Replies Says (entry_in old i) replies
+
+  -- the cursor stays, and what is at the place i is read
+  abbrev pub Peeks : CursorState K V S → ℕ → List (Reply K V B) → CursorState K V S → Type 0
+  Peeks old i replies new = (new ≡ old) × Replies Says (entry_in old i) replies
+
+  -- one step
+  abbrev pub CursorStepped : CursorState K V S → CursorStep K V → List (Reply K V B)
+      → CursorState K V S → Type 0
+  CursorStepped old Next replies new = GoesAndReads old (place_next old) replies new
+  CursorStepped old Prev replies new = GoesAndReads old (place_previous old) replies new
+  CursorStepped old Current replies new = Peeks old old.place replies new
+  CursorStepped old PeekNext replies new = Peeks old (place_next old) replies new
+  CursorStepped old PeekPrev replies new = Peeks old (place_previous old) replies new
+  CursorStepped old (Before k v) replies new =
+      (answer : Result (Option V) (K × V)) × InsertsBefore eq old new k v answer
+      × (replies ≡ insert_reply answer ∷ [])
+  CursorStepped old (After k v) replies new =
+      (answer : Result (Option V) (K × V)) × InsertsAfter eq old new k v answer
+      × (replies ≡ insert_reply answer ∷ [])
+
+  -- steps in turn, with the replies to all of them
+  abbrev pub CursorWalks : CursorState K V S → List (CursorStep K V) → List (Reply K V B)
+      → CursorState K V S → Type 0
+  CursorWalks old [] replies new = (replies ≡ []) × (new ≡ old)
+  CursorWalks old (step ∷ steps) replies new =
+      (first : List (Reply K V B)) × (between : CursorState K V S) × (more : List (Reply K V B))
+      × CursorStepped old step first between × CursorWalks between steps more new × (replies ≡ first ++ more)
+
+  -- steps from the first entry on, and the map that they leave
+  abbrev pub CursorSteps : MapState K V S → List (CursorStep K V) → List (Reply K V B)
+      → MapState K V S → Type 0
+  CursorSteps old steps replies new =
+      (end : CursorState K V S) × CursorWalks (first_place old) steps replies end × (new ≡ end.map)
+
+  -- one of the steps in turn may come to read the pair
+  abbrev pub ReadOnWalk : CursorState K V S → List (CursorStep K V) → K × V → Type 0
+  ReadOnWalk old [] pair = ⊥
+  ReadOnWalk old (step ∷ steps) pair =
+      ReadByStep old step pair
+      ⊎ ((replies : List (Reply K V B)) × (next : CursorState K V S) × CursorStepped old step replies next
+      × ReadOnWalk next steps pair)

@@ -1,0 +1,101 @@
+-- What a map answers to a command, and what it goes on to. Of a pair that a command reads, a reply has what
+-- `Says` lets be said, and a keep goes by what `Keeps` lets be answered.
+use Rattle.std.specs.Prelude.{◌≡◌, ℕ, Bool, List, [], ◌∷◌, length, Option, Some, Result, Contains}
+use Rattle.std.specs.Map.{lookup, lookup_entry}
+use Rattle.std.specs.declared.alloc.AllocError.{AllocError}
+use Rattle.hashlink_model.specs.MapState.{MapState, Inserts}
+use Rattle.hashlink_model.specs.Steps.{Replaces, RemovesKey, PopsFront, PopsBack, Moves, Clears, Shrinks}
+use Rattle.hashlink_model.specs.Walk.{first_of, last_of}
+use Rattle.hashlink_run.specs.declared.commands.Command.{Command}
+use Rattle.hashlink_run.specs.declared.commands.Command.TheVariants.{Insert, InsertFront, Replace, Get}
+use Rattle.hashlink_run.specs.declared.commands.Command.TheVariants.{Remove}
+use Rattle.hashlink_run.specs.declared.commands.Command.TheVariants.{RemoveEntry, PopFront, PopBack}
+use Rattle.hashlink_run.specs.declared.commands.Command.TheVariants.{ToFront}
+use Rattle.hashlink_run.specs.declared.commands.Command.TheVariants.{ToBack}
+use Rattle.hashlink_run.specs.declared.commands.Command.TheVariants.{Front, Back, Len, Clear, Shrink}
+use Rattle.hashlink_run.specs.declared.commands.Command.TheVariants.{Keep}
+use Rattle.hashlink_run.specs.declared.commands.Command.TheVariants.{Entry, Cursor}
+use Rattle.hashlink_run.specs.declared.replies.Reply.{Reply}
+use Rattle.hashlink_run.specs.declared.replies.Reply.TheVariants.{Done, Value, Pair, Length}
+use Rattle.hashlink_run.specs.CallReplies.{insert_reply, shrink_reply}
+use Rattle.hashlink_run.specs.CursorSteps.{CursorSteps, ReadOnWalk, first_place}
+use Rattle.hashlink_run.specs.Keeps.{KeepsWhere}
+use Rattle.hashlink_run.specs.Reads.{Replies, Reads}
+use Rattle.hashlink_run.specs.EntrySteps.{EntrySteps, ReadAtEntry}
+
+module _ {K V B S : Type 0} (eq : K → K → Bool) (Says : K → V → B → Type 0)
+    (Keeps : K → V → Bool → Type 0) where
+  -- an insert at the place b
+  abbrev pub InsertsWith : MapState K V S → K → V → ℕ → List (Reply K V B) → MapState K V S → Type 0
+  InsertsWith old k v b replies new =
+      (answer : Result (Option V) (K × V)) × Inserts eq old new k v b answer
+      × (replies ≡ insert_reply answer ∷ [])
+
+  -- the key's pair moves to the place b, and is read
+  abbrev pub MovesAndReads : MapState K V S → K → ℕ → List (Reply K V B) → MapState K V S → Type 0
+  MovesAndReads old k b replies new =
+      Moves eq old new k b (lookup (eq k) old.entries)
+      × Replies Says (lookup_entry (eq k) old.entries) replies
+
+  -- from old, the map may answer the command by these replies and go on to new
+  abbrev pub Step : MapState K V S → Command K V → List (Reply K V B) → MapState K V S → Type 0
+  Step old (Insert k v) replies new = InsertsWith old k v (length old.entries) replies new
+  Step old (InsertFront k v) replies new = InsertsWith old k v 0 replies new
+  Step old (Replace k v) replies new =
+      (answer : Result (Option V) (K × V)) × Replaces eq old new k v answer
+      × (replies ≡ insert_reply answer ∷ [])
+  Step old (Get k) replies new = Reads Says old (lookup_entry (eq k) old.entries) replies new
+  Step old (Remove k) replies new =
+      RemovesKey eq old new k (lookup_entry (eq k) old.entries)
+      × (replies ≡ Value (lookup (eq k) old.entries) ∷ [])
+  Step old (RemoveEntry k) replies new =
+      RemovesKey eq old new k (lookup_entry (eq k) old.entries)
+      × (replies ≡ Pair (lookup_entry (eq k) old.entries) ∷ [])
+  Step old PopFront replies new =
+      PopsFront old new (first_of old.entries) × (replies ≡ Pair (first_of old.entries) ∷ [])
+  Step old PopBack replies new =
+      PopsBack old new (last_of old.entries) × (replies ≡ Pair (last_of old.entries) ∷ [])
+  Step old (ToFront k) replies new = MovesAndReads old k 0 replies new
+  Step old (ToBack k) replies new = MovesAndReads old k (length old.entries) replies new
+  Step old Front replies new = Reads Says old (first_of old.entries) replies new
+  Step old Back replies new = Reads Says old (last_of old.entries) replies new
+  Step old Len replies new = (new ≡ old) × (replies ≡ Length (length old.entries) ∷ [])
+  Step old Clear replies new = Clears old new × (replies ≡ Done ∷ [])
+  Step old Shrink replies new =
+      (answer : Result (Unit {0}) AllocError) × Shrinks old new answer × (replies ≡ shrink_reply answer ∷ [])
+  Step old Keep replies new = KeepsWhere Keeps old new × (replies ≡ Done ∷ [])
+  Step old (Entry k step) replies new = EntrySteps eq Says old k step replies new
+  Step old (Cursor steps) replies new = CursorSteps eq Says old steps.items replies new
+
+module _ {K V : Type 0} where
+  -- how many replies a command has: one, and a cursor's steps one each
+  abbrev pub reply_count : Command K V → ℕ
+  reply_count (Cursor steps) = length steps.items
+  reply_count command = 1
+
+  -- the command is no cursor's, so that it has one reply
+  abbrev pub IsNoCursor : Command K V → Type 0
+  IsNoCursor (Cursor steps) = ⊥
+  IsNoCursor command = Unit {0}
+
+-- the command, from old, may come to read the pair
+abbrev pub ReadBy : {K V B S : Type 0} → (K → K → Bool) → (K → V → B → Type 0) → MapState K V S → Command K V
+    → K × V → Type 0
+ReadBy eq Says old (Get k) pair = lookup_entry (eq k) old.entries ≡ Some pair
+ReadBy eq Says old (ToFront k) pair = lookup_entry (eq k) old.entries ≡ Some pair
+ReadBy eq Says old (ToBack k) pair = lookup_entry (eq k) old.entries ≡ Some pair
+ReadBy eq Says old Front pair = first_of old.entries ≡ Some pair
+ReadBy eq Says old Back pair = last_of old.entries ≡ Some pair
+ReadBy eq Says old (Entry k step) pair = ReadAtEntry eq old k step pair
+ReadBy eq Says old (Cursor steps) pair = ReadOnWalk eq Says (first_place old) steps.items pair
+ReadBy eq Says old command pair = ⊥
+
+-- the command is a keep, and asks of the pair
+abbrev pub KeepAsks : {K V S : Type 0} → MapState K V S → Command K V → K × V → Type 0
+KeepAsks old Keep pair = Contains old.entries pair
+KeepAsks old command pair = ⊥
+
+-- the same as a record: terms of it are compared by its arguments, and so at little cost
+pub record AskedBy {K V S : Type 0} (old : MapState K V S) (command : Command K V) (pair : K × V)
+    : Type 0 where
+  pub asks : KeepAsks old command pair

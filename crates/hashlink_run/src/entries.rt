@@ -1,0 +1,118 @@
+//! One step on a map's entry.
+ghost use Rattle.std.specs.Prelude.{◌≡◌, [], ◌∷◌, Some, slice_get};
+ghost use Rattle.hashlink_core.specs.Keyed.{state_of};
+ghost use Rattle.hashlink_map.specs.Entry.{occupied_place, occupied_state};
+ghost use Rattle.hashlink_run.specs.CallReplies.{reply_or_refused};
+ghost use Rattle.hashlink_run.specs.EntrySteps.{EntrySteps, ReadAtEntry};
+ghost use Rattle.hashlink_run.specs.Reads.{CallableOn, ClosureSays, SaysOf};
+
+use crate::{EntryStep, Reply};
+use hashlink_map::{Entry, LinkedHashMap, OccupiedEntry};
+use std::hash::{BuildHasher, Hash};
+
+/// Runs the step at the key's place in the map, with the given key, and returns its reply. `says` has to be
+/// callable on the pair that the step reads. It costs what the methods of an entry cost that the step names.
+/// If it fails to allocate, it replies `Refused` with the pair.
+pub fn reply_of_entry<K, V, S, B, F>(
+    map: &mut LinkedHashMap<K, V, S>,
+    key: K,
+    step: EntryStep<V>,
+    says: &F,
+) -> Reply<K, V, B>
+where
+    K: Eq + Hash + Drop,
+    V: Drop,
+    S: BuildHasher,
+    F: Fn(&K, &V) -> B,
+    requires { CallableOn F.Fn says.now (ReadAtEntry K.eq (state_of map.old) key step) }
+    ensures { EntrySteps K.eq (ClosureSays F.Fn says.now) (state_of map.old) key step (result ∷ [])
+        (state_of map.new) }
+{
+    match done_at_entry(map, key, step, says) {
+        Ok(reply) => reply,
+        Err((key, value)) => Reply::Refused(key, value),
+    }
+}
+
+// Returns the reply to the step, or the pair if it is not inserted. An occupied entry that no method has
+// consumed ends by its `into_key`: if it went out of scope with a key of any type, nothing would be known of
+// the map.
+fn done_at_entry<K, V, S, B, F>(
+    map: &mut LinkedHashMap<K, V, S>,
+    key: K,
+    step: EntryStep<V>,
+    says: &F,
+) -> Result<Reply<K, V, B>, (K, V)>
+where
+    K: Eq + Hash + Drop,
+    V: Drop,
+    S: BuildHasher,
+    F: Fn(&K, &V) -> B,
+    requires { CallableOn F.Fn says.now (ReadAtEntry K.eq (state_of map.old) key step) }
+    ensures { EntrySteps K.eq (ClosureSays F.Fn says.now) (state_of map.old) key step
+        (reply_or_refused result ∷ []) (state_of map.new) }
+{
+    match map.entry(key) {
+        Entry::Occupied(mut entry) => match step {
+            EntryStep::Get => {
+                let said = said_of_entry(&entry, says);
+                entry.into_key();
+                Ok(Reply::Seen(Some(said)))
+            }
+            EntryStep::OrInsert(_) | EntryStep::ToBack => {
+                entry.to_back();
+                let said = said_of_entry(&entry, says);
+                entry.into_key();
+                Ok(Reply::Seen(Some(said)))
+            }
+            EntryStep::Insert(value) => {
+                let old = entry.insert(value);
+                entry.into_key();
+                Ok(Reply::Value(Some(old)))
+            }
+            EntryStep::InsertEntry(value) => Ok(Reply::Pair(Some(entry.insert_entry(value)))),
+            EntryStep::ReplaceEntry(value) => Ok(Reply::Pair(Some(entry.replace_entry(value)))),
+            EntryStep::ReplaceKey => Ok(Reply::Key(Some(entry.replace_key()))),
+            EntryStep::ToFront => {
+                entry.to_front();
+                let said = said_of_entry(&entry, says);
+                entry.into_key();
+                Ok(Reply::Seen(Some(said)))
+            }
+            EntryStep::Remove => Ok(Reply::Value(Some(entry.remove()))),
+            EntryStep::RemoveEntry => Ok(Reply::Pair(Some(entry.remove_entry()))),
+        },
+        Entry::Vacant(entry) => match step {
+            EntryStep::Get | EntryStep::ToFront | EntryStep::ToBack => Ok(Reply::Seen(None)),
+            EntryStep::OrInsert(value) => {
+                entry.insert(value)?;
+                Ok(Reply::Seen(None))
+            }
+            EntryStep::Insert(value) => {
+                entry.insert(value)?;
+                Ok(Reply::Value(None))
+            }
+            EntryStep::InsertEntry(value) => {
+                entry.insert(value)?;
+                Ok(Reply::Pair(None))
+            }
+            EntryStep::ReplaceEntry(_) | EntryStep::RemoveEntry => Ok(Reply::Pair(None)),
+            EntryStep::ReplaceKey => Ok(Reply::Key(None)),
+            EntryStep::Remove => Ok(Reply::Value(None)),
+        },
+    }
+}
+
+// Returns what the closure returns for the entry's pair.
+fn said_of_entry<K, V, S, B, F>(entry: &OccupiedEntry<'_, K, V, S>, says: &F) -> B
+where
+    K: Eq + Hash,
+    S: BuildHasher,
+    F: Fn(&K, &V) -> B,
+    requires { CallableOn F.Fn says.now (λ pair.
+        slice_get (occupied_state entry.now).map.entries (occupied_place entry.now) ≡ Some pair) }
+    ensures { SaysOf (ClosureSays F.Fn says.now)
+        (slice_get (occupied_state entry.now).map.entries (occupied_place entry.now)) (Some result) }
+{
+    says(entry.key(), entry.get())
+}

@@ -1,0 +1,16 @@
+use Rattle.std.proofs.Common.{◌≡◌, length, not}
+use Rattle.std.specs.Prelude.{eqb}
+use Rattle.hashlink_model.specs.Algebra.{first_passing}
+use Rattle.hashlink_set.specs.Elements.{elements_in}
+use Rattle.hashlink_set.specs.Walks.{sifts}
+use Rattle.hashlink_set.proofs.sifted.SiftedIterator.next.Given as goal
+
+-- what was looked at does not pass
+abbrev pub invariant-loop-element : goal.invariant-loop-element
+invariant-loop-element g l =
+    let test = sifts g.T.PartialEq.eq (not (eqb g.row.HAS 0)) (elements_in l.initial.self.other.now) in
+    (first_passing test l.initial.self.iter ≡ first_passing test l.self.iter)
+    × (l.self.other.now ≡ l.initial.self.other.now)
+
+abbrev pub decreases-loop-element : goal.decreases-loop-element
+decreases-loop-element g l = length l.self.iter

@@ -1,0 +1,16 @@
+use Rattle.std.proofs.Common.{◌++◌, sym, ap₂, subst}
+use Rattle.std.specs.List.{IsDistinct}
+use Rattle.hashlink_set.specs.Elements.{elements_in}
+use Rattle.hashlink_model.proofs.Members.{IsDistinct-symmetric_difference}
+use Rattle.hashlink_set.proofs.symmetric_difference.SymmetricDifference.of.Goals as goal
+
+pub returns-clause-rest : goal.returns-clause-rest
+returns-clause-rest g c = ap₂ (λ xs ys. xs ++ ys) c.of.ensures.rest c.of-2.ensures.rest
+
+pub returns-clause-unique : goal.returns-clause-unique
+returns-clause-unique g c =
+    let eq = g.T.PartialEq.eq in
+    subst (IsDistinct eq) (sym (returns-clause-rest g c))
+    (IsDistinct-symmetric_difference eq g.met.T.Eq.laws (elements_in c.args.first.now)
+    (elements_in c.args.second.now)
+    c.of.ensures.distinct c.of-2.ensures.distinct)

@@ -1,5 +1,0 @@
-use Rattle.hashlink_spelling.proofs.Digits.{IsValueOfFirst}
-use Rattle.hashlink_spelling.proofs.numbers.value.Given as goal
-
-abbrev pub invariant-loop-byte : goal.invariant-loop-byte
-invariant-loop-byte l = IsValueOfFirst l.digits l.byte-index l.value

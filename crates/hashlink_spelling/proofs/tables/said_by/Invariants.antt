@@ -1,9 +1,0 @@
-use Rattle.std.proofs.Common.{◌≡◌, drop}
-use Rattle.std.specs.Map.{lookup}
-use Rattle.std.specs.Str.{bytes_eq}
-use Rattle.hashlink_spelling.specs.Cuts.{words_shown}
-use Rattle.hashlink_spelling.proofs.tables.said_by.Given as goal
-
-abbrev pub invariant-loop-word : goal.invariant-loop-word
-invariant-loop-word g l = lookup (bytes_eq l.name) (words_shown (drop l.word-index l.table))
-    ≡ lookup (bytes_eq l.name) (words_shown l.table)

@@ -1,0 +1,69 @@
+-- What is read from the front of a text is the first of its parts, words or lines.
+use Rattle.std.proofs.Common.{◌≡◌, ℕ, ◌+◌, ◌<◌, ◌≤◌, Bool, true, false, nat_eq, nat_lt, List, [], ◌∷◌, length}
+use Rattle.std.proofs.Common.{take}
+use Rattle.std.proofs.Common.{drop, Option, None, Some, unwrap_or, refl, sym, ap, ◌∙◌, ⊎_elim, arith, Bor}
+use Rattle.std.specs.List.{slice_split, onto_first, position, position_or_len, join_with_byte}
+use Rattle.std.proofs.lemmas.Bool.{cases_Bool, ltb-true, ltb-false}
+use Rattle.std.proofs.lemmas.Option.{cond_some}
+use Rattle.std.proofs.lemmas.List.Splits.{slice_split-cons_no, slice_split_first, length-slice_split}
+use Rattle.std.proofs.lemmas.List.Splits.{join_with_byte-slice_split}
+use Rattle.hashlink_text.specs.Lines.{parts_of, without_empty_end, lines_of}
+use Rattle.hashlink_text.specs.Cuts.{parts_left}
+
+module _ {X : Type 0} (p : X → Bool) where
+  -- where no element passes, the list is the one part
+  slice_split_whole : (xs : List X) → length xs ≤ position_or_len p xs → slice_split p xs ≡ xs ∷ []
+  slice_split_whole [] h = refl
+  slice_split_whole (x ∷ xs) h =
+      ⊎_elim (λ e. let none : position_or_len p (x ∷ xs) ≡ 0 = rw e refl in absurd (omega (arith, none, h)))
+      (λ e. let more : position_or_len p (x ∷ xs) ≡ 1 + position_or_len p xs = rw e refl in
+      slice_split-cons_no p x xs e ∙ ap (onto_first x) (slice_split_whole xs (omega (arith, more, h))))
+      (cases_Bool (p x))
+
+  pub slice_split-position_none : (xs : List X) → position p xs ≡ None → slice_split p xs ≡ xs ∷ []
+  slice_split-position_none xs e =
+      ⊎_elim (λ (t : nat_lt (position_or_len p xs) (length xs) ≡ true).
+      absurd (let q : Some (position_or_len p xs) ≡ None = rw t at e in cc))
+      (λ (f : nat_lt (position_or_len p xs) (length xs) ≡ false). slice_split_whole xs (ltb-false _ _ f))
+      (cases_Bool (nat_lt (position_or_len p xs) (length xs)))
+
+  pub slice_split-position_some : (xs : List X) (at : ℕ) → position p xs ≡ Some at
+      → slice_split p xs ≡ take at xs ∷ slice_split p (drop (at + 1) xs)
+  slice_split-position_some [] at e = cc
+  slice_split-position_some (x ∷ xs) at e =
+      let h = cond_some _ _ _ e in
+      rw (sym h.1) (slice_split_first p (x ∷ xs) x (ltb-true _ _ h.0))
+
+-- some part is there, be it empty
+parts_of-some : (byte : ℕ) (text : List ℕ)
+    → (part : List ℕ) × (parts : List (List ℕ)) × (parts_of byte text ≡ part ∷ parts)
+parts_of-some byte text =
+    elim (parts_of byte text) as (λ ps. length ps ≡ length (parts_of byte text)
+    → (part : List ℕ) × (parts : List (List ℕ))
+    × (ps ≡ part ∷ parts)) [
+      | [] ↦ λ e. absurd (omega (arith, e, length-slice_split (λ b. nat_eq b byte) text))
+      | part ∷ parts ↦ λ e. (part, parts, refl)
+    ] refl
+
+without_empty_end-more : (part next : List ℕ) (parts : List (List ℕ))
+    → without_empty_end (part ∷ next ∷ parts) ≡ part ∷ without_empty_end (next ∷ parts)
+without_empty_end-more [] next parts = refl
+without_empty_end-more (b ∷ bs) next parts = refl
+
+without_empty_end-one : (part : List ℕ) → (length part ≡ 0 → ⊥) → without_empty_end (part ∷ []) ≡ part ∷ []
+without_empty_end-one [] some = absurd (some refl)
+without_empty_end-one (b ∷ bs) some = refl
+
+-- the first line of a text that isn't empty, where a cut at a byte 10 left the rest
+pub lines_of-cut : (text line : List ℕ) (left : Option (Bor (List ℕ))) (rest empty : Bor (List ℕ))
+    → 0 < length text
+    → parts_of 10 text ≡ line ∷ parts_left 10 left → empty.now ≡ [] → rest ≡ unwrap_or left empty
+    → lines_of text ≡ line ∷ lines_of rest.now
+lines_of-cut text line None rest empty some cut nothing is =
+    let whole : line ≡ text = ap (join_with_byte 10) (sym cut) ∙ join_with_byte-slice_split 10 text in
+    ap without_empty_end cut ∙ without_empty_end-one line (λ e. omega (arith, ap length whole))
+    ∙ ap (λ r. line ∷ lines_of r) (sym nothing ∙ ap (λ r. r.now) (sym is))
+lines_of-cut text line (Some left) rest empty some cut nothing is =
+    let more = parts_of-some 10 left.now in
+    ap without_empty_end (cut ∙ ap (λ ps. line ∷ ps) more.2) ∙ without_empty_end-more line more.0 more.1
+    ∙ ap (λ ps. line ∷ without_empty_end ps) (sym more.2) ∙ ap (λ r. line ∷ lines_of r.now) (sym is)

@@ -1,0 +1,85 @@
+ghost use Rattle.std.specs.Prelude.{◌≡◌};
+ghost use Rattle.std.specs.Map.{lookup};
+ghost use Rattle.std.specs.Str.{bytes_eq};
+ghost use Rattle.hashlink_text.specs.CachesSay.{lone_cache_words, cache_words_of_number};
+ghost use Rattle.hashlink_text.specs.CachesSay.{cache_words_of_pair};
+
+use crate::numbers::{Numbers, read_numbers};
+use crate::tables::said_by;
+use crate::words::{Words, is};
+use hashlink_run::CacheCommand;
+
+/// What a line to a cache says.
+#[derive(Clone, Copy)]
+pub enum CacheLine {
+    /// A command to the cache.
+    Do(CacheCommand<u64, u64>),
+    /// Asks how many pairs there are.
+    Len,
+    /// Asks for the list of all pairs.
+    Iter,
+}
+
+impl CacheLine {
+    ghost use Rattle.hashlink_text.specs.CachesSay.{cache_says};
+
+    /// Returns what the line says, or `None` if it is bad. It reads the line once.
+    pub fn parse(text: &[u8]) -> Option<CacheLine>
+        ensures { result ≡ cache_says text.now }
+    {
+        let mut words = Words::new(text);
+        let name = words.next()?;
+        match read_numbers(words)? {
+            Numbers::Nothing => said_alone(name),
+            Numbers::One(number) => said_of_number(name, number),
+            Numbers::Two(key, value) => said_of_pair(name, key, value),
+            Numbers::Three(..) => None,
+        }
+    }
+}
+
+// Returns what a word says that stands alone.
+fn said_alone(name: &[u8]) -> Option<CacheLine>
+    ensures { result ≡ lookup (bytes_eq name.now) lone_cache_words }
+{
+    said_by(
+        name,
+        &[
+            (b"clear", CacheLine::Do(CacheCommand::Clear)),
+            (b"remove_lru", CacheLine::Do(CacheCommand::RemoveLru)),
+            (b"len", CacheLine::Len),
+            (b"iter", CacheLine::Iter),
+        ],
+    )
+}
+
+// Returns what a word says before a capacity, or before a key.
+fn said_of_number(name: &[u8], number: u64) -> Option<CacheLine>
+    ensures { result ≡ lookup (bytes_eq name.now) (cache_words_of_number number) }
+{
+    if is(name, b"set_capacity") {
+        let capacity = usize::try_from(number).ok()?;
+        return Some(CacheLine::Do(CacheCommand::SetCapacity(capacity)));
+    }
+    said_by(
+        name,
+        &[
+            (b"get", CacheLine::Do(CacheCommand::Get(number))),
+            (b"peek", CacheLine::Do(CacheCommand::Peek(number))),
+            (b"remove", CacheLine::Do(CacheCommand::Remove(number))),
+        ],
+    )
+}
+
+// Returns what a word says before a key and a value.
+fn said_of_pair(name: &[u8], key: u64, value: u64) -> Option<CacheLine>
+    ensures { result ≡ lookup (bytes_eq name.now) (cache_words_of_pair key value) }
+{
+    said_by(
+        name,
+        &[
+            (b"insert", CacheLine::Do(CacheCommand::Insert(key, value))),
+            (b"use", CacheLine::Do(CacheCommand::Use(key, value))),
+        ],
+    )
+}

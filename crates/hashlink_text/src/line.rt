@@ -1,0 +1,236 @@
+ghost use Rattle.std.specs.Prelude.{◌≡◌, ℕ, List, ◌∷◌, codes, take, drop, IfOk, OnErr, OnSome};
+ghost use Rattle.std.specs.Map.{lookup};
+ghost use Rattle.std.specs.Option.{option_map};
+ghost use Rattle.std.specs.Str.{bytes_eq};
+ghost use Rattle.hashlink_text.specs.Cuts.{parts_left};
+ghost use Rattle.hashlink_text.specs.Lines.{words_of};
+ghost use Rattle.hashlink_text.specs.Says.{said, lone_words, words_of_key, words_of_pair, words_before};
+ghost use Rattle.hashlink_text.specs.Says.{lone_steps, steps_of_value, steps_before, entry_said};
+ghost use Rattle.hashlink_text.specs.Says.{lone_cursor_steps, cursor_steps_of_pair, cursor_steps_before};
+ghost use Rattle.hashlink_text.specs.Says.{numbers_after, cursor_said};
+ghost use Rattle.hashlink_text.specs.Tables.{said_in};
+
+use crate::numbers::{Numbers, number, read_numbers};
+use crate::tables::said_by;
+use crate::words::{Words, is};
+use hashlink_run::{Command, CursorStep, EntryStep};
+use std::alloc::{AllocError, Global};
+
+/// What a line of the text form says.
+#[derive(Drop)]
+pub enum Line {
+    /// A command to the map.
+    Do(Command<u64, u64>),
+    /// Asks for the list of all pairs.
+    Iter,
+}
+
+impl Line {
+    ghost use Rattle.hashlink_text.specs.Says.{says};
+
+    /// Returns what the line says, or `None` if it is bad. It reads the line once.
+    ///
+    /// It allocates only for the steps of a cursor, in a line whose first word is `cursor`. If that allocation
+    /// fails, it returns `AllocError`.
+    pub fn parse(alloc: Global, text: &[u8]) -> Result<Option<Line>, AllocError>
+        ensures said { IfOk result (λ line. option_map said line ≡ says text.now) }
+        ensures refused { OnErr result ((words : List (List ℕ))
+            × (words_of text.now ≡ codes "cursor" ∷ words)) }
+    {
+        let mut words = Words::new(text);
+        let Some(name) = words.next() else {
+            return Ok(None);
+        };
+        if is(name, b"entry") {
+            Ok(said_of_entry(words))
+        } else if is(name, b"cursor") {
+            said_of_cursor(alloc, words)
+        } else {
+            Ok(said_of_name(name, words))
+        }
+    }
+}
+
+// Returns what a word says with the words after it.
+fn said_of_name(name: &[u8], words: Words<'_>) -> Option<Line>
+    ensures { option_map said result ≡ said_in words_before name.now (parts_left 32 words.entry.rest) }
+{
+    match read_numbers(words)? {
+        Numbers::Nothing => said_alone(name),
+        Numbers::One(key) => said_of_key(name, key),
+        Numbers::Two(key, value) => said_of_pair(name, key, value),
+        Numbers::Three(..) => None,
+    }
+}
+
+// Returns what a word says that stands alone.
+fn said_alone(name: &[u8]) -> Option<Line>
+    ensures { option_map said result ≡ lookup (bytes_eq name.now) lone_words }
+{
+    if is(name, b"pop_front") {
+        Some(Line::Do(Command::PopFront))
+    } else if is(name, b"pop_back") {
+        Some(Line::Do(Command::PopBack))
+    } else if is(name, b"front") {
+        Some(Line::Do(Command::Front))
+    } else if is(name, b"back") {
+        Some(Line::Do(Command::Back))
+    } else if is(name, b"len") {
+        Some(Line::Do(Command::Len))
+    } else if is(name, b"clear") {
+        Some(Line::Do(Command::Clear))
+    } else if is(name, b"shrink") {
+        Some(Line::Do(Command::Shrink))
+    } else if is(name, b"keep") {
+        Some(Line::Do(Command::Keep))
+    } else if is(name, b"iter") {
+        Some(Line::Iter)
+    } else {
+        None
+    }
+}
+
+// Returns what a word says before one number.
+fn said_of_key(name: &[u8], key: u64) -> Option<Line>
+    ensures { option_map said result ≡ lookup (bytes_eq name.now) (words_of_key key) }
+{
+    if is(name, b"get") {
+        Some(Line::Do(Command::Get(key)))
+    } else if is(name, b"remove") {
+        Some(Line::Do(Command::Remove(key)))
+    } else if is(name, b"to_front") {
+        Some(Line::Do(Command::ToFront(key)))
+    } else if is(name, b"to_back") {
+        Some(Line::Do(Command::ToBack(key)))
+    } else {
+        None
+    }
+}
+
+// Returns what a word says before two numbers.
+fn said_of_pair(name: &[u8], key: u64, value: u64) -> Option<Line>
+    ensures { option_map said result ≡ lookup (bytes_eq name.now) (words_of_pair key value) }
+{
+    if is(name, b"insert") {
+        Some(Line::Do(Command::Insert(key, value)))
+    } else if is(name, b"insert_front") {
+        Some(Line::Do(Command::InsertFront(key, value)))
+    } else if is(name, b"replace") {
+        Some(Line::Do(Command::Replace(key, value)))
+    } else {
+        None
+    }
+}
+
+// Returns what the words after `entry` say: a key, what is done at its place, and the value for it.
+fn said_of_entry(mut words: Words<'_>) -> Option<Line>
+    ensures { option_map said result ≡ entry_said (parts_left 32 words.entry.rest) }
+{
+    let key = number(words.next()?)?;
+    let name = words.next()?;
+    let step = said_of_step(name, words)?;
+    Some(Line::Do(Command::Entry(key, step)))
+}
+
+// Returns the step at a key's place that a word says, with the words after it.
+fn said_of_step(name: &[u8], words: Words<'_>) -> Option<EntryStep<u64>>
+    ensures { result ≡ said_in steps_before name.now (parts_left 32 words.entry.rest) }
+{
+    match read_numbers(words)? {
+        Numbers::Nothing => step_alone(name),
+        Numbers::One(value) => step_of_value(name, value),
+        Numbers::Two(..) | Numbers::Three(..) => None,
+    }
+}
+
+// Returns the step of a word that stands alone.
+fn step_alone(name: &[u8]) -> Option<EntryStep<u64>>
+    ensures { result ≡ lookup (bytes_eq name.now) lone_steps }
+{
+    said_by(
+        name,
+        &[
+            (b"get", EntryStep::Get),
+            (b"to_front", EntryStep::ToFront),
+            (b"to_back", EntryStep::ToBack),
+            (b"remove", EntryStep::Remove),
+        ],
+    )
+}
+
+// Returns the step of a word before a value.
+fn step_of_value(name: &[u8], value: u64) -> Option<EntryStep<u64>>
+    ensures { result ≡ lookup (bytes_eq name.now) (steps_of_value value) }
+{
+    said_by(
+        name,
+        &[
+            (b"or_insert", EntryStep::OrInsert(value)),
+            (b"insert", EntryStep::Insert(value)),
+            (b"insert_entry", EntryStep::InsertEntry(value)),
+            (b"replace_entry", EntryStep::ReplaceEntry(value)),
+        ],
+    )
+}
+
+// Returns what the words after `cursor` say: one step or more.
+fn said_of_cursor(alloc: Global, mut words: Words<'_>) -> Result<Option<Line>, AllocError>
+    ensures { IfOk result (λ line. option_map said line ≡ cursor_said (parts_left 32 words.entry.rest)) }
+{
+    let mut steps = Vec::new(alloc);
+    while let Some(name) = words.next() {
+        let Some(step) = cursor_step(name, &mut words) else {
+            return Ok(None);
+        };
+        steps.push(step)?;
+    }
+    if steps.is_empty() {
+        return Ok(None);
+    }
+    Ok(Some(Line::Do(Command::Cursor(steps))))
+}
+
+// Returns the step of this name, which reads the numbers that stand after it.
+fn cursor_step(name: &[u8], words: &mut Words<'_>) -> Option<CursorStep<u64, u64>>
+    ensures said { result ≡ said_in cursor_steps_before name.now
+        (take (numbers_after name.now) (parts_left 32 words.old.rest)) }
+    ensures rest { OnSome result
+        (parts_left 32 words.new.rest ≡ drop (numbers_after name.now) (parts_left 32 words.old.rest)) }
+{
+    if is(name, b"before") || is(name, b"after") {
+        let key = number(words.next()?)?;
+        let value = number(words.next()?)?;
+        cursor_step_of_pair(name, key, value)
+    } else {
+        cursor_step_alone(name)
+    }
+}
+
+// Returns the step of a name that stands alone.
+fn cursor_step_alone(name: &[u8]) -> Option<CursorStep<u64, u64>>
+    ensures { result ≡ lookup (bytes_eq name.now) lone_cursor_steps }
+{
+    said_by(
+        name,
+        &[
+            (b"next", CursorStep::Next),
+            (b"prev", CursorStep::Prev),
+            (b"cur", CursorStep::Current),
+            (b"peek_next", CursorStep::PeekNext),
+            (b"peek_prev", CursorStep::PeekPrev),
+        ],
+    )
+}
+
+// Returns the step of a name before a key and a value.
+fn cursor_step_of_pair(name: &[u8], key: u64, value: u64) -> Option<CursorStep<u64, u64>>
+    ensures { result ≡ lookup (bytes_eq name.now) (cursor_steps_of_pair key value) }
+{
+    said_by(
+        name,
+        &[
+            (b"before", CursorStep::Before(key, value)),
+            (b"after", CursorStep::After(key, value)),
+        ],
+    )
+}

@@ -1,0 +1,49 @@
+ghost use Rattle.std.specs.Prelude.{◌≡◌};
+ghost use Rattle.std.specs.Map.{lookup};
+ghost use Rattle.std.specs.Str.{bytes_eq};
+ghost use Rattle.hashlink_text.specs.CachesSay.{pair_says, pair_words_of_key, pair_words_of_pair};
+
+use crate::numbers::{Numbers, read_numbers};
+use crate::tables::said_by;
+use crate::words::Words;
+use hashlink_run::PairCommand;
+
+/// Returns what a line to two caches says, or `None` if it is bad. It reads the line once.
+pub fn pair_command(text: &[u8]) -> Option<PairCommand<u64, u64>>
+    ensures { result ≡ pair_says text.now }
+{
+    let mut words = Words::new(text);
+    let name = words.next()?;
+    match read_numbers(words)? {
+        Numbers::Nothing => None,
+        Numbers::One(key) => said_of_key(name, key),
+        Numbers::Two(key, value) => said_of_pair(name, key, value),
+        Numbers::Three(..) => None,
+    }
+}
+
+// Returns what a word says before a key.
+fn said_of_key(name: &[u8], key: u64) -> Option<PairCommand<u64, u64>>
+    ensures { result ≡ lookup (bytes_eq name.now) (pair_words_of_key key) }
+{
+    said_by(
+        name,
+        &[
+            (b"remove", PairCommand::Remove(key)),
+            (b"peek", PairCommand::Peek(key)),
+        ],
+    )
+}
+
+// Returns what a word says before a key and a value.
+fn said_of_pair(name: &[u8], key: u64, value: u64) -> Option<PairCommand<u64, u64>>
+    ensures { result ≡ lookup (bytes_eq name.now) (pair_words_of_pair key value) }
+{
+    said_by(
+        name,
+        &[
+            (b"insert", PairCommand::Insert(key, value)),
+            (b"use", PairCommand::Use(key, value)),
+        ],
+    )
+}

@@ -1,0 +1,57 @@
+//! Calls of a set.
+use crate::uses::passes;
+use hashlink::LinkedHashSet;
+use hashlink_uses::sets::{append, copy_of, empty_out, promote};
+use std::alloc::Global;
+use std::process::ExitCode;
+
+type Set = LinkedHashSet<u64>;
+
+fn set_of(alloc: Global, elements: [u64; 3]) -> Set {
+    let mut set = LinkedHashSet::new(alloc);
+    for element in elements {
+        let _is_new = set.insert(element);
+    }
+    set
+}
+
+/// Whether only a word that is present is moved to the front.
+fn is_promoted(set: &mut Set) -> bool {
+    promote(set, &3) & !promote(set, &4) & (set.front() == Some(&3)) & (set.back() == Some(&2))
+}
+
+#[test]
+fn a_word_is_promoted(rt: HostRuntime) -> ExitCode {
+    passes(is_promoted(&mut set_of(rt.alloc(), [1, 2, 3])))
+}
+
+/// Whether 4 and 1 are appended to 1, 2 and 3, of which 1 then stands last.
+fn is_appended(set: &mut Set, others: Set) -> bool {
+    append(set, others).is_ok()
+        & (set.front() == Some(&2))
+        & (set.back() == Some(&1))
+        & (set.len() == 4)
+}
+
+#[test]
+fn the_words_of_a_set_are_appended(rt: HostRuntime) -> ExitCode {
+    let others = set_of(rt.alloc(), [4, 1, 1]);
+    passes(is_appended(&mut set_of(rt.alloc(), [1, 2, 3]), others))
+}
+
+/// Whether a copy stays as it is when its set is emptied.
+fn is_copied(set: &mut Set) -> bool {
+    match copy_of(set) {
+        Ok(copy) => {
+            let is_equal = copy == *set;
+            empty_out(set);
+            is_equal & set.is_empty() & (copy.len() == 3)
+        }
+        Err(_) => false,
+    }
+}
+
+#[test]
+fn a_copy_outlives_its_set(rt: HostRuntime) -> ExitCode {
+    passes(is_copied(&mut set_of(rt.alloc(), [1, 2, 3])))
+}

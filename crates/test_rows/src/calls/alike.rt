@@ -1,0 +1,87 @@
+//! Iterators over two sets, with their bounds, and beside a clone.
+use crate::items::{Answers, Item, Name, Stop, Word, lent_item};
+
+/// The bounds of how many are left, and what comes.
+type Came = [Word; 3];
+
+/// Says the bounds of how many are left and what comes, in turn, for so many steps, or where no number of
+/// steps is given until nothing comes. Then nothing more may come, and a clone that is made after the first
+/// step has to say the same.
+pub fn say_steps<'s, I: Iterator<Item = &'s Item> + Clone + Drop>(
+    mut first: I,
+    steps: Option<Name>,
+    answers: &mut Answers,
+) -> Result<(), Stop>
+    requires { (s : I) → I.can_next s }
+{
+    let Some(steps) = steps else {
+        return say_all(first, answers);
+    };
+    for _ in 0..steps.group {
+        answers.say_all(&step(&mut first))?;
+    }
+    Ok(())
+}
+
+fn say_all<'s, I: Iterator<Item = &'s Item> + Clone + Drop>(
+    mut first: I,
+    answers: &mut Answers,
+) -> Result<(), Stop>
+    requires { (s : I) → I.can_next s }
+{
+    let came = step(&mut first);
+    answers.say_all(&came)?;
+    if is_end(came) {
+        return say_end(&mut first, answers);
+    }
+    let mut clone = first.clone()?;
+    say_alike(&mut first, &mut clone, answers)
+}
+
+fn say_alike<'s, I: Iterator<Item = &'s Item>>(
+    first: &mut I,
+    clone: &mut I,
+    answers: &mut Answers,
+) -> Result<(), Stop>
+    requires { (s : I) → I.can_next s }
+{
+    for _ in 0..64 {
+        let came = step(first);
+        answers.say_all(&came)?;
+        if step(clone) != came {
+            answers.say(Word::Wrong)?;
+        }
+        if is_end(came) {
+            return say_end(first, answers);
+        }
+    }
+    Err(Stop::Unread)
+}
+
+/// Says that it is wrong if an iterator that has ended does not stay so.
+fn say_end<'s, I: Iterator<Item = &'s Item>>(
+    walk: &mut I,
+    answers: &mut Answers,
+) -> Result<(), Stop>
+    requires { (s : I) → I.can_next s }
+{
+    if walk.next().is_none() && walk.size_hint() == (0, Some(0)) {
+        return Ok(());
+    }
+    answers.say(Word::Wrong)
+}
+
+fn is_end(came: Came) -> bool {
+    came[2] == Word::Nothing
+}
+
+fn step<'s, I: Iterator<Item = &'s Item>>(walk: &mut I) -> Came
+    requires { (s : I) → I.can_next s }
+{
+    let (least, most) = walk.size_hint();
+    [
+        Word::count(least),
+        most.map_or(Word::Nothing, Word::count),
+        lent_item(walk.next()),
+    ]
+}

@@ -1,0 +1,245 @@
+//! Calls of the entry of a key that is in hand, of a map and of a cache.
+use crate::calls::map_cursors::take_all_steps;
+use crate::calls::map_row::Map;
+use crate::items::{
+    Answer, Answers, Ask, End, EntryCall, Give, Home, Item, Lend, Make, Name, Put, PutVacant, Stay,
+    Stop, Vacant, Word, Words, no_memory, set, shown, taken, taken_pair, write_item,
+};
+use hashlink_map::{Entry, OccupiedEntry, TryInsertError};
+use std::hash::BuildHasher;
+
+type InHand<'m, S> = Entry<'m, Item, Item, S>;
+
+type Occupied<'m, S> = OccupiedEntry<'m, Item, Item, S>;
+
+/// Makes the call of the entry of a map's key that the words say.
+pub fn call_entry_of<S: BuildHasher>(
+    map: &mut Map<S>,
+    home: Home<'_>,
+    words: &mut Words<'_>,
+    answers: &mut Answers,
+) -> Result<(), Stop> {
+    let (key, call) = EntryCall::of_key(home, words)?;
+    call_entry(map.entry(key), call, home, words, answers)
+}
+
+/// Makes a call of an entry, which may have steps of a cursor behind it. One of an occupied entry answers
+/// nothing where the key is absent, and one of a vacant entry nothing where it is there.
+pub fn call_entry<S: BuildHasher>(
+    entry: InHand<'_, S>,
+    call: EntryCall,
+    home: Home<'_>,
+    words: &mut Words<'_>,
+    answers: &mut Answers,
+) -> Result<(), Stop> {
+    match call {
+        EntryCall::Ask(call, new) => answers.say(ask_at(entry, call, new)),
+        EntryCall::Give(call, value, new) => answers.give(give_at(entry, call, value, new)),
+        EntryCall::TryMake(made, new) => answers.give(try_make_at(entry, made, new)),
+        EntryCall::Cursor => steps_of(entry, home, words, answers),
+    }
+}
+
+fn ask_at<S: BuildHasher>(entry: InHand<'_, S>, call: Ask, new: Option<Name>) -> Word {
+    match call {
+        Ask::Key => Word::item(entry.key().name()),
+        Ask::Stay(stay) => stay_at(entry, stay),
+        Ask::End(end) => end_at(entry, end),
+        Ask::Modify => modify(entry, new),
+        Ask::Lend(lend) => lend_at(entry, lend, new),
+        Ask::Vacant(call) => ask_vacant(entry, call),
+    }
+}
+
+fn stay_at<S: BuildHasher>(entry: InHand<'_, S>, stay: Stay) -> Word {
+    match entry {
+        Entry::Occupied(mut entry) => stay_in(&mut entry, stay),
+        Entry::Vacant(_vacant) => Word::Nothing,
+    }
+}
+
+fn stay_in<S: BuildHasher>(entry: &mut Occupied<'_, S>, stay: Stay) -> Word {
+    match stay {
+        Stay::Get => return shown((entry.key(), entry.get())),
+        Stay::ToFront => entry.to_front(),
+        Stay::ToBack => entry.to_back(),
+    }
+    Word::item(entry.get().name())
+}
+
+fn end_at<S: BuildHasher>(entry: InHand<'_, S>, end: End) -> Word {
+    match entry {
+        Entry::Occupied(entry) => match end {
+            End::ReplaceKey => taken(entry.replace_key()),
+            End::IntoKey => taken(entry.into_key()),
+            End::Remove => taken(entry.remove()),
+            End::RemoveEntry => taken_pair(entry.remove_entry()),
+        },
+        Entry::Vacant(_vacant) => Word::Nothing,
+    }
+}
+
+fn lend_at<S: BuildHasher>(entry: InHand<'_, S>, lend: Lend, new: Option<Name>) -> Word {
+    match entry {
+        Entry::Occupied(mut entry) => match lend {
+            Lend::GetMut => write_item(entry.get_mut(), new),
+            Lend::IntoMut => write_item(entry.into_mut(), new),
+        },
+        Entry::Vacant(_vacant) => Word::Nothing,
+    }
+}
+
+/// Writes the value where the key is there.
+fn modify<S: BuildHasher>(entry: InHand<'_, S>, new: Option<Name>) -> Word {
+    match entry.and_modify(|lent| set(lent, new)) {
+        Entry::Occupied(entry) => Word::item(entry.get().name()),
+        Entry::Vacant(_vacant) => Word::Nothing,
+    }
+}
+
+fn ask_vacant<S: BuildHasher>(entry: InHand<'_, S>, call: Vacant) -> Word {
+    match entry {
+        Entry::Occupied(_occupied) => Word::Nothing,
+        Entry::Vacant(entry) => match call {
+            Vacant::Key => Word::item(entry.key().name()),
+            Vacant::IntoKey => taken(entry.into_key()),
+        },
+    }
+}
+
+fn give_at<S: BuildHasher>(
+    entry: InHand<'_, S>,
+    call: Give,
+    value: Item,
+    new: Option<Name>,
+) -> Answer {
+    match call {
+        Give::Make(make) => make_at(entry, make, value, new),
+        Give::Put(put) => Answer::Word(put_at(entry, put, value)),
+        Give::PutVacant(put) => put_vacant(entry, put, value, new),
+    }
+}
+
+fn make_at<S: BuildHasher>(
+    entry: InHand<'_, S>,
+    make: Make,
+    value: Item,
+    new: Option<Name>,
+) -> Answer {
+    match make {
+        Make::OrInsert => or_insert(entry, value, new),
+        Make::OrInsertWith => or_insert_with(entry, value, new),
+    }
+}
+
+fn or_insert<S: BuildHasher>(entry: InHand<'_, S>, value: Item, new: Option<Name>) -> Answer {
+    match entry.or_insert(value) {
+        Ok(lent) => Answer::Word(write_item(lent, new)),
+        Err(pair) => no_memory(pair),
+    }
+}
+
+fn or_insert_with<S: BuildHasher>(entry: InHand<'_, S>, value: Item, new: Option<Name>) -> Answer {
+    match entry.or_insert_with(|| value) {
+        Ok(lent) => Answer::Word(write_item(lent, new)),
+        Err(pair) => no_memory(pair),
+    }
+}
+
+fn try_make_at<S: BuildHasher>(
+    entry: InHand<'_, S>,
+    made: Result<Item, Item>,
+    new: Option<Name>,
+) -> Answer {
+    match entry.or_try_insert_with(|| made) {
+        Ok(lent) => Answer::Word(write_item(lent, new)),
+        Err(error) => not_made(error),
+    }
+}
+
+/// The key and why nothing was made for it, or the pair that is handed back.
+pub fn not_made(error: TryInsertError<Item, Item, Item>) -> Answer {
+    match error {
+        TryInsertError::Make(key, why) => Answer::Back(Word::Nothing, shown((&key, &why))),
+        TryInsertError::Memory(pair) => no_memory(pair),
+    }
+}
+
+fn put_at<S: BuildHasher>(entry: InHand<'_, S>, put: Put, value: Item) -> Word {
+    match entry {
+        Entry::Occupied(mut entry) => match put {
+            Put::Insert => taken(entry.insert(value)),
+            Put::RawReplaceValue => taken(entry.raw_entry_mut().replace_value(value)),
+            Put::InsertEntry => taken_pair(entry.insert_entry(value)),
+            Put::ReplaceEntry => taken_pair(entry.replace_entry(value)),
+        },
+        Entry::Vacant(_vacant) => Word::Nothing,
+    }
+}
+
+fn put_vacant<S: BuildHasher>(
+    entry: InHand<'_, S>,
+    put: PutVacant,
+    value: Item,
+    new: Option<Name>,
+) -> Answer {
+    match put {
+        PutVacant::Insert => insert(entry, value, new),
+        PutVacant::InsertEntry => insert_entry(entry, value),
+        PutVacant::Take => insert_and_remove(entry, value),
+    }
+}
+
+fn insert<S: BuildHasher>(entry: InHand<'_, S>, value: Item, new: Option<Name>) -> Answer {
+    match entry {
+        Entry::Occupied(_occupied) => Answer::Word(Word::Nothing),
+        Entry::Vacant(entry) => match entry.insert(value) {
+            Ok(lent) => Answer::Word(write_item(lent, new)),
+            Err(pair) => no_memory(pair),
+        },
+    }
+}
+
+fn insert_entry<S: BuildHasher>(entry: InHand<'_, S>, value: Item) -> Answer {
+    match entry {
+        Entry::Occupied(_occupied) => Answer::Word(Word::Nothing),
+        Entry::Vacant(entry) => match entry.insert_entry(value) {
+            Ok(entry) => Answer::Word(shown((entry.key(), entry.get()))),
+            Err(pair) => no_memory(pair),
+        },
+    }
+}
+
+fn insert_and_remove<S: BuildHasher>(entry: InHand<'_, S>, value: Item) -> Answer {
+    match entry {
+        Entry::Occupied(_occupied) => Answer::Word(Word::Nothing),
+        Entry::Vacant(entry) => match entry.insert_entry(value) {
+            Ok(entry) => Answer::Word(taken_pair(entry.remove_entry())),
+            Err(pair) => no_memory(pair),
+        },
+    }
+}
+
+/// Steps of a cursor that starts at the entry.
+fn steps_of<S: BuildHasher>(
+    entry: InHand<'_, S>,
+    home: Home<'_>,
+    words: &mut Words<'_>,
+    answers: &mut Answers,
+) -> Result<(), Stop> {
+    match entry {
+        Entry::Occupied(entry) => take_all_steps(&mut entry.cursor_mut(), home, words, answers),
+        Entry::Vacant(_vacant) => answers.say(Word::Nothing),
+    }
+}
+
+/// Steps of a cursor that starts at the key of the line.
+pub fn call_cursor_of<S: BuildHasher>(
+    map: &mut Map<S>,
+    home: Home<'_>,
+    words: &mut Words<'_>,
+    answers: &mut Answers,
+) -> Result<(), Stop> {
+    let key = words.item(home)?;
+    steps_of(map.entry(key), home, words, answers)
+}

@@ -1,0 +1,319 @@
+//! Lines that speak to raw entries.
+use crate::calls::map_calls::AtEnd;
+use crate::calls::map_cursors::take_all_steps;
+use crate::calls::map_row::Map;
+use crate::items::{
+    Answer, Answers, Home, Item, Make, Name, RawAsk, RawCall, RawEnd, RawGive, RawLend, RawPut,
+    RawStay, Stop, Word, Words, lent, no_memory, set, shown, taken, taken_pair, write_item,
+    write_pair,
+};
+use hashlink_map::{RawEntryBuilderMut, RawEntryMut, RawOccupiedEntryMut};
+use std::hash::BuildHasher;
+
+type Raw<'m, S> = RawEntryMut<'m, Item, Item, S>;
+
+type Entries<'m, S> = RawEntryBuilderMut<'m, Item, Item, S>;
+
+type Occupied<'m, S> = RawOccupiedEntryMut<'m, Item, Item, S>;
+
+/// A way to look a key up.
+#[derive(Clone, Copy)]
+enum Way {
+    Key,
+    Hash,
+    Test,
+    OfKey,
+    OfHash,
+    OfTest,
+}
+
+const WAYS: [(&str, Way); 6] = [
+    ("key", Way::Key),
+    ("hash", Way::Hash),
+    ("test", Way::Test),
+    ("of_key", Way::OfKey),
+    ("of_hash", Way::OfHash),
+    ("of_test", Way::OfTest),
+];
+
+/// Reads the pair of a key in the way that the words say.
+pub fn read_raw<S: BuildHasher>(
+    map: &Map<S>,
+    home: Home<'_>,
+    words: &mut Words<'_>,
+    answers: &mut Answers,
+) -> Result<(), Stop> {
+    let way = words.named(&WAYS)?;
+    let key = words.item(home)?;
+    answers.say(read_at(map, way, &key))
+}
+
+/// The pair of a key. Where the way takes the hash, that is asked for first.
+fn read_at<S: BuildHasher>(map: &Map<S>, way: Way, key: &Item) -> Word {
+    match way {
+        Way::Key | Way::OfKey => lent(map.raw_entry().from_key(key)),
+        Way::Hash | Way::OfHash => {
+            let hash = map.hasher().hash_one(key);
+            lent(map.raw_entry().from_key_hashed_nocheck(hash, key))
+        }
+        Way::Test | Way::OfTest => {
+            let hash = map.hasher().hash_one(key);
+            lent(map.raw_entry().from_hash(hash, |stored| *stored == *key))
+        }
+    }
+}
+
+/// The raw entry of a key. Where the way takes the hash, that is asked for first.
+fn raw_of<'m, S: BuildHasher>(map: &'m mut Map<S>, way: Way, key: &Item) -> Raw<'m, S> {
+    match way {
+        Way::Key => map.raw_entry_mut().from_key(key),
+        Way::OfKey => map.raw_entry_of(key),
+        Way::Hash | Way::OfHash => raw_of_hash(map, way, key),
+        Way::Test | Way::OfTest => raw_of_test(map, way, key),
+    }
+}
+
+fn raw_of_hash<'m, S: BuildHasher>(map: &'m mut Map<S>, way: Way, key: &Item) -> Raw<'m, S> {
+    let hash = map.hasher().hash_one(key);
+    match way {
+        Way::Hash => map.raw_entry_mut().from_key_hashed_nocheck(hash, key),
+        _ => map.raw_entry_hashed_nocheck(hash, key),
+    }
+}
+
+fn raw_of_test<'m, S: BuildHasher>(map: &'m mut Map<S>, way: Way, key: &Item) -> Raw<'m, S> {
+    let hash = map.hasher().hash_one(key);
+    match way {
+        Way::Test => map
+            .raw_entry_mut()
+            .from_hash(hash, |stored| *stored == *key),
+        _ => map.raw_entry_from_hash(hash, |stored| *stored == *key),
+    }
+}
+
+/// Makes the call of a raw entry of a map that the words say: the way, the key and the call. One that puts an
+/// absent key has another name than one that needs an entry.
+pub fn call_raw<S: BuildHasher + Copy>(
+    map: &mut Map<S>,
+    home: Home<'_>,
+    words: &mut Words<'_>,
+    answers: &mut Answers,
+) -> Result<(), Stop> {
+    let way = words.named(&WAYS)?;
+    let (key, call) = RawCall::of_key(home, words)?;
+    match call {
+        RawCall::ReplaceKey => answers.say(replace_key(map, key)),
+        RawCall::Give(call, value, new) => answers.give(give_at(map, call, key, value, new)),
+        call => call_found(raw_of(map, way, &key), call, home, words, answers),
+    }
+}
+
+fn give_at<S: BuildHasher + Copy>(
+    map: &mut Map<S>,
+    call: RawGive,
+    key: Item,
+    value: Item,
+    new: Option<Name>,
+) -> Answer {
+    match call {
+        RawGive::Make(make) => put_found(map.raw_entry_mut(), make, key, value, new),
+        RawGive::Put(put) => put_absent(map, put, key, value),
+        RawGive::PutEntry(put) => put_entry(map, put, key, value),
+    }
+}
+
+/// Makes a call of a raw entry that needs one that is there.
+pub fn call_found<S: BuildHasher>(
+    entry: Raw<'_, S>,
+    call: RawCall,
+    home: Home<'_>,
+    words: &mut Words<'_>,
+    answers: &mut Answers,
+) -> Result<(), Stop> {
+    match call {
+        RawCall::Ask(call, new) => answers.say(ask_at(entry, call, new)),
+        RawCall::ReplaceValue(value) => answers.say(replace_at(entry, value)),
+        RawCall::Cursor => steps_at(entry, home, words, answers),
+        _ => Err(Stop::Unread),
+    }
+}
+
+fn ask_at<S: BuildHasher>(entry: Raw<'_, S>, call: RawAsk, new: Option<Name>) -> Word {
+    match call {
+        RawAsk::Stay(stay) => stay_at(entry, stay),
+        RawAsk::End(end) => end_at(entry, end),
+        RawAsk::Modify => modify(entry, new),
+        RawAsk::Lend(lend) => lend_at(entry, lend, new),
+    }
+}
+
+fn stay_at<S: BuildHasher>(entry: Raw<'_, S>, stay: RawStay) -> Word {
+    match entry {
+        RawEntryMut::Occupied(mut entry) => stay_in(&mut entry, stay),
+        RawEntryMut::Vacant(_vacant) => Word::Nothing,
+    }
+}
+
+fn stay_in<S: BuildHasher>(entry: &mut Occupied<'_, S>, stay: RawStay) -> Word {
+    match stay {
+        RawStay::Get => return shown((entry.key(), entry.get())),
+        RawStay::GetKeyValue => {}
+        RawStay::ToFront => entry.to_front(),
+        RawStay::ToBack => entry.to_back(),
+    }
+    shown(entry.get_key_value())
+}
+
+fn end_at<S: BuildHasher>(entry: Raw<'_, S>, end: RawEnd) -> Word {
+    match entry {
+        RawEntryMut::Occupied(entry) => match end {
+            RawEnd::IntoKey => Word::item(entry.into_key().name()),
+            RawEnd::Remove => taken(entry.remove()),
+            RawEnd::RemoveEntry => taken_pair(entry.remove_entry()),
+        },
+        RawEntryMut::Vacant(_vacant) => Word::Nothing,
+    }
+}
+
+fn lend_at<S: BuildHasher>(entry: Raw<'_, S>, lend: RawLend, new: Option<Name>) -> Word {
+    match entry {
+        RawEntryMut::Occupied(mut entry) => match lend {
+            RawLend::GetMut => write_item(entry.get_mut(), new),
+            RawLend::GetKeyValueMut => write_item(entry.get_key_value_mut().1, new),
+            RawLend::IntoMut => write_item(entry.into_mut(), new),
+            RawLend::IntoKeyValue => write_item(entry.into_key_value().1, new),
+        },
+        RawEntryMut::Vacant(_vacant) => Word::Nothing,
+    }
+}
+
+/// Writes the value where the key is there.
+fn modify<S: BuildHasher>(entry: Raw<'_, S>, new: Option<Name>) -> Word {
+    match entry.and_modify(|_, lent| set(lent, new)) {
+        RawEntryMut::Occupied(entry) => shown(entry.get_key_value()),
+        RawEntryMut::Vacant(_vacant) => Word::Nothing,
+    }
+}
+
+/// Makes a call that puts a pair where its key is absent, and lends the pair that is there.
+pub fn put_found<S: BuildHasher>(
+    entries: Entries<'_, S>,
+    make: Make,
+    key: Item,
+    value: Item,
+    new: Option<Name>,
+) -> Answer {
+    let entry = entries.from_key(&key);
+    let lent = match make {
+        Make::OrInsert => entry.or_insert(key, value),
+        Make::OrInsertWith => entry.or_insert_with(|| (key, value)),
+    };
+    match lent {
+        Ok(pair) => Answer::Word(write_pair(Some(pair), new)),
+        Err(pair) => no_memory(pair),
+    }
+}
+
+fn replace_at<S: BuildHasher>(entry: Raw<'_, S>, value: Item) -> Word {
+    match entry {
+        RawEntryMut::Occupied(mut entry) => taken(entry.replace_value(value)),
+        RawEntryMut::Vacant(_vacant) => Word::Nothing,
+    }
+}
+
+fn steps_at<S: BuildHasher>(
+    entry: Raw<'_, S>,
+    home: Home<'_>,
+    words: &mut Words<'_>,
+    answers: &mut Answers,
+) -> Result<(), Stop> {
+    match entry {
+        RawEntryMut::Occupied(entry) => {
+            take_all_steps(&mut entry.cursor_mut(), home, words, answers)
+        }
+        RawEntryMut::Vacant(_vacant) => answers.say(Word::Nothing),
+    }
+}
+
+/// Makes a call of the entry at an end.
+pub fn call_end<S: BuildHasher>(
+    map: &mut Map<S>,
+    home: Home<'_>,
+    end: AtEnd,
+    words: &mut Words<'_>,
+    answers: &mut Answers,
+) -> Result<(), Stop> {
+    let call = RawCall::read(home, words)?;
+    match entry_at_end(map, end) {
+        Some(entry) => call_found(RawEntryMut::Occupied(entry), call, home, words, answers),
+        None => answers.say(Word::Nothing),
+    }
+}
+
+fn entry_at_end<'m, S: BuildHasher>(map: &'m mut Map<S>, end: AtEnd) -> Option<Occupied<'m, S>> {
+    match end {
+        AtEnd::Front => map.front_entry(),
+        AtEnd::Back => map.back_entry(),
+    }
+}
+
+/// Makes a call that puts a pair whose key is absent, and lends the pair.
+fn put_absent<S: BuildHasher + Copy>(
+    map: &mut Map<S>,
+    put: RawPut,
+    key: Item,
+    value: Item,
+) -> Answer {
+    let builder = *map.hasher();
+    let hash = builder.hash_one(&key);
+    let RawEntryMut::Vacant(entry) = map.raw_entry_hashed_nocheck(hash, &key) else {
+        return Answer::Word(Word::Nothing);
+    };
+    let lent = match put {
+        RawPut::Insert => entry.insert(key, value),
+        RawPut::InsertHashed => entry.insert_hashed_nocheck(hash, key, value),
+        RawPut::InsertWithHasher => {
+            entry.insert_with_hasher(hash, key, value, |stored| builder.hash_one(stored))
+        }
+    };
+    match lent {
+        Ok(pair) => Answer::Word(write_pair(Some(pair), None)),
+        Err(pair) => no_memory(pair),
+    }
+}
+
+/// Makes a call that puts a pair whose key is absent, and makes it an entry.
+fn put_entry<S: BuildHasher + Copy>(
+    map: &mut Map<S>,
+    put: RawPut,
+    key: Item,
+    value: Item,
+) -> Answer {
+    let builder = *map.hasher();
+    let hash = builder.hash_one(&key);
+    let RawEntryMut::Vacant(entry) = map.raw_entry_hashed_nocheck(hash, &key) else {
+        return Answer::Word(Word::Nothing);
+    };
+    let new = match put {
+        RawPut::Insert => entry.insert_entry(key, value),
+        RawPut::InsertHashed => entry.insert_entry_hashed_nocheck(hash, key, value),
+        RawPut::InsertWithHasher => {
+            entry.insert_entry_with_hasher(hash, key, value, |stored| builder.hash_one(stored))
+        }
+    };
+    match new {
+        Ok(entry) => Answer::Word(shown((entry.key(), entry.get()))),
+        Err(pair) => no_memory(pair),
+    }
+}
+
+/// Says the key that was stored and its value, where the entry has the key of the line now.
+fn replace_key<S: BuildHasher>(map: &mut Map<S>, key: Item) -> Word {
+    match map.raw_entry_mut().from_key(&key) {
+        RawEntryMut::Occupied(mut entry) if key == *entry.key() => {
+            let old = entry.replace_key(key);
+            shown((&old, entry.get()))
+        }
+        _ => Word::Nothing,
+    }
+}

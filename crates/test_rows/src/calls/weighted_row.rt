@@ -1,0 +1,142 @@
+//! Lines that speak to a cache with a budget.
+use crate::calls::walks::Walked;
+use crate::items::{
+    Answer, Answers, Home, Item, Step, Stop, Walk, Word, Words, given_item, hinted, lent_item,
+    no_memory, shown, walk_and_clone,
+};
+use hashlink_weighted::{WeightError, WeightedCache, WeightedIter};
+use std::hash::BuildHasher;
+
+pub type Weighted<S> = WeightedCache<Item, Item, S>;
+
+#[derive(Clone, Copy)]
+enum ReadCall {
+    Len,
+    IsEmpty,
+    Total,
+    Budget,
+}
+
+#[derive(Clone, Copy)]
+enum KeyCall {
+    Get,
+    Peek,
+    Remove,
+}
+
+/// A call, by what follows its name.
+#[derive(Clone, Copy)]
+enum WeightedCall {
+    /// Nothing.
+    Read(ReadCall),
+    /// A key.
+    Key(KeyCall),
+    /// A pair.
+    Insert,
+    /// Steps of an iterator.
+    Iter,
+}
+
+const CALLS: [(&str, WeightedCall); 9] = [
+    ("len", WeightedCall::Read(ReadCall::Len)),
+    ("is_empty", WeightedCall::Read(ReadCall::IsEmpty)),
+    ("total", WeightedCall::Read(ReadCall::Total)),
+    ("budget", WeightedCall::Read(ReadCall::Budget)),
+    ("get", WeightedCall::Key(KeyCall::Get)),
+    ("peek", WeightedCall::Key(KeyCall::Peek)),
+    ("remove", WeightedCall::Key(KeyCall::Remove)),
+    ("insert", WeightedCall::Insert),
+    ("iter", WeightedCall::Iter),
+];
+
+/// Makes the call that a line says. The number of a value is its weight.
+pub fn call_weighted<S: BuildHasher>(
+    cache: &mut Weighted<S>,
+    home: Home<'_>,
+    words: &mut Words<'_>,
+    answers: &mut Answers,
+) -> Result<(), Stop> {
+    match words.named(&CALLS)? {
+        WeightedCall::Read(call) => answers.say(read(cache, call)),
+        WeightedCall::Key(call) => call_key(cache, call, home, words, answers),
+        WeightedCall::Insert => put_pair(cache, home, words, answers),
+        WeightedCall::Iter => walk_and_clone(Walked(cache.iter()), words, answers),
+    }
+}
+
+fn read<S: BuildHasher>(cache: &Weighted<S>, call: ReadCall) -> Word {
+    match call {
+        ReadCall::Len => Word::count(cache.len()),
+        ReadCall::IsEmpty => Word::Is(cache.is_empty()),
+        ReadCall::Total => Word::Item(cache.total(), 0),
+        ReadCall::Budget => Word::Item(cache.budget(), 0),
+    }
+}
+
+fn call_key<S: BuildHasher>(
+    cache: &mut Weighted<S>,
+    call: KeyCall,
+    home: Home<'_>,
+    words: &mut Words<'_>,
+    answers: &mut Answers,
+) -> Result<(), Stop> {
+    let key = words.item(home)?;
+    answers.say(look_up(cache, call, &key))
+}
+
+fn look_up<S: BuildHasher>(cache: &mut Weighted<S>, call: KeyCall, key: &Item) -> Word {
+    match call {
+        KeyCall::Get => lent_item(cache.get(key)),
+        KeyCall::Peek => lent_item(cache.peek(key)),
+        KeyCall::Remove => given_item(cache.remove(key)),
+    }
+}
+
+fn put_pair<S: BuildHasher>(
+    cache: &mut Weighted<S>,
+    home: Home<'_>,
+    words: &mut Words<'_>,
+    answers: &mut Answers,
+) -> Result<(), Stop> {
+    let (key, value) = words.pair(home)?;
+    answers.give(insert(cache, key, value))
+}
+
+fn insert<S: BuildHasher>(cache: &mut Weighted<S>, key: Item, value: Item) -> Answer {
+    let weight = value.name().number;
+    match cache.insert(key, value, weight) {
+        Ok(old) => Answer::Word(given_item(old)),
+        Err(WeightError::Memory(pair)) => no_memory(pair),
+        Err(WeightError::TooHeavy((key, value))) => {
+            Answer::Back(Word::Heavy, shown((&key, &value)))
+        }
+    }
+}
+
+/// An entry of a cache with a budget, in which the number of the value is its weight.
+pub fn weighed((key, value, weight): (&Item, &Item, u64)) -> Word {
+    if weight != value.name().number {
+        return Word::Wrong;
+    }
+    shown((key, value))
+}
+
+fn lent_weighed(entry: Option<(&Item, &Item, u64)>) -> Word {
+    match entry {
+        Some((key, value, weight)) => weighed((key, value, weight)),
+        None => Word::Nothing,
+    }
+}
+
+impl Walk for Walked<WeightedIter<'_, Item, Item>> {
+    fn step(&mut self, step: Step) -> Word {
+        if step.is_back {
+            return lent_weighed(self.0.next_back());
+        }
+        lent_weighed(self.0.next())
+    }
+
+    fn left(&self) -> (usize, usize, Option<usize>) {
+        hinted(self.0.len(), self.0.size_hint())
+    }
+}

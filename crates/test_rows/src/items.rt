@@ -1,0 +1,26 @@
+//! What rows of calls are made of: items that are counted, the words of a line, and those of an answer.
+
+mod answers;
+mod counts;
+mod entry_call;
+mod items;
+mod keep;
+mod line;
+mod raw_call;
+mod said;
+mod steps;
+mod walk;
+
+pub use answers::{Answer, Answers, Name, Pair, Stop, Tally, Word, are_written, number};
+pub use counts::Counts;
+pub use entry_call::{Ask, End, EntryCall, Give, Lend, Make, Put, PutVacant, Stay, Vacant};
+pub use items::{Home, Item};
+pub use keep::{Asked, KEEPS, Keep, Retain, has_room, is_even, is_other, is_raised, say_met};
+pub use line::{Read, Words, push, push_rest, rest_of};
+pub use raw_call::{RawAsk, RawCall, RawEnd, RawGive, RawLend, RawPut, RawStay};
+pub use said::{
+    given, given_item, lent, lent_item, made, no_memory, no_memory_after, put, room, set, shown,
+    taken, taken_pair, write, write_item, write_pair, write_value,
+};
+pub use steps::Step;
+pub use walk::{Walk, hinted, walk_and_clone, walk_or_forget, walk_whole};

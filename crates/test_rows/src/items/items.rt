@@ -1,0 +1,100 @@
+//! Keys and values that own memory and are counted.
+ghost use Rattle.std.specs.Prelude.{◌≡◌, ◌==◌, IfOk};
+ghost use Rattle.std.proofs.Common.{rules};
+ghost use Rattle.std.specs.Cmp.Rules.{comparing, hashing};
+ghost use Rattle.std.specs.Hash as fed;
+
+use crate::items::answers::{Name, Pair, Stop};
+use crate::items::counts::Counts;
+use std::alloc::{AllocError, Global};
+use std::hash::{Hash, Hasher};
+use std::rc::Rc;
+
+/// Where items are made: the memory, and what each of them has a share of, so that the shares tell how many
+/// live.
+#[derive(Clone, Copy)]
+pub struct Home<'h> {
+    pub alloc: Global,
+    pub counts: &'h Rc<Counts>,
+}
+
+impl Home<'_> {
+    /// How many items live.
+    pub fn living(self) -> usize {
+        Rc::strong_count(self.counts).saturating_sub(1)
+    }
+
+    /// How many hashes and how many comparisons of items there were since the last call of this.
+    pub fn cost(self) -> (u64, u64) {
+        self.counts.take()
+    }
+
+    /// A new item of the name.
+    pub fn item(self, name: Name) -> Result<Item, Stop> {
+        Ok(Item::new(self, name)?)
+    }
+
+    /// Two new items of the names.
+    pub fn pair(self, (key, value): Pair) -> Result<(Item, Item), Stop> {
+        Ok((Item::new(self, key)?, Item::new(self, value)?))
+    }
+}
+
+/// A key, an element or a value: compared and hashed by its group alone, so that its number tells which of
+/// two equal ones it is. It counts each hash and each comparison for equality.
+#[derive(Clone, Drop)]
+#[derive_where(PartialOrd, Ord)]
+pub struct Item {
+    pub group: u64,
+    #[derive_where(skip(EqHashOrd))]
+    number: Box<u64>,
+    #[derive_where(skip(EqHashOrd))]
+    counts: Rc<Counts>,
+}
+
+impl Item {
+    pub fn new(home: Home<'_>, name: Name) -> Result<Item, AllocError>
+        ensures { IfOk result (λ item. item.group ≡ name.group) }
+    {
+        Ok(Item {
+            group: name.group,
+            number: Box::new(home.alloc, name.number)?,
+            counts: home.counts.clone()?,
+        })
+    }
+
+    pub fn name(&self) -> Name
+        ensures { result.group ≡ self.now.group }
+    {
+        Name {
+            group: self.group,
+            number: *self.number,
+        }
+    }
+}
+
+impl PartialEq for Item {
+    ghost eq = { λ a b. a.group == b.group };
+
+    ghost laws = { Prim.search (comparing, rules) };
+
+    fn eq(&self, other: &Item) -> bool {
+        self.counts.compare();
+        self.group == other.group
+    }
+}
+
+impl Eq for Item {
+    ghost laws = { Prim.search (comparing, rules) };
+}
+
+impl Hash for Item {
+    ghost hash_input = { λ a. fed.u64 a.group };
+
+    ghost respects_eq = { Prim.search (hashing, rules) };
+
+    fn hash<H: Hasher>(&self, state: &mut H) {
+        self.counts.hash();
+        self.group.hash(state);
+    }
+}

@@ -1,0 +1,154 @@
+//! Calls of a raw entry.
+use crate::items::answers::{Name, Stop};
+use crate::items::entry_call::Make;
+use crate::items::line::Words;
+use crate::items::{Home, Item};
+
+/// A call that leaves the entry.
+#[derive(Clone, Copy)]
+pub enum RawStay {
+    Get,
+    GetKeyValue,
+    ToFront,
+    ToBack,
+}
+
+/// A call that ends the entry.
+#[derive(Clone, Copy)]
+pub enum RawEnd {
+    IntoKey,
+    Remove,
+    RemoveEntry,
+}
+
+/// A call that lends the value.
+#[derive(Clone, Copy)]
+pub enum RawLend {
+    GetMut,
+    GetKeyValueMut,
+    IntoMut,
+    IntoKeyValue,
+}
+
+/// A call that puts a pair whose key is absent.
+#[derive(Clone, Copy)]
+pub enum RawPut {
+    Insert,
+    InsertHashed,
+    InsertWithHasher,
+}
+
+/// A call that takes no item. What is lent is written where a name follows.
+#[derive(Clone, Copy)]
+pub enum RawAsk {
+    Stay(RawStay),
+    End(RawEnd),
+    Modify,
+    Lend(RawLend),
+}
+
+/// A call that takes a value. What is lent is written where a name follows.
+#[derive(Clone, Copy)]
+pub enum RawGive {
+    Make(Make),
+    /// It lends what it puts.
+    Put(RawPut),
+    /// It makes what it puts an entry.
+    PutEntry(RawPut),
+}
+
+/// A call of a raw entry, with what it takes beside the key.
+#[derive(Drop)]
+pub enum RawCall {
+    Ask(RawAsk, Option<Name>),
+    Give(RawGive, Item, Option<Name>),
+    ReplaceValue(Item),
+    ReplaceKey,
+    /// Steps of a cursor follow.
+    Cursor,
+}
+
+/// A call by its name alone.
+#[derive(Clone, Copy)]
+enum Named {
+    Ask(RawAsk),
+    Give(RawGive),
+    ReplaceValue,
+    ReplaceKey,
+    Cursor,
+}
+
+const CALLS: [(&str, Named); 23] = [
+    ("get", Named::Ask(RawAsk::Stay(RawStay::Get))),
+    (
+        "get_key_value",
+        Named::Ask(RawAsk::Stay(RawStay::GetKeyValue)),
+    ),
+    ("to_front", Named::Ask(RawAsk::Stay(RawStay::ToFront))),
+    ("to_back", Named::Ask(RawAsk::Stay(RawStay::ToBack))),
+    ("into_key", Named::Ask(RawAsk::End(RawEnd::IntoKey))),
+    ("remove", Named::Ask(RawAsk::End(RawEnd::Remove))),
+    ("remove_entry", Named::Ask(RawAsk::End(RawEnd::RemoveEntry))),
+    ("and_modify", Named::Ask(RawAsk::Modify)),
+    ("get_mut", Named::Ask(RawAsk::Lend(RawLend::GetMut))),
+    (
+        "get_key_value_mut",
+        Named::Ask(RawAsk::Lend(RawLend::GetKeyValueMut)),
+    ),
+    ("into_mut", Named::Ask(RawAsk::Lend(RawLend::IntoMut))),
+    (
+        "into_key_value",
+        Named::Ask(RawAsk::Lend(RawLend::IntoKeyValue)),
+    ),
+    ("or_insert", Named::Give(RawGive::Make(Make::OrInsert))),
+    (
+        "or_insert_with",
+        Named::Give(RawGive::Make(Make::OrInsertWith)),
+    ),
+    ("replace_key", Named::ReplaceKey),
+    ("replace_value", Named::ReplaceValue),
+    ("insert", Named::Give(RawGive::Put(RawPut::Insert))),
+    (
+        "insert_hashed",
+        Named::Give(RawGive::Put(RawPut::InsertHashed)),
+    ),
+    (
+        "insert_with_hasher",
+        Named::Give(RawGive::Put(RawPut::InsertWithHasher)),
+    ),
+    (
+        "insert_entry",
+        Named::Give(RawGive::PutEntry(RawPut::Insert)),
+    ),
+    (
+        "insert_entry_hashed",
+        Named::Give(RawGive::PutEntry(RawPut::InsertHashed)),
+    ),
+    (
+        "insert_entry_with_hasher",
+        Named::Give(RawGive::PutEntry(RawPut::InsertWithHasher)),
+    ),
+    ("cursor", Named::Cursor),
+];
+
+impl RawCall {
+    /// The key and the call that the next words say.
+    pub fn of_key(home: Home<'_>, words: &mut Words<'_>) -> Result<(Item, RawCall), Stop> {
+        let key = words.item(home)?;
+        Ok((key, RawCall::read(home, words)?))
+    }
+
+    /// The call that the next words say.
+    pub fn read(home: Home<'_>, words: &mut Words<'_>) -> Result<RawCall, Stop> {
+        match words.named(&CALLS)? {
+            Named::Ask(call) => Ok(RawCall::Ask(call, words.optional())),
+            Named::Give(call) => {
+                let (value, new) = words.lent_item(home)?;
+                Ok(RawCall::Give(call, value, new))
+            }
+            Named::ReplaceValue => Ok(RawCall::ReplaceValue(words.item(home)?)),
+            Named::ReplaceKey => Ok(RawCall::ReplaceKey),
+            Named::Cursor => Ok(RawCall::Cursor),
+        }
+    }
+}

@@ -1,0 +1,124 @@
+//! What is said of keys and values that a container gives or lends.
+use crate::items::Item;
+use crate::items::answers::{Answer, Name, Word};
+use hashlink_table::TryReserveError;
+use std::alloc::AllocError;
+
+pub fn shown((key, value): (&Item, &Item)) -> Word {
+    Word::pair((key.name(), value.name()))
+}
+
+/// What is said of a pair that is lent.
+pub fn lent(pair: Option<(&Item, &Item)>) -> Word {
+    match pair {
+        Some((key, value)) => shown((key, value)),
+        None => Word::Nothing,
+    }
+}
+
+/// What is said of a key, a value or an element that is lent.
+pub fn lent_item(item: Option<&Item>) -> Word {
+    match item {
+        Some(item) => Word::item(item.name()),
+        None => Word::Nothing,
+    }
+}
+
+/// What is said of a pair that was taken out, if one was.
+pub fn given(pair: Option<(Item, Item)>) -> Word {
+    match pair {
+        Some(pair) => taken_pair(pair),
+        None => Word::Nothing,
+    }
+}
+
+/// What is said of a pair that was taken out.
+pub fn taken_pair((key, value): (Item, Item)) -> Word {
+    shown((&key, &value))
+}
+
+/// What is said of a key, a value or an element that was taken out, if one was.
+pub fn given_item(item: Option<Item>) -> Word {
+    match item {
+        Some(item) => taken(item),
+        None => Word::Nothing,
+    }
+}
+
+/// What is said of a key, a value or an element that was taken out.
+pub fn taken(item: Item) -> Word {
+    Word::item(item.name())
+}
+
+/// What is said of a value that is lent for writing, after which it is written.
+pub fn write(value: Option<&mut Item>, new: Option<Name>) -> Word {
+    match value {
+        Some(value) => write_item(value, new),
+        None => Word::Nothing,
+    }
+}
+
+pub fn write_item(value: &mut Item, new: Option<Name>) -> Word {
+    let old = Word::item(value.name());
+    set(value, new);
+    old
+}
+
+/// Writes the group of the name, if there is one.
+pub fn set(value: &mut Item, new: Option<Name>) {
+    if let Some(new) = new {
+        value.group = new.group;
+    }
+}
+
+/// The same of a pair.
+pub fn write_pair(pair: Option<(&Item, &mut Item)>, new: Option<Name>) -> Word {
+    let Some(pair) = pair else {
+        return Word::Nothing;
+    };
+    write_value(pair.0, pair.1, new)
+}
+
+pub fn write_value(key: &Item, value: &mut Item, new: Option<Name>) -> Word {
+    let old = shown((key, value));
+    set(value, new);
+    old
+}
+
+/// The old value, or the pair that is handed back for want of memory.
+pub fn put(old: Result<Option<Item>, (Item, Item)>) -> Answer {
+    match old {
+        Ok(value) => Answer::Word(given_item(value)),
+        Err(pair) => no_memory(pair),
+    }
+}
+
+/// That a pair is handed back for want of memory.
+pub fn no_memory(pair: (Item, Item)) -> Answer {
+    Answer::Back(Word::Memory, taken_pair(pair))
+}
+
+/// That a pair is handed back for want of memory after so many were taken.
+pub fn no_memory_after(pair: (Item, Item), taken: u64) -> Answer {
+    Answer::BackAfter(taken_pair(pair), taken)
+}
+
+/// The row goes on with the container that was made.
+pub fn made<C: Drop>(container: &mut C, made: Result<C, AllocError>) -> Word {
+    match made {
+        Ok(new) => {
+            *container = new;
+            Word::Done
+        }
+        Err(AllocError) => Word::Memory,
+    }
+}
+
+/// How a request for room went.
+pub fn room(room: Result<(), TryReserveError>) -> Word {
+    match room {
+        Ok(()) => Word::Done,
+        Err(TryReserveError::AllocError) => Word::Memory,
+        Err(TryReserveError::CapacityOverflow) => Word::Overflow,
+    }
+}
