@@ -33,7 +33,8 @@ const MIN_ROOM: usize = 4;
 ///
 /// A new table does not allocate. One with room takes 9 bytes and a node for each bucket, of which there are as
 /// many as it has room for nodes, or twice as many in a small table, and at least 16; a shrink may leave up to
-/// twice these. It takes 8 bytes and a node more for each node of its room, for the cells over.
+/// twice these. It takes 8 bytes and a node more for each node of its room, for the cells over; after a growth
+/// that was refused up to eight times these.
 #[derive(Drop)]
 pub struct Table<N> {
     // The buckets' own cells. There are none or a power of two, and whole groups.
@@ -158,7 +159,8 @@ impl<N: Copy> Table<N> {
         self.len += 1;
     }
 
-    /// `remove_counted`, where nobody counts the steps.
+    /// Removes a node of this hash that matches, which frees its room, and returns it: `remove_counted`, where
+    /// nobody counts the steps.
     #[inline]
     pub fn remove<F: Fn(N) -> bool>(&mut self, hash: u32, is_match: F) -> Option<N>
         requires callable { CanAsk self.old hash (λ node. F.pre is_match node) }

@@ -1,5 +1,6 @@
 use Rattle.std.proofs.Common.{arith}
-use Rattle.hashlink_table.proofs.Views.{keeps_found, no_cost, none_left, over_asked, own_accepted, own_asked, search_cost}
+use Rattle.hashlink_table.proofs.Views.{keeps_found, no_cost, none_left, over_asked, own_accepted, own_asked}
+use Rattle.hashlink_table.proofs.Views.{search_cost}
 use Rattle.hashlink_table.proofs.store.table.Table.find.Goals as goal
 
 pub seek-requires-clause-linked : goal.seek-requires-clause-linked
