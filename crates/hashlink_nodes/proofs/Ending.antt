@@ -5,7 +5,7 @@ use Rattle.std.specs.Prelude.{is_some}
 use Rattle.std.proofs.lemmas.List.{append-nil, length-append}
 use Rattle.hashlink_nodes.specs.declared.node.Node.{Node}
 use Rattle.hashlink_nodes.specs.declared.held.Held.{Held}
-use Rattle.hashlink_nodes.specs.State.{State, store_next, store_prev, detached, Drops}
+use Rattle.hashlink_nodes.specs.State.{State, detached, Drops}
 use Rattle.hashlink_nodes.specs.Shape.{IsShaped, IsSound, ring_of, walk, entries_of}
 use Rattle.hashlink_nodes.specs.Ring.{Ring, Holds}
 use Rattle.hashlink_nodes.proofs.ArenaBlocks.{found}
@@ -16,6 +16,7 @@ use Rattle.hashlink_nodes.proofs.Entries.{entries-append, entries-cons, entries-
 use Rattle.hashlink_nodes.proofs.Entries.{entries_same}
 use Rattle.hashlink_nodes.proofs.Places.{pushed_holds}
 use Rattle.hashlink_nodes.proofs.Sound.{walk-more, presents, length-ring, Leaves, entries_in, free_in}
+use Rattle.hashlink_nodes.proofs.Sound.{detach_writes}
 use Rattle.hashlink_nodes.proofs.Sound.{held_detached, InRing, in_the_ring, Opened, closed, no_spare}
 
 -- the nodes end in n
@@ -158,10 +159,8 @@ module _ {K V : Type 0} where
   pub writes_detached : (s s₁ s₂ : State K V) (n : Node) (w : ℕ) → s.link_writes ≡ w → s₁ ≡ detached n s
       → Drops n s₁ s₂
       → s₂.link_writes ≡ w + 2
-  unfolding detached store_next store_prev
   writes_detached s s₁ s₂ n w is_w is₁ drops =
-      let a : s₁.link_writes ≡ s.link_writes + 2 = ap (λ (t : State K V). t.link_writes) is₁ ∙ omega arith in
-      drops.link_writes ∙ a ∙ ap (λ k. k + 2) is_w
+      drops.link_writes ∙ ap (λ (t : State K V). t.link_writes) is₁ ∙ detach_writes s n ∙ ap (λ k. k + 2) is_w
 
   pub guard_some : (s : State K V) (guard : Option Node) (first : Node) (len spare : ℕ) (v : Ring K V)
       → ring_of s guard first len spare ≡ v → guard ≡ None → 0 < length v.entries

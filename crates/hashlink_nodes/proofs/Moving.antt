@@ -20,7 +20,7 @@ use Rattle.hashlink_nodes.proofs.Entries.{after_place}
 use Rattle.hashlink_nodes.proofs.Entries.{entries-append, entries-cons, entries_same}
 use Rattle.hashlink_nodes.proofs.Sound.{of_last, of_head, presents, Leaves, entries_in, free_in, no_entry}
 use Rattle.hashlink_nodes.proofs.Sound.{held_here}
-use Rattle.hashlink_nodes.proofs.Sound.{held_apart, held_detached, has_detached, held_moved, writes_moved}
+use Rattle.hashlink_nodes.proofs.Sound.{held_apart, held_detached, has_detached, held_moved}
 use Rattle.hashlink_nodes.proofs.Sound.{writes_freed, Opened, closed}
 
 module _ {K V : Type 0} where
@@ -254,7 +254,6 @@ module _ {K V : Type 0} where
       pub sound : IsSound s₂ guard first len spare
       pub moved : P v.entries (entries_in s₂ guard first len spare)
       pub free : free_in s₂ guard first len spare ≡ v.free
-      pub writes : s₂.link_writes ≡ v.link_writes + 6
 
     finish : (s₂ : State K V) (p q : Node) (es : List (Node × Held K V))
         (P : List (Node × Held K V) → List (Node × Held K V) → Type 0)
@@ -272,9 +271,6 @@ module _ {K V : Type 0} where
               subst (λ (r : Ring K V). P r.entries (entries_in s₂ guard first len spare)) o.view
               (says _ m.entries);
           free = m.free ∙ ap (λ (r : Ring K V). r.free) o.view;
-          writes =
-              ap (λ (t : State K V). t.link_writes) (sym whole) ∙ writes_moved s n p q
-              ∙ ap (λ (r : Ring K V). r.link_writes + 6) o.view;
         }
 
     pub move_before_done : (s₁ s₂ : State K V) (p q : Node) → s₁ ≡ detached n s → q ≡ unwrap_or place g

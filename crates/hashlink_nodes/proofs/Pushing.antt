@@ -15,7 +15,7 @@ use Rattle.hashlink_nodes.proofs.Paths.{all_left, all_middle, distinct_head, agr
 use Rattle.hashlink_nodes.proofs.Shapes.{IsLoose, take_spare, hold_loose, add_loose, attach_loose, guard_made}
 use Rattle.hashlink_nodes.proofs.Entries.{before_place, entries-append, entries-cons, entries_same}
 use Rattle.hashlink_nodes.proofs.Sound.{walk-more, of_last, of_head, presents, Leaves}
-use Rattle.hashlink_nodes.proofs.Sound.{facts, closed}
+use Rattle.hashlink_nodes.proofs.Sound.{facts, closed, attach_writes}
 
 module _ {K V : Type 0} where
   -- n has a block and holds h, and is neither in the ring nor spare; else the ring is seen as v
@@ -210,7 +210,5 @@ module _ {K V : Type 0} where
 
   pub push_writes : (s s' : State K V) (n p q : Node) (w : ℕ) → s.link_writes ≡ w → s' ≡ attached n p q s
       → s'.link_writes ≡ w + 4
-  unfolding attached store_next store_prev
   push_writes s s' n p q w is_w is =
-      let four : s'.link_writes ≡ s.link_writes + 4 = ap (λ (t : State K V). t.link_writes) is ∙ omega arith in
-      omega (arith, four, is_w)
+      ap (λ (t : State K V). t.link_writes) is ∙ attach_writes s n p q ∙ ap (λ k. k + 4) is_w

@@ -135,10 +135,13 @@ module _ {K V : Type 0} where
   unfolding store_next store_prev detached attached
   held_moved t m p q = refl
 
-  pub writes_moved : (t : State K V) (m p q : Node) → (attached m p q (detached m t)).link_writes
-      ≡ t.link_writes + 6
-  unfolding store_next store_prev detached attached
-  writes_moved t m p q = omega arith
+  pub detach_writes : (t : State K V) (m : Node) → (detached m t).link_writes ≡ t.link_writes + 2
+  unfolding store_next store_prev detached
+  detach_writes t m = omega arith
+
+  pub attach_writes : (t : State K V) (m p q : Node) → (attached m p q t).link_writes ≡ t.link_writes + 4
+  unfolding store_next store_prev attached
+  attach_writes t m p q = omega arith
 
   pub writes_freed : (t : State K V) (m a : Node)
       → (store_next m a (hold m None (detached m t))).link_writes ≡ t.link_writes + 3

@@ -1,9 +1,19 @@
-use Rattle.std.proofs.Common.{ap, ◌∙◌}
+use Rattle.std.proofs.Common.{ap, ◌∙◌, arith}
+use Rattle.hashlink_nodes.specs.Ring.{Ring}
+use Rattle.hashlink_nodes.proofs.Sound.{detach_writes, attach_writes}
 use Rattle.hashlink_nodes.specs.Cells.{state_of}
 use Rattle.hashlink_nodes.specs.State.{State}
 use Rattle.hashlink_nodes.proofs.Sound.{node_of, has_detached, guard_there, some_unless, opened}
 use Rattle.hashlink_nodes.proofs.Moving.{after_steps, move_after_done}
 use Rattle.hashlink_nodes.proofs.nodes.Nodes.move_after.Goals as goal
+
+pub returns-clause-link_writes : goal.returns-clause-link_writes
+returns-clause-link_writes g c =
+    let S : Type 0 = State g.row.K.Denot g.row.V.Denot in
+    let R : Type 0 = Ring g.row.K.Denot g.row.V.Denot in
+    let out = ap (λ (s : S). s.link_writes) c.detach.ensures ∙ detach_writes _ _ in
+    let into = ap (λ (s : S). s.link_writes) c.attach.ensures ∙ attach_writes _ _ _ _ in
+    omega (arith, out, into, ap (λ (r : R). r.link_writes) c.self.view_is)
 
 pub unwrap-guard-requires : goal.unwrap-guard-requires
 unwrap-guard-requires g c =
@@ -117,15 +127,3 @@ returns-clause-free g c =
     c.args.node c.requires.node c.args.place c.requires.place (state_of c.detach.new.self)
     (state_of c.attach.new.self) c.unwrap_or-before.result c.next-after.result c.detach.ensures
     c.unwrap_or-before.ensures c.next-after.ensures c.attach.ensures).free
-
-pub returns-clause-link_writes : goal.returns-clause-link_writes
-returns-clause-link_writes g c =
-    (move_after_done (state_of c.self.inside.cells) c.self.inside.guard c.unwrap-guard.result
-    c.self.inside.first_spare
-    c.self.inside.len c.self.inside.spare c.args.self.now
-    (opened (state_of c.self.inside.cells) c.self.inside.guard c.unwrap-guard.result c.self.inside.first_spare
-    c.self.inside.len c.self.inside.spare c.self.invariant c.unwrap-guard.ensures
-    c.args.self.now c.self.view_is)
-    c.args.node c.requires.node c.args.place c.requires.place (state_of c.detach.new.self)
-    (state_of c.attach.new.self) c.unwrap_or-before.result c.next-after.result c.detach.ensures
-    c.unwrap_or-before.ensures c.next-after.ensures c.attach.ensures).writes

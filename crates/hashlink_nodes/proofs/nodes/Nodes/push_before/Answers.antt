@@ -11,6 +11,17 @@ use Rattle.hashlink_nodes.proofs.nodes.Nodes.push_before.Goals.{After-unwrap-gua
 use Rattle.hashlink_nodes.proofs.nodes.Nodes.push_before.Goals as goal
 
 -- ---- no node is spare
+pub returns-then-self-eq0-clause-succeeds : goal.returns-then-self-eq0-clause-succeeds
+returns-then-self-eq0-clause-succeeds g c =
+    λ some. absurd
+    (omega (
+      arith,
+      some,
+      (facts (state_of c.self.inside.cells) c.self.inside.guard c.self.inside.first_spare c.self.inside.len
+          c.self.inside.spare c.self.invariant c.args.self.now c.self.view_is).is_spare,
+      c.if-self-eq0.true,
+    ))
+
 pub push_new-requires-clause-none : goal.push_new-requires-clause-none
 push_new-requires-clause-none g c =
     nil_from_length c.args.self.now.free
@@ -26,17 +37,6 @@ returns-then-self-eq0-clause-free g c =
     c.self.inside.spare c.self.invariant c.args.self.now c.self.view_is).is_spare
     ∙ c.if-self-eq0.true)))
     c.push_new.ensures.free
-
-pub returns-then-self-eq0-clause-succeeds : goal.returns-then-self-eq0-clause-succeeds
-returns-then-self-eq0-clause-succeeds g c =
-    λ some. absurd
-    (omega (
-      arith,
-      some,
-      (facts (state_of c.self.inside.cells) c.self.inside.guard c.self.inside.first_spare c.self.inside.len
-          c.self.inside.spare c.self.invariant c.args.self.now c.self.view_is).is_spare,
-      c.if-self-eq0.true,
-    ))
 
 -- ---- the first spare node is taken
 first : (g : given.Over) (c : After-unwrap-guard g)
