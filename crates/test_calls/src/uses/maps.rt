@@ -5,7 +5,7 @@ use hashlink_uses::maps::cursors::put_after;
 use hashlink_uses::maps::entries::{count_on, put_new};
 use hashlink_uses::maps::lent_values::{write, write_to_back, write_to_front};
 use hashlink_uses::maps::many::{append_rest, copy_of, has_value};
-use hashlink_uses::maps::raw_entries::{take_by_hash, write_beside_key, write_value};
+use hashlink_uses::maps::raw_entries::{put_number, take_by_hash, write_beside_key, write_value};
 use std::alloc::Global;
 use std::process::ExitCode;
 
@@ -102,6 +102,18 @@ fn are_counted(map: &mut Map) -> bool {
 #[test]
 fn words_are_counted(rt: HostRuntime) -> ExitCode {
     passes(are_counted(&mut three(rt.alloc())))
+}
+
+/// Whether a raw entry takes a number whose key is absent, and no other.
+fn takes_absent_number(map: &mut Map) -> bool {
+    (put_number(map, 4, 40) == Ok(true))
+        & (put_number(map, 4, 41) == Ok(false))
+        & (map.back() == Some((&4, &40)))
+}
+
+#[test]
+fn a_raw_entry_takes_an_absent_number(rt: HostRuntime) -> ExitCode {
+    passes(takes_absent_number(&mut three(rt.alloc())))
 }
 
 /// Whether raw entries write in place, and remove what they find by its hash.
