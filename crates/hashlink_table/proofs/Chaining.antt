@@ -15,17 +15,17 @@ use Rattle.hashlink_table.proofs.Linking.{linked-push, linked-reuse, free_on}
 use Rattle.hashlink_table.proofs.Nodes.{nodes_in-set, nodes_in-push, nodes_in-same}
 
 module _ {N : Type 0} where
-  pub length-links : (firsts : List (Cell N)) → length (links_of firsts) ≡ length firsts
-  length-links firsts = length-map firsts (λ c. c.next)
+  pub length-links : (slots : List (Cell N)) → length (links_of slots) ≡ length slots
+  length-links slots = length-map slots (λ c. c.next)
 
-  -- a link of the buckets' own cells, read and written
-  pub link_read : (firsts : List (Cell N)) (b : ℕ) → b < length firsts
-      → get_or (links_of firsts) b END ≡ next_at firsts b
-  link_read firsts b low = get_or-map (λ (c : Cell N). c.next) firsts b bare_cell END low
+  -- a link of the slots, read and written
+  pub link_read : (slots : List (Cell N)) (b : ℕ) → b < length slots
+      → get_or (links_of slots) b END ≡ next_at slots b
+  link_read slots b low = get_or-map (λ (c : Cell N). c.next) slots b bare_cell END low
 
-  pub link_set : (firsts : List (Cell N)) (b : ℕ) (d : Cell N) (x : ℕ) → d.next ≡ x
-      → links_of (set firsts b d) ≡ set (links_of firsts) b x
-  link_set firsts b d x to = map-set (λ (c : Cell N). c.next) firsts b d ∙ ap (set (links_of firsts) b) to
+  pub link_set : (slots : List (Cell N)) (b : ℕ) (d : Cell N) (x : ℕ) → d.next ≡ x
+      → links_of (set slots b d) ≡ set (links_of slots) b x
+  link_set slots b d x to = map-set (λ (c : Cell N). c.next) slots b d ∙ ap (set (links_of slots) b) to
 
   -- the first free cell is a cell, and has no node
   pub free_within : (heads : List ℕ) (cells : List (Cell N)) (free : ℕ) → IsLinked heads cells free
@@ -68,20 +68,20 @@ module _ {N : Type 0} where
       sym (ap (chain_of buckets) is) ∙ sym (chain_at_within buckets cells i
       (on_within buckets cells i b on low)) ∙ on
 
-  -- a cell with a node was put somewhere, and linked from its bucket's own cell
-  pub chained : (firsts cells later : List (Cell N)) (free now at b : ℕ) (c d : Cell N) (k : Kept N)
-      → IsLinked (links_of firsts) cells free → b < length firsts → b ≡ k.hash % length firsts
+  -- a cell with a node was put somewhere, and linked from its slot
+  pub chained : (slots cells later : List (Cell N)) (free now at b : ℕ) (c d : Cell N) (k : Kept N)
+      → IsLinked (links_of slots) cells free → b < length slots → b ≡ k.hash % length slots
       → length cells < END → IsPlaced cells later free now c at → c.kept ≡ Some k
-      → c.next ≡ next_at firsts b → d.next ≡ at
-      → IsLinked (links_of (set firsts b d)) later now
-  chained firsts cells later free now at b c d k t low is small placed kept leads to =
-      let heads = links_of firsts in
-      let n = length-links firsts in
+      → c.next ≡ next_at slots b → d.next ≡ at
+      → IsLinked (links_of (set slots b d)) later now
+  chained slots cells later free now at b c d k t low is small placed kept leads to =
+      let heads = links_of slots in
+      let n = length-links slots in
       let low' : b < length heads = omega (arith, low, n) in
-      let read : c.next ≡ get_or heads b END = leads ∙ sym (link_read firsts b low) in
+      let read : c.next ≡ get_or heads b END = leads ∙ sym (link_read slots b low) in
       let on : chain_of (length heads) c.kept ≡ b =
       ap (chain_of (length heads)) kept ∙ ap (λ m. k.hash % m) n ∙ sym is in
-      subst (λ hs. IsLinked hs later now) (sym (link_set firsts b d at to))
+      subst (λ hs. IsLinked hs later now) (sym (link_set slots b d at to))
       (elim placed as (λ _. IsLinked (set heads b at) later now) [
         | inl p ↦ let e : now ≡ free = p.3 ∙ sym p.0 in
             rw (p.2, p.1, e) (linked-push heads cells free b c low' small read on t)
@@ -89,18 +89,18 @@ module _ {N : Type 0} where
             rw (p.2, p.3, p.1) (linked-reuse heads cells free b c low' within small read on t)
       ])
 
-  pub chained-nodes : (firsts cells later : List (Cell N)) (free now at : ℕ) (c : Cell N) (k : Kept N)
-      → IsLinked (links_of firsts) cells free → 0 < length firsts → IsPlaced cells later free now c at
+  pub chained-nodes : (slots cells later : List (Cell N)) (free now at : ℕ) (c : Cell N) (k : Kept N)
+      → IsLinked (links_of slots) cells free → 0 < length slots → IsPlaced cells later free now c at
       → c.kept ≡ Some k
       → IsPermutation (k ∷ nodes_in cells) (nodes_in later)
-  chained-nodes firsts cells later free now at c k t some placed kept =
-      let heads = links_of firsts in
+  chained-nodes slots cells later free now at c k t some placed kept =
+      let heads = links_of slots in
       elim placed as (λ _. IsPermutation (k ∷ nodes_in cells) (nodes_in later)) [
         | inl p ↦ subst (λ l. IsPermutation (k ∷ nodes_in cells) (nodes_in l)) (sym p.2)
             (subst (λ o. IsPermutation (with_node o (nodes_in cells)) (nodes_in (cells ++ c ∷ []))) kept
             (nodes_in-push cells c))
         | inr p ↦ let within = free_within heads cells free t p.0 in
-            let none = free_none heads cells free t p.0 (omega (arith, some, length-links firsts)) in
+            let none = free_none heads cells free t p.0 (omega (arith, some, length-links slots)) in
             subst (λ l. IsPermutation (k ∷ nodes_in cells) (nodes_in l))
             (ap (λ i. set cells i c) (sym p.1) ∙ sym p.2)
             (subst (λ o. IsPermutation (k ∷ nodes_in cells) (with_node o (nodes_in (set cells free c)))) none

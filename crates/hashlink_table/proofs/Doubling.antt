@@ -1,4 +1,4 @@
--- The buckets' own cells are doubled: where each node is then, and that no bucket has a chain.
+-- The slots are doubled: where each node is then, and that no bucket has a chain.
 use Rattle.std.proofs.Common.{◌≡◌, ℕ, ◌+◌, ◌-◌, ◌*◌, ◌/◌, ◌%◌, ◌<◌, ◌≤◌, ltb, Bool, true, false, cond, inl, inr}
 use Rattle.std.proofs.Common.{List, [], ◌∷◌, ◌++◌, length, map, get_or, Option, None, Some}
 use Rattle.std.proofs.Common.{refl, sym, ap, ◌∙◌, subst, arith}
@@ -17,7 +17,7 @@ use Rattle.hashlink_table.specs.declared.store.cell.TheConstants.{END}
 use Rattle.hashlink_table.specs.Chains.{next_at, links_of, nodes_in, with_node}
 use Rattle.hashlink_table.specs.Chains.{AreGrouped, IsFilled, IsInPlace, IsLinked}
 use Rattle.hashlink_table.specs.Stored.{bare_cell}
-use Rattle.hashlink_table.specs.Own.{doubled, high_half, high_kept, low_half, low_kept}
+use Rattle.hashlink_table.specs.Slots.{doubled, high_half, high_kept, low_half, low_kept}
 use Rattle.hashlink_table.proofs.Moving.{within_kept}
 use Rattle.hashlink_table.proofs.Nodes.{nodes_in-append}
 use Rattle.hashlink_table.proofs.Sound.{filled-none, linked-none}

@@ -10,10 +10,10 @@ use Rattle.std.proofs.lemmas.List.{length-append, length-replicate}
 use Rattle.hashlink_table.specs.declared.kept.Kept.{Kept}
 use Rattle.hashlink_table.specs.declared.store.cell.Cell.{Cell}
 use Rattle.hashlink_table.specs.declared.store.cell.TheConstants.{END}
-use Rattle.hashlink_table.specs.declared.store.own.Rest.{Rest}
+use Rattle.hashlink_table.specs.declared.store.slots.Rest.{Rest}
 use Rattle.hashlink_table.specs.Stored.{bare_cell, tag_of}
-use Rattle.hashlink_table.specs.Own.{own_cell, cells_in, low_kept, high_kept, low_half, high_half, doubled, parted}
-use Rattle.hashlink_table.specs.Own.{IsStored, IsTagged}
+use Rattle.hashlink_table.specs.Slots.{slot, cells_in, low_kept, high_kept, low_half, high_half, doubled, parted}
+use Rattle.hashlink_table.specs.Slots.{IsStored, IsTagged}
 use Rattle.hashlink_table.proofs.Storing.{cell_at, stored_at, cells-set, tagged-set}
 
 -- so many buckets twice are a power of two again
@@ -61,7 +61,7 @@ module _ {N : Type 0} where
     high_some false false is = ap (λ t. cond t None (Some k)) is
 
   low_cell : (count tag low high : ℕ) (n : N) (r : Rest) → IsApart count r.hash tag low high
-      → own_cell low n (ended r) ≡ low_half count (own_cell tag n r)
+      → slot low n (ended r) ≡ low_half count (slot tag n r)
   low_cell count tag low high n r parts =
       ap (λ (o : Option (Kept N)). let d : Cell N = record { kept = o; hash = r.hash; next = END } in d) (by parts)
     where
@@ -74,7 +74,7 @@ module _ {N : Type 0} where
       by (inr h) = ap (λ t. cond (eqb t 0) None (Some k)) h.1 ∙ sym (low_some count k false (eqb tag 0) h.0)
 
   high_cell : (count tag low high : ℕ) (n : N) (r : Rest) → IsApart count r.hash tag low high
-      → own_cell high n (ended r) ≡ high_half count (own_cell tag n r)
+      → slot high n (ended r) ≡ high_half count (slot tag n r)
   high_cell count tag low high n r parts =
       ap (λ (o : Option (Kept N)). let d : Cell N = record { kept = o; hash = r.hash; next = END } in d) (by parts)
     where
@@ -135,19 +135,19 @@ module _ {N : Type 0} (ts : List ℕ) (ns : List N) (rs : List Rest) (tagged : I
   parted_in =
       let C : Type 0 = Cell N in
       let cells : List C = cells_in ts ns rs in
-      let cell : own_cell (get_or ts at 0) n rest ≡ get_or cells at bare_cell
-      = ap (λ (m : N). own_cell (get_or ts at 0) m rest) at_n ∙ sym (cell_at ts ns rs at n d tagged within) in
-      let low_is : own_cell low n (ended rest) ≡ low_half count (get_or cells at bare_cell)
+      let cell : slot (get_or ts at 0) n rest ≡ get_or cells at bare_cell
+      = ap (λ (m : N). slot (get_or ts at 0) m rest) at_n ∙ sym (cell_at ts ns rs at n d tagged within) in
+      let low_is : slot low n (ended rest) ≡ low_half count (get_or cells at bare_cell)
       = low_cell count (get_or ts at 0) low high n rest parts ∙ ap (low_half count) cell in
-      let high_is : own_cell high n (ended rest) ≡ high_half count (get_or cells at bare_cell)
+      let high_is : slot high n (ended rest) ≡ high_half count (get_or cells at bare_cell)
       = high_cell count (get_or ts at 0) low high n rest parts ∙ ap (high_half count) cell in
       ap (λ (ms : List N). cells_in (set (set ts at low) (at + count) high) (set ms (at + count) n)
       (set (set rs at (ended rest)) (at + count) (ended rest))) (sym node_stays)
       ∙ cells-set (set ts at low) (set ns at n) (set rs at (ended rest)) (at + count) high n (ended rest)
       tagged-low
-      ∙ ap (λ (cs : List C). set cs (at + count) (own_cell high n (ended rest)))
+      ∙ ap (λ (cs : List C). set cs (at + count) (slot high n (ended rest)))
       (cells-set ts ns rs at low n (ended rest) tagged)
-      ∙ ap (λ (c : C). set (set cells at c) (at + count) (own_cell high n (ended rest))) low_is
+      ∙ ap (λ (c : C). set (set cells at c) (at + count) (slot high n (ended rest))) low_is
       ∙ ap (λ (c : C). set (set cells at (low_half count (get_or cells at bare_cell))) (at + count) c) high_is
 
 -- the first so many of a list, each as the function makes it, and then those of another list

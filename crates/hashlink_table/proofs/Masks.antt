@@ -16,7 +16,7 @@ use Rattle.hashlink_table.specs.declared.store.cell.Cell.{Cell}
 use Rattle.hashlink_table.specs.declared.store.cell.TheConstants.{END}
 use Rattle.hashlink_table.specs.Chains.{kept_at, next_at, AreTaken, IsFilled}
 use Rattle.hashlink_table.specs.Stored.{bare_cell}
-use Rattle.hashlink_table.specs.Own.{lanes_of}
+use Rattle.hashlink_table.specs.Slots.{lanes_of}
 
 module _ {X : Type 0} (p : X → Bool) where
   -- r elements come before the first that passes, and after it come those of the rest of the mask
@@ -202,14 +202,14 @@ module _ {N : Type 0} where
       none_by (Some x) e = absurd (true≢false (sym e))
 
   -- and then no bucket of the group has a chain
-  pub no_chain : (firsts : List (Cell N)) (base b : ℕ) → base ≡ b - b % 16 → base + 16 ≤ length firsts
-      → IsFilled firsts
-      → (mask_l (map (λ c. is_none c.kept) (lanes_of firsts base)) ≡ 0 → ⊥)
-      → next_at firsts b ≡ END
-  no_chain firsts base b at room filled some =
-      let f = first_free firsts base room some in
-      let low : b < length firsts = omega (arith, at, room) in
-      elim (cases_eq (next_at firsts b) END) as (λ _. next_at firsts b ≡ END) [
+  pub no_chain : (slots : List (Cell N)) (base b : ℕ) → base ≡ b - b % 16 → base + 16 ≤ length slots
+      → IsFilled slots
+      → (mask_l (map (λ c. is_none c.kept) (lanes_of slots base)) ≡ 0 → ⊥)
+      → next_at slots b ≡ END
+  no_chain slots base b at room filled some =
+      let f = first_free slots base room some in
+      let low : b < length slots = omega (arith, at, room) in
+      elim (cases_eq (next_at slots b) END) as (λ _. next_at slots b ≡ END) [
         | inl e ↦ e
         | inr ne ↦ absurd (false≢true (subst IsSome f.none (filled b low ne _
             (omega (arith, at, f.from)) (omega (arith, at, f.to)))))

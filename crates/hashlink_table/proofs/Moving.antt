@@ -1,4 +1,4 @@
--- The buckets' own cells: a node comes into one, leaves it, and is followed there by the first of a chain.
+-- The slots: a node comes into one, leaves it, and is followed there by the first of a chain.
 use Rattle.std.proofs.Common.{◌≡◌, ◌≢◌, ℕ, ◌+◌, ◌-◌, ◌%◌, ◌<◌, ◌≤◌, inl, inr, List, ◌∷◌, ◌++◌, length}
 use Rattle.std.proofs.Common.{get_or, is_some, set, IsSome, None, Some, refl, sym, ap, ◌∙◌, subst, arith}
 use Rattle.std.specs.Prelude.{IsPermutation}
@@ -15,7 +15,7 @@ use Rattle.hashlink_table.specs.Chains.{kept_at, next_at, chain_at, links_of, no
 use Rattle.hashlink_table.specs.Chains.{stored_in, AreGrouped, AreTaken, IsFilled, IsInPlace, IsLinked}
 use Rattle.hashlink_table.specs.Chains.{SameNodes}
 use Rattle.hashlink_table.specs.Stored.{bare_cell}
-use Rattle.hashlink_table.specs.Own.{with_kept, with_next, without_kept}
+use Rattle.hashlink_table.specs.Slots.{with_kept, with_next, without_kept}
 use Rattle.hashlink_table.proofs.Cells.{kept_at-set, kept_at-set_other, next_at-set, next_at-set_other}
 use Rattle.hashlink_table.proofs.Cells.{within_by_kept}
 use Rattle.hashlink_table.proofs.Chaining.{length-links, link_read, same_kept}
@@ -123,38 +123,38 @@ module _ {N : Type 0} where
   pub free-links : (f : List (Cell N)) (i : ℕ) → links_of (without_kept f i) ≡ links_of f
   free-links f i = map-set_same (λ (c : Cell N). c.next) f i _ bare_cell refl
 
-  -- the link of a bucket's own cell leads to a cell of the bucket, or to the end
-  pub follower_on : (firsts cells : List (Cell N)) (free b at : ℕ) → IsLinked (links_of firsts) cells free
-      → b < length firsts → next_at firsts b ≡ at → at ≢ END
-      → chain_at (length firsts) cells at ≡ b
-  follower_on firsts cells free b at t low is ne =
-      let n = length-links firsts in
-      let w = walk_of (links_of firsts) cells free b t (omega (arith, low, n)) in
-      let start : get_or (links_of firsts) b END ≡ at = link_read firsts b low ∙ is in
-      ap (λ m. chain_at m cells at) (sym n) ∙ ap (chain_at (length (links_of firsts)) cells) (sym start)
+  -- the link of a slot leads to a cell of the bucket, or to the end
+  pub follower_on : (slots cells : List (Cell N)) (free b at : ℕ) → IsLinked (links_of slots) cells free
+      → b < length slots → next_at slots b ≡ at → at ≢ END
+      → chain_at (length slots) cells at ≡ b
+  follower_on slots cells free b at t low is ne =
+      let n = length-links slots in
+      let w = walk_of (links_of slots) cells free b t (omega (arith, low, n)) in
+      let start : get_or (links_of slots) b END ≡ at = link_read slots b low ∙ is in
+      ap (λ m. chain_at m cells at) (sym n) ∙ ap (chain_at (length (links_of slots)) cells) (sym start)
       ∙ walk_at w.0 (λ e. ne (sym start ∙ e))
 
-  -- all nodes, where one left a cell over
-  pub over-taken : (firsts later cells less : List (Cell N)) (k : Kept N) → SameNodes firsts later
+  -- all nodes, where one left an overflow cell
+  pub overflow-taken : (slots later cells less : List (Cell N)) (k : Kept N) → SameNodes slots later
       → IsPermutation (nodes_in cells) (k ∷ nodes_in less)
-      → IsPermutation (nodes_in firsts ++ nodes_in cells) (k ∷ nodes_in later ++ nodes_in less)
-  over-taken firsts later cells less k same p =
-      subst (λ ns. IsPermutation (nodes_in firsts ++ nodes_in cells) (k ∷ ns ++ nodes_in less))
-      (sym (nodes_in-same firsts later same))
-      (IsPermutation-trans _ _ _ (IsPermutation-append_right (nodes_in firsts) _ _ p)
-      (IsPermutation-middle (nodes_in firsts) k (nodes_in less)))
+      → IsPermutation (nodes_in slots ++ nodes_in cells) (k ∷ nodes_in later ++ nodes_in less)
+  overflow-taken slots later cells less k same p =
+      subst (λ ns. IsPermutation (nodes_in slots ++ nodes_in cells) (k ∷ ns ++ nodes_in less))
+      (sym (nodes_in-same slots later same))
+      (IsPermutation-trans _ _ _ (IsPermutation-append_right (nodes_in slots) _ _ p)
+      (IsPermutation-middle (nodes_in slots) k (nodes_in less)))
 
-  -- where the next of its chain came into the bucket's own cell
-  pub first-followed : (firsts later cells less : List (Cell N)) (b : ℕ) (d : Cell N) (k j : Kept N)
-      → SameNodes firsts later → b < length later → kept_at later b ≡ Some k → d.kept ≡ Some j
+  -- where the next of its chain came into the slot
+  pub first-followed : (slots later cells less : List (Cell N)) (b : ℕ) (d : Cell N) (k j : Kept N)
+      → SameNodes slots later → b < length later → kept_at later b ≡ Some k → d.kept ≡ Some j
       → IsPermutation (nodes_in cells) (j ∷ nodes_in less)
-      → IsPermutation (nodes_in firsts ++ nodes_in cells) (k ∷ nodes_in (set later b d) ++ nodes_in less)
-  first-followed firsts later cells less b d k j same within was is p =
+      → IsPermutation (nodes_in slots ++ nodes_in cells) (k ∷ nodes_in (set later b d) ++ nodes_in less)
+  first-followed slots later cells less b d k j same within was is p =
       let exchange : IsPermutation (j ∷ nodes_in later) (k ∷ nodes_in (set later b d)) =
       subst (λ o. IsPermutation (j ∷ nodes_in later) (with_node o (nodes_in (set later b d)))) was
       (subst (λ o. IsPermutation (with_node o (nodes_in later))
       (with_node (kept_at later b) (nodes_in (set later b d)))) is (nodes_in-set later b d within)) in
-      IsPermutation-trans _ _ _ (over-taken firsts later cells less j same p)
+      IsPermutation-trans _ _ _ (overflow-taken slots later cells less j same p)
       (IsPermutation-append_left (nodes_in less) _ _ exchange)
 
   -- a bucket's chain begins elsewhere

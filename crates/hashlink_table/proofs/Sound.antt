@@ -44,14 +44,14 @@ bare_read N (suc n) (suc i) = bare_read N n i
 
 module _ {N : Type 0} where
   -- no bucket has a chain: no link leads anywhere, and each cell may be free
-  pub linked-none : (firsts : List (Cell N)) → ((b : ℕ) → next_at firsts b ≡ END)
-      → IsLinked {N = N} (links_of firsts) [] END
-  linked-none firsts none b h =
-      let heads = links_of firsts in
+  pub linked-none : (slots : List (Cell N)) → ((b : ℕ) → next_at slots b ≡ END)
+      → IsLinked {N = N} (links_of slots) [] END
+  linked-none slots none b h =
+      let heads = links_of slots in
       let first : get_or (heads ++ END ∷ []) b END ≡ END
       = elim (cases_lt b (length heads)) as (λ _. get_or (heads ++ END ∷ []) b END ≡ END) [
         | inl low ↦ get_or_append_left heads (END ∷ []) END b low
-            ∙ get_or-map (λ (c : Cell N). c.next) firsts b bare_cell ∙ none b
+            ∙ get_or-map (λ (c : Cell N). c.next) slots b bare_cell ∙ none b
         | inr high ↦ get_or_at heads END [] END b (omega (arith, high, h, length_push heads END))
       ] in
       record {
@@ -61,8 +61,8 @@ module _ {N : Type 0} where
         whole = λ i e. absurd (omega (arith, e, h, length_push heads END));
       }
 
-  pub filled-none : (firsts : List (Cell N)) → ((b : ℕ) → next_at firsts b ≡ END) → IsFilled firsts
-  filled-none firsts none b low ne = absurd (ne (none b))
+  pub filled-none : (slots : List (Cell N)) → ((b : ℕ) → next_at slots b ≡ END) → IsFilled slots
+  filled-none slots none b low ne = absurd (ne (none b))
 
   -- where no cell is free, each has a node
   all_taken : (heads : List ℕ) (cells : List (Cell N)) (free : ℕ) → IsLinked heads cells free
@@ -80,36 +80,36 @@ module _ {N : Type 0} where
         | Some k ↦ λ no. refl
       ] free_chain
 
-  -- where no cell over is free, there are no more of them than nodes
-  pub full_overs : {firsts overs : List (Cell N)} {capacity free len room : ℕ}
-      → IsSound firsts overs capacity free len room → free ≡ END
-      → length overs ≤ len
-  full_overs {firsts} {overs} {free = free} s e =
+  -- where no overflow cell is free, there are no more of them than nodes
+  pub full_overflow : {slots overflow : List (Cell N)} {capacity free len room : ℕ}
+      → IsSound slots overflow capacity free len room → free ≡ END
+      → length overflow ≤ len
+  full_overflow {slots} {overflow} {free = free} s e =
       omega (
         arith,
         s.counted,
-        length-append (nodes_in firsts) (nodes_in overs),
-        nodes_in-full overs (all_taken (links_of firsts) overs free s.linked e),
+        length-append (nodes_in slots) (nodes_in overflow),
+        nodes_in-full overflow (all_taken (links_of slots) overflow free s.linked e),
       )
 
-  -- and if there is one, two nodes at least have a bucket's own cell: its bucket has a chain, so its group is full
-  full_group : {firsts overs : List (Cell N)} {capacity free len room : ℕ}
-      → IsSound firsts overs capacity free len room → free ≡ END → 0 < length overs
-      → length overs + 2 ≤ len
-  full_group {firsts} {overs} {free = free} s e some =
-      let heads = links_of firsts in
-      let taken = all_taken heads overs free s.linked e in
-      let all = nodes_in-full overs taken in
-      let both = length-append (nodes_in firsts) (nodes_in overs) in
-      let first = of_kept (kept_at overs 0) (taken 0 some) in
-      let n = length-links firsts in
+  -- and if there is one, two nodes at least have a slot: its bucket has a chain, so its group is full
+  full_group : {slots overflow : List (Cell N)} {capacity free len room : ℕ}
+      → IsSound slots overflow capacity free len room → free ≡ END → 0 < length overflow
+      → length overflow + 2 ≤ len
+  full_group {slots} {overflow} {free = free} s e some =
+      let heads = links_of slots in
+      let taken = all_taken heads overflow free s.linked e in
+      let all = nodes_in-full overflow taken in
+      let both = length-append (nodes_in slots) (nodes_in overflow) in
+      let first = of_kept (kept_at overflow 0) (taken 0 some) in
+      let n = length-links slots in
       let b = first.0.hash % length heads in
-      let low : b < length firsts = omega (arith, n, s.counted, s.held, s.headed, all, both, some) in
-      let on = chain_at_within (length heads) overs 0 some ∙ ap (chain_of (length heads)) first.1 in
-      let w = walk_of heads overs free b s.linked (omega (arith, low, n)) in
-      let full = s.filled b low (λ end. walk_goes w.0 0 (w.1 0 on) (link_read firsts b low ∙ end)) in
+      let low : b < length slots = omega (arith, n, s.counted, s.held, s.headed, all, both, some) in
+      let on = chain_at_within (length heads) overflow 0 some ∙ ap (chain_of (length heads)) first.1 in
+      let w = walk_of heads overflow free b s.linked (omega (arith, low, n)) in
+      let full = s.filled b low (λ end. walk_goes w.0 0 (w.1 0 on) (link_read slots b low ∙ end)) in
       let base = b - b % 16 in
-      let two = two_nodes firsts base (base + 1) (omega arith) (full base (omega arith) (omega arith))
+      let two = two_nodes slots base (base + 1) (omega arith) (full base (omega arith) (omega arith))
       (full (base + 1) (omega arith) (omega arith)) in
       omega (arith, s.counted, all, both, two)
 
@@ -132,21 +132,21 @@ module _ {N : Type 0} where
         spare = spare;
         none = λ e. (same ∙ (none e).0, (none e).1);
         small = omega (arith, small, same);
-        overs_few = omega arith;
-        overs_small = omega arith;
+        overflow_few = omega arith;
+        overflow_small = omega arith;
         masked = λ h. subst IsPowerOfTwo (sym same) (masked (omega (arith, h, same)));
         whole = ap (λ m. m % 16) same ∙ whole;
       }
 
   -- one node more
-  pub sound-put : {firsts overs : List (Cell N)} {capacity free len room : ℕ}
+  pub sound-put : {slots overflow : List (Cell N)} {capacity free len room : ℕ}
       (later more : List (Cell N)) (now next : ℕ) (k : Kept N)
-      → IsSound firsts overs capacity free len room → len < room → now ≡ capacity
-      → length later ≡ length firsts → IsLinked (links_of later) more next → IsInPlace later → IsFilled later
-      → IsPermutation (k ∷ nodes_in firsts ++ nodes_in overs) (nodes_in later ++ nodes_in more)
-      → (free ≡ END → length more ≤ length overs + 1) → (free ≢ END → length more ≤ length overs)
+      → IsSound slots overflow capacity free len room → len < room → now ≡ capacity
+      → length later ≡ length slots → IsLinked (links_of later) more next → IsInPlace later → IsFilled later
+      → IsPermutation (k ∷ nodes_in slots ++ nodes_in overflow) (nodes_in later ++ nodes_in more)
+      → (free ≡ END → length more ≤ length overflow + 1) → (free ≢ END → length more ≤ length overflow)
       → IsSound later more now next (len + 1) room
-  sound-put {firsts} {overs} {free = free} {len} {room} later more now next k
+  sound-put {slots} {overflow} {free = free} {len} {room} later more now next k
       s room_left capacity buckets linked in_place filled nodes full reused =
       record {
         linked = linked;
@@ -160,31 +160,31 @@ module _ {N : Type 0} where
         spare = omega (arith, s.spare, capacity);
         none = λ e. absurd (omega (arith, room_left, e));
         small = omega (arith, s.small, buckets);
-        overs_few = elim (cases_eq free END) as (λ _. length more ≤ room) [
-          | inl e ↦ omega (arith, full e, full_overs s e, room_left)
-          | inr ne ↦ omega (arith, reused ne, s.overs_few)
+        overflow_few = elim (cases_eq free END) as (λ _. length more ≤ room) [
+          | inl e ↦ omega (arith, full e, full_overflow s e, room_left)
+          | inr ne ↦ omega (arith, reused ne, s.overflow_few)
         ];
-        overs_small = elim (cases_eq free END) as (λ _. length more < END) [
+        overflow_small = elim (cases_eq free END) as (λ _. length more < END) [
           | inl e ↦
-              elim (cases_lt 0 (length overs)) as (λ _. length more < END) [
+              elim (cases_lt 0 (length overflow)) as (λ _. length more < END) [
                 | inl some ↦ omega (arith, full e, full_group s e some, room_left, s.headed, s.small)
                 | inr none ↦ omega (arith, full e, none)
               ]
-          | inr ne ↦ omega (arith, reused ne, s.overs_small)
+          | inr ne ↦ omega (arith, reused ne, s.overflow_small)
         ];
         masked = λ h. subst IsPowerOfTwo (sym buckets) (s.masked (omega (arith, h, buckets)));
         whole = ap (λ m. m % 16) buckets ∙ s.whole;
       }
 
   -- one node less
-  pub sound-take : {firsts overs : List (Cell N)} {capacity free len room : ℕ}
+  pub sound-take : {slots overflow : List (Cell N)} {capacity free len room : ℕ}
       (later less : List (Cell N)) (next : ℕ) (k : Kept N)
-      → IsSound firsts overs capacity free len room
-      → length later ≡ length firsts → length less ≡ length overs
+      → IsSound slots overflow capacity free len room
+      → length later ≡ length slots → length less ≡ length overflow
       → IsLinked (links_of later) less next → IsInPlace later → IsFilled later
-      → IsPermutation (nodes_in firsts ++ nodes_in overs) (k ∷ nodes_in later ++ nodes_in less)
+      → IsPermutation (nodes_in slots ++ nodes_in overflow) (k ∷ nodes_in later ++ nodes_in less)
       → IsSound later less capacity next (len - 1) room
-  sound-take {firsts} {overs} {len = len} later less next k s buckets cells linked in_place filled nodes =
+  sound-take {slots} {overflow} {len = len} later less next k s buckets cells linked in_place filled nodes =
       record {
         linked = linked;
         in_place = in_place;
@@ -197,16 +197,16 @@ module _ {N : Type 0} where
         spare = s.spare;
         none = λ e. (buckets ∙ (s.none e).0, (s.none e).1);
         small = omega (arith, s.small, buckets);
-        overs_few = omega (arith, s.overs_few, cells);
-        overs_small = omega (arith, s.overs_small, cells);
+        overflow_few = omega (arith, s.overflow_few, cells);
+        overflow_small = omega (arith, s.overflow_small, cells);
         masked = λ h. subst IsPowerOfTwo (sym buckets) (s.masked (omega (arith, h, buckets)));
         whole = ap (λ m. m % 16) buckets ∙ s.whole;
       }
 
-  -- the memory of the cells over is of another size
-  pub sound-moved : {firsts overs : List (Cell N)} {capacity free len room : ℕ}
+  -- the memory of the overflow cells is of another size
+  pub sound-moved : {slots overflow : List (Cell N)} {capacity free len room : ℕ}
       (later more : List (Cell N)) (block : ℕ)
-      → IsSound firsts overs capacity free len room → later ≡ firsts → more ≡ overs
+      → IsSound slots overflow capacity free len room → later ≡ slots → more ≡ overflow
       → room ≤ block → block ≤ 8 * max 8 room → (room ≡ 0 → block ≡ 0)
       → IsSound later more block free len room
   sound-moved later more block s same kept reserved spare none =
@@ -222,8 +222,8 @@ module _ {N : Type 0} where
         spare = spare;
         none = λ e. ((s.none e).0, none e);
         small = s.small;
-        overs_few = s.overs_few;
-        overs_small = s.overs_small;
+        overflow_few = s.overflow_few;
+        overflow_small = s.overflow_small;
         masked = s.masked;
         whole = s.whole;
       })
@@ -236,16 +236,16 @@ contents-bare N n room = ap (λ (ks : List (Kept N)). let t : Contents N = recor
     (ap (λ (ks : List (Kept N)). ks ++ []) (nodes_in-bare {N = N} n))
 
 module _ {N : Type 0} where
-  -- the buckets were doubled, and the nodes of the cells over taken out
-  pub sound-doubled : {firsts overs : List (Cell N)} {capacity free len room : ℕ}
+  -- the buckets were doubled, and the nodes of the overflow cells taken out
+  pub sound-doubled : {slots overflow : List (Cell N)} {capacity free len room : ℕ}
       (later less : List (Cell N)) (taken : List (Kept N)) (buckets block count more : ℕ)
-      → IsSound firsts overs capacity free len room
+      → IsSound slots overflow capacity free len room
       → IsPowerOfTwo buckets → buckets % 16 ≡ 0 → buckets ≤ 2 ^ 31 → buckets ≤ 4 * max 8 more
       → room ≤ more → 0 < more → more ≤ buckets → more ≡ block → length later ≡ buckets
       → IsLinked (links_of later) less END → IsInPlace later → IsFilled later → less ≡ []
-      → count ≡ length taken → IsPermutation (nodes_in firsts ++ nodes_in overs) (nodes_in later ++ taken)
+      → count ≡ length taken → IsPermutation (nodes_in slots ++ nodes_in overflow) (nodes_in later ++ taken)
       → IsSound later less block END (len - count) more
-  sound-doubled {firsts} {overs} {len = len} later less taken buckets block count more
+  sound-doubled {slots} {overflow} {len = len} later less taken buckets block count more
       s power whole small bounded grown some headed reserved size linked in_place filled none counted nodes =
       record {
         linked = linked;
@@ -268,8 +268,8 @@ module _ {N : Type 0} where
         spare = omega (arith, reserved);
         none = λ e. absurd (omega (arith, some, e));
         small = omega (arith, small, size);
-        overs_few = omega (arith, ap length none);
-        overs_small = omega (arith, ap length none);
+        overflow_few = omega (arith, ap length none);
+        overflow_small = omega (arith, ap length none);
         masked = λ _. subst IsPowerOfTwo (sym size) power;
         whole = ap (λ m. m % 16) size ∙ whole;
       }

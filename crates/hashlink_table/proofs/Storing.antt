@@ -1,4 +1,4 @@
--- The buckets' own cells: what is stored is what contracts see.
+-- The slots: what is stored is what contracts see.
 use Rattle.std.proofs.Common.{◌≡◌, ℕ, zero, suc, ◌+◌, ◌-◌, ◌^◌, ◌<◌, ◌≤◌, ◌⊎◌, inl, inr, Bool, true, false, cond}
 use Rattle.std.proofs.Common.{◌++◌, eqb, List, [], ◌∷◌, length, map, take, drop, get_or, set, replicate, Option, Some}
 use Rattle.std.proofs.Common.{None, refl, sym, ap, ◌∙◌, subst, arith}
@@ -10,12 +10,12 @@ use Rattle.std.specs.Simd.Lanes.{chunk, mask_l}
 use Rattle.hashlink_table.specs.declared.kept.Kept.{Kept}
 use Rattle.hashlink_table.specs.declared.store.cell.Cell.{Cell}
 use Rattle.hashlink_table.specs.declared.store.cell.TheConstants.{END}
-use Rattle.hashlink_table.specs.declared.store.own.Rest.{Rest}
-use Rattle.hashlink_table.specs.declared.store.own.Own.TheInside.{Inside}
+use Rattle.hashlink_table.specs.declared.store.slots.Rest.{Rest}
+use Rattle.hashlink_table.specs.declared.store.slots.Slots.TheInside.{Inside}
 use Rattle.hashlink_table.specs.Chains.{kept_at, next_at}
 use Rattle.hashlink_table.specs.Stored.{bare_cell, tag_of}
-use Rattle.hashlink_table.specs.Own.{own_cell, cells_in, may_be, with_kept, with_next, without_kept}
-use Rattle.hashlink_table.specs.Own.{IsStored, IsTagged}
+use Rattle.hashlink_table.specs.Slots.{slot, cells_in, may_be, with_kept, with_next, without_kept}
+use Rattle.hashlink_table.specs.Slots.{IsStored, IsTagged}
 
 -- what a bare cell stores beside its node
 abbrev pub bare : Rest
@@ -23,7 +23,7 @@ bare = record { hash = 0; link = END }
 
 -- what a test says of a tag, and of its cell
 abbrev AgreesOn : {N : Type 0} → (ℕ → Bool) → (Cell N → Bool) → ℕ → Rest → Type 0
-AgreesOn {N} p q t r = (n : N) → IsStored r t → p t ≡ q (own_cell t n r)
+AgreesOn {N} p q t r = (n : N) → IsStored r t → p t ≡ q (slot t n r)
 
 module _ {N : Type 0} where
   -- there are as many of each
@@ -63,7 +63,7 @@ module _ {N : Type 0} where
   -- a cell, read
   pub cell_at : (ts : List ℕ) (ns : List N) (rs : List Rest) (i : ℕ) (n : N) (r : Rest) → IsTagged ts ns rs
       → i < length ts
-      → get_or (cells_in ts ns rs) i bare_cell ≡ own_cell (get_or ts i 0) (get_or ns i n) (get_or rs i r)
+      → get_or (cells_in ts ns rs) i bare_cell ≡ slot (get_or ts i 0) (get_or ns i n) (get_or rs i r)
   cell_at [] ns rs i n r h low = absurd (omega arith)
   cell_at (t ∷ ts) [] rs i n r h low = absurd h
   cell_at (t ∷ ts) (m ∷ ns) [] i n r h low = absurd h
@@ -83,7 +83,7 @@ module _ {N : Type 0} where
   -- a cell, written
   pub cells-set : (ts : List ℕ) (ns : List N) (rs : List Rest) (i t : ℕ) (n : N) (r : Rest)
       → IsTagged ts ns rs
-      → cells_in (set ts i t) (set ns i n) (set rs i r) ≡ set (cells_in ts ns rs) i (own_cell t n r)
+      → cells_in (set ts i t) (set ns i n) (set rs i r) ≡ set (cells_in ts ns rs) i (slot t n r)
   cells-set [] [] [] i t n r h = refl
   cells-set [] [] (d ∷ rs) i t n r h = absurd h
   cells-set [] (m ∷ ns) rs i t n r h = absurd h
@@ -91,7 +91,7 @@ module _ {N : Type 0} where
   cells-set (s ∷ ts) (m ∷ ns) [] i t n r h = absurd h
   cells-set (s ∷ ts) (m ∷ ns) (d ∷ rs) zero t n r h = refl
   cells-set (s ∷ ts) (m ∷ ns) (d ∷ rs) (suc i) t n r h =
-      ap (λ rest. own_cell s m d ∷ rest) (cells-set ts ns rs i t n r h.1)
+      ap (λ rest. slot s m d ∷ rest) (cells-set ts ns rs i t n r h.1)
 
   pub tagged-set : (ts : List ℕ) (ns : List N) (rs : List Rest) (i t : ℕ) (n : N) (r : Rest)
       → IsTagged ts ns rs → IsStored r t
@@ -114,7 +114,7 @@ module _ {N : Type 0} where
   cells-append (t ∷ ts) [] rs us ms ds h = absurd h
   cells-append (t ∷ ts) (n ∷ ns) [] us ms ds h = absurd h
   cells-append (t ∷ ts) (n ∷ ns) (r ∷ rs) us ms ds h =
-      ap (λ rest. own_cell t n r ∷ rest) (cells-append ts ns rs us ms ds h.1)
+      ap (λ rest. slot t n r ∷ rest) (cells-append ts ns rs us ms ds h.1)
 
   tagged-append : (ts : List ℕ) (ns : List N) (rs : List Rest) (us : List ℕ) (ms : List N) (ds : List Rest)
       → IsTagged ts ns rs → IsTagged us ms ds
@@ -136,9 +136,9 @@ module _ {N : Type 0} where
   tests-cells p q (t ∷ ts) [] rs agree h = absurd h
   tests-cells p q (t ∷ ts) (n ∷ ns) [] agree h = absurd h
   tests-cells p q (t ∷ ts) (n ∷ ns) (r ∷ rs) agree h =
-      let here : p t ≡ q (own_cell t n r) = agree t r n h.0 in
+      let here : p t ≡ q (slot t n r) = agree t r n h.0 in
       let rest : map p ts ≡ map q (cells_in ts ns rs) = tests-cells p q ts ns rs agree h.1 in
-      ap (λ b. b ∷ map p ts) here ∙ ap (λ bs. q (own_cell t n r) ∷ bs) rest
+      ap (λ b. b ∷ map p ts) here ∙ ap (λ bs. q (slot t n r) ∷ bs) rest
 
   -- so many bare cells
   cells-bare : (count : ℕ) (ns : List N) → length ns ≡ count
@@ -146,7 +146,7 @@ module _ {N : Type 0} where
   cells-bare zero ns e = refl
   cells-bare (suc count) [] e = absurd (omega (arith, e))
   cells-bare (suc count) (n ∷ ns) e =
-      ap (λ rest. own_cell 0 n bare ∷ rest) (cells-bare count ns (omega (arith, e)))
+      ap (λ rest. slot 0 n bare ∷ rest) (cells-bare count ns (omega (arith, e)))
 
   tagged-bare : (count : ℕ) (ns : List N) → length ns ≡ count
       → IsTagged (replicate count 0) ns (replicate count bare)
@@ -190,7 +190,7 @@ pub agrees_may_have : {N : Type 0} (hash t : ℕ) (r : Rest)
     → AgreesOn {N = N} (λ t. eqb t (tag_of hash)) (may_be hash) t r
 agrees_may_have hash t r n is = by is.tagged
   where
-    by : (t ≡ 0) ⊎ (t ≡ tag_of r.hash) → eqb t (tag_of hash) ≡ may_be hash (own_cell t n r)
+    by : (t ≡ 0) ⊎ (t ≡ tag_of r.hash) → eqb t (tag_of hash) ≡ may_be hash (slot t n r)
     by (inl e) = rw e (ne_eqb 0 (tag_of hash) (λ e. omega (arith, e)))
     by (inr e) = rw (e, tag_some r.hash) refl
 
@@ -322,12 +322,12 @@ module _ {N : Type 0} (o : Inside N) (v : List (Cell N))
 
     -- the cell, as it was read
     cell_read : (t : ℕ) (n : N) (r : Rest) → t ≡ get_or ts i t → n ≡ get_or ns i n → r ≡ get_or rs i r
-        → get_or v i bare_cell ≡ own_cell t n r
+        → get_or v i bare_cell ≡ slot t n r
     cell_read t n r at_t at_n at_r =
         ap (λ (w : List (Cell N)). get_or w i bare_cell) (sym view) ∙ cell_at ts ns rs i n r tagged in_tags
-        ∙ ap (λ s. own_cell s (get_or ns i n) (get_or rs i r)) (sym (get_or_read ts i t in_tags at_t 0))
-        ∙ ap (λ (m : N). own_cell t m (get_or rs i r)) (sym at_n)
-        ∙ ap (λ (d : Rest). own_cell t n d) (sym at_r)
+        ∙ ap (λ s. slot s (get_or ns i n) (get_or rs i r)) (sym (get_or_read ts i t in_tags at_t 0))
+        ∙ ap (λ (m : N). slot t m (get_or rs i r)) (sym at_n)
+        ∙ ap (λ (d : Rest). slot t n d) (sym at_r)
 
     stored : (r : Rest) → r ≡ get_or rs i r → IsStored r tag
     unfolding tag
@@ -373,13 +373,13 @@ module _ {N : Type 0} (o : Inside N) (v : List (Cell N))
     next_small r at_r = (stored r at_r).small
 
     -- the cell, written
-    written : (t : ℕ) (n : N) (r : Rest) (d : Cell N) → own_cell t n r ≡ d
+    written : (t : ℕ) (n : N) (r : Rest) (d : Cell N) → slot t n r ≡ d
         → cells_in (set ts i t) (set ns i n) (set rs i r) ≡ set v i d
     written t n r d is =
-        cells-set ts ns rs i t n r tagged ∙ ap (λ (w : List (Cell N)). set w i (own_cell t n r)) view
+        cells-set ts ns rs i t n r tagged ∙ ap (λ (w : List (Cell N)). set w i (slot t n r)) view
         ∙ ap (set v i) is
 
-    was : (r : Rest) → r ≡ get_or rs i r → own_cell tag node r ≡ get_or v i bare_cell
+    was : (r : Rest) → r ≡ get_or rs i r → slot tag node r ≡ get_or v i bare_cell
     was r at_r = sym (cell_read tag node r tag_at node_at at_r)
 
     -- a node came into it

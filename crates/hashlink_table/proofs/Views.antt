@@ -15,12 +15,12 @@ use Rattle.std.proofs.lemmas.Simd.{chunk-drop, get_or-chunk, length-chunk}
 use Rattle.hashlink_table.specs.declared.kept.Kept.{Kept}
 use Rattle.hashlink_table.specs.declared.store.cell.Cell.{Cell}
 use Rattle.hashlink_table.specs.declared.store.spot.Spot.{Spot}
-use Rattle.hashlink_table.specs.declared.store.spot.Spot.TheVariants.{Own, Over}
+use Rattle.hashlink_table.specs.declared.store.spot.Spot.TheVariants.{Slot, Overflow}
 use Rattle.hashlink_table.specs.declared.store.table.Table.TheInside.{Inside}
 use Rattle.hashlink_table.specs.Contents.{Contents, agreeing, AcceptsOnly, AreBuckets, CanAsk, Keeps}
 use Rattle.hashlink_table.specs.Chains.{kept_at, kept_by, chain_of, with_node, nodes_in, contents}
 use Rattle.hashlink_table.specs.Chains.{AreGrouped, IsInPlace}
-use Rattle.hashlink_table.specs.Own.{kept_may_be, lanes_of, may_be}
+use Rattle.hashlink_table.specs.Slots.{kept_may_be, lanes_of, may_be}
 use Rattle.hashlink_table.specs.Stored.{bare_cell, tag_of}
 use Rattle.hashlink_table.proofs.Groups.{group_within, grouped_in}
 use Rattle.hashlink_table.proofs.Nodes.{contains-at, at-contains}
@@ -104,108 +104,108 @@ module _ {N : Type 0} where
 
 -- what is stored of a table, seen as v
 module _ {N : Type 0} (t : Inside N) (v : Contents N)
-    (view : contents t.firsts t.overs.items t.room ≡ v) where
+    (view : contents t.slots t.overflow.items t.room ≡ v) where
   -- the node in a cell is one that the table keeps
-  keeps_own : (at : ℕ) (k : Kept N) → kept_at t.firsts at ≡ Some k → Keeps v k.hash k.node
-  keeps_own at k is =
+  keeps_slot : (at : ℕ) (k : Kept N) → kept_at t.slots at ≡ Some k → Keeps v k.hash k.node
+  keeps_slot at k is =
       subst (λ (u : Contents N). Keeps u k.hash k.node) view
-      (Contains-append_left (nodes_in t.firsts) (nodes_in t.overs.items) k (contains-at t.firsts at k is))
+      (Contains-append_left (nodes_in t.slots) (nodes_in t.overflow.items) k (contains-at t.slots at k is))
 
-  keeps_over : (at : ℕ) (k : Kept N) → kept_at t.overs.items at ≡ Some k → Keeps v k.hash k.node
-  keeps_over at k is =
+  keeps_overflow : (at : ℕ) (k : Kept N) → kept_at t.overflow.items at ≡ Some k → Keeps v k.hash k.node
+  keeps_overflow at k is =
       subst (λ (u : Contents N). Keeps u k.hash k.node) view
-      (Contains-append_right (nodes_in t.firsts) (nodes_in t.overs.items) k (contains-at t.overs.items at k is))
+      (Contains-append_right (nodes_in t.slots) (nodes_in t.overflow.items) k (contains-at t.overflow.items at k is))
 
   -- so many buckets it has
-  buckets_are : (0 < length t.firsts → IsPowerOfTwo (length t.firsts)) → 0 < length t.firsts
-      → t.room ≤ length t.firsts
-      → AreBuckets v (length t.firsts)
+  buckets_are : (0 < length t.slots → IsPowerOfTwo (length t.slots)) → 0 < length t.slots
+      → t.room ≤ length t.slots
+      → AreBuckets v (length t.slots)
   buckets_are masked some headed =
       record { power = masked some; roomy = omega (arith, headed, ap (λ (u : Contents N). u.room) view) }
 
   -- what a search that looks at nothing takes
-  pub no_cost : (0 < length t.firsts → IsPowerOfTwo (length t.firsts)) → t.room ≤ length t.firsts → (hash before : ℕ)
+  pub no_cost : (0 < length t.slots → IsPowerOfTwo (length t.slots)) → t.room ≤ length t.slots → (hash before : ℕ)
       → (m : ℕ) × AreBuckets v m × (before ≤ before + agreeing v hash m)
   no_cost masked headed hash before =
-      elim (cases_lt 0 (length t.firsts)) as
+      elim (cases_lt 0 (length t.slots)) as
       (λ _. (m : ℕ) × AreBuckets v m × (before ≤ before + agreeing v hash m)) [
-        | inl some ↦ (length t.firsts, buckets_are masked some headed, omega arith)
+        | inl some ↦ (length t.slots, buckets_are masked some headed, omega arith)
         | inr none ↦
             let room = ap (λ (u : Contents N). u.room) view in
             (1, record { power = (0, refl); roomy = omega (arith, headed, none, room) }, omega arith)
       ]
 
   -- so a search may ask about it where the hashes agree, and accepts it for its hash alone
-  pub own_asked : (asked : N → Type 0) (hash : ℕ) → CanAsk v hash asked
-      → (0 < length t.firsts → IsPowerOfTwo (length t.firsts)) → 0 < length t.firsts → t.room ≤ length t.firsts
-      → (at : ℕ) (k : Kept N) → kept_at t.firsts at ≡ Some k
-      → k.hash % length t.firsts ≡ hash % length t.firsts
+  pub slot_asked : (asked : N → Type 0) (hash : ℕ) → CanAsk v hash asked
+      → (0 < length t.slots → IsPowerOfTwo (length t.slots)) → 0 < length t.slots → t.room ≤ length t.slots
+      → (at : ℕ) (k : Kept N) → kept_at t.slots at ≡ Some k
+      → k.hash % length t.slots ≡ hash % length t.slots
       → asked k.node
-  own_asked asked hash can masked some headed at k is agree =
-      can k.hash k.node (keeps_own at k is) (length t.firsts, buckets_are masked some headed, agree)
+  slot_asked asked hash can masked some headed at k is agree =
+      can k.hash k.node (keeps_slot at k is) (length t.slots, buckets_are masked some headed, agree)
 
-  pub own_accepted : (hash : ℕ) (accepted : N → Type 0) → AcceptsOnly v hash accepted
-      → (at : ℕ) (k : Kept N) → kept_at t.firsts at ≡ Some k → accepted k.node → k.hash ≡ hash
-  own_accepted hash accepted only at k is = only k.hash k.node (keeps_own at k is)
+  pub slot_accepted : (hash : ℕ) (accepted : N → Type 0) → AcceptsOnly v hash accepted
+      → (at : ℕ) (k : Kept N) → kept_at t.slots at ≡ Some k → accepted k.node → k.hash ≡ hash
+  slot_accepted hash accepted only at k is = only k.hash k.node (keeps_slot at k is)
 
-  -- the cells over, as they were lent to the search
-  module _ (overs : List (Cell N)) (lent : overs ≡ t.overs.items) (hash : ℕ) where
-    over_at : (at : ℕ) (node : N) → kept_at overs at ≡ Some (record { hash = hash; node = node })
-        → kept_at t.overs.items at ≡ Some (record { hash = hash; node = node })
-    over_at at node is = ap (λ (cs : List (Cell N)). kept_at cs at) (sym lent) ∙ is
+  -- the overflow cells, as they were lent to the search
+  module _ (overflow : List (Cell N)) (lent : overflow ≡ t.overflow.items) (hash : ℕ) where
+    overflow_at : (at : ℕ) (node : N) → kept_at overflow at ≡ Some (record { hash = hash; node = node })
+        → kept_at t.overflow.items at ≡ Some (record { hash = hash; node = node })
+    overflow_at at node is = ap (λ (cs : List (Cell N)). kept_at cs at) (sym lent) ∙ is
 
-    pub over_asked : (asked : N → Type 0) → CanAsk v hash asked
-        → (0 < length t.firsts → IsPowerOfTwo (length t.firsts)) → 0 < length t.firsts → t.room ≤ length t.firsts
-        → (at : ℕ) (node : N) → kept_at overs at ≡ Some (record { hash = hash; node = node })
+    pub overflow_asked : (asked : N → Type 0) → CanAsk v hash asked
+        → (0 < length t.slots → IsPowerOfTwo (length t.slots)) → 0 < length t.slots → t.room ≤ length t.slots
+        → (at : ℕ) (node : N) → kept_at overflow at ≡ Some (record { hash = hash; node = node })
         → asked node
-    over_asked asked can masked some headed at node is =
-        can hash node (keeps_over at _ (over_at at node is))
-        (length t.firsts, buckets_are masked some headed, refl)
+    overflow_asked asked can masked some headed at node is =
+        can hash node (keeps_overflow at _ (overflow_at at node is))
+        (length t.slots, buckets_are masked some headed, refl)
 
     -- what it found is kept
     pub keeps_found : (spot : Spot) (node : N)
-        → kept_by t.firsts overs spot ≡ Some (record { hash = hash; node = node })
+        → kept_by t.slots overflow spot ≡ Some (record { hash = hash; node = node })
         → Keeps v hash node
-    keeps_found (Own at) node is = keeps_own at _ is
-    keeps_found (Over at) node is = keeps_over at _ (over_at at node is)
+    keeps_found (Slot at) node is = keeps_slot at _ is
+    keeps_found (Overflow at) node is = keeps_overflow at _ (overflow_at at node is)
 
     -- if it found none, it refused each node of the hash
     pub none_left : (refused : N → Type 0)
-        → ((at : ℕ) (node : N) → kept_at t.firsts at ≡ Some (record { hash = hash; node = node }) → refused node)
-        → ((at : ℕ) (node : N) → kept_at overs at ≡ Some (record { hash = hash; node = node }) → refused node)
+        → ((at : ℕ) (node : N) → kept_at t.slots at ≡ Some (record { hash = hash; node = node }) → refused node)
+        → ((at : ℕ) (node : N) → kept_at overflow at ≡ Some (record { hash = hash; node = node }) → refused node)
         → (node : N) → Keeps v hash node → refused node
     none_left refused own over node keeps =
         let k : Kept N = record { hash = hash; node = node } in
-        let there : Contains (nodes_in t.firsts ++ nodes_in t.overs.items) k =
+        let there : Contains (nodes_in t.slots ++ nodes_in t.overflow.items) k =
         subst (λ (u : Contents N). Contains u.nodes k) (sym view) keeps in
-        elim (Contains-append_cases (nodes_in t.firsts) (nodes_in t.overs.items) k there) as (λ _. refused node) [
-          | inl first ↦ let at = at-contains t.firsts k first in own at.0 node at.1
+        elim (Contains-append_cases (nodes_in t.slots) (nodes_in t.overflow.items) k there) as (λ _. refused node) [
+          | inl first ↦ let at = at-contains t.slots k first in own at.0 node at.1
           | inr later ↦
-              let at = at-contains t.overs.items k later in
+              let at = at-contains t.overflow.items k later in
               over at.0 node (ap (λ (cs : List (Cell N)). kept_at cs at.0) lent ∙ at.1)
         ]
 
     -- the cells that it looks at agree with the hash
-    pub search_cost : (0 < length t.firsts → IsPowerOfTwo (length t.firsts)) → 0 < length t.firsts
-        → length t.firsts % 16 ≡ 0 → IsInPlace t.firsts → t.room ≤ length t.firsts
+    pub search_cost : (0 < length t.slots → IsPowerOfTwo (length t.slots)) → 0 < length t.slots
+        → length t.slots % 16 ≡ 0 → IsInPlace t.slots → t.room ≤ length t.slots
         → (before after : ℕ)
         → after ≤ before
-        + count_by (may_be hash) (lanes_of t.firsts (hash % length t.firsts - hash % length t.firsts % 16))
-        + count_by (λ c. eqb (chain_of (length t.firsts) c.kept) (hash % length t.firsts)) overs
+        + count_by (may_be hash) (lanes_of t.slots (hash % length t.slots - hash % length t.slots % 16))
+        + count_by (λ c. eqb (chain_of (length t.slots) c.kept) (hash % length t.slots)) overflow
         → (m : ℕ) × AreBuckets v m × (after ≤ before + agreeing v hash m)
     search_cost masked some whole in_place headed before after cost =
-        let firsts = t.firsts in let m = length firsts in let b = hash % m in
+        let slots = t.slots in let m = length slots in let b = hash % m in
         let low : b < m = omega arith in
         let base = b - b % 16 in
         let all : agreeing v hash m
-        ≡ count_by (λ k. eqb (k.hash % m) b) (nodes_in firsts) + count_by (λ k. eqb (k.hash % m) b)
-        (nodes_in t.overs.items) =
+        ≡ count_by (λ k. eqb (k.hash % m) b) (nodes_in slots) + count_by (λ k. eqb (k.hash % m) b)
+        (nodes_in t.overflow.items) =
         ap (λ (u : Contents N). agreeing u hash m) (sym view)
-        ∙ sum_by-append (λ (k : Kept N). cond (eqb (k.hash % m) b) 1 0) (nodes_in firsts)
-        (nodes_in t.overs.items) in
-        let own = count_by-lanes (may_be hash) (λ c. eqb (chain_of m c.kept) b) firsts base
+        ∙ sum_by-append (λ (k : Kept N). cond (eqb (k.hash % m) b) 1 0) (nodes_in slots)
+        (nodes_in t.overflow.items) in
+        let own = count_by-lanes (may_be hash) (λ c. eqb (chain_of m c.kept) b) slots base
         (group_within b m low whole)
-        (λ k lane e. tag_agrees m b hash (base + k) (kept_at firsts (base + k)) some whole refl
+        (λ k lane e. tag_agrees m b hash (base + k) (kept_at slots (base + k)) some whole refl
         (λ j is. in_place (base + k) j is) (grouped_in b (base + k) (omega arith) (omega (arith, lane))) e) in
         let over = ap (λ (cs : List (Cell N)). count_by (λ c. eqb (chain_of m c.kept) b) cs) lent in
         let agree : after ≤ before + agreeing v hash m = omega (
@@ -214,7 +214,7 @@ module _ {N : Type 0} (t : Inside N) (v : Contents N)
           own,
           over,
           cost,
-          in_bucket-nodes firsts hash m some,
-          in_bucket-nodes t.overs.items hash m some,
+          in_bucket-nodes slots hash m some,
+          in_bucket-nodes t.overflow.items hash m some,
         ) in
         (m, buckets_are masked some headed, agree)

@@ -9,7 +9,7 @@ use Rattle.hashlink_table.specs.declared.kept.Kept.{Kept}
 use Rattle.hashlink_table.specs.declared.store.cell.Cell.{Cell}
 use Rattle.hashlink_table.specs.declared.store.cell.TheConstants.{END}
 use Rattle.hashlink_table.specs.declared.store.spot.Spot.{Spot}
-use Rattle.hashlink_table.specs.declared.store.spot.Spot.TheVariants.{Own, Over}
+use Rattle.hashlink_table.specs.declared.store.spot.Spot.TheVariants.{Slot, Overflow}
 
 module _ {N : Type 0} where
   abbrev pub kept_at : List (Cell N) → ℕ → Option (Kept N)
@@ -37,13 +37,13 @@ module _ {N : Type 0} where
   nodes_in [] = []
   nodes_in (c ∷ cs) = with_node c.kept (nodes_in cs)
 
-  -- what a contract sees of a table with these cells, those of the buckets and those over
+  -- what a contract sees of a table with these cells, its slots and its overflow cells
   abbrev pub contents : List (Cell N) → List (Cell N) → ℕ → Contents N
-  contents firsts overs room = record { nodes = nodes_in firsts ++ nodes_in overs; room = room }
+  contents slots overflow room = record { nodes = nodes_in slots ++ nodes_in overflow; room = room }
 
-  -- where the chains go on after the buckets' own cells
+  -- where the chains go on after the slots
   abbrev pub links_of : List (Cell N) → List ℕ
-  links_of firsts = map (λ c. c.next) firsts
+  links_of slots = map (λ c. c.next) slots
 
   -- what a cell has but its link
   abbrev pub stored_in : Cell N → Option (Kept N) × ℕ
@@ -54,12 +54,12 @@ abbrev pub Among : List ℕ → ℕ → Type 0
 Among [] i = ⊥
 Among (x ∷ xs) i = (x ≡ i) ⊎ Among xs i
 
--- the links lead from this cell over the cells of the list to the end
+-- the links lead from this overflow cell the cells of the list to the end
 abbrev pub IsPath : (ℕ → ℕ) → ℕ → List ℕ → Type 0
 IsPath next from [] = from ≡ END
 IsPath next from (i ∷ is) = (from ≡ i) × (i ≢ END) × IsPath next (next i) is
 
--- the links lead from this cell over exactly the cells of chain b
+-- the links lead from this overflow cell exactly the cells of chain b
 pub record IsChain (next chain : ℕ → ℕ) (from b : ℕ) : Type 0 where
   pub path : List ℕ
   pub linked : IsPath next from path
@@ -97,40 +97,40 @@ IsPlaced old new free now cell at =
 abbrev pub AreGrouped : ℕ → ℕ → Type 0
 AreGrouped a b = a / 16 ≡ b / 16
 
--- the node in an own cell is of a bucket of its group
+-- the node in an slot is of a bucket of its group
 abbrev pub IsInPlace : {N : Type 0} → List (Cell N) → Type 0
-IsInPlace firsts =
-    (at : ℕ) (k : Kept _) → kept_at firsts at ≡ Some k → AreGrouped (k.hash % length firsts) at
+IsInPlace slots =
+    (at : ℕ) (k : Kept _) → kept_at slots at ≡ Some k → AreGrouped (k.hash % length slots) at
 
 -- each of the sixteen cells from this one on has a node
 abbrev pub AreTaken : {N : Type 0} → List (Cell N) → ℕ → Type 0
-AreTaken firsts base = (at : ℕ) → base ≤ at → at < base + 16 → IsSome (kept_at firsts at)
+AreTaken slots base = (at : ℕ) → base ≤ at → at < base + 16 → IsSome (kept_at slots at)
 
 -- where a bucket has a chain, no cell of its group is free
 abbrev pub IsFilled : {N : Type 0} → List (Cell N) → Type 0
-IsFilled firsts =
-    (b : ℕ) → b < length firsts → next_at firsts b ≢ END → AreTaken firsts (b - b % 16)
+IsFilled slots =
+    (b : ℕ) → b < length slots → next_at slots b ≢ END → AreTaken slots (b - b % 16)
 
 -- the fields of a table agree
-pub record IsSound {N : Type 0} (firsts overs : List (Cell N))
+pub record IsSound {N : Type 0} (slots overflow : List (Cell N))
     (capacity free len room : ℕ) : Type 0 where
-  pub linked : IsLinked (links_of firsts) overs free
-  pub in_place : IsInPlace firsts
-  pub filled : IsFilled firsts
-  pub counted : len ≡ length (nodes_in firsts ++ nodes_in overs)
+  pub linked : IsLinked (links_of slots) overflow free
+  pub in_place : IsInPlace slots
+  pub filled : IsFilled slots
+  pub counted : len ≡ length (nodes_in slots ++ nodes_in overflow)
   pub held : len ≤ room
-  pub headed : room ≤ length firsts
-  pub bounded : length firsts ≤ 4 * max 8 room
+  pub headed : room ≤ length slots
+  pub bounded : length slots ≤ 4 * max 8 room
   pub reserved : room ≤ capacity
   pub spare : capacity ≤ 8 * max 8 room
-  pub none : room ≡ 0 → (length firsts ≡ 0) × (capacity ≡ 0)
-  pub small : length firsts ≤ 2 ^ 31
-  pub overs_few : length overs ≤ room
-  pub overs_small : length overs < END
-  pub masked : 0 < length firsts → IsPowerOfTwo (length firsts)
-  pub whole : length firsts % 16 ≡ 0
+  pub none : room ≡ 0 → (length slots ≡ 0) × (capacity ≡ 0)
+  pub small : length slots ≤ 2 ^ 31
+  pub overflow_few : length overflow ≤ room
+  pub overflow_small : length overflow < END
+  pub masked : 0 < length slots → IsPowerOfTwo (length slots)
+  pub whole : length slots % 16 ≡ 0
 
 -- the node that a search found
 abbrev pub kept_by : {N : Type 0} → List (Cell N) → List (Cell N) → Spot → Option (Kept N)
-kept_by firsts overs (Own at) = kept_at firsts at
-kept_by firsts overs (Over at) = kept_at overs at
+kept_by slots overflow (Slot at) = kept_at slots at
+kept_by slots overflow (Overflow at) = kept_at overflow at

@@ -1,5 +1,5 @@
 pub mod Contents
 pub mod Stored
 pub mod Chains
-pub mod Own
+pub mod Slots
 pub mod Refusals

@@ -12,7 +12,7 @@ cell_of node hash link = record {
   next = link % 2 ^ 31;
 }
 
--- a bucket's own cell without a node, where the bucket has no chain, and what a read past the last cell gives
+-- a slot without a node, where the bucket has no chain, and what a read past the last cell gives
 abbrev pub bare_cell : {N : Type 0} → Cell N
 bare_cell = record { kept = None; hash = 0; next = END }
 

@@ -16,7 +16,7 @@ pub use kept::Kept;
 pub use steps::Steps;
 pub use store::table::{MAX_ROOM, Table};
 
-// A cell over takes 8 bytes beside its node, and a bucket's own cell 9.
+// An overflow cell takes 8 bytes beside its node, and a slot 9.
 const _: () = prove!(std::mem::size_of::<store::cell::Stored<u64>>() == 16);
 
-const _: () = prove!(std::mem::size_of::<store::own::Rest>() == 8);
+const _: () = prove!(std::mem::size_of::<store::slots::Rest>() == 8);

@@ -4,49 +4,49 @@ ghost use Rattle.std.specs.Prelude.{IfNone, IfSome, Some, count_by, false, lengt
 ghost use Rattle.std.specs.Int.{IsPowerOfTwo};
 ghost use Rattle.hashlink_table.specs.declared.kept.Kept.{Kept};
 ghost use Rattle.hashlink_table.specs.Stored.{tag_of};
-ghost use Rattle.hashlink_table.specs.Own.{lanes_of, may_be};
+ghost use Rattle.hashlink_table.specs.Slots.{lanes_of, may_be};
 ghost use Rattle.hashlink_table.specs.Chains.{chain_of, kept_at, kept_by, links_of, IsFilled, IsInPlace, IsLinked};
 
 use super::steps::Steps;
 use super::store::bucket::{base_of, bucket_of};
 use super::store::cell::{END, Stored};
 use super::store::lanes::LANES;
-use super::store::own::Own;
+use super::store::slots::Slots;
 use super::store::spot::{Found, Spot};
 use std::sync::ledger::Ledger;
 
 // The first cell of a group whose node has this hash and matches, and the node. It looks closer at the nodes
 // alone of which the tag is the hash's, and takes a step for each.
 #[inline]
-fn seek_own<N: Copy, F: Fn(N) -> bool, L: Ledger>(
-    firsts: &Own<N>,
+fn seek_slots<N: Copy, F: Fn(N) -> bool, L: Ledger>(
+    slots: &Slots<N>,
     base: usize,
     hash: u32,
     is_match: &F,
     steps: &mut Steps<L>,
 ) -> Option<(usize, N)>
-    requires within { base + LANES ≤ length firsts.now }
+    requires within { base + LANES ≤ length slots.now }
     requires callable { (at : ℕ) (kept : Kept N) → base ≤ at → at < base + LANES
-        → kept_at firsts.now at ≡ Some kept → tag_of kept.hash ≡ tag_of hash
+        → kept_at slots.now at ≡ Some kept → tag_of kept.hash ≡ tag_of hash
         → F.pre is_match.now kept.node }
-    requires telling { (at : ℕ) (kept : Kept N) → kept_at firsts.now at ≡ Some kept
+    requires telling { (at : ℕ) (kept : Kept N) → kept_at slots.now at ≡ Some kept
         → F.post is_match.now kept.node true → kept.hash ≡ hash }
     ensures found { IfSome result
-        (λ f. (kept_at firsts.now f.0 ≡ Some (record { hash = hash; node = f.1 }))
+        (λ f. (kept_at slots.now f.0 ≡ Some (record { hash = hash; node = f.1 }))
         × F.post is_match.now f.1 true) }
     ensures none { IfNone result
         ((at : ℕ) (node : N) → base ≤ at → at < base + LANES
-        → kept_at firsts.now at ≡ Some (record { hash = hash; node = node })
+        → kept_at slots.now at ≡ Some (record { hash = hash; node = node })
         → F.post is_match.now node false) }
     ensures goes_on { steps.old ≤ steps.new }
-    ensures cost { steps.new ≤ steps.old + count_by (may_be hash) (lanes_of firsts.now base) }
+    ensures cost { steps.new ≤ steps.old + count_by (may_be hash) (lanes_of slots.now base) }
 {
     let mut at = base;
-    let mut hits = firsts.may_have(base, hash);
+    let mut hits = slots.may_have(base, hash);
     while hits != 0 {
         let skipped = hits.trailing_zeros();
         at += skipped as usize;
-        let node = firsts.look(at, steps);
+        let node = slots.look(at, steps);
         if is_match(node) {
             return Some((at, node));
         }
@@ -58,17 +58,17 @@ fn seek_own<N: Copy, F: Fn(N) -> bool, L: Ledger>(
 
 // The first cell of the bucket's chain whose node has this hash and matches, and the node. It takes a step
 // for each cell that it passes.
-fn seek_over<N: Copy, F: Fn(N) -> bool, L: Ledger>(
-    firsts: &Own<N>,
+fn seek_overflow<N: Copy, F: Fn(N) -> bool, L: Ledger>(
+    slots: &Slots<N>,
     cells: &[Stored<N>],
     bucket: usize,
     hash: u32,
     is_match: &F,
     steps: &mut Steps<L>,
 ) -> Option<(usize, N)>
-    requires masked { IsPowerOfTwo (length firsts.now) }
-    requires bucket { bucket ≡ hash % length firsts.now }
-    requires linked { (free : ℕ) × IsLinked (links_of firsts.now) cells.now free }
+    requires masked { IsPowerOfTwo (length slots.now) }
+    requires bucket { bucket ≡ hash % length slots.now }
+    requires linked { (free : ℕ) × IsLinked (links_of slots.now) cells.now free }
     requires callable { (cell : ℕ) (node : N) → kept_at cells.now cell ≡ Some
         (record { hash = hash; node = node })
         → F.pre is_match.now node }
@@ -79,10 +79,10 @@ fn seek_over<N: Copy, F: Fn(N) -> bool, L: Ledger>(
         ((cell : ℕ) (node : N) → kept_at cells.now cell ≡ Some (record { hash = hash; node = node })
         → F.post is_match.now node false) }
     ensures goes_on { steps.old ≤ steps.new }
-    ensures cost { let m = length firsts.now in let b = hash % m in steps.new
+    ensures cost { let m = length slots.now in let b = hash % m in steps.new
         ≤ steps.old + count_by (λ c. chain_of m c.kept == b) cells.now }
 {
-    let mut at = firsts.next(bucket);
+    let mut at = slots.next(bucket);
     while at != END {
         let cell = &cells[at];
         let kept = cell.look(steps);
@@ -98,52 +98,52 @@ fn seek_over<N: Copy, F: Fn(N) -> bool, L: Ledger>(
 // its bucket.
 #[inline]
 pub fn seek<N: Copy, F: Fn(N) -> bool, L: Ledger>(
-    firsts: &Own<N>,
+    slots: &Slots<N>,
     cells: &[Stored<N>],
     hash: u32,
     is_match: &F,
     steps: &mut Steps<L>,
 ) -> Option<Found<N>>
-    requires masked { IsPowerOfTwo (length firsts.now) }
-    requires whole { length firsts.now % LANES ≡ 0 }
-    requires in_place { IsInPlace firsts.now }
-    requires filled { IsFilled firsts.now }
-    requires linked { (free : ℕ) × IsLinked (links_of firsts.now) cells.now free }
-    requires callable_own { (at : ℕ) (kept : Kept N) → kept_at firsts.now at ≡ Some kept
-        → kept.hash % length firsts.now ≡ hash % length firsts.now
+    requires masked { IsPowerOfTwo (length slots.now) }
+    requires whole { length slots.now % LANES ≡ 0 }
+    requires in_place { IsInPlace slots.now }
+    requires filled { IsFilled slots.now }
+    requires linked { (free : ℕ) × IsLinked (links_of slots.now) cells.now free }
+    requires callable_slots { (at : ℕ) (kept : Kept N) → kept_at slots.now at ≡ Some kept
+        → kept.hash % length slots.now ≡ hash % length slots.now
         → F.pre is_match.now kept.node }
-    requires telling { (at : ℕ) (kept : Kept N) → kept_at firsts.now at ≡ Some kept
+    requires telling { (at : ℕ) (kept : Kept N) → kept_at slots.now at ≡ Some kept
         → F.post is_match.now kept.node true → kept.hash ≡ hash }
     requires callable { (cell : ℕ) (node : N) → kept_at cells.now cell ≡ Some
         (record { hash = hash; node = node })
         → F.pre is_match.now node }
     ensures found { IfSome result
-        (λ f. (kept_by firsts.now cells.now f.spot ≡ Some (record { hash = hash; node = f.node }))
+        (λ f. (kept_by slots.now cells.now f.spot ≡ Some (record { hash = hash; node = f.node }))
         × F.post is_match.now f.node true) }
-    ensures none_own { IfNone result
-        ((at : ℕ) (node : N) → kept_at firsts.now at ≡ Some (record { hash = hash; node = node })
+    ensures none_slots { IfNone result
+        ((at : ℕ) (node : N) → kept_at slots.now at ≡ Some (record { hash = hash; node = node })
         → F.post is_match.now node false) }
     ensures none { IfNone result
         ((cell : ℕ) (node : N) → kept_at cells.now cell ≡ Some (record { hash = hash; node = node })
         → F.post is_match.now node false) }
     ensures goes_on { steps.old ≤ steps.new }
-    ensures cost { let m = length firsts.now in let b = hash % m in steps.new
-        ≤ steps.old + count_by (may_be hash) (lanes_of firsts.now (b - b % LANES))
+    ensures cost { let m = length slots.now in let b = hash % m in steps.new
+        ≤ steps.old + count_by (may_be hash) (lanes_of slots.now (b - b % LANES))
         + count_by (λ c. chain_of m c.kept == b) cells.now }
 {
-    let buckets = firsts.len();
+    let buckets = slots.len();
     let base = base_of(hash, buckets);
-    if let Some((at, node)) = seek_own(firsts, base, hash, is_match, steps) {
-        let spot = Spot::Own(at);
+    if let Some((at, node)) = seek_slots(slots, base, hash, is_match, steps) {
+        let spot = Spot::Slot(at);
         return Some(Found { spot, node });
     }
-    if firsts.free(base) != 0 {
+    if slots.free(base) != 0 {
         return None; // no bucket of the group has a chain
     }
     let bucket = bucket_of(hash, buckets);
-    match seek_over(firsts, cells, bucket, hash, is_match, steps) {
+    match seek_overflow(slots, cells, bucket, hash, is_match, steps) {
         Some((at, node)) => {
-            let spot = Spot::Over(at);
+            let spot = Spot::Overflow(at);
             Some(Found { spot, node })
         }
         None => None,

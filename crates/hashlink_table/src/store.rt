@@ -3,9 +3,11 @@
 
 pub mod bucket;
 pub mod cell;
+mod growth;
+mod insertion;
 pub mod lanes;
-mod links;
-pub mod own;
+mod removal;
 mod repeated;
+pub mod slots;
 pub mod spot;
 pub mod table;

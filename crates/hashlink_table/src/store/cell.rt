@@ -8,7 +8,7 @@ use std::sync::ledger::Ledger;
 /// What stands in place of a cell's number after the last cell of a chain. No table has so many cells.
 pub const END: usize = (1 << 31) - 1;
 
-/// What is added to the link of a cell over without a node. It is above each link.
+/// What is added to the link of an overflow cell without a node. It is above each link.
 pub const FREE: u32 = 1 << 31;
 
 /// What contracts see of a cell, a place for one node.

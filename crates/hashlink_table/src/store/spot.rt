@@ -1,8 +1,8 @@
-/// Where a node stands: in a bucket's own cell, or in a cell over.
+/// Where a node stands: in a slot, or in an overflow cell.
 #[derive(Clone, Copy)]
 pub enum Spot {
-    Own(usize),
-    Over(usize),
+    Slot(usize),
+    Overflow(usize),
 }
 
 /// What a search found: a node, and where it stands.

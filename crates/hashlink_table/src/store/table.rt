@@ -9,8 +9,8 @@ ghost use Rattle.hashlink_table.specs.Contents.{agreeing, len_of, AcceptsOnly, A
 use super::bucket::{bucket_of, buckets_for};
 use super::cell::{END, Stored};
 use super::lanes::LANES;
-use super::links;
-use super::own::Own;
+use super::slots::Slots;
+use super::{growth, insertion, removal};
 use crate::error::TryReserveError;
 use crate::kept::Kept;
 use crate::search;
@@ -33,15 +33,15 @@ const MIN_ROOM: usize = 4;
 ///
 /// A new table does not allocate. One with room takes 9 bytes and a node for each bucket, of which there are as
 /// many as it has room for nodes, or twice as many in a small table, and at least 16; a shrink may leave up to
-/// twice these. It takes 8 bytes and a node more for each node of its room, for the cells over; after a growth
+/// twice these. It takes 8 bytes and a node more for each node of its room, for the overflow cells; after a growth
 /// that was refused up to eight times these.
 #[derive(Drop)]
 pub struct Table<N> {
-    // The buckets' own cells. There are none or a power of two, and whole groups.
-    firsts: Own<N>,
+    // The slots. There are none or a power of two, and whole groups.
+    slots: Slots<N>,
     // The cells of the nodes for which there was no place in their group.
-    overs: Vec<Stored<N>>,
-    // The first cell over without a node, or `END`.
+    overflow: Vec<Stored<N>>,
+    // The first overflow cell without a node, or `END`.
     free: usize,
     len: usize,
     room: usize,
@@ -59,9 +59,9 @@ impl<N> Model for Table<N> {
 
     ghost use Rattle.hashlink_table.specs.Chains.{contents, IsSound};
 
-    ghost view = { λ t. contents t.firsts t.overs.items t.room };
+    ghost view = { λ t. contents t.slots t.overflow.items t.room };
 
-    ghost invariant = { λ t. IsSound t.firsts t.overs.items (vec_capacity t.overs) t.free t.len
+    ghost invariant = { λ t. IsSound t.slots t.overflow.items (vec_capacity t.overflow) t.free t.len
         t.room };
 }
 
@@ -72,8 +72,8 @@ impl<N: Copy> Table<N> {
         ensures { result ≡ record { nodes = []; room = 0 } }
     {
         Table {
-            firsts: Own::new(alloc),
-            overs: Vec::new(alloc),
+            slots: Slots::new(alloc),
+            overflow: Vec::new(alloc),
             free: END,
             len: 0,
             room: 0,
@@ -109,11 +109,11 @@ impl<N: Copy> Table<N> {
         requires whole { buckets % LANES ≡ 0 }
         ensures { IfOk result (λ t. t ≡ record { nodes = []; room = room }) }
     {
-        let firsts = Own::with_cells(alloc, filler, buckets)?;
-        let overs = Vec::with_capacity(alloc, room)?;
+        let slots = Slots::with_cells(alloc, filler, buckets)?;
+        let overflow = Vec::with_capacity(alloc, room)?;
         Ok(Table {
-            firsts,
-            overs,
+            slots,
+            overflow,
             free: END,
             len: 0,
             room,
@@ -136,7 +136,7 @@ impl<N: Copy> Table<N> {
         ensures value { result ≡ self.now.room }
         ensures small { result ≤ 2 ^ 62 }
     {
-        self.room // which the buckets and the memory of the cells over allow
+        self.room // which the buckets and the memory of the overflow cells allow
     }
 
     /// Inserts a node under its hash. It does not allocate.
@@ -147,11 +147,11 @@ impl<N: Copy> Table<N> {
             self.new.nodes }
         ensures room { self.new.room ≡ self.old.room }
     {
-        let bucket = bucket_of(hash, self.firsts.len());
+        let bucket = bucket_of(hash, self.slots.len());
         let kept = Kept { hash, node };
-        links::put(
-            &mut self.firsts,
-            &mut self.overs,
+        insertion::put(
+            &mut self.slots,
+            &mut self.overflow,
             &mut self.free,
             bucket,
             kept,
@@ -224,12 +224,12 @@ impl<N: Copy> Table<N> {
         if self.len == 0 {
             return None;
         }
-        match search::seek(&self.firsts, &self.overs, hash, &is_match, steps) {
+        match search::seek(&self.slots, &self.overflow, hash, &is_match, steps) {
             None => None,
             Some(found) => {
-                let kept = links::take(
-                    &mut self.firsts,
-                    &mut self.overs,
+                let kept = removal::take(
+                    &mut self.slots,
+                    &mut self.overflow,
                     &mut self.free,
                     found.spot,
                 );
@@ -261,7 +261,7 @@ impl<N: Copy> Table<N> {
         if self.len == 0 {
             return None;
         }
-        match search::seek(&self.firsts, &self.overs, hash, &is_match, steps) {
+        match search::seek(&self.slots, &self.overflow, hash, &is_match, steps) {
             None => None,
             Some(found) => Some(found.node),
         }
@@ -306,8 +306,8 @@ impl<N: Copy> Table<N> {
     pub fn clear(&mut self)
         ensures { self.new ≡ record self.old { nodes = [] } }
     {
-        self.firsts.clear();
-        self.overs.clear();
+        self.slots.clear();
+        self.overflow.clear();
         self.free = END;
         self.len = 0;
     }
@@ -348,7 +348,7 @@ impl<N: Copy> Table<N> {
         ensures empty { len_of self.old ≡ 0 → IsOk result }
     {
         if self.len == 0 {
-            let alloc = *self.overs.allocator();
+            let alloc = *self.overflow.allocator();
             *self = Table::new(alloc, self.filler);
             return Ok(());
         }
@@ -356,8 +356,8 @@ impl<N: Copy> Table<N> {
         self.rebuild(buckets_for(len.next_power_of_two()), len)
     }
 
-    // Grows to so many buckets, for this room. If they stay as many, only the cells over get more memory. If they
-    // double, the nodes in the buckets' own cells move without a search. Else a new table is made. If it fails, it
+    // Grows to so many buckets, for this room. If they stay as many, only the overflow cells get more memory. If they
+    // double, the nodes in the slots move without a search. Else a new table is made. If it fails, it
     // changes no node and no room, but may keep memory that it took.
     #[cold]
     fn grow(&mut self, buckets: usize, room: usize) -> Result<(), AllocError>
@@ -371,17 +371,17 @@ impl<N: Copy> Table<N> {
         ensures ok { OnOk result (self.new.room ≡ room) }
         ensures err { OnErr result (self.new ≡ self.old) }
     {
-        let now = self.firsts.len();
+        let now = self.slots.len();
         if (buckets != now && buckets != 2 * now) || buckets > MAX_BUCKETS {
             return self.rebuild(buckets, room);
         }
-        let block = Vec::with_capacity(*self.overs.allocator(), room)?;
+        let block = Vec::with_capacity(*self.overflow.allocator(), room)?;
         if buckets == now {
-            links::move_to(&mut self.overs, block);
+            growth::move_to(&mut self.overflow, block);
             self.room = room;
             return Ok(());
         }
-        let chained = links::double(&mut self.firsts, &mut self.overs, block, self.filler)?;
+        let chained = growth::double(&mut self.slots, &mut self.overflow, block, self.filler)?;
         self.free = END;
         self.len -= chained.len();
         self.room = room;
@@ -405,17 +405,17 @@ impl<N: Copy> Table<N> {
         if buckets > MAX_BUCKETS {
             return Err(AllocError);
         }
-        let alloc = *self.overs.allocator();
+        let alloc = *self.overflow.allocator();
         let mut table = Table::with_buckets(alloc, self.filler, buckets, room)?;
-        let chained = links::chained(alloc, &self.overs)?;
-        table.insert_own(&self.firsts);
+        let chained = growth::chained(alloc, &self.overflow)?;
+        table.insert_slots(&self.slots);
         table.insert_all(&chained);
         *self = table;
         Ok(())
     }
 
-    // Puts the nodes in that another table has in its buckets' own cells.
-    fn insert_own(&mut self, cells: &Own<N>)
+    // Puts the nodes in that another table has in its slots.
+    fn insert_slots(&mut self, cells: &Slots<N>)
         requires { len_of self.old + length (nodes_in cells.now) ≤ self.old.room }
         ensures inserted { IsPermutation (self.old.nodes ++ nodes_in cells.now) self.new.nodes }
         ensures room { self.new.room ≡ self.old.room }

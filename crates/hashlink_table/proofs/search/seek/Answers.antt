@@ -12,8 +12,8 @@ use Rattle.hashlink_table.proofs.Views.{tag_agrees}
 use Rattle.hashlink_table.proofs.Walks.{walk_of, walk_goes}
 use Rattle.hashlink_table.proofs.search.seek.Goals as goal
 
-pub seek_over-requires-clause-bucket : goal.seek_over-requires-clause-bucket
-seek_over-requires-clause-bucket g c =
+pub seek_overflow-requires-clause-bucket : goal.seek_overflow-requires-clause-bucket
+seek_overflow-requires-clause-bucket g c =
     c.bucket_of-bucket.ensures ∙ ap (λ m. c.args.hash % m) c.len-buckets.ensures
 
 -- the group of a hash
@@ -21,21 +21,21 @@ group_is : (hash m len base : ℕ) → len ≡ m → base ≡ hash % len - hash 
 group_is hash m len base n is = is ∙ ap (λ k. hash % k - hash % k % 16) n
 
 -- a node of the group with the tag of the hash is of its bucket
-pub seek_own-requires-clause-callable : goal.seek_own-requires-clause-callable
-seek_own-requires-clause-callable g c at kept from to is same =
-    let firsts = c.args.firsts.now in
-    let m = length firsts in
+pub seek_slots-requires-clause-callable : goal.seek_slots-requires-clause-callable
+seek_slots-requires-clause-callable g c at kept from to is same =
+    let slots = c.args.slots.now in
+    let m = length slots in
     let b = c.args.hash % m in
     let some = positive_by_power m c.requires.masked in
     let base = group_is c.args.hash _ _ _ c.len-buckets.ensures c.base_of-base.ensures in
-    let own = tag_agrees m b c.args.hash at (kept_at firsts at) some c.requires.whole refl (c.requires.in_place at)
+    let own = tag_agrees m b c.args.hash at (kept_at slots at) some c.requires.whole refl (c.requires.in_place at)
     (grouped_in b at (omega (arith, base, from)) (omega (arith, base, to)))
     (rw is (eq-eqb (tag_of kept.hash) (tag_of c.args.hash) same)) in
-    c.requires.callable_own at kept is (eqb-true (kept.hash % m) b (rw is at own))
+    c.requires.callable_slots at kept is (eqb-true (kept.hash % m) b (rw is at own))
 
-pub returns-then-free-ne0-clause-none_own : goal.returns-then-free-ne0-clause-none_own
-returns-then-free-ne0-clause-none_own g c = λ at node is.
-    let b = c.args.hash % length c.args.firsts.now in
+pub returns-then-free-ne0-clause-none_slots : goal.returns-then-free-ne0-clause-none_slots
+returns-then-free-ne0-clause-none_slots g c = λ at node is.
+    let b = c.args.hash % length c.args.slots.now in
     let base = group_is c.args.hash _ _ _ c.len-buckets.ensures c.base_of-base.ensures in
     let same = c.requires.in_place at _ is in
     c.in_default.ensures.none at node (omega (arith, base, from_base b at same))
@@ -43,27 +43,27 @@ returns-then-free-ne0-clause-none_own g c = λ at node is.
 
 pub returns-then-free-ne0-clause-none : goal.returns-then-free-ne0-clause-none
 returns-then-free-ne0-clause-none g c = λ cell node is.
-    let firsts = c.args.firsts.now in let cells = c.args.cells.now in
-    let heads = links_of firsts in
-    let n = length-links firsts in
+    let slots = c.args.slots.now in let cells = c.args.cells.now in
+    let heads = links_of slots in
+    let n = length-links slots in
     let b = c.args.hash % length heads in
-    let some = positive_by_power (length firsts) c.requires.masked in
+    let some = positive_by_power (length slots) c.requires.masked in
     let low : b < length heads = omega (arith, n, some) in
-    let bucket : b ≡ c.args.hash % length firsts = ap (λ m. c.args.hash % m) n in
+    let bucket : b ≡ c.args.hash % length slots = ap (λ m. c.args.hash % m) n in
     let base = group_is c.args.hash _ _ _ c.len-buckets.ensures c.base_of-base.ensures
     ∙ ap (λ k. k - k % 16) (sym bucket) in
-    let room = group_within b (length firsts) (omega (arith, low, n)) c.requires.whole in
-    let none = no_chain firsts c.base_of-base.result b base (omega (arith, room, base)) c.requires.filled
+    let room = group_within b (length slots) (omega (arith, low, n)) c.requires.whole in
+    let none = no_chain slots c.base_of-base.result b base (omega (arith, room, base)) c.requires.filled
     (λ e. c.if-free-ne0.true (c.free.ensures.lanes ∙ e)) in
     let on : chain_at (length heads) cells cell ≡ b
     = chain_at_within (length heads) cells cell (within_kept cells cell _ is)
     ∙ ap (chain_of (length heads)) is in
     let w = walk_of heads cells c.requires.linked.0 b c.requires.linked.1 low in
-    absurd (walk_goes w.0 cell (w.1 cell on) (link_read firsts b (omega (arith, low, n)) ∙ none))
+    absurd (walk_goes w.0 cell (w.1 cell on) (link_read slots b (omega (arith, low, n)) ∙ none))
 
-pub returns-in-None-clause-none_own : goal.returns-in-None-clause-none_own
-returns-in-None-clause-none_own g c = λ at node is.
-    let b = c.args.hash % length c.args.firsts.now in
+pub returns-in-None-clause-none_slots : goal.returns-in-None-clause-none_slots
+returns-in-None-clause-none_slots g c = λ at node is.
+    let b = c.args.hash % length c.args.slots.now in
     let base = group_is c.args.hash _ _ _ c.len-buckets.ensures c.base_of-base.ensures in
     let same = c.requires.in_place at _ is in
     c.in_default.ensures.none at node (omega (arith, base, from_base b at same))

@@ -1,31 +1,31 @@
 use Rattle.std.proofs.Common.{arith}
-use Rattle.hashlink_table.proofs.Views.{keeps_found, no_cost, none_left, over_asked, own_accepted, own_asked}
+use Rattle.hashlink_table.proofs.Views.{keeps_found, no_cost, none_left, overflow_asked, slot_accepted, slot_asked}
 use Rattle.hashlink_table.proofs.Views.{search_cost}
 use Rattle.hashlink_table.proofs.store.table.Table.find.Goals as goal
 
 pub seek-requires-clause-linked : goal.seek-requires-clause-linked
 seek-requires-clause-linked g c = rw c.deref.ensures.value (c.self.inside.free, c.self.invariant.linked)
 
-pub seek-requires-clause-callable_own : goal.seek-requires-clause-callable_own
-seek-requires-clause-callable_own g c =
+pub seek-requires-clause-callable_slots : goal.seek-requires-clause-callable_slots
+seek-requires-clause-callable_slots g c =
     let s = c.self.invariant in
-    own_asked c.self.inside c.args.self.now c.self.view_is _ c.args.hash c.requires.callable s.masked
+    slot_asked c.self.inside c.args.self.now c.self.view_is _ c.args.hash c.requires.callable s.masked
     (omega (arith, c.if-self-eq0.false, s.held, s.headed)) s.headed
 
 pub seek-requires-clause-telling : goal.seek-requires-clause-telling
 seek-requires-clause-telling g c =
-    own_accepted c.self.inside c.args.self.now c.self.view_is c.args.hash _ c.requires.telling
+    slot_accepted c.self.inside c.args.self.now c.self.view_is c.args.hash _ c.requires.telling
 
 pub seek-requires-clause-callable : goal.seek-requires-clause-callable
 seek-requires-clause-callable g c =
     let s = c.self.invariant in
-    over_asked c.self.inside c.args.self.now c.self.view_is _ c.deref.ensures.value c.args.hash _
+    overflow_asked c.self.inside c.args.self.now c.self.view_is _ c.deref.ensures.value c.args.hash _
     c.requires.callable s.masked (omega (arith, c.if-self-eq0.false, s.held, s.headed)) s.headed
 
 pub returns-in-None-clause-none : goal.returns-in-None-clause-none
 returns-in-None-clause-none g c =
     none_left c.self.inside c.args.self.now c.self.view_is _ c.deref.ensures.value c.args.hash _
-    c.in-None.ensures.none_own c.in-None.ensures.none
+    c.in-None.ensures.none_slots c.in-None.ensures.none
 
 pub returns-in-None-clause-cost : goal.returns-in-None-clause-cost
 returns-in-None-clause-cost g c =

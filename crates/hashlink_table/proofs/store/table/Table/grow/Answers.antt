@@ -12,7 +12,7 @@ use Rattle.hashlink_table.proofs.store.table.Table.grow.Goals.{then-buckets-now,
 
 pub overflow_sub-self : goal.overflow_sub-self
 overflow_sub-self g c =
-    let later = c.double.new.firsts in let taken = c.in_ok-chained.chained in
+    let later = c.double.new.slots in let taken = c.in_ok-chained.chained in
     omega (
       arith,
       c.len.ensures,
@@ -22,7 +22,7 @@ overflow_sub-self g c =
       length-append (nodes_in later) taken.items,
     )
 
--- the cells over may keep the block that they were moved to
+-- the overflow cells may keep the block that they were moved to
 pub invariant_of-self-in_err-chained : goal.invariant_of-self-in_err-chained
 invariant_of-self-in_err-chained g c =
     let s = c.self.invariant in let failed = c.in_err-chained.ensures in
@@ -32,7 +32,7 @@ invariant_of-self-in_err-chained g c =
       | else-buckets-now w ↦ absurd (c.if-buckets-now-3.false w.if-buckets-now.false)
     ] in
     let exact = c.in_ok-block.ensures.exact in
-    sound-moved c.double.new.firsts c.double.new.cells.items _ s failed.firsts_same failed.cells_same
+    sound-moved c.double.new.slots c.double.new.cells.items _ s failed.slots_same failed.cells_same
     (omega (
       arith,
       failed.least,
@@ -52,16 +52,16 @@ invariant_of-self-2 g c =
       | then-buckets-now w ↦ eqb-true _ _ (not-false _ (sym w.value-is ∙ c.if-buckets-now-2.false))
       | else-buckets-now w ↦ absurd (c.if-buckets-now-3.false w.if-buckets-now.false)
     ] in
-    sound-doubled new.firsts new.cells.items taken.items c.args.buckets _ _ c.args.room c.self.invariant
+    sound-doubled new.slots new.cells.items taken.items c.args.buckets _ _ c.args.room c.self.invariant
     c.requires.power c.requires.whole (omega (arith, c.if-buckets-gt-MAX_BUCKETS.false)) c.requires.bounded
     (omega (arith, c.requires.more, ap (λ (u : Contents g.row.N.Denot). u.room) c.self.view_is)) c.requires.some
     c.requires.headed (omega (arith, doubled.moved, c.in_ok-block.ensures.exact))
     (omega (arith, twice, doubled.len, c.len-now.ensures)) doubled.linked doubled.in_place doubled.filled
-    doubled.none_over (omega (arith, c.len.ensures, taken.ok.0)) doubled.nodes
+    doubled.no_overflow (omega (arith, c.len.ensures, taken.ok.0)) doubled.nodes
 
 pub insert_all-requires : goal.insert_all-requires
 insert_all-requires g c =
-    let later = c.double.new.firsts in let taken = c.in_ok-chained.chained in let less = c.double.new.cells.items in
+    let later = c.double.new.slots in let taken = c.in_ok-chained.chained in let less = c.double.new.cells.items in
     omega (
       arith,
       c.requires.more,
@@ -72,15 +72,15 @@ insert_all-requires g c =
       length_permutation _ _ c.in_ok-chained.ensures.nodes,
       length-append (nodes_in later) taken.items,
       length-append (nodes_in later) (nodes_in less),
-      ap (λ (cs : List (Cell g.row.N.Denot)). length (nodes_in cs)) c.in_ok-chained.ensures.none_over,
+      ap (λ (cs : List (Cell g.row.N.Denot)). length (nodes_in cs)) c.in_ok-chained.ensures.no_overflow,
     )
 
 pub returns-clause-nodes : goal.returns-clause-nodes
 returns-clause-nodes g c =
-    let later = c.double.new.firsts in
+    let later = c.double.new.slots in
     let inserted : IsPermutation ((nodes_in later ++ nodes_in c.double.new.cells.items) ++ c.deref.result.now)
     c.insert_all.new.self.nodes
     = c.insert_all.ensures.inserted in
     subst (λ (u : Contents g.row.N.Denot). IsPermutation u.nodes c.insert_all.new.self.nodes) c.self.view_is
     (IsPermutation-trans _ _ _ c.in_ok-chained.ensures.nodes
-    (rw (c.in_ok-chained.ensures.none_over, append-nil (nodes_in later), c.deref.ensures.value) at inserted))
+    (rw (c.in_ok-chained.ensures.no_overflow, append-nil (nodes_in later), c.deref.ensures.value) at inserted))

@@ -3,7 +3,7 @@ use Rattle.std.specs.Prelude.{IsPermutation}
 use Rattle.hashlink_table.specs.declared.kept.Kept.{Kept}
 use Rattle.hashlink_table.specs.Chains.{nodes_in}
 use Rattle.hashlink_table.specs.Contents.{Contents, len_of}
-use Rattle.hashlink_table.proofs.Sound.{full_overs, sound-put}
+use Rattle.hashlink_table.proofs.Sound.{full_overflow, sound-put}
 use Rattle.hashlink_table.proofs.store.table.Table.insert_reserved.Goals as goal
 
 pub put-requires-clause-reserved : goal.put-requires-clause-reserved
@@ -16,10 +16,10 @@ put-requires-clause-reserved g c = λ e.
       c.requires,
       len,
       room,
-      full_overs c.self.invariant e,
+      full_overflow c.self.invariant e,
       c.self.invariant.counted,
       c.self.invariant.reserved,
-      t.overs.ok.0,
+      t.overflow.ok.0,
     )
 
 pub invariant_of-self : goal.invariant_of-self
@@ -28,15 +28,15 @@ invariant_of-self g c =
     let len = ap (λ (u : Contents g.row.N.Denot). len_of u) c.self.view_is in
     let room = ap (λ (u : Contents g.row.N.Denot). u.room) c.self.view_is in
     let more = c.put.new.cells in
-    sound-put c.put.new.firsts more.items _ c.put.new.free _ c.self.invariant
+    sound-put c.put.new.slots more.items _ c.put.new.free _ c.self.invariant
     (omega (arith, c.requires, len, room, c.self.invariant.counted)) c.put.ensures.capacity c.put.ensures.len
     c.put.ensures.linked c.put.ensures.in_place c.put.ensures.filled c.put.ensures.nodes
-    (λ e. omega (arith, c.put.ensures.full e, more.ok.0, t.overs.ok.0))
-    (λ ne. omega (arith, c.put.ensures.reused ne, more.ok.0, t.overs.ok.0))
+    (λ e. omega (arith, c.put.ensures.full e, more.ok.0, t.overflow.ok.0))
+    (λ ne. omega (arith, c.put.ensures.reused ne, more.ok.0, t.overflow.ok.0))
 
 pub returns-clause-inserted : goal.returns-clause-inserted
 returns-clause-inserted g c =
     let N : Type 0 = g.row.N.Denot in
     let new : Kept N = record { hash = c.args.hash; node = c.args.node } in
     subst (λ (u : Contents N). IsPermutation (new ∷ u.nodes)
-    (nodes_in c.put.new.firsts ++ nodes_in c.put.new.cells.items)) c.self.view_is c.put.ensures.nodes
+    (nodes_in c.put.new.slots ++ nodes_in c.put.new.cells.items)) c.self.view_is c.put.ensures.nodes

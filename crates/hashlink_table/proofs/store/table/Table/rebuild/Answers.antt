@@ -16,27 +16,27 @@ into_empty {N} empty room ks now none p = subst (λ (t : Contents N). IsPermutat
 pub insert_all-requires : goal.insert_all-requires
 insert_all-requires g c =
     let t = c.self.inside in
-    let own = into_empty c.in_ok-table.table c.args.room _ _ c.in_ok-table.ensures c.insert_own.ensures.inserted in
+    let own = into_empty c.in_ok-table.table c.args.room _ _ c.in_ok-table.ensures c.insert_slots.ensures.inserted in
     let over = c.deref-2.ensures.value ∙ c.in_ok-chained.ensures ∙ ap nodes_in c.deref.ensures.value in
     omega (
       arith,
       length_permutation _ _ own,
       ap length over,
-      length-append (nodes_in t.firsts) (nodes_in t.overs.items),
+      length-append (nodes_in t.slots) (nodes_in t.overflow.items),
       ap (λ (u : Contents g.row.N.Denot). len_of u) c.self.view_is,
       c.requires.held,
-      c.insert_own.ensures.room,
+      c.insert_slots.ensures.room,
       ap (λ (u : Contents g.row.N.Denot). u.room) c.in_ok-table.ensures,
     )
 
 pub returns-clause-nodes : goal.returns-clause-nodes
 returns-clause-nodes g c =
     let t = c.self.inside in let new = c.table-2.inside in
-    let own = into_empty c.in_ok-table.table c.args.room _ _ c.in_ok-table.ensures c.insert_own.ensures.inserted in
+    let own = into_empty c.in_ok-table.table c.args.room _ _ c.in_ok-table.ensures c.insert_slots.ensures.inserted in
     let over = c.deref-2.ensures.value ∙ c.in_ok-chained.ensures ∙ ap nodes_in c.deref.ensures.value in
-    let both = IsPermutation-trans _ _ _ (IsPermutation-append_left (nodes_in t.overs.items) _ _ own)
+    let both = IsPermutation-trans _ _ _ (IsPermutation-append_left (nodes_in t.overflow.items) _ _ own)
     (rw over at c.insert_all.ensures.inserted) in
-    subst (λ (u : Contents g.row.N.Denot). IsPermutation u.nodes (nodes_in new.firsts ++ nodes_in new.overs.items))
+    subst (λ (u : Contents g.row.N.Denot). IsPermutation u.nodes (nodes_in new.slots ++ nodes_in new.overflow.items))
     c.self.view_is
-    (subst (λ (u : Contents g.row.N.Denot). IsPermutation (nodes_in t.firsts ++ nodes_in t.overs.items) u.nodes)
+    (subst (λ (u : Contents g.row.N.Denot). IsPermutation (nodes_in t.slots ++ nodes_in t.overflow.items) u.nodes)
     (sym c.table-2.view_is) both)

@@ -6,32 +6,32 @@ use Rattle.hashlink_table.specs.declared.kept.Kept.{Kept}
 use Rattle.hashlink_table.specs.Contents.{Contents}
 use Rattle.hashlink_table.specs.Chains.{nodes_in}
 use Rattle.hashlink_table.proofs.Sound.{sound-take}
-use Rattle.hashlink_table.proofs.Views.{no_cost, none_left, over_asked, own_accepted, own_asked, search_cost}
+use Rattle.hashlink_table.proofs.Views.{no_cost, none_left, overflow_asked, slot_accepted, slot_asked, search_cost}
 use Rattle.hashlink_table.proofs.store.table.Table.remove_counted.Goals as goal
 
 pub seek-requires-clause-linked : goal.seek-requires-clause-linked
 seek-requires-clause-linked g c = rw c.deref.ensures.value (c.self.inside.free, c.self.invariant.linked)
 
-pub seek-requires-clause-callable_own : goal.seek-requires-clause-callable_own
-seek-requires-clause-callable_own g c =
+pub seek-requires-clause-callable_slots : goal.seek-requires-clause-callable_slots
+seek-requires-clause-callable_slots g c =
     let s = c.self.invariant in
-    own_asked c.self.inside c.args.self.now c.self.view_is _ c.args.hash c.requires.callable s.masked
+    slot_asked c.self.inside c.args.self.now c.self.view_is _ c.args.hash c.requires.callable s.masked
     (omega (arith, c.if-self-eq0.false, s.held, s.headed)) s.headed
 
 pub seek-requires-clause-telling : goal.seek-requires-clause-telling
 seek-requires-clause-telling g c =
-    own_accepted c.self.inside c.args.self.now c.self.view_is c.args.hash _ c.requires.telling
+    slot_accepted c.self.inside c.args.self.now c.self.view_is c.args.hash _ c.requires.telling
 
 pub seek-requires-clause-callable : goal.seek-requires-clause-callable
 seek-requires-clause-callable g c =
     let s = c.self.invariant in
-    over_asked c.self.inside c.args.self.now c.self.view_is _ c.deref.ensures.value c.args.hash _
+    overflow_asked c.self.inside c.args.self.now c.self.view_is _ c.deref.ensures.value c.args.hash _
     c.requires.callable s.masked (omega (arith, c.if-self-eq0.false, s.held, s.headed)) s.headed
 
 pub returns-in-None-clause-none : goal.returns-in-None-clause-none
 returns-in-None-clause-none g c =
     none_left c.self.inside c.args.self.now c.self.view_is _ c.deref.ensures.value c.args.hash _
-    c.in-None.ensures.none_own c.in-None.ensures.none
+    c.in-None.ensures.none_slots c.in-None.ensures.none
 
 pub returns-in-None-clause-cost : goal.returns-in-None-clause-cost
 returns-in-None-clause-cost g c =
@@ -46,8 +46,8 @@ pub invariant_of-self : goal.invariant_of-self
 invariant_of-self g c =
     let t = c.self.inside in let taken = c.take-kept in
     let cells = taken.auto.cells ∙ ap length c.deref_mut.ensures.value in
-    rw (with_items_is t.overs taken.new.cells (cells ∙ sym t.overs.ok.0))
-    (sound-take taken.new.firsts taken.new.cells taken.new.free taken.result c.self.invariant taken.ensures.len
+    rw (with_items_is t.overflow taken.new.cells (cells ∙ sym t.overflow.ok.0))
+    (sound-take taken.new.slots taken.new.cells taken.new.free taken.result c.self.invariant taken.ensures.len
     cells taken.ensures.linked taken.ensures.in_place taken.ensures.filled
     (rw c.deref_mut.ensures.value at taken.ensures.nodes))
 
@@ -60,11 +60,11 @@ returns-clause-removed g c =
     let same = same_Some _ _ (sym sought.0 ∙ read) in
     let cells = taken.auto.cells ∙ ap length c.deref_mut.ensures.value in
     let K : Type 0 = Kept g.row.N.Denot in
-    let rest = nodes_in taken.new.firsts ++ nodes_in taken.new.cells in
-    rw (with_items_is t.overs taken.new.cells (cells ∙ sym t.overs.ok.0)) (
+    let rest = nodes_in taken.new.slots ++ nodes_in taken.new.cells in
+    rw (with_items_is t.overflow taken.new.cells (cells ∙ sym t.overflow.ok.0)) (
       subst (λ (u : Contents g.row.N.Denot). IsPermutation u.nodes
           (record { hash = c.args.hash; node = taken.result.node } ∷ rest)) c.self.view_is
-          (subst (λ h. IsPermutation (nodes_in t.firsts ++ nodes_in t.overs.items)
+          (subst (λ h. IsPermutation (nodes_in t.slots ++ nodes_in t.overflow.items)
           (record { hash = h; node = taken.result.node } ∷ rest)) (sym (ap (λ (k : K). k.hash) same)) nodes),
       subst (λ (k : K). g.F.Fn.post c.args.is_match (k.node, tt) true) same sought.1,
     )

@@ -4,12 +4,12 @@ use Rattle.hashlink_table.proofs.store.table.Table.with_buckets.Goals as goal
 
 pub invariant_of-result : goal.invariant_of-result
 invariant_of-result g c =
-    rw (c.in_ok-firsts.ensures, c.in_ok-overs.ensures.items)
+    rw (c.in_ok-slots.ensures, c.in_ok-overflow.ensures.items)
     (sound-bare c.args.buckets _ c.args.room c.requires.headed c.requires.bounded
-    (omega (arith, c.in_ok-overs.ensures.capacity)) (omega (arith, c.in_ok-overs.ensures.exact))
+    (omega (arith, c.in_ok-overflow.ensures.capacity)) (omega (arith, c.in_ok-overflow.ensures.exact))
     (λ e. absurd (omega (arith, c.requires.some, e))) c.requires.small (λ _. c.requires.power) c.requires.whole)
 
 pub returns : goal.returns
 returns g c =
-    rw (c.in_ok-firsts.ensures, c.in_ok-overs.ensures.items)
+    rw (c.in_ok-slots.ensures, c.in_ok-overflow.ensures.items)
     (contents-bare g.row.N.Denot c.args.buckets c.args.room)

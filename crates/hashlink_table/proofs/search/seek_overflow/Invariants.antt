@@ -1,0 +1,22 @@
+use Rattle.std.proofs.Common.{◌≡◌, ◌%◌, length, Some, false}
+use Rattle.hashlink_table.specs.Chains.{next_at, kept_at, chain_at, links_of}
+use Rattle.hashlink_table.proofs.Walks.{IsSearch, steps_left, in_bucket}
+use Rattle.hashlink_table.proofs.search.seek_overflow.Given as goal
+
+-- where no cell that is still to come has the node, none has; and there is a step for each cell of the bucket
+abbrev pub invariant-loop-at : goal.invariant-loop-at
+invariant-loop-at g l =
+    IsSearch
+    (next_at l.cells)
+    (chain_at (length (links_of l.slots)) l.cells)
+    (l.hash % length (links_of l.slots))
+    l.at
+    (length l.cells)
+    (λ cell. (node : g.row.N.Denot) → kept_at l.cells cell ≡ Some (record { hash = l.hash; node = node })
+    → goal.F-post g l.is_match node false)
+    (in_bucket l.cells (length (links_of l.slots)) (l.hash % length (links_of l.slots)))
+    l.initial.steps
+    l.steps
+
+abbrev pub decreases-loop-at : goal.decreases-loop-at
+decreases-loop-at g l = steps_left (next_at l.cells) (length l.cells) l.at

@@ -1,8 +1,0 @@
-use Rattle.std.proofs.Common.{◌≡◌, ℕ, ◌<◌, ◌≤◌}
-use Rattle.hashlink_table.specs.declared.store.cell.TheConstants.{END}
-use Rattle.hashlink_table.specs.Chains.{next_at}
-use Rattle.hashlink_table.proofs.store.links.first_chained.Given as goal
-
--- no bucket before this one has a chain
-abbrev pub invariant-loop-bucket : goal.invariant-loop-bucket
-invariant-loop-bucket g l = (b : ℕ) → l.base ≤ b → b < l.bucket → next_at l.firsts b ≡ END

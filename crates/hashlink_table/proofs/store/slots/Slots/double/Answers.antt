@@ -1,0 +1,74 @@
+-- Each cell is doubled in its turn, and the lists keep their lengths.
+use Rattle.std.proofs.Common.{◌≡◌, ◌*◌, ◌++◌, length, replicate, sym, ap, ◌∙◌, subst, arith}
+use Rattle.std.specs.Int.{IsPowerOfTwo}
+use Rattle.std.specs.Vec.{with_items}
+use Rattle.std.proofs.lemmas.List.{with_items_is}
+use Rattle.hashlink_table.specs.Stored.{bare_cell}
+use Rattle.hashlink_table.specs.Slots.{parted}
+use Rattle.hashlink_table.proofs.Storing.{length-cells}
+use Rattle.hashlink_table.proofs.Halves.{doubled-all, doubled-on, length-doubled_to, twice_power}
+use Rattle.hashlink_table.proofs.store.slots.Slots.double.Given as given
+use Rattle.hashlink_table.proofs.store.slots.Slots.double.Goals as goal
+
+pub loop-at-init : goal.loop-at-init
+loop-at-init g c = record {
+  tagged =
+      rw (c.as_mut_slice-tags.ensures.value, c.as_mut_slice-nodes.ensures.value, c.as_mut_slice-rests.ensures.value)
+      c.self.invariant;
+  halves =
+      rw (c.as_mut_slice-tags.ensures.value, c.as_mut_slice-nodes.ensures.value, c.as_mut_slice-rests.ensures.value)
+      (c.self.view_is ∙ c.in_ok-widen.ensures.ok
+      ∙ ap (λ n. c.args.self.now ++ replicate n bare_cell) c.len-count.ensures);
+}
+
+pub part-requires-clause-power : goal.part-requires-clause-power
+part-requires-clause-power g c =
+    subst (λ n. IsPowerOfTwo (2 * n)) (sym c.len-count.ensures) (twice_power (length c.args.self.now) c.requires.power)
+
+pub part-requires-clause-within : goal.part-requires-clause-within
+part-requires-clause-within g c =
+    omega (
+      arith,
+      c.loop-at-test.true,
+      c.len-count.ensures,
+      length-doubled_to c.args.self.now c.loop-at.at,
+      ap length c.loop-at.invariant.halves,
+      length-cells c.loop-at.tags c.loop-at.nodes c.loop-at.rests c.loop-at.invariant.tagged,
+    )
+
+pub part-requires-clause-tagged : goal.part-requires-clause-tagged
+part-requires-clause-tagged g c = c.loop-at.invariant.tagged
+
+pub loop-at-preserved : goal.loop-at-preserved
+loop-at-preserved g c = record {
+  tagged = c.part.ensures.tagged;
+  halves =
+      c.part.ensures.parted
+      ∙ ap (λ cells. parted cells c.loop-at.at c.len-count.result) c.loop-at.invariant.halves
+      ∙ doubled-on c.args.self.now c.loop-at.at c.len-count.result c.len-count.ensures
+      (omega (arith, c.loop-at-test.true, c.len-count.ensures));
+}
+
+-- what the lists are then
+module _ (g : given.Over) (c : goal.After-self-in-loop-at-2-1 g) where
+  tags : (with_items c.self.inside.tags c.loop-at.tags).items ≡ c.loop-at.tags
+  tags =
+      with_items_is c.self.inside.tags c.loop-at.tags (c.loop-at.auto.tags ∙ c.as_mut_slice-tags.ensures.len)
+
+  nodes : (with_items c.self.inside.nodes c.loop-at.nodes).items ≡ c.loop-at.nodes
+  nodes =
+      with_items_is c.self.inside.nodes c.loop-at.nodes (c.loop-at.auto.nodes ∙ c.as_mut_slice-nodes.ensures.len)
+
+  rests : (with_items c.self.inside.rests c.loop-at.rests).items ≡ c.loop-at.rests
+  rests =
+      with_items_is c.self.inside.rests c.loop-at.rests (c.loop-at.auto.rests ∙ c.as_mut_slice-rests.ensures.len)
+
+pub invariant_of-self : goal.invariant_of-self
+invariant_of-self g c = rw (tags g c, nodes g c, rests g c) c.loop-at.invariant.tagged
+
+pub returns-clause-ok : goal.returns-clause-ok
+returns-clause-ok g c =
+    rw (tags g c, nodes g c, rests g c)
+    (c.loop-at.invariant.halves
+    ∙ doubled-all c.args.self.now c.loop-at.at
+    (omega (arith, c.loop-at-test.false, c.loop-at.auto.at-end, c.len-count.ensures)))

@@ -1,7 +1,0 @@
-use Rattle.std.proofs.Common.{take}
-use Rattle.hashlink_table.specs.Chains.{nodes_in}
-use Rattle.hashlink_table.proofs.Copying.{IsCopied}
-use Rattle.hashlink_table.proofs.store.table.Table.insert_own.Given as goal
-
-abbrev pub invariant-loop-at : goal.invariant-loop-at
-invariant-loop-at g l = IsCopied l.fn.self (nodes_in (take l.at l.cells)) l.self

@@ -1,0 +1,7 @@
+use Rattle.std.proofs.Common.{take}
+use Rattle.hashlink_table.specs.Chains.{nodes_in}
+use Rattle.hashlink_table.proofs.Copying.{IsCopied}
+use Rattle.hashlink_table.proofs.store.table.Table.insert_slots.Given as goal
+
+abbrev pub invariant-loop-at : goal.invariant-loop-at
+invariant-loop-at g l = IsCopied l.fn.self (nodes_in (take l.at l.cells)) l.self

@@ -1,0 +1,95 @@
+//! How a node comes in.
+ghost use Rattle.std.specs.Prelude.{◌≡◌, ◌≢◌, ℕ, ◌+◌, ◌*◌, ◌%◌, ◌<◌, ◌≤◌, ◌∷◌, ◌++◌};
+ghost use Rattle.std.specs.Prelude.{IsPermutation};
+ghost use Rattle.std.specs.Prelude.{length, vec_capacity, vec_len};
+ghost use Rattle.hashlink_table.specs.Chains.{links_of, next_at};
+ghost use Rattle.hashlink_table.specs.Chains.{nodes_in, IsFilled, IsInPlace, IsLinked};
+ghost use Rattle.hashlink_table.specs.Chains.{IsPlaced, SameNodes};
+
+use super::bucket::group_of;
+use super::cell::{END, Stored};
+use super::lanes::LANES;
+use super::slots::Slots;
+use crate::kept::Kept;
+
+// Puts a cell where the first free one is, or after the last if none is free, and returns where.
+#[inline]
+fn place<N: Copy>(cells: &mut Vec<Stored<N>>, free: &mut usize, cell: Stored<N>) -> usize
+    requires within { free.old ≢ END → free.old < vec_len cells.old }
+    requires reserved { free.old ≡ END → vec_len cells.old < vec_capacity cells.old }
+    requires small { free.old ≡ END → vec_len cells.old < END }
+    ensures placed { IsPlaced cells.old.items cells.new.items free.old free.new cell result }
+    ensures capacity { vec_capacity cells.new ≡ vec_capacity cells.old }
+{
+    if *free == END {
+        let at = cells.len();
+        cells.push_reserved(cell);
+        return at;
+    }
+    let at = *free;
+    *free = cells[at].next();
+    cells[at] = cell;
+    at
+}
+
+// Chains a node in an overflow cell, which is then the first of its bucket's chain.
+fn chain<N: Copy>(
+    slots: &mut Slots<N>,
+    cells: &mut Vec<Stored<N>>,
+    free: &mut usize,
+    bucket: usize,
+    kept: Kept<N>,
+)
+    requires within { bucket < length slots.old }
+    requires bucket { bucket ≡ kept.hash % length slots.old }
+    requires linked { IsLinked (links_of slots.old) cells.old.items free.old }
+    requires reserved { free.old ≡ END → vec_len cells.old < vec_capacity cells.old }
+    requires small { vec_len cells.old < END }
+    ensures linked { IsLinked (links_of slots.new) cells.new.items free.new }
+    ensures slots { SameNodes slots.old slots.new }
+    ensures others { (b : ℕ) → b ≢ bucket → next_at slots.new b ≡ next_at slots.old b }
+    ensures nodes { IsPermutation (kept ∷ nodes_in cells.old.items) (nodes_in cells.new.items) }
+    ensures capacity { vec_capacity cells.new ≡ vec_capacity cells.old }
+    ensures full { free.old ≡ END → vec_len cells.new ≡ vec_len cells.old + 1 }
+    ensures reused { free.old ≢ END → vec_len cells.new ≡ vec_len cells.old }
+{
+    let cell = Stored::taken(kept, slots.next(bucket));
+    let at = place(cells, free, cell);
+    slots.set_next(bucket, at);
+}
+
+// Puts a node into its bucket: into a free cell of the bucket's group, or else into an overflow cell.
+#[inline]
+pub fn put<N: Copy>(
+    slots: &mut Slots<N>,
+    cells: &mut Vec<Stored<N>>,
+    free: &mut usize,
+    bucket: usize,
+    kept: Kept<N>,
+)
+    requires within { bucket < length slots.old }
+    requires bucket { bucket ≡ kept.hash % length slots.old }
+    requires whole { length slots.old % LANES ≡ 0 }
+    requires linked { IsLinked (links_of slots.old) cells.old.items free.old }
+    requires in_place { IsInPlace slots.old }
+    requires filled { IsFilled slots.old }
+    requires reserved { free.old ≡ END → vec_len cells.old < vec_capacity cells.old }
+    requires small { vec_len cells.old < END }
+    ensures linked { IsLinked (links_of slots.new) cells.new.items free.new }
+    ensures in_place { IsInPlace slots.new }
+    ensures filled { IsFilled slots.new }
+    ensures len { length slots.new ≡ length slots.old }
+    ensures nodes { IsPermutation (kept ∷ nodes_in slots.old ++ nodes_in cells.old.items)
+        (nodes_in slots.new ++ nodes_in cells.new.items) }
+    ensures capacity { vec_capacity cells.new ≡ vec_capacity cells.old }
+    ensures full { free.old ≡ END → vec_len cells.new ≤ vec_len cells.old + 1 }
+    ensures reused { free.old ≢ END → vec_len cells.new ≤ vec_len cells.old }
+{
+    let base = group_of(bucket);
+    let free_cells = slots.free(base);
+    if free_cells == 0 {
+        chain(slots, cells, free, bucket, kept);
+    } else {
+        slots.put(base + free_cells.trailing_zeros() as usize, kept);
+    }
+}

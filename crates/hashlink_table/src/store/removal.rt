@@ -1,0 +1,129 @@
+//! How a node leaves.
+ghost use Rattle.std.specs.Prelude.{◌≡◌, ◌≢◌, ℕ, ◌+◌, ◌*◌, ◌%◌, ◌<◌, ◌≤◌, ◌∷◌, ◌++◌};
+ghost use Rattle.std.specs.Prelude.{IfNone, IfSome, IsPermutation, IsSome, Some};
+ghost use Rattle.std.specs.Prelude.{length};
+ghost use Rattle.std.specs.Int.{IsPowerOfTwo};
+ghost use Rattle.hashlink_table.specs.declared.store.spot.Spot.TheVariants.{Overflow};
+ghost use Rattle.hashlink_table.specs.Chains.{chain_at, kept_at, kept_by, links_of, next_at};
+ghost use Rattle.hashlink_table.specs.Chains.{nodes_in, IsFilled, IsInPlace, IsLinked, IsLinkedBut};
+ghost use Rattle.hashlink_table.specs.Chains.{SameNodes};
+
+use super::bucket::{bucket_of, group_of};
+use super::cell::{END, Stored};
+use super::lanes::LANES;
+use super::slots::Slots;
+use super::spot::Spot;
+use crate::kept::Kept;
+
+// Removes a cell from its bucket's chain: the link to it leads past it.
+fn unlink<N: Copy>(slots: &mut Slots<N>, cells: &mut [Stored<N>], bucket: usize, cell: usize)
+    requires within { bucket < length slots.old }
+    requires on_chain { chain_at (length slots.old) cells.old cell ≡ bucket }
+    requires linked { (free : ℕ) × IsLinked (links_of slots.old) cells.old free }
+    requires small { length cells.old < END }
+    ensures unlinked { (free : ℕ) → IsLinked (links_of slots.old) cells.old free
+        → IsLinkedBut (links_of slots.new) cells.new free cell }
+    ensures slots { SameNodes slots.old slots.new }
+    ensures begun { (b : ℕ) → next_at slots.new b ≢ END → next_at slots.old b ≢ END }
+    ensures nodes { SameNodes cells.old cells.new }
+{
+    let after = cells[cell].next();
+    let mut at = slots.next(bucket);
+    if at == cell {
+        slots.set_next(bucket, after);
+        return;
+    }
+    while cells[at].next() != cell {
+        at = cells[at].next();
+    }
+    cells[at].set_next(after);
+}
+
+// Removes a node from its overflow cell, which is then the first free one.
+pub fn take_out<N: Copy>(
+    slots: &mut Slots<N>,
+    cells: &mut [Stored<N>],
+    free: &mut usize,
+    bucket: usize,
+    cell: usize,
+) -> Kept<N>
+    requires within { bucket < length slots.old }
+    requires on_chain { chain_at (length slots.old) cells.old cell ≡ bucket }
+    requires linked { IsLinked (links_of slots.old) cells.old free.old }
+    requires small { length cells.old < END }
+    ensures linked { IsLinked (links_of slots.new) cells.new free.new }
+    ensures slots { SameNodes slots.old slots.new }
+    ensures begun { (b : ℕ) → next_at slots.new b ≢ END → next_at slots.old b ≢ END }
+    ensures kept { kept_at cells.old cell ≡ Some result }
+    ensures nodes { IsPermutation (nodes_in cells.old) (result ∷ nodes_in cells.new) }
+{
+    unlink(slots, cells, bucket, cell);
+    let kept = cells[cell].known();
+    cells[cell].set_free(*free);
+    *free = cell;
+    kept
+}
+
+// The first bucket of a group that has a chain.
+fn first_chained<N: Copy>(slots: &Slots<N>, base: usize) -> Option<usize>
+    requires within { base + LANES ≤ length slots.now }
+    requires base { base % LANES ≡ 0 }
+    requires filled { IsFilled slots.now }
+    ensures some { IfSome result (λ bucket. (base ≤ bucket) × (bucket < base + LANES)
+        × (next_at slots.now bucket ≢ END)) }
+    ensures none { IfNone result
+        ((bucket : ℕ) → base ≤ bucket → bucket < base + LANES → next_at slots.now bucket ≡ END) }
+{
+    if slots.free(base) != 0 {
+        return None;
+    }
+    for bucket in base..base + LANES {
+        if slots.next(bucket) != END {
+            return Some(bucket);
+        }
+    }
+    None
+}
+
+// Removes the node that a search found. If it was in a slot and a bucket of the group has a
+// chain, the first of that chain moves there.
+pub fn take<N: Copy>(
+    slots: &mut Slots<N>,
+    cells: &mut [Stored<N>],
+    free: &mut usize,
+    spot: Spot,
+) -> Kept<N>
+    requires masked { IsPowerOfTwo (length slots.old) }
+    requires whole { length slots.old % LANES ≡ 0 }
+    requires there { IsSome (kept_by slots.old cells.old spot) }
+    requires linked { IsLinked (links_of slots.old) cells.old free.old }
+    requires in_place { IsInPlace slots.old }
+    requires filled { IsFilled slots.old }
+    requires small { length cells.old < END }
+    ensures linked { IsLinked (links_of slots.new) cells.new free.new }
+    ensures in_place { IsInPlace slots.new }
+    ensures filled { IsFilled slots.new }
+    ensures len { length slots.new ≡ length slots.old }
+    ensures kept { kept_by slots.old cells.old spot ≡ Some result }
+    ensures nodes { IsPermutation (nodes_in slots.old ++ nodes_in cells.old)
+        (result ∷ nodes_in slots.new ++ nodes_in cells.new) }
+{
+    match spot {
+        Spot::Slot(at) => {
+            let kept = slots.known(at);
+            match first_chained(slots, group_of(at)) {
+                None => slots.set_free(at),
+                Some(chained) => {
+                    let next = slots.next(chained);
+                    let follower = take_out(slots, cells, free, chained, next);
+                    slots.put(at, follower);
+                }
+            }
+            kept
+        }
+        Spot::Overflow(at) => {
+            let bucket = bucket_of(cells[at].known().hash, slots.len());
+            take_out(slots, cells, free, bucket, at)
+        }
+    }
+}
