@@ -1,11 +1,15 @@
 //! How often a map compares keys whose hashes are all different.
+ghost use Rattle.std.specs.Prelude.{◌==◌};
+ghost use Rattle.std.proofs.Common.{rules};
+ghost use Rattle.std.specs.Cmp.Rules.{comparing, hashing};
+ghost use Rattle.std.specs.Hash as fed;
 ghost use Rattle.test_calls.specs.OwnNumber.{number_of};
 
 use crate::few::passes;
-use crate::items::{Counts, Home, Item, Name, Stop};
 use hashlink::LinkedHashMap;
-use std::alloc::Global;
-use std::hash::{BuildHasher, Hasher};
+use std::alloc::{AllocError, Global};
+use std::cell::Cell;
+use std::hash::{BuildHasher, Hash, Hasher};
 use std::process::ExitCode;
 use std::rc::Rc;
 
@@ -42,50 +46,79 @@ impl BuildHasher for OwnNumber {
     }
 }
 
+/// A number that counts how often it is compared with another.
+#[derive(Drop)]
+struct Counted {
+    number: u64,
+    comparisons: Rc<Cell<u64>>,
+}
+
+impl PartialEq for Counted {
+    ghost eq = { λ a b. a.number == b.number };
+
+    ghost laws = { Prim.search (comparing, rules) };
+
+    fn eq(&self, other: &Counted) -> bool {
+        self.comparisons.set(self.comparisons.get().wrapping_add(1));
+        self.number == other.number
+    }
+}
+
+impl Eq for Counted {
+    ghost laws = { Prim.search (comparing, rules) };
+}
+
+impl Hash for Counted {
+    ghost hash_input = { λ a. fed.u64 a.number };
+
+    ghost respects_eq = { Prim.search (hashing, rules) };
+
+    fn hash<H: Hasher>(&self, state: &mut H) {
+        self.number.hash(state);
+    }
+}
+
+/// A number whose comparisons are counted there.
+fn counted(number: u64, comparisons: &Rc<Cell<u64>>) -> Result<Counted, AllocError> {
+    Ok(Counted {
+        number,
+        comparisons: comparisons.clone()?,
+    })
+}
+
 /// A map of numbers, each under itself.
-type Numbers = LinkedHashMap<Item, u64, OwnNumber>;
+type Numbers = LinkedHashMap<Counted, u64, OwnNumber>;
 
 /// Inserts the numbers from 1 to 500, and returns whether each was new.
-fn insert_each(map: &mut Numbers, home: Home<'_>) -> Result<bool, Stop> {
+fn insert_each(map: &mut Numbers, comparisons: &Rc<Cell<u64>>) -> Result<bool, AllocError> {
     let mut all = true;
     for number in 1..501u64 {
-        let key = home.item(Name::of(number))?;
-        all &= map.insert(key, number) == Ok(None);
+        all &= map.insert(counted(number, comparisons)?, number) == Ok(None);
     }
     Ok(all)
 }
 
 /// Looks each of them up, and returns whether it was found.
-fn get_each(map: &Numbers, home: Home<'_>) -> Result<bool, Stop> {
+fn get_each(map: &Numbers, comparisons: &Rc<Cell<u64>>) -> Result<bool, AllocError> {
     let mut all = true;
     for number in 1..501u64 {
-        let key = home.item(Name::of(number))?;
-        all &= map.get(&key) == Some(&number);
+        all &= map.get(&counted(number, comparisons)?) == Some(&number);
     }
     Ok(all)
 }
 
-/// Whether both go well with as many hashes as calls, and at most 4,000 comparisons.
-fn compares_few(home: Home<'_>) -> Result<bool, Stop> {
-    let mut map = LinkedHashMap::with_hasher(home.alloc, OwnNumber::default());
-    let all = insert_each(&mut map, home)? & get_each(&map, home)?;
-    let (hashes, comparisons) = home.cost();
-    Ok(all & (hashes == 1_000) & (comparisons <= 4_000))
-}
-
-/// The same, of items with these counts.
-fn few_are_compared(alloc: Global, counts: &Rc<Counts>) -> bool {
-    match compares_few(Home { alloc, counts }) {
-        Ok(holds) => holds,
-        Err(_stop) => false,
-    }
+/// Whether both go well with at most 4,000 comparisons.
+fn compares_few(alloc: Global) -> Result<bool, AllocError> {
+    let comparisons = Rc::new(alloc, Cell::new(0u64))?;
+    let mut map = LinkedHashMap::with_hasher(alloc, OwnNumber::default());
+    let all = insert_each(&mut map, &comparisons)? & get_each(&map, &comparisons)?;
+    Ok(all & (comparisons.get() <= 4_000))
 }
 
 #[test]
 fn inserts_and_gets_of_500_keys_compare_at_most_4000_times(rt: HostRuntime) -> ExitCode {
-    let alloc = rt.alloc();
-    passes(match Rc::new(alloc, Counts::new()) {
-        Ok(counts) => few_are_compared(alloc, &counts),
-        Err(_) => false,
+    passes(match compares_few(rt.alloc()) {
+        Ok(holds) => holds,
+        Err(AllocError) => false,
     })
 }
