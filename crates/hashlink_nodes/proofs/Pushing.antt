@@ -11,7 +11,8 @@ use Rattle.hashlink_nodes.specs.State.{State, store_next, store_prev, hold, atta
 use Rattle.hashlink_nodes.specs.Shape.{IsWayBack, IsShaped, IsSound, ring_of, walk, entries_of}
 use Rattle.hashlink_nodes.specs.Ring.{Ring, put_before, IsPlace}
 use Rattle.hashlink_nodes.proofs.Paths.{last_or, Off, set_at_here, set_at_other}
-use Rattle.hashlink_nodes.proofs.Paths.{all_left, all_middle, distinct_head, agrees_off, back_cut, length-walk}
+use Rattle.hashlink_nodes.proofs.Paths.{all_left, all_middle, distinct_head, agrees_off, back_cut}
+use Rattle.hashlink_nodes.proofs.Paths.{length-walk}
 use Rattle.hashlink_nodes.proofs.Shapes.{IsLoose, take_spare, hold_loose, add_loose, attach_loose, guard_made}
 use Rattle.hashlink_nodes.proofs.Entries.{before_place, entries-append, entries-cons, entries_same}
 use Rattle.hashlink_nodes.proofs.Sound.{walk-more, of_last, of_head, presents, Leaves}
@@ -125,8 +126,8 @@ module _ {K V : Type 0} where
       }
 
   -- ---- and where no node is spare
-  pub ready_made : (s s₁ s₂ : State K V) (guard : Option Node) (g first n : Node) (len spare : ℕ) (v : Ring K V)
-      (h : Held K V)
+  pub ready_made : (s s₁ s₂ : State K V) (guard : Option Node) (g first n : Node) (len spare : ℕ)
+      (v : Ring K V) (h : Held K V)
       → IsSound s guard first len spare → ring_of s guard first len spare ≡ v → v.free ≡ []
       → len + 1 < 2 ^ 63 → GuardIs s s₁ guard g → Adds n (Some h) s₁ s₂
       → Ready s₂ g first n h len spare v
@@ -146,8 +147,8 @@ module _ {K V : Type 0} where
     pub has_next : s.has (unwrap_or place g) ≡ true
     pub has_prev : s.has (s.prev (unwrap_or place g)) ≡ true
     pub room : len + spare + 1 < 2 ^ 63
-    pub leaves : Leaves (attached n (s.prev (unwrap_or place g)) (unwrap_or place g) s) (Some g) first (len + 1)
-        spare (put_before place (n, h) v.entries) v.free
+    pub leaves : Leaves (attached n (s.prev (unwrap_or place g)) (unwrap_or place g) s) (Some g) first
+        (len + 1) spare (put_before place (n, h) v.entries) v.free
 
   pub pushes : (s : State K V) (g first n : Node) (h : Held K V) (len spare : ℕ) (v : Ring K V)
       (place : Option Node)

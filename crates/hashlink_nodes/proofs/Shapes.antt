@@ -109,7 +109,8 @@ module _ {K V : Type 0} where
         → IsShaped s g first ns fs → Adds n o s s' → length ns + length fs + 1 < 2 ^ 63
         → IsLoose s' g first ns fs n
     add_loose s' ns fs n o h a few =
-        let off : IsOff n (g ∷ (ns ++ fs)) = all_as (λ m k. has_not s n m a.absent k) (g ∷ (ns ++ fs)) h.there in
+        let off : IsOff n (g ∷ (ns ++ fs))
+        = all_as (λ m k. has_not s n m a.absent k) (g ∷ (ns ++ fs)) h.there in
         let on_ring = all_left (Off n) (g ∷ ns) fs off in let on_free = all_right (Off n) (g ∷ ns) fs off in
         let holds : (m : Node) → same_node n m ≡ false → s'.held m ≡ s.held m
         = λ m k. ap (λ f. f m) a.held ∙ set_at_other s.held n m o (flip n m k) in

@@ -107,8 +107,8 @@ impl<K, V> Nodes<K, V> {
         Ok(node)
     }
 
-    /// Inserts an entry in a new node, where none is spare. Of the two blocks that it may allocate, the guard's
-    /// comes first, and stays if the other is refused.
+    /// Inserts an entry in a new node, where none is spare. Of the two blocks that it may allocate, the
+    /// guard's comes first, and stays if the other is refused.
     fn push_new(
         &mut self,
         place: Option<Node>,

@@ -6,8 +6,8 @@ ghost use Rattle.std.specs.Box.Ownership.{box_owns};
 use std::alloc::Allocator;
 use std::marker::Model;
 
-/// The block of a box, with the value in it and the allocator that it is freed by. It is not `Drop`, and its fields
-/// are hidden: code above that has one must free it or give it to an arena.
+/// The block of a box, with the value in it and the allocator that it is freed by. It is not `Drop`, and its
+/// fields are hidden: code above that has one must free it or give it to an arena.
 pub(crate) struct Loose<T, A: Allocator> {
     pub(super) at: *mut T,
     pub(super) alloc: A,

@@ -25,8 +25,8 @@ pub(super) struct Block<K, V> {
 // Beside its pair a block takes 24 bytes.
 const _: () = prove!(size_of::<Block<u64, u64>>() == 40);
 
-/// A link of a node, to the one after it or to the one before it. It is made leading nowhere, and only `store`
-/// changes it.
+/// A link of a node, to the one after it or to the one before it. It is made leading nowhere, and only
+/// `store` changes it.
 #[derive(Drop)]
 struct Link {
     to: Node,

@@ -59,11 +59,13 @@ hold-requires-clause-has g c = (first g (goal.at.hold-requires-clause-has g c).A
 pub unreachable-requires : goal.unreachable-requires
 unreachable-requires g c =
     none_some
-    (sym (first g (goal.at.unreachable-requires g c).After-unwrap-guard).1 ∙ sym c.hold.ensures.was ∙ c.in-Some.is)
+    (sym (first g (goal.at.unreachable-requires g c).After-unwrap-guard).1
+    ∙ sym c.hold.ensures.was ∙ c.in-Some.is)
 
 -- ---- it is ready, and goes in
 ready : (g : given.Over) (c : After-hold g)
-    → Ready (state_of c.hold.new.self) c.unwrap-guard.result c.next-first_spare.result c.self.inside.first_spare
+    → Ready (state_of c.hold.new.self) c.unwrap-guard.result c.next-first_spare.result
+    c.self.inside.first_spare
     (held c.args.number c.args.key c.args.value) c.self.inside.len (c.self.inside.spare - 1)
     (with_free c.args.self.now (drop 1 c.args.self.now.free))
 ready g c =
@@ -134,13 +136,19 @@ done g c push =
     push c.unwrap_or-next.ensures c.prev-prev.ensures c.attach.ensures
 
 pub invariant_of-self : goal.invariant_of-self
-invariant_of-self g c = let at = goal.at.invariant_of-self g c in (done g at.After-attach (goes g at.After-hold)).sound
+invariant_of-self g c =
+    let at = goal.at.invariant_of-self g c in
+    (done g at.After-attach (goes g at.After-hold)).sound
 
 pub returns-clause-entries : goal.returns-clause-entries
-returns-clause-entries g c = let at = goal.at.returns-clause-entries g c in (done g at.After-attach (goes g at.After-hold)).entries
+returns-clause-entries g c =
+    let at = goal.at.returns-clause-entries g c in
+    (done g at.After-attach (goes g at.After-hold)).entries
 
 pub returns-clause-free : goal.returns-clause-free
-returns-clause-free g c = let at = goal.at.returns-clause-free g c in (done g at.After-attach (goes g at.After-hold)).free
+returns-clause-free g c =
+    let at = goal.at.returns-clause-free g c in
+    (done g at.After-attach (goes g at.After-hold)).free
 
 pub returns-clause-apart : goal.returns-clause-apart
 returns-clause-apart g c =

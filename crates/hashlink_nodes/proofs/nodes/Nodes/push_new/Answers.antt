@@ -3,7 +3,8 @@ use Rattle.hashlink_nodes.specs.Cells.{state_of}
 use Rattle.hashlink_nodes.specs.Ring.{held, put_before}
 use Rattle.hashlink_nodes.specs.declared.cells.Cells.{Cells}
 use Rattle.hashlink_nodes.proofs.Sound.{Leaves, apart}
-use Rattle.hashlink_nodes.proofs.Pushing.{Ready, Pushes, Guarded, guarded, ready_made, pushes, pushed, push_writes}
+use Rattle.hashlink_nodes.proofs.Pushing.{Ready, Pushes, Guarded, guarded, ready_made, pushes, pushed}
+use Rattle.hashlink_nodes.proofs.Pushing.{push_writes}
 use Rattle.hashlink_nodes.proofs.nodes.Nodes.push_new.Given as given
 use Rattle.hashlink_nodes.proofs.nodes.Nodes.push_new.Goals.{In-Err-Some, In-Ok-make, After-attach}
 use Rattle.hashlink_nodes.proofs.nodes.Nodes.push_new.Goals as goal
@@ -21,7 +22,8 @@ ready g c =
 
 goes : (g : given.Over) (c : In-Ok-make g)
     → Pushes (state_of c.make.new.self) c.in-Ok.guard c.self.inside.first_spare c.in-Ok-make.node
-    (held c.args.number c.args.key c.args.value) c.self.inside.len c.self.inside.spare c.args.self.now c.args.place
+    (held c.args.number c.args.key c.args.value) c.self.inside.len c.self.inside.spare c.args.self.now
+    c.args.place
 goes g c =
     pushes (state_of c.make.new.self) c.in-Ok.guard c.self.inside.first_spare c.in-Ok-make.node
     (held c.args.number c.args.key c.args.value) c.self.inside.len c.self.inside.spare c.args.self.now
@@ -48,7 +50,8 @@ attach-requires-clause-next g c =
 
 done : (g : given.Over) (c : After-attach g)
     → Pushes (state_of c.make.new.self) c.in-Ok.guard c.self.inside.first_spare c.in-Ok-make.node
-    (held c.args.number c.args.key c.args.value) c.self.inside.len c.self.inside.spare c.args.self.now c.args.place
+    (held c.args.number c.args.key c.args.value) c.self.inside.len c.self.inside.spare c.args.self.now
+    c.args.place
     → Leaves (state_of c.attach.new.self) (Some c.in-Ok.guard) c.self.inside.first_spare
     (c.self.inside.len + 1) c.self.inside.spare
     (put_before c.args.place (c.in-Ok-make.node, held c.args.number c.args.key c.args.value)
@@ -62,15 +65,18 @@ done g c push =
 
 pub invariant_of-self-in-Ok-make : goal.invariant_of-self-in-Ok-make
 invariant_of-self-in-Ok-make g c =
-    let at = goal.at.invariant_of-self-in-Ok-make g c in (done g at.After-attach (goes g at.In-Ok-make)).sound
+    let at = goal.at.invariant_of-self-in-Ok-make g c in
+    (done g at.After-attach (goes g at.In-Ok-make)).sound
 
 pub returns-in-Ok-make-clause-entries : goal.returns-in-Ok-make-clause-entries
 returns-in-Ok-make-clause-entries g c =
-    let at = goal.at.returns-in-Ok-make-clause-entries g c in (done g at.After-attach (goes g at.In-Ok-make)).entries
+    let at = goal.at.returns-in-Ok-make-clause-entries g c in
+    (done g at.After-attach (goes g at.In-Ok-make)).entries
 
 pub returns-in-Ok-make-clause-free : goal.returns-in-Ok-make-clause-free
 returns-in-Ok-make-clause-free g c =
-    let at = goal.at.returns-in-Ok-make-clause-free g c in (done g at.After-attach (goes g at.In-Ok-make)).free ∙ c.requires.none
+    let at = goal.at.returns-in-Ok-make-clause-free g c in
+    (done g at.After-attach (goes g at.In-Ok-make)).free ∙ c.requires.none
 
 pub returns-in-Ok-make-clause-apart : goal.returns-in-Ok-make-clause-apart
 returns-in-Ok-make-clause-apart g c =
