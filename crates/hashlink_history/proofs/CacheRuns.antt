@@ -8,7 +8,8 @@ use Rattle.std.specs.List.{AllZip, IsDistinct}
 use Rattle.std.specs.Map.{lookup}
 use Rattle.std.specs.Set.{is_member}
 use Rattle.hashlink_model.specs.Entries.{IsEntries, without}
-use Rattle.hashlink_history.specs.CacheRuns.{CacheEvent, Insert, Use, Remove, Peek, key_of, is_use, is_removal}
+use Rattle.hashlink_history.specs.CacheRuns.{CacheEvent, Insert, Use, Remove, Peek, key_of, is_use}
+use Rattle.hashlink_history.specs.CacheRuns.{is_removal}
 use Rattle.hashlink_history.specs.CacheRuns.{NoUse}
 use Rattle.hashlink_history.specs.CacheRuns.{NoRemoval, used_keys, answer_to, after_event, after_events}
 use Rattle.hashlink_history.specs.CacheRuns.{answers}
@@ -16,7 +17,8 @@ use Rattle.hashlink_history.specs.History.{reuse_distance, HoldsRecent}
 use Rattle.hashlink_history.specs.Inclusion.{IsEndOf, SameKey, SameEntry, AlsoFinds, FindsTheSame}
 use Rattle.hashlink_model.proofs.Puts.{IsEntries-without}
 use Rattle.hashlink_model.proofs.Afterwards.{length-without_absent, length-without_there}
-use Rattle.hashlink_model.proofs.Caches.{cache_put-at_most, IsEntries-cache_put, IsEntries-cache_use, cache_use-at_most}
+use Rattle.hashlink_model.proofs.Caches.{cache_put-at_most, IsEntries-cache_put, IsEntries-cache_use}
+use Rattle.hashlink_model.proofs.Caches.{cache_use-at_most}
 use Rattle.hashlink_history.proofs.Ends.{end-insert, end-cache_use, end-remove, end-answers, same_end-insert}
 use Rattle.hashlink_history.proofs.Ends.{same_end-remove, same_end-answers}
 use Rattle.hashlink_history.proofs.Reuse.{HoldsRecent-start, HoldsRecent-cache_put, HoldsRecent-cache_use}

@@ -1,5 +1,6 @@
 //! Rows and laws of the nodes that a run needs at most.
-ghost use Rattle.std.specs.Prelude.{◌≡◌, ℕ, ◌+◌, ◌≤◌, max, Bool, Option, Result, Ok, List, [], ◌∷◌, ◌++◌, length};
+ghost use Rattle.std.specs.Prelude.{◌≡◌, ℕ, ◌+◌, ◌≤◌, max, Bool, Option, Result, Ok, List, [], ◌∷◌, ◌++◌};
+ghost use Rattle.std.specs.Prelude.{length};
 ghost use Rattle.hashlink_model.specs.Cache.{CacheState, CacheInserts};
 ghost use Rattle.hashlink_model.specs.Entries.{put};
 ghost use Rattle.hashlink_model.specs.MapState.{MapState, node_count, KeepsNodes};

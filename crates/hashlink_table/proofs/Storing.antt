@@ -1,6 +1,8 @@
 -- The slots: what is stored is what contracts see.
-use Rattle.std.proofs.Common.{◌≡◌, ℕ, zero, suc, ◌+◌, ◌-◌, ◌^◌, ◌<◌, ◌≤◌, ◌⊎◌, inl, inr, Bool, true, false, cond}
-use Rattle.std.proofs.Common.{◌++◌, eqb, List, [], ◌∷◌, length, map, take, drop, get_or, set, replicate, Option, Some}
+use Rattle.std.proofs.Common.{◌≡◌, ℕ, zero, suc, ◌+◌, ◌-◌, ◌^◌, ◌<◌, ◌≤◌, ◌⊎◌, inl, inr, Bool, true, false}
+use Rattle.std.proofs.Common.{cond}
+use Rattle.std.proofs.Common.{◌++◌, eqb, List, [], ◌∷◌, length, map, take, drop, get_or, set, replicate}
+use Rattle.std.proofs.Common.{Option, Some}
 use Rattle.std.proofs.Common.{None, refl, sym, ap, ◌∙◌, subst, arith}
 use Rattle.std.specs.Prelude.{is_none, vec_len, IfSome, IsSome}
 use Rattle.std.proofs.lemmas.Bool.{ne_eqb, false≢true}

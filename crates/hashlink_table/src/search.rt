@@ -5,7 +5,8 @@ ghost use Rattle.std.specs.Int.{IsPowerOfTwo};
 ghost use Rattle.hashlink_table.specs.declared.kept.Kept.{Kept};
 ghost use Rattle.hashlink_table.specs.Stored.{tag_of};
 ghost use Rattle.hashlink_table.specs.Slots.{lanes_of, may_be};
-ghost use Rattle.hashlink_table.specs.Chains.{chain_of, kept_at, kept_by, links_of, IsFilled, IsInPlace, IsLinked};
+ghost use Rattle.hashlink_table.specs.Chains.{chain_of, kept_at, kept_by, links_of, IsFilled, IsInPlace};
+ghost use Rattle.hashlink_table.specs.Chains.{IsLinked};
 
 use super::steps::Steps;
 use super::store::bucket::{base_of, bucket_of};

@@ -41,9 +41,9 @@ pub fn move_to<N: Copy>(cells: &mut Vec<Stored<N>>, mut block: Vec<Stored<N>>)
 /// Doubles the buckets. The overflow cells move to this block, and their nodes are taken out and returned. If it fails,
 /// no node changes, and the block may be kept.
 //
-// The overflow cells move before the buckets' cells, which then find room where the overflow cells were: so the heap stays
-// small, and `malloc` gives less of it back to the system, to take it again. They are emptied last, so that nothing
-// is lost where the buckets' cells get no memory.
+// The overflow cells move before the slots grow, which then find room where the overflow cells were: so the heap
+// stays small, and `malloc` gives less of it back to the system, to take it again. They are emptied last, so that
+// nothing is lost where the slots get no memory.
 pub fn double<N: Copy>(
     slots: &mut Slots<N>,
     cells: &mut Vec<Stored<N>>,

@@ -8,7 +8,8 @@ use lib.Count.{count_trailing_zeros}
 use lib.Lanes.{mask_l}
 use Rattle.hashlink_table.specs.declared.kept.Kept.{Kept}
 use Rattle.hashlink_table.specs.declared.store.cell.Cell.{Cell}
-use Rattle.hashlink_table.specs.Chains.{links_of, nodes_in, AreGrouped, AreTaken, IsFilled, IsInPlace, IsLinked}
+use Rattle.hashlink_table.specs.Chains.{links_of, nodes_in, AreGrouped, AreTaken, IsFilled, IsInPlace}
+use Rattle.hashlink_table.specs.Chains.{IsLinked}
 use Rattle.hashlink_table.specs.Slots.{lanes_of}
 use Rattle.hashlink_table.proofs.Groups.{group_within, grouped_in}
 use Rattle.hashlink_table.proofs.Masks.{all_taken, first_free, IsFree}

@@ -6,7 +6,8 @@ use Rattle.hashlink_table.specs.declared.kept.Kept.{Kept}
 use Rattle.hashlink_table.specs.Contents.{Contents}
 use Rattle.hashlink_table.specs.Chains.{nodes_in}
 use Rattle.hashlink_table.proofs.Sound.{sound-take}
-use Rattle.hashlink_table.proofs.Views.{no_cost, none_left, overflow_asked, slot_accepted, slot_asked, search_cost}
+use Rattle.hashlink_table.proofs.Views.{no_cost, none_left, overflow_asked, slot_accepted, slot_asked}
+use Rattle.hashlink_table.proofs.Views.{search_cost}
 use Rattle.hashlink_table.proofs.store.table.Table.remove_counted.Goals as goal
 
 pub seek-requires-clause-linked : goal.seek-requires-clause-linked
