@@ -33,7 +33,10 @@ impl Fault {
 impl fmt::Display for Fault {
     fn fmt<W: fmt::Write>(&self, f: &mut fmt::Formatter<W>) -> fmt::Result {
         match self {
-            Fault::Options => write!(f, "misscurve: no such option, see misscurve --help"),
+            Fault::Options => write!(
+                f,
+                "misscurve: an option is unknown or lacks its value, see misscurve --help"
+            ),
             Fault::Random => write!(f, "misscurve: no random number"),
             Fault::Reading => write!(f, "misscurve: reading failed"),
             Fault::Memory => write!(f, "misscurve: no memory"),
