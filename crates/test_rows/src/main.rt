@@ -4,7 +4,7 @@
 //!
 //! Its arguments name the files, and one of a file's rows alone by its number, as in `map.rows#3`. It ends
 //! with status 1 where an answer was wrong, and says of each row where that is, and what came. After a first
-//! argument `--say` it says each answer that comes and what then stands, which `bin/judge` compares with a
+//! argument `--say` it says each answer that comes and what then stands, which `tools/judge` compares with a
 //! plain list.
 #![tactic(auto)]
 

@@ -15,7 +15,7 @@ from pathlib import Path
 CALLS = 1_000_000  # of a round, about (crates/bench/src/plan.rt)
 #: the longest insert is left out: it is no mean of calls
 KINDS = ("maps", "caches", "sets", "texts")
-HERE = Path(__file__).resolve().parent
+PRELOAD = Path(__file__).resolve().parent.parent / "preload.c"
 
 
 def counts_of(program, kind, size, rounds, room):
@@ -24,7 +24,7 @@ def counts_of(program, kind, size, rounds, room):
     tool = ["valgrind", "--tool=callgrind", "--cache-sim=yes", "--branch-sim=yes", "--LL=1048576,16,64"]
     subprocess.run(
         [*tool, f"--callgrind-out-file={out}", program, kind, str(rounds), str(size)],
-        env={"LD_PRELOAD": f"{Path(room).parent}/dump.so"},
+        env={"LD_PRELOAD": f"{Path(room).parent}/counts.so"},
         stdout=subprocess.DEVNULL,
         stderr=subprocess.DEVNULL,
         check=True,
@@ -70,8 +70,8 @@ def ended(runs, size):
 def print_counts(size, programs):
     """Prints a table of what a call of each row takes, of the programs by their names."""
     with tempfile.TemporaryDirectory() as room:
-        library = ["cc", "-O1", "-shared", "-fPIC", "-o", f"{room}/dump.so", HERE / "dump.c", "-ldl"]
-        subprocess.run(library, check=True)
+        library = ["-shared", "-fPIC", "-o", f"{room}/counts.so", PRELOAD, "-ldl"]
+        subprocess.run(["cc", "-DCOUNTS", "-O1", *library], check=True)
         with ThreadPoolExecutor() as pool:
             all_runs = [begun(it, size, f"{room}/{name}", pool) for name, it in programs.items()]
             rows = [ended(runs, size) for runs in all_runs]

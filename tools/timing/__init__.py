@@ -1,0 +1,1 @@
+"""What `tools/bench` measures, counts and draws (`docs/dev/speed.md`)."""
