@@ -297,7 +297,8 @@ module _ {K : Type 0} (eq : K → K → Bool) (laws : IsEquivalence eq) where
   Counts-alike used old new k q d t h counted =
       let s = h counted in
       let test : eq k ≡ eq q = fun_ext (λ y. laws.congr k q y t) in
-      let unique : (z : K) → unique_keys eq (used ++ z ∷ []) ≡ remove_key (eq z) (unique_keys eq used) ++ z ∷ []
+      let unique : (z : K)
+      → unique_keys eq (used ++ z ∷ []) ≡ remove_key (eq z) (unique_keys eq used) ++ z ∷ []
       = unique_keys-push eq laws used in (
         record {
           keys = subst (Alike new.keys)

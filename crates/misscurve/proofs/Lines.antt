@@ -1,7 +1,7 @@
 -- A trace, read line by line.
 use Rattle.std.proofs.Common.{◌≡◌, ℕ, suc, ◌-◌, ◌<◌, Bool, true, false, cond, ◌&&◌, List, [], ◌∷◌}
-use Rattle.std.proofs.Common.{◌++◌, length, take, map, filter, Option, None, Some, IfSome, refl, sym, ap, ap₂}
-use Rattle.std.proofs.Common.{◌∙◌}
+use Rattle.std.proofs.Common.{◌++◌, length, take, map, filter, Option, None}
+use Rattle.std.proofs.Common.{Some, IfSome, refl, sym, ap, ap₂, ◌∙◌}
 use Rattle.std.proofs.Common.{subst, arith, append_assoc, eqb, get_or, nat_lt, nat_eq}
 use Rattle.std.proofs.Common.{◌||◌, true≢false}
 use Rattle.std.specs.List.{list_any}
@@ -14,8 +14,8 @@ use Rattle.std.proofs.lemmas.List.{append-nil, map-append}
 use Rattle.std.proofs.lemmas.List.Elements.{filter-append}
 use Rattle.hashlink_curve.specs.Curve.{CurveState, Counted}
 use Rattle.hashlink_curve.proofs.MappedKeys.{Counted-map}
-use Rattle.misscurve.specs.Trace.{CountsLine, CountsTrace, begun_with, is_picked, lines_of, of_bytes}
-use Rattle.misscurve.specs.Trace.{same_bytes}
+use Rattle.misscurve.specs.Trace.{CountsLine, CountsTrace, begun_with}
+use Rattle.misscurve.specs.Trace.{is_picked, lines_of, of_bytes, same_bytes}
 
 -- ---- the first line
 
@@ -120,7 +120,9 @@ module _ {A : Type 0} (parts : ℕ) (trace : List ℕ) where
         rest = drop_through 10 h.rest;
         is = after;
         lines = h.lines ++ line ∷ [];
-        split = h.split ∙ ap (λ ls. h.lines ++ ls) (next ∙ ap (λ l. l ∷ lines_of (drop_through 10 h.rest)) (sym line_is))
+        split = h.split
+            ∙ ap (λ ls. h.lines ++ ls)
+            (next ∙ ap (λ l. l ∷ lines_of (drop_through 10 h.rest)) (sym line_is))
             ∙ sym (append_assoc h.lines (line ∷ []) (lines_of (drop_through 10 h.rest)));
         used = h.used ++ more.0;
         keys = map-append (λ (k : Vec ℕ A). k.items) h.used more.0

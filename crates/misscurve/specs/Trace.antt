@@ -42,7 +42,8 @@ module _ {A : Type 0} where
 
   -- the curve has counted the lines of the trace that are in the part that is read
   abbrev pub CountsTrace : ℕ → List ℕ → CurveState (Vec ℕ A) → Type 0
-  CountsTrace parts trace s = Counted (pointwise nat_eq) (filter (is_picked parts) (lines_of trace)) (of_bytes s)
+  CountsTrace parts trace s =
+      Counted (pointwise nat_eq) (filter (is_picked parts) (lines_of trace)) (of_bytes s)
 
   -- it has counted the line besides, if that is in the part
   abbrev pub CountsLine : ℕ → List ℕ → CurveState (Vec ℕ A) → CurveState (Vec ℕ A) → Type 0

@@ -38,8 +38,8 @@ fn down(ratio: u64) -> u64 {
 }
 
 /// Writes the picture: to the right the capacity, doubled at each line, and upwards the ratio of misses. The
-/// dashed line is that of the first uses of the keys, which every cache misses. Where one part of the keys was
-/// read, each number but the ratios is times the parts.
+/// dashed line is that of the first uses of the keys, which every cache misses. Where one part of the keys
+/// was read, each number but the ratios is times the parts.
 pub fn write_picture<W: Write, K: Eq + Hash, S: BuildHasher>(
     writer: &mut W,
     curve: &MissCurve<K, S>,

@@ -1,5 +1,5 @@
-//! What is written in each form. The numbers are worked by hand: of `a b a a c b` the first uses are misses at
-//! every capacity, and between the others and the uses before them stand one, no and two other keys.
+//! What is written in each form. The numbers are worked by hand: of `a b a a c b` the first uses are misses
+//! at every capacity, and between the others and the uses before them stand one, no and two other keys.
 use crate::answers::answer;
 use crate::faults::Fault;
 use crate::options::{Form, Options};
