@@ -79,7 +79,7 @@ impl Hash for Counted {
 }
 
 /// A number whose comparisons are counted there.
-fn counted(number: u64, comparisons: &Rc<Cell<u64>>) -> Result<Counted, AllocError> {
+fn number_with_count(number: u64, comparisons: &Rc<Cell<u64>>) -> Result<Counted, AllocError> {
     Ok(Counted {
         number,
         comparisons: comparisons.clone()?,
@@ -93,7 +93,7 @@ type Numbers = LinkedHashMap<Counted, u64, OwnNumber>;
 fn insert_each(map: &mut Numbers, comparisons: &Rc<Cell<u64>>) -> Result<bool, AllocError> {
     let mut all = true;
     for number in 1..501u64 {
-        all &= map.insert(counted(number, comparisons)?, number) == Ok(None);
+        all &= map.insert(number_with_count(number, comparisons)?, number) == Ok(None);
     }
     Ok(all)
 }
@@ -102,7 +102,7 @@ fn insert_each(map: &mut Numbers, comparisons: &Rc<Cell<u64>>) -> Result<bool, A
 fn get_each(map: &Numbers, comparisons: &Rc<Cell<u64>>) -> Result<bool, AllocError> {
     let mut all = true;
     for number in 1..501u64 {
-        all &= map.get(&counted(number, comparisons)?) == Some(&number);
+        all &= map.get(&number_with_count(number, comparisons)?) == Some(&number);
     }
     Ok(all)
 }
