@@ -25,6 +25,7 @@ mod large;
 mod lower;
 #[cfg(test)]
 mod no_size;
+pub mod raw_insert;
 #[cfg(test)]
 mod rooms;
 #[cfg(test)]

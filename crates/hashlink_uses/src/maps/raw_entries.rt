@@ -1,5 +1,5 @@
 //! Values that raw entries lend, entries that are found by a hash, and what is known of a map afterwards.
-ghost use Rattle.std.specs.Prelude.{◌≡◌, IfErr, IsFalse, IsTrue, Ok, false, is_some};
+ghost use Rattle.std.specs.Prelude.{◌≡◌, IsFalse, IsTrue, is_some};
 ghost use Rattle.std.specs.Map.{lookup};
 ghost use Rattle.hashlink.specs.Keyed.{entries_of, state_of};
 ghost use Rattle.hashlink.specs.Steps.{RemovesKey, with_value_of};
@@ -60,24 +60,5 @@ pub fn take_by_hash<K: Eq + Hash, V, S: BuildHasher>(
     match map.raw_entry_from_hash(hash, |stored| key == stored) {
         RawEntryMut::Occupied(entry) => Some(entry.remove_entry()),
         RawEntryMut::Vacant(_) => None,
-    }
-}
-
-/// Inserts a number under another at the back, by a raw entry, if the key is absent, and returns whether it
-/// was.
-pub fn put_number<S: BuildHasher>(
-    map: &mut LinkedHashMap<u64, u64, S>,
-    key: u64,
-    value: u64,
-) -> Result<bool, (u64, u64)>
-    ensures there { result ≡ Ok false → map.new ≡ map.old }
-    ensures handed_back { IfErr result (λ pair. pair ≡ (key, value)) }
-{
-    match map.raw_entry_of(&key) {
-        RawEntryMut::Occupied(_) => Ok(false),
-        RawEntryMut::Vacant(entry) => {
-            entry.insert(key, value)?;
-            Ok(true)
-        }
     }
 }
