@@ -1,27 +1,30 @@
 -- One block is taken out of an arena's and put back. Assumes `Logic`.
-use Rattle.std.proofs.Common.{◌≡◌, ◌<◌, arith, Bool, true, false, cond, List, [], ◌∷◌, Option, None, Some}
+use Rattle.std.proofs.Common.{◌≡◌, ℕ, ◌+◌, ◌^◌, ◌<◌, arith, Bool, true, false, cond, List, [], ◌∷◌, Option}
+use Rattle.std.proofs.Common.{None, Some}
 use Rattle.std.proofs.Common.{IsSome}
 use Rattle.std.proofs.Common.{refl, sym, subst}
-use Rattle.std.specs.Map.{lookup, remove_entry, set_value}
+use Rattle.std.specs.Map.{lookup, remove_entry}
+use Rattle.std.specs.Prelude.{IfSome}
+use denote.Steps.{nothing}
 use seplogic.Ra.Ura.{Ura}
 use base.Logic.{ent, sep, via, fst∗, snd∗, never, never_e}
 use base.Fml.{Fml, Lft, fat, froom}
 use types.Logic.{Logic, sem}
 use types.Kit.{Item, Goal, Seq, ‵, raw, prop, mean, some, ◌⊛◌, ◌$◌, ◌∵◌, !, qed, by, move, keep, use1, use2}
-use types.Kit.{pick}
-use types.Kit.{split, fsplit, fjoin, rewrite, done}
-use prog.Memory.{size}
+use types.Kit.{pick, drop, flt_l, flt_i, Step, step}
+use types.Kit.{split, fsplit, fsplit3, fjoin, rewrite, done}
 use prog.Model.{Model}
+use mir.Syntax.{Ty}
 use mir.Val.{Val}
 use base.Fraction.{full_share}
 use contract.Monad.{fact, fact_i, fact_use}
-use denote.Param.{param, layout}
+use denote.Memory.{lone}
 use borrow.Table.OneValue.{part_out}
 use denote.RattleType.{RattleType}
 use denote.RawPtr.{Ptr, block_ptr, null_ptr}
-use denote.Struct.Lending.{lent_at}
-use Rattle.std.specs.Box.Ownership.{box_owns}
-use Rattle.hashlink_nodes.specs.Ownership.{blocks_lent, blocks_own, free_right}
+use Rattle.hashlink_nodes.specs.Ownership.{block_lent, block_owns, blocks_lent, blocks_own, links_offset}
+use Rattle.hashlink_nodes.specs.Ownership.{is_small, Links}
+use Rattle.hashlink_nodes.specs.Kept.{Kept, alter, entry_in}
 use Rattle.hashlink_nodes.specs.Node.{same_node, eq-same_node}
 use Rattle.hashlink_nodes.specs.declared.node.Node.{Node}
 
@@ -33,15 +36,21 @@ found None t = absurd (cc t)
 some_eq : {X : Type 0} {x y : X} → Some x ≡ Some y → x ≡ y
 some_eq e = cc
 
+-- and the entry of what was found
+pub found_entry : {T : Type 0} (o : Option (Kept T)) → IsSome (entry_in o)
+    → (k : Kept T) × (e : ℕ × T) × (o ≡ Some k) × (k.entry ≡ Some e)
+found_entry None t = absurd (cc t)
+found_entry (Some k) t = let e = found k.entry t in (k, e.0, refl, e.1)
+
 module _ (R : RattleType) {M : Type 1} {𝓤 : Ura M} (𝓛 : Logic 𝓤) (n : Node) where
   abbrev Entries : Type 0
-  Entries = List (Node × R.Denot)
+  Entries = List (Node × Kept R.Denot)
 
-  abbrev pub One : R.Denot → Fml
-  One x = box_owns free_right R n.at x
+  abbrev pub One : Kept R.Denot → Fml
+  One x = block_owns R n.at x
 
   -- the block of n comes out
-  pub blocks_cut : (bs : Entries) (x : R.Denot) → lookup (same_node n) bs ≡ Some x
+  pub blocks_cut : (bs : Entries) (x : Kept R.Denot) → lookup (same_node n) bs ≡ Some x
       → ent 𝓤 (sem 𝓛 (blocks_own R bs))
       (sep 𝓤 (sem 𝓛 (One x)) (sem 𝓛 (blocks_own R (remove_entry (same_node n) bs))))
   blocks_cut [] x e = absurd (cc e)
@@ -53,7 +62,7 @@ module _ (R : RattleType) {M : Type 1} {𝓤 : Ura M} (𝓛 : Logic 𝓤) (n : N
         | true ↦ λ same at. let eb : b.0 ≡ n = sym (eq-same_node n b.0 same) in let ex : b.1
             ≡ x = some_eq at in
             qed 𝓛 (‵ (blocks_own R (b ∷ bs)) ∷ []) ∵ fsplit ! $ rewrite ! 0
-            (λ (c : Node × R.Denot). ‵ (box_owns free_right R c.0.at c.1)) (λ i. (eb i, ex i)) refl $ done !
+            (λ (c : Node × Kept R.Denot). ‵ (block_owns R c.0.at c.1)) (λ i. (eb i, ex i)) refl $ done !
         | false ↦ λ _ at. qed 𝓛 (‵ (blocks_own R (b ∷ bs)) ∷ []) ∵ fsplit ! $ move ! (1 ∷ []) $
             use1 𝓛 (‵ (One x) ⊛ ‵ (blocks_own R (remove_entry (same_node n) bs)))
             (blocks_cut bs x at) $ split ! $
@@ -61,81 +70,87 @@ module _ (R : RattleType) {M : Type 1} {𝓤 : Ura M} (𝓛 : Logic 𝓤) (n : N
       ]) refl e
 
   -- a block goes to the place of the one that came out
-  pub blocks_glue : (bs : Entries) (x w : R.Denot) → lookup (same_node n) bs ≡ Some x
-      → ent 𝓤 (sep 𝓤 (sem 𝓛 (One w)) (sem 𝓛 (blocks_own R (remove_entry (same_node n) bs))))
-      (sem 𝓛 (blocks_own R (set_value (same_node n) bs w)))
-  blocks_glue [] x w e = absurd (cc e)
-  blocks_glue (b ∷ bs) x w e =
+  pub blocks_glue : (bs : Entries) (x : Kept R.Denot) (f : Kept R.Denot → Kept R.Denot)
+      → lookup (same_node n) bs ≡ Some x
+      → ent 𝓤 (sep 𝓤 (sem 𝓛 (One (f x))) (sem 𝓛 (blocks_own R (remove_entry (same_node n) bs))))
+      (sem 𝓛 (blocks_own R (alter (same_node n) f bs)))
+  blocks_glue [] x f e = absurd (cc e)
+  blocks_glue (b ∷ bs) x f e =
       (elim (same_node n b.0) as
       (λ (y : Bool). same_node n b.0 ≡ y → cond y (Some b.1) (lookup (same_node n) bs) ≡ Some x
-      → ent 𝓤 (sep 𝓤 (sem 𝓛 (One w)) (sem 𝓛 (blocks_own R (cond y bs (b ∷ remove_entry (same_node n) bs)))))
-      (sem 𝓛 (blocks_own R (cond y ((b.0, w) ∷ bs) (b ∷ set_value (same_node n) bs w))))) [
-        | true ↦ λ same at. let eb : n ≡ b.0 = eq-same_node n b.0 same in
-            qed 𝓛 (‵ (One w) ∷ ‵ (blocks_own R bs) ∷ []) ∵ rewrite ! 0
-            (λ (m : Node). ‵ (box_owns free_right R m.at w)) eb refl $ fjoin ! $ done !
-        | false ↦ λ _ at. qed 𝓛 (‵ (One w) ∷ ‵ (blocks_own R (b ∷ remove_entry (same_node n) bs)) ∷ []) ∵
+      → ent 𝓤 (sep 𝓤 (sem 𝓛 (One (f x))) (sem 𝓛 (blocks_own R (cond y bs (b ∷ remove_entry
+      (same_node n) bs)))))
+      (sem 𝓛 (blocks_own R (cond y ((b.0, f b.1) ∷ bs) (b ∷ alter (same_node n) f bs))))) [
+        | true ↦ λ same at. let eb : n ≡ b.0 = eq-same_node n b.0 same in let ex : x ≡ b.1
+            = sym (some_eq at) in
+            qed 𝓛 (‵ (One (f x)) ∷ ‵ (blocks_own R bs) ∷ []) ∵ rewrite ! 0
+            (λ (c : Node × Kept R.Denot). ‵ (block_owns R c.0.at (f c.1))) (λ i. (eb i, ex i)) refl $
+            fjoin ! $ done !
+        | false ↦ λ _ at. qed 𝓛 (‵ (One (f x)) ∷ ‵ (blocks_own R (b ∷ remove_entry (same_node n) bs)) ∷ []) ∵
             move ! (1 ∷ []) $ fsplit ! $ move ! (2 ∷ 1 ∷ []) $
-            use2 𝓛 (‵ (blocks_own R (set_value (same_node n) bs w))) (blocks_glue bs x w at) $
+            use2 𝓛 (‵ (blocks_own R (alter (same_node n) f bs))) (blocks_glue bs x f at) $
             move ! (1 ∷ 0 ∷ []) $
             fjoin ! $ done !
       ]) refl e
 
   -- a `&` to the arena shows the value of n
-  pub block_seen : (κ : Lft) (bs : Entries) (x : R.Denot) → lookup (same_node n) bs ≡ Some x
-      → ent 𝓤 (sem 𝓛 (blocks_lent R bs κ)) (sem 𝓛 (lent_at R n.at x κ))
+  pub block_seen : (κ : Lft) (bs : Entries) (x : Kept R.Denot) → lookup (same_node n) bs ≡ Some x
+      → ent 𝓤 (sem 𝓛 (blocks_lent R bs κ)) (sem 𝓛 (block_lent R n.at x κ))
   block_seen κ [] x e = absurd (cc e)
   block_seen κ (b ∷ bs) x e =
       (elim (same_node n b.0) as
       (λ (y : Bool). same_node n b.0 ≡ y → cond y (Some b.1) (lookup (same_node n) bs) ≡ Some x
-      → ent 𝓤 (sem 𝓛 (blocks_lent R (b ∷ bs) κ)) (sem 𝓛 (lent_at R n.at x κ))) [
+      → ent 𝓤 (sem 𝓛 (blocks_lent R (b ∷ bs) κ)) (sem 𝓛 (block_lent R n.at x κ))) [
         | true ↦ λ same at. let eb : b.0 ≡ n = sym (eq-same_node n b.0 same) in let ex : b.1
             ≡ x = some_eq at in
-            subst (λ (c : Node × R.Denot). ent 𝓤 (sem 𝓛 (blocks_lent R (b ∷ bs) κ))
-            (sem 𝓛 (lent_at R c.0.at c.1 κ)))
-            (λ i. (eb i, ex i)) (fst∗ 𝓤 (sem 𝓛 (lent_at R b.0.at b.1 κ)) (sem 𝓛 (blocks_lent R bs κ)))
+            subst (λ (c : Node × Kept R.Denot). ent 𝓤 (sem 𝓛 (blocks_lent R (b ∷ bs) κ))
+            (sem 𝓛 (block_lent R c.0.at c.1 κ)))
+            (λ i. (eb i, ex i)) (fst∗ 𝓤 (sem 𝓛 (block_lent R b.0.at b.1 κ)) (sem 𝓛 (blocks_lent R bs κ)))
         | false ↦ λ _ at. via 𝓤 (sem 𝓛 (blocks_lent R bs κ))
-            (snd∗ 𝓤 (sem 𝓛 (lent_at R b.0.at b.1 κ)) (sem 𝓛 (blocks_lent R bs κ))) (block_seen κ bs x at)
+            (snd∗ 𝓤 (sem 𝓛 (block_lent R b.0.at b.1 κ)) (sem 𝓛 (blocks_lent R bs κ))) (block_seen κ bs x at)
       ]) refl e
 
-module _ (T : RattleType) {M : Type 1} {𝓤 : Ura M} (𝓛 : Logic 𝓤) (𝓜 : Model 𝓤 𝓛.H)
-    (sized : 0 < size (layout T)) where
-  abbrev R : RattleType
-  R = param 0 T
+module _ (R : RattleType) {M : Type 1} {𝓤 : Ura M} (𝓛 : Logic 𝓤) (𝓜 : Model 𝓤 𝓛.H) where
+  abbrev τ : Ty
+  τ = lone Links.mir
 
-  -- no two values of a type with bytes lie at one place
-  clash : (p : Ptr) (x y : R.Denot)
-      → ent 𝓤 (sep 𝓤 (sem 𝓛 (box_owns free_right R p x)) (sem 𝓛 (box_owns free_right R p y))) (never 𝓤)
+  -- no two blocks lie at one place, since their links have bytes
+  clash : (p : Ptr) (x y : Kept R.Denot)
+      → ent 𝓤 (sep 𝓤 (sem 𝓛 (block_owns R p x)) (sem 𝓛 (block_owns R p y))) (never 𝓤)
   clash (block_ptr b o) x y =
-      let Cell : R.Denot → Item 𝓤
-      = λ w. some (λ (v : Val). ‵ (fat full_share (layout T) b o v) ⊛ ‵ (R.own_val w (v ∷ []))) in
-      qed 𝓛 (‵ (box_owns free_right R (block_ptr b o) x) ∷ ‵ (box_owns free_right R (block_ptr b o) y) ∷ []) ∵
-      fsplit
-      ! $ move ! (2 ∷ []) $ fsplit ! $ keep ! (0 ∷ 2 ∷ []) $
-      use1 𝓛 (Cell y) (part_out 𝓛 R refl full_share y b o) $ pick ! (λ v. split ! $ move ! (2 ∷ []) $
-      use1 𝓛 (Cell x) (part_out 𝓛 R refl full_share x b o) $ pick ! (λ w. split ! $ keep ! (0 ∷ 2 ∷ []) $
-      use1 𝓛 (‵ (froom (layout T) b o)) (𝓛.laws.at_room (layout T) b o w) $
+      let at = o + links_offset R in
+      let Cell : Kept R.Denot → Item 𝓤
+      = λ k. some (λ (v : Val). ‵ (fat full_share τ b at v) ⊛ ‵ (Links.own_val k.links (v ∷ []))) in
+      qed 𝓛 (‵ (block_owns R (block_ptr b o) x) ∷ ‵ (block_owns R (block_ptr b o) y) ∷ []) ∵
+      fsplit3 ! $ move ! (2 ∷ []) $ fsplit ! $ keep ! (0 ∷ 4 ∷ []) $ move ! (1 ∷ []) $ fsplit3 ! $
+      move ! (2 ∷ []) $
+      fsplit ! $ keep ! (0 ∷ 4 ∷ []) $
+      use1 𝓛 (Cell y) (part_out 𝓛 Links refl full_share y.links b at) $ pick ! (λ v. split ! $
+      move ! (2 ∷ []) $
+      use1 𝓛 (Cell x) (part_out 𝓛 Links refl full_share x.links b at) $ pick ! (λ w. split ! $
+      keep ! (0 ∷ 2 ∷ []) $
+      use1 𝓛 (‵ (froom τ b at)) (𝓛.laws.at_room τ b at w) $
       by !
-      (𝓜.room_at (layout T) (layout T) b o o o full_share v (omega arith, omega arith)
+      (𝓜.room_at τ τ b at at at full_share v (omega arith, omega arith)
       (omega arith, omega arith))))
   clash null_ptr x y =
-      qed 𝓛 (‵ (box_owns free_right R null_ptr x) ∷ ‵ (box_owns free_right R null_ptr y) ∷ []) ∵
-      fsplit ! $ keep !
-      (0 ∷ []) $ done !
+      qed 𝓛 (‵ (block_owns R null_ptr x) ∷ ‵ (block_owns R null_ptr y) ∷ []) ∵
+      fsplit3 ! $ move ! (2 ∷ []) $ fsplit ! $ keep ! (0 ∷ []) $ done !
 
   -- a block that is owned beside an arena's is none of them
-  pub apart_from : (n : Node) (x : R.Denot) (bs : List (Node × R.Denot))
-      → ent 𝓤 (sep 𝓤 (sem 𝓛 (box_owns free_right R n.at x)) (sem 𝓛 (blocks_own R bs)))
+  pub apart_from : (n : Node) (x : Kept R.Denot) (bs : List (Node × Kept R.Denot))
+      → ent 𝓤 (sep 𝓤 (sem 𝓛 (block_owns R n.at x)) (sem 𝓛 (blocks_own R bs)))
       (fact 𝓤 (lookup (same_node n) bs ≡ None))
   apart_from n x [] = fact_i 𝓤 (lookup (same_node n) [] ≡ None) _ refl
   apart_from n x (b ∷ bs) = (elim (same_node n b.0) as (λ (y : Bool). same_node n b.0 ≡ y
-      → ent 𝓤 (sep 𝓤 (sem 𝓛 (box_owns free_right R n.at x)) (sem 𝓛 (blocks_own R (b ∷ bs))))
+      → ent 𝓤 (sep 𝓤 (sem 𝓛 (block_owns R n.at x)) (sem 𝓛 (blocks_own R (b ∷ bs))))
       (fact 𝓤 (cond y (Some b.1) (lookup (same_node n) bs) ≡ None))) [
         | true ↦ λ same. let eb : b.0 ≡ n = sym (eq-same_node n b.0 same) in
-            qed 𝓛 (‵ (box_owns free_right R n.at x) ∷ ‵ (blocks_own R (b ∷ bs)) ∷ []) ∵
+            qed 𝓛 (‵ (block_owns R n.at x) ∷ ‵ (blocks_own R (b ∷ bs)) ∷ []) ∵
             move ! (1 ∷ []) $ fsplit ! $
-            rewrite ! 0 (λ (m : Node). ‵ (box_owns free_right R m.at b.1)) eb refl $
+            rewrite ! 0 (λ (m : Node). ‵ (block_owns R m.at b.1)) eb refl $
             keep ! (0 ∷ 2 ∷ []) $ use2 𝓛 (raw (never 𝓤)) (clash n.at b.1 x) $ by ! (never_e 𝓤 _)
-        | false ↦ λ _. qed 𝓛 (‵ (box_owns free_right R n.at x) ∷ ‵ (blocks_own R (b ∷ bs)) ∷ []) ∵
+        | false ↦ λ _. qed 𝓛 (‵ (block_owns R n.at x) ∷ ‵ (blocks_own R (b ∷ bs)) ∷ []) ∵
             move ! (1 ∷ []) $ fsplit ! $ keep ! (2 ∷ 1 ∷ []) $ by ! (apart_from n x bs)
       ]) refl
 
@@ -148,3 +163,14 @@ module _ {M : Type 1} {𝓤 : Ura M} {𝓛 : Logic 𝓤} {K : Type 0} {Γ : List
       let shown : Seq K 𝓛 (i ∷ j ∷ Γ) (prop (fact 𝓤 φ)) = use2 𝓛 (raw (fact 𝓤 φ)) h $
       keep t (0 ∷ []) $ done t in
       record { prf = fact_use 𝓤 φ shown.prf (λ x. (k x).prf) }
+
+  -- what a number is below is learned
+  pub small_seen : (R : RattleType) → K → (e : Option (ℕ × R.Denot))
+      → (IfSome e (λ x. x.0 < 2 ^ 48) → Seq K 𝓛 Γ G) → Seq K 𝓛 (‵ (is_small R e) ∷ Γ) G
+  small_seen R t None k = drop t $ k tt
+  small_seen R t (Some e) k = flt_l t (λ small. k small)
+
+  pub small_shown : (R : RattleType) → K → (e : Option (ℕ × R.Denot)) → IfSome e (λ x. x.0 < 2 ^ 48)
+      → Step K 𝓛 (‵ (is_small R e) ∷ Γ) G Γ G
+  small_shown R t None small = step (λ s. nothing t $ s)
+  small_shown R t (Some e) small = step (λ s. flt_i t e.0 (2 ^ 48) small $ s)

@@ -1,35 +1,89 @@
--- A `&` to an arena is made where one to each of its values is. Assumes `Logic`.
-use Rattle.std.proofs.Common.{List, [], ◌∷◌}
+-- A `&` to an arena is made where one to each part of its blocks is. Assumes `Logic`.
+use Rattle.std.proofs.Common.{ℕ, List, [], ◌∷◌, Option, Some, None}
 use seplogic.Ra.Ura.{Ura}
-use base.Fml.{Lft, Incl, ftrue}
-use types.Logic.{Logic}
-use denote.RattleType.{RattleType, RowLaws}
-use denote.Param.Laws.{Laws}
-use denote.RawPtr.{lies_at}
 use base.Fraction.{full_share}
-use denote.Sharing.{ShrLaws}
-use denote.SharingLaws.{beside_shr_laws, nothing_shr_laws}
+use base.Fml.{Lft, Incl, ftrue, fsep}
+use types.Logic.{Logic}
+use contract.BorrowLft.{⊑_static}
+use denote.Builtin.{usize}
+use denote.Param.Laws.{Laws}
+use denote.Param.Shared.{Sharable, copy_shared}
+use denote.RattleType.{RattleType, RowLaws}
+use denote.RawPtr.{Ptr, lies_at}
+use denote.Sharing.{ShrLaws, said, beside}
+use denote.SharingLaws.{beside_shr_laws, nothing_shr_laws, said_shr_laws}
 use denote.Shares.{Shares-less}
-use denote.Struct.Lending.{Lends, lent_at, lent_at_shr_laws, Lends-lies, Lends-first, Lends-both}
+use denote.Struct.Field.{usize-field}
+use denote.Struct.Laws.{usize-copy}
+use denote.Struct.Lending.{Lends, lent_at, lent_at_shr_laws, Lends-lies, Lends-first, Lends-both, Lends-said}
 use denote.Struct.Lending.{Lends-nothing}
-use Rattle.std.specs.Box.Ownership.{box_owns}
-use Rattle.hashlink_nodes.specs.Ownership.{blocks_lent, blocks_own, free_right}
-use mir.Raw.{raw}
-use denote.Memory.{lone}
+use Rattle.hashlink_nodes.specs.Kept.{Kept, number_word}
+use Rattle.hashlink_nodes.specs.Ownership.{Links, blocks_lent, blocks_own, block_lent, block_owns, pair_lent}
+use Rattle.hashlink_nodes.specs.Ownership.{pair_owns, is_small, deed_owns, free_right, pair_of, number_of}
+use Rattle.hashlink_nodes.specs.Ownership.{links_of}
 use Rattle.hashlink_nodes.specs.declared.node.Node.{Node}
+use Rattle.hashlink_nodes.proofs.cells.links.Links.TheLaws as links_laws
+
+abbrev number_laws : Sharable usize-field
+number_laws = copy_shared usize-field usize-copy
+
+abbrev pub LL : Laws Links
+LL = links_laws.the_row_laws
 
 module _ (R : RattleType) (L : RowLaws R) where
-  pub blocks_lent_laws : (bs : List (Node × R.Denot)) → ShrLaws (blocks_lent R bs)
+  pair_lent_laws : (p : Ptr) (e : Option (ℕ × R.Denot)) → ShrLaws (pair_lent R p e)
+  pair_lent_laws p None = nothing_shr_laws
+  pair_lent_laws p (Some e) = lent_at_shr_laws R L (pair_of R p) e.1
+
+  small_laws : (e : Option (ℕ × R.Denot)) → ShrLaws (said (is_small R e))
+  small_laws None = said_shr_laws ftrue tt
+  small_laws (Some e) = said_shr_laws (is_small R (Some e)) tt
+
+  block_lent_laws : (p : Ptr) (k : Kept R.Denot) → ShrLaws (block_lent R p k)
+  block_lent_laws p k =
+      beside_shr_laws _ _ (pair_lent_laws p k.entry)
+      (beside_shr_laws _ _
+      (beside_shr_laws _ _ (small_laws k.entry)
+      (lent_at_shr_laws usize number_laws.shr_laws (number_of R p) (number_word k.entry)))
+      (lent_at_shr_laws Links LL.shr_laws (links_of R p) k.links))
+
+  pub blocks_lent_laws : (bs : List (Node × Kept R.Denot)) → ShrLaws (blocks_lent R bs)
   blocks_lent_laws [] = nothing_shr_laws
-  blocks_lent_laws (b ∷ bs) = beside_shr_laws _ _ (lent_at_shr_laws R L b.0.at b.1) (blocks_lent_laws bs)
+  blocks_lent_laws (b ∷ bs) = beside_shr_laws _ _ (block_lent_laws b.0.at b.1) (blocks_lent_laws bs)
 
 module _ {M : Type 1} {𝓤 : Ura M} (𝓛 : Logic 𝓤) (l : Lft) (R : RattleType) (L : Laws R)
     (inc : Incl l R.lives) where
-  pub Lends-blocks : (bs : List (Node × R.Denot)) → Lends 𝓛 (blocks_own R bs) (blocks_lent R bs) l
+  Lends-pair : (p : Ptr) (e : Option (ℕ × R.Denot)) → Lends 𝓛 (pair_owns R p e) (pair_lent R p e) l
+  Lends-pair p None = Lends-nothing 𝓛 (pair_owns R p None) l
+  Lends-pair p (Some e) =
+      Lends-lies 𝓛 R l (pair_of R p) e.1 (Shares-less 𝓛 R R.lives l inc (L.shares 𝓛) e.1)
+
+  Lends-small : (e : Option (ℕ × R.Denot)) → Lends 𝓛 (is_small R e) (said (is_small R e)) l
+  Lends-small None = Lends-said 𝓛 ftrue tt l
+  Lends-small (Some e) = Lends-said 𝓛 (is_small R (Some e)) tt l
+
+  Lends-block : (p : Ptr) (k : Kept R.Denot) → Lends 𝓛 (block_owns R p k) (block_lent R p k) l
+  Lends-block p k =
+      let number = lies_at usize full_share (number_of R p) (number_word k.entry) in
+      let links = lies_at Links full_share (links_of R p) k.links in
+      let number_lent = lent_at usize (number_of R p) (number_word k.entry) in
+      let links_lent = lent_at Links (links_of R p) k.links in
+      let numbered = fsep (is_small R k.entry) number in
+      let numbered_lent = beside (said (is_small R k.entry)) number_lent in
+      let linked = fsep links (deed_owns R free_right p) in
+      Lends-both 𝓛 (pair_owns R p k.entry) (fsep numbered linked) (pair_lent R p k.entry)
+      (beside numbered_lent links_lent) l (Lends-pair p k.entry)
+      (Lends-both 𝓛 numbered linked numbered_lent links_lent l
+      (Lends-both 𝓛 (is_small R k.entry) number (said (is_small R k.entry)) number_lent l
+      (Lends-small k.entry)
+      (Lends-lies 𝓛 usize l (number_of R p) (number_word k.entry)
+      (Shares-less 𝓛 usize usize.lives l (⊑_static l) (number_laws.shares M 𝓤 𝓛) (number_word k.entry))))
+      (Lends-first 𝓛 links (deed_owns R free_right p) links_lent l
+      (Lends-lies 𝓛 Links l (links_of R p) k.links
+      (Shares-less 𝓛 Links Links.lives l (⊑_static l) (LL.shares 𝓛) k.links))))
+
+  pub Lends-blocks : (bs : List (Node × Kept R.Denot)) → Lends 𝓛 (blocks_own R bs) (blocks_lent R bs) l
   Lends-blocks [] = Lends-nothing 𝓛 ftrue l
   Lends-blocks (b ∷ bs) =
-      Lends-both 𝓛 (box_owns free_right R b.0.at b.1) (blocks_own R bs) (lent_at R b.0.at b.1)
-      (blocks_lent R bs) l
-      (Lends-first 𝓛 (lies_at R full_share b.0.at b.1) (free_right (raw (lone R.mir)) b.0.at)
-      (lent_at R b.0.at b.1) l
-      (Lends-lies 𝓛 R l b.0.at b.1 (Shares-less 𝓛 R R.lives l inc (L.shares 𝓛) b.1))) (Lends-blocks bs)
+      Lends-both 𝓛 (block_owns R b.0.at b.1) (blocks_own R bs) (block_lent R b.0.at b.1) (blocks_lent R bs) l
+      (Lends-block b.0.at b.1) (Lends-blocks bs)

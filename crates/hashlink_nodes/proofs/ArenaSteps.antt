@@ -1,17 +1,24 @@
 -- What the walks of the arena's functions share. Assumes `Logic`.
-use Rattle.std.proofs.Common.{◌≡◌, List, [], ◌∷◌, ◌++◌, refl, subst}
+use Rattle.std.proofs.Common.{◌≡◌, ◌^◌, List, [], ◌∷◌, ◌++◌, refl, subst}
 use seplogic.Ra.Ura.{Ura}
-use mir.Val.{Val, vstruct, vcons, vnil, of_list}
-use base.Logic.{ent, emp}
+use lib.Dec.{lit<}
+use mir.Syntax.{Ty, int_big, w64}
+use mir.Val.{Fits, Val, vint, vstruct, vcons, vnil, of_list}
+use base.Logic.{ent, emp, guard_i, via}
+use prog.Wp.{Env}
+use types.Run.{Opd}
 use types.Logic.{Logic, sem}
-use types.Kit.{Item, Goal, Seq, Step, step, ‵, ◌$◌, drop, fsplit, fjoin, fpick, fpack, feq_i, feq_l}
+use types.Kit.{Item, Goal, Seq, Step, step, ‵, ◌$◌, drop, fsplit, fjoin, fpick, fpack, feq_i, feq_l, rewrite}
 use denote.RattleType.{RattleType, Valss}
 use denote.RawPtr.{Ptr, RawPtr, ptr_val}
 use denote.Shadow.{makes_shadow}
-use denote.Steps.{nothing}
+use denote.Laws.{Typed, Is, shows}
+use denote.Param.{layout}
+use denote.Param.Laws.{Laws}
+use denote.Steps.{nothing, peeks}
 use denote.Struct.Struct.{Shape, Struct, within}
 use denote.Struct.Owning.{shape}
-use Rattle.std.proofs.RcSteps.{word}
+use Rattle.std.proofs.RcSteps.{Good, word}
 use Rattle.hashlink_nodes.specs.contracts.arena.Arena as A
 use Rattle.hashlink_nodes.specs.contracts.node.Node as N
 
@@ -51,3 +58,27 @@ module _ {M : Type 1} {𝓤 : Ura M} {𝓛 : Logic 𝓤} {K : Type 0} {Γ : List
       nothing t $ feq_i t (List Val) (ptr_val c ∷ []) (ptr_val c ∷ []) refl $ fjoin t $ feq_i t (List Val)
       (word c ∷ []) (word c ∷ []) refl $ fjoin t $
       fpack t (Valss (RawPtr ∷ [])) (within one_field (c, tt) (word c ∷ [])) (ptr_val c ∷ [], tt) $ s)
+
+alone : (τ : Ty) (vs : List Val) → Typed (τ ∷ []) vs → (v : Val) × ((vs ≡ v ∷ []) × Good τ v)
+alone τ [] t = absurd t
+alone τ (v ∷ []) t = (v, (refl, t.0))
+alone τ (v ∷ w ∷ vs) t = absurd t.1
+
+module _ (R : RattleType) (L : Laws R) {M : Type 1} {𝓤 : Ura M} {𝓛 : Logic 𝓤} {K : Type 0}
+    {Γ : List (Item 𝓤)} {G : Goal 𝓤 𝓛.H} where
+  -- what is owned of a value is one machine value, of its type
+  pub told : K → (x : R.Denot) (vs : List Val)
+      → ((v : Val) → vs ≡ v ∷ [] → Good (layout R) v → Seq K 𝓛 (‵ (R.own_val x (v ∷ [])) ∷ Γ) G)
+      → Seq K 𝓛 (‵ (R.own_val x vs) ∷ Γ) G
+  told t x vs k =
+      peeks t R (Is R) (shows 𝓛 R) x vs (λ is.
+      let one = alone (layout R) vs (subst (λ τs. Typed τs vs) L.one ((L.lawful 𝓛).typed x vs is)) in
+      rewrite t 0 (λ (us : List Val). ‵ (R.own_val x us)) one.1.0 refl $ k one.0 one.1.0 one.1.1)
+
+module _ {M : Type 1} {𝓤 : Ura M} {𝓛 : Logic 𝓤} {K : Type 0} {Γ : List (Item 𝓤)} {E : Env 𝓤 𝓛.H} where
+  -- the number of a block that has no pair, as it is written
+  pub no_entry : K → Opd K 𝓛 Γ E (int_big w64 (2 ^ 48)) (vint w64 (2 ^ 48))
+  no_entry t = record {
+    go = λ Kt h. via 𝓤 (Kt (vint w64 (2 ^ 48))) h
+        (guard_i 𝓤 (Fits w64 (2 ^ 48)) (Kt (vint w64 (2 ^ 48))) (record { fits = lit< tt }));
+  }

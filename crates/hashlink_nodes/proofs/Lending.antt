@@ -10,7 +10,7 @@ use Rattle.hashlink_nodes.specs.CellsLends.{cells_with}
 use Rattle.hashlink_nodes.specs.NodesLends.{with_value_at}
 use Rattle.hashlink_nodes.specs.Shape.{IsSound, ring_of}
 use Rattle.hashlink_nodes.specs.State.{hold}
-use Rattle.hashlink_nodes.specs.Ring.{Ring, Held, Holds, with_value}
+use Rattle.hashlink_nodes.specs.Ring.{Ring, Held, Holds, pair_of, with_value}
 use Rattle.hashlink_nodes.proofs.StateLemmas.{value_anew, block_found}
 use Rattle.hashlink_nodes.proofs.Changing.{held_anew, held_writes}
 use Rattle.hashlink_nodes.proofs.Sound.{InRing, Leaves, node_of}
@@ -28,7 +28,8 @@ module _ {K V : Type 0} (c : Cells K V) (guard : Option Node) (first : Node) (le
     written : state_of (cells_with c n w) ≡ hold n (Some (with_value lent-from.value w)) (state_of c)
     written =
         let found = block_found c n lent-from.value lent-from.holds in
-        value_anew c n w found.0 lent-from.value found.1.0 found.1.1
+        value_anew c n w (pair_of lent-from.value) found.0
+        ∙ ap (λ (h : Held K V). hold n (Some (with_value h w)) (state_of c)) found.1
 
     leaves : Leaves (state_of (cells_with c n w)) guard first len spare
         (set_value (same_node n) r.entries (with_value lent-from.value w)) r.free

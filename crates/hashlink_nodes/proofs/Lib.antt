@@ -16,3 +16,4 @@ pub mod Pushing
 pub mod Shapes
 pub mod Sound
 pub mod StateLemmas
+pub mod Walks

@@ -1,27 +1,34 @@
--- The machine values of a loose box. Assumes `Logic`.
-use Rattle.std.proofs.Common.{◌≡◌, ℕ, List, [], ◌∷◌, ◌++◌, refl, subst}
+-- The machine values of a loose block. Assumes `Logic`.
+use Rattle.std.proofs.Common.{◌≡◌, ℕ, ◌+◌, List, [], ◌∷◌, ◌++◌, refl, subst}
 use mathlib.Core.Bool.{true, ◌&&◌}
 use lib.Dec.{T}
 use seplogic.Ra.Ura.{Ura}
-use mir.Syntax.{impl, tnil, dnil}
+use mir.Syntax.{Ty, Tys, impl, tnil, tcons, dnil, ty_int, ty_struct, w64}
 use mir.Raw.{raw as bare}
+use base.Logic.{SProp, ent, sep, wand, apply∗}
+use base.Fml.{Fml, ftrue, fwand, froom}
+use prog.Model.{rooms_at}
+use denote.Memory.{lone}
 use mir.Val.{Val, vptr, vstruct, vcons, vnil, of_list, has_ty, WT}
-use base.Logic.{never, fst∗}
 use types.Logic.{Logic, sem}
-use types.Kit.{Item, Goal, Seq, Step, step, ‵, ◌$◌, move, drop, fsplit, fjoin, fpick, fpack, feq_i, feq_l}
+use types.Kit.{raw, ◌⊛◌, assume, fjoin3, by, group, split, split3, use1, use2}
+use types.Kit.{Item, Goal, Seq, Step, step, ‵, ◌$◌, ◌∵◌, !, qed, done, keep, move, drop, fsplit, fsplit3}
+use types.Kit.{fjoin}
+use types.Kit.{fpick, fpack, feq_i, feq_l}
 use denote.RattleType.{RattleType, Valss}
 use denote.Builtin.{RawPtr}
-use denote.Memory.{lone}
-use denote.RawPtr.{Ptr, block_ptr, null_ptr, ptr_val, in_a_block}
+use denote.RawPtr.{Ptr, block_ptr, null_ptr, ptr_val, in_a_block, room_for}
 use denote.Steps.{nothing}
-use denote.Param.{layout}
+use denote.Param.{param, layout}
 use denote.Param.Laws.{Laws}
 use denote.Struct.Struct.{within}
 use denote.Struct.Owning.{shape}
 use Rattle.std.specs.declared.alloc.Allocator.{Ghosts}
 use Rattle.std.proofs.alloc.Calls.{Al, handle_tells}
 use Rattle.std.proofs.RcSteps.{Good}
-use Rattle.std.specs.Box.Ownership.{box_owns}
+use Rattle.hashlink_nodes.specs.Ownership.{Links, block_room, block_type, loose_owns}
+use Rattle.hashlink_nodes.specs.Ownership.{pair_offset, number_offset, links_offset}
+use Rattle.hashlink_nodes.specs.contracts.arena.Block as block
 use Rattle.std.proofs.ResultValues.{and_tt}
 use Rattle.hashlink_nodes.specs.contracts.arena.loose.Loose as loose
 
@@ -45,7 +52,7 @@ module _ (R Z : RattleType) (L : Laws Z) (g : Ghosts Z.Denot) where
         →
         ((b o : ℕ) (h : Val) → d.at ≡ block_ptr b o → vs ≡ both (vptr b o) h ∷ [] → Good (layout Z) h
         → Seq K 𝓛
-        (‵ (box_owns (g.dealloc_token d.alloc) R (block_ptr b o) d.value) ∷ ‵
+        (‵ (loose_owns R (g.dealloc_token d.alloc) (block_ptr b o)) ∷ ‵
         (Z.own_val d.alloc (h ∷ [])) ∷ Γ) G)
         → Seq K 𝓛 (‵ (Lo.own_val d vs) ∷ Γ) G
     loose_out t d vs k =
@@ -54,21 +61,81 @@ module _ (R Z : RattleType) (L : Laws Z) (g : Ghosts Z.Denot) where
         (λ ev. fsplit t $ feq_l t
         (λ ep. fsplit t $ handle_tells al t d.alloc vss.1.0 (λ h ea fits. move t (1 ∷ []) $
         drop t $ move t (1 ∷ []) $
-        in_a_block t d.at (λ p. box_owns (g.dealloc_token d.alloc) R p d.value)
-        (fst∗ 𝓤 (never 𝓤) (sem 𝓛 (g.dealloc_token d.alloc (bare (lone R.mir)) null_ptr))) (λ b o e. k b o h e
+        in_a_block t d.at (loose_owns R (g.dealloc_token d.alloc))
+        (qed 𝓛 (‵ (loose_owns R (g.dealloc_token d.alloc) null_ptr) ∷ []) ∵ fsplit ! $ fsplit3 ! $
+        keep ! (0 ∷ []) $
+        done !) (λ b o e. k b o h e
         (subst (λ (p : Ptr). vs ≡ vstruct (of_list (ptr_val p ∷ h ∷ [])) ∷ []) e
         (subst (λ (ws : List Val). vs ≡ vstruct (of_list (ptr_val d.at ∷ (ws ++ []))) ∷ []) ea
         (subst (λ (ps : List Val). vs ≡ vstruct (of_list (ps ++ (vss.1.0 ++ []))) ∷ []) ep ev)))
         fits)))))
 
-    pub loose_in : K → (b o : ℕ) (h : Val) (a : Z.Denot) (x : R.Denot)
-        → Step K 𝓛 (‵ (Lo.own_val (record { at = block_ptr b o; alloc = a; value = x })
+    pub loose_in : K → (b o : ℕ) (h : Val) (a : Z.Denot)
+        → Step K 𝓛 (‵ (Lo.own_val (record { at = block_ptr b o; alloc = a })
         (both (vptr b o) h ∷ [])) ∷ Γ)
-        G (‵ (box_owns (g.dealloc_token a) R (block_ptr b o) x) ∷ ‵ (Z.own_val a (h ∷ [])) ∷ Γ) G
-    loose_in t b o h a x = step (λ s. let v : Val = both (vptr b o) h in
+        G (‵ (loose_owns R (g.dealloc_token a) (block_ptr b o)) ∷ ‵ (Z.own_val a (h ∷ [])) ∷ Γ) G
+    loose_in t b o h a = step (λ s. let v : Val = both (vptr b o) h in
         nothing t $ move t (2 ∷ 0 ∷ []) $ fjoin t $ feq_i t (List Val) (vptr b o ∷ [])
         (vptr b o ∷ []) refl $ fjoin t
         $ feq_i t (List Val) (v ∷ []) (v ∷ []) refl $ fjoin t $
         fpack t (Valss (RawPtr ∷ Z ∷ []))
         (within (shape (loose.the_type R Z g)) (block_ptr b o, (a, tt)) (v ∷ []))
         (vptr b o ∷ [], (h ∷ [], tt)) $ fjoin t $ s)
+
+module _ (T : RattleType) {M : Type 1} {𝓤 : Ura M} (𝓛 : Logic 𝓤) (b o : ℕ) where
+  open 𝓛 use {H}
+
+  abbrev R : RattleType
+  R = param 0 T
+
+  -- the type of a block, as it is written
+  abbrev pub written : Ty
+  written = layout (block.the_row R)
+
+  abbrev parts : Tys
+  parts = tcons (lone R.mir) (tcons (ty_int w64) (tcons (lone Links.mir) tnil))
+
+  abbrev whole : Ty
+  whole = ty_struct (block.the_type R).name parts
+
+  abbrev Joins : SProp 𝓤
+  Joins = wand 𝓤 (rooms_at 𝓤 H parts 0 b o) (H.room whole b o)
+
+  abbrev pub Rejoins : Fml
+  Rejoins = fwand (block_room R (block_ptr b o)) (room_for (block_type R) (block_ptr b o))
+
+  abbrev pair_room_at : Fml
+  pair_room_at = froom (lone R.mir) b (o + pair_offset R)
+
+  abbrev number_room_at : Fml
+  number_room_at = froom (ty_int w64) b (o + number_offset R)
+
+  abbrev links_room_at : Fml
+  links_room_at = froom (lone Links.mir) b (o + links_offset R)
+
+  rejoins : ent 𝓤 Joins (sem 𝓛 Rejoins)
+  rejoins =
+      qed 𝓛 (raw Joins ∷ []) ∵ assume ! (‵ (block_room R (block_ptr b o))) $ fsplit3 ! $
+      use1 𝓛 (‵ pair_room_at) (𝓛.laws.raw-room (lone R.mir) b (o + pair_offset R)) $ move ! (2 ∷ []) $
+      use1 𝓛 (‵ links_room_at) (𝓛.laws.raw-room (lone Links.mir) b (o + links_offset R)) $
+      nothing ! $ move ! (2 ∷ 3 ∷ 1 ∷ 0 ∷ []) $ group ! 4 $
+      use2 𝓛 (‵ (froom whole b o)) (apply∗ 𝓤 (rooms_at 𝓤 H parts 0 b o) (H.room whole b o)) $
+      by ! (𝓛.laws.room-raw whole b o)
+
+  -- a block is cut into room for its parts, and the right to make it of them again
+  pub block_cut : ent 𝓤 (H.room (block_type R) b o)
+      (sep 𝓤 (sem 𝓛 (block_room R (block_ptr b o))) (sem 𝓛 Rejoins))
+  block_cut =
+      qed 𝓛 (‵ (froom (block_type R) b o) ∷ []) ∵ use1 𝓛 (‵ (froom whole b o)) (𝓛.laws.raw-room whole b o) $
+      use1 𝓛 ((‵ pair_room_at ⊛ ‵ number_room_at ⊛ ‵ links_room_at ⊛ ‵ ftrue) ⊛ raw Joins)
+      (𝓛.laws.room_fields (block.the_type R).name parts b o) $ split ! $ split3 ! $ move ! (2 ∷ []) $
+      split ! $
+      use1 𝓛 (‵ (froom (bare (lone Links.mir)) b (o + links_offset R)))
+      (𝓛.laws.room-raw (lone Links.mir) b (o + links_offset R)) $ move ! (2 ∷ []) $
+      use1 𝓛 (‵ (froom (bare (lone R.mir)) b (o + pair_offset R)))
+      (𝓛.laws.room-raw (lone R.mir) b (o + pair_offset R)) $ move ! (0 ∷ 3 ∷ 1 ∷ []) $ fjoin3 ! $
+      move ! (2 ∷ []) $ use1 𝓛 (‵ Rejoins) rejoins $ move ! (1 ∷ 0 ∷ []) $ keep ! (0 ∷ 1 ∷ []) $ done !
+
+  pub block_glue : ent 𝓤 (sep 𝓤 (sem 𝓛 (block_room R (block_ptr b o))) (sem 𝓛 Rejoins))
+      (H.room (block_type R) b o)
+  block_glue = apply∗ 𝓤 (sem 𝓛 (block_room R (block_ptr b o))) (H.room (block_type R) b o)

@@ -9,10 +9,12 @@ use Rattle.std.proofs.lemmas.List.{length-append, append_assoc}
 use Rattle.hashlink_nodes.specs.declared.node.Node.{Node}
 use Rattle.hashlink_nodes.specs.declared.held.Held.{Held}
 use Rattle.hashlink_nodes.specs.Node.{same_node}
-use Rattle.hashlink_nodes.specs.State.{State, store_next, store_prev, hold, detached, attached}
+use Rattle.hashlink_nodes.specs.State.{State, store_next, store_prev, set_at, hold, detached, attached}
+use Rattle.hashlink_nodes.specs.State.{Adds, Drops}
 use Rattle.hashlink_nodes.specs.Shape.{IsShaped, IsSound, ring_of, walk, entries_of}
 use Rattle.hashlink_nodes.specs.Ring.{Ring, Holds}
-use Rattle.hashlink_nodes.proofs.Paths.{head_or, last_or, set_at_here, set_at_other, all_left, all_right}
+use Rattle.hashlink_nodes.proofs.Paths.{head_or, last_or, set_at_here, set_at_other, set_at_twice, all_left}
+use Rattle.hashlink_nodes.proofs.Paths.{all_right}
 use Rattle.hashlink_nodes.proofs.Paths.{all_middle}
 use Rattle.hashlink_nodes.proofs.Paths.{distinct_tail, path_at, back_at, length-walk, walk-chain, walk-path}
 use Rattle.hashlink_nodes.proofs.Entries.{cut_at, says_at, keys-entries, length-entries}
@@ -147,6 +149,33 @@ module _ {K V : Type 0} where
       → (store_next m a (hold m None (detached m t))).link_writes ≡ t.link_writes + 3
   unfolding store_next store_prev hold detached
   writes_freed t m a = omega arith
+
+  -- a node that is new is given its entry
+  pub adds_filled : (s t t' : State K V) (n : Node) (h : Held K V) → Adds n None s t → t' ≡ hold n (Some h) t
+      → Adds n (Some h) s t'
+  unfolding hold
+  adds_filled s t t' n h a is = subst (Adds n (Some h) s) (sym is) (record {
+    absent = a.absent;
+    next = a.next;
+    prev = a.prev;
+    held = ap (λ f. set_at f n (Some h)) a.held ∙ (λ i m. set_at_twice s.held n m None (Some h) i);
+    has = a.has;
+    size = a.size;
+    link_writes = a.link_writes;
+  })
+
+  -- one that is given back is emptied before
+  pub drops_taken : (s t s' : State K V) (n : Node) → t ≡ hold n None s → Drops n t s' → Drops n s s'
+  unfolding hold
+  drops_taken s t s' n is drops =
+      let d : Drops n (hold n None s) s' = subst (λ x. Drops n x s') is drops in record {
+        next = d.next;
+        prev = d.prev;
+        held = λ m k. d.held m k ∙ set_at_other s.held n m None k;
+        has = d.has;
+        size = d.size;
+        link_writes = d.link_writes;
+      }
 
   -- ---- a node of the ring
   pub record InRing (s : State K V) (guard : Option Node) (first : Node) (len spare : ℕ)

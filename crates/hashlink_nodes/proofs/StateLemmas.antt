@@ -1,23 +1,23 @@
 -- What the state of the blocks is after one of them changed, came or went.
 use Rattle.std.proofs.Common.{◌≡◌, ℕ, ◌+◌, Bool, true, false, cond, List, [], ◌∷◌, length, Option, None, Some}
 use Rattle.std.specs.Prelude.{IsNone}
-use Rattle.std.proofs.Common.{refl, sym, ap, ◌∙◌, arith}
+use Rattle.std.proofs.Common.{refl, sym, subst, ap, ◌∙◌, arith}
 use Rattle.std.specs.Prelude.{is_some}
 use Rattle.std.specs.Map.{lookup, set_value, remove_entry}
 use Rattle.std.proofs.lemmas.Map.{lookup-set_value, length-set_value}
-use Rattle.std.specs.declared.mem.ManuallyDrop.{ManuallyDrop}
-use Rattle.hashlink_nodes.specs.Node.{same_node, same_node_equiv, eq-same_node}
+use Rattle.hashlink_nodes.specs.Node.{same_node, same_node_equiv, same_node-refl, eq-same_node}
 use Rattle.hashlink_nodes.specs.State.{State, Blocks, state, set_at, next_in, prev_in, held_in, store_next}
 use Rattle.hashlink_nodes.specs.State.{store_prev, hold, Adds, MakesGuard, Drops}
 use Rattle.hashlink_nodes.specs.declared.node.Node.{Node}
 use Rattle.hashlink_nodes.proofs.Paths.{set_at_here, set_at_other}
 use Rattle.hashlink_nodes.specs.declared.held.Held.{Held}
 use Rattle.hashlink_nodes.specs.declared.cells.links.Link.{Link}
-use Rattle.hashlink_nodes.specs.declared.cells.links.Block.{Block}
+use Rattle.hashlink_nodes.specs.declared.cells.links.Links.{Links}
+use Rattle.hashlink_nodes.specs.Kept.{Kept, kept, alter, entry_in, with_links, with_pair}
 use Rattle.hashlink_nodes.specs.declared.cells.Cells.{Cells}
 use Rattle.hashlink_nodes.specs.Cells.{state_of}
-use Rattle.hashlink_nodes.specs.CellsLends.{alter, kept_with, cells_with}
-use Rattle.hashlink_nodes.specs.Ring.{with_value}
+use Rattle.hashlink_nodes.specs.CellsLends.{kept_with, cells_with}
+use Rattle.hashlink_nodes.specs.Ring.{held, pair_of}
 use Rattle.std.specs.Option.{option_map}
 
 module _ {X : Type 0} where
@@ -89,107 +89,170 @@ module _ {X : Type 0} where
     seen_same : f n (Some w) ≡ f n (Some b) → reads f (set_value (same_node n) bs w) ≡ reads f bs
     seen_same kept = λ i m. (ap (f m) (lookup_set n m bs b w e) ∙ same_there kept m) i
 
-module _ {K V : Type 0} (bs : Blocks K V) (count count' : ℕ) (n : Node) (found : ManuallyDrop (Block K V))
-    (old : Block K V) (e : lookup (same_node n) bs ≡ Some found) (is_old : old ≡ found.value) where
-  abbrev Next_of : Node → Option (ManuallyDrop (Block K V)) → Node
+pub alter_is : {K X : Type 0} (test : K → Bool) (f : X → X) (es : List (K × X)) (b : X)
+    → lookup test es ≡ Some b
+    → alter test f es ≡ set_value test es (f b)
+alter_is test f [] b e = absurd (cc e)
+alter_is test f (x ∷ es) b e =
+    (elim (test x.0) as
+    (λ (y : Bool). cond y (Some x.1) (lookup test es) ≡ Some b
+    → cond y ((x.0, f x.1) ∷ es) (x ∷ alter test f es)
+    ≡ cond y ((x.0, f b) ∷ es) (x ∷ set_value test es (f b))) [
+      | true ↦ λ k. let same : x.1 ≡ b = cc in ap (λ v. (x.0, f v) ∷ es) same
+      | false ↦ λ k. ap (λ l. x ∷ l) (alter_is test f es b k)
+    ]) e
+
+-- what a look-up of an arena found: the links, or the pair with its number
+pub record LinksAt {K V : Type 0} (bs : Blocks K V) (n : Node) (l : Links) : Type 0 where
+  pub block : Kept (K × V)
+  pub looked : lookup (same_node n) bs ≡ Some block
+  pub links : block.links ≡ l
+
+pub links_at : {K V : Type 0} (bs : Blocks K V) (n : Node) (l : Links)
+    → option_map (λ (k : Kept (K × V)). k.links) (lookup (same_node n) bs) ≡ Some l → LinksAt bs n l
+links_at {K} {V} bs n l e =
+    (elim (lookup (same_node n) bs) as
+    (λ (o : Option (Kept (K × V))). lookup (same_node n) bs ≡ o
+    → option_map (λ (k : Kept (K × V)). k.links) o ≡ Some l → LinksAt bs n l) [
+      | None ↦ λ _ h. absurd (cc h)
+      | Some k ↦ λ is h. record { block = k; looked = is; links = cc }
+    ]) refl e
+
+pub record PairAt {K V : Type 0} (bs : Blocks K V) (n : Node) (p : K × V) : Type 0 where
+  pub block : Kept (K × V)
+  pub number : ℕ
+  pub looked : lookup (same_node n) bs ≡ Some block
+  pub entry : block.entry ≡ Some (number, p)
+  pub held : held_in (lookup (same_node n) bs) ≡ Some (held number p.0 p.1)
+
+pub pair_at : {K V : Type 0} (bs : Blocks K V) (n : Node) (p : K × V)
+    → option_map (λ (e : ℕ × (K × V)). e.1) (entry_in (lookup (same_node n) bs)) ≡ Some p → PairAt bs n p
+pair_at {K} {V} bs n p e =
+    let Of : Option (ℕ × (K × V)) → Option (K × V) = option_map (λ (x : ℕ × (K × V)). x.1) in
+    (elim (lookup (same_node n) bs) as
+    (λ (o : Option (Kept (K × V))). lookup (same_node n) bs ≡ o → Of (entry_in o) ≡ Some p → PairAt bs n p) [
+      | None ↦ λ _ h. absurd (cc h)
+      | Some k ↦ λ is h. (elim k.entry as
+          (λ (o : Option (ℕ × (K × V))). k.entry ≡ o → Of o ≡ Some p → PairAt bs n p) [
+            | None ↦ λ _ g. absurd (cc g)
+            | Some x ↦ λ is_x g. let same : x.1 ≡ p = cc in record {
+              block = k;
+              number = x.0;
+              looked = is;
+              entry = is_x ∙ (λ i. Some (x.0, same i));
+              held = ap held_in is ∙ (λ i. option_map (λ y. held y.0 y.1.0 y.1.1) (is_x i))
+                  ∙ (λ i. Some (held x.0 (same i).0 (same i).1));
+            }
+          ]) refl h
+    ]) refl e
+
+module _ {K V : Type 0} (bs : Blocks K V) (count count' : ℕ) (n : Node) (k : Kept (K × V))
+    (e : lookup (same_node n) bs ≡ Some k) where
+  abbrev Next_of : Node → Option (Kept (K × V)) → Node
   Next_of = next_in
 
-  abbrev Prev_of : Node → Option (ManuallyDrop (Block K V)) → Node
+  abbrev Prev_of : Node → Option (Kept (K × V)) → Node
   Prev_of = prev_in
 
-  abbrev Held_of : Node → Option (ManuallyDrop (Block K V)) → Option (Held K V)
+  abbrev Held_of : Node → Option (Kept (K × V)) → Option (Held K V)
   Held_of m = held_in
 
-  abbrev Has : Node → Option (ManuallyDrop (Block K V)) → Bool
+  abbrev Has : Node → Option (Kept (K × V)) → Bool
   Has m = is_some
 
-  abbrev written : Link → Option (Held K V) → Link → ManuallyDrop (Block K V)
-  written next h prev = record { value = record { next = next; held = h; prev = prev } }
+  abbrev changed : (Kept (K × V) → Kept (K × V)) → Blocks K V
+  changed f = alter (same_node n) f bs
 
-  same_next : old.next.to ≡ found.value.next.to
-  same_next = ap (λ (o : Block K V). o.next.to) is_old
+  is_set : (f : Kept (K × V) → Kept (K × V)) → changed f ≡ set_value (same_node n) bs (f k)
+  is_set f = alter_is (same_node n) f bs k e
 
-  same_prev : old.prev.to ≡ found.value.prev.to
-  same_prev = ap (λ (o : Block K V). o.prev.to) is_old
+  module _ (l : Links) (is_l : k.links ≡ l) (to : Node) (link : Link) (is_new : link ≡ record { to = to })
+      (raised : count' ≡ count + 1) where
+    pub stored_next : state (changed (with_links (record { next = link; prev = l.prev }))) count'
+        ≡ store_next n to (state bs count)
+    unfolding store_next
+    stored_next =
+        let f : Kept (K × V) → Kept (K × V) = with_links (record { next = link; prev = l.prev }) in
+        let w = f k in ap (λ x. state x count') (is_set f) ∙ (λ i. record {
+          next =
+              (seen_at Next_of n bs k w e
+              ∙ ap (λ x. set_at (state bs count).next n x) (ap (λ (x : Link). x.to) is_new))
+              i;
+          prev = seen_same Prev_of n bs k w e (ap (λ (x : Links). x.prev.to) (sym is_l)) i;
+          held = seen_same Held_of n bs k w e refl i;
+          has = seen_same Has n bs k w e refl i;
+          size = length-set_value (same_node n) bs w i;
+          link_writes = raised i;
+        })
 
-  same_held : old.held ≡ found.value.held
-  same_held = ap (λ (o : Block K V). o.held) is_old
+    pub stored_prev : state (changed (with_links (record { next = l.next; prev = link }))) count'
+        ≡ store_prev n to (state bs count)
+    unfolding store_prev
+    stored_prev =
+        let f : Kept (K × V) → Kept (K × V) = with_links (record { next = l.next; prev = link }) in
+        let w = f k in ap (λ x. state x count') (is_set f) ∙ (λ i. record {
+          next = seen_same Next_of n bs k w e (ap (λ (x : Links). x.next.to) (sym is_l)) i;
+          prev =
+              (seen_at Prev_of n bs k w e
+              ∙ ap (λ x. set_at (state bs count).prev n x) (ap (λ (x : Link). x.to) is_new))
+              i;
+          held = seen_same Held_of n bs k w e refl i;
+          has = seen_same Has n bs k w e refl i;
+          size = length-set_value (same_node n) bs w i;
+          link_writes = raised i;
+        })
 
-  pub stored_next : (to : Node) (link : Link) → link ≡ record { to = to } → count' ≡ count + 1
-      → state (set_value (same_node n) bs (written link old.held old.prev)) count'
-      ≡ store_next n to (state bs count)
-  unfolding store_next
-  stored_next to link is_new raised = let w = written link old.held old.prev in λ i. record {
-    next =
-        (seen_at Next_of n bs found w e
-        ∙ ap (λ x. set_at (state bs count).next n x) (ap (λ (l : Link). l.to) is_new))
-        i;
-    prev = seen_same Prev_of n bs found w e same_prev i;
-    held = seen_same Held_of n bs found w e same_held i;
-    has = seen_same Has n bs found w e refl i;
-    size = length-set_value (same_node n) bs w i;
-    link_writes = raised i;
-  }
-
-  pub stored_prev : (to : Node) (link : Link) → link ≡ record { to = to } → count' ≡ count + 1
-      → state (set_value (same_node n) bs (written old.next old.held link)) count'
-      ≡ store_prev n to (state bs count)
-  unfolding store_prev
-  stored_prev to link is_new raised = let w = written old.next old.held link in λ i. record {
-    next = seen_same Next_of n bs found w e same_next i;
-    prev =
-        (seen_at Prev_of n bs found w e
-        ∙ ap (λ x. set_at (state bs count).prev n x) (ap (λ (l : Link). l.to) is_new))
-        i;
-    held = seen_same Held_of n bs found w e same_held i;
-    has = seen_same Has n bs found w e refl i;
-    size = length-set_value (same_node n) bs w i;
-    link_writes = raised i;
-  }
-
-  pub held_anew : (h h' : Option (Held K V)) → h' ≡ h
-      → state (set_value (same_node n) bs (written old.next h' old.prev)) count ≡ hold n h (state bs count)
+  -- the links stay, and n holds h
+  pub held_anew : (f : Kept (K × V) → Kept (K × V)) → (f k).links ≡ k.links → (h : Option (Held K V))
+      → held_in (Some (f k)) ≡ h → state (changed f) count ≡ hold n h (state bs count)
   unfolding hold
-  held_anew h h' is_new = let w = written old.next h' old.prev in λ i. record {
-    next = seen_same Next_of n bs found w e same_next i;
-    prev = seen_same Prev_of n bs found w e same_prev i;
-    held = (seen_at Held_of n bs found w e ∙ ap (λ x. set_at (state bs count).held n x) is_new) i;
-    has = seen_same Has n bs found w e refl i;
+  held_anew f kept h is_h = let w = f k in ap (λ x. state x count) (is_set f) ∙ (λ i. record {
+    next = seen_same Next_of n bs k w e (ap (λ (x : Links). x.next.to) kept) i;
+    prev = seen_same Prev_of n bs k w e (ap (λ (x : Links). x.prev.to) kept) i;
+    held = (seen_at Held_of n bs k w e ∙ ap (λ x. set_at (state bs count).held n x) is_h) i;
+    has = seen_same Has n bs k w e refl i;
     size = length-set_value (same_node n) bs w i;
     link_writes = count;
-  }
+  })
+
+  -- what is then looked up
+  pub looked_anew : (f : Kept (K × V) → Kept (K × V)) → lookup (same_node n) (changed f) ≡ Some (f k)
+  looked_anew f =
+      ap (lookup (same_node n)) (is_set f) ∙ lookup_set n n bs k (f k) e
+      ∙ ap (λ y. cond y (Some (f k)) (lookup (same_node n) bs)) (same_node-refl n)
 
   -- both links of n, which is new, lead to n itself
   pub looped : (s : State K V) (next prev : Link) → next ≡ record { to = n } → prev ≡ record { to = n }
       → Adds n None s (state bs count)
-      → MakesGuard n s (state (set_value (same_node n) bs (written next old.held prev)) count)
+      → MakesGuard n s (state (changed (with_links (record { next = next; prev = prev }))) count)
   looped s next prev is_next is_prev a =
-      let w = written next old.held prev in let t = state (set_value (same_node n) bs w) count in
+      let f : Kept (K × V) → Kept (K × V) = with_links (record { next = next; prev = prev }) in let w = f k in
+      let t = state (set_value (same_node n) bs w) count in
       let after : t.next ≡ set_at (state bs count).next n n
-      = seen_at Next_of n bs found w e
+      = seen_at Next_of n bs k w e
       ∙ ap (λ x. set_at (state bs count).next n x) (ap (λ (l : Link). l.to) is_next) in
       let before : t.prev ≡ set_at (state bs count).prev n n
-      = seen_at Prev_of n bs found w e
+      = seen_at Prev_of n bs k w e
       ∙ ap (λ x. set_at (state bs count).prev n x) (ap (λ (l : Link). l.to) is_prev) in
-      record {
+      subst (λ x. MakesGuard n s (state x count)) (sym (is_set f)) (record {
         adds = record {
           absent = a.absent;
-          next = λ m k. ap (λ f. f m) after ∙ set_at_other (state bs count).next n m n k ∙ a.next m k;
-          prev = λ m k. ap (λ f. f m) before ∙ set_at_other (state bs count).prev n m n k ∙ a.prev m k;
-          held = seen_same Held_of n bs found w e same_held ∙ a.held;
-          has = seen_same Has n bs found w e refl ∙ a.has;
+          next = λ m h. ap (λ g. g m) after ∙ set_at_other (state bs count).next n m n h ∙ a.next m h;
+          prev = λ m h. ap (λ g. g m) before ∙ set_at_other (state bs count).prev n m n h ∙ a.prev m h;
+          held = seen_same Held_of n bs k w e refl ∙ a.held;
+          has = seen_same Has n bs k w e refl ∙ a.has;
           size = length-set_value (same_node n) bs w ∙ a.size;
           link_writes = a.link_writes;
         };
-        next = ap (λ f. f n) after ∙ set_at_here (state bs count).next n n;
-        prev = ap (λ f. f n) before ∙ set_at_here (state bs count).prev n n;
-      }
+        next = ap (λ g. g n) after ∙ set_at_here (state bs count).next n n;
+        prev = ap (λ g. g n) before ∙ set_at_here (state bs count).prev n n;
+      })
 
 module _ {K V : Type 0} where
   -- a block came in
-  pub added : (bs bs' : Blocks K V) (count : ℕ) (n : Node) (b : ManuallyDrop (Block K V))
+  pub added : (bs bs' : Blocks K V) (count : ℕ) (n : Node) (b : Kept (K × V))
       (h : Option (Held K V))
-      → bs' ≡ (n, b) ∷ bs → IsNone (lookup (same_node n) bs) → b.value.held ≡ h
+      → bs' ≡ (n, b) ∷ bs → IsNone (lookup (same_node n) bs) → held_in (Some b) ≡ h
       → Adds n h (state bs count) (state bs' count)
   added bs bs' count n b h is apart held =
       let at : (m : Node) → lookup (same_node m) bs' ≡ cond (same_node m n) (Some b) (lookup (same_node m) bs)
@@ -230,39 +293,60 @@ module _ {K V : Type 0} where
   unfolding store_next
   has_after_next n to s = refl
 
-pub alter_is : {K X : Type 0} (test : K → Bool) (f : X → X) (es : List (K × X)) (b : X)
-    → lookup test es ≡ Some b
-    → alter test f es ≡ set_value test es (f b)
-alter_is test f [] b e = absurd (cc e)
-alter_is test f (x ∷ es) b e =
+pub alter_twice : {K X : Type 0} (test : K → Bool) (f g : X → X) (es : List (K × X))
+    → alter test f (alter test g es) ≡ alter test (λ x. f (g x)) es
+alter_twice test f g [] = refl
+alter_twice test f g (x ∷ es) =
     (elim (test x.0) as
-    (λ (y : Bool). cond y (Some x.1) (lookup test es) ≡ Some b
-    → cond y ((x.0, f x.1) ∷ es) (x ∷ alter test f es)
-    ≡ cond y ((x.0, f b) ∷ es) (x ∷ set_value test es (f b))) [
-      | true ↦ λ k. let same : x.1 ≡ b = cc in ap (λ v. (x.0, f v) ∷ es) same
-      | false ↦ λ k. ap (λ l. x ∷ l) (alter_is test f es b k)
-    ]) e
+    (λ (y : Bool). test x.0 ≡ y → alter test f (cond y ((x.0, g x.1) ∷ es) (x ∷ alter test g es))
+    ≡ cond y ((x.0, f (g x.1)) ∷ es) (x ∷ alter test (λ x. f (g x)) es)) [
+      | true ↦ λ h. ap (λ y. cond y ((x.0, f (g x.1)) ∷ es) ((x.0, g x.1) ∷ alter test f es)) h
+      | false ↦ λ h. ap (λ y. cond y ((x.0, f x.1) ∷ alter test g es) (x ∷ alter test f (alter test g es))) h
+          ∙ ap (λ l. x ∷ l) (alter_twice test f g es)
+    ]) refl
+
+-- a node that holds a pair holds another
+module _ {K V : Type 0} (bs : Blocks K V) (count : ℕ) (n : Node) (p : K × V) (at : PairAt bs n p) where
+  pub pair_anew : (w : K × V) (h : Held K V → Held K V) → h (held at.number p.0 p.1) ≡ held at.number w.0 w.1
+      → state (alter (same_node n) (with_pair w) bs) count
+      ≡ hold n (option_map h (held_in (lookup (same_node n) bs))) (state bs count)
+  pair_anew w h is_h =
+      held_anew bs count 0 n at.block at.looked (with_pair w) refl
+      (option_map h (held_in (lookup (same_node n) bs)))
+      (ap (λ (x : Option (ℕ × (K × V))). held_in (Some (with_pair w (kept at.block.links x)))) at.entry
+      ∙ ap (λ (x : Held K V). Some x) (sym is_h) ∙ sym (ap (option_map h) at.held))
+
+  pub value_lent : (w : V)
+      → alter (same_node n) (with_pair (p.0, w)) bs ≡ alter (same_node n) (kept_with w) bs
+  value_lent w =
+      alter_is (same_node n) (with_pair (p.0, w)) bs at.block at.looked
+      ∙ ap (λ (x : Option (ℕ × (K × V))). set_value (same_node n) bs
+      (kept at.block.links (option_map (λ (e : ℕ × (K × V)). (e.0, (p.0, w))) x))) at.entry
+      ∙ sym (ap (λ (x : Option (ℕ × (K × V))). set_value (same_node n) bs (kept_with w
+      (kept at.block.links x)))
+      at.entry)
+      ∙ sym (alter_is (same_node n) (kept_with w) bs at.block at.looked)
 
 -- the blocks with another value at a node that holds one
-pub value_anew : {K V : Type 0} (c : Cells K V) (n : Node) (w : V) (found : ManuallyDrop (Block K V))
-    (h : Held K V)
-    → lookup (same_node n) c.arena.blocks ≡ Some found
-    → found.value.held ≡ Some h
-    → state_of (cells_with c n w) ≡ hold n (Some (with_value h w)) (state_of c)
-value_anew c n w found h e holds =
-    ap (λ bs. state bs c.writes.count) (alter_is (same_node n) (kept_with w) c.arena.blocks found e)
-    ∙ held_anew c.arena.blocks c.writes.count 0 n found found.value e refl (Some (with_value h w))
-    (option_map (λ x. with_value x w) found.value.held) (ap (option_map (λ x. with_value x w)) holds)
+pub value_anew : {K V : Type 0} (c : Cells K V) (n : Node) (w : V) (p : K × V)
+    (at : PairAt c.arena.blocks n p)
+    → state_of (cells_with c n w) ≡ hold n (Some (held at.number p.0 w)) (state_of c)
+value_anew {K} {V} c n w p at =
+    held_anew c.arena.blocks c.writes.count 0 n at.block at.looked (kept_with w) refl
+    (Some (held at.number p.0 w))
+    (ap (λ (x : Option (ℕ × (K × V))). held_in (Some (kept_with w (kept at.block.links x)))) at.entry)
 
--- a node that holds something has a block
+-- a node that holds something has a pair
 pub block_found : {K V : Type 0} (c : Cells K V) (n : Node) (h : Held K V) → (state_of c).held n ≡ Some h
-    → (found : ManuallyDrop (Block K V))
-    × ((lookup (same_node n) c.arena.blocks ≡ Some found) × (found.value.held ≡ Some h))
+    → (at : PairAt c.arena.blocks n (pair_of h)) × (held at.number h.key h.value ≡ h)
 block_found {K} {V} c n h e =
-    (elim (lookup (same_node n) c.arena.blocks) as
-    (λ (o : Option (ManuallyDrop (Block K V))). lookup (same_node n) c.arena.blocks ≡ o → held_in o ≡ Some h
-    → (found : ManuallyDrop (Block K V))
-    × ((lookup (same_node n) c.arena.blocks ≡ Some found) × (found.value.held ≡ Some h))) [
-      | None ↦ λ _ k. absurd (cc k)
-      | Some b ↦ λ is k. (b, (is, k))
-    ]) refl e
+    let Of : Option (ℕ × (K × V)) → Option (K × V) = option_map (λ (x : ℕ × (K × V)). x.1) in
+    let o = entry_in (lookup (same_node n) c.arena.blocks) in
+    let pair : Of o ≡ Some (pair_of h)
+    = (elim o as (λ (x : Option (ℕ × (K × V))). option_map (λ y. held y.0 y.1.0 y.1.1) x ≡ Some h
+    → Of x ≡ Some (pair_of h)) [
+      | None ↦ λ g. absurd (cc g)
+      | Some x ↦ λ g. let same : held x.0 x.1.0 x.1.1 ≡ h = cc in λ i. Some (pair_of (same i))
+    ]) e in
+    let at = pair_at c.arena.blocks n (pair_of h) pair in
+    let same : Some (held at.number h.key h.value) ≡ Some h = sym at.held ∙ e in (at, cc)

@@ -1,14 +1,19 @@
--- What an arena ends as, once a `&mut` to one of its values has ended.
+-- What an arena ends as, once a `&mut` into one of its blocks has ended.
 use Rattle.std.specs.Borrow.{Fml, RattleType, MutBor, Lends}
-use Rattle.std.specs.Map.{set_value}
 use Rattle.hashlink_nodes.specs.Node.{same_node}
+use Rattle.hashlink_nodes.specs.Kept.{Kept, alter, with_links, with_pair}
 use Rattle.hashlink_nodes.specs.declared.node.Node.{Node}
+use Rattle.hashlink_nodes.specs.declared.cells.links.Links.{Links}
+use Rattle.hashlink_nodes.specs.contracts.cells.links.Links as links
 use Rattle.hashlink_nodes.specs.declared.arena.Arena.{Arena}
 use Rattle.hashlink_nodes.specs.contracts.arena.Arena.{the_row}
 
--- the same arena with w as the value of the node
-abbrev pub with_value : {T : Type 0} → Arena T → Node → T → Arena T
-with_value a n w = record a { blocks = set_value (same_node n) a.blocks w }
+-- the same arena with f of what the node's block keeps
+abbrev pub altered : {T : Type 0} → Arena T → Node → (Kept T → Kept T) → Arena T
+altered a n f = record a { blocks = alter (same_node n) f a.blocks }
 
-abbrev pub LendsValue : (R : RattleType) → MutBor (Arena R.Denot) → Node → MutBor R.Denot → Fml
-LendsValue R a n r = Lends (the_row R) R a r (with_value a.now n)
+abbrev pub LendsLinks : (R : RattleType) → MutBor (Arena R.Denot) → Node → MutBor Links → Fml
+LendsLinks R a n r = Lends (the_row R) links.the_row a r (λ l. altered a.now n (with_links l))
+
+abbrev pub LendsPair : (R : RattleType) → MutBor (Arena R.Denot) → Node → MutBor R.Denot → Fml
+LendsPair R a n r = Lends (the_row R) R a r (λ w. altered a.now n (with_pair w))

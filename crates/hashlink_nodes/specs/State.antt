@@ -1,11 +1,12 @@
 -- What the blocks of a ring say, read at any node: its links and what it holds.
 use Rattle.std.specs.Prelude.{ℕ, ◌+◌, ◌≡◌, Bool, true, false, cond, List, length, Option, None, Some, is_some}
 use Rattle.std.specs.Map.{lookup}
-use Rattle.std.specs.declared.mem.ManuallyDrop.{ManuallyDrop}
 use Rattle.hashlink_nodes.specs.Node.{same_node}
 use Rattle.hashlink_nodes.specs.declared.node.Node.{Node}
 use Rattle.hashlink_nodes.specs.declared.held.Held.{Held}
-use Rattle.hashlink_nodes.specs.declared.cells.links.Block.{Block}
+use Rattle.hashlink_nodes.specs.Kept.{Kept, entry_in}
+use Rattle.hashlink_nodes.specs.Ring.{held}
+use Rattle.std.specs.Option.{option_map}
 
 pub record State (K V : Type 0) : Type 0 where
   pub next : Node → Node
@@ -22,21 +23,20 @@ abbrev pub set_at : {X : Type 0} → (Node → X) → Node → X → Node → X
 set_at f n x m = cond (same_node m n) x (f m)
 
 abbrev pub Blocks : Type 0 → Type 0 → Type 0
-Blocks K V = List (Node × ManuallyDrop (Block K V))
+Blocks K V = List (Node × Kept (K × V))
 
 module _ {K V : Type 0} where
   -- a node without a block reads as one that links to itself and holds nothing
-  abbrev pub next_in : Node → Option (ManuallyDrop (Block K V)) → Node
+  abbrev pub next_in : Node → Option (Kept (K × V)) → Node
   next_in n None = n
-  next_in n (Some b) = b.value.next.to
+  next_in n (Some b) = b.links.next.to
 
-  abbrev pub prev_in : Node → Option (ManuallyDrop (Block K V)) → Node
+  abbrev pub prev_in : Node → Option (Kept (K × V)) → Node
   prev_in n None = n
-  prev_in n (Some b) = b.value.prev.to
+  prev_in n (Some b) = b.links.prev.to
 
-  abbrev pub held_in : Option (ManuallyDrop (Block K V)) → Option (Held K V)
-  held_in None = None
-  held_in (Some b) = b.value.held
+  abbrev pub held_in : Option (Kept (K × V)) → Option (Held K V)
+  held_in b = option_map (λ e. held e.0 e.1.0 e.1.1) (entry_in b)
 
   abbrev pub state : Blocks K V → ℕ → State K V
   state bs writes = record {

@@ -1,23 +1,44 @@
 //! The owner of the nodes' blocks. All code that follows a pointer is in this file and in `arena/loose.rt`.
-ghost use Rattle.std.specs.Prelude.{◌≡◌, ◌<◌, List, [], ◌∷◌, Some, IsSome, IsNone};
+ghost use Rattle.std.specs.Prelude.{◌≡◌, ◌^◌, ◌<◌, List, [], ◌∷◌, None, Some, IsSome, IsNone, IfSome};
+ghost use Rattle.std.specs.Option.{option_map};
 ghost use Rattle.std.specs.Map.{lookup, remove_entry};
 ghost use Rattle.std.specs.Borrow.{sem};
-ghost use Rattle.std.specs.Mem.{type_size};
 ghost use Rattle.hashlink_nodes.specs.Node.{same_node};
 ghost use Rattle.hashlink_nodes.specs.declared.node.Node.{Node};
+ghost use Rattle.hashlink_nodes.specs.Kept.{Kept, kept, alter, entry_in, number_word, with_entry};
 ghost use Rattle.hashlink_nodes.specs.Ownership.{blocks_own, blocks_lent};
 
 mod loose;
 
 pub(crate) use self::loose::Loose;
+use crate::cells::Links;
 use crate::node::Node;
 use std::alloc::Global;
 use std::marker::{Model, PhantomData};
+use std::mem::size_of;
 
-/// Values, each in a block of its own from `Global`. It takes no space: its user keeps the nodes.
+/// What lies in a node's block. The pair is there where the node holds an entry: no block says so but by its
+/// number, which is `NO_ENTRY` where there is none.
+///
+/// A key and a value of 8 bytes each lie in one line of the cache, wherever `malloc` puts the block, and so
+/// do the two links.
+pub(crate) struct Block<T> {
+    pair: T,
+    number: usize,
+    links: Links,
+}
+
+// Beside its pair a block takes 24 bytes.
+const _: () = prove!(size_of::<Block<(u64, u64)>>() == 40);
+
+/// The number of a block that has no pair.
+pub(crate) const NO_ENTRY: usize = 1 << 48;
+
+/// The blocks of nodes, each from `Global`, with links and, where it holds an entry, a number and a pair. It
+/// takes no space: its user keeps the nodes.
 pub(crate) struct Arena<T> {
     mark: PhantomData<*const T>,
-    pub(crate) ghost blocks: { List (Node × T) },
+    pub(crate) ghost blocks: { List (Node × Kept T) },
 }
 
 impl<T> Model for Arena<T> {
@@ -27,7 +48,7 @@ impl<T> Model for Arena<T> {
 }
 
 impl<T> Arena<T> {
-    ghost use Rattle.hashlink_nodes.specs.ArenaLends.{LendsValue};
+    ghost use Rattle.hashlink_nodes.specs.ArenaLends.{LendsLinks, LendsPair};
 
     pub(crate) fn new() -> Arena<T>
         ensures { result.blocks ≡ [] }
@@ -35,41 +56,108 @@ impl<T> Arena<T> {
         Arena { mark: PhantomData }
     }
 
-    /// Takes the block over, and returns its node.
-    pub(crate) fn keep(&mut self, loose: Loose<T, Global>) -> Node
-        requires { 0 < type_size T.row }
-        ensures kept { self.new.blocks ≡ (result, loose.value) ∷ self.old.blocks }
+    /// Takes the block over, without a pair, and returns its node.
+    pub(crate) fn keep(&mut self, loose: Loose<T, Global>, links: Links) -> Node
+        ensures kept { self.new.blocks ≡ (result, kept links None) ∷ self.old.blocks }
         ensures apart { IsNone (lookup (same_node result) self.old.blocks) }
     {
         let Loose { at, alloc: _ } = loose;
+        unsafe {
+            (&raw mut (*at).number).write(NO_ENTRY);
+            (&raw mut (*at).links).write(links);
+        }
         Node { at: at as *mut u8 }
     }
 
-    /// Returns the node's block to the caller.
+    /// Returns the node's block, which has no pair, to the caller.
     pub(crate) fn give_back(&mut self, node: Node, alloc: Global) -> Loose<T, Global>
-        requires { IsSome (lookup (same_node node) self.old.blocks) }
-        ensures value { lookup (same_node node) self.old.blocks ≡ Some result.value }
-        ensures rest { self.new.blocks ≡ remove_entry (same_node node) self.old.blocks }
+        requires there { IsSome (lookup (same_node node) self.old.blocks) }
+        requires bare { entry_in (lookup (same_node node) self.old.blocks) ≡ None }
+        ensures { self.new.blocks ≡ remove_entry (same_node node) self.old.blocks }
     {
         Loose {
-            at: node.at as *mut T,
+            at: node.at as *mut Block<T>,
             alloc,
         }
     }
 
-    pub(crate) fn get(&self, node: Node) -> &T
+    #[inline]
+    pub(crate) fn links(&self, node: Node) -> &Links
         requires { IsSome (lookup (same_node node) self.now.blocks) }
-        ensures { lookup (same_node node) self.now.blocks ≡ Some result.now }
+        ensures { option_map (λ k. k.links) (lookup (same_node node) self.now.blocks) ≡ Some result.now }
     {
-        unsafe { &*(node.at as *mut T) }
+        unsafe { &(*(node.at as *mut Block<T>)).links }
     }
 
-    pub(crate) fn get_mut(&mut self, node: Node) -> &mut T
+    #[inline]
+    pub(crate) fn links_mut(&mut self, node: Node) -> &mut Links
         requires { IsSome (lookup (same_node node) self.old.blocks) }
-        ensures* lends { sem 𝓛 (LendsValue T.row self.entry node result) }
-        ensures value { lookup (same_node node) self.old.blocks ≡ Some result.now }
+        ensures* lends { sem 𝓛 (LendsLinks T.row self.entry node result) }
+        ensures value { option_map (λ k. k.links) (lookup (same_node node) self.old.blocks)
+            ≡ Some result.now }
     {
-        unsafe { &mut *(node.at as *mut T) }
+        unsafe { &mut (*(node.at as *mut Block<T>)).links }
+    }
+
+    /// Returns the node's number, or `NO_ENTRY`.
+    #[inline]
+    pub(crate) fn number(&self, node: Node) -> &usize
+        requires { IsSome (lookup (same_node node) self.now.blocks) }
+        ensures word { option_map (λ k. number_word k.entry) (lookup (same_node node) self.now.blocks)
+            ≡ Some result.now }
+        ensures small { IfSome (entry_in (lookup (same_node node) self.now.blocks)) (λ e. e.0 < 2 ^ 48) }
+    {
+        unsafe { &(*(node.at as *mut Block<T>)).number }
+    }
+
+    #[inline]
+    pub(crate) fn pair(&self, node: Node) -> &T
+        requires { IsSome (entry_in (lookup (same_node node) self.now.blocks)) }
+        ensures { option_map (λ e. e.1) (entry_in (lookup (same_node node) self.now.blocks))
+            ≡ Some result.now }
+    {
+        unsafe { &(*(node.at as *mut Block<T>)).pair }
+    }
+
+    #[inline]
+    pub(crate) fn pair_mut(&mut self, node: Node) -> &mut T
+        requires { IsSome (entry_in (lookup (same_node node) self.old.blocks)) }
+        ensures* lends { sem 𝓛 (LendsPair T.row self.entry node result) }
+        ensures value { option_map (λ e. e.1) (entry_in (lookup (same_node node) self.old.blocks))
+            ≡ Some result.now }
+    {
+        unsafe { &mut (*(node.at as *mut Block<T>)).pair }
+    }
+
+    /// Moves a pair into a block that has none.
+    #[inline]
+    pub(crate) fn fill(&mut self, node: Node, number: usize, pair: T)
+        requires there { IsSome (lookup (same_node node) self.old.blocks) }
+        requires bare { entry_in (lookup (same_node node) self.old.blocks) ≡ None }
+        requires small { number < 2 ^ 48 }
+        ensures { self.new.blocks
+            ≡ alter (same_node node) (with_entry (Some (number, pair))) self.old.blocks }
+    {
+        let block = node.at as *mut Block<T>;
+        unsafe {
+            (&raw mut (*block).number).write(number);
+            (&raw mut (*block).pair).write(pair);
+        }
+    }
+
+    /// Moves the pair out, and leaves the block without one.
+    #[inline]
+    pub(crate) fn take(&mut self, node: Node) -> T
+        requires { IsSome (entry_in (lookup (same_node node) self.old.blocks)) }
+        ensures pair { option_map (λ e. e.1) (entry_in (lookup (same_node node) self.old.blocks))
+            ≡ Some result }
+        ensures left { self.new.blocks ≡ alter (same_node node) (with_entry None) self.old.blocks }
+    {
+        let block = node.at as *mut Block<T>;
+        unsafe {
+            (&raw mut (*block).number).write(NO_ENTRY);
+            (&raw const (*block).pair).read()
+        }
     }
 
     /// Ends an arena, which must have no block left.

@@ -1,27 +1,26 @@
 //! The blocks of a ring, by their nodes: safe code over the arena.
-ghost use Rattle.std.specs.Prelude.{◌≡◌, ◌^◌, ◌<◌, true, false, [], IfOk, OnErr, Some, IsSome, IfSome};
+ghost use Rattle.std.specs.Prelude.{◌≡◌, ◌^◌, ◌<◌, true, false, [], IfOk, OnErr, None, Some, IsSome};
 ghost use Rattle.std.specs.Prelude.{is_some};
 ghost use Rattle.hashlink_nodes.specs.State.{state, hold, detached, attached};
 ghost use Rattle.hashlink_nodes.specs.State.{Drops};
 ghost use Rattle.hashlink_nodes.specs.State.{GuardIs};
 ghost use Rattle.std.specs.Option.{option_map};
 ghost use Rattle.std.specs.Borrow.{sem};
-ghost use Rattle.hashlink_nodes.specs.Ring.{pair_of, with_value, with_key, with_number};
+ghost use Rattle.hashlink_nodes.specs.Ring.{held, pair_of, with_value, with_key, with_number};
 ghost use Rattle.hashlink_nodes.specs.Cells.{state_of};
 
 mod links;
 
-use self::links::Block;
-use crate::arena::Arena;
-use crate::held::Held;
+pub(crate) use self::links::Links;
+use crate::arena::{Arena, NO_ENTRY};
 use crate::link_writes::LinkWrites;
 use crate::node::Node;
 use std::alloc::{AllocError, Global};
-use std::mem::ManuallyDrop;
+use std::mem;
 
 /// The blocks of the nodes, and the count of the links that were stored in them.
 pub(crate) struct Cells<K, V> {
-    arena: Arena<ManuallyDrop<Block<K, V>>>,
+    arena: Arena<(K, V)>,
     writes: LinkWrites,
 }
 
@@ -43,92 +42,91 @@ impl<K, V> Cells<K, V> {
         requires { (state_of self.now).has node ≡ true }
         ensures { is_some ((state_of self.now).held node) ≡ result }
     {
-        let block: &Block<K, V> = self.arena.get(node);
-        block.held.is_full()
+        *self.arena.number(node) != NO_ENTRY
     }
 
     #[inline]
     pub(crate) fn number(&self, node: Node) -> usize
-        requires has { (state_of self.now).has node ≡ true }
-        requires held { IsSome ((state_of self.now).held node) }
+        requires { IsSome ((state_of self.now).held node) }
         ensures { option_map (λ h. h.number) ((state_of self.now).held node) ≡ Some result }
     {
-        let block: &Block<K, V> = self.arena.get(node);
-        block.held.number()
+        *self.arena.number(node)
     }
 
     #[inline]
     pub(crate) fn pair(&self, node: Node) -> (&K, &V)
-        requires has { (state_of self.now).has node ≡ true }
-        requires held { IsSome ((state_of self.now).held node) }
+        requires { IsSome ((state_of self.now).held node) }
         ensures { option_map pair_of ((state_of self.now).held node) ≡ Some (result.0.now, result.1.now) }
     {
-        let block: &Block<K, V> = self.arena.get(node);
-        block.held.pair()
+        let pair = self.arena.pair(node);
+        (&pair.0, &pair.1)
     }
 
-    /// Replaces what the node holds by `held`, and returns what it held before.
+    /// Puts an entry into a node that holds none.
     #[inline]
-    pub(crate) fn hold(&mut self, node: Node, held: Option<Held<K, V>>) -> Option<Held<K, V>>
+    pub(crate) fn fill(&mut self, node: Node, number: usize, key: K, value: V)
         requires has { (state_of self.old).has node ≡ true }
-        requires small { IfSome held (λ h. h.number < 2 ^ 48) }
-        ensures was { result ≡ (state_of self.old).held node }
-        ensures is { state_of self.new ≡ hold node held (state_of self.old) }
+        requires bare { (state_of self.old).held node ≡ None }
+        requires small { number < 2 ^ 48 }
+        ensures { state_of self.new ≡ hold node (Some (held number key value)) (state_of self.old) }
     {
-        let block: &mut Block<K, V> = self.arena.get_mut(node);
-        block.held.put(held)
+        self.arena.fill(node, number, (key, value));
+    }
+
+    /// Takes the entry out of the node, and returns its pair.
+    #[inline]
+    pub(crate) fn take(&mut self, node: Node) -> (K, V)
+        requires { IsSome ((state_of self.old).held node) }
+        ensures was { option_map pair_of ((state_of self.old).held node) ≡ Some result }
+        ensures is { state_of self.new ≡ hold node None (state_of self.old) }
+    {
+        self.arena.take(node)
     }
 
     /// Returns the key and a mutable reference to the value.
     #[inline]
     pub(crate) fn entry_mut(&mut self, node: Node) -> (&K, &mut V)
-        requires has { (state_of self.old).has node ≡ true }
-        requires held { IsSome ((state_of self.old).held node) }
+        requires { IsSome ((state_of self.old).held node) }
         ensures* lends { sem 𝓛 (LendsCellValue K.row V.row self.entry node result.1) }
         ensures pair { option_map pair_of ((state_of self.old).held node) ≡ Some
             (result.0.now, result.1.now) }
     {
-        let block: &mut Block<K, V> = self.arena.get_mut(node);
-        block.held.entry_mut()
+        let pair = self.arena.pair_mut(node);
+        (&pair.0, &mut pair.1)
     }
 
     /// Replaces the value, and returns the old one.
     #[inline]
     pub(crate) fn replace_value(&mut self, node: Node, value: V) -> V
-        requires has { (state_of self.old).has node ≡ true }
-        requires held { IsSome ((state_of self.old).held node) }
+        requires { IsSome ((state_of self.old).held node) }
         ensures value { option_map (λ h. h.value) ((state_of self.old).held node) ≡ Some result }
         ensures is { state_of self.new
             ≡ hold node (option_map (λ h. with_value h value) ((state_of self.old).held node))
             (state_of self.old) }
     {
-        let block: &mut Block<K, V> = self.arena.get_mut(node);
-        block.held.replace_value(value)
+        mem::replace(&mut self.arena.pair_mut(node).1, value)
     }
 
     /// Replaces the key, and returns the old one.
     pub(crate) fn replace_key(&mut self, node: Node, key: K) -> K
-        requires has { (state_of self.old).has node ≡ true }
-        requires held { IsSome ((state_of self.old).held node) }
+        requires { IsSome ((state_of self.old).held node) }
         ensures key { option_map (λ h. h.key) ((state_of self.old).held node) ≡ Some result }
         ensures is { state_of self.new
             ≡ hold node (option_map (λ h. with_key h key) ((state_of self.old).held node))
             (state_of self.old) }
     {
-        let block: &mut Block<K, V> = self.arena.get_mut(node);
-        block.held.replace_key(key)
+        mem::replace(&mut self.arena.pair_mut(node).0, key)
     }
 
     pub(crate) fn set_number(&mut self, node: Node, number: usize)
-        requires has { (state_of self.old).has node ≡ true }
         requires held { IsSome ((state_of self.old).held node) }
         requires small { number < 2 ^ 48 }
         ensures { state_of self.new
             ≡ hold node (option_map (λ h. with_number h number) ((state_of self.old).held node))
             (state_of self.old) }
     {
-        let block: &mut Block<K, V> = self.arena.get_mut(node);
-        block.held.set_number(number);
+        let pair = self.arena.take(node);
+        self.arena.fill(node, number, pair);
     }
 
     /// Returns the guard, and allocates it if there is none.
@@ -142,14 +140,13 @@ impl<K, V> Cells<K, V> {
         }
     }
 
-    /// Frees the node's block, and returns what the node held.
-    pub(crate) fn give_back(&mut self, node: Node, alloc: Global) -> Option<Held<K, V>>
-        requires { (state_of self.old).has node ≡ true }
-        ensures held { result ≡ (state_of self.old).held node }
-        ensures dropped { Drops node (state_of self.old) (state_of self.new) }
+    /// Frees the block of a node that holds nothing.
+    pub(crate) fn give_back(&mut self, node: Node, alloc: Global)
+        requires has { (state_of self.old).has node ≡ true }
+        requires bare { (state_of self.old).held node ≡ None }
+        ensures { Drops node (state_of self.old) (state_of self.new) }
     {
-        let block = self.arena.give_back(node, alloc).free();
-        ManuallyDrop::into_inner(block).into_held()
+        self.arena.give_back(node, alloc).free();
     }
 
     /// Links the neighbours of the node past it.

@@ -2,7 +2,6 @@
 #![tactic(auto)]
 
 mod arena;
-mod body;
 mod cells;
 mod held;
 mod link_writes;

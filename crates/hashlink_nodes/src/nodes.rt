@@ -14,7 +14,6 @@ mod reads;
 mod values;
 
 use crate::cells::Cells;
-use crate::held::Held;
 use crate::node::Node;
 use std::alloc::Global;
 use std::marker::Model;
@@ -94,10 +93,7 @@ impl<K, V> Nodes<K, V> {
         let guard = self.guard.unwrap();
         let node = self.first_spare;
         let first_spare = self.cells.next(node);
-        match self.cells.hold(node, Some(Held { number, key, value })) {
-            None => {}
-            Some(_) => unreachable!(),
-        }
+        self.cells.fill(node, number, key, value);
         let next = place.unwrap_or(guard);
         let prev = self.cells.prev(next);
         self.cells.attach(node, prev, next);
@@ -135,19 +131,16 @@ impl<K, V> Nodes<K, V> {
             Err(_) => return Err((key, value)),
         };
         self.guard = Some(guard);
-        match self
-            .cells
-            .make(Some(Held { number, key, value }), self.alloc)
-        {
+        match self.cells.make(self.alloc) {
             Ok(node) => {
+                self.cells.fill(node, number, key, value);
                 let next = place.unwrap_or(guard);
                 let prev = self.cells.prev(next);
                 self.cells.attach(node, prev, next);
                 self.len += 1;
                 Ok(node)
             }
-            Err(Some(held)) => Err((held.key, held.value)),
-            Err(None) => unreachable!(),
+            Err(_) => Err((key, value)),
         }
     }
 
@@ -161,20 +154,12 @@ impl<K, V> Nodes<K, V> {
         ensures link_writes { self.new.link_writes ≡ self.old.link_writes + 3 }
     {
         self.cells.detach(node);
-        let held = match self.cells.hold(node, None) {
-            Some(held) => held,
-            None => unreachable!(),
-        };
+        let pair = self.cells.take(node);
         self.cells.store_next(node, self.first_spare);
         self.first_spare = node;
         self.len -= 1;
         self.spare += 1;
-        let Held {
-            number: _,
-            key,
-            value,
-        } = held;
-        (key, value)
+        pair
     }
 }
 

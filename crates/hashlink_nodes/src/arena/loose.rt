@@ -1,44 +1,49 @@
-//! A box as its pointer.
-ghost use Rattle.std.specs.Prelude.{◌≡◌};
-ghost use Rattle.std.specs.Box.{box_allocator};
-ghost use Rattle.std.specs.Box.Ownership.{box_owns};
+//! Blocks that no arena owns.
+ghost use Rattle.std.specs.Prelude.{◌≡◌, MatchResult};
+ghost use Rattle.hashlink_nodes.specs.Ownership.{loose_owns};
 
+use super::Block;
 use std::alloc::Allocator;
 use std::marker::Model;
+use std::mem::{align_of, size_of};
 
-/// The block of a box, with the value in it and the allocator that it is freed by. It is not `Drop`, and its
-/// fields are hidden: code above that has one must free it or give it to an arena.
+/// A block in which nothing is, with the allocator that it is freed by. It is not `Drop`, and its fields are
+/// hidden: code above that has one must free it or give it to an arena.
 pub(crate) struct Loose<T, A: Allocator> {
-    pub(super) at: *mut T,
+    pub(super) at: *mut Block<T>,
     pub(super) alloc: A,
-    pub(crate) ghost value: { T },
 }
 
 impl<T, A: Allocator> Model for Loose<T, A> {
-    ghost also_owns = { λ l. box_owns (A.dealloc_token l.alloc) T.row l.at l.value };
+    ghost also_owns = { λ l. loose_owns T.row (A.dealloc_token l.alloc) l.at };
 }
 
 impl<T, A: Allocator> Loose<T, A> {
-    pub(crate) fn of(boxed: Box<T, A>) -> Loose<T, A>
-    where
-        T: Drop,
-        ensures { result.value ≡ boxed.value }
+    /// Allocates a block. The allocator comes back where there was no memory.
+    pub(crate) fn allocate(alloc: A) -> Result<Loose<T, A>, A>
+        ensures { MatchResult result (λ l. l.alloc ≡ alloc) (λ a. a ≡ alloc) }
     {
-        let (at, alloc) = Box::into_raw_with_allocator(boxed);
-        Loose { at, alloc }
+        match alloc.allocate(size_of::<Block<T>>(), align_of::<Block<T>>()) {
+            Ok(block) => Ok(Loose {
+                at: block as *mut Block<T>,
+                alloc,
+            }),
+            Err(_) => Err(alloc),
+        }
     }
 
-    /// Frees the block, and returns the value that was in it.
-    pub(crate) fn free(self) -> T
-        ensures { result ≡ self.value }
+    /// Frees the block.
+    pub(crate) fn free(self) -> A
+        ensures { result ≡ self.alloc }
     {
-        Box::into_inner(self.into_box())
-    }
-
-    fn into_box(self) -> Box<T, A>
-        ensures { result.value ≡ self.value }
-    {
-        let Loose { at, alloc } = self;
-        unsafe { Box::from_raw(alloc, at) }
+        unsafe {
+            self.alloc.deallocate(
+                self.at as *mut u8,
+                size_of::<Block<T>>(),
+                align_of::<Block<T>>(),
+            );
+        }
+        let Loose { at: _, alloc } = self;
+        alloc
     }
 }

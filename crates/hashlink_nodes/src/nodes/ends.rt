@@ -25,10 +25,7 @@ impl<K, V> Nodes<K, V> {
     {
         let node = self.first_spare;
         let first_spare = self.cells.next(node);
-        match self.cells.give_back(node, self.alloc) {
-            None => {}
-            Some(_) => unreachable!(),
-        }
+        self.cells.give_back(node, self.alloc);
         self.first_spare = first_spare;
         self.spare -= 1;
     }
@@ -60,12 +57,11 @@ impl<K, V> Nodes<K, V> {
         };
         let node = self.cells.prev(guard);
         self.cells.detach(node);
-        let held = match self.cells.give_back(node, self.alloc) {
-            Some(held) => held,
-            None => unreachable!(),
-        };
+        let number = self.cells.number(node);
+        let (key, value) = self.cells.take(node);
+        self.cells.give_back(node, self.alloc);
         self.len -= 1;
-        held
+        Held { number, key, value }
     }
 
     /// Ends a ring without nodes, and frees the guard's block.
@@ -82,10 +78,7 @@ impl<K, V> Nodes<K, V> {
             alloc,
         } = self;
         if let Some(guard) = guard {
-            match cells.give_back(guard, alloc) {
-                None => {}
-                Some(_) => unreachable!(),
-            }
+            cells.give_back(guard, alloc);
             cells.end();
         } else {
             cells.end();

@@ -1,44 +1,29 @@
 -- `give_back` takes a block out of those that the arena owns.
-use Rattle.std.proofs.Common.{◌≡◌, List, [], ◌∷◌, ◌++◌, refl, sym, ap, subst, Some, IsSome}
-use Rattle.std.specs.Map.{lookup, remove_entry}
-use mir.Syntax.{a_type}
-use mir.Raw.{raw as bare}
-use mir.MapTy.{inst_fn}
-use mir.Val.{Val, vptr}
-use base.Logic.{SProp, ent, emp, never, id⊢, fst∗}
-use base.Fml.{ftrue, flft}
-use prog.Wp.{WpFn}
-use types.Logic.{sem}
-use types.Kit.{‵, raw, ◌⊛◌, ◌$◌, ◌∵◌, !, qed, by, move, keep, drop, split, split3, join, group, fsplit}
-use types.Kit.{fsplit3}
-use types.Kit.{fjoin, fjoin3, use0, use1, suffices, feq_i, feq_l}
-use types.Run.{stop, fld, of_opd, and_then, no_more, returns, enter}
-use types.ByLocal.{alloc_all, pass_all, free_all, look_at, get, get_in, sets, is}
-use types.Part.{sub, whole, agg}
-use contract.Monad.{fact, fact_i}
-use contract.BorrowLft.{◌⊑◌}
-use contract.Running.{tables}
-use denote.Exit.{yes}
-use denote.Memory.{lone}
-use denote.RattleType.{RattleType, owns}
-use denote.RawPtr.{block_ptr, null_ptr, ptr_val, in_a_block}
-use denote.Signature.{types_at, plain}
-use denote.Param.{param, layouts}
-use denote.Steps.{nothing, heard, opens, closes}
-use denote.Triple.Walked.{Stays, stay_dropped, stay_ref, walk_of, Goes-ref, Goes-dropped}
-use Rattle.hashlink_nodes.specs.Ownership.{blocks_own, free_right}
-use Rattle.std.specs.Box.Ownership.{box_owns}
-use Rattle.std.proofs.alloc.Calls.{handle_tells}
-use Rattle.std.proofs.RcSteps.{word, word-Good}
-use Rattle.std.proofs.raw_atomic.Walks.{proved_at, leaves}
-use Rattle.std.specs.contracts.alloc.Global as heap
-use Rattle.std.proofs.alloc.Global.TheLaws as heap_laws
-use Rattle.std.specs.contracts.impls.GlobalAllocator.TheImpl.{ghosts}
+use Rattle.hashlink_nodes.proofs.Walks.{◌≡◌, ℕ, ◌+◌, ◌∙◌, ◌^◌, List, [], ◌∷◌, ◌++◌, refl, sym, ap, subst}
+use Rattle.hashlink_nodes.proofs.Walks.{Option, None, IsSome, lookup, remove_entry, full_share, Ty, a_type}
+use Rattle.hashlink_nodes.proofs.Walks.{ty_int, w64, bare, inst_fn, Val, vint, vptr, SProp, ent, emp, never}
+use Rattle.hashlink_nodes.proofs.Walks.{id⊢, ftrue, fat, froom, flft, fsep, WpFn, ‵, raw, ◌⊛◌, some, ◌$◌}
+use Rattle.hashlink_nodes.proofs.Walks.{◌∵◌, !, qed, by, move, keep, drop, split, split3, group, fsplit}
+use Rattle.hashlink_nodes.proofs.Walks.{fsplit3, fjoin, fjoin3, pick, rewrite, use0, use1, suffices, feq_i}
+use Rattle.hashlink_nodes.proofs.Walks.{feq_l, stop, fld, of_opd, and_then, no_more, returns, enter}
+use Rattle.hashlink_nodes.proofs.Walks.{alloc_all, pass_all, free_all, look_at, get, get_in, sets, is, sub}
+use Rattle.hashlink_nodes.proofs.Walks.{whole, agg, fact, fact_i, ◌⊑◌, tables, part_out, usize, yes, lone}
+use Rattle.hashlink_nodes.proofs.Walks.{uint_out, RattleType, owns, Ptr, block_ptr, ptr_val, in_a_block}
+use Rattle.hashlink_nodes.proofs.Walks.{lies_at, types_at, plain, param, layouts, nothing, heard, opens}
+use Rattle.hashlink_nodes.proofs.Walks.{closes, Stays, stay_dropped, stay_ref, walk_of, Goes-dropped}
+use Rattle.hashlink_nodes.proofs.Walks.{Goes-ref, word, word-Good, proved_at, leaves, ghosts, handle_tells}
 use Rattle.hashlink_nodes.specs.Node.{same_node}
+use Rattle.hashlink_nodes.specs.Kept.{entry_in, number_word}
+use Rattle.hashlink_nodes.specs.Ownership.{Links, blocks_own, block_owns, pair_owns, pair_room}
+use Rattle.hashlink_nodes.specs.Ownership.{is_small, number_of, number_offset, links_of, links_offset}
+use Rattle.hashlink_nodes.specs.Ownership.{deed_owns}
+use Rattle.hashlink_nodes.specs.Ownership.{free_right}
 use Rattle.hashlink_nodes.specs.declared.arena.Arena.{Arena}
 use Rattle.hashlink_nodes.specs.contracts.arena.Arena.{the_row}
 use Rattle.hashlink_nodes.proofs.ArenaSteps.{Nd, word_had}
 use Rattle.hashlink_nodes.proofs.ArenaBlocks.{found, blocks_cut}
+use Rattle.std.specs.contracts.alloc.Global as heap
+use Rattle.std.proofs.alloc.Global.TheLaws as heap_laws
 use Rattle.hashlink_nodes.proofs.LooseSteps.{both, Lo, al, loose_good, loose_in}
 use Rattle.hashlink_nodes.specs.contracts.arena.Arena.give_back.{ended, clauses}
 use Rattle.hashlink_nodes.specs.contracts.arena.Arena.give_back.Key.{name as #self}
@@ -79,11 +64,11 @@ give_back_spec 𝓤 𝓛 𝓜 𝓡 wired T L =
     qed 𝓛 ((toks ⊛ ‵ (owns (types_at En.signature.params κs) z.0.3 z.0.4)) ∷ raw
     ((c κs z.0.3).requires z.1) ∷ []) ∵
     split ! $ move ! (2 ∷ []) $
-    use1 𝓛 (raw (fact 𝓤 (κs.1.0 ⊑ T.lives)) ⊛ raw (fact 𝓤 (IsSome (lookup (same_node n) a.blocks))))
-    (id⊢ 𝓤 _) $ split
-    ! $ drop ! $ heard ! _ (λ held.
-    let x = (found _ held).0 in
-    let is_x = (found _ held).1 in
+    use1 𝓛 (raw (fact 𝓤 (κs.1.0 ⊑ T.lives)) ⊛ raw (fact 𝓤 (IsSome (lookup (same_node n) a.blocks)))
+    ⊛ raw (fact 𝓤 (entry_in (lookup (same_node n) a.blocks) ≡ None)))
+    (id⊢ 𝓤 _) $ split ! $ drop ! $ split ! $ heard ! _ (λ there. heard ! _ (λ lacks.
+    let k = (found _ there).0 in let is_k = (found _ there).1 in
+    let is_e : k.entry ≡ None = ap entry_in (sym is_k) ∙ lacks in
     let new : Arena T.Denot = record { mark = a.mark; blocks = remove_entry (same_node n) a.blocks } in
     move ! (1 ∷ []) $ fsplit ! $ fsplit3 ! $ feq_l !
     (λ e0. move ! (2 ∷ []) $ fsplit ! $ word_had ! n.at z.0.4.1.0
@@ -100,11 +85,28 @@ give_back_spec 𝓤 𝓛 𝓜 𝓡 wired T L =
     (λ l. pass_all ! refl ((tt, tt), (word-Good [] n.at, (fits, tt))) $
     move ! (4 ∷ 5 ∷ 0 ∷ []) $ opens ! tt Ar {h = a} rb ro
     (λ vs. move ! (1 ∷ []) $ fsplit ! $ move ! (1 ∷ []) $
-    use1 𝓛 (‵ (box_owns free_right R n.at x) ⊛ ‵ (blocks_own R (remove_entry (same_node n) a.blocks)))
-    (blocks_cut R 𝓛 n a.blocks x is_x) $ split ! $
-    in_a_block ! n.at (λ p. box_owns free_right R p x)
-    (fst∗ 𝓤 (never 𝓤) (sem 𝓛 (free_right (bare (lone R.mir)) null_ptr))) (λ b o e.
-    let out : Lr.Denot = record { at = block_ptr b o; alloc = alloc; value = x } in
+    use1 𝓛 (‵ (block_owns R n.at k) ⊛ ‵ (blocks_own R (remove_entry (same_node n) a.blocks)))
+    (blocks_cut R 𝓛 n a.blocks k is_k) $ split ! $ fsplit3 ! $
+    rewrite ! 0 (λ x. ‵ (pair_owns R n.at x)) is_e refl $
+    in_a_block ! n.at (pair_room R) (id⊢ 𝓤 (never 𝓤)) (λ b o e.
+    let τ : Ty = lone Links.mir in let at = o + links_offset R in let no = o + number_offset R in
+    let out : Lr.Denot = record { at = block_ptr b o; alloc = alloc } in
+    move ! (1 ∷ []) $
+    rewrite ! 0 (λ (x : Ptr × Option (ℕ × T.Denot)). ‵ (fsep (is_small R x.1)
+    (lies_at usize full_share (number_of R x.0) (number_word x.1)))) (λ i. (e i, is_e i)) refl $
+    fsplit ! $ drop ! $ use1 𝓛 (‵ (fat full_share (ty_int w64) b no (vint w64 (2 ^ 48))))
+    (uint_out 𝓛 full_share w64 (2 ^ 48) b no) $
+    use1 𝓛 (‵ (froom (ty_int w64) b no)) (𝓛.laws.at_room (ty_int w64) b no (vint w64 (2 ^ 48))) $
+    move ! (2 ∷ []) $
+    rewrite ! 0 (λ (p : Ptr). ‵ (fsep (lies_at Links full_share (links_of R p) k.links)
+    (deed_owns R free_right p)))
+    e refl $ fsplit ! $
+    use1 𝓛 (some (λ (v : Val). ‵ (fat full_share τ b at v) ⊛ ‵ (Links.own_val k.links (v ∷ []))))
+    (part_out 𝓛 Links refl full_share k.links b at) $ pick ! (λ v. split ! $ move ! (1 ∷ []) $ drop ! $
+    use1 𝓛 (‵ (froom τ b at)) (𝓛.laws.at_room τ b at v) $
+    use1 𝓛 (‵ (froom (bare τ) b at)) (𝓛.laws.room-raw τ b at) $
+    -- [room for the links; the deed; room for the number, for the pair]
+    move ! (3 ∷ 2 ∷ 0 ∷ []) $ fjoin3 ! $ fjoin ! $
     -- [the block; the others; the mark; its cell; the open borrow; obs; auth; a token; nothing; the handle]
     sets ! (is ! (of_opd ! (get_in ! (fld ! refl (stop !)) (sub ! 0 refl (whole !)))) (ap ptr_val e)) refl
     (tt, tt) $
@@ -114,13 +116,11 @@ give_back_spec 𝓤 𝓛 𝓜 𝓡 wired T L =
     closes ! tt Ar new vs rb
     ro $
     -- [obs; the borrow; its token; the block; a token; nothing; the handle]
-    move ! (3 ∷ 6 ∷ []) $ loose_in R Z LZ ghosts ! b o h alloc x $
+    move ! (3 ∷ 6 ∷ []) $ loose_in R Z LZ ghosts ! b o h alloc $
     use0 𝓛 (raw (fact 𝓤 (new.blocks ≡ remove_entry (same_node n) a.blocks)))
-    (fact_i 𝓤 (new.blocks ≡ remove_entry (same_node n) a.blocks) (emp 𝓤) refl) $
-    use0 𝓛 (raw (fact 𝓤 (lookup (same_node n) a.blocks ≡ Some x)))
-    (fact_i 𝓤 (lookup (same_node n) a.blocks ≡ Some x) (emp 𝓤) is_x) $ join ! $
+    (fact_i 𝓤 (new.blocks ≡ remove_entry (same_node n) a.blocks) (emp 𝓤) refl) $ move ! (1 ∷ 0 ∷ []) $
     move ! (4 ∷ 5 ∷ 6 ∷ []) $ group ! 3 $
     nothing ! $ nothing ! $ fjoin ! $ nothing ! $ fjoin ! $ move ! (4 ∷ 5 ∷ []) $ feq_i ! (List Val) z.0.4.0
     (vptr rb ro ∷ []) e0 $ fjoin3 ! $ fjoin ! $
-    returns ! (look_at ! 0 refl) $ free_all ! refl $ keep ! (1 ∷ 0 ∷ 3 ∷ 2 ∷ []) $ by !
-    (leaves 𝓛 En hs c z (both (vptr b o) h) out (new, (tt, (tt, tt))) (tt, (tt, (tt, tt))))))))))))
+    returns ! (look_at ! 0 refl) $ free_all ! refl $ keep ! (1 ∷ 0 ∷ 2 ∷ 3 ∷ []) $ by !
+    (leaves 𝓛 En hs c z (both (vptr b o) h) out (new, (tt, (tt, tt))) (tt, (tt, (tt, tt))))))))))))))

@@ -1,21 +1,9 @@
 -- An arena with no block owns nothing.
-use Rattle.std.proofs.Common.{◌≡◌, [], ◌∷◌, refl}
-use mir.Syntax.{a_type}
-use mir.MapTy.{inst_fn}
-use base.Logic.{SProp, emp}
-use base.Fml.{ftrue, flft}
-use mir.Val.{Val}
-use types.Kit.{‵, raw, ◌⊛◌, ◌$◌, ◌∵◌, !, qed, by, move, keep, drop, split, use0, fjoin}
-use types.Run.{no_more, and_then, returns, enter}
-use types.ByLocal.{alloc_all, pass_all, free_all, look_at, get, sets}
-use types.Part.{agg}
-use contract.Monad.{fact, fact_i}
-use contract.Running.{tables}
-use denote.RattleType.{RattleType}
-use denote.Param.{param, layouts}
-use denote.Steps.{nothing}
-use denote.Triple.Walked.{walk_of}
-use Rattle.std.proofs.raw_atomic.Walks.{proved_at, leaves}
+use Rattle.hashlink_nodes.proofs.Walks.{◌≡◌, [], ◌∷◌, refl, a_type, inst_fn, SProp, emp, ftrue, flft, Val}
+use Rattle.hashlink_nodes.proofs.Walks.{‵, raw, ◌⊛◌, ◌$◌, ◌∵◌, !, qed, by, move, keep, drop, split, use0}
+use Rattle.hashlink_nodes.proofs.Walks.{fjoin, no_more, and_then, returns, enter, alloc_all, pass_all}
+use Rattle.hashlink_nodes.proofs.Walks.{free_all, look_at, get, sets, agg, fact, fact_i, tables, RattleType}
+use Rattle.hashlink_nodes.proofs.Walks.{param, layouts, nothing, walk_of, proved_at, leaves}
 use Rattle.hashlink_nodes.proofs.ArenaSteps.{Mark, mark, mark_made}
 use Rattle.hashlink_nodes.specs.declared.arena.Arena.{Arena}
 use Rattle.hashlink_nodes.specs.contracts.arena.Arena.new.{ended, clauses}

@@ -1,13 +1,15 @@
-use Rattle.std.proofs.Common.{None, Some, ap, sym, ◌∙◌, arith}
+use Rattle.std.proofs.Common.{◌≡◌, None, Some, ap, sym, ◌∙◌, arith}
 use Rattle.std.specs.Option.{option_map}
+use Rattle.std.specs.Prelude.{is_some}
 use Rattle.std.specs.Map.{lookup}
 use Rattle.hashlink_nodes.specs.Node.{same_node}
 use Rattle.hashlink_nodes.specs.Cells.{state_of}
 use Rattle.hashlink_nodes.specs.State.{State}
 use Rattle.hashlink_nodes.specs.Ring.{Ring, Held, pair_of}
-use Rattle.hashlink_nodes.proofs.Sound.{node_of, has_detached, held_detached, has_held, facts, none_some}
-use Rattle.hashlink_nodes.proofs.Sound.{same_some}
+use Rattle.hashlink_nodes.proofs.Sound.{node_of, has_detached, held_detached, has_held, facts}
 use Rattle.hashlink_nodes.proofs.Moving.{remove_done, remove_writes}
+use Rattle.hashlink_nodes.proofs.nodes.Nodes.detach_into_free.Given as given
+use Rattle.hashlink_nodes.proofs.nodes.Nodes.detach_into_free.Goals.{After-detach}
 use Rattle.hashlink_nodes.proofs.nodes.Nodes.detach_into_free.Goals as goal
 
 pub detach-requires-clause-node : goal.detach-requires-clause-node
@@ -25,31 +27,28 @@ detach-requires-clause-prev g c =
     (node_of (state_of c.self.inside.cells) c.self.inside.guard c.self.inside.first_spare c.self.inside.len
     c.self.inside.spare c.self.invariant c.args.self.now c.self.view_is c.args.node c.requires).has_prev
 
-pub hold-requires-clause-has : goal.hold-requires-clause-has
-hold-requires-clause-has g c =
-    let S : Type 0 = State g.row.K.Denot g.row.V.Denot in
-    (ap (λ (s : S). s.has c.args.node) c.detach.ensures
-    ∙ ap (λ f. f c.args.node) (has_detached (state_of c.self.inside.cells) c.args.node)
-    ∙
-    (node_of (state_of c.self.inside.cells) c.self.inside.guard c.self.inside.first_spare c.self.inside.len
-    c.self.inside.spare c.self.invariant c.args.self.now c.self.view_is c.args.node c.requires).has_node)
+-- the node still holds its entry when it is taken
+holds : (g : given.Over) (c : After-detach g)
+    → (h : Held g.row.K.Denot g.row.V.Denot) × ((state_of c.detach.new.self).held c.args.node ≡ Some h)
+    × (lookup (same_node c.args.node) c.args.self.now.entries ≡ Some h)
+holds g c =
+    let S : Type 0 = State g.row.K.Denot g.row.V.Denot in let R : Type 0 = Ring g.row.K.Denot g.row.V.Denot in
+    let at = node_of (state_of c.self.inside.cells) c.self.inside.guard c.self.inside.first_spare
+    c.self.inside.len c.self.inside.spare c.self.invariant c.args.self.now c.self.view_is c.args.node
+    c.requires in (
+      at.value,
+      ap (λ (s : S). s.held c.args.node) c.detach.ensures
+          ∙ ap (λ f. f c.args.node) (held_detached (state_of c.self.inside.cells) c.args.node) ∙ at.holds,
+      ap (λ (r : R). lookup (same_node c.args.node) r.entries) (sym c.self.view_is) ∙ at.looked,
+    )
 
-pub unreachable-requires : goal.unreachable-requires
-unreachable-requires g c =
-    let S : Type 0 = State g.row.K.Denot g.row.V.Denot in
-    none_some
-    (sym c.in-None.is
-    ∙
-    (c.hold.ensures.was ∙ ap (λ (s : S). s.held c.args.node) c.detach.ensures
-    ∙ ap (λ f. f c.args.node) (held_detached (state_of c.self.inside.cells) c.args.node)
-    ∙
-    (node_of (state_of c.self.inside.cells) c.self.inside.guard c.self.inside.first_spare c.self.inside.len
-    c.self.inside.spare c.self.invariant c.args.self.now c.self.view_is c.args.node c.requires).holds))
+pub take-pair-requires : goal.take-pair-requires
+take-pair-requires g c = ap is_some (holds g (goal.at.take-pair-requires g c).After-detach).1
 
 pub store_next-requires : goal.store_next-requires
 store_next-requires g c =
     let S : Type 0 = State g.row.K.Denot g.row.V.Denot in
-    ap (λ (s : S). s.has c.args.node) c.hold.ensures.is
+    ap (λ (s : S). s.has c.args.node) c.take-pair.ensures.is
     ∙ ap (λ f. f c.args.node) (has_held (state_of c.detach.new.self) c.args.node None)
     ∙
     (ap (λ (s : S). s.has c.args.node) c.detach.ensures
@@ -79,49 +78,37 @@ overflow_add-self g c =
 
 pub invariant_of-self : goal.invariant_of-self
 invariant_of-self g c =
-    (remove_done (state_of c.self.inside.cells) (state_of c.detach.new.self) (state_of c.hold.new.self)
+    (remove_done (state_of c.self.inside.cells) (state_of c.detach.new.self) (state_of c.take-pair.new.self)
     (state_of c.store_next.new.self) c.self.inside.guard c.self.inside.first_spare c.self.inside.len
     c.self.inside.spare c.self.invariant c.args.self.now c.self.view_is c.args.node
     c.requires c.detach.ensures
-    c.hold.ensures.is c.store_next.ensures).sound
+    c.take-pair.ensures.is c.store_next.ensures).sound
 
 pub returns-clause-pair : goal.returns-clause-pair
 returns-clause-pair g c =
-    let S : Type 0 = State g.row.K.Denot g.row.V.Denot in let R : Type 0 = Ring g.row.K.Denot g.row.V.Denot in
-    let e = same_some
-    (sym c.in-Some.is
-    ∙
-    (c.hold.ensures.was ∙ ap (λ (s : S). s.held c.args.node) c.detach.ensures
-    ∙ ap (λ f. f c.args.node) (held_detached (state_of c.self.inside.cells) c.args.node)
-    ∙
-    (node_of (state_of c.self.inside.cells) c.self.inside.guard c.self.inside.first_spare c.self.inside.len
-    c.self.inside.spare c.self.invariant c.args.self.now c.self.view_is c.args.node c.requires).holds))
-    in
-    ap (λ (r : R). option_map pair_of (lookup (same_node c.args.node) r.entries)) (sym c.self.view_is)
-    ∙ ap (option_map pair_of)
-    (node_of (state_of c.self.inside.cells) c.self.inside.guard c.self.inside.first_spare c.self.inside.len
-    c.self.inside.spare c.self.invariant c.args.self.now c.self.view_is c.args.node c.requires).looked
-    ∙ ap (λ (h : Held g.row.K.Denot g.row.V.Denot). Some (pair_of h)) (sym e)
+    let at = holds g (goal.at.returns-clause-pair g c).After-detach in
+    ap (option_map pair_of) (at.2 ∙ sym at.1) ∙ c.take-pair.ensures.was
 
 pub returns-clause-entries : goal.returns-clause-entries
 returns-clause-entries g c =
-    (remove_done (state_of c.self.inside.cells) (state_of c.detach.new.self) (state_of c.hold.new.self)
+    (remove_done (state_of c.self.inside.cells) (state_of c.detach.new.self) (state_of c.take-pair.new.self)
     (state_of c.store_next.new.self) c.self.inside.guard c.self.inside.first_spare c.self.inside.len
     c.self.inside.spare c.self.invariant c.args.self.now c.self.view_is c.args.node
     c.requires c.detach.ensures
-    c.hold.ensures.is c.store_next.ensures).entries
+    c.take-pair.ensures.is c.store_next.ensures).entries
 
 pub returns-clause-free : goal.returns-clause-free
 returns-clause-free g c =
-    (remove_done (state_of c.self.inside.cells) (state_of c.detach.new.self) (state_of c.hold.new.self)
+    (remove_done (state_of c.self.inside.cells) (state_of c.detach.new.self) (state_of c.take-pair.new.self)
     (state_of c.store_next.new.self) c.self.inside.guard c.self.inside.first_spare c.self.inside.len
     c.self.inside.spare c.self.invariant c.args.self.now c.self.view_is c.args.node
     c.requires c.detach.ensures
-    c.hold.ensures.is c.store_next.ensures).free
+    c.take-pair.ensures.is c.store_next.ensures).free
 
 pub returns-clause-link_writes : goal.returns-clause-link_writes
 returns-clause-link_writes g c =
     let R : Type 0 = Ring g.row.K.Denot g.row.V.Denot in
-    remove_writes (state_of c.self.inside.cells) (state_of c.detach.new.self) (state_of c.hold.new.self)
+    remove_writes (state_of c.self.inside.cells) (state_of c.detach.new.self) (state_of c.take-pair.new.self)
     (state_of c.store_next.new.self) c.args.node c.self.inside.first_spare c.args.self.now.link_writes
-    (ap (λ (r : R). r.link_writes) c.self.view_is) c.detach.ensures c.hold.ensures.is c.store_next.ensures
+    (ap (λ (r : R). r.link_writes) c.self.view_is) c.detach.ensures c.take-pair.ensures.is
+    c.store_next.ensures

@@ -10,4 +10,4 @@ end-requires g c =
     c.self.inside.spare c.self.invariant c.in-Some.is c.args.self c.self.view_is in
     guard_gone s (state_of c.give_back.new.self) c.self.inside.guard c.in-Some.guard c.self.inside.first_spare
     c.self.inside.len c.self.inside.spare c.args.self o c.requires.entries c.requires.free
-    c.give_back.ensures.dropped
+    c.give_back.ensures

@@ -8,13 +8,8 @@ use Rattle.hashlink_nodes.specs.Ring.{Ring, Held, pair_of}
 use Rattle.hashlink_nodes.proofs.Sound.{node_of}
 use Rattle.hashlink_nodes.proofs.nodes.Nodes.entry.Goals as goal
 
-pub pair-requires-clause-has : goal.pair-requires-clause-has
-pair-requires-clause-has g c =
-    (node_of (state_of c.self.inside.cells) c.self.inside.guard c.self.inside.first_spare c.self.inside.len
-    c.self.inside.spare c.self.invariant c.args.self.now c.self.view_is c.args.node c.requires).has_node
-
-pub pair-requires-clause-held : goal.pair-requires-clause-held
-pair-requires-clause-held g c =
+pub pair-requires : goal.pair-requires
+pair-requires g c =
     ap is_some
     (node_of (state_of c.self.inside.cells) c.self.inside.guard c.self.inside.first_spare c.self.inside.len
     c.self.inside.spare c.self.invariant c.args.self.now c.self.view_is c.args.node c.requires).holds

@@ -5,14 +5,8 @@ use Rattle.hashlink_nodes.specs.Ring.{Held, pair_of}
 use Rattle.hashlink_nodes.proofs.Lending.{lent-from, lent-looked, lent-sound, lent-ring}
 use Rattle.hashlink_nodes.proofs.nodes.Nodes.entry_mut.Goals as goal
 
-pub entry_mut-requires-clause-has : goal.entry_mut-requires-clause-has
-entry_mut-requires-clause-has g c =
-    (lent-from c.self.inside.cells c.self.inside.guard c.self.inside.first_spare c.self.inside.len
-    c.self.inside.spare
-    c.self.invariant c.args.self.now c.self.view_is c.args.node c.requires).has_node
-
-pub entry_mut-requires-clause-held : goal.entry_mut-requires-clause-held
-entry_mut-requires-clause-held g c =
+pub entry_mut-requires : goal.entry_mut-requires
+entry_mut-requires g c =
     ap is_some
     (lent-from c.self.inside.cells c.self.inside.guard c.self.inside.first_spare c.self.inside.len
     c.self.inside.spare

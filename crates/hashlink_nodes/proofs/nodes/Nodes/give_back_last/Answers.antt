@@ -1,11 +1,15 @@
-use Rattle.std.proofs.Common.{◌≡◌, ◌-◌, Some, ap, sym, ◌∙◌, arith}
+use Rattle.std.specs.Option.{option_map}
+use Rattle.std.specs.Prelude.{is_some}
+use Rattle.std.proofs.Common.{◌≡◌, ◌-◌, None, Some, ap, sym, ◌∙◌, arith}
 use Rattle.hashlink_nodes.specs.Cells.{state_of}
-use Rattle.hashlink_nodes.specs.State.{State}
-use Rattle.hashlink_nodes.specs.Ring.{Ring}
-use Rattle.hashlink_nodes.proofs.Sound.{InRing, opened, held_detached, has_detached, none_some}
+use Rattle.hashlink_nodes.specs.State.{State, Drops}
+use Rattle.hashlink_nodes.specs.Ring.{Ring, Held, held, pair_of}
+use Rattle.hashlink_nodes.proofs.Sound.{InRing, opened, held_detached, has_detached, has_held, held_here}
+use Rattle.hashlink_nodes.proofs.Sound.{same_some, drops_taken}
 use Rattle.hashlink_nodes.proofs.Ending.{LastGone, last_out, last_gone, writes_detached, guard_some}
 use Rattle.hashlink_nodes.proofs.nodes.Nodes.give_back_last.Given as given
-use Rattle.hashlink_nodes.proofs.nodes.Nodes.give_back_last.Goals.{After-prev-node, After-give_back}
+use Rattle.hashlink_nodes.proofs.nodes.Nodes.give_back_last.Goals.{After-prev-node, After-detach}
+use Rattle.hashlink_nodes.proofs.nodes.Nodes.give_back_last.Goals.{After-give_back}
 use Rattle.hashlink_nodes.proofs.nodes.Nodes.give_back_last.Goals as goal
 
 pub unreachable-requires : goal.unreachable-requires
@@ -33,30 +37,46 @@ detach-requires-clause-next g c = (out g (goal.at.detach-requires-clause-next g 
 pub detach-requires-clause-prev : goal.detach-requires-clause-prev
 detach-requires-clause-prev g c = (out g (goal.at.detach-requires-clause-prev g c).After-prev-node).has_prev
 
-pub give_back-requires : goal.give_back-requires
-give_back-requires g c =
+-- it holds its entry until that is taken
+had : (g : given.Over) (c : After-detach g)
+    → (state_of c.detach.new.self).held c.prev-node.result ≡ Some (out g c.before.before).value
+had g c =
     let S : Type 0 = State g.row.K.Denot g.row.V.Denot in
-    ap (λ (s : S). s.has c.prev-node.result) c.detach.ensures
-    ∙ ap (λ f. f c.prev-node.result) (has_detached (state_of c.self.inside.cells) c.prev-node.result)
-    ∙ (out g (goal.at.give_back-requires g c).After-prev-node).has_node
-
--- what it held is returned
-held : (g : given.Over) (c : After-give_back g)
-    → c.give_back.result ≡ (state_of c.self.inside.cells).held c.prev-node.result
-held g c =
-    let S : Type 0 = State g.row.K.Denot g.row.V.Denot in
-    c.give_back.ensures.held ∙ ap (λ (s : S). s.held c.prev-node.result) c.detach.ensures
+    ap (λ (s : S). s.held c.prev-node.result) c.detach.ensures
     ∙ ap (λ f. f c.prev-node.result) (held_detached (state_of c.self.inside.cells) c.prev-node.result)
+    ∙ (out g c.before.before).holds
 
-pub unreachable-requires-in-None-give_back : goal.unreachable-requires-in-None-give_back
-unreachable-requires-in-None-give_back g c =
-    let at = goal.at.unreachable-requires-in-None-give_back g c in
-    none_some (sym c.in-None-give_back.is ∙ held g at.After-give_back ∙ (out g at.After-prev-node).holds)
+pub number-number-requires : goal.number-number-requires
+number-number-requires g c = ap is_some (had g (goal.at.number-number-requires g c).After-detach)
+
+pub take-key-requires : goal.take-key-requires
+take-key-requires g c = ap is_some (had g (goal.at.take-key-requires g c).After-detach)
+
+pub give_back-requires-clause-has : goal.give_back-requires-clause-has
+give_back-requires-clause-has g c =
+    let S : Type 0 = State g.row.K.Denot g.row.V.Denot in
+    ap (λ (s : S). s.has c.prev-node.result) c.take-key.ensures.is
+    ∙ ap (λ f. f c.prev-node.result) (has_held (state_of c.detach.new.self) c.prev-node.result None)
+    ∙ ap (λ (s : S). s.has c.prev-node.result) c.detach.ensures
+    ∙ ap (λ f. f c.prev-node.result) (has_detached (state_of c.self.inside.cells) c.prev-node.result)
+    ∙ (out g (goal.at.give_back-requires-clause-has g c).After-prev-node).has_node
+
+pub give_back-requires-clause-bare : goal.give_back-requires-clause-bare
+give_back-requires-clause-bare g c =
+    let S : Type 0 = State g.row.K.Denot g.row.V.Denot in
+    ap (λ (s : S). s.held c.prev-node.result) c.take-key.ensures.is
+    ∙ held_here (state_of c.detach.new.self) c.prev-node.result None
 
 pub overflow_sub-self : goal.overflow_sub-self
 overflow_sub-self g c = omega (arith, (out g (goal.at.overflow_sub-self g c).After-prev-node).some)
 
 -- the others stay
+drops : (g : given.Over) (c : After-give_back g)
+    → Drops c.prev-node.result (state_of c.detach.new.self) (state_of c.give_back.new.self)
+drops g c =
+    drops_taken (state_of c.detach.new.self) (state_of c.take-key.new.self) (state_of c.give_back.new.self)
+    c.prev-node.result c.take-key.ensures.is c.give_back.ensures
+
 gone : (g : given.Over) (c : After-give_back g)
     → LastGone (state_of c.self.inside.cells) (state_of c.give_back.new.self) c.self.inside.guard
     c.self.inside.first_spare (c.self.inside.len - 1) c.self.inside.spare c.args.self.now c.prev-node.result
@@ -66,15 +86,24 @@ gone g c =
     (opened (state_of c.self.inside.cells) c.self.inside.guard c.in-Some.guard c.self.inside.first_spare
     c.self.inside.len c.self.inside.spare c.self.invariant c.in-Some.is c.args.self.now c.self.view_is)
     c.requires c.prev-node.result c.prev-node.ensures (state_of c.detach.new.self)
-    (state_of c.give_back.new.self) c.detach.ensures c.give_back.ensures.dropped
+    (state_of c.give_back.new.self) c.detach.ensures (drops g c)
 
 pub invariant_of-self : goal.invariant_of-self
 invariant_of-self g c = (gone g (goal.at.invariant_of-self g c).After-give_back).sound
 
 pub returns-clause-last : goal.returns-clause-last
 returns-clause-last g c =
-    let at = (goal.at.returns-clause-last g c).After-give_back in let is = c.in-Some-give_back.is in
-    (c.prev-node.result, (gone g at).last c.in-Some-give_back.held (sym (held g at) ∙ is))
+    let at = goal.at.returns-clause-last g c in
+    let held_then = had g at.After-detach in
+    let number = same_some (ap (option_map (λ (h : Held g.row.K.Denot g.row.V.Denot). h.number))
+    (sym held_then)
+    ∙ c.number-number.ensures) in
+    let pair = same_some (ap (option_map pair_of) (sym held_then) ∙ c.take-key.ensures.was) in
+    let x = out g at.After-prev-node in (
+      c.prev-node.result,
+      (gone g at.After-give_back).last (held c.number-number.result c.take-key.result.0 c.take-key.result.1)
+          (x.holds ∙ (λ i. Some (held (number i) (pair i).0 (pair i).1))),
+    )
 
 pub returns-clause-free : goal.returns-clause-free
 returns-clause-free g c = (gone g (goal.at.returns-clause-free g c).After-give_back).free
@@ -85,4 +114,4 @@ returns-clause-link_writes g c =
     writes_detached (state_of c.self.inside.cells) (state_of c.detach.new.self)
     (state_of c.give_back.new.self)
     c.prev-node.result c.args.self.now.link_writes (ap (λ (r : R). r.link_writes) c.self.view_is)
-    c.detach.ensures c.give_back.ensures.dropped
+    c.detach.ensures (drops g (goal.at.returns-clause-link_writes g c).After-give_back)

@@ -8,13 +8,8 @@ use Rattle.hashlink_nodes.specs.Ring.{Ring, Held}
 use Rattle.hashlink_nodes.proofs.Sound.{node_of}
 use Rattle.hashlink_nodes.proofs.nodes.Nodes.number.Goals as goal
 
-pub number-requires-clause-has : goal.number-requires-clause-has
-number-requires-clause-has g c =
-    (node_of (state_of c.self.inside.cells) c.self.inside.guard c.self.inside.first_spare c.self.inside.len
-    c.self.inside.spare c.self.invariant c.args.self.now c.self.view_is c.args.node c.requires).has_node
-
-pub number-requires-clause-held : goal.number-requires-clause-held
-number-requires-clause-held g c =
+pub number-requires : goal.number-requires
+number-requires g c =
     ap is_some
     (node_of (state_of c.self.inside.cells) c.self.inside.guard c.self.inside.first_spare c.self.inside.len
     c.self.inside.spare c.self.invariant c.args.self.now c.self.view_is c.args.node c.requires).holds

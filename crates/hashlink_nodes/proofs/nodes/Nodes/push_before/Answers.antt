@@ -3,11 +3,11 @@ use Rattle.std.specs.Prelude.{OnOk}
 use Rattle.std.proofs.lemmas.List.{nil_from_length}
 use Rattle.hashlink_nodes.specs.Cells.{state_of}
 use Rattle.hashlink_nodes.specs.Ring.{held, put_before}
-use Rattle.hashlink_nodes.proofs.Sound.{Leaves, facts, opened, apart, none_some}
+use Rattle.hashlink_nodes.proofs.Sound.{Leaves, facts, opened, apart}
 use Rattle.hashlink_nodes.proofs.Pushing.{Ready, Pushes, first_spare, with_free, ready_spare, pushes, pushed}
 use Rattle.hashlink_nodes.proofs.Pushing.{push_writes}
 use Rattle.hashlink_nodes.proofs.nodes.Nodes.push_before.Given as given
-use Rattle.hashlink_nodes.proofs.nodes.Nodes.push_before.Goals.{After-unwrap-guard, After-hold, After-attach}
+use Rattle.hashlink_nodes.proofs.nodes.Nodes.push_before.Goals.{After-unwrap-guard, After-fill, After-attach}
 use Rattle.hashlink_nodes.proofs.nodes.Nodes.push_before.Goals as goal
 
 -- ---- no node is spare
@@ -53,18 +53,15 @@ first g c =
 pub next-first_spare-requires : goal.next-first_spare-requires
 next-first_spare-requires g c = (first g (goal.at.next-first_spare-requires g c).After-unwrap-guard).0
 
-pub hold-requires-clause-has : goal.hold-requires-clause-has
-hold-requires-clause-has g c = (first g (goal.at.hold-requires-clause-has g c).After-unwrap-guard).0
+pub fill-requires-clause-has : goal.fill-requires-clause-has
+fill-requires-clause-has g c = (first g (goal.at.fill-requires-clause-has g c).After-unwrap-guard).0
 
-pub unreachable-requires : goal.unreachable-requires
-unreachable-requires g c =
-    none_some
-    (sym (first g (goal.at.unreachable-requires g c).After-unwrap-guard).1
-    ∙ sym c.hold.ensures.was ∙ c.in-Some.is)
+pub fill-requires-clause-bare : goal.fill-requires-clause-bare
+fill-requires-clause-bare g c = (first g (goal.at.fill-requires-clause-bare g c).After-unwrap-guard).1
 
 -- ---- it is ready, and goes in
-ready : (g : given.Over) (c : After-hold g)
-    → Ready (state_of c.hold.new.self) c.unwrap-guard.result c.next-first_spare.result
+ready : (g : given.Over) (c : After-fill g)
+    → Ready (state_of c.fill.new.self) c.unwrap-guard.result c.next-first_spare.result
     c.self.inside.first_spare
     (held c.args.number c.args.key c.args.value) c.self.inside.len (c.self.inside.spare - 1)
     (with_free c.args.self.now (drop 1 c.args.self.now.free))
@@ -72,40 +69,40 @@ ready g c =
     let o = opened (state_of c.self.inside.cells) c.self.inside.guard c.unwrap-guard.result
     c.self.inside.first_spare c.self.inside.len c.self.inside.spare c.self.invariant c.unwrap-guard.ensures
     c.args.self.now c.self.view_is in
-    ready_spare (state_of c.self.inside.cells) (state_of c.hold.new.self) c.unwrap-guard.result
+    ready_spare (state_of c.self.inside.cells) (state_of c.fill.new.self) c.unwrap-guard.result
     c.self.inside.first_spare c.next-first_spare.result c.self.inside.len c.self.inside.spare c.args.self.now
     (held c.args.number c.args.key c.args.value) o.sound o.view (omega (arith, c.if-self-eq0.false))
-    c.next-first_spare.ensures c.hold.ensures.is
+    c.next-first_spare.ensures c.fill.ensures
 
-goes : (g : given.Over) (c : After-hold g)
-    → Pushes (state_of c.hold.new.self) c.unwrap-guard.result c.next-first_spare.result
+goes : (g : given.Over) (c : After-fill g)
+    → Pushes (state_of c.fill.new.self) c.unwrap-guard.result c.next-first_spare.result
     c.self.inside.first_spare
     (held c.args.number c.args.key c.args.value) c.self.inside.len (c.self.inside.spare - 1)
     (with_free c.args.self.now (drop 1 c.args.self.now.free)) c.args.place
 goes g c =
-    pushes (state_of c.hold.new.self) c.unwrap-guard.result c.next-first_spare.result
+    pushes (state_of c.fill.new.self) c.unwrap-guard.result c.next-first_spare.result
     c.self.inside.first_spare
     (held c.args.number c.args.key c.args.value) c.self.inside.len (c.self.inside.spare - 1)
     (with_free c.args.self.now (drop 1 c.args.self.now.free)) c.args.place (ready g c) c.requires.place
 
 pub prev-prev-requires : goal.prev-prev-requires
 prev-prev-requires g c =
-    ap (state_of c.hold.new.self).has c.unwrap_or-next.ensures
-    ∙ (goes g (goal.at.prev-prev-requires g c).After-hold).has_next
+    ap (state_of c.fill.new.self).has c.unwrap_or-next.ensures
+    ∙ (goes g (goal.at.prev-prev-requires g c).After-fill).has_next
 
 pub attach-requires-clause-node : goal.attach-requires-clause-node
-attach-requires-clause-node g c = (goes g (goal.at.attach-requires-clause-node g c).After-hold).has_node
+attach-requires-clause-node g c = (goes g (goal.at.attach-requires-clause-node g c).After-fill).has_node
 
 pub attach-requires-clause-prev : goal.attach-requires-clause-prev
 attach-requires-clause-prev g c =
-    ap (state_of c.hold.new.self).has
-    (c.prev-prev.ensures ∙ ap (state_of c.hold.new.self).prev c.unwrap_or-next.ensures)
-    ∙ (goes g (goal.at.attach-requires-clause-prev g c).After-hold).has_prev
+    ap (state_of c.fill.new.self).has
+    (c.prev-prev.ensures ∙ ap (state_of c.fill.new.self).prev c.unwrap_or-next.ensures)
+    ∙ (goes g (goal.at.attach-requires-clause-prev g c).After-fill).has_prev
 
 pub attach-requires-clause-next : goal.attach-requires-clause-next
 attach-requires-clause-next g c =
-    ap (state_of c.hold.new.self).has c.unwrap_or-next.ensures
-    ∙ (goes g (goal.at.attach-requires-clause-next g c).After-hold).has_next
+    ap (state_of c.fill.new.self).has c.unwrap_or-next.ensures
+    ∙ (goes g (goal.at.attach-requires-clause-next g c).After-fill).has_next
 
 pub overflow_add-self : goal.overflow_add-self
 overflow_add-self g c =
@@ -119,7 +116,7 @@ overflow_add-self g c =
     }
 
 done : (g : given.Over) (c : After-attach g)
-    → Pushes (state_of c.hold.new.self) c.unwrap-guard.result c.next-first_spare.result
+    → Pushes (state_of c.fill.new.self) c.unwrap-guard.result c.next-first_spare.result
     c.self.inside.first_spare
     (held c.args.number c.args.key c.args.value) c.self.inside.len (c.self.inside.spare - 1)
     (with_free c.args.self.now (drop 1 c.args.self.now.free)) c.args.place
@@ -129,7 +126,7 @@ done : (g : given.Over) (c : After-attach g)
     c.args.self.now.entries)
     (drop 1 c.args.self.now.free)
 done g c push =
-    pushed (state_of c.hold.new.self) (state_of c.attach.new.self) c.self.inside.guard c.unwrap-guard.result
+    pushed (state_of c.fill.new.self) (state_of c.attach.new.self) c.self.inside.guard c.unwrap-guard.result
     c.next-first_spare.result c.self.inside.first_spare c.prev-prev.result c.unwrap_or-next.result
     (held c.args.number c.args.key c.args.value) c.self.inside.len (c.self.inside.spare - 1)
     (with_free c.args.self.now (drop 1 c.args.self.now.free)) c.args.place c.unwrap-guard.ensures
@@ -138,26 +135,26 @@ done g c push =
 pub invariant_of-self : goal.invariant_of-self
 invariant_of-self g c =
     let at = goal.at.invariant_of-self g c in
-    (done g at.After-attach (goes g at.After-hold)).sound
+    (done g at.After-attach (goes g at.After-fill)).sound
 
 pub returns-clause-entries : goal.returns-clause-entries
 returns-clause-entries g c =
     let at = goal.at.returns-clause-entries g c in
-    (done g at.After-attach (goes g at.After-hold)).entries
+    (done g at.After-attach (goes g at.After-fill)).entries
 
 pub returns-clause-free : goal.returns-clause-free
 returns-clause-free g c =
     let at = goal.at.returns-clause-free g c in
-    (done g at.After-attach (goes g at.After-hold)).free
+    (done g at.After-attach (goes g at.After-fill)).free
 
 pub returns-clause-apart : goal.returns-clause-apart
 returns-clause-apart g c =
     let at = goal.at.returns-clause-apart g c in
     apart (state_of c.attach.new.self) c.next-first_spare.result (c.self.inside.len + 1)
-    (c.self.inside.spare - 1) c.self.inside.guard (done g at.After-attach (goes g at.After-hold)).sound
+    (c.self.inside.spare - 1) c.self.inside.guard (done g at.After-attach (goes g at.After-fill)).sound
 
 pub returns-clause-link_writes : goal.returns-clause-link_writes
 returns-clause-link_writes g c =
-    push_writes (state_of c.hold.new.self) (state_of c.attach.new.self) c.self.inside.first_spare
+    push_writes (state_of c.fill.new.self) (state_of c.attach.new.self) c.self.inside.first_spare
     c.prev-prev.result c.unwrap_or-next.result c.args.self.now.link_writes
-    (ready g (goal.at.returns-clause-link_writes g c).After-hold).writes c.attach.ensures
+    (ready g (goal.at.returns-clause-link_writes g c).After-fill).writes c.attach.ensures

@@ -8,13 +8,8 @@ use Rattle.hashlink_nodes.proofs.Changing.{Renewed, renewed}
 use Rattle.hashlink_nodes.proofs.nodes.Nodes.set_key.Given as given
 use Rattle.hashlink_nodes.proofs.nodes.Nodes.set_key.Goals as goal
 
-pub replace_key-requires-clause-has : goal.replace_key-requires-clause-has
-replace_key-requires-clause-has g c =
-    (node_of (state_of c.self.inside.cells) c.self.inside.guard c.self.inside.first_spare c.self.inside.len
-    c.self.inside.spare c.self.invariant c.args.self.now c.self.view_is c.args.node c.requires).has_node
-
-pub replace_key-requires-clause-held : goal.replace_key-requires-clause-held
-replace_key-requires-clause-held g c =
+pub replace_key-requires : goal.replace_key-requires
+replace_key-requires g c =
     ap is_some
     (node_of (state_of c.self.inside.cells) c.self.inside.guard c.self.inside.first_spare c.self.inside.len
     c.self.inside.spare c.self.invariant c.args.self.now c.self.view_is c.args.node c.requires).holds

@@ -7,11 +7,6 @@ use Rattle.hashlink_nodes.proofs.Changing.{Renewed, renewed}
 use Rattle.hashlink_nodes.proofs.nodes.Nodes.set_number.Given as given
 use Rattle.hashlink_nodes.proofs.nodes.Nodes.set_number.Goals as goal
 
-pub set_number-requires-clause-has : goal.set_number-requires-clause-has
-set_number-requires-clause-has g c =
-    (node_of (state_of c.self.inside.cells) c.self.inside.guard c.self.inside.first_spare c.self.inside.len
-    c.self.inside.spare c.self.invariant c.args.self.now c.self.view_is c.args.node c.requires.node).has_node
-
 pub set_number-requires-clause-held : goal.set_number-requires-clause-held
 set_number-requires-clause-held g c =
     ap is_some

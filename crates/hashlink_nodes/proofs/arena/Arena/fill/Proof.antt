@@ -1,0 +1,140 @@
+-- `fill` writes a pair and its number into the room of a block.
+use Rattle.hashlink_nodes.proofs.Walks.{◌≡◌, ℕ, ◌+◌, ◌∙◌, ◌^◌, ◌<◌, List, [], ◌∷◌, ◌++◌, refl, sym, ap}
+use Rattle.hashlink_nodes.proofs.Walks.{subst, Option, Some, None, IsSome, lookup, remove_entry, full_share}
+use Rattle.hashlink_nodes.proofs.Walks.{Ty, a_type, ty_int, w64, inst_fn, Val, vint, vptr, vunit, SProp}
+use Rattle.hashlink_nodes.proofs.Walks.{ent, emp, never, id⊢, ftrue, fat, froom, flft, fsep, WpFn, ‵, raw}
+use Rattle.hashlink_nodes.proofs.Walks.{◌⊛◌, at_ret, ◌$◌, ◌∵◌, !, qed, by, move, keep, drop, split, split3}
+use Rattle.hashlink_nodes.proofs.Walks.{group, fsplit, fsplit3, fjoin, fjoin3, rewrite, use0, use1, use2}
+use Rattle.hashlink_nodes.proofs.Walks.{suffices, feq_i, feq_l, stop, fld, of_opd, addr, store, init}
+use Rattle.hashlink_nodes.proofs.Walks.{assigns, assigns_last, first, blocks, exec, returns, enter}
+use Rattle.hashlink_nodes.proofs.Walks.{alloc_all, pass_all, free_all, look_at, get, get_in, through, sets}
+use Rattle.hashlink_nodes.proofs.Walks.{is, env, sub, whole, fact, fact_i, ◌⊑◌, tables, part_in, usize, no}
+use Rattle.hashlink_nodes.proofs.Walks.{yes, lone, part_at, uint_in, uint_out, RattleType, owns, Ptr}
+use Rattle.hashlink_nodes.proofs.Walks.{ptr_val, in_a_block, lies_at, types_at, plain, param, layouts}
+use Rattle.hashlink_nodes.proofs.Walks.{param_laws, nothing, heard, opens, closes, Stays, stay_dropped}
+use Rattle.hashlink_nodes.proofs.Walks.{stay_ref, walk_of, Goes-dropped, Goes-ref, after, word, word-Good}
+use Rattle.hashlink_nodes.proofs.Walks.{proved_at, leaves}
+use types.Kit.{flt_l}
+use types.Run.{unit_lit}
+use Rattle.hashlink_nodes.specs.Node.{same_node}
+use Rattle.hashlink_nodes.specs.Kept.{alter, entry_in, number_word, with_entry}
+use Rattle.hashlink_nodes.specs.Ownership.{Links, blocks_own, block_owns, pair_owns, pair_room, pair_offset}
+use Rattle.hashlink_nodes.specs.Ownership.{is_small, number_of, number_offset, links_of, deed_owns}
+use Rattle.hashlink_nodes.specs.Ownership.{free_right}
+use Rattle.hashlink_nodes.specs.declared.arena.Arena.{Arena}
+use Rattle.hashlink_nodes.specs.contracts.arena.Arena.{the_row}
+use Rattle.hashlink_nodes.proofs.ArenaSteps.{Nd, word_had, told}
+use Rattle.hashlink_nodes.proofs.ArenaBlocks.{found, blocks_cut, blocks_glue, small_shown}
+use Rattle.hashlink_nodes.specs.contracts.arena.Arena.fill.{ended, clauses}
+use Rattle.hashlink_nodes.specs.contracts.arena.Arena.fill.Key.{name as #self}
+use Rattle.hashlink_nodes.proofs.arena.Arena.fill.Statement.{statement}
+use Rattle.hashlink_nodes.proofs.arena.Arena.fill.Code as code
+
+pub fill_spec : {M : Type 1} → statement M
+fill_spec 𝓤 𝓛 𝓜 𝓡 wired T L =
+    let H = 𝓛.H in
+    let 𝓣 = tables 𝓤 H 𝓜 𝓡 𝓡.env in
+    let R : RattleType = param 0 T in let En = ended T in let c = clauses T 𝓛 𝓜.mem 𝓡.returns in
+    let inst = layouts (a_type ∷ []) (T, tt) in
+    let fn = inst_fn inst code.function in let Ar : RattleType = the_row R in
+    let hs : Stays En.signature.params En.kept
+    = (
+      stay_ref (0 ∷ []) tt (plain (λ _. Ar)),
+      (
+        stay_dropped (plain (λ _. Nd)) yes,
+        (stay_dropped (plain (λ _. usize)) yes, (stay_dropped (plain (λ _. R)) no, tt)),
+      ),
+    )
+    in
+    proved_at 𝓛 En hs c 𝓜 𝓡 (
+      Goes-ref 𝓛 2 0 tt (plain (λ _. Ar)),
+      (
+        Goes-dropped 𝓛 2 (plain (λ _. Nd)) yes (λ κs x f. refl),
+        (
+          Goes-dropped 𝓛 2 (plain (λ _. usize)) yes (λ κs x f. refl),
+          (Goes-dropped 𝓛 2 (plain (λ _. R)) no (λ κs x f. refl), tt),
+        ),
+      ),
+    )
+    (#self inst) fn (code.unfolded 𝓤 H 𝓜 𝓡 wired (T, tt)) (λ z are.
+    let κs = z.0.0 in
+    let qs = z.0.1 in
+    let Post : Val → SProp 𝓤 = (walk_of 𝓛 En hs c).post z in
+    let Run : List Val → SProp 𝓤 = λ ws. WpFn 𝓤 H 𝓣.C 𝓣.Λ fn ws Post in
+    let a = z.0.3.0.now in
+    let rb = z.0.3.0.ref_ptr.0 in let ro = z.0.3.0.ref_ptr.1 in let n = z.0.3.1.0 in
+    let number = z.0.3.1.1.0 in let pair = z.0.3.1.1.1.0 in
+    let toks = ‵ (flft κs.0 qs.0) ⊛ ‵ (flft κs.1.0 qs.1.0) ⊛ ‵ ftrue in
+    qed 𝓛 ((toks ⊛ ‵ (owns (types_at En.signature.params κs) z.0.3 z.0.4)) ∷ raw
+    ((c κs z.0.3).requires z.1) ∷ []) ∵
+    split ! $ move ! (2 ∷ []) $
+    use1 𝓛 (raw (fact 𝓤 (κs.1.0 ⊑ T.lives)) ⊛ raw (fact 𝓤 (IsSome (lookup (same_node n) a.blocks)))
+    ⊛ raw (fact 𝓤 (entry_in (lookup (same_node n) a.blocks) ≡ None)) ⊛ raw (fact 𝓤 (number < 2 ^ 48)))
+    (id⊢ 𝓤 _) $ split ! $ drop ! $ split3 ! $ heard ! _ (λ there. heard ! _ (λ lacks. heard ! _ (λ small.
+    let k = (found _ there).0 in let is_k = (found _ there).1 in
+    let is_e : k.entry ≡ None = ap entry_in (sym is_k) ∙ lacks in
+    let filled = with_entry (Some (number, pair)) in
+    let new : Arena T.Denot = record { mark = a.mark; blocks = alter (same_node n) filled a.blocks } in
+    move ! (1 ∷ []) $ fsplit ! $ fsplit3 ! $ feq_l !
+    (λ e0. move ! (2 ∷ []) $ fsplit ! $ word_had ! n.at z.0.4.1.0
+    (λ e1. fsplit ! $ fsplit ! $ feq_l ! (λ e2. flt_l ! (λ fits.
+    fsplit ! $ told R (param_laws 0 T L) ! pair z.0.4.1.1.1.0 (λ v e3 good.
+    -- [what the pair owns; nothing; obs; the borrow; the tokens]
+    move ! (1 ∷ []) $ drop ! $ move ! (3 ∷ []) $ split3 ! $
+    suffices ! (Run (vptr rb ro ∷ word n.at ∷ vint w64 number ∷ v ∷ []))
+    (subst
+    (λ (us : List Val × List Val × List Val × List Val).
+    ent 𝓤 (Run (vptr rb ro ∷ word n.at ∷ vint w64 number ∷ v ∷ []))
+    (Run (us.0 ++ (us.1 ++ (us.2 ++ (us.3 ++ []))))))
+    (λ j. (sym e0 j, sym e1 j, sym e2 j, sym e3 j)) (id⊢ 𝓤 _))
+    $
+    enter ! 𝓣.C 𝓣.Λ fn (vptr rb ro ∷ word n.at ∷ vint w64 number ∷ v ∷ []) Post $ alloc_all !
+    (λ l. pass_all ! refl ((tt, tt), (word-Good [] n.at, ((tt, record { fits = fits }), (good, tt)))) $
+    let Ev = env fn.locals l in
+    move ! (4 ∷ 5 ∷ 0 ∷ []) $ opens ! tt Ar {h = a} rb ro
+    (λ vs. move ! (1 ∷ []) $ fsplit ! $ move ! (1 ∷ []) $
+    use1 𝓛 (‵ (block_owns R n.at k) ⊛ ‵ (blocks_own R (remove_entry (same_node n) a.blocks)))
+    (blocks_cut R 𝓛 n a.blocks k is_k) $ split ! $ fsplit3 ! $
+    rewrite ! 0 (λ x. ‵ (pair_owns R n.at x)) is_e refl $
+    in_a_block ! n.at (pair_room R) (id⊢ 𝓤 (never 𝓤)) (λ b o e.
+    let τ : Ty = lone R.mir in let at = o + pair_offset R in let no = o + number_offset R in
+    use1 𝓛 (‵ (froom τ b at)) (𝓛.laws.raw-room τ b at) $
+    rewrite ! 2 (λ (p : Ptr). ‵ (fsep (lies_at Links full_share (links_of R p) k.links)
+    (deed_owns R free_right p)))
+    e refl $
+    move ! (1 ∷ []) $
+    rewrite ! 0 (λ (x : Ptr × Option (ℕ × T.Denot)). ‵ (fsep (is_small R x.1)
+    (lies_at usize full_share (number_of R x.0) (number_word x.1)))) (λ i. (e i, is_e i)) refl $
+    fsplit ! $ drop ! $ use1 𝓛 (‵ (fat full_share (ty_int w64) b no (vint w64 (2 ^ 48))))
+    (uint_out 𝓛 full_share w64 (2 ^ 48) b no) $
+    -- [the number; room for the pair; the links and the deed; the others; the mark; its cell; the open
+    -- borrow;
+    -- obs; auth; a token; nothing; what the pair owns]
+    sets ! (is ! (of_opd ! (get_in ! (fld ! refl (stop !)) (sub ! 0 refl (whole !)))) (ap ptr_val e)) refl
+    (tt, tt) $
+    first ! $ blocks ! $ sets ! (addr ! (through ! refl (fld ! refl (stop !)))) refl (tt, tt) $
+    assigns ! (of_opd ! (get ! refl)) (through ! refl (stop !)) (store ! 0 refl (
+      tt,
+      record
+          { fits = fits },
+    )) $
+    sets ! (addr ! (through ! refl (fld ! refl (stop !)))) refl (tt, tt) $
+    sets ! (of_opd ! (get ! refl)) refl good $
+    assigns_last ! (of_opd ! (get ! refl)) (through ! refl (stop !)) (init ! 1 refl good) $
+    exec ! 𝓣.C 𝓣.Λ Ev (after 2 fn.body) (at_ret Ev Post) $ sets ! (of_opd ! (unit_lit !)) refl (tt, tt) $
+    use1 𝓛 (‵ (part_at usize full_share number b no)) (uint_in 𝓛 full_share w64 number b no) $
+    small_shown R ! (Some (number, pair)) small $ fjoin ! $
+    move ! (1 ∷ 11 ∷ []) $ use2 𝓛 (‵ (part_at R full_share pair b at))
+    (part_in 𝓛 R refl full_share pair b at v) $
+    fjoin3 ! $ rewrite ! 0 (λ (p : Ptr). ‵ (block_owns R p (filled k))) (sym e) refl $
+    use2 𝓛 (‵ (blocks_own R (alter (same_node n) filled a.blocks)))
+    (blocks_glue R 𝓛 n a.blocks k filled is_k) $
+    move ! (1 ∷ 0 ∷ []) $ fjoin ! $ move ! (1 ∷ 0 ∷ []) $ closes ! tt Ar new vs rb ro $
+    -- [obs; the borrow; its token; a token; nothing]
+    let Now : Type 0 = new.blocks ≡ alter (same_node n) filled a.blocks in
+    use0 𝓛 (raw (fact 𝓤 Now)) (fact_i 𝓤 Now (emp 𝓤) refl) $
+    feq_i ! (List Val) (vunit ∷ []) (vunit ∷ []) refl $ move ! (4 ∷ 5 ∷ 6 ∷ []) $ group ! 3 $
+    nothing ! $ nothing ! $ fjoin ! $ nothing ! $ fjoin ! $ nothing ! $ fjoin ! $ move ! (4 ∷ 5 ∷ []) $
+    feq_i ! (List Val) z.0.4.0 (vptr rb ro ∷ []) e0 $ fjoin3 ! $ fjoin ! $
+    returns ! (look_at ! 0 refl) $ free_all ! refl $ keep ! (1 ∷ 0 ∷ 2 ∷ 3 ∷ []) $ by !
+    (leaves 𝓛 En hs c z vunit tt (new, (tt, (tt, (tt, tt)))) (tt, (tt, (tt, (tt, tt)))))))))))))))))

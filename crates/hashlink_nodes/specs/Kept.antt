@@ -1,0 +1,37 @@
+-- What the block of a node keeps: its links, and the number and the pair of an entry, if it holds one.
+use Rattle.std.specs.Prelude.{ℕ, ◌^◌, Bool, cond, List, [], ◌∷◌, Option, None, Some}
+use Rattle.std.specs.Option.{option_map}
+use Rattle.hashlink_nodes.specs.declared.cells.links.Links.{Links}
+
+pub record Kept (T : Type 0) : Type 0 where
+  pub links : Links
+  pub entry : Option (ℕ × T)
+
+-- with f of the value of the first entry whose key passes
+abbrev pub alter : {K X : Type 0} → (K → Bool) → (X → X) → List (K × X) → List (K × X)
+alter test f [] = []
+alter test f (e ∷ es) = cond (test e.0) ((e.0, f e.1) ∷ es) (e ∷ alter test f es)
+
+module _ {T : Type 0} where
+  abbrev pub kept : Links → Option (ℕ × T) → Kept T
+  kept l e = record { links = l; entry = e }
+
+  abbrev pub with_links : Links → Kept T → Kept T
+  with_links l k = kept l k.entry
+
+  abbrev pub with_entry : Option (ℕ × T) → Kept T → Kept T
+  with_entry e k = kept k.links e
+
+  -- with another pair, if it has one
+  abbrev pub with_pair : T → Kept T → Kept T
+  with_pair w k = kept k.links (option_map (λ e. (e.0, w)) k.entry)
+
+  -- the entry of a block, if there is one
+  abbrev pub entry_in : Option (Kept T) → Option (ℕ × T)
+  entry_in None = None
+  entry_in (Some k) = k.entry
+
+  -- the number that the block has: where there is no entry, none of an entry
+  abbrev pub number_word : Option (ℕ × T) → ℕ
+  number_word None = 2 ^ 48
+  number_word (Some e) = e.0
