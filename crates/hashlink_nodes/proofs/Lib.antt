@@ -2,6 +2,7 @@
 pub mod ArenaBlocks
 pub mod ArenaSharing
 pub mod ArenaSteps
+pub mod Calls
 pub mod Changing
 pub mod CountSteps
 pub mod Ending

@@ -234,10 +234,10 @@ module _ {K V : Type 0} where
     place_now = subst (λ (r : Ring K V). IsPlace (remove_entry (same_node n) r.entries) place)
         (sym o.view) is_place
 
-    abbrev entry_now : Node × Held K V
+    abbrev pub entry_now : Node × Held K V
     entry_now = (n, (the_cut s g first len spare n o.sound there_now).value)
 
-    abbrev others_now : List (Node × Held K V)
+    abbrev pub others_now : List (Node × Held K V)
     others_now = remove_entry (same_node n) (entries_in s (Some g) first len spare)
 
     pub before_steps : Moves s g first len spare n ((detached n s).prev (unwrap_or place g))

@@ -4,8 +4,8 @@ use Rattle.std.specs.Map.{keys_of}
 use Rattle.hashlink_nodes.specs.declared.node.Node.{Node}
 use Rattle.hashlink_nodes.specs.Cells.{state_of}
 use Rattle.hashlink_nodes.specs.Ring.{next_place}
-use Rattle.hashlink_nodes.proofs.Sound.{facts}
 use Rattle.hashlink_nodes.proofs.Neighbours.{after_node}
+use Rattle.hashlink_nodes.proofs.Calls.{known}
 use Rattle.hashlink_nodes.proofs.nodes.Nodes.after.Goals as goal
 
 pub next-requires : goal.next-requires
@@ -24,5 +24,4 @@ returns-clause-next g c =
 
 pub returns-clause-apart : goal.returns-clause-apart
 returns-clause-apart g c =
-    (facts (state_of c.self.inside.cells) c.self.inside.guard c.self.inside.first_spare c.self.inside.len
-    c.self.inside.spare c.self.invariant c.args.self.now c.self.view_is).differ
+    (known c.self.inside c.self.invariant c.args.self.now c.self.view_is).differ

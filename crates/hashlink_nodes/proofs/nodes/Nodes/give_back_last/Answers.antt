@@ -4,9 +4,10 @@ use Rattle.std.proofs.Common.{◌≡◌, ◌-◌, None, Some, ap, sym, ◌∙◌
 use Rattle.hashlink_nodes.specs.Cells.{state_of}
 use Rattle.hashlink_nodes.specs.State.{State, Drops}
 use Rattle.hashlink_nodes.specs.Ring.{Ring, Held, held, pair_of}
-use Rattle.hashlink_nodes.proofs.Sound.{InRing, opened, held_detached, has_detached, has_held, held_here}
+use Rattle.hashlink_nodes.proofs.Sound.{InRing, held_detached, has_held, held_here}
 use Rattle.hashlink_nodes.proofs.Sound.{same_some, drops_taken}
 use Rattle.hashlink_nodes.proofs.Ending.{LastGone, last_out, last_gone, writes_detached, guard_some}
+use Rattle.hashlink_nodes.proofs.Calls.{has_still, opened_at}
 use Rattle.hashlink_nodes.proofs.nodes.Nodes.give_back_last.Given as given
 use Rattle.hashlink_nodes.proofs.nodes.Nodes.give_back_last.Goals.{After-prev-node, After-detach}
 use Rattle.hashlink_nodes.proofs.nodes.Nodes.give_back_last.Goals.{After-give_back}
@@ -23,10 +24,9 @@ out : (g : given.Over) (c : After-prev-node g)
     c.self.inside.len c.self.inside.spare c.prev-node.result
 out g c =
     last_out (state_of c.self.inside.cells) c.self.inside.guard c.in-Some.guard c.self.inside.first_spare
-    c.self.inside.len c.self.inside.spare c.args.self.now
-    (opened (state_of c.self.inside.cells) c.self.inside.guard c.in-Some.guard c.self.inside.first_spare
-    c.self.inside.len c.self.inside.spare c.self.invariant c.in-Some.is c.args.self.now c.self.view_is)
-    c.requires c.prev-node.result c.prev-node.ensures
+    c.self.inside.len c.self.inside.spare c.args.self.now (opened_at c.self.inside c.self.invariant
+    c.args.self.now c.self.view_is c.in-Some.guard c.in-Some.is) c.requires c.prev-node.result
+    c.prev-node.ensures
 
 pub detach-requires-clause-node : goal.detach-requires-clause-node
 detach-requires-clause-node g c = (out g (goal.at.detach-requires-clause-node g c).After-prev-node).has_node
@@ -41,10 +41,9 @@ detach-requires-clause-prev g c = (out g (goal.at.detach-requires-clause-prev g 
 had : (g : given.Over) (c : After-detach g)
     → (state_of c.detach.new.self).held c.prev-node.result ≡ Some (out g c.before.before).value
 had g c =
-    let S : Type 0 = State g.row.K.Denot g.row.V.Denot in
-    ap (λ (s : S). s.held c.prev-node.result) c.detach.ensures
-    ∙ ap (λ f. f c.prev-node.result) (held_detached (state_of c.self.inside.cells) c.prev-node.result)
-    ∙ (out g c.before.before).holds
+    let S : Type 0 = State g.row.K.Denot g.row.V.Denot in ap (λ (s : S). s.held c.prev-node.result)
+    c.detach.ensures ∙ ap (λ f. f c.prev-node.result) (held_detached (state_of c.self.inside.cells)
+    c.prev-node.result) ∙ (out g c.before.before).holds
 
 pub number-number-requires : goal.number-number-requires
 number-number-requires g c = ap is_some (had g (goal.at.number-number-requires g c).After-detach)
@@ -54,18 +53,16 @@ take-key-requires g c = ap is_some (had g (goal.at.take-key-requires g c).After-
 
 pub give_back-requires-clause-has : goal.give_back-requires-clause-has
 give_back-requires-clause-has g c =
-    let S : Type 0 = State g.row.K.Denot g.row.V.Denot in
-    ap (λ (s : S). s.has c.prev-node.result) c.take-key.ensures.is
-    ∙ ap (λ f. f c.prev-node.result) (has_held (state_of c.detach.new.self) c.prev-node.result None)
-    ∙ ap (λ (s : S). s.has c.prev-node.result) c.detach.ensures
-    ∙ ap (λ f. f c.prev-node.result) (has_detached (state_of c.self.inside.cells) c.prev-node.result)
-    ∙ (out g (goal.at.give_back-requires-clause-has g c).After-prev-node).has_node
+    let S : Type 0 = State g.row.K.Denot g.row.V.Denot in ap (λ (s : S). s.has c.prev-node.result)
+    c.take-key.ensures.is ∙ ap (λ f. f c.prev-node.result) (has_held (state_of c.detach.new.self)
+    c.prev-node.result None) ∙ has_still c.self.inside.cells c.detach.new.self c.prev-node.result
+    c.detach.ensures c.prev-node.result ∙ (out g (goal.at.give_back-requires-clause-has g
+    c).After-prev-node).has_node
 
 pub give_back-requires-clause-bare : goal.give_back-requires-clause-bare
 give_back-requires-clause-bare g c =
-    let S : Type 0 = State g.row.K.Denot g.row.V.Denot in
-    ap (λ (s : S). s.held c.prev-node.result) c.take-key.ensures.is
-    ∙ held_here (state_of c.detach.new.self) c.prev-node.result None
+    let S : Type 0 = State g.row.K.Denot g.row.V.Denot in ap (λ (s : S). s.held c.prev-node.result)
+    c.take-key.ensures.is ∙ held_here (state_of c.detach.new.self) c.prev-node.result None
 
 pub overflow_sub-self : goal.overflow_sub-self
 overflow_sub-self g c = omega (arith, (out g (goal.at.overflow_sub-self g c).After-prev-node).some)
@@ -82,11 +79,10 @@ gone : (g : given.Over) (c : After-give_back g)
     c.self.inside.first_spare (c.self.inside.len - 1) c.self.inside.spare c.args.self.now c.prev-node.result
 gone g c =
     last_gone (state_of c.self.inside.cells) c.self.inside.guard c.in-Some.guard c.self.inside.first_spare
-    c.self.inside.len c.self.inside.spare c.args.self.now
-    (opened (state_of c.self.inside.cells) c.self.inside.guard c.in-Some.guard c.self.inside.first_spare
-    c.self.inside.len c.self.inside.spare c.self.invariant c.in-Some.is c.args.self.now c.self.view_is)
-    c.requires c.prev-node.result c.prev-node.ensures (state_of c.detach.new.self)
-    (state_of c.give_back.new.self) c.detach.ensures (drops g c)
+    c.self.inside.len c.self.inside.spare c.args.self.now (opened_at c.self.inside c.self.invariant
+    c.args.self.now c.self.view_is c.in-Some.guard c.in-Some.is) c.requires c.prev-node.result
+    c.prev-node.ensures (state_of c.detach.new.self) (state_of c.give_back.new.self) c.detach.ensures (drops
+    g c)
 
 pub invariant_of-self : goal.invariant_of-self
 invariant_of-self g c = (gone g (goal.at.invariant_of-self g c).After-give_back).sound
@@ -110,8 +106,7 @@ returns-clause-free g c = (gone g (goal.at.returns-clause-free g c).After-give_b
 
 pub returns-clause-link_writes : goal.returns-clause-link_writes
 returns-clause-link_writes g c =
-    let R : Type 0 = Ring g.row.K.Denot g.row.V.Denot in
-    writes_detached (state_of c.self.inside.cells) (state_of c.detach.new.self)
-    (state_of c.give_back.new.self)
-    c.prev-node.result c.args.self.now.link_writes (ap (λ (r : R). r.link_writes) c.self.view_is)
-    c.detach.ensures (drops g (goal.at.returns-clause-link_writes g c).After-give_back)
+    let R : Type 0 = Ring g.row.K.Denot g.row.V.Denot in writes_detached (state_of c.self.inside.cells)
+    (state_of c.detach.new.self) (state_of c.give_back.new.self) c.prev-node.result
+    c.args.self.now.link_writes (ap (λ (r : R). r.link_writes) c.self.view_is) c.detach.ensures (drops g
+    (goal.at.returns-clause-link_writes g c).After-give_back)

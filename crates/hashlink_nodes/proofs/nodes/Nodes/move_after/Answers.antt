@@ -3,8 +3,8 @@ use Rattle.hashlink_nodes.specs.Ring.{Ring}
 use Rattle.hashlink_nodes.proofs.Sound.{detach_writes, attach_writes}
 use Rattle.hashlink_nodes.specs.Cells.{state_of}
 use Rattle.hashlink_nodes.specs.State.{State}
-use Rattle.hashlink_nodes.proofs.Sound.{node_of, has_detached, guard_there, some_unless, opened}
-use Rattle.hashlink_nodes.proofs.Moving.{after_steps, move_after_done}
+use Rattle.hashlink_nodes.proofs.Sound.{guard_there, some_unless}
+use Rattle.hashlink_nodes.proofs.Calls.{after_at, has_still, moved_after, node_at}
 use Rattle.hashlink_nodes.proofs.nodes.Nodes.move_after.Goals as goal
 
 pub returns-clause-link_writes : goal.returns-clause-link_writes
@@ -17,113 +17,69 @@ returns-clause-link_writes g c =
 
 pub unwrap-guard-requires : goal.unwrap-guard-requires
 unwrap-guard-requires g c =
-    some_unless c.self.inside.guard
-    (guard_there (state_of c.self.inside.cells) c.self.inside.guard c.self.inside.first_spare
-    c.self.inside.len
-    c.self.inside.spare c.args.self.now c.self.view_is c.args.node c.requires.node)
+    some_unless c.self.inside.guard (guard_there (state_of c.self.inside.cells) c.self.inside.guard
+    c.self.inside.first_spare c.self.inside.len c.self.inside.spare c.args.self.now c.self.view_is
+    c.args.node c.requires.node)
 
 pub detach-requires-clause-node : goal.detach-requires-clause-node
 detach-requires-clause-node g c =
-    (node_of (state_of c.self.inside.cells) c.self.inside.guard c.self.inside.first_spare c.self.inside.len
-    c.self.inside.spare c.self.invariant c.args.self.now c.self.view_is c.args.node c.requires.node).has_node
+    (node_at c.self.inside c.self.invariant c.args.self.now c.self.view_is c.args.node
+    c.requires.node).has_node
 
 pub detach-requires-clause-next : goal.detach-requires-clause-next
 detach-requires-clause-next g c =
-    (node_of (state_of c.self.inside.cells) c.self.inside.guard c.self.inside.first_spare c.self.inside.len
-    c.self.inside.spare c.self.invariant c.args.self.now c.self.view_is c.args.node c.requires.node).has_next
+    (node_at c.self.inside c.self.invariant c.args.self.now c.self.view_is c.args.node
+    c.requires.node).has_next
 
 pub detach-requires-clause-prev : goal.detach-requires-clause-prev
 detach-requires-clause-prev g c =
-    (node_of (state_of c.self.inside.cells) c.self.inside.guard c.self.inside.first_spare c.self.inside.len
-    c.self.inside.spare c.self.invariant c.args.self.now c.self.view_is c.args.node c.requires.node).has_prev
+    (node_at c.self.inside c.self.invariant c.args.self.now c.self.view_is c.args.node
+    c.requires.node).has_prev
 
 pub next-after-requires : goal.next-after-requires
 next-after-requires g c =
-    let S : Type 0 = State g.row.K.Denot g.row.V.Denot in
-    ((ap (λ (s : S). s.has c.unwrap_or-before.result) c.detach.ensures
-    ∙ ap (λ f. f c.unwrap_or-before.result) (has_detached (state_of c.self.inside.cells) c.args.node))
-    ∙ ap (state_of c.self.inside.cells).has c.unwrap_or-before.ensures
-    ∙
-    (after_steps (state_of c.self.inside.cells) c.self.inside.guard c.unwrap-guard.result
-    c.self.inside.first_spare
-    c.self.inside.len c.self.inside.spare c.args.self.now
-    (opened (state_of c.self.inside.cells) c.self.inside.guard c.unwrap-guard.result c.self.inside.first_spare
-    c.self.inside.len c.self.inside.spare c.self.invariant c.unwrap-guard.ensures
-    c.args.self.now c.self.view_is)
-    c.args.node c.requires.node c.args.place c.requires.place).has_prev)
+    (has_still c.self.inside.cells c.detach.new.self c.args.node c.detach.ensures c.unwrap_or-before.result ∙
+    ap (state_of c.self.inside.cells).has c.unwrap_or-before.ensures ∙ (after_at c.self.inside
+    c.self.invariant c.args.self.now c.self.view_is c.args.node c.requires.node c.unwrap-guard.result
+    c.unwrap-guard.ensures c.args.place c.requires.place).has_prev)
 
 pub attach-requires-clause-node : goal.attach-requires-clause-node
 attach-requires-clause-node g c =
-    let S : Type 0 = State g.row.K.Denot g.row.V.Denot in
-    (ap (λ (s : S). s.has c.args.node) c.detach.ensures
-    ∙ ap (λ f. f c.args.node) (has_detached (state_of c.self.inside.cells) c.args.node))
-    ∙
-    (node_of (state_of c.self.inside.cells) c.self.inside.guard c.self.inside.first_spare c.self.inside.len
-    c.self.inside.spare c.self.invariant c.args.self.now c.self.view_is c.args.node c.requires.node).has_node
+    has_still c.self.inside.cells c.detach.new.self c.args.node c.detach.ensures c.args.node ∙ (node_at
+    c.self.inside c.self.invariant c.args.self.now c.self.view_is c.args.node c.requires.node).has_node
 
 pub attach-requires-clause-prev : goal.attach-requires-clause-prev
 attach-requires-clause-prev g c =
-    let S : Type 0 = State g.row.K.Denot g.row.V.Denot in
-    ((ap (λ (s : S). s.has c.unwrap_or-before.result) c.detach.ensures
-    ∙ ap (λ f. f c.unwrap_or-before.result) (has_detached (state_of c.self.inside.cells) c.args.node))
-    ∙ ap (state_of c.self.inside.cells).has c.unwrap_or-before.ensures
-    ∙
-    (after_steps (state_of c.self.inside.cells) c.self.inside.guard c.unwrap-guard.result
-    c.self.inside.first_spare
-    c.self.inside.len c.self.inside.spare c.args.self.now
-    (opened (state_of c.self.inside.cells) c.self.inside.guard c.unwrap-guard.result c.self.inside.first_spare
-    c.self.inside.len c.self.inside.spare c.self.invariant c.unwrap-guard.ensures
-    c.args.self.now c.self.view_is)
-    c.args.node c.requires.node c.args.place c.requires.place).has_prev)
+    (has_still c.self.inside.cells c.detach.new.self c.args.node c.detach.ensures c.unwrap_or-before.result ∙
+    ap (state_of c.self.inside.cells).has c.unwrap_or-before.ensures ∙ (after_at c.self.inside
+    c.self.invariant c.args.self.now c.self.view_is c.args.node c.requires.node c.unwrap-guard.result
+    c.unwrap-guard.ensures c.args.place c.requires.place).has_prev)
 
 pub attach-requires-clause-next : goal.attach-requires-clause-next
 attach-requires-clause-next g c =
-    let S : Type 0 = State g.row.K.Denot g.row.V.Denot in
-    ((ap (λ (s : S). s.has c.next-after.result) c.detach.ensures
-    ∙ ap (λ f. f c.next-after.result) (has_detached (state_of c.self.inside.cells) c.args.node))
-    ∙ ap (state_of c.self.inside.cells).has
-    (c.next-after.ensures ∙ (λ i. (c.detach.ensures i).next (c.unwrap_or-before.ensures i)))
-    ∙
-    (after_steps (state_of c.self.inside.cells) c.self.inside.guard c.unwrap-guard.result
-    c.self.inside.first_spare
-    c.self.inside.len c.self.inside.spare c.args.self.now
-    (opened (state_of c.self.inside.cells) c.self.inside.guard c.unwrap-guard.result c.self.inside.first_spare
-    c.self.inside.len c.self.inside.spare c.self.invariant c.unwrap-guard.ensures
-    c.args.self.now c.self.view_is)
-    c.args.node c.requires.node c.args.place c.requires.place).has_next)
+    (has_still c.self.inside.cells c.detach.new.self c.args.node c.detach.ensures c.next-after.result ∙ ap
+    (state_of c.self.inside.cells).has (c.next-after.ensures ∙ (λ i. (c.detach.ensures i).next
+    (c.unwrap_or-before.ensures i))) ∙ (after_at c.self.inside c.self.invariant c.args.self.now
+    c.self.view_is c.args.node c.requires.node c.unwrap-guard.result c.unwrap-guard.ensures c.args.place
+    c.requires.place).has_next)
 
 pub invariant_of-self : goal.invariant_of-self
 invariant_of-self g c =
-    (move_after_done (state_of c.self.inside.cells) c.self.inside.guard c.unwrap-guard.result
-    c.self.inside.first_spare
-    c.self.inside.len c.self.inside.spare c.args.self.now
-    (opened (state_of c.self.inside.cells) c.self.inside.guard c.unwrap-guard.result c.self.inside.first_spare
-    c.self.inside.len c.self.inside.spare c.self.invariant c.unwrap-guard.ensures
-    c.args.self.now c.self.view_is)
-    c.args.node c.requires.node c.args.place c.requires.place (state_of c.detach.new.self)
-    (state_of c.attach.new.self) c.unwrap_or-before.result c.next-after.result c.detach.ensures
-    c.unwrap_or-before.ensures c.next-after.ensures c.attach.ensures).sound
+    (moved_after c.self.inside c.self.invariant c.args.self.now c.self.view_is c.args.node c.requires.node
+    c.unwrap-guard.result c.unwrap-guard.ensures c.args.place c.requires.place c.detach.new.self
+    c.attach.new.self c.unwrap_or-before.result c.next-after.result c.detach.ensures c.attach.ensures
+    c.unwrap_or-before.ensures c.next-after.ensures).sound
 
 pub returns-clause-moved : goal.returns-clause-moved
 returns-clause-moved g c =
-    (move_after_done (state_of c.self.inside.cells) c.self.inside.guard c.unwrap-guard.result
-    c.self.inside.first_spare
-    c.self.inside.len c.self.inside.spare c.args.self.now
-    (opened (state_of c.self.inside.cells) c.self.inside.guard c.unwrap-guard.result c.self.inside.first_spare
-    c.self.inside.len c.self.inside.spare c.self.invariant c.unwrap-guard.ensures
-    c.args.self.now c.self.view_is)
-    c.args.node c.requires.node c.args.place c.requires.place (state_of c.detach.new.self)
-    (state_of c.attach.new.self) c.unwrap_or-before.result c.next-after.result c.detach.ensures
-    c.unwrap_or-before.ensures c.next-after.ensures c.attach.ensures).moved
+    (moved_after c.self.inside c.self.invariant c.args.self.now c.self.view_is c.args.node c.requires.node
+    c.unwrap-guard.result c.unwrap-guard.ensures c.args.place c.requires.place c.detach.new.self
+    c.attach.new.self c.unwrap_or-before.result c.next-after.result c.detach.ensures c.attach.ensures
+    c.unwrap_or-before.ensures c.next-after.ensures).moved
 
 pub returns-clause-free : goal.returns-clause-free
 returns-clause-free g c =
-    (move_after_done (state_of c.self.inside.cells) c.self.inside.guard c.unwrap-guard.result
-    c.self.inside.first_spare
-    c.self.inside.len c.self.inside.spare c.args.self.now
-    (opened (state_of c.self.inside.cells) c.self.inside.guard c.unwrap-guard.result c.self.inside.first_spare
-    c.self.inside.len c.self.inside.spare c.self.invariant c.unwrap-guard.ensures
-    c.args.self.now c.self.view_is)
-    c.args.node c.requires.node c.args.place c.requires.place (state_of c.detach.new.self)
-    (state_of c.attach.new.self) c.unwrap_or-before.result c.next-after.result c.detach.ensures
-    c.unwrap_or-before.ensures c.next-after.ensures c.attach.ensures).free
+    (moved_after c.self.inside c.self.invariant c.args.self.now c.self.view_is c.args.node c.requires.node
+    c.unwrap-guard.result c.unwrap-guard.ensures c.args.place c.requires.place c.detach.new.self
+    c.attach.new.self c.unwrap_or-before.result c.next-after.result c.detach.ensures c.attach.ensures
+    c.unwrap_or-before.ensures c.next-after.ensures).free

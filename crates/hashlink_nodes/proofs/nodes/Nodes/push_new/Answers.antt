@@ -10,15 +10,15 @@ use Rattle.hashlink_nodes.proofs.nodes.Nodes.push_new.Given as given
 use Rattle.hashlink_nodes.proofs.nodes.Nodes.push_new.Goals.{In-Err-make, After-fill, After-attach}
 use Rattle.hashlink_nodes.proofs.nodes.Nodes.push_new.Goals as goal
 
-pub fill-requires-clause-has : goal.fill-requires-clause-has
-fill-requires-clause-has g c =
-    ap (λ f. f c.in-Ok-make.node) c.in-Ok-make.ensures.made.has
-    ∙ set_at_here (state_of c.guard.new.self).has c.in-Ok-make.node true
-
 pub fill-requires-clause-bare : goal.fill-requires-clause-bare
 fill-requires-clause-bare g c =
     ap (λ f. f c.in-Ok-make.node) c.in-Ok-make.ensures.made.held
     ∙ set_at_here (state_of c.guard.new.self).held c.in-Ok-make.node None
+
+pub fill-requires-clause-has : goal.fill-requires-clause-has
+fill-requires-clause-has g c =
+    ap (λ f. f c.in-Ok-make.node) c.in-Ok-make.ensures.made.has
+    ∙ set_at_here (state_of c.guard.new.self).has c.in-Ok-make.node true
 
 -- ---- the new node is ready, and goes in
 ready : (g : given.Over) (c : After-fill g)

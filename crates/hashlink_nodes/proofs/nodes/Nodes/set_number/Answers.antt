@@ -2,16 +2,15 @@ use Rattle.std.proofs.Common.{ap}
 use Rattle.std.specs.Prelude.{is_some}
 use Rattle.hashlink_nodes.specs.Cells.{state_of}
 use Rattle.hashlink_nodes.specs.Ring.{with_number}
-use Rattle.hashlink_nodes.proofs.Sound.{node_of}
 use Rattle.hashlink_nodes.proofs.Changing.{Renewed, renewed}
+use Rattle.hashlink_nodes.proofs.Calls.{node_at}
 use Rattle.hashlink_nodes.proofs.nodes.Nodes.set_number.Given as given
 use Rattle.hashlink_nodes.proofs.nodes.Nodes.set_number.Goals as goal
 
 pub set_number-requires-clause-held : goal.set_number-requires-clause-held
 set_number-requires-clause-held g c =
-    ap is_some
-    (node_of (state_of c.self.inside.cells) c.self.inside.guard c.self.inside.first_spare c.self.inside.len
-    c.self.inside.spare c.self.invariant c.args.self.now c.self.view_is c.args.node c.requires.node).holds
+    ap is_some (node_at c.self.inside c.self.invariant c.args.self.now c.self.view_is c.args.node
+    c.requires.node).holds
 
 anew : (g : given.Over) (c : goal.After-set_number g)
     → Renewed (state_of c.self.inside.cells) (state_of c.set_number.new.self) c.self.inside.guard
@@ -19,9 +18,8 @@ anew : (g : given.Over) (c : goal.After-set_number g)
     (λ h. with_number h c.args.number)
 anew g c =
     renewed (state_of c.self.inside.cells) (state_of c.set_number.new.self) c.self.inside.guard
-    c.self.inside.first_spare c.self.inside.len c.self.inside.spare c.self.invariant
-    c.args.self.now c.self.view_is
-    c.args.node c.requires.node (λ h. with_number h c.args.number) c.set_number.ensures
+    c.self.inside.first_spare c.self.inside.len c.self.inside.spare c.self.invariant c.args.self.now
+    c.self.view_is c.args.node c.requires.node (λ h. with_number h c.args.number) c.set_number.ensures
 
 pub invariant_of-self : goal.invariant_of-self
 invariant_of-self g c = (anew g c).sound
@@ -33,4 +31,5 @@ pub returns-clause-free : goal.returns-clause-free
 returns-clause-free g c = (anew g c).free
 
 pub returns-clause-link_writes : goal.returns-clause-link_writes
-returns-clause-link_writes g c = (anew g c).link_writes
+returns-clause-link_writes g c =
+    (anew g c).link_writes

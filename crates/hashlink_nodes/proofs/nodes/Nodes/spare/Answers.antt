@@ -1,10 +1,7 @@
 use Rattle.std.proofs.Common.{sym}
-use Rattle.hashlink_nodes.specs.Cells.{state_of}
-use Rattle.hashlink_nodes.proofs.Sound.{facts}
+use Rattle.hashlink_nodes.proofs.Calls.{known}
 use Rattle.hashlink_nodes.proofs.nodes.Nodes.spare.Goals as goal
 
 pub returns : goal.returns
 returns g c =
-    sym
-    (facts (state_of c.self.inside.cells) c.self.inside.guard c.self.inside.first_spare c.self.inside.len
-    c.self.inside.spare c.self.invariant c.args.self.now c.self.view_is).is_spare
+    sym (known c.self.inside c.self.invariant c.args.self.now c.self.view_is).is_spare
