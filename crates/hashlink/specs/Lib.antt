@@ -56,9 +56,8 @@ pub use Rattle.hashlink_weighted.specs.Answers
 pub use Rattle.hashlink_weighted.specs.Lends as WeightedLends
 pub use Rattle.hashlink_weighted.specs.Weighed
 pub use Rattle.hashlink_curve.specs.Curve
-pub use Rattle.hashlink_text.specs.CachesSay
 pub use Rattle.hashlink_text.specs.Lines
-pub use Rattle.hashlink_text.specs.Says
+pub use Rattle.hashlink_text.specs.Spelling
 pub use Rattle.hashlink_run.specs.CacheCalls
 pub use Rattle.hashlink_run.specs.CacheLaws
 pub use Rattle.hashlink_run.specs.CacheRun
@@ -73,6 +72,7 @@ pub use Rattle.hashlink_run.specs.Keeps
 pub use Rattle.hashlink_run.specs.Reads
 pub use Rattle.hashlink_run.specs.Run
 pub use Rattle.hashlink_run.specs.Step
+pub use Rattle.hashlink_run.specs.WeightedStep
 pub use Rattle.hashlink_text.specs.Text
 pub use Rattle.hashlink_text.specs.Transcript
 pub use Rattle.hashlink_text.specs.WeightedTranscript

@@ -42,8 +42,9 @@ pub mod miss_curve {
 /// answers.
 pub mod run {
     pub use hashlink_run::{
-        CacheCommand, Command, CursorStep, EntryStep, Pair, PairCommand, Reply, Uses, answer_cache,
-        answer_call, answer_command, run, run_cache, run_pair, run_uses,
+        CacheCommand, Command, CursorStep, EntryStep, Pair, PairCommand, Reply, Uses,
+        WeightedCommand, answer_cache, answer_call, answer_command, answer_weighted, run,
+        run_cache, run_pair, run_uses,
     };
     pub use hashlink_text::{Fault, run_text, serve};
 }

@@ -1,7 +1,7 @@
 -- What is done through an entry is a step at the place of its key.
 use Rattle.std.proofs.Common.{◌≡◌, ℕ, ◌-◌, Bool, List, [], ◌∷◌, ◌++◌, length, slice_get, Option, None, Some}
 use Rattle.std.proofs.Common.{refl, sym, ap, ap₂, ◌∙◌, subst, arith, length-append, true, false, nat_lt}
-use Rattle.std.proofs.Common.{if◌then◌else◌}
+use Rattle.std.proofs.Common.{if◌then◌else◌, unwrap_or}
 use Rattle.std.specs.Map.{lookup_entry}
 use Rattle.std.specs.Option.{option_map}
 use Rattle.std.specs.Prelude.{Result, Ok, Err, insert, remove}
@@ -12,12 +12,14 @@ use Rattle.hashlink_model.specs.Entry.{EntryState, entry_of, key_at, value_at, T
 use Rattle.hashlink_model.specs.MapState.{MapState, AddsEntry, MovesAt, RemovesAt}
 use Rattle.hashlink_model.proofs.ByPlace.{moved_at-last}
 use Rattle.hashlink_model.proofs.Places.{split_at, slice_get_here}
-use Rattle.hashlink_model.proofs.Splits.{stands_from_place, lookup_entry-here}
+use Rattle.hashlink_model.proofs.Puts.{put_back_absent}
+use Rattle.hashlink_model.proofs.Splits.{stands_from_place, lookup_entry-here, none_from_lookup}
 use Rattle.hashlink_run.specs.declared.commands.EntryStep.{EntryStep}
 use Rattle.hashlink_run.specs.declared.replies.Reply.{Reply}
 use Rattle.hashlink_run.specs.declared.replies.Reply.TheVariants.{Seen}
 use Rattle.hashlink_run.specs.EntrySteps.{OccupiedStep, VacantStep, EntrySteps}
 use Rattle.hashlink_run.specs.Reads.{SaysOf, Replies}
+use Rattle.hashlink_run.proofs.Moved.{lookup_entry-absent}
 
 module _ {K V B S : Type 0} (eq : K → K → Bool) (Says : K → V → B → Type 0) {m : MapState K V S} {k : K}
     {e : EntryState K V S} (is : e ≡ entry_of eq m k) {step s : EntryStep V} (given : step ≡ s)
@@ -30,11 +32,11 @@ module _ {K V B S : Type 0} (eq : K → K → Bool) (Says : K → V → B → Ty
       rw (given, ← ap (λ e. e.map) is, ← ap (λ e. e.key) is) done in
       rw place here
 
-  pub at_vacant : e.place ≡ None → VacantStep eq e.map e.key s replies new
+  pub at_vacant : e.place ≡ None → VacantStep eq Says e.map e.key s replies new
       → EntrySteps eq Says m k step replies new
   at_vacant at done =
       let place : place_of (eq k) m.entries ≡ None = sym (ap (λ e. e.place) is) ∙ at in
-      let here : VacantStep eq m k step replies new =
+      let here : VacantStep eq Says m k step replies new =
       rw (given, ← ap (λ e. e.map) is, ← ap (λ e. e.key) is) done in
       rw place here
 
@@ -128,7 +130,7 @@ module _ {K V B S : Type 0} (eq : K → K → Bool) (Says : K → V → B → Ty
     (same : e.map ≡ old) (at : e.place ≡ Some j) where
   pub said_at_end : MovesAt old new j (length old.entries) → Some p ≡ Some (length old.entries - 1)
       → SaysOf Says (slice_get new.entries p) (Some b)
-      → Replies Says (slice_get old.entries j) (Seen (Some b) ∷ [])
+      → Replies Says Seen (slice_get old.entries j) (Seen (Some b) ∷ [])
   said_at_end moves end said =
       let s = stands eq is old j same at in
       let read = ap₂ slice_get moves.entries (same_Some _ _ end)
@@ -145,3 +147,22 @@ taken {K} {V} old new j v value removes = by (slice_get old.entries j) refl valu
         → (e : K × V) × TakesEntry old new j e × (v ≡ e.1)
     by None at value = absurd (none-some v value)
     by (Some e) at value = (e, record { answer = at; step = removes }, sym (same_Some e.1 v value))
+
+-- the pair that went in is the last, and is the one that is read
+module _ {K V S : Type 0} (eq : K → K → Bool) {m : MapState K V S} {k : K} {e : EntryState K V S}
+    (is : e ≡ entry_of eq m k) (new : MapState K V S) (v : V) (p : ℕ) (pair : K × V) where
+  pub read_new : AddsEntry eq e.map new e.key v (length e.map.entries) → p ≡ length e.map.entries
+      → slice_get new.entries p ≡ Some pair
+      → (pair ≡ (e.key, v)) × (unwrap_or (lookup_entry (eq k) m.entries) (k, v) ≡ pair)
+  read_new adds end read =
+      let es = e.map.entries in
+      let last =
+      adds.adds.entries ∙ put_back_absent eq es e.key v (none_from_lookup (eq e.key) es adds.absent) in
+      let stands = ap₂ slice_get last end ∙ slice_get_here es (e.key, v) [] in
+      let same : pair ≡ (e.key, v) = same_Some _ _ (sym read ∙ stands) in
+      let none = lookup_entry-absent (eq e.key) es adds.absent in (
+        same,
+        ap₂ (λ m k. unwrap_or (lookup_entry (eq k) m.entries) (k, v)) (sym (ap (λ e. e.map) is))
+            (sym (ap (λ e. e.key) is))
+            ∙ ap (λ o. unwrap_or o (e.key, v)) none ∙ sym same,
+      )

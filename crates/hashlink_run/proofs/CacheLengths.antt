@@ -67,7 +67,7 @@ module _ {K V S : Type 0} (old new : MapState K V S) where
     occupied-one j step.Remove s = removes-one _ s.1.step
     occupied-one j step.RemoveEntry s = removes-one _ s.1.step
 
-    absent-one : (eq : K → K → Bool) (step : EntryStep V) → VacantStep eq old k step replies new
+    absent-one : (eq : K → K → Bool) (step : EntryStep V) → VacantStep eq Says old k step replies new
         → length new.entries ≤ length old.entries + 1
     absent-one eq step.Get s = same-one s.0
     absent-one eq (step.OrInsert v) s = vacant-one eq k v s.0 s.1
@@ -85,7 +85,7 @@ module _ {K V S : Type 0} (old new : MapState K V S) where
     entry-one eq step s = by (place_of (eq k) old.entries) s
       where
         by : (o : Option ℕ)
-            → MatchOption o (VacantStep eq old k step replies new)
+            → MatchOption o (VacantStep eq Says old k step replies new)
             (λ j. OccupiedStep Says old j k step replies new)
             → length new.entries ≤ length old.entries + 1
         by None t = absent-one eq step t

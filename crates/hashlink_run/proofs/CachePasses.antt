@@ -19,7 +19,7 @@ use Rattle.hashlink_run.specs.declared.cache_commands.CacheCommand.TheVariants.{
 use Rattle.hashlink_run.specs.declared.cache_commands.CacheCommand.TheVariants.{Clear}
 use Rattle.hashlink_run.specs.declared.cache_commands.CacheCommand.TheVariants.{RemoveLru}
 use Rattle.hashlink_run.specs.declared.replies.Reply.{Reply}
-use Rattle.hashlink_run.specs.declared.replies.Reply.TheVariants.{Refused}
+use Rattle.hashlink_run.specs.declared.replies.Reply.TheVariants.{Refused, Seen}
 use Rattle.hashlink_run.specs.CacheCalls.{put_passed}
 use Rattle.hashlink_run.specs.CacheRun.{command_put, cache_passed, CacheWithinPeak}
 use Rattle.hashlink_run.specs.CacheStep.{CacheStep, CacheRun}
@@ -62,7 +62,7 @@ module _ {K V B S : Type 0} (eq : K → K → Bool) (Says : K → V → B → Ty
 
   used_so : (k : K) (v : V) (answer : Result (Option V) (K × V)) (replies : List (Reply K V B))
       → CacheUses eq old new k v answer
-      → MatchResult answer (λ w. Replies Says (lookup_entry (eq k) old.map.entries) replies)
+      → MatchResult answer (λ w. Replies Says Seen (lookup_entry (eq k) old.map.entries) replies)
       (λ pair. replies ≡ Refused pair.0 pair.1 ∷ [])
       → PassesBy (Use k v) replies
   used_so k v (Ok w) replies s said =

@@ -17,7 +17,7 @@ use Rattle.hashlink_run.specs.declared.cache_commands.CacheCommand.TheVariants.{
 use Rattle.hashlink_run.specs.declared.cache_commands.CacheCommand.TheVariants.{Clear}
 use Rattle.hashlink_run.specs.declared.cache_commands.CacheCommand.TheVariants.{RemoveLru}
 use Rattle.hashlink_run.specs.declared.replies.Reply.{Reply}
-use Rattle.hashlink_run.specs.declared.replies.Reply.TheVariants.{Refused}
+use Rattle.hashlink_run.specs.declared.replies.Reply.TheVariants.{Refused, Seen}
 use Rattle.hashlink_run.specs.CacheCalls.{put_passed}
 use Rattle.hashlink_run.specs.CacheRun.{command_put, InsertsFit}
 use Rattle.hashlink_run.specs.CacheStep.{CacheStep, CacheRun}
@@ -63,7 +63,7 @@ module _ {K V B S : Type 0} (eq : K → K → Bool) (Says : K → V → B → Ty
 
   used-puts : (k : K) (v : V) (answer : Result (Option V) (K × V)) (replies : List (Reply K V B)) (n : ℕ)
       → CacheUses eq old new k v answer
-      → MatchResult answer (λ w. Replies Says (lookup_entry (eq k) old.map.entries) replies)
+      → MatchResult answer (λ w. Replies Says Seen (lookup_entry (eq k) old.map.entries) replies)
       (λ pair. replies ≡ Refused pair.0 pair.1 ∷ [])
       → UsePassed k v (is_refused replies) ≡ Length n ∷ []
       → PutsIn n

@@ -20,7 +20,7 @@ use Rattle.hashlink_run.specs.declared.cache_commands.CacheCommand.TheVariants.{
 use Rattle.hashlink_run.specs.declared.cache_commands.CacheCommand.TheVariants.{Clear}
 use Rattle.hashlink_run.specs.declared.cache_commands.CacheCommand.TheVariants.{RemoveLru}
 use Rattle.hashlink_run.specs.declared.replies.Reply.{Reply}
-use Rattle.hashlink_run.specs.declared.replies.Reply.TheVariants.{Refused}
+use Rattle.hashlink_run.specs.declared.replies.Reply.TheVariants.{Refused, Seen}
 use Rattle.hashlink_run.specs.CacheRun.{leaves_spare, DropsPair, TakesAllAfterADrop}
 use Rattle.hashlink_run.specs.CacheStep.{CacheStep, CacheRun}
 use Rattle.hashlink_run.specs.CallReplies.{insert_reply, is_refused}
@@ -46,7 +46,7 @@ module _ {K V B S : Type 0} (eq : K → K → Bool) (Says : K → V → B → Ty
       → 1 ≤ old.map.spare
       → MatchOption o (CacheInserts eq old new k v answer)
       (λ w. (answer ≡ Ok (Some w)) × CacheGets eq old new k (Some w))
-      → MatchResult answer (λ w. Replies Says (lookup_entry (eq k) old.map.entries) replies)
+      → MatchResult answer (λ w. Replies Says Seen (lookup_entry (eq k) old.map.entries) replies)
       (λ pair. replies ≡ Refused pair.0 pair.1 ∷ [])
       → is_refused replies ≡ false
   used-taken old new k v (Ok w) o spare s said = ap is_refused said.2

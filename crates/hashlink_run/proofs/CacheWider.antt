@@ -9,7 +9,11 @@ use Rattle.hashlink_run.specs.declared.cache_commands.CacheCommand.TheVariants.{
 use Rattle.hashlink_run.specs.declared.cache_commands.CacheCommand.TheVariants.{Clear}
 use Rattle.hashlink_run.specs.declared.cache_commands.CacheCommand.TheVariants.{RemoveLru}
 use Rattle.hashlink_run.specs.declared.replies.Reply.{Reply}
-use Rattle.hashlink_run.specs.declared.replies.Reply.TheVariants.{Refused}
+use Rattle.hashlink_run.specs.declared.cache_commands.WeightedCommand.{WeightedCommand}
+use Rattle.hashlink_run.specs.declared.cache_commands.WeightedCommand.TheVariants as weighted
+use Rattle.hashlink_run.specs.declared.replies.Reply.TheVariants.{Refused, Seen}
+use Rattle.hashlink_run.specs.WeightedStep.{WeightedStep, named_pair}
+use Rattle.hashlink_model.specs.Weights.{WeightedState}
 use Rattle.hashlink_run.specs.CacheStep.{CacheStep}
 use Rattle.hashlink_run.specs.Reads.{Replies}
 use Rattle.hashlink_run.proofs.Wider.{replies-wider, entry-wider}
@@ -18,11 +22,11 @@ module _ {K V B : Type 0} (P Q : K → V → B → Type 0) (wider : (k : K) (v :
     {S : Type 0} (eq : K → K → Bool) (old : CacheState K V S) (replies : List (Reply K V B))
     (new : CacheState K V S) where
   use-wider : (k : K) (answer : Result (Option V) (K × V))
-      → MatchResult answer (λ w. Replies P (lookup_entry (eq k) old.map.entries) replies)
+      → MatchResult answer (λ w. Replies P Seen (lookup_entry (eq k) old.map.entries) replies)
       (λ pair. replies ≡ Refused pair.0 pair.1 ∷ [])
-      → MatchResult answer (λ w. Replies Q (lookup_entry (eq k) old.map.entries) replies)
+      → MatchResult answer (λ w. Replies Q Seen (lookup_entry (eq k) old.map.entries) replies)
       (λ pair. replies ≡ Refused pair.0 pair.1 ∷ [])
-  use-wider k (Ok w) s = replies-wider P Q wider (lookup_entry (eq k) old.map.entries) replies s
+  use-wider k (Ok w) s = replies-wider P Q wider Seen (lookup_entry (eq k) old.map.entries) replies s
   use-wider k (Err pair) s = s
 
   pub cache_step-wider : (command : CacheCommand K V) → CacheStep eq P old command replies new
@@ -31,10 +35,23 @@ module _ {K V B : Type 0} (P Q : K → V → B → Type 0) (wider : (k : K) (v :
   cache_step-wider (Use k v) s = (s.0, s.1, use-wider k s.0 s.2)
   cache_step-wider (Entry k step) s = (s.0, s.1, entry-wider P Q wider s.0 replies new.map eq k step s.2, s.3)
   cache_step-wider (Get k) s =
-      (s.0, replies-wider P Q wider (lookup_entry (eq k) old.map.entries) replies s.1)
+      (s.0, replies-wider P Q wider Seen (lookup_entry (eq k) old.map.entries) replies s.1)
   cache_step-wider (Peek k) s =
-      (s.0, replies-wider P Q wider (lookup_entry (eq k) old.map.entries) replies s.1)
+      (s.0, replies-wider P Q wider Seen (lookup_entry (eq k) old.map.entries) replies s.1)
   cache_step-wider (Remove k) s = s
   cache_step-wider (SetCapacity n) s = s
   cache_step-wider Clear s = s
   cache_step-wider RemoveLru s = s
+
+-- ---- and of a cache with a budget
+
+module _ {K V B : Type 0} (P Q : K → V → B → Type 0) (wider : (k : K) (v : V) (b : B) → P k v b → Q k v b)
+    {S : Type 0} (eq : K → K → Bool) (old : WeightedState K V S) (replies : List (Reply K V B))
+    (new : WeightedState K V S) where
+  pub weighted_step-wider : (command : WeightedCommand K V) → WeightedStep eq P old command replies new
+      → WeightedStep eq Q old command replies new
+  weighted_step-wider (weighted.Get k) s =
+      (s.0, replies-wider P Q wider Seen (named_pair eq old k) replies s.1)
+  weighted_step-wider (weighted.Peek k) s =
+      (s.0, replies-wider P Q wider Seen (named_pair eq old k) replies s.1)
+  weighted_step-wider command s = s

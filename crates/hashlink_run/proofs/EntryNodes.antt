@@ -61,7 +61,7 @@ module _ {K V S : Type 0} (old new : MapState K V S) where
     occupied-keeps j Remove s = kept_taken _ s.1.step
     occupied-keeps j RemoveEntry s = kept_taken _ s.1.step
 
-    vacant-keeps : (eq : K → K → Bool) (step : EntryStep V) → VacantStep eq old k step replies new
+    vacant-keeps : (eq : K → K → Bool) (step : EntryStep V) → VacantStep eq Says old k step replies new
         → KeepsNodes old new
     vacant-keeps eq Get s = kept_unchanged s.0
     vacant-keeps eq (OrInsert v) s = kept_vacant eq k v s.0 s.1
@@ -79,7 +79,7 @@ module _ {K V S : Type 0} (old new : MapState K V S) where
     entry-keeps eq step s = by (place_of (eq k) old.entries) s
       where
         by : (o : Option ℕ)
-            → MatchOption o (VacantStep eq old k step replies new)
+            → MatchOption o (VacantStep eq Says old k step replies new)
             (λ j. OccupiedStep Says old j k step replies new)
             → KeepsNodes old new
         by None s = vacant-keeps eq step s

@@ -1,7 +1,7 @@
 -- While a node is spare no command to a map hands a pair back.
 use Rattle.std.proofs.Common.{◌≡◌, ℕ, zero, suc, ◌≤◌, Bool, false, List, [], ◌∷◌, ◌++◌, slice_get, Option}
 use Rattle.std.proofs.Common.{None}
-use Rattle.std.proofs.Common.{Some, Result, Ok, Err, MatchOption, refl, ap, ◌∙◌, subst, arith}
+use Rattle.std.proofs.Common.{Some, Result, Ok, Err, MatchOption, MatchResult, refl, ap, ◌∙◌, subst, arith}
 use Rattle.std.specs.Result.{result_map_both}
 use Rattle.std.specs.declared.alloc.AllocError.{AllocError}
 use Rattle.std.proofs.lemmas.Option.{same_Some}
@@ -26,6 +26,7 @@ use Rattle.hashlink_run.specs.declared.commands.CursorStep.TheVariants.{Before, 
 use Rattle.hashlink_run.specs.declared.commands.EntryStep.{EntryStep}
 use Rattle.hashlink_run.specs.declared.commands.EntryStep.TheVariants as step
 use Rattle.hashlink_run.specs.declared.replies.Reply.{Reply}
+use Rattle.hashlink_run.specs.declared.replies.Reply.TheVariants.{Inserted, Refused}
 use Rattle.hashlink_run.specs.CallReplies.{insert_reply, shrink_reply, reply_or_refused, is_refused}
 use Rattle.hashlink_run.specs.Chain.{Answered, after}
 use Rattle.hashlink_run.specs.CursorSteps.{CursorStepped, CursorWalks, first_place}
@@ -61,9 +62,17 @@ module _ {K V B S : Type 0} (eq : K → K → Bool) (Says : K → V → B → Ty
     absent-taken v reply not (Ok done) s is = ap is_refused is ∙ not
     absent-taken v reply not (Err pair) s is = let none = s.may_refuse.no_spare in absurd (omega arith)
 
-    vacant-taken : (step : EntryStep V) → VacantStep eq old k step replies new → is_refused replies ≡ false
+    read-taken : (v : V) (answer : Result (Unit {0}) (K × V)) → VacantInserts eq old new k v answer
+        → MatchResult answer (λ done. (said : B) × Says k v said × (replies ≡ Inserted said ∷ []))
+        (λ pair. replies ≡ Refused pair.0 pair.1 ∷ [])
+        → is_refused replies ≡ false
+    read-taken v (Ok done) s is = ap is_refused is.2
+    read-taken v (Err pair) s is = let none = s.may_refuse.no_spare in absurd (omega arith)
+
+    vacant-taken : (step : EntryStep V) → VacantStep eq Says old k step replies new
+        → is_refused replies ≡ false
     vacant-taken step.Get s = ap is_refused s.1
-    vacant-taken (step.OrInsert v) s = absent-taken v _ refl s.0 s.1 s.2
+    vacant-taken (step.OrInsert v) s = read-taken v s.0 s.1 s.2
     vacant-taken (step.Insert v) s = absent-taken v _ refl s.0 s.1 s.2
     vacant-taken (step.InsertEntry v) s = absent-taken v _ refl s.0 s.1 s.2
     vacant-taken (step.ReplaceEntry v) s = ap is_refused s.1
@@ -78,7 +87,7 @@ module _ {K V B S : Type 0} (eq : K → K → Bool) (Says : K → V → B → Ty
     entry-taken step s = by (place_of (eq k) old.entries) s
       where
         by : (o : Option ℕ)
-            → MatchOption o (VacantStep eq old k step replies new)
+            → MatchOption o (VacantStep eq Says old k step replies new)
             (λ j. OccupiedStep Says old j k step replies new)
             → is_refused replies ≡ false
         by None t = vacant-taken step t

@@ -1,5 +1,6 @@
 -- What a map answers to a step on an entry, with the key k in hand, and what it goes on to.
 use Rattle.std.specs.Prelude.{◌≡◌, ℕ, Bool, List, [], ◌∷◌, length, slice_get, None, Some, MatchOption, Result}
+use Rattle.std.specs.Prelude.{MatchResult, unwrap_or}
 use Rattle.std.specs.Map.{lookup_entry}
 use Rattle.std.specs.Result.{result_map_both}
 use Rattle.hashlink_model.specs.Entries.{place_of}
@@ -14,18 +15,20 @@ use Rattle.hashlink_run.specs.declared.commands.EntryStep.TheVariants.{ToBack}
 use Rattle.hashlink_run.specs.declared.commands.EntryStep.TheVariants.{Remove, RemoveEntry}
 use Rattle.hashlink_run.specs.declared.replies.Reply.{Reply}
 use Rattle.hashlink_run.specs.declared.replies.Reply.TheVariants.{Value, Pair, Key, Seen}
+use Rattle.hashlink_run.specs.declared.replies.Reply.TheVariants.{Inserted, Refused}
 use Rattle.hashlink_run.specs.CallReplies.{reply_or_refused}
 use Rattle.hashlink_run.specs.Reads.{Replies, Reads}
 
 module _ {K V B S : Type 0} (Says : K → V → B → Type 0) where
   -- the entry at the place j moves to the place b, and is read
   abbrev pub MovesAndReadsAt : MapState K V S → ℕ → ℕ → List (Reply K V B) → MapState K V S → Type 0
-  MovesAndReadsAt old j b replies new = MovesAt old new j b × Replies Says (slice_get old.entries j) replies
+  MovesAndReadsAt old j b replies new =
+      MovesAt old new j b × Replies Says Seen (slice_get old.entries j) replies
 
   -- a step where the key is at the place j
   abbrev pub OccupiedStep : MapState K V S → ℕ → K → EntryStep V → List (Reply K V B)
       → MapState K V S → Type 0
-  OccupiedStep old j k Get replies new = Reads Says old (slice_get old.entries j) replies new
+  OccupiedStep old j k Get replies new = Reads Says old Seen (slice_get old.entries j) replies new
   OccupiedStep old j k (OrInsert v) replies new = MovesAndReadsAt old j (length old.entries) replies new
   OccupiedStep old j k (Insert v) replies new =
       (w : V) × InsertsValue old new j v w × (replies ≡ Value (Some w) ∷ [])
@@ -42,13 +45,20 @@ module _ {K V B S : Type 0} (Says : K → V → B → Type 0) where
   OccupiedStep old j k RemoveEntry replies new =
       (e : K × V) × TakesEntry old new j e × (replies ≡ Pair (Some e) ∷ [])
 
-module _ {K V B S : Type 0} (eq : K → K → Bool) where
+module _ {K V B S : Type 0} (eq : K → K → Bool) (Says : K → V → B → Type 0) where
   -- an insert, with this reply where it is not refused
   abbrev pub InsertsAbsent : MapState K V S → K → V → Reply K V B → List (Reply K V B)
       → MapState K V S → Type 0
   InsertsAbsent old k v reply replies new =
       (answer : Result (Unit {0}) (K × V)) × VacantInserts eq old new k v answer
       × (replies ≡ reply_or_refused (result_map_both (λ _. reply) (λ pair. pair) answer) ∷ [])
+
+  -- an insert, and what is said of the pair where it is not refused
+  abbrev pub InsertsAndReads : MapState K V S → K → V → List (Reply K V B) → MapState K V S → Type 0
+  InsertsAndReads old k v replies new =
+      (answer : Result (Unit {0}) (K × V)) × VacantInserts eq old new k v answer
+      × MatchResult answer (λ done. (said : B) × Says k v said × (replies ≡ Inserted said ∷ []))
+      (λ pair. replies ≡ Refused pair.0 pair.1 ∷ [])
 
   -- nothing is there
   abbrev pub FindsNothing : MapState K V S → Reply K V B → List (Reply K V B) → MapState K V S → Type 0
@@ -57,7 +67,7 @@ module _ {K V B S : Type 0} (eq : K → K → Bool) where
   -- a step where the key is absent
   abbrev pub VacantStep : MapState K V S → K → EntryStep V → List (Reply K V B) → MapState K V S → Type 0
   VacantStep old k Get replies new = FindsNothing old (Seen None) replies new
-  VacantStep old k (OrInsert v) replies new = InsertsAbsent old k v (Seen None) replies new
+  VacantStep old k (OrInsert v) replies new = InsertsAndReads old k v replies new
   VacantStep old k (Insert v) replies new = InsertsAbsent old k v (Value None) replies new
   VacantStep old k (InsertEntry v) replies new = InsertsAbsent old k v (Pair None) replies new
   VacantStep old k (ReplaceEntry v) replies new = FindsNothing old (Pair None) replies new
@@ -68,17 +78,15 @@ module _ {K V B S : Type 0} (eq : K → K → Bool) where
   VacantStep old k RemoveEntry replies new = FindsNothing old (Pair None) replies new
 
   -- a step at the place of the key, or where it is absent
-  abbrev pub EntrySteps : (K → V → B → Type 0) → MapState K V S → K → EntryStep V → List (Reply K V B)
-      → MapState K V S
-      → Type 0
-  EntrySteps Says old k step replies new =
+  abbrev pub EntrySteps : MapState K V S → K → EntryStep V → List (Reply K V B) → MapState K V S → Type 0
+  EntrySteps old k step replies new =
       MatchOption (place_of (eq k) old.entries) (VacantStep old k step replies new)
       (λ j. OccupiedStep Says old j k step replies new)
 
--- the step reads the pair of its key
+-- the step reads the pair of its key, an `or_insert` also the one that goes in
 abbrev pub ReadAtEntry : {K V S : Type 0} → (K → K → Bool) → MapState K V S → K → EntryStep V → K × V → Type 0
 ReadAtEntry eq old k Get pair = lookup_entry (eq k) old.entries ≡ Some pair
-ReadAtEntry eq old k (OrInsert v) pair = lookup_entry (eq k) old.entries ≡ Some pair
+ReadAtEntry eq old k (OrInsert v) pair = unwrap_or (lookup_entry (eq k) old.entries) (k, v) ≡ pair
 ReadAtEntry eq old k ToFront pair = lookup_entry (eq k) old.entries ≡ Some pair
 ReadAtEntry eq old k ToBack pair = lookup_entry (eq k) old.entries ≡ Some pair
 ReadAtEntry eq old k step pair = ⊥

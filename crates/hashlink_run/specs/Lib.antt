@@ -11,3 +11,4 @@ pub mod CacheCalls
 pub mod CacheLaws
 pub mod CacheStep
 pub mod CacheRun
+pub mod WeightedStep

@@ -40,3 +40,17 @@ pub enum PairCommand<K, V> {
     /// Reads the key's pair at its place.
     Peek(K),
 }
+
+/// A call of a cache with a budget, with its arguments.
+#[derive(Clone, Copy, Debug, PartialEq, Eq, Drop)]
+pub enum WeightedCommand<K, V> {
+    /// Inserts the pair at the back, with the given value and weight, and evicts those at the front until the
+    /// weights sum to at most the budget.
+    Insert(K, V, u64),
+    /// Moves the key's pair to the back, and reads it.
+    Get(K),
+    /// Reads the key's pair at its place.
+    Peek(K),
+    /// Removes the key's pair, for its value.
+    Remove(K),
+}

@@ -45,7 +45,7 @@ pub enum Command<K, V> {
 pub enum EntryStep<V> {
     /// Reads the pair.
     Get,
-    /// Moves the pair to the back and reads it, or inserts the given key with the value at the back.
+    /// Moves the pair to the back, or inserts the given key with the value at the back. Then reads the pair.
     OrInsert(V),
     /// Sets the value of the pair and moves it to the back, or inserts the given key with the value at the
     /// back.

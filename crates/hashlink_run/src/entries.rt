@@ -11,8 +11,8 @@ use hashlink_map::{Entry, LinkedHashMap, OccupiedEntry};
 use std::hash::{BuildHasher, Hash};
 
 /// Runs the step at the key's place in the map, with the given key, and returns its reply. `says` has to be
-/// callable on the pair that the step reads. It costs what the methods of an entry cost that the step names.
-/// If it fails to allocate, it replies `Refused` with the pair.
+/// callable on the pair that the step reads; an `OrInsert` also reads one that it inserts. It costs what the
+/// methods of an entry cost that the step names. If it fails to allocate, it replies `Refused` with the pair.
 pub fn reply_of_entry<K, V, S, B, F>(
     map: &mut LinkedHashMap<K, V, S>,
     key: K,
@@ -85,8 +85,9 @@ where
         Entry::Vacant(entry) => match step {
             EntryStep::Get | EntryStep::ToFront | EntryStep::ToBack => Ok(Reply::Seen(None)),
             EntryStep::OrInsert(value) => {
-                entry.insert(value)?;
-                Ok(Reply::Seen(None))
+                let inserted = entry.insert_entry(value)?;
+                let (key, value) = inserted.get_key_value();
+                Ok(Reply::Inserted(says(key, value)))
             }
             EntryStep::Insert(value) => {
                 entry.insert(value)?;

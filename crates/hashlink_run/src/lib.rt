@@ -1,4 +1,5 @@
-//! Lists of commands to a map, to a cache and to two caches, with what holds of every run.
+//! Single commands to a map and to each kind of cache, and lists of commands to a map, to a cache and to two
+//! caches, with what holds of every run.
 #![tactic(auto)]
 
 mod cache_commands;
@@ -12,8 +13,9 @@ pub mod laws;
 mod replies;
 mod running;
 mod steps;
+mod weighted_steps;
 
-pub use cache_commands::{CacheCommand, PairCommand};
+pub use cache_commands::{CacheCommand, PairCommand, WeightedCommand};
 pub use cache_running::run_cache;
 pub use cache_steps::answer_cache;
 pub use calls::{Pair, Uses, answer_call, run_pair, run_uses};
@@ -22,3 +24,4 @@ pub use entries::reply_of_entry;
 pub use replies::Reply;
 pub use running::run;
 pub use steps::{answer_command, insert_reply, reply_count, said_of};
+pub use weighted_steps::answer_weighted;

@@ -1,4 +1,4 @@
-/// The reply of a map to a command. Of a pair that a command reads, the reply has what the run's closure
+/// The reply of a map or a cache to a command. Of a pair that a command reads, the reply has what the closure
 /// returned for it.
 #[derive(Clone, Copy, Debug, PartialEq, Eq, Drop)]
 pub enum Reply<K, V, B = bool> {
@@ -12,10 +12,17 @@ pub enum Reply<K, V, B = bool> {
     Pair(Option<(K, V)>),
     /// The stored key that was replaced, if there was one.
     Key(Option<K>),
-    /// What the closure returned for the pair that was read, if there was one.
+    /// What the closure returned for the pair of the key that was named, if there was one.
     Seen(Option<B>),
+    /// What the closure returned for the pair that was inserted, since the key that was named was absent.
+    Inserted(B),
+    /// What the closure returned for the pair at an end of the map, or at the place of a cursor, if there was
+    /// one.
+    AtPlace(Option<B>),
     /// The number of pairs.
     Length(usize),
     /// The pair that was not inserted since an allocation failed.
     Refused(K, V),
+    /// The pair that was not inserted since its weight alone is above the budget.
+    TooHeavy(K, V),
 }

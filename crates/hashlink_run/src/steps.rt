@@ -128,8 +128,8 @@ where
         Command::PopBack => Reply::Pair(map.pop_back()),
         Command::ToFront(key) => Reply::Seen(to_front(map, &key, says)),
         Command::ToBack(key) => Reply::Seen(to_back(map, &key, says)),
-        Command::Front => Reply::Seen(said_of(map.front(), says)),
-        Command::Back => Reply::Seen(said_of(map.back(), says)),
+        Command::Front => Reply::AtPlace(said_of(map.front(), says)),
+        Command::Back => Reply::AtPlace(said_of(map.back(), says)),
         Command::Len => Reply::Length(map.len()),
         Command::Clear => {
             map.clear();

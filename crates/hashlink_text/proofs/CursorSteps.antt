@@ -3,8 +3,8 @@ use Rattle.std.proofs.Common.{◌≡◌, ℕ, zero, suc, List, [], ◌∷◌, �
 use Rattle.std.proofs.Common.{option_and_then, refl, sym, ap, ◌∙◌, append_assoc}
 use Rattle.std.specs.Option.{option_map}
 use Rattle.hashlink_run.specs.declared.commands.CursorStep.{CursorStep}
-use Rattle.hashlink_text.specs.Says.{numbers_after, cursor_steps_before, steps_after}
-use Rattle.hashlink_text.specs.Tables.{said_in}
+use Rattle.hashlink_text.specs.Reading.{cursor_step_spelled, cursor_steps, numbers_after, read_in}
+use Rattle.hashlink_text.specs.Reading.{steps_after}
 
 pub steps_after-drop : (n : ℕ) (words : List (List ℕ)) → steps_after n words ≡ steps_after 0 (drop n words)
 steps_after-drop zero [] = refl
@@ -21,7 +21,7 @@ append_onto old x (Some xs) = ap Some (sym (append_assoc old (x ∷ []) xs))
 -- one more step is read
 pub steps_after-more : (name : List ℕ) (words : List (List ℕ)) (step : CursorStep ℕ ℕ)
     (old : List (CursorStep ℕ ℕ))
-    → Some step ≡ said_in cursor_steps_before name (take (numbers_after name) words)
+    → Some step ≡ read_in cursor_step_spelled cursor_steps name (take (numbers_after name) words)
     → option_map (λ steps. old ++ steps) (steps_after 0 (name ∷ words))
     ≡ option_map (λ steps. (old ++ step ∷ []) ++ steps) (steps_after 0 (drop (numbers_after name) words))
 steps_after-more name words step old e =

@@ -2,7 +2,10 @@
 pub mod CursorSteps
 pub mod Cutting
 pub mod Digits
-pub mod Spelled
+pub mod Grammar
+pub mod CacheGrammar
+pub mod MapGrammar
+pub mod ReadSo
 pub mod WordTables
 pub mod Answered
 pub mod Lists

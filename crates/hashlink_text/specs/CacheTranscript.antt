@@ -2,7 +2,7 @@
 use Rattle.std.specs.Prelude.{◌≡◌, ℕ, List, ◌∷◌, ◌++◌, length, codes, decimal, nat_eq, Option, None, Some}
 use Rattle.hashlink_model.specs.Cache.{CacheState}
 use Rattle.hashlink_history.specs.CacheRuns.{answer_to, after_event}
-use Rattle.hashlink_text.specs.CachesSay.{cache_says, pair_says}
+use Rattle.hashlink_text.specs.Spelling.{Says, cache_spelled, pair_spelled}
 use Rattle.hashlink_run.specs.declared.cache_commands.PairCommand.{PairCommand}
 use Rattle.hashlink_text.specs.declared.cache_line.CacheLine.{CacheLine}
 use Rattle.hashlink_text.specs.declared.cache_line.CacheLine.TheVariants.{Do, Len, Iter}
@@ -10,7 +10,6 @@ use Rattle.hashlink_run.specs.declared.replies.Reply.{Reply}
 use Rattle.hashlink_run.specs.CacheCalls.{event_of}
 use Rattle.hashlink_run.specs.CacheStep.{CacheStep}
 use Rattle.hashlink_text.specs.Transcript.{Itself, ended, shown_by, list_shown, replies_shown}
-use Rattle.hashlink_text.specs.declared.shown.Form.TheVariants.{OfValue}
 
 module _ {S : Type 0} where
   -- from old, this text may answer what a line says, and the cache goes on to new; a bad line changes nothing
@@ -20,10 +19,11 @@ module _ {S : Type 0} where
   CacheShows old (Some Iter) text new = (text ≡ list_shown old.map.entries) × (new ≡ old)
   CacheShows old (Some (Do command)) text new =
       (replies : List (Reply ℕ ℕ (ℕ × ℕ))) × CacheStep nat_eq Itself old command replies new
-      × (text ≡ replies_shown OfValue replies)
+      × (text ≡ replies_shown replies)
 
   abbrev pub CacheLineShows : CacheState ℕ ℕ S → List ℕ → List ℕ → CacheState ℕ ℕ S → Type 0
-  CacheLineShows old line text new = CacheShows old (cache_says line) text new
+  CacheLineShows old line text new =
+      (said : Option CacheLine) × Says cache_spelled line said × CacheShows old said text new
 
 -- ---- two caches, by what they hold
 
@@ -45,7 +45,8 @@ module _ (c d : ℕ) where
       × (new ≡ (after_event nat_eq c old.0 (event_of command), after_event nat_eq d old.1 (event_of command)))
 
   abbrev pub PairLineShows : Held → List ℕ → List ℕ → Held → Type 0
-  PairLineShows old line text new = PairShows old (pair_says line) text new
+  PairLineShows old line text new =
+      (said : Option (PairCommand ℕ ℕ)) × Says pair_spelled line said × PairShows old said text new
 
 -- what both hold, a line for each
 abbrev pub lists_shown : Held → List ℕ

@@ -2,10 +2,8 @@
 pub mod Lines
 pub mod Cuts
 pub mod Tables
-pub mod Says
-pub mod Modes
-pub mod CachesSay
 pub mod Spelling
+pub mod Reading
 pub mod Transcript
 pub mod CacheTranscript
 pub mod WeightedTranscript

@@ -1,7 +1,13 @@
--- How what a line says is spelled.
-use Rattle.std.specs.Prelude.{ℕ, ◌^◌, ◌<◌, List, [], ◌∷◌, map, codes, decimal, Option, None, Some, IfSome}
+-- How what a line says is spelled. What a text says is the one whose spelling it is.
+use Rattle.std.specs.Prelude.{◌≡◌, ◌↔◌, ℕ, ◌^◌, ◌<◌, List, [], ◌∷◌, map, codes, decimal, Option, None, Some}
+use Rattle.std.specs.Prelude.{nat_le, if◌then◌else◌}
 use Rattle.std.specs.Option.{option_map}
 use Rattle.std.specs.List.{AllByRecursion, flat_map, join_with_byte}
+use Rattle.hashlink_run.specs.declared.cache_commands.CacheCommand.TheVariants as cache
+use Rattle.hashlink_run.specs.declared.cache_commands.PairCommand.{PairCommand}
+use Rattle.hashlink_run.specs.declared.cache_commands.PairCommand.TheVariants as pair
+use Rattle.hashlink_run.specs.declared.cache_commands.WeightedCommand.TheVariants as weighted
+use Rattle.hashlink_run.specs.declared.commands.Command.{Command}
 use Rattle.hashlink_run.specs.declared.commands.Command.TheVariants.{Insert, InsertFront, Replace, Get}
 use Rattle.hashlink_run.specs.declared.commands.Command.TheVariants.{Remove}
 use Rattle.hashlink_run.specs.declared.commands.Command.TheVariants.{RemoveEntry, PopFront, PopBack}
@@ -17,7 +23,14 @@ use Rattle.hashlink_run.specs.declared.commands.CursorStep.TheVariants.{PeekPrev
 use Rattle.hashlink_run.specs.declared.commands.CursorStep.TheVariants.{Before, After}
 use Rattle.hashlink_run.specs.declared.commands.EntryStep.{EntryStep}
 use Rattle.hashlink_run.specs.declared.commands.EntryStep.TheVariants as step
-use Rattle.hashlink_text.specs.Says.{Said, Do, Cursor, Iter}
+use Rattle.hashlink_text.specs.declared.cache_line.CacheLine.{CacheLine}
+use Rattle.hashlink_text.specs.declared.cache_line.CacheLine.TheVariants as cache_line
+use Rattle.hashlink_text.specs.declared.line.Line.{Line}
+use Rattle.hashlink_text.specs.declared.line.Line.TheVariants as line
+use Rattle.hashlink_text.specs.declared.modes.Mode.{Mode}
+use Rattle.hashlink_text.specs.declared.modes.Mode.TheVariants as mode
+use Rattle.hashlink_text.specs.declared.weighted_line.WeightedLine.{WeightedLine}
+use Rattle.hashlink_text.specs.declared.weighted_line.WeightedLine.TheVariants as weighted_line
 
 -- a word of a line: a name, or a number
 pub data Word : Type 0 where
@@ -29,12 +42,44 @@ abbrev pub word_shown : Word → List ℕ
 word_shown (Name name) = name
 word_shown (Number n) = decimal n
 
+-- it is such as a line can have
+abbrev pub FitsWord : Word → Type 0
+FitsWord (Name name) = Unit {0}
+FitsWord (Number n) = n < 2 ^ 64
+
+-- `spell` has the words of what a line may say, or nothing where no line says it
+module _ {X : Type 0} (spell : X → Option (List Word)) where
+  -- the text is the spelling of x: its words, with one space between two
+  pub record Spells (x : X) (text : List ℕ) : Type 0 where
+    pub words : List Word
+    pub spelled : spell x ≡ Some words
+    pub fit : AllByRecursion FitsWord words
+    pub is : text ≡ join_with_byte 32 (map word_shown words)
+
+  -- what the text says: the one whose spelling it is, or nothing where it is the spelling of none
+  pub record Says (text : List ℕ) (said : Option X) : Type 0 where
+    pub one : (x : X) → (said ≡ Some x) ↔ Spells x text
+
 -- a name and the numbers after it
 abbrev pub named_words : List ℕ → List ℕ → List Word
 named_words name ns = Name name ∷ map Number ns
 
 abbrev pub named : List ℕ → List ℕ → Option (List Word)
 named name ns = Some (named_words name ns)
+
+-- ---- lines to a map
+
+-- what a line may say: a command to the map, steps of a cursor, or that the list of all pairs is asked for
+pub data Said : Type 0 where
+  Do : Command ℕ ℕ → Said
+  Cursor : List (CursorStep ℕ ℕ) → Said
+  Iter : Said
+
+-- what a line says that was read, with the list of a cursor's steps for what holds them
+abbrev pub said : Line → Said
+said (line.Do (command.Cursor steps)) = Cursor steps.items
+said (line.Do command) = Do command
+said line.Iter = Iter
 
 -- the words for what is done at a key's place. None say that the key alone is replaced, and that a pair is
 -- taken out whole
@@ -85,14 +130,45 @@ spelled (Cursor []) = None
 spelled (Cursor (step ∷ steps)) = Some (Name (codes "cursor") ∷ flat_map cursor_step_words (step ∷ steps))
 spelled Iter = named (codes "iter") []
 
--- the words with one space between two
-abbrev pub spelling : Said → Option (List ℕ)
-spelling line = option_map (λ words. join_with_byte 32 (map word_shown words)) (spelled line)
+-- ---- lines to a cache
 
--- its numbers are such as a line can say
-abbrev pub FitsWord : Word → Type 0
-FitsWord (Name name) = Unit {0}
-FitsWord (Number n) = n < 2 ^ 64
+abbrev pub cache_spelled : CacheLine → Option (List Word)
+cache_spelled (cache_line.Do (cache.Insert k v)) = named (codes "insert") (k ∷ v ∷ [])
+cache_spelled (cache_line.Do (cache.Use k v)) = named (codes "use") (k ∷ v ∷ [])
+cache_spelled (cache_line.Do (cache.Entry k step)) = None
+cache_spelled (cache_line.Do (cache.Get k)) = named (codes "get") (k ∷ [])
+cache_spelled (cache_line.Do (cache.Peek k)) = named (codes "peek") (k ∷ [])
+cache_spelled (cache_line.Do (cache.Remove k)) = named (codes "remove") (k ∷ [])
+cache_spelled (cache_line.Do (cache.SetCapacity c)) = named (codes "set_capacity") (c ∷ [])
+cache_spelled (cache_line.Do cache.Clear) = named (codes "clear") []
+cache_spelled (cache_line.Do cache.RemoveLru) = named (codes "remove_lru") []
+cache_spelled cache_line.Len = named (codes "len") []
+cache_spelled cache_line.Iter = named (codes "iter") []
 
-abbrev pub FitsLine : Said → Type 0
-FitsLine line = IfSome (spelled line) (AllByRecursion FitsWord)
+-- ---- lines to two caches
+
+abbrev pub pair_spelled : PairCommand ℕ ℕ → Option (List Word)
+pair_spelled (pair.Insert k v) = named (codes "insert") (k ∷ v ∷ [])
+pair_spelled (pair.Use k v) = named (codes "use") (k ∷ v ∷ [])
+pair_spelled (pair.Remove k) = named (codes "remove") (k ∷ [])
+pair_spelled (pair.Peek k) = named (codes "peek") (k ∷ [])
+
+-- ---- lines to a cache with a budget
+
+abbrev pub weighted_spelled : WeightedLine → Option (List Word)
+weighted_spelled (weighted_line.Do (weighted.Insert k v w)) = named (codes "insert") (k ∷ v ∷ w ∷ [])
+weighted_spelled (weighted_line.Do (weighted.Get k)) = named (codes "get") (k ∷ [])
+weighted_spelled (weighted_line.Do (weighted.Peek k)) = named (codes "peek") (k ∷ [])
+weighted_spelled (weighted_line.Do (weighted.Remove k)) = named (codes "remove") (k ∷ [])
+weighted_spelled weighted_line.Total = named (codes "total") []
+weighted_spelled weighted_line.Len = named (codes "len") []
+weighted_spelled weighted_line.Iter = named (codes "iter") []
+
+-- ---- the first line
+
+-- of two caches the first is the smaller one
+abbrev pub mode_spelled : Mode → Option (List Word)
+mode_spelled mode.Map = named (codes "map") []
+mode_spelled (mode.Cache c) = named (codes "cache") (c ∷ [])
+mode_spelled (mode.Pair c d) = if nat_le c d then named (codes "pair") (c ∷ d ∷ []) else None
+mode_spelled (mode.Weighted b) = named (codes "weighted") (b ∷ [])

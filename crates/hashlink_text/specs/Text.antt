@@ -8,7 +8,7 @@ use Rattle.hashlink_core.specs.declared.hash_builder.DefaultHashBuilder.{Default
 use Rattle.hashlink_lru.specs.Cached.{empty_cache}
 use Rattle.hashlink_weighted.specs.Weighed.{empty_weighted}
 use Rattle.hashlink_text.specs.Lines.{lines_of}
-use Rattle.hashlink_text.specs.Modes.{mode_said}
+use Rattle.hashlink_text.specs.Spelling.{Says, mode_spelled}
 use Rattle.hashlink_text.specs.declared.modes.Mode.{Mode}
 use Rattle.hashlink_text.specs.declared.modes.Mode.TheVariants.{Map, Cache, Pair, Weighted}
 use Rattle.hashlink_text.specs.CacheTranscript.{CacheLineShows, Held, PairLineShows, lists_shown}
@@ -34,7 +34,7 @@ module _ (S : Type 0) where
   -- the answer to a text of these lines, the first of which names the mode
   abbrev pub LinesRun : List (List ℕ) → List ℕ → Type 0
   LinesRun [] text = text ≡ []
-  LinesRun (mode ∷ lines) text = ModeRun (mode_said mode) lines text
+  LinesRun (mode ∷ lines) text = (said : Option Mode) × Says mode_spelled mode said × ModeRun said lines text
 
 -- the text is an answer to the input
 abbrev pub IsTranscript : List ℕ → List ℕ → Type 0

@@ -1,8 +1,9 @@
-ghost use Rattle.std.specs.Prelude.{◌≡◌};
+ghost use Rattle.std.specs.Prelude.{◌≡◌, [], ◌∷◌};
 ghost use Rattle.std.specs.Map.{lookup};
 ghost use Rattle.std.specs.Str.{bytes_eq};
-ghost use Rattle.hashlink_text.specs.CachesSay.{lone_cache_words, cache_words_of_number};
-ghost use Rattle.hashlink_text.specs.CachesSay.{cache_words_of_pair};
+ghost use Rattle.hashlink_text.specs.Lines.{words_of};
+ghost use Rattle.hashlink_text.specs.Reading.{by_name, cache_lines, read_words};
+ghost use Rattle.hashlink_text.specs.Spelling.{cache_spelled};
 
 use crate::numbers::{Numbers, read_numbers};
 use crate::tables::said_by;
@@ -21,26 +22,33 @@ pub enum CacheLine {
 }
 
 impl CacheLine {
-    ghost use Rattle.hashlink_text.specs.CachesSay.{cache_says};
+    ghost use Rattle.hashlink_text.specs.Spelling.{Says};
 
-    /// Returns what the line says, or `None` if it is bad. It reads the line once.
+    /// Returns the line whose spelling the text is, or `None` if the text is bad. It reads the text once.
     pub fn parse(text: &[u8]) -> Option<CacheLine>
-        ensures { result ≡ cache_says text.now }
+        ensures { Says cache_spelled text.now result }
     {
-        let mut words = Words::new(text);
-        let name = words.next()?;
-        match read_numbers(words)? {
-            Numbers::Nothing => said_alone(name),
-            Numbers::One(number) => said_of_number(name, number),
-            Numbers::Two(key, value) => said_of_pair(name, key, value),
-            Numbers::Three(..) => None,
-        }
+        line_of(text)
+    }
+}
+
+// Returns the line of the text's words.
+fn line_of(text: &[u8]) -> Option<CacheLine>
+    ensures { result ≡ read_words cache_spelled cache_lines (words_of text.now) }
+{
+    let mut words = Words::new(text);
+    let name = words.next()?;
+    match read_numbers(words)? {
+        Numbers::Nothing => said_alone(name),
+        Numbers::One(number) => said_of_number(name, number),
+        Numbers::Two(key, value) => said_of_pair(name, key, value),
+        Numbers::Three(..) => None,
     }
 }
 
 // Returns what a word says that stands alone.
 fn said_alone(name: &[u8]) -> Option<CacheLine>
-    ensures { result ≡ lookup (bytes_eq name.now) lone_cache_words }
+    ensures { result ≡ lookup (bytes_eq name.now) (by_name cache_spelled cache_lines []) }
 {
     said_by(
         name,
@@ -55,7 +63,7 @@ fn said_alone(name: &[u8]) -> Option<CacheLine>
 
 // Returns what a word says before a capacity, or before a key.
 fn said_of_number(name: &[u8], number: u64) -> Option<CacheLine>
-    ensures { result ≡ lookup (bytes_eq name.now) (cache_words_of_number number) }
+    ensures { result ≡ lookup (bytes_eq name.now) (by_name cache_spelled cache_lines (number ∷ [])) }
 {
     if is(name, b"set_capacity") {
         let capacity = usize::try_from(number).ok()?;
@@ -73,7 +81,7 @@ fn said_of_number(name: &[u8], number: u64) -> Option<CacheLine>
 
 // Returns what a word says before a key and a value.
 fn said_of_pair(name: &[u8], key: u64, value: u64) -> Option<CacheLine>
-    ensures { result ≡ lookup (bytes_eq name.now) (cache_words_of_pair key value) }
+    ensures { result ≡ lookup (bytes_eq name.now) (by_name cache_spelled cache_lines (key ∷ value ∷ [])) }
 {
     said_by(
         name,

@@ -4,12 +4,11 @@ ghost use Rattle.hashlink_core.specs.declared.hash_builder.DefaultHashBuilder.{D
 ghost use Rattle.hashlink_text.specs.Lines.{lines_of};
 ghost use Rattle.hashlink_text.specs.declared.modes.Mode.TheVariants.{Cache};
 ghost use Rattle.hashlink_lru.specs.Cached.{state_in};
-ghost use Rattle.hashlink_text.specs.CacheTranscript.{CacheLineShows};
+ghost use Rattle.hashlink_text.specs.CacheTranscript.{CacheLineShows, CacheShows};
 ghost use Rattle.hashlink_text.specs.Text.{ModeRun};
-ghost use Rattle.hashlink_text.specs.Transcript.{Pushes};
+ghost use Rattle.hashlink_text.specs.Transcript.{Pushes, PushesLine};
 
 use crate::reading::{AnswersLines, answer_lines};
-use crate::shown::Form;
 use crate::text::{push_list, push_replies};
 use crate::{CacheLine, Lines};
 use hashlink_lru::LruCache;
@@ -34,14 +33,26 @@ impl AnswersLines for LruCache<u64, u64> {
     ghost shows = { λ old line text new. CacheLineShows (state_in old) line text (state_in new) };
 
     fn answer_line(&mut self, line: &[u8], out: &mut String) -> Result<(), AllocError> {
-        match CacheLine::parse(line) {
-            Some(CacheLine::Do(command)) => {
-                let reply = answer_cache(self, command, &|key: &u64, value: &u64| (*key, *value));
-                push_replies(Form::OfValue, &[reply], out)
-            }
-            Some(CacheLine::Len) => writeln!(out, "{}", self.len()),
-            Some(CacheLine::Iter) => push_list(self.iter(), out),
-            None => writeln!(out, "bad"),
+        answer(self, CacheLine::parse(line), out)
+    }
+}
+
+// Pushes the answer to what a line says.
+fn answer(
+    cache: &mut LruCache<u64, u64>,
+    line: Option<CacheLine>,
+    out: &mut String,
+) -> Result<(), AllocError>
+    ensures { OnOk result (PushesLine
+        (λ text. CacheShows (state_in cache.old) line text (state_in cache.new)) out.old out.new) }
+{
+    match line {
+        Some(CacheLine::Do(command)) => {
+            let reply = answer_cache(cache, command, &|key: &u64, value: &u64| (*key, *value));
+            push_replies(&[reply], out)
         }
+        Some(CacheLine::Len) => writeln!(out, "{}", cache.len()),
+        Some(CacheLine::Iter) => push_list(cache.iter(), out),
+        None => writeln!(out, "bad"),
     }
 }

@@ -1,14 +1,13 @@
-ghost use Rattle.std.specs.Prelude.{◌≡◌, ℕ, List, ◌∷◌, codes, take, drop, IfOk, OnErr, OnSome};
+ghost use Rattle.std.specs.Prelude.{◌≡◌, ℕ, List, [], ◌∷◌, codes, take, drop, IfOk, OnErr, OnSome};
 ghost use Rattle.std.specs.Map.{lookup};
 ghost use Rattle.std.specs.Option.{option_map};
 ghost use Rattle.std.specs.Str.{bytes_eq};
 ghost use Rattle.hashlink_text.specs.Cuts.{parts_left};
 ghost use Rattle.hashlink_text.specs.Lines.{words_of};
-ghost use Rattle.hashlink_text.specs.Says.{said, lone_words, words_of_key, words_of_pair, words_before};
-ghost use Rattle.hashlink_text.specs.Says.{lone_steps, steps_of_value, steps_before, entry_said};
-ghost use Rattle.hashlink_text.specs.Says.{lone_cursor_steps, cursor_steps_of_pair, cursor_steps_before};
-ghost use Rattle.hashlink_text.specs.Says.{numbers_after, cursor_said};
-ghost use Rattle.hashlink_text.specs.Tables.{said_in};
+ghost use Rattle.hashlink_text.specs.Reading.{by_name, commands, cursor_read, cursor_step_spelled};
+ghost use Rattle.hashlink_text.specs.Reading.{cursor_steps, entry_read, entry_steps, line_read};
+ghost use Rattle.hashlink_text.specs.Reading.{numbers_after, read_in};
+ghost use Rattle.hashlink_text.specs.Spelling.{said, spelled, step_spelled};
 
 use crate::numbers::{Numbers, number, read_numbers};
 use crate::tables::said_by;
@@ -26,34 +25,43 @@ pub enum Line {
 }
 
 impl Line {
-    ghost use Rattle.hashlink_text.specs.Says.{says};
+    ghost use Rattle.hashlink_text.specs.Spelling.{Says};
 
-    /// Returns what the line says, or `None` if it is bad. It reads the line once.
+    /// Returns the line whose spelling the text is, or `None` if the text is bad. It reads the text once.
     ///
-    /// It allocates only for the steps of a cursor, in a line whose first word is `cursor`. If that allocation
-    /// fails, it returns `AllocError`.
+    /// It allocates only for the steps of a cursor, in a line whose first word is `cursor`. If that
+    /// allocation fails, it returns `AllocError`.
     pub fn parse(alloc: Global, text: &[u8]) -> Result<Option<Line>, AllocError>
-        ensures said { IfOk result (λ line. option_map said line ≡ says text.now) }
+        ensures said { IfOk result (λ line. Says spelled text.now (option_map said line)) }
         ensures refused { OnErr result ((words : List (List ℕ))
             × (words_of text.now ≡ codes "cursor" ∷ words)) }
     {
-        let mut words = Words::new(text);
-        let Some(name) = words.next() else {
-            return Ok(None);
-        };
-        if is(name, b"entry") {
-            Ok(said_of_entry(words))
-        } else if is(name, b"cursor") {
-            said_of_cursor(alloc, words)
-        } else {
-            Ok(said_of_name(name, words))
-        }
+        line_of(alloc, text)
+    }
+}
+
+// Returns the line of the text's words.
+fn line_of(alloc: Global, text: &[u8]) -> Result<Option<Line>, AllocError>
+    ensures said { IfOk result (λ line. option_map said line ≡ line_read (words_of text.now)) }
+    ensures refused { OnErr result ((words : List (List ℕ))
+        × (words_of text.now ≡ codes "cursor" ∷ words)) }
+{
+    let mut words = Words::new(text);
+    let Some(name) = words.next() else {
+        return Ok(None);
+    };
+    if is(name, b"entry") {
+        Ok(said_of_entry(words))
+    } else if is(name, b"cursor") {
+        said_of_cursor(alloc, words)
+    } else {
+        Ok(said_of_name(name, words))
     }
 }
 
 // Returns what a word says with the words after it.
 fn said_of_name(name: &[u8], words: Words<'_>) -> Option<Line>
-    ensures { option_map said result ≡ said_in words_before name.now (parts_left 32 words.entry.rest) }
+    ensures { option_map said result ≡ read_in spelled commands name.now (parts_left 32 words.entry.rest) }
 {
     match read_numbers(words)? {
         Numbers::Nothing => said_alone(name),
@@ -65,7 +73,7 @@ fn said_of_name(name: &[u8], words: Words<'_>) -> Option<Line>
 
 // Returns what a word says that stands alone.
 fn said_alone(name: &[u8]) -> Option<Line>
-    ensures { option_map said result ≡ lookup (bytes_eq name.now) lone_words }
+    ensures { option_map said result ≡ lookup (bytes_eq name.now) (by_name spelled commands []) }
 {
     if is(name, b"pop_front") {
         Some(Line::Do(Command::PopFront))
@@ -92,7 +100,7 @@ fn said_alone(name: &[u8]) -> Option<Line>
 
 // Returns what a word says before one number.
 fn said_of_key(name: &[u8], key: u64) -> Option<Line>
-    ensures { option_map said result ≡ lookup (bytes_eq name.now) (words_of_key key) }
+    ensures { option_map said result ≡ lookup (bytes_eq name.now) (by_name spelled commands (key ∷ [])) }
 {
     if is(name, b"get") {
         Some(Line::Do(Command::Get(key)))
@@ -109,7 +117,8 @@ fn said_of_key(name: &[u8], key: u64) -> Option<Line>
 
 // Returns what a word says before two numbers.
 fn said_of_pair(name: &[u8], key: u64, value: u64) -> Option<Line>
-    ensures { option_map said result ≡ lookup (bytes_eq name.now) (words_of_pair key value) }
+    ensures { option_map said result
+        ≡ lookup (bytes_eq name.now) (by_name spelled commands (key ∷ value ∷ [])) }
 {
     if is(name, b"insert") {
         Some(Line::Do(Command::Insert(key, value)))
@@ -124,7 +133,7 @@ fn said_of_pair(name: &[u8], key: u64, value: u64) -> Option<Line>
 
 // Returns what the words after `entry` say: a key, what is done at its place, and the value for it.
 fn said_of_entry(mut words: Words<'_>) -> Option<Line>
-    ensures { option_map said result ≡ entry_said (parts_left 32 words.entry.rest) }
+    ensures { option_map said result ≡ entry_read (parts_left 32 words.entry.rest) }
 {
     let key = number(words.next()?)?;
     let name = words.next()?;
@@ -134,7 +143,7 @@ fn said_of_entry(mut words: Words<'_>) -> Option<Line>
 
 // Returns the step at a key's place that a word says, with the words after it.
 fn said_of_step(name: &[u8], words: Words<'_>) -> Option<EntryStep<u64>>
-    ensures { result ≡ said_in steps_before name.now (parts_left 32 words.entry.rest) }
+    ensures { result ≡ read_in step_spelled entry_steps name.now (parts_left 32 words.entry.rest) }
 {
     match read_numbers(words)? {
         Numbers::Nothing => step_alone(name),
@@ -145,7 +154,7 @@ fn said_of_step(name: &[u8], words: Words<'_>) -> Option<EntryStep<u64>>
 
 // Returns the step of a word that stands alone.
 fn step_alone(name: &[u8]) -> Option<EntryStep<u64>>
-    ensures { result ≡ lookup (bytes_eq name.now) lone_steps }
+    ensures { result ≡ lookup (bytes_eq name.now) (by_name step_spelled entry_steps []) }
 {
     said_by(
         name,
@@ -160,7 +169,7 @@ fn step_alone(name: &[u8]) -> Option<EntryStep<u64>>
 
 // Returns the step of a word before a value.
 fn step_of_value(name: &[u8], value: u64) -> Option<EntryStep<u64>>
-    ensures { result ≡ lookup (bytes_eq name.now) (steps_of_value value) }
+    ensures { result ≡ lookup (bytes_eq name.now) (by_name step_spelled entry_steps (value ∷ [])) }
 {
     said_by(
         name,
@@ -175,7 +184,7 @@ fn step_of_value(name: &[u8], value: u64) -> Option<EntryStep<u64>>
 
 // Returns what the words after `cursor` say: one step or more.
 fn said_of_cursor(alloc: Global, mut words: Words<'_>) -> Result<Option<Line>, AllocError>
-    ensures { IfOk result (λ line. option_map said line ≡ cursor_said (parts_left 32 words.entry.rest)) }
+    ensures { IfOk result (λ line. option_map said line ≡ cursor_read (parts_left 32 words.entry.rest)) }
 {
     let mut steps = Vec::new(alloc);
     while let Some(name) = words.next() {
@@ -192,7 +201,7 @@ fn said_of_cursor(alloc: Global, mut words: Words<'_>) -> Result<Option<Line>, A
 
 // Returns the step of this name, which reads the numbers that stand after it.
 fn cursor_step(name: &[u8], words: &mut Words<'_>) -> Option<CursorStep<u64, u64>>
-    ensures said { result ≡ said_in cursor_steps_before name.now
+    ensures said { result ≡ read_in cursor_step_spelled cursor_steps name.now
         (take (numbers_after name.now) (parts_left 32 words.old.rest)) }
     ensures rest { OnSome result
         (parts_left 32 words.new.rest ≡ drop (numbers_after name.now) (parts_left 32 words.old.rest)) }
@@ -208,7 +217,7 @@ fn cursor_step(name: &[u8], words: &mut Words<'_>) -> Option<CursorStep<u64, u64
 
 // Returns the step of a name that stands alone.
 fn cursor_step_alone(name: &[u8]) -> Option<CursorStep<u64, u64>>
-    ensures { result ≡ lookup (bytes_eq name.now) lone_cursor_steps }
+    ensures { result ≡ lookup (bytes_eq name.now) (by_name cursor_step_spelled cursor_steps []) }
 {
     said_by(
         name,
@@ -224,7 +233,8 @@ fn cursor_step_alone(name: &[u8]) -> Option<CursorStep<u64, u64>>
 
 // Returns the step of a name before a key and a value.
 fn cursor_step_of_pair(name: &[u8], key: u64, value: u64) -> Option<CursorStep<u64, u64>>
-    ensures { result ≡ lookup (bytes_eq name.now) (cursor_steps_of_pair key value) }
+    ensures { result ≡ lookup (bytes_eq name.now)
+        (by_name cursor_step_spelled cursor_steps (key ∷ value ∷ [])) }
 {
     said_by(
         name,

@@ -1,7 +1,9 @@
-ghost use Rattle.std.specs.Prelude.{◌≡◌};
+ghost use Rattle.std.specs.Prelude.{◌≡◌, [], ◌∷◌};
 ghost use Rattle.std.specs.Map.{lookup};
 ghost use Rattle.std.specs.Str.{bytes_eq};
-ghost use Rattle.hashlink_text.specs.Modes.{mode_said, modes_of_number, modes_of_two};
+ghost use Rattle.hashlink_text.specs.Lines.{words_of};
+ghost use Rattle.hashlink_text.specs.Reading.{by_name, modes, read_words};
+ghost use Rattle.hashlink_text.specs.Spelling.{Says, mode_spelled};
 
 use crate::numbers::{Numbers, read_numbers};
 use crate::tables::said_by;
@@ -20,23 +22,30 @@ pub enum Mode {
     Weighted(u64),
 }
 
-/// Returns the mode that the line names, or `None` if it is bad.
+/// Returns the mode whose spelling the line is, or `None` if the line is bad.
 pub fn mode_of(line: &[u8]) -> Option<Mode>
-    ensures { result ≡ mode_said line.now }
+    ensures { Says mode_spelled line.now result }
+{
+    mode_of_words(line)
+}
+
+// Returns the mode of the line's words.
+fn mode_of_words(line: &[u8]) -> Option<Mode>
+    ensures { result ≡ read_words mode_spelled modes (words_of line.now) }
 {
     let mut words = Words::new(line);
     let name = words.next()?;
     match read_numbers(words)? {
         Numbers::Nothing => said_by(name, &[(b"map", Mode::Map)]),
         Numbers::One(number) => mode_of_number(name, number),
-        Numbers::Two(small, large) if small <= large => mode_of_two(name, small, large),
-        _ => None,
+        Numbers::Two(small, large) => mode_of_two(name, small, large),
+        Numbers::Three(..) => None,
     }
 }
 
 // Returns the mode of a word before a capacity, or before a budget.
 fn mode_of_number(name: &[u8], number: u64) -> Option<Mode>
-    ensures { result ≡ lookup (bytes_eq name.now) (modes_of_number number) }
+    ensures { result ≡ lookup (bytes_eq name.now) (by_name mode_spelled modes (number ∷ [])) }
 {
     if is(name, b"cache") {
         Some(Mode::Cache(usize::try_from(number).ok()?))
@@ -47,10 +56,13 @@ fn mode_of_number(name: &[u8], number: u64) -> Option<Mode>
     }
 }
 
-// Returns the mode of a word before two capacities.
+// Returns the mode of a word before two capacities, of which the first may not be the larger one.
 fn mode_of_two(name: &[u8], small: u64, large: u64) -> Option<Mode>
-    ensures { result ≡ lookup (bytes_eq name.now) (modes_of_two small large) }
+    ensures { result ≡ lookup (bytes_eq name.now) (by_name mode_spelled modes (small ∷ large ∷ [])) }
 {
+    if small > large {
+        return None;
+    }
     let small = usize::try_from(small).ok()?;
     let large = usize::try_from(large).ok()?;
     said_by(name, &[(b"pair", Mode::Pair(small, large))])

@@ -1,16 +1,26 @@
-ghost use Rattle.std.specs.Prelude.{◌≡◌};
+ghost use Rattle.std.specs.Prelude.{◌≡◌, [], ◌∷◌};
 ghost use Rattle.std.specs.Map.{lookup};
 ghost use Rattle.std.specs.Str.{bytes_eq};
-ghost use Rattle.hashlink_text.specs.CachesSay.{pair_says, pair_words_of_key, pair_words_of_pair};
+ghost use Rattle.hashlink_text.specs.Lines.{words_of};
+ghost use Rattle.hashlink_text.specs.Reading.{by_name, pair_commands, read_words};
+ghost use Rattle.hashlink_text.specs.Spelling.{Says, pair_spelled};
 
 use crate::numbers::{Numbers, read_numbers};
 use crate::tables::said_by;
 use crate::words::Words;
 use hashlink_run::PairCommand;
 
-/// Returns what a line to two caches says, or `None` if it is bad. It reads the line once.
+/// Returns the command to two caches whose spelling the text is, or `None` if the text is bad. It reads the
+/// text once.
 pub fn pair_command(text: &[u8]) -> Option<PairCommand<u64, u64>>
-    ensures { result ≡ pair_says text.now }
+    ensures { Says pair_spelled text.now result }
+{
+    command_of(text)
+}
+
+// Returns the command of the text's words.
+fn command_of(text: &[u8]) -> Option<PairCommand<u64, u64>>
+    ensures { result ≡ read_words pair_spelled pair_commands (words_of text.now) }
 {
     let mut words = Words::new(text);
     let name = words.next()?;
@@ -24,7 +34,7 @@ pub fn pair_command(text: &[u8]) -> Option<PairCommand<u64, u64>>
 
 // Returns what a word says before a key.
 fn said_of_key(name: &[u8], key: u64) -> Option<PairCommand<u64, u64>>
-    ensures { result ≡ lookup (bytes_eq name.now) (pair_words_of_key key) }
+    ensures { result ≡ lookup (bytes_eq name.now) (by_name pair_spelled pair_commands (key ∷ [])) }
 {
     said_by(
         name,
@@ -37,7 +47,7 @@ fn said_of_key(name: &[u8], key: u64) -> Option<PairCommand<u64, u64>>
 
 // Returns what a word says before a key and a value.
 fn said_of_pair(name: &[u8], key: u64, value: u64) -> Option<PairCommand<u64, u64>>
-    ensures { result ≡ lookup (bytes_eq name.now) (pair_words_of_pair key value) }
+    ensures { result ≡ lookup (bytes_eq name.now) (by_name pair_spelled pair_commands (key ∷ value ∷ [])) }
 {
     said_by(
         name,

@@ -1,7 +1,6 @@
 //! Lines to two caches, and what they hold at the end.
 ghost use Rattle.std.specs.Prelude.{◌≡◌, ◌++◌, ◌∷◌, Some, OnOk, decimal, string_bytes};
 ghost use Rattle.hashlink_core.specs.declared.hash_builder.DefaultHashBuilder.{DefaultHashBuilder};
-ghost use Rattle.hashlink_text.specs.CachesSay.{pair_says};
 ghost use Rattle.hashlink_text.specs.Lines.{lines_of};
 ghost use Rattle.hashlink_text.specs.declared.modes.Mode.TheVariants.{Pair};
 ghost use Rattle.hashlink_lru.specs.Cached.{entries_in, state_in};
@@ -9,11 +8,10 @@ ghost use Rattle.hashlink_text.specs.CacheTranscript.{PairShows, lists_shown};
 ghost use Rattle.hashlink_text.specs.Text.{ModeRun};
 ghost use Rattle.hashlink_text.specs.Transcript.{Pushes, PushesLine, ended, shown_by};
 
-use crate::shown::Form;
 use crate::text::{push_list, push_reply};
 use crate::{Lines, pair_command};
 use hashlink_lru::LruCache;
-use hashlink_run::{Reply, answer_call};
+use hashlink_run::{PairCommand, Reply, answer_call};
 use std::alloc::{AllocError, Global};
 
 // Pushes the answers to the lines, which speak to two caches of these capacities that are empty at first, and
@@ -32,27 +30,27 @@ pub(crate) fn run_pair_lines(
     let mut small = LruCache::new(alloc, small_capacity);
     let mut large = LruCache::new(alloc, large_capacity);
     for line in lines {
-        answer_pair_line(&mut small, &mut large, line, out)?;
+        answer(&mut small, &mut large, pair_command(line), out)?;
     }
     push_lists(&small, &large, out)?;
     Ok(())
 }
 
-// Pushes the answer to one line.
-fn answer_pair_line(
+// Pushes the answer to what a line says.
+fn answer(
     small: &mut LruCache<u64, u64>,
     large: &mut LruCache<u64, u64>,
-    line: &[u8],
+    line: Option<PairCommand<u64, u64>>,
     out: &mut String,
 ) -> Result<(), AllocError>
     ensures shown { OnOk result (PushesLine
         (λ text. PairShows (state_in small.old).cap (state_in large.old).cap
         (entries_in small.old, entries_in large.old)
-        (pair_says line.now) text (entries_in small.new, entries_in large.new)) out.old out.new) }
+        line text (entries_in small.new, entries_in large.new)) out.old out.new) }
     ensures small_capacity { OnOk result ((state_in small.new).cap ≡ (state_in small.old).cap) }
     ensures large_capacity { OnOk result ((state_in large.new).cap ≡ (state_in large.old).cap) }
 {
-    let Some(command) = pair_command(line) else {
+    let Some(command) = line else {
         return writeln!(out, "bad");
     };
     let small_answer = answer_call(small, command)?;
@@ -65,9 +63,9 @@ fn push_answers(small: Option<u64>, large: Option<u64>, out: &mut String) -> Res
     ensures { OnOk result (string_bytes out.new
         ≡ string_bytes out.old ++ ended (shown_by decimal small ++ (32 ∷ shown_by decimal large))) }
 {
-    push_reply(Form::OfValue, Reply::Value(small), out)?;
+    push_reply(Reply::Value(small), out)?;
     write!(out, " ")?;
-    push_reply(Form::OfValue, Reply::Value(large), out)?;
+    push_reply(Reply::Value(large), out)?;
     writeln!(out)
 }
 

@@ -1,12 +1,12 @@
 ghost use Rattle.std.specs.Prelude.{◌≡◌, [], ◌++◌, IfOk, IsOk, OnOk, string_bytes};
+ghost use Rattle.hashlink_core.specs.declared.hash_builder.DefaultHashBuilder.{DefaultHashBuilder};
 ghost use Rattle.hashlink_text.specs.Lines.{lines_of};
-ghost use Rattle.hashlink_text.specs.Text.{IsTranscript};
-ghost use Rattle.hashlink_text.specs.Transcript.{ended, list_shown, read_shown, reply_shown, replies_shown};
+ghost use Rattle.hashlink_text.specs.Text.{IsTranscript, ModeRun};
+ghost use Rattle.hashlink_text.specs.Transcript.{Pushes, ended, list_shown, reply_shown, replies_shown};
 
 use crate::cache_text::run_cache_lines;
 use crate::map_text::run_map_lines;
 use crate::pair_text::run_pair_lines;
-use crate::shown::Form;
 use crate::weighted_text::run_weighted_lines;
 use crate::{Lines, Mode, mode_of};
 use hashlink_map::Iter;
@@ -23,70 +23,76 @@ pub fn run_text(alloc: Global, input: &[u8]) -> Result<Vec<u8>, AllocError>
     ensures answer { IfOk result (λ text. IsTranscript input.now text.items) }
     ensures none { lines_of input.now ≡ [] → IsOk result }
 {
-    let mut out = String::new(alloc);
     let mut lines = Lines::new(input);
-    if let Some(mode) = lines.next() {
-        match mode_of(mode) {
-            Some(Mode::Map) => run_map_lines(alloc, lines, &mut out)?,
-            Some(Mode::Cache(capacity)) => run_cache_lines(alloc, capacity, lines, &mut out)?,
-            Some(Mode::Pair(small, large)) => run_pair_lines(alloc, small, large, lines, &mut out)?,
-            Some(Mode::Weighted(budget)) => run_weighted_lines(alloc, budget, lines, &mut out)?,
-            None => writeln!(out, "bad")?,
-        }
-    }
+    let Some(mode) = lines.next() else {
+        return Ok(Vec::new(alloc));
+    };
+    let mut out = String::new(alloc);
+    run_lines(alloc, mode_of(mode), lines, &mut out)?;
     Ok(out.into_bytes())
+}
+
+// Pushes the answers to the lines, which speak to what the mode names.
+fn run_lines(
+    alloc: Global,
+    mode: Option<Mode>,
+    lines: Lines<'_>,
+    out: &mut String,
+) -> Result<(), AllocError>
+    ensures { OnOk result (Pushes (ModeRun DefaultHashBuilder mode (lines_of lines.entry.rest.now))
+        out.old out.new) }
+{
+    match mode {
+        Some(Mode::Map) => run_map_lines(alloc, lines, out),
+        Some(Mode::Cache(capacity)) => run_cache_lines(alloc, capacity, lines, out),
+        Some(Mode::Pair(small, large)) => run_pair_lines(alloc, small, large, lines, out),
+        Some(Mode::Weighted(budget)) => run_weighted_lines(alloc, budget, lines, out),
+        None => writeln!(out, "bad"),
+    }
 }
 
 // Pushes the line that shows the replies to a command.
 pub(crate) fn push_replies(
-    form: Form,
     replies: &[Reply<u64, u64, (u64, u64)>],
     out: &mut String,
 ) -> Result<(), AllocError>
-    ensures { OnOk result (string_bytes out.new ≡ string_bytes out.old ++ ended
-        (replies_shown form replies.now)) }
+    ensures { OnOk result (string_bytes out.new ≡ string_bytes out.old ++ ended (replies_shown replies.now)) }
 {
     let mut rest = replies.iter();
     let Some(first) = rest.next() else {
         return writeln!(out);
     };
-    push_reply(form, *first, out)?;
+    push_reply(*first, out)?;
     for reply in rest {
         write!(out, " ")?;
-        push_reply(form, *reply, out)?;
+        push_reply(*reply, out)?;
     }
     writeln!(out)
 }
 
 // Pushes one reply.
 pub(crate) fn push_reply(
-    form: Form,
     reply: Reply<u64, u64, (u64, u64)>,
     out: &mut String,
 ) -> Result<(), AllocError>
-    ensures { OnOk result (string_bytes out.new ≡ string_bytes out.old ++ reply_shown form reply) }
+    ensures { OnOk result (string_bytes out.new ≡ string_bytes out.old ++ reply_shown reply) }
 {
     match reply {
         Reply::Done => write!(out, "ok"),
         Reply::Denied | Reply::Refused(..) => write!(out, "memory"),
+        Reply::TooHeavy(..) => write!(out, "heavy"),
         Reply::Value(Some(value)) => write!(out, "{value}"),
-        Reply::Pair(Some((key, value))) => write!(out, "{key}:{value}"),
         Reply::Key(Some(key)) => write!(out, "{key}"),
-        Reply::Seen(pair) => push_read(form, pair, out),
-        Reply::Value(None) | Reply::Pair(None) | Reply::Key(None) => write!(out, "-"),
+        Reply::Seen(Some((_, value))) => write!(out, "{value}"),
+        Reply::Inserted((_, value)) => write!(out, "{value}"),
+        Reply::Pair(Some((key, value))) => write!(out, "{key}:{value}"),
+        Reply::AtPlace(Some((key, value))) => write!(out, "{key}:{value}"),
+        Reply::Value(None)
+        | Reply::Key(None)
+        | Reply::Seen(None)
+        | Reply::Pair(None)
+        | Reply::AtPlace(None) => write!(out, "-"),
         Reply::Length(number) => write!(out, "{number}"),
-    }
-}
-
-// Pushes what a command read.
-fn push_read(form: Form, pair: Option<(u64, u64)>, out: &mut String) -> Result<(), AllocError>
-    ensures { OnOk result (string_bytes out.new ≡ string_bytes out.old ++ read_shown form pair) }
-{
-    match (form, pair) {
-        (Form::Whole, Some((key, value))) => write!(out, "{key}:{value}"),
-        (_, Some((_, value))) => write!(out, "{value}"),
-        (Form::OrGiven(value), None) => write!(out, "{value}"),
-        (_, None) => write!(out, "-"),
     }
 }
 

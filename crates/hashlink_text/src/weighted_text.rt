@@ -1,15 +1,17 @@
 //! Lines to a cache with a budget.
-ghost use Rattle.std.specs.Prelude.{◌≡◌, ◌++◌, Some, OnOk, decimal, string_bytes};
+ghost use Rattle.std.specs.Prelude.{◌≡◌, ◌++◌, Some, OnOk, string_bytes};
 ghost use Rattle.hashlink_core.specs.declared.hash_builder.DefaultHashBuilder.{DefaultHashBuilder};
 ghost use Rattle.hashlink_text.specs.Lines.{lines_of};
 ghost use Rattle.hashlink_text.specs.declared.modes.Mode.TheVariants.{Weighted};
 ghost use Rattle.hashlink_text.specs.Text.{ModeRun};
-ghost use Rattle.hashlink_text.specs.Transcript.{Pushes, ended, list_shown, shown_by};
-ghost use Rattle.hashlink_text.specs.WeightedTranscript.{WeightedLineShows, insert_shown, pairs_of};
+ghost use Rattle.hashlink_text.specs.Transcript.{Pushes, PushesLine, ended, list_shown};
+ghost use Rattle.hashlink_text.specs.WeightedTranscript.{WeightedLineShows, WeightedShows, pairs_of};
 
 use crate::reading::{AnswersLines, answer_lines};
+use crate::text::push_replies;
 use crate::{Lines, WeightedLine};
-use hashlink_weighted::{WeightError, WeightedCache, WeightedIter};
+use hashlink_run::answer_weighted;
+use hashlink_weighted::{WeightedCache, WeightedIter};
 use std::alloc::{AllocError, Global};
 
 // Pushes the answers to the lines, which speak to a cache of this budget that is empty at first.
@@ -30,42 +32,27 @@ impl AnswersLines for WeightedCache<u64, u64> {
     ghost shows = { WeightedLineShows };
 
     fn answer_line(&mut self, line: &[u8], out: &mut String) -> Result<(), AllocError> {
-        match WeightedLine::parse(line) {
-            Some(WeightedLine::Insert(key, value, weight)) => {
-                push_inserted(self.insert(key, value, weight), out)
-            }
-            Some(WeightedLine::Get(key)) => push_value(self.get(&key).copied(), out),
-            Some(WeightedLine::Peek(key)) => push_value(self.peek(&key).copied(), out),
-            Some(WeightedLine::Remove(key)) => push_value(self.remove(&key), out),
-            Some(WeightedLine::Total) => writeln!(out, "{}", self.total()),
-            Some(WeightedLine::Len) => writeln!(out, "{}", self.len()),
-            Some(WeightedLine::Iter) => push_pairs(self.iter(), out),
-            None => writeln!(out, "bad"),
-        }
+        answer(self, WeightedLine::parse(line), out)
     }
 }
 
-// Pushes the line that shows what an insert returned.
-fn push_inserted(
-    answer: Result<Option<u64>, WeightError<u64, u64>>,
+// Pushes the answer to what a line says.
+fn answer(
+    cache: &mut WeightedCache<u64, u64>,
+    line: Option<WeightedLine>,
     out: &mut String,
 ) -> Result<(), AllocError>
-    ensures { OnOk result (string_bytes out.new ≡ string_bytes out.old ++ ended (insert_shown answer)) }
+    ensures { OnOk result (PushesLine (λ text. WeightedShows cache.old line text cache.new) out.old out.new) }
 {
-    match answer {
-        Ok(old) => push_value(old, out),
-        Err(WeightError::TooHeavy(_)) => writeln!(out, "heavy"),
-        Err(WeightError::Memory(_)) => writeln!(out, "memory"),
-    }
-}
-
-// Pushes the line that shows a value, or that there is none.
-fn push_value(value: Option<u64>, out: &mut String) -> Result<(), AllocError>
-    ensures { OnOk result (string_bytes out.new ≡ string_bytes out.old ++ ended (shown_by decimal value)) }
-{
-    match value {
-        Some(value) => writeln!(out, "{value}"),
-        None => writeln!(out, "-"),
+    match line {
+        Some(WeightedLine::Do(command)) => {
+            let reply = answer_weighted(cache, command, &|key: &u64, value: &u64| (*key, *value));
+            push_replies(&[reply], out)
+        }
+        Some(WeightedLine::Total) => writeln!(out, "{}", cache.total()),
+        Some(WeightedLine::Len) => writeln!(out, "{}", cache.len()),
+        Some(WeightedLine::Iter) => push_pairs(cache.iter(), out),
+        None => writeln!(out, "bad"),
     }
 }
 

@@ -1,10 +1,12 @@
 use Rattle.std.proofs.Common.{rules, [], ◌∷◌, Some, None, refl, sym, ap, is_ok, Ok, Err, ⊎_elim}
+use Rattle.std.specs.Map.Iter.{deref_pair}
 use Rattle.hashlink_core.specs.Keyed.{state_of}
-use Rattle.hashlink_run.specs.declared.replies.Reply.TheVariants.{Value, Pair, Seen}
+use Rattle.hashlink_map.specs.RawEntry.{raw_place}
+use Rattle.hashlink_run.specs.declared.replies.Reply.TheVariants.{Value, Pair, Seen, Inserted}
 use Rattle.hashlink_run.specs.CallReplies.{reply_or_refused}
 use Rattle.hashlink_run.specs.Reads.{ClosureSays}
 use Rattle.hashlink_run.proofs.AtEntry.{at_occupied, at_vacant, added, handed_on, taken, said_at_end}
-use Rattle.hashlink_run.proofs.AtEntry.{read_there, read_at_end, read_at_front}
+use Rattle.hashlink_run.proofs.AtEntry.{read_there, read_at_end, read_at_front, read_new}
 use Rattle.hashlink_run.proofs.entries.done_at_entry.Goals as goal
 
 pub said_of_entry-said-requires : goal.said_of_entry-said-requires
@@ -17,7 +19,7 @@ said_of_entry-said-requires-in-OrInsert g c = λ pair read.
     let there =
     read_at_end g.K.PartialEq.eq c.in-Occupied.ensures.entry _ _ refl refl pair _ _ read
     c.to_back.ensures.moves (ap (λ e. e.place) c.to_back.ensures.stands) in
-    c.requires pair (⊎_elim (λ given. rw given.1 there) (λ given. rw given there) c.in-OrInsert.is)
+    c.requires pair (⊎_elim (λ given. rw (given.1, there) refl) (λ given. rw given there) c.in-OrInsert.is)
 
 pub said_of_entry-said-requires-in-ToFront : goal.said_of_entry-said-requires-in-ToFront
 said_of_entry-said-requires-in-ToFront g c = λ pair read.
@@ -81,11 +83,22 @@ returns-in-Occupied g c =
     (c.remove_entry.result, c.remove_entry.ensures, refl) in
     search rules
 
-pub returns-in_err-insert-in-OrInsert-step : goal.returns-in_err-insert-in-OrInsert-step
-returns-in_err-insert-in-OrInsert-step g c =
-    let lent = c.insert.follows in
-    let pair = c.in_err-insert-in-OrInsert-step.field-0.0 in
-    let refuses = rw c.in_err-insert-in-OrInsert-step.was at lent.holds-at-none in
+pub says-requires : goal.says-requires
+says-requires g c =
+    let inserted = c.in_ok-inserted-in-OrInsert-step.inserted in
+    let done = c.in_ok-inserted-in-OrInsert-step.ensures in
+    let pair = deref_pair c.get_key_value.result in
+    let new =
+    read_new g.K.PartialEq.eq c.in-Vacant.ensures.entry (state_of inserted.map.now) c.in-OrInsert-step.value
+    (raw_place inserted) pair done.adds done.last c.get_key_value.ensures in
+    c.requires pair (rw c.in-OrInsert-step.is new.1) c.get_key_value.result.0 c.get_key_value.result.1 refl
+    refl
+
+pub returns-in_err-inserted-in-OrInsert-step : goal.returns-in_err-inserted-in-OrInsert-step
+returns-in_err-inserted-in-OrInsert-step g c =
+    let lent = c.insert_entry-in-OrInsert-step.follows in
+    let pair = c.in_err-inserted-in-OrInsert-step.field-0.0 in
+    let refuses = rw c.in_err-inserted-in-OrInsert-step.was at lent.holds-at-none in
     let back = c.from_residual in
     let handed = handed_on back.result _ back.ensures.1 in
     let step =
@@ -97,19 +110,29 @@ returns-in_err-insert-in-OrInsert-step g c =
 
 pub returns-in-OrInsert-step : goal.returns-in-OrInsert-step
 returns-in-OrInsert-step g c =
-    let lent = c.insert.follows in
-    let value = c.in_ok-insert-in-OrInsert-step.field-0.now in
-    let adds = lent.holds value (ap is_ok c.in_ok-insert-in-OrInsert-step.was) in
+    let Says = ClosureSays g.F.Fn c.args.says.now in
+    let inserted = c.in_ok-inserted-in-OrInsert-step.inserted in
+    let done = c.in_ok-inserted-in-OrInsert-step.ensures in
+    let pair = c.get_key_value.result in
+    let new =
+    read_new g.K.PartialEq.eq c.in-Vacant.ensures.entry (state_of inserted.map.now) c.in-OrInsert-step.value
+    (raw_place inserted) (deref_pair pair) done.adds done.last c.get_key_value.ensures in
+    let said : Says c.in-Vacant.entry.key c.in-OrInsert-step.value c.says.result =
+    record {
+      key = pair.0;
+      value = pair.1;
+      shows = (ap (λ p. p.0) new.0, ap (λ p. p.1) new.0);
+      says = record { met = c.says.ensures };
+    } in
     let step =
-    at_vacant g.K.PartialEq.eq (ClosureSays g.F.Fn c.args.says.now) c.in-Vacant.ensures.entry
-    c.in-OrInsert-step.is
-    (Seen None ∷ []) (state_of (lent.lender value)) refl
-    (Ok tt, added c.in_ok-insert-in-OrInsert-step.ensures.value adds, refl) in
+    at_vacant g.K.PartialEq.eq Says c.in-Vacant.ensures.entry c.in-OrInsert-step.is
+    (Inserted c.says.result ∷ []) (state_of inserted.map.now) refl
+    (Ok tt, done.adds, (c.says.result, said, refl)) in
     search rules
 
 pub returns-in_err-insert-in-Insert-step : goal.returns-in_err-insert-in-Insert-step
 returns-in_err-insert-in-Insert-step g c =
-    let lent = c.insert-in-Insert-step.follows in
+    let lent = c.insert.follows in
     let pair = c.in_err-insert-in-Insert-step.field-0.0 in
     let refuses = rw c.in_err-insert-in-Insert-step.was at lent.holds-at-none in
     let back = c.from_residual-in_err-insert-in-Insert-step in
@@ -123,7 +146,7 @@ returns-in_err-insert-in-Insert-step g c =
 
 pub returns-in-Insert-step : goal.returns-in-Insert-step
 returns-in-Insert-step g c =
-    let lent = c.insert-in-Insert-step.follows in
+    let lent = c.insert.follows in
     let value = c.in_ok-insert-in-Insert-step.field-0.now in
     let adds = lent.holds value (ap is_ok c.in_ok-insert-in-Insert-step.was) in
     let step =

@@ -1,7 +1,7 @@
 use Rattle.std.proofs.Common.{◌≡◌, ◌++◌, length}
 use Rattle.std.specs.Option.{option_map}
 use Rattle.hashlink_text.specs.Cuts.{parts_left}
-use Rattle.hashlink_text.specs.Says.{steps_after}
+use Rattle.hashlink_text.specs.Reading.{steps_after}
 use Rattle.hashlink_text.proofs.line.said_of_cursor.Given as goal
 
 abbrev pub invariant-loop-name : goal.invariant-loop-name

@@ -19,11 +19,11 @@ loop-line-init c =
 pub loop-line-preserved : goal.loop-line-preserved
 loop-line-preserved c =
     let come = c.loop-line.invariant in
-    let answered = c.in_ok-answer_pair_line.ensures in
+    let answered = c.in_ok-answer.ensures in
     let shown = rw (come.3, come.4) at answered.shown in (
       come.0 ++ ended shown.0,
       HasCome-line (PairLineShows c.args.small_capacity c.args.large_capacity) c.in-Some.line.now shown.0
-          (rw c.in-Some.ensures.steps at come.1) shown.1,
+          (rw c.in-Some.ensures.steps at come.1) (c.pair_command.result, c.pair_command.ensures, shown.1),
       shown.2 ∙ ap (λ w. w ++ ended shown.0) come.2
           ∙ append_assoc (string_bytes c.args.out.now) come.0 (ended shown.0),
       answered.small_capacity ∙ come.3,

@@ -1,27 +1,7 @@
-use Rattle.std.proofs.Common.{◌≡◌, codes, nat_eq, refl, sym, ap, ◌∙◌, rules, [], ◌∷◌}
 use Rattle.std.proofs.lemmas.Result.{on_ok_weaker}
-use Rattle.hashlink_lru.specs.Cached.{state_in}
-use Rattle.hashlink_text.specs.Transcript.{Itself, replies_shown}
-use Rattle.hashlink_text.specs.declared.shown.Form.TheVariants.{OfValue}
-use Rattle.hashlink_run.proofs.CacheWider.{cache_step-wider}
 use Rattle.hashlink_text.proofs.cache_text.LruCacheU64U64AnswersLines.answer_line.Goals as goal
 
-pub returns-in-None : goal.returns-in-None
-returns-in-None c =
-    let line = rw c.in-None.is at c.parse.ensures in
-    rw (sym line)
-    (on_ok_weaker c.writeln-in-None.result (λ e. (codes "bad", (refl, refl), e))
-    c.writeln-in-None.ensures.bytes)
-
-pub returns-in-Some-Do : goal.returns-in-Some-Do
-returns-in-Some-Do c =
-    let line = rw (c.in-Some-Do.is, c.in-Some-Do.field-0-is) at c.parse.ensures in
-    let replies = c.answer_cache-reply.result ∷ [] in
-    let step = cache_step-wider _ Itself
-    (λ k v b s. let read : b ≡ (s.key.now, s.value.now) = search rules in
-    read ∙ ap (λ x. (x, s.value.now)) s.shows.0 ∙ ap (λ y. (k, y)) s.shows.1) nat_eq
-    (state_in c.args.self.now) replies (state_in c.answer_cache-reply.new.cache) c.in-Some-Do.command
-    c.answer_cache-reply.ensures in
-    rw (sym line)
-    (on_ok_weaker c.push_replies.result (λ e. (replies_shown OfValue replies, (replies, step, refl), e))
-    c.push_replies.ensures)
+pub returns : goal.returns
+returns c =
+    on_ok_weaker c.answer.result (λ pushed. (pushed.0, (c.parse.result, c.parse.ensures, pushed.1), pushed.2))
+    c.answer.ensures

@@ -1,38 +1,14 @@
-use Rattle.std.proofs.Common.{◌≡◌, ◌++◌, ◌%◌, codes, nat_eq, refl, sym, ap, ap₂, ◌∙◌, rules, string_bytes}
+use Rattle.std.specs.Option.{option_map}
 use Rattle.std.proofs.lemmas.Result.{on_ok_weaker}
-use Rattle.hashlink_core.specs.Keyed.{state_of}
-use Rattle.hashlink_run.specs.Keeps.{IsEven}
-use Rattle.hashlink_text.specs.Transcript.{Itself, ended, form_of, replies_shown}
-use Rattle.hashlink_run.proofs.Wider.{step-wider}
-use Rattle.hashlink_text.proofs.ShownLines.{shows-command}
+use Rattle.hashlink_text.specs.Spelling.{said}
 use Rattle.hashlink_text.proofs.map_text.MapWithRepliesAnswersLines.answer_line.Goals as goal
 
-pub returns-in-None : goal.returns-in-None
-returns-in-None c =
-    let line = rw c.in-None.is at c.in_ok-command.ensures.said in
-    rw (sym line)
-    (on_ok_weaker c.writeln.result (λ e. (codes "bad", (refl, refl), e)) c.writeln.ensures.bytes)
-
-pub returns-in_ok-answer_command-in-Some-Do : goal.returns-in_ok-answer_command-in-Some-Do
-returns-in_ok-answer_command-in-Some-Do c =
-    let command = c.in-Some-Do.command in
-    let line = rw (c.in-Some-Do.is, c.in-Some-Do.field-0-is) at c.in_ok-command.ensures.said in
-    let answered = c.in_ok-answer_command-in-Some-Do.ensures.answered in
-    let replies : c.deref.result.now ≡ answered.0 =
-    c.deref.ensures.value ∙ answered.2 ∙ ap (λ old. old ++ answered.0) c.clear.ensures.items in
-    let shown = ap₂ replies_shown c.form_of-form.ensures replies in
-    let step = step-wider _ Itself
-    (λ k v b s. let read : b ≡ (s.key.now, s.value.now) = search rules in
-    read ∙ ap (λ x. (x, s.value.now)) s.shows.0 ∙ ap (λ y. (k, y)) s.shows.1) _ IsEven
-    (λ k v b s. let even : b ≡ nat_eq (s.value.now % 2) 0 = search rules in
-    even ∙ ap (λ y. nat_eq (y % 2) 0) s.shows.1) nat_eq
-    (state_of c.args.self.now.map) answered.0 (state_of c.answer_command.new.map) command answered.1 in
-    let shows = shows-command (state_of c.args.self.now.map) (state_of c.answer_command.new.map)
-    command answered.0 step in
-    rw (sym line)
-    (on_ok_weaker c.push_replies.result
-    (λ e. (
-      replies_shown (form_of command) answered.0,
-      shows,
-      e ∙ ap (λ text. string_bytes c.args.out.now ++ ended text) shown,
-    )) c.push_replies.ensures)
+pub returns : goal.returns
+returns c =
+    on_ok_weaker c.answer.result
+    (λ pushed. (
+      pushed.0,
+      (option_map said c.in_ok-line.line, c.in_ok-line.ensures.said, pushed.1),
+      pushed.2,
+    ))
+    c.answer.ensures

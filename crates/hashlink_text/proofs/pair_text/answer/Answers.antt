@@ -7,18 +7,17 @@ use Rattle.hashlink_run.specs.CacheCalls.{event_of}
 use Rattle.hashlink_text.specs.CacheTranscript.{Held, answers_shown}
 use Rattle.hashlink_text.specs.Transcript.{ended, shown_by}
 use Rattle.hashlink_run.proofs.Called.{left}
-use Rattle.hashlink_text.proofs.pair_text.answer_pair_line.Goals as goal
+use Rattle.hashlink_text.proofs.pair_text.answer.Goals as goal
 
 pub returns-in_default-clause-shown : goal.returns-in_default-clause-shown
 returns-in_default-clause-shown c =
-    let line = rw c.in_default.is at c.pair_command.ensures in
-    rw (sym line) (on_ok_weaker c.writeln.result (λ e. (codes "bad", (refl, refl), e))
+    rw c.in_default.is
+    (on_ok_weaker c.writeln.result (λ e. (codes "bad", (refl, refl), e))
     c.writeln.ensures.bytes)
 
 pub returns-clause-shown : goal.returns-clause-shown
 returns-clause-shown c =
     let command = c.in-Some.command in
-    let line = rw c.in-Some.is at c.pair_command.ensures in
     let small =
     left nat_eq (state_in c.args.small.now) (event_of command) (c.in_ok-small_answer.small_answer ∷ []) _
     c.in_ok-small_answer.ensures.answered in
@@ -31,7 +30,7 @@ returns-clause-shown c =
     let second : c.in_ok-large_answer.large_answer ≡ answer_to nat_eq held.1 (event_of command) =
     cc (large.answer) in
     let shown = ap₂ (λ a b. shown_by decimal a ++ (32 ∷ shown_by decimal b)) first second in
-    rw (sym line)
+    rw c.in-Some.is
     (on_ok_weaker c.push_answers.result
     (λ e. (
       answers_shown held command,

@@ -1,0 +1,21 @@
+use Rattle.std.proofs.Common.{ap, option_copied, refl}
+use Rattle.std.specs.Option.{option_map}
+use Rattle.hashlink_run.specs.Reads.{ClosureSays}
+use Rattle.hashlink_run.proofs.weighted_steps.said_of_value.Goals as goal
+
+pub says-requires : goal.says-requires
+says-requires g c =
+    c.requires (c.args.key.now, c.in_ok-value.value.now)
+    (ap (λ o. option_map (λ v. (c.args.key.now, v)) (option_copied o)) c.in_ok-value.was)
+    c.args.key c.in_ok-value.value refl refl
+
+pub returns : goal.returns
+returns g c =
+    let says : ClosureSays g.F.Fn c.args.says.now c.args.key.now c.in_ok-value.value.now c.says.result =
+    record {
+      key = c.args.key;
+      value = c.in_ok-value.value;
+      shows = (refl, refl);
+      says = record { met = c.says.ensures };
+    } in
+    rw c.in_ok-value.was says

@@ -1,0 +1,36 @@
+use Rattle.std.proofs.Common.{◌≡◌, ◌++◌, ◌%◌, codes, nat_eq, refl, sym, ap, ◌∙◌, rules, string_bytes}
+use Rattle.std.proofs.lemmas.Result.{on_ok_weaker}
+use Rattle.hashlink_core.specs.Keyed.{state_of}
+use Rattle.hashlink_run.specs.Keeps.{IsEven}
+use Rattle.hashlink_text.specs.Transcript.{Itself, ended, replies_shown}
+use Rattle.hashlink_run.proofs.Wider.{step-wider}
+use Rattle.hashlink_text.proofs.ShownLines.{shows-command}
+use Rattle.hashlink_text.proofs.map_text.MapWithReplies.answer.Goals as goal
+
+pub returns-in-None : goal.returns-in-None
+returns-in-None c =
+    rw c.in-None.is
+    (on_ok_weaker c.writeln.result (λ e. (codes "bad", (refl, refl), e)) c.writeln.ensures.bytes)
+
+pub returns-in_ok-answer_command-in-Some-Do : goal.returns-in_ok-answer_command-in-Some-Do
+returns-in_ok-answer_command-in-Some-Do c =
+    let command = c.in-Some-Do.command in
+    let answered = c.in_ok-answer_command-in-Some-Do.ensures.answered in
+    let replies : c.deref.result.now ≡ answered.0 =
+    c.deref.ensures.value ∙ answered.2 ∙ ap (λ old. old ++ answered.0) c.clear.ensures.items in
+    let shown = ap replies_shown replies in
+    let step = step-wider _ Itself
+    (λ k v b s. let read : b ≡ (s.key.now, s.value.now) = search rules in
+    read ∙ ap (λ x. (x, s.value.now)) s.shows.0 ∙ ap (λ y. (k, y)) s.shows.1) _ IsEven
+    (λ k v b s. let even : b ≡ nat_eq (s.value.now % 2) 0 = search rules in
+    even ∙ ap (λ y. nat_eq (y % 2) 0) s.shows.1) nat_eq
+    (state_of c.args.self.now.map) answered.0 (state_of c.answer_command.new.map) command answered.1 in
+    let shows = shows-command (state_of c.args.self.now.map) (state_of c.answer_command.new.map)
+    command answered.0 step in
+    rw (c.in-Some-Do.is, c.in-Some-Do.field-0-is)
+    (on_ok_weaker c.push_replies.result
+    (λ e. (
+      replies_shown answered.0,
+      shows,
+      e ∙ ap (λ text. string_bytes c.args.out.now ++ ended text) shown,
+    )) c.push_replies.ensures)
