@@ -1,5 +1,6 @@
 pub mod Dropping
 pub mod Ends
 pub mod Entering
+pub mod Evicting
 pub mod Extending
 pub mod Using
