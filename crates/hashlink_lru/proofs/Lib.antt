@@ -3,4 +3,5 @@ pub mod Ends
 pub mod Entering
 pub mod Evicting
 pub mod Extending
+pub mod Pushing
 pub mod Using
