@@ -54,6 +54,7 @@ pub use Rattle.hashlink_lru.specs.Cached
 pub use Rattle.hashlink_lru.specs.Evicted
 pub use Rattle.hashlink_lru.specs.Lends as CacheLends
 pub use Rattle.hashlink_weighted.specs.Answers
+pub use Rattle.hashlink_weighted.specs.Evicted as WeightedEvicted
 pub use Rattle.hashlink_weighted.specs.Lends as WeightedLends
 pub use Rattle.hashlink_weighted.specs.Weighed
 pub use Rattle.hashlink_curve.specs.Curve
