@@ -1,6 +1,7 @@
 -- An insert that hands out the pair that leaves.
 use Rattle.std.specs.Prelude.{◌≡◌, ℕ, zero, suc, ◌+◌, ◌-◌, ◌≤◌, ◌<◌, Bool, List, [], ◌∷◌, ◌++◌, length}
-use Rattle.std.specs.Prelude.{take, drop, Option, None, Some, MatchOption, Result, Ok, Err, OnOk, IsOk, IsSome}
+use Rattle.std.specs.Prelude.{take, drop, Option, None, Some, MatchOption, Result, Ok, Err, OnOk, IsOk}
+use Rattle.std.specs.Prelude.{IsSome}
 use Rattle.std.specs.Map.{lookup}
 use Rattle.std.specs.Option.{option_map, option_or}
 use Rattle.std.proofs.Common.{true≢false, is_some, refl, ap, ap₂, sym, subst, ◌∙◌, arith}
@@ -49,7 +50,8 @@ module _ {K V : Type 0} where
       → first_of (evicted_entries es cap) ≡ first_of es
   first_evicted es cap l = first_of-take (length es - cap) es (omega arith)
 
-  pub none_evicted : (es : List (K × V)) (cap : ℕ) → length es ≤ cap → first_of (evicted_entries es cap) ≡ None
+  pub none_evicted : (es : List (K × V)) (cap : ℕ) → length es ≤ cap
+      → first_of (evicted_entries es cap) ≡ None
   none_evicted es cap l =
       let none : length es - cap ≡ 0 = omega arith in ap (λ n. first_of (take n es)) none
 
@@ -67,7 +69,8 @@ module _ {K V : Type 0} (eq : K → K → Bool) (es : List (K × V)) (cap : ℕ)
       let full = m.0 in
       let l1 = long eq es cap k v in
       let is : All ≡ e ∷ (drop 1 (without eq es k) ++ (stored_key eq es k, v) ∷ []) =
-      split eq es cap k v ∙ ap (λ zs. zs ++ (stored_key eq es k, v) ∷ []) (first_of-some (without eq es k) e m.1) in
+      split eq es cap k v
+      ∙ ap (λ zs. zs ++ (stored_key eq es k, v) ∷ []) (first_of-some (without eq es k) e m.1) in
       ap (λ o. option_or (option_map (λ w. (k, w)) o) (first_of (evicted_entries All cap))) l
       ∙ first_evicted All cap (omega arith) ∙ ap first_of is
 

@@ -30,16 +30,16 @@ pub fn what_many_items_leave<K, V, S>()
         → IsWithin new 0 }
 {}
 
-/// An insert that succeeds evicts first the entry that `evicted_by` names, and a push of an absent key returns
-/// that entry. In a cache within its capacity it is the only one that leaves. If `evicted_by` names none, an
-/// insert into a cache of a capacity above 0 evicts none.
+/// An insert that succeeds evicts first the entry that `evicted_by` names, and a push of an absent key
+/// returns that entry. In a cache within its capacity it is the only one that leaves. If `evicted_by` names
+/// none, an insert into a cache of a capacity above 0 evicts none.
 pub fn what_an_insert_evicts<K, V, S>()
-    ensures first { (eq : K → K → Bool) (old new : CacheState K V S) (k : K) (v : V) (w : Option V) (e : K × V)
-        → CacheInserts eq old new k v (Ok w) → evicted_by (eq k) old.map.entries old.cap ≡ Some e
+    ensures first { (eq : K → K → Bool) (old new : CacheState K V S) (k : K) (v : V) (w : Option V)
+        (e : K × V) → CacheInserts eq old new k v (Ok w) → evicted_by (eq k) old.map.entries old.cap ≡ Some e
         → (others : List (K × V)) × (put eq old.map.entries k v (length old.map.entries)
         ≡ e ∷ others ++ new.map.entries) }
-    ensures alone { (eq : K → K → Bool) (old new : CacheState K V S) (k : K) (v : V) (w : Option V) (e : K × V)
-        → CacheInserts eq old new k v (Ok w) → evicted_by (eq k) old.map.entries old.cap ≡ Some e
+    ensures alone { (eq : K → K → Bool) (old new : CacheState K V S) (k : K) (v : V) (w : Option V)
+        (e : K × V) → CacheInserts eq old new k v (Ok w) → evicted_by (eq k) old.map.entries old.cap ≡ Some e
         → IsWithin old 0
         → old.map.entries ++ (k, v) ∷ [] ≡ e ∷ new.map.entries }
     ensures none { (eq : K → K → Bool) (old new : CacheState K V S) (k : K) (v : V) (w : Option V)

@@ -19,7 +19,8 @@ first_split (y ∷ xs) x f = ap (λ z. z ∷ xs) (same_Some y x (sym f))
 
 module _ {K V : Type 0} where
   -- the first of a list that weighs too much is evicted, and then those of the others that do not fit
-  not_fitting-first : (e : K × (V × ℕ)) (es : List (K × (V × ℕ))) (budget : ℕ) → budget < total_weight (e ∷ es)
+  not_fitting-first : (e : K × (V × ℕ)) (es : List (K × (V × ℕ))) (budget : ℕ)
+      → budget < total_weight (e ∷ es)
       → not_fitting (e ∷ es) budget ≡ e ∷ not_fitting es budget
   not_fitting-first e es budget l = rw (lt-leb (total_weight (e ∷ es)) budget l) refl
 
@@ -35,7 +36,8 @@ module _ {K V : Type 0} where
   split_by e es budget true s = refl
   split_by e es budget false s = ap (λ zs. e ∷ zs) s
 
-  pub evicted_before : (es : List (K × (V × ℕ))) (budget : ℕ) → not_fitting es budget ++ fitting es budget ≡ es
+  pub evicted_before : (es : List (K × (V × ℕ))) (budget : ℕ)
+      → not_fitting es budget ++ fitting es budget ≡ es
   evicted_before [] budget = refl
   evicted_before (e ∷ es) budget =
       split_by e es budget (nat_le (total_weight (e ∷ es)) budget) (evicted_before es budget)

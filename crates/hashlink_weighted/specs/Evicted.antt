@@ -9,7 +9,8 @@ module _ {K V : Type 0} where
   -- the entries before the longest end that fits
   abbrev pub not_fitting : List (K × (V × ℕ)) → ℕ → List (K × (V × ℕ))
   not_fitting [] budget = []
-  not_fitting (e ∷ es) budget = if nat_le (total_weight (e ∷ es)) budget then [] else e ∷ not_fitting es budget
+  not_fitting (e ∷ es) budget =
+      if nat_le (total_weight (e ∷ es)) budget then [] else e ∷ not_fitting es budget
 
   -- the entries that an insert of a pair with its weight evicts, front first
   abbrev pub evicted_by : {S : Type 0} → (K → K → Bool) → WeightedState K V S → K → V → ℕ

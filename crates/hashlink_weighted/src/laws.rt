@@ -1,5 +1,6 @@
 //! What the contract of an insert within a budget implies. Nothing here is for users.
-ghost use Rattle.std.specs.Prelude.{◌≡◌, ℕ, ◌<◌, ◌≤◌, ◌++◌, Bool, Option, Result, None, Some, Ok, Err, length};
+ghost use Rattle.std.specs.Prelude.{◌≡◌, ℕ, ◌<◌, ◌≤◌, ◌++◌, Bool, Option, Result, None, Some, Ok, Err};
+ghost use Rattle.std.specs.Prelude.{length};
 ghost use Rattle.std.specs.Map.{lookup};
 ghost use Rattle.hashlink_model.specs.Entries.{put, stored_key};
 ghost use Rattle.hashlink_model.specs.Walk.{last_of};

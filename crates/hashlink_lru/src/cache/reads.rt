@@ -63,13 +63,13 @@ impl<K: Eq + Hash, V, S: BuildHasher> LruCache<K, V, S> {
         self.map.back()
     }
 
-    /// Returns the entry that an insert of this key would evict first, or `None` if it would evict none that
-    /// is in the cache: the key is present, or there is room. The order does not change. It hashes the key
-    /// once.
+    /// Returns the entry that an insert of this key would evict first, or `None` if it would evict none
+    /// besides the key's own: the key is present, or there is room. The order does not change. It hashes the
+    /// key once.
     ///
-    /// At capacity 0 an insert evicts every entry, its own pair last, and of an empty cache this returns
-    /// `None`. If entries, cursors or `map_mut` have exceeded the capacity, an insert evicts even if the key
-    /// is present: then this returns the first entry that is not the key's own.
+    /// At capacity 0 an insert evicts every entry and at last its own pair, which this never returns. If
+    /// entries, cursors or `map_mut` have exceeded the capacity, an insert evicts even if the key is present:
+    /// then this returns the first entry that is not the key's own.
     pub fn evicted_by<Q: Equivalent<K>>(&self, key: Q) -> Option<(&K, &V)>
         ensures found { option_map deref_pair result
             ≡ evicted_by (Q.matches key) (entries_in self.now) (state_in self.now).cap }

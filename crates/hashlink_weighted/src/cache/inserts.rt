@@ -48,10 +48,10 @@ impl<K: Eq + Hash, V, S: BuildHasher> WeightedCache<K, V, S> {
         self.insert_evicting(key, value, weight, &mut |_, _| {})
     }
 
-    /// Inserts the pair as `insert` does, at the same cost, and gives the key and the value of each entry that
-    /// it evicts, from the front, to `on_evicted`. That is called once for each entry, and has to be callable
-    /// on it, in the state that its earlier calls have left it in. The caller keeps it: after its last call,
-    /// the caller can read from it what its calls left in it.
+    /// Inserts the pair as `insert` does, at the same cost, and gives the key and the value of each entry
+    /// that it evicts, from the front, to `on_evicted`. That is called once for each entry, and has to be
+    /// callable on it, in the state that its earlier calls have left it in. The caller keeps it: after its
+    /// last call, the caller can read from it what its calls left in it.
     ///
     /// What the key's own entry had before is not evicted: its old value is returned. If the weight is above
     /// the budget, or an allocation fails, `on_evicted` is not called: the pair is returned in `TooHeavy` or

@@ -10,7 +10,8 @@ loop-others-init g c =
       dropped =
           none_dropped (state_of c.args.map.now) c.args.others c.args.weight c.args.budget c.requires.last;
       evicting =
-          begins g.F.FnMut c.args.on_evicted.now (entries_of c.args.map.now) c.args.budget c.requires.callable;
+          begins g.F.FnMut c.args.on_evicted.now (entries_of c.args.map.now) c.args.budget
+          c.requires.callable;
       distinct = c.requires.distinct;
       room = refl;
     }

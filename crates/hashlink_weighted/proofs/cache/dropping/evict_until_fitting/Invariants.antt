@@ -8,7 +8,8 @@ use Rattle.hashlink_weighted.proofs.cache.dropping.evict_until_fitting.Given as 
 abbrev pub invariant-loop-others : goal.invariant-loop-others
 invariant-loop-others g l = record {
   dropped : HasDropped (state_of l.fn.map) (state_of l.map) l.others l.fn.weight l.fn.budget;
-  evicting : Evicting g.F.FnMut l.fn.on_evicted (entries_of l.fn.map) l.fn.budget l.on_evicted (entries_of l.map);
+  evicting : Evicting g.F.FnMut l.fn.on_evicted (entries_of l.fn.map) l.fn.budget l.on_evicted
+      (entries_of l.map);
   distinct : IsEntries g.K.PartialEq.eq (entries_of l.map);
   room : l.room ≡ l.fn.budget - l.fn.weight;
 }
