@@ -39,8 +39,28 @@ class CacheModel(Model):
         elif name in ("get_or_insert_with", "get_or_try_insert_with"):
             words.read = rest.read
             self.get_or_insert(words, answers)
+        elif name == "evicted_by":
+            answers.pair(self.evicted_by(rest.name()))
+            words.read = rest.read
+        elif name == "push":
+            self.push(rest.pair(), answers)
+            words.read = rest.read
         else:
             self.call(words, answers)
+
+    def evicted_by(self, key):
+        """The first pair that an insert of the key drops: of those of other keys, where they leave no place."""
+        others = [pair for pair in self.list.pairs if pair[0][0] != key[0]]
+        return others[0] if others and len(others) >= self.capacity else None
+
+    def push(self, pair, answers):
+        """Puts a pair, which says the given key with the old value, or else the first pair that is dropped."""
+        if self.is_refused(pair, answers):
+            return
+        old = self.put("back", pair)
+        surplus = self.list.pairs[:max(len(self.list.pairs) - self.capacity, 0)]
+        self.drop_first()
+        answers.pair((pair[0], old) if old else (surplus[0] if surplus else None))
 
     def get_or_insert(self, words, answers):
         """Uses what is there, or puts what is made, which stays even where there is no room. After `fail`
@@ -78,14 +98,15 @@ class WeightedModel(Model):
             answers.count(self.capacity)
         elif name == "get":
             answers.value(self.list.use_key(rest.name()))
-        elif name == "insert":
-            self.insert_weighted(rest.pair(), answers)
+        elif name in ("insert", "insert_evicting"):
+            self.insert_weighted(name, rest.pair(), answers)
         else:
             self.call(words, answers)
             return
         words.read = rest.read
 
-    def insert_weighted(self, pair, answers):
+    def insert_weighted(self, name, pair, answers):
+        """Puts a pair, unless it is handed back. `insert_evicting` says each pair that is dropped, in turn."""
         if pair[1][1] > self.capacity:
             answers.back("heavy", pair)
             return
@@ -93,5 +114,7 @@ class WeightedModel(Model):
             return
         old = self.put("back", pair)
         while self.total() > self.capacity:
-            self.list.take_first()
+            evicted = self.list.take_first()
+            if name == "insert_evicting":
+                answers.pair(evicted)
         answers.item(old)

@@ -51,8 +51,10 @@ pub use Rattle.hashlink_set.specs.Drain as SetDrain
 pub use Rattle.hashlink_set.specs.Made as SetMade
 pub use Rattle.hashlink_set.specs.SetLends
 pub use Rattle.hashlink_lru.specs.Cached
+pub use Rattle.hashlink_lru.specs.Evicted
 pub use Rattle.hashlink_lru.specs.Lends as CacheLends
 pub use Rattle.hashlink_weighted.specs.Answers
+pub use Rattle.hashlink_weighted.specs.Evicted as WeightedEvicted
 pub use Rattle.hashlink_weighted.specs.Lends as WeightedLends
 pub use Rattle.hashlink_weighted.specs.Weighed
 pub use Rattle.hashlink_curve.specs.Curve

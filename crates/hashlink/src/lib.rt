@@ -22,9 +22,9 @@ pub mod linked_hash_set {
 /// The cache that holds up to a given number of entries.
 pub mod lru_cache {
     pub use hashlink_lru::{
-        Drain, Entry, ExtendError, IntoIter, Iter, IterMut, LruCache, OccupiedEntry,
+        Drain, Entry, ExtendError, IntoIter, Iter, IterMut, Keys, LruCache, OccupiedEntry,
         RawEntryBuilder, RawEntryBuilderMut, RawEntryMut, RawOccupiedEntryMut, RawVacantEntryMut,
-        TryInsertError, VacantEntry,
+        TryInsertError, VacantEntry, Values,
     };
 }
 

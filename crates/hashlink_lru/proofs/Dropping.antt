@@ -12,7 +12,7 @@ none_first [] n = refl
 none_first (x ∷ xs) n = absurd (none-some x n)
 
 module _ {K V S : Type 0} where
-  kept : (m : MapState K V S) → KeepsOnly m m m.entries
+  pub kept : (m : MapState K V S) → KeepsOnly m m m.entries
   kept m =
       record {
         entries = refl;
@@ -23,7 +23,7 @@ module _ {K V S : Type 0} where
         hasher = refl;
       }
 
-  pops_keeps : (old new : MapState K V S) (r : Option (K × V)) → PopsFront old new r
+  pub pops_keeps : (old new : MapState K V S) (r : Option (K × V)) → PopsFront old new r
       → KeepsOnly old new (drop 1 old.entries)
   pops_keeps old new None s =
       subst (λ m. KeepsOnly old m (drop 1 old.entries)) (sym s.step)

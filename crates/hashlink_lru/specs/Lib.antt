@@ -1,3 +1,4 @@
 -- What the contracts of the cache cite, beside `hashlink_model`.
 pub mod Cached
+pub mod Evicted
 pub mod Lends

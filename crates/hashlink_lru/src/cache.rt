@@ -7,6 +7,7 @@ ghost use Rattle.hashlink_lru.specs.Cached.{empty_cache};
 mod entries;
 mod inserts;
 mod many;
+mod pushes;
 mod reads;
 mod removals;
 mod uses;

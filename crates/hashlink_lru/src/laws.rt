@@ -1,8 +1,12 @@
-//! What many items leave in a cache. The function has an empty body: its contract is the statement.
-ghost use Rattle.std.specs.Prelude.{◌≡◌, ℕ, Bool, List, ◌∷◌};
-ghost use Rattle.hashlink_model.specs.Cache.{CacheState, IsWithin, cache_extended};
+//! What many items leave in a cache, and what an insert evicts. The functions have empty bodies: their
+//! contracts are the statements.
+ghost use Rattle.std.specs.Prelude.{◌≡◌, ℕ, ◌≤◌, Bool, List, [], ◌∷◌, ◌++◌, length, Option, None, Some, Ok};
+ghost use Rattle.std.specs.Map.{lookup};
+ghost use Rattle.hashlink_model.specs.Cache.{CacheInserts, CacheState, IsWithin, cache_extended};
+ghost use Rattle.hashlink_model.specs.Entries.{put};
 ghost use Rattle.hashlink_model.specs.Many.{AcceptsAll, StopsAt};
 ghost use Rattle.hashlink_lru.specs.Cached.{InsertsPairIn};
+ghost use Rattle.hashlink_lru.specs.Evicted.{evicted_by, Pushes};
 
 /// Items that are inserted one after another leave what an insert of each in turn leaves, at the same
 /// capacity. So do the items before one that is not inserted because memory runs out. A cache of at most n
@@ -24,4 +28,27 @@ pub fn what_many_items_leave<K, V, S>()
     ensures fits { (eq : K → K → Bool) (old new : CacheState K V S) (item : K × V) (items : List (K × V))
         → AcceptsAll (InsertsPairIn eq) old (item ∷ items) new
         → IsWithin new 0 }
+{}
+
+/// An insert that succeeds evicts first the entry that `evicted_by` names, and a push of an absent key
+/// returns that entry. In a cache within its capacity it is the only one that leaves. If `evicted_by` names
+/// none, an insert into a cache of a capacity above 0 evicts none.
+pub fn what_an_insert_evicts<K, V, S>()
+    ensures first { (eq : K → K → Bool) (old new : CacheState K V S) (k : K) (v : V) (w : Option V)
+        (e : K × V) → CacheInserts eq old new k v (Ok w) → evicted_by (eq k) old.map.entries old.cap ≡ Some e
+        → (others : List (K × V)) × (put eq old.map.entries k v (length old.map.entries)
+        ≡ e ∷ others ++ new.map.entries) }
+    ensures alone { (eq : K → K → Bool) (old new : CacheState K V S) (k : K) (v : V) (w : Option V)
+        (e : K × V) → CacheInserts eq old new k v (Ok w) → evicted_by (eq k) old.map.entries old.cap ≡ Some e
+        → IsWithin old 0
+        → old.map.entries ++ (k, v) ∷ [] ≡ e ∷ new.map.entries }
+    ensures none { (eq : K → K → Bool) (old new : CacheState K V S) (k : K) (v : V) (w : Option V)
+        → CacheInserts eq old new k v (Ok w) → evicted_by (eq k) old.map.entries old.cap ≡ None
+        → 1 ≤ old.cap
+        → new.map.entries ≡ put eq old.map.entries k v (length old.map.entries) }
+    ensures pushed { (eq : K → K → Bool) (old new : CacheState K V S) (k : K) (v : V) (out : Option (K × V))
+        (e : K × V) → Pushes eq old new k v (Ok out)
+        → evicted_by (eq k) old.map.entries old.cap ≡ Some e
+        → lookup (eq k) old.map.entries ≡ None
+        → out ≡ Some e }
 {}

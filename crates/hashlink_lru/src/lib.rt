@@ -9,6 +9,6 @@ mod texts;
 pub use cache::LruCache;
 pub use hashlink_map::{
     DefaultHashBuilder, DefaultHasher, Drain, Entry, Equivalent, ExtendError, IntoIter, Iter,
-    IterMut, OccupiedEntry, RawEntryBuilder, RawEntryBuilderMut, RawEntryMut, RawOccupiedEntryMut,
-    RawVacantEntryMut, TryInsertError, VacantEntry,
+    IterMut, Keys, OccupiedEntry, RawEntryBuilder, RawEntryBuilderMut, RawEntryMut,
+    RawOccupiedEntryMut, RawVacantEntryMut, TryInsertError, VacantEntry, Values,
 };

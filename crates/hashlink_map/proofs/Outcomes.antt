@@ -1,5 +1,6 @@
 -- What the entries are after a call, and what it returns, in one equation for each.
-use Rattle.std.proofs.Common.{◌≡◌, ℕ, suc, Bool, true, false, cond, List, [], ◌∷◌, length, Option, None, Some}
+use Rattle.std.proofs.Common.{◌≡◌, ℕ, suc, Bool, true, false, cond, List, [], ◌∷◌, ◌++◌, length, Option, None}
+use Rattle.std.proofs.Common.{Some}
 use Rattle.std.proofs.Common.{Result, Ok, Err, is_some, refl, sym, ap, ◌∙◌, true≢false, arith}
 use Rattle.std.specs.Prelude.{Contains, IfOk, IfSome, IsOk, IsSome, OnOk, unwrap_or}
 use Rattle.std.specs.Map.{lookup, lookup_entry, remove_entry}
@@ -9,7 +10,7 @@ use Rattle.hashlink_model.specs.Entries.{place_of, place_or_end, put}
 use Rattle.hashlink_model.specs.MapState.{MapState, Inserts}
 use Rattle.hashlink_model.specs.Steps.{RemovesMatch, Replaces}
 use Rattle.hashlink_model.proofs.Finds.{lookup_is}
-use Rattle.hashlink_model.proofs.Puts.{put_at_its_place}
+use Rattle.hashlink_model.proofs.Puts.{put_at_its_place, put_back_absent}
 use Rattle.hashlink_model.proofs.Splits.{none_from_lookup, place_of-here, place_of-none, remove_entry-none}
 use Rattle.hashlink_model.proofs.Splits.{stands_from_lookup}
 
@@ -49,6 +50,15 @@ module _ {K V S : Type 0} (eq : K → K → Bool) (old new : MapState K V S) (k 
     λ there. absurd (true≢false
         (sym there ∙ ap is_some s.may_refuse.absent)),
   )
+
+  -- an absent key goes behind the others
+  pub inserts_added : (r : Result (Option V) (K × V)) → Inserts eq old new k v (length old.entries) r
+      → lookup (eq k) old.entries ≡ None
+      → OnOk r (new.entries ≡ old.entries ++ (k, v) ∷ [])
+  inserts_added (Ok w) s none =
+      (inserts_entries (length old.entries) w s).0
+      ∙ put_back_absent eq old.entries k v (none_from_lookup (eq k) old.entries none)
+  inserts_added (Err pair) s none = tt
 
   pub replaces_outcome : (r : Result (Option V) (K × V)) → Replaces eq old new k v r
       → PutsAt (place_or_end eq old.entries k) r

@@ -1,20 +1,26 @@
 //! What the contract of an insert within a budget implies. Nothing here is for users.
-ghost use Rattle.std.specs.Prelude.{◌≡◌, ℕ, ◌<◌, ◌≤◌, Bool, Option, Result, None, Some, Ok, Err};
+ghost use Rattle.std.specs.Prelude.{◌≡◌, ℕ, ◌<◌, ◌≤◌, ◌++◌, Bool, Option, Result, None, Some, Ok, Err};
+ghost use Rattle.std.specs.Prelude.{length};
 ghost use Rattle.std.specs.Map.{lookup};
-ghost use Rattle.hashlink_model.specs.Entries.{stored_key};
+ghost use Rattle.hashlink_model.specs.Entries.{put, stored_key};
 ghost use Rattle.hashlink_model.specs.Walk.{last_of};
 ghost use Rattle.hashlink_model.specs.Weights.{WeightedState, total_weight, weighted_put};
 ghost use Rattle.hashlink_weighted.specs.Answers.{InsertsWithin, without_weight};
+ghost use Rattle.hashlink_weighted.specs.Evicted.{evicted_by};
 ghost use Rattle.hashlink_weighted.specs.declared.error.WeightError.{WeightError};
 ghost use Rattle.hashlink_weighted.specs.declared.error.WeightError.TheVariants.{TooHeavy, Memory};
 
 /// A successful insert returns the old value. It leaves the longest end that fits of what the map's insert
-/// leaves, and its last entry is the pair with its weight. The weights sum to at most the budget, which does
-/// not change.
+/// leaves, and evicts what stands before that. Its last entry is the pair with its weight. The weights sum to
+/// at most the budget, which does not change.
 pub fn what_an_accepted_insert_leaves<K, V, S>()
     ensures entries { (eq : K → K → Bool) (old new : WeightedState K V S) (k : K) (v : V) (weight : ℕ)
         (answer : Option V) → InsertsWithin eq old new k v weight (Ok answer)
         → new.map.entries ≡ weighted_put eq old.map.entries old.budget k v weight }
+    ensures evicted { (eq : K → K → Bool) (old new : WeightedState K V S) (k : K) (v : V) (weight : ℕ)
+        (answer : Option V) → InsertsWithin eq old new k v weight (Ok answer)
+        → put eq old.map.entries k (v, weight) (length old.map.entries)
+        ≡ evicted_by eq old k v weight ++ new.map.entries }
     ensures answer { (eq : K → K → Bool) (old new : WeightedState K V S) (k : K) (v : V) (weight : ℕ)
         (answer : Option V) → InsertsWithin eq old new k v weight (Ok answer)
         → answer ≡ without_weight (lookup (eq k) old.map.entries) }

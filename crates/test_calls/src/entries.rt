@@ -50,3 +50,18 @@ fn is_put_raw(map: &mut Map) -> bool {
 fn the_raw_entry_of_a_vacant_entry_takes_a_pair(rt: HostRuntime) -> ExitCode {
     passes(is_put_raw(&mut map_of(rt.alloc(), &[(1, 10)])))
 }
+
+/// Counts each word by an entry whose value is 0 at first, and says whether the first was met twice.
+fn counts_from_nothing(map: &mut Map) -> bool {
+    for key in [1, 2, 1] {
+        if let Ok(count) = map.entry(key).or_default() {
+            *count = count.wrapping_add(1);
+        }
+    }
+    (map.get(&1) == Some(&2)) & (map.back() == Some((&1, &2)))
+}
+
+#[test]
+fn an_entry_makes_a_default_value(rt: HostRuntime) -> ExitCode {
+    passes(counts_from_nothing(&mut map_of(rt.alloc(), &[])))
+}

@@ -3,10 +3,11 @@
 ghost use Rattle.std.specs.Prelude.{◌≡◌, is_some, option_copied};
 ghost use Rattle.std.specs.Borrow.{sem};
 ghost use Rattle.std.specs.Option.{option_map, option_copied_mut};
-ghost use Rattle.std.specs.Map.{lookup};
+ghost use Rattle.std.specs.Map.{lookup, remove_entry};
 ghost use Rattle.std.specs.Map.Iter.{deref_pair};
 ghost use Rattle.hashlink_model.specs.Entries.{IsEntries};
 ghost use Rattle.hashlink_model.specs.Walk.{first_of, last_of};
+ghost use Rattle.hashlink_lru.specs.Evicted.{evicted_by};
 
 use super::LruCache;
 use hashlink_map::Equivalent;
@@ -60,6 +61,45 @@ impl<K: Eq + Hash, V, S: BuildHasher> LruCache<K, V, S> {
         ensures distinct { IsEntries K.eq (entries_in self.now) }
     {
         self.map.back()
+    }
+
+    /// Returns the entry that an insert of this key would evict first, or `None` if it would evict none
+    /// besides the key's own: the key is present, or there is room. The order does not change. It hashes the
+    /// key once.
+    ///
+    /// At capacity 0 an insert evicts every entry and at last its own pair, which this never returns. If
+    /// entries, cursors or `map_mut` have exceeded the capacity, an insert evicts even if the key is present:
+    /// then this returns the first entry that is not the key's own.
+    pub fn evicted_by<Q: Equivalent<K>>(&self, key: Q) -> Option<(&K, &V)>
+        ensures found { option_map deref_pair result
+            ≡ evicted_by (Q.matches key) (entries_in self.now) (state_in self.now).cap }
+        ensures distinct { IsEntries K.eq (entries_in self.now) }
+    {
+        let len = self.map.len();
+        if !self.map.contains_key(key) {
+            return if len < self.capacity {
+                None
+            } else {
+                self.map.front()
+            };
+        }
+        if len <= self.capacity {
+            return None;
+        }
+        self.first_other(key)
+    }
+
+    /// Returns the first entry that is not the key's.
+    fn first_other<Q: Equivalent<K>>(&self, key: Q) -> Option<(&K, &V)>
+        ensures { option_map deref_pair result
+            ≡ first_of (remove_entry (Q.matches key) (entries_in self.now)) }
+    {
+        let mut entries = self.map.iter();
+        let (front, value) = entries.next()?;
+        if key.equivalent(front) {
+            return entries.next();
+        }
+        Some((front, value))
     }
 
     /// Returns a reference to the value of the key, and moves its entry to the back. If the key is absent, it

@@ -3,6 +3,7 @@
 ghost use Rattle.std.specs.Prelude.{◌≡◌, IfSome, Contains};
 ghost use Rattle.std.specs.Map.{lookup, lookup_entry, remove_entry};
 ghost use Rattle.std.specs.Map.Calls.{CalledAtPair, TakesPair, CallableOnEachPair};
+ghost use Rattle.std.specs.Map.Iter.{TakesFirst};
 ghost use Rattle.hashlink_model.specs.Cache.{IsWithin, KeepsLast, OnMap, SetsCapacity};
 ghost use Rattle.hashlink_model.specs.Entries.{IsEntries};
 ghost use Rattle.hashlink_model.specs.Retain.{RetainsInOrder};
@@ -46,6 +47,7 @@ impl<K: Eq + Hash, V, S: BuildHasher> LruCache<K, V, S> {
     /// empty. It takes constant time, hashes nothing, and stores at most three links.
     pub fn remove_lru(&mut self) -> Option<(K, V)>
         ensures pops { OnMap (λ a b. PopsFront a b result) (state_in self.old) (state_in self.new) }
+        ensures entries { TakesFirst (λ e. e) (entries_in self.old) result (entries_in self.new) }
         ensures distinct { IsEntries K.eq (entries_in self.new) }
         ensures within { StaysWithin (state_in self.old) (state_in self.new) }
     {

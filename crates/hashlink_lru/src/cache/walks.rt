@@ -2,11 +2,12 @@
 //! takes constant time.
 ghost use Rattle.std.specs.Prelude.{◌≡◌, ◌^◌, ◌<◌, length};
 ghost use Rattle.std.specs.Borrow.{sem};
-ghost use Rattle.std.specs.Map.Iter.{ShowsInOrder, ShowsInReverse, deref_pair};
+ghost use Rattle.std.specs.Map.{keys_of, values_of};
+ghost use Rattle.std.specs.Map.Iter.{ShowsInOrder, ShowsInReverse, deref, deref_pair};
 ghost use Rattle.hashlink_model.specs.Entries.{IsEntries};
 
 use super::LruCache;
-use hashlink_map::{Drain, IntoIter, Iter, IterMut};
+use hashlink_map::{Drain, IntoIter, Iter, IterMut, Keys, Values};
 use std::hash::{BuildHasher, Hash};
 
 impl<K: Eq + Hash, V, S: BuildHasher> LruCache<K, V, S> {
@@ -27,6 +28,28 @@ impl<K: Eq + Hash, V, S: BuildHasher> LruCache<K, V, S> {
         ensures fits { length (entries_in self.now) < 2 ^ 63 }
     {
         self.map.iter()
+    }
+
+    /// Returns an iterator over the keys, from front to back. It is not a use. It does not allocate, and each
+    /// step takes constant time.
+    pub fn keys(&self) -> Keys<'_, K, V>
+        ensures rest { result ≡ keys_of (entries_in self.now) }
+        ensures runs { ShowsInOrder (deref {X = K}) }
+        ensures runs_back { ShowsInReverse (deref {X = K}) }
+        ensures fits { length (entries_in self.now) < 2 ^ 63 }
+    {
+        self.map.keys()
+    }
+
+    /// Returns an iterator over the values, from front to back. It is not a use. It does not allocate, and
+    /// each step takes constant time.
+    pub fn values(&self) -> Values<'_, K, V>
+        ensures rest { result ≡ values_of (entries_in self.now) }
+        ensures runs { ShowsInOrder (deref {X = V}) }
+        ensures runs_back { ShowsInReverse (deref {X = V}) }
+        ensures fits { length (entries_in self.now) < 2 ^ 63 }
+    {
+        self.map.values()
     }
 
     /// Returns a lending iterator over the entries, from front to back, with mutable references to the

@@ -13,6 +13,8 @@ ghost use Rattle.hashlink_map.specs.TryInsert.{HandsBack};
 use super::{Entry, OccupiedEntry, VacantEntry};
 use crate::map::LinkedHashMap;
 use crate::try_insert_error::TryInsertError;
+use std::alloc::Global;
+use std::default::MadeWith;
 use std::hash::{BuildHasher, Hash};
 
 impl<K: Eq + Hash, V, S: BuildHasher> LinkedHashMap<K, V, S> {
@@ -92,6 +94,29 @@ impl<'a, K: Eq + Hash, V, S: BuildHasher> Entry<'a, K, V, S> {
         match self {
             Entry::Occupied(entry) => entry.into_last_mut(),
             Entry::Vacant(entry) => entry.insert(default()),
+        }
+    }
+
+    /// Does the same as `or_insert` with the default value of its type, which is made only if the entry is
+    /// vacant: for a number 0, for a collection an empty one, which uses the map's allocator. If an
+    /// allocation fails, it returns the given key and that value in `Err` and changes no entry; the room may
+    /// have grown.
+    pub fn or_default(self) -> Result<&'a mut V, (K, V)>
+    where
+        K: Drop,
+        V: MadeWith<Global>,
+        ensures* lends { sem 𝓛 (LendsOrNew K.row V.row S.row S.Hasher.row self.entry result) }
+        ensures value { IfOk result
+            (λ v. UnwrapsOrElse (entry_value (entry_state self.entry)) V.is_made_with v.now) }
+        ensures given { IfErr result (λ pair. pair.0 ≡ (entry_state self.entry).key) }
+        ensures made { IfErr result (λ pair. V.is_made_with pair.1) }
+    {
+        match self {
+            Entry::Occupied(entry) => entry.into_last_mut(),
+            Entry::Vacant(entry) => {
+                let default = V::made_with(entry.map.allocator());
+                entry.insert(default)
+            }
         }
     }
 

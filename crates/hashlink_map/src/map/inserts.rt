@@ -1,5 +1,5 @@
 //! Inserts. Each one hashes the key once, and looks it up as `get` does.
-ghost use Rattle.std.specs.Prelude.{◌≡◌, IfOk, IsOk, IsSome, OnOk, length};
+ghost use Rattle.std.specs.Prelude.{◌≡◌, [], ◌∷◌, ◌++◌, None, IfOk, IsOk, IsSome, OnOk, length};
 ghost use Rattle.std.specs.Map.{lookup};
 ghost use Rattle.hashlink_model.specs.Entries.{IsEntries, place_or_end, put};
 ghost use Rattle.hashlink_model.specs.MapState.{Inserts};
@@ -24,6 +24,8 @@ impl<K: Eq + Hash, V, S: BuildHasher> LinkedHashMap<K, V, S> {
             (length (entries_of self.old)) result }
         ensures entries { OnOk result (entries_of self.new
             ≡ put K.eq (entries_of self.old) key value (length (entries_of self.old))) }
+        ensures added { lookup (K.eq key) (entries_of self.old) ≡ None
+            → OnOk result (entries_of self.new ≡ entries_of self.old ++ (key, value) ∷ []) }
         ensures old { IfOk result (λ old. old ≡ lookup (K.eq key) (entries_of self.old)) }
         ensures there { IsSome (lookup (K.eq key) (entries_of self.old)) → IsOk result }
         ensures distinct { IsEntries K.eq (entries_of self.new) }

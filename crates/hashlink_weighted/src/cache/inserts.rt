@@ -1,7 +1,8 @@
 //! Inserts, and how they make room.
-ghost use Rattle.std.specs.Prelude.{◌≡◌, ◌<◌, ◌↔◌, IfOk, Err};
+ghost use Rattle.std.specs.Prelude.{◌≡◌, ◌<◌, ◌↔◌, IfOk, OnOk, OnErr, Err};
 ghost use Rattle.hashlink_model.specs.Entries.{IsEntries};
 ghost use Rattle.hashlink_weighted.specs.Answers.{without_weight};
+ghost use Rattle.hashlink_weighted.specs.Evicted.{IsGivenEach, TakesEach, evicted_by};
 ghost use Rattle.hashlink_weighted.specs.Weighed.{weight_or_none};
 ghost use Rattle.hashlink_weighted.specs.declared.error.WeightError.TheVariants.{TooHeavy};
 
@@ -44,6 +45,35 @@ impl<K: Eq + Hash, V, S: BuildHasher> WeightedCache<K, V, S> {
         ensures too_heavy { (result ≡ Err (TooHeavy (key, value))) ↔ (self.old.budget < weight) }
         ensures distinct { IfOk result (λ _. IsEntries K.eq self.new.map.entries) }
     {
+        self.insert_evicting(key, value, weight, &mut |_, _| {})
+    }
+
+    /// Inserts the pair as `insert` does, at the same cost, and gives the key and the value of each entry
+    /// that it evicts, from the front, to `on_evicted`. That is called once for each entry, and has to be
+    /// callable on it, in the state that its earlier calls have left it in. The caller keeps it: after its
+    /// last call, the caller can read from it what its calls left in it.
+    ///
+    /// What the key's own entry had before is not evicted: its old value is returned. If the weight is above
+    /// the budget, or an allocation fails, `on_evicted` is not called: the pair is returned in `TooHeavy` or
+    /// in `Memory`, no entry changes and none is evicted; the room may have grown.
+    pub fn insert_evicting<F: FnMut(K, V)>(
+        &mut self,
+        key: K,
+        value: V,
+        weight: u64,
+        on_evicted: &mut F,
+    ) -> Result<Option<V>, WeightError<K, V>>
+    where
+        K: Drop,
+        V: Drop,
+        requires { TakesEach F.FnMut on_evicted.old (evicted_by K.eq self.old key value weight) }
+        ensures inserts { InsertsWithin K.eq self.old self.new key value weight result }
+        ensures too_heavy { (result ≡ Err (TooHeavy (key, value))) ↔ (self.old.budget < weight) }
+        ensures distinct { IfOk result (λ _. IsEntries K.eq self.new.map.entries) }
+        ensures given { OnOk result (IsGivenEach F.FnMut on_evicted.old
+            (evicted_by K.eq self.old key value weight) on_evicted.new) }
+        ensures not_called { OnErr result (on_evicted.new ≡ on_evicted.old) }
+    {
         if weight > self.budget {
             return Err(WeightError::TooHeavy((key, value)));
         }
@@ -51,7 +81,13 @@ impl<K: Eq + Hash, V, S: BuildHasher> WeightedCache<K, V, S> {
             Ok(old) => {
                 let (old_value, old_weight) = take_apart(old);
                 let others = self.total - old_weight;
-                self.total = evict_until_fitting(&mut self.map, others, weight, self.budget);
+                self.total = evict_until_fitting(
+                    &mut self.map,
+                    others,
+                    weight,
+                    self.budget,
+                    on_evicted,
+                );
                 Ok(old_value)
             }
             Err(pair) => {

@@ -22,6 +22,7 @@ pub enum KeyCall {
     Get,
     Peek,
     ContainsKey,
+    EvictedBy,
     Remove,
     RemoveEntry,
 }
@@ -45,6 +46,8 @@ pub enum PairsCall {
 #[derive(Clone, Copy)]
 pub enum WalkCall {
     Iter,
+    Keys,
+    Values,
     IterMut,
     Drain,
     IntoIter,
@@ -63,6 +66,8 @@ pub enum CacheCall {
     Lend(LendCall),
     /// A pair.
     Insert,
+    /// A pair.
+    Push,
     /// A key, what is made where it is absent, and what is written there.
     GetOrInsertWith,
     /// The same, or `fail` and why nothing is made.
@@ -85,7 +90,7 @@ pub enum CacheCall {
     RawRead,
 }
 
-pub const CACHE_CALLS: [(&str, CacheCall); 34] = [
+pub const CACHE_CALLS: [(&str, CacheCall); 38] = [
     ("len", CacheCall::Read(ReadCall::Len)),
     ("is_empty", CacheCall::Read(ReadCall::IsEmpty)),
     ("capacity", CacheCall::Read(ReadCall::Capacity)),
@@ -98,11 +103,13 @@ pub const CACHE_CALLS: [(&str, CacheCall); 34] = [
     ("get", CacheCall::Key(KeyCall::Get)),
     ("peek", CacheCall::Key(KeyCall::Peek)),
     ("contains_key", CacheCall::Key(KeyCall::ContainsKey)),
+    ("evicted_by", CacheCall::Key(KeyCall::EvictedBy)),
     ("remove", CacheCall::Key(KeyCall::Remove)),
     ("remove_entry", CacheCall::Key(KeyCall::RemoveEntry)),
     ("get_mut", CacheCall::Lend(LendCall::GetMut)),
     ("peek_mut", CacheCall::Lend(LendCall::PeekMut)),
     ("insert", CacheCall::Insert),
+    ("push", CacheCall::Push),
     ("get_or_insert_with", CacheCall::GetOrInsertWith),
     ("get_or_try_insert_with", CacheCall::GetOrTryInsertWith),
     ("set_capacity", CacheCall::SetCapacity),
@@ -116,6 +123,8 @@ pub const CACHE_CALLS: [(&str, CacheCall); 34] = [
     ("retain", CacheCall::Retain(false)),
     ("retain_from", CacheCall::Retain(true)),
     ("iter", CacheCall::Walk(WalkCall::Iter)),
+    ("keys", CacheCall::Walk(WalkCall::Keys)),
+    ("values", CacheCall::Walk(WalkCall::Values)),
     ("iter_mut", CacheCall::Walk(WalkCall::IterMut)),
     ("drain", CacheCall::Walk(WalkCall::Drain)),
     ("into_iter", CacheCall::Walk(WalkCall::IntoIter)),

@@ -32,6 +32,7 @@ pub fn call_cache<S: BuildHasher + Copy + Default + Drop>(
         CacheCall::Key(call) => call_key(cache, call, home, words, answers),
         CacheCall::Lend(call) => call_lend(cache, call, home, words, answers),
         CacheCall::Insert => insert(cache, home, words, answers),
+        CacheCall::Push => push_pair(cache, home, words, answers),
         CacheCall::GetOrInsertWith => get_or_make(cache, home, words, answers),
         CacheCall::GetOrTryInsertWith => get_or_try(cache, home, words, answers),
         CacheCall::SetCapacity => answers.say(set_capacity(cache, words.size())),
@@ -143,6 +144,7 @@ fn look_up<S: BuildHasher>(cache: &mut Cache<S>, call: KeyCall, key: &Item) -> W
         KeyCall::Get => lent_item(cache.get(key)),
         KeyCall::Peek => lent_item(cache.peek(key)),
         KeyCall::ContainsKey => Word::Is(cache.contains_key(key)),
+        KeyCall::EvictedBy => lent(cache.evicted_by(key)),
         KeyCall::Remove => given_item(cache.remove(key)),
         KeyCall::RemoveEntry => given(cache.remove_entry(key)),
     }
@@ -156,6 +158,24 @@ fn insert<S: BuildHasher>(
 ) -> Result<(), Stop> {
     let (key, value) = words.pair(home)?;
     answers.give(put(cache.insert(key, value)))
+}
+
+fn push_pair<S: BuildHasher>(
+    cache: &mut Cache<S>,
+    home: Home<'_>,
+    words: &mut Words<'_>,
+    answers: &mut Answers,
+) -> Result<(), Stop> {
+    let (key, value) = words.pair(home)?;
+    answers.give(pushed(cache.push(key, value)))
+}
+
+/// What is said of the pair that left, or of one that was not put in.
+fn pushed(answer: Result<Option<(Item, Item)>, (Item, Item)>) -> Answer {
+    match answer {
+        Ok(left) => Answer::Word(given(left)),
+        Err(pair) => no_memory(pair),
+    }
 }
 
 fn get_or_make<S: BuildHasher>(
@@ -256,6 +276,8 @@ fn walk_cache<S: BuildHasher + Copy + Drop>(
 ) -> Result<(), Stop> {
     match call {
         WalkCall::Iter => walk_and_clone(Walked(cache.iter()), words, answers),
+        WalkCall::Keys => walk_and_clone(Walked(cache.keys()), words, answers),
+        WalkCall::Values => walk_and_clone(Walked(cache.values()), words, answers),
         WalkCall::IterMut => walk_whole(Walked(cache.iter_mut()), words, answers),
         WalkCall::Drain => walk_whole(Walked(cache.drain()), words, answers),
         WalkCall::IntoIter => walk_whole(Walked(take(cache, home).into_iter()), words, answers),

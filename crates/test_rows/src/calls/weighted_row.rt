@@ -2,7 +2,7 @@
 use crate::calls::walks::Walked;
 use crate::items::{
     Answer, Answers, Home, Item, Step, Stop, Walk, Word, Words, given_item, hinted, lent_item,
-    no_memory, shown, walk_and_clone,
+    no_memory, shown, taken_pair, walk_and_clone,
 };
 use hashlink_weighted::{WeightError, WeightedCache, WeightedIter};
 use std::hash::BuildHasher;
@@ -33,11 +33,13 @@ enum WeightedCall {
     Key(KeyCall),
     /// A pair.
     Insert,
+    /// A pair. Each pair that is evicted is said, in turn.
+    InsertEvicting,
     /// Steps of an iterator.
     Iter,
 }
 
-const CALLS: [(&str, WeightedCall); 9] = [
+const CALLS: [(&str, WeightedCall); 10] = [
     ("len", WeightedCall::Read(ReadCall::Len)),
     ("is_empty", WeightedCall::Read(ReadCall::IsEmpty)),
     ("total", WeightedCall::Read(ReadCall::Total)),
@@ -46,6 +48,7 @@ const CALLS: [(&str, WeightedCall); 9] = [
     ("peek", WeightedCall::Key(KeyCall::Peek)),
     ("remove", WeightedCall::Key(KeyCall::Remove)),
     ("insert", WeightedCall::Insert),
+    ("insert_evicting", WeightedCall::InsertEvicting),
     ("iter", WeightedCall::Iter),
 ];
 
@@ -60,6 +63,7 @@ pub fn call_weighted<S: BuildHasher>(
         WeightedCall::Read(call) => answers.say(read(cache, call)),
         WeightedCall::Key(call) => call_key(cache, call, home, words, answers),
         WeightedCall::Insert => put_pair(cache, home, words, answers),
+        WeightedCall::InsertEvicting => put_evicting(cache, home, words, answers),
         WeightedCall::Iter => walk_and_clone(Walked(cache.iter()), words, answers),
     }
 }
@@ -104,7 +108,41 @@ fn put_pair<S: BuildHasher>(
 
 fn insert<S: BuildHasher>(cache: &mut Weighted<S>, key: Item, value: Item) -> Answer {
     let weight = value.name().number;
-    match cache.insert(key, value, weight) {
+    inserted(cache.insert(key, value, weight))
+}
+
+fn put_evicting<S: BuildHasher>(
+    cache: &mut Weighted<S>,
+    home: Home<'_>,
+    words: &mut Words<'_>,
+    answers: &mut Answers,
+) -> Result<(), Stop> {
+    let (key, value) = words.pair(home)?;
+    let mut evicted = Vec::with_capacity(home.alloc, cache.len())?;
+    let answer = insert_evicting(cache, key, value, &mut evicted);
+    answers.say_all(&evicted)?;
+    answers.give(answer)
+}
+
+fn insert_evicting<S: BuildHasher>(
+    cache: &mut Weighted<S>,
+    key: Item,
+    value: Item,
+    evicted: &mut Vec<Word>,
+) -> Answer {
+    let weight = value.name().number;
+    inserted(cache.insert_evicting(
+        key,
+        value,
+        weight,
+        &mut |key, value| {
+            let _ = evicted.push(taken_pair((key, value)));
+        },
+    ))
+}
+
+fn inserted(answer: Result<Option<Item>, WeightError<Item, Item>>) -> Answer {
+    match answer {
         Ok(old) => Answer::Word(given_item(old)),
         Err(WeightError::Memory(pair)) => no_memory(pair),
         Err(WeightError::TooHeavy((key, value))) => {

@@ -1,5 +1,5 @@
 use Rattle.std.proofs.Common.{rules}
-use Rattle.hashlink_map.proofs.Outcomes.{inserts_outcome}
+use Rattle.hashlink_map.proofs.Outcomes.{inserts_outcome, inserts_added}
 use Rattle.hashlink_map.proofs.map.LinkedHashMap.insert.Goals as goal
 
 pub returns-clause-inserts : goal.returns-clause-inserts
@@ -13,3 +13,6 @@ returns-clause-old g c = (inserts_outcome _ _ _ _ _ _ _ (returns-clause-inserts 
 
 pub returns-clause-there : goal.returns-clause-there
 returns-clause-there g c = (inserts_outcome _ _ _ _ _ _ _ (returns-clause-inserts g c)).2
+
+pub returns-clause-added : goal.returns-clause-added
+returns-clause-added g c = inserts_added _ _ _ _ _ _ (returns-clause-inserts g c)

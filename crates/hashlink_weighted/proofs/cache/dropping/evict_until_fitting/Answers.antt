@@ -1,6 +1,7 @@
 use Rattle.std.proofs.Common.{refl, arith, ◌≡◌, ◌≤◌, ◌-◌}
-use Rattle.hashlink_core.specs.Keyed.{state_of}
+use Rattle.hashlink_core.specs.Keyed.{state_of, entries_of}
 use Rattle.hashlink_weighted.proofs.Dropping.{none_dropped, drops_one, not_none, drops_enough}
+use Rattle.hashlink_weighted.proofs.Evicting.{begins, may_give, given, given_all}
 use Rattle.hashlink_weighted.proofs.cache.dropping.evict_until_fitting.Goals as goal
 
 pub loop-others-init : goal.loop-others-init
@@ -8,6 +9,9 @@ loop-others-init g c =
     record {
       dropped =
           none_dropped (state_of c.args.map.now) c.args.others c.args.weight c.args.budget c.requires.last;
+      evicting =
+          begins g.F.FnMut c.args.on_evicted.now (entries_of c.args.map.now) c.args.budget
+          c.requires.callable;
       distinct = c.requires.distinct;
       room = refl;
     }
@@ -16,8 +20,15 @@ pub overflow_sub-others : goal.overflow_sub-others
 overflow_sub-others g c =
     (drops_one (state_of c.args.map.now) (state_of c.loop-others.map) (state_of c.pop_front.new.self)
     c.loop-others.others c.args.weight c.args.budget c.loop-others.invariant.dropped c.requires.not_too_heavy
-    c.loop-others-test.true (c.in-Some.field-0-0, (c.in-Some.field-0-1-0, c.in-Some.dropped))
+    c.loop-others-test.true _
     c.in-Some.ensures.pops).light
+
+pub on_evicted-requires : goal.on_evicted-requires
+on_evicted-requires g c =
+    may_give g.F.FnMut c.args.on_evicted.now (entries_of c.args.map.now) c.args.budget
+    c.loop-others.on_evicted (state_of c.loop-others.map) (state_of c.pop_front.new.self)
+    c.loop-others.others c.args.weight c.loop-others.invariant.dropped.last c.requires.not_too_heavy
+    c.loop-others-test.true c.loop-others.invariant.evicting _ c.in-Some.ensures.pops
 
 pub loop-others-preserved : goal.loop-others-preserved
 loop-others-preserved g c =
@@ -26,8 +37,15 @@ loop-others-preserved g c =
           (drops_one (state_of c.args.map.now) (state_of c.loop-others.map) (state_of c.pop_front.new.self)
           c.loop-others.others c.args.weight c.args.budget c.loop-others.invariant.dropped
           c.requires.not_too_heavy
-          c.loop-others-test.true (c.in-Some.field-0-0, (c.in-Some.field-0-1-0, c.in-Some.dropped))
+          c.loop-others-test.true _
           c.in-Some.ensures.pops).dropped;
+      evicting =
+          given g.F.FnMut c.args.on_evicted.now (entries_of c.args.map.now) c.args.budget
+          c.loop-others.on_evicted (state_of c.loop-others.map) (state_of c.pop_front.new.self)
+          c.loop-others.others c.args.weight c.loop-others.invariant.dropped.last
+          c.requires.not_too_heavy
+          c.loop-others-test.true c.loop-others.invariant.evicting _ c.in-Some.ensures.pops
+          c.on_evicted.new.self c.on_evicted.ensures;
       distinct = c.pop_front.ensures.distinct;
       room = refl;
     }
@@ -68,3 +86,9 @@ returns-clause-total g c =
     rw (left g c)
     (drops_enough (state_of c.args.map.now) (state_of c.loop-others.map) c.loop-others.others c.args.weight
     c.args.budget c.loop-others.invariant.dropped c.requires.not_too_heavy (fits g c)).1
+
+pub returns-clause-given : goal.returns-clause-given
+returns-clause-given g c =
+    given_all g.F.FnMut c.args.on_evicted.now (entries_of c.args.map.now) c.args.budget
+    c.loop-others.on_evicted (entries_of c.loop-others.map) c.loop-others.others c.args.weight
+    c.loop-others.invariant.dropped.last c.requires.not_too_heavy (fits g c) c.loop-others.invariant.evicting

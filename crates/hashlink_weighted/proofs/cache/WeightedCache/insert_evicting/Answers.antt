@@ -1,7 +1,7 @@
 use Rattle.std.proofs.Common.{◌≤◌, refl, ap, arith}
 use Rattle.hashlink_core.specs.Keyed.{state_of}
 use Rattle.hashlink_weighted.proofs.Inserted.{old_weight, leaves_last, accepts}
-use Rattle.hashlink_weighted.proofs.cache.WeightedCache.insert.Goals as goal
+use Rattle.hashlink_weighted.proofs.cache.WeightedCache.insert_evicting.Goals as goal
 
 pub overflow_sub-others : goal.overflow_sub-others
 overflow_sub-others g c =

@@ -1,0 +1,187 @@
+-- Which entry an insert evicts first, and what it leaves.
+use Rattle.std.specs.Prelude.{◌≡◌, ℕ, suc, ◌+◌, ◌-◌, ◌≤◌, ◌<◌, Bool, List, [], ◌∷◌, ◌++◌, length}
+use Rattle.std.specs.Prelude.{take, drop, nat_lt, Option, None, Some, Ok}
+use Rattle.std.specs.Map.{lookup, remove_entry}
+use Rattle.std.proofs.Common.{true, false, true≢false, is_some, cond, refl, ap, ap₂, sym, ◌∙◌, arith}
+use Rattle.std.proofs.lemmas.Bool.{lt-ltb, le-ltb, ltb-true, ltb-false}
+use Rattle.std.proofs.lemmas.List.{take-append-drop, length-append}
+use Rattle.std.proofs.lemmas.Option.{none-some, same_Some}
+use Rattle.hashlink_model.specs.Cache.{CacheState, CacheInserts, IsWithin, last_entries}
+use Rattle.hashlink_model.specs.Entries.{put, without, stored_key}
+use Rattle.hashlink_model.specs.Walk.{first_of}
+use Rattle.hashlink_model.proofs.Afterwards.{length-without_there}
+use Rattle.hashlink_model.proofs.Caches.{last_entries-within}
+use Rattle.hashlink_model.proofs.CacheSteps.{inserts_entries}
+use Rattle.hashlink_model.proofs.Puts.{put_back, put_back_absent}
+use Rattle.hashlink_model.proofs.Splits.{none_from_lookup, remove_entry-none, stands_from_lookup}
+use Rattle.hashlink_lru.specs.Evicted.{evicted_by}
+
+-- ---- the first of a list
+
+module _ {X : Type 0} where
+  pub first_of-some : (xs : List X) (x : X) → first_of xs ≡ Some x → xs ≡ x ∷ drop 1 xs
+  first_of-some [] x f = absurd (none-some x f)
+  first_of-some (y ∷ xs) x f = ap (λ z. z ∷ xs) (same_Some y x f)
+
+  first_of-none : (xs : List X) → first_of xs ≡ None → length xs ≡ 0
+  first_of-none [] f = refl
+  first_of-none (x ∷ xs) f = absurd (none-some x (sym f))
+
+-- ---- the others than the key's own entry
+
+none_by : {X : Type 0} (o : Option X) → is_some o ≡ false → o ≡ None
+none_by None a = refl
+none_by (Some x) a = absurd (true≢false a)
+
+some_by : {X : Type 0} (o : Option X) → is_some o ≡ true → (x : X) × (o ≡ Some x)
+some_by None f = absurd (true≢false (sym f))
+some_by (Some x) f = (x, refl)
+
+module _ {K V : Type 0} (test : K → Bool) (es : List (K × V)) where
+  others-absent : lookup test es ≡ None → remove_entry test es ≡ es
+  others-absent l = remove_entry-none test es (none_from_lookup test es l)
+
+  others-there : (w : V) → lookup test es ≡ Some w → length (remove_entry test es) + 1 ≡ length es
+  others-there w l = length-without_there (λ _. test) es (stands_from_lookup test es w l).1.0 w l
+
+  unfound : is_some (lookup test es) ≡ false → lookup test es ≡ None
+  unfound a = none_by (lookup test es) a
+
+  found : is_some (lookup test es) ≡ true → (w : V) × (lookup test es ≡ Some w)
+  found f = some_by (lookup test es) f
+
+  module _ (cap : ℕ) where
+    evicted-room : length (remove_entry test es) < cap → evicted_by test es cap ≡ None
+    evicted-room l = rw (lt-ltb (length (remove_entry test es)) cap l) refl
+
+    evicted-full : cap ≤ length (remove_entry test es)
+        → evicted_by test es cap ≡ first_of (remove_entry test es)
+    evicted-full l = rw (le-ltb (length (remove_entry test es)) cap l) refl
+
+    -- an absent key
+    pub evicted-absent_room : is_some (lookup test es) ≡ false → length es < cap
+        → evicted_by test es cap ≡ None
+    evicted-absent_room a l = let same = ap length (others-absent (unfound a)) in evicted-room (omega arith)
+
+    pub evicted-absent_full : is_some (lookup test es) ≡ false → cap ≤ length es
+        → evicted_by test es cap ≡ first_of es
+    evicted-absent_full a l =
+        let same = ap length (others-absent (unfound a)) in
+        evicted-full (omega arith) ∙ ap first_of (others-absent (unfound a))
+
+    -- a key that is there
+    pub evicted-there_room : is_some (lookup test es) ≡ true → length es ≤ cap
+        → evicted_by test es cap ≡ None
+    evicted-there_room f l =
+        let w = found f in let one = others-there w.0 w.1 in evicted-room (omega arith)
+
+    pub evicted-there_full : is_some (lookup test es) ≡ true → cap < length es
+        → evicted_by test es cap ≡ first_of (remove_entry test es)
+    evicted-there_full f l =
+        let w = found f in let one = others-there w.0 w.1 in evicted-full (omega arith)
+
+-- ---- what an insert evicts
+
+module _ {K V : Type 0} (eq : K → K → Bool) (es : List (K × V)) (cap : ℕ) (k : K) (v : V) where
+  abbrev All : List (K × V)
+  All = put eq es k v (length es)
+
+  abbrev Last : K × V
+  Last = (stored_key eq es k, v)
+
+  pub split : All ≡ without eq es k ++ Last ∷ []
+  split = put_back eq es k v
+
+  pub long : length All ≡ length (without eq es k) + 1
+  long = let a = length-append (without eq es k) (Last ∷ []) in ap length split ∙ a
+
+  -- what is named fills a place that the insert needs
+  named_by : (e : K × V) (b : Bool) → nat_lt (length (without eq es k)) cap ≡ b
+      → cond b None (first_of (without eq es k)) ≡ Some e
+      → (cap ≤ length (without eq es k)) × (first_of (without eq es k) ≡ Some e)
+  named_by e true t n = absurd (none-some e n)
+  named_by e false t n = (ltb-false (length (without eq es k)) cap t, n)
+
+  pub named : (e : K × V) → evicted_by (eq k) es cap ≡ Some e
+      → (cap ≤ length (without eq es k)) × (first_of (without eq es k) ≡ Some e)
+  named e n = named_by e (nat_lt (length (without eq es k)) cap) refl n
+
+  -- it stands first, and the insert keeps only what comes after it
+  pub named_first : (e : K × V) → evicted_by (eq k) es cap ≡ Some e
+      → (others : List (K × V)) × (All ≡ e ∷ others ++ last_entries All cap)
+  named_first e n =
+      let m = named e n in
+      let full = m.0 in
+      let rest = drop 1 (without eq es k) ++ Last ∷ [] in
+      let is : All ≡ e ∷ rest = split ∙ ap (λ zs. zs ++ Last ∷ []) (first_of-some (without eq es k) e m.1) in
+      let l = long in
+      let d = length All - cap - 1 in
+      let more : length All - cap ≡ suc d = omega arith in
+      let left : last_entries All cap ≡ drop d rest =
+      ap₂ drop more is in (
+        take d rest,
+        is ∙ ap (λ zs. e ∷ zs) (sym (take-append-drop d rest) ∙ ap (λ zs. take d rest ++ zs) (sym left)),
+      )
+
+  -- of a cache within its capacity
+  pub named_alone : (e : K × V) → evicted_by (eq k) es cap ≡ Some e → length es ≤ cap
+      → es ++ (k, v) ∷ [] ≡ e ∷ last_entries All cap
+  named_alone e n few = by (lookup (eq k) es) refl
+    where
+      by : (o : Option V) → lookup (eq k) es ≡ o → es ++ (k, v) ∷ [] ≡ e ∷ last_entries All cap
+      by None l =
+          let full = (named e n).0 in
+          let same : without eq es k ≡ es = others-absent (eq k) es l in
+          let all : All ≡ es ++ (k, v) ∷ [] = put_back_absent eq es k v (none_from_lookup (eq k) es l) in
+          let long_others = ap length same in
+          let l1 = long in
+          let one : length All - cap ≡ 1 = omega arith in
+          let first : es ≡ e ∷ drop 1 es =
+          first_of-some es e (ap first_of (sym same) ∙ (named e n).1) in
+          let left : last_entries All cap ≡ drop 1 (es ++ (k, v) ∷ []) = ap₂ drop one all in
+          let whole : es ++ (k, v) ∷ [] ≡ e ∷ (drop 1 es ++ (k, v) ∷ []) =
+          ap (λ zs. zs ++ (k, v) ∷ []) first in
+          whole ∙ ap (λ zs. e ∷ zs) (sym (left ∙ ap (drop 1) whole))
+      by (Some w) l =
+          let full = (named e n).0 in
+          let one = others-there (eq k) es w l in
+          absurd (omega arith)
+
+  -- where none is named there is a place
+  unnamed_by : (b : Bool) → nat_lt (length (without eq es k)) cap ≡ b
+      → cond b None (first_of (without eq es k)) ≡ None
+      → 1 ≤ cap
+      → length (without eq es k) < cap
+  unnamed_by true t n one = ltb-true (length (without eq es k)) cap t
+  unnamed_by false t n one = let none = first_of-none (without eq es k) n in omega arith
+
+  pub unnamed : evicted_by (eq k) es cap ≡ None → 1 ≤ cap → last_entries All cap ≡ All
+  unnamed n one =
+      let room = unnamed_by (nat_lt (length (without eq es k)) cap) refl n one in
+      let l = long in
+      last_entries-within All cap (omega arith)
+
+-- ---- the same of a cache
+
+module _ {K V S : Type 0} (eq : K → K → Bool) (old new : CacheState K V S) (k : K) (v : V) where
+  abbrev Put : List (K × V)
+  Put = put eq old.map.entries k v (length old.map.entries)
+
+  pub evicts_first : (w : Option V) (e : K × V) → CacheInserts eq old new k v (Ok w)
+      → evicted_by (eq k) old.map.entries old.cap ≡ Some e
+      → (others : List (K × V)) × (Put ≡ e ∷ others ++ new.map.entries)
+  evicts_first w e s n =
+      let f = named_first eq old.map.entries old.cap k v e n in
+      (f.0, f.1 ∙ ap (λ zs. e ∷ f.0 ++ zs) (sym (inserts_entries eq old new k v w s)))
+
+  pub evicts_alone : (w : Option V) (e : K × V) → CacheInserts eq old new k v (Ok w)
+      → evicted_by (eq k) old.map.entries old.cap ≡ Some e → IsWithin old 0
+      → old.map.entries ++ (k, v) ∷ [] ≡ e ∷ new.map.entries
+  evicts_alone w e s n within =
+      named_alone eq old.map.entries old.cap k v e n (omega arith)
+      ∙ ap (λ zs. e ∷ zs) (sym (inserts_entries eq old new k v w s))
+
+  pub evicts_none : (w : Option V) → CacheInserts eq old new k v (Ok w)
+      → evicted_by (eq k) old.map.entries old.cap ≡ None → 1 ≤ old.cap
+      → new.map.entries ≡ Put
+  evicts_none w s n one = inserts_entries eq old new k v w s ∙ unnamed eq old.map.entries old.cap k v n one

@@ -1,0 +1,101 @@
+-- The calls on the entries that are evicted.
+use Rattle.std.proofs.Common.{◌≡◌, ℕ, ◌-◌, ◌<◌, ◌≤◌, List, [], ◌∷◌, drop, Some, refl, sym, ap, ◌∙◌, subst}
+use Rattle.std.proofs.Common.{arith, ◌++◌, Bool, true, false, cond}
+use Rattle.std.specs.Prelude.{nat_le}
+use Rattle.std.specs.Fn.{Called, Mut, Takes}
+use Rattle.std.proofs.lemmas.Bool.{le-leb, lt-leb}
+use Rattle.std.proofs.lemmas.Option.{none-some, same_Some}
+use Rattle.hashlink_model.specs.MapState.{MapState}
+use Rattle.hashlink_model.specs.Steps.{PopsFront}
+use Rattle.hashlink_model.specs.Walk.{first_of}
+use Rattle.hashlink_model.specs.Weights.{fitting, total_weight}
+use Rattle.hashlink_weighted.specs.Evicted.{IsGivenEach, TakesEach, not_fitting}
+use Rattle.hashlink_weighted.specs.Weighed.{LastWeighs}
+use Rattle.hashlink_weighted.proofs.Dropping.{total-last}
+
+first_split : {X : Type 0} (xs : List X) (x : X) → Some x ≡ first_of xs → xs ≡ x ∷ drop 1 xs
+first_split [] x f = absurd (none-some x (sym f))
+first_split (y ∷ xs) x f = ap (λ z. z ∷ xs) (same_Some y x (sym f))
+
+module _ {K V : Type 0} where
+  -- the first of a list that weighs too much is evicted, and then those of the others that do not fit
+  not_fitting-first : (e : K × (V × ℕ)) (es : List (K × (V × ℕ))) (budget : ℕ)
+      → budget < total_weight (e ∷ es)
+      → not_fitting (e ∷ es) budget ≡ e ∷ not_fitting es budget
+  not_fitting-first e es budget l = rw (lt-leb (total_weight (e ∷ es)) budget l) refl
+
+  not_fitting-none : (es : List (K × (V × ℕ))) (budget : ℕ) → total_weight es ≤ budget
+      → not_fitting es budget ≡ []
+  not_fitting-none [] budget l = refl
+  not_fitting-none (e ∷ es) budget l = rw (le-leb (total_weight (e ∷ es)) budget l) refl
+
+  -- what is evicted stands before what stays
+  split_by : (e : K × (V × ℕ)) (es : List (K × (V × ℕ))) (budget : ℕ) (b : Bool)
+      → not_fitting es budget ++ fitting es budget ≡ es
+      → cond b [] (e ∷ not_fitting es budget) ++ cond b (e ∷ es) (fitting es budget) ≡ e ∷ es
+  split_by e es budget true s = refl
+  split_by e es budget false s = ap (λ zs. e ∷ zs) s
+
+  pub evicted_before : (es : List (K × (V × ℕ))) (budget : ℕ)
+      → not_fitting es budget ++ fitting es budget ≡ es
+  evicted_before [] budget = refl
+  evicted_before (e ∷ es) budget =
+      split_by e es budget (nat_le (total_weight (e ∷ es)) budget) (evicted_before es budget)
+
+module _ {F K V : Type 0} (calls : Mut F (K × (V × Unit {0})) (Unit {0})) (first : F)
+    (all : List (K × (V × ℕ)))
+    (budget : ℕ) where
+  -- how far the calls have come: f may be called on what is still to be evicted of `left`, and where these
+  -- calls end in a state all calls do
+  pub record Evicting (f : F) (left : List (K × (V × ℕ))) : Type 0 where
+    pub takes : TakesEach calls f (not_fitting left budget)
+    pub gives : (last : F) → IsGivenEach calls f (not_fitting left budget) last
+        → IsGivenEach calls first (not_fitting all budget) last
+
+  pub begins : TakesEach calls first (not_fitting all budget) → Evicting first all
+  begins t = record { takes = t; gives = λ last h. h }
+
+  module _ {S : Type 0} (f : F) (between new : MapState K (V × ℕ) S) (others weight : ℕ)
+      (last : LastWeighs between.entries others weight) (fits : weight ≤ budget)
+      (over : budget - weight < others) (s : Evicting f between.entries) (e : K × (V × ℕ))
+      (pops : PopsFront between new (Some e)) where
+    abbrev left : List (K × (V × ℕ))
+    left = new.entries
+
+    next : not_fitting between.entries budget ≡ e ∷ not_fitting left budget
+    next =
+        let t = total-last between.entries others weight last in
+        let heavy : budget < total_weight between.entries = omega arith in
+        let split : between.entries ≡ e ∷ left =
+        first_split between.entries e pops.answer ∙ ap (λ zs. e ∷ zs) (sym pops.step.entries) in
+        ap (λ zs. not_fitting zs budget) split
+        ∙ not_fitting-first e left budget (subst (λ zs. budget < total_weight zs) split heavy)
+
+    takes_next : TakesEach calls f (e ∷ not_fitting left budget)
+    takes_next = subst (TakesEach calls f) next s.takes
+
+    -- it may be called on the first
+    pub may_give : Takes calls f (e.0, (e.1.0, tt))
+    may_give = takes_next.at [] (not_fitting left budget) e f refl refl
+
+    -- and once it was, there is one less to come
+    pub given : (g : F) → Called calls f (e.0, (e.1.0, tt)) tt g → Evicting g left
+    given g call =
+        record {
+          takes =
+              record {
+                at = λ before after x h is gave.
+                    takes_next.at (e ∷ before) after x h (ap (λ zs. e ∷ zs) is) (g, call, gave);
+              };
+          gives = λ end rest.
+              s.gives end (subst (λ zs. IsGivenEach calls f zs end) (sym next) (g, call, rest));
+        }
+
+  -- none is to come where all fit
+  pub given_all : (f : F) (es : List (K × (V × ℕ))) (others weight : ℕ) → LastWeighs es others weight
+      → weight ≤ budget → others ≤ budget - weight → Evicting f es
+      → IsGivenEach calls first (not_fitting all budget) f
+  given_all f es others weight last n fits s =
+      let t = total-last es others weight last in
+      let light : total_weight es ≤ budget = omega arith in
+      s.gives f (subst (λ zs. IsGivenEach calls f zs f) (sym (not_fitting-none es budget light)) refl)
