@@ -63,6 +63,10 @@ class Model(Entries, Cursors):
             self.lend(name, key, words.optional(), answers)
         elif name == "back_value_mut":
             self.lend_last(words.optional(), answers)
+        elif name == "get_or_insert_with":
+            stands = self.or_insert((words.name(), words.name()), words.optional(), answers)
+            if stands:
+                answers.value(stands)
         else:
             self.call_take(name, words, answers)
 

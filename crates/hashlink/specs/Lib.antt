@@ -32,6 +32,7 @@ pub use Rattle.hashlink_map.specs.Entry as MapEntry
 pub use Rattle.hashlink_map.specs.EntryLends as MapEntryLends
 pub use Rattle.hashlink_map.specs.Extending
 pub use Rattle.hashlink_map.specs.Indexed
+pub use Rattle.hashlink_map.specs.InsertLends as MapInsertLends
 pub use Rattle.hashlink_map.specs.IterMut
 pub use Rattle.hashlink_map.specs.IterMutLends
 pub use Rattle.hashlink_map.specs.Lends as MapLends

@@ -8,6 +8,7 @@ pub mod Entry
 pub mod EntryLends
 pub mod Extending
 pub mod Indexed
+pub mod InsertLends
 pub mod IterMut
 pub mod IterMutLends
 pub mod Lends

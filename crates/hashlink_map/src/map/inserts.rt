@@ -1,6 +1,8 @@
 //! Inserts. Each one hashes the key once, and looks it up as `get` does.
-ghost use Rattle.std.specs.Prelude.{◌≡◌, [], ◌∷◌, ◌++◌, None, IfOk, IsOk, IsSome, OnOk, length};
+ghost use Rattle.std.specs.Prelude.{◌≡◌, [], ◌∷◌, ◌++◌, None, IfOk, IfErr, IsOk, IsSome, OnOk, length};
+ghost use Rattle.std.specs.Borrow.{sem};
 ghost use Rattle.std.specs.Map.{lookup};
+ghost use Rattle.std.specs.Option.{UnwrapsOrElse};
 ghost use Rattle.hashlink_model.specs.Entries.{IsEntries, place_or_end, put};
 ghost use Rattle.hashlink_model.specs.MapState.{Inserts};
 ghost use Rattle.hashlink_model.specs.Steps.{Replaces};
@@ -10,6 +12,8 @@ use super::LinkedHashMap;
 use std::hash::{BuildHasher, Hash};
 
 impl<K: Eq + Hash, V, S: BuildHasher> LinkedHashMap<K, V, S> {
+    ghost use Rattle.hashlink_map.specs.InsertLends.{LendsPutLast};
+
     /// Inserts the pair at the back, and returns the old value of the key if there was one. If the key is
     /// present, its entry keeps the stored key, takes the new value and moves to the back. It hashes the key
     /// once, and stores at most six links if the key is present and four if it is absent.
@@ -71,5 +75,42 @@ impl<K: Eq + Hash, V, S: BuildHasher> LinkedHashMap<K, V, S> {
         ensures distinct { IsEntries K.eq (entries_of self.new) }
     {
         self.list.replace(key, value)
+    }
+
+    /// Returns a mutable reference to the value of the key. If the key is present, its entry moves to the
+    /// back and `make` is not called. If it is absent, `make` has to be callable and is called once, and the
+    /// key is inserted at the back with what it returns. It hashes the key once, and stores at most six links
+    /// if the key is present and four if it is absent.
+    ///
+    /// It allocates only if the key is absent and no node is spare. If the table is full then, it grows
+    /// first, in linear time in the new capacity. If an allocation fails, it returns the key and the value
+    /// that was made in `Err` and changes no entry; the room may have grown.
+    pub fn get_or_insert_with<F: FnOnce() -> V>(
+        &mut self,
+        key: K,
+        make: F,
+    ) -> Result<&mut V, (K, V)>
+    where
+        K: Drop,
+        F: Drop,
+        requires { lookup (K.eq key) (entries_of self.old) ≡ None → F.pre make }
+        ensures* lends { sem 𝓛 (LendsPutLast K.row V.row S.row S.Hasher.row K.Hash
+            S.BuildHasher S.Hasher.Hasher self.entry key result) }
+        ensures value { IfOk result
+            (λ v. UnwrapsOrElse (lookup (K.eq key) (entries_of self.old)) (F.post make) v.now) }
+        ensures given { IfErr result (λ pair. pair.0 ≡ key) }
+        ensures made { IfErr result (λ pair. F.post make pair.1) }
+    {
+        let hash = self.list.hash_of(&key);
+        match self.list.find(hash, &key) {
+            Some(node) => {
+                self.move_to_back(node);
+                Ok(self.value_at_mut(node))
+            }
+            None => {
+                let node = self.push_back(hash, key, make())?;
+                Ok(self.value_at_mut(node))
+            }
+        }
     }
 }

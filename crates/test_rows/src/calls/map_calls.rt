@@ -95,6 +95,8 @@ pub enum MapCall {
     Lend(LendCall),
     /// What is written where the last value is lent.
     LendBack,
+    /// A key, what is made where it is absent, and what is written there.
+    GetOrInsertWith,
     /// A pair.
     Pair(PairCall),
     /// A number.
@@ -119,7 +121,7 @@ pub enum MapCall {
     EntryAt(AtEnd),
 }
 
-pub const MAP_CALLS: [(&str, MapCall); 53] = [
+pub const MAP_CALLS: [(&str, MapCall); 54] = [
     ("front", MapCall::Read(ReadCall::Front)),
     ("back", MapCall::Read(ReadCall::Back)),
     ("len", MapCall::Read(ReadCall::Len)),
@@ -140,6 +142,7 @@ pub const MAP_CALLS: [(&str, MapCall); 53] = [
     ("to_back", MapCall::Lend(LendCall::ToBack)),
     ("index_mut", MapCall::Lend(LendCall::IndexMut)),
     ("back_value_mut", MapCall::LendBack),
+    ("get_or_insert_with", MapCall::GetOrInsertWith),
     ("insert", MapCall::Pair(PairCall::Insert)),
     ("insert_front", MapCall::Pair(PairCall::InsertFront)),
     ("replace", MapCall::Pair(PairCall::Replace)),

@@ -10,8 +10,8 @@ use crate::calls::raw_entries::{call_end, call_raw, read_raw};
 use crate::calls::walks::Walked;
 use crate::items::{
     Answer, Answers, Home, Item, KEEPS, Keep, Name, Retain, Stop, Word, Words, given, given_item,
-    has_room, lent, lent_item, made, no_memory_after, put, rest_of, room, say_met, walk_and_clone,
-    walk_or_forget, walk_whole, write, write_item,
+    has_room, lent, lent_item, made, no_memory, no_memory_after, put, rest_of, room, say_met,
+    walk_and_clone, walk_or_forget, walk_whole, write, write_item,
 };
 use hashlink_map::{ExtendError, LinkedHashMap};
 use std::alloc::AllocError;
@@ -57,7 +57,30 @@ fn call_of_entry<S: BuildHasher + Copy>(
         MapCall::Raw => call_raw(map, home, words, answers),
         MapCall::RawRead => read_raw(map, home, words, answers),
         MapCall::EntryAt(end) => call_end(map, home, end, words, answers),
+        MapCall::GetOrInsertWith => get_or_make(map, home, words, answers),
         _ => Err(Stop::Unread),
+    }
+}
+
+fn get_or_make<S: BuildHasher>(
+    map: &mut Map<S>,
+    home: Home<'_>,
+    words: &mut Words<'_>,
+    answers: &mut Answers,
+) -> Result<(), Stop> {
+    let (key, value) = words.pair(home)?;
+    answers.give(get_or_insert(map, key, value, words.optional()))
+}
+
+fn get_or_insert<S: BuildHasher>(
+    map: &mut Map<S>,
+    key: Item,
+    value: Item,
+    new: Option<Name>,
+) -> Answer {
+    match map.get_or_insert_with(key, || value) {
+        Ok(lent) => Answer::Word(write_item(lent, new)),
+        Err(pair) => no_memory(pair),
     }
 }
 
