@@ -1,5 +1,5 @@
 -- What a text says is what is read of it: a line is read as the one whose spelling it is.
-use Rattle.std.proofs.Common.{◌≡◌, ◌↔◌, ℕ, ◌^◌, ◌<◌, ◌⊎◌, Bool, true, false, ◌&&◌, cond, not, nat_eq, nat_lt}
+use Rattle.std.proofs.Common.{◌≡◌, ℕ, ◌^◌, ◌<◌, ◌⊎◌, Bool, true, false, ◌&&◌, cond, not, nat_eq, nat_lt}
 use Rattle.std.proofs.Common.{List, [], ◌∷◌, length, get_or, zero, suc, Option, None, Some, option_and_then}
 use Rattle.std.proofs.Common.{map, decimal, refl, sym, ap, ◌∙◌, subst, inl, inr, ⊎_elim, arith, lit<}
 use Rattle.std.specs.Map.{lookup}

@@ -20,10 +20,9 @@ use Rattle.hashlink_run.specs.declared.commands.CursorStep.TheVariants.{Next, Pr
 use Rattle.hashlink_run.specs.declared.commands.CursorStep.TheVariants.{PeekPrev, Before, After}
 use Rattle.hashlink_run.specs.declared.commands.EntryStep.{EntryStep}
 use Rattle.hashlink_run.specs.declared.commands.EntryStep.TheVariants as step
-use Rattle.hashlink_text.specs.Lines.{words_of, number_of}
+use Rattle.hashlink_text.specs.Lines.{number_of}
 use Rattle.hashlink_text.specs.Spelling.{Word, Name, Number, Said, Do, Cursor, Iter, spelled, step_spelled}
-use Rattle.hashlink_text.specs.Spelling.{cursor_step_words, cache_spelled, pair_spelled, weighted_spelled}
-use Rattle.hashlink_text.specs.Spelling.{mode_spelled}
+use Rattle.hashlink_text.specs.Spelling.{cursor_step_words}
 use Rattle.hashlink_text.specs.Tables.{numbers_of}
 use Rattle.hashlink_text.specs.declared.cache_line.CacheLine.{CacheLine}
 use Rattle.hashlink_text.specs.declared.cache_line.CacheLine.TheVariants as cache_line
