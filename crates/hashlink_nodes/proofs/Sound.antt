@@ -35,9 +35,6 @@ module _ (P : Node → Type 0) where
   of_head b xs [] p h = p
   of_head b xs (y ∷ ys) p h = (all_right P xs (y ∷ ys) h).0
 
-pub none_some : {X : Type 0} {x : X} → None ≡ Some x → ⊥
-none_some e = cc
-
 pub same_some : {X : Type 0} {x y : X} → Some x ≡ Some y → x ≡ y
 same_some e = cc
 
