@@ -1,5 +1,5 @@
 -- What a caller's proof cites of maps, sets and caches, with the dependency `hashlink` alone. Each lemma says
--- which goal it closes. A state is what `state_of` shows of a map, `state_in` of a cache, and a set itself.
+-- which goal it closes. A state is what `state_of` shows of a map, `state_of` of a cache, and a set itself.
 use Rattle.std.proofs.Common.{◌≡◌, ℕ, zero, suc, ◌-◌, ◌≤◌, ◌<◌, Bool, true, false, cond, not, is_some, List}
 use Rattle.std.proofs.Common.{[], ◌∷◌, ◌++◌}
 use Rattle.std.proofs.Common.{length, take, drop, Option, None, Some, Result, Ok, Err, refl, sym, ap, subst}

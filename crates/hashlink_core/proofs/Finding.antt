@@ -48,7 +48,8 @@ read-from (Some h) key value is =
     (h, refl, sym (ap (λ q. q.0) same))
 
 -- the answers of a test that tells the keys equal to k from the others
-pub told : {K F : Type 0} {calls : Shared F (Bor K × Unit {0}) Bool} {eq : K → K → Bool} (laws : IsEquivalence eq)
+pub told : {K F : Type 0} {calls : Shared F (Bor K × Unit {0}) Bool} {eq : K → K → Bool}
+    (laws : IsEquivalence eq)
     {hash : K → ℕ} {held : List K} {test : F} {asked : ℕ} {k : K}
     → Tells calls eq hash held test asked k → (x : K) (b : Bool) → Contains held x
     → FnReturnsAt calls test x b
@@ -64,7 +65,8 @@ pub key-held : {K V : Type 0} (es : List (Node × Held K V)) (n : Node) (h : Hel
 key-held [] n h is = absurd (cc is)
 key-held (e ∷ es) n h is =
     elim (same_node n e.0) as
-    (λ b. cond b (Some e.1) (lookup (same_node n) es) ≡ Some h → Contains (e.1.key ∷ keys_of (pairs_in es)) h.key) [
+    (λ b. cond b (Some e.1) (lookup (same_node n) es) ≡ Some h
+    → Contains (e.1.key ∷ keys_of (pairs_in es)) h.key) [
       | true ↦ λ is. (0, omega arith, ap (λ g. g.key) (same_Some _ _ is))
       | false ↦ λ is. let rest = key-held es n h is in (suc rest.0, omega (arith, rest.1), rest.2)
     ] is

@@ -18,41 +18,43 @@ use Rattle.hashlink_nodes.specs.declared.node.Node.{Node}
 use Rattle.hashlink_nodes.specs.declared.held.Held.{Held}
 use Rattle.hashlink_nodes.specs.Node.{same_node, same_node_equiv, eq-same_node}
 use Rattle.hashlink_table.specs.Contents.{Contents, Keeps}
-use Rattle.hashlink_table.specs.declared.kept.Kept.{Kept}
+use Rattle.hashlink_table.specs.declared.hashed.Hashed.{Hashed}
 use Rattle.hashlink_core.specs.Keyed.{pairs_in}
 use Rattle.hashlink_core.specs.Tied.{IsTied, IsListed, IsNumbered, short}
 
-abbrev pub kept : ℕ → Node → Kept Node
+abbrev pub kept : ℕ → Node → Hashed Node
 kept number n = record { hash = number; node = n }
 
 -- ---- the nodes of a table
-abbrev pub table_nodes : List (Kept Node) → List Node
+abbrev pub table_nodes : List (Hashed Node) → List Node
 table_nodes ks = map (λ k. k.node) ks
 
 -- what a list has after one more is that one, or was there
-contains-cases : (k : Kept Node) (ks : List (Kept Node)) (j : Kept Node) → Contains (k ∷ ks) j
+contains-cases : (k : Hashed Node) (ks : List (Hashed Node)) (j : Hashed Node) → Contains (k ∷ ks) j
     → (k ≡ j) ⊎ Contains ks j
 contains-cases k ks j (zero, lt, is) = inl is
 contains-cases k ks j (suc i, lt, is) = inr (i, omega arith, is)
 
-contains-later : (k : Kept Node) (ks : List (Kept Node)) (j : Kept Node) → Contains ks j → Contains (k ∷ ks) j
+contains-later : (k : Hashed Node) (ks : List (Hashed Node)) (j : Hashed Node) → Contains ks j
+    → Contains (k ∷ ks) j
 contains-later k ks j (i, lt, is) = (suc i, omega arith, is)
 
 -- what each node passes, each of them does
-each-kept : (P : Node → Type 0) (ks : List (Kept Node)) → ((j : Kept Node) → Contains ks j → P j.node)
+each-kept : (P : Node → Type 0) (ks : List (Hashed Node)) → ((j : Hashed Node) → Contains ks j → P j.node)
     → AllByRecursion P (table_nodes ks)
 each-kept P [] all = tt
 each-kept P (k ∷ ks) all =
     (all k (0, omega arith, refl), each-kept P ks (λ j there. all j (contains-later k ks j there)))
 
-kept-each : (P : Node → Type 0) (ks : List (Kept Node)) → AllByRecursion P (table_nodes ks) → (j : Kept Node)
+kept-each : (P : Node → Type 0) (ks : List (Hashed Node)) → AllByRecursion P (table_nodes ks)
+    → (j : Hashed Node)
     → Contains ks j → P j.node
 kept-each P [] all j there = absurd (omega arith)
 kept-each P (k ∷ ks) all j there =
     elim (contains-cases k ks j there) as (λ _. P j.node)
-    [ inl e ↦ subst (λ (k : Kept Node). P k.node) e all.0 | inr e ↦ kept-each P ks all.1 j e ]
+    [ inl e ↦ subst (λ (k : Hashed Node). P k.node) e all.0 | inr e ↦ kept-each P ks all.1 j e ]
 
-once-permuted : (ks js : List (Kept Node)) → IsPermutation ks js → IsDistinct same_node (table_nodes ks)
+once-permuted : (ks js : List (Hashed Node)) → IsPermutation ks js → IsDistinct same_node (table_nodes ks)
     → IsDistinct same_node (table_nodes js)
 once-permuted ks js same =
     IsDistinct-IsPermutation same_node same_node_equiv.symm (table_nodes ks) (table_nodes js)
@@ -136,8 +138,8 @@ module _ {K V : Type 0} where
               | inl e ↦
                   record {
                     held = h;
-                    here = ap (λ (k : Kept Node). lookup (same_node k.node) es) (sym e) ∙ with-here;
-                    is = ap (λ (k : Kept Node). k.hash) e;
+                    here = ap (λ (k : Hashed Node). lookup (same_node k.node) es) (sym e) ∙ with-here;
+                    is = ap (λ (k : Hashed Node). k.hash) e;
                   }
               | inr e ↦
                   let old = tied.listed number m e in
@@ -160,7 +162,7 @@ module _ {K V : Type 0} where
                 (tied.kept m g (with-rest m g found)))) as (λ _. Keeps u g.number m) [
                   | inl e ↦
                       let apart = with-apart m g found in
-                      let same : n ≡ m = ap (λ (k : Kept Node). k.node) e in
+                      let same : n ≡ m = ap (λ (k : Hashed Node). k.node) e in
                       absurd (cc (sym apart ∙ ap (same_node n) (sym same) ∙ same_node_equiv.refl n))
                   | inr e ↦ e
                 ];

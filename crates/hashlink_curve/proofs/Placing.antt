@@ -268,7 +268,8 @@ puts_last eq laws old new k v w d there s =
     let stored = stored_key eq old.entries k in
     ap (λ m. m.entries) s.writes
     ∙ ap (λ es. set_value (eq k) es w)
-    (s.moves.entries ∙ moved-there eq old.entries k (length old.entries) v there ∙ put_back eq old.entries k v)
+    (s.moves.entries ∙ moved-there eq old.entries k (length old.entries) v there
+    ∙ put_back eq old.entries k v)
     ∙ set_value-here (eq k) (stored, v) [] (stored_key-equal eq laws k old.entries) w left
     (none_without eq laws old.entries k d)
     ∙ sym (put_back eq old.entries k w)

@@ -6,7 +6,8 @@ use Rattle.hashlink_model.specs.Cache.{CacheState, CacheInserts, CacheGets, Cach
 use Rattle.hashlink_model.specs.Cache.{OnMap}
 use Rattle.hashlink_model.specs.Cache.{InsertsLast, InsertsThenFits}
 use Rattle.hashlink_model.specs.MapState.{MapState, empty_map}
-use Rattle.hashlink_core.specs.Keyed.{Keyed, entries_of, state_of}
+use Rattle.hashlink_core.specs.Keyed as keyed
+use Rattle.hashlink_core.specs.Keyed.{Keyed}
 use Rattle.hashlink_map.specs.EntryLends.{PutsLast}
 use Rattle.hashlink_map.specs.declared.try_insert_error.TryInsertError.{TryInsertError}
 use Rattle.hashlink_map.specs.declared.try_insert_error.TryInsertError.TheVariants.{Make, Memory}
@@ -63,16 +64,16 @@ module _ {K V S : Type 0} (eq : K → K → Bool) where
 
 module _ {K V S T : Type 0} where
   -- the map of a cache
-  abbrev pub map_in : LruCache K V S T → Keyed K V S
-  map_in c = c.map
+  abbrev pub map_of : LruCache K V S T → Keyed K V S
+  map_of c = c.map
 
   -- the pairs, in order
-  abbrev pub entries_in : LruCache K V S T → List (K × V)
-  entries_in c = entries_of c.map
+  abbrev pub entries_of : LruCache K V S T → List (K × V)
+  entries_of c = keyed.entries_of c.map
 
   -- the map's state and the capacity
-  abbrev pub state_in : LruCache K V S T → CacheState K V S
-  state_in c = record { map = state_of c.map; cap = c.capacity }
+  abbrev pub state_of : LruCache K V S T → CacheState K V S
+  state_of c = record { map = keyed.state_of c.map; cap = c.capacity }
 
   -- the same cache with another map
   abbrev pub with_map : LruCache K V S T → Keyed K V S → LruCache K V S T

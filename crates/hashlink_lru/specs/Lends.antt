@@ -14,7 +14,7 @@ use Rattle.hashlink_map.specs.declared.try_insert_error.TryInsertError.{TryInser
 use Rattle.hashlink_lru.specs.contracts.cache.LruCache.{the_row}
 use Rattle.hashlink_lru.specs.declared.cache.LruCache.{LruCache}
 use Rattle.hashlink_lru.specs.Cached.{FailsToUse, SameCapacity, StaysWithin, StaysWithinOne, UsesAndWrites}
-use Rattle.hashlink_lru.specs.Cached.{entries_in, state_in, with_map}
+use Rattle.hashlink_lru.specs.Cached.{entries_of, state_of, with_map}
 
 module _ (K V S T : RattleType) (g : HashMembers K.Denot) (b : builder.Ghosts S.Denot T.Denot)
     (w : hasher.Ghosts T.Denot) where
@@ -36,9 +36,9 @@ module _ (K V S T : RattleType) (g : HashMembers K.Denot) (b : builder.Ghosts S.
     abbrev pub LendsUsedOrNew : K.Denot → Result (MutBor V.Denot) (K.Denot × V.Denot) → Fml
     LendsUsedOrNew k r =
         LendsSoOk cache_row V c r
-        (λ new v. UsesAndWrites g.eq (state_in c.now) (state_in new) k v
-        × StaysWithinOne (state_in c.now) (state_in new))
-        (λ new. IfErr r (λ pair. CacheInserts g.eq (state_in c.now) (state_in new) k pair.1 (Err pair)))
+        (λ new v. UsesAndWrites g.eq (state_of c.now) (state_of new) k v
+        × StaysWithinOne (state_of c.now) (state_of new))
+        (λ new. IfErr r (λ pair. CacheInserts g.eq (state_of c.now) (state_of new) k pair.1 (Err pair)))
 
     -- the same where what makes the value may fail
     abbrev pub LendsUsedOrTryNew : {E : Type 0} → K.Denot
@@ -46,9 +46,9 @@ module _ (K V S T : RattleType) (g : HashMembers K.Denot) (b : builder.Ghosts S.
         → Fml
     LendsUsedOrTryNew k r =
         LendsSoOk cache_row V c r
-        (λ new v. UsesAndWrites g.eq (state_in c.now) (state_in new) k v
-        × StaysWithinOne (state_in c.now) (state_in new))
-        (λ new. IfErr r (FailsToUse g.eq (state_in c.now) (state_in new) k))
+        (λ new v. UsesAndWrites g.eq (state_of c.now) (state_of new) k v
+        × StaysWithinOne (state_of c.now) (state_of new))
+        (λ new. IfErr r (FailsToUse g.eq (state_of c.now) (state_of new) k))
 
     module _ (test : K.Denot → Bool) where
       -- the value of the first key that passes is lent where it stands: the cache ends with what was written
@@ -58,9 +58,9 @@ module _ (K V S T : RattleType) (g : HashMembers K.Denot) (b : builder.Ghosts S.
       LendsValueIn r =
           LendsSo cache_row V c r
           (λ new v. SameCapacity c.now new × OnSome r
-          ((state_in new ≡ record (state_in c.now) { map = with_match_value test (state_in c.now).map v })
-          × StaysWithin (state_in c.now) (state_in new)))
-          (λ new. state_in new ≡ state_in c.now)
+          ((state_of new ≡ record (state_of c.now) { map = with_match_value test (state_of c.now).map v })
+          × StaysWithin (state_of c.now) (state_of new)))
+          (λ new. state_of new ≡ state_of c.now)
 
       -- it moved last, and its value is lent: the cache ends with what was written there, and where none
       -- passes as it was. No more entries are beyond the capacity than before
@@ -68,15 +68,15 @@ module _ (K V S T : RattleType) (g : HashMembers K.Denot) (b : builder.Ghosts S.
       LendsUsed r =
           LendsSo cache_row V c r
           (λ new v. SameCapacity c.now new × OnSome r
-          (CacheGetsMatchAndWrites test (state_in c.now) (state_in new) v
-          × StaysWithin (state_in c.now) (state_in new)))
-          (λ new. state_in new ≡ state_in c.now)
+          (CacheGetsMatchAndWrites test (state_of c.now) (state_of new) v
+          × StaysWithin (state_of c.now) (state_of new)))
+          (λ new. state_of new ≡ state_of c.now)
 
       -- it moved last, where one passes, with the value that stands, and no more entries are beyond the
       -- capacity than before
       abbrev pub EndsUsed : Option V.Denot → Fml
       EndsUsed r =
           follows_so cache_row cache_row c.ghost_name none (λ _ _. ⊤)
-          (λ new. CacheGetsMatch test (state_in c.now) (state_in new) r
-          × StaysWithin (state_in c.now) (state_in new)
-          × (entries_in new ≡ moved_match test (entries_in c.now) (length (entries_in c.now))))
+          (λ new. CacheGetsMatch test (state_of c.now) (state_of new) r
+          × StaysWithin (state_of c.now) (state_of new)
+          × (entries_of new ≡ moved_match test (entries_of c.now) (length (entries_of c.now))))

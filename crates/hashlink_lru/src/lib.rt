@@ -3,8 +3,8 @@
 #![tactic(auto)]
 
 mod cache;
+mod debug;
 pub mod laws;
-mod texts;
 
 pub use cache::LruCache;
 pub use hashlink_map::{

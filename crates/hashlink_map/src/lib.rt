@@ -7,6 +7,7 @@ mod at_place;
 mod clone;
 mod compare;
 mod cursor;
+mod debug;
 mod drain;
 mod entry;
 mod extend;
@@ -17,7 +18,6 @@ mod iter_mut;
 mod map;
 mod places_left;
 mod raw_entry;
-mod texts;
 mod try_insert_error;
 mod values_mut;
 

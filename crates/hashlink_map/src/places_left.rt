@@ -26,8 +26,8 @@ impl PlacesLeft {
             ≡ writing_walk (state_of map.now) 0 (length (entries_of map.now)) }
     {
         PlacesLeft {
-            first: map.list.first(),
-            last: map.list.last(),
+            first: map.list.front(),
+            last: map.list.back(),
             left: map.list.len(),
         }
     }

@@ -124,7 +124,8 @@ module _ {K V : Type 0} where
       let few = cache_put-at_most eq es cap p.0 p.1 in
       cache_extended-at_most eq (cache_put eq es cap p.0 p.1) cap n pairs c (omega arith)
 
-  pub cache_use-at_most : (eq : K → K → Bool) (es : List (K × V)) (cap n : ℕ) (k : K) (v : V) → cap ≤ n → length es ≤ n
+  pub cache_use-at_most : (eq : K → K → Bool) (es : List (K × V)) (cap n : ℕ) (k : K) (v : V) → cap ≤ n
+      → length es ≤ n
       → length (cache_use eq es cap k v) ≤ n
   cache_use-at_most eq es cap n k v c m = by (lookup (eq k) es)
     where

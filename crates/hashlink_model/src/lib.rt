@@ -8,7 +8,7 @@ pub mod compare;
 pub mod cursor;
 pub mod entries;
 pub mod entry;
-pub mod many;
+pub mod extending;
 pub mod retain;
 pub mod sets;
 pub mod states;

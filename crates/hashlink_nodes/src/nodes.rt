@@ -22,8 +22,8 @@ use std::marker::Model;
 /// own.
 pub struct Nodes<K, V> {
     cells: Cells<K, V>,
-    // It lies apart from `spare`. Side by side both are read by one instruction, which waits where one of them was
-    // just written.
+    // It lies apart from `spare`. Side by side both are read by one instruction, which waits where one of
+    // them was just written.
     len: usize,
     // The guard links the last entry to the first. The first push makes it.
     guard: Option<Node>,

@@ -1,6 +1,6 @@
 //! Lists of commands to a cache.
 ghost use Rattle.std.specs.Prelude.{◌≡◌, [], IfOk, IsOk, OnOk, OnErr};
-ghost use Rattle.hashlink_lru.specs.Cached.{entries_in, state_in};
+ghost use Rattle.hashlink_lru.specs.Cached.{entries_of, state_of};
 ghost use Rattle.hashlink_model.specs.Entries.{IsEntries};
 ghost use Rattle.hashlink_run.specs.CacheRun.{LawfulCacheRun, ShownByCache, StaysBounded};
 ghost use Rattle.hashlink_run.specs.Reads.{CallableOn, ClosureSays};
@@ -32,19 +32,19 @@ where
     S: BuildHasher,
     F: Fn(&K, &V) -> bool,
     requires { CallableOn F.Fn keep.now
-        (ShownByCache K.eq (ClosureSays F.Fn keep.now) (state_in cache.old) commands.items) }
+        (ShownByCache K.eq (ClosureSays F.Fn keep.now) (state_of cache.old) commands.items) }
 
     // The replies and the state at the end are those of a chain of steps. Along these the nodes stay within
     // the peak, and none runs out of memory once an insert has evicted a pair. The length stays within a
     // bound by the capacity, and an insert that succeeds brings it within the capacity.
     ensures ran { IfOk result
-        (λ replies. LawfulCacheRun K.eq (ClosureSays F.Fn keep.now) (state_in cache.old)
+        (λ replies. LawfulCacheRun K.eq (ClosureSays F.Fn keep.now) (state_of cache.old)
         commands.items replies.items
-        (state_in cache.new)) }
+        (state_of cache.new)) }
     ensures refused { OnErr result (cache.new ≡ cache.old) }
     ensures none { commands.items ≡ [] → IsOk result }
-    ensures bounded { OnOk result (StaysBounded (state_in cache.old) commands.items (state_in cache.new)) }
-    ensures distinct { OnOk result (IsEntries K.eq (entries_in cache.new)) }
+    ensures bounded { OnOk result (StaysBounded (state_of cache.old) commands.items (state_of cache.new)) }
+    ensures distinct { OnOk result (IsEntries K.eq (entries_of cache.new)) }
 {
     let mut replies = Vec::with_capacity(cache.allocator(), commands.len())?;
     for command in commands {

@@ -2,7 +2,7 @@
 ghost use Rattle.std.specs.Prelude.{◌≡◌, [], ◌∷◌, Some};
 ghost use Rattle.std.specs.Map.{lookup, lookup_entry};
 ghost use Rattle.hashlink_run.specs.declared.cache_commands.CacheCommand.TheVariants.{Use};
-ghost use Rattle.hashlink_lru.specs.Cached.{entries_in, state_in};
+ghost use Rattle.hashlink_lru.specs.Cached.{entries_of, state_of};
 ghost use Rattle.hashlink_model.specs.Cache.{CacheGets};
 ghost use Rattle.hashlink_run.specs.CacheStep.{CacheStep, ReadFromCache};
 ghost use Rattle.hashlink_run.specs.Reads.{CallableOn, ClosureSays, SaysOf};
@@ -24,9 +24,9 @@ where
     V: Drop,
     S: BuildHasher,
     F: Fn(&K, &V) -> B,
-    requires { CallableOn F.Fn says.now (ReadFromCache K.eq (state_in cache.old) command) }
-    ensures { CacheStep K.eq (ClosureSays F.Fn says.now) (state_in cache.old) command (result ∷ [])
-        (state_in cache.new) }
+    requires { CallableOn F.Fn says.now (ReadFromCache K.eq (state_of cache.old) command) }
+    ensures { CacheStep K.eq (ClosureSays F.Fn says.now) (state_of cache.old) command (result ∷ [])
+        (state_of cache.new) }
 {
     match command {
         CacheCommand::Insert(key, value) => insert_reply(cache.insert(key, value)),
@@ -64,9 +64,9 @@ where
     S: BuildHasher,
     F: Fn(&K, &V) -> B,
     requires { CallableOn F.Fn says.now
-        (λ pair. lookup_entry (K.eq key) (entries_in cache.old) ≡ Some pair) }
-    ensures { CacheStep K.eq (ClosureSays F.Fn says.now) (state_in cache.old) (Use key value) (result ∷ [])
-        (state_in cache.new) }
+        (λ pair. lookup_entry (K.eq key) (entries_of cache.old) ≡ Some pair) }
+    ensures { CacheStep K.eq (ClosureSays F.Fn says.now) (state_of cache.old) (Use key value) (result ∷ [])
+        (state_of cache.new) }
 {
     match said_of_get(cache, &key, says) {
         Some(said) => Reply::Seen(Some(said)),
@@ -84,11 +84,11 @@ where
     S: BuildHasher,
     F: Fn(&K, &V) -> B,
     requires { CallableOn F.Fn says.now
-        (λ pair. lookup_entry (K.eq key.now) (entries_in cache.old) ≡ Some pair) }
-    ensures gets { CacheGets K.eq (state_in cache.old) (state_in cache.new) key.now
-        (lookup (K.eq key.now) (entries_in cache.old)) }
+        (λ pair. lookup_entry (K.eq key.now) (entries_of cache.old) ≡ Some pair) }
+    ensures gets { CacheGets K.eq (state_of cache.old) (state_of cache.new) key.now
+        (lookup (K.eq key.now) (entries_of cache.old)) }
     ensures said { SaysOf (ClosureSays F.Fn says.now)
-        (lookup_entry (K.eq key.now) (entries_in cache.old)) result }
+        (lookup_entry (K.eq key.now) (entries_of cache.old)) result }
 {
     let said = said_of(cache.raw_entry().from_key(key), says);
     cache.get(key);

@@ -1,7 +1,7 @@
 //! Calls of caches in turn, which end if memory runs out.
 ghost use Rattle.std.specs.Prelude.{◌≡◌, ◌≤◌, [], ◌∷◌, map, IfOk, IsOk, OnOk, OnErr};
 ghost use Rattle.hashlink_core.specs.Hashing.{default_builder};
-ghost use Rattle.hashlink_lru.specs.Cached.{entries_in, state_in};
+ghost use Rattle.hashlink_lru.specs.Cached.{entries_of, state_of};
 ghost use Rattle.hashlink_model.specs.Cache.{CacheUses};
 ghost use Rattle.hashlink_model.specs.Entries.{IsEntries};
 ghost use Rattle.hashlink_run.specs.CacheCalls.{EventRefused, EventStep, RunsFromEmpty, event_of, use_of};
@@ -55,23 +55,23 @@ where
     // The replies of each cache and the state at its end are those of a chain of steps in which no insert
     // fails.
     ensures small { IfOk result (λ pair. RunsFromEmpty K.eq default_builder small_capacity
-        (map event_of commands.now) pair.small_replies.items (state_in pair.small)) }
+        (map event_of commands.now) pair.small_replies.items (state_of pair.small)) }
     ensures large { IfOk result (λ pair. RunsFromEmpty K.eq default_builder large_capacity
-        (map event_of commands.now) pair.large_replies.items (state_in pair.large)) }
+        (map event_of commands.now) pair.large_replies.items (state_of pair.large)) }
 
     // The smaller cache holds an end of the larger one's keys, and found nothing that the larger one did not.
-    ensures inclusion { IfOk result (λ pair. Includes K.eq (map event_of commands.now) (entries_in pair.small)
-        (entries_in pair.large) pair.small_replies.items pair.large_replies.items) }
+    ensures inclusion { IfOk result (λ pair. Includes K.eq (map event_of commands.now) (entries_of pair.small)
+        (entries_of pair.large) pair.small_replies.items pair.large_replies.items) }
 
     // Each cache holds and found what the history of uses says.
     ensures small_history { IfOk result
         (λ pair. FollowsHistory K.eq (map event_of commands.now) small_capacity
-        (entries_in pair.small) pair.small_replies.items) }
+        (entries_of pair.small) pair.small_replies.items) }
     ensures large_history { IfOk result
         (λ pair. FollowsHistory K.eq (map event_of commands.now) large_capacity
-        (entries_in pair.large) pair.large_replies.items) }
-    ensures small_distinct { IfOk result (λ pair. IsEntries K.eq (entries_in pair.small)) }
-    ensures large_distinct { IfOk result (λ pair. IsEntries K.eq (entries_in pair.large)) }
+        (entries_of pair.large) pair.large_replies.items) }
+    ensures small_distinct { IfOk result (λ pair. IsEntries K.eq (entries_of pair.small)) }
+    ensures large_distinct { IfOk result (λ pair. IsEntries K.eq (entries_of pair.large)) }
     ensures none { commands.now ≡ [] → IsOk result }
 {
     let (small, small_replies) = run_calls(alloc, small_capacity, commands)?;
@@ -98,17 +98,17 @@ where
     V: Copy,
     // The replies and the state at the end are those of a chain of steps in which no insert fails.
     ensures ran { IfOk result (λ uses. RunsFromEmpty K.eq default_builder capacity (map use_of pairs.now)
-        uses.replies.items (state_in uses.cache)) }
+        uses.replies.items (state_of uses.cache)) }
 
     // The cache holds and found what the history of the uses says. It missed as often as that says, and not
     // many times more than any other rule of replacement would.
     ensures history { IfOk result (λ uses. FollowsHistory K.eq (map use_of pairs.now) capacity
-        (entries_in uses.cache) uses.replies.items) }
+        (entries_of uses.cache) uses.replies.items) }
     ensures misses { IfOk result (λ uses. MissesOfHistory K.eq capacity (map (λ p. p.0) pairs.now)
         uses.replies.items) }
     ensures comparison { IfOk result (λ uses. BearsComparison K.eq capacity (map (λ p. p.0) pairs.now)
         uses.replies.items) }
-    ensures distinct { IfOk result (λ uses. IsEntries K.eq (entries_in uses.cache)) }
+    ensures distinct { IfOk result (λ uses. IsEntries K.eq (entries_of uses.cache)) }
     ensures none { pairs.now ≡ [] → IsOk result }
 {
     let mut cache = LruCache::new(alloc, capacity);
@@ -129,7 +129,7 @@ where
     K: Eq + Hash + Copy,
     V: Copy,
     ensures ran { IfOk result (λ ran. RunsFromEmpty K.eq default_builder capacity (map event_of commands.now)
-        ran.1.items (state_in ran.0)) }
+        ran.1.items (state_of ran.0)) }
     ensures none { commands.now ≡ [] → IsOk result }
 {
     let mut cache = LruCache::new(alloc, capacity);
@@ -152,11 +152,11 @@ pub fn answer_call<K, V>(
 where
     K: Eq + Hash + Copy,
     V: Copy,
-    ensures answered { IfOk result (λ answer. EventStep K.eq (state_in cache.old) (event_of command)
-        (answer ∷ []) (state_in cache.new)) }
-    ensures refused { OnErr result (EventRefused K.eq (state_in cache.old) (event_of command)
-        (state_in cache.new)) }
-    ensures capacity { (state_in cache.new).cap ≡ (state_in cache.old).cap }
+    ensures answered { IfOk result (λ answer. EventStep K.eq (state_of cache.old) (event_of command)
+        (answer ∷ []) (state_of cache.new)) }
+    ensures refused { OnErr result (EventRefused K.eq (state_of cache.old) (event_of command)
+        (state_of cache.new)) }
+    ensures capacity { (state_of cache.new).cap ≡ (state_of cache.old).cap }
 {
     match command {
         PairCommand::Insert(key, value) => cache.insert(key, value).map_err(|_| AllocError),
@@ -172,9 +172,9 @@ fn use_pair<K, V>(cache: &mut LruCache<K, V>, key: K, value: V) -> Result<Option
 where
     K: Eq + Hash + Copy,
     V: Copy,
-    ensures uses { CacheUses K.eq (state_in cache.old) (state_in cache.new) key value result }
-    ensures recent { OnOk result (UsedLast K.eq (state_in cache.old).cap (entries_in cache.old) key
-        (entries_in cache.new)) }
+    ensures uses { CacheUses K.eq (state_of cache.old) (state_of cache.new) key value result }
+    ensures recent { OnOk result (UsedLast K.eq (state_of cache.old).cap (entries_of cache.old) key
+        (entries_of cache.new)) }
 {
     match cache.get(&key).copied() {
         Some(found) => Ok(Some(found)),

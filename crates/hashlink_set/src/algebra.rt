@@ -1,5 +1,5 @@
-//! Set algebra, by lazy iterators and by tests. None of these methods allocates. A step of an iterator hashes each
-//! element that it looks up in the other set, once.
+//! Set algebra, by lazy iterators and by tests. None of these methods allocates. A step of an iterator hashes
+//! each element that it looks up in the other set, once.
 ghost use Rattle.std.specs.Prelude.{◌≡◌};
 ghost use Rattle.std.specs.List.{IsDistinct};
 ghost use Rattle.hashlink_model.specs.Algebra.{difference_of, intersection_of, union_of};

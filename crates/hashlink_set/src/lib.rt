@@ -3,17 +3,17 @@
 #![tactic(auto)]
 
 mod algebra;
+mod building;
 mod compared;
+mod debug;
 mod drain;
 mod extend;
 mod into_iter;
 mod iter;
 mod lookup;
-mod made;
 mod set;
 mod sifted;
 mod symmetric_difference;
-mod texts;
 mod union;
 
 pub use drain::Drain;

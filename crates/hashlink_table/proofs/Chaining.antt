@@ -3,7 +3,7 @@ use Rattle.std.proofs.Common.{◌≡◌, ◌≢◌, ℕ, ◌%◌, ◌<◌, inl, 
 use Rattle.std.proofs.Common.{set, Option, Some, None, IsSome, refl, sym, ap, ◌∙◌, subst, arith}
 use Rattle.std.specs.Prelude.{IsPermutation}
 use Rattle.std.proofs.lemmas.List.{get_or-map, length-map, map-set}
-use Rattle.hashlink_table.specs.declared.kept.Kept.{Kept}
+use Rattle.hashlink_table.specs.declared.hashed.Hashed.{Hashed}
 use Rattle.hashlink_table.specs.declared.store.cell.Cell.{Cell}
 use Rattle.hashlink_table.specs.declared.store.cell.TheConstants.{END}
 use Rattle.hashlink_table.specs.Chains.{kept_at, next_at, chain_of, chain_at, links_of, nodes_in}
@@ -34,7 +34,7 @@ module _ {N : Type 0} where
   free_within heads cells free t ne =
       within_by_chain (length heads) cells free (length heads) (free_on heads cells free t ne) (omega arith)
 
-  chain_none : (buckets : ℕ) (k : Option (Kept N)) → 0 < buckets → chain_of buckets k ≡ buckets → k ≡ None
+  chain_none : (buckets : ℕ) (k : Option (Hashed N)) → 0 < buckets → chain_of buckets k ≡ buckets → k ≡ None
   chain_none buckets None some e = refl
   chain_none buckets (Some k) some e = absurd (omega arith)
 
@@ -51,7 +51,7 @@ module _ {N : Type 0} where
       → i < length cells
   on_within buckets cells i b on low = within_by_chain buckets cells i b on (omega arith)
 
-  some_on : (buckets b : ℕ) (k : Option (Kept N)) → chain_of buckets k ≡ b → b < buckets → IsSome k
+  some_on : (buckets b : ℕ) (k : Option (Hashed N)) → chain_of buckets k ≡ b → b < buckets → IsSome k
   some_on buckets b None e low = absurd (omega arith)
   some_on buckets b (Some k) e low = refl
 
@@ -61,7 +61,7 @@ module _ {N : Type 0} where
       some_on buckets b (kept_at cells i)
       (sym (chain_at_within buckets cells i (on_within buckets cells i b on low)) ∙ on) low
 
-  pub on_hash : (buckets : ℕ) (cells : List (Cell N)) (i b : ℕ) (k : Kept N) → chain_at buckets cells i ≡ b
+  pub on_hash : (buckets : ℕ) (cells : List (Cell N)) (i b : ℕ) (k : Hashed N) → chain_at buckets cells i ≡ b
       → b < buckets → kept_at cells i ≡ Some k
       → k.hash % buckets ≡ b
   on_hash buckets cells i b k on low is =
@@ -69,7 +69,7 @@ module _ {N : Type 0} where
       (on_within buckets cells i b on low)) ∙ on
 
   -- a cell with a node was put somewhere, and linked from its slot
-  pub chained : (slots cells later : List (Cell N)) (free now at b : ℕ) (c d : Cell N) (k : Kept N)
+  pub chained : (slots cells later : List (Cell N)) (free now at b : ℕ) (c d : Cell N) (k : Hashed N)
       → IsLinked (links_of slots) cells free → b < length slots → b ≡ k.hash % length slots
       → length cells < END → IsPlaced cells later free now c at → c.kept ≡ Some k
       → c.next ≡ next_at slots b → d.next ≡ at
@@ -89,7 +89,7 @@ module _ {N : Type 0} where
             rw (p.2, p.3, p.1) (linked-reuse heads cells free b c low' within small read on t)
       ])
 
-  pub chained-nodes : (slots cells later : List (Cell N)) (free now at : ℕ) (c : Cell N) (k : Kept N)
+  pub chained-nodes : (slots cells later : List (Cell N)) (free now at : ℕ) (c : Cell N) (k : Hashed N)
       → IsLinked (links_of slots) cells free → 0 < length slots → IsPlaced cells later free now c at
       → c.kept ≡ Some k
       → IsPermutation (k ∷ nodes_in cells) (nodes_in later)
@@ -110,7 +110,7 @@ module _ {N : Type 0} where
       ]
 
   -- a cell that is on no chain lost its node
-  pub taken-nodes : (cells later : List (Cell N)) (i : ℕ) (d : Cell N) (k : Kept N) → SameNodes cells later
+  pub taken-nodes : (cells later : List (Cell N)) (i : ℕ) (d : Cell N) (k : Hashed N) → SameNodes cells later
       → i < length later → kept_at later i ≡ Some k → d.kept ≡ None
       → IsPermutation (nodes_in cells) (k ∷ nodes_in (set later i d))
   taken-nodes cells later i d k same within is none =
@@ -124,7 +124,7 @@ module _ {N : Type 0} where
       → i < length later
       → stored_in (get_or later i bare_cell) ≡ stored_in (get_or cells i bare_cell)
   same_stored cells later i same h h' =
-      let none : Option (Kept N) × ℕ = stored_in bare_cell in
+      let none : Option (Hashed N) × ℕ = stored_in bare_cell in
       sym (get_or-map stored_in later i bare_cell none h') ∙ ap (λ ss. get_or ss i none) same
       ∙ get_or-map stored_in cells i bare_cell none h
 
@@ -132,4 +132,4 @@ module _ {N : Type 0} where
       → i < length later
       → kept_at later i ≡ kept_at cells i
   same_kept cells later i same h h' =
-      ap (λ (s : Option (Kept N) × ℕ). s.0) (same_stored cells later i same h h')
+      ap (λ (s : Option (Hashed N) × ℕ). s.0) (same_stored cells later i same h h')

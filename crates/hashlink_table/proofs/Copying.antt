@@ -4,23 +4,23 @@ use Rattle.std.proofs.Common.{sym, ap, ◌∙◌, subst, arith}
 use Rattle.std.specs.Prelude.{IsPermutation}
 use Rattle.std.proofs.lemmas.List.{append-nil, length-append, length_push}
 use Rattle.std.proofs.lemmas.List.Sorted.{length_permutation}
-use Rattle.hashlink_table.specs.declared.kept.Kept.{Kept}
+use Rattle.hashlink_table.specs.declared.hashed.Hashed.{Hashed}
 use Rattle.hashlink_table.specs.declared.store.cell.Cell.{Cell}
 use Rattle.hashlink_table.specs.Contents.{Contents, len_of}
 use Rattle.hashlink_table.specs.Chains.{kept_at, nodes_in, with_node}
 use Rattle.hashlink_table.proofs.Nodes.{inserted-more, nodes_in-more_at}
 
 -- these nodes were put in
-pub record IsCopied {N : Type 0} (old : Contents N) (done : List (Kept N)) (now : Contents N) : Type 0 where
+pub record IsCopied {N : Type 0} (old : Contents N) (done : List (Hashed N)) (now : Contents N) : Type 0 where
   pub inserted : IsPermutation (old.nodes ++ done) now.nodes
   pub room : now.room ≡ old.room
 
 module _ {N : Type 0} (old : Contents N) where
   -- one node more
-  module _ (done more : List (Kept N)) (k : Kept N) (next : more ≡ done ++ k ∷ []) (now : Contents N)
+  module _ (done more : List (Hashed N)) (k : Hashed N) (next : more ≡ done ++ k ∷ []) (now : Contents N)
       (copied : IsCopied old done now) where
     -- it finds room, and is put in
-    pub has_room : (all : List (Kept N)) → length more ≤ length all → len_of old + length all ≤ old.room
+    pub has_room : (all : List (Hashed N)) → length more ≤ length all → len_of old + length all ≤ old.room
         → len_of now < now.room
     has_room all part enough =
         omega (
@@ -44,14 +44,14 @@ module _ {N : Type 0} (old : Contents N) where
     }
 
 -- the nodes of the first cells: those of the next cell, which has this, come last
-module _ {N : Type 0} (cells : List (Cell N)) (count : ℕ) (low : count < length cells) (o : Option (Kept N))
+module _ {N : Type 0} (cells : List (Cell N)) (count : ℕ) (low : count < length cells) (o : Option (Hashed N))
     (is : o ≡ kept_at cells count) where
-  pub next_in : (p : Option (Kept N)) → o ≡ p
+  pub next_in : (p : Option (Hashed N)) → o ≡ p
       → nodes_in (take (count + 1) cells) ≡ nodes_in (take count cells) ++ with_node p []
   next_in p e =
       nodes_in-more_at cells count low ∙ ap (λ q. nodes_in (take count cells) ++ with_node q []) (sym is ∙ e)
 
-  pub next_some : (k : Kept N) → o ≡ Some k
+  pub next_some : (k : Hashed N) → o ≡ Some k
       → nodes_in (take (count + 1) cells) ≡ nodes_in (take count cells) ++ k ∷ []
   next_some k e = next_in (Some k) e
 

@@ -12,7 +12,7 @@ use Rattle.std.proofs.lemmas.List.Sorted.{IsPermutation-refl, IsPermutation-sym,
 use Rattle.std.proofs.lemmas.List.Sorted.{IsPermutation-cons, IsPermutation-middle}
 use Rattle.std.proofs.lemmas.Nat.{mod_below}
 use Rattle.std.proofs.lemmas.Option.{same_Some}
-use Rattle.hashlink_table.specs.declared.kept.Kept.{Kept}
+use Rattle.hashlink_table.specs.declared.hashed.Hashed.{Hashed}
 use Rattle.hashlink_table.specs.declared.store.cell.Cell.{Cell}
 use Rattle.hashlink_table.specs.declared.store.cell.TheConstants.{END}
 use Rattle.hashlink_table.specs.Chains.{next_at, links_of, nodes_in, with_node}
@@ -52,17 +52,17 @@ bucket_high h m some high = elim (cases_lt (h / m % 2) 1) as (λ _. h % (2 * m) 
 
 module _ {N : Type 0} where
   -- a node that stays, and one that moves
-  stays : (m : ℕ) (o : Option (Kept N)) (k : Kept N) → low_kept m o ≡ Some k
+  stays : (m : ℕ) (o : Option (Hashed N)) (k : Hashed N) → low_kept m o ≡ Some k
       → (o ≡ Some k) × (k.hash % (2 * m) < m)
   stays m None k e = absurd (cc e)
   stays m (Some j) k e = by (ltb (j.hash % (2 * m)) m) refl e
     where
       by : (b : Bool) → ltb (j.hash % (2 * m)) m ≡ b → cond b (Some j) None ≡ Some k
           → (Some j ≡ Some k) × (k.hash % (2 * m) < m)
-      by true is e = (e, subst (λ (i : Kept N). i.hash % (2 * m) < m) (same_Some j k e) (ltb-true _ m is))
+      by true is e = (e, subst (λ (i : Hashed N). i.hash % (2 * m) < m) (same_Some j k e) (ltb-true _ m is))
       by false is e = absurd (cc e)
 
-  moves : (m : ℕ) (o : Option (Kept N)) (k : Kept N) → high_kept m o ≡ Some k
+  moves : (m : ℕ) (o : Option (Hashed N)) (k : Hashed N) → high_kept m o ≡ Some k
       → (o ≡ Some k) × (m ≤ k.hash % (2 * m))
   moves m None k e = absurd (cc e)
   moves m (Some j) k e = by (ltb (j.hash % (2 * m)) m) refl e
@@ -70,22 +70,24 @@ module _ {N : Type 0} where
       by : (b : Bool) → ltb (j.hash % (2 * m)) m ≡ b → cond b None (Some j) ≡ Some k
           → (Some j ≡ Some k) × (m ≤ k.hash % (2 * m))
       by true is e = absurd (cc e)
-      by false is e = (e, subst (λ (i : Kept N). m ≤ i.hash % (2 * m)) (same_Some j k e) (ltb-false _ m is))
+      by false is e = (e, subst (λ (i : Hashed N). m ≤ i.hash % (2 * m)) (same_Some j k e) (ltb-false _ m is))
 
   -- the nodes of both halves
   parted-nodes : (m : ℕ) (cells : List (Cell N))
-      → IsPermutation (nodes_in cells) (nodes_in (map (low_half m) cells) ++ nodes_in (map (high_half m) cells))
+      → IsPermutation (nodes_in cells) (nodes_in (map (low_half m) cells) ++ nodes_in
+      (map (high_half m) cells))
   parted-nodes m [] = IsPermutation-refl []
   parted-nodes m (c ∷ cs) = by c.kept (parted-nodes m cs)
     where
-      low : List (Kept N)
+      low : List (Hashed N)
       low = nodes_in (map (low_half m) cs)
 
-      high : List (Kept N)
+      high : List (Hashed N)
       high = nodes_in (map (high_half m) cs)
 
-      by : (o : Option (Kept N)) → IsPermutation (nodes_in cs) (low ++ high)
-          → IsPermutation (with_node o (nodes_in cs)) (with_node (low_kept m o) low ++ with_node (high_kept m o) high)
+      by : (o : Option (Hashed N)) → IsPermutation (nodes_in cs) (low ++ high)
+          → IsPermutation (with_node o (nodes_in cs))
+          (with_node (low_kept m o) low ++ with_node (high_kept m o) high)
       by None rest = rest
       by (Some k) rest =
           elim (ltb (k.hash % (2 * m)) m) as (λ b. IsPermutation (k ∷ nodes_in cs)
@@ -155,4 +157,5 @@ module _ {N : Type 0} where
     -- and it is the same nodes
     pub nodes_in-doubled : IsPermutation (nodes_in cells) (nodes_in (doubled cells))
     nodes_in-doubled =
-        subst (IsPermutation (nodes_in cells)) (sym (nodes_in-append lower upper)) (parted-nodes (length cells) cells)
+        subst (IsPermutation (nodes_in cells)) (sym (nodes_in-append lower upper))
+        (parted-nodes (length cells) cells)

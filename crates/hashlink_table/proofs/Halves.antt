@@ -9,7 +9,7 @@ use Rattle.std.proofs.Math.Nat.{pow-succ'}
 use Rattle.std.proofs.lemmas.Bool.{lt-ltb, le-ltb}
 use Rattle.std.proofs.lemmas.List.{set-get_or, set-append_left, set-append_right, get_or_append_left}
 use Rattle.std.proofs.lemmas.List.{length-append, length-replicate}
-use Rattle.hashlink_table.specs.declared.kept.Kept.{Kept}
+use Rattle.hashlink_table.specs.declared.hashed.Hashed.{Hashed}
 use Rattle.hashlink_table.specs.declared.store.cell.Cell.{Cell}
 use Rattle.hashlink_table.specs.declared.store.cell.TheConstants.{END}
 use Rattle.hashlink_table.specs.declared.store.slots.Rest.{Rest}
@@ -44,9 +44,9 @@ ended r = record { hash = r.hash; link = END }
 
 module _ {N : Type 0} where
   -- what the halves of a cell are
-  module _ (count : ℕ) (k : Kept N) where
+  module _ (count : ℕ) (k : Hashed N) where
     -- a node where the test and whether there is a node are known
-    abbrev some_if : Bool → Option (Kept N)
+    abbrev some_if : Bool → Option (Hashed N)
     some_if none = cond none None (Some k)
 
     low_some : (b none : Bool) → ltb (k.hash % (2 * count)) count ≡ b
@@ -66,9 +66,10 @@ module _ {N : Type 0} where
   low_cell : (count tag low high : ℕ) (n : N) (r : Rest) → IsApart count r.hash tag low high
       → slot low n (ended r) ≡ low_half count (slot tag n r)
   low_cell count tag low high n r parts =
-      ap (λ (o : Option (Kept N)). let d : Cell N = record { kept = o; hash = r.hash; next = END } in d) (by parts)
+      ap (λ (o : Option (Hashed N)). let d : Cell N = record { kept = o; hash = r.hash; next = END } in d)
+      (by parts)
     where
-      k : Kept N
+      k : Hashed N
       k = record { hash = r.hash; node = n }
 
       by : IsApart count r.hash tag low high
@@ -79,9 +80,10 @@ module _ {N : Type 0} where
   high_cell : (count tag low high : ℕ) (n : N) (r : Rest) → IsApart count r.hash tag low high
       → slot high n (ended r) ≡ high_half count (slot tag n r)
   high_cell count tag low high n r parts =
-      ap (λ (o : Option (Kept N)). let d : Cell N = record { kept = o; hash = r.hash; next = END } in d) (by parts)
+      ap (λ (o : Option (Hashed N)). let d : Cell N = record { kept = o; hash = r.hash; next = END } in d)
+      (by parts)
     where
-      k : Kept N
+      k : Hashed N
       k = record { hash = r.hash; node = n }
 
       by : IsApart count r.hash tag low high
@@ -101,7 +103,10 @@ module _ {N : Type 0} (ts : List ℕ) (ns : List N) (rs : List Rest) (tagged : I
   node_stays = ap (set ns at) at_n ∙ set-get_or ns at n
 
   stored_low : IsStored (ended rest) low
-  stored_low = record { tagged = by parts (stored_at ts ns rs at d tagged within).tagged; small = omega arith }
+  stored_low = record {
+    tagged = by parts (stored_at ts ns rs at d tagged within).tagged;
+    small = omega arith;
+  }
     where
       by : IsApart count rest.hash (get_or ts at 0) low high
           → (get_or ts at 0 ≡ 0) ⊎ (get_or ts at 0 ≡ tag_of rest.hash)
@@ -111,7 +116,10 @@ module _ {N : Type 0} (ts : List ℕ) (ns : List N) (rs : List Rest) (tagged : I
       by (inr h) e = inl h.1
 
   stored_high : IsStored (ended rest) high
-  stored_high = record { tagged = by parts (stored_at ts ns rs at d tagged within).tagged; small = omega arith }
+  stored_high = record {
+    tagged = by parts (stored_at ts ns rs at d tagged within).tagged;
+    small = omega arith;
+  }
     where
       by : IsApart count rest.hash (get_or ts at 0) low high
           → (get_or ts at 0 ≡ 0) ⊎ (get_or ts at 0 ≡ tag_of rest.hash)
@@ -181,7 +189,8 @@ module _ {X Y : Type 0} (f : X → Y) where
   so_far-on zero (x ∷ xs) [] d low = refl
   so_far-on zero (x ∷ xs) (y ∷ ys) d low = refl
   so_far-on (suc i) (x ∷ xs) [] d low = refl
-  so_far-on (suc i) (x ∷ xs) (y ∷ ys) d low = ap (λ rest. f x ∷ rest) (so_far-on i xs ys d (omega (arith, low)))
+  so_far-on (suc i) (x ∷ xs) (y ∷ ys) d low = ap (λ rest. f x ∷ rest)
+      (so_far-on i xs ys d (omega (arith, low)))
 
   -- all are made
   so_far-all : (i : ℕ) (xs : List X) (ys : List Y) → i ≡ length xs → length ys ≡ length xs
@@ -226,11 +235,13 @@ module _ {N : Type 0} (cells : List (Cell N)) where
       let read : get_or (lows at ++ highs at) at bare_cell ≡ x
       = get_or_append_left (lows at) (highs at) bare_cell at (omega (arith, low, length-lows at))
       ∙ so_far-next (low_half count) at cells cells bare_cell in
-      ap (λ (y : C). set (set (lows at ++ highs at) at (low_half count y)) (at + count) (high_half count y)) read
+      ap (λ (y : C). set (set (lows at ++ highs at) at (low_half count y)) (at + count) (high_half count y))
+      read
       ∙ ap (λ (ys : List C). set ys (at + count) (high_half count x))
       (set-append_left (lows at) (highs at) at (low_half count x) (omega (arith, low, length-lows at))
       ∙ ap (λ (ys : List C). ys ++ highs at) (so_far-on (low_half count) at cells cells bare_cell low))
-      ∙ set-append_right (lows (suc at)) (highs at) count (at + count) (high_half count x) (length-lows (suc at))
+      ∙ set-append_right (lows (suc at)) (highs at) count (at + count) (high_half count x)
+      (length-lows (suc at))
       (omega arith)
       ∙ ap (λ i. lows (suc at) ++ set (highs at) i (high_half count x)) (omega arith)
       ∙ ap (λ (ys : List C). lows (suc at) ++ ys) (so_far-on (high_half count) at cells bares bare_cell low)
@@ -245,8 +256,10 @@ module _ {N : Type 0} (cells : List (Cell N)) where
   pub length-doubled_to : (at : ℕ) → length (doubled_to at cells) ≡ count + count
   length-doubled_to at =
       length-append (so_far (low_half count) at cells cells) (so_far (high_half count) at cells bares)
-      ∙ ap (λ i. i + length (so_far (high_half count) at cells bares)) (length-so_far (low_half count) at cells cells)
-      ∙ ap (λ i. count + i) (length-so_far (high_half count) at cells bares ∙ length-replicate count bare_cell)
+      ∙ ap (λ i. i + length (so_far (high_half count) at cells bares))
+      (length-so_far (low_half count) at cells cells)
+      ∙ ap (λ i. count + i) (length-so_far (high_half count) at cells bares
+      ∙ length-replicate count bare_cell)
 
   -- all cells are doubled
   pub doubled-all : (at : ℕ) → at ≡ count → doubled_to at cells ≡ doubled cells

@@ -109,7 +109,8 @@ module _ {N : Type 0} (cells : List (Cell N)) (base : ℕ) (room : base + 16 ≤
   -- the lowest bit is that of the first that passes
   pub record IsHit (at hits : ℕ) : Type 0 where
     pub to : at + count_trailing_zeros 64 hits < base + 16
-    pub before : (i : ℕ) → at ≤ i → i < at + count_trailing_zeros 64 hits → q (get_or cells i bare_cell) ≡ false
+    pub before : (i : ℕ) → at ≤ i → i < at + count_trailing_zeros 64 hits → q (get_or cells i bare_cell)
+        ≡ false
     pub here : q (get_or cells (at + count_trailing_zeros 64 hits) bare_cell) ≡ true
     pub rest : hits / 2 ^ count_trailing_zeros 64 hits / 2
         ≡ mask_l (map q (from (at + count_trailing_zeros 64 hits + 1)))

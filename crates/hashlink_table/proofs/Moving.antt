@@ -8,7 +8,7 @@ use Rattle.std.proofs.lemmas.List.Sorted.{IsPermutation-trans, IsPermutation-mid
 use Rattle.std.proofs.lemmas.List.Sorted.{IsPermutation-append_left}
 use Rattle.std.proofs.lemmas.List.Sorted.{IsPermutation-append_right}
 use Rattle.std.proofs.Math.Seq.{map-set_same}
-use Rattle.hashlink_table.specs.declared.kept.Kept.{Kept}
+use Rattle.hashlink_table.specs.declared.hashed.Hashed.{Hashed}
 use Rattle.hashlink_table.specs.declared.store.cell.Cell.{Cell}
 use Rattle.hashlink_table.specs.declared.store.cell.TheConstants.{END}
 use Rattle.hashlink_table.specs.Chains.{kept_at, next_at, chain_at, links_of, nodes_in, with_node}
@@ -24,7 +24,8 @@ use Rattle.hashlink_table.proofs.Walks.{walk_of, walk_at}
 
 module _ {N : Type 0} where
   -- a cell with a node is one of the list
-  pub within_kept : (cells : List (Cell N)) (i : ℕ) (k : Kept N) → kept_at cells i ≡ Some k → i < length cells
+  pub within_kept : (cells : List (Cell N)) (i : ℕ) (k : Hashed N) → kept_at cells i ≡ Some k
+      → i < length cells
   within_kept cells i k is = within_by_kept cells i (ap is_some is)
 
   pub same_length : (f g : List (Cell N)) → SameNodes f g → length g ≡ length f
@@ -44,7 +45,7 @@ module _ {N : Type 0} where
       subst (λ m. AreGrouped (k.hash % m) at) (sym n) (p at k (sym (kept-same f g same n at) ∙ is))
 
   pub in_place-set : (f : List (Cell N)) (i : ℕ) (d : Cell N) → i < length f → IsInPlace f
-      → ((k : Kept N) → d.kept ≡ Some k → AreGrouped (k.hash % length f) i)
+      → ((k : Hashed N) → d.kept ≡ Some k → AreGrouped (k.hash % length f) i)
       → IsInPlace (set f i d)
   in_place-set f i d low p q at k is =
       subst (λ m. AreGrouped (k.hash % m) at) (sym (length-set f i d))
@@ -76,9 +77,11 @@ module _ {N : Type 0} where
       → IsFilled (set f i d)
   filled-put f i d low some next full b h ne at from to =
       elim (cases_eq at i) as (λ _. IsSome (kept_at (set f i d) at)) [
-        | inl e ↦ subst IsSome (ap (kept_at (set f i d)) (sym e)) (subst IsSome (sym (kept_at-set f i d low)) some)
+        | inl e ↦ subst IsSome (ap (kept_at (set f i d)) (sym e))
+            (subst IsSome (sym (kept_at-set f i d low)) some)
         | inr apart ↦ subst IsSome (sym (kept_at-set_other f i d at apart))
-            (full b (omega (arith, h, length-set f i d)) (λ e. ne (next-set_same f i d low next b ∙ e)) at from to)
+            (full b (omega (arith, h, length-set f i d)) (λ e. ne (next-set_same f i d low next b ∙ e)) at
+            from to)
       ]
 
   -- the node left a cell of a group in which no bucket has a chain
@@ -90,7 +93,8 @@ module _ {N : Type 0} where
         | inl e ↦ absurd (ne (next-set_same f i d low next b ∙ none b (omega (arith, e, from, to))
             (omega (arith, e, from, to))))
         | inr apart ↦ subst IsSome (sym (kept_at-set_other f i d at apart))
-            (full b (omega (arith, h, length-set f i d)) (λ e. ne (next-set_same f i d low next b ∙ e)) at from to)
+            (full b (omega (arith, h, length-set f i d)) (λ e. ne (next-set_same f i d low next b ∙ e)) at
+            from to)
       ]
 
   -- a bucket of a full group may have a chain
@@ -104,20 +108,20 @@ module _ {N : Type 0} where
       ])
 
   -- a node came into a free cell, and a node left its cell
-  pub put-nodes : (f : List (Cell N)) (i : ℕ) (k : Kept N) → i < length f → kept_at f i ≡ None
+  pub put-nodes : (f : List (Cell N)) (i : ℕ) (k : Hashed N) → i < length f → kept_at f i ≡ None
       → IsPermutation (k ∷ nodes_in f) (nodes_in (with_kept f i k))
   put-nodes f i k low none =
       subst (λ o. IsPermutation (k ∷ nodes_in f) (with_node o (nodes_in (with_kept f i k)))) none
       (nodes_in-set f i (record (get_or f i bare_cell) { kept = Some k; hash = k.hash }) low)
 
-  pub free-nodes : (f : List (Cell N)) (i : ℕ) (k : Kept N) → i < length f → kept_at f i ≡ Some k
+  pub free-nodes : (f : List (Cell N)) (i : ℕ) (k : Hashed N) → i < length f → kept_at f i ≡ Some k
       → IsPermutation (nodes_in f) (k ∷ nodes_in (without_kept f i))
   free-nodes f i k low is =
       subst (λ o. IsPermutation (nodes_in f) (with_node o (nodes_in (without_kept f i)))) is
       (nodes_in-set f i (record (get_or f i bare_cell) { kept = None }) low)
 
   -- neither changes a link
-  pub put-links : (f : List (Cell N)) (i : ℕ) (k : Kept N) → links_of (with_kept f i k) ≡ links_of f
+  pub put-links : (f : List (Cell N)) (i : ℕ) (k : Hashed N) → links_of (with_kept f i k) ≡ links_of f
   put-links f i k = map-set_same (λ (c : Cell N). c.next) f i _ bare_cell refl
 
   pub free-links : (f : List (Cell N)) (i : ℕ) → links_of (without_kept f i) ≡ links_of f
@@ -135,7 +139,7 @@ module _ {N : Type 0} where
       ∙ walk_at w.0 (λ e. ne (sym start ∙ e))
 
   -- all nodes, where one left an overflow cell
-  pub overflow-taken : (slots later cells less : List (Cell N)) (k : Kept N) → SameNodes slots later
+  pub overflow-taken : (slots later cells less : List (Cell N)) (k : Hashed N) → SameNodes slots later
       → IsPermutation (nodes_in cells) (k ∷ nodes_in less)
       → IsPermutation (nodes_in slots ++ nodes_in cells) (k ∷ nodes_in later ++ nodes_in less)
   overflow-taken slots later cells less k same p =
@@ -145,7 +149,7 @@ module _ {N : Type 0} where
       (IsPermutation-middle (nodes_in slots) k (nodes_in less)))
 
   -- where the next of its chain came into the slot
-  pub first-followed : (slots later cells less : List (Cell N)) (b : ℕ) (d : Cell N) (k j : Kept N)
+  pub first-followed : (slots later cells less : List (Cell N)) (b : ℕ) (d : Cell N) (k j : Hashed N)
       → SameNodes slots later → b < length later → kept_at later b ≡ Some k → d.kept ≡ Some j
       → IsPermutation (nodes_in cells) (j ∷ nodes_in less)
       → IsPermutation (nodes_in slots ++ nodes_in cells) (k ∷ nodes_in (set later b d) ++ nodes_in less)

@@ -10,24 +10,24 @@ use Rattle.std.proofs.lemmas.Option.{same_Some}
 use Rattle.std.proofs.lemmas.List.Sorted.{IsPermutation-refl, IsPermutation-trans, IsPermutation-cons}
 use Rattle.std.proofs.lemmas.List.Sorted.{IsPermutation-middle}
 use Rattle.std.proofs.lemmas.List.Sorted.{IsPermutation-to_front}
-use Rattle.hashlink_table.specs.declared.kept.Kept.{Kept}
+use Rattle.hashlink_table.specs.declared.hashed.Hashed.{Hashed}
 use Rattle.hashlink_table.specs.declared.store.cell.Cell.{Cell}
 use Rattle.hashlink_table.specs.Chains.{kept_at, stored_in, with_node, nodes_in, SameNodes}
 use Rattle.hashlink_table.specs.Stored.{bare_cell}
 
 module _ {N : Type 0} where
   -- two nodes may be exchanged
-  exchanged : (j k : Kept N) (ks : List (Kept N)) → IsPermutation (j ∷ k ∷ ks) (k ∷ j ∷ ks)
+  exchanged : (j k : Hashed N) (ks : List (Hashed N)) → IsPermutation (j ∷ k ∷ ks) (k ∷ j ∷ ks)
   exchanged j k ks = IsPermutation-middle (j ∷ []) k ks
 
   -- at most one node before a list
-  with_exchanged : (a b : Option (Kept N)) (ks : List (Kept N))
+  with_exchanged : (a b : Option (Hashed N)) (ks : List (Hashed N))
       → IsPermutation (with_node a (with_node b ks)) (with_node b (with_node a ks))
   with_exchanged None b ks = IsPermutation-refl _
   with_exchanged (Some j) None ks = IsPermutation-refl _
   with_exchanged (Some j) (Some k) ks = exchanged j k ks
 
-  with_permuted : (a : Option (Kept N)) (ks js : List (Kept N)) → IsPermutation ks js
+  with_permuted : (a : Option (Hashed N)) (ks js : List (Hashed N)) → IsPermutation ks js
       → IsPermutation (with_node a ks) (with_node a js)
   with_permuted None ks js p = p
   with_permuted (Some j) ks js p = IsPermutation-cons j ks js p
@@ -60,7 +60,7 @@ module _ {N : Type 0} where
   nodes_in-same (x ∷ xs) (y ∷ ys) e =
       let here : stored_in y ≡ stored_in x = cc e in
       let there : SameNodes xs ys = cc e in
-      ap (λ (s : Option (Kept N) × ℕ). with_node s.0 (nodes_in ys)) here
+      ap (λ (s : Option (Hashed N) × ℕ). with_node s.0 (nodes_in ys)) here
       ∙ ap (with_node x.kept) (nodes_in-same xs ys there)
 
   pub nodes_in-append : (cells more : List (Cell N)) → nodes_in (cells ++ more)
@@ -92,7 +92,7 @@ module _ {N : Type 0} where
       omega (arith, ap length all, length-append (nodes_in (take i cells)) (nodes_in (drop i cells)))
 
   -- a node was put in after others
-  pub inserted-more : (old done now later : List (Kept N)) (k : Kept N) → IsPermutation (old ++ done) now
+  pub inserted-more : (old done now later : List (Hashed N)) (k : Hashed N) → IsPermutation (old ++ done) now
       → IsPermutation (k ∷ now) later
       → IsPermutation (old ++ (done ++ k ∷ [])) later
   inserted-more old done now later k before step =
@@ -136,10 +136,11 @@ module _ {N : Type 0} where
       [ None ↦ λ e. absurd (cc e) | Some k ↦ λ e. omega (arith, rest) ] e
   two_nodes (x ∷ xs) (suc i) (suc j) h e f =
       let rest = two_nodes xs i j (omega arith) e f in
-      elim x.kept as (λ k. 1 < length (with_node k (nodes_in xs))) [ None ↦ rest | Some k ↦ omega (arith, rest) ]
+      elim x.kept as (λ k. 1 < length (with_node k (nodes_in xs)))
+      [ None ↦ rest | Some k ↦ omega (arith, rest) ]
 
   -- a node in a cell is one of them
-  pub contains-at : (cells : List (Cell N)) (i : ℕ) (k : Kept N) → kept_at cells i ≡ Some k
+  pub contains-at : (cells : List (Cell N)) (i : ℕ) (k : Hashed N) → kept_at cells i ≡ Some k
       → Contains (nodes_in cells) k
   contains-at [] i k e = absurd (cc e)
   contains-at (x ∷ xs) zero k e = rw e (zero, omega arith, refl)
@@ -149,12 +150,13 @@ module _ {N : Type 0} where
       [ None ↦ rest | Some j ↦ (suc rest.0, omega (arith, rest.1), rest.2) ]
 
   -- and each of them is in one
-  pub at-contains : (cells : List (Cell N)) (k : Kept N) → Contains (nodes_in cells) k
+  pub at-contains : (cells : List (Cell N)) (k : Hashed N) → Contains (nodes_in cells) k
       → (i : ℕ) × (kept_at cells i ≡ Some k)
   at-contains [] k (j, h, e) = absurd (omega arith)
   at-contains (x ∷ xs) k c = by (at-contains xs k) x.kept refl c
     where
-      by : (Contains (nodes_in xs) k → (i : ℕ) × (kept_at xs i ≡ Some k)) → (o : Option (Kept N)) → x.kept ≡ o
+      by : (Contains (nodes_in xs) k → (i : ℕ) × (kept_at xs i ≡ Some k)) → (o : Option (Hashed N)) → x.kept
+          ≡ o
           → Contains (with_node o (nodes_in xs)) k
           → (i : ℕ) × (kept_at (x ∷ xs) i ≡ Some k)
       by rest None is there = let r = rest there in (suc r.0, r.1)
@@ -162,5 +164,5 @@ module _ {N : Type 0} where
       by rest (Some j) is (suc n, h, e) = let r = rest (n, omega arith, e) in (suc r.0, r.1)
 
   -- a cell has one node
-  pub same_node : (j k : Kept N) → Some j ≡ Some k → j.node ≡ k.node
-  same_node j k e = ap (λ (m : Kept N). m.node) (same_Some j k e)
+  pub same_node : (j k : Hashed N) → Some j ≡ Some k → j.node ≡ k.node
+  same_node j k e = ap (λ (m : Hashed N). m.node) (same_Some j k e)

@@ -12,7 +12,7 @@ use Rattle.std.proofs.lemmas.List.{get_or_at, get_or_append_left, length_push}
 use Rattle.std.proofs.lemmas.List.{length-append}
 use Rattle.std.proofs.lemmas.List.{length-replicate}
 use Rattle.std.proofs.lemmas.List.Sorted.{length_permutation}
-use Rattle.hashlink_table.specs.declared.kept.Kept.{Kept}
+use Rattle.hashlink_table.specs.declared.hashed.Hashed.{Hashed}
 use Rattle.hashlink_table.specs.declared.store.cell.Cell.{Cell}
 use Rattle.hashlink_table.specs.declared.store.cell.TheConstants.{END}
 use Rattle.hashlink_table.specs.Chains.{kept_at, next_at, chain_of, nodes_in, links_of, Among}
@@ -26,7 +26,7 @@ use Rattle.hashlink_table.proofs.Nodes.{nodes_in-full, nodes_in-bare, two_nodes}
 use Rattle.hashlink_table.proofs.Walks.{walk_of, walk_goes}
 
 -- what a cell with a node has
-of_kept : {N : Type 0} (o : Option (Kept N)) → is_some o ≡ true → (k : Kept N) × (o ≡ Some k)
+of_kept : {N : Type 0} (o : Option (Hashed N)) → is_some o ≡ true → (k : Hashed N) × (o ≡ Some k)
 of_kept None some = absurd (cc some)
 of_kept (Some k) some = (k, refl)
 
@@ -142,7 +142,7 @@ module _ {N : Type 0} where
 
   -- one node more
   pub sound-put : {slots overflow : List (Cell N)} {capacity free len room : ℕ}
-      (later more : List (Cell N)) (now next : ℕ) (k : Kept N)
+      (later more : List (Cell N)) (now next : ℕ) (k : Hashed N)
       → IsSound slots overflow capacity free len room → len < room → now ≡ capacity
       → length later ≡ length slots → IsLinked (links_of later) more next → IsInPlace later → IsFilled later
       → IsPermutation (k ∷ nodes_in slots ++ nodes_in overflow) (nodes_in later ++ nodes_in more)
@@ -180,7 +180,7 @@ module _ {N : Type 0} where
 
   -- one node less
   pub sound-take : {slots overflow : List (Cell N)} {capacity free len room : ℕ}
-      (later less : List (Cell N)) (next : ℕ) (k : Kept N)
+      (later less : List (Cell N)) (next : ℕ) (k : Hashed N)
       → IsSound slots overflow capacity free len room
       → length later ≡ length slots → length less ≡ length overflow
       → IsLinked (links_of later) less next → IsInPlace later → IsFilled later
@@ -233,14 +233,14 @@ module _ {N : Type 0} where
 -- and a contract sees none
 pub contents-bare : (N : Type 0) (n room : ℕ)
     → contents (replicate n (bare_cell {N = N})) [] room ≡ record { nodes = []; room = room }
-contents-bare N n room = ap (λ (ks : List (Kept N)). let t : Contents N = record { nodes = ks; room = room }
+contents-bare N n room = ap (λ (ks : List (Hashed N)). let t : Contents N = record { nodes = ks; room = room }
     in t)
-    (ap (λ (ks : List (Kept N)). ks ++ []) (nodes_in-bare {N = N} n))
+    (ap (λ (ks : List (Hashed N)). ks ++ []) (nodes_in-bare {N = N} n))
 
 module _ {N : Type 0} where
   -- the buckets were doubled, and the nodes of the overflow cells taken out
   pub sound-doubled : {slots overflow : List (Cell N)} {capacity free len room : ℕ}
-      (later less : List (Cell N)) (taken : List (Kept N)) (buckets block count more : ℕ)
+      (later less : List (Cell N)) (taken : List (Hashed N)) (buckets block count more : ℕ)
       → IsSound slots overflow capacity free len room
       → IsPowerOfTwo buckets → buckets % 16 ≡ 0 → buckets ≤ 2 ^ 31 → buckets ≤ 4 * max 8 more
       → room ≤ more → 0 < more → more ≤ buckets → more ≡ block → length later ≡ buckets

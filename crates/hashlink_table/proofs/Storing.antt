@@ -9,7 +9,7 @@ use Rattle.std.proofs.lemmas.Bool.{ne_eqb, false≢true}
 use Rattle.std.proofs.lemmas.List.{get_or_read, get_or_default, set-get_or, take-map, drop-map, take_all}
 use Rattle.std.proofs.lemmas.List.{length-replicate}
 use Rattle.std.specs.Simd.Lanes.{chunk, mask_l}
-use Rattle.hashlink_table.specs.declared.kept.Kept.{Kept}
+use Rattle.hashlink_table.specs.declared.hashed.Hashed.{Hashed}
 use Rattle.hashlink_table.specs.declared.store.cell.Cell.{Cell}
 use Rattle.hashlink_table.specs.declared.store.cell.TheConstants.{END}
 use Rattle.hashlink_table.specs.declared.store.slots.Rest.{Rest}
@@ -54,11 +54,13 @@ module _ {N : Type 0} where
   length-rests (t ∷ ts) (n ∷ ns) [] h = absurd h
   length-rests (t ∷ ts) (n ∷ ns) (r ∷ rs) h = ap suc (length-rests ts ns rs h.1)
 
-  pub within_nodes : (ts : List ℕ) (ns : List N) (rs : List Rest) → IsTagged ts ns rs → (i : ℕ) → i < length ts
+  pub within_nodes : (ts : List ℕ) (ns : List N) (rs : List Rest) → IsTagged ts ns rs → (i : ℕ)
+      → i < length ts
       → i < length ns
   within_nodes ts ns rs h i low = omega (arith, low, length-nodes ts ns rs h)
 
-  pub within_rests : (ts : List ℕ) (ns : List N) (rs : List Rest) → IsTagged ts ns rs → (i : ℕ) → i < length ts
+  pub within_rests : (ts : List ℕ) (ns : List N) (rs : List Rest) → IsTagged ts ns rs → (i : ℕ)
+      → i < length ts
       → i < length rs
   within_rests ts ns rs h i low = omega (arith, low, length-rests ts ns rs h)
 
@@ -184,7 +186,8 @@ tag_some hash = ne_eqb (tag_of hash) 0 (λ e. omega (arith, e))
 pub agrees_free : {N : Type 0} (t : ℕ) (r : Rest) → AgreesOn {N = N} (λ t. eqb t 0) (λ d. is_none d.kept) t r
 agrees_free {N} t r n is = by (eqb t 0)
   where
-    by : (b : Bool) → b ≡ is_none (cond b None (Some (let k : Kept N = record { hash = r.hash; node = n } in k)))
+    by : (b : Bool) → b ≡ is_none (cond b None
+        (Some (let k : Hashed N = record { hash = r.hash; node = n } in k)))
     by true = refl
     by false = refl
 
@@ -229,7 +232,8 @@ module _ {N : Type 0} (o : Inside N) (v : List (Cell N))
   rests_len = o.rests.ok.0 ∙ rests_long
 
   -- so many bare cells came after them
-  module _ (count : ℕ) (filler : N) (us : List ℕ) (ms : List N) (ds : List Rest) (tags : us ≡ ts ++ replicate count 0)
+  module _ (count : ℕ) (filler : N) (us : List ℕ) (ms : List N) (ds : List Rest)
+      (tags : us ≡ ts ++ replicate count 0)
       (nodes : ms ≡ ns ++ replicate count filler) (rests : ds ≡ rs ++ replicate count bare) where
     pub tagged-wider : IsTagged us ms ds
     tagged-wider =
@@ -261,7 +265,8 @@ module _ {N : Type 0} (o : Inside N) (v : List (Cell N))
         ∙ ap mask_l (sym (map-chunk p ts)
         ∙ ap (chunk base 16) (tests-cells p q ts ns rs agree tagged ∙ ap (map q) view) ∙ map-chunk q v)
       where
-        map-chunk : {X : Type 0} (f : X → Bool) (xs : List X) → chunk base 16 (map f xs) ≡ map f (chunk base 16 xs)
+        map-chunk : {X : Type 0} (f : X → Bool) (xs : List X) → chunk base 16 (map f xs)
+            ≡ map f (chunk base 16 xs)
         map-chunk f xs = ap (take 16) (drop-map f base xs) ∙ take-map f 16 (drop base xs)
 
   -- one of the cells
@@ -339,7 +344,7 @@ module _ {N : Type 0} (o : Inside N) (v : List (Cell N))
     -- one without a node, and one with a node
     pub none_read : (t : ℕ) → t ≡ get_or ts i t → t ≡ 0 → None ≡ kept_at v i
     none_read t at_t is =
-        let k : Kept N = record { hash = rest.hash; node = node } in
+        let k : Hashed N = record { hash = rest.hash; node = node } in
         sym (ap (λ (d : Cell N). d.kept) (cell_read t node rest at_t node_at rest_at)
         ∙ ap (λ n. cond (eqb n 0) None (Some k)) is)
 
@@ -347,7 +352,7 @@ module _ {N : Type 0} (o : Inside N) (v : List (Cell N))
         → (t ≡ 0 → ⊥)
         → Some (record { hash = r.hash; node = n }) ≡ kept_at v i
     some_read t n r at_t at_n at_r some =
-        let k : Kept N = record { hash = r.hash; node = n } in
+        let k : Hashed N = record { hash = r.hash; node = n } in
         sym (ap (λ (d : Cell N). d.kept) (cell_read t n r at_t at_n at_r)
         ∙ ap (λ b. cond b None (Some k)) (ne_eqb t 0 some))
 
@@ -356,16 +361,18 @@ module _ {N : Type 0} (o : Inside N) (v : List (Cell N))
         → kept_at v i ≡ Some (record { hash = r.hash; node = n })
     kept_read n r at_n at_r some =
         let is = cell_read tag n r tag_at at_n at_r in
-        let k : Kept N = record { hash = r.hash; node = n } in
+        let k : Hashed N = record { hash = r.hash; node = n } in
         ap (λ (d : Cell N). d.kept) is
         ∙ (elim (eqb tag 0) as (λ b. IsSome (cond b None (Some k)) → cond b None (Some k) ≡ Some k) [
           | true ↦ λ no. absurd (false≢true no)
           | false ↦ λ _. refl
         ]) (subst (λ (d : Cell N). IsSome d.kept) is some)
 
-    pub node_read : (n : N) → n ≡ get_or ns i n → IsSome (kept_at v i) → IfSome (kept_at v i) (λ k. k.node ≡ n)
+    pub node_read : (n : N) → n ≡ get_or ns i n → IsSome (kept_at v i)
+        → IfSome (kept_at v i) (λ k. k.node ≡ n)
     node_read n at_n some =
-        subst (λ (o : Option (Kept N)). IfSome o (λ k. k.node ≡ n)) (sym (kept_read n rest at_n rest_at some)) refl
+        subst (λ (o : Option (Hashed N)). IfSome o (λ k. k.node ≡ n))
+        (sym (kept_read n rest at_n rest_at some)) refl
 
     -- where the chain of its bucket begins
     pub next_read : (r : Rest) → r ≡ get_or rs i r → next_at v i ≡ r.link
@@ -385,16 +392,19 @@ module _ {N : Type 0} (o : Inside N) (v : List (Cell N))
     was r at_r = sym (cell_read tag node r tag_at node_at at_r)
 
     -- a node came into it
-    module _ (k : Kept N) (r : Rest) (at_r : r ≡ get_or rs i r) where
-      pub tagged-put : IsTagged (set ts i (tag_of k.hash)) (set ns i k.node) (set rs i (record r { hash = k.hash }))
+    module _ (k : Hashed N) (r : Rest) (at_r : r ≡ get_or rs i r) where
+      pub tagged-put : IsTagged (set ts i (tag_of k.hash)) (set ns i k.node)
+          (set rs i (record r { hash = k.hash }))
       tagged-put = tagged-set ts ns rs i (tag_of k.hash) k.node (record r { hash = k.hash }) tagged
           (record { tagged = inr refl; small = next_small r at_r })
 
-      pub put_in : cells_in (set ts i (tag_of k.hash)) (set ns i k.node) (set rs i (record r { hash = k.hash }))
+      pub put_in : cells_in (set ts i (tag_of k.hash)) (set ns i k.node)
+          (set rs i (record r { hash = k.hash }))
           ≡ with_kept v i k
       put_in =
           written (tag_of k.hash) k.node (record r { hash = k.hash }) _
-          (ap (λ e. let d : Cell N = record { kept = cond e None (Some k); hash = k.hash; next = r.link } in d)
+          (ap (λ e. let d : Cell N = record { kept = cond e None (Some k); hash = k.hash; next = r.link } in
+          d)
           (tag_some k.hash)
           ∙ ap (λ (d : Cell N). record d { kept = Some k; hash = k.hash }) (was r at_r))
 
@@ -403,7 +413,8 @@ module _ {N : Type 0} (o : Inside N) (v : List (Cell N))
     tagged-freed =
         subst (λ (ms : List N). IsTagged (set ts i 0) ms rs) node_stays
         (subst (IsTagged (set ts i 0) (set ns i node)) rest_stays
-        (tagged-set ts ns rs i 0 node rest tagged (record { tagged = inl refl; small = next_small rest rest_at })))
+        (tagged-set ts ns rs i 0 node rest tagged
+        (record { tagged = inl refl; small = next_small rest rest_at })))
 
     pub freed : cells_in (set ts i 0) ns rs ≡ without_kept v i
     freed =

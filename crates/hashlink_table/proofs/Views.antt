@@ -13,7 +13,7 @@ use Rattle.std.proofs.lemmas.List.Elements.{Contains-append_left, Contains-appen
 use Rattle.std.proofs.lemmas.List.Elements.{Contains-append_cases}
 use Rattle.std.proofs.lemmas.List.Sums.{sum_by-cons, sum_by-append}
 use Rattle.std.proofs.lemmas.Simd.{chunk-drop, get_or-chunk, length-chunk}
-use Rattle.hashlink_table.specs.declared.kept.Kept.{Kept}
+use Rattle.hashlink_table.specs.declared.hashed.Hashed.{Hashed}
 use Rattle.hashlink_table.specs.declared.store.cell.Cell.{Cell}
 use Rattle.hashlink_table.specs.declared.store.spot.Spot.{Spot}
 use Rattle.hashlink_table.specs.declared.store.spot.Spot.TheVariants.{Slot, Overflow}
@@ -48,8 +48,8 @@ count_by-weaker p q d (x ∷ xs) weaker =
 
 module _ {N : Type 0} where
   -- the nodes of the cells are counted by counting cells
-  count_by-nodes_in : (p : Kept N → Bool) (q : Option (Kept N) → Bool) (cells : List (Cell N))
-      → q None ≡ false → ((k : Kept N) → q (Some k) ≡ p k)
+  count_by-nodes_in : (p : Hashed N → Bool) (q : Option (Hashed N) → Bool) (cells : List (Cell N))
+      → q None ≡ false → ((k : Hashed N) → q (Some k) ≡ p k)
       → count_by p (nodes_in cells) ≡ count_by (λ c. q c.kept) cells
   count_by-nodes_in p q [] none some = refl
   count_by-nodes_in p q (c ∷ cs) none some =
@@ -69,8 +69,8 @@ module _ {N : Type 0} where
       (ne_eqb m (hash % m) (λ e. omega arith)) (λ k. refl)
 
   -- a node of the group whose tag is the hash's agrees with the hash
-  pub tag_agrees : (m b hash at : ℕ) (o : Option (Kept N)) → 0 < m → m % 16 ≡ 0 → b ≡ hash % m
-      → ((k : Kept N) → o ≡ Some k → AreGrouped (k.hash % m) at) → AreGrouped b at
+  pub tag_agrees : (m b hash at : ℕ) (o : Option (Hashed N)) → 0 < m → m % 16 ≡ 0 → b ≡ hash % m
+      → ((k : Hashed N) → o ≡ Some k → AreGrouped (k.hash % m) at) → AreGrouped b at
       → kept_may_be hash o ≡ true
       → eqb (chain_of m o) b ≡ true
   tag_agrees m b hash at None some whole is own here e = absurd (true≢false (sym e))
@@ -107,15 +107,16 @@ module _ {N : Type 0} where
 module _ {N : Type 0} (t : Inside N) (v : Contents N)
     (view : contents t.slots t.overflow.items t.room ≡ v) where
   -- the node in a cell is one that the table keeps
-  keeps_slot : (at : ℕ) (k : Kept N) → kept_at t.slots at ≡ Some k → Keeps v k.hash k.node
+  keeps_slot : (at : ℕ) (k : Hashed N) → kept_at t.slots at ≡ Some k → Keeps v k.hash k.node
   keeps_slot at k is =
       subst (λ (u : Contents N). Keeps u k.hash k.node) view
       (Contains-append_left (nodes_in t.slots) (nodes_in t.overflow.items) k (contains-at t.slots at k is))
 
-  keeps_overflow : (at : ℕ) (k : Kept N) → kept_at t.overflow.items at ≡ Some k → Keeps v k.hash k.node
+  keeps_overflow : (at : ℕ) (k : Hashed N) → kept_at t.overflow.items at ≡ Some k → Keeps v k.hash k.node
   keeps_overflow at k is =
       subst (λ (u : Contents N). Keeps u k.hash k.node) view
-      (Contains-append_right (nodes_in t.slots) (nodes_in t.overflow.items) k (contains-at t.overflow.items at k is))
+      (Contains-append_right (nodes_in t.slots) (nodes_in t.overflow.items) k
+      (contains-at t.overflow.items at k is))
 
   -- so many buckets it has
   buckets_are : (0 < length t.slots → IsPowerOfTwo (length t.slots)) → 0 < length t.slots
@@ -125,7 +126,8 @@ module _ {N : Type 0} (t : Inside N) (v : Contents N)
       record { power = masked some; roomy = omega (arith, headed, ap (λ (u : Contents N). u.room) view) }
 
   -- what a search that looks at nothing takes
-  pub no_cost : (0 < length t.slots → IsPowerOfTwo (length t.slots)) → t.room ≤ length t.slots → (hash before : ℕ)
+  pub no_cost : (0 < length t.slots → IsPowerOfTwo (length t.slots)) → t.room ≤ length t.slots
+      → (hash before : ℕ)
       → (m : ℕ) × AreBuckets v m × (before ≤ before + agreeing v hash m)
   no_cost masked headed hash before =
       elim (cases_lt 0 (length t.slots)) as
@@ -139,14 +141,14 @@ module _ {N : Type 0} (t : Inside N) (v : Contents N)
   -- so a search may ask about it where the hashes agree, and accepts it for its hash alone
   pub slot_asked : (asked : N → Type 0) (hash : ℕ) → CanAsk v hash asked
       → (0 < length t.slots → IsPowerOfTwo (length t.slots)) → 0 < length t.slots → t.room ≤ length t.slots
-      → (at : ℕ) (k : Kept N) → kept_at t.slots at ≡ Some k
+      → (at : ℕ) (k : Hashed N) → kept_at t.slots at ≡ Some k
       → k.hash % length t.slots ≡ hash % length t.slots
       → asked k.node
   slot_asked asked hash can masked some headed at k is agree =
       can k.hash k.node (keeps_slot at k is) (length t.slots, buckets_are masked some headed, agree)
 
   pub slot_accepted : (hash : ℕ) (accepted : N → Type 0) → AcceptsOnly v hash accepted
-      → (at : ℕ) (k : Kept N) → kept_at t.slots at ≡ Some k → accepted k.node → k.hash ≡ hash
+      → (at : ℕ) (k : Hashed N) → kept_at t.slots at ≡ Some k → accepted k.node → k.hash ≡ hash
   slot_accepted hash accepted only at k is = only k.hash k.node (keeps_slot at k is)
 
   -- the overflow cells, as they were lent to the search
@@ -172,14 +174,17 @@ module _ {N : Type 0} (t : Inside N) (v : Contents N)
 
     -- if it found none, it refused each node of the hash
     pub none_left : (refused : N → Type 0)
-        → ((at : ℕ) (node : N) → kept_at t.slots at ≡ Some (record { hash = hash; node = node }) → refused node)
-        → ((at : ℕ) (node : N) → kept_at overflow at ≡ Some (record { hash = hash; node = node }) → refused node)
+        → ((at : ℕ) (node : N) → kept_at t.slots at ≡ Some (record { hash = hash; node = node })
+        → refused node)
+        → ((at : ℕ) (node : N) → kept_at overflow at ≡ Some (record { hash = hash; node = node })
+        → refused node)
         → (node : N) → Keeps v hash node → refused node
     none_left refused own over node keeps =
-        let k : Kept N = record { hash = hash; node = node } in
+        let k : Hashed N = record { hash = hash; node = node } in
         let there : Contains (nodes_in t.slots ++ nodes_in t.overflow.items) k =
         subst (λ (u : Contents N). Contains u.nodes k) (sym view) keeps in
-        elim (Contains-append_cases (nodes_in t.slots) (nodes_in t.overflow.items) k there) as (λ _. refused node) [
+        elim (Contains-append_cases (nodes_in t.slots) (nodes_in t.overflow.items) k there) as
+        (λ _. refused node) [
           | inl first ↦ let at = at-contains t.slots k first in own at.0 node at.1
           | inr later ↦
               let at = at-contains t.overflow.items k later in
@@ -202,7 +207,7 @@ module _ {N : Type 0} (t : Inside N) (v : Contents N)
         ≡ count_by (λ k. eqb (k.hash % m) b) (nodes_in slots) + count_by (λ k. eqb (k.hash % m) b)
         (nodes_in t.overflow.items) =
         ap (λ (u : Contents N). agreeing u hash m) (sym view)
-        ∙ sum_by-append (λ (k : Kept N). cond (eqb (k.hash % m) b) 1 0) (nodes_in slots)
+        ∙ sum_by-append (λ (k : Hashed N). cond (eqb (k.hash % m) b) 1 0) (nodes_in slots)
         (nodes_in t.overflow.items) in
         let own = count_by-lanes (may_be hash) (λ c. eqb (chain_of m c.kept) b) slots base
         (group_within b m low whole)

@@ -6,21 +6,21 @@ use Rattle.std.specs.Prelude.{Option, Some, None, IsSome, slice_index_or, slice_
 use Rattle.std.specs.Int.{IsPowerOfTwo}
 use Rattle.hashlink_table.specs.Contents.{Contents}
 use Rattle.hashlink_table.specs.Stored.{bare_cell}
-use Rattle.hashlink_table.specs.declared.kept.Kept.{Kept}
+use Rattle.hashlink_table.specs.declared.hashed.Hashed.{Hashed}
 use Rattle.hashlink_table.specs.declared.store.cell.Cell.{Cell}
 use Rattle.hashlink_table.specs.declared.store.cell.TheConstants.{END}
 use Rattle.hashlink_table.specs.declared.store.spot.Spot.{Spot}
 use Rattle.hashlink_table.specs.declared.store.spot.Spot.TheVariants.{Slot, Overflow}
 
 module _ {N : Type 0} where
-  abbrev pub kept_at : List (Cell N) → ℕ → Option (Kept N)
+  abbrev pub kept_at : List (Cell N) → ℕ → Option (Hashed N)
   kept_at cells i = (slice_index_or cells i bare_cell).kept
 
   abbrev pub next_at : List (Cell N) → ℕ → ℕ
   next_at cells i = (slice_index_or cells i bare_cell).next
 
   -- the chain of a cell: that of its bucket, and after the buckets' chains that of the free cells
-  abbrev pub chain_of : ℕ → Option (Kept N) → ℕ
+  abbrev pub chain_of : ℕ → Option (Hashed N) → ℕ
   chain_of buckets None = buckets
   chain_of buckets (Some k) = k.hash % buckets
 
@@ -29,12 +29,12 @@ module _ {N : Type 0} where
   chain_at buckets cells i = slice_index_or (map (λ c. chain_of buckets c.kept) cells) i (suc buckets)
 
   -- the node of a cell, before those of later cells
-  abbrev pub with_node : Option (Kept N) → List (Kept N) → List (Kept N)
+  abbrev pub with_node : Option (Hashed N) → List (Hashed N) → List (Hashed N)
   with_node None ks = ks
   with_node (Some k) ks = k ∷ ks
 
   -- the nodes of these cells
-  abbrev pub nodes_in : List (Cell N) → List (Kept N)
+  abbrev pub nodes_in : List (Cell N) → List (Hashed N)
   nodes_in [] = []
   nodes_in (c ∷ cs) = with_node c.kept (nodes_in cs)
 
@@ -47,7 +47,7 @@ module _ {N : Type 0} where
   links_of slots = map (λ c. c.next) slots
 
   -- what a cell has but its link
-  abbrev pub stored_in : Cell N → Option (Kept N) × ℕ
+  abbrev pub stored_in : Cell N → Option (Hashed N) × ℕ
   stored_in c = (c.kept, c.hash)
 
 -- i is one of the list
@@ -101,7 +101,7 @@ AreGrouped a b = a / 16 ≡ b / 16
 -- the node in an slot is of a bucket of its group
 abbrev pub IsInPlace : {N : Type 0} → List (Cell N) → Type 0
 IsInPlace slots =
-    (at : ℕ) (k : Kept _) → kept_at slots at ≡ Some k → AreGrouped (k.hash % length slots) at
+    (at : ℕ) (k : Hashed _) → kept_at slots at ≡ Some k → AreGrouped (k.hash % length slots) at
 
 -- each of the sixteen cells from this one on has a node
 abbrev pub AreTaken : {N : Type 0} → List (Cell N) → ℕ → Type 0
@@ -132,6 +132,6 @@ pub record IsSound {N : Type 0} (slots overflow : List (Cell N))
   pub whole : length slots % 16 ≡ 0
 
 -- the node that a search found
-abbrev pub kept_by : {N : Type 0} → List (Cell N) → List (Cell N) → Spot → Option (Kept N)
+abbrev pub kept_by : {N : Type 0} → List (Cell N) → List (Cell N) → Spot → Option (Hashed N)
 kept_by slots overflow (Slot at) = kept_at slots at
 kept_by slots overflow (Overflow at) = kept_at overflow at

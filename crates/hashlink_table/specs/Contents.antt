@@ -2,15 +2,15 @@
 use Rattle.std.specs.Prelude.{◌≡◌, ℕ, ◌%◌, ◌≤◌, ◌==◌, List, length, count_by, Contains, refl}
 use Rattle.std.specs.Int.{IsPowerOfTwo}
 use Rattle.std.specs.Coded.{Coded, code_by, coded×, coded_ℕ, coded_list}
-use Rattle.hashlink_table.specs.declared.kept.Kept.{Kept}
+use Rattle.hashlink_table.specs.declared.hashed.Hashed.{Hashed}
 
 -- the nodes with their hashes, in an order that means nothing, and how many nodes fit with no allocation
 pub record Contents (N : Type 0) : Type 0 where
-  pub nodes : List (Kept N)
+  pub nodes : List (Hashed N)
   pub room : ℕ
 
 -- a node with its hash is stored as the pair of both
-abbrev pub kept_code : {N : Type 0} → Coded N → Coded (Kept N)
+abbrev pub kept_code : {N : Type 0} → Coded N → Coded (Hashed N)
 kept_code {N} node =
     code_by
     (ℕ × N)
@@ -23,7 +23,7 @@ kept_code {N} node =
 abbrev pub contents_code : {N : Type 0} → Coded N → Coded (Contents N)
 contents_code {N} node =
     code_by
-    (List (Kept N) × ℕ)
+    (List (Hashed N) × ℕ)
     (coded× (coded_list (kept_code node)) coded_ℕ)
     (λ t. (t.nodes, t.room))
     (λ p. record { nodes = p.0; room = p.1 })
@@ -43,7 +43,8 @@ module _ {N : Type 0} where
   abbrev pub ShareBucket : Contents N → ℕ → ℕ → Type 0
   ShareBucket t hash h = (m : ℕ) × AreBuckets t m × (h % m ≡ hash % m)
 
-  -- each node of the hash's bucket may be asked about, and of the table's nodes those of this hash alone are accepted
+  -- each node of the hash's bucket may be asked about, and of the table's nodes those of this hash alone are
+  -- accepted
   abbrev pub CanAsk : Contents N → ℕ → (N → Type 0) → Type 0
   CanAsk t hash asked = (h : ℕ) (node : N) → Keeps t h node → ShareBucket t hash h → asked node
 

@@ -3,7 +3,7 @@ use Rattle.std.specs.Prelude.{◌≡◌, ℕ, ◌+◌, ◌*◌, ◌%◌, ◌≤�
 use Rattle.std.specs.Prelude.{◌++◌}
 use Rattle.std.specs.Prelude.{slice_index_or, slice_set, length, map, Option, None, Some}
 use Rattle.std.specs.Simd.Lanes.{chunk}
-use Rattle.hashlink_table.specs.declared.kept.Kept.{Kept}
+use Rattle.hashlink_table.specs.declared.hashed.Hashed.{Hashed}
 use Rattle.hashlink_table.specs.declared.store.cell.Cell.{Cell}
 use Rattle.hashlink_table.specs.declared.store.cell.TheConstants.{END}
 use Rattle.hashlink_table.specs.declared.store.slots.Rest.{Rest}
@@ -15,7 +15,7 @@ pub record IsStored (rest : Rest) (tag : ℕ) : Type 0 where
   pub small : rest.link ≤ END
 
 -- the cell may have a node of this hash
-abbrev pub kept_may_be : {N : Type 0} → ℕ → Option (Kept N) → Bool
+abbrev pub kept_may_be : {N : Type 0} → ℕ → Option (Hashed N) → Bool
 kept_may_be hash None = false
 kept_may_be hash (Some k) = tag_of k.hash == tag_of hash
 
@@ -51,7 +51,7 @@ module _ {N : Type 0} where
   lanes_of cells base = chunk base 16 cells
 
   -- the cells, where one has this node, has none, or links on to this cell
-  abbrev pub with_kept : List (Cell N) → ℕ → Kept N → List (Cell N)
+  abbrev pub with_kept : List (Cell N) → ℕ → Hashed N → List (Cell N)
   with_kept cells at k =
       slice_set cells at (record (slice_index_or cells at bare_cell) { kept = Some k; hash = k.hash })
 
@@ -62,11 +62,11 @@ module _ {N : Type 0} where
   with_next cells at to = slice_set cells at (record (slice_index_or cells at bare_cell) { next = to })
 
   -- the node that a cell has in the lower half, and in the upper, where so many buckets are doubled
-  abbrev pub low_kept : ℕ → Option (Kept N) → Option (Kept N)
+  abbrev pub low_kept : ℕ → Option (Hashed N) → Option (Hashed N)
   low_kept count None = None
   low_kept count (Some k) = cond (ltb (k.hash % (2 * count)) count) (Some k) None
 
-  abbrev pub high_kept : ℕ → Option (Kept N) → Option (Kept N)
+  abbrev pub high_kept : ℕ → Option (Hashed N) → Option (Hashed N)
   high_kept count None = None
   high_kept count (Some k) = cond (ltb (k.hash % (2 * count)) count) None (Some k)
 

@@ -16,6 +16,7 @@ cell_of node hash link = record {
 abbrev pub bare_cell : {N : Type 0} → Cell N
 bare_cell = record { kept = None; hash = 0; next = END }
 
--- the byte that stands for a node of this hash: the lowest four bits of the hash and its highest four, where 0 is 1
+-- the byte that stands for a node of this hash: the lowest four bits of the hash and its highest four, where
+-- 0 is 1
 abbrev pub tag_of : ℕ → ℕ
 tag_of hash = max 1 (hash % 16 * 16 + hash / 2 ^ 28 % 16)

@@ -6,13 +6,13 @@
 #![tactic(auto)]
 
 mod error;
-mod kept;
+mod hashed;
 mod search;
 mod steps;
 mod store;
 
 pub use error::TryReserveError;
-pub use kept::Kept;
+pub use hashed::Hashed;
 pub use steps::Steps;
 pub use store::table::{MAX_ROOM, Table};
 

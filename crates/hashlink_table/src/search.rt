@@ -2,7 +2,7 @@
 ghost use Rattle.std.specs.Prelude.{◌≡◌, ℕ, ◌+◌, ◌-◌, ◌%◌, ◌<◌, ◌≤◌, ◌==◌};
 ghost use Rattle.std.specs.Prelude.{IfNone, IfSome, Some, count_by, false, length, true};
 ghost use Rattle.std.specs.Int.{IsPowerOfTwo};
-ghost use Rattle.hashlink_table.specs.declared.kept.Kept.{Kept};
+ghost use Rattle.hashlink_table.specs.declared.hashed.Hashed.{Hashed};
 ghost use Rattle.hashlink_table.specs.Stored.{tag_of};
 ghost use Rattle.hashlink_table.specs.Slots.{lanes_of, may_be};
 ghost use Rattle.hashlink_table.specs.Chains.{chain_of, kept_at, kept_by, links_of, IsFilled, IsInPlace};
@@ -27,10 +27,10 @@ fn seek_slots<N: Copy, F: Fn(N) -> bool, L: Ledger>(
     steps: &mut Steps<L>,
 ) -> Option<(usize, N)>
     requires within { base + LANES ≤ length slots.now }
-    requires callable { (at : ℕ) (kept : Kept N) → base ≤ at → at < base + LANES
+    requires callable { (at : ℕ) (kept : Hashed N) → base ≤ at → at < base + LANES
         → kept_at slots.now at ≡ Some kept → tag_of kept.hash ≡ tag_of hash
         → F.pre is_match.now kept.node }
-    requires telling { (at : ℕ) (kept : Kept N) → kept_at slots.now at ≡ Some kept
+    requires telling { (at : ℕ) (kept : Hashed N) → kept_at slots.now at ≡ Some kept
         → F.post is_match.now kept.node true → kept.hash ≡ hash }
     ensures found { IfSome result
         (λ f. (kept_at slots.now f.0 ≡ Some (record { hash = hash; node = f.1 }))
@@ -110,10 +110,10 @@ pub fn seek<N: Copy, F: Fn(N) -> bool, L: Ledger>(
     requires in_place { IsInPlace slots.now }
     requires filled { IsFilled slots.now }
     requires linked { (free : ℕ) × IsLinked (links_of slots.now) cells.now free }
-    requires callable_slots { (at : ℕ) (kept : Kept N) → kept_at slots.now at ≡ Some kept
+    requires callable_slots { (at : ℕ) (kept : Hashed N) → kept_at slots.now at ≡ Some kept
         → kept.hash % length slots.now ≡ hash % length slots.now
         → F.pre is_match.now kept.node }
-    requires telling { (at : ℕ) (kept : Kept N) → kept_at slots.now at ≡ Some kept
+    requires telling { (at : ℕ) (kept : Hashed N) → kept_at slots.now at ≡ Some kept
         → F.post is_match.now kept.node true → kept.hash ≡ hash }
     requires callable { (cell : ℕ) (node : N) → kept_at cells.now cell ≡ Some
         (record { hash = hash; node = node })

@@ -27,27 +27,27 @@ module _ {S : Type 0} where
 
 -- ---- two caches, by what they hold
 
-abbrev pub Held : Type 0
-Held = List (ℕ × ℕ) × List (ℕ × ℕ)
+abbrev pub TwoLists : Type 0
+TwoLists = List (ℕ × ℕ) × List (ℕ × ℕ)
 
 -- what the two caches answer to a command
-abbrev pub answers_shown : Held → PairCommand ℕ ℕ → List ℕ
+abbrev pub answers_shown : TwoLists → PairCommand ℕ ℕ → List ℕ
 answers_shown held command =
     shown_by decimal (answer_to nat_eq held.0 (event_of command))
     ++ (32 ∷ shown_by decimal (answer_to nat_eq held.1 (event_of command)))
 
 module _ (c d : ℕ) where
   -- of two caches of capacities c and d, none of whose inserts is refused
-  abbrev pub PairShows : Held → Option (PairCommand ℕ ℕ) → List ℕ → Held → Type 0
+  abbrev pub PairShows : TwoLists → Option (PairCommand ℕ ℕ) → List ℕ → TwoLists → Type 0
   PairShows old None text new = (text ≡ codes "bad") × (new ≡ old)
   PairShows old (Some command) text new =
       (text ≡ answers_shown old command)
       × (new ≡ (after_event nat_eq c old.0 (event_of command), after_event nat_eq d old.1 (event_of command)))
 
-  abbrev pub PairLineShows : Held → List ℕ → List ℕ → Held → Type 0
+  abbrev pub PairLineShows : TwoLists → List ℕ → List ℕ → TwoLists → Type 0
   PairLineShows old line text new =
       (said : Option (PairCommand ℕ ℕ)) × Says pair_spelled line said × PairShows old said text new
 
 -- what both hold, a line for each
-abbrev pub lists_shown : Held → List ℕ
+abbrev pub lists_shown : TwoLists → List ℕ
 lists_shown held = ended (list_shown held.0) ++ ended (list_shown held.1)

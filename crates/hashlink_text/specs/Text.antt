@@ -11,7 +11,7 @@ use Rattle.hashlink_text.specs.Lines.{lines_of}
 use Rattle.hashlink_text.specs.Spelling.{Says, mode_spelled}
 use Rattle.hashlink_text.specs.declared.modes.Mode.{Mode}
 use Rattle.hashlink_text.specs.declared.modes.Mode.TheVariants.{Map, Cache, Pair, Weighted}
-use Rattle.hashlink_text.specs.CacheTranscript.{CacheLineShows, Held, PairLineShows, lists_shown}
+use Rattle.hashlink_text.specs.CacheTranscript.{CacheLineShows, TwoLists, PairLineShows, lists_shown}
 use Rattle.hashlink_text.specs.Transcript.{LineShows, ShowsAll, ended}
 use Rattle.hashlink_text.specs.WeightedTranscript.{WeightedLineShows}
 
@@ -25,7 +25,7 @@ module _ (S : Type 0) where
   ModeRun (Some (Cache c)) lines text =
       (hasher : S) × (new : CacheState ℕ ℕ S) × ShowsAll CacheLineShows (empty_cache hasher c) lines text new
   ModeRun (Some (Pair c d)) lines text =
-      (answers : List ℕ) × (new : Held) × ShowsAll (PairLineShows c d) ([], []) lines answers new
+      (answers : List ℕ) × (new : TwoLists) × ShowsAll (PairLineShows c d) ([], []) lines answers new
       × (text ≡ answers ++ lists_shown new)
   ModeRun (Some (Weighted b)) lines text =
       (hasher : S) × (new : WeightedState ℕ ℕ S)

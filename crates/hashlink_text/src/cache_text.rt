@@ -3,7 +3,7 @@ ghost use Rattle.std.specs.Prelude.{Some, OnOk};
 ghost use Rattle.hashlink_core.specs.declared.hash_builder.DefaultHashBuilder.{DefaultHashBuilder};
 ghost use Rattle.hashlink_text.specs.Lines.{lines_of};
 ghost use Rattle.hashlink_text.specs.declared.modes.Mode.TheVariants.{Cache};
-ghost use Rattle.hashlink_lru.specs.Cached.{state_in};
+ghost use Rattle.hashlink_lru.specs.Cached.{state_of};
 ghost use Rattle.hashlink_text.specs.CacheTranscript.{CacheLineShows, CacheShows};
 ghost use Rattle.hashlink_text.specs.Text.{ModeRun};
 ghost use Rattle.hashlink_text.specs.Transcript.{Pushes, PushesLine};
@@ -30,7 +30,7 @@ pub(crate) fn run_cache_lines(
 }
 
 impl AnswersLines for LruCache<u64, u64> {
-    ghost shows = { λ old line text new. CacheLineShows (state_in old) line text (state_in new) };
+    ghost shows = { λ old line text new. CacheLineShows (state_of old) line text (state_of new) };
 
     fn answer_line(&mut self, line: &[u8], out: &mut String) -> Result<(), AllocError> {
         answer(self, CacheLine::parse(line), out)
@@ -44,7 +44,7 @@ fn answer(
     out: &mut String,
 ) -> Result<(), AllocError>
     ensures { OnOk result (PushesLine
-        (λ text. CacheShows (state_in cache.old) line text (state_in cache.new)) out.old out.new) }
+        (λ text. CacheShows (state_of cache.old) line text (state_of cache.new)) out.old out.new) }
 {
     match line {
         Some(CacheLine::Do(command)) => {

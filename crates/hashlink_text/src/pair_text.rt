@@ -3,7 +3,7 @@ ghost use Rattle.std.specs.Prelude.{◌≡◌, ◌++◌, ◌∷◌, Some, OnOk, 
 ghost use Rattle.hashlink_core.specs.declared.hash_builder.DefaultHashBuilder.{DefaultHashBuilder};
 ghost use Rattle.hashlink_text.specs.Lines.{lines_of};
 ghost use Rattle.hashlink_text.specs.declared.modes.Mode.TheVariants.{Pair};
-ghost use Rattle.hashlink_lru.specs.Cached.{entries_in, state_in};
+ghost use Rattle.hashlink_lru.specs.Cached.{entries_of, state_of};
 ghost use Rattle.hashlink_text.specs.CacheTranscript.{PairShows, lists_shown};
 ghost use Rattle.hashlink_text.specs.Text.{ModeRun};
 ghost use Rattle.hashlink_text.specs.Transcript.{Pushes, PushesLine, ended, shown_by};
@@ -44,11 +44,11 @@ fn answer(
     out: &mut String,
 ) -> Result<(), AllocError>
     ensures shown { OnOk result (PushesLine
-        (λ text. PairShows (state_in small.old).cap (state_in large.old).cap
-        (entries_in small.old, entries_in large.old)
-        line text (entries_in small.new, entries_in large.new)) out.old out.new) }
-    ensures small_capacity { OnOk result ((state_in small.new).cap ≡ (state_in small.old).cap) }
-    ensures large_capacity { OnOk result ((state_in large.new).cap ≡ (state_in large.old).cap) }
+        (λ text. PairShows (state_of small.old).cap (state_of large.old).cap
+        (entries_of small.old, entries_of large.old)
+        line text (entries_of small.new, entries_of large.new)) out.old out.new) }
+    ensures small_capacity { OnOk result ((state_of small.new).cap ≡ (state_of small.old).cap) }
+    ensures large_capacity { OnOk result ((state_of large.new).cap ≡ (state_of large.old).cap) }
 {
     let Some(command) = line else {
         return writeln!(out, "bad");
@@ -76,7 +76,7 @@ fn push_lists(
     out: &mut String,
 ) -> Result<(), AllocError>
     ensures { OnOk result (string_bytes out.new
-        ≡ string_bytes out.old ++ lists_shown (entries_in small.now, entries_in large.now)) }
+        ≡ string_bytes out.old ++ lists_shown (entries_of small.now, entries_of large.now)) }
 {
     push_list(small.iter(), out)?;
     push_list(large.iter(), out)

@@ -6,7 +6,7 @@ ghost use Rattle.hashlink.specs.Cache.{CacheGetsAndWrites, EvictsFront, OnMap, I
 ghost use Rattle.hashlink.specs.Entries.{put};
 ghost use Rattle.hashlink.specs.MapState.{MapState, Inserts, RefusesEntry};
 ghost use Rattle.hashlink.specs.Steps.{Drains, RemovesMatch, with_value_of};
-ghost use Rattle.hashlink.specs.Cached.{entries_in, state_in};
+ghost use Rattle.hashlink.specs.Cached.{entries_of, state_of};
 ghost use Rattle.hashlink_uses.specs.Texts.{is_text};
 
 use crate::maps::entries::count_word as count_word_in;
@@ -19,10 +19,10 @@ pub fn use_and_write<K: Eq + Hash, V: Drop, S: BuildHasher>(
     key: &K,
     value: V,
 ) -> bool
-    ensures found { result ≡ is_some (lookup (K.eq key.now) (entries_in cache.old)) }
-    ensures there { IsTrue result → CacheGetsAndWrites K.eq (state_in cache.old)
-        (state_in cache.new) key.now value }
-    ensures absent { IsFalse result → state_in cache.new ≡ state_in cache.old }
+    ensures found { result ≡ is_some (lookup (K.eq key.now) (entries_of cache.old)) }
+    ensures there { IsTrue result → CacheGetsAndWrites K.eq (state_of cache.old)
+        (state_of cache.new) key.now value }
+    ensures absent { IsFalse result → state_of cache.new ≡ state_of cache.old }
 {
     match cache.get_mut(key) {
         Some(stored) => {
@@ -39,11 +39,11 @@ pub fn write_in_place<K: Eq + Hash, V: Drop, S: BuildHasher>(
     key: &K,
     value: V,
 ) -> bool
-    ensures found { result ≡ is_some (lookup (K.eq key.now) (entries_in cache.old)) }
+    ensures found { result ≡ is_some (lookup (K.eq key.now) (entries_of cache.old)) }
     ensures there { IsTrue result
-        → state_in cache.new
-        ≡ record (state_in cache.old) { map = with_value_of K.eq (state_in cache.old).map key.now value } }
-    ensures absent { IsFalse result → state_in cache.new ≡ state_in cache.old }
+        → state_of cache.new
+        ≡ record (state_of cache.old) { map = with_value_of K.eq (state_of cache.old).map key.now value } }
+    ensures absent { IsFalse result → state_of cache.new ≡ state_of cache.old }
 {
     match cache.peek_mut(key) {
         Some(stored) => {
@@ -64,23 +64,23 @@ pub fn find_statement<'c>(
     cache: &'c mut LruCache<String, Statement>,
     sql: &str,
 ) -> Option<&'c Statement>
-    ensures { option_copied result ≡ lookup (is_text sql.now) (entries_in cache.old) }
+    ensures { option_copied result ≡ lookup (is_text sql.now) (entries_of cache.old) }
 {
     cache.get(sql)
 }
 
 /// Removes the statement of a text from such a cache, and returns it.
 pub fn drop_statement(cache: &mut LruCache<String, Statement>, sql: &str) -> Option<Statement>
-    ensures value { result ≡ lookup (is_text sql.now) (entries_in cache.old) }
+    ensures value { result ≡ lookup (is_text sql.now) (entries_of cache.old) }
     ensures removes { OnMap (λ a b. RemovesMatch (is_text sql.now) a b
-        (lookup_entry (is_text sql.now) a.entries)) (state_in cache.old) (state_in cache.new) }
+        (lookup_entry (is_text sql.now) a.entries)) (state_of cache.old) (state_of cache.new) }
 {
     cache.remove(sql)
 }
 
 /// Empties a cache, and keeps its nodes.
 pub fn empty_out<K: Eq + Hash + Drop, V: Drop, S: BuildHasher>(cache: &mut LruCache<K, V, S>)
-    ensures { OnMap Drains (state_in cache.old) (state_in cache.new) }
+    ensures { OnMap Drains (state_of cache.old) (state_of cache.new) }
 {
     let _rest = cache.drain();
 }
@@ -92,7 +92,7 @@ pub fn put_by_entry<K: Eq + Hash + Drop, V: Drop, S: BuildHasher>(
     key: K,
     value: V,
 ) -> Result<(), (K, V)>
-    ensures over { (state_in cache.old).cap < length (entries_in cache.old) → IsOk result }
+    ensures over { (state_of cache.old).cap < length (entries_of cache.old) → IsOk result }
 {
     cache.entry(key).or_insert(value)?;
     Ok(())
@@ -104,18 +104,18 @@ pub fn count_word<K: Eq + Hash + Drop, S: BuildHasher>(
     cache: &mut LruCache<K, u64, S>,
     word: K,
 ) -> Result<(), (K, u64)>
-    requires { unwrap_or (lookup (K.eq word) (front_evicted (entries_in cache.old) (state_in cache.old).cap))
+    requires { unwrap_or (lookup (K.eq word) (front_evicted (entries_of cache.old) (state_of cache.old).cap))
         0 + 1 < 2 ^ 64 }
     ensures counts { OnOk result ((between : MapState K ℕ S)
-        × EvictsFront (state_in cache.old).map between (state_in cache.old).cap
-        × Inserts K.eq between (state_in cache.new).map word
+        × EvictsFront (state_of cache.old).map between (state_of cache.old).cap
+        × Inserts K.eq between (state_of cache.new).map word
         (unwrap_or (lookup (K.eq word) between.entries) 0 + 1)
         (length between.entries) (Ok (lookup (K.eq word) between.entries))) }
     ensures refused { IfErr result (λ pair. (between : MapState K ℕ S)
-        × EvictsFront (state_in cache.old).map between (state_in cache.old).cap
-        × RefusesEntry K.eq between (state_in cache.new).map word 0 pair) }
-    ensures over { (state_in cache.old).cap < length (entries_in cache.old) → IsOk result }
-    ensures capacity { (state_in cache.new).cap ≡ (state_in cache.old).cap }
+        × EvictsFront (state_of cache.old).map between (state_of cache.old).cap
+        × RefusesEntry K.eq between (state_of cache.new).map word 0 pair) }
+    ensures over { (state_of cache.old).cap < length (entries_of cache.old) → IsOk result }
+    ensures capacity { (state_of cache.new).cap ≡ (state_of cache.old).cap }
 {
     cache.make_room();
     count_word_in(cache.map_mut(), word)
@@ -129,11 +129,11 @@ pub fn insert_both<K: Eq + Hash + Drop, V: Drop, S: BuildHasher>(
     second: (K, V),
 ) -> (Result<Option<V>, (K, V)>, Result<Option<V>, (K, V)>)
     ensures not_refused { IsOk result.0
-        → (state_in cache.old).cap
-        < length (put K.eq (entries_in cache.old) first.0 first.1 (length (entries_in cache.old)))
+        → (state_of cache.old).cap
+        < length (put K.eq (entries_of cache.old) first.0 first.1 (length (entries_of cache.old)))
         → IsOk result.1 }
-    ensures within { (n : ℕ) → IsWithin (state_in cache.old) n → IsWithin (state_in cache.new) n }
-    ensures fits { IsOk result.1 → IsWithin (state_in cache.new) 0 }
+    ensures within { (n : ℕ) → IsWithin (state_of cache.old) n → IsWithin (state_of cache.new) n }
+    ensures fits { IsOk result.1 → IsWithin (state_of cache.new) 0 }
 {
     let (first_key, first_value) = first;
     let (second_key, second_value) = second;

@@ -1,6 +1,6 @@
 //! What a larger or a smaller capacity of a cache is worth.
 ghost use Rattle.std.specs.Prelude.{◌≡◌, ◌≤◌, ◌+◌, ◌-◌, ◌*◌, ℕ, List, map, IfOk, count_by, is_none};
-ghost use Rattle.hashlink.specs.Cached.{entries_in};
+ghost use Rattle.hashlink.specs.Cached.{entries_of};
 ghost use Rattle.hashlink.specs.History.{Schedule, cache_misses, misses};
 ghost use Rattle.hashlink.specs.Inclusion.{IsEndOf, SameKey};
 
@@ -18,7 +18,7 @@ pub fn two_caches<K: Eq + Hash + Copy, V: Copy>(
     commands: &[PairCommand<K, V>],
 ) -> Result<(LruCache<K, V>, LruCache<K, V>), AllocError>
     requires { small ≤ large }
-    ensures { IfOk result (λ caches. IsEndOf (SameKey K.eq) (entries_in caches.0) (entries_in caches.1)) }
+    ensures { IfOk result (λ caches. IsEndOf (SameKey K.eq) (entries_of caches.0) (entries_of caches.1)) }
 {
     let Pair { small, large, .. } = run_pair(alloc, small, large, commands)?;
     Ok((small, large))

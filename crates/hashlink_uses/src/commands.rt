@@ -5,8 +5,8 @@ ghost use Rattle.std.specs.List.{AllPass};
 ghost use Rattle.std.specs.Map.{lookup};
 ghost use Rattle.hashlink.specs.Cache.{IsWithin};
 ghost use Rattle.hashlink.specs.CacheRun.{names_no_entry};
-ghost use Rattle.hashlink.specs.Cached.{entries_in, state_in};
-ghost use Rattle.hashlink.specs.Keyed.{entries_of};
+ghost use Rattle.hashlink.specs.Cached.{entries_of, state_of};
+ghost use Rattle.hashlink.specs.Keyed as keyed;
 ghost use Rattle.hashlink.specs.Run.{keeps_nodes};
 ghost use Rattle.hashlink.specs.declared.run.Reply.TheVariants.{Value};
 
@@ -21,10 +21,10 @@ pub fn length_after<K: Eq + Hash + Drop, V: Drop, S: BuildHasher>(
     cache: &mut LruCache<K, V, S>,
     commands: Vec<CacheCommand<K, V>>,
 ) -> Result<usize, AllocError>
-    requires within { IsWithin (state_in cache.old) 0 }
+    requires within { IsWithin (state_of cache.old) 0 }
     requires no_entries { AllPass names_no_entry commands.items }
-    ensures length { IfOk result (λ n. n ≡ length (entries_in cache.new)) }
-    ensures within { IfOk result (λ n. n ≤ (state_in cache.new).cap) }
+    ensures length { IfOk result (λ n. n ≡ length (entries_of cache.new)) }
+    ensures within { IfOk result (λ n. n ≤ (state_of cache.new).cap) }
 {
     run_cache(cache, commands, &|_: &K, _: &V| true)?;
     Ok(cache.len())
@@ -74,7 +74,7 @@ pub fn remove_then_insert<K: Eq + Hash + Drop, V: Drop, S: BuildHasher>(
     key: K,
     value: V,
 ) -> Result<Vec<Reply<K, V>>, AllocError>
-    ensures answered { IfOk result (λ replies. IsSome (lookup (K.eq gone) (entries_of map.old))
+    ensures answered { IfOk result (λ replies. IsSome (lookup (K.eq gone) (keyed.entries_of map.old))
         → (was : Option V) × (slice_get replies.items 1 ≡ Some (Value was))) }
 {
     let commands = two_commands(alloc, Command::Remove(gone), Command::Insert(key, value))?;
@@ -91,7 +91,7 @@ pub fn insert_then_keep_divisors<K: Eq + Hash + Drop, S: BuildHasher>(
     total: u64,
 ) -> Result<Vec<Reply<K, u64>>, AllocError>
     requires given { value ≢ 0 }
-    requires held { All (λ e. e.1 ≢ 0) (entries_of map.old) }
+    requires held { All (λ e. e.1 ≢ 0) (keyed.entries_of map.old) }
 {
     let commands = two_commands(alloc, Command::Insert(key, value), Command::Keep)?;
     run(map, commands, &|_: &K, value: &u64| total % *value == 0)

@@ -6,7 +6,7 @@ ghost use Rattle.std.specs.Map.{lookup, remove_entry};
 ghost use Rattle.std.specs.Option.{UnwrapsOrElse};
 ghost use Rattle.std.specs.Set.{is_member, remove_key};
 ghost use Rattle.hashlink.specs.Cache.{cache_get, cache_put};
-ghost use Rattle.hashlink.specs.Cached.{UsesAndWrites, entries_in, state_in};
+ghost use Rattle.hashlink.specs.Cached.{UsesAndWrites, entries_of, state_of};
 ghost use Rattle.hashlink.specs.Sets.{elements_of, put_element, replaced};
 ghost use Rattle.hashlink.specs.TryInsert.{HandsBack};
 
@@ -21,29 +21,29 @@ pub fn remember(
     page: u32,
     size: u64,
 ) -> Result<Option<u64>, (u32, u64)>
-    ensures entries { OnOk result (entries_in sizes.new
-        ≡ cache_put nat_eq (entries_in sizes.old) (state_in sizes.old).cap page size) }
-    ensures old { IfOk result (λ old. old ≡ lookup (nat_eq page) (entries_in sizes.old)) }
-    ensures unchanged { OnErr result (entries_in sizes.new ≡ entries_in sizes.old) }
+    ensures entries { OnOk result (entries_of sizes.new
+        ≡ cache_put nat_eq (entries_of sizes.old) (state_of sizes.old).cap page size) }
+    ensures old { IfOk result (λ old. old ≡ lookup (nat_eq page) (entries_of sizes.old)) }
+    ensures unchanged { OnErr result (entries_of sizes.new ≡ entries_of sizes.old) }
     ensures handed_back { IfErr result (λ pair. pair ≡ (page, size)) }
-    ensures fits { OnOk result (length (entries_in sizes.new) ≤ (state_in sizes.new).cap) }
-    ensures capacity { (state_in sizes.new).cap ≡ (state_in sizes.old).cap }
+    ensures fits { OnOk result (length (entries_of sizes.new) ≤ (state_of sizes.new).cap) }
+    ensures capacity { (state_of sizes.new).cap ≡ (state_of sizes.old).cap }
 {
     sizes.insert(page, size)
 }
 
 /// Returns the size of a page, which is then the most recently used one.
 pub fn recall(sizes: &mut LruCache<u32, u64>, page: u32) -> Option<u64>
-    ensures found { result ≡ lookup (nat_eq page) (entries_in sizes.old) }
-    ensures entries { entries_in sizes.new ≡ cache_get nat_eq (entries_in sizes.old) page }
-    ensures capacity { (state_in sizes.new).cap ≡ (state_in sizes.old).cap }
+    ensures found { result ≡ lookup (nat_eq page) (entries_of sizes.old) }
+    ensures entries { entries_of sizes.new ≡ cache_get nat_eq (entries_of sizes.old) page }
+    ensures capacity { (state_of sizes.new).cap ≡ (state_of sizes.old).cap }
 {
     sizes.get(&page).copied()
 }
 
 /// Adds one to the hits of a page, if they are counted.
 pub fn hit(hits: &mut LruCache<u32, u64>, page: u32)
-    ensures { (state_in hits.new).cap ≡ (state_in hits.old).cap }
+    ensures { (state_of hits.new).cap ≡ (state_of hits.old).cap }
 {
     if let Some(count) = hits.get_mut(&page) {
         *count = count.wrapping_add(1);
@@ -52,16 +52,16 @@ pub fn hit(hits: &mut LruCache<u32, u64>, page: u32)
 
 /// Removes a page, and returns its size.
 pub fn forget(sizes: &mut LruCache<u32, u64>, page: u32) -> Option<u64>
-    ensures found { result ≡ lookup (nat_eq page) (entries_in sizes.old) }
-    ensures entries { entries_in sizes.new ≡ remove_entry (nat_eq page) (entries_in sizes.old) }
-    ensures capacity { (state_in sizes.new).cap ≡ (state_in sizes.old).cap }
+    ensures found { result ≡ lookup (nat_eq page) (entries_of sizes.old) }
+    ensures entries { entries_of sizes.new ≡ remove_entry (nat_eq page) (entries_of sizes.old) }
+    ensures capacity { (state_of sizes.new).cap ≡ (state_of sizes.old).cap }
 {
     sizes.remove(&page)
 }
 
 /// Removes a page, and returns it with its size. What is returned was in the cache.
 pub fn forget_entry(sizes: &mut LruCache<u32, u64>, page: u32) -> Option<(u32, u64)>
-    ensures { IfSome result (Contains (entries_in sizes.old)) }
+    ensures { IfSome result (Contains (entries_of sizes.old)) }
 {
     sizes.remove_entry(&page)
 }
@@ -72,11 +72,11 @@ pub fn value_or<K: Eq + Hash + Drop, V: Copy, S: BuildHasher>(
     key: K,
     value: V,
 ) -> Result<V, (K, V)>
-    ensures value { IfOk result (λ v. v ≡ unwrap_or (lookup (K.eq key) (entries_in cache.old)) value) }
+    ensures value { IfOk result (λ v. v ≡ unwrap_or (lookup (K.eq key) (entries_of cache.old)) value) }
     ensures used { IfOk result
-        (λ v. UsesAndWrites K.eq (state_in cache.old) (state_in cache.new) key v) }
+        (λ v. UsesAndWrites K.eq (state_of cache.old) (state_of cache.new) key v) }
     ensures handed_back { IfErr result (λ pair. pair ≡ (key, value)) }
-    ensures unchanged { OnErr result (entries_in cache.new ≡ entries_in cache.old) }
+    ensures unchanged { OnErr result (entries_of cache.new ≡ entries_of cache.old) }
 {
     Ok(*cache.get_or_insert_with(key, || value)?)
 }
@@ -91,11 +91,11 @@ pub fn value_or_made<
 >(cache: &mut LruCache<K, V, S>, key: K, make: F) -> Result<V, TryInsertError<K, V, E>>
     requires { F.pre make }
     ensures value { IfOk result
-        (λ v. UnwrapsOrElse (lookup (K.eq key) (entries_in cache.old)) (λ x. F.post make (Ok x)) v) }
+        (λ v. UnwrapsOrElse (lookup (K.eq key) (entries_of cache.old)) (λ x. F.post make (Ok x)) v) }
     ensures used { IfOk result
-        (λ v. UsesAndWrites K.eq (state_in cache.old) (state_in cache.new) key v) }
+        (λ v. UsesAndWrites K.eq (state_of cache.old) (state_of cache.new) key v) }
     ensures handed_back { IfErr result (HandsBack (F.post make) key) }
-    ensures unchanged { OnErr result (entries_in cache.new ≡ entries_in cache.old) }
+    ensures unchanged { OnErr result (entries_of cache.new ≡ entries_of cache.old) }
 {
     Ok(*cache.get_or_try_insert_with(key, make)?)
 }

@@ -2,8 +2,9 @@
 ghost use Rattle.std.specs.Prelude.{◌≡◌, [], IfOk, OnErr, OnOk, nat_eq};
 ghost use Rattle.std.specs.List.{list_any};
 ghost use Rattle.hashlink.specs.Algebra.{intersection_of};
-ghost use Rattle.hashlink.specs.Cached.{entries_in};
-ghost use Rattle.hashlink.specs.Keyed.{entries_of, state_of};
+ghost use Rattle.hashlink.specs.Cached.{entries_of};
+ghost use Rattle.hashlink.specs.Keyed as keyed;
+ghost use Rattle.hashlink.specs.Keyed.{state_of};
 ghost use Rattle.hashlink.specs.Many.{AcceptsAll, InsertsPair};
 ghost use Rattle.hashlink.specs.Sets.{elements_of};
 
@@ -16,7 +17,7 @@ pub fn has_value<K: Eq + Hash, V: PartialEq, S: BuildHasher>(
     map: &LinkedHashMap<K, V, S>,
     value: &V,
 ) -> bool
-    ensures { result ≡ list_any (λ e. V.eq e.1 value.now) (entries_of map.now) }
+    ensures { result ≡ list_any (λ e. V.eq e.1 value.now) (keyed.entries_of map.now) }
 {
     for (_, stored) in map {
         if stored == value {
@@ -43,7 +44,7 @@ pub fn has_cached<K: Eq + Hash, V: PartialEq, S: BuildHasher>(
     cache: &LruCache<K, V, S>,
     value: &V,
 ) -> bool
-    ensures { result ≡ list_any (λ e. V.eq e.1 value.now) (entries_in cache.now) }
+    ensures { result ≡ list_any (λ e. V.eq e.1 value.now) (entries_of cache.now) }
 {
     for (_, stored) in cache {
         if stored == value {
@@ -60,7 +61,7 @@ pub fn insert_with_room<K: Eq + Hash + Drop, V: Drop, S: BuildHasher>(
     key: K,
     value: V,
 ) -> Result<(), AllocError>
-    ensures unchanged { OnErr result (entries_of map.new ≡ entries_of map.old) }
+    ensures unchanged { OnErr result (keyed.entries_of map.new ≡ keyed.entries_of map.old) }
 {
     map.reserve(3)?;
     map.insert(key, value).map_err(|_| AllocError)?;
@@ -74,7 +75,7 @@ pub fn append<K: Eq + Hash + Drop, V: Drop, S: BuildHasher + Drop>(
     other: LinkedHashMap<K, V, S>,
 ) -> Result<(), AllocError>
     ensures all { OnOk result
-        (AcceptsAll (InsertsPair K.eq) (state_of map.old) (entries_of other) (state_of map.new)) }
+        (AcceptsAll (InsertsPair K.eq) (state_of map.old) (keyed.entries_of other) (state_of map.new)) }
 {
     map.extend(other)?;
     Ok(())
@@ -82,7 +83,7 @@ pub fn append<K: Eq + Hash + Drop, V: Drop, S: BuildHasher + Drop>(
 
 /// Removes the entries in turn, front first.
 pub fn pop_each<K: Eq + Hash + Drop, V: Drop, S: BuildHasher>(map: &mut LinkedHashMap<K, V, S>)
-    ensures { entries_of map.new ≡ [] }
+    ensures { keyed.entries_of map.new ≡ [] }
 {
     while let Some(_pair) = map.pop_front() {}
 }

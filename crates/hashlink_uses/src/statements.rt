@@ -3,7 +3,7 @@ ghost use Rattle.std.specs.Prelude.{◌≡◌, ◌⊎◌, ℕ, IfSome, IsSome, N
 ghost use Rattle.std.specs.Fn.{FnOnceReturnsAt};
 ghost use Rattle.std.specs.Map.{lookup};
 ghost use Rattle.hashlink.specs.Cache.{CacheGetsMatch, IsWithin};
-ghost use Rattle.hashlink.specs.Cached.{entries_in, state_in};
+ghost use Rattle.hashlink.specs.Cached.{entries_of, state_of};
 ghost use Rattle.hashlink_uses.specs.Texts.{is_text, PutsText};
 
 use hashlink::LruCache;
@@ -21,16 +21,16 @@ pub fn get_or_prepare<P: Copy, F: FnOnce(&str) -> P, S: BuildHasher>(
     prepare: F,
 ) -> P
     requires { F.IsAlwaysCallable prepare }
-    ensures kept { IfSome (lookup (is_text sql.now) (entries_in cache.old)) (λ kept. result ≡ kept) }
-    ensures prepared { lookup (is_text sql.now) (entries_in cache.old) ≡ None
+    ensures kept { IfSome (lookup (is_text sql.now) (entries_of cache.old)) (λ kept. result ≡ kept) }
+    ensures prepared { lookup (is_text sql.now) (entries_of cache.old) ≡ None
         → FnOnceReturnsAt F.FnOnce prepare sql.now result }
-    ensures used { IsSome (lookup (is_text sql.now) (entries_in cache.old))
-        → CacheGetsMatch (is_text sql.now) (state_in cache.old) (state_in cache.new) (Some result) }
-    ensures stored { lookup (is_text sql.now) (entries_in cache.old) ≡ None
-        → (entries_in cache.new ≡ entries_in cache.old)
-        ⊎ PutsText (state_in cache.old) (state_in cache.new) sql.now result }
-    ensures capacity { (state_in cache.new).cap ≡ (state_in cache.old).cap }
-    ensures within { (n : ℕ) → IsWithin (state_in cache.old) n → IsWithin (state_in cache.new) n }
+    ensures used { IsSome (lookup (is_text sql.now) (entries_of cache.old))
+        → CacheGetsMatch (is_text sql.now) (state_of cache.old) (state_of cache.new) (Some result) }
+    ensures stored { lookup (is_text sql.now) (entries_of cache.old) ≡ None
+        → (entries_of cache.new ≡ entries_of cache.old)
+        ⊎ PutsText (state_of cache.old) (state_of cache.new) sql.now result }
+    ensures capacity { (state_of cache.new).cap ≡ (state_of cache.old).cap }
+    ensures within { (n : ℕ) → IsWithin (state_of cache.old) n → IsWithin (state_of cache.new) n }
 {
     if let Some(kept) = cache.get(sql) {
         return *kept;

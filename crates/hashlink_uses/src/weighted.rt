@@ -3,7 +3,7 @@ ghost use Rattle.std.specs.Prelude.{◌≡◌, ◌≤◌, ◌<◌, IfOk, IsOk, O
 ghost use Rattle.std.specs.Map.{lookup};
 ghost use Rattle.hashlink.specs.Weights.{total_weight, weighted_put};
 ghost use Rattle.hashlink.specs.Answers.{without_weight};
-ghost use Rattle.hashlink.specs.Weighed.{WeightedGets};
+ghost use Rattle.hashlink.specs.Weighed.{entries_of, WeightedGets};
 
 use hashlink::weighted::{WeightError, WeightedCache};
 use std::hash::{BuildHasher, Hash};
@@ -14,7 +14,7 @@ pub fn use_number<K: Eq + Hash, S: BuildHasher>(
     key: &K,
 ) -> Option<u64>
     ensures used { WeightedGets K.eq cache.old cache.new key.now }
-    ensures value { result ≡ without_weight (lookup (K.eq key.now) cache.old.map.entries) }
+    ensures value { result ≡ without_weight (lookup (K.eq key.now) (entries_of cache.old)) }
 {
     let value = cache.get(key)?;
     Some(*value)
@@ -27,9 +27,9 @@ pub fn insert_and_sum<K: Eq + Hash + Drop, V: Drop, S: BuildHasher>(
     value: V,
     weight: u64,
 ) -> Result<u64, WeightError<K, V>>
-    ensures entries { OnOk result (cache.new.map.entries
-        ≡ weighted_put K.eq cache.old.map.entries cache.old.budget key value weight) }
-    ensures sum { IfOk result (λ n. n ≡ total_weight cache.new.map.entries) }
+    ensures entries { OnOk result (entries_of cache.new
+        ≡ weighted_put K.eq (entries_of cache.old) cache.old.budget key value weight) }
+    ensures sum { IfOk result (λ n. n ≡ total_weight (entries_of cache.new)) }
     ensures within { IfOk result (λ n. n ≤ cache.old.budget) }
     ensures too_heavy { cache.old.budget < weight → result ≡ Err (WeightError.TooHeavy (key, value)) }
 {

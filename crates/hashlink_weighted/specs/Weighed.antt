@@ -10,6 +10,10 @@ use Rattle.hashlink_model.specs.Weights.{WeightedState, total_weight}
 abbrev pub empty_weighted : {K V S : Type 0} → S → ℕ → WeightedState K V S
 empty_weighted s n = record { map = empty_map s; budget = n }
 
+-- its entries, each with its value and its weight, in order
+abbrev pub entries_of : {K V S : Type 0} → WeightedState K V S → List (K × (V × ℕ))
+entries_of c = c.map.entries
+
 -- an entry as a walk shows it
 abbrev pub deref_weighed : {K V : Type 0} → Bor K × Bor V × ℕ → K × (V × ℕ)
 deref_weighed e = (e.0.now, (e.1.now, e.2))

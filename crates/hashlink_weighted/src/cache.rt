@@ -3,11 +3,11 @@
 ghost use Rattle.std.specs.Prelude.{◌≡◌, ◌^◌, ◌<◌, ◌≤◌, ◌↔◌, length, IsTrue};
 ghost use Rattle.hashlink_model.specs.Entries.{IsEntries};
 ghost use Rattle.hashlink_model.specs.Weights.{total_weight};
-ghost use Rattle.hashlink_weighted.specs.Weighed.{empty_weighted};
+ghost use Rattle.hashlink_weighted.specs.Weighed.{entries_of, empty_weighted};
 
-mod dropping;
+mod eviction;
 mod inserts;
-mod uses;
+mod lookups;
 
 use crate::iter::WeightedIter;
 use hashlink_map::{DefaultHashBuilder, LinkedHashMap};
@@ -26,7 +26,8 @@ pub struct WeightedCache<K: Eq + Hash, V, S: BuildHasher = DefaultHashBuilder> {
 }
 
 impl<K: Eq + Hash, V, S: BuildHasher> Model for WeightedCache<K, V, S> {
-    ghost use Rattle.hashlink_core.specs.Keyed.{state_of, entries_of};
+    ghost use Rattle.hashlink_core.specs.Keyed as keyed;
+    ghost use Rattle.hashlink_core.specs.Keyed.{state_of};
     ghost use Rattle.hashlink_model.specs.Weights.{WeightedState};
     ghost use Rattle.hashlink_weighted.specs.Weighed.{HasTotal};
 
@@ -34,7 +35,7 @@ impl<K: Eq + Hash, V, S: BuildHasher> Model for WeightedCache<K, V, S> {
 
     ghost view = { λ c. record { map = state_of c.map; budget = c.budget } };
 
-    ghost invariant = { λ c. HasTotal (entries_of c.map) c.total c.budget };
+    ghost invariant = { λ c. HasTotal (keyed.entries_of c.map) c.total c.budget };
 }
 
 impl<K: Eq + Hash, V> WeightedCache<K, V, DefaultHashBuilder> {
@@ -73,7 +74,7 @@ impl<K: Eq + Hash, V, S: BuildHasher> WeightedCache<K, V, S> {
 
     /// Returns the sum of the weights, which in every cache is at most its budget. It takes constant time.
     pub fn total(&self) -> u64
-        ensures sum { result ≡ total_weight self.now.map.entries }
+        ensures sum { result ≡ total_weight (entries_of self.now) }
         ensures within { result ≤ self.now.budget }
     {
         self.total
@@ -81,18 +82,18 @@ impl<K: Eq + Hash, V, S: BuildHasher> WeightedCache<K, V, S> {
 
     /// Returns the number of entries. It takes constant time.
     pub fn len(&self) -> usize
-        ensures len { result ≡ length self.now.map.entries }
+        ensures len { result ≡ length (entries_of self.now) }
         ensures small { result < 2 ^ 63 }
 
         // No two keys are equal, in this cache as in every cache.
-        ensures distinct { IsEntries K.eq self.now.map.entries }
+        ensures distinct { IsEntries K.eq (entries_of self.now) }
     {
         self.map.len()
     }
 
     /// Returns whether the cache is empty. It takes constant time.
     pub fn is_empty(&self) -> bool
-        ensures { IsTrue result ↔ (length self.now.map.entries ≡ 0) }
+        ensures { IsTrue result ↔ (length (entries_of self.now) ≡ 0) }
     {
         self.map.is_empty()
     }
@@ -100,10 +101,10 @@ impl<K: Eq + Hash, V, S: BuildHasher> WeightedCache<K, V, S> {
     /// Returns an iterator over the entries with their weights, from front to back: the least recently used
     /// comes first. It is not a use. It does not allocate, and each step takes constant time.
     pub fn iter(&self) -> WeightedIter<'_, K, V>
-        ensures rest { result ≡ self.now.map.entries }
+        ensures rest { result ≡ entries_of self.now }
         ensures runs { ShowsInOrder (deref_weighed {K = K} {V = V}) }
         ensures runs_back { ShowsInReverse (deref_weighed {K = K} {V = V}) }
-        ensures fits { length self.now.map.entries < 2 ^ 63 }
+        ensures fits { length (entries_of self.now) < 2 ^ 63 }
     {
         WeightedIter::new(self.map.iter())
     }

@@ -3,10 +3,10 @@
 #![tactic(auto)]
 
 mod cache;
+mod debug;
 mod error;
 mod iter;
 pub mod laws;
-mod texts;
 
 pub use cache::WeightedCache;
 pub use error::WeightError;

@@ -3,7 +3,7 @@ use Rattle.std.proofs.Common.{◌≡◌, ℕ, ◌+◌, ◌%◌, ◌∷◌, cond,
 use Rattle.std.specs.Prelude.{IsPermutation}
 use Rattle.std.proofs.lemmas.List.Sorted.{sum_by-IsPermutation}
 use Rattle.std.proofs.lemmas.List.Sums.{sum_by-cons}
-use Rattle.hashlink_table.specs.declared.kept.Kept.{Kept}
+use Rattle.hashlink_table.specs.declared.hashed.Hashed.{Hashed}
 use Rattle.hashlink_table.specs.Contents.{Contents, agreeing}
 
 -- one node more agrees, or none
@@ -11,7 +11,7 @@ pub agreeing_inserted : {N : Type 0} (old new : Contents N) (hash : ℕ) (node :
     → IsPermutation (record { hash = hash; node = node } ∷ old.nodes) new.nodes → (h m : ℕ)
     → agreeing new h m ≡ agreeing old h m + cond (eqb (hash % m) (h % m)) 1 0
 agreeing_inserted {N} old new hash node inserted h m =
-    let agrees = λ (k : Kept N). cond {A = ℕ} (eqb (k.hash % m) (h % m)) 1 0 in
+    let agrees = λ (k : Hashed N). cond {A = ℕ} (eqb (k.hash % m) (h % m)) 1 0 in
     let same = sum_by-IsPermutation agrees _ _ inserted in
     let more = sum_by-cons agrees (record { hash = hash; node = node }) old.nodes in
     same ∙ more ∙ omega arith

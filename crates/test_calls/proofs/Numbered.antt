@@ -5,7 +5,7 @@ use Rattle.std.specs.Prelude.{IsPermutation}
 use Rattle.std.proofs.lemmas.Bool.{cases_eq, cases_lt, eq-eqb, ne_eqb}
 use Rattle.std.proofs.lemmas.List.Sorted.{length_permutation, sum_by-IsPermutation}
 use Rattle.std.proofs.Math.Nat.{mod-eq_of_lt, mod_self}
-use Rattle.hashlink_table.specs.declared.kept.Kept.{Kept}
+use Rattle.hashlink_table.specs.declared.hashed.Hashed.{Hashed}
 use Rattle.hashlink_table.specs.Contents.{Contents, agreeing, len_of}
 use Rattle.test_calls.proofs.Agreeing.{agreeing_inserted}
 
@@ -40,7 +40,7 @@ numbered_more {N} t same new n node numbered most moved inserted = record {
   count = omega (arith, length_permutation _ _ inserted, length_permutation _ _ moved, numbered.count);
   few = λ h m low.
       let was : agreeing same h m ≡ agreeing t h m
-      = sum_by-IsPermutation (λ (k : Kept N). cond {A = ℕ} (eqb (k.hash % m) (h % m)) 1 0) _ _ moved in
+      = sum_by-IsPermutation (λ (k : Hashed N). cond {A = ℕ} (eqb (k.hash % m) (h % m)) 1 0) _ _ moved in
       let now = agreeing_inserted same new n node inserted h m in
       elim (cases_eq (n % m) (h % m)) as
       (λ _. (agreeing new h m ≡ 0)

@@ -3,7 +3,7 @@ use Rattle.std.proofs.Common.{◌≡◌, ℕ, suc, zero, [], ◌∷◌, Option, 
 use Rattle.std.proofs.Common.{subst, ◌∙◌, arith}
 use Rattle.std.specs.Prelude.{IsPermutation, Contains, IfSome, IfNone}
 use Rattle.std.proofs.lemmas.List.Sorted.{Contains-permutation, IsPermutation-sym}
-use Rattle.hashlink_table.specs.declared.kept.Kept.{Kept}
+use Rattle.hashlink_table.specs.declared.hashed.Hashed.{Hashed}
 use Rattle.hashlink_table.specs.Contents.{Contents, len_of}
 use Rattle.test_calls.specs.Telling.{Tells}
 
@@ -17,7 +17,7 @@ module _ {N : Type 0} (told : N → ℕ) where
     tells-same same tells hash node there =
         tells hash node (Contains-permutation _ _ _ (IsPermutation-sym _ _ same) there)
 
-    module _ (k : Kept N) where
+    module _ (k : Hashed N) where
       pub tells-more : IsPermutation (k ∷ old.nodes) new.nodes → k.hash ≡ told k.node → Tells told old
           → Tells told new
       tells-more came is tells hash node there =
@@ -25,7 +25,7 @@ module _ {N : Type 0} (told : N → ℕ) where
         where
           cases : Contains (k ∷ old.nodes) (record { hash = hash; node = node }) → hash ≡ told node
           cases (zero, lt, at) =
-              sym (ap (λ (k : Kept N). k.hash) at) ∙ is ∙ ap (λ (k : Kept N). told k.node) at
+              sym (ap (λ (k : Hashed N). k.hash) at) ∙ is ∙ ap (λ (k : Hashed N). told k.node) at
           cases (suc i, lt, at) = tells hash node (i, omega arith, at)
 
     -- by what a removal says

@@ -1,7 +1,7 @@
 //! The forms in which std's maps are called: what stands for a key in a lookup, `?`, std's traits, operators
 //! and loops. That each compiles, is proved and runs is what is tested.
 
+mod collect;
 mod errors;
 mod look_ups;
-mod made;
 mod sets;

@@ -10,6 +10,8 @@ mod commands;
 #[cfg(test)]
 mod counting;
 #[cfg(test)]
+mod debug;
+#[cfg(test)]
 mod entries;
 #[cfg(test)]
 mod few;
@@ -30,8 +32,6 @@ pub mod raw_insert;
 mod rooms;
 #[cfg(test)]
 mod serving;
-#[cfg(test)]
-mod texts;
 #[cfg(test)]
 mod uses;
 #[cfg(test)]

@@ -5,7 +5,7 @@ mod forms;
 mod maps;
 mod sessions;
 mod sets;
-mod uses;
+mod whole_uses;
 
 use std::process::ExitCode;
 

@@ -84,13 +84,13 @@ impl<K: Eq + Hash, V, S: BuildHasher> KeyedList<K, V, S> {
     }
 
     /// Inserts the pair at the front, as `insert_at` does.
-    pub fn insert_first(&mut self, key: K, value: V) -> Result<Option<V>, (K, V)>
+    pub fn insert_front(&mut self, key: K, value: V) -> Result<Option<V>, (K, V)>
     where
         K: Drop,
         ensures inserts { Inserts K.eq (state_of self.old) (state_of self.new) key value 0 result }
         ensures sound { IsKeyed K.eq self.new }
     {
-        let first = self.first();
+        let first = self.front();
         self.insert_at(first, key, value)
     }
 

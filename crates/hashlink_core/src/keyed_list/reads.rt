@@ -77,7 +77,7 @@ impl<K: Eq + Hash, V, S: BuildHasher> KeyedList<K, V, S> {
 
     /// Returns the first place: the guard if there is no entry.
     #[inline]
-    pub fn first(&self) -> Option<Node>
+    pub fn front(&self) -> Option<Node>
         ensures place { IsPlaceAt self.now.nodes result 0 }
         ensures sound { IsKeyed K.eq self.now }
     {
@@ -86,7 +86,7 @@ impl<K: Eq + Hash, V, S: BuildHasher> KeyedList<K, V, S> {
 
     /// Returns the place of the last entry: the guard if there is none.
     #[inline]
-    pub fn last(&self) -> Option<Node>
+    pub fn back(&self) -> Option<Node>
         ensures place { IsPlaceAt self.now.nodes result (length self.now.nodes - 1) }
         ensures sound { IsKeyed K.eq self.now }
     {

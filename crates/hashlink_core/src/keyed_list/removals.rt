@@ -32,21 +32,21 @@ impl<K: Eq + Hash, V, S: BuildHasher> KeyedList<K, V, S> {
 
     /// Removes the first entry and returns it. It takes constant time, hashes nothing, and stores at most
     /// three links.
-    pub fn pop_first(&mut self) -> Option<(K, V)>
+    pub fn pop_front(&mut self) -> Option<(K, V)>
         ensures pops { PopsFront (state_of self.old) (state_of self.new) result }
         ensures sound { IsKeyed K.eq self.new }
     {
-        let node = self.first()?;
+        let node = self.front()?;
         Some(self.remove(node))
     }
 
     /// Removes the last entry and returns it. It takes constant time, hashes nothing, and stores at most
     /// three links.
-    pub fn pop_last(&mut self) -> Option<(K, V)>
+    pub fn pop_back(&mut self) -> Option<(K, V)>
         ensures pops { PopsBack (state_of self.old) (state_of self.new) result }
         ensures sound { IsKeyed K.eq self.new }
     {
-        let node = self.last()?;
+        let node = self.back()?;
         Some(self.remove(node))
     }
 

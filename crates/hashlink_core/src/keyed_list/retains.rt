@@ -20,7 +20,7 @@ impl<K: Eq + Hash, V, S: BuildHasher> KeyedList<K, V, S> {
             (state_of self.new) keep.new }
         ensures sound { IsKeyed K.eq self.new }
     {
-        let mut place = self.first();
+        let mut place = self.front();
         while let Some(node) = place {
             place = self.next(place);
             let (key, value) = self.entry_mut(node);

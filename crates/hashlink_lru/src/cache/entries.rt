@@ -10,7 +10,7 @@ ghost use Rattle.std.specs.Prelude.{◌≡◌};
 ghost use Rattle.std.specs.Borrow.{sem};
 ghost use Rattle.hashlink_model.specs.Cache.{EntersCache, EvictsFront};
 ghost use Rattle.hashlink_model.specs.Entries.{IsEntries};
-ghost use Rattle.hashlink_core.specs.Keyed.{state_of, entries_of};
+ghost use Rattle.hashlink_core.specs.Keyed as keyed;
 
 use super::LruCache;
 use hashlink_map::{Entry, LinkedHashMap, RawEntryBuilder, RawEntryBuilderMut};
@@ -19,7 +19,7 @@ use std::hash::{BuildHasher, Hash};
 impl<K: Eq + Hash, V, S: BuildHasher> LruCache<K, V, S> {
     ghost use Rattle.hashlink_map.specs.Entry.{entry_map, entry_state};
     ghost use Rattle.hashlink_map.specs.RawEntry.{read_map, found_map};
-    ghost use Rattle.hashlink_lru.specs.Cached.{entries_in, map_in, state_in};
+    ghost use Rattle.hashlink_lru.specs.Cached.{entries_of, map_of, state_of};
     ghost use Rattle.hashlink_lru.specs.Lends.{HandsOnMap, LendsMap};
 
     /// Returns a mutable reference to the map of the cache, for any of its methods. It takes constant time.
@@ -29,7 +29,7 @@ impl<K: Eq + Hash, V, S: BuildHasher> LruCache<K, V, S> {
     pub fn map_mut(&mut self) -> &mut LinkedHashMap<K, V, S>
         ensures* lends { sem 𝓛 (LendsMap K.row V.row S.row S.Hasher.row K.Hash S.BuildHasher S.Hasher.Hasher
             self.entry result) }
-        ensures unchanged { result.now ≡ map_in self.old }
+        ensures unchanged { result.now ≡ map_of self.old }
     {
         &mut self.map
     }
@@ -47,7 +47,7 @@ impl<K: Eq + Hash, V, S: BuildHasher> LruCache<K, V, S> {
         ensures* hands_on { sem 𝓛
             (HandsOnMap K.row V.row S.row S.Hasher.row K.Hash S.BuildHasher S.Hasher.Hasher
             self.entry (entry_map result).ghost_name) }
-        ensures enters { EntersCache K.eq (state_in self.old) key (entry_state result) }
+        ensures enters { EntersCache K.eq (state_of self.old) key (entry_state result) }
         ensures distinct { IsEntries K.eq (entry_state result).map.entries }
     {
         self.roomy_map().entry(key)
@@ -56,7 +56,7 @@ impl<K: Eq + Hash, V, S: BuildHasher> LruCache<K, V, S> {
     /// Returns a builder that finds an entry to read: by a key, by a key and its hash, or by a hash and a
     /// test. It takes constant time and hashes nothing.
     pub fn raw_entry(&self) -> RawEntryBuilder<'_, K, V, S>
-        ensures { read_map result ≡ map_in self.now }
+        ensures { read_map result ≡ map_of self.now }
     {
         self.map.raw_entry()
     }
@@ -74,9 +74,9 @@ impl<K: Eq + Hash, V, S: BuildHasher> LruCache<K, V, S> {
         ensures* hands_on { sem 𝓛
             (HandsOnMap K.row V.row S.row S.Hasher.row K.Hash S.BuildHasher S.Hasher.Hasher
             self.entry (found_map result).ghost_name) }
-        ensures evicts { EvictsFront (state_in self.old).map (state_of (found_map result).now)
-            (state_in self.old).cap }
-        ensures distinct { IsEntries K.eq (entries_of (found_map result).now) }
+        ensures evicts { EvictsFront (state_of self.old).map (keyed.state_of (found_map result).now)
+            (state_of self.old).cap }
+        ensures distinct { IsEntries K.eq (keyed.entries_of (found_map result).now) }
     {
         self.roomy_map().raw_entry_mut()
     }
@@ -89,8 +89,9 @@ impl<K: Eq + Hash, V, S: BuildHasher> LruCache<K, V, S> {
         ensures* hands_on { sem 𝓛
             (HandsOnMap K.row V.row S.row S.Hasher.row K.Hash S.BuildHasher S.Hasher.Hasher
             self.entry result.ghost_name) }
-        ensures evicts { EvictsFront (state_in self.old).map (state_of result.now) (state_in self.old).cap }
-        ensures distinct { IsEntries K.eq (entries_of result.now) }
+        ensures evicts { EvictsFront (state_of self.old).map (keyed.state_of result.now)
+            (state_of self.old).cap }
+        ensures distinct { IsEntries K.eq (keyed.entries_of result.now) }
     {
         self.make_room();
         &mut self.map

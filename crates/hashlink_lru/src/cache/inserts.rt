@@ -7,7 +7,7 @@ use super::LruCache;
 use std::hash::{BuildHasher, Hash};
 
 impl<K: Eq + Hash, V, S: BuildHasher> LruCache<K, V, S> {
-    ghost use Rattle.hashlink_lru.specs.Cached.{entries_in, state_in, StaysWithin};
+    ghost use Rattle.hashlink_lru.specs.Cached.{entries_of, state_of, StaysWithin};
 
     /// Inserts the pair at the back, and returns the old value of the key if there was one. If the key is
     /// present, its entry keeps the stored key, takes the new value and moves to the back. Then entries are
@@ -25,10 +25,10 @@ impl<K: Eq + Hash, V, S: BuildHasher> LruCache<K, V, S> {
     where
         K: Drop,
         V: Drop,
-        ensures inserts { CacheInserts K.eq (state_in self.old) (state_in self.new) key value result }
-        ensures distinct { IsEntries K.eq (entries_in self.new) }
-        ensures fits { OnOk result (IsWithin (state_in self.new) 0) }
-        ensures within { StaysWithin (state_in self.old) (state_in self.new) }
+        ensures inserts { CacheInserts K.eq (state_of self.old) (state_of self.new) key value result }
+        ensures distinct { IsEntries K.eq (entries_of self.new) }
+        ensures fits { OnOk result (IsWithin (state_of self.new) 0) }
+        ensures within { StaysWithin (state_of self.old) (state_of self.new) }
     {
         let old = self.map.insert(key, value)?;
         self.keep_last(self.capacity);
@@ -42,10 +42,10 @@ impl<K: Eq + Hash, V, S: BuildHasher> LruCache<K, V, S> {
     where
         K: Drop,
         V: Drop,
-        ensures evicts { OnMap (λ a b. EvictsFront a b (state_in self.old).cap) (state_in self.old)
-            (state_in self.new) }
-        ensures distinct { IsEntries K.eq (entries_in self.new) }
-        ensures within { StaysWithin (state_in self.old) (state_in self.new) }
+        ensures evicts { OnMap (λ a b. EvictsFront a b (state_of self.old).cap) (state_of self.old)
+            (state_of self.new) }
+        ensures distinct { IsEntries K.eq (entries_of self.new) }
+        ensures within { StaysWithin (state_of self.old) (state_of self.new) }
     {
         if self.map.len() > self.capacity {
             self.map.pop_front();

@@ -6,7 +6,7 @@ ghost use Rattle.hashlink_model.specs.Cache.{IsWithin, KeepsLast, OnMap, cache_p
 ghost use Rattle.hashlink_model.specs.Entries.{IsEntries};
 ghost use Rattle.hashlink_model.specs.MapState.{Inserts};
 ghost use Rattle.hashlink_model.specs.Walk.{first_of};
-ghost use Rattle.hashlink_core.specs.Keyed.{entries_of, state_of};
+ghost use Rattle.hashlink_core.specs.Keyed as keyed;
 ghost use Rattle.hashlink_lru.specs.Evicted.{Pushes, evicted_entries, insert_answer, pushed_out};
 
 use super::LruCache;
@@ -14,7 +14,7 @@ use hashlink_map::{Entry, LinkedHashMap};
 use std::hash::{BuildHasher, Hash};
 
 impl<K: Eq + Hash, V, S: BuildHasher> LruCache<K, V, S> {
-    ghost use Rattle.hashlink_lru.specs.Cached.{entries_in, state_in, StaysWithin};
+    ghost use Rattle.hashlink_lru.specs.Cached.{entries_of, state_of, StaysWithin};
 
     /// Inserts the pair as `insert` does, and returns the pair that leaves. If the key is present, its entry
     /// keeps the stored key, and what leaves is the given key with the old value. Otherwise it is the entry
@@ -30,15 +30,15 @@ impl<K: Eq + Hash, V, S: BuildHasher> LruCache<K, V, S> {
     where
         K: Drop,
         V: Drop,
-        ensures pushes { Pushes K.eq (state_in self.old) (state_in self.new) key value result }
+        ensures pushes { Pushes K.eq (state_of self.old) (state_of self.new) key value result }
         ensures left { IfOk result
-            (λ left. left ≡ pushed_out K.eq (entries_in self.old) (state_in self.old).cap key value) }
-        ensures entries { OnOk result (entries_in self.new
-            ≡ cache_put K.eq (entries_in self.old) (state_in self.old).cap key value) }
-        ensures there { IsSome (lookup (K.eq key) (entries_in self.old)) → IsOk result }
-        ensures distinct { IsEntries K.eq (entries_in self.new) }
-        ensures fits { OnOk result (IsWithin (state_in self.new) 0) }
-        ensures within { StaysWithin (state_in self.old) (state_in self.new) }
+            (λ left. left ≡ pushed_out K.eq (entries_of self.old) (state_of self.old).cap key value) }
+        ensures entries { OnOk result (entries_of self.new
+            ≡ cache_put K.eq (entries_of self.old) (state_of self.old).cap key value) }
+        ensures there { IsSome (lookup (K.eq key) (entries_of self.old)) → IsOk result }
+        ensures distinct { IsEntries K.eq (entries_of self.new) }
+        ensures fits { OnOk result (IsWithin (state_of self.new) 0) }
+        ensures within { StaysWithin (state_of self.old) (state_of self.new) }
     {
         let replaced = put_last(&mut self.map, key, value)?;
         let evicted = self.evict_excess();
@@ -51,10 +51,10 @@ impl<K: Eq + Hash, V, S: BuildHasher> LruCache<K, V, S> {
     where
         K: Drop,
         V: Drop,
-        ensures keeps { OnMap (λ a b. KeepsLast a b (state_in self.old).cap) (state_in self.old)
-            (state_in self.new) }
-        ensures first { result ≡ first_of (evicted_entries (entries_in self.old) (state_in self.old).cap) }
-        ensures distinct { IsEntries K.eq (entries_in self.new) }
+        ensures keeps { OnMap (λ a b. KeepsLast a b (state_of self.old).cap) (state_of self.old)
+            (state_of self.new) }
+        ensures first { result ≡ first_of (evicted_entries (entries_of self.old) (state_of self.old).cap) }
+        ensures distinct { IsEntries K.eq (entries_of self.new) }
     {
         if self.map.len() <= self.capacity {
             return None;
@@ -72,11 +72,11 @@ fn put_last<K: Eq + Hash + Drop, V: Drop, S: BuildHasher>(
     key: K,
     value: V,
 ) -> Result<Option<(K, V)>, (K, V)>
-    ensures inserts { Inserts K.eq (state_of map.old) (state_of map.new) key value
-        (length (entries_of map.old)) (insert_answer K.eq (entries_of map.old) key result) }
+    ensures inserts { Inserts K.eq (keyed.state_of map.old) (keyed.state_of map.new) key value
+        (length (keyed.entries_of map.old)) (insert_answer K.eq (keyed.entries_of map.old) key result) }
     ensures replaced { IfOk result
-        (λ out. out ≡ option_map (λ w. (key, w)) (lookup (K.eq key) (entries_of map.old))) }
-    ensures distinct { IsEntries K.eq (entries_of map.old) }
+        (λ out. out ≡ option_map (λ w. (key, w)) (lookup (K.eq key) (keyed.entries_of map.old))) }
+    ensures distinct { IsEntries K.eq (keyed.entries_of map.old) }
 {
     match map.entry(key) {
         Entry::Occupied(mut entry) => {

@@ -14,13 +14,13 @@ use hashlink_map::Equivalent;
 use std::hash::{BuildHasher, Hash};
 
 impl<K: Eq + Hash, V, S: BuildHasher> LruCache<K, V, S> {
-    ghost use Rattle.hashlink_lru.specs.Cached.{entries_in, state_in};
+    ghost use Rattle.hashlink_lru.specs.Cached.{entries_of, state_of};
     ghost use Rattle.hashlink_lru.specs.Lends.{LendsValueIn, LendsUsed, EndsUsed};
 
     /// Returns whether the key is present. The order does not change. It hashes the key once.
     pub fn contains_key<Q: Equivalent<K>>(&self, key: Q) -> bool
-        ensures found { result ≡ is_some (lookup (Q.matches key) (entries_in self.now)) }
-        ensures distinct { IsEntries K.eq (entries_in self.now) }
+        ensures found { result ≡ is_some (lookup (Q.matches key) (entries_of self.now)) }
+        ensures distinct { IsEntries K.eq (entries_of self.now) }
     {
         self.map.contains_key(key)
     }
@@ -28,8 +28,8 @@ impl<K: Eq + Hash, V, S: BuildHasher> LruCache<K, V, S> {
     /// Returns a reference to the value of the key, or `None` if it is absent. The order does not change. It
     /// hashes the key once.
     pub fn peek<Q: Equivalent<K>>(&self, key: Q) -> Option<&V>
-        ensures found { option_copied result ≡ lookup (Q.matches key) (entries_in self.now) }
-        ensures distinct { IsEntries K.eq (entries_in self.now) }
+        ensures found { option_copied result ≡ lookup (Q.matches key) (entries_of self.now) }
+        ensures distinct { IsEntries K.eq (entries_of self.now) }
     {
         self.map.get(key)
     }
@@ -39,8 +39,8 @@ impl<K: Eq + Hash, V, S: BuildHasher> LruCache<K, V, S> {
     pub fn peek_mut<Q: Equivalent<K>>(&mut self, key: Q) -> Option<&mut V>
         ensures* lends { sem 𝓛 (LendsValueIn K.row V.row S.row S.Hasher.row K.Hash
             S.BuildHasher S.Hasher.Hasher self.entry (Q.matches key) result) }
-        ensures value { option_copied_mut result ≡ lookup (Q.matches key) (entries_in self.old) }
-        ensures distinct { IsEntries K.eq (entries_in self.old) }
+        ensures value { option_copied_mut result ≡ lookup (Q.matches key) (entries_of self.old) }
+        ensures distinct { IsEntries K.eq (entries_of self.old) }
     {
         self.map.get_mut(key)
     }
@@ -48,8 +48,8 @@ impl<K: Eq + Hash, V, S: BuildHasher> LruCache<K, V, S> {
     /// Returns the front, which is the least recently used entry and is evicted next, or `None` if the cache
     /// is empty. The order does not change. It takes constant time and hashes nothing.
     pub fn peek_lru(&self) -> Option<(&K, &V)>
-        ensures found { option_map deref_pair result ≡ first_of (entries_in self.now) }
-        ensures distinct { IsEntries K.eq (entries_in self.now) }
+        ensures found { option_map deref_pair result ≡ first_of (entries_of self.now) }
+        ensures distinct { IsEntries K.eq (entries_of self.now) }
     {
         self.map.front()
     }
@@ -57,8 +57,8 @@ impl<K: Eq + Hash, V, S: BuildHasher> LruCache<K, V, S> {
     /// Returns the back, which is the most recently used entry, or `None` if the cache is empty. The order
     /// does not change. It takes constant time and hashes nothing.
     pub fn back(&self) -> Option<(&K, &V)>
-        ensures found { option_map deref_pair result ≡ last_of (entries_in self.now) }
-        ensures distinct { IsEntries K.eq (entries_in self.now) }
+        ensures found { option_map deref_pair result ≡ last_of (entries_of self.now) }
+        ensures distinct { IsEntries K.eq (entries_of self.now) }
     {
         self.map.back()
     }
@@ -72,8 +72,8 @@ impl<K: Eq + Hash, V, S: BuildHasher> LruCache<K, V, S> {
     /// then this returns the first entry that is not the key's own.
     pub fn evicted_by<Q: Equivalent<K>>(&self, key: Q) -> Option<(&K, &V)>
         ensures found { option_map deref_pair result
-            ≡ evicted_by (Q.matches key) (entries_in self.now) (state_in self.now).cap }
-        ensures distinct { IsEntries K.eq (entries_in self.now) }
+            ≡ evicted_by (Q.matches key) (entries_of self.now) (state_of self.now).cap }
+        ensures distinct { IsEntries K.eq (entries_of self.now) }
     {
         let len = self.map.len();
         if !self.map.contains_key(key) {
@@ -92,7 +92,7 @@ impl<K: Eq + Hash, V, S: BuildHasher> LruCache<K, V, S> {
     /// Returns the first entry that is not the key's.
     fn first_other<Q: Equivalent<K>>(&self, key: Q) -> Option<(&K, &V)>
         ensures { option_map deref_pair result
-            ≡ first_of (remove_entry (Q.matches key) (entries_in self.now)) }
+            ≡ first_of (remove_entry (Q.matches key) (entries_of self.now)) }
     {
         let mut entries = self.map.iter();
         let (front, value) = entries.next()?;
@@ -107,8 +107,8 @@ impl<K: Eq + Hash, V, S: BuildHasher> LruCache<K, V, S> {
     pub fn get<Q: Equivalent<K>>(&mut self, key: Q) -> Option<&V>
         ensures* used { sem 𝓛 (EndsUsed K.row V.row S.row S.Hasher.row K.Hash S.BuildHasher S.Hasher.Hasher
             self.entry (Q.matches key) (option_copied result)) }
-        ensures value { option_copied result ≡ lookup (Q.matches key) (entries_in self.old) }
-        ensures distinct { IsEntries K.eq (entries_in self.old) }
+        ensures value { option_copied result ≡ lookup (Q.matches key) (entries_of self.old) }
+        ensures distinct { IsEntries K.eq (entries_of self.old) }
     {
         match self.map.to_back(key) {
             Some(value) => Some(&*value),
@@ -121,8 +121,8 @@ impl<K: Eq + Hash, V, S: BuildHasher> LruCache<K, V, S> {
     pub fn get_mut<Q: Equivalent<K>>(&mut self, key: Q) -> Option<&mut V>
         ensures* lends { sem 𝓛 (LendsUsed K.row V.row S.row S.Hasher.row K.Hash S.BuildHasher S.Hasher.Hasher
             self.entry (Q.matches key) result) }
-        ensures value { option_copied_mut result ≡ lookup (Q.matches key) (entries_in self.old) }
-        ensures distinct { IsEntries K.eq (entries_in self.old) }
+        ensures value { option_copied_mut result ≡ lookup (Q.matches key) (entries_of self.old) }
+        ensures distinct { IsEntries K.eq (entries_of self.old) }
     {
         self.map.to_back(key)
     }

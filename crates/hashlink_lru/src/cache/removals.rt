@@ -14,19 +14,19 @@ use hashlink_map::Equivalent;
 use std::hash::{BuildHasher, Hash};
 
 impl<K: Eq + Hash, V, S: BuildHasher> LruCache<K, V, S> {
-    ghost use Rattle.hashlink_lru.specs.Cached.{entries_in, state_in, StaysWithin};
+    ghost use Rattle.hashlink_lru.specs.Cached.{entries_of, state_of, StaysWithin};
 
     /// Removes the entry of the key, and returns its value, or `None` if the key is absent. It looks the key
     /// up as `peek` does, and stores at most three links.
     pub fn remove<Q: Equivalent<K>>(&mut self, key: Q) -> Option<V>
     where
         K: Drop,
-        ensures value { result ≡ lookup (Q.matches key) (entries_in self.old) }
-        ensures entries { entries_in self.new ≡ remove_entry (Q.matches key) (entries_in self.old) }
+        ensures value { result ≡ lookup (Q.matches key) (entries_of self.old) }
+        ensures entries { entries_of self.new ≡ remove_entry (Q.matches key) (entries_of self.old) }
         ensures removes { OnMap (λ a b. RemovesMatch (Q.matches key) a b
-            (lookup_entry (Q.matches key) a.entries)) (state_in self.old) (state_in self.new) }
-        ensures distinct { IsEntries K.eq (entries_in self.new) }
-        ensures within { StaysWithin (state_in self.old) (state_in self.new) }
+            (lookup_entry (Q.matches key) a.entries)) (state_of self.old) (state_of self.new) }
+        ensures distinct { IsEntries K.eq (entries_of self.new) }
+        ensures within { StaysWithin (state_of self.old) (state_of self.new) }
     {
         self.map.remove(key)
     }
@@ -34,11 +34,11 @@ impl<K: Eq + Hash, V, S: BuildHasher> LruCache<K, V, S> {
     /// Removes the entry of the key, and returns the stored pair, or `None` if the key is absent. It looks
     /// the key up as `peek` does, and stores at most three links.
     pub fn remove_entry<Q: Equivalent<K>>(&mut self, key: Q) -> Option<(K, V)>
-        ensures held { IfSome result (Contains (entries_in self.old)) }
-        ensures removes { OnMap (λ a b. RemovesMatch (Q.matches key) a b result) (state_in self.old)
-            (state_in self.new) }
-        ensures distinct { IsEntries K.eq (entries_in self.new) }
-        ensures within { StaysWithin (state_in self.old) (state_in self.new) }
+        ensures held { IfSome result (Contains (entries_of self.old)) }
+        ensures removes { OnMap (λ a b. RemovesMatch (Q.matches key) a b result) (state_of self.old)
+            (state_of self.new) }
+        ensures distinct { IsEntries K.eq (entries_of self.new) }
+        ensures within { StaysWithin (state_of self.old) (state_of self.new) }
     {
         self.map.remove_entry(key)
     }
@@ -46,10 +46,10 @@ impl<K: Eq + Hash, V, S: BuildHasher> LruCache<K, V, S> {
     /// Removes the front, which is the least recently used entry, and returns it, or `None` if the cache is
     /// empty. It takes constant time, hashes nothing, and stores at most three links.
     pub fn remove_lru(&mut self) -> Option<(K, V)>
-        ensures pops { OnMap (λ a b. PopsFront a b result) (state_in self.old) (state_in self.new) }
-        ensures entries { TakesFirst (λ e. e) (entries_in self.old) result (entries_in self.new) }
-        ensures distinct { IsEntries K.eq (entries_in self.new) }
-        ensures within { StaysWithin (state_in self.old) (state_in self.new) }
+        ensures pops { OnMap (λ a b. PopsFront a b result) (state_of self.old) (state_of self.new) }
+        ensures entries { TakesFirst (λ e. e) (entries_of self.old) result (entries_of self.new) }
+        ensures distinct { IsEntries K.eq (entries_of self.new) }
+        ensures within { StaysWithin (state_of self.old) (state_of self.new) }
     {
         self.map.pop_front()
     }
@@ -60,8 +60,8 @@ impl<K: Eq + Hash, V, S: BuildHasher> LruCache<K, V, S> {
     where
         K: Drop,
         V: Drop,
-        ensures clears { OnMap Clears (state_in self.old) (state_in self.new) }
-        ensures within { StaysWithin (state_in self.old) (state_in self.new) }
+        ensures clears { OnMap Clears (state_of self.old) (state_of self.new) }
+        ensures within { StaysWithin (state_of self.old) (state_of self.new) }
     {
         self.map.clear();
     }
@@ -72,9 +72,9 @@ impl<K: Eq + Hash, V, S: BuildHasher> LruCache<K, V, S> {
     where
         K: Drop,
         V: Drop,
-        ensures sets { SetsCapacity (state_in self.old) (state_in self.new) capacity }
-        ensures distinct { IsEntries K.eq (entries_in self.new) }
-        ensures fits { IsWithin (state_in self.new) 0 }
+        ensures sets { SetsCapacity (state_of self.old) (state_of self.new) capacity }
+        ensures distinct { IsEntries K.eq (entries_of self.new) }
+        ensures fits { IsWithin (state_of self.new) 0 }
     {
         self.keep_last(capacity);
         self.capacity = capacity;
@@ -85,8 +85,8 @@ impl<K: Eq + Hash, V, S: BuildHasher> LruCache<K, V, S> {
     where
         K: Drop,
         V: Drop,
-        ensures keeps { OnMap (λ a b. KeepsLast a b count) (state_in self.old) (state_in self.new) }
-        ensures distinct { IsEntries K.eq (entries_in self.new) }
+        ensures keeps { OnMap (λ a b. KeepsLast a b count) (state_of self.old) (state_of self.new) }
+        ensures distinct { IsEntries K.eq (entries_of self.new) }
     {
         for _ in count..self.map.len() {
             self.map.pop_front();
@@ -100,11 +100,11 @@ impl<K: Eq + Hash, V, S: BuildHasher> LruCache<K, V, S> {
     where
         K: Drop,
         V: Drop,
-        requires { CallableOnEachPair (CalledAtPair F.FnMut) (TakesPair F.FnMut) keep (entries_in self.old) }
+        requires { CallableOnEachPair (CalledAtPair F.FnMut) (TakesPair F.FnMut) keep (entries_of self.old) }
         ensures retained { (end : F) × OnMap (λ a b. RetainsInOrder (CalledAtPair F.FnMut) keep a b end)
-            (state_in self.old) (state_in self.new) }
-        ensures distinct { IsEntries K.eq (entries_in self.new) }
-        ensures within { StaysWithin (state_in self.old) (state_in self.new) }
+            (state_of self.old) (state_of self.new) }
+        ensures distinct { IsEntries K.eq (entries_of self.new) }
+        ensures within { StaysWithin (state_of self.old) (state_of self.new) }
     {
         self.map.retain(keep);
     }
@@ -118,11 +118,11 @@ impl<K: Eq + Hash, V, S: BuildHasher> LruCache<K, V, S> {
         K: Drop,
         V: Drop,
         requires { CallableOnEachPair (CalledAtPair F.FnMut) (TakesPair F.FnMut) keep.old
-            (entries_in self.old) }
+            (entries_of self.old) }
         ensures retained { OnMap (λ a b. RetainsInOrder (CalledAtPair F.FnMut) keep.old a b keep.new)
-            (state_in self.old) (state_in self.new) }
-        ensures distinct { IsEntries K.eq (entries_in self.new) }
-        ensures within { StaysWithin (state_in self.old) (state_in self.new) }
+            (state_of self.old) (state_of self.new) }
+        ensures distinct { IsEntries K.eq (entries_of self.new) }
+        ensures within { StaysWithin (state_of self.old) (state_of self.new) }
     {
         self.map.retain_from(keep);
     }

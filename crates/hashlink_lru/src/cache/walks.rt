@@ -15,17 +15,17 @@ impl<K: Eq + Hash, V, S: BuildHasher> LruCache<K, V, S> {
     ghost use Rattle.hashlink_map.specs.Drain.{drained_map};
     ghost use Rattle.hashlink_map.specs.IterMut.{walk_map, walk_state};
     ghost use Rattle.hashlink_map.specs.WritingWalk.{writing_walk};
-    ghost use Rattle.hashlink_lru.specs.Cached.{entries_in, map_in};
+    ghost use Rattle.hashlink_lru.specs.Cached.{entries_of, map_of};
     ghost use Rattle.hashlink_lru.specs.Lends.{HandsOnMap};
 
     /// Returns an iterator over the entries, from front to back: the least recently used comes first. It is
     /// not a use. It does not allocate, and each step takes constant time.
     pub fn iter(&self) -> Iter<'_, K, V>
-        ensures rest { result ≡ entries_in self.now }
-        ensures distinct { IsEntries K.eq (entries_in self.now) }
+        ensures rest { result ≡ entries_of self.now }
+        ensures distinct { IsEntries K.eq (entries_of self.now) }
         ensures runs { ShowsInOrder (deref_pair {K = K} {X = V}) }
         ensures runs_back { ShowsInReverse (deref_pair {K = K} {X = V}) }
-        ensures fits { length (entries_in self.now) < 2 ^ 63 }
+        ensures fits { length (entries_of self.now) < 2 ^ 63 }
     {
         self.map.iter()
     }
@@ -33,10 +33,10 @@ impl<K: Eq + Hash, V, S: BuildHasher> LruCache<K, V, S> {
     /// Returns an iterator over the keys, from front to back. It is not a use. It does not allocate, and each
     /// step takes constant time.
     pub fn keys(&self) -> Keys<'_, K, V>
-        ensures rest { result ≡ keys_of (entries_in self.now) }
+        ensures rest { result ≡ keys_of (entries_of self.now) }
         ensures runs { ShowsInOrder (deref {X = K}) }
         ensures runs_back { ShowsInReverse (deref {X = K}) }
-        ensures fits { length (entries_in self.now) < 2 ^ 63 }
+        ensures fits { length (entries_of self.now) < 2 ^ 63 }
     {
         self.map.keys()
     }
@@ -44,10 +44,10 @@ impl<K: Eq + Hash, V, S: BuildHasher> LruCache<K, V, S> {
     /// Returns an iterator over the values, from front to back. It is not a use. It does not allocate, and
     /// each step takes constant time.
     pub fn values(&self) -> Values<'_, K, V>
-        ensures rest { result ≡ values_of (entries_in self.now) }
+        ensures rest { result ≡ values_of (entries_of self.now) }
         ensures runs { ShowsInOrder (deref {X = V}) }
         ensures runs_back { ShowsInReverse (deref {X = V}) }
-        ensures fits { length (entries_in self.now) < 2 ^ 63 }
+        ensures fits { length (entries_of self.now) < 2 ^ 63 }
     {
         self.map.values()
     }
@@ -58,9 +58,9 @@ impl<K: Eq + Hash, V, S: BuildHasher> LruCache<K, V, S> {
         ensures* hands_on { sem 𝓛
             (HandsOnMap K.row V.row S.row S.Hasher.row K.Hash S.BuildHasher S.Hasher.Hasher
             self.entry (walk_map result).ghost_name) }
-        ensures unchanged { (walk_map result).now ≡ map_in self.old }
-        ensures rest { walk_state result ≡ writing_walk (state_of (map_in self.old)) 0
-            (length (entries_in self.old)) }
+        ensures unchanged { (walk_map result).now ≡ map_of self.old }
+        ensures rest { walk_state result ≡ writing_walk (state_of (map_of self.old)) 0
+            (length (entries_of self.old)) }
     {
         self.map.iter_mut()
     }
@@ -76,7 +76,7 @@ impl<K: Eq + Hash, V, S: BuildHasher> LruCache<K, V, S> {
         ensures* hands_on { sem 𝓛
             (HandsOnMap K.row V.row S.row S.Hasher.row K.Hash S.BuildHasher S.Hasher.Hasher
             self.entry (drained_map result).ghost_name) }
-        ensures unchanged { (drained_map result).now ≡ map_in self.old }
+        ensures unchanged { (drained_map result).now ≡ map_of self.old }
     {
         self.map.drain()
     }
@@ -85,13 +85,13 @@ impl<K: Eq + Hash, V, S: BuildHasher> LruCache<K, V, S> {
 /// Turns the cache into an owning iterator over its entries, from front to back. It takes constant time and
 /// does not allocate.
 impl<K: Eq + Hash + Drop, V: Drop, S: BuildHasher + Drop> IntoIterator for LruCache<K, V, S> {
-    ghost use Rattle.hashlink_lru.specs.Cached.{entries_in};
+    ghost use Rattle.hashlink_lru.specs.Cached.{entries_of};
 
     type Item = (K, V);
 
     type IntoIter = IntoIter<K, V, S>;
 
-    ghost into_iter_gives = { λ c r. r ≡ entries_in c };
+    ghost into_iter_gives = { λ c r. r ≡ entries_of c };
 
     fn into_iter(self) -> IntoIter<K, V, S> {
         let LruCache { map, capacity: _ } = self;
@@ -102,13 +102,13 @@ impl<K: Eq + Hash + Drop, V: Drop, S: BuildHasher + Drop> IntoIterator for LruCa
 /// Returns the iterator that `iter` returns: over the entries, from front to back. It takes constant time and
 /// does not allocate.
 impl<'a, K: Eq + Hash, V, S: BuildHasher> IntoIterator for &'a LruCache<K, V, S> {
-    ghost use Rattle.hashlink_lru.specs.Cached.{entries_in};
+    ghost use Rattle.hashlink_lru.specs.Cached.{entries_of};
 
     type Item = (&'a K, &'a V);
 
     type IntoIter = Iter<'a, K, V>;
 
-    ghost into_iter_gives = { λ c r. (r ≡ entries_in c.now) × (length (entries_in c.now) < 2 ^ 63)
+    ghost into_iter_gives = { λ c r. (r ≡ entries_of c.now) × (length (entries_of c.now) < 2 ^ 63)
         × ShowsInOrder (deref_pair {K = K} {X = V}) };
 
     fn into_iter(self) -> Iter<'a, K, V> {

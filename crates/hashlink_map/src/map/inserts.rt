@@ -54,7 +54,7 @@ impl<K: Eq + Hash, V, S: BuildHasher> LinkedHashMap<K, V, S> {
         ensures there { IsSome (lookup (K.eq key) (entries_of self.old)) → IsOk result }
         ensures distinct { IsEntries K.eq (entries_of self.new) }
     {
-        self.list.insert_first(key, value)
+        self.list.insert_front(key, value)
     }
 
     /// Sets the value of the key, and returns the old one if there was one. If the key is present, its entry

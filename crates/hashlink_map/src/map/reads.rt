@@ -64,7 +64,7 @@ impl<K: Eq + Hash, V, S: BuildHasher> LinkedHashMap<K, V, S> {
         ensures found { option_map deref_pair result ≡ first_of (entries_of self.now) }
         ensures distinct { IsEntries K.eq (entries_of self.now) }
     {
-        let node = self.list.first()?;
+        let node = self.list.front()?;
         Some(self.list.entry(node))
     }
 
@@ -74,7 +74,7 @@ impl<K: Eq + Hash, V, S: BuildHasher> LinkedHashMap<K, V, S> {
         ensures found { option_map deref_pair result ≡ last_of (entries_of self.now) }
         ensures distinct { IsEntries K.eq (entries_of self.now) }
     {
-        let node = self.list.last()?;
+        let node = self.list.back()?;
         Some(self.list.entry(node))
     }
 
@@ -85,7 +85,7 @@ impl<K: Eq + Hash, V, S: BuildHasher> LinkedHashMap<K, V, S> {
             S.BuildHasher S.Hasher.Hasher self.entry result) }
         ensures value { option_copied_mut result ≡ option_map (λ e. e.1) (last_of (entries_of self.old)) }
     {
-        match self.list.last() {
+        match self.list.back() {
             Some(node) => Some(self.list.value_mut(node)),
             None => None,
         }

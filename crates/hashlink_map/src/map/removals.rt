@@ -46,7 +46,7 @@ impl<K: Eq + Hash, V, S: BuildHasher> LinkedHashMap<K, V, S> {
         ensures entries { TakesFirst (λ e. e) (entries_of self.old) result (entries_of self.new) }
         ensures distinct { IsEntries K.eq (entries_of self.new) }
     {
-        self.list.pop_first()
+        self.list.pop_front()
     }
 
     /// Removes the entry at the back, and returns it, or `None` if the map is empty. It takes constant time,
@@ -56,7 +56,7 @@ impl<K: Eq + Hash, V, S: BuildHasher> LinkedHashMap<K, V, S> {
         ensures entries { TakesLast (λ e. e) (entries_of self.old) result (entries_of self.new) }
         ensures distinct { IsEntries K.eq (entries_of self.new) }
     {
-        self.list.pop_last()
+        self.list.pop_back()
     }
 
     /// Drops every entry and frees its node. The spare nodes and the room stay. It takes linear time in the

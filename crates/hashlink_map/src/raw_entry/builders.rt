@@ -57,7 +57,7 @@ impl<K: Eq + Hash, V, S: BuildHasher> LinkedHashMap<K, V, S> {
         ensures first { IfSome result (λ o. raw_place o ≡ 0) }
         ensures none { IfNone result (entries_of self.old ≡ []) }
     {
-        let node = self.list.first()?;
+        let node = self.list.front()?;
         Some(RawOccupiedEntryMut { map: self, node })
     }
 
@@ -70,7 +70,7 @@ impl<K: Eq + Hash, V, S: BuildHasher> LinkedHashMap<K, V, S> {
         ensures last { IfSome result (λ o. raw_place o ≡ length (entries_of self.old) - 1) }
         ensures none { IfNone result (entries_of self.old ≡ []) }
     {
-        let node = self.list.last()?;
+        let node = self.list.back()?;
         Some(RawOccupiedEntryMut { map: self, node })
     }
 }
@@ -102,8 +102,8 @@ impl<'a, K: Eq + Hash, V, S: BuildHasher> RawEntryBuilder<'a, K, V, S> {
     }
 
     /// Returns the stored pair whose key has this hash and passes the test `is_match`, or `None` if there is
-    /// none. `is_match` has to be callable on each key in the map, and to tell those that are equal to one key
-    /// of this hash from the others. The call hashes nothing.
+    /// none. `is_match` has to be callable on each key in the map, and to tell those that are equal to one
+    /// key of this hash from the others. The call hashes nothing.
     pub fn from_hash<F: Fn(&K) -> bool>(self, hash: u64, is_match: F) -> Option<(&'a K, &'a V)>
     where
         F: Drop,
@@ -161,9 +161,9 @@ impl<K: Eq + Hash, V, S: BuildHasher> LinkedHashMap<K, V, S> {
     }
 
     /// Returns the place whose key has this hash and passes the test `is_match`. `is_match` has to be
-    /// callable on each key in the map, and to tell those that are equal to one key of this hash from the others.
-    /// The call hashes nothing. It is `raw_entry_mut` and `from_hash` in one call: a caller can prove exactly
-    /// what the map is afterwards.
+    /// callable on each key in the map, and to tell those that are equal to one key of this hash from the
+    /// others. The call hashes nothing. It is `raw_entry_mut` and `from_hash` in one call: a caller can prove
+    /// exactly what the map is afterwards.
     pub fn raw_entry_from_hash<F: Fn(&K) -> bool>(
         &mut self,
         hash: u64,
@@ -237,8 +237,8 @@ impl<'a, K: Eq + Hash, V, S: BuildHasher> RawEntryBuilderMut<'a, K, V, S> {
     }
 
     /// Returns the place whose key has this hash and passes the test `is_match`. `is_match` has to be
-    /// callable on each key in the map, and to tell those that are equal to one key of this hash from the others.
-    /// The call hashes nothing.
+    /// callable on each key in the map, and to tell those that are equal to one key of this hash from the
+    /// others. The call hashes nothing.
     pub fn from_hash<F: Fn(&K) -> bool>(self, hash: u64, is_match: F) -> RawEntryMut<'a, K, V, S>
     where
         F: Drop,
@@ -249,15 +249,18 @@ impl<'a, K: Eq + Hash, V, S: BuildHasher> RawEntryBuilderMut<'a, K, V, S> {
         ensures unchanged { (raw_map result).now ≡ (found_map self.entry).now }
         ensures found { (k : K) → Tells F.Fn K.eq
             (hash_with S.build_hasher S.Hasher.write S.Hasher.finish K.hash_input
-            (found_map self.entry).now.hasher) (keys_of (entries_of (found_map self.entry).now)) is_match hash k
+            (found_map self.entry).now.hasher) (keys_of (entries_of (found_map self.entry).now)) is_match
+            hash k
             → raw_state result ≡ raw_entry_of K.eq (state_of (found_map self.entry).now) k }
         ensures pair { (k : K) → Tells F.Fn K.eq
             (hash_with S.build_hasher S.Hasher.write S.Hasher.finish K.hash_input
-            (found_map self.entry).now.hasher) (keys_of (entries_of (found_map self.entry).now)) is_match hash k
+            (found_map self.entry).now.hasher) (keys_of (entries_of (found_map self.entry).now)) is_match
+            hash k
             → raw_pair (raw_state result) ≡ lookup_entry (K.eq k) (entries_of (found_map self.entry).now) }
         ensures equal { (k : K) → Tells F.Fn K.eq
             (hash_with S.build_hasher S.Hasher.write S.Hasher.finish K.hash_input
-            (found_map self.entry).now.hasher) (keys_of (entries_of (found_map self.entry).now)) is_match hash k
+            (found_map self.entry).now.hasher) (keys_of (entries_of (found_map self.entry).now)) is_match
+            hash k
             → MatchOption (raw_state result).place ⊤
             (PassesAt (K.eq k) (entries_of (found_map self.entry).now)) }
         ensures distinct { IsEntries K.eq (entries_of (found_map self.entry).now) }

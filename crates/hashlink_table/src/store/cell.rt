@@ -1,6 +1,6 @@
 ghost use Rattle.std.specs.Prelude.{◌≡◌, ◌+◌, ◌≤◌, ◌↔◌, IsSome, IsTrue, None, Some};
 
-use crate::kept::Kept;
+use crate::hashed::Hashed;
 use crate::steps::Steps;
 use std::marker::Model;
 use std::sync::ledger::Ledger;
@@ -14,7 +14,7 @@ pub const FREE: u32 = 1 << 31;
 /// What contracts see of a cell, a place for one node.
 #[derive(Clone, Copy)]
 pub struct Cell<N> {
-    pub kept: Option<Kept<N>>,
+    pub kept: Option<Hashed<N>>,
     // The hash that is stored: the node's, if there is one.
     pub hash: u32,
     // The next cell of the chain, or `END`.
@@ -43,7 +43,7 @@ impl<N> Model for Stored<N> {
 impl<N: Copy> Stored<N> {
     /// A cell with a node.
     #[inline]
-    pub fn taken(kept: Kept<N>, next: usize) -> Self
+    pub fn taken(kept: Hashed<N>, next: usize) -> Self
         requires { next ≤ END }
         ensures { result ≡ record { kept = Some kept; hash = kept.hash; next = next } }
     {
@@ -76,7 +76,7 @@ impl<N: Copy> Stored<N> {
 
     /// What a search reads of a cell that is known to have a node. It takes a step.
     #[inline]
-    pub fn look<L: Ledger>(&self, steps: &mut Steps<L>) -> Kept<N>
+    pub fn look<L: Ledger>(&self, steps: &mut Steps<L>) -> Hashed<N>
         requires { IsSome self.now.kept }
         ensures value { self.now.kept ≡ Some result }
         ensures step { steps.new ≡ steps.old + 1 }
@@ -87,11 +87,11 @@ impl<N: Copy> Stored<N> {
 
     /// What a cell has that is known to have a node, for a move of the node.
     #[inline]
-    pub(super) fn known(&self) -> Kept<N>
+    pub(super) fn known(&self) -> Hashed<N>
         requires { IsSome self.now.kept }
         ensures { self.now.kept ≡ Some result }
     {
-        Kept {
+        Hashed {
             hash: self.hash,
             node: self.node,
         }
@@ -99,7 +99,7 @@ impl<N: Copy> Stored<N> {
 
     /// What a cell has, for a move of its node.
     #[inline]
-    pub(super) fn kept(&self) -> Option<Kept<N>>
+    pub(super) fn kept(&self) -> Option<Hashed<N>>
         ensures { result ≡ self.now.kept }
     {
         if self.is_taken() {

@@ -9,11 +9,11 @@ ghost use Rattle.hashlink_table.specs.Chains.{nodes_in, IsFilled, IsInPlace, IsL
 use super::cell::{END, Stored};
 use super::lanes::LANES;
 use super::slots::Slots;
-use crate::kept::Kept;
+use crate::hashed::Hashed;
 use std::alloc::{AllocError, Global};
 
 /// Returns the nodes of the overflow cells.
-pub fn chained<N: Copy>(alloc: Global, cells: &[Stored<N>]) -> Result<Vec<Kept<N>>, AllocError>
+pub fn chained<N: Copy>(alloc: Global, cells: &[Stored<N>]) -> Result<Vec<Hashed<N>>, AllocError>
     ensures { IfOk result (λ list. list.items ≡ nodes_in cells.now) }
 {
     let mut nodes = Vec::with_capacity(alloc, cells.len())?;
@@ -38,18 +38,18 @@ pub fn move_to<N: Copy>(cells: &mut Vec<Stored<N>>, mut block: Vec<Stored<N>>)
     *cells = block;
 }
 
-/// Doubles the buckets. The overflow cells move to this block, and their nodes are taken out and returned. If it fails,
-/// no node changes, and the block may be kept.
+/// Doubles the buckets. The overflow cells move to this block, and their nodes are taken out and returned. If
+/// it fails, no node changes, and the block may be kept.
 //
-// The overflow cells move before the slots grow, which then find room where the overflow cells were: so the heap
-// stays small, and `malloc` gives less of it back to the system, to take it again. They are emptied last, so that
-// nothing is lost where the slots get no memory.
+// The overflow cells move before the slots grow, which then find room where the overflow cells were: so the
+// heap stays small, and `malloc` gives less of it back to the system, to take it again. They are emptied
+// last, so that nothing is lost where the slots get no memory.
 pub fn double<N: Copy>(
     slots: &mut Slots<N>,
     cells: &mut Vec<Stored<N>>,
     block: Vec<Stored<N>>,
     filler: N,
-) -> Result<Vec<Kept<N>>, AllocError>
+) -> Result<Vec<Hashed<N>>, AllocError>
     requires power { IsPowerOfTwo (length slots.old) }
     requires whole { length slots.old % LANES ≡ 0 }
     requires small { length slots.old ≤ 2 ^ 30 }

@@ -10,7 +10,7 @@ use super::bucket::group_of;
 use super::cell::{END, Stored};
 use super::lanes::LANES;
 use super::slots::Slots;
-use crate::kept::Kept;
+use crate::hashed::Hashed;
 
 // Puts a cell where the first free one is, or after the last if none is free, and returns where.
 #[inline]
@@ -38,7 +38,7 @@ fn chain<N: Copy>(
     cells: &mut Vec<Stored<N>>,
     free: &mut usize,
     bucket: usize,
-    kept: Kept<N>,
+    kept: Hashed<N>,
 )
     requires within { bucket < length slots.old }
     requires bucket { bucket ≡ kept.hash % length slots.old }
@@ -65,7 +65,7 @@ pub fn put<N: Copy>(
     cells: &mut Vec<Stored<N>>,
     free: &mut usize,
     bucket: usize,
-    kept: Kept<N>,
+    kept: Hashed<N>,
 )
     requires within { bucket < length slots.old }
     requires bucket { bucket ≡ kept.hash % length slots.old }

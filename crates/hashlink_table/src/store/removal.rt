@@ -13,7 +13,7 @@ use super::cell::{END, Stored};
 use super::lanes::LANES;
 use super::slots::Slots;
 use super::spot::Spot;
-use crate::kept::Kept;
+use crate::hashed::Hashed;
 
 // Removes a cell from its bucket's chain: the link to it leads past it.
 fn unlink<N: Copy>(slots: &mut Slots<N>, cells: &mut [Stored<N>], bucket: usize, cell: usize)
@@ -46,7 +46,7 @@ pub fn take_out<N: Copy>(
     free: &mut usize,
     bucket: usize,
     cell: usize,
-) -> Kept<N>
+) -> Hashed<N>
     requires within { bucket < length slots.old }
     requires on_chain { chain_at (length slots.old) cells.old cell ≡ bucket }
     requires linked { IsLinked (links_of slots.old) cells.old free.old }
@@ -92,7 +92,7 @@ pub fn take<N: Copy>(
     cells: &mut [Stored<N>],
     free: &mut usize,
     spot: Spot,
-) -> Kept<N>
+) -> Hashed<N>
     requires masked { IsPowerOfTwo (length slots.old) }
     requires whole { length slots.old % LANES ≡ 0 }
     requires there { IsSome (kept_by slots.old cells.old spot) }

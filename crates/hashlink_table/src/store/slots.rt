@@ -13,7 +13,7 @@ use super::bucket::bucket_of;
 use super::cell::END;
 use super::lanes::{LANES, lanes_with};
 use super::repeated::repeated;
-use crate::kept::Kept;
+use crate::hashed::Hashed;
 use crate::steps::Steps;
 use std::alloc::{AllocError, Global};
 use std::marker::Model;
@@ -49,8 +49,8 @@ impl<N> Model for Slots<N> {
     ghost invariant = { λ o. IsTagged o.tags.items o.nodes.items o.rests.items };
 }
 
-// The tag of a hash: four bits that say which cell of its group is its bucket's, and four that its bucket does not
-// depend on. A cell without a node has the tag 0, so 1 stands in its place.
+// The tag of a hash: four bits that say which cell of its group is its bucket's, and four that its bucket
+// does not depend on. A cell without a node has the tag 0, so 1 stands in its place.
 #[inline]
 fn tag(hash: u32) -> u8
     ensures { result ≡ tag_of hash }
@@ -58,9 +58,9 @@ fn tag(hash: u32) -> u8
     ((hash % 16 * 16 + hash / (1 << 28)) as u8).max(1)
 }
 
-// Makes two cells of one, itself and the one `count` cells on. Its node stays, or goes to the other one if its bucket,
-// of twice as many, is in the upper half; no chain begins at either. Both are written, by a choice of values: a branch
-// would be mispredicted half the time.
+// Makes two cells of one, itself and the one `count` cells on. Its node stays, or goes to the other one if
+// its bucket, of twice as many, is in the upper half; no chain begins at either. Both are written, by a
+// choice of values: a branch would be mispredicted half the time.
 #[inline]
 fn part<N: Copy>(tags: &mut [u8], nodes: &mut [N], rests: &mut [Rest], at: usize, count: usize)
     requires power { IsPowerOfTwo (2 * count) }
@@ -114,8 +114,8 @@ impl<N: Copy> Slots<N> {
         Ok(Slots { tags, nodes, rests })
     }
 
-    /// Doubles the cells, and ends all chains. The node of a cell stays, or goes to the same place in the upper
-    /// half if its bucket is there now. If it fails, it changes nothing.
+    /// Doubles the cells, and ends all chains. The node of a cell stays, or goes to the same place in the
+    /// upper half if its bucket is there now. If it fails, it changes nothing.
     pub fn double(&mut self, filler: N) -> Result<(), AllocError>
         requires power { IsPowerOfTwo (length self.old) }
         requires small { length self.old ≤ 2 ^ 30 }
@@ -194,11 +194,11 @@ impl<N: Copy> Slots<N> {
 
     /// What a cell has that is known to have a node, for a move of the node.
     #[inline]
-    pub(super) fn known(&self, at: usize) -> Kept<N>
+    pub(super) fn known(&self, at: usize) -> Hashed<N>
         requires { IsSome (kept_at self.now at) }
         ensures { kept_at self.now at ≡ Some result }
     {
-        Kept {
+        Hashed {
             hash: self.rests[at].hash,
             node: self.nodes[at],
         }
@@ -206,14 +206,14 @@ impl<N: Copy> Slots<N> {
 
     /// What a cell has, for a move of its node.
     #[inline]
-    pub(super) fn kept(&self, at: usize) -> Option<Kept<N>>
+    pub(super) fn kept(&self, at: usize) -> Option<Hashed<N>>
         requires { at < length self.now }
         ensures { result ≡ kept_at self.now at }
     {
         if self.tags[at] == 0 {
             None
         } else {
-            Some(Kept {
+            Some(Hashed {
                 hash: self.rests[at].hash,
                 node: self.nodes[at],
             })
@@ -222,7 +222,7 @@ impl<N: Copy> Slots<N> {
 
     /// Puts a node into a cell, in place of what it had.
     #[inline]
-    pub fn put(&mut self, at: usize, kept: Kept<N>)
+    pub fn put(&mut self, at: usize, kept: Hashed<N>)
         requires { at < length self.old }
         ensures { self.new ≡ with_kept self.old at kept }
     {

@@ -12,7 +12,7 @@ use super::lanes::LANES;
 use super::slots::Slots;
 use super::{growth, insertion, removal};
 use crate::error::TryReserveError;
-use crate::kept::Kept;
+use crate::hashed::Hashed;
 use crate::search;
 use crate::steps::Steps;
 use std::alloc::{AllocError, Global};
@@ -31,10 +31,10 @@ const MIN_ROOM: usize = 4;
 
 /// Nodes by their hashes.
 ///
-/// A new table does not allocate. One with room takes 9 bytes and a node for each bucket, of which there are as
-/// many as it has room for nodes, or twice as many in a small table, and at least 16; a shrink may leave up to
-/// twice these. It takes 8 bytes and a node more for each node of its room, for the overflow cells; after a growth
-/// that was refused up to eight times these.
+/// A new table does not allocate. One with room takes 9 bytes and a node for each bucket, of which there are
+/// as many as it has room for nodes, or twice as many in a small table, and at least 16; a shrink may leave
+/// up to twice these. It takes 8 bytes and a node more for each node of its room, for the overflow cells;
+/// after a growth that was refused up to eight times these.
 #[derive(Drop)]
 pub struct Table<N> {
     // The slots. There are none or a power of two, and whole groups.
@@ -148,7 +148,7 @@ impl<N: Copy> Table<N> {
         ensures room { self.new.room ≡ self.old.room }
     {
         let bucket = bucket_of(hash, self.slots.len());
-        let kept = Kept { hash, node };
+        let kept = Hashed { hash, node };
         insertion::put(
             &mut self.slots,
             &mut self.overflow,
@@ -159,8 +159,8 @@ impl<N: Copy> Table<N> {
         self.len += 1;
     }
 
-    /// Removes a node of this hash that matches, which frees its room, and returns it: `remove_counted`, where
-    /// nobody counts the steps.
+    /// Removes a node of this hash that matches, which frees its room, and returns it: `remove_counted`,
+    /// where nobody counts the steps.
     #[inline]
     pub fn remove<F: Fn(N) -> bool>(&mut self, hash: u32, is_match: F) -> Option<N>
         requires callable { CanAsk self.old hash (λ node. F.pre is_match node) }
@@ -200,8 +200,8 @@ impl<N: Copy> Table<N> {
         self.remove_counted(hash, is_match, &mut steps)
     }
 
-    /// Removes a node of this hash that matches, which frees its room, and returns it. It looks for it as `find`
-    /// does, and compares no keys.
+    /// Removes a node of this hash that matches, which frees its room, and returns it. It looks for it as
+    /// `find` does, and compares no keys.
     #[inline]
     pub fn remove_counted<F: Fn(N) -> bool, L: Ledger>(
         &mut self,
@@ -241,8 +241,8 @@ impl<N: Copy> Table<N> {
 
     /// Returns the node of this hash that matches, if no more than one does: the first that it looks at. It
     /// takes a step for each node that it looks at: those of the hash's group of which the tag is the hash's,
-    /// and then those of its chain. They are all of the hash's bucket. It calls `is_match` on nodes that it looks
-    /// at alone, which may be of other hashes.
+    /// and then those of its chain. They are all of the hash's bucket. It calls `is_match` on nodes that it
+    /// looks at alone, which may be of other hashes.
     #[inline]
     pub fn find<F: Fn(N) -> bool, L: Ledger>(
         &self,
@@ -356,8 +356,8 @@ impl<N: Copy> Table<N> {
         self.rebuild(buckets_for(len.next_power_of_two()), len)
     }
 
-    // Grows to so many buckets, for this room. If they stay as many, only the overflow cells get more memory. If they
-    // double, the nodes in the slots move without a search. Else a new table is made. If it fails, it
+    // Grows to so many buckets, for this room. If they stay as many, only the overflow cells get more memory.
+    // If they double, the nodes in the slots move without a search. Else a new table is made. If it fails, it
     // changes no node and no room, but may keep memory that it took.
     #[cold]
     fn grow(&mut self, buckets: usize, room: usize) -> Result<(), AllocError>
@@ -428,7 +428,7 @@ impl<N: Copy> Table<N> {
     }
 
     // Puts these nodes in.
-    fn insert_all(&mut self, list: &[Kept<N>])
+    fn insert_all(&mut self, list: &[Hashed<N>])
         requires { len_of self.old + length list.now ≤ self.old.room }
         ensures inserted { IsPermutation (self.old.nodes ++ list.now) self.new.nodes }
         ensures room { self.new.room ≡ self.old.room }

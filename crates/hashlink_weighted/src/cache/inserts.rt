@@ -3,7 +3,7 @@ ghost use Rattle.std.specs.Prelude.{◌≡◌, ◌<◌, ◌↔◌, IfOk, OnOk, O
 ghost use Rattle.hashlink_model.specs.Entries.{IsEntries};
 ghost use Rattle.hashlink_weighted.specs.Answers.{without_weight};
 ghost use Rattle.hashlink_weighted.specs.Evicted.{IsGivenEach, TakesEach, evicted_by};
-ghost use Rattle.hashlink_weighted.specs.Weighed.{weight_or_none};
+ghost use Rattle.hashlink_weighted.specs.Weighed.{entries_of, weight_or_none};
 ghost use Rattle.hashlink_weighted.specs.declared.error.WeightError.TheVariants.{TooHeavy};
 
 use super::WeightedCache;
@@ -43,7 +43,7 @@ impl<K: Eq + Hash, V, S: BuildHasher> WeightedCache<K, V, S> {
         V: Drop,
         ensures inserts { InsertsWithin K.eq self.old self.new key value weight result }
         ensures too_heavy { (result ≡ Err (TooHeavy (key, value))) ↔ (self.old.budget < weight) }
-        ensures distinct { IfOk result (λ _. IsEntries K.eq self.new.map.entries) }
+        ensures distinct { IfOk result (λ _. IsEntries K.eq (entries_of self.new)) }
     {
         self.insert_evicting(key, value, weight, &mut |_, _| {})
     }
@@ -69,7 +69,7 @@ impl<K: Eq + Hash, V, S: BuildHasher> WeightedCache<K, V, S> {
         requires { TakesEach F.FnMut on_evicted.old (evicted_by K.eq self.old key value weight) }
         ensures inserts { InsertsWithin K.eq self.old self.new key value weight result }
         ensures too_heavy { (result ≡ Err (TooHeavy (key, value))) ↔ (self.old.budget < weight) }
-        ensures distinct { IfOk result (λ _. IsEntries K.eq self.new.map.entries) }
+        ensures distinct { IfOk result (λ _. IsEntries K.eq (entries_of self.new)) }
         ensures given { OnOk result (IsGivenEach F.FnMut on_evicted.old
             (evicted_by K.eq self.old key value weight) on_evicted.new) }
         ensures not_called { OnErr result (on_evicted.new ≡ on_evicted.old) }

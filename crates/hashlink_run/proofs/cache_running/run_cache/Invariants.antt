@@ -1,6 +1,6 @@
 use Rattle.std.proofs.Common.{◌+◌, ◌≤◌, length, vec_len, vec_capacity}
 use Rattle.std.specs.Vec.Iter.{into_iter_items}
-use Rattle.hashlink_lru.specs.Cached.{state_in}
+use Rattle.hashlink_lru.specs.Cached.{state_of}
 use Rattle.hashlink_run.specs.CacheRun.{ShownByCache}
 use Rattle.hashlink_run.specs.CacheStep.{CacheStep}
 use Rattle.hashlink_run.specs.Reads.{CallableOn, ClosureSays}
@@ -9,9 +9,9 @@ use Rattle.hashlink_run.proofs.cache_running.run_cache.Given as goal
 
 abbrev pub invariant-loop-command : goal.invariant-loop-command
 invariant-loop-command g l =
-    HasAnswered (CacheStep g.K.PartialEq.eq (ClosureSays g.F.Fn l.keep)) (state_in l.initial.cache)
-    (state_in l.cache)
+    HasAnswered (CacheStep g.K.PartialEq.eq (ClosureSays g.F.Fn l.keep)) (state_of l.initial.cache)
+    (state_of l.cache)
     l.fn.commands.items (into_iter_items l.command-iterator) l.replies.items
     × (vec_len l.replies + length (into_iter_items l.command-iterator) ≤ vec_capacity l.replies)
-    × CallableOn g.F.Fn l.keep (ShownByCache g.K.PartialEq.eq (ClosureSays g.F.Fn l.keep) (state_in l.cache)
+    × CallableOn g.F.Fn l.keep (ShownByCache g.K.PartialEq.eq (ClosureSays g.F.Fn l.keep) (state_of l.cache)
     (into_iter_items l.command-iterator))

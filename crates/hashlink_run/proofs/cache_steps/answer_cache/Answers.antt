@@ -2,7 +2,7 @@ use Rattle.std.proofs.Common.{◌≡◌, Bool, ap, subst, sym, ◌∙◌}
 use Rattle.std.specs.Map.{lookup_entry}
 use Rattle.hashlink_core.specs.Keyed.{entries_of}
 use Rattle.hashlink_run.specs.declared.cache_commands.CacheCommand.{CacheCommand}
-use Rattle.hashlink_lru.specs.Cached.{state_in}
+use Rattle.hashlink_lru.specs.Cached.{state_of}
 use Rattle.hashlink_model.specs.Cache.{CacheState}
 use Rattle.hashlink_run.specs.CacheStep.{CommandReads, ReadFromCache}
 use Rattle.hashlink_run.proofs.cache_steps.answer_cache.Goals as goal
@@ -22,7 +22,7 @@ reply_of_entry-requires g c = λ pair read.
     let from = rw c.map_mut.ensures.unchanged at read in
     let evicts = c.make_room.ensures.evicts in
     c.requires pair
-    (reads_of _ _ pair _ _ c.in-Entry.is ((state_in c.make_room.new.self).map, evicts.map, from))
+    (reads_of _ _ pair _ _ c.in-Entry.is ((state_of c.make_room.new.self).map, evicts.map, from))
 
 pub said_of_get-requires : goal.said_of_get-requires
 said_of_get-requires g c = λ pair read. c.requires pair (reads_of _ _ pair _ _ c.in-Get.is read)
@@ -38,4 +38,4 @@ pub returns-in-Entry : goal.returns-in-Entry
 returns-in-Entry g c =
     let from = rw c.map_mut.ensures.unchanged at c.reply_of_entry.ensures in
     let evicts = c.make_room.ensures.evicts in
-    rw c.in-Entry.is ((state_in c.make_room.new.self).map, evicts.map, from, evicts.cap)
+    rw c.in-Entry.is ((state_of c.make_room.new.self).map, evicts.map, from, evicts.cap)

@@ -17,7 +17,8 @@ seek_overflow-requires-clause-bucket g c =
     c.bucket_of-bucket.ensures ∙ ap (λ m. c.args.hash % m) c.len-buckets.ensures
 
 -- the group of a hash
-group_is : (hash m len base : ℕ) → len ≡ m → base ≡ hash % len - hash % len % 16 → base ≡ hash % m - hash % m % 16
+group_is : (hash m len base : ℕ) → len ≡ m → base ≡ hash % len - hash % len % 16 → base
+    ≡ hash % m - hash % m % 16
 group_is hash m len base n is = is ∙ ap (λ k. hash % k - hash % k % 16) n
 
 -- a node of the group with the tag of the hash is of its bucket
@@ -28,7 +29,8 @@ seek_slots-requires-clause-callable g c at kept from to is same =
     let b = c.args.hash % m in
     let some = positive_by_power m c.requires.masked in
     let base = group_is c.args.hash _ _ _ c.len-buckets.ensures c.base_of-base.ensures in
-    let own = tag_agrees m b c.args.hash at (kept_at slots at) some c.requires.whole refl (c.requires.in_place at)
+    let own = tag_agrees m b c.args.hash at (kept_at slots at) some c.requires.whole refl
+    (c.requires.in_place at)
     (grouped_in b at (omega (arith, base, from)) (omega (arith, base, to)))
     (rw is (eq-eqb (tag_of kept.hash) (tag_of c.args.hash) same)) in
     c.requires.callable_slots at kept is (eqb-true (kept.hash % m) b (rw is at own))

@@ -2,7 +2,7 @@ use Rattle.std.proofs.Common.{◌≡◌, ◌<◌, ◌%◌, length, get_or, false
 use Rattle.std.proofs.Common.{arith}
 use Rattle.std.proofs.lemmas.Option.{same_Some}
 use Rattle.std.specs.Int.{IsPowerOfTwo}
-use Rattle.hashlink_table.specs.declared.kept.Kept.{Kept}
+use Rattle.hashlink_table.specs.declared.hashed.Hashed.{Hashed}
 use Rattle.hashlink_table.specs.declared.store.cell.TheConstants.{END}
 use Rattle.hashlink_table.specs.Chains.{next_at, chain_of, links_of}
 use Rattle.hashlink_table.proofs.Cells.{chain_at_within}
@@ -59,7 +59,7 @@ is_match-requires g c =
     c.loop-at-test.true c.index-cells-at.result c.index-cells-at.is in
     c.requires.callable c.loop-at.at c.look-kept.result.node
     (read.0 ∙ c.look-kept.ensures.value
-    ∙ ap (λ h. let k : Kept g.row.N.Denot = record { hash = h; node = c.look-kept.result.node } in Some k)
+    ∙ ap (λ h. let k : Hashed g.row.N.Denot = record { hash = h; node = c.look-kept.result.node } in Some k)
     c.if-kept-hash.true)
 
 pub returns-then-is_match-clause-found : goal.returns-then-is_match-clause-found
@@ -69,7 +69,8 @@ returns-then-is_match-clause-found g c =
     let read = walk_read heads cells c.args.hash c.loop-at.invariant.walk power
     c.loop-at-test.true c.index-cells-at.result c.index-cells-at.is in (
       read.0 ∙ c.look-kept.ensures.value
-          ∙ ap (λ h. let k : Kept g.row.N.Denot = record { hash = h; node = c.look-kept.result.node } in Some k)
+          ∙ ap (λ h. let k : Hashed g.row.N.Denot = record { hash = h; node = c.look-kept.result.node } in
+          Some k)
           c.if-kept-hash.true,
       c.if-is_match.ensures,
     )
@@ -106,10 +107,10 @@ loop-at-preserved g c =
     let same = same_Some _ _ (sym c.look-kept.ensures.value ∙ sym read.0 ∙ here) in
     elim c.else-kept-hash.branch as (λ _. g.F.Fn.post c.args.is_match.now (node, tt) false) [
       | else-kept-hash-via-then-kept-hash+else-is_match w ↦
-          subst (λ (k : Kept g.row.N.Denot). g.F.Fn.post c.args.is_match.now (k.node, tt) false) same
+          subst (λ (k : Hashed g.row.N.Denot). g.F.Fn.post c.args.is_match.now (k.node, tt) false) same
           w.if-is_match.ensures
       | else-kept-hash-via-else-kept-hash w ↦
-          absurd (w.if-kept-hash.false (ap (λ (k : Kept g.row.N.Denot). k.hash) same))
+          absurd (w.if-kept-hash.false (ap (λ (k : Hashed g.row.N.Denot). k.hash) same))
     ]) _ _ (read.1 ∙ sym c.next-at-in-loop-at.ensures.value) c.look-kept.ensures.step
 
 pub returns-clause-none : goal.returns-clause-none

@@ -5,7 +5,7 @@ use Rattle.std.proofs.lemmas.Bool.{cases_eq, cases_lt, eq-eqb, eqb-true, true≢
 use Rattle.std.proofs.lemmas.Option.{same_Some}
 use lib.Count.{count_trailing_zeros}
 use lib.Lanes.{mask_l}
-use Rattle.hashlink_table.specs.declared.kept.Kept.{Kept}
+use Rattle.hashlink_table.specs.declared.hashed.Hashed.{Hashed}
 use Rattle.hashlink_table.specs.declared.store.cell.Cell.{Cell}
 use Rattle.hashlink_table.specs.Chains.{kept_at}
 use Rattle.hashlink_table.specs.Stored.{tag_of}
@@ -14,23 +14,24 @@ use Rattle.hashlink_table.proofs.Masks.{hit, no_hit, IsHit}
 use Rattle.hashlink_table.proofs.search.seek_slots.Goals as goal
 
 -- a cell that may have a node has one
-there : {N : Type 0} (hash : ℕ) (o : Option (Kept N)) → kept_may_be hash o ≡ true → IsSome o
+there : {N : Type 0} (hash : ℕ) (o : Option (Hashed N)) → kept_may_be hash o ≡ true → IsSome o
 there hash None e = absurd (true≢false (sym e))
 there hash (Some k) e = refl
 
 -- with the tag of the hash
-same_tag : {N : Type 0} (hash : ℕ) (o : Option (Kept N)) (k : Kept N) → o ≡ Some k → kept_may_be hash o ≡ true
+same_tag : {N : Type 0} (hash : ℕ) (o : Option (Hashed N)) (k : Hashed N) → o ≡ Some k → kept_may_be hash o
+    ≡ true
     → tag_of k.hash ≡ tag_of hash
 same_tag hash o k is e = eqb-true (tag_of k.hash) (tag_of hash) (rw is at e)
 
 -- one with a node of the hash may have it
-slot_hash : {N : Type 0} (hash : ℕ) (o : Option (Kept N)) (node : N)
+slot_hash : {N : Type 0} (hash : ℕ) (o : Option (Hashed N)) (node : N)
     → o ≡ Some (record { hash = hash; node = node })
     → kept_may_be hash o ≡ true
 slot_hash hash o node is = rw is (eq-eqb (tag_of hash) (tag_of hash) refl)
 
 -- what the cell has, by its parts
-parts : {N : Type 0} (k : Kept N) (hash : ℕ) (node : N) → k.hash ≡ hash → k.node ≡ node
+parts : {N : Type 0} (k : Hashed N) (hash : ℕ) (node : N) → k.hash ≡ hash → k.node ≡ node
     → Some k ≡ Some (record { hash = hash; node = node })
 parts k hash node h n = rw (sym h, sym n) refl
 
@@ -48,14 +49,16 @@ module _ {N : Type 0} (slots : List (Cell N)) (base hash : ℕ) (room : base + 1
 pub overflow_add-at : goal.overflow_add-at
 overflow_add-at g c =
     let v = c.loop-hits.invariant in
-    let h = found_at c.args.slots.now c.args.base c.args.hash c.requires.within c.loop-hits.at c.loop-hits.hits
+    let h = found_at c.args.slots.now c.args.base c.args.hash c.requires.within c.loop-hits.at
+    c.loop-hits.hits
     v.from v.left c.loop-hits-test.true in
     record { fits = omega (arith, h.to, c.may_have-hits.ensures.small) }
 
 pub look-node-requires : goal.look-node-requires
 look-node-requires g c =
     let v = c.loop-hits.invariant in
-    let h = found_at c.args.slots.now c.args.base c.args.hash c.requires.within c.loop-hits.at c.loop-hits.hits
+    let h = found_at c.args.slots.now c.args.base c.args.hash c.requires.within c.loop-hits.at
+    c.loop-hits.hits
     v.from v.left c.loop-hits-test.true in
     there c.args.hash _ h.here
 
@@ -83,14 +86,16 @@ returns-then-is_match-clause-found g c =
 pub returns-then-is_match-clause-cost : goal.returns-then-is_match-clause-cost
 returns-then-is_match-clause-cost g c =
     let v = c.loop-hits.invariant in
-    let h = found_at c.args.slots.now c.args.base c.args.hash c.requires.within c.loop-hits.at c.loop-hits.hits
+    let h = found_at c.args.slots.now c.args.base c.args.hash c.requires.within c.loop-hits.at
+    c.loop-hits.hits
     v.from v.left c.loop-hits-test.true in
     omega (arith, v.cost, h.count, c.look-node.ensures.step)
 
 pub overflow_add-at-in-loop-hits : goal.overflow_add-at-in-loop-hits
 overflow_add-at-in-loop-hits g c =
     let v = c.loop-hits.invariant in
-    let h = found_at c.args.slots.now c.args.base c.args.hash c.requires.within c.loop-hits.at c.loop-hits.hits
+    let h = found_at c.args.slots.now c.args.base c.args.hash c.requires.within c.loop-hits.at
+    c.loop-hits.hits
     v.from v.left c.loop-hits-test.true in
     record { fits = omega (arith, h.to, c.may_have-hits.ensures.small) }
 
@@ -112,7 +117,7 @@ loop-hits-preserved g c =
         | inr late ↦ elim (cases_eq i now) as (λ _. Other node) [
           | inl e ↦
               let same = same_Some _ _ (sym k.1 ∙ ap (kept_at slots) (sym e) ∙ is) in
-              subst Other (sym k.2 ∙ ap (λ (j : Kept g.row.N.Denot). j.node) same) c.if-is_match.ensures
+              subst Other (sym k.2 ∙ ap (λ (j : Hashed g.row.N.Denot). j.node) same) c.if-is_match.ensures
           | inr ne ↦ absurd (true≢false (sym (slot_hash c.args.hash _ node is)
               ∙ h.before i late (omega (arith, to, ne))))
         ]

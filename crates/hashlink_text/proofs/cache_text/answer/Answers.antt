@@ -1,6 +1,6 @@
 use Rattle.std.proofs.Common.{◌≡◌, Some, OnOk, codes, nat_eq, refl, sym, ap, subst, ◌∙◌, rules, [], ◌∷◌}
 use Rattle.std.proofs.lemmas.Result.{on_ok_weaker}
-use Rattle.hashlink_lru.specs.Cached.{state_in}
+use Rattle.hashlink_lru.specs.Cached.{state_of}
 use Rattle.hashlink_text.specs.CacheTranscript.{CacheShows}
 use Rattle.hashlink_text.specs.Transcript.{Itself, PushesLine, replies_shown}
 use Rattle.hashlink_run.proofs.CacheWider.{cache_step-wider}
@@ -18,12 +18,12 @@ returns-in-Some-Do c =
     let step = cache_step-wider _ Itself
     (λ k v b s. let read : b ≡ (s.key.now, s.value.now) = search rules in
     read ∙ ap (λ x. (x, s.value.now)) s.shows.0 ∙ ap (λ y. (k, y)) s.shows.1) nat_eq
-    (state_in c.args.cache.now) replies (state_in c.answer_cache-reply.new.cache) c.in-Some-Do.command
+    (state_of c.args.cache.now) replies (state_of c.answer_cache-reply.new.cache) c.in-Some-Do.command
     c.answer_cache-reply.ensures in
     let said = rw c.in-Some-Do.is at c.in-Some-Do.field-0-is in
     subst (λ line. OnOk c.push_replies.result
-    (PushesLine (λ text. CacheShows (state_in c.args.cache.now) line text
-    (state_in c.answer_cache-reply.new.cache)) c.args.out.now c.push_replies.new.out))
+    (PushesLine (λ text. CacheShows (state_of c.args.cache.now) line text
+    (state_of c.answer_cache-reply.new.cache)) c.args.out.now c.push_replies.new.out))
     (sym (c.in-Some-Do.is ∙ ap Some said))
     (on_ok_weaker c.push_replies.result (λ e. (replies_shown replies, (replies, step, refl), e))
     c.push_replies.ensures)

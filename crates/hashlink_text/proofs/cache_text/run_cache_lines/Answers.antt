@@ -1,7 +1,7 @@
 use Rattle.std.proofs.lemmas.Result.{on_ok_weaker}
 use Rattle.hashlink_core.specs.Hashing.{default_builder}
 use Rattle.hashlink_text.specs.Lines.{lines_of}
-use Rattle.hashlink_lru.specs.Cached.{state_in}
+use Rattle.hashlink_lru.specs.Cached.{state_of}
 use Rattle.hashlink_text.specs.CacheTranscript.{CacheLineShows}
 use Rattle.hashlink_text.proofs.Progress.{Pushes-seen}
 use Rattle.hashlink_text.proofs.cache_text.run_cache_lines.Goals as goal
@@ -12,7 +12,7 @@ returns c =
     on_ok_weaker c.answer_lines.result
     (λ pushed.
     let seen =
-    Pushes-seen state_in CacheLineShows c.args.out.now new.out c.new-cache.result
+    Pushes-seen state_of CacheLineShows c.args.out.now new.out c.new-cache.result
     (lines_of c.args.lines.rest.now) new.container pushed in
-    (seen.0, (default_builder, state_in new.container, rw c.new-cache.ensures at seen.1), seen.2))
+    (seen.0, (default_builder, state_of new.container, rw c.new-cache.ensures at seen.1), seen.2))
     c.answer_lines.ensures

@@ -2,9 +2,9 @@ use Rattle.std.proofs.Common.{◌≡◌, ◌++◌, [], ◌∷◌, codes, decimal
 use Rattle.std.proofs.Common.{string_bytes}
 use Rattle.std.proofs.lemmas.Result.{on_ok_weaker}
 use Rattle.hashlink_history.specs.CacheRuns.{answer_to}
-use Rattle.hashlink_lru.specs.Cached.{entries_in, state_in}
+use Rattle.hashlink_lru.specs.Cached.{entries_of, state_of}
 use Rattle.hashlink_run.specs.CacheCalls.{event_of}
-use Rattle.hashlink_text.specs.CacheTranscript.{Held, answers_shown}
+use Rattle.hashlink_text.specs.CacheTranscript.{TwoLists, answers_shown}
 use Rattle.hashlink_text.specs.Transcript.{ended, shown_by}
 use Rattle.hashlink_run.proofs.Called.{left}
 use Rattle.hashlink_text.proofs.pair_text.answer.Goals as goal
@@ -19,12 +19,12 @@ pub returns-clause-shown : goal.returns-clause-shown
 returns-clause-shown c =
     let command = c.in-Some.command in
     let small =
-    left nat_eq (state_in c.args.small.now) (event_of command) (c.in_ok-small_answer.small_answer ∷ []) _
+    left nat_eq (state_of c.args.small.now) (event_of command) (c.in_ok-small_answer.small_answer ∷ []) _
     c.in_ok-small_answer.ensures.answered in
     let large =
-    left nat_eq (state_in c.args.large.now) (event_of command) (c.in_ok-large_answer.large_answer ∷ []) _
+    left nat_eq (state_of c.args.large.now) (event_of command) (c.in_ok-large_answer.large_answer ∷ []) _
     c.in_ok-large_answer.ensures.answered in
-    let held : Held = (entries_in c.args.small.now, entries_in c.args.large.now) in
+    let held : TwoLists = (entries_of c.args.small.now, entries_of c.args.large.now) in
     let first : c.in_ok-small_answer.small_answer ≡ answer_to nat_eq held.0 (event_of command) =
     cc (small.answer) in
     let second : c.in_ok-large_answer.large_answer ≡ answer_to nat_eq held.1 (event_of command) =

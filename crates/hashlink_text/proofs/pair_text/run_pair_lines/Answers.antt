@@ -1,6 +1,6 @@
 use Rattle.std.proofs.Common.{[], ◌++◌, sym, ap, ◌∙◌, refl, append-nil, append_assoc, string_bytes}
-use Rattle.hashlink_lru.specs.Cached.{entries_in}
-use Rattle.hashlink_text.specs.CacheTranscript.{Held, PairLineShows, lists_shown}
+use Rattle.hashlink_lru.specs.Cached.{entries_of}
+use Rattle.hashlink_text.specs.CacheTranscript.{TwoLists, PairLineShows, lists_shown}
 use Rattle.hashlink_text.specs.Transcript.{ended}
 use Rattle.hashlink_text.proofs.Progress.{HasCome-start, HasCome-line, ShowsAll-whole}
 use Rattle.hashlink_text.proofs.pair_text.run_pair_lines.Goals as goal
@@ -33,7 +33,7 @@ loop-line-preserved c =
 pub returns : goal.returns
 returns c =
     let come = c.loop-line.invariant in
-    let held : Held = (entries_in c.loop-line.small, entries_in c.loop-line.large) in
+    let held : TwoLists = (entries_of c.loop-line.small, entries_of c.loop-line.large) in
     let whole =
     ShowsAll-whole (PairLineShows c.args.small_capacity c.args.large_capacity) ([], []) held _ come.0
     (rw c.in-None.ensures.steps.0 at come.1) in (

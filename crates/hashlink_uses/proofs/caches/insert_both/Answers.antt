@@ -1,4 +1,4 @@
-use Rattle.hashlink.specs.Cached.{state_in}
+use Rattle.hashlink.specs.Cached.{state_of}
 use Rattle.hashlink.proofs.Extending.{inserted_fits}
 use Rattle.hashlink_uses.proofs.caches.insert_both.Goals as goal
 
@@ -8,6 +8,6 @@ returns-clause-within g c = λ n within.
 
 pub returns-clause-fits : goal.returns-clause-fits
 returns-clause-fits g c =
-    inserted_fits g.K.PartialEq.eq (state_in c.insert-answer.new.self)
-    (state_in c.insert.new.self) c.args.second
+    inserted_fits g.K.PartialEq.eq (state_of c.insert-answer.new.self)
+    (state_of c.insert.new.self) c.args.second
     c.insert.result c.insert.ensures.inserts

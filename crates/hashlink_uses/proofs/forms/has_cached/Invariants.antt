@@ -1,10 +1,10 @@
 use Rattle.std.specs.Prelude.{◌≡◌}
 use Rattle.std.specs.List.{list_any}
-use Rattle.hashlink.specs.Cached.{entries_in}
+use Rattle.hashlink.specs.Cached.{entries_of}
 use Rattle.hashlink_uses.proofs.forms.has_cached.Given as goal
 
 -- no entry so far has the value
 abbrev pub invariant-loop-stored : goal.invariant-loop-stored
 invariant-loop-stored g l =
-    list_any (λ e. g.V.PartialEq.eq e.1 l.value) (entries_in l.cache)
+    list_any (λ e. g.V.PartialEq.eq e.1 l.value) (entries_of l.cache)
     ≡ list_any (λ e. g.V.PartialEq.eq e.1 l.value) l.stored-iterator

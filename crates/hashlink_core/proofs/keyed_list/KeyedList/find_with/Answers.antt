@@ -22,7 +22,8 @@ abbrev Telling : (g : given.Over) → After-short_hash g → g.row.K.Denot → T
 Telling g c k =
     Tells g.F.Fn g.K.PartialEq.eq
     (hash_with g.S.BuildHasher.build_hasher g.S.Hasher.Hasher.write g.S.Hasher.Hasher.finish
-    g.K.Hash.hash_input c.args.self.now.hasher) (keys_of (entries_of c.args.self.now)) c.args.is_match c.args.hash k
+    g.K.Hash.hash_input c.args.self.now.hasher) (keys_of (entries_of c.args.self.now)) c.args.is_match
+    c.args.hash k
 
 -- the keys that are equal to it have the hash
 hashed : (g : given.Over) (c : After-short_hash g) (k : g.row.K.Denot) → Telling g c k → (x : g.row.K.Denot)
@@ -35,7 +36,8 @@ hashed g c k tells x e =
     let build = g.S.BuildHasher.build_hasher in
     let start = build c.args.self.now.hasher in
     ap (λ m. hash_with build H.write H.finish g.K.Hash.hash_input m.hasher x) c.self.view_is
-    ∙ sym (ap (λ input. H.finish (fold H.write start input)) (g.met.K.Hash.respects_eq k x e)) ∙ sym tells.hashed
+    ∙ sym (ap (λ input. H.finish (fold H.write start input)) (g.met.K.Hash.respects_eq k x e))
+    ∙ sym tells.hashed
 
 -- the key of a node is in the list
 among : (g : given.Over) (c : After-short_hash g) (n : Node) (h : Held g.row.K.Denot g.row.V.Denot)

@@ -70,7 +70,8 @@ found g c =
     subst (λ m. HoldsMatch passes m.nodes c.in_ok-node.node) c.self.view_is
     (found-by_table g.met.K.Eq.laws c.self.invariant passes c.hash_of.result c.short_hash-hash.result
     c.short_hash-hash.ensures (hashed g (goal.at.returns-clause-removes g c).After-short_hash-hash)
-    (λ x b. b ≡ passes x) (λ n h here b is. is) (g.met.Q.Equivalent.finds_equal c.args.key) (Some c.in_ok-node.node)
+    (λ x b. b ≡ passes x) (λ n h here b is. is) (g.met.Q.Equivalent.finds_equal c.args.key)
+    (Some c.in_ok-node.node)
     (was-kept c.self.inside.table c.remove.new.self _ _ r.0, r.1) tt)
 
 pub invariant_of-self-2 : goal.invariant_of-self-2

@@ -10,8 +10,8 @@ use Rattle.hashlink_core.proofs.keyed_list.KeyedList.retain_in_order.Goals as go
 pub loop-place-init : goal.loop-place-init
 loop-place-init g c = (
   retaining-first (CalledAtPair g.F.FnMut) (TakesPair g.F.FnMut) c.args.keep.now c.args.self.now
-      c.first-place.result c.first-place.ensures.place c.requires,
-  c.first-place.ensures.sound,
+      c.front-place.result c.front-place.ensures.place c.requires,
+  c.front-place.ensures.sound,
 )
 
 pub keep-requires : goal.keep-requires

@@ -14,7 +14,8 @@ returns-clause-counted g c used k passes =
     let made = (c.requires none.0).1 c.in_ok-key.key c.in_ok-key.ensures in
     Counts-alike eq laws used c.args.self.now c.record.new.self c.in_ok-key.key k c.in-Ok.distance
     (ap (λ t. t k) (sym (test_is eq laws test tells c.in_ok-key.key made)) ∙ passes)
-    (subst (λ (s : CurveState g.row.K.Denot). Counts eq used s c.record.new.self c.in_ok-key.key c.in-Ok.distance)
+    (subst (λ (s : CurveState g.row.K.Denot). Counts eq used s c.record.new.self c.in_ok-key.key
+    c.in-Ok.distance)
     none.1 (c.in-Ok.ensures.counted used))
 
 pub returns-clause-there : goal.returns-clause-there

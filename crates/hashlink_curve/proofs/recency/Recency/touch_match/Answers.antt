@@ -135,7 +135,8 @@ invariant_of-self-2 g c =
     (subst (Marked c.free_place.new.marks) f.values p.marked) in
     let u2 = c.mark.ensures.marked (values_of f.front ++ values_of f.back) []
     (subst (Marked c.unmark.new.self) (sym (append-nil (values_of f.front ++ values_of f.back))) u) in
-    found_placed g.K.PartialEq.eq g.met.K.Eq.laws es (entries_of c.move_last.new.places) c.free_place.new.marks
+    found_placed g.K.PartialEq.eq g.met.K.Eq.laws es (entries_of c.move_last.new.places)
+    c.free_place.new.marks
     c.mark.new.self c.free_place.new.next m.key c.in-Some.place p f m.entries
     (subst (IsEntries g.K.PartialEq.eq) (sym m.entries)
     (IsEntries-put g.K.PartialEq.eq g.met.K.Eq.laws es m.key c.free_place.new.next (length es) p.distinct))
@@ -159,5 +160,6 @@ returns-clause-touched g c =
     let new = keys_of (entries_of c.move_last.new.places) in
     subst (λ ks. MovesPast test ks new others) old
     (subst (λ t. MovesPast t (keys_of es) new others) (sym m.tells)
-    (found_moves g.K.PartialEq.eq g.met.K.Eq.laws es (entries_of c.move_last.new.places) c.free_place.new.marks
+    (found_moves g.K.PartialEq.eq g.met.K.Eq.laws es (entries_of c.move_last.new.places)
+    c.free_place.new.marks
     c.free_place.new.next m.key c.in-Some.place others f m.entries (omega arith)))

@@ -34,7 +34,8 @@ use Rattle.std.specs.Map.{lookup}
 use Rattle.hashlink_model.specs.Cache.{EntersCache, EvictsFront}
 use Rattle.hashlink_model.specs.Entries.{IsEntries}
 use Rattle.hashlink_model.specs.Entry.{entry_of}
-use Rattle.hashlink_core.specs.Keyed.{state_of, entries_of}
+use Rattle.hashlink_core.specs.Keyed as keyed
+use Rattle.hashlink_core.specs.Keyed.{entries_of}
 use Rattle.hashlink_map.specs.Entry.{entry_map, entry_state, entry_value}
 use Rattle.hashlink_map.specs.contracts.entry.Entry as place
 use Rattle.hashlink_map.specs.contracts.map.LinkedHashMap as map
@@ -43,7 +44,7 @@ use Rattle.hashlink_map.proofs.PairSteps.{Asks, asks_again}
 use Rattle.hashlink_map.proofs.PairValues.{value_of}
 use Rattle.hashlink_map.proofs.entry.Entry.TheLaws as place_laws
 use Rattle.hashlink_map.proofs.map.LinkedHashMap.entry.Met as found
-use Rattle.hashlink_lru.specs.Cached.{state_in}
+use Rattle.hashlink_lru.specs.Cached.{state_of}
 use Rattle.hashlink_lru.specs.Lends.{HandsOnMap}
 use Rattle.hashlink_lru.specs.contracts.cache.LruCache as cache
 use Rattle.hashlink_lru.specs.contracts.cache.LruCache.entry as f
@@ -94,8 +95,8 @@ entry_spec 𝓤 𝓛 𝓜 𝓡 wired K V S T LK LV LS LT e de p dp h dh b db w d
     let Hands : GName → SProp 𝓤 =
     λ n. sem 𝓛 (HandsOnMap KR VR SR TR (record { eq = p.eq; hash_input = h.hash_input })
     b w r n) in
-    let old = state_in r.now in
-    let Evicts : Ref.Denot → Type 0 = λ q. EvictsFront old.map (state_of q.now) old.cap in
+    let old = state_of r.now in
+    let Evicts : Ref.Denot → Type 0 = λ q. EvictsFront old.map (keyed.state_of q.now) old.cap in
     let Distinct : Ref.Denot → Type 0 = λ q. IsEntries p.eq (entries_of q.now) in
     subst (λ (us : Valss (types_at En.signature.params κs)). ent 𝓤 (W.pre (At us))
     (WpFn 𝓤 H 𝓣.C 𝓣.Λ fn (W.args
@@ -137,7 +138,7 @@ entry_spec 𝓤 𝓛 𝓜 𝓡 wired K V S T LK LV LS LT e de p dp h dh b db w d
     let E₂ = finds.ended K V S T e de p dp h dh b db w dw dd in
     let Same : Out.Denot → Type 0 = λ o. (entry_map o).ghost_name ≡ q.ghost_name in
     let Unchanged : Out.Denot → Type 0 = λ o. (entry_map o).now ≡ q.now in
-    let Found : Out.Denot → Type 0 = λ o. entry_state o ≡ entry_of p.eq (state_of q.now) k in
+    let Found : Out.Denot → Type 0 = λ o. entry_state o ≡ entry_of p.eq (keyed.state_of q.now) k in
     let Value : Out.Denot → Type 0 = λ o. entry_value (entry_state o) ≡ lookup (p.eq k) (entries_of q.now) in
     use1 𝓛 (raw (Y₂.pre y₂)) (id⊢ 𝓤 (Y₂.pre y₂)) $
     calls_at ! (framed 𝓤 H 𝓜 𝓣) Y₂
@@ -164,9 +165,9 @@ entry_spec 𝓤 𝓛 𝓜 𝓡 wired K V S T LK LV LS LT e de p dp h dh b db w d
     move ! (2 ∷ []) $ use1 𝓛 (raw (Hands (entry_map o).ghost_name))
     (subst (λ (n : GName). ent 𝓤 (Hands q.ghost_name) (Hands n)) (sym same) (id⊢ 𝓤 (Hands q.ghost_name))) $
     use0 𝓛 (raw (fact 𝓤 Enters)) (fact_i 𝓤 Enters (emp 𝓤)
-    (enters p.eq (state_of q.now) k (entry_state o) is_found old evicts)) $
+    (enters p.eq (keyed.state_of q.now) k (entry_state o) is_found old evicts)) $
     use0 𝓛 (raw (fact 𝓤 Apart)) (fact_i 𝓤 Apart (emp 𝓤)
-    (distinct p.eq (state_of q.now) k (entry_state o) is_found apart)) $
+    (distinct p.eq (keyed.state_of q.now) k (entry_state o) is_found apart)) $
     move ! (1 ∷ 0 ∷ []) $ join ! $ move ! (1 ∷ 0 ∷ []) $ join ! $
     -- [what is ensured; the entry; the tokens]
     nothing ! $ nothing ! $ fjoin ! $ nothing ! $ fjoin ! $ keep ! (3 ∷ 0 ∷ 2 ∷ 1 ∷ []) $

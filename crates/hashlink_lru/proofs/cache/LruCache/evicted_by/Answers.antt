@@ -1,5 +1,5 @@
 use Rattle.std.proofs.Common.{sym, ◌∙◌, arith}
-use Rattle.hashlink_lru.specs.Cached.{entries_in, state_in}
+use Rattle.hashlink_lru.specs.Cached.{entries_of, state_of}
 use Rattle.hashlink_lru.proofs.Evicting.{evicted-absent_room, evicted-absent_full, evicted-there_room}
 use Rattle.hashlink_lru.proofs.Evicting.{evicted-there_full}
 use Rattle.hashlink_lru.proofs.cache.LruCache.evicted_by.Goals as goal
@@ -9,8 +9,8 @@ returns-then-len-self-clause-found g c =
     let long = c.len-len.ensures.len in
     let room = c.if-len-self.true in
     sym
-    (evicted-absent_room (g.Q.Equivalent.matches c.args.key) (entries_in c.args.self.now)
-    (state_in c.args.self.now).cap
+    (evicted-absent_room (g.Q.Equivalent.matches c.args.key) (entries_of c.args.self.now)
+    (state_of c.args.self.now).cap
     (sym c.contains_key.ensures.found ∙ c.if-not-contains_key.true) (omega arith))
 
 pub returns-else-len-self-clause-found : goal.returns-else-len-self-clause-found
@@ -19,8 +19,8 @@ returns-else-len-self-clause-found g c =
     let full = c.if-len-self.false in
     c.front.ensures.found
     ∙ sym
-    (evicted-absent_full (g.Q.Equivalent.matches c.args.key) (entries_in c.args.self.now)
-    (state_in c.args.self.now).cap
+    (evicted-absent_full (g.Q.Equivalent.matches c.args.key) (entries_of c.args.self.now)
+    (state_of c.args.self.now).cap
     (sym c.contains_key.ensures.found ∙ c.if-not-contains_key.true) (omega arith))
 
 pub returns-then-len-self-2-clause-found : goal.returns-then-len-self-2-clause-found
@@ -28,8 +28,8 @@ returns-then-len-self-2-clause-found g c =
     let long = c.len-len.ensures.len in
     let room = c.if-len-self-2.true in
     sym
-    (evicted-there_room (g.Q.Equivalent.matches c.args.key) (entries_in c.args.self.now)
-    (state_in c.args.self.now).cap
+    (evicted-there_room (g.Q.Equivalent.matches c.args.key) (entries_of c.args.self.now)
+    (state_of c.args.self.now).cap
     (sym c.contains_key.ensures.found ∙ c.if-not-contains_key.false) (omega arith))
 
 pub returns-clause-found : goal.returns-clause-found
@@ -38,6 +38,6 @@ returns-clause-found g c =
     let full = c.if-len-self-2.false in
     c.first_other.ensures
     ∙ sym
-    (evicted-there_full (g.Q.Equivalent.matches c.args.key) (entries_in c.args.self.now)
-    (state_in c.args.self.now).cap
+    (evicted-there_full (g.Q.Equivalent.matches c.args.key) (entries_of c.args.self.now)
+    (state_of c.args.self.now).cap
     (sym c.contains_key.ensures.found ∙ c.if-not-contains_key.false) (omega arith))

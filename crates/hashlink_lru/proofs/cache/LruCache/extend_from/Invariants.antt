@@ -3,14 +3,14 @@ use Rattle.std.proofs.Common.{◌≡◌, ◌-◌, ◌^◌, length, min}
 use Rattle.std.proofs.iter.Next as it
 use Rattle.std.specs.Iterator.{EndsFrom, items_left}
 use Rattle.hashlink_model.specs.Many.{AcceptsAll}
-use Rattle.hashlink_lru.specs.Cached.{state_in, InsertsPairIn}
+use Rattle.hashlink_lru.specs.Cached.{state_of, InsertsPairIn}
 use Rattle.hashlink_lru.proofs.cache.LruCache.extend_from.Given as goal
 
 abbrev pub invariant-loop-key : goal.invariant-loop-key
 invariant-loop-key g l =
     it.Ran g.I.Iterator.can_next (EndsFrom g.I.Iterator.remaining) (items_left g.I.Iterator.remaining)
     g.I.Iterator.next_gives
-    (λ xs. AcceptsAll (InsertsPairIn g.K.PartialEq.eq) (state_in l.fn.self) xs (state_in l.self)
+    (λ xs. AcceptsAll (InsertsPairIn g.K.PartialEq.eq) (state_of l.fn.self) xs (state_of l.self)
     × (l.taken ≡ min (length xs) (2 ^ 64 - 1)))
     l.fn.iter l.iter
 

@@ -1,6 +1,6 @@
 use Rattle.std.proofs.Common.{subst, sym}
-use Rattle.hashlink_core.specs.Keyed.{state_of}
-use Rattle.hashlink_lru.specs.Cached.{state_in}
+use Rattle.hashlink_core.specs.Keyed as keyed
+use Rattle.hashlink_lru.specs.Cached.{state_of}
 use Rattle.hashlink_lru.specs.Evicted.{Pushes}
 use Rattle.std.specs.Prelude.{Ok}
 use Rattle.hashlink_lru.proofs.Pushing.{pushes}
@@ -8,10 +8,10 @@ use Rattle.hashlink_lru.proofs.cache.LruCache.push.Goals as goal
 
 pub returns-clause-pushes : goal.returns-clause-pushes
 returns-clause-pushes g c =
-    let old = state_in c.args.self.now in
-    let new = state_in c.evict_excess-evicted.new.self in
+    let old = state_of c.args.self.now in
+    let new = state_of c.evict_excess-evicted.new.self in
     let keeps = c.evict_excess-evicted.ensures.keeps in
     subst (λ out. Pushes g.K.PartialEq.eq old new c.args.key c.args.value (Ok out)) (sym c.or.ensures)
-    (pushes g.K.PartialEq.eq old new c.args.key c.args.value (state_of c.put_last.new.map)
+    (pushes g.K.PartialEq.eq old new c.args.key c.args.value (keyed.state_of c.put_last.new.map)
     c.in_ok-replaced.replaced c.evict_excess-evicted.result c.in_ok-replaced.ensures.inserts
     c.in_ok-replaced.ensures.replaced keeps.map keeps.cap c.evict_excess-evicted.ensures.first)

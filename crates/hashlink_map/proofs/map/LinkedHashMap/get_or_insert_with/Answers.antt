@@ -36,7 +36,8 @@ pub make-requires : goal.make-requires
 make-requires g c =
     c.requires
     (lookup-unplaced (g.K.PartialEq.eq c.args.key) (entries_of c.args.self.now)
-    (subst (λ m. place_of (g.K.PartialEq.eq c.args.key) (entries_of m) ≡ None) c.self.view_is c.in-None.ensures.found))
+    (subst (λ m. place_of (g.K.PartialEq.eq c.args.key) (entries_of m) ≡ None) c.self.view_is
+    c.in-None.ensures.found))
 
 pub returns : goal.returns
 returns g c =
@@ -61,7 +62,8 @@ returns g c =
       ),
       record {
         lends = tt;
-        value = subst (λ o. UnwrapsOrElse o (g.F.FnOnce.post c.args.make tt) c.value_at_mut-in-None.result.now) (sym none)
+        value = subst (λ o. UnwrapsOrElse o (g.F.FnOnce.post c.args.make tt)
+            c.value_at_mut-in-None.result.now) (sym none)
             (subst (g.F.FnOnce.post c.args.make tt) (sym value) c.make.ensures);
         given = tt;
         made = tt;

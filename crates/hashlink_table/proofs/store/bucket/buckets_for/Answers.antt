@@ -10,10 +10,12 @@ returns-then-room-clause-power c = (4, refl)
 pub returns-then-room-le-MAX_SPARSE_ROOM-clause-power : goal.returns-then-room-le-MAX_SPARSE_ROOM-clause-power
 returns-then-room-le-MAX_SPARSE_ROOM-clause-power c = twice_power c.args.room c.requires
 
-pub returns-then-room-le-MAX_SPARSE_ROOM-clause-grouped : goal.returns-then-room-le-MAX_SPARSE_ROOM-clause-grouped
+pub returns-then-room-le-MAX_SPARSE_ROOM-clause-grouped :
+    goal.returns-then-room-le-MAX_SPARSE_ROOM-clause-grouped
 returns-then-room-le-MAX_SPARSE_ROOM-clause-grouped c =
     whole_power (2 * c.args.room) (twice_power c.args.room c.requires) (omega (arith, c.if-room.false))
 
-pub returns-else-room-le-MAX_SPARSE_ROOM-clause-grouped : goal.returns-else-room-le-MAX_SPARSE_ROOM-clause-grouped
+pub returns-else-room-le-MAX_SPARSE_ROOM-clause-grouped :
+    goal.returns-else-room-le-MAX_SPARSE_ROOM-clause-grouped
 returns-else-room-le-MAX_SPARSE_ROOM-clause-grouped c =
     whole_power c.args.room c.requires (omega (arith, c.if-room-le-MAX_SPARSE_ROOM.false))

@@ -20,7 +20,8 @@ returns-clause-filled g c =
 pub returns-clause-linked : goal.returns-clause-linked
 returns-clause-linked g c =
     let C : Type 0 = Cell g.row.N.Denot in
-    subst (λ (cs : List C). IsLinked (links_of c.double.new.self) cs END) (sym {A = List C} c.clear.ensures.items)
+    subst (λ (cs : List C). IsLinked (links_of c.double.new.self) cs END)
+    (sym {A = List C} c.clear.ensures.items)
     (subst (λ (f : List C). IsLinked {N = g.row.N.Denot} (links_of f) [] END) (sym c.in_ok-double.ensures.ok)
     (linked-doubled c.args.slots.now))
 

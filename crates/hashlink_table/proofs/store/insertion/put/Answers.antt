@@ -6,7 +6,7 @@ use Rattle.std.proofs.lemmas.List.Sorted.{IsPermutation-append_left, IsPermutati
 use Rattle.std.proofs.lemmas.Option.{same_Some}
 use lib.Count.{count_trailing_zeros}
 use lib.Lanes.{mask_l}
-use Rattle.hashlink_table.specs.declared.kept.Kept.{Kept}
+use Rattle.hashlink_table.specs.declared.hashed.Hashed.{Hashed}
 use Rattle.hashlink_table.specs.declared.store.cell.Cell.{Cell}
 use Rattle.hashlink_table.specs.Chains.{links_of, nodes_in, AreGrouped, AreTaken, IsFilled, IsInPlace}
 use Rattle.hashlink_table.specs.Chains.{IsLinked}
@@ -44,7 +44,8 @@ pub put-requires : goal.put-requires
 put-requires g c =
     let slots = c.args.slots.now in
     let f = free_cell slots c.args.bucket c.requires.within c.requires.whole c.group_of-base.result
-    c.free-free_cells.result c.group_of-base.ensures c.free-free_cells.ensures.lanes c.if-free_cells-eq0.false in
+    c.free-free_cells.result c.group_of-base.ensures c.free-free_cells.ensures.lanes
+    c.if-free_cells-eq0.false in
     omega (arith, f.to, group_within c.args.bucket (length slots) c.requires.within c.requires.whole)
 
 pub returns-then-free_cells-eq0-clause-in_place : goal.returns-then-free_cells-eq0-clause-in_place
@@ -82,19 +83,22 @@ pub returns-else-free_cells-eq0-clause-in_place : goal.returns-else-free_cells-e
 returns-else-free_cells-eq0-clause-in_place g c =
     let slots = c.args.slots.now in
     let f = free_cell slots c.args.bucket c.requires.within c.requires.whole c.group_of-base.result
-    c.free-free_cells.result c.group_of-base.ensures c.free-free_cells.ensures.lanes c.if-free_cells-eq0.false in
+    c.free-free_cells.result c.group_of-base.ensures c.free-free_cells.ensures.lanes
+    c.if-free_cells-eq0.false in
     let room = group_within c.args.bucket (length slots) c.requires.within c.requires.whole in
     subst (λ (l : List (Cell g.row.N.Denot)). IsInPlace l) (sym c.put.ensures)
     (in_place-set slots _ _ (omega (arith, f.to, room)) c.requires.in_place
-    (λ k is. subst (λ b. AreGrouped b (c.group_of-base.result + count_trailing_zeros 64 c.free-free_cells.result))
-    (c.requires.bucket ∙ ap (λ (j : Kept g.row.N.Denot). j.hash % length slots) (same_Some _ _ is))
+    (λ k is. subst (λ b. AreGrouped b (c.group_of-base.result + count_trailing_zeros 64
+    c.free-free_cells.result))
+    (c.requires.bucket ∙ ap (λ (j : Hashed g.row.N.Denot). j.hash % length slots) (same_Some _ _ is))
     (grouped_in c.args.bucket _ f.from f.to)))
 
 pub returns-else-free_cells-eq0-clause-filled : goal.returns-else-free_cells-eq0-clause-filled
 returns-else-free_cells-eq0-clause-filled g c =
     let slots = c.args.slots.now in
     let f = free_cell slots c.args.bucket c.requires.within c.requires.whole c.group_of-base.result
-    c.free-free_cells.result c.group_of-base.ensures c.free-free_cells.ensures.lanes c.if-free_cells-eq0.false in
+    c.free-free_cells.result c.group_of-base.ensures c.free-free_cells.ensures.lanes
+    c.if-free_cells-eq0.false in
     let room = group_within c.args.bucket (length slots) c.requires.within c.requires.whole in
     subst (λ (l : List (Cell g.row.N.Denot)). IsFilled l) (sym c.put.ensures)
     (filled-put slots _ _ (omega (arith, f.to, room)) refl refl c.requires.filled)
@@ -103,8 +107,10 @@ pub returns-else-free_cells-eq0-clause-nodes : goal.returns-else-free_cells-eq0-
 returns-else-free_cells-eq0-clause-nodes g c =
     let slots = c.args.slots.now in let overflow = nodes_in c.args.cells.now.items in
     let f = free_cell slots c.args.bucket c.requires.within c.requires.whole c.group_of-base.result
-    c.free-free_cells.result c.group_of-base.ensures c.free-free_cells.ensures.lanes c.if-free_cells-eq0.false in
+    c.free-free_cells.result c.group_of-base.ensures c.free-free_cells.ensures.lanes
+    c.if-free_cells-eq0.false in
     let room = group_within c.args.bucket (length slots) c.requires.within c.requires.whole in
     subst (λ (l : List (Cell g.row.N.Denot)). IsPermutation (c.args.kept ∷ (nodes_in slots ++ overflow))
     (nodes_in l ++ overflow)) (sym c.put.ensures)
-    (IsPermutation-append_left overflow _ _ (put-nodes slots _ c.args.kept (omega (arith, f.to, room)) f.none))
+    (IsPermutation-append_left overflow _ _ (put-nodes slots _ c.args.kept (omega (arith, f.to, room))
+    f.none))

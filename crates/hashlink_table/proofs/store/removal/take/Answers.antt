@@ -3,7 +3,7 @@ use Rattle.std.proofs.Common.{subst, arith}
 use Rattle.std.specs.Prelude.{IsPermutation}
 use Rattle.std.proofs.lemmas.Option.{same_Some}
 use Rattle.std.proofs.lemmas.List.Sorted.{IsPermutation-append_left}
-use Rattle.hashlink_table.specs.declared.kept.Kept.{Kept}
+use Rattle.hashlink_table.specs.declared.hashed.Hashed.{Hashed}
 use Rattle.hashlink_table.specs.declared.store.cell.Cell.{Cell}
 use Rattle.hashlink_table.specs.Chains.{links_of, nodes_in, AreGrouped, IsFilled, IsInPlace, IsLinked}
 use Rattle.hashlink_table.proofs.Cells.{within_by_kept}
@@ -78,14 +78,15 @@ returns-in-Some-clause-in_place g c =
     let on = follower_on slots c.args.cells.now c.args.free.now c.in-Some.chained c.next-next.result
     c.requires.linked bucket (sym c.next-next.ensures.value)
     (λ e. chained.2 (sym c.next-next.ensures.value ∙ e)) in
-    let hashed = on_hash (length slots) c.args.cells.now c.next-next.result c.in-Some.chained t.result on bucket
+    let hashed = on_hash (length slots) c.args.cells.now c.next-next.result c.in-Some.chained t.result on
+    bucket
     t.ensures.kept in
     let n = same_length slots t.new.slots t.ensures.slots in
     subst (λ (f : List (Cell g.row.N.Denot)). IsInPlace f) (sym c.put.ensures)
     (in_place-set t.new.slots at _ (omega (arith, low, n))
     (in_place-same slots t.new.slots t.ensures.slots n c.requires.in_place)
     (λ k is. subst (λ b. AreGrouped b at)
-    (sym (ap (λ (j : Kept g.row.N.Denot). j.hash % length t.new.slots) (sym (same_Some _ _ is))
+    (sym (ap (λ (j : Hashed g.row.N.Denot). j.hash % length t.new.slots) (sym (same_Some _ _ is))
     ∙ ap (λ m. t.result.hash % m) n ∙ hashed))
     (grouped at c.group_of.result c.in-Some.chained c.group_of.ensures chained.0 chained.1)))
 

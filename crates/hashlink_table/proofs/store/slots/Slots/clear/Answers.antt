@@ -6,7 +6,8 @@ pub invariant_of-self : goal.invariant_of-self
 invariant_of-self g c =
     let v = c.args.self.now in
     rw (c.fill.ensures.items (λ y e. e), c.fill-2.ensures.items (λ y e. e))
-    (all_free c.self.inside.nodes.items _ _ (length v) (nodes_long c.self.inside v c.self.invariant c.self.view_is)
+    (all_free c.self.inside.nodes.items _ _ (length v)
+    (nodes_long c.self.inside v c.self.invariant c.self.view_is)
     (tags_len c.self.inside v c.self.invariant c.self.view_is)
     (rests_len c.self.inside v c.self.invariant c.self.view_is))
 
@@ -14,6 +15,7 @@ pub returns : goal.returns
 returns g c =
     let v = c.args.self.now in
     rw (c.fill.ensures.items (λ y e. e), c.fill-2.ensures.items (λ y e. e))
-    (all_bare c.self.inside.nodes.items _ _ (length v) (nodes_long c.self.inside v c.self.invariant c.self.view_is)
+    (all_bare c.self.inside.nodes.items _ _ (length v)
+    (nodes_long c.self.inside v c.self.invariant c.self.view_is)
     (tags_len c.self.inside v c.self.invariant c.self.view_is)
     (rests_len c.self.inside v c.self.invariant c.self.view_is))

@@ -13,17 +13,26 @@ use Rattle.hashlink_table.proofs.store.slots.Slots.double.Goals as goal
 pub loop-at-init : goal.loop-at-init
 loop-at-init g c = record {
   tagged =
-      rw (c.as_mut_slice-tags.ensures.value, c.as_mut_slice-nodes.ensures.value, c.as_mut_slice-rests.ensures.value)
+      rw (
+        c.as_mut_slice-tags.ensures.value,
+        c.as_mut_slice-nodes.ensures.value,
+        c.as_mut_slice-rests.ensures.value,
+      )
       c.self.invariant;
   halves =
-      rw (c.as_mut_slice-tags.ensures.value, c.as_mut_slice-nodes.ensures.value, c.as_mut_slice-rests.ensures.value)
+      rw (
+        c.as_mut_slice-tags.ensures.value,
+        c.as_mut_slice-nodes.ensures.value,
+        c.as_mut_slice-rests.ensures.value,
+      )
       (c.self.view_is ∙ c.in_ok-widen.ensures.ok
       ∙ ap (λ n. c.args.self.now ++ replicate n bare_cell) c.len-count.ensures);
 }
 
 pub part-requires-clause-power : goal.part-requires-clause-power
 part-requires-clause-power g c =
-    subst (λ n. IsPowerOfTwo (2 * n)) (sym c.len-count.ensures) (twice_power (length c.args.self.now) c.requires.power)
+    subst (λ n. IsPowerOfTwo (2 * n)) (sym c.len-count.ensures)
+    (twice_power (length c.args.self.now) c.requires.power)
 
 pub part-requires-clause-within : goal.part-requires-clause-within
 part-requires-clause-within g c =
@@ -57,11 +66,13 @@ module _ (g : given.Over) (c : goal.After-self-in-loop-at-2-1 g) where
 
   nodes : (with_items c.self.inside.nodes c.loop-at.nodes).items ≡ c.loop-at.nodes
   nodes =
-      with_items_is c.self.inside.nodes c.loop-at.nodes (c.loop-at.auto.nodes ∙ c.as_mut_slice-nodes.ensures.len)
+      with_items_is c.self.inside.nodes c.loop-at.nodes
+      (c.loop-at.auto.nodes ∙ c.as_mut_slice-nodes.ensures.len)
 
   rests : (with_items c.self.inside.rests c.loop-at.rests).items ≡ c.loop-at.rests
   rests =
-      with_items_is c.self.inside.rests c.loop-at.rests (c.loop-at.auto.rests ∙ c.as_mut_slice-rests.ensures.len)
+      with_items_is c.self.inside.rests c.loop-at.rests
+      (c.loop-at.auto.rests ∙ c.as_mut_slice-rests.ensures.len)
 
 pub invariant_of-self : goal.invariant_of-self
 invariant_of-self g c = rw (tags g c, nodes g c, rests g c) c.loop-at.invariant.tagged

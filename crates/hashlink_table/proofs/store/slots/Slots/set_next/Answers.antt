@@ -7,7 +7,8 @@ index_mut-requires g c =
 
 pub invariant_of-self : goal.invariant_of-self
 invariant_of-self g c =
-    tagged-linked c.self.inside c.args.self.now c.self.invariant c.self.view_is c.args.bucket c.requires.within
+    tagged-linked c.self.inside c.args.self.now c.self.invariant c.self.view_is c.args.bucket
+    c.requires.within
     c.args.to c.index_mut.result.now c.index_mut.ensures.value c.requires.small
 
 pub returns : goal.returns

@@ -85,9 +85,11 @@ module _ (g : given.Over) (c : goal.In_ok-resize-3 g) where
 pub invariant_of-self-2 : goal.invariant_of-self-2
 invariant_of-self-2 g c =
     tagged-wider c.self.inside c.args.self.now c.self.invariant c.self.view_is c.args.count c.args.filler
-    c.resize-3.new.self.items c.resize-2.new.self.items c.resize.new.self.items (tags g c) (nodes g c) (rests g c)
+    c.resize-3.new.self.items c.resize-2.new.self.items c.resize.new.self.items (tags g c) (nodes g c)
+    (rests g c)
 
 pub returns-clause-ok : goal.returns-clause-ok
 returns-clause-ok g c =
     wider c.self.inside c.args.self.now c.self.invariant c.self.view_is c.args.count c.args.filler
-    c.resize-3.new.self.items c.resize-2.new.self.items c.resize.new.self.items (tags g c) (nodes g c) (rests g c)
+    c.resize-3.new.self.items c.resize-2.new.self.items c.resize.new.self.items (tags g c) (nodes g c)
+    (rests g c)

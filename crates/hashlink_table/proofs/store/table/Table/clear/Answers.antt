@@ -7,7 +7,8 @@ pub invariant_of-self : goal.invariant_of-self
 invariant_of-self g c =
     let t = c.self.inside in let s = c.self.invariant in
     rw (c.clear.ensures, c.clear-2.ensures.items)
-    (sound-bare (length t.slots) _ t.room s.headed s.bounded (omega (arith, s.reserved, c.clear-2.ensures.capacity))
+    (sound-bare (length t.slots) _ t.room s.headed s.bounded
+    (omega (arith, s.reserved, c.clear-2.ensures.capacity))
     (omega (arith, s.spare, c.clear-2.ensures.capacity))
     (λ e. ((s.none e).0, c.clear-2.ensures.capacity ∙ (s.none e).1)) s.small s.masked s.whole)
 

@@ -54,14 +54,16 @@ invariant_of-self-2 g c =
     ] in
     sound-doubled new.slots new.cells.items taken.items c.args.buckets _ _ c.args.room c.self.invariant
     c.requires.power c.requires.whole (omega (arith, c.if-buckets-gt-MAX_BUCKETS.false)) c.requires.bounded
-    (omega (arith, c.requires.more, ap (λ (u : Contents g.row.N.Denot). u.room) c.self.view_is)) c.requires.some
+    (omega (arith, c.requires.more, ap (λ (u : Contents g.row.N.Denot). u.room) c.self.view_is))
+    c.requires.some
     c.requires.headed (omega (arith, doubled.moved, c.in_ok-block.ensures.exact))
     (omega (arith, twice, doubled.len, c.len-now.ensures)) doubled.linked doubled.in_place doubled.filled
     doubled.no_overflow (omega (arith, c.len.ensures, taken.ok.0)) doubled.nodes
 
 pub insert_all-requires : goal.insert_all-requires
 insert_all-requires g c =
-    let later = c.double.new.slots in let taken = c.in_ok-chained.chained in let less = c.double.new.cells.items in
+    let later = c.double.new.slots in let taken = c.in_ok-chained.chained in let less =
+    c.double.new.cells.items in
     omega (
       arith,
       c.requires.more,
@@ -83,4 +85,5 @@ returns-clause-nodes g c =
     = c.insert_all.ensures.inserted in
     subst (λ (u : Contents g.row.N.Denot). IsPermutation u.nodes c.insert_all.new.self.nodes) c.self.view_is
     (IsPermutation-trans _ _ _ c.in_ok-chained.ensures.nodes
-    (rw (c.in_ok-chained.ensures.no_overflow, append-nil (nodes_in later), c.deref.ensures.value) at inserted))
+    (rw (c.in_ok-chained.ensures.no_overflow, append-nil (nodes_in later), c.deref.ensures.value) at
+    inserted))

@@ -1,6 +1,6 @@
 use Rattle.std.proofs.Common.{◌∷◌, ◌++◌, ap, subst, arith}
 use Rattle.std.specs.Prelude.{IsPermutation}
-use Rattle.hashlink_table.specs.declared.kept.Kept.{Kept}
+use Rattle.hashlink_table.specs.declared.hashed.Hashed.{Hashed}
 use Rattle.hashlink_table.specs.Chains.{nodes_in}
 use Rattle.hashlink_table.specs.Contents.{Contents, len_of}
 use Rattle.hashlink_table.proofs.Sound.{full_overflow, sound-put}
@@ -37,6 +37,6 @@ invariant_of-self g c =
 pub returns-clause-inserted : goal.returns-clause-inserted
 returns-clause-inserted g c =
     let N : Type 0 = g.row.N.Denot in
-    let new : Kept N = record { hash = c.args.hash; node = c.args.node } in
+    let new : Hashed N = record { hash = c.args.hash; node = c.args.node } in
     subst (λ (u : Contents N). IsPermutation (new ∷ u.nodes)
     (nodes_in c.put.new.slots ++ nodes_in c.put.new.cells.items)) c.self.view_is c.put.ensures.nodes

@@ -9,7 +9,8 @@ pub insert_reserved-requires : goal.insert_reserved-requires
 insert_reserved-requires g c =
     let cells = c.args.cells.now in let at = c.loop-at.at in
     has_room c.args.self.now _ _ c.in-Some.kept
-    (next_some cells at (omega (arith, c.loop-at-test.true, c.len-at-end.ensures)) c.kept.result c.kept.ensures
+    (next_some cells at (omega (arith, c.loop-at-test.true, c.len-at-end.ensures)) c.kept.result
+    c.kept.ensures
     c.in-Some.kept c.in-Some.is)
     c.loop-at.self c.loop-at.invariant (nodes_in cells) (nodes_in-part cells (at + 1)) c.requires
 
@@ -24,5 +25,6 @@ loop-at-preserved g c =
           (next_some cells at low c.kept.result c.kept.ensures w.in-Some.kept w.in-Some.is) c.loop-at.self
           c.loop-at.invariant _ w.insert_reserved.ensures.inserted w.insert_reserved.ensures.room)
       | in_default w ↦
-          rw (w.self-is, next_none cells at low c.kept.result c.kept.ensures w.in_default.is) c.loop-at.invariant
+          rw (w.self-is, next_none cells at low c.kept.result c.kept.ensures w.in_default.is)
+          c.loop-at.invariant
     ]

@@ -2,13 +2,13 @@ use Rattle.std.proofs.Common.{◌≡◌, ℕ, [], ◌++◌, List, length, sym, a
 use Rattle.std.specs.Prelude.{IsPermutation}
 use Rattle.std.proofs.lemmas.List.{length-append}
 use Rattle.std.proofs.lemmas.List.Sorted.{IsPermutation-append_left, IsPermutation-trans, length_permutation}
-use Rattle.hashlink_table.specs.declared.kept.Kept.{Kept}
+use Rattle.hashlink_table.specs.declared.hashed.Hashed.{Hashed}
 use Rattle.hashlink_table.specs.Contents.{Contents, len_of}
 use Rattle.hashlink_table.specs.Chains.{nodes_in}
 use Rattle.hashlink_table.proofs.store.table.Table.rebuild.Goals as goal
 
 -- some nodes were put into an empty table
-into_empty : {N : Type 0} (empty : Contents N) (room : ℕ) (ks now : List (Kept N))
+into_empty : {N : Type 0} (empty : Contents N) (room : ℕ) (ks now : List (Hashed N))
     → empty ≡ record { nodes = []; room = room } → IsPermutation (empty.nodes ++ ks) now
     → IsPermutation ks now
 into_empty {N} empty room ks now none p = subst (λ (t : Contents N). IsPermutation (t.nodes ++ ks) now) none p
@@ -16,7 +16,8 @@ into_empty {N} empty room ks now none p = subst (λ (t : Contents N). IsPermutat
 pub insert_all-requires : goal.insert_all-requires
 insert_all-requires g c =
     let t = c.self.inside in
-    let own = into_empty c.in_ok-table.table c.args.room _ _ c.in_ok-table.ensures c.insert_slots.ensures.inserted in
+    let own = into_empty c.in_ok-table.table c.args.room _ _ c.in_ok-table.ensures
+    c.insert_slots.ensures.inserted in
     let over = c.deref-2.ensures.value ∙ c.in_ok-chained.ensures ∙ ap nodes_in c.deref.ensures.value in
     omega (
       arith,
@@ -32,11 +33,14 @@ insert_all-requires g c =
 pub returns-clause-nodes : goal.returns-clause-nodes
 returns-clause-nodes g c =
     let t = c.self.inside in let new = c.table-2.inside in
-    let own = into_empty c.in_ok-table.table c.args.room _ _ c.in_ok-table.ensures c.insert_slots.ensures.inserted in
+    let own = into_empty c.in_ok-table.table c.args.room _ _ c.in_ok-table.ensures
+    c.insert_slots.ensures.inserted in
     let over = c.deref-2.ensures.value ∙ c.in_ok-chained.ensures ∙ ap nodes_in c.deref.ensures.value in
     let both = IsPermutation-trans _ _ _ (IsPermutation-append_left (nodes_in t.overflow.items) _ _ own)
     (rw over at c.insert_all.ensures.inserted) in
-    subst (λ (u : Contents g.row.N.Denot). IsPermutation u.nodes (nodes_in new.slots ++ nodes_in new.overflow.items))
+    subst (λ (u : Contents g.row.N.Denot). IsPermutation u.nodes
+    (nodes_in new.slots ++ nodes_in new.overflow.items))
     c.self.view_is
-    (subst (λ (u : Contents g.row.N.Denot). IsPermutation (nodes_in t.slots ++ nodes_in t.overflow.items) u.nodes)
+    (subst (λ (u : Contents g.row.N.Denot). IsPermutation (nodes_in t.slots ++ nodes_in t.overflow.items)
+    u.nodes)
     (sym c.table-2.view_is) both)

@@ -2,7 +2,7 @@ use Rattle.std.proofs.Common.{◌∷◌, ◌++◌, true, length, sym, ap, ◌∙
 use Rattle.std.specs.Prelude.{IsPermutation}
 use Rattle.std.proofs.lemmas.Option.{same_Some}
 use Rattle.std.proofs.lemmas.List.{with_items_is}
-use Rattle.hashlink_table.specs.declared.kept.Kept.{Kept}
+use Rattle.hashlink_table.specs.declared.hashed.Hashed.{Hashed}
 use Rattle.hashlink_table.specs.Contents.{Contents}
 use Rattle.hashlink_table.specs.Chains.{nodes_in}
 use Rattle.hashlink_table.proofs.Sound.{sound-take}
@@ -60,7 +60,7 @@ returns-clause-removed g c =
     let nodes = rw c.deref_mut.ensures.value at taken.ensures.nodes in
     let same = same_Some _ _ (sym sought.0 ∙ read) in
     let cells = taken.auto.cells ∙ ap length c.deref_mut.ensures.value in
-    let K : Type 0 = Kept g.row.N.Denot in
+    let K : Type 0 = Hashed g.row.N.Denot in
     let rest = nodes_in taken.new.slots ++ nodes_in taken.new.cells in
     rw (with_items_is t.overflow taken.new.cells (cells ∙ sym t.overflow.ok.0)) (
       subst (λ (u : Contents g.row.N.Denot). IsPermutation u.nodes

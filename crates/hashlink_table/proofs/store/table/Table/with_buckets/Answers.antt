@@ -7,7 +7,8 @@ invariant_of-result g c =
     rw (c.in_ok-slots.ensures, c.in_ok-overflow.ensures.items)
     (sound-bare c.args.buckets _ c.args.room c.requires.headed c.requires.bounded
     (omega (arith, c.in_ok-overflow.ensures.capacity)) (omega (arith, c.in_ok-overflow.ensures.exact))
-    (λ e. absurd (omega (arith, c.requires.some, e))) c.requires.small (λ _. c.requires.power) c.requires.whole)
+    (λ e. absurd (omega (arith, c.requires.some, e))) c.requires.small (λ _. c.requires.power)
+    c.requires.whole)
 
 pub returns : goal.returns
 returns g c =

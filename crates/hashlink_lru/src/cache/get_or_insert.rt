@@ -1,0 +1,177 @@
+//! Uses of a key that may be absent: a hit returns a reference to the value as `get_mut` does, a miss makes
+//! the value and inserts it.
+ghost use Rattle.std.specs.Prelude.{◌≡◌, None, Ok, Err, OnOk, IfOk, IfErr};
+ghost use Rattle.std.specs.Borrow.{sem};
+ghost use Rattle.std.specs.Option.{UnwrapsOrElse};
+ghost use Rattle.std.specs.Map.{lookup};
+ghost use Rattle.hashlink_model.specs.Cache.{CacheInserts};
+ghost use Rattle.hashlink_model.specs.Entries.{IsEntries};
+ghost use Rattle.hashlink_model.specs.MapState.{RefusesEntry};
+ghost use Rattle.hashlink_core.specs.Keyed as keyed;
+ghost use Rattle.hashlink_map.specs.TryInsert.{FailsToInsert, HandsBack};
+ghost use Rattle.hashlink_lru.specs.Cached.{MovesOrMakes};
+
+use super::LruCache;
+use hashlink_map::{LinkedHashMap, TryInsertError};
+use std::hash::{BuildHasher, Hash};
+
+impl<K: Eq + Hash, V, S: BuildHasher> LruCache<K, V, S> {
+    ghost use Rattle.hashlink_lru.specs.Cached.{entries_of, state_of, UsesOrPuts, FailsToUse};
+    ghost use Rattle.hashlink_lru.specs.Lends.{LendsUsedOrNew, LendsUsedOrTryNew};
+
+    /// Returns a mutable reference to the value of the key. If the key is present, its entry moves to the
+    /// back and `make` is not called: it is a hit of `get_mut`, and evicts nothing. If the key is absent,
+    /// `make` has to be callable and is called once, and the key is inserted at the back with what it
+    /// returns. Then entries are evicted from the front until there are no more than the capacity.
+    ///
+    /// The value has to be in the cache while it is borrowed. So at capacity 0 the new pair stays, alone and
+    /// one beyond the capacity, as after an entry. The next insert evicts it.
+    ///
+    /// It allocates only if the key is absent and no node is spare. If the table is full then, it grows
+    /// first, in linear time in the number of entries. If an allocation fails, it returns the key and the
+    /// value that was made in `Err`, changes no entry and evicts nothing; the room may have grown.
+    ///
+    /// It hashes the key once. It stores at most six links if the key is present, four if it is absent, and
+    /// three for each entry that it evicts.
+    pub fn get_or_insert_with<F: FnOnce() -> V>(
+        &mut self,
+        key: K,
+        make: F,
+    ) -> Result<&mut V, (K, V)>
+    where
+        K: Drop,
+        V: Drop,
+        F: Drop,
+        requires { lookup (K.eq key) (entries_of self.old) ≡ None → F.pre make }
+        ensures* lends { sem 𝓛 (LendsUsedOrNew K.row V.row S.row S.Hasher.row K.Hash
+            S.BuildHasher S.Hasher.Hasher self.entry key result) }
+        ensures value { IfOk result
+            (λ v. UnwrapsOrElse (lookup (K.eq key) (entries_of self.old)) (F.post make) v.now) }
+        ensures given { IfErr result (λ pair. pair.0 ≡ key) }
+        ensures made { IfErr result (λ pair. F.post make pair.1) }
+    {
+        self.use_or_put(key, make)?;
+        match self.map.back_value_mut() {
+            Some(value) => Ok(value),
+            None => unreachable!(), // the entry that was just used stands last
+        }
+    }
+
+    /// Moves the entry of the key to the back. If the key is absent, it is inserted there with what `make`
+    /// returns, and entries are evicted as by `insert`, but at least one stays.
+    fn use_or_put<F: FnOnce() -> V>(&mut self, key: K, make: F) -> Result<(), (K, V)>
+    where
+        K: Drop,
+        V: Drop,
+        F: Drop,
+        requires { lookup (K.eq key) (entries_of self.old) ≡ None → F.pre make }
+        ensures used { OnOk result (UsesOrPuts K.eq (F.post make) (state_of self.old)
+            (state_of self.new) key) }
+        ensures refused { IfErr result
+            (λ pair. CacheInserts K.eq (state_of self.old) (state_of self.new) key pair.1 (Err pair)) }
+        ensures made { IfErr result (λ pair. F.post make pair.1) }
+        ensures distinct { IsEntries K.eq (entries_of self.old) }
+    {
+        let before = self.map.len();
+        move_or_make(&mut self.map, key, make)?;
+        if self.map.len() == before {
+            return Ok(());
+        }
+        self.keep_last(self.capacity.max(1));
+        Ok(())
+    }
+
+    /// Does the same as `get_or_insert_with`, with a `make` that may fail. `make` has to be callable if the
+    /// key is absent. If it fails, its error is returned with the key, in `TryInsertError::Make`, and nothing
+    /// changes.
+    ///
+    /// It allocates only if the key is absent and no node is spare. If an allocation fails, it returns the
+    /// key and the value that was made, in `TryInsertError::Memory`, changes no entry and evicts nothing; the
+    /// room may have grown.
+    pub fn get_or_try_insert_with<E, F: FnOnce() -> Result<V, E>>(
+        &mut self,
+        key: K,
+        make: F,
+    ) -> Result<&mut V, TryInsertError<K, V, E>>
+    where
+        K: Drop,
+        V: Drop,
+        F: Drop,
+        requires { lookup (K.eq key) (entries_of self.old) ≡ None → F.pre make }
+        ensures* lends { sem 𝓛 (LendsUsedOrTryNew K.row V.row S.row S.Hasher.row K.Hash
+            S.BuildHasher S.Hasher.Hasher self.entry key result) }
+        ensures value { IfOk result
+            (λ v. UnwrapsOrElse (lookup (K.eq key) (entries_of self.old)) (λ x. F.post make (Ok x)) v.now) }
+        ensures handed_back { IfErr result (HandsBack (F.post make) key) }
+    {
+        self.use_or_try_put(key, make)?;
+        match self.map.back_value_mut() {
+            Some(value) => Ok(value),
+            None => unreachable!(), // the entry that was just used stands last
+        }
+    }
+
+    /// Does the same as `use_or_put`, with a `make` that may fail.
+    fn use_or_try_put<E, F: FnOnce() -> Result<V, E>>(
+        &mut self,
+        key: K,
+        make: F,
+    ) -> Result<(), TryInsertError<K, V, E>>
+    where
+        K: Drop,
+        V: Drop,
+        F: Drop,
+        requires { lookup (K.eq key) (entries_of self.old) ≡ None → F.pre make }
+        ensures used { OnOk result (UsesOrPuts K.eq (λ x. F.post make (Ok x)) (state_of self.old)
+            (state_of self.new) key) }
+        ensures failed { IfErr result (FailsToUse K.eq (state_of self.old) (state_of self.new) key) }
+        ensures handed_back { IfErr result (HandsBack (F.post make) key) }
+        ensures distinct { IsEntries K.eq (entries_of self.old) }
+    {
+        let before = self.map.len();
+        move_or_try_make(&mut self.map, key, make)?;
+        if self.map.len() == before {
+            return Ok(());
+        }
+        self.keep_last(self.capacity.max(1));
+        Ok(())
+    }
+}
+
+/// Moves the entry of the key to the back. If the key is absent, it is inserted there with what `make`
+/// returns. The key is hashed once.
+fn move_or_make<K: Eq + Hash + Drop, V: Drop, S: BuildHasher, F: FnOnce() -> V + Drop>(
+    map: &mut LinkedHashMap<K, V, S>,
+    key: K,
+    make: F,
+) -> Result<(), (K, V)>
+    requires { lookup (K.eq key) (keyed.entries_of map.old) ≡ None → F.pre make }
+    ensures puts { OnOk result (MovesOrMakes K.eq (F.post make) (keyed.state_of map.old)
+        (keyed.state_of map.new) key) }
+    ensures refused { IfErr result
+        (λ pair. RefusesEntry K.eq (keyed.state_of map.old) (keyed.state_of map.new) key pair.1 pair) }
+    ensures made { IfErr result (λ pair. F.post make pair.1) }
+    ensures distinct { IsEntries K.eq (keyed.entries_of map.old) }
+{
+    map.entry(key).or_insert_with(make)?;
+    Ok(())
+}
+
+/// Does the same as `move_or_make`, with a `make` that may fail.
+fn move_or_try_make<
+    K: Eq + Hash + Drop,
+    V: Drop,
+    S: BuildHasher,
+    E,
+    F: FnOnce() -> Result<V, E> + Drop,
+>(map: &mut LinkedHashMap<K, V, S>, key: K, make: F) -> Result<(), TryInsertError<K, V, E>>
+    requires { lookup (K.eq key) (keyed.entries_of map.old) ≡ None → F.pre make }
+    ensures puts { OnOk result
+        (MovesOrMakes K.eq (λ v. F.post make (Ok v)) (keyed.state_of map.old) (keyed.state_of map.new) key) }
+    ensures failed { IfErr result (FailsToInsert K.eq (keyed.state_of map.old) (keyed.state_of map.new) key) }
+    ensures handed_back { IfErr result (HandsBack (F.post make) key) }
+    ensures distinct { IsEntries K.eq (keyed.entries_of map.old) }
+{
+    map.entry(key).or_try_insert_with(make)?;
+    Ok(())
+}

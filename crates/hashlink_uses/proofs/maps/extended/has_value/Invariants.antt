@@ -1,0 +1,10 @@
+use Rattle.std.specs.Prelude.{◌≡◌}
+use Rattle.std.specs.List.{list_any}
+use Rattle.hashlink.specs.Keyed.{entries_of}
+use Rattle.hashlink_uses.proofs.maps.extended.has_value.Given as goal
+
+-- no entry so far has the value
+abbrev pub invariant-loop-stored : goal.invariant-loop-stored
+invariant-loop-stored g l =
+    list_any (λ e. g.V.PartialEq.eq e.1 l.value) (entries_of l.map)
+    ≡ list_any (λ e. g.V.PartialEq.eq e.1 l.value) l.stored-iterator
