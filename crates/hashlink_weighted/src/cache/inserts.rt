@@ -7,7 +7,7 @@ ghost use Rattle.hashlink_weighted.specs.Weighed.{entries_of, weight_or_none};
 ghost use Rattle.hashlink_weighted.specs.declared.error.WeightError.TheVariants.{TooHeavy};
 
 use super::WeightedCache;
-use super::dropping::evict_until_fitting;
+use super::eviction::evict_until_fitting;
 use crate::error::WeightError;
 use std::hash::{BuildHasher, Hash};
 
