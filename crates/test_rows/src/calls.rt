@@ -2,24 +2,26 @@
 //! of a cache, and of a cache with a budget.
 
 mod alike;
-mod by_trait;
 mod cache_calls;
-mod cache_row;
+mod cache_many;
 mod compared;
 mod entries;
+mod extended;
 mod map_calls;
 mod map_cursors;
-mod map_row;
+mod map_many;
 mod raw_entries;
 mod set_calls;
-mod set_row;
+mod set_many;
 mod set_walks;
+mod two_sets;
 mod walks;
-mod weighted_row;
+mod weighted_calls;
 
-pub use by_trait::extend_by_trait;
-pub use cache_row::{Cache, call_cache};
+pub use cache_calls::{Cache, call_cache};
 pub use compared::compare;
-pub use map_row::{Map, call_map};
-pub use set_row::{Set, call_set, call_sets};
-pub use weighted_row::{Weighted, call_weighted, weighed};
+pub use extended::{Went, extended_by_trait, say_went};
+pub use map_calls::{Map, call_map};
+pub use set_calls::{Set, call_set};
+pub use two_sets::call_sets;
+pub use weighted_calls::{Weighted, call_weighted, weighed};

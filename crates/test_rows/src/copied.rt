@@ -1,34 +1,22 @@
 //! Maps and sets of what can be copied, which take items by reference.
-use crate::calls::extend_by_trait;
-use crate::items::{Answer, Answers, Home, Name, Pair, Read, Stop, Word, Words, push_rest};
+use crate::calls::{Went, extended_by_trait, say_went};
+use crate::items::{Answer, Home, Line, Name, Pair, Read, Stop, Word, push_rest};
 use crate::spoken::{Spoken, say_room, say_word};
 use hashlink::linked_hash_map::ExtendError;
 use hashlink::{LinkedHashMap, LinkedHashSet};
 use std::hash::BuildHasher;
+use std::vec::IntoIter;
 
 impl<S: BuildHasher + Copy + Default + Drop> Spoken for LinkedHashMap<Name, Name, S> {
     fn make(home: Home<'_>, _capacity: usize) -> LinkedHashMap<Name, Name, S> {
         LinkedHashMap::with_hasher(home.alloc, S::default())
     }
 
-    fn call(
-        &mut self,
-        home: Home<'_>,
-        words: &mut Words<'_>,
-        answers: &mut Answers,
-    ) -> Result<(), Stop> {
-        let is_by_trait = words.named(&CALLS)?;
-        let pairs: Vec<Pair> = copied(home, words)?;
-        let lent: Vec<(&Name, &Name)> = pairs.iter().map(lend_pair).collect(home.alloc)?;
-        let mut lent = lent.into_iter();
-        if is_by_trait {
-            return extend_by_trait(self, &mut lent, answers);
-        }
-        answers.give(match self.extend_ref(&mut lent) {
-            Ok(()) => Answer::Word(Word::Done),
-            Err(ExtendError { taken, pair }) => Answer::BackAfter(Word::pair(pair), taken),
-        })?;
-        answers.say(Word::count(lent.len()))
+    fn call(&mut self, line: &mut Line<'_>) -> Result<(), Stop> {
+        let is_by_trait = line.named(&CALLS)?;
+        let pairs: Vec<Pair> = copied(line)?;
+        let lent: Vec<(&Name, &Name)> = pairs.iter().map(lend_pair).collect(line.home.alloc)?;
+        say_went(extend_map(self, is_by_trait, lent.into_iter()), line)
     }
 
     fn count_items(&self) -> usize {
@@ -48,24 +36,11 @@ impl<S: BuildHasher + Copy + Default + Drop> Spoken for LinkedHashSet<Name, S> {
         LinkedHashSet::with_hasher(home.alloc, S::default())
     }
 
-    fn call(
-        &mut self,
-        home: Home<'_>,
-        words: &mut Words<'_>,
-        answers: &mut Answers,
-    ) -> Result<(), Stop> {
-        let is_by_trait = words.named(&CALLS)?;
-        let elements: Vec<Name> = copied(home, words)?;
-        let lent: Vec<&Name> = elements.iter().collect(home.alloc)?;
-        let mut lent = lent.into_iter();
-        if is_by_trait {
-            return extend_by_trait(self, &mut lent, answers);
-        }
-        answers.give(match self.extend_ref(&mut lent) {
-            Ok(()) => Answer::Word(Word::Done),
-            Err(ExtendError { taken, pair }) => Answer::BackAfter(Word::item(pair.0), taken),
-        })?;
-        answers.say(Word::count(lent.len()))
+    fn call(&mut self, line: &mut Line<'_>) -> Result<(), Stop> {
+        let is_by_trait = line.named(&CALLS)?;
+        let elements: Vec<Name> = copied(line)?;
+        let lent: Vec<&Name> = elements.iter().collect(line.home.alloc)?;
+        say_went(extend_set(self, is_by_trait, lent.into_iter()), line)
     }
 
     fn count_items(&self) -> usize {
@@ -80,13 +55,47 @@ impl<S: BuildHasher + Copy + Default + Drop> Spoken for LinkedHashSet<Name, S> {
     }
 }
 
+fn extend_map<'p, S: BuildHasher>(
+    map: &mut LinkedHashMap<Name, Name, S>,
+    is_by_trait: bool,
+    pairs: IntoIter<(&'p Name, &'p Name)>,
+) -> Went {
+    let mut pairs = pairs;
+    let answer = if is_by_trait {
+        extended_by_trait(map, &mut pairs)
+    } else {
+        match map.extend_ref(&mut pairs) {
+            Ok(()) => Answer::Word(Word::Done),
+            Err(ExtendError { taken, pair }) => Answer::BackAfter(Word::pair(pair), taken),
+        }
+    };
+    (answer, Some(pairs.len()))
+}
+
+fn extend_set<S: BuildHasher>(
+    set: &mut LinkedHashSet<Name, S>,
+    is_by_trait: bool,
+    elements: IntoIter<&Name>,
+) -> Went {
+    let mut elements = elements;
+    let answer = if is_by_trait {
+        extended_by_trait(set, &mut elements)
+    } else {
+        match set.extend_ref(&mut elements) {
+            Ok(()) => Answer::Word(Word::Done),
+            Err(ExtendError { taken, pair }) => Answer::BackAfter(Word::item(pair.0), taken),
+        }
+    };
+    (answer, Some(elements.len()))
+}
+
 /// The calls by their names, and whether they go by std's `Extend`.
 const CALLS: [(&str, bool); 2] = [("extend_ref", false), ("extend_by_trait", true)];
 
 /// What is named after the call.
-fn copied<T: Read + Drop>(home: Home<'_>, words: &mut Words<'_>) -> Result<Vec<T>, Stop> {
-    let mut named = Vec::new(home.alloc);
-    push_rest(home, words, &mut named)?;
+fn copied<T: Read + Drop>(line: &mut Line<'_>) -> Result<Vec<T>, Stop> {
+    let mut named = Vec::new(line.home.alloc);
+    push_rest(line, &mut named)?;
     Ok(named)
 }
 

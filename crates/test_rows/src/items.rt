@@ -10,13 +10,16 @@ mod raw_call;
 mod said;
 mod steps;
 mod walk;
+mod words;
 
 pub use answers::{Answer, Answers, Name, Pair, Stop, Tally, Word, are_written, number};
 pub use counts::Counts;
-pub use entry_call::{Ask, End, EntryCall, Give, Lend, Make, Put, PutVacant, Stay, Vacant};
+pub use entry_call::{
+    Ask, End, EndedCall, EntryCall, Give, Lend, Make, Put, PutVacant, Stay, Vacant,
+};
 pub use items::{Home, Item};
-pub use keep::{Asked, KEEPS, Keep, Retain, has_room, is_even, is_other, is_raised, say_met};
-pub use line::{Read, Words, push, push_rest, rest_of};
+pub use keep::{Asked, KEEPS, Keep, Retain, has_room, is_even, is_other, is_raised, read_keep};
+pub use line::{Line, Read, push, push_rest, rest_of};
 pub use raw_call::{RawAsk, RawCall, RawEnd, RawGive, RawLend, RawPut, RawStay};
 pub use said::{
     given, given_item, lent, lent_item, made, no_memory, no_memory_after, put, room, set, shown,
@@ -24,3 +27,4 @@ pub use said::{
 };
 pub use steps::Step;
 pub use walk::{Walk, hinted, walk_and_clone, walk_or_forget, walk_whole};
+pub use words::Words;

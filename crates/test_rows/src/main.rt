@@ -18,7 +18,7 @@ mod rows;
 mod spoken;
 mod texts;
 
-use crate::items::{Answers, Counts, Home, Tally, number};
+use crate::items::{Answers, Counts, Home, Line, Tally, Words, number};
 use row::{Row, Wrong};
 use rows::wrong;
 use spoken::{Voice, say_words};
@@ -89,30 +89,59 @@ fn is_file_right(rt: &HostRuntime, name: &str, is_said: bool, tally: &mut Tally)
         tally.left_out = tally.left_out.saturating_add(1);
         return true;
     };
-    let home = Home {
-        alloc: rt.alloc(),
-        counts: &counts,
-    };
     answers.tally = *tally;
-    let mut text = text.as_str();
-    let mut line = 1usize;
+    let mut line = Line {
+        home: Home {
+            alloc: rt.alloc(),
+            counts: &counts,
+        },
+        words: Words::new(""),
+        answers,
+    };
+    let are_right = are_rows_right(rt, (name, only), text.as_str(), is_said, &mut line);
+    *tally = line.answers.tally;
+    are_right
+}
+
+/// Runs the rows of a text, or the one of this number, and says what is wrong.
+fn are_rows_right<'f>(
+    rt: &HostRuntime,
+    (name, only): (&str, Option<u64>),
+    text: &'f str,
+    is_said: bool,
+    line: &mut Line<'f>,
+) -> bool {
+    let mut text = text;
+    let mut number = 1usize;
     let mut are_right = true;
     for count in 1..u64::MAX {
-        let Some((row, rest, next)) = Row::next(text, line) else {
+        let Some((row, rest, next)) = Row::next(text, number) else {
             break;
         };
         text = rest;
-        line = next;
+        number = next;
         if only.is_none() || only == Some(count) {
-            answers.tally.rows = answers.tally.rows.saturating_add(1);
-            if let Some(what) = wrong(row, home, &mut answers, voice_of(rt, is_said)) {
-                report(rt, name, row, what, &answers);
-                are_right = false;
-            }
+            are_right = is_row_right(rt, name, row, is_said, line) && are_right;
         }
     }
-    *tally = answers.tally;
     are_right
+}
+
+fn is_row_right<'f>(
+    rt: &HostRuntime,
+    file: &str,
+    row: Row<'f>,
+    is_said: bool,
+    line: &mut Line<'f>,
+) -> bool {
+    line.answers.tally.rows = line.answers.tally.rows.saturating_add(1);
+    match wrong(row, line, voice_of(rt, is_said)) {
+        None => true,
+        Some(what) => {
+            report(rt, file, row, what, &line.answers);
+            false
+        }
+    }
 }
 
 fn report(rt: &HostRuntime, file: &str, row: Row<'_>, wrong: Wrong<'_>, answers: &Answers) {

@@ -1,29 +1,23 @@
 //! A row, and what is done with it.
 use crate::calls::{Cache, Map, Set, Weighted};
 use crate::hashers::{OddOrEven, SameHash};
-use crate::items::{Answers, Home, Name, Stop, Word, Words, are_written};
+use crate::items::{Answers, Line, Name, Stop, Word, Words, are_written};
 use crate::lists::{Listed, are_runs_right, run_lines_of_pair, run_lines_of_uses};
 use crate::row::{Row, Wrong, cut, words_of};
 use crate::spoken::{Spoken, Voice, say_words};
 use crate::texts::is_text_right;
 use hashlink::{DefaultHashBuilder, LinkedHashMap, LinkedHashSet, LruCache};
-use std::alloc::Global;
 use std::hash::BuildHasher;
 
 /// Returns what is wrong with the row, if anything is. A row for which an allocation failed says so.
-pub fn wrong<'f>(
-    row: Row<'f>,
-    home: Home<'_>,
-    answers: &mut Answers,
-    voice: Voice<'_>,
-) -> Option<Wrong<'f>> {
-    match run(row, home, answers, voice) {
-        Err(Stop::Memory) => leave_out(answers, voice),
+pub fn wrong<'f>(row: Row<'f>, line: &mut Line<'f>, voice: Voice<'_>) -> Option<Wrong<'f>> {
+    match run(row, line, voice) {
+        Err(Stop::Memory) => leave_out(&mut line.answers, voice),
         Err(Stop::Unread) => return Some(Wrong::Unread(row.first, row.mode)),
         Ok(Some(wrong)) => return Some(wrong),
         Ok(None) => {}
     }
-    if home.living() > 0 {
+    if line.home.living() > 0 {
         return Some(Wrong::Living(row.first, row.mode));
     }
     None
@@ -96,71 +90,59 @@ const CALLED: [(&str, Called); 8] = [
     ("copied_set", Called::CopiedSet),
 ];
 
-fn run<'f>(
-    row: Row<'f>,
-    home: Home<'_>,
-    answers: &mut Answers,
-    voice: Voice<'_>,
-) -> Result<Option<Wrong<'f>>, Stop> {
-    let words = Words::new(row.mode);
-    let mut rest = words;
-    if let Ok(hashing) = rest.named(&HASHERS) {
-        return under_one(row, hashing, rest, home, answers, voice);
+fn run<'f>(row: Row<'f>, line: &mut Line<'f>, voice: Voice<'_>) -> Result<Option<Wrong<'f>>, Stop> {
+    line.words = Words::new(row.mode);
+    if let Some(hashing) = line.words.known(&HASHERS) {
+        return under_one(row, hashing, line, voice);
     }
-    let mut rest = words;
-    match rest.named(&ALONE) {
-        Ok(kind) => whole(is_right_alone(row, kind, rest, home.alloc, answers, voice)),
-        Err(_) => each(row, words, home, answers, voice),
+    match line.words.known(&ALONE) {
+        Some(kind) => whole(is_right_alone(row, kind, line, voice)),
+        None => each(row, line, voice),
     }
 }
 
 fn is_right_alone(
     row: Row<'_>,
     kind: Alone,
-    words: Words<'_>,
-    alloc: Global,
-    answers: &mut Answers,
+    line: &mut Line<'_>,
     voice: Voice<'_>,
 ) -> Result<bool, Stop> {
     head(row, "default", voice);
-    let mut words = words;
+    let alloc = line.home.alloc;
+    let capacity = line.words.capacity();
     match kind {
         Alone::PairCommands => {
-            let capacities = (words.size(), words.size());
-            run_lines_of_pair(alloc, capacities, row.lines, answers, voice)
+            let capacities = (capacity, line.words.capacity());
+            run_lines_of_pair(alloc, capacities, row.lines, &mut line.answers, voice)
         }
-        Alone::Uses => run_lines_of_uses(alloc, words.size(), row.lines, answers, voice),
-        Alone::Text => is_text_right(alloc, row.lines, answers, voice),
+        Alone::Uses => run_lines_of_uses(alloc, capacity, row.lines, &mut line.answers, voice),
+        Alone::Text => is_text_right(alloc, row.lines, &mut line.answers, voice),
     }
 }
 
 fn under_one<'f>(
     row: Row<'f>,
     hashing: Hashing,
-    words: Words<'_>,
-    home: Home<'_>,
-    answers: &mut Answers,
+    line: &mut Line<'f>,
     voice: Voice<'_>,
 ) -> Result<Option<Wrong<'f>>, Stop> {
     match hashing {
-        Hashing::Default => {
-            under::<DefaultHashBuilder>(row, "default", words, home, answers, voice)
-        }
-        Hashing::SameHash => under::<SameHash>(row, "same_hash", words, home, answers, voice),
-        Hashing::OddOrEven => under::<OddOrEven>(row, "odd_or_even", words, home, answers, voice),
+        Hashing::Default => under::<DefaultHashBuilder>(row, "default", line, voice),
+        Hashing::SameHash => under::<SameHash>(row, "same_hash", line, voice),
+        Hashing::OddOrEven => under::<OddOrEven>(row, "odd_or_even", line, voice),
     }
 }
 
 /// Under each hasher in turn.
 fn each<'f>(
     row: Row<'f>,
-    words: Words<'_>,
-    home: Home<'_>,
-    answers: &mut Answers,
+    line: &mut Line<'f>,
     voice: Voice<'_>,
 ) -> Result<Option<Wrong<'f>>, Stop> {
+    let words = line.words;
     for (_, hashing) in HASHERS {
-        if let Some(wrong) = under_one(row, hashing, words, home, answers, voice)? {
+        line.words = words;
+        if let Some(wrong) = under_one(row, hashing, line, voice)? {
             return Ok(Some(wrong));
         }
     }
@@ -171,54 +153,46 @@ fn each<'f>(
 fn under<'f, S: BuildHasher + Copy + Default + Drop>(
     row: Row<'f>,
     hasher: &str,
-    words: Words<'_>,
-    home: Home<'_>,
-    answers: &mut Answers,
+    line: &mut Line<'f>,
     voice: Voice<'_>,
 ) -> Result<Option<Wrong<'f>>, Stop> {
     head(row, hasher, voice);
-    let mut words = words;
-    match words.named(&CALLED)? {
-        Called::Map => speak::<Map<S>>(row, 0, home, answers, voice),
-        Called::Set => speak::<Set<S>>(row, 0, home, answers, voice),
-        Called::Cache => speak::<Cache<S>>(row, words.size(), home, answers, voice),
-        Called::Weighted => speak::<Weighted<S>>(row, words.size(), home, answers, voice),
-        Called::CopiedMap => speak::<LinkedHashMap<Name, Name, S>>(row, 0, home, answers, voice),
-        Called::CopiedSet => speak::<LinkedHashSet<Name, S>>(row, 0, home, answers, voice),
-        Called::Commands => list::<LinkedHashMap<u64, u64, S>>(row, 0, words, home, answers, voice),
-        Called::CacheCommands => {
-            let capacity = words.size();
-            list::<LruCache<u64, u64, S>>(row, capacity, words, home, answers, voice)
-        }
+    match line.named(&CALLED)? {
+        Called::Map => speak::<Map<S>>(row, line, voice),
+        Called::Set => speak::<Set<S>>(row, line, voice),
+        Called::Cache => speak::<Cache<S>>(row, line, voice),
+        Called::Weighted => speak::<Weighted<S>>(row, line, voice),
+        Called::CopiedMap => speak::<LinkedHashMap<Name, Name, S>>(row, line, voice),
+        Called::CopiedSet => speak::<LinkedHashSet<Name, S>>(row, line, voice),
+        Called::Commands => list::<LinkedHashMap<u64, u64, S>>(row, line, voice),
+        Called::CacheCommands => list::<LruCache<u64, u64, S>>(row, line, voice),
     }
 }
 
-/// Runs a list of commands to an empty container, at once where the words say so.
+/// Runs a list of commands to an empty container, of the capacity that comes next if it has one, at once
+/// where the words say so.
 fn list<'f, C: Listed + Drop>(
     row: Row<'f>,
-    capacity: usize,
-    words: Words<'_>,
-    home: Home<'_>,
-    answers: &mut Answers,
+    line: &mut Line<'f>,
     voice: Voice<'_>,
 ) -> Result<Option<Wrong<'f>>, Stop> {
-    let mut words = words;
-    let is_one = words.has("whole");
-    whole(are_runs_right::<C>(capacity, is_one, home.alloc, row.lines, answers, voice))
+    let capacity = line.words.capacity();
+    let is_one = line.words.has("whole");
+    let alloc = line.home.alloc;
+    whole(are_runs_right::<C>(capacity, is_one, alloc, row.lines, &mut line.answers, voice))
 }
 
 fn whole<'f>(is_right: Result<bool, Stop>) -> Result<Option<Wrong<'f>>, Stop> {
     Ok(if is_right? { None } else { Some(Wrong::Row) })
 }
 
-/// Speaks to two empty containers.
+/// Speaks to two empty containers, of the capacity that comes next if they have one.
 fn speak<'f, C: Spoken + Drop>(
     row: Row<'f>,
-    capacity: usize,
-    home: Home<'_>,
-    answers: &mut Answers,
+    line: &mut Line<'f>,
     voice: Voice<'_>,
 ) -> Result<Option<Wrong<'f>>, Stop> {
+    let (home, capacity) = (line.home, line.words.capacity());
     let mut speech = Speech {
         first: C::make(home, capacity),
         second: C::make(home, capacity),
@@ -226,9 +200,9 @@ fn speak<'f, C: Spoken + Drop>(
     };
     let _ = home.cost();
     let mut number = row.first;
-    for line in row.lines.split('\n') {
-        if !line.starts_with('#') {
-            if let Some(wrong) = speech.wrong(number, line, home, answers, voice)? {
+    for text in row.lines.split('\n') {
+        if !text.starts_with('#') {
+            if let Some(wrong) = speech.wrong(number, text, line, voice)? {
                 return Ok(Some(wrong));
             }
         }
@@ -238,9 +212,9 @@ fn speak<'f, C: Spoken + Drop>(
 }
 
 /// Says how many hashes and how many comparisons there were since this was last said.
-fn say_cost(home: Home<'_>, answers: &mut Answers) -> Result<(), Stop> {
-    let (hashes, comparisons) = home.cost();
-    answers.say_all(&[Word::Item(hashes, 0), Word::Item(comparisons, 0)])
+fn say_cost(line: &mut Line<'_>) -> Result<(), Stop> {
+    let (hashes, comparisons) = line.home.cost();
+    line.say_all(&[Word::Item(hashes, 0), Word::Item(comparisons, 0)])
 }
 
 /// The two containers of a row.
@@ -257,26 +231,26 @@ impl<C: Spoken> Speech<C> {
     fn wrong<'f>(
         &mut self,
         number: usize,
-        line: &'f str,
-        home: Home<'_>,
-        answers: &mut Answers,
+        text: &'f str,
+        line: &mut Line<'f>,
         voice: Voice<'_>,
     ) -> Result<Option<Wrong<'f>>, Stop> {
-        let (call, wanted) = cut(line);
-        let (mut words, last) = words_of(call);
+        let (call, wanted) = cut(text);
+        let (words, last) = words_of(call);
         for n in words.n..last.saturating_add(1) {
-            words.n = n;
-            answers.words.clear();
-            match self.call(words, home, answers) {
-                Err(Stop::Unread) => return Ok(Some(Wrong::Unread(number, line))),
+            line.words = words;
+            line.words.n = n;
+            line.answers.words.clear();
+            match self.call(line) {
+                Err(Stop::Unread) => return Ok(Some(Wrong::Unread(number, text))),
                 called => called?,
             }
-            self.say(answers, voice);
-            if !self.is_written(wanted, answers) {
-                return Ok(Some(Wrong::Line(number, line)));
+            self.say(&line.answers, voice);
+            if !self.is_written(wanted, &mut line.answers) {
+                return Ok(Some(Wrong::Line(number, text)));
             }
-            if home.living() != self.count_items() {
-                return Ok(Some(Wrong::Living(number, line)));
+            if line.home.living() != self.count_items() {
+                return Ok(Some(Wrong::Living(number, text)));
             }
         }
         Ok(None)
@@ -289,15 +263,9 @@ impl<C: Spoken> Speech<C> {
     }
 
     /// Makes the call that the words say.
-    fn call(
-        &mut self,
-        words: Words<'_>,
-        home: Home<'_>,
-        answers: &mut Answers,
-    ) -> Result<(), Stop> {
-        let mut words = words;
-        self.call_one(&mut words, home, answers)?;
-        if words.is_unread {
+    fn call(&mut self, line: &mut Line<'_>) -> Result<(), Stop> {
+        self.call_one(line)?;
+        if line.words.is_unread {
             Err(Stop::Unread)
         } else {
             Ok(())
@@ -305,22 +273,17 @@ impl<C: Spoken> Speech<C> {
     }
 
     /// Makes a call of the first container, after `other` of the second, and after `both` of the two.
-    fn call_one(
-        &mut self,
-        words: &mut Words<'_>,
-        home: Home<'_>,
-        answers: &mut Answers,
-    ) -> Result<(), Stop> {
-        if words.has("other") {
-            return self.second.call(home, words, answers);
+    fn call_one(&mut self, line: &mut Line<'_>) -> Result<(), Stop> {
+        if line.words.has("other") {
+            return self.second.call(line);
         }
-        if words.has("both") {
-            return self.first.both(&self.second, words, answers);
+        if line.words.has("both") {
+            return self.first.both(&self.second, line);
         }
-        if words.has("cost") {
-            return say_cost(home, answers);
+        if line.words.has("cost") {
+            return say_cost(line);
         }
-        self.first.call(home, words, answers)
+        self.first.call(line)
     }
 
     /// Says what came, and what then stands in each container.

@@ -3,7 +3,7 @@ use crate::calls::{
     Cache, Map, Set, Weighted, call_cache, call_map, call_set, call_sets, call_weighted, compare,
     weighed,
 };
-use crate::items::{Answers, Home, Stop, Word, Words, shown};
+use crate::items::{Home, Line, Stop, Word, shown};
 use hashlink::weighted::WeightedCache;
 use hashlink::{LinkedHashMap, LinkedHashSet, LruCache};
 use std::hash::BuildHasher;
@@ -36,20 +36,10 @@ pub trait Spoken: Sized {
     fn make(home: Home<'_>, capacity: usize) -> Self;
 
     /// Makes the call that the words say.
-    fn call(
-        &mut self,
-        home: Home<'_>,
-        words: &mut Words<'_>,
-        answers: &mut Answers,
-    ) -> Result<(), Stop>;
+    fn call(&mut self, line: &mut Line<'_>) -> Result<(), Stop>;
 
     /// Makes the call of two containers that the words say, if there are such calls.
-    fn both(
-        &mut self,
-        _other: &Self,
-        _words: &mut Words<'_>,
-        _answers: &mut Answers,
-    ) -> Result<(), Stop> {
+    fn both(&mut self, _other: &Self, _line: &mut Line<'_>) -> Result<(), Stop> {
         Err(Stop::Unread)
     }
 
@@ -65,22 +55,12 @@ impl<S: BuildHasher + Copy + Default + Drop> Spoken for Map<S> {
         LinkedHashMap::with_hasher(home.alloc, S::default())
     }
 
-    fn call(
-        &mut self,
-        home: Home<'_>,
-        words: &mut Words<'_>,
-        answers: &mut Answers,
-    ) -> Result<(), Stop> {
-        call_map(self, home, words, answers)
+    fn call(&mut self, line: &mut Line<'_>) -> Result<(), Stop> {
+        call_map(self, line)
     }
 
-    fn both(
-        &mut self,
-        other: &Map<S>,
-        words: &mut Words<'_>,
-        answers: &mut Answers,
-    ) -> Result<(), Stop> {
-        compare(self, other, words, answers)
+    fn both(&mut self, other: &Map<S>, line: &mut Line<'_>) -> Result<(), Stop> {
+        compare(self, other, line)
     }
 
     fn count_items(&self) -> usize {
@@ -100,22 +80,12 @@ impl<S: BuildHasher + Copy + Default + Drop> Spoken for Set<S> {
         LinkedHashSet::with_hasher(home.alloc, S::default())
     }
 
-    fn call(
-        &mut self,
-        home: Home<'_>,
-        words: &mut Words<'_>,
-        answers: &mut Answers,
-    ) -> Result<(), Stop> {
-        call_set(self, home, words, answers)
+    fn call(&mut self, line: &mut Line<'_>) -> Result<(), Stop> {
+        call_set(self, line)
     }
 
-    fn both(
-        &mut self,
-        other: &Set<S>,
-        words: &mut Words<'_>,
-        answers: &mut Answers,
-    ) -> Result<(), Stop> {
-        call_sets(self, other, words, answers)
+    fn both(&mut self, other: &Set<S>, line: &mut Line<'_>) -> Result<(), Stop> {
+        call_sets(self, other, line)
     }
 
     fn count_items(&self) -> usize {
@@ -135,13 +105,8 @@ impl<S: BuildHasher + Copy + Default + Drop> Spoken for Cache<S> {
         LruCache::with_hasher(home.alloc, capacity, S::default())
     }
 
-    fn call(
-        &mut self,
-        home: Home<'_>,
-        words: &mut Words<'_>,
-        answers: &mut Answers,
-    ) -> Result<(), Stop> {
-        call_cache(self, home, words, answers)
+    fn call(&mut self, line: &mut Line<'_>) -> Result<(), Stop> {
+        call_cache(self, line)
     }
 
     fn count_items(&self) -> usize {
@@ -161,13 +126,8 @@ impl<S: BuildHasher + Default> Spoken for Weighted<S> {
         WeightedCache::with_hasher(home.alloc, capacity as u64, S::default())
     }
 
-    fn call(
-        &mut self,
-        home: Home<'_>,
-        words: &mut Words<'_>,
-        answers: &mut Answers,
-    ) -> Result<(), Stop> {
-        call_weighted(self, home, words, answers)
+    fn call(&mut self, line: &mut Line<'_>) -> Result<(), Stop> {
+        call_weighted(self, line)
     }
 
     fn count_items(&self) -> usize {

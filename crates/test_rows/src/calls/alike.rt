@@ -1,5 +1,5 @@
 //! Iterators over two sets, with their bounds, and beside a clone.
-use crate::items::{Answers, Item, Name, Stop, Word, lent_item};
+use crate::items::{Item, Line, Name, Stop, Word, lent_item};
 
 /// The bounds of how many are left, and what comes.
 type Came = [Word; 3];
@@ -10,65 +10,62 @@ type Came = [Word; 3];
 pub fn say_steps<'s, I: Iterator<Item = &'s Item> + Clone + Drop>(
     mut first: I,
     steps: Option<Name>,
-    answers: &mut Answers,
+    line: &mut Line<'_>,
 ) -> Result<(), Stop>
     requires { (s : I) → I.can_next s }
 {
     let Some(steps) = steps else {
-        return say_all(first, answers);
+        return say_all(first, line);
     };
     for _ in 0..steps.group {
-        answers.say_all(&step(&mut first))?;
+        line.say_all(&step(&mut first))?;
     }
     Ok(())
 }
 
 fn say_all<'s, I: Iterator<Item = &'s Item> + Clone + Drop>(
     mut first: I,
-    answers: &mut Answers,
+    line: &mut Line<'_>,
 ) -> Result<(), Stop>
     requires { (s : I) → I.can_next s }
 {
     let came = step(&mut first);
-    answers.say_all(&came)?;
+    line.say_all(&came)?;
     if is_end(came) {
-        return say_end(&mut first, answers);
+        return say_end(&mut first, line);
     }
     let mut clone = first.clone()?;
-    say_alike(&mut first, &mut clone, answers)
+    say_alike(&mut first, &mut clone, line)
 }
 
 fn say_alike<'s, I: Iterator<Item = &'s Item>>(
     first: &mut I,
     clone: &mut I,
-    answers: &mut Answers,
+    line: &mut Line<'_>,
 ) -> Result<(), Stop>
     requires { (s : I) → I.can_next s }
 {
     for _ in 0..64 {
         let came = step(first);
-        answers.say_all(&came)?;
+        line.say_all(&came)?;
         if step(clone) != came {
-            answers.say(Word::Wrong)?;
+            line.say(Word::Wrong)?;
         }
         if is_end(came) {
-            return say_end(first, answers);
+            return say_end(first, line);
         }
     }
     Err(Stop::Unread)
 }
 
 /// Says that it is wrong if an iterator that has ended does not stay so.
-fn say_end<'s, I: Iterator<Item = &'s Item>>(
-    walk: &mut I,
-    answers: &mut Answers,
-) -> Result<(), Stop>
+fn say_end<'s, I: Iterator<Item = &'s Item>>(walk: &mut I, line: &mut Line<'_>) -> Result<(), Stop>
     requires { (s : I) → I.can_next s }
 {
     if walk.next().is_none() && walk.size_hint() == (0, Some(0)) {
         return Ok(());
     }
-    answers.say(Word::Wrong)
+    line.say(Word::Wrong)
 }
 
 fn is_end(came: Came) -> bool {

@@ -1,6 +1,6 @@
 //! Comparisons of two maps.
-use crate::calls::map_row::Map;
-use crate::items::{Answers, Stop, Word, Words};
+use crate::calls::map_calls::Map;
+use crate::items::{Line, Stop, Word};
 use hashlink_map::DefaultHashBuilder;
 use std::cmp::Ordering;
 use std::hash::BuildHasher;
@@ -25,14 +25,13 @@ const COMPARISONS: [(&str, Comparison); 4] = [
 pub fn compare<S: BuildHasher>(
     map: &Map<S>,
     other: &Map<S>,
-    words: &mut Words<'_>,
-    answers: &mut Answers,
+    line: &mut Line<'_>,
 ) -> Result<(), Stop> {
-    match words.named(&COMPARISONS)? {
-        Comparison::Eq => answers.say(equal(map, other)),
-        Comparison::Less => answers.say(less(map, other)),
-        Comparison::Cmp => answers.say_all(&ordered(map, other)),
-        Comparison::Hash => answers.say(Word::Is(hash_of(map) == hash_of(other))),
+    match line.named(&COMPARISONS)? {
+        Comparison::Eq => line.say(equal(map, other)),
+        Comparison::Less => line.say(less(map, other)),
+        Comparison::Cmp => line.say_all(&ordered(map, other)),
+        Comparison::Hash => line.say(Word::Is(hash_of(map) == hash_of(other))),
     }
 }
 

@@ -1,9 +1,9 @@
 //! Calls of the entry of a key that is in hand, of a map and of a cache.
+use crate::calls::map_calls::Map;
 use crate::calls::map_cursors::take_all_steps;
-use crate::calls::map_row::Map;
 use crate::items::{
-    Answer, Answers, Ask, End, EntryCall, Give, Home, Item, Lend, Make, Name, Put, PutVacant, Stay,
-    Stop, Vacant, Word, Words, no_memory, set, shown, taken, taken_pair, write_item,
+    Answer, Ask, End, EndedCall, EntryCall, Give, Item, Lend, Line, Make, Name, Put, PutVacant,
+    Stay, Stop, Vacant, Word, no_memory, set, shown, taken, taken_pair, write_item,
 };
 use hashlink_map::{Entry, OccupiedEntry, TryInsertError};
 use std::hash::BuildHasher;
@@ -13,14 +13,9 @@ type InHand<'m, S> = Entry<'m, Item, Item, S>;
 type Occupied<'m, S> = OccupiedEntry<'m, Item, Item, S>;
 
 /// Makes the call of the entry of a map's key that the words say.
-pub fn call_entry_of<S: BuildHasher>(
-    map: &mut Map<S>,
-    home: Home<'_>,
-    words: &mut Words<'_>,
-    answers: &mut Answers,
-) -> Result<(), Stop> {
-    let (key, call) = EntryCall::of_key(home, words)?;
-    call_entry(map.entry(key), call, home, words, answers)
+pub fn call_entry_of<S: BuildHasher>(map: &mut Map<S>, line: &mut Line<'_>) -> Result<(), Stop> {
+    let (key, call) = EntryCall::of_key(line)?;
+    call_entry(map.entry(key), call, line)
 }
 
 /// Makes a call of an entry, which may have steps of a cursor behind it. One of an occupied entry answers
@@ -28,15 +23,19 @@ pub fn call_entry_of<S: BuildHasher>(
 pub fn call_entry<S: BuildHasher>(
     entry: InHand<'_, S>,
     call: EntryCall,
-    home: Home<'_>,
-    words: &mut Words<'_>,
-    answers: &mut Answers,
+    line: &mut Line<'_>,
 ) -> Result<(), Stop> {
     match call {
-        EntryCall::Ask(call, new) => answers.say(ask_at(entry, call, new)),
-        EntryCall::Give(call, value, new) => answers.give(give_at(entry, call, value, new)),
-        EntryCall::TryMake(made, new) => answers.give(try_make_at(entry, made, new)),
-        EntryCall::Cursor => steps_of(entry, home, words, answers),
+        EntryCall::Cursor => steps_of(entry, line),
+        EntryCall::Ended(call) => line.give(answer_at(entry, call)),
+    }
+}
+
+fn answer_at<S: BuildHasher>(entry: InHand<'_, S>, call: EndedCall) -> Answer {
+    match call {
+        EndedCall::Ask(call, new) => Answer::Word(ask_at(entry, call, new)),
+        EndedCall::Give(call, value, new) => give_at(entry, call, value, new),
+        EndedCall::TryMake(made, new) => try_make_at(entry, made, new),
     }
 }
 
@@ -221,25 +220,15 @@ fn insert_and_remove<S: BuildHasher>(entry: InHand<'_, S>, value: Item) -> Answe
 }
 
 /// Steps of a cursor that starts at the entry.
-fn steps_of<S: BuildHasher>(
-    entry: InHand<'_, S>,
-    home: Home<'_>,
-    words: &mut Words<'_>,
-    answers: &mut Answers,
-) -> Result<(), Stop> {
+fn steps_of<S: BuildHasher>(entry: InHand<'_, S>, line: &mut Line<'_>) -> Result<(), Stop> {
     match entry {
-        Entry::Occupied(entry) => take_all_steps(&mut entry.cursor_mut(), home, words, answers),
-        Entry::Vacant(_vacant) => answers.say(Word::Nothing),
+        Entry::Occupied(entry) => take_all_steps(&mut entry.cursor_mut(), line),
+        Entry::Vacant(_vacant) => line.say(Word::Nothing),
     }
 }
 
 /// Steps of a cursor that starts at the key of the line.
-pub fn call_cursor_of<S: BuildHasher>(
-    map: &mut Map<S>,
-    home: Home<'_>,
-    words: &mut Words<'_>,
-    answers: &mut Answers,
-) -> Result<(), Stop> {
-    let key = words.item(home)?;
-    steps_of(map.entry(key), home, words, answers)
+pub fn call_cursor_of<S: BuildHasher>(map: &mut Map<S>, line: &mut Line<'_>) -> Result<(), Stop> {
+    let key = line.item()?;
+    steps_of(map.entry(key), line)
 }

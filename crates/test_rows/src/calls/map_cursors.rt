@@ -1,9 +1,8 @@
 //! Lines that speak to a cursor.
-use crate::calls::map_calls::AtEnd;
-use crate::calls::map_row::Map;
+use crate::calls::map_calls::Map;
+use crate::calls::map_many::AtEnd;
 use crate::items::{
-    Answer, Answers, Home, Item, Name, Stop, Word, Words, lent, put, shown, taken_pair, write,
-    write_pair,
+    Answer, Item, Line, Name, Stop, Word, lent, put, shown, taken_pair, write, write_pair,
 };
 use hashlink_map::CursorMut;
 use std::hash::BuildHasher;
@@ -35,56 +34,70 @@ enum WriteAt {
     Prev,
 }
 
+/// A step by its name.
 #[derive(Clone, Copy)]
-enum CursorStep {
+enum Named {
     Next,
     Prev,
-    /// It says the entries before the cursor, at it and after it.
     At,
     Put(PutAt),
     Write(WriteAt),
     Last(Last),
 }
 
-const STEPS: [(&str, CursorStep); 12] = [
-    ("next", CursorStep::Next),
-    ("prev", CursorStep::Prev),
-    ("at", CursorStep::At),
-    ("before", CursorStep::Put(PutAt::Before)),
-    ("after", CursorStep::Put(PutAt::After)),
-    ("write", CursorStep::Write(WriteAt::Here)),
-    ("write_pair", CursorStep::Write(WriteAt::Pair)),
-    ("write_next", CursorStep::Write(WriteAt::Next)),
-    ("write_prev", CursorStep::Write(WriteAt::Prev)),
-    ("entry", CursorStep::Last(Last::Entry)),
-    ("take_entry", CursorStep::Last(Last::TakeEntry)),
-    ("take_into_entry", CursorStep::Last(Last::TakeIntoEntry)),
+/// A step with what follows its name.
+#[derive(Drop)]
+enum CursorStep {
+    Next,
+    Prev,
+    /// It says the entries before the cursor, at it and after it.
+    At,
+    Put(PutAt, Item, Item),
+    Write(WriteAt, Name),
+}
+
+/// What comes next in the line.
+#[derive(Drop)]
+enum Coming {
+    Step(CursorStep),
+    Last(Last),
+    Nothing,
+}
+
+const STEPS: [(&str, Named); 12] = [
+    ("next", Named::Next),
+    ("prev", Named::Prev),
+    ("at", Named::At),
+    ("before", Named::Put(PutAt::Before)),
+    ("after", Named::Put(PutAt::After)),
+    ("write", Named::Write(WriteAt::Here)),
+    ("write_pair", Named::Write(WriteAt::Pair)),
+    ("write_next", Named::Write(WriteAt::Next)),
+    ("write_prev", Named::Write(WriteAt::Prev)),
+    ("entry", Named::Last(Last::Entry)),
+    ("take_entry", Named::Last(Last::TakeEntry)),
+    ("take_into_entry", Named::Last(Last::TakeIntoEntry)),
 ];
 
 const ENDS: [(&str, AtEnd); 2] = [("front", AtEnd::Front), ("back", AtEnd::Back)];
 
 /// Steps of a cursor that starts at an end.
-pub fn call_cursor<S: BuildHasher>(
-    map: &mut Map<S>,
-    home: Home<'_>,
-    words: &mut Words<'_>,
-    answers: &mut Answers,
-) -> Result<(), Stop> {
-    let end = words.named(&ENDS)?;
+pub fn call_cursor<S: BuildHasher>(map: &mut Map<S>, line: &mut Line<'_>) -> Result<(), Stop> {
+    let end = line.named(&ENDS)?;
     let mut cursor = cursor_at(map, end);
-    match take_steps(&mut cursor, home, words, answers)? {
+    match take_steps(&mut cursor, line)? {
         None => Ok(()),
         Some(Last::Entry) => match cursor.current_entry() {
-            Ok(entry) => answers.say(shown(entry.get_key_value())),
-            Err(cursor) => answers.say_all(&around(&cursor)),
+            Ok(entry) => line.say(shown(entry.get_key_value())),
+            Err(cursor) => line.say_all(&around(&cursor)),
         },
         Some(Last::TakeEntry) => match cursor.current_entry() {
-            Ok(entry) => answers.say(taken_pair(entry.remove_entry())),
-            Err(_guard) => answers.say(Word::Nothing),
+            Ok(entry) => line.say(taken_pair(entry.remove_entry())),
+            Err(_guard) => line.say(Word::Nothing),
         },
         Some(Last::TakeIntoEntry) => match cursor.into_entry() {
-            Some(entry) => answers.say(taken_pair(entry.remove_entry())),
-            None => answers.say(Word::Nothing),
+            Some(entry) => line.say(taken_pair(entry.remove_entry())),
+            None => line.say(Word::Nothing),
         },
     }
 }
@@ -99,11 +112,9 @@ fn cursor_at<'m, S: BuildHasher>(map: &'m mut Map<S>, end: AtEnd) -> Cursor<'m, 
 /// Takes the steps, after which the cursor is left.
 pub fn take_all_steps<S: BuildHasher>(
     cursor: &mut Cursor<'_, S>,
-    home: Home<'_>,
-    words: &mut Words<'_>,
-    answers: &mut Answers,
+    line: &mut Line<'_>,
 ) -> Result<(), Stop> {
-    match take_steps(cursor, home, words, answers)? {
+    match take_steps(cursor, line)? {
         Some(_last) => Err(Stop::Unread),
         None => Ok(()),
     }
@@ -112,38 +123,44 @@ pub fn take_all_steps<S: BuildHasher>(
 /// Takes the steps, and returns what is done then, if anything is.
 fn take_steps<S: BuildHasher>(
     cursor: &mut Cursor<'_, S>,
-    home: Home<'_>,
-    words: &mut Words<'_>,
-    answers: &mut Answers,
+    line: &mut Line<'_>,
 ) -> Result<Option<Last>, Stop> {
     for _ in 0..64 {
-        if words.rest.is_empty() {
-            return Ok(None);
-        }
-        match words.named(&STEPS)? {
-            CursorStep::Last(last) => return Ok(Some(last)),
-            step => take_step(cursor, home, step, words, answers)?,
+        match next_step(line)? {
+            Coming::Step(step) => line.give(take_step(cursor, step))?,
+            Coming::Last(last) => return Ok(Some(last)),
+            Coming::Nothing => return Ok(None),
         }
     }
     Err(Stop::Unread)
 }
 
-fn take_step<S: BuildHasher>(
-    cursor: &mut Cursor<'_, S>,
-    home: Home<'_>,
-    step: CursorStep,
-    words: &mut Words<'_>,
-    answers: &mut Answers,
-) -> Result<(), Stop> {
+fn next_step(line: &mut Line<'_>) -> Result<Coming, Stop> {
+    if line.words.rest.is_empty() {
+        return Ok(Coming::Nothing);
+    }
+    Ok(Coming::Step(match line.named(&STEPS)? {
+        Named::Next => CursorStep::Next,
+        Named::Prev => CursorStep::Prev,
+        Named::At => CursorStep::At,
+        Named::Put(place) => {
+            let (key, value) = line.pair()?;
+            CursorStep::Put(place, key, value)
+        }
+        Named::Write(place) => CursorStep::Write(place, line.words.name()),
+        Named::Last(last) => return Ok(Coming::Last(last)),
+    }))
+}
+
+fn take_step<S: BuildHasher>(cursor: &mut Cursor<'_, S>, step: CursorStep) -> Answer {
     match step {
         CursorStep::Next => cursor.move_next(),
         CursorStep::Prev => cursor.move_prev(),
-        CursorStep::At => return answers.say_all(&around(cursor)),
-        CursorStep::Put(place) => return put_pair(cursor, place, home, words, answers),
-        CursorStep::Write(place) => return answers.say(write_at(cursor, place, words.name())),
-        CursorStep::Last(_last) => return Err(Stop::Unread),
+        CursorStep::At => return Answer::Around(around(cursor)),
+        CursorStep::Put(place, key, value) => return put_at(cursor, place, key, value),
+        CursorStep::Write(place, new) => return Answer::Word(write_at(cursor, place, new)),
     }
-    Ok(())
+    Answer::Silent
 }
 
 /// The entries before the cursor, at it and after it.
@@ -153,17 +170,6 @@ fn around<S: BuildHasher>(cursor: &Cursor<'_, S>) -> [Word; 3] {
         lent(cursor.current_pair()),
         lent(cursor.next_pair()),
     ]
-}
-
-fn put_pair<S: BuildHasher>(
-    cursor: &mut Cursor<'_, S>,
-    place: PutAt,
-    home: Home<'_>,
-    words: &mut Words<'_>,
-    answers: &mut Answers,
-) -> Result<(), Stop> {
-    let (key, value) = words.pair(home)?;
-    answers.give(put_at(cursor, place, key, value))
 }
 
 fn put_at<S: BuildHasher>(

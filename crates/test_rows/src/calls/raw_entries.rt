@@ -1,11 +1,10 @@
 //! Lines that speak to raw entries.
-use crate::calls::map_calls::AtEnd;
+use crate::calls::map_calls::Map;
 use crate::calls::map_cursors::take_all_steps;
-use crate::calls::map_row::Map;
+use crate::calls::map_many::AtEnd;
 use crate::items::{
-    Answer, Answers, Home, Item, Make, Name, RawAsk, RawCall, RawEnd, RawGive, RawLend, RawPut,
-    RawStay, Stop, Word, Words, lent, no_memory, set, shown, taken, taken_pair, write_item,
-    write_pair,
+    Answer, Item, Line, Make, Name, RawAsk, RawCall, RawEnd, RawGive, RawLend, RawPut, RawStay,
+    Stop, Word, lent, no_memory, set, shown, taken, taken_pair, write_item, write_pair,
 };
 use hashlink_map::{RawEntryBuilderMut, RawEntryMut, RawOccupiedEntryMut};
 use std::hash::BuildHasher;
@@ -37,15 +36,10 @@ const WAYS: [(&str, Way); 6] = [
 ];
 
 /// Reads the pair of a key in the way that the words say.
-pub fn read_raw<S: BuildHasher>(
-    map: &Map<S>,
-    home: Home<'_>,
-    words: &mut Words<'_>,
-    answers: &mut Answers,
-) -> Result<(), Stop> {
-    let way = words.named(&WAYS)?;
-    let key = words.item(home)?;
-    answers.say(read_at(map, way, &key))
+pub fn read_raw<S: BuildHasher>(map: &Map<S>, line: &mut Line<'_>) -> Result<(), Stop> {
+    let way = line.named(&WAYS)?;
+    let key = line.item()?;
+    line.say(read_at(map, way, &key))
 }
 
 /// The pair of a key. Where the way takes the hash, that is asked for first.
@@ -93,18 +87,13 @@ fn raw_of_test<'m, S: BuildHasher>(map: &'m mut Map<S>, way: Way, key: &Item) ->
 
 /// Makes the call of a raw entry of a map that the words say: the way, the key and the call. One that puts an
 /// absent key has another name than one that needs an entry.
-pub fn call_raw<S: BuildHasher + Copy>(
-    map: &mut Map<S>,
-    home: Home<'_>,
-    words: &mut Words<'_>,
-    answers: &mut Answers,
-) -> Result<(), Stop> {
-    let way = words.named(&WAYS)?;
-    let (key, call) = RawCall::of_key(home, words)?;
+pub fn call_raw<S: BuildHasher + Copy>(map: &mut Map<S>, line: &mut Line<'_>) -> Result<(), Stop> {
+    let way = line.named(&WAYS)?;
+    let (key, call) = RawCall::of_key(line)?;
     match call {
-        RawCall::ReplaceKey => answers.say(replace_key(map, key)),
-        RawCall::Give(call, value, new) => answers.give(give_at(map, call, key, value, new)),
-        call => call_found(raw_of(map, way, &key), call, home, words, answers),
+        RawCall::ReplaceKey => line.say(replace_key(map, key)),
+        RawCall::Give(call, value, new) => line.give(give_at(map, call, key, value, new)),
+        call => call_found(raw_of(map, way, &key), call, line),
     }
 }
 
@@ -126,14 +115,12 @@ fn give_at<S: BuildHasher + Copy>(
 pub fn call_found<S: BuildHasher>(
     entry: Raw<'_, S>,
     call: RawCall,
-    home: Home<'_>,
-    words: &mut Words<'_>,
-    answers: &mut Answers,
+    line: &mut Line<'_>,
 ) -> Result<(), Stop> {
     match call {
-        RawCall::Ask(call, new) => answers.say(ask_at(entry, call, new)),
-        RawCall::ReplaceValue(value) => answers.say(replace_at(entry, value)),
-        RawCall::Cursor => steps_at(entry, home, words, answers),
+        RawCall::Ask(call, new) => line.say(ask_at(entry, call, new)),
+        RawCall::ReplaceValue(value) => line.say(replace_at(entry, value)),
+        RawCall::Cursor => steps_at(entry, line),
         _ => Err(Stop::Unread),
     }
 }
@@ -221,32 +208,23 @@ fn replace_at<S: BuildHasher>(entry: Raw<'_, S>, value: Item) -> Word {
     }
 }
 
-fn steps_at<S: BuildHasher>(
-    entry: Raw<'_, S>,
-    home: Home<'_>,
-    words: &mut Words<'_>,
-    answers: &mut Answers,
-) -> Result<(), Stop> {
+fn steps_at<S: BuildHasher>(entry: Raw<'_, S>, line: &mut Line<'_>) -> Result<(), Stop> {
     match entry {
-        RawEntryMut::Occupied(entry) => {
-            take_all_steps(&mut entry.cursor_mut(), home, words, answers)
-        }
-        RawEntryMut::Vacant(_vacant) => answers.say(Word::Nothing),
+        RawEntryMut::Occupied(entry) => { take_all_steps(&mut entry.cursor_mut(), line) }
+        RawEntryMut::Vacant(_vacant) => line.say(Word::Nothing),
     }
 }
 
 /// Makes a call of the entry at an end.
 pub fn call_end<S: BuildHasher>(
     map: &mut Map<S>,
-    home: Home<'_>,
     end: AtEnd,
-    words: &mut Words<'_>,
-    answers: &mut Answers,
+    line: &mut Line<'_>,
 ) -> Result<(), Stop> {
-    let call = RawCall::read(home, words)?;
+    let call = RawCall::read(line)?;
     match entry_at_end(map, end) {
-        Some(entry) => call_found(RawEntryMut::Occupied(entry), call, home, words, answers),
-        None => answers.say(Word::Nothing),
+        Some(entry) => call_found(RawEntryMut::Occupied(entry), call, line),
+        None => line.say(Word::Nothing),
     }
 }
 

@@ -1,16 +1,112 @@
-//! The calls of a set, and of two sets, by their names.
-use crate::items::Asked;
+//! Lines that speak to a set, and need one element of it at most. The others are in `set_many`.
+use crate::calls::set_many::call_many;
+use crate::items::{
+    Answer, Asked, Item, Line, Stop, Word, given_item, has_room, lent_item, made, room, taken,
+};
+use hashlink_set::LinkedHashSet;
+use std::alloc::{AllocError, Global};
+use std::hash::BuildHasher;
+
+pub type Set<S> = LinkedHashSet<Item, S>;
+
+/// A call by its name.
+#[derive(Clone, Copy)]
+enum Named {
+    Read(ReadCall),
+    End(EndCall),
+    Element(ElementCall),
+    Put(PutCall),
+    Size(SizeCall),
+}
+
+/// A call with what follows its name.
+#[derive(Drop)]
+enum SetCall {
+    Read(ReadCall),
+    End(EndCall),
+    Element(ElementCall, Item),
+    Put(PutCall, Item),
+    Size(SizeCall, usize),
+}
+
+const CALLS: [(&str, Named); 24] = [
+    ("front", Named::Read(ReadCall::Front)),
+    ("back", Named::Read(ReadCall::Back)),
+    ("len", Named::Read(ReadCall::Len)),
+    ("is_empty", Named::Read(ReadCall::IsEmpty)),
+    ("pop_front", Named::End(EndCall::PopFront)),
+    ("pop_back", Named::End(EndCall::PopBack)),
+    ("clear", Named::End(EndCall::Clear)),
+    ("shrink", Named::End(EndCall::Shrink)),
+    ("clone", Named::End(EndCall::Clone)),
+    ("contains", Named::Element(ElementCall::Contains)),
+    ("get", Named::Element(ElementCall::Get)),
+    ("to_front", Named::Element(ElementCall::ToFront)),
+    ("to_back", Named::Element(ElementCall::ToBack)),
+    ("remove", Named::Element(ElementCall::Remove)),
+    ("take", Named::Element(ElementCall::Take)),
+    ("insert", Named::Put(PutCall::Insert)),
+    ("replace", Named::Put(PutCall::Replace)),
+    ("get_or_insert", Named::Put(PutCall::GetOrInsert)),
+    ("reserve", Named::Size(SizeCall::Reserve)),
+    ("try_reserve", Named::Size(SizeCall::TryReserve)),
+    ("room", Named::Size(SizeCall::Has(Asked::Room))),
+    ("capacity", Named::Size(SizeCall::Has(Asked::Capacity))),
+    ("under", Named::Size(SizeCall::Has(Asked::Under))),
+    ("with_capacity", Named::Size(SizeCall::WithCapacity)),
+];
+
+/// Makes the call that a line says.
+pub fn call_set<S: BuildHasher + Copy + Default + Drop>(
+    set: &mut Set<S>,
+    line: &mut Line<'_>,
+) -> Result<(), Stop> {
+    let Some(call) = line.words.known(&CALLS) else {
+        return call_many(set, line);
+    };
+    let call = read_call(call, line)?;
+    line.give(answer(set, call, line.home.alloc))
+}
+
+fn read_call(call: Named, line: &mut Line<'_>) -> Result<SetCall, Stop> {
+    Ok(match call {
+        Named::Read(call) => SetCall::Read(call),
+        Named::End(call) => SetCall::End(call),
+        Named::Element(call) => SetCall::Element(call, line.item()?),
+        Named::Put(call) => SetCall::Put(call, line.item()?),
+        Named::Size(call) => SetCall::Size(call, line.words.size()),
+    })
+}
+
+fn answer<S: BuildHasher + Copy + Drop>(set: &mut Set<S>, call: SetCall, alloc: Global) -> Answer {
+    Answer::Word(match call {
+        SetCall::Read(call) => read(set, call),
+        SetCall::End(call) => call_at_end(set, call),
+        SetCall::Element(call, element) => look_up(set, call, &element),
+        SetCall::Put(call, element) => return put(set, call, element),
+        SetCall::Size(call, size) => ask_room(set, call, alloc, size),
+    })
+}
 
 #[derive(Clone, Copy)]
-pub enum ReadCall {
+enum ReadCall {
     Front,
     Back,
     Len,
     IsEmpty,
 }
 
+fn read<S: BuildHasher>(set: &Set<S>, call: ReadCall) -> Word {
+    match call {
+        ReadCall::Front => lent_item(set.front()),
+        ReadCall::Back => lent_item(set.back()),
+        ReadCall::Len => Word::count(set.len()),
+        ReadCall::IsEmpty => Word::Is(set.is_empty()),
+    }
+}
+
 #[derive(Clone, Copy)]
-pub enum EndCall {
+enum EndCall {
     PopFront,
     PopBack,
     Clear,
@@ -18,8 +114,27 @@ pub enum EndCall {
     Clone,
 }
 
+fn call_at_end<S: BuildHasher + Copy + Drop>(set: &mut Set<S>, call: EndCall) -> Word {
+    match call {
+        EndCall::PopFront => given_item(set.pop_front()),
+        EndCall::PopBack => given_item(set.pop_back()),
+        EndCall::Clear => {
+            set.clear();
+            Word::Done
+        }
+        EndCall::Shrink => match set.shrink_to_fit() {
+            Ok(()) => Word::Done,
+            Err(AllocError) => Word::Memory,
+        },
+        EndCall::Clone => {
+            let clone = set.clone();
+            made(set, clone)
+        }
+    }
+}
+
 #[derive(Clone, Copy)]
-pub enum ElementCall {
+enum ElementCall {
     Contains,
     Get,
     ToFront,
@@ -28,153 +143,90 @@ pub enum ElementCall {
     Take,
 }
 
+fn look_up<S: BuildHasher>(set: &mut Set<S>, call: ElementCall, element: &Item) -> Word {
+    match call {
+        ElementCall::Contains => Word::Is(set.contains(element)),
+        ElementCall::Get => lent_item(set.get(element)),
+        ElementCall::ToFront => Word::Is(set.to_front(element)),
+        ElementCall::ToBack => Word::Is(set.to_back(element)),
+        ElementCall::Remove => Word::Is(set.remove(element)),
+        ElementCall::Take => given_item(set.take(element)),
+    }
+}
+
 #[derive(Clone, Copy)]
-pub enum PutCall {
+enum PutCall {
     Insert,
     Replace,
     GetOrInsert,
 }
 
+fn put<S: BuildHasher>(set: &mut Set<S>, call: PutCall, element: Item) -> Answer {
+    match call {
+        PutCall::Insert => is_new_or_back(set.insert(element)),
+        PutCall::Replace => old_or_back(set.replace(element)),
+        PutCall::GetOrInsert => lent_or_back(set.get_or_insert(element)),
+    }
+}
+
+/// Whether the element was absent, or the one that is handed back.
+fn is_new_or_back(is_new: Result<bool, Item>) -> Answer {
+    match is_new {
+        Ok(is_new) => Answer::Word(Word::Is(is_new)),
+        Err(element) => back(element),
+    }
+}
+
+/// The element that was there, or the one that is handed back.
+fn old_or_back(old: Result<Option<Item>, Item>) -> Answer {
+    match old {
+        Ok(old) => Answer::Word(given_item(old)),
+        Err(element) => back(element),
+    }
+}
+
+/// The element that is lent, or the one that is handed back.
+pub fn lent_or_back(lent: Result<&Item, Item>) -> Answer {
+    match lent {
+        Ok(element) => Answer::Word(Word::item(element.name())),
+        Err(element) => back(element),
+    }
+}
+
+/// That an element is handed back for want of memory.
+fn back(element: Item) -> Answer {
+    Answer::Back(Word::Memory, taken(element))
+}
+
 #[derive(Clone, Copy)]
-pub enum SizeCall {
+enum SizeCall {
     Reserve,
     TryReserve,
     Has(Asked),
     WithCapacity,
 }
 
-#[derive(Clone, Copy)]
-pub enum ElementsCall {
-    Extend,
-    ExtendFrom,
-    /// `extend` with an iterator that is kept.
-    ExtendKept,
-    /// std's `Extend`, with such an iterator.
-    ExtendByTrait,
-    FromIter,
+fn ask_room<S: BuildHasher + Copy + Drop>(
+    set: &mut Set<S>,
+    call: SizeCall,
+    alloc: Global,
+    size: usize,
+) -> Word {
+    match call {
+        SizeCall::Reserve => room(set.reserve(size)),
+        SizeCall::TryReserve => room(set.try_reserve(size)),
+        SizeCall::Has(asked) => has_room(asked, set.capacity(), set.len(), size),
+        SizeCall::WithCapacity => with_capacity(set, alloc, size),
+    }
 }
 
-#[derive(Clone, Copy)]
-pub enum WalkCall {
-    Iter,
-    /// Whether it is forgotten after its steps.
-    Drain(bool),
-    IntoIter,
+fn with_capacity<S: BuildHasher + Copy + Drop>(
+    set: &mut Set<S>,
+    alloc: Global,
+    size: usize,
+) -> Word {
+    match LinkedHashSet::with_capacity_and_hasher(alloc, size, *set.hasher()) {
+        Ok(new) => made(set, Ok(new)),
+        Err(refused) => room(Err(refused)),
+    }
 }
-
-/// A call, by what follows its name.
-#[derive(Clone, Copy)]
-pub enum SetCall {
-    /// Nothing.
-    Read(ReadCall),
-    /// Nothing, and the set changes.
-    End(EndCall),
-    /// An element that is looked up.
-    Element(ElementCall),
-    /// An element that is put in.
-    Put(PutCall),
-    /// An element that is looked up, and made where it is absent.
-    GetOrInsertWith,
-    /// A number.
-    Size(SizeCall),
-    /// Elements.
-    Elements(ElementsCall),
-    /// What is kept. Whether it is `retain_with_order`.
-    Retain(bool),
-    /// Steps of an iterator.
-    Walk(WalkCall),
-}
-
-pub const SET_CALLS: [(&str, SetCall); 36] = [
-    ("front", SetCall::Read(ReadCall::Front)),
-    ("back", SetCall::Read(ReadCall::Back)),
-    ("len", SetCall::Read(ReadCall::Len)),
-    ("is_empty", SetCall::Read(ReadCall::IsEmpty)),
-    ("pop_front", SetCall::End(EndCall::PopFront)),
-    ("pop_back", SetCall::End(EndCall::PopBack)),
-    ("clear", SetCall::End(EndCall::Clear)),
-    ("shrink", SetCall::End(EndCall::Shrink)),
-    ("clone", SetCall::End(EndCall::Clone)),
-    ("contains", SetCall::Element(ElementCall::Contains)),
-    ("get", SetCall::Element(ElementCall::Get)),
-    ("to_front", SetCall::Element(ElementCall::ToFront)),
-    ("to_back", SetCall::Element(ElementCall::ToBack)),
-    ("remove", SetCall::Element(ElementCall::Remove)),
-    ("take", SetCall::Element(ElementCall::Take)),
-    ("insert", SetCall::Put(PutCall::Insert)),
-    ("replace", SetCall::Put(PutCall::Replace)),
-    ("get_or_insert", SetCall::Put(PutCall::GetOrInsert)),
-    ("get_or_insert_with", SetCall::GetOrInsertWith),
-    ("reserve", SetCall::Size(SizeCall::Reserve)),
-    ("try_reserve", SetCall::Size(SizeCall::TryReserve)),
-    ("room", SetCall::Size(SizeCall::Has(Asked::Room))),
-    ("capacity", SetCall::Size(SizeCall::Has(Asked::Capacity))),
-    ("under", SetCall::Size(SizeCall::Has(Asked::Under))),
-    ("with_capacity", SetCall::Size(SizeCall::WithCapacity)),
-    ("extend", SetCall::Elements(ElementsCall::Extend)),
-    ("extend_from", SetCall::Elements(ElementsCall::ExtendFrom)),
-    ("extend_kept", SetCall::Elements(ElementsCall::ExtendKept)),
-    (
-        "extend_by_trait",
-        SetCall::Elements(ElementsCall::ExtendByTrait),
-    ),
-    ("from_iter", SetCall::Elements(ElementsCall::FromIter)),
-    ("retain", SetCall::Retain(false)),
-    ("retain_with_order", SetCall::Retain(true)),
-    ("iter", SetCall::Walk(WalkCall::Iter)),
-    ("drain", SetCall::Walk(WalkCall::Drain(false))),
-    ("forgotten_drain", SetCall::Walk(WalkCall::Drain(true))),
-    ("into_iter", SetCall::Walk(WalkCall::IntoIter)),
-];
-
-#[derive(Clone, Copy)]
-pub enum AskOfTwo {
-    Eq,
-    Hash,
-    IsDisjoint,
-    IsSubset,
-    IsSuperset,
-}
-
-#[derive(Clone, Copy)]
-pub enum IterateTwo {
-    Union,
-    Intersection,
-    Difference,
-    SymmetricDifference,
-}
-
-#[derive(Clone, Copy)]
-pub enum Operator {
-    Or,
-    And,
-    Xor,
-    Sub,
-}
-
-/// A call of two sets.
-#[derive(Clone, Copy)]
-pub enum SetsCall {
-    Ask(AskOfTwo),
-    Iterate(IterateTwo),
-    Operate(Operator),
-}
-
-pub const SETS_CALLS: [(&str, SetsCall); 13] = [
-    ("eq", SetsCall::Ask(AskOfTwo::Eq)),
-    ("hash", SetsCall::Ask(AskOfTwo::Hash)),
-    ("is_disjoint", SetsCall::Ask(AskOfTwo::IsDisjoint)),
-    ("is_subset", SetsCall::Ask(AskOfTwo::IsSubset)),
-    ("is_superset", SetsCall::Ask(AskOfTwo::IsSuperset)),
-    ("union", SetsCall::Iterate(IterateTwo::Union)),
-    ("intersection", SetsCall::Iterate(IterateTwo::Intersection)),
-    ("difference", SetsCall::Iterate(IterateTwo::Difference)),
-    (
-        "symmetric_difference",
-        SetsCall::Iterate(IterateTwo::SymmetricDifference),
-    ),
-    ("|", SetsCall::Operate(Operator::Or)),
-    ("&", SetsCall::Operate(Operator::And)),
-    ("^", SetsCall::Operate(Operator::Xor)),
-    ("-", SetsCall::Operate(Operator::Sub)),
-];

@@ -159,6 +159,10 @@ pub enum Answer {
     Back(Word, Word),
     /// For want of memory it hands this back, after so many were taken.
     BackAfter(Word, u64),
+    /// What stands around a cursor.
+    Around([Word; 3]),
+    /// Nothing is said.
+    Silent,
 }
 
 /// Why a line was not answered.
@@ -217,6 +221,8 @@ impl Answers {
             Answer::BackAfter(back, taken) => {
                 self.say_all(&[Word::Memory, back, Word::Item(taken, 0)])
             }
+            Answer::Around(words) => self.say_all(&words),
+            Answer::Silent => Ok(()),
         }
     }
 

@@ -1,7 +1,7 @@
 //! Calls of an entry.
+use crate::items::Item;
 use crate::items::answers::{Name, Stop};
-use crate::items::line::Words;
-use crate::items::{Home, Item};
+use crate::items::line::Line;
 
 /// A call that leaves the entry.
 #[derive(Clone, Copy)]
@@ -82,12 +82,18 @@ pub enum Give {
 /// A call of an entry, with what it takes.
 #[derive(Drop)]
 pub enum EntryCall {
+    Ended(EndedCall),
+    /// Steps of a cursor follow.
+    Cursor,
+}
+
+/// A call after which the line ends.
+#[derive(Drop)]
+pub enum EndedCall {
     Ask(Ask, Option<Name>),
     Give(Give, Item, Option<Name>),
     /// Puts what was made, or hands on why nothing was.
     TryMake(Result<Item, Item>, Option<Name>),
-    /// Steps of a cursor follow.
-    Cursor,
 }
 
 /// A call by its name alone.
@@ -141,31 +147,31 @@ const VACANT: [(&str, Named); 5] = [
 
 impl EntryCall {
     /// The key and the call that the next words say.
-    pub fn of_key(home: Home<'_>, words: &mut Words<'_>) -> Result<(Item, EntryCall), Stop> {
-        let key = words.item(home)?;
-        Ok((key, EntryCall::read(home, words)?))
+    pub fn of_key(line: &mut Line<'_>) -> Result<(Item, EntryCall), Stop> {
+        let key = line.item()?;
+        Ok((key, EntryCall::read(line)?))
     }
 
     /// The call that the next words say.
-    fn read(home: Home<'_>, words: &mut Words<'_>) -> Result<EntryCall, Stop> {
-        match read_name(words)? {
-            Named::Ask(call) => Ok(EntryCall::Ask(call, words.optional())),
+    fn read(line: &mut Line<'_>) -> Result<EntryCall, Stop> {
+        Ok(EntryCall::Ended(match read_name(line)? {
+            Named::Ask(call) => EndedCall::Ask(call, line.words.optional()),
             Named::Give(call) => {
-                let (value, new) = words.lent_item(home)?;
-                Ok(EntryCall::Give(call, value, new))
+                let (value, new) = line.lent_item()?;
+                EndedCall::Give(call, value, new)
             }
             Named::TryMake => {
-                let (made, new) = words.tried(home)?;
-                Ok(EntryCall::TryMake(made, new))
+                let (made, new) = line.tried()?;
+                EndedCall::TryMake(made, new)
             }
-            Named::Cursor => Ok(EntryCall::Cursor),
-        }
+            Named::Cursor => return Ok(EntryCall::Cursor),
+        }))
     }
 }
 
-fn read_name(words: &mut Words<'_>) -> Result<Named, Stop> {
-    if words.has("vacant") {
-        return words.named(&VACANT);
+fn read_name(line: &mut Line<'_>) -> Result<Named, Stop> {
+    if line.words.has("vacant") {
+        return line.named(&VACANT);
     }
-    words.named(&CALLS)
+    line.named(&CALLS)
 }

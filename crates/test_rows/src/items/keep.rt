@@ -1,6 +1,7 @@
 //! What retains keep, and what is asked of room.
 use crate::items::Item;
-use crate::items::answers::{Answers, Stop, Word};
+use crate::items::answers::{Stop, Word};
+use crate::items::line::Line;
 
 /// The call of a retain.
 #[derive(Clone, Copy)]
@@ -68,10 +69,11 @@ pub fn is_other(key: &Item, met: &mut Vec<Word>) -> bool {
     key.group % 2 == 0
 }
 
-/// Says what was met, and that it is done.
-pub fn say_met(met: &[Word], answers: &mut Answers) -> Result<(), Stop> {
-    answers.say_all(met)?;
-    answers.say(Word::Done)
+/// The test that the next word says, of so many entries, for whose words there is then room.
+pub fn read_keep(table: &[(&str, Keep)], len: usize, line: &mut Line<'_>) -> Result<Keep, Stop> {
+    let keep = line.named(table)?;
+    line.answers.words.reserve(keep.room(len))?;
+    Ok(keep)
 }
 
 /// What a row asks of the room of a container.

@@ -1,177 +1,105 @@
-//! The words of a line.
-use crate::items::answers::{Name, Pair, Stop, find, number};
+//! A line that is being answered, and what is read from its words.
+use crate::items::answers::{Answer, Answers, Name, Pair, Stop, Word};
+use crate::items::words::Words;
 use crate::items::{Home, Item};
 
-/// The words of a line that are not yet read.
-#[derive(Clone, Copy)]
-pub struct Words<'l> {
-    pub rest: &'l str,
-    /// What the word `n` stands for.
-    pub n: u64,
-    /// Whether a word was read that is not there, or is not what it was read as.
-    pub is_unread: bool,
+/// A line that is being answered.
+#[derive(Drop)]
+pub struct Line<'l> {
+    /// Where the items are made that it names.
+    pub home: Home<'l>,
+    /// Those that are not yet read.
+    pub words: Words<'l>,
+    /// What it answers, and how the lines before it went.
+    pub answers: Answers,
 }
 
-impl<'l> Words<'l> {
-    pub fn new(line: &'l str) -> Words<'l> {
-        Words {
-            rest: line,
-            n: 0,
-            is_unread: false,
-        }
-    }
-
-    /// The next word, if there is one.
-    pub fn next(&mut self) -> Option<&'l str> {
-        if self.rest.is_empty() {
-            return None;
-        }
-        let (word, rest) = self.rest.split_once(' ').unwrap_or((self.rest, ""));
-        self.rest = rest;
-        Some(word)
-    }
-
-    /// The next word, or an empty one.
-    pub fn word(&mut self) -> &'l str {
-        self.next().unwrap_or("")
-    }
-
+impl Line<'_> {
     /// What the next word stands for in a table.
     pub fn named<T: Copy>(&mut self, table: &[(&str, T)]) -> Result<T, Stop> {
-        find(table, self.word()).ok_or(Stop::Unread)
-    }
-
-    pub fn name(&mut self) -> Name {
-        let word = self.word();
-        self.name_of(word)
-    }
-
-    /// The next word as a name, if there is one.
-    pub fn optional(&mut self) -> Option<Name> {
-        if self.rest.is_empty() {
-            return None;
-        }
-        Some(self.name())
-    }
-
-    fn name_of(&mut self, word: &str) -> Name {
-        if word == "n" {
-            return Name::of(self.n);
-        }
-        let name = Name::read(word);
-        self.is_unread = self.is_unread | name.is_none();
-        name.unwrap_or(Name::of(0))
-    }
-
-    /// The next two words as names.
-    pub fn names(&mut self) -> Pair {
-        let key = self.name();
-        (key, self.name())
-    }
-
-    pub fn number(&mut self) -> u64 {
-        let word = self.word();
-        self.number_of(word)
-    }
-
-    fn number_of(&mut self, word: &str) -> u64 {
-        let number = number(word);
-        self.is_unread = self.is_unread | number.is_none();
-        number.unwrap_or(0)
-    }
-
-    /// A number, or `max`.
-    pub fn size(&mut self) -> usize {
-        let word = self.word();
-        if word == "max" {
-            return usize::MAX;
-        }
-        self.number_of(word) as usize
+        self.words.named(table)
     }
 
     /// The item that the next word names.
-    pub fn item(&mut self, home: Home<'_>) -> Result<Item, Stop> {
-        home.item(self.name())
+    pub fn item(&mut self) -> Result<Item, Stop> {
+        self.home.item(self.words.name())
     }
 
     /// The item that the next word names, and the name after it, if there is one.
-    pub fn lent_item(&mut self, home: Home<'_>) -> Result<(Item, Option<Name>), Stop> {
-        let item = self.name();
-        let new = self.optional();
-        Ok((home.item(item)?, new))
+    pub fn lent_item(&mut self) -> Result<(Item, Option<Name>), Stop> {
+        let item = self.words.name();
+        let new = self.words.optional();
+        Ok((self.home.item(item)?, new))
     }
 
     /// What the next word names as made, and the name after it, if there is one, or what the word after
     /// `fail` names as why nothing is made.
-    pub fn tried(&mut self, home: Home<'_>) -> Result<(Result<Item, Item>, Option<Name>), Stop> {
-        let is_made = !self.has("fail");
-        let (item, new) = self.lent_item(home)?;
+    pub fn tried(&mut self) -> Result<(Result<Item, Item>, Option<Name>), Stop> {
+        let is_made = !self.words.has("fail");
+        let (item, new) = self.lent_item()?;
         Ok((if is_made { Ok(item) } else { Err(item) }, new))
     }
 
-    /// Whether the next word is this one, which is then read.
-    pub fn has(&mut self, word: &str) -> bool {
-        let mut rest = *self;
-        let is_next = rest.next() == Some(word);
-        if is_next {
-            *self = rest;
-        }
-        is_next
+    /// The pair that the next two words name.
+    pub fn pair(&mut self) -> Result<(Item, Item), Stop> {
+        self.home.pair(self.words.names())
     }
 
-    /// The pair that the next two words name.
-    pub fn pair(&mut self, home: Home<'_>) -> Result<(Item, Item), Stop> {
-        home.pair(self.names())
+    pub fn say(&mut self, word: Word) -> Result<(), Stop> {
+        self.answers.say(word)
+    }
+
+    pub fn say_all(&mut self, words: &[Word]) -> Result<(), Stop> {
+        self.answers.say_all(words)
+    }
+
+    pub fn give(&mut self, answer: Answer) -> Result<(), Stop> {
+        self.answers.give(answer)
     }
 }
 
 /// What is read from the next words of a line.
 pub trait Read: Sized {
-    fn read(home: Home<'_>, words: &mut Words<'_>) -> Result<Self, Stop>;
+    fn read(line: &mut Line<'_>) -> Result<Self, Stop>;
 }
 
 impl Read for Item {
-    fn read(home: Home<'_>, words: &mut Words<'_>) -> Result<Item, Stop> {
-        words.item(home)
+    fn read(line: &mut Line<'_>) -> Result<Item, Stop> {
+        line.item()
     }
 }
 
 impl Read for (Item, Item) {
-    fn read(home: Home<'_>, words: &mut Words<'_>) -> Result<(Item, Item), Stop> {
-        words.pair(home)
+    fn read(line: &mut Line<'_>) -> Result<(Item, Item), Stop> {
+        line.pair()
     }
 }
 
 impl Read for Name {
-    fn read(_home: Home<'_>, words: &mut Words<'_>) -> Result<Name, Stop> {
-        Ok(words.name())
+    fn read(line: &mut Line<'_>) -> Result<Name, Stop> {
+        Ok(line.words.name())
     }
 }
 
 impl Read for Pair {
-    fn read(_home: Home<'_>, words: &mut Words<'_>) -> Result<Pair, Stop> {
-        Ok(words.names())
+    fn read(line: &mut Line<'_>) -> Result<Pair, Stop> {
+        Ok(line.words.names())
     }
 }
 
 /// All that the rest of the line names.
-pub fn rest_of<T: Read + Drop>(home: Home<'_>, words: &mut Words<'_>) -> Result<Vec<T>, Stop> {
-    let mut named = Vec::with_capacity(home.alloc, 16)?;
-    push_rest(home, words, &mut named)?;
+pub fn rest_of<T: Read + Drop>(line: &mut Line<'_>) -> Result<Vec<T>, Stop> {
+    let mut named = Vec::with_capacity(line.home.alloc, 16)?;
+    push_rest(line, &mut named)?;
     Ok(named)
 }
 
-pub fn push_rest<T: Read + Drop>(
-    home: Home<'_>,
-    words: &mut Words<'_>,
-    named: &mut Vec<T>,
-) -> Result<(), Stop> {
+pub fn push_rest<T: Read + Drop>(line: &mut Line<'_>, named: &mut Vec<T>) -> Result<(), Stop> {
     for _ in 0..64 {
-        if words.rest.is_empty() {
+        if line.words.rest.is_empty() {
             break;
         }
-        let next = T::read(home, words)?;
-        push(named, next)?;
+        push(named, T::read(line)?)?;
     }
     Ok(())
 }

@@ -1,8 +1,8 @@
 //! Calls of a raw entry.
+use crate::items::Item;
 use crate::items::answers::{Name, Stop};
 use crate::items::entry_call::Make;
-use crate::items::line::Words;
-use crate::items::{Home, Item};
+use crate::items::line::Line;
 
 /// A call that leaves the entry.
 #[derive(Clone, Copy)]
@@ -133,20 +133,20 @@ const CALLS: [(&str, Named); 23] = [
 
 impl RawCall {
     /// The key and the call that the next words say.
-    pub fn of_key(home: Home<'_>, words: &mut Words<'_>) -> Result<(Item, RawCall), Stop> {
-        let key = words.item(home)?;
-        Ok((key, RawCall::read(home, words)?))
+    pub fn of_key(line: &mut Line<'_>) -> Result<(Item, RawCall), Stop> {
+        let key = line.item()?;
+        Ok((key, RawCall::read(line)?))
     }
 
     /// The call that the next words say.
-    pub fn read(home: Home<'_>, words: &mut Words<'_>) -> Result<RawCall, Stop> {
-        match words.named(&CALLS)? {
-            Named::Ask(call) => Ok(RawCall::Ask(call, words.optional())),
+    pub fn read(line: &mut Line<'_>) -> Result<RawCall, Stop> {
+        match line.named(&CALLS)? {
+            Named::Ask(call) => Ok(RawCall::Ask(call, line.words.optional())),
             Named::Give(call) => {
-                let (value, new) = words.lent_item(home)?;
+                let (value, new) = line.lent_item()?;
                 Ok(RawCall::Give(call, value, new))
             }
-            Named::ReplaceValue => Ok(RawCall::ReplaceValue(words.item(home)?)),
+            Named::ReplaceValue => Ok(RawCall::ReplaceValue(line.item()?)),
             Named::ReplaceKey => Ok(RawCall::ReplaceKey),
             Named::Cursor => Ok(RawCall::Cursor),
         }

@@ -1,6 +1,6 @@
 //! Steps of an iterator.
 use crate::items::answers::{Name, find, number};
-use crate::items::line::Words;
+use crate::items::words::Words;
 
 /// A step of an iterator.
 #[derive(Clone, Copy)]

@@ -1,7 +1,8 @@
 //! Iterators by steps from both ends.
-use crate::items::answers::{Answers, Stop, Word};
-use crate::items::line::Words;
+use crate::items::answers::{Stop, Word};
+use crate::items::line::Line;
 use crate::items::steps::Step;
+use crate::items::words::Words;
 use std::mem;
 
 /// An iterator that goes from both ends and knows how many are left.
@@ -20,35 +21,31 @@ pub fn hinted(left: usize, (least, most): (usize, Option<usize>)) -> (usize, usi
 
 /// Takes the steps up to a word `clone`: each says what comes, or `left` how many are left. After `times` a
 /// step is taken so often.
-pub fn take_steps<W: Walk>(
-    walk: &mut W,
-    words: &mut Words<'_>,
-    answers: &mut Answers,
-) -> Result<(), Stop> {
+pub fn take_steps<W: Walk>(walk: &mut W, line: &mut Line<'_>) -> Result<(), Stop> {
     for _ in 0..64 {
-        match words.next() {
+        match line.words.next() {
             None | Some("clone") => return Ok(()),
-            Some("times") => repeat(walk, words, answers)?,
-            Some(word) => answers.say(come(walk, word, words))?,
+            Some("times") => repeat(walk, line)?,
+            Some(word) => say_step(walk, word, line)?,
         }
     }
     Err(Stop::Unread)
 }
 
 /// Takes as many steps as the next word says, each by the word after it.
-fn repeat<W: Walk>(walk: &mut W, words: &mut Words<'_>, answers: &mut Answers) -> Result<(), Stop> {
-    let count = words.name().group;
-    let word = words.word();
+fn repeat<W: Walk>(walk: &mut W, line: &mut Line<'_>) -> Result<(), Stop> {
+    let count = line.words.name().group;
+    let word = line.words.word();
     for _ in 0..count {
-        answers.say(come(walk, word, words))?;
+        say_step(walk, word, line)?;
     }
     Ok(())
 }
 
-/// What comes by the step, if the hint is then how many are left.
-fn come<W: Walk>(walk: &mut W, word: &str, words: &mut Words<'_>) -> Word {
-    let came = take_step(walk, word, words);
-    if is_hinted(walk) { came } else { Word::Wrong }
+/// Says what comes by the step, if the hint is then how many are left.
+fn say_step<W: Walk>(walk: &mut W, word: &str, line: &mut Line<'_>) -> Result<(), Stop> {
+    let came = take_step(walk, word, &mut line.words);
+    line.say(if is_hinted(walk) { came } else { Word::Wrong })
 }
 
 fn take_step<W: Walk>(walk: &mut W, word: &str, words: &mut Words<'_>) -> Word {
@@ -65,22 +62,17 @@ fn is_hinted<W: Walk>(walk: &W) -> bool {
 }
 
 /// The same of an iterator that is given away.
-pub fn walk_whole<W: Walk + Drop>(
-    mut walk: W,
-    words: &mut Words<'_>,
-    answers: &mut Answers,
-) -> Result<(), Stop> {
-    take_steps(&mut walk, words, answers)
+pub fn walk_whole<W: Walk + Drop>(mut walk: W, line: &mut Line<'_>) -> Result<(), Stop> {
+    take_steps(&mut walk, line)
 }
 
 /// The same of an iterator that may be forgotten after its steps.
 pub fn walk_or_forget<W: Walk + Drop>(
     mut walk: W,
     is_forgotten: bool,
-    words: &mut Words<'_>,
-    answers: &mut Answers,
+    line: &mut Line<'_>,
 ) -> Result<(), Stop> {
-    let taken = take_steps(&mut walk, words, answers);
+    let taken = take_steps(&mut walk, line);
     if is_forgotten {
         mem::forget(walk);
     }
@@ -88,17 +80,14 @@ pub fn walk_or_forget<W: Walk + Drop>(
 }
 
 /// The same, and from `clone` on the steps are taken by a clone, and then by the iterator itself.
-pub fn walk_and_clone<W: Walk + Clone>(
-    mut first: W,
-    words: &mut Words<'_>,
-    answers: &mut Answers,
-) -> Result<(), Stop> {
-    take_steps(&mut first, words, answers)?;
-    if words.rest.is_empty() {
+pub fn walk_and_clone<W: Walk + Clone>(mut first: W, line: &mut Line<'_>) -> Result<(), Stop> {
+    take_steps(&mut first, line)?;
+    if line.words.rest.is_empty() {
         return Ok(());
     }
-    let mut again = *words;
+    let again = line.words;
     let mut clone = first.clone()?;
-    take_steps(&mut clone, words, answers)?;
-    take_steps(&mut first, &mut again, answers)
+    take_steps(&mut clone, line)?;
+    line.words = again;
+    take_steps(&mut first, line)
 }

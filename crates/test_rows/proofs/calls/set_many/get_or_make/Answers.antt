@@ -6,7 +6,7 @@ use Rattle.std.specs.List.{find}
 use Rattle.std.specs.Map.{keys_of}
 use Rattle.std.specs.Set.{is_member}
 use Rattle.test_rows.specs.declared.items.items.Item.{Item}
-use Rattle.test_rows.proofs.calls.set_row.get_or_make.Goals as goal
+use Rattle.test_rows.proofs.calls.set_many.get_or_make.Goals as goal
 
 found : {T : Type 0} (b : Bool) (y : T) (o : Option T) (m : Bool) → is_some o ≡ m
     → is_some (cond b (Some y) o) ≡ (b || m)

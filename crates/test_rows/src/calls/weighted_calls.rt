@@ -1,8 +1,8 @@
 //! Lines that speak to a cache with a budget.
 use crate::calls::walks::Walked;
 use crate::items::{
-    Answer, Answers, Home, Item, Step, Stop, Walk, Word, Words, given_item, hinted, lent_item,
-    no_memory, shown, taken_pair, walk_and_clone,
+    Answer, Item, Line, Step, Stop, Walk, Word, given_item, hinted, lent_item, no_memory, shown,
+    taken_pair, walk_and_clone,
 };
 use hashlink_weighted::{WeightError, WeightedCache, WeightedIter};
 use std::hash::BuildHasher;
@@ -55,16 +55,14 @@ const CALLS: [(&str, WeightedCall); 10] = [
 /// Makes the call that a line says. The number of a value is its weight.
 pub fn call_weighted<S: BuildHasher>(
     cache: &mut Weighted<S>,
-    home: Home<'_>,
-    words: &mut Words<'_>,
-    answers: &mut Answers,
+    line: &mut Line<'_>,
 ) -> Result<(), Stop> {
-    match words.named(&CALLS)? {
-        WeightedCall::Read(call) => answers.say(read(cache, call)),
-        WeightedCall::Key(call) => call_key(cache, call, home, words, answers),
-        WeightedCall::Insert => put_pair(cache, home, words, answers),
-        WeightedCall::InsertEvicting => put_evicting(cache, home, words, answers),
-        WeightedCall::Iter => walk_and_clone(Walked(cache.iter()), words, answers),
+    match line.named(&CALLS)? {
+        WeightedCall::Read(call) => line.say(read(cache, call)),
+        WeightedCall::Key(call) => call_key(cache, call, line),
+        WeightedCall::Insert => put_pair(cache, line),
+        WeightedCall::InsertEvicting => put_evicting(cache, line),
+        WeightedCall::Iter => walk_and_clone(Walked(cache.iter()), line),
     }
 }
 
@@ -80,12 +78,10 @@ fn read<S: BuildHasher>(cache: &Weighted<S>, call: ReadCall) -> Word {
 fn call_key<S: BuildHasher>(
     cache: &mut Weighted<S>,
     call: KeyCall,
-    home: Home<'_>,
-    words: &mut Words<'_>,
-    answers: &mut Answers,
+    line: &mut Line<'_>,
 ) -> Result<(), Stop> {
-    let key = words.item(home)?;
-    answers.say(look_up(cache, call, &key))
+    let key = line.item()?;
+    line.say(look_up(cache, call, &key))
 }
 
 fn look_up<S: BuildHasher>(cache: &mut Weighted<S>, call: KeyCall, key: &Item) -> Word {
@@ -96,14 +92,9 @@ fn look_up<S: BuildHasher>(cache: &mut Weighted<S>, call: KeyCall, key: &Item) -
     }
 }
 
-fn put_pair<S: BuildHasher>(
-    cache: &mut Weighted<S>,
-    home: Home<'_>,
-    words: &mut Words<'_>,
-    answers: &mut Answers,
-) -> Result<(), Stop> {
-    let (key, value) = words.pair(home)?;
-    answers.give(insert(cache, key, value))
+fn put_pair<S: BuildHasher>(cache: &mut Weighted<S>, line: &mut Line<'_>) -> Result<(), Stop> {
+    let (key, value) = line.pair()?;
+    line.give(insert(cache, key, value))
 }
 
 fn insert<S: BuildHasher>(cache: &mut Weighted<S>, key: Item, value: Item) -> Answer {
@@ -111,19 +102,15 @@ fn insert<S: BuildHasher>(cache: &mut Weighted<S>, key: Item, value: Item) -> An
     inserted(cache.insert(key, value, weight))
 }
 
-fn put_evicting<S: BuildHasher>(
-    cache: &mut Weighted<S>,
-    home: Home<'_>,
-    words: &mut Words<'_>,
-    answers: &mut Answers,
-) -> Result<(), Stop> {
-    let (key, value) = words.pair(home)?;
-    let mut evicted = Vec::with_capacity(home.alloc, cache.len())?;
-    let answer = insert_evicting(cache, key, value, &mut evicted);
-    answers.say_all(&evicted)?;
-    answers.give(answer)
+/// Puts a pair, with room for what is said of each pair that it may evict.
+fn put_evicting<S: BuildHasher>(cache: &mut Weighted<S>, line: &mut Line<'_>) -> Result<(), Stop> {
+    let (key, value) = line.pair()?;
+    line.answers.words.reserve(cache.len())?;
+    let answer = insert_evicting(cache, key, value, &mut line.answers.words);
+    line.give(answer)
 }
 
+/// Says each pair that is evicted, in turn.
 fn insert_evicting<S: BuildHasher>(
     cache: &mut Weighted<S>,
     key: Item,

@@ -1,0 +1,203 @@
+//! Lines that speak to a cache about many pairs, or by its map, an iterator or an entry.
+use crate::calls::cache_calls::Cache;
+use crate::calls::entries::call_entry;
+use crate::calls::extended::{Kept, Went, extended, extended_by_trait, say_went};
+use crate::calls::map_calls::call_map;
+use crate::calls::raw_entries::{call_found, put_found};
+use crate::calls::walks::Walked;
+use crate::items::{
+    EntryCall, Item, KEEPS, Keep, Line, RawCall, RawGive, Stop, Word, is_even, is_raised, lent,
+    rest_of, walk_and_clone, walk_whole,
+};
+use hashlink_lru::LruCache;
+use std::alloc::Global;
+use std::hash::BuildHasher;
+use std::mem;
+use std::vec::IntoIter;
+
+/// A call, by what follows its name.
+#[derive(Clone, Copy)]
+enum ManyCall {
+    /// Pairs.
+    Pairs(PairsCall),
+    /// What is kept. Whether it is `retain_from`, of a closure that is lent.
+    Retain(bool),
+    /// Steps of an iterator.
+    Walk(WalkCall),
+    /// A call of the cache's map.
+    Inside,
+    /// What an entry does.
+    Entry(EntryWord),
+}
+
+const CALLS: [(&str, ManyCall); 16] = [
+    ("extend", ManyCall::Pairs(PairsCall::Extend)),
+    ("extend_from", ManyCall::Pairs(PairsCall::Kept(Kept::From))),
+    ("extend_kept", ManyCall::Pairs(PairsCall::Kept(Kept::Whole))),
+    (
+        "extend_by_trait",
+        ManyCall::Pairs(PairsCall::Kept(Kept::ByTrait)),
+    ),
+    ("retain", ManyCall::Retain(false)),
+    ("retain_from", ManyCall::Retain(true)),
+    ("iter", ManyCall::Walk(WalkCall::Iter)),
+    ("keys", ManyCall::Walk(WalkCall::Keys)),
+    ("values", ManyCall::Walk(WalkCall::Values)),
+    ("iter_mut", ManyCall::Walk(WalkCall::IterMut)),
+    ("drain", ManyCall::Walk(WalkCall::Drain)),
+    ("into_iter", ManyCall::Walk(WalkCall::IntoIter)),
+    ("inside", ManyCall::Inside),
+    ("entry", ManyCall::Entry(EntryWord::Entry)),
+    ("raw", ManyCall::Entry(EntryWord::Raw)),
+    ("raw_read", ManyCall::Entry(EntryWord::RawRead)),
+];
+
+/// Makes the call that a line says, if it is one of these.
+pub fn call_many<S: BuildHasher + Copy + Default + Drop>(
+    cache: &mut Cache<S>,
+    line: &mut Line<'_>,
+) -> Result<(), Stop> {
+    match line.named(&CALLS)? {
+        ManyCall::Pairs(call) => put_all(cache, call, line),
+        ManyCall::Retain(is_lent) => retain(cache, is_lent, line),
+        ManyCall::Walk(call) => walk_cache(cache, call, line),
+        ManyCall::Inside => call_map(cache.map_mut(), line),
+        ManyCall::Entry(call) => call_of_entry(cache, call, line),
+    }
+}
+
+#[derive(Clone, Copy)]
+enum PairsCall {
+    Extend,
+    Kept(Kept),
+}
+
+fn put_all<S: BuildHasher>(
+    cache: &mut Cache<S>,
+    call: PairsCall,
+    line: &mut Line<'_>,
+) -> Result<(), Stop> {
+    let pairs = rest_of(line)?;
+    say_went(extend(cache, call, pairs), line)
+}
+
+fn extend<S: BuildHasher>(cache: &mut Cache<S>, call: PairsCall, pairs: Vec<(Item, Item)>) -> Went {
+    match call {
+        PairsCall::Extend => (extended(cache.extend(pairs)), None),
+        PairsCall::Kept(call) => extend_kept(cache, call, pairs.into_iter()),
+    }
+}
+
+fn extend_kept<S: BuildHasher>(
+    cache: &mut Cache<S>,
+    call: Kept,
+    pairs: IntoIter<(Item, Item)>,
+) -> Went {
+    let mut pairs = pairs;
+    let answer = match call {
+        Kept::Whole => extended(cache.extend(&mut pairs)),
+        Kept::From => extended(cache.extend_from(&mut pairs)),
+        Kept::ByTrait => extended_by_trait(cache, &mut pairs),
+    };
+    (answer, Some(pairs.len()))
+}
+
+fn retain<S: BuildHasher>(
+    cache: &mut Cache<S>,
+    is_lent: bool,
+    line: &mut Line<'_>,
+) -> Result<(), Stop> {
+    let keep = line.named(&KEEPS)?;
+    line.say(keep_some(cache, is_lent, keep))
+}
+
+fn keep_some<S: BuildHasher>(cache: &mut Cache<S>, is_lent: bool, keep: Keep) -> Word {
+    match (keep, is_lent) {
+        (Keep::Even, false) => cache.retain(is_even),
+        (Keep::Even, true) => cache.retain_from(&mut is_even),
+        (Keep::Odd, false) => cache.retain(is_raised),
+        (Keep::Odd, true) => cache.retain_from(&mut is_raised),
+        (Keep::Others | Keep::WithoutOdd, _) => return Word::Wrong,
+    }
+    Word::Done
+}
+
+#[derive(Clone, Copy)]
+enum WalkCall {
+    Iter,
+    Keys,
+    Values,
+    IterMut,
+    Drain,
+    IntoIter,
+}
+
+fn walk_cache<S: BuildHasher + Copy + Drop>(
+    cache: &mut Cache<S>,
+    call: WalkCall,
+    line: &mut Line<'_>,
+) -> Result<(), Stop> {
+    match call {
+        WalkCall::Iter => walk_and_clone(Walked(cache.iter()), line),
+        WalkCall::Keys => walk_and_clone(Walked(cache.keys()), line),
+        WalkCall::Values => walk_and_clone(Walked(cache.values()), line),
+        WalkCall::IterMut => walk_whole(Walked(cache.iter_mut()), line),
+        WalkCall::Drain => walk_whole(Walked(cache.drain()), line),
+        WalkCall::IntoIter => walk_whole(Walked(take(cache, line.home.alloc).into_iter()), line),
+    }
+}
+
+/// The cache, in whose place stands an empty one.
+fn take<S: BuildHasher + Copy + Drop>(cache: &mut Cache<S>, alloc: Global) -> Cache<S> {
+    let empty = LruCache::with_hasher(alloc, cache.capacity(), *cache.hasher());
+    mem::replace(cache, empty)
+}
+
+/// A call of an entry, by what follows its name.
+#[derive(Clone, Copy)]
+enum EntryWord {
+    /// A key, and a call of its entry.
+    Entry,
+    /// A way to look a key up, the key, and a call of its raw entry.
+    Raw,
+    /// A way and a key.
+    RawRead,
+}
+
+fn call_of_entry<S: BuildHasher>(
+    cache: &mut Cache<S>,
+    call: EntryWord,
+    line: &mut Line<'_>,
+) -> Result<(), Stop> {
+    match call {
+        EntryWord::Entry => call_entry_of(cache, line),
+        EntryWord::Raw => call_raw(cache, line),
+        EntryWord::RawRead => read_raw(cache, line),
+    }
+}
+
+/// Makes the call of the entry of a key that the words say.
+fn call_entry_of<S: BuildHasher>(cache: &mut Cache<S>, line: &mut Line<'_>) -> Result<(), Stop> {
+    let (key, call) = EntryCall::of_key(line)?;
+    call_entry(cache.entry(key), call, line)
+}
+
+/// Makes the call of a raw entry that the words say.
+fn call_raw<S: BuildHasher>(cache: &mut Cache<S>, line: &mut Line<'_>) -> Result<(), Stop> {
+    let _way = line.words.word();
+    let (key, call) = RawCall::of_key(line)?;
+    let entries = cache.raw_entry_mut();
+    match call {
+        RawCall::Give(RawGive::Make(make), value, new) => {
+            line.give(put_found(entries, make, key, value, new))
+        }
+        call => call_found(entries.from_key(&key), call, line),
+    }
+}
+
+/// Reads the pair of a key.
+fn read_raw<S: BuildHasher>(cache: &Cache<S>, line: &mut Line<'_>) -> Result<(), Stop> {
+    let _way = line.words.word();
+    let key = line.item()?;
+    line.say(lent(cache.raw_entry().from_key(&key)))
+}

@@ -1,0 +1,214 @@
+//! Lines that speak to a map about many pairs, or by an iterator, a cursor or an entry.
+use crate::calls::entries::{call_cursor_of, call_entry_of};
+use crate::calls::extended::{Kept, Went, extended, extended_by_trait, say_went};
+use crate::calls::map_calls::Map;
+use crate::calls::map_cursors::call_cursor;
+use crate::calls::raw_entries::{call_end, call_raw, read_raw};
+use crate::calls::walks::Walked;
+use crate::items::{
+    Answer, Item, KEEPS, Keep, Line, Retain, Stop, Word, made, read_keep, rest_of, walk_and_clone,
+    walk_or_forget, walk_whole,
+};
+use hashlink_map::LinkedHashMap;
+use std::alloc::Global;
+use std::hash::BuildHasher;
+use std::mem;
+use std::vec::IntoIter;
+
+/// A call, by what follows its name.
+#[derive(Clone, Copy)]
+enum ManyCall {
+    /// Pairs.
+    Pairs(PairsCall),
+    /// What is kept.
+    Retain(Retain),
+    /// Steps of an iterator.
+    Walk(WalkCall),
+    /// What an entry or a cursor does.
+    Entry(EntryWord),
+}
+
+/// A call of an entry or a cursor, by what follows its name.
+#[derive(Clone, Copy)]
+enum EntryWord {
+    /// An end, and steps of a cursor.
+    Cursor,
+    /// A key, and steps of a cursor.
+    CursorOf,
+    /// A key, and a call of its entry.
+    Entry,
+    /// A way to look a key up, the key, and a call of its raw entry.
+    Raw,
+    /// A way and a key.
+    RawRead,
+    /// A call of the entry at the end.
+    At(AtEnd),
+}
+
+#[derive(Clone, Copy)]
+pub enum AtEnd {
+    Front,
+    Back,
+}
+
+const CALLS: [(&str, ManyCall); 24] = [
+    ("extend", ManyCall::Pairs(PairsCall::Extend)),
+    ("extend_from", ManyCall::Pairs(PairsCall::Kept(Kept::From))),
+    ("extend_kept", ManyCall::Pairs(PairsCall::Kept(Kept::Whole))),
+    (
+        "extend_by_trait",
+        ManyCall::Pairs(PairsCall::Kept(Kept::ByTrait)),
+    ),
+    ("from_iter", ManyCall::Pairs(PairsCall::FromIter)),
+    ("retain", ManyCall::Retain(Retain::Any)),
+    ("retain_with_order", ManyCall::Retain(Retain::WithOrder)),
+    ("retain_from", ManyCall::Retain(Retain::From)),
+    ("iter", ManyCall::Walk(WalkCall::Iter)),
+    ("keys", ManyCall::Walk(WalkCall::Keys)),
+    ("values", ManyCall::Walk(WalkCall::Values)),
+    ("iter_mut", ManyCall::Walk(WalkCall::IterMut)),
+    ("values_mut", ManyCall::Walk(WalkCall::ValuesMut)),
+    ("drain", ManyCall::Walk(WalkCall::Drain(false))),
+    ("forgotten_drain", ManyCall::Walk(WalkCall::Drain(true))),
+    ("into_iter", ManyCall::Walk(WalkCall::IntoIter)),
+    ("collect", ManyCall::Walk(WalkCall::Collect)),
+    ("cursor", ManyCall::Entry(EntryWord::Cursor)),
+    ("cursor_of", ManyCall::Entry(EntryWord::CursorOf)),
+    ("entry", ManyCall::Entry(EntryWord::Entry)),
+    ("raw", ManyCall::Entry(EntryWord::Raw)),
+    ("raw_read", ManyCall::Entry(EntryWord::RawRead)),
+    ("front_entry", ManyCall::Entry(EntryWord::At(AtEnd::Front))),
+    ("back_entry", ManyCall::Entry(EntryWord::At(AtEnd::Back))),
+];
+
+/// Makes the call that a line says, if it is one of these.
+pub fn call_many<S: BuildHasher + Copy + Default + Drop>(
+    map: &mut Map<S>,
+    line: &mut Line<'_>,
+) -> Result<(), Stop> {
+    match line.named(&CALLS)? {
+        ManyCall::Pairs(call) => put_all(map, call, line),
+        ManyCall::Retain(call) => retain(map, call, line),
+        ManyCall::Walk(call) => walk_map(map, call, line),
+        ManyCall::Entry(call) => call_of_entry(map, call, line),
+    }
+}
+
+fn call_of_entry<S: BuildHasher + Copy>(
+    map: &mut Map<S>,
+    call: EntryWord,
+    line: &mut Line<'_>,
+) -> Result<(), Stop> {
+    match call {
+        EntryWord::Cursor => call_cursor(map, line),
+        EntryWord::CursorOf => call_cursor_of(map, line),
+        EntryWord::Entry => call_entry_of(map, line),
+        EntryWord::Raw => call_raw(map, line),
+        EntryWord::RawRead => read_raw(map, line),
+        EntryWord::At(end) => call_end(map, end, line),
+    }
+}
+
+#[derive(Clone, Copy)]
+enum PairsCall {
+    Extend,
+    Kept(Kept),
+    FromIter,
+}
+
+fn put_all<S: BuildHasher + Copy + Default + Drop>(
+    map: &mut Map<S>,
+    call: PairsCall,
+    line: &mut Line<'_>,
+) -> Result<(), Stop> {
+    let pairs = rest_of(line)?;
+    say_went(extend(map, call, pairs, line.home.alloc), line)
+}
+
+fn extend<S: BuildHasher + Copy + Default + Drop>(
+    map: &mut Map<S>,
+    call: PairsCall,
+    pairs: Vec<(Item, Item)>,
+    alloc: Global,
+) -> Went {
+    match call {
+        PairsCall::Extend => (extended(map.extend(pairs)), None),
+        PairsCall::Kept(call) => extend_kept(map, call, pairs.into_iter()),
+        PairsCall::FromIter => {
+            let made = made(map, LinkedHashMap::from_iter(alloc, pairs));
+            (Answer::Word(made), None)
+        }
+    }
+}
+
+fn extend_kept<S: BuildHasher>(
+    map: &mut Map<S>,
+    call: Kept,
+    pairs: IntoIter<(Item, Item)>,
+) -> Went {
+    let mut pairs = pairs;
+    let answer = match call {
+        Kept::Whole => extended(map.extend(&mut pairs)),
+        Kept::From => extended(map.extend_from(&mut pairs)),
+        Kept::ByTrait => extended_by_trait(map, &mut pairs),
+    };
+    (answer, Some(pairs.len()))
+}
+
+fn retain<S: BuildHasher>(map: &mut Map<S>, call: Retain, line: &mut Line<'_>) -> Result<(), Stop> {
+    let keep = read_keep(&KEEPS, map.len(), line)?;
+    keep_some(map, call, keep, &mut line.answers.words);
+    line.say(Word::Done)
+}
+
+fn keep_some<S: BuildHasher>(map: &mut Map<S>, call: Retain, keep: Keep, met: &mut Vec<Word>) {
+    let mut keep = |key: &Item, value: &mut Item| keep.keeps(key, value, met);
+    match call {
+        Retain::Any => map.retain(keep),
+        Retain::WithOrder => map.retain_with_order(keep),
+        Retain::From => map.retain_from(&mut keep),
+    }
+}
+
+#[derive(Clone, Copy)]
+enum WalkCall {
+    Iter,
+    Keys,
+    Values,
+    IterMut,
+    ValuesMut,
+    /// Whether it is forgotten after its steps.
+    Drain(bool),
+    IntoIter,
+    /// Makes the map anew of its own pairs.
+    Collect,
+}
+
+fn walk_map<S: BuildHasher + Copy + Default + Drop>(
+    map: &mut Map<S>,
+    call: WalkCall,
+    line: &mut Line<'_>,
+) -> Result<(), Stop> {
+    match call {
+        WalkCall::Iter => walk_and_clone(Walked(map.iter()), line),
+        WalkCall::Keys => walk_and_clone(Walked(map.keys()), line),
+        WalkCall::Values => walk_and_clone(Walked(map.values()), line),
+        WalkCall::IterMut => walk_whole(Walked(map.iter_mut()), line),
+        WalkCall::ValuesMut => walk_whole(Walked(map.values_mut()), line),
+        WalkCall::Drain(is_forgotten) => walk_or_forget(Walked(map.drain()), is_forgotten, line),
+        WalkCall::IntoIter => walk_whole(Walked(take(map, line.home.alloc).into_iter()), line),
+        WalkCall::Collect => line.say(collect(map, line.home.alloc)),
+    }
+}
+
+/// Makes the map anew of its own pairs.
+fn collect<S: BuildHasher + Copy + Default + Drop>(map: &mut Map<S>, alloc: Global) -> Word {
+    let own = take(map, alloc);
+    made(map, LinkedHashMap::from_iter(alloc, own))
+}
+
+/// The map, in whose place stands an empty one.
+fn take<S: BuildHasher + Copy + Drop>(map: &mut Map<S>, alloc: Global) -> Map<S> {
+    let empty = LinkedHashMap::with_hasher(alloc, *map.hasher());
+    mem::replace(map, empty)
+}
