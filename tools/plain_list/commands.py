@@ -99,7 +99,7 @@ def command(model, line, answers):
         model.steps_at(0, words, answers)
     elif name == "insert" and model.kind == "weighted":
         key, value, weight = words.name(), words.number(), words.number()
-        model.insert_weighted((key, (value, weight)), answers)
+        model.insert_weighted(name, (key, (value, weight)), answers)
     else:
         model.answer(Words(line), answers)
 
