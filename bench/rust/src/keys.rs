@@ -105,3 +105,21 @@ impl Keys {
         }
     }
 }
+
+/// The keys as texts of 20 bytes.
+pub fn texts(keys: &[u64]) -> Vec<String> {
+    keys.iter().map(|key| format!("{key:020}")).collect()
+}
+
+/// Tokens of 32 bytes.
+pub fn tokens(keys: &[u64]) -> Vec<String> {
+    keys.iter()
+        .map(|key| format!("{key:016x}{:016x}", !key))
+        .collect()
+}
+
+/// Statements of a database, of 77 bytes, which all begin and end alike.
+pub fn statements(keys: &[u64]) -> Vec<String> {
+    let text = |key| format!("SELECT name, price FROM articles WHERE shop = {key:020} AND id = ?");
+    keys.iter().map(text).collect()
+}

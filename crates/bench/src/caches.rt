@@ -80,25 +80,38 @@ fn time_hits(plan: &Plan<'_>, keys: &Keys) -> io::Result<()> {
 }
 
 /// Of a cache for half of the keys.
-fn time_choices(plan: &Plan<'_>, name: &str, keys: &Keys, parts: u64) -> io::Result<()> {
+fn time_choices(
+    plan: &Plan<'_>,
+    name: &str,
+    keys: &Keys,
+    chosen: &mut Choices<'_>,
+) -> io::Result<()> {
     let half = (keys.held.len() / 2).max(1);
-    let chosen = &mut Choices::new(keys.alloc, &keys.held, parts);
     time_uses(plan, name, half, keys, chosen)
 }
 
+fn time_zipf(plan: &Plan<'_>, keys: &Keys) -> io::Result<()> {
+    let chosen = &mut Choices::zipf(keys.alloc, &keys.held);
+    time_choices(plan, "lru_zipf", keys, chosen)
+}
+
+fn time_uniform(plan: &Plan<'_>, keys: &Keys) -> io::Result<()> {
+    let chosen = &mut Choices::uniform(keys.alloc, &keys.held);
+    time_choices(plan, "lru_uniform", keys, chosen)
+}
+
 /// Of a cache with a budget for about half of the keys, empty at first.
-fn time_weighted(plan: &Plan<'_>, keys: &Keys, parts: u64) -> io::Result<()> {
+fn time_weighted(plan: &Plan<'_>, keys: &Keys) -> io::Result<()> {
     let size = keys.held.len();
     let budget = (size as u64).saturating_mul(4).max(16);
     let cache = WeightedCache::new(keys.alloc, budget);
-    let chosen = &mut Choices::new(keys.alloc, &keys.held, parts);
+    let chosen = &mut Choices::zipf(keys.alloc, &keys.held);
     plan.row("weighted_zipf", size, chosen, &mut WeightedUses { cache })
 }
 
 pub(crate) fn rows(plan: &Plan<'_>, keys: &Keys) -> io::Result<()> {
-    let parts = u64::from((keys.held.len() as u64).max(1).ilog2()) + 1;
     time_hits(plan, keys)?;
-    time_choices(plan, "lru_zipf", keys, parts)?;
-    time_choices(plan, "lru_uniform", keys, 1)?;
-    time_weighted(plan, keys, parts)
+    time_zipf(plan, keys)?;
+    time_uniform(plan, keys)?;
+    time_weighted(plan, keys)
 }

@@ -44,8 +44,7 @@ impl Xorshift {
 
 /// Keys out of a list, as many as it has, others for each pass.
 ///
-/// Each is one of the first n, n/2, n/4 and so on, in as many parts as are given, each part as often. Of
-/// one part each key comes as often; of many the first keys come the most often, about as by Zipf's law.
+/// Each is one of the first n, n/2, n/4 and so on, in as many parts as are given, each part as often.
 #[derive(Drop)]
 pub(crate) struct Choices<'a> {
     random: Xorshift,
@@ -55,7 +54,18 @@ pub(crate) struct Choices<'a> {
 }
 
 impl<'a> Choices<'a> {
-    pub(crate) fn new(alloc: Global, keys: &'a [u64], parts: u64) -> Self {
+    /// Each key as often.
+    pub(crate) fn uniform(alloc: Global, keys: &'a [u64]) -> Self {
+        Choices::of(alloc, keys, 1)
+    }
+
+    /// The first keys the most often, about as by Zipf's law.
+    pub(crate) fn zipf(alloc: Global, keys: &'a [u64]) -> Self {
+        let parts = u64::from((keys.len() as u64).max(1).ilog2()) + 1;
+        Choices::of(alloc, keys, parts)
+    }
+
+    fn of(alloc: Global, keys: &'a [u64], parts: u64) -> Self {
         Choices {
             random: Xorshift::new(),
             keys,
