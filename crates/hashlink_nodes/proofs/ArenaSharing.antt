@@ -22,7 +22,7 @@ use Rattle.hashlink_nodes.specs.Ownership.{Links, blocks_lent, blocks_own, block
 use Rattle.hashlink_nodes.specs.Ownership.{pair_owns, is_small, deed_owns, free_right, pair_of, number_of}
 use Rattle.hashlink_nodes.specs.Ownership.{links_of}
 use Rattle.hashlink_nodes.specs.declared.node.Node.{Node}
-use Rattle.hashlink_nodes.proofs.cells.links.Links.TheLaws as links_laws
+use Rattle.hashlink_nodes.proofs.pool.links.Links.TheLaws as links_laws
 
 abbrev number_laws : Sharable usize-field
 number_laws = copy_shared usize-field usize-copy

@@ -2,11 +2,11 @@
 use Rattle.std.proofs.Common.{◌≡◌, ◌+◌, ◌-◌, Option, Some, None, ◌∷◌, ap, ◌∙◌}
 use Rattle.std.specs.Prelude.{unwrap_or}
 use Rattle.std.specs.Map.{remove_entry}
-use Rattle.hashlink_nodes.specs.declared.cells.Cells.{Cells}
+use Rattle.hashlink_nodes.specs.declared.pool.Pool.{Pool}
 use Rattle.hashlink_nodes.specs.declared.node.Node.{Node}
 use Rattle.hashlink_nodes.specs.declared.nodes.Nodes.TheInside.{Inside}
 use Rattle.hashlink_nodes.specs.Node.{same_node}
-use Rattle.hashlink_nodes.specs.Cells.{state_of}
+use Rattle.hashlink_nodes.specs.Pool.{state_of}
 use Rattle.hashlink_nodes.specs.Ring.{Ring, Holds, IsPlace, MovesBefore, MovesAfter, put_before, put_after}
 use Rattle.hashlink_nodes.specs.Shape.{IsSound, ring_of}
 use Rattle.hashlink_nodes.specs.State.{State, attached, detached, hold, store_next}
@@ -15,10 +15,10 @@ use Rattle.hashlink_nodes.proofs.Moving.{move_after_done, remove_done, entry_now
 use Rattle.hashlink_nodes.proofs.Sound.{Facts, InRing, Leaves, Opened, facts, has_detached, node_of, opened}
 
 module _ {K V : Type 0} (n : Inside K V)
-    (sound : IsSound (state_of n.cells) n.guard n.first_spare n.len n.spare) (v : Ring K V)
-    (view : ring_of (state_of n.cells) n.guard n.first_spare n.len n.spare ≡ v) where
+    (sound : IsSound (state_of n.pool) n.guard n.first_spare n.len n.spare) (v : Ring K V)
+    (view : ring_of (state_of n.pool) n.guard n.first_spare n.len n.spare ≡ v) where
   abbrev s : State K V
-  s = state_of n.cells
+  s = state_of n.pool
 
   pub known : Facts n.len n.spare v
   known = facts s n.guard n.first_spare n.len n.spare sound v view
@@ -31,7 +31,7 @@ module _ {K V : Type 0} (n : Inside K V)
     node_at = node_of s n.guard n.first_spare n.len n.spare sound v view m there
 
     -- the steps of a removal
-    pub removed : (c₁ c₂ c₃ : Cells K V) → state_of c₁ ≡ detached m s → state_of c₂ ≡ hold m None
+    pub removed : (c₁ c₂ c₃ : Pool K V) → state_of c₁ ≡ detached m s → state_of c₂ ≡ hold m None
         (state_of c₁)
         → state_of c₃ ≡ store_next m n.first_spare (state_of c₂)
         → Leaves (state_of c₃) n.guard m (n.len - 1) (n.spare + 1) (remove_entry (same_node m) v.entries)
@@ -59,7 +59,7 @@ module _ {K V : Type 0} (n : Inside K V)
           (others_now s n.guard g n.first_spare n.len n.spare v o m there place is_place))
       after_at = after_steps s n.guard g n.first_spare n.len n.spare v o m there place is_place
 
-      module _ (c₁ c₂ : Cells K V) (p q : Node) (is₁ : state_of c₁ ≡ detached m s)
+      module _ (c₁ c₂ : Pool K V) (p q : Node) (is₁ : state_of c₁ ≡ detached m s)
           (is₂ : state_of c₂ ≡ attached m p q (state_of c₁)) where
         pub moved_before : q ≡ unwrap_or place g → p ≡ (state_of c₁).prev q
             → Moved s n.guard g n.first_spare n.len n.spare v o m there place is_place (state_of c₂)
@@ -76,7 +76,7 @@ module _ {K V : Type 0} (n : Inside K V)
             (state_of c₂) p q is₁ is_p is_q is₂
 
 -- a node that is taken out of the ring keeps its block, and so do all others
-pub has_still : {K V : Type 0} (c c' : Cells K V) (m : Node) → state_of c' ≡ detached m (state_of c) →
+pub has_still : {K V : Type 0} (c c' : Pool K V) (m : Node) → state_of c' ≡ detached m (state_of c) →
     (x : Node)
     → (state_of c').has x ≡ (state_of c).has x
 has_still {K} {V} c c' m is x =

@@ -11,12 +11,12 @@ use Rattle.hashlink_nodes.specs.State.{store_prev, hold, Adds, MakesGuard, Drops
 use Rattle.hashlink_nodes.specs.declared.node.Node.{Node}
 use Rattle.hashlink_nodes.proofs.Paths.{set_at_here, set_at_other}
 use Rattle.hashlink_nodes.specs.declared.held.Held.{Held}
-use Rattle.hashlink_nodes.specs.declared.cells.links.Link.{Link}
-use Rattle.hashlink_nodes.specs.declared.cells.links.Links.{Links}
+use Rattle.hashlink_nodes.specs.declared.pool.links.Link.{Link}
+use Rattle.hashlink_nodes.specs.declared.pool.links.Links.{Links}
 use Rattle.hashlink_nodes.specs.Kept.{Kept, kept, alter, entry_in, with_links, with_pair}
-use Rattle.hashlink_nodes.specs.declared.cells.Cells.{Cells}
-use Rattle.hashlink_nodes.specs.Cells.{state_of}
-use Rattle.hashlink_nodes.specs.CellsLends.{kept_with, cells_with}
+use Rattle.hashlink_nodes.specs.declared.pool.Pool.{Pool}
+use Rattle.hashlink_nodes.specs.Pool.{state_of}
+use Rattle.hashlink_nodes.specs.PoolLends.{kept_with, pool_with}
 use Rattle.hashlink_nodes.specs.Ring.{held, pair_of}
 use Rattle.std.specs.Option.{option_map}
 
@@ -328,16 +328,16 @@ module _ {K V : Type 0} (bs : Blocks K V) (count : ℕ) (n : Node) (p : K × V) 
       ∙ sym (alter_is (same_node n) (kept_with w) bs at.block at.looked)
 
 -- the blocks with another value at a node that holds one
-pub value_anew : {K V : Type 0} (c : Cells K V) (n : Node) (w : V) (p : K × V)
+pub value_anew : {K V : Type 0} (c : Pool K V) (n : Node) (w : V) (p : K × V)
     (at : PairAt c.arena.blocks n p)
-    → state_of (cells_with c n w) ≡ hold n (Some (held at.number p.0 w)) (state_of c)
+    → state_of (pool_with c n w) ≡ hold n (Some (held at.number p.0 w)) (state_of c)
 value_anew {K} {V} c n w p at =
     held_anew c.arena.blocks c.writes.count 0 n at.block at.looked (kept_with w) refl
     (Some (held at.number p.0 w))
     (ap (λ (x : Option (ℕ × (K × V))). held_in (Some (kept_with w (kept at.block.links x)))) at.entry)
 
 -- a node that holds something has a pair
-pub block_found : {K V : Type 0} (c : Cells K V) (n : Node) (h : Held K V) → (state_of c).held n ≡ Some h
+pub block_found : {K V : Type 0} (c : Pool K V) (n : Node) (h : Held K V) → (state_of c).held n ≡ Some h
     → (at : PairAt c.arena.blocks n (pair_of h)) × (held at.number h.key h.value ≡ h)
 block_found {K} {V} c n h e =
     let Of : Option (ℕ × (K × V)) → Option (K × V) = option_map (λ (x : ℕ × (K × V)). x.1) in

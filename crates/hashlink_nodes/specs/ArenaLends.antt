@@ -3,8 +3,8 @@ use Rattle.std.specs.Borrow.{Fml, RattleType, MutBor, Lends}
 use Rattle.hashlink_nodes.specs.Node.{same_node}
 use Rattle.hashlink_nodes.specs.Kept.{Kept, alter, with_links, with_pair}
 use Rattle.hashlink_nodes.specs.declared.node.Node.{Node}
-use Rattle.hashlink_nodes.specs.declared.cells.links.Links.{Links}
-use Rattle.hashlink_nodes.specs.contracts.cells.links.Links as links
+use Rattle.hashlink_nodes.specs.declared.pool.links.Links.{Links}
+use Rattle.hashlink_nodes.specs.contracts.pool.links.Links as links
 use Rattle.hashlink_nodes.specs.declared.arena.Arena.{Arena}
 use Rattle.hashlink_nodes.specs.contracts.arena.Arena.{the_row}
 

@@ -4,8 +4,8 @@ pub mod Kept
 pub mod Ownership
 pub mod ArenaLends
 pub mod State
-pub mod Cells
+pub mod Pool
 pub mod Ring
 pub mod Shape
-pub mod CellsLends
+pub mod PoolLends
 pub mod NodesLends

@@ -15,7 +15,7 @@ use prog.Memory.{size, align, up}
 use denote.RawPtr.{Ptr, lies_at, room_for, ◌+ₚ◌}
 use Rattle.hashlink_nodes.specs.Kept.{Kept, number_word}
 use Rattle.hashlink_nodes.specs.declared.node.Node.{Node}
-use Rattle.hashlink_nodes.specs.contracts.cells.links.Links as links
+use Rattle.hashlink_nodes.specs.contracts.pool.links.Links as links
 
 -- what the members say at every handle alike
 abbrev pub at_every_handle : {token : Ty → Ptr → Fml}

@@ -11,8 +11,8 @@ ghost use Rattle.hashlink_nodes.specs.Ownership.{blocks_own, blocks_lent};
 mod loose;
 
 pub(crate) use self::loose::Loose;
-use crate::cells::Links;
 use crate::node::Node;
+use crate::pool::Links;
 use std::alloc::Global;
 use std::marker::{Model, PhantomData};
 use std::mem::size_of;

@@ -2,11 +2,11 @@
 #![tactic(auto)]
 
 mod arena;
-mod cells;
 mod held;
 mod link_writes;
 mod node;
 mod nodes;
+mod pool;
 
 pub use held::Held;
 pub use node::Node;

@@ -13,15 +13,15 @@ mod moves;
 mod reads;
 mod values;
 
-use crate::cells::Cells;
 use crate::node::Node;
+use crate::pool::Pool;
 use std::alloc::Global;
 use std::marker::Model;
 
 /// Entries in a ring of nodes, and spare nodes, which the next new entries use. Each node is a block of its
 /// own.
 pub struct Nodes<K, V> {
-    cells: Cells<K, V>,
+    pool: Pool<K, V>,
     // It lies apart from `spare`. Side by side both are read by one instruction, which waits where one of
     // them was just written.
     len: usize,
@@ -38,12 +38,12 @@ impl<K, V> Model for Nodes<K, V> {
 
     ghost Value = { Ring K V };
 
-    ghost use Rattle.hashlink_nodes.specs.Cells.{state_of};
+    ghost use Rattle.hashlink_nodes.specs.Pool.{state_of};
     ghost use Rattle.hashlink_nodes.specs.Shape.{ring_of, IsSound};
 
-    ghost view = { λ n. ring_of (state_of n.cells) n.guard n.first_spare n.len n.spare };
+    ghost view = { λ n. ring_of (state_of n.pool) n.guard n.first_spare n.len n.spare };
 
-    ghost invariant = { λ n. IsSound (state_of n.cells) n.guard n.first_spare n.len n.spare };
+    ghost invariant = { λ n. IsSound (state_of n.pool) n.guard n.first_spare n.len n.spare };
 }
 
 impl<K, V> Nodes<K, V> {
@@ -52,7 +52,7 @@ impl<K, V> Nodes<K, V> {
         ensures { result ≡ ring [] [] 0 }
     {
         Nodes {
-            cells: Cells::new(),
+            pool: Pool::new(),
             guard: None,
             first_spare: Node::nowhere(),
             len: 0,
@@ -92,11 +92,11 @@ impl<K, V> Nodes<K, V> {
         }
         let guard = self.guard.unwrap();
         let node = self.first_spare;
-        let first_spare = self.cells.next(node);
-        self.cells.fill(node, number, key, value);
+        let first_spare = self.pool.next(node);
+        self.pool.fill(node, number, key, value);
         let next = place.unwrap_or(guard);
-        let prev = self.cells.prev(next);
-        self.cells.attach(node, prev, next);
+        let prev = self.pool.prev(next);
+        self.pool.attach(node, prev, next);
         self.first_spare = first_spare;
         self.spare -= 1;
         self.len += 1;
@@ -126,17 +126,17 @@ impl<K, V> Nodes<K, V> {
         if self.len >= MOST {
             return Err((key, value));
         }
-        let guard = match self.cells.guard(self.guard, self.alloc) {
+        let guard = match self.pool.guard(self.guard, self.alloc) {
             Ok(guard) => guard,
             Err(_) => return Err((key, value)),
         };
         self.guard = Some(guard);
-        match self.cells.make(self.alloc) {
+        match self.pool.make(self.alloc) {
             Ok(node) => {
-                self.cells.fill(node, number, key, value);
+                self.pool.fill(node, number, key, value);
                 let next = place.unwrap_or(guard);
-                let prev = self.cells.prev(next);
-                self.cells.attach(node, prev, next);
+                let prev = self.pool.prev(next);
+                self.pool.attach(node, prev, next);
                 self.len += 1;
                 Ok(node)
             }
@@ -153,9 +153,9 @@ impl<K, V> Nodes<K, V> {
         ensures free { self.new.free ≡ node ∷ self.old.free }
         ensures link_writes { self.new.link_writes ≡ self.old.link_writes + 3 }
     {
-        self.cells.detach(node);
-        let pair = self.cells.take(node);
-        self.cells.store_next(node, self.first_spare);
+        self.pool.detach(node);
+        let pair = self.pool.take(node);
+        self.pool.store_next(node, self.first_spare);
         self.first_spare = node;
         self.len -= 1;
         self.spare += 1;

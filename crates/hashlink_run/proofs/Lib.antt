@@ -4,6 +4,7 @@ pub mod CursorProgress
 pub mod Kept
 pub mod Moved
 pub mod Wider
+pub mod AnyCommand
 pub mod Answering
 pub mod Called
 pub mod CallLaws

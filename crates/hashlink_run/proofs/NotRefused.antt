@@ -11,14 +11,6 @@ use Rattle.hashlink_model.specs.Entry.{VacantInserts}
 use Rattle.hashlink_model.specs.MapState.{MapState, Inserts}
 use Rattle.hashlink_model.specs.Steps.{Replaces}
 use Rattle.hashlink_run.specs.declared.commands.Command.{Command}
-use Rattle.hashlink_run.specs.declared.commands.Command.TheVariants.{Insert, InsertFront, Replace, Get}
-use Rattle.hashlink_run.specs.declared.commands.Command.TheVariants.{Remove}
-use Rattle.hashlink_run.specs.declared.commands.Command.TheVariants.{RemoveEntry, PopFront, PopBack}
-use Rattle.hashlink_run.specs.declared.commands.Command.TheVariants.{ToFront}
-use Rattle.hashlink_run.specs.declared.commands.Command.TheVariants.{ToBack}
-use Rattle.hashlink_run.specs.declared.commands.Command.TheVariants.{Front, Back, Len, Clear, Shrink}
-use Rattle.hashlink_run.specs.declared.commands.Command.TheVariants.{Keep}
-use Rattle.hashlink_run.specs.declared.commands.Command.TheVariants.{Entry, Cursor}
 use Rattle.hashlink_run.specs.declared.commands.CursorStep.{CursorStep}
 use Rattle.hashlink_run.specs.declared.commands.CursorStep.TheVariants.{Next, Prev, Current, PeekNext}
 use Rattle.hashlink_run.specs.declared.commands.CursorStep.TheVariants.{PeekPrev}
@@ -34,7 +26,7 @@ use Rattle.hashlink_run.specs.EntrySteps.{OccupiedStep, VacantStep, EntrySteps}
 use Rattle.hashlink_run.specs.Run.{Run}
 use Rattle.hashlink_run.specs.Step.{Step}
 
-shrink-taken : (K V B : Type 0) (answer : Result (Unit {0}) AllocError)
+pub shrink-taken : (K V B : Type 0) (answer : Result (Unit {0}) AllocError)
     → is_refused {K = K} {V = V} {B = B} (shrink_reply answer ∷ []) ≡ false
 shrink-taken K V B (Ok done) = refl
 shrink-taken K V B (Err refused) = refl
@@ -94,12 +86,12 @@ module _ {K V B S : Type 0} (eq : K → K → Bool) (Says : K → V → B → Ty
         by (Some j) t = occupied-taken j step t
 
   module _ (old new : MapState K V S) (spare : 1 ≤ old.spare) where
-    inserts-taken : (k : K) (v : V) (b : ℕ) (answer : Result (Option V) (K × V)) (more : List (Reply K V B))
+    pub inserts-taken : (k : K) (v : V) (b : ℕ) (answer : Result (Option V) (K × V)) (more : List (Reply K V B))
         → Inserts eq old new k v b answer → is_refused (insert_reply answer ∷ more) ≡ false
     inserts-taken k v b (Ok w) more s = refl
     inserts-taken k v b (Err pair) more s = let none = s.may_refuse.no_spare in absurd (omega arith)
 
-    replaces-taken : (k : K) (v : V) (answer : Result (Option V) (K × V))
+    pub replaces-taken : (k : K) (v : V) (answer : Result (Option V) (K × V))
         → Replaces eq old new k v answer → is_refused {K = K} {V = V} {B = B} (insert_reply answer ∷ [])
         ≡ false
     replaces-taken k v (Ok w) s = refl
@@ -120,47 +112,8 @@ module _ {K V B S : Type 0} (eq : K → K → Bool) (Says : K → V → B → Ty
       ap (λ rs. is_refused (rs ++ more)) s.2
       ∙ inserts-taken eq Says first old.map new.map spare k v (place_next old) s.0 more s.1.map
 
-  walk-taken : (old new : CursorState K V S) (steps : List (CursorStep K V)) (replies : List (Reply K V B))
+  pub walk-taken : (old new : CursorState K V S) (steps : List (CursorStep K V)) (replies : List (Reply K V B))
       → 1 ≤ old.map.spare → CursorWalks eq Says old steps replies new → is_refused replies ≡ false
   walk-taken old new [] replies spare s = ap is_refused s.0
   walk-taken old new (step ∷ steps) replies spare s =
       ap is_refused s.5 ∙ cursor_step-taken old s.1 step s.0 s.2 spare s.3
-
-  module _ (Keeps : K → V → Bool → Type 0) where
-    map_step-taken : (old new : MapState K V S) (command : Command K V) (replies : List (Reply K V B))
-        → 1 ≤ old.spare → Step eq Says Keeps old command replies new → is_refused replies ≡ false
-    map_step-taken old new (Insert k v) replies spare s =
-        ap is_refused s.2 ∙ inserts-taken eq Says replies old new spare k v _ s.0 [] s.1
-    map_step-taken old new (InsertFront k v) replies spare s =
-        ap is_refused s.2 ∙ inserts-taken eq Says replies old new spare k v 0 s.0 [] s.1
-    map_step-taken old new (Replace k v) replies spare s =
-        ap is_refused s.2 ∙ replaces-taken eq Says replies old new spare k v s.0 s.1
-    map_step-taken old new (Get k) replies spare s = ap is_refused s.1.2
-    map_step-taken old new (Remove k) replies spare s = ap is_refused s.1
-    map_step-taken old new (RemoveEntry k) replies spare s = ap is_refused s.1
-    map_step-taken old new PopFront replies spare s = ap is_refused s.1
-    map_step-taken old new PopBack replies spare s = ap is_refused s.1
-    map_step-taken old new (ToFront k) replies spare s = ap is_refused s.1.2
-    map_step-taken old new (ToBack k) replies spare s = ap is_refused s.1.2
-    map_step-taken old new Front replies spare s = ap is_refused s.1.2
-    map_step-taken old new Back replies spare s = ap is_refused s.1.2
-    map_step-taken old new Len replies spare s = ap is_refused s.1
-    map_step-taken old new Clear replies spare s = ap is_refused s.1
-    map_step-taken old new Shrink replies spare s = ap is_refused s.2 ∙ shrink-taken K V B s.0
-    map_step-taken old new Keep replies spare s = ap is_refused s.1
-    map_step-taken old new (Entry k step) replies spare s = entry-taken eq Says replies old new k spare step s
-    map_step-taken old new (Cursor steps) replies spare s = walk-taken (first_place old) s.0
-        steps.items replies spare s.1
-
-    -- the command at a place
-    pub map_taken_at : (j : ℕ) (old : MapState K V S) (cs : List (Command K V))
-        (xs : List (Answered (Reply K V B) (MapState K V S))) → Run eq Says Keeps old cs xs
-        → 1 ≤ (after old xs j).spare
-        → (b : Answered (Reply K V B) (MapState K V S)) → slice_get xs j ≡ Some b
-        → is_refused b.replies ≡ false
-    map_taken_at j old cs [] r spare b at = cc
-    map_taken_at j old [] (x ∷ xs) r spare b at = absurd r
-    map_taken_at zero old (c ∷ cs) (x ∷ xs) r spare b at =
-        subst (λ y. is_refused y.replies ≡ false) (same_Some _ _ at)
-        (map_step-taken old x.state c x.replies spare r.0)
-    map_taken_at (suc j) old (c ∷ cs) (x ∷ xs) r spare b at = map_taken_at j x.state cs xs r.1 spare b at

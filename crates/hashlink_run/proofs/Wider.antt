@@ -7,14 +7,6 @@ use Rattle.hashlink_model.specs.Entries.{place_of}
 use Rattle.hashlink_model.specs.MapState.{MapState}
 use Rattle.hashlink_model.specs.Walk.{first_of, last_of}
 use Rattle.hashlink_run.specs.declared.commands.Command.{Command}
-use Rattle.hashlink_run.specs.declared.commands.Command.TheVariants.{Insert, InsertFront, Replace, Get}
-use Rattle.hashlink_run.specs.declared.commands.Command.TheVariants.{Remove}
-use Rattle.hashlink_run.specs.declared.commands.Command.TheVariants.{RemoveEntry, PopFront, PopBack}
-use Rattle.hashlink_run.specs.declared.commands.Command.TheVariants.{ToFront}
-use Rattle.hashlink_run.specs.declared.commands.Command.TheVariants.{ToBack}
-use Rattle.hashlink_run.specs.declared.commands.Command.TheVariants.{Front, Back, Len, Clear, Shrink}
-use Rattle.hashlink_run.specs.declared.commands.Command.TheVariants.{Keep}
-use Rattle.hashlink_run.specs.declared.commands.Command.TheVariants.{Entry, Cursor}
 use Rattle.hashlink_run.specs.declared.commands.CursorStep.{CursorStep}
 use Rattle.hashlink_run.specs.declared.commands.CursorStep.TheVariants.{Next, Prev, Current, PeekNext}
 use Rattle.hashlink_run.specs.declared.commands.CursorStep.TheVariants.{PeekPrev}
@@ -26,8 +18,6 @@ use Rattle.hashlink_run.specs.declared.replies.Reply.TheVariants.{Seen, Inserted
 use Rattle.hashlink_run.specs.CursorSteps.{CursorStepped, CursorWalks, CursorSteps, first_place}
 use Rattle.hashlink_run.specs.EntrySteps.{OccupiedStep, VacantStep, EntrySteps}
 use Rattle.hashlink_run.specs.Reads.{SaysOf, Replies, Reads}
-use Rattle.hashlink_run.specs.Step.{Step}
-use Rattle.hashlink_run.proofs.Kept.{keeps_where-wider}
 
 module _ {K V B : Type 0} (P Q : K → V → B → Type 0)
     (wider : (k : K) (v : V) (b : B) → P k v b → Q k v b) where
@@ -113,30 +103,3 @@ module _ {K V B : Type 0} (P Q : K → V → B → Type 0) (wider : (k : K) (v :
   pub cursor-wider : (old new : MapState K V S) (steps : List (CursorStep K V)) (replies : List (Reply K V B))
       → CursorSteps eq P old steps replies new → CursorSteps eq Q old steps replies new
   cursor-wider old new steps replies s = (s.0, walk-wider (first_place old) s.0 steps replies s.1, s.2)
-
--- ---- a command
-
-module _ {K V B : Type 0} (P Q : K → V → B → Type 0) (wider : (k : K) (v : V) (b : B) → P k v b → Q k v b)
-    (Keeps Also : K → V → Bool → Type 0) (also : (k : K) (v : V) (b : Bool) → Keeps k v b → Also k v b)
-    {S : Type 0} (eq : K → K → Bool) (old : MapState K V S) (replies : List (Reply K V B))
-    (new : MapState K V S) where
-  pub step-wider : (command : Command K V) → Step eq P Keeps old command replies new
-      → Step eq Q Also old command replies new
-  step-wider (Insert k v) s = s
-  step-wider (InsertFront k v) s = s
-  step-wider (Replace k v) s = s
-  step-wider (Get k) s = reads-wider P Q wider old replies new Seen (lookup_entry (eq k) old.entries) s
-  step-wider (Remove k) s = s
-  step-wider (RemoveEntry k) s = s
-  step-wider PopFront s = s
-  step-wider PopBack s = s
-  step-wider (ToFront k) s = (s.0, replies-wider P Q wider Seen (lookup_entry (eq k) old.entries) replies s.1)
-  step-wider (ToBack k) s = (s.0, replies-wider P Q wider Seen (lookup_entry (eq k) old.entries) replies s.1)
-  step-wider Front s = reads-wider P Q wider old replies new AtPlace (first_of old.entries) s
-  step-wider Back s = reads-wider P Q wider old replies new AtPlace (last_of old.entries) s
-  step-wider Len s = s
-  step-wider Clear s = s
-  step-wider Shrink s = s
-  step-wider Keep s = (keeps_where-wider Keeps Also also old new s.0, s.1)
-  step-wider (Entry k step) s = entry-wider P Q wider old replies new eq k step s
-  step-wider (Cursor steps) s = cursor-wider P Q wider eq old new steps.items replies s

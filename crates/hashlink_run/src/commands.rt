@@ -1,3 +1,23 @@
+//! One command to a map, and how a map answers it.
+ghost use Rattle.std.specs.Prelude.{◌≡◌, ◌+◌, ◌≤◌, ◌++◌, [], ◌∷◌, List, OnOk, OnErr, IsOk, Some};
+ghost use Rattle.std.specs.Prelude.{length, vec_len, vec_capacity};
+ghost use Rattle.std.specs.Map.{lookup, lookup_entry};
+ghost use Rattle.std.specs.Map.Iter.{deref_pair};
+ghost use Rattle.std.specs.Option.{option_map};
+ghost use Rattle.hashlink_core.specs.Keyed.{entries_of, state_of};
+ghost use Rattle.hashlink_model.specs.Steps.{Moves};
+ghost use Rattle.hashlink_run.specs.Keeps.{IsEntryOf, KeepsWhere};
+ghost use Rattle.hashlink_run.specs.Reads.{CallableAt, CallableOn, ClosureSays, SaysOf};
+ghost use Rattle.hashlink_run.specs.CallReplies.{insert_reply, shrink_reply};
+ghost use Rattle.hashlink_run.specs.Step.{AskedBy, IsNoCursor, ReadBy, Step, reply_count};
+
+use crate::Reply;
+use crate::cursors::walk_cursor;
+use crate::entries::reply_of_entry;
+use hashlink_map::LinkedHashMap;
+use std::alloc::AllocError;
+use std::hash::{BuildHasher, Hash};
+
 /// A call of a map, with its arguments.
 #[derive(Clone, Debug, PartialEq, Eq, Drop)]
 pub enum Command<K, V> {
@@ -83,4 +103,216 @@ pub enum CursorStep<K, V> {
     Before(K, V),
     /// Inserts the pair directly after the cursor's place, with the given value.
     After(K, V),
+}
+
+/// Runs the command on the map and pushes its replies. Of a pair that is read, the reply has what `says`
+/// returns. `keep` chooses the pairs that a keep leaves. Each has to be callable on the pairs that it may
+/// come to be shown. It costs what the method costs that the command names.
+///
+/// Room for all replies to the command is reserved first. If the vector of replies has no room for them and
+/// cannot grow, it returns `AllocError`, the command is dropped, and neither the map nor the vector has
+/// changed.
+pub fn answer_command<K, V, S, B, F, G>(
+    map: &mut LinkedHashMap<K, V, S>,
+    command: Command<K, V>,
+    says: &F,
+    keep: &G,
+    replies: &mut Vec<Reply<K, V, B>>,
+) -> Result<(), AllocError>
+where
+    K: Eq + Hash + Drop,
+    V: Drop,
+    S: BuildHasher,
+    F: Fn(&K, &V) -> B,
+    G: Fn(&K, &V) -> bool,
+    requires says { CallableOn F.Fn says.now
+        (ReadBy K.eq (ClosureSays F.Fn says.now) (state_of map.old) command) }
+    requires keep { CallableOn G.Fn keep.now (AskedBy (state_of map.old) command) }
+    ensures answered { OnOk result ((more : List (Reply K V B))
+        × Step K.eq (ClosureSays F.Fn says.now) (ClosureSays G.Fn keep.now) (state_of map.old) command more
+        (state_of map.new)
+        × (replies.new.items ≡ replies.old.items ++ more)) }
+    ensures count { OnOk result (vec_len replies.new ≡ vec_len replies.old + reply_count command) }
+    ensures refused { OnErr result ((map.new ≡ map.old) × (replies.new.items ≡ replies.old.items)
+        × (vec_capacity replies.new ≡ vec_capacity replies.old)) }
+    ensures room { vec_len replies.old + reply_count command ≤ vec_capacity replies.old → IsOk result }
+    ensures capacity { vec_capacity replies.old ≤ vec_capacity replies.new }
+{
+    replies.reserve(reply_count(&command))?;
+    answer_in_room(map, command, says, keep, replies);
+    Ok(())
+}
+
+// Runs the command on the map and pushes its replies, for which there is room.
+fn answer_in_room<K, V, S, B, F, G>(
+    map: &mut LinkedHashMap<K, V, S>,
+    command: Command<K, V>,
+    says: &F,
+    keep: &G,
+    replies: &mut Vec<Reply<K, V, B>>,
+)
+where
+    K: Eq + Hash + Drop,
+    V: Drop,
+    S: BuildHasher,
+    F: Fn(&K, &V) -> B,
+    G: Fn(&K, &V) -> bool,
+    requires says { CallableOn F.Fn says.now
+        (ReadBy K.eq (ClosureSays F.Fn says.now) (state_of map.old) command) }
+    requires keep { CallableOn G.Fn keep.now (AskedBy (state_of map.old) command) }
+    requires room { vec_len replies.old + reply_count command ≤ vec_capacity replies.old }
+    ensures answered { (more : List (Reply K V B))
+        × Step K.eq (ClosureSays F.Fn says.now) (ClosureSays G.Fn keep.now) (state_of map.old) command more
+        (state_of map.new)
+        × (replies.new.items ≡ replies.old.items ++ more) }
+    ensures count { vec_len replies.new ≡ vec_len replies.old + reply_count command }
+    ensures capacity { vec_capacity replies.new ≡ vec_capacity replies.old }
+{
+    match command {
+        Command::Cursor(steps) => walk_cursor(map, steps, says, replies),
+        command => replies.push_reserved(reply_to(map, command, says, keep)),
+    }
+}
+
+/// Returns the number of replies to the command, in constant time: one, or one for each step of a cursor.
+pub fn reply_count<K, V>(command: &Command<K, V>) -> usize
+    ensures { result ≡ reply_count command.now }
+{
+    match command {
+        Command::Cursor(steps) => steps.len(),
+        _ => 1,
+    }
+}
+
+// Runs the command on the map, which is no cursor's, and returns its reply.
+fn reply_to<K, V, S, B, F, G>(
+    map: &mut LinkedHashMap<K, V, S>,
+    command: Command<K, V>,
+    says: &F,
+    keep: &G,
+) -> Reply<K, V, B>
+where
+    K: Eq + Hash + Drop,
+    V: Drop,
+    S: BuildHasher,
+    F: Fn(&K, &V) -> B,
+    G: Fn(&K, &V) -> bool,
+    requires no_cursor { IsNoCursor command }
+    requires says { CallableOn F.Fn says.now
+        (ReadBy K.eq (ClosureSays F.Fn says.now) (state_of map.old) command) }
+    requires keep { CallableOn G.Fn keep.now (AskedBy (state_of map.old) command) }
+    ensures { Step K.eq (ClosureSays F.Fn says.now) (ClosureSays G.Fn keep.now) (state_of map.old) command
+        (result ∷ []) (state_of map.new) }
+{
+    match command {
+        Command::Insert(key, value) => insert_reply(map.insert(key, value)),
+        Command::InsertFront(key, value) => insert_reply(map.insert_front(key, value)),
+        Command::Replace(key, value) => insert_reply(map.replace(key, value)),
+        Command::Get(key) => Reply::Seen(said_of(map.get_key_value(&key), says)),
+        Command::Remove(key) => Reply::Value(map.remove(&key)),
+        Command::RemoveEntry(key) => Reply::Pair(map.remove_entry(&key)),
+        Command::PopFront => Reply::Pair(map.pop_front()),
+        Command::PopBack => Reply::Pair(map.pop_back()),
+        Command::ToFront(key) => Reply::Seen(to_front(map, &key, says)),
+        Command::ToBack(key) => Reply::Seen(to_back(map, &key, says)),
+        Command::Front => Reply::AtPlace(said_of(map.front(), says)),
+        Command::Back => Reply::AtPlace(said_of(map.back(), says)),
+        Command::Len => Reply::Length(map.len()),
+        Command::Clear => {
+            map.clear();
+            Reply::Done
+        }
+        Command::Shrink => shrink_reply(map.shrink_to_fit()),
+        Command::Keep => {
+            keep_where(map, keep);
+            Reply::Done
+        }
+        Command::Entry(key, step) => reply_of_entry(map, key, step, says),
+        Command::Cursor(_) => unreachable!(),
+    }
+}
+
+// Removes the pairs for which the closure returns false.
+pub(crate) fn keep_where<K, V, S, G>(map: &mut LinkedHashMap<K, V, S>, keep: &G)
+where
+    K: Eq + Hash + Drop,
+    V: Drop,
+    S: BuildHasher,
+    G: Fn(&K, &V) -> bool,
+    requires { CallableOn G.Fn keep.now (IsEntryOf (entries_of map.old)) }
+    ensures { KeepsWhere (ClosureSays G.Fn keep.now) (state_of map.old) (state_of map.new) }
+{
+    map.retain(
+        |key, value|
+            requires { CallableAt G.Fn keep.now key.now value.old }
+            ensures says { ClosureSays G.Fn keep.entry.now key.now value.old result }
+            ensures unchanged { (value.new ≡ value.old) × (keep.exit ≡ keep.entry) }
+        { keep(key, value) },
+    );
+}
+
+/// Returns the reply to an insert that returned `answer`, in constant time.
+pub fn insert_reply<K, V, B>(answer: Result<Option<V>, (K, V)>) -> Reply<K, V, B>
+    ensures { result ≡ insert_reply answer }
+{
+    match answer {
+        Ok(old) => Reply::Value(old),
+        Err((key, value)) => Reply::Refused(key, value),
+    }
+}
+
+// Returns the reply to a shrink that returned `answer`.
+fn shrink_reply<K, V, B>(answer: Result<(), AllocError>) -> Reply<K, V, B>
+    ensures { result ≡ shrink_reply answer }
+{
+    match answer {
+        Ok(()) => Reply::Done,
+        Err(AllocError) => Reply::Denied,
+    }
+}
+
+/// Returns what the closure returns for the pair, if there is one. It calls the closure at most once. The
+/// closure has to be callable on the pair.
+pub fn said_of<K, V, B, F>(pair: Option<(&K, &V)>, says: &F) -> Option<B>
+where
+    F: Fn(&K, &V) -> B,
+    requires { CallableOn F.Fn says.now (λ read. option_map deref_pair pair ≡ Some read) }
+    ensures { SaysOf (ClosureSays F.Fn says.now) (option_map deref_pair pair.entry) result }
+{
+    let (key, value) = pair?;
+    Some(says(key, value))
+}
+
+// Moves the key's pair to the front, and returns what the closure returns for it.
+fn to_front<K, V, S, B, F>(map: &mut LinkedHashMap<K, V, S>, key: &K, says: &F) -> Option<B>
+where
+    K: Eq + Hash,
+    S: BuildHasher,
+    F: Fn(&K, &V) -> B,
+    requires { CallableOn F.Fn says.now
+        (λ pair. lookup_entry (K.eq key.now) (entries_of map.old) ≡ Some pair) }
+    ensures moved { Moves K.eq (state_of map.old) (state_of map.new) key.now 0
+        (lookup (K.eq key.now) (entries_of map.old)) }
+    ensures said { SaysOf (ClosureSays F.Fn says.now)
+        (lookup_entry (K.eq key.now) (entries_of map.old)) result }
+{
+    map.to_front(key)?;
+    said_of(map.front(), says)
+}
+
+// Moves the key's pair to the back, and returns what the closure returns for it.
+fn to_back<K, V, S, B, F>(map: &mut LinkedHashMap<K, V, S>, key: &K, says: &F) -> Option<B>
+where
+    K: Eq + Hash,
+    S: BuildHasher,
+    F: Fn(&K, &V) -> B,
+    requires { CallableOn F.Fn says.now
+        (λ pair. lookup_entry (K.eq key.now) (entries_of map.old) ≡ Some pair) }
+    ensures moved { Moves K.eq (state_of map.old) (state_of map.new) key.now (length (entries_of map.old))
+        (lookup (K.eq key.now) (entries_of map.old)) }
+    ensures said { SaysOf (ClosureSays F.Fn says.now)
+        (lookup_entry (K.eq key.now) (entries_of map.old)) result }
+{
+    map.to_back(key)?;
+    said_of(map.back(), says)
 }

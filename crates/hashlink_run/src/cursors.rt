@@ -6,7 +6,7 @@ ghost use Rattle.hashlink_run.specs.CursorSteps.{CursorStepped, CursorSteps, Rea
 ghost use Rattle.hashlink_run.specs.CursorSteps.{first_place};
 ghost use Rattle.hashlink_run.specs.Reads.{CallableOn, ClosureSays};
 
-use crate::steps::{insert_reply, said_of};
+use crate::commands::{insert_reply, said_of};
 use crate::{CursorStep, Reply};
 use hashlink_map::{CursorMut, LinkedHashMap};
 use std::hash::{BuildHasher, Hash};

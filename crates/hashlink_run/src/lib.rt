@@ -12,16 +12,16 @@ mod entries;
 pub mod laws;
 mod replies;
 mod running;
-mod steps;
 mod weighted_steps;
 
 pub use cache_commands::{CacheCommand, PairCommand, WeightedCommand};
 pub use cache_running::run_cache;
 pub use cache_steps::answer_cache;
 pub use calls::{Pair, Uses, answer_call, run_pair, run_uses};
-pub use commands::{Command, CursorStep, EntryStep};
+pub use commands::{
+    Command, CursorStep, EntryStep, answer_command, insert_reply, reply_count, said_of,
+};
 pub use entries::reply_of_entry;
 pub use replies::Reply;
 pub use running::run;
-pub use steps::{answer_command, insert_reply, reply_count, said_of};
 pub use weighted_steps::answer_weighted;

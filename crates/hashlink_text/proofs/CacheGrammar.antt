@@ -3,8 +3,9 @@ use Rattle.std.proofs.Common.{◌≡◌, ℕ, true, false, nat_le, List, [], ◌
 use Rattle.std.proofs.lemmas.Bool.{cases_Bool}
 use Rattle.hashlink_run.specs.declared.cache_commands.PairCommand.{PairCommand}
 use Rattle.hashlink_run.specs.declared.cache_commands.PairCommand.TheVariants as pair
-use Rattle.hashlink_text.specs.Reading.{read_words, cache_lines, pair_commands, weighted_lines, modes}
-use Rattle.hashlink_text.specs.Spelling.{cache_spelled, pair_spelled, weighted_spelled, mode_spelled}
+use Rattle.hashlink_text.specs.Reading.{read_words}
+use Rattle.hashlink_text.specs.Spelling.{cache_lines, pair_commands, weighted_lines, modes, cache_spelled}
+use Rattle.hashlink_text.specs.Spelling.{pair_spelled, weighted_spelled, mode_spelled}
 use Rattle.hashlink_text.specs.declared.cache_line.CacheLine.{CacheLine}
 use Rattle.hashlink_text.specs.declared.cache_line.CacheLine.TheVariants as cache_line
 use Rattle.hashlink_run.specs.declared.cache_commands.CacheCommand.TheVariants as cache

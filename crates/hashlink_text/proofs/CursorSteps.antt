@@ -3,8 +3,8 @@ use Rattle.std.proofs.Common.{◌≡◌, ℕ, zero, suc, List, [], ◌∷◌, �
 use Rattle.std.proofs.Common.{option_and_then, refl, sym, ap, ◌∙◌, append_assoc}
 use Rattle.std.specs.Option.{option_map}
 use Rattle.hashlink_run.specs.declared.commands.CursorStep.{CursorStep}
-use Rattle.hashlink_text.specs.Reading.{cursor_step_spelled, cursor_steps, numbers_after, read_in}
-use Rattle.hashlink_text.specs.Reading.{steps_after}
+use Rattle.hashlink_text.specs.Reading.{cursor_step_spelled, numbers_after, read_in, steps_after}
+use Rattle.hashlink_text.specs.Spelling.{cursor_steps}
 
 pub steps_after-drop : (n : ℕ) (words : List (List ℕ)) → steps_after n words ≡ steps_after 0 (drop n words)
 steps_after-drop zero [] = refl

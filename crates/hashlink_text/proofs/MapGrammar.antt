@@ -14,11 +14,10 @@ use Rattle.hashlink_run.specs.declared.commands.CursorStep.TheVariants.{Next}
 use Rattle.hashlink_run.specs.declared.commands.EntryStep.{EntryStep}
 use Rattle.hashlink_run.specs.declared.commands.EntryStep.TheVariants as step
 use Rattle.hashlink_text.specs.Lines.{number_of}
-use Rattle.hashlink_text.specs.Reading.{commands, cursor_read, cursor_step_spelled, cursor_steps, entry_read}
-use Rattle.hashlink_text.specs.Reading.{entry_steps, line_read, numbers_after, read_in, read_words}
-use Rattle.hashlink_text.specs.Reading.{some_steps, steps_after}
-use Rattle.hashlink_text.specs.Spelling.{Word, Name, Number, word_shown, FitsWord, Said, Do, Cursor}
-use Rattle.hashlink_text.specs.Spelling.{spelled, step_spelled, cursor_step_words}
+use Rattle.hashlink_text.specs.Reading.{cursor_read, cursor_step_spelled, entry_read, line_read}
+use Rattle.hashlink_text.specs.Reading.{numbers_after, read_in, read_words, some_steps, steps_after}
+use Rattle.hashlink_text.specs.Spelling.{commands, cursor_steps, entry_steps, Word, Name, Number, word_shown}
+use Rattle.hashlink_text.specs.Spelling.{FitsWord, Said, Do, Cursor, spelled, step_spelled, cursor_step_words}
 use Rattle.hashlink_text.proofs.Grammar.{AllNamed, IsFound, IsReader, SpelledAs, reads_names, chosen}
 use Rattle.hashlink_text.proofs.Grammar.{step_some, map_some, number_of-spelled, number_of-decimal, shown}
 use Rattle.hashlink_text.proofs.Grammar.{has_no_space, spaces_apart, read_in-spelled, read_back_by}

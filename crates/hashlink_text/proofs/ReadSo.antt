@@ -2,8 +2,8 @@
 use Rattle.std.proofs.Common.{ℕ, List, ◌∷◌, subst}
 use Rattle.hashlink_model.specs.MapState.{MapState}
 use Rattle.hashlink_text.specs.Lines.{words_of}
-use Rattle.hashlink_text.specs.Reading.{line_read, modes, read_words}
-use Rattle.hashlink_text.specs.Spelling.{mode_spelled, spelled}
+use Rattle.hashlink_text.specs.Reading.{line_read, read_words}
+use Rattle.hashlink_text.specs.Spelling.{modes, mode_spelled, spelled}
 use Rattle.hashlink_text.specs.Text.{LinesRun, ModeRun}
 use Rattle.hashlink_text.specs.Transcript.{LineShows, Shows}
 use Rattle.hashlink_text.proofs.CacheGrammar.{reads_mode}

@@ -2,34 +2,16 @@
 -- functions below those that read a line say this; what a line says is in `Spelling`.
 use Rattle.std.specs.Prelude.{ℕ, zero, suc, ◌||◌, List, [], ◌∷◌, take, map, Option, None, Some}
 use Rattle.std.specs.Prelude.{option_and_then}
-use Rattle.std.specs.Prelude.{if◌then◌else◌, codes, nat_le}
+use Rattle.std.specs.Prelude.{if◌then◌else◌, codes}
 use Rattle.std.specs.Map.{lookup}
 use Rattle.std.specs.Option.{option_map}
 use Rattle.std.specs.Str.{bytes_eq}
-use Rattle.hashlink_run.specs.declared.cache_commands.CacheCommand.TheVariants as cache
-use Rattle.hashlink_run.specs.declared.cache_commands.PairCommand.{PairCommand}
-use Rattle.hashlink_run.specs.declared.cache_commands.PairCommand.TheVariants as pair
-use Rattle.hashlink_run.specs.declared.cache_commands.WeightedCommand.TheVariants as weighted
-use Rattle.hashlink_run.specs.declared.commands.Command.TheVariants.{Insert, InsertFront, Replace, Get}
-use Rattle.hashlink_run.specs.declared.commands.Command.TheVariants.{Remove, PopFront, PopBack, ToFront}
-use Rattle.hashlink_run.specs.declared.commands.Command.TheVariants.{ToBack}
-use Rattle.hashlink_run.specs.declared.commands.Command.TheVariants.{Front, Back, Len, Clear, Shrink, Keep}
 use Rattle.hashlink_run.specs.declared.commands.Command.TheVariants.{Entry}
 use Rattle.hashlink_run.specs.declared.commands.CursorStep.{CursorStep}
-use Rattle.hashlink_run.specs.declared.commands.CursorStep.TheVariants.{Next, Prev, Current, PeekNext}
-use Rattle.hashlink_run.specs.declared.commands.CursorStep.TheVariants.{PeekPrev, Before, After}
-use Rattle.hashlink_run.specs.declared.commands.EntryStep.{EntryStep}
-use Rattle.hashlink_run.specs.declared.commands.EntryStep.TheVariants as step
 use Rattle.hashlink_text.specs.Lines.{number_of}
-use Rattle.hashlink_text.specs.Spelling.{Word, Name, Number, Said, Do, Cursor, Iter, spelled, step_spelled}
-use Rattle.hashlink_text.specs.Spelling.{cursor_step_words}
+use Rattle.hashlink_text.specs.Spelling.{Word, Name, Number, Said, Do, Cursor, spelled, commands, step_spelled}
+use Rattle.hashlink_text.specs.Spelling.{entry_steps, cursor_step_words, cursor_steps}
 use Rattle.hashlink_text.specs.Tables.{numbers_of}
-use Rattle.hashlink_text.specs.declared.cache_line.CacheLine.{CacheLine}
-use Rattle.hashlink_text.specs.declared.cache_line.CacheLine.TheVariants as cache_line
-use Rattle.hashlink_text.specs.declared.modes.Mode.{Mode}
-use Rattle.hashlink_text.specs.declared.modes.Mode.TheVariants as mode
-use Rattle.hashlink_text.specs.declared.weighted_line.WeightedLine.{WeightedLine}
-use Rattle.hashlink_text.specs.declared.weighted_line.WeightedLine.TheVariants as weighted_line
 
 -- the name that the words begin with
 abbrev pub first_name : Option (List Word) → List ℕ
@@ -53,20 +35,7 @@ module _ {X : Type 0} (spell : X → Option (List Word)) (among : List ℕ → L
   read_words [] = None
   read_words (name ∷ words) = read_in name words
 
--- ---- lines to a map
-
-abbrev pub commands : List ℕ → List Said
-commands [] =
-    Do PopFront ∷ Do PopBack ∷ Do Front ∷ Do Back ∷ Do Len ∷ Do Clear ∷ Do Shrink ∷ Do Keep ∷ Iter ∷ []
-commands (k ∷ []) = Do (Get k) ∷ Do (Remove k) ∷ Do (ToFront k) ∷ Do (ToBack k) ∷ []
-commands (k ∷ v ∷ []) = Do (Insert k v) ∷ Do (InsertFront k v) ∷ Do (Replace k v) ∷ []
-commands (k ∷ v ∷ n ∷ ns) = []
-
--- what is done at a key's place
-abbrev pub entry_steps : List ℕ → List (EntryStep ℕ)
-entry_steps [] = step.Get ∷ step.ToFront ∷ step.ToBack ∷ step.Remove ∷ []
-entry_steps (v ∷ []) = step.OrInsert v ∷ step.Insert v ∷ step.InsertEntry v ∷ step.ReplaceEntry v ∷ []
-entry_steps (v ∷ n ∷ ns) = []
+-- ---- lines to a map, with the steps of an entry and of a cursor
 
 -- a key, a name and the numbers after it
 abbrev pub entry_read : List (List ℕ) → Option Said
@@ -74,13 +43,6 @@ entry_read [] = None
 entry_read (key ∷ words) =
     option_and_then (λ k. option_map (λ s. Do (Entry k s)) (read_words step_spelled entry_steps words))
     (number_of key)
-
--- a cursor's steps
-abbrev pub cursor_steps : List ℕ → List (CursorStep ℕ ℕ)
-cursor_steps [] = Next ∷ Prev ∷ Current ∷ PeekNext ∷ PeekPrev ∷ []
-cursor_steps (k ∷ []) = []
-cursor_steps (k ∷ v ∷ []) = Before k v ∷ After k v ∷ []
-cursor_steps (k ∷ v ∷ n ∷ ns) = []
 
 abbrev pub cursor_step_spelled : CursorStep ℕ ℕ → Option (List Word)
 cursor_step_spelled step = Some (cursor_step_words step)
@@ -111,35 +73,3 @@ line_read (name ∷ words) =
     if bytes_eq name (codes "entry") then entry_read words
     else if bytes_eq name (codes "cursor") then cursor_read words
     else read_in spelled commands name words
-
--- ---- lines to caches, and the first line
-
-abbrev pub cache_lines : List ℕ → List CacheLine
-cache_lines [] =
-    cache_line.Do cache.Clear ∷ cache_line.Do cache.RemoveLru ∷ cache_line.Len ∷ cache_line.Iter ∷ []
-cache_lines (n ∷ []) =
-    cache_line.Do (cache.SetCapacity n) ∷ cache_line.Do (cache.Get n) ∷ cache_line.Do (cache.Peek n)
-    ∷ cache_line.Do (cache.Remove n) ∷ []
-cache_lines (k ∷ v ∷ []) = cache_line.Do (cache.Insert k v) ∷ cache_line.Do (cache.Use k v) ∷ []
-cache_lines (k ∷ v ∷ n ∷ ns) = []
-
-abbrev pub pair_commands : List ℕ → List (PairCommand ℕ ℕ)
-pair_commands [] = []
-pair_commands (k ∷ []) = pair.Remove k ∷ pair.Peek k ∷ []
-pair_commands (k ∷ v ∷ []) = pair.Insert k v ∷ pair.Use k v ∷ []
-pair_commands (k ∷ v ∷ n ∷ ns) = []
-
-abbrev pub weighted_lines : List ℕ → List WeightedLine
-weighted_lines [] = weighted_line.Total ∷ weighted_line.Len ∷ weighted_line.Iter ∷ []
-weighted_lines (k ∷ []) =
-    weighted_line.Do (weighted.Get k) ∷ weighted_line.Do (weighted.Peek k)
-    ∷ weighted_line.Do (weighted.Remove k) ∷ []
-weighted_lines (k ∷ v ∷ []) = []
-weighted_lines (k ∷ v ∷ w ∷ []) = weighted_line.Do (weighted.Insert k v w) ∷ []
-weighted_lines (k ∷ v ∷ w ∷ n ∷ ns) = []
-
-abbrev pub modes : List ℕ → List Mode
-modes [] = mode.Map ∷ []
-modes (n ∷ []) = mode.Cache n ∷ mode.Weighted n ∷ []
-modes (c ∷ d ∷ []) = if nat_le c d then mode.Pair c d ∷ [] else []
-modes (c ∷ d ∷ n ∷ ns) = []

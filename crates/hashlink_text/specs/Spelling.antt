@@ -1,4 +1,5 @@
--- How what a line says is spelled. What a text says is the one whose spelling it is.
+-- How what a line says is spelled. What a text says is the one whose spelling it is. After each spelling comes what
+-- is said with so many numbers, among which those who read a line look for its first word.
 use Rattle.std.specs.Prelude.{◌≡◌, ◌↔◌, ℕ, ◌^◌, ◌<◌, List, [], ◌∷◌, map, codes, decimal, Option, None, Some}
 use Rattle.std.specs.Prelude.{nat_le, if◌then◌else◌}
 use Rattle.std.specs.Option.{option_map}
@@ -95,6 +96,11 @@ step_spelled step.ToBack = named (codes "to_back") []
 step_spelled step.Remove = named (codes "remove") []
 step_spelled step.RemoveEntry = None
 
+abbrev pub entry_steps : List ℕ → List (EntryStep ℕ)
+entry_steps [] = step.Get ∷ step.ToFront ∷ step.ToBack ∷ step.Remove ∷ []
+entry_steps (v ∷ []) = step.OrInsert v ∷ step.Insert v ∷ step.InsertEntry v ∷ step.ReplaceEntry v ∷ []
+entry_steps (v ∷ n ∷ ns) = []
+
 -- the words of a cursor's step
 abbrev pub cursor_step_words : CursorStep ℕ ℕ → List Word
 cursor_step_words Next = named_words (codes "next") []
@@ -104,6 +110,12 @@ cursor_step_words PeekNext = named_words (codes "peek_next") []
 cursor_step_words PeekPrev = named_words (codes "peek_prev") []
 cursor_step_words (Before k v) = named_words (codes "before") (k ∷ v ∷ [])
 cursor_step_words (After k v) = named_words (codes "after") (k ∷ v ∷ [])
+
+abbrev pub cursor_steps : List ℕ → List (CursorStep ℕ ℕ)
+cursor_steps [] = Next ∷ Prev ∷ Current ∷ PeekNext ∷ PeekPrev ∷ []
+cursor_steps (k ∷ []) = []
+cursor_steps (k ∷ v ∷ []) = Before k v ∷ After k v ∷ []
+cursor_steps (k ∷ v ∷ n ∷ ns) = []
 
 -- the words of the line that says it. None say that a pair is taken out whole, and a cursor's steps are said
 -- as their list, of which there is one at least
@@ -130,6 +142,13 @@ spelled (Cursor []) = None
 spelled (Cursor (step ∷ steps)) = Some (Name (codes "cursor") ∷ flat_map cursor_step_words (step ∷ steps))
 spelled Iter = named (codes "iter") []
 
+abbrev pub commands : List ℕ → List Said
+commands [] =
+    Do PopFront ∷ Do PopBack ∷ Do Front ∷ Do Back ∷ Do Len ∷ Do Clear ∷ Do Shrink ∷ Do Keep ∷ Iter ∷ []
+commands (k ∷ []) = Do (Get k) ∷ Do (Remove k) ∷ Do (ToFront k) ∷ Do (ToBack k) ∷ []
+commands (k ∷ v ∷ []) = Do (Insert k v) ∷ Do (InsertFront k v) ∷ Do (Replace k v) ∷ []
+commands (k ∷ v ∷ n ∷ ns) = []
+
 -- ---- lines to a cache
 
 abbrev pub cache_spelled : CacheLine → Option (List Word)
@@ -145,6 +164,15 @@ cache_spelled (cache_line.Do cache.RemoveLru) = named (codes "remove_lru") []
 cache_spelled cache_line.Len = named (codes "len") []
 cache_spelled cache_line.Iter = named (codes "iter") []
 
+abbrev pub cache_lines : List ℕ → List CacheLine
+cache_lines [] =
+    cache_line.Do cache.Clear ∷ cache_line.Do cache.RemoveLru ∷ cache_line.Len ∷ cache_line.Iter ∷ []
+cache_lines (n ∷ []) =
+    cache_line.Do (cache.SetCapacity n) ∷ cache_line.Do (cache.Get n) ∷ cache_line.Do (cache.Peek n)
+    ∷ cache_line.Do (cache.Remove n) ∷ []
+cache_lines (k ∷ v ∷ []) = cache_line.Do (cache.Insert k v) ∷ cache_line.Do (cache.Use k v) ∷ []
+cache_lines (k ∷ v ∷ n ∷ ns) = []
+
 -- ---- lines to two caches
 
 abbrev pub pair_spelled : PairCommand ℕ ℕ → Option (List Word)
@@ -152,6 +180,12 @@ pair_spelled (pair.Insert k v) = named (codes "insert") (k ∷ v ∷ [])
 pair_spelled (pair.Use k v) = named (codes "use") (k ∷ v ∷ [])
 pair_spelled (pair.Remove k) = named (codes "remove") (k ∷ [])
 pair_spelled (pair.Peek k) = named (codes "peek") (k ∷ [])
+
+abbrev pub pair_commands : List ℕ → List (PairCommand ℕ ℕ)
+pair_commands [] = []
+pair_commands (k ∷ []) = pair.Remove k ∷ pair.Peek k ∷ []
+pair_commands (k ∷ v ∷ []) = pair.Insert k v ∷ pair.Use k v ∷ []
+pair_commands (k ∷ v ∷ n ∷ ns) = []
 
 -- ---- lines to a cache with a budget
 
@@ -164,6 +198,15 @@ weighted_spelled weighted_line.Total = named (codes "total") []
 weighted_spelled weighted_line.Len = named (codes "len") []
 weighted_spelled weighted_line.Iter = named (codes "iter") []
 
+abbrev pub weighted_lines : List ℕ → List WeightedLine
+weighted_lines [] = weighted_line.Total ∷ weighted_line.Len ∷ weighted_line.Iter ∷ []
+weighted_lines (k ∷ []) =
+    weighted_line.Do (weighted.Get k) ∷ weighted_line.Do (weighted.Peek k)
+    ∷ weighted_line.Do (weighted.Remove k) ∷ []
+weighted_lines (k ∷ v ∷ []) = []
+weighted_lines (k ∷ v ∷ w ∷ []) = weighted_line.Do (weighted.Insert k v w) ∷ []
+weighted_lines (k ∷ v ∷ w ∷ n ∷ ns) = []
+
 -- ---- the first line
 
 -- of two caches the first is the smaller one
@@ -172,3 +215,9 @@ mode_spelled mode.Map = named (codes "map") []
 mode_spelled (mode.Cache c) = named (codes "cache") (c ∷ [])
 mode_spelled (mode.Pair c d) = if nat_le c d then named (codes "pair") (c ∷ d ∷ []) else None
 mode_spelled (mode.Weighted b) = named (codes "weighted") (b ∷ [])
+
+abbrev pub modes : List ℕ → List Mode
+modes [] = mode.Map ∷ []
+modes (n ∷ []) = mode.Cache n ∷ mode.Weighted n ∷ []
+modes (c ∷ d ∷ []) = if nat_le c d then mode.Pair c d ∷ [] else []
+modes (c ∷ d ∷ n ∷ ns) = []

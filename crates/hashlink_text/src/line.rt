@@ -4,10 +4,10 @@ ghost use Rattle.std.specs.Option.{option_map};
 ghost use Rattle.std.specs.Str.{bytes_eq};
 ghost use Rattle.hashlink_text.specs.Cuts.{parts_left};
 ghost use Rattle.hashlink_text.specs.Lines.{words_of};
-ghost use Rattle.hashlink_text.specs.Reading.{by_name, commands, cursor_read, cursor_step_spelled};
-ghost use Rattle.hashlink_text.specs.Reading.{cursor_steps, entry_read, entry_steps, line_read};
-ghost use Rattle.hashlink_text.specs.Reading.{numbers_after, read_in};
-ghost use Rattle.hashlink_text.specs.Spelling.{said, spelled, step_spelled};
+ghost use Rattle.hashlink_text.specs.Reading.{by_name, cursor_read, cursor_step_spelled, entry_read};
+ghost use Rattle.hashlink_text.specs.Reading.{line_read, numbers_after, read_in};
+ghost use Rattle.hashlink_text.specs.Spelling.{commands, cursor_steps, entry_steps, said, spelled};
+ghost use Rattle.hashlink_text.specs.Spelling.{step_spelled};
 
 use crate::numbers::{Numbers, number, read_numbers};
 use crate::tables::said_by;

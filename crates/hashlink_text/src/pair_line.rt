@@ -2,8 +2,8 @@ ghost use Rattle.std.specs.Prelude.{◌≡◌, [], ◌∷◌};
 ghost use Rattle.std.specs.Map.{lookup};
 ghost use Rattle.std.specs.Str.{bytes_eq};
 ghost use Rattle.hashlink_text.specs.Lines.{words_of};
-ghost use Rattle.hashlink_text.specs.Reading.{by_name, pair_commands, read_words};
-ghost use Rattle.hashlink_text.specs.Spelling.{Says, pair_spelled};
+ghost use Rattle.hashlink_text.specs.Reading.{by_name, read_words};
+ghost use Rattle.hashlink_text.specs.Spelling.{pair_commands, Says, pair_spelled};
 
 use crate::numbers::{Numbers, read_numbers};
 use crate::tables::said_by;

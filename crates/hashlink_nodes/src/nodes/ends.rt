@@ -24,8 +24,8 @@ impl<K, V> Nodes<K, V> {
         ensures link_writes { self.new.link_writes ≡ self.old.link_writes }
     {
         let node = self.first_spare;
-        let first_spare = self.cells.next(node);
-        self.cells.give_back(node, self.alloc);
+        let first_spare = self.pool.next(node);
+        self.pool.give_back(node, self.alloc);
         self.first_spare = first_spare;
         self.spare -= 1;
     }
@@ -55,11 +55,11 @@ impl<K, V> Nodes<K, V> {
             Some(guard) => guard,
             None => unreachable!(),
         };
-        let node = self.cells.prev(guard);
-        self.cells.detach(node);
-        let number = self.cells.number(node);
-        let (key, value) = self.cells.take(node);
-        self.cells.give_back(node, self.alloc);
+        let node = self.pool.prev(guard);
+        self.pool.detach(node);
+        let number = self.pool.number(node);
+        let (key, value) = self.pool.take(node);
+        self.pool.give_back(node, self.alloc);
         self.len -= 1;
         Held { number, key, value }
     }
@@ -70,7 +70,7 @@ impl<K, V> Nodes<K, V> {
         requires free { self.free ≡ [] }
     {
         let Nodes {
-            mut cells,
+            mut pool,
             guard,
             first_spare: _,
             len: _,
@@ -78,10 +78,10 @@ impl<K, V> Nodes<K, V> {
             alloc,
         } = self;
         if let Some(guard) = guard {
-            cells.give_back(guard, alloc);
-            cells.end();
+            pool.give_back(guard, alloc);
+            pool.end();
         } else {
-            cells.end();
+            pool.end();
         }
     }
 }

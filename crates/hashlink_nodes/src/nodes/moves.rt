@@ -17,10 +17,10 @@ impl<K, V> Nodes<K, V> {
         ensures link_writes { self.new.link_writes ≡ self.old.link_writes + 6 }
     {
         let guard = self.guard.unwrap();
-        self.cells.detach(node);
+        self.pool.detach(node);
         let next = place.unwrap_or(guard);
-        let prev = self.cells.prev(next);
-        self.cells.attach(node, prev, next);
+        let prev = self.pool.prev(next);
+        self.pool.attach(node, prev, next);
     }
 
     /// Moves the node's entry directly after another place. It stores six links.
@@ -32,9 +32,9 @@ impl<K, V> Nodes<K, V> {
         ensures link_writes { self.new.link_writes ≡ self.old.link_writes + 6 }
     {
         let guard = self.guard.unwrap();
-        self.cells.detach(node);
+        self.pool.detach(node);
         let before = place.unwrap_or(guard);
-        let after = self.cells.next(before);
-        self.cells.attach(node, before, after);
+        let after = self.pool.next(before);
+        self.pool.attach(node, before, after);
     }
 }

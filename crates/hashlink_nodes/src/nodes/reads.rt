@@ -37,8 +37,8 @@ impl<K, V> Nodes<K, V> {
         ensures apart { IsDistinct same_node (keys_of self.now.entries ++ self.now.free) }
     {
         let guard = self.guard?;
-        let next = self.cells.next(place.unwrap_or(guard));
-        self.cells.is_full(next).then_some(next)
+        let next = self.pool.next(place.unwrap_or(guard));
+        self.pool.is_full(next).then_some(next)
     }
 
     /// Returns the place before a place: before the guard comes the last node, and before the first node the
@@ -50,8 +50,8 @@ impl<K, V> Nodes<K, V> {
         ensures apart { IsDistinct same_node (keys_of self.now.entries ++ self.now.free) }
     {
         let guard = self.guard?;
-        let prev = self.cells.prev(place.unwrap_or(guard));
-        self.cells.is_full(prev).then_some(prev)
+        let prev = self.pool.prev(place.unwrap_or(guard));
+        self.pool.is_full(prev).then_some(prev)
     }
 
     /// Returns the node after this one. After the last it returns the guard's, of which nothing is said: it
@@ -62,7 +62,7 @@ impl<K, V> Nodes<K, V> {
         ensures next { IfSome (next_place (keys_of self.now.entries) (Some node)) (λ next. result ≡ next) }
         ensures apart { IsDistinct same_node (keys_of self.now.entries ++ self.now.free) }
     {
-        self.cells.next(node)
+        self.pool.next(node)
     }
 
     /// Returns the node before this one. Before the first it returns the guard's, of which nothing is said.
@@ -72,7 +72,7 @@ impl<K, V> Nodes<K, V> {
         ensures prev { IfSome (prev_place (keys_of self.now.entries) (Some node)) (λ prev. result ≡ prev) }
         ensures apart { IsDistinct same_node (keys_of self.now.entries ++ self.now.free) }
     {
-        self.cells.prev(node)
+        self.pool.prev(node)
     }
 
     /// Returns the node's key and value.
@@ -82,7 +82,7 @@ impl<K, V> Nodes<K, V> {
         ensures { option_map pair_of (lookup (same_node node) self.now.entries) ≡ Some
             (result.0.now, result.1.now) }
     {
-        self.cells.pair(node)
+        self.pool.pair(node)
     }
 
     /// Returns the number that the owner gave the node's entry.
@@ -91,6 +91,6 @@ impl<K, V> Nodes<K, V> {
         requires { Holds self.now.entries node }
         ensures { option_map (λ h. h.number) (lookup (same_node node) self.now.entries) ≡ Some result }
     {
-        self.cells.number(node)
+        self.pool.number(node)
     }
 }

@@ -21,7 +21,7 @@ impl<K, V> Nodes<K, V> {
         ensures free { self.new.free ≡ self.old.free }
         ensures link_writes { self.new.link_writes ≡ self.old.link_writes }
     {
-        self.cells.set_number(node, number);
+        self.pool.set_number(node, number);
     }
 
     /// Replaces the value of the node's entry, and returns the old one.
@@ -33,7 +33,7 @@ impl<K, V> Nodes<K, V> {
         ensures free { self.new.free ≡ self.old.free }
         ensures link_writes { self.new.link_writes ≡ self.old.link_writes }
     {
-        self.cells.replace_value(node, value)
+        self.pool.replace_value(node, value)
     }
 
     /// Replaces the key of the node's entry, and returns the old one.
@@ -45,7 +45,7 @@ impl<K, V> Nodes<K, V> {
         ensures free { self.new.free ≡ self.old.free }
         ensures link_writes { self.new.link_writes ≡ self.old.link_writes }
     {
-        self.cells.replace_key(node, key)
+        self.pool.replace_key(node, key)
     }
 
     /// Returns the key of the node's entry and a mutable reference to its value.
@@ -56,6 +56,6 @@ impl<K, V> Nodes<K, V> {
         ensures pair { option_map pair_of (lookup (same_node node) self.old.entries)
             ≡ Some (result.0.now, result.1.now) }
     {
-        self.cells.entry_mut(node)
+        self.pool.entry_mut(node)
     }
 }

@@ -11,7 +11,7 @@ use Rattle.hashlink_nodes.proofs.Walks.{ptr_val, in_a_block, types_at, plain, pa
 use Rattle.hashlink_nodes.proofs.Walks.{heard, lent_at, Stays, stay_dropped, walk_of, Goes-dropped, after}
 use Rattle.hashlink_nodes.proofs.Walks.{word, word-Good, proved_at, leaves, option_map}
 use Rattle.hashlink_nodes.specs.Kept.{Kept}
-use Rattle.hashlink_nodes.specs.declared.cells.links.Links.{Links as LinksOf}
+use Rattle.hashlink_nodes.specs.declared.pool.links.Links.{Links as LinksOf}
 use Rattle.hashlink_nodes.specs.Ownership.{Links, block_lent, links_of, links_offset}
 use Rattle.hashlink_nodes.specs.Node.{same_node}
 use Rattle.hashlink_nodes.specs.contracts.arena.Arena.{the_row}

@@ -20,7 +20,7 @@ use Rattle.hashlink_nodes.specs.Ownership.{number_of, links_of, links_offset, Li
 use Rattle.hashlink_nodes.specs.Node.{same_node}
 use Rattle.hashlink_nodes.specs.ArenaLends.{altered}
 use Rattle.hashlink_nodes.specs.Kept.{Kept, alter, with_links, number_word}
-use Rattle.hashlink_nodes.specs.declared.cells.links.Links.{Links as LinksOf}
+use Rattle.hashlink_nodes.specs.declared.pool.links.Links.{Links as LinksOf}
 use Rattle.hashlink_nodes.specs.declared.node.Node.{Node}
 use Rattle.hashlink_nodes.specs.declared.arena.Arena.{Arena}
 use Rattle.hashlink_nodes.specs.contracts.arena.Arena.{the_row}

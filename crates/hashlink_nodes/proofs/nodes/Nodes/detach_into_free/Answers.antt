@@ -3,7 +3,7 @@ use Rattle.std.specs.Option.{option_map}
 use Rattle.std.specs.Prelude.{is_some}
 use Rattle.std.specs.Map.{lookup}
 use Rattle.hashlink_nodes.specs.Node.{same_node}
-use Rattle.hashlink_nodes.specs.Cells.{state_of}
+use Rattle.hashlink_nodes.specs.Pool.{state_of}
 use Rattle.hashlink_nodes.specs.State.{State}
 use Rattle.hashlink_nodes.specs.Ring.{Ring, Held, pair_of}
 use Rattle.hashlink_nodes.proofs.Sound.{held_detached, has_held}
@@ -35,7 +35,7 @@ holds g c =
     c.requires in (
       at.value,
       ap (λ (s : S). s.held c.args.node) c.detach.ensures
-          ∙ ap (λ f. f c.args.node) (held_detached (state_of c.self.inside.cells) c.args.node) ∙ at.holds,
+          ∙ ap (λ f. f c.args.node) (held_detached (state_of c.self.inside.pool) c.args.node) ∙ at.holds,
       ap (λ (r : R). lookup (same_node c.args.node) r.entries) (sym c.self.view_is) ∙ at.looked,
     )
 
@@ -46,7 +46,7 @@ pub store_next-requires : goal.store_next-requires
 store_next-requires g c =
     let S : Type 0 = State g.row.K.Denot g.row.V.Denot in ap (λ (s : S). s.has c.args.node)
     c.take-pair.ensures.is ∙ ap (λ f. f c.args.node) (has_held (state_of c.detach.new.self) c.args.node None)
-    ∙ (has_still c.self.inside.cells c.detach.new.self c.args.node c.detach.ensures c.args.node ∙ (node_at
+    ∙ (has_still c.self.inside.pool c.detach.new.self c.args.node c.detach.ensures c.args.node ∙ (node_at
     c.self.inside c.self.invariant c.args.self.now c.self.view_is c.args.node c.requires).has_node)
 
 pub overflow_sub-self : goal.overflow_sub-self
@@ -91,7 +91,7 @@ returns-clause-free g c =
 
 pub returns-clause-link_writes : goal.returns-clause-link_writes
 returns-clause-link_writes g c =
-    let R : Type 0 = Ring g.row.K.Denot g.row.V.Denot in remove_writes (state_of c.self.inside.cells)
+    let R : Type 0 = Ring g.row.K.Denot g.row.V.Denot in remove_writes (state_of c.self.inside.pool)
     (state_of c.detach.new.self) (state_of c.take-pair.new.self) (state_of c.store_next.new.self) c.args.node
     c.self.inside.first_spare c.args.self.now.link_writes (ap (λ (r : R). r.link_writes) c.self.view_is)
     c.detach.ensures c.take-pair.ensures.is c.store_next.ensures

@@ -8,13 +8,13 @@ use Rattle.hashlink_nodes.proofs.nodes.Nodes.entry_mut.Goals as goal
 pub entry_mut-requires : goal.entry_mut-requires
 entry_mut-requires g c =
     ap is_some
-    (lent-from c.self.inside.cells c.self.inside.guard c.self.inside.first_spare c.self.inside.len
+    (lent-from c.self.inside.pool c.self.inside.guard c.self.inside.first_spare c.self.inside.len
     c.self.inside.spare
     c.self.invariant c.args.self.now c.self.view_is c.args.node c.requires).holds
 
 pub invariant_of-self-lent : goal.invariant_of-self-lent
 invariant_of-self-lent g c =
-    lent-sound c.self.inside.cells c.self.inside.guard c.self.inside.first_spare c.self.inside.len
+    lent-sound c.self.inside.pool c.self.inside.guard c.self.inside.first_spare c.self.inside.len
     c.self.inside.spare
     c.self.invariant c.args.self.now c.self.view_is c.args.node c.requires
 
@@ -22,7 +22,7 @@ pub returns : goal.returns
 returns g c = (
   (
     refl,
-    lent-ring c.self.inside.cells c.self.inside.guard c.self.inside.first_spare c.self.inside.len
+    lent-ring c.self.inside.pool c.self.inside.guard c.self.inside.first_spare c.self.inside.len
         c.self.inside.spare c.self.invariant c.args.self.now c.self.view_is c.args.node c.requires,
   ),
   record {
@@ -30,10 +30,10 @@ returns g c = (
     pair =
         let H : Type 0 = Held g.row.K.Denot g.row.V.Denot in
         ap (option_map (λ (h : H). pair_of h))
-        (lent-looked c.self.inside.cells c.self.inside.guard c.self.inside.first_spare c.self.inside.len
+        (lent-looked c.self.inside.pool c.self.inside.guard c.self.inside.first_spare c.self.inside.len
         c.self.inside.spare c.self.invariant c.args.self.now c.self.view_is c.args.node c.requires
         ∙ sym
-        (lent-from c.self.inside.cells c.self.inside.guard c.self.inside.first_spare c.self.inside.len
+        (lent-from c.self.inside.pool c.self.inside.guard c.self.inside.first_spare c.self.inside.len
         c.self.inside.spare c.self.invariant c.args.self.now c.self.view_is c.args.node c.requires).holds)
         ∙ c.entry_mut.ensures.pair;
   },

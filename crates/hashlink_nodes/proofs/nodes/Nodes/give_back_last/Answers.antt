@@ -1,7 +1,7 @@
 use Rattle.std.specs.Option.{option_map}
 use Rattle.std.specs.Prelude.{is_some}
 use Rattle.std.proofs.Common.{◌≡◌, ◌-◌, None, Some, ap, sym, ◌∙◌, arith}
-use Rattle.hashlink_nodes.specs.Cells.{state_of}
+use Rattle.hashlink_nodes.specs.Pool.{state_of}
 use Rattle.hashlink_nodes.specs.State.{State, Drops}
 use Rattle.hashlink_nodes.specs.Ring.{Ring, Held, held, pair_of}
 use Rattle.hashlink_nodes.proofs.Sound.{InRing, held_detached, has_held, held_here}
@@ -15,15 +15,15 @@ use Rattle.hashlink_nodes.proofs.nodes.Nodes.give_back_last.Goals as goal
 
 pub unreachable-requires : goal.unreachable-requires
 unreachable-requires g c =
-    guard_some (state_of c.self.inside.cells) c.self.inside.guard c.self.inside.first_spare c.self.inside.len
+    guard_some (state_of c.self.inside.pool) c.self.inside.guard c.self.inside.first_spare c.self.inside.len
     c.self.inside.spare c.args.self.now c.self.view_is c.in-None.is c.requires
 
 -- the node is the last of the ring
 out : (g : given.Over) (c : After-prev-node g)
-    → InRing (state_of c.self.inside.cells) (Some c.in-Some.guard) c.self.inside.first_spare
+    → InRing (state_of c.self.inside.pool) (Some c.in-Some.guard) c.self.inside.first_spare
     c.self.inside.len c.self.inside.spare c.prev-node.result
 out g c =
-    last_out (state_of c.self.inside.cells) c.self.inside.guard c.in-Some.guard c.self.inside.first_spare
+    last_out (state_of c.self.inside.pool) c.self.inside.guard c.in-Some.guard c.self.inside.first_spare
     c.self.inside.len c.self.inside.spare c.args.self.now (opened_at c.self.inside c.self.invariant
     c.args.self.now c.self.view_is c.in-Some.guard c.in-Some.is) c.requires c.prev-node.result
     c.prev-node.ensures
@@ -42,7 +42,7 @@ had : (g : given.Over) (c : After-detach g)
     → (state_of c.detach.new.self).held c.prev-node.result ≡ Some (out g c.before.before).value
 had g c =
     let S : Type 0 = State g.row.K.Denot g.row.V.Denot in ap (λ (s : S). s.held c.prev-node.result)
-    c.detach.ensures ∙ ap (λ f. f c.prev-node.result) (held_detached (state_of c.self.inside.cells)
+    c.detach.ensures ∙ ap (λ f. f c.prev-node.result) (held_detached (state_of c.self.inside.pool)
     c.prev-node.result) ∙ (out g c.before.before).holds
 
 pub number-number-requires : goal.number-number-requires
@@ -55,7 +55,7 @@ pub give_back-requires-clause-has : goal.give_back-requires-clause-has
 give_back-requires-clause-has g c =
     let S : Type 0 = State g.row.K.Denot g.row.V.Denot in ap (λ (s : S). s.has c.prev-node.result)
     c.take-key.ensures.is ∙ ap (λ f. f c.prev-node.result) (has_held (state_of c.detach.new.self)
-    c.prev-node.result None) ∙ has_still c.self.inside.cells c.detach.new.self c.prev-node.result
+    c.prev-node.result None) ∙ has_still c.self.inside.pool c.detach.new.self c.prev-node.result
     c.detach.ensures c.prev-node.result ∙ (out g (goal.at.give_back-requires-clause-has g
     c).After-prev-node).has_node
 
@@ -75,10 +75,10 @@ drops g c =
     c.prev-node.result c.take-key.ensures.is c.give_back.ensures
 
 gone : (g : given.Over) (c : After-give_back g)
-    → LastGone (state_of c.self.inside.cells) (state_of c.give_back.new.self) c.self.inside.guard
+    → LastGone (state_of c.self.inside.pool) (state_of c.give_back.new.self) c.self.inside.guard
     c.self.inside.first_spare (c.self.inside.len - 1) c.self.inside.spare c.args.self.now c.prev-node.result
 gone g c =
-    last_gone (state_of c.self.inside.cells) c.self.inside.guard c.in-Some.guard c.self.inside.first_spare
+    last_gone (state_of c.self.inside.pool) c.self.inside.guard c.in-Some.guard c.self.inside.first_spare
     c.self.inside.len c.self.inside.spare c.args.self.now (opened_at c.self.inside c.self.invariant
     c.args.self.now c.self.view_is c.in-Some.guard c.in-Some.is) c.requires c.prev-node.result
     c.prev-node.ensures (state_of c.detach.new.self) (state_of c.give_back.new.self) c.detach.ensures (drops
@@ -106,7 +106,7 @@ returns-clause-free g c = (gone g (goal.at.returns-clause-free g c).After-give_b
 
 pub returns-clause-link_writes : goal.returns-clause-link_writes
 returns-clause-link_writes g c =
-    let R : Type 0 = Ring g.row.K.Denot g.row.V.Denot in writes_detached (state_of c.self.inside.cells)
+    let R : Type 0 = Ring g.row.K.Denot g.row.V.Denot in writes_detached (state_of c.self.inside.pool)
     (state_of c.detach.new.self) (state_of c.give_back.new.self) c.prev-node.result
     c.args.self.now.link_writes (ap (λ (r : R). r.link_writes) c.self.view_is) c.detach.ensures (drops g
     (goal.at.returns-clause-link_writes g c).After-give_back)

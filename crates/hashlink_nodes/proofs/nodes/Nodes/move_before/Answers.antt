@@ -1,7 +1,7 @@
 use Rattle.std.proofs.Common.{ap, ◌∙◌, arith}
 use Rattle.hashlink_nodes.specs.Ring.{Ring}
 use Rattle.hashlink_nodes.proofs.Sound.{detach_writes, attach_writes}
-use Rattle.hashlink_nodes.specs.Cells.{state_of}
+use Rattle.hashlink_nodes.specs.Pool.{state_of}
 use Rattle.hashlink_nodes.specs.State.{State}
 use Rattle.hashlink_nodes.proofs.Sound.{guard_there, some_unless}
 use Rattle.hashlink_nodes.proofs.Calls.{before_at, has_still, moved_before, node_at}
@@ -17,7 +17,7 @@ returns-clause-link_writes g c =
 
 pub unwrap-guard-requires : goal.unwrap-guard-requires
 unwrap-guard-requires g c =
-    some_unless c.self.inside.guard (guard_there (state_of c.self.inside.cells) c.self.inside.guard
+    some_unless c.self.inside.guard (guard_there (state_of c.self.inside.pool) c.self.inside.guard
     c.self.inside.first_spare c.self.inside.len c.self.inside.spare c.args.self.now c.self.view_is
     c.args.node c.requires.node)
 
@@ -38,28 +38,28 @@ detach-requires-clause-prev g c =
 
 pub prev-prev-requires : goal.prev-prev-requires
 prev-prev-requires g c =
-    (has_still c.self.inside.cells c.detach.new.self c.args.node c.detach.ensures c.unwrap_or-next.result ∙
-    ap (state_of c.self.inside.cells).has c.unwrap_or-next.ensures ∙ (before_at c.self.inside
+    (has_still c.self.inside.pool c.detach.new.self c.args.node c.detach.ensures c.unwrap_or-next.result ∙
+    ap (state_of c.self.inside.pool).has c.unwrap_or-next.ensures ∙ (before_at c.self.inside
     c.self.invariant c.args.self.now c.self.view_is c.args.node c.requires.node c.unwrap-guard.result
     c.unwrap-guard.ensures c.args.place c.requires.place).has_next)
 
 pub attach-requires-clause-node : goal.attach-requires-clause-node
 attach-requires-clause-node g c =
-    has_still c.self.inside.cells c.detach.new.self c.args.node c.detach.ensures c.args.node ∙ (node_at
+    has_still c.self.inside.pool c.detach.new.self c.args.node c.detach.ensures c.args.node ∙ (node_at
     c.self.inside c.self.invariant c.args.self.now c.self.view_is c.args.node c.requires.node).has_node
 
 pub attach-requires-clause-prev : goal.attach-requires-clause-prev
 attach-requires-clause-prev g c =
-    (has_still c.self.inside.cells c.detach.new.self c.args.node c.detach.ensures c.prev-prev.result ∙ ap
-    (state_of c.self.inside.cells).has (c.prev-prev.ensures ∙ (λ i. (c.detach.ensures i).prev
+    (has_still c.self.inside.pool c.detach.new.self c.args.node c.detach.ensures c.prev-prev.result ∙ ap
+    (state_of c.self.inside.pool).has (c.prev-prev.ensures ∙ (λ i. (c.detach.ensures i).prev
     (c.unwrap_or-next.ensures i))) ∙ (before_at c.self.inside c.self.invariant c.args.self.now c.self.view_is
     c.args.node c.requires.node c.unwrap-guard.result c.unwrap-guard.ensures c.args.place
     c.requires.place).has_prev)
 
 pub attach-requires-clause-next : goal.attach-requires-clause-next
 attach-requires-clause-next g c =
-    (has_still c.self.inside.cells c.detach.new.self c.args.node c.detach.ensures c.unwrap_or-next.result ∙
-    ap (state_of c.self.inside.cells).has c.unwrap_or-next.ensures ∙ (before_at c.self.inside
+    (has_still c.self.inside.pool c.detach.new.self c.args.node c.detach.ensures c.unwrap_or-next.result ∙
+    ap (state_of c.self.inside.pool).has c.unwrap_or-next.ensures ∙ (before_at c.self.inside
     c.self.invariant c.args.self.now c.self.view_is c.args.node c.requires.node c.unwrap-guard.result
     c.unwrap-guard.ensures c.args.place c.requires.place).has_next)
 

@@ -3,7 +3,7 @@ use Rattle.std.specs.Bool.{then_some}
 use Rattle.std.specs.Prelude.{is_some, unwrap_or}
 use Rattle.hashlink_nodes.specs.declared.node.Node.{Node}
 use Rattle.std.specs.Map.{keys_of}
-use Rattle.hashlink_nodes.specs.Cells.{state_of}
+use Rattle.hashlink_nodes.specs.Pool.{state_of}
 use Rattle.hashlink_nodes.specs.Ring.{prev_place}
 use Rattle.hashlink_nodes.proofs.Neighbours.{prev_to_place, tells, no_prev}
 use Rattle.hashlink_nodes.proofs.Calls.{known, opened_at}
@@ -11,7 +11,7 @@ use Rattle.hashlink_nodes.proofs.nodes.Nodes.prev.Goals as goal
 
 pub returns-in_err-guard-clause-place : goal.returns-in_err-guard-clause-place
 returns-in_err-guard-clause-place g c =
-    c.from_residual.ensures ∙ no_prev (state_of c.self.inside.cells) c.self.inside.guard
+    c.from_residual.ensures ∙ no_prev (state_of c.self.inside.pool) c.self.inside.guard
     c.self.inside.first_spare c.self.inside.len c.self.inside.spare c.args.self.now c.self.view_is
     c.in_err-guard.was c.args.place
 
@@ -21,27 +21,27 @@ returns-in_err-guard-clause-apart g c =
 
 pub prev-prev-requires : goal.prev-prev-requires
 prev-prev-requires g c =
-    ap (state_of c.self.inside.cells).has c.unwrap_or.ensures ∙ (prev_to_place (state_of c.self.inside.cells)
+    ap (state_of c.self.inside.pool).has c.unwrap_or.ensures ∙ (prev_to_place (state_of c.self.inside.pool)
     c.self.inside.guard c.in_ok-guard.guard c.self.inside.first_spare c.self.inside.len c.self.inside.spare
     c.args.self.now (opened_at c.self.inside c.self.invariant c.args.self.now c.self.view_is
     c.in_ok-guard.guard c.in_ok-guard.was) c.args.place c.requires).has_place
 
 pub is_full-requires : goal.is_full-requires
 is_full-requires g c =
-    ap (state_of c.self.inside.cells).has (c.prev-prev.ensures ∙ ap (state_of c.self.inside.cells).prev
-    c.unwrap_or.ensures) ∙ (prev_to_place (state_of c.self.inside.cells) c.self.inside.guard
+    ap (state_of c.self.inside.pool).has (c.prev-prev.ensures ∙ ap (state_of c.self.inside.pool).prev
+    c.unwrap_or.ensures) ∙ (prev_to_place (state_of c.self.inside.pool) c.self.inside.guard
     c.in_ok-guard.guard c.self.inside.first_spare c.self.inside.len c.self.inside.spare c.args.self.now
     (opened_at c.self.inside c.self.invariant c.args.self.now c.self.view_is c.in_ok-guard.guard
     c.in_ok-guard.was) c.args.place c.requires).has_answer
 
 pub returns-clause-place : goal.returns-clause-place
 returns-clause-place g c =
-    let s = state_of c.self.inside.cells in
+    let s = state_of c.self.inside.pool in
     let is = c.prev-prev.ensures ∙ ap s.prev c.unwrap_or.ensures in
     c.then_some.ensures ∙ ap (then_some c.is_full.result) is
     ∙ tells s (s.prev (unwrap_or c.args.place c.in_ok-guard.guard))
     (prev_place (keys_of c.args.self.now.entries) c.args.place)
-    (prev_to_place (state_of c.self.inside.cells) c.self.inside.guard c.in_ok-guard.guard
+    (prev_to_place (state_of c.self.inside.pool) c.self.inside.guard c.in_ok-guard.guard
     c.self.inside.first_spare
     c.self.inside.len c.self.inside.spare c.args.self.now
     (opened_at c.self.inside c.self.invariant c.args.self.now c.self.view_is c.in_ok-guard.guard

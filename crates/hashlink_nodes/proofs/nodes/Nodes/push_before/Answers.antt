@@ -1,7 +1,7 @@
 use Rattle.std.proofs.Common.{◌+◌, ◌-◌, ◌≡◌, true, None, ap, sym, subst, ◌∙◌, drop, arith}
 use Rattle.std.specs.Prelude.{OnOk}
 use Rattle.std.proofs.lemmas.List.{nil_from_length}
-use Rattle.hashlink_nodes.specs.Cells.{state_of}
+use Rattle.hashlink_nodes.specs.Pool.{state_of}
 use Rattle.hashlink_nodes.specs.Ring.{held, put_before}
 use Rattle.hashlink_nodes.proofs.Sound.{Leaves, apart}
 use Rattle.hashlink_nodes.proofs.Pushing.{Ready, Pushes, first_spare, with_free, ready_spare, pushes, pushed}
@@ -35,10 +35,10 @@ returns-then-self-eq0-clause-free g c =
 
 -- ---- the first spare node is taken
 first : (g : given.Over) (c : After-unwrap-guard g)
-    → ((state_of c.self.inside.cells).has c.self.inside.first_spare ≡ true)
-    × ((state_of c.self.inside.cells).held c.self.inside.first_spare ≡ None)
+    → ((state_of c.self.inside.pool).has c.self.inside.first_spare ≡ true)
+    × ((state_of c.self.inside.pool).held c.self.inside.first_spare ≡ None)
 first g c =
-    first_spare (state_of c.self.inside.cells) c.unwrap-guard.result c.self.inside.first_spare
+    first_spare (state_of c.self.inside.pool) c.unwrap-guard.result c.self.inside.first_spare
     c.self.inside.len c.self.inside.spare
     (opened_at c.self.inside c.self.invariant c.args.self.now c.self.view_is c.unwrap-guard.result
     c.unwrap-guard.ensures).sound
@@ -62,7 +62,7 @@ ready : (g : given.Over) (c : After-fill g)
 ready g c =
     let o = opened_at c.self.inside c.self.invariant c.args.self.now c.self.view_is c.unwrap-guard.result
     c.unwrap-guard.ensures in
-    ready_spare (state_of c.self.inside.cells) (state_of c.fill.new.self) c.unwrap-guard.result
+    ready_spare (state_of c.self.inside.pool) (state_of c.fill.new.self) c.unwrap-guard.result
     c.self.inside.first_spare c.next-first_spare.result c.self.inside.len c.self.inside.spare c.args.self.now
     (held c.args.number c.args.key c.args.value) o.sound o.view (omega (arith, c.if-self-eq0.false))
     c.next-first_spare.ensures c.fill.ensures

@@ -1,7 +1,7 @@
 use Rattle.std.proofs.Common.{◌+◌, true, None, Some, ap, sym, subst, refl, ◌∙◌, arith}
-use Rattle.hashlink_nodes.specs.Cells.{state_of}
+use Rattle.hashlink_nodes.specs.Pool.{state_of}
 use Rattle.hashlink_nodes.specs.Ring.{held, put_before}
-use Rattle.hashlink_nodes.specs.declared.cells.Cells.{Cells}
+use Rattle.hashlink_nodes.specs.declared.pool.Pool.{Pool}
 use Rattle.hashlink_nodes.proofs.Paths.{set_at_here}
 use Rattle.hashlink_nodes.proofs.Sound.{Leaves, adds_filled, apart}
 use Rattle.hashlink_nodes.proofs.Pushing.{Ready, Pushes, Guarded, guarded, ready_made, pushes, pushed}
@@ -25,7 +25,7 @@ ready : (g : given.Over) (c : After-fill g)
     → Ready (state_of c.fill.new.self) c.in-Ok.guard c.self.inside.first_spare c.in-Ok-make.node
     (held c.args.number c.args.key c.args.value) c.self.inside.len c.self.inside.spare c.args.self.now
 ready g c =
-    ready_made (state_of c.self.inside.cells) (state_of c.guard.new.self) (state_of c.fill.new.self)
+    ready_made (state_of c.self.inside.pool) (state_of c.guard.new.self) (state_of c.fill.new.self)
     c.self.inside.guard c.in-Ok.guard c.self.inside.first_spare c.in-Ok-make.node c.self.inside.len
     c.self.inside.spare c.args.self.now (held c.args.number c.args.key c.args.value) c.self.invariant
     c.self.view_is c.requires.none (omega (arith, c.if-self-ge-MOST.false)) c.in-Ok.ensures.made
@@ -107,12 +107,12 @@ stays : (g : given.Over) (c : In-Err-make g)
     → Guarded (state_of c.make.new.self) c.in-Ok.guard c.self.inside.first_spare c.self.inside.len
     c.self.inside.spare c.args.self.now
 stays g c =
-    let C : Type 0 = Cells g.row.K.Denot g.row.V.Denot in
+    let C : Type 0 = Pool g.row.K.Denot g.row.V.Denot in
     subst
     (λ (x : C). Guarded (state_of x) c.in-Ok.guard c.self.inside.first_spare c.self.inside.len
     c.self.inside.spare c.args.self.now)
     (sym c.in-Err-make.ensures.refused)
-    (guarded (state_of c.self.inside.cells) (state_of c.guard.new.self) c.self.inside.guard c.in-Ok.guard
+    (guarded (state_of c.self.inside.pool) (state_of c.guard.new.self) c.self.inside.guard c.in-Ok.guard
     c.self.inside.first_spare c.self.inside.len c.self.inside.spare c.args.self.now c.self.invariant
     c.self.view_is c.in-Ok.ensures.made)
 

@@ -1,7 +1,7 @@
 use Rattle.std.proofs.Common.{ap, ◌∙◌}
 use Rattle.std.specs.Prelude.{is_some}
 use Rattle.std.specs.Option.{option_map}
-use Rattle.hashlink_nodes.specs.Cells.{state_of}
+use Rattle.hashlink_nodes.specs.Pool.{state_of}
 use Rattle.hashlink_nodes.specs.Ring.{Held, with_value}
 use Rattle.hashlink_nodes.proofs.Changing.{Renewed, renewed}
 use Rattle.hashlink_nodes.proofs.Calls.{node_at}
@@ -14,11 +14,11 @@ replace_value-requires g c =
     c.requires).holds
 
 anew : (g : given.Over) (c : goal.After-replace_value g)
-    → Renewed (state_of c.self.inside.cells) (state_of c.replace_value.new.self) c.self.inside.guard
+    → Renewed (state_of c.self.inside.pool) (state_of c.replace_value.new.self) c.self.inside.guard
     c.self.inside.first_spare c.self.inside.len c.self.inside.spare c.args.self.now c.args.node
     (λ h. with_value h c.args.value)
 anew g c =
-    renewed (state_of c.self.inside.cells) (state_of c.replace_value.new.self) c.self.inside.guard
+    renewed (state_of c.self.inside.pool) (state_of c.replace_value.new.self) c.self.inside.guard
     c.self.inside.first_spare c.self.inside.len c.self.inside.spare c.self.invariant c.args.self.now
     c.self.view_is c.args.node c.requires (λ h. with_value h c.args.value) c.replace_value.ensures.is
 

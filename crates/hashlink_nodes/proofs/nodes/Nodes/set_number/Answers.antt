@@ -1,6 +1,6 @@
 use Rattle.std.proofs.Common.{ap}
 use Rattle.std.specs.Prelude.{is_some}
-use Rattle.hashlink_nodes.specs.Cells.{state_of}
+use Rattle.hashlink_nodes.specs.Pool.{state_of}
 use Rattle.hashlink_nodes.specs.Ring.{with_number}
 use Rattle.hashlink_nodes.proofs.Changing.{Renewed, renewed}
 use Rattle.hashlink_nodes.proofs.Calls.{node_at}
@@ -13,11 +13,11 @@ set_number-requires-clause-held g c =
     c.requires.node).holds
 
 anew : (g : given.Over) (c : goal.After-set_number g)
-    → Renewed (state_of c.self.inside.cells) (state_of c.set_number.new.self) c.self.inside.guard
+    → Renewed (state_of c.self.inside.pool) (state_of c.set_number.new.self) c.self.inside.guard
     c.self.inside.first_spare c.self.inside.len c.self.inside.spare c.args.self.now c.args.node
     (λ h. with_number h c.args.number)
 anew g c =
-    renewed (state_of c.self.inside.cells) (state_of c.set_number.new.self) c.self.inside.guard
+    renewed (state_of c.self.inside.pool) (state_of c.set_number.new.self) c.self.inside.guard
     c.self.inside.first_spare c.self.inside.len c.self.inside.spare c.self.invariant c.args.self.now
     c.self.view_is c.args.node c.requires.node (λ h. with_number h c.args.number) c.set_number.ensures
 

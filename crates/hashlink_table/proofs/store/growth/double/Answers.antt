@@ -1,6 +1,7 @@
-use Rattle.std.proofs.Common.{◌++◌, List, [], ap, sym, subst, ◌∙◌}
+use Rattle.std.proofs.Common.{◌++◌, List, [], ap, sym, subst, ◌∙◌, arith}
 use Rattle.std.specs.Prelude.{IsPermutation}
 use Rattle.std.proofs.lemmas.List.Sorted.{IsPermutation-append_left}
+use Rattle.std.proofs.lemmas.Grind.{common_steps}
 use Rattle.hashlink_table.specs.declared.store.cell.Cell.{Cell}
 use Rattle.hashlink_table.specs.declared.store.cell.TheConstants.{END}
 use Rattle.hashlink_table.specs.Chains.{links_of, nodes_in, IsFilled, IsInPlace, IsLinked}
@@ -34,3 +35,6 @@ returns-clause-nodes g c =
     (subst (λ (f : List C). IsPermutation old (nodes_in f ++ nodes_in c.args.cells.now.items))
     (sym c.in_ok-double.ensures.ok)
     (IsPermutation-append_left (nodes_in c.args.cells.now.items) _ _ (nodes_in-doubled c.args.slots.now)))
+
+pub returns-clause-len : goal.returns-clause-len
+returns-clause-len g c = grind (arith, common_steps)

@@ -3,6 +3,7 @@ use Rattle.std.proofs.Common.{subst, arith}
 use Rattle.std.specs.Prelude.{IsPermutation}
 use Rattle.std.proofs.lemmas.Option.{same_Some}
 use Rattle.std.proofs.lemmas.List.Sorted.{IsPermutation-append_left}
+use Rattle.std.proofs.lemmas.Grind.{common_steps}
 use Rattle.hashlink_table.specs.declared.hashed.Hashed.{Hashed}
 use Rattle.hashlink_table.specs.declared.store.cell.Cell.{Cell}
 use Rattle.hashlink_table.specs.Chains.{links_of, nodes_in, AreGrouped, IsFilled, IsInPlace, IsLinked}
@@ -129,3 +130,39 @@ returns-in-Overflow-clause-nodes g c =
     let t = c.take_out in
     overflow-taken c.args.slots.now t.new.slots c.args.cells.now t.new.cells t.result t.ensures.slots
     t.ensures.nodes
+
+pub first_chained-requires-clause-within : goal.first_chained-requires-clause-within
+first_chained-requires-clause-within g c = grind (arith, common_steps)
+
+pub set_free-requires : goal.set_free-requires
+set_free-requires g c = grind (arith, common_steps)
+
+pub next-next-requires : goal.next-next-requires
+next-next-requires g c = grind (arith, common_steps)
+
+pub take_out-follower-requires-clause-within : goal.take_out-follower-requires-clause-within
+take_out-follower-requires-clause-within g c = grind (arith, common_steps)
+
+pub put-requires : goal.put-requires
+put-requires g c = grind (arith, common_steps)
+
+pub offset_bounds-cells-at : goal.offset_bounds-cells-at
+offset_bounds-cells-at g c = grind (arith, common_steps)
+
+pub bounds-cells-at : goal.bounds-cells-at
+bounds-cells-at g c = grind (arith, common_steps)
+
+pub known-requires : goal.known-requires
+known-requires g c = grind (arith, common_steps)
+
+pub take_out-requires-clause-on_chain : goal.take_out-requires-clause-on_chain
+take_out-requires-clause-on_chain g c = grind (arith, common_steps)
+
+pub returns-in-None-clause-in_place : goal.returns-in-None-clause-in_place
+returns-in-None-clause-in_place g c = grind (arith, common_steps)
+
+pub returns-in-Some-clause-len : goal.returns-in-Some-clause-len
+returns-in-Some-clause-len g c = grind (arith, common_steps)
+
+pub returns-in-Overflow-clause-len : goal.returns-in-Overflow-clause-len
+returns-in-Overflow-clause-len g c = grind (arith, common_steps)

@@ -3,7 +3,7 @@ use Rattle.std.proofs.lemmas.Result.{on_ok_weaker}
 use Rattle.hashlink_core.specs.Keyed.{state_of}
 use Rattle.hashlink_run.specs.Keeps.{IsEven}
 use Rattle.hashlink_text.specs.Transcript.{Itself, ended, replies_shown}
-use Rattle.hashlink_run.proofs.Wider.{step-wider}
+use Rattle.hashlink_run.proofs.AnyCommand.{step-wider}
 use Rattle.hashlink_text.proofs.ShownLines.{shows-command}
 use Rattle.hashlink_text.proofs.map_text.MapWithReplies.answer.Goals as goal
 

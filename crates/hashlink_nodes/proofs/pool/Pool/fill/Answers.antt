@@ -1,0 +1,20 @@
+use Rattle.std.proofs.Common.{Some, ap, refl, ◌∙◌}
+use Rattle.std.specs.Map.{lookup}
+use Rattle.hashlink_nodes.specs.Kept.{with_entry}
+use Rattle.hashlink_nodes.specs.Node.{same_node}
+use Rattle.hashlink_nodes.specs.Ring.{held}
+use Rattle.hashlink_nodes.specs.State.{state}
+use Rattle.hashlink_nodes.proofs.ArenaBlocks.{found}
+use Rattle.hashlink_nodes.proofs.StateLemmas.{held_anew}
+use Rattle.hashlink_nodes.proofs.pool.Pool.fill.Goals as goal
+
+pub returns : goal.returns
+returns g c =
+    let bs = c.args.self.now.arena.blocks in let count = c.args.self.now.writes.count in
+    let at = found (lookup (same_node c.args.node) bs) c.requires.has in
+    ap (λ x. state x count) c.fill.ensures
+    ∙ held_anew bs count 0 c.args.node at.0 at.1 (with_entry (Some (
+      c.args.number,
+      (c.args.key, c.args.value),
+    ))) refl
+    (Some (held c.args.number c.args.key c.args.value)) refl

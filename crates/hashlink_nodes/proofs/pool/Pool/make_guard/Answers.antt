@@ -1,0 +1,18 @@
+use Rattle.std.proofs.Common.{true, ap, ◌∙◌}
+use Rattle.hashlink_nodes.specs.Pool.{state_of}
+use Rattle.hashlink_nodes.proofs.Paths.{set_at_here}
+use Rattle.hashlink_nodes.proofs.StateLemmas.{links_at, looped}
+use Rattle.hashlink_nodes.proofs.pool.Pool.make_guard.Goals as goal
+
+pub links_mut-links-requires : goal.links_mut-links-requires
+links_mut-links-requires g c =
+    ap (λ f. f c.in_ok-guard.guard) c.in_ok-guard.ensures.made.has
+    ∙ set_at_here (state_of c.args.self.now).has c.in_ok-guard.guard true
+
+pub returns-clause-made : goal.returns-clause-made
+returns-clause-made g c =
+    let bs = c.make.new.self.arena.blocks in let guard = c.in_ok-guard.guard in
+    let at = links_at bs guard c.links_mut-links.result.now c.links_mut-links.ensures.value in
+    looped bs c.make.new.self.writes.count 0 guard at.block at.looked
+    (state_of c.args.self.now) c.store.new.self
+    c.store-2.new.self c.store.ensures.stored c.store-2.ensures.stored c.in_ok-guard.ensures.made

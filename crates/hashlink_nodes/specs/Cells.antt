@@ -1,6 +1,0 @@
--- The state of a ring's blocks.
-use Rattle.hashlink_nodes.specs.declared.cells.Cells.{Cells}
-use Rattle.hashlink_nodes.specs.State.{State, state}
-
-abbrev pub state_of : {K V : Type 0} → Cells K V → State K V
-state_of c = state c.arena.blocks c.writes.count

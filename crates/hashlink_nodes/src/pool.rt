@@ -1,0 +1,187 @@
+//! The blocks of a ring, by their nodes: safe code over the arena.
+ghost use Rattle.std.specs.Prelude.{◌≡◌, ◌^◌, ◌<◌, true, false, [], IfOk, OnErr, None, Some, IsSome};
+ghost use Rattle.std.specs.Prelude.{is_some};
+ghost use Rattle.hashlink_nodes.specs.State.{state, hold, detached, attached};
+ghost use Rattle.hashlink_nodes.specs.State.{Drops};
+ghost use Rattle.hashlink_nodes.specs.State.{GuardIs};
+ghost use Rattle.std.specs.Option.{option_map};
+ghost use Rattle.std.specs.Borrow.{sem};
+ghost use Rattle.hashlink_nodes.specs.Ring.{held, pair_of, with_value, with_key, with_number};
+ghost use Rattle.hashlink_nodes.specs.Pool.{state_of};
+
+mod links;
+
+pub(crate) use self::links::Links;
+use crate::arena::{Arena, NO_ENTRY};
+use crate::link_writes::LinkWrites;
+use crate::node::Node;
+use std::alloc::{AllocError, Global};
+use std::mem;
+
+/// The blocks of the nodes, and the count of the links that were stored in them.
+pub(crate) struct Pool<K, V> {
+    arena: Arena<(K, V)>,
+    writes: LinkWrites,
+}
+
+impl<K, V> Pool<K, V> {
+    ghost use Rattle.hashlink_nodes.specs.PoolLends.{LendsPoolValue};
+
+    pub(crate) fn new() -> Self
+        ensures { state_of result ≡ state [] 0 }
+    {
+        Pool {
+            arena: Arena::new(),
+            writes: LinkWrites::new(),
+        }
+    }
+
+    /// Returns whether the node holds an entry.
+    #[inline]
+    pub(crate) fn is_full(&self, node: Node) -> bool
+        requires { (state_of self.now).has node ≡ true }
+        ensures { is_some ((state_of self.now).held node) ≡ result }
+    {
+        *self.arena.number(node) != NO_ENTRY
+    }
+
+    #[inline]
+    pub(crate) fn number(&self, node: Node) -> usize
+        requires { IsSome ((state_of self.now).held node) }
+        ensures { option_map (λ h. h.number) ((state_of self.now).held node) ≡ Some result }
+    {
+        *self.arena.number(node)
+    }
+
+    #[inline]
+    pub(crate) fn pair(&self, node: Node) -> (&K, &V)
+        requires { IsSome ((state_of self.now).held node) }
+        ensures { option_map pair_of ((state_of self.now).held node) ≡ Some (result.0.now, result.1.now) }
+    {
+        let pair = self.arena.pair(node);
+        (&pair.0, &pair.1)
+    }
+
+    /// Puts an entry into a node that holds none.
+    #[inline]
+    pub(crate) fn fill(&mut self, node: Node, number: usize, key: K, value: V)
+        requires has { (state_of self.old).has node ≡ true }
+        requires bare { (state_of self.old).held node ≡ None }
+        requires small { number < 2 ^ 48 }
+        ensures { state_of self.new ≡ hold node (Some (held number key value)) (state_of self.old) }
+    {
+        self.arena.fill(node, number, (key, value));
+    }
+
+    /// Takes the entry out of the node, and returns its pair.
+    #[inline]
+    pub(crate) fn take(&mut self, node: Node) -> (K, V)
+        requires { IsSome ((state_of self.old).held node) }
+        ensures was { option_map pair_of ((state_of self.old).held node) ≡ Some result }
+        ensures is { state_of self.new ≡ hold node None (state_of self.old) }
+    {
+        self.arena.take(node)
+    }
+
+    /// Returns the key and a mutable reference to the value.
+    #[inline]
+    pub(crate) fn entry_mut(&mut self, node: Node) -> (&K, &mut V)
+        requires { IsSome ((state_of self.old).held node) }
+        ensures* lends { sem 𝓛 (LendsPoolValue K.row V.row self.entry node result.1) }
+        ensures pair { option_map pair_of ((state_of self.old).held node) ≡ Some
+            (result.0.now, result.1.now) }
+    {
+        let pair = self.arena.pair_mut(node);
+        (&pair.0, &mut pair.1)
+    }
+
+    /// Replaces the value, and returns the old one.
+    #[inline]
+    pub(crate) fn replace_value(&mut self, node: Node, value: V) -> V
+        requires { IsSome ((state_of self.old).held node) }
+        ensures value { option_map (λ h. h.value) ((state_of self.old).held node) ≡ Some result }
+        ensures is { state_of self.new
+            ≡ hold node (option_map (λ h. with_value h value) ((state_of self.old).held node))
+            (state_of self.old) }
+    {
+        mem::replace(&mut self.arena.pair_mut(node).1, value)
+    }
+
+    /// Replaces the key, and returns the old one.
+    pub(crate) fn replace_key(&mut self, node: Node, key: K) -> K
+        requires { IsSome ((state_of self.old).held node) }
+        ensures key { option_map (λ h. h.key) ((state_of self.old).held node) ≡ Some result }
+        ensures is { state_of self.new
+            ≡ hold node (option_map (λ h. with_key h key) ((state_of self.old).held node))
+            (state_of self.old) }
+    {
+        mem::replace(&mut self.arena.pair_mut(node).0, key)
+    }
+
+    pub(crate) fn set_number(&mut self, node: Node, number: usize)
+        requires held { IsSome ((state_of self.old).held node) }
+        requires small { number < 2 ^ 48 }
+        ensures { state_of self.new
+            ≡ hold node (option_map (λ h. with_number h number) ((state_of self.old).held node))
+            (state_of self.old) }
+    {
+        let pair = self.arena.take(node);
+        self.arena.fill(node, number, pair);
+    }
+
+    /// Returns the guard, and allocates it if there is none.
+    pub(crate) fn guard(&mut self, guard: Option<Node>, alloc: Global) -> Result<Node, AllocError>
+        ensures made { IfOk result (λ g. GuardIs (state_of self.old) (state_of self.new) guard g) }
+        ensures refused { OnErr result (self.new ≡ self.old) }
+    {
+        match guard {
+            Some(guard) => Ok(guard),
+            None => self.make_guard(alloc),
+        }
+    }
+
+    /// Frees the block of a node that holds nothing.
+    pub(crate) fn give_back(&mut self, node: Node, alloc: Global)
+        requires has { (state_of self.old).has node ≡ true }
+        requires bare { (state_of self.old).held node ≡ None }
+        ensures { Drops node (state_of self.old) (state_of self.new) }
+    {
+        self.arena.give_back(node, alloc).free();
+    }
+
+    /// Links the neighbours of the node past it.
+    #[inline]
+    pub(crate) fn detach(&mut self, node: Node)
+        requires node { (state_of self.old).has node ≡ true }
+        requires next { (state_of self.old).has ((state_of self.old).next node) ≡ true }
+        requires prev { (state_of self.old).has ((state_of self.old).prev node) ≡ true }
+        ensures { state_of self.new ≡ detached node (state_of self.old) }
+    {
+        let next = self.next(node);
+        let prev = self.prev(node);
+        self.store_next(prev, next);
+        self.store_prev(next, prev);
+    }
+
+    /// Links the node in between two others.
+    #[inline]
+    pub(crate) fn attach(&mut self, node: Node, prev: Node, next: Node)
+        requires node { (state_of self.old).has node ≡ true }
+        requires prev { (state_of self.old).has prev ≡ true }
+        requires next { (state_of self.old).has next ≡ true }
+        ensures { state_of self.new ≡ attached node prev next (state_of self.old) }
+    {
+        self.store_next(node, next);
+        self.store_prev(node, prev);
+        self.store_next(prev, node);
+        self.store_prev(next, node);
+    }
+
+    /// Ends the pool, once no block is left.
+    pub(crate) fn end(self)
+        requires { (state_of self).size ≡ 0 }
+    {
+        let Pool { arena, writes: _ } = self;
+        arena.end();
+    }
+}

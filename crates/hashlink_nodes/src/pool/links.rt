@@ -1,0 +1,114 @@
+//! The links of the blocks. All code that makes a link or stores one is in this file.
+ghost use Rattle.std.specs.Prelude.{◌≡◌, ◌+◌, false, true, IfOk, None, OnErr};
+ghost use Rattle.hashlink_nodes.specs.Pool.{state_of};
+ghost use Rattle.hashlink_nodes.specs.State.{store_next, store_prev, Adds, MakesGuard};
+
+use super::Pool;
+use crate::arena::Loose;
+use crate::link_writes::LinkWrites;
+use crate::node::Node;
+use std::alloc::{AllocError, Global};
+
+/// The links of a node's block.
+pub(crate) struct Links {
+    next: Link,
+    prev: Link,
+}
+
+/// A link of a node, to the one after it or to the one before it. It is made leading nowhere, and only
+/// `store` changes it.
+struct Link {
+    to: Node,
+}
+
+impl Links {
+    fn nowhere() -> Links {
+        Links {
+            next: Link::nowhere(),
+            prev: Link::nowhere(),
+        }
+    }
+}
+
+impl Link {
+    fn nowhere() -> Link {
+        Link {
+            to: Node::nowhere(),
+        }
+    }
+
+    #[inline]
+    fn to(&self) -> Node
+        ensures { result ≡ self.now.to }
+    {
+        self.to
+    }
+
+    /// Stores the link, and counts it.
+    #[inline]
+    fn store(&mut self, to: Node, writes: &mut LinkWrites)
+        ensures stored { self.new ≡ record { to = to } }
+        ensures counted { writes.new.count ≡ writes.old.count + 1 }
+    {
+        self.to = to;
+        writes.raise();
+    }
+}
+
+impl<K, V> Pool<K, V> {
+    #[inline]
+    pub(crate) fn next(&self, node: Node) -> Node
+        requires { (state_of self.now).has node ≡ true }
+        ensures { result ≡ (state_of self.now).next node }
+    {
+        self.arena.links(node).next.to()
+    }
+
+    #[inline]
+    pub(crate) fn prev(&self, node: Node) -> Node
+        requires { (state_of self.now).has node ≡ true }
+        ensures { result ≡ (state_of self.now).prev node }
+    {
+        self.arena.links(node).prev.to()
+    }
+
+    #[inline]
+    pub(crate) fn store_next(&mut self, node: Node, to: Node)
+        requires { (state_of self.old).has node ≡ true }
+        ensures { state_of self.new ≡ store_next node to (state_of self.old) }
+    {
+        self.arena.links_mut(node).next.store(to, &mut self.writes);
+    }
+
+    #[inline]
+    pub(crate) fn store_prev(&mut self, node: Node, to: Node)
+        requires { (state_of self.old).has node ≡ true }
+        ensures { state_of self.new ≡ store_prev node to (state_of self.old) }
+    {
+        self.arena.links_mut(node).prev.store(to, &mut self.writes);
+    }
+
+    /// Allocates a node that holds nothing. Its links lead nowhere until they are stored.
+    pub(crate) fn make(&mut self, alloc: Global) -> Result<Node, AllocError>
+        ensures made { IfOk result (λ n. Adds n None (state_of self.old) (state_of self.new)) }
+        ensures refused { OnErr result (self.new ≡ self.old) }
+    {
+        match Loose::allocate(alloc) {
+            Ok(loose) => Ok(self.arena.keep(loose, Links::nowhere())),
+            Err(_) => Err(AllocError),
+        }
+    }
+
+    /// Allocates a guard, which holds nothing and links to itself. These two links have a count of their own.
+    pub(super) fn make_guard(&mut self, alloc: Global) -> Result<Node, AllocError>
+        ensures made { IfOk result (λ g. MakesGuard g (state_of self.old) (state_of self.new)) }
+        ensures refused { OnErr result (self.new ≡ self.old) }
+    {
+        let guard = self.make(alloc)?;
+        let mut writes = LinkWrites::new();
+        let links = self.arena.links_mut(guard);
+        links.next.store(guard, &mut writes);
+        links.prev.store(guard, &mut writes);
+        Ok(guard)
+    }
+}
