@@ -2,7 +2,7 @@
 use crate::calls::cache_many::call_many;
 use crate::calls::entries::not_made;
 use crate::items::{
-    Answer, Item, Line, Name, Stop, Word, given, given_item, lent, lent_item, made, no_memory, put,
+    Answer, Item, Line, Stop, Word, given, given_item, lent, lent_item, made, no_memory, put,
     write, write_item,
 };
 use hashlink_lru::LruCache;
@@ -10,58 +10,50 @@ use std::hash::BuildHasher;
 
 pub type Cache<S> = LruCache<Item, Item, S>;
 
-/// A call by its name.
+/// A call, by what follows its name.
 #[derive(Clone, Copy)]
-enum Named {
+enum CacheCall {
+    /// Nothing.
     Read(ReadCall),
+    /// Nothing.
     End(EndCall),
+    /// A key.
     Key(KeyCall),
+    /// A key, and what is then written to the value.
     Lend(LendCall),
+    /// A pair.
     Pair(PairCall),
+    /// A key, what is made where it is absent, and what is then written to the value.
     GetOrInsertWith,
+    /// The same, or why nothing is made.
     GetOrTryInsertWith,
+    /// A number.
     SetCapacity,
 }
 
-/// A call with what follows its name.
-#[derive(Drop)]
-enum CacheCall {
-    Read(ReadCall),
-    End(EndCall),
-    Key(KeyCall, Item),
-    /// What is written comes last, where what is lent is written.
-    Lend(LendCall, Item, Option<Name>),
-    Pair(PairCall, Item, Item),
-    /// What is made where the key is absent comes second.
-    GetOrInsertWith(Item, Item, Option<Name>),
-    /// The same, or why nothing is made.
-    GetOrTryInsertWith(Item, Result<Item, Item>, Option<Name>),
-    SetCapacity(usize),
-}
-
-const CALLS: [(&str, Named); 22] = [
-    ("len", Named::Read(ReadCall::Len)),
-    ("is_empty", Named::Read(ReadCall::IsEmpty)),
-    ("capacity", Named::Read(ReadCall::Capacity)),
-    ("peek_lru", Named::Read(ReadCall::PeekLru)),
-    ("back", Named::Read(ReadCall::Back)),
-    ("make_room", Named::End(EndCall::MakeRoom)),
-    ("remove_lru", Named::End(EndCall::RemoveLru)),
-    ("clear", Named::End(EndCall::Clear)),
-    ("clone", Named::End(EndCall::Clone)),
-    ("get", Named::Key(KeyCall::Get)),
-    ("peek", Named::Key(KeyCall::Peek)),
-    ("contains_key", Named::Key(KeyCall::ContainsKey)),
-    ("evicted_by", Named::Key(KeyCall::EvictedBy)),
-    ("remove", Named::Key(KeyCall::Remove)),
-    ("remove_entry", Named::Key(KeyCall::RemoveEntry)),
-    ("get_mut", Named::Lend(LendCall::GetMut)),
-    ("peek_mut", Named::Lend(LendCall::PeekMut)),
-    ("insert", Named::Pair(PairCall::Insert)),
-    ("push", Named::Pair(PairCall::Push)),
-    ("get_or_insert_with", Named::GetOrInsertWith),
-    ("get_or_try_insert_with", Named::GetOrTryInsertWith),
-    ("set_capacity", Named::SetCapacity),
+const CALLS: [(&str, CacheCall); 22] = [
+    ("len", CacheCall::Read(ReadCall::Len)),
+    ("is_empty", CacheCall::Read(ReadCall::IsEmpty)),
+    ("capacity", CacheCall::Read(ReadCall::Capacity)),
+    ("peek_lru", CacheCall::Read(ReadCall::PeekLru)),
+    ("back", CacheCall::Read(ReadCall::Back)),
+    ("make_room", CacheCall::End(EndCall::MakeRoom)),
+    ("remove_lru", CacheCall::End(EndCall::RemoveLru)),
+    ("clear", CacheCall::End(EndCall::Clear)),
+    ("clone", CacheCall::End(EndCall::Clone)),
+    ("get", CacheCall::Key(KeyCall::Get)),
+    ("peek", CacheCall::Key(KeyCall::Peek)),
+    ("contains_key", CacheCall::Key(KeyCall::ContainsKey)),
+    ("evicted_by", CacheCall::Key(KeyCall::EvictedBy)),
+    ("remove", CacheCall::Key(KeyCall::Remove)),
+    ("remove_entry", CacheCall::Key(KeyCall::RemoveEntry)),
+    ("get_mut", CacheCall::Lend(LendCall::GetMut)),
+    ("peek_mut", CacheCall::Lend(LendCall::PeekMut)),
+    ("insert", CacheCall::Pair(PairCall::Insert)),
+    ("push", CacheCall::Pair(PairCall::Push)),
+    ("get_or_insert_with", CacheCall::GetOrInsertWith),
+    ("get_or_try_insert_with", CacheCall::GetOrTryInsertWith),
+    ("set_capacity", CacheCall::SetCapacity),
 ];
 
 /// Makes the call that a line says.
@@ -72,54 +64,18 @@ pub fn call_cache<S: BuildHasher + Copy + Default + Drop>(
     let Some(call) = line.words.known(&CALLS) else {
         return call_many(cache, line);
     };
-    let call = read_call(call, line)?;
-    line.give(answer(cache, call))
-}
-
-fn read_call(call: Named, line: &mut Line<'_>) -> Result<CacheCall, Stop> {
     match call {
-        Named::Read(call) => Ok(CacheCall::Read(call)),
-        Named::End(call) => Ok(CacheCall::End(call)),
-        Named::Key(call) => Ok(CacheCall::Key(call, line.item()?)),
-        Named::SetCapacity => Ok(CacheCall::SetCapacity(line.words.size())),
-        Named::Lend(call) => read_lend(call, line),
-        Named::Pair(call) => read_pair(call, line),
-        Named::GetOrInsertWith => read_made(line),
-        Named::GetOrTryInsertWith => read_tried(line),
-    }
-}
-
-fn read_lend(call: LendCall, line: &mut Line<'_>) -> Result<CacheCall, Stop> {
-    let (key, new) = line.lent_item()?;
-    Ok(CacheCall::Lend(call, key, new))
-}
-
-fn read_pair(call: PairCall, line: &mut Line<'_>) -> Result<CacheCall, Stop> {
-    let (key, value) = line.pair()?;
-    Ok(CacheCall::Pair(call, key, value))
-}
-
-fn read_made(line: &mut Line<'_>) -> Result<CacheCall, Stop> {
-    let (key, value) = line.pair()?;
-    Ok(CacheCall::GetOrInsertWith(key, value, line.words.optional()))
-}
-
-fn read_tried(line: &mut Line<'_>) -> Result<CacheCall, Stop> {
-    let key = line.item()?;
-    let (made, new) = line.tried()?;
-    Ok(CacheCall::GetOrTryInsertWith(key, made, new))
-}
-
-fn answer<S: BuildHasher + Copy + Drop>(cache: &mut Cache<S>, call: CacheCall) -> Answer {
-    match call {
-        CacheCall::Read(call) => Answer::Word(read(cache, call)),
-        CacheCall::End(call) => Answer::Word(call_at_end(cache, call)),
-        CacheCall::Key(call, key) => Answer::Word(look_up(cache, call, &key)),
-        CacheCall::Lend(call, key, new) => Answer::Word(lend(cache, call, &key, new)),
-        CacheCall::Pair(call, key, value) => put_pair(cache, call, key, value),
-        CacheCall::GetOrInsertWith(key, value, new) => get_or_insert(cache, key, value, new),
-        CacheCall::GetOrTryInsertWith(key, made, new) => get_or_try_insert(cache, key, made, new),
-        CacheCall::SetCapacity(capacity) => Answer::Word(set_capacity(cache, capacity)),
+        CacheCall::Read(call) => line.say(read(cache, call)),
+        CacheCall::End(call) => line.say(call_at_end(cache, call)),
+        CacheCall::Key(call) => look_up(cache, call, line),
+        CacheCall::Lend(call) => lend(cache, call, line),
+        CacheCall::Pair(call) => put_pair(cache, call, line),
+        CacheCall::GetOrInsertWith => get_or_insert(cache, line),
+        CacheCall::GetOrTryInsertWith => get_or_try_insert(cache, line),
+        CacheCall::SetCapacity => {
+            cache.set_capacity(line.words.size());
+            line.say(Word::Done)
+        }
     }
 }
 
@@ -173,15 +129,20 @@ enum KeyCall {
     RemoveEntry,
 }
 
-fn look_up<S: BuildHasher>(cache: &mut Cache<S>, call: KeyCall, key: &Item) -> Word {
-    match call {
+fn look_up<S: BuildHasher>(
+    cache: &mut Cache<S>,
+    call: KeyCall,
+    line: &mut Line<'_>,
+) -> Result<(), Stop> {
+    let key = &line.item()?;
+    line.say(match call {
         KeyCall::Get => lent_item(cache.get(key)),
         KeyCall::Peek => lent_item(cache.peek(key)),
         KeyCall::ContainsKey => Word::Is(cache.contains_key(key)),
         KeyCall::EvictedBy => lent(cache.evicted_by(key)),
         KeyCall::Remove => given_item(cache.remove(key)),
         KeyCall::RemoveEntry => given(cache.remove_entry(key)),
-    }
+    })
 }
 
 #[derive(Clone, Copy)]
@@ -193,13 +154,13 @@ enum LendCall {
 fn lend<S: BuildHasher>(
     cache: &mut Cache<S>,
     call: LendCall,
-    key: &Item,
-    new: Option<Name>,
-) -> Word {
-    match call {
-        LendCall::GetMut => write(cache.get_mut(key), new),
-        LendCall::PeekMut => write(cache.peek_mut(key), new),
-    }
+    line: &mut Line<'_>,
+) -> Result<(), Stop> {
+    let (key, new) = line.lent_item()?;
+    line.say(match call {
+        LendCall::GetMut => write(cache.get_mut(&key), new),
+        LendCall::PeekMut => write(cache.peek_mut(&key), new),
+    })
 }
 
 #[derive(Clone, Copy)]
@@ -211,13 +172,13 @@ enum PairCall {
 fn put_pair<S: BuildHasher>(
     cache: &mut Cache<S>,
     call: PairCall,
-    key: Item,
-    value: Item,
-) -> Answer {
-    match call {
+    line: &mut Line<'_>,
+) -> Result<(), Stop> {
+    let (key, value) = line.pair()?;
+    line.give(match call {
         PairCall::Insert => put(cache.insert(key, value)),
         PairCall::Push => pushed(cache.push(key, value)),
-    }
+    })
 }
 
 /// The pair that left, or the one that is handed back for want of memory.
@@ -228,31 +189,23 @@ fn pushed(left: Result<Option<(Item, Item)>, (Item, Item)>) -> Answer {
     }
 }
 
-fn get_or_insert<S: BuildHasher>(
-    cache: &mut Cache<S>,
-    key: Item,
-    value: Item,
-    new: Option<Name>,
-) -> Answer {
-    match cache.get_or_insert_with(key, || value) {
+fn get_or_insert<S: BuildHasher>(cache: &mut Cache<S>, line: &mut Line<'_>) -> Result<(), Stop> {
+    let (key, value) = line.pair()?;
+    let new = line.words.optional();
+    line.give(match cache.get_or_insert_with(key, || value) {
         Ok(lent) => Answer::Word(write_item(lent, new)),
         Err(pair) => no_memory(pair),
-    }
+    })
 }
 
 fn get_or_try_insert<S: BuildHasher>(
     cache: &mut Cache<S>,
-    key: Item,
-    made: Result<Item, Item>,
-    new: Option<Name>,
-) -> Answer {
-    match cache.get_or_try_insert_with(key, || made) {
+    line: &mut Line<'_>,
+) -> Result<(), Stop> {
+    let key = line.item()?;
+    let (made, new) = line.tried()?;
+    line.give(match cache.get_or_try_insert_with(key, || made) {
         Ok(lent) => Answer::Word(write_item(lent, new)),
         Err(error) => not_made(error),
-    }
-}
-
-fn set_capacity<S: BuildHasher>(cache: &mut Cache<S>, capacity: usize) -> Word {
-    cache.set_capacity(capacity);
-    Word::Done
+    })
 }

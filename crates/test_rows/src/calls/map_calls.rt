@@ -10,65 +10,58 @@ use std::hash::BuildHasher;
 
 pub type Map<S> = LinkedHashMap<Item, Item, S>;
 
-/// A call by its name.
+/// A call, by what follows its name.
 #[derive(Clone, Copy)]
-enum Named {
+enum MapCall {
+    /// Nothing.
     Read(ReadCall),
+    /// Nothing.
     End(EndCall),
+    /// A key.
     Key(KeyCall),
+    /// A key, and what is then written to the value.
     Lend(LendCall),
+    /// What is then written to the value.
     LendBack,
+    /// A key, what is made where it is absent, and what is then written to the value.
     GetOrInsertWith,
+    /// A pair.
     Pair(PairCall),
+    /// A number.
     Size(SizeCall),
 }
 
-/// A call with what follows its name.
-#[derive(Drop)]
-enum MapCall {
-    Read(ReadCall),
-    End(EndCall),
-    Key(KeyCall, Item),
-    /// What is written comes last, where what is lent is written.
-    Lend(LendCall, Item, Option<Name>),
-    LendBack(Option<Name>),
-    /// What is made where the key is absent comes second.
-    GetOrInsertWith(Item, Item, Option<Name>),
-    Pair(PairCall, Item, Item),
-    Size(SizeCall, usize),
-}
-
-const CALLS: [(&str, Named); 30] = [
-    ("front", Named::Read(ReadCall::Front)),
-    ("back", Named::Read(ReadCall::Back)),
-    ("len", Named::Read(ReadCall::Len)),
-    ("is_empty", Named::Read(ReadCall::IsEmpty)),
-    ("pop_front", Named::End(EndCall::PopFront)),
-    ("pop_back", Named::End(EndCall::PopBack)),
-    ("clear", Named::End(EndCall::Clear)),
-    ("shrink", Named::End(EndCall::Shrink)),
-    ("clone", Named::End(EndCall::Clone)),
-    ("get", Named::Key(KeyCall::Get)),
-    ("contains_key", Named::Key(KeyCall::ContainsKey)),
-    ("get_key_value", Named::Key(KeyCall::GetKeyValue)),
-    ("index", Named::Key(KeyCall::Index)),
-    ("remove", Named::Key(KeyCall::Remove)),
-    ("remove_entry", Named::Key(KeyCall::RemoveEntry)),
-    ("get_mut", Named::Lend(LendCall::GetMut)),
-    ("to_front", Named::Lend(LendCall::ToFront)),
-    ("to_back", Named::Lend(LendCall::ToBack)),
-    ("index_mut", Named::Lend(LendCall::IndexMut)),
-    ("back_value_mut", Named::LendBack),
-    ("get_or_insert_with", Named::GetOrInsertWith),
-    ("insert", Named::Pair(PairCall::Insert)),
-    ("insert_front", Named::Pair(PairCall::InsertFront)),
-    ("replace", Named::Pair(PairCall::Replace)),
-    ("reserve", Named::Size(SizeCall::Reserve)),
-    ("try_reserve", Named::Size(SizeCall::TryReserve)),
-    ("room", Named::Size(SizeCall::Has(Asked::Room))),
-    ("capacity", Named::Size(SizeCall::Has(Asked::Capacity))),
-    ("under", Named::Size(SizeCall::Has(Asked::Under))),
-    ("with_capacity", Named::Size(SizeCall::WithCapacity)),
+const CALLS: [(&str, MapCall); 30] = [
+    ("front", MapCall::Read(ReadCall::Front)),
+    ("back", MapCall::Read(ReadCall::Back)),
+    ("len", MapCall::Read(ReadCall::Len)),
+    ("is_empty", MapCall::Read(ReadCall::IsEmpty)),
+    ("pop_front", MapCall::End(EndCall::PopFront)),
+    ("pop_back", MapCall::End(EndCall::PopBack)),
+    ("clear", MapCall::End(EndCall::Clear)),
+    ("shrink", MapCall::End(EndCall::Shrink)),
+    ("clone", MapCall::End(EndCall::Clone)),
+    ("get", MapCall::Key(KeyCall::Get)),
+    ("contains_key", MapCall::Key(KeyCall::ContainsKey)),
+    ("get_key_value", MapCall::Key(KeyCall::GetKeyValue)),
+    ("index", MapCall::Key(KeyCall::Index)),
+    ("remove", MapCall::Key(KeyCall::Remove)),
+    ("remove_entry", MapCall::Key(KeyCall::RemoveEntry)),
+    ("get_mut", MapCall::Lend(LendCall::GetMut)),
+    ("to_front", MapCall::Lend(LendCall::ToFront)),
+    ("to_back", MapCall::Lend(LendCall::ToBack)),
+    ("index_mut", MapCall::Lend(LendCall::IndexMut)),
+    ("back_value_mut", MapCall::LendBack),
+    ("get_or_insert_with", MapCall::GetOrInsertWith),
+    ("insert", MapCall::Pair(PairCall::Insert)),
+    ("insert_front", MapCall::Pair(PairCall::InsertFront)),
+    ("replace", MapCall::Pair(PairCall::Replace)),
+    ("reserve", MapCall::Size(SizeCall::Reserve)),
+    ("try_reserve", MapCall::Size(SizeCall::TryReserve)),
+    ("room", MapCall::Size(SizeCall::Has(Asked::Room))),
+    ("capacity", MapCall::Size(SizeCall::Has(Asked::Capacity))),
+    ("under", MapCall::Size(SizeCall::Has(Asked::Under))),
+    ("with_capacity", MapCall::Size(SizeCall::WithCapacity)),
 ];
 
 /// Makes the call that a line says.
@@ -79,43 +72,19 @@ pub fn call_map<S: BuildHasher + Copy + Default + Drop>(
     let Some(call) = line.words.known(&CALLS) else {
         return call_many(map, line);
     };
-    let call = read_call(call, line)?;
-    line.give(answer(map, call, line.home.alloc))
-}
-
-fn read_call(call: Named, line: &mut Line<'_>) -> Result<MapCall, Stop> {
-    Ok(match call {
-        Named::Read(call) => MapCall::Read(call),
-        Named::End(call) => MapCall::End(call),
-        Named::Key(call) => MapCall::Key(call, line.item()?),
-        Named::Lend(call) => {
-            let (key, new) = line.lent_item()?;
-            MapCall::Lend(call, key, new)
+    match call {
+        MapCall::Read(call) => line.say(read(map, call)),
+        MapCall::End(call) => line.say(call_at_end(map, call)),
+        MapCall::Key(call) => look_up(map, call, line),
+        MapCall::Lend(call) => lend(map, call, line),
+        MapCall::LendBack => {
+            let new = line.words.optional();
+            line.say(write(map.back_value_mut(), new))
         }
-        Named::LendBack => MapCall::LendBack(line.words.optional()),
-        Named::GetOrInsertWith => {
-            let (key, value) = line.pair()?;
-            MapCall::GetOrInsertWith(key, value, line.words.optional())
-        }
-        Named::Pair(call) => {
-            let (key, value) = line.pair()?;
-            MapCall::Pair(call, key, value)
-        }
-        Named::Size(call) => MapCall::Size(call, line.words.size()),
-    })
-}
-
-fn answer<S: BuildHasher + Copy + Drop>(map: &mut Map<S>, call: MapCall, alloc: Global) -> Answer {
-    Answer::Word(match call {
-        MapCall::Read(call) => read(map, call),
-        MapCall::End(call) => call_at_end(map, call),
-        MapCall::Key(call, key) => look_up(map, call, &key),
-        MapCall::Lend(call, key, new) => lend(map, call, &key, new),
-        MapCall::LendBack(new) => write(map.back_value_mut(), new),
-        MapCall::GetOrInsertWith(key, value, new) => return get_or_insert(map, key, value, new),
-        MapCall::Pair(call, key, value) => return put_pair(map, call, key, value),
-        MapCall::Size(call, size) => ask_room(map, call, alloc, size),
-    })
+        MapCall::GetOrInsertWith => get_or_insert(map, line),
+        MapCall::Pair(call) => put_pair(map, call, line),
+        MapCall::Size(call) => ask_room(map, call, line),
+    }
 }
 
 #[derive(Clone, Copy)]
@@ -173,15 +142,20 @@ enum KeyCall {
     RemoveEntry,
 }
 
-fn look_up<S: BuildHasher>(map: &mut Map<S>, call: KeyCall, key: &Item) -> Word {
-    match call {
+fn look_up<S: BuildHasher>(
+    map: &mut Map<S>,
+    call: KeyCall,
+    line: &mut Line<'_>,
+) -> Result<(), Stop> {
+    let key = &line.item()?;
+    line.say(match call {
         KeyCall::Get => lent_item(map.get(key)),
         KeyCall::ContainsKey => Word::Is(map.contains_key(key)),
         KeyCall::GetKeyValue => lent(map.get_key_value(key)),
         KeyCall::Index => index(map, key),
         KeyCall::Remove => given_item(map.remove(key)),
         KeyCall::RemoveEntry => given(map.remove_entry(key)),
-    }
+    })
 }
 
 fn index<S: BuildHasher>(map: &Map<S>, key: &Item) -> Word {
@@ -199,13 +173,14 @@ enum LendCall {
     IndexMut,
 }
 
-fn lend<S: BuildHasher>(map: &mut Map<S>, call: LendCall, key: &Item, new: Option<Name>) -> Word {
-    match call {
-        LendCall::GetMut => write(map.get_mut(key), new),
-        LendCall::ToFront => write(map.to_front(key), new),
-        LendCall::ToBack => write(map.to_back(key), new),
-        LendCall::IndexMut => index_mut(map, key, new),
-    }
+fn lend<S: BuildHasher>(map: &mut Map<S>, call: LendCall, line: &mut Line<'_>) -> Result<(), Stop> {
+    let (key, new) = line.lent_item()?;
+    line.say(match call {
+        LendCall::GetMut => write(map.get_mut(&key), new),
+        LendCall::ToFront => write(map.to_front(&key), new),
+        LendCall::ToBack => write(map.to_back(&key), new),
+        LendCall::IndexMut => index_mut(map, &key, new),
+    })
 }
 
 fn index_mut<S: BuildHasher>(map: &mut Map<S>, key: &Item, new: Option<Name>) -> Word {
@@ -215,16 +190,13 @@ fn index_mut<S: BuildHasher>(map: &mut Map<S>, key: &Item, new: Option<Name>) ->
     Word::Nothing
 }
 
-fn get_or_insert<S: BuildHasher>(
-    map: &mut Map<S>,
-    key: Item,
-    value: Item,
-    new: Option<Name>,
-) -> Answer {
-    match map.get_or_insert_with(key, || value) {
+fn get_or_insert<S: BuildHasher>(map: &mut Map<S>, line: &mut Line<'_>) -> Result<(), Stop> {
+    let (key, value) = line.pair()?;
+    let new = line.words.optional();
+    line.give(match map.get_or_insert_with(key, || value) {
         Ok(lent) => Answer::Word(write_item(lent, new)),
         Err(pair) => no_memory(pair),
-    }
+    })
 }
 
 #[derive(Clone, Copy)]
@@ -234,12 +206,17 @@ enum PairCall {
     Replace,
 }
 
-fn put_pair<S: BuildHasher>(map: &mut Map<S>, call: PairCall, key: Item, value: Item) -> Answer {
-    match call {
+fn put_pair<S: BuildHasher>(
+    map: &mut Map<S>,
+    call: PairCall,
+    line: &mut Line<'_>,
+) -> Result<(), Stop> {
+    let (key, value) = line.pair()?;
+    line.give(match call {
         PairCall::Insert => put(map.insert(key, value)),
         PairCall::InsertFront => put(map.insert_front(key, value)),
         PairCall::Replace => put(map.replace(key, value)),
-    }
+    })
 }
 
 #[derive(Clone, Copy)]
@@ -253,15 +230,15 @@ enum SizeCall {
 fn ask_room<S: BuildHasher + Copy + Drop>(
     map: &mut Map<S>,
     call: SizeCall,
-    alloc: Global,
-    size: usize,
-) -> Word {
-    match call {
+    line: &mut Line<'_>,
+) -> Result<(), Stop> {
+    let size = line.words.size();
+    line.say(match call {
         SizeCall::Reserve => room(map.reserve(size)),
         SizeCall::TryReserve => room(map.try_reserve(size)),
         SizeCall::Has(asked) => has_room(asked, map.capacity(), map.len(), size),
-        SizeCall::WithCapacity => with_capacity(map, alloc, size),
-    }
+        SizeCall::WithCapacity => with_capacity(map, line.home.alloc, size),
+    })
 }
 
 fn with_capacity<S: BuildHasher + Copy + Drop>(

@@ -9,51 +9,46 @@ use std::hash::BuildHasher;
 
 pub type Set<S> = LinkedHashSet<Item, S>;
 
-/// A call by its name.
+/// A call, by what follows its name.
 #[derive(Clone, Copy)]
-enum Named {
+enum SetCall {
+    /// Nothing.
     Read(ReadCall),
+    /// Nothing.
     End(EndCall),
+    /// An element.
     Element(ElementCall),
+    /// An element, which is put in.
     Put(PutCall),
+    /// A number.
     Size(SizeCall),
 }
 
-/// A call with what follows its name.
-#[derive(Drop)]
-enum SetCall {
-    Read(ReadCall),
-    End(EndCall),
-    Element(ElementCall, Item),
-    Put(PutCall, Item),
-    Size(SizeCall, usize),
-}
-
-const CALLS: [(&str, Named); 24] = [
-    ("front", Named::Read(ReadCall::Front)),
-    ("back", Named::Read(ReadCall::Back)),
-    ("len", Named::Read(ReadCall::Len)),
-    ("is_empty", Named::Read(ReadCall::IsEmpty)),
-    ("pop_front", Named::End(EndCall::PopFront)),
-    ("pop_back", Named::End(EndCall::PopBack)),
-    ("clear", Named::End(EndCall::Clear)),
-    ("shrink", Named::End(EndCall::Shrink)),
-    ("clone", Named::End(EndCall::Clone)),
-    ("contains", Named::Element(ElementCall::Contains)),
-    ("get", Named::Element(ElementCall::Get)),
-    ("to_front", Named::Element(ElementCall::ToFront)),
-    ("to_back", Named::Element(ElementCall::ToBack)),
-    ("remove", Named::Element(ElementCall::Remove)),
-    ("take", Named::Element(ElementCall::Take)),
-    ("insert", Named::Put(PutCall::Insert)),
-    ("replace", Named::Put(PutCall::Replace)),
-    ("get_or_insert", Named::Put(PutCall::GetOrInsert)),
-    ("reserve", Named::Size(SizeCall::Reserve)),
-    ("try_reserve", Named::Size(SizeCall::TryReserve)),
-    ("room", Named::Size(SizeCall::Has(Asked::Room))),
-    ("capacity", Named::Size(SizeCall::Has(Asked::Capacity))),
-    ("under", Named::Size(SizeCall::Has(Asked::Under))),
-    ("with_capacity", Named::Size(SizeCall::WithCapacity)),
+const CALLS: [(&str, SetCall); 24] = [
+    ("front", SetCall::Read(ReadCall::Front)),
+    ("back", SetCall::Read(ReadCall::Back)),
+    ("len", SetCall::Read(ReadCall::Len)),
+    ("is_empty", SetCall::Read(ReadCall::IsEmpty)),
+    ("pop_front", SetCall::End(EndCall::PopFront)),
+    ("pop_back", SetCall::End(EndCall::PopBack)),
+    ("clear", SetCall::End(EndCall::Clear)),
+    ("shrink", SetCall::End(EndCall::Shrink)),
+    ("clone", SetCall::End(EndCall::Clone)),
+    ("contains", SetCall::Element(ElementCall::Contains)),
+    ("get", SetCall::Element(ElementCall::Get)),
+    ("to_front", SetCall::Element(ElementCall::ToFront)),
+    ("to_back", SetCall::Element(ElementCall::ToBack)),
+    ("remove", SetCall::Element(ElementCall::Remove)),
+    ("take", SetCall::Element(ElementCall::Take)),
+    ("insert", SetCall::Put(PutCall::Insert)),
+    ("replace", SetCall::Put(PutCall::Replace)),
+    ("get_or_insert", SetCall::Put(PutCall::GetOrInsert)),
+    ("reserve", SetCall::Size(SizeCall::Reserve)),
+    ("try_reserve", SetCall::Size(SizeCall::TryReserve)),
+    ("room", SetCall::Size(SizeCall::Has(Asked::Room))),
+    ("capacity", SetCall::Size(SizeCall::Has(Asked::Capacity))),
+    ("under", SetCall::Size(SizeCall::Has(Asked::Under))),
+    ("with_capacity", SetCall::Size(SizeCall::WithCapacity)),
 ];
 
 /// Makes the call that a line says.
@@ -64,28 +59,13 @@ pub fn call_set<S: BuildHasher + Copy + Default + Drop>(
     let Some(call) = line.words.known(&CALLS) else {
         return call_many(set, line);
     };
-    let call = read_call(call, line)?;
-    line.give(answer(set, call, line.home.alloc))
-}
-
-fn read_call(call: Named, line: &mut Line<'_>) -> Result<SetCall, Stop> {
-    Ok(match call {
-        Named::Read(call) => SetCall::Read(call),
-        Named::End(call) => SetCall::End(call),
-        Named::Element(call) => SetCall::Element(call, line.item()?),
-        Named::Put(call) => SetCall::Put(call, line.item()?),
-        Named::Size(call) => SetCall::Size(call, line.words.size()),
-    })
-}
-
-fn answer<S: BuildHasher + Copy + Drop>(set: &mut Set<S>, call: SetCall, alloc: Global) -> Answer {
-    Answer::Word(match call {
-        SetCall::Read(call) => read(set, call),
-        SetCall::End(call) => call_at_end(set, call),
-        SetCall::Element(call, element) => look_up(set, call, &element),
-        SetCall::Put(call, element) => return put(set, call, element),
-        SetCall::Size(call, size) => ask_room(set, call, alloc, size),
-    })
+    match call {
+        SetCall::Read(call) => line.say(read(set, call)),
+        SetCall::End(call) => line.say(call_at_end(set, call)),
+        SetCall::Element(call) => look_up(set, call, line),
+        SetCall::Put(call) => put(set, call, line),
+        SetCall::Size(call) => ask_room(set, call, line),
+    }
 }
 
 #[derive(Clone, Copy)]
@@ -143,15 +123,20 @@ enum ElementCall {
     Take,
 }
 
-fn look_up<S: BuildHasher>(set: &mut Set<S>, call: ElementCall, element: &Item) -> Word {
-    match call {
+fn look_up<S: BuildHasher>(
+    set: &mut Set<S>,
+    call: ElementCall,
+    line: &mut Line<'_>,
+) -> Result<(), Stop> {
+    let element = &line.item()?;
+    line.say(match call {
         ElementCall::Contains => Word::Is(set.contains(element)),
         ElementCall::Get => lent_item(set.get(element)),
         ElementCall::ToFront => Word::Is(set.to_front(element)),
         ElementCall::ToBack => Word::Is(set.to_back(element)),
         ElementCall::Remove => Word::Is(set.remove(element)),
         ElementCall::Take => given_item(set.take(element)),
-    }
+    })
 }
 
 #[derive(Clone, Copy)]
@@ -161,12 +146,13 @@ enum PutCall {
     GetOrInsert,
 }
 
-fn put<S: BuildHasher>(set: &mut Set<S>, call: PutCall, element: Item) -> Answer {
-    match call {
+fn put<S: BuildHasher>(set: &mut Set<S>, call: PutCall, line: &mut Line<'_>) -> Result<(), Stop> {
+    let element = line.item()?;
+    line.give(match call {
         PutCall::Insert => is_new_or_back(set.insert(element)),
         PutCall::Replace => old_or_back(set.replace(element)),
         PutCall::GetOrInsert => lent_or_back(set.get_or_insert(element)),
-    }
+    })
 }
 
 /// Whether the element was absent, or the one that is handed back.
@@ -209,15 +195,15 @@ enum SizeCall {
 fn ask_room<S: BuildHasher + Copy + Drop>(
     set: &mut Set<S>,
     call: SizeCall,
-    alloc: Global,
-    size: usize,
-) -> Word {
-    match call {
+    line: &mut Line<'_>,
+) -> Result<(), Stop> {
+    let size = line.words.size();
+    line.say(match call {
         SizeCall::Reserve => room(set.reserve(size)),
         SizeCall::TryReserve => room(set.try_reserve(size)),
         SizeCall::Has(asked) => has_room(asked, set.capacity(), set.len(), size),
-        SizeCall::WithCapacity => with_capacity(set, alloc, size),
-    }
+        SizeCall::WithCapacity => with_capacity(set, line.home.alloc, size),
+    })
 }
 
 fn with_capacity<S: BuildHasher + Copy + Drop>(
