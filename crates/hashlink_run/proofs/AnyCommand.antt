@@ -117,5 +117,5 @@ module _ {K V B S : Type 0} (eq : K → K → Bool) (Says : K → V → B → Ty
   map_step-taken old new Shrink replies spare s = ap is_refused s.2 ∙ shrink-taken K V B s.0
   map_step-taken old new Keep replies spare s = ap is_refused s.1
   map_step-taken old new (Entry k step) replies spare s = entry-taken eq Says replies old new k spare step s
-  map_step-taken old new (Cursor steps) replies spare s = walk-taken (first_place old) s.0
-      steps.items replies spare s.1
+  map_step-taken old new (Cursor steps) replies spare s =
+      walk-taken eq Says (first_place old) s.0 steps.items replies spare s.1

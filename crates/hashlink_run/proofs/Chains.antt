@@ -15,6 +15,7 @@ use Rattle.hashlink_run.specs.CallReplies.{is_refused}
 use Rattle.hashlink_run.specs.Chain.{Answered, state_after, after}
 use Rattle.hashlink_run.specs.Run.{Run, Runs, passed_at, keeps_nodes, passed_by}
 use Rattle.hashlink_run.specs.Run.{StaysWithinPeak, TakesKeysWhereShorter}
+use Rattle.hashlink_run.specs.Step.{Step}
 use Rattle.hashlink_run.proofs.Chained.{Chain-take, Chain-drop, state_after-parts}
 use Rattle.hashlink_run.proofs.AnyCommand.{map_step-taken, step-nodes}
 
