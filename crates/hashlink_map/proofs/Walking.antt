@@ -1,11 +1,15 @@
 -- Where a walk that lends values stands, by its places.
 use Rattle.std.proofs.Common.{◌≡◌, ◌≢◌, ℕ, zero, suc, ◌+◌, ◌-◌, ◌<◌, ◌≤◌, List, [], ◌∷◌, length}
-use Rattle.std.proofs.Common.{take, drop, Option, None, Some, refl, ap, ap₂, sym, subst, length-drop}
+use Rattle.std.proofs.Common.{◌++◌, map, take, drop, Option, None, Some, refl, ap, ap₂, sym, subst, add-one}
+use Rattle.std.proofs.Common.{append-nil, length-drop}
 use Rattle.std.proofs.Common.{length-take-le}
 use Rattle.std.proofs.Common.{◌∙◌, arith}
 use Rattle.std.specs.Prelude.{slice_get, OnSome, IfNone}
-use Rattle.std.specs.Option.{option_map}
-use Rattle.hashlink_model.specs.MapState.{MapState, map_state}
+use Rattle.std.specs.Borrow.{MutBor}
+use Rattle.std.specs.Option.{option_map, option_copied_mut}
+use Rattle.std.proofs.Math.Seq.{take-length, drop-length}
+use Rattle.hashlink_model.specs.Entries.{set_value_at}
+use Rattle.hashlink_model.specs.MapState.{MapState, map_state, with_value}
 use Rattle.hashlink_model.specs.Walk.{first_of, last_of}
 use Rattle.hashlink_core.specs.Keyed.{Keyed, entries_of, state_of, pair_with_value}
 use Rattle.hashlink_core.specs.KeyedLends.{with_value_at}
@@ -13,7 +17,7 @@ use Rattle.hashlink_core.proofs.Mapped.{values-renewed_value}
 use Rattle.std.proofs.lemmas.List.{length-map}
 use Rattle.hashlink_map.specs.declared.places_left.PlacesLeft.{PlacesLeft}
 use Rattle.hashlink_map.specs.WritingWalk.{WritingWalk, writing_walk, walk_with, walk_in, walk_rest}
-use Rattle.hashlink_map.specs.WritingWalk.{last_place}
+use Rattle.hashlink_map.specs.WritingWalk.{WritesSoFar, after_front, last_place}
 use Rattle.hashlink_map.specs.WritingWalk.{StandsIn, TakesPlace}
 use Rattle.hashlink_model.specs.Cursor.{following_place, preceding_place}
 use Rattle.hashlink_core.specs.Places.{Node, Holds, IsPlace, IsPlaceAt, place_number}
@@ -62,6 +66,12 @@ module _ {X : Type 0} (ns : List (Node × X)) (first last : Option Node) (left :
         few = omega (arith, w.few, number-next, some);
         ends = λ more. let ends = w.ends (omega (arith, some)) in omega (arith, ends, more, number-next);
       }
+
+  pub first-placed : IsPlace ns first
+  first-placed = elim first as (λ p. first ≡ p → IsPlace ns p) [
+    | None ↦ λ is. tt
+    | Some n ↦ λ is. holds-first n is
+  ] refl
 
   -- ---- at the back
   module _ (n : Node) (is : last ≡ Some n) where
@@ -172,3 +182,62 @@ module _ {K V S : Type 0} where
       → state_of seen ≡ state
       → state_of m ≡ state
   walk-ends seen is told = ap state_of is ∙ told
+
+-- ---- a walk that writes each value in turn
+
+module _ {K V : Type 0} (f : K × V → V) where
+  -- the first i entries with what f makes of them, and the others as they were
+  abbrev written : ℕ → List (K × V) → List (K × V)
+  written i es = map (λ e. (e.0, f e)) (take i es) ++ drop i es
+
+  written-at : (i : ℕ) (es : List (K × V)) → slice_get (written i es) i ≡ slice_get es i
+  written-at zero es = refl
+  written-at (suc i) [] = refl
+  written-at (suc i) (e ∷ es) = written-at i es
+
+  written-next : (i : ℕ) (es : List (K × V)) (v : V) → ((e : K × V) → slice_get es i ≡ Some e → v ≡ f e)
+      → set_value_at (written i es) i v ≡ written (suc i) es
+  written-next zero [] v is = refl
+  written-next zero (e ∷ es) v is = ap (λ w. (e.0, w) ∷ es) (is e refl)
+  written-next (suc i) [] v is = refl
+  written-next (suc i) (e ∷ es) v is = ap (λ l. (e.0, f e) ∷ l) (written-next i es v is)
+
+  written-all : (es : List (K × V)) → written (length es) es ≡ map (λ e. (e.0, f e)) es
+  written-all es = ap₂ (λ a b. map (λ e. (e.0, f e)) a ++ b) (take-length es) (drop-length es)
+      ∙ append-nil _
+
+  module _ {S : Type 0} (old : MapState K V S) where
+    pub writes-start : WritesSoFar f old (writing_walk old 0 (length old.entries))
+    writes-start = record { whole = omega arith; written = refl }
+
+    pub writes-next : (w new : WritingWalk K V S) (v : V) → WritesSoFar f old w → 0 < w.left
+        → ((e : K × V) → first_of (walk_rest w) ≡ Some e → v ≡ f e)
+        → new ≡ walk_with (after_front w) w.at v
+        → WritesSoFar f old new
+    writes-next w new v so some is told =
+        let next : set_value_at (written w.at old.entries) w.at v ≡ written (suc w.at) old.entries =
+        written-next w.at old.entries v (λ e at.
+        is e
+        (first-of_part w.map.entries w.at w.left some ∙ ap (λ m. slice_get m.entries w.at) so.written
+        ∙ written-at w.at old.entries ∙ at)) in
+        subst (WritesSoFar f old) (sym told) record {
+          whole = omega (arith, so.whole, some);
+          written = ap (λ m. with_value m w.at v) so.written
+              ∙ ap (λ es. record old { entries = es }) (next ∙ ap (λ i. written i old.entries) (sym (add-one w.at)));
+        }
+
+    pub writes-end : (w : WritingWalk K V S) → WritesSoFar f old w → w.left ≡ 0
+        → w.map ≡ record old { entries = map (λ e. (e.0, f e)) old.entries }
+    writes-end w so none =
+        let all : w.at ≡ length old.entries = omega (arith, so.whole, none) in
+        so.written ∙ ap (λ i. record old { entries = written i old.entries }) all
+        ∙ ap (λ es. record old { entries = es }) (written-all old.entries)
+
+-- what a value that was lent was before
+pub lent-value : {K V : Type 0} (o : Option (K × V)) (r : Option (MutBor V)) (x : MutBor V) (e : K × V)
+    → option_copied_mut r ≡ option_map (λ e. e.1) o → r ≡ Some x → o ≡ Some e
+    → x.now ≡ e.1
+lent-value o r x e lent is at =
+    let same : Some x.now ≡ Some e.1 =
+    sym (ap option_copied_mut is) ∙ lent ∙ ap (option_map (λ e. e.1)) at in
+    cc

@@ -25,5 +25,6 @@ returns-in-Some g c =
         value =
             sym c.value_at_mut.ensures.value
             ∙ ap (option_map (λ e. e.1)) (first-taken o.map.now o.places n _ _ takes);
+        left = takes.2;
       },
     )
