@@ -1,13 +1,11 @@
 -- Where a walk that lends values stands, by its places.
 use Rattle.std.proofs.Common.{◌≡◌, ◌≢◌, ℕ, zero, suc, ◌+◌, ◌-◌, ◌<◌, ◌≤◌, List, [], ◌∷◌, length}
 use Rattle.std.proofs.Common.{◌++◌, map, take, drop, Option, None, Some, refl, ap, ap₂, sym, subst, add-one}
-use Rattle.std.proofs.Common.{append-nil, length-drop}
+use Rattle.std.proofs.Common.{length-drop}
 use Rattle.std.proofs.Common.{length-take-le}
 use Rattle.std.proofs.Common.{◌∙◌, arith}
 use Rattle.std.specs.Prelude.{slice_get, OnSome, IfNone}
-use Rattle.std.specs.Borrow.{MutBor}
-use Rattle.std.specs.Option.{option_map, option_copied_mut}
-use Rattle.std.proofs.Math.Seq.{take-length, drop-length}
+use Rattle.std.specs.Option.{option_map}
 use Rattle.hashlink_model.specs.Entries.{set_value_at}
 use Rattle.hashlink_model.specs.MapState.{MapState, map_state, with_value}
 use Rattle.hashlink_model.specs.Walk.{first_of, last_of}
@@ -202,42 +200,27 @@ module _ {K V : Type 0} (f : K × V → V) where
   written-next (suc i) [] v is = refl
   written-next (suc i) (e ∷ es) v is = ap (λ l. (e.0, f e) ∷ l) (written-next i es v is)
 
-  written-all : (es : List (K × V)) → written (length es) es ≡ map (λ e. (e.0, f e)) es
-  written-all es = ap₂ (λ a b. map (λ e. (e.0, f e)) a ++ b) (take-length es) (drop-length es)
-      ∙ append-nil _
+  -- the walk after a step that lent the next entry's value, where v was written
+  pub writes-next : {S : Type 0} {old : MapState K V S} {w new : WritingWalk K V S} {v : V}
+      → WritesSoFar f old w → 0 < w.left → ((e : K × V) → first_of (walk_rest w) ≡ Some e → v ≡ f e)
+      → new ≡ walk_with (after_front w) w.at v
+      → WritesSoFar f old new
+  writes-next {old = old} {w = w} {v = v} so some is told =
+      let here = λ (e : K × V) (at : slice_get old.entries w.at ≡ Some e).
+      first-of_part w.map.entries w.at w.left some ∙ ap (λ m. slice_get m.entries w.at) so.written
+      ∙ written-at w.at old.entries ∙ at in
+      subst (WritesSoFar f old) (sym told) record {
+        whole = omega (arith, so.whole, some);
+        written = ap (λ m. with_value m w.at v) so.written
+            ∙ ap (λ es. record old { entries = es })
+            (written-next w.at old.entries v (λ e at. is e (here e at))
+            ∙ ap (λ i. written i old.entries) (sym (add-one w.at)));
+      }
 
-  module _ {S : Type 0} (old : MapState K V S) where
-    pub writes-start : WritesSoFar f old (writing_walk old 0 (length old.entries))
-    writes-start = record { whole = omega arith; written = refl }
+-- an entry, by its value that was lent and by the pair that was shown
+module _ {K V : Type 0} {o : Option (K × V)} {e : K × V} where
+  pub lent-value : {v : V} → Some v ≡ option_map (λ x. x.1) o → o ≡ Some e → v ≡ e.1
+  lent-value {v = v} lent at = let same : Some v ≡ Some e.1 = lent ∙ ap (option_map (λ x. x.1)) at in cc
 
-    pub writes-next : (w new : WritingWalk K V S) (v : V) → WritesSoFar f old w → 0 < w.left
-        → ((e : K × V) → first_of (walk_rest w) ≡ Some e → v ≡ f e)
-        → new ≡ walk_with (after_front w) w.at v
-        → WritesSoFar f old new
-    writes-next w new v so some is told =
-        let next : set_value_at (written w.at old.entries) w.at v ≡ written (suc w.at) old.entries =
-        written-next w.at old.entries v (λ e at.
-        is e
-        (first-of_part w.map.entries w.at w.left some ∙ ap (λ m. slice_get m.entries w.at) so.written
-        ∙ written-at w.at old.entries ∙ at)) in
-        subst (WritesSoFar f old) (sym told) record {
-          whole = omega (arith, so.whole, some);
-          written = ap (λ m. with_value m w.at v) so.written
-              ∙ ap (λ es. record old { entries = es }) (next ∙ ap (λ i. written i old.entries) (sym (add-one w.at)));
-        }
-
-    pub writes-end : (w : WritingWalk K V S) → WritesSoFar f old w → w.left ≡ 0
-        → w.map ≡ record old { entries = map (λ e. (e.0, f e)) old.entries }
-    writes-end w so none =
-        let all : w.at ≡ length old.entries = omega (arith, so.whole, none) in
-        so.written ∙ ap (λ i. record old { entries = written i old.entries }) all
-        ∙ ap (λ es. record old { entries = es }) (written-all old.entries)
-
--- what a value that was lent was before
-pub lent-value : {K V : Type 0} (o : Option (K × V)) (r : Option (MutBor V)) (x : MutBor V) (e : K × V)
-    → option_copied_mut r ≡ option_map (λ e. e.1) o → r ≡ Some x → o ≡ Some e
-    → x.now ≡ e.1
-lent-value o r x e lent is at =
-    let same : Some x.now ≡ Some e.1 =
-    sym (ap option_copied_mut is) ∙ lent ∙ ap (option_map (λ e. e.1)) at in
-    cc
+  pub shown-entry : {x : K × V} → Some x ≡ o → o ≡ Some e → x ≡ e
+  shown-entry {x = x} shown at = let same : Some x ≡ Some e = shown ∙ at in cc

@@ -129,7 +129,8 @@ impl<'a, K: Eq + Hash, V, S: BuildHasher> IterMut<'a, K, V, S> {
     /// Returns the entry whose value `next` lends, or `None` if none is left. It takes constant time, and the
     /// iterator stays where it is. Before `next_value` it tells the key.
     pub fn peek(&self) -> Option<(&K, &V)>
-        ensures { option_map deref_pair result ≡ first_of (walk_rest (walk_state self.now)) }
+        ensures pair { option_map deref_pair result ≡ first_of (walk_rest (walk_state self.now)) }
+        ensures left { HasLeft (walk_state self.now) result }
     {
         if self.places.left == 0 {
             return None;

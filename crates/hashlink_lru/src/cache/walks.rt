@@ -4,6 +4,7 @@ ghost use Rattle.std.specs.Prelude.{◌≡◌, ◌^◌, ◌<◌, length};
 ghost use Rattle.std.specs.Borrow.{sem};
 ghost use Rattle.std.specs.Map.{keys_of, values_of};
 ghost use Rattle.std.specs.Map.Iter.{ShowsInOrder, ShowsInReverse, deref, deref_pair};
+ghost use Rattle.std.specs.Map.Iter.{GivesInOrder, GivesInReverse};
 ghost use Rattle.hashlink_model.specs.Entries.{IsEntries};
 
 use super::LruCache;
@@ -91,7 +92,8 @@ impl<K: Eq + Hash + Drop, V: Drop, S: BuildHasher + Drop> IntoIterator for LruCa
 
     type IntoIter = IntoIter<K, V, S>;
 
-    ghost into_iter_gives = { λ c r. r ≡ entries_of c };
+    ghost into_iter_gives = { λ c r. (r ≡ entries_of c) × (length (entries_of c) < 2 ^ 63)
+        × GivesInOrder (K × V) × GivesInReverse (K × V) × IsEntries K.eq (entries_of c) };
 
     fn into_iter(self) -> IntoIter<K, V, S> {
         let LruCache { map, capacity: _ } = self;
@@ -109,7 +111,8 @@ impl<'a, K: Eq + Hash, V, S: BuildHasher> IntoIterator for &'a LruCache<K, V, S>
     type IntoIter = Iter<'a, K, V>;
 
     ghost into_iter_gives = { λ c r. (r ≡ entries_of c.now) × (length (entries_of c.now) < 2 ^ 63)
-        × ShowsInOrder (deref_pair {K = K} {X = V}) };
+        × ShowsInOrder (deref_pair {K = K} {X = V}) × ShowsInReverse (deref_pair {K = K} {X = V})
+        × IsEntries K.eq (entries_of c.now) };
 
     fn into_iter(self) -> Iter<'a, K, V> {
         self.iter()

@@ -17,7 +17,9 @@ returns-in-Some g c =
     let takes = c.in-Some.ensures.takes in (
       (
         refl,
-        (λ w. (refl, taken-written o.map.now o.places c.take_last.new.self n _ _ takes w)),
+        (λ w.
+        let step = taken-written o.map.now o.places c.take_last.new.self n _ _ takes w in
+        ((refl, step), ap (λ s. s.left) step)),
         tt,
       ),
       record {

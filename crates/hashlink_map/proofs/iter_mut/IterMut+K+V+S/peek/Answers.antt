@@ -13,8 +13,8 @@ pair_at_place-requires g c =
     first-placed s.map.now.nodes p.first p.last p.left (stands-inside p.first p.last s.stands)
     c.if-self-eq0.false
 
-pub returns : goal.returns
-returns g c =
+pub returns-clause-pair : goal.returns-clause-pair
+returns-clause-pair g c =
     let s = c.args.self.now in
     let at = slice_get (entries_of s.map.now) in
     let some = c.if-self-eq0.false in
