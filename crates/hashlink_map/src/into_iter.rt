@@ -2,7 +2,7 @@
 ghost use Rattle.std.specs.Prelude.{◌≡◌, ◌^◌, ◌<◌, Some, IfSome, length};
 ghost use Rattle.std.specs.Iterator.{at_most, UpTo};
 ghost use Rattle.std.specs.Iterator.SizeHint.{IsWithinCount};
-ghost use Rattle.std.specs.Map.Iter.{TakesFirst, TakesLast, ShowsInOrder, ShowsInReverse, deref_pair};
+ghost use Rattle.std.specs.Map.Iter.{TakesFirst, TakesLast, ShowsInOrder, deref_pair};
 ghost use Rattle.std.specs.Map.Iter.{GivesInOrder, GivesInReverse};
 ghost use Rattle.hashlink_model.specs.Entries.{IsEntries};
 ghost use Rattle.hashlink_core.specs.Keyed.{entries_of};
@@ -74,10 +74,15 @@ impl<K: Eq + Hash + Drop, V: Drop, S: BuildHasher + Drop> IntoIterator for Linke
 
     type IntoIter = IntoIter<K, V, S>;
 
-    ghost into_iter_gives = { λ m r. (r ≡ entries_of m) × (length (entries_of m) < 2 ^ 63)
-        × GivesInOrder (K × V) × GivesInReverse (K × V) × IsEntries K.eq (entries_of m) };
+    ghost into_iter_gives = { λ m r. r ≡ entries_of m };
 
-    fn into_iter(self) -> IntoIter<K, V, S> {
+    fn into_iter(self) -> IntoIter<K, V, S>
+        ensures into_iter_gives { result ≡ entries_of self }
+        ensures distinct { IsEntries K.eq (entries_of self) }
+        ensures runs { GivesInOrder (K × V) }
+        ensures runs_back { GivesInReverse (K × V) }
+        ensures fits { length (entries_of self) < 2 ^ 63 }
+    {
         // `len` says that no two keys are equal.
         let _count = self.len();
         IntoIter { map: self }
@@ -92,8 +97,7 @@ impl<'a, K: Eq + Hash, V, S: BuildHasher> IntoIterator for &'a LinkedHashMap<K, 
     type IntoIter = Iter<'a, K, V>;
 
     ghost into_iter_gives = { λ m r. (r ≡ entries_of m.now) × (length (entries_of m.now) < 2 ^ 63)
-        × ShowsInOrder (deref_pair {K = K} {X = V}) × ShowsInReverse (deref_pair {K = K} {X = V})
-        × IsEntries K.eq (entries_of m.now) };
+        × ShowsInOrder (deref_pair {K = K} {X = V}) };
 
     fn into_iter(self) -> Iter<'a, K, V> {
         self.iter()

@@ -3,7 +3,7 @@ ghost use Rattle.std.specs.Prelude.{◌≡◌, ◌^◌, ◌<◌, Some, IfSome, l
 ghost use Rattle.std.specs.Iterator.{at_most, UpTo};
 ghost use Rattle.std.specs.Iterator.SizeHint.{IsWithinCount};
 ghost use Rattle.std.specs.List.{IsDistinct};
-ghost use Rattle.std.specs.Map.Iter.{TakesFirst, TakesLast, ShowsInOrder, ShowsInReverse, deref};
+ghost use Rattle.std.specs.Map.Iter.{TakesFirst, TakesLast, ShowsInOrder, deref};
 ghost use Rattle.std.specs.Map.Iter.{GivesInOrder, GivesInReverse};
 ghost use Rattle.hashlink_model.specs.Sets.{elements_of};
 
@@ -74,10 +74,15 @@ impl<T: Eq + Hash + Drop, S: BuildHasher + Drop> IntoIterator for LinkedHashSet<
 
     type IntoIter = IntoIter<T, S>;
 
-    ghost into_iter_gives = { λ s r. (r ≡ elements_of s) × (length (elements_of s) < 2 ^ 63)
-        × GivesInOrder T × GivesInReverse T × IsDistinct T.eq (elements_of s) };
+    ghost into_iter_gives = { λ s r. r ≡ elements_of s };
 
-    fn into_iter(self) -> IntoIter<T, S> {
+    fn into_iter(self) -> IntoIter<T, S>
+        ensures into_iter_gives { result ≡ elements_of self }
+        ensures distinct { IsDistinct T.eq (elements_of self) }
+        ensures runs { GivesInOrder T }
+        ensures runs_back { GivesInReverse T }
+        ensures fits { length (elements_of self) < 2 ^ 63 }
+    {
         // `len` says that no two elements are equal.
         let _count = self.len();
         IntoIter { set: self }
@@ -92,8 +97,7 @@ impl<'a, T: Eq + Hash, S: BuildHasher> IntoIterator for &'a LinkedHashSet<T, S> 
     type IntoIter = Iter<'a, T>;
 
     ghost into_iter_gives = { λ s r. (r ≡ elements_of s.now) × (length (elements_of s.now) < 2 ^ 63)
-        × ShowsInOrder (deref {X = T}) × ShowsInReverse (deref {X = T})
-        × IsDistinct T.eq (elements_of s.now) };
+        × ShowsInOrder (deref {X = T}) };
 
     fn into_iter(self) -> Iter<'a, T> {
         self.iter()

@@ -92,10 +92,15 @@ impl<K: Eq + Hash + Drop, V: Drop, S: BuildHasher + Drop> IntoIterator for LruCa
 
     type IntoIter = IntoIter<K, V, S>;
 
-    ghost into_iter_gives = { λ c r. (r ≡ entries_of c) × (length (entries_of c) < 2 ^ 63)
-        × GivesInOrder (K × V) × GivesInReverse (K × V) × IsEntries K.eq (entries_of c) };
+    ghost into_iter_gives = { λ c r. r ≡ entries_of c };
 
-    fn into_iter(self) -> IntoIter<K, V, S> {
+    fn into_iter(self) -> IntoIter<K, V, S>
+        ensures into_iter_gives { result ≡ entries_of self }
+        ensures distinct { IsEntries K.eq (entries_of self) }
+        ensures runs { GivesInOrder (K × V) }
+        ensures runs_back { GivesInReverse (K × V) }
+        ensures fits { length (entries_of self) < 2 ^ 63 }
+    {
         let LruCache { map, capacity: _ } = self;
         map.into_iter()
     }
@@ -111,8 +116,7 @@ impl<'a, K: Eq + Hash, V, S: BuildHasher> IntoIterator for &'a LruCache<K, V, S>
     type IntoIter = Iter<'a, K, V>;
 
     ghost into_iter_gives = { λ c r. (r ≡ entries_of c.now) × (length (entries_of c.now) < 2 ^ 63)
-        × ShowsInOrder (deref_pair {K = K} {X = V}) × ShowsInReverse (deref_pair {K = K} {X = V})
-        × IsEntries K.eq (entries_of c.now) };
+        × ShowsInOrder (deref_pair {K = K} {X = V}) };
 
     fn into_iter(self) -> Iter<'a, K, V> {
         self.iter()

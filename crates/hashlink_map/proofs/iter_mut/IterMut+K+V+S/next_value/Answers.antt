@@ -18,8 +18,8 @@ returns-in-Some g c =
       (
         refl,
         (λ w.
-        let step = taken-written o.map.now o.places c.take_first.new.self n _ _ takes w in
-        ((refl, step), ap (λ s. s.left) step)),
+            let step = taken-written o.map.now o.places c.take_first.new.self n _ _ takes w in
+            ((refl, step), ap (λ s. s.left) step)),
         tt,
       ),
       record {
