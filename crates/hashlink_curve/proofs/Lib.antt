@@ -1,5 +1,4 @@
--- Lemmas on trees of sums, on places and on histories.
-pub mod Climbs
+-- Lemmas on rows of sums, on places and on histories.
 pub mod FallsListed
 pub mod Histories
 pub mod MappedKeys

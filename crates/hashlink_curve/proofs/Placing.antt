@@ -22,10 +22,9 @@ use Rattle.hashlink_model.proofs.Distinct.{IsEntries-head, none_equal, none_othe
 use Rattle.hashlink_model.proofs.ByPlace.{moved-there}
 use Rattle.hashlink_model.proofs.Finds.{stored_key-equal}
 use Rattle.hashlink_model.proofs.Puts.{none_without, put_back, put_back_absent, put_back_here}
-use Rattle.hashlink_curve.specs.Marks.{Tree, Marked}
+use Rattle.hashlink_curve.specs.Marks.{Marked}
 use Rattle.hashlink_curve.specs.Recency.{Rises, IsPlaced, MovesPast, MovesLast, GoesLast}
-use Rattle.hashlink_curve.proofs.Climbs.{count_by-middle}
-use Rattle.hashlink_curve.proofs.Sums.{count_by-cons}
+use Rattle.hashlink_curve.proofs.Sums.{count_by-cons, count_by-middle}
 
 module _ {K : Type 0} where
   -- ---- rising places
@@ -95,6 +94,25 @@ module _ {K : Type 0} where
       one_if : Bool → ℕ
       one_if b = cond b 1 0
 
+  -- the place after all is free
+  none_at : (low : ℕ) (es : List (K × ℕ)) (next : ℕ) → Rises low es next
+      → count_by (nat_eq next) (values_of es) ≡ 0
+  none_at low [] next r = refl
+  none_at low (e ∷ es) next r =
+      let a = rises_ends (e.1 + 1) es next r.1 in
+      let no : nat_eq next e.1 ≡ false = grind (arith, nat_tests) in
+      let n = ap one_if no in
+      let b = none_at (e.1 + 1) es next r.1 in
+      let d = count_by-cons (nat_eq next) e.1 (values_of es) in
+      omega arith
+    where
+      one_if : Bool → ℕ
+      one_if b = cond b 1 0
+
+  pub free_at : (es : List (K × ℕ)) (next : ℕ) (row : List ℕ) → Rises 0 es next → Marked row (values_of es)
+      → next < length row → get_or row next 0 ≡ 0
+  free_at es next row r m l = m.each next l ∙ none_at 0 es next r
+
   pub values_of-middle : (xs : List (K × ℕ)) (e : K × ℕ) (ys : List (K × ℕ))
       → values_of (xs ++ e ∷ ys) ≡ values_of xs ++ e.1 ∷ values_of ys
   values_of-middle xs e ys = map-append (λ e. e.1) xs (e ∷ ys)
@@ -115,7 +133,7 @@ module _ {K : Type 0} where
 
 module _ {K : Type 0} (eq : K → K → Bool) (laws : IsEquivalence eq) where
   -- the entry of a key that is there, and what the marks say of its place
-  pub record Found (es : List (K × ℕ)) (tree : Tree) (next : ℕ) (k : K) (place : ℕ) : Type 0 where
+  pub record Found (es : List (K × ℕ)) (row : List ℕ) (next : ℕ) (k : K) (place : ℕ) : Type 0 where
     pub front : List (K × ℕ)
     pub key : K
     pub back : List (K × ℕ)
@@ -126,11 +144,11 @@ module _ {K : Type 0} (eq : K → K → Bool) (laws : IsEquivalence eq) where
     pub below : place < next
     pub before : count_by (λ p. nat_lt p place) (values_of es) ≡ length front
     pub values : values_of es ≡ values_of front ++ place ∷ values_of back
-    pub marked : 0 < get_or tree.sums (tree.width + place) 0
+    pub marked : 0 < get_or row place 0
 
-  pub found : (es : List (K × ℕ)) (tree : Tree) (next : ℕ) (k : K) (place : ℕ) → IsPlaced eq es tree next
-      → lookup (eq k) es ≡ Some place → Found es tree next k place
-  found es tree next k place p l =
+  pub found : (es : List (K × ℕ)) (row : List ℕ) (next : ℕ) (k : K) (place : ℕ) → IsPlaced eq es row next
+      → lookup (eq k) es ≡ Some place → Found es row next k place
+  found es row next k place p l =
       let s = stands_from_lookup (eq k) es place l in
       let at : s.1.1 ≡ place
       = same_Some s.1.1 place (sym (lookup-here (eq k) s.1 s.2 s.3.passes s.0 s.3.before) ∙ ap
@@ -168,18 +186,18 @@ module _ {K : Type 0} (eq : K → K → Bool) (laws : IsEquivalence eq) where
       one_if b = cond b 1 0
 
   -- the same of the key that passed a test and moved last
-  pub found_match : (test : K → Bool) (es new : List (K × ℕ)) (tree : Tree) (next place w : ℕ)
-      → IsPlaced eq es tree next → lookup test es ≡ Some place → (m : MovesLast eq test es new w)
-      → Found es tree next m.key place
-  found_match test es new tree next place w p l m =
-      found es tree next m.key place p (subst (λ t. lookup t es ≡ Some place) m.tells l)
+  pub found_match : (test : K → Bool) (es new : List (K × ℕ)) (row : List ℕ) (next place w : ℕ)
+      → IsPlaced eq es row next → lookup test es ≡ Some place → (m : MovesLast eq test es new w)
+      → Found es row next m.key place
+  found_match test es new row next place w p l m =
+      found es row next m.key place p (subst (λ t. lookup t es ≡ Some place) m.tells l)
 
   -- after it the key is the last, at the next place
-  pub found_moves : (es new : List (K × ℕ)) (tree : Tree) (next : ℕ) (k : K) (place others : ℕ)
-      → (f : Found es tree next k place) → new ≡ put eq es k next (length es) → others
+  pub found_moves : (es new : List (K × ℕ)) (row : List ℕ) (next : ℕ) (k : K) (place others : ℕ)
+      → (f : Found es row next k place) → new ≡ put eq es k next (length es) → others
       ≡ length es - 1 - length f.front
       → MovesPast (eq k) (keys_of es) (keys_of new) others
-  found_moves es new tree next k place others f n o =
+  found_moves es new row next k place others f n o =
       let e : K × ℕ = (f.key, place) in
       let there : new ≡ (f.front ++ f.back) ++ (f.key, next) ∷ []
       = n ∙ ap (λ zs. put eq zs k next (length zs)) f.is
@@ -200,13 +218,13 @@ module _ {K : Type 0} (eq : K → K → Bool) (laws : IsEquivalence eq) where
         count = omega arith;
       }
 
-  pub found_placed : (es new : List (K × ℕ)) (tree after : Tree) (next : ℕ) (k : K) (place : ℕ)
-      → IsPlaced eq es tree next
-      → (f : Found es tree next k place) → new ≡ put eq es k next (length es) → IsEntries eq new
+  pub found_placed : (es new : List (K × ℕ)) (row after : List ℕ) (next : ℕ) (k : K) (place : ℕ)
+      → IsPlaced eq es row next
+      → (f : Found es row next k place) → new ≡ put eq es k next (length es) → IsEntries eq new
       → Marked after ((values_of f.front ++ values_of f.back) ++ next ∷ [])
-      → next < after.width
+      → next < length after
       → IsPlaced eq new after (next + 1)
-  found_placed es new tree after next k place p f n d m w =
+  found_placed es new row after next k place p f n d m w =
       let e : K × ℕ = (f.key, place) in
       let there : new ≡ (f.front ++ f.back) ++ (f.key, next) ∷ []
       = n ∙ ap (λ zs. put eq zs k next (length zs)) f.is
@@ -230,6 +248,17 @@ module _ {K : Type 0} (eq : K → K → Bool) (laws : IsEquivalence eq) where
         few = omega arith;
       }
 
+  -- once the place of its last use has no mark
+  pub found_free : (es : List (K × ℕ)) (row after : List ℕ) (next : ℕ) (k : K) (place : ℕ)
+      → IsPlaced eq es row next → (f : Found es row next k place)
+      → Marked after (values_of f.front ++ values_of f.back) → next < length after
+      → get_or after next 0 ≡ 0
+  found_free es row after next k place p f m l =
+      let e : K × ℕ = (f.key, place) in
+      free_at (f.front ++ f.back) next after
+      (rises_middle 0 f.front e f.back next (subst (λ zs. Rises 0 zs next) f.is p.rises))
+      (subst (Marked after) (sym (map-append (λ e. e.1) f.front f.back)) m) l
+
   pub absent_last : (es new : List (K × ℕ)) (k : K) (next : ℕ) → lookup (eq k) es ≡ None
       → new ≡ put eq es k next (length es) → GoesLast eq (keys_of es) (keys_of new) k
   absent_last es new k next l n =
@@ -239,12 +268,12 @@ module _ {K : Type 0} (eq : K → K → Bool) (laws : IsEquivalence eq) where
         last = ap keys_of (n ∙ put_back_absent eq es k next none) ∙ keys_of-append es ((k, next) ∷ []);
       }
 
-  pub absent_placed : (es new : List (K × ℕ)) (tree after : Tree) (k : K) (next : ℕ)
-      → IsPlaced eq es tree next
+  pub absent_placed : (es new : List (K × ℕ)) (row after : List ℕ) (k : K) (next : ℕ)
+      → IsPlaced eq es row next
       → lookup (eq k) es ≡ None → new ≡ put eq es k next (length es) → IsEntries eq new → length es < 2 ^ 63
-      → Marked after (values_of es ++ next ∷ []) → next < after.width
+      → Marked after (values_of es ++ next ∷ []) → next < length after
       → IsPlaced eq new after (next + 1)
-  absent_placed es new tree after k next p l n d few m w =
+  absent_placed es new row after k next p l n d few m w =
       let there = n ∙ put_back_absent eq es k next (none_from_lookup (eq k) es l) in
       let b = ap length there in
       let b2 = length-append es ((k, next) ∷ []) in
@@ -317,19 +346,19 @@ module _ {K : Type 0} where
   numbered-rises n m (x ∷ es) e = (omega arith, numbered-rises (n + 1) m es (omega arith))
 
   -- so many entries got their place and went last
-  pub record Renumbers (eq : K → K → Bool) (old es : List (K × ℕ)) (tree : Tree) (place : ℕ) : Type 0 where
+  pub record Renumbers (eq : K → K → Bool) (old es : List (K × ℕ)) (row : List ℕ) (place : ℕ) : Type 0 where
     pub done : List (K × ℕ)
     pub left : List (K × ℕ)
     pub split : old ≡ done ++ left
     pub count : length done ≡ place
     pub is : es ≡ left ++ numbered 0 done
-    pub marked : Marked tree (values_of (numbered 0 done))
+    pub marked : Marked row (values_of (numbered 0 done))
     pub distinct : IsEntries eq es
 
-  pub Renumbers-start : (eq : K → K → Bool) (old : List (K × ℕ)) (tree : Tree)
-      → Marked tree [] → IsEntries eq old
-      → Renumbers eq old old tree 0
-  Renumbers-start eq old tree m d =
+  pub Renumbers-start : (eq : K → K → Bool) (old : List (K × ℕ)) (row : List ℕ)
+      → Marked row [] → IsEntries eq old
+      → Renumbers eq old old row 0
+  Renumbers-start eq old row m d =
       record {
         done = [];
         left = old;
@@ -340,11 +369,17 @@ module _ {K : Type 0} where
         distinct = d;
       }
 
+  pub Renumbers-free : (eq : K → K → Bool) (old es : List (K × ℕ)) (row : List ℕ) (place : ℕ)
+      → Renumbers eq old es row place → place < length row → get_or row place 0 ≡ 0
+  Renumbers-free eq old es row place r l =
+      let d = r.count in
+      free_at (numbered 0 r.done) place row (numbered-rises 0 place r.done (omega arith)) r.marked l
+
   -- what is first, and what is left behind it
-  pub Renumbers-next : (eq : K → K → Bool) (old es : List (K × ℕ)) (tree : Tree) (place : ℕ)
-      → (r : Renumbers eq old es tree place) → place < length old
+  pub Renumbers-next : (eq : K → K → Bool) (old es : List (K × ℕ)) (row : List ℕ) (place : ℕ)
+      → (r : Renumbers eq old es row place) → place < length old
       → (e : K × ℕ) × (left : List (K × ℕ)) × (r.left ≡ e ∷ left)
-  Renumbers-next eq old es tree place r l =
+  Renumbers-next eq old es row place r l =
       let a = ap length r.split in
       let b = length-append r.done r.left in
       let d = r.count in
@@ -355,22 +390,22 @@ module _ {K : Type 0} where
       by (z ∷ zs) l = (z, zs, refl)
 
   -- the first entry is there
-  pub Renumbers-pops : (eq : K → K → Bool) (old es : List (K × ℕ)) (tree : Tree) (place : ℕ)
-      → Renumbers eq old es tree place → place < length old → first_of es ≡ None → ⊥
-  Renumbers-pops eq old es tree place r l n =
-      let s = Renumbers-next eq old es tree place r l in
+  pub Renumbers-pops : (eq : K → K → Bool) (old es : List (K × ℕ)) (row : List ℕ) (place : ℕ)
+      → Renumbers eq old es row place → place < length old → first_of es ≡ None → ⊥
+  Renumbers-pops eq old es row place r l n =
+      let s = Renumbers-next eq old es row place r l in
       let some : first_of es ≡ Some s.0 = ap first_of (r.is ∙ ap (λ zs. zs ++ numbered 0 r.done) s.2) in
       none-some s.0 (sym n ∙ some)
 
   pub Renumbers-step : {S : Type 0} (eq : K → K → Bool) (laws : IsEquivalence eq) (old : List (K × ℕ))
-      (a b c : MapState K ℕ S) (tree after : Tree) (place : ℕ) (key : K) (v : ℕ) (w : Option ℕ)
-      → Renumbers eq old a.entries tree place → place < length old
+      (a b c : MapState K ℕ S) (row after : List ℕ) (place : ℕ) (key : K) (v : ℕ) (w : Option ℕ)
+      → Renumbers eq old a.entries row place → place < length old
       → PopsFront a b (Some (key, v)) → Inserts eq b c key place (length b.entries) (Ok w)
       → IsEntries eq c.entries
-      → ((xs ys : List ℕ) → Marked tree (xs ++ ys) → Marked after (xs ++ place ∷ ys))
+      → ((xs ys : List ℕ) → Marked row (xs ++ ys) → Marked after (xs ++ place ∷ ys))
       → Renumbers eq old c.entries after (place + 1)
-  Renumbers-step {S} eq laws old a b c tree after place key v w r l p i d m =
-      let s = Renumbers-next eq old a.entries tree place r l in
+  Renumbers-step {S} eq laws old a b c row after place key v w r l p i d m =
+      let s = Renumbers-next eq old a.entries row place r l in
       let e = s.0 in
       let left = s.1 in
       let es : a.entries ≡ e ∷ (left ++ numbered 0 r.done) = r.is ∙ ap (λ zs. zs ++ numbered 0 r.done) s.2 in
@@ -394,7 +429,7 @@ module _ {K : Type 0} where
             ∙ append_assoc left (numbered 0 r.done) ((key, place) ∷ []) ∙ ap (λ zs. left ++ zs) (sym pushed);
         marked = subst (Marked after)
             (sym (map-append (λ e. e.1) (numbered 0 r.done) ((key, place) ∷ [])) ∙ ap values_of (sym pushed))
-            (m (values_of (numbered 0 r.done)) [] (subst (Marked tree) (sym (append-nil _)) r.marked));
+            (m (values_of (numbered 0 r.done)) [] (subst (Marked row) (sym (append-nil _)) r.marked));
         distinct = d;
       }
     where
@@ -413,12 +448,12 @@ module _ {K : Type 0} where
       omega arith
 
   -- all have got one
-  pub Renumbers-end : (eq : K → K → Bool) (old es : List (K × ℕ)) (tree : Tree) (place : ℕ)
-      → Renumbers eq old es tree place → place ≡ length old
-      → (es ≡ numbered 0 old) × Marked tree (values_of es) × Rises 0 es (length es)
+  pub Renumbers-end : (eq : K → K → Bool) (old es : List (K × ℕ)) (row : List ℕ) (place : ℕ)
+      → Renumbers eq old es row place → place ≡ length old
+      → (es ≡ numbered 0 old) × Marked row (values_of es) × Rises 0 es (length es)
       × (keys_of es ≡ keys_of old)
       × (length es ≡ length old)
-  Renumbers-end eq old es tree place r e =
+  Renumbers-end eq old es row place r e =
       let a = ap length r.split in
       let b = length-append r.done r.left in
       let d = r.count in
@@ -427,7 +462,7 @@ module _ {K : Type 0} where
       let is : es ≡ numbered 0 old = r.is ∙ ap₂ (λ zs ws. zs ++ numbered 0 ws) none (sym all) in
       let long = ap length is ∙ length-numbered 0 old in (
         is,
-        subst (Marked tree) (ap (λ zs. values_of (numbered 0 zs)) (sym all) ∙ ap values_of (sym is)) r.marked,
+        subst (Marked row) (ap (λ zs. values_of (numbered 0 zs)) (sym all) ∙ ap values_of (sym is)) r.marked,
         subst (λ zs. Rises 0 zs (length es)) (sym is) (numbered-rises 0 (length es) old (omega arith)),
         ap keys_of is ∙ keys_of-numbered 0 old,
         long,

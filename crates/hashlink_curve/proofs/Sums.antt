@@ -1,111 +1,205 @@
--- The sum before a node of its level, and a change at a leaf that goes up to the root.
-use Rattle.std.proofs.Common.{◌≡◌, ℕ, zero, suc, ◌+◌, ◌-◌, ◌*◌, ◌/◌, ◌%◌, ◌^◌, ◌<◌, ◌≤◌, Bool, false, cond}
-use Rattle.std.proofs.Common.{List, [], ◌∷◌, get_or, refl, sym, ap, ◌∙◌, ◌⊎◌, inl, inr, arith}
-use Rattle.std.specs.Prelude.{nat_eq, nat_lt}
+-- What stands before a place, by the rows of sums, and a change at a place.
+use Rattle.std.proofs.Common.{◌≡◌, ◌≢◌, ℕ, zero, suc, ◌+◌, ◌-◌, ◌*◌, ◌/◌, ◌^◌, ◌<◌, ◌≤◌, Bool, true, false, cond}
+use Rattle.std.proofs.Common.{List, [], ◌∷◌, ◌++◌, length, take, drop, get_or, set, replicate, refl, sym, ap, ap₂, ◌∙◌}
+use Rattle.std.proofs.Common.{◌⊎◌, inl, inr, arith, length-append, subst}
+use Rattle.std.specs.Prelude.{nat_eq, nat_lt, sum, slice_range}
 use Rattle.std.specs.List.{count_by}
-use Rattle.std.proofs.Math.Nat.{pow-succ'}
-use Rattle.std.proofs.lemmas.Nat.{pow_pos}
-use Rattle.std.proofs.lemmas.List.Sums.{sum_by-cons}
+use Rattle.std.proofs.Math.Seq.{take-set-lt, take-add}
+use Rattle.std.proofs.lemmas.List.{take-set-le, take_all, get_or-take, length-set, length-take, take-append-le}
+use Rattle.std.proofs.lemmas.List.{get_or-set_same, get_or-set_other, length-replicate, length-map}
+use Rattle.std.proofs.lemmas.List.Sums.{sum_by-cons, sum_by-append, sum_by-set, sum_by_more, sum_by-take-le}
+use Rattle.std.proofs.lemmas.List.Sums.{get_or-le-sum_by}
+use Rattle.std.proofs.lemmas.List.Folds.{sum_by-replicate}
 use Rattle.std.proofs.lemmas.Bool.Decides.{nat_tests}
-use Rattle.hashlink_curve.specs.Marks.{Tree, IsTree, Marked}
+use Rattle.std.specs.Prelude.{Vec}
+use Rattle.std.specs.Vec.{with_item}
+use Rattle.std.proofs.lemmas.Grind.{get_or_default_zero}
+use Rattle.std.specs.declared.alloc.Global.{Global}
+use Rattle.hashlink_curve.specs.Marks.{Marked, HasSums, HasRows, AreSummed, rows_of}
+use Rattle.hashlink_curve.specs.Marks.{sum_before, HasNode, changed, CanChange}
 
--- the sum of the nodes before this one on its level, which is so many below the root
-abbrev pub sum_before : ℕ → List ℕ → ℕ → ℕ
-sum_before zero sums node = 0
-sum_before (suc level) sums node =
-    cond (nat_eq (node % 2) 1) (get_or sums (node - 1) 0) 0 + sum_before level sums (node / 2)
+below_or_at : (i j : ℕ) → (i < j) ⊎ (j ≤ i)
+below_or_at i j = grind arith
 
-parity : (n : ℕ) → (n % 2 ≡ 0) ⊎ (n % 2 ≡ 1)
-parity n = grind arith
+-- ---- sums of the first entries
 
-sum_before-even : (level : ℕ) (sums : List ℕ) (node : ℕ) → node % 2 ≡ 0
-    → sum_before (suc level) sums node ≡ sum_before level sums (node / 2)
-sum_before-even level sums node e =
-    let a = ap (λ r. cond (nat_eq r 1) (get_or sums (node - 1) 0) 0 + sum_before level sums (node / 2)) e in
-    a ∙ omega arith
+-- the first b are the first a, and those from there on
+pub sum-range : (row : List ℕ) (a b : ℕ) → a ≤ b → sum (slice_range row a b) + sum (take a row) ≡ sum (take b row)
+sum-range row a b l =
+    let more : a + (b - a) ≡ b = omega arith in
+    let s = sum_by-append (λ (m : ℕ). m) (take a row) (slice_range row a b) in
+    let t = ap sum (sym (take-add a (b - a) row)) ∙ ap (λ n. sum (take n row)) more in
+    omega arith
 
-sum_before-odd : (level : ℕ) (sums : List ℕ) (node : ℕ) → node % 2 ≡ 1
-    → sum_before (suc level) sums node ≡ get_or sums (node - 1) 0 + sum_before level sums (node / 2)
-sum_before-odd level sums node e =
-    ap (λ r. cond (nat_eq r 1) (get_or sums (node - 1) 0) 0 + sum_before level sums (node / 2)) e
+sum-take-next : (row : List ℕ) (x : ℕ) → x < length row → sum (take (x + 1) row) ≡ sum (take x row) + get_or row x 0
+sum-take-next row x l = sum_by_more (λ (m : ℕ). m) row x 0 l
 
--- ---- from one node to the next, from the first, and up to the root
+sum-take-le : (row : List ℕ) (a b : ℕ) → a ≤ b → sum (take a row) ≤ sum (take b row)
+sum-take-le row a b l = let s = sum-range row a b l in omega arith
 
-module _ (sums : List ℕ) (width : ℕ) (t : IsTree sums width) where
-  next_by : (level : ℕ) (node : ℕ) → (node % 2 ≡ 0) ⊎ (node % 2 ≡ 1)
-      → 2 * 2 ^ level ≤ node → node + 1 < 4 * 2 ^ level → 2 * 2 ^ level ≤ width
-      → (2 ^ level ≤ node / 2 → node / 2 + 1 < 2 * 2 ^ level
-      → sum_before level sums (node / 2 + 1) ≡ sum_before level sums (node / 2) + get_or sums (node / 2) 0)
-      → sum_before (suc level) sums (node + 1) ≡ sum_before (suc level) sums node + get_or sums node 0
-  next_by level node (inl e) low high inside h =
-      let odd : (node + 1) % 2 ≡ 1 = omega arith in
-      let half : (node + 1) / 2 ≡ node / 2 = omega arith in
-      let back : node + 1 - 1 ≡ node = omega arith in
-      let a = sum_before-odd level sums (node + 1) odd in
-      let b = sum_before-even level sums node e in
-      let d = ap (sum_before level sums) half in
-      let f = ap (λ j. get_or sums j 0) back in
-      omega arith
-  next_by level node (inr e) low high inside h =
-      let even : (node + 1) % 2 ≡ 0 = omega arith in
-      let half : (node + 1) / 2 ≡ node / 2 + 1 = omega arith in
-      let a = sum_before-even level sums (node + 1) even in
-      let b = sum_before-odd level sums node e in
-      let d = ap (sum_before level sums) half in
-      let p = pow_pos level in
-      let up = h (omega arith) (omega arith) in
-      let s = t.sum (node / 2) (omega arith) (omega arith) in
-      let left : 2 * (node / 2) ≡ node - 1 = omega arith in
-      let right : 2 * (node / 2) + 1 ≡ node = omega arith in
-      let l = ap (λ j. get_or sums j 0) left in
-      let r = ap (λ j. get_or sums j 0) right in
-      omega arith
+pub sum-take-all : (row : List ℕ) (n : ℕ) → length row ≤ n → sum (take n row) ≡ sum row
+sum-take-all row n l = ap sum (take_all n row l)
 
-  pub sum_before-next : (level node : ℕ) → 2 ^ level ≤ node → node + 1 < 2 * 2 ^ level → 2 ^ level ≤ width
-      → sum_before level sums (node + 1) ≡ sum_before level sums node + get_or sums node 0
-  sum_before-next zero node low high inside = absurd (omega arith)
-  sum_before-next (suc level) node low high inside =
-      let p = pow-succ' 2 level in
-      next_by level node (parity node) (omega arith) (omega arith) (omega arith)
-      (λ l k. sum_before-next level (node / 2) l k (omega arith))
+sum-set-after : (row : List ℕ) (x v n : ℕ) → x < length row → x < n
+    → sum (take n (set row x v)) + get_or row x 0 ≡ sum (take n row) + v
+sum-set-after row x v n l h =
+    let long = length-take n row in
+    let s = sum_by-set (λ (m : ℕ). m) (take n row) x v 0 (omega arith) in
+    let t = ap sum (take-set-lt n row x v h) in
+    let g = get_or-take n row x 0 h in
+    omega arith
 
-  first_by : (level : ℕ) (node : ℕ) → node ≡ 2 ^ level → sum_before level sums node ≡ 0
-  first_by zero node e = refl
-  first_by (suc level) node e =
-      let p = pow-succ' 2 level in
-      sum_before-even level sums node (omega arith) ∙ first_by level (node / 2) (omega arith)
+sum-set-before : (row : List ℕ) (x v n : ℕ) → n ≤ x → sum (take n (set row x v)) ≡ sum (take n row)
+sum-set-before row x v n h = ap sum (take-set-le n row x v h)
 
-  bound_by : (level : ℕ) (node : ℕ) → (node % 2 ≡ 0) ⊎ (node % 2 ≡ 1)
-      → 1 ≤ node / 2 → node / 2 < width
-      → sum_before level sums (node / 2) + get_or sums (node / 2) 0 ≤ get_or sums 1 0
-      → sum_before (suc level) sums node + get_or sums node 0 ≤ get_or sums 1 0
-  bound_by level node (inl e) low inside h =
-      let a = sum_before-even level sums node e in
-      let s = t.sum (node / 2) low inside in
-      let left : 2 * (node / 2) ≡ node = omega arith in
-      let l = ap (λ j. get_or sums j 0) left in
-      omega arith
-  bound_by level node (inr e) low inside h =
-      let a = sum_before-odd level sums node e in
-      let s = t.sum (node / 2) low inside in
-      let left : 2 * (node / 2) ≡ node - 1 = omega arith in
-      let right : 2 * (node / 2) + 1 ≡ node = omega arith in
-      let l = ap (λ j. get_or sums j 0) left in
-      let r = ap (λ j. get_or sums j 0) right in
+-- ---- the row above
+
+module _ (row sums : List ℕ) (h : HasSums row sums) (x : ℕ) (l : x < length row) where
+  has_block : x / 64 < length sums
+  has_block = let a = h.all in omega arith
+
+  -- a block has no less than each of its entries
+  block_covers : get_or row x 0 ≤ get_or sums (x / 64) 0
+  block_covers =
+      let b = has_block in
+      let e0 = h.each (x / 64) (omega arith) in
+      let e1 = h.each (x / 64 + 1) (omega arith) in
+      let n = sum-take-next sums (x / 64) b in
+      let m = sum-take-next row x l in
+      let low = sum-take-le row (64 * (x / 64)) x (omega arith) in
+      let high = sum-take-le row (x + 1) (64 * (x / 64 + 1)) (omega arith) in
       omega arith
 
-  -- what stands before a node, and at it, is no more than at the root
-  pub sum_before-bound : (level node : ℕ) → 2 ^ level ≤ node → node < 2 * 2 ^ level → 2 ^ level ≤ width
-      → sum_before level sums node + get_or sums node 0 ≤ get_or sums 1 0
-  sum_before-bound zero node low high inside =
-      let one : node ≡ 1 = omega arith in
-      let a = ap (λ j. get_or sums j 0) one in
-      omega arith
-  sum_before-bound (suc level) node low high inside =
-      let p = pow-succ' 2 level in
-      let q = pow_pos level in
-      bound_by level node (parity node) (omega arith) (omega arith)
-      (sum_before-bound level (node / 2) (omega arith) (omega arith) (omega arith))
+  sums_changed : (less more v : ℕ) → less ≤ get_or row x 0 → v + less ≡ get_or row x 0 + more
+      → HasSums (set row x v) (set sums (x / 64) (get_or sums (x / 64) 0 - less + more))
+  sums_changed less more v enough is =
+      let b = has_block in
+      let c = block_covers in
+      let w = get_or sums (x / 64) 0 - less + more in
+      let long = length-set sums (x / 64) w in
+      let wide = length-set row x v in
+      let a = h.all in
+      record {
+        each = λ j high. by w (omega arith) j (omega arith) (below_or_at (x / 64) j);
+        all = omega arith;
+      }
+    where
+      by : (w : ℕ) → w + less ≡ get_or sums (x / 64) 0 + more → (j : ℕ) → j ≤ length sums
+          → (x / 64 < j) ⊎ (j ≤ x / 64)
+          → sum (take j (set sums (x / 64) w)) ≡ sum (take (64 * j) (set row x v))
+      by w e j high (inl k) =
+          let b = has_block in
+          let s = sum-set-after sums (x / 64) w j b k in
+          let r = sum-set-after row x v (64 * j) l (omega arith) in
+          let p = h.each j high in
+          omega arith
+      by w e j high (inr k) =
+          let s = sum-set-before sums (x / 64) w j k in
+          let r = sum-set-before row x v (64 * j) (omega arith) in
+          let p = h.each j high in
+          omega arith
+
+-- all sums are those of the row
+sums_all : (row sums : List ℕ) → HasSums row sums → sum sums ≡ sum row
+sums_all row sums h =
+    let e = h.each (length sums) (omega arith) in
+    let a = sum-take-all sums (length sums) (omega arith) in
+    let b = sum-take-all row (64 * length sums) h.all in
+    omega arith
+
+-- ---- all rows
+
+pub rows_have : (row : List ℕ) (above : List (List ℕ)) → HasRows row above → (x : ℕ) → x < length row
+    → HasNode (x / 64) above
+rows_have row [] h x l = tt
+rows_have row (sums ∷ above) h x l =
+    let b = has_block row sums h.0 x l in
+    (b, rows_have sums above h.1 (x / 64) b)
+
+pub rows_sum : (row : List ℕ) (above : List (List ℕ)) → HasRows row above → (x : ℕ) → x < length row
+    → sum (slice_range row (64 * (x / 64)) x) + sum_before (x / 64) above ≡ sum (take x row)
+rows_sum row [] h x l =
+    let s = sum-range row (64 * (x / 64)) x (omega arith) in
+    let none : 64 * (x / 64) ≡ 0 = omega arith in
+    let e = ap (λ n. sum (take n row)) none in
+    omega arith
+rows_sum row (sums ∷ above) h x l =
+    let b = has_block row sums h.0 x l in
+    let s = sum-range row (64 * (x / 64)) x (omega arith) in
+    let up = rows_sum sums above h.1 (x / 64) b in
+    let e = h.0.each (x / 64) (omega arith) in
+    omega arith
+
+pub rows_can_change : (row : List ℕ) (above : List (List ℕ)) → HasRows row above → (x less more : ℕ)
+    → x < length row → less ≤ get_or row x 0 → sum row + more < 2 ^ 64 → CanChange (x / 64) less more above
+rows_can_change row [] h x less more l enough fits = tt
+rows_can_change row (sums ∷ above) h x less more l enough fits =
+    let b = has_block row sums h.0 x l in
+    let c = block_covers row sums h.0 x l in
+    let all = sums_all row sums h.0 in
+    let most = get_or-le-sum_by (λ (m : ℕ). m) sums (x / 64) 0 b in (
+      b,
+      omega arith,
+      omega arith,
+      rows_can_change sums above h.1 (x / 64) less more b (omega arith) (omega arith),
+    )
+
+pub rows_changed : (row : List ℕ) (above : List (List ℕ)) → HasRows row above → (x less more v : ℕ)
+    → x < length row → less ≤ get_or row x 0 → v + less ≡ get_or row x 0 + more
+    → HasRows (set row x v) (changed (x / 64) less more above)
+rows_changed row [] h x less more v l enough is = let a = length-set row x v in omega arith
+rows_changed row (sums ∷ above) h x less more v l enough is =
+    let b = has_block row sums h.0 x l in
+    let c = block_covers row sums h.0 x l in (
+      sums_changed row sums h.0 x l less more v enough is,
+      rows_changed sums above h.1 (x / 64) less more (get_or sums (x / 64) 0 - less + more) b (omega arith)
+          (omega arith),
+    )
+
+-- ---- rows of zeros, the last of so many entries
+
+abbrev pub OpenRows : List ℕ → List (List ℕ) → ℕ → Type 0
+OpenRows row [] width = row ≡ replicate width 0
+OpenRows row (sums ∷ above) width = HasSums row sums × OpenRows sums above width
+
+sum-zeros : (width n : ℕ) → sum (take n (replicate width 0)) ≡ 0
+sum-zeros width n =
+    let a = sum_by-take-le (λ (m : ℕ). m) (replicate width 0) n in
+    let b = sum_by-replicate (λ (m : ℕ). m) width 0 in
+    omega arith
+
+pub OpenRows-push : (row : List ℕ) (above : List (List ℕ)) (width more : ℕ) → OpenRows row above width
+    → width ≤ 64 * more → OpenRows row (above ++ replicate more 0 ∷ []) more
+OpenRows-push row [] width more h l =
+    let long = ap length h ∙ length-replicate width 0 in
+    let wide = length-replicate {A = ℕ} more 0 in (
+      record {
+        each = λ j _.
+            let a = sum-zeros more j in
+            let b = sum-zeros width (64 * j) in
+            let e = ap (λ r. sum (take (64 * j) r)) h in
+            omega arith;
+        all = omega arith;
+      },
+      refl,
+    )
+OpenRows-push row (sums ∷ above) width more h l = (h.0, OpenRows-push sums above width more h.1 l)
+
+rows_end : (row : List ℕ) (above : List (List ℕ)) (width : ℕ) → OpenRows row above width → width ≤ 64
+    → HasRows row above
+rows_end row [] width h l = let a = ap length h ∙ length-replicate width 0 in omega arith
+rows_end row (sums ∷ above) width h l = (h.0, rows_end sums above width h.1 l)
+
+pub OpenRows-end : (row : List ℕ) (above : List (List ℕ)) (width places : ℕ) → row ≡ replicate places 0
+    → places ≤ 2 ^ 60 → OpenRows row above width → width ≤ 64 → AreSummed row above
+OpenRows-end row above width places zeros few h l =
+    let long = ap length zeros ∙ length-replicate places 0 in
+    let none = ap sum zeros ∙ sum_by-replicate (λ (m : ℕ). m) places 0 in
+    record {
+      rows = rows_end row above width h l;
+      small = omega arith;
+      fits = omega arith;
+    }
 
 -- ---- how many marks stand before a place
 
@@ -139,121 +233,142 @@ count_by-none (p ∷ places) =
     let b = count_by-none places in
     omega arith
 
-pub sum_before-counts : (tree : Tree) → IsTree tree.sums tree.width → (height : ℕ) → tree.width ≡ 2 ^ height
-    → (places : List ℕ) → Marked tree places → (x : ℕ) → x < tree.width
-    → sum_before height tree.sums (tree.width + x) ≡ count_by (λ p. nat_lt p x) places
-sum_before-counts tree t height full places m zero l =
-    first_by tree.sums tree.width t height (tree.width + 0) (omega arith) ∙ sym (count_by-none places)
-sum_before-counts tree t height full places m (suc x) l =
-    let before : sum_before height tree.sums (tree.width + x) ≡ count_by (λ p. nat_lt p x) places
-    = sum_before-counts tree t height full places m x (omega arith) in
+pub marks_before : (row places : List ℕ) → Marked row places → (x : ℕ) → x ≤ length row
+    → sum (take x row) ≡ count_by (λ p. nat_lt p x) places
+marks_before row places m zero l = sym (count_by-none places)
+marks_before row places m (suc x) l =
+    let before = marks_before row places m x (omega arith) in
     let at = m.each x (omega arith) in
-    let step = sum_before-next tree.sums tree.width t height (tree.width + x) (omega arith)
-    (omega arith) (omega arith)
-    in
-    let next : tree.width + suc x ≡ tree.width + x + 1 = omega arith in
-    let moved = ap (sum_before height tree.sums) next in
+    let next = sum-take-next row x (omega arith) in
+    let one : x + 1 ≡ suc x = omega arith in
+    let same = ap (λ n. sum (take n row)) one in
     let counts = count_by-next x places in
     omega arith
 
--- on the way up from a leaf: the node that was reached, and what was counted so far
-pub record Counts (sums : List ℕ) (width place count node : ℕ) : Type 0 where
-  pub height : ℕ
-  pub level : ℕ
-  pub full : width ≡ 2 ^ height
-  pub low : 2 ^ level ≤ node
-  pub high : node < 2 * 2 ^ level
-  pub inside : 2 ^ level ≤ width
-  pub sum : count + sum_before level sums node ≡ sum_before height sums (width + place)
+-- ---- a mark more and a mark less
 
-pub Counts-start : (sums : List ℕ) (width place : ℕ) → IsTree sums width → place < width
-    → Counts sums width place 0 (width + place)
-Counts-start sums width place t l =
-    let f = t.full (omega arith) in
-    let e : width ≡ 2 ^ f.0 = f.1 in
-    record {
-      height = f.0;
-      level = f.0;
-      full = e;
-      low = omega arith;
-      high = omega arith;
-      inside = omega arith;
-      sum = omega arith;
-    }
+abbrev or_none : Bool → ℕ
+or_none b = cond b 0 0
 
-even_by : (sums : List ℕ) (width place count node height level : ℕ) → width ≡ 2 ^ height
-    → 1 < node → node % 2 ≡ 0
-    → 2 ^ level ≤ node → node < 2 * 2 ^ level → 2 ^ level ≤ width
-    → count + sum_before level sums node ≡ sum_before height sums (width + place)
-    → Counts sums width place count (node / 2)
-even_by sums width place count node height zero f l e low high inside s = absurd (omega arith)
-even_by sums width place count node height (suc level) f l e low high inside s =
-    let p = pow-succ' 2 level in
-    let a = sum_before-even level sums node e in
-    record {
-      height = height;
-      level = level;
-      full = f;
-      low = omega arith;
-      high = omega arith;
-      inside = omega arith;
-      sum = omega arith;
-    }
+zero_either : (b : Bool) → or_none b ≡ 0
+zero_either true = refl
+zero_either false = refl
 
-odd_by : (sums : List ℕ) (width place count node height level : ℕ) → width ≡ 2 ^ height
-    → 1 < node → node % 2 ≡ 1
-    → 2 ^ level ≤ node → node < 2 * 2 ^ level → 2 ^ level ≤ width
-    → count + sum_before level sums node ≡ sum_before height sums (width + place)
-    → Counts sums width place (count + get_or sums (node - 1) 0) (node / 2)
-odd_by sums width place count node height zero f l e low high inside s = absurd (omega arith)
-odd_by sums width place count node height (suc level) f l e low high inside s =
-    let p = pow-succ' 2 level in
-    let a = sum_before-odd level sums node e in
-    record {
-      height = height;
-      level = level;
-      full = f;
-      low = omega arith;
-      high = omega arith;
-      inside = omega arith;
-      sum = omega arith;
-    }
-
-pub Counts-even : (sums : List ℕ) (width place count node : ℕ) → Counts sums width place count node → 1 < node
-    → node % 2 ≡ 0 → Counts sums width place count (node / 2)
-Counts-even sums width place count node k l e =
-    even_by sums width place count node k.height k.level k.full l e k.low k.high k.inside k.sum
-
-pub Counts-odd : (sums : List ℕ) (width place count node : ℕ) → Counts sums width place count node → 1 < node
-    → node % 2 ≡ 1 → Counts sums width place (count + get_or sums (node - 1) 0) (node / 2)
-Counts-odd sums width place count node k l e =
-    odd_by sums width place count node k.height k.level k.full l e k.low k.high k.inside k.sum
-
--- what is added is no more than at the root
-pub Counts-bound : (sums : List ℕ) (width place count node : ℕ) → IsTree sums width → place < width
-    → Counts sums width place count node → 1 < node → node % 2 ≡ 1
-    → count + get_or sums (node - 1) 0 ≤ get_or sums 1 0
-Counts-bound sums width place count node t b k l e =
-    let next = Counts-odd sums width place count node k l e in
-    let n : width ≡ 2 ^ k.height = k.full in
-    let n2 : width ≡ 2 ^ next.height = next.full in
-    let s = next.sum in
-    let r = sum_before-bound sums width t next.height (width + place) (omega arith)
-    (omega arith) (omega arith) in
+pub count_by-middle : (p : ℕ → Bool) (xs : List ℕ) (x : ℕ) (ys : List ℕ)
+    → count_by p (xs ++ x ∷ ys) ≡ count_by p (xs ++ ys) + cond (p x) 1 0
+count_by-middle p xs x ys =
+    let a : count_by p (xs ++ x ∷ ys) ≡ count_by p xs + count_by p (x ∷ ys)
+    = sum_by-append (λ y. cond (p y) 1 0) xs (x ∷ ys) in
+    let b : count_by p (xs ++ ys) ≡ count_by p xs + count_by p ys
+    = sum_by-append (λ y. cond (p y) 1 0) xs ys in
+    let d = count_by-cons p x ys in
     omega arith
 
-end_by : (sums : List ℕ) (node level : ℕ) → node ≤ 1 → 2 ^ level ≤ node → sum_before level sums node ≡ 0
-end_by sums node zero l low = refl
-end_by sums node (suc level) l low =
-    let p = pow-succ' 2 level in
-    let q = pow_pos level in
-    absurd (omega arith)
+module _ (row : List ℕ) (place : ℕ) (l : place < length row) (v : ℕ) where
+  entry : (less more : ℕ) → v + less ≡ get_or row place 0 + more → (x : ℕ)
+      → (x ≡ place) ⊎ (x ≢ place)
+      → get_or (set row place v) x 0 + cond (nat_eq x place) less 0
+      ≡ get_or row x 0 + cond (nat_eq x place) more 0
+  entry less more is x (inl e) =
+      let yes : nat_eq x place ≡ true = grind (arith, nat_tests) in
+      let a = ap (λ b. cond b less 0) yes in
+      let b = ap (λ b. cond b more 0) yes in
+      let c = get_or-set_same row place v 0 l in
+      let d = ap (λ n. get_or (set row place v) n 0) e in
+      let f = ap (λ n. get_or row n 0) e in
+      omega arith
+  entry less more is x (inr d) =
+      let no : nat_eq x place ≡ false = grind (arith, nat_tests) in
+      let a = ap (λ b. cond b less 0) no in
+      let b = ap (λ b. cond b more 0) no in
+      let c = get_or-set_other row place x v 0 d in
+      omega arith
 
-pub Counts-end : (tree : Tree) → IsTree tree.sums tree.width → (place count node : ℕ) → place < tree.width
-    → Counts tree.sums tree.width place count node → node ≤ 1 → (places : List ℕ) → Marked tree places
-    → count ≡ count_by (λ p. nat_lt p place) places
-Counts-end tree t place count node l k e places m =
-    let a = end_by tree.sums node k.level e k.low in
-    let s = k.sum in
-    let b = sum_before-counts tree t k.height k.full places m place l in
-    omega arith
+  is_or_not : (x : ℕ) → (x ≡ place) ⊎ (x ≢ place)
+  is_or_not x = grind arith
+
+  pub Marked-more : v ≡ get_or row place 0 + 1 → (xs ys : List ℕ) → Marked row (xs ++ ys)
+      → Marked (set row place v) (xs ++ place ∷ ys)
+  Marked-more is xs ys m =
+      let t = m.total in
+      let s = sum_by-set (λ (n : ℕ). n) row place v 0 l in
+      let a = length-append xs (place ∷ ys) in
+      let b = length-append xs ys in
+      let wide = length-set row place v in
+      record {
+        each = λ x h.
+            let e = entry 0 1 (omega arith) x (is_or_not x) in
+            let f = m.each x (omega arith) in
+            let d = count_by-middle (nat_eq x) xs place ys in
+            let z = zero_either (nat_eq x place) in
+            omega arith;
+        total = omega arith;
+      }
+
+  pub Marked-less : v + 1 ≡ get_or row place 0 → (xs ys : List ℕ) → Marked row (xs ++ place ∷ ys)
+      → Marked (set row place v) (xs ++ ys)
+  Marked-less is xs ys m =
+      let t = m.total in
+      let s = sum_by-set (λ (n : ℕ). n) row place v 0 l in
+      let a = length-append xs (place ∷ ys) in
+      let b = length-append xs ys in
+      let wide = length-set row place v in
+      record {
+        each = λ x h.
+            let e = entry 1 0 (omega arith) x (is_or_not x) in
+            let f = m.each x (omega arith) in
+            let d = count_by-middle (nat_eq x) xs place ys in
+            let z = zero_either (nat_eq x place) in
+            omega arith;
+        total = omega arith;
+      }
+
+-- what is summed before a place is less than all
+pub sum_before-fits : (row : List ℕ) (above : List (List ℕ)) → AreSummed row above → (x : ℕ) → x < length row
+    → (HasNode (x / 64) above) × (sum (take x row) < 2 ^ 64)
+    × (sum (slice_range row (64 * (x / 64)) x) + sum_before (x / 64) above ≡ sum (take x row))
+sum_before-fits row above s x l =
+    let a = sum_by-take-le (λ (m : ℕ). m) row x in
+    let b = s.fits in
+    (rows_have row above s.rows x l, omega arith, rows_sum row above s.rows x l)
+
+-- ---- the rows in memory
+
+length-changed : (node less more : ℕ) (rows : List (List ℕ)) → length (changed node less more rows) ≡ length rows
+length-changed node less more [] = refl
+length-changed node less more (row ∷ above) = ap suc (length-changed (node / 64) less more above)
+
+-- the first row was changed, and then those above
+pub change-step : (first above now : List (Vec ℕ Global)) (v : Vec ℕ Global) (node less more x : ℕ)
+    → length first ≡ 1 → x ≡ get_or (get_or first 0 v).items node x
+    → CanChange node less more (rows_of (first ++ above))
+    → rows_of now ≡ changed (node / 64) less more (rows_of above)
+    → rows_of (set first 0 (with_item (get_or first 0 v) node (x - less + more)) ++ now)
+    ≡ changed node less more (rows_of (first ++ above))
+change-step [] above now v node less more x one read can c = absurd (omega arith)
+change-step (f ∷ g ∷ more_rows) above now v node less more x one read can c = absurd (omega arith)
+change-step (f ∷ []) above now v node less more x one read can c =
+    let zero = read ∙ get_or_default_zero f.items node x can.0 in
+    ap₂ (λ (r : List ℕ) rs. r ∷ rs) (ap (λ n. set f.items node (n - less + more)) zero) c
+
+-- after a change of an entry, and of the sums above it, which are written back
+pub AreSummed-changed : (row : List ℕ) (rows now : List (Vec ℕ Global)) (x less more v len : ℕ)
+    → AreSummed row (rows_of rows) → len ≡ length rows → x < length row → less ≤ get_or row x 0
+    → v + less ≡ get_or row x 0 + more → sum row + more < 2 ^ 64
+    → rows_of now ≡ changed (x / 64) less more (rows_of rows)
+    → AreSummed (set row x v) (rows_of (take len (now ++ drop (length now) rows)))
+AreSummed-changed row rows now x less more v len s long l enough is fits c =
+    let m = length-map now (λ r. r.items) in
+    let n = length-map rows (λ r. r.items) in
+    let k = ap length c ∙ length-changed (x / 64) less more (rows_of rows) in
+    let back : take len (now ++ drop (length now) rows) ≡ now
+    = take-append-le len now (drop (length now) rows) (omega arith) ∙ take_all len now (omega arith) in
+    let total = sum_by-set (λ (n : ℕ). n) row x v 0 l in
+    let wide = length-set row x v in
+    let small = s.small in
+    record {
+      rows = subst (HasRows (set row x v)) (sym c ∙ ap rows_of (sym back))
+          (rows_changed row (rows_of rows) s.rows x less more v l enough is);
+      small = omega arith;
+      fits = omega arith;
+    }

@@ -1,23 +1,51 @@
--- Marks at places, kept in a binary tree of sums.
-use Rattle.std.specs.Prelude.{◌≡◌, ℕ, ◌+◌, ◌*◌, ◌^◌, ◌<◌, ◌≤◌, List, length, nat_eq, slice_index}
+-- Marks at the places of a row, and above it the rows of sums, each of the blocks of 64 of the one below.
+use Rattle.std.specs.Prelude.{◌≡◌, ℕ, ◌+◌, ◌-◌, ◌*◌, ◌/◌, ◌^◌, ◌<◌, ◌≤◌, List, [], ◌∷◌, length, take, sum}
+use Rattle.std.specs.Prelude.{nat_eq, slice_index, slice_range, map, set, Vec, ⊤}
+use Rattle.std.specs.declared.alloc.Global.{Global}
 use Rattle.std.specs.List.{count_by}
 
--- the sums at the nodes, and the number of leaves: the root is the node 1, the children of a node j are 2 * j
--- and 2 * j + 1, and the leaf of a place x is the node width + x
-pub record Tree : Type 0 where
-  pub sums : List ℕ
-  pub width : ℕ
-
--- each inner node has the sum of its children. Without a leaf there is no node
-pub record IsTree (sums : List ℕ) (width : ℕ) : Type 0 where
-  pub full : 0 < width → (height : ℕ) × (width ≡ 2 ^ height)
-  pub nodes : length sums ≡ 2 * width
-  pub small : width < 2 ^ 62
-  pub sum : (j : ℕ) → 1 ≤ j → j < width
-      → slice_index sums j ≡ slice_index sums (2 * j) + slice_index sums (2 * j + 1)
-  pub fits : slice_index sums 1 < 2 ^ 64
+abbrev pub rows_of : List (Vec ℕ Global) → List (List ℕ)
+rows_of rows = map (λ row. row.items) rows
 
 -- a place has as many marks as it stands in the list
-pub record Marked (tree : Tree) (places : List ℕ) : Type 0 where
-  pub each : (x : ℕ) → x < tree.width → slice_index tree.sums (tree.width + x) ≡ count_by (nat_eq x) places
-  pub total : slice_index tree.sums 1 ≡ length places
+pub record Marked (row places : List ℕ) : Type 0 where
+  pub each : (x : ℕ) → x < length row → slice_index row x ≡ count_by (nat_eq x) places
+  pub total : sum row ≡ length places
+
+-- each number is the sum of a block of the row, and each block has one
+pub record HasSums (row sums : List ℕ) : Type 0 where
+  pub each : (j : ℕ) → j ≤ length sums → sum (take j sums) ≡ sum (take (64 * j) row)
+  pub all : length row ≤ 64 * length sums
+
+-- the rows are the sums above this row, up to a row of one block
+abbrev pub HasRows : List ℕ → List (List ℕ) → Type 0
+HasRows row [] = length row ≤ 64
+HasRows row (sums ∷ above) = HasSums row sums × HasRows sums above
+
+pub record AreSummed (row : List ℕ) (above : List (List ℕ)) : Type 0 where
+  pub rows : HasRows row above
+  pub small : length row < 2 ^ 62
+  pub fits : sum row < 2 ^ 64
+
+-- what stands before a node: in its own block, and in the blocks before
+abbrev pub sum_before : ℕ → List (List ℕ) → ℕ
+sum_before node [] = 0
+sum_before node (row ∷ above) =
+    sum (slice_range row (64 * (node / 64)) node) + sum_before (node / 64) above
+
+-- the node, and that of its block, and so on, is within its row
+abbrev pub HasNode : ℕ → List (List ℕ) → Type 0
+HasNode node [] = ⊤
+HasNode node (row ∷ above) = (node < length row) × HasNode (node / 64) above
+
+-- at the node, and at that of its block, and so on, `less` goes and `more` comes
+abbrev pub changed : ℕ → ℕ → ℕ → List (List ℕ) → List (List ℕ)
+changed node less more [] = []
+changed node less more (row ∷ above) =
+    set row node (slice_index row node - less + more) ∷ changed (node / 64) less more above
+
+abbrev pub CanChange : ℕ → ℕ → ℕ → List (List ℕ) → Type 0
+CanChange node less more [] = ⊤
+CanChange node less more (row ∷ above) =
+    (node < length row) × (less ≤ slice_index row node) × (slice_index row node + more < 2 ^ 64)
+    × CanChange (node / 64) less more above

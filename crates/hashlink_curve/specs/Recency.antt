@@ -6,7 +6,7 @@ use Rattle.std.specs.Map.{values_of}
 use Rattle.std.specs.List.{list_any}
 use Rattle.std.specs.Set.{is_member}
 use Rattle.hashlink_model.specs.Entries.{IsEntries, put}
-use Rattle.hashlink_curve.specs.Marks.{Tree, Marked}
+use Rattle.hashlink_curve.specs.Marks.{Marked}
 
 -- the places rise from `low` on, and each is below `next`
 abbrev pub Rises : {K : Type 0} → ℕ → List (K × ℕ) → ℕ → Type 0
@@ -14,12 +14,12 @@ Rises low [] next = low ≤ next
 Rises low (e ∷ es) next = (low ≤ e.1) × Rises (e.1 + 1) es next
 
 -- the entries have rising places, at which the marks stand
-pub record IsPlaced {K : Type 0} (eq : K → K → Bool) (es : List (K × ℕ)) (tree : Tree)
+pub record IsPlaced {K : Type 0} (eq : K → K → Bool) (es : List (K × ℕ)) (row : List ℕ)
     (next : ℕ) : Type 0 where
   pub distinct : IsEntries eq es
   pub rises : Rises 0 es next
-  pub marked : Marked tree (values_of es)
-  pub within : next ≤ tree.width
+  pub marked : Marked row (values_of es)
+  pub within : next ≤ length row
   pub few : length es ≤ 2 ^ 63
 
 -- the entry whose key passes the test goes last, with the place `next`. The keys that pass equal its key

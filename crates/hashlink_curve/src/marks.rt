@@ -1,113 +1,150 @@
 //! Marks at places, and how many stand before a place.
-ghost use Rattle.std.specs.Prelude.{◌≡◌, ℕ, ◌+◌, ◌*◌, ◌-◌, ◌<◌, ◌≤◌, ◌^◌, List, [], ◌∷◌, ◌++◌, IfOk, nat_lt};
-ghost use Rattle.std.specs.Prelude.{slice_index};
+ghost use Rattle.std.specs.Prelude.{◌≡◌, ℕ, ◌+◌, ◌-◌, ◌/◌, ◌<◌, ◌≤◌, ◌^◌, List, [], ◌∷◌, ◌++◌, IfOk, nat_lt};
+ghost use Rattle.std.specs.Prelude.{slice_index, length, sum};
 ghost use Rattle.std.specs.List.{count_by};
-ghost use Rattle.hashlink_curve.specs.Marks.{Marked};
+ghost use Rattle.hashlink_curve.specs.Marks.{Marked, rows_of, sum_before, HasNode, CanChange, changed};
 
 use std::alloc::{AllocError, Global};
 use std::marker::Model;
 
-/// The greatest number of places of a tree.
+/// The greatest number of places.
 const MOST_PLACES: usize = 1 << 60;
 
-/// Marks at places, in a binary tree of sums. The root is the node 1, and the children of a node `j` are `2 *
-/// j` and `2 * j + 1`. The leaves, one for each place, are the nodes from `width` on, which is a power of
-/// two.
+/// So many entries of a row have one sum.
+const BLOCK: usize = 64;
+
+/// Marks at places. Above the row of places is a row of sums, each of a block of 64 places, above it one of
+/// the sums of its blocks, and so on up to a row of one block.
 #[derive(Drop)]
 pub(crate) struct Marks {
-    sums: Vec<usize>,
-    width: usize,
+    row: Vec<u8>,
+    sums: Vec<Vec<usize>>,
 }
 
 impl Model for Marks {
-    ghost use Rattle.hashlink_curve.specs.Marks.{Tree, IsTree};
+    ghost use Rattle.std.specs.Prelude.{ℕ, List};
+    ghost use Rattle.hashlink_curve.specs.Marks.{AreSummed, rows_of};
 
-    ghost Value = { Tree };
+    ghost Value = { List ℕ };
 
-    ghost view = { λ m. record { sums = m.sums.items; width = m.width } };
+    ghost view = { λ m. m.row.items };
 
-    ghost invariant = { λ m. IsTree m.sums.items m.width };
+    ghost invariant = { λ m. AreSummed m.row.items (rows_of m.sums.items) };
 }
 
 impl Marks {
-    /// Creates a tree without a place. It does not allocate.
+    /// Creates a row without a place. It does not allocate.
     pub(crate) fn new(alloc: Global) -> Self
         ensures unmarked { Marked result [] }
-        ensures none { result.width ≡ 0 }
+        ensures none { length result ≡ 0 }
     {
         Marks {
+            row: Vec::new(alloc),
             sums: Vec::new(alloc),
-            width: 0,
         }
     }
 
-    /// Creates a tree with at least `places` places and no mark, in one allocation.
+    /// Creates a row of so many places with no mark.
     pub(crate) fn with_places(alloc: Global, places: usize) -> Result<Self, AllocError>
         ensures unmarked { IfOk result (λ marks. Marked marks []) }
-        ensures enough { IfOk result (λ marks. places ≤ marks.width) }
+        ensures exact { IfOk result (λ marks. length marks ≡ places) }
     {
         if places > MOST_PLACES {
             return Err(AllocError);
         }
-        let mut width = 1;
-        while width < places {
-            width *= 2;
+        let row = vec![in alloc; 0; places]?;
+        let mut sums = Vec::new(alloc);
+        let mut width = places;
+        while width > BLOCK {
+            width = width / BLOCK + 1;
+            sums.push(vec![in alloc; 0; width]?)?;
         }
-        let sums = vec![in alloc; 0; 2 * width]?;
-        Ok(Marks { sums, width })
+        Ok(Marks { row, sums })
     }
 
     /// Returns the number of places.
     pub(crate) fn width(&self) -> usize
-        ensures { result ≡ self.now.width }
+        ensures { result ≡ length self.now }
     {
-        self.width
+        self.row.len()
     }
 
-    /// Returns the number of marks before the place. It takes a step for each level of the tree.
+    /// Returns the number of marks before the place. It takes at most 63 steps for each row.
     pub(crate) fn before(&self, place: usize) -> usize
-        requires { place < self.now.width }
+        requires { place < length self.now }
         ensures { (places : List ℕ) → Marked self.now places → result ≡ count_by
             (λ p. nat_lt p place) places }
     {
-        let mut node = self.width + place;
-        let mut count = 0;
-        while node > 1 {
-            if node % 2 == 1 {
-                count += self.sums[node - 1];
-            }
-            node /= 2;
-        }
-        count
+        let node = place / BLOCK;
+        sum_of_bytes(&self.row[BLOCK * node..place]) + sum_before(&self.sums, node)
     }
 
-    /// Sets a mark at the place. It takes a step for each level of the tree.
+    /// Sets a mark at the place, which has to have none. It takes a step for each row.
     pub(crate) fn mark(&mut self, place: usize)
-        requires within { place < self.old.width }
-        requires few { slice_index self.old.sums 1 < 2 ^ 64 - 1 }
+        requires within { place < length self.old }
+        requires few { sum self.old < 2 ^ 64 - 1 }
+        requires unmarked { slice_index self.old place ≡ 0 }
         ensures marked { (xs ys : List ℕ) → Marked self.old (xs ++ ys) → Marked self.new (xs ++ place ∷ ys) }
-        ensures width { self.new.width ≡ self.old.width }
-        ensures small { self.new.width < 2 ^ 62 }
+        ensures width { length self.new ≡ length self.old }
+        ensures small { length self.new < 2 ^ 62 }
     {
-        let mut node = self.width + place;
-        while node > 0 {
-            self.sums[node] += 1;
-            node /= 2;
-        }
+        self.row[place] += 1;
+        change(&mut self.sums, place / BLOCK, 0, 1);
     }
 
-    /// Removes a mark from the place, which has to have one. It takes a step for each level of the tree.
+    /// Removes a mark from the place, which has to have one. It takes a step for each row.
     pub(crate) fn unmark(&mut self, place: usize)
-        requires within { place < self.old.width }
-        requires marked { 0 < slice_index self.old.sums (self.old.width + place) }
+        requires within { place < length self.old }
+        requires marked { 0 < slice_index self.old place }
         ensures unmarked { (xs ys : List ℕ) → Marked self.old (xs ++ place ∷ ys)
             → Marked self.new (xs ++ ys) }
-        ensures width { self.new.width ≡ self.old.width }
+        ensures width { length self.new ≡ length self.old }
     {
-        let mut node = self.width + place;
-        while node > 0 {
-            self.sums[node] -= 1;
-            node /= 2;
-        }
+        self.row[place] -= 1;
+        change(&mut self.sums, place / BLOCK, 1, 0);
     }
+}
+
+/// Returns the sum of the bytes.
+fn sum_of_bytes(bytes: &[u8]) -> usize
+    requires { sum bytes.now < 2 ^ 64 }
+    ensures { result ≡ sum bytes.now }
+{
+    bytes.iter().map(|&byte| usize::from(byte)).sum()
+}
+
+/// Returns the sum of the numbers.
+fn sum_of(numbers: &[usize]) -> usize
+    requires { sum numbers.now < 2 ^ 64 }
+    ensures { result ≡ sum numbers.now }
+{
+    numbers.iter().sum()
+}
+
+/// Returns the sum of what stands before the node in the first of the rows, of which each has the sums of
+/// the blocks of the one before.
+fn sum_before(rows: &[Vec<usize>], node: usize) -> usize
+    requires within { HasNode node (rows_of rows.now) }
+    requires fits { sum_before node (rows_of rows.now) < 2 ^ 64 }
+    ensures { result ≡ sum_before node (rows_of rows.now) }
+{
+    let Some((row, above)) = rows.split_first() else {
+        return 0;
+    };
+    let next = node / BLOCK;
+    sum_of(&row[BLOCK * next..node]) + sum_before(above, next)
+}
+
+/// Takes `less` from the node in the first of the rows, adds `more`, and does the same in the rows above.
+fn change(rows: &mut [Vec<usize>], node: usize, less: usize, more: usize)
+    requires { CanChange node less more (rows_of rows.old) }
+    ensures { rows_of rows.new ≡ changed node less more (rows_of rows.old) }
+{
+    if rows.is_empty() {
+        return;
+    }
+    let (first, above) = rows.split_at_mut(1);
+    let row = &mut first[0];
+    row[node] = row[node] - less + more;
+    change(above, node / BLOCK, less, more);
 }

@@ -156,7 +156,7 @@ fn free_place<K: Eq + Hash + Drop, S: BuildHasher>(
 ) -> Result<(), AllocError>
     requires { IsPlaced K.eq (entries_of places.old) marks.old next.old }
     ensures placed { IsPlaced K.eq (entries_of places.new) marks.new next.new }
-    ensures free { OnOk result (next.new < marks.new.width) }
+    ensures free { OnOk result (next.new < length marks.new) }
     ensures keys { keys_of (entries_of places.new) ≡ keys_of (entries_of places.old) }
 {
     if *next < marks.width() {
@@ -167,18 +167,22 @@ fn free_place<K: Eq + Hash + Drop, S: BuildHasher>(
     Ok(())
 }
 
-/// With more keys than this no tree is built, since there could be no memory for it.
-const MOST_KEYS: usize = 1 << 58;
+/// With more keys than this no row is built, since there could be no memory for it.
+const MOST_KEYS: usize = 1 << 55;
 
-/// Moves the keys to the places from 0 on, in their order, and builds a tree with their marks and as many
-/// free places again. If memory runs out, nothing changes.
+/// So many places are built for each key, so that keys move to new places that much more rarely than they
+/// are used.
+const PLACES: usize = 16;
+
+/// Moves the keys to the places from 0 on, in their order, and builds a row with their marks and many more
+/// free places. If memory runs out, nothing changes.
 fn renumber<K: Eq + Hash + Drop, S: BuildHasher>(
     alloc: Global,
     places: &mut LinkedHashMap<K, usize, S>,
 ) -> Result<Marks, AllocError>
     ensures placed { IfOk result (λ marks. IsPlaced K.eq (entries_of places.new) marks
         (length (entries_of places.new))) }
-    ensures free { IfOk result (λ marks. length (entries_of places.new) < marks.width) }
+    ensures free { IfOk result (λ marks. length (entries_of places.new) < length marks) }
     ensures keys { keys_of (entries_of places.new) ≡ keys_of (entries_of places.old) }
     ensures unchanged { OnErr result (places.new ≡ places.old) }
 {
@@ -186,7 +190,7 @@ fn renumber<K: Eq + Hash + Drop, S: BuildHasher>(
     if count > MOST_KEYS {
         return Err(AllocError);
     }
-    let mut marks = Marks::with_places(alloc, 2 * count + 1)?;
+    let mut marks = Marks::with_places(alloc, PLACES * (count + 1))?;
     for place in 0..count {
         let Some((key, _)) = places.pop_front() else {
             unreachable!();

@@ -6,8 +6,6 @@ mod faults;
 mod options;
 mod picture;
 mod report;
-#[cfg(test)]
-mod tests;
 mod trace;
 
 use answers::answer;

@@ -1,7 +1,7 @@
 use Rattle.std.proofs.Common.{arith}
 use Rattle.std.proofs.lemmas.Map.Entries.{length-values_of}
 use Rattle.hashlink_core.specs.Keyed.{entries_of, state_of}
-use Rattle.hashlink_curve.proofs.Placing.{Renumbers-step}
+use Rattle.hashlink_curve.proofs.Placing.{Renumbers-step, Renumbers-free}
 use Rattle.hashlink_curve.proofs.Placing.{Renumbers-end, numbered, length-numbered}
 use Rattle.hashlink_curve.proofs.recency.renumber.Goals as goal
 
@@ -14,6 +14,14 @@ mark-requires-clause-few g c =
     let d = r.count in
     let small = c.loop-place.invariant.3 in
     omega arith
+
+pub mark-requires-clause-unmarked : goal.mark-requires-clause-unmarked
+mark-requires-clause-unmarked g c =
+    let i = c.loop-place.invariant in
+    let wide = i.1 in
+    let count = i.2 in
+    Renumbers-free g.K.PartialEq.eq (entries_of c.args.places.now) (entries_of c.loop-place.places)
+    c.loop-place.marks c.loop-place.place i.0 (omega arith)
 
 pub loop-place-preserved : goal.loop-place-preserved
 loop-place-preserved g c =

@@ -1,100 +1,44 @@
-use Rattle.std.proofs.Common.{◌≡◌, ◌+◌, ◌<◌, ℕ, get_or, length, subst, sym, ap, ◌∙◌, ◌++◌, arith, List}
+use Rattle.std.proofs.Common.{ap, sym, subst, length, ◌+◌, ◌∙◌, ◌/◌, ◌++◌, arith}
+use Rattle.std.specs.Prelude.{sum}
 use Rattle.std.proofs.lemmas.Grind.{get_or_default_zero}
-use Rattle.hashlink_curve.specs.Marks.{Marked, Tree, IsTree}
-use Rattle.hashlink_curve.proofs.Climbs.{Climbs, Climbs-start, Climbs-up, Climbs-tree, Marked-more}
-use Rattle.hashlink_curve.proofs.Climbs.{Climbs-bound}
+use Rattle.hashlink_curve.specs.Marks.{Marked, rows_of, CanChange, changed}
+use Rattle.hashlink_curve.proofs.Sums.{rows_can_change, AreSummed-changed, Marked-more}
 use Rattle.hashlink_curve.proofs.marks.Marks.mark.Goals as goal
 
-read_at : (xs : List ℕ) (i x : ℕ) → x ≡ get_or xs i x → i < length xs → x ≡ get_or xs i 0
-read_at xs i x e l = e ∙ get_or_default_zero xs i x l
-
-pub loop-node-init : goal.loop-node-init
-loop-node-init c =
-    let w = ap (λ (t : Tree). t.width) c.self.view_is in
-    let l = c.requires.within in (
-      Climbs-start 0 1 c.self.inside.sums.items c.self.inside.width c.args.place c.self.invariant
-          (omega arith),
-      λ i. c.self.inside.width,
-    )
+pub change-requires : goal.change-requires
+change-requires c =
+    let w = ap length c.self.view_is in
+    let l = c.requires.within in
+    let q = ap sum c.self.view_is in
+    let few = c.requires.few in
+    subst (λ rs. CanChange (c.args.place / 64) 0 1 (rows_of rs)) (sym c.deref_mut.ensures.value)
+    (rows_can_change c.self.inside.row.items (rows_of c.self.inside.sums.items) c.self.invariant.rows
+    c.args.place 0 1 (omega arith) (omega arith) (omega arith))
 
 pub invariant_of-self : goal.invariant_of-self
 invariant_of-self c =
-    let w = ap (λ (t : Tree). t.width) c.self.view_is in
-    let s = ap (λ (t : Tree). get_or t.sums 1 0) c.self.view_is in
+    let row = c.self.inside.row.items in
+    let w = ap length c.self.view_is in
     let l = c.requires.within in
-    let k = c.loop-node.invariant.0 in
-    let same = c.loop-node.invariant.1 in
-    let zero : c.loop-node.node ≡ 0 = omega arith in
-    let f = c.self.invariant.fits in
-    let q = c.requires.few in
-    Climbs-tree 0 1 c.self.inside.sums.items c.loop-node.self-inside.sums.items
-    c.loop-node.self-inside.width c.args.place
-    (subst (λ n. IsTree c.self.inside.sums.items n) (sym same) c.self.invariant) (omega arith)
-    (subst (λ n. Climbs 0 1 c.self.inside.sums.items c.loop-node.self-inside.sums.items
-    c.loop-node.self-inside.width
-    c.args.place n) zero k)
-    (omega arith)
+    let q = ap sum c.self.view_is in
+    let few = c.requires.few in
+    let read = c.index_mut.ensures.value
+    ∙ get_or_default_zero row c.args.place c.index_mut.result.now (omega arith) in
+    let same = ap length c.deref_mut.ensures.value in
+    let long = c.deref_mut.ensures.len in
+    AreSummed-changed row c.self.inside.sums.items c.change.new.rows c.args.place 0 1
+    (c.index_mut.result.now + 1) c.self.inside.sums.len c.self.invariant (omega arith) (omega arith)
+    (omega arith) (omega arith) (omega arith)
+    (c.change.ensures ∙ ap (λ rs. changed (c.args.place / 64) 0 1 (rows_of rs)) c.deref_mut.ensures.value)
 
-pub index_mut-requires : goal.index_mut-requires
-index_mut-requires c =
-    let k = c.loop-node.invariant.0 in
-    let n = k.nodes in
-    let b = k.below in
-    omega arith
-
-pub overflow_add-index_mut : goal.overflow_add-index_mut
-overflow_add-index_mut c =
-    let k = c.loop-node.invariant.0 in
-    let n = k.nodes in
-    let b = k.below in
-    let same = c.loop-node.invariant.1 in
-    let read = read_at c.loop-node.self-inside.sums.items c.loop-node.node c.index_mut.result.now
-    c.index_mut.ensures.value
-    (omega arith) in
-    let root = ap (λ (t : Tree). get_or t.sums 1 0) c.self.view_is in
-    let w = ap (λ (t : Tree). t.width) c.self.view_is in
-    let q = c.requires.few in
-    let bound = Climbs-bound c.self.inside.sums.items c.loop-node.self-inside.sums.items
-    c.loop-node.self-inside.width
-    c.args.place c.loop-node.node (subst (λ n. IsTree c.self.inside.sums.items n) (sym same) c.self.invariant)
-    c.loop-node-test.true k in
-    omega arith
-
-pub loop-node-preserved : goal.loop-node-preserved
-loop-node-preserved c =
-    let k = c.loop-node.invariant.0 in
-    let n = k.nodes in
-    let b = k.below in
-    let read = read_at c.loop-node.self-inside.sums.items c.loop-node.node c.index_mut.result.now
-    c.index_mut.ensures.value
-    (omega arith) in (
-      Climbs-up 0 1 c.self.inside.sums.items c.loop-node.self-inside.sums.items
-          c.loop-node.self-inside.width c.args.place
-          c.loop-node.node (c.index_mut.result.now + 1) k c.loop-node-test.true (omega arith),
-      c.loop-node.invariant.1,
-    )
-
-pub returns : goal.returns
-returns c =
-    let v = c.self.view_is in
-    let w = ap (λ (t : Tree). t.width) v in
-    let k = c.loop-node.invariant.0 in
-    let same = c.loop-node.invariant.1 in
+pub returns-clause-marked : goal.returns-clause-marked
+returns-clause-marked c xs ys m =
+    let row = c.self.inside.row.items in
+    let w = ap length c.self.view_is in
     let l = c.requires.within in
-    let zero : c.loop-node.node ≡ 0 = omega arith in
-    let small = c.self.invariant.small in
-    let old : Tree = record { sums = c.self.inside.sums.items; width = c.self.inside.width } in
-    let new : Tree = record {
-      sums = c.loop-node.self-inside.sums.items;
-      width =
-          c.loop-node.self-inside.width;
-    } in
-    let there : Climbs 0 1 old.sums new.sums old.width c.args.place 0
-    = subst (λ n. Climbs 0 1 old.sums new.sums n c.args.place 0) same
-    (subst (λ n. Climbs 0 1 old.sums new.sums new.width c.args.place n) zero k) in
-    record {
-      marked = λ xs ys m. Marked-more old new c.args.place xs ys same (omega arith) there
-          (subst (λ t. Marked t (xs ++ ys)) (sym v) m);
-      width = omega arith;
-      small = omega arith;
-    }
+    let q = ap sum c.self.view_is in
+    let few = c.requires.few in
+    let read = c.index_mut.ensures.value
+    ∙ get_or_default_zero row c.args.place c.index_mut.result.now (omega arith) in
+    Marked-more row c.args.place (omega arith) (c.index_mut.result.now + 1) (omega arith) xs ys
+    (subst (λ r. Marked r (xs ++ ys)) (sym c.self.view_is) m)

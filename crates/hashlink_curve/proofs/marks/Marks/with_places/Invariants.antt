@@ -1,8 +1,13 @@
-use Rattle.std.proofs.Common.{◌≡◌, ℕ, ◌^◌, ◌-◌, ◌≤◌}
+use Rattle.std.proofs.Common.{◌≡◌, ◌≤◌, ◌^◌}
+use Rattle.std.specs.Prelude.{replicate}
+use Rattle.hashlink_curve.specs.Marks.{rows_of}
+use Rattle.hashlink_curve.proofs.Sums.{OpenRows}
 use Rattle.hashlink_curve.proofs.marks.Marks.with_places.Given as goal
 
 abbrev pub invariant-loop-width : goal.invariant-loop-width
-invariant-loop-width l = ((height : ℕ) × (l.width ≡ 2 ^ height)) × (1 ≤ l.width) × (l.width ≤ 2 ^ 61)
+invariant-loop-width l =
+    OpenRows l.row.items (rows_of l.sums.items) l.width × (l.row.items ≡ replicate l.places 0)
+    × (l.places ≤ 2 ^ 60)
 
 abbrev pub decreases-loop-width : goal.decreases-loop-width
-decreases-loop-width l = l.places - l.width
+decreases-loop-width l = l.width

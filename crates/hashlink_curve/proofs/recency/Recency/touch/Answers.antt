@@ -6,7 +6,7 @@ use Rattle.std.proofs.lemmas.Map.Entries.{length-values_of}
 use Rattle.hashlink_core.specs.Keyed.{entries_of}
 use Rattle.hashlink_curve.specs.Marks.{Marked}
 use Rattle.hashlink_curve.specs.Recency.{MovesPast, GoesLast}
-use Rattle.hashlink_curve.proofs.Placing.{found, found_moves, found_placed, absent_last, absent_placed}
+use Rattle.hashlink_curve.proofs.Placing.{found, found_moves, found_placed, found_free, free_at, absent_last, absent_placed}
 use Rattle.hashlink_curve.proofs.recency.Recency.touch.Goals as goal
 
 pub before-requires : goal.before-requires
@@ -71,9 +71,29 @@ mark-requires-clause-few g c =
     let few = p.few in
     omega arith
 
+pub mark-requires-clause-unmarked : goal.mark-requires-clause-unmarked
+mark-requires-clause-unmarked g c =
+    let p = c.free_place.ensures.placed in
+    let puts = rw c.in-Ok-Some.field-0-is at c.in-Ok-Some.ensures.inserts in
+    let es = entries_of c.free_place.new.places in
+    let f = found g.K.PartialEq.eq g.met.K.Eq.laws es c.free_place.new.marks c.free_place.new.next c.args.key
+    c.in-Ok-Some.place p puts.old_value in
+    let free : c.free_place.new.next < length c.free_place.new.marks = search rules in
+    let w = c.unmark.ensures.width in
+    found_free g.K.PartialEq.eq g.met.K.Eq.laws es c.free_place.new.marks c.unmark.new.self
+    c.free_place.new.next c.args.key c.in-Ok-Some.place p f
+    (c.unmark.ensures.unmarked (values_of f.front) (values_of f.back)
+    (subst (Marked c.free_place.new.marks) f.values p.marked)) (omega arith)
+
+pub mark-requires-in-Ok-None-clause-unmarked : goal.mark-requires-in-Ok-None-clause-unmarked
+mark-requires-in-Ok-None-clause-unmarked g c =
+    let p = c.free_place.ensures.placed in
+    free_at (entries_of c.free_place.new.places) c.free_place.new.next c.free_place.new.marks p.rises p.marked
+    (search rules)
+
 pub overflow_add-self : goal.overflow_add-self
 overflow_add-self g c =
-    let free : c.free_place.new.next < c.free_place.new.marks.width = search rules in
+    let free : c.free_place.new.next < length c.free_place.new.marks = search rules in
     let w = c.mark.ensures.width in
     let w2 = c.unmark.ensures.width in
     let small = c.mark.ensures.small in
@@ -86,7 +106,7 @@ invariant_of-self-in-Ok-Some g c =
     let es = entries_of c.free_place.new.places in
     let f = found g.K.PartialEq.eq g.met.K.Eq.laws es c.free_place.new.marks c.free_place.new.next c.args.key
     c.in-Ok-Some.place p puts.old_value in
-    let free : c.free_place.new.next < c.free_place.new.marks.width = search rules in
+    let free : c.free_place.new.next < length c.free_place.new.marks = search rules in
     let w = c.unmark.ensures.width in
     let w2 = c.mark.ensures.width in
     let m = c.unmark.ensures.unmarked (values_of f.front) (values_of f.back)
@@ -100,7 +120,7 @@ invariant_of-self-in-Ok-Some g c =
 
 pub overflow_add-self-in-Ok-None : goal.overflow_add-self-in-Ok-None
 overflow_add-self-in-Ok-None g c =
-    let free : c.free_place.new.next < c.free_place.new.marks.width = search rules in
+    let free : c.free_place.new.next < length c.free_place.new.marks = search rules in
     let w = c.mark-in-Ok-None.ensures.width in
     let small = c.mark-in-Ok-None.ensures.small in
     omega arith
@@ -110,7 +130,7 @@ invariant_of-self-in-Ok-None g c =
     let p = c.free_place.ensures.placed in
     let adds = rw c.in-Ok-None.field-0-is at c.in-Ok-None.ensures.inserts in
     let es = entries_of c.free_place.new.places in
-    let free : c.free_place.new.next < c.free_place.new.marks.width = search rules in
+    let free : c.free_place.new.next < length c.free_place.new.marks = search rules in
     let w = c.mark-in-Ok-None.ensures.width in
     let count = c.len-count.ensures.len in
     let small = c.len-count.ensures.small in

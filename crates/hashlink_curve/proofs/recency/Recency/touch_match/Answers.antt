@@ -10,7 +10,7 @@ use Rattle.hashlink_curve.specs.Recency.{MovesPast}
 use Rattle.hashlink_model.specs.Entries.{IsEntries}
 use Rattle.hashlink_model.proofs.Puts.{IsEntries-put}
 use Rattle.hashlink_model.proofs.Splits.{none_from_lookup}
-use Rattle.hashlink_curve.proofs.Placing.{found_match, found_moves, found_placed, list_any-keys}
+use Rattle.hashlink_curve.proofs.Placing.{found_match, found_moves, found_placed, found_free, list_any-keys}
 use Rattle.hashlink_curve.proofs.recency.Recency.touch_match.Goals as goal
 
 pub returns-in_default-clause-touched : goal.returns-in_default-clause-touched
@@ -111,9 +111,25 @@ mark-requires-clause-few g c =
     let few = p.few in
     omega arith
 
+pub mark-requires-clause-unmarked : goal.mark-requires-clause-unmarked
+mark-requires-clause-unmarked g c =
+    let p = c.free_place.ensures.placed in
+    let es = entries_of c.free_place.new.places in
+    let test = g.Q.Equivalent.matches c.args.query in
+    let m = c.in-Some.ensures.moved in
+    let f = found_match g.K.PartialEq.eq g.met.K.Eq.laws test es (entries_of c.move_last.new.places)
+    c.free_place.new.marks c.free_place.new.next c.in-Some.place c.free_place.new.next p
+    (sym c.in-Some.ensures.found) m in
+    let free : c.free_place.new.next < length c.free_place.new.marks = search rules in
+    let w = c.unmark.ensures.width in
+    found_free g.K.PartialEq.eq g.met.K.Eq.laws es c.free_place.new.marks c.unmark.new.self
+    c.free_place.new.next m.key c.in-Some.place p f
+    (c.unmark.ensures.unmarked (values_of f.front) (values_of f.back)
+    (subst (Marked c.free_place.new.marks) f.values p.marked)) (omega arith)
+
 pub overflow_add-self : goal.overflow_add-self
 overflow_add-self g c =
-    let free : c.free_place.new.next < c.free_place.new.marks.width = search rules in
+    let free : c.free_place.new.next < length c.free_place.new.marks = search rules in
     let w = c.mark.ensures.width in
     let w2 = c.unmark.ensures.width in
     let small = c.mark.ensures.small in
@@ -128,7 +144,7 @@ invariant_of-self-2 g c =
     let f = found_match g.K.PartialEq.eq g.met.K.Eq.laws test es (entries_of c.move_last.new.places)
     c.free_place.new.marks c.free_place.new.next c.in-Some.place c.free_place.new.next p
     (sym c.in-Some.ensures.found) m in
-    let free : c.free_place.new.next < c.free_place.new.marks.width = search rules in
+    let free : c.free_place.new.next < length c.free_place.new.marks = search rules in
     let w = c.unmark.ensures.width in
     let w2 = c.mark.ensures.width in
     let u = c.unmark.ensures.unmarked (values_of f.front) (values_of f.back)
