@@ -11,10 +11,8 @@ use Rattle.hashlink_model.specs.Steps.{RemovesKey, WritesEntry, with_value_of}
 use Rattle.hashlink_model.proofs.ByPlace.{moved_at-here, moved_at-put}
 use Rattle.hashlink_model.proofs.Places.{split_at}
 use Rattle.hashlink_core.proofs.Edits.{place_left-past}
-use Rattle.hashlink_core.proofs.Steps.{some_from_part}
-use Rattle.hashlink_core.proofs.Steps.{lookup-place, lookup_entry-unplaced, writes_key, removes_match}
-use Rattle.hashlink_core.proofs.Steps.{with_value-key}
-use Rattle.hashlink_core.proofs.Steps.{none_passes_from_place}
+use Rattle.hashlink_core.proofs.Steps.{some_from_part, lookup-place, lookup_entry-unplaced, writes_key}
+use Rattle.hashlink_core.proofs.Steps.{removes_match, with_value-key, none_passes_from_place}
 
 -- an entry that is moved to its own place stays
 module _ {X : Type 0} where

@@ -1,7 +1,6 @@
 -- What the calls of a map leave, from what the calls of the keyed list inside it leave, at the node of a key.
-use Rattle.std.proofs.Common.{◌≡◌, ◌+◌, ◌≤◌, ℕ, Bool, List, [], ◌∷◌, length, Option, None, Some, refl}
-use Rattle.std.proofs.Common.{sym, ap}
-use Rattle.std.proofs.Common.{subst, ◌∙◌, arith}
+use Rattle.std.proofs.Common.{◌≡◌, ◌+◌, ◌≤◌, ℕ, Bool, List, [], ◌∷◌, length, Option, None, Some, refl, sym}
+use Rattle.std.proofs.Common.{ap, subst, ◌∙◌, arith}
 use Rattle.std.specs.Prelude.{slice_get, is_some, Result, Ok, Err, IsErrAnd, IsOk, OnOk, OnErr}
 use Rattle.std.specs.Option.{option_map}
 use Rattle.std.specs.Cmp.{IsEquivalence}
@@ -23,9 +22,8 @@ use Rattle.hashlink_core.proofs.Places.{place_number-renewed, renewed-holds}
 use Rattle.hashlink_core.proofs.Holding.{moved-holds_key}
 use Rattle.hashlink_model.proofs.ByPlace.{set_value_at-place}
 use Rattle.hashlink_core.proofs.Steps.{lookup_entry-place, lookup-place, adds_key, refuses_key, puts_key}
-use Rattle.hashlink_core.proofs.Steps.{writes_key}
+use Rattle.hashlink_core.proofs.Steps.{writes_key, moves_match, removes_match}
 use Rattle.std.proofs.lemmas.Map.Entries.{length-values_of}
-use Rattle.hashlink_core.proofs.Steps.{moves_match, removes_match}
 use Rattle.hashlink_model.proofs.Splits.{key_from_place}
 
 module _ {K V S : Type 0} where

@@ -1,7 +1,7 @@
 -- What the calls of the keyed list leave, from the clauses of the ring and of the table.
 use Rattle.std.proofs.Common.{◌≡◌, Result, Ok, Err, OnOk, OnErr, ℕ, ◌+◌, ◌-◌, ◌≤◌, Bool, true, List, ◌∷◌}
-use Rattle.std.proofs.Common.{◌++◌}
-use Rattle.std.proofs.Common.{length, drop, Option, None, Some, refl, ap, sym, subst, ◌∙◌, arith, length-drop}
+use Rattle.std.proofs.Common.{◌++◌, length, drop, Option, None, Some, refl, ap, sym, subst, ◌∙◌, arith}
+use Rattle.std.proofs.Common.{length-drop}
 use Rattle.std.specs.Prelude.{slice_get, insert, remove, IsPermutation}
 use Rattle.std.specs.List.{IsDistinct}
 use Rattle.std.specs.Option.{option_map, option_map_or, IfSome}
@@ -27,13 +27,12 @@ use Rattle.hashlink_core.specs.Places.{place_number, IsPlaceAt, renewed_at}
 use Rattle.hashlink_core.specs.Steps.{AddsNode, RemovesNode, MovesNode, WritesNode, SetsNodeKey, GrowsRoom}
 use Rattle.hashlink_core.specs.Tied.{IsInStep, short}
 use Rattle.hashlink_core.proofs.Edits.{insert-map, remove-map, length-inserted, length-removed}
-use Rattle.hashlink_core.proofs.Edits.{remove_entry-at}
-use Rattle.hashlink_core.proofs.Edits.{moved_at-is, none-inserted, none_from_place, passes-at}
+use Rattle.hashlink_core.proofs.Edits.{remove_entry-at, moved_at-is, none-inserted, none_from_place}
+use Rattle.hashlink_core.proofs.Edits.{passes-at}
 use Rattle.std.proofs.lemmas.Map.Entries.{length-values_of}
 use Rattle.hashlink_core.proofs.Mapped.{length-mapped, remove_entry-mapped, keys-mapped, lookup-mapped}
-use Rattle.hashlink_core.proofs.Mapped.{holds-mapped}
-use Rattle.hashlink_core.proofs.Mapped.{place_number-mapped, renewed-mapped, moved-map, values-renewed_value}
-use Rattle.hashlink_core.proofs.Mapped.{values-renewed_key}
+use Rattle.hashlink_core.proofs.Mapped.{holds-mapped, place_number-mapped, renewed-mapped, moved-map}
+use Rattle.hashlink_core.proofs.Mapped.{values-renewed_value, values-renewed_key}
 use Rattle.hashlink_core.proofs.Neighbours.{distinct-left, next-number, prev-number}
 use Rattle.hashlink_core.proofs.Places.{IsNodeAt, node-at, put_before-at, set_value-at, renewed_at-is}
 use Rattle.hashlink_core.proofs.Places.{moves_before-at, moves_after-at}

@@ -1,20 +1,17 @@
 -- Lists edited at an index, and the place of a key in a list.
 use Rattle.std.proofs.Common.{◌≡◌, ◌⊎◌, inl, inr, ℕ, zero, suc, ◌+◌, ◌-◌, ◌<◌, ◌≤◌, Bool, true, false, cond}
-use Rattle.std.proofs.Common.{List, []}
-use Rattle.std.proofs.Common.{◌∷◌, ◌++◌, length, take, drop, Option, None, Some, refl, ap, sym, subst, ◌∙◌}
-use Rattle.std.proofs.Common.{arith}
-use Rattle.std.proofs.Common.{add-one, map, lt-ltb, le-ltb, ltb-true, ltb-false}
+use Rattle.std.proofs.Common.{List, [], ◌∷◌, ◌++◌, length, take, drop, Option, None, Some, refl, ap, sym}
+use Rattle.std.proofs.Common.{subst, ◌∙◌, arith, add-one, map, lt-ltb, le-ltb, ltb-true, ltb-false}
 use Rattle.std.specs.Prelude.{slice_get, insert, remove, nat_lt, unwrap_or}
 use Rattle.std.specs.Option.{option_map}
 use Rattle.std.specs.Map.{remove_entry}
 use Rattle.std.specs.Cmp.{IsEquivalence}
 use Rattle.std.proofs.lemmas.Map.{NonePasses}
 use Rattle.std.proofs.lemmas.List.{take-append-drop, length-append}
-use Rattle.hashlink_model.specs.Entries.{IsEntries, place_of, place_or_end}
+use Rattle.hashlink_model.specs.Entries.{IsEntries, place_of, place_or_end, place_left, moved_at}
 use Rattle.hashlink_model.proofs.Splits.{Stands, splits, place_of-here, stands_from_place}
 use Rattle.hashlink_model.proofs.Places.{slice_get_here}
 use Rattle.hashlink_model.proofs.Distinct.{none_others, IsEntries-middle, IsEntries-insert}
-use Rattle.hashlink_model.specs.Entries.{place_left, moved_at}
 
 -- ---- any list, edited at an index
 module _ {X : Type 0} where

@@ -16,8 +16,7 @@ use Rattle.hashlink_core.specs.Keyed.{Keyed, entries_of, HoldsKey, HoldsMatch, E
 use Rattle.hashlink_core.specs.Places.{Holds, place_number}
 use Rattle.hashlink_core.specs.Steps.{MovesNode}
 use Rattle.hashlink_core.proofs.Edits.{lt-at, length-removed, slice_get-inserted, moved_at-is}
-use Rattle.hashlink_core.proofs.Edits.{place_left-before}
-use Rattle.hashlink_core.proofs.Edits.{place_left-past, passes-at}
+use Rattle.hashlink_core.proofs.Edits.{place_left-before, place_left-past, passes-at}
 use Rattle.hashlink_core.proofs.Places.{node-at, inserted-at}
 
 pub left-within : (j b n : ℕ) → j < n → b ≤ n → place_left j b ≤ n - 1

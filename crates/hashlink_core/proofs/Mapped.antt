@@ -1,8 +1,7 @@
 -- Lists whose elements are seen through a function: the ring's entries as the pairs with their nodes, and
 -- those as the pairs alone.
 use Rattle.std.proofs.Common.{◌≡◌, ℕ, zero, suc, Bool, true, false, cond, List, [], ◌∷◌, length, Option, None}
-use Rattle.std.proofs.Common.{Some}
-use Rattle.std.proofs.Common.{refl, ap, sym, ◌∙◌, map}
+use Rattle.std.proofs.Common.{Some, refl, ap, sym, ◌∙◌, map}
 use Rattle.std.specs.Prelude.{slice_get, insert, remove, is_some}
 use Rattle.std.specs.Option.{option_map}
 use Rattle.std.specs.Map.{lookup, remove_entry, keys_of, values_of}

@@ -1,15 +1,13 @@
 -- The numbers of places, and the ring's words by places in terms of them.
 use Rattle.std.proofs.Common.{◌≡◌, ◌≢◌, ltb-true, ltb-false, ℕ, zero, suc, ◌+◌, ◌-◌, ◌<◌, ◌≤◌, Bool, true}
-use Rattle.std.proofs.Common.{false}
-use Rattle.std.proofs.Common.{cond, List, [], ◌∷◌, ◌++◌, length, Option, None, Some, refl, ap, sym, subst}
-use Rattle.std.proofs.Common.{◌∙◌, arith}
-use Rattle.std.proofs.Common.{add-one}
+use Rattle.std.proofs.Common.{false, cond, List, [], ◌∷◌, ◌++◌, length, Option, None, Some, refl, ap, sym}
+use Rattle.std.proofs.Common.{subst, ◌∙◌, arith, add-one}
 use Rattle.std.specs.Prelude.{slice_get, insert, remove, is_some, nat_lt, unwrap_or}
 use Rattle.std.specs.Option.{option_map, IfSome}
 use Rattle.std.specs.Map.{lookup, lookup_entry, remove_entry, set_value, keys_of}
 use Rattle.std.proofs.lemmas.Option.{slice_get-map}
 use Rattle.hashlink_model.specs.Cursor as cursor
-use Rattle.hashlink_model.specs.Entries.{IsEntries, place_or_end}
+use Rattle.hashlink_model.specs.Entries.{IsEntries, place_or_end, place_left, moved_at}
 use Rattle.hashlink_model.proofs.Places.{place_of_its_key, lookup_entry_at, slice_get-place_or_end}
 use Rattle.hashlink_model.proofs.Finds.{lookup_is}
 use Rattle.hashlink_model.proofs.Puts.{none_without}
@@ -18,7 +16,6 @@ use Rattle.hashlink_nodes.specs.declared.node.Node.{Node}
 use Rattle.hashlink_nodes.specs.Node.{same_node, same_node_equiv, eq-same_node}
 use Rattle.hashlink_nodes.specs.Ring.{put_before, put_before_node, put_after, put_after_node, Holds, IsPlace}
 use Rattle.hashlink_nodes.specs.Ring.{MovesBefore, MovesAfter}
-use Rattle.hashlink_model.specs.Entries.{place_left, moved_at}
 use Rattle.hashlink_core.specs.Places.{place_number, renewed_at}
 use Rattle.hashlink_core.proofs.Edits.{lt-at, length-removed, slice_get-inserted, place_or_end-cons}
 use Rattle.hashlink_core.proofs.Edits.{place_or_end-most, remove_entry-at, place_left-before, place_left-past}

@@ -24,8 +24,8 @@ use Rattle.hashlink_core.specs.Places.{place_number, IsPlaceAt, renewed_at}
 use Rattle.hashlink_core.specs.Steps.{RemovesNode}
 use Rattle.hashlink_core.proofs.Edits.{drop-at}
 use Rattle.hashlink_core.proofs.Mapped.{values-renewed_value}
-use Rattle.hashlink_core.proofs.Places.{is_node, following-within, number-cons, place_number-renewed}
-use Rattle.hashlink_core.proofs.Places.{node-at, renewed-holds}
+use Rattle.hashlink_core.proofs.Places.{is_node, following-within, number-cons, place_number-renewed, node-at}
+use Rattle.hashlink_core.proofs.Places.{renewed-holds}
 use Rattle.hashlink_core.proofs.Walk.{within-holds}
 
 -- ---- lists cut at the place of the call

@@ -20,8 +20,7 @@ use Rattle.hashlink_table.specs.Contents.{Contents}
 use Rattle.hashlink_core.specs.Keyed.{nodes_of, pairs_in}
 use Rattle.hashlink_core.specs.Tied.{IsTied, IsInStep, IsNumbered, short}
 use Rattle.hashlink_core.proofs.Edits.{length-inserted, length-removed, insert-map, remove-map}
-use Rattle.hashlink_core.proofs.Edits.{IsEntries-removed}
-use Rattle.hashlink_core.proofs.Edits.{IsEntries-inserted, none-removed}
+use Rattle.hashlink_core.proofs.Edits.{IsEntries-removed, IsEntries-inserted, none-removed}
 use Rattle.hashlink_core.proofs.Tying.{kept, tied-none, tied-same, tied-added, tied-taken, tied-changed}
 use Rattle.hashlink_core.proofs.Tying.{numbered-added, numbered-taken, with-here, with-removed, with-inserted}
 

@@ -1,7 +1,6 @@
 -- Steps at the place of a key, and the steps of a map's calls at the key.
 use Rattle.std.proofs.Common.{◌≡◌, ◌⊎◌, inl, inr, ℕ, zero, suc, ◌+◌, ◌-◌, ◌≤◌, Bool, List, [], ◌∷◌, ◌++◌}
-use Rattle.std.proofs.Common.{length}
-use Rattle.std.proofs.Common.{drop, take, None, Some, refl, sym, ap, ap₂, subst, ◌∙◌, arith}
+use Rattle.std.proofs.Common.{length, drop, take, None, Some, refl, sym, ap, ap₂, subst, ◌∙◌, arith}
 use Rattle.std.specs.Prelude.{slice_get, Option}
 use Rattle.std.specs.Option.{option_map, option_map_or}
 use Rattle.std.specs.Map.{lookup, lookup_entry}
@@ -10,9 +9,8 @@ use Rattle.std.proofs.lemmas.Option.{none-some}
 use Rattle.std.proofs.lemmas.List.{append-nil}
 use Rattle.hashlink_model.specs.Entries.{place_of, moved_match, moved_at, set_value_at, set_key_at}
 use Rattle.hashlink_model.specs.MapState.{MapState, Changes, Adds, Removes, Grows, AddsAt, RemovesAt, MovesAt}
-use Rattle.hashlink_model.specs.MapState.{WritesAt, SetsKeyAt}
+use Rattle.hashlink_model.specs.MapState.{WritesAt, SetsKeyAt, AddsEntry, PutsEntry, RefusesEntry, with_value}
 use Rattle.hashlink_model.specs.Entry.{key_at, value_at, replace_entry}
-use Rattle.hashlink_model.specs.MapState.{AddsEntry, PutsEntry, RefusesEntry, with_value}
 use Rattle.hashlink_model.specs.Steps.{WritesEntry, RemovesMatch, PopsFront, PopsBack, with_value_of}
 use Rattle.hashlink_model.proofs.Splits.{Stands, splits, stands_from_place, place_of-here, lookup-none}
 use Rattle.hashlink_model.proofs.Splits.{lookup_entry-none, lookup_entry-here}

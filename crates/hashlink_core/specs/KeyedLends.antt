@@ -1,5 +1,5 @@
 -- What a keyed list ends as, once a `&mut` to a value has ended.
-use Rattle.std.specs.Prelude.{ℕ, Bool, List}
+use Rattle.std.specs.Prelude.{ℕ, Bool, List, Some}
 use Rattle.std.specs.Borrow.{Fml, RattleType, MutBor, Lends}
 use Rattle.std.specs.declared.hash.Hasher as hasher
 use Rattle.std.specs.declared.hash.BuildHasher as builder
@@ -8,7 +8,6 @@ use Rattle.hashlink_nodes.specs.contracts.node.Node as node
 use Rattle.hashlink_core.specs.contracts.keyed_list.KeyedList.{the_row}
 use Rattle.hashlink_core.specs.Keyed.{Keyed, pair_with_value}
 use Rattle.hashlink_core.specs.Places.{place_number, renewed_at}
-use Rattle.std.specs.Prelude.{Some}
 
 -- what a clause has as K.Hash
 abbrev pub HashMembers : Type 0 → Type 0

@@ -1,7 +1,6 @@
 -- What caches hold and answer along calls in a row.
 use Rattle.std.proofs.Common.{◌≡◌, ℕ, ◌≤◌, Bool, false, ◌&&◌, List, [], ◌∷◌, ◌++◌, length, nat_lt, is_some}
-use Rattle.std.proofs.Common.{Option}
-use Rattle.std.proofs.Common.{None, Some, refl, sym, ap, ◌∙◌, subst, arith, append_assoc, append-nil}
+use Rattle.std.proofs.Common.{Option, None, Some, refl, sym, ap, ◌∙◌, subst, arith, append_assoc, append-nil}
 use Rattle.std.proofs.Common.{true≢false}
 use Rattle.std.specs.Cmp.{IsEquivalence}
 use Rattle.std.specs.List.{AllZip, IsDistinct}
@@ -9,10 +8,8 @@ use Rattle.std.specs.Map.{lookup}
 use Rattle.std.specs.Set.{is_member}
 use Rattle.hashlink_model.specs.Entries.{IsEntries, without}
 use Rattle.hashlink_history.specs.CacheRuns.{CacheEvent, Insert, Use, Remove, Peek, key_of, is_use}
-use Rattle.hashlink_history.specs.CacheRuns.{is_removal}
-use Rattle.hashlink_history.specs.CacheRuns.{NoUse}
-use Rattle.hashlink_history.specs.CacheRuns.{NoRemoval, used_keys, answer_to, after_event, after_events}
-use Rattle.hashlink_history.specs.CacheRuns.{answers}
+use Rattle.hashlink_history.specs.CacheRuns.{is_removal, NoUse, NoRemoval, used_keys, answer_to, after_event}
+use Rattle.hashlink_history.specs.CacheRuns.{after_events, answers}
 use Rattle.hashlink_history.specs.History.{reuse_distance, HoldsRecent}
 use Rattle.hashlink_history.specs.Inclusion.{IsEndOf, SameKey, SameEntry, AlsoFinds, FindsTheSame}
 use Rattle.hashlink_model.proofs.Puts.{IsEntries-without}

@@ -1,12 +1,9 @@
 -- The misses of a cache against those of any schedule, from nothing on: the cache is filled up with keys that
 -- nobody asks for.
 use Rattle.std.proofs.Common.{◌≡◌, ℕ, zero, suc, ◌+◌, ◌-◌, ◌*◌, ◌≤◌, ◌<◌, Bool, true, false, cond, ◌||◌, ◌&&◌}
-use Rattle.std.proofs.Common.{List}
-use Rattle.std.proofs.Common.{[], ◌∷◌, ◌++◌, map, length, take, drop, nat_lt, nat_eq, refl, sym, ap, ap₂, ◌∙◌}
-use Rattle.std.proofs.Common.{◌⊎◌}
-use Rattle.std.proofs.Common.{inl, inr, subst, arith, append_assoc, length-append, length-take}
-use Rattle.std.proofs.Common.{take-append-drop}
-use Rattle.std.proofs.Common.{le_refl, true≢false, not-suc-le-zero, append-nil}
+use Rattle.std.proofs.Common.{List, [], ◌∷◌, ◌++◌, map, length, take, drop, nat_lt, nat_eq, refl, sym, ap}
+use Rattle.std.proofs.Common.{ap₂, ◌∙◌, ◌⊎◌, inl, inr, subst, arith, append_assoc, length-append, length-take}
+use Rattle.std.proofs.Common.{take-append-drop, le_refl, true≢false, not-suc-le-zero, append-nil}
 use Rattle.std.specs.Cmp.{IsEquivalence, nat_eq_equiv}
 use Rattle.std.specs.List.{AllByRecursion, IsDistinct}
 use Rattle.std.specs.Map.{keys_of}
@@ -15,13 +12,11 @@ use Rattle.std.proofs.lemmas.Bool.{cases_lt, ne_eqb}
 use Rattle.std.proofs.lemmas.List.Elements.{recursion_from_All}
 use Rattle.std.proofs.lemmas.Map.Made.{All-is_member, length-remove_key}
 use Rattle.hashlink_history.specs.History.{IsSchedule, Schedule, misses, misses_from, cache_misses}
-use Rattle.hashlink_history.specs.History.{cache_misses_from}
-use Rattle.hashlink_history.specs.History.{recent_keys, reuse_distance, HoldsRecent}
+use Rattle.hashlink_history.specs.History.{cache_misses_from, recent_keys, reuse_distance, HoldsRecent}
 use Rattle.hashlink_model.specs.Cache.{cache_use, missed_uses}
 use Rattle.hashlink_model.proofs.Members.{is_member-append}
 use Rattle.hashlink_history.proofs.Recency.{remove_key-right, recent_keys-there, recent_keys-full}
-use Rattle.hashlink_history.proofs.Recency.{recent_keys-room}
-use Rattle.hashlink_history.proofs.Recency.{length-recent_keys, is_recent}
+use Rattle.hashlink_history.proofs.Recency.{recent_keys-room, length-recent_keys, is_recent}
 use Rattle.hashlink_history.proofs.Reuse.{held_exactly, HoldsRecent-cache_use, HoldsRecent-start}
 use Rattle.hashlink_history.proofs.Potential.{triangle, ranks, ranks-append, ranks-held, ranks-at_most}
 use Rattle.hashlink_history.proofs.Pursuit.{Follows}

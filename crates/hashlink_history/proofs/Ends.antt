@@ -1,9 +1,7 @@
 -- A smaller cache's entries stay an end of a larger one's, whatever both are given.
 use Rattle.std.proofs.Common.{◌≡◌, ℕ, zero, suc, ◌+◌, ◌-◌, ◌≤◌, ◌<◌, Bool, true, false, cond, List, [], ◌∷◌}
-use Rattle.std.proofs.Common.{◌++◌}
-use Rattle.std.proofs.Common.{length, drop, is_some, Option, None, Some, refl, sym, ap, ap₂, ◌∙◌, ◌⊎◌, inl}
-use Rattle.std.proofs.Common.{inr, subst}
-use Rattle.std.proofs.Common.{subst₂, arith, append_assoc, lt_irrefl}
+use Rattle.std.proofs.Common.{◌++◌, length, drop, is_some, Option, None, Some, refl, sym, ap, ap₂, ◌∙◌, ◌⊎◌}
+use Rattle.std.proofs.Common.{inl, inr, subst, subst₂, arith, append_assoc, lt_irrefl}
 use Rattle.std.specs.Cmp.{IsEquivalence}
 use Rattle.std.specs.Option.{option_map_or}
 use Rattle.std.specs.List.{AllZip}

@@ -1,7 +1,6 @@
 -- The peak of a run as the run goes on, and the nodes of a map along a run, which stay within it.
 use Rattle.std.proofs.Common.{◌≡◌, ℕ, ◌≤◌, max, le_refl, Bool, List, [], ◌∷◌, ◌++◌, length, Option, Result}
-use Rattle.std.proofs.Common.{Ok}
-use Rattle.std.proofs.Common.{refl, sym, ap, ◌∙◌, subst, arith}
+use Rattle.std.proofs.Common.{Ok, refl, sym, ap, ◌∙◌, subst, arith}
 use Rattle.hashlink_model.specs.Entries.{put}
 use Rattle.hashlink_model.specs.MapState.{MapState, node_count, KeepsNodes}
 use Rattle.hashlink_model.specs.Steps.{Clears, Shrinks}

@@ -1,8 +1,8 @@
 -- How far a cache is from a schedule: the sum of the ranks, from 1 for the oldest, of the keys that the cache
 -- holds and the schedule does not.
 use Rattle.std.proofs.Common.{◌≡◌, ℕ, zero, suc, ◌+◌, ◌*◌, ◌≤◌, Bool, true, false, ◌&&◌, ◌||◌, cond, List, []}
-use Rattle.std.proofs.Common.{◌∷◌}
-use Rattle.std.proofs.Common.{◌++◌, length, filter, refl, sym, ap, ◌∙◌, arith, true≢false, le_refl, zero-le}
+use Rattle.std.proofs.Common.{◌∷◌, ◌++◌, length, filter, refl, sym, ap, ◌∙◌, arith, true≢false, le_refl}
+use Rattle.std.proofs.Common.{zero-le}
 use Rattle.std.specs.Cmp.{IsEquivalence}
 use Rattle.std.specs.List.{AllByRecursion, IsDistinct}
 use Rattle.std.specs.Set.{is_member}

@@ -1,9 +1,8 @@
 -- The misses of a cache that always has c keys are bounded by those of any schedule, by steps of the two side
 -- by side.
 use Rattle.std.proofs.Common.{◌≡◌, ℕ, ◌+◌, ◌-◌, ◌*◌, ◌≤◌, Bool, true, false, cond, List, [], ◌∷◌, ◌++◌}
-use Rattle.std.proofs.Common.{length, drop}
-use Rattle.std.proofs.Common.{refl, sym, ap, ◌∙◌, subst, arith, length-append, zero-le, not-suc-le-zero, ◌||◌}
-use Rattle.std.proofs.Common.{true≢false}
+use Rattle.std.proofs.Common.{length, drop, refl, sym, ap, ◌∙◌, subst, arith, length-append, zero-le}
+use Rattle.std.proofs.Common.{not-suc-le-zero, ◌||◌, true≢false}
 use Rattle.std.specs.Cmp.{IsEquivalence}
 use Rattle.std.specs.List.{IsDistinct}
 use Rattle.std.specs.Set.{is_member, remove_key}

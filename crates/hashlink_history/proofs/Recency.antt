@@ -1,18 +1,14 @@
 -- The keys of a history, each once, in the order of their last use; and that a cache of c places holds the
 -- last c of them.
 use Rattle.std.proofs.Common.{◌≡◌, ℕ, suc, ◌+◌, ◌-◌, ◌≤◌, ◌<◌, Bool, true, false, not, ◌&&◌, ◌||◌, cond, List}
-use Rattle.std.proofs.Common.{[]}
-use Rattle.std.proofs.Common.{◌∷◌, ◌++◌, length, take, drop, nat_lt, refl, sym, ap, ap₂, ◌∙◌, ◌⊎◌, inl, inr}
-use Rattle.std.proofs.Common.{subst}
-use Rattle.std.proofs.Common.{arith, append_assoc, length-append, length-take, length-drop, take-append-drop}
-use Rattle.std.proofs.Common.{drop_at}
-use Rattle.std.proofs.Common.{lt-ltb, le-ltb, true≢false, min}
+use Rattle.std.proofs.Common.{[], ◌∷◌, ◌++◌, length, take, drop, nat_lt, refl, sym, ap, ap₂, ◌∙◌, ◌⊎◌, inl}
+use Rattle.std.proofs.Common.{inr, subst, arith, append_assoc, length-append, length-take, length-drop}
+use Rattle.std.proofs.Common.{take-append-drop, drop_at, lt-ltb, le-ltb, true≢false, min, get_or}
 use Rattle.std.specs.Cmp.{IsEquivalence}
 use Rattle.std.specs.List.{AllByRecursion, AllZip, IsDistinct, suffix_len, after_last}
 use Rattle.std.specs.Set.{is_member, unique_keys, remove_key, distinct_count}
 use Rattle.std.proofs.Math.Seq.{drop-append-add}
 use Rattle.std.proofs.lemmas.Bool.{cases_lt, both_ways}
-use Rattle.std.proofs.Common.{get_or}
 use Rattle.std.proofs.lemmas.List.{nil_from_length, drop-append-le, get_or-append_right, get_or_at}
 use Rattle.std.proofs.lemmas.List.Elements.{All-from_recursion}
 use Rattle.std.proofs.lemmas.List.Sums.{suffix_len_is}

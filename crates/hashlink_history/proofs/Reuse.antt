@@ -1,10 +1,8 @@
 -- A cache of c places holds the last c keys that were used, and a key exactly while fewer than c others were
 -- used since.
 use Rattle.std.proofs.Common.{◌≡◌, ℕ, ◌-◌, ◌≤◌, ◌<◌, Bool, true, false, ◌&&◌, ◌||◌, cond, List, [], ◌∷◌, ◌++◌}
-use Rattle.std.proofs.Common.{length}
-use Rattle.std.proofs.Common.{drop, nat_lt, is_some, Option, None, Some, refl, sym, ap, subst₂, ◌∙◌, ◌⊎◌, inl}
-use Rattle.std.proofs.Common.{inr}
-use Rattle.std.proofs.Common.{subst, arith, length-append}
+use Rattle.std.proofs.Common.{length, drop, nat_lt, is_some, Option, None, Some, refl, sym, ap, subst₂, ◌∙◌}
+use Rattle.std.proofs.Common.{◌⊎◌, inl, inr, subst, arith, length-append}
 use Rattle.std.specs.Cmp.{IsEquivalence}
 use Rattle.std.specs.Option.{option_map_or}
 use Rattle.std.specs.List.{AllZip}
@@ -21,9 +19,8 @@ use Rattle.hashlink_model.proofs.Puts.{put_back, put_back_absent}
 use Rattle.hashlink_model.proofs.Afterwards.{length-put_there, moved-there}
 use Rattle.hashlink_model.proofs.Caches.{front_evicted-within, front_evicted-above, last_entries-within}
 use Rattle.hashlink_model.proofs.Caches.{cache_put-evicts}
-use Rattle.hashlink_history.proofs.Recency.{zip_push, zip_drop_one, zip_length, is_recent}
-use Rattle.hashlink_history.proofs.Recency.{recent_keys-there, recent_keys-full, recent_keys-room}
-use Rattle.hashlink_history.proofs.Recency.{length-recent_keys}
+use Rattle.hashlink_history.proofs.Recency.{zip_push, zip_drop_one, zip_length, is_recent, recent_keys-there}
+use Rattle.hashlink_history.proofs.Recency.{recent_keys-full, recent_keys-room, length-recent_keys}
 
 module _ {K V : Type 0} (eq : K → K → Bool) (laws : IsEquivalence eq) where
   pub found_is_member : (k : K) (es : List (K × V)) (ks : List K) → AllZip (λ e q. eq e.0 q ≡ true) es ks

@@ -1,7 +1,6 @@
 -- Histories: the keys that were used, in order, and what any rule of replacement can make of them.
-use Rattle.std.specs.Prelude.{◌≡◌, ℕ, ◌+◌, ◌-◌, ◌≤◌, drop, Bool, true, ◌||◌, ◌&&◌, cond, nat_lt, ◌++◌}
-use Rattle.std.specs.Prelude.{List, []}
-use Rattle.std.specs.Prelude.{◌∷◌, length}
+use Rattle.std.specs.Prelude.{◌≡◌, ℕ, ◌+◌, ◌-◌, ◌≤◌, drop, Bool, true, ◌||◌, ◌&&◌, cond, nat_lt, ◌++◌, List}
+use Rattle.std.specs.Prelude.{[], ◌∷◌, length}
 use Rattle.std.specs.List.{AllByRecursion, AllZip, after_last}
 use Rattle.std.specs.Set.{is_member, unique_keys, distinct_count}
 

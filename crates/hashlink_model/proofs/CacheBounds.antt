@@ -1,7 +1,6 @@
 -- How long a cache is after its calls, which of them is never refused, and how many links they store.
-use Rattle.std.proofs.Common.{◌≡◌, ℕ, ◌+◌, ◌-◌, ◌*◌, ◌≤◌, ◌<◌, Bool, List, length, Option, None}
-use Rattle.std.proofs.Common.{Some}
-use Rattle.std.proofs.Common.{Result, Ok, Err, sym, ap, ◌∙◌, ◌⊎◌, inl, inr, subst, arith, length-drop}
+use Rattle.std.proofs.Common.{◌≡◌, ℕ, ◌+◌, ◌-◌, ◌*◌, ◌≤◌, ◌<◌, Bool, List, length, Option, None, Some, Result}
+use Rattle.std.proofs.Common.{Ok, Err, sym, ap, ◌∙◌, ◌⊎◌, inl, inr, subst, arith, length-drop}
 use Rattle.std.proofs.lemmas.Bool.{cases_lt}
 use Rattle.std.proofs.lemmas.Map.{length-set_value}
 use Rattle.hashlink_model.specs.Entries.{put}
@@ -12,8 +11,8 @@ use Rattle.hashlink_model.specs.Cache.{CacheState, OnMap, IsWithin, HasNodeToSpa
 use Rattle.hashlink_model.specs.Cache.{CacheInserts, CacheGets, CacheGetsAndWrites, SetsCapacity, EntersCache}
 use Rattle.hashlink_model.specs.Cache.{CacheGetsMatch, CacheGetsMatchAndWrites, last_entries}
 use Rattle.hashlink_model.proofs.Afterwards.{length-put_absent, length-put_there, length-moved_match}
-use Rattle.hashlink_model.proofs.Caches.{front_evicted-above, front_evicted-at_most}
-use Rattle.hashlink_model.proofs.Caches.{length-last_entries, cache_put-at_most}
+use Rattle.hashlink_model.proofs.Caches.{front_evicted-above, front_evicted-at_most, length-last_entries}
+use Rattle.hashlink_model.proofs.Caches.{cache_put-at_most}
 use Rattle.hashlink_model.proofs.CacheSteps.{put_entries, inserts_entries}
 use Rattle.hashlink_model.proofs.NodeCounts.{moves_match_length, node_count-keeps}
 use Rattle.hashlink_model.proofs.KeptNodes.{kept-inserts}

@@ -1,16 +1,13 @@
 -- What follows from the steps between two states of a cache.
 use Rattle.std.proofs.Common.{◌≡◌, ℕ, ◌-◌, ◌≤◌, min, max, Bool, [], ◌∷◌, ◌++◌, length, take, Option, None}
-use Rattle.std.proofs.Common.{Some}
-use Rattle.std.proofs.Common.{Ok, Err, sym, ap, ◌∙◌, arith}
+use Rattle.std.proofs.Common.{Some, Ok, Err, sym, ap, ◌∙◌, arith}
 use Rattle.std.specs.Prelude.{MatchOption, Result, refl}
 use Rattle.std.specs.Option.{option_map_or}
 use Rattle.std.specs.Map.{lookup}
 use Rattle.hashlink_model.specs.Entries.{put, without, stored_key}
 use Rattle.hashlink_model.specs.MapState.{MapState, node_count}
-use Rattle.hashlink_model.specs.Cache.{cache_get}
-use Rattle.hashlink_model.specs.Cache.{CacheState, InsertsLast, CacheUses, cache_use, CacheInserts, CacheGets}
-use Rattle.hashlink_model.specs.Cache.{SetsCapacity, last_entries}
-use Rattle.hashlink_model.specs.Cache.{cache_put}
+use Rattle.hashlink_model.specs.Cache.{cache_get, CacheState, InsertsLast, CacheUses, cache_use, CacheInserts}
+use Rattle.hashlink_model.specs.Cache.{CacheGets, SetsCapacity, last_entries, cache_put}
 use Rattle.hashlink_model.proofs.Puts.{put_back}
 use Rattle.hashlink_model.proofs.Afterwards.{moved-there}
 use Rattle.hashlink_model.proofs.Caches.{length-last_entries, last_entries-end, last_entries-within}

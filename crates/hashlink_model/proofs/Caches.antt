@@ -1,9 +1,7 @@
 -- What a cache holds after its steps.
 use Rattle.std.proofs.Common.{◌≡◌, ℕ, suc, ◌+◌, ◌-◌, ◌≤◌, ◌<◌, Bool, true, false, cond, min, List, [], ◌∷◌}
-use Rattle.std.proofs.Common.{◌++◌}
-use Rattle.std.proofs.Common.{length, drop, take, nat_lt, unwrap_or, Option, None, Some, refl, sym, ap, ◌∙◌}
-use Rattle.std.proofs.Common.{◌⊎◌, inl}
-use Rattle.std.proofs.Common.{inr, arith, zero, length-drop, lt-ltb, le-ltb, take-append-drop}
+use Rattle.std.proofs.Common.{◌++◌, length, drop, take, nat_lt, unwrap_or, Option, None, Some, refl, sym, ap}
+use Rattle.std.proofs.Common.{◌∙◌, ◌⊎◌, inl, inr, arith, zero, length-drop, lt-ltb, le-ltb, take-append-drop}
 use Rattle.std.specs.Cmp.{IsEquivalence}
 use Rattle.std.specs.Map.{lookup, lookup_entry}
 use Rattle.std.specs.Option.{option_map_or}
@@ -15,8 +13,8 @@ use Rattle.hashlink_model.proofs.Distinct.{IsEntries-tail}
 use Rattle.hashlink_model.proofs.Puts.{IsEntries-put}
 use Rattle.hashlink_model.proofs.Finds.{lookup-equal}
 use Rattle.hashlink_model.proofs.Afterwards.{length-put, length-put_absent, length-put_there, moved-there}
-use Rattle.hashlink_model.proofs.Afterwards.{length-moved}
-use Rattle.hashlink_model.proofs.Afterwards.{lookup-moved, lookup_entry-put_other, IsEntries-moved}
+use Rattle.hashlink_model.proofs.Afterwards.{length-moved, lookup-moved, lookup_entry-put_other}
+use Rattle.hashlink_model.proofs.Afterwards.{IsEntries-moved}
 use Rattle.hashlink_model.proofs.Remaining.{lookup-put_remaining, lookup_entry-put_remaining}
 
 module _ {K V : Type 0} where

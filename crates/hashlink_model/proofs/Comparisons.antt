@@ -1,10 +1,8 @@
 -- The laws of the comparisons of maps, from those of their keys and values.
 use Rattle.std.proofs.Common.{ap, Option, Some, ◌≡◌, Bool, true, ◌&&◌, List, [], ◌∷◌, ◌++◌, refl, sym, ap₂}
-use Rattle.std.proofs.Common.{◌∙◌}
-use Rattle.std.proofs.Common.{true≢false}
+use Rattle.std.proofs.Common.{◌∙◌, true≢false}
 use Rattle.std.specs.Cmp.{IsEquivalence, IsPartialEquivalence, IsPartialOrder, IsTotalOrder, on_per, and_per}
-use Rattle.std.specs.Cmp.{on_po}
-use Rattle.std.specs.Cmp.{then_po, on_equiv, on_total, and_equiv, then_total}
+use Rattle.std.specs.Cmp.{on_po, then_po, on_equiv, on_total, and_equiv, then_total}
 use Rattle.std.specs.Cmp.Lexicographic.{lists_per, lists_po, lists_equiv, lists_total, lists_ties}
 use Rattle.std.proofs.lemmas.Bool.{and_parts}
 use Rattle.std.specs.declared.cmp.Ordering.TheVariants.{Less, Equal, Greater}

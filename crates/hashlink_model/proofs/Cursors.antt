@@ -1,28 +1,24 @@
 -- Where a cursor stands after a move, and after an insert.
 use Rattle.std.proofs.Common.{◌≡◌, ◌⊎◌, inl, inr, ℕ, zero, suc, ◌+◌, ◌%◌, ◌≤◌, ◌<◌, Bool, true, false, cond}
-use Rattle.std.proofs.Common.{List, []}
-use Rattle.std.proofs.Common.{◌∷◌, ◌++◌, length, slice_get, Option, None, Some, refl, sym, ap, ◌∙◌, arith}
-use Rattle.std.proofs.Common.{mod-eq_of_lt, append_assoc}
-use Rattle.std.specs.Prelude.{insert}
+use Rattle.std.proofs.Common.{List, [], ◌∷◌, ◌++◌, length, slice_get, Option, None, Some, refl, sym, ap, ◌∙◌}
+use Rattle.std.proofs.Common.{arith, mod-eq_of_lt, append_assoc, ap₂, le_refl, le_antisymm, zero-le}
+use Rattle.std.proofs.Common.{suc-le-suc}
+use Rattle.std.specs.Prelude.{insert, Result, unwrap_or}
 use Rattle.std.specs.Cmp.{IsEquivalence}
 use Rattle.std.specs.Option.{option_map_or}
-use Rattle.std.proofs.Common.{ap₂, le_refl, le_antisymm, zero-le, suc-le-suc}
-use Rattle.std.specs.Prelude.{Result}
 use Rattle.std.proofs.lemmas.Bool.{cases_lt}
 use Rattle.std.proofs.lemmas.Nat.{mod_below}
 use Rattle.std.proofs.Math.Nat.{mod_self, add-mod_right}
 use Rattle.std.proofs.lemmas.Map.{NonePasses}
 use Rattle.std.proofs.lemmas.List.{take_at, drop_at, length-append}
 use Rattle.std.proofs.lemmas.Option.{none-some, slice_get_past}
-use Rattle.std.specs.Prelude.{unwrap_or}
 use Rattle.hashlink_model.specs.Entries.{IsEntries, place_of, place_or_end, put, without, stored_key}
 use Rattle.hashlink_model.specs.Cursor.{CursorState, IsCursor, CursorInserts, at_place, place_next}
-use Rattle.hashlink_model.specs.Cursor.{place_previous}
-use Rattle.hashlink_model.specs.Cursor.{place_kept, following_place, preceding_place}
+use Rattle.hashlink_model.specs.Cursor.{place_previous, place_kept, following_place, preceding_place}
 use Rattle.hashlink_model.proofs.Splits.{Stands, splits, place_of-none, place_of-here}
 use Rattle.hashlink_model.proofs.Puts.{put-absent, put_front, lookup_entry-put}
-use Rattle.hashlink_model.proofs.Places.{slice_get-place_or_end, place_of_its_key}
-use Rattle.hashlink_model.proofs.Places.{lookup_entry_at, stored_key_at}
+use Rattle.hashlink_model.proofs.Places.{slice_get-place_or_end, place_of_its_key, lookup_entry_at}
+use Rattle.hashlink_model.proofs.Places.{stored_key_at}
 
 -- ---- moves
 

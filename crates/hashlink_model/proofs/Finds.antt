@@ -1,7 +1,6 @@
 -- What a look-up finds: at the key of an entry, and at every other key.
 use Rattle.std.proofs.Common.{◌≡◌, Bool, true, false, cond, List, [], ◌∷◌, ◌++◌, Option, None, Some, refl}
-use Rattle.std.proofs.Common.{sym, ap}
-use Rattle.std.proofs.Common.{◌∙◌, ◌⊎◌, inl, inr, subst}
+use Rattle.std.proofs.Common.{sym, ap, ◌∙◌, ◌⊎◌, inl, inr, subst}
 use Rattle.std.specs.Option.{option_map}
 use Rattle.std.specs.Cmp.{IsEquivalence}
 use Rattle.std.specs.Map.{lookup, lookup_entry, lookup_key}

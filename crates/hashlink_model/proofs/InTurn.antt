@@ -1,7 +1,6 @@
 -- Many items in a row.
 use Rattle.std.proofs.Common.{◌≡◌, ℕ, ◌+◌, ◌-◌, ◌^◌, ◌≤◌, ◌<◌, Bool, List, [], ◌∷◌, ◌++◌, length, Option}
-use Rattle.std.proofs.Common.{None}
-use Rattle.std.proofs.Common.{Some, Result, Ok, ap, ◌∙◌, subst, arith, length-append}
+use Rattle.std.proofs.Common.{None, Some, Result, Ok, ap, ◌∙◌, subst, arith, length-append}
 use Rattle.hashlink_model.specs.Entries.{put, extended}
 use Rattle.hashlink_model.specs.MapState.{MapState}
 use Rattle.hashlink_model.specs.Steps.{Drains}

@@ -1,19 +1,15 @@
 -- No step gives a node back but a clear and a shrink, and none makes one beyond need.
-use Rattle.std.proofs.Common.{◌≡◌, ℕ, ◌+◌, ◌≤◌, ◌<◌, List, length, Bool, Option}
-use Rattle.std.proofs.Common.{None}
-use Rattle.std.proofs.Common.{Some, Result, Ok, Err, ap, ◌∙◌, arith}
+use Rattle.std.proofs.Common.{◌≡◌, ℕ, ◌+◌, ◌≤◌, ◌<◌, List, length, Bool, Option, None, Some, Result, Ok, Err}
+use Rattle.std.proofs.Common.{ap, ◌∙◌, arith}
 use Rattle.std.proofs.lemmas.Map.{length-set_value}
 use Rattle.hashlink_model.specs.Entries.{put, moved, without}
 use Rattle.hashlink_model.specs.MapState.{MapState, node_count, KeepsNodes, MayRefuse, Changes, Grows}
 use Rattle.hashlink_model.specs.MapState.{Inserts}
 use Rattle.hashlink_model.specs.Steps.{KeepsOnly, Replaces, Moves, MovesAndWrites, RemovesKey, PopsFront}
-use Rattle.hashlink_model.specs.Steps.{PopsBack}
-use Rattle.hashlink_model.specs.Steps.{Clears, Reserves}
+use Rattle.hashlink_model.specs.Steps.{PopsBack, Clears, Reserves}
 use Rattle.hashlink_model.specs.Walk.{after_first_of, before_last_of}
 use Rattle.hashlink_model.proofs.NodeCounts.{node_count-adds, node_count-removes, node_count-keeps}
-use Rattle.hashlink_model.proofs.NodeCounts.{node_count-changes, node_count-puts}
-use Rattle.hashlink_model.proofs.NodeCounts.{writes_nodes}
-use Rattle.hashlink_model.proofs.NodeCounts.{moves_nodes}
+use Rattle.hashlink_model.proofs.NodeCounts.{node_count-changes, node_count-puts, writes_nodes, moves_nodes}
 use Rattle.hashlink_model.proofs.Afterwards.{length-moved}
 
 module _ {K V S : Type 0} (old new : MapState K V S) where

@@ -1,13 +1,10 @@
 -- What a lazy walk over two sets gives, and its size hints.
 use Rattle.std.proofs.Common.{◌≡◌, ◌+◌, ◌≤◌, Bool, true, false, not, cond, List, [], ◌∷◌, ◌++◌, length}
-use Rattle.std.proofs.Common.{filter}
-use Rattle.std.proofs.Common.{Option, None, Some, refl, ap, arith}
+use Rattle.std.proofs.Common.{filter, Option, None, Some, refl, ap, arith, length-append, le_refl, suc-le-suc}
 use Rattle.std.specs.Map.Iter.{TakesFirst}
 use Rattle.std.specs.Set.{is_member}
-use Rattle.std.proofs.Common.{length-append, le_refl, suc-le-suc}
 use Rattle.hashlink_model.specs.Algebra.{PairWalk, first_passing, left_to_give, left_or_right, pair_step}
-use Rattle.hashlink_model.specs.Algebra.{union_of}
-use Rattle.hashlink_model.specs.Algebra.{difference_of, symmetric_difference_of}
+use Rattle.hashlink_model.specs.Algebra.{union_of, difference_of, symmetric_difference_of}
 
 module _ {T : Type 0} where
   pub filter-all : (xs : List T) → filter (λ _. true) xs ≡ xs

@@ -1,13 +1,12 @@
 -- What follows from the steps between two states of a map.
-use Rattle.std.proofs.Common.{◌≡◌, ℕ, ◌+◌, ◌-◌, ◌*◌, ◌≤◌, max, MatchOption, sym, List, [], length, Bool}
-use Rattle.std.proofs.Common.{true, false, is_some, Option, None, Some, Result, Ok, Err, refl, ap, ◌∙◌, arith}
+use Rattle.std.proofs.Common.{◌≡◌, ℕ, ◌+◌, ◌-◌, ◌*◌, ◌≤◌, max, MatchOption, sym, List, [], length, Bool, true}
+use Rattle.std.proofs.Common.{false, is_some, Option, None, Some, Result, Ok, Err, refl, ap, ◌∙◌, arith}
 use Rattle.std.specs.Cmp.{IsEquivalence}
 use Rattle.std.specs.Map.{keys_of, lookup, lookup_entry, set_value}
 use Rattle.std.proofs.lemmas.Map.{keys-set_value, length-set_value, lookup-set_value}
 use Rattle.hashlink_model.specs.Entries.{IsEntries, put, moved}
 use Rattle.hashlink_model.specs.MapState.{MapState, node_count, HasRoom, Changes, Adds, Removes, Grows}
-use Rattle.hashlink_model.specs.MapState.{PutsEntry}
-use Rattle.hashlink_model.specs.MapState.{Inserts}
+use Rattle.hashlink_model.specs.MapState.{PutsEntry, Inserts}
 use Rattle.hashlink_model.specs.Steps.{KeepsOnly, WritesEntry, Moves, MovesMatch, Drains, Reserves, Shrinks}
 use Rattle.hashlink_model.proofs.Puts.{lookup_entry-set_value_other}
 use Rattle.hashlink_model.proofs.Afterwards.{length-put_there, length-moved, moved-absent, lookup-moved}

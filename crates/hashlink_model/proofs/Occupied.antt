@@ -1,21 +1,17 @@
 -- What stands after the steps on an occupied entry.
 use Rattle.std.specs.Prelude.{insert, remove, zero, suc, ◌<◌, MatchOption, Option}
 use Rattle.std.proofs.Common.{arith, take, drop, length-append, length-take, length-drop, ◌≡◌, ℕ, ◌+◌, Bool}
-use Rattle.std.proofs.Common.{true}
-use Rattle.std.proofs.Common.{cond, List, [], ◌∷◌, ◌++◌, length, slice_get, None, Some, refl, sym, ap, ap₂}
-use Rattle.std.proofs.Common.{◌∙◌}
-use Rattle.std.proofs.Common.{subst, option_map}
+use Rattle.std.proofs.Common.{true, cond, List, [], ◌∷◌, ◌++◌, length, slice_get, None, Some, refl, sym, ap}
+use Rattle.std.proofs.Common.{ap₂, ◌∙◌, subst, option_map}
 use Rattle.std.specs.Cmp.{IsEquivalence}
 use Rattle.std.specs.Option.{option_map_or}
 use Rattle.std.specs.Map.{lookup, lookup_entry}
 use Rattle.std.proofs.lemmas.Map.{NonePasses}
 use Rattle.std.proofs.lemmas.List.{append-nil}
 use Rattle.hashlink_model.specs.Entries.{IsEntries, place_of, place_left, put, moved, moved_at, without}
-use Rattle.hashlink_model.specs.Entries.{set_value_at}
-use Rattle.hashlink_model.specs.Entries.{set_key_at}
+use Rattle.hashlink_model.specs.Entries.{set_value_at, set_key_at}
 use Rattle.hashlink_model.specs.Entry.{EntryState, IsEntry, IsRawEntry, raw_entry_of, insert_value}
-use Rattle.hashlink_model.specs.Entry.{insert_entry}
-use Rattle.hashlink_model.specs.Entry.{or_insert, replace_entry}
+use Rattle.hashlink_model.specs.Entry.{insert_entry, or_insert, replace_entry}
 use Rattle.hashlink_model.specs.MapState.{MapState}
 use Rattle.hashlink_model.proofs.Distinct.{none_equal, none_others, IsEntries-middle, IsEntries-insert}
 use Rattle.hashlink_model.proofs.Finds.{lookup_entry-middle, lookup_entry-without}

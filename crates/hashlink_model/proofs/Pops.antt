@@ -1,7 +1,6 @@
 -- The first and the last entry taken out, and cursors and entries of a map's state.
 use Rattle.std.proofs.Common.{◌≡◌, ℕ, ◌+◌, ◌≤◌, Bool, List, [], ◌∷◌, ◌++◌, length, None, Some, Err, refl, sym}
-use Rattle.std.proofs.Common.{ap}
-use Rattle.std.proofs.Common.{◌∙◌, ◌⊎◌, inl, inr, subst, append-nil}
+use Rattle.std.proofs.Common.{ap, ◌∙◌, ◌⊎◌, inl, inr, subst, append-nil}
 use Rattle.std.specs.Cmp.{IsEquivalence}
 use Rattle.std.specs.Map.{lookup}
 use Rattle.std.proofs.lemmas.Map.{NonePasses}
@@ -14,8 +13,7 @@ use Rattle.hashlink_model.specs.Walk.{after_first_of, before_last_of}
 use Rattle.hashlink_model.proofs.Walks.{takes_first, takes_last}
 use Rattle.hashlink_model.specs.Cursor.{CursorState, CursorInserts, place_kept}
 use Rattle.hashlink_model.proofs.Splits.{Stands, splits, remove_entry-here, place_of-none, place_of-here}
-use Rattle.hashlink_model.proofs.Splits.{lookup-none}
-use Rattle.hashlink_model.proofs.Splits.{lookup-here}
+use Rattle.hashlink_model.proofs.Splits.{lookup-none, lookup-here}
 use Rattle.hashlink_model.proofs.Places.{none_before}
 use Rattle.hashlink_model.proofs.Cursors.{place_kept-same}
 

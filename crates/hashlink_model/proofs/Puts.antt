@@ -1,9 +1,7 @@
 -- The entries after a key is put at a place.
 use Rattle.std.proofs.Common.{option_map, ap, ◌≡◌, ℕ, ◌+◌, ◌-◌, ◌≤◌, ◌<◌, Bool, true, false, cond, List, []}
-use Rattle.std.proofs.Common.{◌∷◌}
-use Rattle.std.proofs.Common.{◌++◌, length, Option, None, Some, refl, sym, ◌∙◌, ◌⊎◌, inl, inr, subst, arith}
-use Rattle.std.proofs.Common.{take}
-use Rattle.std.proofs.Common.{drop}
+use Rattle.std.proofs.Common.{◌∷◌, ◌++◌, length, Option, None, Some, refl, sym, ◌∙◌, ◌⊎◌, inl, inr, subst}
+use Rattle.std.proofs.Common.{arith, take, drop, lt-ltb, le-ltb, zero-le}
 use Rattle.std.specs.Prelude.{insert, nat_lt}
 use Rattle.std.specs.Option.{option_map_or}
 use Rattle.std.specs.Cmp.{IsEquivalence}
@@ -13,11 +11,8 @@ use Rattle.std.proofs.lemmas.List.{take-append-drop, length-append, take_at, dro
 use Rattle.std.proofs.lemmas.List.Edits.{insert_end}
 use Rattle.hashlink_model.specs.Entries.{IsEntries, place_of, place_without, without, stored_key, put}
 use Rattle.hashlink_model.proofs.Splits.{StandsAt, Stands, splits, stands_from_place, place_of-none}
-use Rattle.hashlink_model.proofs.Splits.{place_of-here}
-use Rattle.hashlink_model.proofs.Splits.{lookup_key-none, lookup_key-here, remove_entry-none}
-use Rattle.hashlink_model.proofs.Splits.{remove_entry-here}
-use Rattle.hashlink_model.proofs.Splits.{set_value-here}
-use Rattle.std.proofs.Common.{lt-ltb, le-ltb, zero-le}
+use Rattle.hashlink_model.proofs.Splits.{place_of-here, lookup_key-none, lookup_key-here, remove_entry-none}
+use Rattle.hashlink_model.proofs.Splits.{remove_entry-here, set_value-here}
 use Rattle.hashlink_model.proofs.Distinct.{none_equal, none_others, IsEntries-middle, IsEntries-insert}
 use Rattle.hashlink_model.proofs.Finds.{stored_key-equal, lookup_entry-middle, lookup_entry-without}
 

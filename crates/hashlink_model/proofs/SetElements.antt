@@ -1,9 +1,7 @@
 -- The elements of a set after the map's steps.
 use Rattle.std.proofs.Common.{◌≡◌, ℕ, ◌+◌, Bool, true, false, not, ◌&&◌, cond, List, [], ◌∷◌, ◌++◌, length}
-use Rattle.std.proofs.Common.{filter}
-use Rattle.std.proofs.Common.{slice_get, is_some, Option, None, Some, Ok, Err, MatchOption, option_map}
-use Rattle.std.proofs.Common.{unwrap_or}
-use Rattle.std.proofs.Common.{refl, sym, ap, ap₂, ◌∙◌, subst}
+use Rattle.std.proofs.Common.{filter, slice_get, is_some, Option, None, Some, Ok, Err, MatchOption}
+use Rattle.std.proofs.Common.{option_map, unwrap_or, refl, sym, ap, ap₂, ◌∙◌, subst}
 use Rattle.std.specs.Cmp.{IsEquivalence}
 use Rattle.std.specs.List.{IsDistinct, AllZip, find}
 use Rattle.std.specs.Map.{keys_of, lookup, lookup_key, lookup_entry, remove_entry}
@@ -21,8 +19,7 @@ use Rattle.hashlink_model.specs.Retain.{KeepsInOrder, KeepsInSomeOrder}
 use Rattle.hashlink_model.specs.Sets.{SetState, at_element, elements_of, pairs_of, put_element, replaced}
 use Rattle.hashlink_model.specs.Sets.{stored_element, SetInserts, SetReplaces}
 use Rattle.hashlink_model.proofs.Splits.{stands_from_place, lookup_entry-here, lookup_key-none}
-use Rattle.hashlink_model.proofs.Splits.{remove_entry-none}
-use Rattle.hashlink_model.proofs.Splits.{none_from_lookup}
+use Rattle.hashlink_model.proofs.Splits.{remove_entry-none, none_from_lookup}
 use Rattle.hashlink_model.proofs.Finds.{lookup_is, lookup_key_is}
 use Rattle.hashlink_model.proofs.Puts.{put_back, put_front, put_back_absent, put_at_its_place}
 use Rattle.hashlink_model.proofs.Puts.{put_after_its_place}

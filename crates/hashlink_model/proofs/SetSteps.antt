@@ -1,9 +1,7 @@
 -- What stands after the steps of a set.
 use Rattle.std.proofs.Common.{◌≡◌, ℕ, zero, suc, ◌+◌, Bool, true, false, cond, ◌||◌, List, [], ◌∷◌, ◌++◌}
-use Rattle.std.proofs.Common.{length}
-use Rattle.std.proofs.Common.{take, drop, slice_get, slice_set, is_some, Option, None, Some, refl, sym, ap}
-use Rattle.std.proofs.Common.{ap₂, ◌∙◌}
-use Rattle.std.proofs.Common.{◌⊎◌, inl, inr, subst}
+use Rattle.std.proofs.Common.{length, take, drop, slice_get, slice_set, is_some, Option, None, Some, refl}
+use Rattle.std.proofs.Common.{sym, ap, ap₂, ◌∙◌, ◌⊎◌, inl, inr, subst}
 use Rattle.std.specs.Cmp.{IsEquivalence}
 use Rattle.std.specs.List.{IsDistinct, AllByRecursion}
 use Rattle.std.specs.Map.{keys_of, lookup}

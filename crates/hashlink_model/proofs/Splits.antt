@@ -1,8 +1,7 @@
 -- A list of entries at the first key that passes a test: `xs ++ e ∷ ys`, where e passes and none of xs does;
 -- or no key passes.
 use Rattle.std.proofs.Common.{◌≡◌, ℕ, Bool, true, false, List, [], ◌∷◌, ◌++◌, length, None, Some, ◌⊎◌, inl}
-use Rattle.std.proofs.Common.{inr, refl}
-use Rattle.std.proofs.Common.{sym, ap, ◌∙◌, add-one}
+use Rattle.std.proofs.Common.{inr, refl, sym, ap, ◌∙◌, add-one}
 use Rattle.std.specs.Map.{lookup, lookup_entry, lookup_key, remove_entry, set_value}
 use Rattle.std.proofs.lemmas.Map.{NonePasses, none_passes_from_lookup}
 use Rattle.std.proofs.lemmas.Option.{none-some, same_Some}

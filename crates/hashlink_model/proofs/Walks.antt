@@ -1,13 +1,11 @@
 -- What a walk from both ends gives and leaves.
 use Rattle.std.proofs.Common.{◌≡◌, suc, ◌-◌, List, [], ◌∷◌, ◌++◌, length, Option, None, Some, option_to_list}
-use Rattle.std.proofs.Common.{refl}
-use Rattle.std.proofs.Common.{sym, ap, ◌∙◌, arith, append_assoc}
+use Rattle.std.proofs.Common.{refl, sym, ap, ◌∙◌, arith, append_assoc}
 use Rattle.std.specs.List.{cons_option}
 use Rattle.std.specs.Map.Iter.{TakesFirst, TakesLast}
 use Rattle.std.proofs.lemmas.List.{append-nil, length-append, length-take, length-drop, nil_from_length}
 use Rattle.hashlink_model.specs.Walk.{End, Front, Back, first_of, after_first_of, last_of, before_last_of}
-use Rattle.hashlink_model.specs.Walk.{step_gives}
-use Rattle.hashlink_model.specs.Walk.{step_leaves, walk_leaves, given_front, given_back}
+use Rattle.hashlink_model.specs.Walk.{step_gives, step_leaves, walk_leaves, given_front, given_back}
 
 module _ {X : Type 0} where
   pub takes_first : (xs : List X) → TakesFirst (λ x. x) xs (first_of xs) (after_first_of xs)

@@ -1,7 +1,6 @@
 -- The longest end of the entries that a budget allows.
 use Rattle.std.proofs.Common.{◌≡◌, ℕ, ◌≤◌, Bool, true, false, cond, List, [], ◌∷◌, ◌++◌, length, nat_le, Some}
-use Rattle.std.proofs.Common.{refl}
-use Rattle.std.proofs.Common.{◌∙◌, ap, arith, le_refl, leb-true, zero-le, le-leb}
+use Rattle.std.proofs.Common.{refl, ◌∙◌, ap, arith, le_refl, leb-true, zero-le, le-leb}
 use Rattle.std.proofs.lemmas.List.{length-append}
 use Rattle.std.specs.Map.{lookup, lookup_entry}
 use Rattle.hashlink_model.specs.Entries.{IsEntries, put, without, stored_key}

@@ -1,7 +1,6 @@
 -- Set algebra: what two sets give together, as lists of elements, and the size hints of the lazy walks.
 use Rattle.std.specs.Prelude.{ℕ, ◌+◌, ◌^◌, Bool, true, false, not, cond, List, [], ◌∷◌, ◌++◌, length, Option}
-use Rattle.std.specs.Prelude.{Some}
-use Rattle.std.specs.Prelude.{None, nat_lt, filter}
+use Rattle.std.specs.Prelude.{Some, None, nat_lt, filter}
 use Rattle.std.specs.Set.{is_member}
 
 -- a list without elements

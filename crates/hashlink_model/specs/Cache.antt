@@ -1,8 +1,7 @@
 -- Caches: a map and how many entries it may have.
 use Rattle.std.specs.Prelude.{◌≡◌, ℕ, ◌+◌, ◌-◌, ◌≤◌, ◌<◌, Bool, cond, List, [], ◌∷◌, length, drop}
-use Rattle.std.specs.Prelude.{if◌then◌else◌}
-use Rattle.std.specs.Prelude.{nat_lt, is_some}
-use Rattle.std.specs.Prelude.{Option, Some, Result, Ok, MatchOption, MatchResult, fold}
+use Rattle.std.specs.Prelude.{if◌then◌else◌, nat_lt, is_some, Option, Some, Result, Ok, MatchOption}
+use Rattle.std.specs.Prelude.{MatchResult, fold}
 use Rattle.std.specs.Map.{lookup}
 use Rattle.std.specs.Option.{option_map_or}
 use Rattle.hashlink_model.specs.Entries.{put, moved}

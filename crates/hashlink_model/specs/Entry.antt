@@ -4,8 +4,8 @@ use Rattle.std.specs.Prelude.{MatchResult}
 use Rattle.std.specs.Option.{option_map, option_map_or}
 use Rattle.std.specs.Map.{lookup}
 use Rattle.hashlink_model.specs.Entries.{place_of, put, set_value_at, set_key_at, moved_at}
-use Rattle.hashlink_model.specs.MapState.{MapState, Changes, AddsEntry, RefusesEntry}
-use Rattle.hashlink_model.specs.MapState.{RemovesAt, MovesAt, WritesAt, SetsKeyAt}
+use Rattle.hashlink_model.specs.MapState.{MapState, Changes, AddsEntry, RefusesEntry, RemovesAt, MovesAt}
+use Rattle.hashlink_model.specs.MapState.{WritesAt, SetsKeyAt}
 
 -- the map, the place of the entry or none where it is vacant, and the key in hand
 pub record EntryState (K V S : Type 0) : Type 0 where

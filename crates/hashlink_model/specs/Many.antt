@@ -1,8 +1,7 @@
 -- Many items in a row, each given to the same step: `step old new item r` is what the step says of one item
 -- and its answer.
 use Rattle.std.specs.Prelude.{◌≡◌, ℕ, ◌-◌, ◌^◌, min, List, [], ◌∷◌, ◌++◌, length, Bool, Option, Result, Ok}
-use Rattle.std.specs.Prelude.{Err}
-use Rattle.std.specs.Prelude.{MatchResult}
+use Rattle.std.specs.Prelude.{Err, MatchResult}
 use Rattle.hashlink_model.specs.MapState.{MapState, Inserts, empty_map}
 
 module _ {State Item A : Type 0} (step : State → State → Item → Result A Item → Type 0) where

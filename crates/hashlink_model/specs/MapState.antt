@@ -1,9 +1,7 @@
 -- What a contract sees of a map, and the steps between two such states. A call's contract names the step that
 -- it takes.
 use Rattle.std.specs.Prelude.{◌≡◌, ℕ, ◌-◌, ◌+◌, ◌*◌, ◌≤◌, ◌<◌, max, Bool, List, [], length, Option, None}
-use Rattle.std.specs.Prelude.{Some}
-use Rattle.std.specs.Prelude.{Result}
-use Rattle.std.specs.Prelude.{MatchOption, MatchResult, insert, remove, refl}
+use Rattle.std.specs.Prelude.{Some, Result, MatchOption, MatchResult, insert, remove, refl}
 use Rattle.std.specs.Coded.{Coded, code_by, coded×, coded_list, coded_ℕ}
 use Rattle.std.specs.Int.{IsPowerOfTwo}
 use Rattle.std.specs.Map.{lookup}

@@ -1,6 +1,6 @@
 -- Sets: a set is the map with nothing as value, so its state is a map's, and its steps are the map's steps.
-use Rattle.std.specs.Prelude.{◌≡◌, ℕ, Bool, cond, List, [], ◌∷◌, ◌++◌, length, map, unwrap_or}
-use Rattle.std.specs.Prelude.{Option, None, Some, Result, Ok, Err, MatchOption, MatchResult}
+use Rattle.std.specs.Prelude.{◌≡◌, ℕ, Bool, cond, List, [], ◌∷◌, ◌++◌, length, map, unwrap_or, Option, None}
+use Rattle.std.specs.Prelude.{Some, Result, Ok, Err, MatchOption, MatchResult}
 use Rattle.std.specs.List.{find}
 use Rattle.std.specs.Map.{keys_of}
 use Rattle.std.specs.Set.{is_member, swap_key}

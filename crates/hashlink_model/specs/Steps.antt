@@ -1,7 +1,7 @@
 -- The steps of a map's calls, by their answers, and what they are made of: changes within the list, and
 -- entries that are taken away.
-use Rattle.std.specs.Prelude.{◌≡◌, ℕ, ◌+◌, ◌-◌, ◌*◌, ◌≤◌, max, Bool, List, [], length}
-use Rattle.std.specs.Prelude.{Option, Some, MatchOption, Result, MatchResult, IsOk, OnOk, OnErr}
+use Rattle.std.specs.Prelude.{◌≡◌, ℕ, ◌+◌, ◌-◌, ◌*◌, ◌≤◌, max, Bool, List, [], length, Option, Some}
+use Rattle.std.specs.Prelude.{MatchOption, Result, MatchResult, IsOk, OnOk, OnErr}
 use Rattle.std.specs.Map.{lookup, lookup_entry, remove_entry, set_value}
 use Rattle.hashlink_model.specs.Entries.{moved_match}
 use Rattle.hashlink_model.specs.MapState.{MapState, empty_map, StoresAtMost, Changes, Removes, Grows}

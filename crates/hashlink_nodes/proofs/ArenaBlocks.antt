@@ -1,8 +1,6 @@
 -- One block is taken out of an arena's and put back. Assumes `Logic`.
 use Rattle.std.proofs.Common.{◌≡◌, ℕ, ◌+◌, ◌^◌, ◌<◌, arith, Bool, true, false, cond, List, [], ◌∷◌, Option}
-use Rattle.std.proofs.Common.{None, Some}
-use Rattle.std.proofs.Common.{IsSome}
-use Rattle.std.proofs.Common.{refl, sym, subst}
+use Rattle.std.proofs.Common.{None, Some, IsSome, refl, sym, subst}
 use Rattle.std.specs.Map.{lookup, remove_entry}
 use Rattle.std.specs.Prelude.{IfSome}
 use denote.Steps.{nothing}
@@ -11,8 +9,7 @@ use base.Logic.{ent, sep, via, fst∗, snd∗, never, never_e}
 use base.Fml.{Fml, Lft, fat, froom}
 use types.Logic.{Logic, sem}
 use types.Kit.{Item, Goal, Seq, ‵, raw, prop, mean, some, ◌⊛◌, ◌$◌, ◌∵◌, !, qed, by, move, keep, use1, use2}
-use types.Kit.{pick, drop, flt_l, flt_i, Step, step}
-use types.Kit.{split, fsplit, fsplit3, fjoin, rewrite, done}
+use types.Kit.{pick, drop, flt_l, flt_i, Step, step, split, fsplit, fsplit3, fjoin, rewrite, done}
 use prog.Model.{Model}
 use mir.Syntax.{Ty}
 use mir.Val.{Val}

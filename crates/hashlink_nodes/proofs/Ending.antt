@@ -9,15 +9,15 @@ use Rattle.hashlink_nodes.specs.State.{State, detached, Drops}
 use Rattle.hashlink_nodes.specs.Shape.{IsShaped, IsSound, ring_of, walk, entries_of}
 use Rattle.hashlink_nodes.specs.Ring.{Ring, Holds}
 use Rattle.hashlink_nodes.proofs.ArenaBlocks.{found}
-use Rattle.hashlink_nodes.proofs.Paths.{last_or, Off, Agrees, all_left, all_middle, distinct_head}
-use Rattle.hashlink_nodes.proofs.Paths.{agrees_off, back_last, length-walk}
+use Rattle.hashlink_nodes.proofs.Paths.{last_or, Off, Agrees, all_left, all_middle, distinct_head, agrees_off}
+use Rattle.hashlink_nodes.proofs.Paths.{back_last, length-walk}
 use Rattle.hashlink_nodes.proofs.Shapes.{IsLoose, take_spare, detach_loose, drop_loose}
 use Rattle.hashlink_nodes.proofs.Entries.{entries-append, entries-cons, entries-nil, length-entries}
 use Rattle.hashlink_nodes.proofs.Entries.{entries_same}
 use Rattle.hashlink_nodes.proofs.Places.{pushed_holds}
 use Rattle.hashlink_nodes.proofs.Sound.{walk-more, presents, length-ring, Leaves, entries_in, free_in}
-use Rattle.hashlink_nodes.proofs.Sound.{detach_writes}
-use Rattle.hashlink_nodes.proofs.Sound.{held_detached, InRing, in_the_ring, Opened, closed, no_spare}
+use Rattle.hashlink_nodes.proofs.Sound.{detach_writes, held_detached, InRing, in_the_ring, Opened, closed}
+use Rattle.hashlink_nodes.proofs.Sound.{no_spare}
 
 -- the nodes end in n
 record LastOf (n : Node) (ns : List Node) : Type 0 where

@@ -1,7 +1,6 @@
 -- The nodes of a ring with what they hold, and the words of the contracts on them.
 use Rattle.std.proofs.Common.{◌≡◌, suc, Bool, true, false, cond, List, [], ◌∷◌, ◌++◌, length, Option, None}
-use Rattle.std.proofs.Common.{Some}
-use Rattle.std.proofs.Common.{refl, sym, ap, ◌∙◌}
+use Rattle.std.proofs.Common.{Some, refl, sym, ap, ◌∙◌}
 use Rattle.std.specs.Prelude.{is_some, slice_get, unwrap_or}
 use Rattle.std.specs.List.{AllByRecursion}
 use Rattle.std.specs.Map.{lookup, lookup_entry, remove_entry, set_value, keys_of}
@@ -12,8 +11,7 @@ use Rattle.hashlink_nodes.specs.Node.{same_node, eq-same_node, same_node-refl}
 use Rattle.hashlink_nodes.specs.State.{set_at}
 use Rattle.hashlink_nodes.specs.Shape.{entry_of, entries_of}
 use Rattle.hashlink_nodes.specs.Ring.{put_before, put_before_node, put_after, put_after_node, IsPlace}
-use Rattle.hashlink_nodes.specs.Ring.{node_after}
-use Rattle.hashlink_nodes.specs.Ring.{node_before, last_node}
+use Rattle.hashlink_nodes.specs.Ring.{node_after, node_before, last_node}
 use Rattle.hashlink_nodes.proofs.ArenaBlocks.{found}
 use Rattle.hashlink_nodes.proofs.Paths.{head_or, last_or, IsOff, Agrees, set_at_here, set_at_other, flip}
 

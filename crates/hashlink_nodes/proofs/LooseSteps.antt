@@ -11,10 +11,8 @@ use prog.Model.{rooms_at}
 use denote.Memory.{lone}
 use mir.Val.{Val, vptr, vstruct, vcons, vnil, of_list, has_ty, WT}
 use types.Logic.{Logic, sem}
-use types.Kit.{raw, ◌⊛◌, assume, fjoin3, by, group, split, split3, use1, use2}
-use types.Kit.{Item, Goal, Seq, Step, step, ‵, ◌$◌, ◌∵◌, !, qed, done, keep, move, drop, fsplit, fsplit3}
-use types.Kit.{fjoin}
-use types.Kit.{fpick, fpack, feq_i, feq_l}
+use types.Kit.{raw, ◌⊛◌, assume, fjoin3, by, group, split, split3, use1, use2, Item, Goal, Seq, Step, step, ‵}
+use types.Kit.{◌$◌, ◌∵◌, !, qed, done, keep, move, drop, fsplit, fsplit3, fjoin, fpick, fpack, feq_i, feq_l}
 use denote.RattleType.{RattleType, Valss}
 use denote.Builtin.{RawPtr}
 use denote.RawPtr.{Ptr, block_ptr, null_ptr, ptr_val, in_a_block, room_for}
@@ -26,8 +24,8 @@ use denote.Struct.Owning.{shape}
 use Rattle.std.specs.declared.alloc.Allocator.{Ghosts}
 use Rattle.std.proofs.alloc.Calls.{Al, handle_tells}
 use Rattle.std.proofs.RcSteps.{Good}
-use Rattle.hashlink_nodes.specs.Ownership.{Links, block_room, block_type, loose_owns}
-use Rattle.hashlink_nodes.specs.Ownership.{pair_offset, number_offset, links_offset}
+use Rattle.hashlink_nodes.specs.Ownership.{Links, block_room, block_type, loose_owns, pair_offset}
+use Rattle.hashlink_nodes.specs.Ownership.{number_offset, links_offset}
 use Rattle.hashlink_nodes.specs.contracts.arena.Block as block
 use Rattle.std.proofs.ResultValues.{and_tt}
 use Rattle.hashlink_nodes.specs.contracts.arena.loose.Loose as loose

@@ -1,7 +1,6 @@
 -- What a removal and a move do to a sound ring.
 use Rattle.std.proofs.Common.{◌≡◌, ℕ, ◌+◌, ◌-◌, Bool, true, List, ◌∷◌, ◌++◌, length, Option, None, Some, sym}
-use Rattle.std.proofs.Common.{ap, ◌∙◌}
-use Rattle.std.proofs.Common.{subst, arith}
+use Rattle.std.proofs.Common.{ap, ◌∙◌, subst, arith}
 use Rattle.std.specs.Prelude.{is_some, unwrap_or, IfSome}
 use Rattle.std.specs.List.{AllByRecursion}
 use Rattle.std.specs.Map.{lookup_entry, remove_entry}
@@ -16,11 +15,9 @@ use Rattle.hashlink_nodes.proofs.Paths.{head_or, last_or, Off, all_left, distinc
 use Rattle.hashlink_nodes.proofs.Paths.{back_cut, length-walk}
 use Rattle.hashlink_nodes.proofs.Shapes.{IsLoose, detach_loose, hold_loose, attach_loose, free_loose}
 use Rattle.hashlink_nodes.proofs.Entries.{CutAt, cut_at, says_at, BeforePlace, before_place, AfterPlace}
-use Rattle.hashlink_nodes.proofs.Entries.{after_place}
-use Rattle.hashlink_nodes.proofs.Entries.{entries-append, entries-cons, entries_same}
+use Rattle.hashlink_nodes.proofs.Entries.{after_place, entries-append, entries-cons, entries_same}
 use Rattle.hashlink_nodes.proofs.Sound.{of_last, of_head, presents, Leaves, entries_in, free_in, no_entry}
-use Rattle.hashlink_nodes.proofs.Sound.{held_here}
-use Rattle.hashlink_nodes.proofs.Sound.{held_apart, held_detached, has_detached, held_moved}
+use Rattle.hashlink_nodes.proofs.Sound.{held_here, held_apart, held_detached, has_detached, held_moved}
 use Rattle.hashlink_nodes.proofs.Sound.{writes_freed, Opened, closed}
 
 module _ {K V : Type 0} where

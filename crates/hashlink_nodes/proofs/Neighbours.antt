@@ -1,7 +1,6 @@
 -- The places next to a place of a sound ring.
 use Rattle.std.proofs.Common.{◌≡◌, ℕ, Bool, true, false, List, [], ◌∷◌, ◌++◌, Option, None, Some, refl, sym}
-use Rattle.std.proofs.Common.{ap, ◌∙◌, subst}
-use Rattle.std.proofs.Common.{◌⊎◌, inl, inr}
+use Rattle.std.proofs.Common.{ap, ◌∙◌, subst, ◌⊎◌, inl, inr}
 use Rattle.std.specs.Bool.{then_some}
 use Rattle.std.specs.Prelude.{is_some, unwrap_or, slice_get, IfSome}
 use Rattle.std.specs.List.{AllByRecursion}
@@ -13,8 +12,7 @@ use Rattle.hashlink_nodes.specs.Shape.{IsPath, IsSound, IsWayBack, ring_of, walk
 use Rattle.hashlink_nodes.specs.Ring.{Ring, IsPlace, Holds, next_place, prev_place, node_after, node_before}
 use Rattle.hashlink_nodes.specs.Ring.{last_node}
 use Rattle.hashlink_nodes.proofs.Paths.{head_or, last_or, all_left, all_right, all_middle, path_at}
-use Rattle.hashlink_nodes.proofs.Paths.{path_first}
-use Rattle.hashlink_nodes.proofs.Paths.{back_at, back_last}
+use Rattle.hashlink_nodes.proofs.Paths.{path_first, back_at, back_last}
 use Rattle.hashlink_nodes.proofs.Entries.{CutAt, cut_at, keys-entries, after_cut, before_cut, last_is}
 use Rattle.hashlink_nodes.proofs.Sound.{of_last, of_head, entries_in, if_some, no_entry, opened, Opened}
 

@@ -1,6 +1,5 @@
 -- What a ring is after a new entry came in, in a spare node or in a new one.
-use Rattle.std.proofs.Common.{◌≡◌, ℕ, ◌+◌, ◌-◌, ◌^◌, ◌<◌, true, List, [], ◌∷◌, ◌++◌, length, drop}
-use Rattle.std.proofs.Common.{Option}
+use Rattle.std.proofs.Common.{◌≡◌, ℕ, ◌+◌, ◌-◌, ◌^◌, ◌<◌, true, List, [], ◌∷◌, ◌++◌, length, drop, Option}
 use Rattle.std.proofs.Common.{None, Some, refl, sym, ap, ◌∙◌, subst, arith}
 use Rattle.std.specs.Prelude.{is_some, unwrap_or}
 use Rattle.std.specs.List.{AllByRecursion}
@@ -10,13 +9,12 @@ use Rattle.hashlink_nodes.specs.declared.held.Held.{Held}
 use Rattle.hashlink_nodes.specs.State.{State, store_next, store_prev, hold, attached, Adds, GuardIs}
 use Rattle.hashlink_nodes.specs.Shape.{IsWayBack, IsShaped, IsSound, ring_of, walk, entries_of}
 use Rattle.hashlink_nodes.specs.Ring.{Ring, put_before, IsPlace}
-use Rattle.hashlink_nodes.proofs.Paths.{last_or, Off, set_at_here, set_at_other}
-use Rattle.hashlink_nodes.proofs.Paths.{all_left, all_middle, distinct_head, agrees_off, back_cut}
-use Rattle.hashlink_nodes.proofs.Paths.{length-walk}
+use Rattle.hashlink_nodes.proofs.Paths.{last_or, Off, set_at_here, set_at_other, all_left, all_middle}
+use Rattle.hashlink_nodes.proofs.Paths.{distinct_head, agrees_off, back_cut, length-walk}
 use Rattle.hashlink_nodes.proofs.Shapes.{IsLoose, take_spare, hold_loose, add_loose, attach_loose, guard_made}
 use Rattle.hashlink_nodes.proofs.Entries.{before_place, entries-append, entries-cons, entries_same}
-use Rattle.hashlink_nodes.proofs.Sound.{walk-more, of_last, of_head, presents, Leaves}
-use Rattle.hashlink_nodes.proofs.Sound.{facts, closed, attach_writes}
+use Rattle.hashlink_nodes.proofs.Sound.{walk-more, of_last, of_head, presents, Leaves, facts, closed}
+use Rattle.hashlink_nodes.proofs.Sound.{attach_writes}
 
 module _ {K V : Type 0} where
   -- n has a block and holds h, and is neither in the ring nor spare; else the ring is seen as v

@@ -1,26 +1,21 @@
 -- What each step of the ring's calls does to its shape.
 use Rattle.std.proofs.Common.{◌≡◌, ◌+◌, ◌^◌, ◌<◌, Bool, true, false, List, [], ◌∷◌, ◌++◌, length, Option}
-use Rattle.std.proofs.Common.{None, refl}
-use Rattle.std.proofs.Common.{sym, ap, ◌∙◌, subst, arith, lit<}
+use Rattle.std.proofs.Common.{None, refl, sym, ap, ◌∙◌, subst, arith, lit<}
 use Rattle.std.specs.Prelude.{is_some}
 use Rattle.std.specs.List.{AllByRecursion, IsDistinct}
 use Rattle.std.proofs.lemmas.List.{append_assoc, length-append}
 use Rattle.hashlink_nodes.specs.declared.node.Node.{Node}
 use Rattle.hashlink_nodes.specs.declared.held.Held.{Held}
 use Rattle.hashlink_nodes.specs.Node.{same_node, eq-same_node}
-use Rattle.hashlink_nodes.specs.State.{State, set_at, store_next, store_prev, hold, detached, attached}
-use Rattle.hashlink_nodes.specs.State.{Adds, MakesGuard, Drops}
+use Rattle.hashlink_nodes.specs.State.{State, set_at, store_next, store_prev, hold, detached, attached, Adds}
+use Rattle.hashlink_nodes.specs.State.{MakesGuard, Drops}
 use Rattle.hashlink_nodes.specs.Shape.{IsPath, IsWayBack, IsChain, IsShaped}
 use Rattle.hashlink_nodes.proofs.Paths.{head_or, last_or, Off, IsOff, flip, set_at_here, set_at_other}
-use Rattle.hashlink_nodes.proofs.Paths.{all_left}
-use Rattle.hashlink_nodes.proofs.Paths.{all_right, all_without, all_with, all_middle, all_as, all_zip}
-use Rattle.hashlink_nodes.proofs.Paths.{distinct_front}
-use Rattle.hashlink_nodes.proofs.Paths.{distinct_middle, distinct_head, distinct_tail, distinct_cons}
-use Rattle.hashlink_nodes.proofs.Paths.{off_rest}
-use Rattle.hashlink_nodes.proofs.Paths.{off_last, off_head, path_same, back_same, chain_same, agrees_off}
-use Rattle.hashlink_nodes.proofs.Paths.{agrees_off_two, path_detach, path_attach, back_detach, back_attach}
-use Rattle.hashlink_nodes.proofs.Paths.{path_at}
-use Rattle.hashlink_nodes.proofs.Paths.{back_at}
+use Rattle.hashlink_nodes.proofs.Paths.{all_left, all_right, all_without, all_with, all_middle, all_as}
+use Rattle.hashlink_nodes.proofs.Paths.{all_zip, distinct_front, distinct_middle, distinct_head}
+use Rattle.hashlink_nodes.proofs.Paths.{distinct_tail, distinct_cons, off_rest, off_last, off_head, path_same}
+use Rattle.hashlink_nodes.proofs.Paths.{back_same, chain_same, agrees_off, agrees_off_two, path_detach}
+use Rattle.hashlink_nodes.proofs.Paths.{path_attach, back_detach, back_attach, path_at, back_at}
 
 distinct_left : (xs ys : List Node) → IsDistinct same_node (xs ++ ys) → IsDistinct same_node xs
 unfolding IsDistinct

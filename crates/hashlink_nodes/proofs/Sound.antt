@@ -1,7 +1,6 @@
 -- A sound ring: how it is seen, and what it says of its nodes.
 use Rattle.std.proofs.Common.{◌≡◌, ℕ, zero, suc, ◌+◌, ◌-◌, ◌^◌, ◌<◌, true, false, List, [], ◌∷◌, ◌++◌, length}
-use Rattle.std.proofs.Common.{Option}
-use Rattle.std.proofs.Common.{None, Some, refl, sym, ap, ◌∙◌, subst, arith}
+use Rattle.std.proofs.Common.{Option, None, Some, refl, sym, ap, ◌∙◌, subst, arith}
 use Rattle.std.specs.Prelude.{IfSome, IsSome}
 use Rattle.std.specs.List.{AllByRecursion, IsDistinct}
 use Rattle.std.specs.Map.{lookup, keys_of}
@@ -9,14 +8,13 @@ use Rattle.std.proofs.lemmas.List.{length-append, append_assoc}
 use Rattle.hashlink_nodes.specs.declared.node.Node.{Node}
 use Rattle.hashlink_nodes.specs.declared.held.Held.{Held}
 use Rattle.hashlink_nodes.specs.Node.{same_node}
-use Rattle.hashlink_nodes.specs.State.{State, store_next, store_prev, set_at, hold, detached, attached}
-use Rattle.hashlink_nodes.specs.State.{Adds, Drops}
+use Rattle.hashlink_nodes.specs.State.{State, store_next, store_prev, set_at, hold, detached, attached, Adds}
+use Rattle.hashlink_nodes.specs.State.{Drops}
 use Rattle.hashlink_nodes.specs.Shape.{IsShaped, IsSound, ring_of, walk, entries_of}
 use Rattle.hashlink_nodes.specs.Ring.{Ring, Holds}
 use Rattle.hashlink_nodes.proofs.Paths.{head_or, last_or, set_at_here, set_at_other, set_at_twice, all_left}
-use Rattle.hashlink_nodes.proofs.Paths.{all_right}
-use Rattle.hashlink_nodes.proofs.Paths.{all_middle}
-use Rattle.hashlink_nodes.proofs.Paths.{distinct_tail, path_at, back_at, length-walk, walk-chain, walk-path}
+use Rattle.hashlink_nodes.proofs.Paths.{all_right, all_middle, distinct_tail, path_at, back_at, length-walk}
+use Rattle.hashlink_nodes.proofs.Paths.{walk-chain, walk-path}
 use Rattle.hashlink_nodes.proofs.Entries.{cut_at, says_at, keys-entries, length-entries}
 
 pub walk-more : (f : Node → Node) (a : Node) (count : ℕ) → 0 < count → walk f a count

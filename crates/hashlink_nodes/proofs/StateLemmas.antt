@@ -1,8 +1,7 @@
 -- What the state of the blocks is after one of them changed, came or went.
 use Rattle.std.proofs.Common.{◌≡◌, ℕ, ◌+◌, Bool, true, false, cond, List, [], ◌∷◌, length, Option, None, Some}
-use Rattle.std.specs.Prelude.{IsNone}
 use Rattle.std.proofs.Common.{refl, sym, subst, ap, ◌∙◌, arith}
-use Rattle.std.specs.Prelude.{is_some}
+use Rattle.std.specs.Prelude.{IsNone, is_some}
 use Rattle.std.specs.Map.{lookup, set_value, remove_entry}
 use Rattle.std.proofs.lemmas.Map.{lookup-set_value, length-set_value}
 use Rattle.hashlink_nodes.specs.Node.{same_node, same_node_equiv, same_node-refl, eq-same_node}

@@ -1,6 +1,6 @@
 -- What the walks of the arena's functions cite of the logic and of std. Assumes `Logic`.
-pub use Rattle.std.proofs.Common.{Bor, IsSome, List, MutBor, None, Option, Some, [], ap, refl, subst, sym}
-pub use Rattle.std.proofs.Common.{ℕ, ◌++◌, ◌+◌, ◌<◌, ◌^◌, ◌∙◌, ◌∷◌, ◌≡◌}
+pub use Rattle.std.proofs.Common.{Bor, IsSome, List, MutBor, None, Option, Some, [], ap, refl, subst, sym, ℕ}
+pub use Rattle.std.proofs.Common.{◌++◌, ◌+◌, ◌<◌, ◌^◌, ◌∙◌, ◌∷◌, ◌≡◌}
 pub use Rattle.std.specs.Map.{lookup, remove_entry}
 pub use base.Fraction.{full_share}
 pub use mir.Syntax.{Ty, a_type, dcons, dnil, named, ty_int, w64}
@@ -10,12 +10,12 @@ pub use base.Logic.{SProp, emp, ent, id⊢, never, sep}
 pub use base.Fml.{Fml, GName, Incl-trans, Lft, fat, flft, froom, fsep, ftrue}
 pub use prog.Wp.{WpFn}
 pub use types.Kit.{ !, at_ret, await, by, done, drop, feq_i, feq_l, fjoin, fjoin3, fpack, fsplit, fsplit3}
-pub use types.Kit.{given, group, join, keep, later, learn, move, pick, qed, raw, rewrite, some, split}
-pub use types.Kit.{split3, suffices, use0, use1, use2, ‵, ◌$◌, ◌∵◌, ◌⊛◌}
+pub use types.Kit.{given, group, join, keep, later, learn, move, pick, qed, raw, rewrite, some, split, split3}
+pub use types.Kit.{suffices, use0, use1, use2, ‵, ◌$◌, ◌∵◌, ◌⊛◌}
 pub use types.Run.{addr, align_word, and_then, assigns, assigns_last, blocks, enter, exec, first, fld, from}
 pub use types.Run.{init, no_more, of_opd, returns, size_word, stop, store}
-pub use types.ByLocal.{alloc_all, env, free_all, get, get_in, give_at, is, look_at, pass_all, sets}
-pub use types.ByLocal.{sets_last, take_at, through}
+pub use types.ByLocal.{alloc_all, env, free_all, get, get_in, give_at, is, look_at, pass_all, sets, sets_last}
+pub use types.ByLocal.{take_at, through}
 pub use types.Part.{agg, sub, whole}
 pub use contract.Monad.{fact, fact_i}
 pub use contract.BorrowLft.{meet_⊑_right, ◌⊑◌}
@@ -31,8 +31,7 @@ pub use denote.Signature.{mut_ref_to, plain, types_at}
 pub use denote.Param.{bounded, layouts, param}
 pub use denote.Param.Laws.{param_laws}
 pub use denote.Steps.{closes, heard, nothing, opens}
-pub use denote.Triple.Walked.{Goes-dropped, Goes-ref, Goes-spent_ref, Stays, stay_dropped, stay_ref}
-pub use denote.Triple.Walked.{walk_of}
+pub use denote.Triple.Walked.{Goes-dropped, Goes-ref, Goes-spent_ref, Stays, stay_dropped, stay_ref, walk_of}
 pub use Rattle.std.proofs.alloc.Shapes.{after}
 pub use Rattle.std.proofs.RcSteps.{word, word-Good}
 pub use Rattle.std.proofs.raw_atomic.Walks.{leaves, proved_at}

@@ -1,7 +1,6 @@
 -- How the links of the blocks make a ring and a chain of spare nodes.
 use Rattle.std.specs.Prelude.{◌≡◌, ℕ, zero, suc, ◌+◌, ◌^◌, ◌<◌, true, List, [], ◌∷◌, ◌++◌, length, Option}
-use Rattle.std.specs.Prelude.{None, Some}
-use Rattle.std.specs.Prelude.{is_some}
+use Rattle.std.specs.Prelude.{None, Some, is_some}
 use Rattle.std.specs.List.{AllByRecursion, IsDistinct}
 use Rattle.hashlink_nodes.specs.declared.node.Node.{Node}
 use Rattle.hashlink_nodes.specs.declared.held.Held.{Held}

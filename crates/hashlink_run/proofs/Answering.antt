@@ -1,6 +1,6 @@
 -- A run that has answered some of its commands.
-use Rattle.std.proofs.Common.{◌≡◌, List, [], ◌∷◌, ◌++◌, length, refl, sym, ap, ◌∙◌, subst}
-use Rattle.std.proofs.Common.{append_assoc, append-nil, arith}
+use Rattle.std.proofs.Common.{◌≡◌, List, [], ◌∷◌, ◌++◌, length, refl, sym, ap, ◌∙◌, subst, append_assoc}
+use Rattle.std.proofs.Common.{append-nil, arith}
 use Rattle.hashlink_run.specs.Chain.{Answered, Chain, Chained, replies_of, state_after}
 use Rattle.hashlink_run.proofs.Chained.{Chain-more, replies_of-more, state_after-append}
 

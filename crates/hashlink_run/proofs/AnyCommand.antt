@@ -9,13 +9,9 @@ use Rattle.hashlink_model.proofs.KeptNodes.{kept-inserts, kept-replaces, kept-mo
 use Rattle.hashlink_model.proofs.KeptNodes.{kept-pops_front, kept-pops_back, kept-keeps}
 use Rattle.hashlink_run.specs.declared.commands.Command.{Command}
 use Rattle.hashlink_run.specs.declared.commands.Command.TheVariants.{Insert, InsertFront, Replace, Get}
-use Rattle.hashlink_run.specs.declared.commands.Command.TheVariants.{Remove}
-use Rattle.hashlink_run.specs.declared.commands.Command.TheVariants.{RemoveEntry, PopFront, PopBack}
-use Rattle.hashlink_run.specs.declared.commands.Command.TheVariants.{ToFront}
-use Rattle.hashlink_run.specs.declared.commands.Command.TheVariants.{ToBack}
-use Rattle.hashlink_run.specs.declared.commands.Command.TheVariants.{Front, Back, Len, Clear, Shrink}
-use Rattle.hashlink_run.specs.declared.commands.Command.TheVariants.{Keep}
-use Rattle.hashlink_run.specs.declared.commands.Command.TheVariants.{Entry, Cursor}
+use Rattle.hashlink_run.specs.declared.commands.Command.TheVariants.{Remove, RemoveEntry, PopFront, PopBack}
+use Rattle.hashlink_run.specs.declared.commands.Command.TheVariants.{ToFront, ToBack, Front, Back, Len, Clear}
+use Rattle.hashlink_run.specs.declared.commands.Command.TheVariants.{Shrink, Keep, Entry, Cursor}
 use Rattle.hashlink_run.specs.declared.replies.Reply.{Reply}
 use Rattle.hashlink_run.specs.declared.replies.Reply.TheVariants.{Seen, AtPlace}
 use Rattle.hashlink_run.specs.CallReplies.{is_refused}
@@ -25,7 +21,8 @@ use Rattle.hashlink_run.specs.Step.{Step}
 use Rattle.hashlink_run.proofs.CursorNodes.{cursor-keeps}
 use Rattle.hashlink_run.proofs.EntryNodes.{kept_unchanged, entry-keeps}
 use Rattle.hashlink_run.proofs.Kept.{keeps_where-wider}
-use Rattle.hashlink_run.proofs.NotRefused.{shrink-taken, inserts-taken, replaces-taken, entry-taken, walk-taken}
+use Rattle.hashlink_run.proofs.NotRefused.{shrink-taken, inserts-taken, replaces-taken, entry-taken}
+use Rattle.hashlink_run.proofs.NotRefused.{walk-taken}
 use Rattle.hashlink_run.proofs.Wider.{reads-wider, replies-wider, entry-wider, cursor-wider}
 
 -- ---- what one closure says, another may

@@ -1,22 +1,18 @@
 -- The nodes along the steps of a cache.
 use Rattle.std.proofs.Common.{◌≡◌, Bool, List, [], ◌∷◌, ◌++◌, length, take, Option, None, Some, Result, Ok}
-use Rattle.std.proofs.Common.{Err}
-use Rattle.std.proofs.Common.{MatchOption, MatchResult, append_assoc, arith, max, refl, sym, ap, ◌∙◌, subst}
+use Rattle.std.proofs.Common.{Err, MatchOption, MatchResult, append_assoc, arith, max, refl, sym, ap, ◌∙◌}
+use Rattle.std.proofs.Common.{subst}
 use Rattle.std.specs.Map.{lookup, lookup_entry}
 use Rattle.hashlink_model.specs.Cache.{CacheState, CacheInserts, CacheGets, CacheUses, EvictsFront}
 use Rattle.hashlink_history.specs.CacheRuns as event
-use Rattle.hashlink_history.specs.Peak.{Passed, Length}
-use Rattle.hashlink_model.specs.MapState.{MapState, node_count}
-use Rattle.hashlink_model.specs.MapState.{KeepsNodes}
-use Rattle.hashlink_history.specs.Peak.{Passes, PassesInTurn}
+use Rattle.hashlink_history.specs.Peak.{Passed, Length, Passes, PassesInTurn}
+use Rattle.hashlink_model.specs.MapState.{MapState, node_count, KeepsNodes}
 use Rattle.hashlink_model.proofs.KeptNodes.{kept-inserts, kept-keeps, kept-moves, kept-removes_key}
 use Rattle.hashlink_model.proofs.KeptNodes.{kept-pops_front}
 use Rattle.hashlink_history.proofs.Peaks.{passes-clears, passes_in_parts, within_the_peak}
 use Rattle.hashlink_run.specs.declared.cache_commands.CacheCommand.{CacheCommand}
-use Rattle.hashlink_run.specs.declared.cache_commands.CacheCommand.TheVariants.{Insert, Use, Entry, Get}
-use Rattle.hashlink_run.specs.declared.cache_commands.CacheCommand.TheVariants.{Peek}
-use Rattle.hashlink_run.specs.declared.cache_commands.CacheCommand.TheVariants.{Remove, SetCapacity}
-use Rattle.hashlink_run.specs.declared.cache_commands.CacheCommand.TheVariants.{Clear}
+use Rattle.hashlink_run.specs.declared.cache_commands.CacheCommand.TheVariants.{Insert, Use, Entry, Get, Peek}
+use Rattle.hashlink_run.specs.declared.cache_commands.CacheCommand.TheVariants.{Remove, SetCapacity, Clear}
 use Rattle.hashlink_run.specs.declared.cache_commands.CacheCommand.TheVariants.{RemoveLru}
 use Rattle.hashlink_run.specs.declared.replies.Reply.{Reply}
 use Rattle.hashlink_run.specs.declared.replies.Reply.TheVariants.{Refused, Seen}

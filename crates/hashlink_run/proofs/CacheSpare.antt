@@ -1,7 +1,6 @@
 -- Along the steps of a cache: a spare node that stays, so that nothing is refused.
 use Rattle.std.proofs.Common.{◌≡◌, ℕ, zero, suc, ◌≤◌, ◌<◌, Bool, true, false, List, [], ◌∷◌, length, take}
-use Rattle.std.proofs.Common.{drop}
-use Rattle.std.proofs.Common.{slice_get, Option, None, Some, Result, Ok, Err, MatchOption, MatchResult}
+use Rattle.std.proofs.Common.{drop, slice_get, Option, None, Some, Result, Ok, Err, MatchOption, MatchResult}
 use Rattle.std.proofs.Common.{sym, ap, subst, arith}
 use Rattle.std.specs.List.{AllPass}
 use Rattle.std.specs.Map.{lookup, lookup_entry}
@@ -14,10 +13,8 @@ use Rattle.hashlink_model.proofs.CacheBounds.{to_spare-kept, to_spare-dropped, t
 use Rattle.hashlink_model.proofs.KeptNodes.{kept-moves, kept-removes_key, kept-pops_front, kept-never_fall}
 use Rattle.hashlink_model.proofs.NodeCounts.{moves_length}
 use Rattle.hashlink_run.specs.declared.cache_commands.CacheCommand.{CacheCommand}
-use Rattle.hashlink_run.specs.declared.cache_commands.CacheCommand.TheVariants.{Insert, Use, Entry, Get}
-use Rattle.hashlink_run.specs.declared.cache_commands.CacheCommand.TheVariants.{Peek}
-use Rattle.hashlink_run.specs.declared.cache_commands.CacheCommand.TheVariants.{Remove, SetCapacity}
-use Rattle.hashlink_run.specs.declared.cache_commands.CacheCommand.TheVariants.{Clear}
+use Rattle.hashlink_run.specs.declared.cache_commands.CacheCommand.TheVariants.{Insert, Use, Entry, Get, Peek}
+use Rattle.hashlink_run.specs.declared.cache_commands.CacheCommand.TheVariants.{Remove, SetCapacity, Clear}
 use Rattle.hashlink_run.specs.declared.cache_commands.CacheCommand.TheVariants.{RemoveLru}
 use Rattle.hashlink_run.specs.declared.replies.Reply.{Reply}
 use Rattle.hashlink_run.specs.declared.replies.Reply.TheVariants.{Refused, Seen}

@@ -1,6 +1,6 @@
 -- A use of a cache by a `get` and, where it misses, an insert.
-use Rattle.std.proofs.Common.{◌≡◌, Bool, [], ◌∷◌, Option, None, Some, Result, Ok, Err, MatchOption}
-use Rattle.std.proofs.Common.{refl, sym, ap, ap₂, ◌∙◌, subst}
+use Rattle.std.proofs.Common.{◌≡◌, Bool, [], ◌∷◌, Option, None, Some, Result, Ok, Err, MatchOption, refl, sym}
+use Rattle.std.proofs.Common.{ap, ap₂, ◌∙◌, subst}
 use Rattle.std.specs.Map.{lookup, lookup_entry}
 use Rattle.std.specs.Option.{option_map}
 use Rattle.hashlink_model.specs.Cache.{CacheState, CacheInserts, CacheGets}

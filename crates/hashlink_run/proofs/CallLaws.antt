@@ -12,8 +12,7 @@ use Rattle.hashlink_history.specs.CacheRuns.{CacheEvent, used_keys, answer_to, a
 use Rattle.hashlink_history.specs.CacheRuns.{answers}
 use Rattle.hashlink_model.specs.Entries.{IsEntries}
 use Rattle.hashlink_history.proofs.CacheRuns.{keys_along, finds_along, entries_along, finds_the_same_along}
-use Rattle.hashlink_history.proofs.CacheRuns.{holds_along}
-use Rattle.hashlink_history.proofs.CacheRuns.{answers_along, IsEntries-after_events}
+use Rattle.hashlink_history.proofs.CacheRuns.{holds_along, answers_along, IsEntries-after_events}
 use Rattle.hashlink_model.proofs.CacheSteps.{uses_entries}
 use Rattle.hashlink_model.proofs.Distinct.{IsEntries-nil}
 use Rattle.hashlink_history.proofs.Competitive.{competitive, missed_uses-history}

@@ -1,6 +1,6 @@
 -- Chains of a map's steps: the nodes along them, and that none hands a pair back while a node is spare.
-use Rattle.std.proofs.Common.{◌≡◌, ℕ, zero, suc, ◌≤◌, ◌<◌, Bool, true, false, List, [], ◌∷◌, length, slice_get}
-use Rattle.std.proofs.Common.{Some, take, drop, refl, sym, ap, subst, arith}
+use Rattle.std.proofs.Common.{◌≡◌, ℕ, zero, suc, ◌≤◌, ◌<◌, Bool, true, false, List, [], ◌∷◌, length}
+use Rattle.std.proofs.Common.{slice_get, Some, take, drop, refl, sym, ap, subst, arith}
 use Rattle.std.specs.List.{AllPass}
 use Rattle.std.proofs.lemmas.List.{take-take}
 use Rattle.std.proofs.lemmas.List.Elements.{All-head, All-tail}
@@ -13,8 +13,8 @@ use Rattle.hashlink_run.specs.declared.commands.Command.{Command}
 use Rattle.hashlink_run.specs.declared.replies.Reply.{Reply}
 use Rattle.hashlink_run.specs.CallReplies.{is_refused}
 use Rattle.hashlink_run.specs.Chain.{Answered, state_after, after}
-use Rattle.hashlink_run.specs.Run.{Run, Runs, passed_at, keeps_nodes, passed_by}
-use Rattle.hashlink_run.specs.Run.{StaysWithinPeak, TakesKeysWhereShorter}
+use Rattle.hashlink_run.specs.Run.{Run, Runs, passed_at, keeps_nodes, passed_by, StaysWithinPeak}
+use Rattle.hashlink_run.specs.Run.{TakesKeysWhereShorter}
 use Rattle.hashlink_run.specs.Step.{Step}
 use Rattle.hashlink_run.proofs.Chained.{Chain-take, Chain-drop, state_after-parts}
 use Rattle.hashlink_run.proofs.AnyCommand.{map_step-taken, step-nodes}

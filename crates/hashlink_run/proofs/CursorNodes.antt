@@ -2,14 +2,12 @@
 use Rattle.std.proofs.Common.{◌≡◌, ℕ, ◌≤◌, Bool, List, [], ◌∷◌, length, Option, None, Some, Result, Ok, Err}
 use Rattle.std.proofs.Common.{ap, arith}
 use Rattle.hashlink_model.specs.Cursor.{CursorState, place_next}
-use Rattle.hashlink_model.specs.MapState.{MapState, Inserts}
-use Rattle.hashlink_model.specs.MapState.{KeepsNodes}
+use Rattle.hashlink_model.specs.MapState.{MapState, Inserts, KeepsNodes}
 use Rattle.hashlink_model.proofs.KeptNodes.{kept-inserts}
 use Rattle.hashlink_model.proofs.NodeCounts.{node_count-puts}
 use Rattle.hashlink_run.specs.declared.commands.CursorStep.{CursorStep}
 use Rattle.hashlink_run.specs.declared.commands.CursorStep.TheVariants.{Next, Prev, Current, PeekNext}
-use Rattle.hashlink_run.specs.declared.commands.CursorStep.TheVariants.{PeekPrev}
-use Rattle.hashlink_run.specs.declared.commands.CursorStep.TheVariants.{Before, After}
+use Rattle.hashlink_run.specs.declared.commands.CursorStep.TheVariants.{PeekPrev, Before, After}
 use Rattle.hashlink_run.specs.declared.replies.Reply.{Reply}
 use Rattle.hashlink_run.specs.CursorSteps.{CursorStepped, CursorWalks, CursorSteps, first_place}
 use Rattle.hashlink_run.proofs.EntryNodes.{kept_unchanged}

@@ -1,7 +1,6 @@
 -- A cursor that has done some of its steps.
 use Rattle.std.proofs.Common.{ℕ, Bool, List, [], ◌∷◌, ◌++◌, ◌≡◌, refl, sym, ap₂, subst, append_assoc}
-use Rattle.std.proofs.Common.{append-nil}
-use Rattle.std.proofs.Common.{length, arith}
+use Rattle.std.proofs.Common.{append-nil, length, arith}
 use Rattle.hashlink_model.specs.Cursor.{CursorState}
 use Rattle.hashlink_model.specs.MapState.{MapState}
 use Rattle.hashlink_run.specs.declared.commands.CursorStep.{CursorStep}

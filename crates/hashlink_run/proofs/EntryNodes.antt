@@ -1,22 +1,17 @@
 -- Steps on entries: every node is kept.
-use Rattle.std.proofs.Common.{◌≡◌, ℕ, zero, suc, Bool, List, [], ◌∷◌, length, refl, Option, None}
-use Rattle.std.proofs.Common.{Some}
-use Rattle.std.proofs.Common.{Result, Ok, Err, ap, arith}
-use Rattle.std.proofs.Common.{MatchOption}
+use Rattle.std.proofs.Common.{◌≡◌, ℕ, zero, suc, Bool, List, [], ◌∷◌, length, refl, Option, None, Some}
+use Rattle.std.proofs.Common.{Result, Ok, Err, ap, arith, MatchOption}
 use Rattle.hashlink_model.specs.Entries.{place_of, moved_at, set_key_at}
 use Rattle.hashlink_model.specs.Entry.{insert_value, insert_entry, replace_entry, VacantInserts}
-use Rattle.hashlink_model.specs.MapState.{MapState, Removes, node_count, MovesAt}
-use Rattle.hashlink_model.specs.MapState.{KeepsNodes}
+use Rattle.hashlink_model.specs.MapState.{MapState, Removes, node_count, MovesAt, KeepsNodes}
 use Rattle.hashlink_model.proofs.KeptNodes.{kept-changes, kept-inserts}
 use Rattle.hashlink_model.proofs.NodeCounts.{node_count-removes}
 use Rattle.hashlink_model.proofs.Occupied.{length-moved_at, length-insert_value, length-insert_entry}
 use Rattle.hashlink_model.proofs.Occupied.{length-replace_entry}
 use Rattle.hashlink_run.specs.declared.commands.EntryStep.{EntryStep}
-use Rattle.hashlink_run.specs.declared.commands.EntryStep.TheVariants.{Get, OrInsert, Insert}
-use Rattle.hashlink_run.specs.declared.commands.EntryStep.TheVariants.{InsertEntry}
+use Rattle.hashlink_run.specs.declared.commands.EntryStep.TheVariants.{Get, OrInsert, Insert, InsertEntry}
 use Rattle.hashlink_run.specs.declared.commands.EntryStep.TheVariants.{ReplaceEntry, ReplaceKey, ToFront}
-use Rattle.hashlink_run.specs.declared.commands.EntryStep.TheVariants.{ToBack}
-use Rattle.hashlink_run.specs.declared.commands.EntryStep.TheVariants.{Remove, RemoveEntry}
+use Rattle.hashlink_run.specs.declared.commands.EntryStep.TheVariants.{ToBack, Remove, RemoveEntry}
 use Rattle.hashlink_run.specs.declared.replies.Reply.{Reply}
 use Rattle.hashlink_run.specs.EntrySteps.{OccupiedStep, VacantStep, EntrySteps}
 

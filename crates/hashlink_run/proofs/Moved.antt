@@ -1,7 +1,6 @@
 -- A pair that was moved to an end and lent: where nothing is written it has moved, and it stands at that end.
 use Rattle.std.proofs.Common.{◌≡◌, ℕ, ◌-◌, Bool, List, [], ◌∷◌, ◌++◌, length, Option, None, Some, refl, sym}
-use Rattle.std.proofs.Common.{ap, ◌∙◌}
-use Rattle.std.proofs.Common.{subst, arith, length-append, MatchOption}
+use Rattle.std.proofs.Common.{ap, ◌∙◌, subst, arith, length-append, MatchOption}
 use Rattle.std.specs.Cmp.{IsEquivalence}
 use Rattle.std.specs.Option.{option_map}
 use Rattle.std.specs.Map.{lookup, lookup_entry}

@@ -1,7 +1,7 @@
 -- While a node is spare no command to a map hands a pair back.
 use Rattle.std.proofs.Common.{◌≡◌, ℕ, zero, suc, ◌≤◌, Bool, false, List, [], ◌∷◌, ◌++◌, slice_get, Option}
-use Rattle.std.proofs.Common.{None}
-use Rattle.std.proofs.Common.{Some, Result, Ok, Err, MatchOption, MatchResult, refl, ap, ◌∙◌, subst, arith}
+use Rattle.std.proofs.Common.{None, Some, Result, Ok, Err, MatchOption, MatchResult, refl, ap, ◌∙◌, subst}
+use Rattle.std.proofs.Common.{arith}
 use Rattle.std.specs.Result.{result_map_both}
 use Rattle.std.specs.declared.alloc.AllocError.{AllocError}
 use Rattle.std.proofs.lemmas.Option.{same_Some}
@@ -13,8 +13,7 @@ use Rattle.hashlink_model.specs.Steps.{Replaces}
 use Rattle.hashlink_run.specs.declared.commands.Command.{Command}
 use Rattle.hashlink_run.specs.declared.commands.CursorStep.{CursorStep}
 use Rattle.hashlink_run.specs.declared.commands.CursorStep.TheVariants.{Next, Prev, Current, PeekNext}
-use Rattle.hashlink_run.specs.declared.commands.CursorStep.TheVariants.{PeekPrev}
-use Rattle.hashlink_run.specs.declared.commands.CursorStep.TheVariants.{Before, After}
+use Rattle.hashlink_run.specs.declared.commands.CursorStep.TheVariants.{PeekPrev, Before, After}
 use Rattle.hashlink_run.specs.declared.commands.EntryStep.{EntryStep}
 use Rattle.hashlink_run.specs.declared.commands.EntryStep.TheVariants as step
 use Rattle.hashlink_run.specs.declared.replies.Reply.{Reply}

@@ -1,7 +1,6 @@
 -- Lists of commands to a cache: the nodes and the lengths along them, and what is not refused.
 use Rattle.std.specs.Prelude.{◌≡◌, ℕ, ◌+◌, ◌≤◌, ◌<◌, Bool, true, false, cond, List, [], ◌∷◌, ◌++◌, length}
-use Rattle.std.specs.Prelude.{take}
-use Rattle.std.specs.Prelude.{drop, slice_get, Some}
+use Rattle.std.specs.Prelude.{take, drop, slice_get, Some}
 use Rattle.std.specs.List.{AllPass}
 use Rattle.hashlink_model.specs.Cache.{CacheState, IsWithin}
 use Rattle.hashlink_history.specs.CacheRuns as event

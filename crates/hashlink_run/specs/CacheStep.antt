@@ -8,10 +8,8 @@ use Rattle.hashlink_model.specs.MapState.{MapState}
 use Rattle.hashlink_model.specs.Steps.{RemovesKey, PopsFront, Clears}
 use Rattle.hashlink_model.specs.Walk.{first_of}
 use Rattle.hashlink_run.specs.declared.cache_commands.CacheCommand.{CacheCommand}
-use Rattle.hashlink_run.specs.declared.cache_commands.CacheCommand.TheVariants.{Insert, Use, Entry, Get}
-use Rattle.hashlink_run.specs.declared.cache_commands.CacheCommand.TheVariants.{Peek}
-use Rattle.hashlink_run.specs.declared.cache_commands.CacheCommand.TheVariants.{Remove, SetCapacity}
-use Rattle.hashlink_run.specs.declared.cache_commands.CacheCommand.TheVariants.{Clear}
+use Rattle.hashlink_run.specs.declared.cache_commands.CacheCommand.TheVariants.{Insert, Use, Entry, Get, Peek}
+use Rattle.hashlink_run.specs.declared.cache_commands.CacheCommand.TheVariants.{Remove, SetCapacity, Clear}
 use Rattle.hashlink_run.specs.declared.cache_commands.CacheCommand.TheVariants.{RemoveLru}
 use Rattle.hashlink_run.specs.declared.replies.Reply.{Reply}
 use Rattle.hashlink_run.specs.declared.replies.Reply.TheVariants.{Done, Value, Pair, Seen, Refused}

@@ -1,13 +1,11 @@
 -- What a cursor answers to its steps, and what it goes on to.
 use Rattle.std.specs.Prelude.{◌≡◌, ◌⊎◌, ℕ, Bool, List, [], ◌∷◌, ◌++◌, Option, Some, Result}
 use Rattle.hashlink_model.specs.Cursor.{CursorState, at_place, entry_in, place_next, place_previous}
-use Rattle.hashlink_model.specs.Cursor.{InsertsBefore}
-use Rattle.hashlink_model.specs.Cursor.{InsertsAfter}
+use Rattle.hashlink_model.specs.Cursor.{InsertsBefore, InsertsAfter}
 use Rattle.hashlink_model.specs.MapState.{MapState}
 use Rattle.hashlink_run.specs.declared.commands.CursorStep.{CursorStep}
 use Rattle.hashlink_run.specs.declared.commands.CursorStep.TheVariants.{Next, Prev, Current, PeekNext}
-use Rattle.hashlink_run.specs.declared.commands.CursorStep.TheVariants.{PeekPrev}
-use Rattle.hashlink_run.specs.declared.commands.CursorStep.TheVariants.{Before, After}
+use Rattle.hashlink_run.specs.declared.commands.CursorStep.TheVariants.{PeekPrev, Before, After}
 use Rattle.hashlink_run.specs.declared.replies.Reply.{Reply}
 use Rattle.hashlink_run.specs.declared.replies.Reply.TheVariants.{AtPlace}
 use Rattle.hashlink_run.specs.CallReplies.{insert_reply}

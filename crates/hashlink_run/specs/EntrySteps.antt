@@ -8,14 +8,11 @@ use Rattle.hashlink_model.specs.Entry.{InsertsValue, InsertsEntry, ReplacesEntry
 use Rattle.hashlink_model.specs.Entry.{VacantInserts}
 use Rattle.hashlink_model.specs.MapState.{MapState, MovesAt}
 use Rattle.hashlink_run.specs.declared.commands.EntryStep.{EntryStep}
-use Rattle.hashlink_run.specs.declared.commands.EntryStep.TheVariants.{Get, OrInsert, Insert}
-use Rattle.hashlink_run.specs.declared.commands.EntryStep.TheVariants.{InsertEntry}
+use Rattle.hashlink_run.specs.declared.commands.EntryStep.TheVariants.{Get, OrInsert, Insert, InsertEntry}
 use Rattle.hashlink_run.specs.declared.commands.EntryStep.TheVariants.{ReplaceEntry, ReplaceKey, ToFront}
-use Rattle.hashlink_run.specs.declared.commands.EntryStep.TheVariants.{ToBack}
-use Rattle.hashlink_run.specs.declared.commands.EntryStep.TheVariants.{Remove, RemoveEntry}
+use Rattle.hashlink_run.specs.declared.commands.EntryStep.TheVariants.{ToBack, Remove, RemoveEntry}
 use Rattle.hashlink_run.specs.declared.replies.Reply.{Reply}
-use Rattle.hashlink_run.specs.declared.replies.Reply.TheVariants.{Value, Pair, Key, Seen}
-use Rattle.hashlink_run.specs.declared.replies.Reply.TheVariants.{Inserted, Refused}
+use Rattle.hashlink_run.specs.declared.replies.Reply.TheVariants.{Value, Pair, Key, Seen, Inserted, Refused}
 use Rattle.hashlink_run.specs.CallReplies.{reply_or_refused}
 use Rattle.hashlink_run.specs.Reads.{Replies, Reads}
 

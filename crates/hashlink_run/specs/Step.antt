@@ -8,16 +8,11 @@ use Rattle.hashlink_model.specs.Steps.{Replaces, RemovesKey, PopsFront, PopsBack
 use Rattle.hashlink_model.specs.Walk.{first_of, last_of}
 use Rattle.hashlink_run.specs.declared.commands.Command.{Command}
 use Rattle.hashlink_run.specs.declared.commands.Command.TheVariants.{Insert, InsertFront, Replace, Get}
-use Rattle.hashlink_run.specs.declared.commands.Command.TheVariants.{Remove}
-use Rattle.hashlink_run.specs.declared.commands.Command.TheVariants.{RemoveEntry, PopFront, PopBack}
-use Rattle.hashlink_run.specs.declared.commands.Command.TheVariants.{ToFront}
-use Rattle.hashlink_run.specs.declared.commands.Command.TheVariants.{ToBack}
-use Rattle.hashlink_run.specs.declared.commands.Command.TheVariants.{Front, Back, Len, Clear, Shrink}
-use Rattle.hashlink_run.specs.declared.commands.Command.TheVariants.{Keep}
-use Rattle.hashlink_run.specs.declared.commands.Command.TheVariants.{Entry, Cursor}
+use Rattle.hashlink_run.specs.declared.commands.Command.TheVariants.{Remove, RemoveEntry, PopFront, PopBack}
+use Rattle.hashlink_run.specs.declared.commands.Command.TheVariants.{ToFront, ToBack, Front, Back, Len, Clear}
+use Rattle.hashlink_run.specs.declared.commands.Command.TheVariants.{Shrink, Keep, Entry, Cursor}
 use Rattle.hashlink_run.specs.declared.replies.Reply.{Reply}
-use Rattle.hashlink_run.specs.declared.replies.Reply.TheVariants.{Done, Value, Pair, Seen, AtPlace}
-use Rattle.hashlink_run.specs.declared.replies.Reply.TheVariants.{Length}
+use Rattle.hashlink_run.specs.declared.replies.Reply.TheVariants.{Done, Value, Pair, Seen, AtPlace, Length}
 use Rattle.hashlink_run.specs.CallReplies.{insert_reply, shrink_reply}
 use Rattle.hashlink_run.specs.CursorSteps.{CursorSteps, ReadOnWalk, first_place}
 use Rattle.hashlink_run.specs.Keeps.{KeepsWhere}

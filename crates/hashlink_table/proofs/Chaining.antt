@@ -1,14 +1,13 @@
 -- A node joins its bucket's chain, and leaves it.
-use Rattle.std.proofs.Common.{◌≡◌, ◌≢◌, ℕ, ◌%◌, ◌<◌, inl, inr, List, [], ◌∷◌, ◌++◌, length, get_or}
-use Rattle.std.proofs.Common.{set, Option, Some, None, IsSome, refl, sym, ap, ◌∙◌, subst, arith}
+use Rattle.std.proofs.Common.{◌≡◌, ◌≢◌, ℕ, ◌%◌, ◌<◌, inl, inr, List, [], ◌∷◌, ◌++◌, length, get_or, set}
+use Rattle.std.proofs.Common.{Option, Some, None, IsSome, refl, sym, ap, ◌∙◌, subst, arith}
 use Rattle.std.specs.Prelude.{IsPermutation}
 use Rattle.std.proofs.lemmas.List.{get_or-map, length-map, map-set}
 use Rattle.hashlink_table.specs.declared.hashed.Hashed.{Hashed}
 use Rattle.hashlink_table.specs.declared.store.cell.Cell.{Cell}
 use Rattle.hashlink_table.specs.declared.store.cell.TheConstants.{END}
-use Rattle.hashlink_table.specs.Chains.{kept_at, next_at, chain_of, chain_at, links_of, nodes_in}
-use Rattle.hashlink_table.specs.Chains.{stored_in, with_node}
-use Rattle.hashlink_table.specs.Chains.{IsLinked, IsPlaced, SameNodes}
+use Rattle.hashlink_table.specs.Chains.{kept_at, next_at, chain_of, chain_at, links_of, nodes_in, stored_in}
+use Rattle.hashlink_table.specs.Chains.{with_node, IsLinked, IsPlaced, SameNodes}
 use Rattle.hashlink_table.specs.Stored.{bare_cell}
 use Rattle.hashlink_table.proofs.Cells.{chain_at_within, within_by_chain}
 use Rattle.hashlink_table.proofs.Linking.{linked-push, linked-reuse, free_on}

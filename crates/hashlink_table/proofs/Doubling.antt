@@ -1,8 +1,7 @@
 -- The slots are doubled: where each node is then, and that no bucket has a chain.
 use Rattle.std.proofs.Common.{◌≡◌, ℕ, ◌+◌, ◌-◌, ◌*◌, ◌/◌, ◌%◌, ◌<◌, ◌≤◌, ltb, Bool, true, false, cond, inl}
-use Rattle.std.proofs.Common.{inr}
-use Rattle.std.proofs.Common.{List, [], ◌∷◌, ◌++◌, length, map, get_or, Option, None, Some}
-use Rattle.std.proofs.Common.{refl, sym, ap, ◌∙◌, subst, arith}
+use Rattle.std.proofs.Common.{inr, List, [], ◌∷◌, ◌++◌, length, map, get_or, Option, None, Some, refl, sym}
+use Rattle.std.proofs.Common.{ap, ◌∙◌, subst, arith}
 use Rattle.std.specs.Prelude.{IsPermutation}
 use Rattle.std.proofs.Math.Arith.{mod-mul}
 use Rattle.std.proofs.Math.ListN.{get_or-map}
@@ -15,8 +14,8 @@ use Rattle.std.proofs.lemmas.Option.{same_Some}
 use Rattle.hashlink_table.specs.declared.hashed.Hashed.{Hashed}
 use Rattle.hashlink_table.specs.declared.store.cell.Cell.{Cell}
 use Rattle.hashlink_table.specs.declared.store.cell.TheConstants.{END}
-use Rattle.hashlink_table.specs.Chains.{next_at, links_of, nodes_in, with_node}
-use Rattle.hashlink_table.specs.Chains.{AreGrouped, IsFilled, IsInPlace, IsLinked}
+use Rattle.hashlink_table.specs.Chains.{next_at, links_of, nodes_in, with_node, AreGrouped, IsFilled}
+use Rattle.hashlink_table.specs.Chains.{IsInPlace, IsLinked}
 use Rattle.hashlink_table.specs.Stored.{bare_cell}
 use Rattle.hashlink_table.specs.Slots.{doubled, high_half, high_kept, low_half, low_kept}
 use Rattle.hashlink_table.proofs.Moving.{within_kept}

@@ -1,9 +1,7 @@
 -- Where the buckets are doubled: a cell in parts, and all cells, one after the other.
 use Rattle.std.proofs.Common.{◌≡◌, ℕ, zero, suc, ◌+◌, ◌*◌, ◌%◌, ◌<◌, ◌≤◌, ◌⊎◌, inl, inr, Bool, true, false}
-use Rattle.std.proofs.Common.{cond}
-use Rattle.std.proofs.Common.{eqb, ltb, List, [], ◌∷◌, ◌++◌, length, map, get_or, set, replicate, Option}
-use Rattle.std.proofs.Common.{Some}
-use Rattle.std.proofs.Common.{None, refl, sym, ap, ◌∙◌, subst, arith}
+use Rattle.std.proofs.Common.{cond, eqb, ltb, List, [], ◌∷◌, ◌++◌, length, map, get_or, set, replicate}
+use Rattle.std.proofs.Common.{Option, Some, None, refl, sym, ap, ◌∙◌, subst, arith}
 use Rattle.std.specs.Int.{IsPowerOfTwo}
 use Rattle.std.proofs.Math.Nat.{pow-succ'}
 use Rattle.std.proofs.lemmas.Bool.{lt-ltb, le-ltb}
@@ -15,8 +13,7 @@ use Rattle.hashlink_table.specs.declared.store.cell.TheConstants.{END}
 use Rattle.hashlink_table.specs.declared.store.slots.Rest.{Rest}
 use Rattle.hashlink_table.specs.Stored.{bare_cell, tag_of}
 use Rattle.hashlink_table.specs.Slots.{slot, cells_in, low_kept, high_kept, low_half, high_half, doubled}
-use Rattle.hashlink_table.specs.Slots.{parted}
-use Rattle.hashlink_table.specs.Slots.{IsStored, IsTagged}
+use Rattle.hashlink_table.specs.Slots.{parted, IsStored, IsTagged}
 use Rattle.hashlink_table.proofs.Storing.{cell_at, stored_at, cells-set, tagged-set}
 
 -- so many buckets twice are a power of two again

@@ -1,8 +1,7 @@
 -- The bits of a mask: which cells of a group pass a test.
 use Rattle.std.proofs.Common.{◌≡◌, ℕ, zero, suc, ◌+◌, ◌-◌, ◌*◌, ◌/◌, ◌%◌, ◌^◌, ◌<◌, ◌≤◌, Bool, true, false}
-use Rattle.std.proofs.Common.{cond}
-use Rattle.std.proofs.Common.{not, List, [], ◌∷◌, map, length, drop, get_or, count_by, None, Some, IsSome}
-use Rattle.std.proofs.Common.{inl, inr, Option, refl, sym, ap, ◌∙◌, subst, arith}
+use Rattle.std.proofs.Common.{cond, not, List, [], ◌∷◌, map, length, drop, get_or, count_by, None, Some}
+use Rattle.std.proofs.Common.{IsSome, inl, inr, Option, refl, sym, ap, ◌∙◌, subst, arith}
 use Rattle.std.specs.Prelude.{is_none}
 use Rattle.std.specs.List.{prefix_len}
 use Rattle.std.proofs.lemmas.Bool.{cases_eq, false≢true, true≢false}

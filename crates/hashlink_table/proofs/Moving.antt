@@ -1,19 +1,17 @@
 -- The slots: a node comes into one, leaves it, and is followed there by the first of a chain.
-use Rattle.std.proofs.Common.{◌≡◌, ◌≢◌, ℕ, ◌+◌, ◌-◌, ◌%◌, ◌<◌, ◌≤◌, inl, inr, List, ◌∷◌, ◌++◌, length}
-use Rattle.std.proofs.Common.{get_or, is_some, set, IsSome, None, Some, refl, sym, ap, ◌∙◌, subst, arith}
+use Rattle.std.proofs.Common.{◌≡◌, ◌≢◌, ℕ, ◌+◌, ◌-◌, ◌%◌, ◌<◌, ◌≤◌, inl, inr, List, ◌∷◌, ◌++◌, length, get_or}
+use Rattle.std.proofs.Common.{is_some, set, IsSome, None, Some, refl, sym, ap, ◌∙◌, subst, arith}
 use Rattle.std.specs.Prelude.{IsPermutation}
 use Rattle.std.proofs.lemmas.Bool.{cases_eq, cases_lt}
 use Rattle.std.proofs.lemmas.List.{get_or_past, length-map, length-set}
 use Rattle.std.proofs.lemmas.List.Sorted.{IsPermutation-trans, IsPermutation-middle}
-use Rattle.std.proofs.lemmas.List.Sorted.{IsPermutation-append_left}
-use Rattle.std.proofs.lemmas.List.Sorted.{IsPermutation-append_right}
+use Rattle.std.proofs.lemmas.List.Sorted.{IsPermutation-append_left, IsPermutation-append_right}
 use Rattle.std.proofs.Math.Seq.{map-set_same}
 use Rattle.hashlink_table.specs.declared.hashed.Hashed.{Hashed}
 use Rattle.hashlink_table.specs.declared.store.cell.Cell.{Cell}
 use Rattle.hashlink_table.specs.declared.store.cell.TheConstants.{END}
-use Rattle.hashlink_table.specs.Chains.{kept_at, next_at, chain_at, links_of, nodes_in, with_node}
-use Rattle.hashlink_table.specs.Chains.{stored_in, AreGrouped, AreTaken, IsFilled, IsInPlace, IsLinked}
-use Rattle.hashlink_table.specs.Chains.{SameNodes}
+use Rattle.hashlink_table.specs.Chains.{kept_at, next_at, chain_at, links_of, nodes_in, with_node, stored_in}
+use Rattle.hashlink_table.specs.Chains.{AreGrouped, AreTaken, IsFilled, IsInPlace, IsLinked, SameNodes}
 use Rattle.hashlink_table.specs.Stored.{bare_cell}
 use Rattle.hashlink_table.specs.Slots.{with_kept, with_next, without_kept}
 use Rattle.hashlink_table.proofs.Cells.{kept_at-set, kept_at-set_other, next_at-set, next_at-set_other}

@@ -1,25 +1,21 @@
 -- The fields of a table agree.
 use Rattle.std.proofs.Common.{◌≡◌, ◌≢◌, ℕ, zero, suc, ◌+◌, ◌-◌, ◌*◌, ◌%◌, ◌^◌, ◌<◌, ◌≤◌, true, inl, inr, List}
-use Rattle.std.proofs.Common.{[]}
-use Rattle.std.proofs.Common.{◌∷◌, ◌++◌, length, max}
-use Rattle.std.proofs.Common.{get_or, replicate, Option, Some, None, is_some, refl, sym, ap, ◌∙◌, subst}
-use Rattle.std.proofs.Common.{arith}
+use Rattle.std.proofs.Common.{[], ◌∷◌, ◌++◌, length, max, get_or, replicate, Option, Some, None, is_some}
+use Rattle.std.proofs.Common.{refl, sym, ap, ◌∙◌, subst, arith}
 use Rattle.std.specs.Prelude.{IsPermutation}
 use Rattle.std.specs.Int.{IsPowerOfTwo}
 use Rattle.std.proofs.lemmas.Bool.{cases_eq, cases_lt}
 use Rattle.std.proofs.Math.ListN.{get_or-map}
-use Rattle.std.proofs.lemmas.List.{get_or_at, get_or_append_left, length_push}
-use Rattle.std.proofs.lemmas.List.{length-append}
+use Rattle.std.proofs.lemmas.List.{get_or_at, get_or_append_left, length_push, length-append}
 use Rattle.std.proofs.lemmas.List.{length-replicate}
 use Rattle.std.proofs.lemmas.List.Sorted.{length_permutation}
 use Rattle.hashlink_table.specs.declared.hashed.Hashed.{Hashed}
 use Rattle.hashlink_table.specs.declared.store.cell.Cell.{Cell}
 use Rattle.hashlink_table.specs.declared.store.cell.TheConstants.{END}
-use Rattle.hashlink_table.specs.Chains.{kept_at, next_at, chain_of, nodes_in, links_of, Among}
-use Rattle.hashlink_table.specs.Chains.{IsPath}
+use Rattle.hashlink_table.specs.Chains.{kept_at, next_at, chain_of, nodes_in, links_of, Among, IsPath}
+use Rattle.hashlink_table.specs.Chains.{contents, IsFilled, IsInPlace, IsLinked, IsSound}
 use Rattle.hashlink_table.specs.Stored.{bare_cell}
 use Rattle.hashlink_table.specs.Contents.{Contents}
-use Rattle.hashlink_table.specs.Chains.{contents, IsFilled, IsInPlace, IsLinked, IsSound}
 use Rattle.hashlink_table.proofs.Cells.{chain_at_within}
 use Rattle.hashlink_table.proofs.Chaining.{length-links, link_read}
 use Rattle.hashlink_table.proofs.Nodes.{nodes_in-full, nodes_in-bare, two_nodes}

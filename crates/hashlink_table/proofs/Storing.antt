@@ -1,9 +1,7 @@
 -- The slots: what is stored is what contracts see.
 use Rattle.std.proofs.Common.{◌≡◌, ℕ, zero, suc, ◌+◌, ◌-◌, ◌^◌, ◌<◌, ◌≤◌, ◌⊎◌, inl, inr, Bool, true, false}
-use Rattle.std.proofs.Common.{cond}
-use Rattle.std.proofs.Common.{◌++◌, eqb, List, [], ◌∷◌, length, map, take, drop, get_or, set, replicate}
-use Rattle.std.proofs.Common.{Option, Some}
-use Rattle.std.proofs.Common.{None, refl, sym, ap, ◌∙◌, subst, arith}
+use Rattle.std.proofs.Common.{cond, ◌++◌, eqb, List, [], ◌∷◌, length, map, take, drop, get_or, set, replicate}
+use Rattle.std.proofs.Common.{Option, Some, None, refl, sym, ap, ◌∙◌, subst, arith}
 use Rattle.std.specs.Prelude.{is_none, vec_len, IfSome, IsSome}
 use Rattle.std.proofs.lemmas.Bool.{ne_eqb, false≢true}
 use Rattle.std.proofs.lemmas.List.{get_or_read, get_or_default, set-get_or, take-map, drop-map, take_all}
@@ -16,8 +14,8 @@ use Rattle.hashlink_table.specs.declared.store.slots.Rest.{Rest}
 use Rattle.hashlink_table.specs.declared.store.slots.Slots.TheInside.{Inside}
 use Rattle.hashlink_table.specs.Chains.{kept_at, next_at}
 use Rattle.hashlink_table.specs.Stored.{bare_cell, tag_of}
-use Rattle.hashlink_table.specs.Slots.{slot, cells_in, may_be, with_kept, with_next, without_kept}
-use Rattle.hashlink_table.specs.Slots.{IsStored, IsTagged}
+use Rattle.hashlink_table.specs.Slots.{slot, cells_in, may_be, with_kept, with_next, without_kept, IsStored}
+use Rattle.hashlink_table.specs.Slots.{IsTagged}
 
 -- what a bare cell stores beside its node
 abbrev pub bare : Rest

@@ -1,7 +1,6 @@
 -- All chains at once: a cell leaves its chain, and joins another.
 use Rattle.std.proofs.Common.{◌≡◌, ◌≢◌, ℕ, ◌<◌, inl, inr, List, ◌∷◌, length, get_or, set, refl, sym, ap, ◌∙◌}
-use Rattle.std.proofs.Common.{subst}
-use Rattle.std.proofs.Common.{arith}
+use Rattle.std.proofs.Common.{subst, arith}
 use Rattle.std.proofs.lemmas.Bool.{cases_eq}
 use Rattle.std.proofs.lemmas.List.{get_or-set_same, get_or-set_other, length-set}
 use Rattle.hashlink_table.specs.declared.store.cell.TheConstants.{END}

@@ -1,8 +1,7 @@
 -- What a contract sees of the cells: which nodes there are, and how many agree with a hash.
 use Rattle.std.proofs.Common.{◌≡◌, ℕ, zero, suc, ◌+◌, ◌-◌, ◌%◌, ◌<◌, ◌≤◌, inl, inr, Bool, true, false, cond}
 use Rattle.std.proofs.Common.{eqb, List, [], ◌∷◌, ◌++◌, length, get_or, take, drop, Option, Some, None}
-use Rattle.std.proofs.Common.{count_by}
-use Rattle.std.proofs.Common.{refl, sym, ap, ◌∙◌, subst, arith}
+use Rattle.std.proofs.Common.{count_by, refl, sym, ap, ◌∙◌, subst, arith}
 use Rattle.std.specs.Prelude.{Contains}
 use Rattle.std.specs.Int.{IsPowerOfTwo}
 use Rattle.std.proofs.Math.Nat.{mod-mod_of_dvd}
@@ -19,8 +18,8 @@ use Rattle.hashlink_table.specs.declared.store.spot.Spot.{Spot}
 use Rattle.hashlink_table.specs.declared.store.spot.Spot.TheVariants.{Slot, Overflow}
 use Rattle.hashlink_table.specs.declared.store.table.Table.TheInside.{Inside}
 use Rattle.hashlink_table.specs.Contents.{Contents, agreeing, AcceptsOnly, AreBuckets, CanAsk, Keeps}
-use Rattle.hashlink_table.specs.Chains.{kept_at, kept_by, chain_of, with_node, nodes_in, contents}
-use Rattle.hashlink_table.specs.Chains.{AreGrouped, IsInPlace}
+use Rattle.hashlink_table.specs.Chains.{kept_at, kept_by, chain_of, with_node, nodes_in, contents, AreGrouped}
+use Rattle.hashlink_table.specs.Chains.{IsInPlace}
 use Rattle.hashlink_table.specs.Slots.{kept_may_be, lanes_of, may_be}
 use Rattle.hashlink_table.specs.Stored.{bare_cell, tag_of}
 use Rattle.hashlink_table.proofs.Groups.{group_within, grouped_in}

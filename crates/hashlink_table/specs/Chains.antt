@@ -1,8 +1,6 @@
 -- How a `Table` chains its cells. No public clause cites this module.
 use Rattle.std.specs.Prelude.{◌≡◌, ◌≢◌, ℕ, suc, ◌+◌, ◌-◌, ◌*◌, ◌/◌, ◌%◌, ◌^◌, ◌<◌, ◌≤◌, ◌⊎◌, List, [], ◌∷◌}
-use Rattle.std.specs.Prelude.{◌++◌, map}
-use Rattle.std.specs.Prelude.{length, max}
-use Rattle.std.specs.Prelude.{Option, Some, None, IsSome, slice_index_or, slice_set}
+use Rattle.std.specs.Prelude.{◌++◌, map, length, max, Option, Some, None, IsSome, slice_index_or, slice_set}
 use Rattle.std.specs.Int.{IsPowerOfTwo}
 use Rattle.hashlink_table.specs.Contents.{Contents}
 use Rattle.hashlink_table.specs.Stored.{bare_cell}

@@ -1,7 +1,6 @@
 -- The slots, as they are stored and as contracts see them.
 use Rattle.std.specs.Prelude.{◌≡◌, ℕ, ◌+◌, ◌*◌, ◌%◌, ◌≤◌, ◌==◌, ◌⊎◌, Bool, false, cond, ltb, List, [], ◌∷◌}
-use Rattle.std.specs.Prelude.{◌++◌}
-use Rattle.std.specs.Prelude.{slice_index_or, slice_set, length, map, Option, None, Some}
+use Rattle.std.specs.Prelude.{◌++◌, slice_index_or, slice_set, length, map, Option, None, Some}
 use Rattle.std.specs.Simd.Lanes.{chunk}
 use Rattle.hashlink_table.specs.declared.hashed.Hashed.{Hashed}
 use Rattle.hashlink_table.specs.declared.store.cell.Cell.{Cell}

@@ -1,13 +1,11 @@
 -- What may answer a text, worked out line by line.
 use Rattle.std.proofs.Common.{◌≡◌, ℕ, ◌+◌, ◌≤◌, ◌++◌, ◌⊎◌, List, [], ◌∷◌, Option, None, Some, Result, Ok, Err}
-use Rattle.std.proofs.Common.{codes, decimal, arith}
-use Rattle.std.proofs.Common.{nat_eq, refl, ap, ◌∙◌, inl, inr, ⊎_elim, lit≤}
+use Rattle.std.proofs.Common.{codes, decimal, arith, nat_eq, refl, ap, ◌∙◌, inl, inr, ⊎_elim, lit≤}
 use Rattle.std.specs.Fmt.{digits}
 use Rattle.std.specs.Map.{lookup_entry}
 use Rattle.hashlink_model.specs.MapState.{MapState, map_state, empty_map, StoresAtMost, Inserts, Adds}
-use Rattle.hashlink_model.specs.MapState.{Changes}
+use Rattle.hashlink_model.specs.MapState.{Changes, Removes, RoomFor}
 use Rattle.std.specs.Int.{IsPowerOfTwo}
-use Rattle.hashlink_model.specs.MapState.{Removes, RoomFor}
 use Rattle.hashlink_core.specs.declared.hash_builder.DefaultHashBuilder.{DefaultHashBuilder}
 use Rattle.hashlink_core.specs.Hashing.{default_builder}
 use Rattle.hashlink_run.specs.declared.commands.Command.{Command}
@@ -21,8 +19,7 @@ use Rattle.hashlink_run.specs.Keeps.{IsEven}
 use Rattle.hashlink_run.specs.Step.{Step}
 use Rattle.hashlink_text.specs.Text.{IsTranscript}
 use Rattle.hashlink_text.specs.Transcript.{Shows, LineShows, ShowsAll, Itself, ended, shown_by, list_shown}
-use Rattle.hashlink_text.specs.Transcript.{reply_shown}
-use Rattle.hashlink_text.specs.Transcript.{replies_shown}
+use Rattle.hashlink_text.specs.Transcript.{reply_shown, replies_shown}
 use Rattle.hashlink_text.proofs.ReadSo.{runs_mode, runs_read, shows_line, shows_read}
 
 -- the lines that show what is read of the entries by `get 1` and `iter`

@@ -1,7 +1,7 @@
 -- What is read from the front of a text is the first of its parts, words or lines.
 use Rattle.std.proofs.Common.{◌≡◌, ℕ, ◌+◌, ◌<◌, ◌≤◌, Bool, true, false, nat_eq, nat_lt, List, [], ◌∷◌, length}
-use Rattle.std.proofs.Common.{take}
-use Rattle.std.proofs.Common.{drop, Option, None, Some, unwrap_or, refl, sym, ap, ◌∙◌, ⊎_elim, arith, Bor}
+use Rattle.std.proofs.Common.{take, drop, Option, None, Some, unwrap_or, refl, sym, ap, ◌∙◌, ⊎_elim, arith}
+use Rattle.std.proofs.Common.{Bor}
 use Rattle.std.specs.List.{slice_split, onto_first, position, position_or_len, join_with_byte}
 use Rattle.std.proofs.lemmas.Bool.{cases_Bool, ltb-true, ltb-false}
 use Rattle.std.proofs.lemmas.Option.{cond_some}

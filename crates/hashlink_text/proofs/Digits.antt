@@ -1,8 +1,6 @@
 -- The value of digits that are read from the front.
 use Rattle.std.proofs.Common.{◌≡◌, ℕ, ◌+◌, ◌-◌, ◌*◌, ◌^◌, ◌<◌, ◌≤◌, true, false, List, length, take, get_or}
-use Rattle.std.proofs.Common.{None}
-use Rattle.std.proofs.Common.{Some}
-use Rattle.std.proofs.Common.{refl, ⊎_elim, arith, lit<, lit≤}
+use Rattle.std.proofs.Common.{None, Some, refl, ⊎_elim, arith, lit<, lit≤}
 use Rattle.std.specs.Int.{IsInRange}
 use Rattle.std.specs.Str.{all_ascii_digits}
 use Rattle.std.specs.Str.Parse.{digits_value, AllDigits}

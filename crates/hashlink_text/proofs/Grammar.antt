@@ -1,7 +1,7 @@
 -- What a text says is what is read of it: a line is read as the one whose spelling it is.
-use Rattle.std.proofs.Common.{◌≡◌, ℕ, ◌^◌, ◌<◌, ◌⊎◌, Bool, true, false, ◌&&◌, cond, not, nat_eq, nat_lt}
-use Rattle.std.proofs.Common.{List, [], ◌∷◌, length, get_or, zero, suc, Option, None, Some, option_and_then}
-use Rattle.std.proofs.Common.{map, decimal, refl, sym, ap, ◌∙◌, subst, inl, inr, ⊎_elim, arith, lit<}
+use Rattle.std.proofs.Common.{◌≡◌, ℕ, ◌^◌, ◌<◌, ◌⊎◌, Bool, true, false, ◌&&◌, cond, not, nat_eq, nat_lt, List}
+use Rattle.std.proofs.Common.{[], ◌∷◌, length, get_or, zero, suc, Option, None, Some, option_and_then, map}
+use Rattle.std.proofs.Common.{decimal, refl, sym, ap, ◌∙◌, subst, inl, inr, ⊎_elim, arith, lit<}
 use Rattle.std.specs.Map.{lookup}
 use Rattle.std.specs.Option.{option_map}
 use Rattle.std.specs.List.{All, AllByRecursion, join_with_byte, list_all}

@@ -1,7 +1,6 @@
 -- A table of words that is read from its front.
 use Rattle.std.proofs.Common.{◌≡◌, ℕ, ◌+◌, ◌<◌, true, false, List, length, get_or, drop, cond, Option, Some}
-use Rattle.std.proofs.Common.{ap}
-use Rattle.std.proofs.Common.{◌∙◌, Bor, add-one, drop-cons, suc, sym}
+use Rattle.std.proofs.Common.{ap, ◌∙◌, Bor, add-one, drop-cons, suc, sym}
 use Rattle.std.specs.Map.{lookup}
 use Rattle.std.specs.Str.{bytes_eq}
 use Rattle.hashlink_text.specs.Cuts.{words_shown}

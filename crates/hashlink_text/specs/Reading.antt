@@ -1,16 +1,15 @@
 -- How a line is read: of all that is said with so many numbers, the one that its first word names. Only the
 -- functions below those that read a line say this; what a line says is in `Spelling`.
 use Rattle.std.specs.Prelude.{ℕ, zero, suc, ◌||◌, List, [], ◌∷◌, take, map, Option, None, Some}
-use Rattle.std.specs.Prelude.{option_and_then}
-use Rattle.std.specs.Prelude.{if◌then◌else◌, codes}
+use Rattle.std.specs.Prelude.{option_and_then, if◌then◌else◌, codes}
 use Rattle.std.specs.Map.{lookup}
 use Rattle.std.specs.Option.{option_map}
 use Rattle.std.specs.Str.{bytes_eq}
 use Rattle.hashlink_run.specs.declared.commands.Command.TheVariants.{Entry}
 use Rattle.hashlink_run.specs.declared.commands.CursorStep.{CursorStep}
 use Rattle.hashlink_text.specs.Lines.{number_of}
-use Rattle.hashlink_text.specs.Spelling.{Word, Name, Number, Said, Do, Cursor, spelled, commands, step_spelled}
-use Rattle.hashlink_text.specs.Spelling.{entry_steps, cursor_step_words, cursor_steps}
+use Rattle.hashlink_text.specs.Spelling.{Word, Name, Number, Said, Do, Cursor, spelled, commands}
+use Rattle.hashlink_text.specs.Spelling.{step_spelled, entry_steps, cursor_step_words, cursor_steps}
 use Rattle.hashlink_text.specs.Tables.{numbers_of}
 
 -- the name that the words begin with

@@ -10,18 +10,13 @@ use Rattle.hashlink_run.specs.declared.cache_commands.PairCommand.TheVariants as
 use Rattle.hashlink_run.specs.declared.cache_commands.WeightedCommand.TheVariants as weighted
 use Rattle.hashlink_run.specs.declared.commands.Command.{Command}
 use Rattle.hashlink_run.specs.declared.commands.Command.TheVariants.{Insert, InsertFront, Replace, Get}
-use Rattle.hashlink_run.specs.declared.commands.Command.TheVariants.{Remove}
-use Rattle.hashlink_run.specs.declared.commands.Command.TheVariants.{RemoveEntry, PopFront, PopBack}
-use Rattle.hashlink_run.specs.declared.commands.Command.TheVariants.{ToFront}
-use Rattle.hashlink_run.specs.declared.commands.Command.TheVariants.{ToBack}
-use Rattle.hashlink_run.specs.declared.commands.Command.TheVariants.{Front, Back, Len, Clear, Shrink}
-use Rattle.hashlink_run.specs.declared.commands.Command.TheVariants.{Keep}
-use Rattle.hashlink_run.specs.declared.commands.Command.TheVariants.{Entry}
+use Rattle.hashlink_run.specs.declared.commands.Command.TheVariants.{Remove, RemoveEntry, PopFront, PopBack}
+use Rattle.hashlink_run.specs.declared.commands.Command.TheVariants.{ToFront, ToBack, Front, Back, Len, Clear}
+use Rattle.hashlink_run.specs.declared.commands.Command.TheVariants.{Shrink, Keep, Entry}
 use Rattle.hashlink_run.specs.declared.commands.Command.TheVariants as command
 use Rattle.hashlink_run.specs.declared.commands.CursorStep.{CursorStep}
 use Rattle.hashlink_run.specs.declared.commands.CursorStep.TheVariants.{Next, Prev, Current, PeekNext}
-use Rattle.hashlink_run.specs.declared.commands.CursorStep.TheVariants.{PeekPrev}
-use Rattle.hashlink_run.specs.declared.commands.CursorStep.TheVariants.{Before, After}
+use Rattle.hashlink_run.specs.declared.commands.CursorStep.TheVariants.{PeekPrev, Before, After}
 use Rattle.hashlink_run.specs.declared.commands.EntryStep.{EntryStep}
 use Rattle.hashlink_run.specs.declared.commands.EntryStep.TheVariants as step
 use Rattle.hashlink_text.specs.declared.cache_line.CacheLine.{CacheLine}

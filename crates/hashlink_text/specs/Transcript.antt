@@ -10,8 +10,8 @@ use Rattle.hashlink_model.specs.MapState.{MapState}
 use Rattle.hashlink_text.specs.Spelling.{Said, Do, Cursor, Iter, Says, spelled}
 use Rattle.hashlink_run.specs.declared.replies.Reply.{Reply}
 use Rattle.hashlink_run.specs.declared.replies.Reply.TheVariants.{Done, Denied, Value, Pair, Key, Seen}
-use Rattle.hashlink_run.specs.declared.replies.Reply.TheVariants.{Inserted, AtPlace}
-use Rattle.hashlink_run.specs.declared.replies.Reply.TheVariants.{Length, Refused, TooHeavy}
+use Rattle.hashlink_run.specs.declared.replies.Reply.TheVariants.{Inserted, AtPlace, Length, Refused}
+use Rattle.hashlink_run.specs.declared.replies.Reply.TheVariants.{TooHeavy}
 use Rattle.hashlink_run.specs.CursorSteps.{CursorSteps}
 use Rattle.hashlink_run.specs.Keeps.{IsEven}
 use Rattle.hashlink_run.specs.Step.{Step}

@@ -1,9 +1,8 @@
 use Rattle.hashlink_model.proofs.Caches.{cache_use-at_most}
 use Rattle.hashlink_model.proofs.CacheBounds.{within-inserts, within-gets, within-gets_and_writes}
-use Rattle.hashlink_model.proofs.CacheBounds.{within-removes}
-use Rattle.hashlink_model.proofs.CacheBounds.{within-pops_front, within-pops_back, within-changes}
-use Rattle.hashlink_model.proofs.CacheBounds.{within-keeps}
-use Rattle.hashlink_model.proofs.CacheBounds.{within-clears, within-sets, within-inserted}
+use Rattle.hashlink_model.proofs.CacheBounds.{within-removes, within-pops_front, within-pops_back}
+use Rattle.hashlink_model.proofs.CacheBounds.{within-changes, within-keeps, within-clears, within-sets}
+use Rattle.hashlink_model.proofs.CacheBounds.{within-inserted}
 use Rattle.hashlink_model.proofs.cache.a_bound_beyond_the_capacity_is_kept.Goals as goal
 
 pub returns : goal.returns

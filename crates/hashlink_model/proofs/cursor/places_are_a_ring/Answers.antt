@@ -1,6 +1,5 @@
 use Rattle.hashlink_model.proofs.Cursors.{following_place-within, following_place-guard}
-use Rattle.hashlink_model.proofs.Cursors.{preceding_place-within}
-use Rattle.hashlink_model.proofs.Cursors.{preceding_place-first}
+use Rattle.hashlink_model.proofs.Cursors.{preceding_place-within, preceding_place-first}
 use Rattle.hashlink_model.proofs.cursor.places_are_a_ring.Goals as goal
 
 pub returns : goal.returns

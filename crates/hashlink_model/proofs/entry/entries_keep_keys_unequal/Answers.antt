@@ -1,6 +1,6 @@
 use Rattle.hashlink_model.proofs.Occupied.{IsEntries-insert_entry, IsEntries-replace_entry}
-use Rattle.hashlink_model.proofs.Occupied.{IsEntries-insert_value}
-use Rattle.hashlink_model.proofs.Occupied.{IsEntries-set_key_at, IsEntries-set_value_at, IsEntries-or_insert}
+use Rattle.hashlink_model.proofs.Occupied.{IsEntries-insert_value, IsEntries-set_key_at}
+use Rattle.hashlink_model.proofs.Occupied.{IsEntries-set_value_at, IsEntries-or_insert}
 use Rattle.hashlink_model.proofs.entry.entries_keep_keys_unequal.Goals as goal
 
 pub returns : goal.returns

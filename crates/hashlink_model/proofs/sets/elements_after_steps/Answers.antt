@@ -1,6 +1,6 @@
 use Rattle.hashlink_model.proofs.SetElements.{inserts_elements, inserts_member, inserts_refused}
-use Rattle.hashlink_model.proofs.SetElements.{removes_elements}
-use Rattle.hashlink_model.proofs.SetElements.{moves_elements, pops_front_elements, pops_back_elements}
+use Rattle.hashlink_model.proofs.SetElements.{removes_elements, moves_elements, pops_front_elements}
+use Rattle.hashlink_model.proofs.SetElements.{pops_back_elements}
 use Rattle.hashlink_model.proofs.sets.elements_after_steps.Goals as goal
 
 pub returns : goal.returns

@@ -1,6 +1,5 @@
 use Rattle.hashlink_model.proofs.NodeCounts.{node_count-adds, node_count-puts, node_count-removes}
-use Rattle.hashlink_model.proofs.NodeCounts.{node_count-keeps}
-use Rattle.hashlink_model.proofs.NodeCounts.{node_count-shrinks}
+use Rattle.hashlink_model.proofs.NodeCounts.{node_count-keeps, node_count-shrinks}
 use Rattle.hashlink_model.proofs.states.nodes_after_steps.Goals as goal
 
 pub returns : goal.returns

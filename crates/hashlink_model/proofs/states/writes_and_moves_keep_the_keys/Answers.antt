@@ -1,6 +1,5 @@
 use Rattle.hashlink_model.proofs.NodeCounts.{writes_keys, writes_nodes, writes_value, writes_others}
-use Rattle.hashlink_model.proofs.NodeCounts.{moves_lookup}
-use Rattle.hashlink_model.proofs.NodeCounts.{moves_keys, moves_length, moves_nodes}
+use Rattle.hashlink_model.proofs.NodeCounts.{moves_lookup, moves_keys, moves_length, moves_nodes}
 use Rattle.hashlink_model.proofs.states.writes_and_moves_keep_the_keys.Goals as goal
 
 pub returns : goal.returns

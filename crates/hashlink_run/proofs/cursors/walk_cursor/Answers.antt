@@ -1,5 +1,5 @@
-use Rattle.std.proofs.Common.{[], ◌∷◌, ◌++◌, length, refl, sym, ap, ◌∙◌, append-nil}
-use Rattle.std.proofs.Common.{append_assoc, arith, rules, inl, inr}
+use Rattle.std.proofs.Common.{[], ◌∷◌, ◌++◌, length, refl, sym, ap, ◌∙◌, append-nil, append_assoc, arith}
+use Rattle.std.proofs.Common.{rules, inl, inr}
 use Rattle.std.specs.Vec.Iter.{into_iter_items}
 use Rattle.hashlink_core.specs.Keyed.{state_of}
 use Rattle.hashlink_map.specs.Cursor.{cursor_state}

@@ -1,5 +1,4 @@
-use Rattle.std.proofs.Common.{◌≡◌, ◌<◌, ◌%◌, length, get_or, false, sym, ap, ◌∙◌, IsSome, Some, subst}
-use Rattle.std.proofs.Common.{arith}
+use Rattle.std.proofs.Common.{◌≡◌, ◌<◌, ◌%◌, length, get_or, false, sym, ap, ◌∙◌, IsSome, Some, subst, arith}
 use Rattle.std.proofs.lemmas.Option.{same_Some}
 use Rattle.std.specs.Int.{IsPowerOfTwo}
 use Rattle.hashlink_table.specs.declared.hashed.Hashed.{Hashed}

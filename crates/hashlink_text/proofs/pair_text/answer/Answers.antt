@@ -1,5 +1,4 @@
-use Rattle.std.proofs.Common.{◌≡◌, ◌++◌, [], ◌∷◌, codes, decimal, nat_eq, refl, ap, ap₂, ◌∙◌}
-use Rattle.std.proofs.Common.{string_bytes}
+use Rattle.std.proofs.Common.{◌≡◌, ◌++◌, [], ◌∷◌, codes, decimal, nat_eq, refl, ap, ap₂, ◌∙◌, string_bytes}
 use Rattle.std.proofs.lemmas.Result.{on_ok_weaker}
 use Rattle.hashlink_history.specs.CacheRuns.{answer_to}
 use Rattle.hashlink_lru.specs.Cached.{entries_of, state_of}

@@ -3,8 +3,8 @@ use Rattle.std.specs.Map.Calls.{CalledAtPair, TakesPair}
 use Rattle.hashlink_nodes.specs.Ring.{IsPlace}
 use Rattle.hashlink_core.proofs.Places.{renewed-holds}
 use Rattle.hashlink_core.proofs.Retaining.{retaining-first, takes-pair, fewer-left, fewer-left_then}
-use Rattle.hashlink_core.proofs.Retaining.{sound-written}
-use Rattle.hashlink_core.proofs.Retaining.{retaining-kept, retaining-left, retained-all, called-at}
+use Rattle.hashlink_core.proofs.Retaining.{sound-written, retaining-kept, retaining-left, retained-all}
+use Rattle.hashlink_core.proofs.Retaining.{called-at}
 use Rattle.hashlink_core.proofs.keyed_list.KeyedList.retain_in_order.Goals as goal
 
 pub loop-place-init : goal.loop-place-init

@@ -1,19 +1,18 @@
 -- `fill` writes a pair and its number into the room of a block.
-use Rattle.hashlink_nodes.proofs.Walks.{◌≡◌, ℕ, ◌+◌, ◌∙◌, ◌^◌, ◌<◌, List, [], ◌∷◌, ◌++◌, refl, sym, ap}
-use Rattle.hashlink_nodes.proofs.Walks.{subst, Option, Some, None, IsSome, lookup, remove_entry, full_share}
-use Rattle.hashlink_nodes.proofs.Walks.{Ty, a_type, ty_int, w64, inst_fn, Val, vint, vptr, vunit, SProp}
-use Rattle.hashlink_nodes.proofs.Walks.{ent, emp, never, id⊢, ftrue, fat, froom, flft, fsep, WpFn, ‵, raw}
-use Rattle.hashlink_nodes.proofs.Walks.{◌⊛◌, at_ret, ◌$◌, ◌∵◌, !, qed, by, move, keep, drop, split, split3}
-use Rattle.hashlink_nodes.proofs.Walks.{group, fsplit, fsplit3, fjoin, fjoin3, rewrite, use0, use1, use2}
-use Rattle.hashlink_nodes.proofs.Walks.{suffices, feq_i, feq_l, stop, fld, of_opd, addr, store, init}
-use Rattle.hashlink_nodes.proofs.Walks.{assigns, assigns_last, first, blocks, exec, returns, enter}
-use Rattle.hashlink_nodes.proofs.Walks.{alloc_all, pass_all, free_all, look_at, get, get_in, through, sets}
-use Rattle.hashlink_nodes.proofs.Walks.{is, env, sub, whole, fact, fact_i, ◌⊑◌, tables, part_in, usize, no}
-use Rattle.hashlink_nodes.proofs.Walks.{yes, lone, part_at, uint_in, uint_out, RattleType, owns, Ptr}
-use Rattle.hashlink_nodes.proofs.Walks.{ptr_val, in_a_block, lies_at, types_at, plain, param, layouts}
-use Rattle.hashlink_nodes.proofs.Walks.{param_laws, nothing, heard, opens, closes, Stays, stay_dropped}
-use Rattle.hashlink_nodes.proofs.Walks.{stay_ref, walk_of, Goes-dropped, Goes-ref, after, word, word-Good}
-use Rattle.hashlink_nodes.proofs.Walks.{proved_at, leaves}
+use Rattle.hashlink_nodes.proofs.Walks.{◌≡◌, ℕ, ◌+◌, ◌∙◌, ◌^◌, ◌<◌, List, [], ◌∷◌, ◌++◌, refl, sym, ap, subst}
+use Rattle.hashlink_nodes.proofs.Walks.{Option, Some, None, IsSome, lookup, remove_entry, full_share, Ty}
+use Rattle.hashlink_nodes.proofs.Walks.{a_type, ty_int, w64, inst_fn, Val, vint, vptr, vunit, SProp, ent, emp}
+use Rattle.hashlink_nodes.proofs.Walks.{never, id⊢, ftrue, fat, froom, flft, fsep, WpFn, ‵, raw, ◌⊛◌, at_ret}
+use Rattle.hashlink_nodes.proofs.Walks.{◌$◌, ◌∵◌, !, qed, by, move, keep, drop, split, split3, group, fsplit}
+use Rattle.hashlink_nodes.proofs.Walks.{fsplit3, fjoin, fjoin3, rewrite, use0, use1, use2, suffices, feq_i}
+use Rattle.hashlink_nodes.proofs.Walks.{feq_l, stop, fld, of_opd, addr, store, init, assigns, assigns_last}
+use Rattle.hashlink_nodes.proofs.Walks.{first, blocks, exec, returns, enter, alloc_all, pass_all, free_all}
+use Rattle.hashlink_nodes.proofs.Walks.{look_at, get, get_in, through, sets, is, env, sub, whole, fact}
+use Rattle.hashlink_nodes.proofs.Walks.{fact_i, ◌⊑◌, tables, part_in, usize, no, yes, lone, part_at, uint_in}
+use Rattle.hashlink_nodes.proofs.Walks.{uint_out, RattleType, owns, Ptr, ptr_val, in_a_block, lies_at}
+use Rattle.hashlink_nodes.proofs.Walks.{types_at, plain, param, layouts, param_laws, nothing, heard, opens}
+use Rattle.hashlink_nodes.proofs.Walks.{closes, Stays, stay_dropped, stay_ref, walk_of, Goes-dropped}
+use Rattle.hashlink_nodes.proofs.Walks.{Goes-ref, after, word, word-Good, proved_at, leaves}
 use types.Kit.{flt_l}
 use types.Run.{unit_lit}
 use Rattle.hashlink_nodes.specs.Node.{same_node}

@@ -2,21 +2,20 @@
 use Rattle.hashlink_nodes.proofs.Walks.{◌≡◌, ℕ, ◌+◌, ◌∙◌, ◌^◌, List, [], ◌∷◌, ◌++◌, refl, sym, ap, subst}
 use Rattle.hashlink_nodes.proofs.Walks.{Option, None, IsSome, lookup, remove_entry, full_share, Ty, a_type}
 use Rattle.hashlink_nodes.proofs.Walks.{ty_int, w64, bare, inst_fn, Val, vint, vptr, SProp, ent, emp, never}
-use Rattle.hashlink_nodes.proofs.Walks.{id⊢, ftrue, fat, froom, flft, fsep, WpFn, ‵, raw, ◌⊛◌, some, ◌$◌}
-use Rattle.hashlink_nodes.proofs.Walks.{◌∵◌, !, qed, by, move, keep, drop, split, split3, group, fsplit}
-use Rattle.hashlink_nodes.proofs.Walks.{fsplit3, fjoin, fjoin3, pick, rewrite, use0, use1, suffices, feq_i}
-use Rattle.hashlink_nodes.proofs.Walks.{feq_l, stop, fld, of_opd, and_then, no_more, returns, enter}
-use Rattle.hashlink_nodes.proofs.Walks.{alloc_all, pass_all, free_all, look_at, get, get_in, sets, is, sub}
-use Rattle.hashlink_nodes.proofs.Walks.{whole, agg, fact, fact_i, ◌⊑◌, tables, part_out, usize, yes, lone}
-use Rattle.hashlink_nodes.proofs.Walks.{uint_out, RattleType, owns, Ptr, block_ptr, ptr_val, in_a_block}
-use Rattle.hashlink_nodes.proofs.Walks.{lies_at, types_at, plain, param, layouts, nothing, heard, opens}
-use Rattle.hashlink_nodes.proofs.Walks.{closes, Stays, stay_dropped, stay_ref, walk_of, Goes-dropped}
-use Rattle.hashlink_nodes.proofs.Walks.{Goes-ref, word, word-Good, proved_at, leaves, ghosts, handle_tells}
+use Rattle.hashlink_nodes.proofs.Walks.{id⊢, ftrue, fat, froom, flft, fsep, WpFn, ‵, raw, ◌⊛◌, some, ◌$◌, ◌∵◌}
+use Rattle.hashlink_nodes.proofs.Walks.{ !, qed, by, move, keep, drop, split, split3, group, fsplit, fsplit3}
+use Rattle.hashlink_nodes.proofs.Walks.{fjoin, fjoin3, pick, rewrite, use0, use1, suffices, feq_i, feq_l}
+use Rattle.hashlink_nodes.proofs.Walks.{stop, fld, of_opd, and_then, no_more, returns, enter, alloc_all}
+use Rattle.hashlink_nodes.proofs.Walks.{pass_all, free_all, look_at, get, get_in, sets, is, sub, whole, agg}
+use Rattle.hashlink_nodes.proofs.Walks.{fact, fact_i, ◌⊑◌, tables, part_out, usize, yes, lone, uint_out}
+use Rattle.hashlink_nodes.proofs.Walks.{RattleType, owns, Ptr, block_ptr, ptr_val, in_a_block, lies_at}
+use Rattle.hashlink_nodes.proofs.Walks.{types_at, plain, param, layouts, nothing, heard, opens, closes, Stays}
+use Rattle.hashlink_nodes.proofs.Walks.{stay_dropped, stay_ref, walk_of, Goes-dropped, Goes-ref, word}
+use Rattle.hashlink_nodes.proofs.Walks.{word-Good, proved_at, leaves, ghosts, handle_tells}
 use Rattle.hashlink_nodes.specs.Node.{same_node}
 use Rattle.hashlink_nodes.specs.Kept.{entry_in, number_word}
-use Rattle.hashlink_nodes.specs.Ownership.{Links, blocks_own, block_owns, pair_owns, pair_room}
-use Rattle.hashlink_nodes.specs.Ownership.{is_small, number_of, number_offset, links_of, links_offset}
-use Rattle.hashlink_nodes.specs.Ownership.{deed_owns}
+use Rattle.hashlink_nodes.specs.Ownership.{Links, blocks_own, block_owns, pair_owns, pair_room, is_small}
+use Rattle.hashlink_nodes.specs.Ownership.{number_of, number_offset, links_of, links_offset, deed_owns}
 use Rattle.hashlink_nodes.specs.Ownership.{free_right}
 use Rattle.hashlink_nodes.specs.declared.arena.Arena.{Arena}
 use Rattle.hashlink_nodes.specs.contracts.arena.Arena.{the_row}

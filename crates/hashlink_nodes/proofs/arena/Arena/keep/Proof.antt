@@ -1,32 +1,29 @@
 -- `keep` adds a block to those that the arena owns. It lies apart from them, since it is owned beside them.
 use Rattle.hashlink_nodes.proofs.Walks.{◌≡◌, ◌+◌, ◌^◌, List, [], ◌∷◌, ◌++◌, refl, sym, subst, Option, None}
-use Rattle.hashlink_nodes.proofs.Walks.{lookup, full_share, lit<, Ty, a_type, w64, inst_fn, Val, vptr}
-use Rattle.hashlink_nodes.proofs.Walks.{SProp, ent, emp, id⊢, ftrue, froom, flft, WpFn, ‵, raw, ◌⊛◌, at_ret}
-use Rattle.hashlink_nodes.proofs.Walks.{◌$◌, ◌∵◌, !, qed, by, move, keep, drop, split, split3, join, group}
-use Rattle.hashlink_nodes.proofs.Walks.{fsplit, fsplit3, fjoin, fjoin3, use0, use1, use2, suffices, feq_i}
-use Rattle.hashlink_nodes.proofs.Walks.{feq_l, stop, fld, of_opd, addr, init, assigns, assigns_last, first}
-use Rattle.hashlink_nodes.proofs.Walks.{blocks, exec, and_then, no_more, returns, enter, alloc_all}
-use Rattle.hashlink_nodes.proofs.Walks.{pass_all, free_all, look_at, get, get_in, through, sets, env, sub}
-use Rattle.hashlink_nodes.proofs.Walks.{whole, agg, fact, fact_i, tables, part_in, usize, no, yes, lone}
-use Rattle.hashlink_nodes.proofs.Walks.{part_at, uint_in, RattleType, owns, block_ptr, types_at, plain}
-use Rattle.hashlink_nodes.proofs.Walks.{param, layouts, nothing, opens, closes, Stays, stay_dropped}
-use Rattle.hashlink_nodes.proofs.Walks.{stay_ref, walk_of, Goes-dropped, Goes-ref, Goes-blank, after, word}
-use Rattle.hashlink_nodes.proofs.Walks.{word-Good, proved_at, leaves, ghosts}
+use Rattle.hashlink_nodes.proofs.Walks.{lookup, full_share, lit<, Ty, a_type, w64, inst_fn, Val, vptr, SProp}
+use Rattle.hashlink_nodes.proofs.Walks.{ent, emp, id⊢, ftrue, froom, flft, WpFn, ‵, raw, ◌⊛◌, at_ret, ◌$◌}
+use Rattle.hashlink_nodes.proofs.Walks.{◌∵◌, !, qed, by, move, keep, drop, split, split3, join, group, fsplit}
+use Rattle.hashlink_nodes.proofs.Walks.{fsplit3, fjoin, fjoin3, use0, use1, use2, suffices, feq_i, feq_l}
+use Rattle.hashlink_nodes.proofs.Walks.{stop, fld, of_opd, addr, init, assigns, assigns_last, first, blocks}
+use Rattle.hashlink_nodes.proofs.Walks.{exec, and_then, no_more, returns, enter, alloc_all, pass_all}
+use Rattle.hashlink_nodes.proofs.Walks.{free_all, look_at, get, get_in, through, sets, env, sub, whole, agg}
+use Rattle.hashlink_nodes.proofs.Walks.{fact, fact_i, tables, part_in, usize, no, yes, lone, part_at, uint_in}
+use Rattle.hashlink_nodes.proofs.Walks.{RattleType, owns, block_ptr, types_at, plain, param, layouts, nothing}
+use Rattle.hashlink_nodes.proofs.Walks.{opens, closes, Stays, stay_dropped, stay_ref, walk_of, Goes-dropped}
+use Rattle.hashlink_nodes.proofs.Walks.{Goes-ref, Goes-blank, after, word, word-Good, proved_at, leaves}
+use Rattle.hashlink_nodes.proofs.Walks.{ghosts}
 use Rattle.hashlink_nodes.specs.Node.{same_node}
 use Rattle.hashlink_nodes.specs.Kept.{Kept, kept}
-use Rattle.hashlink_nodes.specs.Ownership.{Links}
-use Rattle.hashlink_nodes.specs.Ownership.{number_offset, links_offset}
+use Rattle.hashlink_nodes.specs.Ownership.{Links, number_offset, links_offset}
 use Rattle.hashlink_nodes.specs.declared.arena.Arena.{Arena}
 use Rattle.hashlink_nodes.specs.contracts.arena.Arena.{the_row}
-use Rattle.hashlink_nodes.proofs.ArenaSteps.{told, no_entry}
-use Rattle.hashlink_nodes.proofs.ArenaBlocks.{small_shown}
+use Rattle.hashlink_nodes.proofs.ArenaSteps.{told, no_entry, word_made}
+use Rattle.hashlink_nodes.proofs.ArenaBlocks.{small_shown, apart_from, knows}
 use Rattle.std.proofs.Common.{IsNone}
 use Rattle.std.specs.contracts.alloc.Global as heap
 use Rattle.std.proofs.alloc.Global.TheLaws as heap_laws
 use Rattle.hashlink_nodes.specs.declared.node.Node.{Node}
-use Rattle.hashlink_nodes.proofs.ArenaSteps.{word_made}
 use Rattle.hashlink_nodes.proofs.ArenaSharing.{LL}
-use Rattle.hashlink_nodes.proofs.ArenaBlocks.{apart_from, knows}
 use Rattle.hashlink_nodes.proofs.LooseSteps.{both, Lo, loose_good, loose_out}
 use Rattle.hashlink_nodes.specs.contracts.arena.Arena.keep.{ended, clauses}
 use Rattle.hashlink_nodes.specs.contracts.arena.Arena.keep.Key.{name as #self}

@@ -1,15 +1,15 @@
 -- `links` shows what the arena lends of the links of one block.
 use Rattle.hashlink_nodes.proofs.Walks.{◌≡◌, ◌+◌, List, [], ◌∷◌, ◌++◌, refl, sym, ap, subst, Some, IsSome}
-use Rattle.hashlink_nodes.proofs.Walks.{Bor, lookup, a_type, inst_fn, Val, vptr, SProp, ent, emp, id⊢}
-use Rattle.hashlink_nodes.proofs.Walks.{ftrue, flft, WpFn, ‵, raw, ◌⊛◌, at_ret, ◌$◌, ◌∵◌, !, qed, by, move}
-use Rattle.hashlink_nodes.proofs.Walks.{keep, drop, split, fsplit, fsplit3, fjoin, use0, use1, suffices}
-use Rattle.hashlink_nodes.proofs.Walks.{feq_i, feq_l, done, stop, fld, of_opd, addr, first, blocks, exec}
-use Rattle.hashlink_nodes.proofs.Walks.{returns, enter, alloc_all, pass_all, free_all, look_at, get, get_in}
-use Rattle.hashlink_nodes.proofs.Walks.{through, sets, sets_last, is, env, sub, whole, fact, fact_i, ◌⊑◌}
-use Rattle.hashlink_nodes.proofs.Walks.{tables, RefOf, yes, hide, unhide, RattleType, owns, null_ptr}
-use Rattle.hashlink_nodes.proofs.Walks.{ptr_val, in_a_block, types_at, plain, param, layouts, nothing}
-use Rattle.hashlink_nodes.proofs.Walks.{heard, lent_at, Stays, stay_dropped, walk_of, Goes-dropped, after}
-use Rattle.hashlink_nodes.proofs.Walks.{word, word-Good, proved_at, leaves, option_map}
+use Rattle.hashlink_nodes.proofs.Walks.{Bor, lookup, a_type, inst_fn, Val, vptr, SProp, ent, emp, id⊢, ftrue}
+use Rattle.hashlink_nodes.proofs.Walks.{flft, WpFn, ‵, raw, ◌⊛◌, at_ret, ◌$◌, ◌∵◌, !, qed, by, move, keep}
+use Rattle.hashlink_nodes.proofs.Walks.{drop, split, fsplit, fsplit3, fjoin, use0, use1, suffices, feq_i}
+use Rattle.hashlink_nodes.proofs.Walks.{feq_l, done, stop, fld, of_opd, addr, first, blocks, exec, returns}
+use Rattle.hashlink_nodes.proofs.Walks.{enter, alloc_all, pass_all, free_all, look_at, get, get_in, through}
+use Rattle.hashlink_nodes.proofs.Walks.{sets, sets_last, is, env, sub, whole, fact, fact_i, ◌⊑◌, tables}
+use Rattle.hashlink_nodes.proofs.Walks.{RefOf, yes, hide, unhide, RattleType, owns, null_ptr, ptr_val}
+use Rattle.hashlink_nodes.proofs.Walks.{in_a_block, types_at, plain, param, layouts, nothing, heard, lent_at}
+use Rattle.hashlink_nodes.proofs.Walks.{Stays, stay_dropped, walk_of, Goes-dropped, after, word, word-Good}
+use Rattle.hashlink_nodes.proofs.Walks.{proved_at, leaves, option_map}
 use Rattle.hashlink_nodes.specs.Kept.{Kept}
 use Rattle.hashlink_nodes.specs.declared.pool.links.Links.{Links as LinksOf}
 use Rattle.hashlink_nodes.specs.Ownership.{Links, block_lent, links_of, links_offset}

@@ -1,20 +1,19 @@
 -- `links_mut` lends the links of one block, and the arena follows them.
 use denote.Memory.{part_of}
-use Rattle.hashlink_nodes.proofs.Walks.{◌≡◌, ℕ, ◌+◌, List, [], ◌∷◌, ◌++◌, refl, sym, ap, subst, Some}
-use Rattle.hashlink_nodes.proofs.Walks.{IsSome, MutBor, lookup, remove_entry, Ura, full_share, a_type}
-use Rattle.hashlink_nodes.proofs.Walks.{named, inst_fn, Val, vptr, SProp, ent, sep, emp, never, id⊢, Fml}
-use Rattle.hashlink_nodes.proofs.Walks.{GName, ftrue, flft, fsep, WpFn, Logic, sem, ‵, raw, ◌⊛◌, some}
-use Rattle.hashlink_nodes.proofs.Walks.{later, at_ret, ◌$◌, ◌∵◌, !, qed, by, move, keep, drop, split}
-use Rattle.hashlink_nodes.proofs.Walks.{split3, join, group, fsplit, fsplit3, fjoin, fjoin3, fpack, pick}
-use Rattle.hashlink_nodes.proofs.Walks.{await, rewrite, use0, use1, use2, suffices, feq_l, done, stop, fld}
-use Rattle.hashlink_nodes.proofs.Walks.{of_opd, addr, first, blocks, exec, returns, enter, alloc_all}
-use Rattle.hashlink_nodes.proofs.Walks.{pass_all, free_all, look_at, get, get_in, through, sets, sets_last}
-use Rattle.hashlink_nodes.proofs.Walks.{is, env, sub, whole, fact, fact_i, ◌⊑◌, tables, no, yes, follows}
-use Rattle.hashlink_nodes.proofs.Walks.{Part, lends_Part, mem, cell_at, part_at, RattleType, owns}
-use Rattle.hashlink_nodes.proofs.Walks.{Ptr, block_ptr, ptr_val, in_a_block, lies_at, MutRef, types_at}
-use Rattle.hashlink_nodes.proofs.Walks.{plain, mut_ref_to, param, layouts, nothing, heard, opens, Stays}
-use Rattle.hashlink_nodes.proofs.Walks.{stay_dropped, walk_of, Goes-dropped, Goes-spent_ref, after, word}
-use Rattle.hashlink_nodes.proofs.Walks.{word-Good, proved_at, leaves, option_map, usize}
+use Rattle.hashlink_nodes.proofs.Walks.{◌≡◌, ℕ, ◌+◌, List, [], ◌∷◌, ◌++◌, refl, sym, ap, subst, Some, IsSome}
+use Rattle.hashlink_nodes.proofs.Walks.{MutBor, lookup, remove_entry, Ura, full_share, a_type, named, inst_fn}
+use Rattle.hashlink_nodes.proofs.Walks.{Val, vptr, SProp, ent, sep, emp, never, id⊢, Fml, GName, ftrue, flft}
+use Rattle.hashlink_nodes.proofs.Walks.{fsep, WpFn, Logic, sem, ‵, raw, ◌⊛◌, some, later, at_ret, ◌$◌, ◌∵◌, ! }
+use Rattle.hashlink_nodes.proofs.Walks.{qed, by, move, keep, drop, split, split3, join, group, fsplit}
+use Rattle.hashlink_nodes.proofs.Walks.{fsplit3, fjoin, fjoin3, fpack, pick, await, rewrite, use0, use1, use2}
+use Rattle.hashlink_nodes.proofs.Walks.{suffices, feq_l, done, stop, fld, of_opd, addr, first, blocks, exec}
+use Rattle.hashlink_nodes.proofs.Walks.{returns, enter, alloc_all, pass_all, free_all, look_at, get, get_in}
+use Rattle.hashlink_nodes.proofs.Walks.{through, sets, sets_last, is, env, sub, whole, fact, fact_i, ◌⊑◌}
+use Rattle.hashlink_nodes.proofs.Walks.{tables, no, yes, follows, Part, lends_Part, mem, cell_at, part_at}
+use Rattle.hashlink_nodes.proofs.Walks.{RattleType, owns, Ptr, block_ptr, ptr_val, in_a_block, lies_at}
+use Rattle.hashlink_nodes.proofs.Walks.{MutRef, types_at, plain, mut_ref_to, param, layouts, nothing, heard}
+use Rattle.hashlink_nodes.proofs.Walks.{opens, Stays, stay_dropped, walk_of, Goes-dropped, Goes-spent_ref}
+use Rattle.hashlink_nodes.proofs.Walks.{after, word, word-Good, proved_at, leaves, option_map, usize}
 use Rattle.hashlink_nodes.specs.Ownership.{blocks_own, block_owns, pair_owns, is_small, deed_owns, free_right}
 use Rattle.hashlink_nodes.specs.Ownership.{number_of, links_of, links_offset, Links}
 use Rattle.hashlink_nodes.specs.Node.{same_node}

@@ -2,15 +2,14 @@
 use Rattle.hashlink_nodes.proofs.Walks.{◌≡◌, ℕ, ◌+◌, ◌^◌, ◌<◌, List, [], ◌∷◌, ◌++◌, refl, sym, ap, subst}
 use Rattle.hashlink_nodes.proofs.Walks.{Some, IsSome, Bor, lookup, a_type, inst_fn, Val, vptr, SProp, ent}
 use Rattle.hashlink_nodes.proofs.Walks.{emp, id⊢, ftrue, flft, WpFn, ‵, raw, ◌⊛◌, at_ret, ◌$◌, ◌∵◌, !, qed}
-use Rattle.hashlink_nodes.proofs.Walks.{by, move, keep, drop, split, fsplit, fsplit3, fjoin, join, use0}
-use Rattle.hashlink_nodes.proofs.Walks.{use1, suffices, feq_i, feq_l, done, stop, fld, of_opd, addr, first}
-use Rattle.hashlink_nodes.proofs.Walks.{blocks, exec, returns, enter, alloc_all, pass_all, free_all}
-use Rattle.hashlink_nodes.proofs.Walks.{look_at, get, get_in, through, sets, sets_last, is, env, sub, whole}
-use Rattle.hashlink_nodes.proofs.Walks.{fact, fact_i, ◌⊑◌, tables, RefOf, yes, hide, unhide, RattleType}
-use Rattle.hashlink_nodes.proofs.Walks.{owns, null_ptr, ptr_val, in_a_block, types_at, plain, param}
-use Rattle.hashlink_nodes.proofs.Walks.{layouts, nothing, heard, lent_at, Stays, stay_dropped, walk_of}
-use Rattle.hashlink_nodes.proofs.Walks.{Goes-dropped, after, word, word-Good, proved_at, leaves, option_map}
-use Rattle.hashlink_nodes.proofs.Walks.{usize}
+use Rattle.hashlink_nodes.proofs.Walks.{by, move, keep, drop, split, fsplit, fsplit3, fjoin, join, use0, use1}
+use Rattle.hashlink_nodes.proofs.Walks.{suffices, feq_i, feq_l, done, stop, fld, of_opd, addr, first, blocks}
+use Rattle.hashlink_nodes.proofs.Walks.{exec, returns, enter, alloc_all, pass_all, free_all, look_at, get}
+use Rattle.hashlink_nodes.proofs.Walks.{get_in, through, sets, sets_last, is, env, sub, whole, fact, fact_i}
+use Rattle.hashlink_nodes.proofs.Walks.{◌⊑◌, tables, RefOf, yes, hide, unhide, RattleType, owns, null_ptr}
+use Rattle.hashlink_nodes.proofs.Walks.{ptr_val, in_a_block, types_at, plain, param, layouts, nothing, heard}
+use Rattle.hashlink_nodes.proofs.Walks.{lent_at, Stays, stay_dropped, walk_of, Goes-dropped, after, word}
+use Rattle.hashlink_nodes.proofs.Walks.{word-Good, proved_at, leaves, option_map, usize}
 use Rattle.hashlink_nodes.specs.Kept.{Kept, entry_in, number_word}
 use Rattle.std.specs.Prelude.{IfSome}
 use Rattle.hashlink_nodes.specs.Ownership.{block_lent, number_of, number_offset}

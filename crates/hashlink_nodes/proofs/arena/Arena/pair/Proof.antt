@@ -1,15 +1,15 @@
 -- `pair` shows what the arena lends of the pair of one block.
 use Rattle.hashlink_nodes.proofs.Walks.{◌≡◌, ℕ, ◌+◌, ◌∙◌, List, [], ◌∷◌, ◌++◌, refl, sym, ap, subst, Some}
-use Rattle.hashlink_nodes.proofs.Walks.{IsSome, Bor, lookup, a_type, inst_fn, Val, vptr, SProp, ent, emp}
-use Rattle.hashlink_nodes.proofs.Walks.{id⊢, ftrue, flft, WpFn, ‵, raw, ◌⊛◌, at_ret, ◌$◌, ◌∵◌, !, qed, by}
-use Rattle.hashlink_nodes.proofs.Walks.{move, keep, drop, split, fsplit, fjoin, rewrite, use0, use1}
-use Rattle.hashlink_nodes.proofs.Walks.{suffices, feq_i, feq_l, done, stop, fld, of_opd, addr, first}
-use Rattle.hashlink_nodes.proofs.Walks.{blocks, exec, returns, enter, alloc_all, pass_all, free_all}
-use Rattle.hashlink_nodes.proofs.Walks.{look_at, get, get_in, through, sets, sets_last, is, env, sub, whole}
-use Rattle.hashlink_nodes.proofs.Walks.{fact, fact_i, ◌⊑◌, tables, RefOf, yes, hide, unhide, RattleType}
-use Rattle.hashlink_nodes.proofs.Walks.{owns, null_ptr, ptr_val, in_a_block, types_at, plain, param}
-use Rattle.hashlink_nodes.proofs.Walks.{layouts, nothing, heard, lent_at, Stays, stay_dropped, walk_of}
-use Rattle.hashlink_nodes.proofs.Walks.{Goes-dropped, after, word, word-Good, proved_at, leaves, option_map}
+use Rattle.hashlink_nodes.proofs.Walks.{IsSome, Bor, lookup, a_type, inst_fn, Val, vptr, SProp, ent, emp, id⊢}
+use Rattle.hashlink_nodes.proofs.Walks.{ftrue, flft, WpFn, ‵, raw, ◌⊛◌, at_ret, ◌$◌, ◌∵◌, !, qed, by, move}
+use Rattle.hashlink_nodes.proofs.Walks.{keep, drop, split, fsplit, fjoin, rewrite, use0, use1, suffices}
+use Rattle.hashlink_nodes.proofs.Walks.{feq_i, feq_l, done, stop, fld, of_opd, addr, first, blocks, exec}
+use Rattle.hashlink_nodes.proofs.Walks.{returns, enter, alloc_all, pass_all, free_all, look_at, get, get_in}
+use Rattle.hashlink_nodes.proofs.Walks.{through, sets, sets_last, is, env, sub, whole, fact, fact_i, ◌⊑◌}
+use Rattle.hashlink_nodes.proofs.Walks.{tables, RefOf, yes, hide, unhide, RattleType, owns, null_ptr, ptr_val}
+use Rattle.hashlink_nodes.proofs.Walks.{in_a_block, types_at, plain, param, layouts, nothing, heard, lent_at}
+use Rattle.hashlink_nodes.proofs.Walks.{Stays, stay_dropped, walk_of, Goes-dropped, after, word, word-Good}
+use Rattle.hashlink_nodes.proofs.Walks.{proved_at, leaves, option_map}
 use Rattle.hashlink_nodes.specs.Kept.{entry_in}
 use Rattle.hashlink_nodes.specs.Ownership.{block_lent, pair_lent, pair_of, pair_offset}
 use Rattle.hashlink_nodes.specs.Node.{same_node}

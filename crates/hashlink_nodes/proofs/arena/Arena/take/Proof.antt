@@ -11,9 +11,8 @@ use Rattle.hashlink_nodes.proofs.Walks.{alloc_all, pass_all, free_all, look_at, 
 use Rattle.hashlink_nodes.proofs.Walks.{sets_last, is, env, sub, whole, fact, fact_i, ◌⊑◌, tables, part_out}
 use Rattle.hashlink_nodes.proofs.Walks.{usize, yes, lone, part_at, uint_in, uint_out, RattleType, owns, Ptr}
 use Rattle.hashlink_nodes.proofs.Walks.{ptr_val, in_a_block, lies_at, types_at, plain, param, layouts}
-use Rattle.hashlink_nodes.proofs.Walks.{nothing, heard, opens, closes, Stays, stay_dropped, stay_ref}
-use Rattle.hashlink_nodes.proofs.Walks.{walk_of, Goes-dropped, Goes-ref, after, word, word-Good, proved_at}
-use Rattle.hashlink_nodes.proofs.Walks.{leaves}
+use Rattle.hashlink_nodes.proofs.Walks.{nothing, heard, opens, closes, Stays, stay_dropped, stay_ref, walk_of}
+use Rattle.hashlink_nodes.proofs.Walks.{Goes-dropped, Goes-ref, after, word, word-Good, proved_at, leaves}
 use types.Run.{load, look, well_typed}
 use Rattle.hashlink_nodes.specs.Node.{same_node}
 use Rattle.hashlink_nodes.specs.Kept.{alter, entry_in, number_word, with_entry}

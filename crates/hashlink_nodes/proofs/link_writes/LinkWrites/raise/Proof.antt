@@ -5,8 +5,7 @@ use base.Logic.{SProp, ent, emp, id⊢}
 use base.Fml.{ftrue, flft}
 use prog.Wp.{WpFn}
 use types.Kit.{‵, raw, ◌⊛◌, ◌$◌, ◌∵◌, !, qed, by, move, keep, drop, split, join, fsplit, fsplit3, fjoin}
-use types.Kit.{fjoin3, use0}
-use types.Kit.{suffices, feq_i, feq_l}
+use types.Kit.{fjoin3, use0, suffices, feq_i, feq_l}
 use types.Run.{of_opd, unit_lit, returns, enter}
 use types.ByLocal.{alloc_all, pass_all, free_all, look_at, sets}
 use contract.Monad.{fact, fact_i}

@@ -4,8 +4,7 @@ use Rattle.std.proofs.Common.{◌≡◌, ◌-◌, None, Some, ap, sym, ◌∙◌
 use Rattle.hashlink_nodes.specs.Pool.{state_of}
 use Rattle.hashlink_nodes.specs.State.{State, Drops}
 use Rattle.hashlink_nodes.specs.Ring.{Ring, Held, held, pair_of}
-use Rattle.hashlink_nodes.proofs.Sound.{InRing, held_detached, has_held, held_here}
-use Rattle.hashlink_nodes.proofs.Sound.{same_some, drops_taken}
+use Rattle.hashlink_nodes.proofs.Sound.{InRing, held_detached, has_held, held_here, same_some, drops_taken}
 use Rattle.hashlink_nodes.proofs.Ending.{LastGone, last_out, last_gone, writes_detached, guard_some}
 use Rattle.hashlink_nodes.proofs.Calls.{has_still, opened_at}
 use Rattle.hashlink_nodes.proofs.nodes.Nodes.give_back_last.Given as given

@@ -1,9 +1,8 @@
 use Rattle.std.proofs.Common.{ap, ◌∙◌, arith}
 use Rattle.hashlink_nodes.specs.Ring.{Ring}
-use Rattle.hashlink_nodes.proofs.Sound.{detach_writes, attach_writes}
+use Rattle.hashlink_nodes.proofs.Sound.{detach_writes, attach_writes, guard_there, some_unless}
 use Rattle.hashlink_nodes.specs.Pool.{state_of}
 use Rattle.hashlink_nodes.specs.State.{State}
-use Rattle.hashlink_nodes.proofs.Sound.{guard_there, some_unless}
 use Rattle.hashlink_nodes.proofs.Calls.{after_at, has_still, moved_after, node_at}
 use Rattle.hashlink_nodes.proofs.nodes.Nodes.move_after.Goals as goal
 

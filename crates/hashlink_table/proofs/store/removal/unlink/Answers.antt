@@ -7,8 +7,7 @@ use Rattle.hashlink_table.proofs.Chaining.{length-links, link_read, link_set, on
 use Rattle.hashlink_table.proofs.Cells.{within_by_chain, kept_at_read, next_at_read}
 use Rattle.hashlink_table.proofs.Linking.{unlinked_first, unlinked_next}
 use Rattle.hashlink_table.proofs.Moving.{next-same, next-begun}
-use Rattle.hashlink_table.proofs.Walks.{IsWalk, walk_of, walk_on, walk_at, walk_goes}
-use Rattle.hashlink_table.proofs.Walks.{steps_left}
+use Rattle.hashlink_table.proofs.Walks.{IsWalk, walk_of, walk_on, walk_at, walk_goes, steps_left}
 use Rattle.hashlink_table.proofs.Walks.{steps_left-falls}
 use Rattle.hashlink_table.proofs.store.removal.unlink.Goals as goal
 

@@ -1,18 +1,18 @@
 -- `allocate` cuts a new block into room for its parts and the right to free it.
-use Rattle.hashlink_nodes.proofs.Walks.{◌≡◌, ℕ, List, [], ◌∷◌, ◌++◌, refl, sym, ap, subst, full_share}
-use Rattle.hashlink_nodes.proofs.Walks.{SProp, ent, emp, sep, id⊢, framed, Fml, Lft, Incl-trans, ftrue, fat}
-use Rattle.hashlink_nodes.proofs.Walks.{flft, a_type, dcons, dnil, Val, vcons, vnil, vptr, inst_fn, size}
-use Rattle.hashlink_nodes.proofs.Walks.{align, capped, capped_fits, size-raw, align-raw, WpFn, ◌⊑◌}
-use Rattle.hashlink_nodes.proofs.Walks.{meet_⊑_right, fact, fact_i, tables, part_in, part_out, sem, ‵, raw}
-use Rattle.hashlink_nodes.proofs.Walks.{◌⊛◌, some, later, given, at_ret, ◌$◌, ◌∵◌, !, qed, by, move, keep}
-use Rattle.hashlink_nodes.proofs.Walks.{drop, use0, use1, use2, pick, learn, split, split3, group, fsplit}
-use Rattle.hashlink_nodes.proofs.Walks.{fjoin, suffices, await, whole, agg, stop, fld, from, addr}
-use Rattle.hashlink_nodes.proofs.Walks.{size_word, align_word, no_more, and_then, of_opd, first, exec}
-use Rattle.hashlink_nodes.proofs.Walks.{returns, enter, alloc_all, pass_all, free_all, look_at, take_at}
-use Rattle.hashlink_nodes.proofs.Walks.{give_at, get, get_in, sets, sets_last, env, no, part_at, param}
-use Rattle.hashlink_nodes.proofs.Walks.{bounded, param_laws, RattleType, owns, block_ptr, types_at, plain}
-use Rattle.hashlink_nodes.proofs.Walks.{heard, nothing, Stays, stay_dropped, walk_of, Goes-dropped, Al, α}
-use Rattle.hashlink_nodes.proofs.Walks.{handle_tells, after, proved_at, leaves}
+use Rattle.hashlink_nodes.proofs.Walks.{◌≡◌, ℕ, List, [], ◌∷◌, ◌++◌, refl, sym, ap, subst, full_share, SProp}
+use Rattle.hashlink_nodes.proofs.Walks.{ent, emp, sep, id⊢, framed, Fml, Lft, Incl-trans, ftrue, fat, flft}
+use Rattle.hashlink_nodes.proofs.Walks.{a_type, dcons, dnil, Val, vcons, vnil, vptr, inst_fn, size, align}
+use Rattle.hashlink_nodes.proofs.Walks.{capped, capped_fits, size-raw, align-raw, WpFn, ◌⊑◌, meet_⊑_right}
+use Rattle.hashlink_nodes.proofs.Walks.{fact, fact_i, tables, part_in, part_out, sem, ‵, raw, ◌⊛◌, some}
+use Rattle.hashlink_nodes.proofs.Walks.{later, given, at_ret, ◌$◌, ◌∵◌, !, qed, by, move, keep, drop, use0}
+use Rattle.hashlink_nodes.proofs.Walks.{use1, use2, pick, learn, split, split3, group, fsplit, fjoin}
+use Rattle.hashlink_nodes.proofs.Walks.{suffices, await, whole, agg, stop, fld, from, addr, size_word}
+use Rattle.hashlink_nodes.proofs.Walks.{align_word, no_more, and_then, of_opd, first, exec, returns, enter}
+use Rattle.hashlink_nodes.proofs.Walks.{alloc_all, pass_all, free_all, look_at, take_at, give_at, get, get_in}
+use Rattle.hashlink_nodes.proofs.Walks.{sets, sets_last, env, no, part_at, param, bounded, param_laws}
+use Rattle.hashlink_nodes.proofs.Walks.{RattleType, owns, block_ptr, types_at, plain, heard, nothing, Stays}
+use Rattle.hashlink_nodes.proofs.Walks.{stay_dropped, walk_of, Goes-dropped, Al, α, handle_tells, after}
+use Rattle.hashlink_nodes.proofs.Walks.{proved_at, leaves}
 use Rattle.std.proofs.Common.{true, false}
 use Rattle.std.specs.Prelude.{Ok, Err}
 use base.Logic.{wand, apply∗}
@@ -22,14 +22,12 @@ use prog.Wp.{Wp, after_seq, at_return}
 use types.Kit.{Post as After, any_q}
 use types.Match.{live, vrt, in_variant}
 use types.Run.{lit, switches_on}
-use types.ByLocal.{get_tag}
-use types.ByLocal.{lands_as}
+use types.ByLocal.{get_tag, lands_as}
 use denote.Param.{layout}
 use denote.Triple.Call.{calls_at}
 use Rattle.std.specs.contracts.result.Result as result
-use Rattle.std.proofs.alloc.Calls.{Answer-typed, Answered}
-use Rattle.std.proofs.alloc.Calls.{seen, Lent, lends, Takes, at_takes, Takes-goes, Takes-gives, answers}
-use Rattle.std.proofs.alloc.Calls.{Fits}
+use Rattle.std.proofs.alloc.Calls.{Answer-typed, Answered, seen, Lent, lends, Takes, at_takes, Takes-goes}
+use Rattle.std.proofs.alloc.Calls.{Takes-gives, answers, Fits}
 use Rattle.std.proofs.alloc.Shapes.{head, arm_body}
 use Rattle.std.proofs.ResultValues.{ok_of, err_of}
 use Rattle.std.proofs.RcSteps.{first_Good, some_Good}

@@ -1,17 +1,16 @@
 -- `free` makes the block of its empty parts, and hands it back.
 use Rattle.hashlink_nodes.proofs.Walks.{◌≡◌, ℕ, ◌+◌, List, [], ◌∷◌, ◌++◌, refl, sym, ap, subst, SProp, ent}
-use Rattle.hashlink_nodes.proofs.Walks.{emp, id⊢, framed, Lft, Incl-trans, ftrue, froom, flft, a_type}
-use Rattle.hashlink_nodes.proofs.Walks.{dcons, dnil, Val, vcons, vnil, vptr, vunit, inst_fn, size, align}
-use Rattle.hashlink_nodes.proofs.Walks.{capped, capped_fits, size-raw, align-raw, WpFn, ◌⊑◌, meet_⊑_right}
-use Rattle.hashlink_nodes.proofs.Walks.{fact, fact_i, tables, ‵, raw, ◌⊛◌, later, given, at_ret, ◌$◌, ◌∵◌}
-use Rattle.hashlink_nodes.proofs.Walks.{ !, qed, by, move, keep, drop, use0, use1, use2, learn, split}
-use Rattle.hashlink_nodes.proofs.Walks.{split3, join, group, fsplit, fjoin, suffices, await, whole, sub}
-use Rattle.hashlink_nodes.proofs.Walks.{stop, fld, from, addr, size_word, align_word, no_more, and_then}
-use Rattle.hashlink_nodes.proofs.Walks.{of_opd, first, blocks, exec, returns, enter, alloc_all, pass_all}
-use Rattle.hashlink_nodes.proofs.Walks.{free_all, look_at, take_at, give_at, get, get_in, sets, env, no}
-use Rattle.hashlink_nodes.proofs.Walks.{param, bounded, param_laws, RattleType, owns, types_at, plain}
-use Rattle.hashlink_nodes.proofs.Walks.{heard, nothing, Stays, stay_dropped, walk_of, Al, α, Goes-blank}
-use Rattle.hashlink_nodes.proofs.Walks.{after, proved_at, leaves}
+use Rattle.hashlink_nodes.proofs.Walks.{emp, id⊢, framed, Lft, Incl-trans, ftrue, froom, flft, a_type, dcons}
+use Rattle.hashlink_nodes.proofs.Walks.{dnil, Val, vcons, vnil, vptr, vunit, inst_fn, size, align, capped}
+use Rattle.hashlink_nodes.proofs.Walks.{capped_fits, size-raw, align-raw, WpFn, ◌⊑◌, meet_⊑_right, fact}
+use Rattle.hashlink_nodes.proofs.Walks.{fact_i, tables, ‵, raw, ◌⊛◌, later, given, at_ret, ◌$◌, ◌∵◌, !, qed}
+use Rattle.hashlink_nodes.proofs.Walks.{by, move, keep, drop, use0, use1, use2, learn, split, split3, join}
+use Rattle.hashlink_nodes.proofs.Walks.{group, fsplit, fjoin, suffices, await, whole, sub, stop, fld, from}
+use Rattle.hashlink_nodes.proofs.Walks.{addr, size_word, align_word, no_more, and_then, of_opd, first, blocks}
+use Rattle.hashlink_nodes.proofs.Walks.{exec, returns, enter, alloc_all, pass_all, free_all, look_at, take_at}
+use Rattle.hashlink_nodes.proofs.Walks.{give_at, get, get_in, sets, env, no, param, bounded, param_laws}
+use Rattle.hashlink_nodes.proofs.Walks.{RattleType, owns, types_at, plain, heard, nothing, Stays}
+use Rattle.hashlink_nodes.proofs.Walks.{stay_dropped, walk_of, Al, α, Goes-blank, after, proved_at, leaves}
 use lib.Dec.{T as Holds}
 use mir.Syntax.{Tys, tcons, tnil, ty_ptr, ty_unit}
 use mir.Val.{Vals, has_ty, WT}
@@ -19,8 +18,7 @@ use prog.Memory.{up}
 use types.Kit.{use3}
 use types.ByLocal.{lands_last}
 use denote.Triple.Call.{calls_at_last}
-use Rattle.std.proofs.alloc.Calls.{lends_field, takes_back}
-use Rattle.std.proofs.alloc.Calls.{Gives, at_gives, Gives-goes, Gives-Gives}
+use Rattle.std.proofs.alloc.Calls.{lends_field, takes_back, Gives, at_gives, Gives-goes, Gives-Gives}
 use Rattle.hashlink_nodes.specs.Ownership.{block_type}
 use Rattle.hashlink_nodes.specs.contracts.arena.loose.Loose as loose
 use Rattle.hashlink_nodes.proofs.LooseSteps.{both, Lo, loose_good, loose_out, written, block_glue}

@@ -1,8 +1,8 @@
 -- The resizes cannot fail, and each list grows by as many.
 use Rattle.std.proofs.Common.{◌≡◌, ℕ, ◌+◌, ◌++◌, length, replicate, arith}
 use Rattle.std.specs.Prelude.{vec_len}
-use Rattle.hashlink_table.proofs.Storing.{bare, grown, nodes_len, nodes_long, rests_len, rests_long}
-use Rattle.hashlink_table.proofs.Storing.{tags_len, tags_long, tagged-wider, wider}
+use Rattle.hashlink_table.proofs.Storing.{bare, grown, nodes_len, nodes_long, rests_len, rests_long, tags_len}
+use Rattle.hashlink_table.proofs.Storing.{tags_long, tagged-wider, wider}
 use Rattle.hashlink_table.proofs.store.slots.Slots.widen.Given as given
 use Rattle.hashlink_table.proofs.store.slots.Slots.widen.Goals as goal
 

@@ -1,7 +1,6 @@
 use Rattle.std.proofs.Common.{arith}
 use Rattle.hashlink_table.proofs.Views.{keeps_found, no_cost, none_left, overflow_asked, slot_accepted}
-use Rattle.hashlink_table.proofs.Views.{slot_asked}
-use Rattle.hashlink_table.proofs.Views.{search_cost}
+use Rattle.hashlink_table.proofs.Views.{slot_asked, search_cost}
 use Rattle.hashlink_table.proofs.store.table.Table.find.Goals as goal
 
 pub seek-requires-clause-linked : goal.seek-requires-clause-linked
