@@ -1,5 +1,5 @@
 -- What holds of a step, whatever the command: each lemma has a line for each.
-use Rattle.std.proofs.Common.{◌≡◌, ℕ, ◌≤◌, Bool, true, false, List, [], length, refl, sym, ap, ◌∙◌, subst}
+use Rattle.std.proofs.Common.{◌≡◌, ◌≤◌, Bool, true, false, List, [], length, sym, ap, ◌∙◌, subst}
 use Rattle.std.specs.Map.{lookup_entry}
 use Rattle.hashlink_history.specs.Peak.{Length, Passes}
 use Rattle.hashlink_history.proofs.Peaks.{passes-kept, passes-clears, passes-shrinks}

@@ -13,8 +13,7 @@ use Rattle.hashlink_run.specs.declared.commands.Command.{Command}
 use Rattle.hashlink_run.specs.declared.replies.Reply.{Reply}
 use Rattle.hashlink_run.specs.CallReplies.{is_refused}
 use Rattle.hashlink_run.specs.Chain.{Answered, state_after, after}
-use Rattle.hashlink_run.specs.Run.{Run, Runs, passed_at, keeps_nodes, passed_by, StaysWithinPeak}
-use Rattle.hashlink_run.specs.Run.{TakesKeysWhereShorter}
+use Rattle.hashlink_run.specs.Run.{Run, Runs, keeps_nodes, passed_by, StaysWithinPeak, TakesKeysWhereShorter}
 use Rattle.hashlink_run.specs.Step.{Step}
 use Rattle.hashlink_run.proofs.Chained.{Chain-take, Chain-drop, state_after-parts}
 use Rattle.hashlink_run.proofs.AnyCommand.{map_step-taken, step-nodes}

@@ -1,16 +1,13 @@
 -- While a node is spare no command to a map hands a pair back.
-use Rattle.std.proofs.Common.{◌≡◌, ℕ, zero, suc, ◌≤◌, Bool, false, List, [], ◌∷◌, ◌++◌, slice_get, Option}
-use Rattle.std.proofs.Common.{None, Some, Result, Ok, Err, MatchOption, MatchResult, refl, ap, ◌∙◌, subst}
-use Rattle.std.proofs.Common.{arith}
+use Rattle.std.proofs.Common.{◌≡◌, ℕ, ◌≤◌, Bool, false, List, [], ◌∷◌, ◌++◌, Option, None, Some, Result, Ok}
+use Rattle.std.proofs.Common.{Err, MatchOption, MatchResult, refl, ap, ◌∙◌, arith}
 use Rattle.std.specs.Result.{result_map_both}
 use Rattle.std.specs.declared.alloc.AllocError.{AllocError}
-use Rattle.std.proofs.lemmas.Option.{same_Some}
 use Rattle.hashlink_model.specs.Cursor.{CursorState, place_next}
 use Rattle.hashlink_model.specs.Entries.{place_of}
 use Rattle.hashlink_model.specs.Entry.{VacantInserts}
 use Rattle.hashlink_model.specs.MapState.{MapState, Inserts}
 use Rattle.hashlink_model.specs.Steps.{Replaces}
-use Rattle.hashlink_run.specs.declared.commands.Command.{Command}
 use Rattle.hashlink_run.specs.declared.commands.CursorStep.{CursorStep}
 use Rattle.hashlink_run.specs.declared.commands.CursorStep.TheVariants.{Next, Prev, Current, PeekNext}
 use Rattle.hashlink_run.specs.declared.commands.CursorStep.TheVariants.{PeekPrev, Before, After}
@@ -19,11 +16,8 @@ use Rattle.hashlink_run.specs.declared.commands.EntryStep.TheVariants as step
 use Rattle.hashlink_run.specs.declared.replies.Reply.{Reply}
 use Rattle.hashlink_run.specs.declared.replies.Reply.TheVariants.{Inserted, Refused}
 use Rattle.hashlink_run.specs.CallReplies.{insert_reply, shrink_reply, reply_or_refused, is_refused}
-use Rattle.hashlink_run.specs.Chain.{Answered, after}
-use Rattle.hashlink_run.specs.CursorSteps.{CursorStepped, CursorWalks, first_place}
+use Rattle.hashlink_run.specs.CursorSteps.{CursorStepped, CursorWalks}
 use Rattle.hashlink_run.specs.EntrySteps.{OccupiedStep, VacantStep, EntrySteps}
-use Rattle.hashlink_run.specs.Run.{Run}
-use Rattle.hashlink_run.specs.Step.{Step}
 
 pub shrink-taken : (K V B : Type 0) (answer : Result (Unit {0}) AllocError)
     → is_refused {K = K} {V = V} {B = B} (shrink_reply answer ∷ []) ≡ false

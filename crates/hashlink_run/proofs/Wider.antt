@@ -1,12 +1,9 @@
 -- What one closure says of a pair that a map read, another may say that says at least that.
 use Rattle.std.proofs.Common.{ℕ, ◌≡◌, Bool, List, [], ◌∷◌, slice_get, Option, None, Some, MatchOption, Result}
 use Rattle.std.proofs.Common.{Ok, Err, MatchResult}
-use Rattle.std.specs.Map.{lookup_entry}
 use Rattle.hashlink_model.specs.Cursor.{CursorState, entry_in, place_next, place_previous}
 use Rattle.hashlink_model.specs.Entries.{place_of}
 use Rattle.hashlink_model.specs.MapState.{MapState}
-use Rattle.hashlink_model.specs.Walk.{first_of, last_of}
-use Rattle.hashlink_run.specs.declared.commands.Command.{Command}
 use Rattle.hashlink_run.specs.declared.commands.CursorStep.{CursorStep}
 use Rattle.hashlink_run.specs.declared.commands.CursorStep.TheVariants.{Next, Prev, Current, PeekNext}
 use Rattle.hashlink_run.specs.declared.commands.CursorStep.TheVariants.{PeekPrev, Before, After}
