@@ -7,35 +7,46 @@ use hashlink::{LinkedHashMap, LruCache};
 use std::io::{self, BufRead};
 use std::process::ExitCode;
 
-/// Marks at places, in a binary tree of sums whose leaves are the places.
+/// So many entries of a row have one sum.
+const BLOCK: usize = 64;
+
+/// So many places are built for each key.
+const PLACES: usize = 16;
+
+/// Marks at places, and above them rows of sums, each of the blocks of the row below.
 struct Marks {
-    sums: Vec<usize>,
-    width: usize,
+    row: Vec<u8>,
+    sums: Vec<Vec<usize>>,
 }
 
 impl Marks {
     fn with_places(places: usize) -> Marks {
-        let width = places.next_power_of_two();
-        Marks { sums: vec![0; 2 * width], width }
+        let mut sums = Vec::new();
+        let mut width = places;
+        while width > BLOCK {
+            width = width / BLOCK + 1;
+            sums.push(vec![0; width]);
+        }
+        Marks { row: vec![0; places], sums }
     }
 
     fn before(&self, place: usize) -> usize {
-        let mut node = self.width + place;
-        let mut count = 0;
-        while node > 1 {
-            if node % 2 == 1 {
-                count += self.sums[node - 1];
-            }
-            node /= 2;
+        let mut node = place / BLOCK;
+        let mut count = self.row[BLOCK * node..place].iter().map(|byte| usize::from(*byte)).sum();
+        for row in &self.sums {
+            let next = node / BLOCK;
+            count += row[BLOCK * next..node].iter().sum::<usize>();
+            node = next;
         }
         count
     }
 
-    fn add(&mut self, place: usize, change: isize) {
-        let mut node = self.width + place;
-        while node > 0 {
-            self.sums[node] = self.sums[node].wrapping_add_signed(change);
-            node /= 2;
+    fn add(&mut self, place: usize, change: i8) {
+        self.row[place] = self.row[place].wrapping_add_signed(change);
+        let mut node = place / BLOCK;
+        for row in &mut self.sums {
+            row[node] = row[node].wrapping_add_signed(change.into());
+            node /= BLOCK;
         }
     }
 }
@@ -50,11 +61,11 @@ struct Curve {
 
 impl Curve {
     fn new() -> Curve {
-        Curve { places: LinkedHashMap::new(), marks: Marks::with_places(1), next: 0, reuses: Vec::new() }
+        Curve { places: LinkedHashMap::new(), marks: Marks::with_places(PLACES), next: 0, reuses: Vec::new() }
     }
 
     fn record(&mut self, key: Vec<u8>) {
-        if self.next == self.marks.width {
+        if self.next == self.marks.row.len() {
             self.renumber();
         }
         let count = self.places.len();
@@ -70,7 +81,7 @@ impl Curve {
     }
 
     fn renumber(&mut self) {
-        self.marks = Marks::with_places(2 * self.places.len() + 1);
+        self.marks = Marks::with_places(PLACES * (self.places.len() + 1));
         for (place, (_, old)) in self.places.iter_mut().enumerate() {
             *old = place;
             self.marks.add(place, 1);

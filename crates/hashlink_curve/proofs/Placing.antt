@@ -1,5 +1,5 @@
 -- Keys at rising places: what a use of one finds, and new places for all.
-use Rattle.std.proofs.Common.{◌≡◌, ℕ, suc, ◌+◌, ◌-◌, ◌≤◌, ◌<◌, ◌^◌, Bool, true, false, cond, List, [], ◌∷◌}
+use Rattle.std.proofs.Common.{◌≡◌, ℕ, suc, ◌+◌, ◌-◌, ◌≤◌, ◌<◌, Bool, true, false, cond, List, [], ◌∷◌}
 use Rattle.std.proofs.Common.{◌++◌}
 use Rattle.std.proofs.Common.{length, Option, None, Some, Ok, Err, refl, sym, ap, ap₂, ◌∙◌, subst, arith}
 use Rattle.std.proofs.Common.{append_assoc}
@@ -230,12 +230,6 @@ module _ {K : Type 0} (eq : K → K → Bool) (laws : IsEquivalence eq) where
       = n ∙ ap (λ zs. put eq zs k next (length zs)) f.is
       ∙ put_back_here eq f.front e f.back k next f.equal f.none in
       let r = rises_middle 0 f.front e f.back next (subst (λ zs. Rises 0 zs next) f.is p.rises) in
-      let few = p.few in
-      let a = ap length f.is in
-      let a2 = length-append f.front (e ∷ f.back) in
-      let b = ap length there in
-      let b2 = length-append (f.front ++ f.back) ((f.key, next) ∷ []) in
-      let b3 = length-append f.front f.back in
       record {
         distinct = d;
         rises = subst (λ zs. Rises 0 zs (next + 1)) (sym there)
@@ -245,7 +239,6 @@ module _ {K : Type 0} (eq : K → K → Bool) (laws : IsEquivalence eq) where
             ∙ sym (map-append (λ e. e.1) (f.front ++ f.back) ((f.key, next) ∷ [])) ∙ ap values_of (sym there))
             m;
         within = omega arith;
-        few = omega arith;
       }
 
   -- once the place of its last use has no mark
@@ -270,20 +263,17 @@ module _ {K : Type 0} (eq : K → K → Bool) (laws : IsEquivalence eq) where
 
   pub absent_placed : (es new : List (K × ℕ)) (row after : List ℕ) (k : K) (next : ℕ)
       → IsPlaced eq es row next
-      → lookup (eq k) es ≡ None → new ≡ put eq es k next (length es) → IsEntries eq new → length es < 2 ^ 63
+      → lookup (eq k) es ≡ None → new ≡ put eq es k next (length es) → IsEntries eq new
       → Marked after (values_of es ++ next ∷ []) → next < length after
       → IsPlaced eq new after (next + 1)
-  absent_placed es new row after k next p l n d few m w =
+  absent_placed es new row after k next p l n d m w =
       let there = n ∙ put_back_absent eq es k next (none_from_lookup (eq k) es l) in
-      let b = ap length there in
-      let b2 = length-append es ((k, next) ∷ []) in
       record {
         distinct = d;
         rises = subst (λ zs. Rises 0 zs (next + 1)) (sym there) (rises_push 0 es k next p.rises);
         marked = subst (Marked after)
             (sym (map-append (λ e. e.1) es ((k, next) ∷ [])) ∙ ap values_of (sym there)) m;
         within = omega arith;
-        few = omega arith;
       }
 
 -- what moved last, with w written through what was lent, was put last

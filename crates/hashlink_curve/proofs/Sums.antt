@@ -1,14 +1,15 @@
 -- What stands before a place, by the rows of sums, and a change at a place.
 use Rattle.std.proofs.Common.{◌≡◌, ◌≢◌, ℕ, zero, suc, ◌+◌, ◌-◌, ◌*◌, ◌/◌, ◌^◌, ◌<◌, ◌≤◌, Bool, true, false, cond}
 use Rattle.std.proofs.Common.{List, [], ◌∷◌, ◌++◌, length, take, drop, get_or, set, replicate, refl, sym, ap, ap₂, ◌∙◌}
-use Rattle.std.proofs.Common.{◌⊎◌, inl, inr, arith, length-append, subst}
-use Rattle.std.specs.Prelude.{nat_eq, nat_lt, sum, slice_range}
+use Rattle.std.proofs.Common.{◌⊎◌, inl, inr, arith, subst}
+use Rattle.std.specs.Prelude.{nat_eq, nat_lt, sum, slice_range, All}
 use Rattle.std.specs.List.{count_by}
 use Rattle.std.proofs.Math.Seq.{take-set-lt, take-add}
 use Rattle.std.proofs.lemmas.List.{take-set-le, take_all, get_or-take, length-set, length-take, take-append-le}
 use Rattle.std.proofs.lemmas.List.{get_or-set_same, get_or-set_other, length-replicate, length-map}
 use Rattle.std.proofs.lemmas.List.Sums.{sum_by-cons, sum_by-append, sum_by-set, sum_by_more, sum_by-take-le}
-use Rattle.std.proofs.lemmas.List.Sums.{get_or-le-sum_by}
+use Rattle.std.proofs.lemmas.List.Sums.{get_or-le-sum_by, sum_by-le}
+use Rattle.std.proofs.lemmas.List.Elements.{All-set, All-replicate}
 use Rattle.std.proofs.lemmas.List.Folds.{sum_by-replicate}
 use Rattle.std.proofs.lemmas.Bool.Decides.{nat_tests}
 use Rattle.std.specs.Prelude.{Vec}
@@ -109,14 +110,14 @@ sums_all row sums h =
 
 -- ---- all rows
 
-pub rows_have : (row : List ℕ) (above : List (List ℕ)) → HasRows row above → (x : ℕ) → x < length row
+rows_have : (row : List ℕ) (above : List (List ℕ)) → HasRows row above → (x : ℕ) → x < length row
     → HasNode (x / 64) above
 rows_have row [] h x l = tt
 rows_have row (sums ∷ above) h x l =
     let b = has_block row sums h.0 x l in
     (b, rows_have sums above h.1 (x / 64) b)
 
-pub rows_sum : (row : List ℕ) (above : List (List ℕ)) → HasRows row above → (x : ℕ) → x < length row
+rows_sum : (row : List ℕ) (above : List (List ℕ)) → HasRows row above → (x : ℕ) → x < length row
     → sum (slice_range row (64 * (x / 64)) x) + sum_before (x / 64) above ≡ sum (take x row)
 rows_sum row [] h x l =
     let s = sum-range row (64 * (x / 64)) x (omega arith) in
@@ -130,7 +131,7 @@ rows_sum row (sums ∷ above) h x l =
     let e = h.0.each (x / 64) (omega arith) in
     omega arith
 
-pub rows_can_change : (row : List ℕ) (above : List (List ℕ)) → HasRows row above → (x less more : ℕ)
+rows_can_change : (row : List ℕ) (above : List (List ℕ)) → HasRows row above → (x less more : ℕ)
     → x < length row → less ≤ get_or row x 0 → sum row + more < 2 ^ 64 → CanChange (x / 64) less more above
 rows_can_change row [] h x less more l enough fits = tt
 rows_can_change row (sums ∷ above) h x less more l enough fits =
@@ -144,7 +145,7 @@ rows_can_change row (sums ∷ above) h x less more l enough fits =
       rows_can_change sums above h.1 (x / 64) less more b (omega arith) (omega arith),
     )
 
-pub rows_changed : (row : List ℕ) (above : List (List ℕ)) → HasRows row above → (x less more v : ℕ)
+rows_changed : (row : List ℕ) (above : List (List ℕ)) → HasRows row above → (x less more v : ℕ)
     → x < length row → less ≤ get_or row x 0 → v + less ≡ get_or row x 0 + more
     → HasRows (set row x v) (changed (x / 64) less more above)
 rows_changed row [] h x less more v l enough is = let a = length-set row x v in omega arith
@@ -194,11 +195,10 @@ pub OpenRows-end : (row : List ℕ) (above : List (List ℕ)) (width places : �
     → places ≤ 2 ^ 60 → OpenRows row above width → width ≤ 64 → AreSummed row above
 OpenRows-end row above width places zeros few h l =
     let long = ap length zeros ∙ length-replicate places 0 in
-    let none = ap sum zeros ∙ sum_by-replicate (λ (m : ℕ). m) places 0 in
     record {
       rows = rows_end row above width h l;
       small = omega arith;
-      fits = omega arith;
+      one = subst (All (λ marks. marks ≤ 1)) (sym zeros) (All-replicate (λ marks. marks ≤ 1) places 0 (omega arith));
     }
 
 -- ---- how many marks stand before a place
@@ -290,10 +290,6 @@ module _ (row : List ℕ) (place : ℕ) (l : place < length row) (v : ℕ) where
   pub Marked-more : v ≡ get_or row place 0 + 1 → (xs ys : List ℕ) → Marked row (xs ++ ys)
       → Marked (set row place v) (xs ++ place ∷ ys)
   Marked-more is xs ys m =
-      let t = m.total in
-      let s = sum_by-set (λ (n : ℕ). n) row place v 0 l in
-      let a = length-append xs (place ∷ ys) in
-      let b = length-append xs ys in
       let wide = length-set row place v in
       record {
         each = λ x h.
@@ -302,16 +298,11 @@ module _ (row : List ℕ) (place : ℕ) (l : place < length row) (v : ℕ) where
             let d = count_by-middle (nat_eq x) xs place ys in
             let z = zero_either (nat_eq x place) in
             omega arith;
-        total = omega arith;
       }
 
   pub Marked-less : v + 1 ≡ get_or row place 0 → (xs ys : List ℕ) → Marked row (xs ++ place ∷ ys)
       → Marked (set row place v) (xs ++ ys)
   Marked-less is xs ys m =
-      let t = m.total in
-      let s = sum_by-set (λ (n : ℕ). n) row place v 0 l in
-      let a = length-append xs (place ∷ ys) in
-      let b = length-append xs ys in
       let wide = length-set row place v in
       record {
         each = λ x h.
@@ -320,8 +311,20 @@ module _ (row : List ℕ) (place : ℕ) (l : place < length row) (v : ℕ) where
             let d = count_by-middle (nat_eq x) xs place ys in
             let z = zero_either (nat_eq x place) in
             omega arith;
-        total = omega arith;
       }
+
+-- marks are no more than places
+sum-marks : (row : List ℕ) (above : List (List ℕ)) → AreSummed row above → sum row < 2 ^ 62
+sum-marks row above s =
+    let few = sum_by-le (λ (m : ℕ). m) 1 row s.one in
+    let small = s.small in
+    omega arith
+
+pub AreSummed-can_change : (row : List ℕ) (above : List (List ℕ)) → AreSummed row above → (x less more : ℕ)
+    → x < length row → less ≤ get_or row x 0 → more ≤ 1 → CanChange (x / 64) less more above
+AreSummed-can_change row above s x less more l enough one =
+    let few = sum-marks row above s in
+    rows_can_change row above s.rows x less more l enough (omega arith)
 
 -- what is summed before a place is less than all
 pub sum_before-fits : (row : List ℕ) (above : List (List ℕ)) → AreSummed row above → (x : ℕ) → x < length row
@@ -329,7 +332,7 @@ pub sum_before-fits : (row : List ℕ) (above : List (List ℕ)) → AreSummed r
     × (sum (slice_range row (64 * (x / 64)) x) + sum_before (x / 64) above ≡ sum (take x row))
 sum_before-fits row above s x l =
     let a = sum_by-take-le (λ (m : ℕ). m) row x in
-    let b = s.fits in
+    let b = sum-marks row above s in
     (rows_have row above s.rows x l, omega arith, rows_sum row above s.rows x l)
 
 -- ---- the rows in memory
@@ -354,21 +357,20 @@ change-step (f ∷ []) above now v node less more x one read can c =
 -- after a change of an entry, and of the sums above it, which are written back
 pub AreSummed-changed : (row : List ℕ) (rows now : List (Vec ℕ Global)) (x less more v len : ℕ)
     → AreSummed row (rows_of rows) → len ≡ length rows → x < length row → less ≤ get_or row x 0
-    → v + less ≡ get_or row x 0 + more → sum row + more < 2 ^ 64
+    → v + less ≡ get_or row x 0 + more → v ≤ 1
     → rows_of now ≡ changed (x / 64) less more (rows_of rows)
     → AreSummed (set row x v) (rows_of (take len (now ++ drop (length now) rows)))
-AreSummed-changed row rows now x less more v len s long l enough is fits c =
+AreSummed-changed row rows now x less more v len s long l enough is one c =
     let m = length-map now (λ r. r.items) in
     let n = length-map rows (λ r. r.items) in
     let k = ap length c ∙ length-changed (x / 64) less more (rows_of rows) in
     let back : take len (now ++ drop (length now) rows) ≡ now
     = take-append-le len now (drop (length now) rows) (omega arith) ∙ take_all len now (omega arith) in
-    let total = sum_by-set (λ (n : ℕ). n) row x v 0 l in
     let wide = length-set row x v in
     let small = s.small in
     record {
       rows = subst (HasRows (set row x v)) (sym c ∙ ap rows_of (sym back))
           (rows_changed row (rows_of rows) s.rows x less more v l enough is);
       small = omega arith;
-      fits = omega arith;
+      one = All-set (λ marks. marks ≤ 1) row x v one s.one;
     }

@@ -1,6 +1,6 @@
 -- Marks at the places of a row, and above it the rows of sums, each of the blocks of 64 of the one below.
 use Rattle.std.specs.Prelude.{◌≡◌, ℕ, ◌+◌, ◌-◌, ◌*◌, ◌/◌, ◌^◌, ◌<◌, ◌≤◌, List, [], ◌∷◌, length, take, sum}
-use Rattle.std.specs.Prelude.{nat_eq, slice_index, slice_range, map, set, Vec, ⊤}
+use Rattle.std.specs.Prelude.{nat_eq, slice_index, slice_range, All, map, set, Vec, ⊤}
 use Rattle.std.specs.declared.alloc.Global.{Global}
 use Rattle.std.specs.List.{count_by}
 
@@ -10,7 +10,6 @@ rows_of rows = map (λ row. row.items) rows
 -- a place has as many marks as it stands in the list
 pub record Marked (row places : List ℕ) : Type 0 where
   pub each : (x : ℕ) → x < length row → slice_index row x ≡ count_by (nat_eq x) places
-  pub total : sum row ≡ length places
 
 -- each number is the sum of a block of the row, and each block has one
 pub record HasSums (row sums : List ℕ) : Type 0 where
@@ -25,7 +24,7 @@ HasRows row (sums ∷ above) = HasSums row sums × HasRows sums above
 pub record AreSummed (row : List ℕ) (above : List (List ℕ)) : Type 0 where
   pub rows : HasRows row above
   pub small : length row < 2 ^ 62
-  pub fits : sum row < 2 ^ 64
+  pub one : All (λ marks. marks ≤ 1) row
 
 -- what stands before a node: in its own block, and in the blocks before
 abbrev pub sum_before : ℕ → List (List ℕ) → ℕ

@@ -1,6 +1,6 @@
 -- The keys of a history, each once, in the order of their last uses; and each with its place in a row of
 -- marks.
-use Rattle.std.specs.Prelude.{◌≡◌, ℕ, ◌+◌, ◌^◌, ◌≤◌, Bool, true, false, List, [], ◌∷◌, ◌++◌, length, Option}
+use Rattle.std.specs.Prelude.{◌≡◌, ℕ, ◌+◌, ◌≤◌, Bool, true, false, List, [], ◌∷◌, ◌++◌, length, Option}
 use Rattle.std.specs.Prelude.{None, Some}
 use Rattle.std.specs.Map.{values_of}
 use Rattle.std.specs.List.{list_any}
@@ -20,7 +20,6 @@ pub record IsPlaced {K : Type 0} (eq : K → K → Bool) (es : List (K × ℕ)) 
   pub rises : Rises 0 es next
   pub marked : Marked row (values_of es)
   pub within : next ≤ length row
-  pub few : length es ≤ 2 ^ 63
 
 -- the entry whose key passes the test goes last, with the place `next`. The keys that pass equal its key
 pub record MovesLast {K : Type 0} (eq : K → K → Bool) (test : K → Bool) (old new : List (K × ℕ))

@@ -82,7 +82,6 @@ impl Marks {
     /// Sets a mark at the place, which has to have none. It takes a step for each row.
     pub(crate) fn mark(&mut self, place: usize)
         requires within { place < length self.old }
-        requires few { sum self.old < 2 ^ 64 - 1 }
         requires unmarked { slice_index self.old place ≡ 0 }
         ensures marked { (xs ys : List ℕ) → Marked self.old (xs ++ ys) → Marked self.new (xs ++ place ∷ ys) }
         ensures width { length self.new ≡ length self.old }

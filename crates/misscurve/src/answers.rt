@@ -22,16 +22,13 @@ pub fn answer<B: BufRead, W: Write, S: BuildHasher + Drop>(
 ) -> Result<(), Fault>
     ensures help { options.form ≡ Help → reader.new ≡ reader.old }
 {
+    if options.form == Form::Help {
+        return write_help(writer).map_err(|_| Fault::Writing);
+    }
+    let curve = curve_of(rt, alloc, hash_builder, reader, options.parts)?;
     let written = match options.form {
-        Form::Help => write_help(writer),
-        Form::Picture => {
-            let curve = curve_of(rt, alloc, hash_builder, reader, options.parts)?;
-            write_picture(writer, &curve, options.parts)
-        }
-        Form::Table | Form::WholeTable => {
-            let curve = curve_of(rt, alloc, hash_builder, reader, options.parts)?;
-            write_table(writer, &curve, options)
-        }
+        Form::Picture => write_picture(writer, &curve, options.parts),
+        _ => write_table(writer, &curve, options),
     };
     written.map_err(|_| Fault::Writing)
 }

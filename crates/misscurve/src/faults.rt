@@ -6,7 +6,7 @@ use std::alloc::AllocError;
 use std::fmt;
 
 /// Why a trace has no answer.
-#[derive(Clone, Copy, Debug, PartialEq, Eq)]
+#[derive(Clone, Copy)]
 pub enum Fault {
     /// An option is none of those that `--help` names, or lacks its value.
     Options,

@@ -3,7 +3,7 @@
 use crate::faults::Fault;
 
 /// What is written.
-#[derive(Clone, Copy, Debug, PartialEq, Eq)]
+#[derive(Clone, Copy, PartialEq, Eq)]
 pub enum Form {
     /// A line at each power of two and at each percent of misses.
     Table,
@@ -16,7 +16,7 @@ pub enum Form {
 }
 
 /// What the program is asked for.
-#[derive(Clone, Copy, Debug, PartialEq, Eq)]
+#[derive(Clone, Copy)]
 pub struct Options {
     /// What is written.
     pub form: Form,

@@ -1,19 +1,8 @@
 use Rattle.std.proofs.Common.{arith}
-use Rattle.std.proofs.lemmas.Map.Entries.{length-values_of}
 use Rattle.hashlink_core.specs.Keyed.{entries_of, state_of}
 use Rattle.hashlink_curve.proofs.Placing.{Renumbers-step, Renumbers-free}
-use Rattle.hashlink_curve.proofs.Placing.{Renumbers-end, numbered, length-numbered}
+use Rattle.hashlink_curve.proofs.Placing.{Renumbers-end}
 use Rattle.hashlink_curve.proofs.recency.renumber.Goals as goal
-
-pub mark-requires-clause-few : goal.mark-requires-clause-few
-mark-requires-clause-few g c =
-    let r = c.loop-place.invariant.0 in
-    let t = r.marked.total in
-    let a = length-values_of (numbered 0 r.done) in
-    let b = length-numbered 0 r.done in
-    let d = r.count in
-    let small = c.loop-place.invariant.3 in
-    omega arith
 
 pub mark-requires-clause-unmarked : goal.mark-requires-clause-unmarked
 mark-requires-clause-unmarked g c =
@@ -54,7 +43,6 @@ returns-clause-placed g c =
       rises = e.2;
       marked = e.1;
       within = omega arith;
-      few = omega arith;
     }
 
 pub returns-clause-free : goal.returns-clause-free

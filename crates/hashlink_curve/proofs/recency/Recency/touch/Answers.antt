@@ -2,7 +2,6 @@ use Rattle.std.proofs.Common.{◌<◌, ◌-◌, ◌++◌, ◌∷◌, [], length,
 use Rattle.std.proofs.Common.{length-append}
 use Rattle.std.specs.Map.{keys_of, values_of}
 use Rattle.std.proofs.lemmas.List.{append-nil}
-use Rattle.std.proofs.lemmas.Map.Entries.{length-values_of}
 use Rattle.hashlink_core.specs.Keyed.{entries_of}
 use Rattle.hashlink_curve.specs.Marks.{Marked}
 use Rattle.hashlink_curve.specs.Recency.{MovesPast, GoesLast}
@@ -52,24 +51,6 @@ unmark-requires-clause-marked g c =
     let f = found g.K.PartialEq.eq g.met.K.Eq.laws es c.free_place.new.marks c.free_place.new.next c.args.key
     c.in-Ok-Some.place p puts.old_value in
     f.marked
-
-pub mark-requires-clause-few : goal.mark-requires-clause-few
-mark-requires-clause-few g c =
-    let p = c.free_place.ensures.placed in
-    let puts = rw c.in-Ok-Some.field-0-is at c.in-Ok-Some.ensures.inserts in
-    let es = entries_of c.free_place.new.places in
-    let f = found g.K.PartialEq.eq g.met.K.Eq.laws es c.free_place.new.marks c.free_place.new.next c.args.key
-    c.in-Ok-Some.place p puts.old_value in
-    let a = ap length f.is in
-    let b = length-append f.front ((f.key, c.in-Ok-Some.place) ∷ f.back) in
-    let m = c.unmark.ensures.unmarked (values_of f.front) (values_of f.back)
-    (subst (Marked c.free_place.new.marks) f.values p.marked) in
-    let t = m.total in
-    let d = length-append (values_of f.front) (values_of f.back) in
-    let d1 = length-values_of f.front in
-    let d2 = length-values_of f.back in
-    let few = p.few in
-    omega arith
 
 pub mark-requires-clause-unmarked : goal.mark-requires-clause-unmarked
 mark-requires-clause-unmarked g c =
@@ -138,7 +119,7 @@ invariant_of-self-in-Ok-None g c =
     (subst (Marked c.free_place.new.marks) (sym (append-nil (values_of es))) p.marked) in
     absent_placed g.K.PartialEq.eq g.met.K.Eq.laws es (entries_of c.insert.new.self) c.free_place.new.marks
     c.mark-in-Ok-None.new.self c.args.key c.free_place.new.next p adds.absent adds.adds.entries
-    c.insert.ensures.distinct (omega arith) m (omega arith)
+    c.insert.ensures.distinct m (omega arith)
 
 pub returns-in-Ok-Some-clause-touched : goal.returns-in-Ok-Some-clause-touched
 returns-in-Ok-Some-clause-touched g c =

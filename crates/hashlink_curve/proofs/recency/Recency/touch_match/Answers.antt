@@ -3,7 +3,6 @@ use Rattle.std.proofs.Common.{length-append}
 use Rattle.std.specs.List.{list_any}
 use Rattle.std.specs.Map.{keys_of, values_of}
 use Rattle.std.proofs.lemmas.List.{append-nil}
-use Rattle.std.proofs.lemmas.Map.Entries.{length-values_of}
 use Rattle.hashlink_core.specs.Keyed.{entries_of}
 use Rattle.hashlink_curve.specs.Marks.{Marked}
 use Rattle.hashlink_curve.specs.Recency.{MovesPast}
@@ -90,26 +89,6 @@ unmark-requires-clause-marked g c =
     c.free_place.new.marks c.free_place.new.next c.in-Some.place c.free_place.new.next p
     (sym c.in-Some.ensures.found) m in
     f.marked
-
-pub mark-requires-clause-few : goal.mark-requires-clause-few
-mark-requires-clause-few g c =
-    let p = c.free_place.ensures.placed in
-    let es = entries_of c.free_place.new.places in
-    let test = g.Q.Equivalent.matches c.args.query in
-    let m = c.in-Some.ensures.moved in
-    let f = found_match g.K.PartialEq.eq g.met.K.Eq.laws test es (entries_of c.move_last.new.places)
-    c.free_place.new.marks c.free_place.new.next c.in-Some.place c.free_place.new.next p
-    (sym c.in-Some.ensures.found) m in
-    let a = ap length f.is in
-    let b = length-append f.front ((f.key, c.in-Some.place) ∷ f.back) in
-    let k = c.unmark.ensures.unmarked (values_of f.front) (values_of f.back)
-    (subst (Marked c.free_place.new.marks) f.values p.marked) in
-    let t = k.total in
-    let d = length-append (values_of f.front) (values_of f.back) in
-    let d1 = length-values_of f.front in
-    let d2 = length-values_of f.back in
-    let few = p.few in
-    omega arith
 
 pub mark-requires-clause-unmarked : goal.mark-requires-clause-unmarked
 mark-requires-clause-unmarked g c =
