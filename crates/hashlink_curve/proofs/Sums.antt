@@ -1,12 +1,13 @@
 -- What stands before a place, by the rows of sums, and a change at a place.
-use Rattle.std.proofs.Common.{◌≡◌, ◌≢◌, ℕ, zero, suc, ◌+◌, ◌-◌, ◌*◌, ◌/◌, ◌^◌, ◌<◌, ◌≤◌, Bool, true, false, cond}
-use Rattle.std.proofs.Common.{List, [], ◌∷◌, ◌++◌, length, take, drop, get_or, set, replicate, refl, sym, ap, ap₂, ◌∙◌}
-use Rattle.std.proofs.Common.{◌⊎◌, inl, inr, arith, subst}
+use Rattle.std.proofs.Common.{◌≡◌, ◌≢◌, ℕ, zero, suc, ◌+◌, ◌-◌, ◌*◌, ◌/◌, ◌^◌, ◌<◌, ◌≤◌, Bool, true, false}
+use Rattle.std.proofs.Common.{List, [], ◌∷◌, ◌++◌, length, take, drop, get_or, set, replicate, refl, sym}
+use Rattle.std.proofs.Common.{ap, ap₂, ◌∙◌, ◌⊎◌, inl, inr, arith, cond, subst, subst₂}
 use Rattle.std.specs.Prelude.{nat_eq, nat_lt, sum, slice_range, All}
 use Rattle.std.specs.List.{count_by}
 use Rattle.std.proofs.Math.Seq.{take-set-lt, take-add}
-use Rattle.std.proofs.lemmas.List.{take-set-le, take_all, get_or-take, length-set, length-take, take-append-le}
-use Rattle.std.proofs.lemmas.List.{get_or-set_same, get_or-set_other, length-replicate, length-map}
+use Rattle.std.proofs.lemmas.List.{take-set-le, take_all, get_or-take, length-set, length-take}
+use Rattle.std.proofs.lemmas.List.{take-append-le, get_or-set_same, get_or-set_other}
+use Rattle.std.proofs.lemmas.List.{length-replicate, length-map}
 use Rattle.std.proofs.lemmas.List.Sums.{sum_by-cons, sum_by-append, sum_by-set, sum_by_more, sum_by-take-le}
 use Rattle.std.proofs.lemmas.List.Sums.{get_or-le-sum_by, sum_by-le}
 use Rattle.std.proofs.lemmas.List.Elements.{All-set, All-replicate}
@@ -25,14 +26,16 @@ below_or_at i j = grind arith
 -- ---- sums of the first entries
 
 -- the first b are the first a, and those from there on
-pub sum-range : (row : List ℕ) (a b : ℕ) → a ≤ b → sum (slice_range row a b) + sum (take a row) ≡ sum (take b row)
+sum-range : (row : List ℕ) (a b : ℕ) → a ≤ b
+    → sum (slice_range row a b) + sum (take a row) ≡ sum (take b row)
 sum-range row a b l =
     let more : a + (b - a) ≡ b = omega arith in
     let s = sum_by-append (λ (m : ℕ). m) (take a row) (slice_range row a b) in
     let t = ap sum (sym (take-add a (b - a) row)) ∙ ap (λ n. sum (take n row)) more in
     omega arith
 
-sum-take-next : (row : List ℕ) (x : ℕ) → x < length row → sum (take (x + 1) row) ≡ sum (take x row) + get_or row x 0
+sum-take-next : (row : List ℕ) (x : ℕ) → x < length row
+    → sum (take (x + 1) row) ≡ sum (take x row) + get_or row x 0
 sum-take-next row x l = sum_by_more (λ (m : ℕ). m) row x 0 l
 
 sum-take-le : (row : List ℕ) (a b : ℕ) → a ≤ b → sum (take a row) ≤ sum (take b row)
@@ -198,7 +201,8 @@ OpenRows-end row above width places zeros few h l =
     record {
       rows = rows_end row above width h l;
       small = omega arith;
-      one = subst (All (λ marks. marks ≤ 1)) (sym zeros) (All-replicate (λ marks. marks ≤ 1) places 0 (omega arith));
+      one = subst (All (λ marks. marks ≤ 1)) (sym zeros)
+          (All-replicate (λ marks. marks ≤ 1) places 0 (omega arith));
     }
 
 -- ---- how many marks stand before a place
@@ -326,18 +330,10 @@ AreSummed-can_change row above s x less more l enough one =
     let few = sum-marks row above s in
     rows_can_change row above s.rows x less more l enough (omega arith)
 
--- what is summed before a place is less than all
-pub sum_before-fits : (row : List ℕ) (above : List (List ℕ)) → AreSummed row above → (x : ℕ) → x < length row
-    → (HasNode (x / 64) above) × (sum (take x row) < 2 ^ 64)
-    × (sum (slice_range row (64 * (x / 64)) x) + sum_before (x / 64) above ≡ sum (take x row))
-sum_before-fits row above s x l =
-    let a = sum_by-take-le (λ (m : ℕ). m) row x in
-    let b = sum-marks row above s in
-    (rows_have row above s.rows x l, omega arith, rows_sum row above s.rows x l)
-
 -- ---- the rows in memory
 
-length-changed : (node less more : ℕ) (rows : List (List ℕ)) → length (changed node less more rows) ≡ length rows
+length-changed : (node less more : ℕ) (rows : List (List ℕ))
+    → length (changed node less more rows) ≡ length rows
 length-changed node less more [] = refl
 length-changed node less more (row ∷ above) = ap suc (length-changed (node / 64) less more above)
 
@@ -353,6 +349,26 @@ change-step (f ∷ g ∷ more_rows) above now v node less more x one read can c 
 change-step (f ∷ []) above now v node less more x one read can c =
     let zero = read ∙ get_or_default_zero f.items node x can.0 in
     ap₂ (λ (r : List ℕ) rs. r ∷ rs) (ap (λ n. set f.items node (n - less + more)) zero) c
+
+-- what is read, of what was lent, to count the marks before a place
+pub record Read (row lent : List ℕ) (lents : List (Vec ℕ Global)) (x : ℕ) : Type 0 where
+  pub within : HasNode (x / 64) (rows_of lents)
+  pub fits : sum (take x row) < 2 ^ 64
+  pub sums : sum (slice_range lent (64 * (x / 64)) x) + sum_before (x / 64) (rows_of lents) ≡ sum (take x row)
+
+pub reads : (row lent seen : List ℕ) (rows lents : List (Vec ℕ Global)) (x : ℕ)
+    → AreSummed row (rows_of rows) → row ≡ seen → x < length seen → lent ≡ row → lents ≡ rows
+    → Read row lent lents x
+reads row lent seen rows lents x s is l e es =
+    let wide = ap length is in
+    let above = rows_of rows in
+    let a = sum_by-take-le (λ (m : ℕ). m) row x in
+    let b = sum-marks row above s in
+    subst₂ (λ r rs. Read row r rs x) (sym e) (sym es) (record {
+      within = rows_have row above s.rows x (omega arith);
+      fits = omega arith;
+      sums = rows_sum row above s.rows x (omega arith);
+    })
 
 -- after a change of an entry, and of the sums above it, which are written back
 pub AreSummed-changed : (row : List ℕ) (rows now : List (Vec ℕ Global)) (x less more v len : ℕ)
