@@ -1,8 +1,10 @@
 -- What a step that takes an entry out of a map gives and leaves, as a step of a walk.
 use Rattle.std.proofs.Common.{◌≡◌, arith, List, [], Option, None, Some, refl, ap, sym}
 use Rattle.std.proofs.Common.{subst, ◌∙◌}
-use Rattle.std.specs.Map.Iter.{TakesFirst, TakesLast}
+use Rattle.std.specs.Map.Iter.{TakesFirst, TakesLast, GivesInOrder, GivesInReverse}
 use Rattle.std.specs.Prelude.{MatchOption}
+use Rattle.std.proofs.iter.runs.Sources.{as_is, as_is_back}
+use Rattle.hashlink_core.proofs.Walk.{in-order, in-reverse}
 use Rattle.hashlink_model.specs.MapState.{MapState, Removes}
 use Rattle.hashlink_model.specs.Steps.{PopsFront, PopsBack, KeepsOnly, Drains}
 use Rattle.hashlink_model.specs.Walk.{after_first_of, before_last_of}
@@ -67,3 +69,12 @@ module _ {K V S : Type 0} where
 
   pub kept-drained : (start old new : MapState K V S) → Kept start old → Drains old new → Drains start new
   kept-drained start old new kept drains = keeps_twice start old new old.entries [] kept drains
+
+-- each run of an iterator that owns its items gives what was left, in order from the front and in reverse from
+-- the back
+module _ {X : Type 0} where
+  pub gives-in_order : GivesInOrder X
+  gives-in_order p s = as_is p p.from (in-order (λ x. x) p s)
+
+  pub gives-in_reverse : GivesInReverse X
+  gives-in_reverse p s = as_is_back p p.from (in-reverse (λ x. x) p s)

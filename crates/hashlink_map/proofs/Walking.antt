@@ -1,11 +1,13 @@
 -- Where a walk that lends values stands, by its places.
 use Rattle.std.proofs.Common.{◌≡◌, ◌≢◌, ℕ, zero, suc, ◌+◌, ◌-◌, ◌<◌, ◌≤◌, List, [], ◌∷◌, length}
-use Rattle.std.proofs.Common.{take, drop, Option, None, Some, refl, ap, ap₂, sym, subst, length-drop}
+use Rattle.std.proofs.Common.{◌++◌, map, take, drop, Option, None, Some, refl, ap, ap₂, sym, subst, add-one}
+use Rattle.std.proofs.Common.{length-drop}
 use Rattle.std.proofs.Common.{length-take-le}
 use Rattle.std.proofs.Common.{◌∙◌, arith}
 use Rattle.std.specs.Prelude.{slice_get, OnSome, IfNone}
 use Rattle.std.specs.Option.{option_map}
-use Rattle.hashlink_model.specs.MapState.{MapState, map_state}
+use Rattle.hashlink_model.specs.Entries.{set_value_at}
+use Rattle.hashlink_model.specs.MapState.{MapState, map_state, with_value}
 use Rattle.hashlink_model.specs.Walk.{first_of, last_of}
 use Rattle.hashlink_core.specs.Keyed.{Keyed, entries_of, state_of, pair_with_value}
 use Rattle.hashlink_core.specs.KeyedLends.{with_value_at}
@@ -13,7 +15,7 @@ use Rattle.hashlink_core.proofs.Mapped.{values-renewed_value}
 use Rattle.std.proofs.lemmas.List.{length-map}
 use Rattle.hashlink_map.specs.declared.places_left.PlacesLeft.{PlacesLeft}
 use Rattle.hashlink_map.specs.WritingWalk.{WritingWalk, writing_walk, walk_with, walk_in, walk_rest}
-use Rattle.hashlink_map.specs.WritingWalk.{last_place}
+use Rattle.hashlink_map.specs.WritingWalk.{WritesSoFar, after_front, last_place}
 use Rattle.hashlink_map.specs.WritingWalk.{StandsIn, TakesPlace}
 use Rattle.hashlink_model.specs.Cursor.{following_place, preceding_place}
 use Rattle.hashlink_core.specs.Places.{Node, Holds, IsPlace, IsPlaceAt, place_number}
@@ -62,6 +64,12 @@ module _ {X : Type 0} (ns : List (Node × X)) (first last : Option Node) (left :
         few = omega (arith, w.few, number-next, some);
         ends = λ more. let ends = w.ends (omega (arith, some)) in omega (arith, ends, more, number-next);
       }
+
+  pub first-placed : IsPlace ns first
+  first-placed = elim first as (λ p. first ≡ p → IsPlace ns p) [
+    | None ↦ λ is. tt
+    | Some n ↦ λ is. holds-first n is
+  ] refl
 
   -- ---- at the back
   module _ (n : Node) (is : last ≡ Some n) where
@@ -172,3 +180,47 @@ module _ {K V S : Type 0} where
       → state_of seen ≡ state
       → state_of m ≡ state
   walk-ends seen is told = ap state_of is ∙ told
+
+-- ---- a walk that writes each value in turn
+
+module _ {K V : Type 0} (f : K × V → V) where
+  -- the first i entries with what f makes of them, and the others as they were
+  abbrev written : ℕ → List (K × V) → List (K × V)
+  written i es = map (λ e. (e.0, f e)) (take i es) ++ drop i es
+
+  written-at : (i : ℕ) (es : List (K × V)) → slice_get (written i es) i ≡ slice_get es i
+  written-at zero es = refl
+  written-at (suc i) [] = refl
+  written-at (suc i) (e ∷ es) = written-at i es
+
+  written-next : (i : ℕ) (es : List (K × V)) (v : V) → ((e : K × V) → slice_get es i ≡ Some e → v ≡ f e)
+      → set_value_at (written i es) i v ≡ written (suc i) es
+  written-next zero [] v is = refl
+  written-next zero (e ∷ es) v is = ap (λ w. (e.0, w) ∷ es) (is e refl)
+  written-next (suc i) [] v is = refl
+  written-next (suc i) (e ∷ es) v is = ap (λ l. (e.0, f e) ∷ l) (written-next i es v is)
+
+  -- the walk after a step that lent the next entry's value, where v was written
+  pub writes-next : {S : Type 0} {old : MapState K V S} {w new : WritingWalk K V S} {v : V}
+      → WritesSoFar f old w → 0 < w.left → ((e : K × V) → first_of (walk_rest w) ≡ Some e → v ≡ f e)
+      → new ≡ walk_with (after_front w) w.at v
+      → WritesSoFar f old new
+  writes-next {old = old} {w = w} {v = v} so some is told =
+      let here = λ (e : K × V) (at : slice_get old.entries w.at ≡ Some e).
+      first-of_part w.map.entries w.at w.left some ∙ ap (λ m. slice_get m.entries w.at) so.written
+      ∙ written-at w.at old.entries ∙ at in
+      subst (WritesSoFar f old) (sym told) record {
+        whole = omega (arith, so.whole, some);
+        written = ap (λ m. with_value m w.at v) so.written
+            ∙ ap (λ es. record old { entries = es })
+            (written-next w.at old.entries v (λ e at. is e (here e at))
+            ∙ ap (λ i. written i old.entries) (sym (add-one w.at)));
+      }
+
+-- an entry, by its value that was lent and by the pair that was shown
+module _ {K V : Type 0} {o : Option (K × V)} {e : K × V} where
+  pub lent-value : {v : V} → Some v ≡ option_map (λ x. x.1) o → o ≡ Some e → v ≡ e.1
+  lent-value {v = v} lent at = let same : Some v ≡ Some e.1 = lent ∙ ap (option_map (λ x. x.1)) at in cc
+
+  pub shown-entry : {x : K × V} → Some x ≡ o → o ≡ Some e → x ≡ e
+  shown-entry {x = x} shown at = let same : Some x ≡ Some e = shown ∙ at in cc

@@ -1,5 +1,5 @@
 -- What a walk ends as, once a `&mut` to a value that came through it has ended.
-use Rattle.std.specs.Prelude.{◌≡◌, ℕ, [], Option, None, Some, OnSome, IfNone, MatchOption, slice_get}
+use Rattle.std.specs.Prelude.{◌≡◌, ℕ, ◌-◌, [], Option, None, Some, OnSome, IfNone, MatchOption, slice_get}
 use Rattle.std.specs.Borrow.{Fml, RattleType, Bor, MutBor, Lends, LendsSo, follows_so, name_if_some}
 use Rattle.std.specs.Option.{option_map, option_copied_mut}
 use mir.Syntax.{named}
@@ -27,6 +27,12 @@ module _ {W K V S : Type 0} (map : W → MutBor (Keyed K V S)) (state : W → Wr
   abbrev pub StepsAndWrites : W → W → WritingWalk K V S → ℕ → V → Type 0
   StepsAndWrites old new stepped j v =
       ((map new).ghost_name ≡ (map old).ghost_name) × (state new ≡ walk_with stepped j v)
+
+  -- one entry fewer is left; and where r is a value that was lent, the walk is `stepped`, with v written at the
+  -- place j
+  abbrev pub StepsBy : {A : Type 0} → Option A → W → W → WritingWalk K V S → ℕ → V → Type 0
+  StepsBy r old new stepped j v =
+      OnSome r (StepsAndWrites old new stepped j v) × ((state new).left ≡ (state old).left - 1)
 
   -- the same walk, as it was
   abbrev pub StaysThere : W → W → Type 0
@@ -75,7 +81,7 @@ module _ (K V S T : RattleType) {g : eq.Ghosts K.Denot} {h : hash.Ghosts K.Denot
       → Fml
   LendsFromWalk i stepped j r =
       LendsSo (walk.the_row (record { mir = named 1; lft = [] }) K V S node_row T g h b w n) V i r
-      (λ new v. OnSome r (StepsAndWrites walk_map walk_state i.now new stepped j v))
+      (λ new v. StepsBy walk_map walk_state r i.now new stepped j v)
       (λ new. IfNone r (StaysThere walk_map walk_state i.now new))
 
   -- the first place that is left is taken off, and lent; and so the last one
@@ -95,7 +101,7 @@ module _ (K V S T : RattleType) {g : eq.Ghosts K.Denot} {h : hash.Ghosts K.Denot
       → Fml
   LendsFromValues i stepped j r =
       LendsSo (values.the_row (record { mir = named 1; lft = [] }) K V S node_row T g h b w n) V i r
-      (λ new v. OnSome r (StepsAndWrites values_map values_state i.now new stepped j v))
+      (λ new v. StepsBy values_map values_state r i.now new stepped j v)
       (λ new. IfNone r (StaysThere values_map values_state i.now new))
 
   abbrev pub LendsFirstValue : MutBor (ValuesMut K.Denot V.Denot S.Denot Node T.Denot g h b w n)

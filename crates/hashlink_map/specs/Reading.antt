@@ -1,6 +1,13 @@
--- What a call says of an iterator: what it read, and of one that its caller keeps that it read no more.
-use Rattle.std.specs.Prelude.{List, Option, None}
+-- What a call says of an iterator: what it reads from a key on, what it read, and of one that its caller keeps
+-- that it read no more.
+use Rattle.std.specs.Prelude.{Bool, List, [], drop, Option, None}
 use Rattle.std.specs.Iterator.{Yields, YieldsThen}
+use Rattle.std.specs.Option.{option_map_or}
+use Rattle.hashlink_model.specs.Entries.{place_of}
+
+-- the entries from the first one on whose key passes the test; where none passes none
+abbrev pub entries_from : {K V : Type 0} → (K → Bool) → List (K × V) → List (K × V)
+entries_from test es = option_map_or (λ j. drop j es) (place_of test es) []
 
 -- of what is given by value, and becomes an iterator
 module _ {Given State Item : Type 0} (becomes : Given → State → Type 0)

@@ -1,5 +1,6 @@
 -- What a contract sees of a walk that lends values for writing, and of the places that it has left.
-use Rattle.std.specs.Prelude.{◌≡◌, ℕ, ◌+◌, ◌-◌, ◌<◌, List, take, drop, Option, Some, MatchOption}
+use Rattle.std.specs.Prelude.{◌≡◌, ℕ, ◌+◌, ◌-◌, ◌<◌, List, ◌++◌, length, map, take, drop, Option, Some}
+use Rattle.std.specs.Prelude.{MatchOption}
 use Rattle.std.specs.Option.{option_map}
 use Rattle.hashlink_model.specs.MapState.{MapState, with_value}
 use Rattle.hashlink_core.specs.Keyed.{Keyed, state_of}
@@ -36,6 +37,18 @@ module _ {K V S : Type 0} where
   -- with v written at the place j
   abbrev pub walk_with : WritingWalk K V S → ℕ → V → WritingWalk K V S
   walk_with w j v = record w { map = with_value w.map j v }
+
+  -- a step gave an item where one was left, and else none
+  abbrev pub HasLeft : {A : Type 0} → WritingWalk K V S → Option A → Type 0
+  HasLeft w r = MatchOption r (w.left ≡ 0) (λ _. 0 < w.left)
+
+  -- a walk from the front over a map that was `old`, in which each entry so far has what f makes of it as its
+  -- value now
+  pub record WritesSoFar (f : K × V → V) (old : MapState K V S) (w : WritingWalk K V S) : Type 0 where
+    pub whole : w.at + w.left ≡ length old.entries
+    pub written : w.map ≡ record old {
+      entries = map (λ e. (e.0, f e)) (take w.at old.entries) ++ drop w.at old.entries;
+    }
 
   -- a node of the list at the place j was taken, and the walk is `stepped`; or none is left, and it stays as
   -- it was

@@ -3,6 +3,8 @@ ghost use Rattle.std.specs.Prelude.{◌≡◌, ◌^◌, ◌<◌, Some, IfSome, l
 ghost use Rattle.std.specs.Iterator.{at_most, UpTo};
 ghost use Rattle.std.specs.Iterator.SizeHint.{IsWithinCount};
 ghost use Rattle.std.specs.Map.Iter.{TakesFirst, TakesLast, ShowsInOrder, deref_pair};
+ghost use Rattle.std.specs.Map.Iter.{GivesInOrder, GivesInReverse};
+ghost use Rattle.hashlink_model.specs.Entries.{IsEntries};
 ghost use Rattle.hashlink_core.specs.Keyed.{entries_of};
 
 use crate::map::LinkedHashMap;
@@ -74,7 +76,15 @@ impl<K: Eq + Hash + Drop, V: Drop, S: BuildHasher + Drop> IntoIterator for Linke
 
     ghost into_iter_gives = { λ m r. r ≡ entries_of m };
 
-    fn into_iter(self) -> IntoIter<K, V, S> {
+    fn into_iter(self) -> IntoIter<K, V, S>
+        ensures into_iter_gives { result ≡ entries_of self }
+        ensures distinct { IsEntries K.eq (entries_of self) }
+        ensures runs { GivesInOrder (K × V) }
+        ensures runs_back { GivesInReverse (K × V) }
+        ensures fits { length (entries_of self) < 2 ^ 63 }
+    {
+        // `len` says that no two keys are equal.
+        let _count = self.len();
         IntoIter { map: self }
     }
 }

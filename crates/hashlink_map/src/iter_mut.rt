@@ -2,6 +2,7 @@
 //! sees it as the map's state, the number of the first place left, and the number of entries left.
 ghost use Rattle.std.specs.Prelude.{◌≡◌, Some, length, slice_get};
 ghost use Rattle.std.specs.Borrow.{sem};
+ghost use Rattle.std.specs.Map.Iter.{deref_pair};
 ghost use Rattle.std.specs.Option.{option_map};
 ghost use Rattle.hashlink_core.specs.Keyed.{entries_of, state_of};
 ghost use Rattle.hashlink_core.specs.Places.{Holds, IsPlace, place_number};
@@ -59,7 +60,7 @@ impl<'a, K: Eq + Hash, V, S: BuildHasher> IterMut<'a, K, V, S> {
     ghost use Rattle.hashlink_map.specs.Cursor.{lent_pair};
     ghost use Rattle.hashlink_map.specs.IterMut.{walk_map, walk_state};
     ghost use Rattle.hashlink_map.specs.IterMutLends.{LendsAtWalkNode, LendsPairThere, LendsPairFromWalk};
-    ghost use Rattle.hashlink_map.specs.WritingWalk.{walk_rest, after_front, after_back, last_place};
+    ghost use Rattle.hashlink_map.specs.WritingWalk.{HasLeft, walk_rest, after_front, after_back, last_place};
     ghost use Rattle.hashlink_map.specs.IterMutLends.{LendsFirst, LendsLast, LentFrom, LentValue, TakesOff};
 
     /// Returns the pair of the node.
@@ -125,11 +126,24 @@ impl<'a, K: Eq + Hash, V, S: BuildHasher> IterMut<'a, K, V, S> {
         walk.pair_at(taken)
     }
 
+    /// Returns the entry whose value `next` lends, or `None` if none is left. It takes constant time, and the
+    /// iterator stays where it is. Before `next_value` it tells the key.
+    pub fn peek(&self) -> Option<(&K, &V)>
+        ensures pair { option_map deref_pair result ≡ first_of (walk_rest (walk_state self.now)) }
+        ensures left { HasLeft (walk_state self.now) result }
+    {
+        if self.places.left == 0 {
+            return None;
+        }
+        self.map.pair_at_place(self.places.first)
+    }
+
     /// Returns a mutable reference to the next value from the front, or `None` if none is left. It takes
     /// constant time. It is `next` without the key: a caller can prove exactly what the map is afterwards.
     pub fn next_value(&mut self) -> Option<&mut V>
         ensures* lends { sem 𝓛 (LendsFirst K.row V.row S.row S.Hasher.row self.entry result) }
         ensures value { LentValue (first_of (walk_rest (walk_state self.old))) result }
+        ensures left { HasLeft (walk_state self.old) result }
     {
         match self.places.take_first(self.map) {
             Some(node) => Some(self.map.value_at_mut(node)),
@@ -143,6 +157,7 @@ impl<'a, K: Eq + Hash, V, S: BuildHasher> IterMut<'a, K, V, S> {
     pub fn next_value_back(&mut self) -> Option<&mut V>
         ensures* lends { sem 𝓛 (LendsLast K.row V.row S.row S.Hasher.row self.entry result) }
         ensures value { LentValue (last_of (walk_rest (walk_state self.old))) result }
+        ensures left { HasLeft (walk_state self.old) result }
     {
         match self.places.take_last(self.map) {
             Some(node) => Some(self.map.value_at_mut(node)),

@@ -14,6 +14,7 @@ mod extend;
 mod hashing;
 mod index;
 mod into_iter;
+mod iter_from;
 mod iter_mut;
 mod map;
 mod places_left;
@@ -29,6 +30,7 @@ pub use hashlink_core::{
     DefaultHashBuilder, DefaultHasher, Equivalent, ExtendError, Iter, Keys, TryReserveError, Values,
 };
 pub use into_iter::IntoIter;
+pub use iter_from::IterFrom;
 pub use iter_mut::IterMut;
 pub use map::LinkedHashMap;
 pub use raw_entry::{

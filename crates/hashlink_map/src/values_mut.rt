@@ -20,7 +20,7 @@ pub struct ValuesMut<'a, K: Eq + Hash, V, S: BuildHasher = DefaultHashBuilder, N
 
 impl<'a, K: Eq + Hash, V, S: BuildHasher> ValuesMut<'a, K, V, S> {
     ghost use Rattle.hashlink_map.specs.IterMut.{values_state};
-    ghost use Rattle.hashlink_map.specs.WritingWalk.{walk_rest};
+    ghost use Rattle.hashlink_map.specs.WritingWalk.{HasLeft, walk_rest};
     ghost use Rattle.hashlink_map.specs.IterMutLends.{LendsFirstValue, LendsLastValue, LentValue};
 
     /// Returns the number of values that are left. It takes constant time.
@@ -35,6 +35,7 @@ impl<'a, K: Eq + Hash, V, S: BuildHasher> ValuesMut<'a, K, V, S> {
     pub fn next(&mut self) -> Option<&mut V>
         ensures* lends { sem 𝓛 (LendsFirstValue K.row V.row S.row S.Hasher.row self.entry result) }
         ensures value { LentValue (first_of (walk_rest (values_state self.old))) result }
+        ensures left { HasLeft (values_state self.old) result }
     {
         match self.places.take_first(self.map) {
             Some(node) => Some(self.map.value_at_mut(node)),
@@ -47,6 +48,7 @@ impl<'a, K: Eq + Hash, V, S: BuildHasher> ValuesMut<'a, K, V, S> {
     pub fn next_back(&mut self) -> Option<&mut V>
         ensures* lends { sem 𝓛 (LendsLastValue K.row V.row S.row S.Hasher.row self.entry result) }
         ensures value { LentValue (last_of (walk_rest (values_state self.old))) result }
+        ensures left { HasLeft (values_state self.old) result }
     {
         match self.places.take_last(self.map) {
             Some(node) => Some(self.map.value_at_mut(node)),

@@ -2,7 +2,9 @@
 ghost use Rattle.std.specs.Prelude.{◌≡◌, ◌^◌, ◌<◌, Some, IfSome, length};
 ghost use Rattle.std.specs.Iterator.{at_most, UpTo};
 ghost use Rattle.std.specs.Iterator.SizeHint.{IsWithinCount};
+ghost use Rattle.std.specs.List.{IsDistinct};
 ghost use Rattle.std.specs.Map.Iter.{TakesFirst, TakesLast, ShowsInOrder, deref};
+ghost use Rattle.std.specs.Map.Iter.{GivesInOrder, GivesInReverse};
 ghost use Rattle.hashlink_model.specs.Sets.{elements_of};
 
 use crate::Iter;
@@ -74,7 +76,15 @@ impl<T: Eq + Hash + Drop, S: BuildHasher + Drop> IntoIterator for LinkedHashSet<
 
     ghost into_iter_gives = { λ s r. r ≡ elements_of s };
 
-    fn into_iter(self) -> IntoIter<T, S> {
+    fn into_iter(self) -> IntoIter<T, S>
+        ensures into_iter_gives { result ≡ elements_of self }
+        ensures distinct { IsDistinct T.eq (elements_of self) }
+        ensures runs { GivesInOrder T }
+        ensures runs_back { GivesInReverse T }
+        ensures fits { length (elements_of self) < 2 ^ 63 }
+    {
+        // `len` says that no two elements are equal.
+        let _count = self.len();
         IntoIter { set: self }
     }
 }

@@ -4,6 +4,7 @@ ghost use Rattle.std.specs.Prelude.{◌≡◌, ◌^◌, ◌<◌, length};
 ghost use Rattle.std.specs.Borrow.{sem};
 ghost use Rattle.std.specs.Map.{keys_of, values_of};
 ghost use Rattle.std.specs.Map.Iter.{ShowsInOrder, ShowsInReverse, deref, deref_pair};
+ghost use Rattle.std.specs.Map.Iter.{GivesInOrder, GivesInReverse};
 ghost use Rattle.hashlink_model.specs.Entries.{IsEntries};
 
 use super::LruCache;
@@ -93,7 +94,13 @@ impl<K: Eq + Hash + Drop, V: Drop, S: BuildHasher + Drop> IntoIterator for LruCa
 
     ghost into_iter_gives = { λ c r. r ≡ entries_of c };
 
-    fn into_iter(self) -> IntoIter<K, V, S> {
+    fn into_iter(self) -> IntoIter<K, V, S>
+        ensures into_iter_gives { result ≡ entries_of self }
+        ensures distinct { IsEntries K.eq (entries_of self) }
+        ensures runs { GivesInOrder (K × V) }
+        ensures runs_back { GivesInReverse (K × V) }
+        ensures fits { length (entries_of self) < 2 ^ 63 }
+    {
         let LruCache { map, capacity: _ } = self;
         map.into_iter()
     }

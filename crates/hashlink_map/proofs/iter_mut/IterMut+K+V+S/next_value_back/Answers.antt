@@ -17,7 +17,9 @@ returns-in-Some g c =
     let takes = c.in-Some.ensures.takes in (
       (
         refl,
-        (λ w. (refl, taken-written o.map.now o.places c.take_last.new.self n _ _ takes w)),
+        (λ w.
+            let step = taken-written o.map.now o.places c.take_last.new.self n _ _ takes w in
+            ((refl, step), ap (λ s. s.left) step)),
         tt,
       ),
       record {
@@ -25,5 +27,6 @@ returns-in-Some g c =
         value =
             sym c.value_at_mut.ensures.value
             ∙ ap (option_map (λ e. e.1)) (last-taken o.map.now o.places n _ _ o.stands takes);
+        left = takes.2;
       },
     )

@@ -8,7 +8,7 @@ use Rattle.hashlink_uses.proofs.maps.writing_walks.write_last.Goals as goal
 pub returns-clause-written : goal.returns-clause-written
 returns-clause-written g c _ =
     let v = c.args.value in
-    let told = on-some c.in-Some.is (c.next_value_back.follows.holds v) in
+    let told = on-some c.in-Some.is (c.next_value_back.follows.holds v).0 in
     let n = length (entries_of c.args.map.now) in
     let last : 0 + n - 1 ≡ n - 1 = omega arith in
     walk-ends (c.next_value_back.follows.lender v).map.now (search rules)
