@@ -5,9 +5,10 @@
 /// The linked hash map.
 pub mod linked_hash_map {
     pub use hashlink_map::{
-        CursorMut, Drain, Entry, ExtendError, IntoIter, Iter, IterMut, Keys, LinkedHashMap,
-        OccupiedEntry, RawEntryBuilder, RawEntryBuilderMut, RawEntryMut, RawOccupiedEntryMut,
-        RawVacantEntryMut, TryInsertError, TryReserveError, VacantEntry, Values, ValuesMut,
+        CursorMut, Drain, Entry, ExtendError, IntoIter, Iter, IterFrom, IterMut, Keys,
+        LinkedHashMap, OccupiedEntry, RawEntryBuilder, RawEntryBuilderMut, RawEntryMut,
+        RawOccupiedEntryMut, RawVacantEntryMut, TryInsertError, TryReserveError, VacantEntry,
+        Values, ValuesMut,
     };
     pub use std::alloc::AllocError;
 }

@@ -24,6 +24,8 @@ mod keys;
 #[cfg(test)]
 mod large;
 #[cfg(test)]
+mod loops;
+#[cfg(test)]
 mod lower;
 #[cfg(test)]
 mod no_size;
