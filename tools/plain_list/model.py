@@ -86,6 +86,8 @@ class Model(Entries, Cursors):
             self.retain(words.word(), answers)
         elif name in WALKS:
             self.walk(name, words, answers)
+        elif name == "iter_from":
+            self.walk_from(words.name(), answers)
         else:
             self.call_entry(name, words, answers)
 
@@ -253,6 +255,13 @@ class Model(Entries, Cursors):
             self.forget_room(0)
             self.list.clear()
 
+    def walk_from(self, key, answers):
+        """The pairs from that of the key on, and then that no more comes."""
+        place = self.list.place_of(key)
+        for pair in self.list.pairs[place:] if place is not None else []:
+            answers.pair(pair)
+        answers.pair(None)
+
     def steps(self, name, ends, words, answers):
         while (word := words.next()) not in (None, "clone"):
             if word == "left":
@@ -261,7 +270,7 @@ class Model(Entries, Cursors):
                 count, word = words.name()[0], words.word()
                 for _ in range(count):
                     answers.say(self.step(name, ends, word, None))
-            elif word in ("next", "back", "value", "value_back"):
+            elif word in ("next", "back", "value", "value_back", "peek"):
                 rest = words.copy()
                 written = number(rest.next())
                 if written is not None:
@@ -274,6 +283,8 @@ class Model(Entries, Cursors):
         """The word of what comes by a step from either end, whose value is written if it is lent for that."""
         if ends[0] >= ends[1]:
             return NOTHING
+        if word == "peek":
+            return pair_word(self.list.pairs[ends[0]])
         if word in ("back", "value_back"):
             ends[1] -= 1
             place = ends[1]

@@ -6,8 +6,8 @@ use crate::calls::map_cursors::call_cursor;
 use crate::calls::raw_entries::{call_end, call_raw, read_raw};
 use crate::calls::walks::Walked;
 use crate::items::{
-    Answer, Item, KEEPS, Keep, Line, Retain, Stop, Word, made, read_keep, rest_of, walk_and_clone,
-    walk_or_forget, walk_whole,
+    Answer, Item, KEEPS, Keep, Line, Retain, Stop, Word, lent, made, read_keep, rest_of,
+    walk_and_clone, walk_or_forget, walk_whole,
 };
 use hashlink_map::LinkedHashMap;
 use std::alloc::Global;
@@ -51,7 +51,7 @@ pub enum AtEnd {
     Back,
 }
 
-const CALLS: [(&str, ManyCall); 24] = [
+const CALLS: [(&str, ManyCall); 25] = [
     ("extend", ManyCall::Pairs(PairsCall::Extend)),
     ("extend_from", ManyCall::Pairs(PairsCall::Kept(Kept::From))),
     ("extend_kept", ManyCall::Pairs(PairsCall::Kept(Kept::Whole))),
@@ -71,6 +71,7 @@ const CALLS: [(&str, ManyCall); 24] = [
     ("drain", ManyCall::Walk(WalkCall::Drain(false))),
     ("forgotten_drain", ManyCall::Walk(WalkCall::Drain(true))),
     ("into_iter", ManyCall::Walk(WalkCall::IntoIter)),
+    ("iter_from", ManyCall::Walk(WalkCall::From)),
     ("collect", ManyCall::Walk(WalkCall::Collect)),
     ("cursor", ManyCall::Entry(EntryWord::Cursor)),
     ("cursor_of", ManyCall::Entry(EntryWord::CursorOf)),
@@ -180,6 +181,8 @@ enum WalkCall {
     /// Whether it is forgotten after its steps.
     Drain(bool),
     IntoIter,
+    /// From the entry of a key on.
+    From,
     /// Makes the map anew of its own pairs.
     Collect,
 }
@@ -197,8 +200,18 @@ fn walk_map<S: BuildHasher + Copy + Default + Drop>(
         WalkCall::ValuesMut => walk_whole(Walked(map.values_mut()), line),
         WalkCall::Drain(is_forgotten) => walk_or_forget(Walked(map.drain()), is_forgotten, line),
         WalkCall::IntoIter => walk_whole(Walked(take(map, line.home.alloc).into_iter()), line),
+        WalkCall::From => walk_from(map, line),
         WalkCall::Collect => line.say(collect(map, line.home.alloc)),
     }
+}
+
+/// Says the pairs from the entry of a key on, and then that no more comes.
+fn walk_from<S: BuildHasher>(map: &Map<S>, line: &mut Line<'_>) -> Result<(), Stop> {
+    let key = line.item()?;
+    for pair in map.iter_from(&key) {
+        line.say(lent(Some(pair)))?;
+    }
+    line.say(Word::Nothing)
 }
 
 /// Makes the map anew of its own pairs.

@@ -48,6 +48,9 @@ impl Walk for Walked<Values<'_, Item, Item>> {
 
 impl<S: BuildHasher> Walk for Walked<IterMut<'_, Item, Item, S>> {
     fn step(&mut self, step: Step) -> Word {
+        if step.is_peek {
+            return lent(self.0.peek());
+        }
         if step.is_value {
             return step_by_value(&mut self.0, step);
         }
