@@ -1,13 +1,12 @@
 -- A use of a key that may be absent, and what is written through the value that it lends, which stands last.
-use Rattle.std.specs.Prelude.{◌≡◌, ℕ, zero, suc, ◌+◌, ◌-◌, ◌<◌, max, Bool, List, [], ◌∷◌, ◌++◌, length}
-use Rattle.std.specs.Prelude.{drop, slice_get, Option, None, Some, MatchOption, Ok}
+use Rattle.std.specs.Prelude.{◌≡◌, ℕ, zero, suc, ◌+◌, ◌-◌, ◌<◌, max, Bool, List, [], ◌∷◌, ◌++◌, length, drop}
+use Rattle.std.specs.Prelude.{slice_get, Option, None, Some, MatchOption, Ok}
 use Rattle.std.specs.Cmp.{IsEquivalence}
 use Rattle.std.specs.Map.{lookup}
 use Rattle.std.specs.Option.{option_map, UnwrapsOrElse}
 use Rattle.std.proofs.Common.{refl, ap, sym, subst, ◌∙◌, arith}
 use Rattle.std.proofs.lemmas.Option.{none-some, same_Some}
-use Rattle.hashlink_model.specs.Cache.{CacheState, CacheGets, CacheGetsAndWrites}
-use Rattle.hashlink_model.specs.Cache.{KeepsLast, last_entries}
+use Rattle.hashlink_model.specs.Cache.{CacheState, CacheGets, CacheGetsAndWrites, KeepsLast, last_entries}
 use Rattle.hashlink_model.specs.Entries.{IsEntries, moved, place_of, put, set_value_at, without, stored_key}
 use Rattle.hashlink_model.specs.MapState.{Changes, Inserts, MapState, with_value}
 use Rattle.hashlink_model.specs.Walk.{last_of}

@@ -3,8 +3,7 @@ use Rattle.std.specs.Prelude.{◌≡◌, ℕ, ◌+◌, ◌≤◌, max, Bool, Lis
 use Rattle.std.specs.Map.{lookup}
 use Rattle.std.specs.Option.{UnwrapsOrElse}
 use Rattle.hashlink_model.specs.Cache.{CacheState, CacheInserts, CacheGets, CacheGetsAndWrites, IsWithin}
-use Rattle.hashlink_model.specs.Cache.{OnMap}
-use Rattle.hashlink_model.specs.Cache.{InsertsLast, InsertsThenFits}
+use Rattle.hashlink_model.specs.Cache.{OnMap, InsertsLast, InsertsThenFits}
 use Rattle.hashlink_model.specs.MapState.{MapState, empty_map}
 use Rattle.hashlink_core.specs.Keyed as keyed
 use Rattle.hashlink_core.specs.Keyed.{Keyed}

@@ -1,6 +1,6 @@
 -- What an insert evicts, and the step of a push.
-use Rattle.std.specs.Prelude.{◌≡◌, ℕ, ◌-◌, Bool, List, length, take, nat_lt, if◌then◌else◌}
-use Rattle.std.specs.Prelude.{Option, None, Result, IfOk}
+use Rattle.std.specs.Prelude.{◌≡◌, ℕ, ◌-◌, Bool, List, length, take, nat_lt, if◌then◌else◌, Option, None}
+use Rattle.std.specs.Prelude.{Result, IfOk}
 use Rattle.std.specs.Map.{lookup, remove_entry}
 use Rattle.std.specs.Option.{option_map, option_or}
 use Rattle.std.specs.Result.{result_map_both}

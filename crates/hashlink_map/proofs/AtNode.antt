@@ -1,6 +1,6 @@
 -- Where a node stands after a step at it, and steps in a row.
-use Rattle.std.proofs.Common.{[], ◌∷◌, ap₂, ◌++◌, length-append, ◌≡◌, ℕ, ◌+◌, ◌-◌, ◌≤◌, Bool, true}
-use Rattle.std.proofs.Common.{List, length, None, Some, refl, sym, ap, subst, ◌∙◌, arith}
+use Rattle.std.proofs.Common.{[], ◌∷◌, ap₂, ◌++◌, length-append, ◌≡◌, ℕ, ◌+◌, ◌-◌, ◌≤◌, Bool, true, List}
+use Rattle.std.proofs.Common.{length, None, Some, refl, sym, ap, subst, ◌∙◌, arith}
 use Rattle.std.specs.Prelude.{slice_get, insert, remove, unwrap_or, Result, Ok, Err, IfOk, IfErr, OnErr}
 use Rattle.std.specs.Prelude.{MatchOption, MatchResult}
 use Rattle.std.specs.Option.{option_map}
@@ -9,8 +9,7 @@ use Rattle.std.specs.Map.{lookup}
 use Rattle.std.proofs.lemmas.Option.{slice_get-map}
 use Rattle.std.proofs.lemmas.Map.Entries.{length-values_of}
 use Rattle.hashlink_model.specs.Entries.{place_of, place_left, moved_at, put, stored_key, set_value_at}
-use Rattle.hashlink_model.specs.MapState.{MapState, AddsEntry, PutsEntry, RefusesEntry}
-use Rattle.hashlink_model.specs.MapState.{MovesAt, RoomFor}
+use Rattle.hashlink_model.specs.MapState.{MapState, AddsEntry, PutsEntry, RefusesEntry, MovesAt, RoomFor}
 use Rattle.hashlink_model.specs.MapState.{with_value}
 use Rattle.hashlink_model.specs.Entry.{key_at, value_at, VacantInserts}
 use Rattle.hashlink_model.proofs.Places.{split_at, slice_get_here}

@@ -1,7 +1,6 @@
 -- A key that is there, by its place.
 use Rattle.std.proofs.Common.{◌≡◌, ℕ, Bool, is_some, Option, None, Some, length, unwrap_or, refl, ap, sym}
-use Rattle.std.proofs.Common.{◌∙◌}
-use Rattle.std.proofs.Common.{true≢false}
+use Rattle.std.proofs.Common.{◌∙◌, true≢false}
 use Rattle.std.specs.Prelude.{IsSome, MatchOption}
 use Rattle.std.specs.Map.{values_of}
 use Rattle.hashlink_model.specs.Entries.{place_of}

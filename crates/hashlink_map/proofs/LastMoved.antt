@@ -1,8 +1,6 @@
 -- An entry that stands last: it moved there, or its pair went in there.
 use Rattle.std.proofs.Common.{◌≡◌, ℕ, ◌-◌, List, [], ◌∷◌, ◌++◌, Bool, None, Some, length, refl, sym, ap, ap₂}
-use Rattle.std.proofs.Common.{subst}
-use Rattle.std.proofs.Common.{◌∙◌}
-use Rattle.std.proofs.Common.{append-nil}
+use Rattle.std.proofs.Common.{subst, ◌∙◌, append-nil}
 use Rattle.std.specs.Prelude.{Option, slice_get, Result, Ok, Err, IfOk, IfErr, OnErr, MatchOption}
 use Rattle.std.specs.Borrow.{Bor, MutBor}
 use Rattle.std.specs.Cmp.{IsEquivalence}

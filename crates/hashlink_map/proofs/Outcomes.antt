@@ -1,7 +1,6 @@
 -- What the entries are after a call, and what it returns, in one equation for each.
 use Rattle.std.proofs.Common.{◌≡◌, ℕ, suc, Bool, true, false, cond, List, [], ◌∷◌, ◌++◌, length, Option, None}
-use Rattle.std.proofs.Common.{Some}
-use Rattle.std.proofs.Common.{Result, Ok, Err, is_some, refl, sym, ap, ◌∙◌, true≢false, arith}
+use Rattle.std.proofs.Common.{Some, Result, Ok, Err, is_some, refl, sym, ap, ◌∙◌, true≢false, arith}
 use Rattle.std.specs.Prelude.{Contains, IfOk, IfSome, IsOk, IsSome, OnOk, unwrap_or}
 use Rattle.std.specs.Map.{lookup, lookup_entry, remove_entry}
 use Rattle.std.specs.Option.{option_map}

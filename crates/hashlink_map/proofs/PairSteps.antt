@@ -8,8 +8,7 @@ use base.Logic.{SProp, ent, sep, emp, mono_r}
 use contract.Monad.{fact, fact_i}
 use types.Logic.{Logic, sem}
 use types.Kit.{Item, Goal, Seq, ‵, raw, ◌⊛◌, ◌$◌, ◌∵◌, !, qed, move, drop, split, join, use0, fsplit, fpick}
-use types.Kit.{feq_l}
-use types.Kit.{done}
+use types.Kit.{feq_l, done}
 use denote.RattleType.{RattleType}
 use denote.RawPtr.{Ptr, RawPtr, ptr_val}
 use denote.Shadow.{makes_shadow}

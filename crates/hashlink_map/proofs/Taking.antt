@@ -1,6 +1,5 @@
 -- What a step that takes an entry out of a map gives and leaves, as a step of a walk.
-use Rattle.std.proofs.Common.{◌≡◌, arith, List, [], Option, None, Some, refl, ap, sym}
-use Rattle.std.proofs.Common.{subst, ◌∙◌}
+use Rattle.std.proofs.Common.{◌≡◌, arith, List, [], Option, None, Some, refl, ap, sym, subst, ◌∙◌}
 use Rattle.std.specs.Map.Iter.{TakesFirst, TakesLast, GivesInOrder, GivesInReverse}
 use Rattle.std.specs.Prelude.{MatchOption}
 use Rattle.std.proofs.iter.runs.Sources.{as_is, as_is_back}

@@ -25,11 +25,9 @@ use Rattle.hashlink_map.specs.declared.iter_mut.IterMut.{IterMut}
 use Rattle.hashlink_map.specs.Cursor.{lent_pair}
 use Rattle.hashlink_map.specs.IterMut.{walk_map, walk_state}
 use Rattle.hashlink_map.specs.IterMutLends.{walk_with_value, LendsAtWalkNode, LendsPairThere}
-use Rattle.hashlink_map.specs.IterMutLends.{LendsPairFromWalk}
-use Rattle.hashlink_map.specs.IterMutLends.{LentFrom, StaysThere, StepsAndWrites, TakesOff}
+use Rattle.hashlink_map.specs.IterMutLends.{LendsPairFromWalk, LentFrom, StaysThere, StepsAndWrites, TakesOff}
 use Rattle.hashlink_map.specs.WritingWalk.{WritingWalk, StandsIn, StandsIn-prop, walk_with, walk_rest}
-use Rattle.hashlink_map.specs.WritingWalk.{last_place}
-use Rattle.hashlink_map.specs.WritingWalk.{after_front, after_back}
+use Rattle.hashlink_map.specs.WritingWalk.{last_place, after_front, after_back}
 use Rattle.hashlink_map.proofs.Walking.{written-there, first-taken, last-taken}
 
 module _ {K V S T : Type 0} {g : eq.Ghosts K} {h : hash.Ghosts K} {b : builder.Ghosts S T}

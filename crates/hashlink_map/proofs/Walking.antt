@@ -1,9 +1,7 @@
 -- Where a walk that lends values stands, by its places.
-use Rattle.std.proofs.Common.{◌≡◌, ◌≢◌, ℕ, zero, suc, ◌+◌, ◌-◌, ◌<◌, ◌≤◌, List, [], ◌∷◌, length}
-use Rattle.std.proofs.Common.{◌++◌, map, take, drop, Option, None, Some, refl, ap, ap₂, sym, subst, add-one}
-use Rattle.std.proofs.Common.{length-drop}
-use Rattle.std.proofs.Common.{length-take-le}
-use Rattle.std.proofs.Common.{◌∙◌, arith}
+use Rattle.std.proofs.Common.{◌≡◌, ◌≢◌, ℕ, zero, suc, ◌+◌, ◌-◌, ◌<◌, ◌≤◌, List, [], ◌∷◌, length, ◌++◌, map}
+use Rattle.std.proofs.Common.{take, drop, Option, None, Some, refl, ap, ap₂, sym, subst, add-one, length-drop}
+use Rattle.std.proofs.Common.{length-take-le, ◌∙◌, arith}
 use Rattle.std.specs.Prelude.{slice_get, OnSome, IfNone}
 use Rattle.std.specs.Option.{option_map}
 use Rattle.hashlink_model.specs.Entries.{set_value_at}
@@ -15,8 +13,7 @@ use Rattle.hashlink_core.proofs.Mapped.{values-renewed_value}
 use Rattle.std.proofs.lemmas.List.{length-map}
 use Rattle.hashlink_map.specs.declared.places_left.PlacesLeft.{PlacesLeft}
 use Rattle.hashlink_map.specs.WritingWalk.{WritingWalk, writing_walk, walk_with, walk_in, walk_rest}
-use Rattle.hashlink_map.specs.WritingWalk.{WritesSoFar, after_front, last_place}
-use Rattle.hashlink_map.specs.WritingWalk.{StandsIn, TakesPlace}
+use Rattle.hashlink_map.specs.WritingWalk.{WritesSoFar, after_front, last_place, StandsIn, TakesPlace}
 use Rattle.hashlink_model.specs.Cursor.{following_place, preceding_place}
 use Rattle.hashlink_core.specs.Places.{Node, Holds, IsPlace, IsPlaceAt, place_number}
 use Rattle.hashlink_core.specs.Walk.{StandsBetween}

@@ -1,7 +1,7 @@
 -- Maps compared, and what they feed a hasher: by their entries alone.
 use Rattle.std.specs.Prelude.{◌≡◌, Bool, true, List, Option, Some}
-use Rattle.std.specs.Cmp.{IsEquivalence, IsPartialEquivalence, IsPartialOrder, IsTotalOrder}
-use Rattle.std.specs.Cmp.{on_equiv, on_per, on_po, on_total, partial_equiv_from_equiv}
+use Rattle.std.specs.Cmp.{IsEquivalence, IsPartialEquivalence, IsPartialOrder, IsTotalOrder, on_equiv, on_per}
+use Rattle.std.specs.Cmp.{on_po, on_total, partial_equiv_from_equiv}
 use Rattle.std.specs.Ordering.{eq_by_cmp}
 use Rattle.std.specs.declared.cmp.Ordering.{Ordering}
 use Rattle.hashlink_model.specs.Compare.{entries_eq, entries_cmp, entries_partial_cmp, entries_hash_input}

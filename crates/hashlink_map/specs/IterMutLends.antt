@@ -16,8 +16,8 @@ use Rattle.hashlink_map.specs.declared.as_node.AsNode as as_node
 use Rattle.hashlink_map.specs.declared.iter_mut.IterMut.{IterMut}
 use Rattle.hashlink_map.specs.declared.values_mut.ValuesMut.{ValuesMut}
 use Rattle.hashlink_map.specs.IterMut.{walk_map, walk_state, values_map, values_state}
-use Rattle.hashlink_map.specs.WritingWalk.{WritingWalk, TakesPlace, walk_with}
-use Rattle.hashlink_map.specs.WritingWalk.{after_front, after_back, last_place}
+use Rattle.hashlink_map.specs.WritingWalk.{WritingWalk, TakesPlace, walk_with, after_front, after_back}
+use Rattle.hashlink_map.specs.WritingWalk.{last_place}
 use Rattle.hashlink_map.specs.Cursor.{lent_pair}
 use Rattle.hashlink_map.specs.Standing.{still_standing}
 

@@ -1,7 +1,6 @@
 -- What a map or a raw entry ends as, once what came through a raw entry has ended.
 use Rattle.std.specs.Prelude.{◌≡◌, ◌-◌, Bool, [], Option, Some, MatchOption, length, slice_get, Result, Ok}
-use Rattle.std.specs.Prelude.{Err, IfOk}
-use Rattle.std.specs.Prelude.{IfErr, ⊤}
+use Rattle.std.specs.Prelude.{Err, IfOk, IfErr, ⊤}
 use Rattle.std.specs.Borrow.{Fml, ftrue, RattleType, Bor, MutBor, Lends, RestsIfNone, RestsIfErr, follows_so}
 use Rattle.std.specs.Borrow.{name_if_ok}
 use mathlib.Core.Option.{none}

@@ -2,11 +2,10 @@
 use Rattle.std.proofs.Common.{◌≡◌, Option, None, Some, Ok, Err, Result, Bool, [], ◌∷◌, refl, sym, ap, subst}
 use Rattle.std.proofs.Common.{◌∙◌}
 use seplogic.Ra.Ura.{Ura}
-use base.Logic.{SProp, ent, sep}
+use base.Logic.{SProp, ent, sep, emp}
 use contract.Monad.{fact, fact_i}
 use types.Logic.{Logic, sem}
 use types.Kit.{‵, raw, ◌⊛◌, ◌$◌, ◌∵◌, !, qed, move, join, split, use0, fpick, fpack, done}
-use base.Logic.{emp}
 use base.Fml.{ftrue, flft}
 use contract.Lifetimes.{Lfts, Shares, toks}
 use mathlib.Core.Option.{none}

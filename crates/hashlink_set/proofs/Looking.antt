@@ -1,7 +1,6 @@
 -- What a step of a lazy walk looks at, gives and leaves.
-use Rattle.std.proofs.Common.{◌≡◌, ℕ, ◌+◌, ◌^◌, ◌≤◌, nat_lt, Bool, true, false, cond, List, [], ◌∷◌}
-use Rattle.std.proofs.Common.{filter, not, Option, None}
-use Rattle.std.proofs.Common.{Some, refl, sym, ap, ap₂, subst, ◌∙◌}
+use Rattle.std.proofs.Common.{◌≡◌, ℕ, ◌+◌, ◌^◌, ◌≤◌, nat_lt, Bool, true, false, cond, List, [], ◌∷◌, filter}
+use Rattle.std.proofs.Common.{not, Option, None, Some, refl, sym, ap, ap₂, subst, ◌∙◌}
 use Rattle.std.specs.Bool.{beq}
 use Rattle.std.specs.Prelude.{option_copied, is_none, IfSome}
 use Rattle.std.specs.Iterator.{at_most, UpTo}
@@ -13,9 +12,8 @@ use Rattle.hashlink_model.specs.Algebra.{at_most_both}
 use Rattle.hashlink_core.specs.Keyed.{Keyed}
 use Rattle.hashlink_set.specs.Elements.{elements_in}
 use Rattle.hashlink_model.proofs.LazyWalks.{first_passing-takes, pair_step-takes}
-use Rattle.hashlink_set.specs.Walks.{lacks, sifts, LooksOn, LooksOnBoth, sifted_rest, SiftedSteps}
-use Rattle.hashlink_set.specs.Walks.{union_walk, union_rest, UnionSteps}
-use Rattle.hashlink_set.specs.Walks.{symmetric_difference_walk}
+use Rattle.hashlink_set.specs.Walks.{lacks, sifts, LooksOn, LooksOnBoth, sifted_rest, SiftedSteps, union_walk}
+use Rattle.hashlink_set.specs.Walks.{union_rest, UnionSteps, symmetric_difference_walk}
 use Rattle.hashlink_set.specs.Walks.{symmetric_difference_rest, SymmetricDifferenceSteps}
 use Rattle.hashlink_set.specs.declared.sifted.Sifted.{Sifted}
 use Rattle.hashlink_set.specs.declared.symmetric_difference.SymmetricDifference.{SymmetricDifference}

@@ -1,8 +1,7 @@
 -- Which element stands last after one came in or moved there.
 use Rattle.std.proofs.Common.{◌≡◌, ℕ, ◌-◌, Result, Bool, true, false, List, [], ◌∷◌, ◌++◌, length, Option}
-use Rattle.std.proofs.Common.{None}
-use Rattle.std.proofs.Common.{Some, Ok, Err}
-use Rattle.std.proofs.Common.{cond, ◌||◌, is_some, unwrap_or, refl, sym, ap, subst, ◌∙◌, arith, length-append}
+use Rattle.std.proofs.Common.{None, Some, Ok, Err, cond, ◌||◌, is_some, unwrap_or, refl, sym, ap, subst, ◌∙◌}
+use Rattle.std.proofs.Common.{arith, length-append}
 use Rattle.std.specs.Prelude.{IfOk, IfErr}
 use Rattle.std.specs.Cmp.{IsEquivalence}
 use Rattle.std.specs.List.{find, IsDistinct}

@@ -8,8 +8,7 @@ use mir.Val.{Val, of_list, vptr, vstruct}
 use prog.Wp.{WpFn}
 use types.Logic.{sem}
 use types.Kit.{‵, raw, ◌⊛◌, some, later, ◌$◌, ◌∵◌, !, qed, by, move, keep, drop, split, join, fsplit, fjoin}
-use types.Kit.{fpick}
-use types.Kit.{feq_l, pick, await, rewrite, use0, use1}
+use types.Kit.{fpick, feq_l, pick, await, rewrite, use0, use1}
 use types.Part.{whole, sub}
 use types.Run.{stop, fld, of_opd, addr, and_then, no_more, returns, enter}
 use types.ByLocal.{alloc_all, pass_all, free_all, look_at, get, get_in, through, sets, lands_as}

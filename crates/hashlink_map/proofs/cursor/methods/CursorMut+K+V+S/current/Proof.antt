@@ -7,8 +7,7 @@ use mir.Val.{Val, of_list, vptr, vstruct}
 use prog.Wp.{WpFn}
 use types.Logic.{sem}
 use types.Kit.{‵, raw, ◌⊛◌, some, later, ◌$◌, ◌∵◌, !, qed, by, move, keep, drop, split, join, fsplit, fjoin}
-use types.Kit.{fpick}
-use types.Kit.{feq_l, pick, await, rewrite, use0, use1}
+use types.Kit.{fpick, feq_l, pick, await, rewrite, use0, use1}
 use types.Part.{whole, sub}
 use types.Run.{stop, fld, of_opd, addr, and_then, no_more, returns, enter}
 use types.ByLocal.{alloc_all, pass_all, free_all, look_at, get, get_in, through, sets, lands_as}
@@ -40,7 +39,7 @@ use Rattle.hashlink_core.specs.contracts.Node.{the_row as node_row}
 use Rattle.hashlink_model.specs.Cursor.{entry_in}
 use Rattle.hashlink_map.specs.contracts.as_node.NodeAsNode.TheImpl
 use Rattle.hashlink_map.specs.contracts.cursor.CursorMut as cursor
-use Rattle.hashlink_map.specs.Cursor.{cursor_state, lent_pair}
+use Rattle.hashlink_map.specs.Cursor.{cursor_state, lent_pair, cursor_node}
 use Rattle.hashlink_map.specs.CursorLends.{LendsPairFromCursor}
 use Rattle.hashlink_map.proofs.PairRows.{Lent, lent_laws}
 use Rattle.hashlink_map.proofs.PairValues.{valued}
@@ -48,7 +47,6 @@ use Rattle.hashlink_map.specs.contracts.cursor.methods.CursorMut+K+V+S.current a
 use Rattle.hashlink_map.specs.contracts.cursor.methods.CursorMut+K+V+S.with_place as g
 use Rattle.hashlink_map.specs.contracts.cursor.methods.CursorMut+K+V+S.pair_at as lends
 use Rattle.hashlink_map.proofs.cursor.methods.CursorMut+K+V+S.pair_at.Met as lent
-use Rattle.hashlink_map.specs.Cursor.{cursor_node}
 use Rattle.hashlink_map.proofs.PairSteps.{Asks, adds_fact, asks_again}
 use contract.BorrowLft.{◌⊑◌}
 use denote.Triple.Entry.{alive, on_entry}

@@ -8,14 +8,12 @@ use mir.Val.{Val, of_list, vstruct}
 use prog.Wp.{WpFn, Wp, after_seq}
 use types.Logic.{sem}
 use types.Kit.{‵, raw, ◌⊛◌, some, later, at_ret, any_q, post, ◌$◌, ◌∵◌, !, qed, by, move, keep, drop, split}
-use types.Kit.{join}
-use types.Kit.{fsplit, fsplit3, fjoin, pick, await, rewrite, use0, use1, suffices}
+use types.Kit.{join, fsplit, fsplit3, fjoin, pick, await, rewrite, use0, use1, suffices}
 use types.Match.{live, vrt, in_variant}
 use types.Part.{whole, agg}
 use types.Run.{stop, fld, of_opd, addr, lit, and_then, no_more, first, switches_on, exec, returns, enter}
 use types.ByLocal.{alloc_all, pass_all, free_all, look_at, get, get_in, get_tag, through, sets, sets_last}
-use types.ByLocal.{lands_as}
-use types.ByLocal.{env}
+use types.ByLocal.{lands_as, env}
 use contract.Monad.{fact, fact_i}
 use contract.Lifetimes.{Lfts}
 use contract.Running.{tables}

@@ -8,8 +8,7 @@ use mir.Val.{Val, of_list, vstruct}
 use prog.Wp.{WpFn, Wp, after_seq}
 use types.Logic.{sem}
 use types.Kit.{‵, raw, ◌⊛◌, some, later, at_ret, any_q, post, ◌$◌, ◌∵◌, !, qed, by, move, keep, drop, split}
-use types.Kit.{join}
-use types.Kit.{fsplit, fjoin, pick, await, rewrite, use0, use1, suffices, done}
+use types.Kit.{join, fsplit, fjoin, pick, await, rewrite, use0, use1, suffices, done}
 use types.Match.{live, vrt, in_variant}
 use types.Part.{whole, agg}
 use types.Run.{stop, fld, of_opd, lit, and_then, no_more, first, switches_on, exec, returns, enter}

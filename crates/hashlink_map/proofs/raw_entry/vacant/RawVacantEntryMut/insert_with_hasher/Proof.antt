@@ -8,8 +8,7 @@ use mir.Val.{Val, vint}
 use prog.Wp.{WpFn}
 use types.Logic.{sem}
 use types.Kit.{‵, raw, ◌⊛◌, some, later, ◌$◌, ◌∵◌, !, qed, by, move, keep, drop, split, join, fjoin, pick}
-use types.Kit.{await}
-use types.Kit.{use0, use1, use2, done}
+use types.Kit.{await, use0, use1, use2, done}
 use types.Run.{of_opd, and_then, no_more, returns, enter}
 use types.ByLocal.{alloc_all, pass_all, free_all, look_at, get, sets, lands_as}
 use contract.BorrowLft.{◌⊑◌}
