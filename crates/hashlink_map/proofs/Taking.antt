@@ -69,8 +69,8 @@ module _ {K V S : Type 0} where
   pub kept-drained : (start old new : MapState K V S) → Kept start old → Drains old new → Drains start new
   kept-drained start old new kept drains = keeps_twice start old new old.entries [] kept drains
 
--- each run of an iterator that owns its items gives what was left, in order from the front and in reverse from
--- the back
+-- each run of an iterator that owns its items gives what was left, in order from the front and in reverse
+-- from the back
 module _ {X : Type 0} where
   pub gives-in_order : GivesInOrder X
   gives-in_order p s = as_is p p.from (in-order (λ x. x) p s)

@@ -28,8 +28,8 @@ module _ {W K V S : Type 0} (map : W → MutBor (Keyed K V S)) (state : W → Wr
   StepsAndWrites old new stepped j v =
       ((map new).ghost_name ≡ (map old).ghost_name) × (state new ≡ walk_with stepped j v)
 
-  -- one entry fewer is left; and where r is a value that was lent, the walk is `stepped`, with v written at the
-  -- place j
+  -- one entry fewer is left; and where r is a value that was lent, the walk is `stepped`, with v written at
+  -- the place j
   abbrev pub StepsBy : {A : Type 0} → Option A → W → W → WritingWalk K V S → ℕ → V → Type 0
   StepsBy r old new stepped j v =
       OnSome r (StepsAndWrites old new stepped j v) × ((state new).left ≡ (state old).left - 1)

@@ -1,5 +1,5 @@
--- What a call says of an iterator: what it reads from a key on, what it read, and of one that its caller keeps
--- that it read no more.
+-- What a call says of an iterator: what it reads from a key on, what it read, and of one that its caller
+-- keeps that it read no more.
 use Rattle.std.specs.Prelude.{Bool, List, [], drop, Option, None}
 use Rattle.std.specs.Iterator.{Yields, YieldsThen}
 use Rattle.std.specs.Option.{option_map_or}

@@ -38,8 +38,8 @@ impl<K: Eq + Hash, V, S: BuildHasher> LinkedHashMap<K, V, S> {
     ghost use Rattle.hashlink_map.specs.Reading.{entries_from};
 
     /// Returns an iterator over the entry of the key and those behind it, front first, which ends at the
-    /// back. If the key is absent, it is empty. It hashes the key once, does not allocate, and each step takes
-    /// constant time.
+    /// back. If the key is absent, it is empty. It hashes the key once, does not allocate, and each step
+    /// takes constant time.
     pub fn iter_from<Q: Equivalent<K>>(&self, key: Q) -> IterFrom<'_, K, V, S>
         ensures rest { result ≡ entries_from (Q.matches key) (entries_of self.now) }
         ensures distinct { IsEntries K.eq (entries_of self.now) }

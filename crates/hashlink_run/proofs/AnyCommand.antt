@@ -59,7 +59,8 @@ module _ {K V B S : Type 0} (eq : K → K → Bool) (Says : K → V → B → Ty
   -- what a command keeps, and how many nodes it may pass
   abbrev StepNodes : Command K V → Type 0
   StepNodes command =
-      (keeps_nodes command ≡ true → KeepsNodes old new) × Passes old (passed_at command (length new.entries)) new
+      (keeps_nodes command ≡ true → KeepsNodes old new)
+      × Passes old (passed_at command (length new.entries)) new
 
   kept : {keeps : Bool} → KeepsNodes old new
       → (keeps ≡ true → KeepsNodes old new) × Passes old (Length (length new.entries)) new

@@ -55,7 +55,8 @@ module _ {K V B S : Type 0} (eq : K → K → Bool) (Says : K → V → B → Ty
   run-keeps old (c ∷ cs) [] r all = absurd r
   run-keeps old (c ∷ cs) (x ∷ xs) r all =
       let keeps = All-head (λ d. keeps_nodes d ≡ true) c cs all in
-      let first = kept-never_fall old x.state ((step-nodes eq Says Keeps old x.state c x.replies r.0).0 keeps) in
+      let nodes = step-nodes eq Says Keeps old x.state c x.replies r.0 in
+      let first = kept-never_fall old x.state (nodes.0 keeps) in
       let more = run-keeps x.state cs xs r.1 (All-tail (λ d. keeps_nodes d ≡ true) c cs all) in
       omega arith
 

@@ -79,7 +79,8 @@ module _ {K V B S : Type 0} (eq : K → K → Bool) (Says : K → V → B → Ty
         by (Some j) t = occupied-taken j step t
 
   module _ (old new : MapState K V S) (spare : 1 ≤ old.spare) where
-    pub inserts-taken : (k : K) (v : V) (b : ℕ) (answer : Result (Option V) (K × V)) (more : List (Reply K V B))
+    pub inserts-taken : (k : K) (v : V) (b : ℕ) (answer : Result (Option V) (K × V))
+        (more : List (Reply K V B))
         → Inserts eq old new k v b answer → is_refused (insert_reply answer ∷ more) ≡ false
     inserts-taken k v b (Ok w) more s = refl
     inserts-taken k v b (Err pair) more s = let none = s.may_refuse.no_spare in absurd (omega arith)
@@ -105,7 +106,8 @@ module _ {K V B S : Type 0} (eq : K → K → Bool) (Says : K → V → B → Ty
       ap (λ rs. is_refused (rs ++ more)) s.2
       ∙ inserts-taken eq Says first old.map new.map spare k v (place_next old) s.0 more s.1.map
 
-  pub walk-taken : (old new : CursorState K V S) (steps : List (CursorStep K V)) (replies : List (Reply K V B))
+  pub walk-taken : (old new : CursorState K V S) (steps : List (CursorStep K V))
+      (replies : List (Reply K V B))
       → 1 ≤ old.map.spare → CursorWalks eq Says old steps replies new → is_refused replies ≡ false
   walk-taken old new [] replies spare s = ap is_refused s.0
   walk-taken old new (step ∷ steps) replies spare s =

@@ -1,5 +1,5 @@
--- How what a line says is spelled. What a text says is the one whose spelling it is. After each spelling comes what
--- is said with so many numbers, among which those who read a line look for its first word.
+-- How what a line says is spelled. What a text says is the one whose spelling it is. After each spelling
+-- comes what is said with so many numbers, among which those who read a line look for its first word.
 use Rattle.std.specs.Prelude.{◌≡◌, ◌↔◌, ℕ, ◌^◌, ◌<◌, List, [], ◌∷◌, map, codes, decimal, Option, None, Some}
 use Rattle.std.specs.Prelude.{nat_le, if◌then◌else◌}
 use Rattle.std.specs.Option.{option_map}
