@@ -1,7 +1,6 @@
 -- The list of a curve's falls.
-use Rattle.std.proofs.Common.{◌≡◌, ℕ, suc, ◌+◌, ◌-◌, ◌≤◌, ◌<◌, ◌⊎◌}
-use Rattle.std.proofs.Common.{inl, inr, Bool, true, false, cond, List, []}
-use Rattle.std.proofs.Common.{◌∷◌, length, drop, refl, sym, ap, ◌∙◌, arith}
+use Rattle.std.proofs.Common.{◌≡◌, ℕ, suc, ◌+◌, ◌-◌, ◌≤◌, ◌<◌, ◌⊎◌, inl, inr, Bool, true, false, cond, List}
+use Rattle.std.proofs.Common.{[], ◌∷◌, length, drop, refl, sym, ap, ◌∙◌, arith}
 use Rattle.std.specs.Prelude.{nat_eq, sum, All, AllPairs, Contains}
 use Rattle.std.proofs.Math.Nat.{eq-or-lt_of_le}
 use Rattle.std.proofs.Math.Seq.{drop-nil}

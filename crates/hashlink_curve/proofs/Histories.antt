@@ -1,8 +1,8 @@
 -- One more use of a key: which distance it has, and which caches miss it.
 use Rattle.std.proofs.Common.{◌≡◌, ℕ, zero, suc, ◌+◌, ◌≤◌, ◌<◌, Bool, true, false, ◌&&◌, ◌||◌, cond, List, []}
-use Rattle.std.proofs.Common.{◌∷◌, ◌++◌, length, drop, nat_lt, None, Some, refl, sym, ap, ap₂, ◌∙◌}
-use Rattle.std.proofs.Common.{subst, subst₂, arith, append_assoc, length-append, true≢false, get_or, set}
-use Rattle.std.proofs.Common.{add-zero, Option}
+use Rattle.std.proofs.Common.{◌∷◌, ◌++◌, length, drop, nat_lt, None, Some, refl, sym, ap, ap₂, ◌∙◌, subst}
+use Rattle.std.proofs.Common.{subst₂, arith, append_assoc, length-append, true≢false, get_or, set, add-zero}
+use Rattle.std.proofs.Common.{Option}
 use Rattle.std.specs.Prelude.{sum}
 use Rattle.std.specs.Cmp.{IsEquivalence}
 use Rattle.std.specs.List.{AllZip, after_last, list_any}
@@ -16,10 +16,9 @@ use Rattle.hashlink_model.specs.Entries.{IsKeyTest}
 use Rattle.hashlink_history.specs.History.{reuse_distance, cache_misses, cache_misses_from}
 use Rattle.hashlink_model.proofs.Members.{is_member-append, none_from_is_member, is_member_from_none}
 use Rattle.hashlink_history.proofs.Recency.{zip_push, zip_length, remove_key-left, remove_key-right}
-use Rattle.hashlink_history.proofs.Recency.{is_member-unique}
-use Rattle.hashlink_history.proofs.Recency.{unique_keys-push, last_use, unique_keys-last}
-use Rattle.hashlink_model.proofs.Distinct.{answers_alike}
+use Rattle.hashlink_history.proofs.Recency.{is_member-unique, unique_keys-push, last_use, unique_keys-last}
 use Rattle.hashlink_history.proofs.Recency.{after_last-here}
+use Rattle.hashlink_model.proofs.Distinct.{answers_alike}
 use Rattle.hashlink_curve.specs.Curve.{CurveState, Counted, Counts, distance_of, misses_at}
 use Rattle.hashlink_curve.specs.Recency.{MovesPast, GoesLast}
 

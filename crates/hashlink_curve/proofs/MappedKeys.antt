@@ -1,7 +1,6 @@
 -- The curve of keys that are seen as something else, by which they are told apart.
-use Rattle.std.proofs.Common.{◌≡◌, ℕ, ◌+◌, Bool, true, false, ◌&&◌}
-use Rattle.std.proofs.Common.{◌||◌, cond, List, [], ◌∷◌, ◌++◌, length, drop}
-use Rattle.std.proofs.Common.{map, nat_lt, not, reverse, ◌-◌, refl, sym, ap, ap₂, ◌∙◌, subst}
+use Rattle.std.proofs.Common.{◌≡◌, ℕ, ◌+◌, Bool, true, false, ◌&&◌, ◌||◌, cond, List, [], ◌∷◌, ◌++◌, length}
+use Rattle.std.proofs.Common.{drop, map, nat_lt, not, reverse, ◌-◌, refl, sym, ap, ap₂, ◌∙◌, subst}
 use Rattle.std.specs.Prelude.{sum}
 use Rattle.std.specs.List.{AllZip, after_last, prefix_len, suffix_len}
 use Rattle.std.specs.Set.{is_member, unique_keys}

@@ -1,7 +1,7 @@
 -- What a curve of misses has counted of a history.
 use Rattle.std.specs.Prelude.{◌≡◌, ℕ, ◌+◌, ◌-◌, ◌^◌, ◌<◌, ◌≤◌, Bool, true, false, nat_eq, List, [], ◌∷◌, ◌++◌}
-use Rattle.std.specs.Prelude.{length, drop, sum, All, AllPairs, Contains, IsTrue}
-use Rattle.std.specs.Prelude.{Option, None, Some, if◌then◌else◌}
+use Rattle.std.specs.Prelude.{length, drop, sum, All, AllPairs, Contains, IsTrue, Option, None, Some}
+use Rattle.std.specs.Prelude.{if◌then◌else◌}
 use Rattle.std.specs.List.{AllZip, list_any}
 use Rattle.std.specs.Set.{is_member, unique_keys}
 use Rattle.hashlink_history.specs.History.{reuse_distance, cache_misses}

@@ -1,9 +1,7 @@
 -- A trace, read line by line.
-use Rattle.std.proofs.Common.{◌≡◌, ℕ, suc, ◌-◌, ◌<◌, Bool, true, false, cond, ◌&&◌, List, [], ◌∷◌}
-use Rattle.std.proofs.Common.{◌++◌, length, take, map, filter, Option, None}
-use Rattle.std.proofs.Common.{Some, IfSome, refl, sym, ap, ap₂, ◌∙◌}
-use Rattle.std.proofs.Common.{subst, arith, append_assoc, eqb, get_or, nat_lt, nat_eq}
-use Rattle.std.proofs.Common.{◌||◌, true≢false}
+use Rattle.std.proofs.Common.{◌≡◌, ℕ, suc, ◌-◌, ◌<◌, Bool, true, false, cond, ◌&&◌, List, [], ◌∷◌, ◌++◌}
+use Rattle.std.proofs.Common.{length, take, map, filter, Option, None, Some, IfSome, refl, sym, ap, ap₂, ◌∙◌}
+use Rattle.std.proofs.Common.{subst, arith, append_assoc, eqb, get_or, nat_lt, nat_eq, ◌||◌, true≢false}
 use Rattle.std.specs.List.{list_any}
 use Rattle.std.specs.Prelude.{Vec}
 use Rattle.std.specs.Cmp.Lexicographic.{pointwise}
@@ -14,8 +12,8 @@ use Rattle.std.proofs.lemmas.List.{append-nil, map-append}
 use Rattle.std.proofs.lemmas.List.Elements.{filter-append}
 use Rattle.hashlink_curve.specs.Curve.{CurveState, Counted}
 use Rattle.hashlink_curve.proofs.MappedKeys.{Counted-map}
-use Rattle.misscurve.specs.Trace.{CountsLine, CountsTrace, begun_with}
-use Rattle.misscurve.specs.Trace.{is_picked, lines_of, of_bytes, same_bytes}
+use Rattle.misscurve.specs.Trace.{CountsLine, CountsTrace, begun_with, is_picked, lines_of, of_bytes}
+use Rattle.misscurve.specs.Trace.{same_bytes}
 
 -- ---- the first line
 

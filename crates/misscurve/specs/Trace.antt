@@ -1,8 +1,7 @@
 -- What is counted of a trace.
 use Rattle.std.specs.Prelude.{◌≡◌, ℕ, ◌*◌, ◌/◌, ◌%◌, ◌^◌, Bool, ◌||◌, List, [], ◌∷◌, ◌++◌, map, fold, filter}
-use Rattle.std.specs.Prelude.{bit_xor, nat_eq, nat_le, ◌==◌, if◌then◌else◌}
+use Rattle.std.specs.Prelude.{bit_xor, nat_eq, nat_le, ◌==◌, if◌then◌else◌, Vec}
 use Rattle.std.specs.Cmp.Lexicographic.{pointwise}
-use Rattle.std.specs.Prelude.{Vec}
 use Rattle.hashlink_curve.specs.Curve.{CurveState, Counted}
 
 -- a byte that ends no line begins the first of the lines after it, or is the last line

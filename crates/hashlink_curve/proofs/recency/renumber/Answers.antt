@@ -1,7 +1,6 @@
 use Rattle.std.proofs.Common.{arith}
 use Rattle.hashlink_core.specs.Keyed.{entries_of, state_of}
-use Rattle.hashlink_curve.proofs.Placing.{Renumbers-step, Renumbers-free}
-use Rattle.hashlink_curve.proofs.Placing.{Renumbers-end}
+use Rattle.hashlink_curve.proofs.Placing.{Renumbers-step, Renumbers-free, Renumbers-end}
 use Rattle.hashlink_curve.proofs.recency.renumber.Goals as goal
 
 pub mark-requires-clause-unmarked : goal.mark-requires-clause-unmarked

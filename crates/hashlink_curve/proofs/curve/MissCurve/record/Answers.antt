@@ -1,5 +1,5 @@
-use Rattle.std.proofs.Common.{◌≡◌, ◌+◌, ◌++◌, ◌∷◌, [], length, sym, ap, ap₂, ◌∙◌, subst, arith}
-use Rattle.std.proofs.Common.{get_or, set, length-append}
+use Rattle.std.proofs.Common.{◌≡◌, ◌+◌, ◌++◌, ◌∷◌, [], length, sym, ap, ap₂, ◌∙◌, subst, arith, get_or, set}
+use Rattle.std.proofs.Common.{length-append}
 use Rattle.std.proofs.lemmas.Grind.{get_or_default_zero}
 use Rattle.hashlink_curve.specs.Curve.{Counted}
 use Rattle.hashlink_curve.proofs.Histories.{Counted-absent, Counted-again}

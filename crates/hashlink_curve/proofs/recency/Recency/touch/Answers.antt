@@ -5,8 +5,8 @@ use Rattle.std.proofs.lemmas.List.{append-nil}
 use Rattle.hashlink_core.specs.Keyed.{entries_of}
 use Rattle.hashlink_curve.specs.Marks.{Marked}
 use Rattle.hashlink_curve.specs.Recency.{MovesPast, GoesLast}
-use Rattle.hashlink_curve.proofs.Placing.{found, found_moves, found_placed, found_free, free_at}
-use Rattle.hashlink_curve.proofs.Placing.{absent_last, absent_placed}
+use Rattle.hashlink_curve.proofs.Placing.{found, found_moves, found_placed, found_free, free_at, absent_last}
+use Rattle.hashlink_curve.proofs.Placing.{absent_placed}
 use Rattle.hashlink_curve.proofs.recency.Recency.touch.Goals as goal
 
 pub before-requires : goal.before-requires
