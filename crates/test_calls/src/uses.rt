@@ -3,7 +3,6 @@
 mod curves;
 mod forms;
 mod maps;
-mod sessions;
 mod sets;
 mod whole_uses;
 
