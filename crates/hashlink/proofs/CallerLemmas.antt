@@ -6,7 +6,7 @@ use Rattle.std.proofs.Common.{length, take, drop, Option, None, Some, Result, Ok
 use Rattle.std.proofs.Common.{◌∙◌, lt-ltb, map}
 use Rattle.std.proofs.Common.{◌⊎◌, inl, inr, true≢false, arith, filter, nat_le, le_refl, zero-le}
 use Rattle.std.specs.Prelude.{All, IfSome, IsSome, OnOk, insert, remove, slice_get, unwrap_or, MatchOption}
-use Rattle.std.specs.Prelude.{MatchResult}
+use Rattle.std.specs.Prelude.{MatchResult, fold}
 use Rattle.std.specs.Option.{option_map_or, option_or}
 use Rattle.std.specs.Cmp.{IsEquivalence}
 use Rattle.std.specs.List.{AllPass, list_any}
@@ -497,6 +497,26 @@ module _ {K V : Type 0} where
           ≡ cond b (keys_of es) (keys_of es ++ k ∷ [])
       by true = keys-set_value (eq k) es v
       by false = map-append (λ e. e.0) es ((k, v) ∷ [])
+
+module _ {K V : Type 0} (eq : K → K → Bool) (laws : IsEquivalence eq) where
+  -- goal: `lookup` after a replace of each pair in turn, of which no two keys are equal
+  pub lookup-replaced_each : (q : K) (es pairs : List (K × V)) → IsEntries eq es → IsEntries eq pairs
+      → lookup (eq q) (fold (λ zs p. put eq zs p.0 p.1 (place_or_end eq zs p.0)) es pairs)
+      ≡ option_or (lookup (eq q) pairs) (lookup (eq q) es)
+  lookup-replaced_each q es [] d e = refl
+  lookup-replaced_each q es (p ∷ pairs) d e =
+      let b = place_or_end eq es p.0 in
+      lookup-replaced_each q (put eq es p.0 p.1 b) pairs (IsEntries-put eq laws es p.0 p.1 b d)
+      (IsEntries-tail eq p pairs e)
+      ∙ ap (option_or (lookup (eq q) pairs)) (lookup-put eq laws q es p.0 p.1 b d) ∙ by (eq p.0 q) refl
+    where
+      by : (c : Bool) → eq p.0 q ≡ c
+          → option_or (lookup (eq q) pairs) (cond c (Some p.1) (lookup (eq q) es))
+          ≡ option_or (cond (eq q p.0) (Some p.1) (lookup (eq q) pairs)) (lookup (eq q) es)
+      by true t =
+          let none = lookup-none (eq q) pairs (none_equal eq laws p.0 q pairs t (IsEntries-head eq p pairs e)) in
+          rw (laws.symm q p.0, t, none) refl
+      by false t = rw (laws.symm q p.0, t) refl
 
 -- ---- a retain whose closure captures: `Holds` says what it holds to, as which time it compares with
 

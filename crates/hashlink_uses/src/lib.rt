@@ -10,6 +10,7 @@ pub mod forms;
 pub mod lines;
 pub mod maps;
 pub mod names;
+pub mod pages;
 pub mod sets;
 pub mod settings;
 pub mod tasks;

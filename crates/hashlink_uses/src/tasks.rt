@@ -1,12 +1,13 @@
 //! Tasks that have their turns one after another, round and round.
-ghost use Rattle.std.specs.Prelude.{◌≡◌, ◌++◌, [], ◌∷◌, false, IfOk, IsFalse, IsTrue, List, MatchOption};
-ghost use Rattle.std.specs.Prelude.{MatchResult, Ok, OnOk, length};
+ghost use Rattle.std.specs.Prelude.{◌≡◌, ◌++◌, [], ◌∷◌, false, IsFalse, IsTrue, List, MatchOption, MatchResult};
+ghost use Rattle.std.specs.Prelude.{Ok, length};
 ghost use Rattle.std.specs.List.{IsDistinct, list_any};
 ghost use Rattle.std.specs.Set.{remove_key};
 ghost use Rattle.hashlink.specs.Sets.{elements_of};
+ghost use Rattle.hashlink_uses.specs.Turns.{order_left, turns_given};
 
 use hashlink::LinkedHashSet;
-use std::alloc::{AllocError, Global};
+use std::alloc::Global;
 use std::hash::Hash;
 use std::marker::Model;
 
@@ -55,7 +56,8 @@ impl<T: Copy + Eq + Hash> RoundRobin<T> {
         self.tasks.remove(task)
     }
 
-    /// Returns the task whose turn it is. Its next turn comes after those of the others.
+    /// Returns the task whose turn it is. Its next turn comes after those of the others, so each has one turn in
+    /// as many calls as there are tasks (`what_a_round_gives`).
     pub fn next(&mut self) -> Option<T>
         ensures { MatchOption result ((self.old ≡ []) × (self.new ≡ []))
             (λ task. (rest : List T) × (self.old ≡ task ∷ rest) × (self.new ≡ rest ++ task ∷ [])) }
@@ -63,24 +65,6 @@ impl<T: Copy + Eq + Hash> RoundRobin<T> {
         let task = *self.tasks.front()?;
         self.tasks.to_back(&task);
         Some(task)
-    }
-
-    /// Gives each task one turn, by as many calls of `next` as there are tasks, and returns them in the order
-    /// of their turns, which is as before then. If an allocation fails, those before it have had their turns.
-    pub fn round(&mut self, alloc: Global) -> Result<Vec<T>, AllocError>
-        ensures each { IfOk result (λ turns. turns.items ≡ self.old) }
-        ensures same { OnOk result (self.new ≡ self.old) }
-        ensures turned { (before after : List T) × (self.old ≡ before ++ after)
-            × (self.new ≡ after ++ before) }
-    {
-        let mut turns = Vec::new(alloc);
-        for _ in 0..self.len() {
-            match self.next() {
-                Some(task) => turns.push(task)?,
-                None => {}
-            }
-        }
-        Ok(turns)
     }
 
     /// Returns how many tasks there are.
@@ -93,3 +77,10 @@ impl<T: Copy + Eq + Hash> RoundRobin<T> {
         self.tasks.len()
     }
 }
+
+/// As many calls of `next` as there are tasks return each task once, in the order of their turns, and leave
+/// that order as it was. The function has an empty body: its contract is the statement.
+pub fn what_a_round_gives<T>()
+    ensures each { (tasks : List T) → turns_given (length tasks) tasks ≡ tasks }
+    ensures same { (tasks : List T) → order_left (length tasks) tasks ≡ tasks }
+{}

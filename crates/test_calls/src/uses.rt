@@ -3,6 +3,7 @@
 mod curves;
 mod forms;
 mod maps;
+mod pages;
 mod sets;
 mod whole_uses;
 

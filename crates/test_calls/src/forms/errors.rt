@@ -31,8 +31,12 @@ fn put_or_any_error(map: &mut Map) -> anyhow::Result<()> {
 
 /// Inserts a pair, which is in the error if memory runs out. `?` drops it and turns the error into the
 /// caller's.
-fn put_or_hand_back(map: &mut Map, pair: (u32, u32)) -> Result<Option<u32>, AllocFailed<(u32, u32)>> {
-    map.insert(pair.0, pair.1).map_err(|value| AllocFailed { value })
+fn put_or_hand_back(
+    map: &mut Map,
+    pair: (u32, u32),
+) -> Result<Option<u32>, AllocFailed<(u32, u32)>> {
+    map.insert(pair.0, pair.1)
+        .map_err(|value| AllocFailed { value })
 }
 
 fn put_and_pass_on(map: &mut Map) -> Result<Option<u32>, AllocError> {

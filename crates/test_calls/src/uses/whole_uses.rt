@@ -56,16 +56,10 @@ fn names_are_found_until_they_expire(rt: HostRuntime) -> ExitCode {
 }
 
 /// The settings of a user laid over those that a program begins with.
-fn settings_merged(
-    alloc: Global,
-) -> Result<LinkedHashMap<&'static str, &'static str>, AllocError> {
+fn settings_merged(alloc: Global) -> Result<LinkedHashMap<&'static str, &'static str>, AllocError> {
     let mut settings = LinkedHashMap::from_iter(
         alloc,
-        [
-            ("colour", "auto"),
-            ("editor", "vi"),
-            ("pager", "less"),
-        ],
+        [("colour", "auto"), ("editor", "vi"), ("pager", "less")],
     )?;
     let others: LinkedHashMap<&str, &str> = LinkedHashMap::from_iter(
         alloc,
@@ -116,10 +110,8 @@ fn lines_of_history(alloc: Global) -> Result<String, AllocError> {
 
 #[test]
 fn a_line_is_shown_where_it_appears_first(rt: HostRuntime) -> ExitCode {
-    passes(
-        lines_of_history(rt.alloc())
-            .is_ok_and(|text| text.as_str() == "ls\ncd src\nmake\ncd ..\n\nexit\n"),
-    )
+    passes(lines_of_history(rt.alloc()).is_ok_and(|text| text.as_str()
+        == "ls\ncd src\nmake\ncd ..\n\nexit\n"))
 }
 
 /// Whether three tasks, of which one is added twice, have their turns one after another, and the others once

@@ -1,4 +1,4 @@
-use Rattle.std.proofs.Common.{◌≡◌, Ok, false, sym, ◌∙◌}
+use Rattle.std.proofs.Common.{Ok, sym, ◌∙◌}
 use Rattle.hashlink.proofs.CallerLemmas.{set_inserts_new}
 use Rattle.hashlink_uses.proofs.lines.add_new.Goals as goal
 

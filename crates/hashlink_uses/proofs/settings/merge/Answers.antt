@@ -1,27 +1,36 @@
 use Rattle.std.proofs.Common.{◌≡◌, Bool, List, [], ◌∷◌, ◌++◌, append_assoc, ap, sym, ◌∙◌}
 use Rattle.std.specs.Map.{keys_of, lookup}
-use Rattle.std.specs.Option.{option_or}
 use Rattle.std.proofs.lemmas.List.{append-nil}
 use Rattle.std.proofs.lemmas.List.Sums.{fold-append}
 use Rattle.std.proofs.lemmas.Result.{err_from_is_err_and}
 use Rattle.hashlink.specs.Entries.{place_or_end, put}
 use Rattle.hashlink.specs.Keyed.{entries_of}
+use Rattle.hashlink.proofs.CallerLemmas.{keys-put_in_place, lookup-replaced_each}
 use Rattle.hashlink_uses.specs.Appearances.{first_appearances}
 use Rattle.hashlink_uses.specs.Merged.{merged}
-use Rattle.hashlink_uses.proofs.Merging.{keys-merged, lookup-merged}
+use Rattle.hashlink_uses.proofs.Appearing.{appears}
 use Rattle.hashlink_uses.proofs.settings.merge.Goals as goal
 
--- one more is set
-set_more : {K V : Type 0} (eq : K → K → Bool) (es others left rest now new : List (K × V)) (p : K × V)
-    → (gone : List (K × V)) × (others ≡ gone ++ left) × (now ≡ merged eq es gone)
-    → left ≡ p ∷ rest → new ≡ put eq now p.0 p.1 (place_or_end eq now p.0)
-    → (gone : List (K × V)) × (others ≡ gone ++ rest) × (new ≡ merged eq es gone)
-set_more eq es others left rest now new p so_far is sets = (
-  so_far.0 ++ p ∷ [],
-  so_far.1 ∙ ap (λ ps. so_far.0 ++ ps) is ∙ sym (append_assoc so_far.0 (p ∷ []) rest),
-  sets ∙ ap (λ zs. put eq zs p.0 p.1 (place_or_end eq zs p.0)) so_far.2
-      ∙ sym (fold-append (λ zs p. put eq zs p.0 p.1 (place_or_end eq zs p.0)) es so_far.0 (p ∷ [])),
-)
+module _ {K V : Type 0} (eq : K → K → Bool) (es : List (K × V)) where
+  -- one more is set
+  set_more : (others left rest now new : List (K × V)) (p : K × V)
+      → (gone : List (K × V)) × (others ≡ gone ++ left) × (now ≡ merged eq es gone)
+      → left ≡ p ∷ rest → new ≡ put eq now p.0 p.1 (place_or_end eq now p.0)
+      → (gone : List (K × V)) × (others ≡ gone ++ rest) × (new ≡ merged eq es gone)
+  set_more others left rest now new p gone is sets = (
+    gone.0 ++ p ∷ [],
+    gone.1 ∙ ap (λ ps. gone.0 ++ ps) is ∙ sym (append_assoc gone.0 (p ∷ []) rest),
+    sets ∙ ap (λ zs. put eq zs p.0 p.1 (place_or_end eq zs p.0)) gone.2
+        ∙ sym (fold-append (λ zs p. put eq zs p.0 p.1 (place_or_end eq zs p.0)) es gone.0 (p ∷ [])),
+  )
+
+keys-merged : {K V : Type 0} (eq : K → K → Bool) (es pairs : List (K × V))
+    → keys_of (merged eq es pairs) ≡ keys_of es ++ first_appearances eq (keys_of es) (keys_of pairs)
+keys-merged eq es [] = sym (append-nil (keys_of es))
+keys-merged eq es (p ∷ pairs) =
+    keys-merged eq (put eq es p.0 p.1 (place_or_end eq es p.0)) pairs
+    ∙ ap (λ ks. ks ++ first_appearances eq ks (keys_of pairs)) (keys-put_in_place eq es p.0 p.1)
+    ∙ appears eq (keys_of es) p.0 (keys_of pairs)
 
 pub returns-in_err-replace-clause-stopped : goal.returns-in_err-replace-clause-stopped
 returns-in_err-replace-clause-stopped g c =
@@ -60,7 +69,7 @@ pub returns-clause-wins : goal.returns-clause-wins
 returns-clause-wins g c key =
     let eq = g.K.PartialEq.eq in
     ap (lookup (eq key)) (returns-clause-all g c)
-    ∙ lookup-merged eq g.met.K.Eq.laws key (entries_of c.args.settings.now) (entries_of c.args.others)
+    ∙ lookup-replaced_each eq g.met.K.Eq.laws key (entries_of c.args.settings.now) (entries_of c.args.others)
     c.len-before.ensures.distinct c.len-count.ensures.distinct
 
 pub returns-clause-order : goal.returns-clause-order
