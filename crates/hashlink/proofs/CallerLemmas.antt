@@ -514,7 +514,8 @@ module _ {K V : Type 0} (eq : K → K → Bool) (laws : IsEquivalence eq) where
           → option_or (lookup (eq q) pairs) (cond c (Some p.1) (lookup (eq q) es))
           ≡ option_or (cond (eq q p.0) (Some p.1) (lookup (eq q) pairs)) (lookup (eq q) es)
       by true t =
-          let none = lookup-none (eq q) pairs (none_equal eq laws p.0 q pairs t (IsEntries-head eq p pairs e)) in
+          let none = lookup-none (eq q) pairs
+          (none_equal eq laws p.0 q pairs t (IsEntries-head eq p pairs e)) in
           rw (laws.symm q p.0, t, none) refl
       by false t = rw (laws.symm q p.0, t) refl
 

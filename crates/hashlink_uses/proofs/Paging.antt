@@ -59,7 +59,8 @@ module _ {V : Type 0} (es now : List (ℕ × Page V)) (k : ℕ) (d : IsEntries n
   pub moved : (n : ℕ) → lookup (nat_eq n) now ≡ lookup (nat_eq n) es
   moved n = ap (lookup (nat_eq n)) moves ∙ lookup-moved nat_eq nat_eq_equiv n es k (length es) d
 
-  pub kept_moved : (cap cap' : ℕ) (stored : ℕ → V) → cap' ≡ cap → IsSound es cap stored → IsSound now cap' stored
+  pub kept_moved : (cap cap' : ℕ) (stored : ℕ → V) → cap' ≡ cap → IsSound es cap stored
+      → IsSound now cap' stored
   kept_moved cap cap' stored same inv =
       let long = ap length moves ∙ length-moved nat_eq es k (length es) in
       (omega (arith, same, inv.0), omega (arith, same, long, inv.1), λ n. rw (moved n) (inv.2 n))

@@ -22,7 +22,8 @@ module _ {V : Type 0} where
       × ((n : ℕ) → Reads (lookup (nat_eq n) held) (stored n) (page_read (lookup (nat_eq n) held) (stored n)))
 
   -- what is read stays, and a page that the cache did not hold is stored as it was
-  pub record Follows (held : Option (Page V)) (stored : V) (held' : Option (Page V)) (stored' : V) : Type 0 where
+  pub record Follows (held : Option (Page V)) (stored : V) (held' : Option (Page V))
+      (stored' : V) : Type 0 where
     pub reads : (v : V) → Reads held stored v → Reads held' stored' v
     pub absent : held ≡ None → (held' ≡ None) × (stored' ≡ stored)
 

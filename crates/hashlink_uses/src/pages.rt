@@ -1,6 +1,6 @@
 //! A cache of pages before a store, to which a changed page goes when it leaves the cache.
-ghost use Rattle.std.specs.Prelude.{◌≡◌, ℕ, ◌≤◌, ◌-◌, false, IfOk, IsFalse, MatchResult, List, OnErr, OnOk, None, length};
-ghost use Rattle.std.specs.Prelude.{if◌then◌else◌, nat_eq};
+ghost use Rattle.std.specs.Prelude.{◌≡◌, ℕ, ◌≤◌, ◌-◌, false, IfOk, IsFalse, MatchResult, List, OnErr, OnOk};
+ghost use Rattle.std.specs.Prelude.{None, if◌then◌else◌, length, nat_eq};
 ghost use Rattle.std.specs.Map.{lookup};
 ghost use Rattle.std.specs.Option.{option_map};
 ghost use Rattle.hashlink.specs.Cache.{IsWithin, cache_get, cache_put};
@@ -45,8 +45,8 @@ pub enum PageError<E> {
     Store(E),
 }
 
-/// A store with a cache before it. A clause sees the pages in the cache and the store, of which `content` tells
-/// what is read under each number: what was last written there.
+/// A store with a cache before it. A clause sees the pages in the cache and the store, of which `content`
+/// tells what is read under each number: what was last written there.
 #[derive(Drop)]
 pub struct PageCache<V, T: Store<V>> {
     pages: LruCache<u64, Page<V>>,

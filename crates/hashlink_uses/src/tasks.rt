@@ -1,6 +1,6 @@
 //! Tasks that have their turns one after another, round and round.
-ghost use Rattle.std.specs.Prelude.{◌≡◌, ◌++◌, [], ◌∷◌, false, IsFalse, IsTrue, List, MatchOption, MatchResult};
-ghost use Rattle.std.specs.Prelude.{Ok, length};
+ghost use Rattle.std.specs.Prelude.{◌≡◌, ◌++◌, [], ◌∷◌, false, IsFalse, IsTrue, List, MatchOption};
+ghost use Rattle.std.specs.Prelude.{MatchResult, Ok, length};
 ghost use Rattle.std.specs.List.{IsDistinct, list_any};
 ghost use Rattle.std.specs.Set.{remove_key};
 ghost use Rattle.hashlink.specs.Sets.{elements_of};
@@ -56,8 +56,8 @@ impl<T: Copy + Eq + Hash> RoundRobin<T> {
         self.tasks.remove(task)
     }
 
-    /// Returns the task whose turn it is. Its next turn comes after those of the others, so each has one turn in
-    /// as many calls as there are tasks (`what_a_round_gives`).
+    /// Returns the task whose turn it is. Its next turn comes after those of the others, so each has one turn
+    /// in as many calls as there are tasks (`what_a_round_gives`).
     pub fn next(&mut self) -> Option<T>
         ensures { MatchOption result ((self.old ≡ []) × (self.new ≡ []))
             (λ task. (rest : List T) × (self.old ≡ task ∷ rest) × (self.new ≡ rest ++ task ∷ [])) }

@@ -1,6 +1,6 @@
 //! Retains, and what is known of a map or a set after one.
-ghost use Rattle.std.specs.Prelude.{◌≡◌, ◌+◌, ◌/◌, ◌%◌, ◌≤◌, ◌&&◌, cond, filter, length, map as list_map, nat_eq, nat_lt};
-ghost use Rattle.std.specs.Prelude.{not};
+ghost use Rattle.std.specs.Prelude.{◌≡◌, ◌+◌, ◌/◌, ◌%◌, ◌≤◌, ◌&&◌, cond, filter, length, map as list_map};
+ghost use Rattle.std.specs.Prelude.{nat_eq, nat_lt, not};
 ghost use Rattle.hashlink.specs.Steps.{KeepsOnly};
 ghost use Rattle.hashlink.specs.Keyed.{state_of, entries_of};
 ghost use Rattle.hashlink.specs.Sets.{elements_of};

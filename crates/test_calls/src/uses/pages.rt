@@ -52,8 +52,8 @@ fn four_pages(alloc: Global, is_locked: bool) -> Result<PageCache<u32, Disk>, Al
     Ok(PageCache::new(alloc, 2, Disk { pages, is_locked }))
 }
 
-/// Whether each page is read as it was last written, whether it has left the cache or not, and the disk has it
-/// in the end.
+/// Whether each page is read as it was last written, whether it has left the cache or not, and the disk has
+/// it in the end.
 fn is_read_as_written(mut cache: PageCache<u32, Disk>) -> bool {
     let is_written = cache.write(0, 20).is_ok()
         & cache.write(1, 21).is_ok()

@@ -6,5 +6,5 @@ pub returns-in-Ok : goal.returns-in-Ok
 returns-in-Ok g c =
     let absent = sym c.contains.ensures.found ∙ c.if-contains.false in
     rw absent
-    (set_inserts_new c.args.seen.now c.insert.new.self g.T.PartialEq.eq c.args.item absent (Ok c.in-Ok.field-0)
-    c.in-Ok.ensures.inserts).1
+    (set_inserts_new c.args.seen.now c.insert.new.self g.T.PartialEq.eq c.args.item absent
+    (Ok c.in-Ok.field-0) c.in-Ok.ensures.inserts).1

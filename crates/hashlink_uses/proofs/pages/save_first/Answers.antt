@@ -12,7 +12,8 @@ use Rattle.hashlink_uses.proofs.pages.save_first.Goals.{then-page+in_ok-save, el
 pub returns-in_err-save-clause-follows : goal.returns-in_err-save-clause-follows
 returns-in_err-save-clause-follows g c n =
     let k = c.in-Some.number.now in
-    let first = by_first (entries_of c.args.pages.now) (Some (k, c.in-Some.page.now)) c.in-Some.ensures.found in
+    let first = by_first (entries_of c.args.pages.now) (Some (k, c.in-Some.page.now))
+    c.in-Some.ensures.found in
     rw first
     (follows-failed c.in-Some.page.now _ _ _ (nat_eq n k) c.if-page.true
     (λ apart. c.in_err-save.ensures.others n (nat_eq_equiv.symm k n ∙ apart)))
@@ -33,7 +34,8 @@ returns-clause-follows g c n =
     (elim c.if-page.branch [
       | then-page+in_ok-save w ↦
           let now = ap (λ s. page s n) w.store-is in
-          follows-left p (lookup (nat_eq n) rest) (page c.args.store.now n) (page c.if-page.store n) (nat_eq n k)
+          follows-left p (lookup (nat_eq n) rest) (page c.args.store.now n) (page c.if-page.store n)
+          (nat_eq n k)
           (λ here. (
             none here,
             λ v r. r.0 ∙ sym (now ∙ ap (page w.save.new.self) (eqb-true n k here)
@@ -42,6 +44,7 @@ returns-clause-follows g c n =
           (λ apart. now ∙ w.in_ok-save.ensures.others n (nat_eq_equiv.symm k n ∙ apart))
       | else-page w ↦
           let now = ap (λ s. page s n) w.store-is in
-          follows-left p (lookup (nat_eq n) rest) (page c.args.store.now n) (page c.if-page.store n) (nat_eq n k)
+          follows-left p (lookup (nat_eq n) rest) (page c.args.store.now n) (page c.if-page.store n)
+          (nat_eq n k)
           (λ here. (none here, λ v r. r.1 w.if-page.false ∙ sym now)) (λ apart. now)
     ])

@@ -64,7 +64,8 @@ after g c n =
     (on_ok_weaker c.keep-kept.result
     (λ kept. subst (Reads _ (g.T.Store.page c.keep-kept.new.store n))
     (cond-same (nat_eq k n) _ (seen n)
-    (λ here. c.in_ok-value.ensures ∙ sym (ap (λ held. page_read held (stored k)) none) ∙ ap seen (eqb-true k n here)))
+    (λ here. c.in_ok-value.ensures ∙ sym (ap (λ held. page_read held (stored k)) none)
+    ∙ ap seen (eqb-true k n here)))
     (kept n (seen n) before))
     c.keep-kept.ensures.kept)
     (on_err_weaker c.keep-kept.result (λ failed. (failed n).reads (seen n) before) c.keep-kept.ensures.failed)
@@ -74,8 +75,11 @@ invariant_of-self-2 g c =
     let found = kept_moved (entries_of c.self.inside.pages) (entries_of c.find.new.pages) c.args.number
     c.find.ensures.distinct c.find.ensures.entries _ _ (g.T.Store.page c.self.inside.store)
     c.find.ensures.capacity c.self.invariant in
-    let same = c.keep-kept.ensures.capacity in
-    (omega (arith, found.0, same), c.keep-kept.ensures.stays 0 found.1, λ n. (reads-one _ _ _ (after g c n)).1)
+    let same = c.keep-kept.ensures.capacity in (
+      omega (arith, found.0, same),
+      c.keep-kept.ensures.stays 0 found.1,
+      λ n. (reads-one _ _ _ (after g c n)).1,
+    )
 
 pub returns-clause-same : goal.returns-clause-same
 returns-clause-same g c n = rw (← c.self.view_is) (reads-one _ _ _ (after g c n)).0
