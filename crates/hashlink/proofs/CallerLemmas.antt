@@ -3,24 +3,25 @@
 use Rattle.std.proofs.Common.{◌≡◌, ℕ, zero, suc, ◌-◌, ◌≤◌, ◌<◌, Bool, true, false, cond, not, is_some, List}
 use Rattle.std.proofs.Common.{[], ◌∷◌, ◌++◌}
 use Rattle.std.proofs.Common.{length, take, drop, Option, None, Some, Result, Ok, Err, refl, sym, ap, subst}
-use Rattle.std.proofs.Common.{◌∙◌}
+use Rattle.std.proofs.Common.{◌∙◌, lt-ltb, map}
 use Rattle.std.proofs.Common.{◌⊎◌, inl, inr, true≢false, arith, filter, nat_le, le_refl, zero-le}
 use Rattle.std.specs.Prelude.{All, IfSome, IsSome, OnOk, insert, remove, slice_get, unwrap_or, MatchOption}
-use Rattle.std.specs.Prelude.{MatchResult}
-use Rattle.std.specs.Option.{option_map_or}
+use Rattle.std.specs.Prelude.{MatchResult, fold}
+use Rattle.std.specs.Option.{option_map_or, option_or}
 use Rattle.std.specs.Cmp.{IsEquivalence}
 use Rattle.std.specs.List.{AllPass, list_any}
 use Rattle.std.specs.List.Sorted.{IsNonDecreasingBy}
 use Rattle.std.specs.Map.{lookup, lookup_entry, keys_of, remove_entry, set_value}
-use Rattle.std.specs.Set.{remove_key}
+use Rattle.std.specs.Set.{is_member, remove_key}
 use Rattle.std.proofs.lemmas.Bool.{le-leb, lt-leb}
-use Rattle.std.proofs.lemmas.List.{map-append, take-append-drop}
+use Rattle.std.proofs.lemmas.List.{map-append, map-id, take-append-drop}
+use Rattle.std.proofs.lemmas.List.Edits.{insert_end}
 use Rattle.std.proofs.lemmas.List.Elements.{All-nil, All-cons, All-head, All-tail, All-same, All-append}
 use Rattle.std.proofs.lemmas.List.Elements.{All-take}
 use Rattle.std.proofs.lemmas.List.Elements.{All-drop, All-push, All-map, All-filter}
 use Rattle.std.proofs.lemmas.List.Sums.{AllPass-from_list_all}
 use Rattle.std.proofs.lemmas.List.Sorted.{IsNonDecreasingBy-drop, IsNonDecreasingBy-push}
-use Rattle.std.proofs.lemmas.Map.{NonePasses}
+use Rattle.std.proofs.lemmas.Map.{NonePasses, keys-set_value}
 use Rattle.std.proofs.lemmas.Map.Entries.{place_from_lookup}
 use Rattle.std.proofs.lemmas.Map.Made.{is_some-lookup}
 use Rattle.std.proofs.lemmas.Option.{none-some, same_Some, slice_get-get_or}
@@ -29,13 +30,12 @@ use Rattle.hashlink_model.specs.Entries.{IsEntries, place_left, place_of, place_
 use Rattle.hashlink_model.specs.Entries.{moved_at}
 use Rattle.hashlink_model.specs.Entries.{moved_match, put, stored_key, without}
 use Rattle.hashlink_model.specs.MapState.{MapState, Inserts}
-use Rattle.hashlink_model.specs.Retain.{RetainsInOrder}
-use Rattle.hashlink_model.specs.Sets.{SetState, SetInserts, elements_of, stored_element}
-use Rattle.hashlink_model.specs.Steps.{PopsFront, PopsBack, Replaces, RemovesMatch, MovesMatch}
+use Rattle.hashlink_model.specs.Retain.{KeepsInOrder, RetainsInOrder}
+use Rattle.hashlink_model.specs.Sets.{SetState, SetInserts, at_element, elements_of, pairs_of, stored_element}
+use Rattle.hashlink_model.specs.Steps.{KeepsOnly, PopsFront, PopsBack, Replaces, RemovesMatch, MovesMatch}
 use Rattle.hashlink_model.specs.Steps.{MovesMatchAndWrites}
 use Rattle.hashlink_model.specs.Steps.{MovesAndWrites}
 use Rattle.hashlink_model.specs.Walk.{first_of, last_of}
-use Rattle.hashlink_set.specs.Answers.{as_entry}
 use Rattle.hashlink_run.specs.declared.commands.Command.{Command}
 use Rattle.hashlink_run.specs.declared.commands.Command.TheVariants.{Insert, Remove}
 use Rattle.hashlink_run.specs.declared.replies.Reply.{Reply}
@@ -44,10 +44,12 @@ use Rattle.hashlink_run.specs.CallReplies.{insert_reply, is_refused}
 use Rattle.hashlink_run.specs.Chain.{Answered, replies_of}
 use Rattle.hashlink_run.specs.Run.{LawfulRun, Run, ShownBy, TakesKeysWhereShorter, keeps_nodes}
 use Rattle.hashlink_run.specs.Step.{KeepAsks, ReadBy, Step}
-use Rattle.hashlink_model.proofs.Distinct.{none_equal, none_others, IsEntries-middle, IsEntries-insert}
+use Rattle.hashlink_map.proofs.Outcomes.{inserts_entries, replaces_entries, removes_entries}
+use Rattle.hashlink_model.proofs.Distinct.{IsEntries-middle, IsEntries-insert}
 use Rattle.hashlink_model.proofs.Puts.{none_without}
-use Rattle.hashlink_model.proofs.SetElements.{find-keys}
-use Rattle.hashlink_model.proofs.Splits.{Stands, splits, remove_entry-here, stands_from_lookup}
+use Rattle.hashlink_model.proofs.SetElements.{find-keys, keys-filter, set_inserts}
+use Rattle.hashlink_model.proofs.SetViews.{keys_of-pairs_of, pairs_of-keys_of}
+use Rattle.hashlink_model.proofs.Splits.{Stands, splits, remove_entry-here}
 use Rattle.hashlink_model.proofs.Splits.{none_from_lookup}
 use Rattle.hashlink_model.proofs.Splits.{remove_entry-none, lookup_key-none, place_of-none, place_of-here}
 use Rattle.hashlink_model.proofs.Splits.{set_value-here}
@@ -72,25 +74,27 @@ pub use Rattle.hashlink_model.proofs.Afterwards.{moved-absent, moved-there}
 pub use Rattle.hashlink_model.proofs.Finds.{stored_key-equal, lookup-equal}
 -- goal: what is left after a retain by a predicate is a filter
 pub use Rattle.hashlink_model.proofs.Filtered.{retained_by_predicate}
--- goal: the old entries by what a pop answered and left
-pub use Rattle.hashlink_model.proofs.Pops.{pops_front, pops_back}
 -- goal: a cache's entries after `insert`, its answer, and what a refusal leaves; after a hit and a miss of
 -- `get`
 pub use Rattle.hashlink_model.proofs.CacheSteps.{inserts_entries as cache_inserts_entries}
 pub use Rattle.hashlink_model.proofs.CacheSteps.{inserts_answer as cache_inserts_answer}
 pub use Rattle.hashlink_model.proofs.CacheSteps.{inserts_refused as cache_inserts_refused, gets_hit}
 pub use Rattle.hashlink_model.proofs.CacheSteps.{gets_miss}
--- goal: `lookup` at the key that a cache's insert put in, and at another key
+-- goal: `lookup` at the key that a cache's insert put in, and at another key; an insert with a place to spare
 pub use Rattle.hashlink_model.proofs.Caches.{lookup-cache_put, lookup_entry-cache_put}
--- goal: the entries, and a set's elements, after a removal, also where no key was found
-pub use Rattle.hashlink_map.proofs.Outcomes.{removes_entries}
-pub use Rattle.hashlink_set.proofs.Leaving.{removes_match_elements as set_removes}
--- goal: the entry that a removal answers was there
-pub use Rattle.hashlink_map.proofs.Outcomes.{removed_was_there}
--- goal: the entries after an insert and a replace, by what they return
-pub use Rattle.hashlink_map.proofs.Outcomes.{inserts_entries, replaces_entries}
--- goal: a set's elements after `insert` and `replace`, by their answers, and the last element written out
-pub use Rattle.hashlink_model.proofs.SetElements.{set_inserts, set_replaces, put_element_back}
+pub use Rattle.hashlink_model.proofs.Caches.{cache_put-with_a_place}
+-- goal: a set's elements after one is put last, written out
+pub use Rattle.hashlink_model.proofs.SetElements.{put_element_back}
+-- goal: what a cache's insert evicts, by the entry that `evicted_by` names
+pub use Rattle.hashlink_lru.proofs.Evicting.{evicts_first, evicts_alone, evicts_none}
+-- goal: what is said of a list whose keys are pairwise unequal: of its first entry and of the others, of keys
+-- equal to one that no entry has, and of the entries around one
+pub use Rattle.hashlink_model.proofs.Distinct.{IsEntries-cons, IsEntries-head, IsEntries-tail, each-left}
+pub use Rattle.hashlink_model.proofs.Distinct.{none_equal, none_others}
+-- goal: what a lookup finds, by the entry that stands there or by the lack of one
+pub use Rattle.hashlink_model.proofs.Splits.{lookup-here, lookup-none}
+-- goal: what a call that lends says, at the answer that came
+pub use Rattle.hashlink_map.proofs.Walking.{on-some}
 
 module _ {K V : Type 0} (P : K × V → Type 0) where
   -- ---- what holds of each entry, through a change of a list of entries
@@ -324,14 +328,13 @@ module _ {K V : Type 0} (eq : K → K → Bool) (laws : IsEquivalence eq) where
 -- ---- each step as an equation of entries
 
 module _ {K V S : Type 0} (eq : K → K → Bool) (old new : MapState K V S) (k : K) (v : V) where
-  -- what a call ends as that puts an absent key last: the pair is the last entry, or is handed back
-  abbrev pub PutLast : Result (Option V) (K × V) → Type 0
+  -- what an insert of an absent key ends as: the pair is the last entry, or is handed back
+  abbrev PutLast : Result (Option V) (K × V) → Type 0
   PutLast r =
       MatchResult r (λ w. (w ≡ None) × (new.entries ≡ old.entries ++ (k, v) ∷ []))
       (λ pair. (pair ≡ (k, v)) × (new.entries ≡ old.entries))
 
-  -- goal: the entries after an insert of a key that was absent, and its answer
-  pub inserts_absent : lookup (eq k) old.entries ≡ None → (r : Result (Option V) (K × V))
+  inserts_absent : lookup (eq k) old.entries ≡ None → (r : Result (Option V) (K × V))
       → Inserts eq old new k v (length old.entries) r
       → PutLast r
   inserts_absent none (Ok None) s =
@@ -349,39 +352,6 @@ module _ {K V S : Type 0} (eq : K → K → Bool) (old new : MapState K V S) (k 
       let e = inserts_entries eq old new k v (length old.entries) w s in
       (e.1, e.0 ∙ put_back eq old.entries k v)
   inserts_back (Err pair) s = (s.handed_back, s.grows.entries)
-
-  -- goal: the same of a caller that lets the answer go
-  pub put_or_not : (r : Result (Option V) (K × V)) → PutLast r
-      → (new.entries ≡ old.entries ++ (k, v) ∷ []) ⊎ (new.entries ≡ old.entries)
-  put_or_not (Ok w) s = inl s.1
-  put_or_not (Err pair) s = inr s.1
-
-  -- goal: the entries after an insert of a key that was there, which moves last, and its answer
-  pub inserts_there : (w : V) → lookup (eq k) old.entries ≡ Some w → (r : Result (Option V) (K × V))
-      → Inserts eq old new k v (length old.entries) r
-      → (r ≡ Ok (Some w)) × (new.entries ≡ without eq old.entries k ++ (stored_key eq old.entries k, v) ∷ [])
-  inserts_there w there (Ok o) s =
-      let e = inserts_entries eq old new k v (length old.entries) o s in
-      (ap Ok (e.1 ∙ there), e.0 ∙ put_back eq old.entries k v)
-  inserts_there w there (Err pair) s = absurd (none-some w (sym s.may_refuse.absent ∙ there))
-
-  -- goal: the entries after a replace of a key that was absent, and its answer
-  pub replaces_absent : lookup (eq k) old.entries ≡ None → (r : Result (Option V) (K × V))
-      → Replaces eq old new k v r
-      → PutLast r
-  replaces_absent none (Ok None) s =
-      (refl, s.adds.entries ∙ put_back_absent eq old.entries k v (none_from_lookup (eq k) old.entries none))
-  replaces_absent none (Ok (Some w)) s = absurd (none-some w (sym none ∙ s.old_value))
-  replaces_absent none (Err pair) s = (s.handed_back, s.grows.entries)
-
-  -- goal: the entries after a replace of a key that was there, whose value alone is another one, and its
-  -- answer
-  pub replaces_there : (w : V) → lookup (eq k) old.entries ≡ Some w → (r : Result (Option V) (K × V))
-      → Replaces eq old new k v r
-      → (r ≡ Ok (Some w)) × (new.entries ≡ set_value (eq k) old.entries v)
-  replaces_there w there (Ok None) s = absurd (none-some w (sym s.absent ∙ there))
-  replaces_there w there (Ok (Some x)) s = (ap Ok (sym s.old_value ∙ there), s.writes.entries)
-  replaces_there w there (Err pair) s = absurd (none-some w (sym s.may_refuse.absent ∙ there))
 
   -- no two keys are equal afterwards, as each call ensures
   module _ (laws : IsEquivalence eq) (d : IsEntries eq new.entries) where
@@ -445,35 +415,159 @@ module _ {K V S : Type 0} (eq : K → K → Bool) (laws : IsEquivalence eq)
       ∙ set_value-here (eq k) (stored, v) [] (stored_key-equal eq laws k old.entries) w left
       (none_without eq laws old.entries k d)
 
-module _ {K V S : Type 0} (old new : MapState K V S) where
-  -- goal: of a pop from the front, or from the back, that answers none: there was no entry, and nothing
-  -- changed
-  pub pops_front_none : PopsFront old new None → (old.entries ≡ []) × (new ≡ old)
-  pops_front_none s = (by old.entries s.answer, s.step)
+-- ---- lists of entries, written out
+
+-- goal: a list by its first item, as `front` and `peek_lru` return it
+pub by_first : {X : Type 0} (xs : List X) (o : Option X) → o ≡ first_of xs
+    → MatchOption o (xs ≡ []) (λ x. xs ≡ x ∷ drop 1 xs)
+by_first [] None is = refl
+by_first [] (Some x) is = absurd (none-some x (sym is))
+by_first (y ∷ xs) None is = absurd (none-some y is)
+by_first (y ∷ xs) (Some x) is = ap (λ z. z ∷ xs) (same_Some y x (sym is))
+
+module _ {K V : Type 0} where
+  -- goal: `lookup` in one list of entries behind another, and `set_value` there
+  pub lookup-append : (test : K → Bool) (xs ys : List (K × V))
+      → lookup test (xs ++ ys) ≡ option_or (lookup test xs) (lookup test ys)
+  lookup-append test [] ys = refl
+  lookup-append test (x ∷ xs) ys = by (test x.0) (lookup-append test xs ys)
     where
-      by : (es : List (K × V)) → None ≡ first_of es → es ≡ []
-      by [] h = refl
-      by (e ∷ es) h = absurd (none-some e h)
+      by : (b : Bool) → lookup test (xs ++ ys) ≡ option_or (lookup test xs) (lookup test ys)
+          → cond b (Some x.1) (lookup test (xs ++ ys))
+          ≡ option_or (cond b (Some x.1) (lookup test xs)) (lookup test ys)
+      by true h = refl
+      by false h = h
 
-  pub pops_back_none : PopsBack old new None → (old.entries ≡ []) × (new ≡ old)
-  pops_back_none s = (by old.entries s.answer, s.step)
+  pub set_value-append : (test : K → Bool) (xs ys : List (K × V)) (w : V)
+      → set_value test (xs ++ ys) w
+      ≡ cond (is_some (lookup test xs)) (set_value test xs w ++ ys) (xs ++ set_value test ys w)
+  set_value-append test [] ys w = refl
+  set_value-append test (x ∷ xs) ys w = by (test x.0) (set_value-append test xs ys w)
     where
-      by : (es : List (K × V)) → None ≡ last_of es → es ≡ []
-      by [] h = refl
-      by (e ∷ es) h =
-          absurd (none-some _ (h ∙ slice_get-get_or (e ∷ es) (length (e ∷ es) - 1) e (omega arith)))
+      further : (b : Bool) → x ∷ cond b (set_value test xs w ++ ys) (xs ++ set_value test ys w)
+          ≡ cond b (x ∷ (set_value test xs w ++ ys)) (x ∷ (xs ++ set_value test ys w))
+      further true = refl
+      further false = refl
 
-  -- goal: what a pop from the front leaves, by its answer
-  pub pops_front_entries : (r : Option (K × V)) → PopsFront old new r
-      → MatchOption r ((old.entries ≡ []) × (new.entries ≡ [])) (λ e. old.entries ≡ e ∷ new.entries)
-  pops_front_entries None s = let p = pops_front_none s in (p.0, ap (λ m. m.entries) p.1 ∙ p.0)
-  pops_front_entries (Some e) s = (pops_front old new e s).0
+      by : (b : Bool) → set_value test (xs ++ ys) w
+          ≡ cond (is_some (lookup test xs)) (set_value test xs w ++ ys) (xs ++ set_value test ys w)
+          → cond b ((x.0, w) ∷ (xs ++ ys)) (x ∷ set_value test (xs ++ ys) w)
+          ≡ cond (is_some (cond b (Some x.1) (lookup test xs)))
+          (cond b ((x.0, w) ∷ xs) (x ∷ set_value test xs w) ++ ys) (x ∷ (xs ++ set_value test ys w))
+      by true h = refl
+      by false h = ap (λ zs. x ∷ zs) h ∙ further (is_some (lookup test xs))
 
-  -- goal: what a pop from the back leaves, by its answer
-  pub pops_back_entries : (r : Option (K × V)) → PopsBack old new r
-      → MatchOption r ((old.entries ≡ []) × (new.entries ≡ [])) (λ e. old.entries ≡ new.entries ++ e ∷ [])
-  pops_back_entries None s = let p = pops_back_none s in (p.0, ap (λ m. m.entries) p.1 ∙ p.0)
-  pops_back_entries (Some e) s = (pops_back old new e s).0
+  -- goal: the entries after the first one moved last, as by `to_back` or a cache's `get`
+  pub moved_first : (test : K → Bool) (e : K × V) (es : List (K × V)) → test e.0 ≡ true
+      → moved_match test (e ∷ es) (length (e ∷ es)) ≡ es ++ e ∷ []
+  moved_first test e es t =
+      let end : place_left 0 (length (e ∷ es)) ≡ length es
+      = rw (lt-ltb 0 (suc (length es)) (omega arith)) (omega arith) in
+      rw t (ap (λ b. insert es b e) end ∙ insert_end es e)
+
+  -- goal: `put` where a replace puts it, written out: the value changes where the key stands, and an absent
+  -- key goes last; and the keys then
+  pub put_in_place : (eq : K → K → Bool) (es : List (K × V)) (k : K) (v : V)
+      → put eq es k v (place_or_end eq es k)
+      ≡ cond (is_some (lookup (eq k) es)) (set_value (eq k) es v) (es ++ (k, v) ∷ [])
+  put_in_place eq es k v = by (splits (eq k) es)
+    where
+      written : Option V → List (K × V)
+      written o = cond (is_some o) (set_value (eq k) es v) (es ++ (k, v) ∷ [])
+
+      by : NonePasses (eq k) es ⊎ Stands (eq k) es
+          → put eq es k v (place_or_end eq es k) ≡ written (lookup (eq k) es)
+      by (inl n) =
+          ap (λ o. put eq es k v (unwrap_or o (length es))) (place_of-none (eq k) es n)
+          ∙ put_back_absent eq es k v n ∙ sym (ap written (lookup-none (eq k) es n))
+      by (inr s) =
+          let at = ap (place_of (eq k)) s.3.is ∙ place_of-here (eq k) s.1 s.2 s.3.passes s.0 s.3.before in
+          let found = ap (lookup (eq k)) s.3.is ∙ lookup-here (eq k) s.1 s.2 s.3.passes s.0 s.3.before in
+          ap (λ o. put eq es k v (unwrap_or o (length es))) at
+          ∙ put_at_its_place eq es k v (length s.0) at ∙ sym (ap written found)
+
+  pub keys-put_in_place : (eq : K → K → Bool) (es : List (K × V)) (k : K) (v : V)
+      → keys_of (put eq es k v (place_or_end eq es k))
+      ≡ cond (is_member eq (keys_of es) k) (keys_of es) (keys_of es ++ k ∷ [])
+  keys-put_in_place eq es k v =
+      ap keys_of (put_in_place eq es k v) ∙ by (is_some (lookup (eq k) es))
+      ∙ ap (λ b. cond b (keys_of es) (keys_of es ++ k ∷ [])) (is_some-lookup (eq k) es)
+    where
+      by : (b : Bool) → keys_of (cond b (set_value (eq k) es v) (es ++ (k, v) ∷ []))
+          ≡ cond b (keys_of es) (keys_of es ++ k ∷ [])
+      by true = keys-set_value (eq k) es v
+      by false = map-append (λ e. e.0) es ((k, v) ∷ [])
+
+module _ {K V : Type 0} (eq : K → K → Bool) (laws : IsEquivalence eq) where
+  -- goal: `lookup` after a replace of each pair in turn, of which no two keys are equal
+  pub lookup-replaced_each : (q : K) (es pairs : List (K × V)) → IsEntries eq es → IsEntries eq pairs
+      → lookup (eq q) (fold (λ zs p. put eq zs p.0 p.1 (place_or_end eq zs p.0)) es pairs)
+      ≡ option_or (lookup (eq q) pairs) (lookup (eq q) es)
+  lookup-replaced_each q es [] d e = refl
+  lookup-replaced_each q es (p ∷ pairs) d e =
+      let b = place_or_end eq es p.0 in
+      lookup-replaced_each q (put eq es p.0 p.1 b) pairs (IsEntries-put eq laws es p.0 p.1 b d)
+      (IsEntries-tail eq p pairs e)
+      ∙ ap (option_or (lookup (eq q) pairs)) (lookup-put eq laws q es p.0 p.1 b d) ∙ by (eq p.0 q) refl
+    where
+      by : (c : Bool) → eq p.0 q ≡ c
+          → option_or (lookup (eq q) pairs) (cond c (Some p.1) (lookup (eq q) es))
+          ≡ option_or (cond (eq q p.0) (Some p.1) (lookup (eq q) pairs)) (lookup (eq q) es)
+      by true t =
+          let none = lookup-none (eq q) pairs
+          (none_equal eq laws p.0 q pairs t (IsEntries-head eq p pairs e)) in
+          rw (laws.symm q p.0, t, none) refl
+      by false t = rw (laws.symm q p.0, t) refl
+
+-- ---- a retain whose closure captures: `Holds` says what it holds to, as which time it compares with
+
+module _ {F K V : Type 0} (T : F → K → V → Bool → V → F → Type 0) (Holds : F → Type 0)
+    (passes : K × V → Bool) where
+  map-cond : {X Y : Type 0} (h : X → Y) (b : Bool) (x : X) (xs : List X)
+      → cond b (h x ∷ map h xs) (map h xs) ≡ map h (cond b (x ∷ xs) xs)
+  map-cond h true x xs = refl
+  map-cond h false x xs = refl
+
+  module _ (value : K × V → V)
+      (call : (f : F) (k : K) (v : V) (b : Bool) (w : V) (g : F) → Holds f → T f k v b w g
+      → (b ≡ passes (k, v)) × (w ≡ value (k, v)) × Holds g) where
+    kept_writing : (f : F) (es kept : List (K × V)) (g : F) → Holds f → KeepsInOrder T f es kept g
+        → kept ≡ map (λ e. (e.0, value e)) (filter passes es)
+    kept_writing f [] kept g h r = r.0
+    kept_writing f (e ∷ es) kept g h r =
+        let c = call f e.0 e.1 r.0 r.1 r.2 h r.4 in
+        let rest = kept_writing r.2 es r.3 g c.2 r.5 in
+        r.6 ∙ (λ i. cond (c.0 i) ((e.0, c.1 i) ∷ rest i) (rest i))
+        ∙ map-cond (λ x. (x.0, value x)) (passes e) e (filter passes es)
+
+    -- goal: what a retain leaves whose closure answers `passes` and writes `value`. The step is
+    -- `c.retain.ensures.retained.1` of a map, and its field `map` of a cache
+    pub retained_writing : {S : Type 0} (f : F) → Holds f → (old new : MapState K V S) (g : F)
+        → RetainsInOrder T f old new g
+        → KeepsOnly old new (map (λ e. (e.0, value e)) (filter passes old.entries))
+    retained_writing f h old new g r =
+        subst (KeepsOnly old new) (kept_writing f old.entries r.kept g h r.calls) r.keeps
+
+  -- goal: the same where the closure writes nothing
+  pub retained_where : ((f : F) (k : K) (v : V) (b : Bool) (w : V) (g : F) → Holds f → T f k v b w g
+      → (b ≡ passes (k, v)) × (w ≡ v) × Holds g)
+      → {S : Type 0} (f : F) → Holds f → (old new : MapState K V S) (g : F) → RetainsInOrder T f old new g
+      → KeepsOnly old new (filter passes old.entries)
+  retained_where call f h old new g r =
+      subst (KeepsOnly old new) (map-id (filter passes old.entries))
+      (retained_writing (λ e. e.1) call f h old new g r)
+
+-- goal: the same of a set's elements
+pub set_retained_where : {F T S : Type 0} (U : F → T → Bool → F → Type 0) (Holds : F → Type 0)
+    (passes : T → Bool)
+    → ((f : F) (t : T) (b : Bool) (g : F) → Holds f → U f t b g → (b ≡ passes t) × Holds g)
+    → (f : F) → Holds f → (old new : SetState T S) (g : F) → RetainsInOrder (at_element U) f old new g
+    → elements_of new ≡ filter passes (elements_of old)
+set_retained_where U Holds passes call f h old new g r =
+    ap keys_of
+    (retained_where (at_element U) Holds (λ e. passes e.0)
+    (λ f t v b w g h u. let c = call f t b g h u in (c.0, refl, c.1)) f h old new g r).entries
+    ∙ keys-filter passes passes old.entries
 
 -- ---- entries in the order of a number, as of a time: it does not fall from one to the next
 
@@ -619,12 +713,28 @@ module _ {T S : Type 0} (old new : SetState T S) where
       let e = set_inserts eq old new t b s in
       (e.1 ∙ ap not there, e.0 ∙ put_element_back eq (elements_of old) t)
 
-  -- goal: what a set's pop from the front leaves, by its answer
-  pub set_pops_front : (r : Option T) → PopsFront old new (as_entry r)
-      → MatchOption r ((elements_of old ≡ []) × (elements_of new ≡ []))
-      (λ t. elements_of old ≡ t ∷ elements_of new)
-  set_pops_front None s = let p = pops_front_entries old new None s in (ap keys_of p.0, ap keys_of p.1)
-  set_pops_front (Some t) s = ap keys_of (pops_front_entries old new (Some (t, tt)) s)
+  -- goal: the elements after the first one moved last
+  pub set_moves_first : (eq : T → T → Bool) (t : T) (rest : List T) → eq t t ≡ true
+      → elements_of old ≡ t ∷ rest → (r : Option (Unit {0}))
+      → MovesMatch (eq t) old new (length old.entries) r
+      → elements_of new ≡ rest ++ t ∷ []
+  set_moves_first eq t rest same is r s = by r s
+    where
+      first : old.entries ≡ (t, tt) ∷ pairs_of rest
+      first = sym (pairs_of-keys_of old.entries) ∙ ap pairs_of is
+
+      there : lookup (eq t) old.entries ≡ Some tt
+      there = ap (lookup (eq t)) first ∙ rw same refl
+
+      by : (r : Option (Unit {0})) → MovesMatch (eq t) old new (length old.entries) r
+          → elements_of new ≡ rest ++ t ∷ []
+      by None s = absurd (none-some tt (s.answer ∙ there))
+      by (Some w) s =
+          ap keys_of
+          (s.step.entries ∙ ap (λ es. moved_match (eq t) es (length es)) first
+          ∙ moved_first (eq t) (t, tt) (pairs_of rest) same)
+          ∙ map-append (λ e. e.0) (pairs_of rest) ((t, tt) ∷ [])
+          ∙ ap (λ ts. ts ++ t ∷ []) (keys_of-pairs_of rest)
 
 -- ---- the same of a cache's entries
 

@@ -1,4 +1,8 @@
 -- What the contracts of the uses cite, beside the definitions that `hashlink` hands on.
-pub mod ByLastUse
+pub mod Answers
+pub mod Appearances
+pub mod Contents
+pub mod Merged
 pub mod Texts
+pub mod Turns
 pub mod WithoutFirst

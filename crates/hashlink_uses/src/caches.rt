@@ -1,13 +1,12 @@
 //! Calls of a cache, and what is known of it once a loan has ended.
 ghost use Rattle.std.specs.Prelude.{◌≡◌, ℕ, ◌+◌, ◌<◌, ◌^◌, IsTrue, IsFalse, IsOk, OnOk, IfErr, Ok, length};
-ghost use Rattle.std.specs.Prelude.{is_some, option_copied, unwrap_or};
-ghost use Rattle.std.specs.Map.{lookup, lookup_entry};
+ghost use Rattle.std.specs.Prelude.{is_some, unwrap_or};
+ghost use Rattle.std.specs.Map.{lookup};
 ghost use Rattle.hashlink.specs.Cache.{CacheGetsAndWrites, EvictsFront, OnMap, IsWithin, front_evicted};
 ghost use Rattle.hashlink.specs.Entries.{put};
 ghost use Rattle.hashlink.specs.MapState.{MapState, Inserts, RefusesEntry};
-ghost use Rattle.hashlink.specs.Steps.{Drains, RemovesMatch, with_value_of};
+ghost use Rattle.hashlink.specs.Steps.{Drains, with_value_of};
 ghost use Rattle.hashlink.specs.Cached.{entries_of, state_of};
-ghost use Rattle.hashlink_uses.specs.Texts.{is_text};
 
 use crate::maps::entries::count_word as count_word_in;
 use hashlink::LruCache;
@@ -52,30 +51,6 @@ pub fn write_in_place<K: Eq + Hash, V: Drop, S: BuildHasher>(
         }
         None => false,
     }
-}
-
-/// A prepared statement.
-#[derive(Drop)]
-pub struct Statement(pub u64);
-
-/// Returns the statement of a text from a cache of texts. The text is looked up as it is, and no `String` is
-/// made.
-pub fn find_statement<'c>(
-    cache: &'c mut LruCache<String, Statement>,
-    sql: &str,
-) -> Option<&'c Statement>
-    ensures { option_copied result ≡ lookup (is_text sql.now) (entries_of cache.old) }
-{
-    cache.get(sql)
-}
-
-/// Removes the statement of a text from such a cache, and returns it.
-pub fn drop_statement(cache: &mut LruCache<String, Statement>, sql: &str) -> Option<Statement>
-    ensures value { result ≡ lookup (is_text sql.now) (entries_of cache.old) }
-    ensures removes { OnMap (λ a b. RemovesMatch (is_text sql.now) a b
-        (lookup_entry (is_text sql.now) a.entries)) (state_of cache.old) (state_of cache.new) }
-{
-    cache.remove(sql)
 }
 
 /// Empties a cache, and keeps its nodes.

@@ -14,24 +14,6 @@ use hashlink::linked_hash_map::TryInsertError;
 use hashlink::{LinkedHashSet, LruCache};
 use std::hash::{BuildHasher, Hash};
 
-/// Stores the size of a page, which is then the most recently used one, and returns the size that it
-/// replaces.
-pub fn remember(
-    sizes: &mut LruCache<u32, u64>,
-    page: u32,
-    size: u64,
-) -> Result<Option<u64>, (u32, u64)>
-    ensures entries { OnOk result (entries_of sizes.new
-        ≡ cache_put nat_eq (entries_of sizes.old) (state_of sizes.old).cap page size) }
-    ensures old { IfOk result (λ old. old ≡ lookup (nat_eq page) (entries_of sizes.old)) }
-    ensures unchanged { OnErr result (entries_of sizes.new ≡ entries_of sizes.old) }
-    ensures handed_back { IfErr result (λ pair. pair ≡ (page, size)) }
-    ensures fits { OnOk result (length (entries_of sizes.new) ≤ (state_of sizes.new).cap) }
-    ensures capacity { (state_of sizes.new).cap ≡ (state_of sizes.old).cap }
-{
-    sizes.insert(page, size)
-}
-
 /// Returns the size of a page, which is then the most recently used one.
 pub fn recall(sizes: &mut LruCache<u32, u64>, page: u32) -> Option<u64>
     ensures found { result ≡ lookup (nat_eq page) (entries_of sizes.old) }
@@ -48,15 +30,6 @@ pub fn hit(hits: &mut LruCache<u32, u64>, page: u32)
     if let Some(count) = hits.get_mut(&page) {
         *count = count.wrapping_add(1);
     }
-}
-
-/// Removes a page, and returns its size.
-pub fn forget(sizes: &mut LruCache<u32, u64>, page: u32) -> Option<u64>
-    ensures found { result ≡ lookup (nat_eq page) (entries_of sizes.old) }
-    ensures entries { entries_of sizes.new ≡ remove_entry (nat_eq page) (entries_of sizes.old) }
-    ensures capacity { (state_of sizes.new).cap ≡ (state_of sizes.old).cap }
-{
-    sizes.remove(&page)
 }
 
 /// Removes a page, and returns it with its size. What is returned was in the cache.

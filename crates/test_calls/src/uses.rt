@@ -3,7 +3,7 @@
 mod curves;
 mod forms;
 mod maps;
-mod sessions;
+mod pages;
 mod sets;
 mod whole_uses;
 

@@ -3,7 +3,7 @@ ghost use Rattle.std.specs.Prelude.{[], ◌∷◌, ◌++◌, ◌≡◌, Contains
 ghost use Rattle.std.specs.Prelude.{MatchOption};
 ghost use Rattle.std.specs.Prelude.{OnErr, OnOk, length};
 ghost use Rattle.std.specs.Map.{lookup, lookup_entry, remove_entry};
-ghost use Rattle.hashlink.specs.Entries.{IsEntries, place_or_end, put};
+ghost use Rattle.hashlink.specs.Entries.{IsEntries, put};
 ghost use Rattle.hashlink.specs.Keyed.{entries_of};
 
 use hashlink::LinkedHashMap;
@@ -37,22 +37,6 @@ pub fn write_first<K: Eq + Hash + Drop, V, S: BuildHasher>(
     ensures handed_back { IfErr result (λ pair. pair ≡ (key, value)) }
 {
     map.insert_front(key, value)
-}
-
-/// Writes the value of a key where its entry stands, or puts the pair last, and returns the value that it
-/// replaces.
-pub fn rewrite<K: Eq + Hash + Drop, V, S: BuildHasher>(
-    map: &mut LinkedHashMap<K, V, S>,
-    key: K,
-    value: V,
-) -> Result<Option<V>, (K, V)>
-    ensures entries { OnOk result (entries_of map.new
-        ≡ put K.eq (entries_of map.old) key value (place_or_end K.eq (entries_of map.old) key)) }
-    ensures old { IfOk result (λ old. old ≡ lookup (K.eq key) (entries_of map.old)) }
-    ensures unchanged { OnErr result (entries_of map.new ≡ entries_of map.old) }
-    ensures handed_back { IfErr result (λ pair. pair ≡ (key, value)) }
-{
-    map.replace(key, value)
 }
 
 /// The value of a key.

@@ -1,6 +1,5 @@
 //! Maps that are built from many pairs or extended by them, and what is known of them afterwards.
 ghost use Rattle.std.specs.Prelude.{◌≡◌, ◌≤◌, [], List, length, IsOk, OnErr, OnOk, IfOk, IfErr};
-ghost use Rattle.std.specs.List.{list_any};
 ghost use Rattle.hashlink.specs.Many.{AcceptsAll, StopsAt, InsertsPair};
 ghost use Rattle.hashlink.specs.Keyed.{state_of, entries_of};
 
@@ -72,19 +71,4 @@ pub fn copy_of<S: BuildHasher + Clone>(
     ensures refused { OnErr result (S.is_infallible map.now.hasher → entries_of map.now ≡ [] → ⊥) }
 {
     map.clone()
-}
-
-/// Returns whether an entry has this value.
-pub fn has_value<K: Eq + Hash, V: PartialEq, S: BuildHasher>(
-    map: &LinkedHashMap<K, V, S>,
-    value: &V,
-) -> bool
-    ensures { result ≡ list_any (λ e. V.eq e.1 value.now) (entries_of map.now) }
-{
-    for (_, stored) in map.iter() {
-        if stored == value {
-            return true;
-        }
-    }
-    false
 }

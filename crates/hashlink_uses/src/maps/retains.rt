@@ -1,5 +1,6 @@
 //! Retains, and what is known of a map or a set after one.
-ghost use Rattle.std.specs.Prelude.{◌≡◌, ◌+◌, ◌%◌, ◌≤◌, ◌&&◌, cond, filter, length, nat_eq, nat_lt, not};
+ghost use Rattle.std.specs.Prelude.{◌≡◌, ◌+◌, ◌/◌, ◌%◌, ◌≤◌, ◌&&◌, cond, filter, length, map as list_map};
+ghost use Rattle.std.specs.Prelude.{nat_eq, nat_lt, not};
 ghost use Rattle.hashlink.specs.Steps.{KeepsOnly};
 ghost use Rattle.hashlink.specs.Keyed.{state_of, entries_of};
 ghost use Rattle.hashlink.specs.Sets.{elements_of};
@@ -8,12 +9,23 @@ ghost use Rattle.hashlink_uses.specs.WithoutFirst.{without_first};
 use hashlink::{LinkedHashMap, LinkedHashSet};
 use std::hash::{BuildHasher, Hash};
 
-/// Keeps the entries whose value is even: a retain by a predicate is a filter.
-pub fn keep_even<K: Eq + Hash + Drop, S: BuildHasher>(map: &mut LinkedHashMap<K, u64, S>)
+/// Keeps the entries whose value is even, and halves it.
+pub fn halve_even<K: Eq + Hash + Drop, S: BuildHasher>(map: &mut LinkedHashMap<K, u64, S>)
     ensures { KeepsOnly (state_of map.old) (state_of map.new)
-        (filter (λ e. nat_eq (e.1 % 2) 0) (entries_of map.old)) }
+        (list_map (λ e. (e.0, e.1 / 2)) (filter (λ e. nat_eq (e.1 % 2) 0) (entries_of map.old))) }
 {
-    map.retain(|_, value| *value % 2 == 0);
+    map.retain(|_, value| {
+        let is_even = *value % 2 == 0;
+        *value /= 2;
+        is_even
+    });
+}
+
+/// Keeps the elements below a bound, which the closure captures.
+pub fn keep_below<S: BuildHasher>(set: &mut LinkedHashSet<u64, S>, bound: u64)
+    ensures { elements_of set.new ≡ filter (λ element. nat_lt element bound) (elements_of set.old) }
+{
+    set.retain(|element| *element < bound);
 }
 
 /// Removes the entries whose value is zero, but no more than `most`, those nearest to the front, and returns

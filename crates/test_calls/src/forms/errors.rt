@@ -1,8 +1,9 @@
 //! `?` where an allocation fails.
 use crate::few::{Map, map_of, passes};
 use hashlink::TryReserveError;
-use std::alloc::{AllocError, Global};
+use std::alloc::{AllocError, AllocFailed, Global};
 use std::error::Error;
+use std::io;
 use std::process::ExitCode;
 
 /// Makes room. The pair of an insert that fails is dropped for `?`.
@@ -15,6 +16,53 @@ fn put(map: &mut Map, room: usize) -> Result<(), AllocError> {
 /// Whether a pair is put where there can be room, and only there.
 fn is_room_refused(map: &mut Map) -> bool {
     put(map, 4).is_ok() & put(map, usize::MAX).is_err()
+}
+
+/// Inserts a pair, which is dropped if memory runs out. The line is the same for each of these errors.
+fn put_or_io_error(map: &mut Map) -> io::Result<()> {
+    map.insert(1, 11).map_err(|_| AllocError)?;
+    Ok(())
+}
+
+fn put_or_any_error(map: &mut Map) -> anyhow::Result<()> {
+    map.insert(1, 12).map_err(|_| AllocError)?;
+    Ok(())
+}
+
+/// Inserts a pair, which is in the error if memory runs out. `?` drops it and turns the error into the
+/// caller's.
+fn put_or_hand_back(
+    map: &mut Map,
+    pair: (u32, u32),
+) -> Result<Option<u32>, AllocFailed<(u32, u32)>> {
+    map.insert(pair.0, pair.1)
+        .map_err(|value| AllocFailed { value })
+}
+
+fn put_and_pass_on(map: &mut Map) -> Result<Option<u32>, AllocError> {
+    Ok(put_or_hand_back(map, (1, 13))?)
+}
+
+fn put_and_pass_on_to_io(map: &mut Map) -> io::Result<Option<u32>> {
+    Ok(put_or_hand_back(map, (1, 14))?)
+}
+
+fn put_and_pass_on_to_any(map: &mut Map) -> anyhow::Result<Option<u32>> {
+    Ok(put_or_hand_back(map, (1, 15))?)
+}
+
+/// Whether each of these inserts.
+fn is_put_each_time(map: &mut Map) -> bool {
+    put_or_io_error(map).is_ok()
+        & put_or_any_error(map).is_ok()
+        & put_and_pass_on(map).is_ok_and(|old| old == Some(12))
+        & put_and_pass_on_to_io(map).is_ok_and(|old| old == Some(13))
+        & put_and_pass_on_to_any(map).is_ok_and(|old| old == Some(14))
+}
+
+#[test]
+fn a_refusal_is_passed_on(rt: HostRuntime) -> ExitCode {
+    passes(is_put_each_time(&mut map_of(rt.alloc(), &[])))
 }
 
 /// Whether an error has a text.

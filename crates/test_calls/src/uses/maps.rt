@@ -2,9 +2,10 @@
 use crate::raw_insert::put_number;
 use crate::uses::passes;
 use hashlink::LinkedHashMap;
+use hashlink_uses::forms::has_value;
 use hashlink_uses::maps::cursors::put_after;
 use hashlink_uses::maps::entries::{count_on, put_new};
-use hashlink_uses::maps::extended::{append_rest, copy_of, has_value};
+use hashlink_uses::maps::extended::{append_rest, copy_of};
 use hashlink_uses::maps::lent_values::{write, write_to_back, write_to_front};
 use hashlink_uses::maps::raw_entries::{take_by_hash, write_beside_key, write_value};
 use std::alloc::Global;

@@ -1,83 +1,137 @@
-//! A memo, a queue, settings, statements and commands.
-ghost use Rattle.std.specs.Prelude.{◌+◌, ◌≡◌};
-ghost use Rattle.std.proofs.Common.{rules};
-ghost use Rattle.std.specs.Cmp.Rules.{comparing};
-
+//! Names, settings, lines, tasks, commands and retains.
 use crate::uses::passes;
 use hashlink::linked_hash_map::TryInsertError;
 use hashlink::run::Reply;
 use hashlink::{LinkedHashMap, LinkedHashSet, LruCache};
 use hashlink_uses::commands::remove_then_insert;
-use hashlink_uses::config::Settings;
 use hashlink_uses::everyday::{value_or, value_or_made};
+use hashlink_uses::lines::distinct_lines;
 use hashlink_uses::maps::retains::{take_even, take_zeros};
-use hashlink_uses::memo::{Function, Memo};
-use hashlink_uses::queue::Queue;
-use hashlink_uses::statements::get_or_prepare;
-use std::alloc::Global;
+use hashlink_uses::names::{Answer, address_of, learn, sweep};
+use hashlink_uses::settings::merge;
+use hashlink_uses::tasks::RoundRobin;
+use std::alloc::{AllocError, Global};
+use std::hash::RandomState;
 use std::process::ExitCode;
 
-/// The function that adds one.
-struct Next;
+type Names = LruCache<String, Answer, RandomState>;
 
-impl Function<u8, u16> for Next {
-    ghost value = { λ n. n + 1 };
-
-    ghost alike = { Prim.search (comparing, rules) };
+/// Learns three names, each with an address that holds until a time.
+fn names_learnt(alloc: Global, names: &mut Names) -> Result<(), AllocError> {
+    for (name, address, expires) in [
+        ("rattle.example", 0x0a00_0001, 60),
+        ("mail.example", 0x0a00_0002, 120),
+        ("www.example", 0x0a00_0003, 180),
+    ] {
+        let answer = Answer { address, expires };
+        learn(names, String::from_str(alloc, name)?, answer).map_err(|_| AllocError)?;
+    }
+    Ok(())
 }
 
-/// The value of 255 that a memo computes, and the one that it then has.
-fn memo_of_next(alloc: Global) -> [u16; 2] {
-    let mut memo = Memo::<u8, u16, Next>::new(alloc);
-    let computed = memo.get(255, |key| key as u16 + 1);
-    [computed, memo.get(255, |key| key as u16 + 1)]
-}
-
-#[test]
-fn a_memo_computes_each_value_once(rt: HostRuntime) {
-    assert_eq!(rt; memo_of_next(rt.alloc()), [256; 2]);
-}
-
-/// What a queue returns for three items, of which one was present, its length then, and the items that it
-/// returns.
-fn queue_up(alloc: Global) -> ([Result<bool, u32>; 3], usize, [Option<u32>; 3]) {
-    let mut queue = Queue::new(alloc);
-    let pushed = [queue.push(2u32), queue.push(1), queue.push(2)];
-    (pushed, queue.len(), [queue.pop(), queue.pop(), queue.pop()])
-}
-
-#[test]
-fn a_queue_hands_out_each_item_once(rt: HostRuntime) {
-    let pushed = [Ok(true), Ok(true), Ok(false)];
-    assert_eq!(rt; queue_up(rt.alloc()), (pushed, 2, [Some(2), Some(1), None]));
-}
-
-/// Whether a setting that is set twice has its last value.
-fn has_last_value(settings: &mut Settings<u32, u32>) -> bool {
-    (settings.set(1, 10) == Ok(None))
-        & (settings.set(1, 11) == Ok(Some(10)))
-        & (settings.get(&1) == Some(&11))
+/// The addresses of three names at a time, of which the first no longer holds; then how many names a sweep
+/// leaves, and the one that is then used least recently.
+fn names_at_100(names: &mut Names) -> ([Option<u32>; 3], usize, bool) {
+    let found = [
+        address_of(names, "rattle.example", 100),
+        address_of(names, "www.example", 100),
+        address_of(names, "mail.example", 100),
+    ];
+    sweep(names, 100);
+    let is_www = names
+        .peek_lru()
+        .is_some_and(|(name, _)| name.as_str() == "www.example");
+    (found, names.len(), is_www)
 }
 
 #[test]
-fn a_setting_keeps_its_place_and_its_last_value(rt: HostRuntime) -> ExitCode {
-    passes(has_last_value(&mut Settings::new(rt.alloc())))
+fn names_are_found_until_they_expire(rt: HostRuntime) -> ExitCode {
+    let Ok(hasher) = RandomState::new(&rt) else {
+        return ExitCode::FAILURE;
+    };
+    let mut names = LruCache::with_hasher(rt.alloc(), 3, hasher);
+    let learnt = names_learnt(rt.alloc(), &mut names).is_ok();
+    let at_100 = names_at_100(&mut names);
+    passes(learnt & (at_100 == ([None, Some(0x0a00_0003), Some(0x0a00_0002)], 2, true)))
 }
 
-/// The statements that a cache of one returns for one, one, two and one.
-fn prepared(alloc: Global) -> [u32; 4] {
-    let mut cache = LruCache::new(alloc, 1);
-    [
-        get_or_prepare(&mut cache, alloc, "one", |_| 1u32),
-        get_or_prepare(&mut cache, alloc, "one", |_| 2),
-        get_or_prepare(&mut cache, alloc, "two", |_| 2),
-        get_or_prepare(&mut cache, alloc, "one", |_| 3),
-    ]
+/// The settings of a user laid over those that a program begins with.
+fn settings_merged(alloc: Global) -> Result<LinkedHashMap<&'static str, &'static str>, AllocError> {
+    let mut settings = LinkedHashMap::from_iter(
+        alloc,
+        [("colour", "auto"), ("editor", "vi"), ("pager", "less")],
+    )?;
+    let others: LinkedHashMap<&str, &str> = LinkedHashMap::from_iter(
+        alloc,
+        [("tabs", "4"), ("editor", "ed"), ("wrap", "yes")],
+    )?;
+    merge(&mut settings, others).map_err(|_| AllocError)?;
+    Ok(settings)
+}
+
+/// Whether these are the settings, in this order.
+fn are_merged(settings: &LinkedHashMap<&'static str, &'static str>) -> bool {
+    let wanted = [
+        ("colour", "auto"),
+        ("editor", "ed"),
+        ("pager", "less"),
+        ("tabs", "4"),
+        ("wrap", "yes"),
+    ];
+    let mut left = settings.iter();
+    for (key, value) in wanted {
+        if left.next() != Some((&key, &value)) {
+            return false;
+        }
+    }
+    left.next().is_none()
 }
 
 #[test]
-fn a_statement_is_prepared_where_it_is_not_kept(rt: HostRuntime) {
-    assert_eq!(rt; prepared(rt.alloc()), [1, 1, 2, 3]);
+fn a_setting_keeps_its_place_and_takes_the_other_value(rt: HostRuntime) -> ExitCode {
+    match settings_merged(rt.alloc()) {
+        Ok(settings) => passes(are_merged(&settings)),
+        Err(_) => ExitCode::FAILURE,
+    }
+}
+
+/// What a shell was asked, line by line.
+const HISTORY: &str = "ls\ncd src\nls\nmake\nmake\ncd ..\n\nls\ncd src\n\nexit";
+
+/// Its lines where they appear first.
+fn lines_of_history(alloc: Global) -> Result<String, AllocError> {
+    let mut text = String::new(alloc);
+    for line in distinct_lines(alloc, HISTORY)? {
+        text.push_str(line)?;
+        text.push('\n')?;
+    }
+    Ok(text)
+}
+
+#[test]
+fn a_line_is_shown_where_it_appears_first(rt: HostRuntime) -> ExitCode {
+    passes(lines_of_history(rt.alloc()).is_ok_and(|text| text.as_str()
+        == "ls\ncd src\nmake\ncd ..\n\nexit\n"))
+}
+
+/// Whether three tasks, of which one is added twice, have their turns one after another, and the others once
+/// one is removed.
+fn have_their_turns(tasks: &mut RoundRobin<u32>) -> bool {
+    let added = [tasks.add(7), tasks.add(3), tasks.add(5), tasks.add(3)];
+    let first = tasks.next();
+    let round = [tasks.next(), tasks.next(), tasks.next()];
+    let removed = [tasks.remove(&5), tasks.remove(&5)];
+    (added == [Ok(true), Ok(true), Ok(true), Ok(false)])
+        & (first == Some(7))
+        & (round == [Some(3), Some(5), Some(7)])
+        & (removed == [true, false])
+        & ([tasks.next(), tasks.next(), tasks.next()] == [Some(3), Some(7), Some(3)])
+        & (tasks.len() == 2)
+}
+
+#[test]
+fn each_task_has_its_turn(rt: HostRuntime) -> ExitCode {
+    passes(have_their_turns(&mut RoundRobin::new(rt.alloc())))
 }
 
 /// Whether a removal of the one key and an insert of another have the right replies.

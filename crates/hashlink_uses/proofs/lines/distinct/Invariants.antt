@@ -1,0 +1,11 @@
+use Rattle.std.proofs.Common.{◌≡◌, ◌++◌, [], drop}
+use Rattle.hashlink.specs.Sets.{elements_of}
+use Rattle.hashlink_uses.specs.Appearances.{first_appearances}
+use Rattle.hashlink_uses.proofs.lines.distinct.Given as goal
+
+-- what is there and what appears first among the others is all
+abbrev pub invariant-loop-item : goal.invariant-loop-item
+invariant-loop-item g l =
+    (elements_of l.seen
+    ++ first_appearances g.T.PartialEq.eq (elements_of l.seen) (drop l.item-index l.items))
+    ≡ first_appearances g.T.PartialEq.eq [] l.items

@@ -1,0 +1,11 @@
+use Rattle.std.proofs.Common.{◌≡◌, ◌++◌, List}
+use Rattle.hashlink.specs.Keyed.{entries_of}
+use Rattle.hashlink_uses.specs.Merged.{merged}
+use Rattle.hashlink_uses.proofs.settings.merge.Given as goal
+
+-- those that have gone were set in turn
+abbrev pub invariant-loop-key : goal.invariant-loop-key
+invariant-loop-key g l =
+    (goal.iterator-loop-key g).can_next l.key-iterator × (goal.iterator-loop-key g).is_finite l.key-iterator
+    × (gone : List (g.row.K.Denot × g.row.V.Denot)) × (entries_of l.fn.others ≡ gone ++ l.key-iterator)
+    × (entries_of l.settings ≡ merged g.K.PartialEq.eq (entries_of l.fn.settings) gone)

@@ -1,0 +1,58 @@
+//! Settings in the order in which they were made first, and others that are laid over them.
+ghost use Rattle.std.specs.Prelude.{◌≡◌, ◌++◌, ◌∷◌, Bool, IfErr, IsOk, IsSome, List, OnOk};
+ghost use Rattle.std.specs.Cmp.{IsEquivalence};
+ghost use Rattle.std.specs.Map.{keys_of, lookup};
+ghost use Rattle.std.specs.Option.{option_or};
+ghost use Rattle.hashlink.specs.Entries.{IsEntries, place_or_end, put};
+ghost use Rattle.hashlink.specs.Keyed.{entries_of};
+ghost use Rattle.hashlink_uses.specs.Appearances.{first_appearances};
+ghost use Rattle.hashlink_uses.specs.Merged.{merged};
+
+use hashlink::LinkedHashMap;
+use std::hash::{BuildHasher, Hash};
+
+/// Sets a setting: one that is there keeps its place and takes the value, a new one goes to the back. Only a
+/// new one may allocate. If that fails, it returns the setting in `Err` and nothing changes.
+pub fn set<K: Eq + Hash + Drop, V: Drop, S: BuildHasher>(
+    settings: &mut LinkedHashMap<K, V, S>,
+    key: K,
+    value: V,
+) -> Result<(), (K, V)>
+    ensures entries { OnOk result (entries_of settings.new
+        ≡ put K.eq (entries_of settings.old) key value (place_or_end K.eq (entries_of settings.old) key)) }
+    ensures there { IsSome (lookup (K.eq key) (entries_of settings.old)) → IsOk result }
+    ensures refused { IfErr result
+        (λ pair. (pair ≡ (key, value)) × (entries_of settings.new ≡ entries_of settings.old)) }
+{
+    settings.replace(key, value)?;
+    Ok(())
+}
+
+/// Sets each of the other settings in turn. If an allocation fails, it returns the setting in `Err`, those
+/// before it stay set, and those after it are dropped. `what_a_merge_leaves` says what stands then.
+pub fn merge<K: Eq + Hash + Drop, V: Drop, S: BuildHasher, R: BuildHasher + Drop>(
+    settings: &mut LinkedHashMap<K, V, S>,
+    others: LinkedHashMap<K, V, R>,
+) -> Result<(), (K, V)>
+    ensures all { OnOk result
+        (entries_of settings.new ≡ merged K.eq (entries_of settings.old) (entries_of others)) }
+    ensures stopped { IfErr result (λ pair. (set left : List (K × V))
+        × (entries_of others ≡ set ++ pair ∷ left)
+        × (entries_of settings.new ≡ merged K.eq (entries_of settings.old) set)) }
+{
+    for (key, value) in others {
+        set(settings, key, value)?;
+    }
+    Ok(())
+}
+
+/// After a merge each key has the other value if there is one, and else its own. The keys stand as they did,
+/// and those that are new follow in the order of the others. The function has an empty body: its contract is
+/// the statement.
+pub fn what_a_merge_leaves<K, V>()
+    ensures wins { (eq : K → K → Bool) → IsEquivalence eq → (key : K) (es others : List (K × V))
+        → IsEntries eq es → IsEntries eq others
+        → lookup (eq key) (merged eq es others) ≡ option_or (lookup (eq key) others) (lookup (eq key) es) }
+    ensures order { (eq : K → K → Bool) (es others : List (K × V)) → keys_of (merged eq es others)
+        ≡ keys_of es ++ first_appearances eq (keys_of es) (keys_of others) }
+{}
