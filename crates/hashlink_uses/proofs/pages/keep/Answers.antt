@@ -12,7 +12,8 @@ returns-in-Ok-clause-kept g c n v r =
     let k = c.args.number in
     let es = entries_of c.make_place.new.pages in
     let entries = cache_inserts_entries nat_eq (state_of c.make_place.new.pages)
-    (state_of c.insert.new.self) k c.args.page c.in-Ok.field-0 c.in-Ok.ensures.inserts ∙ c.in_default.ensures.free c.args.page in
+    (state_of c.insert.new.self) k c.args.page c.in-Ok.field-0 c.in-Ok.ensures.inserts
+    ∙ c.in_default.ensures.free c.args.page in
     let found = ap (lookup (nat_eq n)) entries ∙ lookup-put nat_eq nat_eq_equiv n es k c.args.page (length es)
     c.make_place.ensures.distinct in
     rw found
