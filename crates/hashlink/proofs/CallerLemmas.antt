@@ -1,10 +1,9 @@
 -- What a caller's proof cites of maps, sets and caches, with the dependency `hashlink` alone. Each lemma says
 -- which goal it closes. A state is what `state_of` shows of a map, `state_of` of a cache, and a set itself.
 use Rattle.std.proofs.Common.{◌≡◌, ℕ, zero, suc, ◌-◌, ◌≤◌, ◌<◌, Bool, true, false, cond, not, is_some, List}
-use Rattle.std.proofs.Common.{[], ◌∷◌, ◌++◌}
-use Rattle.std.proofs.Common.{length, take, drop, Option, None, Some, Result, Ok, Err, refl, sym, ap, subst}
-use Rattle.std.proofs.Common.{◌∙◌, lt-ltb, map}
-use Rattle.std.proofs.Common.{◌⊎◌, inl, inr, true≢false, arith, filter, nat_le, le_refl, zero-le}
+use Rattle.std.proofs.Common.{[], ◌∷◌, ◌++◌, length, take, drop, Option, None, Some, Result, Ok, Err, refl}
+use Rattle.std.proofs.Common.{sym, ap, subst, ◌∙◌, lt-ltb, map, ◌⊎◌, inl, inr, true≢false, arith, filter}
+use Rattle.std.proofs.Common.{nat_le, le_refl, zero-le}
 use Rattle.std.specs.Prelude.{All, IfSome, IsSome, OnOk, insert, remove, slice_get, unwrap_or, MatchOption}
 use Rattle.std.specs.Prelude.{MatchResult, fold}
 use Rattle.std.specs.Option.{option_map_or, option_or}
@@ -17,8 +16,7 @@ use Rattle.std.proofs.lemmas.Bool.{le-leb, lt-leb}
 use Rattle.std.proofs.lemmas.List.{map-append, map-id, take-append-drop}
 use Rattle.std.proofs.lemmas.List.Edits.{insert_end}
 use Rattle.std.proofs.lemmas.List.Elements.{All-nil, All-cons, All-head, All-tail, All-same, All-append}
-use Rattle.std.proofs.lemmas.List.Elements.{All-take}
-use Rattle.std.proofs.lemmas.List.Elements.{All-drop, All-push, All-map, All-filter}
+use Rattle.std.proofs.lemmas.List.Elements.{All-take, All-drop, All-push, All-map, All-filter}
 use Rattle.std.proofs.lemmas.List.Sums.{AllPass-from_list_all}
 use Rattle.std.proofs.lemmas.List.Sorted.{IsNonDecreasingBy-drop, IsNonDecreasingBy-push}
 use Rattle.std.proofs.lemmas.Map.{NonePasses, keys-set_value}
@@ -27,14 +25,12 @@ use Rattle.std.proofs.lemmas.Map.Made.{is_some-lookup}
 use Rattle.std.proofs.lemmas.Option.{none-some, same_Some, slice_get-get_or}
 use Rattle.hashlink_model.specs.Cache.{CacheState, CacheInserts, CacheGetsMatch, cache_put}
 use Rattle.hashlink_model.specs.Entries.{IsEntries, place_left, place_of, place_without, place_or_end}
-use Rattle.hashlink_model.specs.Entries.{moved_at}
-use Rattle.hashlink_model.specs.Entries.{moved_match, put, stored_key, without}
+use Rattle.hashlink_model.specs.Entries.{moved_at, moved_match, put, stored_key, without}
 use Rattle.hashlink_model.specs.MapState.{MapState, Inserts}
 use Rattle.hashlink_model.specs.Retain.{KeepsInOrder, RetainsInOrder}
 use Rattle.hashlink_model.specs.Sets.{SetState, SetInserts, at_element, elements_of, pairs_of, stored_element}
 use Rattle.hashlink_model.specs.Steps.{KeepsOnly, PopsFront, PopsBack, Replaces, RemovesMatch, MovesMatch}
-use Rattle.hashlink_model.specs.Steps.{MovesMatchAndWrites}
-use Rattle.hashlink_model.specs.Steps.{MovesAndWrites}
+use Rattle.hashlink_model.specs.Steps.{MovesMatchAndWrites, MovesAndWrites}
 use Rattle.hashlink_model.specs.Walk.{first_of, last_of}
 use Rattle.hashlink_run.specs.declared.commands.Command.{Command}
 use Rattle.hashlink_run.specs.declared.commands.Command.TheVariants.{Insert, Remove}
@@ -49,8 +45,7 @@ use Rattle.hashlink_model.proofs.Distinct.{IsEntries-middle, IsEntries-insert}
 use Rattle.hashlink_model.proofs.Puts.{none_without}
 use Rattle.hashlink_model.proofs.SetElements.{find-keys, keys-filter, set_inserts}
 use Rattle.hashlink_model.proofs.SetViews.{keys_of-pairs_of, pairs_of-keys_of}
-use Rattle.hashlink_model.proofs.Splits.{Stands, splits, remove_entry-here}
-use Rattle.hashlink_model.proofs.Splits.{none_from_lookup}
+use Rattle.hashlink_model.proofs.Splits.{Stands, splits, remove_entry-here, none_from_lookup}
 use Rattle.hashlink_model.proofs.Splits.{remove_entry-none, lookup_key-none, place_of-none, place_of-here}
 use Rattle.hashlink_model.proofs.Splits.{set_value-here}
 -- ---- handed on
@@ -59,17 +54,15 @@ use Rattle.hashlink_model.proofs.Splits.{set_value-here}
 -- move
 pub use Rattle.hashlink_model.proofs.Afterwards.{lookup-put, lookup-put_same, lookup_entry-put_other}
 pub use Rattle.hashlink_model.proofs.Afterwards.{lookup-without, lookup-without_same}
-pub use Rattle.hashlink_model.proofs.Afterwards.{lookup_entry-without_other}
-pub use Rattle.hashlink_model.proofs.Afterwards.{lookup-moved}
--- goal: the length after a put, a removal and a move
-pub use Rattle.hashlink_model.proofs.Afterwards.{length-put_absent, length-put_there, length-without_absent}
-pub use Rattle.hashlink_model.proofs.Afterwards.{length-without_there, length-moved}
--- goal: `IsEntries` after them
-pub use Rattle.hashlink_model.proofs.Afterwards.{IsEntries-moved}
-pub use Rattle.hashlink_model.proofs.Puts.{IsEntries-put, IsEntries-without}
--- goal: `put` written out: last, first, of an absent key, and where the key stands; and a move as a put
-pub use Rattle.hashlink_model.proofs.Puts.{put_back, put_front, put_back_absent, put_at_its_place}
+pub use Rattle.hashlink_model.proofs.Afterwards.{lookup_entry-without_other, lookup-moved, length-put_absent}
+pub use Rattle.hashlink_model.proofs.Afterwards.{length-put_there, length-without_absent}
+pub use Rattle.hashlink_model.proofs.Afterwards.{length-without_there, length-moved, IsEntries-moved}
 pub use Rattle.hashlink_model.proofs.Afterwards.{moved-absent, moved-there}
+-- goal: the length after a put, a removal and a move
+-- goal: `IsEntries` after them
+pub use Rattle.hashlink_model.proofs.Puts.{IsEntries-put, IsEntries-without, put_back, put_front}
+pub use Rattle.hashlink_model.proofs.Puts.{put_back_absent, put_at_its_place}
+-- goal: `put` written out: last, first, of an absent key, and where the key stands; and a move as a put
 -- goal: the stored key equals the one given; equal keys are looked up alike
 pub use Rattle.hashlink_model.proofs.Finds.{stored_key-equal, lookup-equal}
 -- goal: what is left after a retain by a predicate is a filter
@@ -81,8 +74,7 @@ pub use Rattle.hashlink_model.proofs.CacheSteps.{inserts_answer as cache_inserts
 pub use Rattle.hashlink_model.proofs.CacheSteps.{inserts_refused as cache_inserts_refused, gets_hit}
 pub use Rattle.hashlink_model.proofs.CacheSteps.{gets_miss}
 -- goal: `lookup` at the key that a cache's insert put in, and at another key; an insert with a place to spare
-pub use Rattle.hashlink_model.proofs.Caches.{lookup-cache_put, lookup_entry-cache_put}
-pub use Rattle.hashlink_model.proofs.Caches.{cache_put-with_a_place}
+pub use Rattle.hashlink_model.proofs.Caches.{lookup-cache_put, lookup_entry-cache_put, cache_put-with_a_place}
 -- goal: a set's elements after one is put last, written out
 pub use Rattle.hashlink_model.proofs.SetElements.{put_element_back}
 -- goal: what a cache's insert evicts, by the entry that `evicted_by` names

@@ -1,7 +1,6 @@
 -- What is read of a page, as the cache holds it or not, and as it is stored.
 use Rattle.std.proofs.Common.{◌≡◌, ℕ, Bool, true, false, cond, List, Option, None, Some, Result, Ok, Err}
-use Rattle.std.proofs.Common.{drop, ap, refl, sym, true≢false, ◌∙◌}
-use Rattle.std.proofs.Common.{arith, length, nat_eq}
+use Rattle.std.proofs.Common.{drop, ap, refl, sym, true≢false, ◌∙◌, arith, length, nat_eq}
 use Rattle.std.specs.Map.{lookup}
 use Rattle.std.specs.Prelude.{OnErr, OnOk}
 use Rattle.std.specs.Option.{option_map}
