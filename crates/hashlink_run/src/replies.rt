@@ -10,7 +10,7 @@ pub enum Reply<K, V, B = bool> {
     Value(Option<V>),
     /// The pair that was there, if any.
     Pair(Option<(K, V)>),
-    /// The stored key that was replaced, if there was one.
+    /// A stored key, if there was one: of a replaced key the old one.
     Key(Option<K>),
     /// What the closure returned for the pair of the key that was named, if there was one.
     Seen(Option<B>),
