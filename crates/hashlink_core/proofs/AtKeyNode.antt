@@ -139,7 +139,7 @@ module _ {K V S : Type 0} (eq : K → K → Bool) (laws : IsEquivalence eq) (tes
 
   pub moved-found : HoldsMatch test new.nodes n
   moved-found = by_key (λ t. HoldsMatch t new.nodes n)
-      (λ k f. moved-holds_key eq laws old new k n f b' le s sound)
+      (λ k f. moved-holds_key eq laws old new k n f b' s sound)
 
   pub lent-moved : (w : V) → MovesMatchAndWrites test (state_of old) (state_of (with_value_at new n w)) b w
   lent-moved w = record {
@@ -156,7 +156,7 @@ module _ {K V S : Type 0} (eq : K → K → Bool) (laws : IsEquivalence eq) (tes
       by_key (λ t. lookup t (entries_of old) ≡ Some w)
       (λ k f. sym (lookup-moved eq laws k (entries_of old) k b d)
       ∙ ap (lookup (eq k)) (sym (moved-match (eq k) old new n f b b' same s).entries)
-      ∙ stored-value (eq k) new new n (moved-holds_key eq laws old new k n f b' le s sound) w at)
+      ∙ stored-value (eq k) new new n (moved-holds_key eq laws old new k n f b' s sound) w at)
 
 pub is_some-map : {X Y : Type 0} (f : X → Y) (o : Option X) → is_some (option_map f o) ≡ is_some o
 is_some-map f None = refl

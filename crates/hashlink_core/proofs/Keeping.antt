@@ -5,7 +5,7 @@ use Rattle.std.specs.Prelude.{slice_get, is_some, unwrap_or, Result, Ok, Err, If
 use Rattle.std.specs.Option.{option_map, option_map_or}
 use Rattle.std.specs.Cmp.{IsEquivalence}
 use Rattle.std.specs.Map.{lookup, remove_entry}
-use Rattle.std.proofs.lemmas.Map.{none_passes_from_lookup}
+use Rattle.std.proofs.lemmas.Map.{none_passes_from_lookup, lookup-remove_entry}
 use Rattle.std.proofs.lemmas.Option.{slice_get_past}
 use Rattle.std.proofs.lemmas.Map.Entries.{length-values_of}
 use Rattle.hashlink_nodes.specs.Node.{same_node, same_node_equiv, eq-same_node}
@@ -19,6 +19,7 @@ use Rattle.hashlink_core.specs.Keyed.{Keyed, entries_of, IsKeyed, pair_with_valu
 use Rattle.hashlink_core.specs.Places.{Node, Holds, IsPlace, place_number, renewed_at}
 use Rattle.hashlink_core.specs.Steps.{AddsNode, MovesNode, WritesNode, GrowsRoom, KeepsKeys, KeepsPlace}
 use Rattle.hashlink_core.proofs.Holding.{at-node, holds_key-at}
+use Rattle.hashlink_core.proofs.Mapped.{mapped, lookup-mapped}
 use Rattle.hashlink_core.proofs.Places.{node-at}
 
 -- at the guard stands no entry
@@ -100,30 +101,18 @@ module _ {K V S : Type 0} (old new : Keyed K V S) where
 
   pub keys-written : (j : ℕ) (v : V) → WritesNode old new j v → KeepsKeys old new
   keys-written j v s m _ =
-      ap (λ ns. option_map (λ e. e.0) (lookup (same_node m) ns)) s.nodes ∙ same (same_node m) old.nodes j
+      sym (lookup-mapped (λ (e : K × V). e.0) (same_node m) new.nodes)
+      ∙ ap (lookup (same_node m)) (ap (mapped (λ e. e.0)) s.nodes ∙ same old.nodes j)
+      ∙ lookup-mapped (λ (e : K × V). e.0) (same_node m) old.nodes
     where
-      same : (test : Node → Bool) (es : List (Node × (K × V))) (i : ℕ)
-          → option_map (λ e. e.0) (lookup test (renewed_at (pair_with_value v) es i))
-          ≡ option_map (λ e. e.0) (lookup test es)
-      same test [] i = refl
-      same test (e ∷ es) zero =
-          elim (test e.0) as (λ c. option_map (λ e. e.0) (cond c (Some (e.1.0, v)) (lookup test es))
-          ≡ option_map (λ e. e.0) (cond c (Some e.1) (lookup test es))) [ true ↦ refl | false ↦ refl ]
-      same test (e ∷ es) (suc i) =
-          elim (test e.0)
-          as (λ c. option_map (λ e. e.0)
-          (cond c (Some e.1) (lookup test (renewed_at (pair_with_value v) es i)))
-          ≡ option_map (λ e. e.0) (cond c (Some e.1) (lookup test es)))
-          [ true ↦ refl | false ↦ same test es i ]
+      same : (es : List (Node × (K × V))) (i : ℕ)
+          → mapped (λ (e : K × V). e.0) (renewed_at (pair_with_value v) es i) ≡ mapped (λ e. e.0) es
+      same [] i = refl
+      same (e ∷ es) zero = refl
+      same (e ∷ es) (suc i) = ap (λ r. (e.0, e.1.0) ∷ r) (same es i)
 
   pub keys-grown : (i : ℕ) → GrowsRoom i old new → KeepsKeys old new
   keys-grown i s m _ = ap (λ l. option_map (λ e. e.0) (lookup (same_node m) l.nodes)) s.rest
-
-  pub keys-inserted : IsEntries same_node old.nodes → (b : ℕ) (k : K) (v : V) (r : Result Node (K × V))
-      → IfOk r (λ n. AddsNode old new b n k v) → OnErr r (GrowsRoom 1 old new)
-      → KeepsKeys old new
-  keys-inserted apart b k v (Ok n) added grown = keys-added apart b n k v added
-  keys-inserted apart b k v (Err p) added grown = keys-grown 1 grown
 
   pub keys-held : KeepsKeys old new → (m : Node) → Holds old.nodes m → Holds new.nodes m
   keys-held kept m held =
@@ -140,33 +129,18 @@ keys_twice a b c s t m h = t m (keys-held a b s m h) ∙ s m h
 
 -- ---- a place that is not the node's is of the list without the node too
 
-apart-from : (n m : Node) → (n ≡ m → ⊥) → (c : Bool) → same_node n m ≡ c → same_node n m ≡ false
-apart-from n m other false is = is
-apart-from n m other true is = absurd (other (eq-same_node n m is))
-
-module _ {X : Type 0} (n m : Node) (apart : same_node n m ≡ false) where
-  left-lookup : (es : List (Node × X)) → lookup (same_node m) (remove_entry (same_node n) es)
-      ≡ lookup (same_node m) es
-  left-lookup [] = refl
-  left-lookup (e ∷ es) = by (left-lookup es) (same_node n e.0) refl
-    where
-      by : lookup (same_node m) (remove_entry (same_node n) es) ≡ lookup (same_node m) es
-          → (c : Bool) → same_node n e.0 ≡ c
-          → lookup (same_node m) (remove_entry (same_node n) (e ∷ es)) ≡ lookup (same_node m) (e ∷ es)
-      by rest true is =
-          let same : n ≡ e.0 = eq-same_node n e.0 is in
-          let other : same_node m e.0 ≡ false
-          = ap (same_node m) (sym same) ∙ same_node_equiv.symm m n ∙ apart in
-          rw (is, other) refl
-      by rest false is =
-          ap (λ c. lookup (same_node m) (cond c es (e ∷ remove_entry (same_node n) es))) is
-          ∙ ap (cond (same_node m e.0) (Some e.1)) rest
-
-pub left-place : {K V S : Type 0} (inside seen : Keyed K V S) → inside ≡ seen → (n : Node) (p : Option Node)
-    → (p ≡ Some n → ⊥) → IsPlace seen.nodes p
+pub left-place : {K V S : Type 0} (inside seen : Keyed K V S) → inside ≡ seen → IsEntries same_node seen.nodes
+    → (n : Node) (p : Option Node) → (p ≡ Some n → ⊥) → IsPlace seen.nodes p
     → IsPlace (remove_entry (same_node n) inside.nodes) p
-left-place inside seen view n None other within = tt
-left-place inside seen view n (Some m) other within =
-    ap is_some (left-lookup n m (apart-from n m (λ same. other (ap Some (sym same))) (same_node n m) refl)
-    inside.nodes)
-    ∙ ap (λ l. is_some (lookup (same_node m) l.nodes)) view ∙ within
+left-place inside seen view apart n None other within = tt
+left-place inside seen view apart n (Some m) other within =
+    rw (
+      view,
+      lookup-remove_entry same_node_equiv (same_node n) (λ x y t. same_node_equiv.congr n x y t) m
+          seen.nodes apart,
+    )
+    ((elim (same_node n m) as (λ c. same_node n m ≡ c
+    → is_some (cond c None (lookup (same_node m) seen.nodes)) ≡ true) [
+      | true ↦ λ is. absurd (other (ap Some (sym (eq-same_node n m is))))
+      | false ↦ λ is. within
+    ]) refl)

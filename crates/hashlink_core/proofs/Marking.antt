@@ -14,7 +14,7 @@ use Rattle.hashlink_nodes.specs.Ring.{Ring, ring, Holds, pair_of, with_number}
 use Rattle.hashlink_table.specs.Contents.{Contents, Keeps}
 use Rattle.hashlink_core.specs.Tied.{IsInStep}
 use Rattle.hashlink_core.proofs.Places.{node-at}
-use Rattle.hashlink_core.proofs.Tying.{kept}
+use Rattle.hashlink_core.proofs.Tying.{kept, listed, in-table, number-of}
 
 -- an entry that is written, and taken out or written again
 remove_entry-set_value : {X : Type 0} (test : Node → Bool) (es : List (Node × X)) (w : X)
@@ -42,7 +42,7 @@ set_value_twice test (e ∷ es) w x =
 module _ {K V : Type 0} {eq : K → K → Bool} {hash : K → ℕ} {r : Ring K V} {t : Contents Node}
     (step : IsInStep eq hash r t) where
   number-short : (m : Node) (h : Held K V) → lookup (same_node m) r.entries ≡ Some h → h.number < 2 ^ 32
-  number-short m h at = omega (arith, step.numbered m h at)
+  number-short m h at = omega (arith, number-of step m h at)
 
   module _ (n : Node) (held : Holds r.entries n) (number : ℕ)
       (is : option_map (λ h. h.number) (lookup (same_node n) r.entries) ≡ Some number) where
@@ -110,7 +110,7 @@ module _ {K V : Type 0} {eq : K → K → Bool} {hash : K → ℕ} {r : Ring K V
 
       -- ---- by the table
       pub asked-holds : (i : ℕ) (m : Node) → Keeps t i m → Holds fs m
-      asked-holds i m there = marked-holds m (ap is_some (step.tied.listed i m there).here)
+      asked-holds i m there = marked-holds m (ap is_some (listed step i m there).1)
 
       -- whether a node is found to have that number
       abbrev IsMarked : Node → Bool → Type 0
@@ -119,30 +119,30 @@ module _ {K V : Type 0} {eq : K → K → Bool} {hash : K → ℕ} {r : Ring K V
       module _ (long : 2 ^ 32 ≤ mark) where
         only : (i : ℕ) (m : Node) → Keeps t i m → IsMarked m true → n ≡ m
         only i m there answer =
-            let old = step.tied.listed i m there in
+            let old = listed step i m there in
             elim (same_node n m) as (λ b. same_node n m ≡ b → n ≡ m) [
               | true ↦ λ e. eq-same_node n m e
               | false ↦ λ e.
-                  let now : lookup (same_node m) fs ≡ Some old.held = found-now m
+                  let now : lookup (same_node m) fs ≡ Some old.0 = found-now m
                   ∙ ap (λ b. cond b (Some (with_number own mark)) (lookup (same_node m) r.entries)) e
-                  ∙ old.here in
-                  let is : eqb old.held.number mark ≡ true
+                  ∙ old.1 in
+                  let is : eqb old.0.number mark ≡ true
                   = cc (sym (ap (option_map (λ h. eqb h.number mark)) now) ∙ answer) in
                   absurd (omega (
                     arith,
-                    eqb-true old.held.number mark is,
-                    number-short m old.held old.here,
+                    eqb-true old.0.number mark is,
+                    number-short m old.0 old.1,
                   ))
             ] refl
 
         -- a node that is told to be marked is n, which is kept under its old number
         pub asked-told : (i : ℕ) (m : Node) → Keeps t i m → IsMarked m true → i ≡ number
         asked-told i m there answer =
-            let listed = step.tied.listed i m there in
+            let old = listed step i m there in
             let at : lookup (same_node m) r.entries ≡ Some own
             = ap (λ k. lookup (same_node k) r.entries) (sym (only i m there answer)) ∙ found in
-            let same : listed.held ≡ own = cc (sym listed.here ∙ at) in
-            sym listed.is ∙ ap (λ (h : Held K V). h.number) same ∙ own-number
+            let same : old.0 ≡ own = cc (sym old.1 ∙ at) in
+            sym old.2 ∙ ap (λ (h : Held K V). h.number) same ∙ own-number
 
         -- a node has the mark where it is n
         pub marked-same : (m : Node) → Holds r.entries m → (i : ℕ)
@@ -178,7 +178,7 @@ module _ {K V : Type 0} {eq : K → K → Bool} {hash : K → ℕ} {r : Ring K V
             → IfNone o ((m : Node) → Keeps t number m → IsMarked m false)
             → IsPermutation t.nodes (kept number n ∷ u.nodes)
         taken-out u None some none =
-            let there : Keeps t number n = subst (λ i. Keeps t i n) own-number (step.tied.kept n own found) in
+            let there : Keeps t number n = subst (λ i. Keeps t i n) own-number (in-table step n own found) in
             absurd (cc (own-marked false (none n there)))
         taken-out u (Some m) some none =
             let there : Keeps t number m

@@ -25,7 +25,7 @@ use Rattle.hashlink_core.specs.Steps.{RemovesNode}
 use Rattle.hashlink_core.proofs.Edits.{drop-at}
 use Rattle.hashlink_core.proofs.Mapped.{values-renewed_value}
 use Rattle.hashlink_core.proofs.Places.{is_node, following-within, number-cons, place_number-renewed, node-at}
-use Rattle.hashlink_core.proofs.Places.{renewed-holds}
+use Rattle.hashlink_core.proofs.Places.{place-renewed, keys-renewed}
 use Rattle.hashlink_core.proofs.Walk.{within-holds}
 
 -- ---- lists cut at the place of the call
@@ -66,11 +66,6 @@ module _ {X : Type 0} where
   next-removed (e ∷ es) p j is = number-left e es p (λ i at. next-removed es p i at) j
       (sym (number-cons e es p) ∙ is)
 
-  renewed-place : (f : X → X) (es : List (Node × X)) (j : ℕ) (p : Option Node) → IsPlace es p
-      → IsPlace (renewed_at f es j) p
-  renewed-place f es j None within = tt
-  renewed-place f es j (Some n) within = renewed-holds f es j n within
-
 module _ {K V : Type 0} where
   length-values : (ns : List (Node × (K × V))) → length (values_of ns) ≡ length ns
   length-values ns = length-map ns (λ e. e.1)
@@ -93,12 +88,6 @@ module _ {K V : Type 0} where
   kept-written (x ∷ es) (suc j) e w at out = ap (λ r. x ∷ r) (kept-written es j e w at out)
 
 -- a value that was written leaves the list sound
-keys-renewed : {X : Type 0} (f : X → X) (ns : List (Node × X)) (j : ℕ)
-    → keys_of (renewed_at f ns j) ≡ keys_of ns
-keys-renewed f [] j = refl
-keys-renewed f (e ∷ ns) zero = refl
-keys-renewed f (e ∷ ns) (suc j) = ap (λ r. e.0 ∷ r) (keys-renewed f ns j)
-
 module _ {K V S : Type 0} (eq : K → K → Bool) where
   pub sound-written : (m : Keyed K V S) (n : Node) (w : V) → IsKeyed eq m → IsKeyed eq (with_value_at m n w)
   sound-written m n w sound =
@@ -226,7 +215,7 @@ module _ {F K V : Type 0} (T : F → K → V → Bool → V → F → Type 0) (Q
               ∙ following-within (length m.nodes) j before-end
 
           within-written : IsPlace wrote.nodes q
-          within-written = renewed-place (pair_with_value w) m.nodes j q next.within
+          within-written = place-renewed (pair_with_value w) m.nodes j q next.within
 
           nodes-as_long : length wrote.nodes ≡ length m.nodes
           nodes-as_long = omega (arith, length-values wrote.nodes, as_long, length-values m.nodes)

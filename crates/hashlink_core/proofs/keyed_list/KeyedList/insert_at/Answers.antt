@@ -101,7 +101,7 @@ pub move_before-requires-clause-place : goal.move_before-requires-clause-place
 move_before-requires-clause-place g c =
     let old = c.args.self.now in
     let mid = c.replace_value-old.new.self in
-    left-place c.is_at.new.self mid c.is_at.ensures.same c.in-Some.node c.args.place (λ same. search rules)
+    left-place c.is_at.new.self mid c.is_at.ensures.same c.replace_value-old.ensures.sound.apart c.in-Some.node c.args.place (λ same. search rules)
     (keys-place old mid (keys-written old mid _ c.args.value c.replace_value-old.ensures.written) c.args.place
     c.requires)
 
