@@ -260,7 +260,7 @@ module _ {X : Type 0} where
         ∙ lookup_entry-here (same_node m) s.1 s.2 s.3.passes s.0 s.3.before) ∙ found) in
         absurd (cc (sym s.3.passes ∙ ap (λ e. same_node m e.0) here ∙ apart))
 
-    left-at : place_number (remove_entry (same_node n) es) p
+    pub left-at : place_number (remove_entry (same_node n) es) p
         ≡ place_left (place_number es (Some n)) (place_number es p)
     left-at = place_number-left es n p (not-the-node p within)
 
