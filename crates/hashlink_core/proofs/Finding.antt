@@ -9,7 +9,6 @@ use Rattle.std.specs.Map.{keys_of, lookup}
 use Rattle.std.specs.Option.{option_map, is_some, IfSome, IfNone, MatchOption}
 use Rattle.std.specs.Prelude.{slice_get, Contains, IsPermutation}
 use Rattle.std.proofs.Math.Path.{fun_ext}
-use Rattle.std.proofs.lemmas.List.Sorted.{Contains-permutation, IsPermutation-sym}
 use Rattle.std.proofs.lemmas.Map.{NonePasses}
 use Rattle.std.proofs.lemmas.Map.Views.{Contains-from_lookup, lookup-from_Contains}
 use Rattle.std.proofs.lemmas.Option.{slice_get-map}
@@ -29,7 +28,7 @@ use Rattle.hashlink_core.proofs.Edits.{element-at, at-element, from_part}
 use Rattle.hashlink_core.proofs.Mapped.{lookup-mapped, place_number-mapped}
 use Rattle.hashlink_core.proofs.Places.{node-at}
 use Rattle.hashlink_core.proofs.Stepping.{pair-at, held-at}
-use Rattle.hashlink_core.proofs.Tying.{kept, listed, in-table, number-of}
+use Rattle.hashlink_core.proofs.Tying.{listed, in-table, number-of}
 
 -- what a call answered at a node's key
 pub answered-at : {K V : Type 0} (P : K → Type 0) (o : Option (Held K V)) (key : K) (value : V)
@@ -60,23 +59,26 @@ key-held es n h is =
     (slice_get-map (λ p. p.0) (pairs_in es) c.0
     ∙ ap (option_map (λ p. p.0)) (pair-at es c.0 n h (at-element es (n, h) c)))
 
--- the keys that a query matches have its hash
-pub query-hashed : {K S H : Type 0} (build : S → H) (write : H → List ℕ → H) (finish : H → ℕ)
-    (input : K → List (List ℕ)) (matches : K → Bool) (query : List (List ℕ))
-    → ((x : K) → matches x ≡ true → query ≡ input x) → (s now : S) → s ≡ now
-    → (asked : ℕ) → asked ≡ finish (fold write (build now) query)
-    → (x : K) → matches x ≡ true
-    → hash_with build write finish input s x ≡ asked
-query-hashed build write finish input matches query alike s now same asked is x e =
-    ap (λ s. hash_with build write finish input s x) same
-    ∙ ap (λ i. finish (fold write (build now) i)) (sym (alike x e)) ∙ sym is
+-- a search that the table makes: the hash of the keys that pass, and what a call may answer at a node's key
+pub record Search {K V : Type 0} (hash : K → ℕ) (r : Ring K V) (passes : K → Bool) (i : ℕ)
+    (Answers : K → Bool → Type 0) : Type 0 where
+  pub hashed : (x : K) → passes x ≡ true → short (hash x) ≡ i
+  pub tells : (n : Node) (h : Held K V) → lookup (same_node n) r.entries ≡ Some h
+      → (b : Bool) → Answers h.key b → b ≡ passes h.key
 
--- what a removal took out of a table was in it
-pub was-kept : (t u : Contents Node) (number : ℕ) (n : Node) → IsPermutation t.nodes (kept number n ∷ u.nodes)
-    → Keeps t number n
-was-kept t u number n left =
-    Contains-permutation (kept number n ∷ u.nodes) t.nodes (kept number n) (IsPermutation-sym _ _ left)
-    (0, omega arith, refl)
+-- the keys that a query matches have its hash
+pub query-search : {K V S H : Type 0} {r : Ring K V} (build : S → H) (write : H → List ℕ → H)
+    (finish : H → ℕ) (input : K → List (List ℕ)) (matches : K → Bool) (query : List (List ℕ))
+    → ((x : K) → matches x ≡ true → query ≡ input x) → (s now : S) → s ≡ now
+    → (asked i : ℕ) → asked ≡ finish (fold write (build now) query) → i ≡ short asked
+    → Search (hash_with build write finish input s) r matches i (λ x b. b ≡ matches x)
+query-search build write finish input matches query alike s now same asked i is is_short = record {
+  hashed = λ x e.
+      ap (λ s. short (hash_with build write finish input s x)) same
+      ∙ ap (λ l. short (finish (fold write (build now) l))) (sym (alike x e)) ∙ ap short (sym is)
+      ∙ sym is_short;
+  tells = λ n h here b is. is;
+}
 
 module _ {K V : Type 0} {eq : K → K → Bool} (laws : IsEquivalence eq) {hash : K → ℕ} {r : Ring K V}
     {t : Contents Node} (step : IsInStep eq hash r t) where
@@ -91,17 +93,13 @@ module _ {K V : Type 0} {eq : K → K → Bool} (laws : IsEquivalence eq) {hash 
       let l = listed step number n there in
       ap (option_map (λ h. h.number)) l.1 ∙ ap Some l.2
 
-  -- ---- by calls that tell the keys that pass, which have the hash, from the others
-  module _ (passes : K → Bool) (asked i : ℕ) (is_short : i ≡ short asked)
-      (hashed : (x : K) → passes x ≡ true → hash x ≡ asked)
-      (Answers : K → Bool → Type 0)
-      (tells : (n : Node) (h : Held K V) → lookup (same_node n) r.entries ≡ Some h
-      → (b : Bool) → Answers h.key b → b ≡ passes h.key) where
+  module _ {passes : K → Bool} {i : ℕ} {Answers : K → Bool → Type 0}
+      (search : Search hash r passes i Answers) where
     answered : (n : Node) (h : Held K V) (b : Bool) → lookup (same_node n) r.entries ≡ Some h
         → IfSome (lookup (same_node n) r.entries) (λ g. Answers g.key b)
         → passes h.key ≡ b
     answered n h b here answer =
-        sym (tells n h here b (subst (λ o. IfSome o (λ g. Answers g.key b)) here answer))
+        sym (search.tells n h here b (subst (λ o. IfSome o (λ g. Answers g.key b)) here answer))
 
     -- a node whose key is told to pass is kept under the short hash
     pub told-hash : (number : ℕ) (n : Node) → Keeps t number n
@@ -109,8 +107,7 @@ module _ {K V : Type 0} {eq : K → K → Bool} (laws : IsEquivalence eq) {hash 
         → number ≡ i
     told-hash number n there answer =
         let l = listed step number n there in
-        sym l.2 ∙ number-of step n l.0 l.1
-        ∙ ap short (hashed l.0.key (answered n l.0 true l.1 answer)) ∙ sym is_short
+        sym l.2 ∙ number-of step n l.0 l.1 ∙ search.hashed l.0.key (answered n l.0 true l.1 answer)
 
     -- where each node that has the short hash is told not to hold a key that passes, none passes
     none-told : ((n : Node) → Keeps t i n → IfSome (lookup (same_node n) r.entries) (λ h. Answers h.key false))
@@ -125,7 +122,7 @@ module _ {K V : Type 0} {eq : K → K → Bool} (laws : IsEquivalence eq) {hash 
         let here = lookup-from_Contains same_node_equiv n h r.entries step.apart
         (element-at r.entries (length s.0) x.0 x.1) in
         let met : passes h.key ≡ true = ap (λ p. passes p.0) x.2 ∙ s.3.passes in
-        let number = number-of step n h here ∙ ap short (hashed h.key met) ∙ sym is_short in
+        let number = number-of step n h here ∙ search.hashed h.key met in
         let there = subst (λ k. Keeps t k n) number (in-table step n h here) in
         absurd (cc (sym (answered n h false here (none n there)) ∙ met))
 

@@ -77,6 +77,13 @@ after-first k ks js a same =
 
 -- ---- the ring and the table
 
+-- what a removal took out of a table was in it
+pub was-kept : (t u : Contents Node) (number : ℕ) (n : Node) → IsPermutation t.nodes (kept number n ∷ u.nodes)
+    → Keeps t number n
+was-kept t u number n left =
+    Contains-permutation (kept number n ∷ u.nodes) t.nodes (kept number n) (IsPermutation-sym _ _ left)
+    (0, omega arith, refl)
+
 pub nodes-numbered : {K V : Type 0} (es : List (Node × Held K V))
     → map (λ k. k.node) (numbered_nodes es) ≡ keys_of es
 nodes-numbered [] = refl
