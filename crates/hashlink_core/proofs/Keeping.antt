@@ -67,10 +67,10 @@ module _ {K V S : Type 0} (old new : Keyed K V S) where
 
   -- ---- each step keeps the key of each node
 
-  pub keys-added : IsEntries same_node old.nodes → (b : ℕ) (n : Node) (k : K) (v : V)
+  pub keys-added : IsEntries same_node old.nodes → {b : ℕ} {n : Node} {k : K} {v : V}
       → AddsNode old new b n k v
       → KeepsKeys old new
-  keys-added apart b n k v s m held =
+  keys-added apart {b} {n} {k} {v} s m held =
       ap (option_map (λ e. e.0))
       (ap (lookup (same_node m))
       (s.nodes
@@ -87,10 +87,10 @@ module _ {K V S : Type 0} (old new : Keyed K V S) where
           let fresh = s.fresh in
           absurd (cc)
 
-  pub keys-moved : IsEntries same_node old.nodes → (b : ℕ) (n : Node) → Holds old.nodes n
+  pub keys-moved : IsEntries same_node old.nodes → {b : ℕ} (n : Node) → Holds old.nodes n
       → MovesNode old new (place_number old.nodes (Some n)) b
       → KeepsKeys old new
-  keys-moved apart b n held s m _ =
+  keys-moved apart {b} n held s m _ =
       let x = node-at old.nodes n held in
       let j = place_number old.nodes (Some n) in
       let there = place_of_its_key same_node same_node_equiv old.nodes j (n, x.0) n apart x.1.at
@@ -99,8 +99,8 @@ module _ {K V S : Type 0} (old new : Keyed K V S) where
       (ap (lookup (same_node m)) (s.nodes ∙ moved_at-place same_node old.nodes n j there b)
       ∙ lookup-moved same_node same_node_equiv m old.nodes n b apart)
 
-  pub keys-written : (j : ℕ) (v : V) → WritesNode old new j v → KeepsKeys old new
-  keys-written j v s m _ =
+  pub keys-written : {j : ℕ} {v : V} → WritesNode old new j v → KeepsKeys old new
+  keys-written {j} {v} s m _ =
       sym (lookup-mapped (λ (e : K × V). e.0) (same_node m) new.nodes)
       ∙ ap (lookup (same_node m)) (ap (mapped (λ e. e.0)) s.nodes ∙ same old.nodes j)
       ∙ lookup-mapped (λ (e : K × V). e.0) (same_node m) old.nodes
@@ -111,8 +111,8 @@ module _ {K V S : Type 0} (old new : Keyed K V S) where
       same (e ∷ es) zero = refl
       same (e ∷ es) (suc i) = ap (λ r. (e.0, e.1.0) ∷ r) (same es i)
 
-  pub keys-grown : (i : ℕ) → GrowsRoom i old new → KeepsKeys old new
-  keys-grown i s m _ = ap (λ l. option_map (λ e. e.0) (lookup (same_node m) l.nodes)) s.rest
+  pub keys-grown : {i : ℕ} → GrowsRoom i old new → KeepsKeys old new
+  keys-grown s m _ = ap (λ l. option_map (λ e. e.0) (lookup (same_node m) l.nodes)) s.rest
 
   pub keys-held : KeepsKeys old new → (m : Node) → Holds old.nodes m → Holds new.nodes m
   keys-held kept m held =
@@ -129,18 +129,12 @@ keys_twice a b c s t m h = t m (keys-held a b s m h) ∙ s m h
 
 -- ---- a place that is not the node's is of the list without the node too
 
-pub left-place : {K V S : Type 0} (inside seen : Keyed K V S) → inside ≡ seen → IsEntries same_node seen.nodes
-    → (n : Node) (p : Option Node) → (p ≡ Some n → ⊥) → IsPlace seen.nodes p
-    → IsPlace (remove_entry (same_node n) inside.nodes) p
-left-place inside seen view apart n None other within = tt
-left-place inside seen view apart n (Some m) other within =
-    rw (
-      view,
-      lookup-remove_entry same_node_equiv (same_node n) (λ x y t. same_node_equiv.congr n x y t) m
-          seen.nodes apart,
-    )
-    ((elim (same_node n m) as (λ c. same_node n m ≡ c
-    → is_some (cond c None (lookup (same_node m) seen.nodes)) ≡ true) [
+pub left-place : {X : Type 0} (es : List (Node × X)) → IsEntries same_node es → (n : Node) (p : Option Node)
+    → (p ≡ Some n → ⊥) → IsPlace es p → IsPlace (remove_entry (same_node n) es) p
+left-place es apart n None other within = tt
+left-place es apart n (Some m) other within =
+    rw (lookup-remove_entry same_node_equiv (same_node n) (λ x y t. same_node_equiv.congr n x y t) m es apart)
+    ((elim (same_node n m) as (λ c. same_node n m ≡ c → is_some (cond c None (lookup (same_node m) es)) ≡ true) [
       | true ↦ λ is. absurd (other (ap Some (sym (eq-same_node n m is))))
       | false ↦ λ is. within
     ]) refl)

@@ -231,7 +231,7 @@ module _ {F K V S : Type 0} {eq : K → K → Bool} {T : F → K → V → Bool 
             let first : place_number wrote.nodes (Some n) ≡ length found.done = place-now (Some n) ∙ place in
             let nodes : new.nodes ≡ remove_entry (same_node n) wrote.nodes =
             removed.nodes ∙ sym (remove_entry-at same_node wrote.nodes n) in
-            let within = left-place wrote wrote refl apart n q
+            let within = left-place wrote.nodes apart n q
             (λ same. omega (arith, next-now, first, ap (place_number wrote.nodes) same))
             (within-now q next.within) in
             let number : place_number new.nodes q ≡ length found.done =

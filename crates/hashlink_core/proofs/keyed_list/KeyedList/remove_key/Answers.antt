@@ -2,12 +2,11 @@ use Rattle.std.proofs.Common.{◌≡◌, true, Some, None, refl, ap, sym, subst,
 use Rattle.hashlink_model.specs.Entries.{place_of}
 use Rattle.hashlink_core.specs.Keyed.{entries_of, state_of, seen_as, HoldsMatch, IsKeyed}
 use Rattle.hashlink_core.specs.Tied.{hash_with}
-use Rattle.hashlink_core.proofs.AtKeyNode.{removed}
 use Rattle.hashlink_core.proofs.Calls.{sound, stored, removed-step, removed-node}
 use Rattle.hashlink_core.proofs.Finding.{Search, query-search, listed-holds, listed-number, told-hash}
 use Rattle.hashlink_core.proofs.Finding.{found-by_table}
 use Rattle.hashlink_core.proofs.Tying.{was-kept}
-use Rattle.hashlink_core.proofs.Steps.{lookup_entry-unplaced}
+use Rattle.hashlink_core.proofs.Steps.{lookup_entry-unplaced, removes_match}
 use Rattle.hashlink_core.proofs.keyed_list.KeyedList.remove_key.Given as given
 use Rattle.hashlink_core.proofs.keyed_list.KeyedList.remove_key.Goals.{After-short_hash-hash}
 use Rattle.hashlink_core.proofs.keyed_list.KeyedList.remove_key.Goals as goal
@@ -85,11 +84,11 @@ returns-clause-removes g c =
     let n = c.in_ok-node.node in
     let laws = g.met.K.Eq.laws in
     let within = (found g c).within in
-    removed (g.Q.Equivalent.matches c.args.key) c.args.self.now _ n (found g c) d.result
+    removes_match (g.Q.Equivalent.matches c.args.key) (state_of c.args.self.now) _ _ (found g c).place d.result
     (stored laws c.self.view_is c.self.invariant n within ∙ d.ensures.pair)
     (removed-node laws c.self.view_is c.self.invariant n within d.new.self c.remove.new.self
     c.short_hash-hash.result (listed-number laws c.self.invariant _ n there) left c.remove.ensures.room
-    d.ensures.entries d.ensures.free d.ensures.link_writes)
+    d.ensures.entries d.ensures.free d.ensures.link_writes).state
 
 pub returns-clause-sound : goal.returns-clause-sound
 returns-clause-sound g c = sound g.met.K.Eq.laws refl (invariant_of-self-2 g c)
