@@ -11,7 +11,7 @@ use Rattle.std.proofs.lemmas.Map.{NonePasses, lookup-none}
 use Rattle.std.proofs.lemmas.Map.Entries.{length-values_of}
 use Rattle.hashlink_model.specs.Cursor.{following_place, preceding_place}
 use Rattle.hashlink_model.specs.MapState.{HasRoom, Changes}
-use Rattle.hashlink_model.specs.Entries.{IsEntries, place_of, moved_at, place_left}
+use Rattle.hashlink_model.specs.Entries.{place_of, moved_at, place_left}
 use Rattle.hashlink_nodes.specs.declared.node.Node.{Node}
 use Rattle.hashlink_nodes.specs.declared.held.Held.{Held}
 use Rattle.hashlink_nodes.specs.Node.{same_node, same_node_equiv}

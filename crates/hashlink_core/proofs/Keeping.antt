@@ -1,7 +1,7 @@
 -- A place stays where its entry is, when a pair comes in, an entry moves or a value is written.
 use Rattle.std.proofs.Common.{◌≡◌, ℕ, suc, Bool, true, false, zero, List, [], ◌∷◌, length, Option, None, Some}
 use Rattle.std.proofs.Common.{refl, sym, ap, subst, ◌∙◌, cond, arith}
-use Rattle.std.specs.Prelude.{slice_get, is_some, unwrap_or, Result, Ok, Err, IfOk, OnErr}
+use Rattle.std.specs.Prelude.{slice_get, is_some, unwrap_or}
 use Rattle.std.specs.Option.{option_map, option_map_or}
 use Rattle.std.specs.Cmp.{IsEquivalence}
 use Rattle.std.specs.Map.{lookup, remove_entry}

@@ -6,7 +6,7 @@ use Rattle.std.specs.Prelude.{slice_get, insert, remove, IsPermutation}
 use Rattle.std.specs.Cmp.{IsEquivalence}
 use Rattle.std.specs.List.{IsDistinct}
 use Rattle.std.specs.Option.{option_map}
-use Rattle.std.specs.Map.{values_of, keys_of}
+use Rattle.std.specs.Map.{values_of}
 use Rattle.std.proofs.lemmas.Map.{NonePasses}
 use Rattle.std.proofs.lemmas.Option.{slice_get-map, slice_get_within, get_or_from_slice_get}
 use Rattle.std.proofs.lemmas.List.{length-map}

@@ -1,5 +1,5 @@
 -- The table keeps the nodes of the ring's entries, each under its entry's number.
-use Rattle.std.proofs.Common.{◌≡◌, ℕ, suc, ◌<◌, Bool, List, [], ◌∷◌, Some, refl, ap, sym, ◌∙◌, map, arith}
+use Rattle.std.proofs.Common.{◌≡◌, ℕ, suc, Bool, List, [], ◌∷◌, Some, refl, ap, sym, ◌∙◌, map, arith}
 use Rattle.std.specs.Prelude.{slice_get, remove, Contains, IsPermutation}
 use Rattle.std.specs.List.{IsDistinct}
 use Rattle.std.specs.Map.{lookup, keys_of}

@@ -1,4 +1,4 @@
-use Rattle.std.proofs.Common.{◌≡◌, Option, Some, refl, rules}
+use Rattle.std.proofs.Common.{◌≡◌, Some, refl, rules}
 use Rattle.hashlink_model.specs.MapState.{Inserts}
 use Rattle.hashlink_core.specs.Keyed.{state_of, IsKeyed}
 use Rattle.hashlink_core.specs.Places.{place_number}

@@ -1,4 +1,4 @@
-use Rattle.std.proofs.Common.{◌≡◌, true, Some, None, refl, ap, sym, subst, ◌∙◌}
+use Rattle.std.proofs.Common.{◌≡◌, Some, None, refl, ap, sym, subst, ◌∙◌}
 use Rattle.hashlink_model.specs.Entries.{place_of}
 use Rattle.hashlink_core.specs.Keyed.{entries_of, state_of, seen_as, HoldsMatch, IsKeyed}
 use Rattle.hashlink_core.specs.Tied.{hash_with}
