@@ -45,20 +45,18 @@ or-some f d (Some x) = refl
 abbrev with_nodes : {K V S : Type 0} → List (Node × (K × V)) → Keyed K V S → Keyed K V S
 with_nodes ns m = record m { nodes = ns }
 
+-- a list is sound where its ring and its table are in step
+module _ {K V S : Type 0} {eq : K → K → Bool} {hash : K → ℕ} {s : S} {r : Ring K V} {t : Contents Node} where
+  pub sound : {seen : Keyed K V S} → seen_as r t s ≡ seen → IsInStep eq hash r t → IsKeyed eq seen
+  sound view step = subst (IsKeyed eq) view (record {
+    distinct = step.distinct;
+    apart = subst (IsDistinct same_node) (sym (keys-mapped pair_of r.entries)) step.apart;
+    fits = omega (arith, step.fits, length-pairs r.entries);
+  })
+
 -- with the ring r and the table t inside, the list is seen as `seen`
 module _ {K V S : Type 0} {eq : K → K → Bool} (laws : IsEquivalence eq) {hash : K → ℕ} {s : S} {r : Ring K V}
     {t : Contents Node} {seen : Keyed K V S} (view : seen_as r t s ≡ seen) (step : IsInStep eq hash r t) where
-  seen-fits : (r' : Ring K V) (t' : Contents Node) → IsInStep eq hash r' t'
-      → HasRoom (state_of (seen_as r' t' s))
-  seen-fits r' t' step' = omega (arith, step'.fits, length-pairs r'.entries)
-
-  pub sound : IsKeyed eq seen
-  sound = subst (IsKeyed eq) view (record {
-    distinct = step.distinct;
-    apart = subst (IsDistinct same_node) (sym (keys-mapped pair_of r.entries)) step.apart;
-    fits = seen-fits r t step;
-  })
-
   nodes-seen : nodes_of r.entries ≡ seen.nodes
   nodes-seen = ap (λ m. m.nodes) view
 
@@ -84,11 +82,11 @@ module _ {K V S : Type 0} {eq : K → K → Bool} (laws : IsEquivalence eq) {has
   -- the place that the ring answers
   pub next-inside : (p q : Option Node) → IsPlace seen.nodes p → q ≡ next_place (keys_of r.entries) p
       → IsPlaceAt seen.nodes q (following_place (length seen.nodes) (place_number seen.nodes p))
-  next-inside p q within is = rw (is, ← keys-inside) (next-number seen.nodes sound.apart p within)
+  next-inside p q within is = rw (is, ← keys-inside) (next-number seen.nodes (sound view step).apart p within)
 
   pub prev-inside : (p q : Option Node) → IsPlace seen.nodes p → q ≡ prev_place (keys_of r.entries) p
       → IsPlaceAt seen.nodes q (preceding_place (length seen.nodes) (place_number seen.nodes p))
-  prev-inside p q within is = rw (is, ← keys-inside) (prev-number seen.nodes sound.apart p within)
+  prev-inside p q within is = rw (is, ← keys-inside) (prev-number seen.nodes (sound view step).apart p within)
 
   -- as many nodes are spare as before
   changed : (s' : Ring K V) (es : List (K × V)) (n : ℕ) → pairs_in s'.entries ≡ es → s'.free ≡ r.free
@@ -330,7 +328,7 @@ module _ {K V S : Type 0} {eq : K → K → Bool} (laws : IsEquivalence eq) {has
               bound = omega (arith, grown.more.bound, room, long);
               power = λ le. subst IsPowerOfTwo (sym room) (grown.more.power (omega (arith, le, room)));
             };
-            fits = seen-fits r' u after;
+            fits = (sound {s = s} refl after).fits;
             link_writes = stores-exactly 4 old.link_writes r'.link_writes (stored
                 ∙ ap (λ w. w + 4) (ap (λ m. m.link_writes) before));
             hasher = ap (λ m. m.hasher) before;

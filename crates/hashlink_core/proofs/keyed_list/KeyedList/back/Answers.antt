@@ -11,4 +11,4 @@ returns-clause-place g c =
     (prev-inside g.met.K.Eq.laws c.self.view_is c.self.invariant None c.prev.result tt c.prev.ensures.place)
 
 pub returns-clause-sound : goal.returns-clause-sound
-returns-clause-sound g c = sound g.met.K.Eq.laws c.self.view_is c.self.invariant
+returns-clause-sound g c = sound c.self.view_is c.self.invariant

@@ -39,4 +39,4 @@ returns-clause-found g c =
     (g.met.Q.Equivalent.finds_equal c.args.key) c.look_up.result c.look_up.ensures.found c.look_up.ensures.none)
 
 pub returns-clause-sound : goal.returns-clause-sound
-returns-clause-sound g c = sound g.met.K.Eq.laws c.self.view_is c.self.invariant
+returns-clause-sound g c = sound c.self.view_is c.self.invariant

@@ -73,4 +73,4 @@ look_up-requires-clause-telling g c =
     told-hash g.met.K.Eq.laws c.self.invariant (search-key g after c.requires.0 c.requires.1)
 
 pub returns-clause-sound : goal.returns-clause-sound
-returns-clause-sound g c = sound g.met.K.Eq.laws c.self.view_is c.self.invariant
+returns-clause-sound g c = sound c.self.view_is c.self.invariant

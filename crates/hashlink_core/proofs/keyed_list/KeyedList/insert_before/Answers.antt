@@ -55,7 +55,7 @@ returns-clause-added g c =
     (invariant_of-self-2 g c) p.link_writes
 
 pub returns-clause-sound : goal.returns-clause-sound
-returns-clause-sound g c = sound g.met.K.Eq.laws refl (invariant_of-self-2 g c)
+returns-clause-sound g c = sound refl (invariant_of-self-2 g c)
 
 pub returns-then-is_err-clause-no_spare : goal.returns-then-is_err-clause-no_spare
 returns-then-is_err-clause-no_spare g c =

@@ -31,4 +31,4 @@ invariant_of-self g c =
     m.ensures.free
 
 pub returns-clause-sound : goal.returns-clause-sound
-returns-clause-sound g c = sound g.met.K.Eq.laws refl (invariant_of-self g c)
+returns-clause-sound g c = sound refl (invariant_of-self g c)

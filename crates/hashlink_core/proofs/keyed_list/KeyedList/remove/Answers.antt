@@ -74,4 +74,4 @@ returns-clause-removed g c =
     (d.link_writes ∙ ap (λ w. w + 3) s.link_writes)
 
 pub returns-clause-sound : goal.returns-clause-sound
-returns-clause-sound g c = sound g.met.K.Eq.laws refl (invariant_of-self g c)
+returns-clause-sound g c = sound refl (invariant_of-self g c)

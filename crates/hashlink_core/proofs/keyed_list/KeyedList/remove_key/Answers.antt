@@ -47,7 +47,7 @@ returns-in_err-node-clause-removes g c =
 pub returns-in_err-node-clause-sound : goal.returns-in_err-node-clause-sound
 returns-in_err-node-clause-sound g c =
     subst (λ u. IsKeyed g.K.PartialEq.eq (seen_as c.self.inside.nodes u c.self.inside.hash_builder))
-    (sym c.in_err-node.ensures.same) (sound g.met.K.Eq.laws refl c.self.invariant)
+    (sym c.in_err-node.ensures.same) (sound refl c.self.invariant)
 
 pub detach_into_free-requires : goal.detach_into_free-requires
 detach_into_free-requires g c =
@@ -91,4 +91,4 @@ returns-clause-removes g c =
     d.ensures.entries d.ensures.free d.ensures.link_writes).state
 
 pub returns-clause-sound : goal.returns-clause-sound
-returns-clause-sound g c = sound g.met.K.Eq.laws refl (invariant_of-self-2 g c)
+returns-clause-sound g c = sound refl (invariant_of-self-2 g c)

@@ -25,10 +25,10 @@ invariant_of-self g c =
     let build = g.S.BuildHasher.build_hasher in
     rekeyed-step g.met.K.Eq.laws c.self.view_is c.self.invariant c.args.node c.requires.held
     c.set_key.new.self k
-    (equal-holds _ _ c.args.node k g.met.K.Eq.laws (sound g.met.K.Eq.laws c.self.view_is c.self.invariant)
+    (equal-holds _ _ c.args.node k g.met.K.Eq.laws (sound c.self.view_is c.self.invariant)
     c.requires.held c.requires.equal)
     (λ x e. ap (λ input. H.finish (fold H.write (build c.self.inside.hash_builder) input))
     (sym (g.met.K.Hash.respects_eq k x e))) c.set_key.ensures.entries c.set_key.ensures.free
 
 pub returns-clause-sound : goal.returns-clause-sound
-returns-clause-sound g c = sound g.met.K.Eq.laws refl (invariant_of-self g c)
+returns-clause-sound g c = sound refl (invariant_of-self g c)

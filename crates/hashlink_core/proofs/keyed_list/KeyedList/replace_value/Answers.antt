@@ -29,4 +29,4 @@ invariant_of-self g c =
     (λ h is. (laws.refl h.key, refl))
 
 pub returns-clause-sound : goal.returns-clause-sound
-returns-clause-sound g c = sound g.met.K.Eq.laws refl (invariant_of-self g c)
+returns-clause-sound g c = sound refl (invariant_of-self g c)
