@@ -10,7 +10,7 @@ use Rattle.std.specs.Map.{lookup, remove_entry, set_value, keys_of, values_of}
 use Rattle.std.proofs.lemmas.Map.{NonePasses, lookup-none}
 use Rattle.std.proofs.lemmas.Map.Entries.{length-values_of}
 use Rattle.hashlink_model.specs.Cursor.{following_place, preceding_place}
-use Rattle.hashlink_model.specs.MapState.{HasRoom, Changes}
+use Rattle.hashlink_model.specs.MapState.{Changes, StoresAtMost}
 use Rattle.hashlink_model.specs.Entries.{place_of, moved_at, place_left}
 use Rattle.hashlink_nodes.specs.declared.node.Node.{Node}
 use Rattle.hashlink_nodes.specs.declared.held.Held.{Held}
@@ -35,8 +35,11 @@ use Rattle.hashlink_core.proofs.Places.{IsNodeAt, node-at, put_before-at, set_va
 use Rattle.hashlink_core.proofs.Places.{moves_before-at, moves_after-at, same-number, same-place}
 use Rattle.hashlink_core.proofs.Stepping.{pair-at, length-pairs, step-in, step-out, step-renewed}
 use Rattle.hashlink_core.proofs.Steps.{none_passes_from_place}
-use Rattle.hashlink_core.proofs.Stores.{stores-exactly}
 use Rattle.hashlink_core.proofs.Tying.{kept}
+
+-- a step that stored n links stored n at most
+stores-exactly : (n old new : ℕ) → new ≡ old + n → StoresAtMost n old new
+stores-exactly n old new is = record { grows = omega (arith, is); bound = omega (arith, is) }
 
 or-some : {X Y : Type 0} (f : X → Y) (d : Y) (o : Option X) → IfSome o (λ x. option_map_or f o d ≡ f x)
 or-some f d None = tt
@@ -163,36 +166,33 @@ module _ {K V S : Type 0} {eq : K → K → Bool} (laws : IsEquivalence eq) {has
             };
           }
 
-    -- ---- the node moved right before, or right after, another place
-    module _ (p : Option Node) (place : IsPlace (remove_entry (same_node n) seen.nodes) p)
-        (es : List (Node × Held K V)) where
-      pub to-before : MovesBefore r.entries n p es → es ≡ moved_at r.entries i (place_number seen.nodes p)
-      to-before m =
-          rw (number-inside p)
-          (moves_before-at r.entries n p step.apart held-inside (rest-inside n p place) es m)
-
-      pub to-after : MovesAfter r.entries n p es
-          → es ≡ moved_at r.entries i (following_place (length seen.nodes) (place_number seen.nodes p))
-      to-after m =
-          rw (number-inside p, number-inside None)
-          (moves_after-at r.entries n p step.apart held-inside (rest-inside n p place) es m)
-
-    -- to the place b
-    module _ (s' : Ring K V) (b : ℕ) (moved : s'.entries ≡ moved_at r.entries i b)
-        (free : s'.free ≡ r.free) where
-      pub moved-step : IsInStep eq hash s' t
-      moved-step = step-renewed laws r s' t n at.0 at.0 i (place_left i b) step at.1.at
-          (moved ∙ moved_at-is r.entries i b (n, at.0) at.1.at) refl (laws.refl at.0.key) refl (ap length free)
-
-      pub moved-node : s'.link_writes ≡ r.link_writes + 6 → MovesNode seen (seen_as s' t s) j b
-      moved-node more =
+    -- ---- the node moved to the place b, right before or right after another one
+    module _ (s' : Ring K V) (free : s'.free ≡ r.free) (more : s'.link_writes ≡ r.link_writes + 6) where
+      moved : (b : ℕ) → s'.entries ≡ moved_at r.entries i b
+          → IsInStep eq hash s' t × MovesNode seen (seen_as s' t s) j b
+      moved b to =
           let nodes : nodes_of s'.entries ≡ moved_at seen.nodes j b =
-          ap nodes_of moved ∙ moved-map (λ (e : Node × Held K V). (e.0, pair_of e.1)) r.entries i b
-          ∙ ap₂ (λ ns k. moved_at ns k b) nodes-seen same-here in
-          record {
-            nodes = nodes;
-            state = changed s' _ 6 (ap values_of nodes ∙ moved-map (λ e. e.1) seen.nodes j b) free more;
-          }
+          ap nodes_of to ∙ moved-map (λ (e : Node × Held K V). (e.0, pair_of e.1)) r.entries i b
+          ∙ ap₂ (λ ns k. moved_at ns k b) nodes-seen same-here in (
+            step-renewed laws r s' t n at.0 at.0 i (place_left i b) step at.1.at
+                (to ∙ moved_at-is r.entries i b (n, at.0) at.1.at) refl (laws.refl at.0.key) refl
+                (ap length free),
+            record {
+              nodes = nodes;
+              state = changed s' _ 6 (ap values_of nodes ∙ moved-map (λ e. e.1) seen.nodes j b) free more;
+            },
+          )
+
+      module _ (p : Option Node) (place : IsPlace (remove_entry (same_node n) seen.nodes) p) where
+        pub moved-before : MovesBefore r.entries n p s'.entries
+            → IsInStep eq hash s' t × MovesNode seen (seen_as s' t s) j (place_number seen.nodes p)
+        moved-before m = moved (place_number seen.nodes p) (rw (number-inside p)
+            (moves_before-at r.entries n p step.apart held-inside (rest-inside n p place) s'.entries m))
+
+        pub moved-after : MovesAfter r.entries n p s'.entries → IsInStep eq hash s' t
+            × MovesNode seen (seen_as s' t s) j (following_place (length seen.nodes) (place_number seen.nodes p))
+        moved-after m = moved _ (rw (number-inside p, number-inside None)
+            (moves_after-at r.entries n p step.apart held-inside (rest-inside n p place) s'.entries m))
 
     -- ---- its entry was changed where it stands
     module _ (s' : Ring K V) (f : Held K V → Held K V) (set : IfSome (lookup (same_node n) r.entries)
@@ -201,7 +201,7 @@ module _ {K V S : Type 0} {eq : K → K → Bool} (laws : IsEquivalence eq) {has
       renewed = subst (λ o. IfSome o (λ h. s'.entries ≡ set_value (same_node n) r.entries (f h)))
           at.1.found set ∙ set_value-at f r.entries n at.0 at.1.found
 
-      pub renewed-step : ((h : Held K V) → (f h).number ≡ h.number)
+      renewed-step : ((h : Held K V) → (f h).number ≡ h.number)
           → ((h : Held K V) → lookup (same_node n) r.entries ≡ Some h → (eq h.key (f h).key ≡ true)
           × (hash (f h).key ≡ hash h.key)) → IsInStep eq hash s' t
       renewed-step number key =
@@ -214,55 +214,51 @@ module _ {K V S : Type 0} {eq : K → K → Bool} (laws : IsEquivalence eq) {has
       renewed-nodes g same = ap nodes_of renewed ∙ renewed-mapped pair_of f g same r.entries i
           ∙ ap₂ (renewed_at g) nodes-seen same-here
 
-      module _ (none : s'.link_writes ≡ r.link_writes) where
-        pub written-node : (v : V) → ((h : Held K V) → pair_of (f h) ≡ pair_with_value v (pair_of h))
-            → WritesNode seen (seen_as s' t s) j v
-        written-node v same =
-            let nodes = renewed-nodes (pair_with_value v) same in
-            record {
-              nodes = nodes;
-              state = changed s' _ 0 (ap values_of nodes ∙ values-renewed_value seen.nodes j v) free
-                  (omega (arith, none));
-            }
+    -- its value is v now
+    pub value-written : (s' : Ring K V) (v : V) → IfSome (lookup (same_node n) r.entries)
+        (λ h. s'.entries ≡ set_value (same_node n) r.entries (with_value h v))
+        → s'.free ≡ r.free → s'.link_writes ≡ r.link_writes
+        → IsInStep eq hash s' t × WritesNode seen (seen_as s' t s) j v
+    value-written s' v set free none =
+        let nodes = renewed-nodes s' (λ h. with_value h v) set free (pair_with_value v) (λ h. refl) in (
+          renewed-step s' (λ h. with_value h v) set free (λ h. refl) (λ h is. (laws.refl h.key, refl)),
+          record {
+            nodes = nodes;
+            state = changed s' _ 0 (ap values_of nodes ∙ values-renewed_value seen.nodes j v) free
+                (omega (arith, none));
+          },
+        )
 
-        pub key-node : (k : K) → ((h : Held K V) → pair_of (f h) ≡ pair_with_key k (pair_of h))
-            → SetsNodeKey seen (seen_as s' t s) j k
-        key-node k same =
-            let nodes = renewed-nodes (pair_with_key k) same in
-            record {
-              nodes = nodes;
-              state = changed s' _ 0 (ap values_of nodes ∙ values-renewed_key seen.nodes j k) free
-                  (omega (arith, none));
-            }
+    -- its key became the equal k
+    pub key-written : (s' : Ring K V) (k : K) → HoldsKey eq seen.nodes k n
+        → ((x : K) → eq k x ≡ true → hash x ≡ hash k) → IfSome (lookup (same_node n) r.entries)
+        (λ h. s'.entries ≡ set_value (same_node n) r.entries (with_key h k))
+        → s'.free ≡ r.free → s'.link_writes ≡ r.link_writes
+        → IsInStep eq hash s' t × SetsNodeKey seen (seen_as s' t s) j k
+    key-written s' k holds alike set free none =
+        let nodes = renewed-nodes s' (λ h. with_key h k) set free (pair_with_key k) (λ h. refl) in (
+          renewed-step s' (λ h. with_key h k) set free (λ h. refl) (λ h is.
+              let e : eq k h.key ≡ true = passes-at (eq k) (entries_of seen) j (pair_of h) holds.place
+              (stored ∙ ap (option_map pair_of) is) in
+              (laws.symm h.key k ∙ e, sym (alike h.key e))),
+          record {
+            nodes = nodes;
+            state = changed s' _ 0 (ap values_of nodes ∙ values-renewed_key seen.nodes j k) free
+                (omega (arith, none));
+          },
+        )
 
-    -- ---- its key became an equal one
-    pub rekeyed-step : (s' : Ring K V) (k : K) → HoldsKey eq seen.nodes k n
-        → ((x : K) → eq k x ≡ true → hash x ≡ hash k)
-        → IfSome (lookup (same_node n) r.entries)
-        (λ h. s'.entries ≡ set_value (same_node n) r.entries (with_key h k)) → s'.free ≡ r.free
-        → IsInStep eq hash s' t
-    rekeyed-step s' k holds alike set free = renewed-step s' (λ h. with_key h k) set free (λ h. refl)
-        (λ h is.
-        let e : eq k h.key ≡ true = passes-at (eq k) (entries_of seen) j (pair_of h) holds.place
-        (stored ∙ ap (option_map pair_of) is) in
-        (laws.symm h.key k ∙ e, sym (alike h.key e)))
-
-    -- ---- its value was lent, and w written there
-    module _ (w : V) where
-      lent-set : IfSome (lookup (same_node n) r.entries) (λ h. (ring_with_value_at r n w).entries
-          ≡ set_value (same_node n) r.entries (with_value h w))
-      lent-set = or-some (λ (h : Held K V). set_value (same_node n) r.entries (with_value h w)) r.entries
-          (lookup (same_node n) r.entries)
-
-      pub lent-step : IsInStep eq hash (ring_with_value_at r n w) t
-      lent-step = renewed-step (ring_with_value_at r n w) (λ h. with_value h w) lent-set refl (λ h. refl)
-          (λ h is. (laws.refl h.key, refl))
-
-      pub lent-value : seen_as (ring_with_value_at r n w) t s ≡ with_value_at seen n w
-      lent-value = ap (λ ns. keyed ns (length r.free) t.room r.link_writes s)
-          (renewed-nodes (ring_with_value_at r n w) (λ h. with_value h w) lent-set refl (pair_with_value w)
-          (λ h. refl))
-          ∙ ap (with_nodes (renewed_at (pair_with_value w) seen.nodes j)) view
+    -- its value was lent, and w written there
+    pub lent : (w : V) → IsInStep eq hash (ring_with_value_at r n w) t
+        × (seen_as (ring_with_value_at r n w) t s ≡ with_value_at seen n w)
+    lent w =
+        let set = or-some (λ (h : Held K V). set_value (same_node n) r.entries (with_value h w)) r.entries
+        (lookup (same_node n) r.entries) in
+        let written = value-written (ring_with_value_at r n w) w set refl refl in (
+          written.0,
+          ap (λ ns. keyed ns (length r.free) t.room r.link_writes s) written.1.nodes
+              ∙ ap (with_nodes (renewed_at (pair_with_value w) seen.nodes j)) view,
+        )
 
   -- ---- a new node n for the absent key k went in right before the place p; before room was made for it the
   -- list was `old`

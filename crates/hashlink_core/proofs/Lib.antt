@@ -15,6 +15,5 @@ pub mod Places
 pub mod Retaining
 pub mod Stepping
 pub mod Steps
-pub mod Stores
 pub mod Tying
 pub mod Walk
