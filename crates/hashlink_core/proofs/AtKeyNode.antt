@@ -156,34 +156,29 @@ pub shrinks : {K V S E : Type 0} (old new : Keyed K V S) (r : Result (Unit {0}) 
     → (old.nodes ≡ [] → IsOk r) → length (entries_of old) ≤ old.room → Shrinks (state_of old) (state_of new) r
 shrinks old new (Ok x) ok err empty below =
     let long = length-values_of old.nodes in
-    let room : new.room ≡ length old.nodes = ap (λ m. m.room) ok in
-    let kept : entries_of new ≡ entries_of old = ap entries_of ok in
-    record {
-      entries = kept;
-      spare = ap (λ m. m.spare) ok;
-      fits = omega (arith, ap length kept);
+    rw ok (record {
+      entries = refl;
+      spare = refl;
+      fits = omega arith;
       room = omega arith;
-      fitted = room ∙ sym (ap length kept ∙ long);
+      fitted = sym long;
       refused = tt;
       empty = λ none. (refl, omega (arith, ap length none));
-      link_writes = ap (λ m. m.link_writes) ok;
-      hasher = ap (λ m. m.hasher) ok;
-    }
+      link_writes = refl;
+      hasher = refl;
+    })
 shrinks old new (Err e) ok err empty below =
-    let long = length-values_of old.nodes in
-    let room : new.room ≡ old.room = ap (λ m. m.room) err in
-    let kept : entries_of new ≡ entries_of old = ap entries_of err in
-    record {
-      entries = kept;
-      spare = ap (λ m. m.spare) err;
-      fits = omega (arith, ap length kept);
+    rw err (record {
+      entries = refl;
+      spare = refl;
+      fits = omega arith;
       room = omega arith;
       fitted = tt;
-      refused = room;
+      refused = refl;
       empty = λ none. absurd (refused-empty (empty (nil-values_of old.nodes none)));
-      link_writes = ap (λ m. m.link_writes) err;
-      hasher = ap (λ m. m.hasher) err;
-    }
+      link_writes = refl;
+      hasher = refl;
+    })
   where
     refused-empty : IsOk {T = Unit {0}} (Err e) → ⊥
     refused-empty h = cc

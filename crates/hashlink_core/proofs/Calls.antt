@@ -33,9 +33,8 @@ use Rattle.hashlink_core.proofs.Mapped.{values-renewed_value, values-renewed_key
 use Rattle.hashlink_core.proofs.Neighbours.{distinct-left, next-number, prev-number}
 use Rattle.hashlink_core.proofs.Places.{IsNodeAt, node-at, put_before-at, set_value-at, renewed_at-is}
 use Rattle.hashlink_core.proofs.Places.{moves_before-at, moves_after-at, same-number, same-place}
-use Rattle.hashlink_core.proofs.Stepping.{pair-at, length-pairs, step-in, step-out, step-renewed}
+use Rattle.hashlink_core.proofs.Stepping.{pair-at, length-pairs, step-in, step-out, step-renewed, kept}
 use Rattle.hashlink_core.proofs.Steps.{none_passes_from_place}
-use Rattle.hashlink_core.proofs.Tying.{kept}
 
 -- a step that stored n links stored n at most
 stores-exactly : (n old new : ℕ) → new ≡ old + n → StoresAtMost n old new
@@ -230,17 +229,17 @@ module _ {K V S : Type 0} {eq : K → K → Bool} (laws : IsEquivalence eq) {has
         )
 
     -- its key became the equal k
-    pub key-written : (s' : Ring K V) (k : K) → HoldsKey eq seen.nodes k n
-        → ((x : K) → eq k x ≡ true → hash x ≡ hash k) → IfSome (lookup (same_node n) r.entries)
+    pub key-written : (s' : Ring K V) (k : K) → IfSome (lookup (same_node n) r.entries)
         (λ h. s'.entries ≡ set_value (same_node n) r.entries (with_key h k))
         → s'.free ≡ r.free → s'.link_writes ≡ r.link_writes
-        → IsInStep eq hash s' t × SetsNodeKey seen (seen_as s' t s) j k
-    key-written s' k holds alike set free none =
+        → ((HoldsKey eq seen.nodes k n × ((x : K) → eq k x ≡ true → hash x ≡ hash k)) → IsInStep eq hash s' t)
+        × SetsNodeKey seen (seen_as s' t s) j k
+    key-written s' k set free none =
         let nodes = renewed-nodes s' (λ h. with_key h k) set free (pair_with_key k) (λ h. refl) in (
-          renewed-step s' (λ h. with_key h k) set free (λ h. refl) (λ h is.
-              let e : eq k h.key ≡ true = passes-at (eq k) (entries_of seen) j (pair_of h) holds.place
+          λ same. renewed-step s' (λ h. with_key h k) set free (λ h. refl) (λ h is.
+              let e : eq k h.key ≡ true = passes-at (eq k) (entries_of seen) j (pair_of h) same.0.place
               (stored ∙ ap (option_map pair_of) is) in
-              (laws.symm h.key k ∙ e, sym (alike h.key e))),
+              (laws.symm h.key k ∙ e, sym (same.1 h.key e))),
           record {
             nodes = nodes;
             state = changed s' _ 0 (ap values_of nodes ∙ values-renewed_key seen.nodes j k) free

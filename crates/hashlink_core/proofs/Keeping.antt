@@ -5,7 +5,7 @@ use Rattle.std.specs.Prelude.{slice_get, is_some, unwrap_or}
 use Rattle.std.specs.Option.{option_map, option_map_or}
 use Rattle.std.specs.Cmp.{IsEquivalence}
 use Rattle.std.specs.Map.{lookup, remove_entry}
-use Rattle.std.proofs.lemmas.Map.{none_passes_from_lookup, lookup-remove_entry}
+use Rattle.std.proofs.lemmas.Map.{none_passes_from_lookup, lookup-remove_entry, lookup-insert}
 use Rattle.std.proofs.lemmas.Option.{slice_get_past}
 use Rattle.std.proofs.lemmas.Map.Entries.{length-values_of}
 use Rattle.hashlink_nodes.specs.Node.{same_node, same_node_equiv, eq-same_node}
@@ -18,6 +18,7 @@ use Rattle.hashlink_model.proofs.Puts.{put-absent}
 use Rattle.hashlink_core.specs.Keyed.{Keyed, entries_of, IsKeyed, pair_with_value}
 use Rattle.hashlink_core.specs.Places.{Node, Holds, IsPlace, place_number, renewed_at}
 use Rattle.hashlink_core.specs.Steps.{AddsNode, MovesNode, WritesNode, GrowsRoom, KeepsKeys, KeepsPlace}
+use Rattle.hashlink_core.proofs.AtKeyNode.{is_some-map}
 use Rattle.hashlink_core.proofs.Holding.{at-node, holds_key-at}
 use Rattle.hashlink_core.proofs.Mapped.{mapped, lookup-mapped}
 use Rattle.hashlink_core.proofs.Places.{node-at}
@@ -28,9 +29,9 @@ pub at-guard : {K V S : Type 0} (m : Keyed K V S) → slice_get (entries_of m) (
 at-guard m = slice_get_past (entries_of m) (length m.nodes) (omega (arith, length-values_of m.nodes))
 
 module _ {K V S : Type 0} (old new : Keyed K V S) where
-  held-from : (o : Option (K × V)) (k : K) → option_map (λ e. e.0) o ≡ Some k → is_some o ≡ true
-  held-from None k h = absurd (cc)
-  held-from (Some e) k h = refl
+  pub keys-held : KeepsKeys old new → (m : Node) → Holds old.nodes m → Holds new.nodes m
+  keys-held kept m held = sym (is_some-map (λ e. e.0) (lookup (same_node m) new.nodes))
+      ∙ ap is_some (kept m held) ∙ is_some-map (λ e. e.0) (lookup (same_node m) old.nodes) ∙ held
 
   -- so its place is kept
   pub keeps-place : {eq : K → K → Bool} → IsEquivalence eq → IsKeyed eq new → KeepsKeys old new
@@ -49,7 +50,7 @@ module _ {K V S : Type 0} (old new : Keyed K V S) where
       let x = node-at old.nodes n held in
       let found : option_map (λ e. e.0) (lookup (same_node n) new.nodes) ≡ Some x.0.0
       = kept n held ∙ ap (option_map (λ e. e.0)) x.1.found in
-      let still : Holds new.nodes n = held-from (lookup (same_node n) new.nodes) x.0.0 found in
+      let still = keys-held kept n held in
       let y = node-at new.nodes n still in
       let here : option_map (λ e. e.0) (lookup (same_node n) new.nodes) ≡ Some y.0.0
       = ap (option_map (λ e. e.0)) y.1.found in
@@ -67,25 +68,21 @@ module _ {K V S : Type 0} (old new : Keyed K V S) where
 
   -- ---- each step keeps the key of each node
 
-  pub keys-added : IsEntries same_node old.nodes → {b : ℕ} {n : Node} {k : K} {v : V}
-      → AddsNode old new b n k v
-      → KeepsKeys old new
-  keys-added apart {b} {n} {k} {v} s m held =
-      ap (option_map (λ e. e.0))
-      (ap (lookup (same_node m))
-      (s.nodes
-      ∙ sym (put-absent same_node old.nodes n (k, v) b
-      (none_passes_from_lookup (same_node n) old.nodes s.fresh)))
-      ∙ lookup-put same_node same_node_equiv m old.nodes n (k, v) b apart
-      ∙ ap (λ c. cond c (Some (k, v)) (lookup (same_node m) old.nodes)) (other (same_node n m) refl))
-    where
-      other : (c : Bool) → same_node n m ≡ c → same_node n m ≡ false
-      other false is = is
-      other true is =
-          let there = (node-at old.nodes m held).1.found in
-          let same = lookup-equal same_node same_node_equiv n m old.nodes is in
-          let fresh = s.fresh in
-          absurd (cc)
+  pub keys-added : {b : ℕ} {n : Node} {k : K} {v : V} → AddsNode old new b n k v → KeepsKeys old new
+  keys-added {b} {n} {k} {v} s m held =
+      rw (
+        s.nodes,
+        lookup-insert same_node_equiv n (k, v) m old.nodes b
+            (none_passes_from_lookup (same_node n) old.nodes s.fresh),
+      )
+      ((elim (same_node n m) as (λ c. same_node n m ≡ c
+      → option_map (λ e. e.0) (cond c (Some (k, v)) (lookup (same_node m) old.nodes))
+      ≡ option_map (λ e. e.0) (lookup (same_node m) old.nodes)) [
+        | true ↦ λ is.
+            let same = ap (λ i. lookup (same_node i) old.nodes) (eq-same_node n m is) in
+            absurd (cc (sym s.fresh ∙ same ∙ (node-at old.nodes m held).1.found))
+        | false ↦ λ is. refl
+      ]) refl)
 
   pub keys-moved : IsEntries same_node old.nodes → {b : ℕ} (n : Node) → Holds old.nodes n
       → MovesNode old new (place_number old.nodes (Some n)) b
@@ -113,11 +110,6 @@ module _ {K V S : Type 0} (old new : Keyed K V S) where
 
   pub keys-grown : {i : ℕ} → GrowsRoom i old new → KeepsKeys old new
   keys-grown s m _ = ap (λ l. option_map (λ e. e.0) (lookup (same_node m) l.nodes)) s.rest
-
-  pub keys-held : KeepsKeys old new → (m : Node) → Holds old.nodes m → Holds new.nodes m
-  keys-held kept m held =
-      let x = node-at old.nodes m held in
-      held-from (lookup (same_node m) new.nodes) x.0.0 (kept m held ∙ ap (option_map (λ e. e.0)) x.1.found)
 
   pub keys-place : KeepsKeys old new → (p : Option Node) → IsPlace old.nodes p → IsPlace new.nodes p
   keys-place kept None within = tt

@@ -1,7 +1,8 @@
 -- The numbers of places, and the ring's words by places in terms of them.
 use Rattle.std.proofs.Common.{◌≡◌, ◌≢◌, ℕ, zero, suc, ◌+◌, ◌-◌, ◌<◌, ◌≤◌, ◌⊎◌, inl, inr, Bool, true, false, cond}
 use Rattle.std.proofs.Common.{List, [], ◌∷◌, length, Option, None, Some, refl, ap, sym, subst, ◌∙◌, arith}
-use Rattle.std.proofs.Common.{add-one}
+use Rattle.std.proofs.Common.{add-one, ⊎_elim}
+use Rattle.std.proofs.lemmas.Bool.Decides.{nat_tests}
 use Rattle.std.specs.Prelude.{slice_get, insert, remove, is_some}
 use Rattle.std.specs.Option.{option_map, IfSome}
 use Rattle.std.specs.List.{list_any}
@@ -36,29 +37,18 @@ following-within n i lt = mod-eq_of_lt (omega arith) ∙ add-one i
 -- where the place after b is once another place j is taken out
 following-left : (n j b : ℕ) → j < n + 1 → b ≤ n + 1 → b ≢ j
     → place_left j (cursor.following_place (n + 1) b) ≡ cursor.following_place n (place_left j b)
-following-left n j b lt le other = by (cases_lt b (n + 1)) (cases_lt j b)
-  where
-    by : (b < n + 1) ⊎ (n + 1 ≤ b) → (j < b) ⊎ (b ≤ j)
-        → place_left j (cursor.following_place (n + 1) b) ≡ cursor.following_place n (place_left j b)
-    by (inl k) (inl l) =
-        let left : suc b - 1 ≡ suc (b - 1) = omega arith in
-        rw (
-          following-within (n + 1) b k,
-          place_left-before j b l,
-          following-within n (b - 1) (omega arith),
-          place_left-before j (suc b) (omega arith),
-        ) left
-    by (inl k) (inr l) =
-        rw (
-          following-within (n + 1) b k,
-          place_left-past j b l,
-          following-within n b (omega arith),
-          place_left-past j (suc b) (omega (arith, other)),
-        ) refl
-    by (inr k) c =
-        let end : b ≡ n + 1 = omega arith in
-        let last : n + 1 - 1 ≡ n = omega arith in
-        rw (end, around (n + 1), place_left-before j (n + 1) lt, last, around n, place_left-past j 0 (omega arith)) refl
+following-left n j b lt le other =
+    ⊎_elim
+    (λ k.
+    let near : place_left j b < n = grind (arith, nat_tests) in
+    let left : place_left j (suc b) ≡ suc (place_left j b) = grind (arith, nat_tests) in
+    rw (following-within (n + 1) b k, following-within n (place_left j b) near) left)
+    (λ k.
+    let end : b ≡ n + 1 = omega arith in
+    let last : place_left j (n + 1) ≡ n = grind (arith, nat_tests) in
+    let first : place_left j 0 ≡ 0 = grind (arith, nat_tests) in
+    rw (end, around (n + 1), last, around n) first)
+    (cases_lt b (n + 1))
 
 -- the place is this node's
 abbrev pub is_node : Option Node → Node → Bool

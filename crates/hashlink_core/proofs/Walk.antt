@@ -80,36 +80,26 @@ module _ {X : Type 0} (es : List (Node × X)) where
   node-number None z i number none = omega (arith, number, none number, most z)
   node-number (Some m) z i number none = number
 
--- over all entries
-module _ {K V : Type 0} (es : List (Node × Held K V)) (free : List Node)
-    (apart : IsDistinct same_node (keys_of es ++ free)) where
-  pub first-of_all : (q : Option Node) (z n : Node) → q ≡ next_place (keys_of es) None → n ≡ unwrap_or q z
-      → place_number es (Some n) ≡ 0
-  first-of_all q z n is same =
-      ap (λ m. place_number es (Some m)) same ∙ node-number es q z 0
-      (ap (place_number es) is
-      ∙ (next-number es (distinct-left (keys_of es) free apart) None tt).number ∙ around (length es)) (λ e. refl)
-
-  pub last-of_all : (q : Option Node) (z n : Node) → q ≡ prev_place (keys_of es) None → n ≡ unwrap_or q z
-      → place_number es (Some n) ≡ length es - 1
-  last-of_all q z n is same =
-      ap (λ m. place_number es (Some m)) same ∙ node-number es q z (length es - 1)
-      (ap (place_number es) is
-      ∙ (prev-number es (distinct-left (keys_of es) free apart) None tt).number ∙ before-guard (length es))
-      (λ e. omega (arith, e))
-
-pub stands-at_all : {X : Type 0} (es : List (Node × X)) (first last : Node) (left : ℕ)
-    → place_number es (Some first) ≡ 0
-    → place_number es (Some last) ≡ length es - 1 → left ≡ length es
-    → StandsBetween es (Some first) (Some last) left
-stands-at_all es first last left is_first is_last all = record {
-  few = omega (arith, all, is_first);
-  ends = λ some. omega (arith, all, some, is_first, is_last);
-}
-
-pub all-left : {K V : Type 0} (es : List (Node × Held K V)) (first : Node) (left : ℕ)
-    → place_number es (Some first) ≡ 0 → left ≡ length es → pairs_from es (Some first) left ≡ pairs_in es
-all-left es first left is_first all = rw (is_first, all, take-length es) refl
+-- a walk over all entries
+pub walk-of_all : {K V : Type 0} (es : List (Node × Held K V)) (free : List Node) (q q' : Option Node)
+    (z z' first last : Node) (left : ℕ) → IsDistinct same_node (keys_of es ++ free)
+    → q ≡ next_place (keys_of es) None → first ≡ unwrap_or q z
+    → q' ≡ prev_place (keys_of es) None → last ≡ unwrap_or q' z' → left ≡ length es
+    → StandsBetween es (Some first) (Some last) left × (pairs_from es (Some first) left ≡ pairs_in es)
+walk-of_all es free q q' z z' first last left apart next is_first prev is_last all =
+    let d = distinct-left (keys_of es) free apart in
+    let front : place_number es (Some first) ≡ 0 = ap (λ m. place_number es (Some m)) is_first
+    ∙ node-number es q z 0 (ap (place_number es) next ∙ (next-number es d None tt).number
+    ∙ around (length es)) (λ e. refl) in
+    let back : place_number es (Some last) ≡ length es - 1 = ap (λ m. place_number es (Some m)) is_last
+    ∙ node-number es q' z' (length es - 1) (ap (place_number es) prev ∙ (prev-number es d None tt).number
+    ∙ before-guard (length es)) (λ e. omega (arith, e)) in (
+      record {
+        few = omega (arith, all, front);
+        ends = λ some. omega (arith, all, some, front, back);
+      },
+      rw (front, all, take-length es) refl,
+    )
 
 module _ {K V : Type 0} {es : List (Node × Held K V)} {first last : Node} {left : ℕ}
     (w : StandsBetween es (Some first) (Some last) left) (some : left ≢ 0) where

@@ -41,7 +41,7 @@ pub returns-in_default-clause-keeps : goal.returns-in_default-clause-keeps
 returns-in_default-clause-keeps g c =
     let e = c.in_ok-insert_before.ensures in
     keeps-place c.args.self.now _ g.met.K.Eq.laws e.sound
-    (keys-added c.args.self.now _ c.in_default.ensures.sound.apart e.added)
+    (keys-added c.args.self.now _ e.added)
 
 -- ---- a key that is there
 

@@ -1,7 +1,7 @@
 use Rattle.std.proofs.Common.{◌∷◌, ◌+◌, ap, refl, ◌∙◌, arith, rules}
 use Rattle.hashlink_core.proofs.Calls.{sound, held-inside, stored, removed-step, removed-node}
-use Rattle.hashlink_core.proofs.Marking.{Marked, asked-short, asked-holds, asked-told, taken-out}
-use Rattle.hashlink_core.proofs.Marking.{marked-holds, left-pair, left-removed}
+use Rattle.hashlink_core.proofs.Finding.{Marked, asked-short, asked-holds, asked-told, taken-out}
+use Rattle.hashlink_core.proofs.Finding.{marked-holds, left-pair, left-removed}
 use Rattle.hashlink_core.proofs.keyed_list.KeyedList.remove.Given as given
 use Rattle.hashlink_core.proofs.keyed_list.KeyedList.remove.Goals.{After-set_number}
 use Rattle.hashlink_core.proofs.keyed_list.KeyedList.remove.Goals as goal

@@ -5,7 +5,7 @@ use Rattle.hashlink_core.specs.Tied.{hash_with}
 use Rattle.hashlink_core.proofs.Calls.{sound, stored, removed-step, removed-node}
 use Rattle.hashlink_core.proofs.Finding.{Search, query-search, listed-holds, listed-number, told-hash}
 use Rattle.hashlink_core.proofs.Finding.{found-by_table}
-use Rattle.hashlink_core.proofs.Tying.{was-kept}
+use Rattle.hashlink_core.proofs.Stepping.{was-kept}
 use Rattle.hashlink_core.proofs.Steps.{lookup_entry-unplaced, removes_match}
 use Rattle.hashlink_core.proofs.keyed_list.KeyedList.remove_key.Given as given
 use Rattle.hashlink_core.proofs.keyed_list.KeyedList.remove_key.Goals.{After-short_hash-hash}

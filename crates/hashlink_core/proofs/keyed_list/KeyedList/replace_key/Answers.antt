@@ -11,21 +11,18 @@ invariant_of-self g c =
     let H = g.S.Hasher.Hasher in
     let v = c.set_key.ensures in
     (key-written g.met.K.Eq.laws c.self.view_is c.self.invariant c.args.node c.requires.held c.set_key.new.self
-    k (equal-holds _ _ c.args.node k g.met.K.Eq.laws (sound c.self.view_is c.self.invariant)
-    c.requires.held c.requires.equal)
-    (λ x e. ap (λ l. H.finish (fold H.write (g.S.BuildHasher.build_hasher c.self.inside.hash_builder) l))
-    (sym (g.met.K.Hash.respects_eq k x e))) v.entries v.free v.link_writes).0
+    k v.entries v.free v.link_writes).0 (
+      equal-holds _ _ c.args.node k g.met.K.Eq.laws (sound c.self.view_is c.self.invariant)
+          c.requires.held c.requires.equal,
+      λ x e. ap (λ l. H.finish (fold H.write (g.S.BuildHasher.build_hasher c.self.inside.hash_builder) l))
+          (sym (g.met.K.Hash.respects_eq k x e)),
+    )
 
 pub returns-clause-written : goal.returns-clause-written
 returns-clause-written g c =
-    let k = c.args.key in
-    let H = g.S.Hasher.Hasher in
     let v = c.set_key.ensures in
     (key-written g.met.K.Eq.laws c.self.view_is c.self.invariant c.args.node c.requires.held c.set_key.new.self
-    k (equal-holds _ _ c.args.node k g.met.K.Eq.laws (sound c.self.view_is c.self.invariant)
-    c.requires.held c.requires.equal)
-    (λ x e. ap (λ l. H.finish (fold H.write (g.S.BuildHasher.build_hasher c.self.inside.hash_builder) l))
-    (sym (g.met.K.Hash.respects_eq k x e))) v.entries v.free v.link_writes).1
+    c.args.key v.entries v.free v.link_writes).1
 
 pub returns-clause-key : goal.returns-clause-key
 returns-clause-key g c =
