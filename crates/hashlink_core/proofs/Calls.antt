@@ -1,6 +1,7 @@
 -- What the calls of the keyed list leave, from the clauses of the ring and of the table.
-use Rattle.std.proofs.Common.{◌≡◌, Result, Ok, Err, OnOk, OnErr, ℕ, ◌+◌, ◌-◌, ◌≤◌, Bool, true, List, ◌∷◌, ◌++◌}
-use Rattle.std.proofs.Common.{length, drop, Option, None, Some, refl, ap, ap₂, sym, subst, ◌∙◌, arith, length-drop}
+use Rattle.std.proofs.Common.{◌≡◌, Result, Ok, Err, OnOk, OnErr, ℕ, ◌+◌, ◌-◌, ◌≤◌, Bool, true, List, ◌∷◌}
+use Rattle.std.proofs.Common.{◌++◌, length, drop, Option, None, Some, refl, ap, ap₂, sym, subst, ◌∙◌, arith}
+use Rattle.std.proofs.Common.{length-drop}
 use Rattle.std.specs.Prelude.{slice_get, insert, remove, IsPermutation}
 use Rattle.std.specs.List.{IsDistinct}
 use Rattle.std.specs.Option.{option_map, option_map_or, IfSome}
@@ -28,8 +29,8 @@ use Rattle.hashlink_core.specs.Tied.{IsInStep, short}
 use Rattle.hashlink_core.proofs.Edits.{insert-map, remove-map, length-inserted, length-removed, moved-map}
 use Rattle.hashlink_core.proofs.Edits.{remove_entry-at, moved_at-is, none-inserted, passes-at}
 use Rattle.hashlink_core.proofs.Mapped.{length-mapped, remove_entry-mapped, keys-mapped, lookup-mapped}
-use Rattle.hashlink_core.proofs.Mapped.{place_number-mapped, renewed-mapped}
-use Rattle.hashlink_core.proofs.Mapped.{values-renewed_value, values-renewed_key}
+use Rattle.hashlink_core.proofs.Mapped.{place_number-mapped, renewed-mapped, values-renewed_value}
+use Rattle.hashlink_core.proofs.Mapped.{values-renewed_key}
 use Rattle.hashlink_core.proofs.Neighbours.{distinct-left, next-number, prev-number}
 use Rattle.hashlink_core.proofs.Places.{IsNodeAt, node-at, put_before-at, set_value-at, renewed_at-is}
 use Rattle.hashlink_core.proofs.Places.{moves_before-at, moves_after-at, same-number, same-place}

@@ -1,7 +1,7 @@
 -- Lists edited at an index, and the place of a key in a list.
-use Rattle.std.proofs.Common.{◌≡◌, ℕ, zero, suc, ◌+◌, ◌-◌, ◌<◌, ◌≤◌, Bool, true, false, cond, List, [], ◌∷◌, ◌++◌}
-use Rattle.std.proofs.Common.{length, take, drop, Option, None, Some, refl, ap, sym, subst, ◌∙◌, arith, add-one, map}
-use Rattle.std.proofs.Common.{lt-ltb, le-ltb}
+use Rattle.std.proofs.Common.{◌≡◌, ℕ, zero, suc, ◌+◌, ◌-◌, ◌<◌, ◌≤◌, Bool, true, false, cond, List, [], ◌∷◌}
+use Rattle.std.proofs.Common.{◌++◌, length, take, drop, Option, None, Some, refl, ap, sym, subst, ◌∙◌, arith}
+use Rattle.std.proofs.Common.{add-one, map, lt-ltb, le-ltb}
 use Rattle.std.specs.Prelude.{slice_get, insert, remove, unwrap_or, Contains}
 use Rattle.std.specs.Option.{option_map, option_map_or}
 use Rattle.std.specs.Map.{remove_entry}
@@ -62,6 +62,14 @@ module _ {X Y : Type 0} (f : X → Y) where
   pub from_part : (o : Option X) (y : Y) → option_map f o ≡ Some y → (x : X) × (o ≡ Some x) × (f x ≡ y)
   from_part None y h = absurd (cc)
   from_part (Some x) y h = (x, refl, cc)
+
+  -- an element under f, and the one that it is of
+  pub mapped-at : (xs : List X) (i : ℕ) (x : X) → slice_get xs i ≡ Some x → slice_get (map f xs) i ≡ Some (f x)
+  mapped-at xs i x at = slice_get-map f xs i ∙ ap (option_map f) at
+
+  pub from-mapped : (xs : List X) (i : ℕ) (y : Y) → slice_get (map f xs) i ≡ Some y
+      → (x : X) × (slice_get xs i ≡ Some x) × (f x ≡ y)
+  from-mapped xs i y at = from_part (slice_get xs i) y (sym (slice_get-map f xs i) ∙ at)
 
 -- ---- an entry that moves
 pub moved_at-is : {A B : Type 0} (es : List (A × B)) (j b : ℕ) (e : A × B) → slice_get es j ≡ Some e

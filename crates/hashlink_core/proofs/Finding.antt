@@ -1,8 +1,8 @@
 -- Finding a key's node by the table. A node is marked by a number that is no short hash: so the table finds it,
 -- and so it is told from another.
-use Rattle.std.proofs.Common.{◌++◌, ◌≡◌, ℕ, ◌^◌, ◌<◌, ◌≤◌, Bool, true, false, cond, eqb, eqb-true, eq-eqb, List, []}
-use Rattle.std.proofs.Common.{◌∷◌, Option, None, Some, refl, ap, sym, subst, ◌∙◌, arith, ◌⊎◌, inl, inr}
-use Rattle.std.proofs.Common.{length}
+use Rattle.std.proofs.Common.{◌++◌, ◌≡◌, ℕ, ◌^◌, ◌<◌, ◌≤◌, Bool, true, false, cond, eqb, eqb-true, eq-eqb}
+use Rattle.std.proofs.Common.{List, [], ◌∷◌, Option, None, Some, refl, ap, sym, subst, ◌∙◌, arith, ◌⊎◌, inl}
+use Rattle.std.proofs.Common.{inr, length}
 use Rattle.std.specs.Borrow.{Bor}
 use Rattle.std.specs.Cmp.{IsEquivalence}
 use Rattle.std.specs.Fn.{Shared, FnReturnsAt}
@@ -16,8 +16,8 @@ use Rattle.std.proofs.lemmas.Map.Steps.{set_value_same}
 use Rattle.std.proofs.lemmas.Map.Views.{Contains-from_lookup, lookup-from_Contains}
 use Rattle.std.proofs.lemmas.Option.{slice_get-map}
 use Rattle.hashlink_model.proofs.Places.{place_of_its_key, slice_get_here}
-use Rattle.hashlink_model.proofs.Splits.{Stands, splits, place_of-none, stands_from_lookup}
-use Rattle.hashlink_model.proofs.Splits.{set_value-here, remove_entry-here}
+use Rattle.hashlink_model.proofs.Splits.{Stands, splits, place_of-none, stands_from_lookup, set_value-here}
+use Rattle.hashlink_model.proofs.Splits.{remove_entry-here}
 use Rattle.hashlink_model.specs.Entries.{place_of, IsKeyTest}
 use Rattle.hashlink_nodes.specs.Node.{same_node, same_node_equiv, eq-same_node}
 use Rattle.hashlink_nodes.specs.Ring.{Ring, ring, Holds, pair_of, with_number}
@@ -28,7 +28,7 @@ use Rattle.hashlink_core.specs.Keyed.{nodes_of, pairs_in, HoldsMatch}
 use Rattle.hashlink_core.specs.Places.{place_number}
 use Rattle.hashlink_core.specs.Telling.{Tells}
 use Rattle.hashlink_core.specs.Tied.{IsInStep, short, hash_with}
-use Rattle.hashlink_core.proofs.Edits.{from_part, element-at, at-element}
+use Rattle.hashlink_core.proofs.Edits.{mapped-at, from_part, element-at, at-element}
 use Rattle.hashlink_core.proofs.Mapped.{lookup-mapped, place_number-mapped}
 use Rattle.hashlink_core.proofs.Places.{node-at}
 use Rattle.hashlink_core.proofs.Stepping.{pair-at, held-at, kept, listed, in-table, number-of, was-kept}
@@ -228,8 +228,7 @@ pub key-held : {K V : Type 0} (es : List (Node × Held K V)) (n : Node) (h : Hel
 key-held es n h is =
     let c = Contains-from_lookup eq-same_node n h es is in
     element-at (keys_of (pairs_in es)) c.0 h.key
-    (slice_get-map (λ p. p.0) (pairs_in es) c.0
-    ∙ ap (option_map (λ p. p.0)) (pair-at es c.0 n h (at-element es (n, h) c)))
+    (mapped-at (λ p. p.0) (pairs_in es) c.0 (pair_of h) (pair-at es c.0 n h (at-element es (n, h) c)))
 
 -- a search that the table makes: the hash of the keys that pass, and what a call may answer at a node's key
 pub record Search {K V : Type 0} (hash : K → ℕ) (r : Ring K V) (passes : K → Bool) (i : ℕ)

@@ -14,7 +14,7 @@ use Rattle.hashlink_model.proofs.Places.{place_of_its_key}
 use Rattle.hashlink_core.specs.Keyed.{Keyed, entries_of, HoldsKey, HoldsMatch, EqualsKeyAt, PassesAt, IsKeyed}
 use Rattle.hashlink_core.specs.Places.{Holds, place_number}
 use Rattle.hashlink_core.specs.Steps.{MovesNode}
-use Rattle.hashlink_core.proofs.Edits.{moved_at-is, passes-at}
+use Rattle.hashlink_core.proofs.Edits.{moved_at-is, passes-at, mapped-at}
 use Rattle.hashlink_core.proofs.Places.{node-at}
 
 -- an entry that stands at p with its node n
@@ -30,8 +30,7 @@ module _ {K V S : Type 0} {eq : K → K → Bool} (laws : IsEquivalence eq) (m :
 
   pub holds_key-at : (k : K) → eq k e.0 ≡ true → HoldsKey eq m.nodes k n
   holds_key-at k same =
-      let stands : slice_get (entries_of m) p ≡ Some e
-      = slice_get-map (λ (x : Node × (K × V)). x.1) m.nodes p ∙ ap (option_map (λ x. x.1)) at in
+      let stands : slice_get (entries_of m) p ≡ Some e = mapped-at (λ x. x.1) m.nodes p (n, e) at in
       record {
         within = holds-at;
         place = place_of_its_key eq laws (entries_of m) p e k sound.distinct stands same
@@ -43,7 +42,7 @@ pub at-node : {K V S : Type 0} (m : Keyed K V S) (n : Node) (held : Holds m.node
     → slice_get (entries_of m) (place_number m.nodes (Some n)) ≡ Some (node-at m.nodes n held).0
 at-node m n held =
     let x = node-at m.nodes n held in
-    slice_get-map (λ e. e.1) m.nodes (place_number m.nodes (Some n)) ∙ ap (option_map (λ e. e.1)) x.1.at
+    mapped-at (λ e. e.1) m.nodes (place_number m.nodes (Some n)) (n, x.0) x.1.at
 
 -- the key of a node that stands at the first key that passes
 pub holds-passes : {K V S : Type 0} (test : K → Bool) (m : Keyed K V S) (n : Node) → HoldsMatch test m.nodes n

@@ -16,7 +16,7 @@ use Rattle.hashlink_nodes.specs.declared.node.Node.{Node}
 use Rattle.hashlink_nodes.specs.Node.{same_node, same_node_equiv}
 use Rattle.hashlink_nodes.specs.Ring.{node_after, node_before, last_node, next_place, prev_place, IsPlace}
 use Rattle.hashlink_core.specs.Places.{place_number, IsPlaceAt}
-use Rattle.hashlink_core.proofs.Edits.{from_part}
+use Rattle.hashlink_core.proofs.Edits.{from-mapped}
 use Rattle.hashlink_core.proofs.Places.{node-at, around, following-within}
 use native.Mathlib.Nat.{mod-eq_of_lt, add-mod_right, zero-add}
 
@@ -96,8 +96,7 @@ module _ {X : Type 0} (es : List (Node × X)) (d : IsEntries same_node es) where
   place-at i le =
       elim (slice_get_cases (keys_of es) i).1 as (λ _. IsPlaceAt es (slice_get (keys_of es) i) i) [
         | inl c ↦
-            let e = from_part (λ (e : Node × X). e.0) (slice_get es i) c.0
-            (sym (slice_get-map (λ (e : Node × X). e.0) es i) ∙ c.2) in
+            let e = from-mapped (λ (e : Node × X). e.0) es i c.0 c.2 in
             let itself = same_node_equiv.refl c.0 in
             rw c.2 (record {
               within = is_some-lookup (same_node c.0) es

@@ -1,7 +1,7 @@
 -- The numbers of places, and the ring's words by places in terms of them.
-use Rattle.std.proofs.Common.{◌≡◌, ◌≢◌, ℕ, zero, suc, ◌+◌, ◌-◌, ◌<◌, ◌≤◌, ◌⊎◌, inl, inr, Bool, true, false, cond}
-use Rattle.std.proofs.Common.{List, [], ◌∷◌, length, Option, None, Some, refl, ap, sym, subst, ◌∙◌, arith}
-use Rattle.std.proofs.Common.{add-one, ⊎_elim}
+use Rattle.std.proofs.Common.{◌≡◌, ◌≢◌, ℕ, zero, suc, ◌+◌, ◌-◌, ◌<◌, ◌≤◌, ◌⊎◌, inl, inr, Bool, true, false}
+use Rattle.std.proofs.Common.{cond, List, [], ◌∷◌, length, Option, None, Some, refl, ap, sym, subst, ◌∙◌}
+use Rattle.std.proofs.Common.{arith, add-one, ⊎_elim}
 use Rattle.std.proofs.lemmas.Bool.Decides.{nat_tests}
 use Rattle.std.specs.Prelude.{slice_get, insert, remove, is_some}
 use Rattle.std.specs.Option.{option_map, IfSome}
@@ -25,7 +25,7 @@ use Rattle.hashlink_nodes.specs.Ring.{MovesBefore, MovesAfter}
 use Rattle.hashlink_core.specs.Places.{place_number, renewed_at}
 use Rattle.hashlink_core.proofs.Edits.{length-removed, place_or_end-cons, place_or_end-most, remove_entry-at}
 use Rattle.hashlink_core.proofs.Edits.{place_left-before, place_left-past, place_left-first, place_left-suc}
-use Rattle.hashlink_core.proofs.Edits.{moved_at-is}
+use Rattle.hashlink_core.proofs.Edits.{moved_at-is, mapped-at}
 use native.Mathlib.Nat.{mod-eq_of_lt, mod_self}
 
 pub around : (n : ℕ) → cursor.following_place n n ≡ 0
@@ -112,7 +112,7 @@ module _ {X : Type 0} where
           entry = entry;
           at = at;
           within = slice_get_within es (place_number es (Some n)) (n, o.0) at;
-          key_at = slice_get-map (λ e. e.0) es (place_number es (Some n)) ∙ ap (option_map (λ e. e.0)) at;
+          key_at = mapped-at (λ e. e.0) es (place_number es (Some n)) (n, o.0) at;
         },
       )
 

@@ -24,8 +24,8 @@ use Rattle.hashlink_core.specs.Steps.{RemovesNode}
 use Rattle.hashlink_core.proofs.Edits.{place_left-before, remove_entry-at}
 use Rattle.hashlink_core.proofs.Keeping.{left-place}
 use Rattle.hashlink_core.proofs.Mapped.{values-renewed_value}
-use Rattle.hashlink_core.proofs.Places.{following-within, place_number-renewed, node-at, place-renewed, keys-renewed}
-use Rattle.hashlink_core.proofs.Places.{left-at}
+use Rattle.hashlink_core.proofs.Places.{following-within, place_number-renewed, node-at, place-renewed}
+use Rattle.hashlink_core.proofs.Places.{keys-renewed, left-at}
 
 module _ {X : Type 0} where
   -- what stands right after xs is the first of what is left

@@ -26,9 +26,9 @@ use Rattle.hashlink_table.specs.Contents.{Contents, Keeps}
 use Rattle.hashlink_table.specs.declared.hashed.Hashed.{Hashed}
 use Rattle.hashlink_core.specs.Keyed.{nodes_of, pairs_in}
 use Rattle.hashlink_core.specs.Tied.{IsInStep, numbered_nodes, short}
-use Rattle.hashlink_core.proofs.Edits.{element-at, at-element, from_part, length-inserted, length-removed}
-use Rattle.hashlink_core.proofs.Edits.{insert-map, remove-map, IsEntries-removed, IsEntries-inserted}
-use Rattle.hashlink_core.proofs.Edits.{none-removed}
+use Rattle.hashlink_core.proofs.Edits.{element-at, at-element, mapped-at, from-mapped, length-inserted}
+use Rattle.hashlink_core.proofs.Edits.{length-removed, insert-map, remove-map, IsEntries-removed}
+use Rattle.hashlink_core.proofs.Edits.{IsEntries-inserted, none-removed}
 
 abbrev pub kept : ℕ → Node → Hashed Node
 kept number n = record { hash = number; node = n }
@@ -104,10 +104,8 @@ module _ {K V : Type 0} {eq : K → K → Bool} {hash : K → ℕ} {r : Ring K V
   pub number-at : (i : ℕ) (n : Node) (h : Held K V) → slice_get r.entries i ≡ Some (n, h)
       → h.number ≡ short (hash h.key)
   number-at i n h at =
-      let left = slice_get-map (λ (e : Node × Held K V). e.1.number) r.entries i
-      ∙ ap (option_map (λ (e : Node × Held K V). e.1.number)) at in
-      let right = slice_get-map (λ (e : Node × Held K V). short (hash e.1.key)) r.entries i
-      ∙ ap (option_map (λ (e : Node × Held K V). short (hash e.1.key))) at in
+      let left = mapped-at (λ (e : Node × Held K V). e.1.number) r.entries i (n, h) at in
+      let right = mapped-at (λ (e : Node × Held K V). short (hash e.1.key)) r.entries i (n, h) at in
       cc (sym left ∙ ap (λ l. slice_get l i) step.numbered ∙ right)
 
   module _ (n : Node) (h : Held K V) (here : lookup (same_node n) r.entries ≡ Some h) where
@@ -122,8 +120,7 @@ module _ {K V : Type 0} {eq : K → K → Bool} {hash : K → ℕ} {r : Ring K V
     in-table =
         Contains-permutation (numbered_nodes r.entries) t.nodes (kept h.number n) step.tied
         (element-at (numbered_nodes r.entries) entry-in.0 (kept h.number n)
-        (slice_get-map (λ (e : Node × Held K V). kept e.1.number e.0) r.entries entry-in.0
-        ∙ ap (option_map (λ (e : Node × Held K V). kept e.1.number e.0))
+        (mapped-at (λ (e : Node × Held K V). kept e.1.number e.0) r.entries entry-in.0 (n, h)
         (at-element r.entries (n, h) entry-in)))
 
   -- each node of the table is in the ring, and its entry has this number
@@ -132,9 +129,8 @@ module _ {K V : Type 0} {eq : K → K → Bool} {hash : K → ℕ} {r : Ring K V
   listed number n there =
       let c = Contains-permutation t.nodes (numbered_nodes r.entries) (kept number n)
       (IsPermutation-sym _ _ step.tied) there in
-      let x = from_part (λ e. kept e.1.number e.0) (slice_get r.entries c.0) (kept number n)
-      (sym (slice_get-map (λ (e : Node × Held K V). kept e.1.number e.0) r.entries c.0)
-      ∙ at-element (numbered_nodes r.entries) (kept number n) c) in
+      let x = from-mapped (λ (e : Node × Held K V). kept e.1.number e.0) r.entries c.0 (kept number n)
+      (at-element (numbered_nodes r.entries) (kept number n) c) in
       let same : x.0.0 ≡ n = ap (λ (k : Hashed Node). k.node) x.2 in (
         x.0.1,
         lookup-from_Contains same_node_equiv n x.0.1 r.entries step.apart
@@ -160,18 +156,14 @@ module _ {K V : Type 0} where
   pub pair-at : (es : List (Node × Held K V)) (j : ℕ) (n : Node) (h : Held K V) → slice_get es j ≡ Some (n, h)
       → slice_get (pairs_in es) j ≡ Some (pair_of h)
   pair-at es j n h at =
-      slice_get-map (λ (e : Node × (K × V)). e.1) (nodes_of es) j
-      ∙ ap (option_map (λ (e : Node × (K × V)). e.1))
-      (slice_get-map (λ (e : Node × Held K V). (e.0, pair_of e.1)) es j
-      ∙ ap (option_map (λ (e : Node × Held K V). (e.0, pair_of e.1))) at)
+      mapped-at (λ (e : Node × (K × V)). e.1) (nodes_of es) j (n, pair_of h)
+      (mapped-at (λ (e : Node × Held K V). (e.0, pair_of e.1)) es j (n, h) at)
 
   pub held-at : (es : List (Node × Held K V)) (j : ℕ) (p : K × V) → slice_get (pairs_in es) j ≡ Some p
       → (e : Node × Held K V) × (slice_get es j ≡ Some e) × (pair_of e.1 ≡ p)
   held-at es j p at =
-      let x = from_part (λ (e : Node × (K × V)). e.1) (slice_get (nodes_of es) j) p
-      (sym (slice_get-map (λ (e : Node × (K × V)). e.1) (nodes_of es) j) ∙ at) in
-      let y = from_part (λ (e : Node × Held K V). (e.0, pair_of e.1)) (slice_get es j) x.0
-      (sym (slice_get-map (λ (e : Node × Held K V). (e.0, pair_of e.1)) es j) ∙ x.1) in
+      let x = from-mapped (λ (e : Node × (K × V)). e.1) (nodes_of es) j p at in
+      let y = from-mapped (λ (e : Node × Held K V). (e.0, pair_of e.1)) es j x.0 x.1 in
       (y.0, y.1, ap (λ e. e.1) y.2 ∙ x.2)
 
   -- ---- the numbers of the entries
@@ -246,8 +238,7 @@ module _ {K V : Type 0} {eq : K → K → Bool} (laws : IsEquivalence eq) {hash 
     numbered-first : IsPermutation (numbered_nodes r.entries)
         (kept h.number n ∷ remove (numbered_nodes r.entries) j)
     numbered-first =
-        let there = slice_get-map (λ (e : Node × Held K V). kept e.1.number e.0) r.entries j
-        ∙ ap (option_map (λ (e : Node × Held K V). kept e.1.number e.0)) at in
+        let there = mapped-at (λ (e : Node × Held K V). kept e.1.number e.0) r.entries j (n, h) at in
         IsPermutation-remove (numbered_nodes r.entries) j (kept h.number n)
         (slice_get_within (numbered_nodes r.entries) j _ there)
         (sym (get_or_from_slice_get (numbered_nodes r.entries) j _ _ there))
