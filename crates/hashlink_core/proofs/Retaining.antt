@@ -101,17 +101,21 @@ module _ {F K V S : Type 0} {eq : K → K → Bool} {T : F → K → V → Bool 
     sound = sound;
   }
 
+  many-left : {f : F} {m : Keyed K V S} {p : Option Node} → (r : Retaining eq T Q start old f m p)
+      → length m.nodes - place_number m.nodes p ≡ length r.left
+  many-left {m = m} r = omega (
+    arith,
+    r.number,
+    length-values_of m.nodes,
+    ap length r.is,
+    length-append r.done r.left,
+  )
+
   module _ {f : F} {m : Keyed K V S} {p : Option Node} (found : Retaining eq T Q start old f m p) where
     -- at the guard
     pub retained-all : p ≡ None → RetainsInOrder T start (state_of old) (state_of m) f
     retained-all end =
-        let none = bare found.left (omega (
-          arith,
-          sym found.number ∙ ap (place_number m.nodes) end,
-          length-values_of m.nodes,
-          ap length found.is,
-          length-append found.done found.left,
-        )) in
+        let none = bare found.left (omega (arith, many-left found, ap (place_number m.nodes) end)) in
         record {
           kept = entries_of m;
           calls = rw found.is (found.calls found.left f
@@ -184,41 +188,32 @@ module _ {F K V S : Type 0} {eq : K → K → Bool} {T : F → K → V → Bool 
         -- it kept the pair
         pub pair-kept : b ≡ true → Retaining eq T Q start old f' wrote q
             × (length wrote.nodes - place_number wrote.nodes q < length m.nodes - place_number m.nodes p)
-        pair-kept keep = (
-          record {
-            within = within-now q next.within;
-            done = found.done ++ (k, w) ∷ [];
-            left = rest.0;
-            is = now ∙ sym (append_assoc found.done ((k, w) ∷ []) rest.0);
-            number = omega (arith, next-now, length-append found.done ((k, w) ∷ []));
-            callable = callable-after;
-            calls = λ out g more. rw append_assoc
-                (subst (λ c. KeepsInOrder T start (entries_of old) (found.done ++ cond c ((k, w) ∷ out) out) g)
-                keep (calls-after out g more));
-            keeps = record {
-              entries = refl;
-              no_more = omega (arith, found.keeps.no_more, long);
-              spare = omega (arith, found.keeps.spare, long);
-              room = found.keeps.room;
-              link_writes = record {
-                grows = found.keeps.link_writes.grows;
-                bound = omega (arith, found.keeps.link_writes.bound, long);
+        pair-kept keep =
+            let kept : Retaining eq T Q start old f' wrote q =
+            record {
+              within = within-now q next.within;
+              done = found.done ++ (k, w) ∷ [];
+              left = rest.0;
+              is = now ∙ sym (append_assoc found.done ((k, w) ∷ []) rest.0);
+              number = omega (arith, next-now, length-append found.done ((k, w) ∷ []));
+              callable = callable-after;
+              calls = λ out g more. rw append_assoc
+                  (subst (λ c. KeepsInOrder T start (entries_of old) (found.done ++ cond c ((k, w) ∷ out) out) g)
+                  keep (calls-after out g more));
+              keeps = record {
+                entries = refl;
+                no_more = omega (arith, found.keeps.no_more, long);
+                spare = omega (arith, found.keeps.spare, long);
+                room = found.keeps.room;
+                link_writes = record {
+                  grows = found.keeps.link_writes.grows;
+                  bound = omega (arith, found.keeps.link_writes.bound, long);
+                };
+                hasher = found.keeps.hasher;
               };
-              hasher = found.keeps.hasher;
-            };
-            sound = sound-written eq m n w found.sound;
-          },
-          omega (
-            arith,
-            length-values_of wrote.nodes,
-            length-values_of m.nodes,
-            long,
-            next-now,
-            found.number,
-            place,
-            inside,
-          ),
-        )
+              sound = sound-written eq m n w found.sound;
+            } in
+            (kept, omega (arith, many-left kept, many-left found, ap length rest.1))
 
         -- it did not, and n left
         pub pair-dropped : {new : Keyed K V S} → b ≡ false
@@ -245,44 +240,35 @@ module _ {F K V S : Type 0} {eq : K → K → Bool} {T : F → K → V → Bool 
             let shorter : entries_of new ≡ found.done ++ rest.0 =
             removed.state.entries ∙ ap₂ remove now first ∙ remove-here found.done (k, w) rest.0 in
             let fewer : length (entries_of new) + 1 ≡ length (entries_of m) =
-            ap (λ l. length l + 1) removed.state.entries ∙ removed.state.fewer ∙ long in (
-              record {
-                within = subst (λ ns. IsPlace ns q) (sym nodes) within;
-                done = found.done;
-                left = rest.0;
-                is = shorter;
-                number = number;
-                callable = callable-after;
-                calls = λ out g more.
-                    subst (λ c. KeepsInOrder T start (entries_of old) (found.done ++ cond c ((k, w) ∷ out) out) g)
-                    drop (calls-after out g more);
-                keeps = record {
-                  entries = refl;
-                  no_more = omega (arith, found.keeps.no_more, fewer);
-                  spare = omega (arith, found.keeps.spare, fewer, removed.state.spare);
-                  room = removed.state.room ∙ found.keeps.room;
-                  link_writes = record {
-                    grows = omega (arith, found.keeps.link_writes.grows, removed.state.link_writes.grows);
-                    bound = omega (
-                      arith,
-                      found.keeps.link_writes.bound,
-                      removed.state.link_writes.bound,
-                      found.keeps.no_more,
-                      fewer,
-                    );
-                  };
-                  hasher = removed.state.hasher ∙ found.keeps.hasher;
+            ap (λ l. length l + 1) removed.state.entries ∙ removed.state.fewer ∙ long in
+            let dropped : Retaining eq T Q start old f' new q =
+            record {
+              within = subst (λ ns. IsPlace ns q) (sym nodes) within;
+              done = found.done;
+              left = rest.0;
+              is = shorter;
+              number = number;
+              callable = callable-after;
+              calls = λ out g more.
+                  subst (λ c. KeepsInOrder T start (entries_of old) (found.done ++ cond c ((k, w) ∷ out) out) g)
+                  drop (calls-after out g more);
+              keeps = record {
+                entries = refl;
+                no_more = omega (arith, found.keeps.no_more, fewer);
+                spare = omega (arith, found.keeps.spare, fewer, removed.state.spare);
+                room = removed.state.room ∙ found.keeps.room;
+                link_writes = record {
+                  grows = omega (arith, found.keeps.link_writes.grows, removed.state.link_writes.grows);
+                  bound = omega (
+                    arith,
+                    found.keeps.link_writes.bound,
+                    removed.state.link_writes.bound,
+                    found.keeps.no_more,
+                    fewer,
+                  );
                 };
-                sound = sound;
-              },
-              omega (
-                arith,
-                length-values_of new.nodes,
-                length-values_of m.nodes,
-                fewer,
-                number,
-                found.number,
-                place,
-                inside,
-              ),
-            )
+                hasher = removed.state.hasher ∙ found.keeps.hasher;
+              };
+              sound = sound;
+            } in
+            (dropped, omega (arith, many-left dropped, many-left found, ap length rest.1))
