@@ -45,9 +45,6 @@ or-some : {X Y : Type 0} (f : X → Y) (d : Y) (o : Option X) → IfSome o (λ x
 or-some f d None = tt
 or-some f d (Some x) = refl
 
-abbrev with_nodes : {K V S : Type 0} → List (Node × (K × V)) → Keyed K V S → Keyed K V S
-with_nodes ns m = record m { nodes = ns }
-
 -- a list is sound where its ring and its table are in step
 module _ {K V S : Type 0} {eq : K → K → Bool} {hash : K → ℕ} {s : S} {r : Ring K V} {t : Contents Node} where
   pub sound : {seen : Keyed K V S} → seen_as r t s ≡ seen → IsInStep eq hash r t → IsKeyed eq seen
@@ -257,7 +254,7 @@ module _ {K V S : Type 0} {eq : K → K → Bool} (laws : IsEquivalence eq) {has
         let written = value-written (ring_with_value_at r n w) w set refl refl in (
           written.0,
           ap (λ ns. keyed ns (length r.free) t.room r.link_writes s) written.1.nodes
-              ∙ ap (with_nodes (renewed_at (pair_with_value w) seen.nodes j)) view,
+              ∙ ap (λ (m : Keyed K V S). record m { nodes = renewed_at (pair_with_value w) seen.nodes j }) view,
         )
 
   -- ---- a new node n for the absent key k went in right before the place p; before room was made for it the

@@ -50,8 +50,7 @@ pub holds-passes : {K V S : Type 0} (test : K → Bool) (m : Keyed K V S) (n : N
 holds-passes test m n h =
     let x = node-at m.nodes n h.within in
     let j = place_number m.nodes (Some n) in
-    subst (λ o. IfSome (option_map (λ e. e.0) o) (λ stored. test stored ≡ true)) (sym (at-node m n h.within))
-    (passes-at test (entries_of m) j x.0 h.place (at-node m n h.within))
+    rw (at-node m n h.within) (passes-at test (entries_of m) j x.0 h.place (at-node m n h.within))
 
 -- it holds each key that equals its own, and no other
 module _ {K V S : Type 0} (eq : K → K → Bool) (m : Keyed K V S) (n : Node) (k : K) where

@@ -38,13 +38,9 @@ module _ {K V S : Type 0} (old new : Keyed K V S) where
       → (p : Option Node)
       → IsPlace old.nodes p
       → KeepsPlace eq old new p
-  keeps-place {eq = eq} laws sound kept None within = record {
+  keeps-place laws sound kept None within = record {
     within = tt;
-    number =
-        sym
-        (ap (λ o. option_map_or (λ e. place_or_end eq (entries_of new) e.0) o (length (entries_of new)))
-        (at-guard old)
-        ∙ length-values_of new.nodes);
+    number = rw (at-guard old) (sym (length-values_of new.nodes));
   }
   keeps-place {eq = eq} laws sound kept (Some n) held =
       let x = node-at old.nodes n held in
@@ -59,11 +55,7 @@ module _ {K V S : Type 0} (old new : Keyed K V S) where
       (subst (λ k. eq x.0.0 k ≡ true) same (laws.refl x.0.0)) in
       record {
         within = still;
-        number =
-            sym
-            (ap (λ o. option_map_or (λ e. place_or_end eq (entries_of new) e.0) o (length (entries_of new)))
-            (at-node old n held)
-            ∙ ap (λ o. unwrap_or o (length (entries_of new))) key.place);
+        number = rw (at-node old n held) (sym (ap (λ o. unwrap_or o (length (entries_of new))) key.place));
       }
 
   -- ---- each step keeps the key of each node

@@ -110,37 +110,24 @@ module _ {X : Type 0} (es : List (Node × X)) (d : IsEntries same_node es) where
 
   pub next-number : (p : Option Node) → IsPlace es p
       → IsPlaceAt es (next_place (keys_of es) p) (following_place (length es) (place_number es p))
-  next-number None within =
-      subst (IsPlaceAt es (slice_get (keys_of es) 0)) (sym (around (length es))) (place-at 0 (omega arith))
+  next-number None within = rw (around (length es)) (place-at 0 (omega arith))
   next-number (Some n) within =
       let x = node-at es n within in
       let j = place_number es (Some n) in
-      subst (λ i. IsPlaceAt es (node_after n (keys_of es)) i)
-      (sym (following-within (length es) j x.1.within))
-      (subst (λ p. IsPlaceAt es p (suc j)) (sym (node_after-at (keys_of es) j n d x.1.key_at))
-      (place-at (suc j) (omega (arith, x.1.within))))
-
-  last-number : IsPlaceAt es (last_node None (keys_of es)) (length es - 1)
-  last-number =
-      subst (λ p. IsPlaceAt es p (length es - 1))
-      (sym (last_node-at (keys_of es) ∙ ap (λ i. slice_get (keys_of es) (i - 1)) (length-keys_of es)))
-      (place-at (length es - 1) (omega arith))
+      rw (following-within (length es) j x.1.within, node_after-at (keys_of es) j n d x.1.key_at)
+      (place-at (suc j) (omega (arith, x.1.within)))
 
   before-number : (j : ℕ) (n : Node) → slice_get (keys_of es) j ≡ Some n → j < length es
       → IsPlaceAt es (node_before n None (keys_of es)) (preceding_place (length es) j)
-  before-number j n at lt =
-      subst (λ p. IsPlaceAt es p (preceding_place (length es) j))
-      (sym (node_before-at None (keys_of es) j n d at)) (by j lt)
-    where
-      by : (j : ℕ) → j < length es → IsPlaceAt es (before_at None (keys_of es) j)
-          (preceding_place (length es) j)
-      by zero lt = record { within = tt; number = sym (before-first (length es)) }
-      by (suc i) lt = subst (IsPlaceAt es (slice_get (keys_of es) i))
-          (sym (before-suc (length es) i (omega arith))) (place-at i (omega arith))
+  before-number zero n at lt = rw (node_before-at None (keys_of es) 0 n d at, before-first (length es))
+      (record { within = tt; number = refl })
+  before-number (suc i) n at lt =
+      rw (node_before-at None (keys_of es) (suc i) n d at, before-suc (length es) i (omega arith))
+      (place-at i (omega arith))
 
   pub prev-number : (p : Option Node) → IsPlace es p
       → IsPlaceAt es (prev_place (keys_of es) p) (preceding_place (length es) (place_number es p))
-  prev-number None within =
-      subst (IsPlaceAt es (last_node None (keys_of es))) (sym (before-guard (length es))) last-number
+  prev-number None within = rw (before-guard (length es), last_node-at (keys_of es), length-keys_of es)
+      (place-at (length es - 1) (omega arith))
   prev-number (Some n) within = let x = node-at es n within in
       before-number (place_number es (Some n)) n x.1.key_at x.1.within

@@ -17,14 +17,6 @@ use Rattle.hashlink_core.proofs.keyed_list.KeyedList.find_with.Given as given
 use Rattle.hashlink_core.proofs.keyed_list.KeyedList.find_with.Goals.{After-short_hash}
 use Rattle.hashlink_core.proofs.keyed_list.KeyedList.find_with.Goals as goal
 
--- the hash and the test stand for the key
-abbrev Telling : (g : given.Over) → After-short_hash g → g.row.K.Denot → Type 0
-Telling g c k =
-    Tells g.F.Fn g.K.PartialEq.eq
-    (hash_with g.S.BuildHasher.build_hasher g.S.Hasher.Hasher.write g.S.Hasher.Hasher.finish
-    g.K.Hash.hash_input c.args.self.now.hasher) (keys_of (entries_of c.args.self.now)) c.args.is_match
-    c.args.hash k
-
 -- the key of a node is in the list
 among : (g : given.Over) (c : After-short_hash g) (n : Node) (h : Held g.row.K.Denot g.row.V.Denot)
     → lookup (same_node n) c.self.inside.nodes.entries ≡ Some h
@@ -34,7 +26,11 @@ among g c n h here =
     (key-held c.self.inside.nodes.entries n h here)
 
 -- for the keys that are equal to it
-search-key : (g : given.Over) (c : After-short_hash g) (k : g.row.K.Denot) → Telling g c k
+search-key : (g : given.Over) (c : After-short_hash g) (k : g.row.K.Denot)
+    → Tells g.F.Fn g.K.PartialEq.eq
+    (hash_with g.S.BuildHasher.build_hasher g.S.Hasher.Hasher.write g.S.Hasher.Hasher.finish
+    g.K.Hash.hash_input c.args.self.now.hasher) (keys_of (entries_of c.args.self.now)) c.args.is_match
+    c.args.hash k
     → Search (hash_with g.S.BuildHasher.build_hasher g.S.Hasher.Hasher.write g.S.Hasher.Hasher.finish
     g.K.Hash.hash_input c.self.inside.hash_builder) c.self.inside.nodes (g.K.PartialEq.eq k)
     c.short_hash.result (FnReturnsAt g.F.Fn c.args.is_match)
