@@ -30,11 +30,7 @@ look_up-requires-clause-telling g c = told-hash g.met.K.Eq.laws c.self.invariant
 
 pub returns-clause-found : goal.returns-clause-found
 returns-clause-found g c =
-    let passes = g.Q.Equivalent.matches c.args.key in
-    subst (λ m. MatchOption c.look_up.result (place_of passes (entries_of m) ≡ None)
-    (HoldsMatch passes m.nodes))
-    c.self.view_is
-    (found-by_table g.met.K.Eq.laws c.self.invariant
+    rw (← c.self.view_is) (found-by_table g.met.K.Eq.laws c.self.invariant
     (search-key g (goal.at.returns-clause-found g c).After-short_hash)
     (g.met.Q.Equivalent.finds_equal c.args.key) c.look_up.result c.look_up.ensures.found c.look_up.ensures.none)
 

@@ -39,15 +39,13 @@ returns-in_err-node-clause-removes g c =
     rw c.from_residual.ensures
     (record {
       answer = sym (lookup_entry-unplaced passes (entries_of c.args.self.now)
-          (subst (λ m. place_of passes (entries_of m) ≡ None) c.self.view_is absent));
+          (rw (← c.self.view_is) absent));
       step = ap (λ u. state_of (seen_as c.self.inside.nodes u c.self.inside.hash_builder))
           c.in_err-node.ensures.same ∙ ap state_of c.self.view_is;
     })
 
 pub returns-in_err-node-clause-sound : goal.returns-in_err-node-clause-sound
-returns-in_err-node-clause-sound g c =
-    subst (λ u. IsKeyed g.K.PartialEq.eq (seen_as c.self.inside.nodes u c.self.inside.hash_builder))
-    (sym c.in_err-node.ensures.same) (sound refl c.self.invariant)
+returns-in_err-node-clause-sound g c = rw c.in_err-node.ensures.same (sound refl c.self.invariant)
 
 pub detach_into_free-requires : goal.detach_into_free-requires
 detach_into_free-requires g c =
@@ -58,10 +56,8 @@ detach_into_free-requires g c =
 found : (g : given.Over) (c : goal.After-detach_into_free g)
     → HoldsMatch (g.Q.Equivalent.matches c.args.key) c.args.self.now.nodes c.in_ok-node.node
 found g c =
-    let passes = g.Q.Equivalent.matches c.args.key in
     let r = c.in_ok-node.ensures.removed in
-    subst (λ m. HoldsMatch passes m.nodes c.in_ok-node.node) c.self.view_is
-    (found-by_table g.met.K.Eq.laws c.self.invariant
+    rw (← c.self.view_is) (found-by_table g.met.K.Eq.laws c.self.invariant
     (search-key g (goal.at.returns-clause-removes g c).After-short_hash-hash)
     (g.met.Q.Equivalent.finds_equal c.args.key) (Some c.in_ok-node.node)
     (was-kept c.self.inside.table c.remove.new.self _ _ r.0, r.1) tt)

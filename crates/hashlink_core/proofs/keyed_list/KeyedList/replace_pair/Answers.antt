@@ -28,8 +28,7 @@ replace_key-old_key-requires-clause-held g c =
 
 pub replace_key-old_key-requires-clause-equal : goal.replace_key-old_key-requires-clause-equal
 replace_key-old_key-requires-clause-equal g c =
-    subst (λ o. IfSome o (λ stored. g.K.PartialEq.eq c.args.key stored ≡ true))
-    (sym (same-key g (goal.at.replace_key-old_key-requires-clause-equal g c).After-replace_value-old_value))
+    rw (same-key g (goal.at.replace_key-old_key-requires-clause-equal g c).After-replace_value-old_value)
     (holds-equal g.K.PartialEq.eq c.args.self.now c.args.node c.args.key c.requires)
 
 pub returns-clause-replaces : goal.returns-clause-replaces

@@ -1,5 +1,4 @@
 use Rattle.std.proofs.Common.{refl, subst}
-use Rattle.hashlink_nodes.specs.Ring.{IsPlace}
 use Rattle.hashlink_core.proofs.Places.{renewed-holds}
 use Rattle.hashlink_core.proofs.Retaining.{retaining-first, retained-all, takes-pair, pair-kept, pair-dropped}
 use Rattle.hashlink_core.proofs.Retaining.{called-at}
@@ -13,9 +12,7 @@ keep-requires g c = takes-pair c.loop-place.invariant c.in-Some.is c.entry_mut-v
 
 pub remove-requires : goal.remove-requires
 remove-requires g c =
-    let at = c.loop-place in
-    renewed-holds _ at.self.nodes _ c.in-Some.node
-    (subst (IsPlace at.self.nodes) c.in-Some.is at.invariant.within)
+    renewed-holds _ c.loop-place.self.nodes _ c.in-Some.node (rw c.in-Some.is at c.loop-place.invariant.within)
 
 pub loop-place-smaller-then-not-keep : goal.loop-place-smaller-then-not-keep
 loop-place-smaller-then-not-keep g c =
