@@ -1,7 +1,7 @@
 -- Finding a key's node by the table. A node is marked by a number that is no short hash: so the table finds it,
 -- and so it is told from another.
 use Rattle.std.proofs.Common.{◌++◌, ◌≡◌, ℕ, ◌^◌, ◌<◌, ◌≤◌, Bool, true, false, cond, eqb, eqb-true, eq-eqb}
-use Rattle.std.proofs.Common.{List, [], ◌∷◌, Option, None, Some, refl, ap, sym, subst, ◌∙◌, arith, ◌⊎◌, inl}
+use Rattle.std.proofs.Common.{List, ◌∷◌, Option, None, Some, refl, ap, sym, subst, ◌∙◌, arith, ◌⊎◌, inl}
 use Rattle.std.proofs.Common.{inr, length}
 use Rattle.std.specs.Borrow.{Bor}
 use Rattle.std.specs.Cmp.{IsEquivalence}
@@ -14,7 +14,6 @@ use Rattle.std.proofs.Math.Path.{fun_ext}
 use Rattle.std.proofs.lemmas.Map.{lookup-set_value, NonePasses}
 use Rattle.std.proofs.lemmas.Map.Steps.{set_value_same}
 use Rattle.std.proofs.lemmas.Map.Views.{Contains-from_lookup, lookup-from_Contains}
-use Rattle.std.proofs.lemmas.Option.{slice_get-map}
 use Rattle.hashlink_model.proofs.Places.{place_of_its_key, slice_get_here}
 use Rattle.hashlink_model.proofs.Splits.{Stands, splits, place_of-none, stands_from_lookup, set_value-here}
 use Rattle.hashlink_model.proofs.Splits.{remove_entry-here}

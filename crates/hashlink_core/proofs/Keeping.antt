@@ -2,19 +2,17 @@
 use Rattle.std.proofs.Common.{◌≡◌, ℕ, suc, Bool, true, false, zero, List, [], ◌∷◌, length, Option, None, Some}
 use Rattle.std.proofs.Common.{refl, sym, ap, subst, ◌∙◌, cond, arith}
 use Rattle.std.specs.Prelude.{slice_get, is_some, unwrap_or}
-use Rattle.std.specs.Option.{option_map, option_map_or}
+use Rattle.std.specs.Option.{option_map}
 use Rattle.std.specs.Cmp.{IsEquivalence}
 use Rattle.std.specs.Map.{lookup, remove_entry}
 use Rattle.std.proofs.lemmas.Map.{none_passes_from_lookup, lookup-remove_entry, lookup-insert}
 use Rattle.std.proofs.lemmas.Option.{slice_get_past}
 use Rattle.std.proofs.lemmas.Map.Entries.{length-values_of}
 use Rattle.hashlink_nodes.specs.Node.{same_node, same_node_equiv, eq-same_node}
-use Rattle.hashlink_model.specs.Entries.{IsEntries, place_or_end}
-use Rattle.hashlink_model.proofs.Afterwards.{lookup-put, lookup-moved}
+use Rattle.hashlink_model.specs.Entries.{IsEntries}
+use Rattle.hashlink_model.proofs.Afterwards.{lookup-moved}
 use Rattle.hashlink_model.proofs.ByPlace.{moved_at-place}
-use Rattle.hashlink_model.proofs.Finds.{lookup-equal}
 use Rattle.hashlink_model.proofs.Places.{place_of_its_key}
-use Rattle.hashlink_model.proofs.Puts.{put-absent}
 use Rattle.hashlink_core.specs.Keyed.{Keyed, entries_of, IsKeyed, pair_with_value}
 use Rattle.hashlink_core.specs.Places.{Node, Holds, IsPlace, place_number, renewed_at}
 use Rattle.hashlink_core.specs.Steps.{AddsNode, MovesNode, WritesNode, GrowsRoom, KeepsKeys, KeepsPlace}

@@ -1,5 +1,5 @@
 -- The numbers of places, and the ring's words by places in terms of them.
-use Rattle.std.proofs.Common.{◌≡◌, ◌≢◌, ℕ, zero, suc, ◌+◌, ◌-◌, ◌<◌, ◌≤◌, ◌⊎◌, inl, inr, Bool, true, false}
+use Rattle.std.proofs.Common.{◌≡◌, ◌≢◌, ℕ, zero, suc, ◌+◌, ◌<◌, ◌≤◌, Bool, true, false}
 use Rattle.std.proofs.Common.{cond, List, [], ◌∷◌, length, Option, None, Some, refl, ap, sym, subst, ◌∙◌}
 use Rattle.std.proofs.Common.{arith, add-one, ⊎_elim}
 use Rattle.std.proofs.lemmas.Bool.Decides.{nat_tests}
@@ -12,7 +12,7 @@ use Rattle.std.proofs.lemmas.Map.{lookup-remove_entry}
 use Rattle.std.proofs.lemmas.Map.Entries.{length-keys_of}
 use Rattle.std.proofs.lemmas.Map.Made.{is_some-lookup}
 use Rattle.std.proofs.lemmas.List.Edits.{insert_end}
-use Rattle.std.proofs.lemmas.Option.{slice_get-map, slice_get_within}
+use Rattle.std.proofs.lemmas.Option.{slice_get_within}
 use Rattle.hashlink_model.specs.Cursor as cursor
 use Rattle.hashlink_model.specs.Entries.{IsEntries, place_left, moved_at}
 use Rattle.hashlink_model.proofs.Finds.{lookup_is}
@@ -24,7 +24,7 @@ use Rattle.hashlink_nodes.specs.Ring.{put_before, put_before_node, put_after, pu
 use Rattle.hashlink_nodes.specs.Ring.{MovesBefore, MovesAfter}
 use Rattle.hashlink_core.specs.Places.{place_number, renewed_at}
 use Rattle.hashlink_core.proofs.Edits.{length-removed, place_or_end-cons, place_or_end-most, remove_entry-at}
-use Rattle.hashlink_core.proofs.Edits.{place_left-before, place_left-past, place_left-first, place_left-suc}
+use Rattle.hashlink_core.proofs.Edits.{place_left-past, place_left-first, place_left-suc}
 use Rattle.hashlink_core.proofs.Edits.{moved_at-is, mapped-at}
 use native.Mathlib.Nat.{mod-eq_of_lt, mod_self}
 

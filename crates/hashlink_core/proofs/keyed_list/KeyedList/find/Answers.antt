@@ -1,7 +1,4 @@
-use Rattle.std.proofs.Common.{◌≡◌, None, ap, subst}
-use Rattle.std.specs.Option.{MatchOption}
-use Rattle.hashlink_model.specs.Entries.{place_of}
-use Rattle.hashlink_core.specs.Keyed.{HoldsMatch, entries_of}
+use Rattle.std.proofs.Common.{◌≡◌, ap}
 use Rattle.hashlink_core.specs.Tied.{hash_with}
 use Rattle.hashlink_core.proofs.Calls.{sound}
 use Rattle.hashlink_core.proofs.Finding.{Search, query-search, listed-holds, told-hash, found-by_table}

@@ -1,14 +1,12 @@
-use Rattle.std.proofs.Common.{◌≡◌, None, Some, ap, subst, sym, ◌∙◌}
+use Rattle.std.proofs.Common.{◌≡◌, Some, ap, subst, sym, ◌∙◌}
 use Rattle.std.specs.Prelude.{Contains}
 use Rattle.std.specs.Fn.{FnReturnsAt}
 use Rattle.std.specs.List.{fold}
 use Rattle.std.specs.Map.{keys_of, lookup}
-use Rattle.std.specs.Option.{MatchOption}
-use Rattle.hashlink_model.specs.Entries.{place_of}
 use Rattle.hashlink_nodes.specs.declared.held.Held.{Held}
 use Rattle.hashlink_nodes.specs.declared.node.Node.{Node}
 use Rattle.hashlink_nodes.specs.Node.{same_node}
-use Rattle.hashlink_core.specs.Keyed.{HoldsMatch, entries_of}
+use Rattle.hashlink_core.specs.Keyed.{entries_of}
 use Rattle.hashlink_core.specs.Tied.{hash_with, short}
 use Rattle.hashlink_core.specs.Telling.{Tells}
 use Rattle.hashlink_core.proofs.Calls.{sound}

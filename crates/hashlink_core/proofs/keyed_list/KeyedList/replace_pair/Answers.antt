@@ -1,5 +1,4 @@
-use Rattle.std.proofs.Common.{◌≡◌, true, Some, ap₂, sym, subst, ◌∙◌}
-use Rattle.std.specs.Prelude.{IfSome}
+use Rattle.std.proofs.Common.{◌≡◌, Some, ap₂, sym, ◌∙◌}
 use Rattle.hashlink_model.specs.Entry.{key_at}
 use Rattle.hashlink_core.specs.Keyed.{entries_of, pair_with_key, pair_with_value}
 use Rattle.hashlink_core.specs.Places.{place_number, renewed_at}

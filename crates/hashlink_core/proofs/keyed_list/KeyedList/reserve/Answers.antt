@@ -1,6 +1,5 @@
-use Rattle.std.proofs.Common.{length, refl, ap, sym, ◌∙◌, arith}
+use Rattle.std.proofs.Common.{refl, ap, arith}
 use Rattle.hashlink_nodes.specs.Ring.{pair_of}
-use Rattle.hashlink_core.specs.Keyed.{Keyed, keyed}
 use Rattle.hashlink_core.proofs.Calls.{sound}
 use Rattle.hashlink_core.proofs.Mapped.{length-mapped}
 use Rattle.hashlink_core.proofs.Stepping.{step-same}
