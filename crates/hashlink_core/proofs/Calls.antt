@@ -195,8 +195,7 @@ module _ {K V S : Type 0} {eq : K → K → Bool} (laws : IsEquivalence eq) {has
     module _ (s' : Ring K V) (f : Held K V → Held K V) (set : IfSome (lookup (same_node n) r.entries)
         (λ h. s'.entries ≡ set_value (same_node n) r.entries (f h))) (free : s'.free ≡ r.free) where
       renewed : s'.entries ≡ renewed_at f r.entries i
-      renewed = subst (λ o. IfSome o (λ h. s'.entries ≡ set_value (same_node n) r.entries (f h)))
-          at.1.found set ∙ set_value-at f r.entries n at.0 at.1.found
+      renewed = (rw at.1.found at set) ∙ set_value-at f r.entries n at.0 at.1.found
 
       renewed-step : ((h : Held K V) → (f h).number ≡ h.number)
           → ((h : Held K V) → lookup (same_node n) r.entries ≡ Some h → (eq h.key (f h).key ≡ true)

@@ -1,8 +1,8 @@
 -- Finding a key's node by the table. A node is marked by a number that is no short hash: so the table finds it,
 -- and so it is told from another.
 use Rattle.std.proofs.Common.{◌++◌, ◌≡◌, ℕ, ◌^◌, ◌<◌, ◌≤◌, Bool, true, false, cond, eqb, eqb-true, eq-eqb}
-use Rattle.std.proofs.Common.{List, ◌∷◌, Option, None, Some, refl, ap, sym, subst, ◌∙◌, arith, ◌⊎◌, inl}
-use Rattle.std.proofs.Common.{inr, length}
+use Rattle.std.proofs.Common.{List, ◌∷◌, Option, None, Some, refl, ap, sym, subst, ◌∙◌, arith, ◌⊎◌, inl, inr}
+use Rattle.std.proofs.Common.{length}
 use Rattle.std.specs.Borrow.{Bor}
 use Rattle.std.specs.Cmp.{IsEquivalence}
 use Rattle.std.specs.Fn.{Shared, FnReturnsAt}
@@ -85,8 +85,7 @@ module _ {K V : Type 0} {eq : K → K → Bool} {hash : K → ℕ} {r : Ring K V
     own-number = cc (sym (ap (option_map (λ h. h.number)) found) ∙ marked.is)
 
     set-at : fs ≡ set_value (same_node n) r.entries (with_number own marked.mark)
-    set-at = subst (λ o. IfSome o (λ h. fs ≡ set_value (same_node n) r.entries (with_number h marked.mark)))
-        found marked.renumbered
+    set-at = rw found at marked.renumbered
 
     found-now : (m : Node) → lookup (same_node m) fs
         ≡ cond (same_node n m) (Some (with_number own marked.mark)) (lookup (same_node m) r.entries)

@@ -56,8 +56,7 @@ module _ {K V S : Type 0} (eq : K → K → Bool) (m : Keyed K V S) (n : Node) (
   pub equals-stored : (held : Holds m.nodes n)
       → EqualsKeyAt eq (entries_of m) (place_number m.nodes (Some n)) k
       → eq k (node-at m.nodes n held).0.0 ≡ true
-  equals-stored held =
-      subst (λ o. IfSome (option_map (λ e. e.0) o) (λ stored. eq k stored ≡ true)) (at-node m n held)
+  equals-stored held same = rw (at-node m n held) at same
 
   pub equal-holds : IsEquivalence eq → IsKeyed eq m → Holds m.nodes n
       → EqualsKeyAt eq (entries_of m) (place_number m.nodes (Some n)) k

@@ -1,7 +1,6 @@
 -- The numbers of places, and the ring's words by places in terms of them.
-use Rattle.std.proofs.Common.{◌≡◌, ◌≢◌, ℕ, zero, suc, ◌+◌, ◌<◌, ◌≤◌, Bool, true, false}
-use Rattle.std.proofs.Common.{cond, List, [], ◌∷◌, length, Option, None, Some, refl, ap, sym, subst, ◌∙◌}
-use Rattle.std.proofs.Common.{arith, add-one, ⊎_elim}
+use Rattle.std.proofs.Common.{◌≡◌, ◌≢◌, ℕ, zero, suc, ◌+◌, ◌<◌, ◌≤◌, Bool, true, false, cond, List, [], ◌∷◌}
+use Rattle.std.proofs.Common.{length, Option, None, Some, refl, ap, sym, subst, ◌∙◌, arith, add-one, ⊎_elim}
 use Rattle.std.proofs.lemmas.Bool.Decides.{nat_tests}
 use Rattle.std.specs.Prelude.{slice_get, insert, remove, is_some}
 use Rattle.std.specs.Option.{option_map, IfSome}
@@ -24,8 +23,8 @@ use Rattle.hashlink_nodes.specs.Ring.{put_before, put_before_node, put_after, pu
 use Rattle.hashlink_nodes.specs.Ring.{MovesBefore, MovesAfter}
 use Rattle.hashlink_core.specs.Places.{place_number, renewed_at}
 use Rattle.hashlink_core.proofs.Edits.{length-removed, place_or_end-cons, place_or_end-most, remove_entry-at}
-use Rattle.hashlink_core.proofs.Edits.{place_left-past, place_left-first, place_left-suc}
-use Rattle.hashlink_core.proofs.Edits.{moved_at-is, mapped-at}
+use Rattle.hashlink_core.proofs.Edits.{place_left-past, place_left-first, place_left-suc, moved_at-is}
+use Rattle.hashlink_core.proofs.Edits.{mapped-at}
 use native.Mathlib.Nat.{mod-eq_of_lt, mod_self}
 
 pub around : (n : ℕ) → cursor.following_place n n ≡ 0
