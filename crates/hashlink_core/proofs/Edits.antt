@@ -8,7 +8,8 @@ use Rattle.std.specs.Map.{remove_entry}
 use Rattle.std.specs.Cmp.{IsEquivalence}
 use Rattle.std.proofs.lemmas.Bool.Decides.{nat_tests}
 use Rattle.std.proofs.lemmas.Map.{NonePasses}
-use Rattle.std.proofs.lemmas.List.{take-append-drop, length-append, map-append, take-map, drop-map}
+use Rattle.std.proofs.lemmas.List.{take-append-drop, map-append, take-map, drop-map}
+use Rattle.std.proofs.lemmas.List.Sorted.{length_permutation, IsPermutation-insert}
 use Rattle.std.proofs.lemmas.List.Edits.{length-remove, get_or-insert_at}
 use Rattle.std.proofs.lemmas.Option.{slice_get-map, slice_get_within, slice_get-get_or, get_or_from_slice_get}
 use Rattle.hashlink_model.specs.Entries.{IsEntries, place_of, place_or_end, place_left, moved_at}
@@ -35,12 +36,8 @@ module _ {X : Type 0} where
   at-element xs x c = slice_get-get_or xs c.0 x c.1 ∙ ap Some c.2
 
   pub length-inserted : (xs : List X) (i : ℕ) (x : X) → length (insert xs i x) ≡ length xs + 1
-  length-inserted xs i x = omega (
-    arith,
-    length-append (take i xs) (x ∷ drop i xs),
-    length-append (take i xs) (drop i xs),
-    ap length (take-append-drop i xs),
-  )
+  length-inserted xs i x =
+      omega (arith, length_permutation (x ∷ xs) (insert xs i x) (IsPermutation-insert xs i x))
 
   pub length-removed : (xs : List X) (i : ℕ) (x : X) → slice_get xs i ≡ Some x
       → length (remove xs i) + 1 ≡ length xs
