@@ -165,21 +165,6 @@ module _ {K V : Type 0} where
       let y = from-mapped (λ (e : Node × Held K V). (e.0, pair_of e.1)) es j x.0 x.1 in
       (y.0, y.1, ap (λ e. e.1) y.2 ∙ x.2)
 
-  -- ---- the numbers of the entries
-  module _ (hash : K → ℕ) (es : List (Node × Held K V))
-      (numbered : map (λ e. e.1.number) es ≡ map (λ e. short (hash e.1.key)) es) where
-    numbers-inserted : (i : ℕ) (n : Node) (h : Held K V) → h.number ≡ short (hash h.key)
-        → map (λ e. e.1.number) (insert es i (n, h)) ≡ map (λ e. short (hash e.1.key)) (insert es i (n, h))
-    numbers-inserted i n h is = insert-map (λ (e : Node × Held K V). e.1.number) es i (n, h)
-        ∙ ap₂ (λ l x. insert l i x) numbered is
-        ∙ sym (insert-map (λ (e : Node × Held K V). short (hash e.1.key)) es i (n, h))
-
-    numbers-removed : (j : ℕ)
-        → map (λ e. e.1.number) (remove es j) ≡ map (λ e. short (hash e.1.key)) (remove es j)
-    numbers-removed j = remove-map (λ (e : Node × Held K V). e.1.number) es j
-        ∙ ap (λ l. remove l j) numbered
-        ∙ sym (remove-map (λ (e : Node × Held K V). short (hash e.1.key)) es j)
-
 module _ {K V : Type 0} {eq : K → K → Bool} (laws : IsEquivalence eq) {hash : K → ℕ} where
   -- no entry, in the ring or in the table
   pub step-none : (r : Ring K V) (t : Contents Node) → r.entries ≡ [] → t.nodes ≡ []
@@ -222,7 +207,9 @@ module _ {K V : Type 0} {eq : K → K → Bool} (laws : IsEquivalence eq) {hash 
         distinct = subst (IsEntries eq) (sym (ap pairs_in put ∙ pairs-inserted r.entries i n h))
             (IsEntries-inserted eq laws (pairs_in r.entries) step.distinct i (pair_of h) none);
         apart = rw put (IsEntries-inserted same_node same_node_equiv r.entries step.apart i (n, h) fresh);
-        numbered = rw put (numbers-inserted hash r.entries step.numbered i n h number);
+        numbered = rw put (insert-map (λ (e : Node × Held K V). e.1.number) r.entries i (n, h)
+            ∙ ap₂ (λ l x. insert l i x) step.numbered number
+            ∙ sym (insert-map (λ (e : Node × Held K V). short (hash e.1.key)) r.entries i (n, h)));
         tied = rw (put, insert-map (λ (e : Node × Held K V). kept e.1.number e.0) r.entries i (n, h))
             (IsPermutation-trans _ _ _
             (IsPermutation-sym _ _ (IsPermutation-insert (numbered_nodes r.entries) i (kept h.number n)))
@@ -261,7 +248,9 @@ module _ {K V : Type 0} {eq : K → K → Bool} (laws : IsEquivalence eq) {hash 
               (pair-at r.entries j n h at));
           apart = rw removed
               (IsEntries-removed same_node same_node_equiv r.entries step.apart j (n, h) at);
-          numbered = rw removed (numbers-removed hash r.entries step.numbered j);
+          numbered = rw removed (remove-map (λ (e : Node × Held K V). e.1.number) r.entries j
+              ∙ ap (λ l. remove l j) step.numbered
+              ∙ sym (remove-map (λ (e : Node × Held K V). short (hash e.1.key)) r.entries j));
           tied = rw (removed, remove-map (λ (e : Node × Held K V). kept e.1.number e.0) r.entries j)
               (after-first (kept h.number n) (remove (numbered_nodes r.entries) j) u.nodes once
               (IsPermutation-trans _ _ _ (IsPermutation-sym _ _ numbered-first)

@@ -31,12 +31,6 @@ pub in-reverse : {A X : Type 0} (shows : A → X) → ShowsInReverse shows
 in-reverse shows = from_back (TakesLast shows) shows (λ s. s) (λ s t h. ap length h.0) (λ s x t h. h)
 
 module _ {X : Type 0} where
-  -- one more element taken
-  take-one_more : (xs : List X) (i : ℕ) (x : X) → slice_get xs i ≡ Some x → take (suc i) xs
-      ≡ take i xs ++ x ∷ []
-  take-one_more xs i x at = take-suc xs i x (slice_get_within xs i x at)
-      ∙ ap (λ y. take i xs ++ y ∷ []) (get_or_from_slice_get xs i x x at)
-
   -- no more than that are taken, so the place matters only where there are some
   take-from : (xs : List X) (n i j : ℕ) → (0 < n → i ≡ j) → take n (drop i xs) ≡ take n (drop j xs)
   take-from xs zero i j same = refl
@@ -175,6 +169,7 @@ module _ {K V : Type 0} {es : List (Node × Held K V)} {first last : Node} {left
       slice_get-drop es i (left - 1) (place_number es (Some last)) far ∙ x.1.at in
       let same : pair_of x.0 ≡ pair = cc (sym (ap (option_map pair_of) x.1.found) ∙ here) in
       ap (λ m. pairs_in (take m (drop i es))) one-more
-      ∙ ap pairs_in (take-one_more (drop i es) (left - 1) (last, x.0) at)
+      ∙ ap pairs_in (take-suc (drop i es) (left - 1) (last, x.0) (slice_get_within _ _ _ at)
+      ∙ ap (λ y. take (left - 1) (drop i es) ++ y ∷ []) (get_or_from_slice_get (drop i es) (left - 1) _ (last, x.0) at))
       ∙ pairs_in-last (take (left - 1) (drop i es)) last x.0
       ∙ ap (λ p. pairs_from es (Some first) (left - 1) ++ p ∷ []) same
