@@ -175,14 +175,11 @@ shrinks old new (Err e) ok err empty below =
       room = omega arith;
       fitted = tt;
       refused = refl;
-      empty = λ none. absurd (refused-empty (empty (nil-values_of old.nodes none)));
+      empty = λ none. absurd (cc (empty (nil-values_of old.nodes none)));
       link_writes = refl;
       hasher = refl;
     })
   where
-    refused-empty : IsOk {T = Unit {0}} (Err e) → ⊥
-    refused-empty h = cc
-
     nil-values_of : {X : Type 0} (ns : List (Node × X)) → values_of ns ≡ [] → ns ≡ []
     nil-values_of [] h = refl
     nil-values_of (x ∷ ns) h = cc
