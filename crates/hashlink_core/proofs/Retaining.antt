@@ -197,9 +197,7 @@ module _ {F K V S : Type 0} {eq : K → K → Bool} {T : F → K → V → Bool 
               is = now ∙ sym (append_assoc found.done ((k, w) ∷ []) rest.0);
               number = omega (arith, next-now, length-append found.done ((k, w) ∷ []));
               callable = callable-after;
-              calls = λ out g more. rw append_assoc
-                  (subst (λ c. KeepsInOrder T start (entries_of old) (found.done ++ cond c ((k, w) ∷ out) out) g)
-                  keep (calls-after out g more));
+              calls = λ out g more. rw append_assoc (rw keep at (calls-after out g more));
               keeps = record {
                 entries = refl;
                 no_more = omega (arith, found.keeps.no_more, long);
@@ -249,9 +247,7 @@ module _ {F K V S : Type 0} {eq : K → K → Bool} {T : F → K → V → Bool 
               is = shorter;
               number = number;
               callable = callable-after;
-              calls = λ out g more.
-                  subst (λ c. KeepsInOrder T start (entries_of old) (found.done ++ cond c ((k, w) ∷ out) out) g)
-                  drop (calls-after out g more);
+              calls = λ out g more. rw drop at (calls-after out g more);
               keeps = record {
                 entries = refl;
                 no_more = omega (arith, found.keeps.no_more, fewer);
