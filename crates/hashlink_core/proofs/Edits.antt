@@ -137,9 +137,8 @@ module _ {A B : Type 0} (eq : A → A → Bool) where
 
     pub IsEntries-inserted : (i : ℕ) (e : A × B) → NonePasses (eq e.0) es → IsEntries eq (insert es i e)
     IsEntries-inserted i e none =
-        IsEntries-insert eq laws (take i es) e (drop i es)
-        (subst (NonePasses (eq e.0)) (sym (take-append-drop i es)) none)
-        (subst (IsEntries eq) (sym (take-append-drop i es)) d)
+        IsEntries-insert eq laws (take i es) e (drop i es) (rw (take-append-drop i es) none)
+        (rw (take-append-drop i es) d)
 
     -- an entry that was put in has another key than the rest
     pub none-inserted : (fs : List (A × B)) (i : ℕ) (e : A × B) → es ≡ insert fs i e → NonePasses (eq e.0) fs

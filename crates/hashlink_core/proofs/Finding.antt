@@ -267,8 +267,7 @@ module _ {K V : Type 0} {eq : K → K → Bool} (laws : IsEquivalence eq) {hash 
     answered : (n : Node) (h : Held K V) (b : Bool) → lookup (same_node n) r.entries ≡ Some h
         → IfSome (lookup (same_node n) r.entries) (λ g. Answers g.key b)
         → passes h.key ≡ b
-    answered n h b here answer =
-        sym (search.tells n h here b (subst (λ o. IfSome o (λ g. Answers g.key b)) here answer))
+    answered n h b here answer = sym (search.tells n h here b (rw here at answer))
 
     -- a node whose key is told to pass is kept under the short hash
     pub told-hash : (number : ℕ) (n : Node) → Keeps t number n

@@ -51,9 +51,8 @@ sound-written eq m n w sound =
     let j = place_number m.nodes (Some n) in
     let written = values-renewed_value m.nodes j w in
     record {
-      distinct = subst (IsDistinct eq)
-          (sym (ap keys_of written ∙ keys-set_value_at (entries_of m) j w)) sound.distinct;
-      apart = subst (IsDistinct same_node) (sym (keys-renewed (pair_with_value w) m.nodes j)) sound.apart;
+      distinct = rw (written, keys-set_value_at (entries_of m) j w) sound.distinct;
+      apart = rw (keys-renewed (pair_with_value w) m.nodes j) sound.apart;
       fits = omega (arith, sound.fits, ap length written, length-set_value_at (entries_of m) j w);
     }
 
