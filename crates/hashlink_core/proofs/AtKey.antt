@@ -1,63 +1,50 @@
 -- What a step at the place of a key is for the key.
-use Rattle.std.proofs.Common.{◌≡◌, ℕ, Bool, List, [], ◌∷◌, length, None, Some, refl, sym, ap, subst, ◌∙◌}
-use Rattle.std.proofs.Common.{zero, suc, ◌++◌, ap₂, arith}
-use Rattle.std.specs.Prelude.{slice_get, insert}
+use Rattle.std.proofs.Common.{◌≡◌, ℕ, Bool, List, [], ◌∷◌, ◌++◌, length, None, Some, refl, sym, ap, subst}
+use Rattle.std.proofs.Common.{◌∙◌, ap₂, arith}
+use Rattle.std.specs.Prelude.{insert}
 use Rattle.std.specs.Map.{set_value}
 use Rattle.std.proofs.lemmas.Map.{NonePasses}
-use Rattle.hashlink_model.specs.Entries.{place_of, put, moved_at, set_value_at}
+use Rattle.hashlink_model.specs.Entries.{place_of, put, set_value_at}
 use Rattle.hashlink_model.specs.Entry.{InsertsValue, ReplacesValue, TakesEntry}
 use Rattle.hashlink_model.specs.MapState.{MapState, Changes, PutsEntry, with_value}
 use Rattle.hashlink_model.specs.Steps.{RemovesKey, WritesEntry, with_value_of}
-use Rattle.hashlink_model.proofs.ByPlace.{moved_at-here, moved_at-put}
-use Rattle.hashlink_model.proofs.Places.{split_at}
+use Rattle.hashlink_model.proofs.ByPlace.{moved_at-put, set_value_at-here, set_value_at-place}
+use Rattle.hashlink_model.proofs.Puts.{put-here}
+use Rattle.hashlink_model.proofs.Splits.{stands_from_place}
 use Rattle.hashlink_core.proofs.Edits.{place_left-past}
-use Rattle.hashlink_core.proofs.Steps.{some_from_part, lookup-place, lookup_entry-unplaced, writes_key}
-use Rattle.hashlink_core.proofs.Steps.{removes_match, with_value-key, none_passes_from_place}
+use Rattle.hashlink_core.proofs.Steps.{lookup-place, lookup_entry-unplaced, removes_match}
+use Rattle.hashlink_core.proofs.Steps.{none_passes_from_place}
 
--- an entry that is moved to its own place stays
-module _ {X : Type 0} where
-  in-its-place : (xs ys : List X) (x : X) → insert (xs ++ ys) (length xs) x ≡ xs ++ x ∷ ys
-  in-its-place [] ys x = refl
-  in-its-place (z ∷ xs) ys x = ap (λ r. z ∷ r) (in-its-place xs ys x)
+in-its-place : {X : Type 0} (xs ys : List X) (x : X) → insert (xs ++ ys) (length xs) x ≡ xs ++ x ∷ ys
+in-its-place [] ys x = refl
+in-its-place (z ∷ xs) ys x = ap (λ r. z ∷ r) (in-its-place xs ys x)
 
-moved-nowhere : {K V : Type 0} (es : List (K × V)) (j : ℕ) (e : K × V) → slice_get es j ≡ Some e
-    → moved_at es j j ≡ es
-moved-nowhere es j e at =
-    let s = split_at es j e at in
-    ap₂ (λ zs i. moved_at zs i i) s.2 (sym s.3) ∙ moved_at-here s.0 e s.1 (length s.0)
-    ∙ ap (λ i. insert (s.0 ++ s.1) i e) (place_left-past (length s.0) (length s.0) (omega arith))
-    ∙ in-its-place s.0 s.1 e ∙ sym s.2
+-- a key that is put where it stands takes the value alone
+put-there : {K V : Type 0} (eq : K → K → Bool) (es : List (K × V)) (k : K) (v : V) (j : ℕ)
+    → place_of (eq k) es ≡ Some j → set_value_at es j v ≡ put eq es k v j
+put-there eq es k v j p =
+    let s = stands_from_place (eq k) es j p in
+    ap₂ (λ zs n. set_value_at zs n v) s.3.is (sym s.4) ∙ set_value_at-here s.0 s.1 s.2 v
+    ∙ sym (put-here eq s.0 s.1 s.2 k v (length s.0) s.3.passes s.3.before
+    ∙ ap (λ i. insert (s.0 ++ s.2) i (s.1.0, v)) (place_left-past (length s.0) (length s.0) (omega arith))
+    ∙ in-its-place s.0 s.2 (s.1.0, v)) ∙ ap₂ (λ zs n. put eq zs k v n) (sym s.3.is) s.4
 
 module _ {K V S : Type 0} (eq : K → K → Bool) (old new : MapState K V S) (k : K) (j : ℕ)
     (p : place_of (eq k) old.entries ≡ Some j) where
-  -- a key that is put where it stands takes the value alone
   pub stays-key : (v w : V) → ReplacesValue old new j v w → PutsEntry eq old new k v j w
-  stays-key v w s =
-      let there = some_from_part (slice_get old.entries j) w s.answer in
-      let put_there : set_value_at old.entries j v ≡ put eq old.entries k v j =
-      sym (moved-nowhere (set_value_at old.entries j v) j (there.0.0, v)
-      (written-there old.entries j there.0 v there.1))
-      ∙ moved_at-put eq old.entries k j p v j in
-      let grows = s.step.link_writes.grows in
-      let bound = s.step.link_writes.bound in
-      record {
-        old_value = lookup-place (eq k) old.entries j p ∙ s.answer;
-        puts = record {
-          entries = s.step.entries ∙ put_there;
-          spare = s.step.spare;
-          room = s.step.room;
-          link_writes = record { grows = grows; bound = omega arith };
-          hasher = s.step.hasher;
-        };
-      }
-    where
-      written-there : (es : List (K × V)) (i : ℕ) (e : K × V) (u : V) → slice_get es i ≡ Some e
-          → slice_get (set_value_at es i u) i ≡ Some (e.0, u)
-      written-there [] i e u at = absurd (cc)
-      written-there (x ∷ es) zero e u at =
-          let same : x ≡ e = cc in
-          ap (λ y. Some (y.0, u)) same
-      written-there (x ∷ es) (suc i) e u at = written-there es i e u at
+  stays-key v w s = record {
+    old_value = lookup-place (eq k) old.entries j p ∙ s.answer;
+    puts = record {
+      entries = s.step.entries ∙ put-there eq old.entries k v j p;
+      spare = s.step.spare;
+      room = s.step.room;
+      link_writes = record {
+        grows = s.step.link_writes.grows;
+        bound = omega (arith, s.step.link_writes.bound);
+      };
+      hasher = s.step.hasher;
+    };
+  }
 
   pub inserted-key : (v w : V) → InsertsValue old new j v w → PutsEntry eq old new k v (length old.entries) w
   inserted-key v w s = record {
@@ -67,10 +54,13 @@ module _ {K V S : Type 0} (eq : K → K → Bool) (old new : MapState K V S) (k 
   }
 
   pub replaced-key : (v w : V) → ReplacesValue old new j v w → WritesEntry eq old new k v w
-  replaced-key v w s = writes_key eq old new k j p v w s.answer s.step
+  replaced-key v w s = record {
+    old_value = lookup-place (eq k) old.entries j p ∙ s.answer;
+    writes = subst (λ es. Changes old new es 0) (set_value_at-place (eq k) old.entries j v p) s.step;
+  }
 
   pub written-key : (w : V) → new ≡ with_value old j w → new ≡ with_value_of eq old k w
-  written-key w s = s ∙ with_value-key eq old k w j p
+  written-key w s = s ∙ ap (λ es. record old { entries = es }) (set_value_at-place (eq k) old.entries j w p)
 
   pub taken-key : (e : K × V) → TakesEntry old new j e → RemovesKey eq old new k (Some e)
   taken-key e s = removes_match (eq k) old new j p e s.answer s.step

@@ -5,52 +5,37 @@ use Rattle.std.specs.Prelude.{slice_get, is_some, Result, Ok, Err, IsErrAnd, IsO
 use Rattle.std.specs.Option.{option_map}
 use Rattle.std.specs.Cmp.{IsEquivalence}
 use Rattle.std.specs.Map.{lookup, lookup_entry, values_of}
+use Rattle.std.proofs.lemmas.Map.Entries.{length-values_of}
 use Rattle.std.proofs.lemmas.Result.{err_from_is_err_and}
 use Rattle.hashlink_model.specs.Entries.{IsEntries, IsKeyTest, place_of, moved_match}
+use Rattle.hashlink_model.specs.MapState.{RoomFor, Changes, AddsEntry, PutsEntry, RefusesEntry}
+use Rattle.hashlink_model.specs.Steps.{Shrinks, MovesMatchAndWrites, with_match_value}
 use Rattle.hashlink_model.proofs.Afterwards.{lookup-moved}
-use Rattle.hashlink_model.specs.MapState.{RoomFor, Changes, Grows, MovesAt, AddsAt, AddsEntry, PutsEntry}
-use Rattle.hashlink_model.specs.MapState.{RefusesEntry}
-use Rattle.hashlink_model.specs.Steps.{Shrinks, WritesEntry, RemovesMatch, MovesMatchAndWrites}
-use Rattle.hashlink_model.specs.Steps.{with_match_value}
+use Rattle.hashlink_model.proofs.ByPlace.{set_value_at-place, moved_at-put}
+use Rattle.hashlink_model.proofs.Puts.{put-absent}
+use Rattle.hashlink_model.proofs.Splits.{key_from_place}
 use Rattle.hashlink_core.specs.Keyed.{Keyed, entries_of, state_of, HoldsKey, HoldsMatch, IsKeyed}
 use Rattle.hashlink_core.specs.Keyed.{pair_with_value}
-use Rattle.hashlink_core.specs.Places.{Node, Holds, place_number}
 use Rattle.hashlink_core.specs.KeyedLends.{with_value_at}
-use Rattle.hashlink_core.specs.Steps.{AddsNode, RemovesNode, MovesNode, WritesNode, GrowsRoom}
+use Rattle.hashlink_core.specs.Places.{Node, Holds, place_number}
+use Rattle.hashlink_core.specs.Steps.{AddsNode, MovesNode, WritesNode, GrowsRoom}
+use Rattle.hashlink_core.proofs.Holding.{moved-holds_key}
 use Rattle.hashlink_core.proofs.Mapped.{values-renewed_value}
 use Rattle.hashlink_core.proofs.Places.{place_number-renewed, renewed-holds}
-use Rattle.hashlink_core.proofs.Holding.{moved-holds_key}
-use Rattle.hashlink_model.proofs.ByPlace.{set_value_at-place}
-use Rattle.hashlink_core.proofs.Steps.{lookup_entry-place, lookup-place, adds_key, refuses_key, puts_key}
-use Rattle.hashlink_core.proofs.Steps.{writes_key, moves_match, removes_match}
-use Rattle.std.proofs.lemmas.Map.Entries.{length-values_of}
-use Rattle.hashlink_model.proofs.Splits.{key_from_place}
+use Rattle.hashlink_core.proofs.Steps.{lookup_entry-place, lookup-place, lookup-unplaced, then_moves}
+use Rattle.hashlink_core.proofs.Steps.{none_passes_from_place}
 
-module _ {K V S : Type 0} where
-  -- the guard's number is the length
-  pub guard-number : (m : Keyed K V S) → place_number m.nodes None ≡ length (entries_of m)
-  guard-number m = sym (length-values_of m.nodes)
+-- the guard's number is the length
+pub guard-number : {K V S : Type 0} (m : Keyed K V S) → place_number m.nodes None ≡ length (entries_of m)
+guard-number m = sym (length-values_of m.nodes)
 
+module _ {K V S : Type 0} {old new : Keyed K V S} {j : ℕ} {v : V} (s : WritesNode old new j v) where
   -- a value that was written leaves every node at its place
-  pub written-number : (old new : Keyed K V S) (j : ℕ) (v : V) (p : Option Node) → WritesNode old new j v
-      → place_number new.nodes p ≡ place_number old.nodes p
-  written-number old new j v p s =
-      ap (λ ns. place_number ns p) s.nodes ∙ place_number-renewed (pair_with_value v) old.nodes j p
+  pub written-number : (p : Option Node) → place_number new.nodes p ≡ place_number old.nodes p
+  written-number p = rw s.nodes (place_number-renewed (pair_with_value v) old.nodes j p)
 
-  pub written-holds : (old new : Keyed K V S) (j : ℕ) (v : V) (n : Node) → WritesNode old new j v
-      → Holds old.nodes n
-      → Holds new.nodes n
-  written-holds old new j v n s h =
-      subst (λ ns. Holds ns n) (sym s.nodes) (renewed-holds (pair_with_value v) old.nodes j n h)
-
-  grown-state : (i : ℕ) (old new : Keyed K V S) → GrowsRoom i old new → Grows i (state_of old) (state_of new)
-  grown-state i old new s = record {
-    entries = ap entries_of s.rest;
-    spare = ap (λ m. m.spare) s.rest;
-    room = subst (λ n. RoomFor (n + i) old.room new.room) (sym (length-values_of old.nodes)) s.more;
-    link_writes = ap (λ m. m.link_writes) s.rest;
-    hasher = ap (λ m. m.hasher) s.rest;
-  }
+  pub written-holds : (n : Node) → Holds old.nodes n → Holds new.nodes n
+  written-holds n h = rw s.nodes (renewed-holds (pair_with_value v) old.nodes j n h)
 
 module _ {K V S : Type 0} (eq : K → K → Bool) (old new : Keyed K V S) (k : K) where
   -- ---- an absent key
@@ -58,20 +43,32 @@ module _ {K V S : Type 0} (eq : K → K → Bool) (old new : Keyed K V S) (k : K
   pub added : (v : V) (b b' : ℕ) (n : Node) → b' ≡ b → place_of (eq k) (entries_of old) ≡ None
       → AddsNode old new b' n k v
       → AddsEntry eq (state_of old) (state_of new) k v b
-  added v b b' n same p s =
-      adds_key eq (state_of old) (state_of new) k v b p
-      (subst (λ i. AddsAt (state_of old) (state_of new) i k v) same s.state)
+  added v b b' n same p s = record {
+    absent = lookup-unplaced (eq k) (entries_of old) p;
+    adds = rw (put-absent eq (entries_of old) k v b (none_passes_from_place (eq k) (entries_of old) p), ← same)
+        s.state;
+  }
 
   pub refused : (v : V) (pair : K × V) → place_of (eq k) (entries_of old) ≡ None
       → old.spare ≡ 0 → pair ≡ (k, v)
       → GrowsRoom 1 old new
       → RefusesEntry eq (state_of old) (state_of new) k v pair
-  refused v pair p none same s =
-      refuses_key eq (state_of old) (state_of new) k v pair p none same (grown-state 1 old new s)
+  refused v pair p none same s = record {
+    may_refuse = record { absent = lookup-unplaced (eq k) (entries_of old) p; no_spare = none };
+    handed_back = same;
+    grows = record {
+      entries = ap entries_of s.rest;
+      spare = ap (λ m. m.spare) s.rest;
+      room = subst (λ n. RoomFor (n + 1) old.room new.room) (sym (length-values_of old.nodes)) s.more;
+      link_writes = ap (λ m. m.link_writes) s.rest;
+      hasher = ap (λ m. m.hasher) s.rest;
+    };
+  }
 
   -- ---- a key that is there, at the node n
 
   module _ (n : Node) (found : HoldsKey eq old.nodes k n) where
+    -- a new value, and then a move
     pub put : (mid : Keyed K V S) (v w : V) (b b' : ℕ) → b' ≡ b
         → option_map (λ e. e.1) (slice_get (entries_of old) (place_number old.nodes (Some n))) ≡ Some w
         → WritesNode old mid (place_number old.nodes (Some n)) v
@@ -79,51 +76,35 @@ module _ {K V S : Type 0} (eq : K → K → Bool) (old new : Keyed K V S) (k : K
         → PutsEntry eq (state_of old) (state_of new) k v b w
     put mid v w b b' same was s t =
         let j = place_number old.nodes (Some n) in
-        let at : MovesAt (state_of mid) (state_of new) j b =
-        subst (MovesAt (state_of mid) (state_of new) j) same
-        (subst (λ i. MovesAt (state_of mid) (state_of new) i b')
-        (written-number old mid j v (Some n) s) t.state) in
-        puts_key eq (state_of old) (state_of new) k j found.place (state_of mid) v w b was s.state at
-
-    pub written : (v w : V)
-        → option_map (λ e. e.1) (slice_get (entries_of old) (place_number old.nodes (Some n))) ≡ Some w
-        → WritesNode old new (place_number old.nodes (Some n)) v
-        → WritesEntry eq (state_of old) (state_of new) k v w
-    written v w was s =
-        writes_key eq (state_of old) (state_of new) k (place_number old.nodes (Some n))
-        found.place v w was s.state
+        record {
+          old_value = lookup-place (eq k) (entries_of old) j found.place ∙ was;
+          puts = subst (λ es. Changes (state_of old) (state_of new) es 6)
+              (moved_at-put eq (entries_of old) k j found.place v b)
+              (then_moves (state_of old) (state_of mid) (state_of new) _ s.state j _ b' b
+              (written-number s (Some n)) same t.state);
+        }
 
 -- ---- the first key that passes a test, at the node n
 
 module _ {K V S : Type 0} (test : K → Bool) (old new : Keyed K V S) (n : Node)
     (found : HoldsMatch test old.nodes n) where
-  moved-match : (b b' : ℕ) → b' ≡ b → MovesNode old new (place_number old.nodes (Some n)) b'
+  abbrev j : ℕ
+  j = place_number old.nodes (Some n)
+
+  moved-match : (b b' : ℕ) → b' ≡ b → MovesNode old new j b'
       → Changes (state_of old) (state_of new) (moved_match test (entries_of old) b) 6
-  moved-match b b' same s =
-      moves_match test (state_of old) (state_of new) (place_number old.nodes (Some n)) found.place b
-      (subst (MovesAt (state_of old) (state_of new) (place_number old.nodes (Some n))) same s.state)
+  moved-match b b' same s = rw (found.place, ← same) s.state
 
-  pub removed : (e : K × V) → slice_get (entries_of old) (place_number old.nodes (Some n)) ≡ Some e
-      → RemovesNode old new (place_number old.nodes (Some n))
-      → RemovesMatch test (state_of old) (state_of new) (Some e)
-  removed e at s =
-      removes_match test (state_of old) (state_of new) (place_number old.nodes (Some n))
-      found.place e at s.state
+  pub stored : (e : K × V) → slice_get (entries_of old) j ≡ Some e → lookup_entry test (entries_of old) ≡ Some e
+  stored e at = lookup_entry-place test (entries_of old) j found.place ∙ at
 
-  pub stored : (e : K × V) → slice_get (entries_of old) (place_number old.nodes (Some n)) ≡ Some e
-      → lookup_entry test (entries_of old) ≡ Some e
-  stored e at = lookup_entry-place test (entries_of old) (place_number old.nodes (Some n)) found.place ∙ at
-
-  pub stored-value : (w : V)
-      → option_map (λ e. e.1) (slice_get (entries_of old) (place_number old.nodes (Some n))) ≡ Some w
+  pub stored-value : (w : V) → option_map (λ e. e.1) (slice_get (entries_of old) j) ≡ Some w
       → lookup test (entries_of old) ≡ Some w
-  stored-value w at = lookup-place test (entries_of old) (place_number old.nodes (Some n)) found.place ∙ at
+  stored-value w at = lookup-place test (entries_of old) j found.place ∙ at
 
   -- what is written through a loan of the node's value is written at the key
   pub lent : (w : V) → state_of (with_value_at old n w) ≡ with_match_value test (state_of old) w
-  lent w =
-      let j = place_number old.nodes (Some n) in
-      ap (λ es. record (state_of old) { entries = es })
+  lent w = ap (λ es. record (state_of old) { entries = es })
       (values-renewed_value old.nodes j w ∙ set_value_at-place test (entries_of old) j w found.place)
 
 -- a value that is lent at a node that moved before
@@ -139,7 +120,7 @@ module _ {K V S : Type 0} (eq : K → K → Bool) (laws : IsEquivalence eq) (tes
 
   pub moved-found : HoldsMatch test new.nodes n
   moved-found = by_key (λ t. HoldsMatch t new.nodes n)
-      (λ k f. moved-holds_key eq laws old new k n f b' le s sound)
+      (λ k f. moved-holds_key eq laws old new k n f b' s sound)
 
   pub lent-moved : (w : V) → MovesMatchAndWrites test (state_of old) (state_of (with_value_at new n w)) b w
   lent-moved w = record {
@@ -156,7 +137,7 @@ module _ {K V S : Type 0} (eq : K → K → Bool) (laws : IsEquivalence eq) (tes
       by_key (λ t. lookup t (entries_of old) ≡ Some w)
       (λ k f. sym (lookup-moved eq laws k (entries_of old) k b d)
       ∙ ap (lookup (eq k)) (sym (moved-match (eq k) old new n f b b' same s).entries)
-      ∙ stored-value (eq k) new new n (moved-holds_key eq laws old new k n f b' le s sound) w at)
+      ∙ stored-value (eq k) new new n (moved-holds_key eq laws old new k n f b' s sound) w at)
 
 pub is_some-map : {X Y : Type 0} (f : X → Y) (o : Option X) → is_some (option_map f o) ≡ is_some o
 is_some-map f None = refl
@@ -175,38 +156,30 @@ pub shrinks : {K V S E : Type 0} (old new : Keyed K V S) (r : Result (Unit {0}) 
     → (old.nodes ≡ [] → IsOk r) → length (entries_of old) ≤ old.room → Shrinks (state_of old) (state_of new) r
 shrinks old new (Ok x) ok err empty below =
     let long = length-values_of old.nodes in
-    let room : new.room ≡ length old.nodes = ap (λ m. m.room) ok in
-    let kept : entries_of new ≡ entries_of old = ap entries_of ok in
-    record {
-      entries = kept;
-      spare = ap (λ m. m.spare) ok;
-      fits = omega (arith, ap length kept);
+    rw ok (record {
+      entries = refl;
+      spare = refl;
+      fits = omega arith;
       room = omega arith;
-      fitted = room ∙ sym (ap length kept ∙ long);
+      fitted = sym long;
       refused = tt;
       empty = λ none. (refl, omega (arith, ap length none));
-      link_writes = ap (λ m. m.link_writes) ok;
-      hasher = ap (λ m. m.hasher) ok;
-    }
+      link_writes = refl;
+      hasher = refl;
+    })
 shrinks old new (Err e) ok err empty below =
-    let long = length-values_of old.nodes in
-    let room : new.room ≡ old.room = ap (λ m. m.room) err in
-    let kept : entries_of new ≡ entries_of old = ap entries_of err in
-    record {
-      entries = kept;
-      spare = ap (λ m. m.spare) err;
-      fits = omega (arith, ap length kept);
+    rw err (record {
+      entries = refl;
+      spare = refl;
+      fits = omega arith;
       room = omega arith;
       fitted = tt;
-      refused = room;
-      empty = λ none. absurd (refused-empty (empty (nil-values_of old.nodes none)));
-      link_writes = ap (λ m. m.link_writes) err;
-      hasher = ap (λ m. m.hasher) err;
-    }
+      refused = refl;
+      empty = λ none. absurd (cc (empty (nil-values_of old.nodes none)));
+      link_writes = refl;
+      hasher = refl;
+    })
   where
-    refused-empty : IsOk {T = Unit {0}} (Err e) → ⊥
-    refused-empty h = cc
-
     nil-values_of : {X : Type 0} (ns : List (Node × X)) → values_of ns ≡ [] → ns ≡ []
     nil-values_of [] h = refl
     nil-values_of (x ∷ ns) h = cc

@@ -1,6 +1,6 @@
 -- What the calls of the keyed list leave, from the clauses of the ring and of the table.
 use Rattle.std.proofs.Common.{◌≡◌, Result, Ok, Err, OnOk, OnErr, ℕ, ◌+◌, ◌-◌, ◌≤◌, Bool, true, List, ◌∷◌}
-use Rattle.std.proofs.Common.{◌++◌, length, drop, Option, None, Some, refl, ap, sym, subst, ◌∙◌, arith}
+use Rattle.std.proofs.Common.{◌++◌, length, drop, Option, None, Some, refl, ap, ap₂, sym, subst, ◌∙◌, arith}
 use Rattle.std.proofs.Common.{length-drop}
 use Rattle.std.specs.Prelude.{slice_get, insert, remove, IsPermutation}
 use Rattle.std.specs.List.{IsDistinct}
@@ -9,10 +9,10 @@ use Rattle.std.specs.Cmp.{IsEquivalence}
 use Rattle.std.specs.Int.{IsPowerOfTwo}
 use Rattle.std.specs.Map.{lookup, remove_entry, set_value, keys_of, values_of}
 use Rattle.std.proofs.lemmas.Map.{NonePasses, lookup-none}
-use Rattle.std.proofs.lemmas.Option.{slice_get-map}
+use Rattle.std.proofs.lemmas.Map.Entries.{length-values_of}
 use Rattle.hashlink_model.specs.Cursor.{following_place, preceding_place}
-use Rattle.hashlink_model.specs.MapState.{HasRoom}
-use Rattle.hashlink_model.specs.Entries.{IsEntries, place_of, moved_at, place_left}
+use Rattle.hashlink_model.specs.MapState.{Changes, StoresAtMost}
+use Rattle.hashlink_model.specs.Entries.{place_of, moved_at, place_left}
 use Rattle.hashlink_nodes.specs.declared.node.Node.{Node}
 use Rattle.hashlink_nodes.specs.declared.held.Held.{Held}
 use Rattle.hashlink_nodes.specs.Node.{same_node, same_node_equiv}
@@ -26,309 +26,235 @@ use Rattle.hashlink_core.specs.KeyedLends.{with_value_at}
 use Rattle.hashlink_core.specs.Places.{place_number, IsPlaceAt, renewed_at}
 use Rattle.hashlink_core.specs.Steps.{AddsNode, RemovesNode, MovesNode, WritesNode, SetsNodeKey, GrowsRoom}
 use Rattle.hashlink_core.specs.Tied.{IsInStep, short}
-use Rattle.hashlink_core.proofs.Edits.{insert-map, remove-map, length-inserted, length-removed}
-use Rattle.hashlink_core.proofs.Edits.{remove_entry-at, moved_at-is, none-inserted, none_from_place}
-use Rattle.hashlink_core.proofs.Edits.{passes-at}
-use Rattle.std.proofs.lemmas.Map.Entries.{length-values_of}
+use Rattle.hashlink_core.proofs.Edits.{insert-map, remove-map, length-inserted, length-removed, moved-map}
+use Rattle.hashlink_core.proofs.Edits.{remove_entry-at, moved_at-is, none-inserted, passes-at}
 use Rattle.hashlink_core.proofs.Mapped.{length-mapped, remove_entry-mapped, keys-mapped, lookup-mapped}
-use Rattle.hashlink_core.proofs.Mapped.{holds-mapped, place_number-mapped, renewed-mapped, moved-map}
-use Rattle.hashlink_core.proofs.Mapped.{values-renewed_value, values-renewed_key}
+use Rattle.hashlink_core.proofs.Mapped.{place_number-mapped, renewed-mapped, values-renewed_value}
+use Rattle.hashlink_core.proofs.Mapped.{values-renewed_key}
 use Rattle.hashlink_core.proofs.Neighbours.{distinct-left, next-number, prev-number}
 use Rattle.hashlink_core.proofs.Places.{IsNodeAt, node-at, put_before-at, set_value-at, renewed_at-is}
-use Rattle.hashlink_core.proofs.Places.{moves_before-at, moves_after-at}
-use Rattle.hashlink_core.proofs.Stepping.{pair-at, length-pairs, step-in, step-out, step-renewed}
-use Rattle.hashlink_core.proofs.Stores.{stores-exactly}
-use Rattle.hashlink_core.proofs.Tying.{kept}
+use Rattle.hashlink_core.proofs.Places.{moves_before-at, moves_after-at, same-number, same-place}
+use Rattle.hashlink_core.proofs.Stepping.{pair-at, length-pairs, step-in, step-out, step-renewed, kept}
+use Rattle.hashlink_core.proofs.Steps.{none_passes_from_place}
+
+-- a step that stored n links stored n at most
+stores-exactly : (n old new : ℕ) → new ≡ old + n → StoresAtMost n old new
+stores-exactly n old new is = record { grows = omega (arith, is); bound = omega (arith, is) }
 
 or-some : {X Y : Type 0} (f : X → Y) (d : Y) (o : Option X) → IfSome o (λ x. option_map_or f o d ≡ f x)
 or-some f d None = tt
 or-some f d (Some x) = refl
 
-abbrev with_nodes : {K V S : Type 0} → List (Node × (K × V)) → Keyed K V S → Keyed K V S
-with_nodes ns m = record m { nodes = ns }
-
--- ---- the step of a map that an edit of the nodes is
-module _ {K V S : Type 0} (old new : Keyed K V S) (room : new.room ≡ old.room)
-    (hasher : new.hasher ≡ old.hasher) where
-  removes-node : (j : ℕ) (e : Node × (K × V)) → slice_get old.nodes j ≡ Some e → new.nodes
-      ≡ remove old.nodes j
-      → new.spare ≡ old.spare + 1 → new.link_writes ≡ old.link_writes + 3 → RemovesNode old new j
-  removes-node j e at nodes more stored = record {
-    nodes = nodes;
-    state = record {
-      entries = ap values_of nodes ∙ remove-map (λ e. e.1) old.nodes j;
-      fewer = length-removed (entries_of old) j e.1 (slice_get-map (λ e. e.1) old.nodes j
-          ∙ ap (option_map (λ e. e.1)) at);
-      spare = more;
-      room = room;
-      link_writes = stores-exactly 3 old.link_writes new.link_writes stored;
-      hasher = hasher;
-    };
-  }
-
-  moves-node : (j b : ℕ) → new.nodes ≡ moved_at old.nodes j b → new.spare ≡ old.spare
-      → new.link_writes ≡ old.link_writes + 6 → MovesNode old new j b
-  moves-node j b nodes same stored = record {
-    nodes = nodes;
-    state = record {
-      entries = ap values_of nodes ∙ moved-map (λ e. e.1) old.nodes j b;
-      spare = same;
-      room = room;
-      link_writes = stores-exactly 6 old.link_writes new.link_writes stored;
-      hasher = hasher;
-    };
-  }
-
-  writes-node : (j : ℕ) (v : V) → new.nodes ≡ renewed_at (pair_with_value v) old.nodes j
-      → new.spare ≡ old.spare
-      → new.link_writes ≡ old.link_writes → WritesNode old new j v
-  writes-node j v nodes same stored = record {
-    nodes = nodes;
-    state = record {
-      entries = ap values_of nodes ∙ values-renewed_value old.nodes j v;
-      spare = same;
-      room = room;
-      link_writes = stores-exactly 0 old.link_writes new.link_writes (omega (arith, stored));
-      hasher = hasher;
-    };
-  }
-
-  sets-key : (j : ℕ) (k : K) → new.nodes ≡ renewed_at (pair_with_key k) old.nodes j → new.spare ≡ old.spare
-      → new.link_writes ≡ old.link_writes → SetsNodeKey old new j k
-  sets-key j k nodes same stored = record {
-    nodes = nodes;
-    state = record {
-      entries = ap values_of nodes ∙ values-renewed_key old.nodes j k;
-      spare = same;
-      room = room;
-      link_writes = stores-exactly 0 old.link_writes new.link_writes (omega (arith, stored));
-      hasher = hasher;
-    };
-  }
-
--- ---- with the ring r and the table t inside, the list is seen as `seen`
-module _ {K V S : Type 0} {eq : K → K → Bool} (laws : IsEquivalence eq) {hash : K → ℕ} {s : S} {r : Ring K V}
-    {t : Contents Node} {seen : Keyed K V S} (view : seen_as r t s ≡ seen) (step : IsInStep eq hash r t) where
-  seen-fits : (r' : Ring K V) (t' : Contents Node) → IsInStep eq hash r' t'
-      → HasRoom (state_of (seen_as r' t' s))
-  seen-fits r' t' step' = omega (arith, step'.fits, length-pairs r'.entries)
-
-  pub sound : IsKeyed eq seen
-  sound = subst (IsKeyed eq) view (record {
+-- a list is sound where its ring and its table are in step
+module _ {K V S : Type 0} {eq : K → K → Bool} {hash : K → ℕ} {s : S} {r : Ring K V} {t : Contents Node} where
+  pub sound : {seen : Keyed K V S} → seen_as r t s ≡ seen → IsInStep eq hash r t → IsKeyed eq seen
+  sound view step = subst (IsKeyed eq) view (record {
     distinct = step.distinct;
     apart = subst (IsDistinct same_node) (sym (keys-mapped pair_of r.entries)) step.apart;
-    fits = seen-fits r t step;
+    fits = omega (arith, step.fits, length-pairs r.entries);
   })
 
-  pub number-inside : (p : Option Node) → place_number seen.nodes p ≡ place_number r.entries p
-  number-inside p = ap (λ m. place_number m.nodes p) (sym view) ∙ place_number-mapped pair_of r.entries p
+-- with the ring r and the table t inside, the list is seen as `seen`
+module _ {K V S : Type 0} {eq : K → K → Bool} (laws : IsEquivalence eq) {hash : K → ℕ} {s : S} {r : Ring K V}
+    {t : Contents Node} {seen : Keyed K V S} (view : seen_as r t s ≡ seen) (step : IsInStep eq hash r t) where
+  nodes-seen : nodes_of r.entries ≡ seen.nodes
+  nodes-seen = ap (λ m. m.nodes) view
+
+  -- the nodes, as the ring has them
+  keys-inside : keys_of seen.nodes ≡ keys_of r.entries
+  keys-inside = ap keys_of (sym nodes-seen) ∙ keys-mapped pair_of r.entries
+
+  number-inside : (p : Option Node) → place_number seen.nodes p ≡ place_number r.entries p
+  number-inside p = same-number seen.nodes r.entries p keys-inside
 
   pub place-inside : (p : Option Node) → IsPlace seen.nodes p → IsPlace r.entries p
-  place-inside None within = tt
-  place-inside (Some m) within = holds-mapped pair_of r.entries m
-      (subst (λ m'. Holds m'.nodes m) (sym view) within)
+  place-inside p = same-place seen.nodes r.entries p keys-inside
 
   -- a place of the list without the node
   pub rest-inside : (n : Node) (p : Option Node) → IsPlace (remove_entry (same_node n) seen.nodes) p
       → IsPlace (remove_entry (same_node n) r.entries) p
-  rest-inside n None within = tt
-  rest-inside n (Some m) within =
-      holds-mapped pair_of (remove_entry (same_node n) r.entries) m
-      (subst (λ ns. Holds ns m) (sym (remove_entry-mapped pair_of (same_node n) r.entries))
-      (subst (λ l. Holds (remove_entry (same_node n) l.nodes) m) (sym view) within))
-
-  pub apart-seen : IsEntries same_node seen.nodes
-  apart-seen = sound.apart
-
-  -- the nodes, as the ring has them
-  pub keys-inside : keys_of seen.nodes ≡ keys_of r.entries
-  keys-inside = ap (λ m. keys_of m.nodes) (sym view) ∙ keys-mapped pair_of r.entries
+  rest-inside n p =
+      same-place (remove_entry (same_node n) seen.nodes) (remove_entry (same_node n) r.entries) p
+      (ap (λ ns. keys_of (remove_entry (same_node n) ns)) (sym nodes-seen)
+      ∙ ap keys_of (sym (remove_entry-mapped pair_of (same_node n) r.entries))
+      ∙ keys-mapped pair_of (remove_entry (same_node n) r.entries))
 
   -- the place that the ring answers
   pub next-inside : (p q : Option Node) → IsPlace seen.nodes p → q ≡ next_place (keys_of r.entries) p
       → IsPlaceAt seen.nodes q (following_place (length seen.nodes) (place_number seen.nodes p))
-  next-inside p q within is =
-      subst (λ o. IsPlaceAt seen.nodes o (following_place (length seen.nodes) (place_number seen.nodes p)))
-      (sym (is ∙ ap (λ ns. next_place ns p) (sym keys-inside))) (next-number seen.nodes apart-seen p within)
+  next-inside p q within is = rw (is, ← keys-inside) (next-number seen.nodes (sound view step).apart p within)
 
   pub prev-inside : (p q : Option Node) → IsPlace seen.nodes p → q ≡ prev_place (keys_of r.entries) p
       → IsPlaceAt seen.nodes q (preceding_place (length seen.nodes) (place_number seen.nodes p))
-  prev-inside p q within is =
-      subst (λ o. IsPlaceAt seen.nodes o (preceding_place (length seen.nodes) (place_number seen.nodes p)))
-      (sym (is ∙ ap (λ ns. prev_place ns p) (sym keys-inside))) (prev-number seen.nodes apart-seen p within)
+  prev-inside p q within is = rw (is, ← keys-inside) (prev-number seen.nodes (sound view step).apart p within)
+
+  -- as many nodes are spare as before
+  changed : (s' : Ring K V) (es : List (K × V)) (n : ℕ) → pairs_in s'.entries ≡ es → s'.free ≡ r.free
+      → s'.link_writes ≡ r.link_writes + n
+      → Changes (state_of seen) (state_of (seen_as s' t s)) es n
+  changed s' es n is free stored = record {
+    entries = is;
+    spare = ap length free ∙ ap (λ m. m.spare) view;
+    room = ap (λ m. m.room) view;
+    link_writes = stores-exactly n _ _ (stored ∙ ap (λ m. m.link_writes + n) view);
+    hasher = ap (λ m. m.hasher) view;
+  }
 
   module _ (n : Node) (within : Holds seen.nodes n) where
     pub held-inside : Holds r.entries n
-    held-inside = holds-mapped pair_of r.entries n (subst (λ m. Holds m.nodes n) (sym view) within)
+    held-inside = place-inside (Some n) within
+
+    -- its place, in the ring and in the list
+    abbrev i : ℕ
+    i = place_number r.entries (Some n)
+
+    abbrev j : ℕ
+    j = place_number seen.nodes (Some n)
+
+    same-here : i ≡ j
+    same-here = sym (number-inside (Some n))
 
     -- what the node holds, and where it stands
     at : (h : Held K V) × IsNodeAt r.entries n h
     at = node-at r.entries n held-inside
 
-    pub stored : slice_get (entries_of seen) (place_number seen.nodes (Some n))
-        ≡ option_map pair_of (lookup (same_node n) r.entries)
-    stored =
-        subst (λ m. slice_get (entries_of m) (place_number m.nodes (Some n))
-        ≡ option_map pair_of (lookup (same_node n) r.entries)) view
-        (ap (slice_get (pairs_in r.entries)) (place_number-mapped pair_of r.entries (Some n))
-        ∙ pair-at r.entries (place_number r.entries (Some n)) n at.0 at.1.at
-        ∙ sym (ap (option_map pair_of) at.1.found))
+    pub stored : slice_get (entries_of seen) j ≡ option_map pair_of (lookup (same_node n) r.entries)
+    stored = ap₂ (λ ns k. slice_get (values_of ns) k) (sym nodes-seen) (sym same-here)
+        ∙ pair-at r.entries i n at.0 at.1.at ∙ sym (ap (option_map pair_of) at.1.found)
 
     -- a part of what it holds
     pub part-stored : {Y : Type 0} (f : Held K V → Y) (g : K × V → Y) → ((h : Held K V) → f h ≡ g (pair_of h))
         → (y : Y) → option_map f (lookup (same_node n) r.entries) ≡ Some y
-        → option_map g (slice_get (entries_of seen) (place_number seen.nodes (Some n))) ≡ Some y
+        → option_map g (slice_get (entries_of seen) j) ≡ Some y
     part-stored f g same y is =
         let held : f at.0 ≡ y = cc (sym (ap (option_map f) at.1.found) ∙ is) in
         ap (option_map g) (stored ∙ ap (option_map pair_of) at.1.found) ∙ ap Some (sym (same at.0) ∙ held)
-
-    -- its key is equal to the one at whose place it stands
-    pub key-equal : (k : K) → HoldsKey eq seen.nodes k n → (h : Held K V)
-        → lookup (same_node n) r.entries ≡ Some h
-        → eq k h.key ≡ true
-    key-equal k holds h is = passes-at (eq k) (entries_of seen) (place_number seen.nodes (Some n)) (pair_of h)
-        holds.place (stored ∙ ap (option_map pair_of) is)
 
     -- ---- the node left the table, and then the ring
     module _ (s' : Ring K V) (u : Contents Node) (number : ℕ)
         (numbered : option_map (λ h. h.number) (lookup (same_node n) r.entries) ≡ Some number)
         (left : IsPermutation t.nodes (kept number n ∷ u.nodes)) (room : u.room ≡ t.room)
         (removed : s'.entries ≡ remove_entry (same_node n) r.entries) (freed : s'.free ≡ n ∷ r.free) where
+      gone : s'.entries ≡ remove r.entries i
+      gone = removed ∙ remove_entry-at same_node r.entries n
+
       pub removed-step : IsInStep eq hash s' u
       removed-step =
           let same : number ≡ at.0.number =
           cc (sym (ap (option_map (λ h. h.number)) at.1.found) ∙ numbered) in
-          let more : length s'.free ≡ length r.free + 1 = omega (arith, ap length freed) in
-          step-out laws r s' t n at.0 step (place_number r.entries (Some n)) at.1.at u (removed
-          ∙ remove_entry-at same_node r.entries n) more
-          (subst (λ i. IsPermutation t.nodes (kept i n ∷ u.nodes)) same left) room
+          step-out laws r s' t n at.0 i step at.1.at u gone (omega (arith, ap length freed))
+          (subst (λ k. IsPermutation t.nodes (kept k n ∷ u.nodes)) same left) room
 
-      pub removed-node : s'.link_writes ≡ r.link_writes + 3
-          → RemovesNode seen (seen_as s' u s) (place_number seen.nodes (Some n))
-      removed-node stored =
-          let new = seen_as s' u s in
-          let e = node-at (nodes_of r.entries) n (subst (λ m. Holds m.nodes n) (sym view) within) in
-          let gone : nodes_of s'.entries
-          ≡ remove (nodes_of r.entries) (place_number (nodes_of r.entries) (Some n)) =
-          ap nodes_of (removed ∙ remove_entry-at same_node r.entries n)
-          ∙ remove-map (λ (e : Node × Held K V). (e.0, pair_of e.1)) r.entries
-          (place_number r.entries (Some n))
-          ∙ ap (remove (nodes_of r.entries)) (sym (place_number-mapped pair_of r.entries (Some n))) in
-          let more : length s'.free ≡ length r.free + 1 = omega (arith, ap length freed) in
-          subst (λ m. RemovesNode m new (place_number m.nodes (Some n))) view
-          (removes-node (seen_as r t s) new room refl
-          (place_number (nodes_of r.entries) (Some n)) (n, e.0) e.1.at gone more stored)
+      pub removed-node : s'.link_writes ≡ r.link_writes + 3 → RemovesNode seen (seen_as s' u s) j
+      removed-node more =
+          let nodes : nodes_of s'.entries ≡ remove seen.nodes j =
+          ap nodes_of gone ∙ remove-map (λ (e : Node × Held K V). (e.0, pair_of e.1)) r.entries i
+          ∙ ap₂ remove nodes-seen same-here in
+          record {
+            nodes = nodes;
+            state = record {
+              entries = ap values_of nodes ∙ remove-map (λ e. e.1) seen.nodes j;
+              fewer = length-removed (entries_of seen) j (pair_of at.0)
+                  (stored ∙ ap (option_map pair_of) at.1.found);
+              spare = omega (arith, ap length freed, ap (λ m. m.spare) view);
+              room = room ∙ ap (λ m. m.room) view;
+              link_writes = stores-exactly 3 _ _ (more ∙ ap (λ m. m.link_writes + 3) view);
+              hasher = ap (λ m. m.hasher) view;
+            };
+          }
 
-    -- ---- the node moved right before, or right after, another place
-    module _ (p : Option Node) (place : IsPlace (remove_entry (same_node n) seen.nodes) p)
-        (es : List (Node × Held K V)) where
-      pub to-before : MovesBefore r.entries n p es
-          → es ≡ moved_at r.entries (place_number r.entries (Some n)) (place_number seen.nodes p)
-      to-before m =
-          moves_before-at r.entries n p step.apart held-inside (rest-inside n p place) es m
-          ∙ ap (moved_at r.entries (place_number r.entries (Some n))) (sym (number-inside p))
+    -- ---- the node moved to the place b, right before or right after another one
+    module _ (s' : Ring K V) (free : s'.free ≡ r.free) (more : s'.link_writes ≡ r.link_writes + 6) where
+      moved : (b : ℕ) → s'.entries ≡ moved_at r.entries i b
+          → IsInStep eq hash s' t × MovesNode seen (seen_as s' t s) j b
+      moved b to =
+          let nodes : nodes_of s'.entries ≡ moved_at seen.nodes j b =
+          ap nodes_of to ∙ moved-map (λ (e : Node × Held K V). (e.0, pair_of e.1)) r.entries i b
+          ∙ ap₂ (λ ns k. moved_at ns k b) nodes-seen same-here in (
+            step-renewed laws r s' t n at.0 at.0 i (place_left i b) step at.1.at
+                (to ∙ moved_at-is r.entries i b (n, at.0) at.1.at) refl (laws.refl at.0.key) refl
+                (ap length free),
+            record {
+              nodes = nodes;
+              state = changed s' _ 6 (ap values_of nodes ∙ moved-map (λ e. e.1) seen.nodes j b) free more;
+            },
+          )
 
-      pub to-after : MovesAfter r.entries n p es
-          → es ≡ moved_at r.entries (place_number r.entries (Some n))
-          (following_place (length seen.nodes) (place_number seen.nodes p))
-      to-after m =
-          moves_after-at r.entries n p step.apart held-inside (rest-inside n p place) es m
-          ∙ ap (λ b. moved_at r.entries (place_number r.entries (Some n))
-          (following_place (length r.entries) b))
-          (sym (number-inside p))
-          ∙ ap (λ c. moved_at r.entries (place_number r.entries (Some n))
-          (following_place c (place_number seen.nodes p))) (sym (number-inside None))
+      module _ (p : Option Node) (place : IsPlace (remove_entry (same_node n) seen.nodes) p) where
+        pub moved-before : MovesBefore r.entries n p s'.entries
+            → IsInStep eq hash s' t × MovesNode seen (seen_as s' t s) j (place_number seen.nodes p)
+        moved-before m = moved (place_number seen.nodes p) (rw (number-inside p)
+            (moves_before-at r.entries n p step.apart held-inside (rest-inside n p place) s'.entries m))
 
-    -- to the place b
-    module _ (s' : Ring K V) (b : ℕ) (moved : s'.entries ≡ moved_at r.entries
-        (place_number r.entries (Some n)) b) (free : s'.free ≡ r.free) where
-      pub moved-step : IsInStep eq hash s' t
-      moved-step = step-renewed laws r s' t n at.0 step (place_number r.entries (Some n)) at.1.at
-          (place_left (place_number r.entries (Some n)) b) at.0
-          (moved ∙ moved_at-is r.entries (place_number r.entries (Some n)) b (n, at.0) at.1.at) refl
-          (laws.refl at.0.key) refl (ap length free)
-
-      pub moved-node : s'.link_writes ≡ r.link_writes + 6
-          → MovesNode seen (seen_as s' t s) (place_number seen.nodes (Some n)) b
-      moved-node stored =
-          let new = seen_as s' t s in
-          let there : nodes_of s'.entries
-          ≡ moved_at (nodes_of r.entries) (place_number (nodes_of r.entries) (Some n)) b =
-          ap nodes_of moved ∙ moved-map (λ (e : Node × Held K V). (e.0, pair_of e.1)) r.entries
-          (place_number r.entries (Some n)) b
-          ∙ ap (λ i. moved_at (nodes_of r.entries) i b)
-          (sym (place_number-mapped pair_of r.entries (Some n))) in
-          subst (λ m. MovesNode m new (place_number m.nodes (Some n)) b) view
-          (moves-node (seen_as r t s) new refl refl (place_number (nodes_of r.entries) (Some n)) b there
-          (ap length free) stored)
+        pub moved-after : MovesAfter r.entries n p s'.entries → IsInStep eq hash s' t
+            × MovesNode seen (seen_as s' t s) j (following_place (length seen.nodes) (place_number seen.nodes p))
+        moved-after m = moved _ (rw (number-inside p, number-inside None)
+            (moves_after-at r.entries n p step.apart held-inside (rest-inside n p place) s'.entries m))
 
     -- ---- its entry was changed where it stands
-    module _ (s' : Ring K V) (f : Held K V
-        → Held K V) (set : IfSome (lookup (same_node n) r.entries)
+    module _ (s' : Ring K V) (f : Held K V → Held K V) (set : IfSome (lookup (same_node n) r.entries)
         (λ h. s'.entries ≡ set_value (same_node n) r.entries (f h))) (free : s'.free ≡ r.free) where
-      renewed : s'.entries ≡ renewed_at f r.entries (place_number r.entries (Some n))
-      renewed = subst (λ o. IfSome o (λ h. s'.entries ≡ set_value (same_node n) r.entries (f h)))
-          at.1.found set ∙ set_value-at f r.entries n at.0 at.1.found
+      renewed : s'.entries ≡ renewed_at f r.entries i
+      renewed = (rw at.1.found at set) ∙ set_value-at f r.entries n at.0 at.1.found
 
-      pub renewed-step : ((h : Held K V) → (f h).number ≡ h.number)
+      renewed-step : ((h : Held K V) → (f h).number ≡ h.number)
           → ((h : Held K V) → lookup (same_node n) r.entries ≡ Some h → (eq h.key (f h).key ≡ true)
           × (hash (f h).key ≡ hash h.key)) → IsInStep eq hash s' t
       renewed-step number key =
-          step-renewed laws r s' t n at.0 step (place_number r.entries (Some n)) at.1.at
-          (place_number r.entries (Some n)) (f at.0)
-          (renewed ∙ renewed_at-is f r.entries (place_number r.entries (Some n)) (n, at.0) at.1.at)
-          (number at.0)
+          step-renewed laws r s' t n at.0 (f at.0) i i step at.1.at
+          (renewed ∙ renewed_at-is f r.entries i (n, at.0) at.1.at) (number at.0)
           (key at.0 at.1.found).0 (key at.0 at.1.found).1 (ap length free)
 
-      pub renewed-nodes : (g : K × V → K × V) → ((h : Held K V) → pair_of (f h) ≡ g (pair_of h))
-          → nodes_of s'.entries ≡ renewed_at g seen.nodes (place_number seen.nodes (Some n))
-      renewed-nodes g same =
-          subst (λ m. nodes_of s'.entries ≡ renewed_at g m.nodes (place_number m.nodes (Some n))) view
-          (ap nodes_of renewed ∙ renewed-mapped pair_of f g same r.entries (place_number r.entries (Some n))
-          ∙ ap (renewed_at g (nodes_of r.entries)) (sym (place_number-mapped pair_of r.entries (Some n))))
+      renewed-nodes : (g : K × V → K × V) → ((h : Held K V) → pair_of (f h) ≡ g (pair_of h))
+          → nodes_of s'.entries ≡ renewed_at g seen.nodes j
+      renewed-nodes g same = ap nodes_of renewed ∙ renewed-mapped pair_of f g same r.entries i
+          ∙ ap₂ (renewed_at g) nodes-seen same-here
 
-      module _ (stored : s'.link_writes ≡ r.link_writes) where
-        pub written-node : (v : V) → ((h : Held K V) → pair_of (f h) ≡ pair_with_value v (pair_of h))
-            → WritesNode seen (seen_as s' t s) (place_number seen.nodes (Some n)) v
-        written-node v same =
-            writes-node seen (seen_as s' t s) (ap (λ m. m.room) view) (ap (λ m. m.hasher) view)
-            (place_number seen.nodes (Some n)) v (renewed-nodes (pair_with_value v) same)
-            (ap length free ∙ ap (λ m. m.spare) view) (stored ∙ ap (λ m. m.link_writes) view)
+    -- its value is v now
+    pub value-written : (s' : Ring K V) (v : V) → IfSome (lookup (same_node n) r.entries)
+        (λ h. s'.entries ≡ set_value (same_node n) r.entries (with_value h v))
+        → s'.free ≡ r.free → s'.link_writes ≡ r.link_writes
+        → IsInStep eq hash s' t × WritesNode seen (seen_as s' t s) j v
+    value-written s' v set free none =
+        let nodes = renewed-nodes s' (λ h. with_value h v) set free (pair_with_value v) (λ h. refl) in (
+          renewed-step s' (λ h. with_value h v) set free (λ h. refl) (λ h is. (laws.refl h.key, refl)),
+          record {
+            nodes = nodes;
+            state = changed s' _ 0 (ap values_of nodes ∙ values-renewed_value seen.nodes j v) free
+                (omega (arith, none));
+          },
+        )
 
-        pub key-node : (k : K) → ((h : Held K V) → pair_of (f h) ≡ pair_with_key k (pair_of h))
-            → SetsNodeKey seen (seen_as s' t s) (place_number seen.nodes (Some n)) k
-        key-node k same =
-            sets-key seen (seen_as s' t s) (ap (λ m. m.room) view) (ap (λ m. m.hasher) view)
-            (place_number seen.nodes (Some n)) k (renewed-nodes (pair_with_key k) same)
-            (ap length free ∙ ap (λ m. m.spare) view) (stored ∙ ap (λ m. m.link_writes) view)
+    -- its key became the equal k
+    pub key-written : (s' : Ring K V) (k : K) → IfSome (lookup (same_node n) r.entries)
+        (λ h. s'.entries ≡ set_value (same_node n) r.entries (with_key h k))
+        → s'.free ≡ r.free → s'.link_writes ≡ r.link_writes
+        → ((HoldsKey eq seen.nodes k n × ((x : K) → eq k x ≡ true → hash x ≡ hash k)) → IsInStep eq hash s' t)
+        × SetsNodeKey seen (seen_as s' t s) j k
+    key-written s' k set free none =
+        let nodes = renewed-nodes s' (λ h. with_key h k) set free (pair_with_key k) (λ h. refl) in (
+          λ same. renewed-step s' (λ h. with_key h k) set free (λ h. refl) (λ h is.
+              let e : eq k h.key ≡ true = passes-at (eq k) (entries_of seen) j (pair_of h) same.0.place
+              (stored ∙ ap (option_map pair_of) is) in
+              (laws.symm h.key k ∙ e, sym (same.1 h.key e))),
+          record {
+            nodes = nodes;
+            state = changed s' _ 0 (ap values_of nodes ∙ values-renewed_key seen.nodes j k) free
+                (omega (arith, none));
+          },
+        )
 
-    -- ---- its key became an equal one
-    pub rekeyed-step : (s' : Ring K V) (k : K) → HoldsKey eq seen.nodes k n
-        → ((x : K) → eq k x ≡ true → hash x ≡ hash k)
-        → IfSome (lookup (same_node n) r.entries)
-        (λ h. s'.entries ≡ set_value (same_node n) r.entries (with_key h k)) → s'.free ≡ r.free
-        → IsInStep eq hash s' t
-    rekeyed-step s' k holds alike set free = renewed-step s' (λ h. with_key h k) set free (λ h. refl)
-        (λ h is. let e : eq k h.key ≡ true = key-equal k holds h is in
-        (laws.symm h.key k ∙ e, sym (alike h.key e)))
-
-    -- ---- its value was lent, and w written there
-    module _ (w : V) where
-      lent-set : IfSome (lookup (same_node n) r.entries) (λ h. (ring_with_value_at r n w).entries
-          ≡ set_value (same_node n) r.entries (with_value h w))
-      lent-set = or-some (λ (h : Held K V). set_value (same_node n) r.entries (with_value h w)) r.entries
-          (lookup (same_node n) r.entries)
-
-      pub lent-step : IsInStep eq hash (ring_with_value_at r n w) t
-      lent-step = renewed-step (ring_with_value_at r n w) (λ h. with_value h w) lent-set refl (λ h. refl)
-          (λ h is. (laws.refl h.key, refl))
-
-      pub lent-value : seen_as (ring_with_value_at r n w) t s ≡ with_value_at seen n w
-      lent-value = ap (λ ns. keyed ns (length r.free) t.room r.link_writes s)
-          (renewed-nodes (ring_with_value_at r n w) (λ h. with_value h w) lent-set refl (pair_with_value w)
-          (λ h. refl))
-          ∙ ap (with_nodes (renewed_at (pair_with_value w) seen.nodes (place_number seen.nodes (Some n))))
-          view
+    -- its value was lent, and w written there
+    pub lent : (w : V) → IsInStep eq hash (ring_with_value_at r n w) t
+        × (seen_as (ring_with_value_at r n w) t s ≡ with_value_at seen n w)
+    lent w =
+        let set = or-some (λ (h : Held K V). set_value (same_node n) r.entries (with_value h w)) r.entries
+        (lookup (same_node n) r.entries) in
+        let written = value-written (ring_with_value_at r n w) w set refl refl in (
+          written.0,
+          ap (λ ns. keyed ns (length r.free) t.room r.link_writes s) written.1.nodes
+              ∙ ap (λ (m : Keyed K V S). record m { nodes = renewed_at (pair_with_value w) seen.nodes j }) view,
+        )
 
   -- ---- a new node n for the absent key k went in right before the place p; before room was made for it the
   -- list was `old`
@@ -356,11 +282,11 @@ module _ {K V S : Type 0} {eq : K → K → Bool} (laws : IsEquivalence eq) {has
     pub added-step : number ≡ short (hash k) → IsInStep eq hash r' u
     added-step is =
         let none : NonePasses (eq k) (pairs_in r.entries) =
-        none_from_place (eq k) (pairs_in r.entries) (ap (λ ns. place_of (eq k) (values_of ns)) same-nodes
+        none_passes_from_place (eq k) (pairs_in r.entries) (ap (λ ns. place_of (eq k) (values_of ns)) same-nodes
         ∙ absent) in
         let room : length r.entries + 1 ≤ t.room =
         omega (arith, ready, length-mapped pair_of r.entries, ap length same-nodes, ap (λ m. m.room) view) in
-        step-in laws r r' t n (held number k v) step (place_number r.entries p) u none fresh-inside put-at is
+        step-in laws r r' t u n (held number k v) (place_number r.entries p) step none fresh-inside put-at is
         came kept_room room fewer-free
 
     pub added-node : IsInStep eq hash r' u → r'.link_writes ≡ r.link_writes + 4
@@ -394,7 +320,7 @@ module _ {K V S : Type 0} {eq : K → K → Bool} (laws : IsEquivalence eq) {has
               bound = omega (arith, grown.more.bound, room, long);
               power = λ le. subst IsPowerOfTwo (sym room) (grown.more.power (omega (arith, le, room)));
             };
-            fits = seen-fits r' u after;
+            fits = (sound {s = s} refl after).fits;
             link_writes = stores-exactly 4 old.link_writes r'.link_writes (stored
                 ∙ ap (λ w. w + 4) (ap (λ m. m.link_writes) before));
             hasher = ap (λ m. m.hasher) before;

@@ -1,78 +1,85 @@
 -- Lists edited at an index, and the place of a key in a list.
-use Rattle.std.proofs.Common.{◌≡◌, ◌⊎◌, inl, inr, ℕ, zero, suc, ◌+◌, ◌-◌, ◌<◌, ◌≤◌, Bool, true, false, cond}
-use Rattle.std.proofs.Common.{List, [], ◌∷◌, ◌++◌, length, take, drop, Option, None, Some, refl, ap, sym}
-use Rattle.std.proofs.Common.{subst, ◌∙◌, arith, add-one, map, lt-ltb, le-ltb, ltb-true, ltb-false}
-use Rattle.std.specs.Prelude.{slice_get, insert, remove, nat_lt, unwrap_or}
-use Rattle.std.specs.Option.{option_map}
+use Rattle.std.proofs.Common.{◌≡◌, ℕ, zero, suc, ◌+◌, ◌-◌, ◌<◌, ◌≤◌, Bool, true, false, cond, List, [], ◌∷◌}
+use Rattle.std.proofs.Common.{◌++◌, length, take, drop, Option, None, Some, refl, ap, sym, subst, ◌∙◌, arith}
+use Rattle.std.proofs.Common.{add-one, map, lt-ltb, le-ltb}
+use Rattle.std.specs.Prelude.{slice_get, insert, remove, unwrap_or, Contains}
+use Rattle.std.specs.Option.{option_map, option_map_or}
 use Rattle.std.specs.Map.{remove_entry}
 use Rattle.std.specs.Cmp.{IsEquivalence}
+use Rattle.std.proofs.lemmas.Bool.Decides.{nat_tests}
 use Rattle.std.proofs.lemmas.Map.{NonePasses}
-use Rattle.std.proofs.lemmas.List.{take-append-drop, length-append}
+use Rattle.std.proofs.lemmas.List.{take-append-drop, map-append, take-map, drop-map}
+use Rattle.std.proofs.lemmas.List.Sorted.{length_permutation, IsPermutation-insert}
+use Rattle.std.proofs.lemmas.List.Edits.{length-remove, get_or-insert_at}
+use Rattle.std.proofs.lemmas.Option.{slice_get-map, slice_get_within, slice_get-get_or, get_or_from_slice_get}
 use Rattle.hashlink_model.specs.Entries.{IsEntries, place_of, place_or_end, place_left, moved_at}
-use Rattle.hashlink_model.proofs.Splits.{Stands, splits, place_of-here, stands_from_place}
+use Rattle.hashlink_model.proofs.Splits.{stands_from_place}
 use Rattle.hashlink_model.proofs.Places.{slice_get_here}
 use Rattle.hashlink_model.proofs.Distinct.{none_others, IsEntries-middle, IsEntries-insert}
 
 -- ---- any list, edited at an index
 module _ {X : Type 0} where
-  pub lt-at : (xs : List X) (i : ℕ) (x : X) → slice_get xs i ≡ Some x → i < length xs
-  lt-at [] i x at = absurd (cc)
-  lt-at (y ∷ xs) zero x at = omega arith
-  lt-at (y ∷ xs) (suc i) x at = omega (arith, lt-at xs i x at)
-
   pub drop-at : (xs : List X) (i : ℕ) (x : X) → slice_get xs i ≡ Some x → drop i xs ≡ x ∷ drop (suc i) xs
   drop-at [] i x at = absurd (cc)
   drop-at (y ∷ xs) zero x at = let same : y ≡ x = cc in ap (λ z. z ∷ xs) same
   drop-at (y ∷ xs) (suc i) x at = drop-at xs i x at
 
   -- taken apart at an element
-  pub split-at : (xs : List X) (i : ℕ) (x : X) → slice_get xs i ≡ Some x → xs ≡ take i xs
-      ++ x ∷ drop (suc i) xs
+  split-at : (xs : List X) (i : ℕ) (x : X) → slice_get xs i ≡ Some x → xs ≡ take i xs ++ x ∷ drop (suc i) xs
   split-at xs i x at = sym (take-append-drop i xs) ∙ ap (λ ys. take i xs ++ ys) (drop-at xs i x at)
 
+  -- an element by its index
+  pub element-at : (xs : List X) (i : ℕ) (x : X) → slice_get xs i ≡ Some x → Contains xs x
+  element-at xs i x at = (i, slice_get_within xs i x at, get_or_from_slice_get xs i x x at)
+
+  pub at-element : (xs : List X) (x : X) (c : Contains xs x) → slice_get xs c.0 ≡ Some x
+  at-element xs x c = slice_get-get_or xs c.0 x c.1 ∙ ap Some c.2
+
   pub length-inserted : (xs : List X) (i : ℕ) (x : X) → length (insert xs i x) ≡ length xs + 1
-  length-inserted xs i x = omega (
-    arith,
-    length-append (take i xs) (x ∷ drop i xs),
-    length-append (take i xs) (drop i xs),
-    ap length (take-append-drop i xs),
-  )
+  length-inserted xs i x =
+      omega (arith, length_permutation (x ∷ xs) (insert xs i x) (IsPermutation-insert xs i x))
 
   pub length-removed : (xs : List X) (i : ℕ) (x : X) → slice_get xs i ≡ Some x
       → length (remove xs i) + 1 ≡ length xs
-  length-removed xs i x at =
-      omega (
-        arith,
-        length-append (take i xs) (drop (suc i) xs),
-        length-append (take i xs) (x ∷ drop (suc i) xs),
-        ap length (split-at xs i x at),
-      )
+  length-removed xs i x at = length-remove xs i (slice_get_within xs i x at)
 
   pub slice_get-inserted : (xs : List X) (i : ℕ) (x : X) → i ≤ length xs
       → slice_get (insert xs i x) i ≡ Some x
-  slice_get-inserted [] zero x le = refl
-  slice_get-inserted [] (suc i) x le = absurd (omega arith)
-  slice_get-inserted (y ∷ xs) zero x le = refl
-  slice_get-inserted (y ∷ xs) (suc i) x le = slice_get-inserted xs i x (omega (arith, le))
+  slice_get-inserted xs i x le = slice_get-get_or (insert xs i x) i x (omega (arith, length-inserted xs i x))
+      ∙ ap Some (get_or-insert_at xs i x x le)
 
 module _ {X Y : Type 0} (f : X → Y) where
   pub insert-map : (xs : List X) (i : ℕ) (x : X) → map f (insert xs i x) ≡ insert (map f xs) i (f x)
-  insert-map [] zero x = refl
-  insert-map [] (suc i) x = refl
-  insert-map (y ∷ xs) zero x = refl
-  insert-map (y ∷ xs) (suc i) x = ap (λ zs. f y ∷ zs) (insert-map xs i x)
+  insert-map xs i x = simp (map-append, take-map, drop-map)
 
   pub remove-map : (xs : List X) (i : ℕ) → map f (remove xs i) ≡ remove (map f xs) i
-  remove-map [] zero = refl
-  remove-map [] (suc i) = refl
-  remove-map (y ∷ xs) zero = refl
-  remove-map (y ∷ xs) (suc i) = ap (λ zs. f y ∷ zs) (remove-map xs i)
+  remove-map xs i = simp (map-append, take-map, drop-map)
+
+  -- what f was read from
+  pub from_part : (o : Option X) (y : Y) → option_map f o ≡ Some y → (x : X) × (o ≡ Some x) × (f x ≡ y)
+  from_part None y h = absurd (cc)
+  from_part (Some x) y h = (x, refl, cc)
+
+  -- an element under f, and the one that it is of
+  pub mapped-at : (xs : List X) (i : ℕ) (x : X) → slice_get xs i ≡ Some x → slice_get (map f xs) i ≡ Some (f x)
+  mapped-at xs i x at = slice_get-map f xs i ∙ ap (option_map f) at
+
+  pub from-mapped : (xs : List X) (i : ℕ) (y : Y) → slice_get (map f xs) i ≡ Some y
+      → (x : X) × (slice_get xs i ≡ Some x) × (f x ≡ y)
+  from-mapped xs i y at = from_part (slice_get xs i) y (sym (slice_get-map f xs i) ∙ at)
 
 -- ---- an entry that moves
-module _ {A B : Type 0} where
-  pub moved_at-is : (es : List (A × B)) (j b : ℕ) (e : A × B) → slice_get es j ≡ Some e
-      → moved_at es j b ≡ insert (remove es j) (place_left j b) e
-  moved_at-is es j b e at = rw at refl
+pub moved_at-is : {A B : Type 0} (es : List (A × B)) (j b : ℕ) (e : A × B) → slice_get es j ≡ Some e
+    → moved_at es j b ≡ insert (remove es j) (place_left j b) e
+moved_at-is es j b e at = rw at refl
+
+pub moved-map : {A B C D : Type 0} (f : A × B → C × D) (es : List (A × B)) (j b : ℕ)
+    → map f (moved_at es j b) ≡ moved_at (map f es) j b
+moved-map f es j b =
+    rw (slice_get-map f es j, ← remove-map f es j)
+    (elim (slice_get es j) as (λ o. map f (option_map_or (insert (remove es j) (place_left j b)) o es)
+    ≡ option_map_or (insert (map f (remove es j)) (place_left j b)) (option_map f o) (map f es))
+    [ None ↦ refl | Some e ↦ insert-map f (remove es j) (place_left j b) e ])
 
 pub place_left-before : (j b : ℕ) → j < b → place_left j b ≡ b - 1
 place_left-before j b lt = rw (lt-ltb j b lt) refl
@@ -80,16 +87,11 @@ place_left-before j b lt = rw (lt-ltb j b lt) refl
 pub place_left-past : (j b : ℕ) → b ≤ j → place_left j b ≡ b
 place_left-past j b le = rw (le-ltb j b le) refl
 
+pub place_left-first : (b : ℕ) → place_left 0 (suc b) ≡ b
+place_left-first b = grind (arith, nat_tests)
+
 pub place_left-suc : (j b : ℕ) → place_left (suc j) (suc b) ≡ suc (place_left j b)
-place_left-suc j b = elim (nat_lt j b) as (λ c. nat_lt j b ≡ c → place_left (suc j) (suc b)
-    ≡ suc (place_left j b)) [
-      | true ↦ λ e.
-          let lt : j < b = ltb-true j b e in
-          let one_less : suc b - 1 ≡ suc (b - 1) = omega arith in
-          place_left-before (suc j) (suc b) (omega arith) ∙ one_less ∙ ap suc (sym (place_left-before j b lt))
-      | false ↦ λ e. let le : b ≤ j = ltb-false j b e in place_left-past (suc j) (suc b) (omega arith)
-          ∙ ap suc (sym (place_left-past j b le))
-    ] refl
+place_left-suc j b = grind (arith, nat_tests)
 
 -- ---- the place of a key
 unwrap-later : (o : Option ℕ) (n : ℕ) → unwrap_or (option_map (λ j. j + 1) o) (suc n) ≡ suc (unwrap_or o n)
@@ -107,21 +109,19 @@ module _ {A B : Type 0} (eq : A → A → Bool) where
   pub place_or_end-most : (es : List (A × B)) (k : A) → place_or_end eq es k ≤ length es
   place_or_end-most [] k = omega arith
   place_or_end-most (e ∷ es) k =
-      let ih = place_or_end-most es k in
-      let P : ℕ → Type 0 = λ i. i ≤ suc (length es) in
-      subst P (sym (place_or_end-cons e es k)) (elim (eq k e.0)
-      as (λ b. cond b 0 (suc (place_or_end eq es k)) ≤ suc (length es))
-      [ true ↦ omega arith | false ↦ omega (arith, ih) ])
+      rw (place_or_end-cons e es k)
+      (elim (eq k e.0) as (λ b. cond b 0 (suc (place_or_end eq es k)) ≤ suc (length es))
+      [ true ↦ omega arith | false ↦ omega (arith, place_or_end-most es k) ])
 
   -- what is taken out under the key is what stands at its place
   pub remove_entry-at : (es : List (A × B)) (k : A) → remove_entry (eq k) es
       ≡ remove es (place_or_end eq es k)
   remove_entry-at [] k = refl
   remove_entry-at (e ∷ es) k =
+      rw (place_or_end-cons e es k)
       (elim (eq k e.0) as (λ b. cond b es (e ∷ remove_entry (eq k) es)
       ≡ remove (e ∷ es) (cond b 0 (suc (place_or_end eq es k))))
       [ true ↦ refl | false ↦ ap (λ r. e ∷ r) (remove_entry-at es k) ])
-      ∙ ap (remove (e ∷ es)) (sym (place_or_end-cons e es k))
 
   -- keys stay pairwise unequal
   module _ (laws : IsEquivalence eq) (es : List (A × B)) (d : IsEntries eq es) where
@@ -137,9 +137,8 @@ module _ {A B : Type 0} (eq : A → A → Bool) where
 
     pub IsEntries-inserted : (i : ℕ) (e : A × B) → NonePasses (eq e.0) es → IsEntries eq (insert es i e)
     IsEntries-inserted i e none =
-        IsEntries-insert eq laws (take i es) e (drop i es)
-        (subst (NonePasses (eq e.0)) (sym (take-append-drop i es)) none)
-        (subst (IsEntries eq) (sym (take-append-drop i es)) d)
+        IsEntries-insert eq laws (take i es) e (drop i es) (rw (take-append-drop i es) none)
+        (rw (take-append-drop i es) d)
 
     -- an entry that was put in has another key than the rest
     pub none-inserted : (fs : List (A × B)) (i : ℕ) (e : A × B) → es ≡ insert fs i e → NonePasses (eq e.0) fs
@@ -147,24 +146,12 @@ module _ {A B : Type 0} (eq : A → A → Bool) where
         subst (NonePasses (eq e.0)) (take-append-drop i fs)
         (none_others eq laws (take i fs) e (drop i fs) (subst (IsEntries eq) is d))
 
-module _ {A B : Type 0} (test : A → Bool) where
-  none-by : (es : List (A × B)) → place_of test es ≡ None → NonePasses test es ⊎ Stands test es
-      → NonePasses test es
-  none-by es p (inl n) = n
-  none-by es p (inr s) = absurd
-      (cc (sym (place_of-here test s.1 s.2 s.3.passes s.0 s.3.before) ∙ ap (place_of test) (sym s.3.is) ∙ p))
-
-  -- no key passes where none has a place
-  pub none_from_place : (es : List (A × B)) → place_of test es ≡ None → NonePasses test es
-  none_from_place es p = none-by es p (splits test es)
-
-  -- the key at the first place where one passes does
-  pub passes-at : (es : List (A × B)) (j : ℕ) (e : A × B) → place_of test es ≡ Some j
-      → slice_get es j ≡ Some e
-      → test e.0 ≡ true
-  passes-at es j e p at =
-      let s = stands_from_place test es j p in
-      let here : slice_get es j ≡ Some s.1 = ap (λ l. slice_get l j) s.3.is
-      ∙ ap (slice_get (s.0 ++ s.1 ∷ s.2)) (sym s.4) ∙ slice_get_here s.0 s.1 s.2 in
-      let same : s.1 ≡ e = cc (sym here ∙ at) in
-      ap (λ y. test y.0) (sym same) ∙ s.3.passes
+-- the key at the first place where one passes does
+pub passes-at : {A B : Type 0} (test : A → Bool) (es : List (A × B)) (j : ℕ) (e : A × B)
+    → place_of test es ≡ Some j → slice_get es j ≡ Some e → test e.0 ≡ true
+passes-at test es j e p at =
+    let s = stands_from_place test es j p in
+    let here : slice_get es j ≡ Some s.1 = ap (λ l. slice_get l j) s.3.is
+    ∙ ap (slice_get (s.0 ++ s.1 ∷ s.2)) (sym s.4) ∙ slice_get_here s.0 s.1 s.2 in
+    let same : s.1 ≡ e = cc (sym here ∙ at) in
+    ap (λ y. test y.0) (sym same) ∙ s.3.passes

@@ -1,50 +1,212 @@
--- Finding a key's node by the table, and telling two nodes apart.
-use Rattle.std.proofs.Common.{◌≡◌, ℕ, suc, List, [], ◌∷◌, Bool, true, false, cond, Option, None, Some, refl}
-use Rattle.std.proofs.Common.{ap, sym, subst, ◌∙◌, arith}
-use Rattle.std.specs.Prelude.{Contains, IsPermutation}
-use Rattle.std.specs.Option.{option_map, is_some, IfSome, IfNone, MatchOption}
-use Rattle.std.specs.Cmp.{IsEquivalence}
-use Rattle.std.specs.List.{fold}
-use Rattle.std.specs.Map.{keys_of, lookup}
-use Rattle.std.proofs.lemmas.Option.{same_Some}
-use Rattle.std.proofs.Math.Path.{fun_ext}
-use Rattle.std.proofs.lemmas.List.Sorted.{Contains-permutation, IsPermutation-sym}
-use Rattle.hashlink_model.specs.Entries.{place_of, IsKeyTest}
-use Rattle.hashlink_model.proofs.Places.{place_of_its_key}
-use Rattle.hashlink_model.proofs.Splits.{place_of-none}
+-- Finding a key's node by the table. A node is marked by a number that is no short hash: so the table finds it,
+-- and so it is told from another.
+use Rattle.std.proofs.Common.{◌++◌, ◌≡◌, ℕ, ◌^◌, ◌<◌, ◌≤◌, Bool, true, false, cond, eqb, eqb-true, eq-eqb}
+use Rattle.std.proofs.Common.{List, ◌∷◌, Option, None, Some, refl, ap, sym, subst, ◌∙◌, arith, ◌⊎◌, inl, inr}
+use Rattle.std.proofs.Common.{length}
 use Rattle.std.specs.Borrow.{Bor}
+use Rattle.std.specs.Cmp.{IsEquivalence}
 use Rattle.std.specs.Fn.{Shared, FnReturnsAt}
-use Rattle.hashlink_nodes.specs.declared.node.Node.{Node}
+use Rattle.std.specs.List.{fold}
+use Rattle.std.specs.Map.{lookup, remove_entry, set_value, keys_of}
+use Rattle.std.specs.Option.{option_map, is_some, IfSome, IfNone, MatchOption}
+use Rattle.std.specs.Prelude.{is_some, IfSome, IfNone, IsTrue, IsPermutation, slice_get, Contains}
+use Rattle.std.proofs.Math.Path.{fun_ext}
+use Rattle.std.proofs.lemmas.Map.{lookup-set_value, NonePasses}
+use Rattle.std.proofs.lemmas.Map.Steps.{set_value_same}
+use Rattle.std.proofs.lemmas.Map.Views.{Contains-from_lookup, lookup-from_Contains}
+use Rattle.hashlink_model.proofs.Places.{place_of_its_key, slice_get_here}
+use Rattle.hashlink_model.proofs.Splits.{Stands, splits, place_of-none, stands_from_lookup, set_value-here}
+use Rattle.hashlink_model.proofs.Splits.{remove_entry-here}
+use Rattle.hashlink_model.specs.Entries.{place_of, IsKeyTest}
+use Rattle.hashlink_nodes.specs.Node.{same_node, same_node_equiv, eq-same_node}
+use Rattle.hashlink_nodes.specs.Ring.{Ring, ring, Holds, pair_of, with_number}
 use Rattle.hashlink_nodes.specs.declared.held.Held.{Held}
-use Rattle.hashlink_nodes.specs.Node.{same_node}
-use Rattle.hashlink_nodes.specs.Ring.{Ring, pair_of, Holds}
+use Rattle.hashlink_nodes.specs.declared.node.Node.{Node}
 use Rattle.hashlink_table.specs.Contents.{Contents, Keeps}
 use Rattle.hashlink_core.specs.Keyed.{nodes_of, pairs_in, HoldsMatch}
 use Rattle.hashlink_core.specs.Places.{place_number}
 use Rattle.hashlink_core.specs.Telling.{Tells}
 use Rattle.hashlink_core.specs.Tied.{IsInStep, short, hash_with}
+use Rattle.hashlink_core.proofs.Edits.{mapped-at, from_part, element-at, at-element}
 use Rattle.hashlink_core.proofs.Mapped.{lookup-mapped, place_number-mapped}
 use Rattle.hashlink_core.proofs.Places.{node-at}
-use Rattle.hashlink_core.proofs.Stepping.{pair-at}
-use Rattle.hashlink_core.proofs.Tying.{kept, untied-absent}
+use Rattle.hashlink_core.proofs.Stepping.{pair-at, held-at, kept, listed, in-table, number-of, was-kept}
+
+-- an entry that is written, and taken out or written again
+module _ {X : Type 0} (test : Node → Bool) (es : List (Node × X)) (x : X) (found : lookup test es ≡ Some x)
+    (w : X) where
+  s : Stands test es
+  s = stands_from_lookup test es x found
+
+  was-written : set_value test es w ≡ s.0 ++ (s.1.0, w) ∷ s.2
+  was-written = ap (λ l. set_value test l w) s.3.is ∙ set_value-here test s.1 s.2 s.3.passes w s.0 s.3.before
+
+  remove_entry-set_value : remove_entry test (set_value test es w) ≡ remove_entry test es
+  remove_entry-set_value = ap (remove_entry test) was-written
+      ∙ remove_entry-here test (s.1.0, w) s.2 s.3.passes s.0 s.3.before
+      ∙ sym (ap (remove_entry test) s.3.is ∙ remove_entry-here test s.1 s.2 s.3.passes s.0 s.3.before)
+
+  set_value_twice : (v : X) → set_value test (set_value test es w) v ≡ set_value test es v
+  set_value_twice v = ap (λ l. set_value test l v) was-written
+      ∙ set_value-here test (s.1.0, w) s.2 s.3.passes v s.0 s.3.before
+      ∙ sym (ap (λ l. set_value test l v) s.3.is ∙ set_value-here test s.1 s.2 s.3.passes v s.0 s.3.before)
+
+-- the entry of n had this number and got one that is no short hash, which left the entries fs
+pub record Marked {K V : Type 0} (r : Ring K V) (n : Node) (number : ℕ)
+    (fs : List (Node × Held K V)) : Type 0 where
+  pub mark : ℕ
+  pub long : 2 ^ 32 ≤ mark
+  pub held : Holds r.entries n
+  pub is : option_map (λ h. h.number) (lookup (same_node n) r.entries) ≡ Some number
+  pub renumbered : IfSome (lookup (same_node n) r.entries)
+      (λ h. fs ≡ set_value (same_node n) r.entries (with_number h mark))
+
+module _ {K V : Type 0} {eq : K → K → Bool} {hash : K → ℕ} {r : Ring K V} {t : Contents Node}
+    (step : IsInStep eq hash r t) where
+  number-short : (m : Node) (h : Held K V) → lookup (same_node m) r.entries ≡ Some h → h.number < 2 ^ 32
+  number-short m h at = omega (arith, number-of step m h at)
+
+  -- the number of a node's entry
+  pub asked-short : (n : Node) (number : ℕ) → Holds r.entries n
+      → option_map (λ h. h.number) (lookup (same_node n) r.entries) ≡ Some number → number < 2 ^ 32
+  asked-short n number held is =
+      let x = node-at r.entries n held in
+      let own : x.0.number ≡ number = cc (sym (ap (option_map (λ h. h.number)) x.1.found) ∙ is) in
+      omega (arith, number-short n x.0 x.1.found, own)
+
+  module _ {n : Node} {number : ℕ} {fs : List (Node × Held K V)} (marked : Marked r n number fs) where
+    abbrev own : Held K V
+    own = (node-at r.entries n marked.held).0
+
+    found : lookup (same_node n) r.entries ≡ Some own
+    found = (node-at r.entries n marked.held).1.found
+
+    own-number : own.number ≡ number
+    own-number = cc (sym (ap (option_map (λ h. h.number)) found) ∙ marked.is)
+
+    set-at : fs ≡ set_value (same_node n) r.entries (with_number own marked.mark)
+    set-at = rw found at marked.renumbered
+
+    found-now : (m : Node) → lookup (same_node m) fs
+        ≡ cond (same_node n m) (Some (with_number own marked.mark)) (lookup (same_node m) r.entries)
+    found-now m = ap (lookup (same_node m)) set-at
+        ∙ lookup-set_value same_node_equiv (same_node n) (λ x y e. same_node_equiv.congr n x y e) m
+        (with_number own marked.mark) r.entries marked.held
+
+    own-now : lookup (same_node n) fs ≡ Some (with_number own marked.mark)
+    own-now = found-now n
+        ∙ ap (λ b. cond b (Some (with_number own marked.mark)) (lookup (same_node n) r.entries))
+        (same_node_equiv.refl n)
+
+    pub marked-holds : (m : Node) → Holds r.entries m → Holds fs m
+    marked-holds m there = ap is_some (found-now m)
+        ∙ (elim (same_node n m) as (λ b. is_some (cond b (Some (with_number own marked.mark))
+        (lookup (same_node m) r.entries)) ≡ true) [ true ↦ refl | false ↦ there ])
+
+    pub left-pair : option_map pair_of (lookup (same_node n) r.entries)
+        ≡ option_map pair_of (lookup (same_node n) fs)
+    left-pair = ap (option_map pair_of) found ∙ sym (ap (option_map pair_of) own-now)
+
+    pub left-removed : remove_entry (same_node n) fs ≡ remove_entry (same_node n) r.entries
+    left-removed = ap (remove_entry (same_node n)) set-at
+        ∙ remove_entry-set_value (same_node n) r.entries own found (with_number own marked.mark)
+
+    -- it gets its number back
+    restored : (gs : List (Node × Held K V)) → IfSome (lookup (same_node n) fs)
+        (λ h. gs ≡ set_value (same_node n) fs (with_number h number)) → gs ≡ r.entries
+    restored gs set =
+        subst (λ o. IfSome o (λ h. gs ≡ set_value (same_node n) fs (with_number h number))) own-now set
+        ∙ ap (λ i. set_value (same_node n) fs (with_number own i)) (sym own-number)
+        ∙ ap (λ l. set_value (same_node n) l own) set-at
+        ∙ set_value_twice (same_node n) r.entries own found (with_number own marked.mark) own
+        ∙ set_value_same (same_node n) r.entries own found
+
+    module _ (s : Ring K V) (set : IfSome (lookup (same_node n) fs)
+        (λ h. s.entries ≡ set_value (same_node n) fs (with_number h number))) (free : s.free ≡ r.free)
+        (stored : s.link_writes ≡ r.link_writes) where
+      pub restored-ring : s ≡ r
+      restored-ring = let entries = restored s.entries set in λ i. ring (entries i) (free i) (stored i)
+
+      pub restored-step : IsInStep eq hash s t
+      restored-step = subst (λ r. IsInStep eq hash r t) (sym restored-ring) step
+
+    -- ---- by the table
+    pub asked-holds : (i : ℕ) (m : Node) → Keeps t i m → Holds fs m
+    asked-holds i m there = marked-holds m (ap is_some (listed step i m there).1)
+
+    -- a node of the ring that has the mark is n
+    marked-is : (m : Node) → Holds r.entries m → (h : Held K V) → lookup (same_node m) fs ≡ Some h
+        → h.number ≡ marked.mark → m ≡ n
+    marked-is m there h at is =
+        (elim (same_node n m) as (λ b. same_node n m ≡ b → m ≡ n) [
+          | true ↦ λ e. sym (eq-same_node n m e)
+          | false ↦ λ e.
+              let x = node-at r.entries m there in
+              let now : lookup (same_node m) fs ≡ Some x.0 = found-now m
+              ∙ ap (λ b. cond b (Some (with_number own marked.mark)) (lookup (same_node m) r.entries)) e
+              ∙ x.1.found in
+              let same : h ≡ x.0 = cc (sym at ∙ now) in
+              absurd (omega (
+                arith,
+                is,
+                ap (λ (h : Held K V). h.number) same,
+                number-short m x.0 x.1.found,
+                marked.long,
+              ))
+        ]) refl
+
+    -- whether a node is found to have it
+    abbrev IsMarked : Node → Bool → Type 0
+    IsMarked m b = option_map (λ h. eqb h.number marked.mark) (lookup (same_node m) fs) ≡ Some b
+
+    only : (i : ℕ) (m : Node) → Keeps t i m → IsMarked m true → n ≡ m
+    only i m there answer =
+        let h = from_part (λ h. eqb h.number marked.mark) (lookup (same_node m) fs) true answer in
+        sym (marked-is m (ap is_some (listed step i m there).1) h.0 h.1 (eqb-true _ _ h.2))
+
+    -- a node that is told to be marked is n, which is kept under its old number
+    pub asked-told : (i : ℕ) (m : Node) → Keeps t i m → IsMarked m true → i ≡ number
+    asked-told i m there answer =
+        let old = listed step i m there in
+        let at = ap (λ k. lookup (same_node k) r.entries) (sym (only i m there answer)) ∙ found in
+        let same : old.0 ≡ own = cc (sym old.1 ∙ at) in
+        sym old.2 ∙ ap (λ (h : Held K V). h.number) same ∙ own-number
+
+    -- a node has the mark where it is n
+    pub marked-same : (m : Node) → Holds r.entries m → (i : ℕ)
+        → option_map (λ h. h.number) (lookup (same_node m) fs) ≡ Some i
+        → (IsTrue (eqb i marked.mark) → m ≡ n) × (m ≡ n → IsTrue (eqb i marked.mark))
+    marked-same m there i at =
+        let h = from_part (λ h. h.number) (lookup (same_node m) fs) i at in (
+          λ t. marked-is m there h.0 h.1 (h.2 ∙ eqb-true i marked.mark t),
+          λ same.
+              let now : Some marked.mark ≡ Some i = sym (ap (option_map (λ h. h.number)) own-now)
+              ∙ ap (λ k. option_map (λ h. h.number) (lookup (same_node k) fs)) (sym same) ∙ at in
+              let is : i ≡ marked.mark = cc (sym now) in
+              eq-eqb i marked.mark is,
+        )
+
+    -- what the table took out is n
+    pub taken-out : (u : Contents Node) (o : Option Node)
+        → IfSome o (λ m. IsPermutation t.nodes (kept number m ∷ u.nodes) × IsMarked m true)
+        → IfNone o ((m : Node) → Keeps t number m → IsMarked m false)
+        → IsPermutation t.nodes (kept number n ∷ u.nodes)
+    taken-out u None some none =
+        let there : Keeps t number n = subst (λ i. Keeps t i n) own-number (in-table step n own found) in
+        let not : eqb marked.mark marked.mark ≡ false
+        = cc (sym (ap (option_map (λ h. eqb h.number marked.mark)) own-now) ∙ none n there) in
+        absurd (cc (sym (eq-eqb marked.mark marked.mark refl) ∙ not))
+    taken-out u (Some m) some none =
+        subst (λ m. IsPermutation t.nodes (kept number m ∷ u.nodes))
+        (sym (only number m (was-kept t u number m some.0) some.1)) some.0
 
 -- what a call answered at a node's key
 pub answered-at : {K V : Type 0} (P : K → Type 0) (o : Option (Held K V)) (key : K) (value : V)
     → option_map pair_of o ≡ Some (key, value) → P key
     → IfSome o (λ h. P h.key)
-answered-at P None key value is p = tt
-answered-at P (Some h) key value is p =
-    let same : pair_of h ≡ (key, value) = cc is in
-    subst P (sym (ap (λ q. q.0) same)) p
-
--- the entry that a node's pair was read from
-pub read-from : {K V : Type 0} (o : Option (Held K V)) (key : K) (value : V)
-    → option_map pair_of o ≡ Some (key, value)
-    → (h : Held K V) × (o ≡ Some h) × (key ≡ h.key)
-read-from None key value is = absurd (cc is)
-read-from (Some h) key value is =
-    let same : pair_of h ≡ (key, value) = cc is in
-    (h, refl, sym (ap (λ q. q.0) same))
+answered-at P o key value is p =
+    let x = from_part pair_of o (key, value) is in
+    rw x.1 (subst P (sym (ap (λ q. q.0) x.2)) p)
 
 -- the answers of a test that tells the keys equal to k from the others
 pub told : {K F : Type 0} {calls : Shared F (Bor K × Unit {0}) Bool} {eq : K → K → Bool}
@@ -61,67 +223,76 @@ told {eq = eq} laws {held = held} {k = k} tells x b within r =
 pub key-held : {K V : Type 0} (es : List (Node × Held K V)) (n : Node) (h : Held K V)
     → lookup (same_node n) es ≡ Some h
     → Contains (keys_of (pairs_in es)) h.key
-key-held [] n h is = absurd (cc is)
-key-held (e ∷ es) n h is =
-    elim (same_node n e.0) as
-    (λ b. cond b (Some e.1) (lookup (same_node n) es) ≡ Some h
-    → Contains (e.1.key ∷ keys_of (pairs_in es)) h.key) [
-      | true ↦ λ is. (0, omega arith, ap (λ g. g.key) (same_Some _ _ is))
-      | false ↦ λ is. let rest = key-held es n h is in (suc rest.0, omega (arith, rest.1), rest.2)
-    ] is
+key-held es n h is =
+    let c = Contains-from_lookup eq-same_node n h es is in
+    element-at (keys_of (pairs_in es)) c.0 h.key
+    (mapped-at (λ p. p.0) (pairs_in es) c.0 (pair_of h) (pair-at es c.0 n h (at-element es (n, h) c)))
+
+-- a search that the table makes: the hash of the keys that pass, and what a call may answer at a node's key
+pub record Search {K V : Type 0} (hash : K → ℕ) (r : Ring K V) (passes : K → Bool) (i : ℕ)
+    (Answers : K → Bool → Type 0) : Type 0 where
+  pub hashed : (x : K) → passes x ≡ true → short (hash x) ≡ i
+  pub tells : (n : Node) (h : Held K V) → lookup (same_node n) r.entries ≡ Some h
+      → (b : Bool) → Answers h.key b → b ≡ passes h.key
 
 -- the keys that a query matches have its hash
-pub query-hashed : {K S H : Type 0} (build : S → H) (write : H → List ℕ → H) (finish : H → ℕ)
-    (input : K → List (List ℕ)) (matches : K → Bool) (query : List (List ℕ))
+pub query-search : {K V S H : Type 0} {r : Ring K V} (build : S → H) (write : H → List ℕ → H)
+    (finish : H → ℕ) (input : K → List (List ℕ)) (matches : K → Bool) (query : List (List ℕ))
     → ((x : K) → matches x ≡ true → query ≡ input x) → (s now : S) → s ≡ now
-    → (asked : ℕ) → asked ≡ finish (fold write (build now) query)
-    → (x : K) → matches x ≡ true
-    → hash_with build write finish input s x ≡ asked
-query-hashed build write finish input matches query alike s now same asked is x e =
-    ap (λ s. hash_with build write finish input s x) same
-    ∙ ap (λ i. finish (fold write (build now) i)) (sym (alike x e)) ∙ sym is
-
--- what a removal took out of a table was in it
-pub was-kept : (t u : Contents Node) (number : ℕ) (n : Node) → IsPermutation t.nodes (kept number n ∷ u.nodes)
-    → Keeps t number n
-was-kept t u number n left =
-    Contains-permutation (kept number n ∷ u.nodes) t.nodes (kept number n) (IsPermutation-sym _ _ left)
-    (0, omega arith, refl)
+    → (asked i : ℕ) → asked ≡ finish (fold write (build now) query) → i ≡ short asked
+    → Search (hash_with build write finish input s) r matches i (λ x b. b ≡ matches x)
+query-search build write finish input matches query alike s now same asked i is is_short = record {
+  hashed = λ x e.
+      ap (λ s. short (hash_with build write finish input s x)) same
+      ∙ ap (λ l. short (finish (fold write (build now) l))) (sym (alike x e)) ∙ ap short (sym is)
+      ∙ sym is_short;
+  tells = λ n h here b is. is;
+}
 
 module _ {K V : Type 0} {eq : K → K → Bool} (laws : IsEquivalence eq) {hash : K → ℕ} {r : Ring K V}
     {t : Contents Node} (step : IsInStep eq hash r t) where
   -- each node that the table has is of the ring
   pub listed-holds : (number : ℕ) (n : Node) → Keeps t number n → Holds r.entries n
-  listed-holds number n there = ap is_some (step.tied.listed number n there).here
+  listed-holds number n there = ap is_some (listed step number n there).1
 
   -- so its entry has that number
   pub listed-number : (number : ℕ) (n : Node) → Keeps t number n
       → option_map (λ h. h.number) (lookup (same_node n) r.entries) ≡ Some number
   listed-number number n there =
-      let listed = step.tied.listed number n there in
-      ap (option_map (λ h. h.number)) listed.here ∙ ap Some listed.is
+      let l = listed step number n there in
+      ap (option_map (λ h. h.number)) l.1 ∙ ap Some l.2
 
-  -- ---- by calls that tell the keys that pass, which have the hash, from the others
-  module _ (passes : K → Bool) (asked i : ℕ) (is_short : i ≡ short asked)
-      (hashed : (x : K) → passes x ≡ true → hash x ≡ asked)
-      (Answers : K → Bool → Type 0)
-      (tells : (n : Node) (h : Held K V) → lookup (same_node n) r.entries ≡ Some h
-      → (b : Bool) → Answers h.key b → b ≡ passes h.key) where
+  module _ {passes : K → Bool} {i : ℕ} {Answers : K → Bool → Type 0}
+      (search : Search hash r passes i Answers) where
     answered : (n : Node) (h : Held K V) (b : Bool) → lookup (same_node n) r.entries ≡ Some h
         → IfSome (lookup (same_node n) r.entries) (λ g. Answers g.key b)
         → passes h.key ≡ b
-    answered n h b here answer =
-        sym (tells n h here b (subst (λ o. IfSome o (λ g. Answers g.key b)) here answer))
+    answered n h b here answer = sym (search.tells n h here b (rw here at answer))
 
     -- a node whose key is told to pass is kept under the short hash
     pub told-hash : (number : ℕ) (n : Node) → Keeps t number n
         → IfSome (lookup (same_node n) r.entries) (λ h. Answers h.key true)
         → number ≡ i
     told-hash number n there answer =
-        let listed = step.tied.listed number n there in
-        let h = listed.held in
-        sym listed.is ∙ step.numbered n h listed.here
-        ∙ ap short (hashed h.key (answered n h true listed.here answer)) ∙ sym is_short
+        let l = listed step number n there in
+        sym l.2 ∙ number-of step n l.0 l.1 ∙ search.hashed l.0.key (answered n l.0 true l.1 answer)
+
+    -- where each node that has the short hash is told not to hold a key that passes, none passes
+    none-told : ((n : Node) → Keeps t i n → IfSome (lookup (same_node n) r.entries) (λ h. Answers h.key false))
+        → NonePasses passes (pairs_in r.entries) ⊎ Stands passes (pairs_in r.entries)
+        → place_of passes (pairs_in r.entries) ≡ None
+    none-told none (inl absent) = place_of-none passes (pairs_in r.entries) absent
+    none-told none (inr s) =
+        let x = held-at r.entries (length s.0) s.1
+        (ap (λ l. slice_get l (length s.0)) s.3.is ∙ slice_get_here s.0 s.1 s.2) in
+        let n = x.0.0 in
+        let h = x.0.1 in
+        let here = lookup-from_Contains same_node_equiv n h r.entries step.apart
+        (element-at r.entries (length s.0) x.0 x.1) in
+        let met : passes h.key ≡ true = ap (λ p. passes p.0) x.2 ∙ s.3.passes in
+        let number = number-of step n h here ∙ search.hashed h.key met in
+        let there = subst (λ k. Keeps t k n) number (in-table step n h here) in
+        absurd (cc (sym (answered n h false here (none n there)) ∙ met))
 
     -- what a search of the table answers
     pub found-by_table : IsKeyTest eq passes → (o : Option Node)
@@ -131,18 +302,15 @@ module _ {K V : Type 0} {eq : K → K → Bool} (laws : IsEquivalence eq) {hash 
         → IfSome (lookup (same_node n) r.entries) (λ h. Answers h.key false))
         → MatchOption o (place_of passes (pairs_in r.entries) ≡ None)
         (HoldsMatch passes (nodes_of r.entries))
-    found-by_table alike None some none =
-        place_of-none passes (pairs_in r.entries)
-        (untied-absent hash passes r.entries t asked i is_short step.apart step.numbered step.tied hashed
-        (λ n there h here. answered n h false here (none n there)))
+    found-by_table alike None some none = none-told none (splits passes (pairs_in r.entries))
     found-by_table alike (Some n) some none =
         let x = node-at r.entries n (listed-holds i n some.0) in
         let k = x.0.key in
         let met : passes k ≡ true = answered n x.0 true x.1.found some.1 in
         let is : passes ≡ eq k = fun_ext (λ y. alike k y met) in
         record {
-          within = ap is_some (lookup-mapped pair_of (same_node n) r.entries ∙ ap
-              (option_map pair_of) x.1.found);
+          within = ap is_some (lookup-mapped pair_of (same_node n) r.entries
+              ∙ ap (option_map pair_of) x.1.found);
           place = ap (λ test. place_of test (pairs_in r.entries)) is
               ∙ place_of_its_key eq laws (pairs_in r.entries) (place_number r.entries (Some n)) (pair_of x.0)
               k step.distinct (pair-at r.entries (place_number r.entries (Some n)) n x.0 x.1.at) (laws.refl k)

@@ -1,6 +1,7 @@
 -- Items that go in, in turn.
 use Rattle.std.proofs.Common.{◌≡◌, ℕ, ◌+◌, ◌-◌, ◌^◌, List, [], ◌∷◌, ◌++◌, length, map, min, Result, Ok, Err}
 use Rattle.std.proofs.Common.{refl, ap, ◌∙◌, arith, length-append, append_assoc}
+use Rattle.std.proofs.lemmas.List.{map-append}
 use Rattle.hashlink_model.specs.Many.{AcceptsAll, StopsAt}
 use Rattle.hashlink_model.proofs.InTurn.{accepts_in_parts}
 
@@ -47,5 +48,4 @@ counts_another xs x taken n = let long = length-append xs (x ∷ []) in omega ar
 
 pub mapped_another : {A B : Type 0} (f : A → B) (xs : List A) (x : A) → map f (xs ++ x ∷ [])
     ≡ map f xs ++ f x ∷ []
-mapped_another f [] x = refl
-mapped_another f (y ∷ xs) x = ap (λ zs. f y ∷ zs) (mapped_another f xs x)
+mapped_another f xs x = map-append f xs (x ∷ [])

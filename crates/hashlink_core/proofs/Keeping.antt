@@ -1,24 +1,24 @@
 -- A place stays where its entry is, when a pair comes in, an entry moves or a value is written.
 use Rattle.std.proofs.Common.{◌≡◌, ℕ, suc, Bool, true, false, zero, List, [], ◌∷◌, length, Option, None, Some}
 use Rattle.std.proofs.Common.{refl, sym, ap, subst, ◌∙◌, cond, arith}
-use Rattle.std.specs.Prelude.{slice_get, is_some, unwrap_or, Result, Ok, Err, IfOk, OnErr}
-use Rattle.std.specs.Option.{option_map, option_map_or}
+use Rattle.std.specs.Prelude.{slice_get, is_some, unwrap_or}
+use Rattle.std.specs.Option.{option_map}
 use Rattle.std.specs.Cmp.{IsEquivalence}
 use Rattle.std.specs.Map.{lookup, remove_entry}
-use Rattle.std.proofs.lemmas.Map.{none_passes_from_lookup}
+use Rattle.std.proofs.lemmas.Map.{none_passes_from_lookup, lookup-remove_entry, lookup-insert}
 use Rattle.std.proofs.lemmas.Option.{slice_get_past}
 use Rattle.std.proofs.lemmas.Map.Entries.{length-values_of}
 use Rattle.hashlink_nodes.specs.Node.{same_node, same_node_equiv, eq-same_node}
-use Rattle.hashlink_model.specs.Entries.{IsEntries, place_or_end}
-use Rattle.hashlink_model.proofs.Afterwards.{lookup-put, lookup-moved}
+use Rattle.hashlink_model.specs.Entries.{IsEntries}
+use Rattle.hashlink_model.proofs.Afterwards.{lookup-moved}
 use Rattle.hashlink_model.proofs.ByPlace.{moved_at-place}
-use Rattle.hashlink_model.proofs.Finds.{lookup-equal}
 use Rattle.hashlink_model.proofs.Places.{place_of_its_key}
-use Rattle.hashlink_model.proofs.Puts.{put-absent}
 use Rattle.hashlink_core.specs.Keyed.{Keyed, entries_of, IsKeyed, pair_with_value}
 use Rattle.hashlink_core.specs.Places.{Node, Holds, IsPlace, place_number, renewed_at}
 use Rattle.hashlink_core.specs.Steps.{AddsNode, MovesNode, WritesNode, GrowsRoom, KeepsKeys, KeepsPlace}
+use Rattle.hashlink_core.proofs.AtKeyNode.{is_some-map}
 use Rattle.hashlink_core.proofs.Holding.{at-node, holds_key-at}
+use Rattle.hashlink_core.proofs.Mapped.{mapped, lookup-mapped}
 use Rattle.hashlink_core.proofs.Places.{node-at}
 
 -- at the guard stands no entry
@@ -27,28 +27,24 @@ pub at-guard : {K V S : Type 0} (m : Keyed K V S) → slice_get (entries_of m) (
 at-guard m = slice_get_past (entries_of m) (length m.nodes) (omega (arith, length-values_of m.nodes))
 
 module _ {K V S : Type 0} (old new : Keyed K V S) where
-  held-from : (o : Option (K × V)) (k : K) → option_map (λ e. e.0) o ≡ Some k → is_some o ≡ true
-  held-from None k h = absurd (cc)
-  held-from (Some e) k h = refl
+  pub keys-held : KeepsKeys old new → (m : Node) → Holds old.nodes m → Holds new.nodes m
+  keys-held kept m held = sym (is_some-map (λ e. e.0) (lookup (same_node m) new.nodes))
+      ∙ ap is_some (kept m held) ∙ is_some-map (λ e. e.0) (lookup (same_node m) old.nodes) ∙ held
 
   -- so its place is kept
   pub keeps-place : {eq : K → K → Bool} → IsEquivalence eq → IsKeyed eq new → KeepsKeys old new
       → (p : Option Node)
       → IsPlace old.nodes p
       → KeepsPlace eq old new p
-  keeps-place {eq = eq} laws sound kept None within = record {
+  keeps-place laws sound kept None within = record {
     within = tt;
-    number =
-        sym
-        (ap (λ o. option_map_or (λ e. place_or_end eq (entries_of new) e.0) o (length (entries_of new)))
-        (at-guard old)
-        ∙ length-values_of new.nodes);
+    number = rw (at-guard old) (sym (length-values_of new.nodes));
   }
   keeps-place {eq = eq} laws sound kept (Some n) held =
       let x = node-at old.nodes n held in
       let found : option_map (λ e. e.0) (lookup (same_node n) new.nodes) ≡ Some x.0.0
       = kept n held ∙ ap (option_map (λ e. e.0)) x.1.found in
-      let still : Holds new.nodes n = held-from (lookup (same_node n) new.nodes) x.0.0 found in
+      let still = keys-held kept n held in
       let y = node-at new.nodes n still in
       let here : option_map (λ e. e.0) (lookup (same_node n) new.nodes) ≡ Some y.0.0
       = ap (option_map (λ e. e.0)) y.1.found in
@@ -57,39 +53,31 @@ module _ {K V S : Type 0} (old new : Keyed K V S) where
       (subst (λ k. eq x.0.0 k ≡ true) same (laws.refl x.0.0)) in
       record {
         within = still;
-        number =
-            sym
-            (ap (λ o. option_map_or (λ e. place_or_end eq (entries_of new) e.0) o (length (entries_of new)))
-            (at-node old n held)
-            ∙ ap (λ o. unwrap_or o (length (entries_of new))) key.place);
+        number = rw (at-node old n held) (sym (ap (λ o. unwrap_or o (length (entries_of new))) key.place));
       }
 
   -- ---- each step keeps the key of each node
 
-  pub keys-added : IsEntries same_node old.nodes → (b : ℕ) (n : Node) (k : K) (v : V)
-      → AddsNode old new b n k v
-      → KeepsKeys old new
-  keys-added apart b n k v s m held =
-      ap (option_map (λ e. e.0))
-      (ap (lookup (same_node m))
-      (s.nodes
-      ∙ sym (put-absent same_node old.nodes n (k, v) b
-      (none_passes_from_lookup (same_node n) old.nodes s.fresh)))
-      ∙ lookup-put same_node same_node_equiv m old.nodes n (k, v) b apart
-      ∙ ap (λ c. cond c (Some (k, v)) (lookup (same_node m) old.nodes)) (other (same_node n m) refl))
-    where
-      other : (c : Bool) → same_node n m ≡ c → same_node n m ≡ false
-      other false is = is
-      other true is =
-          let there = (node-at old.nodes m held).1.found in
-          let same = lookup-equal same_node same_node_equiv n m old.nodes is in
-          let fresh = s.fresh in
-          absurd (cc)
+  pub keys-added : {b : ℕ} {n : Node} {k : K} {v : V} → AddsNode old new b n k v → KeepsKeys old new
+  keys-added {b} {n} {k} {v} s m held =
+      rw (
+        s.nodes,
+        lookup-insert same_node_equiv n (k, v) m old.nodes b
+            (none_passes_from_lookup (same_node n) old.nodes s.fresh),
+      )
+      ((elim (same_node n m) as (λ c. same_node n m ≡ c
+      → option_map (λ e. e.0) (cond c (Some (k, v)) (lookup (same_node m) old.nodes))
+      ≡ option_map (λ e. e.0) (lookup (same_node m) old.nodes)) [
+        | true ↦ λ is.
+            let same = ap (λ i. lookup (same_node i) old.nodes) (eq-same_node n m is) in
+            absurd (cc (sym s.fresh ∙ same ∙ (node-at old.nodes m held).1.found))
+        | false ↦ λ is. refl
+      ]) refl)
 
-  pub keys-moved : IsEntries same_node old.nodes → (b : ℕ) (n : Node) → Holds old.nodes n
+  pub keys-moved : IsEntries same_node old.nodes → {b : ℕ} (n : Node) → Holds old.nodes n
       → MovesNode old new (place_number old.nodes (Some n)) b
       → KeepsKeys old new
-  keys-moved apart b n held s m _ =
+  keys-moved apart {b} n held s m _ =
       let x = node-at old.nodes n held in
       let j = place_number old.nodes (Some n) in
       let there = place_of_its_key same_node same_node_equiv old.nodes j (n, x.0) n apart x.1.at
@@ -98,37 +86,20 @@ module _ {K V S : Type 0} (old new : Keyed K V S) where
       (ap (lookup (same_node m)) (s.nodes ∙ moved_at-place same_node old.nodes n j there b)
       ∙ lookup-moved same_node same_node_equiv m old.nodes n b apart)
 
-  pub keys-written : (j : ℕ) (v : V) → WritesNode old new j v → KeepsKeys old new
-  keys-written j v s m _ =
-      ap (λ ns. option_map (λ e. e.0) (lookup (same_node m) ns)) s.nodes ∙ same (same_node m) old.nodes j
+  pub keys-written : {j : ℕ} {v : V} → WritesNode old new j v → KeepsKeys old new
+  keys-written {j} {v} s m _ =
+      sym (lookup-mapped (λ (e : K × V). e.0) (same_node m) new.nodes)
+      ∙ ap (lookup (same_node m)) (ap (mapped (λ e. e.0)) s.nodes ∙ same old.nodes j)
+      ∙ lookup-mapped (λ (e : K × V). e.0) (same_node m) old.nodes
     where
-      same : (test : Node → Bool) (es : List (Node × (K × V))) (i : ℕ)
-          → option_map (λ e. e.0) (lookup test (renewed_at (pair_with_value v) es i))
-          ≡ option_map (λ e. e.0) (lookup test es)
-      same test [] i = refl
-      same test (e ∷ es) zero =
-          elim (test e.0) as (λ c. option_map (λ e. e.0) (cond c (Some (e.1.0, v)) (lookup test es))
-          ≡ option_map (λ e. e.0) (cond c (Some e.1) (lookup test es))) [ true ↦ refl | false ↦ refl ]
-      same test (e ∷ es) (suc i) =
-          elim (test e.0)
-          as (λ c. option_map (λ e. e.0)
-          (cond c (Some e.1) (lookup test (renewed_at (pair_with_value v) es i)))
-          ≡ option_map (λ e. e.0) (cond c (Some e.1) (lookup test es)))
-          [ true ↦ refl | false ↦ same test es i ]
+      same : (es : List (Node × (K × V))) (i : ℕ)
+          → mapped (λ (e : K × V). e.0) (renewed_at (pair_with_value v) es i) ≡ mapped (λ e. e.0) es
+      same [] i = refl
+      same (e ∷ es) zero = refl
+      same (e ∷ es) (suc i) = ap (λ r. (e.0, e.1.0) ∷ r) (same es i)
 
-  pub keys-grown : (i : ℕ) → GrowsRoom i old new → KeepsKeys old new
-  keys-grown i s m _ = ap (λ l. option_map (λ e. e.0) (lookup (same_node m) l.nodes)) s.rest
-
-  pub keys-inserted : IsEntries same_node old.nodes → (b : ℕ) (k : K) (v : V) (r : Result Node (K × V))
-      → IfOk r (λ n. AddsNode old new b n k v) → OnErr r (GrowsRoom 1 old new)
-      → KeepsKeys old new
-  keys-inserted apart b k v (Ok n) added grown = keys-added apart b n k v added
-  keys-inserted apart b k v (Err p) added grown = keys-grown 1 grown
-
-  pub keys-held : KeepsKeys old new → (m : Node) → Holds old.nodes m → Holds new.nodes m
-  keys-held kept m held =
-      let x = node-at old.nodes m held in
-      held-from (lookup (same_node m) new.nodes) x.0.0 (kept m held ∙ ap (option_map (λ e. e.0)) x.1.found)
+  pub keys-grown : {i : ℕ} → GrowsRoom i old new → KeepsKeys old new
+  keys-grown s m _ = ap (λ l. option_map (λ e. e.0) (lookup (same_node m) l.nodes)) s.rest
 
   pub keys-place : KeepsKeys old new → (p : Option Node) → IsPlace old.nodes p → IsPlace new.nodes p
   keys-place kept None within = tt
@@ -140,33 +111,12 @@ keys_twice a b c s t m h = t m (keys-held a b s m h) ∙ s m h
 
 -- ---- a place that is not the node's is of the list without the node too
 
-apart-from : (n m : Node) → (n ≡ m → ⊥) → (c : Bool) → same_node n m ≡ c → same_node n m ≡ false
-apart-from n m other false is = is
-apart-from n m other true is = absurd (other (eq-same_node n m is))
-
-module _ {X : Type 0} (n m : Node) (apart : same_node n m ≡ false) where
-  left-lookup : (es : List (Node × X)) → lookup (same_node m) (remove_entry (same_node n) es)
-      ≡ lookup (same_node m) es
-  left-lookup [] = refl
-  left-lookup (e ∷ es) = by (left-lookup es) (same_node n e.0) refl
-    where
-      by : lookup (same_node m) (remove_entry (same_node n) es) ≡ lookup (same_node m) es
-          → (c : Bool) → same_node n e.0 ≡ c
-          → lookup (same_node m) (remove_entry (same_node n) (e ∷ es)) ≡ lookup (same_node m) (e ∷ es)
-      by rest true is =
-          let same : n ≡ e.0 = eq-same_node n e.0 is in
-          let other : same_node m e.0 ≡ false
-          = ap (same_node m) (sym same) ∙ same_node_equiv.symm m n ∙ apart in
-          rw (is, other) refl
-      by rest false is =
-          ap (λ c. lookup (same_node m) (cond c es (e ∷ remove_entry (same_node n) es))) is
-          ∙ ap (cond (same_node m e.0) (Some e.1)) rest
-
-pub left-place : {K V S : Type 0} (inside seen : Keyed K V S) → inside ≡ seen → (n : Node) (p : Option Node)
-    → (p ≡ Some n → ⊥) → IsPlace seen.nodes p
-    → IsPlace (remove_entry (same_node n) inside.nodes) p
-left-place inside seen view n None other within = tt
-left-place inside seen view n (Some m) other within =
-    ap is_some (left-lookup n m (apart-from n m (λ same. other (ap Some (sym same))) (same_node n m) refl)
-    inside.nodes)
-    ∙ ap (λ l. is_some (lookup (same_node m) l.nodes)) view ∙ within
+pub left-place : {X : Type 0} (es : List (Node × X)) → IsEntries same_node es → (n : Node) (p : Option Node)
+    → (p ≡ Some n → ⊥) → IsPlace es p → IsPlace (remove_entry (same_node n) es) p
+left-place es apart n None other within = tt
+left-place es apart n (Some m) other within =
+    rw (lookup-remove_entry same_node_equiv (same_node n) (λ x y t. same_node_equiv.congr n x y t) m es apart)
+    ((elim (same_node n m) as (λ c. same_node n m ≡ c → is_some (cond c None (lookup (same_node m) es)) ≡ true) [
+      | true ↦ λ is. absurd (other (ap Some (sym (eq-same_node n m is))))
+      | false ↦ λ is. within
+    ]) refl)

@@ -9,12 +9,9 @@ pub mod Holding
 pub mod InTurn
 pub mod Keeping
 pub mod Mapped
-pub mod Marking
 pub mod Neighbours
 pub mod Places
 pub mod Retaining
 pub mod Stepping
 pub mod Steps
-pub mod Stores
-pub mod Tying
 pub mod Walk

@@ -1,20 +1,22 @@
 -- The place after a place, and the one before it, by number.
-use Rattle.std.proofs.Common.{◌≡◌, ℕ, zero, suc, ◌+◌, ◌-◌, ◌%◌, ◌<◌, ◌≤◌, true, false, cond, List, [], ◌∷◌}
-use Rattle.std.proofs.Common.{◌++◌, length, Option, None, Some, refl, ap, sym, subst, ◌∙◌, arith}
-use Rattle.std.specs.Prelude.{slice_get, is_some, unwrap_or}
-use Rattle.std.specs.List.{IsDistinct, AllByRecursion}
-use Rattle.std.specs.Map.{keys_of, lookup}
-use Rattle.std.proofs.lemmas.Map.Keys.{IsDistinct-head, IsDistinct-tail}
+use Rattle.std.proofs.Common.{◌≡◌, inl, inr, ℕ, zero, suc, ◌+◌, ◌-◌, ◌%◌, ◌<◌, ◌≤◌, true, false, cond, List}
+use Rattle.std.proofs.Common.{[], ◌∷◌, ◌++◌, length, Option, None, Some, refl, ap, sym, ◌∙◌, arith}
+use Rattle.std.specs.Prelude.{slice_get, unwrap_or}
+use Rattle.std.specs.List.{IsDistinct}
+use Rattle.std.specs.Map.{keys_of}
+use Rattle.std.proofs.lemmas.Map.Keys.{IsDistinct-tail, apart_from_distinct, any_passes_from_place}
 use Rattle.std.proofs.lemmas.Map.Entries.{length-keys_of}
+use Rattle.std.proofs.lemmas.Map.Made.{is_some-lookup}
+use Rattle.std.proofs.lemmas.Option.{slice_get_cases, slice_get_within, get_or_from_slice_get}
 use Rattle.hashlink_model.specs.Cursor.{following_place, preceding_place}
 use Rattle.hashlink_model.specs.Entries.{IsEntries}
 use Rattle.hashlink_model.proofs.Distinct.{each-left}
 use Rattle.hashlink_model.proofs.Places.{place_of_its_key}
 use Rattle.hashlink_nodes.specs.declared.node.Node.{Node}
 use Rattle.hashlink_nodes.specs.Node.{same_node, same_node_equiv}
-use Rattle.hashlink_nodes.specs.Ring.{node_after, node_before, last_node, next_place, prev_place, Holds}
-use Rattle.hashlink_nodes.specs.Ring.{IsPlace}
+use Rattle.hashlink_nodes.specs.Ring.{node_after, node_before, last_node, next_place, prev_place, IsPlace}
 use Rattle.hashlink_core.specs.Places.{place_number, IsPlaceAt}
+use Rattle.hashlink_core.proofs.Edits.{from-mapped}
 use Rattle.hashlink_core.proofs.Places.{node-at, around, following-within}
 use native.Mathlib.Nat.{mod-eq_of_lt, add-mod_right, zero-add}
 
@@ -24,20 +26,16 @@ unfolding IsDistinct
 distinct-left [] ys d = tt
 distinct-left (x ∷ xs) ys d = (each-left _ xs ys d.0, distinct-left xs ys d.1)
 
-each-at : (P : Node → Type 0) (xs : List Node) (i : ℕ) (x : Node) → AllByRecursion P xs
-    → slice_get xs i ≡ Some x → P x
-each-at P [] i x all at = absurd (cc)
-each-at P (y ∷ xs) zero x all at = let same : y ≡ x = cc in subst P same all.0
-each-at P (y ∷ xs) (suc i) x all at = each-at P xs i x all.1 at
-
 same-itself : (n m : Node) → m ≡ n → same_node n m ≡ true
 same-itself n m same = ap (same_node n) same ∙ same_node_equiv.refl n
 
 other-at : (m : Node) (ns : List Node) (i : ℕ) (n : Node) → IsDistinct same_node (m ∷ ns)
     → slice_get ns i ≡ Some n
     → same_node n m ≡ false
-other-at m ns i n d at = same_node_equiv.symm n m
-    ∙ each-at (λ y. same_node m y ≡ false) ns i n (IsDistinct-head same_node m ns d) at
+other-at m ns i n d at =
+    let apart = apart_from_distinct same_node (m ∷ ns) 0 (suc i) n d (omega arith)
+    (omega (arith, slice_get_within ns i n at)) in
+    same_node_equiv.symm n m ∙ ap (same_node m) (sym (get_or_from_slice_get ns i n n at)) ∙ apart
 
 pub node_after-at : (ns : List Node) (i : ℕ) (n : Node) → IsDistinct same_node ns → slice_get ns i ≡ Some n
     → node_after n ns ≡ slice_get ns (suc i)
@@ -78,11 +76,6 @@ last_node-at (m ∷ ns) =
     let one_less : length ns ≡ suc (length ns) - 1 = omega arith in
     last_node-later m ns ∙ ap (slice_get (m ∷ ns)) one_less
 
-pub none-past : (xs : List Node) (i : ℕ) → slice_get xs i ≡ None → length xs ≤ i
-none-past [] i at = omega arith
-none-past (y ∷ xs) zero at = absurd (cc)
-none-past (y ∷ xs) (suc i) at = omega (arith, none-past xs i at)
-
 -- ---- the place before, by number
 pub before-suc : (n i : ℕ) → i ≤ n → preceding_place n (suc i) ≡ i
 before-suc n i le =
@@ -97,72 +90,44 @@ before-guard zero = refl
 before-guard (suc n) = before-suc (suc n) n (omega arith) ∙ omega arith
 
 -- ---- entries with their nodes
-module _ {X : Type 0} where
-  pub entry-at : (es : List (Node × X)) (i : ℕ) (n : Node) → slice_get (keys_of es) i ≡ Some n → (x : X)
-      × (slice_get es i ≡ Some (n, x))
-  entry-at [] i n at = absurd (cc)
-  entry-at (e ∷ es) zero n at = let same : e.0 ≡ n = cc in (e.1, ap (λ m. Some (m, e.1)) same)
-  entry-at (e ∷ es) (suc i) n at = entry-at es i n at
+module _ {X : Type 0} (es : List (Node × X)) (d : IsEntries same_node es) where
+  -- what stands at i is a place with the number i
+  pub place-at : (i : ℕ) → i ≤ length es → IsPlaceAt es (slice_get (keys_of es) i) i
+  place-at i le =
+      elim (slice_get_cases (keys_of es) i).1 as (λ _. IsPlaceAt es (slice_get (keys_of es) i) i) [
+        | inl c ↦
+            let e = from-mapped (λ (e : Node × X). e.0) es i c.0 c.2 in
+            let itself = same_node_equiv.refl c.0 in
+            rw c.2 (record {
+              within = is_some-lookup (same_node c.0) es
+                  ∙ any_passes_from_place (same_node c.0) (keys_of es) i c.0 c.2 itself;
+              number = ap (λ o. unwrap_or o (length es))
+                  (place_of_its_key same_node same_node_equiv es i e.0 c.0 d e.1
+                  (ap (same_node c.0) e.2 ∙ itself));
+            })
+        | inr c ↦ rw c.1 (record { within = tt; number = omega (arith, c.0, length-keys_of es) })
+      ]
 
-  pub holds-at : (es : List (Node × X)) (i : ℕ) (n : Node) → slice_get (keys_of es) i ≡ Some n → Holds es n
-  holds-at [] i n at = absurd (cc)
-  holds-at (e ∷ es) zero n at =
-      let same : e.0 ≡ n = cc in
-      ap (λ b. is_some (cond b (Some e.1) (lookup (same_node n) es))) (same-itself n e.0 same)
-  holds-at (e ∷ es) (suc i) n at =
-      elim (same_node n e.0) as (λ b. is_some (cond b (Some e.1) (lookup (same_node n) es)) ≡ true)
-      [ true ↦ refl | false ↦ holds-at es i n at ]
+  pub next-number : (p : Option Node) → IsPlace es p
+      → IsPlaceAt es (next_place (keys_of es) p) (following_place (length es) (place_number es p))
+  next-number None within = rw (around (length es)) (place-at 0 (omega arith))
+  next-number (Some n) within =
+      let x = node-at es n within in
+      let j = place_number es (Some n) in
+      rw (following-within (length es) j x.1.within, node_after-at (keys_of es) j n d x.1.key_at)
+      (place-at (suc j) (omega (arith, x.1.within)))
 
-  module _ (es : List (Node × X)) (d : IsEntries same_node es) where
-    place-by : (i : ℕ) → i ≤ length es → (p : Option Node) → slice_get (keys_of es) i ≡ p → IsPlaceAt es p i
-    place-by i le None at =
-        let past : length (keys_of es) ≤ i = none-past (keys_of es) i at in
-        record { within = tt; number = omega (arith, past, length-keys_of es) }
-    place-by i le (Some n) at =
-        let e = entry-at es i n at in
-        record {
-          within = holds-at es i n at;
-          number = ap (λ o. unwrap_or o (length es))
-              (place_of_its_key same_node same_node_equiv es i (n, e.0) n d e.1 (same_node_equiv.refl n));
-        }
+  before-number : (j : ℕ) (n : Node) → slice_get (keys_of es) j ≡ Some n → j < length es
+      → IsPlaceAt es (node_before n None (keys_of es)) (preceding_place (length es) j)
+  before-number zero n at lt = rw (node_before-at None (keys_of es) 0 n d at, before-first (length es))
+      (record { within = tt; number = refl })
+  before-number (suc i) n at lt =
+      rw (node_before-at None (keys_of es) (suc i) n d at, before-suc (length es) i (omega arith))
+      (place-at i (omega arith))
 
-    -- what stands at i is a place with the number i
-    pub place-at : (i : ℕ) → i ≤ length es → IsPlaceAt es (slice_get (keys_of es) i) i
-    place-at i le = place-by i le (slice_get (keys_of es) i) refl
-
-    pub next-number : (p : Option Node) → IsPlace es p
-        → IsPlaceAt es (next_place (keys_of es) p) (following_place (length es) (place_number es p))
-    next-number None within =
-        subst (IsPlaceAt es (slice_get (keys_of es) 0)) (sym (around (length es))) (place-at 0 (omega arith))
-    next-number (Some n) within =
-        let x = node-at es n within in
-        let j = place_number es (Some n) in
-        subst (λ i. IsPlaceAt es (node_after n (keys_of es)) i)
-        (sym (following-within (length es) j x.1.within))
-        (subst (λ p. IsPlaceAt es p (suc j)) (sym (node_after-at (keys_of es) j n d x.1.key_at))
-        (place-at (suc j) (omega (arith, x.1.within))))
-
-    last-number : IsPlaceAt es (last_node None (keys_of es)) (length es - 1)
-    last-number =
-        subst (λ p. IsPlaceAt es p (length es - 1))
-        (sym (last_node-at (keys_of es) ∙ ap (λ i. slice_get (keys_of es) (i - 1)) (length-keys_of es)))
-        (place-at (length es - 1) (omega arith))
-
-    before-number : (j : ℕ) (n : Node) → slice_get (keys_of es) j ≡ Some n → j < length es
-        → IsPlaceAt es (node_before n None (keys_of es)) (preceding_place (length es) j)
-    before-number j n at lt =
-        subst (λ p. IsPlaceAt es p (preceding_place (length es) j))
-        (sym (node_before-at None (keys_of es) j n d at)) (by j lt)
-      where
-        by : (j : ℕ) → j < length es → IsPlaceAt es (before_at None (keys_of es) j)
-            (preceding_place (length es) j)
-        by zero lt = record { within = tt; number = sym (before-first (length es)) }
-        by (suc i) lt = subst (IsPlaceAt es (slice_get (keys_of es) i))
-            (sym (before-suc (length es) i (omega arith))) (place-at i (omega arith))
-
-    pub prev-number : (p : Option Node) → IsPlace es p
-        → IsPlaceAt es (prev_place (keys_of es) p) (preceding_place (length es) (place_number es p))
-    prev-number None within =
-        subst (IsPlaceAt es (last_node None (keys_of es))) (sym (before-guard (length es))) last-number
-    prev-number (Some n) within = let x = node-at es n within in
-        before-number (place_number es (Some n)) n x.1.key_at x.1.within
+  pub prev-number : (p : Option Node) → IsPlace es p
+      → IsPlaceAt es (prev_place (keys_of es) p) (preceding_place (length es) (place_number es p))
+  prev-number None within = rw (before-guard (length es), last_node-at (keys_of es), length-keys_of es)
+      (place-at (length es - 1) (omega arith))
+  prev-number (Some n) within = let x = node-at es n within in
+      before-number (place_number es (Some n)) n x.1.key_at x.1.within

@@ -1,25 +1,30 @@
 -- The numbers of places, and the ring's words by places in terms of them.
-use Rattle.std.proofs.Common.{◌≡◌, ◌≢◌, ltb-true, ltb-false, ℕ, zero, suc, ◌+◌, ◌-◌, ◌<◌, ◌≤◌, Bool, true}
-use Rattle.std.proofs.Common.{false, cond, List, [], ◌∷◌, ◌++◌, length, Option, None, Some, refl, ap, sym}
-use Rattle.std.proofs.Common.{subst, ◌∙◌, arith, add-one}
-use Rattle.std.specs.Prelude.{slice_get, insert, remove, is_some, nat_lt, unwrap_or}
+use Rattle.std.proofs.Common.{◌≡◌, ◌≢◌, ℕ, zero, suc, ◌+◌, ◌<◌, ◌≤◌, Bool, true, false, cond, List, [], ◌∷◌}
+use Rattle.std.proofs.Common.{length, Option, None, Some, refl, ap, sym, subst, ◌∙◌, arith, add-one, ⊎_elim}
+use Rattle.std.proofs.lemmas.Bool.Decides.{nat_tests}
+use Rattle.std.specs.Prelude.{slice_get, insert, remove, is_some}
 use Rattle.std.specs.Option.{option_map, IfSome}
+use Rattle.std.specs.List.{list_any}
 use Rattle.std.specs.Map.{lookup, lookup_entry, remove_entry, set_value, keys_of}
-use Rattle.std.proofs.lemmas.Option.{slice_get-map}
+use Rattle.std.proofs.lemmas.Bool.{cases_lt}
+use Rattle.std.proofs.lemmas.Map.{lookup-remove_entry}
+use Rattle.std.proofs.lemmas.Map.Entries.{length-keys_of}
+use Rattle.std.proofs.lemmas.Map.Made.{is_some-lookup}
+use Rattle.std.proofs.lemmas.List.Edits.{insert_end}
+use Rattle.std.proofs.lemmas.Option.{slice_get_within}
 use Rattle.hashlink_model.specs.Cursor as cursor
-use Rattle.hashlink_model.specs.Entries.{IsEntries, place_or_end, place_left, moved_at}
-use Rattle.hashlink_model.proofs.Places.{place_of_its_key, lookup_entry_at, slice_get-place_or_end}
+use Rattle.hashlink_model.specs.Entries.{IsEntries, place_left, moved_at}
 use Rattle.hashlink_model.proofs.Finds.{lookup_is}
-use Rattle.hashlink_model.proofs.Puts.{none_without}
-use Rattle.std.proofs.lemmas.Map.{NonePasses, lookup-none}
+use Rattle.hashlink_model.proofs.Places.{slice_get-place_or_end}
+use Rattle.hashlink_model.proofs.Splits.{stands_from_lookup, lookup_entry-here}
 use Rattle.hashlink_nodes.specs.declared.node.Node.{Node}
 use Rattle.hashlink_nodes.specs.Node.{same_node, same_node_equiv, eq-same_node}
 use Rattle.hashlink_nodes.specs.Ring.{put_before, put_before_node, put_after, put_after_node, Holds, IsPlace}
 use Rattle.hashlink_nodes.specs.Ring.{MovesBefore, MovesAfter}
 use Rattle.hashlink_core.specs.Places.{place_number, renewed_at}
-use Rattle.hashlink_core.proofs.Edits.{lt-at, length-removed, slice_get-inserted, place_or_end-cons}
-use Rattle.hashlink_core.proofs.Edits.{place_or_end-most, remove_entry-at, place_left-before, place_left-past}
-use Rattle.hashlink_core.proofs.Edits.{place_left-suc, moved_at-is}
+use Rattle.hashlink_core.proofs.Edits.{length-removed, place_or_end-cons, place_or_end-most, remove_entry-at}
+use Rattle.hashlink_core.proofs.Edits.{place_left-past, place_left-first, place_left-suc, moved_at-is}
+use Rattle.hashlink_core.proofs.Edits.{mapped-at}
 use native.Mathlib.Nat.{mod-eq_of_lt, mod_self}
 
 pub around : (n : ℕ) → cursor.following_place n n ≡ 0
@@ -28,34 +33,50 @@ around n = mod_self (n + 1)
 pub following-within : (n i : ℕ) → i < n → cursor.following_place n i ≡ suc i
 following-within n i lt = mod-eq_of_lt (omega arith) ∙ add-one i
 
--- where the place after b is once j is taken out
-next-left : (j b : ℕ) → b ≢ j → place_left j (suc b) ≡ suc (place_left j b)
-next-left j b apart =
-    elim (nat_lt j b) as (λ c. nat_lt j b ≡ c → place_left j (suc b) ≡ suc (place_left j b)) [
-      | true ↦ λ e.
-          let lt : j < b = ltb-true j b e in
-          let same : suc b - 1 ≡ suc (b - 1) = omega arith in
-          place_left-before j (suc b) (omega arith) ∙ same ∙ ap suc (sym (place_left-before j b lt))
-      | false ↦ λ e.
-          let le : b ≤ j = ltb-false j b e in
-          let past : suc b ≤ j = omega (arith, apart) in
-          place_left-past j (suc b) past ∙ ap suc (sym (place_left-past j b le))
-    ] refl
-
--- what is left within a list with one entry fewer was within the list
-pub within-before : (j b n : ℕ) → place_left j b < n → b < n + 1
-within-before j b n lt =
-    elim (nat_lt j b) as (λ c. nat_lt j b ≡ c → b < n + 1) [
-      | true ↦ λ e. let left : place_left j b
-          ≡ b - 1 = place_left-before j b (ltb-true j b e) in omega (arith, left)
-      | false ↦ λ e. let left : place_left j b
-          ≡ b = place_left-past j b (ltb-false j b e) in omega (arith, left)
-    ] refl
+-- where the place after b is once another place j is taken out
+following-left : (n j b : ℕ) → j < n + 1 → b ≤ n + 1 → b ≢ j
+    → place_left j (cursor.following_place (n + 1) b) ≡ cursor.following_place n (place_left j b)
+following-left n j b lt le other =
+    ⊎_elim
+    (λ k.
+    let near : place_left j b < n = grind (arith, nat_tests) in
+    let left : place_left j (suc b) ≡ suc (place_left j b) = grind (arith, nat_tests) in
+    rw (following-within (n + 1) b k, following-within n (place_left j b) near) left)
+    (λ k.
+    let end : b ≡ n + 1 = omega arith in
+    let last : place_left j (n + 1) ≡ n = grind (arith, nat_tests) in
+    let first : place_left j 0 ≡ 0 = grind (arith, nat_tests) in
+    rw (end, around (n + 1), last, around n) first)
+    (cases_lt b (n + 1))
 
 -- the place is this node's
 abbrev pub is_node : Option Node → Node → Bool
 is_node None m = false
 is_node (Some n) m = same_node n m
+
+-- places depend on the nodes alone
+module _ {X Y : Type 0} where
+  pub same-number : (es : List (Node × X)) (fs : List (Node × Y)) (p : Option Node)
+      → keys_of es ≡ keys_of fs → place_number es p ≡ place_number fs p
+  same-number es fs None same = omega (arith, length-keys_of es, length-keys_of fs, ap length same)
+  same-number [] [] (Some n) same = refl
+  same-number [] (f ∷ fs) (Some n) same = absurd (cc)
+  same-number (e ∷ es) [] (Some n) same = absurd (cc)
+  same-number (e ∷ es) (f ∷ fs) (Some n) same =
+      let first : e.0 ≡ f.0 = cc in
+      let rest : keys_of es ≡ keys_of fs = cc in
+      rw (
+        place_or_end-cons same_node e es n,
+        place_or_end-cons same_node f fs n,
+        first,
+        same-number es fs (Some n) rest,
+      ) refl
+
+  pub same-place : (es : List (Node × X)) (fs : List (Node × Y)) (p : Option Node)
+      → keys_of es ≡ keys_of fs → IsPlace es p → IsPlace fs p
+  same-place es fs None same within = tt
+  same-place es fs (Some n) same held = is_some-lookup (same_node n) fs
+      ∙ ap (list_any (same_node n)) (sym same) ∙ sym (is_some-lookup (same_node n) es) ∙ held
 
 module _ {X : Type 0} where
   -- ---- where a node stands
@@ -68,35 +89,33 @@ module _ {X : Type 0} where
     pub within : place_number es (Some n) < length es
     pub key_at : slice_get (keys_of es) (place_number es (Some n)) ≡ Some n
 
-  entry-of : (n : Node) (es : List (Node × X)) → Holds es n → (x : X) × (lookup (same_node n) es ≡ Some x)
-      × (lookup_entry (same_node n) es ≡ Some (n, x))
-  entry-of n [] held = absurd (cc)
-  entry-of n (e ∷ es) held =
-      (elim (same_node n e.0) as
-      (λ b. same_node n e.0 ≡ b → is_some (cond b (Some e.1) (lookup (same_node n) es))
-      ≡ true → (x : X) × (cond b (Some e.1) (lookup (same_node n) es) ≡ Some x)
-      × (cond b (Some e) (lookup_entry (same_node n) es) ≡ Some (n, x))) [
-        | true ↦ λ t h. (e.1, refl, ap (λ m. Some (m, e.1)) (sym (eq-same_node n e.0 t)))
-        | false ↦ λ t h. entry-of n es h
-      ]) refl held
+  some-from : (o : Option X) → is_some o ≡ true → (x : X) × (o ≡ Some x)
+  some-from None h = absurd (cc)
+  some-from (Some x) h = (x, refl)
 
   pub node-at : (es : List (Node × X)) (n : Node) → Holds es n → (x : X) × IsNodeAt es n x
   node-at es n held =
-      let o = entry-of n es held in
-      let at : slice_get es (place_number es (Some n)) ≡ Some (n, o.0) = slice_get-place_or_end same_node n es
-      ∙ o.2
-      in (
+      let o = some-from (lookup (same_node n) es) held in
+      let s = stands_from_lookup (same_node n) es o.0 o.1 in
+      let first = ap (lookup_entry (same_node n)) s.3.is
+      ∙ lookup_entry-here (same_node n) s.1 s.2 s.3.passes s.0 s.3.before in
+      let value : s.1.1 ≡ o.0
+      = cc (sym (lookup_is (same_node n) es ∙ ap (option_map (λ e. e.1)) first) ∙ o.1) in
+      let entry : lookup_entry (same_node n) es ≡ Some (n, o.0)
+      = first ∙ ap (λ x. Some (s.1.0, x)) value
+      ∙ ap (λ m. Some (m, o.0)) (sym (eq-same_node n s.1.0 s.3.passes)) in
+      let at = slice_get-place_or_end same_node n es ∙ entry in (
         o.0,
         record {
           found = o.1;
-          entry = o.2;
+          entry = entry;
           at = at;
-          within = lt-at es (place_number es (Some n)) (n, o.0) at;
-          key_at = slice_get-map (λ e. e.0) es (place_number es (Some n)) ∙ ap (option_map (λ e. e.0)) at;
+          within = slice_get_within es (place_number es (Some n)) (n, o.0) at;
+          key_at = mapped-at (λ e. e.0) es (place_number es (Some n)) (n, o.0) at;
         },
       )
 
-  pub place_number-most : (es : List (Node × X)) (p : Option Node) → place_number es p ≤ length es
+  place_number-most : (es : List (Node × X)) (p : Option Node) → place_number es p ≤ length es
   place_number-most es None = omega arith
   place_number-most es (Some n) = place_or_end-most same_node es n
 
@@ -106,66 +125,62 @@ module _ {X : Type 0} where
   number-cons e es (Some n) = place_or_end-cons same_node e es n
 
   -- ---- an entry put in at a place
-  put_before_node-at : (es : List (Node × X)) (n : Node) (x : Node × X)
-      → put_before_node n x es ≡ insert es (place_or_end same_node es n) x
-  put_before_node-at [] n x = refl
-  put_before_node-at (e ∷ es) n x =
-      (elim (same_node n e.0) as (λ b. cond b (x ∷ e ∷ es) (e ∷ put_before_node n x es)
-      ≡ insert (e ∷ es) (cond b 0 (suc (place_or_end same_node es n))) x)
-      [ true ↦ refl | false ↦ ap (λ r. e ∷ r) (put_before_node-at es n x) ])
-      ∙ ap (λ i. insert (e ∷ es) i x) (sym (place_or_end-cons same_node e es n))
-
-  put_last-at : (es : List (Node × X)) (x : Node × X) → es ++ x ∷ [] ≡ insert es (length es) x
-  put_last-at [] x = refl
-  put_last-at (e ∷ es) x = ap (λ r. e ∷ r) (put_last-at es x)
-
   pub put_before-at : (es : List (Node × X)) (p : Option Node) (x : Node × X)
       → put_before p x es ≡ insert es (place_number es p) x
-  put_before-at es None x = put_last-at es x
-  put_before-at es (Some n) x = put_before_node-at es n x
+  put_before-at es None x = sym (insert_end es x)
+  put_before-at [] (Some n) x = refl
+  put_before-at (e ∷ es) (Some n) x =
+      rw (place_or_end-cons same_node e es n)
+      (elim (same_node n e.0) as (λ b. cond b (x ∷ e ∷ es) (e ∷ put_before_node n x es)
+      ≡ insert (e ∷ es) (cond b 0 (suc (place_number es (Some n)))) x)
+      [ true ↦ refl | false ↦ ap (λ r. e ∷ r) (put_before-at es (Some n) x) ])
 
-  pub put_after_node-at : (es : List (Node × X)) (n : Node) (x : Node × X)
-      → put_after_node n x es ≡ insert es (suc (place_or_end same_node es n)) x
+  put_after_node-at : (es : List (Node × X)) (n : Node) (x : Node × X)
+      → put_after_node n x es ≡ insert es (suc (place_number es (Some n))) x
   put_after_node-at [] n x = refl
   put_after_node-at (e ∷ es) n x =
+      rw (place_or_end-cons same_node e es n)
       (elim (same_node n e.0) as (λ b. cond b (e ∷ x ∷ es) (e ∷ put_after_node n x es)
-      ≡ insert (e ∷ es) (suc (cond b 0 (suc (place_or_end same_node es n)))) x)
+      ≡ insert (e ∷ es) (suc (cond b 0 (suc (place_number es (Some n))))) x)
       [ true ↦ refl | false ↦ ap (λ r. e ∷ r) (put_after_node-at es n x) ])
-      ∙ ap (λ i. insert (e ∷ es) (suc i) x) (sym (place_or_end-cons same_node e es n))
+
+  put_after-at : (x : Node × X) (es : List (Node × X)) (p : Option Node) → IsPlace es p
+      → put_after p x es ≡ insert es (cursor.following_place (length es) (place_number es p)) x
+  put_after-at x es None within = rw (around (length es)) refl
+  put_after-at x es (Some m) within =
+      rw (following-within (length es) (place_number es (Some m)) (node-at es m within).1.within)
+      (put_after_node-at es m x)
 
   -- ---- an entry that is changed where it stands
   pub set_value-at : (f : X → X) (es : List (Node × X)) (n : Node) (x : X) → lookup (same_node n) es ≡ Some x
-      → set_value (same_node n) es (f x) ≡ renewed_at f es (place_or_end same_node es n)
+      → set_value (same_node n) es (f x) ≡ renewed_at f es (place_number es (Some n))
   set_value-at f [] n x at = refl
   set_value-at f (e ∷ es) n x at =
-      (elim (same_node n e.0) as (λ b. cond b (Some e.1) (lookup (same_node n) es) ≡ Some x
+      rw (place_or_end-cons same_node e es n)
+      ((elim (same_node n e.0) as (λ b. cond b (Some e.1) (lookup (same_node n) es) ≡ Some x
       → cond b ((e.0, f x) ∷ es) (e ∷ set_value (same_node n) es (f x))
-      ≡ renewed_at f (e ∷ es) (cond b 0 (suc (place_or_end same_node es n)))) [
+      ≡ renewed_at f (e ∷ es) (cond b 0 (suc (place_number es (Some n))))) [
         | true ↦ λ h. let same : e.1 ≡ x = cc in ap (λ y. (e.0, f y) ∷ es) (sym same)
         | false ↦ λ h. ap (λ r. e ∷ r) (set_value-at f es n x h)
-      ]) at ∙ ap (renewed_at f (e ∷ es)) (sym (place_or_end-cons same_node e es n))
+      ]) at)
 
   -- which leaves every place
+  pub keys-renewed : (f : X → X) (es : List (Node × X)) (j : ℕ) → keys_of (renewed_at f es j) ≡ keys_of es
+  keys-renewed f [] j = refl
+  keys-renewed f (e ∷ es) zero = refl
+  keys-renewed f (e ∷ es) (suc j) = ap (λ r. e.0 ∷ r) (keys-renewed f es j)
+
   pub place_number-renewed : (f : X → X) (es : List (Node × X)) (j : ℕ) (p : Option Node)
       → place_number (renewed_at f es j) p ≡ place_number es p
-  place_number-renewed f [] j p = refl
-  place_number-renewed f (e ∷ es) zero p = number-cons (e.0, f e.1) es p ∙ sym (number-cons e es p)
-  place_number-renewed f (e ∷ es) (suc j) p = number-cons e (renewed_at f es j) p
-      ∙ ap (λ i. cond (is_node p e.0) 0 (suc i)) (place_number-renewed f es j p) ∙ sym (number-cons e es p)
+  place_number-renewed f es j p = same-number (renewed_at f es j) es p (keys-renewed f es j)
 
-  still-some : (f : X → X) (es : List (Node × X)) (j : ℕ) (n : Node)
-      → is_some (lookup (same_node n) (renewed_at f es j)) ≡ is_some (lookup (same_node n) es)
-  still-some f [] j n = refl
-  still-some f (e ∷ es) zero n = elim (same_node n e.0)
-      as (λ b. is_some (cond b (Some (f e.1)) (lookup (same_node n) es))
-      ≡ is_some (cond b (Some e.1) (lookup (same_node n) es))) [ true ↦ refl | false ↦ refl ]
-  still-some f (e ∷ es) (suc j) n =
-      elim (same_node n e.0) as (λ b. is_some (cond b (Some e.1) (lookup (same_node n) (renewed_at f es j)))
-      ≡ is_some (cond b (Some e.1) (lookup (same_node n) es))) [ true ↦ refl | false ↦ still-some f es j n ]
+  pub place-renewed : (f : X → X) (es : List (Node × X)) (j : ℕ) (p : Option Node) → IsPlace es p
+      → IsPlace (renewed_at f es j) p
+  place-renewed f es j p = same-place es (renewed_at f es j) p (sym (keys-renewed f es j))
 
   pub renewed-holds : (f : X → X) (es : List (Node × X)) (j : ℕ) (n : Node) → Holds es n
       → Holds (renewed_at f es j) n
-  renewed-holds f es j n held = still-some f es j n ∙ held
+  renewed-holds f es j n = place-renewed f es j (Some n)
 
   -- which is to take it out and to put in there what f makes of it
   pub renewed_at-is : (f : X → X) (es : List (Node × X)) (j : ℕ) (e : Node × X) → slice_get es j ≡ Some e
@@ -181,152 +196,86 @@ module _ {X : Type 0} where
   renewed_twice f g (e ∷ es) zero = refl
   renewed_twice f g (e ∷ es) (suc j) = ap (λ r. e ∷ r) (renewed_twice f g es j)
 
-  -- an entry that was put in is found, and stands where it was put
-  pub inserted-at : (es : List (Node × X)) (i : ℕ) (n : Node) (x : X) → i ≤ length es
-      → IsEntries same_node (insert es i (n, x)) → (lookup (same_node n) (insert es i (n, x)) ≡ Some x)
-      × (place_number (insert es i (n, x)) (Some n) ≡ i)
-  inserted-at es i n x le d =
-      let at = slice_get-inserted es i (n, x) le in (
-        lookup_is (same_node n) (insert es i (n, x))
-            ∙ ap (option_map (λ e. e.1))
-            (lookup_entry_at same_node same_node_equiv (insert es i (n, x)) i (n, x) n d at
-            (same_node_equiv.refl n)),
-        ap (λ o. unwrap_or o (length (insert es i (n, x))))
-            (place_of_its_key same_node same_node_equiv (insert es i (n, x)) i (n, x) n d at
-            (same_node_equiv.refl n)),
-      )
-
   -- ---- where a place is once a node is taken out
-  pub place_number-left : (es : List (Node × X)) (n : Node) (p : Option Node) → is_node p n ≡ false
+  place_number-left : (es : List (Node × X)) (n : Node) (p : Option Node) → is_node p n ≡ false
       → place_number (remove_entry (same_node n) es) p
       ≡ place_left (place_number es (Some n)) (place_number es p)
   place_number-left [] n None apart = refl
   place_number-left [] n (Some m) apart = refl
   place_number-left (e ∷ es) n p apart =
-      (elim (same_node n e.0) as (λ b. same_node n e.0 ≡ b
+      rw (number-cons e es (Some n), number-cons e es p)
+      ((elim (same_node n e.0) as (λ b. same_node n e.0 ≡ b
       → place_number (cond b es (e ∷ remove_entry (same_node n) es)) p
       ≡ place_left (cond b 0 (suc (place_number es (Some n))))
       (cond (is_node p e.0) 0 (suc (place_number es p)))) [
-        | true ↦ λ t.
-            let other : is_node p e.0 ≡ false = ap (is_node p) (sym (eq-same_node n e.0 t)) ∙ apart in
-            let one_less : suc (place_number es p) - 1 ≡ place_number es p = omega arith in
-            sym (ap (λ b. place_left 0 (cond b 0 (suc (place_number es p)))) other
-            ∙ place_left-before 0 (suc (place_number es p)) (omega arith) ∙ one_less)
+        | true ↦ λ t. rw (← eq-same_node n e.0 t, apart) (sym (place_left-first (place_number es p)))
         | false ↦ λ t.
-            number-cons e (remove_entry (same_node n) es) p
-            ∙ elim (is_node p e.0) as (λ b. cond b 0 (suc (place_number (remove_entry (same_node n) es) p))
+            rw (number-cons e (remove_entry (same_node n) es) p)
+            (elim (is_node p e.0) as (λ b. cond b 0 (suc (place_number (remove_entry (same_node n) es) p))
             ≡ place_left (suc (place_number es (Some n))) (cond b 0 (suc (place_number es p)))) [
               | true ↦ sym (place_left-past (suc (place_number es (Some n))) 0 (omega arith))
-              | false ↦ ap suc (place_number-left es n p apart)
-                  ∙ sym (place_left-suc (place_number es (Some n)) (place_number es p))
-            ]
-      ]) refl ∙ ap (λ i. place_left i (cond (is_node p e.0) 0 (suc (place_number es p))))
-      (sym (number-cons e es (Some n)))
-      ∙ ap (λ i. place_left (place_number (e ∷ es) (Some n)) i) (sym (number-cons e es p))
-
-  not-the-node : (es : List (Node × X)) (n : Node) (p : Option Node) → IsEntries same_node es → Holds es n
-      → IsPlace (remove_entry (same_node n) es) p → is_node p n ≡ false
-  not-the-node es n None d held within = refl
-  not-the-node es n (Some m) d held within =
-      elim (same_node m n) as (λ b. same_node m n ≡ b → b ≡ false) [
-        | true ↦ λ t.
-            let gone : NonePasses (same_node n) (remove_entry (same_node n) es) =
-            none_without same_node same_node_equiv es n d in
-            let none : lookup (same_node m) (remove_entry (same_node n) es) ≡ None =
-            ap (λ l. lookup (same_node l) (remove_entry (same_node n) es)) (eq-same_node m n t)
-            ∙ lookup-none (same_node n) (remove_entry (same_node n) es) gone in
-            absurd (cc (sym (ap is_some none) ∙ within))
-        | false ↦ λ t. refl
-      ] refl
-
-  -- after a place
-  put_after-at : (x : Node × X) (rest : List (Node × X)) (q : Option Node) → IsPlace rest q
-      → put_after q x rest ≡ insert rest (cursor.following_place (length rest) (place_number rest q)) x
-  put_after-at x rest None within = ap (λ i. insert rest i x) (sym (around (length rest)))
-  put_after-at x rest (Some m) within = put_after_node-at rest m x
-      ∙ ap (λ i. insert rest i x)
-      (sym (following-within (length rest) (place_number rest (Some m)) (node-at rest m within).1.within))
-
-  entry-passes : (test : Node → Bool) (es : List (Node × X)) (e : Node × X) → lookup_entry test es ≡ Some e
-      → test e.0 ≡ true
-  entry-passes test [] e found = absurd (cc)
-  entry-passes test (y ∷ es) e found =
-      (elim (test y.0) as (λ b. test y.0 ≡ b → cond b (Some y) (lookup_entry test es)
-      ≡ Some e → test e.0 ≡ true) [
-        | true ↦ λ t h. let same : y ≡ e = cc in ap (λ z. test z.0) (sym same) ∙ t
-        | false ↦ λ t h. entry-passes test es e h
-      ]) refl found
+              | false ↦ rw (place_left-suc (place_number es (Some n)) (place_number es p))
+                  (ap suc (place_number-left es n p apart))
+            ])
+      ]) refl)
 
   -- ---- an entry that moves
   module _ (es : List (Node × X)) (n : Node) (p : Option Node) (d : IsEntries same_node es)
       (held : Holds es n) (within : IsPlace (remove_entry (same_node n) es) p) where
-    left-at : place_number (remove_entry (same_node n) es) p
+    abbrev x : X
+    x = (node-at es n held).0
+
+    at : IsNodeAt es n x
+    at = (node-at es n held).1
+
+    not-the-node : (q : Option Node) → IsPlace (remove_entry (same_node n) es) q → is_node q n ≡ false
+    not-the-node None within = refl
+    not-the-node (Some m) within =
+        same_node_equiv.symm m n ∙ (elim (same_node n m)
+        as (λ b. is_some (cond b None (lookup (same_node m) es)) ≡ true → b ≡ false)
+        [ true ↦ λ h. absurd (cc h) | false ↦ λ h. refl ])
+        (sym (ap is_some (lookup-remove_entry same_node_equiv (same_node n)
+        (λ y z t. same_node_equiv.congr n y z t) m es d)) ∙ within)
+
+    other-number : (q : Option Node) → is_node q n ≡ false → place_number es q ≢ place_number es (Some n)
+    other-number None apart same = absurd (omega (arith, at.within, same))
+    other-number (Some m) apart same =
+        let found = sym (slice_get-place_or_end same_node m es) ∙ ap (slice_get es) same ∙ at.at in
+        let s = stands_from_lookup (same_node m) es x (lookup_is (same_node m) es
+        ∙ ap (option_map (λ e. e.1)) found) in
+        let here : s.1 ≡ (n, x) = cc
+        (sym (ap (lookup_entry (same_node m)) s.3.is
+        ∙ lookup_entry-here (same_node m) s.1 s.2 s.3.passes s.0 s.3.before) ∙ found) in
+        absurd (cc (sym s.3.passes ∙ ap (λ e. same_node m e.0) here ∙ apart))
+
+    pub left-at : place_number (remove_entry (same_node n) es) p
         ≡ place_left (place_number es (Some n)) (place_number es p)
-    left-at = place_number-left es n p (not-the-node es n p d held within)
+    left-at = place_number-left es n p (not-the-node p within)
+
+    moved-to : (b : ℕ) → insert (remove_entry (same_node n) es) (place_left (place_number es (Some n)) b) (n, x)
+        ≡ moved_at es (place_number es (Some n)) b
+    moved-to b = rw (remove_entry-at same_node es n) (sym (moved_at-is es (place_number es (Some n)) b (n, x) at.at))
 
     pub moves_before-at : (fs : List (Node × X)) → MovesBefore es n p fs
         → fs ≡ moved_at es (place_number es (Some n)) (place_number es p)
     moves_before-at fs m =
-        let x = node-at es n held in
-        let put : fs ≡ put_before p (n, x.0) (remove_entry (same_node n) es) =
-        subst (λ o. IfSome o (λ e. fs ≡ put_before p e (remove_entry (same_node n) es))) x.1.entry m in
-        put ∙ put_before-at (remove_entry (same_node n) es) p (n, x.0)
-        ∙ ap (λ i. insert (remove_entry (same_node n) es) i (n, x.0)) left-at
-        ∙ ap (λ rest. insert rest (place_left (place_number es (Some n)) (place_number es p)) (n, x.0))
-        (remove_entry-at same_node es n)
-        ∙ sym (moved_at-is es (place_number es (Some n)) (place_number es p) (n, x.0) x.1.at)
-
-    -- another node has another number
-    apart-number : (m : Node) → same_node m n ≡ false → place_number es (Some m) ≢ place_number es (Some n)
-    apart-number m apart same =
-        let x = node-at es n held in
-        let found : lookup_entry (same_node m) es ≡ Some (n, x.0) =
-        sym (slice_get-place_or_end same_node m es)
-        ∙ ap (slice_get es) same ∙ x.1.at in
-        absurd (cc (sym apart ∙ entry-passes (same_node m) es (n, x.0) found))
-
-    -- the place that comes after it
-    after-left-by : (q : Option Node) → p ≡ q → IsPlace (remove_entry (same_node n) es) q
-        → place_left (place_number es (Some n)) (cursor.following_place (length es) (place_number es q))
-        ≡ cursor.following_place (length (remove_entry (same_node n) es))
-        (place_number (remove_entry (same_node n) es) q)
-    after-left-by None is here = ap (place_left (place_number es (Some n))) (around (length es))
-        ∙ place_left-past (place_number es (Some n)) 0 (omega arith)
-        ∙ sym (around (length (remove_entry (same_node n) es)))
-    after-left-by (Some m) is here =
-        let j = place_number es (Some n) in
-        let b = place_number es (Some m) in
-        let apart : same_node m n ≡ false = subst (λ q. is_node q n ≡ false) is
-        (not-the-node es n p d held within) in
-        let other : b ≢ j = apart-number m apart in
-        let left : place_number (remove_entry (same_node n) es) (Some m) ≡ place_left j b =
-        place_number-left es n (Some m) apart in
-        let inside = (node-at (remove_entry (same_node n) es) m here).1.within in
-        let x = node-at es n held in
-        let fewer : length (remove_entry (same_node n) es) + 1 ≡ length es =
-        ap (λ rest. length rest + 1) (remove_entry-at same_node es n) ∙ length-removed es j (n, x.0) x.1.at in
-        let within_es : b < length es =
-        subst (λ i. b < i) fewer (within-before j b (length (remove_entry (same_node n) es))
-        (subst (λ i. i < length (remove_entry (same_node n) es)) left inside)) in
-        ap (place_left j) (following-within (length es) b within_es) ∙ next-left j b other ∙ ap suc (sym left)
-        ∙ sym (following-within (length (remove_entry (same_node n) es))
-        (place_number (remove_entry (same_node n) es) (Some m)) inside)
-
-    after-left : place_left (place_number es (Some n))
-        (cursor.following_place (length es) (place_number es p))
-        ≡ cursor.following_place (length (remove_entry (same_node n) es))
-        (place_number (remove_entry (same_node n) es) p)
-    after-left = after-left-by p refl within
+        let rest = remove_entry (same_node n) es in
+        let put = subst (λ o. IfSome o (λ e. fs ≡ put_before p e rest)) at.entry m in
+        put ∙ put_before-at rest p (n, x) ∙ ap (λ i. insert rest i (n, x)) left-at
+        ∙ moved-to (place_number es p)
 
     pub moves_after-at : (fs : List (Node × X)) → MovesAfter es n p fs
         → fs ≡ moved_at es (place_number es (Some n)) (cursor.following_place (length es) (place_number es p))
     moves_after-at fs m =
-        let x = node-at es n held in
-        let to = cursor.following_place (length es) (place_number es p) in
-        let put : fs ≡ put_after p (n, x.0) (remove_entry (same_node n) es) =
-        subst (λ o. IfSome o (λ e. fs ≡ put_after p e (remove_entry (same_node n) es))) x.1.entry m in
-        put ∙ put_after-at (n, x.0) (remove_entry (same_node n) es) p within
-        ∙ ap (λ i. insert (remove_entry (same_node n) es) i (n, x.0)) (sym after-left)
-        ∙ ap (λ rest. insert rest (place_left (place_number es (Some n)) to) (n, x.0))
-        (remove_entry-at same_node es n)
-        ∙ sym (moved_at-is es (place_number es (Some n)) to (n, x.0) x.1.at)
+        let rest = remove_entry (same_node n) es in
+        let put = subst (λ o. IfSome o (λ e. fs ≡ put_after p e rest)) at.entry m in
+        let j = place_number es (Some n) in
+        let fewer : length rest + 1 ≡ length es =
+        ap (λ l. length l + 1) (remove_entry-at same_node es n) ∙ length-removed es j (n, x) at.at in
+        let after = following-left (length rest) j (place_number es p) (omega (arith, at.within, fewer))
+        (omega (arith, place_number-most es p, fewer)) (other-number p (not-the-node p within)) in
+        put ∙ put_after-at (n, x) rest p within
+        ∙ ap (λ b. insert rest (cursor.following_place (length rest) b) (n, x)) left-at
+        ∙ ap (λ i. insert rest i (n, x)) (sym after)
+        ∙ ap (λ l. insert rest (place_left j (cursor.following_place l (place_number es p))) (n, x)) fewer
+        ∙ moved-to (cursor.following_place (length es) (place_number es p))

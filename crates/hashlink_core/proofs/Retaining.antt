@@ -1,352 +1,269 @@
 -- A retain, as it comes along the list: what it has kept, and what is left to call the closure on.
-use Rattle.std.proofs.Common.{◌≡◌, ℕ, zero, suc, ◌+◌, ◌-◌, ◌<◌, Bool, true, false, cond, List, [], ◌∷◌, ◌++◌}
-use Rattle.std.proofs.Common.{length, take, drop, Option, None, Some, refl, ap, sym, subst, ◌∙◌, arith}
-use Rattle.std.proofs.Common.{append-nil, filter}
+use Rattle.std.proofs.Common.{◌≡◌, suc, ◌+◌, ◌-◌, ◌<◌, Bool, true, false, cond, List, [], ◌∷◌, ◌++◌, length}
+use Rattle.std.proofs.Common.{Option, None, Some, refl, ap, ap₂, sym, subst, ◌∙◌, arith, filter, append_assoc}
 use Rattle.std.specs.Prelude.{slice_get, remove}
 use Rattle.std.specs.Borrow.{Bor, MutBor}
 use Rattle.std.specs.Fn.{Mut, Called}
 use Rattle.std.specs.List.{IsDistinct}
-use Rattle.std.specs.Map.{keys_of, values_of}
+use Rattle.std.specs.Map.{keys_of, remove_entry}
 use Rattle.std.specs.Map.Calls.{CallableOnEachPair, CalledAtPair}
-use Rattle.std.proofs.Math.Seq.{take-length, drop-length}
-use Rattle.std.proofs.lemmas.List.{length-map}
+use Rattle.std.proofs.lemmas.List.{length-append}
+use Rattle.std.proofs.lemmas.Map.Entries.{length-values_of}
 use Rattle.hashlink_model.specs.Cursor.{following_place}
 use Rattle.hashlink_model.specs.Entries.{set_value_at}
 use Rattle.hashlink_model.specs.Retain.{KeepsInOrder, RetainsInOrder}
 use Rattle.hashlink_model.specs.Steps.{KeepsOnly}
-use Rattle.hashlink_model.proofs.ByPlace.{length-set_value_at, keys-set_value_at}
+use Rattle.hashlink_model.proofs.ByPlace.{length-set_value_at, keys-set_value_at, set_value_at-here, remove-here}
 use Rattle.hashlink_nodes.specs.declared.node.Node.{Node}
 use Rattle.hashlink_nodes.specs.Node.{same_node}
 use Rattle.hashlink_nodes.specs.Ring.{IsPlace}
 use Rattle.hashlink_core.specs.Keyed.{Keyed, IsKeyed, entries_of, state_of, pair_with_value}
 use Rattle.hashlink_core.specs.KeyedLends.{with_value_at}
-use Rattle.hashlink_core.specs.Places.{place_number, IsPlaceAt, renewed_at}
+use Rattle.hashlink_core.specs.Places.{place_number, IsPlaceAt}
 use Rattle.hashlink_core.specs.Steps.{RemovesNode}
-use Rattle.hashlink_core.proofs.Edits.{drop-at}
+use Rattle.hashlink_core.proofs.Edits.{place_left-before, remove_entry-at}
+use Rattle.hashlink_core.proofs.Keeping.{left-place}
 use Rattle.hashlink_core.proofs.Mapped.{values-renewed_value}
-use Rattle.hashlink_core.proofs.Places.{is_node, following-within, number-cons, place_number-renewed, node-at}
-use Rattle.hashlink_core.proofs.Places.{renewed-holds}
-use Rattle.hashlink_core.proofs.Walk.{within-holds}
+use Rattle.hashlink_core.proofs.Places.{following-within, place_number-renewed, node-at, place-renewed}
+use Rattle.hashlink_core.proofs.Places.{keys-renewed, left-at}
 
--- ---- lists cut at the place of the call
 module _ {X : Type 0} where
-  take-removed : (xs : List X) (j : ℕ) → take j (remove xs j) ≡ take j xs
-  take-removed [] zero = refl
-  take-removed [] (suc j) = refl
-  take-removed (x ∷ xs) zero = refl
-  take-removed (x ∷ xs) (suc j) = ap (λ ys. x ∷ ys) (take-removed xs j)
+  -- what stands right after xs is the first of what is left
+  begins : (xs ys : List X) (x : X) → slice_get (xs ++ ys) (length xs) ≡ Some x
+      → (zs : List X) × (ys ≡ x ∷ zs)
+  begins [] [] x at = absurd (cc)
+  begins [] (y ∷ ys) x at = let same : y ≡ x = cc in (ys, ap (λ z. z ∷ ys) same)
+  begins (z ∷ xs) ys x at = begins xs ys x at
 
-  drop-removed : (xs : List X) (j : ℕ) → drop j (remove xs j) ≡ drop (suc j) xs
-  drop-removed [] zero = refl
-  drop-removed [] (suc j) = refl
-  drop-removed (x ∷ xs) zero = refl
-  drop-removed (x ∷ xs) (suc j) = drop-removed xs j
+  bare : (xs : List X) → length xs ≡ 0 → xs ≡ []
+  bare [] none = refl
+  bare (x ∷ xs) none = absurd (omega (arith, none))
 
-  number-left : (e : Node × X) (es : List (Node × X)) (p : Option Node)
-      → ((i : ℕ) → place_number es p ≡ suc i → place_number (remove es i) p ≡ i) → (j : ℕ)
-      → cond (is_node p e.0) 0 (suc (place_number es p)) ≡ suc j → place_number (remove (e ∷ es) j) p ≡ j
-  number-left e es p later j is =
-      (elim (is_node p e.0) as (λ b. is_node p e.0 ≡ b → cond b 0 (suc (place_number es p)) ≡ suc j
-      → place_number (remove (e ∷ es) j) p ≡ j) [
-        | true ↦ λ t h. absurd (omega (arith, h))
-        | false ↦ λ t h. behind t j (omega (arith, h))
-      ]) refl is
-    where
-      behind : is_node p e.0 ≡ false → (i : ℕ) → place_number es p ≡ i
-          → place_number (remove (e ∷ es) i) p ≡ i
-      behind t zero at = at
-      behind t (suc i) at = number-cons e (remove es i) p
-          ∙ ap (λ b. cond b 0 (suc (place_number (remove es i) p))) t ∙ ap suc (later i at)
-
-  -- the place after the one that was taken out
-  next-removed : (es : List (Node × X)) (p : Option Node) (j : ℕ) → place_number es p ≡ suc j
-      → place_number (remove es j) p ≡ j
-  next-removed [] None j is = absurd (omega (arith, is))
-  next-removed [] (Some n) j is = absurd (omega (arith, is))
-  next-removed (e ∷ es) p j is = number-left e es p (λ i at. next-removed es p i at) j
-      (sym (number-cons e es p) ∙ is)
-
-  renewed-place : (f : X → X) (es : List (Node × X)) (j : ℕ) (p : Option Node) → IsPlace es p
-      → IsPlace (renewed_at f es j) p
-  renewed-place f es j None within = tt
-  renewed-place f es j (Some n) within = renewed-holds f es j n within
-
-module _ {K V : Type 0} where
-  length-values : (ns : List (Node × (K × V))) → length (values_of ns) ≡ length ns
-  length-values ns = length-map ns (λ e. e.1)
-
-  take-written : (es : List (K × V)) (j : ℕ) (w : V) → take j (set_value_at es j w) ≡ take j es
-  take-written [] j w = refl
-  take-written (e ∷ es) zero w = refl
-  take-written (e ∷ es) (suc j) w = ap (λ r. e ∷ r) (take-written es j w)
-
-  drop-written : (es : List (K × V)) (j : ℕ) (w : V) → drop (suc j) (set_value_at es j w) ≡ drop (suc j) es
-  drop-written [] j w = refl
-  drop-written (e ∷ es) zero w = refl
-  drop-written (e ∷ es) (suc j) w = drop-written es j w
-
-  kept-written : (es : List (K × V)) (j : ℕ) (e : K × V) (w : V) → slice_get es j ≡ Some e
-      → (out : List (K × V))
-      → take (suc j) (set_value_at es j w) ++ out ≡ take j es ++ (e.0, w) ∷ out
-  kept-written [] j e w at out = absurd (cc)
-  kept-written (x ∷ es) zero e w at out = let same : x ≡ e = cc in ap (λ y. (y.0, w) ∷ out) same
-  kept-written (x ∷ es) (suc j) e w at out = ap (λ r. x ∷ r) (kept-written es j e w at out)
+  -- where nothing passes nothing is left
+  pub none-passes : (xs : List X) → filter (λ x. false) xs ≡ []
+  none-passes [] = refl
+  none-passes (x ∷ xs) = none-passes xs
 
 -- a value that was written leaves the list sound
-keys-renewed : {X : Type 0} (f : X → X) (ns : List (Node × X)) (j : ℕ)
-    → keys_of (renewed_at f ns j) ≡ keys_of ns
-keys-renewed f [] j = refl
-keys-renewed f (e ∷ ns) zero = refl
-keys-renewed f (e ∷ ns) (suc j) = ap (λ r. e.0 ∷ r) (keys-renewed f ns j)
+sound-written : {K V S : Type 0} (eq : K → K → Bool) (m : Keyed K V S) (n : Node) (w : V) → IsKeyed eq m
+    → IsKeyed eq (with_value_at m n w)
+sound-written eq m n w sound =
+    let j = place_number m.nodes (Some n) in
+    let written = values-renewed_value m.nodes j w in
+    record {
+      distinct = rw (written, keys-set_value_at (entries_of m) j w) sound.distinct;
+      apart = rw (keys-renewed (pair_with_value w) m.nodes j) sound.apart;
+      fits = omega (arith, sound.fits, ap length written, length-set_value_at (entries_of m) j w);
+    }
 
-module _ {K V S : Type 0} (eq : K → K → Bool) where
-  pub sound-written : (m : Keyed K V S) (n : Node) (w : V) → IsKeyed eq m → IsKeyed eq (with_value_at m n w)
-  sound-written m n w sound =
-      let j = place_number m.nodes (Some n) in
-      let written = values-renewed_value m.nodes j w in
-      record {
-        distinct = subst (IsDistinct eq)
-            (sym (ap keys_of written ∙ keys-set_value_at (entries_of m) j w)) sound.distinct;
-        apart = subst (IsDistinct same_node) (sym (keys-renewed (pair_with_value w) m.nodes j)) sound.apart;
-        fits = omega (arith, sound.fits, ap length written, length-set_value_at (entries_of m) j w);
-      }
-
--- ---- the calls
 pub called-at : {F K V : Type 0} (g : Mut F (Bor K × (MutBor V × Unit {0})) (Bool × (MutBor V × Unit {0})))
     {f f' : F}
     {k : Bor K} {v w : MutBor V} {b : Bool} → Called g f (k, (v, tt)) (b, (w, tt)) f'
     → CalledAtPair g f k.now v.now b w.now f'
 called-at g c = record { key = _; value = _; shows = (refl, refl); left = _; called = c; leaves = refl }
 
-module _ {F K V : Type 0} (T : F → K → V → Bool → V → F → Type 0) (Q : F → K → V → Type 0) where
-  callable-here : (f : F) (e : K × V) (es : List (K × V)) → CallableOnEachPair T Q f (e ∷ es) → Q f e.0 e.1
-  callable-here f e es c = c.at [] es f e.0 e.1 refl refl
+-- the calls up to the place p kept what stands before it, and left the closure as f
+pub record Retaining {F K V S : Type 0} (eq : K → K → Bool) (T : F → K → V → Bool → V → F → Type 0)
+    (Q : F → K → V → Type 0) (start : F) (old : Keyed K V S) (f : F) (m : Keyed K V S)
+    (p : Option Node) : Type 0 where
+  pub within : IsPlace m.nodes p
+  pub done : List (K × V)
+  pub left : List (K × V)
+  pub is : entries_of m ≡ done ++ left
+  pub number : place_number m.nodes p ≡ length done
+  pub callable : CallableOnEachPair T Q f left
+  pub calls : (out : List (K × V)) (g : F) → KeepsInOrder T f left out g
+      → KeepsInOrder T start (entries_of old) (done ++ out) g
+  pub keeps : KeepsOnly (state_of old) (state_of m) (entries_of m)
+  pub sound : IsKeyed eq m
 
-  callable-later : (f : F) (e : K × V) (es : List (K × V)) (b : Bool) (w : V) (f' : F) → T f e.0 e.1 b w f'
-      → CallableOnEachPair T Q f (e ∷ es) → CallableOnEachPair T Q f' es
-  callable-later f e es b w f' t c = record {
-    at = λ before after g k v is folds. c.at (e ∷ before) after g k v (ap (λ l. e ∷ l) is)
-        (f', (b, w, t), folds);
+module _ {F K V S : Type 0} {eq : K → K → Bool} {T : F → K → V → Bool → V → F → Type 0}
+    {Q : F → K → V → Type 0} {start : F} {old : Keyed K V S} where
+  pub retaining-first : {p : Option Node} → IsPlaceAt old.nodes p 0 → IsKeyed eq old
+      → CallableOnEachPair T Q start (entries_of old) → Retaining eq T Q start old start old p
+  retaining-first first sound callable = record {
+    within = first.within;
+    done = [];
+    left = entries_of old;
+    is = refl;
+    number = first.number;
+    callable = callable;
+    calls = λ out g k. k;
+    keeps = record {
+      entries = refl;
+      no_more = omega arith;
+      spare = refl;
+      room = refl;
+      link_writes = record { grows = omega arith; bound = omega arith };
+      hasher = refl;
+    };
+    sound = sound;
   }
 
-  module _ {S : Type 0} (start : F) (old : Keyed K V S) where
-    -- the calls up to the place p kept what stands before it, and left the closure as f
-    pub record Retaining (f : F) (m : Keyed K V S) (p : Option Node) : Type 0 where
-      pub within : IsPlace m.nodes p
-      pub callable : CallableOnEachPair T Q f (drop (place_number m.nodes p) (entries_of m))
-      pub calls : (out : List (K × V)) (g : F)
-          → KeepsInOrder T f (drop (place_number m.nodes p) (entries_of m)) out g
-          → KeepsInOrder T start (entries_of old) (take (place_number m.nodes p) (entries_of m) ++ out) g
-      pub keeps : KeepsOnly (state_of old) (state_of m) (entries_of m)
+  many-left : {f : F} {m : Keyed K V S} {p : Option Node} → (r : Retaining eq T Q start old f m p)
+      → length m.nodes - place_number m.nodes p ≡ length r.left
+  many-left {m = m} r = omega (
+    arith,
+    r.number,
+    length-values_of m.nodes,
+    ap length r.is,
+    length-append r.done r.left,
+  )
 
-    -- at the first place
-    pub retaining-first : (p : Option Node) → IsPlaceAt old.nodes p 0
-        → CallableOnEachPair T Q start (entries_of old)
-        → Retaining start old p
-    retaining-first p first callable = record {
-      within = first.within;
-      callable = subst (λ i. CallableOnEachPair T Q start (drop i (entries_of old)))
-          (sym first.number) callable;
-      calls = subst (λ i. (out : List (K × V)) (g : F) → KeepsInOrder T start (drop i (entries_of old)) out g
-          → KeepsInOrder T start (entries_of old) (take i (entries_of old) ++ out) g) (sym first.number)
-          (λ out g k. k);
-      keeps = record {
-        entries = refl;
-        no_more = omega arith;
-        spare = refl;
-        room = refl;
-        link_writes = record { grows = omega arith; bound = omega arith };
-        hasher = refl;
-      };
-    }
-
+  module _ {f : F} {m : Keyed K V S} {p : Option Node} (found : Retaining eq T Q start old f m p) where
     -- at the guard
-    pub retained-all : (f : F) (m : Keyed K V S) (p : Option Node) → p ≡ None → Retaining f m p
-        → RetainsInOrder T start (state_of old) (state_of m) f
-    retained-all f m p end r = record {
-      kept = entries_of m;
-      calls =
-          let es = entries_of m in
-          let all : place_number m.nodes p ≡ length es =
-          ap (place_number m.nodes) end ∙ sym (length-map m.nodes (λ e. e.1)) in
-          subst (λ l. KeepsInOrder T start (entries_of old) l f)
-          (append-nil (take (place_number m.nodes p) es) ∙ ap (λ i. take i es) all ∙ take-length es)
-          (r.calls [] f (subst (λ l. KeepsInOrder T f l [] f)
-          (sym (ap (λ i. drop i es) all ∙ drop-length es)) (refl, refl)));
-      keeps = r.keeps;
-    }
+    pub retained-all : p ≡ None → RetainsInOrder T start (state_of old) (state_of m) f
+    retained-all end =
+        let none = bare found.left (omega (arith, many-left found, ap (place_number m.nodes) end)) in
+        record {
+          kept = entries_of m;
+          calls = rw found.is (found.calls found.left f
+              (subst (λ l. KeepsInOrder T f l l f) (sym none) (refl, refl)));
+          keeps = found.keeps;
+        }
 
-    -- the call at the pair of n
-    module _ (f : F) (m : Keyed K V S) (p : Option Node) (n : Node) (here : p ≡ Some n)
-        (found : Retaining f m p)
-        (k : K) (v : V) (at : slice_get (entries_of m) (place_number m.nodes (Some n)) ≡ Some (k, v)) where
-      r : Retaining f m (Some n)
-      r = subst (Retaining f m) here found
+    -- at the pair of n
+    module _ {n : Node} {k : K} {v : V} (here : p ≡ Some n)
+        (at : slice_get (entries_of m) (place_number m.nodes (Some n)) ≡ Some (k, v)) where
+      place : place_number m.nodes (Some n) ≡ length found.done
+      place = ap (place_number m.nodes) (sym here) ∙ found.number
 
-      abbrev pub j : ℕ
-      j = place_number m.nodes (Some n)
+      rest : (zs : List (K × V)) × (found.left ≡ (k, v) ∷ zs)
+      rest = begins found.done found.left (k, v) (ap₂ slice_get (sym found.is) (sym place) ∙ at)
 
-      abbrev pub es : List (K × V)
-      es = entries_of m
-
-      left : drop j es ≡ (k, v) ∷ drop (suc j) es
-      left = drop-at es j (k, v) at
+      callable-here : CallableOnEachPair T Q f ((k, v) ∷ rest.0)
+      callable-here = subst (CallableOnEachPair T Q f) rest.1 found.callable
 
       pub takes-pair : Q f k v
-      takes-pair = callable-here f (k, v) (drop (suc j) es)
-          (subst (CallableOnEachPair T Q f) left r.callable)
+      takes-pair = callable-here.at [] rest.0 f k v refl refl
 
-      module _ (w : V) (f' : F) (b : Bool) (call : T f k v b w f') where
-        callable-after : CallableOnEachPair T Q f' (drop (suc j) es)
-        callable-after = callable-later f (k, v) (drop (suc j) es) b w f' call
-            (subst (CallableOnEachPair T Q f) left r.callable)
+      -- the closure was called, and q is the place after n
+      module _ {b : Bool} {w : V} {f' : F} {q : Option Node} (call : T f k v b w f')
+          (next : IsPlaceAt m.nodes q (following_place (length m.nodes) (place_number m.nodes (Some n)))) where
+        callable-after : CallableOnEachPair T Q f' rest.0
+        callable-after = record {
+          at = λ before after g k' v' is folds. callable-here.at ((k, v) ∷ before) after g k' v'
+              (ap (λ l. (k, v) ∷ l) is) (f', (b, w, call), folds);
+        }
 
-        calls-after : (out : List (K × V)) (g : F) → KeepsInOrder T f' (drop (suc j) es) out g
-            → KeepsInOrder T start (entries_of old) (take j es ++ cond b ((k, w) ∷ out) out) g
-        calls-after out g rest = r.calls (cond b ((k, w) ∷ out) out) g
-            (subst (λ l. KeepsInOrder T f l (cond b ((k, w) ∷ out) out) g) (sym left)
-            (b, w, f', out, call, rest, refl))
+        calls-after : (out : List (K × V)) (g : F) → KeepsInOrder T f' rest.0 out g
+            → KeepsInOrder T start (entries_of old) (found.done ++ cond b ((k, w) ∷ out) out) g
+        calls-after out g more =
+            found.calls (cond b ((k, w) ∷ out) out) g (rw rest.1 (b, w, f', out, call, more, refl))
 
-        -- the list with what was written, and the place after n in it
-        module _ (q : Option Node) (next : IsPlaceAt m.nodes q (following_place (length m.nodes) j)) where
-          abbrev pub wrote : Keyed K V S
-          wrote = with_value_at m n w
+        -- the list with what was written
+        abbrev wrote : Keyed K V S
+        wrote = with_value_at m n w
 
-          written : entries_of wrote ≡ set_value_at es j w
-          written = values-renewed_value m.nodes j w
+        was : entries_of m ≡ found.done ++ (k, v) ∷ rest.0
+        was = found.is ∙ ap (λ l. found.done ++ l) rest.1
 
-          as_long : length (entries_of wrote) ≡ length es
-          as_long = ap length written ∙ length-set_value_at es j w
+        now : entries_of wrote ≡ found.done ++ (k, w) ∷ rest.0
+        now = values-renewed_value m.nodes (place_number m.nodes (Some n)) w
+            ∙ ap₂ (λ es i. set_value_at es i w) was place ∙ set_value_at-here found.done (k, v) rest.0 w
 
-          before-end : j < length m.nodes
-          before-end = (node-at m.nodes n r.within).1.within
+        long : length (entries_of wrote) ≡ length (entries_of m)
+        long = omega (
+          arith,
+          ap length was,
+          ap length now,
+          length-append found.done ((k, v) ∷ rest.0),
+          length-append found.done ((k, w) ∷ rest.0),
+        )
 
-          next-written : place_number wrote.nodes q ≡ suc j
-          next-written = place_number-renewed (pair_with_value w) m.nodes j q ∙ next.number
-              ∙ following-within (length m.nodes) j before-end
+        inside : place_number m.nodes (Some n) < length m.nodes
+        inside = (node-at m.nodes n (subst (IsPlace m.nodes) here found.within)).1.within
 
-          within-written : IsPlace wrote.nodes q
-          within-written = renewed-place (pair_with_value w) m.nodes j q next.within
+        place-now : (o : Option Node) → place_number wrote.nodes o ≡ place_number m.nodes o
+        place-now = place_number-renewed (pair_with_value w) m.nodes (place_number m.nodes (Some n))
 
-          nodes-as_long : length wrote.nodes ≡ length m.nodes
-          nodes-as_long = omega (arith, length-values wrote.nodes, as_long, length-values m.nodes)
+        within-now : (o : Option Node) → IsPlace m.nodes o → IsPlace wrote.nodes o
+        within-now = place-renewed (pair_with_value w) m.nodes (place_number m.nodes (Some n))
 
-          number-here : place_number m.nodes p ≡ j
-          number-here = ap (place_number m.nodes) here
+        next-now : place_number wrote.nodes q ≡ suc (length found.done)
+        next-now = place-now q ∙ next.number
+            ∙ following-within (length m.nodes) (place_number m.nodes (Some n)) inside ∙ ap suc place
 
-          pub fewer-left : length wrote.nodes - place_number wrote.nodes q
-              < length m.nodes - place_number m.nodes p
-          fewer-left = omega (arith, nodes-as_long, next-written, number-here, before-end)
-
-          -- which the closure keeps
-          module _ (keep : b ≡ true) where
-            pub retaining-kept : Retaining f' wrote q
-            retaining-kept = record {
-              within = within-written;
-              callable = subst (CallableOnEachPair T Q f') (sym drop-wrote) callable-after;
-              calls = λ out g rest.
-                  subst (λ l. KeepsInOrder T start (entries_of old) l g)
-                  (ap (λ c. take j es ++ cond c ((k, w) ∷ out) out) keep
-                  ∙ sym (ap (λ i. take i (entries_of wrote) ++ out) next-written
-                  ∙ ap (λ l. take (suc j) l ++ out) written ∙ kept-written es j (k, v) w at out))
-                  (calls-after out g (subst (λ l. KeepsInOrder T f' l out g) drop-wrote rest));
+        -- it kept the pair
+        pub pair-kept : b ≡ true → Retaining eq T Q start old f' wrote q
+            × (length wrote.nodes - place_number wrote.nodes q < length m.nodes - place_number m.nodes p)
+        pair-kept keep =
+            let kept : Retaining eq T Q start old f' wrote q =
+            record {
+              within = within-now q next.within;
+              done = found.done ++ (k, w) ∷ [];
+              left = rest.0;
+              is = now ∙ sym (append_assoc found.done ((k, w) ∷ []) rest.0);
+              number = omega (arith, next-now, length-append found.done ((k, w) ∷ []));
+              callable = callable-after;
+              calls = λ out g more. rw append_assoc (rw keep at (calls-after out g more));
               keeps = record {
                 entries = refl;
-                no_more = omega (arith, r.keeps.no_more, as_long);
-                spare = omega (arith, r.keeps.spare, as_long);
-                room = r.keeps.room;
+                no_more = omega (arith, found.keeps.no_more, long);
+                spare = omega (arith, found.keeps.spare, long);
+                room = found.keeps.room;
                 link_writes = record {
-                  grows = r.keeps.link_writes.grows;
-                  bound = omega (arith, r.keeps.link_writes.bound, as_long);
+                  grows = found.keeps.link_writes.grows;
+                  bound = omega (arith, found.keeps.link_writes.bound, long);
                 };
-                hasher = r.keeps.hasher;
+                hasher = found.keeps.hasher;
               };
-            }
-              where
-                drop-wrote : drop (place_number wrote.nodes q) (entries_of wrote) ≡ drop (suc j) es
-                drop-wrote = ap (λ i. drop i (entries_of wrote)) next-written ∙ ap (drop (suc j)) written
-                    ∙ drop-written es j w
+              sound = sound-written eq m n w found.sound;
+            } in
+            (kept, omega (arith, many-left kept, many-left found, ap length rest.1))
 
-          -- which leaves
-          module _ (leave : b ≡ false) (new : Keyed K V S)
-              (removed : RemovesNode wrote new (place_number wrote.nodes (Some n))) where
-            same-place : place_number wrote.nodes (Some n) ≡ j
-            same-place = place_number-renewed (pair_with_value w) m.nodes j (Some n)
-
-            shorter : entries_of new ≡ remove (set_value_at es j w) j
-            shorter = removed.state.entries ∙ ap (remove (entries_of wrote)) same-place
-                ∙ ap (λ l. remove l j) written
-
-            place-left : place_number new.nodes q ≡ j
-            place-left = ap (λ l. place_number l q) (removed.nodes ∙ ap (remove wrote.nodes) same-place)
-                ∙ next-removed wrote.nodes q j next-written
-
-            one-out : length (entries_of new) + 1 ≡ length es
-            one-out = ap (λ l. length l + 1) removed.state.entries ∙ removed.state.fewer ∙ as_long
-
-            nodes-fewer : length new.nodes + 1 ≡ length m.nodes
-            nodes-fewer = omega (arith, length-values new.nodes, length-values m.nodes, one-out)
-
-            before-last : (i : Node) → q ≡ Some i → suc j < length m.nodes
-            before-last i is =
-                let at = (node-at m.nodes i (subst (IsPlace m.nodes) is next.within)).1.within in
-                omega (
-                  arith,
-                  at,
-                  ap (place_number m.nodes) (sym is) ∙ next.number
-                      ∙ following-within (length m.nodes) j before-end,
-                )
-
-            pub fewer-left_then : length new.nodes - place_number new.nodes q
-                < length m.nodes - place_number m.nodes p
-            fewer-left_then = omega (arith, place-left, number-here, before-end, nodes-fewer)
-
-            pub retaining-left : Retaining f' new q
-            retaining-left = record {
-              within = within-left q refl;
-              callable = subst (CallableOnEachPair T Q f') (sym drop-new) callable-after;
-              calls = λ out g rest.
-                  subst (λ l. KeepsInOrder T start (entries_of old) l g)
-                  (ap (λ c. take j es ++ cond c ((k, w) ∷ out) out) leave ∙ ap (λ l. l ++ out) (sym take-new))
-                  (calls-after out g (subst (λ l. KeepsInOrder T f' l out g) drop-new rest));
+        -- it did not, and n left
+        pub pair-dropped : {new : Keyed K V S} → b ≡ false
+            → RemovesNode wrote new (place_number wrote.nodes (Some n))
+            → IsKeyed eq new → Retaining eq T Q start old f' new q
+            × (length new.nodes - place_number new.nodes q < length m.nodes - place_number m.nodes p)
+        pair-dropped {new} drop removed sound =
+            let apart = (sound-written eq m n w found.sound).apart in
+            let held = within-now (Some n) (subst (IsPlace m.nodes) here found.within) in
+            let first : place_number wrote.nodes (Some n) ≡ length found.done = place-now (Some n) ∙ place in
+            let nodes : new.nodes ≡ remove_entry (same_node n) wrote.nodes =
+            removed.nodes ∙ sym (remove_entry-at same_node wrote.nodes n) in
+            let within = left-place wrote.nodes apart n q
+            (λ same. omega (arith, next-now, first, ap (place_number wrote.nodes) same))
+            (within-now q next.within) in
+            let number : place_number new.nodes q ≡ length found.done =
+            rw (
+              nodes,
+              left-at wrote.nodes n q apart held within,
+              first,
+              next-now,
+              place_left-before (length found.done) (suc (length found.done)) (omega arith),
+            ) (omega arith) in
+            let shorter : entries_of new ≡ found.done ++ rest.0 =
+            removed.state.entries ∙ ap₂ remove now first ∙ remove-here found.done (k, w) rest.0 in
+            let fewer : length (entries_of new) + 1 ≡ length (entries_of m) =
+            ap (λ l. length l + 1) removed.state.entries ∙ removed.state.fewer ∙ long in
+            let dropped : Retaining eq T Q start old f' new q =
+            record {
+              within = subst (λ ns. IsPlace ns q) (sym nodes) within;
+              done = found.done;
+              left = rest.0;
+              is = shorter;
+              number = number;
+              callable = callable-after;
+              calls = λ out g more. rw drop at (calls-after out g more);
               keeps = record {
                 entries = refl;
-                no_more = omega (arith, r.keeps.no_more, one-out);
-                spare = omega (arith, r.keeps.spare, one-out, removed.state.spare);
-                room = removed.state.room ∙ r.keeps.room;
+                no_more = omega (arith, found.keeps.no_more, fewer);
+                spare = omega (arith, found.keeps.spare, fewer, removed.state.spare);
+                room = removed.state.room ∙ found.keeps.room;
                 link_writes = record {
-                  grows = omega (arith, r.keeps.link_writes.grows, removed.state.link_writes.grows);
+                  grows = omega (arith, found.keeps.link_writes.grows, removed.state.link_writes.grows);
                   bound = omega (
                     arith,
-                    r.keeps.link_writes.bound,
+                    found.keeps.link_writes.bound,
                     removed.state.link_writes.bound,
-                    r.keeps.no_more,
-                    one-out,
+                    found.keeps.no_more,
+                    fewer,
                   );
                 };
-                hasher = removed.state.hasher ∙ r.keeps.hasher;
+                hasher = removed.state.hasher ∙ found.keeps.hasher;
               };
-            }
-              where
-                drop-new : drop (place_number new.nodes q) (entries_of new) ≡ drop (suc j) es
-                drop-new = ap (λ i. drop i (entries_of new)) place-left ∙ ap (drop j) shorter
-                    ∙ drop-removed (set_value_at es j w) j ∙ drop-written es j w
-
-                take-new : take (place_number new.nodes q) (entries_of new) ≡ take j es
-                take-new = ap (λ i. take i (entries_of new)) place-left ∙ ap (take j) shorter
-                    ∙ take-removed (set_value_at es j w) j ∙ take-written es j w
-
-                within-left : (o : Option Node) → q ≡ o → IsPlace new.nodes q
-                within-left None is = subst (IsPlace new.nodes) (sym is) tt
-                within-left (Some i) is = subst (IsPlace new.nodes) (sym is) (within-holds new.nodes i
-                    (omega (
-                      arith,
-                      ap (place_number new.nodes) (sym is) ∙ place-left,
-                      nodes-fewer,
-                      before-last i is,
-                    )))
-
--- where nothing passes nothing is left
-pub none-passes : {X : Type 0} (xs : List X) → filter (λ x. false) xs ≡ []
-none-passes [] = refl
-none-passes (x ∷ xs) = none-passes xs
+              sound = sound;
+            } in
+            (dropped, omega (arith, many-left dropped, many-left found, ap length rest.1))

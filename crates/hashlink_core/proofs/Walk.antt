@@ -1,15 +1,17 @@
 -- A walk along a ring, by where it stands at both ends.
 use Rattle.std.proofs.Common.{◌≡◌, ℕ, zero, suc, ◌+◌, ◌-◌, ◌<◌, ◌≤◌, ◌≢◌, true, false, cond, List, [], ◌∷◌}
-use Rattle.std.proofs.Common.{◌++◌, length, nat_lt, ltb-true, ltb-false, take, drop, Option, None, Some, refl}
-use Rattle.std.proofs.Common.{ap, sym, subst, ◌∙◌, arith}
+use Rattle.std.proofs.Common.{◌++◌, length, take, drop, Option, None, Some, refl, ap, sym, ◌∙◌, arith, ⊎_elim}
 use Rattle.std.specs.Prelude.{slice_get, is_some, unwrap_or, IfSome}
+use Rattle.std.specs.List.{IsDistinct}
 use Rattle.std.specs.Option.{option_map}
 use Rattle.std.specs.Map.{lookup, keys_of}
 use Rattle.std.specs.Map.Iter.{TakesFirst, TakesLast, ShowsInOrder, ShowsInReverse}
 use Rattle.std.proofs.iter.runs.Sources.{from_front, from_back}
-use Rattle.std.proofs.Math.Seq.{take-length}
+use Rattle.std.proofs.Math.Seq.{take-length, take-suc}
+use Rattle.std.proofs.lemmas.Bool.{cases_lt}
+use Rattle.std.proofs.lemmas.Option.{slice_get_within, get_or_from_slice_get}
 use Rattle.hashlink_model.specs.Cursor.{preceding_place}
-use Rattle.hashlink_model.specs.Entries.{IsEntries, place_or_end}
+use Rattle.hashlink_model.specs.Entries.{place_or_end}
 use Rattle.hashlink_nodes.specs.declared.node.Node.{Node}
 use Rattle.hashlink_nodes.specs.declared.held.Held.{Held}
 use Rattle.hashlink_nodes.specs.Node.{same_node}
@@ -18,7 +20,7 @@ use Rattle.hashlink_core.specs.Keyed.{pairs_in}
 use Rattle.hashlink_core.specs.Places.{place_number}
 use Rattle.hashlink_core.specs.Walk.{pairs_from, StandsBetween}
 use Rattle.hashlink_core.proofs.Edits.{drop-at, place_or_end-cons, place_or_end-most}
-use Rattle.hashlink_core.proofs.Neighbours.{next-number, prev-number, before-guard, before-suc}
+use Rattle.hashlink_core.proofs.Neighbours.{distinct-left, next-number, prev-number, before-guard, before-suc}
 use Rattle.hashlink_core.proofs.Places.{node-at, around, following-within}
 
 -- each run of a walk shows what was left, in order from the front and in reverse from the back
@@ -29,12 +31,10 @@ pub in-reverse : {A X : Type 0} (shows : A → X) → ShowsInReverse shows
 in-reverse shows = from_back (TakesLast shows) shows (λ s. s) (λ s t h. ap length h.0) (λ s x t h. h)
 
 module _ {X : Type 0} where
-  -- one more element taken
-  take-one_more : (xs : List X) (i : ℕ) (x : X) → slice_get xs i ≡ Some x → take (suc i) xs
-      ≡ take i xs ++ x ∷ []
-  take-one_more [] i x at = absurd (cc)
-  take-one_more (y ∷ xs) zero x at = let same : y ≡ x = cc in ap (λ z. z ∷ []) same
-  take-one_more (y ∷ xs) (suc i) x at = ap (λ l. y ∷ l) (take-one_more xs i x at)
+  -- no more than that are taken, so the place matters only where there are some
+  take-from : (xs : List X) (n i j : ℕ) → (0 < n → i ≡ j) → take n (drop i xs) ≡ take n (drop j xs)
+  take-from xs zero i j same = refl
+  take-from xs (suc n) i j same = ap (λ m. take (suc n) (drop m xs)) (same (omega arith))
 
   pub slice_get-drop : (xs : List X) (i j at : ℕ) → i + j ≡ at → slice_get (drop i xs) j ≡ slice_get xs at
   slice_get-drop xs zero j at is = let same : j ≡ at = omega (arith, is) in ap (slice_get xs) same
@@ -47,12 +47,10 @@ module _ {X : Type 0} where
   pub within-holds : (es : List (Node × X)) (n : Node) → place_number es (Some n) < length es → Holds es n
   within-holds [] n lt = absurd (omega (arith, lt))
   within-holds (e ∷ es) n lt =
-      (elim (same_node n e.0) as
-      (λ b. cond b 0 (suc (place_or_end same_node es n)) < suc (length es)
-      → is_some (cond b (Some e.1) (lookup (same_node n) es)) ≡ true) [
-        | true ↦ λ _. refl
-        | false ↦ λ k. within-holds es n (omega (arith, k))
-      ]) (subst (λ i. i < suc (length es)) (place_or_end-cons same_node e es n) lt)
+      (elim (same_node n e.0) as (λ b. cond b 0 (suc (place_or_end same_node es n)) < suc (length es)
+      → is_some (cond b (Some e.1) (lookup (same_node n) es)) ≡ true)
+      [ true ↦ λ _. refl | false ↦ λ k. within-holds es n (omega (arith, k)) ])
+      (rw (place_or_end-cons same_node e es n) at lt)
 
 pairs_in-last : {K V : Type 0} (es : List (Node × Held K V)) (n : Node) (h : Held K V)
     → pairs_in (es ++ (n, h) ∷ []) ≡ pairs_in es ++ pair_of h ∷ []
@@ -71,49 +69,33 @@ module _ {X : Type 0} (es : List (Node × X)) where
   beside-number (Some m) q i same number lt = ap (λ n. place_number es (Some n)) same ∙ number
 
   -- the node of a place, where it is the guard's only if there is no node
-  node-number : (o : Option Node) (z : Node) (i : ℕ) → place_number es o ≡ i
-      → (0 < length es → i < length es) → i ≤ length es → place_number es (Some (unwrap_or o z)) ≡ i
-  node-number None z i number some few =
-      elim (nat_lt 0 (length es)) as (λ c. nat_lt 0 (length es) ≡ c → place_number es (Some z) ≡ i) [
-        | true ↦ λ e. absurd (omega (arith, number, some (ltb-true 0 (length es) e)))
-        | false ↦ λ e. omega (arith, number, few, ltb-false 0 (length es) e, most z)
-      ] refl
-  node-number (Some m) z i number some few = number
+  node-number : (o : Option Node) (z : Node) (i : ℕ) → place_number es o ≡ i → (length es ≡ i → i ≡ 0)
+      → place_number es (Some (unwrap_or o z)) ≡ i
+  node-number None z i number none = omega (arith, number, none number, most z)
+  node-number (Some m) z i number none = number
 
-module _ {K V : Type 0} (es : List (Node × Held K V)) (d : IsEntries same_node es) where
-  -- ---- over all entries
-  pub first-of_all : (q : Option Node) (z n : Node) → q ≡ next_place (keys_of es) None → n ≡ unwrap_or q z
-      → place_number es (Some n) ≡ 0
-  first-of_all q z n is same =
-      ap (λ m. place_number es (Some m)) same
-      ∙ node-number es q z 0
-      (ap (place_number es) is ∙ (next-number es d None tt).number ∙ around (length es))
-      (λ some. some) (omega arith)
+-- a walk over all entries
+pub walk-of_all : {K V : Type 0} (es : List (Node × Held K V)) (free : List Node) (q q' : Option Node)
+    (z z' first last : Node) (left : ℕ) → IsDistinct same_node (keys_of es ++ free)
+    → q ≡ next_place (keys_of es) None → first ≡ unwrap_or q z
+    → q' ≡ prev_place (keys_of es) None → last ≡ unwrap_or q' z' → left ≡ length es
+    → StandsBetween es (Some first) (Some last) left × (pairs_from es (Some first) left ≡ pairs_in es)
+walk-of_all es free q q' z z' first last left apart next is_first prev is_last all =
+    let d = distinct-left (keys_of es) free apart in
+    let front : place_number es (Some first) ≡ 0 = ap (λ m. place_number es (Some m)) is_first
+    ∙ node-number es q z 0 (ap (place_number es) next ∙ (next-number es d None tt).number
+    ∙ around (length es)) (λ e. refl) in
+    let back : place_number es (Some last) ≡ length es - 1 = ap (λ m. place_number es (Some m)) is_last
+    ∙ node-number es q' z' (length es - 1) (ap (place_number es) prev ∙ (prev-number es d None tt).number
+    ∙ before-guard (length es)) (λ e. omega (arith, e)) in (
+      record {
+        few = omega (arith, all, front);
+        ends = λ some. omega (arith, all, some, front, back);
+      },
+      rw (front, all, take-length es) refl,
+    )
 
-  pub last-of_all : (q : Option Node) (z n : Node) → q ≡ prev_place (keys_of es) None → n ≡ unwrap_or q z
-      → place_number es (Some n) ≡ length es - 1
-  last-of_all q z n is same =
-      ap (λ m. place_number es (Some m)) same
-      ∙ node-number es q z (length es - 1)
-      (ap (place_number es) is ∙ (prev-number es d None tt).number ∙ before-guard (length es))
-      (λ some. omega (arith, some)) (omega arith)
-
-  pub stands-at_all : (first last : Node) (left : ℕ) → place_number es (Some first) ≡ 0
-      → place_number es (Some last) ≡ length es - 1 → left ≡ length es
-      → StandsBetween es (Some first) (Some last) left
-  stands-at_all first last left is_first is_last all = record {
-    few = omega (arith, all, is_first);
-    ends = λ some. omega (arith, all, some, is_first, is_last);
-  }
-
-  pub all-left : (first : Node) (left : ℕ) → place_number es (Some first) ≡ 0 → left ≡ length es
-      → pairs_from es (Some first) left ≡ pairs_in es
-  all-left first left is_first all =
-      ap (λ i. pairs_in (take left (drop i es))) is_first
-      ∙ ap (λ n. pairs_in (take n es)) all
-      ∙ ap pairs_in (take-length es)
-
-module _ {K V : Type 0} (es : List (Node × Held K V)) (first last : Node) (left : ℕ)
+module _ {K V : Type 0} {es : List (Node × Held K V)} {first last : Node} {left : ℕ}
     (w : StandsBetween es (Some first) (Some last) left) (some : left ≢ 0) where
   one-more : left ≡ suc (left - 1)
   one-more = omega (arith, some)
@@ -122,42 +104,21 @@ module _ {K V : Type 0} (es : List (Node × Held K V)) (first last : Node) (left
   pub first-holds : Holds es first
   first-holds = within-holds es first (omega (arith, w.few, some))
 
-  module _ (d : IsEntries same_node es) (q : Node)
+  module _ (free : List Node) (apart : IsDistinct same_node (keys_of es ++ free)) (q : Node)
       (next : IfSome (next_place (keys_of es) (Some first)) (λ m. q ≡ m)) where
     next-first : 1 < left → place_number es (Some q) ≡ suc (place_number es (Some first))
     next-first more =
-        let x = node-at es first first-holds in
         beside-number es (next_place (keys_of es) (Some first)) q (suc (place_number es (Some first))) next
-        ((next-number es d (Some first) first-holds).number
-        ∙ following-within (length es) (place_number es (Some first)) x.1.within)
+        ((next-number es (distinct-left (keys_of es) free apart) (Some first) first-holds).number
+        ∙ following-within (length es) (place_number es (Some first)) (node-at es first first-holds).1.within)
         (omega (arith, w.few, more))
 
     pub stands-next : StandsBetween es (Some q) (Some last) (left - 1)
     stands-next = record {
-      few =
-          elim (nat_lt 1 left) as
-          (λ c. nat_lt 1 left ≡ c → place_number es (Some q) + (left - 1) ≤ length es) [
-            | true ↦ λ e. omega (arith, w.few, next-first (ltb-true 1 left e))
-            | false ↦ λ e. omega (arith, ltb-false 1 left e, most es q)
-          ] refl;
-      ends = λ more. let ends = w.ends (omega (arith, some)) in
-          omega (arith, ends, more, next-first (omega (arith, more)));
+      few = ⊎_elim (λ more. omega (arith, w.few, next-first more)) (λ last. omega (arith, last, most es q))
+          (cases_lt 1 left);
+      ends = λ more. omega (arith, w.ends (omega (arith, some)), more, next-first (omega (arith, more)));
     }
-
-    -- the pairs after the first
-    rest-first : pairs_in (take (left - 1) (drop (suc (place_number es (Some first))) es))
-        ≡ pairs_from es (Some q) (left - 1)
-    rest-first =
-        elim (nat_lt 1 left) as (λ c. nat_lt 1 left ≡ c
-        → pairs_in (take (left - 1) (drop (suc (place_number es (Some first))) es))
-        ≡ pairs_from es (Some q) (left - 1)) [
-          | true ↦ λ e.
-              ap (λ m. pairs_in (take (left - 1) (drop m es))) (sym (next-first (ltb-true 1 left e)))
-          | false ↦ λ e.
-              let none : left - 1 ≡ 0 = omega (arith, ltb-false 1 left e) in
-              ap (λ m. pairs_in (take m (drop (suc (place_number es (Some first))) es))) none
-              ∙ sym (ap (λ m. pairs_in (take m (drop (place_number es (Some q)) es))) none)
-        ] refl
 
     pub gives-first : (pair : K × V) → option_map pair_of (lookup (same_node first) es) ≡ Some pair
         → pairs_from es (Some first) left ≡ pair ∷ pairs_from es (Some q) (left - 1)
@@ -168,7 +129,8 @@ module _ {K V : Type 0} (es : List (Node × Held K V)) (first last : Node) (left
         ap (λ m. pairs_in (take m (drop i es))) one-more
         ∙ ap (λ l. pairs_in (take (suc (left - 1)) l)) (drop-at es i (first, x.0) x.1.at)
         ∙ ap (λ f. f ∷ pairs_in (take (left - 1) (drop (suc i) es))) same
-        ∙ ap (λ l. pair ∷ l) rest-first
+        ∙ ap (λ l. pair ∷ pairs_in l) (take-from es (left - 1) (suc i) (place_number es (Some q))
+        (λ more. sym (next-first (omega (arith, more)))))
 
   -- ---- at the back
   last-number : place_number es (Some last) + 1 ≡ place_number es (Some first) + left
@@ -177,7 +139,7 @@ module _ {K V : Type 0} (es : List (Node × Held K V)) (first last : Node) (left
   pub last-holds : Holds es last
   last-holds = within-holds es last (omega (arith, w.few, last-number))
 
-  module _ (d : IsEntries same_node es) (q : Node)
+  module _ (free : List Node) (apart : IsDistinct same_node (keys_of es ++ free)) (q : Node)
       (prev : IfSome (prev_place (keys_of es) (Some last)) (λ m. q ≡ m)) where
     prev-last : 1 < left → place_number es (Some q) + 1 ≡ place_number es (Some last)
     prev-last more =
@@ -185,7 +147,7 @@ module _ {K V : Type 0} (es : List (Node × Held K V)) (first last : Node) (left
         let later : i ≡ suc (i - 1) = omega (arith, last-number, more) in
         let before : place_number es (Some q) ≡ i - 1 =
         beside-number es (prev_place (keys_of es) (Some last)) q (i - 1) prev
-        ((prev-number es d (Some last) last-holds).number
+        ((prev-number es (distinct-left (keys_of es) free apart) (Some last) last-holds).number
         ∙ ap (preceding_place (length es)) later
         ∙ before-suc (length es) (i - 1) (omega (arith, w.few, last-number)))
         (omega (arith, w.few, last-number, later)) in
@@ -207,6 +169,7 @@ module _ {K V : Type 0} (es : List (Node × Held K V)) (first last : Node) (left
       slice_get-drop es i (left - 1) (place_number es (Some last)) far ∙ x.1.at in
       let same : pair_of x.0 ≡ pair = cc (sym (ap (option_map pair_of) x.1.found) ∙ here) in
       ap (λ m. pairs_in (take m (drop i es))) one-more
-      ∙ ap pairs_in (take-one_more (drop i es) (left - 1) (last, x.0) at)
+      ∙ ap pairs_in (take-suc (drop i es) (left - 1) (last, x.0) (slice_get_within _ _ _ at)
+      ∙ ap (λ y. take (left - 1) (drop i es) ++ y ∷ []) (get_or_from_slice_get (drop i es) (left - 1) _ (last, x.0) at))
       ∙ pairs_in-last (take (left - 1) (drop i es)) last x.0
       ∙ ap (λ p. pairs_from es (Some first) (left - 1) ++ p ∷ []) same

@@ -2,4 +2,4 @@ use Rattle.hashlink_core.proofs.Calls.{sound}
 use Rattle.hashlink_core.proofs.keyed_list.KeyedList.allocator.Goals as goal
 
 pub returns : goal.returns
-returns g c = sound g.met.K.Eq.laws c.self.view_is c.self.invariant
+returns g c = sound c.self.view_is c.self.invariant

@@ -1,12 +1,10 @@
-use Rattle.std.proofs.Common.{◌≡◌, ◌≢◌, ℕ, ◌+◌, ◌≤◌, length, Result, Ok, Err, OnErr, true, refl, ap, sym}
-use Rattle.std.proofs.Common.{subst, ◌∙◌, rules, arith}
+use Rattle.std.proofs.Common.{◌≡◌, ◌≢◌, ℕ, ◌+◌, ◌≤◌, length, Result, Ok, Err, OnErr, true, refl, ap, sym, ◌∙◌}
+use Rattle.std.proofs.Common.{rules, arith}
 use Rattle.std.specs.Result.{is_ok, is_err}
 use Rattle.std.proofs.lemmas.Bool.{true≢false}
 use Rattle.std.proofs.lemmas.Map.Entries.{length-values_of}
-use Rattle.hashlink_nodes.specs.Ring.{IsPlace}
-use Rattle.hashlink_core.specs.Keyed.{Keyed, seen_as}
-use Rattle.hashlink_core.specs.Steps.{GrowsRoom}
-use Rattle.hashlink_core.specs.Tied.{hash_with, short}
+use Rattle.hashlink_core.specs.Keyed.{Keyed}
+use Rattle.hashlink_core.specs.Tied.{short}
 use Rattle.hashlink_core.proofs.Calls.{sound, place-inside, added-step, added-node}
 use Rattle.hashlink_core.proofs.keyed_list.KeyedList.insert_before.Goals as goal
 
@@ -25,7 +23,7 @@ on-err (Err e) p = p
 pub push_before-requires-clause-place : goal.push_before-requires-clause-place
 push_before-requires-clause-place g c =
     place-inside g.met.K.Eq.laws c.self.view_is c.self.invariant c.args.place
-    (subst (λ m. IsPlace m.nodes c.args.place) (sym c.reserve.ensures.grown.rest) c.requires.place)
+    (rw c.reserve.ensures.grown.rest c.requires.place)
 
 pub invariant_of-self-2 : goal.invariant_of-self-2
 invariant_of-self-2 g c =
@@ -33,15 +31,12 @@ invariant_of-self-2 g c =
     let grown = c.reserve.ensures.grown in
     let p = c.in_ok-node.ensures in
     let i = c.insert_reserved in
-    let H = g.S.Hasher.Hasher in
     let hasher : c.args.self.now.hasher ≡ c.self.inside.hash_builder
     = sym (ap (λ (m : Keyed _ _ _). m.hasher) (c.self.view_is ∙ grown.rest)) in
     added-step g.met.K.Eq.laws c.self.view_is c.self.invariant c.args.self.now grown c.args.key c.args.value
     c.requires.absent ready c.args.place c.in_ok-node.node c.short_hash-short.result
     c.push_before.new.self i.new.self p.entries p.apart p.free i.ensures.inserted i.ensures.room
-    (c.short_hash-short.ensures ∙ ap short
-    (c.requires.hash ∙ ap (λ s. hash_with g.S.BuildHasher.build_hasher H.write H.finish
-    g.K.Hash.hash_input s c.args.key) hasher))
+    (c.short_hash-short.ensures ∙ ap short (rw hasher at c.requires.hash))
 
 pub returns-clause-added : goal.returns-clause-added
 returns-clause-added g c =
@@ -55,7 +50,7 @@ returns-clause-added g c =
     (invariant_of-self-2 g c) p.link_writes
 
 pub returns-clause-sound : goal.returns-clause-sound
-returns-clause-sound g c = sound g.met.K.Eq.laws refl (invariant_of-self-2 g c)
+returns-clause-sound g c = sound refl (invariant_of-self-2 g c)
 
 pub returns-then-is_err-clause-no_spare : goal.returns-then-is_err-clause-no_spare
 returns-then-is_err-clause-no_spare g c =
@@ -69,7 +64,4 @@ returns-then-is_err-clause-no_spare g c =
 pub returns-in_err-node-clause-refused : goal.returns-in_err-node-clause-refused
 returns-in_err-node-clause-refused g c =
     on-err c.from_residual.result
-    (subst (GrowsRoom 1 c.args.self.now)
-    (sym (ap (λ ns. seen_as ns c.self.inside.table c.self.inside.hash_builder) c.in_err-node.ensures.refused
-    ∙ c.self.view_is))
-    c.reserve.ensures.grown)
+    (rw (c.in_err-node.ensures.refused, c.self.view_is) c.reserve.ensures.grown)

@@ -22,4 +22,4 @@ returns-clause-fits g c =
     )
 
 pub returns-clause-sound : goal.returns-clause-sound
-returns-clause-sound g c = sound g.met.K.Eq.laws c.self.view_is c.self.invariant
+returns-clause-sound g c = sound c.self.view_is c.self.invariant

@@ -1,14 +1,12 @@
 use Rattle.std.proofs.Common.{refl}
-use Rattle.hashlink_core.proofs.Calls.{sound, held-inside, rest-inside, to-after, moved-step, moved-node}
+use Rattle.hashlink_core.proofs.Calls.{sound, held-inside, rest-inside, moved-after}
 use Rattle.hashlink_core.proofs.keyed_list.KeyedList.move_after.Goals as goal
 
 pub returns-clause-moved : goal.returns-clause-moved
 returns-clause-moved g c =
-    let m = c.move_after in
-    let at = to-after g.met.K.Eq.laws c.self.view_is c.self.invariant c.args.node c.requires.node c.args.place
-    c.requires.place m.new.self.entries m.ensures.moved in
-    moved-node g.met.K.Eq.laws c.self.view_is c.self.invariant c.args.node c.requires.node m.new.self _ at
-    m.ensures.free m.ensures.link_writes
+    let m = c.move_after.ensures in
+    (moved-after g.met.K.Eq.laws c.self.view_is c.self.invariant c.args.node c.requires.node
+    c.move_after.new.self m.free m.link_writes c.args.place c.requires.place m.moved).1
 
 pub move_after-requires-clause-node : goal.move_after-requires-clause-node
 move_after-requires-clause-node g c =
@@ -20,11 +18,9 @@ move_after-requires-clause-place g c =
 
 pub invariant_of-self : goal.invariant_of-self
 invariant_of-self g c =
-    let m = c.move_after in
-    let at = to-after g.met.K.Eq.laws c.self.view_is c.self.invariant c.args.node c.requires.node c.args.place
-    c.requires.place m.new.self.entries m.ensures.moved in
-    moved-step g.met.K.Eq.laws c.self.view_is c.self.invariant c.args.node c.requires.node m.new.self _ at
-    m.ensures.free
+    let m = c.move_after.ensures in
+    (moved-after g.met.K.Eq.laws c.self.view_is c.self.invariant c.args.node c.requires.node
+    c.move_after.new.self m.free m.link_writes c.args.place c.requires.place m.moved).0
 
 pub returns-clause-sound : goal.returns-clause-sound
-returns-clause-sound g c = sound g.met.K.Eq.laws refl (invariant_of-self g c)
+returns-clause-sound g c = sound refl (invariant_of-self g c)

@@ -1,15 +1,12 @@
 use Rattle.std.proofs.Common.{refl, rules}
-use Rattle.hashlink_core.proofs.Calls.{sound, held-inside, rest-inside, to-before, moved-step, moved-node}
+use Rattle.hashlink_core.proofs.Calls.{sound, held-inside, rest-inside, moved-before}
 use Rattle.hashlink_core.proofs.keyed_list.KeyedList.move_before.Goals as goal
 
 pub returns-clause-moved : goal.returns-clause-moved
 returns-clause-moved g c =
-    let m = c.move_before in
-    let at = to-before g.met.K.Eq.laws c.self.view_is c.self.invariant c.args.node
-    c.requires.node c.args.place
-    c.requires.place m.new.self.entries m.ensures.moved in
-    moved-node g.met.K.Eq.laws c.self.view_is c.self.invariant c.args.node c.requires.node m.new.self _ at
-    m.ensures.free m.ensures.link_writes
+    let m = c.move_before.ensures in
+    (moved-before g.met.K.Eq.laws c.self.view_is c.self.invariant c.args.node c.requires.node
+    c.move_before.new.self m.free m.link_writes c.args.place c.requires.place m.moved).1
 
 pub move_before-requires-clause-node : goal.move_before-requires-clause-node
 move_before-requires-clause-node g c =
@@ -23,12 +20,9 @@ move_before-requires-clause-place g c =
 
 pub invariant_of-self : goal.invariant_of-self
 invariant_of-self g c =
-    let m = c.move_before in
-    let at = to-before g.met.K.Eq.laws c.self.view_is c.self.invariant c.args.node
-    c.requires.node c.args.place
-    c.requires.place m.new.self.entries m.ensures.moved in
-    moved-step g.met.K.Eq.laws c.self.view_is c.self.invariant c.args.node c.requires.node m.new.self _ at
-    m.ensures.free
+    let m = c.move_before.ensures in
+    (moved-before g.met.K.Eq.laws c.self.view_is c.self.invariant c.args.node c.requires.node
+    c.move_before.new.self m.free m.link_writes c.args.place c.requires.place m.moved).0
 
 pub returns-clause-sound : goal.returns-clause-sound
-returns-clause-sound g c = sound g.met.K.Eq.laws refl (invariant_of-self g c)
+returns-clause-sound g c = sound refl (invariant_of-self g c)

@@ -1,6 +1,5 @@
-use Rattle.std.proofs.Common.{length, refl, ap, sym, ◌∙◌, arith}
+use Rattle.std.proofs.Common.{refl, ap, arith}
 use Rattle.hashlink_nodes.specs.Ring.{pair_of}
-use Rattle.hashlink_core.specs.Keyed.{Keyed, keyed}
 use Rattle.hashlink_core.proofs.Calls.{sound}
 use Rattle.hashlink_core.proofs.Mapped.{length-mapped}
 use Rattle.hashlink_core.proofs.Stepping.{step-same}
@@ -14,22 +13,18 @@ invariant_of-self g c =
 
 pub returns-clause-grown : goal.returns-clause-grown
 returns-clause-grown g c =
-    let r = c.self.inside.nodes in
-    let u = c.reserve.new.self in
-    let long = ap (λ (m : Keyed _ _ _). length m.nodes) (sym c.self.view_is)
-    ∙ length-mapped pair_of r.entries in
-    let room = ap (λ (m : Keyed _ _ _). m.room) c.self.view_is in
-    record {
+    let long = length-mapped pair_of c.self.inside.nodes.entries in
+    let count = c.self.invariant.count in
+    let r = c.reserve.ensures in
+    rw (← c.self.view_is) (record {
       more = record {
-        grows = omega (arith, room, c.reserve.ensures.room);
-        same = λ le.
-            let enough = c.reserve.ensures.enough (omega (arith, le, long, room, c.self.invariant.count)) in
-            ap (λ t. t.room) enough.1 ∙ room;
-        bound = omega (arith, room, long, c.self.invariant.count, c.reserve.ensures.bound);
-        power = λ more. c.reserve.ensures.power (omega (arith, more, room));
+        grows = omega (arith, r.room);
+        same = λ le. ap (λ t. t.room) (r.enough (omega (arith, le, long, count))).1;
+        bound = omega (arith, long, count, r.bound);
+        power = r.power;
       };
-      rest = ap (λ (m : Keyed _ _ _). keyed m.nodes m.spare u.room m.link_writes m.hasher) c.self.view_is;
-    }
+      rest = refl;
+    })
 
 pub returns-clause-sound : goal.returns-clause-sound
-returns-clause-sound g c = sound g.met.K.Eq.laws c.self.view_is c.self.invariant
+returns-clause-sound g c = sound c.self.view_is c.self.invariant

@@ -1,15 +1,16 @@
-use Rattle.std.proofs.Common.{refl}
+use Rattle.std.proofs.Common.{refl, ap, sym}
 use Rattle.std.specs.Fn.{FnReturnsAt}
 use Rattle.std.specs.Map.{lookup}
 use Rattle.hashlink_nodes.specs.Node.{same_node}
-use Rattle.hashlink_core.proofs.Finding.{answered-at, read-from}
+use Rattle.hashlink_nodes.specs.Ring.{pair_of}
+use Rattle.hashlink_core.proofs.Edits.{from_part}
+use Rattle.hashlink_core.proofs.Finding.{answered-at}
 use Rattle.hashlink_core.proofs.keyed_list.fn.KeyedList.find_with.holds_match.Goals as goal
 
 pub is_match-requires : goal.is_match-requires
 is_match-requires g c =
-    let h = read-from (lookup (same_node c.args.node) c.captures.nodes.now.entries) c.entry.result.0.now
-    c.entry.result.1.now c.entry.ensures in
-    c.requires.callable h.0 h.1 c.entry.result.0 h.2
+    let h = from_part pair_of (lookup (same_node c.args.node) c.captures.nodes.now.entries) _ c.entry.ensures in
+    c.requires.callable h.0 h.1 c.entry.result.0 (sym (ap (λ p. p.0) h.2))
 
 pub returns : goal.returns
 returns g c =
