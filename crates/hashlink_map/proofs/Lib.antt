@@ -3,6 +3,7 @@ pub mod AtNode
 pub mod Clones
 pub mod Copying
 pub mod CursorPairs
+pub mod CursorSteps
 pub mod Extending
 pub mod Indexing
 pub mod LastMoved
@@ -11,9 +12,11 @@ pub mod PairRows
 pub mod PairSteps
 pub mod PairTies
 pub mod PairValues
+pub mod StepAndLend
 pub mod Taken
 pub mod Taking
 pub mod WalkPairs
+pub mod WalkSteps
 pub mod Walking
 pub mod Written
 pub use Rattle.hashlink_core.proofs.AtKey
