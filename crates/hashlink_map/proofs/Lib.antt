@@ -3,11 +3,11 @@ pub mod AtNode
 pub mod Clones
 pub mod Copying
 pub mod CursorPairs
-pub mod CursorSteps
 pub mod Extending
 pub mod Indexing
 pub mod LastMoved
 pub mod Outcomes
+pub mod LendAtPlace
 pub mod PairRows
 pub mod PairSteps
 pub mod PairTies
@@ -16,7 +16,6 @@ pub mod StepAndLend
 pub mod Taken
 pub mod Taking
 pub mod WalkPairs
-pub mod WalkSteps
 pub mod Walking
 pub mod Written
 pub use Rattle.hashlink_core.proofs.AtKey

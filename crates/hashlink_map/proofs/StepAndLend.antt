@@ -108,7 +108,7 @@ module _ (K V : RattleType) (LK : Laws K) (LV : Laws V) (Row : NamedLft → Ratt
     kept = (no, tt);
   }
 
-  abbrev lending : List (Outlives 6) → Ended
+  abbrev pub lending : List (Outlives 6) → Ended
   lending O = record {
     signature = record {
       lifetimes = 6;

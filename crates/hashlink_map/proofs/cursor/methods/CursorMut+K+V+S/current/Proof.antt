@@ -1,6 +1,6 @@
 -- `current` lends the pair at its place, where there is one, and the cursor follows it.
 use Rattle.hashlink_map.specs.contracts.cursor.methods.CursorMut+K+V+S.current as f
-use Rattle.hashlink_map.proofs.CursorSteps.{Cursor, at_place}
+use Rattle.hashlink_map.proofs.CursorPairs.{Cursor, at_place}
 use Rattle.hashlink_map.proofs.StepAndLend.{steps_and_lends}
 use Rattle.hashlink_map.proofs.cursor.methods.CursorMut+K+V+S.with_place.Met as step
 use Rattle.hashlink_map.proofs.cursor.methods.CursorMut+K+V+S.pair_at.Met as lent

@@ -6,6 +6,8 @@ use Rattle.hashlink_map.proofs.cursor.methods.CursorMut+K+V+S.with_next.Goals as
 -- whatever shows that its place is still of the list
 pub returns : goal.returns
 returns g c =
-    let s = c.args.self.now in
-    (ap (λ p. record c.args.self { now = record s { within = p } })
-    (IsPlace-prop s.map.now.nodes (cursor_node s) _ _), search rules)
+    let s = c.args.self.now in (
+      ap (λ p. record c.args.self { now = record s { within = p } })
+          (IsPlace-prop s.map.now.nodes (cursor_node s) _ _),
+      search rules,
+    )
