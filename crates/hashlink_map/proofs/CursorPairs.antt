@@ -1,18 +1,15 @@
 -- What a cursor is once a value was written through a key and a value that it lent, and what it lends at its
 -- place and at the places beside it. Assumes `Logic`.
-use Rattle.std.proofs.Common.{◌≡◌, ℕ, List, [], ◌∷◌, ◌++◌, refl, ap, ◌∙◌, sym, subst}
+use Rattle.std.proofs.Common.{◌≡◌, ℕ, [], ◌∷◌, refl, ap, ◌∙◌, sym, subst}
 use seplogic.Ra.Ura.{Ura}
 use base.Logic.{ent, SProp, id⊢}
 use mir.Syntax.{named}
-use mir.Val.{Val, of_list}
 use types.Logic.{Logic, sem}
-use types.Kit.{Item, Goal, Seq, ‵, ◌$◌, ◌∵◌, !, qed, move, drop, fsplit, fpick, feq_l, fpack, done}
-use types.Match.{live}
+use types.Kit.{‵, ◌$◌, ◌∵◌, !, qed, fpack, done}
 use denote.Follow.{follows_by, such_by}
 use denote.RattleType.{RattleType}
 use Rattle.std.specs.Prelude.{Option, Some, None, OnSome, slice_get}
 use Rattle.std.specs.Borrow.{Fml, Bor, MutBor, follows_if, name_if_some}
-use Rattle.std.specs.contracts.option.Option as option
 use Rattle.std.specs.declared.cmp.PartialEq as eq
 use Rattle.std.specs.declared.hash.Hash as hash
 use Rattle.std.specs.declared.hash.Hasher as hasher
@@ -125,7 +122,8 @@ module _ (K V S T : RattleType) (LK : Laws K) (LV : Laws V) (p : eq.Ghosts K.Den
         (param 2 S) (param 3 T) x.0 x.1 o) in
         subst (λ x. ent 𝓤 (Lends there) (Lends x)) is_there (id⊢ 𝓤 _)
 
-    pub lent_on : (o : Option (Bor K.Denot × MutBor V.Denot)) → LentAt (cursor_state q.0.now) (number q.0.now q.1) o
+    pub lent_on : (o : Option (Bor K.Denot × MutBor V.Denot)) → LentAt (cursor_state q.0.now)
+        (number q.0.now q.1) o
         → LentAt (cursor_state r.now) (place (cursor_state r.now)) o
     lent_on o = subst (λ (x : MutBor Held × ℕ). LentAt (cursor_state x.0.now) x.1 o) is_there
 

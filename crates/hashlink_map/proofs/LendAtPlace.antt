@@ -1,9 +1,10 @@
 -- The pair at a place of a borrower is lent, where the place is a node's. Assumes `Logic`.
 use Rattle.std.proofs.Common.{◌≡◌, ℕ, List, [], ◌∷◌, ◌++◌, refl, sym, ap, subst, ◌∙◌, lit<}
 use seplogic.Ra.Ura.{Ura}
-use base.Fml.{Fml, ftrue, fres}
+use base.Fml.{Fml, fres}
 use base.Logic.{SProp, ent, sep, id⊢, emp}
-use mir.Syntax.{Fn, Ty, Sym, Callee, Kind, w8, named, erased, imm, mut, ty_ref, ty_struct, ty_enum, tcons, tnil}
+use mir.Syntax.{Fn, Ty, Sym, Callee, Kind, w8, named, erased, imm, mut, ty_ref, ty_struct, ty_enum, tcons}
+use mir.Syntax.{tnil}
 use mir.Syntax.{ttcons, ttnil, local, value_local, place, deref, field, variant, seq, assign, call, return}
 use mir.Syntax.{switch, arm, no_default, aggregate, int, addr_of, copy, rv_opd}
 use mir.Val.{Val, of_list, vstruct}
@@ -186,7 +187,8 @@ module _ {M : Type 1} (𝓤 : Ura M) (𝓛 : Logic 𝓤) (𝓜 : Model 𝓤 𝓛
       (((option_laws.the_row_laws node_row node_laws.the_row_laws).lawful 𝓛).typed x vs is)).0 in
       let Asks : At_place.Denot → SProp 𝓤 = λ x. asks κs (r, x) in
       let lent : (n : Node) → Goes (Some n) = λ n vs is.
-      qed 𝓛 ((toks ⊛ ‵ (owns (types_at En.signature.params κs) (r, (Some n, tt)) (mut_vals r, (vs, tt)))) ∷ raw
+      qed 𝓛 ((toks ⊛ ‵ (owns (types_at En.signature.params κs) (r, (Some n, tt)) (mut_vals r, (vs, tt))))
+      ∷ raw
       (Asks (Some n)) ∷ []) ∵ split ! $
       move ! (1 ∷ []) $ fsplit ! $ move ! (1 ∷ []) $ fsplit ! $
       some_had ! node_row n vs (λ ws is_live. valued ! node_row node_laws.the_row_laws n ws (λ v is_v fits.
@@ -217,7 +219,8 @@ module _ {M : Type 1} (𝓤 : Ura M) (𝓛 : Logic 𝓤) (𝓜 : Model 𝓤 𝓛
       (λ (ls : Lasts (Node_lender O) κs (r, (n, tt))). ‵ (lasts (Node_lender O) κs (r, (n, tt)) ls) ⊛
       (‵ (s.NodeTies κs r n q) ⊛ raw (fact 𝓤 (s.NodePair κs r n q))))))) (id⊢ 𝓤 (Y.post y v')) $
       await ! tt $ pick ! (λ q. split ! $ move ! (1 ∷ []) $
-      pick ! (λ ls. split ! $ drop ! $ split ! $ use1 𝓛 (‵ (s.Ties κs (r, Some n) (Some q))) (s.ties_some κs r n q) $
+      pick ! (λ ls. split ! $ drop ! $ split ! $ use1 𝓛 (‵ (s.Ties κs (r, Some n) (Some q)))
+      (s.ties_some κs r n q) $
       move ! (1 ∷ []) $ heard ! (s.NodePair κs r n q) (λ has.
       -- [the tie; the tokens and the result]
       move ! (1 ∷ []) $ split ! $ move ! (1 ∷ []) $
@@ -236,7 +239,8 @@ module _ {M : Type 1} (𝓤 : Ura M) (𝓛 : Logic 𝓤) (𝓜 : Model 𝓤 𝓛
       sets ! (of_opd ! (get ! refl)) refl (tt, (record { fits = lit< tt }, ((tt, (tt, tt)), tt))) $
       returns ! (look_at ! 0 refl) $ free_all ! refl $
       use0 𝓛 (raw (fact 𝓤 (s.Pair κs (r, Some n) (Some q))))
-      (fact_i 𝓤 (s.Pair κs (r, Some n) (Some q)) (emp 𝓤) (s.pair_some κs r n q has)) $ move ! (3 ∷ 0 ∷ []) $ join ! $
+      (fact_i 𝓤 (s.Pair κs (r, Some n) (Some q)) (emp 𝓤) (s.pair_some κs r n q has)) $ move ! (3 ∷ 0 ∷ []) $
+      join ! $
       nothing ! $ nothing ! $ fjoin ! $ nothing ! $ fjoin ! $ keep ! (3 ∷ 0 ∷ 2 ∷ 1 ∷ []) $
       by ! (leaves 𝓛 En hs c (At (Some n) (mut_vals r) vs) (live 1 (of_list (pair ∷ [])))
       (Some q) (tt, (tt, tt))

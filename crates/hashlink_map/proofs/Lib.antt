@@ -3,6 +3,7 @@ pub mod AtNode
 pub mod Clones
 pub mod Copying
 pub mod CursorPairs
+pub mod EnterAndLend
 pub mod Extending
 pub mod Indexing
 pub mod LastMoved
@@ -13,6 +14,7 @@ pub mod PairSteps
 pub mod PairTies
 pub mod PairValues
 pub mod StepAndLend
+pub mod PutLast
 pub mod Taken
 pub mod Taking
 pub mod WalkPairs

@@ -73,7 +73,8 @@ stepping n τ = record {
   locals =
       local τ value_local ∷ local (ty_ref (named 0) mut n.passed) value_local
       ∷ local (ty_ref erased mut n.held) value_local ∷ local (layout At_place) value_local
-      ∷ local (ty_struct n.tuple (tcons (ty_ref erased mut n.held) (tcons (layout At_place) tnil))) value_local
+      ∷ local (ty_struct n.tuple
+      (tcons (ty_ref erased mut n.held) (tcons (layout At_place) tnil))) value_local
       ∷ local (ty_ref erased mut n.held) value_local ∷ local (ty_ref erased mut n.held) value_local ∷ [];
   body =
       seq (assign (place 5 []) (addr_of (place 1 (deref n.behind ∷ []))))
@@ -186,8 +187,10 @@ module _ {M : Type 1} (𝓤 : Ura M) (𝓛 : Logic 𝓤) (𝓜 : Model 𝓤 𝓛
   steps_and_lends O n met₁ met₂ closed =
       let H = 𝓛.H in let 𝓣 = tables 𝓤 H 𝓜 𝓡 𝓡.env in
       let En = Giving O in let fn = stepping n (layout (option.the_row (Lent K V LK LV []))) in
-      let hs : Stays En.signature.params En.kept = (stay_dropped (mut_ref_to (0 ∷ []) tt (plain (Borrower K V LK LV Row))) no, tt) in
-      proved_at 𝓛 En hs (gives O) 𝓜 𝓡 (Goes-spent_ref 𝓛 6 (0 ∷ []) tt (plain (Borrower K V LK LV Row)), tt) n.self fn closed (λ z are.
+      let hs : Stays En.signature.params En.kept =
+      (stay_dropped (mut_ref_to (0 ∷ []) tt (plain (Borrower K V LK LV Row))) no, tt) in
+      proved_at 𝓛 En hs (gives O) 𝓜 𝓡
+      (Goes-spent_ref 𝓛 6 (0 ∷ []) tt (plain (Borrower K V LK LV Row)), tt) n.self fn closed (λ z are.
       let κs = z.0.0 in let qs = z.0.1 in let r = z.0.3.0 in
       let Held = Borrower K V LK LV Row κs in let Self = Ref K V LK LV Row κs in
       let Middle = Mid K V LK LV Row κs in let Lent_out = Out K V LK LV Row κs in
@@ -223,7 +226,8 @@ module _ {M : Type 1} (𝓤 : Ura M) (𝓛 : Logic 𝓤) (𝓜 : Model 𝓤 𝓛
       let is : v ≡ mid = ap only is_mid ∙ (λ i. vstruct (of_list (e0 i ++ (is_u i ++ [])))) in
       move ! (1 ∷ []) $ drop ! $
       -- [the place; self; the tokens; what the next call asks]
-      lands_as ! is refl (as_fields (ty_ptr ∷ layout At_place ∷ []) (vptr q.0.ref_ptr.0 q.0.ref_ptr.1 ∷ u ∷ [])
+      lands_as ! is refl
+      (as_fields (ty_ptr ∷ layout At_place ∷ []) (vptr q.0.ref_ptr.0 q.0.ref_ptr.1 ∷ u ∷ [])
       ((tt, tt), (fits, tt))) $
       sets ! (of_opd ! (get_in ! (fld ! refl (stop !)) (sub ! 0 refl (whole !)))) refl (tt, tt) $
       sets ! (of_opd ! (get_in ! (fld ! refl (stop !)) (sub ! 1 refl (whole !)))) refl fits $
@@ -247,11 +251,13 @@ module _ {M : Type 1} (𝓤 : Ura M) (𝓛 : Logic 𝓤) (𝓜 : Model 𝓤 𝓛
       -- [the tie; the tokens and the result]
       use1 𝓛 (‵ (s.Lends κs r o)) (s.ties κs r q o taken pair) $ move ! (1 ∷ []) $ split ! $ move ! (1 ∷ []) $
       peeks ! Lent_out (Is Lent_out) (shows 𝓛 Lent_out) o (v₂ ∷ []) (λ is_out.
-      lands_as ! refl refl (((option_laws.the_row_laws (Lent K V LK LV κs.0) (lent_laws K V LK LV κs.0)).lawful
+      lands_as ! refl refl
+      (((option_laws.the_row_laws (Lent K V LK LV κs.0) (lent_laws K V LK LV κs.0)).lawful
       𝓛).typed o (v₂ ∷ []) is_out).0 $
       returns ! (look_at ! 0 refl) $ free_all ! refl $
       -- [the result; the tokens; the tie]
-      use0 𝓛 (raw (fact 𝓤 (s.Gives κs r o))) (fact_i 𝓤 (s.Gives κs r o) (emp 𝓤) (s.gives κs r q o taken pair)) $
+      use0 𝓛 (raw (fact 𝓤 (s.Gives κs r o)))
+      (fact_i 𝓤 (s.Gives κs r o) (emp 𝓤) (s.gives κs r q o taken pair)) $
       move ! (3 ∷ 0 ∷ []) $ join ! $
       nothing ! $ nothing ! $ fjoin ! $ keep ! (3 ∷ 0 ∷ 2 ∷ 1 ∷ []) $
       by ! (leaves 𝓛 En hs (gives O) (At vs) v₂ o (tt, tt) (tt, tt))))))))))))))))))

@@ -168,7 +168,8 @@ module _ (K V S T : RattleType) (g : eq.Ghosts K.Denot) (h : hash.Ghosts K.Denot
         (sem 𝓛 (LendsPairThere K V S T i j None))
     unfolding follows_by such_by
     lends_none j =
-        qed 𝓛 (‵ (fres i.ghost_name (Row.coded.code i.now)) ∷ []) ∵ fpack ! (There i j None) (λ s. Follows i.ghost_name None s.0)
+        qed 𝓛 (‵ (fres i.ghost_name (Row.coded.code i.now)) ∷ []) ∵ fpack ! (There i j None)
+        (λ s. Follows i.ghost_name None s.0)
         (((λ u. i.now), i.now), (λ u. tt), (refl, refl, refl)) $ done !
 
   module _ {M : Type 1} {𝓤 : Ura M} (𝓛 : Logic 𝓤) (old mid : MutBor Walk) (j : ℕ)
@@ -218,7 +219,8 @@ module _ (K V S T : RattleType) (LK : Laws K) (LV : Laws V) (p : eq.Ghosts K.Den
     pair_none = λ κs r. refl;
   }
 
-  -- the place that `place` numbers is taken off, which leaves `after`, and its pair is `entry` of what is left
+  -- the place that `place` numbers is taken off, which leaves `after`, and its pair is `entry` of what is
+  -- left
   abbrev pub taken_off : {M : Type 1} {𝓤 : Ura M} (𝓛 : Logic 𝓤) (place : State → ℕ) (after : State → State)
       (entry : List (K.Denot × V.Denot) → Option (K.Denot × V.Denot))
       → ((old mid : MutBor Held) (taken : Option Node) (r : Option (Bor K.Denot × MutBor V.Denot))
