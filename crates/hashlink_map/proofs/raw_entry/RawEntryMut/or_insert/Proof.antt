@@ -2,8 +2,6 @@
 use Rattle.std.proofs.Common.{◌≡◌, [], ◌∷◌, refl}
 use base.Fml.{ftrue, fsep}
 use base.Logic.{ent, via}
-use mir.MapTy.{inst_fn}
-use mir.Syntax.{a_type, dcons, dnil}
 use types.Kit.{‵, raw, ◌$◌, ◌∵◌, !, qed, done, move, fjoin}
 use types.Logic.{sem}
 use types.Run.{of_opd, and_then, no_more, returns, enter}
@@ -11,7 +9,7 @@ use types.ByLocal.{alloc_all, pass_all, free_all, look_at, get, sets, lands_as}
 use contract.Lifetimes.{Lfts}
 use contract.Running.{tables}
 use denote.Exit.{no, Last, left, rest}
-use denote.Param.{bounded, param}
+use denote.Param.{param}
 use denote.Param.Laws.{param_laws}
 use denote.Signature.{plain}
 use denote.Steps.{nothing}
@@ -36,9 +34,6 @@ pub or_insert_spec : {M : Type 1} → statement M
 or_insert_spec 𝓤 𝓛 𝓜 𝓡 wired K V S T LK LV LS LT e de p dp h dh b db w dw dd dk dv me mp mh mb mw md mk mv =
     let H = 𝓛.H in let 𝓣 = tables 𝓤 H 𝓜 𝓡 𝓡.env in
     let En = f.ended K V S T e de p dp h dh b db w dw dd dk dv in
-    let inst = bounded (a_type ∷ a_type ∷ a_type ∷ a_type ∷ []) (K, (V, (S, (T, tt))))
-    (dcons de (dcons dp (dcons dh (dcons db (dcons dw (dcons dd (dcons dk (dcons dv dnil)))))))) in
-    let fn = inst_fn inst code.function in
     let self = plain (λ (κs : Lfts 5). Found K V LK LV κs.0 S T LS LT p h b w) in
     let key = plain (λ (κs : Lfts 5). param 0 K) in
     let value = plain (λ (κs : Lfts 5). param 1 V) in
@@ -67,7 +62,7 @@ or_insert_spec 𝓤 𝓛 𝓜 𝓡 wired K V S T LK LV LS LT e de p dp h dh b db
     (λ κs a. (tt, (tt, (tt, tt))))
     (λ κs a vss. qed 𝓛 [] ∵ nothing ! $ nothing ! $ fjoin ! $ nothing ! $ fjoin ! $ nothing ! $ fjoin ! $
     done !)
-    _ _ _ fn
+    _ _ _ _
     (entered.met 𝓤 𝓛 𝓜 𝓡 (code.calls-hashlink_map::raw_entry::RawEntryMut::or_insert_entry 𝓡.env wired)
     K V S T LK LV LS LT e de p dp h dh b db w dw dd dk dv me mp mh mb mw md mk mv)
     (lent.met 𝓤 𝓛 𝓜 𝓡
@@ -81,7 +76,7 @@ or_insert_spec 𝓤 𝓛 𝓜 𝓡 wired K V S T LK LV LS LT e de p dp h dh b db
       (self_at.0 ∷ [], (key_at.0 ∷ [], (value_at.0 ∷ [], tt))),
       (λ i. (self_at.1 i, (key_at.1 i, (value_at.1 i, tt)))),
       λ A Q Post first second.
-          qed 𝓛 (raw A ∷ []) ∵ enter ! 𝓣.C 𝓣.Λ fn _ Post $ alloc_all !
+          qed 𝓛 (raw A ∷ []) ∵ enter ! _ _ _ _ _ $ alloc_all !
           (λ l. pass_all ! refl (self_at.2, (key_at.2, (value_at.2, tt))) $
           sets ! (of_opd ! (get ! refl)) refl self_at.2 $ sets ! (of_opd ! (get ! refl)) refl key_at.2 $
           sets ! (of_opd ! (get ! refl)) refl value_at.2 $

@@ -2,8 +2,6 @@
 use Rattle.std.proofs.Common.{◌≡◌, [], ◌∷◌, refl}
 use base.Fml.{ftrue, fsep}
 use base.Logic.{ent, sep, via}
-use mir.MapTy.{inst_fn}
-use mir.Syntax.{a_type, dcons, dnil}
 use types.Kit.{‵, raw, ◌$◌, ◌∵◌, !, qed, done, move, fjoin}
 use types.Logic.{sem}
 use types.Run.{of_opd, and_then, no_more, returns, enter}
@@ -13,7 +11,7 @@ use contract.Lifetimes.{Lfts}
 use contract.Monad.{fact}
 use contract.Running.{tables}
 use denote.Exit.{no, Last, left, rest}
-use denote.Param.{bounded, param}
+use denote.Param.{param}
 use denote.Param.Laws.{param_laws}
 use denote.Signature.{plain}
 use denote.Steps.{nothing}
@@ -38,9 +36,6 @@ or_insert_with_spec 𝓤 𝓛 𝓜 𝓡 wired K V S T F LK LV LS LT LF e de p dp
     md mx mt =
     let H = 𝓛.H in let 𝓣 = tables 𝓤 H 𝓜 𝓡 𝓡.env in
     let En = f.ended K V S T F e de p dp h dh b db w dw dd x dx dt in
-    let inst = bounded (a_type ∷ a_type ∷ a_type ∷ a_type ∷ a_type ∷ []) (K, (V, (S, (T, (F, tt)))))
-    (dcons de (dcons dp (dcons dh (dcons db (dcons dw (dcons dd (dcons dx (dcons dt dnil)))))))) in
-    let fn = inst_fn inst code.function in
     let self = plain (λ (κs : Lfts 6). Found K V LK LV κs.0 S T LS LT p h b w) in
     let default = plain (λ (κs : Lfts 6). param 4 F) in
     entered_and_lent 𝓤 𝓛 𝓜 𝓡 K V S T LK LV LS LT e de p dp h dh b db w dw dd 6 (but_last 𝓛)
@@ -67,7 +62,7 @@ or_insert_with_spec 𝓤 𝓛 𝓜 𝓡 wired K V S T F LK LV LS LT LF e de p dp
     )
     (λ κs a. (rest ((Found K V LK LV κs.0 S T LS LT p h b w).exit no) a.0, (tt, tt))) (λ κs a. (tt, (tt, tt)))
     (λ κs a vss. qed 𝓛 [] ∵ nothing ! $ nothing ! $ fjoin ! $ nothing ! $ fjoin ! $ done !)
-    _ _ _ fn
+    _ _ _ _
     (entered.met 𝓤 𝓛 𝓜 𝓡 (code.calls-hashlink_map::raw_entry::RawEntryMut::or_insert_entry_with 𝓡.env wired)
     K V S T F LK LV LS LT LF e de p dp h dh b db w dw dd x dx dt me mp mh mb mw md mx mt)
     (lent.met 𝓤 𝓛 𝓜 𝓡
@@ -80,7 +75,7 @@ or_insert_with_spec 𝓤 𝓛 𝓜 𝓡 wired K V S T F LK LV LS LT LF e de p dp
       (self_at.0 ∷ [], (default_at.0 ∷ [], tt)),
       (λ i. (self_at.1 i, (default_at.1 i, tt))),
       λ A Q Post first second.
-          qed 𝓛 (raw A ∷ []) ∵ enter ! 𝓣.C 𝓣.Λ fn _ Post $ alloc_all !
+          qed 𝓛 (raw A ∷ []) ∵ enter ! _ _ _ _ _ $ alloc_all !
           (λ l. pass_all ! refl (self_at.2, (default_at.2, tt)) $
           sets ! (of_opd ! (get ! refl)) refl self_at.2 $ sets ! (of_opd ! (get ! refl)) refl default_at.2 $
           calls_from ! (framed 𝓤 H 𝓜 𝓣) (raw A) _ _ first

@@ -2,8 +2,7 @@
 use Rattle.std.proofs.Common.{[], ◌∷◌, refl}
 use base.Fml.{ftrue, fsep}
 use base.Logic.{sep, via}
-use mir.MapTy.{inst_fn}
-use mir.Syntax.{a_type, w64, dcons, dnil}
+use mir.Syntax.{w64}
 use mir.Val.{vint}
 use types.Kit.{‵, raw, ◌$◌, ◌∵◌, !, qed, done, fjoin}
 use types.Logic.{sem}
@@ -15,7 +14,7 @@ use contract.Monad.{fact}
 use contract.Running.{tables}
 use denote.Builtin.{u64}
 use denote.Exit.{no, yes}
-use denote.Param.{bounded, param}
+use denote.Param.{param}
 use denote.Param.Laws.{param_laws}
 use denote.Signature.{plain}
 use denote.Steps.{nothing}
@@ -37,10 +36,6 @@ insert_with_hasher_spec 𝓤 𝓛 𝓜 𝓡 wired K V S T F LK LV LS LT LF e de 
     mp mh mb mw md mx mm mo mt =
     let H = 𝓛.H in let 𝓣 = tables 𝓤 H 𝓜 𝓡 𝓡.env in
     let En = f.ended K V S T F e de p dp h dh b db w dw dd x dx dm dn dt in
-    let inst = bounded (a_type ∷ a_type ∷ a_type ∷ a_type ∷ a_type ∷ []) (K, (V, (S, (T, (F, tt)))))
-    (dcons de (dcons dp (dcons dh
-    (dcons db (dcons dw (dcons dd (dcons dx (dcons dm (dcons dn (dcons dt dnil)))))))))) in
-    let fn = inst_fn inst code.function in
     let self = plain (λ (κs : Lfts 6). Vacant K V LK LV κs.0 S T LS LT p h b w) in
     let number = plain (λ (κs : Lfts 6). u64) in
     let key = plain (λ (κs : Lfts 6). param 0 K) in
@@ -75,7 +70,7 @@ insert_with_hasher_spec 𝓤 𝓛 𝓜 𝓡 wired K V S T F LK LV LS LT LF e de 
     (λ κs a. ((tt, tt), (tt, (tt, (tt, (tt, tt)))))) (λ κs a. (tt, (tt, (tt, (tt, (tt, tt))))))
     (λ κs a vss. qed 𝓛 [] ∵ nothing ! $ nothing ! $ fjoin ! $ nothing ! $ fjoin ! $ nothing ! $ fjoin ! $
     nothing ! $ fjoin ! $ nothing ! $ fjoin ! $ done !)
-    _ _ _ fn
+    _ _ _ _
     (entered.met 𝓤 𝓛 𝓜 𝓡
     (code.calls-hashlink_map::raw_entry::vacant::RawVacantEntryMut::insert_entry_with_hasher 𝓡.env wired)
     K V S T F LK LV LS LT LF e de p dp h dh b db w dw dd x dx dm dn dt me mp mh mb mw md mx mm mo mt)
@@ -91,7 +86,7 @@ insert_with_hasher_spec 𝓤 𝓛 𝓜 𝓡 wired K V S T F LK LV LS LT LF e de 
       (self_at.0 ∷ [], (vint w64 a.1.0 ∷ [], (key_at.0 ∷ [], (value_at.0 ∷ [], (hasher_at.0 ∷ [], tt))))),
       (λ i. (self_at.1 i, (are.1.0.0 i, (key_at.1 i, (value_at.1 i, (hasher_at.1 i, tt)))))),
       λ A Q Post first second.
-          qed 𝓛 (raw A ∷ []) ∵ enter ! 𝓣.C 𝓣.Λ fn _ Post $ alloc_all !
+          qed 𝓛 (raw A ∷ []) ∵ enter ! _ _ _ _ _ $ alloc_all !
           (λ l. pass_all ! refl (
             self_at.2,
             ((tt, record { fits = are.1.0.1 }), (key_at.2, (value_at.2, (hasher_at.2, tt)))),
