@@ -14,7 +14,7 @@ use hashlink_core::Node;
 use std::hash::{BuildHasher, Hash};
 
 impl<'a, K: Eq + Hash, V, S: BuildHasher> CursorMut<'a, K, V, S> {
-    ghost use Rattle.hashlink_map.specs.Cursor.{cursor_map, cursor_node, cursor_state, lent_pair};
+    ghost use Rattle.hashlink_map.specs.Cursor.{cursor_map, cursor_state, lent_pair};
     ghost use Rattle.hashlink_map.specs.Cursor.{TakesPlace, LentAt};
     ghost use Rattle.hashlink_map.specs.CursorLends.{LendsFromCursor, LendsPairFromCursor, LendsAtCursorNode};
     ghost use Rattle.hashlink_map.specs.CursorLends.{LendsNextPair, LendsPreviousPair};
