@@ -37,7 +37,7 @@ module _ {M : Type 1} (𝓤 : Ura M) (𝓛 : Logic 𝓤) (K V S T : RattleType) 
   abbrev Y : Type 0
   Y = (Lent_at 𝓤 K V S T LK LV LS LT p h b w κ).Denot
 
-  -- three facts, and the last two or all three
+  -- three facts are heard at once, and two are told
   pub hears_three : (A B C : Type 0) → ent 𝓤 (sep 𝓤 (fact 𝓤 A) (sep 𝓤 (fact 𝓤 B) (fact 𝓤 C)))
       (fact 𝓤 (A × B × C))
   hears_three A B C =
