@@ -1,17 +1,15 @@
--- What a cursor is once a value was written through a key and a value that it lent. Assumes `Logic`.
-use Rattle.std.proofs.Common.{◌≡◌, ℕ, List, [], ◌∷◌, ◌++◌, refl, ap, ◌∙◌}
+-- What a cursor is once a value was written through a key and a value that it lent, and what it lends at its
+-- place and at the places beside it. Assumes `Logic`.
+use Rattle.std.proofs.Common.{◌≡◌, ℕ, [], ◌∷◌, refl, ap, ◌∙◌, sym, subst}
 use seplogic.Ra.Ura.{Ura}
-use base.Logic.{ent}
+use base.Logic.{ent, SProp, id⊢}
 use mir.Syntax.{named}
-use mir.Val.{Val, of_list}
 use types.Logic.{Logic, sem}
-use types.Kit.{Item, Goal, Seq, ‵, ◌$◌, ◌∵◌, !, qed, move, drop, fsplit, fpick, feq_l, fpack, done}
-use types.Match.{live}
+use types.Kit.{‵, ◌$◌, ◌∵◌, !, qed, fpack, done}
 use denote.Follow.{follows_by, such_by}
 use denote.RattleType.{RattleType}
-use Rattle.std.specs.Prelude.{Option, Some, None, OnSome}
+use Rattle.std.specs.Prelude.{Option, Some, None, OnSome, slice_get}
 use Rattle.std.specs.Borrow.{Fml, Bor, MutBor, follows_if, name_if_some}
-use Rattle.std.specs.contracts.option.Option as option
 use Rattle.std.specs.declared.cmp.PartialEq as eq
 use Rattle.std.specs.declared.hash.Hash as hash
 use Rattle.std.specs.declared.hash.Hasher as hasher
@@ -22,10 +20,20 @@ use Rattle.hashlink_map.specs.contracts.as_node.NodeAsNode.TheImpl
 use Rattle.hashlink_map.specs.contracts.cursor.CursorMut as cursor
 use Rattle.hashlink_map.specs.declared.as_node.AsNode as as_node
 use Rattle.hashlink_map.specs.declared.cursor.CursorMut.{CursorMut}
-use Rattle.hashlink_map.specs.Cursor.{cursor_map, cursor_node, cursor_state, CursorWritten}
+use Rattle.hashlink_map.specs.Cursor.{cursor_map, cursor_node, cursor_state, CursorWritten, LentAt}
+use Rattle.hashlink_map.specs.Cursor.{TakesPlace, lent_pair}
 use Rattle.hashlink_map.specs.CursorLends.{cursor_with, LendsAtCursorNode, LendsPairFromCursor}
 use Rattle.hashlink_map.specs.Standing.{IsPlace-prop}
 use Rattle.hashlink_map.proofs.Written.{cursor_written}
+use denote.Param.{param}
+use denote.Param.Laws.{Laws}
+use denote.Ref.{NamedLft}
+use Rattle.hashlink_model.specs.Cursor.{CursorState}
+use Rattle.hashlink_map.proofs.StepAndLend.{Lending}
+use base.Fml.{fres}
+use Rattle.hashlink_core.specs.Keyed.{entries_of}
+use Rattle.hashlink_core.proofs.Keeping.{at-guard}
+use Rattle.hashlink_map.proofs.LendAtPlace.{LendingAt}
 
 module _ {K V S T : Type 0} {g : eq.Ghosts K} {h : hash.Ghosts K} {b : builder.Ghosts S T}
     {w : hasher.Ghosts T}
@@ -55,11 +63,6 @@ module _ (K V S T : RattleType) {g : eq.Ghosts K.Denot} {h : hash.Ghosts K.Denot
   abbrev Follows : (i : ℕ) (r : Option (Bor K.Denot × MutBor V.Denot)) → Chosen i r → Fml
   Follows i r s = follows_if Row V c.ghost_name (name_if_some (λ p. p.1.ghost_name) r) s.0.0 s.0.1
 
-  abbrev pub StaysAsItIs : Fml
-  StaysAsItIs =
-      follows_if Row V c.ghost_name (name_if_some (λ (p : Bor K.Denot × MutBor V.Denot). p.1.ghost_name) None)
-      (λ u. c.now) c.now
-
   module _ {M : Type 1} {𝓤 : Ura M} (𝓛 : Logic 𝓤) where
     pub lends_some : (at : Node) (q : Bor K.Denot × MutBor V.Denot)
         → ent 𝓤 (sem 𝓛 (LendsAtCursorNode K V S T c at q.1))
@@ -76,30 +79,84 @@ module _ (K V S T : RattleType) {g : eq.Ghosts K.Denot} {h : hash.Ghosts K.Denot
         )
         $ done !
 
-    pub lends_none : (i : ℕ) → ent 𝓤 (sem 𝓛 StaysAsItIs) (sem 𝓛 (LendsPairFromCursor K V S T c i None))
+    pub lends_none : (i : ℕ) → ent 𝓤 (sem 𝓛 (fres c.ghost_name (Row.coded.code c.now)))
+        (sem 𝓛 (LendsPairFromCursor K V S T c i None))
     unfolding follows_by such_by
     lends_none i =
-        qed 𝓛 (‵ StaysAsItIs ∷ []) ∵ fpack ! (Chosen i None) (Follows i None)
+        qed 𝓛 (‵ (fres c.ghost_name (Row.coded.code c.now)) ∷ []) ∵ fpack ! (Chosen i None) (Follows i None)
         (((λ u. c.now), c.now), (λ u. tt), (refl, refl, refl)) $ done !
 
--- the parts of an `Option`
-module _ {M : Type 1} {𝓤 : Ura M} {𝓛 : Logic 𝓤} {J : Type 0} {Γ : List (Item 𝓤)} {G : Goal 𝓤 𝓛.H} where
-  pub some_had : J → (X : RattleType) (x : X.Denot) (vs : List Val)
-      → ((ws : List Val) → vs ≡ live 1 (of_list (ws ++ [])) ∷ [] → Seq J 𝓛 (‵ (X.own_val x ws) ∷ Γ) G)
-      → Seq J 𝓛 (‵ ((option.the_row X).own_val (Some x) vs) ∷ Γ) G
-  some_had t X x vs k =
-      fpick t
-      (λ us. fsplit t $ feq_l t
-      (λ ev. fpick t
-      (λ vss. fsplit t $ feq_l t
-      (λ eu. fsplit t $ move t (1 ∷ []) $ drop t $ k vss.0 (ev ∙ ap (λ ws. live 1 (of_list ws) ∷ []) eu)))))
+module _ (K V S T : RattleType) (LK : Laws K) (LV : Laws V) (p : eq.Ghosts K.Denot) (h : hash.Ghosts K.Denot)
+    (b : builder.Ghosts S.Denot T.Denot) (w : hasher.Ghosts T.Denot) where
+  abbrev pub Cursor : NamedLft → RattleType
+  Cursor ℓ =
+      cursor.the_row ℓ (param 0 K) (param 1 V) (param 2 S) node_row (param 3 T) p h b w TheImpl.ghosts
 
-  pub none_had : J → (X : RattleType) (vs : List Val)
-      → (vs ≡ live 0 (of_list []) ∷ [] → Seq J 𝓛 Γ G)
-      → Seq J 𝓛 (‵ ((option.the_row X).own_val None vs) ∷ Γ) G
-  none_had t X vs k =
-      fpick t
-      (λ us. fsplit t $ feq_l t
-      (λ ev. fpick t
-      (λ vss. fsplit t $ feq_l t
-      (λ eu. drop t $ k (ev ∙ ap (λ ws. live 0 (of_list ws) ∷ []) eu)))))
+  abbrev Held : Type 0
+  Held = CursorMut K.Denot V.Denot S.Denot Node T.Denot p h b w TheImpl.ghosts
+
+  abbrev number : Held → Option Node → ℕ
+  number c place = place_number c.map.now.nodes place
+
+  module _ (place : CursorState K.Denot V.Denot S.Denot → ℕ) (r : MutBor Held) (q : MutBor Held × Option Node)
+      (t : TakesPlace r (place (cursor_state r.now)) q) where
+    abbrev here : MutBor Held × ℕ
+    here = (r, place (cursor_state r.now))
+
+    abbrev there : MutBor Held × ℕ
+    there = (q.0, number q.0.now q.1)
+
+    is_there : there ≡ here
+    is_there = λ j. (t.0 j, (ap (λ x. number x.now q.1) t.0 ∙ t.1.number) j)
+
+    pub is_place : IsPlace q.0.now.map.now.nodes q.1
+    is_place = subst (λ x. IsPlace x.now.map.now.nodes q.1) (sym t.0) t.1.within
+
+    pub lends_on : {M : Type 1} (𝓤 : Ura M) (𝓛 : Logic 𝓤) (o : Option (Bor K.Denot × MutBor V.Denot))
+        → ent 𝓤 (sem 𝓛 (LendsPairFromCursor (param 0 K) (param 1 V) (param 2 S) (param 3 T) q.0
+        (number q.0.now q.1) o))
+        (sem 𝓛 (LendsPairFromCursor (param 0 K) (param 1 V) (param 2 S) (param 3 T) r
+        (place (cursor_state r.now)) o))
+    lends_on 𝓤 𝓛 o =
+        let Lends : MutBor Held × ℕ → SProp 𝓤 = λ x. sem 𝓛 (LendsPairFromCursor (param 0 K) (param 1 V)
+        (param 2 S) (param 3 T) x.0 x.1 o) in
+        subst (λ x. ent 𝓤 (Lends there) (Lends x)) is_there (id⊢ 𝓤 _)
+
+    pub lent_on : (o : Option (Bor K.Denot × MutBor V.Denot)) → LentAt (cursor_state q.0.now)
+        (number q.0.now q.1) o
+        → LentAt (cursor_state r.now) (place (cursor_state r.now)) o
+    lent_on o = subst (λ (x : MutBor Held × ℕ). LentAt (cursor_state x.0.now) x.1 o) is_there
+
+  -- at a node, and at a place
+  abbrev pub at_node : {M : Type 1} {𝓤 : Ura M} (𝓛 : Logic 𝓤) → LendingAt K V LK LV Cursor 𝓛
+  at_node 𝓛 = record {
+    NodeTies = λ κs r n q. LendsAtCursorNode (param 0 K) (param 1 V) (param 2 S) (param 3 T) r n q.1;
+    NodePair = λ κs r n q.
+        slice_get (entries_of r.now.map.now) (number r.now (Some n)) ≡ Some (lent_pair q);
+    Stands = λ κs q. IsPlace q.0.now.map.now.nodes q.1;
+    Ties = λ κs q o. LendsPairFromCursor (param 0 K) (param 1 V) (param 2 S) (param 3 T) q.0
+        (number q.0.now q.1) o;
+    Pair = λ κs q o. LentAt (cursor_state q.0.now) (number q.0.now q.1) o;
+    ties_some = λ κs r n q. lends_some (param 0 K) (param 1 V) (param 2 S) (param 3 T) r 𝓛 n q;
+    pair_some = λ κs r n q has. sym has;
+    ties_none = λ κs r. lends_none (param 0 K) (param 1 V) (param 2 S) (param 3 T) r 𝓛 (number r.now None);
+    pair_none = λ κs r. sym (at-guard r.now.map.now);
+  }
+
+  -- at the place that `place` numbers
+  abbrev pub at_place : {M : Type 1} {𝓤 : Ura M} (𝓛 : Logic 𝓤)
+      → (CursorState K.Denot V.Denot S.Denot → ℕ)
+      → Lending K V LK LV Cursor 𝓛
+  at_place {𝓤 = 𝓤} 𝓛 place = record {
+    Takes = λ κs r q. TakesPlace r (place (cursor_state r.now)) q;
+    Stands = λ κs q. IsPlace q.0.now.map.now.nodes q.1;
+    Ties = λ κs q o. LendsPairFromCursor (param 0 K) (param 1 V) (param 2 S) (param 3 T) q.0
+        (number q.0.now q.1) o;
+    Pair = λ κs q o. LentAt (cursor_state q.0.now) (number q.0.now q.1) o;
+    Lends = λ κs r o. LendsPairFromCursor (param 0 K) (param 1 V) (param 2 S) (param 3 T) r
+        (place (cursor_state r.now)) o;
+    Gives = λ κs r o. LentAt (cursor_state r.now) (place (cursor_state r.now)) o;
+    stands = λ κs r q t. is_place place r q t;
+    ties = λ κs r q o t pair. lends_on place r q t 𝓤 𝓛 o;
+    gives = λ κs r q o t pair. lent_on place r q t o pair;
+  }

@@ -86,11 +86,12 @@ module _ (K V S T : RattleType) (g : eq.Ghosts K.Denot) (h : hash.Ghosts K.Denot
   abbrev Map : RattleType
   Map = the_row K V S T g h b w
 
-  abbrev Rests : Result (RawOccupiedEntryMut K.Denot V.Denot S.Denot Node T.Denot g h b w TheImpl.ghosts) E
+  abbrev pub Rests : Result
+      (RawOccupiedEntryMut K.Denot V.Denot S.Denot Node T.Denot g h b w TheImpl.ghosts) E
       → Fml
   Rests x = RestsIfErr Map m (λ o. (raw_occupied_map o).ghost_name) x (λ new. IfErr x (λ e. P₀ e new))
 
-  abbrev Lends : Result (Bor K.Denot × MutBor V.Denot) E → Fml
+  abbrev pub Lends : Result (Bor K.Denot × MutBor V.Denot) E → Fml
   Lends r =
       follows_so Map V m.ghost_name (name_if_ok (λ q. q.1.ghost_name) r) (λ u new. IfOk r (λ q. P q u new))
       (λ new. IfErr r (λ e. P₀ e new))

@@ -1,4 +1,4 @@
--- A value's one machine value, and the parts of a `Result`. Assumes `Logic`.
+-- A value's one machine value, and the parts of a `Result` and of an `Option`. Assumes `Logic`.
 use Rattle.std.proofs.Common.{◌≡◌, List, [], ◌∷◌, ◌++◌, refl, ap, subst, ◌∙◌}
 use seplogic.Ra.Ura.{Ura}
 use mir.Val.{Val, of_list}
@@ -11,7 +11,8 @@ use denote.Param.Laws.{Laws}
 use denote.RattleType.{RattleType}
 use denote.Steps.{peeks}
 use Rattle.std.proofs.cell.Inside.{Good, one}
-use Rattle.std.specs.Prelude.{Ok, Err}
+use Rattle.std.specs.Prelude.{Ok, Err, Some, None}
+use Rattle.std.specs.contracts.option.Option as option
 use Rattle.std.specs.contracts.result.Result as result
 
 module _ {M : Type 1} {𝓤 : Ura M} (𝓛 : Logic 𝓤) (R : RattleType) (L : Laws R) where
@@ -46,3 +47,23 @@ module _ {M : Type 1} {𝓤 : Ura M} {𝓛 : Logic 𝓤} {K : Type 0} {Γ : List
       (λ ev. fpick t
       (λ vss. fsplit t $ feq_l t
       (λ eu. fsplit t $ move t (1 ∷ []) $ drop t $ k vss.0 (ev ∙ ap (λ ws. live 1 (of_list ws) ∷ []) eu)))))
+
+  pub some_had : K → (X : RattleType) (x : X.Denot) (vs : List Val)
+      → ((ws : List Val) → vs ≡ live 1 (of_list (ws ++ [])) ∷ [] → Seq K 𝓛 (‵ (X.own_val x ws) ∷ Γ) G)
+      → Seq K 𝓛 (‵ ((option.the_row X).own_val (Some x) vs) ∷ Γ) G
+  some_had t X x vs k =
+      fpick t
+      (λ us. fsplit t $ feq_l t
+      (λ ev. fpick t
+      (λ vss. fsplit t $ feq_l t
+      (λ eu. fsplit t $ move t (1 ∷ []) $ drop t $ k vss.0 (ev ∙ ap (λ ws. live 1 (of_list ws) ∷ []) eu)))))
+
+  pub none_had : K → (X : RattleType) (vs : List Val)
+      → (vs ≡ live 0 (of_list []) ∷ [] → Seq K 𝓛 Γ G)
+      → Seq K 𝓛 (‵ ((option.the_row X).own_val None vs) ∷ Γ) G
+  none_had t X vs k =
+      fpick t
+      (λ us. fsplit t $ feq_l t
+      (λ ev. fpick t
+      (λ vss. fsplit t $ feq_l t
+      (λ eu. drop t $ k (ev ∙ ap (λ ws. live 0 (of_list ws) ∷ []) eu)))))

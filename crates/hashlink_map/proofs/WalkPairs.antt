@@ -1,5 +1,6 @@
--- What a walk is once a value was written through a key and a value that it lent. Assumes `Logic`.
-use Rattle.std.proofs.Common.{◌≡◌, ℕ, [], ◌∷◌, take, drop, refl, sym, ap, ap₂, subst, ◌∙◌}
+-- What a walk is once a value was written through a key and a value that it lent, and what it lends where it
+-- takes a place off. Assumes `Logic`.
+use Rattle.std.proofs.Common.{◌≡◌, ℕ, [], ◌∷◌, take, drop, refl, sym, ap, ap₂, subst, ◌∙◌, List}
 use seplogic.Ra.Ura.{Ura}
 use base.Logic.{ent}
 use mir.Syntax.{named}
@@ -29,6 +30,12 @@ use Rattle.hashlink_map.specs.IterMutLends.{LendsPairFromWalk, LentFrom, StaysTh
 use Rattle.hashlink_map.specs.WritingWalk.{WritingWalk, StandsIn, StandsIn-prop, walk_with, walk_rest}
 use Rattle.hashlink_map.specs.WritingWalk.{last_place, after_front, after_back}
 use Rattle.hashlink_map.proofs.Walking.{written-there, first-taken, last-taken}
+use denote.Param.{param}
+use denote.Param.Laws.{Laws}
+use denote.Ref.{NamedLft}
+use Rattle.hashlink_map.proofs.StepAndLend.{Lending}
+use base.Fml.{fres}
+use Rattle.hashlink_map.proofs.LendAtPlace.{LendingAt}
 
 module _ {K V S T : Type 0} {g : eq.Ghosts K} {h : hash.Ghosts K} {b : builder.Ghosts S T}
     {w : hasher.Ghosts T}
@@ -157,13 +164,12 @@ module _ (K V S T : RattleType) (g : eq.Ghosts K.Denot) (h : hash.Ghosts K.Denot
         )
         $ done !
 
-    abbrev pub StaysAsItIs : Fml
-    StaysAsItIs = Follows i.ghost_name None ((λ u. i.now), i.now)
-
-    pub lends_none : (j : ℕ) → ent 𝓤 (sem 𝓛 StaysAsItIs) (sem 𝓛 (LendsPairThere K V S T i j None))
+    pub lends_none : (j : ℕ) → ent 𝓤 (sem 𝓛 (fres i.ghost_name (Row.coded.code i.now)))
+        (sem 𝓛 (LendsPairThere K V S T i j None))
     unfolding follows_by such_by
     lends_none j =
-        qed 𝓛 (‵ StaysAsItIs ∷ []) ∵ fpack ! (There i j None) (λ s. Follows i.ghost_name None s.0)
+        qed 𝓛 (‵ (fres i.ghost_name (Row.coded.code i.now)) ∷ []) ∵ fpack ! (There i j None)
+        (λ s. Follows i.ghost_name None s.0)
         (((λ u. i.now), i.now), (λ u. tt), (refl, refl, refl)) $ done !
 
   module _ {M : Type 1} {𝓤 : Ura M} (𝓛 : Logic 𝓤) (old mid : MutBor Walk) (j : ℕ)
@@ -184,3 +190,56 @@ module _ (K V S T : RattleType) (g : eq.Ghosts K.Denot) (h : hash.Ghosts K.Denot
           stays-on old mid j stepped taken r lent t s.0.1 s.2,
         )
         $ done !)
+
+module _ (K V S T : RattleType) (LK : Laws K) (LV : Laws V) (p : eq.Ghosts K.Denot) (h : hash.Ghosts K.Denot)
+    (b : builder.Ghosts S.Denot T.Denot) (w : hasher.Ghosts T.Denot) where
+  abbrev pub Writer : NamedLft → RattleType
+  Writer ℓ = walk.the_row ℓ (param 0 K) (param 1 V) (param 2 S) node_row (param 3 T) p h b w TheImpl.ghosts
+
+  abbrev Held : Type 0
+  Held = IterMut K.Denot V.Denot S.Denot Node T.Denot p h b w TheImpl.ghosts
+
+  abbrev State : Type 0
+  State = WritingWalk K.Denot V.Denot S.Denot
+
+  -- at a node, and at a place
+  abbrev pub at_node : {M : Type 1} {𝓤 : Ura M} (𝓛 : Logic 𝓤) → LendingAt K V LK LV Writer 𝓛
+  at_node 𝓛 = record {
+    NodeTies = λ κs r n q. LendsAtWalkNode (param 0 K) (param 1 V) (param 2 S) (param 3 T) r n q.1;
+    NodePair = λ κs r n q.
+        slice_get (entries_of r.now.map.now) (place_number r.now.map.now.nodes (Some n)) ≡ Some (lent_pair q);
+    Stands = λ κs q. IsPlace q.0.now.map.now.nodes q.1;
+    Ties = λ κs q o. LendsPairThere (param 0 K) (param 1 V) (param 2 S) (param 3 T) q.0
+        (place_number q.0.now.map.now.nodes q.1) o;
+    Pair = λ κs q o. LentFrom q.0.now.map.now q.1 o;
+    ties_some = λ κs r n q. lends_some (param 0 K) (param 1 V) (param 2 S) (param 3 T) p h b w 𝓛 r n q;
+    pair_some = λ κs r n q has. (q, refl, has);
+    ties_none = λ κs r. lends_none (param 0 K) (param 1 V) (param 2 S) (param 3 T) p h b w 𝓛 r
+        (place_number r.now.map.now.nodes None);
+    pair_none = λ κs r. refl;
+  }
+
+  -- the place that `place` numbers is taken off, which leaves `after`, and its pair is `entry` of what is
+  -- left
+  abbrev pub taken_off : {M : Type 1} {𝓤 : Ura M} (𝓛 : Logic 𝓤) (place : State → ℕ) (after : State → State)
+      (entry : List (K.Denot × V.Denot) → Option (K.Denot × V.Denot))
+      → ((old mid : MutBor Held) (taken : Option Node) (r : Option (Bor K.Denot × MutBor V.Denot))
+      → LentFrom (walk_map mid.now).now taken r
+      → TakesOff walk_map walk_state old (place (walk_state old.now)) (after (walk_state old.now)) mid taken
+      → option_map lent_pair r ≡ entry (walk_rest (walk_state old.now)))
+      → Lending K V LK LV Writer 𝓛
+  taken_off 𝓛 place after entry lent = record {
+    Takes = λ κs r q.
+        TakesOff walk_map walk_state r (place (walk_state r.now)) (after (walk_state r.now)) q.0 q.1;
+    Stands = λ κs q. IsPlace q.0.now.map.now.nodes q.1;
+    Ties = λ κs q o. LendsPairThere (param 0 K) (param 1 V) (param 2 S) (param 3 T) q.0
+        (place_number q.0.now.map.now.nodes q.1) o;
+    Pair = λ κs q o. LentFrom q.0.now.map.now q.1 o;
+    Lends = λ κs r o. LendsPairFromWalk (param 0 K) (param 1 V) (param 2 S) (param 3 T) r
+        (after (walk_state r.now)) (place (walk_state r.now)) o;
+    Gives = λ κs r o. option_map lent_pair o ≡ entry (walk_rest (walk_state r.now));
+    stands = λ κs r q t. step-is_place r q.0 (place (walk_state r.now)) (after (walk_state r.now)) q.1 t;
+    ties = λ κs r q o t pair. lends_on (param 0 K) (param 1 V) (param 2 S) (param 3 T) p h b w 𝓛 r q.0
+        (place (walk_state r.now)) (after (walk_state r.now)) q.1 o pair t;
+    gives = λ κs r q o t pair. lent r q.0 q.1 o pair t;
+  }

@@ -35,9 +35,11 @@ module _ {K V S T : Type 0} {g : eq.Ghosts K} {h : hash.Ghosts K} {b : builder.G
   abbrev pub cursor_state : CursorMut K V S N T g h b w n → CursorState K V S
   cursor_state c = record { map = state_of c.map.now; place = place_number c.map.now.nodes (cursor_node c) }
 
-  -- a place of its map, which has the number i
-  abbrev pub IsPlaceIn : CursorMut K V S N T g h b w n → Option Node → ℕ → Type 0
-  IsPlaceIn c place i = IsPlaceAt c.map.now.nodes place i
+  -- the cursor itself, and a place of its map, which has the number i
+  abbrev pub TakesPlace : MutBor (CursorMut K V S N T g h b w n) → ℕ
+      → MutBor (CursorMut K V S N T g h b w n) × Option Node
+      → Type 0
+  TakesPlace c i r = (r.0 ≡ c) × IsPlaceAt c.now.map.now.nodes r.1 i
 
   -- the same cursor, after w was written as the value at the place i
   abbrev pub CursorWritten : CursorMut K V S N T g h b w n → CursorMut K V S N T g h b w n → ℕ → V → Type 0

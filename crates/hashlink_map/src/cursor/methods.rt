@@ -14,8 +14,8 @@ use hashlink_core::Node;
 use std::hash::{BuildHasher, Hash};
 
 impl<'a, K: Eq + Hash, V, S: BuildHasher> CursorMut<'a, K, V, S> {
-    ghost use Rattle.hashlink_map.specs.Cursor.{cursor_map, cursor_node, cursor_state, lent_pair};
-    ghost use Rattle.hashlink_map.specs.Cursor.{IsPlaceIn, LentAt};
+    ghost use Rattle.hashlink_map.specs.Cursor.{cursor_map, cursor_state, lent_pair};
+    ghost use Rattle.hashlink_map.specs.Cursor.{TakesPlace, LentAt};
     ghost use Rattle.hashlink_map.specs.CursorLends.{LendsFromCursor, LendsPairFromCursor, LendsAtCursorNode};
     ghost use Rattle.hashlink_map.specs.CursorLends.{LendsNextPair, LendsPreviousPair};
     ghost use Rattle.hashlink_map.specs.RawLends.{HandsOnOccupied};
@@ -70,8 +70,7 @@ impl<'a, K: Eq + Hash, V, S: BuildHasher> CursorMut<'a, K, V, S> {
 
     /// Returns the cursor and its place.
     fn with_place(&mut self) -> (&mut Self, Option<Node>)
-        ensures cursor { result.0 ≡ self.entry }
-        ensures place { result.1 ≡ cursor_node self.old }
+        ensures { TakesPlace self.entry (cursor_state self.old).place result }
     {
         let place = self.place;
         (self, place)
@@ -90,8 +89,7 @@ impl<'a, K: Eq + Hash, V, S: BuildHasher> CursorMut<'a, K, V, S> {
 
     /// Returns the cursor and the place after its own.
     fn with_next(&mut self) -> (&mut Self, Option<Node>)
-        ensures cursor { result.0 ≡ self.entry }
-        ensures place { IsPlaceIn self.old result.1 (place_next (cursor_state self.old)) }
+        ensures { TakesPlace self.entry (place_next (cursor_state self.old)) result }
     {
         let next = self.map.place_after(self.place);
         (self, next)
@@ -109,8 +107,7 @@ impl<'a, K: Eq + Hash, V, S: BuildHasher> CursorMut<'a, K, V, S> {
 
     /// Returns the cursor and the place before its own.
     fn with_previous(&mut self) -> (&mut Self, Option<Node>)
-        ensures cursor { result.0 ≡ self.entry }
-        ensures place { IsPlaceIn self.old result.1 (place_previous (cursor_state self.old)) }
+        ensures { TakesPlace self.entry (place_previous (cursor_state self.old)) result }
     {
         let previous = self.map.place_before(self.place);
         (self, previous)

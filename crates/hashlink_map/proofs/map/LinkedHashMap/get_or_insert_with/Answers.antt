@@ -1,6 +1,5 @@
 use Rattle.std.proofs.Common.{◌≡◌, length, refl, sym, subst, ◌∙◌}
-use Rattle.std.specs.Prelude.{MatchOption, Some, None}
-use Rattle.std.specs.Map.{lookup}
+use Rattle.std.specs.Prelude.{MatchOption, None}
 use Rattle.std.specs.Option.{UnwrapsOrElse}
 use Rattle.hashlink_model.specs.Entries.{place_of}
 use Rattle.hashlink_model.specs.MapState.{AddsEntry, PutsEntry}

@@ -1,11 +1,13 @@
-use Rattle.std.proofs.Common.{ap}
+use Rattle.std.proofs.Common.{ap, rules}
 use Rattle.hashlink_map.specs.Cursor.{cursor_node}
 use Rattle.hashlink_map.specs.Standing.{IsPlace-prop}
 use Rattle.hashlink_map.proofs.cursor.methods.CursorMut+K+V+S.with_next.Goals as goal
 
 -- whatever shows that its place is still of the list
-pub returns-clause-cursor : goal.returns-clause-cursor
-returns-clause-cursor g c =
-    let s = c.args.self.now in
-    ap (λ p. record c.args.self { now = record s { within = p } })
-    (IsPlace-prop s.map.now.nodes (cursor_node s) _ _)
+pub returns : goal.returns
+returns g c =
+    let s = c.args.self.now in (
+      ap (λ p. record c.args.self { now = record s { within = p } })
+          (IsPlace-prop s.map.now.nodes (cursor_node s) _ _),
+      search rules,
+    )

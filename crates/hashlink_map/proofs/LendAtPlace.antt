@@ -1,0 +1,286 @@
+-- The pair at a place of a borrower is lent, where the place is a node's. Assumes `Logic`.
+use Rattle.std.proofs.Common.{◌≡◌, ℕ, List, [], ◌∷◌, ◌++◌, refl, sym, ap, subst, ◌∙◌, lit<}
+use seplogic.Ra.Ura.{Ura}
+use base.Fml.{Fml, fres}
+use base.Logic.{SProp, ent, sep, id⊢, emp}
+use mir.Syntax.{Fn, Ty, Sym, Callee, Kind, w8, named, erased, imm, mut, ty_ref, ty_struct, ty_enum, tcons}
+use mir.Syntax.{tnil}
+use mir.Syntax.{ttcons, ttnil, local, value_local, place, deref, field, variant, seq, assign, call, return}
+use mir.Syntax.{switch, arm, no_default, aggregate, int, addr_of, copy, rv_opd}
+use mir.Val.{Val, of_list, vstruct}
+use prog.Model.{Model}
+use prog.Wp.{WpFn, Closed, Wp, after_seq}
+use types.Logic.{Logic, sem}
+use types.Kit.{‵, raw, ◌⊛◌, some, later, at_ret, any_q, post, ◌$◌, ◌∵◌, !, qed, by, move, keep, drop, split}
+use types.Kit.{join, fsplit, fsplit3, fjoin, pick, await, rewrite, use0, use1, suffices}
+use types.Match.{live, vrt, in_variant}
+use types.Part.{whole, agg}
+use types.Run.{stop, fld, of_opd, addr, lit, and_then, no_more, first, switches_on, exec, returns, enter}
+use types.ByLocal.{alloc_all, pass_all, free_all, look_at, get, get_in, get_tag, through, sets, sets_last}
+use types.ByLocal.{lands_as, env}
+use contract.BorrowLft.{◌⊑◌}
+use contract.Monad.{fact, fact_i}
+use contract.Lifetimes.{Lfts, Outlives}
+use contract.Running.{Running, tables}
+use denote.Exit.{no, yes}
+use denote.Laws.{Is, shows, Typed}
+use denote.Param.{layout}
+use denote.Param.Laws.{Laws}
+use denote.RattleType.{RattleType, owns}
+use denote.Ref.{NamedLft, mut_vals, mut_Tells, shr_vals}
+use denote.Signature.{types_at, plain, mut_ref_to}
+use denote.Steps.{nothing, peeks, only, heard}
+use denote.Triple.Call.{calls_at}
+use denote.Triple.Clauses.{Ended, Clauses, closing, lasts, Lasts}
+use denote.Triple.Entry.{alive}
+use denote.Triple.Spec.{Meets, triple_of}
+use denote.Triple.Table.{framed}
+use denote.Triple.Walked.{Stays, stay_dropped, walk_of, Goes-dropped, Goes-spent_ref}
+use Rattle.std.proofs.alloc.Shapes.{after, head, arm_body}
+use Rattle.std.proofs.cell.Inside.{Good}
+use Rattle.std.proofs.raw_atomic.Walks.{proved_at, leaves}
+use Rattle.std.proofs.VecSteps.Element.{Some-of, none_of}
+use Rattle.std.proofs.option.Option.TheLaws as option_laws
+use Rattle.std.specs.Prelude.{None, Some}
+use Rattle.std.specs.contracts.option.Option as option
+use Rattle.hashlink_core.proofs.Node.TheLaws as node_laws
+use Rattle.hashlink_core.specs.Places.{Node}
+use Rattle.hashlink_core.specs.contracts.Node.{the_row as node_row}
+use Rattle.hashlink_map.proofs.PairRows.{Lent}
+use Rattle.hashlink_map.proofs.PairSteps.{Asks}
+use Rattle.hashlink_map.proofs.PairValues.{valued, some_had, none_had}
+use Rattle.hashlink_map.proofs.StepAndLend.{At_place, Borrower, Ref, Mid, Out, lending}
+
+-- what no walk reads of the code
+pub record Names : Type 0 where
+  pub lifetimes : ℕ
+  pub outlives : List (ℕ × ℕ)
+  pub ty_params : List Kind
+  pub givens : ℕ
+  pub passed : Ty
+  pub held : Ty
+  pub behind : Ty
+  pub key : Ty
+  pub value : Ty
+  pub tuple : Sym
+  pub option : Sym
+  pub self : Callee
+  pub pair_at_node : Callee
+
+abbrev pair_ty : Names → Ty
+pair_ty n = ty_struct n.tuple (tcons (ty_ref erased imm n.key) (tcons (ty_ref erased mut n.value) tnil))
+
+-- `match place { Some(node) => Some(self.pair_at_node(node)), None => None }`
+abbrev pub matching : Names → Ty → Fn
+matching n τ = record {
+  lifetimes = n.lifetimes;
+  outlives = n.outlives;
+  ty_params = n.ty_params;
+  givens = n.givens;
+  params = 2;
+  locals =
+      local τ value_local ∷ local (ty_ref (named 0) mut n.passed) value_local
+      ∷ local (layout At_place) value_local ∷ local (layout node_row) value_local
+      ∷ local (ty_enum n.option (ttcons tnil (ttcons (tcons (pair_ty n) tnil) ttnil))) value_local
+      ∷ local (pair_ty n) value_local ∷ local (ty_ref erased mut n.held) value_local ∷ [];
+  body =
+      seq
+      (switch (copy (place 2 (variant 0 ∷ field 0 ∷ [])))
+      (arm (1 ∷ [])
+      (seq (assign (place 3 []) (rv_opd (copy (place 2 (variant 1 ∷ field 1 ∷ [])))))
+      (seq (assign (place 6 []) (addr_of (place 1 (deref n.behind ∷ []))))
+      (seq (call n.pair_at_node (copy (place 6 []) ∷ copy (place 3 []) ∷ []) (place 5 []))
+      (assign (place 4 []) (aggregate (int w8 1 ∷ copy (place 5 []) ∷ []))))))
+      (arm (0 ∷ []) (assign (place 4 []) (aggregate (int w8 0 ∷ []))) no_default)))
+      (seq (assign (place 0 []) (rv_opd (copy (place 4 [])))) return);
+}
+
+module _ (K V : RattleType) (LK : Laws K) (LV : Laws V) (Row : NamedLft → RattleType) where
+  abbrev pub Pair_at : Lfts 6 → RattleType
+  Pair_at κs = Lent K V LK LV κs.0
+
+  -- the call that lends at a node
+  abbrev at_node : List (Outlives 6) → Ended
+  at_node O = record {
+    signature = record {
+      lifetimes = 6;
+      outlives = O;
+      params = mut_ref_to (0 ∷ []) tt (plain (Borrower K V LK LV Row)) ∷ plain (λ κs. node_row) ∷ [];
+      result = plain Pair_at;
+    };
+    kept = (no, (yes, tt));
+  }
+
+  -- what is ensured: at a node, and at a place
+  pub record LendingAt {M : Type 1} {𝓤 : Ura M} (𝓛 : Logic 𝓤) : Type 1 where
+    pub NodeTies : (κs : Lfts 6) → (Ref K V LK LV Row κs).Denot → Node → (Pair_at κs).Denot → Fml
+    pub NodePair : (κs : Lfts 6) → (Ref K V LK LV Row κs).Denot → Node → (Pair_at κs).Denot → Type 0
+    pub Stands : (κs : Lfts 6) → (Mid K V LK LV Row κs).Denot → Type 0
+    pub Ties : (κs : Lfts 6) → (Mid K V LK LV Row κs).Denot → (Out K V LK LV Row κs).Denot → Fml
+    pub Pair : (κs : Lfts 6) → (Mid K V LK LV Row κs).Denot → (Out K V LK LV Row κs).Denot → Type 0
+    pub ties_some : (κs : Lfts 6) (r : (Ref K V LK LV Row κs).Denot) (n : Node) (q : (Pair_at κs).Denot)
+        → ent 𝓤 (sem 𝓛 (NodeTies κs r n q)) (sem 𝓛 (Ties κs (r, Some n) (Some q)))
+    pub pair_some : (κs : Lfts 6) (r : (Ref K V LK LV Row κs).Denot) (n : Node) (q : (Pair_at κs).Denot)
+        → NodePair κs r n q → Pair κs (r, Some n) (Some q)
+    pub ties_none : (κs : Lfts 6) (r : (Ref K V LK LV Row κs).Denot)
+        → ent 𝓤 (sem 𝓛 (fres r.ghost_name ((Borrower K V LK LV Row κs).coded.code r.now)))
+        (sem 𝓛 (Ties κs (r, None) None))
+    pub pair_none : (κs : Lfts 6) (r : (Ref K V LK LV Row κs).Denot) → Pair κs (r, None) None
+
+module _ {M : Type 1} (𝓤 : Ura M) (𝓛 : Logic 𝓤) (𝓜 : Model 𝓤 𝓛.H) (𝓡 : Running 𝓤 𝓛.H 𝓜)
+    (K V S T : RattleType) (LK : Laws K) (LV : Laws V) (Row : NamedLft → RattleType)
+    (s : LendingAt K V LK LV Row 𝓛) where
+  abbrev Node_lender : List (Outlives 6) → Ended
+  Node_lender = at_node K V LK LV Row
+
+  abbrev Lender : List (Outlives 6) → Ended
+  Lender = lending K V LK LV Row
+
+  abbrev asks : (κs : Lfts 6) → (Mid K V LK LV Row κs).Denot → SProp 𝓤
+  asks κs q =
+      Asks 𝓤 (κs.1.1.0 ⊑ K.lives) (κs.1.1.1.0 ⊑ V.lives) (κs.1.1.1.1.0 ⊑ S.lives) (κs.1.1.1.1.1.0 ⊑ T.lives)
+      (fact 𝓤 (s.Stands κs q))
+
+  abbrev lends_at_node : (O : List (Outlives 6)) → Clauses 𝓤 (Node_lender O)
+  lends_at_node O κs a = record {
+    ghost = Unit {0};
+    requires = λ _. asks κs (a.0, Some a.1.0);
+    ensures = λ _ q end. sep 𝓤 (sem 𝓛 (s.NodeTies κs a.0 a.1.0 q)) (fact 𝓤 (s.NodePair κs a.0 a.1.0 q));
+  }
+
+  abbrev lends : (O : List (Outlives 6)) → Clauses 𝓤 (Lender O)
+  lends O κs a = record {
+    ghost = Unit {0};
+    requires = λ _. asks κs (a.0, a.1.0);
+    ensures = λ _ o end. sep 𝓤 (sem 𝓛 (s.Ties κs (a.0, a.1.0) o)) (fact 𝓤 (s.Pair κs (a.0, a.1.0) o));
+  }
+
+  pub lends_at_place : (O : List (Outlives 6)) (n : Names)
+      → Meets 𝓛 (Node_lender O).signature ((tables 𝓤 𝓛.H 𝓜 𝓡 𝓡.env).C n.pair_at_node)
+      (closing 𝓛 (Node_lender O) (lends_at_node O))
+      → Closed 𝓤 𝓛.H (tables 𝓤 𝓛.H 𝓜 𝓡 𝓡.env).C (tables 𝓤 𝓛.H 𝓜 𝓡 𝓡.env).Λ n.self
+      (matching n (layout (option.the_row (Lent K V LK LV []))))
+      → Meets 𝓛 (Lender O).signature ((tables 𝓤 𝓛.H 𝓜 𝓡 𝓡.env).C n.self) (closing 𝓛 (Lender O) (lends O))
+  lends_at_place O names met closed =
+      let H = 𝓛.H in let 𝓣 = tables 𝓤 H 𝓜 𝓡 𝓡.env in
+      let En = Lender O in let fn = matching names (layout (option.the_row (Lent K V LK LV []))) in
+      let self = plain (Borrower K V LK LV Row) in let place_slot = plain (λ (κs : Lfts 6). At_place) in
+      let hs : Stays En.signature.params En.kept
+      = (stay_dropped (mut_ref_to (0 ∷ []) tt self) no, (stay_dropped place_slot yes, tt)) in
+      let c = lends O in
+      proved_at 𝓛 En hs c 𝓜 𝓡
+      (Goes-spent_ref 𝓛 6 (0 ∷ []) tt self, (Goes-dropped 𝓛 6 place_slot yes (λ κs x f. refl), tt))
+      names.self fn closed (λ z are.
+      let κs = z.0.0 in let qs = z.0.1 in let r = z.0.3.0 in
+      let CR = Borrower K V LK LV Row κs in let Tup = Pair_at K V LK LV Row κs in
+      let W = walk_of 𝓛 En hs c in
+      let toks = raw (alive 𝓛 En.signature κs qs) in
+      let is_ref : z.0.4.0 ≡ mut_vals r = mut_Tells (named 0) κs.0 CR r z.0.4.0 are.0 in
+      let At : At_place.Denot → List Val → List Val
+      → W.Ghost = λ x us vs. ((κs, qs, z.0.2, (r, (x, tt)), (us, (vs, tt))), tt) in
+      let Goes : At_place.Denot → Type 1 = λ x. (vs : List Val) → Is At_place x vs
+      → ent 𝓤 (W.pre (At x (mut_vals r) vs))
+      (WpFn 𝓤 H 𝓣.C 𝓣.Λ fn (W.args (At x (mut_vals r) vs)) (W.post (At x (mut_vals r) vs))) in
+      let good : (x : At_place.Denot) (v : Val) (vs : List Val) → Is At_place x vs → vs ≡ v ∷ []
+      → Good (layout At_place) v
+      = λ x v vs is e. (subst (Typed (layout At_place ∷ [])) e
+      (((option_laws.the_row_laws node_row node_laws.the_row_laws).lawful 𝓛).typed x vs is)).0 in
+      let Asks : At_place.Denot → SProp 𝓤 = λ x. asks κs (r, x) in
+      let lent : (n : Node) → Goes (Some n) = λ n vs is.
+      qed 𝓛 ((toks ⊛ ‵ (owns (types_at En.signature.params κs) (r, (Some n, tt)) (mut_vals r, (vs, tt))))
+      ∷ raw
+      (Asks (Some n)) ∷ []) ∵ split ! $
+      move ! (1 ∷ []) $ fsplit ! $ move ! (1 ∷ []) $ fsplit ! $
+      some_had ! node_row n vs (λ ws is_live. valued ! node_row node_laws.the_row_laws n ws (λ v is_v fits.
+      let val : Val = live 1 (of_list (v ∷ [])) in
+      let is_val : vs ≡ val ∷ [] = is_live ∙ ap (λ us. live 1 (of_list (us ++ [])) ∷ []) is_v in
+      let Post : Val → SProp 𝓤 = W.post (At (Some n) (mut_vals r) vs) in
+      let Run : List Val → SProp 𝓤 = λ us. WpFn 𝓤 H 𝓣.C 𝓣.Λ fn (mut_vals r ++ (us ++ [])) Post in
+      suffices ! (Run (val ∷ [])) (subst (λ (us : List Val). ent 𝓤 (Run (val ∷ [])) (Run us))
+      (sym is_val) (id⊢ 𝓤 _)) $
+      -- [the node; nothing; self; the tokens; the requires]
+      enter ! 𝓣.C 𝓣.Λ fn _ Post $ alloc_all !
+      (λ l. pass_all ! refl ((tt, tt), (good (Some n) val vs is is_val, tt)) $
+      let Ev = env fn.locals l in
+      first ! $ switches_on ! (get_tag ! (vrt ! refl (fld ! refl (stop !))) (whole !)) $
+      exec ! 𝓣.C 𝓣.Λ Ev (arm_body 0 (head fn.body))
+      (any_q (after_seq 𝓤 H (Wp 𝓤 H 𝓣.C 𝓣.Λ Ev (after 1 fn.body) (post 𝓤 H (at_ret Ev Post)))
+      (post 𝓤 H (at_ret Ev Post)))) $
+      sets ! (of_opd ! (get_in ! (vrt ! refl (fld ! refl (stop !))) (in_variant ! 1 0 refl refl (whole !))))
+      refl fits $
+      sets ! (addr ! (through ! refl (stop !))) refl (tt, tt) $
+      fjoin ! $ move ! (1 ∷ 0 ∷ []) $ fjoin ! $ move ! (1 ∷ 0 ∷ []) $ join ! $ join ! $
+      let Y = triple_of 𝓛 (Node_lender O).signature (closing 𝓛 (Node_lender O) (lends_at_node O)) in
+      let y : Y.Ghost = ((κs, qs, z.0.2, (r, (n, tt)), (mut_vals r, (v ∷ [], tt))), tt) in
+      use1 𝓛 (raw (Y.pre y)) (id⊢ 𝓤 (Y.pre y)) $
+      calls_at ! (framed 𝓤 H 𝓜 𝓣) Y met y
+      (and_then ! (get ! refl) (and_then ! (get ! refl) (no_more !))) (λ v'.
+      use1 𝓛 (later (some (λ (q : Tup.Denot). (toks ⊛ ‵ (Tup.own_val q (v' ∷ []))) ⊛ some
+      (λ (ls : Lasts (Node_lender O) κs (r, (n, tt))). ‵ (lasts (Node_lender O) κs (r, (n, tt)) ls) ⊛
+      (‵ (s.NodeTies κs r n q) ⊛ raw (fact 𝓤 (s.NodePair κs r n q))))))) (id⊢ 𝓤 (Y.post y v')) $
+      await ! tt $ pick ! (λ q. split ! $ move ! (1 ∷ []) $
+      pick ! (λ ls. split ! $ drop ! $ split ! $ use1 𝓛 (‵ (s.Ties κs (r, Some n) (Some q)))
+      (s.ties_some κs r n q) $
+      move ! (1 ∷ []) $ heard ! (s.NodePair κs r n q) (λ has.
+      -- [the tie; the tokens and the result]
+      move ! (1 ∷ []) $ split ! $ move ! (1 ∷ []) $
+      peeks ! Tup _ (shows 𝓛 Tup) q (v' ∷ []) (λ are_two.
+      let pair : Val = vstruct (of_list (shr_vals q.0 ++ (mut_vals q.1 ++ []))) in
+      let is_pair : v' ≡ pair = ap only are_two.1.0
+      ∙ (λ i. vstruct (of_list (are_two.1.1.0.0 i ++ (are_two.1.1.1.0.0 i ++ [])))) in
+      rewrite ! 0 (λ (u : Val). ‵ (Tup.own_val q (u ∷ []))) is_pair refl $
+      use1 𝓛 (‵ ((option.the_row Tup).own_val (Some q) (live 1 (of_list (pair ∷ [])) ∷ [])))
+      (Some-of 𝓛 Tup q pair) $
+      -- [the result; the tokens; the tie]
+      lands_as ! is_pair refl (tt, (tt, (tt, tt))) $
+      sets_last ! (agg ! (and_then ! (lit ! tt) (and_then ! (get ! refl) (no_more !)))) refl
+      (tt, (record { fits = lit< tt }, ((tt, (tt, tt)), tt))) $
+      exec ! 𝓣.C 𝓣.Λ Ev (after 1 fn.body) (at_ret Ev Post) $
+      sets ! (of_opd ! (get ! refl)) refl (tt, (record { fits = lit< tt }, ((tt, (tt, tt)), tt))) $
+      returns ! (look_at ! 0 refl) $ free_all ! refl $
+      use0 𝓛 (raw (fact 𝓤 (s.Pair κs (r, Some n) (Some q))))
+      (fact_i 𝓤 (s.Pair κs (r, Some n) (Some q)) (emp 𝓤) (s.pair_some κs r n q has)) $ move ! (3 ∷ 0 ∷ []) $
+      join ! $
+      nothing ! $ nothing ! $ fjoin ! $ nothing ! $ fjoin ! $ keep ! (3 ∷ 0 ∷ 2 ∷ 1 ∷ []) $
+      by ! (leaves 𝓛 En hs c (At (Some n) (mut_vals r) vs) (live 1 (of_list (pair ∷ [])))
+      (Some q) (tt, (tt, tt))
+      (tt, (tt, tt))))))))))) in
+      let guard : Goes None = λ vs is.
+      qed 𝓛 ((toks ⊛ ‵ (owns (types_at En.signature.params κs) (r, (None, tt)) (mut_vals r, (vs, tt)))) ∷ raw
+      (Asks None) ∷ []) ∵ split ! $
+      move ! (1 ∷ []) $ fsplit ! $ move ! (1 ∷ []) $ fsplit ! $ none_had ! node_row vs (λ is_val.
+      let val : Val = live 0 (of_list []) in
+      let Post : Val → SProp 𝓤 = W.post (At None (mut_vals r) vs) in
+      let Run : List Val → SProp 𝓤 = λ us. WpFn 𝓤 H 𝓣.C 𝓣.Λ fn (mut_vals r ++ (us ++ [])) Post in
+      suffices ! (Run (val ∷ [])) (subst (λ (us : List Val). ent 𝓤 (Run (val ∷ [])) (Run us))
+      (sym is_val) (id⊢ 𝓤 _)) $
+      -- [nothing; self; the tokens; the requires]
+      drop ! $ fsplit3 ! $ drop ! $
+      use1 𝓛 (‵ (fres r.ghost_name (CR.coded.code r.now)))
+      (𝓛.names.obs-res r.ghost_name (CR.coded.code r.now)) $
+      -- [its last value; its borrow; the tokens; the requires]
+      enter ! 𝓣.C 𝓣.Λ fn _ Post $ alloc_all !
+      (λ l. pass_all ! refl ((tt, tt), (good None val vs is is_val, tt)) $
+      let Ev = env fn.locals l in
+      first ! $ switches_on ! (get_tag ! (vrt ! refl (fld ! refl (stop !))) (whole !)) $
+      exec ! 𝓣.C 𝓣.Λ Ev (arm_body 1 (head fn.body))
+      (any_q (after_seq 𝓤 H (Wp 𝓤 H 𝓣.C 𝓣.Λ Ev (after 1 fn.body) (post 𝓤 H (at_ret Ev Post)))
+      (post 𝓤 H (at_ret Ev Post)))) $
+      sets_last ! (agg ! (and_then ! (lit ! tt) (no_more !))) refl (tt, (record { fits = lit< tt }, tt)) $
+      exec ! 𝓣.C 𝓣.Λ Ev (after 1 fn.body) (at_ret Ev Post) $
+      sets ! (of_opd ! (get ! refl)) refl (tt, (record { fits = lit< tt }, tt)) $
+      returns ! (look_at ! 0 refl) $ free_all ! refl $
+      use1 𝓛 (‵ (s.Ties κs (r, None) None)) (s.ties_none κs r) $
+      use0 𝓛 (raw (fact 𝓤 (s.Pair κs (r, None) None)))
+      (fact_i 𝓤 (s.Pair κs (r, None) None) (emp 𝓤) (s.pair_none κs r)) $
+      move ! (1 ∷ 0 ∷ []) $ join ! $
+      use0 𝓛 (‵ ((option.the_row Tup).own_val None (val ∷ []))) (none_of 𝓛 Tup) $
+      nothing ! $ nothing ! $ fjoin ! $ nothing ! $ fjoin ! $ keep ! (4 ∷ 0 ∷ 1 ∷ 2 ∷ []) $
+      by ! (leaves 𝓛 En hs c (At None (mut_vals r) vs) val None (tt, (tt, tt)) (tt, (tt, tt))))) in
+      subst (λ (us : List Val). ent 𝓤 (W.pre (At z.0.3.1.0 us z.0.4.1.0))
+      (WpFn 𝓤 H 𝓣.C 𝓣.Λ fn (W.args (At z.0.3.1.0 us z.0.4.1.0)) (W.post (At z.0.3.1.0 us z.0.4.1.0))))
+      (sym is_ref)
+      ((elim z.0.3.1.0 as Goes [
+        | Some n ↦ lent n
+        | None ↦ guard
+      ]) z.0.4.1.0 are.1.0))

@@ -1,0 +1,263 @@
+-- A step of a borrower, and then the pair at the place that it gave is lent. A cursor and a walk that writes
+-- begin so. Assumes `Logic`.
+use Rattle.std.proofs.Common.{◌≡◌, ℕ, List, [], ◌∷◌, ◌++◌, refl, sym, ap, subst, ◌∙◌}
+use seplogic.Ra.Ura.{Ura}
+use base.Fml.{Fml}
+use base.Logic.{SProp, ent, sep, id⊢, emp}
+use mir.Syntax.{Fn, Ty, Sym, Callee, Kind, named, erased, mut, ty_ptr, ty_ref, ty_struct, tcons, tnil, local}
+use mir.Syntax.{value_local, place, deref, field, seq, assign, call, return, addr_of, copy, rv_opd}
+use mir.Val.{Val, of_list, vptr, vstruct}
+use prog.Model.{Model}
+use prog.Wp.{WpFn, Closed}
+use types.Logic.{Logic, sem}
+use types.Kit.{‵, raw, ◌⊛◌, some, later, ◌$◌, ◌∵◌, !, qed, by, move, keep, drop, split, join, fsplit, fjoin}
+use types.Kit.{fpick, feq_l, pick, await, rewrite, use0, use1}
+use types.Part.{whole, sub}
+use types.Run.{stop, fld, of_opd, addr, and_then, no_more, returns, enter}
+use types.ByLocal.{alloc_all, pass_all, free_all, look_at, get, get_in, through, sets, lands_as}
+use contract.BorrowLft.{◌⊑◌}
+use contract.Monad.{fact, fact_i}
+use contract.Lifetimes.{Lfts, Outlives}
+use contract.Running.{Running, tables}
+use denote.Exit.{no, yes}
+use denote.Follow.{follows_by}
+use denote.Laws.{Is, shows}
+use denote.Param.{layout}
+use denote.Param.Laws.{Laws}
+use denote.RattleType.{RattleType}
+use denote.Ref.{NamedLft, MutRef, mut_vals, mut_Tells}
+use denote.Signature.{Slot, plain, mut_ref_to, named_lft}
+use denote.Steps.{nothing, peeks, only, heard}
+use denote.Struct.Struct.{as_fields}
+use denote.Struct.Tuple.{Tuple}
+use denote.Triple.Call.{calls_at}
+use denote.Triple.Clauses.{Ended, Clauses, closing, lasts, Lasts}
+use denote.Triple.Entry.{alive, on_entry}
+use denote.Triple.Spec.{Meets, triple_of}
+use denote.Triple.Table.{framed}
+use denote.Triple.Walked.{Stays, stay_dropped, walk_of, Goes-spent_ref}
+use Rattle.std.proofs.raw_atomic.Walks.{proved_at, leaves}
+use Rattle.std.proofs.option.Option.TheLaws as option_laws
+use Rattle.std.specs.contracts.option.Option as option
+use Rattle.hashlink_core.proofs.Node.TheLaws as node_laws
+use Rattle.hashlink_core.specs.contracts.Node.{the_row as node_row}
+use Rattle.hashlink_map.proofs.PairRows.{Lent, lent_laws}
+use Rattle.hashlink_map.proofs.PairSteps.{Asks, adds_fact, asks_again}
+use Rattle.hashlink_map.proofs.PairValues.{valued}
+
+abbrev pub At_place : RattleType
+At_place = option.the_row node_row
+
+-- what no walk reads of the code
+pub record Names : Type 0 where
+  pub lifetimes : ℕ
+  pub outlives : List (ℕ × ℕ)
+  pub ty_params : List Kind
+  pub givens : ℕ
+  pub passed : Ty
+  pub held : Ty
+  pub behind : Ty
+  pub tuple : Sym
+  pub self : Callee
+  pub step : Callee
+  pub pair_at : Callee
+
+-- `let (borrower, place) = self.step(); borrower.pair_at(place)`
+abbrev pub stepping : Names → Ty → Fn
+stepping n τ = record {
+  lifetimes = n.lifetimes;
+  outlives = n.outlives;
+  ty_params = n.ty_params;
+  givens = n.givens;
+  params = 1;
+  locals =
+      local τ value_local ∷ local (ty_ref (named 0) mut n.passed) value_local
+      ∷ local (ty_ref erased mut n.held) value_local ∷ local (layout At_place) value_local
+      ∷ local (ty_struct n.tuple
+      (tcons (ty_ref erased mut n.held) (tcons (layout At_place) tnil))) value_local
+      ∷ local (ty_ref erased mut n.held) value_local ∷ local (ty_ref erased mut n.held) value_local ∷ [];
+  body =
+      seq (assign (place 5 []) (addr_of (place 1 (deref n.behind ∷ []))))
+      (seq (call n.step (copy (place 5 []) ∷ []) (place 4 []))
+      (seq (assign (place 2 []) (rv_opd (copy (place 4 (field 0 ∷ [])))))
+      (seq (assign (place 3 []) (rv_opd (copy (place 4 (field 1 ∷ [])))))
+      (seq (assign (place 6 []) (addr_of (place 2 (deref n.behind ∷ []))))
+      (seq (call n.pair_at (copy (place 6 []) ∷ copy (place 3 []) ∷ []) (place 0 []))
+      return)))));
+}
+
+module _ (K V : RattleType) (LK : Laws K) (LV : Laws V) (Row : NamedLft → RattleType) where
+  abbrev pub Borrower : Lfts 6 → RattleType
+  Borrower κs = Row (named_lft 6 1 tt κs)
+
+  abbrev pub Ref : Lfts 6 → RattleType
+  Ref κs = MutRef (named 0) κs.0 (Borrower κs)
+
+  abbrev pub Mid : Lfts 6 → RattleType
+  Mid κs = Tuple (Ref κs ∷ At_place ∷ [])
+
+  abbrev pub Out : Lfts 6 → RattleType
+  Out κs = option.the_row (Lent K V LK LV κs.0)
+
+  abbrev self : Slot 6
+  self = mut_ref_to (0 ∷ []) tt (plain Borrower)
+
+  -- a step, the call that lends at a place, and the two in turn
+  abbrev taking : List (Outlives 6) → Ended
+  taking O = record {
+    signature = record { lifetimes = 6; outlives = O; params = self ∷ []; result = plain Mid };
+    kept = (no, tt);
+  }
+
+  abbrev pub lending : List (Outlives 6) → Ended
+  lending O = record {
+    signature = record {
+      lifetimes = 6;
+      outlives = O;
+      params = self ∷ plain (λ κs. At_place) ∷ [];
+      result = plain Out;
+    };
+    kept = (no, (yes, tt));
+  }
+
+  abbrev giving : List (Outlives 6) → Ended
+  giving O = record {
+    signature = record { lifetimes = 6; outlives = O; params = self ∷ []; result = plain Out };
+    kept = (no, tt);
+  }
+
+  -- what is ensured: of a step, at a place, and by the two in turn
+  pub record Lending {M : Type 1} {𝓤 : Ura M} (𝓛 : Logic 𝓤) : Type 1 where
+    pub Takes : (κs : Lfts 6) → (Ref κs).Denot → (Mid κs).Denot → Type 0
+    pub Stands : (κs : Lfts 6) → (Mid κs).Denot → Type 0
+    pub Ties : (κs : Lfts 6) → (Mid κs).Denot → (Out κs).Denot → Fml
+    pub Pair : (κs : Lfts 6) → (Mid κs).Denot → (Out κs).Denot → Type 0
+    pub Lends : (κs : Lfts 6) → (Ref κs).Denot → (Out κs).Denot → Fml
+    pub Gives : (κs : Lfts 6) → (Ref κs).Denot → (Out κs).Denot → Type 0
+    pub stands : (κs : Lfts 6) (r : (Ref κs).Denot) (q : (Mid κs).Denot) → Takes κs r q → Stands κs q
+    pub ties : (κs : Lfts 6) (r : (Ref κs).Denot) (q : (Mid κs).Denot) (o : (Out κs).Denot) → Takes κs r q
+        → Pair κs q o → ent 𝓤 (sem 𝓛 (Ties κs q o)) (sem 𝓛 (Lends κs r o))
+    pub gives : (κs : Lfts 6) (r : (Ref κs).Denot) (q : (Mid κs).Denot) (o : (Out κs).Denot) → Takes κs r q
+        → Pair κs q o → Gives κs r o
+
+module _ {M : Type 1} (𝓤 : Ura M) (𝓛 : Logic 𝓤) (𝓜 : Model 𝓤 𝓛.H) (𝓡 : Running 𝓤 𝓛.H 𝓜)
+    (K V S T : RattleType) (LK : Laws K) (LV : Laws V) (Row : NamedLft → RattleType)
+    (s : Lending K V LK LV Row 𝓛) where
+  abbrev Taking : List (Outlives 6) → Ended
+  Taking = taking K V LK LV Row
+
+  abbrev Lender : List (Outlives 6) → Ended
+  Lender = lending K V LK LV Row
+
+  abbrev Giving : List (Outlives 6) → Ended
+  Giving = giving K V LK LV Row
+
+  abbrev asks : Lfts 6 → SProp 𝓤 → SProp 𝓤
+  asks κs =
+      Asks 𝓤 (κs.1.1.0 ⊑ K.lives) (κs.1.1.1.0 ⊑ V.lives) (κs.1.1.1.1.0 ⊑ S.lives) (κs.1.1.1.1.1.0 ⊑ T.lives)
+
+  abbrev takes : (O : List (Outlives 6)) → Clauses 𝓤 (Taking O)
+  takes O κs a = record {
+    ghost = Unit {0};
+    requires = λ _. asks κs (emp 𝓤);
+    ensures = λ _ q end. fact 𝓤 (s.Takes κs a.0 q);
+  }
+
+  abbrev lends : (O : List (Outlives 6)) → Clauses 𝓤 (Lender O)
+  lends O κs a = record {
+    ghost = Unit {0};
+    requires = λ _. asks κs (fact 𝓤 (s.Stands κs (a.0, a.1.0)));
+    ensures = λ _ o end. sep 𝓤 (sem 𝓛 (s.Ties κs (a.0, a.1.0) o)) (fact 𝓤 (s.Pair κs (a.0, a.1.0) o));
+  }
+
+  abbrev gives : (O : List (Outlives 6)) → Clauses 𝓤 (Giving O)
+  gives O κs a = record {
+    ghost = Unit {0};
+    requires = λ _. asks κs (emp 𝓤);
+    ensures = λ _ o end. sep 𝓤 (sem 𝓛 (s.Lends κs a.0 o)) (fact 𝓤 (s.Gives κs a.0 o));
+  }
+
+  pub steps_and_lends : (O : List (Outlives 6)) (n : Names)
+      → Meets 𝓛 (Taking O).signature ((tables 𝓤 𝓛.H 𝓜 𝓡 𝓡.env).C n.step) (closing 𝓛 (Taking O) (takes O))
+      → Meets 𝓛 (Lender O).signature ((tables 𝓤 𝓛.H 𝓜 𝓡 𝓡.env).C n.pair_at) (closing 𝓛 (Lender O) (lends O))
+      → Closed 𝓤 𝓛.H (tables 𝓤 𝓛.H 𝓜 𝓡 𝓡.env).C (tables 𝓤 𝓛.H 𝓜 𝓡 𝓡.env).Λ n.self
+      (stepping n (layout (option.the_row (Lent K V LK LV []))))
+      → Meets 𝓛 (Giving O).signature ((tables 𝓤 𝓛.H 𝓜 𝓡 𝓡.env).C n.self) (closing 𝓛 (Giving O) (gives O))
+  unfolding follows_by
+  steps_and_lends O n met₁ met₂ closed =
+      let H = 𝓛.H in let 𝓣 = tables 𝓤 H 𝓜 𝓡 𝓡.env in
+      let En = Giving O in let fn = stepping n (layout (option.the_row (Lent K V LK LV []))) in
+      let hs : Stays En.signature.params En.kept =
+      (stay_dropped (mut_ref_to (0 ∷ []) tt (plain (Borrower K V LK LV Row))) no, tt) in
+      proved_at 𝓛 En hs (gives O) 𝓜 𝓡
+      (Goes-spent_ref 𝓛 6 (0 ∷ []) tt (plain (Borrower K V LK LV Row)), tt) n.self fn closed (λ z are.
+      let κs = z.0.0 in let qs = z.0.1 in let r = z.0.3.0 in
+      let Held = Borrower K V LK LV Row κs in let Self = Ref K V LK LV Row κs in
+      let Middle = Mid K V LK LV Row κs in let Lent_out = Out K V LK LV Row κs in
+      let W = walk_of 𝓛 En hs (gives O) in
+      let is_ref : z.0.4.0 ≡ mut_vals r = mut_Tells (named 0) κs.0 Held r z.0.4.0 are.0 in
+      let At : List Val → W.Ghost = λ us. ((κs, qs, z.0.2, (r, tt), (us, tt)), tt) in
+      let vs = mut_vals r in
+      let Post : Val → SProp 𝓤 = W.post (At vs) in
+      let Y = triple_of 𝓛 (Taking O).signature (closing 𝓛 (Taking O) (takes O)) in
+      let y : Y.Ghost = ((κs, qs, z.0.2, (r, tt), (vs, tt)), tt) in
+      subst (λ (us : List Val). ent 𝓤 (W.pre (At us)) (WpFn 𝓤 H 𝓣.C 𝓣.Λ fn (W.args (At us)) (W.post (At us))))
+      (sym is_ref)
+      (qed 𝓛 (raw (on_entry 𝓛 En.signature κs qs (r, tt) (vs, tt)) ∷ raw (asks κs (emp 𝓤)) ∷ []) ∵
+      move ! (1 ∷ []) $
+      use1 𝓛 (raw (asks κs (emp 𝓤)) ⊛ raw (asks κs (emp 𝓤)))
+      (asks_again 𝓤 (κs.1.1.0 ⊑ K.lives) (κs.1.1.1.0 ⊑ V.lives) (κs.1.1.1.1.0 ⊑ S.lives)
+      (κs.1.1.1.1.1.0 ⊑ T.lives) 𝓛 (emp 𝓤)) $ split ! $
+      move ! (2 ∷ 0 ∷ []) $ join ! $ use1 𝓛 (raw (Y.pre y)) (id⊢ 𝓤 (Y.pre y)) $
+      enter ! 𝓣.C 𝓣.Λ fn vs Post $ alloc_all ! (λ l. pass_all ! refl ((tt, tt), tt) $
+      sets ! (addr ! (through ! refl (stop !))) refl (tt, tt) $
+      calls_at ! (framed 𝓤 H 𝓜 𝓣) Y met₁ y (and_then ! (get ! refl) (no_more !)) (λ v.
+      use1 𝓛 (later (some (λ (q : Middle.Denot). (raw (alive 𝓛 En.signature κs qs)
+      ⊛ ‵ (Middle.own_val q (v ∷ []))) ⊛ some (λ (ls : Lasts (Taking O) κs (r, tt)).
+      ‵ (lasts (Taking O) κs (r, tt) ls) ⊛ raw (fact 𝓤 (s.Takes κs r q)))))) (id⊢ 𝓤 (Y.post y v)) $
+      await ! tt $ pick ! (λ q. split ! $ move ! (1 ∷ []) $
+      pick ! (λ ls. split ! $ drop ! $ heard ! (s.Takes κs r q) (λ taken.
+      split ! $ move ! (1 ∷ []) $ fpick ! (λ vss. fsplit ! $ feq_l ! (λ is_mid. fsplit ! $
+      peeks ! Self _ (shows 𝓛 Self) q.0 vss.0
+      (λ is. let e0 : vss.0 ≡ mut_vals q.0 = mut_Tells (named 0) κs.0 Held q.0 vss.0 is in
+      rewrite ! 0 (λ (us : List Val). ‵ (Self.own_val q.0 us)) e0 refl $ move ! (1 ∷ []) $ fsplit ! $
+      valued ! At_place (option_laws.the_row_laws node_row node_laws.the_row_laws) q.1 vss.1.0 (λ u is_u fits.
+      let mid : Val = vstruct (of_list (mut_vals q.0 ++ (u ∷ []))) in
+      let is : v ≡ mid = ap only is_mid ∙ (λ i. vstruct (of_list (e0 i ++ (is_u i ++ [])))) in
+      move ! (1 ∷ []) $ drop ! $
+      -- [the place; self; the tokens; what the next call asks]
+      lands_as ! is refl
+      (as_fields (ty_ptr ∷ layout At_place ∷ []) (vptr q.0.ref_ptr.0 q.0.ref_ptr.1 ∷ u ∷ [])
+      ((tt, tt), (fits, tt))) $
+      sets ! (of_opd ! (get_in ! (fld ! refl (stop !)) (sub ! 0 refl (whole !)))) refl (tt, tt) $
+      sets ! (of_opd ! (get_in ! (fld ! refl (stop !)) (sub ! 1 refl (whole !)))) refl fits $
+      sets ! (addr ! (through ! refl (stop !))) refl (tt, tt) $
+      move ! (3 ∷ []) $ use1 𝓛 (raw (asks κs (fact 𝓤 (s.Stands κs q))))
+      (adds_fact 𝓤 (κs.1.1.0 ⊑ K.lives) (κs.1.1.1.0 ⊑ V.lives) (κs.1.1.1.1.0 ⊑ S.lives)
+      (κs.1.1.1.1.1.0 ⊑ T.lives) (s.Stands κs q) (s.stands κs r q taken)) $
+      nothing ! $ move ! (2 ∷ 0 ∷ []) $ fjoin ! $ move ! (2 ∷ 0 ∷ []) $ fjoin ! $ move ! (2 ∷ 0 ∷ []) $
+      join ! $ join ! $
+      let Y₂ = triple_of 𝓛 (Lender O).signature (closing 𝓛 (Lender O) (lends O)) in
+      let y₂ : Y₂.Ghost = ((κs, qs, z.0.2, (q.0, (q.1, tt)), (mut_vals q.0, (u ∷ [], tt))), tt) in
+      use1 𝓛 (raw (Y₂.pre y₂)) (id⊢ 𝓤 (Y₂.pre y₂)) $
+      calls_at ! (framed 𝓤 H 𝓜 𝓣) Y₂ met₂ y₂ (and_then ! (get ! refl) (and_then ! (get ! refl) (no_more !)))
+      (λ v₂.
+      use1 𝓛 (later (some (λ (o : Lent_out.Denot). (raw (alive 𝓛 En.signature κs qs)
+      ⊛ ‵ (Lent_out.own_val o (v₂ ∷ []))) ⊛ some (λ (ls : Lasts (Lender O) κs (q.0, (q.1, tt))).
+      ‵ (lasts (Lender O) κs (q.0, (q.1, tt)) ls) ⊛ (‵ (s.Ties κs q o) ⊛ raw (fact 𝓤 (s.Pair κs q o)))))))
+      (id⊢ 𝓤 (Y₂.post y₂ v₂)) $
+      await ! tt $ pick ! (λ o. split ! $ move ! (1 ∷ []) $
+      pick ! (λ ls₂. split ! $ drop ! $ split ! $ move ! (1 ∷ []) $ heard ! (s.Pair κs q o) (λ pair.
+      -- [the tie; the tokens and the result]
+      use1 𝓛 (‵ (s.Lends κs r o)) (s.ties κs r q o taken pair) $ move ! (1 ∷ []) $ split ! $ move ! (1 ∷ []) $
+      peeks ! Lent_out (Is Lent_out) (shows 𝓛 Lent_out) o (v₂ ∷ []) (λ is_out.
+      lands_as ! refl refl
+      (((option_laws.the_row_laws (Lent K V LK LV κs.0) (lent_laws K V LK LV κs.0)).lawful
+      𝓛).typed o (v₂ ∷ []) is_out).0 $
+      returns ! (look_at ! 0 refl) $ free_all ! refl $
+      -- [the result; the tokens; the tie]
+      use0 𝓛 (raw (fact 𝓤 (s.Gives κs r o)))
+      (fact_i 𝓤 (s.Gives κs r o) (emp 𝓤) (s.gives κs r q o taken pair)) $
+      move ! (3 ∷ 0 ∷ []) $ join ! $
+      nothing ! $ nothing ! $ fjoin ! $ keep ! (3 ∷ 0 ∷ 2 ∷ 1 ∷ []) $
+      by ! (leaves 𝓛 En hs (gives O) (At vs) v₂ o (tt, tt) (tt, tt))))))))))))))))))
