@@ -52,8 +52,7 @@ module _ {K V : Type 0} (eq : K → K → Bool) where
   after_event-at_most es cap n (Peek k) c m = m
 
   pub after_events-at_most : (es : List (K × V)) (cap n : ℕ) (events : List (CacheEvent K V))
-      → cap ≤ n → length es ≤ n
-      → length (after_events eq cap es events) ≤ n
+      → cap ≤ n → length es ≤ n → length (after_events eq cap es events) ≤ n
   after_events-at_most es cap n [] c m = m
   after_events-at_most es cap n (e ∷ events) c m =
       after_events-at_most (after_event eq cap es e) cap n events c (after_event-at_most es cap n e c m)
@@ -67,8 +66,7 @@ module _ {K V : Type 0} (eq : K → K → Bool) (laws : IsEquivalence eq) where
   IsEntries-after_event cap es (Peek k) u = u
 
   pub IsEntries-after_events : (cap : ℕ) (es : List (K × V)) (events : List (CacheEvent K V))
-      → IsEntries eq es
-      → IsEntries eq (after_events eq cap es events)
+      → IsEntries eq es → IsEntries eq (after_events eq cap es events)
   IsEntries-after_events cap es [] u = u
   IsEntries-after_events cap es (e ∷ events) u =
       IsEntries-after_events cap (after_event eq cap es e) events (IsEntries-after_event cap es e u)
@@ -83,8 +81,7 @@ module _ {K V : Type 0} (eq : K → K → Bool) (laws : IsEquivalence eq) where
       pub end : IsEndOf R small large
 
     alike_after : (R : K × V → K × V → Type 0) (small large : List (K × V)) (e : CacheEvent K V)
-        → Alike R small large
-        → IsEndOf R (after_event eq c small e) (after_event eq d large e)
+        → Alike R small large → IsEndOf R (after_event eq c small e) (after_event eq d large e)
         → Alike R (after_event eq c small e) (after_event eq d large e)
     alike_after R small large e a end =
         record {
@@ -156,8 +153,7 @@ module _ {K V : Type 0} (eq : K → K → Bool) (laws : IsEquivalence eq) where
         record {
           unequal = tt;
           within = omega arith;
-          end =
-              record { front = []; back = []; is = refl; alike = tt };
+          end = record { front = []; back = []; is = refl; alike = tt };
         }
 
     pub keys_along : (events : List (CacheEvent K V))

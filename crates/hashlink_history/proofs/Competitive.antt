@@ -188,8 +188,7 @@ module _ {K : Type 0} (eq : K → K → Bool) (laws : IsEquivalence eq) where
       let b = length-append ks (k ∷ []) in
       let full : c - suc (length ks) ≡ 0 = omega arith in
       let full_after : c - length (ks ++ k ∷ []) ≡ 0 = omega arith in
-      ap (λ n. drop 1 (padding K n ++ real (x ∷ ks)) ++ inl k ∷ []) full
-      ∙ sym (real-append ks (k ∷ []))
+      ap (λ n. drop 1 (padding K n ++ real (x ∷ ks)) ++ inl k ∷ []) full ∙ sym (real-append ks (k ∷ []))
       ∙ ap (λ n. padding K n ++ real (ks ++ k ∷ [])) (sym full_after)
 
   -- one use: the filled cache takes the step that the recent keys take
@@ -219,8 +218,7 @@ module _ {K : Type 0} (eq : K → K → Bool) (laws : IsEquivalence eq) where
       let step = ap
       (λ b. cond b (remove_key (padded_eq eq (inl k)) (filled eq c (recent_keys eq c used)) ++ inl k ∷ [])
       (drop 1 (filled eq c (recent_keys eq c used)) ++ inl k ∷ []))
-      member
-      ∙ filled_step c used k (is_member eq (recent_keys eq c used) k) p refl
+      member ∙ filled_step c used k (is_member eq (recent_keys eq c used) k) p refl
       (cases_lt (distinct_count eq used) c) in
       ap₂ (λ b zs. cond b 0 1 + full_misses (padded_eq eq) (padded_equiv eq laws) zs (real rest))
       (member ∙ is_recent eq laws c used k) step
@@ -261,8 +259,7 @@ module _ {K : Type 0} (eq : K → K → Bool) (laws : IsEquivalence eq) where
 
   -- however a schedule of h places replaces, the cache's misses are at most c / (c - h + 1) times as many
   pub competitive : (c h : ℕ) → 1 ≤ h → h ≤ c → (used : List K) (held : List (List K))
-      → Schedule eq h used held
-      → (c - h + 1) * cache_misses eq c used ≤ c * misses eq used held
+      → Schedule eq h used held → (c - h + 1) * cache_misses eq c used ≤ c * misses eq used held
   competitive c h p l used held s =
       let q : 1 ≤ c = omega arith in
       let run = pursued (padded_eq eq) (padded_equiv eq laws) h c q (real used) (map (λ x. real x) held) []
@@ -278,8 +275,7 @@ module _ {K : Type 0} (eq : K → K → Bool) (laws : IsEquivalence eq) where
       ∙ full_misses-filled c q [] used in
       let theirs = misses_real eq [] used held in
       ends (c - h + 1) (c + 1 - h) (full_misses (padded_eq eq) (padded_equiv eq laws)
-      (padding K c) (real used))
-      (cache_misses eq c used) c _ (misses eq used held) (triangle (c - h)) _
+      (padding K c) (real used)) (cache_misses eq c used) c _ (misses eq used held) (triangle (c - h)) _
       (omega arith) mine theirs run begin
     where
       ends : (a b m n d e f t r : ℕ) → a ≡ b → m ≡ n → e ≡ f → b * m + t ≤ d * e + r → r ≤ t → a * n ≤ d * f

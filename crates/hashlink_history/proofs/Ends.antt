@@ -107,14 +107,12 @@ module _ {K V : Type 0} (eq : K → K → Bool) (laws : IsEquivalence eq) (R : K
       }
 
   pub end-put : (k : K) (v w : V) (small large : List (K × V)) → IsEntries eq large
-      → R (stored_key eq small k, v) (stored_key eq large k, w)
-      → IsEndOf R small large
+      → R (stored_key eq small k, v) (stored_key eq large k, w) → IsEndOf R small large
       → IsEndOf R (put eq small k v (length small)) (put eq large k w (length large))
   end-put k v w small large d r e =
       subst₂ (IsEndOf R) (sym (put_back eq small k v)) (sym (put_back eq large k w))
       (end_push (without eq small k) (without eq large k) (stored_key eq small k, v)
-      (stored_key eq large k, w) r
-      (end-without k small large d e))
+      (stored_key eq large k, w) r (end-without k small large d e))
 
   stored_equal : (k : K) (small large : List (K × V)) → eq (stored_key eq small k) (stored_key eq large k)
       ≡ true
@@ -132,8 +130,7 @@ module _ {K V : Type 0} (eq : K → K → Bool) (laws : IsEquivalence eq) (R : K
       record {
         front = front ++ y ∷ [];
         back = back;
-        is =
-            i ∙ sym (append_assoc front (y ∷ []) back);
+        is = i ∙ sym (append_assoc front (y ∷ []) back);
         alike = z.1;
       }
 
@@ -145,8 +142,7 @@ module _ {K V : Type 0} (eq : K → K → Bool) (laws : IsEquivalence eq) (R : K
       end-drop_small n small large (drop_small_by (x ∷ small) large e.front e.back e.is e.alike)
 
   drop_large_by : (small large front back : List (K × V)) → large ≡ front ++ back → AllZip R small back
-      → length small < length large
-      → IsEndOf R small (drop 1 large)
+      → length small < length large → IsEndOf R small (drop 1 large)
   drop_large_by small large [] back i z l =
       let a = ap length i in let b = zip_length R small back z in absurd
       (lt_irrefl (length large) (omega arith))
@@ -154,8 +150,7 @@ module _ {K V : Type 0} (eq : K → K → Bool) (laws : IsEquivalence eq) (R : K
       record { front = front; back = back; is = ap (drop 1) i; alike = z }
 
   end-drop_large : (n : ℕ) (small large : List (K × V)) → IsEndOf R small large
-      → n + length small ≤ length large
-      → IsEndOf R small (drop n large)
+      → n + length small ≤ length large → IsEndOf R small (drop n large)
   end-drop_large zero small large e l = e
   end-drop_large (suc n) small [] e l = e
   end-drop_large (suc n) small (y ∷ large) e l =
@@ -177,27 +172,23 @@ module _ {K V : Type 0} (eq : K → K → Bool) (laws : IsEquivalence eq) (R : K
   -- ---- the calls
 
   pub end-cache_put : (c d : ℕ) (k : K) (v : V) (small large : List (K × V)) → IsEntries eq large → c ≤ d
-      → length small ≤ c → R (stored_key eq small k, v) (stored_key eq large k, v)
-      → IsEndOf R small large
+      → length small ≤ c → R (stored_key eq small k, v) (stored_key eq large k, v) → IsEndOf R small large
       → IsEndOf R (cache_put eq small c k v) (cache_put eq large d k v)
   end-cache_put c d k v small large u l m r e =
       let few = cache_put-at_most eq small c k v in
       end-last_large (cache_put eq small c k v) (put eq large k v (length large)) d
       (end-last_small (put eq small k v (length small)) (put eq large k v (length large)) c
-      (end-put k v v small large u r e))
-      (omega arith)
+      (end-put k v v small large u r e)) (omega arith)
 
   -- what the smaller one has, the larger one has too
   pub end-finds : (k : K) (small large : List (K × V)) → IsEndOf R small large
-      → is_some (lookup (eq k) small) ≡ true
-      → is_some (lookup (eq k) large) ≡ true
+      → is_some (lookup (eq k) small) ≡ true → is_some (lookup (eq k) large) ≡ true
   end-finds k small large e s = found (splits (eq k) large)
     where
       found : NonePasses (eq k) large ⊎ Stands (eq k) large → is_some (lookup (eq k) large) ≡ true
       found (inl n) =
           let none = each-right _ e.front e.back (subst (NonePasses (eq k)) e.is n) in
-          absurd
-          (both_ways (is_some (lookup (eq k) small))
+          absurd (both_ways (is_some (lookup (eq k) small))
           (ap is_some (lookup-none (eq k) small (none_alike k small e.back e.alike none))) s)
       found (inr t) =
           ap (λ zs. is_some (lookup (eq k) zs)) t.3.is
@@ -218,12 +209,10 @@ module _ {K V : Type 0} (eq : K → K → Bool) (laws : IsEquivalence eq) where
       subst (IsEndOf (SameKey eq) (cache_put eq small c k v))
       (sym (moved-there eq large k (length large) y m))
       (end-last_small eq laws (SameKey eq) (λ p q r. r) (put eq small k v (length small))
-      (put eq large k y (length large)) c
-      (end-put eq laws (SameKey eq) (λ p q r. r) k v y small large u
+      (put eq large k y (length large)) c (end-put eq laws (SameKey eq) (λ p q r. r) k v y small large u
       (stored_equal eq laws (SameKey eq) (λ p q r. r) k small large) e))
   use_by c d k v small large (Some x) None l m u n f e =
-      absurd
-      (both_ways (is_some (lookup (eq k) large)) (ap is_some m)
+      absurd (both_ways (is_some (lookup (eq k) large)) (ap is_some m)
       (end-finds eq laws (SameKey eq) (λ p q r. r) k small large e (ap is_some l)))
   use_by c d k v small large (Some x) (Some y) l m u n f e =
       subst₂ (IsEndOf (SameKey eq)) (sym (moved-there eq small k (length small) x l))
@@ -232,43 +221,37 @@ module _ {K V : Type 0} (eq : K → K → Bool) (laws : IsEquivalence eq) where
       (stored_equal eq laws (SameKey eq) (λ p q r. r) k small large) e)
 
   pub end-cache_use : (c d : ℕ) (k : K) (v : V) (small large : List (K × V)) → IsEntries eq large → c ≤ d
-      → length small ≤ c
-      → IsEndOf (SameKey eq) small large
+      → length small ≤ c → IsEndOf (SameKey eq) small large
       → IsEndOf (SameKey eq) (cache_use eq small c k v) (cache_use eq large d k v)
   end-cache_use c d k v small large u n f e =
       use_by c d k v small large (lookup (eq k) small) (lookup (eq k) large) refl refl u n f e
 
   pub end-insert : (c d : ℕ) (k : K) (v : V) (small large : List (K × V)) → IsEntries eq large → c ≤ d
-      → length small ≤ c
-      → IsEndOf (SameKey eq) small large
+      → length small ≤ c → IsEndOf (SameKey eq) small large
       → IsEndOf (SameKey eq) (cache_put eq small c k v) (cache_put eq large d k v)
   end-insert c d k v small large u n f e =
       end-cache_put eq laws (SameKey eq) (λ p q r. r) c d k v small large u n f
       (stored_equal eq laws (SameKey eq) (λ p q r. r) k small large) e
 
   pub end-remove : (k : K) (small large : List (K × V)) → IsEntries eq large
-      → IsEndOf (SameKey eq) small large
-      → IsEndOf (SameKey eq) (without eq small k) (without eq large k)
+      → IsEndOf (SameKey eq) small large → IsEndOf (SameKey eq) (without eq small k) (without eq large k)
   end-remove k small large u e = end-without eq laws (SameKey eq) (λ p q r. r) k small large u e
 
   pub end-answers : (k : K) (small large : List (K × V)) → IsEndOf (SameKey eq) small large
-      → is_some (lookup (eq k) small) ≡ true
-      → is_some (lookup (eq k) large) ≡ true
+      → is_some (lookup (eq k) small) ≡ true → is_some (lookup (eq k) large) ≡ true
   end-answers k small large e s = end-finds eq laws (SameKey eq) (λ p q r. r) k small large e s
 
   -- ---- by keys and values
 
   pub same_end-insert : (c d : ℕ) (k : K) (v : V) (small large : List (K × V)) → IsEntries eq large → c ≤ d
-      → length small ≤ c
-      → IsEndOf (SameEntry eq) small large
+      → length small ≤ c → IsEndOf (SameEntry eq) small large
       → IsEndOf (SameEntry eq) (cache_put eq small c k v) (cache_put eq large d k v)
   same_end-insert c d k v small large u n f e =
       end-cache_put eq laws (SameEntry eq) (λ p q r. r.0) c d k v small large u n f
       (stored_equal eq laws (SameEntry eq) (λ p q r. r.0) k small large, refl) e
 
   pub same_end-remove : (k : K) (small large : List (K × V)) → IsEntries eq large
-      → IsEndOf (SameEntry eq) small large
-      → IsEndOf (SameEntry eq) (without eq small k) (without eq large k)
+      → IsEndOf (SameEntry eq) small large → IsEndOf (SameEntry eq) (without eq small k) (without eq large k)
   same_end-remove k small large u e = end-without eq laws (SameEntry eq) (λ p q r. r.0) k small large u e
 
   same_values : (k : K) (xs ys : List (K × V)) → AllZip (SameEntry eq) xs ys → lookup (eq k) xs
@@ -281,8 +264,7 @@ module _ {K V : Type 0} (eq : K → K → Bool) (laws : IsEquivalence eq) where
       ∙ ap (cond (eq k y.0) (Some y.1)) (same_values k xs ys z.1)
 
   pub same_end-answers : (k : K) (w : V) (small large : List (K × V)) → IsEntries eq large
-      → IsEndOf (SameEntry eq) small large → lookup (eq k) small ≡ Some w
-      → lookup (eq k) large ≡ Some w
+      → IsEndOf (SameEntry eq) small large → lookup (eq k) small ≡ Some w → lookup (eq k) large ≡ Some w
   same_end-answers k w small large u e l =
       ap (lookup (eq k)) e.is ∙ lookup-right (eq k) e.front e.back (front_none (splits (eq k) e.front)) ∙ held
     where
@@ -296,7 +278,6 @@ module _ {K V : Type 0} (eq : K → K → Bool) (laws : IsEquivalence eq) where
           = e.is ∙ ap (λ zs. zs ++ e.back) s.3.is ∙ append_assoc s.0 (s.1 ∷ s.2) e.back in
           let others = none_equal eq laws s.1.0 k (s.0 ++ (s.2 ++ e.back)) (laws.symm s.1.0 k ∙ s.3.passes)
           (none_others eq laws s.0 s.1 (s.2 ++ e.back) (subst (IsEntries eq) whole u)) in
-          absurd
-          (none-some w
+          absurd (none-some w
           (sym (lookup-none (eq k) e.back (each-right _ s.2 e.back (each-right _ s.0 (s.2 ++ e.back) others)))
           ∙ held))

@@ -36,10 +36,8 @@ module _ {K V S : Type 0} (old new : MapState K V S) where
 -- an insert of a cache passes two lengths
 module _ {K V S : Type 0} (eq : K → K → Bool) (old new : CacheState K V S) (k : K) (v : V) where
   passes-both : (w : Option V) (between : MapState K V S) → InsertsLast eq k v w old.map between
-      → KeepsLast between new.map old.cap
-      → PassesInTurn old.map
-      (Length (length (put eq old.map.entries k v (length old.map.entries))) ∷ Length
-      (length new.map.entries)
+      → KeepsLast between new.map old.cap → PassesInTurn old.map
+      (Length (length (put eq old.map.entries k v (length old.map.entries))) ∷ Length (length new.map.entries)
       ∷ [])
       new.map
   passes-both w between s t =
@@ -50,16 +48,13 @@ module _ {K V S : Type 0} (eq : K → K → Bool) (old new : CacheState K V S) (
             first,
         (
           new.map,
-          passes-kept between new.map
-              (kept-keeps between new.map (last_entries between.entries old.cap) t),
+          passes-kept between new.map (kept-keeps between new.map (last_entries between.entries old.cap) t),
           refl,
         ),
       )
 
-  pub passes-cache_insert : (w : Option V) → CacheInserts eq old new k v (Ok w)
-      → PassesInTurn old.map
-      (Length (length (put eq old.map.entries k v (length old.map.entries))) ∷ Length
-      (length new.map.entries)
+  pub passes-cache_insert : (w : Option V) → CacheInserts eq old new k v (Ok w) → PassesInTurn old.map
+      (Length (length (put eq old.map.entries k v (length old.map.entries))) ∷ Length (length new.map.entries)
       ∷ [])
       new.map
   passes-cache_insert w s = passes-both w s.map.between s.map.inserts s.map.fits
@@ -84,7 +79,6 @@ module _ {K V S : Type 0} where
       subst (λ m. node_count new ≤ peak m ps) s.1.1 (within_the_peak s.0 new ps s.2)
 
   pub passes_in_parts : (a b c : MapState K V S) (ps qs : List Passed) → PassesInTurn a ps b
-      → PassesInTurn b qs c
-      → PassesInTurn a (ps ++ qs) c
+      → PassesInTurn b qs c → PassesInTurn a (ps ++ qs) c
   passes_in_parts a b c [] qs s t = subst (λ m. PassesInTurn m qs c) s t
   passes_in_parts a b c (p ∷ ps) qs s t = (s.0, s.1, passes_in_parts s.0 b c ps qs s.2 t)

@@ -43,8 +43,7 @@ module _ {X : Type 0} (eq : X → X → Bool) where
   ranks-append n held (x ∷ xs) ys =
       let more : n + 1 + length xs ≡ n + suc (length xs) = omega arith in
       ap (λ r. cond (is_member eq held x) 0 (n + 1) + r)
-      (ranks-append (n + 1) held xs ys ∙ ap (λ m. ranks (n + 1) held xs + ranks m held ys) more)
-      ∙ omega arith
+      (ranks-append (n + 1) held xs ys ∙ ap (λ m. ranks (n + 1) held xs + ranks m held ys) more) ∙ omega arith
 
   -- what is held adds nothing
   pub ranks-held : (n : ℕ) (held xs : List X) → AllByRecursion (λ x. is_member eq held x ≡ true) xs
@@ -84,8 +83,7 @@ module _ {X : Type 0} (eq : X → X → Bool) (laws : IsEquivalence eq) where
     where
       by : (b : Bool) → outside eq held xs + length (filter (is_member eq held) xs) ≡ length xs
           → cond b 0 1 + outside eq held xs + length
-          (cond b (x ∷ filter (is_member eq held) xs) (filter (is_member eq held) xs))
-          ≡ suc (length xs)
+          (cond b (x ∷ filter (is_member eq held) xs) (filter (is_member eq held) xs)) ≡ suc (length xs)
       by true h = omega arith
       by false h = omega arith
 
@@ -116,14 +114,12 @@ module _ {X : Type 0} (eq : X → X → Bool) (laws : IsEquivalence eq) where
 
   -- and one fewer where one that is held is not among them
   pub outside-one_more : (held xs : List X) (k : X) → IsDistinct eq xs → is_member eq held k ≡ true
-      → is_member eq xs k ≡ false
-      → length xs + 1 ≤ outside eq held xs + length held
+      → is_member eq xs k ≡ false → length xs + 1 ≤ outside eq held xs + length held
   outside-one_more held xs k d m n =
       let kept = filter (is_member eq held) xs in
       let few = length-le_from_is_member laws (k ∷ kept) held
       (one_more k kept (kept_members held xs k ∙ ap (λ b. b && is_member eq held k) n)
-      (kept_distinct held xs d))
-      (λ q e. among q (eq q k) refl e) in
+      (kept_distinct held xs d)) (λ q e. among q (eq q k) refl e) in
       let all = outside-filter held xs in
       omega arith
     where
@@ -151,8 +147,7 @@ module _ {X : Type 0} (eq : X → X → Bool) (laws : IsEquivalence eq) where
 
   others_fewer : (held more xs : List X) (x : X) (n : ℕ)
       → ((q : X) → eq x q ≡ false → is_member eq held q ≡ true → is_member eq more q ≡ true)
-      → AllByRecursion (λ y. eq x y ≡ false) xs
-      → ranks eq n more xs ≤ ranks eq n held xs
+      → AllByRecursion (λ y. eq x y ≡ false) xs → ranks eq n more xs ≤ ranks eq n held xs
   others_fewer held more [] x n f a = le_refl 0
   others_fewer held more (y ∷ xs) x n f a =
       let b = fewer_by (is_member eq held y) (is_member eq more y) (n + 1) (f y a.0) in
@@ -162,8 +157,7 @@ module _ {X : Type 0} (eq : X → X → Bool) (laws : IsEquivalence eq) where
   -- all but one that was held still is: no more than the greatest rank comes in
   pub ranks-all_but_one : (held more xs : List X) (x : X) (n : ℕ)
       → ((q : X) → eq x q ≡ false → is_member eq held q ≡ true → is_member eq more q ≡ true)
-      → IsDistinct eq xs
-      → ranks eq n more xs ≤ ranks eq n held xs + (n + length xs)
+      → IsDistinct eq xs → ranks eq n more xs ≤ ranks eq n held xs + (n + length xs)
   unfolding IsDistinct
   ranks-all_but_one held more [] x n f d = zero-le
   ranks-all_but_one held more (y ∷ xs) x n f d =
@@ -189,8 +183,7 @@ module _ {X : Type 0} (eq : X → X → Bool) (laws : IsEquivalence eq) where
 
   -- a hit: the key leaves its place and comes last
   pub ranks-hit : (held xs : List X) (x : X) (ys : List X) (k : X) → is_member eq held x ≡ true
-      → is_member eq held k ≡ true
-      → ranks eq 0 held ((xs ++ ys) ++ k ∷ []) ≤ ranks eq 0 held (xs ++ x ∷ ys)
+      → is_member eq held k ≡ true → ranks eq 0 held ((xs ++ ys) ++ k ∷ []) ≤ ranks eq 0 held (xs ++ x ∷ ys)
   ranks-hit held xs x ys k m n =
       let m0 = 0 + length xs in
       let a = ranks-append eq 0 held (xs ++ ys) (k ∷ []) in

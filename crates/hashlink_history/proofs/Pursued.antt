@@ -34,8 +34,7 @@ module _ {X : Type 0} (eq : X → X → Bool) (laws : IsEquivalence eq) where
     pub nearer : (c + 1 - h) * missed + ranks eq 0 held next ≤ ranks eq 0 held xs
 
   hit_step : (h c : ℕ) (held xs : List X) (k : X) → IsDistinct eq xs → length xs ≡ c
-      → is_member eq held k ≡ true
-      → is_member eq xs k ≡ true
+      → is_member eq held k ≡ true → is_member eq xs k ≡ true
       → FullStep h c held xs k (remove_key (eq k) xs ++ k ∷ []) 0
   hit_step h c held xs k d l m n =
       let s = key_at eq laws xs k n in
@@ -54,8 +53,7 @@ module _ {X : Type 0} (eq : X → X → Bool) (laws : IsEquivalence eq) where
       }
 
   miss_step : (h c : ℕ) (held : List X) (x : X) (xs : List X) (k : X) → IsDistinct eq (x ∷ xs)
-      → length (x ∷ xs) ≡ c
-      → length held ≤ h → is_member eq held k ≡ true → is_member eq (x ∷ xs) k ≡ false
+      → length (x ∷ xs) ≡ c → length held ≤ h → is_member eq held k ≡ true → is_member eq (x ∷ xs) k ≡ false
       → FullStep h c held (x ∷ xs) k (xs ++ k ∷ []) 1
   miss_step h c held x xs k d l f m n =
       let more = length-append xs (k ∷ []) in
@@ -72,9 +70,7 @@ module _ {X : Type 0} (eq : X → X → Bool) (laws : IsEquivalence eq) where
       rest false e = e
 
   step_by : (h c : ℕ) (held xs : List X) (k : X) (b : Bool) → is_member eq xs k ≡ b
-      → IsDistinct eq xs → length xs ≡ c
-      → 1 ≤ c → length held ≤ h
-      → is_member eq held k ≡ true
+      → IsDistinct eq xs → length xs ≡ c → 1 ≤ c → length held ≤ h → is_member eq held k ≡ true
       → FullStep h c held xs k (cond b (remove_key (eq k) xs ++ k ∷ []) (drop 1 xs ++ k ∷ [])) (cond b 0 1)
   step_by h c held xs k true n d l p f m = hit_step h c held xs k d l m n
   step_by h c held [] k false n d l p f m = absurd (not-suc-le-zero (subst (λ i. 1 ≤ i) (sym l) p))
@@ -96,8 +92,7 @@ module _ {X : Type 0} (eq : X → X → Bool) (laws : IsEquivalence eq) where
   -- from any two states
   pub pursued : (h c : ℕ) → 1 ≤ c → (used : List X) (schedule : List (List X)) (before held xs : List X)
       → Follows eq laws h before held → IsSchedule eq h before used schedule → IsDistinct eq xs
-      → length xs ≡ c
-      → (c + 1 - h) * full_misses xs used + triangle (c - h)
+      → length xs ≡ c → (c + 1 - h) * full_misses xs used + triangle (c - h)
       ≤ c * misses_from eq before used schedule + ranks eq 0 held xs
   pursued h c p [] [] before held xs f s d l = let a = least h c held xs d l f.size in omega arith
   pursued h c p [] (after ∷ schedule) before held xs f s d l = absurd s

@@ -52,9 +52,7 @@ module _ {X : Type 0} (eq : X → X → Bool) (laws : IsEquivalence eq) where
       (removed_none (λ y. eq q y ≡ false) x xs (none_from_is_member eq laws xs q m))
 
   distinct_by : (y : X) (us vs : List X) (b : Bool) → AllByRecursion (λ z. eq y z ≡ false) vs
-      → IsDistinct eq us
-      → IsDistinct eq vs
-      → IsDistinct eq (cond b us (y ∷ vs))
+      → IsDistinct eq us → IsDistinct eq vs → IsDistinct eq (cond b us (y ∷ vs))
   unfolding IsDistinct
   distinct_by y us vs true n d e = d
   distinct_by y us vs false n d e = (n, e)
@@ -84,8 +82,7 @@ module _ {X : Type 0} (eq : X → X → Bool) (laws : IsEquivalence eq) where
       by true t e h = ([], y, xs, record { is = refl; equal = t; rest = rw t refl })
       by false t e h =
           let s = h e in (
-            y
-                ∷ s.0,
+            y ∷ s.0,
             s.1,
             s.2,
             record { is = ap (λ r. y ∷ r) s.3.is; equal = s.3.equal; rest = rw t (ap (λ r. y ∷ r) s.3.rest) },
@@ -118,8 +115,7 @@ module _ {X : Type 0} (eq : X → X → Bool) (laws : IsEquivalence eq) where
 
   scheduled_before : (h : ℕ) (before : List X) (k : X) (after : List X)
       → AllByRecursion (λ q. (eq k q || is_member eq before q) ≡ true) after → (q : X)
-      → is_member eq after q ≡ true
-      → (eq k q || is_member eq before q) ≡ true
+      → is_member eq after q ≡ true → (eq k q || is_member eq before q) ≡ true
   scheduled_before h before k [] a q m = absurd (true≢false (sym m))
   scheduled_before h before k (y ∷ after) a q m = by (eq q y) refl m (scheduled_before h before k after a.1 q)
     where
@@ -133,8 +129,7 @@ module _ {X : Type 0} (eq : X → X → Bool) (laws : IsEquivalence eq) where
   either true c e = inl refl
   either false c e = inr (refl, e)
 
-  missing : (after held : List X)
-      → ((x : X) × (is_member eq held x ≡ true) × (is_member eq after x ≡ false))
+  missing : (after held : List X) → ((x : X) × (is_member eq held x ≡ true) × (is_member eq after x ≡ false))
       ⊎ AllByRecursion (λ y. is_member eq after y ≡ true) held
   missing after [] = inr tt
   missing after (y ∷ held) = by (is_member eq after y) refl (missing after held)
@@ -143,8 +138,7 @@ module _ {X : Type 0} (eq : X → X → Bool) (laws : IsEquivalence eq) where
           → ((x : X) × (is_member eq held x ≡ true) × (is_member eq after x ≡ false))
           ⊎ AllByRecursion (λ z. is_member eq after z ≡ true) held
           → ((x : X) × (is_member eq (y ∷ held) x ≡ true) × (is_member eq after x ≡ false))
-          ⊎ (is_member eq after y ≡ true)
-          × AllByRecursion (λ z. is_member eq after z ≡ true) held
+          ⊎ (is_member eq after y ≡ true) × AllByRecursion (λ z. is_member eq after z ≡ true) held
       by false n s = inl (y, ap (λ b. b || is_member eq held y) (laws.refl y), n)
       by true m (inl s) = inl (s.0, in_rest (eq s.0 y) s.1, s.2)
         where
@@ -155,9 +149,7 @@ module _ {X : Type 0} (eq : X → X → Bool) (laws : IsEquivalence eq) where
 
   -- it has the key already
   follow_there : (h : ℕ) (before after held : List X) (k : X) → Follows h before held
-      → MayHold eq h before k after
-      → is_member eq held k ≡ true
-      → FollowsOn h after held k held
+      → MayHold eq h before k after → is_member eq held k ≡ true → FollowsOn h after held k held
   follow_there h before after held k f s m = record {
     follows =
         record {
@@ -187,8 +179,7 @@ module _ {X : Type 0} (eq : X → X → Bool) (laws : IsEquivalence eq) where
 
   -- there is a place for it
   follow_room : (h : ℕ) (before after held : List X) (k : X) → Follows h before held
-      → MayHold eq h before k after
-      → is_member eq held k ≡ false → length held < h
+      → MayHold eq h before k after → is_member eq held k ≡ false → length held < h
       → FollowsOn h after held k (k ∷ held)
   follow_room h before after held k f s n l = record {
     follows =
@@ -210,10 +201,8 @@ module _ {X : Type 0} (eq : X → X → Bool) (laws : IsEquivalence eq) where
 
   -- one that the schedule no longer holds leaves for it
   follow_swap : (h : ℕ) (before after held : List X) (k x : X) → Follows h before held
-      → MayHold eq h before k after
-      → is_member eq held k ≡ false → is_member eq held x ≡ true
-      → is_member eq after x ≡ false
-      → FollowsOn h after held k (k ∷ remove_key (eq x) held)
+      → MayHold eq h before k after → is_member eq held k ≡ false → is_member eq held x ≡ true
+      → is_member eq after x ≡ false → FollowsOn h after held k (k ∷ remove_key (eq x) held)
   follow_swap h before after held k x f s n m o = record {
     follows = record {
       size = (let a = length-remove_key (eq x) held m in let b = f.size in omega arith);
@@ -245,14 +234,12 @@ module _ {X : Type 0} (eq : X → X → Bool) (laws : IsEquivalence eq) where
           (removed_other x q held (apart q (eq x q) refl e) ∙ f.covers q t.1)
 
   all_members : (after held : List X) → AllByRecursion (λ y. is_member eq after y ≡ true) held → (q : X)
-      → is_member eq held q ≡ true
-      → is_member eq after q ≡ true
+      → is_member eq held q ≡ true → is_member eq after q ≡ true
   all_members after [] a q m = absurd (true≢false (sym m))
   all_members after (y ∷ held) a q m = by (eq q y) refl m (all_members after held a.1 q)
     where
       by : (b : Bool) → eq q y ≡ b → (b || is_member eq held q) ≡ true
-          → (is_member eq held q ≡ true → is_member eq after q ≡ true)
-          → is_member eq after q ≡ true
+          → (is_member eq held q ≡ true → is_member eq after q ≡ true) → is_member eq after q ≡ true
       by true t e f = is_member-equal eq laws after q y t ∙ a.0
       by false t e f = f e
 
@@ -271,8 +258,7 @@ module _ {X : Type 0} (eq : X → X → Bool) (laws : IsEquivalence eq) where
       not-suc-le-self m b = omega arith
 
   absent_by : (h : ℕ) (before after held : List X) (k : X) → Follows h before held
-      → MayHold eq h before k after
-      → is_member eq held k ≡ false → (length held < h) ⊎ (h ≤ length held)
+      → MayHold eq h before k after → is_member eq held k ≡ false → (length held < h) ⊎ (h ≤ length held)
       → (next : List X) × FollowsOn h after held k next
   absent_by h before after held k f s n (inl l) = (k ∷ held, follow_room h before after held k f s n l)
   absent_by h before after held k f s n (inr l) = found (missing after held)
@@ -284,13 +270,11 @@ module _ {X : Type 0} (eq : X → X → Bool) (laws : IsEquivalence eq) where
       found (inr a) = absurd (too_many h before after held k f s n l a)
 
   follow_by : (h : ℕ) (before after held : List X) (k : X) (b : Bool) → is_member eq held k ≡ b
-      → Follows h before held → MayHold eq h before k after
-      → (next : List X) × FollowsOn h after held k next
+      → Follows h before held → MayHold eq h before k after → (next : List X) × FollowsOn h after held k next
   follow_by h before after held k true m f s = (held, follow_there h before after held k f s m)
   follow_by h before after held k false m f s = absent_by h before after held k f s m
       (cases_lt (length held) h)
 
   pub follow : (h : ℕ) (before after held : List X) (k : X) → Follows h before held
-      → MayHold eq h before k after
-      → (next : List X) × FollowsOn h after held k next
+      → MayHold eq h before k after → (next : List X) × FollowsOn h after held k next
   follow h before after held k f s = follow_by h before after held k (is_member eq held k) refl f s

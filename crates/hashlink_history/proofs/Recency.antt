@@ -84,8 +84,7 @@ module _ {K : Type 0} (eq : K → K → Bool) (laws : IsEquivalence eq) where
       by false m h = ap (λ c. eq q x || c) h
 
   distinct_by : (x : K) (us : List K) (b : Bool) → (b ≡ false → AllByRecursion (λ y. eq x y ≡ false) us)
-      → IsDistinct eq us
-      → IsDistinct eq (cond b us (x ∷ us))
+      → IsDistinct eq us → IsDistinct eq (cond b us (x ∷ us))
   unfolding IsDistinct
   distinct_by x us true n d = d
   distinct_by x us false n d = (n refl, d)
@@ -114,15 +113,12 @@ module _ {K : Type 0} (eq : K → K → Bool) (laws : IsEquivalence eq) where
           ≡ remove_key (eq k) (cond b (unique_keys eq xs) (x ∷ unique_keys eq xs)) ++ k ∷ []
       by true c m t = refl
       by false true m t =
-          ap (λ us. us ++ k ∷ [])
-          (apart_key k (unique_keys eq xs)
-          (is_member-unique xs k ∙ is_member-equal eq laws xs k x (laws.symm k x ∙ t) ∙ m))
-          ∙ sym
+          ap (λ us. us ++ k ∷ []) (apart_key k (unique_keys eq xs)
+          (is_member-unique xs k ∙ is_member-equal eq laws xs k x (laws.symm k x ∙ t) ∙ m)) ∙ sym
           (ap (λ b. cond b (unique_keys eq xs) (x ∷ remove_key (eq k) (unique_keys eq xs)) ++ k ∷ [])
           (laws.symm k x ∙ t))
       by false false m t =
-          sym
-          (ap (λ b. cond b (unique_keys eq xs) (x ∷ remove_key (eq k) (unique_keys eq xs)) ++ k ∷ [])
+          sym (ap (λ b. cond b (unique_keys eq xs) (x ∷ remove_key (eq k) (unique_keys eq xs)) ++ k ∷ [])
           (laws.symm k x ∙ t))
 
   -- ---- the last use of a key
@@ -151,12 +147,7 @@ module _ {K : Type 0} (eq : K → K → Bool) (laws : IsEquivalence eq) where
         [],
         u,
         used,
-        record {
-          is = refl;
-          equal = here (eq k u) m e;
-          after =
-              none_from_is_member eq laws used k e;
-        },
+        record { is = refl; equal = here (eq k u) m e; after = none_from_is_member eq laws used k e },
       )
 
   -- what was used after it is unique too
@@ -171,8 +162,7 @@ module _ {K : Type 0} (eq : K → K → Bool) (laws : IsEquivalence eq) where
   unique_keys-last k (z ∷ xs) x ys t n = by (is_member eq (xs ++ x ∷ ys) z) (unique_keys-last k xs x ys t n)
     where
       by : (b : Bool) → (us : List K) × (unique_keys eq (xs ++ x ∷ ys) ≡ us ++ x ∷ unique_keys eq ys)
-          → (us : List K)
-          × (cond b (unique_keys eq (xs ++ x ∷ ys)) (z ∷ unique_keys eq (xs ++ x ∷ ys)) ≡ us
+          → (us : List K) × (cond b (unique_keys eq (xs ++ x ∷ ys)) (z ∷ unique_keys eq (xs ++ x ∷ ys)) ≡ us
           ++ x ∷ unique_keys eq ys)
       by true h = h
       by false h = (z ∷ h.0, ap (λ r. z ∷ r) h.1)
@@ -185,8 +175,7 @@ module _ {K : Type 0} (eq : K → K → Bool) (laws : IsEquivalence eq) where
     where
       by : (b : Bool) → eq k x ≡ b → b ≡ false
       by true t =
-          absurd
-          (both_ways (is_member eq ys x) (is_member_from_none eq laws ys x (each-right _ xs ys d.0))
+          absurd (both_ways (is_member eq ys x) (is_member_from_none eq laws ys x (each-right _ xs ys d.0))
           (sym (is_member-equal eq laws ys k x t) ∙ m))
       by false t = refl
 
@@ -252,8 +241,7 @@ module _ {K : Type 0} (eq : K → K → Bool) (laws : IsEquivalence eq) where
       ap₂ drop n all ∙ drop-append-add us vs 1
 
   pub recent_keys-room : (c : ℕ) (used : List K) (k : K) → is_member eq (recent_keys eq c used) k ≡ false
-      → distinct_count eq used < c
-      → recent_keys eq c (used ++ k ∷ []) ≡ recent_keys eq c used ++ k ∷ []
+      → distinct_count eq used < c → recent_keys eq c (used ++ k ∷ []) ≡ recent_keys eq c used ++ k ∷ []
   recent_keys-room c used k m l =
       let vs = recent_keys eq c used ++ k ∷ [] in
       let f = length_older c used in
@@ -269,8 +257,7 @@ module _ {K : Type 0} (eq : K → K → Bool) (laws : IsEquivalence eq) where
   -- ---- which keys are among them
 
   pub after_last-here : (k : K) (xs : List K) (x : K) (ys : List K) → eq k x ≡ true
-      → AllByRecursion (λ y. eq k y ≡ false) ys
-      → after_last (eq k) (xs ++ x ∷ ys) ≡ ys
+      → AllByRecursion (λ y. eq k y ≡ false) ys → after_last (eq k) (xs ++ x ∷ ys) ≡ ys
   after_last-here k xs x ys t n =
       let zs = xs ++ x ∷ ys in
       let split : zs ≡ (xs ++ x ∷ []) ++ ys = sym (append_assoc xs (x ∷ []) ys) in
@@ -278,14 +265,12 @@ module _ {K : Type 0} (eq : K → K → Bool) (laws : IsEquivalence eq) where
       let long = ap length split ∙ length-append (xs ++ x ∷ []) ys in
       let others = All-from_recursion (λ y. eq k y ≡ false) ys n in
       let passes : (j : ℕ) → length xs + 1 ≤ j → j < length zs → not (eq k (get_or zs j x)) ≡ true
-      = λ j l m. ap not
-      (ap (λ w. eq k (get_or w j x)) split
+      = λ j l m. ap not (ap (λ w. eq k (get_or w j x)) split
       ∙ ap (eq k) (get_or-append_right (xs ++ x ∷ []) ys (length xs + 1) j x front l)
       ∙ others (j - (length xs + 1)) x (omega arith))
       in
       let fails : 0 < length xs + 1 → not (eq k (get_or zs (length xs + 1 - 1) x)) ≡ false
-      = λ _. let same : length xs + 1 - 1
-      ≡ length xs = omega arith in ap not
+      = λ _. let same : length xs + 1 - 1 ≡ length xs = omega arith in ap not
       (ap (λ j. eq k (get_or zs j x)) same ∙ ap (eq k) (get_or_at xs x ys x (length xs) refl) ∙ t) in
       let count = suffix_len_is (λ y. not (eq k y)) zs (length xs + 1) x (omega arith) passes fails in
       let n1 : length zs - suffix_len (λ y. not (eq k y)) zs ≡ length xs + 1 = omega arith in
@@ -300,8 +285,7 @@ module _ {K : Type 0} (eq : K → K → Bool) (laws : IsEquivalence eq) where
       ap (λ zs. is_member eq zs k) (drop-append-le n us (x ∷ ys) (omega arith))
       ∙ is_member-append eq laws (drop n us) (x ∷ ys) k
       ∙ ap (λ b. is_member eq (drop n us) k || (b || is_member eq ys k)) t
-      ∙ or_true (is_member eq (drop n us) k)
-      ∙ sym (lt-ltb (length ys) c l)
+      ∙ or_true (is_member eq (drop n us) k) ∙ sym (lt-ltb (length ys) c l)
     where
       or_true : (b : Bool) → (b || true) ≡ true
       or_true true = refl
@@ -317,8 +301,7 @@ module _ {K : Type 0} (eq : K → K → Bool) (laws : IsEquivalence eq) where
       ∙ is_member_from_none eq laws (drop (length ys - c) ys) k
       (each-right _ (take (length ys - c) ys) (drop (length ys - c) ys)
       (subst (AllByRecursion (λ y. eq k y ≡ false)) (sym (take-append-drop (length ys - c) ys))
-      (none_from_is_member eq laws ys k m)))
-      ∙ sym (le-ltb (length ys) c l)
+      (none_from_is_member eq laws ys k m))) ∙ sym (le-ltb (length ys) c l)
 
   -- those of which fewer than c others were used since
   pub is_recent : (c : ℕ) (used : List K) (k : K)
@@ -346,5 +329,4 @@ module _ {K : Type 0} (eq : K → K → Bool) (laws : IsEquivalence eq) where
           ap (λ zs. is_member eq (drop (length zs - c) zs) k) all
           ∙ within_by c k u.0 s.1 (unique_keys eq s.2) s.3.equal
           (is_member-unique s.2 k ∙ is_member_from_none eq laws s.2 k s.3.after)
-          (cases_lt (length (unique_keys eq s.2)) c)
-          ∙ ap (λ n. nat_lt n c) (sym since)
+          (cases_lt (length (unique_keys eq s.2)) c) ∙ ap (λ n. nat_lt n c) (sym since)

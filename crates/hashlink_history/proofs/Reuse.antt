@@ -38,8 +38,7 @@ module _ {K V : Type 0} (eq : K → K → Bool) (laws : IsEquivalence eq) where
       by false h = h
 
   zip_removed_by : (k : K) (e : K × V) (q : K) (es : List (K × V)) (ks : List K) (b : Bool) → eq k q ≡ b
-      → eq e.0 q ≡ true
-      → AllZip (λ e q. eq e.0 q ≡ true) es ks
+      → eq e.0 q ≡ true → AllZip (λ e q. eq e.0 q ≡ true) es ks
       → AllZip (λ e q. eq e.0 q ≡ true) (remove_entry (eq k) es) (remove_key (eq k) ks)
       → AllZip (λ e q. eq e.0 q ≡ true) (cond b es (e ∷ remove_entry (eq k) es))
       (cond b ks (q ∷ remove_key (eq k) ks))
@@ -59,8 +58,7 @@ module _ {K V : Type 0} (eq : K → K → Bool) (laws : IsEquivalence eq) where
 
   -- of a key that is held: it comes last, with whatever value
   pub held_back : (c : ℕ) (used : List K) (es : List (K × V)) (k : K) (v w : V) → HoldsRecent eq c used es
-      → lookup (eq k) es ≡ Some w
-      → HoldsRecent eq c (used ++ k ∷ []) (put eq es k v (length es))
+      → lookup (eq k) es ≡ Some w → HoldsRecent eq c (used ++ k ∷ []) (put eq es k v (length es))
   held_back c used es k v w h l =
       let m : is_member eq (recent_keys eq c used) k ≡ true
       = sym (found_is_member k es (recent_keys eq c used) h) ∙ ap is_some l in
@@ -96,13 +94,11 @@ module _ {K V : Type 0} (eq : K → K → Bool) (laws : IsEquivalence eq) where
       (zip_push _ es (recent_keys eq c used) (k, v) k h (laws.refl k)))
 
   put_by : (c : ℕ) (used : List K) (es : List (K × V)) (k : K) (v : V) (o : Option V) → lookup (eq k) es ≡ o
-      → HoldsRecent eq c used es
-      → HoldsRecent eq c (used ++ k ∷ []) (cache_put eq es c k v)
+      → HoldsRecent eq c used es → HoldsRecent eq c (used ++ k ∷ []) (cache_put eq es c k v)
   put_by c used es k v None l h =
       let long = zip_length _ es (recent_keys eq c used) h in
       let count = length-recent_keys eq laws c used in
-      subst (HoldsRecent eq c (used ++ k ∷ []))
-      (sym (cache_put-evicts eq es c k v (omega arith)
+      subst (HoldsRecent eq c (used ++ k ∷ [])) (sym (cache_put-evicts eq es c k v (omega arith)
       ∙ ap (λ zs. front_evicted zs c) (put_back_absent eq es k v (none_from_lookup (eq k) es l))))
       (held_new_by c used es k v h l (cases_lt (distinct_count eq used) c))
   put_by c used es k v (Some w) l h =
@@ -113,8 +109,7 @@ module _ {K V : Type 0} (eq : K → K → Bool) (laws : IsEquivalence eq) where
       (sym (last_entries-within (put eq es k v (length es)) c (omega arith))) (held_back c used es k v w h l)
 
   pub HoldsRecent-cache_put : (c : ℕ) (used : List K) (es : List (K × V)) (k : K) (v : V)
-      → HoldsRecent eq c used es
-      → HoldsRecent eq c (used ++ k ∷ []) (cache_put eq es c k v)
+      → HoldsRecent eq c used es → HoldsRecent eq c (used ++ k ∷ []) (cache_put eq es c k v)
   HoldsRecent-cache_put c used es k v h = put_by c used es k v (lookup (eq k) es) refl h
 
   use_by : (c : ℕ) (used : List K) (es : List (K × V)) (k : K) (v : V) (o : Option V) → lookup (eq k) es ≡ o
@@ -126,8 +121,7 @@ module _ {K V : Type 0} (eq : K → K → Bool) (laws : IsEquivalence eq) where
       (held_back c used es k w w h l)
 
   pub HoldsRecent-cache_use : (c : ℕ) (used : List K) (es : List (K × V)) (k : K) (v : V)
-      → HoldsRecent eq c used es
-      → HoldsRecent eq c (used ++ k ∷ []) (cache_use eq es c k v)
+      → HoldsRecent eq c used es → HoldsRecent eq c (used ++ k ∷ []) (cache_use eq es c k v)
   HoldsRecent-cache_use c used es k v h = use_by c used es k v (lookup (eq k) es) refl h
 
   -- a key is held exactly where it was used and fewer than c others were used since

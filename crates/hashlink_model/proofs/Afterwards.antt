@@ -101,8 +101,7 @@ module _ {K V : Type 0} (eq : K → K → Bool) (laws : IsEquivalence eq) where
   lookup-put_same q es k v b d t = lookup-put q es k v b d ∙ rw t refl
 
   pub lookup_entry-put_other : (q : K) (es : List (K × V)) (k : K) (v : V) (b : ℕ)
-      → IsEntries eq es → eq k q ≡ false
-      → lookup_entry (eq q) (put eq es k v b) ≡ lookup_entry (eq q) es
+      → IsEntries eq es → eq k q ≡ false → lookup_entry (eq q) (put eq es k v b) ≡ lookup_entry (eq q) es
   lookup_entry-put_other q es k v b d t = lookup_entry-put eq laws q es k v b d ∙ rw t refl
 
   -- the stored key stays
@@ -136,8 +135,7 @@ module _ {K V : Type 0} (eq : K → K → Bool) (laws : IsEquivalence eq) where
       let none : NonePasses (eq k) (take j zs ++ drop j zs)
       = rw (take-append-drop j zs) (none_without eq laws es k d) in
       remove_entry-here (eq k) (stored_key eq es k, v) (drop j zs) (stored_key-equal eq laws k es) (take j zs)
-      (each-left _ (take j zs) (drop j zs) none)
-      ∙ take-append-drop j zs
+      (each-left _ (take j zs) (drop j zs) none) ∙ take-append-drop j zs
 
   pub put_back_twice : (es : List (K × V)) (k : K) (v w : V) → IsEntries eq es
       → put eq (put eq es k v (length es)) k w (length (put eq es k v (length es)))
@@ -145,8 +143,7 @@ module _ {K V : Type 0} (eq : K → K → Bool) (laws : IsEquivalence eq) where
   put_back_twice es k v w d =
       put_back eq (put eq es k v (length es)) k w
       ∙ ap₂ (λ zs k0. zs ++ (k0, w) ∷ []) (without-put es k v (length es) d)
-      (stored_key-put es k v (length es) d)
-      ∙ sym (put_back eq es k w)
+      (stored_key-put es k v (length es) d) ∙ sym (put_back eq es k w)
 
   pub put_front_twice : (es : List (K × V)) (k : K) (v w : V) → IsEntries eq es
       → put eq (put eq es k v 0) k w 0 ≡ put eq es k w 0
@@ -190,8 +187,7 @@ module _ {K V : Type 0} (eq : K → K → Bool) (laws : IsEquivalence eq) where
           ap (λ zs. moved eq zs k (length es)) once
           ∙ moved-there eq (put eq es k w (length es)) k (length es) w
           (lookup-put_same k es k w (length es) d (laws.refl k))
-          ∙ ap (put eq (put eq es k w (length es)) k w) (sym long)
-          ∙ put_back_twice es k w w d ∙ sym once
+          ∙ ap (put eq (put eq es k w (length es)) k w) (sym long) ∙ put_back_twice es k w w d ∙ sym once
 
   pub moved_front_twice : (es : List (K × V)) (k : K) → IsEntries eq es
       → moved eq (moved eq es k 0) k 0 ≡ moved eq es k 0

@@ -21,8 +21,7 @@ use Rattle.hashlink_model.proofs.KeptNodes.{kept-inserts}
 
 -- an insert that is not refused brings the cache within its capacity
 pub within-inserted : {K V S : Type 0} (old new : CacheState K V S) (eq : K → K → Bool) (k : K)
-    (v : V) (w : Option V)
-    → CacheInserts eq old new k v (Ok w) → IsWithin new 0
+    (v : V) (w : Option V) → CacheInserts eq old new k v (Ok w) → IsWithin new 0
 within-inserted old new eq k v w s =
     let same = ap length (inserts_entries eq old new k v w s) in
     let few = cache_put-at_most eq old.map.entries old.cap k v in let c = s.cap in omega arith
@@ -37,8 +36,7 @@ module _ {K V S : Type 0} (old new : CacheState K V S) (n : ℕ) where
   within-same l c w = omega arith
 
   pub within-changes : (es : List (K × V)) (most : ℕ) → OnMap (λ a b. Changes a b es most) old new
-      → length es ≡ length old.map.entries → IsWithin old n
-      → IsWithin new n
+      → length es ≡ length old.map.entries → IsWithin old n → IsWithin new n
   within-changes es most s l w = within-same (ap length s.map.entries ∙ l) s.cap w
 
   pub within-keeps : (es : List (K × V)) → OnMap (λ a b. KeepsOnly a b es) old new
@@ -78,16 +76,12 @@ module _ {K V S : Type 0} (old new : CacheState K V S) (n : ℕ) where
     pub within-gets_match_and_writes : (w : V) → CacheGetsMatchAndWrites test old new w → IsWithin old n
         → IsWithin new n
     within-gets_match_and_writes w s i =
-        within-same
-        (ap (λ m. length m.entries) s.map.writes
-        ∙ length-set_value test s.map.between.entries w
-        ∙ ap length s.map.moves.entries
-        ∙ length-moved_match test old.map.entries (length old.map.entries))
+        within-same (ap (λ m. length m.entries) s.map.writes ∙ length-set_value test s.map.between.entries w
+        ∙ ap length s.map.moves.entries ∙ length-moved_match test old.map.entries (length old.map.entries))
         s.cap i
 
     pub within-removes_match : (r : Option (K × V)) → OnMap (λ a b. RemovesMatch test a b r) old new
-        → IsWithin old n
-        → IsWithin new n
+        → IsWithin old n → IsWithin new n
     within-removes_match None s i = within-same (ap (λ m. length m.entries) s.map.step) s.cap i
     within-removes_match (Some e) s i =
         let same = ap length s.map.step.entries in
@@ -95,8 +89,7 @@ module _ {K V S : Type 0} (old new : CacheState K V S) (n : ℕ) where
 
   module _ (eq : K → K → Bool) (k : K) where
     pub within-inserts : (v : V) (r : Result (Option V) (K × V)) → CacheInserts eq old new k v r
-        → IsWithin old n
-        → IsWithin new n
+        → IsWithin old n → IsWithin new n
     within-inserts v (Ok w) s i = let fits = within-inserted old new eq k v w s in omega arith
     within-inserts v (Err pair) s i = within-same (ap length s.map.grows.entries) s.cap i
 
@@ -122,8 +115,7 @@ module _ {K V S : Type 0} (eq : K → K → Bool) (old : CacheState K V S) (k : 
 
   -- so one more goes in within a bound above the capacity
   pub within-entry_insert : (new : MapState K V S) (n : ℕ) (v : V) (A : Type 0) (r : Result A (K × V))
-      → VacantInserts eq e.map new k v r → IsWithin old (n + 1)
-      → length new.entries ≤ old.cap + (n + 1)
+      → VacantInserts eq e.map new k v r → IsWithin old (n + 1) → length new.entries ≤ old.cap + (n + 1)
   within-entry_insert new n v A (Ok a) s w =
       let same = ap length enters.evicts.entries in
       let few = front_evicted-at_most old.map.entries old.cap (old.cap + n) (omega arith) (omega arith) in
@@ -137,8 +129,7 @@ module _ {K V S : Type 0} (eq : K → K → Bool) (old : CacheState K V S) (k : 
 
   -- what was dropped left its node spare
   pub not_refused_after_eviction : (new : MapState K V S) (v : V) (A : Type 0) (pair : K × V)
-      → old.cap < length old.map.entries → VacantInserts eq {A = A} e.map new k v (Err pair)
-      → ⊥
+      → old.cap < length old.map.entries → VacantInserts eq {A = A} e.map new k v (Err pair) → ⊥
   not_refused_after_eviction new v A pair l s =
       let same = ap length (front_evicted-above old.map.entries old.cap l) in
       let fewer = length-drop 1 old.map.entries in
@@ -150,15 +141,13 @@ module _ {K V S : Type 0} (eq : K → K → Bool) (old : CacheState K V S) (k : 
 
 module _ {K V S : Type 0} (old new : CacheState K V S) where
   pub to_spare-kept : new.cap ≡ old.cap → node_count old.map ≤ node_count new.map
-      → length new.map.entries ≤ length old.map.entries
-      → HasNodeToSpare old → HasNodeToSpare new
+      → length new.map.entries ≤ length old.map.entries → HasNodeToSpare old → HasNodeToSpare new
   to_spare-kept c n l h = let b = h.beyond in let s = h.spare in record
       { beyond = omega arith; spare = omega arith }
 
   module _ (eq : K → K → Bool) (k : K) (v : V) where
     to_spare-by : (w : Option V) (between : MapState K V S) → new.cap ≡ old.cap
-        → InsertsLast eq k v w old.map between
-        → KeepsLast between new.map old.cap
+        → InsertsLast eq k v w old.map between → KeepsLast between new.map old.cap
         → (old.cap < length between.entries) ⊎ ((length between.entries ≤ old.cap) × HasNodeToSpare old)
         → HasNodeToSpare new
     to_spare-by w between c s t (inl m) =
@@ -179,13 +168,11 @@ module _ {K V S : Type 0} (old new : CacheState K V S) where
     pub to_spare-dropped : (w : Option V) → CacheInserts eq old new k v (Ok w)
         → old.cap < length (put eq old.map.entries k v (length old.map.entries)) → HasNodeToSpare new
     to_spare-dropped w s l =
-        to_spare-by w s.map.between s.cap s.map.inserts s.map.fits
-        (inl (subst (λ es. old.cap < length es)
+        to_spare-by w s.map.between s.cap s.map.inserts s.map.fits (inl (subst (λ es. old.cap < length es)
         (sym (put_entries eq old.map s.map.between k v w s.map.inserts)) l))
 
     pub to_spare-inserts : (r : Result (Option V) (K × V)) → CacheInserts eq old new k v r
-        → HasNodeToSpare old
-        → HasNodeToSpare new
+        → HasNodeToSpare old → HasNodeToSpare new
     to_spare-inserts (Ok w) s h =
         to_spare-by w s.map.between s.cap s.map.inserts s.map.fits
         (by (cases_lt old.cap (length s.map.between.entries)))

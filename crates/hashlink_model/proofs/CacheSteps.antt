@@ -15,15 +15,13 @@ use Rattle.hashlink_model.proofs.NodeCounts.{node_count-adds, node_count-keeps, 
 
 -- the insert at the length
 pub put_entries : {K V S : Type 0} (eq : K → K → Bool) (old new : MapState K V S) (k : K)
-    (v : V) (w : Option V)
-    → InsertsLast eq k v w old new
+    (v : V) (w : Option V) → InsertsLast eq k v w old new
     → new.entries ≡ put eq old.entries k v (length old.entries)
 put_entries eq old new k v None s = s.adds.entries
 put_entries eq old new k v (Some x) s = s.puts.entries
 
 pub put_answer : {K V S : Type 0} (eq : K → K → Bool) (old new : MapState K V S) (k : K)
-    (v : V) (w : Option V)
-    → InsertsLast eq k v w old new → w ≡ lookup (eq k) old.entries
+    (v : V) (w : Option V) → InsertsLast eq k v w old new → w ≡ lookup (eq k) old.entries
 put_answer eq old new k v None s = sym s.absent
 put_answer eq old new k v (Some x) s = sym s.old_value
 
@@ -39,8 +37,7 @@ module _ {K V S : Type 0} (eq : K → K → Bool) (old new : CacheState K V S) (
 
   pub inserts_refused : (pair : K × V) → CacheInserts eq old new k v (Err pair)
       → (new.map.entries ≡ old.map.entries) × (new.map.spare ≡ old.map.spare)
-      × (lookup (eq k) old.map.entries ≡ None)
-      × (old.map.spare ≡ 0)
+      × (lookup (eq k) old.map.entries ≡ None) × (old.map.spare ≡ 0)
   inserts_refused pair s = (
     s.map.grows.entries,
     s.map.grows.spare,
@@ -49,8 +46,7 @@ module _ {K V S : Type 0} (eq : K → K → Bool) (old new : CacheState K V S) (
   )
 
   -- an insert of a new key needs one node where none is spare; what it drops leaves its node spare
-  pub inserts_nodes : CacheInserts eq old new k v (Ok None)
-      → node_count new.map ≡ max (node_count old.map)
+  pub inserts_nodes : CacheInserts eq old new k v (Ok None) → node_count new.map ≡ max (node_count old.map)
       (length (put eq old.map.entries k v (length old.map.entries)))
   inserts_nodes s =
       let a = node_count-keeps s.map.between new.map
@@ -79,9 +75,7 @@ module _ {K V S : Type 0} (eq : K → K → Bool) (old new : CacheState K V S) (
   uses_by : (o w : Option V) → lookup (eq k) old.map.entries ≡ o
       → MatchOption o (CacheInserts eq old new k v (Ok w))
       (λ x. (◌≡◌ {A = Result (Option V) (K × V)} (Ok w) (Ok (Some x))) × CacheGets eq old new k (Some x))
-      → (w ≡ o)
-      ×
-      (new.map.entries
+      → (w ≡ o) × (new.map.entries
       ≡ option_map_or (λ x. cache_get eq old.map.entries k) o (cache_put eq old.map.entries old.cap k v))
   uses_by None w l s = (inserts_answer eq old new k v w s ∙ l, inserts_entries eq old new k v w s)
   uses_by (Some x) w l s = (cc (s.0), s.1.map.step.entries)

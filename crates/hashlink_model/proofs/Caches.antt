@@ -25,8 +25,7 @@ module _ {K V : Type 0} where
   front_evicted-above es cap l = rw (lt-ltb cap (length es) l) refl
 
   within_by : (es : List (K × V)) (cap n : ℕ) → (cap < length es) ⊎ (length es ≤ cap) → cap
-      ≤ n → length es ≤ n + 1
-      → length (front_evicted es cap) ≤ n
+      ≤ n → length es ≤ n + 1 → length (front_evicted es cap) ≤ n
   within_by es cap n (inl l) c m = rw (front_evicted-above es cap l, length-drop 1 es) (omega arith)
   within_by es cap n (inr l) c m = rw (front_evicted-within es cap l) (omega arith)
 
@@ -91,8 +90,7 @@ module _ {K V : Type 0} where
 
   -- all that the map's insert leaves, where there is a place
   pub cache_put-with_a_place : (eq : K → K → Bool) (es : List (K × V)) (cap : ℕ) (k : K) (v : V)
-      → length es < cap
-      → cache_put eq es cap k v ≡ put eq es k v (length es)
+      → length es < cap → cache_put eq es cap k v ≡ put eq es k v (length es)
   cache_put-with_a_place eq es cap k v l =
       let g = put_grown eq es k v in last_entries-within (put eq es k v (length es)) cap (omega arith)
 
@@ -104,8 +102,7 @@ module _ {K V : Type 0} where
       (front_evicted-last_entries (put eq es k v (length es)) cap (omega arith))
 
   pub IsEntries-cache_put : (eq : K → K → Bool) → IsEquivalence eq
-      → (es : List (K × V)) (cap : ℕ) (k : K) (v : V)
-      → IsEntries eq es
+      → (es : List (K × V)) (cap : ℕ) (k : K) (v : V) → IsEntries eq es
       → IsEntries eq (cache_put eq es cap k v)
   IsEntries-cache_put eq laws es cap k v d =
       let zs = put eq es k v (length es) in
@@ -114,17 +111,14 @@ module _ {K V : Type 0} where
   -- ---- an insert of each pair in turn
 
   pub cache_extended-at_most : (eq : K → K → Bool) (es : List (K × V)) (cap n : ℕ) (pairs : List (K × V))
-      → cap ≤ n
-      → length es ≤ n
-      → length (cache_extended eq es cap pairs) ≤ n
+      → cap ≤ n → length es ≤ n → length (cache_extended eq es cap pairs) ≤ n
   cache_extended-at_most eq es cap n [] c m = m
   cache_extended-at_most eq es cap n (p ∷ pairs) c m =
       let few = cache_put-at_most eq es cap p.0 p.1 in
       cache_extended-at_most eq (cache_put eq es cap p.0 p.1) cap n pairs c (omega arith)
 
   pub cache_use-at_most : (eq : K → K → Bool) (es : List (K × V)) (cap n : ℕ) (k : K) (v : V) → cap ≤ n
-      → length es ≤ n
-      → length (cache_use eq es cap k v) ≤ n
+      → length es ≤ n → length (cache_use eq es cap k v) ≤ n
   cache_use-at_most eq es cap n k v c m = by (lookup (eq k) es)
     where
       by : (o : Option V) → length (option_map_or (λ w. cache_get eq es k) o (cache_put eq es cap k v)) ≤ n
@@ -148,8 +142,7 @@ module _ {K V : Type 0} where
 
 module _ {K V : Type 0} (eq : K → K → Bool) (laws : IsEquivalence eq) where
   pub lookup-cache_put : (q : K) (es : List (K × V)) (cap : ℕ) (k : K) (v : V) → IsEntries eq es → 1 ≤ cap
-      → eq k q ≡ true
-      → lookup (eq q) (cache_put eq es cap k v) ≡ Some v
+      → eq k q ≡ true → lookup (eq q) (cache_put eq es cap k v) ≡ Some v
   lookup-cache_put q es cap k v d c t =
       let zs = put eq es k v (length es) in
       let long = length-put eq es k v (length es) in
@@ -157,8 +150,7 @@ module _ {K V : Type 0} (eq : K → K → Bool) (laws : IsEquivalence eq) where
       (sym (last_entries-end zs cap)) (last_entries-some zs cap c (omega arith)) t
 
   pub lookup_entry-cache_put : (q : K) (es : List (K × V)) (cap : ℕ) (k : K) (v : V) (e : K × V)
-      → IsEntries eq es
-      → eq k q ≡ false → lookup_entry (eq q) (cache_put eq es cap k v) ≡ Some e
+      → IsEntries eq es → eq k q ≡ false → lookup_entry (eq q) (cache_put eq es cap k v) ≡ Some e
       → lookup_entry (eq q) es ≡ Some e
   lookup_entry-cache_put q es cap k v e d t l =
       let zs = put eq es k v (length es) in
@@ -179,8 +171,7 @@ module _ {K V : Type 0} (eq : K → K → Bool) (laws : IsEquivalence eq) where
       by (Some w) = IsEntries-cache_get es k d
 
   pub lookup-cache_use : (q : K) (es : List (K × V)) (cap : ℕ) (k : K) (v : V) → IsEntries eq es → 1 ≤ cap
-      → eq k q ≡ true
-      → lookup (eq q) (cache_use eq es cap k v) ≡ Some (unwrap_or (lookup (eq k) es) v)
+      → eq k q ≡ true → lookup (eq q) (cache_use eq es cap k v) ≡ Some (unwrap_or (lookup (eq k) es) v)
   lookup-cache_use q es cap k v d c t = by (lookup (eq k) es) refl
     where
       by : (o : Option V) → lookup (eq k) es ≡ o
@@ -190,8 +181,7 @@ module _ {K V : Type 0} (eq : K → K → Bool) (laws : IsEquivalence eq) where
       by (Some w) l = lookup-moved eq laws q es k (length es) d ∙ sym (lookup-equal eq laws k q es t) ∙ l
 
   pub lookup_entry-cache_use : (q : K) (es : List (K × V)) (cap : ℕ) (k : K) (v : V) (e : K × V)
-      → IsEntries eq es
-      → eq k q ≡ false → lookup_entry (eq q) (cache_use eq es cap k v) ≡ Some e
+      → IsEntries eq es → eq k q ≡ false → lookup_entry (eq q) (cache_use eq es cap k v) ≡ Some e
       → lookup_entry (eq q) es ≡ Some e
   lookup_entry-cache_use q es cap k v e d t = by (lookup (eq k) es) refl
     where

@@ -18,27 +18,23 @@ module _ {K V : Type 0} where
       lists_equiv (and_equiv (on_equiv (λ (p : K × V). p.0) a) (on_equiv (λ (p : K × V). p.1) b))
 
   pub entries_eq_partial : (eqk : K → K → Bool) (eqv : V → V → Bool) → IsPartialEquivalence eqk
-      → IsPartialEquivalence eqv
-      → IsPartialEquivalence (entries_eq eqk eqv)
+      → IsPartialEquivalence eqv → IsPartialEquivalence (entries_eq eqk eqv)
   entries_eq_partial eqk eqv a b =
       lists_per (and_per (on_per (λ (p : K × V). p.0) a) (on_per (λ (p : K × V). p.1) b))
 
   pub entries_partial_order : (eqk : K → K → Bool) (eqv : V → V → Bool) (partk : K → K → Option Ordering)
-      (partv : V → V → Option Ordering)
-      → IsPartialOrder eqk partk → IsPartialOrder eqv partv
+      (partv : V → V → Option Ordering) → IsPartialOrder eqk partk → IsPartialOrder eqv partv
       → IsPartialOrder (entries_eq eqk eqv) (entries_partial_cmp partk partv)
   entries_partial_order eqk eqv partk partv a b =
       lists_po (then_po (on_po (λ (p : K × V). p.0) a) (on_po (λ (p : K × V). p.1) b))
 
   pub entries_cmp_total : (cmpk : K → K → Ordering) (cmpv : V → V → Ordering) → IsTotalOrder cmpk
-      → IsTotalOrder cmpv
-      → IsTotalOrder (entries_cmp cmpk cmpv)
+      → IsTotalOrder cmpv → IsTotalOrder (entries_cmp cmpk cmpv)
   entries_cmp_total cmpk cmpv a b =
       lists_total (then_total (on_total (λ (p : K × V). p.0) a) (on_total (λ (p : K × V). p.1) b))
 
   pub entries_ties : (eqk : K → K → Bool) (eqv : V → V → Bool) (cmpk : K → K → Ordering)
-      (cmpv : V → V → Ordering)
-      → ((x y : K) → eqk x y ≡ eq_by_cmp cmpk x y)
+      (cmpv : V → V → Ordering) → ((x y : K) → eqk x y ≡ eq_by_cmp cmpk x y)
       → ((x y : V) → eqv x y ≡ eq_by_cmp cmpv x y)
       → (xs ys : List (K × V)) → entries_eq eqk eqv xs ys ≡ eq_by_cmp (entries_cmp cmpk cmpv) xs ys
   entries_ties eqk eqv cmpk cmpv a b =
@@ -78,8 +74,7 @@ module _ {K V : Type 0} where
       λ i. (a x.0 y.0 pair.0 i, b x.1 y.1 pair.1 i) ∷ entries_eq_same eqk eqv a b xs ys parts.1 i
 
   pub entries_partial : (partk : K → K → Option Ordering) (partv : V → V → Option Ordering)
-      (cmpk : K → K → Ordering) (cmpv : V → V → Ordering)
-      → ((x y : K) → partk x y ≡ Some (cmpk x y))
+      (cmpk : K → K → Ordering) (cmpv : V → V → Ordering) → ((x y : K) → partk x y ≡ Some (cmpk x y))
       → ((x y : V) → partv x y ≡ Some (cmpv x y))
       → (xs ys : List (K × V)) → entries_partial_cmp partk partv xs ys ≡ Some (entries_cmp cmpk cmpv xs ys)
   entries_partial partk partv cmpk cmpv a b [] [] = refl
@@ -92,8 +87,7 @@ module _ {K V : Type 0} where
       (entries_partial partk partv cmpk cmpv a b xs ys)
       ∙ by (cmpk x.0 y.0) (cmpv x.1 y.1) (entries_cmp cmpk cmpv xs ys)
     where
-      by : (p q r : Ordering)
-          → partial_ordering_then (partial_ordering_then (Some p) (Some q)) (Some r)
+      by : (p q r : Ordering) → partial_ordering_then (partial_ordering_then (Some p) (Some q)) (Some r)
           ≡ Some (ordering_then (ordering_then p q) r)
       by Less q r = refl
       by Greater q r = refl

@@ -48,8 +48,7 @@ module _ {K V : Type 0} (eq : K → K → Bool) where
 
 module _ {K V : Type 0} (eq : K → K → Bool) (laws : IsEquivalence eq) where
   unmoved_by : (es : List (K × V)) (i : ℕ) (o : Option (K × V)) → IsEntries eq es → i ≤ length es
-      → slice_get es i ≡ o
-      → option_map_or (λ e. place_or_end eq es e.0) o (length es) ≡ i
+      → slice_get es i ≡ o → option_map_or (λ e. place_or_end eq es e.0) o (length es) ≡ i
   unmoved_by es i None d l at = le_antisymm (from_none es i at) l
     where
       from_none : (zs : List (K × V)) (j : ℕ) → slice_get zs j ≡ None → length zs ≤ j
@@ -66,8 +65,7 @@ module _ {K V : Type 0} (eq : K → K → Bool) (laws : IsEquivalence eq) where
   -- ---- the entry under the cursor after an insert at any place
 
   entry_by : (es : List (K × V)) (i : ℕ) (e : K × V) (k : K) (v : V) (b : Bool) → IsEntries eq es
-      → slice_get es i ≡ Some e
-      → eq k e.0 ≡ b
+      → slice_get es i ≡ Some e → eq k e.0 ≡ b
       → cond b (Some (stored_key eq es k, v)) (Some e) ≡ Some (cond b (e.0, v) e)
   entry_by es i e k v false d at t = refl
   entry_by es i e k v true d at t = ap (λ k0. Some (k0, v)) (stored_key_at eq laws es i e k d at t)
@@ -77,15 +75,11 @@ module _ {K V : Type 0} (eq : K → K → Bool) (laws : IsEquivalence eq) where
       → slice_get es i ≡ Some e
       → slice_get (put eq es k v b) (place_kept eq es (put eq es k v b) i) ≡ Some (cond (eq k e.0) (e.0, v) e)
   entry_after-put es i e k v b d at =
-      ap
-      (λ o. slice_get (put eq es k v b)
+      ap (λ o. slice_get (put eq es k v b)
       (option_map_or (λ x. place_or_end eq (put eq es k v b) x.0) o (length (put eq es k v b))))
-      at
-      ∙ slice_get-place_or_end eq e.0 (put eq es k v b)
-      ∙ lookup_entry-put eq laws e.0 es k v b d
+      at ∙ slice_get-place_or_end eq e.0 (put eq es k v b) ∙ lookup_entry-put eq laws e.0 es k v b d
       ∙ ap (cond (eq k e.0) (Some (stored_key eq es k, v)))
-      (lookup_entry_at eq laws es i e e.0 d at (laws.refl e.0))
-      ∙ entry_by es i e k v (eq k e.0) d at refl
+      (lookup_entry_at eq laws es i e e.0 d at (laws.refl e.0)) ∙ entry_by es i e k v (eq k e.0) d at refl
 
   -- the guard stays the guard
   pub guard_after-put : (es : List (K × V)) (i : ℕ) (k : K) (v : V) (b : ℕ) → slice_get es i ≡ None
@@ -97,8 +91,7 @@ module _ {K V : Type 0} (eq : K → K → Bool) (laws : IsEquivalence eq) where
   -- ---- an absent key
 
   pub put_before_absent : (xs : List (K × V)) (e : K × V) (ys : List (K × V)) (k : K) (v : V)
-      → NonePasses (eq k) (xs ++ e ∷ ys)
-      → put eq (xs ++ e ∷ ys) k v (length xs) ≡ xs ++ (k, v) ∷ e ∷ ys
+      → NonePasses (eq k) (xs ++ e ∷ ys) → put eq (xs ++ e ∷ ys) k v (length xs) ≡ xs ++ (k, v) ∷ e ∷ ys
   put_before_absent xs e ys k v n =
       put-absent eq (xs ++ e ∷ ys) k v (length xs) n
       ∙ ap₂ (λ us vs. us ++ (k, v) ∷ vs) (take_at xs (e ∷ ys) (length xs) refl)
@@ -114,11 +107,9 @@ module _ {K V : Type 0} (eq : K → K → Bool) (laws : IsEquivalence eq) where
       let more : length (xs ++ e ∷ []) ≡ length xs + 1 = omega (arith, length-append xs (e ∷ [])) in
       let split : xs ++ e ∷ ys ≡ (xs ++ e ∷ []) ++ ys = sym (append_assoc xs (e ∷ []) ys) in
       ap (put eq (xs ++ e ∷ ys) k v) (following_place-within _ _ below)
-      ∙ put-absent eq (xs ++ e ∷ ys) k v (length xs + 1) n
-      ∙ ap (λ zs. insert zs (length xs + 1) (k, v)) split
+      ∙ put-absent eq (xs ++ e ∷ ys) k v (length xs + 1) n ∙ ap (λ zs. insert zs (length xs + 1) (k, v)) split
       ∙ ap₂ (λ us vs. us ++ (k, v) ∷ vs) (take_at (xs ++ e ∷ []) ys (length xs + 1) more)
-      (drop_at (xs ++ e ∷ []) ys (length xs + 1) more)
-      ∙ append_assoc xs (e ∷ []) ((k, v) ∷ ys)
+      (drop_at (xs ++ e ∷ []) ys (length xs + 1) more) ∙ append_assoc xs (e ∷ []) ((k, v) ∷ ys)
 
   -- after the guard is first
   pub put_after_guard : (es : List (K × V)) (k : K) (v : V)
@@ -152,8 +143,7 @@ preceding_of_following n i (inl l) m =
 preceding_of_following n i (inr l) m =
     let same : n ≡ i = le_antisymm l m in
     ap (λ j. preceding_place n (following_place n j)) (sym same)
-    ∙ ap (preceding_place n) (following_place-guard n)
-    ∙ preceding_place-first n ∙ same
+    ∙ ap (preceding_place n) (following_place-guard n) ∙ preceding_place-first n ∙ same
 
 following_of_preceding : (n i : ℕ) → i ≤ n → following_place n (preceding_place n i) ≡ i
 following_of_preceding n zero m = ap (following_place n) (preceding_place-first n) ∙ following_place-guard n
@@ -161,8 +151,7 @@ following_of_preceding n (suc i) m =
     let below : i < n = omega arith in
     let one : i + 1 ≡ suc i = omega arith in
     ap (λ j. following_place n (preceding_place n j)) (sym one)
-    ∙ ap (following_place n) (preceding_place-within n i below)
-    ∙ following_place-within n i below ∙ one
+    ∙ ap (following_place n) (preceding_place-within n i below) ∙ following_place-within n i below ∙ one
 
 module _ {K V S : Type 0} (c : CursorState K V S) where
   pub next-within : IsCursor (at_place c (place_next c))
@@ -181,7 +170,6 @@ module _ {K V S : Type 0} (c : CursorState K V S) where
   back_and_there w = following_of_preceding (length c.map.entries) c.place w
 
 pub inserts-within : {K V S : Type 0} (eq : K → K → Bool) (old new : CursorState K V S)
-    (k : K) (v : V) (b : ℕ) (r : Result (Option V) (K × V))
-    → CursorInserts eq old new k v b r → IsCursor new
+    (k : K) (v : V) (b : ℕ) (r : Result (Option V) (K × V)) → CursorInserts eq old new k v b r → IsCursor new
 inserts-within eq old new k v b r s =
     rw s.place (place_kept-within eq old.map.entries new.map.entries old.place)

@@ -54,8 +54,7 @@ module _ {K V : Type 0} (eq : K → K → Bool) (laws : IsEquivalence eq) where
   -- ---- with one entry more
 
   past : (q : K) (e x : K × V) (zs : List (K × V)) (b c : Bool) → eq q x.0 ≡ b → eq e.0 q
-      ≡ c → eq e.0 x.0 ≡ false
-      → cond b (Some x) (cond c (Some e) (lookup_entry (eq q) zs))
+      ≡ c → eq e.0 x.0 ≡ false → cond b (Some x) (cond c (Some e) (lookup_entry (eq q) zs))
       ≡ cond c (Some e) (cond b (Some x) (lookup_entry (eq q) zs))
   past q e x zs false c p r a = refl
   past q e x zs true false p r a = refl
@@ -86,11 +85,9 @@ module _ {K V : Type 0} (eq : K → K → Bool) (laws : IsEquivalence eq) where
         lookup_entry-middle q s.1 s.2 s.0
             others,
         ← laws.congr k s.1.0 q s.3.passes,
-      )
-      (left (eq k q) refl others)
+      ) (left (eq k q) refl others)
     where
-      left : (b : Bool) → eq k q ≡ b → NonePasses (eq s.1.0) (s.0 ++ s.2)
-          → lookup_entry (eq q) (s.0 ++ s.2)
+      left : (b : Bool) → eq k q ≡ b → NonePasses (eq s.1.0) (s.0 ++ s.2) → lookup_entry (eq q) (s.0 ++ s.2)
           ≡ cond b None (cond b (Some s.1) (lookup_entry (eq q) (s.0 ++ s.2)))
       left false t o = refl
       left true t o =

@@ -19,8 +19,7 @@ module _ {K V S : Type 0} (eq : K → K → Bool) where
   inserted old new p (Some v) s = s.puts.entries
 
   pub accepts_entries : (old new : MapState K V S) (items : List (K × V))
-      → AcceptsAll (InsertsPair eq) old items new
-      → new.entries ≡ extended eq old.entries items
+      → AcceptsAll (InsertsPair eq) old items new → new.entries ≡ extended eq old.entries items
   accepts_entries old new [] s = ap (λ m. m.entries) s
   accepts_entries old new (p ∷ items) s =
       accepts_entries s.0 new items s.3 ∙ ap (λ es. extended eq es items) (inserted old s.0 p s.1 s.2)
@@ -32,8 +31,7 @@ module _ {K V S : Type 0} (eq : K → K → Bool) where
   spare_inserted old new p (Some v) s = let e = s.puts.spare in omega arith
 
   accepts_spare : (old new : MapState K V S) (items : List (K × V))
-      → AcceptsAll (InsertsPair eq) old items new
-      → old.spare ≤ new.spare + length items
+      → AcceptsAll (InsertsPair eq) old items new → old.spare ≤ new.spare + length items
   accepts_spare old new [] s = let e = ap (λ m. m.spare) s in omega arith
   accepts_spare old new (p ∷ items) s =
       let one = spare_inserted old s.0 p s.1 s.2 in
@@ -61,9 +59,7 @@ module _ {K V S : Type 0} (eq : K → K → Bool) where
         omega arith
 
   pub drained_takes : (a old new : MapState K V S) (items : List (K × V)) (taken : ℕ) (back : K × V)
-      (left : List (K × V))
-      → Drains a old
-      → length items ≤ a.spare + length a.entries
+      (left : List (K × V)) → Drains a old → length items ≤ a.spare + length a.entries
       → StopsAt (InsertsPair eq) old items new taken back left → ⊥
   drained_takes a old new items taken back left d l s =
       let late = stops_late old new items taken back left s in

@@ -60,8 +60,7 @@ module _ {K V S : Type 0} (old new : MapState K V S) where
 
     pub kept-moves_and_writes : (b : ℕ) (w : V) → MovesAndWrites eq old new k b w → KeepsNodes old new
     kept-moves_and_writes b w s =
-        kept-same
-        (ap node_count s.writes
+        kept-same (ap node_count s.writes
         ∙ ap (λ n. n + s.between.spare) (length-set_value (eq k) s.between.entries w)
         ∙ node_count-changes old s.between (moved eq old.entries k b) 6 s.moves
         (length-moved eq old.entries k b))
@@ -80,8 +79,7 @@ module _ {K V S : Type 0} (old new : MapState K V S) where
   spare_where_shorter n l = omega arith
 
   pub not_refused_where_shorter : (eq : K → K → Bool) (k : K) → node_count old ≤ node_count new
-      → length new.entries < length old.entries
-      → MayRefuse eq new k → ⊥
+      → length new.entries < length old.entries → MayRefuse eq new k → ⊥
   not_refused_where_shorter eq k n l m = let none = m.no_spare in omega arith
 
   pub cleared_nodes : Clears old new → node_count new ≡ old.spare

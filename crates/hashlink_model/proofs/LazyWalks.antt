@@ -14,8 +14,7 @@ module _ {T : Type 0} where
   passing_by : (p : T → Bool) (x : T) (xs : List T) (b : Bool)
       → TakesFirst (λ y. y) (filter p xs) (first_passing p xs).0 (filter p (first_passing p xs).1)
       → TakesFirst (λ y. y) (cond b (x ∷ filter p xs) (filter p xs))
-      (cond b (Some x, xs) (first_passing p xs)).0
-      (filter p (cond b (Some x, xs) (first_passing p xs)).1)
+      (cond b (Some x, xs) (first_passing p xs)).0 (filter p (cond b (Some x, xs) (first_passing p xs)).1)
   passing_by p x xs true h = refl
   passing_by p x xs false h = h
 
@@ -46,8 +45,7 @@ module _ {T : Type 0} where
     union_walk = ap (λ r. r ++ difference_of eq ys xs) (filter-all xs)
 
     pub symmetric_difference_walk : left_to_give (λ x. not (is_member eq ys x)) (λ y. not (is_member eq xs y))
-        (record { left = xs; right = ys })
-        ≡ symmetric_difference_of eq xs ys
+        (record { left = xs; right = ys }) ≡ symmetric_difference_of eq xs ys
     symmetric_difference_walk = refl
 
   -- ---- size hints

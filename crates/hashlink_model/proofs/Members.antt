@@ -83,30 +83,26 @@ module _ {T : Type 0} (eq : T → T → Bool) (laws : IsEquivalence eq) where
   is_member_from_none (x ∷ xs) q n = rw n.0 (is_member_from_none xs q n.1)
 
   none_filtered : (p : T → Bool) → ((x y : T) → eq x y ≡ true → p x ≡ p y) → (x : T) (xs : List T)
-      → AllByRecursion (λ y. eq x y ≡ false) xs
-      → AllByRecursion (λ y. eq x y ≡ false) (filter p xs)
+      → AllByRecursion (λ y. eq x y ≡ false) xs → AllByRecursion (λ y. eq x y ≡ false) (filter p xs)
   none_filtered p same x xs n =
       none_from_is_member (filter p xs) x
       (is_member-filter laws p x (λ y t. same x y t) xs ∙ ap (λ b. b && p x) (is_member_from_none xs x n))
 
   distinct_by : (p : T → Bool) (x : T) (zs : List T) (b : Bool) → AllByRecursion (λ y. eq x y ≡ false) zs
-      → IsDistinct eq zs
-      → IsDistinct eq (cond b (x ∷ zs) zs)
+      → IsDistinct eq zs → IsDistinct eq (cond b (x ∷ zs) zs)
   unfolding IsDistinct
   distinct_by p x zs true n d = (n, d)
   distinct_by p x zs false n d = d
 
   pub IsDistinct-filter : (p : T → Bool) → ((x y : T) → eq x y ≡ true → p x ≡ p y)
-      → (xs : List T) → IsDistinct eq xs
-      → IsDistinct eq (filter p xs)
+      → (xs : List T) → IsDistinct eq xs → IsDistinct eq (filter p xs)
   unfolding IsDistinct
   IsDistinct-filter p same [] d = d
   IsDistinct-filter p same (x ∷ xs) d =
       distinct_by p x (filter p xs) (p x) (none_filtered p same x xs d.0) (IsDistinct-filter p same xs d.1)
 
   pub IsDistinct-append : (xs ys : List T) → IsDistinct eq xs → IsDistinct eq ys
-      → AllByRecursion (λ x. is_member eq ys x ≡ false) xs
-      → IsDistinct eq (xs ++ ys)
+      → AllByRecursion (λ x. is_member eq ys x ≡ false) xs → IsDistinct eq (xs ++ ys)
   unfolding IsDistinct
   IsDistinct-append [] ys d e a = e
   IsDistinct-append (x ∷ xs) ys d e a =
@@ -144,8 +140,7 @@ module _ {T : Type 0} (eq : T → T → Bool) (laws : IsEquivalence eq) where
       → IsDistinct eq (symmetric_difference_of eq xs ys)
   IsDistinct-symmetric_difference xs ys d e =
       IsDistinct-append (difference_of eq xs ys) (difference_of eq ys xs) (IsDistinct-difference xs ys d)
-      (IsDistinct-difference ys xs e)
-      (each-weaker _ _ (λ x m. outside ys xs x m) (difference_of eq xs ys)
+      (IsDistinct-difference ys xs e) (each-weaker _ _ (λ x m. outside ys xs x m) (difference_of eq xs ys)
       (recursion_from_All _ _ (filter_passes (λ x. not (is_member eq ys x)) xs)))
 
   -- ---- subset and disjoint, by membership

@@ -34,14 +34,11 @@ module _ {K V S : Type 0} (old new : MapState K V S) where
   node_count-keeps es s = let same = ap length s.entries in let spare = s.spare in omega arith
 
   pub node_count-changes : (es : List (K × V)) (most : ℕ) → Changes old new es most → length es
-      ≡ length old.entries
-      → node_count new ≡ node_count old
+      ≡ length old.entries → node_count new ≡ node_count old
   node_count-changes es most s l = let same = ap length s.entries in let spare = s.spare in omega arith
 
   pub HasRoom-changes : (es : List (K × V)) (most : ℕ) → Changes old new es most → length es
-      ≤ length old.entries
-      → HasRoom old
-      → HasRoom new
+      ≤ length old.entries → HasRoom old → HasRoom new
   HasRoom-changes es most s l h =
       let same = ap length s.entries in let spare = s.spare in let r = s.room in omega arith
 
@@ -121,8 +118,7 @@ module _ {K V S : Type 0} (eq : K → K → Bool) (old new : MapState K V S) (k 
       (length-put_there eq old.entries k v b w s.old_value)
 
   pub HasRoom-inserts : (v : V) (b : ℕ) (r : Result (Option V) (K × V))
-      → Inserts eq old new k v b r → HasRoom old
-      → HasRoom new
+      → Inserts eq old new k v b r → HasRoom old → HasRoom new
   HasRoom-inserts v b (Ok None) s h = s.adds.fits
   HasRoom-inserts v b (Ok (Some w)) s h = let n = node_count-puts v b w s in let r =
       s.puts.room in omega arith
@@ -141,8 +137,7 @@ module _ {K V S : Type 0} (eq : K → K → Bool) (old new : MapState K V S) (k 
 
   module _ (b : ℕ) where
     moves_by : (r : Option V) → MatchOption r (new ≡ old) (λ _. Changes old new (moved eq old.entries k b) 6)
-        → r ≡ lookup (eq k) old.entries
-        → new.entries ≡ moved eq old.entries k b
+        → r ≡ lookup (eq k) old.entries → new.entries ≡ moved eq old.entries k b
     moves_by None s l = ap (λ m. m.entries) s ∙ sym (moved-absent eq old.entries k b (sym l))
     moves_by (Some w) s l = s.entries
 
@@ -159,28 +154,24 @@ module _ {K V S : Type 0} (eq : K → K → Bool) (old new : MapState K V S) (k 
 
 module _ {K V S : Type 0} (eq : K → K → Bool) (laws : IsEquivalence eq) where
   pub writes_value : (q : K) (old new : MapState K V S) (k : K) (v w : V) → WritesEntry eq old new k v w
-      → eq k q ≡ true
-      → lookup (eq q) new.entries ≡ Some v
+      → eq k q ≡ true → lookup (eq q) new.entries ≡ Some v
   writes_value q old new k v w s t =
       ap (lookup (eq q)) s.writes.entries
       ∙ lookup-set_value laws (eq k) (λ x y p. laws.congr k x y p) q v old.entries (ap is_some s.old_value)
       ∙ rw t refl
 
   pub writes_others : (q : K) (old new : MapState K V S) (k : K) (v w : V) → WritesEntry eq old new k v w
-      → eq k q ≡ false
-      → lookup_entry (eq q) new.entries ≡ lookup_entry (eq q) old.entries
+      → eq k q ≡ false → lookup_entry (eq q) new.entries ≡ lookup_entry (eq q) old.entries
   writes_others q old new k v w s t =
       ap (lookup_entry (eq q)) s.writes.entries ∙ lookup_entry-set_value_other eq laws q old.entries k v t
 
   pub moves_lookup : (q : K) (old new : MapState K V S) (k : K) (b : ℕ) (r : Option V)
-      → Moves eq old new k b r
-      → IsEntries eq old.entries
+      → Moves eq old new k b r → IsEntries eq old.entries
       → lookup (eq q) new.entries ≡ lookup (eq q) old.entries
   moves_lookup q old new k b r s d =
       ap (lookup (eq q)) (moves_entries eq old new k b r s) ∙ lookup-moved eq laws q old.entries k b d
 
   pub moves_keys : (old new : MapState K V S) (k : K) (b : ℕ) (r : Option V) → Moves eq old new k b r
-      → IsEntries eq old.entries
-      → IsEntries eq new.entries
+      → IsEntries eq old.entries → IsEntries eq new.entries
   moves_keys old new k b r s d = rw (moves_entries eq old new k b r s)
       (IsEntries-moved eq laws old.entries k b d)

@@ -63,16 +63,14 @@ module _ {K V : Type 0} where
 module _ {K V : Type 0} (eq : K → K → Bool) (laws : IsEquivalence eq) where
   -- the entry at j leaves, and h stands last with the value
   pub insert_entry-last : (es : List (K × V)) (j : ℕ) (e : K × V) (h : K) (v : V) → IsEntries eq es
-      → slice_get es j ≡ Some e
-      → insert_entry es j h v ≡ without eq es e.0 ++ (h, v) ∷ []
+      → slice_get es j ≡ Some e → insert_entry es j h v ≡ without eq es e.0 ++ (h, v) ∷ []
   insert_entry-last es j e h v d at =
       let s = split_at es j e at in
       let long : length (s.0 ++ e ∷ s.1) ≡ length (s.0 ++ (h, v) ∷ s.1)
       = omega (arith, length-append s.0 (e ∷ s.1), length-append s.0 ((h, v) ∷ s.1)) in
       ap₂ (λ zs i. insert_entry zs i h v) s.2 (sym s.3)
       ∙ ap₂ (λ zs n. moved_at zs (length s.0) n) (replace_entry-here s.0 e s.1 h v) long
-      ∙ moved_at-last s.0 (h, v) s.1
-      ∙ ap (λ zs. zs ++ (h, v) ∷ [])
+      ∙ moved_at-last s.0 (h, v) s.1 ∙ ap (λ zs. zs ++ (h, v) ∷ [])
       (sym (remove-here s.0 e s.1) ∙ ap₂ remove (sym s.2) s.3
       ∙ remove-place (eq e.0) es j (place_of_its_key eq laws es j e e.0 d at (laws.refl e.0)))
 
@@ -83,17 +81,14 @@ module _ {K V : Type 0} (eq : K → K → Bool) (laws : IsEquivalence eq) where
       (none_equal eq laws e.0 h (without eq es e.0) (laws.symm e.0 h ∙ t) (none_without eq laws es e.0 d))
 
   pub IsEntries-insert_entry : (es : List (K × V)) (j : ℕ) (e : K × V) (h : K) (v : V) → IsEntries eq es
-      → slice_get es j ≡ Some e → eq h e.0 ≡ true
-      → IsEntries eq (insert_entry es j h v)
+      → slice_get es j ≡ Some e → eq h e.0 ≡ true → IsEntries eq (insert_entry es j h v)
   IsEntries-insert_entry es j e h v d at t =
       rw (insert_entry-last es j e h v d at)
       (IsEntries-insert eq laws (without eq es e.0) (h, v) [] (none_last es e h d t)
       (rw (append-nil (without eq es e.0)) (IsEntries-without eq laws es e.0 d)))
 
   pub lookup_entry-insert_entry : (q : K) (es : List (K × V)) (j : ℕ) (e : K × V) (h : K) (v : V)
-      → IsEntries eq es
-      → slice_get es j ≡ Some e
-      → eq h e.0 ≡ true
+      → IsEntries eq es → slice_get es j ≡ Some e → eq h e.0 ≡ true
       → lookup_entry (eq q) (insert_entry es j h v) ≡ cond (eq h q) (Some (h, v)) (lookup_entry (eq q) es)
   lookup_entry-insert_entry q es j e h v d at t =
       ap (lookup_entry (eq q)) (insert_entry-last es j e h v d at)
@@ -104,14 +99,12 @@ module _ {K V : Type 0} (eq : K → K → Bool) (laws : IsEquivalence eq) where
   -- ---- h in the place of e
 
   others_apart : (xs : List (K × V)) (e : K × V) (ys : List (K × V)) (h : K) → IsEntries eq (xs ++ e ∷ ys)
-      → eq h e.0 ≡ true
-      → NonePasses (eq h) (xs ++ ys)
+      → eq h e.0 ≡ true → NonePasses (eq h) (xs ++ ys)
   others_apart xs e ys h d t =
       none_equal eq laws e.0 h (xs ++ ys) (laws.symm e.0 h ∙ t) (none_others eq laws xs e ys d)
 
   pub IsEntries-replace_entry : (es : List (K × V)) (j : ℕ) (e : K × V) (h : K) (v : V) → IsEntries eq es
-      → slice_get es j ≡ Some e → eq h e.0 ≡ true
-      → IsEntries eq (replace_entry es j h v)
+      → slice_get es j ≡ Some e → eq h e.0 ≡ true → IsEntries eq (replace_entry es j h v)
   IsEntries-replace_entry es j e h v d at t =
       let s = split_at es j e at in
       let there = subst (IsEntries eq) s.2 d in
@@ -121,9 +114,7 @@ module _ {K V : Type 0} (eq : K → K → Bool) (laws : IsEquivalence eq) where
       (IsEntries-middle eq laws s.0 e s.1 there))
 
   pub lookup_entry-replace_entry : (q : K) (es : List (K × V)) (j : ℕ) (e : K × V) (h : K) (v : V)
-      → IsEntries eq es
-      → slice_get es j ≡ Some e
-      → eq h e.0 ≡ true
+      → IsEntries eq es → slice_get es j ≡ Some e → eq h e.0 ≡ true
       → lookup_entry (eq q) (replace_entry es j h v) ≡ cond (eq h q) (Some (h, v)) (lookup_entry (eq q) es)
   lookup_entry-replace_entry q es j e h v d at t =
       let s = split_at es j e at in
@@ -131,16 +122,13 @@ module _ {K V : Type 0} (eq : K → K → Bool) (laws : IsEquivalence eq) where
       ap₂ (λ zs i. lookup_entry (eq q) (replace_entry zs i h v)) s.2 (sym s.3)
       ∙ ap (lookup_entry (eq q)) (replace_entry-here s.0 e s.1 h v)
       ∙ lookup_entry-middle eq laws q (h, v) s.1 s.0 (others_apart s.0 e s.1 h there t)
-      ∙ sym (cond-same_test (eq h q) _ (Some e) _)
-      ∙ ap (cond (eq h q) (Some (h, v)))
+      ∙ sym (cond-same_test (eq h q) _ (Some e) _) ∙ ap (cond (eq h q) (Some (h, v)))
       (ap (λ b. cond b (Some e) (lookup_entry (eq q) (s.0 ++ s.1))) (laws.congr h e.0 q t)
       ∙ sym (lookup_entry-middle eq laws q e s.1 s.0 (none_others eq laws s.0 e s.1 there))
       ∙ ap (lookup_entry (eq q)) (sym s.2))
 
   pub place_of-replace_entry : (q : K) (es : List (K × V)) (j : ℕ) (e : K × V) (h : K) (v : V)
-      → IsEntries eq es
-      → slice_get es j ≡ Some e
-      → eq h e.0 ≡ true
+      → IsEntries eq es → slice_get es j ≡ Some e → eq h e.0 ≡ true
       → place_of (eq q) (replace_entry es j h v) ≡ place_of (eq q) es
   place_of-replace_entry q es j e h v d at t =
       let s = split_at es j e at in
@@ -152,14 +140,12 @@ module _ {K V : Type 0} (eq : K → K → Bool) (laws : IsEquivalence eq) where
   -- ---- a new value last with the stored key, and a key or a value alone in its place
 
   pub insert_value-put : (es : List (K × V)) (j : ℕ) (e : K × V) (v : V) → IsEntries eq es
-      → slice_get es j ≡ Some e
-      → insert_value es j v ≡ put eq es e.0 v (length es)
+      → slice_get es j ≡ Some e → insert_value es j v ≡ put eq es e.0 v (length es)
   insert_value-put es j e v d at =
       moved_at-put eq es e.0 j (place_of_its_key eq laws es j e e.0 d at (laws.refl e.0)) v (length es)
 
   pub IsEntries-insert_value : (es : List (K × V)) (j : ℕ) (e : K × V) (v : V) → IsEntries eq es
-      → slice_get es j ≡ Some e
-      → IsEntries eq (insert_value es j v)
+      → slice_get es j ≡ Some e → IsEntries eq (insert_value es j v)
   IsEntries-insert_value es j e v d at =
       rw (insert_value-put es j e v d at) (IsEntries-put eq laws es e.0 v (length es) d)
 
@@ -169,14 +155,12 @@ module _ {K V : Type 0} (eq : K → K → Bool) (laws : IsEquivalence eq) where
       (length es) d
 
   pub IsEntries-set_key_at : (es : List (K × V)) (j : ℕ) (e : K × V) (k : K) → IsEntries eq es
-      → slice_get es j ≡ Some e → eq k e.0 ≡ true
-      → IsEntries eq (set_key_at es j k)
+      → slice_get es j ≡ Some e → eq k e.0 ≡ true → IsEntries eq (set_key_at es j k)
   IsEntries-set_key_at es j e k d at t =
       rw (set_key_at-entry es j e k at) (IsEntries-replace_entry es j e k e.1 d at t)
 
   pub IsEntries-set_value_at : (es : List (K × V)) (j : ℕ) (e : K × V) (v : V) → IsEntries eq es
-      → slice_get es j ≡ Some e
-      → IsEntries eq (set_value_at es j v)
+      → slice_get es j ≡ Some e → IsEntries eq (set_value_at es j v)
   IsEntries-set_value_at es j e v d at =
       rw (set_value_at-entry es j e v at) (IsEntries-replace_entry es j e e.0 v d at (laws.refl e.0))
 
@@ -190,8 +174,7 @@ module _ {K V : Type 0} (eq : K → K → Bool) (laws : IsEquivalence eq) where
       (stored_key_at eq laws es j e e.0 d at (laws.refl e.0))
 
   pub lookup_entry-set_key_at : (q : K) (es : List (K × V)) (j : ℕ) (e : K × V) (k : K) → IsEntries eq es
-      → slice_get es j ≡ Some e
-      → eq k e.0 ≡ true
+      → slice_get es j ≡ Some e → eq k e.0 ≡ true
       → lookup_entry (eq q) (set_key_at es j k) ≡ cond (eq k q) (Some (k, e.1)) (lookup_entry (eq q) es)
   lookup_entry-set_key_at q es j e k d at t =
       ap (lookup_entry (eq q)) (set_key_at-entry es j e k at)

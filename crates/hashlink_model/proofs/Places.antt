@@ -36,48 +36,39 @@ module _ {K V : Type 0} (eq : K → K → Bool) where
         place_of-here (eq q) s.1 s.2 s.3.passes s.0 s.3.before,
         lookup_entry-here (eq q) s.1 s.2 s.3.passes
             s.0 s.3.before,
-      )
-      (slice_get_here s.0 s.1 s.2)
+      ) (slice_get_here s.0 s.1 s.2)
 
   pub slice_get-place_or_end : (q : K) (es : List (K × V))
       → slice_get es (place_or_end eq es q) ≡ lookup_entry (eq q) es
   slice_get-place_or_end q es = at_place_by q es (splits (eq q) es)
 
   pub place_or_end-here : (q : K) (xs : List (K × V)) (e : K × V) (ys : List (K × V)) → eq q e.0 ≡ true
-      → NonePasses (eq q) xs
-      → place_or_end eq (xs ++ e ∷ ys) q ≡ length xs
+      → NonePasses (eq q) xs → place_or_end eq (xs ++ e ∷ ys) q ≡ length xs
   place_or_end-here q xs e ys t n = rw (place_of-here (eq q) e ys t xs n) refl
 
 module _ {K V : Type 0} (eq : K → K → Bool) (laws : IsEquivalence eq) where
   -- no entry before e, or after it, has a key that is equal to its own
   pub none_before : (xs : List (K × V)) (e : K × V) (ys : List (K × V)) (q : K) → IsEntries eq (xs ++ e ∷ ys)
-      → eq q e.0 ≡ true
-      → NonePasses (eq q) xs
+      → eq q e.0 ≡ true → NonePasses (eq q) xs
   none_before xs e ys q d t =
       each-left _ xs ys (none_equal eq laws e.0 q (xs ++ ys) (laws.symm e.0 q ∙ t)
       (none_others eq laws xs e ys d))
 
   -- the place of the key of the entry at i is i
   pub place_of_its_key : (es : List (K × V)) (i : ℕ) (e : K × V) (q : K) → IsEntries eq es
-      → slice_get es i ≡ Some e
-      → eq q e.0 ≡ true
-      → place_of (eq q) es ≡ Some i
+      → slice_get es i ≡ Some e → eq q e.0 ≡ true → place_of (eq q) es ≡ Some i
   place_of_its_key es i e q d at t =
       let s = split_at es i e at in
       let there = subst (IsEntries eq) s.2 d in
       rw (s.2) (place_of-here (eq q) e s.1 t s.0 (none_before s.0 e s.1 q there t) ∙ ap Some s.3)
 
   pub lookup_entry_at : (es : List (K × V)) (i : ℕ) (e : K × V) (q : K) → IsEntries eq es
-      → slice_get es i ≡ Some e
-      → eq q e.0 ≡ true
-      → lookup_entry (eq q) es ≡ Some e
+      → slice_get es i ≡ Some e → eq q e.0 ≡ true → lookup_entry (eq q) es ≡ Some e
   lookup_entry_at es i e q d at t =
       let s = split_at es i e at in
       rw (s.2) (lookup_entry-here (eq q) e s.1 t s.0 (none_before s.0 e s.1 q (subst (IsEntries eq) s.2 d) t))
 
   -- the key object that the list holds for the key of the entry at i is its own
   pub stored_key_at : (es : List (K × V)) (i : ℕ) (e : K × V) (q : K) → IsEntries eq es
-      → slice_get es i ≡ Some e
-      → eq q e.0 ≡ true
-      → stored_key eq es q ≡ e.0
+      → slice_get es i ≡ Some e → eq q e.0 ≡ true → stored_key eq es q ≡ e.0
   stored_key_at es i e q d at t = rw (lookup_key_is (eq q) es, lookup_entry_at es i e q d at t) refl

@@ -29,12 +29,10 @@ module _ {K V : Type 0} (eq : K → K → Bool) (laws : IsEquivalence eq) where
 
   -- a key has a place exactly where a look-up finds it
   vacant_by : (k : K) (es : List (K × V)) → NonePasses (eq k) es ⊎ Stands (eq k) es
-      → place_of (eq k) es ≡ None
-      → lookup (eq k) es ≡ None
+      → place_of (eq k) es ≡ None → lookup (eq k) es ≡ None
   vacant_by k es (inl n) p = lookup-none (eq k) es n
   vacant_by k es (inr s) p =
-      absurd
-      (none-some (length s.0)
+      absurd (none-some (length s.0)
       (sym p ∙ (ap (place_of (eq k)) s.3.is ∙ place_of-here (eq k) s.1 s.2 s.3.passes s.0 s.3.before)))
 
   pub vacant : (k : K) (es : List (K × V)) → place_of (eq k) es ≡ None → lookup (eq k) es ≡ None
@@ -46,8 +44,7 @@ module _ {K V : Type 0} (eq : K → K → Bool) (laws : IsEquivalence eq) where
       absent_by : NonePasses (eq k) es ⊎ Stands (eq k) es → place_of (eq k) es ≡ None
       absent_by (inl n) = place_of-none (eq k) es n
       absent_by (inr s) =
-          absurd
-          (none-some s.1.1
+          absurd (none-some s.1.1
           (sym l ∙ (ap (lookup (eq k)) s.3.is ∙ lookup-here (eq k) s.1 s.2 s.3.passes s.0 s.3.before)))
 
   -- a refused insert of a cursor leaves the entries and the cursor

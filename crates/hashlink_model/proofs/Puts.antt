@@ -54,13 +54,11 @@ module _ {K V : Type 0} (eq : K → K → Bool) where
         remove_entry-here (eq k) s.1 s.2 s.3.passes s.0 s.3.before,
         place_of-here (eq k) s.1 s.2 s.3.passes
             s.0 s.3.before,
-      )
-      (last s.0 s.1 s.2)
+      ) (last s.0 s.1 s.2)
     where
       last : (xs : List (K × V)) (e : K × V) (ys : List (K × V))
           → cond (nat_lt (length xs) (length (xs ++ e ∷ ys))) (length (xs ++ e ∷ ys) - 1)
-          (length (xs ++ e ∷ ys))
-          ≡ length (xs ++ ys)
+          (length (xs ++ e ∷ ys)) ≡ length (xs ++ ys)
       last xs e ys =
           let a = length-append xs (e ∷ ys) in
           let b = length-append xs ys in
@@ -95,8 +93,7 @@ module _ {K V : Type 0} (eq : K → K → Bool) where
         set_value-here (eq k) s.1 s.2 s.3.passes v s.0
             s.3.before,
         same_place at,
-      )
-      (rw (take_at s.0 s.2 (length s.0) refl, drop_at s.0 s.2 (length s.0) refl) refl)
+      ) (rw (take_at s.0 s.2 (length s.0) refl, drop_at s.0 s.2 (length s.0) refl) refl)
     where
       same_place : (b ≡ j) ⊎ (b ≡ j + 1) → cond (nat_lt (length s.0) b) (b - 1) b ≡ length s.0
       same_place (inl e) = let le : b ≤ length s.0 = omega arith in rw (le-ltb _ _ le) (omega arith)
@@ -117,8 +114,7 @@ module _ {K V : Type 0} (eq : K → K → Bool) where
   put_back_absent es k v n = put-absent es k v (length es) n ∙ insert_end es (k, v)
 
   pub put_back_here : (xs : List (K × V)) (e : K × V) (ys : List (K × V)) (k : K) (v : V) → eq k e.0 ≡ true
-      → NonePasses (eq k) xs
-      → put eq (xs ++ e ∷ ys) k v (length (xs ++ e ∷ ys)) ≡ (xs ++ ys) ++ (e.0, v) ∷ []
+      → NonePasses (eq k) xs → put eq (xs ++ e ∷ ys) k v (length (xs ++ e ∷ ys)) ≡ (xs ++ ys) ++ (e.0, v) ∷ []
   put_back_here xs e ys k v t n =
       put_back (xs ++ e ∷ ys) k v
       ∙ rw (remove_entry-here (eq k) e ys t xs n, lookup_key-here (eq k) e ys t xs n) refl
@@ -157,8 +153,7 @@ module _ {K V : Type 0} (eq : K → K → Bool) (laws : IsEquivalence eq) where
   IsEntries-put es k v b d =
       let j = place_without eq es k b in
       IsEntries-insert eq laws (take j (without eq es k)) (stored_key eq es k, v) (drop j (without eq es k))
-      (none_stored es k j d)
-      (rw (take-append-drop j (without eq es k)) (IsEntries-without es k d))
+      (none_stored es k j d) (rw (take-append-drop j (without eq es k)) (IsEntries-without es k d))
 
   -- ---- what a look-up finds afterwards
 
@@ -168,15 +163,11 @@ module _ {K V : Type 0} (eq : K → K → Bool) (laws : IsEquivalence eq) where
   lookup_entry-put q es k v b d =
       let j = place_without eq es k b in
       lookup_entry-middle eq laws q (stored_key eq es k, v) (drop j (without eq es k))
-      (take j (without eq es k))
-      (none_stored es k j d)
-      ∙ rw (
+      (take j (without eq es k)) (none_stored es k j d) ∙ rw (
         take-append-drop j (without eq es k),
         lookup_entry-without eq laws q k es d,
-        ← laws.congr k
-            (stored_key eq es k) q (stored_key-equal eq laws k es),
-      )
-      (cond-same_test (eq k q) _ _ _)
+        ← laws.congr k (stored_key eq es k) q (stored_key-equal eq laws k es),
+      ) (cond-same_test (eq k q) _ _ _)
 
 -- ---- a value that is changed leaves every place
 
@@ -198,8 +189,7 @@ module _ {K V : Type 0} (test : K → Bool) where
 
 module _ {K V : Type 0} (eq : K → K → Bool) (laws : IsEquivalence eq) where
   others_by : (q : K) (e : K × V) (es : List (K × V)) (k : K) (v : V) (b : Bool)
-      → eq k e.0 ≡ b → eq k q ≡ false
-      → lookup_entry (eq q) (set_value (eq k) es v) ≡ lookup_entry (eq q) es
+      → eq k e.0 ≡ b → eq k q ≡ false → lookup_entry (eq q) (set_value (eq k) es v) ≡ lookup_entry (eq q) es
       → lookup_entry (eq q) (cond b ((e.0, v) ∷ es) (e ∷ set_value (eq k) es v))
       ≡ lookup_entry (eq q) (e ∷ es)
   others_by q e es k v true p t h =

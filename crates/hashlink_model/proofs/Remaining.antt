@@ -15,8 +15,7 @@ use Rattle.hashlink_model.proofs.Places.{none_before}
 
 -- an end that is not empty has the last one
 pub last_stays : {X : Type 0} (xs : List X) (x : X) (front back : List X) → xs ++ x ∷ [] ≡ front ++ back
-    → 1 ≤ length back
-    → (zs : List X) × (back ≡ zs ++ x ∷ [])
+    → 1 ≤ length back → (zs : List X) × (back ≡ zs ++ x ∷ [])
 last_stays xs x [] back i l = (xs, sym i)
 last_stays [] x (f ∷ front) back i l = let n = ap length i in let m =
     length-append front back in absurd (omega arith)
@@ -25,8 +24,7 @@ last_stays (y ∷ xs) x (f ∷ front) back i l = last_stays xs x front back (ap 
 module _ {K V : Type 0} (eq : K → K → Bool) (laws : IsEquivalence eq) where
   -- what is found in an end is what is found in the whole
   pub found_in_end : (q : K) (e : K × V) (front back : List (K × V)) → IsEntries eq (front ++ back)
-      → lookup_entry (eq q) back ≡ Some e
-      → lookup_entry (eq q) (front ++ back) ≡ Some e
+      → lookup_entry (eq q) back ≡ Some e → lookup_entry (eq q) (front ++ back) ≡ Some e
   found_in_end q e [] back d l = l
   found_in_end q e (x ∷ front) back d l =
       by (eq q x.0) refl (found_in_end q e front back (IsEntries-tail eq x (front ++ back) d) l)

@@ -67,8 +67,7 @@ module _ {K V : Type 0} (eq : K → K → Bool) (laws : IsEquivalence eq) where
       (none_in_order q es kept n.1)
 
   distinct_by : (e : K × V) (o : Option (K × V)) (zs : List (K × V))
-      → ((f : K × V) → o ≡ Some f → eq e.0 f.0 ≡ true)
-      → NonePasses (eq e.0) zs → IsEntries eq zs
+      → ((f : K × V) → o ≡ Some f → eq e.0 f.0 ≡ true) → NonePasses (eq e.0) zs → IsEntries eq zs
       → IsEntries eq (cons_option o zs)
   distinct_by e None zs t n d = d
   distinct_by e (Some f) zs t n d = IsEntries-cons eq f zs (none_equal eq laws e.0 f.0 zs (t f refl) n) d
@@ -82,16 +81,13 @@ module _ {K V : Type 0} (eq : K → K → Bool) (laws : IsEquivalence eq) where
       (IsEntries-in_order_of es kept (IsEntries-tail eq e es d))
 
   pub IsEntries-keeps : {F : Type 0} (T : F → K → V → Bool → V → F → Type 0) (f : F)
-      (es new : List (K × V)) (h : F)
-      → IsEntries eq es → KeepsInSomeOrder T eq f es new h
-      → IsEntries eq new
+      (es new : List (K × V)) (h : F) → IsEntries eq es → KeepsInSomeOrder T eq f es new h → IsEntries eq new
   IsEntries-keeps T f es new h d r = rw (r.entries) (IsEntries-in_order_of es r.kept d)
 
   -- ---- a predicate
 
   at_by : (p : K × V → Bool) (us : List (K × V)) (e : K × V) (vs : List (K × V)) (b : Bool)
-      → NonePasses (eq e.0) us
-      → NonePasses (eq e.0) vs
+      → NonePasses (eq e.0) us → NonePasses (eq e.0) vs
       → lookup_entry (eq e.0) (filter p us ++ cond b (e ∷ filter p vs) (filter p vs)) ≡ cond b (Some e) None
   at_by p us e vs true n m =
       lookup_entry-here (eq e.0) e (filter p vs) (laws.refl e.0) (filter p us) (none_filtered (eq e.0) p us n)
@@ -121,8 +117,7 @@ module _ {K V : Type 0} (eq : K → K → Bool) (laws : IsEquivalence eq) where
       one false = refl
 
   pub in_order_of-filter : (p : K × V → Bool) (es order : List (K × V)) → IsEntries eq es
-      → IsPermutation es order
-      → in_order_of eq es (filter p order) ≡ filter p es
+      → IsPermutation es order → in_order_of eq es (filter p order) ≡ filter p es
   in_order_of-filter p es order d m =
       let e = IsDistinct-IsPermutation eq laws.symm (keys_of es) (keys_of order)
       (IsPermutation-map (λ x. x.0) es order m) d in
@@ -151,8 +146,7 @@ module _ {F K V : Type 0} (T : F → K → V → Bool → V → F → Type 0) wh
 
   -- no key comes in
   pub none_kept : (test : K → Bool) (f : F) (es new : List (K × V)) (g : F) → KeepsInOrder T f es new g
-      → NonePasses test es
-      → NonePasses test new
+      → NonePasses test es → NonePasses test new
   none_kept test f [] new g r n = rw r.0 tt
   none_kept test f (e ∷ es) new g r n = rw r.6 (by r.0 (none_kept test r.2 es r.3 g r.5 n.1))
     where
@@ -162,12 +156,10 @@ module _ {F K V : Type 0} (T : F → K → V → Bool → V → F → Type 0) wh
 
   module _ (eq : K → K → Bool) (laws : IsEquivalence eq) where
     pub IsEntries-keeps_in_order : (f : F) (es new : List (K × V)) (g : F) → IsEntries eq es
-        → KeepsInOrder T f es new g
-        → IsEntries eq new
+        → KeepsInOrder T f es new g → IsEntries eq new
     IsEntries-keeps_in_order f [] new g d r = rw r.0 d
     IsEntries-keeps_in_order f (e ∷ es) new g d r =
-        rw r.6
-        (by r.0 (IsEntries-keeps_in_order r.2 es r.3 g (IsEntries-tail eq e es d) r.5)
+        rw r.6 (by r.0 (IsEntries-keeps_in_order r.2 es r.3 g (IsEntries-tail eq e es d) r.5)
         (none_kept (eq e.0) r.2 es r.3 g r.5 (IsEntries-head eq e es d)))
       where
         by : (b : Bool) → IsEntries eq r.3 → NonePasses (eq e.0) r.3
@@ -184,15 +176,11 @@ module _ {F K V : Type 0} (T : F → K → V → Bool → V → F → Type 0) wh
         ap₂ cons_option (ap (λ b. cond b (Some x) (lookup_entry (eq e.0) kept)) a.0) (skip x es kept a.1)
 
     in_own_order_by : (e : K × V) (w : V) (b : Bool) (es rest : List (K × V)) → NonePasses (eq e.0) es
-        → NonePasses (eq e.0) rest
-        → in_order_of eq es rest ≡ rest
+        → NonePasses (eq e.0) rest → in_order_of eq es rest ≡ rest
         → in_order_of eq (e ∷ es) (cond b ((e.0, w) ∷ rest) rest) ≡ cond b ((e.0, w) ∷ rest) rest
     in_own_order_by e w true es rest n m h =
-        ap
-        (λ b. cons_option (cond b (Some (e.0, w)) (lookup_entry (eq e.0) rest))
-        (in_order_of eq es ((e.0, w) ∷ rest)))
-        (laws.refl e.0)
-        ∙ ap (λ r. (e.0, w) ∷ r)
+        ap (λ b. cons_option (cond b (Some (e.0, w)) (lookup_entry (eq e.0) rest))
+        (in_order_of eq es ((e.0, w) ∷ rest))) (laws.refl e.0) ∙ ap (λ r. (e.0, w) ∷ r)
         (skip (e.0, w) es rest (each-weaker _ _ (λ x a. laws.symm x.0 e.0 ∙ a) es n) ∙ h)
     in_own_order_by e w false es rest n m h =
         ap (λ o. cons_option o (in_order_of eq es rest)) (lookup_entry-none (eq e.0) rest m) ∙ h
@@ -207,8 +195,7 @@ module _ {F K V : Type 0} (T : F → K → V → Bool → V → F → Type 0) wh
         (in_own_order r.2 es r.3 g (IsEntries-tail eq e es d) r.5))
 
     pub keeps_from_in_order : (f : F) (es new : List (K × V)) (g : F) → IsEntries eq es
-        → KeepsInOrder T f es new g
-        → KeepsInSomeOrder T eq f es new g
+        → KeepsInOrder T f es new g → KeepsInSomeOrder T eq f es new g
     keeps_from_in_order f es new g d r =
         record {
           order = es;
@@ -228,8 +215,7 @@ module _ {F K V : Type 0} (T : F → K → V → Bool → V → F → Type 0) (S
   stays_in_order f (e ∷ es) kept g r s = stays_in_order r.2 es r.3 g r.5 (keeps f e.0 e.1 r.0 r.1 r.2 r.4 s)
 
   pub stays_in_some_order : (eq : K → K → Bool) (f : F) (es new : List (K × V)) (g : F)
-      → KeepsInSomeOrder T eq f es new g → Stays f
-      → Stays g
+      → KeepsInSomeOrder T eq f es new g → Stays f → Stays g
   stays_in_some_order eq f es new g r s = stays_in_order f r.order r.kept g r.called s
 
 -- where each call is determined, so is what is kept and how the closure ends

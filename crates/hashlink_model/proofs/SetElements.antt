@@ -60,8 +60,7 @@ module _ {T V : Type 0} (test : T → Bool) where
       by false h = h
 
   swap_key-here : (e : T × V) (ys : List (T × V)) (t : T) → test e.0 ≡ true → (xs : List (T × V))
-      → NonePasses test xs
-      → swap_key test (keys_of (xs ++ e ∷ ys)) t ≡ keys_of (xs ++ (t, e.1) ∷ ys)
+      → NonePasses test xs → swap_key test (keys_of (xs ++ e ∷ ys)) t ≡ keys_of (xs ++ (t, e.1) ∷ ys)
   swap_key-here e ys t p [] n = rw p refl
   swap_key-here e ys t p (x ∷ xs) n = rw n.0 (ap (λ r. x.0 ∷ r) (swap_key-here e ys t p xs n.1))
 
@@ -124,16 +123,14 @@ module _ {T S : Type 0} (eq : T → T → Bool) (old new : SetState T S) (t : T)
   )
     where
       by : (r : Option (T × Unit {0})) → MatchOption r (new ≡ old)
-          (λ _. Removes old new (without eq old.entries t))
-          → r ≡ lookup_entry (eq t) old.entries
+          (λ _. Removes old new (without eq old.entries t)) → r ≡ lookup_entry (eq t) old.entries
           → elements_of new ≡ remove_key (eq t) (elements_of old)
       by None u a = ap elements_of u ∙ sym (ap keys_of (without_none (sym a)))
           ∙ keys-remove_entry (eq t) old.entries
         where
           without_none : lookup_entry (eq t) old.entries ≡ None → without eq old.entries t ≡ old.entries
           without_none l =
-              remove_entry-none (eq t) old.entries
-              (none_from_lookup (eq t) old.entries
+              remove_entry-none (eq t) old.entries (none_from_lookup (eq t) old.entries
               (lookup_is (eq t) old.entries ∙ ap (option_map (λ e. e.1)) l))
       by (Some e) u a = ap keys_of u.entries ∙ keys-remove_entry (eq t) old.entries
 
@@ -219,23 +216,20 @@ module _ {T : Type 0} (eq : T → T → Bool) where
 
     -- an element that stands at j, or is put directly behind itself
     place_in_pairs : (ts : List T) (j : ℕ) (x t : T) → IsDistinct eq ts → slice_get ts j
-        ≡ Some x → eq t x ≡ true
-        → place_of (eq t) (pairs_of ts) ≡ Some j
+        ≡ Some x → eq t x ≡ true → place_of (eq t) (pairs_of ts) ≡ Some j
     place_in_pairs ts j x t d at e =
         place_of_its_key eq laws (pairs_of ts) j (x, tt) t (entries_of_pairs ts d)
         (slice_get-map (λ u. (u, tt)) ts j ∙ ap (option_map (λ u. (u, tt))) at) e
 
     -- put where it stands, or directly behind itself, it changes nothing
     pub put_element_there : (ts : List T) (j : ℕ) (x t : T) → IsDistinct eq ts → slice_get ts j ≡ Some x
-        → eq t x ≡ true
-        → put_element eq ts t j ≡ ts
+        → eq t x ≡ true → put_element eq ts t j ≡ ts
     put_element_there ts j x t d at e =
         ap keys_of (put_at_its_place eq (pairs_of ts) t tt j (place_in_pairs ts j x t d at e))
         ∙ keys-set_value (eq t) (pairs_of ts) tt ∙ keys_of-pairs_of ts
 
     pub put_element_behind : (ts : List T) (j : ℕ) (x t : T) → IsDistinct eq ts → slice_get ts j ≡ Some x
-        → eq t x ≡ true
-        → put_element eq ts t (j + 1) ≡ ts
+        → eq t x ≡ true → put_element eq ts t (j + 1) ≡ ts
     put_element_behind ts j x t d at e =
         ap keys_of (put_after_its_place eq (pairs_of ts) t tt j (place_in_pairs ts j x t d at e))
         ∙ keys-set_value (eq t) (pairs_of ts) tt ∙ keys_of-pairs_of ts
@@ -298,22 +292,16 @@ module _ {T : Type 0} (eq : T → T → Bool) where
 module _ {F T : Type 0} (U : F → T → Bool → F → Type 0) (p : T → Bool)
     (says : (g : F) (t : T) (b : Bool) (h : F) → U g t b h → b ≡ p t) where
   pub retained_in_order : (f : F) (es new : List (T × Unit {0})) (g : F)
-      → KeepsInOrder (at_element U) f es new g
-      → keys_of new ≡ filter p (keys_of es)
+      → KeepsInOrder (at_element U) f es new g → keys_of new ≡ filter p (keys_of es)
   retained_in_order f es new g r =
-      ap keys_of
-      (keeps_in_order_is_filter (at_element U) (λ e. p e.0)
+      ap keys_of (keeps_in_order_is_filter (at_element U) (λ e. p e.0)
       (λ g t v b w h u. (says g t b h u, refl)) f es new g
-      r)
-      ∙ keys-filter p p es
+      r) ∙ keys-filter p p es
 
   pub retained_in_some_order : (eq : T → T → Bool) → IsEquivalence eq
-      → (f : F) (es new : List (T × Unit {0})) (g : F)
-      → IsEntries eq es
+      → (f : F) (es new : List (T × Unit {0})) (g : F) → IsEntries eq es
       → KeepsInSomeOrder (at_element U) eq f es new g → keys_of new ≡ filter p (keys_of es)
   retained_in_some_order eq laws f es new g d r =
-      ap keys_of
-      (keeps_is_filter eq laws (at_element U) (λ e. p e.0)
+      ap keys_of (keeps_is_filter eq laws (at_element U) (λ e. p e.0)
       (λ g t v b w h u. (says g t b h u, refl)) f es new g d
-      r)
-      ∙ keys-filter p p es
+      r) ∙ keys-filter p p es

@@ -40,8 +40,7 @@ module _ {T : Type 0} (eq : T → T → Bool) where
       length-keys_of (put eq (pairs_of ts) t tt b) ∙ by (lookup (eq t) (pairs_of ts)) refl
       ∙ ap (λ c. cond c (length ts) (length ts + 1)) (is_some-lookup_pairs ts t)
     where
-      by : (o : Option (Unit {0})) → lookup (eq t) (pairs_of ts) ≡ o
-          → length (put eq (pairs_of ts) t tt b)
+      by : (o : Option (Unit {0})) → lookup (eq t) (pairs_of ts) ≡ o → length (put eq (pairs_of ts) t tt b)
           ≡ cond (is_some (lookup (eq t) (pairs_of ts))) (length ts) (length ts + 1)
       by None l = length-put_absent eq (pairs_of ts) t tt b l ∙ ap (λ n. n + 1) (length_pairs_of ts)
           ∙ rw l refl
@@ -135,8 +134,7 @@ module _ {T : Type 0} (eq : T → T → Bool) (laws : IsEquivalence eq) where
             ∙ ap (λ zs. is_member eq (keys_of zs) q)
             (remove_entry-here (eq k) s.1 s.2 s.3.passes s.0 s.3.before)
             ∙ ap (λ b. b || is_member eq (keys_of (s.0 ++ s.2)) q) (sym apart)
-            ∙ sym (member_middle s.0 s.1 s.2)
-            ∙ ap (λ zs. is_member eq (keys_of zs) q) (sym s.3.is)
+            ∙ sym (member_middle s.0 s.1 s.2) ∙ ap (λ zs. is_member eq (keys_of zs) q) (sym s.3.is)
 
     pub is_member-put : (es : List (T × V)) (k : T) (v : V) (b : ℕ)
         → is_member eq (keys_of (put eq es k v b)) q ≡ (eq k q || is_member eq (keys_of es) q)
@@ -144,8 +142,7 @@ module _ {T : Type 0} (eq : T → T → Bool) (laws : IsEquivalence eq) where
         let j = place_without eq es k b in
         let zs = without eq es k in
         let k0 = stored_key eq es k in
-        member_middle (take j zs) (k0, v) (drop j zs)
-        ∙ ap₂ (λ c ys. c || is_member eq (keys_of ys) q)
+        member_middle (take j zs) (k0, v) (drop j zs) ∙ ap₂ (λ c ys. c || is_member eq (keys_of ys) q)
         (laws.symm q k0 ∙ sym (laws.congr k k0 q (stored_key-equal eq laws k es))) (take-append-drop j zs)
         ∙ by (eq k q) refl
       where
@@ -209,8 +206,7 @@ module _ {T : Type 0} (eq : T → T → Bool) (laws : IsEquivalence eq) where
       by false h = (a.0, h)
 
   unequal_by : (t x : T) (ts : List T) (b : Bool) → eq t x ≡ b → IsDistinct eq (x ∷ ts)
-      → IsDistinct eq (swap_key (eq t) ts t)
-      → IsDistinct eq (cond b (t ∷ ts) (x ∷ swap_key (eq t) ts t))
+      → IsDistinct eq (swap_key (eq t) ts t) → IsDistinct eq (cond b (t ∷ ts) (x ∷ swap_key (eq t) ts t))
   unfolding IsDistinct
   unequal_by t x ts true e d h = (each-weaker _ _ (λ y n. laws.congr t x y e ∙ n) ts d.0, d.1)
   unequal_by t x ts false e d h = (each_swap_key _ (eq t) t ts (laws.symm x t ∙ e) d.0, h)
@@ -253,12 +249,9 @@ module _ {T : Type 0} (eq : T → T → Bool) (laws : IsEquivalence eq) where
       by false h = h
 
   pub replaced-at : (ts : List T) (t x : T) (j : ℕ) → IsDistinct eq ts → slice_get ts j
-      ≡ Some x → eq t x ≡ true
-      → replaced eq ts t ≡ slice_set ts j t
+      ≡ Some x → eq t x ≡ true → replaced eq ts t ≡ slice_set ts j t
   replaced-at ts t x j d at e =
       let s = split_at ts j x at in
-      ap (λ zs. replaced eq zs t) s.2
-      ∙ replaced-there eq (s.0 ++ x ∷ s.1) t (member_here t x s.0 s.1 e)
-      ∙ swapped_here t x s.0 s.1 (subst (IsDistinct eq) s.2 d) e
-      ∙ sym (set_at s.0 x s.1 t (length s.0) refl)
+      ap (λ zs. replaced eq zs t) s.2 ∙ replaced-there eq (s.0 ++ x ∷ s.1) t (member_here t x s.0 s.1 e)
+      ∙ swapped_here t x s.0 s.1 (subst (IsDistinct eq) s.2 d) e ∙ sym (set_at s.0 x s.1 t (length s.0) refl)
       ∙ ap₂ (λ zs i. slice_set zs i t) (sym s.2) s.3

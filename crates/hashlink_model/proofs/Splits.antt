@@ -27,8 +27,7 @@ module _ {K V : Type 0} (test : K → Bool) where
     record {
       is = ap (λ r. x ∷ r) s.3.is;
       passes = s.3.passes;
-      before =
-          (f, s.3.before);
+      before = (f, s.3.before);
     },
   )
 

@@ -53,13 +53,11 @@ module _ {X : Type 0} where
       cons_append (first_of xs) (given_front ss (after_first_of xs)) _
       ∙ ap (cons_option (first_of xs)) (walk_splits ss (after_first_of xs)) ∙ first_splits xs
   walk_splits (Back ∷ ss) xs =
-      ap (λ r. given_front ss (before_last_of xs) ++ r)
-      (sym
+      ap (λ r. given_front ss (before_last_of xs) ++ r) (sym
       (append_assoc (walk_leaves ss (before_last_of xs)) (given_back ss (before_last_of xs))
       (option_to_list (last_of xs))))
       ∙ sym (append_assoc (given_front ss (before_last_of xs)) _ (option_to_list (last_of xs)))
-      ∙ ap (λ r. r ++ option_to_list (last_of xs)) (walk_splits ss (before_last_of xs))
-      ∙ last_splits xs
+      ∙ ap (λ r. r ++ option_to_list (last_of xs)) (walk_splits ss (before_last_of xs)) ∙ last_splits xs
 
   length_step : (s : End) (xs : List X) → length (step_leaves s xs) ≡ length xs - 1
   length_step Front xs = length-drop 1 xs

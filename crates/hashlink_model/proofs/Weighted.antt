@@ -74,9 +74,7 @@ module _ {K V : Type 0} where
 
 module _ {K V : Type 0} (eq : K → K → Bool) where
   pub IsEntries-weighted_put : IsEquivalence eq → (es : List (K × (V × ℕ))) (budget : ℕ)
-      (k : K) (v : V) (weight : ℕ)
-      → IsEntries eq es
-      → IsEntries eq (weighted_put eq es budget k v weight)
+      (k : K) (v : V) (weight : ℕ) → IsEntries eq es → IsEntries eq (weighted_put eq es budget k v weight)
   IsEntries-weighted_put laws es budget k v weight d =
       IsEntries-fitting eq (put eq es k (v, weight) (length es)) budget
       (IsEntries-put eq laws es k (v, weight) (length es) d)
@@ -87,8 +85,7 @@ module _ {K V : Type 0} (eq : K → K → Bool) where
 
   -- a pair that is not too heavy stays
   pub length-weighted_put : (es : List (K × (V × ℕ))) (budget : ℕ) (k : K) (v : V) (weight : ℕ)
-      → weight ≤ budget
-      → 1 ≤ length (weighted_put eq es budget k v weight)
+      → weight ≤ budget → 1 ≤ length (weighted_put eq es budget k v weight)
   length-weighted_put es budget k v weight l =
       let last = (stored_key eq es k, (v, weight)) ∷ [] in
       let fits : total_weight last ≤ budget = omega arith in
@@ -107,10 +104,8 @@ module _ {K V : Type 0} (eq : K → K → Bool) (laws : IsEquivalence eq) where
       (length-weighted_put eq es budget k v weight l) t
 
   pub lookup_entry-weighted_put : (q : K) (es : List (K × (V × ℕ))) (budget : ℕ) (k : K) (v : V) (weight : ℕ)
-      (e : K × (V × ℕ))
-      → IsEntries eq es → eq k q ≡ false
-      → lookup_entry (eq q) (weighted_put eq es budget k v weight) ≡ Some e
-      → lookup_entry (eq q) es ≡ Some e
+      (e : K × (V × ℕ)) → IsEntries eq es → eq k q ≡ false
+      → lookup_entry (eq q) (weighted_put eq es budget k v weight) ≡ Some e → lookup_entry (eq q) es ≡ Some e
   lookup_entry-weighted_put q es budget k v weight e d t l =
       let s = fitting-end (put eq es k (v, weight) (length es)) budget in
       lookup_entry-put_remaining eq laws q es k (v, weight) s.0

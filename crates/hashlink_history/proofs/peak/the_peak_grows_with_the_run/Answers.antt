@@ -2,7 +2,4 @@ use Rattle.hashlink_history.proofs.Peaks.{peak-length, peak-shrink}
 use Rattle.hashlink_history.proofs.peak.the_peak_grows_with_the_run.Goals as goal
 
 pub returns : goal.returns
-returns c = record {
-  length = peak-length;
-  shrink = peak-shrink;
-}
+returns c = record { length = peak-length; shrink = peak-shrink }

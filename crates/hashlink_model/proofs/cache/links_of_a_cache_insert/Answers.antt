@@ -1,7 +1,6 @@
-use Rattle.hashlink_model.proofs.CacheBounds.{links-cache_insert_new, links-cache_insert_there}
+use Rattle.hashlink_model.proofs.CacheBounds.{links-cache_insert_new, links-cache_insert_there, links-sets}
 use Rattle.hashlink_model.proofs.CacheBounds.{links-cache_insert_new_one, links-cache_insert_there_one}
 use Rattle.hashlink_model.proofs.CacheBounds.{links-cache_insert_within, links-insert_new, links-insert_there}
-use Rattle.hashlink_model.proofs.CacheBounds.{links-sets}
 use Rattle.hashlink_model.proofs.cache.links_of_a_cache_insert.Goals as goal
 
 pub returns : goal.returns

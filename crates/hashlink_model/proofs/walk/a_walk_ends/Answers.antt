@@ -2,8 +2,4 @@ use Rattle.hashlink_model.proofs.Walks.{length-walk_leaves, empty_gives, empty_l
 use Rattle.hashlink_model.proofs.walk.a_walk_ends.Goals as goal
 
 pub returns : goal.returns
-returns g c = record {
-  hint = length-walk_leaves;
-  gives_none = empty_gives;
-  for_good = empty_leaves;
-}
+returns g c = record { hint = length-walk_leaves; gives_none = empty_gives; for_good = empty_leaves }
