@@ -1,5 +1,5 @@
 -- The elements of a set after the map's steps.
-use Rattle.std.proofs.Common.{◌≡◌, ℕ, ◌+◌, Bool, true, false, not, ◌&&◌, cond, List, [], ◌∷◌, ◌++◌, length}
+use Rattle.std.proofs.Common.{◌≡◌, ℕ, ◌+◌, Bool, true, false, not, cond, List, [], ◌∷◌, ◌++◌, length}
 use Rattle.std.proofs.Common.{filter, slice_get, is_some, Option, None, Some, Ok, Err, MatchOption}
 use Rattle.std.proofs.Common.{option_map, unwrap_or, refl, sym, ap, ap₂, ◌∙◌, subst}
 use Rattle.std.specs.Cmp.{IsEquivalence}
@@ -32,17 +32,12 @@ use Rattle.hashlink_model.proofs.SetViews.{keys_of-pairs_of, pairs_of-keys_of, k
 use Rattle.hashlink_model.proofs.Retains.{keeps_is_filter, keeps_in_order_is_filter}
 use Rattle.hashlink_model.proofs.Extends.{extended-own}
 use Rattle.hashlink_model.proofs.Clones.{clone_is_equal}
+use Rattle.std.proofs.Common.{arith}
 
 module _ {T V : Type 0} (test : T → Bool) where
   pub keys-remove_entry : (es : List (T × V)) → keys_of (remove_entry test es) ≡ remove_key test (keys_of es)
   keys-remove_entry [] = refl
-  keys-remove_entry (e ∷ es) = by (test e.0) (keys-remove_entry es)
-    where
-      by : (b : Bool) → keys_of (remove_entry test es) ≡ remove_key test (keys_of es)
-          → keys_of (cond b es (e ∷ remove_entry test es))
-          ≡ cond b (keys_of es) (e.0 ∷ remove_key test (keys_of es))
-      by true h = refl
-      by false h = ap (λ r. e.0 ∷ r) h
+  keys-remove_entry (e ∷ es) = grind (arith, keys-remove_entry es)
 
   pub find-keys : (es : List (T × V)) → lookup_key test es ≡ find test (keys_of es)
   find-keys [] = refl
@@ -51,13 +46,7 @@ module _ {T V : Type 0} (test : T → Bool) where
   pub keys-filter : (p : T → Bool) (es : List (T × V)) → keys_of (filter (λ e. p e.0) es)
       ≡ filter p (keys_of es)
   keys-filter p [] = refl
-  keys-filter p (e ∷ es) = by (p e.0) (keys-filter p es)
-    where
-      by : (b : Bool) → keys_of (filter (λ e. p e.0) es) ≡ filter p (keys_of es)
-          → keys_of (cond b (e ∷ filter (λ e. p e.0) es) (filter (λ e. p e.0) es))
-          ≡ cond b (e.0 ∷ filter p (keys_of es)) (filter p (keys_of es))
-      by true h = ap (λ r. e.0 ∷ r) h
-      by false h = h
+  keys-filter p (e ∷ es) = grind (arith, keys-filter p es)
 
   swap_key-here : (e : T × V) (ys : List (T × V)) (t : T) → test e.0 ≡ true → (xs : List (T × V))
       → NonePasses test xs → swap_key test (keys_of (xs ++ e ∷ ys)) t ≡ keys_of (xs ++ (t, e.1) ∷ ys)
@@ -72,10 +61,6 @@ module _ {T V : Type 0} (test : T → Bool) where
       ap₂ (λ zs i. keys_of (set_key_at zs i t)) s.3.is (sym s.4) ∙ ap keys_of (set_key_at-here s.0 s.1 s.2 t)
       ∙ sym (swap_key-here s.1 s.2 t s.3.passes s.0 s.3.before)
       ∙ ap (λ zs. swap_key test (keys_of zs) t) (sym s.3.is)
-
-turned : (b : Bool) → b ≡ not (is_some {T = Unit {0}} (cond b None (Some tt)))
-turned true = refl
-turned false = refl
 
 module _ {T S : Type 0} (eq : T → T → Bool) (old new : SetState T S) (t : T) where
   member_none : lookup (eq t) old.entries ≡ None → is_member eq (elements_of old) t ≡ false
@@ -145,7 +130,7 @@ module _ {T S : Type 0} (eq : T → T → Bool) (old new : SetState T S) (t : T)
   set_inserts b s = (
     inserts_elements (length old.entries) (cond b None (Some tt)) s
         ∙ ap (put_element eq (elements_of old) t) length_elements,
-    turned b ∙ ap not (inserts_member (length old.entries) (cond b None (Some tt)) s),
+    grind (arith, inserts_member (length old.entries) (cond b None (Some tt)) s),
   )
 
   pub set_replaces : (o : Option T) → SetReplaces eq old new t (Ok o)
@@ -266,11 +251,7 @@ module _ {T : Type 0} (eq : T → T → Bool) where
     equal_elements [] [] = refl
     equal_elements [] (y ∷ ys) = refl
     equal_elements (x ∷ xs) [] = refl
-    equal_elements (x ∷ xs) (y ∷ ys) = ap₂ ◌&&◌ (by (eq x y)) (equal_elements xs ys)
-      where
-        by : (b : Bool) → b ≡ (b && true)
-        by true = refl
-        by false = refl
+    equal_elements (x ∷ xs) (y ∷ ys) = grind (arith, equal_elements xs ys)
 
     cloned_pairs : (xs ys : List T) → AllZip (λ x y. eq x y ≡ true) xs ys
         → AllZip (λ (p q : T × Unit {0}). (eq p.0 q.0 ≡ true) × (true ≡ true)) (pairs_of xs) (pairs_of ys)

@@ -1,6 +1,6 @@
 -- What stands after the steps of a set.
 use Rattle.std.proofs.Common.{◌≡◌, ℕ, zero, suc, ◌+◌, Bool, true, false, cond, ◌||◌, List, [], ◌∷◌, ◌++◌}
-use Rattle.std.proofs.Common.{length, take, drop, slice_get, slice_set, is_some, Option, None, Some, refl}
+use Rattle.std.proofs.Common.{length, take, drop, slice_get, slice_set, is_some, Some, refl}
 use Rattle.std.proofs.Common.{sym, ap, ap₂, ◌∙◌, ◌⊎◌, inl, inr, subst}
 use Rattle.std.specs.Cmp.{IsEquivalence}
 use Rattle.std.specs.List.{IsDistinct, AllByRecursion}
@@ -22,6 +22,7 @@ use Rattle.hashlink_model.proofs.Places.{split_at}
 use Rattle.hashlink_model.proofs.Members.{is_member-equal, is_member-append, none_from_is_member}
 use Rattle.hashlink_model.proofs.Members.{IsDistinct-append}
 use Rattle.hashlink_model.proofs.SetViews.{keys_of-pairs_of}
+use Rattle.std.proofs.Common.{arith}
 
 module _ {T : Type 0} (eq : T → T → Bool) where
   -- ---- lengths
@@ -36,15 +37,8 @@ module _ {T : Type 0} (eq : T → T → Bool) where
 
   pub length-put_element : (ts : List T) (t : T) (b : ℕ)
       → length (put_element eq ts t b) ≡ cond (is_member eq ts t) (length ts) (length ts + 1)
-  length-put_element ts t b =
-      length-keys_of (put eq (pairs_of ts) t tt b) ∙ by (lookup (eq t) (pairs_of ts)) refl
-      ∙ ap (λ c. cond c (length ts) (length ts + 1)) (is_some-lookup_pairs ts t)
-    where
-      by : (o : Option (Unit {0})) → lookup (eq t) (pairs_of ts) ≡ o → length (put eq (pairs_of ts) t tt b)
-          ≡ cond (is_some (lookup (eq t) (pairs_of ts))) (length ts) (length ts + 1)
-      by None l = length-put_absent eq (pairs_of ts) t tt b l ∙ ap (λ n. n + 1) (length_pairs_of ts)
-          ∙ rw l refl
-      by (Some w) l = length-put_there eq (pairs_of ts) t tt b w l ∙ length_pairs_of ts ∙ rw l refl
+  length-put_element ts t b = grind (arith, length-keys_of (put eq (pairs_of ts) t tt b), length_pairs_of ts,
+      is_some-lookup_pairs ts t, length-put_absent eq (pairs_of ts) t tt b, length-put_there eq (pairs_of ts) t tt b)
 
   pub length-put_element_absent : (ts : List T) (t : T) (b : ℕ) → is_member eq ts t ≡ false
       → length (put_element eq ts t b) ≡ length ts + 1
@@ -63,12 +57,7 @@ module _ {T : Type 0} (eq : T → T → Bool) where
 
   length_swap_key : (test : T → Bool) (ts : List T) (t : T) → length (swap_key test ts t) ≡ length ts
   length_swap_key test [] t = refl
-  length_swap_key test (x ∷ ts) t = by (test x) (length_swap_key test ts t)
-    where
-      by : (b : Bool) → length (swap_key test ts t) ≡ length ts
-          → length (cond b (t ∷ ts) (x ∷ swap_key test ts t)) ≡ length (x ∷ ts)
-      by true h = refl
-      by false h = ap suc h
+  length_swap_key test (x ∷ ts) t = grind (arith, length_swap_key test ts t)
 
   pub length-replaced_absent : (ts : List T) (t : T) → is_member eq ts t ≡ false
       → length (replaced eq ts t) ≡ length ts + 1
@@ -84,12 +73,7 @@ module _ {T : Type 0} (eq : T → T → Bool) where
       → slice_get (swap_key (eq t) ts t) i ≡ Some x
   swapped_others t x f [] i e = absurd (none-some x e)
   swapped_others t x f (y ∷ ts) zero e = rw (ap (eq t) (same_Some y x e) ∙ f) e
-  swapped_others t x f (y ∷ ts) (suc i) e = by (eq t y) (swapped_others t x f ts i e)
-    where
-      by : (b : Bool) → slice_get (swap_key (eq t) ts t) i ≡ Some x
-          → slice_get (cond b (t ∷ ts) (y ∷ swap_key (eq t) ts t)) (suc i) ≡ Some x
-      by true h = e
-      by false h = h
+  swapped_others t x f (y ∷ ts) (suc i) e = grind (arith, swapped_others t x f ts i e)
 
   pushed_others : (t x : T) (ts : List T) (i : ℕ) → slice_get ts i ≡ Some x
       → slice_get (ts ++ t ∷ []) i ≡ Some x
@@ -99,16 +83,7 @@ module _ {T : Type 0} (eq : T → T → Bool) where
 
   pub replaced-others : (ts : List T) (t x : T) (i : ℕ) → slice_get ts i ≡ Some x → eq t x ≡ false
       → slice_get (replaced eq ts t) i ≡ Some x
-  replaced-others ts t x i e f = by (is_member eq ts t)
-    where
-      by : (b : Bool) → slice_get (cond b (swap_key (eq t) ts t) (ts ++ t ∷ [])) i ≡ Some x
-      by true = swapped_others t x f ts i e
-      by false = pushed_others t x ts i e
-
-or_turn : (a b c : Bool) → (a || (b || c)) ≡ (b || (a || c))
-or_turn true true c = refl
-or_turn true false c = refl
-or_turn false b c = refl
+  replaced-others ts t x i e f = grind (arith, swapped_others t x f ts i e, pushed_others t x ts i e)
 
 module _ {T : Type 0} (eq : T → T → Bool) (laws : IsEquivalence eq) where
   -- ---- members after an element was put
@@ -117,9 +92,7 @@ module _ {T : Type 0} (eq : T → T → Bool) (laws : IsEquivalence eq) where
     member_middle : (xs : List (T × V)) (e : T × V) (ys : List (T × V))
         → is_member eq (keys_of (xs ++ e ∷ ys)) q ≡ (eq q e.0 || is_member eq (keys_of (xs ++ ys)) q)
     member_middle [] e ys = refl
-    member_middle (x ∷ xs) e ys =
-        ap (λ b. eq q x.0 || b) (member_middle xs e ys)
-        ∙ or_turn (eq q x.0) (eq q e.0) (is_member eq (keys_of (xs ++ ys)) q)
+    member_middle (x ∷ xs) e ys = grind (arith, member_middle xs e ys)
 
     member_without : (es : List (T × V)) (k : T) → eq k q ≡ false
         → is_member eq (keys_of (without eq es k)) q ≡ is_member eq (keys_of es) q
@@ -164,34 +137,12 @@ module _ {T : Type 0} (eq : T → T → Bool) (laws : IsEquivalence eq) where
 
   member_swap_key : (t q : T) (ts : List T) → is_member eq (swap_key (eq t) ts t) q ≡ is_member eq ts q
   member_swap_key t q [] = refl
-  member_swap_key t q (x ∷ ts) = by (eq t x) refl (member_swap_key t q ts)
-    where
-      by : (b : Bool) → eq t x ≡ b → is_member eq (swap_key (eq t) ts t) q ≡ is_member eq ts q
-          → is_member eq (cond b (t ∷ ts) (x ∷ swap_key (eq t) ts t)) q ≡ (eq q x || is_member eq ts q)
-      by true e h = ap (λ c. c || is_member eq ts q) (laws.symm q t ∙ laws.congr t x q e ∙ laws.symm x q)
-      by false e h = ap (λ c. eq q x || c) h
+  member_swap_key t q (x ∷ ts) = grind (arith, member_swap_key t q ts, laws.symm q t, laws.symm x q, laws.congr t x q)
 
   pub is_member-replaced : (ts : List T) (t q : T) → is_member eq (replaced eq ts t) q
       ≡ (eq t q || is_member eq ts q)
-  is_member-replaced ts t q = by (is_member eq ts t) refl
-    where
-      there : (b : Bool) → eq t q ≡ b → is_member eq ts t ≡ true → is_member eq ts q
-          ≡ (b || is_member eq ts q)
-      there true e m = sym (is_member-equal eq laws ts t q e) ∙ m
-      there false e m = refl
-
-      last : (a b : Bool) → (a || (b || false)) ≡ (b || a)
-      last true true = refl
-      last true false = refl
-      last false true = refl
-      last false false = refl
-
-      by : (b : Bool) → is_member eq ts t ≡ b
-          → is_member eq (cond b (swap_key (eq t) ts t) (ts ++ t ∷ [])) q ≡ (eq t q || is_member eq ts q)
-      by true m = member_swap_key t q ts ∙ there (eq t q) refl m
-      by false m =
-          is_member-append eq laws ts (t ∷ []) q ∙ last (is_member eq ts q) (eq q t)
-          ∙ ap (λ c. c || is_member eq ts q) (laws.symm q t)
+  is_member-replaced ts t q = grind (arith, member_swap_key t q ts, is_member-append eq laws ts (t ∷ []) q,
+      laws.symm q t, is_member-equal eq laws ts t q)
 
   -- ---- replaced elements stay pairwise unequal
 
@@ -242,11 +193,7 @@ module _ {T : Type 0} (eq : T → T → Bool) (laws : IsEquivalence eq) where
 
   member_here : (t x : T) (us vs : List T) → eq t x ≡ true → is_member eq (us ++ x ∷ vs) t ≡ true
   member_here t x [] vs e = rw e refl
-  member_here t x (u ∷ us) vs e = by (eq t u) (member_here t x us vs e)
-    where
-      by : (b : Bool) → is_member eq (us ++ x ∷ vs) t ≡ true → (b || is_member eq (us ++ x ∷ vs) t) ≡ true
-      by true h = refl
-      by false h = h
+  member_here t x (u ∷ us) vs e = grind (arith, member_here t x us vs e)
 
   pub replaced-at : (ts : List T) (t x : T) (j : ℕ) → IsDistinct eq ts → slice_get ts j
       ≡ Some x → eq t x ≡ true → replaced eq ts t ≡ slice_set ts j t
