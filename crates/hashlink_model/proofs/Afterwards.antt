@@ -2,7 +2,7 @@
 use Rattle.std.proofs.Common.{ap₂, ◌⊎◌, inl, inr, ◌≡◌, ℕ, ◌+◌, Bool, true, false, cond, List, [], ◌∷◌, ◌++◌}
 use Rattle.std.proofs.Common.{length, Option, None, Some, refl, sym, ap, ◌∙◌, arith, take, drop}
 use Rattle.std.specs.Prelude.{unwrap_or}
-use Rattle.std.specs.Option.{option_map, option_map_or}
+use Rattle.std.specs.Option.{option_map_or}
 use Rattle.std.specs.Cmp.{IsEquivalence}
 use Rattle.std.specs.Map.{lookup, lookup_entry, lookup_key}
 use Rattle.std.proofs.lemmas.Map.{NonePasses}
@@ -10,10 +10,10 @@ use Rattle.std.proofs.lemmas.List.{take-append-drop, length-append}
 use Rattle.hashlink_model.specs.Entries.{IsEntries, place_without, without, stored_key, put, moved, moved_at}
 use Rattle.hashlink_model.specs.Entries.{moved_match}
 pub use Rattle.hashlink_model.proofs.ByPlace.{moved-there}
-use Rattle.hashlink_model.proofs.Splits.{Stands, stands_from_lookup, none_from_lookup, remove_entry-none}
+use Rattle.hashlink_model.proofs.Splits.{Stands, none_from_lookup, remove_entry-none}
 use Rattle.hashlink_model.proofs.Splits.{remove_entry-here, place_of-none, splits}
 use Rattle.hashlink_model.proofs.Distinct.{each-left}
-use Rattle.hashlink_model.proofs.Finds.{lookup_is, lookup_key_is, option_map-cond, stored_key-equal}
+use Rattle.hashlink_model.proofs.Finds.{lookup_is, lookup_key_is, stored_key-equal}
 use Rattle.hashlink_model.proofs.Finds.{lookup_entry-without, lookup-equal}
 use Rattle.hashlink_model.proofs.Puts.{put_back, put_front, lookup_entry-put, none_without, IsEntries-put}
 
@@ -28,15 +28,10 @@ module _ {K V : Type 0} (eq : K → K → Bool) where
       → length (without eq es k) ≡ length es
   length-without_absent es k l = ap length (remove_entry-none (eq k) es (none_from_lookup (eq k) es l))
 
-  length_here : (es : List (K × V)) (k : K) → Stands (eq k) es → length (without eq es k) + 1 ≡ length es
-  length_here es k s =
-      let a = length-append s.0 (s.1 ∷ s.2) in
-      let b = length-append s.0 s.2 in
-      rw (s.3.is, remove_entry-here (eq k) s.1 s.2 s.3.passes s.0 s.3.before) (omega arith)
-
   pub length-without_there : (es : List (K × V)) (k : K) (w : V) → lookup (eq k) es ≡ Some w
       → length (without eq es k) + 1 ≡ length es
-  length-without_there es k w l = length_here es k (stands_from_lookup (eq k) es w l)
+  length-without_there [] k w l = cc
+  length-without_there (e ∷ es) k w l = grind (arith, length-without_there es k w)
 
   -- one entry more than without the key, wherever it is put
   pub length-put : (es : List (K × V)) (k : K) (v : V) (b : ℕ)
@@ -62,13 +57,13 @@ module _ {K V : Type 0} (eq : K → K → Bool) where
   pub moved-absent : (es : List (K × V)) (k : K) (b : ℕ) → lookup (eq k) es ≡ None → moved eq es k b ≡ es
   moved-absent es k b l = moved_match-none (eq k) es b (none_from_lookup (eq k) es l)
 
-  length_moved_by : (es : List (K × V)) (k : K) (b : ℕ) (o : Option V) → lookup (eq k) es ≡ o
-      → length (moved eq es k b) ≡ length es
-  length_moved_by es k b None l = ap length (moved-absent es k b l)
-  length_moved_by es k b (Some w) l = ap length (moved-there eq es k b w l) ∙ length-put_there es k w b w l
+  -- so a move is by cases of the look-up
+  pub moved_is : (es : List (K × V)) (k : K) (b : ℕ)
+      → moved eq es k b ≡ option_map_or (λ w. put eq es k w b) (lookup (eq k) es) es
+  moved_is es k b = grind (arith, moved-absent es k b, moved-there eq es k b)
 
   pub length-moved : (es : List (K × V)) (k : K) (b : ℕ) → length (moved eq es k b) ≡ length es
-  length-moved es k b = length_moved_by es k b (lookup (eq k) es) refl
+  length-moved es k b = rw (moved_is es k b) (grind (arith, length-put_there es k))
 
 -- a move by a test, which is a key's where it passes a key
 pub length-moved_match : {K V : Type 0} (test : K → Bool) (es : List (K × V)) (b : ℕ)
@@ -85,16 +80,12 @@ module _ {K V : Type 0} (eq : K → K → Bool) (laws : IsEquivalence eq) where
   pub lookup-put : (q : K) (es : List (K × V)) (k : K) (v : V) (b : ℕ) → IsEntries eq es
       → lookup (eq q) (put eq es k v b) ≡ cond (eq k q) (Some v) (lookup (eq q) es)
   lookup-put q es k v b d =
-      lookup_is (eq q) (put eq es k v b) ∙ ap (option_map (λ e. e.1)) (lookup_entry-put eq laws q es k v b d)
-      ∙ option_map-cond (λ e. e.1) (eq k q) _ _ ∙ ap (cond (eq k q) (Some v)) (sym (lookup_is (eq q) es))
+      grind (arith, lookup_is (eq q) (put eq es k v b), lookup_entry-put eq laws q es k v b d, lookup_is (eq q) es)
 
   pub lookup_key-put : (q : K) (es : List (K × V)) (k : K) (v : V) (b : ℕ) → IsEntries eq es
       → lookup_key (eq q) (put eq es k v b) ≡ cond (eq k q) (Some (stored_key eq es k)) (lookup_key (eq q) es)
-  lookup_key-put q es k v b d =
-      lookup_key_is (eq q) (put eq es k v b)
-      ∙ ap (option_map (λ e. e.0)) (lookup_entry-put eq laws q es k v b d)
-      ∙ option_map-cond (λ e. e.0) (eq k q) _ _
-      ∙ ap (cond (eq k q) (Some (stored_key eq es k))) (sym (lookup_key_is (eq q) es))
+  lookup_key-put q es k v b d = grind (arith, lookup_key_is (eq q) (put eq es k v b),
+      lookup_entry-put eq laws q es k v b d, lookup_key_is (eq q) es)
 
   pub lookup-put_same : (q : K) (es : List (K × V)) (k : K) (v : V) (b : ℕ) → IsEntries eq es → eq k q ≡ true
       → lookup (eq q) (put eq es k v b) ≡ Some v
@@ -113,9 +104,8 @@ module _ {K V : Type 0} (eq : K → K → Bool) (laws : IsEquivalence eq) where
 
   pub lookup-without : (q : K) (es : List (K × V)) (k : K) → IsEntries eq es
       → lookup (eq q) (without eq es k) ≡ cond (eq k q) None (lookup (eq q) es)
-  lookup-without q es k d =
-      lookup_is (eq q) (without eq es k) ∙ ap (option_map (λ e. e.1)) (lookup_entry-without eq laws q k es d)
-      ∙ option_map-cond (λ e. e.1) (eq k q) _ _ ∙ ap (cond (eq k q) None) (sym (lookup_is (eq q) es))
+  lookup-without q es k d = grind (arith, lookup_is (eq q) (without eq es k),
+      lookup_entry-without eq laws q k es d, lookup_is (eq q) es)
 
   pub lookup-without_same : (q : K) (es : List (K × V)) (k : K) → IsEntries eq es → eq k q ≡ true
       → lookup (eq q) (without eq es k) ≡ None
@@ -154,24 +144,15 @@ module _ {K V : Type 0} (eq : K → K → Bool) (laws : IsEquivalence eq) where
 
   pub lookup-moved : (q : K) (es : List (K × V)) (k : K) (b : ℕ) → IsEntries eq es
       → lookup (eq q) (moved eq es k b) ≡ lookup (eq q) es
-  lookup-moved q es k b d = found (lookup (eq k) es) refl
-    where
-      same : (w : V) → lookup (eq k) es ≡ Some w → (c : Bool) → eq k q ≡ c
-          → cond c (Some w) (lookup (eq q) es) ≡ lookup (eq q) es
-      same w l false t = refl
-      same w l true t = sym l ∙ lookup-equal eq laws k q es t
-
-      found : (o : Option V) → lookup (eq k) es ≡ o → lookup (eq q) (moved eq es k b) ≡ lookup (eq q) es
-      found None l = ap (lookup (eq q)) (moved-absent eq es k b l)
-      found (Some w) l =
-          ap (lookup (eq q)) (moved-there eq es k b w l) ∙ lookup-put q es k w b d ∙ same w l (eq k q) refl
+  lookup-moved q es k b d =
+      let put1 : (w : V) → lookup (eq q) (put eq es k w b) ≡ cond (eq k q) (Some w) (lookup (eq q) es)
+      = λ w. lookup-put q es k w b d in
+      rw (moved_is eq es k b) (grind (arith, put1, lookup-equal eq laws k q es))
 
   pub IsEntries-moved : (es : List (K × V)) (k : K) (b : ℕ) → IsEntries eq es → IsEntries eq (moved eq es k b)
-  IsEntries-moved es k b d = found (lookup (eq k) es) refl
-    where
-      found : (o : Option V) → lookup (eq k) es ≡ o → IsEntries eq (moved eq es k b)
-      found None l = rw (moved-absent eq es k b l) d
-      found (Some w) l = rw (moved-there eq es k b w l) (IsEntries-put eq laws es k w b d)
+  IsEntries-moved es k b d =
+      let put1 : (w : V) → IsEntries eq (put eq es k w b) = λ w. IsEntries-put eq laws es k w b d in
+      rw (moved_is eq es k b) (grind (arith, d, put1))
 
   -- a second move to the back, or to the front, leaves the list as it is
   pub moved_back_twice : (es : List (K × V)) (k : K) → IsEntries eq es

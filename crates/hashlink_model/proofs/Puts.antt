@@ -1,13 +1,12 @@
 -- The entries after a key is put at a place.
-use Rattle.std.proofs.Common.{option_map, ap, ◌≡◌, ℕ, ◌+◌, ◌-◌, ◌≤◌, ◌<◌, Bool, true, false, cond, List, []}
-use Rattle.std.proofs.Common.{◌∷◌, ◌++◌, length, Option, None, Some, refl, sym, ◌∙◌, ◌⊎◌, inl, inr, subst}
-use Rattle.std.proofs.Common.{arith, take, drop, lt-ltb, le-ltb, zero-le}
+use Rattle.std.proofs.Common.{◌≡◌, ℕ, ◌+◌, ◌-◌, ◌≤◌, ◌<◌, Bool, true, false, cond, List, []}
+use Rattle.std.proofs.Common.{◌∷◌, ◌++◌, length, Some, refl, ◌∙◌, ◌⊎◌, inl, inr, subst}
+use Rattle.std.proofs.Common.{arith, take, drop, lt-ltb, le-ltb}
 use Rattle.std.specs.Prelude.{insert, nat_lt}
-use Rattle.std.specs.Option.{option_map_or}
 use Rattle.std.specs.Cmp.{IsEquivalence}
 use Rattle.std.specs.Map.{lookup_entry, set_value}
 use Rattle.std.proofs.lemmas.Map.{NonePasses}
-use Rattle.std.proofs.lemmas.List.{take-append-drop, length-append, take_at, drop_at}
+use Rattle.std.proofs.lemmas.List.{take-append-drop, take_at, drop_at}
 use Rattle.std.proofs.lemmas.List.Edits.{insert_end}
 use Rattle.hashlink_model.specs.Entries.{IsEntries, place_of, place_without, without, stored_key, put}
 use Rattle.hashlink_model.proofs.Splits.{StandsAt, Stands, splits, stands_from_place, place_of-none}
@@ -15,10 +14,7 @@ use Rattle.hashlink_model.proofs.Splits.{place_of-here, lookup_key-none, lookup_
 use Rattle.hashlink_model.proofs.Splits.{remove_entry-here, set_value-here}
 use Rattle.hashlink_model.proofs.Distinct.{none_equal, none_others, IsEntries-middle, IsEntries-insert}
 use Rattle.hashlink_model.proofs.Finds.{stored_key-equal, lookup_entry-middle, lookup_entry-without}
-
-front_by : (o : Option ℕ) → option_map_or (λ j. cond (nat_lt j 0) (0 - 1) 0) o 0 ≡ 0
-front_by None = refl
-front_by (Some j) = rw (le-ltb j 0 zero-le) refl
+use Rattle.std.proofs.lemmas.Bool.Decides.{nat_tests}
 
 pub cond-same_test : {X : Type 0} (b : Bool) (x y z : X) → cond b x (cond b y z) ≡ cond b x z
 cond-same_test true x y z = refl
@@ -45,32 +41,13 @@ module _ {K V : Type 0} (eq : K → K → Bool) where
 
   -- ---- at the ends, and where the key stands already
 
-  end_by : (es : List (K × V)) (k : K) → NonePasses (eq k) es ⊎ Stands (eq k) es
-      → place_without eq es k (length es) ≡ length (without eq es k)
-  end_by es k (inl n) = rw (remove_entry-none (eq k) es n, place_of-none (eq k) es n) refl
-  end_by es k (inr s) =
-      rw (
-        s.3.is,
-        remove_entry-here (eq k) s.1 s.2 s.3.passes s.0 s.3.before,
-        place_of-here (eq k) s.1 s.2 s.3.passes
-            s.0 s.3.before,
-      ) (last s.0 s.1 s.2)
-    where
-      last : (xs : List (K × V)) (e : K × V) (ys : List (K × V))
-          → cond (nat_lt (length xs) (length (xs ++ e ∷ ys))) (length (xs ++ e ∷ ys) - 1)
-          (length (xs ++ e ∷ ys)) ≡ length (xs ++ ys)
-      last xs e ys =
-          let a = length-append xs (e ∷ ys) in
-          let b = length-append xs ys in
-          let below : length xs < length (xs ++ e ∷ ys) = omega arith in
-          rw (lt-ltb _ _ below) (omega arith)
-
   pub place_without-end : (es : List (K × V)) (k : K) → place_without eq es k (length es)
       ≡ length (without eq es k)
-  place_without-end es k = end_by es k (splits (eq k) es)
+  place_without-end [] k = refl
+  place_without-end (e ∷ es) k = grind (arith, nat_tests, place_without-end es k)
 
   pub place_without-front : (es : List (K × V)) (k : K) → place_without eq es k 0 ≡ 0
-  place_without-front es k = front_by (place_of (eq k) es)
+  place_without-front es k = grind (arith, nat_tests)
 
   -- put at the end is last, with the key object that was there
   pub put_back : (es : List (K × V)) (k : K) (v : V)
@@ -172,36 +149,19 @@ module _ {K V : Type 0} (eq : K → K → Bool) (laws : IsEquivalence eq) where
 -- ---- a value that is changed leaves every place
 
 module _ {K V : Type 0} (test : K → Bool) where
-  same_places_by : (other : K → Bool) (e : K × V) (es : List (K × V)) (v : V) (b : Bool) → test e.0 ≡ b
-      → place_of other (set_value test es v) ≡ place_of other es
-      → place_of other (set_value test (e ∷ es) v) ≡ place_of other (e ∷ es)
-  same_places_by other e es v true t h = rw t refl
-  same_places_by other e es v false t h =
-      rw t (ap (λ o. cond (other e.0) (Some 0) (option_map (λ j. j + 1) o)) h)
-
   pub place_of-set_value : (other : K → Bool) (es : List (K × V)) (v : V)
       → place_of other (set_value test es v) ≡ place_of other es
   place_of-set_value other [] v = refl
-  place_of-set_value other (e ∷ es) v = same_places_by other e es v (test e.0) refl
-      (place_of-set_value other es v)
+  place_of-set_value other (e ∷ es) v = grind (arith, place_of-set_value other es v)
 
 -- ---- and what every other key has
 
 module _ {K V : Type 0} (eq : K → K → Bool) (laws : IsEquivalence eq) where
-  others_by : (q : K) (e : K × V) (es : List (K × V)) (k : K) (v : V) (b : Bool)
-      → eq k e.0 ≡ b → eq k q ≡ false → lookup_entry (eq q) (set_value (eq k) es v) ≡ lookup_entry (eq q) es
-      → lookup_entry (eq q) (cond b ((e.0, v) ∷ es) (e ∷ set_value (eq k) es v))
-      ≡ lookup_entry (eq q) (e ∷ es)
-  others_by q e es k v true p t h =
-      let apart : eq q e.0 ≡ false = laws.symm q e.0 ∙ sym (laws.congr k e.0 q p) ∙ t in
-      rw apart refl
-  others_by q e es k v false p t h = ap (cond (eq q e.0) (Some e)) h
-
   pub lookup_entry-set_value_other : (q : K) (es : List (K × V)) (k : K) (v : V) → eq k q ≡ false
       → lookup_entry (eq q) (set_value (eq k) es v) ≡ lookup_entry (eq q) es
   lookup_entry-set_value_other q [] k v t = refl
   lookup_entry-set_value_other q (e ∷ es) k v t =
-      others_by q e es k v (eq k e.0) refl t (lookup_entry-set_value_other q es k v t)
+      grind (arith, lookup_entry-set_value_other q es k v t, laws.symm q e.0, laws.congr k e.0 q)
 
 -- ---- the end after an insert
 
