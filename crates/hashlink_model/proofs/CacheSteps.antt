@@ -1,17 +1,16 @@
 -- What follows from the steps between two states of a cache.
-use Rattle.std.proofs.Common.{◌≡◌, ℕ, ◌-◌, ◌≤◌, min, max, Bool, [], ◌∷◌, ◌++◌, length, take, Option, None}
-use Rattle.std.proofs.Common.{Some, Ok, Err, sym, ap, ◌∙◌, arith}
+use Rattle.std.proofs.Common.{◌≡◌, Bool, [], ◌∷◌, ◌++◌, length, Option, None}
+use Rattle.std.proofs.Common.{Some, Ok, Err, sym, ap, ◌∙◌}
 use Rattle.std.specs.Prelude.{MatchOption, Result, refl}
 use Rattle.std.specs.Option.{option_map_or}
 use Rattle.std.specs.Map.{lookup}
 use Rattle.hashlink_model.specs.Entries.{put, without, stored_key}
 use Rattle.hashlink_model.specs.MapState.{MapState, node_count}
 use Rattle.hashlink_model.specs.Cache.{cache_get, CacheState, InsertsLast, CacheUses, cache_use, CacheInserts}
-use Rattle.hashlink_model.specs.Cache.{CacheGets, SetsCapacity, last_entries, cache_put}
+use Rattle.hashlink_model.specs.Cache.{CacheGets, last_entries, cache_put}
 use Rattle.hashlink_model.proofs.Puts.{put_back}
 use Rattle.hashlink_model.proofs.Afterwards.{moved-there}
-use Rattle.hashlink_model.proofs.Caches.{length-last_entries, last_entries-end, last_entries-within}
-use Rattle.hashlink_model.proofs.NodeCounts.{node_count-adds, node_count-keeps, moves_nodes}
+use Rattle.hashlink_model.proofs.NodeCounts.{moves_nodes}
 
 -- the insert at the length
 pub put_entries : {K V S : Type 0} (eq : K → K → Bool) (old new : MapState K V S) (k : K)
@@ -45,17 +44,6 @@ module _ {K V S : Type 0} (eq : K → K → Bool) (old new : CacheState K V S) (
     s.map.may_refuse.no_spare,
   )
 
-  -- an insert of a new key needs one node where none is spare; what it drops leaves its node spare
-  pub inserts_nodes : CacheInserts eq old new k v (Ok None) → node_count new.map ≡ max (node_count old.map)
-      (length (put eq old.map.entries k v (length old.map.entries)))
-  inserts_nodes s =
-      let a = node_count-keeps s.map.between new.map
-      (last_entries s.map.between.entries old.cap) s.map.fits in
-      let b = node_count-adds old.map s.map.between (put eq old.map.entries k v (length old.map.entries))
-      s.map.inserts.adds in
-      let c = ap length s.map.inserts.adds.entries in
-      omega arith
-
 module _ {K V S : Type 0} (eq : K → K → Bool) (old new : CacheState K V S) (k : K) where
   pub gets_hit : (w : V) → CacheGets eq old new k (Some w)
       → new.map.entries ≡ without eq old.map.entries k ++ (stored_key eq old.map.entries k, w) ∷ []
@@ -83,19 +71,3 @@ module _ {K V S : Type 0} (eq : K → K → Bool) (old new : CacheState K V S) (
   pub uses_entries : (w : Option V) → CacheUses eq old new k v (Ok w)
       → (w ≡ lookup (eq k) old.map.entries) × (new.map.entries ≡ cache_use eq old.map.entries old.cap k v)
   uses_entries w s = uses_by (lookup (eq k) old.map.entries) w refl s
-
-module _ {K V S : Type 0} (old new : CacheState K V S) (n : ℕ) where
-  pub sets_length : SetsCapacity old new n → length new.map.entries ≡ min n (length old.map.entries)
-  sets_length s = ap length s.map.entries ∙ length-last_entries old.map.entries n
-
-  pub sets_end : SetsCapacity old new n
-      → take (length old.map.entries - n) old.map.entries ++ new.map.entries ≡ old.map.entries
-  sets_end s =
-      ap (λ es. take (length old.map.entries - n) old.map.entries ++ es) s.map.entries
-      ∙ last_entries-end old.map.entries n
-
-  pub sets_nodes : SetsCapacity old new n → node_count new.map ≡ node_count old.map
-  sets_nodes s = node_count-keeps old.map new.map (last_entries old.map.entries n) s.map
-
-  pub sets_within : length old.map.entries ≤ n → SetsCapacity old new n → new.map.entries ≡ old.map.entries
-  sets_within l s = s.map.entries ∙ last_entries-within old.map.entries n l

@@ -1,6 +1,6 @@
 -- What a lazy walk over two sets gives, and its size hints.
 use Rattle.std.proofs.Common.{◌≡◌, ◌+◌, ◌≤◌, Bool, true, false, not, cond, List, [], ◌∷◌, ◌++◌, length}
-use Rattle.std.proofs.Common.{filter, Option, None, Some, refl, ap, arith, length-append, le_refl, suc-le-suc}
+use Rattle.std.proofs.Common.{filter, Option, None, Some, refl, ap, arith, length-append, le_refl}
 use Rattle.std.specs.Map.Iter.{TakesFirst}
 use Rattle.std.specs.Set.{is_member}
 use Rattle.hashlink_model.specs.Algebra.{PairWalk, first_passing, left_to_give, left_or_right, pair_step}
@@ -52,23 +52,13 @@ module _ {T : Type 0} where
 
   pub length-filter-le : (p : T → Bool) (xs : List T) → length (filter p xs) ≤ length xs
   length-filter-le p [] = le_refl 0
-  length-filter-le p (x ∷ xs) = by (p x) (length-filter-le p xs)
-    where
-      by : (b : Bool) → length (filter p xs) ≤ length xs
-          → length (cond b (x ∷ filter p xs) (filter p xs)) ≤ length (x ∷ xs)
-      by true h = suc-le-suc h
-      by false h = omega arith
+  length-filter-le p (x ∷ xs) = grind (arith, length-filter-le p xs)
 
   pub left_to_give-at_most : (p q : T → Bool) (w : PairWalk T)
       → length (left_to_give p q w) ≤ length w.left + length w.right
-  left_to_give-at_most p q w =
-      let a = length-append (filter p w.left) (filter q w.right) in
-      let b = length-filter-le p w.left in
-      let c = length-filter-le q w.right in
-      omega arith
+  left_to_give-at_most p q w = omega (arith, length-append (filter p w.left) (filter q w.right),
+      length-filter-le p w.left, length-filter-le q w.right)
 
   pub union-at_least : (q : T → Bool) (w : PairWalk T) → length w.left ≤ length (left_to_give (λ _. true) q w)
-  union-at_least q w =
-      let a = length-append (filter (λ _. true) w.left) (filter q w.right) in
-      let b = ap length (filter-all w.left) in
-      omega arith
+  union-at_least q w = omega (arith, length-append (filter (λ _. true) w.left) (filter q w.right),
+      ap length (filter-all w.left))

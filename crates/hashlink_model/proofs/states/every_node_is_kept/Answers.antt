@@ -1,6 +1,7 @@
+use Rattle.std.proofs.Common.{ap, length, arith}
 use Rattle.hashlink_model.proofs.KeptNodes.{kept-inserts, kept-replaces, kept-moves, kept-moves_and_writes}
 use Rattle.hashlink_model.proofs.KeptNodes.{kept-changes, kept-removes_key, kept-pops_front, kept-pops_back}
-use Rattle.hashlink_model.proofs.KeptNodes.{kept-keeps, kept-reserves}
+use Rattle.hashlink_model.proofs.KeptNodes.{kept-keeps}
 use Rattle.hashlink_model.proofs.states.every_node_is_kept.Goals as goal
 
 pub returns : goal.returns
@@ -14,5 +15,5 @@ returns g c = record {
   pops_front = kept-pops_front;
   pops_back = kept-pops_back;
   keeps_only = kept-keeps;
-  reserves = λ old new n r. kept-reserves old new n r;
+  reserves = λ old new n r s. omega (arith, ap length s.grows.entries);
 }
