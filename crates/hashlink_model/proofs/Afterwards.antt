@@ -1,6 +1,6 @@
 -- What stands after a key was put, moved or taken out: lengths, look-ups, and the same step once more.
 use Rattle.std.proofs.Common.{ap₂, ◌⊎◌, inl, inr, ◌≡◌, ℕ, ◌+◌, Bool, true, false, cond, List, [], ◌∷◌, ◌++◌}
-use Rattle.std.proofs.Common.{length, Option, None, Some, refl, sym, ap, ◌∙◌, arith, take, drop}
+use Rattle.std.proofs.Common.{length, None, Some, refl, sym, ap, ◌∙◌, arith, take, drop}
 use Rattle.std.specs.Prelude.{unwrap_or}
 use Rattle.std.specs.Option.{option_map_or}
 use Rattle.std.specs.Cmp.{IsEquivalence}
@@ -80,12 +80,14 @@ module _ {K V : Type 0} (eq : K → K → Bool) (laws : IsEquivalence eq) where
   pub lookup-put : (q : K) (es : List (K × V)) (k : K) (v : V) (b : ℕ) → IsEntries eq es
       → lookup (eq q) (put eq es k v b) ≡ cond (eq k q) (Some v) (lookup (eq q) es)
   lookup-put q es k v b d =
-      grind (arith, lookup_is (eq q) (put eq es k v b), lookup_entry-put eq laws q es k v b d, lookup_is (eq q) es)
+      let after = lookup_is (eq q) (put eq es k v b) in
+      grind (arith, after, lookup_is (eq q) es, lookup_entry-put eq laws q es k v b d)
 
   pub lookup_key-put : (q : K) (es : List (K × V)) (k : K) (v : V) (b : ℕ) → IsEntries eq es
       → lookup_key (eq q) (put eq es k v b) ≡ cond (eq k q) (Some (stored_key eq es k)) (lookup_key (eq q) es)
-  lookup_key-put q es k v b d = grind (arith, lookup_key_is (eq q) (put eq es k v b),
-      lookup_entry-put eq laws q es k v b d, lookup_key_is (eq q) es)
+  lookup_key-put q es k v b d =
+      let after = lookup_key_is (eq q) (put eq es k v b) in
+      grind (arith, after, lookup_key_is (eq q) es, lookup_entry-put eq laws q es k v b d)
 
   pub lookup-put_same : (q : K) (es : List (K × V)) (k : K) (v : V) (b : ℕ) → IsEntries eq es → eq k q ≡ true
       → lookup (eq q) (put eq es k v b) ≡ Some v
@@ -104,8 +106,9 @@ module _ {K V : Type 0} (eq : K → K → Bool) (laws : IsEquivalence eq) where
 
   pub lookup-without : (q : K) (es : List (K × V)) (k : K) → IsEntries eq es
       → lookup (eq q) (without eq es k) ≡ cond (eq k q) None (lookup (eq q) es)
-  lookup-without q es k d = grind (arith, lookup_is (eq q) (without eq es k),
-      lookup_entry-without eq laws q k es d, lookup_is (eq q) es)
+  lookup-without q es k d =
+      let after = lookup_is (eq q) (without eq es k) in
+      grind (arith, after, lookup_is (eq q) es, lookup_entry-without eq laws q k es d)
 
   pub lookup-without_same : (q : K) (es : List (K × V)) (k : K) → IsEntries eq es → eq k q ≡ true
       → lookup (eq q) (without eq es k) ≡ None
@@ -154,30 +157,10 @@ module _ {K V : Type 0} (eq : K → K → Bool) (laws : IsEquivalence eq) where
       let put1 : (w : V) → IsEntries eq (put eq es k w b) = λ w. IsEntries-put eq laws es k w b d in
       rw (moved_is eq es k b) (grind (arith, d, put1))
 
-  -- a second move to the back, or to the front, leaves the list as it is
-  pub moved_back_twice : (es : List (K × V)) (k : K) → IsEntries eq es
-      → moved eq (moved eq es k (length es)) k (length es) ≡ moved eq es k (length es)
-  moved_back_twice es k d = found (lookup (eq k) es) refl
-    where
-      found : (o : Option V) → lookup (eq k) es ≡ o
-          → moved eq (moved eq es k (length es)) k (length es) ≡ moved eq es k (length es)
-      found None l = ap (λ zs. moved eq zs k (length es)) (moved-absent eq es k (length es) l)
-      found (Some w) l =
-          let once = moved-there eq es k (length es) w l in
-          let long = length-put_there eq es k w (length es) w l in
-          ap (λ zs. moved eq zs k (length es)) once
-          ∙ moved-there eq (put eq es k w (length es)) k (length es) w
-          (lookup-put_same k es k w (length es) d (laws.refl k))
-          ∙ ap (put eq (put eq es k w (length es)) k w) (sym long) ∙ put_back_twice es k w w d ∙ sym once
-
-  pub moved_front_twice : (es : List (K × V)) (k : K) → IsEntries eq es
-      → moved eq (moved eq es k 0) k 0 ≡ moved eq es k 0
-  moved_front_twice es k d = found (lookup (eq k) es) refl
-    where
-      found : (o : Option V) → lookup (eq k) es ≡ o → moved eq (moved eq es k 0) k 0 ≡ moved eq es k 0
-      found None l = ap (λ zs. moved eq zs k 0) (moved-absent eq es k 0 l)
-      found (Some w) l =
-          let once = moved-there eq es k 0 w l in
-          ap (λ zs. moved eq zs k 0) once
-          ∙ moved-there eq (put eq es k w 0) k 0 w (lookup-put_same k es k w 0 d (laws.refl k))
-          ∙ put_front_twice es k w w d ∙ sym once
+  -- a second move to a place where a second put changes nothing leaves the list as it is
+  pub moved_twice : (es : List (K × V)) (k : K) (b : ℕ) → IsEntries eq es
+      → ((w : V) → lookup (eq k) es ≡ Some w → put eq (put eq es k w b) k w b ≡ put eq es k w b)
+      → moved eq (moved eq es k b) k b ≡ moved eq es k b
+  moved_twice es k b d twice =
+      rw (moved_is eq (moved eq es k b) k b, lookup-moved k es k b d, moved_is eq es k b)
+      (grind (arith, twice))

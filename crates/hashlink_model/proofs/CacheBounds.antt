@@ -21,7 +21,8 @@ use Rattle.hashlink_model.proofs.KeptNodes.{kept-inserts}
 pub within-inserted : {K V S : Type 0} (old new : CacheState K V S) (eq : K → K → Bool) (k : K)
     (v : V) (w : Option V) → CacheInserts eq old new k v (Ok w) → IsWithin new 0
 within-inserted old new eq k v w s =
-    omega (arith, ap length (inserts_entries eq old new k v w s), cache_put-at_most eq old.map.entries old.cap k v)
+    let few = cache_put-at_most eq old.map.entries old.cap k v in
+    omega (arith, ap length (inserts_entries eq old new k v w s))
 
 module _ {K V S : Type 0} (old new : CacheState K V S) (n : ℕ) where
   pub within-clears : OnMap Clears old new → IsWithin old n → IsWithin new n
@@ -44,9 +45,10 @@ module _ {K V S : Type 0} (old new : CacheState K V S) (n : ℕ) where
 
     pub within-gets_match_and_writes : (w : V) → CacheGetsMatchAndWrites test old new w → IsWithin old n
         → IsWithin new n
-    within-gets_match_and_writes w s i = omega (arith, ap (λ m. length m.entries) s.map.writes,
-        length-set_value test s.map.between.entries w, ap length s.map.moves.entries,
-        length-moved_match test old.map.entries (length old.map.entries))
+    within-gets_match_and_writes w s i =
+        let moved1 = length-moved_match test old.map.entries (length old.map.entries) in
+        let written = length-set_value test s.map.between.entries w in
+        omega (arith, ap (λ m. length m.entries) s.map.writes, ap length s.map.moves.entries)
 
     pub within-removes_match : (r : Option (K × V)) → OnMap (λ a b. RemovesMatch test a b r) old new
         → IsWithin old n → IsWithin new n

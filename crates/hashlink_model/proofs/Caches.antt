@@ -146,8 +146,9 @@ module _ {K V : Type 0} (eq : K → K → Bool) (laws : IsEquivalence eq) where
 
   pub lookup-cache_use : (q : K) (es : List (K × V)) (cap : ℕ) (k : K) (v : V) → IsEntries eq es → 1 ≤ cap
       → eq k q ≡ true → lookup (eq q) (cache_use eq es cap k v) ≡ Some (unwrap_or (lookup (eq k) es) v)
-  lookup-cache_use q es cap k v d c t = grind (arith, lookup-cache_put q es cap k v d c t,
-      lookup-moved eq laws q es k (length es) d, lookup-equal eq laws k q es t)
+  lookup-cache_use q es cap k v d c t =
+      let same = lookup-moved eq laws q es k (length es) d in
+      grind (arith, same, lookup-cache_put q es cap k v d c t, lookup-equal eq laws k q es t)
 
   pub lookup_entry-cache_use : (q : K) (es : List (K × V)) (cap : ℕ) (k : K) (v : V) (e : K × V)
       → IsEntries eq es → eq k q ≡ false → lookup_entry (eq q) (cache_use eq es cap k v) ≡ Some e

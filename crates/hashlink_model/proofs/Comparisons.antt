@@ -96,13 +96,6 @@ module _ {K V : Type 0} where
       by Equal Greater r = refl
 
 module _ {T : Type 0} where
-  pub elements_eq_equiv : (eq : T → T → Bool) → IsEquivalence eq → IsEquivalence (elements_eq eq)
-  elements_eq_equiv eq laws = lists_equiv laws
-
-  pub elements_eq_partial : (eq : T → T → Bool) → IsPartialEquivalence eq
-      → IsPartialEquivalence (elements_eq eq)
-  elements_eq_partial eq laws = lists_per laws
-
   pub elements_alike : {W : Type 0} (eq : T → T → Bool) (hash : T → List W)
       → ((x y : T) → eq x y ≡ true → hash x ≡ hash y) → (xs ys : List T) → elements_eq eq xs ys ≡ true
       → elements_hash_input hash xs ≡ elements_hash_input hash ys

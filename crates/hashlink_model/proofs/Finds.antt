@@ -1,14 +1,14 @@
 -- What a look-up finds: at the key of an entry, and at every other key.
 use Rattle.std.proofs.Common.{◌≡◌, Bool, true, false, cond, List, [], ◌∷◌, ◌++◌, Option, None, Some, refl}
-use Rattle.std.proofs.Common.{sym, ap, ◌∙◌, ◌⊎◌, inl, inr, subst, arith}
+use Rattle.std.proofs.Common.{ap, arith}
 use Rattle.std.specs.Option.{option_map}
 use Rattle.std.specs.Cmp.{IsEquivalence}
 use Rattle.std.specs.Map.{lookup, lookup_entry, lookup_key}
 use Rattle.std.proofs.lemmas.Map.{NonePasses}
 use Rattle.hashlink_model.specs.Entries.{IsEntries, without, stored_key}
-use Rattle.hashlink_model.proofs.Splits.{Stands, splits, lookup_entry-none}
-use Rattle.hashlink_model.proofs.Splits.{remove_entry-here, remove_entry-none}
-use Rattle.hashlink_model.proofs.Distinct.{none_equal, none_others}
+use Rattle.hashlink_model.proofs.Splits.{lookup_entry-none}
+use Rattle.hashlink_model.proofs.Distinct.{none_equal}
+use Rattle.hashlink_model.proofs.Distinct.{IsEntries-head, IsEntries-tail}
 
 pub option_map-cond : {X Y : Type 0} (f : X → Y) (b : Bool) (x y : Option X)
     → option_map f (cond b x y) ≡ cond b (option_map f x) (option_map f y)
@@ -49,31 +49,11 @@ module _ {K V : Type 0} (eq : K → K → Bool) (laws : IsEquivalence eq) where
 
   -- ---- without a key
 
-  without_by : (q k : K) (es : List (K × V)) → IsEntries eq es → NonePasses (eq k) es ⊎ Stands (eq k) es
-      → lookup_entry (eq q) (without eq es k) ≡ cond (eq k q) None (lookup_entry (eq q) es)
-  without_by q k es d (inl n) = rw (remove_entry-none (eq k) es n) (gone (eq k q) refl)
-    where
-      gone : (b : Bool) → eq k q ≡ b → lookup_entry (eq q) es ≡ cond b None (lookup_entry (eq q) es)
-      gone false t = refl
-      gone true t = lookup_entry-none (eq q) es (none_equal eq laws k q es t n)
-  without_by q k es d (inr s) =
-      let there = subst (IsEntries eq) s.3.is d in
-      let others = none_others eq laws s.0 s.1 s.2 there in
-      rw (
-        s.3.is,
-        remove_entry-here (eq k) s.1 s.2 s.3.passes s.0 s.3.before,
-        lookup_entry-middle q s.1 s.2 s.0
-            others,
-        ← laws.congr k s.1.0 q s.3.passes,
-      ) (left (eq k q) refl others)
-    where
-      left : (b : Bool) → eq k q ≡ b → NonePasses (eq s.1.0) (s.0 ++ s.2) → lookup_entry (eq q) (s.0 ++ s.2)
-          ≡ cond b None (cond b (Some s.1) (lookup_entry (eq q) (s.0 ++ s.2)))
-      left false t o = refl
-      left true t o =
-          lookup_entry-none (eq q) (s.0 ++ s.2)
-          (none_equal eq laws s.1.0 q (s.0 ++ s.2) (sym (laws.congr k s.1.0 q s.3.passes) ∙ t) o)
-
   pub lookup_entry-without : (q k : K) (es : List (K × V)) → IsEntries eq es
       → lookup_entry (eq q) (without eq es k) ≡ cond (eq k q) None (lookup_entry (eq q) es)
-  lookup_entry-without q k es d = without_by q k es d (splits (eq k) es)
+  lookup_entry-without q k [] d = grind arith
+  lookup_entry-without q k (e ∷ es) d =
+      let gone : eq e.0 q ≡ true → lookup_entry (eq q) es ≡ None
+      = λ t. lookup_entry-none (eq q) es (none_equal eq laws e.0 q es t (IsEntries-head eq e es d)) in
+      let rest = lookup_entry-without q k es (IsEntries-tail eq e es d) in
+      grind (arith, gone, rest, laws.symm q e.0, laws.congr k e.0 q, laws.congr k q e.0)

@@ -49,8 +49,9 @@ module _ {K V S : Type 0} (eq : K → K → Bool) where
 
     -- only where the spare nodes are used up
     pub stops_late : old.spare < length items
-    stops_late = omega (arith, accepts_spare old s.between s.before s.accepted, ap length s.is,
-        length-append s.before (s.item ∷ left))
+    stops_late =
+        let parts = length-append s.before (s.item ∷ left) in
+        omega (arith, accepts_spare old s.between s.before s.accepted, ap length s.is)
 
   pub drained_takes : (a old new : MapState K V S) (items : List (K × V)) (taken : ℕ) (back : K × V)
       (left : List (K × V)) → Drains a old → length items ≤ a.spare + length a.entries

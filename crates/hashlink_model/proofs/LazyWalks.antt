@@ -56,9 +56,11 @@ module _ {T : Type 0} where
 
   pub left_to_give-at_most : (p q : T → Bool) (w : PairWalk T)
       → length (left_to_give p q w) ≤ length w.left + length w.right
-  left_to_give-at_most p q w = omega (arith, length-append (filter p w.left) (filter q w.right),
-      length-filter-le p w.left, length-filter-le q w.right)
+  left_to_give-at_most p q w =
+      let both = length-append (filter p w.left) (filter q w.right) in
+      omega (arith, length-filter-le p w.left, length-filter-le q w.right)
 
   pub union-at_least : (q : T → Bool) (w : PairWalk T) → length w.left ≤ length (left_to_give (λ _. true) q w)
-  union-at_least q w = omega (arith, length-append (filter (λ _. true) w.left) (filter q w.right),
-      ap length (filter-all w.left))
+  union-at_least q w =
+      let both = length-append (filter (λ _. true) w.left) (filter q w.right) in
+      omega (arith, ap length (filter-all w.left))

@@ -127,12 +127,15 @@ module _ {T : Type 0} (eq : T → T → Bool) (laws : IsEquivalence eq) where
 
   pub subset_from : (xs ys : List T) → ((q : T) → is_member eq xs q ≡ true → is_member eq ys q ≡ true)
       → is_subset eq xs ys ≡ true
-  subset_from xs ys f = nil_from_none (difference_of eq xs ys) (λ q. grind (arith, difference_members xs ys q, f q))
+  subset_from xs ys f =
+      nil_from_none (difference_of eq xs ys) (λ q. grind (arith, difference_members xs ys q, f q))
 
   pub disjoint_is : (xs ys : List T) → is_disjoint eq xs ys ≡ true → (q : T) → is_member eq xs q ≡ true
       → is_member eq ys q ≡ false
-  disjoint_is xs ys s q m = grind (arith, intersection_members xs ys q, nil_has_none (intersection_of eq xs ys) s q)
+  disjoint_is xs ys s q m =
+      grind (arith, intersection_members xs ys q, nil_has_none (intersection_of eq xs ys) s q)
 
   pub disjoint_from : (xs ys : List T) → ((q : T) → is_member eq xs q ≡ true → is_member eq ys q ≡ false)
       → is_disjoint eq xs ys ≡ true
-  disjoint_from xs ys f = nil_from_none (intersection_of eq xs ys) (λ q. grind (arith, intersection_members xs ys q, f q))
+  disjoint_from xs ys f =
+      nil_from_none (intersection_of eq xs ys) (λ q. grind (arith, intersection_members xs ys q, f q))

@@ -28,7 +28,7 @@ module _ {K V S : Type 0} (old new : MapState K V S) where
   node_count-changes es most s l = omega (arith, ap length s.entries)
 
   pub node_count-shrinks : {E : Type 0} (r : Result (Unit {0}) E) → Shrinks old new r → node_count new
-        ≡ length old.entries
+      ≡ length old.entries
   node_count-shrinks r s = omega (arith, ap length s.entries)
 
 -- ---- two steps that only take entries away are one, and a removal is one of them

@@ -196,12 +196,8 @@ module _ {K V : Type 0} where
   length-set_key_at (e ∷ es) (suc j) k = ap suc (length-set_key_at es j k)
 
   length-inserted : (es : List (K × V)) (b : ℕ) (e : K × V) → length (insert es b e) ≡ length es + 1
-  length-inserted es b e = omega (
-    arith,
-    length-append (take b es) (e ∷ drop b es),
-    length-take b es,
-    length-drop b es,
-  )
+  length-inserted es b e =
+      omega (arith, length-append (take b es) (e ∷ drop b es), length-take b es, length-drop b es)
 
   pub length-moved_at : (es : List (K × V)) (j b : ℕ) → length (moved_at es j b) ≡ length es
   length-moved_at es j b = by (slice_get es j) refl

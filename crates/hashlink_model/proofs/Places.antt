@@ -1,15 +1,16 @@
 -- Entries by their places.
-use Rattle.std.proofs.Common.{le_refl, ◌≡◌, ℕ, zero, suc, Bool, true, List, [], ◌∷◌, ◌++◌, length, slice_get}
-use Rattle.std.proofs.Common.{Some, refl, ap, ◌∙◌, ◌⊎◌, inl, inr, subst}
+use Rattle.std.proofs.Common.{◌≡◌, ℕ, zero, suc, Bool, true, List, [], ◌∷◌, ◌++◌, length, slice_get}
+use Rattle.std.proofs.Common.{Some, refl, ap, ◌∙◌, subst}
 use Rattle.std.specs.Cmp.{IsEquivalence}
 use Rattle.std.specs.Map.{lookup_entry}
 use Rattle.std.proofs.lemmas.Map.{NonePasses}
-use Rattle.std.proofs.lemmas.Option.{none-some, same_Some, slice_get_past}
+use Rattle.std.proofs.lemmas.Option.{none-some, same_Some}
 use Rattle.hashlink_model.specs.Entries.{IsEntries, place_of, place_or_end, stored_key}
-use Rattle.hashlink_model.proofs.Splits.{Stands, splits, place_of-none, place_of-here, lookup_entry-none}
+use Rattle.hashlink_model.proofs.Splits.{place_of-here}
 use Rattle.hashlink_model.proofs.Splits.{lookup_entry-here}
 use Rattle.hashlink_model.proofs.Distinct.{none_equal, none_others, each-left}
 use Rattle.hashlink_model.proofs.Finds.{lookup_key_is}
+use Rattle.std.proofs.Common.{arith}
 
 module _ {X : Type 0} where
   pub slice_get_here : (xs : List X) (x : X) (ys : List X) → slice_get (xs ++ x ∷ ys) (length xs) ≡ Some x
@@ -24,27 +25,10 @@ module _ {X : Type 0} where
   split_at (y ∷ xs) (suc i) x e = let s = split_at xs i x e in (y ∷ s.0, s.1, ap (λ r. y ∷ r) s.2, ap suc s.3)
 
 module _ {K V : Type 0} (eq : K → K → Bool) where
-  -- at the place of a key stands the entry that a look-up finds
-  at_place_by : (q : K) (es : List (K × V)) → NonePasses (eq q) es ⊎ Stands (eq q) es
-      → slice_get es (place_or_end eq es q) ≡ lookup_entry (eq q) es
-  at_place_by q es (inl n) =
-      rw (place_of-none (eq q) es n, lookup_entry-none (eq q) es n)
-      (slice_get_past es (length es) (le_refl (length es)))
-  at_place_by q es (inr s) =
-      rw (
-        s.3.is,
-        place_of-here (eq q) s.1 s.2 s.3.passes s.0 s.3.before,
-        lookup_entry-here (eq q) s.1 s.2 s.3.passes
-            s.0 s.3.before,
-      ) (slice_get_here s.0 s.1 s.2)
-
   pub slice_get-place_or_end : (q : K) (es : List (K × V))
       → slice_get es (place_or_end eq es q) ≡ lookup_entry (eq q) es
-  slice_get-place_or_end q es = at_place_by q es (splits (eq q) es)
-
-  pub place_or_end-here : (q : K) (xs : List (K × V)) (e : K × V) (ys : List (K × V)) → eq q e.0 ≡ true
-      → NonePasses (eq q) xs → place_or_end eq (xs ++ e ∷ ys) q ≡ length xs
-  place_or_end-here q xs e ys t n = rw (place_of-here (eq q) e ys t xs n) refl
+  slice_get-place_or_end q [] = refl
+  slice_get-place_or_end q (e ∷ es) = grind (arith, slice_get-place_or_end q es)
 
 module _ {K V : Type 0} (eq : K → K → Bool) (laws : IsEquivalence eq) where
   -- no entry before e, or after it, has a key that is equal to its own

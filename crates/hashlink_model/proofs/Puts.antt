@@ -1,7 +1,7 @@
 -- The entries after a key is put at a place.
-use Rattle.std.proofs.Common.{◌≡◌, ℕ, ◌+◌, ◌-◌, ◌≤◌, ◌<◌, Bool, true, false, cond, List, []}
+use Rattle.std.proofs.Common.{◌≡◌, ℕ, ◌+◌, ◌-◌, Bool, true, false, cond, List, []}
 use Rattle.std.proofs.Common.{◌∷◌, ◌++◌, length, Some, refl, ◌∙◌, ◌⊎◌, inl, inr, subst}
-use Rattle.std.proofs.Common.{arith, take, drop, lt-ltb, le-ltb}
+use Rattle.std.proofs.Common.{arith, take, drop}
 use Rattle.std.specs.Prelude.{insert, nat_lt}
 use Rattle.std.specs.Cmp.{IsEquivalence}
 use Rattle.std.specs.Map.{lookup_entry, set_value}
@@ -31,13 +31,8 @@ module _ {K V : Type 0} (eq : K → K → Bool) where
   pub put-here : (xs : List (K × V)) (e : K × V) (ys : List (K × V)) (k : K) (v : V) (b : ℕ) → eq k e.0 ≡ true
       → NonePasses (eq k) xs
       → put eq (xs ++ e ∷ ys) k v b ≡ insert (xs ++ ys) (cond (nat_lt (length xs) b) (b - 1) b) (e.0, v)
-  put-here xs e ys k v b t n =
-      rw (
-        remove_entry-here (eq k) e ys t xs n,
-        place_of-here (eq k) e ys t xs n,
-        lookup_key-here (eq k) e ys t xs n,
-      )
-      refl
+  put-here xs e ys k v b t n = rw (remove_entry-here (eq k) e ys t xs n)
+      (rw (place_of-here (eq k) e ys t xs n, lookup_key-here (eq k) e ys t xs n) refl)
 
   -- ---- at the ends, and where the key stands already
 
@@ -64,17 +59,10 @@ module _ {K V : Type 0} (eq : K → K → Bool) where
       → (xs : List (K × V)) × (e : K × V) × (ys : List (K × V)) × StandsAt (eq k) es xs e ys × (length xs ≡ j)
       → put eq es k v b ≡ set_value (eq k) es v
   kept_by es k v j b at s =
-      rw (
-        s.3.is,
-        put-here s.0 s.1 s.2 k v b s.3.passes s.3.before,
-        set_value-here (eq k) s.1 s.2 s.3.passes v s.0
-            s.3.before,
-        same_place at,
-      ) (rw (take_at s.0 s.2 (length s.0) refl, drop_at s.0 s.2 (length s.0) refl) refl)
-    where
-      same_place : (b ≡ j) ⊎ (b ≡ j + 1) → cond (nat_lt (length s.0) b) (b - 1) b ≡ length s.0
-      same_place (inl e) = let le : b ≤ length s.0 = omega arith in rw (le-ltb _ _ le) (omega arith)
-      same_place (inr e) = let lt : length s.0 < b = omega arith in rw (lt-ltb _ _ lt) (omega arith)
+      let place : cond (nat_lt (length s.0) b) (b - 1) b ≡ length s.0 = grind (arith, nat_tests, at, s.4) in
+      let written = set_value-here (eq k) s.1 s.2 s.3.passes v s.0 s.3.before in
+      rw (s.3.is, put-here s.0 s.1 s.2 k v b s.3.passes s.3.before, written, place)
+      (rw (take_at s.0 s.2 (length s.0) refl, drop_at s.0 s.2 (length s.0) refl) refl)
 
   pub put_at_its_place : (es : List (K × V)) (k : K) (v : V) (j : ℕ) → place_of (eq k) es ≡ Some j
       → put eq es k v j ≡ set_value (eq k) es v
@@ -139,12 +127,11 @@ module _ {K V : Type 0} (eq : K → K → Bool) (laws : IsEquivalence eq) where
       (lookup_entry (eq q) es)
   lookup_entry-put q es k v b d =
       let j = place_without eq es k b in
-      lookup_entry-middle eq laws q (stored_key eq es k, v) (drop j (without eq es k))
-      (take j (without eq es k)) (none_stored es k j d) ∙ rw (
-        take-append-drop j (without eq es k),
-        lookup_entry-without eq laws q k es d,
-        ← laws.congr k (stored_key eq es k) q (stored_key-equal eq laws k es),
-      ) (cond-same_test (eq k q) _ _ _)
+      let zs = without eq es k in
+      let k0 = stored_key eq es k in
+      let found = lookup_entry-middle eq laws q (k0, v) (drop j zs) (take j zs) (none_stored es k j d) in
+      let same = laws.congr k k0 q (stored_key-equal eq laws k es) in
+      grind (arith, found, same, take-append-drop j zs, lookup_entry-without eq laws q k es d)
 
 -- ---- a value that is changed leaves every place
 
@@ -162,24 +149,3 @@ module _ {K V : Type 0} (eq : K → K → Bool) (laws : IsEquivalence eq) where
   lookup_entry-set_value_other q [] k v t = refl
   lookup_entry-set_value_other q (e ∷ es) k v t =
       grind (arith, lookup_entry-set_value_other q es k v t, laws.symm q e.0, laws.congr k e.0 q)
-
--- ---- the end after an insert
-
-module _ {K V : Type 0} (eq : K → K → Bool) (laws : IsEquivalence eq) where
-  pub last_after_put : (es : List (K × V)) (k : K) (v : V)
-      → (xs : List (K × V)) × (k0 : K) × (put eq es k v (length es) ≡ xs ++ (k0, v) ∷ []) × (eq k k0 ≡ true)
-  last_after_put es k v = (
-    without eq es k,
-    stored_key eq es k,
-    put_back eq es k v,
-    stored_key-equal eq laws k es,
-  )
-
-  pub first_after_put : (es : List (K × V)) (k : K) (v : V)
-      → (xs : List (K × V)) × (k0 : K) × (put eq es k v 0 ≡ (k0, v) ∷ xs) × (eq k k0 ≡ true)
-  first_after_put es k v = (
-    without eq es k,
-    stored_key eq es k,
-    put_front eq es k v,
-    stored_key-equal eq laws k es,
-  )

@@ -11,13 +11,14 @@ use Rattle.std.proofs.lemmas.Map.Keys.{IsDistinct-IsPermutation}
 use Rattle.std.proofs.lemmas.Map.Entries.{filter_from_retain_pairs}
 use Rattle.std.proofs.lemmas.List.Elements.{recursion_from_All, All-contains_itself, filter-append}
 use Rattle.std.proofs.lemmas.List.Sorted.{IsPermutation-map, Contains-permutation, IsPermutation-refl}
-use Rattle.std.proofs.lemmas.Option.{slice_get-get_or, none-some, same_Some}
+use Rattle.std.proofs.lemmas.Option.{slice_get-get_or, none-some}
 use Rattle.hashlink_model.specs.Entries.{IsEntries}
 use Rattle.hashlink_model.specs.Retain.{KeepsInSomeOrder, KeepsInOrder, in_order_of}
 use Rattle.hashlink_model.proofs.Distinct.{IsEntries-cons, IsEntries-head, IsEntries-tail, each-append}
 use Rattle.hashlink_model.proofs.Distinct.{each-left, each-right, each-weaker, none_equal, none_others}
 use Rattle.hashlink_model.proofs.Splits.{lookup_entry-none, lookup_entry-here}
 use Rattle.hashlink_model.proofs.Places.{split_at}
+use Rattle.std.proofs.Common.{arith}
 
 module _ {F K V : Type 0} (T : F → K → V → Bool → V → F → Type 0) where
   -- the calls along a list, without the state in which they leave the closure
@@ -27,27 +28,17 @@ module _ {F K V : Type 0} (T : F → K → V → Bool → V → F → Type 0) wh
   retains-called f (e ∷ es) kept g r = (r.0, r.1, r.2, r.3, r.4, retains-called r.2 es r.3 g r.5, r.6)
 
 module _ {K V : Type 0} where
-  -- an entry that a look-up finds passes the test
-  found_by : (test : K → Bool) (e : K × V) (es : List (K × V)) (f : K × V) (b : Bool) → test e.0 ≡ b
-      → (lookup_entry test es ≡ Some f → test f.0 ≡ true) → cond b (Some e) (lookup_entry test es) ≡ Some f
-      → test f.0 ≡ true
-  found_by test e es f true t h l = subst (λ x. test x.0 ≡ true) (same_Some e f l) t
-  found_by test e es f false t h l = h l
-
   pub found_passes : (test : K → Bool) (es : List (K × V)) (f : K × V) → lookup_entry test es ≡ Some f
       → test f.0 ≡ true
   found_passes test [] f l = absurd (none-some f l)
-  found_passes test (e ∷ es) f l = found_by test e es f (test e.0) refl (found_passes test es f) l
+  found_passes test (e ∷ es) f l = grind (arith, found_passes test es f, l)
 
   pub none_filtered : (test : K → Bool) (p : K × V → Bool) (es : List (K × V)) → NonePasses test es
       → NonePasses test (filter p es)
   none_filtered test p [] n = tt
-  none_filtered test p (e ∷ es) n = by (p e) (none_filtered test p es n.1)
-    where
-      by : (b : Bool) → NonePasses test (filter p es)
-          → NonePasses test (cond b (e ∷ filter p es) (filter p es))
-      by true h = (n.0, h)
-      by false h = h
+  none_filtered test p (e ∷ es) n =
+      elim (p e) as (λ b. NonePasses test (cond b (e ∷ filter p es) (filter p es)))
+      [ true ↦ (n.0, none_filtered test p es n.1) | false ↦ none_filtered test p es n.1 ]
 
 module _ {K V : Type 0} (eq : K → K → Bool) (laws : IsEquivalence eq) where
   -- ---- keys stay pairwise unequal
@@ -109,12 +100,7 @@ module _ {K V : Type 0} (eq : K → K → Bool) (laws : IsEquivalence eq) where
       → AllByRecursion (λ e. lookup_entry (eq e.0) kept ≡ cond (p e) (Some e) None) es
       → in_order_of eq es kept ≡ filter p es
   in_order_by p kept [] a = refl
-  in_order_by p kept (e ∷ es) a = ap₂ cons_option a.0 (in_order_by p kept es a.1) ∙ one (p e)
-    where
-      one : (b : Bool) → cons_option (cond b (Some e) None) (filter p es)
-          ≡ cond b (e ∷ filter p es) (filter p es)
-      one true = refl
-      one false = refl
+  in_order_by p kept (e ∷ es) a = grind (arith, a.0, in_order_by p kept es a.1)
 
   pub in_order_of-filter : (p : K × V → Bool) (es order : List (K × V)) → IsEntries eq es
       → IsPermutation es order → in_order_of eq es (filter p order) ≡ filter p es

@@ -1,19 +1,17 @@
 -- What stands after the steps of a set.
 use Rattle.std.proofs.Common.{◌≡◌, ℕ, zero, suc, ◌+◌, Bool, true, false, cond, ◌||◌, List, [], ◌∷◌, ◌++◌}
 use Rattle.std.proofs.Common.{length, take, drop, slice_get, slice_set, is_some, Some, refl}
-use Rattle.std.proofs.Common.{sym, ap, ap₂, ◌∙◌, ◌⊎◌, inl, inr, subst}
+use Rattle.std.proofs.Common.{sym, ap, ap₂, ◌∙◌, subst}
 use Rattle.std.specs.Cmp.{IsEquivalence}
 use Rattle.std.specs.List.{IsDistinct, AllByRecursion}
 use Rattle.std.specs.Map.{keys_of, lookup}
 use Rattle.std.specs.Set.{is_member, swap_key}
-use Rattle.std.proofs.lemmas.Map.{NonePasses}
 use Rattle.std.proofs.lemmas.Map.Made.{is_some-lookup}
 use Rattle.std.proofs.lemmas.Map.Entries.{length-keys_of}
-use Rattle.std.proofs.lemmas.List.{length-append, set_at, take-append-drop}
+use Rattle.std.proofs.lemmas.List.{set_at, take-append-drop}
 use Rattle.std.proofs.lemmas.Option.{none-some, same_Some}
 use Rattle.hashlink_model.specs.Entries.{place_without, without, stored_key, put}
 use Rattle.hashlink_model.specs.Sets.{pairs_of, put_element, replaced}
-use Rattle.hashlink_model.proofs.Splits.{Stands, splits, remove_entry-none, remove_entry-here}
 use Rattle.hashlink_model.proofs.Distinct.{each-middle, each-weaker}
 use Rattle.hashlink_model.proofs.Finds.{stored_key-equal}
 use Rattle.hashlink_model.proofs.Puts.{IsEntries-put}
@@ -37,16 +35,11 @@ module _ {T : Type 0} (eq : T → T → Bool) where
 
   pub length-put_element : (ts : List T) (t : T) (b : ℕ)
       → length (put_element eq ts t b) ≡ cond (is_member eq ts t) (length ts) (length ts + 1)
-  length-put_element ts t b = grind (arith, length-keys_of (put eq (pairs_of ts) t tt b), length_pairs_of ts,
-      is_some-lookup_pairs ts t, length-put_absent eq (pairs_of ts) t tt b, length-put_there eq (pairs_of ts) t tt b)
-
-  pub length-put_element_absent : (ts : List T) (t : T) (b : ℕ) → is_member eq ts t ≡ false
-      → length (put_element eq ts t b) ≡ length ts + 1
-  length-put_element_absent ts t b m = length-put_element ts t b ∙ rw m refl
-
-  pub length-put_element_there : (ts : List T) (t : T) (b : ℕ) → is_member eq ts t ≡ true
-      → length (put_element eq ts t b) ≡ length ts
-  length-put_element_there ts t b m = length-put_element ts t b ∙ rw m refl
+  length-put_element ts t b =
+      let es = pairs_of ts in
+      let there = is_some-lookup_pairs ts t in
+      let long = length-keys_of (put eq es t tt b) in
+      grind (arith, long, there, length_pairs_of ts, length-put_absent eq es t tt b, length-put_there eq es t tt b)
 
   pub replaced-absent : (ts : List T) (t : T) → is_member eq ts t ≡ false → replaced eq ts t ≡ ts ++ t ∷ []
   replaced-absent ts t m = rw m refl
@@ -55,17 +48,9 @@ module _ {T : Type 0} (eq : T → T → Bool) where
       ≡ swap_key (eq t) ts t
   replaced-there ts t m = rw m refl
 
-  length_swap_key : (test : T → Bool) (ts : List T) (t : T) → length (swap_key test ts t) ≡ length ts
+  pub length_swap_key : (test : T → Bool) (ts : List T) (t : T) → length (swap_key test ts t) ≡ length ts
   length_swap_key test [] t = refl
   length_swap_key test (x ∷ ts) t = grind (arith, length_swap_key test ts t)
-
-  pub length-replaced_absent : (ts : List T) (t : T) → is_member eq ts t ≡ false
-      → length (replaced eq ts t) ≡ length ts + 1
-  length-replaced_absent ts t m = ap length (replaced-absent ts t m) ∙ length-append ts (t ∷ [])
-
-  pub length-replaced_there : (ts : List T) (t : T) → is_member eq ts t ≡ true
-      → length (replaced eq ts t) ≡ length ts
-  length-replaced_there ts t m = ap length (replaced-there ts t m) ∙ length_swap_key (eq t) ts t
 
   -- ---- every other element stays at its place
 
@@ -96,18 +81,8 @@ module _ {T : Type 0} (eq : T → T → Bool) (laws : IsEquivalence eq) where
 
     member_without : (es : List (T × V)) (k : T) → eq k q ≡ false
         → is_member eq (keys_of (without eq es k)) q ≡ is_member eq (keys_of es) q
-    member_without es k f = by (splits (eq k) es)
-      where
-        by : NonePasses (eq k) es ⊎ Stands (eq k) es
-            → is_member eq (keys_of (without eq es k)) q ≡ is_member eq (keys_of es) q
-        by (inl n) = ap (λ zs. is_member eq (keys_of zs) q) (remove_entry-none (eq k) es n)
-        by (inr s) =
-            let apart : eq q s.1.0 ≡ false = laws.symm q s.1.0 ∙ sym (laws.congr k s.1.0 q s.3.passes) ∙ f in
-            ap (λ zs. is_member eq (keys_of (without eq zs k)) q) s.3.is
-            ∙ ap (λ zs. is_member eq (keys_of zs) q)
-            (remove_entry-here (eq k) s.1 s.2 s.3.passes s.0 s.3.before)
-            ∙ ap (λ b. b || is_member eq (keys_of (s.0 ++ s.2)) q) (sym apart)
-            ∙ sym (member_middle s.0 s.1 s.2) ∙ ap (λ zs. is_member eq (keys_of zs) q) (sym s.3.is)
+    member_without [] k f = refl
+    member_without (e ∷ es) k f = grind (arith, member_without es k f, laws.congr k e.0 q, laws.symm q e.0)
 
     pub is_member-put : (es : List (T × V)) (k : T) (v : V) (b : ℕ)
         → is_member eq (keys_of (put eq es k v b)) q ≡ (eq k q || is_member eq (keys_of es) q)
@@ -117,12 +92,7 @@ module _ {T : Type 0} (eq : T → T → Bool) (laws : IsEquivalence eq) where
         let k0 = stored_key eq es k in
         member_middle (take j zs) (k0, v) (drop j zs) ∙ ap₂ (λ c ys. c || is_member eq (keys_of ys) q)
         (laws.symm q k0 ∙ sym (laws.congr k k0 q (stored_key-equal eq laws k es))) (take-append-drop j zs)
-        ∙ by (eq k q) refl
-      where
-        by : (c : Bool) → eq k q ≡ c
-            → (c || is_member eq (keys_of (without eq es k)) q) ≡ (c || is_member eq (keys_of es) q)
-        by true t = refl
-        by false t = member_without es k t
+        ∙ grind (arith, member_without es k)
 
   pub is_member-put_element : (ts : List T) (t : T) (b : ℕ) (q : T)
       → is_member eq (put_element eq ts t b) q ≡ (eq t q || is_member eq ts q)
@@ -137,12 +107,14 @@ module _ {T : Type 0} (eq : T → T → Bool) (laws : IsEquivalence eq) where
 
   member_swap_key : (t q : T) (ts : List T) → is_member eq (swap_key (eq t) ts t) q ≡ is_member eq ts q
   member_swap_key t q [] = refl
-  member_swap_key t q (x ∷ ts) = grind (arith, member_swap_key t q ts, laws.symm q t, laws.symm x q, laws.congr t x q)
+  member_swap_key t q (x ∷ ts) =
+      grind (arith, member_swap_key t q ts, laws.symm q t, laws.symm x q, laws.congr t x q)
 
   pub is_member-replaced : (ts : List T) (t q : T) → is_member eq (replaced eq ts t) q
       ≡ (eq t q || is_member eq ts q)
-  is_member-replaced ts t q = grind (arith, member_swap_key t q ts, is_member-append eq laws ts (t ∷ []) q,
-      laws.symm q t, is_member-equal eq laws ts t q)
+  is_member-replaced ts t q =
+      let pushed = is_member-append eq laws ts (t ∷ []) q in
+      grind (arith, pushed, member_swap_key t q ts, laws.symm q t, is_member-equal eq laws ts t q)
 
   -- ---- replaced elements stay pairwise unequal
 

@@ -19,23 +19,13 @@ module _ {K V : Type 0} (test : K → Bool) where
   abbrev pub Stands : List (K × V) → Type 0
   Stands es = (xs : List (K × V)) × (e : K × V) × (ys : List (K × V)) × StandsAt es xs e ys
 
-  stands_later : (x : K × V) (es : List (K × V)) → test x.0 ≡ false → Stands es → Stands (x ∷ es)
-  stands_later x es f s = (
-    x ∷ s.0,
-    s.1,
-    s.2,
-    record {
-      is = ap (λ r. x ∷ r) s.3.is;
-      passes = s.3.passes;
-      before = (f, s.3.before);
-    },
-  )
-
   either_by : (x : K × V) (es : List (K × V)) (b : Bool) → test x.0 ≡ b → NonePasses test es ⊎ Stands es
       → NonePasses test (x ∷ es) ⊎ Stands (x ∷ es)
   either_by x es true t s = inr ([], x, es, record { is = refl; passes = t; before = tt })
   either_by x es false t (inl n) = inl (t, n)
-  either_by x es false t (inr s) = inr (stands_later x es t s)
+  either_by x es false t (inr s) =
+      let later = ap (λ r. x ∷ r) s.3.is in
+      inr (x ∷ s.0, s.1, s.2, record { is = later; passes = s.3.passes; before = (t, s.3.before) })
 
   -- no key passes, or the list is taken apart at the first that does
   pub splits : (es : List (K × V)) → NonePasses test es ⊎ Stands es
@@ -100,13 +90,8 @@ module _ {K V : Type 0} (test : K → Bool) where
   pub none_from_lookup : (es : List (K × V)) → lookup test es ≡ None → NonePasses test es
   none_from_lookup es l = none_passes_from_lookup test es l
 
-  found_by : (es : List (K × V)) (w : V) → lookup test es ≡ Some w → NonePasses test es
-      ⊎ Stands es → Stands es
-  found_by es w l (inl n) = absurd (none-some w (sym (lookup-none es n) ∙ l))
-  found_by es w l (inr s) = s
-
   pub stands_from_lookup : (es : List (K × V)) (w : V) → lookup test es ≡ Some w → Stands es
-  stands_from_lookup es w l = found_by es w l (splits es)
+  stands_from_lookup es w l = elim (splits es) [ inl n ↦ absurd (cc (lookup-none es n)) | inr s ↦ s ]
 
   placed_by : (es : List (K × V)) (j : ℕ) → place_of test es ≡ Some j → NonePasses test es ⊎ Stands es
       → (xs : List (K × V)) × (e : K × V) × (ys : List (K × V)) × StandsAt es xs e ys × (length xs ≡ j)

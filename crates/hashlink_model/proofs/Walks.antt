@@ -5,7 +5,7 @@ use Rattle.std.specs.List.{cons_option}
 use Rattle.std.specs.Map.Iter.{TakesFirst, TakesLast}
 use Rattle.std.proofs.lemmas.List.{append-nil, length-append, length-take, length-drop, nil_from_length}
 use Rattle.hashlink_model.specs.Walk.{End, Front, Back, first_of, after_first_of, last_of, before_last_of}
-use Rattle.hashlink_model.specs.Walk.{step_gives, step_leaves, walk_leaves, given_front, given_back}
+use Rattle.hashlink_model.specs.Walk.{step_leaves, walk_leaves, given_front, given_back}
 
 module _ {X : Type 0} where
   pub takes_first : (xs : List X) → TakesFirst (λ x. x) xs (first_of xs) (after_first_of xs)
@@ -71,12 +71,3 @@ module _ {X : Type 0} where
       let b = length_step s xs in
       let c : length (s ∷ ss) ≡ suc (length ss) = refl in
       omega arith
-
-  -- of an empty part both ends give None for good
-  pub empty_gives : (s : End) → step_gives {X = X} s [] ≡ None
-  empty_gives Front = refl
-  empty_gives Back = refl
-
-  pub empty_leaves : (s : End) → step_leaves {X = X} s [] ≡ []
-  empty_leaves Front = refl
-  empty_leaves Back = refl
