@@ -89,10 +89,7 @@ module _ {K : Type 0} (eq : K → K → Bool) where
 
   above_padding : (m n : ℕ) → n ≤ m → AllByRecursion (λ y. padded_eq eq (inr m) y ≡ false) (padding K n)
   above_padding m zero l = tt
-  above_padding m (suc n) l = (ne_eqb m n (λ e. not-self n (omega arith)), above_padding m n (omega arith))
-    where
-      not-self : (i : ℕ) → suc i ≤ i → ⊥
-      not-self i b = omega arith
+  above_padding m (suc n) l = (ne_eqb m n (λ e. omega arith), above_padding m n (omega arith))
 
   distinct_padding : (n : ℕ) → IsDistinct (padded_eq eq) (padding K n)
   unfolding IsDistinct
@@ -106,13 +103,7 @@ module _ {K : Type 0} (eq : K → K → Bool) where
   remove_real : (ks : List K) (k : K) → remove_key (padded_eq eq (inl k)) (real ks)
       ≡ real (remove_key (eq k) ks)
   remove_real [] k = refl
-  remove_real (x ∷ ks) k = by (eq k x) (remove_real ks k)
-    where
-      by : (b : Bool) → remove_key (padded_eq eq (inl k)) (real ks) ≡ real (remove_key (eq k) ks)
-          → cond b (real ks) (inl x ∷ remove_key (padded_eq eq (inl k)) (real ks))
-          ≡ real (cond b ks (x ∷ remove_key (eq k) ks))
-      by true h = refl
-      by false h = ap (λ r. inl x ∷ r) h
+  remove_real (x ∷ ks) k = grind (arith, remove_real ks k)
 
   -- ---- the schedule is the same
 

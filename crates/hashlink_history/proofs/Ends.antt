@@ -29,12 +29,7 @@ module _ {K V : Type 0} (test : K → Bool) where
   remove-right_none : (xs ys : List (K × V)) → NonePasses test ys
       → remove_entry test (xs ++ ys) ≡ remove_entry test xs ++ ys
   remove-right_none [] ys n = remove_entry-none test ys n
-  remove-right_none (x ∷ xs) ys n = by (test x.0) (remove-right_none xs ys n)
-    where
-      by : (b : Bool) → remove_entry test (xs ++ ys) ≡ remove_entry test xs ++ ys
-          → cond b (xs ++ ys) (x ∷ remove_entry test (xs ++ ys)) ≡ cond b xs (x ∷ remove_entry test xs) ++ ys
-      by true h = refl
-      by false h = ap (λ r. x ∷ r) h
+  remove-right_none (x ∷ xs) ys n = grind (arith, remove-right_none xs ys n)
 
   lookup-right : (xs ys : List (K × V)) → NonePasses test xs → lookup test (xs ++ ys) ≡ lookup test ys
   lookup-right [] ys n = refl
@@ -50,20 +45,15 @@ module _ {K V : Type 0} (eq : K → K → Bool) (laws : IsEquivalence eq) (R : K
   none_alike k (x ∷ xs) (y ∷ ys) z n =
       (answers_alike eq laws k x.0 y.0 (equal x y z.0) ∙ n.0, none_alike k xs ys z.1 n.1)
 
-  remove_by : (k : K) (x y : K × V) (xs ys : List (K × V)) (b : Bool) → R x y → AllZip R xs ys
-      → AllZip R (without eq xs k) (without eq ys k)
-      → AllZip R (cond b xs (x ∷ without eq xs k)) (cond b ys (y ∷ without eq ys k))
-  remove_by k x y xs ys true r z h = z
-  remove_by k x y xs ys false r z h = (r, h)
-
   remove_alike : (k : K) (xs ys : List (K × V)) → AllZip R xs ys
       → AllZip R (without eq xs k) (without eq ys k)
   remove_alike k [] [] z = z
   remove_alike k [] (y ∷ ys) z = absurd z
   remove_alike k (x ∷ xs) [] z = absurd z
   remove_alike k (x ∷ xs) (y ∷ ys) z =
-      rw (answers_alike eq laws k x.0 y.0 (equal x y z.0))
-      (remove_by k x y xs ys (eq k y.0) z.0 z.1 (remove_alike k xs ys z.1))
+      rw (answers_alike eq laws k x.0 y.0 (equal x y z.0)) (elim (eq k y.0)
+      as (λ b. AllZip R (cond b xs (x ∷ without eq xs k)) (cond b ys (y ∷ without eq ys k)))
+      [ true ↦ z.1 | false ↦ (z.0, remove_alike k xs ys z.1) ])
 
   -- ---- one step of either
 
@@ -144,8 +134,7 @@ module _ {K V : Type 0} (eq : K → K → Bool) (laws : IsEquivalence eq) (R : K
   drop_large_by : (small large front back : List (K × V)) → large ≡ front ++ back → AllZip R small back
       → length small < length large → IsEndOf R small (drop 1 large)
   drop_large_by small large [] back i z l =
-      let a = ap length i in let b = zip_length R small back z in absurd
-      (lt_irrefl (length large) (omega arith))
+      absurd (lt_irrefl (length large) (omega (arith, ap length i, zip_length R small back z)))
   drop_large_by small large (f ∷ front) back i z l =
       record { front = front; back = back; is = ap (drop 1) i; alike = z }
 
@@ -163,18 +152,19 @@ module _ {K V : Type 0} (eq : K → K → Bool) (laws : IsEquivalence eq) (R : K
 
   end-last_large : (small large : List (K × V)) (d : ℕ) → IsEndOf R small large → length small ≤ d
       → IsEndOf R small (last_entries large d)
-  end-last_large small large d e l = by (cases_lt d (length large))
-    where
-      by : (d < length large) ⊎ (length large ≤ d) → IsEndOf R small (last_entries large d)
-      by (inl m) = end-drop_large (length large - d) small large e (omega arith)
-      by (inr m) = subst (IsEndOf R small) (sym (last_entries-within large d m)) e
+  end-last_large small large d e l = elim (cases_lt d (length large)) [
+    | inl m ↦ end-drop_large (length large - d) small large e (omega arith)
+    | inr m ↦ subst (IsEndOf R small) (sym (last_entries-within large d m)) e
+  ]
 
   -- ---- the calls
 
-  pub end-cache_put : (c d : ℕ) (k : K) (v : V) (small large : List (K × V)) → IsEntries eq large → c ≤ d
-      → length small ≤ c → R (stored_key eq small k, v) (stored_key eq large k, v) → IsEndOf R small large
+  pub end-cache_put : ((p q : K) (v : V) → eq p q ≡ true → R (p, v) (q, v))
+      → (c d : ℕ) (k : K) (v : V) (small large : List (K × V)) → IsEntries eq large → c ≤ d
+      → length small ≤ c → IsEndOf R small large
       → IsEndOf R (cache_put eq small c k v) (cache_put eq large d k v)
-  end-cache_put c d k v small large u l m r e =
+  end-cache_put again c d k v small large u l m e =
+      let r = again (stored_key eq small k) (stored_key eq large k) v (stored_equal k small large) in
       let few = cache_put-at_most eq small c k v in
       end-last_large (cache_put eq small c k v) (put eq large k v (length large)) d
       (end-last_small (put eq small k v (length small)) (put eq large k v (length large)) c
@@ -183,16 +173,14 @@ module _ {K V : Type 0} (eq : K → K → Bool) (laws : IsEquivalence eq) (R : K
   -- what the smaller one has, the larger one has too
   pub end-finds : (k : K) (small large : List (K × V)) → IsEndOf R small large
       → is_some (lookup (eq k) small) ≡ true → is_some (lookup (eq k) large) ≡ true
-  end-finds k small large e s = found (splits (eq k) large)
-    where
-      found : NonePasses (eq k) large ⊎ Stands (eq k) large → is_some (lookup (eq k) large) ≡ true
-      found (inl n) =
-          let none = each-right _ e.front e.back (subst (NonePasses (eq k)) e.is n) in
-          absurd (both_ways (is_some (lookup (eq k) small))
-          (ap is_some (lookup-none (eq k) small (none_alike k small e.back e.alike none))) s)
-      found (inr t) =
-          ap (λ zs. is_some (lookup (eq k) zs)) t.3.is
-          ∙ ap is_some (lookup-here (eq k) t.1 t.2 t.3.passes t.0 t.3.before)
+  end-finds k small large e s = elim (splits (eq k) large) [
+    | inl n ↦ (
+        let none = each-right _ e.front e.back (subst (NonePasses (eq k)) e.is n) in
+        absurd (both_ways (is_some (lookup (eq k) small))
+        (ap is_some (lookup-none (eq k) small (none_alike k small e.back e.alike none))) s))
+    | inr t ↦ ap (λ zs. is_some (lookup (eq k) zs)) t.3.is
+        ∙ ap is_some (lookup-here (eq k) t.1 t.2 t.3.passes t.0 t.3.before)
+  ]
 
 module _ {K V : Type 0} (eq : K → K → Bool) (laws : IsEquivalence eq) where
   -- ---- by keys alone
@@ -203,8 +191,7 @@ module _ {K V : Type 0} (eq : K → K → Bool) (laws : IsEquivalence eq) where
       → IsEndOf (SameKey eq) (option_map_or (λ w. cache_get eq small k) o (cache_put eq small c k v))
       (option_map_or (λ w. cache_get eq large k) q (cache_put eq large d k v))
   use_by c d k v small large None None l m u n f e =
-      end-cache_put eq laws (SameKey eq) (λ p q r. r) c d k v small large u n f
-      (stored_equal eq laws (SameKey eq) (λ p q r. r) k small large) e
+      end-cache_put eq laws (SameKey eq) (λ p q r. r) (λ p q w t. t) c d k v small large u n f e
   use_by c d k v small large None (Some y) l m u n f e =
       subst (IsEndOf (SameKey eq) (cache_put eq small c k v))
       (sym (moved-there eq large k (length large) y m))
@@ -226,33 +213,7 @@ module _ {K V : Type 0} (eq : K → K → Bool) (laws : IsEquivalence eq) where
   end-cache_use c d k v small large u n f e =
       use_by c d k v small large (lookup (eq k) small) (lookup (eq k) large) refl refl u n f e
 
-  pub end-insert : (c d : ℕ) (k : K) (v : V) (small large : List (K × V)) → IsEntries eq large → c ≤ d
-      → length small ≤ c → IsEndOf (SameKey eq) small large
-      → IsEndOf (SameKey eq) (cache_put eq small c k v) (cache_put eq large d k v)
-  end-insert c d k v small large u n f e =
-      end-cache_put eq laws (SameKey eq) (λ p q r. r) c d k v small large u n f
-      (stored_equal eq laws (SameKey eq) (λ p q r. r) k small large) e
-
-  pub end-remove : (k : K) (small large : List (K × V)) → IsEntries eq large
-      → IsEndOf (SameKey eq) small large → IsEndOf (SameKey eq) (without eq small k) (without eq large k)
-  end-remove k small large u e = end-without eq laws (SameKey eq) (λ p q r. r) k small large u e
-
-  pub end-answers : (k : K) (small large : List (K × V)) → IsEndOf (SameKey eq) small large
-      → is_some (lookup (eq k) small) ≡ true → is_some (lookup (eq k) large) ≡ true
-  end-answers k small large e s = end-finds eq laws (SameKey eq) (λ p q r. r) k small large e s
-
   -- ---- by keys and values
-
-  pub same_end-insert : (c d : ℕ) (k : K) (v : V) (small large : List (K × V)) → IsEntries eq large → c ≤ d
-      → length small ≤ c → IsEndOf (SameEntry eq) small large
-      → IsEndOf (SameEntry eq) (cache_put eq small c k v) (cache_put eq large d k v)
-  same_end-insert c d k v small large u n f e =
-      end-cache_put eq laws (SameEntry eq) (λ p q r. r.0) c d k v small large u n f
-      (stored_equal eq laws (SameEntry eq) (λ p q r. r.0) k small large, refl) e
-
-  pub same_end-remove : (k : K) (small large : List (K × V)) → IsEntries eq large
-      → IsEndOf (SameEntry eq) small large → IsEndOf (SameEntry eq) (without eq small k) (without eq large k)
-  same_end-remove k small large u e = end-without eq laws (SameEntry eq) (λ p q r. r.0) k small large u e
 
   same_values : (k : K) (xs ys : List (K × V)) → AllZip (SameEntry eq) xs ys → lookup (eq k) xs
       ≡ lookup (eq k) ys

@@ -27,7 +27,7 @@ module _ {K V S : Type 0} (old new : MapState K V S) where
   passes-kept s = (refl, omega arith)
 
   pub passes-clears : Clears old new → Passes old (Length 0) new
-  passes-clears s = let n = cleared_nodes old new s in (ap length s.entries, omega arith)
+  passes-clears s = (ap length s.entries, omega (arith, cleared_nodes old new s))
 
   pub passes-shrinks : {E : Type 0} (r : Result (Unit {0}) E) → Shrinks old new r
       → Passes old (Shrunk (length new.entries)) new
@@ -69,12 +69,10 @@ peak-grows n m (Shrunk p ∷ ps) l = le_refl (peak p ps)
 module _ {K V S : Type 0} where
   pub within_the_peak : (old new : MapState K V S) (ps : List Passed) → PassesInTurn old ps new
       → node_count new ≤ peak (node_count old) ps
-  within_the_peak old new [] s = let same = ap node_count s in omega arith
+  within_the_peak old new [] s = omega (arith, ap node_count s)
   within_the_peak old new (Length n ∷ ps) s =
-      let most = s.1.1 in
-      let more = peak-grows (node_count s.0) (max (node_count old) n) ps most in
-      let rest = within_the_peak s.0 new ps s.2 in
-      omega arith
+      let more = peak-grows (node_count s.0) (max (node_count old) n) ps s.1.1 in
+      omega (arith, within_the_peak s.0 new ps s.2)
   within_the_peak old new (Shrunk n ∷ ps) s =
       subst (λ m. node_count new ≤ peak m ps) s.1.1 (within_the_peak s.0 new ps s.2)
 

@@ -1,8 +1,8 @@
 -- The misses of a cache that always has c keys are bounded by those of any schedule, by steps of the two side
 -- by side.
 use Rattle.std.proofs.Common.{◌≡◌, ℕ, ◌+◌, ◌-◌, ◌*◌, ◌≤◌, Bool, true, false, cond, List, [], ◌∷◌, ◌++◌}
-use Rattle.std.proofs.Common.{length, drop, refl, sym, ap, ◌∙◌, subst, arith, length-append, zero-le}
-use Rattle.std.proofs.Common.{not-suc-le-zero, ◌||◌, true≢false}
+use Rattle.std.proofs.Common.{length, drop, refl, sym, ap, ◌∙◌, subst, arith, length-append}
+use Rattle.std.proofs.Common.{not-suc-le-zero}
 use Rattle.std.specs.Cmp.{IsEquivalence}
 use Rattle.std.specs.List.{IsDistinct}
 use Rattle.std.specs.Set.{is_member, remove_key}
@@ -61,13 +61,9 @@ module _ {X : Type 0} (eq : X → X → Bool) (laws : IsEquivalence eq) where
       let out = outside-one_more eq laws held (x ∷ xs) k d m n in
       record {
         size = omega arith;
-        unequal = IsDistinct-push laws xs k (IsDistinct-tail eq x xs d) (rest (eq k x) n);
+        unequal = IsDistinct-push laws xs k (IsDistinct-tail eq x xs d) (grind (arith, n));
         nearer = omega arith;
       }
-    where
-      rest : (b : Bool) → (b || is_member eq xs k) ≡ false → is_member eq xs k ≡ false
-      rest true e = absurd (true≢false e)
-      rest false e = e
 
   step_by : (h c : ℕ) (held xs : List X) (k : X) (b : Bool) → is_member eq xs k ≡ b
       → IsDistinct eq xs → length xs ≡ c → 1 ≤ c → length held ≤ h → is_member eq held k ≡ true
@@ -80,14 +76,10 @@ module _ {X : Type 0} (eq : X → X → Bool) (laws : IsEquivalence eq) where
       → triangle (c - h) ≤ ranks eq 0 held xs
   least h c held xs d l f =
       let out = outside-at_least eq laws held xs d in
-      let low = ranks-at_least eq held xs 0 in
-      let grow = triangle_mono (c - h) (outside eq held xs) (omega arith) in
-      omega arith
+      omega (arith, ranks-at_least eq held xs 0, triangle_mono (c - h) (outside eq held xs) (omega arith))
 
   missed_by : (c n : ℕ) (b d : Bool) → n ≡ c → (b ≡ true → d ≡ true) → cond d 0 n ≤ c * cond b 0 1
-  missed_by c n true d e f = rw (f refl) zero-le
-  missed_by c n false true e f = zero-le
-  missed_by c n false false e f = omega arith
+  missed_by c n b d e f = grind (arith, e, f)
 
   -- from any two states
   pub pursued : (h c : ℕ) → 1 ≤ c → (used : List X) (schedule : List (List X)) (before held xs : List X)

@@ -1,12 +1,12 @@
 -- A cache of c places holds the last c keys that were used, and a key exactly while fewer than c others were
 -- used since.
-use Rattle.std.proofs.Common.{◌≡◌, ℕ, ◌-◌, ◌≤◌, ◌<◌, Bool, true, false, ◌&&◌, ◌||◌, cond, List, [], ◌∷◌, ◌++◌}
+use Rattle.std.proofs.Common.{◌≡◌, ℕ, ◌-◌, ◌≤◌, ◌<◌, Bool, true, false, ◌&&◌, cond, List, [], ◌∷◌, ◌++◌}
 use Rattle.std.proofs.Common.{length, drop, nat_lt, is_some, Option, None, Some, refl, sym, ap, subst₂, ◌∙◌}
 use Rattle.std.proofs.Common.{◌⊎◌, inl, inr, subst, arith, length-append}
 use Rattle.std.specs.Cmp.{IsEquivalence}
 use Rattle.std.specs.Option.{option_map_or}
 use Rattle.std.specs.List.{AllZip}
-use Rattle.std.specs.Map.{lookup, remove_entry}
+use Rattle.std.specs.Map.{lookup}
 use Rattle.std.specs.Set.{is_member, remove_key, distinct_count}
 use Rattle.std.proofs.lemmas.Bool.{cases_lt}
 use Rattle.hashlink_model.specs.Entries.{put, without, stored_key}
@@ -29,21 +29,7 @@ module _ {K V : Type 0} (eq : K → K → Bool) (laws : IsEquivalence eq) where
   found_is_member k [] (q ∷ ks) z = absurd z
   found_is_member k (e ∷ es) [] z = absurd z
   found_is_member k (e ∷ es) (q ∷ ks) z =
-      ap (λ b. is_some (cond b (Some e.1) (lookup (eq k) es))) (answers_alike eq laws k e.0 q z.0)
-      ∙ by (eq k q) (found_is_member k es ks z.1)
-    where
-      by : (b : Bool) → is_some (lookup (eq k) es) ≡ is_member eq ks k
-          → is_some (cond b (Some e.1) (lookup (eq k) es)) ≡ (b || is_member eq ks k)
-      by true h = refl
-      by false h = h
-
-  zip_removed_by : (k : K) (e : K × V) (q : K) (es : List (K × V)) (ks : List K) (b : Bool) → eq k q ≡ b
-      → eq e.0 q ≡ true → AllZip (λ e q. eq e.0 q ≡ true) es ks
-      → AllZip (λ e q. eq e.0 q ≡ true) (remove_entry (eq k) es) (remove_key (eq k) ks)
-      → AllZip (λ e q. eq e.0 q ≡ true) (cond b es (e ∷ remove_entry (eq k) es))
-      (cond b ks (q ∷ remove_key (eq k) ks))
-  zip_removed_by k e q es ks true t r z h = z
-  zip_removed_by k e q es ks false t r z h = (r, h)
+      grind (arith, found_is_member k es ks z.1, answers_alike eq laws k e.0 q z.0)
 
   zip_removed : (k : K) (es : List (K × V)) (ks : List K) → AllZip (λ e q. eq e.0 q ≡ true) es ks
       → AllZip (λ e q. eq e.0 q ≡ true) (without eq es k) (remove_key (eq k) ks)
@@ -51,8 +37,10 @@ module _ {K V : Type 0} (eq : K → K → Bool) (laws : IsEquivalence eq) where
   zip_removed k [] (q ∷ ks) z = absurd z
   zip_removed k (e ∷ es) [] z = absurd z
   zip_removed k (e ∷ es) (q ∷ ks) z =
-      rw (answers_alike eq laws k e.0 q z.0)
-      (zip_removed_by k e q es ks (eq k q) refl z.0 z.1 (zip_removed k es ks z.1))
+      let R : K × V → K → Type 0 = λ p x. eq p.0 x ≡ true in
+      rw (answers_alike eq laws k e.0 q z.0) (elim (eq k q)
+      as (λ b. AllZip R (cond b es (e ∷ without eq es k)) (cond b ks (q ∷ remove_key (eq k) ks)))
+      [ true ↦ z.1 | false ↦ (z.0, zip_removed k es ks z.1) ])
 
   -- ---- one more use
 

@@ -39,7 +39,8 @@ module _ {T : Type 0} (eq : T → T → Bool) where
       let es = pairs_of ts in
       let there = is_some-lookup_pairs ts t in
       let long = length-keys_of (put eq es t tt b) in
-      grind (arith, long, there, length_pairs_of ts, length-put_absent eq es t tt b, length-put_there eq es t tt b)
+      let same = length_pairs_of ts in
+      grind (arith, long, there, same, length-put_absent eq es t tt b, length-put_there eq es t tt b)
 
   pub replaced-absent : (ts : List T) (t : T) → is_member eq ts t ≡ false → replaced eq ts t ≡ ts ++ t ∷ []
   replaced-absent ts t m = rw m refl
