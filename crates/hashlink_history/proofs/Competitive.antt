@@ -21,6 +21,7 @@ use Rattle.hashlink_history.proofs.Reuse.{held_exactly, HoldsRecent-cache_use, H
 use Rattle.hashlink_history.proofs.Potential.{triangle, ranks, ranks-append, ranks-held, ranks-at_most}
 use Rattle.hashlink_history.proofs.Pursuit.{Follows}
 use Rattle.hashlink_history.proofs.Pursued.{full_misses, pursued}
+use Rattle.std.proofs.lemmas.List.{length-map, map-append}
 
 -- ---- keys, and numbers beside them that no history has
 
@@ -55,14 +56,6 @@ module _ {K : Type 0} (eq : K → K → Bool) where
 
 abbrev pub real : {K : Type 0} → List K → List (K ⊎ ℕ)
 real ks = map (λ k. inl k) ks
-
-length_real : {K : Type 0} (ks : List K) → length (real ks) ≡ length ks
-length_real [] = refl
-length_real (k ∷ ks) = ap suc (length_real ks)
-
-real-append : {K : Type 0} (xs ys : List K) → real (xs ++ ys) ≡ real xs ++ real ys
-real-append [] ys = refl
-real-append (x ∷ xs) ys = ap (λ r. inl x ∷ r) (real-append xs ys)
 
 abbrev pub padding : (K : Type 0) → ℕ → List (K ⊎ ℕ)
 padding K zero = []
@@ -122,7 +115,7 @@ module _ {K : Type 0} (eq : K → K → Bool) where
   schedule_real h before (k ∷ used) [] s = s
   schedule_real h before (k ∷ used) (after ∷ held) s = (
     record {
-      size = (let a = length_real after in let b = s.0.size in omega arith);
+      size = (let pad : K → K ⊎ ℕ = λ x. inl x in omega (arith, length-map after pad, s.0.size));
       holds = member_real after k ∙ s.0.holds;
       others = others_real before k after s.0.others;
     },
@@ -161,7 +154,8 @@ module _ {K : Type 0} (eq : K → K → Bool) (laws : IsEquivalence eq) where
       (none_padding eq k (c - length ks)))
       ∙ append_assoc (padding K (c - length ks)) (remove_key (padded_eq eq (inl k)) (real ks)) (inl k ∷ [])
       ∙ ap₂ (λ n zs. padding K n ++ zs) same
-      (ap (λ zs. zs ++ inl k ∷ []) (remove_real eq ks k) ∙ sym (real-append (remove_key (eq k) ks) (k ∷ [])))
+      (ap (λ zs. zs ++ inl k ∷ []) (remove_real eq ks k)
+      ∙ sym (map-append (λ x. inl x) (remove_key (eq k) ks) (k ∷ [])))
 
   filled_room : (c : ℕ) (ks : List K) (k : K) → length ks < c
       → drop 1 (filled eq c ks) ++ inl k ∷ [] ≡ filled eq c (ks ++ k ∷ [])
@@ -170,7 +164,7 @@ module _ {K : Type 0} (eq : K → K → Bool) (laws : IsEquivalence eq) where
       let more : c - length ks ≡ suc (c - length (ks ++ k ∷ [])) = omega arith in
       ap (λ n. drop 1 (padding K n ++ real ks) ++ inl k ∷ []) more
       ∙ append_assoc (padding K (c - length (ks ++ k ∷ []))) (real ks) (inl k ∷ [])
-      ∙ ap (λ zs. padding K (c - length (ks ++ k ∷ [])) ++ zs) (sym (real-append ks (k ∷ [])))
+      ∙ ap (λ zs. padding K (c - length (ks ++ k ∷ [])) ++ zs) (sym (map-append (λ x. inl x) ks (k ∷ [])))
 
   filled_full : (c : ℕ) (ks : List K) (k : K) → length ks ≡ c → 1 ≤ c
       → drop 1 (filled eq c ks) ++ inl k ∷ [] ≡ filled eq c (drop 1 (ks ++ k ∷ []))
@@ -179,7 +173,8 @@ module _ {K : Type 0} (eq : K → K → Bool) (laws : IsEquivalence eq) where
       let b = length-append ks (k ∷ []) in
       let full : c - suc (length ks) ≡ 0 = omega arith in
       let full_after : c - length (ks ++ k ∷ []) ≡ 0 = omega arith in
-      ap (λ n. drop 1 (padding K n ++ real (x ∷ ks)) ++ inl k ∷ []) full ∙ sym (real-append ks (k ∷ []))
+      ap (λ n. drop 1 (padding K n ++ real (x ∷ ks)) ++ inl k ∷ []) full
+      ∙ sym (map-append (λ x. inl x) ks (k ∷ []))
       ∙ ap (λ n. padding K n ++ real (ks ++ k ∷ [])) (sym full_after)
 
   -- one use: the filled cache takes the step that the recent keys take

@@ -1,6 +1,6 @@
 -- A smaller cache's entries stay an end of a larger one's, whatever both are given.
 use Rattle.std.proofs.Common.{◌≡◌, ℕ, zero, suc, ◌+◌, ◌-◌, ◌≤◌, ◌<◌, Bool, true, false, cond, List, [], ◌∷◌}
-use Rattle.std.proofs.Common.{◌++◌, length, drop, is_some, Option, None, Some, refl, sym, ap, ap₂, ◌∙◌, ◌⊎◌}
+use Rattle.std.proofs.Common.{◌++◌, length, drop, is_some, Option, None, Some, refl, sym, ap, ◌∙◌, ◌⊎◌}
 use Rattle.std.proofs.Common.{inl, inr, subst, subst₂, arith, append_assoc, lt_irrefl}
 use Rattle.std.specs.Cmp.{IsEquivalence}
 use Rattle.std.specs.Option.{option_map_or}
@@ -57,6 +57,16 @@ module _ {K V : Type 0} (eq : K → K → Bool) (laws : IsEquivalence eq) (R : K
 
   -- ---- one step of either
 
+  -- a key that stands in front is no longer behind
+  none_behind : (k : K) (small large : List (K × V)) (e : IsEndOf R small large) → IsEntries eq large
+      → Stands (eq k) e.front → NonePasses (eq k) e.back
+  none_behind k small large e d s =
+      let whole : large ≡ s.0 ++ s.1 ∷ (s.2 ++ e.back)
+      = e.is ∙ ap (λ zs. zs ++ e.back) s.3.is ∙ append_assoc s.0 (s.1 ∷ s.2) e.back in
+      let others = none_equal eq laws s.1.0 k (s.0 ++ (s.2 ++ e.back)) (laws.symm s.1.0 k ∙ s.3.passes)
+      (none_others eq laws s.0 s.1 (s.2 ++ e.back) (subst (IsEntries eq) whole d)) in
+      each-right _ s.2 e.back (each-right _ s.0 (s.2 ++ e.back) others)
+
   without_by : (k : K) (small large : List (K × V)) (e : IsEndOf R small large) → IsEntries eq large
       → NonePasses (eq k) e.front ⊎ Stands (eq k) e.front
       → IsEndOf R (without eq small k) (without eq large k)
@@ -68,11 +78,7 @@ module _ {K V : Type 0} (eq : K → K → Bool) (laws : IsEquivalence eq) (R : K
         alike = remove_alike k small e.back e.alike;
       }
   without_by k small large e d (inr s) =
-      let whole : large ≡ s.0 ++ s.1 ∷ (s.2 ++ e.back)
-      = e.is ∙ ap (λ zs. zs ++ e.back) s.3.is ∙ append_assoc s.0 (s.1 ∷ s.2) e.back in
-      let others = none_equal eq laws s.1.0 k (s.0 ++ (s.2 ++ e.back)) (laws.symm s.1.0 k ∙ s.3.passes)
-      (none_others eq laws s.0 s.1 (s.2 ++ e.back) (subst (IsEntries eq) whole d)) in
-      let none = each-right _ s.2 e.back (each-right _ s.0 (s.2 ++ e.back) others) in
+      let none = none_behind k small large e d s in
       record {
         front = without eq e.front k;
         back = e.back;
@@ -185,33 +191,33 @@ module _ {K V : Type 0} (eq : K → K → Bool) (laws : IsEquivalence eq) (R : K
 module _ {K V : Type 0} (eq : K → K → Bool) (laws : IsEquivalence eq) where
   -- ---- by keys alone
 
-  use_by : (c d : ℕ) (k : K) (v : V) (small large : List (K × V)) (o q : Option V) → lookup (eq k) small ≡ o
-      → lookup (eq k) large ≡ q → IsEntries eq large → c ≤ d → length small ≤ c
-      → IsEndOf (SameKey eq) small large
-      → IsEndOf (SameKey eq) (option_map_or (λ w. cache_get eq small k) o (cache_put eq small c k v))
-      (option_map_or (λ w. cache_get eq large k) q (cache_put eq large d k v))
-  use_by c d k v small large None None l m u n f e =
-      end-cache_put eq laws (SameKey eq) (λ p q r. r) (λ p q w t. t) c d k v small large u n f e
-  use_by c d k v small large None (Some y) l m u n f e =
-      subst (IsEndOf (SameKey eq) (cache_put eq small c k v))
-      (sym (moved-there eq large k (length large) y m))
-      (end-last_small eq laws (SameKey eq) (λ p q r. r) (put eq small k v (length small))
-      (put eq large k y (length large)) c (end-put eq laws (SameKey eq) (λ p q r. r) k v y small large u
-      (stored_equal eq laws (SameKey eq) (λ p q r. r) k small large) e))
-  use_by c d k v small large (Some x) None l m u n f e =
-      absurd (both_ways (is_some (lookup (eq k) large)) (ap is_some m)
-      (end-finds eq laws (SameKey eq) (λ p q r. r) k small large e (ap is_some l)))
-  use_by c d k v small large (Some x) (Some y) l m u n f e =
-      subst₂ (IsEndOf (SameKey eq)) (sym (moved-there eq small k (length small) x l))
-      (sym (moved-there eq large k (length large) y m))
-      (end-put eq laws (SameKey eq) (λ p q r. r) k x y small large u
-      (stored_equal eq laws (SameKey eq) (λ p q r. r) k small large) e)
+  module _ (c d : ℕ) (k : K) (v : V) (small large : List (K × V)) (u : IsEntries eq large) (fewer : c ≤ d)
+      (within : length small ≤ c) (e : IsEndOf (SameKey eq) small large) where
+    put_alike : (x y : V)
+        → IsEndOf (SameKey eq) (put eq small k x (length small)) (put eq large k y (length large))
+    put_alike x y =
+        end-put eq laws (SameKey eq) (λ p q r. r) k x y small large u
+        (stored_equal eq laws (SameKey eq) (λ p q r. r) k small large) e
 
-  pub end-cache_use : (c d : ℕ) (k : K) (v : V) (small large : List (K × V)) → IsEntries eq large → c ≤ d
-      → length small ≤ c → IsEndOf (SameKey eq) small large
-      → IsEndOf (SameKey eq) (cache_use eq small c k v) (cache_use eq large d k v)
-  end-cache_use c d k v small large u n f e =
-      use_by c d k v small large (lookup (eq k) small) (lookup (eq k) large) refl refl u n f e
+    use_by : (o q : Option V) → lookup (eq k) small ≡ o → lookup (eq k) large ≡ q
+        → IsEndOf (SameKey eq) (option_map_or (λ w. cache_get eq small k) o (cache_put eq small c k v))
+        (option_map_or (λ w. cache_get eq large k) q (cache_put eq large d k v))
+    use_by None None l m =
+        end-cache_put eq laws (SameKey eq) (λ p q r. r) (λ p q w t. t) c d k v small large u fewer within e
+    use_by None (Some y) l m =
+        subst (IsEndOf (SameKey eq) (cache_put eq small c k v))
+        (sym (moved-there eq large k (length large) y m))
+        (end-last_small eq laws (SameKey eq) (λ p q r. r) (put eq small k v (length small))
+        (put eq large k y (length large)) c (put_alike v y))
+    use_by (Some x) None l m =
+        absurd (both_ways (is_some (lookup (eq k) large)) (ap is_some m)
+        (end-finds eq laws (SameKey eq) (λ p q r. r) k small large e (ap is_some l)))
+    use_by (Some x) (Some y) l m =
+        subst₂ (IsEndOf (SameKey eq)) (sym (moved-there eq small k (length small) x l))
+        (sym (moved-there eq large k (length large) y m)) (put_alike x y)
+
+    pub end-cache_use : IsEndOf (SameKey eq) (cache_use eq small c k v) (cache_use eq large d k v)
+    end-cache_use = use_by (lookup (eq k) small) (lookup (eq k) large) refl refl
 
   -- ---- by keys and values
 
@@ -221,24 +227,13 @@ module _ {K V : Type 0} (eq : K → K → Bool) (laws : IsEquivalence eq) where
   same_values k [] (y ∷ ys) z = absurd z
   same_values k (x ∷ xs) [] z = absurd z
   same_values k (x ∷ xs) (y ∷ ys) z =
-      ap₂ (λ b w. cond b (Some w) (lookup (eq k) xs)) (answers_alike eq laws k x.0 y.0 z.0.0) z.0.1
-      ∙ ap (cond (eq k y.0) (Some y.1)) (same_values k xs ys z.1)
+      grind (arith, same_values k xs ys z.1, answers_alike eq laws k x.0 y.0 z.0.0, z.0.1)
 
   pub same_end-answers : (k : K) (w : V) (small large : List (K × V)) → IsEntries eq large
       → IsEndOf (SameEntry eq) small large → lookup (eq k) small ≡ Some w → lookup (eq k) large ≡ Some w
   same_end-answers k w small large u e l =
-      ap (lookup (eq k)) e.is ∙ lookup-right (eq k) e.front e.back (front_none (splits (eq k) e.front)) ∙ held
-    where
-      held : lookup (eq k) e.back ≡ Some w
-      held = sym (same_values k small e.back e.alike) ∙ l
-
-      front_none : NonePasses (eq k) e.front ⊎ Stands (eq k) e.front → NonePasses (eq k) e.front
-      front_none (inl n) = n
-      front_none (inr s) =
-          let whole : large ≡ s.0 ++ s.1 ∷ (s.2 ++ e.back)
-          = e.is ∙ ap (λ zs. zs ++ e.back) s.3.is ∙ append_assoc s.0 (s.1 ∷ s.2) e.back in
-          let others = none_equal eq laws s.1.0 k (s.0 ++ (s.2 ++ e.back)) (laws.symm s.1.0 k ∙ s.3.passes)
-          (none_others eq laws s.0 s.1 (s.2 ++ e.back) (subst (IsEntries eq) whole u)) in
-          absurd (none-some w
-          (sym (lookup-none (eq k) e.back (each-right _ s.2 e.back (each-right _ s.0 (s.2 ++ e.back) others)))
-          ∙ held))
+      let held : lookup (eq k) e.back ≡ Some w = sym (same_values k small e.back e.alike) ∙ l in
+      let behind = none_behind eq laws (SameEntry eq) (λ p q r. r.0) k small large e u in
+      let none : NonePasses (eq k) e.front = elim (splits (eq k) e.front)
+      [ inl n ↦ n | inr s ↦ absurd (none-some w (sym (lookup-none (eq k) e.back (behind s)) ∙ held)) ] in
+      ap (lookup (eq k)) e.is ∙ lookup-right (eq k) e.front e.back none ∙ held

@@ -1,8 +1,8 @@
 -- A cache of c places holds the last c keys that were used, and a key exactly while fewer than c others were
 -- used since.
-use Rattle.std.proofs.Common.{◌≡◌, ℕ, ◌-◌, ◌≤◌, ◌<◌, Bool, true, false, ◌&&◌, cond, List, [], ◌∷◌, ◌++◌}
+use Rattle.std.proofs.Common.{◌≡◌, ℕ, ◌-◌, Bool, true, false, ◌&&◌, cond, List, [], ◌∷◌, ◌++◌}
 use Rattle.std.proofs.Common.{length, drop, nat_lt, is_some, Option, None, Some, refl, sym, ap, subst₂, ◌∙◌}
-use Rattle.std.proofs.Common.{◌⊎◌, inl, inr, subst, arith, length-append}
+use Rattle.std.proofs.Common.{inl, inr, subst, arith, length-append}
 use Rattle.std.specs.Cmp.{IsEquivalence}
 use Rattle.std.specs.Option.{option_map_or}
 use Rattle.std.specs.List.{AllZip}
@@ -21,6 +21,10 @@ use Rattle.hashlink_model.proofs.Caches.{front_evicted-within, front_evicted-abo
 use Rattle.hashlink_model.proofs.Caches.{cache_put-evicts}
 use Rattle.hashlink_history.proofs.Recency.{zip_push, zip_drop_one, zip_length, is_recent, recent_keys-there}
 use Rattle.hashlink_history.proofs.Recency.{recent_keys-full, recent_keys-room, length-recent_keys}
+use Rattle.std.proofs.Common.{arith}
+use Rattle.std.specs.Option.{option_map_or}
+use Rattle.hashlink_model.specs.Cache.{cache_get}
+use Rattle.std.proofs.Common.{Option}
 
 module _ {K V : Type 0} (eq : K → K → Bool) (laws : IsEquivalence eq) where
   pub found_is_member : (k : K) (es : List (K × V)) (ks : List K) → AllZip (λ e q. eq e.0 q ≡ true) es ks
@@ -57,29 +61,24 @@ module _ {K V : Type 0} (eq : K → K → Bool) (laws : IsEquivalence eq) where
       (laws.symm (stored_key eq es k) k ∙ stored_key-equal eq laws k es))
 
   -- of one that is not: it comes last, and where there are c already the first leaves
-  held_new_by : (c : ℕ) (used : List K) (es : List (K × V)) (k : K) (v : V) → HoldsRecent eq c used es
-      → lookup (eq k) es ≡ None → (distinct_count eq used < c) ⊎ (c ≤ distinct_count eq used)
-      → HoldsRecent eq c (used ++ k ∷ []) (front_evicted (es ++ (k, v) ∷ []) c)
-  held_new_by c used es k v h l (inl r) =
+  held_new : (c : ℕ) (used : List K) (es : List (K × V)) (k : K) (v : V) → HoldsRecent eq c used es
+      → lookup (eq k) es ≡ None → HoldsRecent eq c (used ++ k ∷ []) (front_evicted (es ++ (k, v) ∷ []) c)
+  held_new c used es k v h l =
       let m : is_member eq (recent_keys eq c used) k ≡ false
       = sym (found_is_member k es (recent_keys eq c used) h) ∙ ap is_some l in
       let long = zip_length _ es (recent_keys eq c used) h in
       let count = length-recent_keys eq laws c used in
       let more = length-append es ((k, v) ∷ []) in
-      subst₂ (AllZip (λ e q. eq e.0 q ≡ true))
-      (sym (front_evicted-within (es ++ (k, v) ∷ []) c (omega arith)))
-      (sym (recent_keys-room eq laws c used k m r))
-      (zip_push _ es (recent_keys eq c used) (k, v) k h (laws.refl k))
-  held_new_by c used es k v h l (inr r) =
-      let m : is_member eq (recent_keys eq c used) k ≡ false
-      = sym (found_is_member k es (recent_keys eq c used) h) ∙ ap is_some l in
-      let long = zip_length _ es (recent_keys eq c used) h in
-      let count = length-recent_keys eq laws c used in
-      let more = length-append es ((k, v) ∷ []) in
-      subst₂ (AllZip (λ e q. eq e.0 q ≡ true)) (sym (front_evicted-above (es ++ (k, v) ∷ []) c (omega arith)))
-      (sym (recent_keys-full eq laws c used k m r))
-      (zip_drop_one _ (es ++ (k, v) ∷ []) (recent_keys eq c used ++ k ∷ [])
-      (zip_push _ es (recent_keys eq c used) (k, v) k h (laws.refl k)))
+      let pushed = zip_push (λ e q. eq e.0 q ≡ true) es (recent_keys eq c used) (k, v) k h (laws.refl k) in
+      elim (cases_lt (distinct_count eq used) c) [
+        | inl r ↦ subst₂ (AllZip (λ e q. eq e.0 q ≡ true))
+            (sym (front_evicted-within (es ++ (k, v) ∷ []) c (omega arith)))
+            (sym (recent_keys-room eq laws c used k m r)) pushed
+        | inr r ↦ subst₂ (AllZip (λ e q. eq e.0 q ≡ true))
+            (sym (front_evicted-above (es ++ (k, v) ∷ []) c (omega arith)))
+            (sym (recent_keys-full eq laws c used k m r))
+            (zip_drop_one _ (es ++ (k, v) ∷ []) (recent_keys eq c used ++ k ∷ []) pushed)
+      ]
 
   put_by : (c : ℕ) (used : List K) (es : List (K × V)) (k : K) (v : V) (o : Option V) → lookup (eq k) es ≡ o
       → HoldsRecent eq c used es → HoldsRecent eq c (used ++ k ∷ []) (cache_put eq es c k v)
@@ -88,7 +87,7 @@ module _ {K V : Type 0} (eq : K → K → Bool) (laws : IsEquivalence eq) where
       let count = length-recent_keys eq laws c used in
       subst (HoldsRecent eq c (used ++ k ∷ [])) (sym (cache_put-evicts eq es c k v (omega arith)
       ∙ ap (λ zs. front_evicted zs c) (put_back_absent eq es k v (none_from_lookup (eq k) es l))))
-      (held_new_by c used es k v h l (cases_lt (distinct_count eq used) c))
+      (held_new c used es k v h l)
   put_by c used es k v (Some w) l h =
       let long = zip_length _ es (recent_keys eq c used) h in
       let count = length-recent_keys eq laws c used in
