@@ -153,8 +153,7 @@ module _ {K : Type 0} (eq : K → K → Bool) (laws : IsEquivalence eq) where
       (remove_key-right (padded_eq eq) (padded_equiv eq laws) (inl k) (padding K (c - length ks)) (real ks)
       (none_padding eq k (c - length ks)))
       ∙ append_assoc (padding K (c - length ks)) (remove_key (padded_eq eq (inl k)) (real ks)) (inl k ∷ [])
-      ∙ ap₂ (λ n zs. padding K n ++ zs) same
-      (ap (λ zs. zs ++ inl k ∷ []) (remove_real eq ks k)
+      ∙ ap₂ (λ n zs. padding K n ++ zs) same (ap (λ zs. zs ++ inl k ∷ []) (remove_real eq ks k)
       ∙ sym (map-append (λ x. inl x) (remove_key (eq k) ks) (k ∷ [])))
 
   filled_room : (c : ℕ) (ks : List K) (k : K) → length ks < c

@@ -146,8 +146,7 @@ module _ {K : Type 0} (eq : K → K → Bool) (laws : IsEquivalence eq) where
 
   pub length-recent_keys : (c : ℕ) (used : List K) → length (recent_keys eq c used)
       ≡ min c (distinct_count eq used)
-  length-recent_keys c used =
-      omega (arith, length-drop (distinct_count eq used - c) (unique_keys eq used))
+  length-recent_keys c used = omega (arith, length-drop (distinct_count eq used - c) (unique_keys eq used))
 
   -- one more use of a key that is among them
   pub recent_keys-there : (c : ℕ) (used : List K) (k : K) → is_member eq (recent_keys eq c used) k ≡ true

@@ -1,8 +1,8 @@
 -- A cache of c places holds the last c keys that were used, and a key exactly while fewer than c others were
 -- used since.
-use Rattle.std.proofs.Common.{◌≡◌, ℕ, ◌-◌, Bool, true, false, ◌&&◌, cond, List, [], ◌∷◌, ◌++◌}
-use Rattle.std.proofs.Common.{length, drop, nat_lt, is_some, Option, None, Some, refl, sym, ap, subst₂, ◌∙◌}
-use Rattle.std.proofs.Common.{inl, inr, subst, arith, length-append}
+use Rattle.std.proofs.Common.{◌≡◌, ℕ, ◌-◌, Bool, true, false, ◌&&◌, cond, List, [], ◌∷◌, ◌++◌, length, drop}
+use Rattle.std.proofs.Common.{nat_lt, is_some, Option, None, Some, refl, sym, ap, subst₂, ◌∙◌, inl, inr}
+use Rattle.std.proofs.Common.{subst, arith, length-append}
 use Rattle.std.specs.Cmp.{IsEquivalence}
 use Rattle.std.specs.Option.{option_map_or}
 use Rattle.std.specs.List.{AllZip}
@@ -21,10 +21,6 @@ use Rattle.hashlink_model.proofs.Caches.{front_evicted-within, front_evicted-abo
 use Rattle.hashlink_model.proofs.Caches.{cache_put-evicts}
 use Rattle.hashlink_history.proofs.Recency.{zip_push, zip_drop_one, zip_length, is_recent, recent_keys-there}
 use Rattle.hashlink_history.proofs.Recency.{recent_keys-full, recent_keys-room, length-recent_keys}
-use Rattle.std.proofs.Common.{arith}
-use Rattle.std.specs.Option.{option_map_or}
-use Rattle.hashlink_model.specs.Cache.{cache_get}
-use Rattle.std.proofs.Common.{Option}
 
 module _ {K V : Type 0} (eq : K → K → Bool) (laws : IsEquivalence eq) where
   pub found_is_member : (k : K) (es : List (K × V)) (ks : List K) → AllZip (λ e q. eq e.0 q ≡ true) es ks

@@ -1,16 +1,14 @@
 -- How long a cache is after its calls, which of them is never refused, and how many links they store.
-use Rattle.std.proofs.Common.{◌≡◌, ℕ, ◌+◌, ◌-◌, ◌*◌, ◌≤◌, ◌<◌, Bool, length, Option, None, Some, Result}
-use Rattle.std.proofs.Common.{Ok, Err, ap, arith}
+use Rattle.std.proofs.Common.{◌≡◌, ℕ, ◌+◌, ◌-◌, ◌*◌, ◌≤◌, ◌<◌, Bool, length, Option, None, Some, Result, Ok}
+use Rattle.std.proofs.Common.{Err, ap, arith}
 use Rattle.std.proofs.lemmas.Map.{length-set_value}
 use Rattle.hashlink_model.specs.Entries.{put}
 use Rattle.hashlink_model.specs.MapState.{StoresAtMost, node_count}
 use Rattle.hashlink_model.specs.Steps.{Clears, RemovesKey, RemovesMatch, PopsFront}
-use Rattle.hashlink_model.specs.Cache.{CacheState, OnMap, IsWithin, HasNodeToSpare}
-use Rattle.hashlink_model.specs.Cache.{CacheInserts, CacheGets, SetsCapacity}
-use Rattle.hashlink_model.specs.Cache.{CacheGetsMatch, CacheGetsMatchAndWrites}
+use Rattle.hashlink_model.specs.Cache.{CacheState, OnMap, IsWithin, HasNodeToSpare, CacheInserts, CacheGets}
+use Rattle.hashlink_model.specs.Cache.{SetsCapacity, CacheGetsMatch, CacheGetsMatchAndWrites}
 use Rattle.hashlink_model.proofs.Afterwards.{length-put_there, length-moved_match}
-use Rattle.hashlink_model.proofs.Caches.{length-last_entries}
-use Rattle.hashlink_model.proofs.Caches.{cache_put-at_most}
+use Rattle.hashlink_model.proofs.Caches.{length-last_entries, cache_put-at_most}
 use Rattle.hashlink_model.proofs.CacheSteps.{put_entries, inserts_entries}
 use Rattle.hashlink_model.proofs.NodeCounts.{moves_match_length}
 use Rattle.hashlink_model.proofs.KeptNodes.{kept-inserts}

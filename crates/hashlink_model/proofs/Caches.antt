@@ -1,7 +1,7 @@
 -- What a cache holds after its steps.
-use Rattle.std.proofs.Common.{◌≡◌, ℕ, suc, ◌+◌, ◌-◌, ◌≤◌, ◌<◌, Bool, true, false, min, List, [], ◌∷◌}
-use Rattle.std.proofs.Common.{◌++◌, length, drop, take, unwrap_or, Some, refl, sym, ap}
-use Rattle.std.proofs.Common.{arith, zero, length-drop, lt-ltb, le-ltb, take-append-drop}
+use Rattle.std.proofs.Common.{◌≡◌, ℕ, suc, ◌+◌, ◌-◌, ◌≤◌, ◌<◌, Bool, true, false, min, List, [], ◌∷◌, ◌++◌}
+use Rattle.std.proofs.Common.{length, drop, take, unwrap_or, Some, refl, sym, ap, arith, zero, length-drop}
+use Rattle.std.proofs.Common.{lt-ltb, le-ltb, take-append-drop}
 use Rattle.std.specs.Cmp.{IsEquivalence}
 use Rattle.std.specs.Map.{lookup, lookup_entry}
 use Rattle.std.proofs.lemmas.Bool.{cases_lt}
@@ -11,9 +11,8 @@ use Rattle.hashlink_model.specs.Cache.{cache_use}
 use Rattle.hashlink_model.proofs.Distinct.{IsEntries-tail}
 use Rattle.hashlink_model.proofs.Puts.{IsEntries-put}
 use Rattle.hashlink_model.proofs.Finds.{lookup-equal}
-use Rattle.hashlink_model.proofs.Afterwards.{length-put, length-put_absent, length-put_there}
-use Rattle.hashlink_model.proofs.Afterwards.{length-moved, lookup-moved, lookup_entry-put_other}
-use Rattle.hashlink_model.proofs.Afterwards.{IsEntries-moved, moved_is}
+use Rattle.hashlink_model.proofs.Afterwards.{length-put, length-put_absent, length-put_there, length-moved}
+use Rattle.hashlink_model.proofs.Afterwards.{lookup-moved, lookup_entry-put_other, IsEntries-moved, moved_is}
 use Rattle.hashlink_model.proofs.Remaining.{lookup-put_remaining, lookup_entry-put_remaining}
 use Rattle.std.proofs.lemmas.Bool.Decides.{nat_tests}
 

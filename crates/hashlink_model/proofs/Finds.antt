@@ -1,14 +1,13 @@
 -- What a look-up finds: at the key of an entry, and at every other key.
-use Rattle.std.proofs.Common.{◌≡◌, Bool, true, false, cond, List, [], ◌∷◌, ◌++◌, Option, None, Some, refl}
-use Rattle.std.proofs.Common.{ap, arith}
+use Rattle.std.proofs.Common.{◌≡◌, Bool, true, false, cond, List, [], ◌∷◌, ◌++◌, Option, None, Some, refl, ap}
+use Rattle.std.proofs.Common.{arith}
 use Rattle.std.specs.Option.{option_map}
 use Rattle.std.specs.Cmp.{IsEquivalence}
 use Rattle.std.specs.Map.{lookup, lookup_entry, lookup_key}
 use Rattle.std.proofs.lemmas.Map.{NonePasses}
 use Rattle.hashlink_model.specs.Entries.{IsEntries, without, stored_key}
 use Rattle.hashlink_model.proofs.Splits.{lookup_entry-none}
-use Rattle.hashlink_model.proofs.Distinct.{none_equal}
-use Rattle.hashlink_model.proofs.Distinct.{IsEntries-head, IsEntries-tail}
+use Rattle.hashlink_model.proofs.Distinct.{none_equal, IsEntries-head, IsEntries-tail}
 
 pub option_map-cond : {X Y : Type 0} (f : X → Y) (b : Bool) (x y : Option X)
     → option_map f (cond b x y) ≡ cond b (option_map f x) (option_map f y)

@@ -1,9 +1,8 @@
 -- No step gives a node back but a clear and a shrink, and none makes one beyond need.
-use Rattle.std.proofs.Common.{◌≡◌, ℕ, ◌≤◌, ◌<◌, List, length, Bool, Option, None, Some, Result, Ok, Err}
-use Rattle.std.proofs.Common.{ap, arith}
+use Rattle.std.proofs.Common.{◌≡◌, ℕ, ◌≤◌, ◌<◌, List, length, Bool, Option, None, Some, Result, Ok, Err, ap}
+use Rattle.std.proofs.Common.{arith}
 use Rattle.std.proofs.lemmas.Map.{length-set_value}
-use Rattle.hashlink_model.specs.MapState.{MapState, node_count, KeepsNodes, Changes}
-use Rattle.hashlink_model.specs.MapState.{Inserts}
+use Rattle.hashlink_model.specs.MapState.{MapState, node_count, KeepsNodes, Changes, Inserts}
 use Rattle.hashlink_model.specs.Steps.{KeepsOnly, Replaces, Moves, MovesAndWrites, RemovesKey, PopsFront}
 use Rattle.hashlink_model.specs.Steps.{PopsBack, Clears}
 use Rattle.hashlink_model.proofs.NodeCounts.{node_count-puts, writes_nodes, moves_nodes}

@@ -1,6 +1,6 @@
 -- What set algebra gives: its members, its order, and that its elements stay pairwise unequal.
-use Rattle.std.proofs.Common.{◌≡◌, Bool, true, false, not, ◌&&◌, ◌||◌, cond, List, [], ◌∷◌, ◌++◌, filter}
-use Rattle.std.proofs.Common.{refl, sym, ap, ap₂, ◌∙◌, true≢false}
+use Rattle.std.proofs.Common.{◌≡◌, Bool, true, false, not, ◌&&◌, ◌||◌, cond, List, [], ◌∷◌, ◌++◌, filter, sym}
+use Rattle.std.proofs.Common.{refl, ap, ap₂, ◌∙◌, true≢false, arith}
 use Rattle.std.specs.Cmp.{IsEquivalence}
 use Rattle.std.specs.List.{IsDistinct, AllByRecursion}
 use Rattle.std.specs.Set.{is_member, IsUnion, IsIntersection, IsDifference, IsSymmetricDifference}
@@ -10,7 +10,6 @@ use Rattle.std.proofs.lemmas.List.Elements.{recursion_from_All, filter_passes}
 use Rattle.hashlink_model.proofs.Distinct.{each-append, each-weaker}
 use Rattle.hashlink_model.specs.Algebra.{difference_of, intersection_of, union_of, symmetric_difference_of}
 use Rattle.hashlink_model.specs.Algebra.{is_nil, is_subset, is_disjoint}
-use Rattle.std.proofs.Common.{arith}
 
 module _ {T : Type 0} (eq : T → T → Bool) (laws : IsEquivalence eq) where
   -- equal elements are members alike

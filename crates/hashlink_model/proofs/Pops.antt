@@ -1,6 +1,6 @@
 -- The first and the last entry taken out, and cursors and entries of a map's state.
 use Rattle.std.proofs.Common.{◌≡◌, ℕ, ◌+◌, ◌≤◌, Bool, List, [], ◌∷◌, ◌++◌, length, None, Some, Err, refl, sym}
-use Rattle.std.proofs.Common.{ap, ◌∙◌, subst, append-nil}
+use Rattle.std.proofs.Common.{ap, ◌∙◌, subst, append-nil, arith}
 use Rattle.std.specs.Cmp.{IsEquivalence}
 use Rattle.std.specs.Map.{lookup}
 use Rattle.hashlink_model.specs.Entries.{IsEntries, without, place_of}
@@ -13,7 +13,6 @@ use Rattle.hashlink_model.specs.Cursor.{CursorState, CursorInserts, place_kept}
 use Rattle.hashlink_model.proofs.Splits.{remove_entry-here}
 use Rattle.hashlink_model.proofs.Places.{none_before}
 use Rattle.hashlink_model.proofs.Cursors.{place_kept-same}
-use Rattle.std.proofs.Common.{arith}
 
 module _ {K V : Type 0} (eq : K → K → Bool) (laws : IsEquivalence eq) where
   pub without-last : (es : List (K × V)) (e : K × V) → IsEntries eq (es ++ e ∷ [])

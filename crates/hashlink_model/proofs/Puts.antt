@@ -1,7 +1,6 @@
 -- The entries after a key is put at a place.
-use Rattle.std.proofs.Common.{◌≡◌, ℕ, ◌+◌, ◌-◌, Bool, true, false, cond, List, []}
-use Rattle.std.proofs.Common.{◌∷◌, ◌++◌, length, Some, refl, ◌∙◌, ◌⊎◌, inl, inr, subst}
-use Rattle.std.proofs.Common.{arith, take, drop}
+use Rattle.std.proofs.Common.{◌≡◌, ℕ, ◌+◌, ◌-◌, Bool, true, false, cond, List, [], ◌∷◌, ◌++◌, length, Some}
+use Rattle.std.proofs.Common.{refl, ◌∙◌, ◌⊎◌, inl, inr, subst, arith, take, drop}
 use Rattle.std.specs.Prelude.{insert, nat_lt}
 use Rattle.std.specs.Cmp.{IsEquivalence}
 use Rattle.std.specs.Map.{lookup_entry, set_value}
@@ -15,10 +14,6 @@ use Rattle.hashlink_model.proofs.Splits.{remove_entry-here, set_value-here}
 use Rattle.hashlink_model.proofs.Distinct.{none_equal, none_others, IsEntries-middle, IsEntries-insert}
 use Rattle.hashlink_model.proofs.Finds.{stored_key-equal, lookup_entry-middle, lookup_entry-without}
 use Rattle.std.proofs.lemmas.Bool.Decides.{nat_tests}
-
-pub cond-same_test : {X : Type 0} (b : Bool) (x y z : X) → cond b x (cond b y z) ≡ cond b x z
-cond-same_test true x y z = refl
-cond-same_test false x y z = refl
 
 module _ {K V : Type 0} (eq : K → K → Bool) where
   -- an absent key goes in at the place

@@ -1,7 +1,7 @@
 -- What a retain leaves: in the list's own order, with keys pairwise unequal, and a filter where the closure
 -- is a predicate.
 use Rattle.std.proofs.Common.{◌≡◌, Bool, true, false, cond, List, [], ◌∷◌, ◌++◌, Option, None, Some, filter}
-use Rattle.std.proofs.Common.{Contains, refl, sym, ap, ap₂, ◌∙◌, subst, IsPermutation}
+use Rattle.std.proofs.Common.{Contains, refl, sym, ap, ap₂, ◌∙◌, subst, IsPermutation, arith}
 use Rattle.std.specs.Cmp.{IsEquivalence}
 use Rattle.std.specs.List.{AllByRecursion, cons_option}
 use Rattle.std.specs.Map.{lookup_entry, keys_of}
@@ -18,7 +18,6 @@ use Rattle.hashlink_model.proofs.Distinct.{IsEntries-cons, IsEntries-head, IsEnt
 use Rattle.hashlink_model.proofs.Distinct.{each-left, each-right, each-weaker, none_equal, none_others}
 use Rattle.hashlink_model.proofs.Splits.{lookup_entry-none, lookup_entry-here}
 use Rattle.hashlink_model.proofs.Places.{split_at}
-use Rattle.std.proofs.Common.{arith}
 
 module _ {F K V : Type 0} (T : F → K → V → Bool → V → F → Type 0) where
   -- the calls along a list, without the state in which they leave the closure
@@ -57,23 +56,17 @@ module _ {K V : Type 0} (eq : K → K → Bool) (laws : IsEquivalence eq) where
       apart_by q e (lookup_entry (eq e.0) kept) (in_order_of eq es kept) n.0 (found_passes (eq e.0) kept)
       (none_in_order q es kept n.1)
 
-  distinct_by : (e : K × V) (o : Option (K × V)) (zs : List (K × V))
-      → ((f : K × V) → o ≡ Some f → eq e.0 f.0 ≡ true) → NonePasses (eq e.0) zs → IsEntries eq zs
-      → IsEntries eq (cons_option o zs)
-  distinct_by e None zs t n d = d
-  distinct_by e (Some f) zs t n d = IsEntries-cons eq f zs (none_equal eq laws e.0 f.0 zs (t f refl) n) d
-
   pub IsEntries-in_order_of : (es kept : List (K × V)) → IsEntries eq es
       → IsEntries eq (in_order_of eq es kept)
   IsEntries-in_order_of [] kept d = d
   IsEntries-in_order_of (e ∷ es) kept d =
-      distinct_by e (lookup_entry (eq e.0) kept) (in_order_of eq es kept) (found_passes (eq e.0) kept)
-      (none_in_order e.0 es kept (IsEntries-head eq e es d))
-      (IsEntries-in_order_of es kept (IsEntries-tail eq e es d))
-
-  pub IsEntries-keeps : {F : Type 0} (T : F → K → V → Bool → V → F → Type 0) (f : F)
-      (es new : List (K × V)) (h : F) → IsEntries eq es → KeepsInSomeOrder T eq f es new h → IsEntries eq new
-  IsEntries-keeps T f es new h d r = rw (r.entries) (IsEntries-in_order_of es r.kept d)
+      let zs = in_order_of eq es kept in
+      let rest = IsEntries-in_order_of es kept (IsEntries-tail eq e es d) in
+      let none = none_in_order e.0 es kept (IsEntries-head eq e es d) in
+      let more : (f : K × V) → lookup_entry (eq e.0) kept ≡ Some f → IsEntries eq (f ∷ zs)
+      = λ f l. IsEntries-cons eq f zs
+      (none_equal eq laws e.0 f.0 zs (found_passes (eq e.0) kept f l) none) rest in
+      grind (arith, rest, more)
 
   -- ---- a predicate
 
@@ -145,13 +138,9 @@ module _ {F K V : Type 0} (T : F → K → V → Bool → V → F → Type 0) wh
         → KeepsInOrder T f es new g → IsEntries eq new
     IsEntries-keeps_in_order f [] new g d r = rw r.0 d
     IsEntries-keeps_in_order f (e ∷ es) new g d r =
-        rw r.6 (by r.0 (IsEntries-keeps_in_order r.2 es r.3 g (IsEntries-tail eq e es d) r.5)
-        (none_kept (eq e.0) r.2 es r.3 g r.5 (IsEntries-head eq e es d)))
-      where
-        by : (b : Bool) → IsEntries eq r.3 → NonePasses (eq e.0) r.3
-            → IsEntries eq (cond b ((e.0, r.1) ∷ r.3) r.3)
-        by true h n = IsEntries-cons eq (e.0, r.1) r.3 n h
-        by false h n = h
+        let rest = IsEntries-keeps_in_order r.2 es r.3 g (IsEntries-tail eq e es d) r.5 in
+        let none = none_kept (eq e.0) r.2 es r.3 g r.5 (IsEntries-head eq e es d) in
+        rw r.6 (grind (arith, rest, IsEntries-cons eq (e.0, r.1) r.3 none rest))
 
     -- ---- in the list's own order is one of the orders
 
@@ -164,12 +153,9 @@ module _ {F K V : Type 0} (T : F → K → V → Bool → V → F → Type 0) wh
     in_own_order_by : (e : K × V) (w : V) (b : Bool) (es rest : List (K × V)) → NonePasses (eq e.0) es
         → NonePasses (eq e.0) rest → in_order_of eq es rest ≡ rest
         → in_order_of eq (e ∷ es) (cond b ((e.0, w) ∷ rest) rest) ≡ cond b ((e.0, w) ∷ rest) rest
-    in_own_order_by e w true es rest n m h =
-        ap (λ b. cons_option (cond b (Some (e.0, w)) (lookup_entry (eq e.0) rest))
-        (in_order_of eq es ((e.0, w) ∷ rest))) (laws.refl e.0) ∙ ap (λ r. (e.0, w) ∷ r)
-        (skip (e.0, w) es rest (each-weaker _ _ (λ x a. laws.symm x.0 e.0 ∙ a) es n) ∙ h)
-    in_own_order_by e w false es rest n m h =
-        ap (λ o. cons_option o (in_order_of eq es rest)) (lookup_entry-none (eq e.0) rest m) ∙ h
+    in_own_order_by e w b es rest n m h =
+        let skipped = skip (e.0, w) es rest (each-weaker _ _ (λ x a. laws.symm x.0 e.0 ∙ a) es n) in
+        grind (arith, skipped, lookup_entry-none (eq e.0) rest m, h, laws.refl e.0)
 
     pub in_own_order : (f : F) (es new : List (K × V)) (g : F) → IsEntries eq es → KeepsInOrder T f es new g
         → in_order_of eq es new ≡ new

@@ -1,7 +1,7 @@
 -- What stands after the steps of a set.
-use Rattle.std.proofs.Common.{◌≡◌, ℕ, zero, suc, ◌+◌, Bool, true, false, cond, ◌||◌, List, [], ◌∷◌, ◌++◌}
-use Rattle.std.proofs.Common.{length, take, drop, slice_get, slice_set, is_some, Some, refl}
-use Rattle.std.proofs.Common.{sym, ap, ap₂, ◌∙◌, subst}
+use Rattle.std.proofs.Common.{◌≡◌, ℕ, zero, suc, ◌+◌, Bool, true, false, cond, ◌||◌, List, [], ◌∷◌, ◌++◌, sym}
+use Rattle.std.proofs.Common.{length, take, drop, slice_get, slice_set, is_some, Some, refl, ap, ap₂, ◌∙◌}
+use Rattle.std.proofs.Common.{subst, arith}
 use Rattle.std.specs.Cmp.{IsEquivalence}
 use Rattle.std.specs.List.{IsDistinct, AllByRecursion}
 use Rattle.std.specs.Map.{keys_of, lookup}
@@ -20,7 +20,6 @@ use Rattle.hashlink_model.proofs.Places.{split_at}
 use Rattle.hashlink_model.proofs.Members.{is_member-equal, is_member-append, none_from_is_member}
 use Rattle.hashlink_model.proofs.Members.{IsDistinct-append}
 use Rattle.hashlink_model.proofs.SetViews.{keys_of-pairs_of}
-use Rattle.std.proofs.Common.{arith}
 
 module _ {T : Type 0} (eq : T → T → Bool) where
   -- ---- lengths

@@ -41,8 +41,7 @@ module _ {K V : Type 0} where
   pub fitting-longest : (xs ys : List (K × (V × ℕ))) (budget : ℕ) → total_weight ys ≤ budget
       → length ys ≤ length (fitting (xs ++ ys) budget)
   fitting-longest [] ys budget h = rw (fitting-whole ys budget h) (le_refl (length ys))
-  fitting-longest (x ∷ xs) ys budget h =
-      grind (arith, fitting-longest xs ys budget h, length-append xs ys)
+  fitting-longest (x ∷ xs) ys budget h = grind (arith, fitting-longest xs ys budget h, length-append xs ys)
 
   pub IsEntries-fitting : (eq : K → K → Bool) (es : List (K × (V × ℕ))) (budget : ℕ) → IsEntries eq es
       → IsEntries eq (fitting es budget)
