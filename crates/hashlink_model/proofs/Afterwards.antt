@@ -1,5 +1,5 @@
 -- What stands after a key was put, moved or taken out: lengths, look-ups, and the same step once more.
-use Rattle.std.proofs.Common.{ap₂, ◌⊎◌, inl, inr, ◌≡◌, ℕ, ◌+◌, Bool, true, false, cond, List, [], ◌∷◌, ◌++◌}
+use Rattle.std.proofs.Common.{ap₂, inl, inr, ◌≡◌, ℕ, ◌+◌, Bool, true, false, cond, List, [], ◌∷◌, ◌++◌}
 use Rattle.std.proofs.Common.{length, None, Some, refl, sym, ap, ◌∙◌, arith, take, drop}
 use Rattle.std.specs.Prelude.{unwrap_or}
 use Rattle.std.specs.Option.{option_map_or}
@@ -10,7 +10,7 @@ use Rattle.std.proofs.lemmas.List.{take-append-drop, length-append}
 use Rattle.hashlink_model.specs.Entries.{IsEntries, place_without, without, stored_key, put, moved, moved_at}
 use Rattle.hashlink_model.specs.Entries.{moved_match}
 pub use Rattle.hashlink_model.proofs.ByPlace.{moved-there}
-use Rattle.hashlink_model.proofs.Splits.{Stands, none_from_lookup, remove_entry-none}
+use Rattle.hashlink_model.proofs.Splits.{none_from_lookup, remove_entry-none}
 use Rattle.hashlink_model.proofs.Splits.{remove_entry-here, place_of-none, splits}
 use Rattle.hashlink_model.proofs.Distinct.{each-left}
 use Rattle.hashlink_model.proofs.Finds.{lookup_is, lookup_key_is, stored_key-equal}
@@ -68,11 +68,8 @@ module _ {K V : Type 0} (eq : K → K → Bool) where
 -- a move by a test, which is a key's where it passes a key
 pub length-moved_match : {K V : Type 0} (test : K → Bool) (es : List (K × V)) (b : ℕ)
     → length (moved_match test es b) ≡ length es
-length-moved_match test es b = by (splits test es)
-  where
-    by : NonePasses test es ⊎ Stands test es → length (moved_match test es b) ≡ length es
-    by (inl n) = ap length (moved_match-none test es b n)
-    by (inr s) = length-moved (λ _. test) es s.1.0 b
+length-moved_match test es b = elim (splits test es)
+    [ inl n ↦ ap length (moved_match-none test es b n) | inr s ↦ length-moved (λ _. test) es s.1.0 b ]
 
 module _ {K V : Type 0} (eq : K → K → Bool) (laws : IsEquivalence eq) where
   -- ---- look-ups after a put

@@ -7,13 +7,12 @@ use Rattle.hashlink_model.specs.MapState.{StoresAtMost, node_count}
 use Rattle.hashlink_model.specs.Steps.{Clears, RemovesKey, RemovesMatch, PopsFront, PopsBack}
 use Rattle.hashlink_model.specs.Cache.{CacheState, OnMap, IsWithin, HasNodeToSpare, CacheInserts, CacheGets}
 use Rattle.hashlink_model.specs.Cache.{SetsCapacity, CacheGetsMatch, CacheGetsMatchAndWrites}
-use Rattle.hashlink_model.proofs.Afterwards.{length-put_there, length-moved_match}
+use Rattle.hashlink_model.proofs.Afterwards.{length-put_there, length-moved_match, length-put_absent}
 use Rattle.hashlink_model.proofs.Caches.{length-last_entries, cache_put-at_most}
 use Rattle.hashlink_model.proofs.CacheSteps.{put_entries, inserts_entries}
 use Rattle.hashlink_model.proofs.NodeCounts.{moves_match_length}
 use Rattle.hashlink_model.proofs.KeptNodes.{kept-inserts}
 use Rattle.std.specs.Option.{option_map_or}
-use Rattle.hashlink_model.proofs.Afterwards.{length-put_absent}
 
 -- ---- a bound of the capacity and n more
 

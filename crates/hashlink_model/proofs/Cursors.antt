@@ -1,23 +1,21 @@
 -- Where a cursor stands after a move, and after an insert.
 use Rattle.std.proofs.Common.{◌≡◌, inl, inr, ℕ, ◌+◌, ◌≤◌, ◌<◌, Bool, cond, List, [], ◌∷◌, ◌++◌, length, None}
 use Rattle.std.proofs.Common.{slice_get, Option, Some, refl, sym, ap, ◌∙◌, arith, mod-eq_of_lt, append_assoc}
-use Rattle.std.proofs.Common.{ap₂, le_refl}
+use Rattle.std.proofs.Common.{ap₂, le_refl, ◌%◌, zero, suc}
 use Rattle.std.specs.Prelude.{insert, Result, unwrap_or}
 use Rattle.std.specs.Cmp.{IsEquivalence}
 use Rattle.std.specs.Option.{option_map_or}
-use Rattle.std.proofs.Math.Nat.{mod_self}
+use Rattle.std.proofs.Math.Nat.{mod_self, add-mod_right}
 use Rattle.std.proofs.lemmas.Map.{NonePasses}
 use Rattle.std.proofs.lemmas.List.{take_at, drop_at, length-append}
 use Rattle.std.proofs.lemmas.Option.{slice_get_past, slice_get_cases}
 use Rattle.hashlink_model.specs.Entries.{IsEntries, place_of, place_or_end, put, stored_key}
 use Rattle.hashlink_model.specs.Cursor.{CursorState, IsCursor, CursorInserts, place_kept, following_place}
+use Rattle.hashlink_model.specs.Cursor.{preceding_place}
 use Rattle.hashlink_model.proofs.Puts.{put-absent, lookup_entry-put}
 use Rattle.hashlink_model.proofs.Places.{slice_get-place_or_end, place_of_its_key, lookup_entry_at}
 use Rattle.hashlink_model.proofs.Places.{stored_key_at}
-use Rattle.std.proofs.Common.{◌%◌, zero, suc}
-use Rattle.std.proofs.Math.Nat.{add-mod_right}
 use Rattle.std.proofs.lemmas.Bool.{cases_lt}
-use Rattle.hashlink_model.specs.Cursor.{preceding_place}
 
 -- ---- moves
 

@@ -11,17 +11,13 @@ module _ {T : Type 0} where
   filter-all [] = refl
   filter-all (x ∷ xs) = ap (λ r. x ∷ r) (filter-all xs)
 
-  passing_by : (p : T → Bool) (x : T) (xs : List T) (b : Bool)
-      → TakesFirst (λ y. y) (filter p xs) (first_passing p xs).0 (filter p (first_passing p xs).1)
-      → TakesFirst (λ y. y) (cond b (x ∷ filter p xs) (filter p xs))
-      (cond b (Some x, xs) (first_passing p xs)).0 (filter p (cond b (Some x, xs) (first_passing p xs)).1)
-  passing_by p x xs true h = refl
-  passing_by p x xs false h = h
-
   pub first_passing-takes : (p : T → Bool) (xs : List T)
       → TakesFirst (λ y. y) (filter p xs) (first_passing p xs).0 (filter p (first_passing p xs).1)
   first_passing-takes p [] = (refl, refl)
-  first_passing-takes p (x ∷ xs) = passing_by p x xs (p x) (first_passing-takes p xs)
+  first_passing-takes p (x ∷ xs) = elim (p x)
+      as (λ b. TakesFirst (λ y. y) (cond b (x ∷ filter p xs) (filter p xs))
+      (cond b (Some x, xs) (first_passing p xs)).0 (filter p (cond b (Some x, xs) (first_passing p xs)).1))
+      [ true ↦ refl | false ↦ first_passing-takes p xs ]
 
   step_by : (p q : T → Bool) (ls ys : List T) (o : Option T) (xs : List T)
       → TakesFirst (λ y. y) (filter p ls) o (filter p xs)

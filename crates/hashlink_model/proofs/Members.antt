@@ -60,18 +60,14 @@ module _ {T : Type 0} (eq : T → T → Bool) (laws : IsEquivalence eq) where
       none_from_is_member (filter p xs) x
       (is_member-filter laws p x (λ y t. same x y t) xs ∙ ap (λ b. b && p x) (is_member_from_none xs x n))
 
-  distinct_by : (p : T → Bool) (x : T) (zs : List T) (b : Bool) → AllByRecursion (λ y. eq x y ≡ false) zs
-      → IsDistinct eq zs → IsDistinct eq (cond b (x ∷ zs) zs)
-  unfolding IsDistinct
-  distinct_by p x zs true n d = (n, d)
-  distinct_by p x zs false n d = d
-
   pub IsDistinct-filter : (p : T → Bool) → ((x y : T) → eq x y ≡ true → p x ≡ p y)
       → (xs : List T) → IsDistinct eq xs → IsDistinct eq (filter p xs)
   unfolding IsDistinct
   IsDistinct-filter p same [] d = d
   IsDistinct-filter p same (x ∷ xs) d =
-      distinct_by p x (filter p xs) (p x) (none_filtered p same x xs d.0) (IsDistinct-filter p same xs d.1)
+      let rest = IsDistinct-filter p same xs d.1 in
+      elim (p x) as (λ b. IsDistinct eq (cond b (x ∷ filter p xs) (filter p xs)))
+      [ true ↦ (none_filtered p same x xs d.0, rest) | false ↦ rest ]
 
   pub IsDistinct-append : (xs ys : List T) → IsDistinct eq xs → IsDistinct eq ys
       → AllByRecursion (λ x. is_member eq ys x ≡ false) xs → IsDistinct eq (xs ++ ys)

@@ -1,5 +1,5 @@
 -- What follows from the steps between two states of a map.
-use Rattle.std.proofs.Common.{◌≡◌, ℕ, max, MatchOption, sym, List, length, Bool, true}
+use Rattle.std.proofs.Common.{◌≡◌, ℕ, max, sym, List, length, Bool, true}
 use Rattle.std.proofs.Common.{false, is_some, Option, None, Some, Result, Ok, Err, refl, ap, ◌∙◌, arith}
 use Rattle.std.specs.Cmp.{IsEquivalence}
 use Rattle.std.specs.Map.{keys_of, lookup, lookup_entry, set_value}
@@ -93,13 +93,9 @@ module _ {K V S : Type 0} (eq : K → K → Bool) (old new : MapState K V S) (k 
         (length-set_value (eq k) old.entries v)
 
   module _ (b : ℕ) where
-    moves_by : (r : Option V) → MatchOption r (new ≡ old) (λ _. Changes old new (moved eq old.entries k b) 6)
-        → r ≡ lookup (eq k) old.entries → new.entries ≡ moved eq old.entries k b
-    moves_by None s l = ap (λ m. m.entries) s ∙ sym (moved-absent eq old.entries k b (sym l))
-    moves_by (Some w) s l = s.entries
-
     pub moves_entries : (r : Option V) → Moves eq old new k b r → new.entries ≡ moved eq old.entries k b
-    moves_entries r s = moves_by r s.step s.answer
+    moves_entries None s = ap (λ m. m.entries) s.step ∙ sym (moved-absent eq old.entries k b (sym s.answer))
+    moves_entries (Some w) s = s.step.entries
 
     pub moves_length : (r : Option V) → Moves eq old new k b r → length new.entries ≡ length old.entries
     moves_length r s = moves_match_length old new (eq k) b r s

@@ -1,10 +1,9 @@
 -- What a look-up finds where only an end of the entries remains.
-use Rattle.std.proofs.Common.{◌≡◌, ◌≤◌, Bool, true, false, cond, List, [], ◌∷◌, ◌++◌, length, drop, Some}
-use Rattle.std.proofs.Common.{refl, sym, ap, ◌∙◌, subst, arith, append_assoc}
+use Rattle.std.proofs.Common.{◌≡◌, ◌≤◌, Bool, true, false, List, [], ◌∷◌, ◌++◌, length, drop, Some, sym, ap}
+use Rattle.std.proofs.Common.{◌∙◌, subst, arith, append_assoc, None}
 use Rattle.std.specs.Cmp.{IsEquivalence}
 use Rattle.std.specs.Map.{lookup, lookup_entry}
 use Rattle.std.proofs.lemmas.List.{length-append}
-use Rattle.std.proofs.lemmas.Option.{none-some}
 use Rattle.hashlink_model.specs.Entries.{IsEntries, put, without, stored_key}
 use Rattle.hashlink_model.proofs.Splits.{lookup_entry-none, lookup-here}
 use Rattle.hashlink_model.proofs.Distinct.{each-right, none_equal, IsEntries-head, IsEntries-tail}
@@ -27,15 +26,10 @@ module _ {K V : Type 0} (eq : K → K → Bool) (laws : IsEquivalence eq) where
       → lookup_entry (eq q) back ≡ Some e → lookup_entry (eq q) (front ++ back) ≡ Some e
   found_in_end q e [] back d l = l
   found_in_end q e (x ∷ front) back d l =
-      by (eq q x.0) refl (found_in_end q e front back (IsEntries-tail eq x (front ++ back) d) l)
-    where
-      by : (b : Bool) → eq q x.0 ≡ b → lookup_entry (eq q) (front ++ back) ≡ Some e
-          → cond b (Some x) (lookup_entry (eq q) (front ++ back)) ≡ Some e
-      by true t h =
-          let others = none_equal eq laws x.0 q (front ++ back) (laws.symm x.0 q ∙ t)
-          (IsEntries-head eq x (front ++ back) d) in
-          absurd (none-some e (sym (lookup_entry-none (eq q) (front ++ back) others) ∙ h))
-      by false t h = h
+      let gone : eq q x.0 ≡ true → lookup_entry (eq q) (front ++ back) ≡ None
+      = λ t. lookup_entry-none (eq q) (front ++ back) (none_equal eq laws x.0 q (front ++ back)
+      (laws.symm x.0 q ∙ t) (IsEntries-head eq x (front ++ back) d)) in
+      grind (arith, gone, found_in_end q e front back (IsEntries-tail eq x (front ++ back) d) l)
 
   -- ---- after a key was put last
 

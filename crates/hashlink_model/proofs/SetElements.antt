@@ -1,7 +1,7 @@
 -- The elements of a set after the map's steps.
-use Rattle.std.proofs.Common.{◌≡◌, ℕ, Bool, true, false, not, cond, List, [], ◌∷◌, ◌++◌, length, filter}
-use Rattle.std.proofs.Common.{slice_get, is_some, Option, None, Some, Ok, Err, option_map, refl}
-use Rattle.std.proofs.Common.{unwrap_or, sym, ap, ap₂, ◌∙◌, subst, arith}
+use Rattle.std.proofs.Common.{◌≡◌, ℕ, Bool, true, false, not, cond, List, [], ◌∷◌, ◌++◌, length, filter, None}
+use Rattle.std.proofs.Common.{slice_get, is_some, Option, Some, Ok, Err, option_map, refl, unwrap_or, sym, ap}
+use Rattle.std.proofs.Common.{ap₂, ◌∙◌, subst, arith}
 use Rattle.std.specs.Cmp.{IsEquivalence}
 use Rattle.std.specs.List.{IsDistinct, AllZip, find}
 use Rattle.std.specs.Map.{keys_of, lookup, lookup_key, lookup_entry, remove_entry}
@@ -15,17 +15,17 @@ use Rattle.hashlink_model.specs.Compare.{entries_eq, elements_eq}
 use Rattle.hashlink_model.specs.Entries.{IsEntries, place_of, put, without, stored_key, extended, set_key_at}
 use Rattle.hashlink_model.specs.MapState.{Inserts}
 use Rattle.hashlink_model.specs.Steps.{RemovesKey, Moves, PopsFront, PopsBack}
-use Rattle.hashlink_model.specs.Sets.{SetState, elements_of, pairs_of, put_element, replaced}
-use Rattle.hashlink_model.specs.Sets.{stored_element, SetInserts, SetReplaces}
-use Rattle.hashlink_model.proofs.Splits.{stands_from_place}
-use Rattle.hashlink_model.proofs.Splits.{remove_entry-none, none_from_lookup, lookup_entry-none}
+use Rattle.hashlink_model.specs.Sets.{SetState, elements_of, pairs_of, put_element, replaced, stored_element}
+use Rattle.hashlink_model.specs.Sets.{SetInserts, SetReplaces}
+use Rattle.hashlink_model.proofs.Splits.{stands_from_place, remove_entry-none, none_from_lookup}
+use Rattle.hashlink_model.proofs.Splits.{lookup_entry-none}
 use Rattle.hashlink_model.proofs.Finds.{lookup_is, lookup_key_is}
 use Rattle.hashlink_model.proofs.Puts.{put_back, put_front, put_back_absent}
 use Rattle.hashlink_model.proofs.Afterwards.{put_back_twice, put_front_twice}
 use Rattle.hashlink_model.proofs.Places.{place_of_its_key, slice_get-place_or_end}
 use Rattle.hashlink_model.proofs.ByPlace.{moved-there, set_key_at-here}
 use Rattle.hashlink_model.proofs.Pops.{pops_front, pops_back}
-use Rattle.hashlink_model.proofs.SetSteps.{replaced-absent, replaced-there}
+use Rattle.hashlink_model.proofs.SetSteps.{replaced-absent, replaced-there, length_pairs_of}
 use Rattle.hashlink_model.proofs.SetViews.{keys_of-pairs_of, pairs_of-keys_of, keys_of-put}
 use Rattle.hashlink_model.proofs.Extends.{extended-own}
 use Rattle.hashlink_model.proofs.Clones.{clone_is_equal}
@@ -158,9 +158,6 @@ module _ {T S : Type 0} (old new : SetState T S) (e : T × Unit {0}) where
 -- ---- where an element is put
 
 module _ {T : Type 0} (eq : T → T → Bool) where
-  length_pairs : (ts : List T) → length ts ≡ length (pairs_of ts)
-  length_pairs ts = sym (ap length (keys_of-pairs_of ts)) ∙ length-keys_of (pairs_of ts)
-
   removed_pairs : (ts : List T) (t : T) → keys_of (without eq (pairs_of ts) t) ≡ remove_key (eq t) ts
   removed_pairs ts t = keys-remove_entry (eq t) (pairs_of ts) ∙ ap (remove_key (eq t)) (keys_of-pairs_of ts)
 
@@ -171,7 +168,7 @@ module _ {T : Type 0} (eq : T → T → Bool) where
   pub put_element_back : (ts : List T) (t : T)
       → put_element eq ts t (length ts) ≡ remove_key (eq t) ts ++ stored_element eq ts t ∷ []
   put_element_back ts t =
-      ap (put_element eq ts t) (length_pairs ts) ∙ ap keys_of (put_back eq (pairs_of ts) t tt)
+      ap (put_element eq ts t) (sym (length_pairs_of eq ts)) ∙ ap keys_of (put_back eq (pairs_of ts) t tt)
       ∙ map-append (λ e. e.0) (without eq (pairs_of ts) t) ((stored_key eq (pairs_of ts) t, tt) ∷ [])
       ∙ ap₂ (λ xs x. xs ++ x ∷ []) (removed_pairs ts t) (stored_pairs ts t)
 
@@ -202,7 +199,7 @@ module _ {T : Type 0} (eq : T → T → Bool) where
     put_element_back_twice ts t d =
         let zs = put eq (pairs_of ts) t tt (length (pairs_of ts)) in
         let same : put_element eq ts t (length ts)
-        ≡ keys_of zs = ap (put_element eq ts t) (length_pairs ts) in
+        ≡ keys_of zs = ap (put_element eq ts t) (sym (length_pairs_of eq ts)) in
         ap (λ us. put_element eq us t (length us)) same
         ∙ ap₂ (λ es n. keys_of (put eq es t tt n)) (pairs_of-keys_of zs) (length-keys_of zs)
         ∙ ap keys_of (put_back_twice eq laws (pairs_of ts) t tt tt (entries_of_pairs ts d)) ∙ sym same

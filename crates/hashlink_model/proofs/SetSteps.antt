@@ -3,7 +3,7 @@ use Rattle.std.proofs.Common.{◌≡◌, ℕ, zero, suc, ◌+◌, Bool, true, fa
 use Rattle.std.proofs.Common.{length, take, drop, slice_get, slice_set, is_some, Some, refl, ap, ap₂, ◌∙◌}
 use Rattle.std.proofs.Common.{subst, arith}
 use Rattle.std.specs.Cmp.{IsEquivalence}
-use Rattle.std.specs.List.{IsDistinct, AllByRecursion}
+use Rattle.std.specs.List.{IsDistinct}
 use Rattle.std.specs.Map.{keys_of, lookup}
 use Rattle.std.specs.Set.{is_member, swap_key}
 use Rattle.std.proofs.lemmas.Map.Made.{is_some-lookup}
@@ -18,13 +18,14 @@ use Rattle.hashlink_model.proofs.Puts.{IsEntries-put}
 use Rattle.hashlink_model.proofs.Afterwards.{length-put_absent, length-put_there}
 use Rattle.hashlink_model.proofs.Places.{split_at}
 use Rattle.hashlink_model.proofs.Members.{is_member-equal, is_member-append, none_from_is_member}
-use Rattle.hashlink_model.proofs.Members.{IsDistinct-append}
 use Rattle.hashlink_model.proofs.SetViews.{keys_of-pairs_of}
+use Rattle.hashlink_model.proofs.Members.{is_member_from_none}
+use Rattle.std.proofs.lemmas.Map.Keys.{IsDistinct-push}
 
 module _ {T : Type 0} (eq : T → T → Bool) where
   -- ---- lengths
 
-  length_pairs_of : (ts : List T) → length (pairs_of ts) ≡ length ts
+  pub length_pairs_of : (ts : List T) → length (pairs_of ts) ≡ length ts
   length_pairs_of ts = sym (length-keys_of (pairs_of ts)) ∙ ap length (keys_of-pairs_of ts)
 
   -- an element is a member exactly where a look-up finds it
@@ -118,40 +119,22 @@ module _ {T : Type 0} (eq : T → T → Bool) (laws : IsEquivalence eq) where
 
   -- ---- replaced elements stay pairwise unequal
 
-  each_swap_key : (P : T → Type 0) (test : T → Bool) (t : T) (ts : List T) → P t → AllByRecursion P ts
-      → AllByRecursion P (swap_key test ts t)
-  each_swap_key P test t [] p a = tt
-  each_swap_key P test t (x ∷ ts) p a = by (test x) (each_swap_key P test t ts p a.1)
-    where
-      by : (b : Bool) → AllByRecursion P (swap_key test ts t)
-          → AllByRecursion P (cond b (t ∷ ts) (x ∷ swap_key test ts t))
-      by true h = (p, a.1)
-      by false h = (a.0, h)
-
-  unequal_by : (t x : T) (ts : List T) (b : Bool) → eq t x ≡ b → IsDistinct eq (x ∷ ts)
-      → IsDistinct eq (swap_key (eq t) ts t) → IsDistinct eq (cond b (t ∷ ts) (x ∷ swap_key (eq t) ts t))
-  unfolding IsDistinct
-  unequal_by t x ts true e d h = (each-weaker _ _ (λ y n. laws.congr t x y e ∙ n) ts d.0, d.1)
-  unequal_by t x ts false e d h = (each_swap_key _ (eq t) t ts (laws.symm x t ∙ e) d.0, h)
-
   IsDistinct_swap_key : (t : T) (ts : List T) → IsDistinct eq ts → IsDistinct eq (swap_key (eq t) ts t)
   unfolding IsDistinct
   IsDistinct_swap_key t [] d = d
-  IsDistinct_swap_key t (x ∷ ts) d = unequal_by t x ts (eq t x) refl d (IsDistinct_swap_key t ts d.1)
-
-  one_distinct : (t : T) → IsDistinct eq (t ∷ [])
-  unfolding IsDistinct
-  one_distinct t = (tt, tt)
+  IsDistinct_swap_key t (x ∷ ts) d =
+      let rest = IsDistinct_swap_key t ts d.1 in
+      let none = none_from_is_member eq laws (swap_key (eq t) ts t) x
+      (member_swap_key t x ts ∙ is_member_from_none eq laws ts x d.0) in
+      elim (eq t x) as (λ b. eq t x ≡ b → IsDistinct eq (cond b (t ∷ ts) (x ∷ swap_key (eq t) ts t))) [
+        | true ↦ λ e. (each-weaker _ _ (λ y n. laws.congr t x y e ∙ n) ts d.0, d.1)
+        | false ↦ λ e. (none, rest)
+      ] refl
 
   pub IsDistinct-replaced : (ts : List T) (t : T) → IsDistinct eq ts → IsDistinct eq (replaced eq ts t)
-  IsDistinct-replaced ts t d = by (is_member eq ts t) refl
-    where
-      by : (b : Bool) → is_member eq ts t ≡ b → IsDistinct eq (cond b (swap_key (eq t) ts t) (ts ++ t ∷ []))
-      by true m = IsDistinct_swap_key t ts d
-      by false m =
-          IsDistinct-append eq laws ts (t ∷ []) d (one_distinct t)
-          (each-weaker _ _ (λ x n. ap (λ c. c || false) (laws.symm x t ∙ n)) ts
-          (none_from_is_member eq laws ts t m))
+  IsDistinct-replaced ts t d =
+      let pushed : is_member eq ts t ≡ false → IsDistinct eq (ts ++ t ∷ []) = IsDistinct-push laws ts t d in
+      grind (arith, pushed, IsDistinct_swap_key t ts d)
 
   -- ---- an element that is equal leaves, and the one given takes its place
 

@@ -4,7 +4,7 @@ use Rattle.std.proofs.Common.{◌≡◌, ℕ, Bool, true, false, List, [], ◌�
 use Rattle.std.proofs.Common.{inr, refl, sym, ap, ◌∙◌, add-one}
 use Rattle.std.specs.Map.{lookup, lookup_entry, lookup_key, remove_entry, set_value}
 use Rattle.std.proofs.lemmas.Map.{NonePasses, none_passes_from_lookup}
-use Rattle.std.proofs.lemmas.Option.{none-some, same_Some}
+use Rattle.std.proofs.lemmas.Option.{same_Some}
 use Rattle.std.proofs.Math.Path.{fun_ext}
 use Rattle.hashlink_model.specs.Entries.{place_of, IsKeyTest}
 
@@ -93,16 +93,14 @@ module _ {K V : Type 0} (test : K → Bool) where
   pub stands_from_lookup : (es : List (K × V)) (w : V) → lookup test es ≡ Some w → Stands es
   stands_from_lookup es w l = elim (splits es) [ inl n ↦ absurd (cc (lookup-none es n)) | inr s ↦ s ]
 
-  placed_by : (es : List (K × V)) (j : ℕ) → place_of test es ≡ Some j → NonePasses test es ⊎ Stands es
-      → (xs : List (K × V)) × (e : K × V) × (ys : List (K × V)) × StandsAt es xs e ys × (length xs ≡ j)
-  placed_by es j p (inl n) = absurd (none-some j (sym (place_of-none es n) ∙ p))
-  placed_by es j p (inr s) =
-      let here = place_of-here s.1 s.2 s.3.passes s.0 s.3.before in
-      (s.0, s.1, s.2, s.3, same_Some (length s.0) j (sym here ∙ (ap (place_of test) (sym s.3.is) ∙ p)))
-
   pub stands_from_place : (es : List (K × V)) (j : ℕ) → place_of test es ≡ Some j
       → (xs : List (K × V)) × (e : K × V) × (ys : List (K × V)) × StandsAt es xs e ys × (length xs ≡ j)
-  stands_from_place es j p = placed_by es j p (splits es)
+  stands_from_place es j p = elim (splits es) [
+    | inl n ↦ absurd (cc (place_of-none es n))
+    | inr s ↦ (
+        let here = place_of-here s.1 s.2 s.3.passes s.0 s.3.before in
+        (s.0, s.1, s.2, s.3, same_Some (length s.0) j (sym here ∙ ap (place_of test) (sym s.3.is) ∙ p)))
+  ]
 
   -- ---- a test of keys that passes one is the equality with it
 

@@ -18,18 +18,14 @@ module _ {K V : Type 0} where
   fitting-fits [] budget = zero-le
   fitting-fits (e ∷ es) budget = grind (arith, nat_tests, fitting-fits es budget)
 
-  -- it is an end
-  end_by : (e : K × (V × ℕ)) (es : List (K × (V × ℕ))) (budget : ℕ) (b : Bool)
-      → (xs : List (K × (V × ℕ))) × (es ≡ xs ++ fitting es budget)
-      → (xs : List (K × (V × ℕ))) × (e ∷ es ≡ xs ++ cond b (e ∷ es) (fitting es budget))
-  end_by e es budget true s = ([], refl)
-  end_by e es budget false s = (e ∷ s.0, ap (λ r. e ∷ r) s.1)
-
   pub fitting-end : (es : List (K × (V × ℕ))) (budget : ℕ) → (xs : List (K × (V × ℕ)))
       × (es ≡ xs ++ fitting es budget)
   fitting-end [] budget = ([], refl)
-  fitting-end (e ∷ es) budget = end_by e es budget (nat_le (total_weight (e ∷ es)) budget)
-      (fitting-end es budget)
+  fitting-end (e ∷ es) budget =
+      let s = fitting-end es budget in
+      elim (nat_le (total_weight (e ∷ es)) budget)
+      as (λ b. (xs : List (K × (V × ℕ))) × (e ∷ es ≡ xs ++ cond b (e ∷ es) (fitting es budget)))
+      [ true ↦ ([], refl) | false ↦ (e ∷ s.0, ap (λ r. e ∷ r) s.1) ]
 
   -- ---- no longer end fits
 

@@ -7,7 +7,8 @@ pub returns : goal.returns
 returns g c = record {
   new_key = λ eq old new k v s. links-put eq old new k v None s;
   there = λ eq old new k v w s. links-put eq old new k v (Some w) s;
-  new_key_drops_one = λ eq old new k v s i. store_more _ _ _ _ (omega arith) (links-put eq old new k v None s);
+  new_key_drops_one = λ eq old new k v s i.
+      store_more _ _ _ _ (omega arith) (links-put eq old new k v None s);
   there_drops_one = λ eq old new k v w s i.
       store_more _ _ _ _ (omega arith) (links-put eq old new k v (Some w) s);
   with_a_place = λ eq old new k v s l. store_more _ _ _ _ (omega arith) (links-put eq old new k v None s);
