@@ -1,19 +1,18 @@
 -- What caches hold and answer along calls in a row.
 use Rattle.std.proofs.Common.{◌≡◌, ℕ, ◌≤◌, Bool, false, ◌&&◌, List, [], ◌∷◌, ◌++◌, length, nat_lt, is_some}
-use Rattle.std.proofs.Common.{Option, None, Some, refl, sym, ap, ◌∙◌, subst, arith, append_assoc, append-nil}
-use Rattle.std.proofs.Common.{true≢false, ◌+◌, true}
+use Rattle.std.proofs.Common.{Option, refl, ap, arith, append_assoc, append-nil}
+use Rattle.std.proofs.Common.{true≢false, true}
 use Rattle.std.specs.Cmp.{IsEquivalence}
 use Rattle.std.specs.List.{AllZip, AllByRecursion}
 use Rattle.std.specs.Map.{lookup}
 use Rattle.std.specs.Set.{is_member}
 use Rattle.hashlink_model.specs.Entries.{IsEntries, without}
 use Rattle.hashlink_history.specs.CacheRuns.{CacheEvent, Insert, Use, Remove, Peek, key_of, is_use, NoUse}
-use Rattle.hashlink_history.specs.CacheRuns.{is_removal, NoRemoval, used_keys, answer_to, after_event}
+use Rattle.hashlink_history.specs.CacheRuns.{NoRemoval, used_keys, answer_to, after_event}
 use Rattle.hashlink_history.specs.CacheRuns.{after_events, answers}
 use Rattle.hashlink_history.specs.History.{reuse_distance, HoldsRecent}
 use Rattle.hashlink_history.specs.Inclusion.{IsEndOf, SameKey, SameEntry, AlsoFinds, FindsTheSame}
 use Rattle.hashlink_model.proofs.Puts.{IsEntries-without}
-use Rattle.hashlink_model.proofs.Afterwards.{length-without_absent, length-without_there}
 use Rattle.hashlink_model.proofs.Caches.{cache_put-at_most, IsEntries-cache_put, IsEntries-cache_use}
 use Rattle.hashlink_model.proofs.Caches.{cache_use-at_most}
 use Rattle.hashlink_history.proofs.Ends.{end-cache_put, end-without, end-cache_use, end-finds}
@@ -22,6 +21,8 @@ use Rattle.hashlink_history.proofs.Reuse.{HoldsRecent-start, HoldsRecent-cache_p
 use Rattle.hashlink_history.proofs.Reuse.{held_exactly}
 use Rattle.hashlink_model.specs.Cache.{cache_use}
 use Rattle.hashlink_model.proofs.Distinct.{IsEntries-nil}
+use Rattle.std.proofs.Common.{le_refl}
+use Rattle.hashlink_model.specs.Cache.{cache_put}
 
 module _ {K V : Type 0} (eq : K → K → Bool) where
   -- ---- the calls in two parts
@@ -39,20 +40,15 @@ module _ {K V : Type 0} (eq : K → K → Bool) where
 
   -- ---- how long the list is
 
-  without-at_most : (es : List (K × V)) (k : K) (n : ℕ) → length es ≤ n → length (without eq es k) ≤ n
-  without-at_most es k n m =
-      let fewer : (w : V) → lookup (eq k) es ≡ Some w → length (without eq es k) + 1 ≡ length es
-      = λ w. length-without_there eq es k w in
-      elim (lookup (eq k) es) as (λ o. lookup (eq k) es ≡ o → length (without eq es k) ≤ n) [
-        | None ↦ λ l. omega (arith, length-without_absent eq es k l)
-        | Some w ↦ λ l. omega (arith, fewer w l)
-      ] refl
+  without_shorter : (es : List (K × V)) (k : K) → length (without eq es k) ≤ length es
+  without_shorter [] k = le_refl 0
+  without_shorter (e ∷ es) k = grind (arith, without_shorter es k)
 
   pub after_event-at_most : (es : List (K × V)) (cap n : ℕ) (e : CacheEvent K V) → cap ≤ n → length es ≤ n
       → length (after_event eq cap es e) ≤ n
-  after_event-at_most es cap n (Insert k v) c m = let few = cache_put-at_most eq es cap k v in omega arith
+  after_event-at_most es cap n (Insert k v) c m = omega (arith, cache_put-at_most eq es cap k v)
   after_event-at_most es cap n (Use k v) c m = cache_use-at_most eq es cap n k v c m
-  after_event-at_most es cap n (Remove k) c m = without-at_most es k n m
+  after_event-at_most es cap n (Remove k) c m = omega (arith, without_shorter es k)
   after_event-at_most es cap n (Peek k) c m = m
 
   pub after_events-at_most : (es : List (K × V)) (cap n : ℕ) (events : List (CacheEvent K V))
@@ -171,31 +167,20 @@ module _ {K V : Type 0} (eq : K → K → Bool) (laws : IsEquivalence eq) where
 
   -- ---- by the history of the calls
 
-  HoldsRecent-after : (c : ℕ) (used : List K) (es : List (K × V)) (e : CacheEvent K V) → is_removal e ≡ false
-      → HoldsRecent eq c used es → HoldsRecent eq c (used ++ used_keys (e ∷ [])) (after_event eq c es e)
-  HoldsRecent-after c used es (Insert k v) n h = HoldsRecent-cache_put eq laws c used es k v h
-  HoldsRecent-after c used es (Use k v) n h = HoldsRecent-cache_use eq laws c used es k v h
-  HoldsRecent-after c used es (Remove k) n h = absurd (true≢false n)
-  HoldsRecent-after c used es (Peek k) n h = rw append-nil h
-
-  used_keys-step : (e : CacheEvent K V) (events : List (CacheEvent K V))
-      → used_keys (e ∷ events) ≡ used_keys (e ∷ []) ++ used_keys events
-  used_keys-step (Insert k v) events = refl
-  used_keys-step (Use k v) events = refl
-  used_keys-step (Remove k) events = refl
-  used_keys-step (Peek k) events = refl
-
   HoldsRecent-events : (c : ℕ) (used : List K) (es : List (K × V)) (events : List (CacheEvent K V))
       → NoRemoval events
       → HoldsRecent eq c used es → HoldsRecent eq c (used ++ used_keys events) (after_events eq c es events)
   HoldsRecent-events c used es [] n h = rw append-nil h
-  HoldsRecent-events c used es (e ∷ events) n h =
-      let all : used ++ used_keys (e ∷ events) ≡ (used ++ used_keys (e ∷ [])) ++ used_keys events
-      = ap (λ ks. used ++ ks) (used_keys-step e events)
-      ∙ sym (append_assoc used (used_keys (e ∷ [])) (used_keys events)) in
-      subst (λ ks. HoldsRecent eq c ks (after_events eq c es (e ∷ events))) (sym all)
-      (HoldsRecent-events c (used ++ used_keys (e ∷ [])) (after_event eq c es e) events n.1
-      (HoldsRecent-after c used es e n.0 h))
+  HoldsRecent-events c used es (Insert k v ∷ events) n h =
+      let rest = HoldsRecent-events c (used ++ k ∷ []) (cache_put eq es c k v) events n.1
+      (HoldsRecent-cache_put eq laws c used es k v h) in
+      rw append_assoc at rest
+  HoldsRecent-events c used es (Use k v ∷ events) n h =
+      let rest = HoldsRecent-events c (used ++ k ∷ []) (cache_use eq es c k v) events n.1
+      (HoldsRecent-cache_use eq laws c used es k v h) in
+      rw append_assoc at rest
+  HoldsRecent-events c used es (Remove k ∷ events) n h = absurd (true≢false n.0)
+  HoldsRecent-events c used es (Peek k ∷ events) n h = HoldsRecent-events c used es events n.1 h
 
   pub holds_along : (c : ℕ) (events : List (CacheEvent K V)) → NoRemoval events
       → HoldsRecent eq c (used_keys events) (after_events eq c [] events)

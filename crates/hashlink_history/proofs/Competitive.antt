@@ -22,6 +22,7 @@ use Rattle.hashlink_history.proofs.Potential.{triangle, ranks, ranks-append, ran
 use Rattle.hashlink_history.proofs.Pursuit.{Follows}
 use Rattle.hashlink_history.proofs.Pursued.{full_misses, pursued}
 use Rattle.std.proofs.lemmas.List.{length-map, map-append}
+use Rattle.hashlink_model.proofs.Members.{none_from_is_member}
 
 -- ---- keys, and numbers beside them that no history has
 
@@ -71,10 +72,6 @@ module _ {K : Type 0} (eq : K → K → Bool) where
   drop_padding (suc m) zero = let none : 0 ≡ 0 - suc m = omega arith in ap (padding K) none
   drop_padding (suc m) (suc n) =
       let same : n - m ≡ suc n - suc m = omega arith in drop_padding m n ∙ ap (padding K) same
-
-  none_padding : (k : K) (n : ℕ) → AllByRecursion (λ y. padded_eq eq (inl k) y ≡ false) (padding K n)
-  none_padding k zero = tt
-  none_padding k (suc n) = (refl, none_padding k n)
 
   member_padding : (k : K) (n : ℕ) → is_member (padded_eq eq) (padding K n) (inl k) ≡ false
   member_padding k zero = refl
@@ -151,7 +148,8 @@ module _ {K : Type 0} (eq : K → K → Bool) (laws : IsEquivalence eq) where
       let same : c - length ks ≡ c - length (remove_key (eq k) ks ++ k ∷ []) = omega arith in
       ap (λ zs. zs ++ inl k ∷ [])
       (remove_key-right (padded_eq eq) (padded_equiv eq laws) (inl k) (padding K (c - length ks)) (real ks)
-      (none_padding eq k (c - length ks)))
+      (none_from_is_member (padded_eq eq) (padded_equiv eq laws) (padding K (c - length ks)) (inl k)
+      (member_padding eq k (c - length ks))))
       ∙ append_assoc (padding K (c - length ks)) (remove_key (padded_eq eq (inl k)) (real ks)) (inl k ∷ [])
       ∙ ap₂ (λ n zs. padding K n ++ zs) same (ap (λ zs. zs ++ inl k ∷ []) (remove_real eq ks k)
       ∙ sym (map-append (λ x. inl x) (remove_key (eq k) ks) (k ∷ [])))
@@ -215,7 +213,7 @@ module _ {K : Type 0} (eq : K → K → Bool) (laws : IsEquivalence eq) where
   starts : (h : ℕ) → Follows (padded_eq eq) (padded_equiv eq laws) h [] (padding K h)
   starts h =
       record {
-        size = (let a = length_padding eq h in omega arith);
+        size = omega (arith, length_padding eq h);
         unequal = distinct_padding eq h;
         covers = λ q m. absurd (true≢false (sym m));
       }
@@ -223,21 +221,17 @@ module _ {K : Type 0} (eq : K → K → Bool) (laws : IsEquivalence eq) where
   start_ranks : (h c : ℕ) → h ≤ c → ranks (padded_eq eq) 0 (padding K h) (padding K c) ≤ triangle (c - h)
   start_ranks h c l =
       let n = c - h in
-      let rest : drop n (padding K c) ≡ padding K h = drop_padding eq n c ∙ ap (padding K) (back n refl) in
+      let back : c - n ≡ h = (let same : c - (c - h) ≡ h = omega arith in same) in
+      let rest : drop n (padding K c) ≡ padding K h = drop_padding eq n c ∙ ap (padding K) back in
       let split : take n (padding K c) ++ padding K h ≡ padding K c
       = ap (λ zs. take n (padding K c) ++ zs) (sym rest) ∙ take-append-drop n (padding K c) in
       let long : length (take n (padding K c)) ≡ n
-      = (let a = length-take n (padding K c) in let b = length_padding eq c in omega arith) in
+      = omega (arith, length-take n (padding K c), length_padding eq c) in
       let whole = ap (ranks (padded_eq eq) 0 (padding K h)) (sym split) in
       let parts = ranks-append (padded_eq eq) 0 (padding K h) (take n (padding K c)) (padding K h) in
       let none = ranks-held (padded_eq eq) (0 + length (take n (padding K c))) (padding K h) (padding K h)
       (recursion_from_All _ (padding K h) (All-is_member (padded_equiv eq laws) (padding K h))) in
-      let most = ranks-at_most (padded_eq eq) (padding K h) (take n (padding K c)) 0 in
-      let same = ap triangle long in
-      omega arith
-    where
-      back : (n : ℕ) → n ≡ c - h → c - n ≡ h
-      back n e = omega arith
+      omega (arith, ranks-at_most (padded_eq eq) (padding K h) (take n (padding K c)) 0, ap triangle long)
 
   recent_none : (c : ℕ) → recent_keys eq c [] ≡ []
   recent_none c = let none : 0 - c ≡ 0 = omega arith in ap (λ n. drop n []) none

@@ -92,23 +92,19 @@ module _ {K V : Type 0} (eq : K → K → Bool) (laws : IsEquivalence eq) (R : K
       → IsEndOf R (without eq small k) (without eq large k)
   end-without k small large d e = without_by k small large e d (splits (eq k) e.front)
 
-  end_push : (small large : List (K × V)) (p q : K × V) → R p q → IsEndOf R small large
-      → IsEndOf R (small ++ p ∷ []) (large ++ q ∷ [])
-  end_push small large p q r e =
-      record {
-        front = e.front;
-        back = e.back ++ q ∷ [];
-        is = ap (λ zs. zs ++ q ∷ []) e.is ∙ append_assoc e.front e.back (q ∷ []);
-        alike = zip_push R small e.back p q e.alike r;
-      }
-
   pub end-put : (k : K) (v w : V) (small large : List (K × V)) → IsEntries eq large
       → R (stored_key eq small k, v) (stored_key eq large k, w) → IsEndOf R small large
       → IsEndOf R (put eq small k v (length small)) (put eq large k w (length large))
   end-put k v w small large d r e =
-      subst₂ (IsEndOf R) (sym (put_back eq small k v)) (sym (put_back eq large k w))
-      (end_push (without eq small k) (without eq large k) (stored_key eq small k, v)
-      (stored_key eq large k, w) r (end-without k small large d e))
+      let f = end-without k small large d e in
+      let p : K × V = (stored_key eq small k, v) in
+      let q : K × V = (stored_key eq large k, w) in
+      subst₂ (IsEndOf R) (sym (put_back eq small k v)) (sym (put_back eq large k w)) (record {
+        front = f.front;
+        back = f.back ++ q ∷ [];
+        is = ap (λ zs. zs ++ q ∷ []) f.is ∙ append_assoc f.front f.back (q ∷ []);
+        alike = zip_push R (without eq small k) f.back p q f.alike r;
+      })
 
   stored_equal : (k : K) (small large : List (K × V)) → eq (stored_key eq small k) (stored_key eq large k)
       ≡ true

@@ -61,19 +61,15 @@ module _ {K : Type 0} (eq : K → K → Bool) (laws : IsEquivalence eq) where
   is_member-unique [] q = refl
   is_member-unique (x ∷ xs) q = grind (arith, is_member-unique xs q, is_member-equal eq laws xs q x)
 
-  distinct_by : (x : K) (us : List K) (b : Bool) → (b ≡ false → AllByRecursion (λ y. eq x y ≡ false) us)
-      → IsDistinct eq us → IsDistinct eq (cond b us (x ∷ us))
-  unfolding IsDistinct
-  distinct_by x us true n d = d
-  distinct_by x us false n d = (n refl, d)
-
   pub IsDistinct-unique : (xs : List K) → IsDistinct eq (unique_keys eq xs)
   unfolding IsDistinct
   IsDistinct-unique [] = tt
   IsDistinct-unique (x ∷ xs) =
-      distinct_by x (unique_keys eq xs) (is_member eq xs x)
-      (λ m. none_from_is_member eq laws (unique_keys eq xs) x (is_member-unique xs x ∙ m))
-      (IsDistinct-unique xs)
+      let us = unique_keys eq xs in
+      let rest = IsDistinct-unique xs in
+      let none = none_from_is_member eq laws us x in
+      elim (is_member eq xs x) as (λ b. is_member eq xs x ≡ b → IsDistinct eq (cond b us (x ∷ us)))
+      [ true ↦ λ m. rest | false ↦ λ m. (none (is_member-unique xs x ∙ m), rest) ] refl
 
   -- one more use: the key leaves its place and comes last
   pub unique_keys-push : (xs : List K) (k : K)

@@ -1,7 +1,7 @@
 -- A cache of c places holds the last c keys that were used, and a key exactly while fewer than c others were
 -- used since.
 use Rattle.std.proofs.Common.{◌≡◌, ℕ, ◌-◌, Bool, true, false, ◌&&◌, cond, List, [], ◌∷◌, ◌++◌, length, drop}
-use Rattle.std.proofs.Common.{nat_lt, is_some, Option, None, Some, refl, sym, ap, subst₂, ◌∙◌, inl, inr}
+use Rattle.std.proofs.Common.{nat_lt, is_some, None, Some, refl, sym, ap, subst₂, ◌∙◌, inl, inr}
 use Rattle.std.proofs.Common.{subst, arith, length-append}
 use Rattle.std.specs.Cmp.{IsEquivalence}
 use Rattle.std.specs.Option.{option_map_or}
@@ -76,36 +76,29 @@ module _ {K V : Type 0} (eq : K → K → Bool) (laws : IsEquivalence eq) where
             (zip_drop_one _ (es ++ (k, v) ∷ []) (recent_keys eq c used ++ k ∷ []) pushed)
       ]
 
-  put_by : (c : ℕ) (used : List K) (es : List (K × V)) (k : K) (v : V) (o : Option V) → lookup (eq k) es ≡ o
-      → HoldsRecent eq c used es → HoldsRecent eq c (used ++ k ∷ []) (cache_put eq es c k v)
-  put_by c used es k v None l h =
-      let long = zip_length _ es (recent_keys eq c used) h in
-      let count = length-recent_keys eq laws c used in
-      subst (HoldsRecent eq c (used ++ k ∷ [])) (sym (cache_put-evicts eq es c k v (omega arith)
-      ∙ ap (λ zs. front_evicted zs c) (put_back_absent eq es k v (none_from_lookup (eq k) es l))))
-      (held_new c used es k v h l)
-  put_by c used es k v (Some w) l h =
-      let long = zip_length _ es (recent_keys eq c used) h in
-      let count = length-recent_keys eq laws c used in
-      let same = length-put_there eq es k v (length es) w l in
-      subst (HoldsRecent eq c (used ++ k ∷ []))
-      (sym (last_entries-within (put eq es k v (length es)) c (omega arith))) (held_back c used es k v w h l)
-
   pub HoldsRecent-cache_put : (c : ℕ) (used : List K) (es : List (K × V)) (k : K) (v : V)
       → HoldsRecent eq c used es → HoldsRecent eq c (used ++ k ∷ []) (cache_put eq es c k v)
-  HoldsRecent-cache_put c used es k v h = put_by c used es k v (lookup (eq k) es) refl h
-
-  use_by : (c : ℕ) (used : List K) (es : List (K × V)) (k : K) (v : V) (o : Option V) → lookup (eq k) es ≡ o
-      → HoldsRecent eq c used es
-      → HoldsRecent eq c (used ++ k ∷ []) (option_map_or (λ w. cache_get eq es k) o (cache_put eq es c k v))
-  use_by c used es k v None l h = HoldsRecent-cache_put c used es k v h
-  use_by c used es k v (Some w) l h =
-      subst (HoldsRecent eq c (used ++ k ∷ [])) (sym (moved-there eq es k (length es) w l))
-      (held_back c used es k w w h l)
+  HoldsRecent-cache_put c used es k v h =
+      let long = zip_length (λ e q. eq e.0 q ≡ true) es (recent_keys eq c used) h in
+      let count = length-recent_keys eq laws c used in
+      let R = HoldsRecent eq c (used ++ k ∷ []) in
+      elim (lookup (eq k) es) as (λ o. lookup (eq k) es ≡ o → R (cache_put eq es c k v)) [
+        | None ↦ λ l. subst R (sym (cache_put-evicts eq es c k v (omega arith)
+            ∙ ap (λ zs. front_evicted zs c) (put_back_absent eq es k v (none_from_lookup (eq k) es l))))
+            (held_new c used es k v h l)
+        | Some w ↦ λ l. subst R (sym (last_entries-within (put eq es k v (length es)) c
+            (omega (arith, length-put_there eq es k v (length es) w l)))) (held_back c used es k v w h l)
+      ] refl
 
   pub HoldsRecent-cache_use : (c : ℕ) (used : List K) (es : List (K × V)) (k : K) (v : V)
       → HoldsRecent eq c used es → HoldsRecent eq c (used ++ k ∷ []) (cache_use eq es c k v)
-  HoldsRecent-cache_use c used es k v h = use_by c used es k v (lookup (eq k) es) refl h
+  HoldsRecent-cache_use c used es k v h =
+      let R = HoldsRecent eq c (used ++ k ∷ []) in
+      elim (lookup (eq k) es)
+      as (λ o. lookup (eq k) es ≡ o → R (option_map_or (λ w. cache_get eq es k) o (cache_put eq es c k v))) [
+        | None ↦ λ l. HoldsRecent-cache_put c used es k v h
+        | Some w ↦ λ l. subst R (sym (moved-there eq es k (length es) w l)) (held_back c used es k w w h l)
+      ] refl
 
   -- a key is held exactly where it was used and fewer than c others were used since
   pub held_exactly : (c : ℕ) (used : List K) (es : List (K × V)) (k : K) → HoldsRecent eq c used es

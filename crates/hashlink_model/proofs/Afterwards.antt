@@ -40,9 +40,7 @@ module _ {K V : Type 0} (eq : K → K → Bool) where
       let j = place_without eq es k b in
       let zs = without eq es k in
       let a = length-append (take j zs) ((stored_key eq es k, v) ∷ drop j zs) in
-      let c = length-append (take j zs) (drop j zs) in
-      let d = ap length (take-append-drop j zs) in
-      omega arith
+      omega (arith, length-append (take j zs) (drop j zs), ap length (take-append-drop j zs))
 
   pub length-put_absent : (es : List (K × V)) (k : K) (v : V) (b : ℕ) → lookup (eq k) es ≡ None
       → length (put eq es k v b) ≡ length es + 1

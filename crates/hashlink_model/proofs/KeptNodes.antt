@@ -43,8 +43,7 @@ module _ {K V S : Type 0} (old new : MapState K V S) where
     pub kept-moves_and_writes : (b : ℕ) (w : V) → MovesAndWrites eq old new k b w → KeepsNodes old new
     kept-moves_and_writes b w s =
         let written = length-set_value (eq k) s.between.entries w in
-        let same = length-moved eq old.entries k b in
-        omega (arith, ap node_count s.writes, ap length s.moves.entries)
+        omega (arith, length-moved eq old.entries k b, ap node_count s.writes, ap length s.moves.entries)
 
     pub kept-removes_key : (r : Option (K × V)) → RemovesKey eq old new k r → KeepsNodes old new
     kept-removes_key None s = omega (arith, ap node_count s.step)
