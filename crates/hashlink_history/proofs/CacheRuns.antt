@@ -1,15 +1,14 @@
 -- What caches hold and answer along calls in a row.
 use Rattle.std.proofs.Common.{◌≡◌, ℕ, ◌≤◌, Bool, false, ◌&&◌, List, [], ◌∷◌, ◌++◌, length, nat_lt, is_some}
-use Rattle.std.proofs.Common.{Option, refl, ap, arith, append_assoc, append-nil}
-use Rattle.std.proofs.Common.{true≢false, true}
+use Rattle.std.proofs.Common.{Option, refl, ap, arith, append_assoc, append-nil, true≢false, true, le_refl}
 use Rattle.std.specs.Cmp.{IsEquivalence}
 use Rattle.std.specs.List.{AllZip, AllByRecursion}
 use Rattle.std.specs.Map.{lookup}
 use Rattle.std.specs.Set.{is_member}
 use Rattle.hashlink_model.specs.Entries.{IsEntries, without}
 use Rattle.hashlink_history.specs.CacheRuns.{CacheEvent, Insert, Use, Remove, Peek, key_of, is_use, NoUse}
-use Rattle.hashlink_history.specs.CacheRuns.{NoRemoval, used_keys, answer_to, after_event}
-use Rattle.hashlink_history.specs.CacheRuns.{after_events, answers}
+use Rattle.hashlink_history.specs.CacheRuns.{NoRemoval, used_keys, answer_to, after_event, after_events}
+use Rattle.hashlink_history.specs.CacheRuns.{answers}
 use Rattle.hashlink_history.specs.History.{reuse_distance, HoldsRecent}
 use Rattle.hashlink_history.specs.Inclusion.{IsEndOf, SameKey, SameEntry, AlsoFinds, FindsTheSame}
 use Rattle.hashlink_model.proofs.Puts.{IsEntries-without}
@@ -19,10 +18,8 @@ use Rattle.hashlink_history.proofs.Ends.{end-cache_put, end-without, end-cache_u
 use Rattle.hashlink_history.proofs.Ends.{same_end-answers}
 use Rattle.hashlink_history.proofs.Reuse.{HoldsRecent-start, HoldsRecent-cache_put, HoldsRecent-cache_use}
 use Rattle.hashlink_history.proofs.Reuse.{held_exactly}
-use Rattle.hashlink_model.specs.Cache.{cache_use}
+use Rattle.hashlink_model.specs.Cache.{cache_use, cache_put}
 use Rattle.hashlink_model.proofs.Distinct.{IsEntries-nil}
-use Rattle.std.proofs.Common.{le_refl}
-use Rattle.hashlink_model.specs.Cache.{cache_put}
 
 module _ {K V : Type 0} (eq : K → K → Bool) where
   -- ---- the calls in two parts

@@ -14,15 +14,14 @@ use Rattle.std.proofs.lemmas.Map.Made.{All-is_member, length-remove_key}
 use Rattle.hashlink_history.specs.History.{IsSchedule, Schedule, misses, misses_from, cache_misses}
 use Rattle.hashlink_history.specs.History.{cache_misses_from, recent_keys, reuse_distance, HoldsRecent}
 use Rattle.hashlink_model.specs.Cache.{cache_use, missed_uses}
-use Rattle.hashlink_model.proofs.Members.{is_member-append}
-use Rattle.hashlink_history.proofs.Recency.{remove_key-right, recent_keys-there, recent_keys-full}
-use Rattle.hashlink_history.proofs.Recency.{recent_keys-room, length-recent_keys, is_recent}
+use Rattle.hashlink_model.proofs.Members.{is_member-append, none_from_is_member}
+use Rattle.hashlink_history.proofs.Recency.{remove_key-right, recent_keys-there, recent_keys-full, is_recent}
+use Rattle.hashlink_history.proofs.Recency.{recent_keys-room, length-recent_keys}
 use Rattle.hashlink_history.proofs.Reuse.{held_exactly, HoldsRecent-cache_use, HoldsRecent-start}
 use Rattle.hashlink_history.proofs.Potential.{triangle, ranks, ranks-append, ranks-held, ranks-at_most}
 use Rattle.hashlink_history.proofs.Pursuit.{Follows}
 use Rattle.hashlink_history.proofs.Pursued.{full_misses, pursued}
 use Rattle.std.proofs.lemmas.List.{length-map, map-append}
-use Rattle.hashlink_model.proofs.Members.{none_from_is_member}
 
 -- ---- keys, and numbers beside them that no history has
 

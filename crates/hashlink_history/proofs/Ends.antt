@@ -1,6 +1,6 @@
 -- A smaller cache's entries stay an end of a larger one's, whatever both are given.
 use Rattle.std.proofs.Common.{◌≡◌, ℕ, zero, suc, ◌+◌, ◌-◌, ◌≤◌, ◌<◌, Bool, true, false, cond, List, [], ◌∷◌}
-use Rattle.std.proofs.Common.{◌++◌, length, drop, is_some, Option, None, Some, refl, sym, ap, ◌∙◌, ◌⊎◌}
+use Rattle.std.proofs.Common.{◌++◌, length, drop, is_some, Option, None, Some, refl, sym, ap, ◌∙◌}
 use Rattle.std.proofs.Common.{inl, inr, subst, subst₂, arith, append_assoc, lt_irrefl}
 use Rattle.std.specs.Cmp.{IsEquivalence}
 use Rattle.std.specs.Option.{option_map_or}
@@ -67,30 +67,25 @@ module _ {K V : Type 0} (eq : K → K → Bool) (laws : IsEquivalence eq) (R : K
       (none_others eq laws s.0 s.1 (s.2 ++ e.back) (subst (IsEntries eq) whole d)) in
       each-right _ s.2 e.back (each-right _ s.0 (s.2 ++ e.back) others)
 
-  without_by : (k : K) (small large : List (K × V)) (e : IsEndOf R small large) → IsEntries eq large
-      → NonePasses (eq k) e.front ⊎ Stands (eq k) e.front
-      → IsEndOf R (without eq small k) (without eq large k)
-  without_by k small large e d (inl n) =
-      record {
-        front = e.front;
-        back = without eq e.back k;
-        is = ap (λ zs. without eq zs k) e.is ∙ remove-left_none (eq k) e.front e.back n;
-        alike = remove_alike k small e.back e.alike;
-      }
-  without_by k small large e d (inr s) =
-      let none = none_behind k small large e d s in
-      record {
-        front = without eq e.front k;
-        back = e.back;
-        is = ap (λ zs. without eq zs k) e.is ∙ remove-right_none (eq k) e.front e.back none;
-        alike =
-            subst (λ zs. AllZip R zs e.back)
-            (sym (remove_entry-none (eq k) small (none_alike k small e.back e.alike none))) e.alike;
-      }
-
   pub end-without : (k : K) (small large : List (K × V)) → IsEntries eq large → IsEndOf R small large
       → IsEndOf R (without eq small k) (without eq large k)
-  end-without k small large d e = without_by k small large e d (splits (eq k) e.front)
+  end-without k small large d e = elim (splits (eq k) e.front) [
+    | inl n ↦ record {
+      front = e.front;
+      back = without eq e.back k;
+      is = ap (λ zs. without eq zs k) e.is ∙ remove-left_none (eq k) e.front e.back n;
+      alike = remove_alike k small e.back e.alike;
+    }
+    | inr s ↦ (
+        let none = none_behind k small large e d s in
+        let same = remove_entry-none (eq k) small (none_alike k small e.back e.alike none) in
+        record {
+          front = without eq e.front k;
+          back = e.back;
+          is = ap (λ zs. without eq zs k) e.is ∙ remove-right_none (eq k) e.front e.back none;
+          alike = subst (λ zs. AllZip R zs e.back) (sym same) e.alike;
+        })
+  ]
 
   pub end-put : (k : K) (v w : V) (small large : List (K × V)) → IsEntries eq large
       → R (stored_key eq small k, v) (stored_key eq large k, w) → IsEndOf R small large

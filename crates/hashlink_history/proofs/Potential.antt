@@ -31,12 +31,11 @@ module _ {X : Type 0} (eq : X → X → Bool) where
 
   pub ranks-append : (n : ℕ) (held xs ys : List X)
       → ranks n held (xs ++ ys) ≡ ranks n held xs + ranks (n + length xs) held ys
-  ranks-append n held [] ys = let same : n ≡ n + 0 = omega arith in ap (λ m. ranks m held ys) same
-      ∙ omega arith
+  ranks-append n held [] ys =
+      let same : n ≡ n + 0 = omega arith in omega (arith, ap (λ m. ranks m held ys) same)
   ranks-append n held (x ∷ xs) ys =
       let more : n + 1 + length xs ≡ n + suc (length xs) = omega arith in
-      ap (λ r. cond (is_member eq held x) 0 (n + 1) + r)
-      (ranks-append (n + 1) held xs ys ∙ ap (λ m. ranks (n + 1) held xs + ranks m held ys) more) ∙ omega arith
+      omega (arith, ranks-append (n + 1) held xs ys, ap (λ m. ranks m held ys) more)
 
   -- what is held adds nothing
   pub ranks-held : (n : ℕ) (held xs : List X) → AllByRecursion (λ x. is_member eq held x ≡ true) xs

@@ -50,19 +50,15 @@ module _ {X : Type 0} (eq : X → X → Bool) (laws : IsEquivalence eq) where
   pub key_at : (xs : List X) (k : X) → is_member eq xs k ≡ true
       → (us : List X) × (x : X) × (vs : List X) × KeyAt xs k us x vs
   key_at [] k m = absurd (true≢false (sym m))
-  key_at (y ∷ xs) k m = by (eq k y) refl m (key_at xs k)
-    where
-      by : (b : Bool) → eq k y ≡ b → (b || is_member eq xs k) ≡ true
-          → (is_member eq xs k ≡ true → (us : List X) × (x : X) × (vs : List X) × KeyAt xs k us x vs)
-          → (us : List X) × (x : X) × (vs : List X) × KeyAt (y ∷ xs) k us x vs
-      by true t e h = ([], y, xs, record { is = refl; equal = t; rest = rw t refl })
-      by false t e h =
-          let s = h e in (
-            y ∷ s.0,
-            s.1,
-            s.2,
-            record { is = ap (λ r. y ∷ r) s.3.is; equal = s.3.equal; rest = rw t (ap (λ r. y ∷ r) s.3.rest) },
-          )
+  key_at (y ∷ xs) k m =
+      elim (eq k y)
+      as (λ b. eq k y ≡ b → (us : List X) × (x : X) × (vs : List X) × KeyAt (y ∷ xs) k us x vs) [
+        | true ↦ λ t. ([], y, xs, record { is = refl; equal = t; rest = rw t refl })
+        | false ↦ λ t. (
+            let s = key_at xs k (grind (arith, m, t)) in
+            let later : remove_key (eq k) (y ∷ xs) ≡ y ∷ (s.0 ++ s.2) = rw t (ap (λ r. y ∷ r) s.3.rest) in
+            (y ∷ s.0, s.1, s.2, record { is = ap (λ r. y ∷ r) s.3.is; equal = s.3.equal; rest = later }))
+      ] refl
 
   pub removed_gone : (xs : List X) (k : X) → IsDistinct eq xs → is_member eq (remove_key (eq k) xs) k ≡ false
   unfolding IsDistinct
@@ -95,16 +91,15 @@ module _ {X : Type 0} (eq : X → X → Bool) (laws : IsEquivalence eq) where
       grind (arith, a.0, m, same, scheduled_before h before k after a.1 q, answers_alike eq laws k q y)
 
   -- one that is held and not among `after`, or all of them are
-  missing : (after held : List X) → ((x : X) × (is_member eq held x ≡ true) × (is_member eq after x ≡ false))
+  abbrev Lacks : List X → List X → Type 0
+  Lacks after held = ((x : X) × (is_member eq held x ≡ true) × (is_member eq after x ≡ false))
       ⊎ ((q : X) → is_member eq held q ≡ true → is_member eq after q ≡ true)
+
+  missing : (after held : List X) → Lacks after held
   missing after [] = inr (λ q e. absurd (true≢false (sym e)))
   missing after (y ∷ held) = by (is_member eq after y) refl (missing after held)
     where
-      by : (b : Bool) → is_member eq after y ≡ b
-          → ((x : X) × (is_member eq held x ≡ true) × (is_member eq after x ≡ false))
-          ⊎ ((q : X) → is_member eq held q ≡ true → is_member eq after q ≡ true)
-          → ((x : X) × (is_member eq (y ∷ held) x ≡ true) × (is_member eq after x ≡ false))
-          ⊎ ((q : X) → is_member eq (y ∷ held) q ≡ true → is_member eq after q ≡ true)
+      by : (b : Bool) → is_member eq after y ≡ b → Lacks after held → Lacks after (y ∷ held)
       by false n s = inl (y, grind (arith, laws.refl y), n)
       by true m (inl s) = inl (s.0, grind (arith, s.1), s.2)
       by true m (inr f) = inr (λ q e. grind (arith, e, m, f q, is_member-equal eq laws after q y))

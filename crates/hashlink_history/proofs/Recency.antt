@@ -91,20 +91,16 @@ module _ {K : Type 0} (eq : K → K → Bool) (laws : IsEquivalence eq) where
   pub last_use : (used : List K) (k : K) → is_member eq used k ≡ true
       → (xs : List K) × (x : K) × (ys : List K) × LastUse used k xs x ys
   last_use [] k m = absurd (true≢false (sym m))
-  last_use (u ∷ used) k m = by (is_member eq used k) refl (last_use used k)
-    where
-      by : (b : Bool) → is_member eq used k ≡ b
-          → (is_member eq used k ≡ true → (xs : List K) × (x : K) × (ys : List K) × LastUse used k xs x ys)
-          → (xs : List K) × (x : K) × (ys : List K) × LastUse (u ∷ used) k xs x ys
-      by true e h =
-          let s = h e in
-          (u ∷ s.0, s.1, s.2, record { is = ap (λ r. u ∷ r) s.3.is; equal = s.3.equal; after = s.3.after })
-      by false e h = (
-        [],
-        u,
-        used,
-        record { is = refl; equal = grind (arith, m, e); after = none_from_is_member eq laws used k e },
-      )
+  last_use (u ∷ used) k m =
+      let none = none_from_is_member eq laws used k in
+      elim (is_member eq used k)
+      as (λ b. is_member eq used k ≡ b
+      → (xs : List K) × (x : K) × (ys : List K) × LastUse (u ∷ used) k xs x ys) [
+        | true ↦ λ e. (
+            let s = last_use used k e in
+            (u ∷ s.0, s.1, s.2, record { is = ap (λ r. u ∷ r) s.3.is; equal = s.3.equal; after = s.3.after }))
+        | false ↦ λ e. ([], u, used, record { is = refl; equal = grind (arith, m, e); after = none e })
+      ] refl
 
   -- what was used after it is unique too
   pub unique_keys-last : (k : K) (xs : List K) (x : K) (ys : List K) → eq k x ≡ true
