@@ -20,6 +20,7 @@ use Rattle.hashlink_history.proofs.Reuse.{HoldsRecent-start, HoldsRecent-cache_p
 use Rattle.hashlink_history.proofs.Reuse.{held_exactly}
 use Rattle.hashlink_model.specs.Cache.{cache_use, cache_put}
 use Rattle.hashlink_model.proofs.Distinct.{IsEntries-nil}
+use Rattle.std.proofs.lemmas.List.Elements.{recursion_from_All}
 
 module _ {K V : Type 0} (eq : K → K → Bool) where
   -- ---- the calls in two parts
@@ -126,10 +127,6 @@ module _ {K V : Type 0} (eq : K → K → Bool) (laws : IsEquivalence eq) where
       )
 
     -- from two empty caches, by keys alone: every call is allowed
-    any_event : (events : List (CacheEvent K V)) → AllByRecursion (λ _. Unit {0}) events
-    any_event [] = tt
-    any_event (e ∷ events) = (tt, any_event events)
-
     key_uses : (k : K) (v : V) → Unit {0} → (small large : List (K × V)) → Alike (SameKey eq) small large
         → IsEndOf (SameKey eq) (cache_use eq small c k v) (cache_use eq large d k v)
     key_uses k v _ small large a = end-cache_use eq laws c d k v small large a.unequal fewer a.within a.end
@@ -138,14 +135,14 @@ module _ {K V : Type 0} (eq : K → K → Bool) (laws : IsEquivalence eq) where
         → IsEndOf (SameKey eq) (after_events eq c [] events) (after_events eq d [] events)
     keys_along events =
         end-events (SameKey eq) (λ p q r. r) (λ p q v t. t) (λ _. Unit {0}) key_uses [] [] events
-        (any_event events) (start (SameKey eq))
+        (recursion_from_All _ events (λ _ _ _. tt)) (start (SameKey eq))
 
     pub finds_along : (events : List (CacheEvent K V))
         → AllZip AlsoFinds (answers eq c [] events) (answers eq d [] events)
     finds_along events =
         answers-events (SameKey eq) (λ p q r. r) (λ p q v t. t) (λ _. Unit {0}) key_uses AlsoFinds
         (λ k small large a. end-finds eq laws (SameKey eq) (λ p q r. r) k small large a.end) [] [] events
-        (any_event events) (start (SameKey eq))
+        (recursion_from_All _ events (λ _ _ _. tt)) (start (SameKey eq))
 
     -- by keys and values: all but uses
     pub entries_along : (events : List (CacheEvent K V)) → NoUse events

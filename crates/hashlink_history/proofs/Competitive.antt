@@ -2,8 +2,8 @@
 -- nobody asks for.
 use Rattle.std.proofs.Common.{◌≡◌, ℕ, zero, suc, ◌+◌, ◌-◌, ◌*◌, ◌≤◌, ◌<◌, Bool, true, false, cond, ◌||◌, ◌&&◌}
 use Rattle.std.proofs.Common.{List, [], ◌∷◌, ◌++◌, map, length, take, drop, nat_lt, nat_eq, refl, sym, ap}
-use Rattle.std.proofs.Common.{ap₂, ◌∙◌, ◌⊎◌, inl, inr, subst, arith, append_assoc, length-append, length-take}
-use Rattle.std.proofs.Common.{take-append-drop, le_refl, true≢false, not-suc-le-zero, append-nil}
+use Rattle.std.proofs.Common.{ap₂, ◌∙◌, ◌⊎◌, inl, inr, arith, append_assoc, length-append, length-take}
+use Rattle.std.proofs.Common.{take-append-drop, le_refl, true≢false, append-nil}
 use Rattle.std.specs.Cmp.{IsEquivalence, nat_eq_equiv}
 use Rattle.std.specs.List.{AllByRecursion, IsDistinct}
 use Rattle.std.specs.Map.{keys_of}
@@ -22,6 +22,7 @@ use Rattle.hashlink_history.proofs.Potential.{triangle, ranks, ranks-append, ran
 use Rattle.hashlink_history.proofs.Pursuit.{Follows}
 use Rattle.hashlink_history.proofs.Pursued.{full_misses, pursued}
 use Rattle.std.proofs.lemmas.List.{length-map, map-append}
+use Rattle.std.proofs.Math.Seq.{drop-nil}
 
 -- ---- keys, and numbers beside them that no history has
 
@@ -142,9 +143,8 @@ module _ {K : Type 0} (eq : K → K → Bool) (laws : IsEquivalence eq) where
       → remove_key (padded_eq eq (inl k)) (filled eq c ks) ++ inl k ∷ []
       ≡ filled eq c (remove_key (eq k) ks ++ k ∷ [])
   filled_hit c ks k m =
-      let a = length-remove_key (eq k) ks m in
-      let b = length-append (remove_key (eq k) ks) (k ∷ []) in
-      let same : c - length ks ≡ c - length (remove_key (eq k) ks ++ k ∷ []) = omega arith in
+      let same : c - length ks ≡ c - length (remove_key (eq k) ks ++ k ∷ [])
+      = omega (arith, length-remove_key (eq k) ks m, length-append (remove_key (eq k) ks) (k ∷ [])) in
       ap (λ zs. zs ++ inl k ∷ [])
       (remove_key-right (padded_eq eq) (padded_equiv eq laws) (inl k) (padding K (c - length ks)) (real ks)
       (none_from_is_member (padded_eq eq) (padded_equiv eq laws) (padding K (c - length ks)) (inl k)
@@ -156,19 +156,17 @@ module _ {K : Type 0} (eq : K → K → Bool) (laws : IsEquivalence eq) where
   filled_room : (c : ℕ) (ks : List K) (k : K) → length ks < c
       → drop 1 (filled eq c ks) ++ inl k ∷ [] ≡ filled eq c (ks ++ k ∷ [])
   filled_room c ks k l =
-      let b = length-append ks (k ∷ []) in
-      let more : c - length ks ≡ suc (c - length (ks ++ k ∷ [])) = omega arith in
+      let more : c - length ks ≡ suc (c - length (ks ++ k ∷ [])) = omega (arith, length-append ks (k ∷ [])) in
       ap (λ n. drop 1 (padding K n ++ real ks) ++ inl k ∷ []) more
       ∙ append_assoc (padding K (c - length (ks ++ k ∷ []))) (real ks) (inl k ∷ [])
       ∙ ap (λ zs. padding K (c - length (ks ++ k ∷ [])) ++ zs) (sym (map-append (λ x. inl x) ks (k ∷ [])))
 
   filled_full : (c : ℕ) (ks : List K) (k : K) → length ks ≡ c → 1 ≤ c
       → drop 1 (filled eq c ks) ++ inl k ∷ [] ≡ filled eq c (drop 1 (ks ++ k ∷ []))
-  filled_full c [] k l p = absurd (not-suc-le-zero (subst (λ i. 1 ≤ i) (sym l) p))
+  filled_full c [] k l p = absurd (omega arith)
   filled_full c (x ∷ ks) k l p =
-      let b = length-append ks (k ∷ []) in
       let full : c - suc (length ks) ≡ 0 = omega arith in
-      let full_after : c - length (ks ++ k ∷ []) ≡ 0 = omega arith in
+      let full_after : c - length (ks ++ k ∷ []) ≡ 0 = omega (arith, length-append ks (k ∷ [])) in
       ap (λ n. drop 1 (padding K n ++ real (x ∷ ks)) ++ inl k ∷ []) full
       ∙ sym (map-append (λ x. inl x) ks (k ∷ []))
       ∙ ap (λ n. padding K n ++ real (ks ++ k ∷ [])) (sym full_after)
@@ -232,9 +230,6 @@ module _ {K : Type 0} (eq : K → K → Bool) (laws : IsEquivalence eq) where
       (recursion_from_All _ (padding K h) (All-is_member (padded_equiv eq laws) (padding K h))) in
       omega (arith, ranks-at_most (padded_eq eq) (padding K h) (take n (padding K c)) 0, ap triangle long)
 
-  recent_none : (c : ℕ) → recent_keys eq c [] ≡ []
-  recent_none c = let none : 0 - c ≡ 0 = omega arith in ap (λ n. drop n []) none
-
   -- however a schedule of h places replaces, the cache's misses are at most c / (c - h + 1) times as many
   pub competitive : (c h : ℕ) → 1 ≤ h → h ≤ c → (used : List K) (held : List (List K))
       → Schedule eq h used held → (c - h + 1) * cache_misses eq c used ≤ c * misses eq used held
@@ -246,7 +241,7 @@ module _ {K : Type 0} (eq : K → K → Bool) (laws : IsEquivalence eq) where
       let begin = start_ranks h c l in
       let none : c - 0 ≡ c = omega arith in
       let empty : filled eq c (recent_keys eq c []) ≡ padding K c
-      = ap (filled eq c) (recent_none c) ∙ ap (λ n. padding K n ++ []) none ∙ append-nil (padding K c) in
+      = ap (filled eq c) (drop-nil (0 - c)) ∙ ap (λ n. padding K n ++ []) none ∙ append-nil (padding K c) in
       let mine : full_misses (padded_eq eq) (padded_equiv eq laws) (padding K c) (real used)
       ≡ cache_misses eq c used
       = ap (λ zs. full_misses (padded_eq eq) (padded_equiv eq laws) zs (real used)) (sym empty)

@@ -143,10 +143,6 @@ module _ {K V : Type 0} (eq : K → K → Bool) (laws : IsEquivalence eq) (R : K
       end-drop_large n small large (drop_large_by small (y ∷ large) e.front e.back e.is e.alike (omega arith))
       (omega arith)
 
-  end-last_small : (small large : List (K × V)) (c : ℕ) → IsEndOf R small large
-      → IsEndOf R (last_entries small c) large
-  end-last_small small large c e = end-drop_small (length small - c) small large e
-
   end-last_large : (small large : List (K × V)) (d : ℕ) → IsEndOf R small large → length small ≤ d
       → IsEndOf R small (last_entries large d)
   end-last_large small large d e l = elim (cases_lt d (length large)) [
@@ -163,9 +159,10 @@ module _ {K V : Type 0} (eq : K → K → Bool) (laws : IsEquivalence eq) (R : K
   end-cache_put again c d k v small large u l m e =
       let r = again (stored_key eq small k) (stored_key eq large k) v (stored_equal k small large) in
       let few = cache_put-at_most eq small c k v in
+      let zs = put eq small k v (length small) in
+      let dropped = end-drop_small (length zs - c) zs (put eq large k v (length large)) in
       end-last_large (cache_put eq small c k v) (put eq large k v (length large)) d
-      (end-last_small (put eq small k v (length small)) (put eq large k v (length large)) c
-      (end-put k v v small large u r e)) (omega arith)
+      (dropped (end-put k v v small large u r e)) (omega arith)
 
   -- what the smaller one has, the larger one has too
   pub end-finds : (k : K) (small large : List (K × V)) → IsEndOf R small large
@@ -198,8 +195,8 @@ module _ {K V : Type 0} (eq : K → K → Bool) (laws : IsEquivalence eq) where
     use_by None (Some y) l m =
         subst (IsEndOf (SameKey eq) (cache_put eq small c k v))
         (sym (moved-there eq large k (length large) y m))
-        (end-last_small eq laws (SameKey eq) (λ p q r. r) (put eq small k v (length small))
-        (put eq large k y (length large)) c (put_alike v y))
+        (end-drop_small eq laws (SameKey eq) (λ p q r. r) (length (put eq small k v (length small)) - c)
+        (put eq small k v (length small)) (put eq large k y (length large)) (put_alike v y))
     use_by (Some x) None l m =
         absurd (both_ways (is_some (lookup (eq k) large)) (ap is_some m)
         (end-finds eq laws (SameKey eq) (λ p q r. r) k small large e (ap is_some l)))

@@ -129,9 +129,8 @@ module _ {X : Type 0} (eq : X → X → Bool) (laws : IsEquivalence eq) where
       → is_member eq held k ≡ true → ranks eq 0 held ((xs ++ ys) ++ k ∷ []) ≤ ranks eq 0 held (xs ++ x ∷ ys)
   ranks-hit held xs x ys k m n =
       let m0 = 0 + length xs in
-      let a = ranks-append eq 0 held (xs ++ ys) (k ∷ []) in
-      let d : ranks eq (0 + length (xs ++ ys)) held (k ∷ []) ≡ 0
-      = ranks-held eq (0 + length (xs ++ ys)) held (k ∷ []) (n, tt) in
+      let all = ranks-append eq 0 held (xs ++ ys) (k ∷ []) in
+      let last = ranks-held eq (0 + length (xs ++ ys)) held (k ∷ []) (n, tt) in
       let e : ranks eq m0 held (x ∷ ys) ≡ ranks eq (m0 + 1) held ys = rw m (omega arith) in
       let f = ranks-next eq m0 held ys in
       omega (arith, ranks-append eq 0 held xs ys, ranks-append eq 0 held xs (x ∷ ys))

@@ -1,7 +1,7 @@
 -- The misses of a cache that always has c keys are bounded by those of any schedule, by steps of the two side
 -- by side.
 use Rattle.std.proofs.Common.{◌≡◌, ℕ, ◌+◌, ◌-◌, ◌*◌, ◌≤◌, Bool, true, false, cond, List, [], ◌∷◌, ◌++◌, drop}
-use Rattle.std.proofs.Common.{length, refl, sym, ap, ◌∙◌, subst, arith, length-append, not-suc-le-zero}
+use Rattle.std.proofs.Common.{length, refl, sym, ap, ◌∙◌, arith, length-append}
 use Rattle.std.specs.Cmp.{IsEquivalence}
 use Rattle.std.specs.List.{IsDistinct}
 use Rattle.std.specs.Set.{is_member, remove_key}
@@ -37,17 +37,14 @@ module _ {X : Type 0} (eq : X → X → Bool) (laws : IsEquivalence eq) where
       → FullStep h c held xs k (remove_key (eq k) xs ++ k ∷ []) 0
   hit_step h c held xs k d l m n =
       let s = key_at eq laws xs k n in
-      let less = length-remove_key (eq k) xs n in
-      let more = length-append (remove_key (eq k) xs) (k ∷ []) in
+      let distinct = removed_distinct eq laws k xs d in
       let moved = ranks-hit eq laws held s.0 s.1 s.2 k
       (sym (is_member-equal eq laws held k s.1 s.3.equal) ∙ m) m in
       let new = ap (λ zs. ranks eq 0 held (zs ++ k ∷ [])) s.3.rest in
       let old = ap (ranks eq 0 held) s.3.is in
       record {
-        size = omega arith;
-        unequal =
-            IsDistinct-push laws (remove_key (eq k) xs) k (removed_distinct eq laws k xs d)
-            (removed_gone eq laws xs k d);
+        size = omega (arith, length-remove_key (eq k) xs n, length-append (remove_key (eq k) xs) (k ∷ []));
+        unequal = IsDistinct-push laws (remove_key (eq k) xs) k distinct (removed_gone eq laws xs k d);
         nearer = omega arith;
       }
 
@@ -68,7 +65,7 @@ module _ {X : Type 0} (eq : X → X → Bool) (laws : IsEquivalence eq) where
       → IsDistinct eq xs → length xs ≡ c → 1 ≤ c → length held ≤ h → is_member eq held k ≡ true
       → FullStep h c held xs k (cond b (remove_key (eq k) xs ++ k ∷ []) (drop 1 xs ++ k ∷ [])) (cond b 0 1)
   step_by h c held xs k true n d l p f m = hit_step h c held xs k d l m n
-  step_by h c held [] k false n d l p f m = absurd (not-suc-le-zero (subst (λ i. 1 ≤ i) (sym l) p))
+  step_by h c held [] k false n d l p f m = absurd (omega arith)
   step_by h c held (x ∷ xs) k false n d l p f m = miss_step h c held x xs k d l f m n
 
   least : (h c : ℕ) (held xs : List X) → IsDistinct eq xs → length xs ≡ c → length held ≤ h

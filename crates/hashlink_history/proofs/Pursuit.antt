@@ -162,17 +162,15 @@ module _ {X : Type 0} (eq : X → X → Bool) (laws : IsEquivalence eq) where
         (λ q e. grind (arith, e, s.holds, all q, is_member-equal eq laws after q k)) in
         omega (arith, s.size)
 
-    absent_by : is_member eq held k ≡ false → (length held < h) ⊎ (h ≤ length held)
-        → (next : List X) × FollowsOn h after held k next
-    absent_by n (inl l) = (k ∷ held, follow_room n l)
-    absent_by n (inr l) = elim (missing after held) [
-      | inl x ↦ (k ∷ remove_key (eq x.0) held, follow_swap x.0 n x.1 x.2)
-      | inr a ↦ absurd (too_many n l a)
-    ]
-
     follow_by : (b : Bool) → is_member eq held k ≡ b → (next : List X) × FollowsOn h after held k next
     follow_by true m = (held, follow_there m)
-    follow_by false m = absent_by m (cases_lt (length held) h)
+    follow_by false m = elim (cases_lt (length held) h) [
+      | inl l ↦ (k ∷ held, follow_room m l)
+      | inr l ↦ elim (missing after held) [
+        | inl x ↦ (k ∷ remove_key (eq x.0) held, follow_swap x.0 m x.1 x.2)
+        | inr a ↦ absurd (too_many m l a)
+      ]
+    ]
 
     pub follow : (next : List X) × FollowsOn h after held k next
     follow = follow_by (is_member eq held k) refl

@@ -1,6 +1,6 @@
 -- A cache of c places holds the last c keys that were used, and a key exactly while fewer than c others were
 -- used since.
-use Rattle.std.proofs.Common.{◌≡◌, ℕ, ◌-◌, Bool, true, false, ◌&&◌, cond, List, [], ◌∷◌, ◌++◌, length, drop}
+use Rattle.std.proofs.Common.{◌≡◌, ℕ, ◌-◌, Bool, true, false, ◌&&◌, cond, List, [], ◌∷◌, ◌++◌, length}
 use Rattle.std.proofs.Common.{nat_lt, is_some, None, Some, refl, sym, ap, subst₂, ◌∙◌, inl, inr}
 use Rattle.std.proofs.Common.{subst, arith, length-append}
 use Rattle.std.specs.Cmp.{IsEquivalence}
@@ -21,6 +21,7 @@ use Rattle.hashlink_model.proofs.Caches.{front_evicted-within, front_evicted-abo
 use Rattle.hashlink_model.proofs.Caches.{cache_put-evicts}
 use Rattle.hashlink_history.proofs.Recency.{zip_push, zip_drop_one, zip_length, is_recent, recent_keys-there}
 use Rattle.hashlink_history.proofs.Recency.{recent_keys-full, recent_keys-room, length-recent_keys}
+use Rattle.std.proofs.Math.Seq.{drop-nil}
 
 module _ {K V : Type 0} (eq : K → K → Bool) (laws : IsEquivalence eq) where
   pub found_is_member : (k : K) (es : List (K × V)) (ks : List K) → AllZip (λ e q. eq e.0 q ≡ true) es ks
@@ -107,5 +108,4 @@ module _ {K V : Type 0} (eq : K → K → Bool) (laws : IsEquivalence eq) where
 
 pub HoldsRecent-start : {K : Type 0} (V : Type 0) (eq : K → K → Bool) (c : ℕ) → HoldsRecent eq {V = V} c [] []
 HoldsRecent-start {K} V eq c =
-    let none : 0 - c ≡ 0 = omega arith in
-    subst (λ n. AllZip (λ (e : K × V) k. eq e.0 k ≡ true) [] (drop n [])) (sym none) tt
+    subst (AllZip (λ (e : K × V) k. eq e.0 k ≡ true) []) (sym (drop-nil (0 - c))) tt
