@@ -36,12 +36,8 @@ module _ {K V S : Type 0} (eq : K → K → Bool) (old new : CacheState K V S) (
   pub inserts_refused : (pair : K × V) → CacheInserts eq old new k v (Err pair)
       → (new.map.entries ≡ old.map.entries) × (new.map.spare ≡ old.map.spare)
       × (lookup (eq k) old.map.entries ≡ None) × (old.map.spare ≡ 0)
-  inserts_refused pair s = (
-    s.map.grows.entries,
-    s.map.grows.spare,
-    s.map.may_refuse.absent,
-    s.map.may_refuse.no_spare,
-  )
+  inserts_refused pair s =
+      (s.map.grows.entries, s.map.grows.spare, s.map.may_refuse.absent, s.map.may_refuse.no_spare)
 
 module _ {K V S : Type 0} (eq : K → K → Bool) (old new : CacheState K V S) (k : K) where
   pub gets_hit : (w : V) → CacheGets eq old new k (Some w)

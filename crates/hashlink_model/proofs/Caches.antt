@@ -1,7 +1,7 @@
 -- What a cache holds after its steps.
 use Rattle.std.proofs.Common.{◌≡◌, ℕ, suc, ◌+◌, ◌-◌, ◌≤◌, ◌<◌, Bool, true, false, min, List, [], ◌∷◌, ◌++◌}
 use Rattle.std.proofs.Common.{length, drop, take, unwrap_or, Some, refl, sym, ap, arith, zero, length-drop}
-use Rattle.std.proofs.Common.{lt-ltb, le-ltb, take-append-drop}
+use Rattle.std.proofs.Common.{lt-ltb, le-ltb, take-append-drop, None, ◌∙◌}
 use Rattle.std.specs.Cmp.{IsEquivalence}
 use Rattle.std.specs.Map.{lookup, lookup_entry}
 use Rattle.std.proofs.lemmas.Bool.{cases_lt}
@@ -15,6 +15,7 @@ use Rattle.hashlink_model.proofs.Afterwards.{length-put, length-put_absent, leng
 use Rattle.hashlink_model.proofs.Afterwards.{lookup-moved, lookup_entry-put_other, IsEntries-moved, moved_is}
 use Rattle.hashlink_model.proofs.Remaining.{lookup-put_remaining, lookup_entry-put_remaining}
 use Rattle.std.proofs.lemmas.Bool.Decides.{nat_tests}
+use Rattle.std.specs.Option.{option_map_or}
 
 module _ {K V : Type 0} where
   pub front_evicted-within : (es : List (K × V)) (cap : ℕ) → length es ≤ cap → front_evicted es cap ≡ es
@@ -98,8 +99,11 @@ module _ {K V : Type 0} where
 
   pub cache_use-at_most : (eq : K → K → Bool) (es : List (K × V)) (cap n : ℕ) (k : K) (v : V) → cap ≤ n
       → length es ≤ n → length (cache_use eq es cap k v) ≤ n
-  cache_use-at_most eq es cap n k v c m =
-      grind (arith, cache_put-at_most eq es cap k v, length-moved eq es k (length es))
+  cache_use-at_most eq es cap n k v c m = elim (lookup (eq k) es)
+      as (λ o. length (option_map_or (λ w. cache_get eq es k) o (cache_put eq es cap k v)) ≤ n) [
+        | None ↦ omega (arith, cache_put-at_most eq es cap k v)
+        | Some w ↦ omega (arith, length-moved eq es k (length es))
+      ]
 
   pub IsEntries-cache_extended : (eq : K → K → Bool) → IsEquivalence eq
       → (es : List (K × V)) (cap : ℕ) (pairs : List (K × V)) → IsEntries eq es
@@ -146,8 +150,11 @@ module _ {K V : Type 0} (eq : K → K → Bool) (laws : IsEquivalence eq) where
   pub lookup-cache_use : (q : K) (es : List (K × V)) (cap : ℕ) (k : K) (v : V) → IsEntries eq es → 1 ≤ cap
       → eq k q ≡ true → lookup (eq q) (cache_use eq es cap k v) ≡ Some (unwrap_or (lookup (eq k) es) v)
   lookup-cache_use q es cap k v d c t =
-      let same = lookup-moved eq laws q es k (length es) d in
-      grind (arith, same, lookup-cache_put q es cap k v d c t, lookup-equal eq laws k q es t)
+      elim (lookup (eq k) es) as (λ o. lookup (eq k) es ≡ o → lookup (eq q)
+      (option_map_or (λ w. cache_get eq es k) o (cache_put eq es cap k v)) ≡ Some (unwrap_or o v)) [
+        | None ↦ λ l. lookup-cache_put q es cap k v d c t
+        | Some w ↦ λ l. lookup-moved eq laws q es k (length es) d ∙ sym (lookup-equal eq laws k q es t) ∙ l
+      ] refl
 
   pub lookup_entry-cache_use : (q : K) (es : List (K × V)) (cap : ℕ) (k : K) (v : V) (e : K × V)
       → IsEntries eq es → eq k q ≡ false → lookup_entry (eq q) (cache_use eq es cap k v) ≡ Some e

@@ -78,11 +78,8 @@ module _ {T S : Type 0} (eq : T → T → Bool) (old new : SetState T S) (t : T)
 
     pub inserts_refused : (pair : T × Unit {0}) → Inserts eq old new t tt b (Err pair)
         → (elements_of new ≡ elements_of old) × (is_member eq (elements_of old) t ≡ false) × (pair.0 ≡ t)
-    inserts_refused pair s = (
-      ap keys_of s.grows.entries,
-      member_none s.may_refuse.absent,
-      ap (λ p. p.0) s.handed_back,
-    )
+    inserts_refused pair s =
+        (ap keys_of s.grows.entries, member_none s.may_refuse.absent, ap (λ p. p.0) s.handed_back)
 
     pub moves_elements : (r : Option (Unit {0})) → Moves eq old new t b r
         → (elements_of new ≡ cond (is_some r) (put_element eq (elements_of old) t b) (elements_of old))
