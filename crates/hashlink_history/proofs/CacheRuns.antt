@@ -1,25 +1,26 @@
 -- What caches hold and answer along calls in a row.
 use Rattle.std.proofs.Common.{◌≡◌, ℕ, ◌≤◌, Bool, false, ◌&&◌, List, [], ◌∷◌, ◌++◌, length, nat_lt, is_some}
-use Rattle.std.proofs.Common.{Option, None, Some, refl, sym, ap, ◌∙◌, subst, arith, append_assoc, append-nil}
-use Rattle.std.proofs.Common.{true≢false}
+use Rattle.std.proofs.Common.{Option, refl, ap, arith, append_assoc, append-nil, true≢false, true, le_refl}
 use Rattle.std.specs.Cmp.{IsEquivalence}
-use Rattle.std.specs.List.{AllZip, IsDistinct}
+use Rattle.std.specs.List.{AllZip, AllByRecursion}
 use Rattle.std.specs.Map.{lookup}
 use Rattle.std.specs.Set.{is_member}
 use Rattle.hashlink_model.specs.Entries.{IsEntries, without}
-use Rattle.hashlink_history.specs.CacheRuns.{CacheEvent, Insert, Use, Remove, Peek, key_of, is_use}
-use Rattle.hashlink_history.specs.CacheRuns.{is_removal, NoUse, NoRemoval, used_keys, answer_to, after_event}
-use Rattle.hashlink_history.specs.CacheRuns.{after_events, answers}
+use Rattle.hashlink_history.specs.CacheRuns.{CacheEvent, Insert, Use, Remove, Peek, key_of, is_use, NoUse}
+use Rattle.hashlink_history.specs.CacheRuns.{NoRemoval, used_keys, answer_to, after_event, after_events}
+use Rattle.hashlink_history.specs.CacheRuns.{answers}
 use Rattle.hashlink_history.specs.History.{reuse_distance, HoldsRecent}
 use Rattle.hashlink_history.specs.Inclusion.{IsEndOf, SameKey, SameEntry, AlsoFinds, FindsTheSame}
 use Rattle.hashlink_model.proofs.Puts.{IsEntries-without}
-use Rattle.hashlink_model.proofs.Afterwards.{length-without_absent, length-without_there}
 use Rattle.hashlink_model.proofs.Caches.{cache_put-at_most, IsEntries-cache_put, IsEntries-cache_use}
 use Rattle.hashlink_model.proofs.Caches.{cache_use-at_most}
-use Rattle.hashlink_history.proofs.Ends.{end-insert, end-cache_use, end-remove, end-answers, same_end-insert}
-use Rattle.hashlink_history.proofs.Ends.{same_end-remove, same_end-answers}
+use Rattle.hashlink_history.proofs.Ends.{end-cache_put, end-without, end-cache_use, end-finds}
+use Rattle.hashlink_history.proofs.Ends.{same_end-answers}
 use Rattle.hashlink_history.proofs.Reuse.{HoldsRecent-start, HoldsRecent-cache_put, HoldsRecent-cache_use}
 use Rattle.hashlink_history.proofs.Reuse.{held_exactly}
+use Rattle.hashlink_model.specs.Cache.{cache_use, cache_put}
+use Rattle.hashlink_model.proofs.Distinct.{IsEntries-nil}
+use Rattle.std.proofs.lemmas.List.Elements.{recursion_from_All}
 
 module _ {K V : Type 0} (eq : K → K → Bool) where
   -- ---- the calls in two parts
@@ -37,23 +38,19 @@ module _ {K V : Type 0} (eq : K → K → Bool) where
 
   -- ---- how long the list is
 
-  without-at_most : (es : List (K × V)) (k : K) (n : ℕ) → length es ≤ n → length (without eq es k) ≤ n
-  without-at_most es k n m = by (lookup (eq k) es) refl
-    where
-      by : (o : Option V) → lookup (eq k) es ≡ o → length (without eq es k) ≤ n
-      by None l = let same = length-without_absent eq es k l in omega arith
-      by (Some w) l = let fewer = length-without_there eq es k w l in omega arith
+  without_shorter : (es : List (K × V)) (k : K) → length (without eq es k) ≤ length es
+  without_shorter [] k = le_refl 0
+  without_shorter (e ∷ es) k = grind (arith, without_shorter es k)
 
   pub after_event-at_most : (es : List (K × V)) (cap n : ℕ) (e : CacheEvent K V) → cap ≤ n → length es ≤ n
       → length (after_event eq cap es e) ≤ n
-  after_event-at_most es cap n (Insert k v) c m = let few = cache_put-at_most eq es cap k v in omega arith
+  after_event-at_most es cap n (Insert k v) c m = omega (arith, cache_put-at_most eq es cap k v)
   after_event-at_most es cap n (Use k v) c m = cache_use-at_most eq es cap n k v c m
-  after_event-at_most es cap n (Remove k) c m = without-at_most es k n m
+  after_event-at_most es cap n (Remove k) c m = omega (arith, without_shorter es k)
   after_event-at_most es cap n (Peek k) c m = m
 
   pub after_events-at_most : (es : List (K × V)) (cap n : ℕ) (events : List (CacheEvent K V))
-      → cap ≤ n → length es ≤ n
-      → length (after_events eq cap es events) ≤ n
+      → cap ≤ n → length es ≤ n → length (after_events eq cap es events) ≤ n
   after_events-at_most es cap n [] c m = m
   after_events-at_most es cap n (e ∷ events) c m =
       after_events-at_most (after_event eq cap es e) cap n events c (after_event-at_most es cap n e c m)
@@ -67,8 +64,7 @@ module _ {K V : Type 0} (eq : K → K → Bool) (laws : IsEquivalence eq) where
   IsEntries-after_event cap es (Peek k) u = u
 
   pub IsEntries-after_events : (cap : ℕ) (es : List (K × V)) (events : List (CacheEvent K V))
-      → IsEntries eq es
-      → IsEntries eq (after_events eq cap es events)
+      → IsEntries eq es → IsEntries eq (after_events eq cap es events)
   IsEntries-after_events cap es [] u = u
   IsEntries-after_events cap es (e ∷ events) u =
       IsEntries-after_events cap (after_event eq cap es e) events (IsEntries-after_event cap es e u)
@@ -82,127 +78,103 @@ module _ {K V : Type 0} (eq : K → K → Bool) (laws : IsEquivalence eq) where
       pub within : length small ≤ c
       pub end : IsEndOf R small large
 
-    alike_after : (R : K × V → K × V → Type 0) (small large : List (K × V)) (e : CacheEvent K V)
-        → Alike R small large
-        → IsEndOf R (after_event eq c small e) (after_event eq d large e)
-        → Alike R (after_event eq c small e) (after_event eq d large e)
-    alike_after R small large e a end =
-        record {
-          unequal = IsEntries-after_event d large e a.unequal;
-          within = after_event-at_most eq small c c e (omega arith) a.within;
-          end = end;
-        }
-
-    -- by keys alone
-    end_after : (small large : List (K × V)) (e : CacheEvent K V) → Alike (SameKey eq) small large
-        → IsEndOf (SameKey eq) (after_event eq c small e) (after_event eq d large e)
-    end_after small large (Insert k v) a = end-insert eq laws c d k v small large
-        a.unequal fewer a.within a.end
-    end_after small large (Use k v) a = end-cache_use eq laws c d k v small large
-        a.unequal fewer a.within a.end
-    end_after small large (Remove k) a = end-remove eq laws k small large a.unequal a.end
-    end_after small large (Peek k) a = a.end
-
-    end-events : (small large : List (K × V)) (events : List (CacheEvent K V))
-        → Alike (SameKey eq) small large
-        → IsEndOf (SameKey eq) (after_events eq c small events) (after_events eq d large events)
-    end-events small large [] a = a.end
-    end-events small large (e ∷ events) a =
-        end-events (after_event eq c small e) (after_event eq d large e) events
-        (alike_after (SameKey eq) small large e a (end_after small large e a))
-
-    finds-events : (small large : List (K × V)) (events : List (CacheEvent K V))
-        → Alike (SameKey eq) small large
-        → AllZip AlsoFinds (answers eq c small events) (answers eq d large events)
-    finds-events small large [] a = tt
-    finds-events small large (e ∷ events) a = (
-      end-answers eq laws (key_of e) small large a.end,
-      finds-events (after_event eq c small e) (after_event eq d large e) events
-          (alike_after (SameKey eq) small large e a (end_after small large e a)),
-    )
-
-    -- by keys and values
-    same_end_after : (small large : List (K × V)) (e : CacheEvent K V) → is_use e ≡ false
-        → Alike (SameEntry eq) small large
-        → IsEndOf (SameEntry eq) (after_event eq c small e) (after_event eq d large e)
-    same_end_after small large (Insert k v) n a =
-        same_end-insert eq laws c d k v small large a.unequal fewer a.within a.end
-    same_end_after small large (Use k v) n a = absurd (true≢false n)
-    same_end_after small large (Remove k) n a = same_end-remove eq laws k small large a.unequal a.end
-    same_end_after small large (Peek k) n a = a.end
-
-    same_end-events : (small large : List (K × V)) (events : List (CacheEvent K V)) → NoUse events
-        → Alike (SameEntry eq) small large
-        → IsEndOf (SameEntry eq) (after_events eq c small events) (after_events eq d large events)
-    same_end-events small large [] n a = a.end
-    same_end-events small large (e ∷ events) n a =
-        same_end-events (after_event eq c small e) (after_event eq d large e) events n.1
-        (alike_after (SameEntry eq) small large e a (same_end_after small large e n.0 a))
-
-    same_finds-events : (small large : List (K × V)) (events : List (CacheEvent K V)) → NoUse events
-        → Alike (SameEntry eq) small large
-        → AllZip FindsTheSame (answers eq c small events) (answers eq d large events)
-    same_finds-events small large [] n a = tt
-    same_finds-events small large (e ∷ events) n a = (
-      λ w. same_end-answers eq laws (key_of e) w small large a.unequal a.end,
-      same_finds-events (after_event eq c small e) (after_event eq d large e) events n.1
-          (alike_after (SameEntry eq) small large e a (same_end_after small large e n.0 a)),
-    )
-
-    -- from two empty caches
     start : (R : K × V → K × V → Type 0) → Alike R [] []
-    unfolding IsDistinct
-    start R =
-        record {
-          unequal = tt;
-          within = omega arith;
-          end =
-              record { front = []; back = []; is = refl; alike = tt };
-        }
+    start R = record {
+      unequal = IsEntries-nil V eq;
+      within = omega arith;
+      end = record { front = []; back = []; is = refl; alike = tt };
+    }
+
+    -- the calls that are allowed, of which a use has to keep the smaller an end of the larger
+    module _ (R : K × V → K × V → Type 0) (equal : (p q : K × V) → R p q → eq p.0 q.0 ≡ true)
+        (again : (p q : K) (v : V) → eq p q ≡ true → R (p, v) (q, v)) (Allowed : CacheEvent K V → Type 0)
+        (uses : (k : K) (v : V) → Allowed (Use k v) → (small large : List (K × V)) → Alike R small large
+        → IsEndOf R (cache_use eq small c k v) (cache_use eq large d k v)) where
+      end_after : (small large : List (K × V)) (e : CacheEvent K V) → Allowed e → Alike R small large
+          → IsEndOf R (after_event eq c small e) (after_event eq d large e)
+      end_after small large (Insert k v) n a =
+          end-cache_put eq laws R equal again c d k v small large a.unequal fewer a.within a.end
+      end_after small large (Use k v) n a = uses k v n small large a
+      end_after small large (Remove k) n a = end-without eq laws R equal k small large a.unequal a.end
+      end_after small large (Peek k) n a = a.end
+
+      alike_after : (small large : List (K × V)) (e : CacheEvent K V) → Allowed e → Alike R small large
+          → Alike R (after_event eq c small e) (after_event eq d large e)
+      alike_after small large e n a = record {
+        unequal = IsEntries-after_event d large e a.unequal;
+        within = after_event-at_most eq small c c e (omega arith) a.within;
+        end = end_after small large e n a;
+      }
+
+      end-events : (small large : List (K × V)) (events : List (CacheEvent K V))
+          → AllByRecursion Allowed events → Alike R small large
+          → IsEndOf R (after_events eq c small events) (after_events eq d large events)
+      end-events small large [] n a = a.end
+      end-events small large (e ∷ events) n a =
+          end-events (after_event eq c small e) (after_event eq d large e) events n.1
+          (alike_after small large e n.0 a)
+
+      answers-events : (Q : Option V → Option V → Type 0)
+          → ((k : K) (small large : List (K × V)) → Alike R small large
+          → Q (lookup (eq k) small) (lookup (eq k) large))
+          → (small large : List (K × V)) (events : List (CacheEvent K V)) → AllByRecursion Allowed events
+          → Alike R small large → AllZip Q (answers eq c small events) (answers eq d large events)
+      answers-events Q finds small large [] n a = tt
+      answers-events Q finds small large (e ∷ events) n a = (
+        finds (key_of e) small large a,
+        answers-events Q finds (after_event eq c small e) (after_event eq d large e) events n.1
+            (alike_after small large e n.0 a),
+      )
+
+    -- from two empty caches, by keys alone: every call is allowed
+    key_uses : (k : K) (v : V) → Unit {0} → (small large : List (K × V)) → Alike (SameKey eq) small large
+        → IsEndOf (SameKey eq) (cache_use eq small c k v) (cache_use eq large d k v)
+    key_uses k v _ small large a = end-cache_use eq laws c d k v small large a.unequal fewer a.within a.end
 
     pub keys_along : (events : List (CacheEvent K V))
         → IsEndOf (SameKey eq) (after_events eq c [] events) (after_events eq d [] events)
-    keys_along events = end-events [] [] events (start (SameKey eq))
+    keys_along events =
+        end-events (SameKey eq) (λ p q r. r) (λ p q v t. t) (λ _. Unit {0}) key_uses [] [] events
+        (recursion_from_All _ events (λ _ _ _. tt)) (start (SameKey eq))
 
     pub finds_along : (events : List (CacheEvent K V))
         → AllZip AlsoFinds (answers eq c [] events) (answers eq d [] events)
-    finds_along events = finds-events [] [] events (start (SameKey eq))
+    finds_along events =
+        answers-events (SameKey eq) (λ p q r. r) (λ p q v t. t) (λ _. Unit {0}) key_uses AlsoFinds
+        (λ k small large a. end-finds eq laws (SameKey eq) (λ p q r. r) k small large a.end) [] [] events
+        (recursion_from_All _ events (λ _ _ _. tt)) (start (SameKey eq))
 
+    -- by keys and values: all but uses
     pub entries_along : (events : List (CacheEvent K V)) → NoUse events
         → IsEndOf (SameEntry eq) (after_events eq c [] events) (after_events eq d [] events)
-    entries_along events n = same_end-events [] [] events n (start (SameEntry eq))
+    entries_along events n =
+        end-events (SameEntry eq) (λ p q r. r.0) (λ p q v t. (t, refl)) (λ e. is_use e ≡ false)
+        (λ k v u _ _ _. absurd (true≢false u)) [] [] events n (start (SameEntry eq))
 
     pub finds_the_same_along : (events : List (CacheEvent K V)) → NoUse events
         → AllZip FindsTheSame (answers eq c [] events) (answers eq d [] events)
-    finds_the_same_along events n = same_finds-events [] [] events n (start (SameEntry eq))
+    finds_the_same_along events n =
+        answers-events (SameEntry eq) (λ p q r. r.0) (λ p q v t. (t, refl)) (λ e. is_use e ≡ false)
+        (λ k v u _ _ _. absurd (true≢false u)) FindsTheSame
+        (λ k small large a w. same_end-answers eq laws k w small large a.unequal a.end) [] [] events n
+        (start (SameEntry eq))
 
   -- ---- by the history of the calls
-
-  HoldsRecent-after : (c : ℕ) (used : List K) (es : List (K × V)) (e : CacheEvent K V) → is_removal e ≡ false
-      → HoldsRecent eq c used es → HoldsRecent eq c (used ++ used_keys (e ∷ [])) (after_event eq c es e)
-  HoldsRecent-after c used es (Insert k v) n h = HoldsRecent-cache_put eq laws c used es k v h
-  HoldsRecent-after c used es (Use k v) n h = HoldsRecent-cache_use eq laws c used es k v h
-  HoldsRecent-after c used es (Remove k) n h = absurd (true≢false n)
-  HoldsRecent-after c used es (Peek k) n h = rw append-nil h
-
-  used_keys-step : (e : CacheEvent K V) (events : List (CacheEvent K V))
-      → used_keys (e ∷ events) ≡ used_keys (e ∷ []) ++ used_keys events
-  used_keys-step (Insert k v) events = refl
-  used_keys-step (Use k v) events = refl
-  used_keys-step (Remove k) events = refl
-  used_keys-step (Peek k) events = refl
 
   HoldsRecent-events : (c : ℕ) (used : List K) (es : List (K × V)) (events : List (CacheEvent K V))
       → NoRemoval events
       → HoldsRecent eq c used es → HoldsRecent eq c (used ++ used_keys events) (after_events eq c es events)
   HoldsRecent-events c used es [] n h = rw append-nil h
-  HoldsRecent-events c used es (e ∷ events) n h =
-      let all : used ++ used_keys (e ∷ events) ≡ (used ++ used_keys (e ∷ [])) ++ used_keys events
-      = ap (λ ks. used ++ ks) (used_keys-step e events)
-      ∙ sym (append_assoc used (used_keys (e ∷ [])) (used_keys events)) in
-      subst (λ ks. HoldsRecent eq c ks (after_events eq c es (e ∷ events))) (sym all)
-      (HoldsRecent-events c (used ++ used_keys (e ∷ [])) (after_event eq c es e) events n.1
-      (HoldsRecent-after c used es e n.0 h))
+  HoldsRecent-events c used es (Insert k v ∷ events) n h =
+      let rest = HoldsRecent-events c (used ++ k ∷ []) (cache_put eq es c k v) events n.1
+      (HoldsRecent-cache_put eq laws c used es k v h) in
+      rw append_assoc at rest
+  HoldsRecent-events c used es (Use k v ∷ events) n h =
+      let rest = HoldsRecent-events c (used ++ k ∷ []) (cache_use eq es c k v) events n.1
+      (HoldsRecent-cache_use eq laws c used es k v h) in
+      rw append_assoc at rest
+  HoldsRecent-events c used es (Remove k ∷ events) n h = absurd (true≢false n.0)
+  HoldsRecent-events c used es (Peek k ∷ events) n h = HoldsRecent-events c used es events n.1 h
 
   pub holds_along : (c : ℕ) (events : List (CacheEvent K V)) → NoRemoval events
       → HoldsRecent eq c (used_keys events) (after_events eq c [] events)

@@ -2,8 +2,8 @@
 -- nobody asks for.
 use Rattle.std.proofs.Common.{◌≡◌, ℕ, zero, suc, ◌+◌, ◌-◌, ◌*◌, ◌≤◌, ◌<◌, Bool, true, false, cond, ◌||◌, ◌&&◌}
 use Rattle.std.proofs.Common.{List, [], ◌∷◌, ◌++◌, map, length, take, drop, nat_lt, nat_eq, refl, sym, ap}
-use Rattle.std.proofs.Common.{ap₂, ◌∙◌, ◌⊎◌, inl, inr, subst, arith, append_assoc, length-append, length-take}
-use Rattle.std.proofs.Common.{take-append-drop, le_refl, true≢false, not-suc-le-zero, append-nil}
+use Rattle.std.proofs.Common.{ap₂, ◌∙◌, ◌⊎◌, inl, inr, arith, append_assoc, length-append, length-take}
+use Rattle.std.proofs.Common.{take-append-drop, le_refl, true≢false, append-nil}
 use Rattle.std.specs.Cmp.{IsEquivalence, nat_eq_equiv}
 use Rattle.std.specs.List.{AllByRecursion, IsDistinct}
 use Rattle.std.specs.Map.{keys_of}
@@ -14,13 +14,15 @@ use Rattle.std.proofs.lemmas.Map.Made.{All-is_member, length-remove_key}
 use Rattle.hashlink_history.specs.History.{IsSchedule, Schedule, misses, misses_from, cache_misses}
 use Rattle.hashlink_history.specs.History.{cache_misses_from, recent_keys, reuse_distance, HoldsRecent}
 use Rattle.hashlink_model.specs.Cache.{cache_use, missed_uses}
-use Rattle.hashlink_model.proofs.Members.{is_member-append}
-use Rattle.hashlink_history.proofs.Recency.{remove_key-right, recent_keys-there, recent_keys-full}
-use Rattle.hashlink_history.proofs.Recency.{recent_keys-room, length-recent_keys, is_recent}
+use Rattle.hashlink_model.proofs.Members.{is_member-append, none_from_is_member}
+use Rattle.hashlink_history.proofs.Recency.{remove_key-right, recent_keys-there, recent_keys-full, is_recent}
+use Rattle.hashlink_history.proofs.Recency.{recent_keys-room, length-recent_keys}
 use Rattle.hashlink_history.proofs.Reuse.{held_exactly, HoldsRecent-cache_use, HoldsRecent-start}
 use Rattle.hashlink_history.proofs.Potential.{triangle, ranks, ranks-append, ranks-held, ranks-at_most}
 use Rattle.hashlink_history.proofs.Pursuit.{Follows}
 use Rattle.hashlink_history.proofs.Pursued.{full_misses, pursued}
+use Rattle.std.proofs.lemmas.List.{length-map, map-append}
+use Rattle.std.proofs.Math.Seq.{drop-nil}
 
 -- ---- keys, and numbers beside them that no history has
 
@@ -56,14 +58,6 @@ module _ {K : Type 0} (eq : K → K → Bool) where
 abbrev pub real : {K : Type 0} → List K → List (K ⊎ ℕ)
 real ks = map (λ k. inl k) ks
 
-length_real : {K : Type 0} (ks : List K) → length (real ks) ≡ length ks
-length_real [] = refl
-length_real (k ∷ ks) = ap suc (length_real ks)
-
-real-append : {K : Type 0} (xs ys : List K) → real (xs ++ ys) ≡ real xs ++ real ys
-real-append [] ys = refl
-real-append (x ∷ xs) ys = ap (λ r. inl x ∷ r) (real-append xs ys)
-
 abbrev pub padding : (K : Type 0) → ℕ → List (K ⊎ ℕ)
 padding K zero = []
 padding K (suc n) = inr n ∷ padding K n
@@ -79,20 +73,13 @@ module _ {K : Type 0} (eq : K → K → Bool) where
   drop_padding (suc m) (suc n) =
       let same : n - m ≡ suc n - suc m = omega arith in drop_padding m n ∙ ap (padding K) same
 
-  none_padding : (k : K) (n : ℕ) → AllByRecursion (λ y. padded_eq eq (inl k) y ≡ false) (padding K n)
-  none_padding k zero = tt
-  none_padding k (suc n) = (refl, none_padding k n)
-
   member_padding : (k : K) (n : ℕ) → is_member (padded_eq eq) (padding K n) (inl k) ≡ false
   member_padding k zero = refl
   member_padding k (suc n) = member_padding k n
 
   above_padding : (m n : ℕ) → n ≤ m → AllByRecursion (λ y. padded_eq eq (inr m) y ≡ false) (padding K n)
   above_padding m zero l = tt
-  above_padding m (suc n) l = (ne_eqb m n (λ e. not-self n (omega arith)), above_padding m n (omega arith))
-    where
-      not-self : (i : ℕ) → suc i ≤ i → ⊥
-      not-self i b = omega arith
+  above_padding m (suc n) l = (ne_eqb m n (λ e. omega arith), above_padding m n (omega arith))
 
   distinct_padding : (n : ℕ) → IsDistinct (padded_eq eq) (padding K n)
   unfolding IsDistinct
@@ -106,13 +93,7 @@ module _ {K : Type 0} (eq : K → K → Bool) where
   remove_real : (ks : List K) (k : K) → remove_key (padded_eq eq (inl k)) (real ks)
       ≡ real (remove_key (eq k) ks)
   remove_real [] k = refl
-  remove_real (x ∷ ks) k = by (eq k x) (remove_real ks k)
-    where
-      by : (b : Bool) → remove_key (padded_eq eq (inl k)) (real ks) ≡ real (remove_key (eq k) ks)
-          → cond b (real ks) (inl x ∷ remove_key (padded_eq eq (inl k)) (real ks))
-          ≡ real (cond b ks (x ∷ remove_key (eq k) ks))
-      by true h = refl
-      by false h = ap (λ r. inl x ∷ r) h
+  remove_real (x ∷ ks) k = grind (arith, remove_real ks k)
 
   -- ---- the schedule is the same
 
@@ -131,7 +112,7 @@ module _ {K : Type 0} (eq : K → K → Bool) where
   schedule_real h before (k ∷ used) [] s = s
   schedule_real h before (k ∷ used) (after ∷ held) s = (
     record {
-      size = (let a = length_real after in let b = s.0.size in omega arith);
+      size = (let pad : K → K ⊎ ℕ = λ x. inl x in omega (arith, length-map after pad, s.0.size));
       holds = member_real after k ∙ s.0.holds;
       others = others_real before k after s.0.others;
     },
@@ -162,34 +143,32 @@ module _ {K : Type 0} (eq : K → K → Bool) (laws : IsEquivalence eq) where
       → remove_key (padded_eq eq (inl k)) (filled eq c ks) ++ inl k ∷ []
       ≡ filled eq c (remove_key (eq k) ks ++ k ∷ [])
   filled_hit c ks k m =
-      let a = length-remove_key (eq k) ks m in
-      let b = length-append (remove_key (eq k) ks) (k ∷ []) in
-      let same : c - length ks ≡ c - length (remove_key (eq k) ks ++ k ∷ []) = omega arith in
+      let same : c - length ks ≡ c - length (remove_key (eq k) ks ++ k ∷ [])
+      = omega (arith, length-remove_key (eq k) ks m, length-append (remove_key (eq k) ks) (k ∷ [])) in
       ap (λ zs. zs ++ inl k ∷ [])
       (remove_key-right (padded_eq eq) (padded_equiv eq laws) (inl k) (padding K (c - length ks)) (real ks)
-      (none_padding eq k (c - length ks)))
+      (none_from_is_member (padded_eq eq) (padded_equiv eq laws) (padding K (c - length ks)) (inl k)
+      (member_padding eq k (c - length ks))))
       ∙ append_assoc (padding K (c - length ks)) (remove_key (padded_eq eq (inl k)) (real ks)) (inl k ∷ [])
-      ∙ ap₂ (λ n zs. padding K n ++ zs) same
-      (ap (λ zs. zs ++ inl k ∷ []) (remove_real eq ks k) ∙ sym (real-append (remove_key (eq k) ks) (k ∷ [])))
+      ∙ ap₂ (λ n zs. padding K n ++ zs) same (ap (λ zs. zs ++ inl k ∷ []) (remove_real eq ks k)
+      ∙ sym (map-append (λ x. inl x) (remove_key (eq k) ks) (k ∷ [])))
 
   filled_room : (c : ℕ) (ks : List K) (k : K) → length ks < c
       → drop 1 (filled eq c ks) ++ inl k ∷ [] ≡ filled eq c (ks ++ k ∷ [])
   filled_room c ks k l =
-      let b = length-append ks (k ∷ []) in
-      let more : c - length ks ≡ suc (c - length (ks ++ k ∷ [])) = omega arith in
+      let more : c - length ks ≡ suc (c - length (ks ++ k ∷ [])) = omega (arith, length-append ks (k ∷ [])) in
       ap (λ n. drop 1 (padding K n ++ real ks) ++ inl k ∷ []) more
       ∙ append_assoc (padding K (c - length (ks ++ k ∷ []))) (real ks) (inl k ∷ [])
-      ∙ ap (λ zs. padding K (c - length (ks ++ k ∷ [])) ++ zs) (sym (real-append ks (k ∷ [])))
+      ∙ ap (λ zs. padding K (c - length (ks ++ k ∷ [])) ++ zs) (sym (map-append (λ x. inl x) ks (k ∷ [])))
 
   filled_full : (c : ℕ) (ks : List K) (k : K) → length ks ≡ c → 1 ≤ c
       → drop 1 (filled eq c ks) ++ inl k ∷ [] ≡ filled eq c (drop 1 (ks ++ k ∷ []))
-  filled_full c [] k l p = absurd (not-suc-le-zero (subst (λ i. 1 ≤ i) (sym l) p))
+  filled_full c [] k l p = absurd (omega arith)
   filled_full c (x ∷ ks) k l p =
-      let b = length-append ks (k ∷ []) in
       let full : c - suc (length ks) ≡ 0 = omega arith in
-      let full_after : c - length (ks ++ k ∷ []) ≡ 0 = omega arith in
+      let full_after : c - length (ks ++ k ∷ []) ≡ 0 = omega (arith, length-append ks (k ∷ [])) in
       ap (λ n. drop 1 (padding K n ++ real (x ∷ ks)) ++ inl k ∷ []) full
-      ∙ sym (real-append ks (k ∷ []))
+      ∙ sym (map-append (λ x. inl x) ks (k ∷ []))
       ∙ ap (λ n. padding K n ++ real (ks ++ k ∷ [])) (sym full_after)
 
   -- one use: the filled cache takes the step that the recent keys take
@@ -219,8 +198,7 @@ module _ {K : Type 0} (eq : K → K → Bool) (laws : IsEquivalence eq) where
       let step = ap
       (λ b. cond b (remove_key (padded_eq eq (inl k)) (filled eq c (recent_keys eq c used)) ++ inl k ∷ [])
       (drop 1 (filled eq c (recent_keys eq c used)) ++ inl k ∷ []))
-      member
-      ∙ filled_step c used k (is_member eq (recent_keys eq c used) k) p refl
+      member ∙ filled_step c used k (is_member eq (recent_keys eq c used) k) p refl
       (cases_lt (distinct_count eq used) c) in
       ap₂ (λ b zs. cond b 0 1 + full_misses (padded_eq eq) (padded_equiv eq laws) zs (real rest))
       (member ∙ is_recent eq laws c used k) step
@@ -232,7 +210,7 @@ module _ {K : Type 0} (eq : K → K → Bool) (laws : IsEquivalence eq) where
   starts : (h : ℕ) → Follows (padded_eq eq) (padded_equiv eq laws) h [] (padding K h)
   starts h =
       record {
-        size = (let a = length_padding eq h in omega arith);
+        size = omega (arith, length_padding eq h);
         unequal = distinct_padding eq h;
         covers = λ q m. absurd (true≢false (sym m));
       }
@@ -240,29 +218,21 @@ module _ {K : Type 0} (eq : K → K → Bool) (laws : IsEquivalence eq) where
   start_ranks : (h c : ℕ) → h ≤ c → ranks (padded_eq eq) 0 (padding K h) (padding K c) ≤ triangle (c - h)
   start_ranks h c l =
       let n = c - h in
-      let rest : drop n (padding K c) ≡ padding K h = drop_padding eq n c ∙ ap (padding K) (back n refl) in
+      let back : c - n ≡ h = (let same : c - (c - h) ≡ h = omega arith in same) in
+      let rest : drop n (padding K c) ≡ padding K h = drop_padding eq n c ∙ ap (padding K) back in
       let split : take n (padding K c) ++ padding K h ≡ padding K c
       = ap (λ zs. take n (padding K c) ++ zs) (sym rest) ∙ take-append-drop n (padding K c) in
       let long : length (take n (padding K c)) ≡ n
-      = (let a = length-take n (padding K c) in let b = length_padding eq c in omega arith) in
+      = omega (arith, length-take n (padding K c), length_padding eq c) in
       let whole = ap (ranks (padded_eq eq) 0 (padding K h)) (sym split) in
       let parts = ranks-append (padded_eq eq) 0 (padding K h) (take n (padding K c)) (padding K h) in
       let none = ranks-held (padded_eq eq) (0 + length (take n (padding K c))) (padding K h) (padding K h)
       (recursion_from_All _ (padding K h) (All-is_member (padded_equiv eq laws) (padding K h))) in
-      let most = ranks-at_most (padded_eq eq) (padding K h) (take n (padding K c)) 0 in
-      let same = ap triangle long in
-      omega arith
-    where
-      back : (n : ℕ) → n ≡ c - h → c - n ≡ h
-      back n e = omega arith
-
-  recent_none : (c : ℕ) → recent_keys eq c [] ≡ []
-  recent_none c = let none : 0 - c ≡ 0 = omega arith in ap (λ n. drop n []) none
+      omega (arith, ranks-at_most (padded_eq eq) (padding K h) (take n (padding K c)) 0, ap triangle long)
 
   -- however a schedule of h places replaces, the cache's misses are at most c / (c - h + 1) times as many
   pub competitive : (c h : ℕ) → 1 ≤ h → h ≤ c → (used : List K) (held : List (List K))
-      → Schedule eq h used held
-      → (c - h + 1) * cache_misses eq c used ≤ c * misses eq used held
+      → Schedule eq h used held → (c - h + 1) * cache_misses eq c used ≤ c * misses eq used held
   competitive c h p l used held s =
       let q : 1 ≤ c = omega arith in
       let run = pursued (padded_eq eq) (padded_equiv eq laws) h c q (real used) (map (λ x. real x) held) []
@@ -271,15 +241,14 @@ module _ {K : Type 0} (eq : K → K → Bool) (laws : IsEquivalence eq) where
       let begin = start_ranks h c l in
       let none : c - 0 ≡ c = omega arith in
       let empty : filled eq c (recent_keys eq c []) ≡ padding K c
-      = ap (filled eq c) (recent_none c) ∙ ap (λ n. padding K n ++ []) none ∙ append-nil (padding K c) in
+      = ap (filled eq c) (drop-nil (0 - c)) ∙ ap (λ n. padding K n ++ []) none ∙ append-nil (padding K c) in
       let mine : full_misses (padded_eq eq) (padded_equiv eq laws) (padding K c) (real used)
       ≡ cache_misses eq c used
       = ap (λ zs. full_misses (padded_eq eq) (padded_equiv eq laws) zs (real used)) (sym empty)
       ∙ full_misses-filled c q [] used in
       let theirs = misses_real eq [] used held in
       ends (c - h + 1) (c + 1 - h) (full_misses (padded_eq eq) (padded_equiv eq laws)
-      (padding K c) (real used))
-      (cache_misses eq c used) c _ (misses eq used held) (triangle (c - h)) _
+      (padding K c) (real used)) (cache_misses eq c used) c _ (misses eq used held) (triangle (c - h)) _
       (omega arith) mine theirs run begin
     where
       ends : (a b m n d e f t r : ℕ) → a ≡ b → m ≡ n → e ≡ f → b * m + t ≤ d * e + r → r ≤ t → a * n ≤ d * f

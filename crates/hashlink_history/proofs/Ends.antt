@@ -1,6 +1,6 @@
 -- A smaller cache's entries stay an end of a larger one's, whatever both are given.
 use Rattle.std.proofs.Common.{◌≡◌, ℕ, zero, suc, ◌+◌, ◌-◌, ◌≤◌, ◌<◌, Bool, true, false, cond, List, [], ◌∷◌}
-use Rattle.std.proofs.Common.{◌++◌, length, drop, is_some, Option, None, Some, refl, sym, ap, ap₂, ◌∙◌, ◌⊎◌}
+use Rattle.std.proofs.Common.{◌++◌, length, drop, is_some, Option, None, Some, refl, sym, ap, ◌∙◌}
 use Rattle.std.proofs.Common.{inl, inr, subst, subst₂, arith, append_assoc, lt_irrefl}
 use Rattle.std.specs.Cmp.{IsEquivalence}
 use Rattle.std.specs.Option.{option_map_or}
@@ -29,12 +29,7 @@ module _ {K V : Type 0} (test : K → Bool) where
   remove-right_none : (xs ys : List (K × V)) → NonePasses test ys
       → remove_entry test (xs ++ ys) ≡ remove_entry test xs ++ ys
   remove-right_none [] ys n = remove_entry-none test ys n
-  remove-right_none (x ∷ xs) ys n = by (test x.0) (remove-right_none xs ys n)
-    where
-      by : (b : Bool) → remove_entry test (xs ++ ys) ≡ remove_entry test xs ++ ys
-          → cond b (xs ++ ys) (x ∷ remove_entry test (xs ++ ys)) ≡ cond b xs (x ∷ remove_entry test xs) ++ ys
-      by true h = refl
-      by false h = ap (λ r. x ∷ r) h
+  remove-right_none (x ∷ xs) ys n = grind (arith, remove-right_none xs ys n)
 
   lookup-right : (xs ys : List (K × V)) → NonePasses test xs → lookup test (xs ++ ys) ≡ lookup test ys
   lookup-right [] ys n = refl
@@ -50,71 +45,61 @@ module _ {K V : Type 0} (eq : K → K → Bool) (laws : IsEquivalence eq) (R : K
   none_alike k (x ∷ xs) (y ∷ ys) z n =
       (answers_alike eq laws k x.0 y.0 (equal x y z.0) ∙ n.0, none_alike k xs ys z.1 n.1)
 
-  remove_by : (k : K) (x y : K × V) (xs ys : List (K × V)) (b : Bool) → R x y → AllZip R xs ys
-      → AllZip R (without eq xs k) (without eq ys k)
-      → AllZip R (cond b xs (x ∷ without eq xs k)) (cond b ys (y ∷ without eq ys k))
-  remove_by k x y xs ys true r z h = z
-  remove_by k x y xs ys false r z h = (r, h)
-
   remove_alike : (k : K) (xs ys : List (K × V)) → AllZip R xs ys
       → AllZip R (without eq xs k) (without eq ys k)
   remove_alike k [] [] z = z
   remove_alike k [] (y ∷ ys) z = absurd z
   remove_alike k (x ∷ xs) [] z = absurd z
   remove_alike k (x ∷ xs) (y ∷ ys) z =
-      rw (answers_alike eq laws k x.0 y.0 (equal x y z.0))
-      (remove_by k x y xs ys (eq k y.0) z.0 z.1 (remove_alike k xs ys z.1))
+      rw (answers_alike eq laws k x.0 y.0 (equal x y z.0)) (elim (eq k y.0)
+      as (λ b. AllZip R (cond b xs (x ∷ without eq xs k)) (cond b ys (y ∷ without eq ys k)))
+      [ true ↦ z.1 | false ↦ (z.0, remove_alike k xs ys z.1) ])
 
   -- ---- one step of either
 
-  without_by : (k : K) (small large : List (K × V)) (e : IsEndOf R small large) → IsEntries eq large
-      → NonePasses (eq k) e.front ⊎ Stands (eq k) e.front
-      → IsEndOf R (without eq small k) (without eq large k)
-  without_by k small large e d (inl n) =
-      record {
-        front = e.front;
-        back = without eq e.back k;
-        is = ap (λ zs. without eq zs k) e.is ∙ remove-left_none (eq k) e.front e.back n;
-        alike = remove_alike k small e.back e.alike;
-      }
-  without_by k small large e d (inr s) =
+  -- a key that stands in front is no longer behind
+  none_behind : (k : K) (small large : List (K × V)) (e : IsEndOf R small large) → IsEntries eq large
+      → Stands (eq k) e.front → NonePasses (eq k) e.back
+  none_behind k small large e d s =
       let whole : large ≡ s.0 ++ s.1 ∷ (s.2 ++ e.back)
       = e.is ∙ ap (λ zs. zs ++ e.back) s.3.is ∙ append_assoc s.0 (s.1 ∷ s.2) e.back in
       let others = none_equal eq laws s.1.0 k (s.0 ++ (s.2 ++ e.back)) (laws.symm s.1.0 k ∙ s.3.passes)
       (none_others eq laws s.0 s.1 (s.2 ++ e.back) (subst (IsEntries eq) whole d)) in
-      let none = each-right _ s.2 e.back (each-right _ s.0 (s.2 ++ e.back) others) in
-      record {
-        front = without eq e.front k;
-        back = e.back;
-        is = ap (λ zs. without eq zs k) e.is ∙ remove-right_none (eq k) e.front e.back none;
-        alike =
-            subst (λ zs. AllZip R zs e.back)
-            (sym (remove_entry-none (eq k) small (none_alike k small e.back e.alike none))) e.alike;
-      }
+      each-right _ s.2 e.back (each-right _ s.0 (s.2 ++ e.back) others)
 
   pub end-without : (k : K) (small large : List (K × V)) → IsEntries eq large → IsEndOf R small large
       → IsEndOf R (without eq small k) (without eq large k)
-  end-without k small large d e = without_by k small large e d (splits (eq k) e.front)
-
-  end_push : (small large : List (K × V)) (p q : K × V) → R p q → IsEndOf R small large
-      → IsEndOf R (small ++ p ∷ []) (large ++ q ∷ [])
-  end_push small large p q r e =
-      record {
-        front = e.front;
-        back = e.back ++ q ∷ [];
-        is = ap (λ zs. zs ++ q ∷ []) e.is ∙ append_assoc e.front e.back (q ∷ []);
-        alike = zip_push R small e.back p q e.alike r;
-      }
+  end-without k small large d e = elim (splits (eq k) e.front) [
+    | inl n ↦ record {
+      front = e.front;
+      back = without eq e.back k;
+      is = ap (λ zs. without eq zs k) e.is ∙ remove-left_none (eq k) e.front e.back n;
+      alike = remove_alike k small e.back e.alike;
+    }
+    | inr s ↦ (
+        let none = none_behind k small large e d s in
+        let same = remove_entry-none (eq k) small (none_alike k small e.back e.alike none) in
+        record {
+          front = without eq e.front k;
+          back = e.back;
+          is = ap (λ zs. without eq zs k) e.is ∙ remove-right_none (eq k) e.front e.back none;
+          alike = subst (λ zs. AllZip R zs e.back) (sym same) e.alike;
+        })
+  ]
 
   pub end-put : (k : K) (v w : V) (small large : List (K × V)) → IsEntries eq large
-      → R (stored_key eq small k, v) (stored_key eq large k, w)
-      → IsEndOf R small large
+      → R (stored_key eq small k, v) (stored_key eq large k, w) → IsEndOf R small large
       → IsEndOf R (put eq small k v (length small)) (put eq large k w (length large))
   end-put k v w small large d r e =
-      subst₂ (IsEndOf R) (sym (put_back eq small k v)) (sym (put_back eq large k w))
-      (end_push (without eq small k) (without eq large k) (stored_key eq small k, v)
-      (stored_key eq large k, w) r
-      (end-without k small large d e))
+      let f = end-without k small large d e in
+      let p : K × V = (stored_key eq small k, v) in
+      let q : K × V = (stored_key eq large k, w) in
+      subst₂ (IsEndOf R) (sym (put_back eq small k v)) (sym (put_back eq large k w)) (record {
+        front = f.front;
+        back = f.back ++ q ∷ [];
+        is = ap (λ zs. zs ++ q ∷ []) f.is ∙ append_assoc f.front f.back (q ∷ []);
+        alike = zip_push R (without eq small k) f.back p q f.alike r;
+      })
 
   stored_equal : (k : K) (small large : List (K × V)) → eq (stored_key eq small k) (stored_key eq large k)
       ≡ true
@@ -132,8 +117,7 @@ module _ {K V : Type 0} (eq : K → K → Bool) (laws : IsEquivalence eq) (R : K
       record {
         front = front ++ y ∷ [];
         back = back;
-        is =
-            i ∙ sym (append_assoc front (y ∷ []) back);
+        is = i ∙ sym (append_assoc front (y ∷ []) back);
         alike = z.1;
       }
 
@@ -145,131 +129,85 @@ module _ {K V : Type 0} (eq : K → K → Bool) (laws : IsEquivalence eq) (R : K
       end-drop_small n small large (drop_small_by (x ∷ small) large e.front e.back e.is e.alike)
 
   drop_large_by : (small large front back : List (K × V)) → large ≡ front ++ back → AllZip R small back
-      → length small < length large
-      → IsEndOf R small (drop 1 large)
+      → length small < length large → IsEndOf R small (drop 1 large)
   drop_large_by small large [] back i z l =
-      let a = ap length i in let b = zip_length R small back z in absurd
-      (lt_irrefl (length large) (omega arith))
+      absurd (lt_irrefl (length large) (omega (arith, ap length i, zip_length R small back z)))
   drop_large_by small large (f ∷ front) back i z l =
       record { front = front; back = back; is = ap (drop 1) i; alike = z }
 
   end-drop_large : (n : ℕ) (small large : List (K × V)) → IsEndOf R small large
-      → n + length small ≤ length large
-      → IsEndOf R small (drop n large)
+      → n + length small ≤ length large → IsEndOf R small (drop n large)
   end-drop_large zero small large e l = e
   end-drop_large (suc n) small [] e l = e
   end-drop_large (suc n) small (y ∷ large) e l =
       end-drop_large n small large (drop_large_by small (y ∷ large) e.front e.back e.is e.alike (omega arith))
       (omega arith)
 
-  end-last_small : (small large : List (K × V)) (c : ℕ) → IsEndOf R small large
-      → IsEndOf R (last_entries small c) large
-  end-last_small small large c e = end-drop_small (length small - c) small large e
-
   end-last_large : (small large : List (K × V)) (d : ℕ) → IsEndOf R small large → length small ≤ d
       → IsEndOf R small (last_entries large d)
-  end-last_large small large d e l = by (cases_lt d (length large))
-    where
-      by : (d < length large) ⊎ (length large ≤ d) → IsEndOf R small (last_entries large d)
-      by (inl m) = end-drop_large (length large - d) small large e (omega arith)
-      by (inr m) = subst (IsEndOf R small) (sym (last_entries-within large d m)) e
+  end-last_large small large d e l = elim (cases_lt d (length large)) [
+    | inl m ↦ end-drop_large (length large - d) small large e (omega arith)
+    | inr m ↦ subst (IsEndOf R small) (sym (last_entries-within large d m)) e
+  ]
 
   -- ---- the calls
 
-  pub end-cache_put : (c d : ℕ) (k : K) (v : V) (small large : List (K × V)) → IsEntries eq large → c ≤ d
-      → length small ≤ c → R (stored_key eq small k, v) (stored_key eq large k, v)
-      → IsEndOf R small large
+  pub end-cache_put : ((p q : K) (v : V) → eq p q ≡ true → R (p, v) (q, v))
+      → (c d : ℕ) (k : K) (v : V) (small large : List (K × V)) → IsEntries eq large → c ≤ d
+      → length small ≤ c → IsEndOf R small large
       → IsEndOf R (cache_put eq small c k v) (cache_put eq large d k v)
-  end-cache_put c d k v small large u l m r e =
+  end-cache_put again c d k v small large u l m e =
+      let r = again (stored_key eq small k) (stored_key eq large k) v (stored_equal k small large) in
       let few = cache_put-at_most eq small c k v in
+      let zs = put eq small k v (length small) in
+      let dropped = end-drop_small (length zs - c) zs (put eq large k v (length large)) in
       end-last_large (cache_put eq small c k v) (put eq large k v (length large)) d
-      (end-last_small (put eq small k v (length small)) (put eq large k v (length large)) c
-      (end-put k v v small large u r e))
-      (omega arith)
+      (dropped (end-put k v v small large u r e)) (omega arith)
 
   -- what the smaller one has, the larger one has too
   pub end-finds : (k : K) (small large : List (K × V)) → IsEndOf R small large
-      → is_some (lookup (eq k) small) ≡ true
-      → is_some (lookup (eq k) large) ≡ true
-  end-finds k small large e s = found (splits (eq k) large)
-    where
-      found : NonePasses (eq k) large ⊎ Stands (eq k) large → is_some (lookup (eq k) large) ≡ true
-      found (inl n) =
-          let none = each-right _ e.front e.back (subst (NonePasses (eq k)) e.is n) in
-          absurd
-          (both_ways (is_some (lookup (eq k) small))
-          (ap is_some (lookup-none (eq k) small (none_alike k small e.back e.alike none))) s)
-      found (inr t) =
-          ap (λ zs. is_some (lookup (eq k) zs)) t.3.is
-          ∙ ap is_some (lookup-here (eq k) t.1 t.2 t.3.passes t.0 t.3.before)
+      → is_some (lookup (eq k) small) ≡ true → is_some (lookup (eq k) large) ≡ true
+  end-finds k small large e s = elim (splits (eq k) large) [
+    | inl n ↦ (
+        let none = each-right _ e.front e.back (subst (NonePasses (eq k)) e.is n) in
+        absurd (both_ways (is_some (lookup (eq k) small))
+        (ap is_some (lookup-none (eq k) small (none_alike k small e.back e.alike none))) s))
+    | inr t ↦ ap (λ zs. is_some (lookup (eq k) zs)) t.3.is
+        ∙ ap is_some (lookup-here (eq k) t.1 t.2 t.3.passes t.0 t.3.before)
+  ]
 
 module _ {K V : Type 0} (eq : K → K → Bool) (laws : IsEquivalence eq) where
   -- ---- by keys alone
 
-  use_by : (c d : ℕ) (k : K) (v : V) (small large : List (K × V)) (o q : Option V) → lookup (eq k) small ≡ o
-      → lookup (eq k) large ≡ q → IsEntries eq large → c ≤ d → length small ≤ c
-      → IsEndOf (SameKey eq) small large
-      → IsEndOf (SameKey eq) (option_map_or (λ w. cache_get eq small k) o (cache_put eq small c k v))
-      (option_map_or (λ w. cache_get eq large k) q (cache_put eq large d k v))
-  use_by c d k v small large None None l m u n f e =
-      end-cache_put eq laws (SameKey eq) (λ p q r. r) c d k v small large u n f
-      (stored_equal eq laws (SameKey eq) (λ p q r. r) k small large) e
-  use_by c d k v small large None (Some y) l m u n f e =
-      subst (IsEndOf (SameKey eq) (cache_put eq small c k v))
-      (sym (moved-there eq large k (length large) y m))
-      (end-last_small eq laws (SameKey eq) (λ p q r. r) (put eq small k v (length small))
-      (put eq large k y (length large)) c
-      (end-put eq laws (SameKey eq) (λ p q r. r) k v y small large u
-      (stored_equal eq laws (SameKey eq) (λ p q r. r) k small large) e))
-  use_by c d k v small large (Some x) None l m u n f e =
-      absurd
-      (both_ways (is_some (lookup (eq k) large)) (ap is_some m)
-      (end-finds eq laws (SameKey eq) (λ p q r. r) k small large e (ap is_some l)))
-  use_by c d k v small large (Some x) (Some y) l m u n f e =
-      subst₂ (IsEndOf (SameKey eq)) (sym (moved-there eq small k (length small) x l))
-      (sym (moved-there eq large k (length large) y m))
-      (end-put eq laws (SameKey eq) (λ p q r. r) k x y small large u
-      (stored_equal eq laws (SameKey eq) (λ p q r. r) k small large) e)
+  module _ (c d : ℕ) (k : K) (v : V) (small large : List (K × V)) (u : IsEntries eq large) (fewer : c ≤ d)
+      (within : length small ≤ c) (e : IsEndOf (SameKey eq) small large) where
+    put_alike : (x y : V)
+        → IsEndOf (SameKey eq) (put eq small k x (length small)) (put eq large k y (length large))
+    put_alike x y =
+        end-put eq laws (SameKey eq) (λ p q r. r) k x y small large u
+        (stored_equal eq laws (SameKey eq) (λ p q r. r) k small large) e
 
-  pub end-cache_use : (c d : ℕ) (k : K) (v : V) (small large : List (K × V)) → IsEntries eq large → c ≤ d
-      → length small ≤ c
-      → IsEndOf (SameKey eq) small large
-      → IsEndOf (SameKey eq) (cache_use eq small c k v) (cache_use eq large d k v)
-  end-cache_use c d k v small large u n f e =
-      use_by c d k v small large (lookup (eq k) small) (lookup (eq k) large) refl refl u n f e
+    use_by : (o q : Option V) → lookup (eq k) small ≡ o → lookup (eq k) large ≡ q
+        → IsEndOf (SameKey eq) (option_map_or (λ w. cache_get eq small k) o (cache_put eq small c k v))
+        (option_map_or (λ w. cache_get eq large k) q (cache_put eq large d k v))
+    use_by None None l m =
+        end-cache_put eq laws (SameKey eq) (λ p q r. r) (λ p q w t. t) c d k v small large u fewer within e
+    use_by None (Some y) l m =
+        subst (IsEndOf (SameKey eq) (cache_put eq small c k v))
+        (sym (moved-there eq large k (length large) y m))
+        (end-drop_small eq laws (SameKey eq) (λ p q r. r) (length (put eq small k v (length small)) - c)
+        (put eq small k v (length small)) (put eq large k y (length large)) (put_alike v y))
+    use_by (Some x) None l m =
+        absurd (both_ways (is_some (lookup (eq k) large)) (ap is_some m)
+        (end-finds eq laws (SameKey eq) (λ p q r. r) k small large e (ap is_some l)))
+    use_by (Some x) (Some y) l m =
+        subst₂ (IsEndOf (SameKey eq)) (sym (moved-there eq small k (length small) x l))
+        (sym (moved-there eq large k (length large) y m)) (put_alike x y)
 
-  pub end-insert : (c d : ℕ) (k : K) (v : V) (small large : List (K × V)) → IsEntries eq large → c ≤ d
-      → length small ≤ c
-      → IsEndOf (SameKey eq) small large
-      → IsEndOf (SameKey eq) (cache_put eq small c k v) (cache_put eq large d k v)
-  end-insert c d k v small large u n f e =
-      end-cache_put eq laws (SameKey eq) (λ p q r. r) c d k v small large u n f
-      (stored_equal eq laws (SameKey eq) (λ p q r. r) k small large) e
-
-  pub end-remove : (k : K) (small large : List (K × V)) → IsEntries eq large
-      → IsEndOf (SameKey eq) small large
-      → IsEndOf (SameKey eq) (without eq small k) (without eq large k)
-  end-remove k small large u e = end-without eq laws (SameKey eq) (λ p q r. r) k small large u e
-
-  pub end-answers : (k : K) (small large : List (K × V)) → IsEndOf (SameKey eq) small large
-      → is_some (lookup (eq k) small) ≡ true
-      → is_some (lookup (eq k) large) ≡ true
-  end-answers k small large e s = end-finds eq laws (SameKey eq) (λ p q r. r) k small large e s
+    pub end-cache_use : IsEndOf (SameKey eq) (cache_use eq small c k v) (cache_use eq large d k v)
+    end-cache_use = use_by (lookup (eq k) small) (lookup (eq k) large) refl refl
 
   -- ---- by keys and values
-
-  pub same_end-insert : (c d : ℕ) (k : K) (v : V) (small large : List (K × V)) → IsEntries eq large → c ≤ d
-      → length small ≤ c
-      → IsEndOf (SameEntry eq) small large
-      → IsEndOf (SameEntry eq) (cache_put eq small c k v) (cache_put eq large d k v)
-  same_end-insert c d k v small large u n f e =
-      end-cache_put eq laws (SameEntry eq) (λ p q r. r.0) c d k v small large u n f
-      (stored_equal eq laws (SameEntry eq) (λ p q r. r.0) k small large, refl) e
-
-  pub same_end-remove : (k : K) (small large : List (K × V)) → IsEntries eq large
-      → IsEndOf (SameEntry eq) small large
-      → IsEndOf (SameEntry eq) (without eq small k) (without eq large k)
-  same_end-remove k small large u e = end-without eq laws (SameEntry eq) (λ p q r. r.0) k small large u e
 
   same_values : (k : K) (xs ys : List (K × V)) → AllZip (SameEntry eq) xs ys → lookup (eq k) xs
       ≡ lookup (eq k) ys
@@ -277,26 +215,13 @@ module _ {K V : Type 0} (eq : K → K → Bool) (laws : IsEquivalence eq) where
   same_values k [] (y ∷ ys) z = absurd z
   same_values k (x ∷ xs) [] z = absurd z
   same_values k (x ∷ xs) (y ∷ ys) z =
-      ap₂ (λ b w. cond b (Some w) (lookup (eq k) xs)) (answers_alike eq laws k x.0 y.0 z.0.0) z.0.1
-      ∙ ap (cond (eq k y.0) (Some y.1)) (same_values k xs ys z.1)
+      grind (arith, same_values k xs ys z.1, answers_alike eq laws k x.0 y.0 z.0.0, z.0.1)
 
   pub same_end-answers : (k : K) (w : V) (small large : List (K × V)) → IsEntries eq large
-      → IsEndOf (SameEntry eq) small large → lookup (eq k) small ≡ Some w
-      → lookup (eq k) large ≡ Some w
+      → IsEndOf (SameEntry eq) small large → lookup (eq k) small ≡ Some w → lookup (eq k) large ≡ Some w
   same_end-answers k w small large u e l =
-      ap (lookup (eq k)) e.is ∙ lookup-right (eq k) e.front e.back (front_none (splits (eq k) e.front)) ∙ held
-    where
-      held : lookup (eq k) e.back ≡ Some w
-      held = sym (same_values k small e.back e.alike) ∙ l
-
-      front_none : NonePasses (eq k) e.front ⊎ Stands (eq k) e.front → NonePasses (eq k) e.front
-      front_none (inl n) = n
-      front_none (inr s) =
-          let whole : large ≡ s.0 ++ s.1 ∷ (s.2 ++ e.back)
-          = e.is ∙ ap (λ zs. zs ++ e.back) s.3.is ∙ append_assoc s.0 (s.1 ∷ s.2) e.back in
-          let others = none_equal eq laws s.1.0 k (s.0 ++ (s.2 ++ e.back)) (laws.symm s.1.0 k ∙ s.3.passes)
-          (none_others eq laws s.0 s.1 (s.2 ++ e.back) (subst (IsEntries eq) whole u)) in
-          absurd
-          (none-some w
-          (sym (lookup-none (eq k) e.back (each-right _ s.2 e.back (each-right _ s.0 (s.2 ++ e.back) others)))
-          ∙ held))
+      let held : lookup (eq k) e.back ≡ Some w = sym (same_values k small e.back e.alike) ∙ l in
+      let behind = none_behind eq laws (SameEntry eq) (λ p q r. r.0) k small large e u in
+      let none : NonePasses (eq k) e.front = elim (splits (eq k) e.front)
+      [ inl n ↦ n | inr s ↦ absurd (none-some w (sym (lookup-none (eq k) e.back (behind s)) ∙ held)) ] in
+      ap (lookup (eq k)) e.is ∙ lookup-right (eq k) e.front e.back none ∙ held

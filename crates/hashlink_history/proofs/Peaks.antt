@@ -4,21 +4,16 @@ use Rattle.std.proofs.Common.{Ok, refl, sym, ap, ◌∙◌, subst, arith}
 use Rattle.hashlink_model.specs.Entries.{put}
 use Rattle.hashlink_model.specs.MapState.{MapState, node_count, KeepsNodes}
 use Rattle.hashlink_model.specs.Steps.{Clears, Shrinks}
-use Rattle.hashlink_model.specs.Cache.{CacheState, InsertsLast, KeepsLast, CacheInserts, last_entries}
+use Rattle.hashlink_model.specs.Cache.{CacheState, CacheInserts, last_entries}
 use Rattle.hashlink_model.proofs.NodeCounts.{node_count-shrinks}
 use Rattle.hashlink_model.proofs.KeptNodes.{kept-keeps, kept-inserts, cleared_nodes}
 use Rattle.hashlink_model.proofs.CacheSteps.{put_entries}
 use Rattle.hashlink_history.specs.Peak.{Passed, Length, Shrunk, peak, Passes, PassesInTurn}
 
-pub peak-length : (n m : ℕ) (passed : List Passed) → peak n (passed ++ Length m ∷ []) ≡ max (peak n passed) m
-peak-length n m [] = refl
-peak-length n m (Length l ∷ passed) = peak-length (max n l) m passed
-peak-length n m (Shrunk l ∷ passed) = peak-length l m passed
-
-pub peak-shrink : (n m : ℕ) (passed : List Passed) → peak n (passed ++ Shrunk m ∷ []) ≡ m
-peak-shrink n m [] = refl
-peak-shrink n m (Length l ∷ passed) = peak-shrink (max n l) m passed
-peak-shrink n m (Shrunk l ∷ passed) = peak-shrink l m passed
+pub peak-append : (n : ℕ) (ps qs : List Passed) → peak n (ps ++ qs) ≡ peak (peak n ps) qs
+peak-append n [] qs = refl
+peak-append n (Length l ∷ ps) qs = peak-append (max n l) ps qs
+peak-append n (Shrunk l ∷ ps) qs = peak-append l ps qs
 
 -- ---- what a step passes
 
@@ -27,7 +22,7 @@ module _ {K V S : Type 0} (old new : MapState K V S) where
   passes-kept s = (refl, omega arith)
 
   pub passes-clears : Clears old new → Passes old (Length 0) new
-  passes-clears s = let n = cleared_nodes old new s in (ap length s.entries, omega arith)
+  passes-clears s = (ap length s.entries, omega (arith, cleared_nodes old new s))
 
   pub passes-shrinks : {E : Type 0} (r : Result (Unit {0}) E) → Shrinks old new r
       → Passes old (Shrunk (length new.entries)) new
@@ -35,34 +30,17 @@ module _ {K V S : Type 0} (old new : MapState K V S) where
 
 -- an insert of a cache passes two lengths
 module _ {K V S : Type 0} (eq : K → K → Bool) (old new : CacheState K V S) (k : K) (v : V) where
-  passes-both : (w : Option V) (between : MapState K V S) → InsertsLast eq k v w old.map between
-      → KeepsLast between new.map old.cap
-      → PassesInTurn old.map
-      (Length (length (put eq old.map.entries k v (length old.map.entries))) ∷ Length
-      (length new.map.entries)
+  pub passes-cache_insert : (w : Option V) → CacheInserts eq old new k v (Ok w) → PassesInTurn old.map
+      (Length (length (put eq old.map.entries k v (length old.map.entries))) ∷ Length (length new.map.entries)
       ∷ [])
       new.map
-  passes-both w between s t =
-      let first = passes-kept old.map between
-      (kept-inserts old.map between eq k v (length old.map.entries) (Ok w) s) in (
-        between,
-        subst (λ n. Passes old.map (Length n) between) (ap length (put_entries eq old.map between k v w s))
-            first,
-        (
-          new.map,
-          passes-kept between new.map
-              (kept-keeps between new.map (last_entries between.entries old.cap) t),
-          refl,
-        ),
-      )
-
-  pub passes-cache_insert : (w : Option V) → CacheInserts eq old new k v (Ok w)
-      → PassesInTurn old.map
-      (Length (length (put eq old.map.entries k v (length old.map.entries))) ∷ Length
-      (length new.map.entries)
-      ∷ [])
-      new.map
-  passes-cache_insert w s = passes-both w s.map.between s.map.inserts s.map.fits
+  passes-cache_insert w s =
+      let between = s.map.between in
+      let kept = kept-inserts old.map between eq k v (length old.map.entries) (Ok w) s.map.inserts in
+      let first = subst (λ n. Passes old.map (Length n) between)
+      (ap length (put_entries eq old.map between k v w s.map.inserts)) (passes-kept old.map between kept) in
+      let fits = kept-keeps between new.map (last_entries between.entries old.cap) s.map.fits in
+      (between, first, (new.map, passes-kept between new.map fits, refl))
 
 -- ---- a run of steps
 
@@ -74,17 +52,14 @@ peak-grows n m (Shrunk p ∷ ps) l = le_refl (peak p ps)
 module _ {K V S : Type 0} where
   pub within_the_peak : (old new : MapState K V S) (ps : List Passed) → PassesInTurn old ps new
       → node_count new ≤ peak (node_count old) ps
-  within_the_peak old new [] s = let same = ap node_count s in omega arith
+  within_the_peak old new [] s = omega (arith, ap node_count s)
   within_the_peak old new (Length n ∷ ps) s =
-      let most = s.1.1 in
-      let more = peak-grows (node_count s.0) (max (node_count old) n) ps most in
-      let rest = within_the_peak s.0 new ps s.2 in
-      omega arith
+      let more = peak-grows (node_count s.0) (max (node_count old) n) ps s.1.1 in
+      omega (arith, within_the_peak s.0 new ps s.2)
   within_the_peak old new (Shrunk n ∷ ps) s =
       subst (λ m. node_count new ≤ peak m ps) s.1.1 (within_the_peak s.0 new ps s.2)
 
   pub passes_in_parts : (a b c : MapState K V S) (ps qs : List Passed) → PassesInTurn a ps b
-      → PassesInTurn b qs c
-      → PassesInTurn a (ps ++ qs) c
+      → PassesInTurn b qs c → PassesInTurn a (ps ++ qs) c
   passes_in_parts a b c [] qs s t = subst (λ m. PassesInTurn m qs c) s t
   passes_in_parts a b c (p ∷ ps) qs s t = (s.0, s.1, passes_in_parts s.0 b c ps qs s.2 t)

@@ -1,8 +1,7 @@
 -- How far a cache is from a schedule: the sum of the ranks, from 1 for the oldest, of the keys that the cache
 -- holds and the schedule does not.
-use Rattle.std.proofs.Common.{◌≡◌, ℕ, zero, suc, ◌+◌, ◌*◌, ◌≤◌, Bool, true, false, ◌&&◌, ◌||◌, cond, List, []}
-use Rattle.std.proofs.Common.{◌∷◌, ◌++◌, length, filter, refl, sym, ap, ◌∙◌, arith, true≢false, le_refl}
-use Rattle.std.proofs.Common.{zero-le}
+use Rattle.std.proofs.Common.{◌≡◌, ℕ, zero, suc, ◌+◌, ◌*◌, ◌≤◌, Bool, true, false, ◌&&◌, cond, List, [], ◌∷◌}
+use Rattle.std.proofs.Common.{◌++◌, length, filter, refl, ap, ◌∙◌, arith, le_refl, zero-le}
 use Rattle.std.specs.Cmp.{IsEquivalence}
 use Rattle.std.specs.List.{AllByRecursion, IsDistinct}
 use Rattle.std.specs.Set.{is_member}
@@ -28,51 +27,36 @@ module _ {X : Type 0} (eq : X → X → Bool) where
 
   pub ranks-next : (n : ℕ) (held xs : List X) → ranks (n + 1) held xs ≡ ranks n held xs + outside held xs
   ranks-next n held [] = refl
-  ranks-next n held (x ∷ xs) = by (is_member eq held x) (ranks-next (n + 1) held xs)
-    where
-      by : (b : Bool) → ranks (n + 1 + 1) held xs ≡ ranks (n + 1) held xs + outside held xs
-          → cond b 0 (n + 1 + 1) + ranks (n + 1 + 1) held xs
-          ≡ cond b 0 (n + 1) + ranks (n + 1) held xs + (cond b 0 1 + outside held xs)
-      by true h = omega arith
-      by false h = omega arith
+  ranks-next n held (x ∷ xs) = grind (arith, ranks-next (n + 1) held xs)
 
   pub ranks-append : (n : ℕ) (held xs ys : List X)
       → ranks n held (xs ++ ys) ≡ ranks n held xs + ranks (n + length xs) held ys
-  ranks-append n held [] ys = let same : n ≡ n + 0 = omega arith in ap (λ m. ranks m held ys) same
-      ∙ omega arith
+  ranks-append n held [] ys =
+      let same : n ≡ n + 0 = omega arith in omega (arith, ap (λ m. ranks m held ys) same)
   ranks-append n held (x ∷ xs) ys =
       let more : n + 1 + length xs ≡ n + suc (length xs) = omega arith in
-      ap (λ r. cond (is_member eq held x) 0 (n + 1) + r)
-      (ranks-append (n + 1) held xs ys ∙ ap (λ m. ranks (n + 1) held xs + ranks m held ys) more)
-      ∙ omega arith
+      omega (arith, ranks-append (n + 1) held xs ys, ap (λ m. ranks m held ys) more)
 
   -- what is held adds nothing
   pub ranks-held : (n : ℕ) (held xs : List X) → AllByRecursion (λ x. is_member eq held x ≡ true) xs
       → ranks n held xs ≡ 0
   ranks-held n held [] a = refl
-  ranks-held n held (x ∷ xs) a = rw a.0 (let r = ranks-held (n + 1) held xs a.1 in omega arith)
+  ranks-held n held (x ∷ xs) a = rw a.0 (omega (arith, ranks-held (n + 1) held xs a.1))
 
   -- between the least and the greatest that so many ranks sum to
   pub ranks-at_most : (held xs : List X) (n : ℕ) → ranks n held xs ≤ n * length xs + triangle (length xs)
   ranks-at_most held [] n = zero-le
-  ranks-at_most held (x ∷ xs) n = by (is_member eq held x) (ranks-at_most held xs (n + 1))
-    where
-      by : (b : Bool) → ranks (n + 1) held xs ≤ (n + 1) * length xs + triangle (length xs)
-          → cond b 0 (n + 1) + ranks (n + 1) held xs
-          ≤ n * suc (length xs) + (suc (length xs) + triangle (length xs))
-      by true h = omega arith
-      by false h = omega arith
+  ranks-at_most held (x ∷ xs) n = grind (arith, ranks-at_most held xs (n + 1))
 
   pub ranks-at_least : (held xs : List X) (n : ℕ) → n * outside held xs + triangle (outside held xs)
       ≤ ranks n held xs
   ranks-at_least held [] n = omega arith
-  ranks-at_least held (x ∷ xs) n = by (is_member eq held x) (ranks-at_least held xs (n + 1))
-    where
-      by : (b : Bool) → (n + 1) * outside held xs + triangle (outside held xs) ≤ ranks (n + 1) held xs
-          → n * (cond b 0 1 + outside held xs) + triangle (cond b 0 1 + outside held xs)
-          ≤ cond b 0 (n + 1) + ranks (n + 1) held xs
-      by true h = let z : 0 + outside held xs ≡ outside held xs = omega arith in rw z (omega arith)
-      by false h = let s : 1 + outside held xs ≡ suc (outside held xs) = omega arith in rw s (omega arith)
+  ranks-at_least held (x ∷ xs) n =
+      let out = outside held xs in
+      let none : triangle (0 + out) ≡ triangle out = (let z : 0 + out ≡ out = omega arith in ap triangle z) in
+      let one : triangle (1 + out) ≡ suc out + triangle out
+      = (let s : 1 + out ≡ suc out = omega arith in ap triangle s) in
+      grind (arith, none, one, ranks-at_least held xs (n + 1))
 
 module _ {X : Type 0} (eq : X → X → Bool) (laws : IsEquivalence eq) where
   -- ---- how many are outside
@@ -80,35 +64,22 @@ module _ {X : Type 0} (eq : X → X → Bool) (laws : IsEquivalence eq) where
   outside-filter : (held xs : List X) → outside eq held xs + length (filter (is_member eq held) xs)
       ≡ length xs
   outside-filter held [] = omega arith
-  outside-filter held (x ∷ xs) = by (is_member eq held x) (outside-filter held xs)
-    where
-      by : (b : Bool) → outside eq held xs + length (filter (is_member eq held) xs) ≡ length xs
-          → cond b 0 1 + outside eq held xs + length
-          (cond b (x ∷ filter (is_member eq held) xs) (filter (is_member eq held) xs))
-          ≡ suc (length xs)
-      by true h = omega arith
-      by false h = omega arith
+  outside-filter held (x ∷ xs) = grind (arith, outside-filter held xs)
 
   kept_distinct : (held xs : List X) → IsDistinct eq xs → IsDistinct eq (filter (is_member eq held) xs)
-  kept_distinct held xs d =
-      IsDistinct-filter eq laws (is_member eq held) (λ x y t. is_member-equal eq laws held x y t) xs d
+  kept_distinct held xs d = IsDistinct-filter eq laws (is_member eq held) (is_member-equal eq laws held) xs d
 
   kept_members : (held xs : List X) (q : X)
       → is_member eq (filter (is_member eq held) xs) q ≡ (is_member eq xs q && is_member eq held q)
   kept_members held xs q = is_member-filter laws (is_member eq held) q
       (λ x t. is_member-equal eq laws held q x t) xs
 
-  second : (a b : Bool) → (a && b) ≡ true → b ≡ true
-  second true b e = e
-  second false b e = absurd (true≢false (sym e))
-
   -- of unequal keys at most as many are held as are held at all
   pub outside-at_least : (held xs : List X) → IsDistinct eq xs → length xs ≤ outside eq held xs + length held
   outside-at_least held xs d =
       let few = length-le_from_is_member laws (filter (is_member eq held) xs) held (kept_distinct held xs d)
-      (λ q m. second (is_member eq xs q) (is_member eq held q) (sym (kept_members held xs q) ∙ m)) in
-      let all = outside-filter held xs in
-      omega arith
+      (λ q m. grind (arith, m, kept_members held xs q)) in
+      omega (arith, outside-filter held xs)
 
   pub one_more : (k : X) (zs : List X) → is_member eq zs k ≡ false → IsDistinct eq zs → IsDistinct eq (k ∷ zs)
   unfolding IsDistinct
@@ -116,107 +87,57 @@ module _ {X : Type 0} (eq : X → X → Bool) (laws : IsEquivalence eq) where
 
   -- and one fewer where one that is held is not among them
   pub outside-one_more : (held xs : List X) (k : X) → IsDistinct eq xs → is_member eq held k ≡ true
-      → is_member eq xs k ≡ false
-      → length xs + 1 ≤ outside eq held xs + length held
+      → is_member eq xs k ≡ false → length xs + 1 ≤ outside eq held xs + length held
   outside-one_more held xs k d m n =
       let kept = filter (is_member eq held) xs in
       let few = length-le_from_is_member laws (k ∷ kept) held
-      (one_more k kept (kept_members held xs k ∙ ap (λ b. b && is_member eq held k) n)
-      (kept_distinct held xs d))
-      (λ q e. among q (eq q k) refl e) in
-      let all = outside-filter held xs in
-      omega arith
-    where
-      among : (q : X) (b : Bool) → eq q k ≡ b → (b || is_member eq (filter (is_member eq held) xs) q) ≡ true
-          → is_member eq held q ≡ true
-      among q true t e = is_member-equal eq laws held q k t ∙ m
-      among q false t e = second (is_member eq xs q) (is_member eq held q) (sym (kept_members held xs q) ∙ e)
+      (one_more k kept (grind (arith, n, kept_members held xs k)) (kept_distinct held xs d))
+      (λ q e. grind (arith, e, m, is_member-equal eq laws held q k, kept_members held xs q)) in
+      omega (arith, outside-filter held xs)
 
   -- ---- what is held changes
-
-  fewer_by : (b c : Bool) (n : ℕ) → (b ≡ true → c ≡ true) → cond c 0 n ≤ cond b 0 n
-  fewer_by true c n f = rw (f refl) (le_refl 0)
-  fewer_by false true n f = zero-le
-  fewer_by false false n f = le_refl n
 
   -- more is held
   pub ranks-fewer : (held more xs : List X) (n : ℕ)
       → ((q : X) → is_member eq held q ≡ true → is_member eq more q ≡ true)
       → ranks eq n more xs ≤ ranks eq n held xs
   ranks-fewer held more [] n f = le_refl 0
-  ranks-fewer held more (x ∷ xs) n f =
-      let a = fewer_by (is_member eq held x) (is_member eq more x) (n + 1) (f x) in
-      let b = ranks-fewer held more xs (n + 1) f in
-      omega arith
+  ranks-fewer held more (x ∷ xs) n f = grind (arith, f x, ranks-fewer held more xs (n + 1) f)
 
   others_fewer : (held more xs : List X) (x : X) (n : ℕ)
       → ((q : X) → eq x q ≡ false → is_member eq held q ≡ true → is_member eq more q ≡ true)
-      → AllByRecursion (λ y. eq x y ≡ false) xs
-      → ranks eq n more xs ≤ ranks eq n held xs
+      → AllByRecursion (λ y. eq x y ≡ false) xs → ranks eq n more xs ≤ ranks eq n held xs
   others_fewer held more [] x n f a = le_refl 0
-  others_fewer held more (y ∷ xs) x n f a =
-      let b = fewer_by (is_member eq held y) (is_member eq more y) (n + 1) (f y a.0) in
-      let c = others_fewer held more xs x (n + 1) f a.1 in
-      omega arith
+  others_fewer held more (y ∷ xs) x n f a = grind (arith, f y a.0, others_fewer held more xs x (n + 1) f a.1)
 
   -- all but one that was held still is: no more than the greatest rank comes in
   pub ranks-all_but_one : (held more xs : List X) (x : X) (n : ℕ)
       → ((q : X) → eq x q ≡ false → is_member eq held q ≡ true → is_member eq more q ≡ true)
-      → IsDistinct eq xs
-      → ranks eq n more xs ≤ ranks eq n held xs + (n + length xs)
+      → IsDistinct eq xs → ranks eq n more xs ≤ ranks eq n held xs + (n + length xs)
   unfolding IsDistinct
   ranks-all_but_one held more [] x n f d = zero-le
   ranks-all_but_one held more (y ∷ xs) x n f d =
-      by (eq x y) refl (ranks-all_but_one held more xs x (n + 1) f d.1)
-    where
-      at_most : (b : Bool) → cond b 0 (n + 1) ≤ n + 1
-      at_most true = zero-le
-      at_most false = le_refl (n + 1)
-
-      by : (b : Bool) → eq x y ≡ b → ranks eq (n + 1) more xs ≤ ranks eq (n + 1) held xs + (n + 1 + length xs)
-          → cond (is_member eq more y) 0 (n + 1) + ranks eq (n + 1) more xs
-          ≤ cond (is_member eq held y) 0 (n + 1) + ranks eq (n + 1) held xs + (n + suc (length xs))
-      by true t h =
-          let apart = each-weaker _ _ (λ z a. laws.congr x y z t ∙ a) xs d.0 in
-          let a = others_fewer held more xs x (n + 1) f apart in
-          let b = at_most (is_member eq more y) in
-          omega arith
-      by false t h =
-          let b = fewer_by (is_member eq held y) (is_member eq more y) (n + 1) (f y t) in
-          omega arith
+      let rest = ranks-all_but_one held more xs x (n + 1) f d.1 in
+      let same : eq x y ≡ true → ranks eq (n + 1) more xs ≤ ranks eq (n + 1) held xs
+      = λ t. others_fewer held more xs x (n + 1) f (each-weaker _ _ (λ z a. laws.congr x y z t ∙ a) xs d.0) in
+      grind (arith, rest, same, f y)
 
   -- ---- the cache takes a step, and the key is held
 
   -- a hit: the key leaves its place and comes last
   pub ranks-hit : (held xs : List X) (x : X) (ys : List X) (k : X) → is_member eq held x ≡ true
-      → is_member eq held k ≡ true
-      → ranks eq 0 held ((xs ++ ys) ++ k ∷ []) ≤ ranks eq 0 held (xs ++ x ∷ ys)
+      → is_member eq held k ≡ true → ranks eq 0 held ((xs ++ ys) ++ k ∷ []) ≤ ranks eq 0 held (xs ++ x ∷ ys)
   ranks-hit held xs x ys k m n =
       let m0 = 0 + length xs in
-      let a = ranks-append eq 0 held (xs ++ ys) (k ∷ []) in
-      let b = ranks-append eq 0 held xs ys in
-      let c = ranks-append eq 0 held xs (x ∷ ys) in
-      let d : ranks eq (0 + length (xs ++ ys)) held (k ∷ []) ≡ 0
-      = ranks-held eq (0 + length (xs ++ ys)) held (k ∷ []) (n, tt) in
+      let all = ranks-append eq 0 held (xs ++ ys) (k ∷ []) in
+      let last = ranks-held eq (0 + length (xs ++ ys)) held (k ∷ []) (n, tt) in
       let e : ranks eq m0 held (x ∷ ys) ≡ ranks eq (m0 + 1) held ys = rw m (omega arith) in
       let f = ranks-next eq m0 held ys in
-      omega arith
+      omega (arith, ranks-append eq 0 held xs ys, ranks-append eq 0 held xs (x ∷ ys))
 
   -- a miss: the oldest leaves, the key comes last, and each of the others that is outside loses one rank
   pub ranks-miss : (held : List X) (x : X) (xs : List X) (k : X) → is_member eq held k ≡ true
       → ranks eq 0 held (xs ++ k ∷ []) + outside eq held (x ∷ xs) ≡ ranks eq 0 held (x ∷ xs)
   ranks-miss held x xs k m =
-      let a = ranks-append eq 0 held xs (k ∷ []) in
-      let d : ranks eq (0 + length xs) held (k ∷ [])
-      ≡ 0 = ranks-held eq (0 + length xs) held (k ∷ []) (m, tt) in
-      let f = ranks-next eq 0 held xs in
-      by (is_member eq held x) a d f
-    where
-      by : (b : Bool) → ranks eq 0 held (xs ++ k ∷ [])
-          ≡ ranks eq 0 held xs + ranks eq (0 + length xs) held (k ∷ [])
-          → ranks eq (0 + length xs) held (k ∷ []) ≡ 0
-          → ranks eq (0 + 1) held xs ≡ ranks eq 0 held xs + outside eq held xs
-          → ranks eq 0 held (xs ++ k ∷ []) + (cond b 0 1 + outside eq held xs)
-          ≡ cond b 0 (0 + 1) + ranks eq (0 + 1) held xs
-      by true a d f = omega arith
-      by false a d f = omega arith
+      let last = ranks-held eq (0 + length xs) held (k ∷ []) (m, tt) in
+      grind (arith, ranks-append eq 0 held xs (k ∷ []), last, ranks-next eq 0 held xs)

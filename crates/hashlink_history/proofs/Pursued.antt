@@ -1,8 +1,7 @@
 -- The misses of a cache that always has c keys are bounded by those of any schedule, by steps of the two side
 -- by side.
-use Rattle.std.proofs.Common.{◌≡◌, ℕ, ◌+◌, ◌-◌, ◌*◌, ◌≤◌, Bool, true, false, cond, List, [], ◌∷◌, ◌++◌}
-use Rattle.std.proofs.Common.{length, drop, refl, sym, ap, ◌∙◌, subst, arith, length-append, zero-le}
-use Rattle.std.proofs.Common.{not-suc-le-zero, ◌||◌, true≢false}
+use Rattle.std.proofs.Common.{◌≡◌, ℕ, ◌+◌, ◌-◌, ◌*◌, ◌≤◌, Bool, true, false, cond, List, [], ◌∷◌, ◌++◌, drop}
+use Rattle.std.proofs.Common.{length, refl, sym, ap, ◌∙◌, arith, length-append}
 use Rattle.std.specs.Cmp.{IsEquivalence}
 use Rattle.std.specs.List.{IsDistinct}
 use Rattle.std.specs.Set.{is_member, remove_key}
@@ -34,28 +33,23 @@ module _ {X : Type 0} (eq : X → X → Bool) (laws : IsEquivalence eq) where
     pub nearer : (c + 1 - h) * missed + ranks eq 0 held next ≤ ranks eq 0 held xs
 
   hit_step : (h c : ℕ) (held xs : List X) (k : X) → IsDistinct eq xs → length xs ≡ c
-      → is_member eq held k ≡ true
-      → is_member eq xs k ≡ true
+      → is_member eq held k ≡ true → is_member eq xs k ≡ true
       → FullStep h c held xs k (remove_key (eq k) xs ++ k ∷ []) 0
   hit_step h c held xs k d l m n =
       let s = key_at eq laws xs k n in
-      let less = length-remove_key (eq k) xs n in
-      let more = length-append (remove_key (eq k) xs) (k ∷ []) in
+      let distinct = removed_distinct eq laws k xs d in
       let moved = ranks-hit eq laws held s.0 s.1 s.2 k
       (sym (is_member-equal eq laws held k s.1 s.3.equal) ∙ m) m in
       let new = ap (λ zs. ranks eq 0 held (zs ++ k ∷ [])) s.3.rest in
       let old = ap (ranks eq 0 held) s.3.is in
       record {
-        size = omega arith;
-        unequal =
-            IsDistinct-push laws (remove_key (eq k) xs) k (removed_distinct eq laws k xs d)
-            (removed_gone eq laws xs k d);
+        size = omega (arith, length-remove_key (eq k) xs n, length-append (remove_key (eq k) xs) (k ∷ []));
+        unequal = IsDistinct-push laws (remove_key (eq k) xs) k distinct (removed_gone eq laws xs k d);
         nearer = omega arith;
       }
 
   miss_step : (h c : ℕ) (held : List X) (x : X) (xs : List X) (k : X) → IsDistinct eq (x ∷ xs)
-      → length (x ∷ xs) ≡ c
-      → length held ≤ h → is_member eq held k ≡ true → is_member eq (x ∷ xs) k ≡ false
+      → length (x ∷ xs) ≡ c → length held ≤ h → is_member eq held k ≡ true → is_member eq (x ∷ xs) k ≡ false
       → FullStep h c held (x ∷ xs) k (xs ++ k ∷ []) 1
   miss_step h c held x xs k d l f m n =
       let more = length-append xs (k ∷ []) in
@@ -63,41 +57,30 @@ module _ {X : Type 0} (eq : X → X → Bool) (laws : IsEquivalence eq) where
       let out = outside-one_more eq laws held (x ∷ xs) k d m n in
       record {
         size = omega arith;
-        unequal = IsDistinct-push laws xs k (IsDistinct-tail eq x xs d) (rest (eq k x) n);
+        unequal = IsDistinct-push laws xs k (IsDistinct-tail eq x xs d) (grind (arith, n));
         nearer = omega arith;
       }
-    where
-      rest : (b : Bool) → (b || is_member eq xs k) ≡ false → is_member eq xs k ≡ false
-      rest true e = absurd (true≢false e)
-      rest false e = e
 
   step_by : (h c : ℕ) (held xs : List X) (k : X) (b : Bool) → is_member eq xs k ≡ b
-      → IsDistinct eq xs → length xs ≡ c
-      → 1 ≤ c → length held ≤ h
-      → is_member eq held k ≡ true
+      → IsDistinct eq xs → length xs ≡ c → 1 ≤ c → length held ≤ h → is_member eq held k ≡ true
       → FullStep h c held xs k (cond b (remove_key (eq k) xs ++ k ∷ []) (drop 1 xs ++ k ∷ [])) (cond b 0 1)
   step_by h c held xs k true n d l p f m = hit_step h c held xs k d l m n
-  step_by h c held [] k false n d l p f m = absurd (not-suc-le-zero (subst (λ i. 1 ≤ i) (sym l) p))
+  step_by h c held [] k false n d l p f m = absurd (omega arith)
   step_by h c held (x ∷ xs) k false n d l p f m = miss_step h c held x xs k d l f m n
 
   least : (h c : ℕ) (held xs : List X) → IsDistinct eq xs → length xs ≡ c → length held ≤ h
       → triangle (c - h) ≤ ranks eq 0 held xs
   least h c held xs d l f =
       let out = outside-at_least eq laws held xs d in
-      let low = ranks-at_least eq held xs 0 in
-      let grow = triangle_mono (c - h) (outside eq held xs) (omega arith) in
-      omega arith
+      omega (arith, ranks-at_least eq held xs 0, triangle_mono (c - h) (outside eq held xs) (omega arith))
 
   missed_by : (c n : ℕ) (b d : Bool) → n ≡ c → (b ≡ true → d ≡ true) → cond d 0 n ≤ c * cond b 0 1
-  missed_by c n true d e f = rw (f refl) zero-le
-  missed_by c n false true e f = zero-le
-  missed_by c n false false e f = omega arith
+  missed_by c n b d e f = grind (arith, e, f)
 
   -- from any two states
   pub pursued : (h c : ℕ) → 1 ≤ c → (used : List X) (schedule : List (List X)) (before held xs : List X)
       → Follows eq laws h before held → IsSchedule eq h before used schedule → IsDistinct eq xs
-      → length xs ≡ c
-      → (c + 1 - h) * full_misses xs used + triangle (c - h)
+      → length xs ≡ c → (c + 1 - h) * full_misses xs used + triangle (c - h)
       ≤ c * misses_from eq before used schedule + ranks eq 0 held xs
   pursued h c p [] [] before held xs f s d l = let a = least h c held xs d l f.size in omega arith
   pursued h c p [] (after ∷ schedule) before held xs f s d l = absurd s

@@ -1,6 +1,6 @@
 -- The keys of a history, each once, in the order of their last use; and that a cache of c places holds the
 -- last c of them.
-use Rattle.std.proofs.Common.{◌≡◌, ℕ, suc, ◌+◌, ◌-◌, ◌≤◌, ◌<◌, Bool, true, false, not, ◌&&◌, ◌||◌, cond, List}
+use Rattle.std.proofs.Common.{◌≡◌, ℕ, suc, ◌+◌, ◌-◌, ◌≤◌, ◌<◌, Bool, true, false, not, ◌&&◌, cond, List}
 use Rattle.std.proofs.Common.{[], ◌∷◌, ◌++◌, length, take, drop, nat_lt, refl, sym, ap, ap₂, ◌∙◌, ◌⊎◌, inl}
 use Rattle.std.proofs.Common.{inr, subst, arith, append_assoc, length-append, length-take, length-drop}
 use Rattle.std.proofs.Common.{take-append-drop, drop_at, lt-ltb, le-ltb, true≢false, min, get_or}
@@ -8,7 +8,7 @@ use Rattle.std.specs.Cmp.{IsEquivalence}
 use Rattle.std.specs.List.{AllByRecursion, AllZip, IsDistinct, suffix_len, after_last}
 use Rattle.std.specs.Set.{is_member, unique_keys, remove_key, distinct_count}
 use Rattle.std.proofs.Math.Seq.{drop-append-add}
-use Rattle.std.proofs.lemmas.Bool.{cases_lt, both_ways}
+use Rattle.std.proofs.lemmas.Bool.{cases_lt}
 use Rattle.std.proofs.lemmas.List.{nil_from_length, drop-append-le, get_or-append_right, get_or_at}
 use Rattle.std.proofs.lemmas.List.Elements.{All-from_recursion}
 use Rattle.std.proofs.lemmas.List.Sums.{suffix_len_is}
@@ -45,23 +45,12 @@ module _ {K : Type 0} (eq : K → K → Bool) (laws : IsEquivalence eq) where
 
   apart_key : (k : K) (xs : List K) → is_member eq xs k ≡ false → remove_key (eq k) xs ≡ xs
   apart_key k [] m = refl
-  apart_key k (x ∷ xs) m = by (eq k x) m (apart_key k xs)
-    where
-      by : (b : Bool) → (b || is_member eq xs k) ≡ false
-          → (is_member eq xs k ≡ false → remove_key (eq k) xs ≡ xs)
-          → cond b xs (x ∷ remove_key (eq k) xs) ≡ x ∷ xs
-      by true e h = absurd (true≢false e)
-      by false e h = ap (λ r. x ∷ r) (h e)
+  apart_key k (x ∷ xs) m = grind (arith, apart_key k xs)
 
   pub remove_key-left : (k : K) (xs ys : List K) → is_member eq ys k ≡ false
       → remove_key (eq k) (xs ++ ys) ≡ remove_key (eq k) xs ++ ys
   remove_key-left k [] ys m = apart_key k ys m
-  remove_key-left k (x ∷ xs) ys m = by (eq k x) (remove_key-left k xs ys m)
-    where
-      by : (b : Bool) → remove_key (eq k) (xs ++ ys) ≡ remove_key (eq k) xs ++ ys
-          → cond b (xs ++ ys) (x ∷ remove_key (eq k) (xs ++ ys)) ≡ cond b xs (x ∷ remove_key (eq k) xs) ++ ys
-      by true h = refl
-      by false h = ap (λ r. x ∷ r) h
+  remove_key-left k (x ∷ xs) ys m = grind (arith, remove_key-left k xs ys m)
 
   pub remove_key-right : (k : K) (xs ys : List K) → AllByRecursion (λ y. eq k y ≡ false) xs
       → remove_key (eq k) (xs ++ ys) ≡ xs ++ remove_key (eq k) ys
@@ -70,60 +59,27 @@ module _ {K : Type 0} (eq : K → K → Bool) (laws : IsEquivalence eq) where
 
   pub is_member-unique : (xs : List K) (q : K) → is_member eq (unique_keys eq xs) q ≡ is_member eq xs q
   is_member-unique [] q = refl
-  is_member-unique (x ∷ xs) q = by (is_member eq xs x) refl (is_member-unique xs q)
-    where
-      there : (c : Bool) → eq q x ≡ c → is_member eq xs x ≡ true → is_member eq xs q
-          ≡ (c || is_member eq xs q)
-      there true t m = is_member-equal eq laws xs q x t ∙ m
-      there false t m = refl
-
-      by : (b : Bool) → is_member eq xs x ≡ b → is_member eq (unique_keys eq xs) q ≡ is_member eq xs q
-          → is_member eq (cond b (unique_keys eq xs) (x ∷ unique_keys eq xs)) q
-          ≡ (eq q x || is_member eq xs q)
-      by true m h = h ∙ there (eq q x) refl m
-      by false m h = ap (λ c. eq q x || c) h
-
-  distinct_by : (x : K) (us : List K) (b : Bool) → (b ≡ false → AllByRecursion (λ y. eq x y ≡ false) us)
-      → IsDistinct eq us
-      → IsDistinct eq (cond b us (x ∷ us))
-  unfolding IsDistinct
-  distinct_by x us true n d = d
-  distinct_by x us false n d = (n refl, d)
+  is_member-unique (x ∷ xs) q = grind (arith, is_member-unique xs q, is_member-equal eq laws xs q x)
 
   pub IsDistinct-unique : (xs : List K) → IsDistinct eq (unique_keys eq xs)
   unfolding IsDistinct
   IsDistinct-unique [] = tt
   IsDistinct-unique (x ∷ xs) =
-      distinct_by x (unique_keys eq xs) (is_member eq xs x)
-      (λ m. none_from_is_member eq laws (unique_keys eq xs) x (is_member-unique xs x ∙ m))
-      (IsDistinct-unique xs)
+      let us = unique_keys eq xs in
+      let rest = IsDistinct-unique xs in
+      let none = none_from_is_member eq laws us x in
+      elim (is_member eq xs x) as (λ b. is_member eq xs x ≡ b → IsDistinct eq (cond b us (x ∷ us)))
+      [ true ↦ λ m. rest | false ↦ λ m. (none (is_member-unique xs x ∙ m), rest) ] refl
 
   -- one more use: the key leaves its place and comes last
   pub unique_keys-push : (xs : List K) (k : K)
       → unique_keys eq (xs ++ k ∷ []) ≡ remove_key (eq k) (unique_keys eq xs) ++ k ∷ []
   unique_keys-push [] k = refl
   unique_keys-push (x ∷ xs) k =
-      ap (λ b. cond b (unique_keys eq (xs ++ k ∷ [])) (x ∷ unique_keys eq (xs ++ k ∷ [])))
-      (is_member-append eq laws xs (k ∷ []) x)
-      ∙ ap (λ us. cond (is_member eq xs x || (eq x k || false)) us (x ∷ us)) (unique_keys-push xs k)
-      ∙ by (is_member eq xs x) (eq x k) refl refl
-    where
-      by : (b c : Bool) → is_member eq xs x ≡ b → eq x k ≡ c
-          → cond (b || (c || false)) (remove_key (eq k) (unique_keys eq xs) ++ k ∷ [])
-          (x ∷ (remove_key (eq k) (unique_keys eq xs) ++ k ∷ []))
-          ≡ remove_key (eq k) (cond b (unique_keys eq xs) (x ∷ unique_keys eq xs)) ++ k ∷ []
-      by true c m t = refl
-      by false true m t =
-          ap (λ us. us ++ k ∷ [])
-          (apart_key k (unique_keys eq xs)
-          (is_member-unique xs k ∙ is_member-equal eq laws xs k x (laws.symm k x ∙ t) ∙ m))
-          ∙ sym
-          (ap (λ b. cond b (unique_keys eq xs) (x ∷ remove_key (eq k) (unique_keys eq xs)) ++ k ∷ [])
-          (laws.symm k x ∙ t))
-      by false false m t =
-          sym
-          (ap (λ b. cond b (unique_keys eq xs) (x ∷ remove_key (eq k) (unique_keys eq xs)) ++ k ∷ [])
-          (laws.symm k x ∙ t))
+      let apart = apart_key k (unique_keys eq xs) in
+      let same = is_member-equal eq laws xs k x in
+      let pushed = is_member-append eq laws xs (k ∷ []) x in
+      grind (arith, pushed, unique_keys-push xs k, apart, is_member-unique xs k, same, laws.symm k x)
 
   -- ---- the last use of a key
 
@@ -135,60 +91,38 @@ module _ {K : Type 0} (eq : K → K → Bool) (laws : IsEquivalence eq) where
   pub last_use : (used : List K) (k : K) → is_member eq used k ≡ true
       → (xs : List K) × (x : K) × (ys : List K) × LastUse used k xs x ys
   last_use [] k m = absurd (true≢false (sym m))
-  last_use (u ∷ used) k m = by (is_member eq used k) refl (last_use used k)
-    where
-      here : (c : Bool) → (c || is_member eq used k) ≡ true → is_member eq used k ≡ false → c ≡ true
-      here true e n = refl
-      here false e n = absurd (true≢false (sym e ∙ n))
-
-      by : (b : Bool) → is_member eq used k ≡ b
-          → (is_member eq used k ≡ true → (xs : List K) × (x : K) × (ys : List K) × LastUse used k xs x ys)
-          → (xs : List K) × (x : K) × (ys : List K) × LastUse (u ∷ used) k xs x ys
-      by true e h =
-          let s = h e in
-          (u ∷ s.0, s.1, s.2, record { is = ap (λ r. u ∷ r) s.3.is; equal = s.3.equal; after = s.3.after })
-      by false e h = (
-        [],
-        u,
-        used,
-        record {
-          is = refl;
-          equal = here (eq k u) m e;
-          after =
-              none_from_is_member eq laws used k e;
-        },
-      )
+  last_use (u ∷ used) k m =
+      let none = none_from_is_member eq laws used k in
+      elim (is_member eq used k)
+      as (λ b. is_member eq used k ≡ b
+      → (xs : List K) × (x : K) × (ys : List K) × LastUse (u ∷ used) k xs x ys) [
+        | true ↦ λ e. (
+            let s = last_use used k e in
+            (u ∷ s.0, s.1, s.2, record { is = ap (λ r. u ∷ r) s.3.is; equal = s.3.equal; after = s.3.after }))
+        | false ↦ λ e. ([], u, used, record { is = refl; equal = grind (arith, m, e); after = none e })
+      ] refl
 
   -- what was used after it is unique too
   pub unique_keys-last : (k : K) (xs : List K) (x : K) (ys : List K) → eq k x ≡ true
       → AllByRecursion (λ y. eq k y ≡ false) ys
       → (us : List K) × (unique_keys eq (xs ++ x ∷ ys) ≡ us ++ x ∷ unique_keys eq ys)
-  unique_keys-last k [] x ys t n = (
-    [],
-    ap (λ b. cond b (unique_keys eq ys) (x ∷ unique_keys eq ys))
-        (sym (is_member-equal eq laws ys k x t) ∙ is_member_from_none eq laws ys k n),
-  )
-  unique_keys-last k (z ∷ xs) x ys t n = by (is_member eq (xs ++ x ∷ ys) z) (unique_keys-last k xs x ys t n)
-    where
-      by : (b : Bool) → (us : List K) × (unique_keys eq (xs ++ x ∷ ys) ≡ us ++ x ∷ unique_keys eq ys)
-          → (us : List K)
-          × (cond b (unique_keys eq (xs ++ x ∷ ys)) (z ∷ unique_keys eq (xs ++ x ∷ ys)) ≡ us
-          ++ x ∷ unique_keys eq ys)
-      by true h = h
-      by false h = (z ∷ h.0, ap (λ r. z ∷ r) h.1)
+  unique_keys-last k [] x ys t n =
+      ([], grind (arith, is_member-equal eq laws ys k x t, is_member_from_none eq laws ys k n))
+  unique_keys-last k (z ∷ xs) x ys t n =
+      let s = unique_keys-last k xs x ys t n in
+      let us = unique_keys eq (xs ++ x ∷ ys) in
+      elim (is_member eq (xs ++ x ∷ ys) z)
+      as (λ b. (vs : List K) × (cond b us (z ∷ us) ≡ vs ++ x ∷ unique_keys eq ys))
+      [ true ↦ s | false ↦ (z ∷ s.0, ap (λ r. z ∷ r) s.1) ]
 
   distinct_apart : (k : K) (xs ys : List K) → IsDistinct eq (xs ++ ys) → is_member eq ys k ≡ true
       → AllByRecursion (λ x. eq k x ≡ false) xs
   unfolding IsDistinct
   distinct_apart k [] ys d m = tt
-  distinct_apart k (x ∷ xs) ys d m = (by (eq k x) refl, distinct_apart k xs ys d.1 m)
-    where
-      by : (b : Bool) → eq k x ≡ b → b ≡ false
-      by true t =
-          absurd
-          (both_ways (is_member eq ys x) (is_member_from_none eq laws ys x (each-right _ xs ys d.0))
-          (sym (is_member-equal eq laws ys k x t) ∙ m))
-      by false t = refl
+  distinct_apart k (x ∷ xs) ys d m =
+      let none = is_member_from_none eq laws ys x (each-right _ xs ys d.0) in
+      let apart : eq k x ≡ false = grind (arith, none, is_member-equal eq laws ys k x) in
+      (apart, distinct_apart k xs ys d.1 m)
 
   -- ---- the last c of them, and those before
 
@@ -200,12 +134,11 @@ module _ {K : Type 0} (eq : K → K → Bool) (laws : IsEquivalence eq) where
   older_and_recent c used = take-append-drop (distinct_count eq used - c) (unique_keys eq used)
 
   length_older : (c : ℕ) (used : List K) → length (older_keys c used) ≡ distinct_count eq used - c
-  length_older c used = let a = length-take (distinct_count eq used - c) (unique_keys eq used) in omega arith
+  length_older c used = omega (arith, length-take (distinct_count eq used - c) (unique_keys eq used))
 
   pub length-recent_keys : (c : ℕ) (used : List K) → length (recent_keys eq c used)
       ≡ min c (distinct_count eq used)
-  length-recent_keys c used = let a = length-drop (distinct_count eq used - c)
-      (unique_keys eq used) in omega arith
+  length-recent_keys c used = omega (arith, length-drop (distinct_count eq used - c) (unique_keys eq used))
 
   -- one more use of a key that is among them
   pub recent_keys-there : (c : ℕ) (used : List K) (k : K) → is_member eq (recent_keys eq c used) k ≡ true
@@ -219,13 +152,10 @@ module _ {K : Type 0} (eq : K → K → Bool) (laws : IsEquivalence eq) where
       = unique_keys-push used k ∙ ap (λ zs. remove_key (eq k) zs ++ k ∷ []) (sym (older_and_recent c used))
       ∙ ap (λ zs. zs ++ k ∷ []) (remove_key-right k us vs none)
       ∙ append_assoc us (remove_key (eq k) vs) (k ∷ []) in
-      let a = ap length all in
-      let b = length-append us (remove_key (eq k) vs ++ k ∷ []) in
-      let d = length-append (remove_key (eq k) vs) (k ∷ []) in
+      let a = simp length-append at (ap length all) in
       let e = length-remove_key (eq k) vs m in
-      let f = length_older c used in
-      let g = length-recent_keys c used in
-      let n : distinct_count eq (used ++ k ∷ []) - c ≡ length us = omega arith in
+      let n : distinct_count eq (used ++ k ∷ []) - c ≡ length us
+      = omega (arith, length_older c used, length-recent_keys c used) in
       ap₂ drop n all ∙ drop_at us (remove_key (eq k) vs ++ k ∷ []) (length us) refl
 
   all_absent : (c : ℕ) (used : List K) (k : K) → is_member eq (recent_keys eq c used) k ≡ false
@@ -244,33 +174,27 @@ module _ {K : Type 0} (eq : K → K → Bool) (laws : IsEquivalence eq) where
       let us = remove_key (eq k) (older_keys c used) in
       let vs = recent_keys eq c used ++ k ∷ [] in
       let all = all_absent c used k m in
-      let a = ap length all in
-      let b = length-append us vs in
-      let d = length-append (recent_keys eq c used) (k ∷ []) in
-      let g = length-recent_keys c used in
-      let n : distinct_count eq (used ++ k ∷ []) - c ≡ length us + 1 = omega arith in
+      let a = simp length-append at (ap length all) in
+      let n : distinct_count eq (used ++ k ∷ []) - c ≡ length us + 1
+      = omega (arith, length-recent_keys c used) in
       ap₂ drop n all ∙ drop-append-add us vs 1
 
   pub recent_keys-room : (c : ℕ) (used : List K) (k : K) → is_member eq (recent_keys eq c used) k ≡ false
-      → distinct_count eq used < c
-      → recent_keys eq c (used ++ k ∷ []) ≡ recent_keys eq c used ++ k ∷ []
+      → distinct_count eq used < c → recent_keys eq c (used ++ k ∷ []) ≡ recent_keys eq c used ++ k ∷ []
   recent_keys-room c used k m l =
       let vs = recent_keys eq c used ++ k ∷ [] in
-      let f = length_older c used in
+      let older = length_older c used in
       let none : older_keys c used ≡ [] = nil_from_length (older_keys c used) (omega arith) in
       let all : unique_keys eq (used ++ k ∷ []) ≡ vs
       = all_absent c used k m ∙ ap (λ zs. remove_key (eq k) zs ++ vs) none in
-      let a = ap length all in
-      let d = length-append (recent_keys eq c used) (k ∷ []) in
-      let g = length-recent_keys c used in
-      let n : distinct_count eq (used ++ k ∷ []) - c ≡ 0 = omega arith in
+      let a = simp length-append at (ap length all) in
+      let n : distinct_count eq (used ++ k ∷ []) - c ≡ 0 = omega (arith, length-recent_keys c used) in
       ap₂ drop n all
 
   -- ---- which keys are among them
 
   pub after_last-here : (k : K) (xs : List K) (x : K) (ys : List K) → eq k x ≡ true
-      → AllByRecursion (λ y. eq k y ≡ false) ys
-      → after_last (eq k) (xs ++ x ∷ ys) ≡ ys
+      → AllByRecursion (λ y. eq k y ≡ false) ys → after_last (eq k) (xs ++ x ∷ ys) ≡ ys
   after_last-here k xs x ys t n =
       let zs = xs ++ x ∷ ys in
       let split : zs ≡ (xs ++ x ∷ []) ++ ys = sym (append_assoc xs (x ∷ []) ys) in
@@ -278,14 +202,12 @@ module _ {K : Type 0} (eq : K → K → Bool) (laws : IsEquivalence eq) where
       let long = ap length split ∙ length-append (xs ++ x ∷ []) ys in
       let others = All-from_recursion (λ y. eq k y ≡ false) ys n in
       let passes : (j : ℕ) → length xs + 1 ≤ j → j < length zs → not (eq k (get_or zs j x)) ≡ true
-      = λ j l m. ap not
-      (ap (λ w. eq k (get_or w j x)) split
+      = λ j l m. ap not (ap (λ w. eq k (get_or w j x)) split
       ∙ ap (eq k) (get_or-append_right (xs ++ x ∷ []) ys (length xs + 1) j x front l)
       ∙ others (j - (length xs + 1)) x (omega arith))
       in
       let fails : 0 < length xs + 1 → not (eq k (get_or zs (length xs + 1 - 1) x)) ≡ false
-      = λ _. let same : length xs + 1 - 1
-      ≡ length xs = omega arith in ap not
+      = λ _. let same : length xs + 1 - 1 ≡ length xs = omega arith in ap not
       (ap (λ j. eq k (get_or zs j x)) same ∙ ap (eq k) (get_or_at xs x ys x (length xs) refl) ∙ t) in
       let count = suffix_len_is (λ y. not (eq k y)) zs (length xs + 1) x (omega arith) passes fails in
       let n1 : length zs - suffix_len (λ y. not (eq k y)) zs ≡ length xs + 1 = omega arith in
@@ -295,21 +217,12 @@ module _ {K : Type 0} (eq : K → K → Bool) (laws : IsEquivalence eq) where
       → (length ys < c) ⊎ (c ≤ length ys)
       → is_member eq (drop (length (us ++ x ∷ ys) - c) (us ++ x ∷ ys)) k ≡ nat_lt (length ys) c
   within_by c k us x ys t m (inl l) =
-      let a = length-append us (x ∷ ys) in
       let n = length (us ++ x ∷ ys) - c in
-      ap (λ zs. is_member eq zs k) (drop-append-le n us (x ∷ ys) (omega arith))
-      ∙ is_member-append eq laws (drop n us) (x ∷ ys) k
-      ∙ ap (λ b. is_member eq (drop n us) k || (b || is_member eq ys k)) t
-      ∙ or_true (is_member eq (drop n us) k)
-      ∙ sym (lt-ltb (length ys) c l)
-    where
-      or_true : (b : Bool) → (b || true) ≡ true
-      or_true true = refl
-      or_true false = refl
+      let kept = drop-append-le n us (x ∷ ys) (omega (arith, length-append us (x ∷ ys))) in
+      grind (arith, kept, t, is_member-append eq laws (drop n us) (x ∷ ys) k, lt-ltb (length ys) c l)
   within_by c k us x ys t m (inr l) =
-      let a = length-append us (x ∷ ys) in
-      let front : length (us ++ x ∷ []) ≡ length us + 1 = omega (arith, length-append us (x ∷ [])) in
-      let n : length (us ++ x ∷ ys) - c ≡ length (us ++ x ∷ []) + (length ys - c) = omega arith in
+      let n : length (us ++ x ∷ ys) - c ≡ length (us ++ x ∷ []) + (length ys - c)
+      = omega (arith, length-append us (x ∷ ys), length-append us (x ∷ [])) in
       ap (λ j. is_member eq (drop j (us ++ x ∷ ys)) k) n
       ∙ ap (λ zs. is_member eq (drop (length (us ++ x ∷ []) + (length ys - c)) zs) k)
       (sym (append_assoc us (x ∷ []) ys))
@@ -317,24 +230,18 @@ module _ {K : Type 0} (eq : K → K → Bool) (laws : IsEquivalence eq) where
       ∙ is_member_from_none eq laws (drop (length ys - c) ys) k
       (each-right _ (take (length ys - c) ys) (drop (length ys - c) ys)
       (subst (AllByRecursion (λ y. eq k y ≡ false)) (sym (take-append-drop (length ys - c) ys))
-      (none_from_is_member eq laws ys k m)))
-      ∙ sym (le-ltb (length ys) c l)
+      (none_from_is_member eq laws ys k m))) ∙ sym (le-ltb (length ys) c l)
 
   -- those of which fewer than c others were used since
   pub is_recent : (c : ℕ) (used : List K) (k : K)
       → is_member eq (recent_keys eq c used) k ≡ (is_member eq used k && nat_lt (reuse_distance eq used k) c)
   is_recent c used k = by (is_member eq used k) refl
     where
-      right : (a b : Bool) → (a || b) ≡ false → b ≡ false
-      right true b e = absurd (true≢false e)
-      right false b e = e
-
       by : (b : Bool) → is_member eq used k ≡ b
           → is_member eq (recent_keys eq c used) k ≡ (b && nat_lt (reuse_distance eq used k) c)
       by false m =
-          right (is_member eq (older_keys c used) k) (is_member eq (recent_keys eq c used) k)
-          (sym (is_member-append eq laws (older_keys c used) (recent_keys eq c used) k)
-          ∙ ap (λ zs. is_member eq zs k) (older_and_recent c used) ∙ is_member-unique used k ∙ m)
+          let parts = is_member-append eq laws (older_keys c used) (recent_keys eq c used) k in
+          grind (arith, parts, m, older_and_recent c used, is_member-unique used k)
       by true m =
           let s = last_use used k m in
           let u = unique_keys-last k s.0 s.1 s.2 s.3.equal s.3.after in
@@ -346,5 +253,4 @@ module _ {K : Type 0} (eq : K → K → Bool) (laws : IsEquivalence eq) where
           ap (λ zs. is_member eq (drop (length zs - c) zs) k) all
           ∙ within_by c k u.0 s.1 (unique_keys eq s.2) s.3.equal
           (is_member-unique s.2 k ∙ is_member_from_none eq laws s.2 k s.3.after)
-          (cases_lt (length (unique_keys eq s.2)) c)
-          ∙ ap (λ n. nat_lt n c) (sym since)
+          (cases_lt (length (unique_keys eq s.2)) c) ∙ ap (λ n. nat_lt n c) (sym since)

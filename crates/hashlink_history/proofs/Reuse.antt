@@ -1,12 +1,12 @@
 -- A cache of c places holds the last c keys that were used, and a key exactly while fewer than c others were
 -- used since.
-use Rattle.std.proofs.Common.{◌≡◌, ℕ, ◌-◌, ◌≤◌, ◌<◌, Bool, true, false, ◌&&◌, ◌||◌, cond, List, [], ◌∷◌, ◌++◌}
-use Rattle.std.proofs.Common.{length, drop, nat_lt, is_some, Option, None, Some, refl, sym, ap, subst₂, ◌∙◌}
-use Rattle.std.proofs.Common.{◌⊎◌, inl, inr, subst, arith, length-append}
+use Rattle.std.proofs.Common.{◌≡◌, ℕ, ◌-◌, Bool, true, false, ◌&&◌, cond, List, [], ◌∷◌, ◌++◌, length}
+use Rattle.std.proofs.Common.{nat_lt, is_some, None, Some, refl, sym, ap, subst₂, ◌∙◌, inl, inr}
+use Rattle.std.proofs.Common.{subst, arith, length-append}
 use Rattle.std.specs.Cmp.{IsEquivalence}
 use Rattle.std.specs.Option.{option_map_or}
 use Rattle.std.specs.List.{AllZip}
-use Rattle.std.specs.Map.{lookup, remove_entry}
+use Rattle.std.specs.Map.{lookup}
 use Rattle.std.specs.Set.{is_member, remove_key, distinct_count}
 use Rattle.std.proofs.lemmas.Bool.{cases_lt}
 use Rattle.hashlink_model.specs.Entries.{put, without, stored_key}
@@ -21,6 +21,7 @@ use Rattle.hashlink_model.proofs.Caches.{front_evicted-within, front_evicted-abo
 use Rattle.hashlink_model.proofs.Caches.{cache_put-evicts}
 use Rattle.hashlink_history.proofs.Recency.{zip_push, zip_drop_one, zip_length, is_recent, recent_keys-there}
 use Rattle.hashlink_history.proofs.Recency.{recent_keys-full, recent_keys-room, length-recent_keys}
+use Rattle.std.proofs.Math.Seq.{drop-nil}
 
 module _ {K V : Type 0} (eq : K → K → Bool) (laws : IsEquivalence eq) where
   pub found_is_member : (k : K) (es : List (K × V)) (ks : List K) → AllZip (λ e q. eq e.0 q ≡ true) es ks
@@ -29,22 +30,7 @@ module _ {K V : Type 0} (eq : K → K → Bool) (laws : IsEquivalence eq) where
   found_is_member k [] (q ∷ ks) z = absurd z
   found_is_member k (e ∷ es) [] z = absurd z
   found_is_member k (e ∷ es) (q ∷ ks) z =
-      ap (λ b. is_some (cond b (Some e.1) (lookup (eq k) es))) (answers_alike eq laws k e.0 q z.0)
-      ∙ by (eq k q) (found_is_member k es ks z.1)
-    where
-      by : (b : Bool) → is_some (lookup (eq k) es) ≡ is_member eq ks k
-          → is_some (cond b (Some e.1) (lookup (eq k) es)) ≡ (b || is_member eq ks k)
-      by true h = refl
-      by false h = h
-
-  zip_removed_by : (k : K) (e : K × V) (q : K) (es : List (K × V)) (ks : List K) (b : Bool) → eq k q ≡ b
-      → eq e.0 q ≡ true
-      → AllZip (λ e q. eq e.0 q ≡ true) es ks
-      → AllZip (λ e q. eq e.0 q ≡ true) (remove_entry (eq k) es) (remove_key (eq k) ks)
-      → AllZip (λ e q. eq e.0 q ≡ true) (cond b es (e ∷ remove_entry (eq k) es))
-      (cond b ks (q ∷ remove_key (eq k) ks))
-  zip_removed_by k e q es ks true t r z h = z
-  zip_removed_by k e q es ks false t r z h = (r, h)
+      grind (arith, found_is_member k es ks z.1, answers_alike eq laws k e.0 q z.0)
 
   zip_removed : (k : K) (es : List (K × V)) (ks : List K) → AllZip (λ e q. eq e.0 q ≡ true) es ks
       → AllZip (λ e q. eq e.0 q ≡ true) (without eq es k) (remove_key (eq k) ks)
@@ -52,15 +38,16 @@ module _ {K V : Type 0} (eq : K → K → Bool) (laws : IsEquivalence eq) where
   zip_removed k [] (q ∷ ks) z = absurd z
   zip_removed k (e ∷ es) [] z = absurd z
   zip_removed k (e ∷ es) (q ∷ ks) z =
-      rw (answers_alike eq laws k e.0 q z.0)
-      (zip_removed_by k e q es ks (eq k q) refl z.0 z.1 (zip_removed k es ks z.1))
+      let R : K × V → K → Type 0 = λ p x. eq p.0 x ≡ true in
+      rw (answers_alike eq laws k e.0 q z.0) (elim (eq k q)
+      as (λ b. AllZip R (cond b es (e ∷ without eq es k)) (cond b ks (q ∷ remove_key (eq k) ks)))
+      [ true ↦ z.1 | false ↦ (z.0, zip_removed k es ks z.1) ])
 
   -- ---- one more use
 
   -- of a key that is held: it comes last, with whatever value
   pub held_back : (c : ℕ) (used : List K) (es : List (K × V)) (k : K) (v w : V) → HoldsRecent eq c used es
-      → lookup (eq k) es ≡ Some w
-      → HoldsRecent eq c (used ++ k ∷ []) (put eq es k v (length es))
+      → lookup (eq k) es ≡ Some w → HoldsRecent eq c (used ++ k ∷ []) (put eq es k v (length es))
   held_back c used es k v w h l =
       let m : is_member eq (recent_keys eq c used) k ≡ true
       = sym (found_is_member k es (recent_keys eq c used) h) ∙ ap is_some l in
@@ -71,64 +58,48 @@ module _ {K V : Type 0} (eq : K → K → Bool) (laws : IsEquivalence eq) where
       (laws.symm (stored_key eq es k) k ∙ stored_key-equal eq laws k es))
 
   -- of one that is not: it comes last, and where there are c already the first leaves
-  held_new_by : (c : ℕ) (used : List K) (es : List (K × V)) (k : K) (v : V) → HoldsRecent eq c used es
-      → lookup (eq k) es ≡ None → (distinct_count eq used < c) ⊎ (c ≤ distinct_count eq used)
-      → HoldsRecent eq c (used ++ k ∷ []) (front_evicted (es ++ (k, v) ∷ []) c)
-  held_new_by c used es k v h l (inl r) =
+  held_new : (c : ℕ) (used : List K) (es : List (K × V)) (k : K) (v : V) → HoldsRecent eq c used es
+      → lookup (eq k) es ≡ None → HoldsRecent eq c (used ++ k ∷ []) (front_evicted (es ++ (k, v) ∷ []) c)
+  held_new c used es k v h l =
       let m : is_member eq (recent_keys eq c used) k ≡ false
       = sym (found_is_member k es (recent_keys eq c used) h) ∙ ap is_some l in
       let long = zip_length _ es (recent_keys eq c used) h in
       let count = length-recent_keys eq laws c used in
       let more = length-append es ((k, v) ∷ []) in
-      subst₂ (AllZip (λ e q. eq e.0 q ≡ true))
-      (sym (front_evicted-within (es ++ (k, v) ∷ []) c (omega arith)))
-      (sym (recent_keys-room eq laws c used k m r))
-      (zip_push _ es (recent_keys eq c used) (k, v) k h (laws.refl k))
-  held_new_by c used es k v h l (inr r) =
-      let m : is_member eq (recent_keys eq c used) k ≡ false
-      = sym (found_is_member k es (recent_keys eq c used) h) ∙ ap is_some l in
-      let long = zip_length _ es (recent_keys eq c used) h in
-      let count = length-recent_keys eq laws c used in
-      let more = length-append es ((k, v) ∷ []) in
-      subst₂ (AllZip (λ e q. eq e.0 q ≡ true)) (sym (front_evicted-above (es ++ (k, v) ∷ []) c (omega arith)))
-      (sym (recent_keys-full eq laws c used k m r))
-      (zip_drop_one _ (es ++ (k, v) ∷ []) (recent_keys eq c used ++ k ∷ [])
-      (zip_push _ es (recent_keys eq c used) (k, v) k h (laws.refl k)))
-
-  put_by : (c : ℕ) (used : List K) (es : List (K × V)) (k : K) (v : V) (o : Option V) → lookup (eq k) es ≡ o
-      → HoldsRecent eq c used es
-      → HoldsRecent eq c (used ++ k ∷ []) (cache_put eq es c k v)
-  put_by c used es k v None l h =
-      let long = zip_length _ es (recent_keys eq c used) h in
-      let count = length-recent_keys eq laws c used in
-      subst (HoldsRecent eq c (used ++ k ∷ []))
-      (sym (cache_put-evicts eq es c k v (omega arith)
-      ∙ ap (λ zs. front_evicted zs c) (put_back_absent eq es k v (none_from_lookup (eq k) es l))))
-      (held_new_by c used es k v h l (cases_lt (distinct_count eq used) c))
-  put_by c used es k v (Some w) l h =
-      let long = zip_length _ es (recent_keys eq c used) h in
-      let count = length-recent_keys eq laws c used in
-      let same = length-put_there eq es k v (length es) w l in
-      subst (HoldsRecent eq c (used ++ k ∷ []))
-      (sym (last_entries-within (put eq es k v (length es)) c (omega arith))) (held_back c used es k v w h l)
+      let pushed = zip_push (λ e q. eq e.0 q ≡ true) es (recent_keys eq c used) (k, v) k h (laws.refl k) in
+      elim (cases_lt (distinct_count eq used) c) [
+        | inl r ↦ subst₂ (AllZip (λ e q. eq e.0 q ≡ true))
+            (sym (front_evicted-within (es ++ (k, v) ∷ []) c (omega arith)))
+            (sym (recent_keys-room eq laws c used k m r)) pushed
+        | inr r ↦ subst₂ (AllZip (λ e q. eq e.0 q ≡ true))
+            (sym (front_evicted-above (es ++ (k, v) ∷ []) c (omega arith)))
+            (sym (recent_keys-full eq laws c used k m r))
+            (zip_drop_one _ (es ++ (k, v) ∷ []) (recent_keys eq c used ++ k ∷ []) pushed)
+      ]
 
   pub HoldsRecent-cache_put : (c : ℕ) (used : List K) (es : List (K × V)) (k : K) (v : V)
-      → HoldsRecent eq c used es
-      → HoldsRecent eq c (used ++ k ∷ []) (cache_put eq es c k v)
-  HoldsRecent-cache_put c used es k v h = put_by c used es k v (lookup (eq k) es) refl h
-
-  use_by : (c : ℕ) (used : List K) (es : List (K × V)) (k : K) (v : V) (o : Option V) → lookup (eq k) es ≡ o
-      → HoldsRecent eq c used es
-      → HoldsRecent eq c (used ++ k ∷ []) (option_map_or (λ w. cache_get eq es k) o (cache_put eq es c k v))
-  use_by c used es k v None l h = HoldsRecent-cache_put c used es k v h
-  use_by c used es k v (Some w) l h =
-      subst (HoldsRecent eq c (used ++ k ∷ [])) (sym (moved-there eq es k (length es) w l))
-      (held_back c used es k w w h l)
+      → HoldsRecent eq c used es → HoldsRecent eq c (used ++ k ∷ []) (cache_put eq es c k v)
+  HoldsRecent-cache_put c used es k v h =
+      let long = zip_length (λ e q. eq e.0 q ≡ true) es (recent_keys eq c used) h in
+      let count = length-recent_keys eq laws c used in
+      let R = HoldsRecent eq c (used ++ k ∷ []) in
+      elim (lookup (eq k) es) as (λ o. lookup (eq k) es ≡ o → R (cache_put eq es c k v)) [
+        | None ↦ λ l. subst R (sym (cache_put-evicts eq es c k v (omega arith)
+            ∙ ap (λ zs. front_evicted zs c) (put_back_absent eq es k v (none_from_lookup (eq k) es l))))
+            (held_new c used es k v h l)
+        | Some w ↦ λ l. subst R (sym (last_entries-within (put eq es k v (length es)) c
+            (omega (arith, length-put_there eq es k v (length es) w l)))) (held_back c used es k v w h l)
+      ] refl
 
   pub HoldsRecent-cache_use : (c : ℕ) (used : List K) (es : List (K × V)) (k : K) (v : V)
-      → HoldsRecent eq c used es
-      → HoldsRecent eq c (used ++ k ∷ []) (cache_use eq es c k v)
-  HoldsRecent-cache_use c used es k v h = use_by c used es k v (lookup (eq k) es) refl h
+      → HoldsRecent eq c used es → HoldsRecent eq c (used ++ k ∷ []) (cache_use eq es c k v)
+  HoldsRecent-cache_use c used es k v h =
+      let R = HoldsRecent eq c (used ++ k ∷ []) in
+      elim (lookup (eq k) es)
+      as (λ o. lookup (eq k) es ≡ o → R (option_map_or (λ w. cache_get eq es k) o (cache_put eq es c k v))) [
+        | None ↦ λ l. HoldsRecent-cache_put c used es k v h
+        | Some w ↦ λ l. subst R (sym (moved-there eq es k (length es) w l)) (held_back c used es k w w h l)
+      ] refl
 
   -- a key is held exactly where it was used and fewer than c others were used since
   pub held_exactly : (c : ℕ) (used : List K) (es : List (K × V)) (k : K) → HoldsRecent eq c used es
@@ -137,5 +108,4 @@ module _ {K V : Type 0} (eq : K → K → Bool) (laws : IsEquivalence eq) where
 
 pub HoldsRecent-start : {K : Type 0} (V : Type 0) (eq : K → K → Bool) (c : ℕ) → HoldsRecent eq {V = V} c [] []
 HoldsRecent-start {K} V eq c =
-    let none : 0 - c ≡ 0 = omega arith in
-    subst (λ n. AllZip (λ (e : K × V) k. eq e.0 k ≡ true) [] (drop n [])) (sym none) tt
+    subst (AllZip (λ (e : K × V) k. eq e.0 k ≡ true) []) (sym (drop-nil (0 - c))) tt

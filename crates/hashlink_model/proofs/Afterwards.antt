@@ -1,8 +1,8 @@
 -- What stands after a key was put, moved or taken out: lengths, look-ups, and the same step once more.
-use Rattle.std.proofs.Common.{ap₂, ◌⊎◌, inl, inr, ◌≡◌, ℕ, ◌+◌, Bool, true, false, cond, List, [], ◌∷◌, ◌++◌}
-use Rattle.std.proofs.Common.{length, Option, None, Some, refl, sym, ap, ◌∙◌, arith, take, drop}
+use Rattle.std.proofs.Common.{ap₂, inl, inr, ◌≡◌, ℕ, ◌+◌, Bool, true, false, cond, List, [], ◌∷◌, ◌++◌}
+use Rattle.std.proofs.Common.{length, None, Some, refl, sym, ap, ◌∙◌, arith, take, drop}
 use Rattle.std.specs.Prelude.{unwrap_or}
-use Rattle.std.specs.Option.{option_map, option_map_or}
+use Rattle.std.specs.Option.{option_map_or}
 use Rattle.std.specs.Cmp.{IsEquivalence}
 use Rattle.std.specs.Map.{lookup, lookup_entry, lookup_key}
 use Rattle.std.proofs.lemmas.Map.{NonePasses}
@@ -10,10 +10,10 @@ use Rattle.std.proofs.lemmas.List.{take-append-drop, length-append}
 use Rattle.hashlink_model.specs.Entries.{IsEntries, place_without, without, stored_key, put, moved, moved_at}
 use Rattle.hashlink_model.specs.Entries.{moved_match}
 pub use Rattle.hashlink_model.proofs.ByPlace.{moved-there}
-use Rattle.hashlink_model.proofs.Splits.{Stands, stands_from_lookup, none_from_lookup, remove_entry-none}
+use Rattle.hashlink_model.proofs.Splits.{none_from_lookup, remove_entry-none}
 use Rattle.hashlink_model.proofs.Splits.{remove_entry-here, place_of-none, splits}
 use Rattle.hashlink_model.proofs.Distinct.{each-left}
-use Rattle.hashlink_model.proofs.Finds.{lookup_is, lookup_key_is, option_map-cond, stored_key-equal}
+use Rattle.hashlink_model.proofs.Finds.{lookup_is, lookup_key_is, stored_key-equal}
 use Rattle.hashlink_model.proofs.Finds.{lookup_entry-without, lookup-equal}
 use Rattle.hashlink_model.proofs.Puts.{put_back, put_front, lookup_entry-put, none_without, IsEntries-put}
 
@@ -28,15 +28,10 @@ module _ {K V : Type 0} (eq : K → K → Bool) where
       → length (without eq es k) ≡ length es
   length-without_absent es k l = ap length (remove_entry-none (eq k) es (none_from_lookup (eq k) es l))
 
-  length_here : (es : List (K × V)) (k : K) → Stands (eq k) es → length (without eq es k) + 1 ≡ length es
-  length_here es k s =
-      let a = length-append s.0 (s.1 ∷ s.2) in
-      let b = length-append s.0 s.2 in
-      rw (s.3.is, remove_entry-here (eq k) s.1 s.2 s.3.passes s.0 s.3.before) (omega arith)
-
   pub length-without_there : (es : List (K × V)) (k : K) (w : V) → lookup (eq k) es ≡ Some w
       → length (without eq es k) + 1 ≡ length es
-  length-without_there es k w l = length_here es k (stands_from_lookup (eq k) es w l)
+  length-without_there [] k w l = cc
+  length-without_there (e ∷ es) k w l = grind (arith, length-without_there es k w)
 
   -- one entry more than without the key, wherever it is put
   pub length-put : (es : List (K × V)) (k : K) (v : V) (b : ℕ)
@@ -45,9 +40,7 @@ module _ {K V : Type 0} (eq : K → K → Bool) where
       let j = place_without eq es k b in
       let zs = without eq es k in
       let a = length-append (take j zs) ((stored_key eq es k, v) ∷ drop j zs) in
-      let c = length-append (take j zs) (drop j zs) in
-      let d = ap length (take-append-drop j zs) in
-      omega arith
+      omega (arith, length-append (take j zs) (drop j zs), ap length (take-append-drop j zs))
 
   pub length-put_absent : (es : List (K × V)) (k : K) (v : V) (b : ℕ) → lookup (eq k) es ≡ None
       → length (put eq es k v b) ≡ length es + 1
@@ -62,22 +55,19 @@ module _ {K V : Type 0} (eq : K → K → Bool) where
   pub moved-absent : (es : List (K × V)) (k : K) (b : ℕ) → lookup (eq k) es ≡ None → moved eq es k b ≡ es
   moved-absent es k b l = moved_match-none (eq k) es b (none_from_lookup (eq k) es l)
 
-  length_moved_by : (es : List (K × V)) (k : K) (b : ℕ) (o : Option V) → lookup (eq k) es ≡ o
-      → length (moved eq es k b) ≡ length es
-  length_moved_by es k b None l = ap length (moved-absent es k b l)
-  length_moved_by es k b (Some w) l = ap length (moved-there eq es k b w l) ∙ length-put_there es k w b w l
+  -- so a move is by cases of the look-up
+  pub moved_is : (es : List (K × V)) (k : K) (b : ℕ)
+      → moved eq es k b ≡ option_map_or (λ w. put eq es k w b) (lookup (eq k) es) es
+  moved_is es k b = grind (arith, moved-absent es k b, moved-there eq es k b)
 
   pub length-moved : (es : List (K × V)) (k : K) (b : ℕ) → length (moved eq es k b) ≡ length es
-  length-moved es k b = length_moved_by es k b (lookup (eq k) es) refl
+  length-moved es k b = rw (moved_is es k b) (grind (arith, length-put_there es k))
 
 -- a move by a test, which is a key's where it passes a key
 pub length-moved_match : {K V : Type 0} (test : K → Bool) (es : List (K × V)) (b : ℕ)
     → length (moved_match test es b) ≡ length es
-length-moved_match test es b = by (splits test es)
-  where
-    by : NonePasses test es ⊎ Stands test es → length (moved_match test es b) ≡ length es
-    by (inl n) = ap length (moved_match-none test es b n)
-    by (inr s) = length-moved (λ _. test) es s.1.0 b
+length-moved_match test es b = elim (splits test es)
+    [ inl n ↦ ap length (moved_match-none test es b n) | inr s ↦ length-moved (λ _. test) es s.1.0 b ]
 
 module _ {K V : Type 0} (eq : K → K → Bool) (laws : IsEquivalence eq) where
   -- ---- look-ups after a put
@@ -85,24 +75,21 @@ module _ {K V : Type 0} (eq : K → K → Bool) (laws : IsEquivalence eq) where
   pub lookup-put : (q : K) (es : List (K × V)) (k : K) (v : V) (b : ℕ) → IsEntries eq es
       → lookup (eq q) (put eq es k v b) ≡ cond (eq k q) (Some v) (lookup (eq q) es)
   lookup-put q es k v b d =
-      lookup_is (eq q) (put eq es k v b) ∙ ap (option_map (λ e. e.1)) (lookup_entry-put eq laws q es k v b d)
-      ∙ option_map-cond (λ e. e.1) (eq k q) _ _ ∙ ap (cond (eq k q) (Some v)) (sym (lookup_is (eq q) es))
+      let after = lookup_is (eq q) (put eq es k v b) in
+      grind (arith, after, lookup_is (eq q) es, lookup_entry-put eq laws q es k v b d)
 
   pub lookup_key-put : (q : K) (es : List (K × V)) (k : K) (v : V) (b : ℕ) → IsEntries eq es
       → lookup_key (eq q) (put eq es k v b) ≡ cond (eq k q) (Some (stored_key eq es k)) (lookup_key (eq q) es)
   lookup_key-put q es k v b d =
-      lookup_key_is (eq q) (put eq es k v b)
-      ∙ ap (option_map (λ e. e.0)) (lookup_entry-put eq laws q es k v b d)
-      ∙ option_map-cond (λ e. e.0) (eq k q) _ _
-      ∙ ap (cond (eq k q) (Some (stored_key eq es k))) (sym (lookup_key_is (eq q) es))
+      let after = lookup_key_is (eq q) (put eq es k v b) in
+      grind (arith, after, lookup_key_is (eq q) es, lookup_entry-put eq laws q es k v b d)
 
   pub lookup-put_same : (q : K) (es : List (K × V)) (k : K) (v : V) (b : ℕ) → IsEntries eq es → eq k q ≡ true
       → lookup (eq q) (put eq es k v b) ≡ Some v
   lookup-put_same q es k v b d t = lookup-put q es k v b d ∙ rw t refl
 
   pub lookup_entry-put_other : (q : K) (es : List (K × V)) (k : K) (v : V) (b : ℕ)
-      → IsEntries eq es → eq k q ≡ false
-      → lookup_entry (eq q) (put eq es k v b) ≡ lookup_entry (eq q) es
+      → IsEntries eq es → eq k q ≡ false → lookup_entry (eq q) (put eq es k v b) ≡ lookup_entry (eq q) es
   lookup_entry-put_other q es k v b d t = lookup_entry-put eq laws q es k v b d ∙ rw t refl
 
   -- the stored key stays
@@ -115,8 +102,8 @@ module _ {K V : Type 0} (eq : K → K → Bool) (laws : IsEquivalence eq) where
   pub lookup-without : (q : K) (es : List (K × V)) (k : K) → IsEntries eq es
       → lookup (eq q) (without eq es k) ≡ cond (eq k q) None (lookup (eq q) es)
   lookup-without q es k d =
-      lookup_is (eq q) (without eq es k) ∙ ap (option_map (λ e. e.1)) (lookup_entry-without eq laws q k es d)
-      ∙ option_map-cond (λ e. e.1) (eq k q) _ _ ∙ ap (cond (eq k q) None) (sym (lookup_is (eq q) es))
+      let after = lookup_is (eq q) (without eq es k) in
+      grind (arith, after, lookup_is (eq q) es, lookup_entry-without eq laws q k es d)
 
   pub lookup-without_same : (q : K) (es : List (K × V)) (k : K) → IsEntries eq es → eq k q ≡ true
       → lookup (eq q) (without eq es k) ≡ None
@@ -136,8 +123,7 @@ module _ {K V : Type 0} (eq : K → K → Bool) (laws : IsEquivalence eq) where
       let none : NonePasses (eq k) (take j zs ++ drop j zs)
       = rw (take-append-drop j zs) (none_without eq laws es k d) in
       remove_entry-here (eq k) (stored_key eq es k, v) (drop j zs) (stored_key-equal eq laws k es) (take j zs)
-      (each-left _ (take j zs) (drop j zs) none)
-      ∙ take-append-drop j zs
+      (each-left _ (take j zs) (drop j zs) none) ∙ take-append-drop j zs
 
   pub put_back_twice : (es : List (K × V)) (k : K) (v w : V) → IsEntries eq es
       → put eq (put eq es k v (length es)) k w (length (put eq es k v (length es)))
@@ -145,8 +131,7 @@ module _ {K V : Type 0} (eq : K → K → Bool) (laws : IsEquivalence eq) where
   put_back_twice es k v w d =
       put_back eq (put eq es k v (length es)) k w
       ∙ ap₂ (λ zs k0. zs ++ (k0, w) ∷ []) (without-put es k v (length es) d)
-      (stored_key-put es k v (length es) d)
-      ∙ sym (put_back eq es k w)
+      (stored_key-put es k v (length es) d) ∙ sym (put_back eq es k w)
 
   pub put_front_twice : (es : List (K × V)) (k : K) (v w : V) → IsEntries eq es
       → put eq (put eq es k v 0) k w 0 ≡ put eq es k w 0
@@ -157,50 +142,20 @@ module _ {K V : Type 0} (eq : K → K → Bool) (laws : IsEquivalence eq) where
 
   pub lookup-moved : (q : K) (es : List (K × V)) (k : K) (b : ℕ) → IsEntries eq es
       → lookup (eq q) (moved eq es k b) ≡ lookup (eq q) es
-  lookup-moved q es k b d = found (lookup (eq k) es) refl
-    where
-      same : (w : V) → lookup (eq k) es ≡ Some w → (c : Bool) → eq k q ≡ c
-          → cond c (Some w) (lookup (eq q) es) ≡ lookup (eq q) es
-      same w l false t = refl
-      same w l true t = sym l ∙ lookup-equal eq laws k q es t
-
-      found : (o : Option V) → lookup (eq k) es ≡ o → lookup (eq q) (moved eq es k b) ≡ lookup (eq q) es
-      found None l = ap (lookup (eq q)) (moved-absent eq es k b l)
-      found (Some w) l =
-          ap (lookup (eq q)) (moved-there eq es k b w l) ∙ lookup-put q es k w b d ∙ same w l (eq k q) refl
+  lookup-moved q es k b d =
+      let put1 : (w : V) → lookup (eq q) (put eq es k w b) ≡ cond (eq k q) (Some w) (lookup (eq q) es)
+      = λ w. lookup-put q es k w b d in
+      rw (moved_is eq es k b) (grind (arith, put1, lookup-equal eq laws k q es))
 
   pub IsEntries-moved : (es : List (K × V)) (k : K) (b : ℕ) → IsEntries eq es → IsEntries eq (moved eq es k b)
-  IsEntries-moved es k b d = found (lookup (eq k) es) refl
-    where
-      found : (o : Option V) → lookup (eq k) es ≡ o → IsEntries eq (moved eq es k b)
-      found None l = rw (moved-absent eq es k b l) d
-      found (Some w) l = rw (moved-there eq es k b w l) (IsEntries-put eq laws es k w b d)
+  IsEntries-moved es k b d =
+      let put1 : (w : V) → IsEntries eq (put eq es k w b) = λ w. IsEntries-put eq laws es k w b d in
+      rw (moved_is eq es k b) (grind (arith, d, put1))
 
-  -- a second move to the back, or to the front, leaves the list as it is
-  pub moved_back_twice : (es : List (K × V)) (k : K) → IsEntries eq es
-      → moved eq (moved eq es k (length es)) k (length es) ≡ moved eq es k (length es)
-  moved_back_twice es k d = found (lookup (eq k) es) refl
-    where
-      found : (o : Option V) → lookup (eq k) es ≡ o
-          → moved eq (moved eq es k (length es)) k (length es) ≡ moved eq es k (length es)
-      found None l = ap (λ zs. moved eq zs k (length es)) (moved-absent eq es k (length es) l)
-      found (Some w) l =
-          let once = moved-there eq es k (length es) w l in
-          let long = length-put_there eq es k w (length es) w l in
-          ap (λ zs. moved eq zs k (length es)) once
-          ∙ moved-there eq (put eq es k w (length es)) k (length es) w
-          (lookup-put_same k es k w (length es) d (laws.refl k))
-          ∙ ap (put eq (put eq es k w (length es)) k w) (sym long)
-          ∙ put_back_twice es k w w d ∙ sym once
-
-  pub moved_front_twice : (es : List (K × V)) (k : K) → IsEntries eq es
-      → moved eq (moved eq es k 0) k 0 ≡ moved eq es k 0
-  moved_front_twice es k d = found (lookup (eq k) es) refl
-    where
-      found : (o : Option V) → lookup (eq k) es ≡ o → moved eq (moved eq es k 0) k 0 ≡ moved eq es k 0
-      found None l = ap (λ zs. moved eq zs k 0) (moved-absent eq es k 0 l)
-      found (Some w) l =
-          let once = moved-there eq es k 0 w l in
-          ap (λ zs. moved eq zs k 0) once
-          ∙ moved-there eq (put eq es k w 0) k 0 w (lookup-put_same k es k w 0 d (laws.refl k))
-          ∙ put_front_twice es k w w d ∙ sym once
+  -- a second move to a place where a second put changes nothing leaves the list as it is
+  pub moved_twice : (es : List (K × V)) (k : K) (b : ℕ) → IsEntries eq es
+      → ((w : V) → lookup (eq k) es ≡ Some w → put eq (put eq es k w b) k w b ≡ put eq es k w b)
+      → moved eq (moved eq es k b) k b ≡ moved eq es k b
+  moved_twice es k b d twice =
+      rw (moved_is eq (moved eq es k b) k b, lookup-moved k es k b d, moved_is eq es k b)
+      (grind (arith, twice))

@@ -85,8 +85,7 @@ module _ {K V : Type 0} where
 
 -- moved with the value that stands it is put
 pub moved-there : {K V : Type 0} (eq : K → K → Bool) (es : List (K × V)) (k : K) (b : ℕ) (w : V)
-    → lookup (eq k) es ≡ Some w
-    → moved eq es k b ≡ put eq es k w b
+    → lookup (eq k) es ≡ Some w → moved eq es k b ≡ put eq es k w b
 moved-there eq es k b w l =
     let s = stands_from_lookup (eq k) es w l in
     let there = put-here eq s.0 s.1 s.2 k w b s.3.passes s.3.before in
@@ -94,8 +93,6 @@ moved-there eq es k b w l =
     (sym (lookup-here (eq k) s.1 s.2 s.3.passes s.0 s.3.before) ∙ ap (lookup (eq k)) (sym s.3.is) ∙ l) in
     ap (λ zs. moved eq zs k b) s.3.is
     ∙ ap (λ o. option_map_or (λ i. moved_at (s.0 ++ s.1 ∷ s.2) i b) o (s.0 ++ s.1 ∷ s.2))
-    (place_of-here (eq k) s.1 s.2 s.3.passes s.0 s.3.before)
-    ∙ moved_at-here s.0 s.1 s.2 b
-    ∙ ap (λ v. insert (s.0 ++ s.2) (place_left (length s.0) b) (s.1.0, v)) stands
-    ∙ sym there
+    (place_of-here (eq k) s.1 s.2 s.3.passes s.0 s.3.before) ∙ moved_at-here s.0 s.1 s.2 b
+    ∙ ap (λ v. insert (s.0 ++ s.2) (place_left (length s.0) b) (s.1.0, v)) stands ∙ sym there
     ∙ ap (λ zs. put eq zs k w b) (sym s.3.is)

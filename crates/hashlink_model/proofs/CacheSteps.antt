@@ -1,29 +1,25 @@
 -- What follows from the steps between two states of a cache.
-use Rattle.std.proofs.Common.{◌≡◌, ℕ, ◌-◌, ◌≤◌, min, max, Bool, [], ◌∷◌, ◌++◌, length, take, Option, None}
-use Rattle.std.proofs.Common.{Some, Ok, Err, sym, ap, ◌∙◌, arith}
+use Rattle.std.proofs.Common.{◌≡◌, Bool, [], ◌∷◌, ◌++◌, length, Option, None, Some, Ok, Err, sym, ap, ◌∙◌}
 use Rattle.std.specs.Prelude.{MatchOption, Result, refl}
 use Rattle.std.specs.Option.{option_map_or}
 use Rattle.std.specs.Map.{lookup}
 use Rattle.hashlink_model.specs.Entries.{put, without, stored_key}
 use Rattle.hashlink_model.specs.MapState.{MapState, node_count}
 use Rattle.hashlink_model.specs.Cache.{cache_get, CacheState, InsertsLast, CacheUses, cache_use, CacheInserts}
-use Rattle.hashlink_model.specs.Cache.{CacheGets, SetsCapacity, last_entries, cache_put}
+use Rattle.hashlink_model.specs.Cache.{CacheGets, last_entries, cache_put}
 use Rattle.hashlink_model.proofs.Puts.{put_back}
 use Rattle.hashlink_model.proofs.Afterwards.{moved-there}
-use Rattle.hashlink_model.proofs.Caches.{length-last_entries, last_entries-end, last_entries-within}
-use Rattle.hashlink_model.proofs.NodeCounts.{node_count-adds, node_count-keeps, moves_nodes}
+use Rattle.hashlink_model.proofs.NodeCounts.{moves_nodes}
 
 -- the insert at the length
 pub put_entries : {K V S : Type 0} (eq : K → K → Bool) (old new : MapState K V S) (k : K)
-    (v : V) (w : Option V)
-    → InsertsLast eq k v w old new
+    (v : V) (w : Option V) → InsertsLast eq k v w old new
     → new.entries ≡ put eq old.entries k v (length old.entries)
 put_entries eq old new k v None s = s.adds.entries
 put_entries eq old new k v (Some x) s = s.puts.entries
 
 pub put_answer : {K V S : Type 0} (eq : K → K → Bool) (old new : MapState K V S) (k : K)
-    (v : V) (w : Option V)
-    → InsertsLast eq k v w old new → w ≡ lookup (eq k) old.entries
+    (v : V) (w : Option V) → InsertsLast eq k v w old new → w ≡ lookup (eq k) old.entries
 put_answer eq old new k v None s = sym s.absent
 put_answer eq old new k v (Some x) s = sym s.old_value
 
@@ -39,26 +35,9 @@ module _ {K V S : Type 0} (eq : K → K → Bool) (old new : CacheState K V S) (
 
   pub inserts_refused : (pair : K × V) → CacheInserts eq old new k v (Err pair)
       → (new.map.entries ≡ old.map.entries) × (new.map.spare ≡ old.map.spare)
-      × (lookup (eq k) old.map.entries ≡ None)
-      × (old.map.spare ≡ 0)
-  inserts_refused pair s = (
-    s.map.grows.entries,
-    s.map.grows.spare,
-    s.map.may_refuse.absent,
-    s.map.may_refuse.no_spare,
-  )
-
-  -- an insert of a new key needs one node where none is spare; what it drops leaves its node spare
-  pub inserts_nodes : CacheInserts eq old new k v (Ok None)
-      → node_count new.map ≡ max (node_count old.map)
-      (length (put eq old.map.entries k v (length old.map.entries)))
-  inserts_nodes s =
-      let a = node_count-keeps s.map.between new.map
-      (last_entries s.map.between.entries old.cap) s.map.fits in
-      let b = node_count-adds old.map s.map.between (put eq old.map.entries k v (length old.map.entries))
-      s.map.inserts.adds in
-      let c = ap length s.map.inserts.adds.entries in
-      omega arith
+      × (lookup (eq k) old.map.entries ≡ None) × (old.map.spare ≡ 0)
+  inserts_refused pair s =
+      (s.map.grows.entries, s.map.grows.spare, s.map.may_refuse.absent, s.map.may_refuse.no_spare)
 
 module _ {K V S : Type 0} (eq : K → K → Bool) (old new : CacheState K V S) (k : K) where
   pub gets_hit : (w : V) → CacheGets eq old new k (Some w)
@@ -79,9 +58,7 @@ module _ {K V S : Type 0} (eq : K → K → Bool) (old new : CacheState K V S) (
   uses_by : (o w : Option V) → lookup (eq k) old.map.entries ≡ o
       → MatchOption o (CacheInserts eq old new k v (Ok w))
       (λ x. (◌≡◌ {A = Result (Option V) (K × V)} (Ok w) (Ok (Some x))) × CacheGets eq old new k (Some x))
-      → (w ≡ o)
-      ×
-      (new.map.entries
+      → (w ≡ o) × (new.map.entries
       ≡ option_map_or (λ x. cache_get eq old.map.entries k) o (cache_put eq old.map.entries old.cap k v))
   uses_by None w l s = (inserts_answer eq old new k v w s ∙ l, inserts_entries eq old new k v w s)
   uses_by (Some x) w l s = (cc (s.0), s.1.map.step.entries)
@@ -89,19 +66,3 @@ module _ {K V S : Type 0} (eq : K → K → Bool) (old new : CacheState K V S) (
   pub uses_entries : (w : Option V) → CacheUses eq old new k v (Ok w)
       → (w ≡ lookup (eq k) old.map.entries) × (new.map.entries ≡ cache_use eq old.map.entries old.cap k v)
   uses_entries w s = uses_by (lookup (eq k) old.map.entries) w refl s
-
-module _ {K V S : Type 0} (old new : CacheState K V S) (n : ℕ) where
-  pub sets_length : SetsCapacity old new n → length new.map.entries ≡ min n (length old.map.entries)
-  sets_length s = ap length s.map.entries ∙ length-last_entries old.map.entries n
-
-  pub sets_end : SetsCapacity old new n
-      → take (length old.map.entries - n) old.map.entries ++ new.map.entries ≡ old.map.entries
-  sets_end s =
-      ap (λ es. take (length old.map.entries - n) old.map.entries ++ es) s.map.entries
-      ∙ last_entries-end old.map.entries n
-
-  pub sets_nodes : SetsCapacity old new n → node_count new.map ≡ node_count old.map
-  sets_nodes s = node_count-keeps old.map new.map (last_entries old.map.entries n) s.map
-
-  pub sets_within : length old.map.entries ≤ n → SetsCapacity old new n → new.map.entries ≡ old.map.entries
-  sets_within l s = s.map.entries ∙ last_entries-within old.map.entries n l

@@ -1,10 +1,9 @@
 -- What a cache holds after its steps.
-use Rattle.std.proofs.Common.{◌≡◌, ℕ, suc, ◌+◌, ◌-◌, ◌≤◌, ◌<◌, Bool, true, false, cond, min, List, [], ◌∷◌}
-use Rattle.std.proofs.Common.{◌++◌, length, drop, take, nat_lt, unwrap_or, Option, None, Some, refl, sym, ap}
-use Rattle.std.proofs.Common.{◌∙◌, ◌⊎◌, inl, inr, arith, zero, length-drop, lt-ltb, le-ltb, take-append-drop}
+use Rattle.std.proofs.Common.{◌≡◌, ℕ, suc, ◌+◌, ◌-◌, ◌≤◌, ◌<◌, Bool, true, false, min, List, [], ◌∷◌, ◌++◌}
+use Rattle.std.proofs.Common.{length, drop, take, unwrap_or, Some, refl, sym, ap, arith, zero, length-drop}
+use Rattle.std.proofs.Common.{lt-ltb, le-ltb, take-append-drop, None, ◌∙◌}
 use Rattle.std.specs.Cmp.{IsEquivalence}
 use Rattle.std.specs.Map.{lookup, lookup_entry}
-use Rattle.std.specs.Option.{option_map_or}
 use Rattle.std.proofs.lemmas.Bool.{cases_lt}
 use Rattle.hashlink_model.specs.Entries.{IsEntries, put}
 use Rattle.hashlink_model.specs.Cache.{front_evicted, last_entries, cache_put, cache_get, cache_extended}
@@ -12,10 +11,11 @@ use Rattle.hashlink_model.specs.Cache.{cache_use}
 use Rattle.hashlink_model.proofs.Distinct.{IsEntries-tail}
 use Rattle.hashlink_model.proofs.Puts.{IsEntries-put}
 use Rattle.hashlink_model.proofs.Finds.{lookup-equal}
-use Rattle.hashlink_model.proofs.Afterwards.{length-put, length-put_absent, length-put_there, moved-there}
-use Rattle.hashlink_model.proofs.Afterwards.{length-moved, lookup-moved, lookup_entry-put_other}
-use Rattle.hashlink_model.proofs.Afterwards.{IsEntries-moved}
+use Rattle.hashlink_model.proofs.Afterwards.{length-put, length-put_absent, length-put_there, length-moved}
+use Rattle.hashlink_model.proofs.Afterwards.{lookup-moved, lookup_entry-put_other, IsEntries-moved, moved_is}
 use Rattle.hashlink_model.proofs.Remaining.{lookup-put_remaining, lookup_entry-put_remaining}
+use Rattle.std.proofs.lemmas.Bool.Decides.{nat_tests}
+use Rattle.std.specs.Option.{option_map_or}
 
 module _ {K V : Type 0} where
   pub front_evicted-within : (es : List (K × V)) (cap : ℕ) → length es ≤ cap → front_evicted es cap ≡ es
@@ -24,28 +24,16 @@ module _ {K V : Type 0} where
   pub front_evicted-above : (es : List (K × V)) (cap : ℕ) → cap < length es → front_evicted es cap ≡ drop 1 es
   front_evicted-above es cap l = rw (lt-ltb cap (length es) l) refl
 
-  within_by : (es : List (K × V)) (cap n : ℕ) → (cap < length es) ⊎ (length es ≤ cap) → cap
-      ≤ n → length es ≤ n + 1
-      → length (front_evicted es cap) ≤ n
-  within_by es cap n (inl l) c m = rw (front_evicted-above es cap l, length-drop 1 es) (omega arith)
-  within_by es cap n (inr l) c m = rw (front_evicted-within es cap l) (omega arith)
-
   -- one entry more than n at most, and after an eviction to a cap of at most n there are at most n
   pub front_evicted-at_most : (es : List (K × V)) (cap n : ℕ) → cap ≤ n → length es ≤ n + 1
       → length (front_evicted es cap) ≤ n
-  front_evicted-at_most es cap n c m = within_by es cap n (cases_lt cap (length es)) c m
-
-  last_by : (es : List (K × V)) (cap : ℕ) → (cap < length es) ⊎ (length es ≤ cap) → length es ≤ cap + 1
-      → front_evicted es cap ≡ last_entries es cap
-  last_by es cap (inl l) m =
-      let one : 1 ≡ length es - cap = omega arith in front_evicted-above es cap l ∙ ap (λ n. drop n es) one
-  last_by es cap (inr l) m =
-      let none : 0 ≡ length es - cap = omega arith in front_evicted-within es cap l ∙ ap (λ n. drop n es) none
+  front_evicted-at_most es cap n c m = grind (arith, nat_tests, length-drop 1 es)
 
   -- where there is at most one entry too many, an eviction keeps the last ones
   pub front_evicted-last_entries : (es : List (K × V)) (cap : ℕ) → length es ≤ cap + 1
       → front_evicted es cap ≡ last_entries es cap
-  front_evicted-last_entries es cap m = last_by es cap (cases_lt cap (length es)) m
+  front_evicted-last_entries es cap m =
+      grind (arith, front_evicted-above es cap, front_evicted-within es cap, cases_lt cap (length es))
 
   pub length-last_entries : (es : List (K × V)) (n : ℕ) → length (last_entries es n) ≡ min n (length es)
   length-last_entries es n = let a = length-drop (length es - n) es in omega arith
@@ -63,14 +51,9 @@ module _ {K V : Type 0} where
   IsEntries-drop eq (suc n) [] d = d
   IsEntries-drop eq (suc n) (e ∷ es) d = IsEntries-drop eq n es (IsEntries-tail eq e es d)
 
-  evicted_unequal_by : (eq : K → K → Bool) (es : List (K × V)) (b : Bool) → IsEntries eq es
-      → IsEntries eq (cond b (drop 1 es) es)
-  evicted_unequal_by eq es true d = IsEntries-drop eq 1 es d
-  evicted_unequal_by eq es false d = d
-
   pub IsEntries-front_evicted : (eq : K → K → Bool) (es : List (K × V)) (cap : ℕ) → IsEntries eq es
       → IsEntries eq (front_evicted es cap)
-  IsEntries-front_evicted eq es cap d = evicted_unequal_by eq es (nat_lt cap (length es)) d
+  IsEntries-front_evicted eq es cap d = grind (arith, d, IsEntries-drop eq 1 es d)
 
   -- ---- the cache's insert
 
@@ -80,19 +63,14 @@ module _ {K V : Type 0} where
   cache_put-at_most eq es cap k v = let few = length-last_entries
       (put eq es k v (length es)) cap in omega arith
 
-  grown_by : (eq : K → K → Bool) (es : List (K × V)) (k : K) (v : V) (o : Option V) → lookup (eq k) es ≡ o
-      → length (put eq es k v (length es)) ≤ length es + 1
-  grown_by eq es k v None l = let a = length-put_absent eq es k v (length es) l in omega arith
-  grown_by eq es k v (Some w) l = let a = length-put_there eq es k v (length es) w l in omega arith
-
   put_grown : (eq : K → K → Bool) (es : List (K × V)) (k : K) (v : V)
       → length (put eq es k v (length es)) ≤ length es + 1
-  put_grown eq es k v = grown_by eq es k v (lookup (eq k) es) refl
+  put_grown eq es k v =
+      grind (arith, length-put_absent eq es k v (length es), length-put_there eq es k v (length es))
 
   -- all that the map's insert leaves, where there is a place
   pub cache_put-with_a_place : (eq : K → K → Bool) (es : List (K × V)) (cap : ℕ) (k : K) (v : V)
-      → length es < cap
-      → cache_put eq es cap k v ≡ put eq es k v (length es)
+      → length es < cap → cache_put eq es cap k v ≡ put eq es k v (length es)
   cache_put-with_a_place eq es cap k v l =
       let g = put_grown eq es k v in last_entries-within (put eq es k v (length es)) cap (omega arith)
 
@@ -104,8 +82,7 @@ module _ {K V : Type 0} where
       (front_evicted-last_entries (put eq es k v (length es)) cap (omega arith))
 
   pub IsEntries-cache_put : (eq : K → K → Bool) → IsEquivalence eq
-      → (es : List (K × V)) (cap : ℕ) (k : K) (v : V)
-      → IsEntries eq es
+      → (es : List (K × V)) (cap : ℕ) (k : K) (v : V) → IsEntries eq es
       → IsEntries eq (cache_put eq es cap k v)
   IsEntries-cache_put eq laws es cap k v d =
       let zs = put eq es k v (length es) in
@@ -114,22 +91,19 @@ module _ {K V : Type 0} where
   -- ---- an insert of each pair in turn
 
   pub cache_extended-at_most : (eq : K → K → Bool) (es : List (K × V)) (cap n : ℕ) (pairs : List (K × V))
-      → cap ≤ n
-      → length es ≤ n
-      → length (cache_extended eq es cap pairs) ≤ n
+      → cap ≤ n → length es ≤ n → length (cache_extended eq es cap pairs) ≤ n
   cache_extended-at_most eq es cap n [] c m = m
   cache_extended-at_most eq es cap n (p ∷ pairs) c m =
       let few = cache_put-at_most eq es cap p.0 p.1 in
       cache_extended-at_most eq (cache_put eq es cap p.0 p.1) cap n pairs c (omega arith)
 
   pub cache_use-at_most : (eq : K → K → Bool) (es : List (K × V)) (cap n : ℕ) (k : K) (v : V) → cap ≤ n
-      → length es ≤ n
-      → length (cache_use eq es cap k v) ≤ n
-  cache_use-at_most eq es cap n k v c m = by (lookup (eq k) es)
-    where
-      by : (o : Option V) → length (option_map_or (λ w. cache_get eq es k) o (cache_put eq es cap k v)) ≤ n
-      by None = let few = cache_put-at_most eq es cap k v in omega arith
-      by (Some w) = let same = length-moved eq es k (length es) in omega arith
+      → length es ≤ n → length (cache_use eq es cap k v) ≤ n
+  cache_use-at_most eq es cap n k v c m = elim (lookup (eq k) es)
+      as (λ o. length (option_map_or (λ w. cache_get eq es k) o (cache_put eq es cap k v)) ≤ n) [
+        | None ↦ omega (arith, cache_put-at_most eq es cap k v)
+        | Some w ↦ omega (arith, length-moved eq es k (length es))
+      ]
 
   pub IsEntries-cache_extended : (eq : K → K → Bool) → IsEquivalence eq
       → (es : List (K × V)) (cap : ℕ) (pairs : List (K × V)) → IsEntries eq es
@@ -148,8 +122,7 @@ module _ {K V : Type 0} where
 
 module _ {K V : Type 0} (eq : K → K → Bool) (laws : IsEquivalence eq) where
   pub lookup-cache_put : (q : K) (es : List (K × V)) (cap : ℕ) (k : K) (v : V) → IsEntries eq es → 1 ≤ cap
-      → eq k q ≡ true
-      → lookup (eq q) (cache_put eq es cap k v) ≡ Some v
+      → eq k q ≡ true → lookup (eq q) (cache_put eq es cap k v) ≡ Some v
   lookup-cache_put q es cap k v d c t =
       let zs = put eq es k v (length es) in
       let long = length-put eq es k v (length es) in
@@ -157,8 +130,7 @@ module _ {K V : Type 0} (eq : K → K → Bool) (laws : IsEquivalence eq) where
       (sym (last_entries-end zs cap)) (last_entries-some zs cap c (omega arith)) t
 
   pub lookup_entry-cache_put : (q : K) (es : List (K × V)) (cap : ℕ) (k : K) (v : V) (e : K × V)
-      → IsEntries eq es
-      → eq k q ≡ false → lookup_entry (eq q) (cache_put eq es cap k v) ≡ Some e
+      → IsEntries eq es → eq k q ≡ false → lookup_entry (eq q) (cache_put eq es cap k v) ≡ Some e
       → lookup_entry (eq q) es ≡ Some e
   lookup_entry-cache_put q es cap k v e d t l =
       let zs = put eq es k v (length es) in
@@ -172,33 +144,22 @@ module _ {K V : Type 0} (eq : K → K → Bool) (laws : IsEquivalence eq) where
 
   pub IsEntries-cache_use : (es : List (K × V)) (cap : ℕ) (k : K) (v : V) → IsEntries eq es
       → IsEntries eq (cache_use eq es cap k v)
-  IsEntries-cache_use es cap k v d = by (lookup (eq k) es)
-    where
-      by : (o : Option V) → IsEntries eq (option_map_or (λ w. cache_get eq es k) o (cache_put eq es cap k v))
-      by None = IsEntries-cache_put eq laws es cap k v d
-      by (Some w) = IsEntries-cache_get es k d
+  IsEntries-cache_use es cap k v d =
+      grind (arith, IsEntries-cache_put eq laws es cap k v d, IsEntries-cache_get es k d)
 
   pub lookup-cache_use : (q : K) (es : List (K × V)) (cap : ℕ) (k : K) (v : V) → IsEntries eq es → 1 ≤ cap
-      → eq k q ≡ true
-      → lookup (eq q) (cache_use eq es cap k v) ≡ Some (unwrap_or (lookup (eq k) es) v)
-  lookup-cache_use q es cap k v d c t = by (lookup (eq k) es) refl
-    where
-      by : (o : Option V) → lookup (eq k) es ≡ o
-          → lookup (eq q) (option_map_or (λ w. cache_get eq es k) o (cache_put eq es cap k v))
-          ≡ Some (unwrap_or o v)
-      by None l = lookup-cache_put q es cap k v d c t
-      by (Some w) l = lookup-moved eq laws q es k (length es) d ∙ sym (lookup-equal eq laws k q es t) ∙ l
+      → eq k q ≡ true → lookup (eq q) (cache_use eq es cap k v) ≡ Some (unwrap_or (lookup (eq k) es) v)
+  lookup-cache_use q es cap k v d c t =
+      elim (lookup (eq k) es) as (λ o. lookup (eq k) es ≡ o → lookup (eq q)
+      (option_map_or (λ w. cache_get eq es k) o (cache_put eq es cap k v)) ≡ Some (unwrap_or o v)) [
+        | None ↦ λ l. lookup-cache_put q es cap k v d c t
+        | Some w ↦ λ l. lookup-moved eq laws q es k (length es) d ∙ sym (lookup-equal eq laws k q es t) ∙ l
+      ] refl
 
   pub lookup_entry-cache_use : (q : K) (es : List (K × V)) (cap : ℕ) (k : K) (v : V) (e : K × V)
-      → IsEntries eq es
-      → eq k q ≡ false → lookup_entry (eq q) (cache_use eq es cap k v) ≡ Some e
+      → IsEntries eq es → eq k q ≡ false → lookup_entry (eq q) (cache_use eq es cap k v) ≡ Some e
       → lookup_entry (eq q) es ≡ Some e
-  lookup_entry-cache_use q es cap k v e d t = by (lookup (eq k) es) refl
-    where
-      by : (o : Option V) → lookup (eq k) es ≡ o
-          → lookup_entry (eq q) (option_map_or (λ w. cache_get eq es k) o (cache_put eq es cap k v)) ≡ Some e
-          → lookup_entry (eq q) es ≡ Some e
-      by None l f = lookup_entry-cache_put q es cap k v e d t f
-      by (Some w) l f =
-          sym (lookup_entry-put_other eq laws q es k w (length es) d t)
-          ∙ ap (lookup_entry (eq q)) (sym (moved-there eq es k (length es) w l)) ∙ f
+  lookup_entry-cache_use q es cap k v e d t f =
+      let apart : (w : V) → lookup_entry (eq q) (put eq es k w (length es)) ≡ lookup_entry (eq q) es
+      = λ w. lookup_entry-put_other eq laws q es k w (length es) d t in
+      grind (arith, lookup_entry-cache_put q es cap k v e d t, apart, moved_is eq es k (length es))

@@ -11,8 +11,7 @@ use Rattle.hashlink_model.proofs.Extends.{extended-own}
 
 module _ {K V : Type 0} (eq : K → K → Bool) (laws : IsEquivalence eq) (eqv : V → V → Bool) where
   none_cloned : (k : K) (xs ys : List (K × V))
-      → AllZip (λ p q. (eq p.0 q.0 ≡ true) × (eqv p.1 q.1 ≡ true)) xs ys
-      → NonePasses (eq k) xs
+      → AllZip (λ p q. (eq p.0 q.0 ≡ true) × (eqv p.1 q.1 ≡ true)) xs ys → NonePasses (eq k) xs
       → NonePasses (eq k) ys
   none_cloned k [] [] z n = tt
   none_cloned k [] (y ∷ ys) z n = absurd z
@@ -21,8 +20,7 @@ module _ {K V : Type 0} (eq : K → K → Bool) (laws : IsEquivalence eq) (eqv :
       (sym (answers_alike eq laws k x.0 y.0 z.0.0) ∙ n.0, none_cloned k xs ys z.1 n.1)
 
   pub IsEntries-cloned : (xs ys : List (K × V)) → IsEntries eq xs
-      → AllZip (λ p q. (eq p.0 q.0 ≡ true) × (eqv p.1 q.1 ≡ true)) xs ys
-      → IsEntries eq ys
+      → AllZip (λ p q. (eq p.0 q.0 ≡ true) × (eqv p.1 q.1 ≡ true)) xs ys → IsEntries eq ys
   IsEntries-cloned [] [] d z = d
   IsEntries-cloned [] (y ∷ ys) d z = absurd z
   IsEntries-cloned (x ∷ xs) [] d z = absurd z

@@ -1,12 +1,11 @@
 -- The laws of the comparisons of maps, from those of their keys and values.
-use Rattle.std.proofs.Common.{ap, Option, Some, ◌≡◌, Bool, true, ◌&&◌, List, [], ◌∷◌, ◌++◌, refl, sym, ap₂}
-use Rattle.std.proofs.Common.{◌∙◌, true≢false}
+use Rattle.std.proofs.Common.{Option, Some, ◌≡◌, Bool, true, ◌&&◌, List, [], ◌∷◌, ◌++◌, refl, sym, ap₂}
+use Rattle.std.proofs.Common.{true≢false, arith}
 use Rattle.std.specs.Cmp.{IsEquivalence, IsPartialEquivalence, IsPartialOrder, IsTotalOrder, on_per, and_per}
 use Rattle.std.specs.Cmp.{on_po, then_po, on_equiv, on_total, and_equiv, then_total}
 use Rattle.std.specs.Cmp.Lexicographic.{lists_per, lists_po, lists_equiv, lists_total, lists_ties}
 use Rattle.std.proofs.lemmas.Bool.{and_parts}
-use Rattle.std.specs.declared.cmp.Ordering.TheVariants.{Less, Equal, Greater}
-use Rattle.std.specs.Ordering.{partial_ordering_then, is_eq, eq_by_cmp, ordering_then}
+use Rattle.std.specs.Ordering.{eq_by_cmp, ordering_then}
 use Rattle.std.specs.declared.cmp.Ordering.{Ordering}
 use Rattle.hashlink_model.specs.Compare.{entries_eq, entries_cmp, entries_partial_cmp, entries_hash_input}
 use Rattle.hashlink_model.specs.Compare.{elements_eq, elements_hash_input}
@@ -18,37 +17,28 @@ module _ {K V : Type 0} where
       lists_equiv (and_equiv (on_equiv (λ (p : K × V). p.0) a) (on_equiv (λ (p : K × V). p.1) b))
 
   pub entries_eq_partial : (eqk : K → K → Bool) (eqv : V → V → Bool) → IsPartialEquivalence eqk
-      → IsPartialEquivalence eqv
-      → IsPartialEquivalence (entries_eq eqk eqv)
+      → IsPartialEquivalence eqv → IsPartialEquivalence (entries_eq eqk eqv)
   entries_eq_partial eqk eqv a b =
       lists_per (and_per (on_per (λ (p : K × V). p.0) a) (on_per (λ (p : K × V). p.1) b))
 
   pub entries_partial_order : (eqk : K → K → Bool) (eqv : V → V → Bool) (partk : K → K → Option Ordering)
-      (partv : V → V → Option Ordering)
-      → IsPartialOrder eqk partk → IsPartialOrder eqv partv
+      (partv : V → V → Option Ordering) → IsPartialOrder eqk partk → IsPartialOrder eqv partv
       → IsPartialOrder (entries_eq eqk eqv) (entries_partial_cmp partk partv)
   entries_partial_order eqk eqv partk partv a b =
       lists_po (then_po (on_po (λ (p : K × V). p.0) a) (on_po (λ (p : K × V). p.1) b))
 
   pub entries_cmp_total : (cmpk : K → K → Ordering) (cmpv : V → V → Ordering) → IsTotalOrder cmpk
-      → IsTotalOrder cmpv
-      → IsTotalOrder (entries_cmp cmpk cmpv)
+      → IsTotalOrder cmpv → IsTotalOrder (entries_cmp cmpk cmpv)
   entries_cmp_total cmpk cmpv a b =
       lists_total (then_total (on_total (λ (p : K × V). p.0) a) (on_total (λ (p : K × V). p.1) b))
 
   pub entries_ties : (eqk : K → K → Bool) (eqv : V → V → Bool) (cmpk : K → K → Ordering)
-      (cmpv : V → V → Ordering)
-      → ((x y : K) → eqk x y ≡ eq_by_cmp cmpk x y)
+      (cmpv : V → V → Ordering) → ((x y : K) → eqk x y ≡ eq_by_cmp cmpk x y)
       → ((x y : V) → eqv x y ≡ eq_by_cmp cmpv x y)
       → (xs ys : List (K × V)) → entries_eq eqk eqv xs ys ≡ eq_by_cmp (entries_cmp cmpk cmpv) xs ys
   entries_ties eqk eqv cmpk cmpv a b =
       lists_ties (λ p q. ordering_then (cmpk p.0 q.0) (cmpv p.1 q.1))
-      (λ p q. ap₂ ◌&&◌ (a p.0 q.0) (b p.1 q.1) ∙ both (cmpk p.0 q.0) (cmpv p.1 q.1))
-    where
-      both : (r s : Ordering) → (is_eq r && is_eq s) ≡ is_eq (ordering_then r s)
-      both Less s = refl
-      both Equal s = refl
-      both Greater s = refl
+      (λ p q. grind (arith, a p.0 q.0, b p.1 q.1))
 
   -- equal entries feed a hasher alike, where equal keys and equal values do
   pub entries_alike : {W : Type 0} (eqk : K → K → Bool) (eqv : V → V → Bool) (hashk : K → List W)
@@ -78,37 +68,16 @@ module _ {K V : Type 0} where
       λ i. (a x.0 y.0 pair.0 i, b x.1 y.1 pair.1 i) ∷ entries_eq_same eqk eqv a b xs ys parts.1 i
 
   pub entries_partial : (partk : K → K → Option Ordering) (partv : V → V → Option Ordering)
-      (cmpk : K → K → Ordering) (cmpv : V → V → Ordering)
-      → ((x y : K) → partk x y ≡ Some (cmpk x y))
+      (cmpk : K → K → Ordering) (cmpv : V → V → Ordering) → ((x y : K) → partk x y ≡ Some (cmpk x y))
       → ((x y : V) → partv x y ≡ Some (cmpv x y))
       → (xs ys : List (K × V)) → entries_partial_cmp partk partv xs ys ≡ Some (entries_cmp cmpk cmpv xs ys)
   entries_partial partk partv cmpk cmpv a b [] [] = refl
   entries_partial partk partv cmpk cmpv a b [] (y ∷ ys) = refl
   entries_partial partk partv cmpk cmpv a b (x ∷ xs) [] = refl
   entries_partial partk partv cmpk cmpv a b (x ∷ xs) (y ∷ ys) =
-      ap₂ (λ p q. partial_ordering_then (partial_ordering_then p q) (entries_partial_cmp partk partv xs ys))
-      (a x.0 y.0) (b x.1 y.1)
-      ∙ ap (partial_ordering_then (partial_ordering_then (Some (cmpk x.0 y.0)) (Some (cmpv x.1 y.1))))
-      (entries_partial partk partv cmpk cmpv a b xs ys)
-      ∙ by (cmpk x.0 y.0) (cmpv x.1 y.1) (entries_cmp cmpk cmpv xs ys)
-    where
-      by : (p q r : Ordering)
-          → partial_ordering_then (partial_ordering_then (Some p) (Some q)) (Some r)
-          ≡ Some (ordering_then (ordering_then p q) r)
-      by Less q r = refl
-      by Greater q r = refl
-      by Equal Less r = refl
-      by Equal Equal r = refl
-      by Equal Greater r = refl
+      grind (arith, a x.0 y.0, b x.1 y.1, entries_partial partk partv cmpk cmpv a b xs ys)
 
 module _ {T : Type 0} where
-  pub elements_eq_equiv : (eq : T → T → Bool) → IsEquivalence eq → IsEquivalence (elements_eq eq)
-  elements_eq_equiv eq laws = lists_equiv laws
-
-  pub elements_eq_partial : (eq : T → T → Bool) → IsPartialEquivalence eq
-      → IsPartialEquivalence (elements_eq eq)
-  elements_eq_partial eq laws = lists_per laws
-
   pub elements_alike : {W : Type 0} (eq : T → T → Bool) (hash : T → List W)
       → ((x y : T) → eq x y ≡ true → hash x ≡ hash y) → (xs ys : List T) → elements_eq eq xs ys ≡ true
       → elements_hash_input hash xs ≡ elements_hash_input hash ys

@@ -30,8 +30,7 @@ module _ {X : Type 0} (P : X → Type 0) where
   each-right (x ∷ xs) ys a = each-right xs ys a.1
 
 pub each-weaker : {X : Type 0} (P Q : X → Type 0) → ((x : X) → P x → Q x) → (xs : List X)
-    → AllByRecursion P xs
-    → AllByRecursion Q xs
+    → AllByRecursion P xs → AllByRecursion Q xs
 each-weaker P Q f [] a = tt
 each-weaker P Q f (x ∷ xs) a = (f x a.0, each-weaker P Q f xs a.1)
 
@@ -91,9 +90,7 @@ module _ {K V : Type 0} (eq : K → K → Bool) where
         (IsEntries-middle xs e ys (IsEntries-tail x (xs ++ e ∷ ys) d))
 
     pub IsEntries-insert : (xs : List (K × V)) (e : K × V) (ys : List (K × V))
-        → NonePasses (eq e.0) (xs ++ ys)
-        → IsEntries eq (xs ++ ys)
-        → IsEntries eq (xs ++ e ∷ ys)
+        → NonePasses (eq e.0) (xs ++ ys) → IsEntries eq (xs ++ ys) → IsEntries eq (xs ++ e ∷ ys)
     IsEntries-insert [] e ys n d = IsEntries-cons e ys n d
     IsEntries-insert (x ∷ xs) e ys n d =
         IsEntries-cons x (xs ++ e ∷ ys)

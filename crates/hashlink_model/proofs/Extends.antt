@@ -20,8 +20,7 @@ module _ {K V : Type 0} (eq : K → K → Bool) (laws : IsEquivalence eq) where
       let none = each-left _ es pairs (none_others eq laws es p pairs d) in
       let moved = append_assoc es (p ∷ []) pairs in
       ap (λ zs. extended eq zs pairs) (put_back_absent eq es p.0 p.1 none)
-      ∙ extended-absent (es ++ p ∷ []) pairs (rw moved d)
-      ∙ moved
+      ∙ extended-absent (es ++ p ∷ []) pairs (rw moved d) ∙ moved
 
   -- a list's own pairs, inserted in turn into an empty one, give the list
   pub extended-own : (es : List (K × V)) → IsEntries eq es → extended eq [] es ≡ es

@@ -1,15 +1,13 @@
 -- What a look-up finds: at the key of an entry, and at every other key.
-use Rattle.std.proofs.Common.{◌≡◌, Bool, true, false, cond, List, [], ◌∷◌, ◌++◌, Option, None, Some, refl}
-use Rattle.std.proofs.Common.{sym, ap, ◌∙◌, ◌⊎◌, inl, inr, subst}
+use Rattle.std.proofs.Common.{◌≡◌, Bool, true, false, cond, List, [], ◌∷◌, ◌++◌, Option, None, Some, refl, ap}
+use Rattle.std.proofs.Common.{arith}
 use Rattle.std.specs.Option.{option_map}
 use Rattle.std.specs.Cmp.{IsEquivalence}
 use Rattle.std.specs.Map.{lookup, lookup_entry, lookup_key}
 use Rattle.std.proofs.lemmas.Map.{NonePasses}
-use Rattle.std.proofs.lemmas.Bool.{both_ways}
 use Rattle.hashlink_model.specs.Entries.{IsEntries, without, stored_key}
-use Rattle.hashlink_model.proofs.Splits.{Stands, splits, lookup_key-none, lookup_key-here, lookup_entry-none}
-use Rattle.hashlink_model.proofs.Splits.{remove_entry-here, remove_entry-none}
-use Rattle.hashlink_model.proofs.Distinct.{none_equal, none_others}
+use Rattle.hashlink_model.proofs.Splits.{lookup_entry-none}
+use Rattle.hashlink_model.proofs.Distinct.{none_equal, IsEntries-head, IsEntries-tail}
 
 pub option_map-cond : {X Y : Type 0} (f : X → Y) (b : Bool) (x y : Option X)
     → option_map f (cond b x y) ≡ cond b (option_map f x) (option_map f y)
@@ -19,84 +17,42 @@ option_map-cond f false x y = refl
 module _ {K V : Type 0} (test : K → Bool) where
   pub lookup_is : (es : List (K × V)) → lookup test es ≡ option_map (λ e. e.1) (lookup_entry test es)
   lookup_is [] = refl
-  lookup_is (e ∷ es) =
-      ap (cond (test e.0) (Some e.1)) (lookup_is es)
-      ∙ sym (option_map-cond (λ e. e.1) (test e.0) (Some e) (lookup_entry test es))
+  lookup_is (e ∷ es) = grind (arith, lookup_is es)
 
   pub lookup_key_is : (es : List (K × V)) → lookup_key test es ≡ option_map (λ e. e.0) (lookup_entry test es)
   lookup_key_is [] = refl
-  lookup_key_is (e ∷ es) =
-      ap (cond (test e.0) (Some e.0)) (lookup_key_is es)
-      ∙ sym (option_map-cond (λ e. e.0) (test e.0) (Some e) (lookup_entry test es))
+  lookup_key_is (e ∷ es) = grind (arith, lookup_key_is es)
 
 module _ {K V : Type 0} (eq : K → K → Bool) (laws : IsEquivalence eq) where
-  -- the stored key is equal to the one that is asked for
-  stored_by : (k : K) (es : List (K × V)) → NonePasses (eq k) es ⊎ Stands (eq k) es
-      → eq k (stored_key eq es k) ≡ true
-  stored_by k es (inl n) = rw (lookup_key-none (eq k) es n) (laws.refl k)
-  stored_by k es (inr s) = rw (s.3.is, lookup_key-here (eq k) s.1 s.2 s.3.passes s.0 s.3.before) s.3.passes
-
   pub stored_key-equal : (k : K) (es : List (K × V)) → eq k (stored_key eq es k) ≡ true
-  stored_key-equal k es = stored_by k es (splits (eq k) es)
+  stored_key-equal k [] = laws.refl k
+  stored_key-equal k (e ∷ es) = grind (arith, stored_key-equal k es)
 
   -- an equal key is asked for alike
   pub lookup_entry-equal : (k q : K) (es : List (K × V)) → eq k q ≡ true
       → lookup_entry (eq k) es ≡ lookup_entry (eq q) es
   lookup_entry-equal k q [] t = refl
-  lookup_entry-equal k q (x ∷ es) t =
-      rw (laws.congr k q x.0 t) (ap (cond (eq q x.0) (Some x)) (lookup_entry-equal k q es t))
+  lookup_entry-equal k q (x ∷ es) t = grind (arith, laws.congr k q x.0 t, lookup_entry-equal k q es t)
 
   pub lookup-equal : (k q : K) (es : List (K × V)) → eq k q ≡ true → lookup (eq k) es ≡ lookup (eq q) es
-  lookup-equal k q es t =
-      lookup_is (eq k) es ∙ ap (option_map (λ e. e.1)) (lookup_entry-equal k q es t)
-      ∙ sym (lookup_is (eq q) es)
+  lookup-equal k q [] t = refl
+  lookup-equal k q (x ∷ es) t = grind (arith, laws.congr k q x.0 t, lookup-equal k q es t)
 
   -- ---- with one entry more
-
-  past : (q : K) (e x : K × V) (zs : List (K × V)) (b c : Bool) → eq q x.0 ≡ b → eq e.0 q
-      ≡ c → eq e.0 x.0 ≡ false
-      → cond b (Some x) (cond c (Some e) (lookup_entry (eq q) zs))
-      ≡ cond c (Some e) (cond b (Some x) (lookup_entry (eq q) zs))
-  past q e x zs false c p r a = refl
-  past q e x zs true false p r a = refl
-  past q e x zs true true p r a = absurd (both_ways (eq e.0 x.0) a (laws.congr e.0 q x.0 r ∙ p))
 
   pub lookup_entry-middle : (q : K) (e : K × V) (ys xs : List (K × V)) → NonePasses (eq e.0) (xs ++ ys)
       → lookup_entry (eq q) (xs ++ e ∷ ys) ≡ cond (eq e.0 q) (Some e) (lookup_entry (eq q) (xs ++ ys))
   lookup_entry-middle q e ys [] n = ap (λ b. cond b (Some e) (lookup_entry (eq q) ys)) (laws.symm q e.0)
   lookup_entry-middle q e ys (x ∷ xs) n =
-      ap (cond (eq q x.0) (Some x)) (lookup_entry-middle q e ys xs n.1)
-      ∙ past q e x (xs ++ ys) (eq q x.0) (eq e.0 q) refl refl n.0
+      grind (arith, lookup_entry-middle q e ys xs n.1, n.0, laws.congr e.0 q x.0)
 
   -- ---- without a key
 
-  without_by : (q k : K) (es : List (K × V)) → IsEntries eq es → NonePasses (eq k) es ⊎ Stands (eq k) es
-      → lookup_entry (eq q) (without eq es k) ≡ cond (eq k q) None (lookup_entry (eq q) es)
-  without_by q k es d (inl n) = rw (remove_entry-none (eq k) es n) (gone (eq k q) refl)
-    where
-      gone : (b : Bool) → eq k q ≡ b → lookup_entry (eq q) es ≡ cond b None (lookup_entry (eq q) es)
-      gone false t = refl
-      gone true t = lookup_entry-none (eq q) es (none_equal eq laws k q es t n)
-  without_by q k es d (inr s) =
-      let there = subst (IsEntries eq) s.3.is d in
-      let others = none_others eq laws s.0 s.1 s.2 there in
-      rw (
-        s.3.is,
-        remove_entry-here (eq k) s.1 s.2 s.3.passes s.0 s.3.before,
-        lookup_entry-middle q s.1 s.2 s.0
-            others,
-        ← laws.congr k s.1.0 q s.3.passes,
-      )
-      (left (eq k q) refl others)
-    where
-      left : (b : Bool) → eq k q ≡ b → NonePasses (eq s.1.0) (s.0 ++ s.2)
-          → lookup_entry (eq q) (s.0 ++ s.2)
-          ≡ cond b None (cond b (Some s.1) (lookup_entry (eq q) (s.0 ++ s.2)))
-      left false t o = refl
-      left true t o =
-          lookup_entry-none (eq q) (s.0 ++ s.2)
-          (none_equal eq laws s.1.0 q (s.0 ++ s.2) (sym (laws.congr k s.1.0 q s.3.passes) ∙ t) o)
-
   pub lookup_entry-without : (q k : K) (es : List (K × V)) → IsEntries eq es
       → lookup_entry (eq q) (without eq es k) ≡ cond (eq k q) None (lookup_entry (eq q) es)
-  lookup_entry-without q k es d = without_by q k es d (splits (eq k) es)
+  lookup_entry-without q k [] d = grind arith
+  lookup_entry-without q k (e ∷ es) d =
+      let gone : eq e.0 q ≡ true → lookup_entry (eq q) es ≡ None
+      = λ t. lookup_entry-none (eq q) es (none_equal eq laws e.0 q es t (IsEntries-head eq e es d)) in
+      let rest = lookup_entry-without q k es (IsEntries-tail eq e es d) in
+      grind (arith, gone, rest, laws.symm q e.0, laws.congr k e.0 q, laws.congr k q e.0)

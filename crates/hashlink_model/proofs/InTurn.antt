@@ -19,8 +19,7 @@ module _ {K V S : Type 0} (eq : K → K → Bool) where
   inserted old new p (Some v) s = s.puts.entries
 
   pub accepts_entries : (old new : MapState K V S) (items : List (K × V))
-      → AcceptsAll (InsertsPair eq) old items new
-      → new.entries ≡ extended eq old.entries items
+      → AcceptsAll (InsertsPair eq) old items new → new.entries ≡ extended eq old.entries items
   accepts_entries old new [] s = ap (λ m. m.entries) s
   accepts_entries old new (p ∷ items) s =
       accepts_entries s.0 new items s.3 ∙ ap (λ es. extended eq es items) (inserted old s.0 p s.1 s.2)
@@ -28,17 +27,14 @@ module _ {K V S : Type 0} (eq : K → K → Bool) where
   -- each item uses one spare node at most
   spare_inserted : (old new : MapState K V S) (p : K × V) (w : Option V) → InsertsPair eq old new p (Ok w)
       → old.spare ≤ new.spare + 1
-  spare_inserted old new p None s = let e = s.adds.spare in omega arith
-  spare_inserted old new p (Some v) s = let e = s.puts.spare in omega arith
+  spare_inserted old new p None s = omega arith
+  spare_inserted old new p (Some v) s = omega arith
 
   accepts_spare : (old new : MapState K V S) (items : List (K × V))
-      → AcceptsAll (InsertsPair eq) old items new
-      → old.spare ≤ new.spare + length items
-  accepts_spare old new [] s = let e = ap (λ m. m.spare) s in omega arith
+      → AcceptsAll (InsertsPair eq) old items new → old.spare ≤ new.spare + length items
+  accepts_spare old new [] s = omega (arith, ap (λ m. m.spare) s)
   accepts_spare old new (p ∷ items) s =
-      let one = spare_inserted old s.0 p s.1 s.2 in
-      let rest = accepts_spare s.0 new items s.3 in
-      omega arith
+      omega (arith, spare_inserted old s.0 p s.1 s.2, accepts_spare s.0 new items s.3)
 
   module _ (old new : MapState K V S) (items : List (K × V)) (taken : ℕ) (back : K × V) (left : List (K × V))
       (s : StopsAt (InsertsPair eq) old items new taken back left) where
@@ -49,31 +45,23 @@ module _ {K V S : Type 0} (eq : K → K → Bool) where
     stops_handed_back = s.refused.handed_back
 
     pub stops_taken : (taken ≤ 2 ^ 64 - 1) × (length s.before < 2 ^ 64 → taken ≡ length s.before)
-    stops_taken = let c = s.count in (omega arith, λ l. omega arith)
+    stops_taken = (omega arith, λ l. omega arith)
 
     -- only where the spare nodes are used up
     pub stops_late : old.spare < length items
     stops_late =
-        let used = accepts_spare old s.between s.before s.accepted in
-        let none = s.refused.may_refuse.no_spare in
-        let long = ap length s.is in
         let parts = length-append s.before (s.item ∷ left) in
-        omega arith
+        omega (arith, accepts_spare old s.between s.before s.accepted, ap length s.is)
 
   pub drained_takes : (a old new : MapState K V S) (items : List (K × V)) (taken : ℕ) (back : K × V)
-      (left : List (K × V))
-      → Drains a old
-      → length items ≤ a.spare + length a.entries
+      (left : List (K × V)) → Drains a old → length items ≤ a.spare + length a.entries
       → StopsAt (InsertsPair eq) old items new taken back left → ⊥
   drained_takes a old new items taken back left d l s =
-      let late = stops_late old new items taken back left s in
-      let spare = d.spare in
-      omega arith
+      omega (arith, stops_late old new items taken back left s)
 
 -- of two items the last one was refused where none is left after it
 pub refused_of_two : {X : Type 0} (xs : List X) (x a b : X) → a ∷ b ∷ [] ≡ xs ++ x ∷ []
     → (xs ≡ a ∷ []) × (x ≡ b)
-refused_of_two [] x a b e = let n = ap length e in absurd (omega arith)
+refused_of_two [] x a b e = absurd (omega (arith, ap length e))
 refused_of_two (y ∷ []) x a b e = (cc, cc)
-refused_of_two (y ∷ z ∷ zs) x a b e = let n = ap length e in let m =
-    length-append zs (x ∷ []) in absurd (omega arith)
+refused_of_two (y ∷ z ∷ zs) x a b e = absurd (omega (arith, ap length e, length-append zs (x ∷ [])))

@@ -1,6 +1,6 @@
 -- What a lazy walk over two sets gives, and its size hints.
 use Rattle.std.proofs.Common.{◌≡◌, ◌+◌, ◌≤◌, Bool, true, false, not, cond, List, [], ◌∷◌, ◌++◌, length}
-use Rattle.std.proofs.Common.{filter, Option, None, Some, refl, ap, arith, length-append, le_refl, suc-le-suc}
+use Rattle.std.proofs.Common.{filter, Option, None, Some, refl, ap, arith, length-append, le_refl}
 use Rattle.std.specs.Map.Iter.{TakesFirst}
 use Rattle.std.specs.Set.{is_member}
 use Rattle.hashlink_model.specs.Algebra.{PairWalk, first_passing, left_to_give, left_or_right, pair_step}
@@ -11,18 +11,13 @@ module _ {T : Type 0} where
   filter-all [] = refl
   filter-all (x ∷ xs) = ap (λ r. x ∷ r) (filter-all xs)
 
-  passing_by : (p : T → Bool) (x : T) (xs : List T) (b : Bool)
-      → TakesFirst (λ y. y) (filter p xs) (first_passing p xs).0 (filter p (first_passing p xs).1)
-      → TakesFirst (λ y. y) (cond b (x ∷ filter p xs) (filter p xs))
-      (cond b (Some x, xs) (first_passing p xs)).0
-      (filter p (cond b (Some x, xs) (first_passing p xs)).1)
-  passing_by p x xs true h = refl
-  passing_by p x xs false h = h
-
   pub first_passing-takes : (p : T → Bool) (xs : List T)
       → TakesFirst (λ y. y) (filter p xs) (first_passing p xs).0 (filter p (first_passing p xs).1)
   first_passing-takes p [] = (refl, refl)
-  first_passing-takes p (x ∷ xs) = passing_by p x xs (p x) (first_passing-takes p xs)
+  first_passing-takes p (x ∷ xs) = elim (p x)
+      as (λ b. TakesFirst (λ y. y) (cond b (x ∷ filter p xs) (filter p xs))
+      (cond b (Some x, xs) (first_passing p xs)).0 (filter p (cond b (Some x, xs) (first_passing p xs)).1))
+      [ true ↦ refl | false ↦ first_passing-takes p xs ]
 
   step_by : (p q : T → Bool) (ls ys : List T) (o : Option T) (xs : List T)
       → TakesFirst (λ y. y) (filter p ls) o (filter p xs)
@@ -46,31 +41,22 @@ module _ {T : Type 0} where
     union_walk = ap (λ r. r ++ difference_of eq ys xs) (filter-all xs)
 
     pub symmetric_difference_walk : left_to_give (λ x. not (is_member eq ys x)) (λ y. not (is_member eq xs y))
-        (record { left = xs; right = ys })
-        ≡ symmetric_difference_of eq xs ys
+        (record { left = xs; right = ys }) ≡ symmetric_difference_of eq xs ys
     symmetric_difference_walk = refl
 
   -- ---- size hints
 
   pub length-filter-le : (p : T → Bool) (xs : List T) → length (filter p xs) ≤ length xs
   length-filter-le p [] = le_refl 0
-  length-filter-le p (x ∷ xs) = by (p x) (length-filter-le p xs)
-    where
-      by : (b : Bool) → length (filter p xs) ≤ length xs
-          → length (cond b (x ∷ filter p xs) (filter p xs)) ≤ length (x ∷ xs)
-      by true h = suc-le-suc h
-      by false h = omega arith
+  length-filter-le p (x ∷ xs) = grind (arith, length-filter-le p xs)
 
   pub left_to_give-at_most : (p q : T → Bool) (w : PairWalk T)
       → length (left_to_give p q w) ≤ length w.left + length w.right
   left_to_give-at_most p q w =
-      let a = length-append (filter p w.left) (filter q w.right) in
-      let b = length-filter-le p w.left in
-      let c = length-filter-le q w.right in
-      omega arith
+      let both = length-append (filter p w.left) (filter q w.right) in
+      omega (arith, length-filter-le p w.left, length-filter-le q w.right)
 
   pub union-at_least : (q : T → Bool) (w : PairWalk T) → length w.left ≤ length (left_to_give (λ _. true) q w)
   union-at_least q w =
-      let a = length-append (filter (λ _. true) w.left) (filter q w.right) in
-      let b = ap length (filter-all w.left) in
-      omega arith
+      let both = length-append (filter (λ _. true) w.left) (filter q w.right) in
+      omega (arith, ap length (filter-all w.left))

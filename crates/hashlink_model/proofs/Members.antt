@@ -1,11 +1,11 @@
 -- What set algebra gives: its members, its order, and that its elements stay pairwise unequal.
-use Rattle.std.proofs.Common.{◌≡◌, Bool, true, false, not, ◌&&◌, ◌||◌, cond, List, [], ◌∷◌, ◌++◌, filter}
-use Rattle.std.proofs.Common.{refl, sym, ap, ap₂, ◌∙◌, true≢false}
+use Rattle.std.proofs.Common.{◌≡◌, Bool, true, false, not, ◌&&◌, ◌||◌, cond, List, [], ◌∷◌, ◌++◌, filter, sym}
+use Rattle.std.proofs.Common.{refl, ap, ap₂, ◌∙◌, true≢false, arith}
 use Rattle.std.specs.Cmp.{IsEquivalence}
 use Rattle.std.specs.List.{IsDistinct, AllByRecursion}
 use Rattle.std.specs.Set.{is_member, IsUnion, IsIntersection, IsDifference, IsSymmetricDifference}
 use Rattle.std.proofs.lemmas.Map.Made.{is_member-filter, All-is_member}
-use Rattle.std.proofs.lemmas.Bool.{both_ways, not-true}
+use Rattle.std.proofs.lemmas.Bool.{both_ways}
 use Rattle.std.proofs.lemmas.List.Elements.{recursion_from_All, filter_passes}
 use Rattle.hashlink_model.proofs.Distinct.{each-append, each-weaker}
 use Rattle.hashlink_model.specs.Algebra.{difference_of, intersection_of, union_of, symmetric_difference_of}
@@ -20,13 +20,7 @@ module _ {T : Type 0} (eq : T → T → Bool) (laws : IsEquivalence eq) where
   pub is_member-append : (xs ys : List T) (q : T)
       → is_member eq (xs ++ ys) q ≡ (is_member eq xs q || is_member eq ys q)
   is_member-append [] ys q = refl
-  is_member-append (x ∷ xs) ys q =
-      ap (λ b. eq q x || b) (is_member-append xs ys q)
-      ∙ or_assoc (eq q x) (is_member eq xs q) (is_member eq ys q)
-    where
-      or_assoc : (a b c : Bool) → (a || (b || c)) ≡ ((a || b) || c)
-      or_assoc true b c = refl
-      or_assoc false b c = refl
+  is_member-append (x ∷ xs) ys q = grind (arith, is_member-append xs ys q)
 
   -- ---- members
 
@@ -40,42 +34,20 @@ module _ {T : Type 0} (eq : T → T → Bool) (laws : IsEquivalence eq) where
 
   pub union_members : (xs ys : List T) → IsUnion eq xs ys (union_of eq xs ys)
   union_members xs ys q =
-      is_member-append xs (difference_of eq ys xs) q
-      ∙ ap (λ b. is_member eq xs q || b) (difference_members ys xs q)
-      ∙ either (is_member eq xs q) (is_member eq ys q)
-    where
-      either : (a b : Bool) → (a || (b && not a)) ≡ (a || b)
-      either true b = refl
-      either false true = refl
-      either false false = refl
+      grind (arith, is_member-append xs (difference_of eq ys xs) q, difference_members ys xs q)
 
   pub symmetric_difference_members : (xs ys : List T)
       → IsSymmetricDifference eq xs ys (symmetric_difference_of eq xs ys)
   symmetric_difference_members xs ys q =
-      is_member-append (difference_of eq xs ys) (difference_of eq ys xs) q
-      ∙ ap₂ ◌||◌ (difference_members xs ys q) (difference_members ys xs q)
-      ∙ one (is_member eq xs q) (is_member eq ys q)
-    where
-      one : (a b : Bool) → ((a && not b) || (b && not a)) ≡ cond a (not b) b
-      one true true = refl
-      one true false = refl
-      one false true = refl
-      one false false = refl
+      let both = is_member-append (difference_of eq xs ys) (difference_of eq ys xs) q in
+      grind (arith, both, difference_members xs ys q, difference_members ys xs q)
 
   -- ---- elements stay pairwise unequal
 
   pub none_from_is_member : (xs : List T) (q : T) → is_member eq xs q ≡ false
       → AllByRecursion (λ y. eq q y ≡ false) xs
   none_from_is_member [] q m = tt
-  none_from_is_member (x ∷ xs) q m = (first (eq q x) m, none_from_is_member xs q (rest (eq q x) m))
-    where
-      first : (b : Bool) → (b || is_member eq xs q) ≡ false → b ≡ false
-      first true e = e
-      first false e = refl
-
-      rest : (b : Bool) → (b || is_member eq xs q) ≡ false → is_member eq xs q ≡ false
-      rest true e = absurd (true≢false e)
-      rest false e = e
+  none_from_is_member (x ∷ xs) q m = (grind arith, none_from_is_member xs q (grind arith))
 
   pub is_member_from_none : (xs : List T) (q : T) → AllByRecursion (λ y. eq q y ≡ false) xs
       → is_member eq xs q ≡ false
@@ -83,30 +55,22 @@ module _ {T : Type 0} (eq : T → T → Bool) (laws : IsEquivalence eq) where
   is_member_from_none (x ∷ xs) q n = rw n.0 (is_member_from_none xs q n.1)
 
   none_filtered : (p : T → Bool) → ((x y : T) → eq x y ≡ true → p x ≡ p y) → (x : T) (xs : List T)
-      → AllByRecursion (λ y. eq x y ≡ false) xs
-      → AllByRecursion (λ y. eq x y ≡ false) (filter p xs)
+      → AllByRecursion (λ y. eq x y ≡ false) xs → AllByRecursion (λ y. eq x y ≡ false) (filter p xs)
   none_filtered p same x xs n =
       none_from_is_member (filter p xs) x
       (is_member-filter laws p x (λ y t. same x y t) xs ∙ ap (λ b. b && p x) (is_member_from_none xs x n))
 
-  distinct_by : (p : T → Bool) (x : T) (zs : List T) (b : Bool) → AllByRecursion (λ y. eq x y ≡ false) zs
-      → IsDistinct eq zs
-      → IsDistinct eq (cond b (x ∷ zs) zs)
-  unfolding IsDistinct
-  distinct_by p x zs true n d = (n, d)
-  distinct_by p x zs false n d = d
-
   pub IsDistinct-filter : (p : T → Bool) → ((x y : T) → eq x y ≡ true → p x ≡ p y)
-      → (xs : List T) → IsDistinct eq xs
-      → IsDistinct eq (filter p xs)
+      → (xs : List T) → IsDistinct eq xs → IsDistinct eq (filter p xs)
   unfolding IsDistinct
   IsDistinct-filter p same [] d = d
   IsDistinct-filter p same (x ∷ xs) d =
-      distinct_by p x (filter p xs) (p x) (none_filtered p same x xs d.0) (IsDistinct-filter p same xs d.1)
+      let rest = IsDistinct-filter p same xs d.1 in
+      elim (p x) as (λ b. IsDistinct eq (cond b (x ∷ filter p xs) (filter p xs)))
+      [ true ↦ (none_filtered p same x xs d.0, rest) | false ↦ rest ]
 
   pub IsDistinct-append : (xs ys : List T) → IsDistinct eq xs → IsDistinct eq ys
-      → AllByRecursion (λ x. is_member eq ys x ≡ false) xs
-      → IsDistinct eq (xs ++ ys)
+      → AllByRecursion (λ x. is_member eq ys x ≡ false) xs → IsDistinct eq (xs ++ ys)
   unfolding IsDistinct
   IsDistinct-append [] ys d e a = e
   IsDistinct-append (x ∷ xs) ys d e a =
@@ -122,12 +86,7 @@ module _ {T : Type 0} (eq : T → T → Bool) (laws : IsEquivalence eq) where
 
   beyond_left : (xs ys : List T) (x : T) → is_member eq xs x ≡ true
       → is_member eq (difference_of eq ys xs) x ≡ false
-  beyond_left xs ys x m =
-      difference_members ys xs x ∙ ap (λ b. is_member eq ys x && not b) m ∙ and_false (is_member eq ys x)
-    where
-      and_false : (b : Bool) → (b && false) ≡ false
-      and_false true = refl
-      and_false false = refl
+  beyond_left xs ys x m = grind (arith, difference_members ys xs x)
 
   pub IsDistinct-union : (xs ys : List T) → IsDistinct eq xs → IsDistinct eq ys
       → IsDistinct eq (union_of eq xs ys)
@@ -137,15 +96,13 @@ module _ {T : Type 0} (eq : T → T → Bool) (laws : IsEquivalence eq) where
 
   outside : (ys zs : List T) (x : T) → not (is_member eq ys x) ≡ true
       → is_member eq (difference_of eq ys zs) x ≡ false
-  outside ys zs x m =
-      difference_members ys zs x ∙ ap (λ b. b && not (is_member eq zs x)) (not-true (is_member eq ys x) m)
+  outside ys zs x m = grind (arith, difference_members ys zs x)
 
   pub IsDistinct-symmetric_difference : (xs ys : List T) → IsDistinct eq xs → IsDistinct eq ys
       → IsDistinct eq (symmetric_difference_of eq xs ys)
   IsDistinct-symmetric_difference xs ys d e =
       IsDistinct-append (difference_of eq xs ys) (difference_of eq ys xs) (IsDistinct-difference xs ys d)
-      (IsDistinct-difference ys xs e)
-      (each-weaker _ _ (λ x m. outside ys xs x m) (difference_of eq xs ys)
+      (IsDistinct-difference ys xs e) (each-weaker _ _ (λ x m. outside ys xs x m) (difference_of eq xs ys)
       (recursion_from_All _ _ (filter_passes (λ x. not (is_member eq ys x)) xs)))
 
   -- ---- subset and disjoint, by membership
@@ -159,43 +116,21 @@ module _ {T : Type 0} (eq : T → T → Bool) (laws : IsEquivalence eq) where
   nil_from_none (z ∷ zs) f =
       absurd (both_ways (is_member eq (z ∷ zs) z) (f z) (ap (λ b. b || is_member eq zs z) (laws.refl z)))
 
-  and_not : (a b : Bool) → (a && not b) ≡ false → a ≡ true → b ≡ true
-  and_not a true e t = refl
-  and_not true false e t = absurd (true≢false e)
-  and_not false false e t = absurd (true≢false (sym t))
-
   pub subset_is : (xs ys : List T) → is_subset eq xs ys ≡ true → (q : T) → is_member eq xs q ≡ true
       → is_member eq ys q ≡ true
-  subset_is xs ys s q m =
-      and_not (is_member eq xs q) (is_member eq ys q)
-      (sym (difference_members xs ys q) ∙ nil_has_none (difference_of eq xs ys) s q) m
-
-  implied : (a b : Bool) → (a ≡ true → b ≡ true) → (a && not b) ≡ false
-  implied true b f = ap not (f refl)
-  implied false b f = refl
+  subset_is xs ys s q m = grind (arith, difference_members xs ys q, nil_has_none (difference_of eq xs ys) s q)
 
   pub subset_from : (xs ys : List T) → ((q : T) → is_member eq xs q ≡ true → is_member eq ys q ≡ true)
       → is_subset eq xs ys ≡ true
   subset_from xs ys f =
-      nil_from_none (difference_of eq xs ys)
-      (λ q. difference_members xs ys q ∙ implied (is_member eq xs q) (is_member eq ys q) (f q))
-
-  not_both : (a b : Bool) → (a && b) ≡ false → a ≡ true → b ≡ false
-  not_both true b e t = e
-  not_both false b e t = absurd (true≢false (sym t))
+      nil_from_none (difference_of eq xs ys) (λ q. grind (arith, difference_members xs ys q, f q))
 
   pub disjoint_is : (xs ys : List T) → is_disjoint eq xs ys ≡ true → (q : T) → is_member eq xs q ≡ true
       → is_member eq ys q ≡ false
   disjoint_is xs ys s q m =
-      not_both (is_member eq xs q) (is_member eq ys q)
-      (sym (intersection_members xs ys q) ∙ nil_has_none (intersection_of eq xs ys) s q) m
-
-  apart_both : (a b : Bool) → (a ≡ true → b ≡ false) → (a && b) ≡ false
-  apart_both true b f = f refl
-  apart_both false b f = refl
+      grind (arith, intersection_members xs ys q, nil_has_none (intersection_of eq xs ys) s q)
 
   pub disjoint_from : (xs ys : List T) → ((q : T) → is_member eq xs q ≡ true → is_member eq ys q ≡ false)
       → is_disjoint eq xs ys ≡ true
   disjoint_from xs ys f =
-      nil_from_none (intersection_of eq xs ys)
-      (λ q. intersection_members xs ys q ∙ apart_both (is_member eq xs q) (is_member eq ys q) (f q))
+      nil_from_none (intersection_of eq xs ys) (λ q. grind (arith, intersection_members xs ys q, f q))

@@ -14,8 +14,7 @@ use Rattle.hashlink_model.proofs.Splits.{key_from_lookup}
 pub moved_last : {K V S : Type 0} (eq : K → K → Bool) → IsEquivalence eq
     → (old new : MapState K V S) (k : K) (w : V)
     → IsEntries eq old.entries → lookup (eq k) old.entries ≡ Some w
-    → MovesAndWrites eq old new k (length old.entries) w
-    → Moves eq old new k (length old.entries) (Some w)
+    → MovesAndWrites eq old new k (length old.entries) w → Moves eq old new k (length old.entries) (Some w)
 moved_last eq laws old new k w d at s =
     let b = length old.entries in
     let stands : lookup (eq k) s.between.entries ≡ Some w
@@ -25,14 +24,12 @@ moved_last eq laws old new k w d at s =
     (set_value_same (eq k) s.between.entries w stands) in
     record {
       answer = sym at;
-      step = subst (λ m. Changes old m (moved eq old.entries k b) 6)
-          (sym same) s.moves;
+      step = subst (λ m. Changes old m (moved eq old.entries k b) 6) (sym same) s.moves;
     }
 
 -- the same by a test of keys
 pub moved_match_last : {K V S : Type 0} (eq : K → K → Bool) → IsEquivalence eq → (test : K → Bool)
-    → IsKeyTest eq test
-    → (old new : MapState K V S) (w : V)
+    → IsKeyTest eq test → (old new : MapState K V S) (w : V)
     → IsEntries eq old.entries → lookup test old.entries ≡ Some w
     → MovesMatchAndWrites test old new (length old.entries) w
     → MovesMatch test old new (length old.entries) (Some w)

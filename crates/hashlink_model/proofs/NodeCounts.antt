@@ -1,13 +1,13 @@
 -- What follows from the steps between two states of a map.
-use Rattle.std.proofs.Common.{◌≡◌, ℕ, ◌+◌, ◌-◌, ◌*◌, ◌≤◌, max, MatchOption, sym, List, [], length, Bool, true}
+use Rattle.std.proofs.Common.{◌≡◌, ℕ, max, sym, List, length, Bool, true}
 use Rattle.std.proofs.Common.{false, is_some, Option, None, Some, Result, Ok, Err, refl, ap, ◌∙◌, arith}
 use Rattle.std.specs.Cmp.{IsEquivalence}
 use Rattle.std.specs.Map.{keys_of, lookup, lookup_entry, set_value}
 use Rattle.std.proofs.lemmas.Map.{keys-set_value, length-set_value, lookup-set_value}
 use Rattle.hashlink_model.specs.Entries.{IsEntries, put, moved}
-use Rattle.hashlink_model.specs.MapState.{MapState, node_count, HasRoom, Changes, Adds, Removes, Grows}
+use Rattle.hashlink_model.specs.MapState.{MapState, node_count, HasRoom, Changes, Adds, Removes}
 use Rattle.hashlink_model.specs.MapState.{PutsEntry, Inserts}
-use Rattle.hashlink_model.specs.Steps.{KeepsOnly, WritesEntry, Moves, MovesMatch, Drains, Reserves, Shrinks}
+use Rattle.hashlink_model.specs.Steps.{KeepsOnly, WritesEntry, Moves, MovesMatch, Shrinks}
 use Rattle.hashlink_model.proofs.Puts.{lookup_entry-set_value_other}
 use Rattle.hashlink_model.proofs.Afterwards.{length-put_there, length-moved, moved-absent, lookup-moved}
 use Rattle.hashlink_model.proofs.Afterwards.{IsEntries-moved, length-moved_match}
@@ -15,92 +15,47 @@ use Rattle.hashlink_model.proofs.Afterwards.{IsEntries-moved, length-moved_match
 module _ {K V S : Type 0} (old new : MapState K V S) where
   pub node_count-adds : (es : List (K × V)) → Adds old new es
       → node_count new ≡ max (node_count old) (length new.entries)
-  node_count-adds es s = let same = ap length s.entries in let more = s.more in let spare =
-      s.spare in omega arith
+  node_count-adds es s = omega (arith, ap length s.entries)
 
   pub node_count-removes : (es : List (K × V)) → Removes old new es → node_count new ≡ node_count old
-  node_count-removes es s = let same = ap length s.entries in let fewer = s.fewer in let spare =
-      s.spare in omega arith
+  node_count-removes es s = omega (arith, ap length s.entries)
 
-  pub HasRoom-removes : (es : List (K × V)) → Removes old new es → HasRoom old → HasRoom new
-  HasRoom-removes es s h = let n = node_count-removes es s in let r = s.room in omega arith
-
-  pub HasRoom-grows : (n : ℕ) → Grows n old new → HasRoom old → HasRoom new
-  HasRoom-grows n s h =
-      let same = ap length s.entries in let spare = s.spare in let r = s.room.grows in omega arith
-
-module _ {K V S : Type 0} (old new : MapState K V S) where
   pub node_count-keeps : (es : List (K × V)) → KeepsOnly old new es → node_count new ≡ node_count old
-  node_count-keeps es s = let same = ap length s.entries in let spare = s.spare in omega arith
+  node_count-keeps es s = omega (arith, ap length s.entries)
 
   pub node_count-changes : (es : List (K × V)) (most : ℕ) → Changes old new es most → length es
+      ≡ length old.entries → node_count new ≡ node_count old
+  node_count-changes es most s l = omega (arith, ap length s.entries)
+
+  pub node_count-shrinks : {E : Type 0} (r : Result (Unit {0}) E) → Shrinks old new r → node_count new
       ≡ length old.entries
-      → node_count new ≡ node_count old
-  node_count-changes es most s l = let same = ap length s.entries in let spare = s.spare in omega arith
-
-  pub HasRoom-changes : (es : List (K × V)) (most : ℕ) → Changes old new es most → length es
-      ≤ length old.entries
-      → HasRoom old
-      → HasRoom new
-  HasRoom-changes es most s l h =
-      let same = ap length s.entries in let spare = s.spare in let r = s.room in omega arith
-
-  pub HasRoom-keeps : (es : List (K × V)) → KeepsOnly old new es → HasRoom old → HasRoom new
-  HasRoom-keeps es s h = let n = node_count-keeps es s in let r = s.room in omega arith
-
-  pub drains_all : Drains old new → (new.entries ≡ []) × (new.spare ≡ old.spare + length old.entries)
-  drains_all s = let spare = s.spare in (s.entries, omega arith)
-
-  module _ {E : Type 0} where
-    pub node_count-shrinks : (r : Result (Unit {0}) E) → Shrinks old new r → node_count new
-        ≡ length old.entries
-    node_count-shrinks r s = let same = ap length s.entries in let spare = s.spare in omega arith
-
-    pub HasRoom-shrinks : (r : Result (Unit {0}) E) → Shrinks old new r → HasRoom new
-    HasRoom-shrinks r s = let fits = s.fits in let spare = s.spare in omega arith
-
-    pub HasRoom-reserves : (n : ℕ) (r : Result (Unit {0}) E) → Reserves old new n r
-        → HasRoom old → HasRoom new
-    HasRoom-reserves n r s h = HasRoom-grows old new n s.grows h
+  node_count-shrinks r s = omega (arith, ap length s.entries)
 
 -- ---- two steps that only take entries away are one, and a removal is one of them
 
 module _ {K V S : Type 0} where
   pub removes_keeps : (old new : MapState K V S) (es : List (K × V)) → Removes old new es
       → KeepsOnly old new es
-  removes_keeps old new es s =
-      let fewer = s.fewer in
-      let spare = s.spare in
-      let writes = s.link_writes in
-      let one : 3 * (length old.entries - length es) ≡ 3 = omega arith in
-      record {
-        entries = s.entries;
-        no_more = omega arith;
-        spare = omega arith;
-        room = s.room;
-        link_writes = record { grows = writes.grows; bound = omega arith };
-        hasher = s.hasher;
-      }
+  removes_keeps old new es s = record {
+    entries = s.entries;
+    no_more = omega arith;
+    spare = omega arith;
+    room = s.room;
+    link_writes = record { grows = omega arith; bound = omega arith };
+    hasher = s.hasher;
+  }
 
   pub keeps_twice : (a b c : MapState K V S) (es fs : List (K × V)) → KeepsOnly a b es → KeepsOnly b c fs
       → KeepsOnly a c fs
   keeps_twice a b c es fs s t =
       let same = ap length s.entries in
-      let fewer = s.no_more in
-      let again = t.no_more in
-      let spare1 = s.spare in
-      let spare2 = t.spare in
-      let grows1 = s.link_writes.grows in
-      let grows2 = t.link_writes.grows in
-      let bound1 = s.link_writes.bound in
-      let bound2 = t.link_writes.bound in
       record {
         entries = t.entries;
         no_more = omega arith;
         spare = omega arith;
-        room = t.room ∙ s.room;
+        room = cc;
         link_writes = record { grows = omega arith; bound = omega arith };
-        hasher = t.hasher ∙ s.hasher;
+        hasher = cc;
       }
 
 -- ---- a move by a test
@@ -121,12 +76,10 @@ module _ {K V S : Type 0} (eq : K → K → Bool) (old new : MapState K V S) (k 
       (length-put_there eq old.entries k v b w s.old_value)
 
   pub HasRoom-inserts : (v : V) (b : ℕ) (r : Result (Option V) (K × V))
-      → Inserts eq old new k v b r → HasRoom old
-      → HasRoom new
+      → Inserts eq old new k v b r → HasRoom old → HasRoom new
   HasRoom-inserts v b (Ok None) s h = s.adds.fits
-  HasRoom-inserts v b (Ok (Some w)) s h = let n = node_count-puts v b w s in let r =
-      s.puts.room in omega arith
-  HasRoom-inserts v b (Err pair) s h = HasRoom-grows old new 1 s.grows h
+  HasRoom-inserts v b (Ok (Some w)) s h = omega (arith, node_count-puts v b w s)
+  HasRoom-inserts v b (Err pair) s h = omega (arith, ap length s.grows.entries)
 
   -- ---- a value that was written, and an entry that was moved
 
@@ -140,14 +93,9 @@ module _ {K V S : Type 0} (eq : K → K → Bool) (old new : MapState K V S) (k 
         (length-set_value (eq k) old.entries v)
 
   module _ (b : ℕ) where
-    moves_by : (r : Option V) → MatchOption r (new ≡ old) (λ _. Changes old new (moved eq old.entries k b) 6)
-        → r ≡ lookup (eq k) old.entries
-        → new.entries ≡ moved eq old.entries k b
-    moves_by None s l = ap (λ m. m.entries) s ∙ sym (moved-absent eq old.entries k b (sym l))
-    moves_by (Some w) s l = s.entries
-
     pub moves_entries : (r : Option V) → Moves eq old new k b r → new.entries ≡ moved eq old.entries k b
-    moves_entries r s = moves_by r s.step s.answer
+    moves_entries None s = ap (λ m. m.entries) s.step ∙ sym (moved-absent eq old.entries k b (sym s.answer))
+    moves_entries (Some w) s = s.step.entries
 
     pub moves_length : (r : Option V) → Moves eq old new k b r → length new.entries ≡ length old.entries
     moves_length r s = moves_match_length old new (eq k) b r s
@@ -159,28 +107,24 @@ module _ {K V S : Type 0} (eq : K → K → Bool) (old new : MapState K V S) (k 
 
 module _ {K V S : Type 0} (eq : K → K → Bool) (laws : IsEquivalence eq) where
   pub writes_value : (q : K) (old new : MapState K V S) (k : K) (v w : V) → WritesEntry eq old new k v w
-      → eq k q ≡ true
-      → lookup (eq q) new.entries ≡ Some v
+      → eq k q ≡ true → lookup (eq q) new.entries ≡ Some v
   writes_value q old new k v w s t =
       ap (lookup (eq q)) s.writes.entries
       ∙ lookup-set_value laws (eq k) (λ x y p. laws.congr k x y p) q v old.entries (ap is_some s.old_value)
       ∙ rw t refl
 
   pub writes_others : (q : K) (old new : MapState K V S) (k : K) (v w : V) → WritesEntry eq old new k v w
-      → eq k q ≡ false
-      → lookup_entry (eq q) new.entries ≡ lookup_entry (eq q) old.entries
+      → eq k q ≡ false → lookup_entry (eq q) new.entries ≡ lookup_entry (eq q) old.entries
   writes_others q old new k v w s t =
       ap (lookup_entry (eq q)) s.writes.entries ∙ lookup_entry-set_value_other eq laws q old.entries k v t
 
   pub moves_lookup : (q : K) (old new : MapState K V S) (k : K) (b : ℕ) (r : Option V)
-      → Moves eq old new k b r
-      → IsEntries eq old.entries
+      → Moves eq old new k b r → IsEntries eq old.entries
       → lookup (eq q) new.entries ≡ lookup (eq q) old.entries
   moves_lookup q old new k b r s d =
       ap (lookup (eq q)) (moves_entries eq old new k b r s) ∙ lookup-moved eq laws q old.entries k b d
 
   pub moves_keys : (old new : MapState K V S) (k : K) (b : ℕ) (r : Option V) → Moves eq old new k b r
-      → IsEntries eq old.entries
-      → IsEntries eq new.entries
+      → IsEntries eq old.entries → IsEntries eq new.entries
   moves_keys old new k b r s d = rw (moves_entries eq old new k b r s)
       (IsEntries-moved eq laws old.entries k b d)

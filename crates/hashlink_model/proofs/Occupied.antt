@@ -2,7 +2,7 @@
 use Rattle.std.specs.Prelude.{insert, remove, zero, suc, ◌<◌, MatchOption, Option}
 use Rattle.std.proofs.Common.{arith, take, drop, length-append, length-take, length-drop, ◌≡◌, ℕ, ◌+◌, Bool}
 use Rattle.std.proofs.Common.{true, cond, List, [], ◌∷◌, ◌++◌, length, slice_get, None, Some, refl, sym, ap}
-use Rattle.std.proofs.Common.{ap₂, ◌∙◌, subst, option_map}
+use Rattle.std.proofs.Common.{ap₂, ◌∙◌, subst}
 use Rattle.std.specs.Cmp.{IsEquivalence}
 use Rattle.std.specs.Option.{option_map_or}
 use Rattle.std.specs.Map.{lookup, lookup_entry}
@@ -15,9 +15,8 @@ use Rattle.hashlink_model.specs.Entry.{insert_entry, or_insert, replace_entry}
 use Rattle.hashlink_model.specs.MapState.{MapState}
 use Rattle.hashlink_model.proofs.Distinct.{none_equal, none_others, IsEntries-middle, IsEntries-insert}
 use Rattle.hashlink_model.proofs.Finds.{lookup_entry-middle, lookup_entry-without}
-use Rattle.hashlink_model.proofs.Puts.{cond-same_test, none_without, IsEntries-without, IsEntries-put}
-use Rattle.hashlink_model.proofs.Puts.{lookup_entry-put}
-use Rattle.hashlink_model.proofs.Places.{slice_get_here, split_at, place_of_its_key, stored_key_at}
+use Rattle.hashlink_model.proofs.Puts.{none_without, IsEntries-without}
+use Rattle.hashlink_model.proofs.Places.{slice_get_here, split_at, place_of_its_key}
 use Rattle.hashlink_model.proofs.ByPlace.{set_value_at-here, set_key_at-here, remove-here, moved_at-last}
 use Rattle.hashlink_model.proofs.ByPlace.{moved_at-put, moved-there, remove-place, length-set_value_at}
 use Rattle.hashlink_model.proofs.Splits.{stands_from_place}
@@ -28,10 +27,6 @@ module _ {K V : Type 0} where
   or_insert-there eq es k v w l =
       ap (λ o. put eq es k (option_map_or (λ x. x) o v) (length es)) l
       ∙ sym (moved-there eq es k (length es) w l)
-
-  pub or_insert-absent : (eq : K → K → Bool) (es : List (K × V)) (k : K) (v : V) → lookup (eq k) es ≡ None
-      → or_insert eq es k v ≡ put eq es k v (length es)
-  or_insert-absent eq es k v l = rw l refl
 
   -- in a list taken apart at the entry
   pub replace_entry-here : (xs : List (K × V)) (e : K × V) (ys : List (K × V)) (h : K) (v : V)
@@ -54,25 +49,17 @@ module _ {K V : Type 0} where
       ap₂ (λ zs i. set_value_at zs i v) s.2 (sym s.3) ∙ set_value_at-here s.0 e s.1 v
       ∙ sym (replace_entry-here s.0 e s.1 e.0 v) ∙ ap₂ (λ zs i. replace_entry zs i e.0 v) (sym s.2) s.3
 
-  same_places : (p q : K × V) (test : K → Bool) (xs ys : List (K × V)) → test p.0 ≡ test q.0
-      → place_of test (xs ++ p ∷ ys) ≡ place_of test (xs ++ q ∷ ys)
-  same_places p q test [] ys t = ap (λ b. cond b (Some 0) (option_map (λ j. j + 1) (place_of test ys))) t
-  same_places p q test (x ∷ xs) ys t =
-      ap (λ o. cond (test x.0) (Some 0) (option_map (λ j. j + 1) o)) (same_places p q test xs ys t)
-
 module _ {K V : Type 0} (eq : K → K → Bool) (laws : IsEquivalence eq) where
   -- the entry at j leaves, and h stands last with the value
   pub insert_entry-last : (es : List (K × V)) (j : ℕ) (e : K × V) (h : K) (v : V) → IsEntries eq es
-      → slice_get es j ≡ Some e
-      → insert_entry es j h v ≡ without eq es e.0 ++ (h, v) ∷ []
+      → slice_get es j ≡ Some e → insert_entry es j h v ≡ without eq es e.0 ++ (h, v) ∷ []
   insert_entry-last es j e h v d at =
       let s = split_at es j e at in
       let long : length (s.0 ++ e ∷ s.1) ≡ length (s.0 ++ (h, v) ∷ s.1)
       = omega (arith, length-append s.0 (e ∷ s.1), length-append s.0 ((h, v) ∷ s.1)) in
       ap₂ (λ zs i. insert_entry zs i h v) s.2 (sym s.3)
       ∙ ap₂ (λ zs n. moved_at zs (length s.0) n) (replace_entry-here s.0 e s.1 h v) long
-      ∙ moved_at-last s.0 (h, v) s.1
-      ∙ ap (λ zs. zs ++ (h, v) ∷ [])
+      ∙ moved_at-last s.0 (h, v) s.1 ∙ ap (λ zs. zs ++ (h, v) ∷ [])
       (sym (remove-here s.0 e s.1) ∙ ap₂ remove (sym s.2) s.3
       ∙ remove-place (eq e.0) es j (place_of_its_key eq laws es j e e.0 d at (laws.refl e.0)))
 
@@ -83,35 +70,30 @@ module _ {K V : Type 0} (eq : K → K → Bool) (laws : IsEquivalence eq) where
       (none_equal eq laws e.0 h (without eq es e.0) (laws.symm e.0 h ∙ t) (none_without eq laws es e.0 d))
 
   pub IsEntries-insert_entry : (es : List (K × V)) (j : ℕ) (e : K × V) (h : K) (v : V) → IsEntries eq es
-      → slice_get es j ≡ Some e → eq h e.0 ≡ true
-      → IsEntries eq (insert_entry es j h v)
+      → slice_get es j ≡ Some e → eq h e.0 ≡ true → IsEntries eq (insert_entry es j h v)
   IsEntries-insert_entry es j e h v d at t =
       rw (insert_entry-last es j e h v d at)
       (IsEntries-insert eq laws (without eq es e.0) (h, v) [] (none_last es e h d t)
       (rw (append-nil (without eq es e.0)) (IsEntries-without eq laws es e.0 d)))
 
   pub lookup_entry-insert_entry : (q : K) (es : List (K × V)) (j : ℕ) (e : K × V) (h : K) (v : V)
-      → IsEntries eq es
-      → slice_get es j ≡ Some e
-      → eq h e.0 ≡ true
+      → IsEntries eq es → slice_get es j ≡ Some e → eq h e.0 ≡ true
       → lookup_entry (eq q) (insert_entry es j h v) ≡ cond (eq h q) (Some (h, v)) (lookup_entry (eq q) es)
   lookup_entry-insert_entry q es j e h v d at t =
-      ap (lookup_entry (eq q)) (insert_entry-last es j e h v d at)
-      ∙ lookup_entry-middle eq laws q (h, v) [] (without eq es e.0) (none_last es e h d t)
-      ∙ rw (append-nil (without eq es e.0), lookup_entry-without eq laws q e.0 es d, laws.congr h e.0 q t)
-      (cond-same_test (eq e.0 q) _ _ _)
+      let last = ap (lookup_entry (eq q)) (insert_entry-last es j e h v d at) in
+      let found = lookup_entry-middle eq laws q (h, v) [] (without eq es e.0) (none_last es e h d t) in
+      let same = ap (lookup_entry (eq q)) (append-nil (without eq es e.0)) in
+      grind (arith, last, found, same, lookup_entry-without eq laws q e.0 es d, laws.congr h e.0 q t)
 
   -- ---- h in the place of e
 
   others_apart : (xs : List (K × V)) (e : K × V) (ys : List (K × V)) (h : K) → IsEntries eq (xs ++ e ∷ ys)
-      → eq h e.0 ≡ true
-      → NonePasses (eq h) (xs ++ ys)
+      → eq h e.0 ≡ true → NonePasses (eq h) (xs ++ ys)
   others_apart xs e ys h d t =
       none_equal eq laws e.0 h (xs ++ ys) (laws.symm e.0 h ∙ t) (none_others eq laws xs e ys d)
 
   pub IsEntries-replace_entry : (es : List (K × V)) (j : ℕ) (e : K × V) (h : K) (v : V) → IsEntries eq es
-      → slice_get es j ≡ Some e → eq h e.0 ≡ true
-      → IsEntries eq (replace_entry es j h v)
+      → slice_get es j ≡ Some e → eq h e.0 ≡ true → IsEntries eq (replace_entry es j h v)
   IsEntries-replace_entry es j e h v d at t =
       let s = split_at es j e at in
       let there = subst (IsEntries eq) s.2 d in
@@ -121,88 +103,32 @@ module _ {K V : Type 0} (eq : K → K → Bool) (laws : IsEquivalence eq) where
       (IsEntries-middle eq laws s.0 e s.1 there))
 
   pub lookup_entry-replace_entry : (q : K) (es : List (K × V)) (j : ℕ) (e : K × V) (h : K) (v : V)
-      → IsEntries eq es
-      → slice_get es j ≡ Some e
-      → eq h e.0 ≡ true
+      → IsEntries eq es → slice_get es j ≡ Some e → eq h e.0 ≡ true
       → lookup_entry (eq q) (replace_entry es j h v) ≡ cond (eq h q) (Some (h, v)) (lookup_entry (eq q) es)
   lookup_entry-replace_entry q es j e h v d at t =
       let s = split_at es j e at in
       let there = subst (IsEntries eq) s.2 d in
-      ap₂ (λ zs i. lookup_entry (eq q) (replace_entry zs i h v)) s.2 (sym s.3)
-      ∙ ap (lookup_entry (eq q)) (replace_entry-here s.0 e s.1 h v)
-      ∙ lookup_entry-middle eq laws q (h, v) s.1 s.0 (others_apart s.0 e s.1 h there t)
-      ∙ sym (cond-same_test (eq h q) _ (Some e) _)
-      ∙ ap (cond (eq h q) (Some (h, v)))
-      (ap (λ b. cond b (Some e) (lookup_entry (eq q) (s.0 ++ s.1))) (laws.congr h e.0 q t)
-      ∙ sym (lookup_entry-middle eq laws q e s.1 s.0 (none_others eq laws s.0 e s.1 there))
-      ∙ ap (lookup_entry (eq q)) (sym s.2))
+      let left = ap₂ (λ zs i. lookup_entry (eq q) (replace_entry zs i h v)) s.2 (sym s.3)
+      ∙ ap (lookup_entry (eq q)) (replace_entry-here s.0 e s.1 h v) in
+      let new = lookup_entry-middle eq laws q (h, v) s.1 s.0 (others_apart s.0 e s.1 h there t) in
+      let old = lookup_entry-middle eq laws q e s.1 s.0 (none_others eq laws s.0 e s.1 there) in
+      grind (arith, left, new, old, ap (lookup_entry (eq q)) s.2, laws.congr h e.0 q t)
 
   pub place_of-replace_entry : (q : K) (es : List (K × V)) (j : ℕ) (e : K × V) (h : K) (v : V)
-      → IsEntries eq es
-      → slice_get es j ≡ Some e
-      → eq h e.0 ≡ true
+      → slice_get es j ≡ Some e → eq h e.0 ≡ true
       → place_of (eq q) (replace_entry es j h v) ≡ place_of (eq q) es
-  place_of-replace_entry q es j e h v d at t =
-      let s = split_at es j e at in
-      ap₂ (λ zs i. place_of (eq q) (replace_entry zs i h v)) s.2 (sym s.3)
-      ∙ ap (place_of (eq q)) (replace_entry-here s.0 e s.1 h v)
-      ∙ same_places (h, v) e (eq q) s.0 s.1 (laws.symm q h ∙ laws.congr h e.0 q t ∙ laws.symm e.0 q)
-      ∙ ap (place_of (eq q)) (sym s.2)
+  place_of-replace_entry q [] j e h v at t = refl
+  place_of-replace_entry q (x ∷ es) zero e h v at t =
+      grind (arith, at, laws.symm q h, laws.congr h e.0 q t, laws.symm q e.0)
+  place_of-replace_entry q (x ∷ es) (suc j) e h v at t =
+      grind (arith, place_of-replace_entry q es j e h v at t)
 
-  -- ---- a new value last with the stored key, and a key or a value alone in its place
+  -- ---- a new value last with the stored key
 
   pub insert_value-put : (es : List (K × V)) (j : ℕ) (e : K × V) (v : V) → IsEntries eq es
-      → slice_get es j ≡ Some e
-      → insert_value es j v ≡ put eq es e.0 v (length es)
+      → slice_get es j ≡ Some e → insert_value es j v ≡ put eq es e.0 v (length es)
   insert_value-put es j e v d at =
       moved_at-put eq es e.0 j (place_of_its_key eq laws es j e e.0 d at (laws.refl e.0)) v (length es)
-
-  pub IsEntries-insert_value : (es : List (K × V)) (j : ℕ) (e : K × V) (v : V) → IsEntries eq es
-      → slice_get es j ≡ Some e
-      → IsEntries eq (insert_value es j v)
-  IsEntries-insert_value es j e v d at =
-      rw (insert_value-put es j e v d at) (IsEntries-put eq laws es e.0 v (length es) d)
-
-  pub IsEntries-or_insert : (es : List (K × V)) (k : K) (v : V) → IsEntries eq es
-      → IsEntries eq (or_insert eq es k v)
-  IsEntries-or_insert es k v d = IsEntries-put eq laws es k (option_map_or (λ w. w) (lookup (eq k) es) v)
-      (length es) d
-
-  pub IsEntries-set_key_at : (es : List (K × V)) (j : ℕ) (e : K × V) (k : K) → IsEntries eq es
-      → slice_get es j ≡ Some e → eq k e.0 ≡ true
-      → IsEntries eq (set_key_at es j k)
-  IsEntries-set_key_at es j e k d at t =
-      rw (set_key_at-entry es j e k at) (IsEntries-replace_entry es j e k e.1 d at t)
-
-  pub IsEntries-set_value_at : (es : List (K × V)) (j : ℕ) (e : K × V) (v : V) → IsEntries eq es
-      → slice_get es j ≡ Some e
-      → IsEntries eq (set_value_at es j v)
-  IsEntries-set_value_at es j e v d at =
-      rw (set_value_at-entry es j e v at) (IsEntries-replace_entry es j e e.0 v d at (laws.refl e.0))
-
-  pub lookup_entry-insert_value : (q : K) (es : List (K × V)) (j : ℕ) (e : K × V) (v : V) → IsEntries eq es
-      → slice_get es j ≡ Some e
-      → lookup_entry (eq q) (insert_value es j v) ≡ cond (eq e.0 q) (Some (e.0, v)) (lookup_entry (eq q) es)
-  lookup_entry-insert_value q es j e v d at =
-      ap (lookup_entry (eq q)) (insert_value-put es j e v d at)
-      ∙ lookup_entry-put eq laws q es e.0 v (length es) d
-      ∙ ap (λ k. cond (eq e.0 q) (Some (k, v)) (lookup_entry (eq q) es))
-      (stored_key_at eq laws es j e e.0 d at (laws.refl e.0))
-
-  pub lookup_entry-set_key_at : (q : K) (es : List (K × V)) (j : ℕ) (e : K × V) (k : K) → IsEntries eq es
-      → slice_get es j ≡ Some e
-      → eq k e.0 ≡ true
-      → lookup_entry (eq q) (set_key_at es j k) ≡ cond (eq k q) (Some (k, e.1)) (lookup_entry (eq q) es)
-  lookup_entry-set_key_at q es j e k d at t =
-      ap (lookup_entry (eq q)) (set_key_at-entry es j e k at)
-      ∙ lookup_entry-replace_entry q es j e k e.1 d at t
-
-  pub lookup_entry-set_value_at : (q : K) (es : List (K × V)) (j : ℕ) (e : K × V) (v : V) → IsEntries eq es
-      → slice_get es j ≡ Some e
-      → lookup_entry (eq q) (set_value_at es j v) ≡ cond (eq e.0 q) (Some (e.0, v)) (lookup_entry (eq q) es)
-  lookup_entry-set_value_at q es j e v d at =
-      ap (lookup_entry (eq q)) (set_value_at-entry es j e v at)
-      ∙ lookup_entry-replace_entry q es j e e.0 v d at (laws.refl e.0)
 
 -- ---- lengths
 
@@ -213,12 +139,8 @@ module _ {K V : Type 0} where
   length-set_key_at (e ∷ es) (suc j) k = ap suc (length-set_key_at es j k)
 
   length-inserted : (es : List (K × V)) (b : ℕ) (e : K × V) → length (insert es b e) ≡ length es + 1
-  length-inserted es b e = omega (
-    arith,
-    length-append (take b es) (e ∷ drop b es),
-    length-take b es,
-    length-drop b es,
-  )
+  length-inserted es b e =
+      omega (arith, length-append (take b es) (e ∷ drop b es), length-take b es, length-drop b es)
 
   pub length-moved_at : (es : List (K × V)) (j b : ℕ) → length (moved_at es j b) ≡ length es
   length-moved_at es j b = by (slice_get es j) refl

@@ -1,13 +1,12 @@
 -- Entries by their places.
-use Rattle.std.proofs.Common.{le_refl, ◌≡◌, ℕ, zero, suc, Bool, true, List, [], ◌∷◌, ◌++◌, length, slice_get}
-use Rattle.std.proofs.Common.{Some, refl, ap, ◌∙◌, ◌⊎◌, inl, inr, subst}
+use Rattle.std.proofs.Common.{◌≡◌, ℕ, zero, suc, Bool, true, List, [], ◌∷◌, ◌++◌, length, slice_get, Some, ap}
+use Rattle.std.proofs.Common.{refl, ◌∙◌, subst, arith}
 use Rattle.std.specs.Cmp.{IsEquivalence}
 use Rattle.std.specs.Map.{lookup_entry}
 use Rattle.std.proofs.lemmas.Map.{NonePasses}
-use Rattle.std.proofs.lemmas.Option.{none-some, same_Some, slice_get_past}
+use Rattle.std.proofs.lemmas.Option.{none-some, same_Some}
 use Rattle.hashlink_model.specs.Entries.{IsEntries, place_of, place_or_end, stored_key}
-use Rattle.hashlink_model.proofs.Splits.{Stands, splits, place_of-none, place_of-here, lookup_entry-none}
-use Rattle.hashlink_model.proofs.Splits.{lookup_entry-here}
+use Rattle.hashlink_model.proofs.Splits.{place_of-here, lookup_entry-here}
 use Rattle.hashlink_model.proofs.Distinct.{none_equal, none_others, each-left}
 use Rattle.hashlink_model.proofs.Finds.{lookup_key_is}
 
@@ -24,60 +23,34 @@ module _ {X : Type 0} where
   split_at (y ∷ xs) (suc i) x e = let s = split_at xs i x e in (y ∷ s.0, s.1, ap (λ r. y ∷ r) s.2, ap suc s.3)
 
 module _ {K V : Type 0} (eq : K → K → Bool) where
-  -- at the place of a key stands the entry that a look-up finds
-  at_place_by : (q : K) (es : List (K × V)) → NonePasses (eq q) es ⊎ Stands (eq q) es
-      → slice_get es (place_or_end eq es q) ≡ lookup_entry (eq q) es
-  at_place_by q es (inl n) =
-      rw (place_of-none (eq q) es n, lookup_entry-none (eq q) es n)
-      (slice_get_past es (length es) (le_refl (length es)))
-  at_place_by q es (inr s) =
-      rw (
-        s.3.is,
-        place_of-here (eq q) s.1 s.2 s.3.passes s.0 s.3.before,
-        lookup_entry-here (eq q) s.1 s.2 s.3.passes
-            s.0 s.3.before,
-      )
-      (slice_get_here s.0 s.1 s.2)
-
   pub slice_get-place_or_end : (q : K) (es : List (K × V))
       → slice_get es (place_or_end eq es q) ≡ lookup_entry (eq q) es
-  slice_get-place_or_end q es = at_place_by q es (splits (eq q) es)
-
-  pub place_or_end-here : (q : K) (xs : List (K × V)) (e : K × V) (ys : List (K × V)) → eq q e.0 ≡ true
-      → NonePasses (eq q) xs
-      → place_or_end eq (xs ++ e ∷ ys) q ≡ length xs
-  place_or_end-here q xs e ys t n = rw (place_of-here (eq q) e ys t xs n) refl
+  slice_get-place_or_end q [] = refl
+  slice_get-place_or_end q (e ∷ es) = grind (arith, slice_get-place_or_end q es)
 
 module _ {K V : Type 0} (eq : K → K → Bool) (laws : IsEquivalence eq) where
   -- no entry before e, or after it, has a key that is equal to its own
   pub none_before : (xs : List (K × V)) (e : K × V) (ys : List (K × V)) (q : K) → IsEntries eq (xs ++ e ∷ ys)
-      → eq q e.0 ≡ true
-      → NonePasses (eq q) xs
+      → eq q e.0 ≡ true → NonePasses (eq q) xs
   none_before xs e ys q d t =
       each-left _ xs ys (none_equal eq laws e.0 q (xs ++ ys) (laws.symm e.0 q ∙ t)
       (none_others eq laws xs e ys d))
 
   -- the place of the key of the entry at i is i
   pub place_of_its_key : (es : List (K × V)) (i : ℕ) (e : K × V) (q : K) → IsEntries eq es
-      → slice_get es i ≡ Some e
-      → eq q e.0 ≡ true
-      → place_of (eq q) es ≡ Some i
+      → slice_get es i ≡ Some e → eq q e.0 ≡ true → place_of (eq q) es ≡ Some i
   place_of_its_key es i e q d at t =
       let s = split_at es i e at in
       let there = subst (IsEntries eq) s.2 d in
       rw (s.2) (place_of-here (eq q) e s.1 t s.0 (none_before s.0 e s.1 q there t) ∙ ap Some s.3)
 
   pub lookup_entry_at : (es : List (K × V)) (i : ℕ) (e : K × V) (q : K) → IsEntries eq es
-      → slice_get es i ≡ Some e
-      → eq q e.0 ≡ true
-      → lookup_entry (eq q) es ≡ Some e
+      → slice_get es i ≡ Some e → eq q e.0 ≡ true → lookup_entry (eq q) es ≡ Some e
   lookup_entry_at es i e q d at t =
       let s = split_at es i e at in
       rw (s.2) (lookup_entry-here (eq q) e s.1 t s.0 (none_before s.0 e s.1 q (subst (IsEntries eq) s.2 d) t))
 
   -- the key object that the list holds for the key of the entry at i is its own
   pub stored_key_at : (es : List (K × V)) (i : ℕ) (e : K × V) (q : K) → IsEntries eq es
-      → slice_get es i ≡ Some e
-      → eq q e.0 ≡ true
-      → stored_key eq es q ≡ e.0
+      → slice_get es i ≡ Some e → eq q e.0 ≡ true → stored_key eq es q ≡ e.0
   stored_key_at es i e q d at t = rw (lookup_key_is (eq q) es, lookup_entry_at es i e q d at t) refl

@@ -1,10 +1,8 @@
 -- The first and the last entry taken out, and cursors and entries of a map's state.
 use Rattle.std.proofs.Common.{◌≡◌, ℕ, ◌+◌, ◌≤◌, Bool, List, [], ◌∷◌, ◌++◌, length, None, Some, Err, refl, sym}
-use Rattle.std.proofs.Common.{ap, ◌∙◌, ◌⊎◌, inl, inr, subst, append-nil}
+use Rattle.std.proofs.Common.{ap, ◌∙◌, subst, append-nil, arith}
 use Rattle.std.specs.Cmp.{IsEquivalence}
 use Rattle.std.specs.Map.{lookup}
-use Rattle.std.proofs.lemmas.Map.{NonePasses}
-use Rattle.std.proofs.lemmas.Option.{none-some}
 use Rattle.hashlink_model.specs.Entries.{IsEntries, without, place_of}
 use Rattle.hashlink_model.specs.MapState.{MapState}
 use Rattle.std.specs.Map.Iter.{TakesFirst, TakesLast}
@@ -12,43 +10,24 @@ use Rattle.hashlink_model.specs.Steps.{PopsFront, PopsBack}
 use Rattle.hashlink_model.specs.Walk.{after_first_of, before_last_of}
 use Rattle.hashlink_model.proofs.Walks.{takes_first, takes_last}
 use Rattle.hashlink_model.specs.Cursor.{CursorState, CursorInserts, place_kept}
-use Rattle.hashlink_model.proofs.Splits.{Stands, splits, remove_entry-here, place_of-none, place_of-here}
-use Rattle.hashlink_model.proofs.Splits.{lookup-none, lookup-here}
+use Rattle.hashlink_model.proofs.Splits.{remove_entry-here}
 use Rattle.hashlink_model.proofs.Places.{none_before}
 use Rattle.hashlink_model.proofs.Cursors.{place_kept-same}
 
 module _ {K V : Type 0} (eq : K → K → Bool) (laws : IsEquivalence eq) where
-  pub without-first : (e : K × V) (es : List (K × V)) → without eq (e ∷ es) e.0 ≡ es
-  without-first e es = rw (laws.refl e.0) refl
-
   pub without-last : (es : List (K × V)) (e : K × V) → IsEntries eq (es ++ e ∷ [])
       → without eq (es ++ e ∷ []) e.0 ≡ es
   without-last es e d =
       remove_entry-here (eq e.0) e [] (laws.refl e.0) es (none_before eq laws es e [] e.0 d (laws.refl e.0))
       ∙ append-nil es
 
-  -- a key has a place exactly where a look-up finds it
-  vacant_by : (k : K) (es : List (K × V)) → NonePasses (eq k) es ⊎ Stands (eq k) es
-      → place_of (eq k) es ≡ None
-      → lookup (eq k) es ≡ None
-  vacant_by k es (inl n) p = lookup-none (eq k) es n
-  vacant_by k es (inr s) p =
-      absurd
-      (none-some (length s.0)
-      (sym p ∙ (ap (place_of (eq k)) s.3.is ∙ place_of-here (eq k) s.1 s.2 s.3.passes s.0 s.3.before)))
-
   pub vacant : (k : K) (es : List (K × V)) → place_of (eq k) es ≡ None → lookup (eq k) es ≡ None
-  vacant k es p = vacant_by k es (splits (eq k) es) p
+  vacant k [] p = refl
+  vacant k (e ∷ es) p = grind (arith, vacant k es)
 
   pub absent_is_vacant : (k : K) (es : List (K × V)) → lookup (eq k) es ≡ None → place_of (eq k) es ≡ None
-  absent_is_vacant k es l = absent_by (splits (eq k) es)
-    where
-      absent_by : NonePasses (eq k) es ⊎ Stands (eq k) es → place_of (eq k) es ≡ None
-      absent_by (inl n) = place_of-none (eq k) es n
-      absent_by (inr s) =
-          absurd
-          (none-some s.1.1
-          (sym l ∙ (ap (lookup (eq k)) s.3.is ∙ lookup-here (eq k) s.1 s.2 s.3.passes s.0 s.3.before)))
+  absent_is_vacant k [] l = refl
+  absent_is_vacant k (e ∷ es) l = grind (arith, absent_is_vacant k es)
 
   -- a refused insert of a cursor leaves the entries and the cursor
   pub cursor_refused : {S : Type 0} (old new : CursorState K V S) (k : K) (v : V) (b : ℕ) (pair : K × V)

@@ -1,13 +1,11 @@
 -- The entries after a key is put at a place.
-use Rattle.std.proofs.Common.{option_map, ap, ◌≡◌, ℕ, ◌+◌, ◌-◌, ◌≤◌, ◌<◌, Bool, true, false, cond, List, []}
-use Rattle.std.proofs.Common.{◌∷◌, ◌++◌, length, Option, None, Some, refl, sym, ◌∙◌, ◌⊎◌, inl, inr, subst}
-use Rattle.std.proofs.Common.{arith, take, drop, lt-ltb, le-ltb, zero-le}
+use Rattle.std.proofs.Common.{◌≡◌, ℕ, ◌+◌, ◌-◌, Bool, true, false, cond, List, [], ◌∷◌, ◌++◌, length, Some}
+use Rattle.std.proofs.Common.{refl, ◌∙◌, ◌⊎◌, inl, inr, subst, arith, take, drop}
 use Rattle.std.specs.Prelude.{insert, nat_lt}
-use Rattle.std.specs.Option.{option_map_or}
 use Rattle.std.specs.Cmp.{IsEquivalence}
 use Rattle.std.specs.Map.{lookup_entry, set_value}
 use Rattle.std.proofs.lemmas.Map.{NonePasses}
-use Rattle.std.proofs.lemmas.List.{take-append-drop, length-append, take_at, drop_at}
+use Rattle.std.proofs.lemmas.List.{take-append-drop, take_at, drop_at}
 use Rattle.std.proofs.lemmas.List.Edits.{insert_end}
 use Rattle.hashlink_model.specs.Entries.{IsEntries, place_of, place_without, without, stored_key, put}
 use Rattle.hashlink_model.proofs.Splits.{StandsAt, Stands, splits, stands_from_place, place_of-none}
@@ -15,14 +13,7 @@ use Rattle.hashlink_model.proofs.Splits.{place_of-here, lookup_key-none, lookup_
 use Rattle.hashlink_model.proofs.Splits.{remove_entry-here, set_value-here}
 use Rattle.hashlink_model.proofs.Distinct.{none_equal, none_others, IsEntries-middle, IsEntries-insert}
 use Rattle.hashlink_model.proofs.Finds.{stored_key-equal, lookup_entry-middle, lookup_entry-without}
-
-front_by : (o : Option ℕ) → option_map_or (λ j. cond (nat_lt j 0) (0 - 1) 0) o 0 ≡ 0
-front_by None = refl
-front_by (Some j) = rw (le-ltb j 0 zero-le) refl
-
-pub cond-same_test : {X : Type 0} (b : Bool) (x y z : X) → cond b x (cond b y z) ≡ cond b x z
-cond-same_test true x y z = refl
-cond-same_test false x y z = refl
+use Rattle.std.proofs.lemmas.Bool.Decides.{nat_tests}
 
 module _ {K V : Type 0} (eq : K → K → Bool) where
   -- an absent key goes in at the place
@@ -35,44 +26,18 @@ module _ {K V : Type 0} (eq : K → K → Bool) where
   pub put-here : (xs : List (K × V)) (e : K × V) (ys : List (K × V)) (k : K) (v : V) (b : ℕ) → eq k e.0 ≡ true
       → NonePasses (eq k) xs
       → put eq (xs ++ e ∷ ys) k v b ≡ insert (xs ++ ys) (cond (nat_lt (length xs) b) (b - 1) b) (e.0, v)
-  put-here xs e ys k v b t n =
-      rw (
-        remove_entry-here (eq k) e ys t xs n,
-        place_of-here (eq k) e ys t xs n,
-        lookup_key-here (eq k) e ys t xs n,
-      )
-      refl
+  put-here xs e ys k v b t n = rw (remove_entry-here (eq k) e ys t xs n)
+      (rw (place_of-here (eq k) e ys t xs n, lookup_key-here (eq k) e ys t xs n) refl)
 
   -- ---- at the ends, and where the key stands already
 
-  end_by : (es : List (K × V)) (k : K) → NonePasses (eq k) es ⊎ Stands (eq k) es
-      → place_without eq es k (length es) ≡ length (without eq es k)
-  end_by es k (inl n) = rw (remove_entry-none (eq k) es n, place_of-none (eq k) es n) refl
-  end_by es k (inr s) =
-      rw (
-        s.3.is,
-        remove_entry-here (eq k) s.1 s.2 s.3.passes s.0 s.3.before,
-        place_of-here (eq k) s.1 s.2 s.3.passes
-            s.0 s.3.before,
-      )
-      (last s.0 s.1 s.2)
-    where
-      last : (xs : List (K × V)) (e : K × V) (ys : List (K × V))
-          → cond (nat_lt (length xs) (length (xs ++ e ∷ ys))) (length (xs ++ e ∷ ys) - 1)
-          (length (xs ++ e ∷ ys))
-          ≡ length (xs ++ ys)
-      last xs e ys =
-          let a = length-append xs (e ∷ ys) in
-          let b = length-append xs ys in
-          let below : length xs < length (xs ++ e ∷ ys) = omega arith in
-          rw (lt-ltb _ _ below) (omega arith)
-
   pub place_without-end : (es : List (K × V)) (k : K) → place_without eq es k (length es)
       ≡ length (without eq es k)
-  place_without-end es k = end_by es k (splits (eq k) es)
+  place_without-end [] k = refl
+  place_without-end (e ∷ es) k = grind (arith, nat_tests, place_without-end es k)
 
   pub place_without-front : (es : List (K × V)) (k : K) → place_without eq es k 0 ≡ 0
-  place_without-front es k = front_by (place_of (eq k) es)
+  place_without-front es k = grind (arith, nat_tests)
 
   -- put at the end is last, with the key object that was there
   pub put_back : (es : List (K × V)) (k : K) (v : V)
@@ -89,18 +54,10 @@ module _ {K V : Type 0} (eq : K → K → Bool) where
       → (xs : List (K × V)) × (e : K × V) × (ys : List (K × V)) × StandsAt (eq k) es xs e ys × (length xs ≡ j)
       → put eq es k v b ≡ set_value (eq k) es v
   kept_by es k v j b at s =
-      rw (
-        s.3.is,
-        put-here s.0 s.1 s.2 k v b s.3.passes s.3.before,
-        set_value-here (eq k) s.1 s.2 s.3.passes v s.0
-            s.3.before,
-        same_place at,
-      )
+      let place : cond (nat_lt (length s.0) b) (b - 1) b ≡ length s.0 = grind (arith, nat_tests, at, s.4) in
+      let written = set_value-here (eq k) s.1 s.2 s.3.passes v s.0 s.3.before in
+      rw (s.3.is, put-here s.0 s.1 s.2 k v b s.3.passes s.3.before, written, place)
       (rw (take_at s.0 s.2 (length s.0) refl, drop_at s.0 s.2 (length s.0) refl) refl)
-    where
-      same_place : (b ≡ j) ⊎ (b ≡ j + 1) → cond (nat_lt (length s.0) b) (b - 1) b ≡ length s.0
-      same_place (inl e) = let le : b ≤ length s.0 = omega arith in rw (le-ltb _ _ le) (omega arith)
-      same_place (inr e) = let lt : length s.0 < b = omega arith in rw (lt-ltb _ _ lt) (omega arith)
 
   pub put_at_its_place : (es : List (K × V)) (k : K) (v : V) (j : ℕ) → place_of (eq k) es ≡ Some j
       → put eq es k v j ≡ set_value (eq k) es v
@@ -117,8 +74,7 @@ module _ {K V : Type 0} (eq : K → K → Bool) where
   put_back_absent es k v n = put-absent es k v (length es) n ∙ insert_end es (k, v)
 
   pub put_back_here : (xs : List (K × V)) (e : K × V) (ys : List (K × V)) (k : K) (v : V) → eq k e.0 ≡ true
-      → NonePasses (eq k) xs
-      → put eq (xs ++ e ∷ ys) k v (length (xs ++ e ∷ ys)) ≡ (xs ++ ys) ++ (e.0, v) ∷ []
+      → NonePasses (eq k) xs → put eq (xs ++ e ∷ ys) k v (length (xs ++ e ∷ ys)) ≡ (xs ++ ys) ++ (e.0, v) ∷ []
   put_back_here xs e ys k v t n =
       put_back (xs ++ e ∷ ys) k v
       ∙ rw (remove_entry-here (eq k) e ys t xs n, lookup_key-here (eq k) e ys t xs n) refl
@@ -157,8 +113,7 @@ module _ {K V : Type 0} (eq : K → K → Bool) (laws : IsEquivalence eq) where
   IsEntries-put es k v b d =
       let j = place_without eq es k b in
       IsEntries-insert eq laws (take j (without eq es k)) (stored_key eq es k, v) (drop j (without eq es k))
-      (none_stored es k j d)
-      (rw (take-append-drop j (without eq es k)) (IsEntries-without es k d))
+      (none_stored es k j d) (rw (take-append-drop j (without eq es k)) (IsEntries-without es k d))
 
   -- ---- what a look-up finds afterwards
 
@@ -167,69 +122,25 @@ module _ {K V : Type 0} (eq : K → K → Bool) (laws : IsEquivalence eq) where
       (lookup_entry (eq q) es)
   lookup_entry-put q es k v b d =
       let j = place_without eq es k b in
-      lookup_entry-middle eq laws q (stored_key eq es k, v) (drop j (without eq es k))
-      (take j (without eq es k))
-      (none_stored es k j d)
-      ∙ rw (
-        take-append-drop j (without eq es k),
-        lookup_entry-without eq laws q k es d,
-        ← laws.congr k
-            (stored_key eq es k) q (stored_key-equal eq laws k es),
-      )
-      (cond-same_test (eq k q) _ _ _)
+      let zs = without eq es k in
+      let k0 = stored_key eq es k in
+      let found = lookup_entry-middle eq laws q (k0, v) (drop j zs) (take j zs) (none_stored es k j d) in
+      let same = laws.congr k k0 q (stored_key-equal eq laws k es) in
+      grind (arith, found, same, take-append-drop j zs, lookup_entry-without eq laws q k es d)
 
 -- ---- a value that is changed leaves every place
 
 module _ {K V : Type 0} (test : K → Bool) where
-  same_places_by : (other : K → Bool) (e : K × V) (es : List (K × V)) (v : V) (b : Bool) → test e.0 ≡ b
-      → place_of other (set_value test es v) ≡ place_of other es
-      → place_of other (set_value test (e ∷ es) v) ≡ place_of other (e ∷ es)
-  same_places_by other e es v true t h = rw t refl
-  same_places_by other e es v false t h =
-      rw t (ap (λ o. cond (other e.0) (Some 0) (option_map (λ j. j + 1) o)) h)
-
   pub place_of-set_value : (other : K → Bool) (es : List (K × V)) (v : V)
       → place_of other (set_value test es v) ≡ place_of other es
   place_of-set_value other [] v = refl
-  place_of-set_value other (e ∷ es) v = same_places_by other e es v (test e.0) refl
-      (place_of-set_value other es v)
+  place_of-set_value other (e ∷ es) v = grind (arith, place_of-set_value other es v)
 
 -- ---- and what every other key has
 
 module _ {K V : Type 0} (eq : K → K → Bool) (laws : IsEquivalence eq) where
-  others_by : (q : K) (e : K × V) (es : List (K × V)) (k : K) (v : V) (b : Bool)
-      → eq k e.0 ≡ b → eq k q ≡ false
-      → lookup_entry (eq q) (set_value (eq k) es v) ≡ lookup_entry (eq q) es
-      → lookup_entry (eq q) (cond b ((e.0, v) ∷ es) (e ∷ set_value (eq k) es v))
-      ≡ lookup_entry (eq q) (e ∷ es)
-  others_by q e es k v true p t h =
-      let apart : eq q e.0 ≡ false = laws.symm q e.0 ∙ sym (laws.congr k e.0 q p) ∙ t in
-      rw apart refl
-  others_by q e es k v false p t h = ap (cond (eq q e.0) (Some e)) h
-
   pub lookup_entry-set_value_other : (q : K) (es : List (K × V)) (k : K) (v : V) → eq k q ≡ false
       → lookup_entry (eq q) (set_value (eq k) es v) ≡ lookup_entry (eq q) es
   lookup_entry-set_value_other q [] k v t = refl
   lookup_entry-set_value_other q (e ∷ es) k v t =
-      others_by q e es k v (eq k e.0) refl t (lookup_entry-set_value_other q es k v t)
-
--- ---- the end after an insert
-
-module _ {K V : Type 0} (eq : K → K → Bool) (laws : IsEquivalence eq) where
-  pub last_after_put : (es : List (K × V)) (k : K) (v : V)
-      → (xs : List (K × V)) × (k0 : K) × (put eq es k v (length es) ≡ xs ++ (k0, v) ∷ []) × (eq k k0 ≡ true)
-  last_after_put es k v = (
-    without eq es k,
-    stored_key eq es k,
-    put_back eq es k v,
-    stored_key-equal eq laws k es,
-  )
-
-  pub first_after_put : (es : List (K × V)) (k : K) (v : V)
-      → (xs : List (K × V)) × (k0 : K) × (put eq es k v 0 ≡ (k0, v) ∷ xs) × (eq k k0 ≡ true)
-  first_after_put es k v = (
-    without eq es k,
-    stored_key eq es k,
-    put_front eq es k v,
-    stored_key-equal eq laws k es,
-  )
+      grind (arith, lookup_entry-set_value_other q es k v t, laws.symm q e.0, laws.congr k e.0 q)

@@ -1,10 +1,9 @@
 -- What a look-up finds where only an end of the entries remains.
-use Rattle.std.proofs.Common.{◌≡◌, ◌≤◌, Bool, true, false, cond, List, [], ◌∷◌, ◌++◌, length, drop, Some}
-use Rattle.std.proofs.Common.{refl, sym, ap, ◌∙◌, subst, arith, append_assoc}
+use Rattle.std.proofs.Common.{◌≡◌, ◌≤◌, Bool, true, false, List, [], ◌∷◌, ◌++◌, length, drop, Some, sym, ap}
+use Rattle.std.proofs.Common.{◌∙◌, subst, arith, append_assoc, None}
 use Rattle.std.specs.Cmp.{IsEquivalence}
 use Rattle.std.specs.Map.{lookup, lookup_entry}
 use Rattle.std.proofs.lemmas.List.{length-append}
-use Rattle.std.proofs.lemmas.Option.{none-some}
 use Rattle.hashlink_model.specs.Entries.{IsEntries, put, without, stored_key}
 use Rattle.hashlink_model.proofs.Splits.{lookup_entry-none, lookup-here}
 use Rattle.hashlink_model.proofs.Distinct.{each-right, none_equal, IsEntries-head, IsEntries-tail}
@@ -15,8 +14,7 @@ use Rattle.hashlink_model.proofs.Places.{none_before}
 
 -- an end that is not empty has the last one
 pub last_stays : {X : Type 0} (xs : List X) (x : X) (front back : List X) → xs ++ x ∷ [] ≡ front ++ back
-    → 1 ≤ length back
-    → (zs : List X) × (back ≡ zs ++ x ∷ [])
+    → 1 ≤ length back → (zs : List X) × (back ≡ zs ++ x ∷ [])
 last_stays xs x [] back i l = (xs, sym i)
 last_stays [] x (f ∷ front) back i l = let n = ap length i in let m =
     length-append front back in absurd (omega arith)
@@ -25,19 +23,13 @@ last_stays (y ∷ xs) x (f ∷ front) back i l = last_stays xs x front back (ap 
 module _ {K V : Type 0} (eq : K → K → Bool) (laws : IsEquivalence eq) where
   -- what is found in an end is what is found in the whole
   pub found_in_end : (q : K) (e : K × V) (front back : List (K × V)) → IsEntries eq (front ++ back)
-      → lookup_entry (eq q) back ≡ Some e
-      → lookup_entry (eq q) (front ++ back) ≡ Some e
+      → lookup_entry (eq q) back ≡ Some e → lookup_entry (eq q) (front ++ back) ≡ Some e
   found_in_end q e [] back d l = l
   found_in_end q e (x ∷ front) back d l =
-      by (eq q x.0) refl (found_in_end q e front back (IsEntries-tail eq x (front ++ back) d) l)
-    where
-      by : (b : Bool) → eq q x.0 ≡ b → lookup_entry (eq q) (front ++ back) ≡ Some e
-          → cond b (Some x) (lookup_entry (eq q) (front ++ back)) ≡ Some e
-      by true t h =
-          let others = none_equal eq laws x.0 q (front ++ back) (laws.symm x.0 q ∙ t)
-          (IsEntries-head eq x (front ++ back) d) in
-          absurd (none-some e (sym (lookup_entry-none (eq q) (front ++ back) others) ∙ h))
-      by false t h = h
+      let gone : eq q x.0 ≡ true → lookup_entry (eq q) (front ++ back) ≡ None
+      = λ t. lookup_entry-none (eq q) (front ++ back) (none_equal eq laws x.0 q (front ++ back)
+      (laws.symm x.0 q ∙ t) (IsEntries-head eq x (front ++ back) d)) in
+      grind (arith, gone, found_in_end q e front back (IsEntries-tail eq x (front ++ back) d) l)
 
   -- ---- after a key was put last
 

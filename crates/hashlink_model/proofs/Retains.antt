@@ -1,7 +1,7 @@
 -- What a retain leaves: in the list's own order, with keys pairwise unequal, and a filter where the closure
 -- is a predicate.
 use Rattle.std.proofs.Common.{◌≡◌, Bool, true, false, cond, List, [], ◌∷◌, ◌++◌, Option, None, Some, filter}
-use Rattle.std.proofs.Common.{Contains, refl, sym, ap, ap₂, ◌∙◌, subst, IsPermutation}
+use Rattle.std.proofs.Common.{Contains, refl, sym, ap, ap₂, ◌∙◌, subst, IsPermutation, arith}
 use Rattle.std.specs.Cmp.{IsEquivalence}
 use Rattle.std.specs.List.{AllByRecursion, cons_option}
 use Rattle.std.specs.Map.{lookup_entry, keys_of}
@@ -11,7 +11,7 @@ use Rattle.std.proofs.lemmas.Map.Keys.{IsDistinct-IsPermutation}
 use Rattle.std.proofs.lemmas.Map.Entries.{filter_from_retain_pairs}
 use Rattle.std.proofs.lemmas.List.Elements.{recursion_from_All, All-contains_itself, filter-append}
 use Rattle.std.proofs.lemmas.List.Sorted.{IsPermutation-map, Contains-permutation, IsPermutation-refl}
-use Rattle.std.proofs.lemmas.Option.{slice_get-get_or, none-some, same_Some}
+use Rattle.std.proofs.lemmas.Option.{slice_get-get_or, none-some}
 use Rattle.hashlink_model.specs.Entries.{IsEntries}
 use Rattle.hashlink_model.specs.Retain.{KeepsInSomeOrder, KeepsInOrder, in_order_of}
 use Rattle.hashlink_model.proofs.Distinct.{IsEntries-cons, IsEntries-head, IsEntries-tail, each-append}
@@ -27,27 +27,17 @@ module _ {F K V : Type 0} (T : F → K → V → Bool → V → F → Type 0) wh
   retains-called f (e ∷ es) kept g r = (r.0, r.1, r.2, r.3, r.4, retains-called r.2 es r.3 g r.5, r.6)
 
 module _ {K V : Type 0} where
-  -- an entry that a look-up finds passes the test
-  found_by : (test : K → Bool) (e : K × V) (es : List (K × V)) (f : K × V) (b : Bool) → test e.0 ≡ b
-      → (lookup_entry test es ≡ Some f → test f.0 ≡ true) → cond b (Some e) (lookup_entry test es) ≡ Some f
-      → test f.0 ≡ true
-  found_by test e es f true t h l = subst (λ x. test x.0 ≡ true) (same_Some e f l) t
-  found_by test e es f false t h l = h l
-
   pub found_passes : (test : K → Bool) (es : List (K × V)) (f : K × V) → lookup_entry test es ≡ Some f
       → test f.0 ≡ true
   found_passes test [] f l = absurd (none-some f l)
-  found_passes test (e ∷ es) f l = found_by test e es f (test e.0) refl (found_passes test es f) l
+  found_passes test (e ∷ es) f l = grind (arith, found_passes test es f, l)
 
   pub none_filtered : (test : K → Bool) (p : K × V → Bool) (es : List (K × V)) → NonePasses test es
       → NonePasses test (filter p es)
   none_filtered test p [] n = tt
-  none_filtered test p (e ∷ es) n = by (p e) (none_filtered test p es n.1)
-    where
-      by : (b : Bool) → NonePasses test (filter p es)
-          → NonePasses test (cond b (e ∷ filter p es) (filter p es))
-      by true h = (n.0, h)
-      by false h = h
+  none_filtered test p (e ∷ es) n =
+      elim (p e) as (λ b. NonePasses test (cond b (e ∷ filter p es) (filter p es)))
+      [ true ↦ (n.0, none_filtered test p es n.1) | false ↦ none_filtered test p es n.1 ]
 
 module _ {K V : Type 0} (eq : K → K → Bool) (laws : IsEquivalence eq) where
   -- ---- keys stay pairwise unequal
@@ -66,32 +56,22 @@ module _ {K V : Type 0} (eq : K → K → Bool) (laws : IsEquivalence eq) where
       apart_by q e (lookup_entry (eq e.0) kept) (in_order_of eq es kept) n.0 (found_passes (eq e.0) kept)
       (none_in_order q es kept n.1)
 
-  distinct_by : (e : K × V) (o : Option (K × V)) (zs : List (K × V))
-      → ((f : K × V) → o ≡ Some f → eq e.0 f.0 ≡ true)
-      → NonePasses (eq e.0) zs → IsEntries eq zs
-      → IsEntries eq (cons_option o zs)
-  distinct_by e None zs t n d = d
-  distinct_by e (Some f) zs t n d = IsEntries-cons eq f zs (none_equal eq laws e.0 f.0 zs (t f refl) n) d
-
   pub IsEntries-in_order_of : (es kept : List (K × V)) → IsEntries eq es
       → IsEntries eq (in_order_of eq es kept)
   IsEntries-in_order_of [] kept d = d
   IsEntries-in_order_of (e ∷ es) kept d =
-      distinct_by e (lookup_entry (eq e.0) kept) (in_order_of eq es kept) (found_passes (eq e.0) kept)
-      (none_in_order e.0 es kept (IsEntries-head eq e es d))
-      (IsEntries-in_order_of es kept (IsEntries-tail eq e es d))
-
-  pub IsEntries-keeps : {F : Type 0} (T : F → K → V → Bool → V → F → Type 0) (f : F)
-      (es new : List (K × V)) (h : F)
-      → IsEntries eq es → KeepsInSomeOrder T eq f es new h
-      → IsEntries eq new
-  IsEntries-keeps T f es new h d r = rw (r.entries) (IsEntries-in_order_of es r.kept d)
+      let zs = in_order_of eq es kept in
+      let rest = IsEntries-in_order_of es kept (IsEntries-tail eq e es d) in
+      let none = none_in_order e.0 es kept (IsEntries-head eq e es d) in
+      let more : (f : K × V) → lookup_entry (eq e.0) kept ≡ Some f → IsEntries eq (f ∷ zs)
+      = λ f l. IsEntries-cons eq f zs
+      (none_equal eq laws e.0 f.0 zs (found_passes (eq e.0) kept f l) none) rest in
+      grind (arith, rest, more)
 
   -- ---- a predicate
 
   at_by : (p : K × V → Bool) (us : List (K × V)) (e : K × V) (vs : List (K × V)) (b : Bool)
-      → NonePasses (eq e.0) us
-      → NonePasses (eq e.0) vs
+      → NonePasses (eq e.0) us → NonePasses (eq e.0) vs
       → lookup_entry (eq e.0) (filter p us ++ cond b (e ∷ filter p vs) (filter p vs)) ≡ cond b (Some e) None
   at_by p us e vs true n m =
       lookup_entry-here (eq e.0) e (filter p vs) (laws.refl e.0) (filter p us) (none_filtered (eq e.0) p us n)
@@ -113,16 +93,10 @@ module _ {K V : Type 0} (eq : K → K → Bool) (laws : IsEquivalence eq) where
       → AllByRecursion (λ e. lookup_entry (eq e.0) kept ≡ cond (p e) (Some e) None) es
       → in_order_of eq es kept ≡ filter p es
   in_order_by p kept [] a = refl
-  in_order_by p kept (e ∷ es) a = ap₂ cons_option a.0 (in_order_by p kept es a.1) ∙ one (p e)
-    where
-      one : (b : Bool) → cons_option (cond b (Some e) None) (filter p es)
-          ≡ cond b (e ∷ filter p es) (filter p es)
-      one true = refl
-      one false = refl
+  in_order_by p kept (e ∷ es) a = grind (arith, a.0, in_order_by p kept es a.1)
 
   pub in_order_of-filter : (p : K × V → Bool) (es order : List (K × V)) → IsEntries eq es
-      → IsPermutation es order
-      → in_order_of eq es (filter p order) ≡ filter p es
+      → IsPermutation es order → in_order_of eq es (filter p order) ≡ filter p es
   in_order_of-filter p es order d m =
       let e = IsDistinct-IsPermutation eq laws.symm (keys_of es) (keys_of order)
       (IsPermutation-map (λ x. x.0) es order m) d in
@@ -151,8 +125,7 @@ module _ {F K V : Type 0} (T : F → K → V → Bool → V → F → Type 0) wh
 
   -- no key comes in
   pub none_kept : (test : K → Bool) (f : F) (es new : List (K × V)) (g : F) → KeepsInOrder T f es new g
-      → NonePasses test es
-      → NonePasses test new
+      → NonePasses test es → NonePasses test new
   none_kept test f [] new g r n = rw r.0 tt
   none_kept test f (e ∷ es) new g r n = rw r.6 (by r.0 (none_kept test r.2 es r.3 g r.5 n.1))
     where
@@ -162,18 +135,12 @@ module _ {F K V : Type 0} (T : F → K → V → Bool → V → F → Type 0) wh
 
   module _ (eq : K → K → Bool) (laws : IsEquivalence eq) where
     pub IsEntries-keeps_in_order : (f : F) (es new : List (K × V)) (g : F) → IsEntries eq es
-        → KeepsInOrder T f es new g
-        → IsEntries eq new
+        → KeepsInOrder T f es new g → IsEntries eq new
     IsEntries-keeps_in_order f [] new g d r = rw r.0 d
     IsEntries-keeps_in_order f (e ∷ es) new g d r =
-        rw r.6
-        (by r.0 (IsEntries-keeps_in_order r.2 es r.3 g (IsEntries-tail eq e es d) r.5)
-        (none_kept (eq e.0) r.2 es r.3 g r.5 (IsEntries-head eq e es d)))
-      where
-        by : (b : Bool) → IsEntries eq r.3 → NonePasses (eq e.0) r.3
-            → IsEntries eq (cond b ((e.0, r.1) ∷ r.3) r.3)
-        by true h n = IsEntries-cons eq (e.0, r.1) r.3 n h
-        by false h n = h
+        let rest = IsEntries-keeps_in_order r.2 es r.3 g (IsEntries-tail eq e es d) r.5 in
+        let none = none_kept (eq e.0) r.2 es r.3 g r.5 (IsEntries-head eq e es d) in
+        rw r.6 (grind (arith, rest, IsEntries-cons eq (e.0, r.1) r.3 none rest))
 
     -- ---- in the list's own order is one of the orders
 
@@ -184,18 +151,11 @@ module _ {F K V : Type 0} (T : F → K → V → Bool → V → F → Type 0) wh
         ap₂ cons_option (ap (λ b. cond b (Some x) (lookup_entry (eq e.0) kept)) a.0) (skip x es kept a.1)
 
     in_own_order_by : (e : K × V) (w : V) (b : Bool) (es rest : List (K × V)) → NonePasses (eq e.0) es
-        → NonePasses (eq e.0) rest
-        → in_order_of eq es rest ≡ rest
+        → NonePasses (eq e.0) rest → in_order_of eq es rest ≡ rest
         → in_order_of eq (e ∷ es) (cond b ((e.0, w) ∷ rest) rest) ≡ cond b ((e.0, w) ∷ rest) rest
-    in_own_order_by e w true es rest n m h =
-        ap
-        (λ b. cons_option (cond b (Some (e.0, w)) (lookup_entry (eq e.0) rest))
-        (in_order_of eq es ((e.0, w) ∷ rest)))
-        (laws.refl e.0)
-        ∙ ap (λ r. (e.0, w) ∷ r)
-        (skip (e.0, w) es rest (each-weaker _ _ (λ x a. laws.symm x.0 e.0 ∙ a) es n) ∙ h)
-    in_own_order_by e w false es rest n m h =
-        ap (λ o. cons_option o (in_order_of eq es rest)) (lookup_entry-none (eq e.0) rest m) ∙ h
+    in_own_order_by e w b es rest n m h =
+        let skipped = skip (e.0, w) es rest (each-weaker _ _ (λ x a. laws.symm x.0 e.0 ∙ a) es n) in
+        grind (arith, skipped, lookup_entry-none (eq e.0) rest m, h, laws.refl e.0)
 
     pub in_own_order : (f : F) (es new : List (K × V)) (g : F) → IsEntries eq es → KeepsInOrder T f es new g
         → in_order_of eq es new ≡ new
@@ -207,8 +167,7 @@ module _ {F K V : Type 0} (T : F → K → V → Bool → V → F → Type 0) wh
         (in_own_order r.2 es r.3 g (IsEntries-tail eq e es d) r.5))
 
     pub keeps_from_in_order : (f : F) (es new : List (K × V)) (g : F) → IsEntries eq es
-        → KeepsInOrder T f es new g
-        → KeepsInSomeOrder T eq f es new g
+        → KeepsInOrder T f es new g → KeepsInSomeOrder T eq f es new g
     keeps_from_in_order f es new g d r =
         record {
           order = es;
@@ -228,8 +187,7 @@ module _ {F K V : Type 0} (T : F → K → V → Bool → V → F → Type 0) (S
   stays_in_order f (e ∷ es) kept g r s = stays_in_order r.2 es r.3 g r.5 (keeps f e.0 e.1 r.0 r.1 r.2 r.4 s)
 
   pub stays_in_some_order : (eq : K → K → Bool) (f : F) (es new : List (K × V)) (g : F)
-      → KeepsInSomeOrder T eq f es new g → Stays f
-      → Stays g
+      → KeepsInSomeOrder T eq f es new g → Stays f → Stays g
   stays_in_some_order eq f es new g r s = stays_in_order f r.order r.kept g r.called s
 
 -- where each call is determined, so is what is kept and how the closure ends

@@ -1,48 +1,39 @@
 -- The elements of a set after the map's steps.
-use Rattle.std.proofs.Common.{◌≡◌, ℕ, ◌+◌, Bool, true, false, not, ◌&&◌, cond, List, [], ◌∷◌, ◌++◌, length}
-use Rattle.std.proofs.Common.{filter, slice_get, is_some, Option, None, Some, Ok, Err, MatchOption}
-use Rattle.std.proofs.Common.{option_map, unwrap_or, refl, sym, ap, ap₂, ◌∙◌, subst}
+use Rattle.std.proofs.Common.{◌≡◌, ℕ, Bool, true, false, not, cond, List, [], ◌∷◌, ◌++◌, length, filter, None}
+use Rattle.std.proofs.Common.{slice_get, is_some, Option, Some, Ok, Err, option_map, refl, unwrap_or, sym, ap}
+use Rattle.std.proofs.Common.{ap₂, ◌∙◌, subst, arith}
 use Rattle.std.specs.Cmp.{IsEquivalence}
 use Rattle.std.specs.List.{IsDistinct, AllZip, find}
 use Rattle.std.specs.Map.{keys_of, lookup, lookup_key, lookup_entry, remove_entry}
 use Rattle.std.specs.Set.{is_member, remove_key, swap_key}
 use Rattle.std.proofs.lemmas.List.{map-append}
-use Rattle.std.proofs.lemmas.Map.{NonePasses, keys-set_value}
+use Rattle.std.proofs.lemmas.Map.{NonePasses}
 use Rattle.std.proofs.lemmas.Map.Entries.{length-keys_of}
 use Rattle.std.proofs.lemmas.Map.Made.{is_some-lookup}
 use Rattle.std.proofs.lemmas.Option.{slice_get-map}
 use Rattle.hashlink_model.specs.Compare.{entries_eq, elements_eq}
 use Rattle.hashlink_model.specs.Entries.{IsEntries, place_of, put, without, stored_key, extended, set_key_at}
-use Rattle.hashlink_model.specs.MapState.{Inserts, Removes}
+use Rattle.hashlink_model.specs.MapState.{Inserts}
 use Rattle.hashlink_model.specs.Steps.{RemovesKey, Moves, PopsFront, PopsBack}
-use Rattle.hashlink_model.specs.Retain.{KeepsInOrder, KeepsInSomeOrder}
-use Rattle.hashlink_model.specs.Sets.{SetState, at_element, elements_of, pairs_of, put_element, replaced}
-use Rattle.hashlink_model.specs.Sets.{stored_element, SetInserts, SetReplaces}
-use Rattle.hashlink_model.proofs.Splits.{stands_from_place, lookup_entry-here, lookup_key-none}
-use Rattle.hashlink_model.proofs.Splits.{remove_entry-none, none_from_lookup}
+use Rattle.hashlink_model.specs.Sets.{SetState, elements_of, pairs_of, put_element, replaced, stored_element}
+use Rattle.hashlink_model.specs.Sets.{SetInserts, SetReplaces}
+use Rattle.hashlink_model.proofs.Splits.{stands_from_place, remove_entry-none, none_from_lookup}
+use Rattle.hashlink_model.proofs.Splits.{lookup_entry-none}
 use Rattle.hashlink_model.proofs.Finds.{lookup_is, lookup_key_is}
-use Rattle.hashlink_model.proofs.Puts.{put_back, put_front, put_back_absent, put_at_its_place}
-use Rattle.hashlink_model.proofs.Puts.{put_after_its_place}
+use Rattle.hashlink_model.proofs.Puts.{put_back, put_front, put_back_absent}
 use Rattle.hashlink_model.proofs.Afterwards.{put_back_twice, put_front_twice}
-use Rattle.hashlink_model.proofs.Places.{slice_get_here, place_of_its_key}
+use Rattle.hashlink_model.proofs.Places.{place_of_its_key, slice_get-place_or_end}
 use Rattle.hashlink_model.proofs.ByPlace.{moved-there, set_key_at-here}
 use Rattle.hashlink_model.proofs.Pops.{pops_front, pops_back}
-use Rattle.hashlink_model.proofs.SetSteps.{replaced-absent, replaced-there}
+use Rattle.hashlink_model.proofs.SetSteps.{replaced-absent, replaced-there, length_pairs_of}
 use Rattle.hashlink_model.proofs.SetViews.{keys_of-pairs_of, pairs_of-keys_of, keys_of-put}
-use Rattle.hashlink_model.proofs.Retains.{keeps_is_filter, keeps_in_order_is_filter}
 use Rattle.hashlink_model.proofs.Extends.{extended-own}
 use Rattle.hashlink_model.proofs.Clones.{clone_is_equal}
 
 module _ {T V : Type 0} (test : T → Bool) where
   pub keys-remove_entry : (es : List (T × V)) → keys_of (remove_entry test es) ≡ remove_key test (keys_of es)
   keys-remove_entry [] = refl
-  keys-remove_entry (e ∷ es) = by (test e.0) (keys-remove_entry es)
-    where
-      by : (b : Bool) → keys_of (remove_entry test es) ≡ remove_key test (keys_of es)
-          → keys_of (cond b es (e ∷ remove_entry test es))
-          ≡ cond b (keys_of es) (e.0 ∷ remove_key test (keys_of es))
-      by true h = refl
-      by false h = ap (λ r. e.0 ∷ r) h
+  keys-remove_entry (e ∷ es) = grind (arith, keys-remove_entry es)
 
   pub find-keys : (es : List (T × V)) → lookup_key test es ≡ find test (keys_of es)
   find-keys [] = refl
@@ -51,17 +42,10 @@ module _ {T V : Type 0} (test : T → Bool) where
   pub keys-filter : (p : T → Bool) (es : List (T × V)) → keys_of (filter (λ e. p e.0) es)
       ≡ filter p (keys_of es)
   keys-filter p [] = refl
-  keys-filter p (e ∷ es) = by (p e.0) (keys-filter p es)
-    where
-      by : (b : Bool) → keys_of (filter (λ e. p e.0) es) ≡ filter p (keys_of es)
-          → keys_of (cond b (e ∷ filter (λ e. p e.0) es) (filter (λ e. p e.0) es))
-          ≡ cond b (e.0 ∷ filter p (keys_of es)) (filter p (keys_of es))
-      by true h = ap (λ r. e.0 ∷ r) h
-      by false h = h
+  keys-filter p (e ∷ es) = grind (arith, keys-filter p es)
 
   swap_key-here : (e : T × V) (ys : List (T × V)) (t : T) → test e.0 ≡ true → (xs : List (T × V))
-      → NonePasses test xs
-      → swap_key test (keys_of (xs ++ e ∷ ys)) t ≡ keys_of (xs ++ (t, e.1) ∷ ys)
+      → NonePasses test xs → swap_key test (keys_of (xs ++ e ∷ ys)) t ≡ keys_of (xs ++ (t, e.1) ∷ ys)
   swap_key-here e ys t p [] n = rw p refl
   swap_key-here e ys t p (x ∷ xs) n = rw n.0 (ap (λ r. x.0 ∷ r) (swap_key-here e ys t p xs n.1))
 
@@ -73,10 +57,6 @@ module _ {T V : Type 0} (test : T → Bool) where
       ap₂ (λ zs i. keys_of (set_key_at zs i t)) s.3.is (sym s.4) ∙ ap keys_of (set_key_at-here s.0 s.1 s.2 t)
       ∙ sym (swap_key-here s.1 s.2 t s.3.passes s.0 s.3.before)
       ∙ ap (λ zs. swap_key test (keys_of zs) t) (sym s.3.is)
-
-turned : (b : Bool) → b ≡ not (is_some {T = Unit {0}} (cond b None (Some tt)))
-turned true = refl
-turned false = refl
 
 module _ {T S : Type 0} (eq : T → T → Bool) (old new : SetState T S) (t : T) where
   member_none : lookup (eq t) old.entries ≡ None → is_member eq (elements_of old) t ≡ false
@@ -98,11 +78,8 @@ module _ {T S : Type 0} (eq : T → T → Bool) (old new : SetState T S) (t : T)
 
     pub inserts_refused : (pair : T × Unit {0}) → Inserts eq old new t tt b (Err pair)
         → (elements_of new ≡ elements_of old) × (is_member eq (elements_of old) t ≡ false) × (pair.0 ≡ t)
-    inserts_refused pair s = (
-      ap keys_of s.grows.entries,
-      member_none s.may_refuse.absent,
-      ap (λ p. p.0) s.handed_back,
-    )
+    inserts_refused pair s =
+        (ap keys_of s.grows.entries, member_none s.may_refuse.absent, ap (λ p. p.0) s.handed_back)
 
     pub moves_elements : (r : Option (Unit {0})) → Moves eq old new t b r
         → (elements_of new ≡ cond (is_some r) (put_element eq (elements_of old) t b) (elements_of old))
@@ -114,28 +91,22 @@ module _ {T S : Type 0} (eq : T → T → Bool) (old new : SetState T S) (t : T)
       sym (member_some w (sym s.answer)),
     )
 
+  found_key : (r : Option (T × Unit {0})) → r ≡ lookup_entry (eq t) old.entries
+      → option_map (λ e. e.0) r ≡ find (eq t) (elements_of old)
+  found_key r a = grind (arith, a, lookup_key_is (eq t) old.entries, find-keys (eq t) old.entries)
+
   pub removes_elements : (r : Option (T × Unit {0})) → RemovesKey eq old new t r
       → (elements_of new ≡ remove_key (eq t) (elements_of old))
       × (option_map (λ e. e.0) r ≡ find (eq t) (elements_of old))
-  removes_elements r s = (
-    by r s.step s.answer,
-    ap (option_map (λ e. e.0)) s.answer ∙ sym (lookup_key_is (eq t) old.entries)
-        ∙ find-keys (eq t) old.entries,
-  )
-    where
-      by : (r : Option (T × Unit {0})) → MatchOption r (new ≡ old)
-          (λ _. Removes old new (without eq old.entries t))
-          → r ≡ lookup_entry (eq t) old.entries
-          → elements_of new ≡ remove_key (eq t) (elements_of old)
-      by None u a = ap elements_of u ∙ sym (ap keys_of (without_none (sym a)))
-          ∙ keys-remove_entry (eq t) old.entries
-        where
-          without_none : lookup_entry (eq t) old.entries ≡ None → without eq old.entries t ≡ old.entries
-          without_none l =
-              remove_entry-none (eq t) old.entries
-              (none_from_lookup (eq t) old.entries
-              (lookup_is (eq t) old.entries ∙ ap (option_map (λ e. e.1)) l))
-      by (Some e) u a = ap keys_of u.entries ∙ keys-remove_entry (eq t) old.entries
+  removes_elements None s =
+      let none = none_from_lookup (eq t) old.entries
+      (lookup_is (eq t) old.entries ∙ ap (option_map (λ e. e.1)) (sym s.answer)) in (
+        ap elements_of s.step ∙ ap keys_of (sym (remove_entry-none (eq t) old.entries none))
+            ∙ keys-remove_entry (eq t) old.entries,
+        found_key None s.answer,
+      )
+  removes_elements (Some e) s =
+      (ap keys_of s.step.entries ∙ keys-remove_entry (eq t) old.entries, found_key (Some e) s.answer)
 
   -- ---- the set's own steps
 
@@ -148,35 +119,29 @@ module _ {T S : Type 0} (eq : T → T → Bool) (old new : SetState T S) (t : T)
   set_inserts b s = (
     inserts_elements (length old.entries) (cond b None (Some tt)) s
         ∙ ap (put_element eq (elements_of old) t) length_elements,
-    turned b ∙ ap not (inserts_member (length old.entries) (cond b None (Some tt)) s),
+    grind (arith, inserts_member (length old.entries) (cond b None (Some tt)) s),
   )
 
   pub set_replaces : (o : Option T) → SetReplaces eq old new t (Ok o)
       → (elements_of new ≡ replaced eq (elements_of old) t) × (o ≡ find (eq t) (elements_of old))
-  set_replaces None s = (
-    ap keys_of
-        (s.adds.entries ∙ put_back_absent eq old.entries t tt (none_from_lookup (eq t) old.entries s.absent))
-        ∙ map-append (λ e. e.0) old.entries ((t, tt) ∷ [])
-        ∙ sym (replaced-absent eq (elements_of old) t (member_none s.absent)),
-    none_found,
-  )
-    where
-      none_found : None ≡ find (eq t) (elements_of old)
-      none_found =
-          sym (lookup_key-none (eq t) old.entries (none_from_lookup (eq t) old.entries s.absent))
-          ∙ find-keys (eq t) old.entries
+  set_replaces None s =
+      let none = none_from_lookup (eq t) old.entries s.absent in (
+        ap keys_of (s.adds.entries ∙ put_back_absent eq old.entries t tt none)
+            ∙ map-append (λ e. e.0) old.entries ((t, tt) ∷ [])
+            ∙ sym (replaced-absent eq (elements_of old) t (member_none s.absent)),
+        found_key None (sym (lookup_entry-none (eq t) old.entries none)),
+      )
   set_replaces (Some x) s =
-      let at = stands_from_place (eq t) old.entries s.place s.there in
-      let found : lookup_entry (eq t) old.entries ≡ Some at.1
-      = ap (lookup_entry (eq t)) at.3.is ∙ lookup_entry-here (eq t) at.1 at.2 at.3.passes at.0 at.3.before in
-      let there : slice_get old.entries s.place ≡ Some at.1
-      = ap₂ slice_get at.3.is (sym at.4) ∙ slice_get_here at.0 at.1 at.2 in
-      let key : Some x ≡ Some at.1.0 = sym s.swaps.answer ∙ ap (option_map (λ e. e.0)) there in
-      let member = member_some at.1.1 (lookup_is (eq t) old.entries ∙ ap (option_map (λ e. e.1)) found) in (
+      let there : slice_get old.entries s.place ≡ lookup_entry (eq t) old.entries
+      = ap (λ o. slice_get old.entries (unwrap_or o (length old.entries))) (sym s.there)
+      ∙ slice_get-place_or_end eq t old.entries in
+      let found = found_key (slice_get old.entries s.place) there in
+      let held = lookup_is (eq t) old.entries in
+      let member : is_member eq (elements_of old) t ≡ true
+      = grind (arith, there, s.swaps.answer, is_some-lookup (eq t) old.entries, held) in (
         ap keys_of s.swaps.step.entries ∙ keys-set_key_at (eq t) old.entries s.place t s.there
             ∙ sym (replaced-there eq (elements_of old) t member),
-        key ∙ sym (ap (option_map (λ e. e.0)) found) ∙ sym (lookup_key_is (eq t) old.entries)
-            ∙ find-keys (eq t) old.entries,
+        sym s.swaps.answer ∙ found,
       )
 
 module _ {T S : Type 0} (old new : SetState T S) (e : T × Unit {0}) where
@@ -190,9 +155,6 @@ module _ {T S : Type 0} (old new : SetState T S) (e : T × Unit {0}) where
 -- ---- where an element is put
 
 module _ {T : Type 0} (eq : T → T → Bool) where
-  length_pairs : (ts : List T) → length ts ≡ length (pairs_of ts)
-  length_pairs ts = sym (ap length (keys_of-pairs_of ts)) ∙ length-keys_of (pairs_of ts)
-
   removed_pairs : (ts : List T) (t : T) → keys_of (without eq (pairs_of ts) t) ≡ remove_key (eq t) ts
   removed_pairs ts t = keys-remove_entry (eq t) (pairs_of ts) ∙ ap (remove_key (eq t)) (keys_of-pairs_of ts)
 
@@ -203,7 +165,7 @@ module _ {T : Type 0} (eq : T → T → Bool) where
   pub put_element_back : (ts : List T) (t : T)
       → put_element eq ts t (length ts) ≡ remove_key (eq t) ts ++ stored_element eq ts t ∷ []
   put_element_back ts t =
-      ap (put_element eq ts t) (length_pairs ts) ∙ ap keys_of (put_back eq (pairs_of ts) t tt)
+      ap (put_element eq ts t) (sym (length_pairs_of eq ts)) ∙ ap keys_of (put_back eq (pairs_of ts) t tt)
       ∙ map-append (λ e. e.0) (without eq (pairs_of ts) t) ((stored_key eq (pairs_of ts) t, tt) ∷ [])
       ∙ ap₂ (λ xs x. xs ++ x ∷ []) (removed_pairs ts t) (stored_pairs ts t)
 
@@ -218,27 +180,11 @@ module _ {T : Type 0} (eq : T → T → Bool) where
     entries_of_pairs ts d = subst (IsDistinct eq) (sym (keys_of-pairs_of ts)) d
 
     -- an element that stands at j, or is put directly behind itself
-    place_in_pairs : (ts : List T) (j : ℕ) (x t : T) → IsDistinct eq ts → slice_get ts j
-        ≡ Some x → eq t x ≡ true
-        → place_of (eq t) (pairs_of ts) ≡ Some j
+    pub place_in_pairs : (ts : List T) (j : ℕ) (x t : T) → IsDistinct eq ts → slice_get ts j
+        ≡ Some x → eq t x ≡ true → place_of (eq t) (pairs_of ts) ≡ Some j
     place_in_pairs ts j x t d at e =
         place_of_its_key eq laws (pairs_of ts) j (x, tt) t (entries_of_pairs ts d)
         (slice_get-map (λ u. (u, tt)) ts j ∙ ap (option_map (λ u. (u, tt))) at) e
-
-    -- put where it stands, or directly behind itself, it changes nothing
-    pub put_element_there : (ts : List T) (j : ℕ) (x t : T) → IsDistinct eq ts → slice_get ts j ≡ Some x
-        → eq t x ≡ true
-        → put_element eq ts t j ≡ ts
-    put_element_there ts j x t d at e =
-        ap keys_of (put_at_its_place eq (pairs_of ts) t tt j (place_in_pairs ts j x t d at e))
-        ∙ keys-set_value (eq t) (pairs_of ts) tt ∙ keys_of-pairs_of ts
-
-    pub put_element_behind : (ts : List T) (j : ℕ) (x t : T) → IsDistinct eq ts → slice_get ts j ≡ Some x
-        → eq t x ≡ true
-        → put_element eq ts t (j + 1) ≡ ts
-    put_element_behind ts j x t d at e =
-        ap keys_of (put_after_its_place eq (pairs_of ts) t tt j (place_in_pairs ts j x t d at e))
-        ∙ keys-set_value (eq t) (pairs_of ts) tt ∙ keys_of-pairs_of ts
 
     -- the pairs of what is put are the entries that are put
     pairs-put : (ts : List T) (t : T) (b : ℕ) → pairs_of (put_element eq ts t b) ≡ put eq (pairs_of ts) t tt b
@@ -250,7 +196,7 @@ module _ {T : Type 0} (eq : T → T → Bool) where
     put_element_back_twice ts t d =
         let zs = put eq (pairs_of ts) t tt (length (pairs_of ts)) in
         let same : put_element eq ts t (length ts)
-        ≡ keys_of zs = ap (put_element eq ts t) (length_pairs ts) in
+        ≡ keys_of zs = ap (put_element eq ts t) (sym (length_pairs_of eq ts)) in
         ap (λ us. put_element eq us t (length us)) same
         ∙ ap₂ (λ es n. keys_of (put eq es t tt n)) (pairs_of-keys_of zs) (length-keys_of zs)
         ∙ ap keys_of (put_back_twice eq laws (pairs_of ts) t tt tt (entries_of_pairs ts d)) ∙ sym same
@@ -272,11 +218,7 @@ module _ {T : Type 0} (eq : T → T → Bool) where
     equal_elements [] [] = refl
     equal_elements [] (y ∷ ys) = refl
     equal_elements (x ∷ xs) [] = refl
-    equal_elements (x ∷ xs) (y ∷ ys) = ap₂ ◌&&◌ (by (eq x y)) (equal_elements xs ys)
-      where
-        by : (b : Bool) → b ≡ (b && true)
-        by true = refl
-        by false = refl
+    equal_elements (x ∷ xs) (y ∷ ys) = grind (arith, equal_elements xs ys)
 
     cloned_pairs : (xs ys : List T) → AllZip (λ x y. eq x y ≡ true) xs ys
         → AllZip (λ (p q : T × Unit {0}). (eq p.0 q.0 ≡ true) × (true ≡ true)) (pairs_of xs) (pairs_of ys)
@@ -292,28 +234,3 @@ module _ {T : Type 0} (eq : T → T → Bool) where
         equal_elements ts (keys_of es) ∙ ap (entries_eq eq (λ _ _. true) (pairs_of ts)) (pairs_of-keys_of es)
         ∙ clone_is_equal eq laws (λ _ _. true) (pairs_of ts) (pairs_of clones) (entries_of_pairs ts d)
         (cloned_pairs ts clones z)
-
--- ---- retains
-
-module _ {F T : Type 0} (U : F → T → Bool → F → Type 0) (p : T → Bool)
-    (says : (g : F) (t : T) (b : Bool) (h : F) → U g t b h → b ≡ p t) where
-  pub retained_in_order : (f : F) (es new : List (T × Unit {0})) (g : F)
-      → KeepsInOrder (at_element U) f es new g
-      → keys_of new ≡ filter p (keys_of es)
-  retained_in_order f es new g r =
-      ap keys_of
-      (keeps_in_order_is_filter (at_element U) (λ e. p e.0)
-      (λ g t v b w h u. (says g t b h u, refl)) f es new g
-      r)
-      ∙ keys-filter p p es
-
-  pub retained_in_some_order : (eq : T → T → Bool) → IsEquivalence eq
-      → (f : F) (es new : List (T × Unit {0})) (g : F)
-      → IsEntries eq es
-      → KeepsInSomeOrder (at_element U) eq f es new g → keys_of new ≡ filter p (keys_of es)
-  retained_in_some_order eq laws f es new g d r =
-      ap keys_of
-      (keeps_is_filter eq laws (at_element U) (λ e. p e.0)
-      (λ g t v b w h u. (says g t b h u, refl)) f es new g d
-      r)
-      ∙ keys-filter p p es

@@ -1,32 +1,31 @@
 -- What stands after the steps of a set.
-use Rattle.std.proofs.Common.{◌≡◌, ℕ, zero, suc, ◌+◌, Bool, true, false, cond, ◌||◌, List, [], ◌∷◌, ◌++◌}
-use Rattle.std.proofs.Common.{length, take, drop, slice_get, slice_set, is_some, Option, None, Some, refl}
-use Rattle.std.proofs.Common.{sym, ap, ap₂, ◌∙◌, ◌⊎◌, inl, inr, subst}
+use Rattle.std.proofs.Common.{◌≡◌, ℕ, zero, suc, ◌+◌, Bool, true, false, cond, ◌||◌, List, [], ◌∷◌, ◌++◌, sym}
+use Rattle.std.proofs.Common.{length, take, drop, slice_get, slice_set, is_some, Some, refl, ap, ap₂, ◌∙◌}
+use Rattle.std.proofs.Common.{subst, arith}
 use Rattle.std.specs.Cmp.{IsEquivalence}
-use Rattle.std.specs.List.{IsDistinct, AllByRecursion}
+use Rattle.std.specs.List.{IsDistinct}
 use Rattle.std.specs.Map.{keys_of, lookup}
 use Rattle.std.specs.Set.{is_member, swap_key}
-use Rattle.std.proofs.lemmas.Map.{NonePasses}
 use Rattle.std.proofs.lemmas.Map.Made.{is_some-lookup}
 use Rattle.std.proofs.lemmas.Map.Entries.{length-keys_of}
-use Rattle.std.proofs.lemmas.List.{length-append, set_at, take-append-drop}
+use Rattle.std.proofs.lemmas.List.{set_at, take-append-drop}
 use Rattle.std.proofs.lemmas.Option.{none-some, same_Some}
 use Rattle.hashlink_model.specs.Entries.{place_without, without, stored_key, put}
 use Rattle.hashlink_model.specs.Sets.{pairs_of, put_element, replaced}
-use Rattle.hashlink_model.proofs.Splits.{Stands, splits, remove_entry-none, remove_entry-here}
 use Rattle.hashlink_model.proofs.Distinct.{each-middle, each-weaker}
 use Rattle.hashlink_model.proofs.Finds.{stored_key-equal}
 use Rattle.hashlink_model.proofs.Puts.{IsEntries-put}
 use Rattle.hashlink_model.proofs.Afterwards.{length-put_absent, length-put_there}
 use Rattle.hashlink_model.proofs.Places.{split_at}
 use Rattle.hashlink_model.proofs.Members.{is_member-equal, is_member-append, none_from_is_member}
-use Rattle.hashlink_model.proofs.Members.{IsDistinct-append}
 use Rattle.hashlink_model.proofs.SetViews.{keys_of-pairs_of}
+use Rattle.hashlink_model.proofs.Members.{is_member_from_none}
+use Rattle.std.proofs.lemmas.Map.Keys.{IsDistinct-push}
 
 module _ {T : Type 0} (eq : T → T → Bool) where
   -- ---- lengths
 
-  length_pairs_of : (ts : List T) → length (pairs_of ts) ≡ length ts
+  pub length_pairs_of : (ts : List T) → length (pairs_of ts) ≡ length ts
   length_pairs_of ts = sym (length-keys_of (pairs_of ts)) ∙ ap length (keys_of-pairs_of ts)
 
   -- an element is a member exactly where a look-up finds it
@@ -37,23 +36,11 @@ module _ {T : Type 0} (eq : T → T → Bool) where
   pub length-put_element : (ts : List T) (t : T) (b : ℕ)
       → length (put_element eq ts t b) ≡ cond (is_member eq ts t) (length ts) (length ts + 1)
   length-put_element ts t b =
-      length-keys_of (put eq (pairs_of ts) t tt b) ∙ by (lookup (eq t) (pairs_of ts)) refl
-      ∙ ap (λ c. cond c (length ts) (length ts + 1)) (is_some-lookup_pairs ts t)
-    where
-      by : (o : Option (Unit {0})) → lookup (eq t) (pairs_of ts) ≡ o
-          → length (put eq (pairs_of ts) t tt b)
-          ≡ cond (is_some (lookup (eq t) (pairs_of ts))) (length ts) (length ts + 1)
-      by None l = length-put_absent eq (pairs_of ts) t tt b l ∙ ap (λ n. n + 1) (length_pairs_of ts)
-          ∙ rw l refl
-      by (Some w) l = length-put_there eq (pairs_of ts) t tt b w l ∙ length_pairs_of ts ∙ rw l refl
-
-  pub length-put_element_absent : (ts : List T) (t : T) (b : ℕ) → is_member eq ts t ≡ false
-      → length (put_element eq ts t b) ≡ length ts + 1
-  length-put_element_absent ts t b m = length-put_element ts t b ∙ rw m refl
-
-  pub length-put_element_there : (ts : List T) (t : T) (b : ℕ) → is_member eq ts t ≡ true
-      → length (put_element eq ts t b) ≡ length ts
-  length-put_element_there ts t b m = length-put_element ts t b ∙ rw m refl
+      let es = pairs_of ts in
+      let there = is_some-lookup_pairs ts t in
+      let long = length-keys_of (put eq es t tt b) in
+      let same = length_pairs_of ts in
+      grind (arith, long, there, same, length-put_absent eq es t tt b, length-put_there eq es t tt b)
 
   pub replaced-absent : (ts : List T) (t : T) → is_member eq ts t ≡ false → replaced eq ts t ≡ ts ++ t ∷ []
   replaced-absent ts t m = rw m refl
@@ -62,22 +49,9 @@ module _ {T : Type 0} (eq : T → T → Bool) where
       ≡ swap_key (eq t) ts t
   replaced-there ts t m = rw m refl
 
-  length_swap_key : (test : T → Bool) (ts : List T) (t : T) → length (swap_key test ts t) ≡ length ts
+  pub length_swap_key : (test : T → Bool) (ts : List T) (t : T) → length (swap_key test ts t) ≡ length ts
   length_swap_key test [] t = refl
-  length_swap_key test (x ∷ ts) t = by (test x) (length_swap_key test ts t)
-    where
-      by : (b : Bool) → length (swap_key test ts t) ≡ length ts
-          → length (cond b (t ∷ ts) (x ∷ swap_key test ts t)) ≡ length (x ∷ ts)
-      by true h = refl
-      by false h = ap suc h
-
-  pub length-replaced_absent : (ts : List T) (t : T) → is_member eq ts t ≡ false
-      → length (replaced eq ts t) ≡ length ts + 1
-  length-replaced_absent ts t m = ap length (replaced-absent ts t m) ∙ length-append ts (t ∷ [])
-
-  pub length-replaced_there : (ts : List T) (t : T) → is_member eq ts t ≡ true
-      → length (replaced eq ts t) ≡ length ts
-  length-replaced_there ts t m = ap length (replaced-there ts t m) ∙ length_swap_key (eq t) ts t
+  length_swap_key test (x ∷ ts) t = grind (arith, length_swap_key test ts t)
 
   -- ---- every other element stays at its place
 
@@ -85,12 +59,7 @@ module _ {T : Type 0} (eq : T → T → Bool) where
       → slice_get (swap_key (eq t) ts t) i ≡ Some x
   swapped_others t x f [] i e = absurd (none-some x e)
   swapped_others t x f (y ∷ ts) zero e = rw (ap (eq t) (same_Some y x e) ∙ f) e
-  swapped_others t x f (y ∷ ts) (suc i) e = by (eq t y) (swapped_others t x f ts i e)
-    where
-      by : (b : Bool) → slice_get (swap_key (eq t) ts t) i ≡ Some x
-          → slice_get (cond b (t ∷ ts) (y ∷ swap_key (eq t) ts t)) (suc i) ≡ Some x
-      by true h = e
-      by false h = h
+  swapped_others t x f (y ∷ ts) (suc i) e = grind (arith, swapped_others t x f ts i e)
 
   pushed_others : (t x : T) (ts : List T) (i : ℕ) → slice_get ts i ≡ Some x
       → slice_get (ts ++ t ∷ []) i ≡ Some x
@@ -100,16 +69,7 @@ module _ {T : Type 0} (eq : T → T → Bool) where
 
   pub replaced-others : (ts : List T) (t x : T) (i : ℕ) → slice_get ts i ≡ Some x → eq t x ≡ false
       → slice_get (replaced eq ts t) i ≡ Some x
-  replaced-others ts t x i e f = by (is_member eq ts t)
-    where
-      by : (b : Bool) → slice_get (cond b (swap_key (eq t) ts t) (ts ++ t ∷ [])) i ≡ Some x
-      by true = swapped_others t x f ts i e
-      by false = pushed_others t x ts i e
-
-or_turn : (a b c : Bool) → (a || (b || c)) ≡ (b || (a || c))
-or_turn true true c = refl
-or_turn true false c = refl
-or_turn false b c = refl
+  replaced-others ts t x i e f = grind (arith, swapped_others t x f ts i e, pushed_others t x ts i e)
 
 module _ {T : Type 0} (eq : T → T → Bool) (laws : IsEquivalence eq) where
   -- ---- members after an element was put
@@ -118,25 +78,12 @@ module _ {T : Type 0} (eq : T → T → Bool) (laws : IsEquivalence eq) where
     member_middle : (xs : List (T × V)) (e : T × V) (ys : List (T × V))
         → is_member eq (keys_of (xs ++ e ∷ ys)) q ≡ (eq q e.0 || is_member eq (keys_of (xs ++ ys)) q)
     member_middle [] e ys = refl
-    member_middle (x ∷ xs) e ys =
-        ap (λ b. eq q x.0 || b) (member_middle xs e ys)
-        ∙ or_turn (eq q x.0) (eq q e.0) (is_member eq (keys_of (xs ++ ys)) q)
+    member_middle (x ∷ xs) e ys = grind (arith, member_middle xs e ys)
 
     member_without : (es : List (T × V)) (k : T) → eq k q ≡ false
         → is_member eq (keys_of (without eq es k)) q ≡ is_member eq (keys_of es) q
-    member_without es k f = by (splits (eq k) es)
-      where
-        by : NonePasses (eq k) es ⊎ Stands (eq k) es
-            → is_member eq (keys_of (without eq es k)) q ≡ is_member eq (keys_of es) q
-        by (inl n) = ap (λ zs. is_member eq (keys_of zs) q) (remove_entry-none (eq k) es n)
-        by (inr s) =
-            let apart : eq q s.1.0 ≡ false = laws.symm q s.1.0 ∙ sym (laws.congr k s.1.0 q s.3.passes) ∙ f in
-            ap (λ zs. is_member eq (keys_of (without eq zs k)) q) s.3.is
-            ∙ ap (λ zs. is_member eq (keys_of zs) q)
-            (remove_entry-here (eq k) s.1 s.2 s.3.passes s.0 s.3.before)
-            ∙ ap (λ b. b || is_member eq (keys_of (s.0 ++ s.2)) q) (sym apart)
-            ∙ sym (member_middle s.0 s.1 s.2)
-            ∙ ap (λ zs. is_member eq (keys_of zs) q) (sym s.3.is)
+    member_without [] k f = refl
+    member_without (e ∷ es) k f = grind (arith, member_without es k f, laws.congr k e.0 q, laws.symm q e.0)
 
     pub is_member-put : (es : List (T × V)) (k : T) (v : V) (b : ℕ)
         → is_member eq (keys_of (put eq es k v b)) q ≡ (eq k q || is_member eq (keys_of es) q)
@@ -144,15 +91,9 @@ module _ {T : Type 0} (eq : T → T → Bool) (laws : IsEquivalence eq) where
         let j = place_without eq es k b in
         let zs = without eq es k in
         let k0 = stored_key eq es k in
-        member_middle (take j zs) (k0, v) (drop j zs)
-        ∙ ap₂ (λ c ys. c || is_member eq (keys_of ys) q)
+        member_middle (take j zs) (k0, v) (drop j zs) ∙ ap₂ (λ c ys. c || is_member eq (keys_of ys) q)
         (laws.symm q k0 ∙ sym (laws.congr k k0 q (stored_key-equal eq laws k es))) (take-append-drop j zs)
-        ∙ by (eq k q) refl
-      where
-        by : (c : Bool) → eq k q ≡ c
-            → (c || is_member eq (keys_of (without eq es k)) q) ≡ (c || is_member eq (keys_of es) q)
-        by true t = refl
-        by false t = member_without es k t
+        ∙ grind (arith, member_without es k)
 
   pub is_member-put_element : (ts : List T) (t : T) (b : ℕ) (q : T)
       → is_member eq (put_element eq ts t b) q ≡ (eq t q || is_member eq ts q)
@@ -167,72 +108,33 @@ module _ {T : Type 0} (eq : T → T → Bool) (laws : IsEquivalence eq) where
 
   member_swap_key : (t q : T) (ts : List T) → is_member eq (swap_key (eq t) ts t) q ≡ is_member eq ts q
   member_swap_key t q [] = refl
-  member_swap_key t q (x ∷ ts) = by (eq t x) refl (member_swap_key t q ts)
-    where
-      by : (b : Bool) → eq t x ≡ b → is_member eq (swap_key (eq t) ts t) q ≡ is_member eq ts q
-          → is_member eq (cond b (t ∷ ts) (x ∷ swap_key (eq t) ts t)) q ≡ (eq q x || is_member eq ts q)
-      by true e h = ap (λ c. c || is_member eq ts q) (laws.symm q t ∙ laws.congr t x q e ∙ laws.symm x q)
-      by false e h = ap (λ c. eq q x || c) h
+  member_swap_key t q (x ∷ ts) =
+      grind (arith, member_swap_key t q ts, laws.symm q t, laws.symm x q, laws.congr t x q)
 
   pub is_member-replaced : (ts : List T) (t q : T) → is_member eq (replaced eq ts t) q
       ≡ (eq t q || is_member eq ts q)
-  is_member-replaced ts t q = by (is_member eq ts t) refl
-    where
-      there : (b : Bool) → eq t q ≡ b → is_member eq ts t ≡ true → is_member eq ts q
-          ≡ (b || is_member eq ts q)
-      there true e m = sym (is_member-equal eq laws ts t q e) ∙ m
-      there false e m = refl
-
-      last : (a b : Bool) → (a || (b || false)) ≡ (b || a)
-      last true true = refl
-      last true false = refl
-      last false true = refl
-      last false false = refl
-
-      by : (b : Bool) → is_member eq ts t ≡ b
-          → is_member eq (cond b (swap_key (eq t) ts t) (ts ++ t ∷ [])) q ≡ (eq t q || is_member eq ts q)
-      by true m = member_swap_key t q ts ∙ there (eq t q) refl m
-      by false m =
-          is_member-append eq laws ts (t ∷ []) q ∙ last (is_member eq ts q) (eq q t)
-          ∙ ap (λ c. c || is_member eq ts q) (laws.symm q t)
+  is_member-replaced ts t q =
+      let pushed = is_member-append eq laws ts (t ∷ []) q in
+      grind (arith, pushed, member_swap_key t q ts, laws.symm q t, is_member-equal eq laws ts t q)
 
   -- ---- replaced elements stay pairwise unequal
-
-  each_swap_key : (P : T → Type 0) (test : T → Bool) (t : T) (ts : List T) → P t → AllByRecursion P ts
-      → AllByRecursion P (swap_key test ts t)
-  each_swap_key P test t [] p a = tt
-  each_swap_key P test t (x ∷ ts) p a = by (test x) (each_swap_key P test t ts p a.1)
-    where
-      by : (b : Bool) → AllByRecursion P (swap_key test ts t)
-          → AllByRecursion P (cond b (t ∷ ts) (x ∷ swap_key test ts t))
-      by true h = (p, a.1)
-      by false h = (a.0, h)
-
-  unequal_by : (t x : T) (ts : List T) (b : Bool) → eq t x ≡ b → IsDistinct eq (x ∷ ts)
-      → IsDistinct eq (swap_key (eq t) ts t)
-      → IsDistinct eq (cond b (t ∷ ts) (x ∷ swap_key (eq t) ts t))
-  unfolding IsDistinct
-  unequal_by t x ts true e d h = (each-weaker _ _ (λ y n. laws.congr t x y e ∙ n) ts d.0, d.1)
-  unequal_by t x ts false e d h = (each_swap_key _ (eq t) t ts (laws.symm x t ∙ e) d.0, h)
 
   IsDistinct_swap_key : (t : T) (ts : List T) → IsDistinct eq ts → IsDistinct eq (swap_key (eq t) ts t)
   unfolding IsDistinct
   IsDistinct_swap_key t [] d = d
-  IsDistinct_swap_key t (x ∷ ts) d = unequal_by t x ts (eq t x) refl d (IsDistinct_swap_key t ts d.1)
-
-  one_distinct : (t : T) → IsDistinct eq (t ∷ [])
-  unfolding IsDistinct
-  one_distinct t = (tt, tt)
+  IsDistinct_swap_key t (x ∷ ts) d =
+      let rest = IsDistinct_swap_key t ts d.1 in
+      let none = none_from_is_member eq laws (swap_key (eq t) ts t) x
+      (member_swap_key t x ts ∙ is_member_from_none eq laws ts x d.0) in
+      elim (eq t x) as (λ b. eq t x ≡ b → IsDistinct eq (cond b (t ∷ ts) (x ∷ swap_key (eq t) ts t))) [
+        | true ↦ λ e. (each-weaker _ _ (λ y n. laws.congr t x y e ∙ n) ts d.0, d.1)
+        | false ↦ λ e. (none, rest)
+      ] refl
 
   pub IsDistinct-replaced : (ts : List T) (t : T) → IsDistinct eq ts → IsDistinct eq (replaced eq ts t)
-  IsDistinct-replaced ts t d = by (is_member eq ts t) refl
-    where
-      by : (b : Bool) → is_member eq ts t ≡ b → IsDistinct eq (cond b (swap_key (eq t) ts t) (ts ++ t ∷ []))
-      by true m = IsDistinct_swap_key t ts d
-      by false m =
-          IsDistinct-append eq laws ts (t ∷ []) d (one_distinct t)
-          (each-weaker _ _ (λ x n. ap (λ c. c || false) (laws.symm x t ∙ n)) ts
-          (none_from_is_member eq laws ts t m))
+  IsDistinct-replaced ts t d =
+      let pushed : is_member eq ts t ≡ false → IsDistinct eq (ts ++ t ∷ []) = IsDistinct-push laws ts t d in
+      grind (arith, pushed, IsDistinct_swap_key t ts d)
 
   -- ---- an element that is equal leaves, and the one given takes its place
 
@@ -246,19 +148,12 @@ module _ {T : Type 0} (eq : T → T → Bool) (laws : IsEquivalence eq) where
 
   member_here : (t x : T) (us vs : List T) → eq t x ≡ true → is_member eq (us ++ x ∷ vs) t ≡ true
   member_here t x [] vs e = rw e refl
-  member_here t x (u ∷ us) vs e = by (eq t u) (member_here t x us vs e)
-    where
-      by : (b : Bool) → is_member eq (us ++ x ∷ vs) t ≡ true → (b || is_member eq (us ++ x ∷ vs) t) ≡ true
-      by true h = refl
-      by false h = h
+  member_here t x (u ∷ us) vs e = grind (arith, member_here t x us vs e)
 
   pub replaced-at : (ts : List T) (t x : T) (j : ℕ) → IsDistinct eq ts → slice_get ts j
-      ≡ Some x → eq t x ≡ true
-      → replaced eq ts t ≡ slice_set ts j t
+      ≡ Some x → eq t x ≡ true → replaced eq ts t ≡ slice_set ts j t
   replaced-at ts t x j d at e =
       let s = split_at ts j x at in
-      ap (λ zs. replaced eq zs t) s.2
-      ∙ replaced-there eq (s.0 ++ x ∷ s.1) t (member_here t x s.0 s.1 e)
-      ∙ swapped_here t x s.0 s.1 (subst (IsDistinct eq) s.2 d) e
-      ∙ sym (set_at s.0 x s.1 t (length s.0) refl)
+      ap (λ zs. replaced eq zs t) s.2 ∙ replaced-there eq (s.0 ++ x ∷ s.1) t (member_here t x s.0 s.1 e)
+      ∙ swapped_here t x s.0 s.1 (subst (IsDistinct eq) s.2 d) e ∙ sym (set_at s.0 x s.1 t (length s.0) refl)
       ∙ ap₂ (λ zs i. slice_set zs i t) (sym s.2) s.3

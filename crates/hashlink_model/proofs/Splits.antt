@@ -4,7 +4,7 @@ use Rattle.std.proofs.Common.{◌≡◌, ℕ, Bool, true, false, List, [], ◌�
 use Rattle.std.proofs.Common.{inr, refl, sym, ap, ◌∙◌, add-one}
 use Rattle.std.specs.Map.{lookup, lookup_entry, lookup_key, remove_entry, set_value}
 use Rattle.std.proofs.lemmas.Map.{NonePasses, none_passes_from_lookup}
-use Rattle.std.proofs.lemmas.Option.{none-some, same_Some}
+use Rattle.std.proofs.lemmas.Option.{same_Some}
 use Rattle.std.proofs.Math.Path.{fun_ext}
 use Rattle.hashlink_model.specs.Entries.{place_of, IsKeyTest}
 
@@ -19,24 +19,13 @@ module _ {K V : Type 0} (test : K → Bool) where
   abbrev pub Stands : List (K × V) → Type 0
   Stands es = (xs : List (K × V)) × (e : K × V) × (ys : List (K × V)) × StandsAt es xs e ys
 
-  stands_later : (x : K × V) (es : List (K × V)) → test x.0 ≡ false → Stands es → Stands (x ∷ es)
-  stands_later x es f s = (
-    x ∷ s.0,
-    s.1,
-    s.2,
-    record {
-      is = ap (λ r. x ∷ r) s.3.is;
-      passes = s.3.passes;
-      before =
-          (f, s.3.before);
-    },
-  )
-
   either_by : (x : K × V) (es : List (K × V)) (b : Bool) → test x.0 ≡ b → NonePasses test es ⊎ Stands es
       → NonePasses test (x ∷ es) ⊎ Stands (x ∷ es)
   either_by x es true t s = inr ([], x, es, record { is = refl; passes = t; before = tt })
   either_by x es false t (inl n) = inl (t, n)
-  either_by x es false t (inr s) = inr (stands_later x es t s)
+  either_by x es false t (inr s) =
+      let later = ap (λ r. x ∷ r) s.3.is in
+      inr (x ∷ s.0, s.1, s.2, record { is = later; passes = s.3.passes; before = (t, s.3.before) })
 
   -- no key passes, or the list is taken apart at the first that does
   pub splits : (es : List (K × V)) → NonePasses test es ⊎ Stands es
@@ -101,24 +90,17 @@ module _ {K V : Type 0} (test : K → Bool) where
   pub none_from_lookup : (es : List (K × V)) → lookup test es ≡ None → NonePasses test es
   none_from_lookup es l = none_passes_from_lookup test es l
 
-  found_by : (es : List (K × V)) (w : V) → lookup test es ≡ Some w → NonePasses test es
-      ⊎ Stands es → Stands es
-  found_by es w l (inl n) = absurd (none-some w (sym (lookup-none es n) ∙ l))
-  found_by es w l (inr s) = s
-
   pub stands_from_lookup : (es : List (K × V)) (w : V) → lookup test es ≡ Some w → Stands es
-  stands_from_lookup es w l = found_by es w l (splits es)
-
-  placed_by : (es : List (K × V)) (j : ℕ) → place_of test es ≡ Some j → NonePasses test es ⊎ Stands es
-      → (xs : List (K × V)) × (e : K × V) × (ys : List (K × V)) × StandsAt es xs e ys × (length xs ≡ j)
-  placed_by es j p (inl n) = absurd (none-some j (sym (place_of-none es n) ∙ p))
-  placed_by es j p (inr s) =
-      let here = place_of-here s.1 s.2 s.3.passes s.0 s.3.before in
-      (s.0, s.1, s.2, s.3, same_Some (length s.0) j (sym here ∙ (ap (place_of test) (sym s.3.is) ∙ p)))
+  stands_from_lookup es w l = elim (splits es) [ inl n ↦ absurd (cc (lookup-none es n)) | inr s ↦ s ]
 
   pub stands_from_place : (es : List (K × V)) (j : ℕ) → place_of test es ≡ Some j
       → (xs : List (K × V)) × (e : K × V) × (ys : List (K × V)) × StandsAt es xs e ys × (length xs ≡ j)
-  stands_from_place es j p = placed_by es j p (splits es)
+  stands_from_place es j p = elim (splits es) [
+    | inl n ↦ absurd (cc (place_of-none es n))
+    | inr s ↦ (
+        let here = place_of-here s.1 s.2 s.3.passes s.0 s.3.before in
+        (s.0, s.1, s.2, s.3, same_Some (length s.0) j (sym here ∙ ap (place_of test) (sym s.3.is) ∙ p)))
+  ]
 
   -- ---- a test of keys that passes one is the equality with it
 

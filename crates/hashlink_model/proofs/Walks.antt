@@ -5,7 +5,7 @@ use Rattle.std.specs.List.{cons_option}
 use Rattle.std.specs.Map.Iter.{TakesFirst, TakesLast}
 use Rattle.std.proofs.lemmas.List.{append-nil, length-append, length-take, length-drop, nil_from_length}
 use Rattle.hashlink_model.specs.Walk.{End, Front, Back, first_of, after_first_of, last_of, before_last_of}
-use Rattle.hashlink_model.specs.Walk.{step_gives, step_leaves, walk_leaves, given_front, given_back}
+use Rattle.hashlink_model.specs.Walk.{step_leaves, walk_leaves, given_front, given_back}
 
 module _ {X : Type 0} where
   pub takes_first : (xs : List X) → TakesFirst (λ x. x) xs (first_of xs) (after_first_of xs)
@@ -53,13 +53,11 @@ module _ {X : Type 0} where
       cons_append (first_of xs) (given_front ss (after_first_of xs)) _
       ∙ ap (cons_option (first_of xs)) (walk_splits ss (after_first_of xs)) ∙ first_splits xs
   walk_splits (Back ∷ ss) xs =
-      ap (λ r. given_front ss (before_last_of xs) ++ r)
-      (sym
+      ap (λ r. given_front ss (before_last_of xs) ++ r) (sym
       (append_assoc (walk_leaves ss (before_last_of xs)) (given_back ss (before_last_of xs))
       (option_to_list (last_of xs))))
       ∙ sym (append_assoc (given_front ss (before_last_of xs)) _ (option_to_list (last_of xs)))
-      ∙ ap (λ r. r ++ option_to_list (last_of xs)) (walk_splits ss (before_last_of xs))
-      ∙ last_splits xs
+      ∙ ap (λ r. r ++ option_to_list (last_of xs)) (walk_splits ss (before_last_of xs)) ∙ last_splits xs
 
   length_step : (s : End) (xs : List X) → length (step_leaves s xs) ≡ length xs - 1
   length_step Front xs = length-drop 1 xs
@@ -73,12 +71,3 @@ module _ {X : Type 0} where
       let b = length_step s xs in
       let c : length (s ∷ ss) ≡ suc (length ss) = refl in
       omega arith
-
-  -- of an empty part both ends give None for good
-  pub empty_gives : (s : End) → step_gives {X = X} s [] ≡ None
-  empty_gives Front = refl
-  empty_gives Back = refl
-
-  pub empty_leaves : (s : End) → step_leaves {X = X} s [] ≡ []
-  empty_leaves Front = refl
-  empty_leaves Back = refl

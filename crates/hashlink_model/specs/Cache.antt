@@ -1,7 +1,6 @@
 -- Caches: a map and how many entries it may have.
-use Rattle.std.specs.Prelude.{◌≡◌, ℕ, ◌+◌, ◌-◌, ◌≤◌, ◌<◌, Bool, cond, List, [], ◌∷◌, length, drop}
-use Rattle.std.specs.Prelude.{if◌then◌else◌, nat_lt, is_some, Option, Some, Result, Ok, MatchOption}
-use Rattle.std.specs.Prelude.{MatchResult, fold}
+use Rattle.std.specs.Prelude.{◌≡◌, ℕ, ◌+◌, ◌-◌, ◌≤◌, ◌<◌, Bool, cond, List, [], ◌∷◌, length, drop, nat_lt, Ok}
+use Rattle.std.specs.Prelude.{if◌then◌else◌, is_some, Option, Some, Result, MatchOption, MatchResult, fold}
 use Rattle.std.specs.Map.{lookup}
 use Rattle.std.specs.Option.{option_map_or}
 use Rattle.hashlink_model.specs.Entries.{put, moved}
@@ -105,8 +104,7 @@ module _ {K V S : Type 0} where
     -- the cache's insert, by its answer: a refusal drops nothing
     abbrev pub CacheInserts : CacheState K V S → CacheState K V S → K → V → Result (Option V) (K × V) → Type 0
     CacheInserts old new k v r =
-        OnMap
-        (λ a b. MatchResult r (λ w. InsertsThenFits (InsertsLast k v w) old.cap a b)
+        OnMap (λ a b. MatchResult r (λ w. InsertsThenFits (InsertsLast k v w) old.cap a b)
         (RefusesEntry eq a b k v))
         old new
 

@@ -15,8 +15,7 @@ module _ {K V : Type 0} where
 
   -- the same with comparisons that may have no answer
   abbrev pub entries_partial_cmp : (K → K → Option Ordering) → (V → V → Option Ordering)
-      → List (K × V) → List (K × V)
-      → Option Ordering
+      → List (K × V) → List (K × V) → Option Ordering
   entries_partial_cmp cmpk cmpv = slice_partial_cmp
       (λ p q. partial_ordering_then (cmpk p.0 q.0) (cmpv p.1 q.1))
 

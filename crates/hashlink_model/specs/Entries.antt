@@ -1,6 +1,5 @@
--- The entries of a map: a list of pairs, front first, whose keys are pairwise unequal.
--- The equality `eq` of the keys is any equivalence: equal keys may be different objects, so it matters which
--- one the list keeps.
+-- The entries of a map: a list of pairs, front first, whose keys are pairwise unequal. The equality `eq` of
+-- the keys is any equivalence: equal keys may be different objects, so it matters which one the list keeps.
 use Rattle.std.specs.Prelude.{◌≡◌, IsTrue, ℕ, zero, suc, ◌-◌, ◌+◌, Bool, List, [], ◌∷◌, length, Option, None}
 use Rattle.std.specs.Prelude.{Some, cond, if◌then◌else◌, nat_lt, unwrap_or, insert, remove, slice_get, fold}
 use Rattle.std.specs.List.{IsDistinct}

@@ -12,8 +12,7 @@ module _ {State Item A : Type 0} (step : State → State → Item → Result A I
       (between : State) × (a : A) × step old between i (Ok a) × AcceptsAll between items new
 
   -- one item was refused and handed back: those before it were accepted in turn, and `left` are those after
-  -- it. The count of the
-  -- accepted ones stops at the greatest `u64`
+  -- it. The count of the accepted ones stops at the greatest `u64`
   pub record StopsAt (old : State) (items : List Item) (new : State) (taken : ℕ) (back : Item)
       (left : List Item) : Type 0 where
     pub before : List Item
@@ -41,6 +40,5 @@ MadeFrom step items s m = AcceptsAll step (empty_map s) items m
 
 -- the map's insert of a pair at the length
 abbrev pub InsertsPair : {K V S : Type 0} → (K → K → Bool) → MapState K V S → MapState K V S → K × V
-    → Result (Option V) (K × V)
-    → Type 0
+    → Result (Option V) (K × V) → Type 0
 InsertsPair eq old new p r = Inserts eq old new p.0 p.1 (length old.entries) r

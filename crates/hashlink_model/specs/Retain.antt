@@ -1,6 +1,5 @@
 -- Retention. T f k v b w g says that a call of the closure f at the key k and the value v may answer b, leave
--- the value w, and
--- leave the closure as g.
+-- the value w, and leave the closure as g.
 use Rattle.std.specs.Prelude.{◌≡◌, Bool, List, [], ◌∷◌, cond, IsPermutation}
 use Rattle.std.specs.List.{filter_map}
 use Rattle.std.specs.Map.{lookup_entry}
@@ -13,8 +12,7 @@ in_order_of eq es kept = filter_map (λ e. lookup_entry (eq e.0) kept) es
 
 module _ {F K V : Type 0} (T : F → K → V → Bool → V → F → Type 0) where
   -- f was called once at each entry, in the list's order, and left as g; `kept` are the entries at which it
-  -- answered true, with the
-  -- values that it left
+  -- answered true, with the values that it left
   abbrev pub KeepsInOrder : F → List (K × V) → List (K × V) → F → Type 0
   KeepsInOrder f [] kept g = (kept ≡ []) × (g ≡ f)
   KeepsInOrder f (e ∷ es) kept g =

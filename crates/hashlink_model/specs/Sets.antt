@@ -40,8 +40,7 @@ module _ {T S : Type 0} (eq : T → T → Bool) where
   -- stays the object that it is
   abbrev pub SetInserts : SetState T S → SetState T S → T → Result Bool T → Type 0
   SetInserts old new t r =
-      MatchResult r
-      (λ b. Inserts eq old new t tt (length old.entries) (Ok (cond b None (Some tt))))
+      MatchResult r (λ b. Inserts eq old new t tt (length old.entries) (Ok (cond b None (Some tt))))
       (λ x. Inserts eq old new t tt (length old.entries) (Err (x, tt)))
 
   -- `get_or_insert`: the same, and the object that now stands last is lent

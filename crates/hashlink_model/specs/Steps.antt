@@ -37,8 +37,7 @@ module _ {K V S : Type 0} where
     pub step : MatchOption r (new ≡ old) (λ _. Removes old new (before_last_of old.entries))
 
   -- a reserve for n more entries: the room alone grows, and after an Ok it is enough. Where it was enough
-  -- before, the reserve
-  -- is not refused and changes nothing, and nor does one that is refused
+  -- before, the reserve is not refused and changes nothing, and nor does one that is refused
   pub record Reserves {E : Type 0} (old new : MapState K V S) (n : ℕ) (r : Result (Unit {0}) E) : Type 0 where
     pub grows : Grows n old new
     pub enough : OnOk r (length new.entries + n ≤ new.room)

@@ -32,8 +32,7 @@ pub record IsTooHeavy {K V S : Type 0} (old new : WeightedState K V S) (weight :
 
 module _ {K V S : Type 0} (eq : K → K → Bool) where
   -- an insert that was accepted: the map's insert of the pair with its weight, and then the fitting end is
-  -- kept; w is the old value
-  -- with its weight
+  -- kept; w is the old value with its weight
   pub record WeightedInserts (old new : WeightedState K V S) (k : K) (v : V) (weight : ℕ)
       (w : Option (V × ℕ)) : Type 0 where
     pub not_too_heavy : weight ≤ old.budget

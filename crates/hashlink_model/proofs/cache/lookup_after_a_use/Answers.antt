@@ -2,7 +2,4 @@ use Rattle.hashlink_model.proofs.Caches.{lookup-cache_use, lookup_entry-cache_us
 use Rattle.hashlink_model.proofs.cache.lookup_after_a_use.Goals as goal
 
 pub returns : goal.returns
-returns g c = record {
-  at_key = lookup-cache_use;
-  at_others = lookup_entry-cache_use;
-}
+returns g c = record { at_key = lookup-cache_use; at_others = lookup_entry-cache_use }

@@ -1,14 +1,15 @@
-use Rattle.std.proofs.Common.{ap, length, arith}
-use Rattle.hashlink_model.proofs.Cursors.{next-within, previous-within, inserts-within, there_and_back}
-use Rattle.hashlink_model.proofs.Cursors.{back_and_there}
+use Rattle.std.proofs.Common.{arith, length, ◌+◌, ap}
+use Rattle.std.proofs.lemmas.Nat.{mod_below}
+use Rattle.hashlink_model.proofs.Cursors.{inserts-within, back_from_following, on_from_preceding}
 use Rattle.hashlink_model.proofs.cursor.where_a_cursor_stands.Goals as goal
 
 pub returns : goal.returns
 returns g c = record {
-  next = next-within;
-  previous = previous-within;
+  next = λ s. omega (arith, mod_below (s.place + 1) (length s.map.entries + 1) (omega arith));
+  previous = λ s.
+      omega (arith, mod_below (s.place + length s.map.entries) (length s.map.entries + 1) (omega arith));
   inserts = inserts-within;
-  there_and_back = there_and_back;
-  back_and_there = back_and_there;
-  past_the_guard = λ c l p w. let n = ap length l in omega arith;
+  there_and_back = λ s w. back_from_following (length s.map.entries) s.place w;
+  back_and_there = λ s w. on_from_preceding (length s.map.entries) s.place w;
+  past_the_guard = λ s l p w. omega (arith, ap length l);
 }

@@ -1,8 +1,10 @@
-use Rattle.hashlink_model.proofs.Puts.{last_after_put, first_after_put}
+use Rattle.hashlink_model.specs.Entries.{without}
+use Rattle.hashlink_model.proofs.Finds.{stored_key-equal}
+use Rattle.hashlink_model.proofs.Puts.{put_back, put_front}
 use Rattle.hashlink_model.proofs.entries.the_end_after_an_insert.Goals as goal
 
 pub returns : goal.returns
 returns g c = record {
-  back = last_after_put;
-  front = first_after_put;
+  back = λ eq laws es k v. (without eq es k, _, put_back eq es k v, stored_key-equal eq laws k es);
+  front = λ eq laws es k v. (without eq es k, _, put_front eq es k v, stored_key-equal eq laws k es);
 }

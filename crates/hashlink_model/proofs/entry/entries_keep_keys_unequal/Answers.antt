@@ -1,14 +1,18 @@
-use Rattle.hashlink_model.proofs.Occupied.{IsEntries-insert_entry, IsEntries-replace_entry}
-use Rattle.hashlink_model.proofs.Occupied.{IsEntries-insert_value, IsEntries-set_key_at}
-use Rattle.hashlink_model.proofs.Occupied.{IsEntries-set_value_at, IsEntries-or_insert}
+use Rattle.std.specs.Prelude.{length}
+use Rattle.hashlink_model.proofs.Puts.{IsEntries-put}
+use Rattle.hashlink_model.proofs.Occupied.{IsEntries-insert_entry, IsEntries-replace_entry, insert_value-put}
+use Rattle.hashlink_model.proofs.Occupied.{set_key_at-entry, set_value_at-entry}
 use Rattle.hashlink_model.proofs.entry.entries_keep_keys_unequal.Goals as goal
 
 pub returns : goal.returns
 returns g c = record {
   insert_entry = IsEntries-insert_entry;
   replace_entry = IsEntries-replace_entry;
-  insert_value = IsEntries-insert_value;
-  replace_key = IsEntries-set_key_at;
-  replace_value = IsEntries-set_value_at;
-  or_insert = IsEntries-or_insert;
+  insert_value = λ eq laws es j e v d at.
+      rw (insert_value-put eq laws es j e v d at) (IsEntries-put eq laws es e.0 v (length es) d);
+  replace_key = λ eq laws es j e k d at t.
+      rw (set_key_at-entry es j e k at) (IsEntries-replace_entry eq laws es j e k e.1 d at t);
+  replace_value = λ eq laws es j e v d at.
+      rw (set_value_at-entry es j e v at) (IsEntries-replace_entry eq laws es j e e.0 v d at (laws.refl e.0));
+  or_insert = λ eq laws es k v. IsEntries-put eq laws es k _ (length es);
 }

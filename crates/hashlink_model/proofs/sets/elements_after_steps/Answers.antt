@@ -1,15 +1,13 @@
-use Rattle.hashlink_model.proofs.SetElements.{inserts_elements, inserts_member, inserts_refused}
-use Rattle.hashlink_model.proofs.SetElements.{removes_elements, moves_elements, pops_front_elements}
-use Rattle.hashlink_model.proofs.SetElements.{pops_back_elements}
+use Rattle.hashlink_model.proofs.SetElements as elements
 use Rattle.hashlink_model.proofs.sets.elements_after_steps.Goals as goal
 
 pub returns : goal.returns
 returns g c = record {
-  insert = inserts_elements;
-  was_there = inserts_member;
-  refused = inserts_refused;
-  remove = removes_elements;
-  moves = moves_elements;
-  pop_front = pops_front_elements;
-  pop_back = pops_back_elements;
+  insert = elements.inserts_elements;
+  was_there = elements.inserts_member;
+  refused = elements.inserts_refused;
+  remove = elements.removes_elements;
+  moves = elements.moves_elements;
+  pop_front = elements.pops_front_elements;
+  pop_back = elements.pops_back_elements;
 }

@@ -2,7 +2,4 @@ use Rattle.hashlink_model.proofs.SetSteps.{IsDistinct-put_element, IsDistinct-re
 use Rattle.hashlink_model.proofs.sets.set_steps_keep_elements_unequal.Goals as goal
 
 pub returns : goal.returns
-returns g c = record {
-  put = IsDistinct-put_element;
-  replaced = IsDistinct-replaced;
-}
+returns g c = record { put = IsDistinct-put_element; replaced = IsDistinct-replaced }

@@ -11,8 +11,7 @@ returns g c = record {
   lent = λ old new x e s.
       let left = set_inserts nat_eq old new 1 s.0 s.1 in (
         s.2 ∙ ap (λ ts. stored_element nat_eq ts 1) e,
-        left.0 ∙ ap
-            (λ ts. put_element nat_eq ts 1 (length ts)) e,
+        left.0 ∙ ap (λ ts. put_element nat_eq ts 1 (length ts)) e,
       );
   swapped = λ old new o e s.
       let left = set_replaces nat_eq old new 3 o s in
