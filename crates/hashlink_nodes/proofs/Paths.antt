@@ -2,6 +2,8 @@
 use Rattle.std.proofs.Common.{true, ◌≡◌, ℕ, zero, suc, false, cond, List, [], ◌∷◌, ◌++◌, length, refl, sym}
 use Rattle.std.proofs.Common.{ap, ◌∙◌, subst}
 use Rattle.std.proofs.lemmas.List.{append-nil}
+use Rattle.std.proofs.lemmas.List.Sorted.{IsPermutation-middle, IsPermutation-sym}
+use Rattle.std.proofs.lemmas.Map.Keys.{IsDistinct-head, IsDistinct-tail, IsDistinct-cons, IsDistinct-IsPermutation}
 use Rattle.std.specs.List.{AllByRecursion, IsDistinct}
 use Rattle.hashlink_nodes.specs.declared.node.Node.{Node}
 use Rattle.hashlink_nodes.specs.Node.{same_node, same_node_equiv, same_node-refl}
@@ -83,41 +85,23 @@ pub all_zip : {X : Type 0} {P Q R : X → Type 0} → ((x : X) → P x → Q x �
 all_zip f [] h k = tt
 all_zip f (x ∷ xs) h k = (f x h.0 k.0, all_zip f xs h.1 k.1)
 
--- the node in the middle stands first
-pub distinct_front : (xs : List Node) (n : Node) (ys : List Node) → IsDistinct same_node (xs ++ n ∷ ys)
-    → IsOff n (xs ++ ys) × IsDistinct same_node (xs ++ ys)
-unfolding IsDistinct
-distinct_front [] n ys d = d
-distinct_front (x ∷ xs) n ys d =
-    let rest = distinct_front xs n ys d.1 in
-    ((flip x n (all_middle (Off x) xs n ys d.0), rest.0), (all_without (Off x) xs n ys d.0, rest.1))
+-- the node in the middle stands first, and goes back
+pub to_front : (xs : List Node) (n : Node) (ys : List Node) → IsDistinct same_node (xs ++ n ∷ ys)
+    → IsDistinct same_node (n ∷ (xs ++ ys))
+to_front xs n ys d =
+    IsDistinct-IsPermutation same_node same_node_equiv.symm _ _ (IsPermutation-middle xs n ys) d
 
-pub distinct_middle : (xs : List Node) (n : Node) (ys : List Node) → IsOff n (xs ++ ys)
-    → IsDistinct same_node (xs ++ ys)
+pub from_front : (xs : List Node) (n : Node) (ys : List Node) → IsDistinct same_node (n ∷ (xs ++ ys))
     → IsDistinct same_node (xs ++ n ∷ ys)
-unfolding IsDistinct
-distinct_middle [] n ys o d = (o, d)
-distinct_middle (x ∷ xs) n ys o d =
-    (all_with (Off x) xs n ys (flip n x o.0) d.0, distinct_middle xs n ys o.1 d.1)
-
-pub distinct_head : (n : Node) (ns : List Node) → IsDistinct same_node (n ∷ ns) → IsOff n ns
-unfolding IsDistinct
-distinct_head n ns d = d.0
-
-pub distinct_tail : (n : Node) (ns : List Node) → IsDistinct same_node (n ∷ ns) → IsDistinct same_node ns
-unfolding IsDistinct
-distinct_tail n ns d = d.1
-
-pub distinct_cons : (n : Node) (ns : List Node) → IsOff n ns → IsDistinct same_node ns
-    → IsDistinct same_node (n ∷ ns)
-unfolding IsDistinct
-distinct_cons n ns o d = (o, d)
+from_front xs n ys d =
+    IsDistinct-IsPermutation same_node same_node_equiv.symm _ _
+    (IsPermutation-sym _ _ (IsPermutation-middle xs n ys)) d
 
 -- the last of the first nodes is none of the rest
 pub off_rest : (a : Node) (xs ys : List Node) → IsDistinct same_node (a ∷ (xs ++ ys))
     → IsOff (last_or a xs) ys
-off_rest a [] ys d = distinct_head a ys d
-off_rest a (x ∷ xs) ys d = off_rest x xs ys (distinct_tail a _ d)
+off_rest a [] ys d = IsDistinct-head same_node a ys d
+off_rest a (x ∷ xs) ys d = off_rest x xs ys (IsDistinct-tail same_node a _ d)
 
 pub off_last : (a x : Node) (xs rest : List Node) → IsOff a (x ∷ (xs ++ rest))
     → same_node a (last_or x xs) ≡ false
@@ -159,11 +143,11 @@ pub path_detach : (f' f : Node → Node) (n a : Node) (xs ys : List Node) (b : N
     → IsDistinct same_node (a ∷ (xs ++ n ∷ ys)) → IsPath f' a (xs ++ ys) b
 path_detach f' f n a [] [] b p here others d = here
 path_detach f' f n a [] (y ∷ ys) b p here others d =
-    (here, path_same f' f y ys b (agrees_off f' f a (y ∷ ys) others (distinct_head a _ d).1) p.1.1)
+    (here, path_same f' f y ys b (agrees_off f' f a (y ∷ ys) others (IsDistinct-head same_node a _ d).1) p.1.1)
 path_detach f' f n a (x ∷ xs) ys b p here others d = (
-  others a (off_last a x xs (n ∷ ys) (distinct_head a _ d))
+  others a (off_last a x xs (n ∷ ys) (IsDistinct-head same_node a _ d))
       ∙ p.0,
-  path_detach f' f n x xs ys b p.1 here others (distinct_tail a _ d),
+  path_detach f' f n x xs ys b p.1 here others (IsDistinct-tail same_node a _ d),
 )
 
 -- a node goes in between
@@ -178,15 +162,15 @@ path_attach f' f n a [] (y ∷ ys) b p here there others d = (
   (
     there,
     path_same f' f y ys b
-        (agrees_off_two f' f n a (y ∷ ys) others (distinct_head n _ d).1
-        (distinct_head a _ (distinct_tail n _ d))) p.1,
+        (agrees_off_two f' f n a (y ∷ ys) others (IsDistinct-head same_node n _ d).1
+        (IsDistinct-head same_node a _ (IsDistinct-tail same_node n _ d))) p.1,
   ),
 )
 path_attach f' f n a (x ∷ xs) ys b p here there others d =
-    let o = distinct_head n _ d in let e = distinct_tail n _ d in (
-      others a (flip n a o.0) (off_last a x xs ys (distinct_head a _ e))
+    let o = IsDistinct-head same_node n _ d in let e = IsDistinct-tail same_node n _ d in (
+      others a (flip n a o.0) (off_last a x xs ys (IsDistinct-head same_node a _ e))
           ∙ p.0,
-      path_attach f' f n x xs ys b p.1 here there others (distinct_cons n _ o.1 (distinct_tail a _ e)),
+      path_attach f' f n x xs ys b p.1 here there others (IsDistinct-cons same_node n _ o.1 (IsDistinct-tail same_node a _ e)),
     )
 
 pub off_head : (x : Node) (ys : List Node) (b : Node) → IsOff x ys → same_node x b ≡ false
@@ -202,20 +186,20 @@ pub back_detach : (f' f : Node → Node) (n a : Node) (xs ys : List Node) (b : N
     → IsDistinct same_node (b ∷ (xs ++ n ∷ ys)) → IsWayBack f' a (xs ++ ys) b
 back_detach f' f n a [] [] b p here others d = here
 back_detach f' f n a [] (y ∷ ys) b p here others d =
-    let o = distinct_head b _ d in (
+    let o = IsDistinct-head same_node b _ d in (
       here,
       back_same f' f y ys b
-          (agrees_off f' f y ys others (distinct_head y ys (distinct_tail n _ (distinct_tail b _ d))))
+          (agrees_off f' f y ys others (IsDistinct-head same_node y ys (IsDistinct-tail same_node n _ (IsDistinct-tail same_node b _ d))))
           (others b o.1.0)
           p.1.1,
     )
 back_detach f' f n a (x ∷ xs) ys b p here others d =
-    let o = distinct_head b _ d in let e = distinct_tail b _ d in (
+    let o = IsDistinct-head same_node b _ d in let e = IsDistinct-tail same_node b _ d in (
       others x
-          (off_head x ys b (all_right (Off x) xs ys (all_without (Off x) xs n ys (distinct_head x _ e)))
+          (off_head x ys b (all_right (Off x) xs ys (all_without (Off x) xs n ys (IsDistinct-head same_node x _ e)))
           (flip b x o.0))
           ∙ p.0,
-      back_detach f' f n x xs ys b p.1 here others (distinct_cons b _ o.1 (distinct_tail x _ e)),
+      back_detach f' f n x xs ys b p.1 here others (IsDistinct-cons same_node b _ o.1 (IsDistinct-tail same_node x _ e)),
     )
 
 pub back_attach : (f' f : Node → Node) (n a : Node) (xs ys : List Node) (b : Node)
@@ -226,22 +210,22 @@ pub back_attach : (f' f : Node → Node) (n a : Node) (xs ys : List Node) (b : N
     → IsDistinct same_node (n ∷ b ∷ (xs ++ ys)) → IsWayBack f' a (xs ++ n ∷ ys) b
 back_attach f' f n a [] [] b p here there others d = (there, here)
 back_attach f' f n a [] (y ∷ ys) b p here there others d =
-    let o = distinct_head n _ d in let e = distinct_tail n _ d in (
+    let o = IsDistinct-head same_node n _ d in let e = IsDistinct-tail same_node n _ d in (
       there,
       (
         here,
         back_same f' f y ys b (agrees_off_two f' f n y ys others o.1.1
-            (distinct_head y ys (distinct_tail b _ e))) (others b (flip n b o.0) (distinct_head b _ e).0) p.1,
+            (IsDistinct-head same_node y ys (IsDistinct-tail same_node b _ e))) (others b (flip n b o.0) (IsDistinct-head same_node b _ e).0) p.1,
       ),
     )
 back_attach f' f n a (x ∷ xs) ys b p here there others d =
-    let o = distinct_head n _ d in let e = distinct_tail n _ d in let ob = distinct_head b _ e in (
+    let o = IsDistinct-head same_node n _ d in let e = IsDistinct-tail same_node n _ d in let ob = IsDistinct-head same_node b _ e in (
       others x (flip n x o.1.0)
-          (off_head x ys b (all_right (Off x) xs ys (distinct_head x _ (distinct_tail b _ e)))
+          (off_head x ys b (all_right (Off x) xs ys (IsDistinct-head same_node x _ (IsDistinct-tail same_node b _ e)))
           (flip b x ob.0))
           ∙ p.0,
       back_attach f' f n x xs ys b p.1 here there others
-          (distinct_cons n _ (o.0, o.1.1) (distinct_cons b _ ob.1 (distinct_tail x _ (distinct_tail b _ e)))),
+          (IsDistinct-cons same_node n _ (o.0, o.1.1) (IsDistinct-cons same_node b _ ob.1 (IsDistinct-tail same_node x _ (IsDistinct-tail same_node b _ e)))),
     )
 
 -- what the links of a node in the middle are
