@@ -12,32 +12,33 @@ use Rattle.hashlink_nodes.specs.declared.nodes.Nodes.TheInside.{Inside}
 use Rattle.hashlink_nodes.specs.Node.{same_node}
 use Rattle.hashlink_nodes.specs.Pool.{state_of}
 use Rattle.hashlink_nodes.specs.Ring.{Ring, ring, IsPlace, MovesBefore, MovesAfter, put_before, put_after}
-use Rattle.hashlink_nodes.specs.Shape.{IsRing, IsSound, ring_of}
+use Rattle.hashlink_nodes.specs.Shape.{IsRing, IsSound, SoundAt, ring_at, ring_of}
 use Rattle.hashlink_nodes.specs.State.{State, GuardIs, attached, detached, hold, store_next, Adds, Drops}
 use Rattle.hashlink_nodes.proofs.Paths.{last_or, back_last}
 use Rattle.hashlink_nodes.proofs.Cuts.{cut-looked, cut-entry}
 use Rattle.hashlink_nodes.proofs.Shapes.{shape_made}
-use Rattle.hashlink_nodes.proofs.Rings.{Entries, InRing, in_ring, detach, detach_node, held_out, attach_before}
-use Rattle.hashlink_nodes.proofs.Rings.{attach_after, holds_now, held_now, added, dropped, spared, take_spare, renew}
-use Rattle.hashlink_nodes.proofs.Opening.{Leaves, NodeAt, Opened, if_some, leaves, length-removed, length-put_before}
-use Rattle.hashlink_nodes.proofs.Opening.{length-put_after, opened, empty}
+use Rattle.hashlink_nodes.proofs.Rings.{Entries, InRing, in_ring, detach, detach_node, held_out}
+use Rattle.hashlink_nodes.proofs.Rings.{attach_before, attach_after, holds_now, held_now, added, dropped}
+use Rattle.hashlink_nodes.proofs.Rings.{spared, take_spare, renew}
+use Rattle.hashlink_nodes.proofs.Opening.{Leaves, NodeAt, Opened, if_some, leaves, length-removed}
+use Rattle.hashlink_nodes.proofs.Opening.{length-put_before, length-put_after, opened, empty}
 
 module _ {K V : Type 0} where
   -- ---- a node of the ring holds something else
   pub record Renewed (s s' : State K V) (guard : Option Node) (first : Node) (len spare : ℕ)
       (v : Ring K V) (n : Node) (change : Held K V → Held K V) : Type 0 where
-    pub sound : IsSound s' guard first len spare
+    pub sound : SoundAt s' guard first len spare
     pub entries : IfSome (lookup (same_node n) v.entries)
-        (λ h. (ring_of s' guard first len spare).entries ≡ set_value (same_node n) v.entries (change h))
-    pub free : (ring_of s' guard first len spare).free ≡ v.free
+        (λ h. (ring_at s' guard first len spare).entries ≡ set_value (same_node n) v.entries (change h))
+    pub free : (ring_at s' guard first len spare).free ≡ v.free
     pub link_writes : s'.link_writes ≡ v.link_writes
 
   -- ---- an entry of the ring moves
   pub record Moved (s : State K V) (guard : Option Node) (first : Node) (len spare : ℕ) (v : Ring K V)
       (P : Entries K V → Type 0) : Type 0 where
-    pub sound : IsSound s guard first len spare
-    pub moved : P (ring_of s guard first len spare).entries
-    pub free : (ring_of s guard first len spare).free ≡ v.free
+    pub sound : SoundAt s guard first len spare
+    pub moved : P (ring_at s guard first len spare).entries
+    pub free : (ring_at s guard first len spare).free ≡ v.free
     pub link_writes : s.link_writes ≡ v.link_writes + 6
 
   module _ {s : State K V} {guard : Option Node} {g first n : Node} {len spare : ℕ} {v : Ring K V}
@@ -48,14 +49,16 @@ module _ {K V : Type 0} where
         leaves at.is (renew at.ring at.cut w is) (length-set_value (same_node n) v.entries w ∙ at.is_len)
         at.is_spare
 
-    pub renewed : {s' : State K V} (change : Held K V → Held K V) → s' ≡ hold n (option_map change (s.held n)) s
+    pub renewed : {s' : State K V} (change : Held K V → Held K V) →
+        s' ≡ hold n (option_map change (s.held n)) s
         → Renewed s s' guard first len spare v n change
     renewed {s'} change is =
-        let l = set_held (change at.cut.value) (is ∙ ap (λ o. hold n (option_map change o) s) at.here.holds) in
+        let l = set_held (change at.cut.value) (is ∙ ap (λ o. hold n (option_map change o) s) at.here.holds)
+        in
         record {
           sound = l.sound;
           entries = if_some
-              (λ h. (ring_of s' guard first len spare).entries ≡ set_value (same_node n) v.entries (change h))
+              (λ h. (ring_at s' guard first len spare).entries ≡ set_value (same_node n) v.entries (change h))
               (cut-looked at.cut) l.entries;
           free = l.free;
           link_writes = l.link_writes;
@@ -67,7 +70,8 @@ module _ {K V : Type 0} where
     taken_out is = detach_node at.ring at.cut is
 
     -- it is spare then
-    pub removed : {s₁ s₂ s₃ : State K V} → s₁ ≡ detached n s → s₂ ≡ hold n None s₁ → s₃ ≡ store_next n first s₂
+    pub removed : {s₁ s₂ s₃ : State K V} → s₁ ≡ detached n s → s₂ ≡ hold n None s₁ →
+        s₃ ≡ store_next n first s₂
         → Leaves s₃ guard n (len - 1) (spare + 1)
         (ring (remove_entry (same_node n) v.entries) (n ∷ v.free) (v.link_writes + 2 + 1))
     removed {s₁} is₁ is₂ is₃ =
@@ -82,11 +86,17 @@ module _ {K V : Type 0} where
       moved_before is_q is_p =
           let w = v.link_writes in let six : w + 2 + 4 ≡ w + 6 = omega arith in
           let e : Node × Held K V = (n, at.cut.value) in let es = remove_entry (same_node n) v.entries in
-          let l = leaves at.is (attach_before (taken_out is₁) (held_out at.here is₁) place is_place is₂ is_q is_p)
-          (omega (arith, length-put_before es g place e is_place, length-removed v.entries at.cut, at.is_len)) at.is_spare in
+          let l = leaves at.is (attach_before (taken_out is₁) (held_out at.here is₁) place is_place is₂ is_q
+          is_p)
+          (omega (
+            arith,
+            length-put_before es g place e is_place,
+            length-removed v.entries at.cut,
+            at.is_len,
+          )) at.is_spare in
           record {
             sound = l.sound;
-            moved = if_some (λ x. (ring_of s₂ guard first len spare).entries ≡ put_before place x es)
+            moved = if_some (λ x. (ring_at s₂ guard first len spare).entries ≡ put_before place x es)
                 (cut-entry at.cut) l.entries;
             free = l.free;
             link_writes = l.link_writes ∙ six;
@@ -97,11 +107,17 @@ module _ {K V : Type 0} where
       moved_after is_p is_q =
           let w = v.link_writes in let six : w + 2 + 4 ≡ w + 6 = omega arith in
           let e : Node × Held K V = (n, at.cut.value) in let es = remove_entry (same_node n) v.entries in
-          let l = leaves at.is (attach_after (taken_out is₁) (held_out at.here is₁) place is_place is₂ is_p is_q)
-          (omega (arith, length-put_after es g place e is_place, length-removed v.entries at.cut, at.is_len)) at.is_spare in
+          let l = leaves at.is (attach_after (taken_out is₁) (held_out at.here is₁) place is_place is₂ is_p
+          is_q)
+          (omega (
+            arith,
+            length-put_after es g place e is_place,
+            length-removed v.entries at.cut,
+            at.is_len,
+          )) at.is_spare in
           record {
             sound = l.sound;
-            moved = if_some (λ x. (ring_of s₂ guard first len spare).entries ≡ put_after place x es)
+            moved = if_some (λ x. (ring_at s₂ guard first len spare).entries ≡ put_after place x es)
                 (cut-entry at.cut) l.entries;
             free = l.free;
             link_writes = l.link_writes ∙ six;
@@ -109,11 +125,12 @@ module _ {K V : Type 0} where
 
   -- ---- a new entry
   -- the node n holds it, and is beside the ring
-  pub record Ready (s : State K V) (n g first : Node) (h : Held K V) (len spare : ℕ) (v : Ring K V) : Type 0 where
-    pub ring : IsRing s (n ∷ []) g first v
-    pub holds : s.held n ≡ Some h
-    pub is_len : length v.entries ≡ len
-    pub is_spare : length v.free ≡ spare
+  pub record Ready (s : State K V) (n g first : Node) (h : Held K V) (len spare : ℕ) (v : Ring K V) : Type 0
+    where
+      pub ring : IsRing s (n ∷ []) g first v
+      pub holds : s.held n ≡ Some h
+      pub is_len : length v.entries ≡ len
+      pub is_spare : length v.free ≡ spare
 
   -- the first spare node
   pub ready_spare : {s s' : State K V} {g first first' : Node} {len spare : ℕ} {v : Ring K V} (h : Held K V)
@@ -129,16 +146,15 @@ module _ {K V : Type 0} where
       }
 
   -- the guard is there, or was made
-  pub guarded_now : (n : Inside K V) {s' : State K V} {g : Node} {v : Ring K V}
-      → IsSound (state_of n.pool) n.guard n.first_spare n.len n.spare
-      → ring_of (state_of n.pool) n.guard n.first_spare n.len n.spare ≡ v → GuardIs (state_of n.pool) s' n.guard g
+  pub guarded_now : {n : Inside K V} {s' : State K V} {g : Node} {v : Ring K V} → IsSound n → ring_of n ≡ v
+      → GuardIs (state_of n.pool) s' n.guard g
       → Opened s' g n.first_spare n.len n.spare v
-  guarded_now n {s'} {g} {v} sound view is = (elim n.guard as
+  guarded_now {n} {s'} {g} {v} sound view is = (elim n.guard as
       (λ (o : Option Node). n.guard ≡ o → GuardIs (state_of n.pool) s' o g
       → Opened s' g n.first_spare n.len n.spare v) [
         | None ↦ λ none m.
-            let h = subst (λ o. IsSound (state_of n.pool) o n.first_spare n.len n.spare) none sound in
-            let e = empty n sound view none in
+            let h = subst (λ o. SoundAt (state_of n.pool) o n.first_spare n.len n.spare) none sound.at in
+            let e = empty sound view none in
             let writes = ap (λ (r : Ring K V). r.link_writes) view in
             subst (Opened s' g n.first_spare n.len n.spare) (sym e) (record {
               ring = record {
@@ -151,7 +167,7 @@ module _ {K V : Type 0} where
             })
         | Some x ↦ λ some m.
             subst (λ (t : State K V × Node). Opened t.0 t.1 n.first_spare n.len n.spare v)
-            (λ i. (sym m.1 i, sym m.0 i)) (opened n sound view some)
+            (λ i. (sym m.1 i, sym m.0 i)) (opened sound view some)
       ]) refl is
 
   -- a new node
@@ -168,14 +184,17 @@ module _ {K V : Type 0} where
   pub pushed : {s s' : State K V} {guard : Option Node} {n g first p q : Node} {h : Held K V} {len spare : ℕ}
       {v : Ring K V} → Ready s n g first h len spare v → guard ≡ Some g → (place : Option Node)
       → IsPlace v.entries place → q ≡ unwrap_or place g → p ≡ s.prev q → s' ≡ attached n p q s
-      → Leaves s' guard first (len + 1) spare (ring (put_before place (n, h) v.entries) v.free (v.link_writes + 4))
+      → Leaves s' guard first (len + 1) spare (ring (put_before place (n, h) v.entries) v.free
+      (v.link_writes + 4))
   pushed {n = n} {g = g} {h = h} {v = v} r is_guard place is_place is_q is_p is =
       leaves is_guard (attach_before r.ring r.holds place is_place is is_q is_p)
       (omega (arith, length-put_before v.entries g place (n, h) is_place, r.is_len)) r.is_spare
 
   -- ---- nodes are given back
-  pub spare_gone : {s s' : State K V} {guard : Option Node} {g first first' : Node} {len spare : ℕ} {v : Ring K V}
-      → guard ≡ Some g → Opened s g first len spare v → 0 < length v.free → first' ≡ s.next first → Drops first s s'
+  pub spare_gone : {s s' : State K V} {guard : Option Node} {g first first' : Node} {len spare : ℕ}
+      {v : Ring K V}
+      → guard ≡ Some g → Opened s g first len spare v → 0 < length v.free → first' ≡ s.next first →
+      Drops first s s'
       → Leaves s' guard first' len (spare - 1) (ring v.entries (drop 1 v.free) v.link_writes)
   spare_gone {s} {s'} {guard} {g} {len = len} {spare = spare} {v = v} is o some is_first drops =
       let v' = ring v.entries (drop 1 v.free) v.link_writes in
@@ -189,7 +208,8 @@ module _ {K V : Type 0} where
     pub value : Held K V
     pub is : es ≡ before ++ (n, value) ∷ []
 
-  last_of : (s : State K V) (a : Node) (es : Entries K V) → 0 < length es → LastIs s (last_or a (keys_of es)) es
+  last_of : (s : State K V) (a : Node) (es : Entries K V) → 0 < length es →
+      LastIs s (last_or a (keys_of es)) es
   last_of s a [] some = absurd (omega (arith, some))
   last_of s a (e ∷ []) some = record { before = []; value = e.1; is = refl }
   last_of s a (e ∷ x ∷ es) some = let rest = last_of s e.0 (x ∷ es) (omega arith) in record {
@@ -198,12 +218,14 @@ module _ {K V : Type 0} where
     is = ap (λ l. e ∷ l) rest.is;
   }
 
-  module _ {s : State K V} {g first n : Node} {len spare : ℕ} {v : Ring K V} (o : Opened s g first len spare v)
+  module _ {s : State K V} {g first n : Node} {len spare : ℕ} {v : Ring K V}
+      (o : Opened s g first len spare v)
       (some : 0 < length v.entries) (is_n : n ≡ s.prev g) where
     pub last : LastIs s n v.entries
     last =
         subst (λ m. LastIs s m v.entries)
-        (sym (is_n ∙ back_last s.prev g (keys_of v.entries) g o.ring.shape.backward)) (last_of s g v.entries some)
+        (sym (is_n ∙ back_last s.prev g (keys_of v.entries) g o.ring.shape.backward))
+        (last_of s g v.entries some)
 
     pub last_in : InRing s n last.value
     last_in = in_ring o.ring last.before n last.value [] last.is
@@ -219,10 +241,12 @@ module _ {K V : Type 0} where
         → Leaves s₃ guard first (len - 1) spare (ring last.before v.free (v.link_writes + 2))
     last_gone is is₁ is₂ drops =
         leaves is (dropped (last_bare is₁ is₂) drops)
-        (omega (arith, o.is_len, ap length last.is, length-append last.before ((n, last.value) ∷ []))) o.is_spare
+        (omega (arith, o.is_len, ap length last.is, length-append last.before ((n, last.value) ∷ [])))
+        o.is_spare
 
   -- the guard is the last to go
-  pub guard_gone : {s s' : State K V} {g first : Node} {len spare : ℕ} {v : Ring K V} → Opened s g first len spare v
+  pub guard_gone : {s s' : State K V} {g first : Node} {len spare : ℕ} {v : Ring K V} →
+      Opened s g first len spare v
       → v.entries ≡ [] → v.free ≡ [] → Drops g s s'
       → s'.size ≡ 0
   guard_gone {v = v} o no_entries no_free drops =

@@ -1,7 +1,8 @@
--- A node of a list of entries, and a place in it: what comes before, what comes after, and what the words of the
+-- A node of a list of entries, and a place in it: what comes before, what comes after, and what the words
+-- of the
 -- contracts say there.
-use Rattle.std.proofs.Common.{◌≡◌, Bool, true, false, cond, List, [], ◌∷◌, ◌++◌, Option, None, Some, refl, sym}
-use Rattle.std.proofs.Common.{ap, ◌∙◌}
+use Rattle.std.proofs.Common.{◌≡◌, Bool, true, false, cond, List, [], ◌∷◌, ◌++◌, Option, None, Some, refl}
+use Rattle.std.proofs.Common.{sym, ap, ◌∙◌}
 use Rattle.std.specs.Prelude.{is_some, slice_get, unwrap_or}
 use Rattle.std.specs.Map.{lookup, lookup_entry, remove_entry, set_value, keys_of}
 use Rattle.std.proofs.lemmas.List.{append_assoc, append-nil}
@@ -97,7 +98,8 @@ module _ {X : Type 0} where
     pub cut-renewed : (w : X) → set_value (same_node n) es w ≡ c.before ++ (n, w) ∷ c.after
     cut-renewed w = ap (λ l. set_value (same_node n) l w) c.is ∙ renewed n c.value c.after w c.before c.off
 
-  pub last-pushed : (a : Node) (xs : List (Node × X)) (e : Node × X) → last_or a (keys_of (xs ++ e ∷ [])) ≡ e.0
+  pub last-pushed : (a : Node) (xs : List (Node × X)) (e : Node × X) →
+      last_or a (keys_of (xs ++ e ∷ [])) ≡ e.0
   last-pushed a [] e = refl
   last-pushed a (x ∷ xs) e = last-pushed x.0 xs e
 

@@ -1,4 +1,4 @@
--- Lemmas on the blocks of an arena, and on the ring that their links make. Callers cite `Places`.
+-- Lemmas on the blocks of an arena, and on the ring that their links make.
 pub mod ArenaBlocks
 pub mod ArenaSharing
 pub mod ArenaSteps
@@ -11,7 +11,6 @@ pub mod LooseSteps
 pub mod Neighbours
 pub mod Opening
 pub mod Paths
-pub mod Places
 pub mod Shapes
 pub mod StateLemmas
 pub mod Walks

@@ -43,7 +43,8 @@ module _ {K V : Type 0} where
     next_to is_m =
         let at = after_place v.entries g place is_place in let l = linked r at.before at.after at.is in
         let is : m ≡ head_or g (keys_of at.after) = is_m ∙ ap s.next (is_q ∙ at.node) ∙ l.on in
-        let full = all_right (λ e. s.held e.0 ≡ Some e.1) at.before at.after (subst (Full s) at.is r.full) in record {
+        let full = all_right (λ e. s.held e.0 ≡ Some e.1) at.before at.after (subst (Full s) at.is r.full)
+        in record {
           has_place = ap s.has (is_q ∙ at.node) ∙ l.has_prev;
           has_answer = ap s.has is ∙ l.has_next;
           tells = subst (λ (x : Node × Option Node). Tells s x.0 x.1) (λ i. (sym is i, sym at.beside i))
@@ -54,7 +55,8 @@ module _ {K V : Type 0} where
     prev_to is_m =
         let at = before_place v.entries g place is_place in let l = linked r at.before at.after at.is in
         let is : m ≡ last_or g (keys_of at.before) = is_m ∙ ap s.prev (is_q ∙ at.node) ∙ l.back in
-        let full = all_left (λ e. s.held e.0 ≡ Some e.1) at.before at.after (subst (Full s) at.is r.full) in record {
+        let full = all_left (λ e. s.held e.0 ≡ Some e.1) at.before at.after (subst (Full s) at.is r.full) in
+        record {
           has_place = ap s.has (is_q ∙ at.node) ∙ l.has_next;
           has_answer = ap s.has is ∙ l.has_prev;
           tells = subst (λ (x : Node × Option Node). Tells s x.0 x.1) (λ i. (sym is i, sym at.beside i))

@@ -13,7 +13,7 @@ use Rattle.hashlink_nodes.specs.declared.nodes.Nodes.TheInside.{Inside}
 use Rattle.hashlink_nodes.specs.Node.{same_node}
 use Rattle.hashlink_nodes.specs.Pool.{state_of}
 use Rattle.hashlink_nodes.specs.Ring.{Ring, ring, Holds, IsPlace, put_before, put_after}
-use Rattle.hashlink_nodes.specs.Shape.{IsRing, IsSound, ring_of, walk, entry_of, entries_of}
+use Rattle.hashlink_nodes.specs.Shape.{IsRing, IsSound, SoundAt, ring_at, ring_of, walk, entry_of, entries_of}
 use Rattle.hashlink_nodes.specs.State.{State}
 use Rattle.hashlink_nodes.proofs.Paths.{length-walk, walk-path, walk-chain}
 use Rattle.hashlink_nodes.proofs.Cuts.{Cut, cut, cut-looked, cut-removed, before_place, after_place}
@@ -68,12 +68,13 @@ module _ {K V : Type 0} where
   -- ---- a ring is closed
   pub record Leaves (s : State K V) (guard : Option Node) (first : Node) (len spare : ℕ)
       (v : Ring K V) : Type 0 where
-    pub sound : IsSound s guard first len spare
-    pub view : ring_of s guard first len spare ≡ v
-    pub entries : (ring_of s guard first len spare).entries ≡ v.entries
-    pub free : (ring_of s guard first len spare).free ≡ v.free
+    pub sound : SoundAt s guard first len spare
+    pub view : ring_at s guard first len spare ≡ v
+    pub entries : (ring_at s guard first len spare).entries ≡ v.entries
+    pub free : (ring_at s guard first len spare).free ≡ v.free
     pub link_writes : s.link_writes ≡ v.link_writes
-    pub apart : IsDistinct same_node (keys_of (ring_of s guard first len spare).entries ++ (ring_of s guard first len spare).free)
+    pub apart : IsDistinct same_node (keys_of (ring_at s guard first len spare).entries ++
+        (ring_at s guard first len spare).free)
 
   entries-held : (f : Node → Option (Held K V)) (es : List (Node × Held K V))
       → AllByRecursion (λ e. f e.0 ≡ Some e.1) es → entries_of f (keys_of es) ≡ es
@@ -93,7 +94,7 @@ module _ {K V : Type 0} where
       ∙ entries-held s.held v.entries r.full in
       let free : walk s.next first spare ≡ v.free
       = ap (walk s.next first) (sym is_spare) ∙ walk-chain s.next first v.free r.shape.chain in
-      let view : ring_of s (Some g) first len spare ≡ v
+      let view : ring_at s (Some g) first len spare ≡ v
       = λ i. record { entries = entries i; free = free i; link_writes = r.writes i } in
       subst (λ o. Leaves s o first len spare v) (sym is) (record {
         sound = (ap length entries ∙ is_len, subst (IsRing s [] g first) (sym view) r);
@@ -129,8 +130,7 @@ module _ {K V : Type 0} where
     pub shows : lookup (same_node n) v.entries ≡ s.held n
     pub some : 0 < len
 
-  module _ (n : Inside K V) (sound : IsSound (state_of n.pool) n.guard n.first_spare n.len n.spare) {v : Ring K V}
-      (view : ring_of (state_of n.pool) n.guard n.first_spare n.len n.spare ≡ v) where
+  module _ {n : Inside K V} (sound : IsSound n) {v : Ring K V} (view : ring_of n ≡ v) where
     abbrev s : State K V
     s = state_of n.pool
 
@@ -138,14 +138,15 @@ module _ {K V : Type 0} where
     pub empty : n.guard ≡ None → v ≡ ring [] [] v.link_writes
     unfolding entries_of
     empty is =
-        let e : ring [] [] s.link_writes ≡ v = ap (λ o. ring_of s o n.first_spare n.len n.spare) (sym is) ∙ view in
+        let e : ring [] [] s.link_writes ≡ v = ap (λ o. ring_at s o n.first_spare n.len n.spare) (sym is)
+        ∙ view in
         sym e ∙ ap (λ (r : Ring K V). ring [] [] r.link_writes) e
 
     pub opened : {g : Node} → n.guard ≡ Some g → Opened s g n.first_spare n.len n.spare v
     opened {g} is =
-        let h = subst (λ o. IsSound s o n.first_spare n.len n.spare) is sound in
-        let e : ring_of s (Some g) n.first_spare n.len n.spare ≡ v
-        = ap (λ o. ring_of s o n.first_spare n.len n.spare) (sym is) ∙ view in
+        let h = subst (λ o. SoundAt s o n.first_spare n.len n.spare) is sound.at in
+        let e : ring_at s (Some g) n.first_spare n.len n.spare ≡ v
+        = ap (λ o. ring_at s o n.first_spare n.len n.spare) (sym is) ∙ view in
         record {
           ring = subst (IsRing s [] g n.first_spare) e h.1;
           is_len = ap (λ (r : Ring K V). length r.entries) (sym e) ∙ h.0;
@@ -162,7 +163,7 @@ module _ {K V : Type 0} where
     unfolding IsDistinct
     known = (elim n.guard as (λ (o : Option Node). n.guard ≡ o → Facts n.len n.spare v) [
       | None ↦ λ is.
-          let h = subst (λ o. IsSound s o n.first_spare n.len n.spare) is sound in
+          let h = subst (λ o. SoundAt s o n.first_spare n.len n.spare) is sound.at in
           subst (Facts n.len n.spare) (sym (empty is)) (record {
             is_len = sym h.0;
             is_spare = sym h.1;

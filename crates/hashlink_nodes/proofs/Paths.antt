@@ -3,7 +3,8 @@ use Rattle.std.proofs.Common.{true, ◌≡◌, ℕ, zero, suc, false, cond, List
 use Rattle.std.proofs.Common.{ap, ◌∙◌, subst}
 use Rattle.std.proofs.lemmas.List.{append-nil}
 use Rattle.std.proofs.lemmas.List.Sorted.{IsPermutation-middle, IsPermutation-sym}
-use Rattle.std.proofs.lemmas.Map.Keys.{IsDistinct-head, IsDistinct-tail, IsDistinct-cons, IsDistinct-IsPermutation}
+use Rattle.std.proofs.lemmas.Map.Keys.{IsDistinct-head, IsDistinct-tail, IsDistinct-cons}
+use Rattle.std.proofs.lemmas.Map.Keys.{IsDistinct-IsPermutation}
 use Rattle.std.specs.List.{AllByRecursion, IsDistinct}
 use Rattle.hashlink_nodes.specs.declared.node.Node.{Node}
 use Rattle.hashlink_nodes.specs.Node.{same_node, same_node_equiv, same_node-refl}
@@ -142,8 +143,11 @@ pub path_detach : (f' f : Node → Node) (n a : Node) (xs ys : List Node) (b : N
     → ((m : Node) → same_node m (last_or a xs) ≡ false → f' m ≡ f m)
     → IsDistinct same_node (a ∷ (xs ++ n ∷ ys)) → IsPath f' a (xs ++ ys) b
 path_detach f' f n a [] [] b p here others d = here
-path_detach f' f n a [] (y ∷ ys) b p here others d =
-    (here, path_same f' f y ys b (agrees_off f' f a (y ∷ ys) others (IsDistinct-head same_node a _ d).1) p.1.1)
+path_detach f' f n a [] (y ∷ ys) b p here others d = (
+  here,
+  path_same f' f y ys b (agrees_off f' f a (y ∷ ys) others (IsDistinct-head same_node a _ d).1)
+      p.1.1,
+)
 path_detach f' f n a (x ∷ xs) ys b p here others d = (
   others a (off_last a x xs (n ∷ ys) (IsDistinct-head same_node a _ d))
       ∙ p.0,
@@ -170,7 +174,8 @@ path_attach f' f n a (x ∷ xs) ys b p here there others d =
     let o = IsDistinct-head same_node n _ d in let e = IsDistinct-tail same_node n _ d in (
       others a (flip n a o.0) (off_last a x xs ys (IsDistinct-head same_node a _ e))
           ∙ p.0,
-      path_attach f' f n x xs ys b p.1 here there others (IsDistinct-cons same_node n _ o.1 (IsDistinct-tail same_node a _ e)),
+      path_attach f' f n x xs ys b p.1 here there others
+          (IsDistinct-cons same_node n _ o.1 (IsDistinct-tail same_node a _ e)),
     )
 
 pub off_head : (x : Node) (ys : List Node) (b : Node) → IsOff x ys → same_node x b ≡ false
@@ -189,17 +194,20 @@ back_detach f' f n a [] (y ∷ ys) b p here others d =
     let o = IsDistinct-head same_node b _ d in (
       here,
       back_same f' f y ys b
-          (agrees_off f' f y ys others (IsDistinct-head same_node y ys (IsDistinct-tail same_node n _ (IsDistinct-tail same_node b _ d))))
+          (agrees_off f' f y ys others (IsDistinct-head same_node y ys
+          (IsDistinct-tail same_node n _ (IsDistinct-tail same_node b _ d))))
           (others b o.1.0)
           p.1.1,
     )
 back_detach f' f n a (x ∷ xs) ys b p here others d =
     let o = IsDistinct-head same_node b _ d in let e = IsDistinct-tail same_node b _ d in (
       others x
-          (off_head x ys b (all_right (Off x) xs ys (all_without (Off x) xs n ys (IsDistinct-head same_node x _ e)))
+          (off_head x ys b (all_right (Off x) xs ys
+          (all_without (Off x) xs n ys (IsDistinct-head same_node x _ e)))
           (flip b x o.0))
           ∙ p.0,
-      back_detach f' f n x xs ys b p.1 here others (IsDistinct-cons same_node b _ o.1 (IsDistinct-tail same_node x _ e)),
+      back_detach f' f n x xs ys b p.1 here others
+          (IsDistinct-cons same_node b _ o.1 (IsDistinct-tail same_node x _ e)),
     )
 
 pub back_attach : (f' f : Node → Node) (n a : Node) (xs ys : List Node) (b : Node)
@@ -215,17 +223,22 @@ back_attach f' f n a [] (y ∷ ys) b p here there others d =
       (
         here,
         back_same f' f y ys b (agrees_off_two f' f n y ys others o.1.1
-            (IsDistinct-head same_node y ys (IsDistinct-tail same_node b _ e))) (others b (flip n b o.0) (IsDistinct-head same_node b _ e).0) p.1,
+            (IsDistinct-head same_node y ys (IsDistinct-tail same_node b _ e)))
+            (others b (flip n b o.0) (IsDistinct-head same_node b _ e).0) p.1,
       ),
     )
 back_attach f' f n a (x ∷ xs) ys b p here there others d =
-    let o = IsDistinct-head same_node n _ d in let e = IsDistinct-tail same_node n _ d in let ob = IsDistinct-head same_node b _ e in (
+    let o = IsDistinct-head same_node n _ d in let e = IsDistinct-tail same_node n _ d in let ob =
+    IsDistinct-head same_node b _ e in (
       others x (flip n x o.1.0)
-          (off_head x ys b (all_right (Off x) xs ys (IsDistinct-head same_node x _ (IsDistinct-tail same_node b _ e)))
+          (off_head x ys b (all_right (Off x) xs ys
+          (IsDistinct-head same_node x _ (IsDistinct-tail same_node b _ e)))
           (flip b x ob.0))
           ∙ p.0,
       back_attach f' f n x xs ys b p.1 here there others
-          (IsDistinct-cons same_node n _ (o.0, o.1.1) (IsDistinct-cons same_node b _ ob.1 (IsDistinct-tail same_node x _ (IsDistinct-tail same_node b _ e)))),
+          (IsDistinct-cons same_node n _ (o.0, o.1.1)
+          (IsDistinct-cons same_node b _ ob.1
+          (IsDistinct-tail same_node x _ (IsDistinct-tail same_node b _ e)))),
     )
 
 -- what the links of a node in the middle are

@@ -1,6 +1,6 @@
 -- What each step of the calls does to a ring and to what a contract sees of it.
-use Rattle.std.proofs.Common.{◌≡◌, ◌+◌, ◌^◌, ◌<◌, true, List, [], ◌∷◌, ◌++◌, length, drop}
-use Rattle.std.proofs.Common.{Option, None, Some, refl, sym, ap, ◌∙◌, subst, arith}
+use Rattle.std.proofs.Common.{◌≡◌, ◌+◌, ◌^◌, ◌<◌, true, List, [], ◌∷◌, ◌++◌, length, drop, Option, None, Some}
+use Rattle.std.proofs.Common.{refl, sym, ap, ◌∙◌, subst, arith}
 use Rattle.std.specs.Prelude.{unwrap_or}
 use Rattle.std.specs.List.{AllByRecursion, IsDistinct}
 use Rattle.std.specs.Map.{keys_of, remove_entry, set_value}
@@ -11,15 +11,13 @@ use Rattle.std.proofs.lemmas.Map.Keys.{IsDistinct-head}
 use Rattle.hashlink_nodes.specs.declared.node.Node.{Node}
 use Rattle.hashlink_nodes.specs.declared.held.Held.{Held}
 use Rattle.hashlink_nodes.specs.Node.{same_node}
-use Rattle.hashlink_nodes.specs.State.{State, store_next, store_prev, hold, detached, attached, Adds}
-use Rattle.hashlink_nodes.specs.State.{Drops}
+use Rattle.hashlink_nodes.specs.State.{State, store_next, store_prev, hold, detached, attached, Adds, Drops}
 use Rattle.hashlink_nodes.specs.Shape.{IsPath, IsWayBack, IsShaped, IsRing}
 use Rattle.hashlink_nodes.specs.Ring.{Ring, ring, IsPlace, put_before, put_after}
 use Rattle.hashlink_nodes.proofs.Paths.{head_or, last_or, Off, IsOff, flip, all_left, all_right, all_middle}
 use Rattle.hashlink_nodes.proofs.Paths.{all_without, all_with, all_both, all_zip, to_front, set_at_here}
 use Rattle.hashlink_nodes.proofs.Paths.{path_cut, back_cut}
-use Rattle.hashlink_nodes.proofs.Cuts.{Cut, cut-removed, cut-renewed, last-pushed, before_place}
-use Rattle.hashlink_nodes.proofs.Cuts.{after_place}
+use Rattle.hashlink_nodes.proofs.Cuts.{Cut, cut-removed, cut-renewed, last-pushed, before_place, after_place}
 use Rattle.hashlink_nodes.proofs.Shapes.{Differs, differs_add, differs_drop, differs_hold, differs_store}
 use Rattle.hashlink_nodes.proofs.Shapes.{shape_kept, shape_added, shape_dropped, shape_taken, shape_spared}
 use Rattle.hashlink_nodes.proofs.Shapes.{shape_detached, shape_attached}
@@ -64,33 +62,36 @@ module _ {K V : Type 0} where
     pub has_next : s.has (s.next n) ≡ true
     pub has_prev : s.has (s.prev n) ≡ true
 
-  module _ {s : State K V} {out : List Node} {g first : Node} {v : Ring K V} (r : IsRing s out g first v) where
-    pub linked : (xs ys : Entries K V) → v.entries ≡ xs ++ ys
-        → Linked s (last_or g (keys_of xs)) (head_or g (keys_of ys))
-    linked xs ys is =
-        let H : Node → Type 0 = λ m. s.has m ≡ true in
-        let ks = keys_of xs in let ls = keys_of ys in
-        let keys : keys_of v.entries ≡ ks ++ ls = ap keys_of is ∙ keys-append xs ys in
-        let all = all_right H out (g ∷ (keys_of v.entries ++ v.free)) r.shape.there in
-        let there = subst (AllByRecursion H) keys (all_left H (keys_of v.entries) v.free all.1) in
-        record {
-          has_prev = of_last H g ks ls (all.0, there);
-          has_next = of_head H g ks ls all.0 there;
-          on = path_cut s.next g ks ls g (subst (λ l. IsPath s.next g l g) keys r.shape.forward);
-          back = back_cut s.prev g ks ls g (subst (λ l. IsWayBack s.prev g l g) keys r.shape.backward);
-        }
+  module _ {s : State K V} {out : List Node} {g first : Node} {v : Ring K V} (r : IsRing s out g first v)
+    where
+      pub linked : (xs ys : Entries K V) → v.entries ≡ xs ++ ys
+          → Linked s (last_or g (keys_of xs)) (head_or g (keys_of ys))
+      linked xs ys is =
+          let H : Node → Type 0 = λ m. s.has m ≡ true in
+          let ks = keys_of xs in let ls = keys_of ys in
+          let keys : keys_of v.entries ≡ ks ++ ls = ap keys_of is ∙ keys-append xs ys in
+          let all = all_right H out (g ∷ (keys_of v.entries ++ v.free)) r.shape.there in
+          let there = subst (AllByRecursion H) keys (all_left H (keys_of v.entries) v.free all.1) in
+          record {
+            has_prev = of_last H g ks ls (all.0, there);
+            has_next = of_head H g ks ls all.0 there;
+            on = path_cut s.next g ks ls g (subst (λ l. IsPath s.next g l g) keys r.shape.forward);
+            back = back_cut s.prev g ks ls g (subst (λ l. IsWayBack s.prev g l g) keys r.shape.backward);
+          }
 
-    pub in_ring : (xs : Entries K V) (n : Node) (h : Held K V) (ys : Entries K V) → v.entries ≡ xs ++ (n, h) ∷ ys
-        → InRing s n h
-    in_ring xs n h ys is =
-        let before = linked xs ((n, h) ∷ ys) is in
-        let after = linked (xs ++ (n, h) ∷ []) ys (is ∙ sym (append_assoc xs ((n, h) ∷ []) ys)) in
-        record {
-          holds = all_middle (λ e. s.held e.0 ≡ Some e.1) xs (n, h) ys (subst (Full s) is r.full);
-          has_node = before.has_next;
-          has_next = ap (λ m. s.has (s.next m)) (sym (last-pushed g xs (n, h))) ∙ ap s.has after.on ∙ after.has_next;
-          has_prev = ap s.has before.back ∙ before.has_prev;
-        }
+      pub in_ring : (xs : Entries K V) (n : Node) (h : Held K V) (ys : Entries K V) →
+          v.entries ≡ xs ++ (n, h) ∷ ys
+          → InRing s n h
+      in_ring xs n h ys is =
+          let before = linked xs ((n, h) ∷ ys) is in
+          let after = linked (xs ++ (n, h) ∷ []) ys (is ∙ sym (append_assoc xs ((n, h) ∷ []) ys)) in
+          record {
+            holds = all_middle (λ e. s.held e.0 ≡ Some e.1) xs (n, h) ys (subst (Full s) is r.full);
+            has_node = before.has_next;
+            has_next = ap (λ m. s.has (s.next m)) (sym (last-pushed g xs (n, h))) ∙ ap s.has after.on
+                ∙ after.has_next;
+            has_prev = ap s.has before.back ∙ before.has_prev;
+          }
 
   -- ---- a node leaves the ring
   pub detach : {s s' : State K V} {g first n : Node} {v : Ring K V} → IsRing s [] g first v → (h : Held K V)
@@ -179,7 +180,8 @@ module _ {K V : Type 0} where
       (place : Option Node) (is_place : IsPlace v.entries place) where
     pub fits_before : {q : Node} → q ≡ unwrap_or place g → FitsBefore s n q
     fits_before is_q =
-        let at = before_place v.entries g place is_place in let l = linked r at.before at.after at.is in record {
+        let at = before_place v.entries g place is_place in let l = linked r at.before at.after at.is in
+        record {
           has_node = r.shape.there.0;
           has_next = ap s.has (is_q ∙ at.node) ∙ l.has_next;
           has_prev = ap s.has (ap s.prev (is_q ∙ at.node) ∙ l.back) ∙ l.has_prev;
@@ -187,7 +189,8 @@ module _ {K V : Type 0} where
 
     pub fits_after : {p : Node} → p ≡ unwrap_or place g → FitsAfter s n p
     fits_after is_p =
-        let at = after_place v.entries g place is_place in let l = linked r at.before at.after at.is in record {
+        let at = after_place v.entries g place is_place in let l = linked r at.before at.after at.is in
+        record {
           has_node = r.shape.there.0;
           has_prev = ap s.has (is_p ∙ at.node) ∙ l.has_prev;
           has_next = ap s.has (ap s.next (is_p ∙ at.node) ∙ l.on) ∙ l.has_next;
@@ -225,7 +228,8 @@ module _ {K V : Type 0} where
         let off = IsDistinct-head same_node n (g ∷ (keys_of v.entries ++ v.free)) shape.apart in
         record {
           shape = shape;
-          full = full_off (differs_add a) v.entries (all_left (Off n) (keys_of v.entries) v.free off.1) r.full;
+          full = full_off (differs_add a) v.entries (all_left (Off n) (keys_of v.entries) v.free off.1)
+              r.full;
           writes = a.link_writes ∙ r.writes;
         }
 
@@ -266,7 +270,8 @@ module _ {K V : Type 0} where
           let t = shape_taken (subst (λ l. IsShaped s [] g first (keys_of v.entries) l) e shape) in
           record {
             ring = record {
-              shape = subst (λ l. IsShaped s (first ∷ []) g (s.next first) (keys_of v.entries) (drop 1 l)) (sym (is ∙ e)) t;
+              shape = subst (λ l. IsShaped s (first ∷ []) g (s.next first) (keys_of v.entries) (drop 1 l))
+                  (sym (is ∙ e)) t;
               full = r.full;
               writes = r.writes;
             };
@@ -280,7 +285,8 @@ module _ {K V : Type 0} where
       → IsRing s' [] g first (ring (set_value (same_node n) v.entries w) v.free v.link_writes)
   unfolding hold
   renew {s} {s'} {g} {first} {n} {v} r c w is =
-      let xs = c.before in let ys = c.after in let ks = keys_of xs in let ls = keys_of ys in let fs = v.free in
+      let xs = c.before in let ys = c.after in let ks = keys_of xs in let ls = keys_of ys in let fs =
+      v.free in
       let h = r.shape in let d = differs_hold n (Some w) s in
       let keys : keys_of v.entries ≡ ks ++ n ∷ ls = ap keys_of c.is ∙ keys-append xs ((n, c.value) ∷ ys) in
       let apart = subst (λ l. IsDistinct same_node (g ∷ (l ++ fs))) keys h.apart in
@@ -289,7 +295,8 @@ module _ {K V : Type 0} where
       let off_after = all_right (Off n) ks (ls ++ fs) off.1 in
       let full = subst (Full s) c.is r.full in let P = λ (e : Node × Held K V). s.held e.0 ≡ Some e.1 in
       let Q = λ (e : Node × Held K V). (hold n (Some w) s).held e.0 ≡ Some e.1 in
-      subst (λ t. IsRing t [] g first (ring (set_value (same_node n) v.entries w) fs v.link_writes)) (sym is) (record {
+      subst (λ t. IsRing t [] g first (ring (set_value (same_node n) v.entries w) fs v.link_writes))
+      (sym is) (record {
         shape = subst (λ l. IsShaped (hold n (Some w) s) [] g first l fs)
             (sym (keys-set_value (same_node n) v.entries w)) (record {
               forward = h.forward;
@@ -307,7 +314,8 @@ module _ {K V : Type 0} where
         full = subst (Full (hold n (Some w) s)) (sym (cut-renewed c w))
             (all_with Q xs (n, w) ys (set_at_here s.held n (Some w))
             (full_off d (xs ++ ys)
-            (subst (IsOff n) (sym (keys-append xs ys)) (all_both (Off n) ks ls c.off (all_left (Off n) ls fs off_after)))
+            (subst (IsOff n) (sym (keys-append xs ys))
+            (all_both (Off n) ks ls c.off (all_left (Off n) ls fs off_after)))
             (all_without P xs (n, c.value) ys full)));
         writes = r.writes;
       })

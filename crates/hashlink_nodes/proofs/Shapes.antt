@@ -1,6 +1,6 @@
 -- What each step of the ring's calls does to its shape.
-use Rattle.std.proofs.Common.{◌≡◌, ◌+◌, ◌^◌, ◌<◌, Bool, true, false, List, [], ◌∷◌, ◌++◌, length, Option, None, refl}
-use Rattle.std.proofs.Common.{sym, ap, ◌∙◌, subst, arith, lit<}
+use Rattle.std.proofs.Common.{◌≡◌, ◌+◌, ◌^◌, ◌<◌, Bool, true, false, List, [], ◌∷◌, ◌++◌, length, Option}
+use Rattle.std.proofs.Common.{None, refl, sym, ap, ◌∙◌, subst, arith, lit<}
 use Rattle.std.specs.List.{AllByRecursion, IsDistinct}
 use Rattle.std.proofs.lemmas.List.{append_assoc, length-append}
 use Rattle.std.proofs.lemmas.Map.Keys.{IsDistinct-head, IsDistinct-tail, IsDistinct-cons}
@@ -10,11 +10,11 @@ use Rattle.hashlink_nodes.specs.Node.{same_node, eq-same_node}
 use Rattle.hashlink_nodes.specs.State.{State, set_at, store_next, store_prev, hold, detached, attached, Adds}
 use Rattle.hashlink_nodes.specs.State.{MakesGuard, Drops}
 use Rattle.hashlink_nodes.specs.Shape.{IsChain, IsShaped}
-use Rattle.hashlink_nodes.proofs.Paths.{head_or, last_or, Off, IsOff, flip, set_at_here, set_at_other, to_front}
-use Rattle.hashlink_nodes.proofs.Paths.{from_front, all_left, all_right, all_without, all_with, all_middle, all_as}
-use Rattle.hashlink_nodes.proofs.Paths.{all_zip, off_rest, off_last, off_head, path_same, back_same, chain_same}
-use Rattle.hashlink_nodes.proofs.Paths.{agrees_off, agrees_off_two, path_detach, path_attach, back_detach}
-use Rattle.hashlink_nodes.proofs.Paths.{back_attach, path_at, back_at}
+use Rattle.hashlink_nodes.proofs.Paths.{head_or, last_or, Off, IsOff, flip, set_at_here, set_at_other}
+use Rattle.hashlink_nodes.proofs.Paths.{to_front, from_front, all_left, all_right, all_without, all_with}
+use Rattle.hashlink_nodes.proofs.Paths.{all_middle, all_as, all_zip, off_rest, off_last, off_head, path_same}
+use Rattle.hashlink_nodes.proofs.Paths.{back_same, chain_same, agrees_off, agrees_off_two, path_detach}
+use Rattle.hashlink_nodes.proofs.Paths.{path_attach, back_detach, back_attach, path_at, back_at}
 
 distinct_left : (xs ys : List Node) → IsDistinct same_node (xs ++ ys) → IsDistinct same_node xs
 unfolding IsDistinct
@@ -68,31 +68,33 @@ module _ {K V : Type 0} where
   ]) refl
 
   module _ {s s' : State K V} {out : List Node} {g first : Node} {ns fs : List Node}
-      (h : IsShaped s out g first ns fs) (n : Node) (off : IsOff n (g ∷ (ns ++ fs))) (d : Differs n s s') where
-    -- where one node that is neither in the ring nor spare changes, comes or goes
-    carried : AllByRecursion (Has s) (g ∷ (ns ++ fs)) → (out' : List Node)
-        → IsDistinct same_node (out' ++ g ∷ (ns ++ fs))
-        → (AllByRecursion (Has s') (g ∷ (ns ++ fs)) → AllByRecursion (Has s') (out' ++ g ∷ (ns ++ fs)))
-        → s'.size ≡ length out' + length ns + length fs + 1 → length out' + length ns + length fs < 2 ^ 63
-        → IsShaped s' out' g first ns fs
-    carried there out' apart with_out size few =
-        let on_ring = all_left (Off n) (g ∷ ns) fs off in let on_free = all_right (Off n) (g ∷ ns) fs off in
-        record {
-          forward = path_same s'.next s.next g ns g (agrees_off s'.next s.next n (g ∷ ns) d.next on_ring)
-              h.forward;
-          backward =
-              back_same s'.prev s.prev g ns g (agrees_off s'.prev s.prev n ns d.prev on_ring.1)
-              (d.prev g (flip n g off.0)) h.backward;
-          chain = chain_same s'.next s.next first fs (agrees_off s'.next s.next n fs d.next on_free) h.chain;
-          apart = apart;
-          bare = all_zip (λ m k o. d.held m (flip n m o) ∙ k) (g ∷ fs) h.bare (off.0, on_free);
-          there = with_out (all_zip (λ m k o. d.has m (flip n m o) ∙ k) (g ∷ (ns ++ fs)) there off);
-          size = size;
-          few = few;
-        }
+      (h : IsShaped s out g first ns fs) (n : Node) (off : IsOff n (g ∷ (ns ++ fs))) (d : Differs n s s')
+    where
+      -- where one node that is neither in the ring nor spare changes, comes or goes
+      carried : AllByRecursion (Has s) (g ∷ (ns ++ fs)) → (out' : List Node)
+          → IsDistinct same_node (out' ++ g ∷ (ns ++ fs))
+          → (AllByRecursion (Has s') (g ∷ (ns ++ fs)) → AllByRecursion (Has s') (out' ++ g ∷ (ns ++ fs)))
+          → s'.size ≡ length out' + length ns + length fs + 1 → length out' + length ns + length fs < 2 ^ 63
+          → IsShaped s' out' g first ns fs
+      carried there out' apart with_out size few =
+          let on_ring = all_left (Off n) (g ∷ ns) fs off in let on_free = all_right (Off n) (g ∷ ns) fs off in
+          record {
+            forward = path_same s'.next s.next g ns g (agrees_off s'.next s.next n (g ∷ ns) d.next on_ring)
+                h.forward;
+            backward =
+                back_same s'.prev s.prev g ns g (agrees_off s'.prev s.prev n ns d.prev on_ring.1)
+                (d.prev g (flip n g off.0)) h.backward;
+            chain = chain_same s'.next s.next first fs (agrees_off s'.next s.next n fs d.next on_free) h.chain;
+            apart = apart;
+            bare = all_zip (λ m k o. d.held m (flip n m o) ∙ k) (g ∷ fs) h.bare (off.0, on_free);
+            there = with_out (all_zip (λ m k o. d.has m (flip n m o) ∙ k) (g ∷ (ns ++ fs)) there off);
+            size = size;
+            few = few;
+          }
 
   -- the first spare node is no longer spare
-  pub shape_taken : {s : State K V} {g n : Node} {ns fs : List Node} → IsShaped s [] g n ns (n ∷ fs) → IsShaped s (n ∷ []) g (s.next n) ns fs
+  pub shape_taken : {s : State K V} {g n : Node} {ns fs : List Node} → IsShaped s [] g n ns (n ∷ fs) →
+      IsShaped s (n ∷ []) g (s.next n) ns fs
   shape_taken {s} {g} {n} {ns} {fs} h = record {
     forward = h.forward;
     backward = h.backward;
@@ -125,7 +127,8 @@ module _ {K V : Type 0} where
         → IsShaped s' [] g first ns fs
     shape_dropped h d =
         carried h n (IsDistinct-head same_node n _ h.apart) (differs_drop d) h.there.1 []
-        (IsDistinct-tail same_node n _ h.apart) (λ k. k) (omega (arith, h.size, d.size)) (omega (arith, h.few))
+        (IsDistinct-tail same_node n _ h.apart) (λ k. k) (omega (arith, h.size, d.size))
+        (omega (arith, h.few))
 
     -- n is the first spare node
     pub shape_spared : IsShaped s (n ∷ []) g first ns fs → s.next n ≡ first → s.held n ≡ None
@@ -168,8 +171,11 @@ module _ {K V : Type 0} where
           chain = chain_same f' s.next first fs (agrees_off f' s.next (last_or g xs) fs others off) h.chain;
           apart = simp append_assoc (to_front (g ∷ xs) n (ys ++ fs) apart);
           bare = h.bare;
-          there = simp append_assoc
-              (all_middle (Has s) (g ∷ xs) n (ys ++ fs) there, all_without (Has s) (g ∷ xs) n (ys ++ fs) there);
+          there = simp append_assoc (
+            all_middle (Has s) (g ∷ xs) n (ys ++ fs) there,
+            all_without (Has s) (g ∷ xs) n (ys ++ fs)
+                there,
+          );
           size = omega (arith, h.size, length-append xs (n ∷ ys), length-append xs ys);
           few = omega (arith, h.few, length-append xs (n ∷ ys), length-append xs ys);
         }
@@ -192,7 +198,8 @@ module _ {K V : Type 0} where
         let apart : IsDistinct same_node (n ∷ g ∷ (xs ++ (ys ++ fs))) = simp append_assoc at h.apart in
         let off_p : IsOff p fs
         = all_right (Off p) ys fs (off_rest g xs (ys ++ fs) (IsDistinct-tail same_node n _ apart)) in
-        let off_n : IsOff n fs = all_right (Off n) (g ∷ (xs ++ ys)) fs (IsDistinct-head same_node n _ h.apart) in
+        let off_n : IsOff n fs = all_right (Off n) (g ∷ (xs ++ ys)) fs
+        (IsDistinct-head same_node n _ h.apart) in
         let there : AllByRecursion (Has s) (g ∷ (xs ++ (ys ++ fs))) = simp append_assoc at h.there.1 in
         record {
           forward =

@@ -8,6 +8,8 @@ use Rattle.hashlink_nodes.specs.declared.held.Held.{Held}
 use Rattle.hashlink_nodes.specs.Node.{same_node}
 use Rattle.hashlink_nodes.specs.Ring.{Ring}
 use Rattle.hashlink_nodes.specs.State.{State}
+use Rattle.hashlink_nodes.specs.Pool.{state_of}
+use Rattle.hashlink_nodes.specs.declared.nodes.Nodes.TheInside.{Inside}
 
 -- f leads from a along the nodes to b
 abbrev pub IsPath : (Node → Node) → Node → List Node → Node → Type 0
@@ -39,9 +41,10 @@ module _ {K V : Type 0} where
   entries_of held [] = []
   entries_of held (n ∷ ns) = entry_of n (held n) (entries_of held ns)
 
-  -- the ring goes from the guard along the nodes and back to it, and the spare ones are chained; beside these only
-  -- the nodes `out` have a block
-  pub record IsShaped (s : State K V) (out : List Node) (guard first : Node) (nodes free : List Node) : Type 0 where
+  -- the ring goes from the guard along the nodes and back to it, and the spare ones are chained; beside these
+  -- only the nodes `out` have a block
+  pub record IsShaped (s : State K V) (out : List Node) (guard first : Node)
+      (nodes free : List Node) : Type 0 where
     pub forward : IsPath s.next guard nodes guard
     pub backward : IsWayBack s.prev guard nodes guard
     pub chain : IsChain s.next first free
@@ -67,8 +70,8 @@ module _ {K V : Type 0} where
   free_of s (Some guard) first spare = walk s.next first spare
 
   -- what a contract sees
-  abbrev pub ring_of : State K V → Option Node → Node → ℕ → ℕ → Ring K V
-  ring_of s guard first len spare =
+  abbrev pub ring_at : State K V → Option Node → Node → ℕ → ℕ → Ring K V
+  ring_at s guard first len spare =
       record {
         entries = entries_of s.held (nodes_of s guard len);
         free = free_of s guard first spare;
@@ -76,8 +79,14 @@ module _ {K V : Type 0} where
       }
 
   -- before the guard is made there is no block
-  abbrev pub IsSound : State K V → Option Node → Node → ℕ → ℕ → Type 0
-  IsSound s None first len spare = (len ≡ 0) × (spare ≡ 0) × (s.size ≡ 0)
-  IsSound s (Some guard) first len spare =
-      (length (ring_of s (Some guard) first len spare).entries ≡ len)
-      × IsRing s [] guard first (ring_of s (Some guard) first len spare)
+  abbrev pub SoundAt : State K V → Option Node → Node → ℕ → ℕ → Type 0
+  SoundAt s None first len spare = (len ≡ 0) × (spare ≡ 0) × (s.size ≡ 0)
+  SoundAt s (Some guard) first len spare =
+      (length (ring_at s (Some guard) first len spare).entries ≡ len)
+      × IsRing s [] guard first (ring_at s (Some guard) first len spare)
+
+  pub record IsSound (n : Inside K V) : Type 0 where
+    pub at : SoundAt (state_of n.pool) n.guard n.first_spare n.len n.spare
+
+  abbrev pub ring_of : Inside K V → Ring K V
+  ring_of n = ring_at (state_of n.pool) n.guard n.first_spare n.len n.spare

@@ -9,33 +9,37 @@ use Rattle.hashlink_nodes.proofs.nodes.Nodes.detach_into_free.Goals as goal
 
 pub detach-requires : goal.detach-requires
 detach-requires g c =
-    let at = (node_in c.self.inside c.self.invariant c.self.view_is c.args.node c.requires).here in
+    let at = (node_in c.self.invariant c.self.view_is c.args.node c.requires).here in
     record { node = at.has_node; next = at.has_next; prev = at.has_prev }
 
 pub take-pair-requires : goal.take-pair-requires
 take-pair-requires g c =
-    ap is_some (held_out (node_in c.self.inside c.self.invariant c.self.view_is c.args.node c.requires).here c.detach.ensures)
+    ap is_some (held_out (node_in c.self.invariant c.self.view_is c.args.node c.requires).here
+    c.detach.ensures)
 
 pub store_next-requires : goal.store_next-requires
 store_next-requires g c =
-    (holds_now None (taken_out (node_in c.self.inside c.self.invariant c.self.view_is c.args.node c.requires) c.detach.ensures)
+    (holds_now None (taken_out (node_in c.self.invariant c.self.view_is c.args.node c.requires)
+    c.detach.ensures)
     c.take-pair.ensures.is).shape.there.0
 
 pub overflow_sub-self : goal.overflow_sub-self
-overflow_sub-self g c = omega (arith, (node_in c.self.inside c.self.invariant c.self.view_is c.args.node c.requires).some)
+overflow_sub-self g c = omega (arith, (node_in c.self.invariant c.self.view_is c.args.node c.requires).some)
 
 pub overflow_add-self : goal.overflow_add-self
 overflow_add-self g c =
-    record { fits = omega (arith, (known c.self.inside c.self.invariant c.self.view_is).small) }
+    record { fits = omega (arith, (known c.self.invariant c.self.view_is).small) }
 
 pub invariant_of-self : goal.invariant_of-self
 invariant_of-self g c =
-    (removed (node_in c.self.inside c.self.invariant c.self.view_is c.args.node c.requires) c.detach.ensures
-    c.take-pair.ensures.is c.store_next.ensures).sound
+    record {
+      at = (removed (node_in c.self.invariant c.self.view_is c.args.node c.requires) c.detach.ensures
+          c.take-pair.ensures.is c.store_next.ensures).sound;
+    }
 
 pub returns : goal.returns
 returns g c =
-    let at = node_in c.self.inside c.self.invariant c.self.view_is c.args.node c.requires in
+    let at = node_in c.self.invariant c.self.view_is c.args.node c.requires in
     let l = removed at c.detach.ensures c.take-pair.ensures.is c.store_next.ensures in record {
       pair =
           ap (option_map pair_of) (at.shows ∙ at.here.holds ∙ sym (held_out at.here c.detach.ensures))

@@ -7,18 +7,22 @@ use Rattle.hashlink_nodes.proofs.Opening.{node_in}
 use Rattle.hashlink_nodes.proofs.nodes.Nodes.entry_mut.Goals as goal
 
 pub entry_mut-requires : goal.entry_mut-requires
-entry_mut-requires g c = ap is_some (node_in c.self.inside c.self.invariant c.self.view_is c.args.node c.requires).here.holds
+entry_mut-requires g c = ap is_some (node_in c.self.invariant c.self.view_is c.args.node
+    c.requires).here.holds
 
 pub invariant_of-self-lent : goal.invariant_of-self-lent
-invariant_of-self-lent g c = λ w. (lent c.self.inside c.self.invariant c.self.view_is c.args.node c.requires w).sound
+invariant_of-self-lent g c = λ w. record {
+  at =
+      (lent c.self.invariant c.self.view_is c.args.node c.requires w).sound;
+}
 
 pub returns : goal.returns
 returns g c = (
-  (refl, λ w. (lent c.self.inside c.self.invariant c.self.view_is c.args.node c.requires w).view),
+  (refl, λ w. (lent c.self.invariant c.self.view_is c.args.node c.requires w).view),
   record {
     lends = tt;
     pair =
         ap (option_map (λ (h : Held g.row.K.Denot g.row.V.Denot). pair_of h))
-        (node_in c.self.inside c.self.invariant c.self.view_is c.args.node c.requires).shows ∙ c.entry_mut.ensures.pair;
+        (node_in c.self.invariant c.self.view_is c.args.node c.requires).shows ∙ c.entry_mut.ensures.pair;
   },
 )

@@ -11,40 +11,55 @@ use Rattle.hashlink_nodes.proofs.nodes.Nodes.give_back_last.Goals as goal
 pub unreachable-requires : goal.unreachable-requires
 unreachable-requires g c =
     let R : Type 0 = Ring g.row.K.Denot g.row.V.Denot in
-    omega (arith, c.requires, ap (λ (r : R). length r.entries) (empty c.self.inside c.self.invariant c.self.view_is c.in-None.is))
+    omega (
+      arith,
+      c.requires,
+      ap (λ (r : R). length r.entries)
+          (empty c.self.invariant c.self.view_is c.in-None.is),
+    )
 
 pub detach-requires : goal.detach-requires
 detach-requires g c =
-    let at = last_in (opened c.self.inside c.self.invariant c.self.view_is c.in-Some.is) c.requires c.prev-node.ensures in
+    let at = last_in (opened c.self.invariant c.self.view_is c.in-Some.is) c.requires c.prev-node.ensures in
     record { node = at.has_node; next = at.has_next; prev = at.has_prev }
 
 pub number-number-requires : goal.number-number-requires
 number-number-requires g c =
-    ap is_some (held_out (last_in (opened c.self.inside c.self.invariant c.self.view_is c.in-Some.is) c.requires c.prev-node.ensures)
+    ap is_some (held_out (last_in (opened c.self.invariant c.self.view_is c.in-Some.is) c.requires
+    c.prev-node.ensures)
     c.detach.ensures)
 
 pub take-key-requires : goal.take-key-requires
 take-key-requires g c =
-    ap is_some (held_out (last_in (opened c.self.inside c.self.invariant c.self.view_is c.in-Some.is) c.requires c.prev-node.ensures)
+    ap is_some (held_out (last_in (opened c.self.invariant c.self.view_is c.in-Some.is) c.requires
+    c.prev-node.ensures)
     c.detach.ensures)
 
 pub give_back-requires : goal.give_back-requires
 give_back-requires g c =
-    let r = last_bare (opened c.self.inside c.self.invariant c.self.view_is c.in-Some.is) c.requires c.prev-node.ensures c.detach.ensures
+    let r = last_bare (opened c.self.invariant c.self.view_is c.in-Some.is) c.requires c.prev-node.ensures
+    c.detach.ensures
     c.take-key.ensures.is in
     record { has = r.shape.there.0; bare = held_now (state_of c.detach.new.self) c.take-key.ensures.is }
 
 pub overflow_sub-self : goal.overflow_sub-self
-overflow_sub-self g c = omega (arith, c.requires, (opened c.self.inside c.self.invariant c.self.view_is c.in-Some.is).is_len)
+overflow_sub-self g c = omega (
+  arith,
+  c.requires,
+  (opened c.self.invariant c.self.view_is c.in-Some.is).is_len,
+)
 
 pub invariant_of-self : goal.invariant_of-self
 invariant_of-self g c =
-    (last_gone (opened c.self.inside c.self.invariant c.self.view_is c.in-Some.is) c.requires c.prev-node.ensures c.in-Some.is c.detach.ensures
-    c.take-key.ensures.is c.give_back.ensures).sound
+    record {
+      at = (last_gone (opened c.self.invariant c.self.view_is c.in-Some.is) c.requires
+          c.prev-node.ensures c.in-Some.is c.detach.ensures
+          c.take-key.ensures.is c.give_back.ensures).sound;
+    }
 
 pub returns : goal.returns
 returns g c =
-    let o = opened c.self.inside c.self.invariant c.self.view_is c.in-Some.is in
+    let o = opened c.self.invariant c.self.view_is c.in-Some.is in
     let l = last_gone o c.requires c.prev-node.ensures c.in-Some.is c.detach.ensures c.take-key.ensures.is
     c.give_back.ensures in
     let was = sym (held_out (last_in o c.requires c.prev-node.ensures) c.detach.ensures) in

@@ -6,34 +6,38 @@ use Rattle.hashlink_nodes.proofs.Rings.{fits_after}
 use Rattle.hashlink_nodes.proofs.nodes.Nodes.move_after.Goals as goal
 
 pub unwrap-guard-requires : goal.unwrap-guard-requires
-unwrap-guard-requires g c = is_there (guard_of c.self.inside c.self.invariant c.self.view_is c.args.node c.requires.node).1
+unwrap-guard-requires g c = is_there (guard_of c.self.invariant c.self.view_is c.args.node c.requires.node).1
 
 pub detach-requires : goal.detach-requires
 detach-requires g c =
-    let at = (node_in c.self.inside c.self.invariant c.self.view_is c.args.node c.requires.node).here in
+    let at = (node_in c.self.invariant c.self.view_is c.args.node c.requires.node).here in
     record { node = at.has_node; next = at.has_next; prev = at.has_prev }
 
 pub next-after-requires : goal.next-after-requires
 next-after-requires g c =
-    let at = node_at c.self.inside c.self.invariant c.self.view_is c.unwrap-guard.ensures c.args.node c.requires.node in
-    (fits_after (taken_out at c.detach.ensures) c.args.place c.requires.place c.unwrap_or-before.ensures).has_prev
+    let at = node_at c.self.invariant c.self.view_is c.unwrap-guard.ensures c.args.node c.requires.node in
+    (fits_after (taken_out at c.detach.ensures) c.args.place c.requires.place
+    c.unwrap_or-before.ensures).has_prev
 
 pub attach-requires : goal.attach-requires
 attach-requires g c =
-    let at = node_at c.self.inside c.self.invariant c.self.view_is c.unwrap-guard.ensures c.args.node c.requires.node in
-    let f = fits_after (taken_out at c.detach.ensures) c.args.place c.requires.place c.unwrap_or-before.ensures in
+    let at = node_at c.self.invariant c.self.view_is c.unwrap-guard.ensures c.args.node c.requires.node in
+    let f = fits_after (taken_out at c.detach.ensures) c.args.place c.requires.place
+    c.unwrap_or-before.ensures in
     let has_next = ap (state_of c.detach.new.self).has c.next-after.ensures ∙ f.has_next in
     record { node = f.has_node; prev = f.has_prev; next = has_next }
 
 pub invariant_of-self : goal.invariant_of-self
 invariant_of-self g c =
-    let at = node_at c.self.inside c.self.invariant c.self.view_is c.unwrap-guard.ensures c.args.node c.requires.node in
-    (moved_after at c.detach.ensures c.attach.ensures c.args.place c.requires.place
-    c.unwrap_or-before.ensures c.next-after.ensures).sound
+    let at = node_at c.self.invariant c.self.view_is c.unwrap-guard.ensures c.args.node c.requires.node in
+    record {
+      at = (moved_after at c.detach.ensures c.attach.ensures c.args.place c.requires.place
+          c.unwrap_or-before.ensures c.next-after.ensures).sound;
+    }
 
 pub returns : goal.returns
 returns g c =
-    let at = node_at c.self.inside c.self.invariant c.self.view_is c.unwrap-guard.ensures c.args.node c.requires.node in
+    let at = node_at c.self.invariant c.self.view_is c.unwrap-guard.ensures c.args.node c.requires.node in
     let m = moved_after at c.detach.ensures c.attach.ensures c.args.place c.requires.place
     c.unwrap_or-before.ensures c.next-after.ensures in
     record { moved = m.moved; free = m.free; link_writes = m.link_writes }

@@ -12,24 +12,25 @@ returns-in_err-guard g c =
       place =
           c.from_residual.ensures ∙ (none_beside c.args.place).0
           ∙ ap (λ (v : R). next_place (keys_of v.entries) c.args.place)
-          (sym (empty c.self.inside c.self.invariant c.self.view_is c.in_err-guard.was));
-      apart = (known c.self.inside c.self.invariant c.self.view_is).differ;
+          (sym (empty c.self.invariant c.self.view_is c.in_err-guard.was));
+      apart = (known c.self.invariant c.self.view_is).differ;
     }
 
 pub next-next-requires : goal.next-next-requires
 next-next-requires g c =
-    let r = (opened c.self.inside c.self.invariant c.self.view_is c.in_ok-guard.was).ring in
+    let r = (opened c.self.invariant c.self.view_is c.in_ok-guard.was).ring in
     (next_to r c.args.place c.requires c.unwrap_or.ensures refl).has_place
 
 pub is_full-requires : goal.is_full-requires
 is_full-requires g c =
-    let r = (opened c.self.inside c.self.invariant c.self.view_is c.in_ok-guard.was).ring in
+    let r = (opened c.self.invariant c.self.view_is c.in_ok-guard.was).ring in
     (next_to r c.args.place c.requires c.unwrap_or.ensures c.next-next.ensures).has_answer
 
 pub returns : goal.returns
 returns g c =
-    let r = (opened c.self.inside c.self.invariant c.self.view_is c.in_ok-guard.was).ring in
+    let r = (opened c.self.invariant c.self.view_is c.in_ok-guard.was).ring in
     let t = next_to r c.args.place c.requires c.unwrap_or.ensures c.next-next.ensures in record {
-      place = c.then_some.ensures ∙ tells (state_of c.self.inside.pool) t.tells c.is_full.result c.is_full.ensures;
-      apart = (known c.self.inside c.self.invariant c.self.view_is).differ;
+      place = c.then_some.ensures ∙ tells (state_of c.self.inside.pool) t.tells c.is_full.result
+          c.is_full.ensures;
+      apart = (known c.self.invariant c.self.view_is).differ;
     }

@@ -11,29 +11,29 @@ use Rattle.hashlink_nodes.proofs.nodes.Nodes.push_before.Goals as goal
 -- ---- no node is spare
 pub returns-then-self-eq0-clause-succeeds : goal.returns-then-self-eq0-clause-succeeds
 returns-then-self-eq0-clause-succeeds g c =
-    λ some. absurd (omega (arith, some, (known c.self.inside c.self.invariant c.self.view_is).is_spare, c.if-self-eq0.true))
+    λ some. absurd (omega (arith, some, (known c.self.invariant c.self.view_is).is_spare, c.if-self-eq0.true))
 
 pub push_new-requires-clause-none : goal.push_new-requires-clause-none
 push_new-requires-clause-none g c =
     nil_from_length c.args.self.now.free
-    ((known c.self.inside c.self.invariant c.self.view_is).is_spare ∙ c.if-self-eq0.true)
+    ((known c.self.invariant c.self.view_is).is_spare ∙ c.if-self-eq0.true)
 
 pub returns-then-self-eq0-clause-free : goal.returns-then-self-eq0-clause-free
 returns-then-self-eq0-clause-free g c =
     subst (λ l. OnOk c.push_new.result (c.push_new.new.self.free ≡ drop 1 l))
     (sym (nil_from_length c.args.self.now.free
-    ((known c.self.inside c.self.invariant c.self.view_is).is_spare ∙ c.if-self-eq0.true)))
+    ((known c.self.invariant c.self.view_is).is_spare ∙ c.if-self-eq0.true)))
     c.push_new.ensures.free
 
 -- ---- the first spare node is taken
 pub next-first_spare-requires : goal.next-first_spare-requires
 next-first_spare-requires g c =
-    let o = opened c.self.inside c.self.invariant c.self.view_is c.unwrap-guard.ensures in
+    let o = opened c.self.invariant c.self.view_is c.unwrap-guard.ensures in
     (take_spare o.ring (omega (arith, o.is_spare, c.if-self-eq0.false))).has_node
 
 pub fill-requires : goal.fill-requires
 fill-requires g c =
-    let o = opened c.self.inside c.self.invariant c.self.view_is c.unwrap-guard.ensures in
+    let o = opened c.self.invariant c.self.view_is c.unwrap-guard.ensures in
     let t = take_spare o.ring (omega (arith, o.is_spare, c.if-self-eq0.false)) in
     record { has = t.has_node; bare = t.bare; small = c.requires.small }
 
@@ -41,14 +41,14 @@ fill-requires g c =
 pub prev-prev-requires : goal.prev-prev-requires
 prev-prev-requires g c =
     let r = ready_spare (held c.args.number c.args.key c.args.value)
-    (opened c.self.inside c.self.invariant c.self.view_is c.unwrap-guard.ensures) (omega (arith, c.if-self-eq0.false))
+    (opened c.self.invariant c.self.view_is c.unwrap-guard.ensures) (omega (arith, c.if-self-eq0.false))
     c.next-first_spare.ensures c.fill.ensures in
     (fits_before r.ring c.args.place c.requires.place c.unwrap_or-next.ensures).has_next
 
 pub attach-requires : goal.attach-requires
 attach-requires g c =
     let r = ready_spare (held c.args.number c.args.key c.args.value)
-    (opened c.self.inside c.self.invariant c.self.view_is c.unwrap-guard.ensures) (omega (arith, c.if-self-eq0.false))
+    (opened c.self.invariant c.self.view_is c.unwrap-guard.ensures) (omega (arith, c.if-self-eq0.false))
     c.next-first_spare.ensures c.fill.ensures in
     let f = fits_before r.ring c.args.place c.requires.place c.unwrap_or-next.ensures in
     let has_prev = ap (state_of c.fill.new.self).has c.prev-prev.ensures ∙ f.has_prev in
@@ -56,20 +56,23 @@ attach-requires g c =
 
 pub overflow_add-self : goal.overflow_add-self
 overflow_add-self g c =
-    record { fits = omega (arith, (known c.self.inside c.self.invariant c.self.view_is).small) }
+    record { fits = omega (arith, (known c.self.invariant c.self.view_is).small) }
 
 pub invariant_of-self : goal.invariant_of-self
 invariant_of-self g c =
     let r = ready_spare (held c.args.number c.args.key c.args.value)
-    (opened c.self.inside c.self.invariant c.self.view_is c.unwrap-guard.ensures) (omega (arith, c.if-self-eq0.false))
+    (opened c.self.invariant c.self.view_is c.unwrap-guard.ensures) (omega (arith, c.if-self-eq0.false))
     c.next-first_spare.ensures c.fill.ensures in
-    (pushed r c.unwrap-guard.ensures c.args.place c.requires.place c.unwrap_or-next.ensures c.prev-prev.ensures
-    c.attach.ensures).sound
+    record {
+      at = (pushed r c.unwrap-guard.ensures c.args.place c.requires.place c.unwrap_or-next.ensures
+          c.prev-prev.ensures
+          c.attach.ensures).sound;
+    }
 
 pub returns : goal.returns
 returns g c =
     let r = ready_spare (held c.args.number c.args.key c.args.value)
-    (opened c.self.inside c.self.invariant c.self.view_is c.unwrap-guard.ensures) (omega (arith, c.if-self-eq0.false))
+    (opened c.self.invariant c.self.view_is c.unwrap-guard.ensures) (omega (arith, c.if-self-eq0.false))
     c.next-first_spare.ensures c.fill.ensures in
     let l = pushed r c.unwrap-guard.ensures c.args.place c.requires.place c.unwrap_or-next.ensures
     c.prev-prev.ensures c.attach.ensures in record {

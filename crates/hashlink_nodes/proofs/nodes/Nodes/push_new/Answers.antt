@@ -12,7 +12,8 @@ use Rattle.hashlink_nodes.proofs.nodes.Nodes.push_new.Goals as goal
 
 pub fill-requires : goal.fill-requires
 fill-requires g c =
-    let a = c.in-Ok-make.ensures.made in let n = c.in-Ok-make.node in let s = state_of c.guard.new.self in record {
+    let a = c.in-Ok-make.ensures.made in let n = c.in-Ok-make.node in let s = state_of c.guard.new.self in
+    record {
       has = ap (λ f. f n) a.has ∙ set_at_here s.has n true;
       bare = ap (λ f. f n) a.held ∙ set_at_here s.held n None;
       small = c.requires.small;
@@ -22,16 +23,26 @@ fill-requires g c =
 pub prev-prev-requires : goal.prev-prev-requires
 prev-prev-requires g c =
     let r = ready_new (held c.args.number c.args.key c.args.value)
-    (guarded_now c.self.inside c.self.invariant c.self.view_is c.in-Ok.ensures.made) c.in-Ok-make.ensures.made
-    (omega (arith, c.if-self-ge-MOST.false, ap length c.requires.none, (known c.self.inside c.self.invariant c.self.view_is).is_spare))
+    (guarded_now c.self.invariant c.self.view_is c.in-Ok.ensures.made) c.in-Ok-make.ensures.made
+    (omega (
+      arith,
+      c.if-self-ge-MOST.false,
+      ap length c.requires.none,
+      (known c.self.invariant c.self.view_is).is_spare,
+    ))
     c.fill.ensures in
     (fits_before r.ring c.args.place c.requires.place c.unwrap_or-next.ensures).has_next
 
 pub attach-requires : goal.attach-requires
 attach-requires g c =
     let r = ready_new (held c.args.number c.args.key c.args.value)
-    (guarded_now c.self.inside c.self.invariant c.self.view_is c.in-Ok.ensures.made) c.in-Ok-make.ensures.made
-    (omega (arith, c.if-self-ge-MOST.false, ap length c.requires.none, (known c.self.inside c.self.invariant c.self.view_is).is_spare))
+    (guarded_now c.self.invariant c.self.view_is c.in-Ok.ensures.made) c.in-Ok-make.ensures.made
+    (omega (
+      arith,
+      c.if-self-ge-MOST.false,
+      ap length c.requires.none,
+      (known c.self.invariant c.self.view_is).is_spare,
+    ))
     c.fill.ensures in
     let f = fits_before r.ring c.args.place c.requires.place c.unwrap_or-next.ensures in
     let has_prev = ap (state_of c.fill.new.self).has c.prev-prev.ensures ∙ f.has_prev in
@@ -40,17 +51,29 @@ attach-requires g c =
 pub invariant_of-self-in-Ok-make : goal.invariant_of-self-in-Ok-make
 invariant_of-self-in-Ok-make g c =
     let r = ready_new (held c.args.number c.args.key c.args.value)
-    (guarded_now c.self.inside c.self.invariant c.self.view_is c.in-Ok.ensures.made) c.in-Ok-make.ensures.made
-    (omega (arith, c.if-self-ge-MOST.false, ap length c.requires.none, (known c.self.inside c.self.invariant c.self.view_is).is_spare))
+    (guarded_now c.self.invariant c.self.view_is c.in-Ok.ensures.made) c.in-Ok-make.ensures.made
+    (omega (
+      arith,
+      c.if-self-ge-MOST.false,
+      ap length c.requires.none,
+      (known c.self.invariant c.self.view_is).is_spare,
+    ))
     c.fill.ensures in
-    (pushed r refl c.args.place c.requires.place c.unwrap_or-next.ensures c.prev-prev.ensures
-    c.attach.ensures).sound
+    record {
+      at = (pushed r refl c.args.place c.requires.place c.unwrap_or-next.ensures c.prev-prev.ensures
+          c.attach.ensures).sound;
+    }
 
 pub returns-in-Ok-make : goal.returns-in-Ok-make
 returns-in-Ok-make g c =
     let r = ready_new (held c.args.number c.args.key c.args.value)
-    (guarded_now c.self.inside c.self.invariant c.self.view_is c.in-Ok.ensures.made) c.in-Ok-make.ensures.made
-    (omega (arith, c.if-self-ge-MOST.false, ap length c.requires.none, (known c.self.inside c.self.invariant c.self.view_is).is_spare))
+    (guarded_now c.self.invariant c.self.view_is c.in-Ok.ensures.made) c.in-Ok-make.ensures.made
+    (omega (
+      arith,
+      c.if-self-ge-MOST.false,
+      ap length c.requires.none,
+      (known c.self.invariant c.self.view_is).is_spare,
+    ))
     c.fill.ensures in
     let l = pushed r refl c.args.place c.requires.place c.unwrap_or-next.ensures c.prev-prev.ensures
     c.attach.ensures in record {
@@ -67,7 +90,7 @@ stays : (g : given.Over) (c : In-Err-make g)
     → Leaves (state_of c.make.new.self) (Some c.in-Ok.guard) c.self.inside.first_spare c.self.inside.len
     c.self.inside.spare c.args.self.now
 stays g c =
-    let o = guarded_now c.self.inside c.self.invariant c.self.view_is c.in-Ok.ensures.made in
+    let o = guarded_now c.self.invariant c.self.view_is c.in-Ok.ensures.made in
     let C : Type 0 = Pool g.row.K.Denot g.row.V.Denot in
     subst
     (λ (x : C). Leaves (state_of x) (Some c.in-Ok.guard) c.self.inside.first_spare c.self.inside.len
@@ -75,7 +98,7 @@ stays g c =
     (sym c.in-Err-make.ensures.refused) (leaves refl o.ring o.is_len o.is_spare)
 
 pub invariant_of-self-in-Err-make : goal.invariant_of-self-in-Err-make
-invariant_of-self-in-Err-make g c = (stays g c).sound
+invariant_of-self-in-Err-make g c = record { at = (stays g c).sound }
 
 pub returns-in-Err-make-clause-refused : goal.returns-in-Err-make-clause-refused
 returns-in-Err-make-clause-refused g c = (stays g c).view

@@ -9,18 +9,19 @@ use Rattle.hashlink_nodes.proofs.nodes.Nodes.replace_value.Given as given
 use Rattle.hashlink_nodes.proofs.nodes.Nodes.replace_value.Goals as goal
 
 pub replace_value-requires : goal.replace_value-requires
-replace_value-requires g c = ap is_some (node_in c.self.inside c.self.invariant c.self.view_is c.args.node c.requires).here.holds
+replace_value-requires g c = ap is_some (node_in c.self.invariant c.self.view_is c.args.node
+    c.requires).here.holds
 
 anew : (g : given.Over) (c : goal.After-replace_value g)
     → Renewed (state_of c.self.inside.pool) (state_of c.replace_value.new.self) c.self.inside.guard
     c.self.inside.first_spare c.self.inside.len c.self.inside.spare c.args.self.now c.args.node
     (λ h. with_value h c.args.value)
 anew g c =
-    renewed (node_in c.self.inside c.self.invariant c.self.view_is c.args.node c.requires) (λ h. with_value h c.args.value)
+    renewed (node_in c.self.invariant c.self.view_is c.args.node c.requires) (λ h. with_value h c.args.value)
     c.replace_value.ensures.is
 
 pub invariant_of-self : goal.invariant_of-self
-invariant_of-self g c = (anew g c).sound
+invariant_of-self g c = record { at = (anew g c).sound }
 
 pub returns : goal.returns
 returns g c = let a = anew g c in record {
@@ -29,5 +30,5 @@ returns g c = let a = anew g c in record {
   link_writes = a.link_writes;
   value =
       ap (option_map (λ (h : Held g.row.K.Denot g.row.V.Denot). h.value))
-      (node_in c.self.inside c.self.invariant c.self.view_is c.args.node c.requires).shows ∙ c.replace_value.ensures.value;
+      (node_in c.self.invariant c.self.view_is c.args.node c.requires).shows ∙ c.replace_value.ensures.value;
 }
