@@ -6,7 +6,7 @@ ghost use Rattle.hashlink_nodes.specs.State.{Drops};
 ghost use Rattle.hashlink_nodes.specs.State.{GuardIs};
 ghost use Rattle.std.specs.Option.{option_map};
 ghost use Rattle.std.specs.Borrow.{sem};
-ghost use Rattle.hashlink_nodes.specs.Ring.{held, pair_of, with_value, with_key, with_number};
+ghost use Rattle.hashlink_nodes.specs.Ring.{held, pair_of, with_key, with_number};
 ghost use Rattle.hashlink_nodes.specs.Pool.{state_of};
 
 mod links;
@@ -93,18 +93,6 @@ impl<K, V> Pool<K, V> {
     {
         let pair = self.arena.pair_mut(node);
         (&pair.0, &mut pair.1)
-    }
-
-    /// Replaces the value, and returns the old one.
-    #[inline]
-    pub(crate) fn replace_value(&mut self, node: Node, value: V) -> V
-        requires { IsSome ((state_of self.old).held node) }
-        ensures value { option_map (λ h. h.value) ((state_of self.old).held node) ≡ Some result }
-        ensures is { state_of self.new
-            ≡ hold node (option_map (λ h. with_value h value) ((state_of self.old).held node))
-            (state_of self.old) }
-    {
-        mem::replace(&mut self.arena.pair_mut(node).1, value)
     }
 
     /// Replaces the key, and returns the old one.
