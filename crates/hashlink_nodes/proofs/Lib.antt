@@ -1,5 +1,6 @@
 -- Lemmas on the blocks of an arena, and on the ring that their links make.
 pub mod ArenaBlocks
+pub mod ArenaLends
 pub mod ArenaSharing
 pub mod ArenaSteps
 pub mod Calls

@@ -84,7 +84,8 @@ module _ {K V : Type 0} where
             backward =
                 back_same s'.prev s.prev g ns g (agrees_off s'.prev s.prev n ns d.prev on_ring.1)
                 (d.prev g (flip n g off.0)) h.backward;
-            chain = chain_same s'.next s.next first fs (agrees_off s'.next s.next n fs d.next on_free) h.chain;
+            chain = chain_same s'.next s.next first fs (agrees_off s'.next s.next n fs d.next on_free)
+                h.chain;
             apart = apart;
             bare = all_zip (λ m k o. d.held m (flip n m o) ∙ k) (g ∷ fs) h.bare (off.0, on_free);
             there = with_out (all_zip (λ m k o. d.has m (flip n m o) ∙ k) (g ∷ (ns ++ fs)) there off);
