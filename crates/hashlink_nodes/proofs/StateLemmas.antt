@@ -8,6 +8,7 @@ use Rattle.hashlink_nodes.specs.Node.{same_node, same_node_equiv, same_node-refl
 use Rattle.hashlink_nodes.specs.State.{State, Blocks, state, set_at, next_in, prev_in, held_in, store_next}
 use Rattle.hashlink_nodes.specs.State.{store_prev, hold, Adds, MakesGuard, Drops}
 use Rattle.hashlink_nodes.specs.declared.node.Node.{Node}
+use Rattle.hashlink_nodes.proofs.ArenaBlocks.{found_entry}
 use Rattle.hashlink_nodes.proofs.Paths.{set_at_here, set_at_other}
 use Rattle.hashlink_nodes.specs.declared.held.Held.{Held}
 use Rattle.hashlink_nodes.specs.declared.pool.links.Link.{Link}
@@ -101,22 +102,13 @@ alter_is test f (x ∷ es) b e =
       | false ↦ λ k. ap (λ l. x ∷ l) (alter_is test f es b k)
     ]) e
 
--- what a look-up of an arena found: the links, or the pair with its number
-pub record LinksAt {K V : Type 0} (bs : Blocks K V) (n : Node) (l : Links) : Type 0 where
-  pub block : Kept (K × V)
-  pub looked : lookup (same_node n) bs ≡ Some block
-  pub links : block.links ≡ l
+-- what is mapped to y
+pub mapped : {X Y : Type 0} (f : X → Y) (o : Option X) {y : Y} → option_map f o ≡ Some y
+    → (x : X) × (o ≡ Some x) × (f x ≡ y)
+mapped f None e = absurd (cc e)
+mapped f (Some x) e = (x, refl, cc)
 
-pub links_at : {K V : Type 0} (bs : Blocks K V) (n : Node) (l : Links)
-    → option_map (λ (k : Kept (K × V)). k.links) (lookup (same_node n) bs) ≡ Some l → LinksAt bs n l
-links_at {K} {V} bs n l e =
-    (elim (lookup (same_node n) bs) as
-    (λ (o : Option (Kept (K × V))). lookup (same_node n) bs ≡ o
-    → option_map (λ (k : Kept (K × V)). k.links) o ≡ Some l → LinksAt bs n l) [
-      | None ↦ λ _ h. absurd (cc h)
-      | Some k ↦ λ is h. record { block = k; looked = is; links = cc }
-    ]) refl e
-
+-- what a look-up of an arena found: the pair with its number
 pub record PairAt {K V : Type 0} (bs : Blocks K V) (n : Node) (p : K × V) : Type 0 where
   pub block : Kept (K × V)
   pub number : ℕ
@@ -127,23 +119,16 @@ pub record PairAt {K V : Type 0} (bs : Blocks K V) (n : Node) (p : K × V) : Typ
 pub pair_at : {K V : Type 0} (bs : Blocks K V) (n : Node) (p : K × V)
     → option_map (λ (e : ℕ × (K × V)). e.1) (entry_in (lookup (same_node n) bs)) ≡ Some p → PairAt bs n p
 pair_at {K} {V} bs n p e =
-    let Of : Option (ℕ × (K × V)) → Option (K × V) = option_map (λ (x : ℕ × (K × V)). x.1) in
-    (elim (lookup (same_node n) bs) as
-    (λ (o : Option (Kept (K × V))). lookup (same_node n) bs ≡ o → Of (entry_in o) ≡ Some p → PairAt bs n p) [
-      | None ↦ λ _ h. absurd (cc h)
-      | Some k ↦ λ is h. (elim k.entry as
-          (λ (o : Option (ℕ × (K × V))). k.entry ≡ o → Of o ≡ Some p → PairAt bs n p) [
-            | None ↦ λ _ g. absurd (cc g)
-            | Some x ↦ λ is_x g. let same : x.1 ≡ p = cc in record {
-              block = k;
-              number = x.0;
-              looked = is;
-              entry = is_x ∙ (λ i. Some (x.0, same i));
-              held = ap held_in is ∙ (λ i. option_map (λ y. held y.0 y.1.0 y.1.1) (is_x i))
-                  ∙ (λ i. Some (held x.0 (same i).0 (same i).1));
-            }
-          ]) refl h
-    ]) refl e
+    let x = mapped (λ (e : ℕ × (K × V)). e.1) (entry_in (lookup (same_node n) bs)) e in
+    let k = found_entry (lookup (same_node n) bs) (ap is_some x.1) in
+    let entry : k.0.entry ≡ Some (x.0.0, p) = sym (ap entry_in k.2) ∙ x.1 ∙ (λ i. Some (x.0.0, x.2 i)) in
+    record {
+      block = k.0;
+      number = x.0.0;
+      looked = k.2;
+      entry = entry;
+      held = ap held_in k.2 ∙ ap (option_map (λ y. held y.0 y.1.0 y.1.1)) entry;
+    }
 
 module _ {K V : Type 0} (bs : Blocks K V) (count count' : ℕ) (n : Node) (k : Kept (K × V))
     (e : lookup (same_node n) bs ≡ Some k) where
@@ -339,13 +324,8 @@ value_anew {K} {V} c n w p at =
 pub block_found : {K V : Type 0} (c : Pool K V) (n : Node) (h : Held K V) → (state_of c).held n ≡ Some h
     → (at : PairAt c.arena.blocks n (pair_of h)) × (held at.number h.key h.value ≡ h)
 block_found {K} {V} c n h e =
-    let Of : Option (ℕ × (K × V)) → Option (K × V) = option_map (λ (x : ℕ × (K × V)). x.1) in
-    let o = entry_in (lookup (same_node n) c.arena.blocks) in
-    let pair : Of o ≡ Some (pair_of h)
-    = (elim o as (λ (x : Option (ℕ × (K × V))). option_map (λ y. held y.0 y.1.0 y.1.1) x ≡ Some h
-    → Of x ≡ Some (pair_of h)) [
-      | None ↦ λ g. absurd (cc g)
-      | Some x ↦ λ g. let same : held x.0 x.1.0 x.1.1 ≡ h = cc in λ i. Some (pair_of (same i))
-    ]) e in
+    let x = mapped (λ (e : ℕ × (K × V)). held e.0 e.1.0 e.1.1)
+    (entry_in (lookup (same_node n) c.arena.blocks)) e in
+    let pair = ap (option_map (λ (e : ℕ × (K × V)). e.1)) x.1 ∙ (λ i. Some (pair_of (x.2 i))) in
     let at = pair_at c.arena.blocks n (pair_of h) pair in
     let same : Some (held at.number h.key h.value) ≡ Some h = sym at.held ∙ e in (at, cc)
