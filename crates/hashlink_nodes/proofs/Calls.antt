@@ -1,8 +1,8 @@
 -- What the calls of a ring cite: each from the ring as it is opened to the ring as it is closed.
 use Rattle.std.proofs.Common.{◌≡◌, ℕ, ◌+◌, ◌-◌, ◌^◌, ◌<◌, [], ◌∷◌, ◌++◌, length, drop, Option, Some, None}
 use Rattle.std.proofs.Common.{refl, sym, ap, ◌∙◌, subst, arith}
-use Rattle.std.specs.Prelude.{unwrap_or, IfSome}
-use Rattle.std.specs.Map.{keys_of, lookup, remove_entry, set_value}
+use Rattle.std.specs.Prelude.{IfSome}
+use Rattle.std.specs.Map.{lookup_entry, keys_of, lookup, remove_entry, set_value}
 use Rattle.std.specs.Option.{option_map}
 use Rattle.std.proofs.lemmas.List.{append-nil, length-append, length-drop}
 use Rattle.std.proofs.lemmas.Map.{length-set_value}
@@ -11,17 +11,16 @@ use Rattle.hashlink_nodes.specs.declared.held.Held.{Held}
 use Rattle.hashlink_nodes.specs.declared.nodes.Nodes.TheInside.{Inside}
 use Rattle.hashlink_nodes.specs.Node.{same_node}
 use Rattle.hashlink_nodes.specs.Pool.{state_of}
-use Rattle.hashlink_nodes.specs.Ring.{Ring, ring, IsPlace, MovesBefore, MovesAfter, put_before, put_after}
+use Rattle.hashlink_nodes.specs.Ring.{Ring, ring}
 use Rattle.hashlink_nodes.specs.Shape.{IsRing, IsSound, SoundAt, ring_at, ring_of}
 use Rattle.hashlink_nodes.specs.State.{State, GuardIs, attached, detached, hold, store_next, Adds, Drops}
 use Rattle.hashlink_nodes.proofs.Paths.{last_or, back_last}
-use Rattle.hashlink_nodes.proofs.Cuts.{cut-looked, cut-entry}
+use Rattle.hashlink_nodes.proofs.Cuts.{Gap, cut-looked, cut-entry}
 use Rattle.hashlink_nodes.proofs.Shapes.{shape_made}
-use Rattle.hashlink_nodes.proofs.Rings.{Entries, InRing, in_ring, detach, detach_node, held_out}
-use Rattle.hashlink_nodes.proofs.Rings.{attach_before, attach_after, holds_now, held_now, added, dropped}
-use Rattle.hashlink_nodes.proofs.Rings.{spared, take_spare, renew}
-use Rattle.hashlink_nodes.proofs.Opening.{Leaves, NodeAt, Opened, if_some, leaves, length-removed}
-use Rattle.hashlink_nodes.proofs.Opening.{length-put_before, length-put_after, opened, empty}
+use Rattle.hashlink_nodes.proofs.Rings.{Ends, attach, Entries, InRing, in_ring, detach, detach_node, held_out}
+use Rattle.hashlink_nodes.proofs.Rings.{holds_now, held_now, added, dropped, spared, take_spare, renew}
+use Rattle.hashlink_nodes.proofs.Opening.{length-gap, Leaves, NodeAt, Opened, if_some, leaves, length-removed}
+use Rattle.hashlink_nodes.proofs.Opening.{opened, empty}
 
 module _ {K V : Type 0} where
   -- ---- a node of the ring holds something else
@@ -33,11 +32,12 @@ module _ {K V : Type 0} where
     pub free : (ring_at s' guard first len spare).free ≡ v.free
     pub link_writes : s'.link_writes ≡ v.link_writes
 
-  -- ---- an entry of the ring moves
+  -- ---- the entry of n moves
   pub record Moved (s : State K V) (guard : Option Node) (first : Node) (len spare : ℕ) (v : Ring K V)
-      (P : Entries K V → Type 0) : Type 0 where
+      (n : Node) (put : Node × Held K V → Entries K V) : Type 0 where
     pub sound : SoundAt s guard first len spare
-    pub moved : P (ring_at s guard first len spare).entries
+    pub moved : IfSome (lookup_entry (same_node n) v.entries)
+        (λ e. (ring_at s guard first len spare).entries ≡ put e)
     pub free : (ring_at s guard first len spare).free ≡ v.free
     pub link_writes : s.link_writes ≡ v.link_writes + 6
 
@@ -78,50 +78,22 @@ module _ {K V : Type 0} where
         leaves at.is (spared (holds_now None (taken_out is₁) is₂) (held_now s₁ is₂) is₃)
         (omega (arith, length-removed v.entries at.cut, at.is_len)) (omega (arith, at.is_spare))
 
-    -- or it goes in beside a place
-    module _ {s₁ s₂ : State K V} {p q : Node} (is₁ : s₁ ≡ detached n s) (is₂ : s₂ ≡ attached n p q s₁)
-        (place : Option Node) (is_place : IsPlace (remove_entry (same_node n) v.entries) place) where
-      pub moved_before : q ≡ unwrap_or place g → p ≡ s₁.prev q
-          → Moved s₂ guard first len spare v (λ new. MovesBefore v.entries n place new)
-      moved_before is_q is_p =
-          let w = v.link_writes in let six : w + 2 + 4 ≡ w + 6 = omega arith in
-          let e : Node × Held K V = (n, at.cut.value) in let es = remove_entry (same_node n) v.entries in
-          let l = leaves at.is (attach_before (taken_out is₁) (held_out at.here is₁) place is_place is₂ is_q
-          is_p)
-          (omega (
-            arith,
-            length-put_before es g place e is_place,
-            length-removed v.entries at.cut,
-            at.is_len,
-          )) at.is_spare in
-          record {
-            sound = l.sound;
-            moved = if_some (λ x. (ring_at s₂ guard first len spare).entries ≡ put_before place x es)
-                (cut-entry at.cut) l.entries;
-            free = l.free;
-            link_writes = l.link_writes ∙ six;
-          }
-
-      pub moved_after : p ≡ unwrap_or place g → q ≡ s₁.next p
-          → Moved s₂ guard first len spare v (λ new. MovesAfter v.entries n place new)
-      moved_after is_p is_q =
-          let w = v.link_writes in let six : w + 2 + 4 ≡ w + 6 = omega arith in
-          let e : Node × Held K V = (n, at.cut.value) in let es = remove_entry (same_node n) v.entries in
-          let l = leaves at.is (attach_after (taken_out is₁) (held_out at.here is₁) place is_place is₂ is_p
-          is_q)
-          (omega (
-            arith,
-            length-put_after es g place e is_place,
-            length-removed v.entries at.cut,
-            at.is_len,
-          )) at.is_spare in
-          record {
-            sound = l.sound;
-            moved = if_some (λ x. (ring_at s₂ guard first len spare).entries ≡ put_after place x es)
-                (cut-entry at.cut) l.entries;
-            free = l.free;
-            link_writes = l.link_writes ∙ six;
-          }
+    -- or it goes in elsewhere
+    pub moved : {s₁ s₂ : State K V} {p q : Node} {put : Node × Held K V → Entries K V}
+        {gap : Gap (remove_entry (same_node n) v.entries) put} → Ends gap g p q → s₁ ≡ detached n s
+        → s₂ ≡ attached n p q s₁
+        → Moved s₂ guard first len spare v n put
+    moved {s₂ = s₂} {put = put} {gap = gap} ends is₁ is₂ =
+        let w = v.link_writes in let six : w + 2 + 4 ≡ w + 6 = omega arith in
+        let len' = length-gap (remove_entry (same_node n) v.entries) gap (n, at.cut.value) in
+        let l = leaves at.is (attach (taken_out is₁) ends (held_out at.here is₁) is₂)
+        (omega (arith, len', length-removed v.entries at.cut, at.is_len)) at.is_spare in record {
+          sound = l.sound;
+          moved = if_some (λ e. (ring_at s₂ guard first len spare).entries ≡ put e) (cut-entry at.cut)
+              l.entries;
+          free = l.free;
+          link_writes = l.link_writes ∙ six;
+        }
 
   -- ---- a new entry
   -- the node n holds it, and is beside the ring
@@ -182,13 +154,12 @@ module _ {K V : Type 0} where
   }
 
   pub pushed : {s s' : State K V} {guard : Option Node} {n g first p q : Node} {h : Held K V} {len spare : ℕ}
-      {v : Ring K V} → Ready s n g first h len spare v → guard ≡ Some g → (place : Option Node)
-      → IsPlace v.entries place → q ≡ unwrap_or place g → p ≡ s.prev q → s' ≡ attached n p q s
-      → Leaves s' guard first (len + 1) spare (ring (put_before place (n, h) v.entries) v.free
-      (v.link_writes + 4))
-  pushed {n = n} {g = g} {h = h} {v = v} r is_guard place is_place is_q is_p is =
-      leaves is_guard (attach_before r.ring r.holds place is_place is is_q is_p)
-      (omega (arith, length-put_before v.entries g place (n, h) is_place, r.is_len)) r.is_spare
+      {v : Ring K V} {put : Node × Held K V → Entries K V} {gap : Gap v.entries put}
+      → Ready s n g first h len spare v → Ends gap g p q → guard ≡ Some g → s' ≡ attached n p q s
+      → Leaves s' guard first (len + 1) spare (ring (put (n, h)) v.free (v.link_writes + 4))
+  pushed {n = n} {h = h} {v = v} {gap = gap} r ends is_guard is =
+      leaves is_guard (attach r.ring ends r.holds is)
+      (omega (arith, length-gap v.entries gap (n, h), r.is_len)) r.is_spare
 
   -- ---- nodes are given back
   pub spare_gone : {s s' : State K V} {guard : Option Node} {g first first' : Node} {len spare : ℕ}

@@ -103,59 +103,58 @@ module _ {X : Type 0} where
   last-pushed a [] e = refl
   last-pushed a (x ∷ xs) e = last-pushed x.0 xs e
 
-  -- the entries before a place and those from it on
-  pub record BeforePlace (es : List (Node × X)) (g : Node) (place : Option Node) : Type 0 where
+  -- where put sets an entry into the list
+  pub record Gap (es : List (Node × X)) (put : Node × X → List (Node × X)) : Type 0 where
     pub before : List (Node × X)
     pub after : List (Node × X)
     pub is : es ≡ before ++ after
-    pub node : unwrap_or place g ≡ head_or g (keys_of after)
-    pub put : (e : Node × X) → put_before place e es ≡ before ++ e ∷ after
-    pub beside : prev_place (keys_of es) place ≡ last_node None (keys_of before)
+    pub puts : (e : Node × X) → put e ≡ before ++ e ∷ after
+
+  -- right before a place
+  pub record BeforePlace (es : List (Node × X)) (g : Node) (place : Option Node) : Type 0 where
+    pub gap : Gap es (λ e. put_before place e es)
+    pub node : unwrap_or place g ≡ head_or g (keys_of gap.after)
+    pub beside : prev_place (keys_of es) place ≡ last_node None (keys_of gap.before)
 
   pub before_place : (es : List (Node × X)) (g : Node) (place : Option Node) → IsPlace es place
       → BeforePlace es g place
   before_place es g None is = record {
-    before = es;
-    after = [];
-    is = sym (append-nil es);
+    gap = record { before = es; after = []; is = sym (append-nil es); puts = λ e. refl };
     node = refl;
-    put = λ e. refl;
     beside = refl;
   }
   before_place es g (Some n) is = let c = cut es n is in record {
-    before = c.before;
-    after = (n, c.value) ∷ c.after;
-    is = c.is;
+    gap = record {
+      before = c.before;
+      after = (n, c.value) ∷ c.after;
+      is = c.is;
+      puts = λ e. ap (put_before_node n e) c.is ∙ put_in_before n c.value c.after e c.before c.off;
+    };
     node = refl;
-    put = λ e. ap (put_before_node n e) c.is ∙ put_in_before n c.value c.after e c.before c.off;
     beside =
         ap (λ l. node_before n None (keys_of l)) c.is ∙ comes_before n c.value c.after None c.before c.off;
   }
 
-  -- the entries up to a place and those after it
+  -- right after a place
   pub record AfterPlace (es : List (Node × X)) (g : Node) (place : Option Node) : Type 0 where
-    pub before : List (Node × X)
-    pub after : List (Node × X)
-    pub is : es ≡ before ++ after
-    pub node : unwrap_or place g ≡ last_or g (keys_of before)
-    pub put : (e : Node × X) → put_after place e es ≡ before ++ e ∷ after
-    pub beside : next_place (keys_of es) place ≡ slice_get (keys_of after) 0
+    pub gap : Gap es (λ e. put_after place e es)
+    pub node : unwrap_or place g ≡ last_or g (keys_of gap.before)
+    pub beside : next_place (keys_of es) place ≡ slice_get (keys_of gap.after) 0
 
   pub after_place : (es : List (Node × X)) (g : Node) (place : Option Node) → IsPlace es place
       → AfterPlace es g place
   after_place es g None is = record {
-    before = [];
-    after = es;
-    is = refl;
+    gap = record { before = []; after = es; is = refl; puts = λ e. refl };
     node = refl;
-    put = λ e. refl;
     beside = refl;
   }
   after_place es g (Some n) is = let c = cut es n is in record {
-    before = c.before ++ (n, c.value) ∷ [];
-    after = c.after;
-    is = c.is ∙ sym (append_assoc c.before ((n, c.value) ∷ []) c.after);
+    gap = record {
+      before = c.before ++ (n, c.value) ∷ [];
+      after = c.after;
+      is = c.is ∙ sym (append_assoc c.before ((n, c.value) ∷ []) c.after);
+      puts = λ e. ap (put_after_node n e) c.is ∙ put_in_after n c.value c.after e c.before c.off;
+    };
     node = sym (last-pushed g c.before (n, c.value));
-    put = λ e. ap (put_after_node n e) c.is ∙ put_in_after n c.value c.after e c.before c.off;
     beside = ap (λ l. node_after n (keys_of l)) c.is ∙ comes_after n c.value c.after c.before c.off;
   }

@@ -41,26 +41,30 @@ module _ {K V : Type 0} where
       (is_place : IsPlace v.entries place) {q m : Node} (is_q : q ≡ unwrap_or place g) where
     pub next_to : m ≡ s.next q → NextTo s q m (next_place (keys_of v.entries) place)
     next_to is_m =
-        let at = after_place v.entries g place is_place in let l = linked r at.before at.after at.is in
-        let is : m ≡ head_or g (keys_of at.after) = is_m ∙ ap s.next (is_q ∙ at.node) ∙ l.on in
-        let full = all_right (λ e. s.held e.0 ≡ Some e.1) at.before at.after (subst (Full s) at.is r.full)
+        let at = after_place v.entries g place is_place in let l =
+        linked r at.gap.before at.gap.after at.gap.is in
+        let is : m ≡ head_or g (keys_of at.gap.after) = is_m ∙ ap s.next (is_q ∙ at.node) ∙ l.on in
+        let full = all_right (λ e. s.held e.0 ≡ Some e.1) at.gap.before at.gap.after
+        (subst (Full s) at.gap.is r.full)
         in record {
           has_place = ap s.has (is_q ∙ at.node) ∙ l.has_prev;
           has_answer = ap s.has is ∙ l.has_next;
           tells = subst (λ (x : Node × Option Node). Tells s x.0 x.1) (λ i. (sym is i, sym at.beside i))
-              (tells_head s g at.after r.shape.bare.0 full);
+              (tells_head s g at.gap.after r.shape.bare.0 full);
         }
 
     pub prev_to : m ≡ s.prev q → NextTo s q m (prev_place (keys_of v.entries) place)
     prev_to is_m =
-        let at = before_place v.entries g place is_place in let l = linked r at.before at.after at.is in
-        let is : m ≡ last_or g (keys_of at.before) = is_m ∙ ap s.prev (is_q ∙ at.node) ∙ l.back in
-        let full = all_left (λ e. s.held e.0 ≡ Some e.1) at.before at.after (subst (Full s) at.is r.full) in
+        let at = before_place v.entries g place is_place in let l =
+        linked r at.gap.before at.gap.after at.gap.is in
+        let is : m ≡ last_or g (keys_of at.gap.before) = is_m ∙ ap s.prev (is_q ∙ at.node) ∙ l.back in
+        let full = all_left (λ e. s.held e.0 ≡ Some e.1) at.gap.before at.gap.after
+        (subst (Full s) at.gap.is r.full) in
         record {
           has_place = ap s.has (is_q ∙ at.node) ∙ l.has_next;
           has_answer = ap s.has is ∙ l.has_prev;
           tells = subst (λ (x : Node × Option Node). Tells s x.0 x.1) (λ i. (sym is i, sym at.beside i))
-              (tells_last s g None at.before (inl (r.shape.bare.0, refl)) full);
+              (tells_last s g None at.gap.before (inl (r.shape.bare.0, refl)) full);
         }
 
   -- what is returned where the node is tested for an entry

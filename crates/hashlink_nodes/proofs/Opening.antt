@@ -12,11 +12,11 @@ use Rattle.hashlink_nodes.specs.declared.held.Held.{Held}
 use Rattle.hashlink_nodes.specs.declared.nodes.Nodes.TheInside.{Inside}
 use Rattle.hashlink_nodes.specs.Node.{same_node}
 use Rattle.hashlink_nodes.specs.Pool.{state_of}
-use Rattle.hashlink_nodes.specs.Ring.{Ring, ring, Holds, IsPlace, put_before, put_after}
+use Rattle.hashlink_nodes.specs.Ring.{Ring, ring, Holds}
 use Rattle.hashlink_nodes.specs.Shape.{IsRing, IsSound, SoundAt, ring_at, ring_of, walk, entry_of, entries_of}
 use Rattle.hashlink_nodes.specs.State.{State}
 use Rattle.hashlink_nodes.proofs.Paths.{length-walk, walk-path, walk-chain}
-use Rattle.hashlink_nodes.proofs.Cuts.{Cut, cut, cut-looked, cut-removed, before_place, after_place}
+use Rattle.hashlink_nodes.proofs.Cuts.{Cut, Gap, cut, cut-looked, cut-removed}
 use Rattle.hashlink_nodes.proofs.Rings.{InRing, in_ring}
 
 pub if_some : {X : Type 0} {o : Option X} {x : X} (P : X → Type 0) → o ≡ Some x → P x → IfSome o P
@@ -40,28 +40,15 @@ module _ {X : Type 0} (es : List (Node × X)) where
         length-append c.before c.after,
       )
 
-  pub length-put_before : (g : Node) (place : Option Node) (e : Node × X) → IsPlace es place
-      → length (put_before place e es) ≡ length es + 1
-  length-put_before g place e is =
-      let at = before_place es g place is in
+  pub length-gap : {put : Node × X → List (Node × X)} → Gap es put → (e : Node × X)
+      → length (put e) ≡ length es + 1
+  length-gap gap e =
       omega (
         arith,
-        ap length (at.put e),
-        ap length at.is,
-        length-append at.before (e ∷ at.after),
-        length-append at.before at.after,
-      )
-
-  pub length-put_after : (g : Node) (place : Option Node) (e : Node × X) → IsPlace es place
-      → length (put_after place e es) ≡ length es + 1
-  length-put_after g place e is =
-      let at = after_place es g place is in
-      omega (
-        arith,
-        ap length (at.put e),
-        ap length at.is,
-        length-append at.before (e ∷ at.after),
-        length-append at.before at.after,
+        ap length (gap.puts e),
+        ap length gap.is,
+        length-append gap.before (e ∷ gap.after),
+        length-append gap.before gap.after,
       )
 
 module _ {K V : Type 0} where

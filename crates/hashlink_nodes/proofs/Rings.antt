@@ -13,11 +13,12 @@ use Rattle.hashlink_nodes.specs.declared.held.Held.{Held}
 use Rattle.hashlink_nodes.specs.Node.{same_node}
 use Rattle.hashlink_nodes.specs.State.{State, store_next, store_prev, hold, detached, attached, Adds, Drops}
 use Rattle.hashlink_nodes.specs.Shape.{IsPath, IsWayBack, IsShaped, IsRing}
-use Rattle.hashlink_nodes.specs.Ring.{Ring, ring, IsPlace, put_before, put_after}
+use Rattle.hashlink_nodes.specs.Ring.{Ring, ring, IsPlace}
 use Rattle.hashlink_nodes.proofs.Paths.{head_or, last_or, Off, IsOff, flip, all_left, all_right, all_middle}
 use Rattle.hashlink_nodes.proofs.Paths.{all_without, all_with, all_both, all_zip, to_front, set_at_here}
 use Rattle.hashlink_nodes.proofs.Paths.{path_cut, back_cut}
-use Rattle.hashlink_nodes.proofs.Cuts.{Cut, cut-removed, cut-renewed, last-pushed, before_place, after_place}
+use Rattle.hashlink_nodes.proofs.Cuts.{Cut, Gap, cut-removed, cut-renewed, last-pushed, before_place}
+use Rattle.hashlink_nodes.proofs.Cuts.{after_place}
 use Rattle.hashlink_nodes.proofs.Shapes.{Differs, differs_add, differs_drop, differs_hold, differs_store}
 use Rattle.hashlink_nodes.proofs.Shapes.{shape_kept, shape_added, shape_dropped, shape_taken, shape_spared}
 use Rattle.hashlink_nodes.proofs.Shapes.{shape_detached, shape_attached}
@@ -125,76 +126,63 @@ module _ {K V : Type 0} where
   held_out {n = n} at is = ap (λ (t : State K V). t.held n) is ∙ at.holds
 
   -- ---- a node beside the ring goes in between two neighbours
-  attach : {s s' : State K V} {g first n p q : Node} {v : Ring K V} {h : Held K V}
-      → IsRing s (n ∷ []) g first v → s.held n ≡ Some h → (xs ys : Entries K V) → v.entries ≡ xs ++ ys
-      → p ≡ last_or g (keys_of xs) → q ≡ head_or g (keys_of ys) → s' ≡ attached n p q s
-      → IsRing s' [] g first (ring (xs ++ (n, h) ∷ ys) v.free (v.link_writes + 4))
-  unfolding attached store_next store_prev
-  attach {s} {s'} {g} {first} {n} {p} {q} {v} {h} r holds xs ys is is_p is_q is' =
-      let ks = keys_of xs in let ls = keys_of ys in
-      let keys : keys_of v.entries ≡ ks ++ ls = ap keys_of is ∙ keys-append xs ys in
-      let to : attached n (last_or g ks) (head_or g ls) s ≡ s'
-      = (λ i. attached n (sym is_p i) (sym is_q i) s) ∙ sym is' in
-      subst (λ t. IsRing t [] g first (ring (xs ++ (n, h) ∷ ys) v.free (v.link_writes + 4))) to (record {
-        shape =
-            subst (λ l. IsShaped (attached n (last_or g ks) (head_or g ls) s) [] g first l v.free)
-            (sym (keys-append xs ((n, h) ∷ ys)))
-            (shape_attached s g first ks n ls v.free
-            (subst (λ l. IsShaped s (n ∷ []) g first l v.free) keys r.shape));
-        full = all_with (λ e. s.held e.0 ≡ Some e.1) xs (n, h) ys holds (subst (Full s) is r.full);
-        writes = omega (arith, r.writes);
-      })
+  -- the gap is between p and q
+  pub record Ends {es : Entries K V} {put : Node × Held K V → Entries K V} (gap : Gap es put)
+      (g p q : Node) : Type 0 where
+    pub is_prev : p ≡ last_or g (keys_of gap.before)
+    pub is_next : q ≡ head_or g (keys_of gap.after)
 
-  module _ {s s' : State K V} {g first n p q : Node} {v : Ring K V} {h : Held K V}
-      (r : IsRing s (n ∷ []) g first v) (holds : s.held n ≡ Some h) (place : Option Node)
-      (is_place : IsPlace v.entries place) (is' : s' ≡ attached n p q s) where
-    pub attach_before : q ≡ unwrap_or place g → p ≡ s.prev q
-        → IsRing s' [] g first (ring (put_before place (n, h) v.entries) v.free (v.link_writes + 4))
-    attach_before is_q is_p =
-        let at = before_place v.entries g place is_place in
-        subst (λ es. IsRing s' [] g first (ring es v.free (v.link_writes + 4))) (sym (at.put (n, h)))
-        (attach r holds at.before at.after at.is
-        (is_p ∙ ap s.prev (is_q ∙ at.node) ∙ (linked r at.before at.after at.is).back) (is_q ∙ at.node) is')
+  module _ {s : State K V} {out : List Node} {g first p q : Node} {v : Ring K V} (r : IsRing s out g first v)
+      (place : Option Node) (is_place : IsPlace v.entries place) where
+    pub ends_before : q ≡ unwrap_or place g → p ≡ s.prev q
+        → Ends (before_place v.entries g place is_place).gap g p q
+    ends_before is_q is_p =
+        let at = before_place v.entries g place is_place in let is = is_q ∙ at.node in record {
+          is_prev = is_p ∙ ap s.prev is ∙ (linked r at.gap.before at.gap.after at.gap.is).back;
+          is_next = is;
+        }
 
-    pub attach_after : p ≡ unwrap_or place g → q ≡ s.next p
-        → IsRing s' [] g first (ring (put_after place (n, h) v.entries) v.free (v.link_writes + 4))
-    attach_after is_p is_q =
-        let at = after_place v.entries g place is_place in
-        subst (λ es. IsRing s' [] g first (ring es v.free (v.link_writes + 4))) (sym (at.put (n, h)))
-        (attach r holds at.before at.after at.is (is_p ∙ at.node)
-        (is_q ∙ ap s.next (is_p ∙ at.node) ∙ (linked r at.before at.after at.is).on) is')
+    pub ends_after : p ≡ unwrap_or place g → q ≡ s.next p
+        → Ends (after_place v.entries g place is_place).gap g p q
+    ends_after is_p is_q =
+        let at = after_place v.entries g place is_place in let is = is_p ∙ at.node in record {
+          is_prev = is;
+          is_next = is_q ∙ ap s.next is ∙ (linked r at.gap.before at.gap.after at.gap.is).on;
+        }
 
-  -- n, q and what is before q have blocks
-  pub record FitsBefore (s : State K V) (n q : Node) : Type 0 where
-    pub has_node : s.has n ≡ true
-    pub has_next : s.has q ≡ true
-    pub has_prev : s.has (s.prev q) ≡ true
-
-  -- n, p and what is after p have blocks
-  pub record FitsAfter (s : State K V) (n p : Node) : Type 0 where
+  -- n, p and q have blocks
+  pub record Fits (s : State K V) (n p q : Node) : Type 0 where
     pub has_node : s.has n ≡ true
     pub has_prev : s.has p ≡ true
-    pub has_next : s.has (s.next p) ≡ true
+    pub has_next : s.has q ≡ true
 
-  module _ {s : State K V} {g first n : Node} {v : Ring K V} (r : IsRing s (n ∷ []) g first v)
-      (place : Option Node) (is_place : IsPlace v.entries place) where
-    pub fits_before : {q : Node} → q ≡ unwrap_or place g → FitsBefore s n q
-    fits_before is_q =
-        let at = before_place v.entries g place is_place in let l = linked r at.before at.after at.is in
-        record {
-          has_node = r.shape.there.0;
-          has_next = ap s.has (is_q ∙ at.node) ∙ l.has_next;
-          has_prev = ap s.has (ap s.prev (is_q ∙ at.node) ∙ l.back) ∙ l.has_prev;
-        }
+  module _ {s : State K V} {g first n p q : Node} {v : Ring K V} {put : Node × Held K V → Entries K V}
+      {gap : Gap v.entries put} (r : IsRing s (n ∷ []) g first v) (ends : Ends gap g p q) where
+    pub fits : Fits s n p q
+    fits = let l = linked r gap.before gap.after gap.is in record {
+      has_node = r.shape.there.0;
+      has_prev = ap s.has ends.is_prev ∙ l.has_prev;
+      has_next = ap s.has ends.is_next ∙ l.has_next;
+    }
 
-    pub fits_after : {p : Node} → p ≡ unwrap_or place g → FitsAfter s n p
-    fits_after is_p =
-        let at = after_place v.entries g place is_place in let l = linked r at.before at.after at.is in
-        record {
-          has_node = r.shape.there.0;
-          has_prev = ap s.has (is_p ∙ at.node) ∙ l.has_prev;
-          has_next = ap s.has (ap s.next (is_p ∙ at.node) ∙ l.on) ∙ l.has_next;
-        }
+    pub attach : {s' : State K V} {h : Held K V} → s.held n ≡ Some h → s' ≡ attached n p q s
+        → IsRing s' [] g first (ring (put (n, h)) v.free (v.link_writes + 4))
+    unfolding attached store_next store_prev
+    attach {s'} {h} holds is' =
+        let xs = gap.before in let ys = gap.after in let ks = keys_of xs in let ls = keys_of ys in
+        let keys : keys_of v.entries ≡ ks ++ ls = ap keys_of gap.is ∙ keys-append xs ys in
+        let to : attached n (last_or g ks) (head_or g ls) s ≡ s'
+        = (λ i. attached n (sym ends.is_prev i) (sym ends.is_next i) s) ∙ sym is' in
+        subst (λ (x : State K V × Entries K V). IsRing x.0 [] g first (ring x.1 v.free (v.link_writes + 4)))
+        (λ i. (to i, sym (gap.puts (n, h)) i)) (record {
+          shape =
+              subst (λ l. IsShaped (attached n (last_or g ks) (head_or g ls) s) [] g first l v.free)
+              (sym (keys-append xs ((n, h) ∷ ys)))
+              (shape_attached s g first ks n ls v.free
+              (subst (λ l. IsShaped s (n ∷ []) g first l v.free) keys r.shape));
+          full = all_with (λ e. s.held e.0 ≡ Some e.1) xs (n, h) ys holds (subst (Full s) gap.is r.full);
+          writes = omega (arith, r.writes);
+        })
 
   pub held_now : {s' : State K V} {n : Node} {o : Option (Held K V)} (s : State K V) → s' ≡ hold n o s
       → s'.held n ≡ o

@@ -1,11 +1,10 @@
-use Rattle.std.proofs.Common.{◌≡◌, drop, refl, ap, sym, subst, ◌∙◌, arith}
+use Rattle.std.proofs.Common.{◌≡◌, drop, refl, sym, subst, ◌∙◌, arith}
 use Rattle.std.specs.Prelude.{OnOk}
 use Rattle.std.proofs.lemmas.List.{nil_from_length}
-use Rattle.hashlink_nodes.specs.Pool.{state_of}
 use Rattle.hashlink_nodes.specs.Ring.{held}
 use Rattle.hashlink_nodes.proofs.Calls.{ready_spare, pushed}
 use Rattle.hashlink_nodes.proofs.Opening.{known, opened}
-use Rattle.hashlink_nodes.proofs.Rings.{fits_before, take_spare}
+use Rattle.hashlink_nodes.proofs.Rings.{ends_before, fits, take_spare}
 use Rattle.hashlink_nodes.proofs.nodes.Nodes.push_before.Goals as goal
 
 -- ---- no node is spare
@@ -43,16 +42,15 @@ prev-prev-requires g c =
     let r = ready_spare (held c.args.number c.args.key c.args.value)
     (opened c.self.invariant c.self.view_is c.unwrap-guard.ensures) (omega (arith, c.if-self-eq0.false))
     c.next-first_spare.ensures c.fill.ensures in
-    (fits_before r.ring c.args.place c.requires.place c.unwrap_or-next.ensures).has_next
+    (fits r.ring (ends_before r.ring c.args.place c.requires.place c.unwrap_or-next.ensures refl)).has_next
 
 pub attach-requires : goal.attach-requires
 attach-requires g c =
     let r = ready_spare (held c.args.number c.args.key c.args.value)
     (opened c.self.invariant c.self.view_is c.unwrap-guard.ensures) (omega (arith, c.if-self-eq0.false))
     c.next-first_spare.ensures c.fill.ensures in
-    let f = fits_before r.ring c.args.place c.requires.place c.unwrap_or-next.ensures in
-    let has_prev = ap (state_of c.fill.new.self).has c.prev-prev.ensures ∙ f.has_prev in
-    record { node = f.has_node; next = f.has_next; prev = has_prev }
+    let e = ends_before r.ring c.args.place c.requires.place c.unwrap_or-next.ensures c.prev-prev.ensures in
+    let f = fits r.ring e in record { node = f.has_node; prev = f.has_prev; next = f.has_next }
 
 pub overflow_add-self : goal.overflow_add-self
 overflow_add-self g c =
@@ -63,10 +61,9 @@ invariant_of-self g c =
     let r = ready_spare (held c.args.number c.args.key c.args.value)
     (opened c.self.invariant c.self.view_is c.unwrap-guard.ensures) (omega (arith, c.if-self-eq0.false))
     c.next-first_spare.ensures c.fill.ensures in
+    let e = ends_before r.ring c.args.place c.requires.place c.unwrap_or-next.ensures c.prev-prev.ensures in
     record {
-      at = (pushed r c.unwrap-guard.ensures c.args.place c.requires.place c.unwrap_or-next.ensures
-          c.prev-prev.ensures
-          c.attach.ensures).sound;
+      at = (pushed r e c.unwrap-guard.ensures c.attach.ensures).sound;
     }
 
 pub returns : goal.returns
@@ -74,8 +71,8 @@ returns g c =
     let r = ready_spare (held c.args.number c.args.key c.args.value)
     (opened c.self.invariant c.self.view_is c.unwrap-guard.ensures) (omega (arith, c.if-self-eq0.false))
     c.next-first_spare.ensures c.fill.ensures in
-    let l = pushed r c.unwrap-guard.ensures c.args.place c.requires.place c.unwrap_or-next.ensures
-    c.prev-prev.ensures c.attach.ensures in record {
+    let e = ends_before r.ring c.args.place c.requires.place c.unwrap_or-next.ensures c.prev-prev.ensures in
+    let l = pushed r e c.unwrap-guard.ensures c.attach.ensures in record {
       entries = l.entries;
       free = l.free;
       apart = l.apart;

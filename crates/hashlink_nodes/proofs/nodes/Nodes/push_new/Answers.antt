@@ -5,7 +5,7 @@ use Rattle.hashlink_nodes.specs.declared.pool.Pool.{Pool}
 use Rattle.hashlink_nodes.proofs.Paths.{set_at_here}
 use Rattle.hashlink_nodes.proofs.Calls.{guarded_now, pushed, ready_new}
 use Rattle.hashlink_nodes.proofs.Opening.{Leaves, known, leaves}
-use Rattle.hashlink_nodes.proofs.Rings.{fits_before}
+use Rattle.hashlink_nodes.proofs.Rings.{ends_before, fits}
 use Rattle.hashlink_nodes.proofs.nodes.Nodes.push_new.Given as given
 use Rattle.hashlink_nodes.proofs.nodes.Nodes.push_new.Goals.{In-Err-make}
 use Rattle.hashlink_nodes.proofs.nodes.Nodes.push_new.Goals as goal
@@ -31,7 +31,7 @@ prev-prev-requires g c =
       (known c.self.invariant c.self.view_is).is_spare,
     ))
     c.fill.ensures in
-    (fits_before r.ring c.args.place c.requires.place c.unwrap_or-next.ensures).has_next
+    (fits r.ring (ends_before r.ring c.args.place c.requires.place c.unwrap_or-next.ensures refl)).has_next
 
 pub attach-requires : goal.attach-requires
 attach-requires g c =
@@ -44,9 +44,8 @@ attach-requires g c =
       (known c.self.invariant c.self.view_is).is_spare,
     ))
     c.fill.ensures in
-    let f = fits_before r.ring c.args.place c.requires.place c.unwrap_or-next.ensures in
-    let has_prev = ap (state_of c.fill.new.self).has c.prev-prev.ensures ∙ f.has_prev in
-    record { node = f.has_node; next = f.has_next; prev = has_prev }
+    let e = ends_before r.ring c.args.place c.requires.place c.unwrap_or-next.ensures c.prev-prev.ensures in
+    let f = fits r.ring e in record { node = f.has_node; prev = f.has_prev; next = f.has_next }
 
 pub invariant_of-self-in-Ok-make : goal.invariant_of-self-in-Ok-make
 invariant_of-self-in-Ok-make g c =
@@ -59,9 +58,9 @@ invariant_of-self-in-Ok-make g c =
       (known c.self.invariant c.self.view_is).is_spare,
     ))
     c.fill.ensures in
+    let e = ends_before r.ring c.args.place c.requires.place c.unwrap_or-next.ensures c.prev-prev.ensures in
     record {
-      at = (pushed r refl c.args.place c.requires.place c.unwrap_or-next.ensures c.prev-prev.ensures
-          c.attach.ensures).sound;
+      at = (pushed r e refl c.attach.ensures).sound;
     }
 
 pub returns-in-Ok-make : goal.returns-in-Ok-make
@@ -75,8 +74,8 @@ returns-in-Ok-make g c =
       (known c.self.invariant c.self.view_is).is_spare,
     ))
     c.fill.ensures in
-    let l = pushed r refl c.args.place c.requires.place c.unwrap_or-next.ensures c.prev-prev.ensures
-    c.attach.ensures in record {
+    let e = ends_before r.ring c.args.place c.requires.place c.unwrap_or-next.ensures c.prev-prev.ensures in
+    let l = pushed r e refl c.attach.ensures in record {
       entries = l.entries;
       free = l.free ∙ c.requires.none;
       apart = l.apart;
