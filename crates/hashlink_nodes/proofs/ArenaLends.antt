@@ -1,6 +1,5 @@
--- An arena lends a part of a block, by `&` and by `&mut`. A function of it gives its code, which only
--- computes an
--- address, and where the part is in a block. Assumes `Logic`.
+-- An arena lends a part of a block, by `&` and by `&mut`. A function of it gives its code, which only computes
+-- an address, and where the part is in a block. Assumes `Logic`.
 use denote.Memory.{part_of}
 use Rattle.hashlink_nodes.proofs.Walks.{◌≡◌, ℕ, ◌+◌, List, [], ◌∷◌, ◌++◌, refl, sym, subst, Some, Bor, MutBor}
 use Rattle.hashlink_nodes.proofs.Walks.{lookup, remove_entry, Ura, full_share, named, Val, vptr, SProp, ent}
@@ -31,7 +30,7 @@ use Rattle.hashlink_nodes.specs.Kept.{Kept, alter}
 use Rattle.hashlink_nodes.specs.declared.node.Node.{Node}
 use Rattle.hashlink_nodes.specs.declared.arena.Arena.{Arena}
 use Rattle.hashlink_nodes.specs.contracts.arena.Arena.{the_row}
-use Rattle.hashlink_nodes.proofs.ArenaSteps.{Mark, Nd, word_had}
+use Rattle.hashlink_nodes.proofs.ArenaSteps.{Mark, Nd, word_had, args_are}
 use Rattle.hashlink_nodes.proofs.ArenaBlocks.{blocks_cut, blocks_glue}
 
 -- the signature of a function that lends P by `&`
@@ -90,62 +89,65 @@ module _ {M : Type 1} (𝓤 : Ura M) (𝓛 : Logic 𝓤) (𝓜 : Model 𝓤 𝓛
       use0 𝓛 (raw (fact 𝓤 (p ≡ block_ptr b o))) (fact_i 𝓤 (p ≡ block_ptr b o) (emp 𝓤) e) $ join ! $ done !)
       (ex_i 𝓤 (λ (x : ℕ × ℕ). sep 𝓤 (fact 𝓤 (p ≡ block_ptr x.0 x.1)) (Post (vptr x.0 (x.1 + off)))) (b, o))
 
+  -- the signature by `&`, and by `&mut`
+  abbrev S : Ended
+  S = Sharing T P one
+
+  abbrev S' : Ended
+  S' = Lending T P
+
   module _ (closed : let 𝓣 = tables 𝓤 H 𝓜 𝓡 𝓡.env in Closed 𝓤 H 𝓣.C 𝓣.Λ key fn) where
-    module _ (c : Clauses 𝓤 (Sharing T P one)) where
-      abbrev pub shared_stays : Stays (Sharing T P one).signature.params (Sharing T P one).kept
+    module _ (c : Clauses 𝓤 S) where
+      abbrev pub shared_stays : Stays S.signature.params S.kept
       shared_stays = (
         stay_dropped (RefOf (0 ∷ []) tt (plain (λ _. the_row R)) (λ _. tt)) yes,
         (stay_dropped (plain (λ _. Nd)) yes, tt),
       )
+
+      abbrev Z : Type 0
+      Z = (walk_of 𝓛 S shared_stays c).Ghost
 
       -- what is asked, and what is then seen of the part
       pub record Shares : Type 2 where
         pub Asked : Arena R.Denot → Node → Type 0
         pub Seen : (a : Arena R.Denot) (n : Node) → Asked a n → Type 0
         pub part : (a : Arena R.Denot) (n : Node) → Asked a n → P.Denot
-        pub asks : (z : (walk_of 𝓛 (Sharing T P one) shared_stays c).Ghost)
+        pub asks : (z : Z)
             → ent 𝓤 ((c z.0.0 z.0.3).requires z.1)
             (sep 𝓤 (fact 𝓤 (z.0.0.1.0 ⊑ T.lives)) (fact 𝓤 (Asked z.0.3.0.now z.0.3.1.0)))
-        pub shows : (z : (walk_of 𝓛 (Sharing T P one) shared_stays c).Ghost)
-            (held : Asked z.0.3.0.now z.0.3.1.0)
+        pub shows : (z : Z) (held : Asked z.0.3.0.now z.0.3.1.0)
             → ent 𝓤 (sem 𝓛 (blocks_lent R z.0.3.0.now.blocks z.0.0.0))
             (sep 𝓤 (sem 𝓛 (lent_at P (z.0.3.1.0.at +ₚ off) (part _ _ held) z.0.0.0)) (fact 𝓤 (Seen _ _ held)))
-        pub says : (z : (walk_of 𝓛 (Sharing T P one) shared_stays c).Ghost)
-            (held : Asked z.0.3.0.now z.0.3.1.0)
+        pub says : (z : Z) (held : Asked z.0.3.0.now z.0.3.1.0)
             → Seen _ _ held → (at : ℕ × ℕ)
             → ent 𝓤 (emp 𝓤)
             ((c z.0.0 z.0.3).ensures z.1 (record { ref_ptr = at; now = part _ _ held })
-            (at_exit (Sharing T P one) z.0.0 z.0.3 (tt, (tt, tt))))
+            (at_exit S z.0.0 z.0.3 (tt, (tt, tt))))
 
       pub shared : Shares → Finds
-          → Meets 𝓛 (Sharing T P one).signature (let 𝓣 = tables 𝓤 H 𝓜 𝓡 𝓡.env in 𝓣.C key)
-          (closing 𝓛 (Sharing T P one) c)
+          → Meets 𝓛 S.signature (let 𝓣 = tables 𝓤 H 𝓜 𝓡 𝓡.env in 𝓣.C key)
+          (closing 𝓛 S c)
       shared s finds =
-          proved_at 𝓛 (Sharing T P one) shared_stays c 𝓜 𝓡 (
+          proved_at 𝓛 S shared_stays c 𝓜 𝓡 (
             Goes-dropped 𝓛 2 (RefOf (0 ∷ []) tt (plain (λ _. the_row R)) (λ _. tt)) yes (λ κs x f. refl),
             (Goes-dropped 𝓛 2 (plain (λ _. Nd)) yes (λ κs x f. refl), tt),
           )
           key fn closed (λ z are.
           let κs = z.0.0 in let qs = z.0.1 in
-          let Post : Val → SProp 𝓤 = (walk_of 𝓛 (Sharing T P one) shared_stays c).post z in
+          let Post : Val → SProp 𝓤 = (walk_of 𝓛 S shared_stays c).post z in
           let Run : List Val → SProp 𝓤 = λ ws. Runs ws Post in
-          let a = z.0.3.0.now in let rb = z.0.3.0.ref_ptr.0 in let ro = z.0.3.0.ref_ptr.1 in let n =
-          z.0.3.1.0 in
+          let a = z.0.3.0.now in let rb = z.0.3.0.ref_ptr.0 in let ro = z.0.3.0.ref_ptr.1 in
+          let n = z.0.3.1.0 in
           let toks = ‵ (flft κs.0 qs.0) ⊛ ‵ (flft κs.1.0 qs.1.0) ⊛ ‵ ftrue in
-          qed 𝓛 ((toks ⊛ ‵ (owns (types_at (Sharing T P one).signature.params κs) z.0.3 z.0.4)) ∷ raw
+          qed 𝓛 ((toks ⊛ ‵ (owns (types_at S.signature.params κs) z.0.3 z.0.4)) ∷ raw
           ((c κs z.0.3).requires z.1) ∷ []) ∵
           split ! $ move ! (2 ∷ []) $
-          use1 𝓛 (raw (fact 𝓤 (κs.1.0 ⊑ T.lives)) ⊛ raw (fact 𝓤 (s.Asked a n))) (s.asks z) $ split ! $ drop
-          ! $
-          heard ! _ (λ held.
+          use1 𝓛 (raw (fact 𝓤 (κs.1.0 ⊑ T.lives)) ⊛ raw (fact 𝓤 (s.Asked a n))) (s.asks z) $ split ! $
+          drop ! $ heard ! _ (λ held.
           let w = s.part a n held in
           move ! (1 ∷ []) $ fsplit ! $ fsplit ! $ feq_l !
           (λ e0. move ! (1 ∷ []) $ fsplit ! $ word_had ! n.at z.0.4.1.0 (λ e1. drop ! $
-          suffices ! (Run (vptr rb ro ∷ word n.at ∷ []))
-          (subst (λ (ws : List Val × List Val). ent 𝓤 (Run (vptr rb ro ∷ word n.at ∷ []))
-          (Run (ws.0 ++ (ws.1 ++ []))))
-          (λ j. (sym e0 j, sym e1 j)) (id⊢ 𝓤 _))
-          $
+          args_are ! (λ (ws : List Val × List Val). Run (ws.0 ++ (ws.1 ++ []))) (λ j. (sym e0 j, sym e1 j)) $
           begins ! finds Post rb ro n.at $ unhide ! $ fsplit ! $ drop ! $
           use1 𝓛 (‵ (lent_at P (n.at +ₚ off) w κs.0) ⊛ raw (fact 𝓤 (s.Seen a n held))) (s.shows z held) $
           split ! $ move ! (1 ∷ []) $ heard ! _ (λ seen.
@@ -155,18 +157,21 @@ module _ {M : Type 1} (𝓤 : Ura M) (𝓛 : Logic 𝓤) (𝓜 : Model 𝓤 𝓛
           now ! $ suffices ! (Post (vptr b (o + off))) (addressed Post n.at b o e) $
           fsplit ! $ drop ! $ hide ! $
           feq_i ! (List Val) (vptr b (o + off) ∷ []) (vptr b (o + off) ∷ []) refl $ fjoin ! $
-          use0 𝓛 (raw ((c κs z.0.3).ensures z.1 out (at_exit (Sharing T P one) κs z.0.3 (tt, (tt, tt)))))
+          use0 𝓛 (raw ((c κs z.0.3).ensures z.1 out (at_exit S κs z.0.3 (tt, (tt, tt)))))
           (s.says z held seen (b, o + off)) $
           nothing ! $ nothing ! $ fjoin ! $ nothing ! $ fjoin ! $ keep ! (3 ∷ 0 ∷ 2 ∷ 1 ∷ []) $ by !
-          (leaves 𝓛 (Sharing T P one) shared_stays c z (vptr b (o + off)) out (tt, (tt, tt))
+          (leaves 𝓛 S shared_stays c z (vptr b (o + off)) out (tt, (tt, tt))
           (tt, (tt, tt)))))))))
 
-    module _ (c : Clauses 𝓤 (Lending T P)) where
-      abbrev pub lent_stays : Stays (Lending T P).signature.params (Lending T P).kept
+    module _ (c : Clauses 𝓤 S') where
+      abbrev pub lent_stays : Stays S'.signature.params S'.kept
       lent_stays = (
         stay_dropped (mut_ref_to (0 ∷ []) tt (plain (λ _. the_row R))) no,
         (stay_dropped (plain (λ _. Nd)) yes, tt),
       )
+
+      abbrev Z' : Type 0
+      Z' = (walk_of 𝓛 S' lent_stays c).Ghost
 
       -- the part w of the block k comes out of what the block owns, and another goes in
       pub record Held (n : Node) (k : Kept R.Denot) (change : P.Denot → Kept R.Denot → Kept R.Denot) : Type
@@ -207,49 +212,44 @@ module _ {M : Type 1} (𝓤 : Ura M) (𝓛 : Logic 𝓤) (𝓜 : Model 𝓤 𝓛
       pub record Lends : Type 2 where
         pub change : P.Denot → Kept R.Denot → Kept R.Denot
         pub Asked : Arena R.Denot → Node → Type 0
-        pub asks : (z : (walk_of 𝓛 (Lending T P) lent_stays c).Ghost)
+        pub asks : (z : Z')
             → ent 𝓤 ((c z.0.0 z.0.3).requires z.1)
             (sep 𝓤 (fact 𝓤 (z.0.0.1.0 ⊑ T.lives)) (fact 𝓤 (Asked z.0.3.0.now z.0.3.1.0)))
         pub block : (a : Arena R.Denot) (n : Node) → Asked a n
             → (k : Kept R.Denot) × (lookup (same_node n) a.blocks ≡ Some k)
         pub held : (a : Arena R.Denot) (n : Node) (asked : Asked a n) → Held n (block a n asked).0 change
-        pub says : (z : (walk_of 𝓛 (Lending T P) lent_stays c).Ghost) (asked : Asked z.0.3.0.now z.0.3.1.0)
+        pub says : (z : Z') (asked : Asked z.0.3.0.now z.0.3.1.0)
             (r : MutBor P.Denot) → r.now ≡ (held _ _ asked).part
             → ent 𝓤 (sem 𝓛 (follows (the_row R) P z.0.3.0.ghost_name r.ghost_name
             (λ w. altered z.0.3.0.now z.0.3.1.0 (change w))))
-            ((c z.0.0 z.0.3).ensures z.1 r (at_exit (Lending T P) z.0.0 z.0.3 (tt, (tt, tt))))
+            ((c z.0.0 z.0.3).ensures z.1 r (at_exit S' z.0.0 z.0.3 (tt, (tt, tt))))
 
       pub lent : Lends → Finds
-          → Meets 𝓛 (Lending T P).signature (let 𝓣 = tables 𝓤 H 𝓜 𝓡 𝓡.env in 𝓣.C key)
-          (closing 𝓛 (Lending T P) c)
+          → Meets 𝓛 S'.signature (let 𝓣 = tables 𝓤 H 𝓜 𝓡 𝓡.env in 𝓣.C key)
+          (closing 𝓛 S' c)
       lent s finds =
           let Ar : RattleType = the_row R in
-          proved_at 𝓛 (Lending T P) lent_stays c 𝓜 𝓡 (
+          proved_at 𝓛 S' lent_stays c 𝓜 𝓡 (
             Goes-spent_ref 𝓛 2 (0 ∷ []) tt (plain (λ _. Ar)),
             (Goes-dropped 𝓛 2 (plain (λ _. Nd)) yes (λ κs x f. refl), tt),
           )
           key fn closed (λ z are.
           let κs = z.0.0 in let qs = z.0.1 in
-          let Post : Val → SProp 𝓤 = (walk_of 𝓛 (Lending T P) lent_stays c).post z in
+          let Post : Val → SProp 𝓤 = (walk_of 𝓛 S' lent_stays c).post z in
           let Run : List Val → SProp 𝓤 = λ ws. Runs ws Post in
           let a = z.0.3.0.now in let rb = z.0.3.0.ref_ptr.0 in let ro = z.0.3.0.ref_ptr.1 in
           let γ = z.0.3.0.ghost_name in let n = z.0.3.1.0 in
           let toks = ‵ (flft κs.0 qs.0) ⊛ ‵ (flft κs.1.0 qs.1.0) ⊛ ‵ ftrue in
-          qed 𝓛 ((toks ⊛ ‵ (owns (types_at (Lending T P).signature.params κs) z.0.3 z.0.4)) ∷ raw
+          qed 𝓛 ((toks ⊛ ‵ (owns (types_at S'.signature.params κs) z.0.3 z.0.4)) ∷ raw
           ((c κs z.0.3).requires z.1) ∷ []) ∵
           split ! $ move ! (2 ∷ []) $
-          use1 𝓛 (raw (fact 𝓤 (κs.1.0 ⊑ T.lives)) ⊛ raw (fact 𝓤 (s.Asked a n))) (s.asks z) $ split ! $ drop
-          ! $
-          heard ! _ (λ asked.
+          use1 𝓛 (raw (fact 𝓤 (κs.1.0 ⊑ T.lives)) ⊛ raw (fact 𝓤 (s.Asked a n))) (s.asks z) $ split ! $
+          drop ! $ heard ! _ (λ asked.
           let k = (s.block a n asked).0 in let is_k = (s.block a n asked).1 in let h = s.held a n asked in
           move ! (1 ∷ []) $ fsplit ! $ fsplit3 ! $ feq_l !
           (λ e0. move ! (2 ∷ []) $ fsplit ! $ word_had ! n.at z.0.4.1.0 (λ e1. drop ! $
           -- [obs; the borrow; the tokens]
-          suffices ! (Run (vptr rb ro ∷ word n.at ∷ []))
-          (subst (λ (ws : List Val × List Val). ent 𝓤 (Run (vptr rb ro ∷ word n.at ∷ []))
-          (Run (ws.0 ++ (ws.1 ++ []))))
-          (λ j. (sym e0 j, sym e1 j)) (id⊢ 𝓤 _))
-          $
+          args_are ! (λ (ws : List Val × List Val). Run (ws.0 ++ (ws.1 ++ []))) (λ j. (sym e0 j, sym e1 j)) $
           move ! (2 ∷ []) $ split3 ! $ move ! (3 ∷ 4 ∷ 0 ∷ []) $
           begins ! finds Post rb ro n.at $
           opens ! tt Ar {h = a} rb ro (λ vs. move ! (1 ∷ []) $ fsplit ! $ move ! (1 ∷ []) $
@@ -257,9 +257,8 @@ module _ {M : Type 1} (𝓤 : Ura M) (𝓛 : Logic 𝓤) (𝓜 : Model 𝓤 𝓛
           (blocks_cut R 𝓛 n a.blocks k is_k) $ split ! $
           use1 𝓛 (‵ (lies_at P full_share (n.at +ₚ off) h.part) ⊛ ‵ (h.rest n.at)) h.out $ split ! $
           in_a_block ! n.at (λ p. lies_at P full_share (p +ₚ off) h.part) (id⊢ 𝓤 (never 𝓤)) (λ b o e.
-          -- [the part; the rest of its block; the other blocks; the mark; its cell; the open borrow; obs;
-          -- auth; the
-          -- other tokens]
+          -- [the part; the rest of its block; the other blocks; the mark; its cell; the open borrow; obs; auth;
+          -- the other tokens]
           let at = o + off in let new = λ (w : P.Denot). altered a n (s.change w) in
           let way = comes_back a h rb ro b o vs is_k e in let Left = sem 𝓛 (Rest a h rb ro b o vs) in
           move ! (3 ∷ 4 ∷ []) $ fjoin ! $ move ! (3 ∷ 0 ∷ []) $ fjoin ! $ move ! (2 ∷ 0 ∷ []) $ fjoin ! $
@@ -275,8 +274,8 @@ module _ {M : Type 1} (𝓤 : Ura M) (𝓛 : Logic 𝓤) (𝓜 : Model 𝓤 𝓛
           (id⊢ 𝓤 _) $ split3 ! $
           -- [the value's borrow; its token; what the arena follows; the other tokens]
           now ! $ suffices ! (Post (vptr b at)) (addressed Post n.at b o e) $ move ! (2 ∷ []) $
-          use1 𝓛 (raw ((c κs z.0.3).ensures z.1 out (at_exit (Lending T P) κs z.0.3 (tt, (tt, tt)))))
+          use1 𝓛 (raw ((c κs z.0.3).ensures z.1 out (at_exit S' κs z.0.3 (tt, (tt, tt)))))
           (s.says z asked out refl) $
           move ! (2 ∷ 3 ∷ 4 ∷ []) $ group ! 3 $
           nothing ! $ nothing ! $ fjoin ! $ nothing ! $ fjoin ! $ keep ! (1 ∷ 0 ∷ 3 ∷ 2 ∷ []) $ by !
-          (leaves 𝓛 (Lending T P) lent_stays c z (vptr b at) out (tt, (tt, tt)) (tt, (tt, tt))))))))))
+          (leaves 𝓛 S' lent_stays c z (vptr b at) out (tt, (tt, tt)) (tt, (tt, tt))))))))))

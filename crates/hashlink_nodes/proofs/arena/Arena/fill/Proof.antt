@@ -22,7 +22,7 @@ use Rattle.hashlink_nodes.specs.Ownership.{is_small, number_of, number_offset, l
 use Rattle.hashlink_nodes.specs.Ownership.{free_right}
 use Rattle.hashlink_nodes.specs.declared.arena.Arena.{Arena}
 use Rattle.hashlink_nodes.specs.contracts.arena.Arena.{the_row}
-use Rattle.hashlink_nodes.proofs.ArenaSteps.{Nd, word_had, told}
+use Rattle.hashlink_nodes.proofs.ArenaSteps.{Nd, word_had, told, args_are, states}
 use Rattle.hashlink_nodes.proofs.ArenaBlocks.{found, blocks_cut, blocks_glue, small_shown}
 use Rattle.hashlink_nodes.specs.contracts.arena.Arena.fill.{ended, clauses}
 use Rattle.hashlink_nodes.specs.contracts.arena.Arena.fill.Key.{name as #self}
@@ -80,13 +80,7 @@ fill_spec 𝓤 𝓛 𝓜 𝓡 wired T L =
     fsplit ! $ told R (param_laws 0 T L) ! pair z.0.4.1.1.1.0 (λ v e3 good.
     -- [what the pair owns; nothing; obs; the borrow; the tokens]
     move ! (1 ∷ []) $ drop ! $ move ! (3 ∷ []) $ split3 ! $
-    suffices ! (Run (vptr rb ro ∷ word n.at ∷ vint w64 number ∷ v ∷ []))
-    (subst
-    (λ (us : List Val × List Val × List Val × List Val).
-    ent 𝓤 (Run (vptr rb ro ∷ word n.at ∷ vint w64 number ∷ v ∷ []))
-    (Run (us.0 ++ (us.1 ++ (us.2 ++ (us.3 ++ []))))))
-    (λ j. (sym e0 j, sym e1 j, sym e2 j, sym e3 j)) (id⊢ 𝓤 _))
-    $
+    args_are ! (λ (us : List Val × List Val × List Val × List Val). Run (us.0 ++ (us.1 ++ (us.2 ++ (us.3 ++ []))))) (λ j. (sym e0 j, sym e1 j, sym e2 j, sym e3 j)) $
     enter ! 𝓣.C 𝓣.Λ fn (vptr rb ro ∷ word n.at ∷ vint w64 number ∷ v ∷ []) Post $ alloc_all !
     (λ l. pass_all ! refl ((tt, tt), (word-Good [] n.at, ((tt, record { fits = fits }), (good, tt)))) $
     let Ev = env fn.locals l in
@@ -130,8 +124,7 @@ fill_spec 𝓤 𝓛 𝓜 𝓡 wired T L =
     (blocks_glue R 𝓛 n a.blocks k filled is_k) $
     move ! (1 ∷ 0 ∷ []) $ fjoin ! $ move ! (1 ∷ 0 ∷ []) $ closes ! tt Ar new vs rb ro $
     -- [obs; the borrow; its token; a token; nothing]
-    let Now : Type 0 = new.blocks ≡ alter (same_node n) filled a.blocks in
-    use0 𝓛 (raw (fact 𝓤 Now)) (fact_i 𝓤 Now (emp 𝓤) refl) $
+    states ! {φ = new.blocks ≡ alter (same_node n) filled a.blocks} refl $
     feq_i ! (List Val) (vunit ∷ []) (vunit ∷ []) refl $ move ! (4 ∷ 5 ∷ 6 ∷ []) $ group ! 3 $
     nothing ! $ nothing ! $ fjoin ! $ nothing ! $ fjoin ! $ nothing ! $ fjoin ! $ move ! (4 ∷ 5 ∷ []) $
     feq_i ! (List Val) z.0.4.0 (vptr rb ro ∷ []) e0 $ fjoin3 ! $ fjoin ! $

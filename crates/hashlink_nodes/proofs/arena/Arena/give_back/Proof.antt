@@ -19,7 +19,7 @@ use Rattle.hashlink_nodes.specs.Ownership.{number_of, number_offset, links_of, l
 use Rattle.hashlink_nodes.specs.Ownership.{free_right}
 use Rattle.hashlink_nodes.specs.declared.arena.Arena.{Arena}
 use Rattle.hashlink_nodes.specs.contracts.arena.Arena.{the_row}
-use Rattle.hashlink_nodes.proofs.ArenaSteps.{Nd, word_had}
+use Rattle.hashlink_nodes.proofs.ArenaSteps.{Nd, word_had, args_are, states}
 use Rattle.hashlink_nodes.proofs.ArenaBlocks.{found, blocks_cut}
 use Rattle.std.specs.contracts.alloc.Global as heap
 use Rattle.std.proofs.alloc.Global.TheLaws as heap_laws
@@ -74,12 +74,7 @@ give_back_spec 𝓤 𝓛 𝓜 𝓡 wired T L =
     (λ e1. fsplit ! $ handle_tells (al R Z LZ ghosts) ! alloc z.0.4.1.1.0 (λ h e2 fits.
     -- [the handle; nothing; obs; the borrow; the tokens]
     move ! (1 ∷ []) $ drop ! $ move ! (3 ∷ []) $ split3 ! $
-    suffices ! (Run (vptr rb ro ∷ word n.at ∷ h ∷ []))
-    (subst
-    (λ (us : List Val × List Val × List Val). ent 𝓤 (Run (vptr rb ro ∷ word n.at ∷ h ∷ []))
-    (Run (us.0 ++ (us.1 ++ (us.2 ++ [])))))
-    (λ j. (sym e0 j, sym e1 j, sym e2 j)) (id⊢ 𝓤 _))
-    $
+    args_are ! (λ (us : List Val × List Val × List Val). Run (us.0 ++ (us.1 ++ (us.2 ++ [])))) (λ j. (sym e0 j, sym e1 j, sym e2 j)) $
     enter ! 𝓣.C 𝓣.Λ fn (vptr rb ro ∷ word n.at ∷ h ∷ []) Post $ alloc_all !
     (λ l. pass_all ! refl ((tt, tt), (word-Good [] n.at, (fits, tt))) $
     move ! (4 ∷ 5 ∷ 0 ∷ []) $ opens ! tt Ar {h = a} rb ro
@@ -116,8 +111,7 @@ give_back_spec 𝓤 𝓛 𝓜 𝓡 wired T L =
     ro $
     -- [obs; the borrow; its token; the block; a token; nothing; the handle]
     move ! (3 ∷ 6 ∷ []) $ loose_in R Z LZ ghosts ! b o h alloc $
-    use0 𝓛 (raw (fact 𝓤 (new.blocks ≡ remove_entry (same_node n) a.blocks)))
-    (fact_i 𝓤 (new.blocks ≡ remove_entry (same_node n) a.blocks) (emp 𝓤) refl) $ move ! (1 ∷ 0 ∷ []) $
+    states ! {φ = new.blocks ≡ remove_entry (same_node n) a.blocks} refl $ move ! (1 ∷ 0 ∷ []) $
     move ! (4 ∷ 5 ∷ 6 ∷ []) $ group ! 3 $
     nothing ! $ nothing ! $ fjoin ! $ nothing ! $ fjoin ! $ move ! (4 ∷ 5 ∷ []) $ feq_i ! (List Val) z.0.4.0
     (vptr rb ro ∷ []) e0 $ fjoin3 ! $ fjoin ! $

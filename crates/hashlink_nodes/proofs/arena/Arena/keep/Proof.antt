@@ -17,7 +17,7 @@ use Rattle.hashlink_nodes.specs.Kept.{Kept, kept}
 use Rattle.hashlink_nodes.specs.Ownership.{Links, number_offset, links_offset}
 use Rattle.hashlink_nodes.specs.declared.arena.Arena.{Arena}
 use Rattle.hashlink_nodes.specs.contracts.arena.Arena.{the_row}
-use Rattle.hashlink_nodes.proofs.ArenaSteps.{told, no_entry, word_made}
+use Rattle.hashlink_nodes.proofs.ArenaSteps.{told, no_entry, word_made, args_are, states}
 use Rattle.hashlink_nodes.proofs.ArenaBlocks.{small_shown, apart_from, knows}
 use Rattle.std.proofs.Common.{IsNone}
 use Rattle.std.specs.contracts.alloc.Global as heap
@@ -70,12 +70,7 @@ keep_spec 𝓤 𝓛 𝓜 𝓡 wired T L =
     let new : Arena T.Denot = record { mark = a.mark; blocks = (n, bare_block) ∷ a.blocks } in
     -- [what the links own; nothing; the block; the handle; obs; the borrow; the tokens]
     move ! (1 ∷ []) $ drop ! $ move ! (2 ∷ []) $ drop ! $ move ! (4 ∷ []) $ split3 ! $
-    suffices ! (Run (vptr rb ro ∷ both (vptr b o) h ∷ w ∷ []))
-    (subst
-    (λ (us : List Val × List Val × List Val). ent 𝓤 (Run (vptr rb ro ∷ both (vptr b o) h ∷ w ∷ []))
-    (Run (us.0 ++ (us.1 ++ (us.2 ++ [])))))
-    (λ j. (sym e0 j, sym ws j, sym e2 j)) (id⊢ 𝓤 _))
-    $
+    args_are ! (λ (us : List Val × List Val × List Val). Run (us.0 ++ (us.1 ++ (us.2 ++ [])))) (λ j. (sym e0 j, sym ws j, sym e2 j)) $
     enter ! 𝓣.C 𝓣.Λ fn (vptr rb ro ∷ both (vptr b o) h ∷ w ∷ []) Post $ alloc_all !
     (λ l. pass_all ! refl ((tt, tt), (loose_good R Z LZ ghosts b o h fits, (good, tt))) $
     let Ev = env fn.locals l in
@@ -110,11 +105,7 @@ keep_spec 𝓤 𝓛 𝓜 𝓡 wired T L =
     (λ free. fjoin ! $ move ! (1 ∷ 0 ∷ []) $ fjoin ! $ move ! (1 ∷ 0 ∷ []) $ closes ! tt Ar new vs rb ro $
     -- [obs; the borrow; the tokens]
     let P : Option (Kept T.Denot) → Type 0 = λ s. IsNone s in
-    let apart : IsNone (lookup (same_node n) a.blocks) = subst P (sym free) refl in
-    use0 𝓛 (raw (fact 𝓤 (IsNone (lookup (same_node n) a.blocks))))
-    (fact_i 𝓤 (IsNone (lookup (same_node n) a.blocks)) (emp 𝓤) apart) $
-    use0 𝓛 (raw (fact 𝓤 (new.blocks ≡ (n, bare_block) ∷ a.blocks)))
-    (fact_i 𝓤 (new.blocks ≡ (n, bare_block) ∷ a.blocks) (emp 𝓤) refl) $ join ! $
+    states ! (subst P (sym free) refl) $ states ! {φ = new.blocks ≡ (n, bare_block) ∷ a.blocks} refl $ join ! $
     word_made ! (block_ptr b o) $ move ! (4 ∷ 5 ∷ 6 ∷ []) $ group ! 3 $
     nothing ! $ nothing ! $ fjoin ! $ nothing ! $ fjoin ! $ move ! (4 ∷ 5 ∷ []) $ feq_i ! (List Val) z.0.4.0
     (vptr rb ro ∷ []) e0 $ fjoin3 !

@@ -10,6 +10,7 @@ use Rattle.hashlink_nodes.specs.Kept.{Kept}
 use Rattle.hashlink_nodes.specs.Ownership.{Links, block_lent, blocks_lent, links_offset}
 use Rattle.hashlink_nodes.specs.Node.{same_node}
 use Rattle.hashlink_nodes.proofs.ArenaBlocks.{found, block_seen}
+use Rattle.hashlink_nodes.proofs.ArenaSteps.{states}
 use Rattle.hashlink_nodes.proofs.ArenaLends.{Address, shared}
 use Rattle.hashlink_nodes.specs.contracts.arena.Arena.links.{clauses}
 use Rattle.hashlink_nodes.specs.contracts.arena.Arena.links.Key.{name as #self}
@@ -30,7 +31,7 @@ links_spec 𝓤 𝓛 𝓜 𝓡 wired T L =
       shows = λ z held. let k = found _ held in let κ = z.0.0.0 in let n = z.0.3.1.0 in
           qed 𝓛 (‵ (blocks_lent R z.0.3.0.now.blocks κ) ∷ []) ∵
           use1 𝓛 (‵ (block_lent R n.at k.0 κ)) (block_seen R 𝓛 n κ z.0.3.0.now.blocks k.0 k.1) $ fsplit3 ! $
-          use0 𝓛 (raw (fact 𝓤 (Unit {0}))) (fact_i 𝓤 (Unit {0}) (emp 𝓤) tt) $ move ! (3 ∷ 0 ∷ []) $ join ! $
+          states ! {φ = Unit {0}} tt $ move ! (3 ∷ 0 ∷ []) $ join ! $
           keep ! (0 ∷ []) $ done !;
       says = λ z held seen at. fact_i 𝓤 _ (emp 𝓤)
           (ap (option_map (λ (x : Kept T.Denot). x.links)) (found _ held).1);

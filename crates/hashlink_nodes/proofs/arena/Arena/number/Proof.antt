@@ -12,6 +12,7 @@ use Rattle.std.specs.Prelude.{IfSome}
 use Rattle.hashlink_nodes.specs.Ownership.{block_lent, blocks_lent, number_offset}
 use Rattle.hashlink_nodes.specs.Node.{same_node}
 use Rattle.hashlink_nodes.proofs.ArenaBlocks.{found, block_seen, small_seen}
+use Rattle.hashlink_nodes.proofs.ArenaSteps.{states}
 use Rattle.hashlink_nodes.proofs.ArenaLends.{Address, shared}
 use Rattle.hashlink_nodes.specs.contracts.arena.Arena.number.{clauses}
 use Rattle.hashlink_nodes.specs.contracts.arena.Arena.number.Key.{name as #self}
@@ -34,7 +35,7 @@ number_spec 𝓤 𝓛 𝓜 𝓡 wired T L =
           qed 𝓛 (‵ (blocks_lent R z.0.3.0.now.blocks κ) ∷ []) ∵
           use1 𝓛 (‵ (block_lent R n.at k.0 κ)) (block_seen R 𝓛 n κ z.0.3.0.now.blocks k.0 k.1) $ fsplit3 ! $
           move ! (1 ∷ []) $ fsplit ! $ small_seen R ! k.0.entry (λ small.
-          use0 𝓛 (raw (fact 𝓤 Small)) (fact_i 𝓤 Small (emp 𝓤) small) $ move ! (1 ∷ 0 ∷ []) $ join ! $
+          states ! small $ move ! (1 ∷ 0 ∷ []) $ join ! $
           keep ! (0 ∷ []) $ done !);
       says = λ z held small at. let k = found _ held in let bs = z.0.3.0.now.blocks in let n = z.0.3.1.0 in
           let Seen : Type 0 = option_map (λ (x : Kept T.Denot). number_word x.entry) (lookup (same_node n) bs)

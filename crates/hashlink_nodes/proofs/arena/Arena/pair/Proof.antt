@@ -10,6 +10,7 @@ use Rattle.hashlink_nodes.specs.Kept.{Kept, entry_in}
 use Rattle.hashlink_nodes.specs.Ownership.{block_lent, blocks_lent, pair_lent, pair_offset}
 use Rattle.hashlink_nodes.specs.Node.{same_node}
 use Rattle.hashlink_nodes.proofs.ArenaBlocks.{found_entry, block_seen}
+use Rattle.hashlink_nodes.proofs.ArenaSteps.{states}
 use Rattle.hashlink_nodes.proofs.ArenaLends.{Address, shared}
 use Rattle.hashlink_nodes.specs.contracts.arena.Arena.pair.{clauses}
 use Rattle.hashlink_nodes.specs.contracts.arena.Arena.pair.Key.{name as #self}
@@ -31,7 +32,7 @@ pair_spec 𝓤 𝓛 𝓜 𝓡 wired T L =
           qed 𝓛 (‵ (blocks_lent R z.0.3.0.now.blocks κ) ∷ []) ∵
           use1 𝓛 (‵ (block_lent R n.at k.0 κ)) (block_seen R 𝓛 n κ z.0.3.0.now.blocks k.0 k.2) $ fsplit ! $
           rewrite ! 0 (λ x. ‵ (pair_lent R n.at x κ)) k.3 refl $
-          use0 𝓛 (raw (fact 𝓤 (Unit {0}))) (fact_i 𝓤 (Unit {0}) (emp 𝓤) tt) $ move ! (1 ∷ 0 ∷ []) $ join ! $
+          states ! {φ = Unit {0}} tt $ move ! (1 ∷ 0 ∷ []) $ join ! $
           keep ! (0 ∷ []) $ done !;
       says = λ z held seen at. let k = found_entry _ held in fact_i 𝓤 _ (emp 𝓤)
           (ap (λ (o : Option (Kept T.Denot)). option_map (λ (x : ℕ × T.Denot). x.1) (entry_in o)) k.2

@@ -1,10 +1,13 @@
-use Rattle.std.proofs.Common.{◌≡◌, drop, refl, sym, subst, ◌∙◌, arith}
+use Rattle.std.proofs.Common.{◌-◌, ◌≡◌, drop, refl, sym, subst, ◌∙◌, arith}
 use Rattle.std.specs.Prelude.{OnOk}
 use Rattle.std.proofs.lemmas.List.{nil_from_length}
-use Rattle.hashlink_nodes.specs.Ring.{held}
-use Rattle.hashlink_nodes.proofs.Calls.{ready_spare, pushed}
+use Rattle.hashlink_nodes.specs.Pool.{state_of}
+use Rattle.hashlink_nodes.specs.Ring.{held, ring}
+use Rattle.hashlink_nodes.proofs.Calls.{Ready, ready_spare, pushed}
 use Rattle.hashlink_nodes.proofs.Opening.{known, opened}
 use Rattle.hashlink_nodes.proofs.Rings.{ends_before, fits, take_spare}
+use Rattle.hashlink_nodes.proofs.nodes.Nodes.push_before.Given as given
+use Rattle.hashlink_nodes.proofs.nodes.Nodes.push_before.Goals.{After-fill}
 use Rattle.hashlink_nodes.proofs.nodes.Nodes.push_before.Goals as goal
 
 -- ---- no node is spare
@@ -37,18 +40,23 @@ fill-requires g c =
     record { has = t.has_node; bare = t.bare; small = c.requires.small }
 
 -- ---- it is ready, and goes in
+ready : (g : given.Over) (c : After-fill g)
+    → Ready (state_of c.fill.new.self) c.self.inside.first_spare c.unwrap-guard.result c.next-first_spare.result
+    (held c.args.number c.args.key c.args.value) c.self.inside.len (c.self.inside.spare - 1)
+    (ring c.args.self.now.entries (drop 1 c.args.self.now.free) c.args.self.now.link_writes)
+ready g c =
+    ready_spare (held c.args.number c.args.key c.args.value)
+    (opened c.self.invariant c.self.view_is c.unwrap-guard.ensures) (omega (arith, c.if-self-eq0.false))
+    c.next-first_spare.ensures c.fill.ensures
+
 pub prev-prev-requires : goal.prev-prev-requires
 prev-prev-requires g c =
-    let r = ready_spare (held c.args.number c.args.key c.args.value)
-    (opened c.self.invariant c.self.view_is c.unwrap-guard.ensures) (omega (arith, c.if-self-eq0.false))
-    c.next-first_spare.ensures c.fill.ensures in
+    let r = ready g (goal.at.prev-prev-requires g c).After-fill in
     (fits r.ring (ends_before r.ring c.args.place c.requires.place c.unwrap_or-next.ensures refl)).has_next
 
 pub attach-requires : goal.attach-requires
 attach-requires g c =
-    let r = ready_spare (held c.args.number c.args.key c.args.value)
-    (opened c.self.invariant c.self.view_is c.unwrap-guard.ensures) (omega (arith, c.if-self-eq0.false))
-    c.next-first_spare.ensures c.fill.ensures in
+    let r = ready g (goal.at.attach-requires g c).After-fill in
     let e = ends_before r.ring c.args.place c.requires.place c.unwrap_or-next.ensures c.prev-prev.ensures in
     let f = fits r.ring e in record { node = f.has_node; prev = f.has_prev; next = f.has_next }
 
@@ -58,9 +66,7 @@ overflow_add-self g c =
 
 pub invariant_of-self : goal.invariant_of-self
 invariant_of-self g c =
-    let r = ready_spare (held c.args.number c.args.key c.args.value)
-    (opened c.self.invariant c.self.view_is c.unwrap-guard.ensures) (omega (arith, c.if-self-eq0.false))
-    c.next-first_spare.ensures c.fill.ensures in
+    let r = ready g (goal.at.invariant_of-self g c).After-fill in
     let e = ends_before r.ring c.args.place c.requires.place c.unwrap_or-next.ensures c.prev-prev.ensures in
     record {
       at = (pushed r e c.unwrap-guard.ensures c.attach.ensures).sound;
@@ -68,9 +74,7 @@ invariant_of-self g c =
 
 pub returns : goal.returns
 returns g c =
-    let r = ready_spare (held c.args.number c.args.key c.args.value)
-    (opened c.self.invariant c.self.view_is c.unwrap-guard.ensures) (omega (arith, c.if-self-eq0.false))
-    c.next-first_spare.ensures c.fill.ensures in
+    let r = ready g (goal.at.returns g c).After-fill in
     let e = ends_before r.ring c.args.place c.requires.place c.unwrap_or-next.ensures c.prev-prev.ensures in
     let l = pushed r e c.unwrap-guard.ensures c.attach.ensures in record {
       entries = l.entries;

@@ -3,11 +3,11 @@ use Rattle.hashlink_nodes.specs.Pool.{state_of}
 use Rattle.hashlink_nodes.specs.Ring.{held}
 use Rattle.hashlink_nodes.specs.declared.pool.Pool.{Pool}
 use Rattle.hashlink_nodes.proofs.Paths.{set_at_here}
-use Rattle.hashlink_nodes.proofs.Calls.{guarded_now, pushed, ready_new}
+use Rattle.hashlink_nodes.proofs.Calls.{Ready, guarded_now, pushed, ready_new}
 use Rattle.hashlink_nodes.proofs.Opening.{Leaves, known, leaves}
 use Rattle.hashlink_nodes.proofs.Rings.{ends_before, fits}
 use Rattle.hashlink_nodes.proofs.nodes.Nodes.push_new.Given as given
-use Rattle.hashlink_nodes.proofs.nodes.Nodes.push_new.Goals.{In-Err-make}
+use Rattle.hashlink_nodes.proofs.nodes.Nodes.push_new.Goals.{After-fill, In-Err-make}
 use Rattle.hashlink_nodes.proofs.nodes.Nodes.push_new.Goals as goal
 
 pub fill-requires : goal.fill-requires
@@ -20,44 +20,29 @@ fill-requires g c =
     }
 
 -- ---- the new node is ready, and goes in
+ready : (g : given.Over) (c : After-fill g)
+    → Ready (state_of c.fill.new.self) c.in-Ok-make.node c.in-Ok.guard c.self.inside.first_spare
+    (held c.args.number c.args.key c.args.value) c.self.inside.len c.self.inside.spare c.args.self.now
+ready g c =
+    let room = (known c.self.invariant c.self.view_is).is_spare in
+    ready_new (held c.args.number c.args.key c.args.value)
+    (guarded_now c.self.invariant c.self.view_is c.in-Ok.ensures.made) c.in-Ok-make.ensures.made
+    (omega (arith, c.if-self-ge-MOST.false, ap length c.requires.none, room)) c.fill.ensures
+
 pub prev-prev-requires : goal.prev-prev-requires
 prev-prev-requires g c =
-    let r = ready_new (held c.args.number c.args.key c.args.value)
-    (guarded_now c.self.invariant c.self.view_is c.in-Ok.ensures.made) c.in-Ok-make.ensures.made
-    (omega (
-      arith,
-      c.if-self-ge-MOST.false,
-      ap length c.requires.none,
-      (known c.self.invariant c.self.view_is).is_spare,
-    ))
-    c.fill.ensures in
+    let r = ready g (goal.at.prev-prev-requires g c).After-fill in
     (fits r.ring (ends_before r.ring c.args.place c.requires.place c.unwrap_or-next.ensures refl)).has_next
 
 pub attach-requires : goal.attach-requires
 attach-requires g c =
-    let r = ready_new (held c.args.number c.args.key c.args.value)
-    (guarded_now c.self.invariant c.self.view_is c.in-Ok.ensures.made) c.in-Ok-make.ensures.made
-    (omega (
-      arith,
-      c.if-self-ge-MOST.false,
-      ap length c.requires.none,
-      (known c.self.invariant c.self.view_is).is_spare,
-    ))
-    c.fill.ensures in
+    let r = ready g (goal.at.attach-requires g c).After-fill in
     let e = ends_before r.ring c.args.place c.requires.place c.unwrap_or-next.ensures c.prev-prev.ensures in
     let f = fits r.ring e in record { node = f.has_node; prev = f.has_prev; next = f.has_next }
 
 pub invariant_of-self-in-Ok-make : goal.invariant_of-self-in-Ok-make
 invariant_of-self-in-Ok-make g c =
-    let r = ready_new (held c.args.number c.args.key c.args.value)
-    (guarded_now c.self.invariant c.self.view_is c.in-Ok.ensures.made) c.in-Ok-make.ensures.made
-    (omega (
-      arith,
-      c.if-self-ge-MOST.false,
-      ap length c.requires.none,
-      (known c.self.invariant c.self.view_is).is_spare,
-    ))
-    c.fill.ensures in
+    let r = ready g (goal.at.invariant_of-self-in-Ok-make g c).After-fill in
     let e = ends_before r.ring c.args.place c.requires.place c.unwrap_or-next.ensures c.prev-prev.ensures in
     record {
       at = (pushed r e refl c.attach.ensures).sound;
@@ -65,15 +50,7 @@ invariant_of-self-in-Ok-make g c =
 
 pub returns-in-Ok-make : goal.returns-in-Ok-make
 returns-in-Ok-make g c =
-    let r = ready_new (held c.args.number c.args.key c.args.value)
-    (guarded_now c.self.invariant c.self.view_is c.in-Ok.ensures.made) c.in-Ok-make.ensures.made
-    (omega (
-      arith,
-      c.if-self-ge-MOST.false,
-      ap length c.requires.none,
-      (known c.self.invariant c.self.view_is).is_spare,
-    ))
-    c.fill.ensures in
+    let r = ready g (goal.at.returns-in-Ok-make g c).After-fill in
     let e = ends_before r.ring c.args.place c.requires.place c.unwrap_or-next.ensures c.prev-prev.ensures in
     let l = pushed r e refl c.attach.ensures in record {
       entries = l.entries;
