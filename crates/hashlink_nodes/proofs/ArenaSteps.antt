@@ -6,11 +6,11 @@ use mir.Syntax.{Ty, int_big, w64}
 use mir.Val.{Fits, Val, vint, vstruct, vcons, vnil, of_list}
 use base.Logic.{SProp, ent, emp, guard_i, via}
 use contract.Monad.{fact, fact_i}
-use types.Kit.{prop, raw, use0}
+use types.Kit.{prop, raw, use0, Item, Goal, Seq, Step, step, ‵, ◌$◌, drop, fsplit, fjoin, fpick, fpack, feq_i}
+use types.Kit.{feq_l, rewrite}
 use prog.Wp.{Env}
 use types.Run.{Opd}
 use types.Logic.{Logic, sem}
-use types.Kit.{Item, Goal, Seq, Step, step, ‵, ◌$◌, drop, fsplit, fjoin, fpick, fpack, feq_i, feq_l, rewrite}
 use denote.RattleType.{RattleType, Valss}
 use denote.RawPtr.{Ptr, RawPtr, ptr_val}
 use denote.Shadow.{makes_shadow}

@@ -1,18 +1,18 @@
 -- `fill` writes a pair and its number into the room of a block.
-use Rattle.hashlink_nodes.proofs.Walks.{◌≡◌, ℕ, ◌+◌, ◌∙◌, ◌^◌, ◌<◌, List, [], ◌∷◌, ◌++◌, refl, sym, ap, subst}
+use Rattle.hashlink_nodes.proofs.Walks.{◌≡◌, ℕ, ◌+◌, ◌∙◌, ◌^◌, ◌<◌, List, [], ◌∷◌, ◌++◌, refl, sym, ap}
 use Rattle.hashlink_nodes.proofs.Walks.{Option, Some, None, IsSome, lookup, remove_entry, full_share, Ty}
-use Rattle.hashlink_nodes.proofs.Walks.{a_type, ty_int, w64, inst_fn, Val, vint, vptr, vunit, SProp, ent, emp}
-use Rattle.hashlink_nodes.proofs.Walks.{never, id⊢, ftrue, fat, froom, flft, fsep, WpFn, ‵, raw, ◌⊛◌, at_ret}
-use Rattle.hashlink_nodes.proofs.Walks.{◌$◌, ◌∵◌, !, qed, by, move, keep, drop, split, split3, group, fsplit}
-use Rattle.hashlink_nodes.proofs.Walks.{fsplit3, fjoin, fjoin3, rewrite, use0, use1, use2, suffices, feq_i}
-use Rattle.hashlink_nodes.proofs.Walks.{feq_l, stop, fld, of_opd, addr, store, init, assigns, assigns_last}
-use Rattle.hashlink_nodes.proofs.Walks.{first, blocks, exec, returns, enter, alloc_all, pass_all, free_all}
-use Rattle.hashlink_nodes.proofs.Walks.{look_at, get, get_in, through, sets, is, env, sub, whole, fact}
-use Rattle.hashlink_nodes.proofs.Walks.{fact_i, ◌⊑◌, tables, part_in, usize, no, yes, lone, part_at, uint_in}
-use Rattle.hashlink_nodes.proofs.Walks.{uint_out, RattleType, owns, Ptr, ptr_val, in_a_block, lies_at}
-use Rattle.hashlink_nodes.proofs.Walks.{types_at, plain, param, layouts, param_laws, nothing, heard, opens}
-use Rattle.hashlink_nodes.proofs.Walks.{closes, Stays, stay_dropped, stay_ref, walk_of, Goes-dropped}
-use Rattle.hashlink_nodes.proofs.Walks.{Goes-ref, after, word, word-Good, proved_at, leaves}
+use Rattle.hashlink_nodes.proofs.Walks.{a_type, ty_int, w64, inst_fn, Val, vint, vptr, vunit, SProp, never}
+use Rattle.hashlink_nodes.proofs.Walks.{id⊢, ftrue, fat, froom, flft, fsep, WpFn, ‵, raw, ◌⊛◌, at_ret, ◌$◌}
+use Rattle.hashlink_nodes.proofs.Walks.{◌∵◌, !, qed, by, move, keep, drop, split, split3, group, fsplit}
+use Rattle.hashlink_nodes.proofs.Walks.{fsplit3, fjoin, fjoin3, rewrite, use1, use2, feq_i, feq_l, stop, fld}
+use Rattle.hashlink_nodes.proofs.Walks.{of_opd, addr, store, init, assigns, assigns_last, first, blocks, exec}
+use Rattle.hashlink_nodes.proofs.Walks.{returns, enter, alloc_all, pass_all, free_all, look_at, get, get_in}
+use Rattle.hashlink_nodes.proofs.Walks.{through, sets, is, env, sub, whole, fact, ◌⊑◌, tables, part_in, usize}
+use Rattle.hashlink_nodes.proofs.Walks.{no, yes, lone, part_at, uint_in, uint_out, RattleType, owns, Ptr}
+use Rattle.hashlink_nodes.proofs.Walks.{ptr_val, in_a_block, lies_at, types_at, plain, param, layouts}
+use Rattle.hashlink_nodes.proofs.Walks.{param_laws, nothing, heard, opens, closes, Stays, stay_dropped}
+use Rattle.hashlink_nodes.proofs.Walks.{stay_ref, walk_of, Goes-dropped, Goes-ref, after, word, word-Good}
+use Rattle.hashlink_nodes.proofs.Walks.{proved_at, leaves}
 use types.Kit.{flt_l}
 use types.Run.{unit_lit}
 use Rattle.hashlink_nodes.specs.Node.{same_node}
@@ -80,7 +80,8 @@ fill_spec 𝓤 𝓛 𝓜 𝓡 wired T L =
     fsplit ! $ told R (param_laws 0 T L) ! pair z.0.4.1.1.1.0 (λ v e3 good.
     -- [what the pair owns; nothing; obs; the borrow; the tokens]
     move ! (1 ∷ []) $ drop ! $ move ! (3 ∷ []) $ split3 ! $
-    args_are ! (λ (us : List Val × List Val × List Val × List Val). Run (us.0 ++ (us.1 ++ (us.2 ++ (us.3 ++ []))))) (λ j. (sym e0 j, sym e1 j, sym e2 j, sym e3 j)) $
+    args_are ! (λ (us : List Val × List Val × List Val × List Val). Run
+    (us.0 ++ (us.1 ++ (us.2 ++ (us.3 ++ []))))) (λ j. (sym e0 j, sym e1 j, sym e2 j, sym e3 j)) $
     enter ! 𝓣.C 𝓣.Λ fn (vptr rb ro ∷ word n.at ∷ vint w64 number ∷ v ∷ []) Post $ alloc_all !
     (λ l. pass_all ! refl ((tt, tt), (word-Good [] n.at, ((tt, record { fits = fits }), (good, tt)))) $
     let Ev = env fn.locals l in

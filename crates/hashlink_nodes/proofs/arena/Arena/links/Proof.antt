@@ -1,11 +1,11 @@
 -- `links` shows what the arena lends of the links of one block.
 use Rattle.hashlink_nodes.proofs.Walks.{[], ◌∷◌, refl, ap, IsSome, lookup, a_type, inst_fn, vptr, emp, id⊢, ‵}
-use Rattle.hashlink_nodes.proofs.Walks.{raw, at_ret, ◌$◌, ◌∵◌, !, qed, move, keep, split, join, fsplit3, use0}
-use Rattle.hashlink_nodes.proofs.Walks.{use1, done, stop, fld, of_opd, addr, first, blocks, exec, returns}
-use Rattle.hashlink_nodes.proofs.Walks.{enter, alloc_all, pass_all, free_all, look_at, get, get_in, through}
-use Rattle.hashlink_nodes.proofs.Walks.{sets, sets_last, env, is, ptr_val, await, pick, heard, later, sub}
-use Rattle.hashlink_nodes.proofs.Walks.{whole, fact, fact_i, tables, RattleType, param, layouts, after, word}
-use Rattle.hashlink_nodes.proofs.Walks.{word-Good, option_map}
+use Rattle.hashlink_nodes.proofs.Walks.{raw, at_ret, ◌$◌, ◌∵◌, !, qed, move, keep, split, join, fsplit3, use1}
+use Rattle.hashlink_nodes.proofs.Walks.{done, stop, fld, of_opd, addr, first, blocks, exec, returns, enter}
+use Rattle.hashlink_nodes.proofs.Walks.{alloc_all, pass_all, free_all, look_at, get, get_in, through, sets}
+use Rattle.hashlink_nodes.proofs.Walks.{sets_last, env, is, ptr_val, await, pick, heard, later, sub, whole}
+use Rattle.hashlink_nodes.proofs.Walks.{fact_i, tables, RattleType, param, layouts, after, word, word-Good}
+use Rattle.hashlink_nodes.proofs.Walks.{option_map}
 use Rattle.hashlink_nodes.specs.Kept.{Kept}
 use Rattle.hashlink_nodes.specs.Ownership.{Links, block_lent, blocks_lent, links_offset}
 use Rattle.hashlink_nodes.specs.Node.{same_node}

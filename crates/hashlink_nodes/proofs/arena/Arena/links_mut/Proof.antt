@@ -1,18 +1,19 @@
 -- `links_mut` lends the links of one block, and the arena follows them.
-use Rattle.hashlink_nodes.proofs.Walks.{◌≡◌, ◌∙◌, [], ◌∷◌, refl, sym, ap, Some, IsSome, lookup, full_share}
-use Rattle.hashlink_nodes.proofs.Walks.{a_type, inst_fn, vptr, emp, id⊢, fsep, ‵, raw, at_ret, ◌$◌, ◌∵◌, ! }
-use Rattle.hashlink_nodes.proofs.Walks.{qed, move, keep, split, join, fsplit, fsplit3, fjoin, fjoin3, use0}
-use Rattle.hashlink_nodes.proofs.Walks.{done, stop, fld, of_opd, addr, first, blocks, exec, returns, enter}
-use Rattle.hashlink_nodes.proofs.Walks.{alloc_all, pass_all, free_all, look_at, get, get_in, through, sets}
-use Rattle.hashlink_nodes.proofs.Walks.{sets_last, env, is, ptr_val, await, pick, heard, later, use1, sub}
-use Rattle.hashlink_nodes.proofs.Walks.{whole, fact, fact_i, tables, follows, RattleType, lies_at, param}
-use Rattle.hashlink_nodes.proofs.Walks.{layouts, after, word, word-Good, option_map, usize}
+use Rattle.hashlink_nodes.proofs.Walks.{◌∙◌, [], ◌∷◌, refl, sym, ap, Some, IsSome, lookup, full_share, a_type}
+use Rattle.hashlink_nodes.proofs.Walks.{inst_fn, vptr, id⊢, fsep, ‵, raw, at_ret, ◌$◌, ◌∵◌, !, qed, move}
+use Rattle.hashlink_nodes.proofs.Walks.{keep, split, join, fsplit, fsplit3, fjoin, fjoin3, done, stop, fld}
+use Rattle.hashlink_nodes.proofs.Walks.{of_opd, addr, first, blocks, exec, returns, enter, alloc_all}
+use Rattle.hashlink_nodes.proofs.Walks.{pass_all, free_all, look_at, get, get_in, through, sets, sets_last}
+use Rattle.hashlink_nodes.proofs.Walks.{env, is, ptr_val, await, pick, heard, later, use1, sub, whole, tables}
+use Rattle.hashlink_nodes.proofs.Walks.{follows, RattleType, lies_at, param, layouts, after, word, word-Good}
+use Rattle.hashlink_nodes.proofs.Walks.{option_map, usize}
 use Rattle.hashlink_nodes.specs.Ownership.{block_owns, pair_owns, is_small, deed_owns, free_right, number_of}
 use Rattle.hashlink_nodes.specs.Ownership.{links_of, links_offset, Links}
 use Rattle.hashlink_nodes.specs.ArenaLends.{altered}
 use Rattle.hashlink_nodes.specs.Kept.{Kept, with_links, number_word}
 use Rattle.hashlink_nodes.proofs.ArenaBlocks.{found}
 use Rattle.hashlink_nodes.specs.Node.{same_node}
+use Rattle.hashlink_nodes.proofs.ArenaSteps.{states}
 use Rattle.hashlink_nodes.proofs.ArenaLends.{Address, lent}
 use Rattle.hashlink_nodes.specs.contracts.arena.Arena.{the_row}
 use Rattle.hashlink_nodes.specs.contracts.arena.Arena.links_mut.{clauses}
@@ -47,13 +48,9 @@ links_mut_spec 𝓤 𝓛 𝓜 𝓡 wired T L =
                 move ! (1 ∷ []) $ fsplit3 ! $ move ! (3 ∷ 0 ∷ []) $ fjoin ! $ move ! (1 ∷ 2 ∷ 0 ∷ []) $
                 fjoin3 ! $ done !;
           };
-      says = λ z asked r is. let a = z.0.3.0.now in let n = z.0.3.1.0 in
-          let Seen : Type 0 = option_map (λ (x : Kept T.Denot). x.links) (lookup (same_node n) a.blocks) ≡
-          Some r.now in
-          qed 𝓛 (‵ (follows (the_row R) Links z.0.3.0.ghost_name r.ghost_name
-          (λ w. altered a n (with_links w))) ∷ []) ∵
-          use0 𝓛 (raw (fact 𝓤 Seen)) (fact_i 𝓤 Seen (emp 𝓤)
-          (ap (option_map (λ (x : Kept T.Denot). x.links)) (found _ asked).1 ∙ ap Some (sym is))) $
+      says = λ z asked r is. qed 𝓛 (‵ (follows (the_row R) Links z.0.3.0.ghost_name r.ghost_name
+          (λ w. altered z.0.3.0.now z.0.3.1.0 (with_links w))) ∷ []) ∵
+          states ! (ap (option_map (λ (x : Kept T.Denot). x.links)) (found _ asked).1 ∙ ap Some (sym is)) $
           move ! (1 ∷ 0 ∷ []) $ join ! $ done !;
     })
     (λ Post rb ro p Q ran. qed 𝓛 (raw Q ∷ []) ∵ enter ! 𝓣.C 𝓣.Λ fn (vptr rb ro ∷ word p ∷ []) Post $

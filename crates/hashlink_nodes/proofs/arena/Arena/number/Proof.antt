@@ -1,12 +1,11 @@
 -- `number` shows what the arena lends of the number of one block.
-use Rattle.hashlink_nodes.proofs.Walks.{◌≡◌, ◌^◌, ◌<◌, sym, subst, usize, [], ◌∷◌, refl, ap, Some, IsSome}
-use Rattle.hashlink_nodes.proofs.Walks.{lookup, a_type, inst_fn, vptr, emp, id⊢, ‵, raw, at_ret, ◌$◌, ◌∵◌, ! }
-use Rattle.hashlink_nodes.proofs.Walks.{qed, move, keep, split, join, fsplit, fsplit3, use0, use1, done, stop}
-use Rattle.hashlink_nodes.proofs.Walks.{fld, of_opd, addr, first, blocks, exec, returns, enter, alloc_all}
-use Rattle.hashlink_nodes.proofs.Walks.{pass_all, free_all, look_at, get, get_in, through, sets, sets_last}
-use Rattle.hashlink_nodes.proofs.Walks.{env, is, ptr_val, await, pick, heard, later, sub, whole, fact, fact_i}
-use Rattle.hashlink_nodes.proofs.Walks.{tables, RattleType, param, layouts, after, word, word-Good}
-use Rattle.hashlink_nodes.proofs.Walks.{option_map}
+use Rattle.hashlink_nodes.proofs.Walks.{◌^◌, ◌<◌, sym, subst, usize, [], ◌∷◌, refl, ap, IsSome, lookup}
+use Rattle.hashlink_nodes.proofs.Walks.{a_type, inst_fn, vptr, id⊢, ‵, raw, at_ret, ◌$◌, ◌∵◌, !, qed, move}
+use Rattle.hashlink_nodes.proofs.Walks.{keep, split, join, fsplit, fsplit3, use1, done, stop, fld, of_opd}
+use Rattle.hashlink_nodes.proofs.Walks.{addr, first, blocks, exec, returns, enter, alloc_all, pass_all}
+use Rattle.hashlink_nodes.proofs.Walks.{free_all, look_at, get, get_in, through, sets, sets_last, env, is}
+use Rattle.hashlink_nodes.proofs.Walks.{ptr_val, await, pick, heard, later, sub, whole, tables, RattleType}
+use Rattle.hashlink_nodes.proofs.Walks.{param, layouts, after, word, word-Good, option_map}
 use Rattle.hashlink_nodes.specs.Kept.{Kept, entry_in, number_word}
 use Rattle.std.specs.Prelude.{IfSome}
 use Rattle.hashlink_nodes.specs.Ownership.{block_lent, blocks_lent, number_offset}
@@ -31,21 +30,14 @@ number_spec 𝓤 𝓛 𝓜 𝓡 wired T L =
       part = λ a n held. number_word (found _ held).0.entry;
       asks = λ z. id⊢ 𝓤 _;
       shows = λ z held. let k = found _ held in let κ = z.0.0.0 in let n = z.0.3.1.0 in
-          let Small : Type 0 = IfSome k.0.entry (λ x. x.0 < 2 ^ 48) in
           qed 𝓛 (‵ (blocks_lent R z.0.3.0.now.blocks κ) ∷ []) ∵
           use1 𝓛 (‵ (block_lent R n.at k.0 κ)) (block_seen R 𝓛 n κ z.0.3.0.now.blocks k.0 k.1) $ fsplit3 ! $
           move ! (1 ∷ []) $ fsplit ! $ small_seen R ! k.0.entry (λ small.
           states ! small $ move ! (1 ∷ 0 ∷ []) $ join ! $
           keep ! (0 ∷ []) $ done !);
-      says = λ z held small at. let k = found _ held in let bs = z.0.3.0.now.blocks in let n = z.0.3.1.0 in
-          let Seen : Type 0 = option_map (λ (x : Kept T.Denot). number_word x.entry) (lookup (same_node n) bs)
-          ≡ Some (number_word k.0.entry) in
-          let Small : Type 0 = IfSome (entry_in (lookup (same_node n) bs)) (λ x. x.0 < 2 ^ 48) in
-          qed 𝓛 [] ∵ use0 𝓛 (raw (fact 𝓤 Small))
-          (fact_i 𝓤 Small (emp 𝓤) (subst (λ o. IfSome (entry_in o) (λ x. x.0 < 2 ^ 48)) (sym k.1) small)) $
-          use0 𝓛 (raw (fact 𝓤 Seen))
-          (fact_i 𝓤 Seen (emp 𝓤) (ap (option_map (λ (x : Kept T.Denot). number_word x.entry)) k.1)) $ join ! $
-          done !;
+      says = λ z held small at. let k = found _ held in qed 𝓛 [] ∵
+          states ! (subst (λ o. IfSome (entry_in o) (λ x. x.0 < 2 ^ 48)) (sym k.1) small) $
+          states ! (ap (option_map (λ (x : Kept T.Denot). number_word x.entry)) k.1) $ join ! $ done !;
     })
     (λ Post rb ro p Q ran. qed 𝓛 (raw Q ∷ []) ∵ enter ! 𝓣.C 𝓣.Λ fn (vptr rb ro ∷ word p ∷ []) Post $
     alloc_all !

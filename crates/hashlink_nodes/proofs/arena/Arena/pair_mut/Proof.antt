@@ -1,18 +1,19 @@
 -- `pair_mut` lends the pair of one block, and the arena follows it.
 use Rattle.hashlink_nodes.proofs.Walks.{◌≡◌, ℕ, Option, ◌∙◌, [], ◌∷◌, refl, sym, ap, Some, IsSome, lookup}
-use Rattle.hashlink_nodes.proofs.Walks.{full_share, a_type, inst_fn, vptr, emp, id⊢, fsep, ‵, raw, at_ret}
-use Rattle.hashlink_nodes.proofs.Walks.{◌$◌, ◌∵◌, !, qed, move, keep, split, join, fsplit, fjoin, rewrite}
-use Rattle.hashlink_nodes.proofs.Walks.{use0, done, stop, fld, of_opd, addr, first, blocks, exec, returns}
-use Rattle.hashlink_nodes.proofs.Walks.{enter, alloc_all, pass_all, free_all, look_at, get, get_in, through}
-use Rattle.hashlink_nodes.proofs.Walks.{sets, sets_last, env, is, ptr_val, await, pick, heard, later, use1}
-use Rattle.hashlink_nodes.proofs.Walks.{sub, whole, fact, fact_i, tables, follows, RattleType, lies_at, param}
-use Rattle.hashlink_nodes.proofs.Walks.{layouts, after, word, word-Good, option_map, usize}
+use Rattle.hashlink_nodes.proofs.Walks.{full_share, a_type, inst_fn, vptr, id⊢, fsep, ‵, raw, at_ret, ◌$◌}
+use Rattle.hashlink_nodes.proofs.Walks.{◌∵◌, !, qed, move, keep, split, join, fsplit, fjoin, rewrite, done}
+use Rattle.hashlink_nodes.proofs.Walks.{stop, fld, of_opd, addr, first, blocks, exec, returns, enter}
+use Rattle.hashlink_nodes.proofs.Walks.{alloc_all, pass_all, free_all, look_at, get, get_in, through, sets}
+use Rattle.hashlink_nodes.proofs.Walks.{sets_last, env, is, ptr_val, await, pick, heard, later, use1, sub}
+use Rattle.hashlink_nodes.proofs.Walks.{whole, tables, follows, RattleType, lies_at, param, layouts, after}
+use Rattle.hashlink_nodes.proofs.Walks.{word, word-Good, option_map, usize}
 use Rattle.hashlink_nodes.specs.Ownership.{block_owns, is_small, deed_owns, free_right, number_of, links_of}
 use Rattle.hashlink_nodes.specs.Ownership.{pair_of, pair_offset, Links}
 use Rattle.hashlink_nodes.specs.ArenaLends.{altered}
 use Rattle.hashlink_nodes.specs.Kept.{Kept, kept, entry_in, with_pair}
 use Rattle.hashlink_nodes.proofs.ArenaBlocks.{found_entry}
 use Rattle.hashlink_nodes.specs.Node.{same_node}
+use Rattle.hashlink_nodes.proofs.ArenaSteps.{states}
 use Rattle.hashlink_nodes.proofs.ArenaLends.{Address, lent}
 use Rattle.hashlink_nodes.specs.contracts.arena.Arena.{the_row}
 use Rattle.hashlink_nodes.specs.contracts.arena.Arena.pair_mut.{clauses}
@@ -48,14 +49,12 @@ pair_mut_spec 𝓤 𝓛 𝓜 𝓡 wired T L =
                 fjoin ! $
                 rewrite ! 0 (λ x. ‵ (block_owns R n.at x)) (sym (to w)) refl $ done !;
           };
-      says = λ z asked r is. let a = z.0.3.0.now in let n = z.0.3.1.0 in let at_n = found_entry _ asked in
-          let Seen : Type 0 = option_map (λ (x : ℕ × T.Denot). x.1) (entry_in (lookup (same_node n) a.blocks))
-          ≡ Some r.now in
-          qed 𝓛 (‵ (follows (the_row R) R z.0.3.0.ghost_name r.ghost_name (λ w. altered a n (with_pair w)))
-          ∷ []) ∵
-          use0 𝓛 (raw (fact 𝓤 Seen)) (fact_i 𝓤 Seen (emp 𝓤)
-          (ap (λ (o : Option (Kept T.Denot)). option_map (λ (x : ℕ × T.Denot). x.1) (entry_in o)) at_n.2
-          ∙ ap (option_map (λ (x : ℕ × T.Denot). x.1)) at_n.3 ∙ ap Some (sym is))) $
+      says = λ z asked r is. let at_n = found_entry _ asked in
+          qed 𝓛 (‵ (follows (the_row R) R z.0.3.0.ghost_name r.ghost_name
+          (λ w. altered z.0.3.0.now z.0.3.1.0 (with_pair w))) ∷ []) ∵
+          states ! (ap (λ (o : Option (Kept T.Denot)). option_map (λ (x : ℕ × T.Denot). x.1) (entry_in o))
+          at_n.2
+          ∙ ap (option_map (λ (x : ℕ × T.Denot). x.1)) at_n.3 ∙ ap Some (sym is)) $
           move ! (1 ∷ 0 ∷ []) $ join ! $ done !;
     })
     (λ Post rb ro p Q ran. qed 𝓛 (raw Q ∷ []) ∵ enter ! 𝓣.C 𝓣.Λ fn (vptr rb ro ∷ word p ∷ []) Post $

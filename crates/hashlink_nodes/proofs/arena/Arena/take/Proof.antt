@@ -1,18 +1,18 @@
 -- `take` reads the pair of a block out, and leaves room.
-use Rattle.hashlink_nodes.proofs.Walks.{◌≡◌, ℕ, ◌+◌, ◌∙◌, ◌^◌, List, [], ◌∷◌, ◌++◌, refl, sym, ap, subst}
-use Rattle.hashlink_nodes.proofs.Walks.{Option, Some, None, IsSome, lookup, remove_entry, option_map}
-use Rattle.hashlink_nodes.proofs.Walks.{full_share, lit<, Ty, a_type, ty_int, w64, bare, inst_fn, Val, vint}
-use Rattle.hashlink_nodes.proofs.Walks.{vptr, SProp, ent, emp, never, id⊢, ftrue, fat, froom, flft, fsep}
-use Rattle.hashlink_nodes.proofs.Walks.{WpFn, ‵, raw, ◌⊛◌, some, at_ret, ◌$◌, ◌∵◌, !, qed, by, move, keep}
-use Rattle.hashlink_nodes.proofs.Walks.{drop, split, split3, join, group, fsplit, fsplit3, fjoin, fjoin3}
-use Rattle.hashlink_nodes.proofs.Walks.{pick, rewrite, use0, use1, use2, suffices, feq_i, feq_l, stop, fld}
-use Rattle.hashlink_nodes.proofs.Walks.{of_opd, addr, store, assigns, first, blocks, exec, returns, enter}
-use Rattle.hashlink_nodes.proofs.Walks.{alloc_all, pass_all, free_all, look_at, get, get_in, through, sets}
-use Rattle.hashlink_nodes.proofs.Walks.{sets_last, is, env, sub, whole, fact, fact_i, ◌⊑◌, tables, part_out}
-use Rattle.hashlink_nodes.proofs.Walks.{usize, yes, lone, part_at, uint_in, uint_out, RattleType, owns, Ptr}
-use Rattle.hashlink_nodes.proofs.Walks.{ptr_val, in_a_block, lies_at, types_at, plain, param, layouts}
-use Rattle.hashlink_nodes.proofs.Walks.{nothing, heard, opens, closes, Stays, stay_dropped, stay_ref, walk_of}
-use Rattle.hashlink_nodes.proofs.Walks.{Goes-dropped, Goes-ref, after, word, word-Good, proved_at, leaves}
+use Rattle.hashlink_nodes.proofs.Walks.{◌≡◌, ℕ, ◌+◌, ◌∙◌, ◌^◌, List, [], ◌∷◌, ◌++◌, refl, sym, ap, Option}
+use Rattle.hashlink_nodes.proofs.Walks.{None, IsSome, lookup, remove_entry, option_map, full_share, lit<, Ty}
+use Rattle.hashlink_nodes.proofs.Walks.{a_type, ty_int, w64, bare, inst_fn, Val, vint, vptr, SProp, never}
+use Rattle.hashlink_nodes.proofs.Walks.{id⊢, ftrue, fat, froom, flft, fsep, WpFn, ‵, raw, ◌⊛◌, some, at_ret}
+use Rattle.hashlink_nodes.proofs.Walks.{◌$◌, ◌∵◌, !, qed, by, move, keep, drop, split, split3, join, group}
+use Rattle.hashlink_nodes.proofs.Walks.{fsplit, fsplit3, fjoin, fjoin3, pick, rewrite, use1, use2, feq_i}
+use Rattle.hashlink_nodes.proofs.Walks.{feq_l, stop, fld, of_opd, addr, store, assigns, first, blocks, exec}
+use Rattle.hashlink_nodes.proofs.Walks.{returns, enter, alloc_all, pass_all, free_all, look_at, get, get_in}
+use Rattle.hashlink_nodes.proofs.Walks.{through, sets, sets_last, is, env, sub, whole, fact, ◌⊑◌, tables}
+use Rattle.hashlink_nodes.proofs.Walks.{part_out, usize, yes, lone, part_at, uint_in, uint_out, RattleType}
+use Rattle.hashlink_nodes.proofs.Walks.{owns, Ptr, ptr_val, in_a_block, lies_at, types_at, plain, param}
+use Rattle.hashlink_nodes.proofs.Walks.{layouts, nothing, heard, opens, closes, Stays, stay_dropped, stay_ref}
+use Rattle.hashlink_nodes.proofs.Walks.{walk_of, Goes-dropped, Goes-ref, after, word, word-Good, proved_at}
+use Rattle.hashlink_nodes.proofs.Walks.{leaves}
 use types.Run.{load, look, well_typed}
 use Rattle.hashlink_nodes.specs.Node.{same_node}
 use Rattle.hashlink_nodes.specs.Kept.{alter, entry_in, number_word, with_entry}

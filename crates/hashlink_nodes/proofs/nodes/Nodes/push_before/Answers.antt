@@ -41,7 +41,8 @@ fill-requires g c =
 
 -- ---- it is ready, and goes in
 ready : (g : given.Over) (c : After-fill g)
-    → Ready (state_of c.fill.new.self) c.self.inside.first_spare c.unwrap-guard.result c.next-first_spare.result
+    → Ready (state_of c.fill.new.self) c.self.inside.first_spare c.unwrap-guard.result
+    c.next-first_spare.result
     (held c.args.number c.args.key c.args.value) c.self.inside.len (c.self.inside.spare - 1)
     (ring c.args.self.now.entries (drop 1 c.args.self.now.free) c.args.self.now.link_writes)
 ready g c =
