@@ -63,6 +63,9 @@ module _ {K V : Type 0} where
     pub apart : IsDistinct same_node (keys_of (ring_at s guard first len spare).entries ++
         (ring_at s guard first len spare).free)
 
+  pub seal : {n : Inside K V} → SoundAt (state_of n.pool) n.guard n.first_spare n.len n.spare → IsSound n
+  seal h = record { at = h }
+
   entries-held : (f : Node → Option (Held K V)) (es : List (Node × Held K V))
       → AllByRecursion (λ e. f e.0 ≡ Some e.1) es → entries_of f (keys_of es) ≡ es
   unfolding entries_of

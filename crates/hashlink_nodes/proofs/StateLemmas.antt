@@ -273,9 +273,15 @@ module _ {K V : Type 0} where
       }
 
   -- a store changes no node's block
-  pub has_after_next : (n to : Node) (s : State K V) → (store_next n to s).has ≡ s.has
+  pub next_has : {s' : State K V} (n to : Node) (s : State K V) → s' ≡ store_next n to s → (m : Node)
+      → s.has m ≡ true → s'.has m ≡ true
   unfolding store_next
-  has_after_next n to s = refl
+  next_has n to s is m h = ap (λ (t : State K V). t.has m) is ∙ h
+
+  pub prev_has : {s' : State K V} (n to : Node) (s : State K V) → s' ≡ store_prev n to s → (m : Node)
+      → s.has m ≡ true → s'.has m ≡ true
+  unfolding store_prev
+  prev_has n to s is m h = ap (λ (t : State K V). t.has m) is ∙ h
 
 pub alter_twice : {K X : Type 0} (test : K → Bool) (f g : X → X) (es : List (K × X))
     → alter test f (alter test g es) ≡ alter test (λ x. f (g x)) es

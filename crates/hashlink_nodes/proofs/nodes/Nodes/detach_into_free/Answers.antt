@@ -3,7 +3,7 @@ use Rattle.std.specs.Option.{option_map}
 use Rattle.std.specs.Prelude.{is_some}
 use Rattle.hashlink_nodes.specs.Ring.{pair_of}
 use Rattle.hashlink_nodes.proofs.Calls.{removed, taken_out}
-use Rattle.hashlink_nodes.proofs.Opening.{known, node_in}
+use Rattle.hashlink_nodes.proofs.Opening.{known, node_in, seal}
 use Rattle.hashlink_nodes.proofs.Rings.{held_out, holds_now}
 use Rattle.hashlink_nodes.proofs.nodes.Nodes.detach_into_free.Goals as goal
 
@@ -32,10 +32,8 @@ overflow_add-self g c =
 
 pub invariant_of-self : goal.invariant_of-self
 invariant_of-self g c =
-    record {
-      at = (removed (node_in c.self.invariant c.self.view_is c.args.node c.requires) c.detach.ensures
-          c.take-pair.ensures.is c.store_next.ensures).sound;
-    }
+    seal (removed (node_in c.self.invariant c.self.view_is c.args.node c.requires) c.detach.ensures
+    c.take-pair.ensures.is c.store_next.ensures).sound
 
 pub returns : goal.returns
 returns g c =

@@ -4,7 +4,7 @@ use Rattle.std.proofs.Common.{◌++◌, ◌∷◌, [], length, ap, sym, ◌∙�
 use Rattle.hashlink_nodes.specs.Pool.{state_of}
 use Rattle.hashlink_nodes.specs.Ring.{Ring, Held, held, pair_of}
 use Rattle.hashlink_nodes.proofs.Calls.{last, last_in, last_bare, last_gone}
-use Rattle.hashlink_nodes.proofs.Opening.{empty, opened, same_some}
+use Rattle.hashlink_nodes.proofs.Opening.{empty, opened, same_some, seal}
 use Rattle.hashlink_nodes.proofs.Rings.{held_now, held_out}
 use Rattle.hashlink_nodes.proofs.nodes.Nodes.give_back_last.Goals as goal
 
@@ -51,11 +51,9 @@ overflow_sub-self g c = omega (
 
 pub invariant_of-self : goal.invariant_of-self
 invariant_of-self g c =
-    record {
-      at = (last_gone (opened c.self.invariant c.self.view_is c.in-Some.is) c.requires
-          c.prev-node.ensures c.in-Some.is c.detach.ensures
-          c.take-key.ensures.is c.give_back.ensures).sound;
-    }
+    seal (last_gone (opened c.self.invariant c.self.view_is c.in-Some.is) c.requires
+    c.prev-node.ensures c.in-Some.is c.detach.ensures
+    c.take-key.ensures.is c.give_back.ensures).sound
 
 pub returns : goal.returns
 returns g c =

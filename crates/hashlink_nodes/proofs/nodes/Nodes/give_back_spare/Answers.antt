@@ -1,6 +1,6 @@
 use Rattle.std.proofs.Common.{arith}
 use Rattle.hashlink_nodes.proofs.Calls.{spare_gone}
-use Rattle.hashlink_nodes.proofs.Opening.{opened, spare_guard}
+use Rattle.hashlink_nodes.proofs.Opening.{opened, spare_guard, seal}
 use Rattle.hashlink_nodes.proofs.Rings.{take_spare}
 use Rattle.hashlink_nodes.proofs.nodes.Nodes.give_back_spare.Goals as goal
 
@@ -25,11 +25,9 @@ overflow_sub-self g c =
 pub invariant_of-self : goal.invariant_of-self
 invariant_of-self g c =
     let is = (spare_guard c.self.invariant c.self.view_is c.requires).1 in
-    record {
-      at = (spare_gone is (opened c.self.invariant c.self.view_is is) c.requires
-          c.next-first_spare.ensures
-          c.give_back.ensures).sound;
-    }
+    seal (spare_gone is (opened c.self.invariant c.self.view_is is) c.requires
+    c.next-first_spare.ensures
+    c.give_back.ensures).sound
 
 pub returns : goal.returns
 returns g c =

@@ -1,6 +1,6 @@
 use Rattle.std.proofs.Common.{refl}
 use Rattle.hashlink_nodes.proofs.Calls.{moved, taken_out}
-use Rattle.hashlink_nodes.proofs.Opening.{is_there, guard_of, node_at, node_in}
+use Rattle.hashlink_nodes.proofs.Opening.{is_there, guard_of, node_at, node_in, seal}
 use Rattle.hashlink_nodes.proofs.Rings.{ends_after, fits}
 use Rattle.hashlink_nodes.proofs.nodes.Nodes.move_after.Goals as goal
 
@@ -32,7 +32,7 @@ invariant_of-self g c =
     let e = ends_after (taken_out at c.detach.ensures) c.args.place c.requires.place
     c.unwrap_or-before.ensures
     c.next-after.ensures in
-    record { at = (moved at e c.detach.ensures c.attach.ensures).sound }
+    seal (moved at e c.detach.ensures c.attach.ensures).sound
 
 pub returns : goal.returns
 returns g c =

@@ -1,6 +1,6 @@
 use Rattle.std.proofs.Common.{refl}
 use Rattle.hashlink_nodes.proofs.Calls.{moved, taken_out}
-use Rattle.hashlink_nodes.proofs.Opening.{is_there, guard_of, node_at, node_in}
+use Rattle.hashlink_nodes.proofs.Opening.{is_there, guard_of, node_at, node_in, seal}
 use Rattle.hashlink_nodes.proofs.Rings.{ends_before, fits}
 use Rattle.hashlink_nodes.proofs.nodes.Nodes.move_before.Goals as goal
 
@@ -31,7 +31,7 @@ invariant_of-self g c =
     let at = node_at c.self.invariant c.self.view_is c.unwrap-guard.ensures c.args.node c.requires.node in
     let e = ends_before (taken_out at c.detach.ensures) c.args.place c.requires.place c.unwrap_or-next.ensures
     c.prev-prev.ensures in
-    record { at = (moved at e c.detach.ensures c.attach.ensures).sound }
+    seal (moved at e c.detach.ensures c.attach.ensures).sound
 
 pub returns : goal.returns
 returns g c =

@@ -4,7 +4,7 @@ use Rattle.std.proofs.lemmas.List.{nil_from_length}
 use Rattle.hashlink_nodes.specs.Pool.{state_of}
 use Rattle.hashlink_nodes.specs.Ring.{held, ring}
 use Rattle.hashlink_nodes.proofs.Calls.{Ready, ready_spare, pushed}
-use Rattle.hashlink_nodes.proofs.Opening.{known, opened}
+use Rattle.hashlink_nodes.proofs.Opening.{known, opened, seal}
 use Rattle.hashlink_nodes.proofs.Rings.{ends_before, fits, take_spare}
 use Rattle.hashlink_nodes.proofs.nodes.Nodes.push_before.Given as given
 use Rattle.hashlink_nodes.proofs.nodes.Nodes.push_before.Goals.{After-fill}
@@ -69,9 +69,7 @@ pub invariant_of-self : goal.invariant_of-self
 invariant_of-self g c =
     let r = ready g (goal.at.invariant_of-self g c).After-fill in
     let e = ends_before r.ring c.args.place c.requires.place c.unwrap_or-next.ensures c.prev-prev.ensures in
-    record {
-      at = (pushed r e c.unwrap-guard.ensures c.attach.ensures).sound;
-    }
+    seal (pushed r e c.unwrap-guard.ensures c.attach.ensures).sound
 
 pub returns : goal.returns
 returns g c =

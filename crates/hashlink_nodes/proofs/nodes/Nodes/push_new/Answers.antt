@@ -4,7 +4,7 @@ use Rattle.hashlink_nodes.specs.Ring.{held}
 use Rattle.hashlink_nodes.specs.declared.pool.Pool.{Pool}
 use Rattle.hashlink_nodes.proofs.Paths.{set_at_here}
 use Rattle.hashlink_nodes.proofs.Calls.{Ready, guarded_now, pushed, ready_new}
-use Rattle.hashlink_nodes.proofs.Opening.{Leaves, known, leaves}
+use Rattle.hashlink_nodes.proofs.Opening.{Leaves, known, leaves, seal}
 use Rattle.hashlink_nodes.proofs.Rings.{ends_before, fits}
 use Rattle.hashlink_nodes.proofs.nodes.Nodes.push_new.Given as given
 use Rattle.hashlink_nodes.proofs.nodes.Nodes.push_new.Goals.{After-fill, In-Err-make}
@@ -44,9 +44,7 @@ pub invariant_of-self-in-Ok-make : goal.invariant_of-self-in-Ok-make
 invariant_of-self-in-Ok-make g c =
     let r = ready g (goal.at.invariant_of-self-in-Ok-make g c).After-fill in
     let e = ends_before r.ring c.args.place c.requires.place c.unwrap_or-next.ensures c.prev-prev.ensures in
-    record {
-      at = (pushed r e refl c.attach.ensures).sound;
-    }
+    seal (pushed r e refl c.attach.ensures).sound
 
 pub returns-in-Ok-make : goal.returns-in-Ok-make
 returns-in-Ok-make g c =
@@ -74,7 +72,7 @@ stays g c =
     (sym c.in-Err-make.ensures.refused) (leaves refl o.ring o.is_len o.is_spare)
 
 pub invariant_of-self-in-Err-make : goal.invariant_of-self-in-Err-make
-invariant_of-self-in-Err-make g c = record { at = (stays g c).sound }
+invariant_of-self-in-Err-make g c = seal (stays g c).sound
 
 pub returns-in-Err-make-clause-refused : goal.returns-in-Err-make-clause-refused
 returns-in-Err-make-clause-refused g c = (stays g c).view

@@ -3,7 +3,7 @@ use Rattle.std.specs.Prelude.{is_some}
 use Rattle.hashlink_nodes.specs.Pool.{state_of}
 use Rattle.hashlink_nodes.specs.Ring.{with_number}
 use Rattle.hashlink_nodes.proofs.Calls.{Renewed, renewed}
-use Rattle.hashlink_nodes.proofs.Opening.{node_in}
+use Rattle.hashlink_nodes.proofs.Opening.{node_in, seal}
 use Rattle.hashlink_nodes.proofs.nodes.Nodes.set_number.Given as given
 use Rattle.hashlink_nodes.proofs.nodes.Nodes.set_number.Goals as goal
 
@@ -21,7 +21,7 @@ anew g c =
     c.set_number.ensures
 
 pub invariant_of-self : goal.invariant_of-self
-invariant_of-self g c = record { at = (anew g c).sound }
+invariant_of-self g c = seal (anew g c).sound
 
 pub returns : goal.returns
 returns g c = let a = anew g c in record {
