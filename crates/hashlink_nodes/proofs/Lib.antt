@@ -4,7 +4,6 @@ pub mod ArenaLends
 pub mod ArenaSharing
 pub mod ArenaSteps
 pub mod Calls
-pub mod CountSteps
 pub mod Cuts
 pub mod Rings
 pub mod Lending

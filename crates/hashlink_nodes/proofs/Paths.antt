@@ -1,6 +1,6 @@
 -- Paths along links, and what stays of them where one link changes.
-use Rattle.std.proofs.Common.{◌≡◌, ℕ, zero, suc, false, cond, List, [], ◌∷◌, ◌++◌, length, refl, sym, ap, ◌∙◌}
-use Rattle.std.proofs.Common.{subst}
+use Rattle.std.proofs.Common.{true, ◌≡◌, ℕ, zero, suc, false, cond, List, [], ◌∷◌, ◌++◌, length, refl, sym}
+use Rattle.std.proofs.Common.{ap, ◌∙◌, subst}
 use Rattle.std.proofs.lemmas.List.{append-nil}
 use Rattle.std.proofs.lemmas.List.Sorted.{IsPermutation-middle, IsPermutation-sym}
 use Rattle.std.proofs.lemmas.Map.Keys.{IsDistinct-head, IsDistinct-tail, IsDistinct-cons}
@@ -41,6 +41,11 @@ set_at_here f n x = ap (λ y. cond y x (f n)) (same_node-refl n)
 pub set_at_other : {X : Type 0} (f : Node → X) (n m : Node) (x : X) → same_node m n ≡ false
     → set_at f n x m ≡ f m
 set_at_other f n m x h = ap (λ y. cond y x (f m)) h
+
+pub set_at_twice : {X : Type 0} (f : Node → X) (n m : Node) (x y : X)
+    → set_at (set_at f n x) n y m ≡ set_at f n y m
+set_at_twice f n m x y =
+    elim (same_node m n) as (λ z. cond z y (cond z x (f m)) ≡ cond z y (f m)) [ true ↦ refl | false ↦ refl ]
 
 -- ---- nodes that differ
 module _ {X : Type 0} (P : X → Type 0) where

@@ -11,12 +11,13 @@ use Rattle.std.proofs.lemmas.Map.Keys.{IsDistinct-head}
 use Rattle.hashlink_nodes.specs.declared.node.Node.{Node}
 use Rattle.hashlink_nodes.specs.declared.held.Held.{Held}
 use Rattle.hashlink_nodes.specs.Node.{same_node}
-use Rattle.hashlink_nodes.specs.State.{State, store_next, store_prev, hold, detached, attached, Adds, Drops}
+use Rattle.hashlink_nodes.specs.State.{set_at, State, store_next, store_prev, hold, detached, attached, Adds}
+use Rattle.hashlink_nodes.specs.State.{Drops}
 use Rattle.hashlink_nodes.specs.Shape.{IsPath, IsWayBack, IsShaped, IsRing}
 use Rattle.hashlink_nodes.specs.Ring.{Ring, ring, IsPlace}
-use Rattle.hashlink_nodes.proofs.Paths.{head_or, last_or, Off, IsOff, flip, all_left, all_right, all_middle}
-use Rattle.hashlink_nodes.proofs.Paths.{all_without, all_with, all_both, all_zip, to_front, set_at_here}
-use Rattle.hashlink_nodes.proofs.Paths.{path_cut, back_cut}
+use Rattle.hashlink_nodes.proofs.Paths.{set_at_twice, head_or, last_or, Off, IsOff, flip, all_left, all_right}
+use Rattle.hashlink_nodes.proofs.Paths.{all_middle, all_without, all_with, all_both, all_zip, to_front}
+use Rattle.hashlink_nodes.proofs.Paths.{set_at_here, path_cut, back_cut}
 use Rattle.hashlink_nodes.proofs.Cuts.{Cut, Gap, cut-removed, cut-renewed, last-pushed, before_place}
 use Rattle.hashlink_nodes.proofs.Cuts.{after_place}
 use Rattle.hashlink_nodes.proofs.Shapes.{Differs, differs_add, differs_drop, differs_hold, differs_store}
@@ -183,6 +184,21 @@ module _ {K V : Type 0} where
           full = all_with (λ e. s.held e.0 ≡ Some e.1) xs (n, h) ys holds (subst (Full s) gap.is r.full);
           writes = omega (arith, r.writes);
         })
+
+  -- a node's block stays
+  pub has_still : {s' : State K V} (n : Node) (o : Option (Held K V)) (s : State K V) {m : Node} →
+      s' ≡ hold n o s
+      → s.has m ≡ true → s'.has m ≡ true
+  unfolding hold
+  has_still n o s {m} is h = ap (λ (t : State K V). t.has m) is ∙ h
+
+  -- what is held last is held
+  pub held_anew : {s₁ s₂ : State K V} (n : Node) (o o' : Option (Held K V)) (s : State K V) → s₁ ≡ hold n o s
+      → s₂ ≡ hold n o' s₁ → s₂ ≡ hold n o' s
+  unfolding hold
+  held_anew n o o' s is₁ is₂ =
+      is₂ ∙ ap (λ (t : State K V). record t { held = set_at t.held n o' }) is₁
+      ∙ (λ i. record s { held = λ m. set_at_twice s.held n m o o' i })
 
   pub held_now : {s' : State K V} {n : Node} {o : Option (Held K V)} (s : State K V) → s' ≡ hold n o s
       → s'.held n ≡ o

@@ -4,11 +4,13 @@ use Rattle.std.proofs.Common.{refl, sym, subst, ap, ◌∙◌, arith}
 use Rattle.std.specs.Prelude.{IsNone, is_some}
 use Rattle.std.specs.Map.{lookup, set_value, remove_entry}
 use Rattle.std.proofs.lemmas.Map.{lookup-set_value, length-set_value}
-use Rattle.hashlink_nodes.specs.Node.{same_node, same_node_equiv, same_node-refl, eq-same_node}
+use Rattle.hashlink_nodes.specs.Node.{same_node, same_node_equiv, eq-same_node}
 use Rattle.hashlink_nodes.specs.State.{State, Blocks, state, set_at, next_in, prev_in, held_in, store_next}
 use Rattle.hashlink_nodes.specs.State.{store_prev, hold, Adds, MakesGuard, Drops}
 use Rattle.hashlink_nodes.specs.declared.node.Node.{Node}
 use Rattle.hashlink_nodes.proofs.ArenaBlocks.{found_entry}
+use Rattle.hashlink_nodes.proofs.Cuts.{cut}
+use Rattle.hashlink_nodes.proofs.Opening.{length-removed}
 use Rattle.hashlink_nodes.proofs.Paths.{set_at_here, set_at_other}
 use Rattle.hashlink_nodes.specs.declared.held.Held.{Held}
 use Rattle.hashlink_nodes.specs.declared.pool.links.Link.{Link}
@@ -42,17 +44,6 @@ module _ {X : Type 0} where
             ∙ h in sym (ap (λ y. cond y (Some b.1) (lookup (same_node m) bs)) here)
         | false ↦ λ _. ap (λ o. cond (same_node m b.0) (Some b.1) o) (lookup_removed n m bs h)
       ]) refl
-
-  pub length_removed : (n : Node) (bs : List (Node × X)) → is_some (lookup (same_node n) bs) ≡ true
-      → length (remove_entry (same_node n) bs) + 1 ≡ length bs
-  length_removed n [] h = absurd (cc h)
-  length_removed n (b ∷ bs) h =
-      (elim (same_node n b.0) as
-      (λ (y : Bool). is_some (cond y (Some b.1) (lookup (same_node n) bs)) ≡ true
-      → length (cond y bs (b ∷ remove_entry (same_node n) bs)) + 1 ≡ length (b ∷ bs)) [
-        | true ↦ λ _. omega arith
-        | false ↦ λ k. omega (arith, length_removed n bs k)
-      ]) h
 
   -- what is read of a node whose block comes first
   seen_first : {Y : Type 0} (f : Node → Option X → Y) (n m : Node) (w : X) (o : Option X)
@@ -199,12 +190,6 @@ module _ {K V : Type 0} (bs : Blocks K V) (count count' : ℕ) (n : Node) (k : K
     link_writes = count;
   })
 
-  -- what is then looked up
-  pub looked_anew : (f : Kept (K × V) → Kept (K × V)) → lookup (same_node n) (changed f) ≡ Some (f k)
-  looked_anew f =
-      ap (lookup (same_node n)) (is_set f) ∙ lookup_set n n bs k (f k) e
-      ∙ ap (λ y. cond y (Some (f k)) (lookup (same_node n) bs)) (same_node-refl n)
-
   -- both links of n, which is new, lead to n itself
   pub looped : (s : State K V) (next prev : Link) → next ≡ record { to = n } → prev ≡ record { to = n }
       → Adds n None s (state bs count)
@@ -268,7 +253,7 @@ module _ {K V : Type 0} where
         prev = λ m h. ap (prev_in m) (at m h);
         held = λ m h. ap held_in (at m h);
         has = λ m h. ap is_some (at m h);
-        size = ap (λ (cs : Blocks K V). length cs + 1) is ∙ length_removed n bs there;
+        size = ap (λ (cs : Blocks K V). length cs + 1) is ∙ length-removed bs (cut bs n there);
         link_writes = refl;
       }
 
@@ -282,18 +267,6 @@ module _ {K V : Type 0} where
       → s.has m ≡ true → s'.has m ≡ true
   unfolding store_prev
   prev_has n to s is m h = ap (λ (t : State K V). t.has m) is ∙ h
-
-pub alter_twice : {K X : Type 0} (test : K → Bool) (f g : X → X) (es : List (K × X))
-    → alter test f (alter test g es) ≡ alter test (λ x. f (g x)) es
-alter_twice test f g [] = refl
-alter_twice test f g (x ∷ es) =
-    (elim (test x.0) as
-    (λ (y : Bool). test x.0 ≡ y → alter test f (cond y ((x.0, g x.1) ∷ es) (x ∷ alter test g es))
-    ≡ cond y ((x.0, f (g x.1)) ∷ es) (x ∷ alter test (λ x. f (g x)) es)) [
-      | true ↦ λ h. ap (λ y. cond y ((x.0, f (g x.1)) ∷ es) ((x.0, g x.1) ∷ alter test f es)) h
-      | false ↦ λ h. ap (λ y. cond y ((x.0, f x.1) ∷ alter test g es) (x ∷ alter test f (alter test g es))) h
-          ∙ ap (λ l. x ∷ l) (alter_twice test f g es)
-    ]) refl
 
 -- a node that holds a pair holds another
 module _ {K V : Type 0} (bs : Blocks K V) (count : ℕ) (n : Node) (p : K × V) (at : PairAt bs n p) where

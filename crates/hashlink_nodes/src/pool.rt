@@ -6,7 +6,7 @@ ghost use Rattle.hashlink_nodes.specs.State.{Drops};
 ghost use Rattle.hashlink_nodes.specs.State.{GuardIs};
 ghost use Rattle.std.specs.Option.{option_map};
 ghost use Rattle.std.specs.Borrow.{sem};
-ghost use Rattle.hashlink_nodes.specs.Ring.{held, pair_of, with_key, with_number};
+ghost use Rattle.hashlink_nodes.specs.Ring.{held, pair_of, with_key};
 ghost use Rattle.hashlink_nodes.specs.Pool.{state_of};
 
 mod links;
@@ -104,17 +104,6 @@ impl<K, V> Pool<K, V> {
             (state_of self.old) }
     {
         mem::replace(&mut self.arena.pair_mut(node).0, key)
-    }
-
-    pub(crate) fn set_number(&mut self, node: Node, number: usize)
-        requires held { IsSome ((state_of self.old).held node) }
-        requires small { number < 2 ^ 48 }
-        ensures { state_of self.new
-            ≡ hold node (option_map (λ h. with_number h number) ((state_of self.old).held node))
-            (state_of self.old) }
-    {
-        let pair = self.arena.take(node);
-        self.arena.fill(node, number, pair);
     }
 
     /// Returns the guard, and allocates it if there is none.

@@ -22,7 +22,8 @@ impl<K, V> Nodes<K, V> {
         ensures free { self.new.free ≡ self.old.free }
         ensures link_writes { self.new.link_writes ≡ self.old.link_writes }
     {
-        self.pool.set_number(node, number);
+        let (key, value) = self.pool.take(node);
+        self.pool.fill(node, number, key, value);
     }
 
     /// Replaces the value of the node's entry, and returns the old one.
