@@ -65,20 +65,12 @@ module _ {X : Type 0} where
     seen_at : reads f (set_value (same_node n) bs w) ≡ set_at (reads f bs) n (f n (Some w))
     seen_at = λ i m. (ap (f m) (lookup_set n m bs b w e) ∙ seen_first f n m w (lookup (same_node m) bs)) i
 
-    same_there : f n (Some w) ≡ f n (Some b) → (m : Node)
-        → f m (cond (same_node m n) (Some w) (lookup (same_node m) bs)) ≡ f m (lookup (same_node m) bs)
-    same_there kept m =
-        (elim (same_node m n) as
-        (λ (y : Bool). same_node m n ≡ y
-        → f m (cond y (Some w) (lookup (same_node m) bs)) ≡ f m (lookup (same_node m) bs)) [
-          | true ↦ λ same. let is : m ≡ n = eq-same_node m n same in ap (λ k. f k (Some w)) is
-              ∙ kept ∙ ap (f n) (sym e) ∙ ap (λ k. f k (lookup (same_node k) bs)) (sym is)
-          | false ↦ λ _. refl
-        ]) refl
-
-    -- where the write changes nothing that is read
-    seen_same : f n (Some w) ≡ f n (Some b) → reads f (set_value (same_node n) bs w) ≡ reads f bs
-    seen_same kept = λ i m. (ap (f m) (lookup_set n m bs b w e) ∙ same_there kept m) i
+-- f, but at n what it is there
+set_same : {X : Type 0} (f : Node → X) (n : Node) (x : X) → x ≡ f n → set_at f n x ≡ f
+set_same f n x is = λ i m. (elim (same_node m n) as (λ (y : Bool). same_node m n ≡ y → cond y x (f m) ≡ f m) [
+  | true ↦ λ same. is ∙ ap f (sym (eq-same_node m n same))
+  | false ↦ λ _. refl
+]) refl i
 
 pub alter_is : {K X : Type 0} (test : K → Bool) (f : X → X) (es : List (K × X)) (b : X)
     → lookup test es ≡ Some b
@@ -141,80 +133,95 @@ module _ {K V : Type 0} (bs : Blocks K V) (count count' : ℕ) (n : Node) (k : K
   is_set : (f : Kept (K × V) → Kept (K × V)) → changed f ≡ set_value (same_node n) bs (f k)
   is_set f = alter_is (same_node n) f bs k e
 
+  abbrev S : State K V
+  S = state bs count
+
+  -- the state where n has another block
+  changed_state : (f : Kept (K × V) → Kept (K × V)) → state (changed f) count' ≡ record {
+    next = set_at S.next n (f k).links.next.to;
+    prev = set_at S.prev n (f k).links.prev.to;
+    held = set_at S.held n (held_in (Some (f k)));
+    has = S.has;
+    size = S.size;
+    link_writes = count';
+  }
+  changed_state f = ap (λ x. state x count') (is_set f) ∙ (λ i. record {
+    next = seen_at Next_of n bs k (f k) e i;
+    prev = seen_at Prev_of n bs k (f k) e i;
+    held = seen_at Held_of n bs k (f k) e i;
+    has = (seen_at Has n bs k (f k) e ∙ set_same S.has n true (ap is_some (sym e))) i;
+    size = length-set_value (same_node n) bs (f k) i;
+    link_writes = count';
+  })
+
+  same_held : set_at S.held n (held_in (Some k)) ≡ S.held
+  same_held = set_same S.held n (held_in (Some k)) (ap held_in (sym e))
+
+  same_next : (to : Node) → to ≡ k.links.next.to → set_at S.next n to ≡ S.next
+  same_next to is = set_same S.next n to (is ∙ ap (next_in n) (sym e))
+
+  same_prev : (to : Node) → to ≡ k.links.prev.to → set_at S.prev n to ≡ S.prev
+  same_prev to is = set_same S.prev n to (is ∙ ap (prev_in n) (sym e))
+
   module _ (l : Links) (is_l : k.links ≡ l) (to : Node) (link : Link) (is_new : link ≡ record { to = to })
       (raised : count' ≡ count + 1) where
     pub stored_next : state (changed (with_links (record { next = link; prev = l.prev }))) count'
         ≡ store_next n to (state bs count)
     unfolding store_next
-    stored_next =
-        let f : Kept (K × V) → Kept (K × V) = with_links (record { next = link; prev = l.prev }) in
-        let w = f k in ap (λ x. state x count') (is_set f) ∙ (λ i. record {
-          next =
-              (seen_at Next_of n bs k w e
-              ∙ ap (λ x. set_at (state bs count).next n x) (ap (λ (x : Link). x.to) is_new))
-              i;
-          prev = seen_same Prev_of n bs k w e (ap (λ (x : Links). x.prev.to) (sym is_l)) i;
-          held = seen_same Held_of n bs k w e refl i;
-          has = seen_same Has n bs k w e refl i;
-          size = length-set_value (same_node n) bs w i;
-          link_writes = raised i;
-        })
+    stored_next = changed_state (with_links (record { next = link; prev = l.prev })) ∙ (λ i. record S {
+      next = set_at S.next n (is_new i).to;
+      prev = same_prev l.prev.to (ap (λ (x : Links). x.prev.to) (sym is_l)) i;
+      held = same_held i;
+      link_writes = raised i;
+    })
 
     pub stored_prev : state (changed (with_links (record { next = l.next; prev = link }))) count'
         ≡ store_prev n to (state bs count)
     unfolding store_prev
-    stored_prev =
-        let f : Kept (K × V) → Kept (K × V) = with_links (record { next = l.next; prev = link }) in
-        let w = f k in ap (λ x. state x count') (is_set f) ∙ (λ i. record {
-          next = seen_same Next_of n bs k w e (ap (λ (x : Links). x.next.to) (sym is_l)) i;
-          prev =
-              (seen_at Prev_of n bs k w e
-              ∙ ap (λ x. set_at (state bs count).prev n x) (ap (λ (x : Link). x.to) is_new))
-              i;
-          held = seen_same Held_of n bs k w e refl i;
-          has = seen_same Has n bs k w e refl i;
-          size = length-set_value (same_node n) bs w i;
-          link_writes = raised i;
-        })
+    stored_prev = changed_state (with_links (record { next = l.next; prev = link })) ∙ (λ i. record S {
+      next = same_next l.next.to (ap (λ (x : Links). x.next.to) (sym is_l)) i;
+      prev = set_at S.prev n (is_new i).to;
+      held = same_held i;
+      link_writes = raised i;
+    })
 
   -- the links stay, and n holds h
   pub held_anew : (f : Kept (K × V) → Kept (K × V)) → (f k).links ≡ k.links → (h : Option (Held K V))
-      → held_in (Some (f k)) ≡ h → state (changed f) count ≡ hold n h (state bs count)
+      → held_in (Some (f k)) ≡ h → state (changed f) count' ≡ hold n h (state bs count')
   unfolding hold
-  held_anew f kept h is_h = let w = f k in ap (λ x. state x count) (is_set f) ∙ (λ i. record {
-    next = seen_same Next_of n bs k w e (ap (λ (x : Links). x.next.to) kept) i;
-    prev = seen_same Prev_of n bs k w e (ap (λ (x : Links). x.prev.to) kept) i;
-    held = (seen_at Held_of n bs k w e ∙ ap (λ x. set_at (state bs count).held n x) is_h) i;
-    has = seen_same Has n bs k w e refl i;
-    size = length-set_value (same_node n) bs w i;
-    link_writes = count;
+  held_anew f kept h is_h = changed_state f ∙ (λ i. record S {
+    next = same_next (f k).links.next.to (ap (λ (x : Links). x.next.to) kept) i;
+    prev = same_prev (f k).links.prev.to (ap (λ (x : Links). x.prev.to) kept) i;
+    held = set_at S.held n (is_h i);
+    link_writes = count';
   })
 
   -- both links of n, which is new, lead to n itself
   pub looped : (s : State K V) (next prev : Link) → next ≡ record { to = n } → prev ≡ record { to = n }
-      → Adds n None s (state bs count)
-      → MakesGuard n s (state (changed (with_links (record { next = next; prev = prev }))) count)
-  looped s next prev is_next is_prev a =
-      let f : Kept (K × V) → Kept (K × V) = with_links (record { next = next; prev = prev }) in let w = f k in
-      let t = state (set_value (same_node n) bs w) count in
-      let after : t.next ≡ set_at (state bs count).next n n
-      = seen_at Next_of n bs k w e
-      ∙ ap (λ x. set_at (state bs count).next n x) (ap (λ (l : Link). l.to) is_next) in
-      let before : t.prev ≡ set_at (state bs count).prev n n
-      = seen_at Prev_of n bs k w e
-      ∙ ap (λ x. set_at (state bs count).prev n x) (ap (λ (l : Link). l.to) is_prev) in
-      subst (λ x. MakesGuard n s (state x count)) (sym (is_set f)) (record {
+      → count' ≡ count → Adds n None s (state bs count)
+      → MakesGuard n s (state (changed (with_links (record { next = next; prev = prev }))) count')
+  looped s next prev is_next is_prev is_count a =
+      let is : state (changed (with_links (record { next = next; prev = prev }))) count' ≡ record S {
+        next = set_at S.next n n;
+        prev = set_at S.prev n n;
+      } = changed_state (with_links (record { next = next; prev = prev })) ∙ (λ i. record S {
+        next = set_at S.next n (is_next i).to;
+        prev = set_at S.prev n (is_prev i).to;
+        held = same_held i;
+        link_writes = is_count i;
+      }) in
+      subst (MakesGuard n s) (sym is) (record {
         adds = record {
           absent = a.absent;
-          next = λ m h. ap (λ g. g m) after ∙ set_at_other (state bs count).next n m n h ∙ a.next m h;
-          prev = λ m h. ap (λ g. g m) before ∙ set_at_other (state bs count).prev n m n h ∙ a.prev m h;
-          held = seen_same Held_of n bs k w e refl ∙ a.held;
-          has = seen_same Has n bs k w e refl ∙ a.has;
-          size = length-set_value (same_node n) bs w ∙ a.size;
+          next = λ m h. set_at_other S.next n m n h ∙ a.next m h;
+          prev = λ m h. set_at_other S.prev n m n h ∙ a.prev m h;
+          held = a.held;
+          has = a.has;
+          size = a.size;
           link_writes = a.link_writes;
         };
-        next = ap (λ g. g n) after ∙ set_at_here (state bs count).next n n;
-        prev = ap (λ g. g n) before ∙ set_at_here (state bs count).prev n n;
+        next = set_at_here S.next n n;
+        prev = set_at_here S.prev n n;
       })
 
 module _ {K V : Type 0} where
@@ -274,7 +281,7 @@ module _ {K V : Type 0} (bs : Blocks K V) (count : ℕ) (n : Node) (p : K × V) 
       → state (alter (same_node n) (with_pair w) bs) count
       ≡ hold n (option_map h (held_in (lookup (same_node n) bs))) (state bs count)
   pair_anew w h is_h =
-      held_anew bs count 0 n at.block at.looked (with_pair w) refl
+      held_anew bs count count n at.block at.looked (with_pair w) refl
       (option_map h (held_in (lookup (same_node n) bs)))
       (ap (λ (x : Option (ℕ × (K × V))). held_in (Some (with_pair w (kept at.block.links x)))) at.entry
       ∙ ap (λ (x : Held K V). Some x) (sym is_h) ∙ sym (ap (option_map h) at.held))
@@ -295,7 +302,7 @@ pub value_anew : {K V : Type 0} (c : Pool K V) (n : Node) (w : V) (p : K × V)
     (at : PairAt c.arena.blocks n p)
     → state_of (pool_with c n w) ≡ hold n (Some (held at.number p.0 w)) (state_of c)
 value_anew {K} {V} c n w p at =
-    held_anew c.arena.blocks c.writes.count 0 n at.block at.looked (kept_with w) refl
+    held_anew c.arena.blocks c.writes.count c.writes.count n at.block at.looked (kept_with w) refl
     (Some (held at.number p.0 w))
     (ap (λ (x : Option (ℕ × (K × V))). held_in (Some (kept_with w (kept at.block.links x)))) at.entry)
 

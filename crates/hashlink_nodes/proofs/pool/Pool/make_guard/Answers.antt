@@ -1,4 +1,4 @@
-use Rattle.std.proofs.Common.{true, ap, ◌∙◌}
+use Rattle.std.proofs.Common.{refl, true, ap, ◌∙◌}
 use Rattle.hashlink_nodes.specs.Pool.{state_of}
 use Rattle.hashlink_nodes.proofs.Paths.{set_at_here}
 use Rattle.std.specs.Map.{lookup}
@@ -17,6 +17,6 @@ returns-clause-made g c =
     let bs = c.make.new.self.arena.blocks in let guard = c.in_ok-guard.guard in
     let at = mapped (λ (k : Kept (g.row.K.Denot × g.row.V.Denot)). k.links) (lookup (same_node guard) bs)
     c.links_mut-links.ensures.value in
-    looped bs c.make.new.self.writes.count 0 guard at.0 at.1
+    looped bs c.make.new.self.writes.count c.make.new.self.writes.count guard at.0 at.1
     (state_of c.args.self.now) c.store.new.self
-    c.store-2.new.self c.store.ensures.stored c.store-2.ensures.stored c.in_ok-guard.ensures.made
+    c.store-2.new.self c.store.ensures.stored c.store-2.ensures.stored refl c.in_ok-guard.ensures.made
