@@ -21,6 +21,7 @@ use contract.Monad.{fact_i}
 use base.Logic.{via, ex_i}
 use types.Kit.{Item, Step, step, mean, now, prop, upd}
 use denote.Builtin.{One}
+use denote.Signature.{Signature, Slot}
 use denote.RawPtr.{◌+ₚ◌}
 use denote.Triple.Clauses.{Ended, Clauses, at_exit, closing}
 use denote.Triple.Spec.{Meets}
@@ -34,28 +35,13 @@ use Rattle.hashlink_nodes.specs.contracts.arena.Arena.{the_row}
 use Rattle.hashlink_nodes.proofs.ArenaSteps.{Mark, Nd, word_had, args_are}
 use Rattle.hashlink_nodes.proofs.ArenaBlocks.{blocks_cut, blocks_glue}
 
--- the signature of a function that lends P by `&`
-abbrev pub Sharing : RattleType → (P : RattleType) → One P.mir → Ended
-Sharing T P one = record {
-  signature = record {
-    lifetimes = 2;
-    outlives = record { long = 1; long_ok = tt; short = named 0; short_ok = tt } ∷ [];
-    params = RefOf (0 ∷ []) tt (plain (λ _. the_row (param 0 T))) (λ _. tt) ∷ plain (λ _. Nd) ∷ [];
-    result = RefOf (0 ∷ []) tt (plain (λ _. P)) (λ _. one);
-  };
-  kept = (yes, (yes, tt));
-}
-
--- and by `&mut`
-abbrev pub Lending : RattleType → RattleType → Ended
-Lending T P = record {
-  signature = record {
-    lifetimes = 2;
-    outlives = record { long = 1; long_ok = tt; short = named 0; short_ok = tt } ∷ [];
-    params = mut_ref_to (0 ∷ []) tt (plain (λ _. the_row (param 0 T))) ∷ plain (λ _. Nd) ∷ [];
-    result = mut_ref_to (0 ∷ []) tt (plain (λ _. P));
-  };
-  kept = (no, (yes, tt));
+-- the signature of a function that lends what the arena has at a node
+abbrev signed : Slot 2 → Slot 2 → Signature
+signed self result = record {
+  lifetimes = 2;
+  outlives = record { long = 1; long_ok = tt; short = named 0; short_ok = tt } ∷ [];
+  params = self ∷ plain (λ _. Nd) ∷ [];
+  result = result;
 }
 
 module _ {M : Type 1} (𝓤 : Ura M) (𝓛 : Logic 𝓤) (𝓜 : Model 𝓤 𝓛.H) (𝓡 : Running 𝓤 𝓛.H 𝓜) (T P : RattleType)
@@ -90,12 +76,20 @@ module _ {M : Type 1} (𝓤 : Ura M) (𝓛 : Logic 𝓤) (𝓜 : Model 𝓤 𝓛
       use0 𝓛 (raw (fact 𝓤 (p ≡ block_ptr b o))) (fact_i 𝓤 (p ≡ block_ptr b o) (emp 𝓤) e) $ join ! $ done !)
       (ex_i 𝓤 (λ (x : ℕ × ℕ). sep 𝓤 (fact 𝓤 (p ≡ block_ptr x.0 x.1)) (Post (vptr x.0 (x.1 + off)))) (b, o))
 
-  -- the signature by `&`, and by `&mut`
+  -- a part is lent by `&`, or by `&mut`
   abbrev S : Ended
-  S = Sharing T P one
+  S = record {
+    signature = signed (RefOf (0 ∷ []) tt (plain (λ _. the_row R)) (λ _. tt))
+        (RefOf (0 ∷ []) tt (plain (λ _. P)) (λ _. one));
+    kept = (yes, (yes, tt));
+  }
 
   abbrev S' : Ended
-  S' = Lending T P
+  S' = record {
+    signature = signed (mut_ref_to (0 ∷ []) tt (plain (λ _. the_row R)))
+        (mut_ref_to (0 ∷ []) tt (plain (λ _. P)));
+    kept = (no, (yes, tt));
+  }
 
   module _ (closed : let 𝓣 = tables 𝓤 H 𝓜 𝓡 𝓡.env in Closed 𝓤 H 𝓣.C 𝓣.Λ key fn) where
     module _ (c : Clauses 𝓤 S) where

@@ -3,7 +3,6 @@ use Rattle.std.proofs.Common.{◌≡◌, Bool, true, false, [], ◌∷◌, Optio
 use Rattle.std.proofs.Common.{◌⊎◌, inl, inr}
 use Rattle.std.specs.Bool.{then_some}
 use Rattle.std.specs.Prelude.{is_some, unwrap_or, slice_get, IfSome}
-use Rattle.std.specs.List.{AllByRecursion}
 use Rattle.std.specs.Map.{keys_of}
 use Rattle.hashlink_nodes.specs.declared.node.Node.{Node}
 use Rattle.hashlink_nodes.specs.State.{State}
@@ -11,7 +10,7 @@ use Rattle.hashlink_nodes.specs.Shape.{IsRing}
 use Rattle.hashlink_nodes.specs.Ring.{Ring, IsPlace, next_place, prev_place, last_node}
 use Rattle.hashlink_nodes.proofs.Paths.{head_or, last_or, all_left, all_right}
 use Rattle.hashlink_nodes.proofs.Cuts.{before_place, after_place}
-use Rattle.hashlink_nodes.proofs.Rings.{Entries, linked}
+use Rattle.hashlink_nodes.proofs.Rings.{Entries, Full, linked}
 use Rattle.hashlink_nodes.proofs.Opening.{if_some}
 
 module _ {K V : Type 0} where
@@ -23,9 +22,6 @@ module _ {K V : Type 0} where
     pub has_place : s.has q ≡ true
     pub has_answer : s.has r ≡ true
     pub tells : Tells s r answer
-
-  abbrev Full : State K V → Entries K V → Type 0
-  Full s es = AllByRecursion (λ e. s.held e.0 ≡ Some e.1) es
 
   tells_head : (s : State K V) (g : Node) (es : Entries K V) → s.held g ≡ None → Full s es
       → Tells s (head_or g (keys_of es)) (slice_get (keys_of es) 0)

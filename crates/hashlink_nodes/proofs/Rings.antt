@@ -37,7 +37,7 @@ abbrev pub Entries : Type 0 → Type 0 → Type 0
 Entries K V = List (Node × Held K V)
 
 module _ {K V : Type 0} where
-  abbrev Full : State K V → Entries K V → Type 0
+  abbrev pub Full : State K V → Entries K V → Type 0
   Full s es = AllByRecursion (λ e. s.held e.0 ≡ Some e.1) es
 
   full_off : {s s' : State K V} {n : Node} → Differs n s s' → (es : Entries K V) → IsOff n (keys_of es)
