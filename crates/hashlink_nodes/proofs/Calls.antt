@@ -14,11 +14,12 @@ use Rattle.hashlink_nodes.specs.Pool.{state_of}
 use Rattle.hashlink_nodes.specs.Ring.{Ring, ring}
 use Rattle.hashlink_nodes.specs.Shape.{IsRing, IsSound, SoundAt, ring_at, ring_of}
 use Rattle.hashlink_nodes.specs.State.{State, GuardIs, attached, detached, hold, store_next, Adds, Drops}
-use Rattle.hashlink_nodes.proofs.Paths.{last_or, back_last}
+use Rattle.hashlink_nodes.proofs.Paths.{last_or}
 use Rattle.hashlink_nodes.proofs.Cuts.{Gap, cut-looked, cut-entry}
 use Rattle.hashlink_nodes.proofs.Shapes.{shape_made}
-use Rattle.hashlink_nodes.proofs.Rings.{Ends, attach, Entries, InRing, in_ring, detach, detach_node, held_out}
-use Rattle.hashlink_nodes.proofs.Rings.{holds_now, held_now, added, dropped, spared, take_spare, renew}
+use Rattle.hashlink_nodes.proofs.Rings.{linked, Ends, attach, Entries, InRing, in_ring, detach, detach_node}
+use Rattle.hashlink_nodes.proofs.Rings.{held_out, holds_now, held_now, added, dropped, spared, take_spare}
+use Rattle.hashlink_nodes.proofs.Rings.{renew}
 use Rattle.hashlink_nodes.proofs.Opening.{length-gap, Leaves, NodeAt, Opened, if_some, leaves, length-removed}
 use Rattle.hashlink_nodes.proofs.Opening.{opened, empty}
 
@@ -195,7 +196,7 @@ module _ {K V : Type 0} where
     pub last : LastIs s n v.entries
     last =
         subst (λ m. LastIs s m v.entries)
-        (sym (is_n ∙ back_last s.prev g (keys_of v.entries) g o.ring.shape.backward))
+        (sym (is_n ∙ (linked o.ring v.entries [] (sym (append-nil v.entries))).back))
         (last_of s g v.entries some)
 
     pub last_in : InRing s n last.value

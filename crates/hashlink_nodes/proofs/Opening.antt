@@ -15,7 +15,7 @@ use Rattle.hashlink_nodes.specs.Pool.{state_of}
 use Rattle.hashlink_nodes.specs.Ring.{Ring, ring, Holds}
 use Rattle.hashlink_nodes.specs.Shape.{IsRing, IsSound, SoundAt, ring_at, ring_of, walk, entry_of, entries_of}
 use Rattle.hashlink_nodes.specs.State.{State}
-use Rattle.hashlink_nodes.proofs.Paths.{length-walk, walk-path, walk-chain}
+use Rattle.hashlink_nodes.proofs.Paths.{length-walk, walk-linked, walk-chain}
 use Rattle.hashlink_nodes.proofs.Cuts.{Cut, Gap, cut, cut-looked, cut-removed}
 use Rattle.hashlink_nodes.proofs.Rings.{InRing, in_ring}
 
@@ -80,7 +80,7 @@ module _ {K V : Type 0} where
       let is_length : length (keys_of v.entries) ≡ len = length-keys_of v.entries ∙ is_len in
       let entries : entries_of s.held (walk s.next (s.next g) len) ≡ v.entries
       = ap (λ k. entries_of s.held (walk s.next (s.next g) k)) (sym is_length)
-      ∙ ap (entries_of s.held) (walk-path s.next g (keys_of v.entries) g r.shape.forward)
+      ∙ ap (entries_of s.held) (walk-linked s.next s.prev g (keys_of v.entries) g r.shape.links)
       ∙ entries-held s.held v.entries r.full in
       let free : walk s.next first spare ≡ v.free
       = ap (walk s.next first) (sym is_spare) ∙ walk-chain s.next first v.free r.shape.chain in

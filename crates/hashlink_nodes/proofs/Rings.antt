@@ -13,11 +13,11 @@ use Rattle.hashlink_nodes.specs.declared.held.Held.{Held}
 use Rattle.hashlink_nodes.specs.Node.{same_node}
 use Rattle.hashlink_nodes.specs.State.{set_at, State, store_next, store_prev, hold, detached, attached, Adds}
 use Rattle.hashlink_nodes.specs.State.{Drops}
-use Rattle.hashlink_nodes.specs.Shape.{IsPath, IsWayBack, IsShaped, IsRing}
+use Rattle.hashlink_nodes.specs.Shape.{IsLinked, IsShaped, IsRing}
 use Rattle.hashlink_nodes.specs.Ring.{Ring, ring, IsPlace}
 use Rattle.hashlink_nodes.proofs.Paths.{set_at_twice, head_or, last_or, Off, IsOff, flip, all_left, all_right}
 use Rattle.hashlink_nodes.proofs.Paths.{all_middle, all_without, all_with, all_both, all_zip, to_front}
-use Rattle.hashlink_nodes.proofs.Paths.{set_at_here, path_cut, back_cut}
+use Rattle.hashlink_nodes.proofs.Paths.{set_at_here, linked_cut}
 use Rattle.hashlink_nodes.proofs.Cuts.{Cut, Gap, cut-removed, cut-renewed, last-pushed, before_place}
 use Rattle.hashlink_nodes.proofs.Cuts.{after_place}
 use Rattle.hashlink_nodes.proofs.Shapes.{Differs, differs_add, differs_drop, differs_hold, differs_store}
@@ -73,12 +73,14 @@ module _ {K V : Type 0} where
           let ks = keys_of xs in let ls = keys_of ys in
           let keys : keys_of v.entries ≡ ks ++ ls = ap keys_of is ∙ keys-append xs ys in
           let all = all_right H out (g ∷ (keys_of v.entries ++ v.free)) r.shape.there in
+          let both = linked_cut s.next s.prev g ks ls g
+          (subst (λ l. IsLinked s.next s.prev g l g) keys r.shape.links) in
           let there = subst (AllByRecursion H) keys (all_left H (keys_of v.entries) v.free all.1) in
           record {
             has_prev = of_last H g ks ls (all.0, there);
             has_next = of_head H g ks ls all.0 there;
-            on = path_cut s.next g ks ls g (subst (λ l. IsPath s.next g l g) keys r.shape.forward);
-            back = back_cut s.prev g ks ls g (subst (λ l. IsWayBack s.prev g l g) keys r.shape.backward);
+            on = both.0;
+            back = both.1;
           }
 
       pub in_ring : (xs : Entries K V) (n : Node) (h : Held K V) (ys : Entries K V) →
@@ -303,8 +305,7 @@ module _ {K V : Type 0} where
       (sym is) (record {
         shape = subst (λ l. IsShaped (hold n (Some w) s) [] g first l fs)
             (sym (keys-set_value (same_node n) v.entries w)) (record {
-              forward = h.forward;
-              backward = h.backward;
+              links = h.links;
               chain = h.chain;
               apart = h.apart;
               bare = (

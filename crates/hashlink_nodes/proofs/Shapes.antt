@@ -12,9 +12,9 @@ use Rattle.hashlink_nodes.specs.State.{MakesGuard, Drops}
 use Rattle.hashlink_nodes.specs.Shape.{IsChain, IsShaped}
 use Rattle.hashlink_nodes.proofs.Paths.{head_or, last_or, Off, IsOff, flip, set_at_here, set_at_other}
 use Rattle.hashlink_nodes.proofs.Paths.{to_front, from_front, all_left, all_right, all_without, all_with}
-use Rattle.hashlink_nodes.proofs.Paths.{all_middle, all_as, all_zip, off_rest, off_last, off_head, path_same}
-use Rattle.hashlink_nodes.proofs.Paths.{back_same, chain_same, agrees_off, agrees_off_two, path_detach}
-use Rattle.hashlink_nodes.proofs.Paths.{path_attach, back_detach, back_attach, path_at, back_at}
+use Rattle.hashlink_nodes.proofs.Paths.{all_middle, all_as, all_zip, off_rest, off_last, off_head}
+use Rattle.hashlink_nodes.proofs.Paths.{linked_same, chain_same, agrees_off, agrees_off_two, linked_detach}
+use Rattle.hashlink_nodes.proofs.Paths.{linked_attach, linked_at}
 
 distinct_left : (xs ys : List Node) → IsDistinct same_node (xs ++ ys) → IsDistinct same_node xs
 unfolding IsDistinct
@@ -79,11 +79,10 @@ module _ {K V : Type 0} where
       carried there out' apart with_out size few =
           let on_ring = all_left (Off n) (g ∷ ns) fs off in let on_free = all_right (Off n) (g ∷ ns) fs off in
           record {
-            forward = path_same s'.next s.next g ns g (agrees_off s'.next s.next n (g ∷ ns) d.next on_ring)
-                h.forward;
-            backward =
-                back_same s'.prev s.prev g ns g (agrees_off s'.prev s.prev n ns d.prev on_ring.1)
-                (d.prev g (flip n g off.0)) h.backward;
+            links =
+                linked_same s'.next s.next s'.prev s.prev g ns g
+                (agrees_off s'.next s.next n (g ∷ ns) d.next on_ring)
+                (agrees_off s'.prev s.prev n ns d.prev on_ring.1) (d.prev g (flip n g off.0)) h.links;
             chain = chain_same s'.next s.next first fs (agrees_off s'.next s.next n fs d.next on_free)
                 h.chain;
             apart = apart;
@@ -97,8 +96,7 @@ module _ {K V : Type 0} where
   pub shape_taken : {s : State K V} {g n : Node} {ns fs : List Node} → IsShaped s [] g n ns (n ∷ fs) →
       IsShaped s (n ∷ []) g (s.next n) ns fs
   shape_taken {s} {g} {n} {ns} {fs} h = record {
-    forward = h.forward;
-    backward = h.backward;
+    links = h.links;
     chain = h.chain.1;
     apart = to_front (g ∷ ns) n fs h.apart;
     bare = (h.bare.0, h.bare.1.1);
@@ -135,8 +133,7 @@ module _ {K V : Type 0} where
     pub shape_spared : IsShaped s (n ∷ []) g first ns fs → s.next n ≡ first → s.held n ≡ None
         → IsShaped s [] g n ns (n ∷ fs)
     shape_spared h on bare = record {
-      forward = h.forward;
-      backward = h.backward;
+      links = h.links;
       chain = (refl, subst (λ m. IsChain s.next m fs) (sym on) h.chain);
       apart = from_front (g ∷ ns) n fs h.apart;
       bare = (h.bare.0, (bare, h.bare.1));
@@ -151,8 +148,7 @@ module _ {K V : Type 0} where
         → IsShaped (detached n s) (n ∷ []) g first (xs ++ ys) fs
     unfolding detached store_next store_prev
     shape_detached h =
-        let before : s.prev n ≡ last_or g xs = back_at s.prev n g xs ys g h.backward in
-        let after : s.next n ≡ head_or g ys = path_at s.next n g xs ys g h.forward in
+        let at = linked_at s.next s.prev n g xs ys g h.links in let after = at.0 in let before = at.1 in
         let f' = set_at s.next (s.prev n) (s.next n) in let b' = set_at s.prev (s.next n) (s.prev n) in
         let d = distinct_left (g ∷ (xs ++ n ∷ ys)) fs h.apart in
         let others : (m : Node) → same_node m (last_or g xs) ≡ false → f' m ≡ s.next m
@@ -163,12 +159,10 @@ module _ {K V : Type 0} where
         let off = all_right (Off (last_or g xs)) (n ∷ ys) fs (off_rest g xs (n ∷ (ys ++ fs)) apart) in
         let there : AllByRecursion (Has s) (g ∷ (xs ++ n ∷ (ys ++ fs))) = simp append_assoc at h.there in
         record {
-          forward =
-              path_detach f' s.next n g xs ys g h.forward
-              (ap f' (sym before) ∙ set_at_here s.next (s.prev n) (s.next n) ∙ after) others d;
-          backward =
-              back_detach b' s.prev n g xs ys g h.backward
-              (ap b' (sym after) ∙ set_at_here s.prev (s.next n) (s.prev n) ∙ before) back_others d;
+          links =
+              linked_detach f' s.next b' s.prev n g xs ys g h.links
+              (ap f' (sym before) ∙ set_at_here s.next (s.prev n) (s.next n) ∙ after)
+              (ap b' (sym after) ∙ set_at_here s.prev (s.next n) (s.prev n) ∙ before) others back_others d d;
           chain = chain_same f' s.next first fs (agrees_off f' s.next (last_or g xs) fs others off) h.chain;
           apart = simp append_assoc (to_front (g ∷ xs) n (ys ++ fs) apart);
           bare = h.bare;
@@ -203,12 +197,11 @@ module _ {K V : Type 0} where
         (IsDistinct-head same_node n _ h.apart) in
         let there : AllByRecursion (Has s) (g ∷ (xs ++ (ys ++ fs))) = simp append_assoc at h.there.1 in
         record {
-          forward =
-              path_attach f' s.next n g xs ys g h.forward (set_at_here f₁ p n)
-              (set_at_other f₁ p n n not_p ∙ set_at_here s.next n q) others d;
-          backward =
-              back_attach b' s.prev n g xs ys g h.backward (set_at_here b₁ q n)
-              (set_at_other b₁ q n n not_q ∙ set_at_here s.prev n p) back_others d;
+          links =
+              linked_attach f' s.next b' s.prev n g xs ys g h.links (set_at_here f₁ p n)
+              (set_at_other b₁ q n n not_q ∙ set_at_here s.prev n p)
+              (set_at_other f₁ p n n not_p ∙ set_at_here s.next n q) (set_at_here b₁ q n) others back_others
+              d d;
           chain = chain_same f' s.next first fs (agrees_off_two f' s.next n p fs others off_n off_p) h.chain;
           apart = simp append_assoc (from_front (g ∷ xs) n (ys ++ fs) apart);
           bare = h.bare;
@@ -222,8 +215,7 @@ module _ {K V : Type 0} where
       → IsShaped s' [] g first [] []
   unfolding IsDistinct
   shape_made {s} {s'} {g} first none m = record {
-    forward = m.next;
-    backward = m.prev;
+    links = (m.next, m.prev);
     chain = tt;
     apart = (tt, tt);
     bare = (ap (λ f. f g) m.adds.held ∙ set_at_here s.held g None, tt);

@@ -11,15 +11,10 @@ use Rattle.hashlink_nodes.specs.State.{State}
 use Rattle.hashlink_nodes.specs.Pool.{state_of}
 use Rattle.hashlink_nodes.specs.declared.nodes.Nodes.TheInside.{Inside}
 
--- f leads from a along the nodes to b
-abbrev pub IsPath : (Node → Node) → Node → List Node → Node → Type 0
-IsPath f a [] b = f a ≡ b
-IsPath f a (n ∷ ns) b = (f a ≡ n) × IsPath f n ns b
-
--- f leads back from b along the nodes to a
-abbrev pub IsWayBack : (Node → Node) → Node → List Node → Node → Type 0
-IsWayBack f a [] b = f b ≡ a
-IsWayBack f a (n ∷ ns) b = (f n ≡ a) × IsWayBack f n ns b
+-- f leads from a along the nodes to z, and b leads back
+abbrev pub IsLinked : (Node → Node) → (Node → Node) → Node → List Node → Node → Type 0
+IsLinked f b a [] z = (f a ≡ z) × (b z ≡ a)
+IsLinked f b a (n ∷ ns) z = ((f a ≡ n) × (b n ≡ a)) × IsLinked f b n ns z
 
 -- f leads from a, the first, along the nodes
 abbrev pub IsChain : (Node → Node) → Node → List Node → Type 0
@@ -45,8 +40,7 @@ module _ {K V : Type 0} where
   -- only the nodes `out` have a block
   pub record IsShaped (s : State K V) (out : List Node) (guard first : Node)
       (nodes free : List Node) : Type 0 where
-    pub forward : IsPath s.next guard nodes guard
-    pub backward : IsWayBack s.prev guard nodes guard
+    pub links : IsLinked s.next s.prev guard nodes guard
     pub chain : IsChain s.next first free
     pub apart : IsDistinct same_node (out ++ guard ∷ (nodes ++ free))
     pub bare : AllByRecursion (λ n. s.held n ≡ None) (guard ∷ free)
