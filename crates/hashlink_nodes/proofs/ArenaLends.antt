@@ -1,6 +1,5 @@
--- An arena lends a part of a block, by `&` and by `&mut`. A function of it gives its code, which only
--- computes
--- an address, and where the part is in a block. Assumes `Logic`.
+-- An arena lends a part of a block, by `&` and by `&mut`. A function of it gives its code, which computes
+-- an address alone, and where the part is in a block. Assumes `Logic`.
 use denote.Memory.{part_of}
 use Rattle.hashlink_nodes.proofs.Walks.{◌≡◌, ℕ, ◌+◌, List, [], ◌∷◌, ◌++◌, refl, sym, Some, Bor, MutBor}
 use Rattle.hashlink_nodes.proofs.Walks.{lookup, remove_entry, Ura, full_share, named, Val, vptr, SProp, ent}
@@ -253,8 +252,7 @@ module _ {M : Type 1} (𝓤 : Ura M) (𝓛 : Logic 𝓤) (𝓜 : Model 𝓤 𝓛
           use1 𝓛 (‵ (lies_at P full_share (n.at +ₚ off) h.part) ⊛ ‵ (h.rest n.at)) h.out $ split ! $
           in_a_block ! n.at (λ p. lies_at P full_share (p +ₚ off) h.part) (id⊢ 𝓤 (never 𝓤)) (λ b o e.
           -- [the part; the rest of its block; the other blocks; the mark; its cell; the open borrow; obs;
-          -- auth;
-          -- the other tokens]
+          -- auth; the other tokens]
           let at = o + off in let new = λ (w : P.Denot). altered a n (s.change w) in
           let way = comes_back a h rb ro b o vs is_k e in let Left = sem 𝓛 (Rest a h rb ro b o vs) in
           move ! (3 ∷ 4 ∷ []) $ fjoin ! $ move ! (3 ∷ 0 ∷ []) $ fjoin ! $ move ! (2 ∷ 0 ∷ []) $ fjoin ! $

@@ -1,6 +1,5 @@
--- A node of a list of entries, and a place in it: what comes before, what comes after, and what the words
--- of the
--- contracts say there.
+-- A node of a list of entries, and a place in it: what comes before, what comes after, and what the words of
+-- the contracts say there.
 use Rattle.std.proofs.Common.{◌≡◌, Bool, true, false, cond, List, [], ◌∷◌, ◌++◌, Option, None, Some, refl}
 use Rattle.std.proofs.Common.{sym, ap, ◌∙◌}
 use Rattle.std.specs.Prelude.{is_some, slice_get, unwrap_or}
