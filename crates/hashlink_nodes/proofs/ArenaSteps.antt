@@ -4,11 +4,13 @@ use seplogic.Ra.Ura.{Ura}
 use lib.Dec.{lit<}
 use mir.Syntax.{Ty, int_big, w64}
 use mir.Val.{Fits, Val, vint, vstruct, vcons, vnil, of_list}
-use base.Logic.{ent, emp, guard_i, via}
+use base.Logic.{SProp, ent, emp, guard_i, via}
+use contract.Monad.{fact, fact_i}
+use types.Kit.{prop, raw, use0, Item, Goal, Seq, Step, step, ‵, ◌$◌, drop, fsplit, fjoin, fpick, fpack, feq_i}
+use types.Kit.{feq_l, rewrite}
 use prog.Wp.{Env}
 use types.Run.{Opd}
 use types.Logic.{Logic, sem}
-use types.Kit.{Item, Goal, Seq, Step, step, ‵, ◌$◌, drop, fsplit, fjoin, fpick, fpack, feq_i, feq_l, rewrite}
 use denote.RattleType.{RattleType, Valss}
 use denote.RawPtr.{Ptr, RawPtr, ptr_val}
 use denote.Shadow.{makes_shadow}
@@ -82,3 +84,13 @@ module _ {M : Type 1} {𝓤 : Ura M} {𝓛 : Logic 𝓤} {K : Type 0} {Γ : List
     go = λ Kt h. via 𝓤 (Kt (vint w64 (2 ^ 48))) h
         (guard_i 𝓤 (Fits w64 (2 ^ 48)) (Kt (vint w64 (2 ^ 48))) (record { fits = lit< tt }));
   }
+
+module _ {M : Type 1} {𝓤 : Ura M} {𝓛 : Logic 𝓤} {K : Type 0} {Γ : List (Item 𝓤)} where
+  -- a fact is stated
+  pub states : K → {G : Goal 𝓤 𝓛.H} {φ : Type 0} → φ → Step K 𝓛 (raw (fact 𝓤 φ) ∷ Γ) G Γ G
+  states t {φ = φ} p = step (λ s. use0 𝓛 (raw (fact 𝓤 φ)) (fact_i 𝓤 φ (emp 𝓤) p) $ s)
+
+  -- the machine values of the arguments are known
+  pub args_are : K → {X : Type 0} (Run : X → SProp 𝓤) {x y : X} → x ≡ y
+      → Step K 𝓛 Γ (prop (Run x)) Γ (prop (Run y))
+  args_are t Run e = step (λ s. subst (λ w. Seq K 𝓛 Γ (prop (Run w))) e s)

@@ -1,20 +1,16 @@
--- Lemmas on the blocks of an arena, and on the ring that their links make. Callers cite `Places`.
+-- Lemmas on the blocks of an arena, and on the ring that their links make.
 pub mod ArenaBlocks
+pub mod ArenaLends
 pub mod ArenaSharing
 pub mod ArenaSteps
 pub mod Calls
-pub mod Changing
-pub mod CountSteps
-pub mod Ending
-pub mod Entries
+pub mod Cuts
+pub mod Rings
 pub mod Lending
 pub mod LooseSteps
-pub mod Moving
 pub mod Neighbours
+pub mod Opening
 pub mod Paths
-pub mod Places
-pub mod Pushing
 pub mod Shapes
-pub mod Sound
 pub mod StateLemmas
 pub mod Walks

@@ -1,12 +1,14 @@
 -- Paths along links, and what stays of them where one link changes.
 use Rattle.std.proofs.Common.{true, ◌≡◌, ℕ, zero, suc, false, cond, List, [], ◌∷◌, ◌++◌, length, refl, sym}
 use Rattle.std.proofs.Common.{ap, ◌∙◌, subst}
-use Rattle.std.proofs.lemmas.List.{append-nil}
+use Rattle.std.proofs.lemmas.List.Sorted.{IsPermutation-middle, IsPermutation-sym}
+use Rattle.std.proofs.lemmas.Map.Keys.{IsDistinct-head, IsDistinct-tail, IsDistinct-cons}
+use Rattle.std.proofs.lemmas.Map.Keys.{IsDistinct-IsPermutation}
 use Rattle.std.specs.List.{AllByRecursion, IsDistinct}
 use Rattle.hashlink_nodes.specs.declared.node.Node.{Node}
 use Rattle.hashlink_nodes.specs.Node.{same_node, same_node_equiv, same_node-refl}
 use Rattle.hashlink_nodes.specs.State.{set_at}
-use Rattle.hashlink_nodes.specs.Shape.{IsPath, IsWayBack, IsChain, walk}
+use Rattle.hashlink_nodes.specs.Shape.{IsLinked, IsChain, walk}
 
 -- the first of the nodes, or b
 abbrev pub head_or : Node → List Node → Node
@@ -83,62 +85,44 @@ pub all_zip : {X : Type 0} {P Q R : X → Type 0} → ((x : X) → P x → Q x �
 all_zip f [] h k = tt
 all_zip f (x ∷ xs) h k = (f x h.0 k.0, all_zip f xs h.1 k.1)
 
--- the node in the middle stands first
-pub distinct_front : (xs : List Node) (n : Node) (ys : List Node) → IsDistinct same_node (xs ++ n ∷ ys)
-    → IsOff n (xs ++ ys) × IsDistinct same_node (xs ++ ys)
-unfolding IsDistinct
-distinct_front [] n ys d = d
-distinct_front (x ∷ xs) n ys d =
-    let rest = distinct_front xs n ys d.1 in
-    ((flip x n (all_middle (Off x) xs n ys d.0), rest.0), (all_without (Off x) xs n ys d.0, rest.1))
+-- the node in the middle stands first, and goes back
+pub to_front : (xs : List Node) (n : Node) (ys : List Node) → IsDistinct same_node (xs ++ n ∷ ys)
+    → IsDistinct same_node (n ∷ (xs ++ ys))
+to_front xs n ys d =
+    IsDistinct-IsPermutation same_node same_node_equiv.symm _ _ (IsPermutation-middle xs n ys) d
 
-pub distinct_middle : (xs : List Node) (n : Node) (ys : List Node) → IsOff n (xs ++ ys)
-    → IsDistinct same_node (xs ++ ys)
+pub from_front : (xs : List Node) (n : Node) (ys : List Node) → IsDistinct same_node (n ∷ (xs ++ ys))
     → IsDistinct same_node (xs ++ n ∷ ys)
-unfolding IsDistinct
-distinct_middle [] n ys o d = (o, d)
-distinct_middle (x ∷ xs) n ys o d =
-    (all_with (Off x) xs n ys (flip n x o.0) d.0, distinct_middle xs n ys o.1 d.1)
-
-pub distinct_head : (n : Node) (ns : List Node) → IsDistinct same_node (n ∷ ns) → IsOff n ns
-unfolding IsDistinct
-distinct_head n ns d = d.0
-
-pub distinct_tail : (n : Node) (ns : List Node) → IsDistinct same_node (n ∷ ns) → IsDistinct same_node ns
-unfolding IsDistinct
-distinct_tail n ns d = d.1
-
-pub distinct_cons : (n : Node) (ns : List Node) → IsOff n ns → IsDistinct same_node ns
-    → IsDistinct same_node (n ∷ ns)
-unfolding IsDistinct
-distinct_cons n ns o d = (o, d)
+from_front xs n ys d =
+    IsDistinct-IsPermutation same_node same_node_equiv.symm _ _
+    (IsPermutation-sym _ _ (IsPermutation-middle xs n ys)) d
 
 -- the last of the first nodes is none of the rest
 pub off_rest : (a : Node) (xs ys : List Node) → IsDistinct same_node (a ∷ (xs ++ ys))
     → IsOff (last_or a xs) ys
-off_rest a [] ys d = distinct_head a ys d
-off_rest a (x ∷ xs) ys d = off_rest x xs ys (distinct_tail a _ d)
+off_rest a [] ys d = IsDistinct-head same_node a ys d
+off_rest a (x ∷ xs) ys d = off_rest x xs ys (IsDistinct-tail same_node a _ d)
 
 pub off_last : (a x : Node) (xs rest : List Node) → IsOff a (x ∷ (xs ++ rest))
     → same_node a (last_or x xs) ≡ false
 off_last a x [] rest o = o.0
 off_last a x (y ∷ xs) rest o = off_last a y xs rest o.1
 
--- ---- paths
-module _ (f' f : Node → Node) where
-  pub path_same : (a : Node) (ns : List Node) (b : Node) → Agrees f' f (a ∷ ns) → IsPath f a ns b
-      → IsPath f' a ns b
-  path_same a [] b h p = h.0 ∙ p
-  path_same a (n ∷ ns) b h p = (h.0 ∙ p.0, path_same n ns b h.1 p.1)
+-- ---- links
+pub linked_same : (f' f b' b : Node → Node) (a : Node) (ns : List Node) (z : Node) → Agrees f' f (a ∷ ns)
+    → Agrees b' b ns → b' z ≡ b z → IsLinked f b a ns z → IsLinked f' b' a ns z
+linked_same f' f b' b a [] z h k kz l = (h.0 ∙ l.0, kz ∙ l.1)
+linked_same f' f b' b a (n ∷ ns) z h k kz l =
+    ((h.0 ∙ l.0.0, k.0 ∙ l.0.1), linked_same f' f b' b n ns z h.1 k.1 kz l.1)
 
-  pub back_same : (a : Node) (ns : List Node) (b : Node) → Agrees f' f ns → f' b ≡ f b → IsWayBack f a ns b
-      → IsWayBack f' a ns b
-  back_same a [] b h k p = k ∙ p
-  back_same a (n ∷ ns) b h k p = (h.0 ∙ p.0, back_same n ns b h.1 k p.1)
-
-  pub chain_same : (a : Node) (ns : List Node) → Agrees f' f ns → IsChain f a ns → IsChain f' a ns
-  chain_same a [] h c = tt
-  chain_same a (n ∷ ns) h c = (c.0, subst (λ m. IsChain f' m ns) (sym h.0) (chain_same (f n) ns h.1 c.1))
+pub chain_same : (f' f : Node → Node) (a : Node) (ns : List Node) → Agrees f' f ns → IsChain f a ns →
+    IsChain f' a ns
+chain_same f' f a [] h c = tt
+chain_same f' f a (n ∷ ns) h c = (
+  c.0,
+  subst (λ m. IsChain f' m ns) (sym h.0)
+      (chain_same f' f (f n) ns h.1 c.1),
+)
 
 -- f' and f agree but at some nodes, which are none of these
 pub agrees_off : {X : Type 0} (f' f : Node → X) (p : Node) (ns : List Node)
@@ -151,132 +135,85 @@ pub agrees_off_two : {X : Type 0} (f' f : Node → X) (n p : Node) (ns : List No
     → Agrees f' f ns
 agrees_off_two f' f n p ns others o q = all_zip (λ m h k. others m (flip n m h) (flip p m k)) ns o q
 
--- the node in the middle is cut out: the one before it leads to the one after it
-pub path_detach : (f' f : Node → Node) (n a : Node) (xs ys : List Node) (b : Node)
-    → IsPath f a (xs ++ n ∷ ys) b
-    → f' (last_or a xs) ≡ head_or b ys
-    → ((m : Node) → same_node m (last_or a xs) ≡ false → f' m ≡ f m)
-    → IsDistinct same_node (a ∷ (xs ++ n ∷ ys)) → IsPath f' a (xs ++ ys) b
-path_detach f' f n a [] [] b p here others d = here
-path_detach f' f n a [] (y ∷ ys) b p here others d =
-    (here, path_same f' f y ys b (agrees_off f' f a (y ∷ ys) others (distinct_head a _ d).1) p.1.1)
-path_detach f' f n a (x ∷ xs) ys b p here others d = (
-  others a (off_last a x xs (n ∷ ys) (distinct_head a _ d))
-      ∙ p.0,
-  path_detach f' f n x xs ys b p.1 here others (distinct_tail a _ d),
-)
-
--- a node goes in between
-pub path_attach : (f' f : Node → Node) (n a : Node) (xs ys : List Node) (b : Node) → IsPath f a (xs ++ ys) b
-    → f' (last_or a xs) ≡ n
-    → f' n ≡ head_or b ys
-    → ((m : Node) → same_node m n ≡ false → same_node m (last_or a xs) ≡ false → f' m ≡ f m)
-    → IsDistinct same_node (n ∷ a ∷ (xs ++ ys)) → IsPath f' a (xs ++ n ∷ ys) b
-path_attach f' f n a [] [] b p here there others d = (here, there)
-path_attach f' f n a [] (y ∷ ys) b p here there others d = (
-  here,
-  (
-    there,
-    path_same f' f y ys b
-        (agrees_off_two f' f n a (y ∷ ys) others (distinct_head n _ d).1
-        (distinct_head a _ (distinct_tail n _ d))) p.1,
-  ),
-)
-path_attach f' f n a (x ∷ xs) ys b p here there others d =
-    let o = distinct_head n _ d in let e = distinct_tail n _ d in (
-      others a (flip n a o.0) (off_last a x xs ys (distinct_head a _ e))
-          ∙ p.0,
-      path_attach f' f n x xs ys b p.1 here there others (distinct_cons n _ o.1 (distinct_tail a _ e)),
-    )
-
 pub off_head : (x : Node) (ys : List Node) (b : Node) → IsOff x ys → same_node x b ≡ false
     → same_node x (head_or b ys) ≡ false
 off_head x [] b o h = h
 off_head x (y ∷ ys) b o h = o.0
 
--- the same for the links back
-pub back_detach : (f' f : Node → Node) (n a : Node) (xs ys : List Node) (b : Node)
-    → IsWayBack f a (xs ++ n ∷ ys) b
-    → f' (head_or b ys) ≡ last_or a xs
-    → ((m : Node) → same_node m (head_or b ys) ≡ false → f' m ≡ f m)
-    → IsDistinct same_node (b ∷ (xs ++ n ∷ ys)) → IsWayBack f' a (xs ++ ys) b
-back_detach f' f n a [] [] b p here others d = here
-back_detach f' f n a [] (y ∷ ys) b p here others d =
-    let o = distinct_head b _ d in (
-      here,
-      back_same f' f y ys b
-          (agrees_off f' f y ys others (distinct_head y ys (distinct_tail n _ (distinct_tail b _ d))))
-          (others b o.1.0)
-          p.1.1,
+-- the node in the middle is cut out: the one before it and the one after it are linked
+pub linked_detach : (f' f b' b : Node → Node) (n a : Node) (xs ys : List Node) (z : Node)
+    → IsLinked f b a (xs ++ n ∷ ys) z → f' (last_or a xs) ≡ head_or z ys → b' (head_or z ys) ≡ last_or a xs
+    → ((m : Node) → same_node m (last_or a xs) ≡ false → f' m ≡ f m)
+    → ((m : Node) → same_node m (head_or z ys) ≡ false → b' m ≡ b m)
+    → IsDistinct same_node (a ∷ (xs ++ n ∷ ys)) → IsDistinct same_node (z ∷ (xs ++ n ∷ ys))
+    → IsLinked f' b' a (xs ++ ys) z
+linked_detach f' f b' b n a [] [] z l on back others backs d e = (on, back)
+linked_detach f' f b' b n a [] (y ∷ ys) z l on back others backs d e =
+    let rest = IsDistinct-tail same_node n _ (IsDistinct-tail same_node a _ d) in (
+      (on, back),
+      linked_same f' f b' b y ys z (agrees_off f' f a (y ∷ ys) others (IsDistinct-head same_node a _ d).1)
+          (agrees_off b' b y ys backs (IsDistinct-head same_node y ys rest))
+          (backs z (IsDistinct-head same_node z _ e).1.0) l.1.1,
     )
-back_detach f' f n a (x ∷ xs) ys b p here others d =
-    let o = distinct_head b _ d in let e = distinct_tail b _ d in (
-      others x
-          (off_head x ys b (all_right (Off x) xs ys (all_without (Off x) xs n ys (distinct_head x _ e)))
-          (flip b x o.0))
-          ∙ p.0,
-      back_detach f' f n x xs ys b p.1 here others (distinct_cons b _ o.1 (distinct_tail x _ e)),
+linked_detach f' f b' b n a (x ∷ xs) ys z l on back others backs d e =
+    let o = IsDistinct-head same_node z _ e in let rest = IsDistinct-tail same_node a _ d in
+    let off_x = all_right (Off x) xs ys (all_without (Off x) xs n ys (IsDistinct-head same_node x _ rest)) in
+    let here = others a (off_last a x xs (n ∷ ys) (IsDistinct-head same_node a _ d)) ∙ l.0.0 in
+    let there = backs x (off_head x ys z off_x (flip z x o.0)) ∙ l.0.1 in (
+      (here, there),
+      linked_detach f' f b' b n x xs ys z l.1 on back others backs rest
+          (IsDistinct-cons same_node z _ o.1 (IsDistinct-tail same_node x _ rest)),
     )
 
-pub back_attach : (f' f : Node → Node) (n a : Node) (xs ys : List Node) (b : Node)
-    → IsWayBack f a (xs ++ ys) b
-    → f' (head_or b ys) ≡ n
-    → f' n ≡ last_or a xs
-    → ((m : Node) → same_node m n ≡ false → same_node m (head_or b ys) ≡ false → f' m ≡ f m)
-    → IsDistinct same_node (n ∷ b ∷ (xs ++ ys)) → IsWayBack f' a (xs ++ n ∷ ys) b
-back_attach f' f n a [] [] b p here there others d = (there, here)
-back_attach f' f n a [] (y ∷ ys) b p here there others d =
-    let o = distinct_head n _ d in let e = distinct_tail n _ d in (
-      there,
+-- a node goes in between
+pub linked_attach : (f' f b' b : Node → Node) (n a : Node) (xs ys : List Node) (z : Node)
+    → IsLinked f b a (xs ++ ys) z → f' (last_or a xs) ≡ n → b' n ≡ last_or a xs → f' n ≡ head_or z ys
+    → b' (head_or z ys) ≡ n
+    → ((m : Node) → same_node m n ≡ false → same_node m (last_or a xs) ≡ false → f' m ≡ f m)
+    → ((m : Node) → same_node m n ≡ false → same_node m (head_or z ys) ≡ false → b' m ≡ b m)
+    → IsDistinct same_node (n ∷ a ∷ (xs ++ ys)) → IsDistinct same_node (n ∷ z ∷ (xs ++ ys))
+    → IsLinked f' b' a (xs ++ n ∷ ys) z
+linked_attach f' f b' b n a [] [] z l to_n from_n on back others backs d e = ((to_n, from_n), (on, back))
+linked_attach f' f b' b n a [] (y ∷ ys) z l to_n from_n on back others backs d e =
+    let o = IsDistinct-head same_node n _ d in let rest = IsDistinct-tail same_node n _ d in
+    let oz = IsDistinct-head same_node z _ (IsDistinct-tail same_node n _ e) in (
+      (to_n, from_n),
       (
-        here,
-        back_same f' f y ys b (agrees_off_two f' f n y ys others o.1.1
-            (distinct_head y ys (distinct_tail b _ e))) (others b (flip n b o.0) (distinct_head b _ e).0) p.1,
+        (on, back),
+        linked_same f' f b' b y ys z
+            (agrees_off_two f' f n a (y ∷ ys) others o.1 (IsDistinct-head same_node a _ rest))
+            (agrees_off_two b' b n y ys backs o.1.1
+            (IsDistinct-head same_node y ys (IsDistinct-tail same_node a _ rest)))
+            (backs z (flip n z (IsDistinct-head same_node n _ e).0) oz.0) l.1,
       ),
     )
-back_attach f' f n a (x ∷ xs) ys b p here there others d =
-    let o = distinct_head n _ d in let e = distinct_tail n _ d in let ob = distinct_head b _ e in (
-      others x (flip n x o.1.0)
-          (off_head x ys b (all_right (Off x) xs ys (distinct_head x _ (distinct_tail b _ e)))
-          (flip b x ob.0))
-          ∙ p.0,
-      back_attach f' f n x xs ys b p.1 here there others
-          (distinct_cons n _ (o.0, o.1.1) (distinct_cons b _ ob.1 (distinct_tail x _ (distinct_tail b _ e)))),
+linked_attach f' f b' b n a (x ∷ xs) ys z l to_n from_n on back others backs d e =
+    let o = IsDistinct-head same_node n _ d in let rest = IsDistinct-tail same_node n _ d in
+    let oz = IsDistinct-head same_node z _ (IsDistinct-tail same_node n _ e) in
+    let rest_x = IsDistinct-tail same_node a _ rest in
+    let off_x = all_right (Off x) xs ys (IsDistinct-head same_node x _ rest_x) in
+    let here = others a (flip n a o.0) (off_last a x xs ys (IsDistinct-head same_node a _ rest)) ∙ l.0.0 in
+    let there = backs x (flip n x o.1.0) (off_head x ys z off_x (flip z x oz.0)) ∙ l.0.1 in (
+      (here, there),
+      linked_attach f' f b' b n x xs ys z l.1 to_n from_n on back others backs
+          (IsDistinct-cons same_node n _ o.1 rest_x)
+          (IsDistinct-cons same_node n _ ((IsDistinct-head same_node n _ e).0, o.1.1)
+          (IsDistinct-cons same_node z _ oz.1 (IsDistinct-tail same_node x _ rest_x))),
     )
 
 -- what the links of a node in the middle are
-pub path_at : (f : Node → Node) (n a : Node) (xs ys : List Node) (b : Node) → IsPath f a (xs ++ n ∷ ys) b
-    → f n ≡ head_or b ys
-path_at f n a [] [] b p = p.1
-path_at f n a [] (y ∷ ys) b p = p.1.0
-path_at f n a (x ∷ xs) ys b p = path_at f n x xs ys b p.1
+pub linked_at : (f b : Node → Node) (n a : Node) (xs ys : List Node) (z : Node)
+    → IsLinked f b a (xs ++ n ∷ ys) z → (f n ≡ head_or z ys) × (b n ≡ last_or a xs)
+linked_at f b n a [] [] z l = (l.1.0, l.0.1)
+linked_at f b n a [] (y ∷ ys) z l = (l.1.0.0, l.0.1)
+linked_at f b n a (x ∷ xs) ys z l = linked_at f b n x xs ys z l.1
 
-pub back_at : (f : Node → Node) (n a : Node) (xs ys : List Node) (b : Node) → IsWayBack f a (xs ++ n ∷ ys) b
-    → f n ≡ last_or a xs
-back_at f n a [] ys b p = p.0
-back_at f n a (x ∷ xs) ys b p = back_at f n x xs ys b p.1
-
-pub path_first : (f : Node → Node) (a : Node) (ns : List Node) (b : Node) → IsPath f a ns b
-    → f a ≡ head_or b ns
-path_first f a [] b p = p
-path_first f a (n ∷ ns) b p = p.0
-
-pub back_last : (f : Node → Node) (a : Node) (ns : List Node) (b : Node) → IsWayBack f a ns b
-    → f b ≡ last_or a ns
-back_last f a [] b p = p
-back_last f a (n ∷ ns) b p = back_last f n ns b p.1
-
--- what stands right before the first of the rest
-pub back_cut : (f : Node → Node) (a : Node) (xs ys : List Node) (b : Node) → IsWayBack f a (xs ++ ys) b
-    → f (head_or b ys) ≡ last_or a xs
-back_cut f a xs [] b p = back_last f a xs b (subst (λ ns. IsWayBack f a ns b) (append-nil xs) p)
-back_cut f a xs (y ∷ ys) b p = back_at f y a xs ys b p
-
--- what stands right after the last of the first
-pub path_cut : (f : Node → Node) (a : Node) (xs ys : List Node) (b : Node) → IsPath f a (xs ++ ys) b
-    → f (last_or a xs) ≡ head_or b ys
-path_cut f a [] ys b p = path_first f a ys b p
-path_cut f a (x ∷ xs) ys b p = path_cut f x xs ys b p.1
+-- the last of the first and the first of the rest are linked
+pub linked_cut : (f b : Node → Node) (a : Node) (xs ys : List Node) (z : Node) → IsLinked f b a (xs ++ ys) z
+    → (f (last_or a xs) ≡ head_or z ys) × (b (head_or z ys) ≡ last_or a xs)
+linked_cut f b a [] [] z l = l
+linked_cut f b a [] (y ∷ ys) z l = l.0
+linked_cut f b a (x ∷ xs) ys z l = linked_cut f b x xs ys z l.1
 
 -- ---- walks
 pub length-walk : (f : Node → Node) (a : Node) (count : ℕ) → length (walk f a count) ≡ count
@@ -290,14 +227,14 @@ walk-chain f a [] c = refl
 walk-chain f a (n ∷ ns) c = λ i. c.0 i ∷
     (ap (λ m. walk f (f m) (length ns)) c.0 ∙ walk-chain f (f n) ns c.1) i
 
-chain_of_path : (f : Node → Node) (a : Node) (ns : List Node) (b : Node) → IsPath f a ns b
+chain_of_linked : (f b : Node → Node) (a : Node) (ns : List Node) (z : Node) → IsLinked f b a ns z
     → IsChain f (f a) ns
-chain_of_path f a [] b p = tt
-chain_of_path f a (n ∷ ns) b p = (p.0, chain_of_path f n ns b p.1)
+chain_of_linked f b a [] z l = tt
+chain_of_linked f b a (n ∷ ns) z l = (l.0.0, chain_of_linked f b n ns z l.1)
 
-pub walk-path : (f : Node → Node) (a : Node) (ns : List Node) (b : Node) → IsPath f a ns b
+pub walk-linked : (f b : Node → Node) (a : Node) (ns : List Node) (z : Node) → IsLinked f b a ns z
     → walk f (f a) (length ns) ≡ ns
-walk-path f a ns b p = walk-chain f (f a) ns (chain_of_path f a ns b p)
+walk-linked f b a ns z l = walk-chain f (f a) ns (chain_of_linked f b a ns z l)
 
 pub chain-walk : (f : Node → Node) (a : Node) (count : ℕ) → IsChain f a (walk f a count)
 unfolding walk

@@ -4,10 +4,13 @@ use Rattle.std.proofs.Common.{refl, sym, subst, ap, ◌∙◌, arith}
 use Rattle.std.specs.Prelude.{IsNone, is_some}
 use Rattle.std.specs.Map.{lookup, set_value, remove_entry}
 use Rattle.std.proofs.lemmas.Map.{lookup-set_value, length-set_value}
-use Rattle.hashlink_nodes.specs.Node.{same_node, same_node_equiv, same_node-refl, eq-same_node}
+use Rattle.hashlink_nodes.specs.Node.{same_node, same_node_equiv, eq-same_node}
 use Rattle.hashlink_nodes.specs.State.{State, Blocks, state, set_at, next_in, prev_in, held_in, store_next}
 use Rattle.hashlink_nodes.specs.State.{store_prev, hold, Adds, MakesGuard, Drops}
 use Rattle.hashlink_nodes.specs.declared.node.Node.{Node}
+use Rattle.hashlink_nodes.proofs.ArenaBlocks.{found_entry}
+use Rattle.hashlink_nodes.proofs.Cuts.{cut}
+use Rattle.hashlink_nodes.proofs.Opening.{length-removed}
 use Rattle.hashlink_nodes.proofs.Paths.{set_at_here, set_at_other}
 use Rattle.hashlink_nodes.specs.declared.held.Held.{Held}
 use Rattle.hashlink_nodes.specs.declared.pool.links.Link.{Link}
@@ -42,17 +45,6 @@ module _ {X : Type 0} where
         | false ↦ λ _. ap (λ o. cond (same_node m b.0) (Some b.1) o) (lookup_removed n m bs h)
       ]) refl
 
-  pub length_removed : (n : Node) (bs : List (Node × X)) → is_some (lookup (same_node n) bs) ≡ true
-      → length (remove_entry (same_node n) bs) + 1 ≡ length bs
-  length_removed n [] h = absurd (cc h)
-  length_removed n (b ∷ bs) h =
-      (elim (same_node n b.0) as
-      (λ (y : Bool). is_some (cond y (Some b.1) (lookup (same_node n) bs)) ≡ true
-      → length (cond y bs (b ∷ remove_entry (same_node n) bs)) + 1 ≡ length (b ∷ bs)) [
-        | true ↦ λ _. omega arith
-        | false ↦ λ k. omega (arith, length_removed n bs k)
-      ]) h
-
   -- what is read of a node whose block comes first
   seen_first : {Y : Type 0} (f : Node → Option X → Y) (n m : Node) (w : X) (o : Option X)
       → f m (cond (same_node m n) (Some w) o) ≡ cond (same_node m n) (f n (Some w)) (f m o)
@@ -73,20 +65,12 @@ module _ {X : Type 0} where
     seen_at : reads f (set_value (same_node n) bs w) ≡ set_at (reads f bs) n (f n (Some w))
     seen_at = λ i m. (ap (f m) (lookup_set n m bs b w e) ∙ seen_first f n m w (lookup (same_node m) bs)) i
 
-    same_there : f n (Some w) ≡ f n (Some b) → (m : Node)
-        → f m (cond (same_node m n) (Some w) (lookup (same_node m) bs)) ≡ f m (lookup (same_node m) bs)
-    same_there kept m =
-        (elim (same_node m n) as
-        (λ (y : Bool). same_node m n ≡ y
-        → f m (cond y (Some w) (lookup (same_node m) bs)) ≡ f m (lookup (same_node m) bs)) [
-          | true ↦ λ same. let is : m ≡ n = eq-same_node m n same in ap (λ k. f k (Some w)) is
-              ∙ kept ∙ ap (f n) (sym e) ∙ ap (λ k. f k (lookup (same_node k) bs)) (sym is)
-          | false ↦ λ _. refl
-        ]) refl
-
-    -- where the write changes nothing that is read
-    seen_same : f n (Some w) ≡ f n (Some b) → reads f (set_value (same_node n) bs w) ≡ reads f bs
-    seen_same kept = λ i m. (ap (f m) (lookup_set n m bs b w e) ∙ same_there kept m) i
+-- f, but at n what it is there
+set_same : {X : Type 0} (f : Node → X) (n : Node) (x : X) → x ≡ f n → set_at f n x ≡ f
+set_same f n x is = λ i m. (elim (same_node m n) as (λ (y : Bool). same_node m n ≡ y → cond y x (f m) ≡ f m) [
+  | true ↦ λ same. is ∙ ap f (sym (eq-same_node m n same))
+  | false ↦ λ _. refl
+]) refl i
 
 pub alter_is : {K X : Type 0} (test : K → Bool) (f : X → X) (es : List (K × X)) (b : X)
     → lookup test es ≡ Some b
@@ -101,22 +85,13 @@ alter_is test f (x ∷ es) b e =
       | false ↦ λ k. ap (λ l. x ∷ l) (alter_is test f es b k)
     ]) e
 
--- what a look-up of an arena found: the links, or the pair with its number
-pub record LinksAt {K V : Type 0} (bs : Blocks K V) (n : Node) (l : Links) : Type 0 where
-  pub block : Kept (K × V)
-  pub looked : lookup (same_node n) bs ≡ Some block
-  pub links : block.links ≡ l
+-- what is mapped to y
+pub mapped : {X Y : Type 0} (f : X → Y) (o : Option X) {y : Y} → option_map f o ≡ Some y
+    → (x : X) × (o ≡ Some x) × (f x ≡ y)
+mapped f None e = absurd (cc e)
+mapped f (Some x) e = (x, refl, cc)
 
-pub links_at : {K V : Type 0} (bs : Blocks K V) (n : Node) (l : Links)
-    → option_map (λ (k : Kept (K × V)). k.links) (lookup (same_node n) bs) ≡ Some l → LinksAt bs n l
-links_at {K} {V} bs n l e =
-    (elim (lookup (same_node n) bs) as
-    (λ (o : Option (Kept (K × V))). lookup (same_node n) bs ≡ o
-    → option_map (λ (k : Kept (K × V)). k.links) o ≡ Some l → LinksAt bs n l) [
-      | None ↦ λ _ h. absurd (cc h)
-      | Some k ↦ λ is h. record { block = k; looked = is; links = cc }
-    ]) refl e
-
+-- what a look-up of an arena found: the pair with its number
 pub record PairAt {K V : Type 0} (bs : Blocks K V) (n : Node) (p : K × V) : Type 0 where
   pub block : Kept (K × V)
   pub number : ℕ
@@ -127,23 +102,16 @@ pub record PairAt {K V : Type 0} (bs : Blocks K V) (n : Node) (p : K × V) : Typ
 pub pair_at : {K V : Type 0} (bs : Blocks K V) (n : Node) (p : K × V)
     → option_map (λ (e : ℕ × (K × V)). e.1) (entry_in (lookup (same_node n) bs)) ≡ Some p → PairAt bs n p
 pair_at {K} {V} bs n p e =
-    let Of : Option (ℕ × (K × V)) → Option (K × V) = option_map (λ (x : ℕ × (K × V)). x.1) in
-    (elim (lookup (same_node n) bs) as
-    (λ (o : Option (Kept (K × V))). lookup (same_node n) bs ≡ o → Of (entry_in o) ≡ Some p → PairAt bs n p) [
-      | None ↦ λ _ h. absurd (cc h)
-      | Some k ↦ λ is h. (elim k.entry as
-          (λ (o : Option (ℕ × (K × V))). k.entry ≡ o → Of o ≡ Some p → PairAt bs n p) [
-            | None ↦ λ _ g. absurd (cc g)
-            | Some x ↦ λ is_x g. let same : x.1 ≡ p = cc in record {
-              block = k;
-              number = x.0;
-              looked = is;
-              entry = is_x ∙ (λ i. Some (x.0, same i));
-              held = ap held_in is ∙ (λ i. option_map (λ y. held y.0 y.1.0 y.1.1) (is_x i))
-                  ∙ (λ i. Some (held x.0 (same i).0 (same i).1));
-            }
-          ]) refl h
-    ]) refl e
+    let x = mapped (λ (e : ℕ × (K × V)). e.1) (entry_in (lookup (same_node n) bs)) e in
+    let k = found_entry (lookup (same_node n) bs) (ap is_some x.1) in
+    let entry : k.0.entry ≡ Some (x.0.0, p) = sym (ap entry_in k.2) ∙ x.1 ∙ (λ i. Some (x.0.0, x.2 i)) in
+    record {
+      block = k.0;
+      number = x.0.0;
+      looked = k.2;
+      entry = entry;
+      held = ap held_in k.2 ∙ ap (option_map (λ y. held y.0 y.1.0 y.1.1)) entry;
+    }
 
 module _ {K V : Type 0} (bs : Blocks K V) (count count' : ℕ) (n : Node) (k : Kept (K × V))
     (e : lookup (same_node n) bs ≡ Some k) where
@@ -165,86 +133,95 @@ module _ {K V : Type 0} (bs : Blocks K V) (count count' : ℕ) (n : Node) (k : K
   is_set : (f : Kept (K × V) → Kept (K × V)) → changed f ≡ set_value (same_node n) bs (f k)
   is_set f = alter_is (same_node n) f bs k e
 
+  abbrev S : State K V
+  S = state bs count
+
+  -- the state where n has another block
+  changed_state : (f : Kept (K × V) → Kept (K × V)) → state (changed f) count' ≡ record {
+    next = set_at S.next n (f k).links.next.to;
+    prev = set_at S.prev n (f k).links.prev.to;
+    held = set_at S.held n (held_in (Some (f k)));
+    has = S.has;
+    size = S.size;
+    link_writes = count';
+  }
+  changed_state f = ap (λ x. state x count') (is_set f) ∙ (λ i. record {
+    next = seen_at Next_of n bs k (f k) e i;
+    prev = seen_at Prev_of n bs k (f k) e i;
+    held = seen_at Held_of n bs k (f k) e i;
+    has = (seen_at Has n bs k (f k) e ∙ set_same S.has n true (ap is_some (sym e))) i;
+    size = length-set_value (same_node n) bs (f k) i;
+    link_writes = count';
+  })
+
+  same_held : set_at S.held n (held_in (Some k)) ≡ S.held
+  same_held = set_same S.held n (held_in (Some k)) (ap held_in (sym e))
+
+  same_next : (to : Node) → to ≡ k.links.next.to → set_at S.next n to ≡ S.next
+  same_next to is = set_same S.next n to (is ∙ ap (next_in n) (sym e))
+
+  same_prev : (to : Node) → to ≡ k.links.prev.to → set_at S.prev n to ≡ S.prev
+  same_prev to is = set_same S.prev n to (is ∙ ap (prev_in n) (sym e))
+
   module _ (l : Links) (is_l : k.links ≡ l) (to : Node) (link : Link) (is_new : link ≡ record { to = to })
       (raised : count' ≡ count + 1) where
     pub stored_next : state (changed (with_links (record { next = link; prev = l.prev }))) count'
         ≡ store_next n to (state bs count)
     unfolding store_next
-    stored_next =
-        let f : Kept (K × V) → Kept (K × V) = with_links (record { next = link; prev = l.prev }) in
-        let w = f k in ap (λ x. state x count') (is_set f) ∙ (λ i. record {
-          next =
-              (seen_at Next_of n bs k w e
-              ∙ ap (λ x. set_at (state bs count).next n x) (ap (λ (x : Link). x.to) is_new))
-              i;
-          prev = seen_same Prev_of n bs k w e (ap (λ (x : Links). x.prev.to) (sym is_l)) i;
-          held = seen_same Held_of n bs k w e refl i;
-          has = seen_same Has n bs k w e refl i;
-          size = length-set_value (same_node n) bs w i;
-          link_writes = raised i;
-        })
+    stored_next = changed_state (with_links (record { next = link; prev = l.prev })) ∙ (λ i. record S {
+      next = set_at S.next n (is_new i).to;
+      prev = same_prev l.prev.to (ap (λ (x : Links). x.prev.to) (sym is_l)) i;
+      held = same_held i;
+      link_writes = raised i;
+    })
 
     pub stored_prev : state (changed (with_links (record { next = l.next; prev = link }))) count'
         ≡ store_prev n to (state bs count)
     unfolding store_prev
-    stored_prev =
-        let f : Kept (K × V) → Kept (K × V) = with_links (record { next = l.next; prev = link }) in
-        let w = f k in ap (λ x. state x count') (is_set f) ∙ (λ i. record {
-          next = seen_same Next_of n bs k w e (ap (λ (x : Links). x.next.to) (sym is_l)) i;
-          prev =
-              (seen_at Prev_of n bs k w e
-              ∙ ap (λ x. set_at (state bs count).prev n x) (ap (λ (x : Link). x.to) is_new))
-              i;
-          held = seen_same Held_of n bs k w e refl i;
-          has = seen_same Has n bs k w e refl i;
-          size = length-set_value (same_node n) bs w i;
-          link_writes = raised i;
-        })
+    stored_prev = changed_state (with_links (record { next = l.next; prev = link })) ∙ (λ i. record S {
+      next = same_next l.next.to (ap (λ (x : Links). x.next.to) (sym is_l)) i;
+      prev = set_at S.prev n (is_new i).to;
+      held = same_held i;
+      link_writes = raised i;
+    })
 
   -- the links stay, and n holds h
   pub held_anew : (f : Kept (K × V) → Kept (K × V)) → (f k).links ≡ k.links → (h : Option (Held K V))
-      → held_in (Some (f k)) ≡ h → state (changed f) count ≡ hold n h (state bs count)
+      → held_in (Some (f k)) ≡ h → state (changed f) count' ≡ hold n h (state bs count')
   unfolding hold
-  held_anew f kept h is_h = let w = f k in ap (λ x. state x count) (is_set f) ∙ (λ i. record {
-    next = seen_same Next_of n bs k w e (ap (λ (x : Links). x.next.to) kept) i;
-    prev = seen_same Prev_of n bs k w e (ap (λ (x : Links). x.prev.to) kept) i;
-    held = (seen_at Held_of n bs k w e ∙ ap (λ x. set_at (state bs count).held n x) is_h) i;
-    has = seen_same Has n bs k w e refl i;
-    size = length-set_value (same_node n) bs w i;
-    link_writes = count;
+  held_anew f kept h is_h = changed_state f ∙ (λ i. record S {
+    next = same_next (f k).links.next.to (ap (λ (x : Links). x.next.to) kept) i;
+    prev = same_prev (f k).links.prev.to (ap (λ (x : Links). x.prev.to) kept) i;
+    held = set_at S.held n (is_h i);
+    link_writes = count';
   })
-
-  -- what is then looked up
-  pub looked_anew : (f : Kept (K × V) → Kept (K × V)) → lookup (same_node n) (changed f) ≡ Some (f k)
-  looked_anew f =
-      ap (lookup (same_node n)) (is_set f) ∙ lookup_set n n bs k (f k) e
-      ∙ ap (λ y. cond y (Some (f k)) (lookup (same_node n) bs)) (same_node-refl n)
 
   -- both links of n, which is new, lead to n itself
   pub looped : (s : State K V) (next prev : Link) → next ≡ record { to = n } → prev ≡ record { to = n }
-      → Adds n None s (state bs count)
-      → MakesGuard n s (state (changed (with_links (record { next = next; prev = prev }))) count)
-  looped s next prev is_next is_prev a =
-      let f : Kept (K × V) → Kept (K × V) = with_links (record { next = next; prev = prev }) in let w = f k in
-      let t = state (set_value (same_node n) bs w) count in
-      let after : t.next ≡ set_at (state bs count).next n n
-      = seen_at Next_of n bs k w e
-      ∙ ap (λ x. set_at (state bs count).next n x) (ap (λ (l : Link). l.to) is_next) in
-      let before : t.prev ≡ set_at (state bs count).prev n n
-      = seen_at Prev_of n bs k w e
-      ∙ ap (λ x. set_at (state bs count).prev n x) (ap (λ (l : Link). l.to) is_prev) in
-      subst (λ x. MakesGuard n s (state x count)) (sym (is_set f)) (record {
+      → count' ≡ count → Adds n None s (state bs count)
+      → MakesGuard n s (state (changed (with_links (record { next = next; prev = prev }))) count')
+  looped s next prev is_next is_prev is_count a =
+      let is : state (changed (with_links (record { next = next; prev = prev }))) count' ≡ record S {
+        next = set_at S.next n n;
+        prev = set_at S.prev n n;
+      } = changed_state (with_links (record { next = next; prev = prev })) ∙ (λ i. record S {
+        next = set_at S.next n (is_next i).to;
+        prev = set_at S.prev n (is_prev i).to;
+        held = same_held i;
+        link_writes = is_count i;
+      }) in
+      subst (MakesGuard n s) (sym is) (record {
         adds = record {
           absent = a.absent;
-          next = λ m h. ap (λ g. g m) after ∙ set_at_other (state bs count).next n m n h ∙ a.next m h;
-          prev = λ m h. ap (λ g. g m) before ∙ set_at_other (state bs count).prev n m n h ∙ a.prev m h;
-          held = seen_same Held_of n bs k w e refl ∙ a.held;
-          has = seen_same Has n bs k w e refl ∙ a.has;
-          size = length-set_value (same_node n) bs w ∙ a.size;
+          next = λ m h. set_at_other S.next n m n h ∙ a.next m h;
+          prev = λ m h. set_at_other S.prev n m n h ∙ a.prev m h;
+          held = a.held;
+          has = a.has;
+          size = a.size;
           link_writes = a.link_writes;
         };
-        next = ap (λ g. g n) after ∙ set_at_here (state bs count).next n n;
-        prev = ap (λ g. g n) before ∙ set_at_here (state bs count).prev n n;
+        next = set_at_here S.next n n;
+        prev = set_at_here S.prev n n;
       })
 
 module _ {K V : Type 0} where
@@ -283,26 +260,20 @@ module _ {K V : Type 0} where
         prev = λ m h. ap (prev_in m) (at m h);
         held = λ m h. ap held_in (at m h);
         has = λ m h. ap is_some (at m h);
-        size = ap (λ (cs : Blocks K V). length cs + 1) is ∙ length_removed n bs there;
+        size = ap (λ (cs : Blocks K V). length cs + 1) is ∙ length-removed bs (cut bs n there);
         link_writes = refl;
       }
 
   -- a store changes no node's block
-  pub has_after_next : (n to : Node) (s : State K V) → (store_next n to s).has ≡ s.has
+  pub next_has : {s' : State K V} (n to : Node) (s : State K V) → s' ≡ store_next n to s → (m : Node)
+      → s.has m ≡ true → s'.has m ≡ true
   unfolding store_next
-  has_after_next n to s = refl
+  next_has n to s is m h = ap (λ (t : State K V). t.has m) is ∙ h
 
-pub alter_twice : {K X : Type 0} (test : K → Bool) (f g : X → X) (es : List (K × X))
-    → alter test f (alter test g es) ≡ alter test (λ x. f (g x)) es
-alter_twice test f g [] = refl
-alter_twice test f g (x ∷ es) =
-    (elim (test x.0) as
-    (λ (y : Bool). test x.0 ≡ y → alter test f (cond y ((x.0, g x.1) ∷ es) (x ∷ alter test g es))
-    ≡ cond y ((x.0, f (g x.1)) ∷ es) (x ∷ alter test (λ x. f (g x)) es)) [
-      | true ↦ λ h. ap (λ y. cond y ((x.0, f (g x.1)) ∷ es) ((x.0, g x.1) ∷ alter test f es)) h
-      | false ↦ λ h. ap (λ y. cond y ((x.0, f x.1) ∷ alter test g es) (x ∷ alter test f (alter test g es))) h
-          ∙ ap (λ l. x ∷ l) (alter_twice test f g es)
-    ]) refl
+  pub prev_has : {s' : State K V} (n to : Node) (s : State K V) → s' ≡ store_prev n to s → (m : Node)
+      → s.has m ≡ true → s'.has m ≡ true
+  unfolding store_prev
+  prev_has n to s is m h = ap (λ (t : State K V). t.has m) is ∙ h
 
 -- a node that holds a pair holds another
 module _ {K V : Type 0} (bs : Blocks K V) (count : ℕ) (n : Node) (p : K × V) (at : PairAt bs n p) where
@@ -310,7 +281,7 @@ module _ {K V : Type 0} (bs : Blocks K V) (count : ℕ) (n : Node) (p : K × V) 
       → state (alter (same_node n) (with_pair w) bs) count
       ≡ hold n (option_map h (held_in (lookup (same_node n) bs))) (state bs count)
   pair_anew w h is_h =
-      held_anew bs count 0 n at.block at.looked (with_pair w) refl
+      held_anew bs count count n at.block at.looked (with_pair w) refl
       (option_map h (held_in (lookup (same_node n) bs)))
       (ap (λ (x : Option (ℕ × (K × V))). held_in (Some (with_pair w (kept at.block.links x)))) at.entry
       ∙ ap (λ (x : Held K V). Some x) (sym is_h) ∙ sym (ap (option_map h) at.held))
@@ -331,7 +302,7 @@ pub value_anew : {K V : Type 0} (c : Pool K V) (n : Node) (w : V) (p : K × V)
     (at : PairAt c.arena.blocks n p)
     → state_of (pool_with c n w) ≡ hold n (Some (held at.number p.0 w)) (state_of c)
 value_anew {K} {V} c n w p at =
-    held_anew c.arena.blocks c.writes.count 0 n at.block at.looked (kept_with w) refl
+    held_anew c.arena.blocks c.writes.count c.writes.count n at.block at.looked (kept_with w) refl
     (Some (held at.number p.0 w))
     (ap (λ (x : Option (ℕ × (K × V))). held_in (Some (kept_with w (kept at.block.links x)))) at.entry)
 
@@ -339,13 +310,8 @@ value_anew {K} {V} c n w p at =
 pub block_found : {K V : Type 0} (c : Pool K V) (n : Node) (h : Held K V) → (state_of c).held n ≡ Some h
     → (at : PairAt c.arena.blocks n (pair_of h)) × (held at.number h.key h.value ≡ h)
 block_found {K} {V} c n h e =
-    let Of : Option (ℕ × (K × V)) → Option (K × V) = option_map (λ (x : ℕ × (K × V)). x.1) in
-    let o = entry_in (lookup (same_node n) c.arena.blocks) in
-    let pair : Of o ≡ Some (pair_of h)
-    = (elim o as (λ (x : Option (ℕ × (K × V))). option_map (λ y. held y.0 y.1.0 y.1.1) x ≡ Some h
-    → Of x ≡ Some (pair_of h)) [
-      | None ↦ λ g. absurd (cc g)
-      | Some x ↦ λ g. let same : held x.0 x.1.0 x.1.1 ≡ h = cc in λ i. Some (pair_of (same i))
-    ]) e in
+    let x = mapped (λ (e : ℕ × (K × V)). held e.0 e.1.0 e.1.1)
+    (entry_in (lookup (same_node n) c.arena.blocks)) e in
+    let pair = ap (option_map (λ (e : ℕ × (K × V)). e.1)) x.1 ∙ (λ i. Some (pair_of (x.2 i))) in
     let at = pair_at c.arena.blocks n (pair_of h) pair in
     let same : Some (held at.number h.key h.value) ≡ Some h = sym at.held ∙ e in (at, cc)

@@ -1,22 +1,20 @@
 -- How the links of the blocks make a ring and a chain of spare nodes.
 use Rattle.std.specs.Prelude.{◌≡◌, ℕ, zero, suc, ◌+◌, ◌^◌, ◌<◌, true, List, [], ◌∷◌, ◌++◌, length, Option}
-use Rattle.std.specs.Prelude.{None, Some, is_some}
+use Rattle.std.specs.Prelude.{None, Some}
 use Rattle.std.specs.List.{AllByRecursion, IsDistinct}
+use Rattle.std.specs.Map.{keys_of}
 use Rattle.hashlink_nodes.specs.declared.node.Node.{Node}
 use Rattle.hashlink_nodes.specs.declared.held.Held.{Held}
 use Rattle.hashlink_nodes.specs.Node.{same_node}
 use Rattle.hashlink_nodes.specs.Ring.{Ring}
 use Rattle.hashlink_nodes.specs.State.{State}
+use Rattle.hashlink_nodes.specs.Pool.{state_of}
+use Rattle.hashlink_nodes.specs.declared.nodes.Nodes.TheInside.{Inside}
 
--- f leads from a along the nodes to b
-abbrev pub IsPath : (Node → Node) → Node → List Node → Node → Type 0
-IsPath f a [] b = f a ≡ b
-IsPath f a (n ∷ ns) b = (f a ≡ n) × IsPath f n ns b
-
--- f leads back from b along the nodes to a
-abbrev pub IsWayBack : (Node → Node) → Node → List Node → Node → Type 0
-IsWayBack f a [] b = f b ≡ a
-IsWayBack f a (n ∷ ns) b = (f n ≡ a) × IsWayBack f n ns b
+-- f leads from a along the nodes to z, and b leads back
+abbrev pub IsLinked : (Node → Node) → (Node → Node) → Node → List Node → Node → Type 0
+IsLinked f b a [] z = (f a ≡ z) × (b z ≡ a)
+IsLinked f b a (n ∷ ns) z = ((f a ≡ n) × (b n ≡ a)) × IsLinked f b n ns z
 
 -- f leads from a, the first, along the nodes
 abbrev pub IsChain : (Node → Node) → Node → List Node → Type 0
@@ -38,18 +36,23 @@ module _ {K V : Type 0} where
   entries_of held [] = []
   entries_of held (n ∷ ns) = entry_of n (held n) (entries_of held ns)
 
-  -- the ring goes from the guard along the nodes and back to it, and the spare ones are chained; no other
-  -- node has a block
-  pub record IsShaped (s : State K V) (guard first : Node) (nodes free : List Node) : Type 0 where
-    pub forward : IsPath s.next guard nodes guard
-    pub backward : IsWayBack s.prev guard nodes guard
+  -- the ring goes from the guard along the nodes and back to it, and the spare ones are chained; beside these
+  -- only the nodes `out` have a block
+  pub record IsShaped (s : State K V) (out : List Node) (guard first : Node)
+      (nodes free : List Node) : Type 0 where
+    pub links : IsLinked s.next s.prev guard nodes guard
     pub chain : IsChain s.next first free
-    pub apart : IsDistinct same_node (guard ∷ (nodes ++ free))
-    pub full : AllByRecursion (λ n. is_some (s.held n) ≡ true) nodes
+    pub apart : IsDistinct same_node (out ++ guard ∷ (nodes ++ free))
     pub bare : AllByRecursion (λ n. s.held n ≡ None) (guard ∷ free)
-    pub there : AllByRecursion (λ n. s.has n ≡ true) (guard ∷ (nodes ++ free))
-    pub size : s.size ≡ length nodes + length free + 1
-    pub few : length nodes + length free < 2 ^ 63
+    pub there : AllByRecursion (λ n. s.has n ≡ true) (out ++ guard ∷ (nodes ++ free))
+    pub size : s.size ≡ length out + length nodes + length free + 1
+    pub few : length out + length nodes + length free < 2 ^ 63
+
+  -- it is what a contract sees as v
+  pub record IsRing (s : State K V) (out : List Node) (guard first : Node) (v : Ring K V) : Type 0 where
+    pub shape : IsShaped s out guard first (keys_of v.entries) v.free
+    pub full : AllByRecursion (λ e. s.held e.0 ≡ Some e.1) v.entries
+    pub writes : s.link_writes ≡ v.link_writes
 
   -- the nodes in use, and the spare ones
   abbrev pub nodes_of : State K V → Option Node → ℕ → List Node
@@ -60,17 +63,24 @@ module _ {K V : Type 0} where
   free_of s None first spare = []
   free_of s (Some guard) first spare = walk s.next first spare
 
-  -- before the guard is made there is no block
-  abbrev pub IsSound : State K V → Option Node → Node → ℕ → ℕ → Type 0
-  IsSound s None first len spare = (len ≡ 0) × (spare ≡ 0) × (s.size ≡ 0)
-  IsSound s (Some guard) first len spare =
-      IsShaped s guard first (walk s.next (s.next guard) len) (walk s.next first spare)
-
   -- what a contract sees
-  abbrev pub ring_of : State K V → Option Node → Node → ℕ → ℕ → Ring K V
-  ring_of s guard first len spare =
+  abbrev pub ring_at : State K V → Option Node → Node → ℕ → ℕ → Ring K V
+  ring_at s guard first len spare =
       record {
         entries = entries_of s.held (nodes_of s guard len);
         free = free_of s guard first spare;
         link_writes = s.link_writes;
       }
+
+  -- before the guard is made there is no block
+  abbrev pub SoundAt : State K V → Option Node → Node → ℕ → ℕ → Type 0
+  SoundAt s None first len spare = (len ≡ 0) × (spare ≡ 0) × (s.size ≡ 0)
+  SoundAt s (Some guard) first len spare =
+      (length (ring_at s (Some guard) first len spare).entries ≡ len)
+      × IsRing s [] guard first (ring_at s (Some guard) first len spare)
+
+  pub record IsSound (n : Inside K V) : Type 0 where
+    pub at : SoundAt (state_of n.pool) n.guard n.first_spare n.len n.spare
+
+  abbrev pub ring_of : Inside K V → Ring K V
+  ring_of n = ring_at (state_of n.pool) n.guard n.first_spare n.len n.spare

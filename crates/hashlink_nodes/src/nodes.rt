@@ -38,12 +38,11 @@ impl<K, V> Model for Nodes<K, V> {
 
     ghost Value = { Ring K V };
 
-    ghost use Rattle.hashlink_nodes.specs.Pool.{state_of};
     ghost use Rattle.hashlink_nodes.specs.Shape.{ring_of, IsSound};
 
-    ghost view = { λ n. ring_of (state_of n.pool) n.guard n.first_spare n.len n.spare };
+    ghost view = { ring_of };
 
-    ghost invariant = { λ n. IsSound (state_of n.pool) n.guard n.first_spare n.len n.spare };
+    ghost invariant = { IsSound };
 }
 
 impl<K, V> Nodes<K, V> {

@@ -6,7 +6,7 @@ ghost use Rattle.hashlink_nodes.specs.State.{Drops};
 ghost use Rattle.hashlink_nodes.specs.State.{GuardIs};
 ghost use Rattle.std.specs.Option.{option_map};
 ghost use Rattle.std.specs.Borrow.{sem};
-ghost use Rattle.hashlink_nodes.specs.Ring.{held, pair_of, with_value, with_key, with_number};
+ghost use Rattle.hashlink_nodes.specs.Ring.{held, pair_of, with_key};
 ghost use Rattle.hashlink_nodes.specs.Pool.{state_of};
 
 mod links;
@@ -95,18 +95,6 @@ impl<K, V> Pool<K, V> {
         (&pair.0, &mut pair.1)
     }
 
-    /// Replaces the value, and returns the old one.
-    #[inline]
-    pub(crate) fn replace_value(&mut self, node: Node, value: V) -> V
-        requires { IsSome ((state_of self.old).held node) }
-        ensures value { option_map (λ h. h.value) ((state_of self.old).held node) ≡ Some result }
-        ensures is { state_of self.new
-            ≡ hold node (option_map (λ h. with_value h value) ((state_of self.old).held node))
-            (state_of self.old) }
-    {
-        mem::replace(&mut self.arena.pair_mut(node).1, value)
-    }
-
     /// Replaces the key, and returns the old one.
     pub(crate) fn replace_key(&mut self, node: Node, key: K) -> K
         requires { IsSome ((state_of self.old).held node) }
@@ -116,17 +104,6 @@ impl<K, V> Pool<K, V> {
             (state_of self.old) }
     {
         mem::replace(&mut self.arena.pair_mut(node).0, key)
-    }
-
-    pub(crate) fn set_number(&mut self, node: Node, number: usize)
-        requires held { IsSome ((state_of self.old).held node) }
-        requires small { number < 2 ^ 48 }
-        ensures { state_of self.new
-            ≡ hold node (option_map (λ h. with_number h number) ((state_of self.old).held node))
-            (state_of self.old) }
-    {
-        let pair = self.arena.take(node);
-        self.arena.fill(node, number, pair);
     }
 
     /// Returns the guard, and allocates it if there is none.

@@ -8,6 +8,7 @@ ghost use Rattle.hashlink_nodes.specs.Ring.{pair_of, with_value, with_key, with_
 
 use super::Nodes;
 use crate::node::Node;
+use std::mem;
 
 impl<K, V> Nodes<K, V> {
     ghost use Rattle.hashlink_nodes.specs.NodesLends.{LendsValueAt};
@@ -21,7 +22,8 @@ impl<K, V> Nodes<K, V> {
         ensures free { self.new.free ≡ self.old.free }
         ensures link_writes { self.new.link_writes ≡ self.old.link_writes }
     {
-        self.pool.set_number(node, number);
+        let (key, value) = self.pool.take(node);
+        self.pool.fill(node, number, key, value);
     }
 
     /// Replaces the value of the node's entry, and returns the old one.
@@ -33,7 +35,7 @@ impl<K, V> Nodes<K, V> {
         ensures free { self.new.free ≡ self.old.free }
         ensures link_writes { self.new.link_writes ≡ self.old.link_writes }
     {
-        self.pool.replace_value(node, value)
+        mem::replace(self.entry_mut(node).1, value)
     }
 
     /// Replaces the key of the node's entry, and returns the old one.

@@ -1,18 +1,18 @@
 -- `fill` writes a pair and its number into the room of a block.
-use Rattle.hashlink_nodes.proofs.Walks.{◌≡◌, ℕ, ◌+◌, ◌∙◌, ◌^◌, ◌<◌, List, [], ◌∷◌, ◌++◌, refl, sym, ap, subst}
+use Rattle.hashlink_nodes.proofs.Walks.{◌≡◌, ℕ, ◌+◌, ◌∙◌, ◌^◌, ◌<◌, List, [], ◌∷◌, ◌++◌, refl, sym, ap}
 use Rattle.hashlink_nodes.proofs.Walks.{Option, Some, None, IsSome, lookup, remove_entry, full_share, Ty}
-use Rattle.hashlink_nodes.proofs.Walks.{a_type, ty_int, w64, inst_fn, Val, vint, vptr, vunit, SProp, ent, emp}
-use Rattle.hashlink_nodes.proofs.Walks.{never, id⊢, ftrue, fat, froom, flft, fsep, WpFn, ‵, raw, ◌⊛◌, at_ret}
-use Rattle.hashlink_nodes.proofs.Walks.{◌$◌, ◌∵◌, !, qed, by, move, keep, drop, split, split3, group, fsplit}
-use Rattle.hashlink_nodes.proofs.Walks.{fsplit3, fjoin, fjoin3, rewrite, use0, use1, use2, suffices, feq_i}
-use Rattle.hashlink_nodes.proofs.Walks.{feq_l, stop, fld, of_opd, addr, store, init, assigns, assigns_last}
-use Rattle.hashlink_nodes.proofs.Walks.{first, blocks, exec, returns, enter, alloc_all, pass_all, free_all}
-use Rattle.hashlink_nodes.proofs.Walks.{look_at, get, get_in, through, sets, is, env, sub, whole, fact}
-use Rattle.hashlink_nodes.proofs.Walks.{fact_i, ◌⊑◌, tables, part_in, usize, no, yes, lone, part_at, uint_in}
-use Rattle.hashlink_nodes.proofs.Walks.{uint_out, RattleType, owns, Ptr, ptr_val, in_a_block, lies_at}
-use Rattle.hashlink_nodes.proofs.Walks.{types_at, plain, param, layouts, param_laws, nothing, heard, opens}
-use Rattle.hashlink_nodes.proofs.Walks.{closes, Stays, stay_dropped, stay_ref, walk_of, Goes-dropped}
-use Rattle.hashlink_nodes.proofs.Walks.{Goes-ref, after, word, word-Good, proved_at, leaves}
+use Rattle.hashlink_nodes.proofs.Walks.{a_type, ty_int, w64, inst_fn, Val, vint, vptr, vunit, SProp, never}
+use Rattle.hashlink_nodes.proofs.Walks.{id⊢, ftrue, fat, froom, flft, fsep, WpFn, ‵, raw, ◌⊛◌, at_ret, ◌$◌}
+use Rattle.hashlink_nodes.proofs.Walks.{◌∵◌, !, qed, by, move, keep, drop, split, split3, group, fsplit}
+use Rattle.hashlink_nodes.proofs.Walks.{fsplit3, fjoin, fjoin3, rewrite, use1, use2, feq_i, feq_l, stop, fld}
+use Rattle.hashlink_nodes.proofs.Walks.{of_opd, addr, store, init, assigns, assigns_last, first, blocks, exec}
+use Rattle.hashlink_nodes.proofs.Walks.{returns, enter, alloc_all, pass_all, free_all, look_at, get, get_in}
+use Rattle.hashlink_nodes.proofs.Walks.{through, sets, is, env, sub, whole, fact, ◌⊑◌, tables, part_in, usize}
+use Rattle.hashlink_nodes.proofs.Walks.{no, yes, lone, part_at, uint_in, uint_out, RattleType, owns, Ptr}
+use Rattle.hashlink_nodes.proofs.Walks.{ptr_val, in_a_block, lies_at, types_at, plain, param, layouts}
+use Rattle.hashlink_nodes.proofs.Walks.{param_laws, nothing, heard, opens, closes, Stays, stay_dropped}
+use Rattle.hashlink_nodes.proofs.Walks.{stay_ref, walk_of, Goes-dropped, Goes-ref, after, word, word-Good}
+use Rattle.hashlink_nodes.proofs.Walks.{proved_at, leaves}
 use types.Kit.{flt_l}
 use types.Run.{unit_lit}
 use Rattle.hashlink_nodes.specs.Node.{same_node}
@@ -22,7 +22,7 @@ use Rattle.hashlink_nodes.specs.Ownership.{is_small, number_of, number_offset, l
 use Rattle.hashlink_nodes.specs.Ownership.{free_right}
 use Rattle.hashlink_nodes.specs.declared.arena.Arena.{Arena}
 use Rattle.hashlink_nodes.specs.contracts.arena.Arena.{the_row}
-use Rattle.hashlink_nodes.proofs.ArenaSteps.{Nd, word_had, told}
+use Rattle.hashlink_nodes.proofs.ArenaSteps.{Nd, word_had, told, args_are, states}
 use Rattle.hashlink_nodes.proofs.ArenaBlocks.{found, blocks_cut, blocks_glue, small_shown}
 use Rattle.hashlink_nodes.specs.contracts.arena.Arena.fill.{ended, clauses}
 use Rattle.hashlink_nodes.specs.contracts.arena.Arena.fill.Key.{name as #self}
@@ -80,13 +80,8 @@ fill_spec 𝓤 𝓛 𝓜 𝓡 wired T L =
     fsplit ! $ told R (param_laws 0 T L) ! pair z.0.4.1.1.1.0 (λ v e3 good.
     -- [what the pair owns; nothing; obs; the borrow; the tokens]
     move ! (1 ∷ []) $ drop ! $ move ! (3 ∷ []) $ split3 ! $
-    suffices ! (Run (vptr rb ro ∷ word n.at ∷ vint w64 number ∷ v ∷ []))
-    (subst
-    (λ (us : List Val × List Val × List Val × List Val).
-    ent 𝓤 (Run (vptr rb ro ∷ word n.at ∷ vint w64 number ∷ v ∷ []))
-    (Run (us.0 ++ (us.1 ++ (us.2 ++ (us.3 ++ []))))))
-    (λ j. (sym e0 j, sym e1 j, sym e2 j, sym e3 j)) (id⊢ 𝓤 _))
-    $
+    args_are ! (λ (us : List Val × List Val × List Val × List Val). Run
+    (us.0 ++ (us.1 ++ (us.2 ++ (us.3 ++ []))))) (λ j. (sym e0 j, sym e1 j, sym e2 j, sym e3 j)) $
     enter ! 𝓣.C 𝓣.Λ fn (vptr rb ro ∷ word n.at ∷ vint w64 number ∷ v ∷ []) Post $ alloc_all !
     (λ l. pass_all ! refl ((tt, tt), (word-Good [] n.at, ((tt, record { fits = fits }), (good, tt)))) $
     let Ev = env fn.locals l in
@@ -130,8 +125,7 @@ fill_spec 𝓤 𝓛 𝓜 𝓡 wired T L =
     (blocks_glue R 𝓛 n a.blocks k filled is_k) $
     move ! (1 ∷ 0 ∷ []) $ fjoin ! $ move ! (1 ∷ 0 ∷ []) $ closes ! tt Ar new vs rb ro $
     -- [obs; the borrow; its token; a token; nothing]
-    let Now : Type 0 = new.blocks ≡ alter (same_node n) filled a.blocks in
-    use0 𝓛 (raw (fact 𝓤 Now)) (fact_i 𝓤 Now (emp 𝓤) refl) $
+    states ! {φ = new.blocks ≡ alter (same_node n) filled a.blocks} refl $
     feq_i ! (List Val) (vunit ∷ []) (vunit ∷ []) refl $ move ! (4 ∷ 5 ∷ 6 ∷ []) $ group ! 3 $
     nothing ! $ nothing ! $ fjoin ! $ nothing ! $ fjoin ! $ nothing ! $ fjoin ! $ move ! (4 ∷ 5 ∷ []) $
     feq_i ! (List Val) z.0.4.0 (vptr rb ro ∷ []) e0 $ fjoin3 ! $ fjoin ! $

@@ -1,17 +1,17 @@
 -- `give_back` takes a block out of those that the arena owns.
-use Rattle.hashlink_nodes.proofs.Walks.{◌≡◌, ℕ, ◌+◌, ◌∙◌, ◌^◌, List, [], ◌∷◌, ◌++◌, refl, sym, ap, subst}
-use Rattle.hashlink_nodes.proofs.Walks.{Option, None, IsSome, lookup, remove_entry, full_share, Ty, a_type}
-use Rattle.hashlink_nodes.proofs.Walks.{ty_int, w64, bare, inst_fn, Val, vint, vptr, SProp, ent, emp, never}
-use Rattle.hashlink_nodes.proofs.Walks.{id⊢, ftrue, fat, froom, flft, fsep, WpFn, ‵, raw, ◌⊛◌, some, ◌$◌, ◌∵◌}
-use Rattle.hashlink_nodes.proofs.Walks.{ !, qed, by, move, keep, drop, split, split3, group, fsplit, fsplit3}
-use Rattle.hashlink_nodes.proofs.Walks.{fjoin, fjoin3, pick, rewrite, use0, use1, suffices, feq_i, feq_l}
-use Rattle.hashlink_nodes.proofs.Walks.{stop, fld, of_opd, and_then, no_more, returns, enter, alloc_all}
-use Rattle.hashlink_nodes.proofs.Walks.{pass_all, free_all, look_at, get, get_in, sets, is, sub, whole, agg}
-use Rattle.hashlink_nodes.proofs.Walks.{fact, fact_i, ◌⊑◌, tables, part_out, usize, yes, lone, uint_out}
-use Rattle.hashlink_nodes.proofs.Walks.{RattleType, owns, Ptr, block_ptr, ptr_val, in_a_block, lies_at}
-use Rattle.hashlink_nodes.proofs.Walks.{types_at, plain, param, layouts, nothing, heard, opens, closes, Stays}
-use Rattle.hashlink_nodes.proofs.Walks.{stay_dropped, stay_ref, walk_of, Goes-dropped, Goes-ref, word}
-use Rattle.hashlink_nodes.proofs.Walks.{word-Good, proved_at, leaves, ghosts, handle_tells}
+use Rattle.hashlink_nodes.proofs.Walks.{◌≡◌, ℕ, ◌+◌, ◌∙◌, ◌^◌, List, [], ◌∷◌, ◌++◌, refl, sym, ap, Option}
+use Rattle.hashlink_nodes.proofs.Walks.{None, IsSome, lookup, remove_entry, full_share, Ty, a_type, ty_int}
+use Rattle.hashlink_nodes.proofs.Walks.{w64, bare, inst_fn, Val, vint, vptr, SProp, never, id⊢, ftrue, fat}
+use Rattle.hashlink_nodes.proofs.Walks.{froom, flft, fsep, WpFn, ‵, raw, ◌⊛◌, some, ◌$◌, ◌∵◌, !, qed, by}
+use Rattle.hashlink_nodes.proofs.Walks.{move, keep, drop, split, split3, group, fsplit, fsplit3, fjoin}
+use Rattle.hashlink_nodes.proofs.Walks.{fjoin3, pick, rewrite, use1, feq_i, feq_l, stop, fld, of_opd}
+use Rattle.hashlink_nodes.proofs.Walks.{and_then, no_more, returns, enter, alloc_all, pass_all, free_all}
+use Rattle.hashlink_nodes.proofs.Walks.{look_at, get, get_in, sets, is, sub, whole, agg, fact, ◌⊑◌, tables}
+use Rattle.hashlink_nodes.proofs.Walks.{part_out, usize, yes, lone, uint_out, RattleType, owns, Ptr}
+use Rattle.hashlink_nodes.proofs.Walks.{block_ptr, ptr_val, in_a_block, lies_at, types_at, plain, param}
+use Rattle.hashlink_nodes.proofs.Walks.{layouts, nothing, heard, opens, closes, Stays, stay_dropped, stay_ref}
+use Rattle.hashlink_nodes.proofs.Walks.{walk_of, Goes-dropped, Goes-ref, word, word-Good, proved_at, leaves}
+use Rattle.hashlink_nodes.proofs.Walks.{ghosts, handle_tells}
 use Rattle.hashlink_nodes.specs.Node.{same_node}
 use Rattle.hashlink_nodes.specs.Kept.{entry_in, number_word}
 use Rattle.hashlink_nodes.specs.Ownership.{Links, blocks_own, block_owns, pair_owns, pair_room, is_small}
@@ -19,7 +19,7 @@ use Rattle.hashlink_nodes.specs.Ownership.{number_of, number_offset, links_of, l
 use Rattle.hashlink_nodes.specs.Ownership.{free_right}
 use Rattle.hashlink_nodes.specs.declared.arena.Arena.{Arena}
 use Rattle.hashlink_nodes.specs.contracts.arena.Arena.{the_row}
-use Rattle.hashlink_nodes.proofs.ArenaSteps.{Nd, word_had}
+use Rattle.hashlink_nodes.proofs.ArenaSteps.{Nd, word_had, args_are, states}
 use Rattle.hashlink_nodes.proofs.ArenaBlocks.{found, blocks_cut}
 use Rattle.std.specs.contracts.alloc.Global as heap
 use Rattle.std.proofs.alloc.Global.TheLaws as heap_laws
@@ -74,12 +74,8 @@ give_back_spec 𝓤 𝓛 𝓜 𝓡 wired T L =
     (λ e1. fsplit ! $ handle_tells (al R Z LZ ghosts) ! alloc z.0.4.1.1.0 (λ h e2 fits.
     -- [the handle; nothing; obs; the borrow; the tokens]
     move ! (1 ∷ []) $ drop ! $ move ! (3 ∷ []) $ split3 ! $
-    suffices ! (Run (vptr rb ro ∷ word n.at ∷ h ∷ []))
-    (subst
-    (λ (us : List Val × List Val × List Val). ent 𝓤 (Run (vptr rb ro ∷ word n.at ∷ h ∷ []))
-    (Run (us.0 ++ (us.1 ++ (us.2 ++ [])))))
-    (λ j. (sym e0 j, sym e1 j, sym e2 j)) (id⊢ 𝓤 _))
-    $
+    args_are ! (λ (us : List Val × List Val × List Val). Run (us.0 ++ (us.1 ++ (us.2 ++ []))))
+    (λ j. (sym e0 j, sym e1 j, sym e2 j)) $
     enter ! 𝓣.C 𝓣.Λ fn (vptr rb ro ∷ word n.at ∷ h ∷ []) Post $ alloc_all !
     (λ l. pass_all ! refl ((tt, tt), (word-Good [] n.at, (fits, tt))) $
     move ! (4 ∷ 5 ∷ 0 ∷ []) $ opens ! tt Ar {h = a} rb ro
@@ -116,8 +112,7 @@ give_back_spec 𝓤 𝓛 𝓜 𝓡 wired T L =
     ro $
     -- [obs; the borrow; its token; the block; a token; nothing; the handle]
     move ! (3 ∷ 6 ∷ []) $ loose_in R Z LZ ghosts ! b o h alloc $
-    use0 𝓛 (raw (fact 𝓤 (new.blocks ≡ remove_entry (same_node n) a.blocks)))
-    (fact_i 𝓤 (new.blocks ≡ remove_entry (same_node n) a.blocks) (emp 𝓤) refl) $ move ! (1 ∷ 0 ∷ []) $
+    states ! {φ = new.blocks ≡ remove_entry (same_node n) a.blocks} refl $ move ! (1 ∷ 0 ∷ []) $
     move ! (4 ∷ 5 ∷ 6 ∷ []) $ group ! 3 $
     nothing ! $ nothing ! $ fjoin ! $ nothing ! $ fjoin ! $ move ! (4 ∷ 5 ∷ []) $ feq_i ! (List Val) z.0.4.0
     (vptr rb ro ∷ []) e0 $ fjoin3 ! $ fjoin ! $

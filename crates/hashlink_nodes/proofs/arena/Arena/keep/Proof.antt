@@ -1,23 +1,22 @@
 -- `keep` adds a block to those that the arena owns. It lies apart from them, since it is owned beside them.
 use Rattle.hashlink_nodes.proofs.Walks.{◌≡◌, ◌+◌, ◌^◌, List, [], ◌∷◌, ◌++◌, refl, sym, subst, Option, None}
 use Rattle.hashlink_nodes.proofs.Walks.{lookup, full_share, lit<, Ty, a_type, w64, inst_fn, Val, vptr, SProp}
-use Rattle.hashlink_nodes.proofs.Walks.{ent, emp, id⊢, ftrue, froom, flft, WpFn, ‵, raw, ◌⊛◌, at_ret, ◌$◌}
-use Rattle.hashlink_nodes.proofs.Walks.{◌∵◌, !, qed, by, move, keep, drop, split, split3, join, group, fsplit}
-use Rattle.hashlink_nodes.proofs.Walks.{fsplit3, fjoin, fjoin3, use0, use1, use2, suffices, feq_i, feq_l}
-use Rattle.hashlink_nodes.proofs.Walks.{stop, fld, of_opd, addr, init, assigns, assigns_last, first, blocks}
-use Rattle.hashlink_nodes.proofs.Walks.{exec, and_then, no_more, returns, enter, alloc_all, pass_all}
-use Rattle.hashlink_nodes.proofs.Walks.{free_all, look_at, get, get_in, through, sets, env, sub, whole, agg}
-use Rattle.hashlink_nodes.proofs.Walks.{fact, fact_i, tables, part_in, usize, no, yes, lone, part_at, uint_in}
-use Rattle.hashlink_nodes.proofs.Walks.{RattleType, owns, block_ptr, types_at, plain, param, layouts, nothing}
-use Rattle.hashlink_nodes.proofs.Walks.{opens, closes, Stays, stay_dropped, stay_ref, walk_of, Goes-dropped}
-use Rattle.hashlink_nodes.proofs.Walks.{Goes-ref, Goes-blank, after, word, word-Good, proved_at, leaves}
-use Rattle.hashlink_nodes.proofs.Walks.{ghosts}
+use Rattle.hashlink_nodes.proofs.Walks.{ftrue, froom, flft, WpFn, ‵, raw, ◌⊛◌, at_ret, ◌$◌, ◌∵◌, !, qed, by}
+use Rattle.hashlink_nodes.proofs.Walks.{move, keep, drop, split, split3, join, group, fsplit, fsplit3, fjoin}
+use Rattle.hashlink_nodes.proofs.Walks.{fjoin3, use1, use2, feq_i, feq_l, stop, fld, of_opd, addr, init}
+use Rattle.hashlink_nodes.proofs.Walks.{assigns, assigns_last, first, blocks, exec, and_then, no_more}
+use Rattle.hashlink_nodes.proofs.Walks.{returns, enter, alloc_all, pass_all, free_all, look_at, get, get_in}
+use Rattle.hashlink_nodes.proofs.Walks.{through, sets, env, sub, whole, agg, tables, part_in, usize, no, yes}
+use Rattle.hashlink_nodes.proofs.Walks.{lone, part_at, uint_in, RattleType, owns, block_ptr, types_at, plain}
+use Rattle.hashlink_nodes.proofs.Walks.{param, layouts, nothing, opens, closes, Stays, stay_dropped, stay_ref}
+use Rattle.hashlink_nodes.proofs.Walks.{walk_of, Goes-dropped, Goes-ref, Goes-blank, after, word, word-Good}
+use Rattle.hashlink_nodes.proofs.Walks.{proved_at, leaves, ghosts}
 use Rattle.hashlink_nodes.specs.Node.{same_node}
 use Rattle.hashlink_nodes.specs.Kept.{Kept, kept}
 use Rattle.hashlink_nodes.specs.Ownership.{Links, number_offset, links_offset}
 use Rattle.hashlink_nodes.specs.declared.arena.Arena.{Arena}
 use Rattle.hashlink_nodes.specs.contracts.arena.Arena.{the_row}
-use Rattle.hashlink_nodes.proofs.ArenaSteps.{told, no_entry, word_made}
+use Rattle.hashlink_nodes.proofs.ArenaSteps.{told, no_entry, word_made, args_are, states}
 use Rattle.hashlink_nodes.proofs.ArenaBlocks.{small_shown, apart_from, knows}
 use Rattle.std.proofs.Common.{IsNone}
 use Rattle.std.specs.contracts.alloc.Global as heap
@@ -70,12 +69,8 @@ keep_spec 𝓤 𝓛 𝓜 𝓡 wired T L =
     let new : Arena T.Denot = record { mark = a.mark; blocks = (n, bare_block) ∷ a.blocks } in
     -- [what the links own; nothing; the block; the handle; obs; the borrow; the tokens]
     move ! (1 ∷ []) $ drop ! $ move ! (2 ∷ []) $ drop ! $ move ! (4 ∷ []) $ split3 ! $
-    suffices ! (Run (vptr rb ro ∷ both (vptr b o) h ∷ w ∷ []))
-    (subst
-    (λ (us : List Val × List Val × List Val). ent 𝓤 (Run (vptr rb ro ∷ both (vptr b o) h ∷ w ∷ []))
-    (Run (us.0 ++ (us.1 ++ (us.2 ++ [])))))
-    (λ j. (sym e0 j, sym ws j, sym e2 j)) (id⊢ 𝓤 _))
-    $
+    args_are ! (λ (us : List Val × List Val × List Val). Run (us.0 ++ (us.1 ++ (us.2 ++ []))))
+    (λ j. (sym e0 j, sym ws j, sym e2 j)) $
     enter ! 𝓣.C 𝓣.Λ fn (vptr rb ro ∷ both (vptr b o) h ∷ w ∷ []) Post $ alloc_all !
     (λ l. pass_all ! refl ((tt, tt), (loose_good R Z LZ ghosts b o h fits, (good, tt))) $
     let Ev = env fn.locals l in
@@ -110,11 +105,8 @@ keep_spec 𝓤 𝓛 𝓜 𝓡 wired T L =
     (λ free. fjoin ! $ move ! (1 ∷ 0 ∷ []) $ fjoin ! $ move ! (1 ∷ 0 ∷ []) $ closes ! tt Ar new vs rb ro $
     -- [obs; the borrow; the tokens]
     let P : Option (Kept T.Denot) → Type 0 = λ s. IsNone s in
-    let apart : IsNone (lookup (same_node n) a.blocks) = subst P (sym free) refl in
-    use0 𝓛 (raw (fact 𝓤 (IsNone (lookup (same_node n) a.blocks))))
-    (fact_i 𝓤 (IsNone (lookup (same_node n) a.blocks)) (emp 𝓤) apart) $
-    use0 𝓛 (raw (fact 𝓤 (new.blocks ≡ (n, bare_block) ∷ a.blocks)))
-    (fact_i 𝓤 (new.blocks ≡ (n, bare_block) ∷ a.blocks) (emp 𝓤) refl) $ join ! $
+    states ! (subst P (sym free) refl) $ states ! {φ = new.blocks ≡ (n, bare_block) ∷ a.blocks} refl $ join
+    ! $
     word_made ! (block_ptr b o) $ move ! (4 ∷ 5 ∷ 6 ∷ []) $ group ! 3 $
     nothing ! $ nothing ! $ fjoin ! $ nothing ! $ fjoin ! $ move ! (4 ∷ 5 ∷ []) $ feq_i ! (List Val) z.0.4.0
     (vptr rb ro ∷ []) e0 $ fjoin3 !

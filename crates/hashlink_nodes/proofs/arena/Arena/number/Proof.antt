@@ -1,86 +1,51 @@
 -- `number` shows what the arena lends of the number of one block.
-use Rattle.hashlink_nodes.proofs.Walks.{◌≡◌, ℕ, ◌+◌, ◌^◌, ◌<◌, List, [], ◌∷◌, ◌++◌, refl, sym, ap, subst}
-use Rattle.hashlink_nodes.proofs.Walks.{Some, IsSome, Bor, lookup, a_type, inst_fn, Val, vptr, SProp, ent}
-use Rattle.hashlink_nodes.proofs.Walks.{emp, id⊢, ftrue, flft, WpFn, ‵, raw, ◌⊛◌, at_ret, ◌$◌, ◌∵◌, !, qed}
-use Rattle.hashlink_nodes.proofs.Walks.{by, move, keep, drop, split, fsplit, fsplit3, fjoin, join, use0, use1}
-use Rattle.hashlink_nodes.proofs.Walks.{suffices, feq_i, feq_l, done, stop, fld, of_opd, addr, first, blocks}
-use Rattle.hashlink_nodes.proofs.Walks.{exec, returns, enter, alloc_all, pass_all, free_all, look_at, get}
-use Rattle.hashlink_nodes.proofs.Walks.{get_in, through, sets, sets_last, is, env, sub, whole, fact, fact_i}
-use Rattle.hashlink_nodes.proofs.Walks.{◌⊑◌, tables, RefOf, yes, hide, unhide, RattleType, owns, null_ptr}
-use Rattle.hashlink_nodes.proofs.Walks.{ptr_val, in_a_block, types_at, plain, param, layouts, nothing, heard}
-use Rattle.hashlink_nodes.proofs.Walks.{lent_at, Stays, stay_dropped, walk_of, Goes-dropped, after, word}
-use Rattle.hashlink_nodes.proofs.Walks.{word-Good, proved_at, leaves, option_map, usize}
+use Rattle.hashlink_nodes.proofs.Walks.{◌^◌, ◌<◌, sym, subst, usize, [], ◌∷◌, refl, ap, IsSome, lookup}
+use Rattle.hashlink_nodes.proofs.Walks.{a_type, inst_fn, vptr, id⊢, ‵, raw, at_ret, ◌$◌, ◌∵◌, !, qed, move}
+use Rattle.hashlink_nodes.proofs.Walks.{keep, split, join, fsplit, fsplit3, use1, done, stop, fld, of_opd}
+use Rattle.hashlink_nodes.proofs.Walks.{addr, first, blocks, exec, returns, enter, alloc_all, pass_all}
+use Rattle.hashlink_nodes.proofs.Walks.{free_all, look_at, get, get_in, through, sets, sets_last, env, is}
+use Rattle.hashlink_nodes.proofs.Walks.{ptr_val, await, pick, heard, later, sub, whole, tables, RattleType}
+use Rattle.hashlink_nodes.proofs.Walks.{param, layouts, after, word, word-Good, option_map}
 use Rattle.hashlink_nodes.specs.Kept.{Kept, entry_in, number_word}
 use Rattle.std.specs.Prelude.{IfSome}
-use Rattle.hashlink_nodes.specs.Ownership.{block_lent, number_of, number_offset}
+use Rattle.hashlink_nodes.specs.Ownership.{block_lent, blocks_lent, number_offset}
 use Rattle.hashlink_nodes.specs.Node.{same_node}
-use Rattle.hashlink_nodes.specs.contracts.arena.Arena.{the_row}
-use Rattle.hashlink_nodes.proofs.ArenaSteps.{Nd, word_had}
 use Rattle.hashlink_nodes.proofs.ArenaBlocks.{found, block_seen, small_seen}
-use Rattle.hashlink_nodes.specs.contracts.arena.Arena.number.{ended, clauses}
+use Rattle.hashlink_nodes.proofs.ArenaSteps.{states}
+use Rattle.hashlink_nodes.proofs.ArenaLends.{Address, shared}
+use Rattle.hashlink_nodes.specs.contracts.arena.Arena.number.{clauses}
 use Rattle.hashlink_nodes.specs.contracts.arena.Arena.number.Key.{name as #self}
 use Rattle.hashlink_nodes.proofs.arena.Arena.number.Statement.{statement}
 use Rattle.hashlink_nodes.proofs.arena.Arena.number.Code as code
 
 pub number_spec : {M : Type 1} → statement M
 number_spec 𝓤 𝓛 𝓜 𝓡 wired T L =
-    let H = 𝓛.H in
-    let 𝓣 = tables 𝓤 H 𝓜 𝓡 𝓡.env in
-    let R : RattleType = param 0 T in let En = ended T in let c = clauses T 𝓛 𝓜.mem 𝓡.returns in
+    let 𝓣 = tables 𝓤 𝓛.H 𝓜 𝓡 𝓡.env in let R : RattleType = param 0 T in
     let inst = layouts (a_type ∷ []) (T, tt) in let fn = inst_fn inst code.function in
-    let hs : Stays En.signature.params En.kept
-    = (
-      stay_dropped (RefOf (0 ∷ []) tt (plain (λ _. the_row R)) (λ _. tt)) yes,
-      (stay_dropped (plain (λ _. Nd)) yes, tt),
-    )
-    in
-    proved_at 𝓛 En hs c 𝓜 𝓡 (
-      Goes-dropped 𝓛 2 (RefOf (0 ∷ []) tt (plain (λ _. the_row R)) (λ _. tt)) yes (λ κs x f. refl),
-      (Goes-dropped 𝓛 2 (plain (λ _. Nd)) yes (λ κs x f. refl), tt),
-    )
-    (#self inst) fn (code.unfolded 𝓤 H 𝓜 𝓡 wired (T, tt)) (λ z are.
-    let κs = z.0.0 in
-    let qs = z.0.1 in
-    let Post : Val → SProp 𝓤 = (walk_of 𝓛 En hs c).post z in
-    let Run : List Val → SProp 𝓤 = λ ws. WpFn 𝓤 H 𝓣.C 𝓣.Λ fn ws Post in
-    let a = z.0.3.0.now in let rb = z.0.3.0.ref_ptr.0 in let ro = z.0.3.0.ref_ptr.1 in let n = z.0.3.1.0 in
-    let toks = ‵ (flft κs.0 qs.0) ⊛ ‵ (flft κs.1.0 qs.1.0) ⊛ ‵ ftrue in
-    qed 𝓛 ((toks ⊛ ‵ (owns (types_at En.signature.params κs) z.0.3 z.0.4)) ∷ raw
-    ((c κs z.0.3).requires z.1) ∷ []) ∵
-    split ! $ move ! (2 ∷ []) $
-    use1 𝓛 (raw (fact 𝓤 (κs.1.0 ⊑ T.lives)) ⊛ raw (fact 𝓤 (IsSome (lookup (same_node n) a.blocks))))
-    (id⊢ 𝓤 _) $ split
-    ! $ drop ! $ heard ! _ (λ held.
-    let k = (found _ held).0 in let is_k = (found _ held).1 in
-    move ! (1 ∷ []) $ fsplit ! $ fsplit ! $ feq_l !
-    (λ e0. move ! (1 ∷ []) $ fsplit ! $ word_had ! n.at z.0.4.1.0 (λ e1. drop ! $
-    suffices ! (Run (vptr rb ro ∷ word n.at ∷ []))
-    (subst (λ (ws : List Val × List Val). ent 𝓤 (Run (vptr rb ro ∷ word n.at ∷ []))
-    (Run (ws.0 ++ (ws.1 ++ []))))
-    (λ j. (sym e0 j, sym e1 j)) (id⊢ 𝓤 _))
-    $
-    enter ! 𝓣.C 𝓣.Λ fn (vptr rb ro ∷ word n.at ∷ []) Post $ alloc_all !
-    (λ l. pass_all ! refl ((tt, tt), (word-Good [] n.at, tt)) $ let Ev = env fn.locals l in
-    unhide ! $ fsplit ! $ drop ! $ use1 𝓛 (‵ (block_lent R n.at k κs.0))
-    (block_seen R 𝓛 n κs.0 a.blocks k is_k) $ fsplit3 ! $ move ! (1 ∷ []) $ fsplit ! $
-    small_seen R ! k.entry (λ small.
-    in_a_block ! n.at (λ p. lent_at usize (number_of R p) (number_word k.entry) κs.0)
-    (qed 𝓛 (‵ (lent_at usize null_ptr (number_word k.entry) κs.0) ∷ []) ∵ fsplit ! $ keep ! (0 ∷ []) $
-    done !) (λ b o e.
-    let at = o + number_offset R in
-    let out : Bor ℕ = record { ref_ptr = (b, at); now = number_word k.entry } in
-    first ! $ blocks ! $ sets !
-    (is ! (of_opd ! (get_in ! (fld ! refl (stop !)) (sub ! 0 refl (whole !)))) (ap ptr_val e)) refl (tt, tt) $
+    shared 𝓤 𝓛 𝓜 𝓡 T usize tt (number_offset R) (#self inst) fn (code.unfolded 𝓤 𝓛.H 𝓜 𝓡 wired (T, tt))
+    (clauses T 𝓛 𝓜.mem 𝓡.returns)
+    (record {
+      Asked = λ a n. IsSome (lookup (same_node n) a.blocks);
+      Seen = λ a n held. IfSome (found _ held).0.entry (λ x. x.0 < 2 ^ 48);
+      part = λ a n held. number_word (found _ held).0.entry;
+      asks = λ z. id⊢ 𝓤 _;
+      shows = λ z held. let k = found _ held in let κ = z.0.0.0 in let n = z.0.3.1.0 in
+          qed 𝓛 (‵ (blocks_lent R z.0.3.0.now.blocks κ) ∷ []) ∵
+          use1 𝓛 (‵ (block_lent R n.at k.0 κ)) (block_seen R 𝓛 n κ z.0.3.0.now.blocks k.0 k.1) $ fsplit3 ! $
+          move ! (1 ∷ []) $ fsplit ! $ small_seen R ! k.0.entry (λ small.
+          states ! small $ move ! (1 ∷ 0 ∷ []) $ join ! $
+          keep ! (0 ∷ []) $ done !);
+      says = λ z held small at. let k = found _ held in qed 𝓛 [] ∵
+          states ! (subst (λ o. IfSome (entry_in o) (λ x. x.0 < 2 ^ 48)) (sym k.1) small) $
+          states ! (ap (option_map (λ (x : Kept T.Denot). number_word x.entry)) k.1) $ join ! $ done !;
+    })
+    (λ Post rb ro p Q ran. qed 𝓛 (raw Q ∷ []) ∵ enter ! 𝓣.C 𝓣.Λ fn (vptr rb ro ∷ word p ∷ []) Post $
+    alloc_all !
+    (λ l. pass_all ! refl ((tt, tt), (word-Good [] p, tt)) $ let Ev = env fn.locals l in
+    use1 𝓛 (later (Address 𝓤 𝓛 𝓜 𝓡 T usize tt (number_offset R) (#self inst) fn p Post)) ran $ await ! tt $
+    pick ! (λ x. split ! $ heard ! _ (λ e. first ! $ blocks ! $
+    sets ! (is ! (of_opd ! (get_in ! (fld ! refl (stop !)) (sub ! 0 refl (whole !)))) (ap ptr_val e)) refl
+    (tt, tt) $
     sets_last ! (addr ! (through ! refl (fld ! refl (stop !)))) refl (tt, tt) $
     exec ! 𝓣.C 𝓣.Λ Ev (after 1 fn.body) (at_ret Ev Post) $ sets ! (of_opd ! (get ! refl)) refl (tt, tt) $
-    fsplit ! $ drop ! $ hide ! $ feq_i ! (List Val) (vptr b at ∷ []) (vptr b at ∷ []) refl $ fjoin ! $
-    let Seen : Type 0 = option_map (λ (x : Kept T.Denot). number_word x.entry) (lookup (same_node n) a.blocks)
-    ≡ Some (number_word k.entry) in
-    let Small : Type 0 = IfSome (entry_in (lookup (same_node n) a.blocks)) (λ x. x.0 < 2 ^ 48) in
-    use0 𝓛 (raw (fact 𝓤 Small))
-    (fact_i 𝓤 Small (emp 𝓤) (subst (λ o. IfSome (entry_in o) (λ x. x.0 < 2 ^ 48)) (sym is_k) small)) $
-    use0 𝓛 (raw (fact 𝓤 Seen))
-    (fact_i 𝓤 Seen (emp 𝓤) (ap (option_map (λ (x : Kept T.Denot). number_word x.entry)) is_k)) $ join ! $
-    nothing ! $ nothing ! $ fjoin ! $ nothing ! $ fjoin ! $
-    returns ! (look_at ! 0 refl) $ free_all ! refl $ keep ! (5 ∷ 0 ∷ 2 ∷ 1 ∷ []) $ by !
-    (leaves 𝓛 En hs c z (vptr b at) out (tt, (tt, tt)) (tt, (tt, tt))))))))))
+    returns ! (look_at ! 0 refl) $ free_all ! refl $ keep ! (0 ∷ []) $ done !))))

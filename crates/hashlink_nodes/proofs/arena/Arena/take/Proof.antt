@@ -1,18 +1,18 @@
 -- `take` reads the pair of a block out, and leaves room.
-use Rattle.hashlink_nodes.proofs.Walks.{◌≡◌, ℕ, ◌+◌, ◌∙◌, ◌^◌, List, [], ◌∷◌, ◌++◌, refl, sym, ap, subst}
-use Rattle.hashlink_nodes.proofs.Walks.{Option, Some, None, IsSome, lookup, remove_entry, option_map}
-use Rattle.hashlink_nodes.proofs.Walks.{full_share, lit<, Ty, a_type, ty_int, w64, bare, inst_fn, Val, vint}
-use Rattle.hashlink_nodes.proofs.Walks.{vptr, SProp, ent, emp, never, id⊢, ftrue, fat, froom, flft, fsep}
-use Rattle.hashlink_nodes.proofs.Walks.{WpFn, ‵, raw, ◌⊛◌, some, at_ret, ◌$◌, ◌∵◌, !, qed, by, move, keep}
-use Rattle.hashlink_nodes.proofs.Walks.{drop, split, split3, join, group, fsplit, fsplit3, fjoin, fjoin3}
-use Rattle.hashlink_nodes.proofs.Walks.{pick, rewrite, use0, use1, use2, suffices, feq_i, feq_l, stop, fld}
-use Rattle.hashlink_nodes.proofs.Walks.{of_opd, addr, store, assigns, first, blocks, exec, returns, enter}
-use Rattle.hashlink_nodes.proofs.Walks.{alloc_all, pass_all, free_all, look_at, get, get_in, through, sets}
-use Rattle.hashlink_nodes.proofs.Walks.{sets_last, is, env, sub, whole, fact, fact_i, ◌⊑◌, tables, part_out}
-use Rattle.hashlink_nodes.proofs.Walks.{usize, yes, lone, part_at, uint_in, uint_out, RattleType, owns, Ptr}
-use Rattle.hashlink_nodes.proofs.Walks.{ptr_val, in_a_block, lies_at, types_at, plain, param, layouts}
-use Rattle.hashlink_nodes.proofs.Walks.{nothing, heard, opens, closes, Stays, stay_dropped, stay_ref, walk_of}
-use Rattle.hashlink_nodes.proofs.Walks.{Goes-dropped, Goes-ref, after, word, word-Good, proved_at, leaves}
+use Rattle.hashlink_nodes.proofs.Walks.{◌≡◌, ℕ, ◌+◌, ◌∙◌, ◌^◌, List, [], ◌∷◌, ◌++◌, refl, sym, ap, Option}
+use Rattle.hashlink_nodes.proofs.Walks.{None, IsSome, lookup, remove_entry, option_map, full_share, lit<, Ty}
+use Rattle.hashlink_nodes.proofs.Walks.{a_type, ty_int, w64, bare, inst_fn, Val, vint, vptr, SProp, never}
+use Rattle.hashlink_nodes.proofs.Walks.{id⊢, ftrue, fat, froom, flft, fsep, WpFn, ‵, raw, ◌⊛◌, some, at_ret}
+use Rattle.hashlink_nodes.proofs.Walks.{◌$◌, ◌∵◌, !, qed, by, move, keep, drop, split, split3, join, group}
+use Rattle.hashlink_nodes.proofs.Walks.{fsplit, fsplit3, fjoin, fjoin3, pick, rewrite, use1, use2, feq_i}
+use Rattle.hashlink_nodes.proofs.Walks.{feq_l, stop, fld, of_opd, addr, store, assigns, first, blocks, exec}
+use Rattle.hashlink_nodes.proofs.Walks.{returns, enter, alloc_all, pass_all, free_all, look_at, get, get_in}
+use Rattle.hashlink_nodes.proofs.Walks.{through, sets, sets_last, is, env, sub, whole, fact, ◌⊑◌, tables}
+use Rattle.hashlink_nodes.proofs.Walks.{part_out, usize, yes, lone, part_at, uint_in, uint_out, RattleType}
+use Rattle.hashlink_nodes.proofs.Walks.{owns, Ptr, ptr_val, in_a_block, lies_at, types_at, plain, param}
+use Rattle.hashlink_nodes.proofs.Walks.{layouts, nothing, heard, opens, closes, Stays, stay_dropped, stay_ref}
+use Rattle.hashlink_nodes.proofs.Walks.{walk_of, Goes-dropped, Goes-ref, after, word, word-Good, proved_at}
+use Rattle.hashlink_nodes.proofs.Walks.{leaves}
 use types.Run.{load, look, well_typed}
 use Rattle.hashlink_nodes.specs.Node.{same_node}
 use Rattle.hashlink_nodes.specs.Kept.{alter, entry_in, number_word, with_entry}
@@ -21,7 +21,7 @@ use Rattle.hashlink_nodes.specs.Ownership.{is_small, number_of, number_offset, l
 use Rattle.hashlink_nodes.specs.Ownership.{free_right}
 use Rattle.hashlink_nodes.specs.declared.arena.Arena.{Arena}
 use Rattle.hashlink_nodes.specs.contracts.arena.Arena.{the_row}
-use Rattle.hashlink_nodes.proofs.ArenaSteps.{Nd, word_had, no_entry}
+use Rattle.hashlink_nodes.proofs.ArenaSteps.{Nd, word_had, no_entry, args_are, states}
 use Rattle.hashlink_nodes.proofs.ArenaBlocks.{found_entry, blocks_cut, blocks_glue, small_shown}
 use Rattle.hashlink_nodes.specs.contracts.arena.Arena.take.{ended, clauses}
 use Rattle.hashlink_nodes.specs.contracts.arena.Arena.take.Key.{name as #self}
@@ -60,11 +60,7 @@ take_spec 𝓤 𝓛 𝓜 𝓡 wired T L =
     move ! (1 ∷ []) $ fsplit ! $ fsplit3 ! $ feq_l !
     (λ e0. move ! (2 ∷ []) $ fsplit ! $ word_had ! n.at z.0.4.1.0 (λ e1. drop ! $
     -- [obs; the borrow; the tokens]
-    suffices ! (Run (vptr rb ro ∷ word n.at ∷ []))
-    (subst (λ (ws : List Val × List Val). ent 𝓤 (Run (vptr rb ro ∷ word n.at ∷ []))
-    (Run (ws.0 ++ (ws.1 ++ []))))
-    (λ j. (sym e0 j, sym e1 j)) (id⊢ 𝓤 _))
-    $
+    args_are ! (λ (ws : List Val × List Val). Run (ws.0 ++ (ws.1 ++ []))) (λ j. (sym e0 j, sym e1 j)) $
     move ! (2 ∷ []) $ split3 ! $ move ! (3 ∷ 4 ∷ 0 ∷ []) $
     enter ! 𝓣.C 𝓣.Λ fn (vptr rb ro ∷ word n.at ∷ []) Post $ alloc_all !
     (λ l. pass_all ! refl ((tt, tt), (word-Good [] n.at, tt)) $ let Ev = env fn.locals l in
@@ -106,14 +102,9 @@ take_spec 𝓤 𝓛 𝓜 𝓡 wired T L =
     use2 𝓛 (‵ (blocks_own R (alter (same_node n) left a.blocks))) (blocks_glue R 𝓛 n a.blocks k left is_k) $
     move ! (2 ∷ 0 ∷ []) $ fjoin ! $ move ! (2 ∷ 0 ∷ 3 ∷ 4 ∷ 5 ∷ []) $ closes ! tt Ar new vs rb ro $
     -- [obs; the borrow; its token; what the pair owns; a token; nothing]
-    let Was : Type 0 = option_map (λ (x : ℕ × T.Denot). x.1) (entry_in (lookup (same_node n) a.blocks))
-    ≡ Some entry.1 in
-    let Now : Type 0 = new.blocks ≡ alter (same_node n) left a.blocks in
-    use0 𝓛 (raw (fact 𝓤 Now)) (fact_i 𝓤 Now (emp 𝓤) refl) $
-    use0 𝓛 (raw (fact 𝓤 Was))
-    (fact_i 𝓤 Was (emp 𝓤)
-    (ap (λ x. option_map (λ (y : ℕ × T.Denot). y.1) (entry_in x)) is_k
-    ∙ ap (option_map (λ (y : ℕ × T.Denot). y.1)) is_e)) $ join ! $
+    states ! {φ = new.blocks ≡ alter (same_node n) left a.blocks} refl $
+    states ! (ap (λ x. option_map (λ (y : ℕ × T.Denot). y.1) (entry_in x)) is_k
+    ∙ ap (option_map (λ (y : ℕ × T.Denot). y.1)) is_e) $ join ! $
     move ! (4 ∷ 0 ∷ []) $ move ! (4 ∷ 5 ∷ 6 ∷ []) $ group ! 3 $
     nothing ! $ nothing ! $ fjoin ! $ move ! (4 ∷ 5 ∷ []) $
     feq_i ! (List Val) z.0.4.0 (vptr rb ro ∷ []) e0 $ fjoin3 ! $ fjoin ! $

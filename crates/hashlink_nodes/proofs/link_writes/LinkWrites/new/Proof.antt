@@ -1,8 +1,8 @@
 -- A count begins at 0.
 use Rattle.std.proofs.Common.{◌≡◌, [], ◌∷◌, refl}
-use base.Logic.{SProp, emp}
+use base.Logic.{SProp, emp, ent}
 use base.Fml.{ftrue}
-use mir.Val.{Val}
+use mir.Val.{Val, vstruct, vnil}
 use types.Kit.{‵, raw, ◌⊛◌, ◌$◌, ◌∵◌, !, qed, by, keep, drop, split, use0, fjoin}
 use types.Run.{no_more, and_then, returns, enter}
 use types.ByLocal.{alloc_all, pass_all, free_all, look_at, get, sets}
@@ -13,12 +13,28 @@ use denote.Steps.{nothing}
 use denote.Triple.Walked.{walk_of}
 use Rattle.std.proofs.raw_atomic.Walks.{proved_at, leaves}
 use Rattle.hashlink_nodes.proofs.ArenaSteps.{mark}
-use Rattle.hashlink_nodes.proofs.CountSteps.{Mark, mark_made}
+use seplogic.Ra.Ura.{Ura}
+use types.Logic.{Logic, sem}
+use denote.RattleType.{RattleType}
+use denote.Shadow.{makes_shadow}
+use denote.Struct.Struct.{Struct}
+use denote.Struct.Owning.{shape}
+use Rattle.hashlink_nodes.specs.contracts.link_writes.LinkWrites as W
 use Rattle.hashlink_nodes.specs.declared.link_writes.LinkWrites.{LinkWrites}
 use Rattle.hashlink_nodes.specs.contracts.link_writes.LinkWrites.new.{ended, clauses}
 use Rattle.hashlink_nodes.specs.contracts.link_writes.LinkWrites.new.Key.{name as #self}
 use Rattle.hashlink_nodes.proofs.link_writes.LinkWrites.new.Statement.{statement}
 use Rattle.hashlink_nodes.proofs.link_writes.LinkWrites.new.Code as code
+
+-- the machine value of a count, which has no bytes
+abbrev Mark : RattleType
+Mark = Struct (shape W.the_type)
+
+mark_made : {M : Type 1} {𝓤 : Ura M} (𝓛 : Logic 𝓤)
+    → ent 𝓤 (emp 𝓤) (sem 𝓛 (Mark.own_val (tt, tt) (mark ∷ [])))
+mark_made 𝓛 =
+    makes_shadow 𝓛 (Mark.own_val (tt, tt) (mark ∷ [])) (λ vss. (tt, ((λ uss. (tt, tt)), tt)))
+    ((vstruct vnil ∷ [], tt), (refl, ((tt, (refl, tt)), tt)))
 
 pub new_spec : {M : Type 1} → statement M
 new_spec 𝓤 𝓛 𝓜 𝓡 wired =

@@ -1,18 +1,11 @@
 use Rattle.std.proofs.Common.{sym, arith}
-use Rattle.hashlink_nodes.proofs.Calls.{known}
+use Rattle.hashlink_nodes.proofs.Opening.{known}
 use Rattle.hashlink_nodes.proofs.nodes.Nodes.len.Goals as goal
 
-pub returns-clause-len : goal.returns-clause-len
-returns-clause-len g c =
-    sym (known c.self.inside c.self.invariant c.args.self.now c.self.view_is).is_len
-
-pub returns-clause-small : goal.returns-clause-small
-returns-clause-small g c =
-    let
-    f = (known c.self.inside c.self.invariant c.args.self.now c.self.view_is)
-    in
-    omega (arith, f.is_len, f.is_spare, f.small)
-
-pub returns-clause-apart : goal.returns-clause-apart
-returns-clause-apart g c =
-    (known c.self.inside c.self.invariant c.args.self.now c.self.view_is).differ
+pub returns : goal.returns
+returns g c =
+    let k = known c.self.invariant c.self.view_is in record {
+      len = sym k.is_len;
+      small = omega (arith, k.is_len, k.is_spare, k.small);
+      apart = k.differ;
+    }

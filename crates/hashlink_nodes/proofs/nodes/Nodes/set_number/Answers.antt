@@ -1,35 +1,44 @@
-use Rattle.std.proofs.Common.{ap}
+use Rattle.std.proofs.Common.{Some, ap, sym, ◌∙◌}
 use Rattle.std.specs.Prelude.{is_some}
+use Rattle.std.specs.Option.{option_map}
 use Rattle.hashlink_nodes.specs.Pool.{state_of}
-use Rattle.hashlink_nodes.specs.Ring.{with_number}
-use Rattle.hashlink_nodes.proofs.Changing.{Renewed, renewed}
-use Rattle.hashlink_nodes.proofs.Calls.{node_at}
+use Rattle.hashlink_nodes.specs.Ring.{held, pair_of, with_number}
+use Rattle.hashlink_nodes.specs.State.{hold}
+use Rattle.hashlink_nodes.proofs.Calls.{Renewed, renewed}
+use Rattle.hashlink_nodes.proofs.Opening.{node_in, same_some, seal}
+use Rattle.hashlink_nodes.proofs.Rings.{has_still, held_anew, held_now}
 use Rattle.hashlink_nodes.proofs.nodes.Nodes.set_number.Given as given
 use Rattle.hashlink_nodes.proofs.nodes.Nodes.set_number.Goals as goal
 
-pub set_number-requires-clause-held : goal.set_number-requires-clause-held
-set_number-requires-clause-held g c =
-    ap is_some (node_at c.self.inside c.self.invariant c.args.self.now c.self.view_is c.args.node
-    c.requires.node).holds
+pub take-key-requires : goal.take-key-requires
+take-key-requires g c =
+    ap is_some (node_in c.self.invariant c.self.view_is c.args.node c.requires.node).here.holds
 
-anew : (g : given.Over) (c : goal.After-set_number g)
-    → Renewed (state_of c.self.inside.pool) (state_of c.set_number.new.self) c.self.inside.guard
+pub fill-requires : goal.fill-requires
+fill-requires g c =
+    let at = (node_in c.self.invariant c.self.view_is c.args.node c.requires.node).here in
+    let s = state_of c.self.inside.pool in record {
+      has = has_still _ _ s c.take-key.ensures.is at.has_node;
+      bare = held_now s c.take-key.ensures.is;
+      small = c.requires.small;
+    }
+
+anew : (g : given.Over) (c : goal.After-fill g)
+    → Renewed (state_of c.self.inside.pool) (state_of c.fill.new.self) c.self.inside.guard
     c.self.inside.first_spare c.self.inside.len c.self.inside.spare c.args.self.now c.args.node
     (λ h. with_number h c.args.number)
 anew g c =
-    renewed (state_of c.self.inside.pool) (state_of c.set_number.new.self) c.self.inside.guard
-    c.self.inside.first_spare c.self.inside.len c.self.inside.spare c.self.invariant c.args.self.now
-    c.self.view_is c.args.node c.requires.node (λ h. with_number h c.args.number) c.set_number.ensures
+    let at = node_in c.self.invariant c.self.view_is c.args.node c.requires.node in
+    let s = state_of c.self.inside.pool in
+    let pair = same_some (ap (option_map pair_of) (sym at.here.holds) ∙ c.take-key.ensures.was) in
+    renewed at (λ h. with_number h c.args.number)
+    (held_anew _ _ _ s c.take-key.ensures.is c.fill.ensures
+    ∙ (λ i. hold c.args.node (Some (held c.args.number (sym pair i).0 (sym pair i).1)) s)
+    ∙ ap (λ o. hold c.args.node (option_map (λ h. with_number h c.args.number) o) s) (sym at.here.holds))
 
 pub invariant_of-self : goal.invariant_of-self
-invariant_of-self g c = (anew g c).sound
+invariant_of-self g c = seal (anew g c).sound
 
-pub returns-clause-entries : goal.returns-clause-entries
-returns-clause-entries g c = (anew g c).entries
-
-pub returns-clause-free : goal.returns-clause-free
-returns-clause-free g c = (anew g c).free
-
-pub returns-clause-link_writes : goal.returns-clause-link_writes
-returns-clause-link_writes g c =
-    (anew g c).link_writes
+pub returns : goal.returns
+returns g c =
+    let a = anew g c in record { entries = a.entries; free = a.free; link_writes = a.link_writes }

@@ -1,7 +1,10 @@
-use Rattle.std.proofs.Common.{true, ap, ◌∙◌}
+use Rattle.std.proofs.Common.{refl, true, ap, ◌∙◌}
 use Rattle.hashlink_nodes.specs.Pool.{state_of}
 use Rattle.hashlink_nodes.proofs.Paths.{set_at_here}
-use Rattle.hashlink_nodes.proofs.StateLemmas.{links_at, looped}
+use Rattle.std.specs.Map.{lookup}
+use Rattle.hashlink_nodes.specs.Kept.{Kept}
+use Rattle.hashlink_nodes.specs.Node.{same_node}
+use Rattle.hashlink_nodes.proofs.StateLemmas.{mapped, looped}
 use Rattle.hashlink_nodes.proofs.pool.Pool.make_guard.Goals as goal
 
 pub links_mut-links-requires : goal.links_mut-links-requires
@@ -12,7 +15,8 @@ links_mut-links-requires g c =
 pub returns-clause-made : goal.returns-clause-made
 returns-clause-made g c =
     let bs = c.make.new.self.arena.blocks in let guard = c.in_ok-guard.guard in
-    let at = links_at bs guard c.links_mut-links.result.now c.links_mut-links.ensures.value in
-    looped bs c.make.new.self.writes.count 0 guard at.block at.looked
+    let at = mapped (λ (k : Kept (g.row.K.Denot × g.row.V.Denot)). k.links) (lookup (same_node guard) bs)
+    c.links_mut-links.ensures.value in
+    looped bs c.make.new.self.writes.count c.make.new.self.writes.count guard at.0 at.1
     (state_of c.args.self.now) c.store.new.self
-    c.store-2.new.self c.store.ensures.stored c.store-2.ensures.stored c.in_ok-guard.ensures.made
+    c.store-2.new.self c.store.ensures.stored c.store-2.ensures.stored refl c.in_ok-guard.ensures.made

@@ -9,4 +9,4 @@ returns-clause-is g c =
     let bs = c.args.self.now.arena.blocks in let count = c.args.self.now.writes.count in
     let at = pair_at bs c.args.node c.take.result c.take.ensures.pair in
     ap (λ x. state x count) c.take.ensures.left
-    ∙ held_anew bs count 0 c.args.node at.block at.looked (with_entry None) refl None refl
+    ∙ held_anew bs count count c.args.node at.block at.looked (with_entry None) refl None refl
