@@ -18,5 +18,3 @@ pub mod Chained
 pub mod Chains
 pub mod CursorNodes
 pub mod EntryNodes
-pub mod Lawful
-pub mod NotRefused

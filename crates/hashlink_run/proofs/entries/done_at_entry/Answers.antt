@@ -1,32 +1,36 @@
-use Rattle.std.proofs.Common.{rules, [], ◌∷◌, Some, None, refl, sym, ap, is_ok, Ok, Err, ⊎_elim}
+use Rattle.std.proofs.Common.{rules, [], ◌∷◌, Some, None, refl, sym, ap, ◌∙◌, is_ok, Ok, Err, ⊎_elim}
 use Rattle.std.specs.Map.Iter.{deref_pair}
 use Rattle.hashlink_core.specs.Keyed.{state_of}
 use Rattle.hashlink_map.specs.RawEntry.{raw_place}
 use Rattle.hashlink_run.specs.declared.replies.Reply.TheVariants.{Value, Pair, Seen, Inserted}
 use Rattle.hashlink_run.specs.CallReplies.{reply_or_refused}
 use Rattle.hashlink_run.specs.Reads.{ClosureSays}
-use Rattle.hashlink_run.proofs.AtEntry.{at_occupied, at_vacant, added, handed_on, taken, said_at_end}
-use Rattle.hashlink_run.proofs.AtEntry.{read_there, read_at_end, read_at_front, read_new}
+use Rattle.hashlink_run.proofs.AtEntry.{at_occupied, at_vacant, added, handed_on, taken, read_new}
+use Rattle.hashlink_run.proofs.AtEntry.{there, there_at_end, there_at_front}
 use Rattle.hashlink_run.proofs.entries.done_at_entry.Goals as goal
 
 pub said_of_entry-said-requires : goal.said_of_entry-said-requires
 said_of_entry-said-requires g c = λ pair read.
-    let there = read_there g.K.PartialEq.eq c.in-Occupied.ensures.entry _ _ refl refl pair read in
-    c.requires pair (rw c.in-Get.is there)
+    let found = sym (there g.K.PartialEq.eq c.in-Occupied.ensures.entry _ _ refl refl) ∙ read in
+    c.requires pair (rw c.in-Get.is found)
 
 pub said_of_entry-said-requires-in-OrInsert : goal.said_of_entry-said-requires-in-OrInsert
 said_of_entry-said-requires-in-OrInsert g c = λ pair read.
-    let there =
-    read_at_end g.K.PartialEq.eq c.in-Occupied.ensures.entry _ _ refl refl pair _ _ read
-    c.to_back.ensures.moves (ap (λ e. e.place) c.to_back.ensures.stands) in
-    c.requires pair (⊎_elim (λ given. rw (given.1, there) refl) (λ given. rw given there) c.in-OrInsert.is)
+    let e = c.in-Occupied.ensures.entry in
+    let moved =
+    there_at_end g.K.PartialEq.eq e _ _ refl refl _ _ c.to_back.ensures.moves
+    (ap (λ e. e.place) c.to_back.ensures.stands) in
+    let found = sym (there g.K.PartialEq.eq e _ _ refl refl) ∙ sym moved ∙ read in
+    c.requires pair (⊎_elim (λ given. rw (given.1, found) refl) (λ given. rw given found) c.in-OrInsert.is)
 
 pub said_of_entry-said-requires-in-ToFront : goal.said_of_entry-said-requires-in-ToFront
 said_of_entry-said-requires-in-ToFront g c = λ pair read.
-    let there =
-    read_at_front g.K.PartialEq.eq c.in-Occupied.ensures.entry _ _ refl refl pair _ _ read
-    c.to_front.ensures.moves (ap (λ e. e.place) c.to_front.ensures.stands) in
-    c.requires pair (rw c.in-ToFront.is there)
+    let e = c.in-Occupied.ensures.entry in
+    let moved =
+    there_at_front g.K.PartialEq.eq e _ _ refl refl _ _ c.to_front.ensures.moves
+    (ap (λ e. e.place) c.to_front.ensures.stands) in
+    let found = sym (there g.K.PartialEq.eq e _ _ refl refl) ∙ sym moved ∙ read in
+    c.requires pair (rw c.in-ToFront.is found)
 
 pub returns-in-OrInsert : goal.returns-in-OrInsert
 returns-in-OrInsert g c =
@@ -36,12 +40,13 @@ returns-in-OrInsert g c =
     let b = c.said_of_entry-said-in-OrInsert.result in
     let new = state_of c.to_back.new.self.map.now in
     let moves = c.to_back.ensures.moves in
-    let said =
-    said_at_end eq Says e _ new _ _ b refl refl moves (ap (λ e. e.place) c.to_back.ensures.stands)
-    c.said_of_entry-said-in-OrInsert.ensures in
+    let moved = there_at_end eq e _ _ refl refl new _ moves (ap (λ e. e.place) c.to_back.ensures.stands) in
+    let said = rw moved at c.said_of_entry-said-in-OrInsert.ensures in
     let step =
-    ⊎_elim (λ given. at_occupied eq Says e given.1 (Seen (Some b) ∷ []) new refl (moves, said))
-    (λ given. at_occupied eq Says e given (Seen (Some b) ∷ []) new refl (moves, said)) c.in-OrInsert.is in
+    ⊎_elim
+    (λ given. at_occupied eq Says e given.1 (Seen (Some b) ∷ []) new refl (moves, (Some b, said, refl)))
+    (λ given. at_occupied eq Says e given (Seen (Some b) ∷ []) new refl (moves, (Some b, said, refl)))
+    c.in-OrInsert.is in
     let same = sym c.into_key-in-OrInsert.ensures.unchanged in
     let done = rw same at step in
     search rules
