@@ -16,6 +16,8 @@ use Rattle.hashlink_model.proofs.Puts.{put_back_absent}
 use Rattle.hashlink_model.proofs.Splits.{stands_from_place, lookup_entry-here, none_from_lookup}
 use Rattle.hashlink_run.specs.declared.commands.EntryStep.{EntryStep}
 use Rattle.hashlink_run.specs.declared.replies.Reply.{Reply}
+use Rattle.hashlink_run.specs.declared.replies.Reply.TheVariants.{Refused}
+use Rattle.hashlink_run.specs.CallReplies.{reply_or_refused}
 use Rattle.hashlink_run.specs.EntrySteps.{OccupiedStep, VacantStep, EntrySteps}
 use Rattle.hashlink_run.proofs.Moved.{lookup_entry-absent}
 
@@ -44,9 +46,10 @@ pub added : {K V S : Type 0} {eq : K → K → Bool} {old new : MapState K V S} 
 added {eq = eq} {old} {new} {k} {b = b} same adds = subst (λ v. AddsEntry eq old new k v b) same adds
 
 -- and what was handed back goes on
-pub handed_on : {A E : Type 0} (r : Result A E) (p : E) → IsErrAnd r (λ x. x ≡ p) → r ≡ Err p
-handed_on (Ok a) p e = absurd e
-handed_on (Err x) p e = ap Err e
+pub handed_on : {K V B : Type 0} (r : Result (Reply K V B) (K × V)) (p : K × V) → IsErrAnd r (λ x. x ≡ p)
+    → reply_or_refused r ∷ [] ≡ Refused p.0 p.1 ∷ []
+handed_on (Ok reply) p e = absurd e
+handed_on (Err x) p e = ap (λ x. Refused x.0 x.1 ∷ []) e
 
 -- ---- the pair that is read
 

@@ -3,6 +3,7 @@ pub mod AtEntry
 pub mod CursorProgress
 pub mod Kept
 pub mod Moved
+pub mod Said
 pub mod Wider
 pub mod AnyCommand
 pub mod Answering

@@ -55,8 +55,7 @@ pub returns-in-InsertEntry : goal.returns-in-InsertEntry
 returns-in-InsertEntry g c =
     let step =
     at_occupied g.K.PartialEq.eq (ClosureSays g.F.Fn c.args.says.now) c.in-Occupied.ensures.entry
-    c.in-InsertEntry.is
-    (Pair (Some c.insert_entry.result) ∷ []) (state_of c.insert_entry.new.self.0) refl
+    c.in-InsertEntry.is (Pair (Some c.insert_entry.result) ∷ []) (state_of c.insert_entry.new.self.0) refl
     (c.insert_entry.result, c.insert_entry.ensures, refl) in
     search rules
 
@@ -64,8 +63,7 @@ pub returns-in-ReplaceEntry : goal.returns-in-ReplaceEntry
 returns-in-ReplaceEntry g c =
     let step =
     at_occupied g.K.PartialEq.eq (ClosureSays g.F.Fn c.args.says.now) c.in-Occupied.ensures.entry
-    c.in-ReplaceEntry.is
-    (Pair (Some c.replace_entry.result) ∷ []) (state_of c.replace_entry.new.self.0) refl
+    c.in-ReplaceEntry.is (Pair (Some c.replace_entry.result) ∷ []) (state_of c.replace_entry.new.self.0) refl
     (c.replace_entry.result, c.replace_entry.ensures, refl) in
     search rules
 
@@ -73,9 +71,8 @@ pub returns-in-Remove : goal.returns-in-Remove
 returns-in-Remove g c =
     let t = taken _ (state_of c.remove.new.self.0) _ _ c.remove.ensures.value c.remove.ensures.removes in
     let step =
-    at_occupied g.K.PartialEq.eq (ClosureSays g.F.Fn c.args.says.now)
-    c.in-Occupied.ensures.entry c.in-Remove.is
-    (Value (Some c.remove.result) ∷ []) (state_of c.remove.new.self.0) refl
+    at_occupied g.K.PartialEq.eq (ClosureSays g.F.Fn c.args.says.now) c.in-Occupied.ensures.entry
+    c.in-Remove.is (Value (Some c.remove.result) ∷ []) (state_of c.remove.new.self.0) refl
     (t.0, t.1, ap (λ v. Value (Some v) ∷ []) t.2) in
     search rules
 
@@ -83,8 +80,7 @@ pub returns-in-Occupied : goal.returns-in-Occupied
 returns-in-Occupied g c =
     let step =
     at_occupied g.K.PartialEq.eq (ClosureSays g.F.Fn c.args.says.now) c.in-Occupied.ensures.entry
-    c.in-RemoveEntry.is
-    (Pair (Some c.remove_entry.result) ∷ []) (state_of c.remove_entry.new.self.0) refl
+    c.in-RemoveEntry.is (Pair (Some c.remove_entry.result) ∷ []) (state_of c.remove_entry.new.self.0) refl
     (c.remove_entry.result, c.remove_entry.ensures, refl) in
     search rules
 
@@ -102,15 +98,12 @@ says-requires g c =
 pub returns-in_err-inserted-in-OrInsert-step : goal.returns-in_err-inserted-in-OrInsert-step
 returns-in_err-inserted-in-OrInsert-step g c =
     let lent = c.insert_entry-in-OrInsert-step.follows in
-    let pair = c.in_err-inserted-in-OrInsert-step.field-0.0 in
-    let refuses = rw c.in_err-inserted-in-OrInsert-step.was at lent.holds-at-none in
+    let refused = c.in_err-inserted-in-OrInsert-step in
     let back = c.from_residual in
-    let handed = handed_on back.result _ back.ensures.1 in
     let step =
     at_vacant g.K.PartialEq.eq (ClosureSays g.F.Fn c.args.says.now) c.in-Vacant.ensures.entry
-    c.in-OrInsert-step.is
-    (reply_or_refused back.result ∷ []) (state_of lent.lender-at-none) refl
-    (Err pair, refuses, ap (λ r. reply_or_refused r ∷ []) handed) in
+    c.in-OrInsert-step.is (reply_or_refused back.result ∷ []) (state_of lent.lender-at-none) refl
+    (Err refused.field-0.0, rw refused.was at lent.holds-at-none, handed_on _ _ back.ensures.1) in
     search rules
 
 pub returns-in-OrInsert-step : goal.returns-in-OrInsert-step
@@ -138,15 +131,12 @@ returns-in-OrInsert-step g c =
 pub returns-in_err-insert-in-Insert-step : goal.returns-in_err-insert-in-Insert-step
 returns-in_err-insert-in-Insert-step g c =
     let lent = c.insert.follows in
-    let pair = c.in_err-insert-in-Insert-step.field-0.0 in
-    let refuses = rw c.in_err-insert-in-Insert-step.was at lent.holds-at-none in
+    let refused = c.in_err-insert-in-Insert-step in
     let back = c.from_residual-in_err-insert-in-Insert-step in
-    let handed = handed_on back.result _ back.ensures.1 in
     let step =
     at_vacant g.K.PartialEq.eq (ClosureSays g.F.Fn c.args.says.now) c.in-Vacant.ensures.entry
-    c.in-Insert-step.is
-    (reply_or_refused back.result ∷ []) (state_of lent.lender-at-none) refl
-    (Err pair, refuses, ap (λ r. reply_or_refused r ∷ []) handed) in
+    c.in-Insert-step.is (reply_or_refused back.result ∷ []) (state_of lent.lender-at-none) refl
+    (Err refused.field-0.0, rw refused.was at lent.holds-at-none, handed_on _ _ back.ensures.1) in
     search rules
 
 pub returns-in-Insert-step : goal.returns-in-Insert-step
@@ -156,23 +146,19 @@ returns-in-Insert-step g c =
     let adds = lent.holds value (ap is_ok c.in_ok-insert-in-Insert-step.was) in
     let step =
     at_vacant g.K.PartialEq.eq (ClosureSays g.F.Fn c.args.says.now) c.in-Vacant.ensures.entry
-    c.in-Insert-step.is
-    (Value None ∷ []) (state_of (lent.lender value)) refl
+    c.in-Insert-step.is (Value None ∷ []) (state_of (lent.lender value)) refl
     (Ok tt, added c.in_ok-insert-in-Insert-step.ensures.value adds, refl) in
     search rules
 
 pub returns-in_err-insert-in-InsertEntry-step : goal.returns-in_err-insert-in-InsertEntry-step
 returns-in_err-insert-in-InsertEntry-step g c =
     let lent = c.insert-in-InsertEntry-step.follows in
-    let pair = c.in_err-insert-in-InsertEntry-step.field-0.0 in
-    let refuses = rw c.in_err-insert-in-InsertEntry-step.was at lent.holds-at-none in
+    let refused = c.in_err-insert-in-InsertEntry-step in
     let back = c.from_residual-in_err-insert-in-InsertEntry-step in
-    let handed = handed_on back.result _ back.ensures.1 in
     let step =
     at_vacant g.K.PartialEq.eq (ClosureSays g.F.Fn c.args.says.now) c.in-Vacant.ensures.entry
-    c.in-InsertEntry-step.is
-    (reply_or_refused back.result ∷ []) (state_of lent.lender-at-none) refl
-    (Err pair, refuses, ap (λ r. reply_or_refused r ∷ []) handed) in
+    c.in-InsertEntry-step.is (reply_or_refused back.result ∷ []) (state_of lent.lender-at-none) refl
+    (Err refused.field-0.0, rw refused.was at lent.holds-at-none, handed_on _ _ back.ensures.1) in
     search rules
 
 pub returns-in-InsertEntry-step : goal.returns-in-InsertEntry-step
@@ -182,7 +168,6 @@ returns-in-InsertEntry-step g c =
     let adds = lent.holds value (ap is_ok c.in_ok-insert-in-InsertEntry-step.was) in
     let step =
     at_vacant g.K.PartialEq.eq (ClosureSays g.F.Fn c.args.says.now) c.in-Vacant.ensures.entry
-    c.in-InsertEntry-step.is
-    (Pair None ∷ []) (state_of (lent.lender value)) refl
+    c.in-InsertEntry-step.is (Pair None ∷ []) (state_of (lent.lender value)) refl
     (Ok tt, added c.in_ok-insert-in-InsertEntry-step.ensures.value adds, refl) in
     search rules
