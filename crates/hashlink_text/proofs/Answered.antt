@@ -36,11 +36,15 @@ shrunk (Ok done) h = refl
 shrunk (Err e) h = cc
 
 module _ (S : Type 0) where
+  -- whatever may answer the line where there are these entries is such
+  abbrev Of : Pairs → List ℕ → (MapState ℕ ℕ S → MapState ℕ ℕ S → List ℕ → Type 0) → Type 0
+  Of es line P =
+      (n r w : ℕ) (s : S) (new : MapState ℕ ℕ S) (text : List ℕ)
+      → Shows (map_state es n r w s) (read_of line) text new → P (map_state es n r w s) new text
+
   -- where there are these entries, this answers the line, and those are left
   record Answers (es : Pairs) (line answer : List ℕ) (left : Pairs) : Type 0 where
-    by :
-        (n r w : ℕ) (s : S) (new : MapState ℕ ℕ S) (text : List ℕ)
-        → Shows (map_state es n r w s) (read_of line) text new → (text ≡ answer) × (new.entries ≡ left)
+    by : Of es line (λ old new text. (text ≡ answer) × (new.entries ≡ left))
 
   -- this answers the lines
   pub record AnswersAll (es : Pairs) (lines : List (List ℕ)) (answer : List ℕ) : Type 0 where
@@ -64,9 +68,8 @@ module _ (S : Type 0) where
 
   -- by one reply
   replied : {es left : Pairs} (line : List ℕ) (reply : Reply ℕ ℕ (ℕ × ℕ))
-      → ((n r w : ℕ) (s : S) (new : MapState ℕ ℕ S) (text : List ℕ)
-      → Shows (map_state es n r w s) (read_of line) text new
-      → (replies : List (Reply ℕ ℕ (ℕ × ℕ))) × (new.entries ≡ left) × (replies ≡ reply ∷ [])
+      → Of es line (λ old new text.
+      (replies : List (Reply ℕ ℕ (ℕ × ℕ))) × (new.entries ≡ left) × (replies ≡ reply ∷ [])
       × (text ≡ replies_shown replies))
       → Answers es line (reply_shown reply) left
   replied line reply shows = record {
@@ -76,9 +79,8 @@ module _ (S : Type 0) where
 
   -- and no change
   finds : {es : Pairs} (line : List ℕ) (reply : Reply ℕ ℕ (ℕ × ℕ))
-      → ((n r w : ℕ) (s : S) (new : MapState ℕ ℕ S) (text : List ℕ)
-      → Shows (map_state es n r w s) (read_of line) text new
-      → (replies : List (Reply ℕ ℕ (ℕ × ℕ))) × ((new ≡ map_state es n r w s) × (replies ≡ reply ∷ []))
+      → Of es line (λ old new text.
+      (replies : List (Reply ℕ ℕ (ℕ × ℕ))) × ((new ≡ old) × (replies ≡ reply ∷ []))
       × (text ≡ replies_shown replies))
       → Answers es line (reply_shown reply) es
   finds line reply shows = replied line reply (λ n r w s new text h.
