@@ -16,9 +16,9 @@ use Rattle.hashlink_model.proofs.Puts.{put_back_absent}
 use Rattle.hashlink_model.proofs.Splits.{stands_from_place, lookup_entry-here, none_from_lookup}
 use Rattle.hashlink_run.specs.declared.commands.EntryStep.{EntryStep}
 use Rattle.hashlink_run.specs.declared.replies.Reply.{Reply}
-use Rattle.hashlink_run.specs.declared.replies.Reply.TheVariants.{Seen}
+use Rattle.hashlink_run.specs.declared.replies.Reply.TheVariants.{Refused}
+use Rattle.hashlink_run.specs.CallReplies.{reply_or_refused}
 use Rattle.hashlink_run.specs.EntrySteps.{OccupiedStep, VacantStep, EntrySteps}
-use Rattle.hashlink_run.specs.Reads.{SaysOf, Replies}
 use Rattle.hashlink_run.proofs.Moved.{lookup_entry-absent}
 
 module _ {K V B S : Type 0} (eq : K → K → Bool) (Says : K → V → B → Type 0) {m : MapState K V S} {k : K}
@@ -46,9 +46,10 @@ pub added : {K V S : Type 0} {eq : K → K → Bool} {old new : MapState K V S} 
 added {eq = eq} {old} {new} {k} {b = b} same adds = subst (λ v. AddsEntry eq old new k v b) same adds
 
 -- and what was handed back goes on
-pub handed_on : {A E : Type 0} (r : Result A E) (p : E) → IsErrAnd r (λ x. x ≡ p) → r ≡ Err p
-handed_on (Ok a) p e = absurd e
-handed_on (Err x) p e = ap Err e
+pub handed_on : {K V B : Type 0} (r : Result (Reply K V B) (K × V)) (p : K × V) → IsErrAnd r (λ x. x ≡ p)
+    → reply_or_refused r ∷ [] ≡ Refused p.0 p.1 ∷ []
+handed_on (Ok reply) p e = absurd e
+handed_on (Err x) p e = ap (λ x. Refused x.0 x.1 ∷ []) e
 
 -- ---- the pair that is read
 
@@ -74,7 +75,7 @@ module _ {K V : Type 0} where
       rw (moved_at-last xs e ys, n) (slice_get_here (xs ++ ys) e [])
 
   -- an entry that moves to the end stands there
-  pub moved_to_end : (es : List (K × V)) (j : ℕ) (e : K × V) → slice_get es j ≡ Some e
+  moved_to_end : (es : List (K × V)) (j : ℕ) (e : K × V) → slice_get es j ≡ Some e
       → slice_get (moved_at es j (length es)) (length es - 1) ≡ Some e
   moved_to_end es j e at =
       let s = split_at es j e at in
@@ -87,7 +88,7 @@ module _ {K V : Type 0} where
   first_inserted es e false = refl
 
   -- and one that moves to the front stands there
-  pub moved_to_front : (es : List (K × V)) (j : ℕ) (e : K × V) → slice_get es j ≡ Some e
+  moved_to_front : (es : List (K × V)) (j : ℕ) (e : K × V) → slice_get es j ≡ Some e
       → slice_get (moved_at es j 0) 0 ≡ Some e
   moved_to_front es j e at = rw at (first_inserted (remove es j) e (nat_lt j 0))
 
@@ -107,36 +108,22 @@ module _ {K V S : Type 0} (eq : K → K → Bool) {m : MapState K V S} {k : K} {
             ∙ lookup_entry-here (eq k) s.1 s.2 s.3.passes s.0 s.3.before,
       )
 
-  module _ (pair : K × V) where
-    pub read_there : slice_get old.entries j ≡ Some pair → lookup_entry (eq k) m.entries ≡ Some pair
-    read_there read = stands.2 ∙ sym stands.1 ∙ read
+  pub there : slice_get old.entries j ≡ lookup_entry (eq k) m.entries
+  there = stands.1 ∙ sym stands.2
 
-    -- also after it has moved to an end
-    module _ (new : MapState K V S) (p : ℕ) (read : slice_get new.entries p ≡ Some pair) where
-      pub read_at_end : MovesAt old new j (length old.entries) → Some p ≡ Some (length old.entries - 1)
-          → lookup_entry (eq k) m.entries ≡ Some pair
-      read_at_end moves end =
-          let is = ap₂ slice_get moves.entries (same_Some _ _ end) in
-          stands.2 ∙ sym (is ∙ moved_to_end old.entries j stands.0 stands.1) ∙ read
+  -- also after it has moved to an end
+  module _ (new : MapState K V S) (p : ℕ) where
+    pub there_at_end : MovesAt old new j (length old.entries) → Some p ≡ Some (length old.entries - 1)
+        → slice_get new.entries p ≡ slice_get old.entries j
+    there_at_end moves end =
+        ap₂ slice_get moves.entries (same_Some _ _ end) ∙ moved_to_end old.entries j stands.0 stands.1
+        ∙ sym stands.1
 
-      pub read_at_front : MovesAt old new j 0 → Some p ≡ Some 0 → lookup_entry (eq k) m.entries ≡ Some pair
-      read_at_front moves front =
-          let is = ap₂ slice_get moves.entries (same_Some _ _ front) in
-          stands.2 ∙ sym (is ∙ moved_to_front old.entries j stands.0 stands.1) ∙ read
-
--- so what is said of it there is said of it
-module _ {K V B S : Type 0} (eq : K → K → Bool) (Says : K → V → B → Type 0) {m : MapState K V S} {k : K}
-    {e : EntryState K V S} (is : e ≡ entry_of eq m k) (old new : MapState K V S) (j p : ℕ) (b : B)
-    (same : e.map ≡ old) (at : e.place ≡ Some j) where
-  pub said_at_end : MovesAt old new j (length old.entries) → Some p ≡ Some (length old.entries - 1)
-      → SaysOf Says (slice_get new.entries p) (Some b)
-      → Replies Says Seen (slice_get old.entries j) (Seen (Some b) ∷ [])
-  said_at_end moves end said =
-      let s = stands eq is old j same at in
-      let read = ap₂ slice_get moves.entries (same_Some _ _ end)
-      ∙ moved_to_end old.entries j s.0 s.1
-      ∙ sym s.1 in
-      (Some b, rw read at said, refl)
+    pub there_at_front : MovesAt old new j 0 → Some p ≡ Some 0
+        → slice_get new.entries p ≡ slice_get old.entries j
+    there_at_front moves front =
+        ap₂ slice_get moves.entries (same_Some _ _ front) ∙ moved_to_front old.entries j stands.0 stands.1
+        ∙ sym stands.1
 
 -- a value that is taken out goes with its key
 pub taken : {K V S : Type 0} (old new : MapState K V S) (j : ℕ) (v : V) → value_at old.entries j ≡ Some v

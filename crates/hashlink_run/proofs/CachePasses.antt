@@ -1,30 +1,28 @@
 -- The nodes along the steps of a cache.
-use Rattle.std.proofs.Common.{◌≡◌, Bool, List, [], ◌∷◌, ◌++◌, length, take, Option, None, Some, Result, Ok}
-use Rattle.std.proofs.Common.{Err, MatchOption, MatchResult, append_assoc, arith, max, refl, sym, ap, ◌∙◌}
+use Rattle.std.proofs.Common.{◌≡◌, Bool, List, [], ◌∷◌, ◌++◌, length, take, Option, Result, Ok}
+use Rattle.std.proofs.Common.{Err, MatchResult, ⊎_elim, append_assoc, arith, max, refl, sym, ap, ◌∙◌}
 use Rattle.std.proofs.Common.{subst}
 use Rattle.std.specs.Map.{lookup, lookup_entry}
-use Rattle.hashlink_model.specs.Cache.{CacheState, CacheInserts, CacheGets, CacheUses, EvictsFront}
-use Rattle.hashlink_history.specs.CacheRuns as event
+use Rattle.hashlink_model.specs.Cache.{CacheState, CacheInserts, CacheUses, EvictsFront}
 use Rattle.hashlink_history.specs.Peak.{Passed, Length, Passes, PassesInTurn}
 use Rattle.hashlink_model.specs.MapState.{MapState, node_count, KeepsNodes}
 use Rattle.hashlink_model.proofs.KeptNodes.{kept-inserts, kept-keeps, kept-moves, kept-removes_key}
 use Rattle.hashlink_model.proofs.KeptNodes.{kept-pops_front}
-use Rattle.hashlink_history.proofs.Peaks.{passes-clears, passes_in_parts, within_the_peak}
+use Rattle.hashlink_history.proofs.Peaks.{passes-cache_insert, passes-clears, passes_in_parts}
+use Rattle.hashlink_history.proofs.Peaks.{within_the_peak}
 use Rattle.hashlink_run.specs.declared.cache_commands.CacheCommand.{CacheCommand}
-use Rattle.hashlink_run.specs.declared.cache_commands.CacheCommand.TheVariants.{Insert, Use, Entry, Get, Peek}
-use Rattle.hashlink_run.specs.declared.cache_commands.CacheCommand.TheVariants.{Remove, SetCapacity, Clear}
-use Rattle.hashlink_run.specs.declared.cache_commands.CacheCommand.TheVariants.{RemoveLru}
+use Rattle.hashlink_run.specs.declared.cache_commands.CacheCommand.TheVariants as cache
 use Rattle.hashlink_run.specs.declared.replies.Reply.{Reply}
 use Rattle.hashlink_run.specs.declared.replies.Reply.TheVariants.{Refused, Seen}
-use Rattle.hashlink_run.specs.CacheCalls.{put_passed}
 use Rattle.hashlink_run.specs.CacheRun.{command_put, cache_passed, CacheWithinPeak}
 use Rattle.hashlink_run.specs.CacheStep.{CacheStep, CacheRun}
 use Rattle.hashlink_run.specs.CallReplies.{insert_reply}
 use Rattle.hashlink_run.specs.Chain.{Answered, state_after, after}
 use Rattle.hashlink_run.specs.Reads.{Replies}
-use Rattle.hashlink_run.proofs.Called.{passed_one, passed_two, used}
+use Rattle.hashlink_run.proofs.CachePuts.{use_cases}
+use Rattle.hashlink_run.proofs.Called.{passed_one, used}
 use Rattle.hashlink_run.proofs.Chained.{Chain-take}
-use Rattle.hashlink_run.proofs.EntryNodes.{kept_unchanged, entry-keeps}
+use Rattle.hashlink_run.proofs.EntryNodes.{kept_unchanged, entry-leaves}
 
 module _ {K V B S : Type 0} (eq : K → K → Bool) (Says : K → V → B → Type 0) (old new : CacheState K V S) where
   -- what a command passes
@@ -34,38 +32,28 @@ module _ {K V B S : Type 0} (eq : K → K → Bool) (Says : K → V → B → Ty
       new.map
 
   keeps : KeepsNodes old.map new.map → PassesInTurn old.map (Length (length new.map.entries) ∷ []) new.map
-  keeps kept = passed_one eq old.map new.map _ kept refl
+  keeps kept = passed_one eq old.map new.map kept
+
+  kept-refused : (k : K) (v : V) (pair : K × V) → CacheInserts eq old new k v (Err pair)
+      → KeepsNodes old.map new.map
+  kept-refused k v pair s = kept-inserts old.map new.map eq k v (length old.map.entries) (Err pair) s.map
 
   inserted : (k : K) (v : V) (answer : Result (Option V) (K × V)) → CacheInserts eq old new k v answer
-      → PassesBy (Insert k v) (insert_reply answer ∷ [])
-  inserted k v (Ok w) s = passed_two eq old new k v w _ s refl
-  inserted k v (Err pair) s =
-      keeps (kept-inserts old.map new.map eq k v (length old.map.entries) (Err pair) s.map)
-
-  -- the lengths of a use where it is not refused
-  abbrev UsePasses : K → V → Type 0
-  UsePasses k v =
-      PassesInTurn old.map
-      (put_passed eq old.cap old.map.entries (event.Use k v) ++ Length (length new.map.entries) ∷ []) new.map
-
-  -- a refused use has missed
-  refused_use : (k : K) (v : V) (pair : K × V) (o : Option V)
-      → MatchOption o (CacheInserts eq old new k v (Err pair))
-      (λ w. (◌≡◌ {A = Result (Option V) (K × V)} (Err pair) (Ok (Some w))) × CacheGets eq old new k (Some w))
-      → KeepsNodes old.map new.map
-  refused_use k v pair None s = kept-inserts old.map new.map eq k v (length old.map.entries) (Err pair) s.map
-  refused_use k v pair (Some w) s = absurd (let no = s.0 in cc)
+      → PassesBy (cache.Insert k v) (insert_reply answer ∷ [])
+  inserted k v (Ok w) s = passes-cache_insert eq old new k v w s
+  inserted k v (Err pair) s = keeps (kept-refused k v pair s)
 
   used_so : (k : K) (v : V) (answer : Result (Option V) (K × V)) (replies : List (Reply K V B))
       → CacheUses eq old new k v answer
       → MatchResult answer (λ w. Replies Says Seen (lookup_entry (eq k) old.map.entries) replies)
       (λ pair. replies ≡ Refused pair.0 pair.1 ∷ [])
-      → PassesBy (Use k v) replies
+      → PassesBy (cache.Use k v) replies
   used_so k v (Ok w) replies s said =
-      subst (PassesBy (Use k v)) (sym said.2)
-      (used eq old new k v w (lookup (eq k) old.map.entries) _ refl s).1
+      subst (PassesBy (cache.Use k v)) (sym said.2)
+      (used eq old new k v w (lookup (eq k) old.map.entries) s).1
   used_so k v (Err pair) replies s said =
-      subst (PassesBy (Use k v)) (sym said) (keeps (refused_use k v pair (lookup (eq k) old.map.entries) s))
+      subst (PassesBy (cache.Use k v)) (sym said)
+      (keeps (⊎_elim (kept-refused k v pair) (λ g. cc (g.1)) (use_cases eq old new k v (Err pair) s)))
 
   -- what an eviction leaves, and then a step that keeps the nodes
   evicted : (between : MapState K V S) → EvictsFront old.map between old.cap → KeepsNodes between new.map
@@ -77,24 +65,24 @@ module _ {K V B S : Type 0} (eq : K → K → Bool) (Says : K → V → B → Ty
 
   command_passes : (command : CacheCommand K V) (replies : List (Reply K V B))
       → CacheStep eq Says old command replies new → PassesBy command replies
-  command_passes (Insert k v) replies s =
-      subst (PassesBy (Insert k v)) (sym s.2) (inserted k v s.0 s.1)
-  command_passes (Use k v) replies s = used_so k v s.0 replies s.1 s.2
-  command_passes (Entry k step) replies s =
-      keeps (evicted s.0 s.1 (entry-keeps s.0 new.map Says replies k eq step s.2))
-  command_passes (Get k) replies s =
+  command_passes (cache.Insert k v) replies s =
+      subst (PassesBy (cache.Insert k v)) (sym s.2) (inserted k v s.0 s.1)
+  command_passes (cache.Use k v) replies s = used_so k v s.0 replies s.1 s.2
+  command_passes (cache.Entry k step) replies s =
+      keeps (evicted s.0 s.1 (entry-leaves Says s.0 new.map replies k eq step s.2).kept)
+  command_passes (cache.Get k) replies s =
       keeps (kept-moves old.map new.map eq k (length old.map.entries) _ s.0.map)
-  command_passes (Peek k) replies s = keeps (kept_unchanged old.map new.map (ap (λ c. c.map) s.0))
-  command_passes (Remove k) replies s = keeps (kept-removes_key old.map new.map eq k _ s.0.map)
-  command_passes (SetCapacity n) replies s = keeps (kept-keeps old.map new.map _ s.0.map)
-  command_passes Clear replies s =
+  command_passes (cache.Peek k) replies s = keeps (kept_unchanged old.map new.map (ap (λ c. c.map) s.0))
+  command_passes (cache.Remove k) replies s = keeps (kept-removes_key old.map new.map eq k _ s.0.map)
+  command_passes (cache.SetCapacity n) replies s = keeps (kept-keeps old.map new.map _ s.0.map)
+  command_passes cache.Clear replies s =
       let none = ap length s.0.map.entries in (
         new.map,
         subst (λ n. Passes old.map (Length n) new.map) (sym none)
             (passes-clears old.map new.map s.0.map),
         refl,
       )
-  command_passes RemoveLru replies s = keeps (kept-pops_front old.map new.map _ s.0.map)
+  command_passes cache.RemoveLru replies s = keeps (kept-pops_front old.map new.map _ s.0.map)
 
 module _ {K V B S : Type 0} (eq : K → K → Bool) (Says : K → V → B → Type 0) where
   run_passes : (old : CacheState K V S) (cs : List (CacheCommand K V))

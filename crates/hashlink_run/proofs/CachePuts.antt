@@ -1,19 +1,17 @@
 -- A command to a cache that passes a length before anything is dropped has put a pair in: it is an insert, or
 -- a use that missed, and was not refused.
-use Rattle.std.proofs.Common.{◌≡◌, ℕ, zero, suc, Bool, List, [], ◌∷◌, length, slice_get, Option, None, Some}
-use Rattle.std.proofs.Common.{Result, Ok, Err, MatchOption, MatchResult, cond, ap, sym, subst}
+use Rattle.std.proofs.Common.{◌≡◌, ℕ, Bool, List, [], ◌∷◌, length, Option, None, Some}
+use Rattle.std.proofs.Common.{Result, Ok, Err, MatchOption, MatchResult, cond, ap, subst}
+use Rattle.std.proofs.Common.{◌⊎◌, inl, inr}
 use Rattle.std.specs.Map.{lookup, lookup_entry}
 use Rattle.std.specs.Option.{option_map_or}
-use Rattle.std.proofs.lemmas.Option.{same_Some}
-use Rattle.hashlink_model.specs.Cache.{CacheState, IsWithin, CacheInserts, CacheGets, CacheUses}
+use Rattle.hashlink_model.specs.Cache.{CacheState, CacheInserts, CacheGets, CacheUses}
 use Rattle.hashlink_history.specs.CacheRuns as event
 use Rattle.hashlink_model.specs.Entries.{put}
 use Rattle.hashlink_history.specs.Peak.{Passed, Length}
 use Rattle.hashlink_model.proofs.CacheBounds.{within-inserted}
 use Rattle.hashlink_run.specs.declared.cache_commands.CacheCommand.{CacheCommand}
-use Rattle.hashlink_run.specs.declared.cache_commands.CacheCommand.TheVariants.{Insert, Use, Entry, Get, Peek}
-use Rattle.hashlink_run.specs.declared.cache_commands.CacheCommand.TheVariants.{Remove, SetCapacity, Clear}
-use Rattle.hashlink_run.specs.declared.cache_commands.CacheCommand.TheVariants.{RemoveLru}
+use Rattle.hashlink_run.specs.declared.cache_commands.CacheCommand.TheVariants.{Insert, Use}
 use Rattle.hashlink_run.specs.declared.replies.Reply.{Reply}
 use Rattle.hashlink_run.specs.declared.replies.Reply.TheVariants.{Refused, Seen}
 use Rattle.hashlink_run.specs.CacheCalls.{put_passed}
@@ -22,6 +20,22 @@ use Rattle.hashlink_run.specs.CacheStep.{CacheStep, CacheRun}
 use Rattle.hashlink_run.specs.CallReplies.{insert_reply, is_refused}
 use Rattle.hashlink_run.specs.Chain.{Answered, after}
 use Rattle.hashlink_run.specs.Reads.{Replies}
+use Rattle.hashlink_run.proofs.Chained.{step_of}
+
+-- a use is an insert, or a `get` of what is there
+pub use_cases : {K V S : Type 0} (eq : K → K → Bool) (old new : CacheState K V S) (k : K) (v : V)
+    (answer : Result (Option V) (K × V)) → CacheUses eq old new k v answer
+    → CacheInserts eq old new k v answer
+    ⊎ ((w : V) × (answer ≡ Ok (Some w)) × CacheGets eq old new k (Some w))
+use_cases {V = V} eq old new k v answer s = by (lookup (eq k) old.map.entries) s
+  where
+    by : (o : Option V)
+        → MatchOption o (CacheInserts eq old new k v answer)
+        (λ w. (answer ≡ Ok (Some w)) × CacheGets eq old new k (Some w))
+        → CacheInserts eq old new k v answer
+        ⊎ ((w : V) × (answer ≡ Ok (Some w)) × CacheGets eq old new k (Some w))
+    by None s = inl s
+    by (Some w) s = inr (w, s.0, s.1)
 
 module _ {K V B S : Type 0} (eq : K → K → Bool) (Says : K → V → B → Type 0) (old new : CacheState K V S) where
   abbrev PutLength : K → V → ℕ
@@ -77,41 +91,14 @@ module _ {K V B S : Type 0} (eq : K → K → Bool) (Says : K → V → B → Ty
   step-puts (Insert k v) replies n s is =
       insert-puts k v s.0 n s.1 (subst (λ rs. command_put eq old (Insert k v) rs ≡ Length n ∷ []) s.2 is)
   step-puts (Use k v) replies n s is = used-puts k v s.0 replies n s.1 s.2 is
-  step-puts (Entry k step) replies n s is = cc
-  step-puts (Get k) replies n s is = cc
-  step-puts (Peek k) replies n s is = cc
-  step-puts (Remove k) replies n s is = cc
-  step-puts (SetCapacity m) replies n s is = cc
-  step-puts Clear replies n s is = cc
-  step-puts RemoveLru replies n s is = cc
+  step-puts command replies n s is = cc
 
-  -- and then no more than the capacity are left
-  step-fits : (command : CacheCommand K V) (replies : List (Reply K V B)) (n : ℕ)
-      → CacheStep eq Says old command replies new → command_put eq old command replies ≡ Length n ∷ []
-      → IsWithin new 0
-  step-fits command replies n s is =
-      let puts = step-puts command replies n s is in
-      within-inserted old new eq puts.key puts.value puts.answer puts.inserts
-
-module _ {K V B S : Type 0} (eq : K → K → Bool) (Says : K → V → B → Type 0) where
-  fits_at : (i : ℕ) (old : CacheState K V S) (cs : List (CacheCommand K V))
-      (xs : List (Answered (Reply K V B) (CacheState K V S))) → CacheRun eq Says old cs xs
-      → (n : ℕ) (command : CacheCommand K V) (a : Answered (Reply K V B) (CacheState K V S))
-      → slice_get cs i ≡ Some command → slice_get xs i ≡ Some a
-      → command_put eq (after old xs i) command a.replies ≡ Length n ∷ []
-      → IsWithin a.state 0
-  fits_at i old [] xs r n command a at is puts = cc
-  fits_at i old (c ∷ cs) [] r n command a at is puts = absurd r
-  fits_at zero old (c ∷ cs) (x ∷ xs) r n command a at is puts =
-      let puts' : command_put eq old c x.replies ≡ Length n ∷ []
-      = subst (λ d. command_put eq old d x.replies ≡ Length n ∷ []) (sym (same_Some _ _ at))
-      (subst (λ y. command_put eq old command y.replies ≡ Length n ∷ []) (sym (same_Some _ _ is)) puts) in
-      subst (λ y. IsWithin y.state 0) (same_Some _ _ is)
-      (step-fits eq Says old x.state c x.replies n r.0 puts')
-  fits_at (suc i) old (c ∷ cs) (x ∷ xs) r n command a at is puts =
-      fits_at i x.state cs xs r.1 n command a at is puts
-
-  pub inserts_fit : (old : CacheState K V S) (cs : List (CacheCommand K V))
-      (xs : List (Answered (Reply K V B) (CacheState K V S))) → CacheRun eq Says old cs xs
-      → InsertsFit eq old cs xs
-  inserts_fit old cs xs r i = fits_at i old cs xs r
+-- and then no more than the capacity are left
+pub inserts_fit : {K V B S : Type 0} (eq : K → K → Bool) (Says : K → V → B → Type 0)
+    (old : CacheState K V S) (cs : List (CacheCommand K V))
+    (xs : List (Answered (Reply K V B) (CacheState K V S))) → CacheRun eq Says old cs xs
+    → InsertsFit eq old cs xs
+inserts_fit eq Says old cs xs r i n command a at is puts =
+    let step = step_of (CacheStep eq Says) i old cs xs r command a at is in
+    let p = step-puts eq Says (after old xs i) a.state command a.replies n step puts in
+    within-inserted (after old xs i) a.state eq p.key p.value p.answer p.inserts

@@ -3,9 +3,7 @@ use Rattle.std.proofs.Common.{Bool, List, Option, Result, Ok, Err, MatchResult, 
 use Rattle.std.specs.Map.{lookup_entry}
 use Rattle.hashlink_model.specs.Cache.{CacheState}
 use Rattle.hashlink_run.specs.declared.cache_commands.CacheCommand.{CacheCommand}
-use Rattle.hashlink_run.specs.declared.cache_commands.CacheCommand.TheVariants.{Insert, Use, Entry, Get, Peek}
-use Rattle.hashlink_run.specs.declared.cache_commands.CacheCommand.TheVariants.{Remove, SetCapacity, Clear}
-use Rattle.hashlink_run.specs.declared.cache_commands.CacheCommand.TheVariants.{RemoveLru}
+use Rattle.hashlink_run.specs.declared.cache_commands.CacheCommand.TheVariants as cache
 use Rattle.hashlink_run.specs.declared.replies.Reply.{Reply}
 use Rattle.hashlink_run.specs.declared.cache_commands.WeightedCommand.{WeightedCommand}
 use Rattle.hashlink_run.specs.declared.cache_commands.WeightedCommand.TheVariants as weighted
@@ -29,17 +27,14 @@ module _ {K V B : Type 0} (P Q : K → V → B → Type 0) (wider : (k : K) (v :
 
   pub cache_step-wider : (command : CacheCommand K V) → CacheStep eq P old command replies new
       → CacheStep eq Q old command replies new
-  cache_step-wider (Insert k v) s = s
-  cache_step-wider (Use k v) s = (s.0, s.1, use-wider k s.0 s.2)
-  cache_step-wider (Entry k step) s = (s.0, s.1, entry-wider P Q wider s.0 replies new.map eq k step s.2, s.3)
-  cache_step-wider (Get k) s =
+  cache_step-wider (cache.Use k v) s = (s.0, s.1, use-wider k s.0 s.2)
+  cache_step-wider (cache.Entry k step) s =
+      (s.0, s.1, entry-wider P Q wider s.0 replies new.map eq k step s.2, s.3)
+  cache_step-wider (cache.Get k) s =
       (s.0, replies-wider P Q wider Seen (lookup_entry (eq k) old.map.entries) replies s.1)
-  cache_step-wider (Peek k) s =
+  cache_step-wider (cache.Peek k) s =
       (s.0, replies-wider P Q wider Seen (lookup_entry (eq k) old.map.entries) replies s.1)
-  cache_step-wider (Remove k) s = s
-  cache_step-wider (SetCapacity n) s = s
-  cache_step-wider Clear s = s
-  cache_step-wider RemoveLru s = s
+  cache_step-wider command s = s
 
 -- ---- and of a cache with a budget
 

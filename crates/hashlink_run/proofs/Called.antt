@@ -8,7 +8,7 @@ use Rattle.hashlink_model.specs.Cache.{CacheState, CacheInserts, CacheGets}
 use Rattle.hashlink_history.specs.CacheRuns.{CacheEvent, Insert, Use, Remove, Peek, answer_to, after_event}
 use Rattle.hashlink_history.specs.CacheRuns.{after_events, answers}
 use Rattle.hashlink_model.specs.Entries.{put, without}
-use Rattle.hashlink_history.specs.Peak.{Length, PassesInTurn}
+use Rattle.hashlink_history.specs.Peak.{Passed, Length, PassesInTurn}
 use Rattle.hashlink_model.specs.MapState.{MapState, Removes, KeepsNodes}
 use Rattle.hashlink_history.proofs.Peaks.{passes-cache_insert, passes-kept, passes_in_parts, within_the_peak}
 use Rattle.hashlink_model.proofs.CacheSteps.{inserts_answer, inserts_entries, uses_entries}
@@ -37,9 +37,7 @@ module _ {K V S : Type 0} (eq : K → K → Bool) where
     pub cap : new.cap ≡ old.cap
     pub passes :
         PassesInTurn old.map
-        (put_passed eq old.cap old.map.entries e ++ Length
-        (length (after_event eq old.cap old.map.entries e)) ∷ [])
-        new.map
+        (put_passed eq old.cap old.map.entries e ++ Length (length new.map.entries) ∷ []) new.map
 
   removed_entries : (old new : MapState K V S) (k : K) (o : Option (K × V))
       → lookup_entry (eq k) old.entries ≡ o
@@ -51,73 +49,49 @@ module _ {K V S : Type 0} (eq : K → K → Bool) where
   removed_entries old new k (Some e) some s = s.entries
 
   -- a step that keeps the nodes passes the length that it leads to
-  pub passed_one : (old new : MapState K V S) (n : ℕ) → KeepsNodes old new → length new.entries ≡ n
-      → PassesInTurn old (Length n ∷ []) new
-  passed_one old new n kept is =
-      subst (λ m. PassesInTurn old (Length m ∷ []) new) is (new, passes-kept old new kept, refl)
-
-  pub passed_two : (old new : CacheState K V S) (k : K) (v : V) (w : Option V) (n : ℕ)
-      → CacheInserts eq old new k v (Ok w)
-      → length new.map.entries ≡ n
-      → PassesInTurn old.map
-      (Length (length (put eq old.map.entries k v (length old.map.entries))) ∷ Length n ∷ []) new.map
-  passed_two old new k v w n s is =
-      subst (λ m. PassesInTurn old.map
-      (Length (length (put eq old.map.entries k v (length old.map.entries))) ∷ Length m ∷ []) new.map) is
-      (passes-cache_insert eq old new k v w s)
+  pub passed_one : (old new : MapState K V S) → KeepsNodes old new
+      → PassesInTurn old (Length (length new.entries) ∷ []) new
+  passed_one old new kept = (new, passes-kept old new kept, refl)
 
   -- a use keeps the capacity, and passes what an insert passes where it misses
-  pub used : (old new : CacheState K V S) (k : K) (v : V) (w o : Option V) (n : ℕ)
-      → length new.map.entries ≡ n
+  pub used : (old new : CacheState K V S) (k : K) (v : V) (w o : Option V)
       → MatchOption o (CacheInserts eq old new k v (Ok w))
       (λ x. (◌≡◌ {A = Result (Option V) (K × V)} (Ok w) (Ok (Some x))) × CacheGets eq old new k (Some x))
       → (new.cap ≡ old.cap)
       ×
       PassesInTurn old.map
       (option_map_or (λ x. []) o (Length (length (put eq old.map.entries k v (length old.map.entries))) ∷ [])
-      ++ Length n ∷ []) new.map
-  used old new k v w None n is s = (s.cap, passed_two old new k v w n s is)
-  used old new k v w (Some x) n is s = (
-    s.1.cap,
-    passed_one old.map new.map n
-        (kept-moves old.map new.map eq k (length old.map.entries) (Some x) s.1.map) is,
-  )
+      ++ Length (length new.map.entries) ∷ []) new.map
+  used old new k v w None s = (s.cap, passes-cache_insert eq old new k v w s)
+  used old new k v w (Some x) s =
+      (s.1.cap, passed_one old.map new.map (kept-moves old.map new.map eq k _ (Some x) s.1.map))
 
   pub left : (old : CacheState K V S) (e : CacheEvent K V) (replies : List (Option V))
       (new : CacheState K V S)
       → EventStep eq old e replies new → Leaves old e replies new
   left old (Insert k v) replies new s =
-      let entries = inserts_entries eq old new k v s.0 s.1 in
       record {
-        entries = entries;
+        entries = inserts_entries eq old new k v s.0 s.1;
         answer = s.2 ∙ ap (λ w. w ∷ []) (inserts_answer eq old new k v s.0 s.1);
         cap = s.1.cap;
-        passes = passed_two old new k v s.0 _ s.1 (ap length entries);
+        passes = passes-cache_insert eq old new k v s.0 s.1;
       }
   left old (Use k v) replies new s =
       let both = uses_entries eq old new k v s.0 s.1 in
-      let hit = used old new k v s.0 (lookup (eq k) old.map.entries) _ (ap length both.1) s.1 in
+      let hit = used old new k v s.0 (lookup (eq k) old.map.entries) s.1 in
       record { entries = both.1; answer = s.2 ∙ ap (λ w. w ∷ []) both.0; cap = hit.0; passes = hit.1 }
-  left old (Remove k) replies new s =
-      let entries =
-      removed_entries old.map new.map k (lookup_entry (eq k) old.map.entries) refl s.0.map.step in
-      record {
-        entries = entries;
-        answer = s.1;
-        cap = s.0.cap;
-        passes = passed_one old.map new.map _ (kept-removes_key old.map new.map eq k _ s.0.map)
-            (ap length entries);
-      }
-  left old (Peek k) replies new s =
-      let entries = ap (λ c. c.map.entries) s.0 in
-      record {
-        entries = entries;
-        answer = s.1;
-        cap = ap (λ c. c.cap) s.0;
-        passes =
-            passed_one old.map new.map _ (kept_unchanged old.map new.map (ap (λ c. c.map) s.0))
-            (ap length entries);
-      }
+  left old (Remove k) replies new s = record {
+    entries = removed_entries old.map new.map k (lookup_entry (eq k) old.map.entries) refl s.0.map.step;
+    answer = s.1;
+    cap = s.0.cap;
+    passes = passed_one old.map new.map (kept-removes_key old.map new.map eq k _ s.0.map);
+  }
+  left old (Peek k) replies new s = record {
+    entries = ap (λ c. c.map.entries) s.0;
+    answer = s.1;
+    cap = ap (λ c. c.cap) s.0;
+    passes = passed_one old.map new.map (kept_unchanged old.map new.map (ap (λ c. c.map) s.0));
+  }
 
   -- what calls in turn leave and answer
   record LeavesAll (old : CacheState K V S) (events : List (CacheEvent K V)) (replies : List (Option V))
@@ -136,22 +110,21 @@ module _ {K V S : Type 0} (eq : K → K → Bool) where
   left_all old (e ∷ events) (x ∷ xs) r =
       let one = left old e x.replies x.state r.0 in
       let more = left_all x.state events xs r.1 in
-      let es = after_event eq old.cap old.map.entries e in
+      let own = put_passed eq old.cap old.map.entries e in
+      let n : Passed = Length (length x.state.map.entries) in
+      let rest = events_passed eq x.state.cap x.state.map.entries events in
       let passed =
-      passes_in_parts old.map x.state.map (state_after x.state xs).map
-      (put_passed eq old.cap old.map.entries e ++ Length (length es) ∷ [])
-      (events_passed eq old.cap es events)
-      one.passes
-      (subst (λ ps. PassesInTurn x.state.map ps (state_after x.state xs).map)
-      (ap₂ (λ c zs. events_passed eq c zs events) one.cap one.entries) more.passes) in
+      passes_in_parts old.map x.state.map (state_after x.state xs).map (own ++ n ∷ []) rest one.passes
+      more.passes in
       record {
         entries = more.entries ∙ ap₂ (λ c zs. after_events eq c zs events) one.cap one.entries;
         answers = ap₂ (λ a b. a ++ b) one.answer
             (more.answers ∙ ap₂ (λ c zs. answers eq c zs events) one.cap one.entries);
         cap = more.cap ∙ one.cap;
         passes = subst (λ ps. PassesInTurn old.map ps (state_after x.state xs).map)
-            (append_assoc (put_passed eq old.cap old.map.entries e) (Length (length es) ∷ [])
-            (events_passed eq old.cap es events)) passed;
+            (append_assoc own (n ∷ []) rest
+            ∙ ap₂ (λ c zs. own ++ Length (length zs) ∷ events_passed eq c zs events) one.cap one.entries)
+            passed;
       }
 
   -- from an empty cache on

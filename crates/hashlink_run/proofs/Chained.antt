@@ -1,7 +1,10 @@
--- Chains of steps: how they grow, and their parts.
-use Rattle.std.proofs.Common.{◌≡◌, ℕ, zero, suc, List, [], ◌∷◌, ◌++◌, take, drop, length, refl, ap, ◌∙◌}
-use Rattle.std.proofs.Common.{append-nil}
+-- Chains of steps: how they grow, their parts, and what is kept along them.
+use Rattle.std.proofs.Common.{◌≡◌, ℕ, zero, suc, ◌≤◌, ◌<◌, Bool, true, List, [], ◌∷◌, ◌++◌, take, drop, refl}
+use Rattle.std.proofs.Common.{slice_get, Some, sym, ap, ◌∙◌, subst, append-nil, arith}
+use Rattle.std.specs.List.{AllPass}
 use Rattle.std.proofs.lemmas.List.Concat.{flat_map-append}
+use Rattle.std.proofs.lemmas.List.Elements.{All-head, All-tail}
+use Rattle.std.proofs.lemmas.Option.{same_Some}
 use Rattle.hashlink_run.specs.Chain.{Answered, Chain, replies_of, state_after, after}
 
 module _ {R M : Type 0} where
@@ -14,12 +17,6 @@ module _ {R M : Type 0} where
       → state_after old (xs ++ ys) ≡ state_after (state_after old xs) ys
   state_after-append old [] ys = refl
   state_after-append old (x ∷ xs) ys = state_after-append x.state xs ys
-
-  pub state_after-parts : (n : ℕ) (old : M) (xs : List (Answered R M))
-      → state_after (state_after old (take n xs)) (drop n xs) ≡ state_after old xs
-  state_after-parts zero old xs = refl
-  state_after-parts (suc n) old [] = refl
-  state_after-parts (suc n) old (x ∷ xs) = state_after-parts n x.state xs
 
 module _ {C R M : Type 0} (Step : M → C → List R → M → Type 0) where
   Chain-append : (old : M) (cs ds : List C) (xs ys : List (Answered R M)) → Chain Step old cs xs
@@ -43,18 +40,56 @@ module _ {C R M : Type 0} (Step : M → C → List R → M → Type 0) where
   Chain-take (suc n) old (c ∷ cs) [] r = absurd r
   Chain-take (suc n) old (c ∷ cs) (x ∷ xs) r = (r.0, Chain-take n x.state cs xs r.1)
 
-  pub Chain-drop : (n : ℕ) (old : M) (cs : List C) (xs : List (Answered R M)) → Chain Step old cs xs
-      → Chain Step (state_after old (take n xs)) (drop n cs) (drop n xs)
-  Chain-drop zero old cs xs r = r
-  Chain-drop (suc n) old [] [] r = tt
-  Chain-drop (suc n) old [] (x ∷ xs) r = absurd r
-  Chain-drop (suc n) old (c ∷ cs) [] r = absurd r
-  Chain-drop (suc n) old (c ∷ cs) (x ∷ xs) r = Chain-drop n x.state cs xs r.1
+  -- the step at a place
+  pub step_at : (j : ℕ) (old : M) (cs : List C) (xs : List (Answered R M)) → Chain Step old cs xs
+      → (a : Answered R M) → slice_get xs j ≡ Some a
+      → (c : C) × (slice_get cs j ≡ Some c) × Step (after old xs j) c a.replies a.state
+  step_at j old cs [] r a is = cc
+  step_at j old [] (x ∷ xs) r a is = absurd r
+  step_at zero old (c ∷ cs) (x ∷ xs) r a is =
+      subst (λ y. (d : C) × (slice_get (c ∷ cs) 0 ≡ Some d) × Step old d y.replies y.state)
+      (same_Some _ _ is) (c, refl, r.0)
+  step_at (suc j) old (c ∷ cs) (x ∷ xs) r a is = step_at j x.state cs xs r.1 a is
 
-  -- after all of the commands
-  pub after-all : (old : M) (cs : List C) (xs : List (Answered R M)) → Chain Step old cs xs
-      → after old xs (length cs) ≡ state_after old xs
-  after-all old [] [] r = refl
-  after-all old [] (x ∷ xs) r = absurd r
-  after-all old (c ∷ cs) [] r = absurd r
-  after-all old (c ∷ cs) (x ∷ xs) r = after-all x.state cs xs r.1
+  pub step_of : (j : ℕ) (old : M) (cs : List C) (xs : List (Answered R M)) → Chain Step old cs xs
+      → (c : C) (a : Answered R M) → slice_get cs j ≡ Some c → slice_get xs j ≡ Some a
+      → Step (after old xs j) c a.replies a.state
+  step_of j old cs xs r c a at is =
+      let s = step_at j old cs xs r a is in
+      subst (λ d. Step (after old xs j) d a.replies a.state) (same_Some _ _ (sym s.1 ∙ at)) s.2
+
+  -- what each step keeps whose command passes a test, such a chain keeps
+  module _ (P : M → Type 0) (test : C → Bool)
+      (keeps : (old new : M) (c : C) (rs : List R) → test c ≡ true → Step old c rs new → P old → P new) where
+    pub Chain-keeps : (old : M) (cs : List C) (xs : List (Answered R M)) → Chain Step old cs xs
+        → AllPass test cs → P old → P (state_after old xs)
+    Chain-keeps old [] [] r all p = p
+    Chain-keeps old [] (x ∷ xs) r all p = absurd r
+    Chain-keeps old (c ∷ cs) [] r all p = absurd r
+    Chain-keeps old (c ∷ cs) (x ∷ xs) r all p =
+        Chain-keeps x.state cs xs r.1 (All-tail (λ d. test d ≡ true) c cs all)
+        (keeps old x.state c x.replies (All-head (λ d. test d ≡ true) c cs all) r.0 p)
+
+    -- from the place i to the place j
+    pub Chain-between : (i j : ℕ) (old : M) (cs : List C) (xs : List (Answered R M)) → Chain Step old cs xs
+        → i ≤ j → AllPass test (drop i (take j cs)) → P (after old xs i) → P (after old xs j)
+    Chain-between zero j old cs xs r le all p =
+        Chain-keeps old (take j cs) (take j xs) (Chain-take j old cs xs r) all p
+    Chain-between (suc i) zero old cs xs r le all p = absurd (omega arith)
+    Chain-between (suc i) (suc j) old cs [] r le all p = p
+    Chain-between (suc i) (suc j) old [] (x ∷ xs) r le all p = absurd r
+    Chain-between (suc i) (suc j) old (c ∷ cs) (x ∷ xs) r le all p =
+        Chain-between i j x.state cs xs r.1 (omega arith) all p
+
+    -- and from what the command at the place i leaves
+    pub Chain-from : (i j : ℕ) (old : M) (cs : List C) (xs : List (Answered R M)) → Chain Step old cs xs
+        → (a : Answered R M) → slice_get xs i ≡ Some a → i < j → AllPass test (drop i (take j cs))
+        → P a.state → P (after old xs j)
+    Chain-from i zero old cs xs r a is less all p = absurd (omega arith)
+    Chain-from i (suc j) old cs [] r a is less all p = cc
+    Chain-from i (suc j) old [] (x ∷ xs) r a is less all p = absurd r
+    Chain-from zero (suc j) old (c ∷ cs) (x ∷ xs) r a is less all p =
+        Chain-keeps x.state (take j cs) (take j xs) (Chain-take j x.state cs xs r.1)
+        (All-tail (λ d. test d ≡ true) c (take j cs) all) (subst (λ y. P y.state) (sym (same_Some _ _ is)) p)
+    Chain-from (suc i) (suc j) old (c ∷ cs) (x ∷ xs) r a is less all p =
+        Chain-from i j x.state cs xs r.1 a is (omega arith) all p

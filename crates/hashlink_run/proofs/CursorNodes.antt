@@ -1,14 +1,14 @@
--- Steps of a cursor: every node is kept, and no entry leaves.
-use Rattle.std.proofs.Common.{◌≡◌, ℕ, ◌≤◌, Bool, List, [], ◌∷◌, length, Option, None, Some, Result, Ok, Err}
-use Rattle.std.proofs.Common.{ap, arith}
+-- Steps of a cursor: every node is kept, no entry leaves, and while a node is spare no pair is handed back.
+use Rattle.std.proofs.Common.{◌≡◌, ℕ, ◌≤◌, Bool, false, List, [], ◌∷◌, ◌++◌, length, Option, None, Some}
+use Rattle.std.proofs.Common.{Result, Ok, Err, refl, ap, ◌∙◌, arith}
 use Rattle.hashlink_model.specs.Cursor.{CursorState, place_next}
 use Rattle.hashlink_model.specs.MapState.{MapState, Inserts, KeepsNodes}
 use Rattle.hashlink_model.proofs.KeptNodes.{kept-inserts}
 use Rattle.hashlink_model.proofs.NodeCounts.{node_count-puts}
 use Rattle.hashlink_run.specs.declared.commands.CursorStep.{CursorStep}
-use Rattle.hashlink_run.specs.declared.commands.CursorStep.TheVariants.{Next, Prev, Current, PeekNext}
-use Rattle.hashlink_run.specs.declared.commands.CursorStep.TheVariants.{PeekPrev, Before, After}
+use Rattle.hashlink_run.specs.declared.commands.CursorStep.TheVariants as cursor
 use Rattle.hashlink_run.specs.declared.replies.Reply.{Reply}
+use Rattle.hashlink_run.specs.CallReplies.{insert_reply, is_refused}
 use Rattle.hashlink_run.specs.CursorSteps.{CursorStepped, CursorWalks, CursorSteps, first_place}
 use Rattle.hashlink_run.proofs.EntryNodes.{kept_unchanged}
 
@@ -46,14 +46,11 @@ module _ {K V S : Type 0} where
   module _ {B : Type 0} (eq : K → K → Bool) (Says : K → V → B → Type 0) where
     step-grows : (old new : CursorState K V S) (step : CursorStep K V) (replies : List (Reply K V B))
         → CursorStepped eq Says old step replies new → OnlyGrows old.map new.map
-    step-grows old new Next replies s = grows-same old.map new.map (ap (λ c. c.map) s.0)
-    step-grows old new Prev replies s = grows-same old.map new.map (ap (λ c. c.map) s.0)
-    step-grows old new Current replies s = grows-same old.map new.map (ap (λ c. c.map) s.0)
-    step-grows old new PeekNext replies s = grows-same old.map new.map (ap (λ c. c.map) s.0)
-    step-grows old new PeekPrev replies s = grows-same old.map new.map (ap (λ c. c.map) s.0)
-    step-grows old new (Before k v) replies s = grows-inserts eq old.map new.map k v old.place s.0 s.1.map
-    step-grows old new (After k v) replies s = grows-inserts eq old.map new.map k v
-        (place_next old) s.0 s.1.map
+    step-grows old new (cursor.Before k v) replies s =
+        grows-inserts eq old.map new.map k v old.place s.0 s.1.map
+    step-grows old new (cursor.After k v) replies s =
+        grows-inserts eq old.map new.map k v (place_next old) s.0 s.1.map
+    step-grows old new step replies s = grows-same old.map new.map (ap (λ c. c.map) s.0)
 
     walk-grows : (old new : CursorState K V S) (steps : List (CursorStep K V)) (replies : List (Reply K V B))
         → CursorWalks eq Says old steps replies new → OnlyGrows old.map new.map
@@ -68,3 +65,29 @@ module _ {K V S : Type 0} where
     cursor-keeps old new steps replies s =
         (grows-then old s.0.map new (walk-grows (first_place old) s.0 steps replies s.1)
         (grows-same s.0.map new s.2)).kept
+
+-- while a node is spare no pair is handed back
+module _ {K V B S : Type 0} (eq : K → K → Bool) (Says : K → V → B → Type 0) where
+  pub inserts-taken : (old new : MapState K V S) → 1 ≤ old.spare → (k : K) (v : V) (b : ℕ)
+      (answer : Result (Option V) (K × V)) (more : List (Reply K V B))
+      → Inserts eq old new k v b answer → is_refused (insert_reply answer ∷ more) ≡ false
+  inserts-taken old new spare k v b (Ok w) more s = refl
+  inserts-taken old new spare k v b (Err pair) more s =
+      let none = s.may_refuse.no_spare in absurd (omega arith)
+
+  cursor_step-taken : (old new : CursorState K V S) (step : CursorStep K V) (first more : List (Reply K V B))
+      → 1 ≤ old.map.spare → CursorStepped eq Says old step first new → is_refused (first ++ more) ≡ false
+  cursor_step-taken old new (cursor.Before k v) first more spare s =
+      ap (λ rs. is_refused (rs ++ more)) s.2
+      ∙ inserts-taken old.map new.map spare k v old.place s.0 more s.1.map
+  cursor_step-taken old new (cursor.After k v) first more spare s =
+      ap (λ rs. is_refused (rs ++ more)) s.2
+      ∙ inserts-taken old.map new.map spare k v (place_next old) s.0 more s.1.map
+  cursor_step-taken old new step first more spare s = ap (λ rs. is_refused (rs ++ more)) s.1.2
+
+  pub walk-taken : (old new : CursorState K V S) (steps : List (CursorStep K V))
+      (replies : List (Reply K V B))
+      → 1 ≤ old.map.spare → CursorWalks eq Says old steps replies new → is_refused replies ≡ false
+  walk-taken old new [] replies spare s = ap is_refused s.0
+  walk-taken old new (step ∷ steps) replies spare s =
+      ap is_refused s.5 ∙ cursor_step-taken old s.1 step s.0 s.2 spare s.3

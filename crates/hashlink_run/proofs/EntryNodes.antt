@@ -1,81 +1,120 @@
--- Steps on entries: every node is kept.
-use Rattle.std.proofs.Common.{◌≡◌, ℕ, zero, suc, Bool, List, [], ◌∷◌, length, refl, Option, None, Some}
-use Rattle.std.proofs.Common.{Result, Ok, Err, ap, arith, MatchOption}
-use Rattle.hashlink_model.specs.Entries.{place_of, moved_at, set_key_at}
-use Rattle.hashlink_model.specs.Entry.{insert_value, insert_entry, replace_entry, VacantInserts}
-use Rattle.hashlink_model.specs.MapState.{MapState, Removes, node_count, MovesAt, KeepsNodes}
+-- What a step on an entry leaves.
+use Rattle.std.proofs.Common.{◌≡◌, ℕ, zero, suc, ◌+◌, ◌≤◌, Bool, false, List, [], ◌∷◌, length, refl}
+use Rattle.std.proofs.Common.{Option, None, Some, Result, Ok, Err, ap, ◌∙◌, arith, MatchOption, MatchResult}
+use Rattle.std.specs.Result.{result_map_both}
+use Rattle.hashlink_model.specs.Entries.{place_of, set_key_at}
+use Rattle.hashlink_model.specs.Entry.{VacantInserts}
+use Rattle.hashlink_model.specs.MapState.{MapState, Changes, Removes, node_count, KeepsNodes}
 use Rattle.hashlink_model.proofs.KeptNodes.{kept-changes, kept-inserts}
 use Rattle.hashlink_model.proofs.NodeCounts.{node_count-removes}
 use Rattle.hashlink_model.proofs.Occupied.{length-moved_at, length-insert_value, length-insert_entry}
 use Rattle.hashlink_model.proofs.Occupied.{length-replace_entry}
 use Rattle.hashlink_run.specs.declared.commands.EntryStep.{EntryStep}
-use Rattle.hashlink_run.specs.declared.commands.EntryStep.TheVariants.{Get, OrInsert, Insert, InsertEntry}
-use Rattle.hashlink_run.specs.declared.commands.EntryStep.TheVariants.{ReplaceEntry, ReplaceKey, ToFront}
-use Rattle.hashlink_run.specs.declared.commands.EntryStep.TheVariants.{ToBack, Remove, RemoveEntry}
+use Rattle.hashlink_run.specs.declared.commands.EntryStep.TheVariants as step
 use Rattle.hashlink_run.specs.declared.replies.Reply.{Reply}
+use Rattle.hashlink_run.specs.declared.replies.Reply.TheVariants.{Inserted, Refused}
+use Rattle.hashlink_run.specs.CallReplies.{reply_or_refused, is_refused}
 use Rattle.hashlink_run.specs.EntrySteps.{OccupiedStep, VacantStep, EntrySteps}
 
-pub length_set_key : {K V : Type 0} (es : List (K × V)) (j : ℕ) (k : K)
-    → length (set_key_at es j k) ≡ length es
+length_set_key : {K V : Type 0} (es : List (K × V)) (j : ℕ) (k : K) → length (set_key_at es j k) ≡ length es
 length_set_key [] j k = refl
 length_set_key (e ∷ es) zero k = refl
 length_set_key (e ∷ es) (suc j) k = ap suc (length_set_key es j k)
 
-module _ {K V S : Type 0} (old new : MapState K V S) where
-  pub kept_unchanged : new ≡ old → KeepsNodes old new
-  kept_unchanged s = let same = ap node_count s in omega arith
+pub kept_unchanged : {K V S : Type 0} (old new : MapState K V S) → new ≡ old → KeepsNodes old new
+kept_unchanged old new s = let same = ap node_count s in omega arith
 
-  kept_moved : (j b : ℕ) → MovesAt old new j b → KeepsNodes old new
-  kept_moved j b s = kept-changes old new (moved_at old.entries j b) 6 s (length-moved_at old.entries j b)
+module _ {K V B S : Type 0} (Says : K → V → B → Type 0) (old new : MapState K V S)
+    (replies : List (Reply K V B)) (k : K) where
+  -- every node is kept, there is one entry more at most, and while a node is spare no pair is handed back
+  pub record LeavesEntry : Type 0 where
+    pub kept : KeepsNodes old new
+    pub few : length new.entries ≤ length old.entries + 1
+    pub taken : 1 ≤ old.spare → is_refused replies ≡ false
 
-  kept_taken : (es : List (K × V)) → Removes old new es → KeepsNodes old new
-  kept_taken es s = let same = node_count-removes old new es s in omega arith
+  unchanged : new ≡ old → is_refused replies ≡ false → LeavesEntry
+  unchanged s not_back =
+      let same = ap (λ m. length m.entries) s in
+      record { kept = kept_unchanged old new s; few = omega arith; taken = λ _. not_back }
 
-  kept_vacant : (eq : K → K → Bool) (k : K) (v : V) (r : Result (Unit {0}) (K × V))
-      → VacantInserts eq old new k v r → KeepsNodes old new
-  kept_vacant eq k v (Ok done) s = kept-inserts old new eq k v (length old.entries) (Ok None) s
-  kept_vacant eq k v (Err pair) s = kept-inserts old new eq k v (length old.entries) (Err pair) s
+  changed : (es : List (K × V)) (most : ℕ) → Changes old new es most → length es ≡ length old.entries
+      → is_refused replies ≡ false → LeavesEntry
+  changed es most s l not_back =
+      let same = ap length s.entries in
+      record { kept = kept-changes old new es most s l; few = omega arith; taken = λ _. not_back }
 
-  module _ {B : Type 0} (Says : K → V → B → Type 0) (replies : List (Reply K V B)) (k : K) where
-    occupied-keeps : (j : ℕ) (step : EntryStep V) → OccupiedStep Says old j k step replies new
-        → KeepsNodes old new
-    occupied-keeps j Get s = kept_unchanged s.0
-    occupied-keeps j (OrInsert v) s = kept_moved j (length old.entries) s.0
-    occupied-keeps j (Insert v) s =
-        kept-changes old new (insert_value old.entries j v) 6 s.1.step (length-insert_value old.entries j v)
-    occupied-keeps j (InsertEntry v) s =
-        kept-changes old new (insert_entry old.entries j k v) 6 s.1.step
-        (length-insert_entry old.entries j k v)
-    occupied-keeps j (ReplaceEntry v) s =
-        kept-changes old new (replace_entry old.entries j k v) 0 s.1.step
-        (length-replace_entry old.entries j k v)
-    occupied-keeps j ReplaceKey s =
-        kept-changes old new (set_key_at old.entries j k) 0 s.1.step (length_set_key old.entries j k)
-    occupied-keeps j ToFront s = kept_moved j 0 s.0
-    occupied-keeps j ToBack s = kept_moved j (length old.entries) s.0
-    occupied-keeps j Remove s = kept_taken _ s.1.step
-    occupied-keeps j RemoveEntry s = kept_taken _ s.1.step
+  removed : (es : List (K × V)) → Removes old new es → is_refused replies ≡ false → LeavesEntry
+  removed es s not_back =
+      let nodes = node_count-removes old new es s in
+      let same = ap length s.entries in
+      let fewer = s.fewer in
+      record { kept = omega arith; few = omega arith; taken = λ _. not_back }
 
-    vacant-keeps : (eq : K → K → Bool) (step : EntryStep V) → VacantStep eq Says old k step replies new
-        → KeepsNodes old new
-    vacant-keeps eq Get s = kept_unchanged s.0
-    vacant-keeps eq (OrInsert v) s = kept_vacant eq k v s.0 s.1
-    vacant-keeps eq (Insert v) s = kept_vacant eq k v s.0 s.1
-    vacant-keeps eq (InsertEntry v) s = kept_vacant eq k v s.0 s.1
-    vacant-keeps eq (ReplaceEntry v) s = kept_unchanged s.0
-    vacant-keeps eq ReplaceKey s = kept_unchanged s.0
-    vacant-keeps eq ToFront s = kept_unchanged s.0
-    vacant-keeps eq ToBack s = kept_unchanged s.0
-    vacant-keeps eq Remove s = kept_unchanged s.0
-    vacant-keeps eq RemoveEntry s = kept_unchanged s.0
+  occupied-leaves : (j : ℕ) (step : EntryStep V) → OccupiedStep Says old j k step replies new → LeavesEntry
+  occupied-leaves j step.Get s = unchanged s.0 (ap is_refused s.1.2)
+  occupied-leaves j (step.OrInsert v) s =
+      changed _ 6 s.0 (length-moved_at old.entries j (length old.entries)) (ap is_refused s.1.2)
+  occupied-leaves j step.ToBack s =
+      changed _ 6 s.0 (length-moved_at old.entries j (length old.entries)) (ap is_refused s.1.2)
+  occupied-leaves j step.ToFront s = changed _ 6 s.0 (length-moved_at old.entries j 0) (ap is_refused s.1.2)
+  occupied-leaves j (step.Insert v) s =
+      changed _ 6 s.1.step (length-insert_value old.entries j v) (ap is_refused s.2)
+  occupied-leaves j (step.InsertEntry v) s =
+      changed _ 6 s.1.step (length-insert_entry old.entries j k v) (ap is_refused s.2)
+  occupied-leaves j (step.ReplaceEntry v) s =
+      changed _ 0 s.1.step (length-replace_entry old.entries j k v) (ap is_refused s.2)
+  occupied-leaves j step.ReplaceKey s =
+      changed _ 0 s.1.step (length_set_key old.entries j k) (ap is_refused s.2)
+  occupied-leaves j step s = removed _ s.1.step (ap is_refused s.2)
 
-    pub entry-keeps : (eq : K → K → Bool) (step : EntryStep V) → EntrySteps eq Says old k step replies new
-        → KeepsNodes old new
-    entry-keeps eq step s = by (place_of (eq k) old.entries) s
+  module _ (eq : K → K → Bool) where
+    -- an insert that was done has a reply that hands nothing back
+    abbrev IsTaken : Result (Unit {0}) (K × V) → Type 0
+    IsTaken r = MatchResult r (λ done. is_refused replies ≡ false) (λ pair. Unit {0})
+
+    by_reply : (reply : Reply K V B) (r : Result (Unit {0}) (K × V)) → is_refused (reply ∷ []) ≡ false
+        → replies ≡ reply_or_refused (result_map_both (λ _. reply) (λ pair. pair) r) ∷ [] → IsTaken r
+    by_reply reply (Ok done) not_back is = ap is_refused is ∙ not_back
+    by_reply reply (Err pair) not_back is = tt
+
+    by_said : (v : V) (r : Result (Unit {0}) (K × V))
+        → MatchResult r (λ done. (said : B) × Says k v said × (replies ≡ Inserted said ∷ []))
+        (λ pair. replies ≡ Refused pair.0 pair.1 ∷ [])
+        → IsTaken r
+    by_said v (Ok done) is = ap is_refused is.2
+    by_said v (Err pair) is = tt
+
+    vacant : (v : V) (r : Result (Unit {0}) (K × V)) → VacantInserts eq old new k v r → IsTaken r
+        → LeavesEntry
+    vacant v (Ok done) s not_back =
+        let same = ap length s.adds.entries in
+        let more = s.adds.more in
+        record {
+          kept = kept-inserts old new eq k v (length old.entries) (Ok None) s;
+          few = omega arith;
+          taken = λ _. not_back;
+        }
+    vacant v (Err pair) s not_back =
+        let same = ap length s.grows.entries in
+        let none = s.may_refuse.no_spare in
+        record {
+          kept = kept-inserts old new eq k v (length old.entries) (Err pair) s;
+          few = omega arith;
+          taken = λ some. absurd (omega arith);
+        }
+
+    vacant-leaves : (step : EntryStep V) → VacantStep eq Says old k step replies new → LeavesEntry
+    vacant-leaves (step.OrInsert v) s = vacant v s.0 s.1 (by_said v s.0 s.2)
+    vacant-leaves (step.Insert v) s = vacant v s.0 s.1 (by_reply _ s.0 refl s.2)
+    vacant-leaves (step.InsertEntry v) s = vacant v s.0 s.1 (by_reply _ s.0 refl s.2)
+    vacant-leaves step s = unchanged s.0 (ap is_refused s.1)
+
+    pub entry-leaves : (step : EntryStep V) → EntrySteps eq Says old k step replies new → LeavesEntry
+    entry-leaves step s = by (place_of (eq k) old.entries) s
       where
         by : (o : Option ℕ)
             → MatchOption o (VacantStep eq Says old k step replies new)
             (λ j. OccupiedStep Says old j k step replies new)
-            → KeepsNodes old new
-        by None s = vacant-keeps eq step s
-        by (Some j) s = occupied-keeps j step s
+            → LeavesEntry
+        by None s = vacant-leaves step s
+        by (Some j) s = occupied-leaves j step s

@@ -3,6 +3,7 @@ pub mod AtEntry
 pub mod CursorProgress
 pub mod Kept
 pub mod Moved
+pub mod Said
 pub mod Wider
 pub mod AnyCommand
 pub mod Answering
@@ -18,5 +19,3 @@ pub mod Chained
 pub mod Chains
 pub mod CursorNodes
 pub mod EntryNodes
-pub mod Lawful
-pub mod NotRefused

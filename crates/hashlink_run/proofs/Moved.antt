@@ -13,6 +13,7 @@ use Rattle.hashlink_model.proofs.Afterwards.{lookup-moved, moved-there}
 use Rattle.hashlink_model.proofs.Finds.{lookup_is, lookup_key_is}
 use Rattle.hashlink_model.proofs.Places.{slice_get_here}
 use Rattle.hashlink_model.proofs.Puts.{put_back, put_front}
+use Rattle.hashlink_model.proofs.Splits.{lookup_entry-none, none_from_lookup}
 
 module _ {K V : Type 0} (eq : K → K → Bool) (es : List (K × V)) (k : K) (v : V) where
   stored_pair : (e : Option (K × V)) → lookup_entry (eq k) es ≡ e → lookup (eq k) es ≡ Some v
@@ -25,7 +26,7 @@ module _ {K V : Type 0} (eq : K → K → Bool) (es : List (K × V)) (k : K) (v 
       e ∙ rw (key, same) refl
 
   module _ (found : lookup (eq k) es ≡ Some v) where
-    pub first_of-moved : first_of (moved eq es k 0) ≡ lookup_entry (eq k) es
+    first_of-moved : first_of (moved eq es k 0) ≡ lookup_entry (eq k) es
     first_of-moved =
         ap first_of (moved-there eq es k 0 v found ∙ put_front eq es k v)
         ∙ sym (stored_pair (lookup_entry (eq k) es) refl found)
@@ -35,19 +36,18 @@ module _ {K V : Type 0} (eq : K → K → Bool) (es : List (K × V)) (k : K) (v 
         let n : length (xs ++ e ∷ []) - 1 ≡ length xs = omega (arith, length-append xs (e ∷ [])) in
         rw (n, slice_get_here xs e []) refl
 
-    pub last_of-moved : last_of (moved eq es k (length es)) ≡ lookup_entry (eq k) es
+    last_of-moved : last_of (moved eq es k (length es)) ≡ lookup_entry (eq k) es
     last_of-moved =
         ap last_of (moved-there eq es k (length es) v found ∙ put_back eq es k v)
         ∙ last_of-end (without eq es k) (stored_key eq es k, v)
         ∙ sym (stored_pair (lookup_entry (eq k) es) refl found)
 
-module _ {K V S : Type 0} (eq : K → K
-    → Bool) (laws : IsEquivalence eq) (old new : MapState K V S) (k : K) (b : ℕ) (v : V) where
+module _ {K V S : Type 0} {eq : K → K → Bool} (laws : IsEquivalence eq) {old new : MapState K V S} (k : K)
+    {b : ℕ} {v : V} (distinct : IsEntries eq old.entries) (found : lookup (eq k) old.entries ≡ Some v)
+    (s : MovesAndWrites eq old new k b v) where
   -- what stood was written back
-  pub moved_and_left : IsEntries eq old.entries → lookup (eq k) old.entries ≡ Some v
-      → MovesAndWrites eq old new k b v
-      → Changes old new (moved eq old.entries k b) 6
-  moved_and_left distinct found s =
+  moved_and_left : Changes old new (moved eq old.entries k b) 6
+  moved_and_left =
       let stood : lookup (eq k) s.between.entries ≡ Some v =
       ap (lookup (eq k)) s.moves.entries ∙ lookup-moved eq laws k old.entries k b distinct ∙ found in
       let same : new ≡ s.between =
@@ -55,40 +55,25 @@ module _ {K V S : Type 0} (eq : K → K
       (set_value_same (eq k) s.between.entries v stood) in
       subst (λ m. Changes old m (moved eq old.entries k b) 6) (sym same) s.moves
 
-  pub moves_and_left : IsEntries eq old.entries → lookup (eq k) old.entries ≡ Some v
-      → MovesAndWrites eq old new k b v
-      → Moves eq old new k b (lookup (eq k) old.entries)
-  moves_and_left distinct found s =
-      let step : MatchOption (lookup (eq k) old.entries) (new
-      ≡ old) (λ _. Changes old new (moved eq old.entries k b) 6) =
-      subst (λ r. MatchOption r (new ≡ old) (λ _. Changes old new (moved eq old.entries k b) 6)) (sym found)
-      (moved_and_left distinct found s) in
-      record { answer = refl; step = step }
-
-  pub moved_entries : IsEntries eq old.entries → lookup (eq k) old.entries ≡ Some v
-      → MovesAndWrites eq old new k b v
-      → new.entries ≡ moved eq old.entries k b
-  moved_entries distinct found s = (moved_and_left distinct found s).entries
+  pub moves_and_left : Moves eq old new k b (lookup (eq k) old.entries)
+  moves_and_left = record {
+    answer = refl;
+    step = subst (λ r. MatchOption r (new ≡ old) (λ _. Changes old new (moved eq old.entries k b) 6))
+        (sym found) moved_and_left;
+  }
 
   -- and the pair stands at the end that it moved to
-  module _ (distinct : IsEntries eq old.entries) (found : lookup (eq k) old.entries ≡ Some v) where
-    pub first_of-new : b ≡ 0 → MovesAndWrites eq old new k b v
-        → first_of new.entries ≡ lookup_entry (eq k) old.entries
-    first_of-new end s =
-        ap first_of (moved_entries distinct found s ∙ ap (moved eq old.entries k) end)
-        ∙ first_of-moved eq old.entries k v found
+  pub first_of-new : b ≡ 0 → first_of new.entries ≡ lookup_entry (eq k) old.entries
+  first_of-new end =
+      ap first_of (moved_and_left.entries ∙ ap (moved eq old.entries k) end)
+      ∙ first_of-moved eq old.entries k v found
 
-    pub last_of-new : b ≡ length old.entries → MovesAndWrites eq old new k b v
-        → last_of new.entries ≡ lookup_entry (eq k) old.entries
-    last_of-new end s =
-        ap last_of (moved_entries distinct found s ∙ ap (moved eq old.entries k) end)
-        ∙ last_of-moved eq old.entries k v found
+  pub last_of-new : b ≡ length old.entries → last_of new.entries ≡ lookup_entry (eq k) old.entries
+  last_of-new end =
+      ap last_of (moved_and_left.entries ∙ ap (moved eq old.entries k) end)
+      ∙ last_of-moved eq old.entries k v found
 
 -- an absent key has no entry
 pub lookup_entry-absent : {K V : Type 0} (test : K → Bool) (es : List (K × V)) → lookup test es ≡ None
     → lookup_entry test es ≡ None
-lookup_entry-absent test es none = by (lookup_entry test es) refl
-  where
-    by : (e : Option _) → lookup_entry test es ≡ e → e ≡ None
-    by None is = refl
-    by (Some p) is = absurd (let some = lookup_is test es ∙ ap (option_map (λ p. p.1)) is in cc)
+lookup_entry-absent test es none = lookup_entry-none test es (none_from_lookup test es none)

@@ -5,8 +5,7 @@ use Rattle.hashlink_model.specs.Cursor.{CursorState, entry_in, place_next, place
 use Rattle.hashlink_model.specs.Entries.{place_of}
 use Rattle.hashlink_model.specs.MapState.{MapState}
 use Rattle.hashlink_run.specs.declared.commands.CursorStep.{CursorStep}
-use Rattle.hashlink_run.specs.declared.commands.CursorStep.TheVariants.{Next, Prev, Current, PeekNext}
-use Rattle.hashlink_run.specs.declared.commands.CursorStep.TheVariants.{PeekPrev, Before, After}
+use Rattle.hashlink_run.specs.declared.commands.CursorStep.TheVariants as cursor
 use Rattle.hashlink_run.specs.declared.commands.EntryStep.{EntryStep}
 use Rattle.hashlink_run.specs.declared.commands.EntryStep.TheVariants as step
 use Rattle.hashlink_run.specs.declared.replies.Reply.{Reply}
@@ -36,14 +35,9 @@ module _ {K V B : Type 0} (P Q : K → V → B → Type 0)
         → OccupiedStep Q old j k step replies new
     occupied-wider j k step.Get s = reads-wider Seen (slice_get old.entries j) s
     occupied-wider j k (step.OrInsert v) s = (s.0, replies-wider Seen (slice_get old.entries j) replies s.1)
-    occupied-wider j k (step.Insert v) s = s
-    occupied-wider j k (step.InsertEntry v) s = s
-    occupied-wider j k (step.ReplaceEntry v) s = s
-    occupied-wider j k step.ReplaceKey s = s
     occupied-wider j k step.ToFront s = (s.0, replies-wider Seen (slice_get old.entries j) replies s.1)
     occupied-wider j k step.ToBack s = (s.0, replies-wider Seen (slice_get old.entries j) replies s.1)
-    occupied-wider j k step.Remove s = s
-    occupied-wider j k step.RemoveEntry s = s
+    occupied-wider j k step s = s
 
     inserted-wider : (k : K) (v : V) (answer : Result (Unit {0}) (K × V))
         → MatchResult answer (λ done. (said : B) × P k v said × (replies ≡ Inserted said ∷ []))
@@ -77,18 +71,17 @@ module _ {K V B : Type 0} (P Q : K → V → B → Type 0) (wider : (k : K) (v :
     {S : Type 0} (eq : K → K → Bool) where
   cursor_step-wider : (old new : CursorState K V S) (step : CursorStep K V) (replies : List (Reply K V B))
       → CursorStepped eq P old step replies new → CursorStepped eq Q old step replies new
-  cursor_step-wider old new Next replies s =
+  cursor_step-wider old new cursor.Next replies s =
       (s.0, replies-wider P Q wider AtPlace (entry_in old (place_next old)) replies s.1)
-  cursor_step-wider old new Prev replies s =
+  cursor_step-wider old new cursor.Prev replies s =
       (s.0, replies-wider P Q wider AtPlace (entry_in old (place_previous old)) replies s.1)
-  cursor_step-wider old new Current replies s =
+  cursor_step-wider old new cursor.Current replies s =
       (s.0, replies-wider P Q wider AtPlace (entry_in old old.place) replies s.1)
-  cursor_step-wider old new PeekNext replies s =
+  cursor_step-wider old new cursor.PeekNext replies s =
       (s.0, replies-wider P Q wider AtPlace (entry_in old (place_next old)) replies s.1)
-  cursor_step-wider old new PeekPrev replies s =
+  cursor_step-wider old new cursor.PeekPrev replies s =
       (s.0, replies-wider P Q wider AtPlace (entry_in old (place_previous old)) replies s.1)
-  cursor_step-wider old new (Before k v) replies s = s
-  cursor_step-wider old new (After k v) replies s = s
+  cursor_step-wider old new step replies s = s
 
   walk-wider : (old new : CursorState K V S) (steps : List (CursorStep K V)) (replies : List (Reply K V B))
       → CursorWalks eq P old steps replies new → CursorWalks eq Q old steps replies new

@@ -7,8 +7,7 @@ use Rattle.hashlink_history.specs.CacheRuns as event
 use Rattle.hashlink_history.specs.Peak.{Passed, Length, peak}
 use Rattle.hashlink_model.specs.MapState.{MayRefuse, node_count}
 use Rattle.hashlink_run.specs.declared.cache_commands.CacheCommand.{CacheCommand}
-use Rattle.hashlink_run.specs.declared.cache_commands.CacheCommand.TheVariants.{Insert, Use, Entry}
-use Rattle.hashlink_run.specs.declared.cache_commands.CacheCommand.TheVariants.{SetCapacity, Clear}
+use Rattle.hashlink_run.specs.declared.cache_commands.CacheCommand.TheVariants as cache
 use Rattle.hashlink_run.specs.declared.replies.Reply.{Reply}
 use Rattle.hashlink_run.specs.CacheCalls.{put_passed}
 use Rattle.hashlink_run.specs.CacheStep.{CacheRuns, CacheStep, ReadFromCache}
@@ -22,23 +21,23 @@ pub record ShownByCache {K V B S : Type 0} (eq : K → K → Bool) (Says : K →
 
 -- whether a command is none of those that set the capacity, give nodes back, or may leave a pair too many
 abbrev pub leaves_spare : {K V : Type 0} → CacheCommand K V → Bool
-leaves_spare (Entry k step) = false
-leaves_spare (SetCapacity n) = false
-leaves_spare Clear = false
+leaves_spare (cache.Entry k step) = false
+leaves_spare (cache.SetCapacity n) = false
+leaves_spare cache.Clear = false
 leaves_spare command = true
 
 -- whether a command names no entry
 abbrev pub names_no_entry : {K V : Type 0} → CacheCommand K V → Bool
-names_no_entry (Entry k step) = false
+names_no_entry (cache.Entry k step) = false
 names_no_entry command = true
 
 module _ {K V B S : Type 0} where
   module _ (eq : K → K → Bool) where
     -- the length that a command passes before anything is dropped, unless its insert is refused
     abbrev pub command_put : CacheState K V S → CacheCommand K V → List (Reply K V B) → List Passed
-    command_put old (Insert k v) replies =
+    command_put old (cache.Insert k v) replies =
         cond (is_refused replies) [] (put_passed eq old.cap old.map.entries (event.Insert k v))
-    command_put old (Use k v) replies =
+    command_put old (cache.Use k v) replies =
         cond (is_refused replies) [] (put_passed eq old.cap old.map.entries (event.Use k v))
     command_put old command replies = []
 

@@ -8,9 +8,7 @@ use Rattle.hashlink_model.specs.MapState.{MapState}
 use Rattle.hashlink_model.specs.Steps.{RemovesKey, PopsFront, Clears}
 use Rattle.hashlink_model.specs.Walk.{first_of}
 use Rattle.hashlink_run.specs.declared.cache_commands.CacheCommand.{CacheCommand}
-use Rattle.hashlink_run.specs.declared.cache_commands.CacheCommand.TheVariants.{Insert, Use, Entry, Get, Peek}
-use Rattle.hashlink_run.specs.declared.cache_commands.CacheCommand.TheVariants.{Remove, SetCapacity, Clear}
-use Rattle.hashlink_run.specs.declared.cache_commands.CacheCommand.TheVariants.{RemoveLru}
+use Rattle.hashlink_run.specs.declared.cache_commands.CacheCommand.TheVariants as cache
 use Rattle.hashlink_run.specs.declared.replies.Reply.{Reply}
 use Rattle.hashlink_run.specs.declared.replies.Reply.TheVariants.{Done, Value, Pair, Seen, Refused}
 use Rattle.hashlink_run.specs.CallReplies.{insert_reply}
@@ -21,11 +19,11 @@ use Rattle.hashlink_run.specs.Reads.{Replies}
 -- the command, from old, reads the pair
 abbrev pub CommandReads : {K V S : Type 0} → (K → K → Bool) → CacheState K V S → CacheCommand K V → K × V
     → Type 0
-CommandReads eq old (Use k v) pair = lookup_entry (eq k) old.map.entries ≡ Some pair
-CommandReads {K} {V} {S} eq old (Entry k step) pair =
+CommandReads eq old (cache.Use k v) pair = lookup_entry (eq k) old.map.entries ≡ Some pair
+CommandReads {K} {V} {S} eq old (cache.Entry k step) pair =
     (between : MapState K V S) × EvictsFront old.map between old.cap × ReadAtEntry eq between k step pair
-CommandReads eq old (Get k) pair = lookup_entry (eq k) old.map.entries ≡ Some pair
-CommandReads eq old (Peek k) pair = lookup_entry (eq k) old.map.entries ≡ Some pair
+CommandReads eq old (cache.Get k) pair = lookup_entry (eq k) old.map.entries ≡ Some pair
+CommandReads eq old (cache.Peek k) pair = lookup_entry (eq k) old.map.entries ≡ Some pair
 CommandReads eq old command pair = ⊥
 
 -- the same as a record: terms of it are compared by its arguments, and so at little cost
@@ -36,27 +34,27 @@ pub record ReadFromCache {K V S : Type 0} (eq : K → K → Bool) (old : CacheSt
 module _ {K V B S : Type 0} (eq : K → K → Bool) (Says : K → V → B → Type 0) where
   -- from old, the cache may answer the command by these replies and go on to new
   abbrev pub CacheStep : CacheState K V S → CacheCommand K V → List (Reply K V B) → CacheState K V S → Type 0
-  CacheStep old (Insert k v) replies new =
+  CacheStep old (cache.Insert k v) replies new =
       (answer : Result (Option V) (K × V)) × CacheInserts eq old new k v answer
       × (replies ≡ insert_reply answer ∷ [])
-  CacheStep old (Use k v) replies new =
+  CacheStep old (cache.Use k v) replies new =
       (answer : Result (Option V) (K × V)) × CacheUses eq old new k v answer
       × MatchResult answer (λ w. Replies Says Seen (lookup_entry (eq k) old.map.entries) replies)
       (λ pair. replies ≡ Refused pair.0 pair.1 ∷ [])
-  CacheStep old (Entry k step) replies new =
+  CacheStep old (cache.Entry k step) replies new =
       (between : MapState K V S) × EvictsFront old.map between old.cap
       × EntrySteps eq Says between k step replies new.map × (new.cap ≡ old.cap)
-  CacheStep old (Get k) replies new =
+  CacheStep old (cache.Get k) replies new =
       CacheGets eq old new k (lookup (eq k) old.map.entries)
       × Replies Says Seen (lookup_entry (eq k) old.map.entries) replies
-  CacheStep old (Peek k) replies new = (new ≡ old)
+  CacheStep old (cache.Peek k) replies new = (new ≡ old)
       × Replies Says Seen (lookup_entry (eq k) old.map.entries) replies
-  CacheStep old (Remove k) replies new =
+  CacheStep old (cache.Remove k) replies new =
       OnMap (λ a b. RemovesKey eq a b k (lookup_entry (eq k) a.entries)) old new
       × (replies ≡ Value (lookup (eq k) old.map.entries) ∷ [])
-  CacheStep old (SetCapacity n) replies new = SetsCapacity old new n × (replies ≡ Done ∷ [])
-  CacheStep old Clear replies new = OnMap Clears old new × (replies ≡ Done ∷ [])
-  CacheStep old RemoveLru replies new =
+  CacheStep old (cache.SetCapacity n) replies new = SetsCapacity old new n × (replies ≡ Done ∷ [])
+  CacheStep old cache.Clear replies new = OnMap Clears old new × (replies ≡ Done ∷ [])
+  CacheStep old cache.RemoveLru replies new =
       OnMap (λ a b. PopsFront a b (first_of a.entries)) old new
       × (replies ≡ Pair (first_of old.map.entries) ∷ [])
 

@@ -4,8 +4,7 @@ use Rattle.hashlink_model.specs.Cursor.{CursorState, at_place, entry_in, place_n
 use Rattle.hashlink_model.specs.Cursor.{InsertsBefore, InsertsAfter}
 use Rattle.hashlink_model.specs.MapState.{MapState}
 use Rattle.hashlink_run.specs.declared.commands.CursorStep.{CursorStep}
-use Rattle.hashlink_run.specs.declared.commands.CursorStep.TheVariants.{Next, Prev, Current, PeekNext}
-use Rattle.hashlink_run.specs.declared.commands.CursorStep.TheVariants.{PeekPrev, Before, After}
+use Rattle.hashlink_run.specs.declared.commands.CursorStep.TheVariants as cursor
 use Rattle.hashlink_run.specs.declared.replies.Reply.{Reply}
 use Rattle.hashlink_run.specs.declared.replies.Reply.TheVariants.{AtPlace}
 use Rattle.hashlink_run.specs.CallReplies.{insert_reply}
@@ -17,13 +16,12 @@ first_place m = record { map = m; place = 0 }
 
 -- the step of a cursor reads the pair
 abbrev pub ReadByStep : {K V S : Type 0} → CursorState K V S → CursorStep K V → K × V → Type 0
-ReadByStep old Next pair = entry_in old (place_next old) ≡ Some pair
-ReadByStep old Prev pair = entry_in old (place_previous old) ≡ Some pair
-ReadByStep old Current pair = entry_in old old.place ≡ Some pair
-ReadByStep old PeekNext pair = entry_in old (place_next old) ≡ Some pair
-ReadByStep old PeekPrev pair = entry_in old (place_previous old) ≡ Some pair
-ReadByStep old (Before k v) pair = ⊥
-ReadByStep old (After k v) pair = ⊥
+ReadByStep old cursor.Next pair = entry_in old (place_next old) ≡ Some pair
+ReadByStep old cursor.Prev pair = entry_in old (place_previous old) ≡ Some pair
+ReadByStep old cursor.Current pair = entry_in old old.place ≡ Some pair
+ReadByStep old cursor.PeekNext pair = entry_in old (place_next old) ≡ Some pair
+ReadByStep old cursor.PeekPrev pair = entry_in old (place_previous old) ≡ Some pair
+ReadByStep old step pair = ⊥
 
 module _ {K V B S : Type 0} (eq : K → K → Bool) (Says : K → V → B → Type 0) where
   -- the cursor goes to the place i, and what is there is read
@@ -37,15 +35,15 @@ module _ {K V B S : Type 0} (eq : K → K → Bool) (Says : K → V → B → Ty
   -- one step
   abbrev pub CursorStepped : CursorState K V S → CursorStep K V → List (Reply K V B)
       → CursorState K V S → Type 0
-  CursorStepped old Next replies new = GoesAndReads old (place_next old) replies new
-  CursorStepped old Prev replies new = GoesAndReads old (place_previous old) replies new
-  CursorStepped old Current replies new = Peeks old old.place replies new
-  CursorStepped old PeekNext replies new = Peeks old (place_next old) replies new
-  CursorStepped old PeekPrev replies new = Peeks old (place_previous old) replies new
-  CursorStepped old (Before k v) replies new =
+  CursorStepped old cursor.Next replies new = GoesAndReads old (place_next old) replies new
+  CursorStepped old cursor.Prev replies new = GoesAndReads old (place_previous old) replies new
+  CursorStepped old cursor.Current replies new = Peeks old old.place replies new
+  CursorStepped old cursor.PeekNext replies new = Peeks old (place_next old) replies new
+  CursorStepped old cursor.PeekPrev replies new = Peeks old (place_previous old) replies new
+  CursorStepped old (cursor.Before k v) replies new =
       (answer : Result (Option V) (K × V)) × InsertsBefore eq old new k v answer
       × (replies ≡ insert_reply answer ∷ [])
-  CursorStepped old (After k v) replies new =
+  CursorStepped old (cursor.After k v) replies new =
       (answer : Result (Option V) (K × V)) × InsertsAfter eq old new k v answer
       × (replies ≡ insert_reply answer ∷ [])
 

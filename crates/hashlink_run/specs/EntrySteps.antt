@@ -8,9 +8,7 @@ use Rattle.hashlink_model.specs.Entry.{InsertsValue, InsertsEntry, ReplacesEntry
 use Rattle.hashlink_model.specs.Entry.{VacantInserts}
 use Rattle.hashlink_model.specs.MapState.{MapState, MovesAt}
 use Rattle.hashlink_run.specs.declared.commands.EntryStep.{EntryStep}
-use Rattle.hashlink_run.specs.declared.commands.EntryStep.TheVariants.{Get, OrInsert, Insert, InsertEntry}
-use Rattle.hashlink_run.specs.declared.commands.EntryStep.TheVariants.{ReplaceEntry, ReplaceKey, ToFront}
-use Rattle.hashlink_run.specs.declared.commands.EntryStep.TheVariants.{ToBack, Remove, RemoveEntry}
+use Rattle.hashlink_run.specs.declared.commands.EntryStep.TheVariants as step
 use Rattle.hashlink_run.specs.declared.replies.Reply.{Reply}
 use Rattle.hashlink_run.specs.declared.replies.Reply.TheVariants.{Value, Pair, Key, Seen, Inserted, Refused}
 use Rattle.hashlink_run.specs.CallReplies.{reply_or_refused}
@@ -25,21 +23,21 @@ module _ {K V B S : Type 0} (Says : K → V → B → Type 0) where
   -- a step where the key is at the place j
   abbrev pub OccupiedStep : MapState K V S → ℕ → K → EntryStep V → List (Reply K V B)
       → MapState K V S → Type 0
-  OccupiedStep old j k Get replies new = Reads Says old Seen (slice_get old.entries j) replies new
-  OccupiedStep old j k (OrInsert v) replies new = MovesAndReadsAt old j (length old.entries) replies new
-  OccupiedStep old j k (Insert v) replies new =
+  OccupiedStep old j k step.Get replies new = Reads Says old Seen (slice_get old.entries j) replies new
+  OccupiedStep old j k (step.OrInsert v) replies new = MovesAndReadsAt old j (length old.entries) replies new
+  OccupiedStep old j k (step.Insert v) replies new =
       (w : V) × InsertsValue old new j v w × (replies ≡ Value (Some w) ∷ [])
-  OccupiedStep old j k (InsertEntry v) replies new =
+  OccupiedStep old j k (step.InsertEntry v) replies new =
       (e : K × V) × InsertsEntry old new j k v e × (replies ≡ Pair (Some e) ∷ [])
-  OccupiedStep old j k (ReplaceEntry v) replies new =
+  OccupiedStep old j k (step.ReplaceEntry v) replies new =
       (e : K × V) × ReplacesEntry old new j k v e × (replies ≡ Pair (Some e) ∷ [])
-  OccupiedStep old j k ReplaceKey replies new =
+  OccupiedStep old j k step.ReplaceKey replies new =
       (stored : K) × ReplacesKey old new j k stored × (replies ≡ Key (Some stored) ∷ [])
-  OccupiedStep old j k ToFront replies new = MovesAndReadsAt old j 0 replies new
-  OccupiedStep old j k ToBack replies new = MovesAndReadsAt old j (length old.entries) replies new
-  OccupiedStep old j k Remove replies new =
+  OccupiedStep old j k step.ToFront replies new = MovesAndReadsAt old j 0 replies new
+  OccupiedStep old j k step.ToBack replies new = MovesAndReadsAt old j (length old.entries) replies new
+  OccupiedStep old j k step.Remove replies new =
       (e : K × V) × TakesEntry old new j e × (replies ≡ Value (Some e.1) ∷ [])
-  OccupiedStep old j k RemoveEntry replies new =
+  OccupiedStep old j k step.RemoveEntry replies new =
       (e : K × V) × TakesEntry old new j e × (replies ≡ Pair (Some e) ∷ [])
 
 module _ {K V B S : Type 0} (eq : K → K → Bool) (Says : K → V → B → Type 0) where
@@ -63,16 +61,16 @@ module _ {K V B S : Type 0} (eq : K → K → Bool) (Says : K → V → B → Ty
 
   -- a step where the key is absent
   abbrev pub VacantStep : MapState K V S → K → EntryStep V → List (Reply K V B) → MapState K V S → Type 0
-  VacantStep old k Get replies new = FindsNothing old (Seen None) replies new
-  VacantStep old k (OrInsert v) replies new = InsertsAndReads old k v replies new
-  VacantStep old k (Insert v) replies new = InsertsAbsent old k v (Value None) replies new
-  VacantStep old k (InsertEntry v) replies new = InsertsAbsent old k v (Pair None) replies new
-  VacantStep old k (ReplaceEntry v) replies new = FindsNothing old (Pair None) replies new
-  VacantStep old k ReplaceKey replies new = FindsNothing old (Key None) replies new
-  VacantStep old k ToFront replies new = FindsNothing old (Seen None) replies new
-  VacantStep old k ToBack replies new = FindsNothing old (Seen None) replies new
-  VacantStep old k Remove replies new = FindsNothing old (Value None) replies new
-  VacantStep old k RemoveEntry replies new = FindsNothing old (Pair None) replies new
+  VacantStep old k step.Get replies new = FindsNothing old (Seen None) replies new
+  VacantStep old k (step.OrInsert v) replies new = InsertsAndReads old k v replies new
+  VacantStep old k (step.Insert v) replies new = InsertsAbsent old k v (Value None) replies new
+  VacantStep old k (step.InsertEntry v) replies new = InsertsAbsent old k v (Pair None) replies new
+  VacantStep old k (step.ReplaceEntry v) replies new = FindsNothing old (Pair None) replies new
+  VacantStep old k step.ReplaceKey replies new = FindsNothing old (Key None) replies new
+  VacantStep old k step.ToFront replies new = FindsNothing old (Seen None) replies new
+  VacantStep old k step.ToBack replies new = FindsNothing old (Seen None) replies new
+  VacantStep old k step.Remove replies new = FindsNothing old (Value None) replies new
+  VacantStep old k step.RemoveEntry replies new = FindsNothing old (Pair None) replies new
 
   -- a step at the place of the key, or where it is absent
   abbrev pub EntrySteps : MapState K V S → K → EntryStep V → List (Reply K V B) → MapState K V S → Type 0
@@ -82,8 +80,8 @@ module _ {K V B S : Type 0} (eq : K → K → Bool) (Says : K → V → B → Ty
 
 -- the step reads the pair of its key, an `or_insert` also the one that goes in
 abbrev pub ReadAtEntry : {K V S : Type 0} → (K → K → Bool) → MapState K V S → K → EntryStep V → K × V → Type 0
-ReadAtEntry eq old k Get pair = lookup_entry (eq k) old.entries ≡ Some pair
-ReadAtEntry eq old k (OrInsert v) pair = unwrap_or (lookup_entry (eq k) old.entries) (k, v) ≡ pair
-ReadAtEntry eq old k ToFront pair = lookup_entry (eq k) old.entries ≡ Some pair
-ReadAtEntry eq old k ToBack pair = lookup_entry (eq k) old.entries ≡ Some pair
+ReadAtEntry eq old k step.Get pair = lookup_entry (eq k) old.entries ≡ Some pair
+ReadAtEntry eq old k (step.OrInsert v) pair = unwrap_or (lookup_entry (eq k) old.entries) (k, v) ≡ pair
+ReadAtEntry eq old k step.ToFront pair = lookup_entry (eq k) old.entries ≡ Some pair
+ReadAtEntry eq old k step.ToBack pair = lookup_entry (eq k) old.entries ≡ Some pair
 ReadAtEntry eq old k step pair = ⊥

@@ -7,10 +7,7 @@ use Rattle.hashlink_model.specs.MapState.{MapState, Inserts}
 use Rattle.hashlink_model.specs.Steps.{Replaces, RemovesKey, PopsFront, PopsBack, Moves, Clears, Shrinks}
 use Rattle.hashlink_model.specs.Walk.{first_of, last_of}
 use Rattle.hashlink_run.specs.declared.commands.Command.{Command}
-use Rattle.hashlink_run.specs.declared.commands.Command.TheVariants.{Insert, InsertFront, Replace, Get}
-use Rattle.hashlink_run.specs.declared.commands.Command.TheVariants.{Remove, RemoveEntry, PopFront, PopBack}
-use Rattle.hashlink_run.specs.declared.commands.Command.TheVariants.{ToFront, ToBack, Front, Back, Len, Clear}
-use Rattle.hashlink_run.specs.declared.commands.Command.TheVariants.{Shrink, Keep, Entry, Cursor}
+use Rattle.hashlink_run.specs.declared.commands.Command.TheVariants as command
 use Rattle.hashlink_run.specs.declared.replies.Reply.{Reply}
 use Rattle.hashlink_run.specs.declared.replies.Reply.TheVariants.{Done, Value, Pair, Seen, AtPlace, Length}
 use Rattle.hashlink_run.specs.CallReplies.{insert_reply, shrink_reply}
@@ -35,60 +32,60 @@ module _ {K V B S : Type 0} (eq : K → K → Bool) (Says : K → V → B → Ty
 
   -- from old, the map may answer the command by these replies and go on to new
   abbrev pub Step : MapState K V S → Command K V → List (Reply K V B) → MapState K V S → Type 0
-  Step old (Insert k v) replies new = InsertsWith old k v (length old.entries) replies new
-  Step old (InsertFront k v) replies new = InsertsWith old k v 0 replies new
-  Step old (Replace k v) replies new =
+  Step old (command.Insert k v) replies new = InsertsWith old k v (length old.entries) replies new
+  Step old (command.InsertFront k v) replies new = InsertsWith old k v 0 replies new
+  Step old (command.Replace k v) replies new =
       (answer : Result (Option V) (K × V)) × Replaces eq old new k v answer
       × (replies ≡ insert_reply answer ∷ [])
-  Step old (Get k) replies new = Reads Says old Seen (lookup_entry (eq k) old.entries) replies new
-  Step old (Remove k) replies new =
+  Step old (command.Get k) replies new = Reads Says old Seen (lookup_entry (eq k) old.entries) replies new
+  Step old (command.Remove k) replies new =
       RemovesKey eq old new k (lookup_entry (eq k) old.entries)
       × (replies ≡ Value (lookup (eq k) old.entries) ∷ [])
-  Step old (RemoveEntry k) replies new =
+  Step old (command.RemoveEntry k) replies new =
       RemovesKey eq old new k (lookup_entry (eq k) old.entries)
       × (replies ≡ Pair (lookup_entry (eq k) old.entries) ∷ [])
-  Step old PopFront replies new =
+  Step old command.PopFront replies new =
       PopsFront old new (first_of old.entries) × (replies ≡ Pair (first_of old.entries) ∷ [])
-  Step old PopBack replies new =
+  Step old command.PopBack replies new =
       PopsBack old new (last_of old.entries) × (replies ≡ Pair (last_of old.entries) ∷ [])
-  Step old (ToFront k) replies new = MovesAndReads old k 0 replies new
-  Step old (ToBack k) replies new = MovesAndReads old k (length old.entries) replies new
-  Step old Front replies new = Reads Says old AtPlace (first_of old.entries) replies new
-  Step old Back replies new = Reads Says old AtPlace (last_of old.entries) replies new
-  Step old Len replies new = (new ≡ old) × (replies ≡ Length (length old.entries) ∷ [])
-  Step old Clear replies new = Clears old new × (replies ≡ Done ∷ [])
-  Step old Shrink replies new =
+  Step old (command.ToFront k) replies new = MovesAndReads old k 0 replies new
+  Step old (command.ToBack k) replies new = MovesAndReads old k (length old.entries) replies new
+  Step old command.Front replies new = Reads Says old AtPlace (first_of old.entries) replies new
+  Step old command.Back replies new = Reads Says old AtPlace (last_of old.entries) replies new
+  Step old command.Len replies new = (new ≡ old) × (replies ≡ Length (length old.entries) ∷ [])
+  Step old command.Clear replies new = Clears old new × (replies ≡ Done ∷ [])
+  Step old command.Shrink replies new =
       (answer : Result (Unit {0}) AllocError) × Shrinks old new answer × (replies ≡ shrink_reply answer ∷ [])
-  Step old Keep replies new = KeepsWhere Keeps old new × (replies ≡ Done ∷ [])
-  Step old (Entry k step) replies new = EntrySteps eq Says old k step replies new
-  Step old (Cursor steps) replies new = CursorSteps eq Says old steps.items replies new
+  Step old command.Keep replies new = KeepsWhere Keeps old new × (replies ≡ Done ∷ [])
+  Step old (command.Entry k step) replies new = EntrySteps eq Says old k step replies new
+  Step old (command.Cursor steps) replies new = CursorSteps eq Says old steps.items replies new
 
 module _ {K V : Type 0} where
   -- how many replies a command has: one, and a cursor's steps one each
   abbrev pub reply_count : Command K V → ℕ
-  reply_count (Cursor steps) = length steps.items
+  reply_count (command.Cursor steps) = length steps.items
   reply_count command = 1
 
   -- the command is no cursor's, so that it has one reply
   abbrev pub IsNoCursor : Command K V → Type 0
-  IsNoCursor (Cursor steps) = ⊥
+  IsNoCursor (command.Cursor steps) = ⊥
   IsNoCursor command = Unit {0}
 
 -- the command, from old, may come to read the pair
 abbrev pub ReadBy : {K V B S : Type 0} → (K → K → Bool) → (K → V → B → Type 0) → MapState K V S → Command K V
     → K × V → Type 0
-ReadBy eq Says old (Get k) pair = lookup_entry (eq k) old.entries ≡ Some pair
-ReadBy eq Says old (ToFront k) pair = lookup_entry (eq k) old.entries ≡ Some pair
-ReadBy eq Says old (ToBack k) pair = lookup_entry (eq k) old.entries ≡ Some pair
-ReadBy eq Says old Front pair = first_of old.entries ≡ Some pair
-ReadBy eq Says old Back pair = last_of old.entries ≡ Some pair
-ReadBy eq Says old (Entry k step) pair = ReadAtEntry eq old k step pair
-ReadBy eq Says old (Cursor steps) pair = ReadOnWalk eq Says (first_place old) steps.items pair
+ReadBy eq Says old (command.Get k) pair = lookup_entry (eq k) old.entries ≡ Some pair
+ReadBy eq Says old (command.ToFront k) pair = lookup_entry (eq k) old.entries ≡ Some pair
+ReadBy eq Says old (command.ToBack k) pair = lookup_entry (eq k) old.entries ≡ Some pair
+ReadBy eq Says old command.Front pair = first_of old.entries ≡ Some pair
+ReadBy eq Says old command.Back pair = last_of old.entries ≡ Some pair
+ReadBy eq Says old (command.Entry k step) pair = ReadAtEntry eq old k step pair
+ReadBy eq Says old (command.Cursor steps) pair = ReadOnWalk eq Says (first_place old) steps.items pair
 ReadBy eq Says old command pair = ⊥
 
 -- the command is a keep, and asks of the pair
 abbrev pub KeepAsks : {K V S : Type 0} → MapState K V S → Command K V → K × V → Type 0
-KeepAsks old Keep pair = Contains old.entries pair
+KeepAsks old command.Keep pair = Contains old.entries pair
 KeepAsks old command pair = ⊥
 
 -- the same as a record: terms of it are compared by its arguments, and so at little cost

@@ -1,265 +1,170 @@
--- What may answer a text, worked out line by line.
-use Rattle.std.proofs.Common.{◌≡◌, ℕ, ◌+◌, ◌≤◌, ◌++◌, ◌⊎◌, List, [], ◌∷◌, Option, None, Some, Result, Ok, Err}
-use Rattle.std.proofs.Common.{codes, decimal, arith, nat_eq, refl, ap, ◌∙◌, inl, inr, ⊎_elim, lit≤}
+-- What may answer a text, worked out line by line from the entries that there are.
+use Rattle.std.proofs.Common.{◌≡◌, ℕ, ◌++◌, ◌⊎◌, List, [], ◌∷◌, Option, None, Some, Result, Ok, Err, codes}
+use Rattle.std.proofs.Common.{decimal, nat_eq, refl, sym, ap, ap₂, ◌∙◌, subst, inl, inr}
 use Rattle.std.specs.Fmt.{digits}
 use Rattle.std.specs.Map.{lookup_entry}
-use Rattle.hashlink_model.specs.MapState.{MapState, map_state, empty_map, StoresAtMost, Inserts, Adds}
-use Rattle.hashlink_model.specs.MapState.{Changes, Removes, RoomFor}
-use Rattle.std.specs.Int.{IsPowerOfTwo}
+use Rattle.std.specs.Result.{IsOk}
+use Rattle.std.specs.declared.alloc.AllocError.{AllocError}
+use Rattle.hashlink_model.specs.MapState.{MapState, map_state, empty_map, Inserts}
 use Rattle.hashlink_core.specs.declared.hash_builder.DefaultHashBuilder.{DefaultHashBuilder}
-use Rattle.hashlink_core.specs.Hashing.{default_builder}
-use Rattle.hashlink_run.specs.declared.commands.Command.{Command}
-use Rattle.hashlink_run.specs.declared.commands.Command.TheVariants.{Insert, Get, Remove}
-use Rattle.hashlink_text.specs.Spelling.{Do, Iter}
 use Rattle.hashlink_run.specs.declared.replies.Reply.{Reply}
-use Rattle.hashlink_run.specs.declared.replies.Reply.TheVariants.{Value, Seen}
-use Rattle.hashlink_run.specs.Reads.{SaysOf}
-use Rattle.hashlink_run.specs.CallReplies.{insert_reply}
-use Rattle.hashlink_run.specs.Keeps.{IsEven}
-use Rattle.hashlink_run.specs.Step.{Step}
-use Rattle.hashlink_text.specs.Text.{IsTranscript}
+use Rattle.hashlink_run.specs.declared.replies.Reply.TheVariants.{Done, Seen, AtPlace, Pair, Value, Length}
+use Rattle.hashlink_run.specs.Reads.{SaysOf, Replies}
+use Rattle.hashlink_run.specs.CallReplies.{insert_reply, shrink_reply}
+use Rattle.hashlink_text.specs.Text.{IsTranscript, LinesRun}
 use Rattle.hashlink_text.specs.Transcript.{Shows, LineShows, ShowsAll, Itself, ended, shown_by, list_shown}
 use Rattle.hashlink_text.specs.Transcript.{reply_shown, replies_shown}
-use Rattle.hashlink_text.proofs.ReadSo.{runs_mode, runs_read, shows_line, shows_read}
+use Rattle.hashlink_text.proofs.ReadSo.{read_of, runs_read, shows_read}
 
--- the lines that show what is read of the entries by `get 1` and `iter`
-abbrev value_read : List (ℕ × ℕ) → ℕ → List ℕ
-value_read es k = shown_by (λ p. decimal p.1) (lookup_entry (nat_eq k) es)
-
-abbrev read_lines : List (ℕ × ℕ) → List ℕ
-read_lines es = ended (value_read es 1) ++ (ended (list_shown es) ++ [])
-
-abbrev Replies : Type 0
-Replies = List (Reply ℕ ℕ (ℕ × ℕ))
+abbrev Pairs : Type 0
+Pairs = List (ℕ × ℕ)
 
 -- of a pair that is read, the pair itself is said
-pub said_itself : (pair said : Option (ℕ × ℕ)) → SaysOf Itself pair said → said ≡ pair
+said_itself : (pair said : Option (ℕ × ℕ)) → SaysOf Itself pair said → said ≡ pair
 said_itself None None s = refl
 said_itself None (Some q) s = absurd s
 said_itself (Some p) None s = absurd s
 said_itself (Some p) (Some q) s = ap Some s
 
-module _ {S : Type 0} where
-  got : (old new : MapState ℕ ℕ S) (k : ℕ) (replies : Replies) (answer : List ℕ)
-      → Step nat_eq Itself IsEven old (Get k) replies new
-      → answer ≡ replies_shown replies → (answer ≡ value_read old.entries k) × (new ≡ old)
-  got old new k replies answer s shown =
-      let said = said_itself (lookup_entry (nat_eq k) old.entries) s.1.0 s.1.1 in
-      (shown ∙ ap replies_shown s.1.2 ∙ ap (shown_by (λ p. decimal p.1)) said, s.0)
+itself_read : (reply : Option (ℕ × ℕ) → Reply ℕ ℕ (ℕ × ℕ)) (pair : Option (ℕ × ℕ))
+    (replies : List (Reply ℕ ℕ (ℕ × ℕ))) → Replies Itself reply pair replies → replies ≡ reply pair ∷ []
+itself_read reply pair replies h = h.2 ∙ ap (λ o. reply o ∷ []) (said_itself pair h.0 h.1)
+
+shrunk : (answer : Result (Unit {0}) AllocError) → IsOk answer
+    → shrink_reply {K = ℕ} {V = ℕ} {B = ℕ × ℕ} answer ≡ Done
+shrunk (Ok done) h = refl
+shrunk (Err e) h = cc
+
+module _ (S : Type 0) where
+  -- whatever may answer the line where there are these entries is such
+  abbrev Of : Pairs → List ℕ → (MapState ℕ ℕ S → MapState ℕ ℕ S → List ℕ → Type 0) → Type 0
+  Of es line P =
+      (n r w : ℕ) (s : S) (new : MapState ℕ ℕ S) (text : List ℕ)
+      → Shows (map_state es n r w s) (read_of line) text new → P (map_state es n r w s) new text
+
+  -- where there are these entries, this answers the line, and those are left
+  record Answers (es : Pairs) (line answer : List ℕ) (left : Pairs) : Type 0 where
+    by : Of es line (λ old new text. (text ≡ answer) × (new.entries ≡ left))
+
+  -- this answers the lines
+  pub record AnswersAll (es : Pairs) (lines : List (List ℕ)) (answer : List ℕ) : Type 0 where
+    pub all :
+        (old new : MapState ℕ ℕ S) (text : List ℕ) → old.entries ≡ es → ShowsAll LineShows old lines text new
+        → text ≡ answer
+
+  no_line : {es : Pairs} → AnswersAll es [] []
+  no_line = record { all = λ old new text is h. h.0 }
+
+  next : {es left : Pairs} {line answer : List ℕ} {lines : List (List ℕ)} {answers : List ℕ}
+      → Answers es line answer left → AnswersAll left lines answers
+      → AnswersAll es (line ∷ lines) (ended answer ++ answers)
+  next {line = line} one more = record {
+    all = λ old new text is h.
+        let shows = subst (λ es. Shows (record old { entries = es }) (read_of line) h.0 h.1) is
+        (shows_read old h.1 line h.0 h.3) in
+        let first = one.by old.spare old.room old.link_writes old.hasher h.1 h.0 shows in
+        h.5 ∙ ap₂ (λ a m. ended a ++ m) first.0 (more.all h.1 new h.2 first.1 h.4);
+  }
+
+  -- by one reply
+  replied : {es left : Pairs} (line : List ℕ) (reply : Reply ℕ ℕ (ℕ × ℕ))
+      → Of es line (λ old new text.
+      (replies : List (Reply ℕ ℕ (ℕ × ℕ))) × (new.entries ≡ left) × (replies ≡ reply ∷ [])
+      × (text ≡ replies_shown replies))
+      → Answers es line (reply_shown reply) left
+  replied line reply shows = record {
+    by = λ n r w s new text h.
+        let a = shows n r w s new text h in (a.3 ∙ ap replies_shown a.2, a.1);
+  }
+
+  -- and no change
+  finds : {es : Pairs} (line : List ℕ) (reply : Reply ℕ ℕ (ℕ × ℕ))
+      → Of es line (λ old new text.
+      (replies : List (Reply ℕ ℕ (ℕ × ℕ))) × ((new ≡ old) × (replies ≡ reply ∷ []))
+      × (text ≡ replies_shown replies))
+      → Answers es line (reply_shown reply) es
+  finds line reply shows = replied line reply (λ n r w s new text h.
+      let a = shows n r w s new text h in (a.0, ap (λ m. m.entries) a.1.0, a.1.1, a.2))
+
+  iter : (es : Pairs) → Answers es (codes "iter") (list_shown es) es
+  iter es = record { by = λ n r w s new text h. (h.0, ap (λ m. m.entries) h.1) }
+
+  get : (es : Pairs)
+      → Answers es (codes "get 1") (shown_by (λ p. decimal p.1) (lookup_entry (nat_eq 1) es)) es
+  get es = finds (codes "get 1") (Seen (lookup_entry (nat_eq 1) es))
+      (λ n r w s new text h. (h.0, (h.1.0, itself_read Seen _ h.0 h.1.1), h.2))
+
+  pub reads : (es : Pairs) → AnswersAll es (codes "get 1" ∷ codes "iter" ∷ [])
+      (ended (shown_by (λ p. decimal p.1) (lookup_entry (nat_eq 1) es)) ++ (ended (list_shown es) ++ []))
+  reads es = next (get es) (next (iter es) no_line)
+
+  pub bads : AnswersAll [] ([] ∷ codes "lens" ∷ []) (codes "bad\nbad\n")
+  bads = next (bad [] refl) (next (bad (codes "lens") refl) no_line)
+    where
+      bad : (line : List ℕ) → read_of line ≡ None → Answers [] line (codes "bad") []
+      bad line none = record {
+        by = λ n r w s new text h.
+            let b = subst (λ said. Shows (map_state [] n r w s) said text new) none h in
+            (b.0, ap (λ m. m.entries) b.1);
+      }
 
   -- the first insert is done or refused
-  inserted_by : (s : S) (new : MapState ℕ ℕ S) (r : Result (Option ℕ) (ℕ × ℕ)) (answer : List ℕ)
-      → Inserts nat_eq (empty_map s) new 1 10 0 r → answer ≡ reply_shown (insert_reply r)
-      → ((answer ≡ codes "-") × (new.entries ≡ (1, 10) ∷ []))
-      ⊎ ((answer ≡ codes "memory") × (new.entries ≡ []))
-  inserted_by s new (Ok None) answer a shown = inl (shown, a.adds.entries)
-  inserted_by s new (Ok (Some w)) answer a shown = absurd (cc a.old_value)
-  inserted_by s new (Err pair) answer a shown = inr (shown, a.grows.entries)
+  inserts : (s : S) (mid new : MapState ℕ ℕ S) (r : Result (Option ℕ) (ℕ × ℕ)) (text : List ℕ)
+      → Inserts nat_eq (empty_map s) mid 1 10 0 r
+      → ShowsAll LineShows mid (codes "get 1" ∷ codes "iter" ∷ []) text new
+      → (ended (reply_shown (insert_reply r)) ++ text ≡ codes "-\n10\n1:10\n")
+      ⊎ (ended (reply_shown (insert_reply r)) ++ text ≡ codes "memory\n-\nempty\n")
+  unfolding digits
+  inserts s mid new (Ok None) text a h =
+      inl (ap (λ m. codes "-\n" ++ m) ((reads ((1, 10) ∷ [])).all mid new text a.adds.entries h))
+  inserts s mid new (Ok (Some w)) text a h = absurd (cc a.old_value)
+  inserts s mid new (Err pair) text a h =
+      inr (ap (λ m. codes "memory\n" ++ m) ((reads []).all mid new text a.grows.entries h))
 
-  inserted : (s : S) (new : MapState ℕ ℕ S) (replies : Replies) (answer : List ℕ)
-      → Step nat_eq Itself IsEven (empty_map s) (Insert 1 10) replies new → answer
-      ≡ replies_shown replies
-      → ((answer ≡ codes "-") × (new.entries ≡ (1, 10) ∷ []))
-      ⊎ ((answer ≡ codes "memory") × (new.entries ≡ []))
-  inserted s new replies answer a shown = inserted_by s new a.0 answer a.1 (shown
-      ∙ ap replies_shown a.2)
+  pub ends : AnswersAll []
+      (codes "len" ∷ codes "front" ∷ codes "pop_back" ∷ codes "to_front 1" ∷ codes "clear" ∷ codes "shrink"
+      ∷ codes "iter" ∷ [])
+      (codes "0\n-\n-\n-\nok\nok\nempty\n")
+  unfolding digits
+  ends =
+      next (finds (codes "len") (Length 0) (λ n r w s new text h. h))
+      (next (finds (codes "front") (AtPlace None)
+      (λ n r w s new text h. (h.0, (h.1.0, itself_read AtPlace None h.0 h.1.1), h.2)))
+      (next (finds (codes "pop_back") (Pair None)
+      (λ n r w s new text h. (h.0, (h.1.0.step, h.1.1), h.2)))
+      (next (finds (codes "to_front 1") (Seen None)
+      (λ n r w s new text h. (h.0, (h.1.0.step, itself_read Seen None h.0 h.1.1), h.2)))
+      (next (replied (codes "clear") Done (λ n r w s new text h. (h.0, h.1.0.entries, h.1.1, h.2)))
+      (next (replied (codes "shrink") Done (λ n r w s new text h.
+      let done = shrunk h.1.0 (h.1.1.empty refl).0 in
+      (h.0, h.1.1.entries, h.1.2 ∙ ap (λ reply. reply ∷ []) done, h.2)))
+      (next (iter []) no_line))))))
 
-  was_listed : (old new : MapState ℕ ℕ S) (text : List ℕ)
-      → ShowsAll LineShows old (codes "iter" ∷ []) text new
-      → text ≡ ended (list_shown old.entries) ++ []
-  was_listed old new text r =
-      let shown : Shows old (Some Iter) r.0 r.1 = shows_read old r.1 (codes "iter") r.0 r.3 in
-      r.5 ∙ ap (λ a. ended a ++ r.2) shown.0 ∙ ap (λ m. ended (list_shown old.entries) ++ m) r.4.0
+  pub entries : AnswersAll []
+      (codes "entry 1 get" ∷ codes "entry 1 replace_entry 5" ∷ codes "entry 1 to_back" ∷
+      codes "entry 1 remove" ∷ codes "iter" ∷ [])
+      (codes "-\n-\n-\n-\nempty\n")
+  entries =
+      next (finds (codes "entry 1 get") (Seen None) (λ n r w s new text h. h))
+      (next (finds (codes "entry 1 replace_entry 5") (Pair None) (λ n r w s new text h. h))
+      (next (finds (codes "entry 1 to_back") (Seen None) (λ n r w s new text h. h))
+      (next (finds (codes "entry 1 remove") (Value None) (λ n r w s new text h. h))
+      (next (iter []) no_line))))
 
-  was_read : (old new : MapState ℕ ℕ S) (text : List ℕ)
-      → ShowsAll LineShows old (codes "get 1" ∷ codes "iter" ∷ []) text new
-      → text ≡ read_lines old.entries
-  was_read old new text r =
-      let shown : Shows old (Some (Do (Get 1))) r.0 r.1 = shows_read old r.1 (codes "get 1") r.0 r.3 in
-      let g = got old r.1 1 shown.0 r.0 shown.1 shown.2 in
-      let listed : r.2 ≡ ended (list_shown old.entries) ++ [] = was_listed r.1 new r.2 r.4
-      ∙ ap (λ m. ended (list_shown m.entries) ++ []) g.1 in
-      r.5 ∙ ap (λ a. ended a ++ r.2) g.0 ∙ ap (λ m. ended (value_read old.entries 1) ++ m) listed
-
-  was_answered : (s : S) (new : MapState ℕ ℕ S) (text : List ℕ)
-      → ShowsAll LineShows (empty_map s) (codes "insert 1 10" ∷ codes "get 1" ∷ codes "iter" ∷ []) text new
-      → (text ≡ ended (codes "-") ++ read_lines ((1, 10) ∷ []))
-      ⊎ (text ≡ ended (codes "memory") ++ read_lines [])
-  was_answered s new text r =
-      let shown : Shows (empty_map s) (Some (Do (Insert 1 10))) r.0 r.1 =
-      shows_read (empty_map s) r.1 (codes "insert 1 10") r.0 r.3 in
-      let read : r.2 ≡ read_lines r.1.entries = was_read r.1 new r.2 r.4 in
-      ⊎_elim (λ p.
-      inl (r.5 ∙ ap (λ a. ended a ++ r.2) p.0 ∙ ap (λ m. ended (codes "-") ++ m) (read ∙ ap read_lines p.1)))
-      (λ p. inr
-      (r.5 ∙ ap (λ a. ended a ++ r.2) p.0 ∙ ap (λ m. ended (codes "memory") ++ m) (read ∙ ap read_lines p.1)))
-      (inserted s r.1 shown.0 r.0 shown.1 shown.2)
+-- a text to a map
+pub only_answer : {lines : List (List ℕ)} {answer : List ℕ} → AnswersAll DefaultHashBuilder [] lines answer
+    → (text : List ℕ) → LinesRun DefaultHashBuilder (codes "map" ∷ lines) text → text ≡ answer
+only_answer {lines} one text t =
+    let r = runs_read DefaultHashBuilder (codes "map") lines text t in
+    one.all (empty_map r.0) r.1 text refl r.2
 
 pub insert_answers : (text : List ℕ) → IsTranscript (codes "map\ninsert 1 10\nget 1\niter\n") text
     → (text ≡ codes "-\n10\n1:10\n") ⊎ (text ≡ codes "memory\n-\nempty\n")
-unfolding digits
 insert_answers text t =
-    let r =
-    runs_read DefaultHashBuilder (codes "map") (codes "insert 1 10" ∷ codes "get 1" ∷ codes "iter" ∷ [])
-    text t in
-    was_answered r.0 r.1 text r.2
-
-pub read_answers : (text : List ℕ) → IsTranscript (codes "map\nget 1\niter\n") text
-    → text ≡ codes "-\nempty\n"
-read_answers text t =
-    let r = runs_read DefaultHashBuilder (codes "map") (codes "get 1" ∷ codes "iter" ∷ []) text t in
-    was_read (empty_map r.0) r.1 text r.2
-
-pub bad_answers : (text : List ℕ) → IsTranscript (codes "map\n\nlens") text → text ≡ codes "bad\nbad\n"
-bad_answers text t =
-    let run = runs_read DefaultHashBuilder (codes "map") ([] ∷ codes "lens" ∷ []) text t in
+    let lines : List (List ℕ) = codes "insert 1 10" ∷ codes "get 1" ∷ codes "iter" ∷ [] in
+    let run = runs_read DefaultHashBuilder (codes "map") lines text t in
     let r = run.2 in
-    let first : (r.0 ≡ codes "bad") × (r.1 ≡ empty_map run.0) =
-    shows_read (empty_map run.0) r.1 [] r.0 r.3 in
-    let second : (r.4.0 ≡ codes "bad") × (r.4.1 ≡ r.1) = shows_read r.1 r.4.1 (codes "lens") r.4.0 r.4.3 in
-    r.5 ∙ ap (λ a. ended a ++ r.2) first.0
-    ∙ ap (λ m. codes "bad\n" ++ m) (r.4.5 ∙ ap (λ a. ended a ++ r.4.2) second.0
-    ∙ ap (λ m. codes "bad\n" ++ m) r.4.4.0)
-
--- ---- a run in which no insert is refused
-
-pub few : (most old new : ℕ) → old ≤ new → new ≤ old + most → StoresAtMost most old new
-few most old new grows bound = record { grows = grows; bound = bound }
-
-abbrev pub state : List (ℕ × ℕ) → ℕ → ℕ → ℕ → MapState ℕ ℕ DefaultHashBuilder
-state es spare room writes = map_state es spare room writes default_builder
-
-abbrev pub Stepped : MapState ℕ ℕ DefaultHashBuilder → Command ℕ ℕ → Reply ℕ ℕ (ℕ × ℕ)
-    → MapState ℕ ℕ DefaultHashBuilder
-    → Type 0
-Stepped old command reply new = Step nat_eq Itself IsEven old command (reply ∷ []) new
-
--- room that grows by one, to a power of two
-pub one_more : (n : ℕ) → IsPowerOfTwo (n + 1) → RoomFor (n + 1) n (n + 1)
-one_more n power = record {
-  grows = omega arith;
-  same = λ le. absurd (omega arith);
-  bound = omega arith;
-  power = λ _. power;
-}
-
-pub first_insert : Stepped (empty_map default_builder) (Insert 1 10) (Value None) (state ((1, 10) ∷ []) 0 1 4)
-first_insert =
-    let adds : Adds (empty_map default_builder) (state ((1, 10) ∷ []) 0 1 4) ((1, 10) ∷ []) = record {
-      entries = refl;
-      more = refl;
-      spare = refl;
-      room = one_more 0 (0, refl);
-      fits = lit≤ tt;
-      link_writes = few 4 0 4 (lit≤ tt) (lit≤ tt);
-      hasher = refl;
-    } in
-    (Ok None, record { absent = refl; adds = adds }, refl)
-
-second_insert : Stepped (state ((1, 10) ∷ []) 0 1 4) (Insert 2 20) (Value None)
-    (state ((1, 10) ∷ (2, 20) ∷ []) 0 2 8)
-second_insert =
-    let new : MapState ℕ ℕ DefaultHashBuilder = state ((1, 10) ∷ (2, 20) ∷ []) 0 2 8 in
-    let adds : Adds (state ((1, 10) ∷ []) 0 1 4) new ((1, 10) ∷ (2, 20) ∷ []) = record {
-      entries = refl;
-      more = refl;
-      spare = refl;
-      room = one_more 1 (1, refl);
-      fits = lit≤ tt;
-      link_writes = few 4 4 8 (lit≤ tt) (lit≤ tt);
-      hasher = refl;
-    } in
-    (Ok None, record { absent = refl; adds = adds }, refl)
-
-insert_again : Stepped (state ((1, 10) ∷ (2, 20) ∷ []) 0 2 8) (Insert 1 11) (Value (Some 10))
-    (state ((2, 20) ∷ (1, 11) ∷ []) 0 2 14)
-insert_again =
-    let old : MapState ℕ ℕ DefaultHashBuilder = state ((1, 10) ∷ (2, 20) ∷ []) 0 2 8 in
-    let puts : Changes old (state ((2, 20) ∷ (1, 11) ∷ []) 0 2 14) ((2, 20) ∷ (1, 11) ∷ []) 6 = record {
-      entries = refl;
-      spare = refl;
-      room = refl;
-      link_writes = few 6 8 14 (lit≤ tt) (lit≤ tt);
-      hasher = refl;
-    } in
-    (Ok (Some 10), record { old_value = refl; puts = puts }, refl)
-
-read : Stepped (state ((2, 20) ∷ (1, 11) ∷ []) 0 2 14) (Get 1) (Seen (Some (1, 11)))
-    (state ((2, 20) ∷ (1, 11) ∷ []) 0 2 14)
-read = (refl, (Some (1, 11), refl, refl))
-
-removal : Stepped (state ((2, 20) ∷ (1, 11) ∷ []) 0 2 14) (Remove 2) (Value (Some 20))
-    (state ((1, 11) ∷ []) 1 2 17)
-removal =
-    let old : MapState ℕ ℕ DefaultHashBuilder = state ((2, 20) ∷ (1, 11) ∷ []) 0 2 14 in
-    let removes : Removes old (state ((1, 11) ∷ []) 1 2 17) ((1, 11) ∷ []) = record {
-      entries = refl;
-      fewer = refl;
-      spare = refl;
-      room = refl;
-      link_writes = few 3 14 17 (lit≤ tt) (lit≤ tt);
-      hasher = refl;
-    } in
-    (record { answer = refl; step = removes }, refl)
-
-pub worked_answer : IsTranscript (codes "map\ninsert 1 10\ninsert 2 20\ninsert 1 11\nget 1\nremove 2\niter\n")
-    (codes "-\n-\n10\n11\n20\n1:11\n")
-unfolding digits
-worked_answer =
-    let start : MapState ℕ ℕ DefaultHashBuilder = empty_map default_builder in
-    let one : MapState ℕ ℕ DefaultHashBuilder = state ((1, 10) ∷ []) 0 1 4 in
-    let two : MapState ℕ ℕ DefaultHashBuilder = state ((1, 10) ∷ (2, 20) ∷ []) 0 2 8 in
-    let again : MapState ℕ ℕ DefaultHashBuilder = state ((2, 20) ∷ (1, 11) ∷ []) 0 2 14 in
-    let end : MapState ℕ ℕ DefaultHashBuilder = state ((1, 11) ∷ []) 1 2 17 in
-    let listed : ShowsAll LineShows end (codes "iter" ∷ []) (codes "1:11\n") end = (
-      codes "1:11",
-      end,
-      [],
-      shows_line end end (codes "iter") (codes "1:11") (refl, refl),
-      (refl, refl),
-      refl,
-    ) in
-    runs_mode DefaultHashBuilder (codes "map")
-    (codes "insert 1 10" ∷ codes "insert 2 20" ∷ codes "insert 1 11" ∷ codes "get 1" ∷ codes "remove 2"
-    ∷ codes "iter" ∷ [])
-    (codes "-\n-\n10\n11\n20\n1:11\n") (
-      default_builder,
-      end,
-      (
-        codes "-",
-        one,
-        codes "-\n10\n11\n20\n1:11\n",
-        shows_line start one (codes "insert 1 10") (codes "-") (Value None ∷ [], first_insert, refl),
-        (
-          codes "-",
-          two,
-          codes "10\n11\n20\n1:11\n",
-          shows_line one two (codes "insert 2 20") (codes "-") (Value None ∷ [], second_insert, refl),
-          (
-            codes "10",
-            again,
-            codes "11\n20\n1:11\n",
-            shows_line two again (codes "insert 1 11") (codes "10")
-                (Value (Some 10) ∷ [], insert_again, refl),
-            (
-              codes "11",
-              again,
-              codes "20\n1:11\n",
-              shows_line again again (codes "get 1") (codes "11") (Seen (Some (1, 11)) ∷ [], read, refl),
-              (
-                codes "20",
-                end,
-                codes "1:11\n",
-                shows_line again end (codes "remove 2") (codes "20") (Value (Some 20) ∷ [], removal, refl),
-                listed,
-                refl,
-              ),
-              refl,
-            ),
-            refl,
-          ),
-          refl,
-        ),
-        refl,
-      ),
-    )
+    let done = shows_read (empty_map run.0) r.1 (codes "insert 1 10") r.0 r.3 in
+    let is = r.5 ∙ ap (λ a. ended a ++ r.2) (done.2 ∙ ap replies_shown done.1.2) in
+    subst (λ t. (t ≡ codes "-\n10\n1:10\n") ⊎ (t ≡ codes "memory\n-\nempty\n")) (sym is)
+    (inserts DefaultHashBuilder run.0 r.1 run.1 done.1.0 r.2 done.1.1 r.4)

@@ -1,30 +1,23 @@
 -- What is read from the front of a text is the first of its parts, words or lines.
-use Rattle.std.proofs.Common.{◌≡◌, ℕ, ◌+◌, ◌<◌, ◌≤◌, Bool, true, false, nat_eq, nat_lt, List, [], ◌∷◌, length}
+use Rattle.std.proofs.Common.{◌≡◌, ℕ, ◌+◌, ◌<◌, Bool, true, false, nat_eq, nat_lt, List, [], ◌∷◌, length}
 use Rattle.std.proofs.Common.{take, drop, Option, None, Some, unwrap_or, refl, sym, ap, ◌∙◌, ⊎_elim, arith}
 use Rattle.std.proofs.Common.{Bor}
-use Rattle.std.specs.List.{slice_split, onto_first, position, position_or_len, join_with_byte}
+use Rattle.std.specs.List.{slice_split, position, position_or_len, join_with_byte}
 use Rattle.std.proofs.lemmas.Bool.{cases_Bool, ltb-true, ltb-false}
 use Rattle.std.proofs.lemmas.Option.{cond_some}
-use Rattle.std.proofs.lemmas.List.Splits.{slice_split-cons_no, slice_split_first, length-slice_split}
+use Rattle.std.proofs.lemmas.List.Splits.{slice_split_none, slice_split_first, length-slice_split}
 use Rattle.std.proofs.lemmas.List.Splits.{join_with_byte-slice_split}
+use Rattle.std.proofs.lemmas.List.Sums.{fails_before_first}
 use Rattle.hashlink_text.specs.Lines.{parts_of, without_empty_end, lines_of}
 use Rattle.hashlink_text.specs.Cuts.{parts_left}
 
 module _ {X : Type 0} (p : X → Bool) where
-  -- where no element passes, the list is the one part
-  slice_split_whole : (xs : List X) → length xs ≤ position_or_len p xs → slice_split p xs ≡ xs ∷ []
-  slice_split_whole [] h = refl
-  slice_split_whole (x ∷ xs) h =
-      ⊎_elim (λ e. let none : position_or_len p (x ∷ xs) ≡ 0 = rw e refl in absurd (omega (arith, none, h)))
-      (λ e. let more : position_or_len p (x ∷ xs) ≡ 1 + position_or_len p xs = rw e refl in
-      slice_split-cons_no p x xs e ∙ ap (onto_first x) (slice_split_whole xs (omega (arith, more, h))))
-      (cases_Bool (p x))
-
   pub slice_split-position_none : (xs : List X) → position p xs ≡ None → slice_split p xs ≡ xs ∷ []
   slice_split-position_none xs e =
       ⊎_elim (λ (t : nat_lt (position_or_len p xs) (length xs) ≡ true).
       absurd (let q : Some (position_or_len p xs) ≡ None = rw t at e in cc))
-      (λ (f : nat_lt (position_or_len p xs) (length xs) ≡ false). slice_split_whole xs (ltb-false _ _ f))
+      (λ (f : nat_lt (position_or_len p xs) (length xs) ≡ false).
+      slice_split_none p xs (λ k d at. fails_before_first p xs k d (omega (arith, ltb-false _ _ f))))
       (cases_Bool (nat_lt (position_or_len p xs) (length xs)))
 
   pub slice_split-position_some : (xs : List X) (at : ℕ) → position p xs ≡ Some at

@@ -1,7 +1,6 @@
 -- Lists of pairs and of replies, written from the front.
 use Rattle.std.proofs.Common.{◌≡◌, ℕ, List, [], ◌∷◌, ◌++◌, append-nil, append_assoc, map, sym, ap, ◌∙◌}
 use Rattle.std.specs.List.{flat_map, join_with_byte}
-use Rattle.hashlink_text.specs.Transcript.{pair_shown, list_shown}
 
 -- what follows others, with a space before each
 abbrev pub following_shown : {X : Type 0} → (X → List ℕ) → List X → List ℕ
@@ -12,10 +11,6 @@ pub joined-cons : {X : Type 0} (show : X → List ℕ) (x : X) (xs : List X)
 joined-cons show x [] = sym (append-nil (show x))
 joined-cons show x (y ∷ ys) = ap (λ text. show x ++ 32 ∷ text) (joined-cons show y ys)
 
--- pairs that follow others
-abbrev pub more_shown : List (ℕ × ℕ) → List ℕ
-more_shown pairs = following_shown pair_shown pairs
-
 -- what is written once the first is
 pub joined-first : {X : Type 0} (show : X → List ℕ) (old new : List ℕ) (x : X) (xs : List X)
     → new ≡ old ++ show x
@@ -23,8 +18,3 @@ pub joined-first : {X : Type 0} (show : X → List ℕ) (old new : List ℕ) (x 
 joined-first show old new x xs wrote =
     ap (λ w. w ++ following_shown show xs) wrote ∙ append_assoc old (show x) (following_shown show xs)
     ∙ ap (λ w. old ++ w) (sym (joined-cons show x xs))
-
-pub list_shown-first : (old new : List ℕ) (key value : ℕ) (pairs : List (ℕ × ℕ))
-    → new ≡ old ++ pair_shown (key, value) → new ++ more_shown pairs ≡ old
-    ++ list_shown ((key, value) ∷ pairs)
-list_shown-first old new key value pairs wrote = joined-first pair_shown old new (key, value) pairs wrote

@@ -1,31 +1,45 @@
 -- A run over lines that has come some way.
-use Rattle.std.proofs.Common.{ℕ, List, [], ◌∷◌, ◌++◌, refl, sym, ap, append_assoc, append-nil, subst}
+use Rattle.std.proofs.Common.{◌≡◌, ℕ, List, [], ◌∷◌, ◌++◌, refl, sym, ap, ◌∙◌, append_assoc, append-nil}
+use Rattle.std.proofs.Common.{subst}
 use Rattle.std.specs.declared.string.String.{String}
 use Rattle.hashlink_text.specs.Transcript.{Pushes, ShowsAll, ended}
 
 module _ {M : Type 0} (ShowsLine : M → List ℕ → List ℕ → M → Type 0) where
-  -- whatever answers the rest from here goes on what was written so far, as an answer to all
-  pub record HasCome (start now : M) (all rest : List (List ℕ)) (written : List ℕ) : Type 0 where
+  -- so much was written after `before`; whatever answers the rest from here goes on it, as an answer to all
+  pub record HasCome (start now : M) (all rest : List (List ℕ)) (before after : List ℕ) : Type 0 where
+    pub written : List ℕ
+    pub wrote : after ≡ before ++ written
     pub goes_on : (text : List ℕ) (new : M) → ShowsAll ShowsLine now rest text new
         → ShowsAll ShowsLine start all (written ++ text) new
 
-  pub HasCome-start : (start : M) (all : List (List ℕ)) → HasCome start start all all []
-  HasCome-start start all = record { goes_on = λ text new run. run }
+  pub HasCome-start : (start : M) (all : List (List ℕ)) (before : List ℕ)
+      → HasCome start start all all before before
+  HasCome-start start all before =
+      record { written = []; wrote = sym (append-nil before); goes_on = λ text new run. run }
 
-  pub HasCome-line : {start now mid : M} {all rest : List (List ℕ)} {written : List ℕ}
-      (line answer : List ℕ)
-      → HasCome start now all (line ∷ rest) written → ShowsLine now line answer mid
-      → HasCome start mid all rest (written ++ ended answer)
-  HasCome-line {start} {now} {mid} {all} {rest} {written} line answer come shown = record {
-    goes_on = λ text new run.
-        subst (λ w. ShowsAll ShowsLine start all w new) (sym (append_assoc written (ended answer) text))
-        (come.goes_on (ended answer ++ text) new (answer, mid, text, shown, run, refl));
-  }
+  module _ {start now : M} {all : List (List ℕ)} {before after : List ℕ} where
+    pub HasCome-line : {rest : List (List ℕ)} {next : M} {more : List ℕ} (line : List ℕ)
+        → HasCome start now all (line ∷ rest) before after
+        → (answer : List ℕ) × ShowsLine now line answer next × (more ≡ after ++ ended answer)
+        → HasCome start next all rest before more
+    HasCome-line {next = next} line come shown = record {
+      written = come.written ++ ended shown.0;
+      wrote = shown.2 ∙ ap (λ w. w ++ ended shown.0) come.wrote
+          ∙ append_assoc before come.written (ended shown.0);
+      goes_on = λ text new run.
+          subst (λ w. ShowsAll ShowsLine start all w new)
+          (sym (append_assoc come.written (ended shown.0) text))
+          (come.goes_on (ended shown.0 ++ text) new (shown.0, next, text, shown.1, run, refl));
+    }
 
-  pub ShowsAll-whole : (start now : M) (all : List (List ℕ)) (written : List ℕ)
-      → HasCome start now all [] written → ShowsAll ShowsLine start all written now
-  ShowsAll-whole start now all written come =
-      subst (λ w. ShowsAll ShowsLine start all w now) (append-nil written) (come.goes_on [] now (refl, refl))
+    pub HasCome-all : HasCome start now all [] before after
+        → (text : List ℕ) × ShowsAll ShowsLine start all text now × (after ≡ before ++ text)
+    HasCome-all come = (
+      come.written,
+      subst (λ w. ShowsAll ShowsLine start all w now) (append-nil come.written)
+          (come.goes_on [] now (refl, refl)),
+      come.wrote,
+    )
 
 -- an answer to all by containers is one by what is seen of them
 module _ {C M : Type 0} (seen : C → M) (ShowsLine : M → List ℕ → List ℕ → M → Type 0) where

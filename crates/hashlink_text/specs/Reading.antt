@@ -7,10 +7,9 @@ use Rattle.std.specs.Option.{option_map}
 use Rattle.std.specs.Str.{bytes_eq}
 use Rattle.hashlink_run.specs.declared.commands.Command.TheVariants.{Entry}
 use Rattle.hashlink_run.specs.declared.commands.CursorStep.{CursorStep}
-use Rattle.hashlink_text.specs.Lines.{number_of}
 use Rattle.hashlink_text.specs.Spelling.{Word, Name, Number, Said, Do, Cursor, spelled, commands}
 use Rattle.hashlink_text.specs.Spelling.{step_spelled, entry_steps, cursor_step_words, cursor_steps}
-use Rattle.hashlink_text.specs.Tables.{numbers_of}
+use Rattle.hashlink_text.specs.Tables.{Token, numbers_of}
 
 -- the name that the words begin with
 abbrev pub first_name : Option (List Word) → List ℕ
@@ -26,22 +25,22 @@ module _ {X : Type 0} (spell : X → Option (List Word)) (among : List ℕ → L
   by_name ns = map (λ x. (first_name (spell x), x)) (among ns)
 
   -- the one that this name says with the words after it, which spell numbers
-  abbrev pub read_in : List ℕ → List (List ℕ) → Option X
+  abbrev pub read_in : List ℕ → List Token → Option X
   read_in name words = option_and_then (λ ns. lookup (bytes_eq name) (by_name ns)) (numbers_of words)
 
   -- the one that these words say
-  abbrev pub read_words : List (List ℕ) → Option X
+  abbrev pub read_words : List Token → Option X
   read_words [] = None
-  read_words (name ∷ words) = read_in name words
+  read_words (name ∷ words) = read_in name.0 words
 
 -- ---- lines to a map, with the steps of an entry and of a cursor
 
 -- a key, a name and the numbers after it
-abbrev pub entry_read : List (List ℕ) → Option Said
+abbrev pub entry_read : List Token → Option Said
 entry_read [] = None
 entry_read (key ∷ words) =
     option_and_then (λ k. option_map (λ s. Do (Entry k s)) (read_words step_spelled entry_steps words))
-    (number_of key)
+    key.1
 
 abbrev pub cursor_step_spelled : CursorStep ℕ ℕ → Option (List Word)
 cursor_step_spelled step = Some (cursor_step_words step)
@@ -51,24 +50,24 @@ abbrev pub numbers_after : List ℕ → ℕ
 numbers_after name = if bytes_eq name (codes "before") || bytes_eq name (codes "after") then 2 else 0
 
 -- the steps that the words after the first n say, each by its name and the numbers after it
-abbrev pub steps_after : ℕ → List (List ℕ) → Option (List (CursorStep ℕ ℕ))
+abbrev pub steps_after : ℕ → List Token → Option (List (CursorStep ℕ ℕ))
 steps_after n [] = Some []
 steps_after (suc n) (word ∷ words) = steps_after n words
 steps_after zero (name ∷ words) =
-    option_and_then (λ step. option_map (λ steps. step ∷ steps) (steps_after (numbers_after name) words))
-    (read_in cursor_step_spelled cursor_steps name (take (numbers_after name) words))
+    option_and_then (λ step. option_map (λ steps. step ∷ steps) (steps_after (numbers_after name.0) words))
+    (read_in cursor_step_spelled cursor_steps name.0 (take (numbers_after name.0) words))
 
 -- one step or more
 abbrev pub some_steps : List (CursorStep ℕ ℕ) → Option Said
 some_steps [] = None
 some_steps (step ∷ steps) = Some (Cursor (step ∷ steps))
 
-abbrev pub cursor_read : List (List ℕ) → Option Said
+abbrev pub cursor_read : List Token → Option Said
 cursor_read words = option_and_then some_steps (steps_after 0 words)
 
-abbrev pub line_read : List (List ℕ) → Option Said
+abbrev pub line_read : List Token → Option Said
 line_read [] = None
 line_read (name ∷ words) =
-    if bytes_eq name (codes "entry") then entry_read words
-    else if bytes_eq name (codes "cursor") then cursor_read words
-    else read_in spelled commands name words
+    if bytes_eq name.0 (codes "entry") then entry_read words
+    else if bytes_eq name.0 (codes "cursor") then cursor_read words
+    else read_in spelled commands name.0 words

@@ -9,14 +9,9 @@ use Rattle.hashlink_run.specs.declared.cache_commands.PairCommand.{PairCommand}
 use Rattle.hashlink_run.specs.declared.cache_commands.PairCommand.TheVariants as pair
 use Rattle.hashlink_run.specs.declared.cache_commands.WeightedCommand.TheVariants as weighted
 use Rattle.hashlink_run.specs.declared.commands.Command.{Command}
-use Rattle.hashlink_run.specs.declared.commands.Command.TheVariants.{Insert, InsertFront, Replace, Get}
-use Rattle.hashlink_run.specs.declared.commands.Command.TheVariants.{Remove, RemoveEntry, PopFront, PopBack}
-use Rattle.hashlink_run.specs.declared.commands.Command.TheVariants.{ToFront, ToBack, Front, Back, Len, Clear}
-use Rattle.hashlink_run.specs.declared.commands.Command.TheVariants.{Shrink, Keep, Entry}
 use Rattle.hashlink_run.specs.declared.commands.Command.TheVariants as command
 use Rattle.hashlink_run.specs.declared.commands.CursorStep.{CursorStep}
-use Rattle.hashlink_run.specs.declared.commands.CursorStep.TheVariants.{Next, Prev, Current, PeekNext}
-use Rattle.hashlink_run.specs.declared.commands.CursorStep.TheVariants.{PeekPrev, Before, After}
+use Rattle.hashlink_run.specs.declared.commands.CursorStep.TheVariants as cursor
 use Rattle.hashlink_run.specs.declared.commands.EntryStep.{EntryStep}
 use Rattle.hashlink_run.specs.declared.commands.EntryStep.TheVariants as step
 use Rattle.hashlink_text.specs.declared.cache_line.CacheLine.{CacheLine}
@@ -98,40 +93,40 @@ entry_steps (v ∷ n ∷ ns) = []
 
 -- the words of a cursor's step
 abbrev pub cursor_step_words : CursorStep ℕ ℕ → List Word
-cursor_step_words Next = named_words (codes "next") []
-cursor_step_words Prev = named_words (codes "prev") []
-cursor_step_words Current = named_words (codes "cur") []
-cursor_step_words PeekNext = named_words (codes "peek_next") []
-cursor_step_words PeekPrev = named_words (codes "peek_prev") []
-cursor_step_words (Before k v) = named_words (codes "before") (k ∷ v ∷ [])
-cursor_step_words (After k v) = named_words (codes "after") (k ∷ v ∷ [])
+cursor_step_words cursor.Next = named_words (codes "next") []
+cursor_step_words cursor.Prev = named_words (codes "prev") []
+cursor_step_words cursor.Current = named_words (codes "cur") []
+cursor_step_words cursor.PeekNext = named_words (codes "peek_next") []
+cursor_step_words cursor.PeekPrev = named_words (codes "peek_prev") []
+cursor_step_words (cursor.Before k v) = named_words (codes "before") (k ∷ v ∷ [])
+cursor_step_words (cursor.After k v) = named_words (codes "after") (k ∷ v ∷ [])
 
 abbrev pub cursor_steps : List ℕ → List (CursorStep ℕ ℕ)
-cursor_steps [] = Next ∷ Prev ∷ Current ∷ PeekNext ∷ PeekPrev ∷ []
-cursor_steps (k ∷ []) = []
-cursor_steps (k ∷ v ∷ []) = Before k v ∷ After k v ∷ []
-cursor_steps (k ∷ v ∷ n ∷ ns) = []
+cursor_steps [] = cursor.Next ∷ cursor.Prev ∷ cursor.Current ∷ cursor.PeekNext ∷ cursor.PeekPrev ∷ []
+cursor_steps (k ∷ v ∷ []) = cursor.Before k v ∷ cursor.After k v ∷ []
+cursor_steps ns = []
 
 -- the words of the line that says it. None say that a pair is taken out whole, and a cursor's steps are said
 -- as their list, of which there is one at least
 abbrev pub spelled : Said → Option (List Word)
-spelled (Do (Insert k v)) = named (codes "insert") (k ∷ v ∷ [])
-spelled (Do (InsertFront k v)) = named (codes "insert_front") (k ∷ v ∷ [])
-spelled (Do (Replace k v)) = named (codes "replace") (k ∷ v ∷ [])
-spelled (Do (Get k)) = named (codes "get") (k ∷ [])
-spelled (Do (Remove k)) = named (codes "remove") (k ∷ [])
-spelled (Do (RemoveEntry k)) = None
-spelled (Do PopFront) = named (codes "pop_front") []
-spelled (Do PopBack) = named (codes "pop_back") []
-spelled (Do (ToFront k)) = named (codes "to_front") (k ∷ [])
-spelled (Do (ToBack k)) = named (codes "to_back") (k ∷ [])
-spelled (Do Front) = named (codes "front") []
-spelled (Do Back) = named (codes "back") []
-spelled (Do Len) = named (codes "len") []
-spelled (Do Clear) = named (codes "clear") []
-spelled (Do Shrink) = named (codes "shrink") []
-spelled (Do Keep) = named (codes "keep") []
-spelled (Do (Entry k s)) = option_map (λ words. Name (codes "entry") ∷ Number k ∷ words) (step_spelled s)
+spelled (Do (command.Insert k v)) = named (codes "insert") (k ∷ v ∷ [])
+spelled (Do (command.InsertFront k v)) = named (codes "insert_front") (k ∷ v ∷ [])
+spelled (Do (command.Replace k v)) = named (codes "replace") (k ∷ v ∷ [])
+spelled (Do (command.Get k)) = named (codes "get") (k ∷ [])
+spelled (Do (command.Remove k)) = named (codes "remove") (k ∷ [])
+spelled (Do (command.RemoveEntry k)) = None
+spelled (Do command.PopFront) = named (codes "pop_front") []
+spelled (Do command.PopBack) = named (codes "pop_back") []
+spelled (Do (command.ToFront k)) = named (codes "to_front") (k ∷ [])
+spelled (Do (command.ToBack k)) = named (codes "to_back") (k ∷ [])
+spelled (Do command.Front) = named (codes "front") []
+spelled (Do command.Back) = named (codes "back") []
+spelled (Do command.Len) = named (codes "len") []
+spelled (Do command.Clear) = named (codes "clear") []
+spelled (Do command.Shrink) = named (codes "shrink") []
+spelled (Do command.Keep) = named (codes "keep") []
+spelled (Do (command.Entry k s)) =
+    option_map (λ words. Name (codes "entry") ∷ Number k ∷ words) (step_spelled s)
 spelled (Do (command.Cursor steps)) = None
 spelled (Cursor []) = None
 spelled (Cursor (step ∷ steps)) = Some (Name (codes "cursor") ∷ flat_map cursor_step_words (step ∷ steps))
@@ -139,9 +134,11 @@ spelled Iter = named (codes "iter") []
 
 abbrev pub commands : List ℕ → List Said
 commands [] =
-    Do PopFront ∷ Do PopBack ∷ Do Front ∷ Do Back ∷ Do Len ∷ Do Clear ∷ Do Shrink ∷ Do Keep ∷ Iter ∷ []
-commands (k ∷ []) = Do (Get k) ∷ Do (Remove k) ∷ Do (ToFront k) ∷ Do (ToBack k) ∷ []
-commands (k ∷ v ∷ []) = Do (Insert k v) ∷ Do (InsertFront k v) ∷ Do (Replace k v) ∷ []
+    Do command.PopFront ∷ Do command.PopBack ∷ Do command.Front ∷ Do command.Back ∷ Do command.Len
+    ∷ Do command.Clear ∷ Do command.Shrink ∷ Do command.Keep ∷ Iter ∷ []
+commands (k ∷ []) =
+    Do (command.Get k) ∷ Do (command.Remove k) ∷ Do (command.ToFront k) ∷ Do (command.ToBack k) ∷ []
+commands (k ∷ v ∷ []) = Do (command.Insert k v) ∷ Do (command.InsertFront k v) ∷ Do (command.Replace k v) ∷ []
 commands (k ∷ v ∷ n ∷ ns) = []
 
 -- ---- lines to a cache
@@ -198,9 +195,8 @@ weighted_lines [] = weighted_line.Total ∷ weighted_line.Len ∷ weighted_line.
 weighted_lines (k ∷ []) =
     weighted_line.Do (weighted.Get k) ∷ weighted_line.Do (weighted.Peek k)
     ∷ weighted_line.Do (weighted.Remove k) ∷ []
-weighted_lines (k ∷ v ∷ []) = []
 weighted_lines (k ∷ v ∷ w ∷ []) = weighted_line.Do (weighted.Insert k v w) ∷ []
-weighted_lines (k ∷ v ∷ w ∷ n ∷ ns) = []
+weighted_lines ns = []
 
 -- ---- the first line
 

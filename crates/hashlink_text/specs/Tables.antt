@@ -1,15 +1,21 @@
--- The numbers that stand after a word.
-use Rattle.std.specs.Prelude.{ℕ, List, [], ◌∷◌, Option, None, Some, option_and_then}
+-- The words of a line as it is read, and the numbers that stand after a word.
+use Rattle.std.specs.Prelude.{ℕ, List, [], ◌∷◌, map, Option, None, Some, option_and_then}
 use Rattle.std.specs.Option.{option_map}
 use Rattle.hashlink_text.specs.Lines.{number_of}
 use Rattle.hashlink_text.specs.declared.numbers.Numbers.{Numbers}
 use Rattle.hashlink_text.specs.declared.numbers.Numbers.TheVariants.{Nothing, One, Two, Three}
 
--- the numbers that the words spell, where each spells one
-abbrev pub numbers_of : List (List ℕ) → Option (List ℕ)
+-- a word as it is written, and the number that it spells
+abbrev pub Token : Type 0
+Token = List ℕ × Option ℕ
+
+abbrev pub tokens : List (List ℕ) → List Token
+tokens words = map (λ word. (word, number_of word)) words
+
+-- the numbers, where each word spells one
+abbrev pub numbers_of : List Token → Option (List ℕ)
 numbers_of [] = Some []
-numbers_of (word ∷ words) = option_and_then (λ n. option_map (λ ns. n ∷ ns) (numbers_of words))
-    (number_of word)
+numbers_of (word ∷ words) = option_and_then (λ n. option_map (λ ns. n ∷ ns) (numbers_of words)) word.1
 
 -- the numbers, where there are three at most
 abbrev pub three_at_most : List ℕ → Option Numbers

@@ -30,6 +30,7 @@ pub fn answers_of_an_empty_map()
 
 /// A text with an insert of each kind, a read, a removal and the list, and its answer if no insert runs out
 /// of memory.
+#[tactic(auto, using(crate::proofs::Worked::worked_answer))]
 pub fn a_worked_text()
     ensures { IsTranscript (codes "map\ninsert 1 10\ninsert 2 20\ninsert 1 11\nget 1\nremove 2\niter\n")
         (codes "-\n-\n10\n11\n20\n1:11\n") }
@@ -37,6 +38,7 @@ pub fn a_worked_text()
 
 /// A text with entries: one that is occupied moves to the back and keeps its value, one that is vacant is
 /// inserted, and one is replaced at its place.
+#[tactic(auto, using(crate::proofs::Worked::worked_entries))]
 pub fn a_worked_text_of_entries()
     ensures { IsTranscript (codes
         "map\ninsert 1 10\nentry 1 or_insert 5\nentry 2 or_insert 21\nentry 1 replace_entry 12\niter\n")

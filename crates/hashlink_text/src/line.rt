@@ -8,6 +8,7 @@ ghost use Rattle.hashlink_text.specs.Reading.{by_name, cursor_read, cursor_step_
 ghost use Rattle.hashlink_text.specs.Reading.{line_read, numbers_after, read_in};
 ghost use Rattle.hashlink_text.specs.Spelling.{commands, cursor_steps, entry_steps, said, spelled};
 ghost use Rattle.hashlink_text.specs.Spelling.{step_spelled};
+ghost use Rattle.hashlink_text.specs.Tables.{tokens};
 
 use crate::numbers::{Numbers, number, read_numbers};
 use crate::tables::said_by;
@@ -42,7 +43,7 @@ impl Line {
 
 // Returns the line of the text's words.
 fn line_of(alloc: Global, text: &[u8]) -> Result<Option<Line>, AllocError>
-    ensures said { IfOk result (λ line. option_map said line ≡ line_read (words_of text.now)) }
+    ensures said { IfOk result (λ line. option_map said line ≡ line_read (tokens (words_of text.now))) }
     ensures refused { OnErr result ((words : List (List ℕ))
         × (words_of text.now ≡ codes "cursor" ∷ words)) }
 {
@@ -61,7 +62,8 @@ fn line_of(alloc: Global, text: &[u8]) -> Result<Option<Line>, AllocError>
 
 // Returns what a word says with the words after it.
 fn said_of_name(name: &[u8], words: Words<'_>) -> Option<Line>
-    ensures { option_map said result ≡ read_in spelled commands name.now (parts_left 32 words.entry.rest) }
+    ensures { option_map said result ≡ read_in spelled commands name.now
+        (tokens (parts_left 32 words.entry.rest)) }
 {
     match read_numbers(words)? {
         Numbers::Nothing => said_alone(name),
@@ -133,7 +135,7 @@ fn said_of_pair(name: &[u8], key: u64, value: u64) -> Option<Line>
 
 // Returns what the words after `entry` say: a key, what is done at its place, and the value for it.
 fn said_of_entry(mut words: Words<'_>) -> Option<Line>
-    ensures { option_map said result ≡ entry_read (parts_left 32 words.entry.rest) }
+    ensures { option_map said result ≡ entry_read (tokens (parts_left 32 words.entry.rest)) }
 {
     let key = number(words.next()?)?;
     let name = words.next()?;
@@ -143,7 +145,7 @@ fn said_of_entry(mut words: Words<'_>) -> Option<Line>
 
 // Returns the step at a key's place that a word says, with the words after it.
 fn said_of_step(name: &[u8], words: Words<'_>) -> Option<EntryStep<u64>>
-    ensures { result ≡ read_in step_spelled entry_steps name.now (parts_left 32 words.entry.rest) }
+    ensures { result ≡ read_in step_spelled entry_steps name.now (tokens (parts_left 32 words.entry.rest)) }
 {
     match read_numbers(words)? {
         Numbers::Nothing => step_alone(name),
@@ -184,7 +186,8 @@ fn step_of_value(name: &[u8], value: u64) -> Option<EntryStep<u64>>
 
 // Returns what the words after `cursor` say: one step or more.
 fn said_of_cursor(alloc: Global, mut words: Words<'_>) -> Result<Option<Line>, AllocError>
-    ensures { IfOk result (λ line. option_map said line ≡ cursor_read (parts_left 32 words.entry.rest)) }
+    ensures { IfOk result (λ line. option_map said line
+        ≡ cursor_read (tokens (parts_left 32 words.entry.rest))) }
 {
     let mut steps = Vec::new(alloc);
     while let Some(name) = words.next() {
@@ -202,9 +205,10 @@ fn said_of_cursor(alloc: Global, mut words: Words<'_>) -> Result<Option<Line>, A
 // Returns the step of this name, which reads the numbers that stand after it.
 fn cursor_step(name: &[u8], words: &mut Words<'_>) -> Option<CursorStep<u64, u64>>
     ensures said { result ≡ read_in cursor_step_spelled cursor_steps name.now
-        (take (numbers_after name.now) (parts_left 32 words.old.rest)) }
+        (take (numbers_after name.now) (tokens (parts_left 32 words.old.rest))) }
     ensures rest { OnSome result
-        (parts_left 32 words.new.rest ≡ drop (numbers_after name.now) (parts_left 32 words.old.rest)) }
+        (tokens (parts_left 32 words.new.rest)
+        ≡ drop (numbers_after name.now) (tokens (parts_left 32 words.old.rest))) }
 {
     if is(name, b"before") || is(name, b"after") {
         let key = number(words.next()?)?;

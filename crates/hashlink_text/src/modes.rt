@@ -1,9 +1,11 @@
 ghost use Rattle.std.specs.Prelude.{◌≡◌, [], ◌∷◌};
 ghost use Rattle.std.specs.Map.{lookup};
 ghost use Rattle.std.specs.Str.{bytes_eq};
+ghost use Rattle.hashlink_text.specs.Cuts.{parts_left};
 ghost use Rattle.hashlink_text.specs.Lines.{words_of};
-ghost use Rattle.hashlink_text.specs.Reading.{by_name, read_words};
+ghost use Rattle.hashlink_text.specs.Reading.{by_name, read_in, read_words};
 ghost use Rattle.hashlink_text.specs.Spelling.{modes, Says, mode_spelled};
+ghost use Rattle.hashlink_text.specs.Tables.{tokens};
 
 use crate::numbers::{Numbers, read_numbers};
 use crate::tables::said_by;
@@ -23,6 +25,7 @@ pub enum Mode {
 }
 
 /// Returns the mode whose spelling the line is, or `None` if the line is bad.
+#[tactic(auto, using(crate::proofs::Readers::says_mode))]
 pub fn mode_of(line: &[u8]) -> Option<Mode>
     ensures { Says mode_spelled line.now result }
 {
@@ -31,10 +34,18 @@ pub fn mode_of(line: &[u8]) -> Option<Mode>
 
 // Returns the mode of the line's words.
 fn mode_of_words(line: &[u8]) -> Option<Mode>
-    ensures { result ≡ read_words mode_spelled modes (words_of line.now) }
+    ensures { result ≡ read_words mode_spelled modes (tokens (words_of line.now)) }
 {
     let mut words = Words::new(line);
     let name = words.next()?;
+    mode_of_name(name, words)
+}
+
+// Returns the mode that a word says with the words after it.
+fn mode_of_name(name: &[u8], words: Words<'_>) -> Option<Mode>
+    ensures { result ≡ read_in mode_spelled modes name.now
+        (tokens (parts_left 32 words.entry.rest)) }
+{
     match read_numbers(words)? {
         Numbers::Nothing => said_by(name, &[(b"map", Mode::Map)]),
         Numbers::One(number) => mode_of_number(name, number),

@@ -3,7 +3,7 @@ ghost use Rattle.std.specs.Int.{IsInRange};
 ghost use Rattle.std.specs.Option.{SomeIff};
 ghost use Rattle.hashlink_text.specs.Cuts.{parts_left};
 ghost use Rattle.hashlink_text.specs.Lines.{value_of, number_of};
-ghost use Rattle.hashlink_text.specs.Tables.{numbers_of, three_at_most};
+ghost use Rattle.hashlink_text.specs.Tables.{numbers_of, three_at_most, tokens};
 
 use crate::words::Words;
 
@@ -18,7 +18,7 @@ pub(crate) enum Numbers {
 
 // Returns the numbers that the words spell, if each spells one and they are three at most.
 pub(crate) fn read_numbers(mut words: Words<'_>) -> Option<Numbers>
-    ensures { result ≡ option_and_then three_at_most (numbers_of (parts_left 32 words.entry.rest)) }
+    ensures { result ≡ option_and_then three_at_most (numbers_of (tokens (parts_left 32 words.entry.rest))) }
 {
     let Some(first) = words.next() else {
         return Some(Numbers::Nothing);

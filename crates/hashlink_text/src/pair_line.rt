@@ -1,9 +1,11 @@
 ghost use Rattle.std.specs.Prelude.{◌≡◌, [], ◌∷◌};
 ghost use Rattle.std.specs.Map.{lookup};
 ghost use Rattle.std.specs.Str.{bytes_eq};
+ghost use Rattle.hashlink_text.specs.Cuts.{parts_left};
 ghost use Rattle.hashlink_text.specs.Lines.{words_of};
-ghost use Rattle.hashlink_text.specs.Reading.{by_name, read_words};
+ghost use Rattle.hashlink_text.specs.Reading.{by_name, read_in, read_words};
 ghost use Rattle.hashlink_text.specs.Spelling.{pair_commands, Says, pair_spelled};
+ghost use Rattle.hashlink_text.specs.Tables.{tokens};
 
 use crate::numbers::{Numbers, read_numbers};
 use crate::tables::said_by;
@@ -12,6 +14,7 @@ use hashlink_run::PairCommand;
 
 /// Returns the command to two caches whose spelling the text is, or `None` if the text is bad. It reads the
 /// text once.
+#[tactic(auto, using(crate::proofs::Readers::says_pair))]
 pub fn pair_command(text: &[u8]) -> Option<PairCommand<u64, u64>>
     ensures { Says pair_spelled text.now result }
 {
@@ -20,10 +23,18 @@ pub fn pair_command(text: &[u8]) -> Option<PairCommand<u64, u64>>
 
 // Returns the command of the text's words.
 fn command_of(text: &[u8]) -> Option<PairCommand<u64, u64>>
-    ensures { result ≡ read_words pair_spelled pair_commands (words_of text.now) }
+    ensures { result ≡ read_words pair_spelled pair_commands (tokens (words_of text.now)) }
 {
     let mut words = Words::new(text);
     let name = words.next()?;
+    command_of_name(name, words)
+}
+
+// Returns the command that a word says with the words after it.
+fn command_of_name(name: &[u8], words: Words<'_>) -> Option<PairCommand<u64, u64>>
+    ensures { result ≡ read_in pair_spelled pair_commands name.now
+        (tokens (parts_left 32 words.entry.rest)) }
+{
     match read_numbers(words)? {
         Numbers::Nothing => None,
         Numbers::One(key) => said_of_key(name, key),

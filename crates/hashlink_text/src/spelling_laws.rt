@@ -35,6 +35,7 @@ pub fn lines_of_texts()
 {}
 
 /// A line of a cursor says its steps in turn, and a name that needs numbers takes those that stand after it.
+#[tactic(auto, using(crate::proofs::Readers::says_so))]
 pub fn lines_of_cursors()
     ensures moves { Says spelled (codes "cursor next prev cur")
         (Some (Cursor (Next ∷ Prev ∷ Current ∷ []))) }
@@ -45,6 +46,7 @@ pub fn lines_of_cursors()
 {}
 
 /// Lines that say nothing.
+#[tactic(auto, using(crate::proofs::Readers::says_so))]
 pub fn bad_lines()
     ensures empty { Says spelled [] None }
     ensures missing_word { Says spelled (codes "insert 1") None }

@@ -1,9 +1,11 @@
 ghost use Rattle.std.specs.Prelude.{◌≡◌, [], ◌∷◌};
 ghost use Rattle.std.specs.Map.{lookup};
 ghost use Rattle.std.specs.Str.{bytes_eq};
+ghost use Rattle.hashlink_text.specs.Cuts.{parts_left};
 ghost use Rattle.hashlink_text.specs.Lines.{words_of};
-ghost use Rattle.hashlink_text.specs.Reading.{by_name, read_words};
+ghost use Rattle.hashlink_text.specs.Reading.{by_name, read_in, read_words};
 ghost use Rattle.hashlink_text.specs.Spelling.{weighted_lines, weighted_spelled};
+ghost use Rattle.hashlink_text.specs.Tables.{tokens};
 
 use crate::numbers::{Numbers, read_numbers};
 use crate::tables::said_by;
@@ -27,6 +29,7 @@ impl WeightedLine {
     ghost use Rattle.hashlink_text.specs.Spelling.{Says};
 
     /// Returns the line whose spelling the text is, or `None` if the text is bad. It reads the text once.
+    #[tactic(auto, using(crate::proofs::Readers::says_weighted))]
     pub fn parse(text: &[u8]) -> Option<WeightedLine>
         ensures { Says weighted_spelled text.now result }
     {
@@ -36,10 +39,18 @@ impl WeightedLine {
 
 // Returns the line of the text's words.
 fn line_of(text: &[u8]) -> Option<WeightedLine>
-    ensures { result ≡ read_words weighted_spelled weighted_lines (words_of text.now) }
+    ensures { result ≡ read_words weighted_spelled weighted_lines (tokens (words_of text.now)) }
 {
     let mut words = Words::new(text);
     let name = words.next()?;
+    said_of_name(name, words)
+}
+
+// Returns what a word says with the words after it.
+fn said_of_name(name: &[u8], words: Words<'_>) -> Option<WeightedLine>
+    ensures { result ≡ read_in weighted_spelled weighted_lines name.now
+        (tokens (parts_left 32 words.entry.rest)) }
+{
     match read_numbers(words)? {
         Numbers::Nothing => said_alone(name),
         Numbers::One(key) => said_of_key(name, key),

@@ -3,7 +3,10 @@ use Rattle.std.specs.Vec.Iter.{into_iter_items}
 use Rattle.hashlink_run.specs.CacheStep.{CacheStep}
 use Rattle.hashlink_run.specs.Reads.{ClosureSays}
 use Rattle.hashlink_run.proofs.Answering.{HasAnswered-none, HasAnswered-more, HasAnswered-all}
-use Rattle.hashlink_run.proofs.Lawful.{lawful_cache_run, stays_bounded}
+use Rattle.hashlink_run.proofs.CacheLengths.{keeps_bounds, stays_bounded}
+use Rattle.hashlink_run.proofs.CachePasses.{cache_within_peak}
+use Rattle.hashlink_run.proofs.CachePuts.{inserts_fit}
+use Rattle.hashlink_run.proofs.CacheSpare.{takes_all_after_a_drop}
 use Rattle.hashlink_run.proofs.cache_running.run_cache.Goals as goal
 
 pub loop-command-init : goal.loop-command-init
@@ -42,8 +45,16 @@ returns-in_err-push-clause-refused g c =
 pub returns-clause-ran : goal.returns-clause-ran
 returns-clause-ran g c =
     let left = c.loop-command.command-iterator in
-    lawful_cache_run _ _ _ _ _ _ (HasAnswered-all _ (into_iter_items left) (sym left.rest.ok.0
-    ∙ c.in-None.ensures.steps.0) c.loop-command.invariant.0)
+    let r =
+    HasAnswered-all _ (into_iter_items left) (sym left.rest.ok.0 ∙ c.in-None.ensures.steps.0)
+    c.loop-command.invariant.0 in
+    record {
+      runs = r;
+      within_peak = cache_within_peak _ _ _ _ _ r.chain;
+      after_a_drop = takes_all_after_a_drop _ _ _ _ _ r.chain;
+      bounded = keeps_bounds _ _ _ _ _ r.chain;
+      fits = inserts_fit _ _ _ _ _ r.chain;
+    }
 
 pub returns-clause-bounded : goal.returns-clause-bounded
 returns-clause-bounded g c = stays_bounded _ _ _ _ _ _ (returns-clause-ran g c).runs

@@ -1,7 +1,7 @@
 use Rattle.std.proofs.Common.{ap, refl}
 use Rattle.std.specs.Map.Iter.{deref_pair}
 use Rattle.std.specs.Option.{option_map}
-use Rattle.hashlink_run.specs.Reads.{ClosureSays}
+use Rattle.hashlink_run.proofs.Said.{said_by}
 use Rattle.hashlink_run.proofs.commands.said_of.Goals as goal
 
 pub says-requires : goal.says-requires
@@ -11,11 +11,4 @@ says-requires g c =
 
 pub returns : goal.returns
 returns g c =
-    let says : ClosureSays g.F.Fn c.args.says.now c.in_ok-key.key.now c.in_ok-key.value.now c.says.result =
-    record {
-      key = c.in_ok-key.key;
-      value = c.in_ok-key.value;
-      shows = (refl, refl);
-      says = record { met = c.says.ensures };
-    } in
-    rw c.in_ok-key.was says
+    rw c.in_ok-key.was (said_by c.in_ok-key.key c.in_ok-key.value (record { met = c.says.ensures }))

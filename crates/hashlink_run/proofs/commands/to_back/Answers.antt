@@ -1,5 +1,5 @@
-use Rattle.std.proofs.Common.{length, sym, ◌∙◌, refl}
-use Rattle.hashlink_core.specs.Keyed.{entries_of, state_of}
+use Rattle.std.proofs.Common.{sym, ◌∙◌, refl}
+use Rattle.hashlink_core.specs.Keyed.{entries_of}
 use Rattle.hashlink_run.proofs.Moved.{moves_and_left, last_of-new, lookup_entry-absent}
 use Rattle.hashlink_run.proofs.commands.to_back.Goals as goal
 
@@ -12,26 +12,22 @@ returns-in_err-to_back-clause-said g c =
 
 pub returns-clause-moved : goal.returns-clause-moved
 returns-clause-moved g c =
-    moves_and_left g.K.PartialEq.eq g.met.K.Eq.laws (state_of c.args.map.now) _
-    c.args.key.now (length (entries_of c.args.map.now))
-    c.in_ok-to_back.field-0.now c.to_back.ensures.distinct (sym c.in_ok-to_back.ensures.value)
+    moves_and_left g.met.K.Eq.laws c.args.key.now c.to_back.ensures.distinct
+    (sym c.in_ok-to_back.ensures.value)
     (rw c.in_ok-to_back.was at (c.to_back.follows.holds c.in_ok-to_back.field-0.now))
 
 pub said_of-requires : goal.said_of-requires
 said_of-requires g c = λ pair is.
     let there =
-    last_of-new g.K.PartialEq.eq g.met.K.Eq.laws (state_of c.args.map.now) _
-    c.args.key.now (length (entries_of c.args.map.now))
-    c.in_ok-to_back.field-0.now c.to_back.ensures.distinct (sym c.in_ok-to_back.ensures.value) refl
-    (rw c.in_ok-to_back.was at (c.to_back.follows.holds c.in_ok-to_back.field-0.now)) in
+    last_of-new g.met.K.Eq.laws c.args.key.now c.to_back.ensures.distinct
+    (sym c.in_ok-to_back.ensures.value)
+    (rw c.in_ok-to_back.was at (c.to_back.follows.holds c.in_ok-to_back.field-0.now)) refl in
     c.requires pair (sym there ∙ sym c.back.ensures.found ∙ is)
 
 pub returns-clause-said : goal.returns-clause-said
 returns-clause-said g c =
     let there =
-    last_of-new g.K.PartialEq.eq g.met.K.Eq.laws (state_of c.args.map.now) _
-    c.args.key.now (length (entries_of c.args.map.now))
-    c.in_ok-to_back.field-0.now c.to_back.ensures.distinct (sym c.in_ok-to_back.ensures.value) refl
-    (rw c.in_ok-to_back.was at (c.to_back.follows.holds c.in_ok-to_back.field-0.now)) in
-    let read = c.back.ensures.found ∙ there in
-    rw read at c.said_of.ensures
+    last_of-new g.met.K.Eq.laws c.args.key.now c.to_back.ensures.distinct
+    (sym c.in_ok-to_back.ensures.value)
+    (rw c.in_ok-to_back.was at (c.to_back.follows.holds c.in_ok-to_back.field-0.now)) refl in
+    rw (c.back.ensures.found ∙ there) at c.said_of.ensures

@@ -1,5 +1,5 @@
 use Rattle.std.proofs.Common.{sym, ◌∙◌, refl}
-use Rattle.hashlink_core.specs.Keyed.{entries_of, state_of}
+use Rattle.hashlink_core.specs.Keyed.{entries_of}
 use Rattle.hashlink_run.proofs.Moved.{moves_and_left, first_of-new, lookup_entry-absent}
 use Rattle.hashlink_run.proofs.commands.to_front.Goals as goal
 
@@ -12,24 +12,22 @@ returns-in_err-to_front-clause-said g c =
 
 pub returns-clause-moved : goal.returns-clause-moved
 returns-clause-moved g c =
-    moves_and_left g.K.PartialEq.eq g.met.K.Eq.laws (state_of c.args.map.now) _
-    c.args.key.now 0
-    c.in_ok-to_front.field-0.now c.to_front.ensures.distinct (sym c.in_ok-to_front.ensures.value)
+    moves_and_left g.met.K.Eq.laws c.args.key.now c.to_front.ensures.distinct
+    (sym c.in_ok-to_front.ensures.value)
     (rw c.in_ok-to_front.was at (c.to_front.follows.holds c.in_ok-to_front.field-0.now))
 
 pub said_of-requires : goal.said_of-requires
 said_of-requires g c = λ pair is.
     let there =
-    first_of-new g.K.PartialEq.eq g.met.K.Eq.laws (state_of c.args.map.now) _ c.args.key.now 0
-    c.in_ok-to_front.field-0.now c.to_front.ensures.distinct (sym c.in_ok-to_front.ensures.value) refl
-    (rw c.in_ok-to_front.was at (c.to_front.follows.holds c.in_ok-to_front.field-0.now)) in
+    first_of-new g.met.K.Eq.laws c.args.key.now c.to_front.ensures.distinct
+    (sym c.in_ok-to_front.ensures.value)
+    (rw c.in_ok-to_front.was at (c.to_front.follows.holds c.in_ok-to_front.field-0.now)) refl in
     c.requires pair (sym there ∙ sym c.front.ensures.found ∙ is)
 
 pub returns-clause-said : goal.returns-clause-said
 returns-clause-said g c =
     let there =
-    first_of-new g.K.PartialEq.eq g.met.K.Eq.laws (state_of c.args.map.now) _ c.args.key.now 0
-    c.in_ok-to_front.field-0.now c.to_front.ensures.distinct (sym c.in_ok-to_front.ensures.value) refl
-    (rw c.in_ok-to_front.was at (c.to_front.follows.holds c.in_ok-to_front.field-0.now)) in
-    let read = c.front.ensures.found ∙ there in
-    rw read at c.said_of.ensures
+    first_of-new g.met.K.Eq.laws c.args.key.now c.to_front.ensures.distinct
+    (sym c.in_ok-to_front.ensures.value)
+    (rw c.in_ok-to_front.was at (c.to_front.follows.holds c.in_ok-to_front.field-0.now)) refl in
+    rw (c.front.ensures.found ∙ there) at c.said_of.ensures

@@ -1,32 +1,36 @@
-use Rattle.std.proofs.Common.{rules, [], ◌∷◌, Some, None, refl, sym, ap, is_ok, Ok, Err, ⊎_elim}
+use Rattle.std.proofs.Common.{rules, [], ◌∷◌, Some, None, refl, sym, ap, ◌∙◌, is_ok, Ok, Err, ⊎_elim}
 use Rattle.std.specs.Map.Iter.{deref_pair}
 use Rattle.hashlink_core.specs.Keyed.{state_of}
 use Rattle.hashlink_map.specs.RawEntry.{raw_place}
 use Rattle.hashlink_run.specs.declared.replies.Reply.TheVariants.{Value, Pair, Seen, Inserted}
 use Rattle.hashlink_run.specs.CallReplies.{reply_or_refused}
 use Rattle.hashlink_run.specs.Reads.{ClosureSays}
-use Rattle.hashlink_run.proofs.AtEntry.{at_occupied, at_vacant, added, handed_on, taken, said_at_end}
-use Rattle.hashlink_run.proofs.AtEntry.{read_there, read_at_end, read_at_front, read_new}
+use Rattle.hashlink_run.proofs.AtEntry.{at_occupied, at_vacant, added, handed_on, taken, read_new}
+use Rattle.hashlink_run.proofs.AtEntry.{there, there_at_end, there_at_front}
 use Rattle.hashlink_run.proofs.entries.done_at_entry.Goals as goal
 
 pub said_of_entry-said-requires : goal.said_of_entry-said-requires
 said_of_entry-said-requires g c = λ pair read.
-    let there = read_there g.K.PartialEq.eq c.in-Occupied.ensures.entry _ _ refl refl pair read in
-    c.requires pair (rw c.in-Get.is there)
+    let found = sym (there g.K.PartialEq.eq c.in-Occupied.ensures.entry _ _ refl refl) ∙ read in
+    c.requires pair (rw c.in-Get.is found)
 
 pub said_of_entry-said-requires-in-OrInsert : goal.said_of_entry-said-requires-in-OrInsert
 said_of_entry-said-requires-in-OrInsert g c = λ pair read.
-    let there =
-    read_at_end g.K.PartialEq.eq c.in-Occupied.ensures.entry _ _ refl refl pair _ _ read
-    c.to_back.ensures.moves (ap (λ e. e.place) c.to_back.ensures.stands) in
-    c.requires pair (⊎_elim (λ given. rw (given.1, there) refl) (λ given. rw given there) c.in-OrInsert.is)
+    let e = c.in-Occupied.ensures.entry in
+    let moved =
+    there_at_end g.K.PartialEq.eq e _ _ refl refl _ _ c.to_back.ensures.moves
+    (ap (λ e. e.place) c.to_back.ensures.stands) in
+    let found = sym (there g.K.PartialEq.eq e _ _ refl refl) ∙ sym moved ∙ read in
+    c.requires pair (⊎_elim (λ given. rw (given.1, found) refl) (λ given. rw given found) c.in-OrInsert.is)
 
 pub said_of_entry-said-requires-in-ToFront : goal.said_of_entry-said-requires-in-ToFront
 said_of_entry-said-requires-in-ToFront g c = λ pair read.
-    let there =
-    read_at_front g.K.PartialEq.eq c.in-Occupied.ensures.entry _ _ refl refl pair _ _ read
-    c.to_front.ensures.moves (ap (λ e. e.place) c.to_front.ensures.stands) in
-    c.requires pair (rw c.in-ToFront.is there)
+    let e = c.in-Occupied.ensures.entry in
+    let moved =
+    there_at_front g.K.PartialEq.eq e _ _ refl refl _ _ c.to_front.ensures.moves
+    (ap (λ e. e.place) c.to_front.ensures.stands) in
+    let found = sym (there g.K.PartialEq.eq e _ _ refl refl) ∙ sym moved ∙ read in
+    c.requires pair (rw c.in-ToFront.is found)
 
 pub returns-in-OrInsert : goal.returns-in-OrInsert
 returns-in-OrInsert g c =
@@ -36,12 +40,13 @@ returns-in-OrInsert g c =
     let b = c.said_of_entry-said-in-OrInsert.result in
     let new = state_of c.to_back.new.self.map.now in
     let moves = c.to_back.ensures.moves in
-    let said =
-    said_at_end eq Says e _ new _ _ b refl refl moves (ap (λ e. e.place) c.to_back.ensures.stands)
-    c.said_of_entry-said-in-OrInsert.ensures in
+    let moved = there_at_end eq e _ _ refl refl new _ moves (ap (λ e. e.place) c.to_back.ensures.stands) in
+    let said = rw moved at c.said_of_entry-said-in-OrInsert.ensures in
     let step =
-    ⊎_elim (λ given. at_occupied eq Says e given.1 (Seen (Some b) ∷ []) new refl (moves, said))
-    (λ given. at_occupied eq Says e given (Seen (Some b) ∷ []) new refl (moves, said)) c.in-OrInsert.is in
+    ⊎_elim
+    (λ given. at_occupied eq Says e given.1 (Seen (Some b) ∷ []) new refl (moves, (Some b, said, refl)))
+    (λ given. at_occupied eq Says e given (Seen (Some b) ∷ []) new refl (moves, (Some b, said, refl)))
+    c.in-OrInsert.is in
     let same = sym c.into_key-in-OrInsert.ensures.unchanged in
     let done = rw same at step in
     search rules
@@ -50,8 +55,7 @@ pub returns-in-InsertEntry : goal.returns-in-InsertEntry
 returns-in-InsertEntry g c =
     let step =
     at_occupied g.K.PartialEq.eq (ClosureSays g.F.Fn c.args.says.now) c.in-Occupied.ensures.entry
-    c.in-InsertEntry.is
-    (Pair (Some c.insert_entry.result) ∷ []) (state_of c.insert_entry.new.self.0) refl
+    c.in-InsertEntry.is (Pair (Some c.insert_entry.result) ∷ []) (state_of c.insert_entry.new.self.0) refl
     (c.insert_entry.result, c.insert_entry.ensures, refl) in
     search rules
 
@@ -59,8 +63,7 @@ pub returns-in-ReplaceEntry : goal.returns-in-ReplaceEntry
 returns-in-ReplaceEntry g c =
     let step =
     at_occupied g.K.PartialEq.eq (ClosureSays g.F.Fn c.args.says.now) c.in-Occupied.ensures.entry
-    c.in-ReplaceEntry.is
-    (Pair (Some c.replace_entry.result) ∷ []) (state_of c.replace_entry.new.self.0) refl
+    c.in-ReplaceEntry.is (Pair (Some c.replace_entry.result) ∷ []) (state_of c.replace_entry.new.self.0) refl
     (c.replace_entry.result, c.replace_entry.ensures, refl) in
     search rules
 
@@ -68,9 +71,8 @@ pub returns-in-Remove : goal.returns-in-Remove
 returns-in-Remove g c =
     let t = taken _ (state_of c.remove.new.self.0) _ _ c.remove.ensures.value c.remove.ensures.removes in
     let step =
-    at_occupied g.K.PartialEq.eq (ClosureSays g.F.Fn c.args.says.now)
-    c.in-Occupied.ensures.entry c.in-Remove.is
-    (Value (Some c.remove.result) ∷ []) (state_of c.remove.new.self.0) refl
+    at_occupied g.K.PartialEq.eq (ClosureSays g.F.Fn c.args.says.now) c.in-Occupied.ensures.entry
+    c.in-Remove.is (Value (Some c.remove.result) ∷ []) (state_of c.remove.new.self.0) refl
     (t.0, t.1, ap (λ v. Value (Some v) ∷ []) t.2) in
     search rules
 
@@ -78,8 +80,7 @@ pub returns-in-Occupied : goal.returns-in-Occupied
 returns-in-Occupied g c =
     let step =
     at_occupied g.K.PartialEq.eq (ClosureSays g.F.Fn c.args.says.now) c.in-Occupied.ensures.entry
-    c.in-RemoveEntry.is
-    (Pair (Some c.remove_entry.result) ∷ []) (state_of c.remove_entry.new.self.0) refl
+    c.in-RemoveEntry.is (Pair (Some c.remove_entry.result) ∷ []) (state_of c.remove_entry.new.self.0) refl
     (c.remove_entry.result, c.remove_entry.ensures, refl) in
     search rules
 
@@ -97,15 +98,12 @@ says-requires g c =
 pub returns-in_err-inserted-in-OrInsert-step : goal.returns-in_err-inserted-in-OrInsert-step
 returns-in_err-inserted-in-OrInsert-step g c =
     let lent = c.insert_entry-in-OrInsert-step.follows in
-    let pair = c.in_err-inserted-in-OrInsert-step.field-0.0 in
-    let refuses = rw c.in_err-inserted-in-OrInsert-step.was at lent.holds-at-none in
+    let refused = c.in_err-inserted-in-OrInsert-step in
     let back = c.from_residual in
-    let handed = handed_on back.result _ back.ensures.1 in
     let step =
     at_vacant g.K.PartialEq.eq (ClosureSays g.F.Fn c.args.says.now) c.in-Vacant.ensures.entry
-    c.in-OrInsert-step.is
-    (reply_or_refused back.result ∷ []) (state_of lent.lender-at-none) refl
-    (Err pair, refuses, ap (λ r. reply_or_refused r ∷ []) handed) in
+    c.in-OrInsert-step.is (reply_or_refused back.result ∷ []) (state_of lent.lender-at-none) refl
+    (Err refused.field-0.0, rw refused.was at lent.holds-at-none, handed_on _ _ back.ensures.1) in
     search rules
 
 pub returns-in-OrInsert-step : goal.returns-in-OrInsert-step
@@ -133,15 +131,12 @@ returns-in-OrInsert-step g c =
 pub returns-in_err-insert-in-Insert-step : goal.returns-in_err-insert-in-Insert-step
 returns-in_err-insert-in-Insert-step g c =
     let lent = c.insert.follows in
-    let pair = c.in_err-insert-in-Insert-step.field-0.0 in
-    let refuses = rw c.in_err-insert-in-Insert-step.was at lent.holds-at-none in
+    let refused = c.in_err-insert-in-Insert-step in
     let back = c.from_residual-in_err-insert-in-Insert-step in
-    let handed = handed_on back.result _ back.ensures.1 in
     let step =
     at_vacant g.K.PartialEq.eq (ClosureSays g.F.Fn c.args.says.now) c.in-Vacant.ensures.entry
-    c.in-Insert-step.is
-    (reply_or_refused back.result ∷ []) (state_of lent.lender-at-none) refl
-    (Err pair, refuses, ap (λ r. reply_or_refused r ∷ []) handed) in
+    c.in-Insert-step.is (reply_or_refused back.result ∷ []) (state_of lent.lender-at-none) refl
+    (Err refused.field-0.0, rw refused.was at lent.holds-at-none, handed_on _ _ back.ensures.1) in
     search rules
 
 pub returns-in-Insert-step : goal.returns-in-Insert-step
@@ -151,23 +146,19 @@ returns-in-Insert-step g c =
     let adds = lent.holds value (ap is_ok c.in_ok-insert-in-Insert-step.was) in
     let step =
     at_vacant g.K.PartialEq.eq (ClosureSays g.F.Fn c.args.says.now) c.in-Vacant.ensures.entry
-    c.in-Insert-step.is
-    (Value None ∷ []) (state_of (lent.lender value)) refl
+    c.in-Insert-step.is (Value None ∷ []) (state_of (lent.lender value)) refl
     (Ok tt, added c.in_ok-insert-in-Insert-step.ensures.value adds, refl) in
     search rules
 
 pub returns-in_err-insert-in-InsertEntry-step : goal.returns-in_err-insert-in-InsertEntry-step
 returns-in_err-insert-in-InsertEntry-step g c =
     let lent = c.insert-in-InsertEntry-step.follows in
-    let pair = c.in_err-insert-in-InsertEntry-step.field-0.0 in
-    let refuses = rw c.in_err-insert-in-InsertEntry-step.was at lent.holds-at-none in
+    let refused = c.in_err-insert-in-InsertEntry-step in
     let back = c.from_residual-in_err-insert-in-InsertEntry-step in
-    let handed = handed_on back.result _ back.ensures.1 in
     let step =
     at_vacant g.K.PartialEq.eq (ClosureSays g.F.Fn c.args.says.now) c.in-Vacant.ensures.entry
-    c.in-InsertEntry-step.is
-    (reply_or_refused back.result ∷ []) (state_of lent.lender-at-none) refl
-    (Err pair, refuses, ap (λ r. reply_or_refused r ∷ []) handed) in
+    c.in-InsertEntry-step.is (reply_or_refused back.result ∷ []) (state_of lent.lender-at-none) refl
+    (Err refused.field-0.0, rw refused.was at lent.holds-at-none, handed_on _ _ back.ensures.1) in
     search rules
 
 pub returns-in-InsertEntry-step : goal.returns-in-InsertEntry-step
@@ -177,7 +168,6 @@ returns-in-InsertEntry-step g c =
     let adds = lent.holds value (ap is_ok c.in_ok-insert-in-InsertEntry-step.was) in
     let step =
     at_vacant g.K.PartialEq.eq (ClosureSays g.F.Fn c.args.says.now) c.in-Vacant.ensures.entry
-    c.in-InsertEntry-step.is
-    (Pair None ∷ []) (state_of (lent.lender value)) refl
+    c.in-InsertEntry-step.is (Pair None ∷ []) (state_of (lent.lender value)) refl
     (Ok tt, added c.in_ok-insert-in-InsertEntry-step.ensures.value adds, refl) in
     search rules

@@ -1,6 +1,6 @@
 use Rattle.std.proofs.Common.{refl}
 use Rattle.hashlink_map.specs.Entry.{occupied_place, occupied_state}
-use Rattle.hashlink_run.specs.Reads.{ClosureSays}
+use Rattle.hashlink_run.proofs.Said.{said_by}
 use Rattle.hashlink_run.proofs.AtEntry.{pair_at}
 use Rattle.hashlink_run.proofs.entries.said_of_entry.Goals as goal
 
@@ -13,10 +13,5 @@ says-requires g c =
 
 pub returns : goal.returns
 returns g c =
-    let says : ClosureSays g.F.Fn c.args.says.now c.key.result.now c.get.result.now c.says.result = record {
-      key = c.key.result;
-      value = c.get.result;
-      shows = (refl, refl);
-      says = record { met = c.says.ensures };
-    } in
-    rw (pair_at _ _ _ _ c.key.ensures c.get.ensures) says
+    rw (pair_at _ _ _ _ c.key.ensures c.get.ensures)
+    (said_by c.key.result c.get.result (record { met = c.says.ensures }))

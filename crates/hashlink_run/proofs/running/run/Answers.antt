@@ -1,8 +1,7 @@
 use Rattle.std.proofs.Common.{◌≡◌, true, false, inl, inr, is_ok, ap, sym, ◌∙◌, arith}
 use Rattle.std.specs.Vec.Iter.{into_iter_items}
 use Rattle.hashlink_run.specs.Run.{reply_total}
-use Rattle.hashlink_run.proofs.Chains.{spare_at_the_end}
-use Rattle.hashlink_run.proofs.Lawful.{lawful_run}
+use Rattle.hashlink_run.proofs.Chains.{spare_at_the_end, stays_within_peak, takes_keys_where_shorter}
 use Rattle.hashlink_run.proofs.Answering.{HasAnswered-none, HasAnswered-more, HasAnswered-all}
 use Rattle.hashlink_run.proofs.running.run.Goals as goal
 
@@ -52,8 +51,14 @@ returns-in_err-answer_command-clause-refused g c =
 pub returns-clause-ran : goal.returns-clause-ran
 returns-clause-ran g c =
     let left = c.loop-command.command-iterator in
-    lawful_run _ _ _ _ _ _ _ (HasAnswered-all _ (into_iter_items left) (sym left.rest.ok.0
-    ∙ c.in-None.ensures.steps.0) c.loop-command.invariant.0)
+    let r =
+    HasAnswered-all _ (into_iter_items left) (sym left.rest.ok.0 ∙ c.in-None.ensures.steps.0)
+    c.loop-command.invariant.0 in
+    record {
+      runs = r;
+      within_peak = stays_within_peak _ _ _ _ _ _ r.chain;
+      shorter = takes_keys_where_shorter _ _ _ _ _ _ r.chain;
+    }
 
 pub returns-clause-spare : goal.returns-clause-spare
 returns-clause-spare g c = spare_at_the_end _ _ _ _ _ _ _ (returns-clause-ran g c).runs

@@ -1,6 +1,6 @@
 use Rattle.std.proofs.Common.{ap, option_copied, refl}
 use Rattle.std.specs.Option.{option_map}
-use Rattle.hashlink_run.specs.Reads.{ClosureSays}
+use Rattle.hashlink_run.proofs.Said.{said_by}
 use Rattle.hashlink_run.proofs.weighted_steps.said_of_value.Goals as goal
 
 pub says-requires : goal.says-requires
@@ -11,11 +11,4 @@ says-requires g c =
 
 pub returns : goal.returns
 returns g c =
-    let says : ClosureSays g.F.Fn c.args.says.now c.args.key.now c.in_ok-value.value.now c.says.result =
-    record {
-      key = c.args.key;
-      value = c.in_ok-value.value;
-      shows = (refl, refl);
-      says = record { met = c.says.ensures };
-    } in
-    rw c.in_ok-value.was says
+    rw c.in_ok-value.was (said_by c.args.key c.in_ok-value.value (record { met = c.says.ensures }))

@@ -1,8 +1,7 @@
-use Rattle.std.proofs.Common.{◌≡◌, Some, OnOk, codes, nat_eq, refl, sym, ap, subst, ◌∙◌, rules, [], ◌∷◌}
+use Rattle.std.proofs.Common.{◌≡◌, codes, nat_eq, refl, ap, ◌∙◌, rules, [], ◌∷◌}
 use Rattle.std.proofs.lemmas.Result.{on_ok_weaker}
 use Rattle.hashlink_lru.specs.Cached.{state_of}
-use Rattle.hashlink_text.specs.CacheTranscript.{CacheShows}
-use Rattle.hashlink_text.specs.Transcript.{Itself, PushesLine, replies_shown}
+use Rattle.hashlink_text.specs.Transcript.{Itself, replies_shown}
 use Rattle.hashlink_run.proofs.CacheWider.{cache_step-wider}
 use Rattle.hashlink_text.proofs.cache_text.answer.Goals as goal
 
@@ -21,9 +20,6 @@ returns-in-Some-Do c =
     (state_of c.args.cache.now) replies (state_of c.answer_cache-reply.new.cache) c.in-Some-Do.command
     c.answer_cache-reply.ensures in
     let said = rw c.in-Some-Do.is at c.in-Some-Do.field-0-is in
-    subst (λ line. OnOk c.push_replies.result
-    (PushesLine (λ text. CacheShows (state_of c.args.cache.now) line text
-    (state_of c.answer_cache-reply.new.cache)) c.args.out.now c.push_replies.new.out))
-    (sym (c.in-Some-Do.is ∙ ap Some said))
+    rw (c.in-Some-Do.is, said)
     (on_ok_weaker c.push_replies.result (λ e. (replies_shown replies, (replies, step, refl), e))
     c.push_replies.ensures)

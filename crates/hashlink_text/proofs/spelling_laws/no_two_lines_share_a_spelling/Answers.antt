@@ -1,6 +1,6 @@
-use Rattle.hashlink_text.proofs.CacheGrammar.{reads_cache, reads_pairs, reads_weighted, reads_mode}
+use Rattle.hashlink_text.proofs.Readers.{reads_cache, reads_pairs, reads_weighted, reads_mode}
 use Rattle.hashlink_text.proofs.Grammar.{one_spelling}
-use Rattle.hashlink_text.proofs.MapGrammar.{reads_line}
+use Rattle.hashlink_text.proofs.Readers.{reads_line}
 use Rattle.hashlink_text.proofs.spelling_laws.no_two_lines_share_a_spelling.Goals as goal
 
 pub returns : goal.returns

@@ -1,7 +1,6 @@
-use Rattle.std.proofs.Common.{◌≡◌, Some, OnOk, codes, nat_eq, refl, sym, ap, subst, ◌∙◌, rules, [], ◌∷◌}
+use Rattle.std.proofs.Common.{◌≡◌, codes, nat_eq, refl, ap, ◌∙◌, rules, [], ◌∷◌}
 use Rattle.std.proofs.lemmas.Result.{on_ok_weaker}
-use Rattle.hashlink_text.specs.Transcript.{Itself, PushesLine, replies_shown}
-use Rattle.hashlink_text.specs.WeightedTranscript.{WeightedShows}
+use Rattle.hashlink_text.specs.Transcript.{Itself, replies_shown}
 use Rattle.hashlink_run.proofs.CacheWider.{weighted_step-wider}
 use Rattle.hashlink_text.proofs.weighted_text.answer.Goals as goal
 
@@ -20,8 +19,6 @@ returns-in-Some-Do c =
     c.args.cache.now replies c.answer_weighted-reply.new.cache c.in-Some-Do.command
     c.answer_weighted-reply.ensures in
     let said = rw c.in-Some-Do.is at c.in-Some-Do.field-0-is in
-    subst (λ line. OnOk c.push_replies.result (PushesLine (λ text. WeightedShows c.args.cache.now line text
-    c.answer_weighted-reply.new.cache) c.args.out.now c.push_replies.new.out))
-    (sym (c.in-Some-Do.is ∙ ap Some said))
+    rw (c.in-Some-Do.is, said)
     (on_ok_weaker c.push_replies.result (λ e. (replies_shown replies, (replies, step, refl), e))
     c.push_replies.ensures)

@@ -1,9 +1,9 @@
 use Rattle.std.proofs.Common.{◌≡◌, ◌++◌, string_bytes}
-use Rattle.hashlink_text.specs.Transcript.{list_shown}
+use Rattle.hashlink_text.specs.Transcript.{list_shown, pair_shown}
 use Rattle.hashlink_text.specs.WeightedTranscript.{pairs_of}
-use Rattle.hashlink_text.proofs.Lists.{more_shown}
+use Rattle.hashlink_text.proofs.Lists.{following_shown}
 use Rattle.hashlink_text.proofs.weighted_text.push_pairs.Given as goal
 
 abbrev pub invariant-loop-key : goal.invariant-loop-key
-invariant-loop-key l = string_bytes l.out ++ more_shown (pairs_of l.key-iterator)
+invariant-loop-key l = string_bytes l.out ++ following_shown pair_shown (pairs_of l.key-iterator)
     ≡ string_bytes l.fn.out ++ list_shown (pairs_of l.fn.entries)

@@ -1,11 +1,25 @@
-use Rattle.std.proofs.Common.{◌≡◌, ◌++◌, ◌%◌, codes, nat_eq, refl, ap, ◌∙◌, rules, string_bytes}
+use Rattle.std.proofs.Common.{◌≡◌, ◌++◌, ◌%◌, ℕ, List, Some, codes, nat_eq, refl, ap, ◌∙◌, rules}
+use Rattle.std.proofs.Common.{string_bytes}
 use Rattle.std.proofs.lemmas.Result.{on_ok_weaker}
 use Rattle.hashlink_core.specs.Keyed.{state_of}
+use Rattle.hashlink_model.specs.MapState.{MapState}
+use Rattle.hashlink_run.specs.declared.commands.Command.{Command}
+use Rattle.hashlink_run.specs.declared.commands.Command.TheVariants.{Cursor}
+use Rattle.hashlink_run.specs.declared.replies.Reply.{Reply}
 use Rattle.hashlink_run.specs.Keeps.{IsEven}
-use Rattle.hashlink_text.specs.Transcript.{Itself, ended, replies_shown}
+use Rattle.hashlink_run.specs.Step.{Step}
+use Rattle.hashlink_text.specs.declared.line.Line.TheVariants.{Do}
+use Rattle.hashlink_text.specs.Spelling.{said}
+use Rattle.hashlink_text.specs.Transcript.{Shows, Itself, ended, replies_shown}
 use Rattle.hashlink_run.proofs.AnyCommand.{step-wider}
-use Rattle.hashlink_text.proofs.ShownLines.{shows-command}
 use Rattle.hashlink_text.proofs.map_text.MapWithReplies.answer.Goals as goal
+
+-- a command that was read is answered by its replies, the steps of a cursor among them
+shows-command : {S : Type 0} (old new : MapState ℕ ℕ S) (command : Command ℕ ℕ)
+    (replies : List (Reply ℕ ℕ (ℕ × ℕ))) → Step nat_eq Itself IsEven old command replies new
+    → Shows old (Some (said (Do command))) (replies_shown replies) new
+shows-command old new (Cursor steps) replies s = (replies, s, refl)
+shows-command old new command replies s = (replies, s, refl)
 
 pub returns-in-None : goal.returns-in-None
 returns-in-None c =

@@ -1,14 +1,7 @@
-use Rattle.std.specs.Option.{option_map}
 use Rattle.std.proofs.lemmas.Result.{on_ok_weaker}
-use Rattle.hashlink_text.specs.Spelling.{said}
 use Rattle.hashlink_text.proofs.map_text.MapWithRepliesAnswersLines.answer_line.Goals as goal
 
 pub returns : goal.returns
 returns c =
-    on_ok_weaker c.answer.result
-    (λ pushed. (
-      pushed.0,
-      (option_map said c.in_ok-line.line, c.in_ok-line.ensures.said, pushed.1),
-      pushed.2,
-    ))
+    on_ok_weaker c.answer.result (λ pushed. (pushed.0, (_, c.in_ok-line.ensures.said, pushed.1), pushed.2))
     c.answer.ensures
