@@ -37,8 +37,7 @@ module _ (f : ℕ → ℕ) where
   level_at cold c i h l =
       let at : i ≡ c + (i - c) = omega arith in
       let is : f i ≡ cold + sum (drop (i - c) []) = ap f at ∙ h (i - c) in
-      let none = ap sum (drop-nil {A = ℕ} (i - c)) in
-      omega arith
+      omega (arith, ap sum (drop-nil {A = ℕ} (i - c)))
 
   lists_by : (b : Bool) (cold c n : ℕ) (ns : List ℕ) (items : List (ℕ × ℕ)) → nat_eq n 0 ≡ b
       → IsLeft cold c (n ∷ ns) → ListsFrom (c + 1) items
@@ -55,10 +54,8 @@ module _ (f : ℕ → ℕ) where
           let none : n ≡ 0 = grind (arith, nat_tests, zero_uses) in
           let here : f (c + 0) ≡ cold + sum (n ∷ ns) = h 0 in
           let next : f (c + 1) ≡ cold + sum ns = h 1 in
-          let more = sum_by-cons (λ (m : ℕ). m) n ns in
           let at : c + 0 ≡ c = omega arith in
-          let same = ap f at in
-          omega arith
+          omega (arith, sum_by-cons (λ (m : ℕ). m) n ns, ap f at)
 
       every_by : (i : ℕ) → (c ≡ i) ⊎ (c < i) → f (i + 1) < f i → Contains items (i + 1, f (i + 1))
       every_by i (inl e) fall =

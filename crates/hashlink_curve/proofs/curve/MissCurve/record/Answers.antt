@@ -14,13 +14,11 @@ returns-in-Some-clause-counted g c used h =
     let touched = rw c.in-Some.is at c.in_ok-others.ensures.touched in
     let a = ap length touched.split in
     let a2 = length-append touched.front (touched.key ∷ touched.back) in
-    let a3 = touched.count in
     let long = c.self.invariant.distances in
     let read : c.index_mut.result.now ≡ get_or I d c.index_mut.result.now
     = c.index_mut.ensures.value ∙ ap (λ ns. get_or ns d c.index_mut.result.now) kept in
     let zero = read ∙ get_or_default_zero I d c.index_mut.result.now (omega arith) in
-    Counted-again g.K.PartialEq.eq g.met.K.Eq.laws used
-    (record { keys = c.self.inside.recency; reuses = I })
+    Counted-again g.K.PartialEq.eq g.met.K.Eq.laws used (record { keys = c.self.inside.recency; reuses = I })
     (record { keys = c.touch.new.self; reuses = set c.reserve.new.self.items d (c.index_mut.result.now + 1) })
     c.args.key d touched long (ap₂ (λ ns n. set ns d (n + 1)) kept zero) before
 
