@@ -27,8 +27,7 @@ module _ {T : Type 0} where
   pub looks_takes : (p : T → Bool) (old new : List T) (r : Option (Bor T)) → LooksOn p old r new
       → TakesFirst deref (filter p old) r (filter p new)
   looks_takes p old new r l =
-      as_seen (filter p old) (filter p new) r
-      (rw (l.gives, l.leaves) (first_passing-takes p old))
+      as_seen (filter p old) (filter p new) r (rw (l.gives, l.leaves) (first_passing-takes p old))
 
   pub both_takes : (p q : T → Bool) (old new : PairWalk T) (r : Option (Bor T)) → LooksOnBoth p q old r new
       → TakesFirst deref (left_to_give p q old) r (left_to_give p q new)

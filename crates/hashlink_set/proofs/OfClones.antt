@@ -97,8 +97,7 @@ module _ {St T : Type 0} (steps : St → Option (Bor T) → St → Type 0) (rest
   pub given_all : (s : St) (xs : List (Bor T)) → Drains steps s xs → map deref xs ≡ rest s
   given_all s xs d =
       let y = d.1 in
-      sym
-      (given_front s xs y.0 y.1 ∙ ap (λ l. map deref xs ++ l) (takes y.0 None d.0 y.2).0
+      sym (given_front s xs y.0 y.1 ∙ ap (λ l. map deref xs ++ l) (takes y.0 None d.0 y.2).0
       ∙ append-nil (map deref xs))
 
   -- so a set of clones of what it gives is made, by the answer, and may fail only if it has some left

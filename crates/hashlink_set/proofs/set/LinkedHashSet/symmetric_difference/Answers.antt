@@ -4,8 +4,7 @@ use Rattle.hashlink_set.proofs.set.LinkedHashSet.symmetric_difference.Goals as g
 pub returns : goal.returns
 returns g c =
     let of = c.of.ensures in
-    rw (← c.self.view_is, ← c.other.view_is)
-    (record {
+    rw (← c.self.view_is, ← c.other.view_is) (record {
       rest = of.rest;
       unique = of.unique;
       walk = of.walk;
