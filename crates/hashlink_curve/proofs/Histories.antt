@@ -11,6 +11,7 @@ use Rattle.std.proofs.Math.Path.{fun_ext}
 use Rattle.std.proofs.Math.Seq.{drop-nil}
 use Rattle.std.proofs.lemmas.Bool.{lt-ltb, le-ltb}
 use Rattle.std.proofs.lemmas.Bool.Decides.{nat_tests}
+use Rattle.std.proofs.lemmas.Grind.{get_or_default_zero}
 use Rattle.std.proofs.lemmas.List.{append-nil, drop_all}
 use Rattle.std.proofs.lemmas.List.Folds.{list_any-append}
 use Rattle.std.proofs.lemmas.List.Sums.{sum_by-append, sum_by-set, sum_by-take-drop}
@@ -172,11 +173,11 @@ module _ {K : Type 0} (eq : K → K → Bool) (laws : IsEquivalence eq) where
         sym (ap (λ b. cond b (Some (reuse_distance eq used k)) None) unused),
       )
 
-  pub Counted-again : (used : List K) (old new : CurveState K) (k : K) (d : ℕ)
+  pub Counted-again : (used : List K) (old new : CurveState K) (k : K) (d read : ℕ)
       → MovesPast (eq k) old.keys new.keys d → length old.reuses ≡ length old.keys
-      → new.reuses ≡ set old.reuses d (get_or old.reuses d 0 + 1) → Counted eq used old
+      → read ≡ get_or old.reuses d read → new.reuses ≡ set old.reuses d (read + 1) → Counted eq used old
       → Counted eq (used ++ k ∷ []) new × (Some d ≡ distance_of eq used k)
-  Counted-again used old new k d p long n h =
+  Counted-again used old new k d read p long is_read n h =
       let split = subst (λ zs. Alike zs (unique_keys eq used)) p.split h.keys in
       let held : is_member eq (unique_keys eq used) k ≡ true
       = sym (zip_member k (p.front ++ p.key ∷ p.back) (unique_keys eq used) split)
@@ -208,12 +209,11 @@ module _ {K : Type 0} (eq : K → K → Bool) (laws : IsEquivalence eq) where
               let b : missed eq c used k ≡ cond (nat_lt d c) 0 1 =
               missed_by c used k true d used_before distance in
               let e = h.misses c in
-              let f = ap length p.moved in
-              let f2 = length-append (p.front ++ p.back) (p.key ∷ []) in
-              let f3 = length-append p.front p.back in
-              let g = ap length p.split in
-              let g2 = length-append p.front (p.key ∷ p.back) in
-              let i = ap (λ zs. sum (drop c zs)) n in
+              let f = ap length p.moved ∙ length-append (p.front ++ p.back) (p.key ∷ []) in
+              let f2 = length-append p.front p.back in
+              let g = ap length p.split ∙ length-append p.front (p.key ∷ p.back) in
+              let zero = is_read ∙ get_or_default_zero old.reuses d read (omega arith) in
+              let i = ap (λ zs. sum (drop c zs)) (n ∙ ap (λ m. set old.reuses d (m + 1)) zero) in
               let j : sum (drop c (set old.reuses d (get_or old.reuses d 0 + 1)))
               ≡ sum (drop c old.reuses) + cond (nat_lt d c) 0 1
               = sum-drop-more c d old.reuses (omega arith) in

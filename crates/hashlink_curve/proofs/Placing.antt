@@ -12,7 +12,7 @@ use Rattle.std.proofs.lemmas.Map.{NonePasses}
 use Rattle.std.proofs.lemmas.Option.{none-some, same_Some}
 use Rattle.hashlink_model.specs.Entries.{IsEntries, IsKeyTest, put, stored_key, without}
 use Rattle.hashlink_model.specs.MapState.{MapState, Inserts}
-use Rattle.hashlink_model.specs.Steps.{MovesAndWrites, MovesMatchAndWrites, PopsFront}
+use Rattle.hashlink_model.specs.Steps.{MovesMatchAndWrites, PopsFront}
 use Rattle.hashlink_model.specs.Walk.{first_of}
 use Rattle.hashlink_model.proofs.Pops.{pops_front}
 use Rattle.hashlink_model.proofs.Splits.{stands_from_lookup, lookup-none, lookup-here, none_from_lookup}
@@ -241,36 +241,27 @@ module _ {K : Type 0} (eq : K → K → Bool) (laws : IsEquivalence eq) where
         last = ap keys_of n ∙ keys_of-append es ((k, next) ∷ []);
       }
 
--- what moved last, with w written through what was lent, was put last
-pub puts_last : {K S : Type 0} (eq : K → K → Bool) → IsEquivalence eq → (old new : MapState K ℕ S)
-    → (k : K) (v w : ℕ)
-    → IsEntries eq old.entries → lookup (eq k) old.entries ≡ Some v
-    → MovesAndWrites eq old new k (length old.entries) w
-    → new.entries ≡ put eq old.entries k w (length old.entries)
-puts_last eq laws old new k v w d there s =
-    let left = without eq old.entries k in
-    let stored = stored_key eq old.entries k in
-    ap (λ m. m.entries) s.writes
-    ∙ ap (λ es. set_value (eq k) es w)
-    (s.moves.entries ∙ moved-there eq old.entries k (length old.entries) v there
-    ∙ put_back eq old.entries k v)
-    ∙ set_value-here (eq k) (stored, v) [] (stored_key-equal eq laws k old.entries) w left
-    (none_without eq laws old.entries k d)
-    ∙ sym (put_back eq old.entries k w)
-
--- the same by a test of keys
+-- what passed the test and moved last, with w written through what was lent, was put last
 pub moves_last : {K S : Type 0} (eq : K → K → Bool) → IsEquivalence eq → (test : K → Bool)
     → IsKeyTest eq test → (old new : MapState K ℕ S) (v w : ℕ)
     → IsEntries eq old.entries → lookup test old.entries ≡ Some v
     → MovesMatchAndWrites test old new (length old.entries) w
     → MovesLast eq test old.entries new.entries w
 moves_last eq laws test tells old new v w d at s =
-    let k = key_from_lookup test eq tells old.entries v at in
+    let es = old.entries in
+    let found = key_from_lookup test eq tells es v at in
+    let k = found.0 in
+    let there = subst (λ t. lookup t es ≡ Some v) found.1 at in
+    let moves = subst (λ t. MovesMatchAndWrites t old new (length es) w) found.1 s in
     record {
-      key = k.0;
-      tells = k.1;
-      entries = puts_last eq laws old new k.0 v w d (subst (λ t. lookup t old.entries ≡ Some v) k.1 at)
-          (subst (λ t. MovesMatchAndWrites t old new (length old.entries) w) k.1 s);
+      key = k;
+      tells = found.1;
+      entries = ap (λ m. m.entries) moves.writes
+          ∙ ap (λ zs. set_value (eq k) zs w)
+          (moves.moves.entries ∙ moved-there eq es k (length es) v there ∙ put_back eq es k v)
+          ∙ set_value-here (eq k) (stored_key eq es k, v) [] (stored_key-equal eq laws k es) w
+          (without eq es k) (none_without eq laws es k d)
+          ∙ sym (put_back eq es k w);
     }
 
 -- ---- new places for all
@@ -324,29 +315,52 @@ module _ {K : Type 0} where
         distinct = d;
       }
 
-  pub Renumbers-free : (eq : K → K → Bool) (old es : List (K × ℕ)) (row : List ℕ) (place : ℕ)
-      → Renumbers eq old es row place → place < length row → get_or row place 0 ≡ 0
-  Renumbers-free eq old es row place r l =
-      free_at (numbered 0 r.done) place row (numbered-rises 0 place r.done (omega arith)) r.marked l
+  module _ {eq : K → K → Bool} {old es : List (K × ℕ)} {row : List ℕ} {place : ℕ}
+      (r : Renumbers eq old es row place) where
+    both : length r.done + length r.left ≡ length old
+    both = sym (ap length r.split ∙ length-append r.done r.left)
 
-  -- what is first, and what is left behind it
-  pub Renumbers-next : (eq : K → K → Bool) (old es : List (K × ℕ)) (row : List ℕ) (place : ℕ)
-      → (r : Renumbers eq old es row place) → place < length old
-      → (e : K × ℕ) × (left : List (K × ℕ)) × (r.left ≡ e ∷ left)
-  Renumbers-next eq old es row place r l =
-      let a = ap length r.split in
-      let b = length-append r.done r.left in
-      by r.left (omega arith)
-    where
-      by : (zs : List (K × ℕ)) → 0 < length zs → (e : K × ℕ) × (left : List (K × ℕ)) × (zs ≡ e ∷ left)
-      by [] l = absurd (omega arith)
-      by (z ∷ zs) l = (z, zs, refl)
+    pub Renumbers-free : place < length row → get_or row place 0 ≡ 0
+    Renumbers-free l =
+        free_at (numbered 0 r.done) place row (numbered-rises 0 place r.done (omega (arith, r.count))) r.marked l
+
+    -- what is first, and what is left behind it
+    Renumbers-next : place < length old → (e : K × ℕ) × (left : List (K × ℕ)) × (r.left ≡ e ∷ left)
+    Renumbers-next l = by r.left (omega (arith, both, r.count))
+      where
+        by : (zs : List (K × ℕ)) → 0 < length zs → (e : K × ℕ) × (left : List (K × ℕ)) × (zs ≡ e ∷ left)
+        by [] l = absurd (omega arith)
+        by (z ∷ zs) l = (z, zs, refl)
+
+    -- all have got one
+    pub Renumbers-end : place ≡ length old → length old ≤ length row
+        → IsPlaced eq es row (length es) × (keys_of es ≡ keys_of old) × (length es ≡ length old)
+    Renumbers-end e fits =
+        let none = nil r.left (omega (arith, both, r.count)) in
+        let all : old ≡ r.done = r.split ∙ ap (λ zs. r.done ++ zs) none ∙ append-nil r.done in
+        let is : es ≡ numbered 0 old = r.is ∙ ap₂ (λ zs ws. zs ++ numbered 0 ws) none (sym all) in
+        let long = ap length is ∙ length-numbered 0 old in (
+          record {
+            distinct = r.distinct;
+            rises = subst (λ zs. Rises 0 zs (length es)) (sym is)
+                (numbered-rises 0 (length es) old (omega arith));
+            marked = subst (Marked row)
+                (ap (λ zs. values_of (numbered 0 zs)) (sym all) ∙ ap values_of (sym is)) r.marked;
+            within = omega arith;
+          },
+          ap keys_of is ∙ keys_of-numbered 0 old,
+          long,
+        )
+      where
+        nil : (zs : List (K × ℕ)) → length zs ≡ 0 → zs ≡ []
+        nil [] l = refl
+        nil (z ∷ zs) l = absurd (omega arith)
 
   -- the first entry is there
   pub Renumbers-pops : (eq : K → K → Bool) (old es : List (K × ℕ)) (row : List ℕ) (place : ℕ)
       → Renumbers eq old es row place → place < length old → first_of es ≡ None → ⊥
   Renumbers-pops eq old es row place r l n =
-      let s = Renumbers-next eq old es row place r l in
+      let s = Renumbers-next r l in
       let some : first_of es ≡ Some s.0 = ap first_of (r.is ∙ ap (λ zs. zs ++ numbered 0 r.done) s.2) in
       none-some s.0 (sym n ∙ some)
 
@@ -359,7 +373,7 @@ module _ {K : Type 0} where
       → Renumbers eq old c.entries after (place + 1)
   Renumbers-step {S} eq old a b c row after place key v r l p added d m =
       let popped = (pops_front a b (key, v) p).0 in
-      let s = Renumbers-next eq old a.entries row place r l in
+      let s = Renumbers-next r l in
       let left = s.1 in
       let es : s.0 ∷ (left ++ numbered 0 r.done) ≡ (key, v) ∷ b.entries
       = sym (r.is ∙ ap (λ zs. zs ++ numbered 0 r.done) s.2) ∙ popped in
@@ -385,29 +399,4 @@ module _ {K : Type 0} where
   pub Renumbers-inserts : {S : Type 0} (eq : K → K → Bool) (a b c : MapState K ℕ S)
       (place : ℕ) (key : K) (v : ℕ) (pair : K × ℕ) → PopsFront a b (Some (key, v))
       → Inserts eq b c key place (length b.entries) (Err pair) → ⊥
-  Renumbers-inserts eq a b c place key v pair p i =
-      omega arith
-
-  -- all have got one
-  pub Renumbers-end : (eq : K → K → Bool) (old es : List (K × ℕ)) (row : List ℕ) (place : ℕ)
-      → Renumbers eq old es row place → place ≡ length old
-      → (es ≡ numbered 0 old) × Marked row (values_of es) × Rises 0 es (length es)
-      × (keys_of es ≡ keys_of old)
-      × (length es ≡ length old)
-  Renumbers-end eq old es row place r e =
-      let a = ap length r.split in
-      let b = length-append r.done r.left in
-      let none = nil r.left (omega arith) in
-      let all : old ≡ r.done = r.split ∙ ap (λ zs. r.done ++ zs) none ∙ append-nil r.done in
-      let is : es ≡ numbered 0 old = r.is ∙ ap₂ (λ zs ws. zs ++ numbered 0 ws) none (sym all) in
-      let long = ap length is ∙ length-numbered 0 old in (
-        is,
-        subst (Marked row) (ap (λ zs. values_of (numbered 0 zs)) (sym all) ∙ ap values_of (sym is)) r.marked,
-        subst (λ zs. Rises 0 zs (length es)) (sym is) (numbered-rises 0 (length es) old (omega arith)),
-        ap keys_of is ∙ keys_of-numbered 0 old,
-        long,
-      )
-    where
-      nil : (zs : List (K × ℕ)) → length zs ≡ 0 → zs ≡ []
-      nil [] l = refl
-      nil (z ∷ zs) l = absurd (omega arith)
+  Renumbers-inserts eq a b c place key v pair p i = omega arith

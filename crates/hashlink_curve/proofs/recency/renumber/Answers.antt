@@ -4,10 +4,7 @@ use Rattle.hashlink_curve.proofs.Placing.{Renumbers-step, Renumbers-free, Renumb
 use Rattle.hashlink_curve.proofs.recency.renumber.Goals as goal
 
 pub mark-requires-clause-unmarked : goal.mark-requires-clause-unmarked
-mark-requires-clause-unmarked g c =
-    let i = c.loop-place.invariant in
-    Renumbers-free g.K.PartialEq.eq (entries_of c.args.places.now) (entries_of c.loop-place.places)
-    c.loop-place.marks c.loop-place.place i.0 (omega arith)
+mark-requires-clause-unmarked g c = Renumbers-free c.loop-place.invariant.0 (omega arith)
 
 pub loop-place-preserved : goal.loop-place-preserved
 loop-place-preserved g c =
@@ -25,12 +22,5 @@ loop-place-preserved g c =
 
 pub returns : goal.returns
 returns g c =
-    let i = c.loop-place.invariant in
-    let e = Renumbers-end g.K.PartialEq.eq (entries_of c.args.places.now) (entries_of c.loop-place.places)
-    c.loop-place.marks c.loop-place.place i.0 (omega arith) in
-    record {
-      placed = record { distinct = i.0.distinct; rises = e.2; marked = e.1; within = omega arith };
-      free = omega arith;
-      keys = e.3;
-      unchanged = tt;
-    }
+    let e = Renumbers-end c.loop-place.invariant.0 (omega arith) (omega arith) in
+    record { placed = e.0; free = omega (arith, e.2); keys = e.1; unchanged = tt }
