@@ -1,8 +1,8 @@
 -- One more use of a key: which distance it has, and which caches miss it.
 use Rattle.std.proofs.Common.{◌≡◌, ℕ, zero, suc, ◌+◌, ◌≤◌, ◌<◌, ◌⊎◌, inl, inr, Bool, true, false, ◌&&◌, ◌||◌}
 use Rattle.std.proofs.Common.{cond, List, [], ◌∷◌, ◌++◌, length, take, drop, nat_lt, Option, None, Some, refl}
-use Rattle.std.proofs.Common.{sym, ap, ap₂, ◌∙◌, subst, subst₂, arith, append_assoc, length-append, true≢false}
-use Rattle.std.proofs.Common.{get_or, set}
+use Rattle.std.proofs.Common.{sym, ap, ap₂, ◌∙◌, subst, subst₂, arith, append_assoc, length-append}
+use Rattle.std.proofs.Common.{true≢false, get_or, set}
 use Rattle.std.specs.Prelude.{sum}
 use Rattle.std.specs.Cmp.{IsEquivalence}
 use Rattle.std.specs.List.{AllZip, after_last, list_any}
@@ -132,7 +132,8 @@ module _ {K : Type 0} (eq : K → K → Bool) (laws : IsEquivalence eq) where
       → length ys ≡ length vs
   zip_behind k [] x ys [] u vs z t s n m = zip_length _ ys vs z.1
   zip_behind k [] x ys (a ∷ us) u vs z t s n m =
-      absurd (true≢false (sym (list_any-here (eq k) us u vs s) ∙ sym (zip_member k ys (us ++ u ∷ vs) z.1) ∙ n))
+      absurd
+      (true≢false (sym (list_any-here (eq k) us u vs s) ∙ sym (zip_member k ys (us ++ u ∷ vs) z.1) ∙ n))
   zip_behind k (a ∷ xs) x ys [] u vs z t s n m =
       absurd (true≢false (sym (list_any-here (eq k) xs x ys t) ∙ zip_member k (xs ++ x ∷ ys) vs z.1 ∙ m))
   zip_behind k (a ∷ xs) x ys (b ∷ us) u vs z t s n m = zip_behind k xs x ys us u vs z.1 t s n m

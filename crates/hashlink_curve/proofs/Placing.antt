@@ -177,7 +177,8 @@ module _ {K : Type 0} (eq : K → K → Bool) (laws : IsEquivalence eq) where
       record {
         distinct = d;
         rises = subst (λ zs. Rises 0 zs (next + 1)) (sym there) (rises_push 0 es k next r);
-        marked = subst (λ zs. Marked after (values_of zs)) (sym there) (marked_last es k next row after marks m);
+        marked = subst (λ zs. Marked after (values_of zs)) (sym there)
+            (marked_last es k next row after marks m);
         within = omega arith;
       }
 
@@ -193,7 +194,8 @@ module _ {K : Type 0} (eq : K → K → Bool) (laws : IsEquivalence eq) where
         ∙ put_back_here eq f.front (f.key, place) f.back k next f.equal f.none
 
     others_rise : Rises 0 others next
-    others_rise = rises_middle 0 f.front (f.key, place) f.back next (subst (λ zs. Rises 0 zs next) f.is p.rises)
+    others_rise =
+        rises_middle 0 f.front (f.key, place) f.back next (subst (λ zs. Rises 0 zs next) f.is p.rises)
 
     -- after it the key is the last, at the next place
     pub found_moves : (new : List (K × ℕ)) (past : ℕ) → new ≡ put eq es k next (length es)
@@ -322,7 +324,8 @@ module _ {K : Type 0} where
 
     pub Renumbers-free : place < length row → get_or row place 0 ≡ 0
     Renumbers-free l =
-        free_at (numbered 0 r.done) place row (numbered-rises 0 place r.done (omega (arith, r.count))) r.marked l
+        free_at (numbered 0 r.done) place row (numbered-rises 0 place r.done (omega (arith, r.count)))
+        r.marked l
 
     -- what is first, and what is left behind it
     Renumbers-next : place < length old → (e : K × ℕ) × (left : List (K × ℕ)) × (r.left ≡ e ∷ left)

@@ -18,7 +18,8 @@ seen c =
     c.deref-2.ensures.value
 
 pub sum_before-requires-clause-within : goal.sum_before-requires-clause-within
-sum_before-requires-clause-within c = (seen (goal.at.sum_before-requires-clause-within c).After-deref-2).within
+sum_before-requires-clause-within c =
+    (seen (goal.at.sum_before-requires-clause-within c).After-deref-2).within
 
 pub sum_before-requires-clause-fits : goal.sum_before-requires-clause-fits
 sum_before-requires-clause-fits c =
