@@ -11,4 +11,5 @@ module _ {T S : Type 0} (old new : SetState T S) (test : T → Bool) where
   -- goal: the elements after a removal, also where none was found
   pub removes_match_elements : (r : Option (T × Unit {0})) → RemovesMatch test old new r
       → elements_of new ≡ remove_key test (elements_of old)
-  removes_match_elements r s = ap keys_of (removes_entries old new test r s) ∙ keys-remove_entry test old.entries
+  removes_match_elements r s =
+      ap keys_of (removes_entries old new test r s) ∙ keys-remove_entry test old.entries

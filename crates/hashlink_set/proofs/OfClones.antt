@@ -110,8 +110,8 @@ module _ {St T : Type 0} (steps : St → Option (Bor T) → St → Type 0) (rest
       → OnErr r ((x : Bor T) × (t : St) × steps s (Some x) t)
       → MatchResult r (IsOfClones eq C H ts) (λ _. ts ≡ [] → ⊥)
   clones_by_answer eq laws C H ts b hasher s is distinct (Ok new) made refused =
-      is_of_items eq laws C H ts (subst (IsDistinct eq) is distinct) b hasher new made.0 made.1 (given_all s made.0 made.2 ∙ is)
-      made.3 made.4
+      is_of_items eq laws C H ts (subst (IsDistinct eq) is distinct) b hasher new made.0 made.1
+      (given_all s made.0 made.2 ∙ is) made.3 made.4
   clones_by_answer eq laws C H ts b hasher s is distinct (Err e) made refused = λ none.
       let given = takes s (Some refused.0) refused.1 refused.2 in
       let left = sym given ∙ is ∙ none in absurd (cc)
