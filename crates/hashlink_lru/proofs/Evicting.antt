@@ -40,7 +40,8 @@ module _ {K V : Type 0} (test : K → Bool) (es : List (K × V)) where
   others-there : is_some (lookup test es) ≡ true → length (remove_entry test es) + 1 ≡ length es
   others-there there = by (lookup test es) refl there
     where
-      by : (o : Option V) → lookup test es ≡ o → is_some o ≡ true → length (remove_entry test es) + 1 ≡ length es
+      by : (o : Option V) → lookup test es ≡ o → is_some o ≡ true
+          → length (remove_entry test es) + 1 ≡ length es
       by None l f = absurd (true≢false (sym f))
       by (Some w) l f = length-without_there (λ _. test) es (stands_from_lookup test es w l).1.0 w l
 

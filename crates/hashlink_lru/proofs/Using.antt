@@ -75,7 +75,8 @@ module _ {K V S : Type 0} (eq : K → K → Bool) (laws : IsEquivalence eq) (old
       let few = length-last_entries es most in
       let few' = length-last_entries (set_value_at es j w) most in
       let long : length (set_value_at es j w) ≡ length es = length-set_value_at es j w in
-      let same : length (last_entries (set_value_at es j w) most) ≡ length (last_entries es most) = omega arith in
+      let same : length (last_entries (set_value_at es j w) most) ≡ length (last_entries es most)
+      = omega arith in
       let fits = s.map.fits in
       record {
         map = record {
@@ -89,7 +90,10 @@ module _ {K V S : Type 0} (eq : K → K → Bool) (laws : IsEquivalence eq) (old
             no_more = omega (arith, fits.no_more);
             spare = omega (arith, fits.spare);
             room = fits.room;
-            link_writes = record { grows = fits.link_writes.grows; bound = omega (arith, fits.link_writes.bound) };
+            link_writes = record {
+              grows = fits.link_writes.grows;
+              bound = omega (arith, fits.link_writes.bound);
+            };
             hasher = fits.hasher;
           };
         };
