@@ -4,33 +4,31 @@ use Rattle.std.proofs.Common.{◌≡◌, ℕ, zero, suc, ◌-◌, ◌≤◌, ◌
 use Rattle.std.proofs.Common.{[], ◌∷◌, ◌++◌, length, take, drop, Option, None, Some, Result, Ok, Err, refl}
 use Rattle.std.proofs.Common.{sym, ap, subst, ◌∙◌, lt-ltb, map, ◌⊎◌, inl, inr, true≢false, arith, filter}
 use Rattle.std.proofs.Common.{nat_le, le_refl, zero-le}
-use Rattle.std.specs.Prelude.{All, IfSome, IsSome, OnOk, insert, remove, slice_get, unwrap_or, MatchOption}
+use Rattle.std.specs.Prelude.{All, IsSome, OnOk, insert, remove, slice_get, unwrap_or, MatchOption}
 use Rattle.std.specs.Prelude.{MatchResult, fold}
 use Rattle.std.specs.Option.{option_map_or, option_or}
 use Rattle.std.specs.Cmp.{IsEquivalence}
 use Rattle.std.specs.List.{AllPass, list_any}
 use Rattle.std.specs.List.Sorted.{IsNonDecreasingBy}
 use Rattle.std.specs.Map.{lookup, lookup_entry, keys_of, remove_entry, set_value}
-use Rattle.std.specs.Set.{is_member, remove_key}
+use Rattle.std.specs.Set.{is_member}
 use Rattle.std.proofs.lemmas.Bool.{le-leb, lt-leb}
 use Rattle.std.proofs.lemmas.List.{map-append, map-id, take-append-drop}
 use Rattle.std.proofs.lemmas.List.Edits.{insert_end}
-use Rattle.std.proofs.lemmas.List.Elements.{All-nil, All-cons, All-head, All-tail, All-same, All-append}
-use Rattle.std.proofs.lemmas.List.Elements.{All-take, All-drop, All-push, All-map, All-filter}
+use Rattle.std.proofs.lemmas.List.Elements.{All-cons, All-head, All-tail, All-same, All-append}
+use Rattle.std.proofs.lemmas.List.Elements.{All-take, All-drop, All-push, All-filter}
 use Rattle.std.proofs.lemmas.List.Sums.{AllPass-from_list_all}
 use Rattle.std.proofs.lemmas.List.Sorted.{IsNonDecreasingBy-drop, IsNonDecreasingBy-push}
 use Rattle.std.proofs.lemmas.Map.{NonePasses, keys-set_value}
-use Rattle.std.proofs.lemmas.Map.Entries.{place_from_lookup}
 use Rattle.std.proofs.lemmas.Map.Made.{is_some-lookup}
 use Rattle.std.proofs.lemmas.Option.{none-some, same_Some, slice_get-get_or}
-use Rattle.hashlink_model.specs.Cache.{CacheState, CacheInserts, CacheGetsMatch, cache_put}
+use Rattle.hashlink_model.specs.Cache.{CacheState, CacheInserts, cache_put}
 use Rattle.hashlink_model.specs.Entries.{IsEntries, place_left, place_of, place_without, place_or_end}
 use Rattle.hashlink_model.specs.Entries.{moved_at, moved_match, put, stored_key, without}
 use Rattle.hashlink_model.specs.MapState.{MapState, Inserts}
 use Rattle.hashlink_model.specs.Retain.{KeepsInOrder, RetainsInOrder}
-use Rattle.hashlink_model.specs.Sets.{SetState, SetInserts, at_element, elements_of, pairs_of, stored_element}
-use Rattle.hashlink_model.specs.Steps.{KeepsOnly, PopsFront, PopsBack, Replaces, RemovesMatch, MovesMatch}
-use Rattle.hashlink_model.specs.Steps.{MovesMatchAndWrites, MovesAndWrites}
+use Rattle.hashlink_model.specs.Sets.{SetState, SetInserts, at_element, elements_of, pairs_of}
+use Rattle.hashlink_model.specs.Steps.{KeepsOnly, RemovesMatch, MovesMatch}
 use Rattle.hashlink_model.specs.Walk.{first_of, last_of}
 use Rattle.hashlink_run.specs.declared.commands.Command.{Command}
 use Rattle.hashlink_run.specs.declared.commands.Command.TheVariants.{Insert, Remove}
@@ -40,14 +38,14 @@ use Rattle.hashlink_run.specs.CallReplies.{insert_reply, is_refused}
 use Rattle.hashlink_run.specs.Chain.{Answered, replies_of}
 use Rattle.hashlink_run.specs.Run.{LawfulRun, Run, ShownBy, TakesKeysWhereShorter, keeps_nodes}
 use Rattle.hashlink_run.specs.Step.{KeepAsks, ReadBy, Step}
-use Rattle.hashlink_map.proofs.Outcomes.{inserts_entries, replaces_entries, removes_entries}
+use Rattle.hashlink_map.proofs.Outcomes.{inserts_entries}
+use Rattle.hashlink_core.proofs.AtKeyNode.{is_some-map}
 use Rattle.hashlink_model.proofs.Distinct.{IsEntries-middle, IsEntries-insert}
-use Rattle.hashlink_model.proofs.Puts.{none_without}
-use Rattle.hashlink_model.proofs.SetElements.{find-keys, keys-filter, set_inserts}
+use Rattle.hashlink_model.proofs.Finds.{lookup_is}
+use Rattle.hashlink_model.proofs.SetElements.{keys-filter, set_inserts}
 use Rattle.hashlink_model.proofs.SetViews.{keys_of-pairs_of, pairs_of-keys_of}
 use Rattle.hashlink_model.proofs.Splits.{Stands, splits, remove_entry-here, none_from_lookup}
-use Rattle.hashlink_model.proofs.Splits.{remove_entry-none, lookup_key-none, place_of-none, place_of-here}
-use Rattle.hashlink_model.proofs.Splits.{set_value-here}
+use Rattle.hashlink_model.proofs.Splits.{remove_entry-none, place_of-none, place_of-here}
 -- ---- handed on
 
 -- goal: `lookup`, or `lookup_entry`, at the key that was put, at another key, after a removal, and after a
@@ -121,13 +119,6 @@ module _ {K V : Type 0} (P : K × V → Type 0) where
   All-at (x ∷ es) zero e h a = subst P (same_Some x e h) (All-head P x es a)
   All-at (x ∷ es) (suc j) e h a = All-at es j e h (All-tail P x es a)
 
-  -- goal: P of what a look-up finds, at a key that passes its test
-  pub All-found : (test : K → Bool) (es : List (K × V)) (v : V) → lookup test es ≡ Some v → All P es
-      → (k : K) × P (k, v) × (test k ≡ true)
-  All-found test es v l a =
-      let at = place_from_lookup test es v l in
-      (at.1, All-at es at.0 (at.1, v) at.2 a, at.3)
-
   -- goal: `All P (moved_match test es b)`, so `All P (moved eq es k b)`, as after a move or a hit of a
   -- cache's `get`
   pub All-moved_match : (test : K → Bool) (es : List (K × V)) (b : ℕ) → All P es
@@ -187,18 +178,6 @@ module _ {K V : Type 0} (P : K × V → Type 0) where
         (All-put eq old.entries k v b p a)
     All-inserts b (Err pair) s p a = All-same P new.entries _ s.grows.entries a
 
-    -- goal: `All P` of a map's entries after `replace`
-    pub All-replaces : (r : Result (Option V) (K × V)) → Replaces eq old new k v r → P (k, v)
-        → ((q : K) → eq k q ≡ true → P (q, v)) → All P old.entries
-        → All P new.entries
-    All-replaces (Ok None) s p e a =
-        All-same P new.entries _
-        (s.adds.entries ∙ put_back_absent eq old.entries k v (none_from_lookup (eq k) old.entries s.absent))
-        (All-push P old.entries (k, v) a p)
-    All-replaces (Ok (Some w)) s p e a =
-        All-same P new.entries _ s.writes.entries (All-set_value (eq k) old.entries v e a)
-    All-replaces (Err pair) s p e a = All-same P new.entries _ s.grows.entries a
-
   module _ {S : Type 0} (old new : MapState K V S) where
     -- goal: `All P` of a map's entries after `remove` or `remove_entry`
     pub All-removes : (test : K → Bool) (r : Option (K × V)) → RemovesMatch test old new r → All P old.entries
@@ -206,39 +185,6 @@ module _ {K V : Type 0} (P : K × V → Type 0) where
     All-removes test None s a = subst (λ m. All P m.entries) (sym s.step) a
     All-removes test (Some e) s a = All-same P new.entries _ s.step.entries
         (All-remove_entry test old.entries a)
-
-    -- goal: `All P` of a map's entries after `pop_front`, and P of the entry that came out
-    pub All-pops_front : (r : Option (K × V)) → PopsFront old new r → All P old.entries
-        → All P new.entries × IfSome r P
-    All-pops_front None s a = (subst (λ m. All P m.entries) (sym s.step) a, tt)
-    All-pops_front (Some e) s a = (
-      All-same P new.entries _ s.step.entries (All-drop P 1 old.entries a),
-      All-at old.entries 0 e (sym s.answer) a,
-    )
-
-    -- goal: the same after `pop_back`
-    pub All-pops_back : (r : Option (K × V)) → PopsBack old new r → All P old.entries
-        → All P new.entries × IfSome r P
-    All-pops_back None s a = (subst (λ m. All P m.entries) (sym s.step) a, tt)
-    All-pops_back (Some e) s a = (
-      All-same P new.entries _ s.step.entries (All-take P (length old.entries - 1) old.entries a),
-      All-at old.entries (length old.entries - 1) e (sym s.answer) a,
-    )
-
-    -- goal: `All P` of a map's entries after `to_back` or `to_front` that wrote nothing
-    pub All-moves : (test : K → Bool) (b : ℕ) (r : Option V) → MovesMatch test old new b r → All P old.entries
-        → All P new.entries
-    All-moves test b None s a = subst (λ m. All P m.entries) (sym s.step) a
-    All-moves test b (Some w) s a = All-same P new.entries _ s.step.entries
-        (All-moved_match test old.entries b a)
-
-    -- goal: the same once w was written through what they lent
-    pub All-moves_and_writes : (test : K → Bool) (b : ℕ) (w : V) → MovesMatchAndWrites test old new b w
-        → ((k : K) → test k ≡ true → P (k, w)) → All P old.entries
-        → All P new.entries
-    All-moves_and_writes test b w s p a =
-        let moved = All-same P s.between.entries _ s.moves.entries (All-moved_match test old.entries b a) in
-        subst (λ m. All P m.entries) (sym s.writes) (All-set_value test s.between.entries w p moved)
 
   module _ {S : Type 0} (old new : CacheState K V S) where
     -- goal: `All P` of a cache's entries after `insert`
@@ -249,44 +195,6 @@ module _ {K V : Type 0} (P : K × V → Type 0) where
         All-same P new.map.entries _ (cache_inserts_entries eq old new k v w s)
         (All-cache_put eq old.map.entries old.cap k v p a)
     All-cache_inserts eq k v (Err pair) s p a = All-same P new.map.entries _ s.map.grows.entries a
-
-    -- goal: `All P` of a cache's entries after `get`
-    pub All-cache_gets : (test : K → Bool) (r : Option V) → CacheGetsMatch test old new r
-        → All P old.map.entries
-        → All P new.map.entries
-    All-cache_gets test r s a = All-moves old.map new.map test (length old.map.entries) r s.map a
-
-module _ {T S : Type 0} (P : T → Type 0) (old new : SetState T S) where
-  of_keys : {V : Type 0} (es : List (T × V)) → All P (keys_of es) → All (λ (e : T × V). P e.0) es
-  of_keys {V} [] a = All-nil (λ (e : T × V). P e.0)
-  of_keys {V} (e ∷ es) a =
-      All-cons (λ (x : T × V). P x.0) e es (All-head P e.0 (keys_of es) a)
-      (of_keys es (All-tail P e.0 (keys_of es) a))
-
-  -- goal: `All P` of a set's elements after `insert`
-  pub All-set_inserts : (eq : T → T → Bool) (t : T) (r : Result Bool T) → SetInserts eq old new t r
-      → P (stored_element eq (elements_of old) t) → All P (elements_of old)
-      → All P (elements_of new)
-  All-set_inserts eq t r s p a = by r s
-    where
-      stored : P (stored_key eq old.entries t)
-      stored = subst (λ o. P (unwrap_or o t)) (sym (find-keys (eq t) old.entries)) p
-
-      by : (r : Result Bool T) → SetInserts eq old new t r → All P (elements_of new)
-      by (Ok b) s = All-map P (λ (e : T × Unit {0}). e.0) new.entries
-          (All-inserts (λ e. P e.0) eq old new t tt (length old.entries) (Ok (cond b None (Some tt))) s stored
-          (of_keys old.entries a))
-      by (Err x) s = All-map P (λ (e : T × Unit {0}). e.0) new.entries
-          (All-inserts (λ e. P e.0) eq old new t tt (length old.entries) (Err (x, tt)) s stored
-          (of_keys old.entries a))
-
-  -- goal: `All P` of a set's elements after `remove` or `take`
-  pub All-set_removes : (test : T → Bool) (r : Option (T × Unit {0})) → RemovesMatch test old new r
-      → All P (elements_of old)
-      → All P (elements_of new)
-  All-set_removes test r s a =
-      All-map P (λ (e : T × Unit {0}). e.0) new.entries
-      (All-removes (λ e. P e.0) old new test r s (of_keys old.entries a))
 
 -- no two keys were equal before a put after which no two are
 module _ {K V : Type 0} (eq : K → K → Bool) (laws : IsEquivalence eq) where
@@ -312,8 +220,7 @@ module _ {K V : Type 0} (eq : K → K → Bool) (laws : IsEquivalence eq) where
       by (inr s) left apart =
           let out : without eq es k ≡ s.0 ++ s.2
           = ap (remove_entry (eq k)) s.3.is ∙ remove_entry-here (eq k) s.1 s.2 s.3.passes s.0 s.3.before in
-          subst (IsEntries eq) (sym s.3.is)
-          (IsEntries-insert eq laws s.0 s.1 s.2
+          subst (IsEntries eq) (sym s.3.is) (IsEntries-insert eq laws s.0 s.1 s.2
           (none_equal eq laws k s.1.0 (s.0 ++ s.2) s.3.passes (subst (NonePasses (eq k)) out apart))
           (subst (IsEntries eq) out left))
 
@@ -336,8 +243,7 @@ module _ {K V S : Type 0} (eq : K → K → Bool) (old new : MapState K V S) (k 
 
   -- goal: the entries after an insert at the end, whether the key was there or not, and its answer
   pub inserts_back : (r : Result (Option V) (K × V)) → Inserts eq old new k v (length old.entries) r
-      → MatchResult r
-      (λ w. (w ≡ lookup (eq k) old.entries)
+      → MatchResult r (λ w. (w ≡ lookup (eq k) old.entries)
       × (new.entries ≡ without eq old.entries k ++ (stored_key eq old.entries k, v) ∷ []))
       (λ pair. (pair ≡ (k, v)) × (new.entries ≡ old.entries))
   inserts_back (Ok w) s =
@@ -347,7 +253,7 @@ module _ {K V S : Type 0} (eq : K → K → Bool) (old new : MapState K V S) (k 
 
   -- no two keys are equal afterwards, as each call ensures
   module _ (laws : IsEquivalence eq) (d : IsEntries eq new.entries) where
-    -- goal: the value found at the key after an insert, or a replace, that is not refused
+    -- goal: the value found at the key after an insert that is not refused
     pub lookup-inserts : (b : ℕ) (r : Result (Option V) (K × V)) → Inserts eq old new k v b r
         → OnOk r (lookup (eq k) new.entries ≡ Some v)
     lookup-inserts b (Ok w) s =
@@ -357,17 +263,7 @@ module _ {K V S : Type 0} (eq : K → K → Bool) (old new : MapState K V S) (k 
         (distinct_before eq laws old.entries k v b (subst (IsEntries eq) e d)) (laws.refl k)
     lookup-inserts b (Err pair) s = tt
 
-    pub lookup-replaces : (r : Result (Option V) (K × V)) → Replaces eq old new k v r
-        → OnOk r (lookup (eq k) new.entries ≡ Some v)
-    lookup-replaces (Ok w) s =
-        let e = replaces_entries eq old new k v w s in
-        let b = place_or_end eq old.entries k in
-        ap (lookup (eq k)) e
-        ∙ lookup-put_same eq laws k old.entries k v b
-        (distinct_before eq laws old.entries k v b (subst (IsEntries eq) e d)) (laws.refl k)
-    lookup-replaces (Err pair) s = tt
-
-    -- goal: what is found at another key after an insert, or a replace, whatever the answer
+    -- goal: what is found at another key after an insert, whatever the answer
     pub lookup-inserts_other : (b : ℕ) (q : K) → eq k q ≡ false → (r : Result (Option V) (K × V))
         → Inserts eq old new k v b r
         → lookup (eq q) new.entries ≡ lookup (eq q) old.entries
@@ -378,34 +274,6 @@ module _ {K V S : Type 0} (eq : K → K → Bool) (old new : MapState K V S) (k 
         (distinct_before eq laws old.entries k v b (subst (IsEntries eq) e d))
         ∙ rw t refl
     lookup-inserts_other b q t (Err pair) s = ap (lookup (eq q)) s.grows.entries
-
-    pub lookup-replaces_other : (q : K) → eq k q ≡ false → (r : Result (Option V) (K × V))
-        → Replaces eq old new k v r
-        → lookup (eq q) new.entries ≡ lookup (eq q) old.entries
-    lookup-replaces_other q t (Ok w) s =
-        let e = replaces_entries eq old new k v w s in
-        let b = place_or_end eq old.entries k in
-        ap (lookup (eq q)) e
-        ∙ lookup-put eq laws q old.entries k v b
-        (distinct_before eq laws old.entries k v b (subst (IsEntries eq) e d))
-        ∙ rw t refl
-    lookup-replaces_other q t (Err pair) s = ap (lookup (eq q)) s.grows.entries
-
-module _ {K V S : Type 0} (eq : K → K → Bool) (laws : IsEquivalence eq)
-    (old new : MapState K V S) (k : K) where
-  -- goal: the entries after `to_back` of a key that was there, once w was written through what it lent
-  pub moves_back_and_writes_there : (v w : V) → IsEntries eq old.entries → lookup (eq k) old.entries ≡ Some v
-      → MovesAndWrites eq old new k (length old.entries) w
-      → new.entries ≡ without eq old.entries k ++ (stored_key eq old.entries k, w) ∷ []
-  moves_back_and_writes_there v w d there s =
-      let left = without eq old.entries k in
-      let stored = stored_key eq old.entries k in
-      ap (λ m. m.entries) s.writes
-      ∙ ap (λ es. set_value (eq k) es w)
-      (s.moves.entries ∙ moved-there eq old.entries k (length old.entries) v there
-      ∙ put_back eq old.entries k v)
-      ∙ set_value-here (eq k) (stored, v) [] (stored_key-equal eq laws k old.entries) w left
-      (none_without eq laws old.entries k d)
 
 -- ---- lists of entries, written out
 
@@ -418,7 +286,7 @@ by_first (y ∷ xs) None is = absurd (none-some y is)
 by_first (y ∷ xs) (Some x) is = ap (λ z. z ∷ xs) (same_Some y x (sym is))
 
 module _ {K V : Type 0} where
-  -- goal: `lookup` in one list of entries behind another, and `set_value` there
+  -- goal: `lookup` in one list of entries behind another
   pub lookup-append : (test : K → Bool) (xs ys : List (K × V))
       → lookup test (xs ++ ys) ≡ option_or (lookup test xs) (lookup test ys)
   lookup-append test [] ys = refl
@@ -429,25 +297,6 @@ module _ {K V : Type 0} where
           ≡ option_or (cond b (Some x.1) (lookup test xs)) (lookup test ys)
       by true h = refl
       by false h = h
-
-  pub set_value-append : (test : K → Bool) (xs ys : List (K × V)) (w : V)
-      → set_value test (xs ++ ys) w
-      ≡ cond (is_some (lookup test xs)) (set_value test xs w ++ ys) (xs ++ set_value test ys w)
-  set_value-append test [] ys w = refl
-  set_value-append test (x ∷ xs) ys w = by (test x.0) (set_value-append test xs ys w)
-    where
-      further : (b : Bool) → x ∷ cond b (set_value test xs w ++ ys) (xs ++ set_value test ys w)
-          ≡ cond b (x ∷ (set_value test xs w ++ ys)) (x ∷ (xs ++ set_value test ys w))
-      further true = refl
-      further false = refl
-
-      by : (b : Bool) → set_value test (xs ++ ys) w
-          ≡ cond (is_some (lookup test xs)) (set_value test xs w ++ ys) (xs ++ set_value test ys w)
-          → cond b ((x.0, w) ∷ (xs ++ ys)) (x ∷ set_value test (xs ++ ys) w)
-          ≡ cond (is_some (cond b (Some x.1) (lookup test xs)))
-          (cond b ((x.0, w) ∷ xs) (x ∷ set_value test xs w) ++ ys) (x ∷ (xs ++ set_value test ys w))
-      by true h = refl
-      by false h = ap (λ zs. x ∷ zs) h ∙ further (is_some (lookup test xs))
 
   -- goal: the entries after the first one moved last, as by `to_back` or a cache's `get`
   pub moved_first : (test : K → Bool) (e : K × V) (es : List (K × V)) → test e.0 ≡ true
@@ -556,8 +405,7 @@ pub set_retained_where : {F T S : Type 0} (U : F → T → Bool → F → Type 0
     → (f : F) → Holds f → (old new : SetState T S) (g : F) → RetainsInOrder (at_element U) f old new g
     → elements_of new ≡ filter passes (elements_of old)
 set_retained_where U Holds passes call f h old new g r =
-    ap keys_of
-    (retained_where (at_element U) Holds (λ e. passes e.0)
+    ap keys_of (retained_where (at_element U) Holds (λ e. passes e.0)
     (λ f t v b w g h u. let c = call f t b g h u in (c.0, refl, c.1)) f h old new g r).entries
     ∙ keys-filter passes passes old.entries
 
@@ -642,8 +490,7 @@ module _ {K V : Type 0} (n : K × V → ℕ) where
       rw (lt-leb m (n e) (All-head (λ e. n e < m) e es gone))
       (filter-front m es rest (All-tail (λ e. n e < m) e es gone) left)
 
-  -- goal: the order, and a bound on the greatest number, after an insert at the end, a move to the end that
-  -- wrote w, and a removal
+  -- goal: the order, and a bound on the greatest number, after an insert at the end
   module _ {S : Type 0} (old new : MapState K V S) where
     pub ordered-inserts : (eq : K → K → Bool) (k : K) (v : V) (r : Result (Option V) (K × V))
         → Inserts eq old new k v (length old.entries) r → IsNonDecreasingBy n old.entries
@@ -652,26 +499,6 @@ module _ {K V : Type 0} (n : K × V → ℕ) where
     ordered-inserts eq k v (Ok w) s up le =
         rw ((inserts_back eq old new k v (Ok w) s).1) (ordered-put_back eq old.entries k v up le)
     ordered-inserts eq k v (Err pair) s up le = rw s.grows.entries (up, le)
-
-    pub ordered-moves_back_and_writes : (eq : K → K → Bool) → IsEquivalence eq → (k : K) (v w : V)
-        → IsEntries eq old.entries → lookup (eq k) old.entries ≡ Some v
-        → MovesAndWrites eq old new k (length old.entries) w → IsNonDecreasingBy n old.entries
-        → number_of_last old.entries ≤ n (stored_key eq old.entries k, w)
-        → IsNonDecreasingBy n new.entries × (number_of_last new.entries ≤ n (stored_key eq old.entries k, w))
-    ordered-moves_back_and_writes eq laws k v w d there s up le =
-        rw (moves_back_and_writes_there eq laws old new k v w d there s)
-        (ordered-put_back eq old.entries k w up le)
-
-    pub ordered-removes : (test : K → Bool) (r : Option (K × V)) → RemovesMatch test old new r
-        → IsNonDecreasingBy n old.entries
-        → IsNonDecreasingBy n new.entries × (number_of_last new.entries ≤ number_of_last old.entries)
-    ordered-removes test r s up =
-        let m = number_of_last old.entries in
-        rw (removes_entries old new test r s) (
-          IsNonDecreasingBy-remove_entry test old.entries up,
-          number_of_last-from_All (remove_entry test old.entries) m
-              (All-remove_entry (λ x. n x ≤ m) test old.entries (All-from_last old.entries m up (le_refl m))),
-        )
 
 -- ---- the same of a set's elements
 
@@ -696,15 +523,6 @@ module _ {T S : Type 0} (old new : SetState T S) where
           by (Some x) h = absurd (true≢false h)
   set_inserts_new eq t none (Err x) s = (ap (λ p. p.0) s.handed_back, ap keys_of s.grows.entries)
 
-  -- goal: the elements after an insert of one that is there, which moves last
-  pub set_inserts_there : (eq : T → T → Bool) (t : T) → list_any (eq t) (elements_of old) ≡ true → (b : Bool)
-      → SetInserts eq old new t (Ok b)
-      → (b ≡ false)
-      × (elements_of new ≡ remove_key (eq t) (elements_of old) ++ stored_element eq (elements_of old) t ∷ [])
-  set_inserts_there eq t there b s =
-      let e = set_inserts eq old new t b s in
-      (e.1 ∙ ap not there, e.0 ∙ put_element_back eq (elements_of old) t)
-
   -- goal: the elements after the first one moved last
   pub set_moves_first : (eq : T → T → Bool) (t : T) (rest : List T) → eq t t ≡ true
       → elements_of old ≡ t ∷ rest → (r : Option (Unit {0}))
@@ -722,29 +540,14 @@ module _ {T S : Type 0} (old new : SetState T S) where
           → elements_of new ≡ rest ++ t ∷ []
       by None s = absurd (none-some tt (s.answer ∙ there))
       by (Some w) s =
-          ap keys_of
-          (s.step.entries ∙ ap (λ es. moved_match (eq t) es (length es)) first
+          ap keys_of (s.step.entries ∙ ap (λ es. moved_match (eq t) es (length es)) first
           ∙ moved_first (eq t) (t, tt) (pairs_of rest) same)
           ∙ map-append (λ e. e.0) (pairs_of rest) ((t, tt) ∷ [])
           ∙ ap (λ ts. ts ++ t ∷ []) (keys_of-pairs_of rest)
 
--- ---- the same of a cache's entries
-
-module _ {K V S : Type 0} (eq : K → K → Bool) (old new : CacheState K V S) (k : K) (v : V) where
-  -- goal: the entries after a cache's insert, of a caller that lets the answer go
-  pub cache_put_or_not : (r : Result (Option V) (K × V)) → CacheInserts eq old new k v r
-      → (new.map.entries ≡ cache_put eq old.map.entries old.cap k v) ⊎ (new.map.entries ≡ old.map.entries)
-  cache_put_or_not (Ok w) s = inl (cache_inserts_entries eq old new k v w s)
-  cache_put_or_not (Err pair) s = inr s.map.grows.entries
-
 -- ---- the key object that is stored
 
 module _ {K V : Type 0} (eq : K → K → Bool) (es : List (K × V)) (k : K) where
-  -- goal: the stored key of an absent key is the one given
-  pub stored_key-absent : lookup (eq k) es ≡ None → stored_key eq es k ≡ k
-  stored_key-absent none = ap (λ o. unwrap_or o k)
-      (lookup_key-none (eq k) es (none_from_lookup (eq k) es none))
-
   -- goal: what is seen of the stored key is what is seen of the one given, where equal keys look alike: the
   -- very key for numbers (f is `λ x. x`), the bytes for texts (f is `string_bytes`)
   pub stored_key-seen : {B : Type 0} → IsEquivalence eq → (f : K → B)
@@ -755,24 +558,15 @@ module _ {K V : Type 0} (eq : K → K → Bool) (es : List (K × V)) (k : K) whe
 -- ---- two commands in one run
 
 module _ {K V : Type 0} (test : K → Bool) where
-  is_some-head : (b : Bool) (e : K × V) (o : Option V) (p : Option (K × V)) → is_some o ≡ is_some p
-      → is_some (cond b (Some e.1) o) ≡ is_some (cond b (Some e) p)
-  is_some-head true e o p q = refl
-  is_some-head false e o p q = q
-
   is_some-entry : (es : List (K × V)) → is_some (lookup test es) ≡ is_some (lookup_entry test es)
-  is_some-entry [] = refl
-  is_some-entry (e ∷ es) = is_some-head (test e.0) e (lookup test es) (lookup_entry test es)
-      (is_some-entry es)
+  is_some-entry es = ap is_some (lookup_is test es) ∙ is_some-map (λ e. e.1) (lookup_entry test es)
 
 module _ {K V S : Type 0} (test : K → Bool) (old new : MapState K V S) where
   shorter_without : (r : Option (K × V)) → RemovesMatch test old new r → IsSome r
       → length new.entries < length old.entries
   shorter_without None s p = absurd (true≢false (sym p))
   shorter_without (Some e) s p =
-      let left = ap length s.step.entries in
-      let fewer = s.step.fewer in
-      omega arith
+      omega (arith, ap length s.step.entries)
 
 module _ {K V B : Type 0} where
   value_of_reply : (answer : Result (Option V) (K × V))

@@ -50,8 +50,7 @@ puts_modified {K} {V} {S} eq old new k j v w u p l s = subst Put (sym l) puts
     then_put : PutsEntry eq (with_value old j w) new k u n w
     then_put = subst
         (λ o. MatchOption o (AddsEntry eq (with_value old j w) new k u n)
-        (PutsEntry eq (with_value old j w) new k u n))
-        (lookup-modified eq old.entries k j p w) s
+        (PutsEntry eq (with_value old j w) new k u n)) (lookup-modified eq old.entries k j p w) s
 
     puts : PutsEntry eq old new k u (length old.entries) v
     puts = record {
@@ -112,8 +111,7 @@ module _ {K V S F : Type 0} (eq : K → K → Bool)
       let value : u ≡ d =
       gives ∙ ap (λ x. unwrap_or (entry_value x) d) is
       ∙ ap (λ q. unwrap_or (option_and_then (value_at m.entries) q) d) p in
-      subst (PutsLast eq m new k)
-      (value ∙ sym (ap (λ q. unwrap_or (option_map step q) d) unplaced))
+      subst (PutsLast eq m new k) (value ∙ sym (ap (λ q. unwrap_or (option_map step q) d) unplaced))
       (subst (λ x. PutsLast eq x.map new x.key u) is s)
   inserts-by-place step steps (Some j) p e (v, w, at, ret, is) new u d gives s =
       let placed = lookup-place (eq k) m.entries j p ∙ at in

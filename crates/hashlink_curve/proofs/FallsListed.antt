@@ -37,61 +37,53 @@ module _ (f : ℕ → ℕ) where
   level_at cold c i h l =
       let at : i ≡ c + (i - c) = omega arith in
       let is : f i ≡ cold + sum (drop (i - c) []) = ap f at ∙ h (i - c) in
-      let none = ap sum (drop-nil {A = ℕ} (i - c)) in
-      omega arith
+      omega (arith, ap sum (drop-nil {A = ℕ} (i - c)))
+
+  -- the value at c + 1, and at c
+  first_step : (cold c n : ℕ) (ns : List ℕ) → IsLeft cold c (n ∷ ns)
+      → (f (c + 1) ≡ cold + sum ns) × (f c ≡ f (c + 1) + n)
+  first_step cold c n ns h =
+      let next : f (c + 1) ≡ cold + sum ns = h 1 in
+      let here : f (c + 0) ≡ cold + sum (n ∷ ns) = h 0 in
+      let at : c + 0 ≡ c = omega arith in
+      (next, omega (arith, sum_by-cons (λ (m : ℕ). m) n ns, ap f at))
+
+  above : (c : ℕ) (items : List (ℕ × ℕ)) → All (FallsAbove (c + 1)) items → All (FallsAbove c) items
+  above c items each k d l = let r = each k d l in (omega (arith, r.0), r.1, r.2)
 
   lists_by : (b : Bool) (cold c n : ℕ) (ns : List ℕ) (items : List (ℕ × ℕ)) → nat_eq n 0 ≡ b
-      → IsLeft cold c (n ∷ ns) → ListsFrom (c + 1) items
+      → (f (c + 1) ≡ cold + sum ns) × (f c ≡ f (c + 1) + n) → ListsFrom (c + 1) items
       → ListsFrom c (cond b items ((c + 1, cold + sum ns) ∷ items))
   lists_by true cold c n ns items zero_uses h rest =
       record {
-        each = λ k d l. let r = rest.each k d l in (omega (arith, r.0), r.1, r.2);
+        each = above c items rest.each;
         every = λ i l fall. every_by i (eq-or-lt_of_le l) fall;
         rising = rest.rising;
       }
     where
-      level : f (c + 1) ≡ f c
-      level =
-          let none : n ≡ 0 = grind (arith, nat_tests, zero_uses) in
-          let here : f (c + 0) ≡ cold + sum (n ∷ ns) = h 0 in
-          let next : f (c + 1) ≡ cold + sum ns = h 1 in
-          let more = sum_by-cons (λ (m : ℕ). m) n ns in
-          let at : c + 0 ≡ c = omega arith in
-          let same = ap f at in
-          omega arith
-
       every_by : (i : ℕ) → (c ≡ i) ⊎ (c < i) → f (i + 1) < f i → Contains items (i + 1, f (i + 1))
       every_by i (inl e) fall =
-          let a = ap f e in
-          let b = ap (λ (m : ℕ). f (m + 1)) e in
-          let l = level in
-          absurd (omega arith)
+          let none : n ≡ 0 = grind (arith, nat_tests, zero_uses) in
+          absurd (omega (arith, h.1, ap f e, ap (λ (m : ℕ). f (m + 1)) e))
       every_by i (inr l) fall = rest.every i (omega arith) fall
   lists_by false cold c n ns items some_uses h rest =
       record {
-        each = All-cons (FallsAbove c) (c + 1, cold + sum ns) items first_falls
-            (λ k d l. let r = rest.each k d l in (omega (arith, r.0), r.1, r.2));
+        each = All-cons (FallsAbove c) (c + 1, cold + sum ns) items first_falls (above c items rest.each);
         every = λ i l fall. every_by i (eq-or-lt_of_le l) fall;
         rising = AllPairs-cons (λ a b. a.0 < b.0) (c + 1, cold + sum ns) items
             (λ k d l. (rest.each k d l).0) rest.rising;
       }
     where
-      next : f (c + 1) ≡ cold + sum ns
-      next = h 1
-
       first_falls : FallsAbove c (c + 1, cold + sum ns)
       first_falls =
           let some : 0 < n = grind (arith, nat_tests, some_uses) in
-          let here : f (c + 0) ≡ cold + sum (n ∷ ns) = h 0 in
-          let more = sum_by-cons (λ (m : ℕ). m) n ns in
-          let at : c + 1 - 1 ≡ c + 0 = omega arith in
-          let same = ap f at in
-          (omega arith, sym next, omega arith)
+          let at : c + 1 - 1 ≡ c = omega arith in
+          (omega arith, sym h.0, omega (arith, h.0, h.1, ap f at))
 
       every_by : (i : ℕ) → (c ≡ i) ⊎ (c < i) → f (i + 1) < f i
           → Contains ((c + 1, cold + sum ns) ∷ items) (i + 1, f (i + 1))
       every_by i (inl e) fall =
-          (0, omega arith, ap (λ m. (c + 1, m)) (sym next) ∙ ap (λ (m : ℕ). (m + 1, f (m + 1))) e)
+          (0, omega arith, ap (λ m. (c + 1, m)) (sym h.0) ∙ ap (λ (m : ℕ). (m + 1, f (m + 1))) e)
       every_by i (inr l) fall =
           Contains-later (c + 1, cold + sum ns) items (i + 1, f (i + 1)) (rest.every i (omega arith) fall)
 
@@ -106,7 +98,7 @@ module _ (f : ℕ → ℕ) where
         rising = λ i j d l m. absurd (omega arith);
       }
   lists_from cold c (n ∷ ns) h =
-      lists_by (nat_eq n 0) cold c n ns (falls_from cold (c + 1) ns) refl h
+      lists_by (nat_eq n 0) cold c n ns (falls_from cold (c + 1) ns) refl (first_step cold c n ns h)
       (lists_from cold (c + 1) ns (left_after cold c n ns h))
 
 -- the falls of a curve

@@ -1,26 +1,30 @@
 -- One more use of a key: which distance it has, and which caches miss it.
-use Rattle.std.proofs.Common.{◌≡◌, ℕ, zero, suc, ◌+◌, ◌≤◌, ◌<◌, Bool, true, false, ◌&&◌, ◌||◌, cond, List, []}
-use Rattle.std.proofs.Common.{◌∷◌, ◌++◌, length, drop, nat_lt, None, Some, refl, sym, ap, ap₂, ◌∙◌, subst}
-use Rattle.std.proofs.Common.{subst₂, arith, append_assoc, length-append, true≢false, get_or, set, add-zero}
-use Rattle.std.proofs.Common.{Option}
+use Rattle.std.proofs.Common.{◌≡◌, ℕ, zero, suc, ◌+◌, ◌≤◌, ◌<◌, ◌⊎◌, inl, inr, Bool, true, false, ◌&&◌, ◌||◌}
+use Rattle.std.proofs.Common.{cond, List, [], ◌∷◌, ◌++◌, length, take, drop, nat_lt, Option, None, Some, refl}
+use Rattle.std.proofs.Common.{sym, ap, ap₂, ◌∙◌, subst, subst₂, arith, append_assoc, length-append}
+use Rattle.std.proofs.Common.{true≢false, get_or, set}
 use Rattle.std.specs.Prelude.{sum}
 use Rattle.std.specs.Cmp.{IsEquivalence}
 use Rattle.std.specs.List.{AllZip, after_last, list_any}
 use Rattle.std.specs.Set.{is_member, unique_keys, remove_key, distinct_count}
 use Rattle.std.proofs.Math.Path.{fun_ext}
 use Rattle.std.proofs.Math.Seq.{drop-nil}
+use Rattle.std.proofs.lemmas.Bool.{lt-ltb, le-ltb}
 use Rattle.std.proofs.lemmas.Bool.Decides.{nat_tests}
-use Rattle.std.proofs.lemmas.List.{append-nil}
-use Rattle.std.proofs.lemmas.List.Sums.{sum_by-cons}
+use Rattle.std.proofs.lemmas.Grind.{get_or_default_zero}
+use Rattle.std.proofs.lemmas.List.{append-nil, drop_all}
+use Rattle.std.proofs.lemmas.List.Folds.{list_any-append}
+use Rattle.std.proofs.lemmas.List.Sums.{sum_by-append, sum_by-set, sum_by-take-drop}
 use Rattle.hashlink_model.specs.Entries.{IsKeyTest}
 use Rattle.hashlink_history.specs.History.{reuse_distance, cache_misses, cache_misses_from}
-use Rattle.hashlink_model.proofs.Members.{is_member-append, none_from_is_member, is_member_from_none}
+use Rattle.hashlink_model.proofs.Members.{none_from_is_member, is_member_from_none}
 use Rattle.hashlink_history.proofs.Recency.{zip_push, zip_length, remove_key-left, remove_key-right}
 use Rattle.hashlink_history.proofs.Recency.{is_member-unique, unique_keys-push, last_use, unique_keys-last}
 use Rattle.hashlink_history.proofs.Recency.{after_last-here}
 use Rattle.hashlink_model.proofs.Distinct.{answers_alike}
 use Rattle.hashlink_curve.specs.Curve.{CurveState, Counted, Counts, distance_of, misses_at}
 use Rattle.hashlink_curve.specs.Recency.{MovesPast, GoesLast}
+use Rattle.hashlink_curve.proofs.Sums.{below_or_at, sum-set-after, sum-set-before, sum-take-le}
 
 -- ---- what a cache of c places misses of one use more
 
@@ -33,32 +37,20 @@ module _ {K : Type 0} (eq : K → K → Bool) where
       → cache_misses_from eq c before (used ++ k ∷ [])
       ≡ cache_misses_from eq c before used + missed c (before ++ used) k
   misses_from-push c before [] k =
-      let a = ap (λ zs. missed c zs k) (append-nil before) in
-      omega arith
+      omega (arith, ap (λ zs. missed c zs k) (append-nil before))
   misses_from-push c before (u ∷ used) k =
       let h = misses_from-push c (before ++ u ∷ []) used k in
-      let a = ap (λ zs. missed c zs k) (append_assoc before (u ∷ []) used) in
-      omega arith
+      omega (arith, ap (λ zs. missed c zs k) (append_assoc before (u ∷ []) used))
 
   pub cache_misses-push : (c : ℕ) (used : List K) (k : K)
       → cache_misses eq c (used ++ k ∷ []) ≡ cache_misses eq c used + missed c used k
   cache_misses-push c used k = misses_from-push c [] used k
 
-  abbrev one_unless : Bool → ℕ
-  one_unless b = cond b 0 1
-
-  none_held : (b : Bool) (n : ℕ) → one_unless (b && nat_lt n 0) ≡ 1
-  none_held true n =
-      let no : nat_lt n 0 ≡ false = grind (arith, nat_tests) in
-      ap one_unless no
-  none_held false n = refl
-
   misses_from-none : (before used : List K) → cache_misses_from eq 0 before used ≡ length used
   misses_from-none before [] = refl
   misses_from-none before (u ∷ used) =
-      let h = misses_from-none (before ++ u ∷ []) used in
-      let a : missed 0 before u ≡ 1 = none_held (is_member eq before u) (reuse_distance eq before u) in
-      omega arith
+      let a : missed 0 before u ≡ 1 = grind (arith, nat_tests) in
+      omega (arith, misses_from-none (before ++ u ∷ []) used)
 
   -- a cache without a place misses all
   pub cache_misses-none : (used : List K) → cache_misses eq 0 used ≡ length used
@@ -66,77 +58,49 @@ module _ {K : Type 0} (eq : K → K → Bool) where
 
 -- ---- sums from a place on
 
+sum-take-drop : (ns : List ℕ) (c : ℕ) → sum (take c ns) + sum (drop c ns) ≡ sum ns
+sum-take-drop ns c = sum_by-take-drop (λ (m : ℕ). m) ns c
+
+sum-one-more : (ns : List ℕ) (d : ℕ) → d < length ns → sum (set ns d (get_or ns d 0 + 1)) ≡ sum ns + 1
+sum-one-more ns d l = omega (arith, sum_by-set (λ (m : ℕ). m) ns d (get_or ns d 0 + 1) 0 l)
+
 pub sum-drop-push : (c : ℕ) (ns : List ℕ) → sum (drop c (ns ++ 0 ∷ [])) ≡ sum (drop c ns)
-sum-drop-push zero [] = refl
+sum-drop-push zero ns = omega (arith, sum_by-append (λ (m : ℕ). m) ns (0 ∷ []))
 sum-drop-push (suc c) [] = ap sum (drop-nil c) ∙ sym (ap sum (drop-nil (suc c)))
-sum-drop-push zero (n ∷ ns) =
-    let a = sum_by-cons (λ (m : ℕ). m) n (ns ++ 0 ∷ []) in
-    let b = sum_by-cons (λ (m : ℕ). m) n ns in
-    let h : sum (ns ++ 0 ∷ []) ≡ sum ns = sum-drop-push zero ns in
-    omega arith
 sum-drop-push (suc c) (n ∷ ns) = sum-drop-push c ns
-
-abbrev unless_below : ℕ → ℕ → ℕ
-unless_below d c = cond (nat_lt d c) 0 1
-
-unless_below-none : (d : ℕ) → unless_below d 0 ≡ 1
-unless_below-none d =
-    let no : nat_lt d 0 ≡ false = grind (arith, nat_tests) in
-    ap (λ b. value_unless b) no
-  where
-    value_unless : Bool → ℕ
-    value_unless b = cond b 0 1
-
-unless_below-suc : (d c : ℕ) → unless_below (suc d) (suc c) ≡ unless_below d c
-unless_below-suc d c = grind (arith, nat_tests)
-
-unless_below-first : (c : ℕ) → unless_below 0 (suc c) ≡ 0
-unless_below-first c = grind (arith, nat_tests)
-
-sum-more : (d : ℕ) (ns : List ℕ) → d < length ns → sum (set ns d (get_or ns d 0 + 1)) ≡ sum ns + 1
-sum-more d [] l = absurd (omega arith)
-sum-more zero (n ∷ ns) l =
-    let a = sum_by-cons (λ (m : ℕ). m) (n + 1) ns in
-    let b = sum_by-cons (λ (m : ℕ). m) n ns in
-    omega arith
-sum-more (suc d) (n ∷ ns) l =
-    let a = sum_by-cons (λ (m : ℕ). m) n (set ns d (get_or ns d 0 + 1)) in
-    let b = sum_by-cons (λ (m : ℕ). m) n ns in
-    let h = sum-more d ns (omega arith) in
-    omega arith
 
 pub sum-drop-more : (c d : ℕ) (ns : List ℕ) → d < length ns
     → sum (drop c (set ns d (get_or ns d 0 + 1))) ≡ sum (drop c ns) + cond (nat_lt d c) 0 1
-sum-drop-more c d [] l = absurd (omega arith)
-sum-drop-more zero d (n ∷ ns) l =
-    sum-more d (n ∷ ns) l ∙ ap (λ m. sum (n ∷ ns) + m) (sym (unless_below-none d))
-sum-drop-more (suc c) zero (n ∷ ns) l =
-    sym (add-zero (sum (drop c ns))) ∙ ap (λ m. sum (drop c ns) + m) (sym (unless_below-first c))
-sum-drop-more (suc c) (suc d) (n ∷ ns) l =
-    sum-drop-more c d ns (omega arith) ∙ ap (λ m. sum (drop c ns) + m) (sym (unless_below-suc d c))
+sum-drop-more c d ns l = by (below_or_at d c)
+  where
+    new : List ℕ
+    new = set ns d (get_or ns d 0 + 1)
+
+    by : (d < c) ⊎ (c ≤ d) → sum (drop c new) ≡ sum (drop c ns) + cond (nat_lt d c) 0 1
+    by (inl k) =
+        let taken = sum-set-after ns d (get_or ns d 0 + 1) c l k in
+        rw (lt-ltb d c k) (omega (arith, taken, sum-take-drop new c, sum-take-drop ns c, sum-one-more ns d l))
+    by (inr k) =
+        let taken = sum-set-before ns d (get_or ns d 0 + 1) c k in
+        rw (le-ltb d c k) (omega (arith, taken, sum-take-drop new c, sum-take-drop ns c, sum-one-more ns d l))
 
 pub sum-drop-all : (c : ℕ) (ns : List ℕ) → length ns ≤ c → sum (drop c ns) ≡ 0
-sum-drop-all c [] l = ap sum (drop-nil c)
-sum-drop-all zero (n ∷ ns) l = absurd (omega arith)
-sum-drop-all (suc c) (n ∷ ns) l = sum-drop-all c ns (omega arith)
+sum-drop-all c ns l = ap sum (drop_all c ns l)
 
 pub sum-drop-falls : (c d : ℕ) (ns : List ℕ) → c ≤ d → sum (drop d ns) ≤ sum (drop c ns)
-sum-drop-falls c d [] l =
-    let a = ap sum (drop-nil {A = ℕ} c) in
-    let b = ap sum (drop-nil {A = ℕ} d) in
-    omega arith
-sum-drop-falls zero zero (n ∷ ns) l = omega arith
-sum-drop-falls (suc c) zero (n ∷ ns) l = absurd (omega arith)
-sum-drop-falls zero (suc d) (n ∷ ns) l =
-    let h : sum (drop d ns) ≤ sum ns = sum-drop-falls zero d ns (omega arith) in
-    let a = sum_by-cons (λ (m : ℕ). m) n ns in
-    first_falls (sum (drop d ns)) (sum ns) (sum (n ∷ ns)) n h a
-  where
-    first_falls : (a b c n : ℕ) → a ≤ b → c ≡ n + b → a ≤ c
-    first_falls a b c n l e = omega arith
-sum-drop-falls (suc c) (suc d) (n ∷ ns) l = sum-drop-falls c d ns (omega arith)
+sum-drop-falls c d ns l = omega (arith, sum-take-le ns c d l, sum-take-drop ns c, sum-take-drop ns d)
 
 -- ---- keys up to equality
+
+or_true : (b : Bool) → (b || true) ≡ true
+or_true true = refl
+or_true false = refl
+
+pub list_any-here : {X : Type 0} (test : X → Bool) (xs : List X) (x : X) (ys : List X) → test x ≡ true
+    → list_any test (xs ++ x ∷ ys) ≡ true
+list_any-here test xs x ys t =
+    list_any-append test xs (x ∷ ys) ∙ ap (λ b. list_any test xs || (b || list_any test ys)) t
+    ∙ or_true (list_any test xs)
 
 module _ {K : Type 0} (eq : K → K → Bool) (laws : IsEquivalence eq) where
   abbrev Alike : List K → List K → Type 0
@@ -161,16 +125,6 @@ module _ {K : Type 0} (eq : K → K → Bool) (laws : IsEquivalence eq) where
       by true h = z.1
       by false h = (z.0, h)
 
-  or_true : (b : Bool) → (b || true) ≡ true
-  or_true true = refl
-  or_true false = refl
-
-  there : (k : K) (us : List K) (u : K) (vs : List K) → eq k u ≡ true → is_member eq (us ++ u ∷ vs) k ≡ true
-  there k us u vs s =
-      is_member-append eq laws us (u ∷ vs) k
-      ∙ ap (λ b. is_member eq us k || (b || is_member eq vs k)) s
-      ∙ or_true (is_member eq us k)
-
   -- the last key that is equal to k stands at the same place of both
   zip_behind : (k : K) (xs : List K) (x : K) (ys us : List K) (u : K) (vs : List K)
       → Alike (xs ++ x ∷ ys) (us ++ u ∷ vs) → eq k x ≡ true → eq k u ≡ true
@@ -178,9 +132,10 @@ module _ {K : Type 0} (eq : K → K → Bool) (laws : IsEquivalence eq) where
       → length ys ≡ length vs
   zip_behind k [] x ys [] u vs z t s n m = zip_length _ ys vs z.1
   zip_behind k [] x ys (a ∷ us) u vs z t s n m =
-      absurd (true≢false (sym (there k us u vs s) ∙ sym (zip_member k ys (us ++ u ∷ vs) z.1) ∙ n))
+      absurd
+      (true≢false (sym (list_any-here (eq k) us u vs s) ∙ sym (zip_member k ys (us ++ u ∷ vs) z.1) ∙ n))
   zip_behind k (a ∷ xs) x ys [] u vs z t s n m =
-      absurd (true≢false (sym (there k xs x ys t) ∙ zip_member k (xs ++ x ∷ ys) vs z.1 ∙ m))
+      absurd (true≢false (sym (list_any-here (eq k) xs x ys t) ∙ zip_member k (xs ++ x ∷ ys) vs z.1 ∙ m))
   zip_behind k (a ∷ xs) x ys (b ∷ us) u vs z t s n m = zip_behind k xs x ys us u vs z.1 t s n m
 
   -- ---- the curve after one use more
@@ -213,24 +168,21 @@ module _ {K : Type 0} (eq : K → K → Bool) (laws : IsEquivalence eq) where
               let b : missed eq c used k ≡ 1
               = missed_by c used k false (reuse_distance eq used k) unused refl in
               let d = h.misses c in
-              let e = ap length g.last in
               let f = length-append old.keys (k ∷ []) in
-              let i = ap (λ zs. sum (drop c zs)) n in
-              let j = sum-drop-push c old.reuses in
-              omega arith;
+              omega (arith, ap length g.last, ap (λ zs. sum (drop c zs)) n, sum-drop-push c old.reuses);
         },
         sym (ap (λ b. cond b (Some (reuse_distance eq used k)) None) unused),
       )
 
-  pub Counted-again : (used : List K) (old new : CurveState K) (k : K) (d : ℕ)
+  pub Counted-again : (used : List K) (old new : CurveState K) (k : K) (d read : ℕ)
       → MovesPast (eq k) old.keys new.keys d → length old.reuses ≡ length old.keys
-      → new.reuses ≡ set old.reuses d (get_or old.reuses d 0 + 1) → Counted eq used old
+      → read ≡ get_or old.reuses d read → new.reuses ≡ set old.reuses d (read + 1) → Counted eq used old
       → Counted eq (used ++ k ∷ []) new × (Some d ≡ distance_of eq used k)
-  Counted-again used old new k d p long n h =
+  Counted-again used old new k d read p long is_read n h =
       let split = subst (λ zs. Alike zs (unique_keys eq used)) p.split h.keys in
       let held : is_member eq (unique_keys eq used) k ≡ true
       = sym (zip_member k (p.front ++ p.key ∷ p.back) (unique_keys eq used) split)
-      ∙ there k p.front p.key p.back p.passes
+      ∙ list_any-here (eq k) p.front p.key p.back p.passes
       in
       let used_before : is_member eq used k ≡ true = sym (is_member-unique eq laws used k) ∙ held in
       let s = last_use eq laws used k used_before in
@@ -255,18 +207,16 @@ module _ {K : Type 0} (eq : K → K → Bool) (laws : IsEquivalence eq) where
               (laws.symm p.key k ∙ p.passes));
           misses = λ c.
               let a = cache_misses-push eq c used k in
-              let b : missed eq c used k ≡ unless_below d c =
+              let b : missed eq c used k ≡ cond (nat_lt d c) 0 1 =
               missed_by c used k true d used_before distance in
               let e = h.misses c in
-              let f = ap length p.moved in
-              let f2 = length-append (p.front ++ p.back) (p.key ∷ []) in
-              let f3 = length-append p.front p.back in
-              let g = ap length p.split in
-              let g2 = length-append p.front (p.key ∷ p.back) in
-              let i = ap (λ zs. sum (drop c zs)) n in
-              let q = p.count in
+              let f = ap length p.moved ∙ length-append (p.front ++ p.back) (p.key ∷ []) in
+              let f2 = length-append p.front p.back in
+              let g = ap length p.split ∙ length-append p.front (p.key ∷ p.back) in
+              let zero = is_read ∙ get_or_default_zero old.reuses d read (omega arith) in
+              let i = ap (λ zs. sum (drop c zs)) (n ∙ ap (λ m. set old.reuses d (m + 1)) zero) in
               let j : sum (drop c (set old.reuses d (get_or old.reuses d 0 + 1)))
-              ≡ sum (drop c old.reuses) + unless_below d c
+              ≡ sum (drop c old.reuses) + cond (nat_lt d c) 0 1
               = sum-drop-more c d old.reuses (omega arith) in
               omega arith;
         },
@@ -274,11 +224,6 @@ module _ {K : Type 0} (eq : K → K → Bool) (laws : IsEquivalence eq) where
       )
 
   -- ---- keys that pass a test, and keys that are equal
-
-  pub list_any-last : (test : K → Bool) (ks : List K) (k : K) → test k ≡ true
-      → list_any test (ks ++ k ∷ []) ≡ true
-  list_any-last test [] k t = ap (λ b. b || false) t
-  list_any-last test (q ∷ ks) k t = ap (λ b. test q || b) (list_any-last test ks k t) ∙ or_true (test q)
 
   -- a test that passes a key is the equality with it
   pub test_is : (test : K → Bool) → IsKeyTest eq test → (k : K) → test k ≡ true → test ≡ eq k

@@ -1,7 +1,7 @@
 -- Keys at rising places: what a use of one finds, and new places for all.
 use Rattle.std.proofs.Common.{◌≡◌, ℕ, suc, ◌+◌, ◌-◌, ◌≤◌, ◌<◌, Bool, true, false, cond, List, [], ◌∷◌, ◌++◌}
-use Rattle.std.proofs.Common.{length, Option, None, Some, Ok, Err, refl, sym, ap, ap₂, ◌∙◌, subst, arith}
-use Rattle.std.proofs.Common.{append_assoc, length-append, get_or, subst₂, ◌||◌}
+use Rattle.std.proofs.Common.{length, None, Some, Err, refl, sym, ap, ap₂, ◌∙◌, subst, arith}
+use Rattle.std.proofs.Common.{append_assoc, length-append, get_or, ◌||◌}
 use Rattle.std.specs.Prelude.{nat_eq, nat_lt}
 use Rattle.std.specs.Cmp.{IsEquivalence}
 use Rattle.std.specs.List.{count_by, list_any}
@@ -12,17 +12,18 @@ use Rattle.std.proofs.lemmas.Map.{NonePasses}
 use Rattle.std.proofs.lemmas.Option.{none-some, same_Some}
 use Rattle.hashlink_model.specs.Entries.{IsEntries, IsKeyTest, put, stored_key, without}
 use Rattle.hashlink_model.specs.MapState.{MapState, Inserts}
-use Rattle.hashlink_model.specs.Steps.{MovesAndWrites, MovesMatchAndWrites, PopsFront}
-use Rattle.hashlink_model.specs.Walk.{first_of, after_first_of}
+use Rattle.hashlink_model.specs.Steps.{MovesMatchAndWrites, PopsFront}
+use Rattle.hashlink_model.specs.Walk.{first_of}
+use Rattle.hashlink_model.proofs.Pops.{pops_front}
 use Rattle.hashlink_model.proofs.Splits.{stands_from_lookup, lookup-none, lookup-here, none_from_lookup}
 use Rattle.hashlink_model.proofs.Splits.{key_from_lookup, set_value-here}
 use Rattle.hashlink_model.proofs.Distinct.{IsEntries-head, none_equal, none_others}
 use Rattle.hashlink_model.proofs.ByPlace.{moved-there}
 use Rattle.hashlink_model.proofs.Finds.{stored_key-equal}
-use Rattle.hashlink_model.proofs.Puts.{none_without, put_back, put_back_absent, put_back_here}
+use Rattle.hashlink_model.proofs.Puts.{none_without, put_back, put_back_here}
 use Rattle.hashlink_curve.specs.Marks.{Marked}
 use Rattle.hashlink_curve.specs.Recency.{Rises, IsPlaced, MovesPast, MovesLast, GoesLast}
-use Rattle.hashlink_curve.proofs.Sums.{count_by-cons, count_by-middle}
+use Rattle.hashlink_curve.proofs.Sums.{count_by-middle, count_by-no, count_by-yes}
 
 module _ {K : Type 0} where
   -- ---- rising places
@@ -32,16 +33,12 @@ module _ {K : Type 0} where
       → low ≤ e.1
   rises_first low [] e ys next r = r.0
   rises_first low (x ∷ xs) e ys next r =
-      let a = r.0 in
-      let b = rises_first (x.1 + 1) xs e ys next r.1 in
-      omega arith
+      omega (arith, rises_first (x.1 + 1) xs e ys next r.1)
 
   pub rises_ends : (low : ℕ) (es : List (K × ℕ)) (next : ℕ) → Rises low es next → low ≤ next
   rises_ends low [] next r = r
   rises_ends low (x ∷ es) next r =
-      let a = r.0 in
-      let b = rises_ends (x.1 + 1) es next r.1 in
-      omega arith
+      omega (arith, rises_ends (x.1 + 1) es next r.1)
 
   rises_lower : (low high : ℕ) (es : List (K × ℕ)) (next : ℕ) → low ≤ high → Rises high es next
       → Rises low es next
@@ -67,30 +64,16 @@ module _ {K : Type 0} where
       → count_by (λ p. nat_lt p x) (values_of es) ≡ 0
   none_below low x [] next r l = refl
   none_below low x (e ∷ es) next r l =
-      let a = r.0 in
-      let no : nat_lt e.1 x ≡ false = grind (arith, nat_tests) in
-      let n = ap one_if no in
-      let b = none_below (e.1 + 1) x es next r.1 (omega arith) in
-      let d = count_by-cons (λ p. nat_lt p x) e.1 (values_of es) in
-      omega arith
-    where
-      one_if : Bool → ℕ
-      one_if b = cond b 1 0
+      count_by-no (λ p. nat_lt p x) e.1 (values_of es) (grind (arith, nat_tests))
+      ∙ none_below (e.1 + 1) x es next r.1 (omega arith)
 
   count_before : (low : ℕ) (xs : List (K × ℕ)) (e : K × ℕ) (ys : List (K × ℕ)) (next : ℕ)
       → Rises low (xs ++ e ∷ ys) next → count_by (λ p. nat_lt p e.1) (values_of (xs ++ e ∷ ys)) ≡ length xs
-  count_before low [] e ys next r =
-      let a = none_below e.1 e.1 (e ∷ ys) next (omega arith, r.1) (omega arith) in a
+  count_before low [] e ys next r = none_below e.1 e.1 (e ∷ ys) next (omega arith, r.1) (omega arith)
   count_before low (x ∷ xs) e ys next r =
       let a = rises_first (x.1 + 1) xs e ys next r.1 in
-      let yes : nat_lt x.1 e.1 ≡ true = grind (arith, nat_tests) in
-      let n = ap one_if yes in
-      let b = count_before (x.1 + 1) xs e ys next r.1 in
-      let d = count_by-cons (λ p. nat_lt p e.1) x.1 (values_of (xs ++ e ∷ ys)) in
-      omega arith
-    where
-      one_if : Bool → ℕ
-      one_if b = cond b 1 0
+      count_by-yes (λ p. nat_lt p e.1) x.1 (values_of (xs ++ e ∷ ys)) (grind (arith, nat_tests))
+      ∙ ap suc (count_before (x.1 + 1) xs e ys next r.1)
 
   -- the place after all is free
   none_at : (low : ℕ) (es : List (K × ℕ)) (next : ℕ) → Rises low es next
@@ -98,27 +81,25 @@ module _ {K : Type 0} where
   none_at low [] next r = refl
   none_at low (e ∷ es) next r =
       let a = rises_ends (e.1 + 1) es next r.1 in
-      let no : nat_eq next e.1 ≡ false = grind (arith, nat_tests) in
-      let n = ap one_if no in
-      let b = none_at (e.1 + 1) es next r.1 in
-      let d = count_by-cons (nat_eq next) e.1 (values_of es) in
-      omega arith
-    where
-      one_if : Bool → ℕ
-      one_if b = cond b 1 0
+      count_by-no (nat_eq next) e.1 (values_of es) (grind (arith, nat_tests))
+      ∙ none_at (e.1 + 1) es next r.1
 
   pub free_at : (es : List (K × ℕ)) (next : ℕ) (row : List ℕ) → Rises 0 es next → Marked row (values_of es)
       → next < length row → get_or row next 0 ≡ 0
   free_at es next row r m l = m.each next l ∙ none_at 0 es next r
 
-  pub values_of-middle : (xs : List (K × ℕ)) (e : K × ℕ) (ys : List (K × ℕ))
-      → values_of (xs ++ e ∷ ys) ≡ values_of xs ++ e.1 ∷ values_of ys
-  values_of-middle xs e ys = map-append (λ e. e.1) xs (e ∷ ys)
-
   pub list_any-keys : (test : K → Bool) (es : List (K × ℕ)) → NonePasses test es
       → list_any test (keys_of es) ≡ false
   list_any-keys test [] n = refl
   list_any-keys test (e ∷ es) n = ap₂ (λ a b. a || b) n.0 (list_any-keys test es n.1)
+
+  -- a mark at the place of one more entry
+  marked_last : (es : List (K × ℕ)) (k : K) (n : ℕ) (row after : List ℕ)
+      → ((xs ys : List ℕ) → Marked row (xs ++ ys) → Marked after (xs ++ n ∷ ys))
+      → Marked row (values_of es) → Marked after (values_of (es ++ (k, n) ∷ []))
+  marked_last es k n row after marks m =
+      subst (Marked after) (sym (map-append (λ e. e.1) es ((k, n) ∷ [])))
+      (marks (values_of es) [] (subst (Marked row) (sym (append-nil (values_of es))) m))
 
   keys_of-append : (xs ys : List (K × ℕ)) → keys_of (xs ++ ys) ≡ keys_of xs ++ keys_of ys
   keys_of-append xs ys = map-append (λ e. e.0) xs ys
@@ -139,7 +120,8 @@ module _ {K : Type 0} (eq : K → K → Bool) (laws : IsEquivalence eq) where
     pub equal : eq k key ≡ true
     pub none : NonePasses (eq k) front
     pub none_after : NonePasses (eq k) back
-    pub below : place < next
+    pub within : place < length row
+    pub long : length es ≡ length front + suc (length back)
     pub before : count_by (λ p. nat_lt p place) (values_of es) ≡ length front
     pub values : values_of es ≡ values_of front ++ place ∷ values_of back
     pub marked : 0 < get_or row place 0
@@ -156,14 +138,12 @@ module _ {K : Type 0} (eq : K → K → Bool) (laws : IsEquivalence eq) where
       let e : K × ℕ = (s.1.0, place) in
       let r = subst (λ zs. Rises 0 zs next) is p.rises in
       let others = none_others eq laws s.0 e s.2 (subst (IsEntries eq) is p.distinct) in
-      let values = ap values_of is ∙ values_of-middle s.0 e s.2 in
+      let values = ap values_of is ∙ map-append (λ e. e.1) s.0 (e ∷ s.2) in
       let below = rises_below 0 s.0 e s.2 next r in
-      let w = p.within in
       let each = p.marked.each place (omega arith) in
       let here = ap (count_by (nat_eq place)) values in
       let more = count_by-middle (nat_eq place) (values_of s.0) place (values_of s.2) in
-      let yes : nat_eq place place ≡ true = grind (arith, nat_tests) in
-      let one = ap one_if yes in
+      let one : ◌≡◌ {A = ℕ} (cond (nat_eq place place) 1 0) 1 = grind (arith, nat_tests) in
       record {
         front = s.0;
         key = s.1.0;
@@ -173,15 +153,13 @@ module _ {K : Type 0} (eq : K → K → Bool) (laws : IsEquivalence eq) where
         none = s.3.before;
         none_after = none_equal eq laws s.1.0 k s.2 (laws.symm s.1.0 k ∙ s.3.passes)
             (none_right (eq s.1.0) s.0 s.2 others);
-        below = below;
+        within = omega arith;
+        long = ap length is ∙ length-append s.0 (e ∷ s.2);
         before = ap (λ zs. count_by (λ p. nat_lt p place) (values_of zs)) is
             ∙ count_before 0 s.0 e s.2 next r;
         values = values;
         marked = omega arith;
       }
-    where
-      one_if : Bool → ℕ
-      one_if b = cond b 1 0
 
   -- the same of the key that passed a test and moved last
   pub found_match : (test : K → Bool) (es new : List (K × ℕ)) (row : List ℕ) (next place w : ℕ)
@@ -190,120 +168,102 @@ module _ {K : Type 0} (eq : K → K → Bool) (laws : IsEquivalence eq) where
   found_match test es new row next place w p l m =
       found es row next m.key place p (subst (λ t. lookup t es ≡ Some place) m.tells l)
 
-  -- after it the key is the last, at the next place
-  pub found_moves : (es new : List (K × ℕ)) (row : List ℕ) (next : ℕ) (k : K) (place others : ℕ)
-      → (f : Found es row next k place) → new ≡ put eq es k next (length es) → others
-      ≡ length es - 1 - length f.front
-      → MovesPast (eq k) (keys_of es) (keys_of new) others
-  found_moves es new row next k place others f n o =
-      let e : K × ℕ = (f.key, place) in
-      let there : new ≡ (f.front ++ f.back) ++ (f.key, next) ∷ []
-      = n ∙ ap (λ zs. put eq zs k next (length zs)) f.is
-      ∙ put_back_here eq f.front e f.back k next f.equal f.none in
-      let a = ap length f.is in
-      let d = length-append f.front (e ∷ f.back) in
-      let m = length-map f.back (λ e. e.0) in
-      record {
-        front = keys_of f.front;
-        key = f.key;
-        back = keys_of f.back;
-        split = ap keys_of f.is ∙ keys_of-append f.front (e ∷ f.back);
-        passes = f.equal;
-        none_before = list_any-keys (eq k) f.front f.none;
-        none_after = list_any-keys (eq k) f.back f.none_after;
-        moved = ap keys_of there ∙ keys_of-append (f.front ++ f.back) ((f.key, next) ∷ [])
-            ∙ ap (λ zs. zs ++ f.key ∷ []) (keys_of-append f.front f.back);
-        count = omega arith;
-      }
-
-  pub found_placed : (es new : List (K × ℕ)) (row after : List ℕ) (next : ℕ) (k : K) (place : ℕ)
-      → IsPlaced eq es row next
-      → (f : Found es row next k place) → new ≡ put eq es k next (length es) → IsEntries eq new
-      → Marked after ((values_of f.front ++ values_of f.back) ++ next ∷ [])
-      → next < length after
+  -- the key goes last, with the next place, at which a mark is set
+  pub placed_last : (es new : List (K × ℕ)) (row after : List ℕ) (next : ℕ) (k : K) → Rises 0 es next
+      → Marked row (values_of es) → new ≡ es ++ (k, next) ∷ [] → IsEntries eq new
+      → ((xs ys : List ℕ) → Marked row (xs ++ ys) → Marked after (xs ++ next ∷ ys)) → next < length after
       → IsPlaced eq new after (next + 1)
-  found_placed es new row after next k place p f n d m w =
-      let e : K × ℕ = (f.key, place) in
-      let there : new ≡ (f.front ++ f.back) ++ (f.key, next) ∷ []
-      = n ∙ ap (λ zs. put eq zs k next (length zs)) f.is
-      ∙ put_back_here eq f.front e f.back k next f.equal f.none in
-      let r = rises_middle 0 f.front e f.back next (subst (λ zs. Rises 0 zs next) f.is p.rises) in
+  placed_last es new row after next k r m there d marks l =
       record {
         distinct = d;
-        rises = subst (λ zs. Rises 0 zs (next + 1)) (sym there)
-            (rises_push 0 (f.front ++ f.back) f.key next r);
-        marked = subst (Marked after)
-            (ap (λ zs. zs ++ next ∷ []) (sym (map-append (λ e. e.1) f.front f.back))
-            ∙ sym (map-append (λ e. e.1) (f.front ++ f.back) ((f.key, next) ∷ [])) ∙ ap values_of (sym there))
-            m;
+        rises = subst (λ zs. Rises 0 zs (next + 1)) (sym there) (rises_push 0 es k next r);
+        marked = subst (λ zs. Marked after (values_of zs)) (sym there)
+            (marked_last es k next row after marks m);
         within = omega arith;
       }
 
-  -- once the place of its last use has no mark
-  pub found_free : (es : List (K × ℕ)) (row after : List ℕ) (next : ℕ) (k : K) (place : ℕ)
-      → IsPlaced eq es row next → (f : Found es row next k place)
-      → Marked after (values_of f.front ++ values_of f.back) → next < length after
-      → get_or after next 0 ≡ 0
-  found_free es row after next k place p f m l =
-      let e : K × ℕ = (f.key, place) in
-      free_at (f.front ++ f.back) next after
-      (rises_middle 0 f.front e f.back next (subst (λ zs. Rises 0 zs next) f.is p.rises))
-      (subst (Marked after) (sym (map-append (λ e. e.1) f.front f.back)) m) l
+  module _ (es : List (K × ℕ)) (row : List ℕ) (next : ℕ) (k : K) (place : ℕ) (p : IsPlaced eq es row next)
+      (f : Found es row next k place) where
+    abbrev others : List (K × ℕ)
+    others = f.front ++ f.back
+
+    found_there : (new : List (K × ℕ)) → new ≡ put eq es k next (length es)
+        → new ≡ others ++ (f.key, next) ∷ []
+    found_there new n =
+        n ∙ ap (λ zs. put eq zs k next (length zs)) f.is
+        ∙ put_back_here eq f.front (f.key, place) f.back k next f.equal f.none
+
+    others_rise : Rises 0 others next
+    others_rise =
+        rises_middle 0 f.front (f.key, place) f.back next (subst (λ zs. Rises 0 zs next) f.is p.rises)
+
+    -- after it the key is the last, at the next place
+    pub found_moves : (new : List (K × ℕ)) (past : ℕ) → new ≡ put eq es k next (length es)
+        → past ≡ length es - 1 - length f.front
+        → MovesPast (eq k) (keys_of es) (keys_of new) past
+    found_moves new past n o =
+        let long = f.long in
+        let m = length-map f.back (λ e. e.0) in
+        record {
+          front = keys_of f.front;
+          key = f.key;
+          back = keys_of f.back;
+          split = ap keys_of f.is ∙ keys_of-append f.front ((f.key, place) ∷ f.back);
+          passes = f.equal;
+          none_before = list_any-keys (eq k) f.front f.none;
+          none_after = list_any-keys (eq k) f.back f.none_after;
+          moved = ap keys_of (found_there new n) ∙ keys_of-append others ((f.key, next) ∷ [])
+              ∙ ap (λ zs. zs ++ f.key ∷ []) (keys_of-append f.front f.back);
+          count = omega arith;
+        }
+
+    -- once the place of its last use has no mark
+    module _ (mid : List ℕ)
+        (unmarks : (xs ys : List ℕ) → Marked row (xs ++ place ∷ ys) → Marked mid (xs ++ ys)) where
+      found_unmarked : Marked mid (values_of others)
+      found_unmarked =
+          subst (Marked mid) (sym (map-append (λ e. e.1) f.front f.back))
+          (unmarks (values_of f.front) (values_of f.back) (subst (Marked row) f.values p.marked))
+
+      pub found_free : next < length mid → get_or mid next 0 ≡ 0
+      found_free l = free_at others next mid others_rise found_unmarked l
+
+      pub found_placed : (new : List (K × ℕ)) (after : List ℕ) → new ≡ put eq es k next (length es)
+          → IsEntries eq new
+          → ((xs ys : List ℕ) → Marked mid (xs ++ ys) → Marked after (xs ++ next ∷ ys)) → next < length after
+          → IsPlaced eq new after (next + 1)
+      found_placed new after n d marks l =
+          placed_last others new mid after next f.key others_rise found_unmarked (found_there new n) d marks l
 
   pub absent_last : (es new : List (K × ℕ)) (k : K) (next : ℕ) → lookup (eq k) es ≡ None
-      → new ≡ put eq es k next (length es) → GoesLast eq (keys_of es) (keys_of new) k
+      → new ≡ es ++ (k, next) ∷ [] → GoesLast eq (keys_of es) (keys_of new) k
   absent_last es new k next l n =
-      let none = none_from_lookup (eq k) es l in
       record {
-        absent = list_any-keys (eq k) es none;
-        last = ap keys_of (n ∙ put_back_absent eq es k next none) ∙ keys_of-append es ((k, next) ∷ []);
+        absent = list_any-keys (eq k) es (none_from_lookup (eq k) es l);
+        last = ap keys_of n ∙ keys_of-append es ((k, next) ∷ []);
       }
 
-  pub absent_placed : (es new : List (K × ℕ)) (row after : List ℕ) (k : K) (next : ℕ)
-      → IsPlaced eq es row next
-      → lookup (eq k) es ≡ None → new ≡ put eq es k next (length es) → IsEntries eq new
-      → Marked after (values_of es ++ next ∷ []) → next < length after
-      → IsPlaced eq new after (next + 1)
-  absent_placed es new row after k next p l n d m w =
-      let there = n ∙ put_back_absent eq es k next (none_from_lookup (eq k) es l) in
-      record {
-        distinct = d;
-        rises = subst (λ zs. Rises 0 zs (next + 1)) (sym there) (rises_push 0 es k next p.rises);
-        marked = subst (Marked after)
-            (sym (map-append (λ e. e.1) es ((k, next) ∷ [])) ∙ ap values_of (sym there)) m;
-        within = omega arith;
-      }
-
--- what moved last, with w written through what was lent, was put last
-pub puts_last : {K S : Type 0} (eq : K → K → Bool) → IsEquivalence eq → (old new : MapState K ℕ S)
-    → (k : K) (v w : ℕ)
-    → IsEntries eq old.entries → lookup (eq k) old.entries ≡ Some v
-    → MovesAndWrites eq old new k (length old.entries) w
-    → new.entries ≡ put eq old.entries k w (length old.entries)
-puts_last eq laws old new k v w d there s =
-    let left = without eq old.entries k in
-    let stored = stored_key eq old.entries k in
-    ap (λ m. m.entries) s.writes
-    ∙ ap (λ es. set_value (eq k) es w)
-    (s.moves.entries ∙ moved-there eq old.entries k (length old.entries) v there
-    ∙ put_back eq old.entries k v)
-    ∙ set_value-here (eq k) (stored, v) [] (stored_key-equal eq laws k old.entries) w left
-    (none_without eq laws old.entries k d)
-    ∙ sym (put_back eq old.entries k w)
-
--- the same by a test of keys
+-- what passed the test and moved last, with w written through what was lent, was put last
 pub moves_last : {K S : Type 0} (eq : K → K → Bool) → IsEquivalence eq → (test : K → Bool)
     → IsKeyTest eq test → (old new : MapState K ℕ S) (v w : ℕ)
     → IsEntries eq old.entries → lookup test old.entries ≡ Some v
     → MovesMatchAndWrites test old new (length old.entries) w
     → MovesLast eq test old.entries new.entries w
 moves_last eq laws test tells old new v w d at s =
-    let k = key_from_lookup test eq tells old.entries v at in
+    let es = old.entries in
+    let found = key_from_lookup test eq tells es v at in
+    let k = found.0 in
+    let there = subst (λ t. lookup t es ≡ Some v) found.1 at in
+    let moves = subst (λ t. MovesMatchAndWrites t old new (length es) w) found.1 s in
     record {
-      key = k.0;
-      tells = k.1;
-      entries = puts_last eq laws old new k.0 v w d (subst (λ t. lookup t old.entries ≡ Some v) k.1 at)
-          (subst (λ t. MovesMatchAndWrites t old new (length old.entries) w) k.1 s);
+      key = k;
+      tells = found.1;
+      entries = ap (λ m. m.entries) moves.writes
+          ∙ ap (λ zs. set_value (eq k) zs w)
+          (moves.moves.entries ∙ moved-there eq es k (length es) v there ∙ put_back eq es k v)
+          ∙ set_value-here (eq k) (stored_key eq es k, v) [] (stored_key-equal eq laws k es) w
+          (without eq es k) (none_without eq laws es k d)
+          ∙ sym (put_back eq es k w);
     }
 
 -- ---- new places for all
@@ -357,105 +317,89 @@ module _ {K : Type 0} where
         distinct = d;
       }
 
-  pub Renumbers-free : (eq : K → K → Bool) (old es : List (K × ℕ)) (row : List ℕ) (place : ℕ)
-      → Renumbers eq old es row place → place < length row → get_or row place 0 ≡ 0
-  Renumbers-free eq old es row place r l =
-      let d = r.count in
-      free_at (numbered 0 r.done) place row (numbered-rises 0 place r.done (omega arith)) r.marked l
+  module _ {eq : K → K → Bool} {old es : List (K × ℕ)} {row : List ℕ} {place : ℕ}
+      (r : Renumbers eq old es row place) where
+    both : length r.done + length r.left ≡ length old
+    both = sym (ap length r.split ∙ length-append r.done r.left)
 
-  -- what is first, and what is left behind it
-  pub Renumbers-next : (eq : K → K → Bool) (old es : List (K × ℕ)) (row : List ℕ) (place : ℕ)
-      → (r : Renumbers eq old es row place) → place < length old
-      → (e : K × ℕ) × (left : List (K × ℕ)) × (r.left ≡ e ∷ left)
-  Renumbers-next eq old es row place r l =
-      let a = ap length r.split in
-      let b = length-append r.done r.left in
-      let d = r.count in
-      by r.left (omega arith)
-    where
-      by : (zs : List (K × ℕ)) → 0 < length zs → (e : K × ℕ) × (left : List (K × ℕ)) × (zs ≡ e ∷ left)
-      by [] l = absurd (omega arith)
-      by (z ∷ zs) l = (z, zs, refl)
+    pub Renumbers-free : place < length row → get_or row place 0 ≡ 0
+    Renumbers-free l =
+        free_at (numbered 0 r.done) place row (numbered-rises 0 place r.done (omega (arith, r.count)))
+        r.marked l
+
+    -- what is first, and what is left behind it
+    Renumbers-next : place < length old → (e : K × ℕ) × (left : List (K × ℕ)) × (r.left ≡ e ∷ left)
+    Renumbers-next l = by r.left (omega (arith, both, r.count))
+      where
+        by : (zs : List (K × ℕ)) → 0 < length zs → (e : K × ℕ) × (left : List (K × ℕ)) × (zs ≡ e ∷ left)
+        by [] l = absurd (omega arith)
+        by (z ∷ zs) l = (z, zs, refl)
+
+    -- all have got one
+    pub Renumbers-end : place ≡ length old → length old ≤ length row
+        → IsPlaced eq es row (length es) × (keys_of es ≡ keys_of old) × (length es ≡ length old)
+    Renumbers-end e fits =
+        let none = nil r.left (omega (arith, both, r.count)) in
+        let all : old ≡ r.done = r.split ∙ ap (λ zs. r.done ++ zs) none ∙ append-nil r.done in
+        let is : es ≡ numbered 0 old = r.is ∙ ap₂ (λ zs ws. zs ++ numbered 0 ws) none (sym all) in
+        let long = ap length is ∙ length-numbered 0 old in (
+          record {
+            distinct = r.distinct;
+            rises = subst (λ zs. Rises 0 zs (length es)) (sym is)
+                (numbered-rises 0 (length es) old (omega arith));
+            marked = subst (Marked row)
+                (ap (λ zs. values_of (numbered 0 zs)) (sym all) ∙ ap values_of (sym is)) r.marked;
+            within = omega arith;
+          },
+          ap keys_of is ∙ keys_of-numbered 0 old,
+          long,
+        )
+      where
+        nil : (zs : List (K × ℕ)) → length zs ≡ 0 → zs ≡ []
+        nil [] l = refl
+        nil (z ∷ zs) l = absurd (omega arith)
 
   -- the first entry is there
   pub Renumbers-pops : (eq : K → K → Bool) (old es : List (K × ℕ)) (row : List ℕ) (place : ℕ)
       → Renumbers eq old es row place → place < length old → first_of es ≡ None → ⊥
   Renumbers-pops eq old es row place r l n =
-      let s = Renumbers-next eq old es row place r l in
+      let s = Renumbers-next r l in
       let some : first_of es ≡ Some s.0 = ap first_of (r.is ∙ ap (λ zs. zs ++ numbered 0 r.done) s.2) in
       none-some s.0 (sym n ∙ some)
 
-  pub Renumbers-step : {S : Type 0} (eq : K → K → Bool) (laws : IsEquivalence eq) (old : List (K × ℕ))
-      (a b c : MapState K ℕ S) (row after : List ℕ) (place : ℕ) (key : K) (v : ℕ) (w : Option ℕ)
-      → Renumbers eq old a.entries row place → place < length old
-      → PopsFront a b (Some (key, v)) → Inserts eq b c key place (length b.entries) (Ok w)
+  pub Renumbers-step : {S : Type 0} (eq : K → K → Bool) (old : List (K × ℕ)) (a b c : MapState K ℕ S)
+      (row after : List ℕ) (place : ℕ) (key : K) (v : ℕ)
+      → Renumbers eq old a.entries row place → place < length old → PopsFront a b (Some (key, v))
+      → (lookup (eq key) b.entries ≡ None → c.entries ≡ b.entries ++ (key, place) ∷ [])
       → IsEntries eq c.entries
       → ((xs ys : List ℕ) → Marked row (xs ++ ys) → Marked after (xs ++ place ∷ ys))
       → Renumbers eq old c.entries after (place + 1)
-  Renumbers-step {S} eq laws old a b c row after place key v w r l p i d m =
-      let s = Renumbers-next eq old a.entries row place r l in
-      let e = s.0 in
+  Renumbers-step {S} eq old a b c row after place key v r l p added d m =
+      let popped = (pops_front a b (key, v) p).0 in
+      let s = Renumbers-next r l in
       let left = s.1 in
-      let es : a.entries ≡ e ∷ (left ++ numbered 0 r.done) = r.is ∙ ap (λ zs. zs ++ numbered 0 r.done) s.2 in
-      let same : (key, v) ≡ e = same_Some (key, v) e (p.answer ∙ ap first_of es) in
-      let rest : b.entries ≡ left ++ numbered 0 r.done = p.step.entries ∙ ap after_first_of es in
-      let none : NonePasses (eq key) b.entries
-      = subst₂ (λ k zs. NonePasses (eq k) zs) (ap (λ (q : K × ℕ). q.0) (sym same)) (sym rest)
-      (IsEntries-head eq e (left ++ numbered 0 r.done) (subst (IsEntries eq) es r.distinct)) in
-      let is : c.entries ≡ b.entries ++ (key, place) ∷ [] = by w none i in
-      let count = r.count in
-      let pushed : numbered 0 (r.done ++ e ∷ []) ≡ numbered 0 r.done ++ (key, place) ∷ []
-      = numbered-push 0 r.done e ∙ ap₂ (λ k n. numbered 0 r.done ++ (k, n) ∷ [])
-      (ap (λ (q : K × ℕ). q.0) (sym same)) (omega arith)
-      in
+      let es : s.0 ∷ (left ++ numbered 0 r.done) ≡ (key, v) ∷ b.entries
+      = sym (r.is ∙ ap (λ zs. zs ++ numbered 0 r.done) s.2) ∙ popped in
+      let same : s.0 ≡ (key, v) = cc in
+      let rest : left ++ numbered 0 r.done ≡ b.entries = cc in
+      let none = IsEntries-head eq (key, v) b.entries (subst (IsEntries eq) popped r.distinct) in
+      let at : 0 + length r.done ≡ place = omega (arith, r.count) in
+      let pushed = numbered-push 0 r.done (key, v) ∙ ap (λ n. numbered 0 r.done ++ (key, n) ∷ []) at in
       record {
-        done = r.done ++ e ∷ [];
+        done = r.done ++ (key, v) ∷ [];
         left = left;
-        split = r.split ∙ ap (λ zs. r.done ++ zs) s.2 ∙ sym (append_assoc r.done (e ∷ []) left);
-        count = omega (arith, length-append r.done (e ∷ []));
-        is = is ∙ ap (λ zs. zs ++ (key, place) ∷ []) rest
+        split = r.split ∙ ap (λ zs. r.done ++ zs) (s.2 ∙ ap (λ e. e ∷ left) same)
+            ∙ sym (append_assoc r.done ((key, v) ∷ []) left);
+        count = omega (arith, length-append r.done ((key, v) ∷ []));
+        is = added (lookup-none (eq key) b.entries none) ∙ ap (λ zs. zs ++ (key, place) ∷ []) (sym rest)
             ∙ append_assoc left (numbered 0 r.done) ((key, place) ∷ []) ∙ ap (λ zs. left ++ zs) (sym pushed);
-        marked = subst (Marked after)
-            (sym (map-append (λ e. e.1) (numbered 0 r.done) ((key, place) ∷ [])) ∙ ap values_of (sym pushed))
-            (m (values_of (numbered 0 r.done)) [] (subst (Marked row) (sym (append-nil _)) r.marked));
+        marked = subst (λ zs. Marked after (values_of zs)) (sym pushed)
+            (marked_last (numbered 0 r.done) key place row after m r.marked);
         distinct = d;
       }
-    where
-      by : (w : Option ℕ) → NonePasses (eq key) b.entries → Inserts eq b c key place (length b.entries) (Ok w)
-          → c.entries ≡ b.entries ++ (key, place) ∷ []
-      by None n i = i.adds.entries ∙ put_back_absent eq b.entries key place n
-      by (Some old) n i = absurd (none-some old (sym (lookup-none (eq key) b.entries n) ∙ i.old_value))
 
   -- the node that was freed serves the key again
   pub Renumbers-inserts : {S : Type 0} (eq : K → K → Bool) (a b c : MapState K ℕ S)
       (place : ℕ) (key : K) (v : ℕ) (pair : K × ℕ) → PopsFront a b (Some (key, v))
       → Inserts eq b c key place (length b.entries) (Err pair) → ⊥
-  Renumbers-inserts eq a b c place key v pair p i =
-      let s = p.step.spare in
-      let n = i.may_refuse.no_spare in
-      omega arith
-
-  -- all have got one
-  pub Renumbers-end : (eq : K → K → Bool) (old es : List (K × ℕ)) (row : List ℕ) (place : ℕ)
-      → Renumbers eq old es row place → place ≡ length old
-      → (es ≡ numbered 0 old) × Marked row (values_of es) × Rises 0 es (length es)
-      × (keys_of es ≡ keys_of old)
-      × (length es ≡ length old)
-  Renumbers-end eq old es row place r e =
-      let a = ap length r.split in
-      let b = length-append r.done r.left in
-      let d = r.count in
-      let none = nil r.left (omega arith) in
-      let all : old ≡ r.done = r.split ∙ ap (λ zs. r.done ++ zs) none ∙ append-nil r.done in
-      let is : es ≡ numbered 0 old = r.is ∙ ap₂ (λ zs ws. zs ++ numbered 0 ws) none (sym all) in
-      let long = ap length is ∙ length-numbered 0 old in (
-        is,
-        subst (Marked row) (ap (λ zs. values_of (numbered 0 zs)) (sym all) ∙ ap values_of (sym is)) r.marked,
-        subst (λ zs. Rises 0 zs (length es)) (sym is) (numbered-rises 0 (length es) old (omega arith)),
-        ap keys_of is ∙ keys_of-numbered 0 old,
-        long,
-      )
-    where
-      nil : (zs : List (K × ℕ)) → length zs ≡ 0 → zs ≡ []
-      nil [] l = refl
-      nil (z ∷ zs) l = absurd (omega arith)
+  Renumbers-inserts eq a b c place key v pair p i = omega arith

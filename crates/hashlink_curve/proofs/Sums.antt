@@ -6,20 +6,19 @@ use Rattle.std.specs.Prelude.{nat_eq, nat_lt, sum, slice_range, All, Vec}
 use Rattle.std.specs.List.{count_by}
 use Rattle.std.proofs.Math.Seq.{take-set-lt, take-add}
 use Rattle.std.proofs.lemmas.List.{take-set-le, take_all, get_or-take, length-set, length-take}
-use Rattle.std.proofs.lemmas.List.{take-append-le, get_or-set_same, get_or-set_other, length-replicate}
-use Rattle.std.proofs.lemmas.List.{length-map}
+use Rattle.std.proofs.lemmas.List.{take-append-le, get_or-set_other, length-replicate, length-map}
 use Rattle.std.proofs.lemmas.List.Sums.{sum_by-cons, sum_by-append, sum_by-set, sum_by_more, sum_by-take-le}
 use Rattle.std.proofs.lemmas.List.Sums.{get_or-le-sum_by, sum_by-le}
 use Rattle.std.proofs.lemmas.List.Elements.{All-set, All-replicate}
 use Rattle.std.proofs.lemmas.List.Folds.{sum_by-replicate}
 use Rattle.std.proofs.lemmas.Bool.Decides.{nat_tests}
 use Rattle.std.specs.Vec.{with_item}
-use Rattle.std.proofs.lemmas.Grind.{get_or_default_zero}
+use Rattle.std.proofs.lemmas.Grind.{get_or_default_zero, get_or-set_at}
 use Rattle.std.specs.declared.alloc.Global.{Global}
 use Rattle.hashlink_curve.specs.Marks.{Marked, HasSums, HasRows, AreSummed, rows_of, sum_before, HasNode}
 use Rattle.hashlink_curve.specs.Marks.{changed, CanChange}
 
-below_or_at : (i j : ℕ) → (i < j) ⊎ (j ≤ i)
+pub below_or_at : (i j : ℕ) → (i < j) ⊎ (j ≤ i)
 below_or_at i j = grind arith
 
 -- ---- sums of the first entries
@@ -30,29 +29,26 @@ sum-range : (row : List ℕ) (a b : ℕ) → a ≤ b
 sum-range row a b l =
     let more : a + (b - a) ≡ b = omega arith in
     let s = sum_by-append (λ (m : ℕ). m) (take a row) (slice_range row a b) in
-    let t = ap sum (sym (take-add a (b - a) row)) ∙ ap (λ n. sum (take n row)) more in
-    omega arith
+    omega (arith, ap sum (sym (take-add a (b - a) row)) ∙ ap (λ n. sum (take n row)) more)
 
 sum-take-next : (row : List ℕ) (x : ℕ) → x < length row
     → sum (take (x + 1) row) ≡ sum (take x row) + get_or row x 0
 sum-take-next row x l = sum_by_more (λ (m : ℕ). m) row x 0 l
 
-sum-take-le : (row : List ℕ) (a b : ℕ) → a ≤ b → sum (take a row) ≤ sum (take b row)
+pub sum-take-le : (row : List ℕ) (a b : ℕ) → a ≤ b → sum (take a row) ≤ sum (take b row)
 sum-take-le row a b l = let s = sum-range row a b l in omega arith
 
 pub sum-take-all : (row : List ℕ) (n : ℕ) → length row ≤ n → sum (take n row) ≡ sum row
 sum-take-all row n l = ap sum (take_all n row l)
 
-sum-set-after : (row : List ℕ) (x v n : ℕ) → x < length row → x < n
+pub sum-set-after : (row : List ℕ) (x v n : ℕ) → x < length row → x < n
     → sum (take n (set row x v)) + get_or row x 0 ≡ sum (take n row) + v
 sum-set-after row x v n l h =
     let long = length-take n row in
     let s = sum_by-set (λ (m : ℕ). m) (take n row) x v 0 (omega arith) in
-    let t = ap sum (take-set-lt n row x v h) in
-    let g = get_or-take n row x 0 h in
-    omega arith
+    omega (arith, ap sum (take-set-lt n row x v h), get_or-take n row x 0 h)
 
-sum-set-before : (row : List ℕ) (x v n : ℕ) → n ≤ x → sum (take n (set row x v)) ≡ sum (take n row)
+pub sum-set-before : (row : List ℕ) (x v n : ℕ) → n ≤ x → sum (take n (set row x v)) ≡ sum (take n row)
 sum-set-before row x v n h = ap sum (take-set-le n row x v h)
 
 -- ---- the row above
@@ -68,10 +64,8 @@ module _ (row sums : List ℕ) (h : HasSums row sums) (x : ℕ) (l : x < length 
       let e0 = h.each (x / 64) (omega arith) in
       let e1 = h.each (x / 64 + 1) (omega arith) in
       let n = sum-take-next sums (x / 64) b in
-      let m = sum-take-next row x l in
       let low = sum-take-le row (64 * (x / 64)) x (omega arith) in
-      let high = sum-take-le row (x + 1) (64 * (x / 64 + 1)) (omega arith) in
-      omega arith
+      omega (arith, sum-take-next row x l, sum-take-le row (x + 1) (64 * (x / 64 + 1)) (omega arith))
 
   sums_changed : (less more v : ℕ) → less ≤ get_or row x 0 → v + less ≡ get_or row x 0 + more
       → HasSums (set row x v) (set sums (x / 64) (get_or sums (x / 64) 0 - less + more))
@@ -81,7 +75,6 @@ module _ (row sums : List ℕ) (h : HasSums row sums) (x : ℕ) (l : x < length 
       let w = get_or sums (x / 64) 0 - less + more in
       let long = length-set sums (x / 64) w in
       let wide = length-set row x v in
-      let a = h.all in
       record {
         each = λ j high. by w (omega arith) j (omega arith) (below_or_at (x / 64) j);
         all = omega arith;
@@ -93,22 +86,16 @@ module _ (row sums : List ℕ) (h : HasSums row sums) (x : ℕ) (l : x < length 
       by w e j high (inl k) =
           let b = has_block in
           let s = sum-set-after sums (x / 64) w j b k in
-          let r = sum-set-after row x v (64 * j) l (omega arith) in
-          let p = h.each j high in
-          omega arith
+          omega (arith, sum-set-after row x v (64 * j) l (omega arith), h.each j high)
       by w e j high (inr k) =
           let s = sum-set-before sums (x / 64) w j k in
-          let r = sum-set-before row x v (64 * j) (omega arith) in
-          let p = h.each j high in
-          omega arith
+          omega (arith, sum-set-before row x v (64 * j) (omega arith), h.each j high)
 
 -- all sums are those of the row
 sums_all : (row sums : List ℕ) → HasSums row sums → sum sums ≡ sum row
 sums_all row sums h =
     let e = h.each (length sums) (omega arith) in
-    let a = sum-take-all sums (length sums) (omega arith) in
-    let b = sum-take-all row (64 * length sums) h.all in
-    omega arith
+    omega (arith, sum-take-all sums (length sums) (omega arith), sum-take-all row (64 * length sums) h.all)
 
 -- ---- all rows
 
@@ -122,16 +109,12 @@ rows_have row (sums ∷ above) h x l =
 rows_sum : (row : List ℕ) (above : List (List ℕ)) → HasRows row above → (x : ℕ) → x < length row
     → sum (slice_range row (64 * (x / 64)) x) + sum_before (x / 64) above ≡ sum (take x row)
 rows_sum row [] h x l =
-    let s = sum-range row (64 * (x / 64)) x (omega arith) in
     let none : 64 * (x / 64) ≡ 0 = omega arith in
-    let e = ap (λ n. sum (take n row)) none in
-    omega arith
+    omega (arith, sum-range row (64 * (x / 64)) x (omega arith), ap (λ n. sum (take n row)) none)
 rows_sum row (sums ∷ above) h x l =
     let b = has_block row sums h.0 x l in
     let s = sum-range row (64 * (x / 64)) x (omega arith) in
-    let up = rows_sum sums above h.1 (x / 64) b in
-    let e = h.0.each (x / 64) (omega arith) in
-    omega arith
+    omega (arith, rows_sum sums above h.1 (x / 64) b, h.0.each (x / 64) (omega arith))
 
 rows_can_change : (row : List ℕ) (above : List (List ℕ)) → HasRows row above → (x less more : ℕ)
     → x < length row → less ≤ get_or row x 0 → sum row + more < 2 ^ 64 → CanChange (x / 64) less more above
@@ -168,8 +151,7 @@ OpenRows row (sums ∷ above) width = HasSums row sums × OpenRows sums above wi
 sum-zeros : (width n : ℕ) → sum (take n (replicate width 0)) ≡ 0
 sum-zeros width n =
     let a = sum_by-take-le (λ (m : ℕ). m) (replicate width 0) n in
-    let b = sum_by-replicate (λ (m : ℕ). m) width 0 in
-    omega arith
+    omega (arith, sum_by-replicate (λ (m : ℕ). m) width 0)
 
 pub OpenRows-push : (row : List ℕ) (above : List (List ℕ)) (width more : ℕ) → OpenRows row above width
     → width ≤ 64 * more → OpenRows row (above ++ replicate more 0 ∷ []) more
@@ -178,10 +160,7 @@ OpenRows-push row [] width more h l =
     let wide = length-replicate {A = ℕ} more 0 in (
       record {
         each = λ j _.
-            let a = sum-zeros more j in
-            let b = sum-zeros width (64 * j) in
-            let e = ap (λ r. sum (take (64 * j) r)) h in
-            omega arith;
+            omega (arith, sum-zeros more j, sum-zeros width (64 * j), ap (λ r. sum (take (64 * j) r)) h);
         all = omega arith;
       },
       refl,
@@ -210,6 +189,18 @@ pub count_by-cons : {X : Type 0} (p : X → Bool) (x : X) (xs : List X)
     → count_by p (x ∷ xs) ≡ cond (p x) 1 0 + count_by p xs
 count_by-cons p x xs = sum_by-cons (λ y. cond (p y) 1 0) x xs
 
+-- where the first passes the test, and where it does not
+abbrev one_if : Bool → ℕ
+one_if b = cond b 1 0
+
+pub count_by-yes : {X : Type 0} (p : X → Bool) (x : X) (xs : List X) → p x ≡ true
+    → count_by p (x ∷ xs) ≡ suc (count_by p xs)
+count_by-yes p x xs t = omega (arith, count_by-cons p x xs, ap one_if t)
+
+pub count_by-no : {X : Type 0} (p : X → Bool) (x : X) (xs : List X) → p x ≡ false
+    → count_by p (x ∷ xs) ≡ count_by p xs
+count_by-no p x xs t = omega (arith, count_by-cons p x xs, ap one_if t)
+
 one_more : (x p : ℕ) → cond (nat_lt p (suc x)) 1 0 ≡ cond (nat_lt p x) 1 0 + cond (nat_eq x p) 1 0
 one_more x p = grind (arith, nat_tests)
 
@@ -217,24 +208,14 @@ count_by-next : (x : ℕ) (places : List ℕ)
     → count_by (λ p. nat_lt p (suc x)) places ≡ count_by (λ p. nat_lt p x) places + count_by (nat_eq x) places
 count_by-next x [] = refl
 count_by-next x (p ∷ places) =
-    let a = one_more x p in
     let b = count_by-next x places in
     let l = count_by-cons (λ q. nat_lt q (suc x)) p places in
-    let m = count_by-cons (λ q. nat_lt q x) p places in
-    let e = count_by-cons (nat_eq x) p places in
-    omega arith
-
-abbrev first_count : Bool → ℕ
-first_count b = cond b 1 0
+    omega (arith, one_more x p, count_by-cons (λ q. nat_lt q x) p places, count_by-cons (nat_eq x) p places)
 
 count_by-none : (places : List ℕ) → count_by (λ p. nat_lt p 0) places ≡ 0
 count_by-none [] = refl
 count_by-none (p ∷ places) =
-    let none : nat_lt p 0 ≡ false = grind (arith, nat_tests) in
-    let none_here = ap (λ b. first_count b) none in
-    let a = count_by-cons (λ q. nat_lt q 0) p places in
-    let b = count_by-none places in
-    omega arith
+    count_by-no (λ q. nat_lt q 0) p places (grind (arith, nat_tests)) ∙ count_by-none places
 
 pub marks_before : (row places : List ℕ) → Marked row places → (x : ℕ) → x ≤ length row
     → sum (take x row) ≡ count_by (λ p. nat_lt p x) places
@@ -242,18 +223,12 @@ marks_before row places m zero l = sym (count_by-none places)
 marks_before row places m (suc x) l =
     let before = marks_before row places m x (omega arith) in
     let at = m.each x (omega arith) in
-    let next = sum-take-next row x (omega arith) in
     let one : x + 1 ≡ suc x = omega arith in
-    let same = ap (λ n. sum (take n row)) one in
-    let counts = count_by-next x places in
-    omega arith
+    omega (arith, sum-take-next row x (omega arith), ap (λ n. sum (take n row)) one, count_by-next x places)
 
 -- ---- a mark more and a mark less
 
-abbrev or_none : Bool → ℕ
-or_none b = cond b 0 0
-
-zero_either : (b : Bool) → or_none b ≡ 0
+zero_either : (b : Bool) → ◌≡◌ {A = ℕ} (cond b 0 0) 0
 zero_either true = refl
 zero_either false = refl
 
@@ -264,64 +239,42 @@ count_by-middle p xs x ys =
     = sum_by-append (λ y. cond (p y) 1 0) xs (x ∷ ys) in
     let b : count_by p (xs ++ ys) ≡ count_by p xs + count_by p ys
     = sum_by-append (λ y. cond (p y) 1 0) xs ys in
-    let d = count_by-cons p x ys in
-    omega arith
+    omega (arith, count_by-cons p x ys)
 
 module _ (row : List ℕ) (place : ℕ) (l : place < length row) (v : ℕ) where
-  entry : (less more : ℕ) → v + less ≡ get_or row place 0 + more → (x : ℕ)
-      → (x ≡ place) ⊎ (x ≢ place)
-      → get_or (set row place v) x 0 + cond (nat_eq x place) less 0
-      ≡ get_or row x 0 + cond (nat_eq x place) more 0
-  entry less more is x (inl e) =
-      let yes : nat_eq x place ≡ true = grind (arith, nat_tests) in
-      let a = ap (λ b. cond b less 0) yes in
-      let b = ap (λ b. cond b more 0) yes in
-      let c = get_or-set_same row place v 0 l in
-      let d = ap (λ n. get_or (set row place v) n 0) e in
-      let f = ap (λ n. get_or row n 0) e in
-      omega arith
-  entry less more is x (inr d) =
-      let no : nat_eq x place ≡ false = grind (arith, nat_tests) in
-      let a = ap (λ b. cond b less 0) no in
-      let b = ap (λ b. cond b more 0) no in
-      let c = get_or-set_other row place x v 0 d in
-      omega arith
-
-  is_or_not : (x : ℕ) → (x ≡ place) ⊎ (x ≢ place)
-  is_or_not x = grind arith
+  Marked-changed : (less more : ℕ) → v + less ≡ get_or row place 0 + more → (from to : List ℕ)
+      → ((x : ℕ) → count_by (nat_eq x) to + cond (nat_eq x place) less 0
+      ≡ count_by (nat_eq x) from + cond (nat_eq x place) more 0)
+      → Marked row from → Marked (set row place v) to
+  Marked-changed less more is from to counts m =
+      let wide = length-set row place v in
+      record { each = λ x h. by x (m.each x (omega arith)) (grind arith) }
+    where
+      by : (x : ℕ) → get_or row x 0 ≡ count_by (nat_eq x) from → (x ≡ place) ⊎ (x ≢ place)
+          → get_or (set row place v) x 0 ≡ count_by (nat_eq x) to
+      by x was (inl e) =
+          let yes : nat_eq x place ≡ true = grind (arith, nat_tests) in
+          omega (arith, ap (λ n. get_or row n 0) e, rw yes at (counts x), get_or-set_at row place x v 0 e l)
+      by x was (inr d) =
+          let no : nat_eq x place ≡ false = grind (arith, nat_tests) in
+          omega (arith, rw no at (counts x), get_or-set_other row place x v 0 d)
 
   pub Marked-more : v ≡ get_or row place 0 + 1 → (xs ys : List ℕ) → Marked row (xs ++ ys)
       → Marked (set row place v) (xs ++ place ∷ ys)
   Marked-more is xs ys m =
-      let wide = length-set row place v in
-      record {
-        each = λ x h.
-            let e = entry 0 1 (omega arith) x (is_or_not x) in
-            let f = m.each x (omega arith) in
-            let d = count_by-middle (nat_eq x) xs place ys in
-            let z = zero_either (nat_eq x place) in
-            omega arith;
-      }
+      Marked-changed 0 1 (omega arith) (xs ++ ys) (xs ++ place ∷ ys)
+      (λ x. omega (arith, count_by-middle (nat_eq x) xs place ys, zero_either (nat_eq x place))) m
 
   pub Marked-less : v + 1 ≡ get_or row place 0 → (xs ys : List ℕ) → Marked row (xs ++ place ∷ ys)
       → Marked (set row place v) (xs ++ ys)
   Marked-less is xs ys m =
-      let wide = length-set row place v in
-      record {
-        each = λ x h.
-            let e = entry 1 0 (omega arith) x (is_or_not x) in
-            let f = m.each x (omega arith) in
-            let d = count_by-middle (nat_eq x) xs place ys in
-            let z = zero_either (nat_eq x place) in
-            omega arith;
-      }
+      Marked-changed 1 0 (omega arith) (xs ++ place ∷ ys) (xs ++ ys)
+      (λ x. omega (arith, count_by-middle (nat_eq x) xs place ys, zero_either (nat_eq x place))) m
 
 -- marks are no more than places
 sum-marks : (row : List ℕ) (above : List (List ℕ)) → AreSummed row above → sum row < 2 ^ 62
 sum-marks row above s =
-    let few = sum_by-le (λ (m : ℕ). m) 1 row s.one in
-    let small = s.small in
-    omega arith
+    omega (arith, sum_by-le (λ (m : ℕ). m) 1 row s.one)
 
 pub AreSummed-can_change : (row : List ℕ) (above : List (List ℕ)) → AreSummed row above → (x less more : ℕ)
     → x < length row → less ≤ get_or row x 0 → more ≤ 1 → CanChange (x / 64) less more above

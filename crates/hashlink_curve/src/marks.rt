@@ -1,6 +1,6 @@
 //! Marks at places, and how many stand before a place.
 ghost use Rattle.std.specs.Prelude.{◌≡◌, ℕ, ◌+◌, ◌-◌, ◌/◌, ◌<◌, ◌≤◌, ◌^◌, List, [], ◌∷◌, ◌++◌, IfOk, nat_lt};
-ghost use Rattle.std.specs.Prelude.{slice_index, length, sum};
+ghost use Rattle.std.specs.Prelude.{slice_index, length, set, sum};
 ghost use Rattle.std.specs.List.{count_by};
 ghost use Rattle.hashlink_curve.specs.Marks.{Marked, rows_of, sum_before, HasNode, CanChange, changed};
 
@@ -87,8 +87,7 @@ impl Marks {
         ensures width { length self.new ≡ length self.old }
         ensures small { length self.new < 2 ^ 62 }
     {
-        self.row[place] += 1;
-        change(&mut self.sums, place / BLOCK, 0, 1);
+        self.change_at(place, 0, 1);
     }
 
     /// Removes a mark from the place, which has to have one. It takes a step for each row.
@@ -99,8 +98,24 @@ impl Marks {
             → Marked self.new (xs ++ ys) }
         ensures width { length self.new ≡ length self.old }
     {
-        self.row[place] -= 1;
-        change(&mut self.sums, place / BLOCK, 1, 0);
+        self.change_at(place, 1, 0);
+    }
+
+    /// Takes `less` marks from the place, and adds `more`. It takes a step for each row.
+    fn change_at(&mut self, place: usize, less: u8, more: u8)
+        requires within { place < length self.old }
+        requires enough { less ≤ slice_index self.old place }
+        requires one { slice_index self.old place ≤ 1 → slice_index self.old place + more ≤ less + 1 }
+        ensures changed { self.new ≡ set self.old place (slice_index self.old place - less + more) }
+        ensures small { length self.new < 2 ^ 62 }
+    {
+        self.row[place] = self.row[place] - less + more;
+        change(
+            &mut self.sums,
+            place / BLOCK,
+            usize::from(less),
+            usize::from(more),
+        );
     }
 }
 

@@ -29,26 +29,21 @@ module _ {X : Type 0} where
 
 -- ---- the others than the key's own entry
 
-none_by : {X : Type 0} (o : Option X) → is_some o ≡ false → o ≡ None
-none_by None a = refl
-none_by (Some x) a = absurd (true≢false a)
-
-some_by : {X : Type 0} (o : Option X) → is_some o ≡ true → (x : X) × (o ≡ Some x)
-some_by None f = absurd (true≢false (sym f))
-some_by (Some x) f = (x, refl)
-
 module _ {K V : Type 0} (test : K → Bool) (es : List (K × V)) where
-  others-absent : lookup test es ≡ None → remove_entry test es ≡ es
-  others-absent l = remove_entry-none test es (none_from_lookup test es l)
+  others-absent : is_some (lookup test es) ≡ false → remove_entry test es ≡ es
+  others-absent absent = by (lookup test es) refl absent
+    where
+      by : (o : Option V) → lookup test es ≡ o → is_some o ≡ false → remove_entry test es ≡ es
+      by None l a = remove_entry-none test es (none_from_lookup test es l)
+      by (Some w) l a = absurd (true≢false a)
 
-  others-there : (w : V) → lookup test es ≡ Some w → length (remove_entry test es) + 1 ≡ length es
-  others-there w l = length-without_there (λ _. test) es (stands_from_lookup test es w l).1.0 w l
-
-  unfound : is_some (lookup test es) ≡ false → lookup test es ≡ None
-  unfound a = none_by (lookup test es) a
-
-  found : is_some (lookup test es) ≡ true → (w : V) × (lookup test es ≡ Some w)
-  found f = some_by (lookup test es) f
+  others-there : is_some (lookup test es) ≡ true → length (remove_entry test es) + 1 ≡ length es
+  others-there there = by (lookup test es) refl there
+    where
+      by : (o : Option V) → lookup test es ≡ o → is_some o ≡ true
+          → length (remove_entry test es) + 1 ≡ length es
+      by None l f = absurd (true≢false (sym f))
+      by (Some w) l f = length-without_there (λ _. test) es (stands_from_lookup test es w l).1.0 w l
 
   module _ (cap : ℕ) where
     evicted-room : length (remove_entry test es) < cap → evicted_by test es cap ≡ None
@@ -61,24 +56,21 @@ module _ {K V : Type 0} (test : K → Bool) (es : List (K × V)) where
     -- an absent key
     pub evicted-absent_room : is_some (lookup test es) ≡ false → length es < cap
         → evicted_by test es cap ≡ None
-    evicted-absent_room a l = let same = ap length (others-absent (unfound a)) in evicted-room (omega arith)
+    evicted-absent_room a l = evicted-room (omega (arith, ap length (others-absent a)))
 
     pub evicted-absent_full : is_some (lookup test es) ≡ false → cap ≤ length es
         → evicted_by test es cap ≡ first_of es
     evicted-absent_full a l =
-        let same = ap length (others-absent (unfound a)) in
-        evicted-full (omega arith) ∙ ap first_of (others-absent (unfound a))
+        evicted-full (omega (arith, ap length (others-absent a))) ∙ ap first_of (others-absent a)
 
     -- a key that is there
     pub evicted-there_room : is_some (lookup test es) ≡ true → length es ≤ cap
         → evicted_by test es cap ≡ None
-    evicted-there_room f l =
-        let w = found f in let one = others-there w.0 w.1 in evicted-room (omega arith)
+    evicted-there_room f l = evicted-room (omega (arith, others-there f))
 
     pub evicted-there_full : is_some (lookup test es) ≡ true → cap < length es
         → evicted_by test es cap ≡ first_of (remove_entry test es)
-    evicted-there_full f l =
-        let w = found f in let one = others-there w.0 w.1 in evicted-full (omega arith)
+    evicted-there_full f l = evicted-full (omega (arith, others-there f))
 
 -- ---- what an insert evicts
 
@@ -111,7 +103,6 @@ module _ {K V : Type 0} (eq : K → K → Bool) (es : List (K × V)) (cap : ℕ)
       → (others : List (K × V)) × (All ≡ e ∷ others ++ last_entries All cap)
   named_first e n =
       let m = named e n in
-      let full = m.0 in
       let rest = drop 1 (without eq es k) ++ Last ∷ [] in
       let is : All ≡ e ∷ rest = split ∙ ap (λ zs. zs ++ Last ∷ []) (first_of-some (without eq es k) e m.1) in
       let l = long in
@@ -131,7 +122,7 @@ module _ {K V : Type 0} (eq : K → K → Bool) (es : List (K × V)) (cap : ℕ)
       by : (o : Option V) → lookup (eq k) es ≡ o → es ++ (k, v) ∷ [] ≡ e ∷ last_entries All cap
       by None l =
           let full = (named e n).0 in
-          let same : without eq es k ≡ es = others-absent (eq k) es l in
+          let same : without eq es k ≡ es = others-absent (eq k) es (ap is_some l) in
           let all : All ≡ es ++ (k, v) ∷ [] = put_back_absent eq es k v (none_from_lookup (eq k) es l) in
           let long_others = ap length same in
           let l1 = long in
@@ -144,7 +135,7 @@ module _ {K V : Type 0} (eq : K → K → Bool) (es : List (K × V)) (cap : ℕ)
           whole ∙ ap (λ zs. e ∷ zs) (sym (left ∙ ap (drop 1) whole))
       by (Some w) l =
           let full = (named e n).0 in
-          let one = others-there (eq k) es w l in
+          let one = others-there (eq k) es (ap is_some l) in
           absurd (omega arith)
 
   -- where none is named there is a place

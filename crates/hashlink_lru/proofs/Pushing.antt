@@ -65,7 +65,6 @@ module _ {K V : Type 0} (eq : K → K → Bool) (es : List (K × V)) (cap : ℕ)
       → pushed_out eq es cap k v ≡ Some e
   named_pushed e n l =
       let m = named eq es cap k v e n in
-      let full = m.0 in
       let l1 = long eq es cap k v in
       let is : All ≡ e ∷ (drop 1 (without eq es k) ++ (stored_key eq es k, v) ∷ []) =
       split eq es cap k v
@@ -94,8 +93,7 @@ module _ {K V S : Type 0} (eq : K → K → Bool) (old new : CacheState K V S) (
               cap = cap;
             };
         left =
-            ap₂ option_or replaced
-            (named
+            ap₂ option_or replaced (named
             ∙ ap (λ es. first_of (evicted_entries es old.cap))
             (put_entries eq old.map between k v (lookup (eq k) old.map.entries) s));
       }
@@ -124,7 +122,5 @@ pub put_at : {K V S : Type 0} (eq : K → K → Bool) (old new : MapState K V S)
     → Inserts eq old new k v (length old.entries) (Ok (lookup (eq k) old.entries))
 put_at eq old new k j p v w s =
     let puts = inserted-key eq old new k j p v w s in
-    subst
-    (λ o. MatchOption o (AddsEntry eq old new k v (length old.entries))
-    (PutsEntry eq old new k v (length old.entries)))
-    (sym puts.old_value) puts
+    subst (λ o. MatchOption o (AddsEntry eq old new k v (length old.entries))
+    (PutsEntry eq old new k v (length old.entries))) (sym puts.old_value) puts

@@ -1,6 +1,7 @@
 -- A use of a key that may be absent, and what is written through the value that it lends, which stands last.
-use Rattle.std.specs.Prelude.{◌≡◌, ℕ, zero, suc, ◌+◌, ◌-◌, ◌<◌, max, Bool, List, [], ◌∷◌, ◌++◌, length, drop}
-use Rattle.std.specs.Prelude.{slice_get, Option, None, Some, MatchOption, Ok}
+use Rattle.std.specs.Prelude.{◌≡◌, ℕ, ◌+◌, ◌-◌, max, Bool, List, [], ◌∷◌, ◌++◌, length, drop, Option, None}
+use Rattle.std.specs.Prelude.{Some, MatchOption, Ok}
+use Rattle.std.proofs.lemmas.List.{length-append, drop-append-le}
 use Rattle.std.specs.Cmp.{IsEquivalence}
 use Rattle.std.specs.Map.{lookup}
 use Rattle.std.specs.Option.{option_map, UnwrapsOrElse}
@@ -11,12 +12,12 @@ use Rattle.hashlink_model.specs.Entries.{IsEntries, moved, place_of, put, set_va
 use Rattle.hashlink_model.specs.MapState.{Changes, Inserts, MapState, with_value}
 use Rattle.hashlink_model.specs.Walk.{last_of}
 use Rattle.hashlink_model.proofs.Afterwards.{IsEntries-moved, length-put_there, moved-there}
-use Rattle.hashlink_model.proofs.ByPlace.{length-set_value_at, set_value_at-place}
+use Rattle.hashlink_model.proofs.ByPlace.{length-set_value_at, set_value_at-here, set_value_at-place}
 use Rattle.hashlink_model.proofs.CacheBounds.{within-gets_match_and_writes}
 use Rattle.hashlink_model.proofs.Caches.{length-last_entries}
 use Rattle.hashlink_model.proofs.CacheSteps.{gets_hit}
 use Rattle.hashlink_model.proofs.Finds.{stored_key-equal}
-use Rattle.hashlink_model.proofs.Places.{place_of_its_key}
+use Rattle.hashlink_model.proofs.Places.{place_of_its_key, slice_get_here}
 use Rattle.hashlink_model.proofs.Puts.{put_back_absent}
 use Rattle.hashlink_model.proofs.Splits.{none_from_lookup}
 use Rattle.hashlink_map.proofs.AtNode.{adds-rewritten-at}
@@ -24,76 +25,59 @@ use Rattle.hashlink_lru.specs.Cached.{MovesOrMakes, PutsNewIn, UsesOrPuts, UsesA
 
 -- ---- the last of a list
 
-module _ {X : Type 0} where
-  last-more : (x y : X) (xs : List X) → last_of (x ∷ y ∷ xs) ≡ last_of (y ∷ xs)
-  last-more x y xs =
-      let i : length (x ∷ y ∷ xs) - 1 ≡ suc (length (y ∷ xs) - 1) = omega arith in
-      ap (slice_get (x ∷ y ∷ xs)) i
+last-is : {X : Type 0} (xs : List X) (x : X) → last_of (xs ++ x ∷ []) ≡ Some x
+last-is xs x =
+    let n : length (xs ++ x ∷ []) - 1 ≡ length xs = omega (arith, length-append xs (x ∷ [])) in
+    rw (n, slice_get_here xs x []) refl
 
-  last-is : (xs : List X) (x : X) → last_of (xs ++ x ∷ []) ≡ Some x
-  last-is [] x = refl
-  last-is (y ∷ []) x = last-more y x [] ∙ last-is [] x
-  last-is (y ∷ z ∷ xs) x = last-more y z (xs ++ x ∷ []) ∙ last-is (z ∷ xs) x
-
-  last-drop : (xs : List X) (d : ℕ) → d < length xs → last_of (drop d xs) ≡ last_of xs
-  last-drop xs zero l = refl
-  last-drop [] (suc d) l = absurd (omega arith)
-  last-drop (x ∷ []) (suc d) l = absurd (omega arith)
-  last-drop (x ∷ y ∷ xs) (suc d) l = last-drop (y ∷ xs) d (omega arith) ∙ sym (last-more x y xs)
-
-module _ {K V : Type 0} where
-  written-more : (e f : K × V) (es : List (K × V)) (w : V)
-      → set_value_at (e ∷ f ∷ es) (length (e ∷ f ∷ es) - 1) w
-      ≡ e ∷ set_value_at (f ∷ es) (length (f ∷ es) - 1) w
-  written-more e f es w =
-      let i : length (e ∷ f ∷ es) - 1 ≡ suc (length (f ∷ es) - 1) = omega arith in
-      ap (λ j. set_value_at (e ∷ f ∷ es) j w) i
-
-  -- what is written as the last value of an end of a list is written as its last value
-  written-drop : (es : List (K × V)) (d : ℕ) (w : V) → d < length es
-      → set_value_at (drop d es) (length (drop d es) - 1) w ≡ drop d (set_value_at es (length es - 1) w)
-  written-drop es zero w l = refl
-  written-drop [] (suc d) w l = absurd (omega arith)
-  written-drop (e ∷ []) (suc d) w l = absurd (omega arith)
-  written-drop (e ∷ f ∷ es) (suc d) w l =
-      written-drop (f ∷ es) d w (omega arith) ∙ sym (ap (drop (suc d)) (written-more e f es w))
+last-written : {K V : Type 0} (es : List (K × V)) (k : K) (v w : V)
+    → set_value_at (es ++ (k, v) ∷ []) (length (es ++ (k, v) ∷ []) - 1) w ≡ es ++ (k, w) ∷ []
+last-written es k v w =
+    let n : length (es ++ (k, v) ∷ []) - 1 ≡ length es = omega (arith, length-append es ((k, v) ∷ [])) in
+    rw n (set_value_at-here es (k, v) [] w)
 
 -- ---- a miss, and the insert of an absent key
 
 module _ {K V S : Type 0} (eq : K → K → Bool) (laws : IsEquivalence eq) (old mid : CacheState K V S)
     (k : K) (v : V) (s : PutsNewIn eq old mid k v) where
-  -- where the new pair stood before entries were dropped
-  stood : length s.map.between.entries ≡ length old.map.entries + 1
-  stood = ap length s.map.inserts.adds.entries ∙ s.map.inserts.adds.more
+  abbrev most : ℕ
+  most = max old.cap 1
+
+  -- the others that were not dropped, before what is put last
+  abbrev kept : List (K × V)
+  kept = drop (length old.map.entries + 1 - most) old.map.entries
+
+  kept_last : (w : V) → last_entries (old.map.entries ++ (k, w) ∷ []) most ≡ kept ++ (k, w) ∷ []
+  kept_last w =
+      let long = length-append old.map.entries ((k, w) ∷ []) in
+      ap (λ n. drop (n - most) (old.map.entries ++ (k, w) ∷ [])) long
+      ∙ drop-append-le (length old.map.entries + 1 - most) old.map.entries ((k, w) ∷ []) (omega arith)
+
+  went_last : s.map.between.entries ≡ old.map.entries ++ (k, v) ∷ []
+  went_last =
+      s.map.inserts.adds.entries
+      ∙ put_back_absent eq old.map.entries k v (none_from_lookup (eq k) old.map.entries s.map.inserts.absent)
+
+  stands_last : mid.map.entries ≡ kept ++ (k, v) ∷ []
+  stands_last = s.map.fits.entries ∙ ap (λ zs. last_entries zs most) went_last ∙ kept_last v
 
   put_last : last_of mid.map.entries ≡ Some (k, v)
-  put_last =
-      let es = s.map.between.entries in
-      let here = stood in
-      let none = none_from_lookup (eq k) old.map.entries s.map.inserts.absent in
-      ap last_of s.map.fits.entries ∙ last-drop es (length es - max old.cap 1) (omega arith)
-      ∙ ap last_of (s.map.inserts.adds.entries ∙ put_back_absent eq old.map.entries k v none)
-      ∙ last-is old.map.entries (k, v)
+  put_last = ap last_of stands_last ∙ last-is kept (k, v)
 
   -- what is written there is put in
   put_written : (w : V)
       → PutsNewIn eq old (record mid { map = with_value mid.map (length mid.map.entries - 1) w }) k w
   put_written w =
       let es = s.map.between.entries in
-      let n = max old.cap 1 in
-      let d = length es - n in
       let j = length old.map.entries in
-      let here = stood in
-      let last : length es - 1 ≡ j = omega arith in
-      let kept : length (set_value_at es j w) ≡ length es = length-set_value_at es j w in
-      let few = length-last_entries es n in
-      let few' = length-last_entries (set_value_at es j w) n in
-      let same : length (last_entries (set_value_at es j w) n) ≡ length (last_entries es n) = omega arith in
+      let there : set_value_at es j w ≡ old.map.entries ++ (k, w) ∷ []
+      = ap (λ zs. set_value_at zs j w) went_last ∙ set_value_at-here old.map.entries (k, v) [] w in
+      let few = length-last_entries es most in
+      let few' = length-last_entries (set_value_at es j w) most in
+      let long : length (set_value_at es j w) ≡ length es = length-set_value_at es j w in
+      let same : length (last_entries (set_value_at es j w) most) ≡ length (last_entries es most)
+      = omega arith in
       let fits = s.map.fits in
-      let no_more = fits.no_more in
-      let spare = fits.spare in
-      let grows = fits.link_writes.grows in
-      let most = fits.link_writes.bound in
       record {
         map = record {
           between = with_value s.map.between j w;
@@ -101,14 +85,15 @@ module _ {K V S : Type 0} (eq : K → K → Bool) (laws : IsEquivalence eq) (old
               (with_value s.map.between j w) w s.map.inserts refl refl;
           fits = record {
             entries =
-                ap (λ zs. set_value_at zs (length zs - 1) w) fits.entries
-                ∙ written-drop es d w (omega arith)
-                ∙ ap (λ i. drop d (set_value_at es i w)) last
-                ∙ ap (λ l. drop (l - n) (set_value_at es j w)) (sym kept);
-            no_more = omega arith;
-            spare = omega arith;
+                ap (λ zs. set_value_at zs (length zs - 1) w) stands_last ∙ last-written _ k v w
+                ∙ sym (kept_last w) ∙ ap (λ zs. last_entries zs most) (sym there);
+            no_more = omega (arith, fits.no_more);
+            spare = omega (arith, fits.spare);
             room = fits.room;
-            link_writes = record { grows = grows; bound = omega arith };
+            link_writes = record {
+              grows = fits.link_writes.grows;
+              bound = omega (arith, fits.link_writes.bound);
+            };
             hasher = fits.hasher;
           };
         };

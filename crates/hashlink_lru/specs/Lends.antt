@@ -35,8 +35,7 @@ module _ (K V S T : RattleType) (g : HashMembers K.Denot) (b : builder.Ghosts S.
     -- stays at capacity 0
     abbrev pub LendsUsedOrNew : K.Denot → Result (MutBor V.Denot) (K.Denot × V.Denot) → Fml
     LendsUsedOrNew k r =
-        LendsSoOk cache_row V c r
-        (λ new v. UsesAndWrites g.eq (state_of c.now) (state_of new) k v
+        LendsSoOk cache_row V c r (λ new v. UsesAndWrites g.eq (state_of c.now) (state_of new) k v
         × StaysWithinOne (state_of c.now) (state_of new))
         (λ new. IfErr r (λ pair. CacheInserts g.eq (state_of c.now) (state_of new) k pair.1 (Err pair)))
 
@@ -45,8 +44,7 @@ module _ (K V S T : RattleType) (g : HashMembers K.Denot) (b : builder.Ghosts S.
         → Result (MutBor V.Denot) (TryInsertError K.Denot V.Denot E)
         → Fml
     LendsUsedOrTryNew k r =
-        LendsSoOk cache_row V c r
-        (λ new v. UsesAndWrites g.eq (state_of c.now) (state_of new) k v
+        LendsSoOk cache_row V c r (λ new v. UsesAndWrites g.eq (state_of c.now) (state_of new) k v
         × StaysWithinOne (state_of c.now) (state_of new))
         (λ new. IfErr r (FailsToUse g.eq (state_of c.now) (state_of new) k))
 
@@ -56,21 +54,17 @@ module _ (K V S T : RattleType) (g : HashMembers K.Denot) (b : builder.Ghosts S.
       -- before
       abbrev pub LendsValueIn : Option (MutBor V.Denot) → Fml
       LendsValueIn r =
-          LendsSo cache_row V c r
-          (λ new v. SameCapacity c.now new × OnSome r
+          LendsSo cache_row V c r (λ new v. SameCapacity c.now new × OnSome r
           ((state_of new ≡ record (state_of c.now) { map = with_match_value test (state_of c.now).map v })
-          × StaysWithin (state_of c.now) (state_of new)))
-          (λ new. state_of new ≡ state_of c.now)
+          × StaysWithin (state_of c.now) (state_of new))) (λ new. state_of new ≡ state_of c.now)
 
       -- it moved last, and its value is lent: the cache ends with what was written there, and where none
       -- passes as it was. No more entries are beyond the capacity than before
       abbrev pub LendsUsed : Option (MutBor V.Denot) → Fml
       LendsUsed r =
-          LendsSo cache_row V c r
-          (λ new v. SameCapacity c.now new × OnSome r
+          LendsSo cache_row V c r (λ new v. SameCapacity c.now new × OnSome r
           (CacheGetsMatchAndWrites test (state_of c.now) (state_of new) v
-          × StaysWithin (state_of c.now) (state_of new)))
-          (λ new. state_of new ≡ state_of c.now)
+          × StaysWithin (state_of c.now) (state_of new))) (λ new. state_of new ≡ state_of c.now)
 
       -- it moved last, where one passes, with the value that stands, and no more entries are beyond the
       -- capacity than before

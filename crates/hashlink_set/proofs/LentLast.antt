@@ -42,12 +42,10 @@ module _ {M : Type 1} {𝓤 : Ura M} (𝓛 : Logic 𝓤) (R : RattleType) (P P' 
       → ent 𝓤 (sem 𝓛 (So n P)) (sem 𝓛 (So n' P'))
   unfolding follows_by such_by
   ends_so n n' same go =
-      subst (λ (m : GName). ent 𝓤 (sem 𝓛 (So n P)) (sem 𝓛 (So m P'))) same
-      (qed 𝓛 (‵ (So n P) ∷ []) ∵ fpick !
+      subst (λ (m : GName). ent 𝓤 (sem 𝓛 (So n P)) (sem 𝓛 (So m P'))) same (qed 𝓛 (‵ (So n P) ∷ []) ∵ fpick !
       (λ s.
       fpack ! ((s : (R.Denot → R.Denot) × R.Denot) × ((u : R.Denot) → ⊤) × P' s.1)
-      (λ s. follows_if R R n none s.0.0 s.0.1)
-      ((s.0.0, s.0.1), (λ u. tt), go s.0.1 s.2)
+      (λ s. follows_if R R n none s.0.0 s.0.1) ((s.0.0, s.0.1), (λ u. tt), go s.0.1 s.2)
       $ done !))
 
 module _ {M : Type 1} {𝓤 : Ura M} (𝓛 : Logic 𝓤) (κs : Lfts 6) (qs : Shares 6) where

@@ -1,6 +1,6 @@
 -- What a step of a lazy walk looks at, gives and leaves.
 use Rattle.std.proofs.Common.{◌≡◌, ℕ, ◌+◌, ◌^◌, ◌≤◌, nat_lt, Bool, true, false, cond, List, [], ◌∷◌, filter}
-use Rattle.std.proofs.Common.{not, Option, None, Some, refl, sym, ap, ap₂, subst, ◌∙◌}
+use Rattle.std.proofs.Common.{not, Option, None, Some, refl, sym, ap, ap₂, ◌∙◌}
 use Rattle.std.specs.Bool.{beq}
 use Rattle.std.specs.Prelude.{option_copied, is_none, IfSome}
 use Rattle.std.specs.Iterator.{at_most, UpTo}
@@ -9,12 +9,10 @@ use Rattle.std.specs.Borrow.{Bor}
 use Rattle.std.specs.Map.Iter.{TakesFirst, deref}
 use Rattle.hashlink_model.specs.Algebra.{PairWalk, first_passing, left_or_right, left_to_give, is_nil}
 use Rattle.hashlink_model.specs.Algebra.{at_most_both}
-use Rattle.hashlink_core.specs.Keyed.{Keyed}
 use Rattle.hashlink_set.specs.Elements.{elements_in}
 use Rattle.hashlink_model.proofs.LazyWalks.{first_passing-takes, pair_step-takes}
-use Rattle.hashlink_set.specs.Walks.{lacks, sifts, LooksOn, LooksOnBoth, sifted_rest, SiftedSteps, union_walk}
-use Rattle.hashlink_set.specs.Walks.{union_rest, UnionSteps, symmetric_difference_walk}
-use Rattle.hashlink_set.specs.Walks.{symmetric_difference_rest, SymmetricDifferenceSteps}
+use Rattle.hashlink_set.specs.Walks.{lacks, sifts, LooksOn, LooksOnBoth, SiftedSteps, union_walk, UnionSteps}
+use Rattle.hashlink_set.specs.Walks.{symmetric_difference_walk, SymmetricDifferenceSteps}
 use Rattle.hashlink_set.specs.declared.sifted.Sifted.{Sifted}
 use Rattle.hashlink_set.specs.declared.symmetric_difference.SymmetricDifference.{SymmetricDifference}
 use Rattle.hashlink_set.specs.declared.union.Union.{Union}
@@ -29,8 +27,7 @@ module _ {T : Type 0} where
   pub looks_takes : (p : T → Bool) (old new : List T) (r : Option (Bor T)) → LooksOn p old r new
       → TakesFirst deref (filter p old) r (filter p new)
   looks_takes p old new r l =
-      as_seen (filter p old) (filter p new) r
-      (rw (l.gives, l.leaves) (first_passing-takes p old))
+      as_seen (filter p old) (filter p new) r (rw (l.gives, l.leaves) (first_passing-takes p old))
 
   pub both_takes : (p q : T → Bool) (old new : PairWalk T) (r : Option (Bor T)) → LooksOnBoth p q old r new
       → TakesFirst deref (left_to_give p q old) r (left_to_give p q new)
@@ -116,12 +113,7 @@ module _ {T S H : Type 0} (eq : T → T → Bool) where
       → LooksOn (sifts eq asked (elements_in old.other.now)) old.iter r new.iter
       → SiftedSteps eq asked old r new
   sifted_steps asked old r new same l = record {
-    takes =
-        subst
-        (λ s. TakesFirst deref (sifted_rest eq asked old) r
-        (filter (sifts eq asked (elements_in s)) new.iter))
-        (sym same)
-        (looks_takes (sifts eq asked (elements_in old.other.now)) old.iter new.iter r l);
+    takes = rw same (looks_takes (sifts eq asked (elements_in old.other.now)) old.iter new.iter r l);
     looks = l;
     same_other = same;
   }
@@ -132,13 +124,7 @@ module _ {T S H : Type 0} (eq : T → T → Bool) where
       (union_walk old) r (union_walk new)
       → UnionSteps eq old r new
   union_steps old r new same l = record {
-    takes =
-        subst
-        (λ s. TakesFirst deref (union_rest eq old) r (left_to_give (λ _. true) (lacks eq (elements_in s))
-        (union_walk new)))
-        (sym same)
-        (both_takes (λ _. true) (lacks eq (elements_in old.second.other.now)) (union_walk old)
-        (union_walk new) r l);
+    takes = rw same (both_takes _ (lacks eq (elements_in old.second.other.now)) (union_walk old) _ r l);
     looks = l;
     same_other = same;
   }
@@ -150,15 +136,7 @@ module _ {T S H : Type 0} (eq : T → T → Bool) where
       (symmetric_difference_walk old) r (symmetric_difference_walk new)
       → SymmetricDifferenceSteps eq old r new
   symmetric_difference_steps old r new one two l = record {
-    takes =
-        subst
-        (λ (s : Keyed T (Unit {0}) S × Keyed T (Unit {0}) S). TakesFirst deref
-        (symmetric_difference_rest eq old) r
-        (left_to_give (lacks eq (elements_in s.0)) (lacks eq (elements_in s.1))
-        (symmetric_difference_walk new)))
-        (λ i. (sym one i, sym two i))
-        (both_takes (lacks eq (elements_in old.first.other.now)) (lacks eq (elements_in old.second.other.now))
-        (symmetric_difference_walk old) (symmetric_difference_walk new) r l);
+    takes = rw (one, two) (both_takes _ _ (symmetric_difference_walk old) _ r l);
     looks = l;
     same_first = one;
     same_second = two;

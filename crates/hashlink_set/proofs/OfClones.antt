@@ -1,7 +1,9 @@
 -- What a set is that was made of clones of distinct elements.
-use Rattle.std.proofs.Common.{◌≡◌, Bool, true, cond, List, [], ◌∷◌, ◌++◌, Option, None, Some, map, refl, ap}
-use Rattle.std.proofs.Common.{Result, Ok, Err, ap₂, subst, sym, ◌∙◌, append-nil}
+use Rattle.std.proofs.Common.{◌≡◌, Bool, true, cond, List, [], ◌∷◌, ◌++◌, Option, None, Some, map, ap}
+use Rattle.std.proofs.Common.{Result, Ok, Err, subst, sym, ◌∙◌, append-nil}
 use Rattle.std.specs.Prelude.{IfOk, OnErr, MatchResult}
+use Rattle.std.proofs.lemmas.List.{map-id}
+use Rattle.std.proofs.lemmas.Slice.Zip.{AllZip-map}
 use Rattle.std.specs.Borrow.{Bor}
 use Rattle.std.specs.Cmp.{IsEquivalence}
 use Rattle.std.specs.Iterator.{Yields, Drains}
@@ -27,13 +29,6 @@ zip_another C [] (b ∷ ys) x y z c = absurd z
 zip_another C (a ∷ xs) [] x y z c = absurd z
 zip_another C (a ∷ xs) (b ∷ ys) x y z c = (z.0, zip_another C xs ys x y z.1 c)
 
-zip_same : {T : Type 0} (C : T → T → Type 0) → ((x y : T) → C x y → y ≡ x) → (xs ys : List T) → AllZip C xs ys
-    → ys ≡ xs
-zip_same C f [] [] z = refl
-zip_same C f [] (b ∷ ys) z = absurd z
-zip_same C f (a ∷ xs) [] z = absurd z
-zip_same C f (a ∷ xs) (b ∷ ys) z = ap₂ (λ p ps. p ∷ ps) (f a b z.0) (zip_same C f xs ys z.1)
-
 zip_weaken : {T : Type 0} (C D : T → T → Type 0) → ((x y : T) → C x y → D x y)
     → (xs ys : List T) → AllZip C xs ys
     → AllZip D xs ys
@@ -41,6 +36,11 @@ zip_weaken C D f [] [] z = tt
 zip_weaken C D f [] (b ∷ ys) z = absurd z
 zip_weaken C D f (a ∷ xs) [] z = absurd z
 zip_weaken C D f (a ∷ xs) (b ∷ ys) z = (f a b z.0, zip_weaken C D f xs ys z.1)
+
+zip_same : {T : Type 0} (C : T → T → Type 0) → ((x y : T) → C x y → y ≡ x) → (xs ys : List T) → AllZip C xs ys
+    → ys ≡ xs
+zip_same C f xs ys z =
+    AllZip-map (λ x. x) xs ys (zip_weaken C (λ x y. y ≡ x) f xs ys z) ∙ map-id xs
 
 module _ {T S : Type 0} (eq : T → T → Bool) where
   -- a set's inserts in turn are a map's
@@ -57,29 +57,26 @@ module _ {T S : Type 0} (eq : T → T → Bool) where
 
   module _ (laws : IsEquivalence eq) (C : T → T → Type 0) (H : S → Type 0) (ts : List T)
       (distinct : IsDistinct eq ts) (s : S) (hasher : H s) (new : SetState T S) where
-    pub is_of_clones : (clones : List T) → AllZip C ts clones → MadeFrom (SetInserts eq) clones s new
-        → IsOfClones eq C H ts new
-    is_of_clones clones cloned made = record {
-      hash_builder = s;
-      hasher = hasher;
-      clones = clones;
-      cloned = cloned;
-      made = made;
-      equal = λ f. ap (elements_eq eq ts) (made_elements clones s new made)
-          ∙ clone_of_a_set eq laws ts clones distinct
-          (zip_weaken C (λ x y. eq x y ≡ true) f ts clones cloned);
-      same = λ f. made_elements clones s new made
-          ∙ ap (λ xs. keys_of (extended eq [] (pairs_of xs))) (zip_same C f ts clones cloned)
-          ∙ own_elements eq laws ts distinct;
-    }
-
-    -- the same of the items that a walk gave
+    -- of the items that a walk gave
     pub is_of_items : (items : List (Bor T)) (clones : List T) → map deref items ≡ ts
         → AllZip C (map deref items) clones
         → MadeFrom (SetInserts eq) clones s new
         → IsOfClones eq C H ts new
-    is_of_items items clones is cloned made = is_of_clones clones
-        (subst (λ xs. AllZip C xs clones) is cloned) made
+    is_of_items items clones is given made =
+        let cloned = subst (λ xs. AllZip C xs clones) is given in
+        record {
+          hash_builder = s;
+          hasher = hasher;
+          clones = clones;
+          cloned = cloned;
+          made = made;
+          equal = λ f. ap (elements_eq eq ts) (made_elements clones s new made)
+              ∙ clone_of_a_set eq laws ts clones distinct
+              (zip_weaken C (λ x y. eq x y ≡ true) f ts clones cloned);
+          same = λ f. made_elements clones s new made
+              ∙ ap (λ xs. keys_of (extended eq [] (pairs_of xs))) (zip_same C f ts clones cloned)
+              ∙ own_elements eq laws ts distinct;
+        }
 
 -- where calls gave an item at the end, the first of them gave one
 pub first_gave : {St X : Type 0} (steps : St → Option X → St → Type 0) (s t u : St) (xs : List X) (x : X)
@@ -100,24 +97,21 @@ module _ {St T : Type 0} (steps : St → Option (Bor T) → St → Type 0) (rest
   pub given_all : (s : St) (xs : List (Bor T)) → Drains steps s xs → map deref xs ≡ rest s
   given_all s xs d =
       let y = d.1 in
-      sym
-      (given_front s xs y.0 y.1 ∙ ap (λ l. map deref xs ++ l) (takes y.0 None d.0 y.2).0
+      sym (given_front s xs y.0 y.1 ∙ ap (λ l. map deref xs ++ l) (takes y.0 None d.0 y.2).0
       ∙ append-nil (map deref xs))
 
   -- so a set of clones of what it gives is made, by the answer, and may fail only if it has some left
   pub clones_by_answer : {S E : Type 0} (eq : T → T → Bool) → IsEquivalence eq → (C : T → T → Type 0)
       → (H : S → Type 0)
-      → (ts : List T) → IsDistinct eq ts
-      → (b : S) → H b
-      → (s : St) → rest s ≡ ts
+      → (ts : List T) (b : S) → H b → (s : St) → rest s ≡ ts → IsDistinct eq (rest s)
       → (r : Result (SetState T S) E)
       → IfOk r (λ new. (items : List (Bor T)) × (clones : List T) × Drains steps s items
       × AllZip C (map deref items) clones × MadeFrom (SetInserts eq) clones b new)
       → OnErr r ((x : Bor T) × (t : St) × steps s (Some x) t)
       → MatchResult r (IsOfClones eq C H ts) (λ _. ts ≡ [] → ⊥)
-  clones_by_answer eq laws C H ts distinct b hasher s is (Ok new) made refused =
-      is_of_items eq laws C H ts distinct b hasher new made.0 made.1 (given_all s made.0 made.2 ∙ is)
-      made.3 made.4
-  clones_by_answer eq laws C H ts distinct b hasher s is (Err e) made refused = λ none.
+  clones_by_answer eq laws C H ts b hasher s is distinct (Ok new) made refused =
+      is_of_items eq laws C H ts (subst (IsDistinct eq) is distinct) b hasher new made.0 made.1
+      (given_all s made.0 made.2 ∙ is) made.3 made.4
+  clones_by_answer eq laws C H ts b hasher s is distinct (Err e) made refused = λ none.
       let given = takes s (Some refused.0) refused.1 refused.2 in
       let left = sym given ∙ is ∙ none in absurd (cc)

@@ -17,6 +17,7 @@ use Rattle.hashlink_model.specs.Walk.{last_of}
 use Rattle.hashlink_model.proofs.Places.{slice_get_here}
 use Rattle.hashlink_model.proofs.SetElements.{moves_elements, set_inserts, set_replaces, put_element_back}
 use Rattle.hashlink_model.proofs.SetSteps.{IsDistinct-replaced}
+use Rattle.hashlink_set.specs.Answers.{as_value}
 use Rattle.hashlink_set.specs.Made.{GetsOrMakes}
 
 last_of-end : {X : Type 0} (xs : List X) (x : X) → last_of (xs ++ x ∷ []) ≡ Some x
@@ -94,22 +95,20 @@ module _ {T S : Type 0} (eq : T → T → Bool) where
         subst (λ z. GetsOrMakes eq Makes old new t (Err z)) (sym same)
         (none, made, subst (λ z. RefusesEntry eq old new x tt (z, tt)) same s)
 
--- what a move that found nothing leaves
-module _ {T S : Type 0} (eq : T → T → Bool) (old new : SetState T S) (t : T) (b : ℕ)
-    (s : Moves eq old new t b None) where
-  pub absent_unmoved : find (eq t) (elements_of old) ≡ None
-  absent_unmoved =
-      let none : is_some (find (eq t) (elements_of old)) ≡ false
-      = is_some-find eq t (elements_of old) ∙ sym (is_some-lookup (eq t) old.entries)
-      ∙ ap is_some (sym s.answer) in
-      by (find (eq t) (elements_of old)) none
-    where
-      by : (o : Option T) → is_some o ≡ false → o ≡ None
-      by None h = refl
-      by (Some x) h = absurd (cc)
-
-  pub same_unmoved : new ≡ old
-  same_unmoved = s.step
+-- a move that found nothing: no element is equal, and nothing changed
+pub unmoved : {T S : Type 0} (eq : T → T → Bool) (old new : SetState T S) (t : T) (n : ℕ) (there : Bool)
+    → there ≡ false → Moves eq old new t n (as_value there)
+    → (find (eq t) (elements_of old) ≡ None) × (new ≡ old)
+unmoved eq old new t n true unfound s = absurd (cc)
+unmoved eq old new t n false unfound s =
+    let none : is_some (find (eq t) (elements_of old)) ≡ false
+    = is_some-find eq t (elements_of old) ∙ sym (is_some-lookup (eq t) old.entries)
+    ∙ ap is_some (sym s.answer) in
+    (by (find (eq t) (elements_of old)) none, s.step)
+  where
+    by : {X : Type 0} (o : Option X) → is_some o ≡ false → o ≡ None
+    by None h = refl
+    by (Some x) h = absurd (cc)
 
 -- no two elements are equal after a replace, as before
 module _ {T S : Type 0} {eq : T → T → Bool} (laws : IsEquivalence eq) (old new : SetState T S) (t : T) where

@@ -22,8 +22,7 @@ module _ {T S : Type 0} (eq : T → T → Bool) where
   -- refused
   abbrev pub GetsOrMakes : (T → Type 0) → SetState T S → SetState T S → T → Result T T → Type 0
   GetsOrMakes Makes old new t r =
-      MatchResult r
-      (λ x. UnwrapsOrElse (find (eq t) (elements_of old)) Makes x
+      MatchResult r (λ x. UnwrapsOrElse (find (eq t) (elements_of old)) Makes x
       × MatchOption (find (eq t) (elements_of old)) (AddsEntry eq old new x tt (length old.entries))
       (λ _. Moves eq old new t (length old.entries) (Some tt)))
       (λ x. (find (eq t) (elements_of old) ≡ None) × Makes x × RefusesEntry eq old new x tt (x, tt))

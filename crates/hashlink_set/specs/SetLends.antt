@@ -26,8 +26,7 @@ abbrev pub MakesElement : {T S : Type 0} → (T → T → Bool) → (T → Type 
     → SetState T S → T → Option T
     → Type 0
 MakesElement {T} eq Makes old new t o =
-    MatchOption o
-    ((x : T) × (last_of (elements_of new) ≡ Some x) × GetsOrMakes eq Makes old new t (Ok x))
+    MatchOption o ((x : T) × (last_of (elements_of new) ≡ Some x) × GetsOrMakes eq Makes old new t (Ok x))
     (λ x. GetsOrMakes eq Makes old new t (Err x))
 
 module _ (T S H : RattleType) (g : HashMembers T.Denot) (b : builder.Ghosts S.Denot H.Denot)

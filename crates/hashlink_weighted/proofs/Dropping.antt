@@ -2,12 +2,14 @@
 use Rattle.std.proofs.Common.{◌≡◌, ℕ, ◌+◌, ◌-◌, ◌<◌, ◌≤◌, List, [], ◌∷◌, ◌++◌, length, drop, None, Some, refl}
 use Rattle.std.proofs.Common.{sym, ap, ◌∙◌, subst, arith, le_refl}
 use Rattle.std.proofs.lemmas.Bool.{lt-leb}
-use Rattle.std.proofs.lemmas.Option.{none-some, same_Some}
+use Rattle.std.proofs.lemmas.List.{length-append}
+use Rattle.std.proofs.lemmas.Option.{none-some}
 use Rattle.hashlink_model.specs.MapState.{MapState}
 use Rattle.hashlink_model.specs.Steps.{KeepsOnly, PopsFront}
 use Rattle.hashlink_model.specs.Walk.{first_of}
 use Rattle.hashlink_model.specs.Weights.{total_weight, fitting}
 use Rattle.hashlink_model.proofs.NodeCounts.{removes_keeps, keeps_twice}
+use Rattle.hashlink_model.proofs.Pops.{pops_front}
 use Rattle.hashlink_model.proofs.Weighted.{fitting-whole}
 use Rattle.hashlink_weighted.specs.Weighed.{HasTotal, LastWeighs}
 use Rattle.hashlink_weighted.proofs.Totals.{total-cons, total-append}
@@ -43,53 +45,33 @@ pub fitting-drops : {K V : Type 0} (e : K × (V × ℕ)) (es : List (K × (V × 
     → fitting (e ∷ es) budget ≡ fitting es budget
 fitting-drops e es budget l = rw (lt-leb (total_weight (e ∷ es)) budget l) refl
 
--- where the others weigh something there is a first one, which is not the last
-pub record StandsFirst {K V : Type 0} (es : List (K × (V × ℕ))) (others weight : ℕ)
-    (e : K × (V × ℕ)) : Type 0 where
-  pub rest : List (K × (V × ℕ))
-  pub split : es ≡ e ∷ rest
-  pub light : e.1.1 ≤ others
-  pub after : LastWeighs rest (others - e.1.1) weight
-
-first_by : {K V : Type 0} (es before : List (K × (V × ℕ))) (last : K × (V × ℕ)) (others weight : ℕ)
-    → es ≡ before ++ last ∷ []
-    → total_weight before ≡ others → last.1.1 ≡ weight → 0 < others
-    → (e : K × (V × ℕ)) × StandsFirst es others weight e
-first_by es [] last others weight s o w p = absurd (omega arith)
-first_by es (e ∷ before) last others weight s o w p =
-    let c = total-cons e before in (
-      e,
-      record {
-        rest = before ++ last ∷ [];
-        split = s;
-        light = omega arith;
-        after =
-            record {
-              before = before;
-              last = last;
-              split = refl;
-              others_weigh =
-                  omega arith;
-              last_weighs = w;
-            };
-      },
-    )
-
-pub stands_first : {K V : Type 0} (es : List (K × (V × ℕ))) (others weight : ℕ) → LastWeighs es others weight
-    → 0 < others
-    → (e : K × (V × ℕ)) × StandsFirst es others weight e
-stands_first es others weight l p =
-    first_by es l.before l.last others weight l.split l.others_weigh l.last_weighs p
+-- where the others weigh something the first is not the last, and what comes after it weighs so much less
+first_leaves : {K V : Type 0} (e : K × (V × ℕ)) (rest : List (K × (V × ℕ))) (others weight : ℕ)
+    → LastWeighs (e ∷ rest) others weight → 0 < others
+    → (e.1.1 ≤ others) × LastWeighs rest (others - e.1.1) weight
+first_leaves {K} {V} e rest others weight l p = by l.before l.split l.others_weigh
+  where
+    by : (before : List (K × (V × ℕ))) → e ∷ rest ≡ before ++ l.last ∷ [] → total_weight before ≡ others
+        → (e.1.1 ≤ others) × LastWeighs rest (others - e.1.1) weight
+    by [] s o = absurd (omega arith)
+    by (f ∷ before) s o =
+        let same : e ≡ f = cc in
+        let weighs = ap (λ x. x.1.1) same in
+        let all = total-cons f before in (
+          omega arith,
+          record {
+            before = before;
+            last = l.last;
+            split = cc;
+            others_weigh = omega arith;
+            last_weighs = l.last_weighs;
+          },
+        )
 
 pub total-last : {K V : Type 0} (es : List (K × (V × ℕ))) (others weight : ℕ) → LastWeighs es others weight
     → total_weight es ≡ others + weight
 total-last es others weight l =
-    let all = ap total_weight l.split in
-    let a = total-append l.before (l.last ∷ []) in
-    let c = total-cons l.last [] in
-    let o = l.others_weigh in
-    let w = l.last_weighs in
-    omega arith
+    omega (arith, ap total_weight l.split, total-append l.before (l.last ∷ []), total-cons l.last [])
 
 module _ {K V S : Type 0} (old between new : MapState K (V × ℕ) S) (others weight budget : ℕ) where
   -- one more was dropped
@@ -98,48 +80,37 @@ module _ {K V S : Type 0} (old between new : MapState K (V × ℕ) S) (others we
     pub dropped : HasDropped old new (others - e.1.1) weight budget
     pub fewer : length new.entries < length between.entries
 
-  one_by : (e f : K × (V × ℕ)) (rest : List (K × (V × ℕ))) → Some f ≡ first_of between.entries
-      → between.entries ≡ e ∷ rest
-      → f ≡ e
-  one_by e f rest a s = same_Some _ _ (a ∙ ap first_of s)
-
   pub drops_one : HasDropped old between others weight budget → weight ≤ budget → budget - weight < others
       → (f : K × (V × ℕ)) → PopsFront between new (Some f)
       → DropsOne f
   drops_one d n over f pops =
-      let s = stands_first between.entries others weight d.last (omega arith) in
-      let first = s.1 in
-      let same = one_by s.0 f first.rest pops.answer first.split in
-      let left : new.entries ≡ first.rest = pops.step.entries ∙ ap (drop 1) first.split in
-      let heavy : budget < total_weight between.entries
-      = let t = total-last between.entries others weight d.last in omega arith in
-      let fits : fitting new.entries budget ≡ fitting between.entries budget
-      = ap (λ es. fitting es budget) left
-      ∙ sym (fitting-drops s.0 first.rest budget (subst (λ es. budget < total_weight es) first.split heavy))
-      ∙ ap (λ es. fitting es budget) (sym first.split) in
+      let split = (pops_front between new f pops).0 in
+      let last = subst (λ es. LastWeighs es others weight) split d.last in
+      let left = first_leaves f new.entries others weight last (omega arith) in
+      let total = total-last (f ∷ new.entries) others weight last in
       let step = removes_keeps between new (drop 1 between.entries) pops.step in
-      let all = keeps_twice old between new between.entries (drop 1 between.entries) d.keeps step in
-      let fewer = pops.step.fewer in
-      let length_left = ap length pops.step.entries in
       record {
-        light = subst (λ x. x.1.1 ≤ others) (sym same) first.light;
+        light = left.0;
         dropped =
             record {
-              keeps = subst (KeepsOnly old new) (sym pops.step.entries) all;
-              last =
-                  subst (λ es. LastWeighs es (others - f.1.1) weight) (sym left)
-                  (subst (λ x. LastWeighs first.rest (others - x.1.1) weight) (sym same) first.after);
-              same = fits ∙ d.same;
+              keeps = subst (KeepsOnly old new) (sym pops.step.entries)
+                  (keeps_twice old between new between.entries (drop 1 between.entries) d.keeps step);
+              last = left.1;
+              same = sym (fitting-drops f new.entries budget (omega arith))
+                  ∙ ap (λ es. fitting es budget) (sym split) ∙ d.same;
             };
-        fewer = omega arith;
+        fewer = omega (arith, pops.step.fewer, ap length pops.step.entries);
       }
 
   pub not_none : HasDropped old between others weight budget → budget - weight < others
       → PopsFront between new None
       → ⊥
   not_none d over pops =
-      let s = stands_first between.entries others weight d.last (omega arith) in
-      none-some s.0 (pops.answer ∙ ap first_of s.1.split)
+      by between.entries pops.answer (ap length d.last.split ∙ length-append d.last.before (d.last.last ∷ []))
+    where
+      by : (es : List (K × (V × ℕ))) → None ≡ first_of es → length es ≡ length d.last.before + 1 → ⊥
+      by [] none long = omega arith
+      by (e ∷ es) none long = none-some e none
 
 -- what is left once the weights fit
 pub drops_enough : {K V S : Type 0} (old new : MapState K (V × ℕ) S) (others weight budget : ℕ)

@@ -1,21 +1,16 @@
 -- The calls on the entries that are evicted.
-use Rattle.std.proofs.Common.{◌≡◌, ℕ, ◌-◌, ◌<◌, ◌≤◌, List, [], ◌∷◌, drop, Some, refl, sym, ap, ◌∙◌, subst}
+use Rattle.std.proofs.Common.{◌≡◌, ℕ, ◌-◌, ◌<◌, ◌≤◌, List, [], ◌∷◌, Some, refl, sym, ap, ◌∙◌, subst}
 use Rattle.std.proofs.Common.{arith, ◌++◌, Bool, true, false, cond}
 use Rattle.std.specs.Prelude.{nat_le}
 use Rattle.std.specs.Fn.{Called, Mut, Takes}
 use Rattle.std.proofs.lemmas.Bool.{le-leb, lt-leb}
-use Rattle.std.proofs.lemmas.Option.{none-some, same_Some}
 use Rattle.hashlink_model.specs.MapState.{MapState}
 use Rattle.hashlink_model.specs.Steps.{PopsFront}
-use Rattle.hashlink_model.specs.Walk.{first_of}
 use Rattle.hashlink_model.specs.Weights.{fitting, total_weight}
+use Rattle.hashlink_model.proofs.Pops.{pops_front}
 use Rattle.hashlink_weighted.specs.Evicted.{IsGivenEach, TakesEach, not_fitting}
 use Rattle.hashlink_weighted.specs.Weighed.{LastWeighs}
 use Rattle.hashlink_weighted.proofs.Dropping.{total-last}
-
-first_split : {X : Type 0} (xs : List X) (x : X) → Some x ≡ first_of xs → xs ≡ x ∷ drop 1 xs
-first_split [] x f = absurd (none-some x (sym f))
-first_split (y ∷ xs) x f = ap (λ z. z ∷ xs) (same_Some y x (sym f))
 
 module _ {K V : Type 0} where
   -- the first of a list that weighs too much is evicted, and then those of the others that do not fit
@@ -43,8 +38,7 @@ module _ {K V : Type 0} where
       split_by e es budget (nat_le (total_weight (e ∷ es)) budget) (evicted_before es budget)
 
 module _ {F K V : Type 0} (calls : Mut F (K × (V × Unit {0})) (Unit {0})) (first : F)
-    (all : List (K × (V × ℕ)))
-    (budget : ℕ) where
+    (all : List (K × (V × ℕ))) (budget : ℕ) where
   -- how far the calls have come: f may be called on what is still to be evicted of `left`, and where these
   -- calls end in a state all calls do
   pub record Evicting (f : F) (left : List (K × (V × ℕ))) : Type 0 where
@@ -66,8 +60,7 @@ module _ {F K V : Type 0} (calls : Mut F (K × (V × Unit {0})) (Unit {0})) (fir
     next =
         let t = total-last between.entries others weight last in
         let heavy : budget < total_weight between.entries = omega arith in
-        let split : between.entries ≡ e ∷ left =
-        first_split between.entries e pops.answer ∙ ap (λ zs. e ∷ zs) (sym pops.step.entries) in
+        let split : between.entries ≡ e ∷ left = (pops_front between new e pops).0 in
         ap (λ zs. not_fitting zs budget) split
         ∙ not_fitting-first e left budget (subst (λ zs. budget < total_weight zs) split heavy)
 

@@ -3,16 +3,12 @@ use Rattle.std.proofs.Common.{◌≡◌, suc, ◌-◌, ◌≤◌, Some, List, []
 use Rattle.std.specs.Prelude.{slice_get}
 use Rattle.std.proofs.lemmas.List.{length-append}
 use Rattle.hashlink_model.specs.Walk.{last_of}
-
-last_by : {X : Type 0} (xs : List X) (x : X) → slice_get (xs ++ x ∷ []) (length xs) ≡ Some x
-last_by [] x = refl
-last_by (y ∷ xs) x = last_by xs x
+use Rattle.hashlink_model.proofs.Places.{slice_get_here}
 
 pub last_is : {X : Type 0} (xs : List X) (x : X) → last_of (xs ++ x ∷ []) ≡ Some x
 last_is xs x =
-    let l = length-append xs (x ∷ []) in
-    let n : length (xs ++ x ∷ []) - 1 ≡ length xs = omega arith in
-    ap (slice_get (xs ++ x ∷ [])) n ∙ last_by xs x
+    let n : length (xs ++ x ∷ []) - 1 ≡ length xs = omega (arith, length-append xs (x ∷ [])) in
+    rw (n, slice_get_here xs x []) refl
 
 -- the last of an end is that of the list
 pub last_of_end : {X : Type 0} (xs ys : List X) → 1 ≤ length ys → last_of (xs ++ ys) ≡ last_of ys

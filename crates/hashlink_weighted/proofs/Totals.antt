@@ -1,20 +1,18 @@
 -- Sums of weights after an entry left, was put last or moved last.
 use Rattle.std.proofs.Common.{◌≡◌, ℕ, ◌+◌, ◌-◌, ◌≤◌, Bool, List, [], ◌∷◌, ◌++◌, length, Option, None, Some}
 use Rattle.std.proofs.Common.{refl, sym, ap, subst, ◌∙◌, arith}
-use Rattle.std.specs.Prelude.{MatchOption}
 use Rattle.std.specs.Map.{lookup, lookup_entry, remove_entry}
-use Rattle.std.specs.Option.{option_map}
 use Rattle.std.proofs.lemmas.List.Sums.{sum_by-cons, sum_by-append}
 use Rattle.std.proofs.lemmas.Option.{same_Some}
 use Rattle.hashlink_model.specs.Entries.{put, moved, moved_match, without, stored_key}
-use Rattle.hashlink_model.specs.MapState.{MapState, Removes}
+use Rattle.hashlink_model.specs.MapState.{MapState}
 use Rattle.hashlink_model.specs.Steps.{RemovesMatch, MovesMatch}
 use Rattle.hashlink_model.specs.Weights.{total_weight}
-use Rattle.hashlink_model.proofs.Finds.{lookup_is}
 use Rattle.hashlink_model.proofs.Splits.{Stands, stands_from_lookup, none_from_lookup, remove_entry-none}
 use Rattle.hashlink_model.proofs.Splits.{remove_entry-here, lookup-here}
 use Rattle.hashlink_model.proofs.Afterwards.{moved-there}
 use Rattle.hashlink_model.proofs.Puts.{put_back}
+use Rattle.hashlink_map.proofs.Outcomes.{removes_entries}
 use Rattle.hashlink_weighted.specs.Weighed.{HasTotal, LastWeighs, weight_or_none}
 
 module _ {K V : Type 0} where
@@ -37,10 +35,7 @@ module _ {K V : Type 0} (test : K → Bool) where
       let all = ap total_weight s.3.is in
       let left = ap (λ zs. total_weight (remove_entry test zs)) s.3.is in
       let rest = ap total_weight (remove_entry-here test s.1 s.2 s.3.passes s.0 s.3.before) in
-      let a = total-append s.0 (s.1 ∷ s.2) in
-      let b = total-append s.0 s.2 in
-      let c = total-cons s.1 s.2 in
-      omega arith
+      omega (arith, total-append s.0 (s.1 ∷ s.2), total-append s.0 s.2, total-cons s.1 s.2)
 
   pub total-without : (es : List (K × (V × ℕ))) (o : Option (V × ℕ)) → lookup test es ≡ o
       → total_weight (remove_entry test es) + weight_or_none o ≡ total_weight es
@@ -70,28 +65,13 @@ module _ {K V : Type 0} (eq : K → K → Bool) where
       let there = ap total_weight (moved-there eq es k (length es) w l) in
       let split = ap total_weight (put_back eq es k w) in
       let a = total-append (without eq es k) ((stored_key eq es k, w) ∷ []) in
-      let c = total-cons (stored_key eq es k, w) [] in
-      let rest = total-without (eq k) es (Some w) l in
-      omega arith
+      omega (arith, total-cons (stored_key eq es k, w) [], total-without (eq k) es (Some w) l)
 
 total-moved : {K V : Type 0} (test : K → Bool) (es : List (K × (V × ℕ))) (w : V × ℕ) → lookup test es ≡ Some w
     → total_weight (moved_match test es (length es)) ≡ total_weight es
 total-moved test es w l = moved_by (λ _. test) es (stands_from_lookup test es w l).1.0 w l
 
 module _ {K V S : Type 0} (test : K → Bool) (old new : MapState K (V × ℕ) S) (total budget : ℕ) where
-  removed_by : (o : Option (K × (V × ℕ))) → lookup_entry test old.entries ≡ o
-      → MatchOption o (new ≡ old) (λ _. Removes old new (remove_entry test old.entries))
-      → new.entries ≡ remove_entry test old.entries
-  removed_by None l s =
-      let absent = lookup_is test old.entries ∙ ap (option_map (λ e. e.1)) l in
-      ap (λ m. m.entries) s ∙ sym
-      (remove_entry-none test old.entries (none_from_lookup test old.entries absent))
-  removed_by (Some e) l s = s.entries
-
-  removes_entries : RemovesMatch test old new (lookup_entry test old.entries)
-      → new.entries ≡ remove_entry test old.entries
-  removes_entries s = removed_by (lookup_entry test old.entries) refl s.step
-
   -- what an entry that left leaves of a total, and where there was none
   pub removes_weight : (w : V × ℕ) → Some w ≡ lookup test old.entries
       → RemovesMatch test old new (lookup_entry test old.entries)
@@ -99,7 +79,7 @@ module _ {K V S : Type 0} (test : K → Bool) (old new : MapState K (V × ℕ) S
       → (w.1 ≤ total) × HasTotal new.entries (total - w.1) budget
   removes_weight w l s t =
       let rest = total-without test old.entries (Some w) (sym l) in
-      let left = ap total_weight (removes_entries s) in
+      let left = ap total_weight (removes_entries old new test _ s) in
       let sum = t.sum in
       let within = t.within in
       (omega arith, record { sum = omega arith; within = omega arith })
@@ -110,7 +90,7 @@ module _ {K V S : Type 0} (test : K → Bool) (old new : MapState K (V × ℕ) S
       → HasTotal new.entries total budget
   removes_none l s t =
       let rest = total-without test old.entries None (sym l) in
-      let left = ap total_weight (removes_entries s) in
+      let left = ap total_weight (removes_entries old new test _ s) in
       let sum = t.sum in
       record { sum = omega arith; within = t.within }
 

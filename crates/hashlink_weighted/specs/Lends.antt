@@ -17,5 +17,4 @@ module _ (K V S T : RattleType) (g : HashMembers K.Denot) (b : builder.Ghosts S.
   -- the first entry whose key passes moved last, where one does, with the value and the weight that stand
   abbrev pub EndsUsed : MutBor (WeightedState K.Denot V.Denot S.Denot) → (K.Denot → Bool) → Fml
   EndsUsed c test =
-      follows_so cache_row cache_row c.ghost_name none (λ _ _. ⊤)
-      (λ new. WeightedGetsMatch test c.now new)
+      follows_so cache_row cache_row c.ghost_name none (λ _ _. ⊤) (λ new. WeightedGetsMatch test c.now new)

@@ -4,59 +4,23 @@ use Rattle.hashlink_curve.proofs.Placing.{Renumbers-step, Renumbers-free, Renumb
 use Rattle.hashlink_curve.proofs.recency.renumber.Goals as goal
 
 pub mark-requires-clause-unmarked : goal.mark-requires-clause-unmarked
-mark-requires-clause-unmarked g c =
-    let i = c.loop-place.invariant in
-    let wide = i.1 in
-    let count = i.2 in
-    Renumbers-free g.K.PartialEq.eq (entries_of c.args.places.now) (entries_of c.loop-place.places)
-    c.loop-place.marks c.loop-place.place i.0 (omega arith)
+mark-requires-clause-unmarked g c = Renumbers-free c.loop-place.invariant.0 (omega arith)
 
 pub loop-place-preserved : goal.loop-place-preserved
 loop-place-preserved g c =
     let i = c.loop-place.invariant in
-    let wide = i.1 in
     let count = i.2 in
-    let small = i.3 in
-    let w = c.mark.ensures.width in (
-      Renumbers-step g.K.PartialEq.eq g.met.K.Eq.laws (entries_of c.args.places.now)
-          (state_of c.loop-place.places)
+    let small = i.3 in (
+      Renumbers-step g.K.PartialEq.eq (entries_of c.args.places.now) (state_of c.loop-place.places)
           (state_of c.pop_front.new.self) (state_of c.insert.new.self) c.loop-place.marks c.mark.new.self
-          c.loop-place.place c.in-Some.key c.in-Some.field-0-1 c.in-Ok.field-0 i.0 (omega arith)
-          c.in-Some.ensures.pops c.in-Ok.ensures.inserts c.insert.ensures.distinct c.mark.ensures.marked,
+          c.loop-place.place c.in-Some.key c.in-Some.field-0-1 i.0 (omega arith) c.in-Some.ensures.pops
+          c.in-Ok.ensures.added c.insert.ensures.distinct c.mark.ensures.marked,
       omega arith,
       count,
       small,
     )
 
-pub returns-clause-placed : goal.returns-clause-placed
-returns-clause-placed g c =
-    let i = c.loop-place.invariant in
-    let wide = i.1 in
-    let count = i.2 in
-    let small = i.3 in
-    let e = Renumbers-end g.K.PartialEq.eq (entries_of c.args.places.now) (entries_of c.loop-place.places)
-    c.loop-place.marks c.loop-place.place i.0 (omega arith) in
-    let long = e.4 in
-    record {
-      distinct = i.0.distinct;
-      rises = e.2;
-      marked = e.1;
-      within = omega arith;
-    }
-
-pub returns-clause-free : goal.returns-clause-free
-returns-clause-free g c =
-    let i = c.loop-place.invariant in
-    let wide = i.1 in
-    let count = i.2 in
-    let e = Renumbers-end g.K.PartialEq.eq (entries_of c.args.places.now) (entries_of c.loop-place.places)
-    c.loop-place.marks c.loop-place.place i.0 (omega arith) in
-    let long = e.4 in
-    omega arith
-
-pub returns-clause-keys : goal.returns-clause-keys
-returns-clause-keys g c =
-    let i = c.loop-place.invariant in
-    let count = i.2 in
-    (Renumbers-end g.K.PartialEq.eq (entries_of c.args.places.now) (entries_of c.loop-place.places)
-    c.loop-place.marks c.loop-place.place i.0 (omega arith)).3
+pub returns : goal.returns
+returns g c =
+    let e = Renumbers-end c.loop-place.invariant.0 (omega arith) (omega arith) in
+    record { placed = e.0; free = omega (arith, e.2); keys = e.1; unchanged = tt }

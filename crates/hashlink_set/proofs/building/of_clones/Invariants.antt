@@ -11,8 +11,7 @@ use Rattle.hashlink_set.proofs.building.of_clones.Given as goal
 abbrev pub invariant-loop-element : goal.invariant-loop-element
 invariant-loop-element g l =
     it.Ran g.I.Iterator.can_next (EndsFrom g.I.Iterator.remaining) (items_left g.I.Iterator.remaining)
-    g.I.Iterator.next_gives
-    (λ xs. (ys : List g.row.T.Denot) × AllZip g.T.Clone.is_clone (map deref xs) ys
+    g.I.Iterator.next_gives (λ xs. (ys : List g.row.T.Denot) × AllZip g.T.Clone.is_clone (map deref xs) ys
     × AcceptsAll (SetInserts g.T.PartialEq.eq) l.initial.set ys l.set)
     l.initial.rest l.rest
 

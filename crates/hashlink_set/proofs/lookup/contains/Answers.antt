@@ -1,9 +1,9 @@
 use Rattle.std.proofs.Common.{◌∙◌}
 use Rattle.hashlink_core.specs.Keyed.{entries_of}
-use Rattle.hashlink_set.proofs.Lookups.{member-found}
+use Rattle.std.proofs.lemmas.Map.Made.{is_some-lookup}
 use Rattle.hashlink_set.proofs.lookup.contains.Goals as goal
 
 pub returns : goal.returns
 returns g c =
-    c.contains_key.ensures.found ∙ member-found (entries_of c.args.map.now)
-    (g.T.PartialEq.eq c.args.element.now)
+    c.contains_key.ensures.found ∙ is_some-lookup (g.T.PartialEq.eq c.args.element.now)
+    (entries_of c.args.map.now)

@@ -22,7 +22,6 @@ returns-clause-last g c = λ eq old new k v weight answer s.
 pub returns-clause-evicted : goal.returns-clause-evicted
 returns-clause-evicted g c = λ eq old new k v weight answer s.
     let all = put eq old.map.entries k (v, weight) (length old.map.entries) in
-    sym
-    (ap (λ es. not_fitting all old.budget ++ es)
+    sym (ap (λ es. not_fitting all old.budget ++ es)
     (weighted_entries eq old new k v weight (lookup (eq k) old.map.entries) s.inserts)
     ∙ evicted_before all old.budget)

@@ -6,7 +6,6 @@ use Rattle.hashlink_curve.proofs.curve.MissCurve.falls.Goals as goal
 
 pub returns : goal.returns
 returns g c =
-    let all = c.self.invariant.all in
     let same = c.deref.ensures.value in
     let sums = ap sum same in
     let cold : c.self.inside.accesses - sum c.deref.result.now ≡ length c.self.inside.recency = omega arith in

@@ -6,8 +6,6 @@ use Rattle.hashlink_curve.proofs.curve.MissCurve.misses.Goals as goal
 
 pub sum_from-requires : goal.sum_from-requires
 sum_from-requires g c =
-    let all = c.self.invariant.all in
-    let fits = c.self.invariant.fits in
     let same = ap (λ ns. sum (drop c.args.capacity ns)) c.deref.ensures.value in
     let less : sum (drop c.args.capacity c.self.inside.reuses.items) ≤ sum c.self.inside.reuses.items
     = sum-drop-falls 0 c.args.capacity c.self.inside.reuses.items (omega arith) in
@@ -15,11 +13,7 @@ sum_from-requires g c =
 
 pub overflow_add-result : goal.overflow_add-result
 overflow_add-result g c =
-    let all = c.self.invariant.all in
-    let fits = c.self.invariant.fits in
     let same = ap (λ ns. sum (drop c.args.capacity ns)) c.deref.ensures.value in
-    let is = c.sum_from.ensures in
-    let long = c.len.ensures in
     let less : sum (drop c.args.capacity c.self.inside.reuses.items) ≤ sum c.self.inside.reuses.items
     = sum-drop-falls 0 c.args.capacity c.self.inside.reuses.items (omega arith) in
     omega arith
@@ -30,8 +24,6 @@ returns g c =
     let reuses = c.self.inside.reuses.items in
     let v = c.self.view_is in
     let same = ap (λ ns. sum (drop c.args.capacity ns)) c.deref.ensures.value in
-    let is = c.sum_from.ensures in
-    let long = c.len.ensures in
     let inner : c.len.result + c.sum_from.result ≡ length keys + sum (drop c.args.capacity reuses) =
     omega arith in
     let exact : c.len.result + c.sum_from.result ≡ misses_at c.args.self.now c.args.capacity
@@ -45,9 +37,7 @@ returns g c =
           = ap (λ (s : CurveState g.row.K.Denot). misses_at s n) v in
           omega arith;
       floor = λ l.
-          let d = c.self.invariant.distances in
           let e : length keys ≡ length c.args.self.now.keys
           = ap (λ (s : CurveState g.row.K.Denot). length s.keys) v in
-          let f = sum-drop-all c.args.capacity reuses (omega arith) in
-          omega arith;
+          omega (arith, sum-drop-all c.args.capacity reuses (omega arith));
     }

@@ -70,9 +70,8 @@ entry_spec 𝓤 𝓛 𝓜 𝓡 wired K V S T LK LV LS LT e de p dp h dh b db w d
     let hs : Stays En.signature.params En.kept
     = (stay_dropped (mut_ref_to (0 ∷ []) tt self) no, (stay_dropped key no, tt)) in
     proved_at 𝓛 En hs c 𝓜 𝓡
-    (Goes-spent_ref 𝓛 5 (0 ∷ []) tt self, (Goes-dropped 𝓛 5 key no (λ κs x f. refl), tt))
-    (f.Key.name inst) fn (code.unfolded 𝓤 H 𝓜 𝓡 wired (K, (V, (S, (T, tt)))) de dp dh db dw dd dk dv)
-    (λ z are.
+    (Goes-spent_ref 𝓛 5 (0 ∷ []) tt self, (Goes-dropped 𝓛 5 key no (λ κs x f. refl), tt)) (f.Key.name inst) fn
+    (code.unfolded 𝓤 H 𝓜 𝓡 wired (K, (V, (S, (T, tt)))) de dp dh db dw dd dk dv) (λ z are.
     let κs = z.0.0 in let qs = z.0.1 in let a = z.0.3 in let r = a.0 in let k = a.1.0 in let κ = κs.0 in
     let W = walk_of 𝓛 En hs c in
     let Ref : RattleType = MutRef (named 0) κ Map in
@@ -99,9 +98,7 @@ entry_spec 𝓤 𝓛 𝓜 𝓡 wired K V S T LK LV LS LT e de p dp h dh b db w d
     let Evicts : Ref.Denot → Type 0 = λ q. EvictsFront old.map (keyed.state_of q.now) old.cap in
     let Distinct : Ref.Denot → Type 0 = λ q. IsEntries p.eq (entries_of q.now) in
     subst (λ (us : Valss (types_at En.signature.params κs)). ent 𝓤 (W.pre (At us))
-    (WpFn 𝓤 H 𝓣.C 𝓣.Λ fn (W.args
-    (At us)) (W.post (At us))))
-    (λ i. (sym is_ref i, (sym key_at.1 i, tt))) (
+    (WpFn 𝓤 H 𝓣.C 𝓣.Λ fn (W.args (At us)) (W.post (At us)))) (λ i. (sym is_ref i, (sym key_at.1 i, tt))) (
     qed 𝓛 ((raw (alive 𝓛 En.signature κs qs) ⊛ ‵ (owns (types_at En.signature.params κs) a vss)) ∷ raw
     ((c κs a).requires z.1) ∷ []) ∵ split ! $ move ! (2 ∷ []) $
     use1 𝓛 (raw (Again (emp 𝓤)) ⊛ raw (Again (emp 𝓤))) (asks_again 𝓤 (κs.1.0 ⊑ K.lives) (κs.1.1.0 ⊑ V.lives)
@@ -119,8 +116,7 @@ entry_spec 𝓤 𝓛 𝓜 𝓡 wired K V S T LK LV LS LT e de p dp h dh b db w d
     V S T LK LV LS LT e de p
     dp h dh b db w dw dd dk dv me mp mh mb mw md mk mv) y (and_then ! (get ! refl) (no_more !)) (λ v.
     use1 𝓛 (later (some (λ (q : Ref.Denot). (raw (alive 𝓛 En.signature κs qs) ⊛ ‵ (Ref.own_val q (v ∷ []))) ⊛
-    some
-    (λ (ls : Lasts E₁ κs (r, tt)). ‵ (lasts E₁ κs (r, tt) ls) ⊛ (raw (Hands q.ghost_name) ⊛
+    some (λ (ls : Lasts E₁ κs (r, tt)). ‵ (lasts E₁ κs (r, tt) ls) ⊛ (raw (Hands q.ghost_name) ⊛
     raw (fact 𝓤 (Evicts q)) ⊛ raw (fact 𝓤 (Distinct q))))))) (id⊢ 𝓤 (Y.post y v)) $
     await ! tt $ pick ! (λ q. split ! $ move ! (1 ∷ []) $ pick ! (λ ls. split ! $ drop ! $ split ! $
     move ! (1 ∷ []) $ split ! $ heard ! (Evicts q) (λ evicts. heard ! (Distinct q) (λ apart.
@@ -147,11 +143,9 @@ entry_spec 𝓤 𝓛 𝓜 𝓡 wired K V S T LK LV LS LT e de p dp h dh b db w d
     dp h dh b db w dw dd me mp mh mb mw md) y₂ (and_then ! (get ! refl) (and_then ! (get ! refl) (no_more !)))
     (λ v₂.
     use1 𝓛 (later (some (λ (o : Out.Denot). (raw (alive 𝓛 En.signature κs qs) ⊛ ‵ (Out.own_val o (v₂ ∷ []))) ⊛
-    some
-    (λ (ls : Lasts E₂ κs (q, (k, tt))). ‵ (lasts E₂ κs (q, (k, tt)) ls) ⊛ (raw (fact 𝓤 (Same o)) ⊛
+    some (λ (ls : Lasts E₂ κs (q, (k, tt))). ‵ (lasts E₂ κs (q, (k, tt)) ls) ⊛ (raw (fact 𝓤 (Same o)) ⊛
     raw (fact 𝓤 (Unchanged o)) ⊛ raw (fact 𝓤 (Found o)) ⊛ raw (fact 𝓤 (Value o)) ⊛ raw
-    (fact 𝓤 (Distinct q)))))))
-    (id⊢ 𝓤 (Y₂.post y₂ v₂)) $
+    (fact 𝓤 (Distinct q))))))) (id⊢ 𝓤 (Y₂.post y₂ v₂)) $
     await ! tt $ pick ! (λ o. split ! $ move ! (1 ∷ []) $ pick ! (λ ls₂. split ! $ drop ! $
     split ! $ heard ! (Same o) (λ same. split ! $ heard ! (Unchanged o) (λ unchanged. split ! $
     heard ! (Found o) (λ is_found. split ! $ heard ! (Value o) (λ value. heard ! (Distinct q) (λ apart'.

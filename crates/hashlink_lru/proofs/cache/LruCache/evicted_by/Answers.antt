@@ -6,38 +6,26 @@ use Rattle.hashlink_lru.proofs.cache.LruCache.evicted_by.Goals as goal
 
 pub returns-then-len-self-clause-found : goal.returns-then-len-self-clause-found
 returns-then-len-self-clause-found g c =
-    let long = c.len-len.ensures.len in
-    let room = c.if-len-self.true in
-    sym
-    (evicted-absent_room (g.Q.Equivalent.matches c.args.key) (entries_of c.args.self.now)
-    (state_of c.args.self.now).cap
-    (sym c.contains_key.ensures.found ∙ c.if-not-contains_key.true) (omega arith))
+    sym (evicted-absent_room (g.Q.Equivalent.matches c.args.key) (entries_of c.args.self.now)
+    (state_of c.args.self.now).cap (sym c.contains_key.ensures.found ∙ c.if-not-contains_key.true)
+    (omega arith))
 
 pub returns-else-len-self-clause-found : goal.returns-else-len-self-clause-found
 returns-else-len-self-clause-found g c =
-    let long = c.len-len.ensures.len in
-    let full = c.if-len-self.false in
     c.front.ensures.found
-    ∙ sym
-    (evicted-absent_full (g.Q.Equivalent.matches c.args.key) (entries_of c.args.self.now)
-    (state_of c.args.self.now).cap
-    (sym c.contains_key.ensures.found ∙ c.if-not-contains_key.true) (omega arith))
+    ∙ sym (evicted-absent_full (g.Q.Equivalent.matches c.args.key) (entries_of c.args.self.now)
+    (state_of c.args.self.now).cap (sym c.contains_key.ensures.found ∙ c.if-not-contains_key.true)
+    (omega arith))
 
 pub returns-then-len-self-2-clause-found : goal.returns-then-len-self-2-clause-found
 returns-then-len-self-2-clause-found g c =
-    let long = c.len-len.ensures.len in
-    let room = c.if-len-self-2.true in
-    sym
-    (evicted-there_room (g.Q.Equivalent.matches c.args.key) (entries_of c.args.self.now)
-    (state_of c.args.self.now).cap
-    (sym c.contains_key.ensures.found ∙ c.if-not-contains_key.false) (omega arith))
+    sym (evicted-there_room (g.Q.Equivalent.matches c.args.key) (entries_of c.args.self.now)
+    (state_of c.args.self.now).cap (sym c.contains_key.ensures.found ∙ c.if-not-contains_key.false)
+    (omega arith))
 
 pub returns-clause-found : goal.returns-clause-found
 returns-clause-found g c =
-    let long = c.len-len.ensures.len in
-    let full = c.if-len-self-2.false in
     c.first_other.ensures
-    ∙ sym
-    (evicted-there_full (g.Q.Equivalent.matches c.args.key) (entries_of c.args.self.now)
-    (state_of c.args.self.now).cap
-    (sym c.contains_key.ensures.found ∙ c.if-not-contains_key.false) (omega arith))
+    ∙ sym (evicted-there_full (g.Q.Equivalent.matches c.args.key) (entries_of c.args.self.now)
+    (state_of c.args.self.now).cap (sym c.contains_key.ensures.found ∙ c.if-not-contains_key.false)
+    (omega arith))

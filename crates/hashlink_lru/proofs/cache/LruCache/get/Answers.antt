@@ -18,9 +18,8 @@ returns-in-Some g c =
             (record {
               map =
                   moved_match_last g.K.PartialEq.eq g.met.K.Eq.laws test
-                  (g.met.Q.Equivalent.finds_equal c.args.key)
-                  (state_of c.args.self.now.map) _ v c.to_back.ensures.distinct at
-                  (on-some c.in-Some.is (c.to_back.follows.holds v));
+                  (g.met.Q.Equivalent.finds_equal c.args.key) (state_of c.args.self.now.map) _ v
+                  c.to_back.ensures.distinct at (on-some c.in-Some.is (c.to_back.follows.holds v));
               cap = refl;
             }),
       ),

@@ -11,8 +11,7 @@ returns g c =
         λ w. (
           refl,
           on_some c.to_back.result
-              (λ s. used_and_written test _ _ w (record { map = s; cap = refl }))
-              (c.to_back.follows.holds w),
+              (λ s. used_and_written test _ _ w (record { map = s; cap = refl })) (c.to_back.follows.holds w),
         ),
         ap (λ m. record { map = m; cap = n }) c.to_back.follows.holds-at-none,
       ),

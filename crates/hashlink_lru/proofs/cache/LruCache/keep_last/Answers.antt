@@ -10,9 +10,6 @@ loop-preserved g c =
     let new = c.pop_front.new.self in
     let i = c.loop.invariant in
     let end = i.2 in
-    let low = i.3 in
-    let high = i.4 in
-    let below = c.loop-test.true in
     let next : c.loop.counter - c.args.count + 1 ≡ c.loop.counter + 1 - c.args.count = omega arith in (
       subst (λ n. KeepsOnly (state_of old) (state_of new) (drop n (entries_of old))) next
           (drops_more (state_of old) (state_of c.loop.self.map) (state_of new) (c.loop.counter - c.args.count)
@@ -29,10 +26,6 @@ returns-clause-keeps g c =
     let old = c.args.self.now.map in
     let new = c.loop.self.map in
     let i = c.loop.invariant in
-    let end = i.2 in
-    let low = i.3 in
-    let high = i.4 in
-    let past = c.loop-test.false in
     let all : c.loop.counter - c.args.count ≡ length (entries_of old) - c.args.count = omega arith in
     record {
       map = subst (λ n. KeepsOnly (state_of old) (state_of new) (drop n (entries_of old))) all i.0;

@@ -11,8 +11,7 @@ returns g c =
         λ w. (
           refl,
           on_some c.get_mut.result
-              (λ s. written test _ _ w (ap (λ m. record { map = m; cap = n }) s))
-              (c.get_mut.follows.holds w),
+              (λ s. written test _ _ w (ap (λ m. record { map = m; cap = n }) s)) (c.get_mut.follows.holds w),
         ),
         ap (λ m. record { map = m; cap = n }) c.get_mut.follows.holds-at-none,
       ),

@@ -6,18 +6,11 @@ use Rattle.hashlink_lru.proofs.cache.LruCache.use_or_put.Goals as goal
 
 pub returns-then-len-before-clause-used : goal.returns-then-len-before-clause-used
 returns-then-len-before-clause-used g c =
-    let after = c.len.ensures.len in
-    let before = c.len-before.ensures.len in
-    let same = c.if-len-before.true in
     used_there g.K.PartialEq.eq _ (state_of c.args.self.now) _ (keyed.state_of c.move_or_make.new.map)
-    c.args.key
-    c.in_ok-move_or_make.ensures.puts (omega arith) refl refl
+    c.args.key c.in_ok-move_or_make.ensures.puts (omega arith) refl refl
 
 pub returns-clause-used : goal.returns-clause-used
 returns-clause-used g c =
-    let after = c.len.ensures.len in
-    let before = c.len-before.ensures.len in
-    let other = c.if-len-before.false in
     let keeps = c.keep_last.ensures.keeps in
     used_new g.K.PartialEq.eq _ (state_of c.args.self.now) (state_of c.keep_last.new.self)
     (keyed.state_of c.move_or_make.new.map) c.args.key c.in_ok-move_or_make.ensures.puts

@@ -1,7 +1,3 @@
-use Rattle.std.proofs.Common.{subst}
-use Rattle.std.specs.List.{IsDistinct}
-use Rattle.hashlink_model.specs.Algebra.{intersection_of}
-use Rattle.hashlink_model.specs.Sets.{elements_of}
 use Rattle.hashlink_set.specs.Walks.{intersection_rest, IntersectionSteps}
 use Rattle.hashlink_set.proofs.OfClones.{clones_by_answer}
 use Rattle.hashlink_set.proofs.building.RefLinkedHashSetBitAnd.bitand.Goals as goal
@@ -9,9 +5,8 @@ use Rattle.hashlink_set.proofs.building.RefLinkedHashSetBitAnd.bitand.Goals as g
 pub returns : goal.returns
 returns g c =
     let eq = g.T.PartialEq.eq in
-    let w = c.intersection in
-    let ts = intersection_of eq (elements_of c.args.self.now) (elements_of c.args.other.now) in
-    clones_by_answer (IntersectionSteps eq) (intersection_rest eq)
-    (λ s r t step. step.takes) eq g.met.T.Eq.laws g.T.Clone.is_clone g.S.Default.is_default ts
-    (subst (IsDistinct eq) w.ensures.rest w.ensures.unique) c.default.result c.default.ensures w.result
-    w.ensures.rest c.of_clones.result c.of_clones.ensures.made c.of_clones.ensures.refused
+    let walk = c.intersection in
+    clones_by_answer (IntersectionSteps eq) (intersection_rest eq) (λ s r t step. step.takes) eq
+    g.met.T.Eq.laws g.T.Clone.is_clone g.S.Default.is_default _ c.default.result c.default.ensures
+    walk.result walk.ensures.rest walk.ensures.unique c.of_clones.result c.of_clones.ensures.made
+    c.of_clones.ensures.refused

@@ -16,13 +16,11 @@ pub returns-in_err-extend-clause-stopped : goal.returns-in_err-extend-clause-sto
 returns-in_err-extend-clause-stopped g c =
     let e = c.in_err-extend.field-0.0 in
     stopped_at_last g.I.IntoIter.Iterator.next_gives (λ raw. raw) g.I.IntoIterator.into_iter_gives
-    (SetInserts g.T.PartialEq.eq) (Grows 1)
-    c.args.iter c.args.self.now c.extend.new.self c.from_residual.result e.taken e.pair.0
-    c.in_err-extend.ensures.stopped
+    (SetInserts g.T.PartialEq.eq) (Grows 1) c.args.iter c.args.self.now c.extend.new.self
+    c.from_residual.result e.taken e.pair.0 c.in_err-extend.ensures.stopped
 
 pub returns-clause-ran : goal.returns-clause-ran
 returns-clause-ran g c =
     took_all g.I.IntoIter.Iterator.next_gives (λ raw. raw) g.I.IntoIterator.into_iter_gives
     (SetInserts g.T.PartialEq.eq) (Grows 1) c.args.iter c.args.self.now c.extend.new.self
-    c.in_ok-extend.ensures.all
-    (grows-none c.extend.new.self)
+    c.in_ok-extend.ensures.all (grows-none c.extend.new.self)

@@ -18,13 +18,11 @@ pub returns-in_err-extend_ref-clause-stopped : goal.returns-in_err-extend_ref-cl
 returns-in_err-extend_ref-clause-stopped g c =
     let e = c.in_err-extend_ref.field-0.0 in
     stopped_at_last g.I.IntoIter.Iterator.next_gives (map deref) g.I.IntoIterator.into_iter_gives
-    (SetInserts g.T.PartialEq.eq) (Grows 1)
-    c.args.iter c.args.self.now c.extend_ref.new.self c.from_residual.result e.taken e.pair.0
-    c.in_err-extend_ref.ensures.stopped
+    (SetInserts g.T.PartialEq.eq) (Grows 1) c.args.iter c.args.self.now c.extend_ref.new.self
+    c.from_residual.result e.taken e.pair.0 c.in_err-extend_ref.ensures.stopped
 
 pub returns-clause-ran : goal.returns-clause-ran
 returns-clause-ran g c =
     took_all g.I.IntoIter.Iterator.next_gives (map deref) g.I.IntoIterator.into_iter_gives
     (SetInserts g.T.PartialEq.eq) (Grows 1) c.args.iter c.args.self.now c.extend_ref.new.self
-    c.in_ok-extend_ref.ensures.all
-    (grows-none c.extend_ref.new.self)
+    c.in_ok-extend_ref.ensures.all (grows-none c.extend_ref.new.self)

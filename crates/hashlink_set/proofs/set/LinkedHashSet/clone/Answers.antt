@@ -13,5 +13,4 @@ returns-clause-made g c =
     (λ n h. is_of_items eq g.met.T.Eq.laws g.T.Clone.is_clone (g.S.Clone.is_clone c.args.self.now.hasher) ts
     (search rules) c.in_ok-hash_builder.hash_builder (search rules) n h.0 h.1
     (given_all (TakesFirst deref) (λ l. l) (λ l r k step. step) c.iter.result h.0 h.2
-    ∙ c.iter.ensures.rest) h.3 h.4)
-    c.of_clones.ensures.made
+    ∙ c.iter.ensures.rest) h.3 h.4) c.of_clones.ensures.made

@@ -1,12 +1,10 @@
-use Rattle.std.proofs.Common.{ap, ◌∙◌}
-use Rattle.std.specs.List.{list_any}
+use Rattle.std.proofs.Common.{◌∙◌}
 use Rattle.hashlink_core.specs.Keyed.{entries_of}
-use Rattle.hashlink_model.specs.Sets.{elements_of}
-use Rattle.hashlink_set.proofs.Lookups.{member-found}
+use Rattle.std.proofs.lemmas.Map.Made.{is_some-lookup}
 use Rattle.hashlink_set.proofs.set.LinkedHashSet.contains.Goals as goal
 
 pub returns-clause-found : goal.returns-clause-found
 returns-clause-found g c =
-    let test = g.Q.Equivalent.matches c.args.value in
-    c.contains_key.ensures.found ∙ member-found (entries_of c.self.inside.map) test
-    ∙ ap (λ s. list_any test (elements_of s)) c.self.view_is
+    rw (← c.self.view_is)
+    (c.contains_key.ensures.found
+    ∙ is_some-lookup (g.Q.Equivalent.matches c.args.value) (entries_of c.self.inside.map))

@@ -1,13 +1,11 @@
-use Rattle.std.proofs.Common.{Some, subst}
 use Rattle.hashlink_core.specs.Keyed.{state_of}
-use Rattle.hashlink_model.specs.Steps.{MovesMatch}
 use Rattle.hashlink_set.proofs.Moved.{moved-element}
 use Rattle.hashlink_set.proofs.set.LinkedHashSet.find_to_front.Goals as goal
 
 pub returns : goal.returns
 returns g c =
-    let test = g.Q.Equivalent.matches c.args.value in
-    let new = state_of (c.to_front.follows.lender c.in_ok-to_front.field-0.now) in
-    subst (λ s. MovesMatch test s new 0 (Some tt)) c.self.view_is
-    (moved-element test (state_of c.self.inside.map) new _ c.in_ok-to_front.ensures.value
-    (rw c.in_ok-to_front.was at (c.to_front.follows.holds c.in_ok-to_front.field-0.now)))
+    let lent = c.in_ok-to_front.field-0.now in
+    rw (← c.self.view_is)
+    (moved-element (g.Q.Equivalent.matches c.args.value) (state_of c.self.inside.map)
+    (state_of (c.to_front.follows.lender lent)) _ c.in_ok-to_front.ensures.value
+    (rw c.in_ok-to_front.was at (c.to_front.follows.holds lent)))

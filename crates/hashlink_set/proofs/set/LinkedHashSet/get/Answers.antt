@@ -1,19 +1,17 @@
 use Rattle.std.proofs.Common.{option_copied, ap, ◌∙◌}
-use Rattle.std.specs.List.{find}
 use Rattle.std.specs.Option.{option_map}
 use Rattle.hashlink_core.specs.Keyed.{entries_of}
-use Rattle.hashlink_model.specs.Sets.{elements_of}
 use Rattle.hashlink_set.proofs.Lookups.{element-found}
 use Rattle.hashlink_set.proofs.set.LinkedHashSet.get.Goals as goal
 
 pub returns-in_err-stored-clause-found : goal.returns-in_err-stored-clause-found
 returns-in_err-stored-clause-found g c =
-    let test = g.Q.Equivalent.matches c.args.value in
-    ap option_copied c.from_residual.ensures ∙ ap (option_map (λ e. e.0)) c.in_err-stored.ensures.found
-    ∙ element-found (entries_of c.self.inside.map) test ∙ ap (λ s. find test (elements_of s)) c.self.view_is
+    rw (← c.self.view_is)
+    (ap option_copied c.from_residual.ensures ∙ ap (option_map (λ e. e.0)) c.in_err-stored.ensures.found
+    ∙ element-found (entries_of c.self.inside.map) (g.Q.Equivalent.matches c.args.value))
 
 pub returns-clause-found : goal.returns-clause-found
 returns-clause-found g c =
-    let test = g.Q.Equivalent.matches c.args.value in
-    ap (option_map (λ e. e.0)) c.in_ok-stored.ensures.found
-    ∙ element-found (entries_of c.self.inside.map) test ∙ ap (λ s. find test (elements_of s)) c.self.view_is
+    rw (← c.self.view_is)
+    (ap (option_map (λ e. e.0)) c.in_ok-stored.ensures.found
+    ∙ element-found (entries_of c.self.inside.map) (g.Q.Equivalent.matches c.args.value))

@@ -102,9 +102,7 @@ get_or_insert_spec 𝓤 𝓛 𝓜 𝓡 wired T S X LT LS LX e de p dp h dh b db 
     let Same : Mid.Denot → Type 0 = λ q. q.0.ghost_name ≡ r.ghost_name in
     let Puts : Mid.Denot → Type 0 = λ q. PutsElement p.eq r.now q.0.now t q.1 in
     subst (λ (us : Valss (types_at En.signature.params κs)). ent 𝓤 (W.pre (At us))
-    (WpFn 𝓤 H 𝓣.C 𝓣.Λ fn (W.args
-    (At us)) (W.post (At us))))
-    (λ i. (sym is_ref i, (sym value_at.1 i, tt))) (
+    (WpFn 𝓤 H 𝓣.C 𝓣.Λ fn (W.args (At us)) (W.post (At us)))) (λ i. (sym is_ref i, (sym value_at.1 i, tt))) (
     qed 𝓛 (raw (on_entry 𝓛 En.signature κs qs a vss) ∷ raw ((c κs a).requires z.1) ∷ []) ∵ move ! (1 ∷ []) $
     use1 𝓛 (raw (fact 𝓤 A) ⊛ raw (fact 𝓤 B) ⊛ raw (fact 𝓤 C) ⊛ raw (emp 𝓤)) (id⊢ 𝓤 (Asks 𝓤 A B C (emp 𝓤))) $
     split ! $ heard ! A (λ has_A. split ! $ heard ! B (λ has_B. split ! $ heard ! C (λ has_C.
@@ -119,8 +117,7 @@ get_or_insert_spec 𝓤 𝓛 𝓜 𝓡 wired T S X LT LS LX e de p dp h dh b db 
     h dh b db w dw dd dt me mp mh mb mw md mt) y
     (and_then ! (get ! refl) (and_then ! (get ! refl) (no_more !))) (λ v.
     use1 𝓛 (later (some (λ (q : Mid.Denot). (raw (alive 𝓛 En.signature κs qs) ⊛ ‵ (Mid.own_val q (v ∷ []))) ⊛
-    some
-    (λ (ls : Lasts E₁ κs a). ‵ (lasts E₁ κs a ls) ⊛ (raw (fact 𝓤 (Same q)) ⊛ raw (fact 𝓤 (Puts q)))))))
+    some (λ (ls : Lasts E₁ κs a). ‵ (lasts E₁ κs a ls) ⊛ (raw (fact 𝓤 (Same q)) ⊛ raw (fact 𝓤 (Puts q)))))))
     (id⊢ 𝓤 (Y.post y v)) $
     await ! tt $ pick ! (λ q. split ! $ move ! (1 ∷ []) $
     pick ! (λ ls. split ! $ drop ! $ split ! $ heard ! (Same q) (λ same. heard ! (Puts q) (λ put_in.
@@ -183,8 +180,7 @@ get_or_insert_spec 𝓤 𝓛 𝓜 𝓡 wired T S X LT LS LX e de p dp h dh b db 
     e de p dp h dh b db w dw dd dt me mp mh mb mw md mt) y₃
     (and_then ! (get ! refl) (and_then ! (get ! refl) (no_more !))) (λ v₃.
     use1 𝓛 (later (some (λ (x : Ans.Denot). (raw (alive 𝓛 En.signature κs qs) ⊛ ‵ (Ans.own_val x (v₃ ∷ []))) ⊛
-    some
-    (λ (ls : Lasts E₃ κs (o, (q.1, tt))). ‵ (lasts E₃ κs (o, (q.1, tt)) ls) ⊛
+    some (λ (ls : Lasts E₃ κs (o, (q.1, tt))). ‵ (lasts E₃ κs (o, (q.1, tt)) ls) ⊛
     (raw (fact 𝓤 (IsLent x)) ⊛ raw (fact 𝓤 (IsRefused x))))))) (id⊢ 𝓤 (Y₃.post y₃ v₃)) $
     await ! tt $ pick ! (λ x. split ! $ move ! (1 ∷ []) $ pick ! (λ ls₃. split ! $ drop ! $ split ! $
     heard ! (IsLent x) (λ is_lent. heard ! (IsRefused x) (λ is_refused. split ! $ move ! (1 ∷ []) $

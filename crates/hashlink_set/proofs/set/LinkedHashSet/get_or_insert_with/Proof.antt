@@ -83,8 +83,7 @@ get_or_insert_with_spec 𝓤 𝓛 𝓜 𝓡 wired T S X F LT LS LX LF e de p dp 
     proved_at 𝓛 En hs c 𝓜 𝓡 (
       Goes-spent_ref 𝓛 6 (0 ∷ []) tt self,
       (Goes-dropped 𝓛 6 value yes (λ κs x f. refl), (Goes-dropped 𝓛 6 made no (λ κs x f. refl), tt)),
-    )
-    (f.Key.name inst) fn (code.unfolded 𝓤 H 𝓜 𝓡 wired (T, (S, (X, (F, tt)))) de dp dh db dw dd df dt dF)
+    ) (f.Key.name inst) fn (code.unfolded 𝓤 H 𝓜 𝓡 wired (T, (S, (X, (F, tt)))) de dp dh db dw dd df dt dF)
     (λ z are.
     let κs = z.0.0 in let qs = z.0.1 in let a = z.0.3 in let r = a.0 in let t = a.1.0.now in let κ = κs.0 in
     let W = walk_of 𝓛 En hs c in
@@ -121,8 +120,7 @@ get_or_insert_with_spec 𝓤 𝓛 𝓜 𝓡 wired T S X F LT LS LX LF e de p dp 
     let Same : Mid.Denot → Type 0 = λ q. q.0.ghost_name ≡ r.ghost_name in
     let Puts : Mid.Denot → Type 0 = λ q. MakesElement p.eq Makes r.now q.0.now t q.1 in
     subst (λ (us : Valss (types_at En.signature.params κs)). ent 𝓤 (W.pre (At us))
-    (WpFn 𝓤 H 𝓣.C 𝓣.Λ fn (W.args
-    (At us)) (W.post (At us))))
+    (WpFn 𝓤 H 𝓣.C 𝓣.Λ fn (W.args (At us)) (W.post (At us))))
     (λ i. (sym is_ref i, (sym is_value i, (sym made_at.1 i, tt)))) (
     qed 𝓛 (raw (on_entry 𝓛 En.signature κs qs a vss) ∷ raw ((c κs a).requires z.1) ∷ []) ∵ move ! (1 ∷ []) $
     use1 𝓛 (raw (fact 𝓤 A) ⊛ raw (fact 𝓤 B) ⊛ raw (fact 𝓤 C) ⊛ raw (fact 𝓤 D) ⊛ raw May)
@@ -140,8 +138,7 @@ get_or_insert_with_spec 𝓤 𝓛 𝓜 𝓡 wired T S X F LT LS LX LF e de p dp 
     LX LF e de p dp h dh b db w dw dd fo df dt dF me mp mh mb mw md mf mt mF) y
     (and_then ! (get ! refl) (and_then ! (get ! refl) (and_then ! (get ! refl) (no_more !)))) (λ v.
     use1 𝓛 (later (some (λ (q : Mid.Denot). (raw (alive 𝓛 En.signature κs qs) ⊛ ‵ (Mid.own_val q (v ∷ []))) ⊛
-    some
-    (λ (ls : Lasts E₁ κs a). ‵ (lasts E₁ κs a ls) ⊛ (raw (fact 𝓤 (Same q)) ⊛ raw (fact 𝓤 (Puts q)))))))
+    some (λ (ls : Lasts E₁ κs a). ‵ (lasts E₁ κs a ls) ⊛ (raw (fact 𝓤 (Same q)) ⊛ raw (fact 𝓤 (Puts q)))))))
     (id⊢ 𝓤 (Y.post y v)) $
     await ! tt $ pick ! (λ q. split ! $ move ! (1 ∷ []) $
     pick ! (λ ls. split ! $ drop ! $ split ! $ heard ! (Same q) (λ same. heard ! (Puts q) (λ put_in.

@@ -16,6 +16,5 @@ returns-clause-old g c = (replaces_by_answer _ _ _ _ _ (returns-clause-replaces 
 pub returns-clause-distinct : goal.returns-clause-distinct
 returns-clause-distinct g c =
     let s = c.replace_in_map.ensures in
-    replaces_distinct g.met.T.Eq.laws (state_of c.self.inside.map)
-    (state_of c.replace_in_map.new.map) c.args.value
-    c.replace_in_map.result s.replaced s.refused s.distinct
+    replaces_distinct g.met.T.Eq.laws (state_of c.self.inside.map) (state_of c.replace_in_map.new.map)
+    c.args.value c.replace_in_map.result s.replaced s.refused s.distinct

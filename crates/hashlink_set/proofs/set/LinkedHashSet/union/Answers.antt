@@ -1,21 +1,12 @@
-use Rattle.std.proofs.Common.{ap, ap₂, ◌∙◌}
-use Rattle.hashlink_model.specs.Algebra.{union_of}
-use Rattle.hashlink_model.specs.Sets.{elements_of}
-use Rattle.hashlink_core.specs.Keyed.{state_of}
+use Rattle.std.proofs.Common.{refl}
 use Rattle.hashlink_set.proofs.set.LinkedHashSet.union.Goals as goal
 
-pub returns-clause-rest : goal.returns-clause-rest
-returns-clause-rest g c =
-    c.of.ensures.rest
-    ∙ ap₂ (λ s t. union_of g.T.PartialEq.eq (elements_of s) (elements_of t)) c.self.view_is c.other.view_is
-
-pub returns-clause-unique : goal.returns-clause-unique
-returns-clause-unique g c = c.of.ensures.unique
-
-pub returns-clause-walk : goal.returns-clause-walk
-returns-clause-walk g c =
-    c.of.ensures.walk
-    ∙ ap₂ (λ s t. record { left = elements_of s; right = elements_of t }) c.self.view_is c.other.view_is
-
-pub returns-clause-other : goal.returns-clause-other
-returns-clause-other g c = ap state_of c.of.ensures.other ∙ c.self.view_is
+pub returns : goal.returns
+returns g c =
+    let of = c.of.ensures in
+    rw (← c.self.view_is, ← c.other.view_is) (record {
+      rest = of.rest;
+      unique = of.unique;
+      walk = of.walk;
+      other = rw of.other refl;
+    })

@@ -12,5 +12,4 @@ returns-clause-unique g c =
     let eq = g.T.PartialEq.eq in
     subst (IsDistinct eq) (sym (returns-clause-rest g c))
     (IsDistinct-symmetric_difference eq g.met.T.Eq.laws (elements_in c.args.first.now)
-    (elements_in c.args.second.now)
-    c.of.ensures.distinct c.of-2.ensures.distinct)
+    (elements_in c.args.second.now) c.of.ensures.distinct c.of-2.ensures.distinct)

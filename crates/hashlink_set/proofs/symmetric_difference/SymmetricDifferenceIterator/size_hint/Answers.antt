@@ -18,5 +18,4 @@ returns-clause-upper g c =
     subst (λ o. IfSome o (UpTo (at_most (length (symmetric_difference_rest g.T.PartialEq.eq d))))) (sym sum)
     (bounds_both (length (symmetric_difference_rest eq d)) (length d.first.iter) (length d.second.iter)
     (left_to_give-at_most (lacks eq (elements_in d.first.other.now))
-    (lacks eq (elements_in d.second.other.now))
-    (symmetric_difference_walk d)))
+    (lacks eq (elements_in d.second.other.now)) (symmetric_difference_walk d)))

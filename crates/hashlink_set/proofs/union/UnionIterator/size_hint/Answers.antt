@@ -21,5 +21,4 @@ returns-clause-upper g c =
     let sum : c.checked_add.result ≡ at_most_both (length u.first) (length u.second.iter) = search rules in
     subst (λ o. IfSome o (UpTo (at_most (length (union_rest g.T.PartialEq.eq u))))) (sym sum)
     (bounds_both (length (union_rest eq u)) (length u.first) (length u.second.iter)
-    (left_to_give-at_most (λ _. true) (lacks eq (elements_in u.second.other.now))
-    (union_walk u)))
+    (left_to_give-at_most (λ _. true) (lacks eq (elements_in u.second.other.now)) (union_walk u)))

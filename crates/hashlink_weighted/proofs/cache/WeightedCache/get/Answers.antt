@@ -1,7 +1,6 @@
 use Rattle.std.proofs.Common.{refl, ap, sym, ◌∙◌}
 use Rattle.std.specs.Option.{option_map, option_copied}
 use Rattle.std.specs.Map.Iter.{deref_pair}
-use Rattle.hashlink_core.specs.Keyed.{state_of}
 use Rattle.hashlink_weighted.specs.Answers.{without_weight}
 use Rattle.hashlink_weighted.proofs.Moved.{last_value_match}
 use Rattle.hashlink_weighted.proofs.Totals.{moves_total}
@@ -9,15 +8,12 @@ use Rattle.hashlink_weighted.proofs.cache.WeightedCache.get.Goals as goal
 
 pub invariant_of-self-2 : goal.invariant_of-self-2
 invariant_of-self-2 g c =
-    moves_total (g.Q.Equivalent.matches c.args.key) (state_of c.self.inside.map)
-    (state_of c.move_last.new.map)
-    c.self.inside.total c.self.inside.budget _ c.move_last.ensures.moves c.self.invariant
+    moves_total _ _ _ _ _ _ c.move_last.ensures.moves c.self.invariant
 
 pub returns-in_err-value : goal.returns-in_err-value
 returns-in_err-value g c =
-    let value = last_value_match (g.Q.Equivalent.matches c.args.key) (state_of c.self.inside.map)
-    (state_of c.move_last.new.map) c.move_last.ensures.moves
-    (sym c.move_last.ensures.there ∙ c.if-not-move_last.false) in
+    let there = sym c.move_last.ensures.there ∙ c.if-not-move_last.false in
+    let value = last_value_match _ _ _ c.move_last.ensures.moves there in
     let shown = ap (λ r. option_map (λ e. e.1) (option_map deref_pair r)) c.in_err-value.was in
     rw (← c.self.view_is) (
       (refl, λ _. tt, record { moves = c.move_last.ensures.moves; budget = refl }),
@@ -25,17 +21,15 @@ returns-in_err-value g c =
         used = tt;
         value =
             ap option_copied c.from_residual.ensures
-            ∙ ap without_weight
-            (sym shown ∙ ap (option_map (λ e. e.1)) c.back.ensures.found ∙ value);
+            ∙ ap without_weight (sym shown ∙ ap (option_map (λ e. e.1)) c.back.ensures.found ∙ value);
         distinct = c.move_last.ensures.distinct;
       },
     )
 
 pub returns : goal.returns
 returns g c =
-    let value = last_value_match (g.Q.Equivalent.matches c.args.key) (state_of c.self.inside.map)
-    (state_of c.move_last.new.map) c.move_last.ensures.moves
-    (sym c.move_last.ensures.there ∙ c.if-not-move_last.false) in
+    let there = sym c.move_last.ensures.there ∙ c.if-not-move_last.false in
+    let value = last_value_match _ _ _ c.move_last.ensures.moves there in
     let shown = ap (λ r. option_map (λ e. e.1) (option_map deref_pair r)) c.in_ok-value.was in
     rw (← c.self.view_is) (
       (refl, λ _. tt, record { moves = c.move_last.ensures.moves; budget = refl }),

@@ -6,17 +6,15 @@ use Rattle.hashlink_weighted.proofs.cache.WeightedCache.insert_evicting.Goals as
 pub overflow_sub-others : goal.overflow_sub-others
 overflow_sub-others g c =
     rw c.take_apart-old_value.ensures
-    (old_weight g.K.PartialEq.eq (state_of c.self.inside.map) (state_of c.insert.new.self)
-    c.args.key c.args.value
-    c.args.weight c.in-Ok.old c.in-Ok.ensures.inserts c.self.inside.total c.self.invariant.sum)
+    (old_weight g.K.PartialEq.eq (state_of c.self.inside.map) (state_of c.insert.new.self) c.args.key
+    c.args.value c.args.weight c.in-Ok.old c.in-Ok.ensures.inserts c.self.inside.total c.self.invariant.sum)
 
 pub evict_until_fitting-self-inside-requires-clause-last :
     goal.evict_until_fitting-self-inside-requires-clause-last
 evict_until_fitting-self-inside-requires-clause-last g c =
     rw c.take_apart-old_value.ensures
-    (leaves_last g.K.PartialEq.eq (state_of c.self.inside.map) (state_of c.insert.new.self)
-    c.args.key c.args.value
-    c.args.weight c.in-Ok.old c.in-Ok.ensures.inserts c.self.inside.total c.self.invariant.sum)
+    (leaves_last g.K.PartialEq.eq (state_of c.self.inside.map) (state_of c.insert.new.self) c.args.key
+    c.args.value c.args.weight c.in-Ok.old c.in-Ok.ensures.inserts c.self.inside.total c.self.invariant.sum)
 
 pub returns-in-Ok-clause-inserts : goal.returns-in-Ok-clause-inserts
 returns-in-Ok-clause-inserts g c =

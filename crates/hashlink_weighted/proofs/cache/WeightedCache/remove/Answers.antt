@@ -1,26 +1,18 @@
 use Rattle.std.proofs.Common.{sym, ◌∙◌}
-use Rattle.hashlink_core.specs.Keyed.{state_of}
 use Rattle.hashlink_weighted.proofs.Totals.{removes_weight, removes_none}
 use Rattle.hashlink_weighted.proofs.cache.WeightedCache.remove.Goals as goal
 
 pub invariant_of-self : goal.invariant_of-self
 invariant_of-self g c =
-    removes_none (g.Q.Equivalent.matches c.args.key) (state_of c.self.inside.map) (state_of c.remove.new.self)
-    c.self.inside.total c.self.inside.budget
-    (sym c.in_err-value.was ∙ c.remove.ensures.value) c.remove.ensures.removes c.self.invariant
+    removes_none _ _ _ _ _ (sym c.in_err-value.was ∙ c.remove.ensures.value) c.remove.ensures.removes
+    c.self.invariant
 
 pub overflow_sub-self : goal.overflow_sub-self
 overflow_sub-self g c =
-    (removes_weight (g.Q.Equivalent.matches c.args.key) (state_of c.self.inside.map)
-    (state_of c.remove.new.self)
-    c.self.inside.total c.self.inside.budget
-    (c.in_ok-value.value, c.in_ok-value.weight) (sym c.in_ok-value.was ∙ c.remove.ensures.value)
-    c.remove.ensures.removes c.self.invariant).0
+    (removes_weight _ _ _ _ _ _ (sym c.in_ok-value.was ∙ c.remove.ensures.value) c.remove.ensures.removes
+    c.self.invariant).0
 
 pub invariant_of-self-2 : goal.invariant_of-self-2
 invariant_of-self-2 g c =
-    (removes_weight (g.Q.Equivalent.matches c.args.key) (state_of c.self.inside.map)
-    (state_of c.remove.new.self)
-    c.self.inside.total c.self.inside.budget
-    (c.in_ok-value.value, c.in_ok-value.weight) (sym c.in_ok-value.was ∙ c.remove.ensures.value)
-    c.remove.ensures.removes c.self.invariant).1
+    (removes_weight _ _ _ _ _ _ (sym c.in_ok-value.was ∙ c.remove.ensures.value) c.remove.ensures.removes
+    c.self.invariant).1

@@ -14,8 +14,7 @@ returns g c =
     let old = (state_of c.args.self.now).map in record {
       cases = both_of _ _ _ c.clone.result c.clone.ensures.capacity
           (clone_by_answer g.K.Clone.is_clone g.V.Clone.is_clone g.K.PartialEq.eq
-          (g.S.Clone.is_clone old.hasher)
-          (g.S.Clone.is_infallible old.hasher) (entries_of c.args.self.now)
-          (λ m. (state_of m).map) c.clone.result
-          c.clone.ensures.made c.clone.ensures.refused c.clone.ensures.equal c.clone.ensures.same);
+          (g.S.Clone.is_clone old.hasher) (g.S.Clone.is_infallible old.hasher) (entries_of c.args.self.now)
+          (λ m. (state_of m).map) c.clone.result c.clone.ensures.made c.clone.ensures.refused
+          c.clone.ensures.equal c.clone.ensures.same);
     }
