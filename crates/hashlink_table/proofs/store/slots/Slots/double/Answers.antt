@@ -1,11 +1,11 @@
 -- Each cell is doubled in its turn, and the lists keep their lengths.
-use Rattle.std.proofs.Common.{◌≡◌, ◌*◌, ◌++◌, length, replicate, sym, ap, ◌∙◌, subst, arith}
+use Rattle.std.proofs.Common.{◌≡◌, ◌*◌, ◌++◌, length, replicate, refl, sym, ap, ◌∙◌, subst, arith}
 use Rattle.std.specs.Int.{IsPowerOfTwo}
 use Rattle.std.specs.Vec.{with_items}
 use Rattle.std.proofs.lemmas.List.{with_items_is}
 use Rattle.hashlink_table.specs.Stored.{bare_cell}
 use Rattle.hashlink_table.specs.Slots.{parted}
-use Rattle.hashlink_table.proofs.Storing.{length-cells}
+use Rattle.hashlink_table.proofs.Storing.{sizes}
 use Rattle.hashlink_table.proofs.Halves.{doubled-all, doubled-on, length-doubled_to, twice_power}
 use Rattle.hashlink_table.proofs.store.slots.Slots.double.Given as given
 use Rattle.hashlink_table.proofs.store.slots.Slots.double.Goals as goal
@@ -42,7 +42,7 @@ part-requires-clause-within g c =
       c.len-count.ensures,
       length-doubled_to c.args.self.now c.loop-at.at,
       ap length c.loop-at.invariant.halves,
-      length-cells c.loop-at.tags c.loop-at.nodes c.loop-at.rests c.loop-at.invariant.tagged,
+      sizes c.loop-at.invariant.tagged refl,
     )
 
 pub part-requires-clause-tagged : goal.part-requires-clause-tagged
