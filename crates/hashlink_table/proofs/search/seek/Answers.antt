@@ -1,6 +1,8 @@
-use Rattle.std.proofs.Common.{ℕ, ◌-◌, ◌%◌, ◌<◌, ◌≡◌, length, refl, sym, ap, ◌∙◌, arith}
+use Rattle.std.proofs.Common.{ℕ, ◌+◌, ◌-◌, ◌%◌, ◌<◌, ◌≤◌, ◌≡◌, List, length, Some, refl, sym, ap, ◌∙◌, arith}
 use Rattle.std.proofs.lemmas.Bool.{eq-eqb, eqb-true}
-use Rattle.hashlink_table.specs.Chains.{chain_at, chain_of, kept_at, links_of}
+use Rattle.hashlink_table.specs.Chains.{chain_at, chain_of, kept_at, links_of, IsInPlace}
+use Rattle.hashlink_table.specs.declared.store.cell.Cell.{Cell}
+use Rattle.hashlink_table.specs.declared.store.spot.Spot.TheVariants.{Slot, Overflow}
 use Rattle.hashlink_table.specs.Stored.{tag_of}
 use Rattle.hashlink_table.proofs.Cells.{chain_at_within}
 use Rattle.hashlink_table.proofs.Chaining.{length-links, link_read}
@@ -8,7 +10,7 @@ use Rattle.hashlink_table.proofs.Groups.{from_base, group_within, grouped_in, to
 use Rattle.hashlink_table.proofs.Linking.{positive_by_power}
 use Rattle.hashlink_table.proofs.Masks.{no_chain}
 use Rattle.hashlink_table.proofs.Moving.{within_kept}
-use Rattle.hashlink_table.proofs.Views.{tag_agrees}
+use Rattle.hashlink_table.proofs.Views.{contains_found, looked_at, none_left, tag_agrees}
 use Rattle.hashlink_table.proofs.Walks.{walk_of, walk_goes}
 use Rattle.hashlink_table.proofs.search.seek.Goals as goal
 
@@ -33,18 +35,36 @@ seek_slots-requires-clause-callable g c at kept from to is same =
     (c.requires.in_place at)
     (grouped_in b at (omega (arith, base, from)) (omega (arith, base, to)))
     (rw is (eq-eqb (tag_of kept.hash) (tag_of c.args.hash) same)) in
-    c.requires.callable_slots at kept is (eqb-true (kept.hash % m) b (rw is at own))
+    c.requires.callable kept.hash kept.node (contains_found slots c.args.cells.now (Slot at) kept is)
+    (eqb-true (kept.hash % m) b (rw is at own))
 
-pub returns-then-free-ne0-clause-none_slots : goal.returns-then-free-ne0-clause-none_slots
-returns-then-free-ne0-clause-none_slots g c = λ at node is.
-    let b = c.args.hash % length c.args.slots.now in
-    let base = group_is c.args.hash _ _ _ c.len-buckets.ensures c.base_of-base.ensures in
-    let same = c.requires.in_place at _ is in
-    c.in_default.ensures.none at node (omega (arith, base, from_base b at same))
-    (omega (arith, base, to_base b at same)) is
+pub seek_slots-requires-clause-telling : goal.seek_slots-requires-clause-telling
+seek_slots-requires-clause-telling g c at kept is =
+    c.requires.telling kept.hash kept.node (contains_found c.args.slots.now c.args.cells.now (Slot at) kept is)
+
+pub seek_overflow-requires-clause-callable : goal.seek_overflow-requires-clause-callable
+seek_overflow-requires-clause-callable g c cell node is =
+    c.requires.callable c.args.hash node (contains_found c.args.slots.now c.args.cells.now (Overflow cell) _ is) refl
+
+-- what none of the group has no slot has
+none_in_slots : {N : Type 0} (slots : List (Cell N)) (hash len base : ℕ) (refused : N → Type 0) → IsInPlace slots
+    → len ≡ length slots → base ≡ hash % len - hash % len % 16
+    → ((at : ℕ) (node : N) → base ≤ at → at < base + 16
+    → kept_at slots at ≡ Some (record { hash = hash; node = node }) → refused node)
+    → (at : ℕ) (node : N) → kept_at slots at ≡ Some (record { hash = hash; node = node })
+    → refused node
+none_in_slots slots hash len base refused in_place n is none at node kept =
+    let b = hash % length slots in
+    let first = group_is hash _ _ _ n is in
+    let same = in_place at _ kept in
+    none at node (omega (arith, first, from_base b at same)) (omega (arith, first, to_base b at same)) kept
 
 pub returns-then-free-ne0-clause-none : goal.returns-then-free-ne0-clause-none
-returns-then-free-ne0-clause-none g c = λ cell node is.
+returns-then-free-ne0-clause-none g c =
+    none_left c.args.slots.now c.args.cells.now c.args.hash _
+    (none_in_slots c.args.slots.now c.args.hash _ _ _ c.requires.in_place c.len-buckets.ensures
+    c.base_of-base.ensures c.in_default.ensures.none)
+    (λ cell node is.
     let slots = c.args.slots.now in let cells = c.args.cells.now in
     let heads = links_of slots in
     let n = length-links slots in
@@ -61,12 +81,31 @@ returns-then-free-ne0-clause-none g c = λ cell node is.
     = chain_at_within (length heads) cells cell (within_kept cells cell _ is)
     ∙ ap (chain_of (length heads)) is in
     let w = walk_of heads cells c.requires.linked.0 b c.requires.linked.1 low in
-    absurd (walk_goes w.0 cell (w.1 cell on) (link_read slots b (omega (arith, low, n)) ∙ none))
+    absurd (walk_goes w.0 cell (w.1 cell on) (link_read slots b (omega (arith, low, n)) ∙ none)))
 
-pub returns-in-None-clause-none_slots : goal.returns-in-None-clause-none_slots
-returns-in-None-clause-none_slots g c = λ at node is.
-    let b = c.args.hash % length c.args.slots.now in
-    let base = group_is c.args.hash _ _ _ c.len-buckets.ensures c.base_of-base.ensures in
-    let same = c.requires.in_place at _ is in
-    c.in_default.ensures.none at node (omega (arith, base, from_base b at same))
-    (omega (arith, base, to_base b at same)) is
+pub returns-in-None-clause-none : goal.returns-in-None-clause-none
+returns-in-None-clause-none g c =
+    none_left c.args.slots.now c.args.cells.now c.args.hash _
+    (none_in_slots c.args.slots.now c.args.hash _ _ _ c.requires.in_place c.len-buckets.ensures
+    c.base_of-base.ensures c.in_default.ensures.none)
+    c.in-None.ensures.none
+
+pub returns-in-Some-clause-cost : goal.returns-in-Some-clause-cost
+returns-in-Some-clause-cost g c =
+    omega (arith, looked_at c.args.slots.now c.args.cells.now c.args.hash _ c.requires.masked c.requires.whole
+    c.requires.in_place (group_is c.args.hash _ _ _ c.len-buckets.ensures c.base_of-base.ensures))
+
+pub returns-then-free-ne0-clause-cost : goal.returns-then-free-ne0-clause-cost
+returns-then-free-ne0-clause-cost g c =
+    omega (arith, looked_at c.args.slots.now c.args.cells.now c.args.hash _ c.requires.masked c.requires.whole
+    c.requires.in_place (group_is c.args.hash _ _ _ c.len-buckets.ensures c.base_of-base.ensures))
+
+pub returns-in-Some-seek_overflow-clause-cost : goal.returns-in-Some-seek_overflow-clause-cost
+returns-in-Some-seek_overflow-clause-cost g c =
+    omega (arith, looked_at c.args.slots.now c.args.cells.now c.args.hash _ c.requires.masked c.requires.whole
+    c.requires.in_place (group_is c.args.hash _ _ _ c.len-buckets.ensures c.base_of-base.ensures))
+
+pub returns-in-None-clause-cost : goal.returns-in-None-clause-cost
+returns-in-None-clause-cost g c =
+    omega (arith, looked_at c.args.slots.now c.args.cells.now c.args.hash _ c.requires.masked c.requires.whole
+    c.requires.in_place (group_is c.args.hash _ _ _ c.len-buckets.ensures c.base_of-base.ensures))
