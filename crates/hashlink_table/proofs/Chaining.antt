@@ -2,6 +2,7 @@
 use Rattle.std.proofs.Common.{◌≡◌, ◌≢◌, ℕ, ◌%◌, ◌<◌, inl, inr, List, [], ◌∷◌, ◌++◌, length, get_or, set}
 use Rattle.std.proofs.Common.{Option, Some, None, IsSome, refl, sym, ap, ◌∙◌, subst, arith}
 use Rattle.std.specs.Prelude.{IsPermutation}
+use Rattle.std.proofs.Math.ListN as by_index
 use Rattle.std.proofs.lemmas.List.{get_or-map, length-map, map-set}
 use Rattle.hashlink_table.specs.declared.hashed.Hashed.{Hashed}
 use Rattle.hashlink_table.specs.declared.store.cell.Cell.{Cell}
@@ -119,16 +120,8 @@ module _ {N : Type 0} where
       (with_node (kept_at later i) (nodes_in (set later i d)))) none (nodes_in-set later i d within)))
 
   -- where each cell keeps its node and the hash that it stores
-  pub same_stored : (cells later : List (Cell N)) (i : ℕ) → SameNodes cells later → i < length cells
-      → i < length later
-      → stored_in (get_or later i bare_cell) ≡ stored_in (get_or cells i bare_cell)
-  same_stored cells later i same h h' =
-      let none : Option (Hashed N) × ℕ = stored_in bare_cell in
-      sym (get_or-map stored_in later i bare_cell none h') ∙ ap (λ ss. get_or ss i none) same
-      ∙ get_or-map stored_in cells i bare_cell none h
-
-  pub same_kept : (cells later : List (Cell N)) (i : ℕ) → SameNodes cells later → i < length cells
-      → i < length later
+  pub kept-same : (cells later : List (Cell N)) → SameNodes cells later → (i : ℕ)
       → kept_at later i ≡ kept_at cells i
-  same_kept cells later i same h h' =
-      ap (λ (s : Option (Hashed N) × ℕ). s.0) (same_stored cells later i same h h')
+  kept-same cells later same i =
+      ap (λ (s : Option (Hashed N) × ℕ). s.0) (sym (by_index.get_or-map stored_in later i bare_cell)
+      ∙ ap (λ ss. get_or ss i (stored_in bare_cell)) same ∙ by_index.get_or-map stored_in cells i bare_cell)

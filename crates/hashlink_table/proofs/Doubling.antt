@@ -14,8 +14,8 @@ use Rattle.std.proofs.lemmas.Option.{same_Some}
 use Rattle.hashlink_table.specs.declared.hashed.Hashed.{Hashed}
 use Rattle.hashlink_table.specs.declared.store.cell.Cell.{Cell}
 use Rattle.hashlink_table.specs.declared.store.cell.TheConstants.{END}
-use Rattle.hashlink_table.specs.Chains.{next_at, links_of, nodes_in, with_node, AreGrouped, IsFilled}
-use Rattle.hashlink_table.specs.Chains.{IsInPlace, IsLinked}
+use Rattle.hashlink_table.specs.Chains.{next_at, nodes_in, with_node, AreGrouped, IsArranged}
+use Rattle.hashlink_table.specs.Chains.{IsInPlace}
 use Rattle.hashlink_table.specs.Stored.{bare_cell}
 use Rattle.hashlink_table.specs.Slots.{doubled, high_half, high_kept, low_half, low_kept}
 use Rattle.hashlink_table.proofs.Moving.{within_kept}
@@ -131,27 +131,24 @@ module _ {N : Type 0} where
       | inr high ↦ ap (λ (c : Cell N). c.next) (read_high b high)
     ]
 
-    pub linked-doubled : IsLinked {N = N} (links_of (doubled cells)) [] END
-    linked-doubled = linked-none (doubled cells) none-doubled
-
-    pub filled-doubled : IsFilled (doubled cells)
-    filled-doubled = filled-none (doubled cells) none-doubled
-
     -- each node is still in the group of its bucket
-    pub in_place-doubled : length cells % 16 ≡ 0 → IsInPlace cells → IsInPlace (doubled cells)
-    in_place-doubled whole p at k is =
-        subst (λ n. AreGrouped (k.hash % n) at) (sym length-doubled)
-        (elim (cases_lt at (length cells)) as (λ _. AreGrouped (k.hash % (2 * length cells)) at) [
-          | inl low ↦
-              let s = stays (length cells) _ k (sym (ap (λ (c : Cell N). c.kept) (read_low at low)) ∙ is) in
-              let bucket = bucket_low k.hash (length cells) (omega (arith, low)) s.1 in
-              ap (λ b. b / 16) bucket ∙ p at k s.0
-          | inr high ↦
-              let s = moves (length cells) _ k (sym (ap (λ (c : Cell N). c.kept) (read_high at high)) ∙ is) in
-              let within = within_kept cells (at - length cells) k s.0 in
-              let bucket = bucket_high k.hash (length cells) (omega (arith, within)) s.1 in
-              omega (arith, whole, high, bucket, p (at - length cells) k s.0)
-        ])
+    pub arranged-doubled : length cells % 16 ≡ 0 → IsInPlace cells → IsArranged (doubled cells) [] END
+    arranged-doubled whole p = record {
+      linked = linked-none (doubled cells) none-doubled;
+      filled = filled-none (doubled cells) none-doubled;
+      in_place = λ at k is. rw length-doubled
+          (elim (cases_lt at (length cells)) as (λ _. AreGrouped (k.hash % (2 * length cells)) at) [
+            | inl low ↦
+                let s = stays (length cells) _ k (sym (ap (λ (c : Cell N). c.kept) (read_low at low)) ∙ is) in
+                let bucket = bucket_low k.hash (length cells) (omega (arith, low)) s.1 in
+                ap (λ b. b / 16) bucket ∙ p at k s.0
+            | inr high ↦
+                let s = moves (length cells) _ k (sym (ap (λ (c : Cell N). c.kept) (read_high at high)) ∙ is) in
+                let within = within_kept cells (at - length cells) k s.0 in
+                let bucket = bucket_high k.hash (length cells) (omega (arith, within)) s.1 in
+                omega (arith, whole, high, bucket, p (at - length cells) k s.0)
+          ]);
+    }
 
     -- and it is the same nodes
     pub nodes_in-doubled : IsPermutation (nodes_in cells) (nodes_in (doubled cells))

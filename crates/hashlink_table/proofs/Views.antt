@@ -152,8 +152,8 @@ module _ {N : Type 0} {slots overflow : List (Cell N)} {capacity free len room :
   buckets_are : 0 < length slots → AreBuckets v (length slots)
   buckets_are some =
       record {
-        power = s.masked some;
-        roomy = omega (arith, s.headed, ap (λ (u : Contents N). u.room) view);
+        power = s.sizes.masked some;
+        roomy = omega (arith, s.sizes.headed, ap (λ (u : Contents N). u.room) view);
       }
 
   -- so a search may ask about a node where the hashes agree
@@ -178,5 +178,5 @@ module _ {N : Type 0} {slots overflow : List (Cell N)} {capacity free len room :
         | inl some ↦ (length slots, buckets_are some, omega arith)
         | inr none ↦
             let room = ap (λ (u : Contents N). u.room) view in
-            (1, record { power = (0, refl); roomy = omega (arith, s.headed, none, room) }, omega arith)
+            (1, record { power = (0, refl); roomy = omega (arith, s.sizes.headed, none, room) }, omega arith)
       ]

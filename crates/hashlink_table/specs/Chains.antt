@@ -110,24 +110,32 @@ abbrev pub IsFilled : {N : Type 0} → List (Cell N) → Type 0
 IsFilled slots =
     (b : ℕ) → b < length slots → next_at slots b ≢ END → AreTaken slots (b - b % 16)
 
--- the fields of a table agree
-pub record IsSound {N : Type 0} (slots overflow : List (Cell N))
-    (capacity free len room : ℕ) : Type 0 where
+-- the nodes are where a search looks for them
+pub record IsArranged {N : Type 0} (slots overflow : List (Cell N)) (free : ℕ) : Type 0 where
   pub linked : IsLinked (links_of slots) overflow free
   pub in_place : IsInPlace slots
   pub filled : IsFilled slots
-  pub counted : len ≡ length (nodes_in slots ++ nodes_in overflow)
-  pub held : len ≤ room
-  pub headed : room ≤ length slots
-  pub bounded : length slots ≤ 4 * max 8 room
+
+-- a table with this room has so many buckets, and so much memory for overflow cells
+pub record AreSizes (buckets capacity room : ℕ) : Type 0 where
+  pub headed : room ≤ buckets
+  pub bounded : buckets ≤ 4 * max 8 room
   pub reserved : room ≤ capacity
   pub spare : capacity ≤ 8 * max 8 room
-  pub none : room ≡ 0 → (length slots ≡ 0) × (capacity ≡ 0)
-  pub small : length slots ≤ 2 ^ 31
+  pub none : room ≡ 0 → (buckets ≡ 0) × (capacity ≡ 0)
+  pub small : buckets ≤ 2 ^ 31
+  pub masked : 0 < buckets → IsPowerOfTwo buckets
+  pub whole : buckets % 16 ≡ 0
+
+-- the fields of a table agree
+pub record IsSound {N : Type 0} (slots overflow : List (Cell N))
+    (capacity free len room : ℕ) : Type 0 where
+  pub arranged : IsArranged slots overflow free
+  pub sizes : AreSizes (length slots) capacity room
+  pub counted : len ≡ length (nodes_in slots ++ nodes_in overflow)
+  pub held : len ≤ room
   pub overflow_few : length overflow ≤ room
   pub overflow_small : length overflow < END
-  pub masked : 0 < length slots → IsPowerOfTwo (length slots)
-  pub whole : length slots % 16 ≡ 0
 
 -- the node that a search found
 abbrev pub kept_by : {N : Type 0} → List (Cell N) → List (Cell N) → Spot → Option (Hashed N)

@@ -5,8 +5,8 @@ ghost use Rattle.std.specs.Int.{IsPowerOfTwo};
 ghost use Rattle.hashlink_table.specs.declared.hashed.Hashed.{Hashed};
 ghost use Rattle.hashlink_table.specs.Stored.{tag_of};
 ghost use Rattle.hashlink_table.specs.Slots.{lanes_of, may_be};
-ghost use Rattle.hashlink_table.specs.Chains.{chain_of, kept_at, kept_by, links_of, IsFilled, IsInPlace};
-ghost use Rattle.hashlink_table.specs.Chains.{IsLinked, nodes_in};
+ghost use Rattle.hashlink_table.specs.Chains.{chain_of, kept_at, kept_by, links_of, nodes_in};
+ghost use Rattle.hashlink_table.specs.Chains.{IsArranged, IsLinked};
 
 use super::steps::Steps;
 use super::store::bucket::{base_of, bucket_of};
@@ -107,9 +107,7 @@ pub fn seek<N: Copy, F: Fn(N) -> bool, L: Ledger>(
 ) -> Option<Found<N>>
     requires masked { IsPowerOfTwo (length slots.now) }
     requires whole { length slots.now % LANES ≡ 0 }
-    requires in_place { IsInPlace slots.now }
-    requires filled { IsFilled slots.now }
-    requires linked { (free : ℕ) × IsLinked (links_of slots.now) cells.now free }
+    requires arranged { (free : ℕ) × IsArranged slots.now cells.now free }
     requires callable { (h : ℕ) (node : N)
         → Contains (nodes_in slots.now ++ nodes_in cells.now) (record { hash = h; node = node })
         → h % length slots.now ≡ hash % length slots.now

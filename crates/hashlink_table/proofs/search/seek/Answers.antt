@@ -32,7 +32,7 @@ seek_slots-requires-clause-callable g c at kept from to is same =
     let some = positive_by_power m c.requires.masked in
     let base = group_is c.args.hash _ _ _ c.len-buckets.ensures c.base_of-base.ensures in
     let own = tag_agrees m b c.args.hash at (kept_at slots at) some c.requires.whole refl
-    (c.requires.in_place at)
+    (c.requires.arranged.1.in_place at)
     (grouped_in b at (omega (arith, base, from)) (omega (arith, base, to)))
     (rw is (eq-eqb (tag_of kept.hash) (tag_of c.args.hash) same)) in
     c.requires.callable kept.hash kept.node (contains_found slots c.args.cells.now (Slot at) kept is)
@@ -62,7 +62,7 @@ none_in_slots slots hash len base refused in_place n is none at node kept =
 pub returns-then-free-ne0-clause-none : goal.returns-then-free-ne0-clause-none
 returns-then-free-ne0-clause-none g c =
     none_left c.args.slots.now c.args.cells.now c.args.hash _
-    (none_in_slots c.args.slots.now c.args.hash _ _ _ c.requires.in_place c.len-buckets.ensures
+    (none_in_slots c.args.slots.now c.args.hash _ _ _ c.requires.arranged.1.in_place c.len-buckets.ensures
     c.base_of-base.ensures c.in_default.ensures.none)
     (λ cell node is.
     let slots = c.args.slots.now in let cells = c.args.cells.now in
@@ -75,37 +75,37 @@ returns-then-free-ne0-clause-none g c =
     let base = group_is c.args.hash _ _ _ c.len-buckets.ensures c.base_of-base.ensures
     ∙ ap (λ k. k - k % 16) (sym bucket) in
     let room = group_within b (length slots) (omega (arith, low, n)) c.requires.whole in
-    let none = no_chain slots c.base_of-base.result b base (omega (arith, room, base)) c.requires.filled
+    let none = no_chain slots c.base_of-base.result b base (omega (arith, room, base)) c.requires.arranged.1.filled
     (λ e. c.if-free-ne0.true (c.free.ensures.lanes ∙ e)) in
     let on : chain_at (length heads) cells cell ≡ b
     = chain_at_within (length heads) cells cell (within_kept cells cell _ is)
     ∙ ap (chain_of (length heads)) is in
-    let w = walk_of heads cells c.requires.linked.0 b c.requires.linked.1 low in
+    let w = walk_of heads cells c.requires.arranged.0 b c.requires.arranged.1.linked low in
     absurd (walk_goes w.0 cell (w.1 cell on) (link_read slots b (omega (arith, low, n)) ∙ none)))
 
 pub returns-in-None-clause-none : goal.returns-in-None-clause-none
 returns-in-None-clause-none g c =
     none_left c.args.slots.now c.args.cells.now c.args.hash _
-    (none_in_slots c.args.slots.now c.args.hash _ _ _ c.requires.in_place c.len-buckets.ensures
+    (none_in_slots c.args.slots.now c.args.hash _ _ _ c.requires.arranged.1.in_place c.len-buckets.ensures
     c.base_of-base.ensures c.in_default.ensures.none)
     c.in-None.ensures.none
 
 pub returns-in-Some-clause-cost : goal.returns-in-Some-clause-cost
 returns-in-Some-clause-cost g c =
     omega (arith, looked_at c.args.slots.now c.args.cells.now c.args.hash _ c.requires.masked c.requires.whole
-    c.requires.in_place (group_is c.args.hash _ _ _ c.len-buckets.ensures c.base_of-base.ensures))
+    c.requires.arranged.1.in_place (group_is c.args.hash _ _ _ c.len-buckets.ensures c.base_of-base.ensures))
 
 pub returns-then-free-ne0-clause-cost : goal.returns-then-free-ne0-clause-cost
 returns-then-free-ne0-clause-cost g c =
     omega (arith, looked_at c.args.slots.now c.args.cells.now c.args.hash _ c.requires.masked c.requires.whole
-    c.requires.in_place (group_is c.args.hash _ _ _ c.len-buckets.ensures c.base_of-base.ensures))
+    c.requires.arranged.1.in_place (group_is c.args.hash _ _ _ c.len-buckets.ensures c.base_of-base.ensures))
 
 pub returns-in-Some-seek_overflow-clause-cost : goal.returns-in-Some-seek_overflow-clause-cost
 returns-in-Some-seek_overflow-clause-cost g c =
     omega (arith, looked_at c.args.slots.now c.args.cells.now c.args.hash _ c.requires.masked c.requires.whole
-    c.requires.in_place (group_is c.args.hash _ _ _ c.len-buckets.ensures c.base_of-base.ensures))
+    c.requires.arranged.1.in_place (group_is c.args.hash _ _ _ c.len-buckets.ensures c.base_of-base.ensures))
 
 pub returns-in-None-clause-cost : goal.returns-in-None-clause-cost
 returns-in-None-clause-cost g c =
     omega (arith, looked_at c.args.slots.now c.args.cells.now c.args.hash _ c.requires.masked c.requires.whole
-    c.requires.in_place (group_is c.args.hash _ _ _ c.len-buckets.ensures c.base_of-base.ensures))
+    c.requires.arranged.1.in_place (group_is c.args.hash _ _ _ c.len-buckets.ensures c.base_of-base.ensures))

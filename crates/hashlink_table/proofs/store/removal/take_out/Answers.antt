@@ -3,7 +3,8 @@ use Rattle.hashlink_table.specs.declared.store.cell.Cell.{Cell}
 use Rattle.hashlink_table.specs.Chains.{next_at, links_of}
 use Rattle.hashlink_table.proofs.Cells.{kept_at_read}
 use Rattle.hashlink_table.proofs.Linking.{free_small, linked-give}
-use Rattle.hashlink_table.proofs.Chaining.{on_within, on_some, taken-nodes, same_kept}
+use Rattle.hashlink_table.proofs.Chaining.{on_within, on_some, taken-nodes, kept-same}
+use Rattle.hashlink_table.proofs.Moving.{arranged-same, overflow-taken}
 use Rattle.hashlink_table.proofs.store.removal.take_out.Goals as goal
 
 pub known-kept-requires : goal.known-kept-requires
@@ -14,25 +15,27 @@ known-kept-requires g c =
     let now : c.args.cell < length c.unlink.new.cells = omega (arith, old, c.unlink.auto.cells) in
     subst IsSome
     (sym (kept_at_read c.unlink.new.cells c.args.cell c.index-cells-cell.result now
-    ∙ same_kept cells c.unlink.new.cells c.args.cell c.unlink.ensures.nodes old now))
+    ∙ kept-same cells c.unlink.new.cells c.unlink.ensures.nodes c.args.cell))
     (on_some m cells c.args.cell c.args.bucket c.requires.on_chain c.requires.within)
 
 pub set_free-requires : goal.set_free-requires
 set_free-requires g c =
     free_small (links_of c.args.slots.now) (next_at c.args.cells.now) c.args.cells.now c.args.free.now
-    c.requires.linked (omega (arith, c.requires.small))
+    c.requires.arranged.linked (omega (arith, c.requires.small))
 
-pub returns-clause-linked : goal.returns-clause-linked
-returns-clause-linked g c =
+pub returns-clause-arranged : goal.returns-clause-arranged
+returns-clause-arranged g c =
     let C : Type 0 = Cell g.row.N.Denot in
     let cells = c.args.cells.now in let m = length c.args.slots.now in
     let old : c.args.cell < length cells = on_within m cells c.args.cell c.args.bucket c.requires.on_chain
     c.requires.within in
-    linked-give (links_of c.unlink.new.slots) c.unlink.new.cells c.args.free.now c.args.cell
+    arranged-same c.args.slots.now c.unlink.new.slots _ _ c.unlink.ensures.slots c.requires.arranged
+    (linked-give (links_of c.unlink.new.slots) c.unlink.new.cells c.args.free.now c.args.cell
     c.set_free.new.self (omega (arith, old, c.unlink.auto.cells))
     (omega (arith, c.requires.small, c.unlink.auto.cells))
     (ap (λ (d : C). d.next) c.set_free.ensures) (ap (λ (d : C). d.kept) c.set_free.ensures)
-    (c.unlink.ensures.unlinked c.args.free.now c.requires.linked)
+    (c.unlink.ensures.unlinked c.args.free.now c.requires.arranged.linked))
+    (λ b low ne. c.requires.arranged.filled b low (c.unlink.ensures.begun b ne))
 
 pub returns-clause-kept : goal.returns-clause-kept
 returns-clause-kept g c =
@@ -40,7 +43,7 @@ returns-clause-kept g c =
     let old : c.args.cell < length cells = on_within m cells c.args.cell c.args.bucket c.requires.on_chain
     c.requires.within in
     let now : c.args.cell < length c.unlink.new.cells = omega (arith, old, c.unlink.auto.cells) in
-    sym (same_kept cells c.unlink.new.cells c.args.cell c.unlink.ensures.nodes old now)
+    sym (kept-same cells c.unlink.new.cells c.unlink.ensures.nodes c.args.cell)
     ∙ sym (kept_at_read c.unlink.new.cells c.args.cell c.index-cells-cell.result now) ∙ c.known-kept.ensures
 
 pub returns-clause-nodes : goal.returns-clause-nodes
@@ -50,10 +53,11 @@ returns-clause-nodes g c =
     let old : c.args.cell < length cells = on_within m cells c.args.cell c.args.bucket c.requires.on_chain
     c.requires.within in
     let now : c.args.cell < length c.unlink.new.cells = omega (arith, old, c.unlink.auto.cells) in
-    taken-nodes cells c.unlink.new.cells c.args.cell c.set_free.new.self c.known-kept.result
+    overflow-taken c.args.slots.now c.unlink.new.slots _ _ c.known-kept.result c.unlink.ensures.slots
+    (taken-nodes cells c.unlink.new.cells c.args.cell c.set_free.new.self c.known-kept.result
     c.unlink.ensures.nodes now
     (sym (kept_at_read c.unlink.new.cells c.args.cell c.index-cells-cell.result now) ∙ c.known-kept.ensures)
-    (ap (λ (d : C). d.kept) c.set_free.ensures)
+    (ap (λ (d : C). d.kept) c.set_free.ensures))
 
 pub bounds-cells-cell : goal.bounds-cells-cell
 bounds-cells-cell g c =

@@ -2,14 +2,14 @@ use Rattle.std.proofs.Common.{arith}
 use Rattle.hashlink_table.proofs.Views.{can_ask, contains_found, no_cost, search_cost}
 use Rattle.hashlink_table.proofs.store.table.Table.find.Goals as goal
 
-pub seek-requires-clause-linked : goal.seek-requires-clause-linked
-seek-requires-clause-linked g c = rw c.deref.ensures.value (c.self.inside.free, c.self.invariant.linked)
+pub seek-requires-clause-arranged : goal.seek-requires-clause-arranged
+seek-requires-clause-arranged g c = rw c.deref.ensures.value (c.self.inside.free, c.self.invariant.arranged)
 
 pub seek-requires-clause-callable : goal.seek-requires-clause-callable
 seek-requires-clause-callable g c =
     let s = c.self.invariant in
     rw c.deref.ensures.value (can_ask s c.self.view_is c.args.hash _ c.requires.callable
-    (omega (arith, c.if-self-eq0.false, s.held, s.headed)))
+    (omega (arith, c.if-self-eq0.false, s.held, s.sizes.headed)))
 
 pub seek-requires-clause-telling : goal.seek-requires-clause-telling
 seek-requires-clause-telling g c =
@@ -23,7 +23,7 @@ returns-in-None-clause-none g c =
 pub returns-in-None-clause-cost : goal.returns-in-None-clause-cost
 returns-in-None-clause-cost g c =
     let s = c.self.invariant in
-    search_cost s c.self.view_is c.args.hash _ _ (omega (arith, c.if-self-eq0.false, s.held, s.headed))
+    search_cost s c.self.view_is c.args.hash _ _ (omega (arith, c.if-self-eq0.false, s.held, s.sizes.headed))
     (rw c.deref.ensures.value at c.seek.ensures.cost)
 
 pub returns-clause-found : goal.returns-clause-found
@@ -34,7 +34,7 @@ returns-clause-found g c =
 pub returns-clause-cost : goal.returns-clause-cost
 returns-clause-cost g c =
     let s = c.self.invariant in
-    search_cost s c.self.view_is c.args.hash _ _ (omega (arith, c.if-self-eq0.false, s.held, s.headed))
+    search_cost s c.self.view_is c.args.hash _ _ (omega (arith, c.if-self-eq0.false, s.held, s.sizes.headed))
     (rw c.deref.ensures.value at c.seek.ensures.cost)
 
 pub returns-then-self-eq0-clause-cost : goal.returns-then-self-eq0-clause-cost

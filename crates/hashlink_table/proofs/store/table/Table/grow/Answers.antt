@@ -37,12 +37,12 @@ invariant_of-self-in_err-chained g c =
       arith,
       failed.least,
       exact,
-      s.reserved,
+      s.sizes.reserved,
       c.requires.more,
       ap (λ (u : Contents g.row.N.Denot). u.room) c.self.view_is,
     ))
-    (omega (arith, failed.most, exact, s.spare, s.bounded, c.requires.headed, twice, c.len-now.ensures))
-    (λ e. absurd (omega (arith, (s.none e).0, c.requires.some, c.requires.headed, twice, c.len-now.ensures)))
+    (omega (arith, failed.most, exact, s.sizes.spare, s.sizes.bounded, c.requires.headed, twice, c.len-now.ensures))
+    (λ e. absurd (omega (arith, (s.sizes.none e).0, c.requires.some, c.requires.headed, twice, c.len-now.ensures)))
 
 pub invariant_of-self-2 : goal.invariant_of-self-2
 invariant_of-self-2 g c =
@@ -52,13 +52,22 @@ invariant_of-self-2 g c =
       | then-buckets-now w ↦ eqb-true _ _ (not-false _ (sym w.value-is ∙ c.if-buckets-now-2.false))
       | else-buckets-now w ↦ absurd (c.if-buckets-now-3.false w.if-buckets-now.false)
     ] in
-    sound-doubled new.slots new.cells.items taken.items c.args.buckets _ _ c.args.room c.self.invariant
-    c.requires.power c.requires.whole (omega (arith, c.if-buckets-gt-MAX_BUCKETS.false)) c.requires.bounded
-    (omega (arith, c.requires.more, ap (λ (u : Contents g.row.N.Denot). u.room) c.self.view_is))
-    c.requires.some
-    c.requires.headed (omega (arith, doubled.moved, c.in_ok-block.ensures.exact))
-    (omega (arith, twice, doubled.len, c.len-now.ensures)) doubled.linked doubled.in_place doubled.filled
-    doubled.no_overflow (omega (arith, c.len.ensures, taken.ok.0)) doubled.nodes
+    let room = ap (λ (u : Contents g.row.N.Denot). u.room) c.self.view_is in
+    let exact = c.in_ok-block.ensures.exact in
+    let size : length new.slots ≡ c.args.buckets = omega (arith, twice, doubled.len, c.len-now.ensures) in
+    sound-doubled new.slots new.cells.items taken.items _ _ c.args.room c.self.invariant
+    (record {
+      headed = omega (arith, c.requires.headed, size);
+      bounded = omega (arith, c.requires.bounded, size);
+      reserved = omega (arith, doubled.moved, exact);
+      spare = omega (arith, doubled.moved, exact);
+      none = λ e. absurd (omega (arith, c.requires.some, e));
+      small = omega (arith, c.if-buckets-gt-MAX_BUCKETS.false, size);
+      masked = λ _. rw size c.requires.power;
+      whole = rw size c.requires.whole;
+    })
+    (omega (arith, c.requires.more, room)) doubled.arranged doubled.no_overflow
+    (omega (arith, c.len.ensures, taken.ok.0)) doubled.nodes
 
 pub insert_all-requires : goal.insert_all-requires
 insert_all-requires g c =

@@ -9,14 +9,14 @@ use Rattle.hashlink_table.proofs.Sound.{sound-take}
 use Rattle.hashlink_table.proofs.Views.{can_ask, no_cost, search_cost}
 use Rattle.hashlink_table.proofs.store.table.Table.remove_counted.Goals as goal
 
-pub seek-requires-clause-linked : goal.seek-requires-clause-linked
-seek-requires-clause-linked g c = rw c.deref.ensures.value (c.self.inside.free, c.self.invariant.linked)
+pub seek-requires-clause-arranged : goal.seek-requires-clause-arranged
+seek-requires-clause-arranged g c = rw c.deref.ensures.value (c.self.inside.free, c.self.invariant.arranged)
 
 pub seek-requires-clause-callable : goal.seek-requires-clause-callable
 seek-requires-clause-callable g c =
     let s = c.self.invariant in
     rw c.deref.ensures.value (can_ask s c.self.view_is c.args.hash _ c.requires.callable
-    (omega (arith, c.if-self-eq0.false, s.held, s.headed)))
+    (omega (arith, c.if-self-eq0.false, s.held, s.sizes.headed)))
 
 pub seek-requires-clause-telling : goal.seek-requires-clause-telling
 seek-requires-clause-telling g c =
@@ -30,11 +30,11 @@ returns-in-None-clause-none g c =
 pub returns-in-None-clause-cost : goal.returns-in-None-clause-cost
 returns-in-None-clause-cost g c =
     let s = c.self.invariant in
-    search_cost s c.self.view_is c.args.hash _ _ (omega (arith, c.if-self-eq0.false, s.held, s.headed))
+    search_cost s c.self.view_is c.args.hash _ _ (omega (arith, c.if-self-eq0.false, s.held, s.sizes.headed))
     (rw c.deref.ensures.value at c.seek.ensures.cost)
 
-pub take-kept-requires-clause-linked : goal.take-kept-requires-clause-linked
-take-kept-requires-clause-linked g c = rw c.deref_mut.ensures.value c.self.invariant.linked
+pub take-kept-requires-clause-arranged : goal.take-kept-requires-clause-arranged
+take-kept-requires-clause-arranged g c = rw c.deref_mut.ensures.value c.self.invariant.arranged
 
 pub invariant_of-self : goal.invariant_of-self
 invariant_of-self g c =
@@ -42,7 +42,7 @@ invariant_of-self g c =
     let cells = taken.auto.cells ∙ ap length c.deref_mut.ensures.value in
     rw (with_items_is t.overflow taken.new.cells (cells ∙ sym t.overflow.ok.0))
     (sound-take taken.new.slots taken.new.cells taken.new.free taken.result c.self.invariant taken.ensures.len
-    cells taken.ensures.linked taken.ensures.in_place taken.ensures.filled
+    cells taken.ensures.arranged
     (rw c.deref_mut.ensures.value at taken.ensures.nodes))
 
 pub returns-clause-removed : goal.returns-clause-removed
@@ -66,7 +66,7 @@ returns-clause-removed g c =
 pub returns-clause-cost : goal.returns-clause-cost
 returns-clause-cost g c =
     let s = c.self.invariant in
-    search_cost s c.self.view_is c.args.hash _ _ (omega (arith, c.if-self-eq0.false, s.held, s.headed))
+    search_cost s c.self.view_is c.args.hash _ _ (omega (arith, c.if-self-eq0.false, s.held, s.sizes.headed))
     (rw c.deref.ensures.value at c.seek.ensures.cost)
 
 pub returns-then-self-eq0-clause-cost : goal.returns-then-self-eq0-clause-cost
