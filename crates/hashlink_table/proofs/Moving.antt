@@ -16,7 +16,7 @@ use Rattle.hashlink_table.specs.Chains.{AreGrouped, AreTaken, IsArranged, IsLink
 use Rattle.hashlink_table.specs.Stored.{bare_cell}
 use Rattle.hashlink_table.specs.Slots.{with_next}
 use Rattle.hashlink_table.proofs.Cells.{kept_at-set, kept_at-set_other, next_at-set_other, within_by_kept}
-use Rattle.hashlink_table.proofs.Chaining.{length-links, link_read, kept-same}
+use Rattle.hashlink_table.proofs.Chaining.{kept-same}
 use Rattle.hashlink_table.proofs.Nodes.{nodes_in-set, nodes_in-same}
 use Rattle.hashlink_table.proofs.Walks.{walk_of, walk_at}
 
@@ -31,7 +31,7 @@ module _ {N : Type 0} where
 
   -- the slots keep their nodes, and a chain begins where the group is full
   pub arranged-same : (f g : List (Cell N)) {cells : List (Cell N)} {free : ℕ} (later : List (Cell N)) (now : ℕ)
-      → SameNodes f g → IsArranged f cells free → IsLinked (links_of g) later now
+      → SameNodes f g → IsArranged f cells free → IsLinked g later now
       → ((b : ℕ) → b < length f → next_at g b ≢ END → AreTaken f (b - b % 16))
       → IsArranged g later now
   arranged-same f g later now same a linked full =
@@ -54,7 +54,7 @@ module _ {N : Type 0} where
       let links : links_of (set f i d) ≡ links_of f
       = map-set_same (λ (c : Cell N). c.next) f i d bare_cell next in
       record {
-        linked = subst (λ ls. IsLinked ls cells free) (sym links) a.linked;
+        linked = rw (links, n) a.linked;
         in_place = λ at k is. rw n (elim (cases_eq at i) as (λ _. AreGrouped (k.hash % length f) at) [
           | inl e ↦ subst (AreGrouped (k.hash % length f)) (sym e)
               (grouped k (sym (kept_at-set f i d low) ∙ ap (kept_at (set f i d)) (sym e) ∙ is))
@@ -88,15 +88,12 @@ module _ {N : Type 0} where
       with_more (Some k) ks = refl
 
   -- the link of a slot leads to a cell of the bucket, or to the end
-  pub follower_on : (slots cells : List (Cell N)) (free b at : ℕ) → IsLinked (links_of slots) cells free
+  pub follower_on : (slots cells : List (Cell N)) (free b at : ℕ) → IsLinked slots cells free
       → b < length slots → next_at slots b ≡ at → at ≢ END
       → chain_at (length slots) cells at ≡ b
   follower_on slots cells free b at t low is ne =
-      let n = length-links slots in
-      let w = walk_of (links_of slots) cells free b t (omega (arith, low, n)) in
-      let start : get_or (links_of slots) b END ≡ at = link_read slots b low ∙ is in
-      ap (λ m. chain_at m cells at) (sym n) ∙ ap (chain_at (length (links_of slots)) cells) (sym start)
-      ∙ walk_at w.0 (λ e. ne (sym start ∙ e))
+      let w = walk_of slots cells free b t low in
+      ap (chain_at (length slots) cells) (sym is) ∙ walk_at w.0 (λ e. ne (sym is ∙ e))
 
   -- all nodes, where one left an overflow cell or came into one
   pub overflow-taken : (slots later : List (Cell N)) (ks js : List (Hashed N)) (k : Hashed N)

@@ -16,7 +16,7 @@ use Rattle.hashlink_table.specs.Chains.{contents, AreSizes, IsArranged, IsFilled
 use Rattle.hashlink_table.specs.Stored.{bare_cell}
 use Rattle.hashlink_table.specs.Contents.{Contents}
 use Rattle.hashlink_table.proofs.Cells.{chain_at_within}
-use Rattle.hashlink_table.proofs.Chaining.{length-links, link_read}
+use Rattle.hashlink_table.proofs.Linking.{bucket_start, free_start, length-starts}
 use Rattle.hashlink_table.proofs.Nodes.{nodes_in-full, nodes_in-bare, two_nodes}
 use Rattle.hashlink_table.proofs.Walks.{walk_of, walk_goes}
 
@@ -42,36 +42,34 @@ bare_read N (suc n) (suc i) = bare_read N n i
 module _ {N : Type 0} where
   -- no bucket has a chain: no link leads anywhere, and each cell may be free
   pub linked-none : (slots : List (Cell N)) → ((b : ℕ) → next_at slots b ≡ END)
-      → IsLinked {N = N} (links_of slots) [] END
+      → IsLinked {N = N} slots [] END
   linked-none slots none b h =
-      let heads = links_of slots in
-      let first : get_or (heads ++ END ∷ []) b END ≡ END
-      = elim (cases_lt b (length heads)) as (λ _. get_or (heads ++ END ∷ []) b END ≡ END) [
-        | inl low ↦ get_or_append_left heads (END ∷ []) END b low
-            ∙ get_or-map (λ (c : Cell N). c.next) slots b bare_cell ∙ none b
-        | inr high ↦ get_or_at heads END [] END b (omega (arith, high, h, length_push heads END))
-      ] in
+      let n = length-starts slots END in
       record {
         path = [];
-        linked = first;
+        linked =
+            elim (cases_lt b (length slots)) as (λ _. get_or (links_of slots ++ END ∷ []) b END ≡ END) [
+              | inl low ↦ bucket_start slots END b low ∙ none b
+              | inr high ↦
+                  ap (λ i. get_or (links_of slots ++ END ∷ []) i END) (omega (arith, high, h, n))
+                  ∙ free_start slots END
+            ];
         inside = λ i m. absurd m;
-        whole = λ i e. absurd (omega (arith, e, h, length_push heads END));
+        whole = λ i e. absurd (omega (arith, e, h, n));
       }
 
   pub filled-none : (slots : List (Cell N)) → ((b : ℕ) → next_at slots b ≡ END) → IsFilled slots
   filled-none slots none b low ne = absurd (ne (none b))
 
   -- where no cell is free, each has a node
-  all_taken : (heads : List ℕ) (cells : List (Cell N)) (free : ℕ) → IsLinked heads cells free
-      → free ≡ END → (i : ℕ)
+  all_taken : (slots cells : List (Cell N)) (free : ℕ) → IsLinked slots cells free → free ≡ END → (i : ℕ)
       → i < length cells
       → is_some (kept_at cells i) ≡ true
-  all_taken heads cells free linked e i h =
-      let c = linked (length heads) (omega (arith, length_push heads free)) in
-      let first = get_or_at heads free [] END (length heads) refl in
+  all_taken slots cells free linked e i h =
+      let c = linked (length slots) (omega (arith, length-starts slots free)) in
       let free_chain : kept_at cells i ≡ None → ⊥ = λ none.
-      none_from_end (next_at cells) _ c.path c.linked (first ∙ e) i
-      (c.whole i (chain_at_within (length heads) cells i h ∙ ap (chain_of (length heads)) none)) in
+      none_from_end (next_at cells) _ c.path c.linked (free_start slots free ∙ e) i
+      (c.whole i (chain_at_within (length slots) cells i h ∙ ap (chain_of (length slots)) none)) in
       elim (kept_at cells i) as (λ k. (k ≡ None → ⊥) → is_some k ≡ true) [
         | None ↦ λ no. absurd (no refl)
         | Some k ↦ λ no. refl
@@ -86,7 +84,7 @@ module _ {N : Type 0} where
         arith,
         s.counted,
         length-append (nodes_in slots) (nodes_in overflow),
-        nodes_in-full overflow (all_taken (links_of slots) overflow free s.arranged.linked e),
+        nodes_in-full overflow (all_taken slots overflow free s.arranged.linked e),
       )
 
   -- and if there is one, two nodes at least have a slot: its bucket has a chain, so its group is full
@@ -94,17 +92,16 @@ module _ {N : Type 0} where
       → IsSound slots overflow capacity free len room → free ≡ END → 0 < length overflow
       → length overflow + 2 ≤ len
   full_group {slots} {overflow} {free = free} s e some =
-      let heads = links_of slots in
-      let taken = all_taken heads overflow free s.arranged.linked e in
+      let m = length slots in
+      let taken = all_taken slots overflow free s.arranged.linked e in
       let all = nodes_in-full overflow taken in
       let both = length-append (nodes_in slots) (nodes_in overflow) in
       let first = of_kept (kept_at overflow 0) (taken 0 some) in
-      let n = length-links slots in
-      let b = first.0.hash % length heads in
-      let low : b < length slots = omega (arith, n, s.counted, s.held, s.sizes.headed, all, both, some) in
-      let on = chain_at_within (length heads) overflow 0 some ∙ ap (chain_of (length heads)) first.1 in
-      let w = walk_of heads overflow free b s.arranged.linked (omega (arith, low, n)) in
-      let full = s.arranged.filled b low (λ end. walk_goes w.0 0 (w.1 0 on) (link_read slots b low ∙ end)) in
+      let b = first.0.hash % m in
+      let low : b < m = omega (arith, s.counted, s.held, s.sizes.headed, all, both, some) in
+      let on = chain_at_within m overflow 0 some ∙ ap (chain_of m) first.1 in
+      let w = walk_of slots overflow free b s.arranged.linked low in
+      let full = s.arranged.filled b low (walk_goes w.0 0 (w.1 0 on)) in
       let base = b - b % 16 in
       let two = two_nodes slots base (base + 1) (omega arith) (full base (omega arith) (omega arith))
       (full (base + 1) (omega arith) (omega arith)) in

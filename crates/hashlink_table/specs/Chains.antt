@@ -70,17 +70,17 @@ abbrev pub IsThreaded : List ℕ → (ℕ → ℕ) → (ℕ → ℕ) → Type 0
 IsThreaded starts next chain =
     (b : ℕ) → b < length starts → IsChain next chain (slice_index_or starts b END) b
 
--- the heads start the buckets' chains, and `free` the chain of the free cells
-abbrev pub IsLinked : {N : Type 0} → List ℕ → List (Cell N) → ℕ → Type 0
-IsLinked heads cells free =
-    IsThreaded (heads ++ free ∷ []) (next_at cells) (chain_at (length heads) cells)
+-- the links of the slots start the buckets' chains, and `free` the chain of the free cells
+abbrev pub IsLinked : {N : Type 0} → List (Cell N) → List (Cell N) → ℕ → Type 0
+IsLinked slots cells free =
+    IsThreaded (links_of slots ++ free ∷ []) (next_at cells) (chain_at (length slots) cells)
 
 -- the same, but that the cell i is on no chain, whatever else is said of it
-abbrev pub IsLinkedBut : {N : Type 0} → List ℕ → List (Cell N) → ℕ → ℕ → Type 0
-IsLinkedBut heads cells free i =
-    (now : ℕ → ℕ) → ((b : ℕ) → b < length heads + 1 → now i ≢ b)
-    → ((j : ℕ) → j ≢ i → now j ≡ chain_at (length heads) cells j)
-    → IsThreaded (heads ++ free ∷ []) (next_at cells) now
+abbrev pub IsLinkedBut : {N : Type 0} → List (Cell N) → List (Cell N) → ℕ → ℕ → Type 0
+IsLinkedBut slots cells free i =
+    (now : ℕ → ℕ) → ((b : ℕ) → b < length slots + 1 → now i ≢ b)
+    → ((j : ℕ) → j ≢ i → now j ≡ chain_at (length slots) cells j)
+    → IsThreaded (links_of slots ++ free ∷ []) (next_at cells) now
 
 -- each cell keeps its node and the hash that it stores
 abbrev pub SameNodes : {N : Type 0} → List (Cell N) → List (Cell N) → Type 0
@@ -112,7 +112,7 @@ IsFilled slots =
 
 -- the nodes are where a search looks for them
 pub record IsArranged {N : Type 0} (slots overflow : List (Cell N)) (free : ℕ) : Type 0 where
-  pub linked : IsLinked (links_of slots) overflow free
+  pub linked : IsLinked slots overflow free
   pub in_place : IsInPlace slots
   pub filled : IsFilled slots
 

@@ -5,7 +5,7 @@ ghost use Rattle.std.specs.Int.{IsPowerOfTwo};
 ghost use Rattle.hashlink_table.specs.declared.hashed.Hashed.{Hashed};
 ghost use Rattle.hashlink_table.specs.Stored.{tag_of};
 ghost use Rattle.hashlink_table.specs.Slots.{lanes_of, may_be};
-ghost use Rattle.hashlink_table.specs.Chains.{chain_of, kept_at, kept_by, links_of, nodes_in};
+ghost use Rattle.hashlink_table.specs.Chains.{chain_of, kept_at, kept_by, nodes_in};
 ghost use Rattle.hashlink_table.specs.Chains.{IsArranged, IsLinked};
 
 use super::steps::Steps;
@@ -69,7 +69,7 @@ fn seek_overflow<N: Copy, F: Fn(N) -> bool, L: Ledger>(
 ) -> Option<(usize, N)>
     requires masked { IsPowerOfTwo (length slots.now) }
     requires bucket { bucket ≡ hash % length slots.now }
-    requires linked { (free : ℕ) × IsLinked (links_of slots.now) cells.now free }
+    requires linked { (free : ℕ) × IsLinked slots.now cells.now free }
     requires callable { (cell : ℕ) (node : N) → kept_at cells.now cell ≡ Some
         (record { hash = hash; node = node })
         → F.pre is_match.now node }

@@ -4,7 +4,7 @@ ghost use Rattle.std.specs.Prelude.{IfNone, IfSome, IsPermutation, IsSome, Some}
 ghost use Rattle.std.specs.Prelude.{length};
 ghost use Rattle.std.specs.Int.{IsPowerOfTwo};
 ghost use Rattle.hashlink_table.specs.declared.store.spot.Spot.TheVariants.{Overflow};
-ghost use Rattle.hashlink_table.specs.Chains.{chain_at, kept_at, kept_by, links_of, next_at};
+ghost use Rattle.hashlink_table.specs.Chains.{chain_at, kept_at, kept_by, next_at};
 ghost use Rattle.hashlink_table.specs.Chains.{nodes_in, IsArranged, IsFilled, IsLinked, IsLinkedBut};
 ghost use Rattle.hashlink_table.specs.Chains.{SameNodes};
 
@@ -19,10 +19,10 @@ use crate::hashed::Hashed;
 fn unlink<N: Copy>(slots: &mut Slots<N>, cells: &mut [Stored<N>], bucket: usize, cell: usize)
     requires within { bucket < length slots.old }
     requires on_chain { chain_at (length slots.old) cells.old cell ≡ bucket }
-    requires linked { (free : ℕ) × IsLinked (links_of slots.old) cells.old free }
+    requires linked { (free : ℕ) × IsLinked slots.old cells.old free }
     requires small { length cells.old < END }
-    ensures unlinked { (free : ℕ) → IsLinked (links_of slots.old) cells.old free
-        → IsLinkedBut (links_of slots.new) cells.new free cell }
+    ensures unlinked { (free : ℕ) → IsLinked slots.old cells.old free
+        → IsLinkedBut slots.new cells.new free cell }
     ensures slots { SameNodes slots.old slots.new }
     ensures begun { (b : ℕ) → next_at slots.new b ≢ END → next_at slots.old b ≢ END }
     ensures nodes { SameNodes cells.old cells.new }

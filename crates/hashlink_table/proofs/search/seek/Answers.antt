@@ -1,11 +1,10 @@
 use Rattle.std.proofs.Common.{ℕ, ◌+◌, ◌-◌, ◌%◌, ◌<◌, ◌≤◌, ◌≡◌, List, length, Some, refl, sym, ap, ◌∙◌, arith}
 use Rattle.std.proofs.lemmas.Bool.{eq-eqb, eqb-true}
-use Rattle.hashlink_table.specs.Chains.{chain_at, chain_of, kept_at, links_of, IsInPlace}
+use Rattle.hashlink_table.specs.Chains.{chain_at, chain_of, kept_at, IsInPlace}
 use Rattle.hashlink_table.specs.declared.store.cell.Cell.{Cell}
 use Rattle.hashlink_table.specs.declared.store.spot.Spot.TheVariants.{Slot, Overflow}
 use Rattle.hashlink_table.specs.Stored.{tag_of}
 use Rattle.hashlink_table.proofs.Cells.{chain_at_within}
-use Rattle.hashlink_table.proofs.Chaining.{length-links, link_read}
 use Rattle.hashlink_table.proofs.Groups.{from_base, group_within, grouped_in, to_base}
 use Rattle.hashlink_table.proofs.Linking.{positive_by_power}
 use Rattle.hashlink_table.proofs.Masks.{no_chain}
@@ -66,22 +65,17 @@ returns-then-free-ne0-clause-none g c =
     c.base_of-base.ensures c.in_default.ensures.none)
     (λ cell node is.
     let slots = c.args.slots.now in let cells = c.args.cells.now in
-    let heads = links_of slots in
-    let n = length-links slots in
-    let b = c.args.hash % length heads in
-    let some = positive_by_power (length slots) c.requires.masked in
-    let low : b < length heads = omega (arith, n, some) in
-    let bucket : b ≡ c.args.hash % length slots = ap (λ m. c.args.hash % m) n in
-    let base = group_is c.args.hash _ _ _ c.len-buckets.ensures c.base_of-base.ensures
-    ∙ ap (λ k. k - k % 16) (sym bucket) in
-    let room = group_within b (length slots) (omega (arith, low, n)) c.requires.whole in
-    let none = no_chain slots c.base_of-base.result b base (omega (arith, room, base)) c.requires.arranged.1.filled
+    let m = length slots in let b = c.args.hash % m in
+    let some = positive_by_power m c.requires.masked in
+    let low : b < m = omega (arith, some) in
+    let base = group_is c.args.hash _ _ _ c.len-buckets.ensures c.base_of-base.ensures in
+    let none = no_chain slots c.base_of-base.result b base
+    (omega (arith, group_within b m low c.requires.whole, base)) c.requires.arranged.1.filled
     (λ e. c.if-free-ne0.true (c.free.ensures.lanes ∙ e)) in
-    let on : chain_at (length heads) cells cell ≡ b
-    = chain_at_within (length heads) cells cell (within_kept cells cell _ is)
-    ∙ ap (chain_of (length heads)) is in
-    let w = walk_of heads cells c.requires.arranged.0 b c.requires.arranged.1.linked low in
-    absurd (walk_goes w.0 cell (w.1 cell on) (link_read slots b (omega (arith, low, n)) ∙ none)))
+    let on : chain_at m cells cell ≡ b
+    = chain_at_within m cells cell (within_kept cells cell _ is) ∙ ap (chain_of m) is in
+    let w = walk_of slots cells c.requires.arranged.0 b c.requires.arranged.1.linked low in
+    absurd (walk_goes w.0 cell (w.1 cell on) none))
 
 pub returns-in-None-clause-none : goal.returns-in-None-clause-none
 returns-in-None-clause-none g c =

@@ -2,7 +2,7 @@ use Rattle.std.proofs.Common.{◌-◌, ◌%◌, length, refl, ap, ◌∙◌, inl
 use Rattle.std.proofs.lemmas.Bool.{cases_eq}
 use Rattle.std.proofs.lemmas.List.{length_push}
 use Rattle.hashlink_table.specs.declared.store.cell.Cell.{Cell}
-use Rattle.hashlink_table.specs.Chains.{links_of, AreTaken}
+use Rattle.hashlink_table.specs.Chains.{AreTaken}
 use Rattle.hashlink_table.specs.Slots.{with_next}
 use Rattle.hashlink_table.proofs.Chaining.{chained, chained-nodes, free_within}
 use Rattle.hashlink_table.proofs.Moving.{arranged-same, next-same, next-others, overflow-put}
@@ -12,7 +12,7 @@ pub place-at-requires-clause-within : goal.place-at-requires-clause-within
 place-at-requires-clause-within g c = λ ne.
     omega (
       arith,
-      free_within (links_of c.args.slots.now) c.args.cells.now.items c.args.free.now c.requires.arranged.linked ne,
+      free_within c.args.slots.now c.args.cells.now.items c.args.free.now c.requires.arranged.linked ne,
       c.args.cells.now.ok.0,
     )
 
@@ -22,7 +22,7 @@ set_next-requires g c = elim c.place-at.ensures.placed [
   | inr p ↦ omega (
     arith,
     p.1,
-    free_within (links_of c.args.slots.now) c.args.cells.now.items c.args.free.now c.requires.arranged.linked p.0,
+    free_within c.args.slots.now c.args.cells.now.items c.args.free.now c.requires.arranged.linked p.0,
     c.requires.small,
     c.args.cells.now.ok.0,
   )
