@@ -3,11 +3,10 @@ use Rattle.std.proofs.Common.{◌≡◌, ◌≢◌, ℕ, ◌%◌, ◌<◌, inl, 
 use Rattle.std.proofs.Common.{Option, Some, None, IsSome, refl, sym, ap, ◌∙◌, subst, arith}
 use Rattle.std.specs.Prelude.{IsPermutation}
 use Rattle.std.proofs.Math.ListN as by_index
-use Rattle.std.proofs.lemmas.List.{get_or-map, length-map, map-set}
 use Rattle.hashlink_table.specs.declared.hashed.Hashed.{Hashed}
 use Rattle.hashlink_table.specs.declared.store.cell.Cell.{Cell}
 use Rattle.hashlink_table.specs.declared.store.cell.TheConstants.{END}
-use Rattle.hashlink_table.specs.Chains.{kept_at, next_at, chain_of, chain_at, links_of, nodes_in, stored_in}
+use Rattle.hashlink_table.specs.Chains.{kept_at, next_at, chain_of, chain_at, nodes_in, stored_in}
 use Rattle.hashlink_table.specs.Chains.{with_node, IsLinked, IsPlaced, SameNodes}
 use Rattle.hashlink_table.specs.Stored.{bare_cell}
 use Rattle.hashlink_table.proofs.Cells.{chain_at_within, within_by_chain}

@@ -1,5 +1,5 @@
 -- The slots are doubled: where each node is then, and that no bucket has a chain.
-use Rattle.std.proofs.Common.{◌≡◌, ℕ, ◌+◌, ◌-◌, ◌*◌, ◌/◌, ◌%◌, ◌<◌, ◌≤◌, ltb, Bool, true, false, cond, inl}
+use Rattle.std.proofs.Common.{◌≡◌, ℕ, ◌+◌, ◌-◌, ◌*◌, ◌/◌, ◌%◌, ◌<◌, ◌≤◌, ◌⊎◌, ltb, Bool, true, false, cond, inl}
 use Rattle.std.proofs.Common.{inr, List, [], ◌∷◌, ◌++◌, length, map, get_or, Option, None, Some, refl, sym}
 use Rattle.std.proofs.Common.{ap, ◌∙◌, subst, arith}
 use Rattle.std.specs.Prelude.{IsPermutation}
@@ -23,31 +23,25 @@ use Rattle.hashlink_table.proofs.Nodes.{nodes_in-append}
 use Rattle.hashlink_table.proofs.Sound.{filled-none, linked-none}
 
 -- a hash's bucket among twice as many: the same, or so many further on
+doubled_bucket : (h m : ℕ) → 0 < m → (h % (2 * m) ≡ h % m) ⊎ (h % (2 * m) ≡ h % m + m)
+doubled_bucket h m some =
+    let split : h % (2 * m) ≡ h / m % 2 * m + h % m = mod-mul h {m = 2} (omega arith) some in
+    elim (cases_lt (h / m % 2) 1) as (λ _. (h % (2 * m) ≡ h % m) ⊎ (h % (2 * m) ≡ h % m + m)) [
+      | inl none ↦
+          let e : h / m % 2 ≡ 0 = omega (arith, none) in
+          inl (omega (arith, split ∙ ap (λ q. q * m + h % m) e))
+      | inr one ↦
+          let e : h / m % 2 ≡ 1 = omega (arith, one) in
+          inr (omega (arith, split ∙ ap (λ q. q * m + h % m) e))
+    ]
+
 bucket_low : (h m : ℕ) → 0 < m → h % (2 * m) < m → h % (2 * m) ≡ h % m
-bucket_low h m some low = elim (cases_lt (h / m % 2) 1) as (λ _. h % (2 * m) ≡ h % m) [
-  | inl none ↦
-      let e : h / m % 2 ≡ 0 = omega (arith, none) in
-      omega (arith, mod-mul h {m = 2} (omega arith) some ∙ ap (λ q. q * m + h % m) e)
-  | inr one ↦
-      let e : h / m % 2 ≡ 1 = omega (arith, one) in
-      absurd (omega (arith, low, mod-mul h {m = 2} (omega arith) some ∙ ap (λ q. q * m + h % m) e))
-]
+bucket_low h m some low = elim (doubled_bucket h m some) as (λ _. h % (2 * m) ≡ h % m)
+    [ inl e ↦ e | inr e ↦ absurd (omega (arith, low, e)) ]
 
 bucket_high : (h m : ℕ) → 0 < m → m ≤ h % (2 * m) → h % (2 * m) ≡ h % m + m
-bucket_high h m some high = elim (cases_lt (h / m % 2) 1) as (λ _. h % (2 * m) ≡ h % m + m) [
-  | inl none ↦
-      let e : h / m % 2 ≡ 0 = omega (arith, none) in
-      absurd (omega (
-        arith,
-        high,
-        mod_below h m some,
-        mod-mul h {m = 2} (omega arith) some
-            ∙ ap (λ q. q * m + h % m) e,
-      ))
-  | inr one ↦
-      let e : h / m % 2 ≡ 1 = omega (arith, one) in
-      omega (arith, mod-mul h {m = 2} (omega arith) some ∙ ap (λ q. q * m + h % m) e)
-]
+bucket_high h m some high = elim (doubled_bucket h m some) as (λ _. h % (2 * m) ≡ h % m + m)
+    [ inl e ↦ absurd (omega (arith, high, e, mod_below h m some)) | inr e ↦ e ]
 
 module _ {N : Type 0} where
   -- a node that stays, and one that moves

@@ -1,6 +1,6 @@
 -- What inserts and removals do to the chains.
 use Rattle.std.proofs.Common.{◌≡◌, ◌≢◌, ℕ, suc, ◌+◌, inl, inr, ◌<◌, ◌≤◌, cond, eqb, List, [], ◌∷◌, ◌++◌}
-use Rattle.std.proofs.Common.{length, get_or, set, None, refl, sym, ap, ◌∙◌, subst, arith}
+use Rattle.std.proofs.Common.{length, get_or, set, None, refl, sym, ap, ◌∙◌, arith}
 use Rattle.std.proofs.lemmas.Bool.{eq-eqb, ne_eqb, cases_eq}
 use Rattle.std.proofs.lemmas.List.{get_or_append_left, get_or_at, get_or-map, length-map, length-set, length_push}
 use Rattle.std.proofs.lemmas.List.{map-set, set-append_left, set_at}
@@ -12,7 +12,7 @@ use Rattle.hashlink_table.specs.Chains.{next_at, chain_of, chain_at, kept_at, li
 use Rattle.hashlink_table.specs.Chains.{IsLinkedBut}
 use Rattle.hashlink_table.specs.Stored.{bare_cell}
 use Rattle.hashlink_table.proofs.Paths.{first_among}
-use Rattle.hashlink_table.proofs.Threads.{IsOff, SameBut, take_first, take_next, put_first}
+use Rattle.hashlink_table.proofs.Threads.{SameBut, take_first, take_next, put_first}
 use Rattle.hashlink_table.proofs.Cells.{next_at-set, next_at-set_other, next_at-push, next_at-push_other}
 use Rattle.hashlink_table.proofs.Cells.{chain_at-set, chain_at-set_other, chain_at-push, chain_at-push_other}
 use Rattle.hashlink_table.proofs.Cells.{chain_at-set_same, off_past, within_by_chain}

@@ -5,7 +5,7 @@ use Rattle.std.proofs.Common.{IsSome, inl, inr, Option, refl, sym, ap, ◌∙◌
 use Rattle.std.specs.Prelude.{is_none}
 use Rattle.std.specs.List.{prefix_len}
 use Rattle.std.proofs.lemmas.Bool.{cases_eq, false≢true, true≢false}
-use Rattle.std.proofs.lemmas.List.{drop-drop, get_or-drop, length-drop}
+use Rattle.std.proofs.lemmas.List.{drop-drop, get_or-drop, length-drop, take_all}
 use Rattle.std.proofs.lemmas.List.Sums.{sum_by-cons}
 use Rattle.std.proofs.lemmas.Simd.{length-chunk, get_or-chunk, trailing_mask_l, none_from_empty_mask}
 use native.Mathlib.Numerals.{one-add}
@@ -86,18 +86,9 @@ module _ {X : Type 0} (p : X → Bool) where
 none_pass : {X : Type 0} (p : X → Bool) (xs : List X) → mask_l (map p xs) ≡ 0 → (k : ℕ) (d : X)
     → k < length xs
     → p (get_or xs k d) ≡ false
-none_pass p [] e k d low = absurd (omega arith)
-none_pass p (x ∷ xs) e zero d low = by (p x) (mask_l (map p xs)) e
-  where
-    by : (b : Bool) (m : ℕ) → cond b 1 0 + 2 * m ≡ 0 → b ≡ false
-    by true m e = absurd (omega (arith, e))
-    by false m e = refl
-none_pass p (x ∷ xs) e (suc k) d low =
-    none_pass p xs (by (p x) (mask_l (map p xs)) e) k d (omega (arith, low))
-  where
-    by : (b : Bool) (m : ℕ) → cond b 1 0 + 2 * m ≡ 0 → m ≡ 0
-    by true m e = absurd (omega (arith, e))
-    by false m e = omega (arith, e)
+none_pass p xs e k d low =
+    none_from_empty_mask p xs 0 (length xs) d (omega arith)
+    (ap (λ ys. mask_l (map p ys)) (take_all (length xs) xs (omega arith)) ∙ e) k (omega arith) (omega (arith, low))
 
 -- the cells of a group from one on
 module _ {N : Type 0} (cells : List (Cell N)) (base : ℕ) where

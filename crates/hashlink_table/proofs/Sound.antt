@@ -4,33 +4,25 @@ use Rattle.std.proofs.Common.{[], ◌∷◌, ◌++◌, length, max, get_or, repl
 use Rattle.std.proofs.Common.{refl, sym, ap, ◌∙◌, arith}
 use Rattle.std.specs.Prelude.{IsPermutation}
 use Rattle.std.proofs.lemmas.Bool.{cases_eq, cases_lt}
-use Rattle.std.proofs.Math.ListN.{get_or-map}
-use Rattle.std.proofs.lemmas.List.{get_or_at, get_or_append_left, length_push, length-append}
+use Rattle.std.proofs.lemmas.List.{length-append}
 use Rattle.std.proofs.lemmas.List.{length-replicate}
 use Rattle.std.proofs.lemmas.List.Sorted.{length_permutation}
 use Rattle.hashlink_table.specs.declared.hashed.Hashed.{Hashed}
 use Rattle.hashlink_table.specs.declared.store.cell.Cell.{Cell}
 use Rattle.hashlink_table.specs.declared.store.cell.TheConstants.{END}
-use Rattle.hashlink_table.specs.Chains.{kept_at, next_at, chain_of, nodes_in, links_of, Among, IsPath}
+use Rattle.hashlink_table.specs.Chains.{kept_at, next_at, chain_of, nodes_in, links_of}
 use Rattle.hashlink_table.specs.Chains.{contents, AreSizes, IsArranged, IsFilled, IsLinked, IsSound}
 use Rattle.hashlink_table.specs.Stored.{bare_cell}
 use Rattle.hashlink_table.specs.Contents.{Contents}
 use Rattle.hashlink_table.proofs.Cells.{chain_at_within}
 use Rattle.hashlink_table.proofs.Linking.{bucket_start, free_start, length-starts}
 use Rattle.hashlink_table.proofs.Nodes.{nodes_in-full, nodes_in-bare, two_nodes}
-use Rattle.hashlink_table.proofs.Walks.{walk_of, walk_goes}
+use Rattle.hashlink_table.proofs.Walks.{begun, walk_of, walk_goes}
 
 -- what a cell with a node has
 of_kept : {N : Type 0} (o : Option (Hashed N)) → is_some o ≡ true → (k : Hashed N) × (o ≡ Some k)
 of_kept None some = absurd (cc some)
 of_kept (Some k) some = (k, refl)
-
--- no path that leads over a cell begins at the end
-none_from_end : (next : ℕ → ℕ) (from : ℕ) (path : List ℕ) → IsPath next from path → from ≡ END → (j : ℕ)
-    → Among path j
-    → ⊥
-none_from_end next from [] linked e j m = m
-none_from_end next from (x ∷ xs) linked e j m = linked.1 (sym linked.0 ∙ e)
 
 -- each bare cell reads as one past the last
 bare_read : (N : Type 0) (n i : ℕ) → (kept_at (replicate n (bare_cell {N = N})) i ≡ None)
@@ -68,8 +60,9 @@ module _ {N : Type 0} where
   all_taken slots cells free linked e i h =
       let c = linked (length slots) (omega (arith, length-starts slots free)) in
       let free_chain : kept_at cells i ≡ None → ⊥ = λ none.
-      none_from_end (next_at cells) _ c.path c.linked (free_start slots free ∙ e) i
-      (c.whole i (chain_at_within (length slots) cells i h ∙ ap (chain_of (length slots)) none)) in
+      begun (next_at cells) _ c.path c.linked i
+      (c.whole i (chain_at_within (length slots) cells i h ∙ ap (chain_of (length slots)) none))
+      (free_start slots free ∙ e) in
       elim (kept_at cells i) as (λ k. (k ≡ None → ⊥) → is_some k ≡ true) [
         | None ↦ λ no. absurd (no refl)
         | Some k ↦ λ no. refl

@@ -148,7 +148,7 @@ module _ {N : Type 0} where
 -- what is stored of a table, seen as v
 module _ {N : Type 0} {slots overflow : List (Cell N)} {capacity free len room : ℕ} {v : Contents N}
     (s : IsSound slots overflow capacity free len room) (view : contents slots overflow room ≡ v) where
-  -- so many buckets it has
+  -- so many buckets it has, and some where it has nodes
   buckets_are : 0 < length slots → AreBuckets v (length slots)
   buckets_are some =
       record {
@@ -156,20 +156,23 @@ module _ {N : Type 0} {slots overflow : List (Cell N)} {capacity free len room :
         roomy = omega (arith, s.sizes.headed, ap (λ (u : Contents N). u.room) view);
       }
 
+  some_buckets : (len ≡ 0 → ⊥) → 0 < length slots
+  some_buckets some = omega (arith, some, s.held, s.sizes.headed)
+
   -- so a search may ask about a node where the hashes agree
-  pub can_ask : (hash : ℕ) (asked : N → Type 0) → CanAsk v hash asked → 0 < length slots → (h : ℕ) (node : N)
+  pub can_ask : (hash : ℕ) (asked : N → Type 0) → CanAsk v hash asked → (len ≡ 0 → ⊥) → (h : ℕ) (node : N)
       → Contains (nodes_in slots ++ nodes_in overflow) (record { hash = h; node = node })
       → h % length slots ≡ hash % length slots
       → asked node
   can_ask hash asked can some h node there agree =
-      can h node (rw (← view) there) (length slots, buckets_are some, agree)
+      can h node (rw (← view) there) (length slots, buckets_are (some_buckets some), agree)
 
   -- what it takes, and what one takes that looks at nothing
-  pub search_cost : (hash before after : ℕ) → 0 < length slots
+  pub search_cost : (hash before after : ℕ) → (len ≡ 0 → ⊥)
       → after ≤ before + count_by (λ k. eqb (k.hash % length slots) (hash % length slots))
       (nodes_in slots ++ nodes_in overflow)
       → (m : ℕ) × AreBuckets v m × (after ≤ before + agreeing v hash m)
-  search_cost hash before after some cost = (length slots, buckets_are some, rw (← view) cost)
+  search_cost hash before after some cost = (length slots, buckets_are (some_buckets some), rw (← view) cost)
 
   pub no_cost : (hash before : ℕ) → (m : ℕ) × AreBuckets v m × (before ≤ before + agreeing v hash m)
   no_cost hash before =

@@ -1,8 +1,8 @@
 -- A walk along a chain: it stays in the chain, and ends.
-use Rattle.std.proofs.Common.{◌≡◌, ◌≢◌, ℕ, zero, suc, ◌+◌, ◌%◌, ◌<◌, ◌≤◌, cond, eqb, IsSome, ◌⊎◌, inl, inr}
+use Rattle.std.proofs.Common.{◌≡◌, ◌≢◌, ℕ, zero, suc, ◌+◌, ◌<◌, ◌≤◌, cond, eqb, IsSome, ◌⊎◌, inl, inr}
 use Rattle.std.proofs.Common.{List, [], ◌∷◌, length, get_or, count_by, refl, sym, ap, ◌∙◌, subst, arith}
 use Rattle.std.proofs.lemmas.Bool.{eq-eqb, ne_eqb}
-use Rattle.std.proofs.lemmas.List.{get_or_append_left, get_or_read, length_push}
+use Rattle.std.proofs.lemmas.List.{get_or_read}
 use Rattle.std.proofs.lemmas.List.Sums.{count_by-le-length}
 use Rattle.hashlink_table.specs.declared.store.cell.Cell.{Cell}
 use Rattle.hashlink_table.specs.declared.store.cell.TheConstants.{END}
@@ -13,7 +13,8 @@ use Rattle.hashlink_table.proofs.Chaining.{on_within, on_some}
 use Rattle.hashlink_table.proofs.Linking.{bucket_start, length-starts}
 use Rattle.hashlink_table.proofs.Cells.{within_by_chain, chain_at_within}
 
-begun : (next : ℕ → ℕ) (at : ℕ) (path : List ℕ) → IsPath next at path → (j : ℕ) → Among path j → at ≢ END
+-- a path that leads over a cell does not begin at the end
+pub begun : (next : ℕ → ℕ) (at : ℕ) (path : List ℕ) → IsPath next at path → (j : ℕ) → Among path j → at ≢ END
 begun next at [] linked j m = absurd m
 begun next at (x ∷ xs) linked j m = λ e. linked.1 (sym linked.0 ∙ e)
 

@@ -1,4 +1,4 @@
-use Rattle.std.proofs.Common.{◌≡◌, ℕ, ◌<◌, ◌%◌, length, false, sym, ap, ◌∙◌, Some, subst, arith}
+use Rattle.std.proofs.Common.{◌≡◌, ℕ, ◌<◌, ◌%◌, length, false, sym, ap, ◌∙◌, Some, subst, arith, rules}
 use Rattle.std.proofs.lemmas.Option.{same_Some}
 use Rattle.std.specs.Int.{IsPowerOfTwo}
 use Rattle.hashlink_table.specs.declared.hashed.Hashed.{Hashed}
@@ -26,13 +26,11 @@ loop-at-init g c =
 
 pub offset_bounds-cells-at : goal.offset_bounds-cells-at
 offset_bounds-cells-at g c =
-    let m = length c.args.slots.now in
-    omega (
-      arith,
-      on_within m c.args.cells.now c.loop-at.at c.args.bucket
-          (walk_at c.loop-at.invariant.walk c.loop-at-test.true)
-          (low m _ _ c.requires.masked c.requires.bucket),
-    )
+    let within : c.loop-at.at < length c.args.cells.now
+    = on_within (length c.args.slots.now) c.args.cells.now c.loop-at.at c.args.bucket
+    (walk_at c.loop-at.invariant.walk c.loop-at-test.true)
+    (low _ _ _ c.requires.masked c.requires.bucket) in
+    search rules
 
 pub bounds-cells-at : goal.bounds-cells-at
 bounds-cells-at g c =

@@ -1,15 +1,13 @@
-use Rattle.std.proofs.Common.{◌≡◌, ℕ, ◌+◌, ◌-◌, ◌≤◌, true, false, inl, inr, List, length, map, drop, Option}
+use Rattle.std.proofs.Common.{◌≡◌, ℕ, ◌+◌, true, false, inl, inr, Option}
 use Rattle.std.proofs.Common.{None, Some, IsSome, refl, sym, ap, ◌∙◌, subst, arith}
 use Rattle.std.specs.Prelude.{IfSome}
 use Rattle.std.proofs.lemmas.Bool.{cases_eq, cases_lt, eq-eqb, eqb-true, true≢false, false≢true}
 use Rattle.std.proofs.lemmas.Option.{same_Some}
 use lib.Count.{count_trailing_zeros}
-use lib.Lanes.{mask_l}
 use Rattle.hashlink_table.specs.declared.hashed.Hashed.{Hashed}
-use Rattle.hashlink_table.specs.declared.store.cell.Cell.{Cell}
 use Rattle.hashlink_table.specs.Chains.{kept_at}
 use Rattle.hashlink_table.specs.Stored.{tag_of}
-use Rattle.hashlink_table.specs.Slots.{kept_may_be, lanes_of, may_be}
+use Rattle.hashlink_table.specs.Slots.{kept_may_be}
 use Rattle.hashlink_table.proofs.Masks.{hit, no_hit}
 use Rattle.hashlink_table.proofs.search.seek_slots.Goals as goal
 

@@ -1,77 +1,83 @@
-use Rattle.std.proofs.Common.{◌≡◌, ℕ, ◌+◌, ◌-◌, ◌/◌, ◌%◌, ◌<◌, ◌≤◌, inl, inr, length, None, Some, refl, sym, ap, ◌∙◌}
+use Rattle.std.proofs.Common.{◌≡◌, ◌/◌, ◌%◌, ◌<◌, inl, inr, length, None, Some, refl, sym, ap, ◌∙◌}
 use Rattle.std.proofs.Common.{arith}
 use Rattle.std.proofs.lemmas.Option.{same_Some}
 use Rattle.std.proofs.lemmas.List.Sorted.{IsPermutation-trans}
 use Rattle.std.proofs.lemmas.Grind.{common_steps}
 use Rattle.hashlink_table.specs.declared.hashed.Hashed.{Hashed}
-use Rattle.hashlink_table.specs.Chains.{nodes_in, AreGrouped}
+use Rattle.hashlink_table.specs.Chains.{chain_at, nodes_in}
 use Rattle.hashlink_table.proofs.Cells.{within_by_kept}
 use Rattle.hashlink_table.proofs.Chaining.{kept-same, on_hash}
 use Rattle.hashlink_table.proofs.Groups.{group_within, grouped_in}
 use Rattle.hashlink_table.proofs.Moving.{arranged-set, follower_on, same_length, set-nodes}
+use Rattle.hashlink_table.proofs.store.removal.take.Given as given
+use Rattle.hashlink_table.proofs.store.removal.take.Goals.{After-next-next, In-Slot}
 use Rattle.hashlink_table.proofs.store.removal.take.Goals as goal
 
--- a bucket of a cell's group is one of the buckets
-bucket_low : (at base b m : ℕ) → at < m → m % 16 ≡ 0 → base ≡ at - at % 16 → b < base + 16 → b < m
-bucket_low at base b m low whole is to = omega (arith, group_within at m low whole, is, to)
+-- the slot is one of the slots
+low : (g : given.Over) (c : In-Slot g) → c.in-Slot.at < length c.args.slots.now
+low g c = within_by_kept c.args.slots.now c.in-Slot.at (rw c.in-Slot.is at c.requires.there)
 
--- and of the cell's group
-grouped : (at base b : ℕ) → base ≡ at - at % 16 → base ≤ b → b < base + 16 → AreGrouped b at
-grouped at base b is from to = sym (grouped_in at b (omega (arith, is, from)) (omega (arith, is, to)))
+-- the chain of a bucket of its group begins at a cell of the bucket
+module _ (g : given.Over) (c : After-next-next g) where
+  bucket : c.in-Some.chained < length c.args.slots.now
+  bucket =
+      omega (
+        arith,
+        group_within c.in-Slot.at _ (within_by_kept c.args.slots.now c.in-Slot.at
+            (rw c.in-Slot.is at c.requires.there)) c.requires.whole,
+        c.group_of.ensures,
+        c.in-Some.ensures.some.1,
+      )
+
+  on : chain_at (length c.args.slots.now) c.args.cells.now c.next-next.result ≡ c.in-Some.chained
+  on =
+      let is = c.next-next.ensures.value in
+      follower_on c.args.slots.now c.args.cells.now c.args.free.now c.in-Some.chained c.next-next.result
+      c.requires.arranged.linked bucket (sym is) (λ e. c.in-Some.ensures.some.2 (sym is ∙ e))
 
 pub take_out-follower-requires-clause-on_chain : goal.take_out-follower-requires-clause-on_chain
 take_out-follower-requires-clause-on_chain g c =
-    let slots = c.args.slots.now in
-    let low = within_by_kept slots c.in-Slot.at (rw c.in-Slot.is at c.requires.there) in
-    let chained = c.in-Some.ensures.some in
-    follower_on slots c.args.cells.now c.args.free.now c.in-Some.chained _ c.requires.arranged.linked
-    (bucket_low c.in-Slot.at _ c.in-Some.chained _ low c.requires.whole c.group_of.ensures chained.1)
-    (sym c.next-next.ensures.value) (λ e. chained.2 (sym c.next-next.ensures.value ∙ e))
+    on g (goal.at.take_out-follower-requires-clause-on_chain g c).After-next-next
 
 pub returns-in-None-clause-arranged : goal.returns-in-None-clause-arranged
 returns-in-None-clause-arranged g c =
-    let low = within_by_kept c.args.slots.now c.in-Slot.at (rw c.in-Slot.is at c.requires.there) in
     rw c.set_free.ensures
-    (arranged-set c.in-Slot.at _ low refl c.requires.arranged (λ k is. absurd (cc is))
+    (arranged-set c.in-Slot.at _ (low g (goal.at.returns-in-None-clause-arranged g c).In-Slot) refl
+    c.requires.arranged (λ k is. absurd (cc is))
     (inr (λ b from to. c.in-None.ensures.none b (omega (arith, from, c.group_of.ensures))
     (omega (arith, to, c.group_of.ensures)))))
 
 pub returns-in-None-clause-nodes : goal.returns-in-None-clause-nodes
 returns-in-None-clause-nodes g c =
-    let low = within_by_kept c.args.slots.now c.in-Slot.at (rw c.in-Slot.is at c.requires.there) in
     rw c.set_free.ensures
-    (set-nodes c.args.slots.now c.in-Slot.at _ (nodes_in c.args.cells.now) None _ low refl
-    c.known-kept.ensures)
+    (set-nodes c.args.slots.now c.in-Slot.at _ (nodes_in c.args.cells.now) None _
+    (low g (goal.at.returns-in-None-clause-nodes g c).In-Slot) refl c.known-kept.ensures)
 
 pub returns-in-Some-clause-arranged : goal.returns-in-Some-clause-arranged
 returns-in-Some-clause-arranged g c =
     let t = c.take_out-follower in
     let slots = c.args.slots.now in let at = c.in-Slot.at in
-    let low = within_by_kept slots at (rw c.in-Slot.is at c.requires.there) in
-    let chained = c.in-Some.ensures.some in
-    let bucket = bucket_low at _ c.in-Some.chained _ low c.requires.whole c.group_of.ensures chained.1 in
-    let on = follower_on slots c.args.cells.now c.args.free.now c.in-Some.chained c.next-next.result
-    c.requires.arranged.linked bucket (sym c.next-next.ensures.value)
-    (λ e. chained.2 (sym c.next-next.ensures.value ∙ e)) in
-    let hashed = on_hash (length slots) c.args.cells.now c.next-next.result c.in-Some.chained t.result on
-    bucket t.ensures.kept in
+    let here = low g (goal.at.returns-in-Some-clause-arranged g c).In-Slot in
+    let p = (goal.at.returns-in-Some-clause-arranged g c).After-next-next in
+    let chained = c.in-Some.ensures.some in let base = c.group_of.ensures in
+    let hashed = on_hash (length slots) c.args.cells.now c.next-next.result c.in-Some.chained t.result
+    (on g p) (bucket g p) t.ensures.kept in
     let n = same_length slots t.new.slots t.ensures.slots in
     rw c.put.ensures
-    (arranged-set at _ (omega (arith, low, n)) refl t.ensures.arranged
+    (arranged-set at _ (omega (arith, here, n)) refl t.ensures.arranged
     (λ k is. ap (λ b. b / 16) (ap (λ (j : Hashed g.row.N.Denot). j.hash % length t.new.slots)
     (sym (same_Some _ _ is)) ∙ ap (λ m. t.result.hash % m) n ∙ hashed)
-    ∙ grouped at _ c.in-Some.chained c.group_of.ensures chained.0 chained.1)
+    ∙ sym (grouped_in at _ (omega (arith, base, chained.0)) (omega (arith, base, chained.1))))
     (inl refl))
 
 pub returns-in-Some-clause-nodes : goal.returns-in-Some-clause-nodes
 returns-in-Some-clause-nodes g c =
-    let t = c.take_out-follower in
-    let slots = c.args.slots.now in let at = c.in-Slot.at in
-    let low = within_by_kept slots at (rw c.in-Slot.is at c.requires.there) in
+    let t = c.take_out-follower in let at = c.in-Slot.at in let slots = c.args.slots.now in
+    let here = low g (goal.at.returns-in-Some-clause-nodes g c).In-Slot in
     rw c.put.ensures
     (IsPermutation-trans _ _ _ t.ensures.nodes
     (set-nodes t.new.slots at _ (nodes_in t.new.cells) (Some t.result) (Some c.known-kept.result)
-    (omega (arith, low, same_length slots t.new.slots t.ensures.slots)) refl
+    (omega (arith, here, same_length slots t.new.slots t.ensures.slots)) refl
     (kept-same slots t.new.slots t.ensures.slots at ∙ c.known-kept.ensures)))
 
 pub first_chained-requires-clause-within : goal.first_chained-requires-clause-within

@@ -1,4 +1,4 @@
-use Rattle.std.proofs.Common.{◌≡◌, ◌<◌, IsSome, get_or, length, sym, ap, ◌∙◌, subst, arith, rules}
+use Rattle.std.proofs.Common.{◌≡◌, ◌<◌, IsSome, get_or, length, sym, ap, ◌∙◌, subst, arith}
 use Rattle.hashlink_table.specs.declared.store.cell.Cell.{Cell}
 use Rattle.hashlink_table.specs.Chains.{kept_at}
 use Rattle.hashlink_table.proofs.Cells.{kept_at_read}
@@ -65,15 +65,5 @@ returns-clause-nodes g c =
 pub bounds-cells-cell : goal.bounds-cells-cell
 bounds-cells-cell g c = within g (goal.at.bounds-cells-cell g c).After-unlink
 
-pub offset_bounds-cells-cell : goal.offset_bounds-cells-cell
-offset_bounds-cells-cell g c =
-    let now = within g (goal.at.offset_bounds-cells-cell g c).After-unlink in
-    search rules
-
 pub bounds-cells-cell-2 : goal.bounds-cells-cell-2
 bounds-cells-cell-2 g c = within g (goal.at.bounds-cells-cell-2 g c).After-unlink
-
-pub offset_bounds-cells-cell-2 : goal.offset_bounds-cells-cell-2
-offset_bounds-cells-cell-2 g c =
-    let now = within g (goal.at.offset_bounds-cells-cell-2 g c).After-unlink in
-    search rules

@@ -1,4 +1,4 @@
-use Rattle.std.proofs.Common.{◌<◌, length, sym, ap, ◌∙◌, subst, inl, inr, arith, rules}
+use Rattle.std.proofs.Common.{◌<◌, length, sym, ap, ◌∙◌, subst, inl, inr, arith}
 use Rattle.std.proofs.Math.Seq.{map-set_same}
 use Rattle.hashlink_table.specs.declared.store.cell.Cell.{Cell}
 use Rattle.hashlink_table.specs.Chains.{next_at, Among, SameNodes, stored_in}
@@ -112,8 +112,3 @@ returns-clause-nodes g c =
 
 pub bounds-cells-cell : goal.bounds-cells-cell
 bounds-cells-cell g c = within g (goal.at.bounds-cells-cell g c).Start
-
-pub offset_bounds-cells-cell : goal.offset_bounds-cells-cell
-offset_bounds-cells-cell g c =
-    let there = within g (goal.at.offset_bounds-cells-cell g c).Start in
-    search rules

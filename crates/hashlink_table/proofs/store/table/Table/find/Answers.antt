@@ -1,4 +1,3 @@
-use Rattle.std.proofs.Common.{arith}
 use Rattle.hashlink_table.proofs.Views.{can_ask, contains_found, no_cost, search_cost}
 use Rattle.hashlink_table.proofs.store.table.Table.find.Goals as goal
 
@@ -7,9 +6,8 @@ seek-requires-clause-arranged g c = rw c.deref.ensures.value (c.self.inside.free
 
 pub seek-requires-clause-callable : goal.seek-requires-clause-callable
 seek-requires-clause-callable g c =
-    let s = c.self.invariant in
-    rw c.deref.ensures.value (can_ask s c.self.view_is c.args.hash _ c.requires.callable
-    (omega (arith, c.if-self-eq0.false, s.held, s.sizes.headed)))
+    rw c.deref.ensures.value
+    (can_ask c.self.invariant c.self.view_is c.args.hash _ c.requires.callable c.if-self-eq0.false)
 
 pub seek-requires-clause-telling : goal.seek-requires-clause-telling
 seek-requires-clause-telling g c =
@@ -22,8 +20,7 @@ returns-in-None-clause-none g c =
 
 pub returns-in-None-clause-cost : goal.returns-in-None-clause-cost
 returns-in-None-clause-cost g c =
-    let s = c.self.invariant in
-    search_cost s c.self.view_is c.args.hash _ _ (omega (arith, c.if-self-eq0.false, s.held, s.sizes.headed))
+    search_cost c.self.invariant c.self.view_is c.args.hash _ _ c.if-self-eq0.false
     (rw c.deref.ensures.value at c.seek.ensures.cost)
 
 pub returns-clause-found : goal.returns-clause-found
@@ -33,8 +30,7 @@ returns-clause-found g c =
 
 pub returns-clause-cost : goal.returns-clause-cost
 returns-clause-cost g c =
-    let s = c.self.invariant in
-    search_cost s c.self.view_is c.args.hash _ _ (omega (arith, c.if-self-eq0.false, s.held, s.sizes.headed))
+    search_cost c.self.invariant c.self.view_is c.args.hash _ _ c.if-self-eq0.false
     (rw c.deref.ensures.value at c.seek.ensures.cost)
 
 pub returns-then-self-eq0-clause-cost : goal.returns-then-self-eq0-clause-cost

@@ -8,7 +8,8 @@ use Rattle.hashlink_table.specs.Contents.{Contents}
 use Rattle.hashlink_table.specs.Chains.{nodes_in}
 use Rattle.hashlink_table.proofs.Sound.{sound-doubled, sound-moved}
 use Rattle.hashlink_table.proofs.store.table.Table.grow.Goals as goal
-use Rattle.hashlink_table.proofs.store.table.Table.grow.Goals.{then-buckets-now, else-buckets-now}
+use Rattle.hashlink_table.proofs.store.table.Table.grow.Goals.{then-buckets-now, else-buckets-now, After-double}
+use Rattle.hashlink_table.proofs.store.table.Table.grow.Given as given
 
 pub overflow_sub-self : goal.overflow_sub-self
 overflow_sub-self g c =
@@ -22,15 +23,19 @@ overflow_sub-self g c =
       length-append (nodes_in later) taken.items,
     )
 
+-- the buckets are neither as many as before nor of another number
+twice_as_many : (g : given.Over) (c : After-double g) → c.args.buckets ≡ 2 * c.len-now.result
+twice_as_many g c =
+    elim c.if-buckets-now.branch [
+      | then-buckets-now w ↦ eqb-true _ _ (not-false _ (sym w.value-is ∙ c.if-buckets-now-2.false))
+      | else-buckets-now w ↦ absurd (c.if-buckets-now-3.false w.if-buckets-now.false)
+    ]
+
 -- the overflow cells may keep the block that they were moved to
 pub invariant_of-self-in_err-chained : goal.invariant_of-self-in_err-chained
 invariant_of-self-in_err-chained g c =
     let s = c.self.invariant in let failed = c.in_err-chained.ensures in
-    let twice : c.args.buckets ≡ 2 * c.len-now.result =
-    elim c.if-buckets-now.branch [
-      | then-buckets-now w ↦ eqb-true _ _ (not-false _ (sym w.value-is ∙ c.if-buckets-now-2.false))
-      | else-buckets-now w ↦ absurd (c.if-buckets-now-3.false w.if-buckets-now.false)
-    ] in
+    let twice = twice_as_many g (goal.at.invariant_of-self-in_err-chained g c).After-double in
     let exact = c.in_ok-block.ensures.exact in
     sound-moved c.double.new.slots c.double.new.cells.items _ s failed.slots_same failed.cells_same
     (omega (
@@ -47,11 +52,7 @@ invariant_of-self-in_err-chained g c =
 pub invariant_of-self-2 : goal.invariant_of-self-2
 invariant_of-self-2 g c =
     let new = c.double.new in let taken = c.in_ok-chained.chained in let doubled = c.in_ok-chained.ensures in
-    let twice : c.args.buckets ≡ 2 * c.len-now.result =
-    elim c.if-buckets-now.branch [
-      | then-buckets-now w ↦ eqb-true _ _ (not-false _ (sym w.value-is ∙ c.if-buckets-now-2.false))
-      | else-buckets-now w ↦ absurd (c.if-buckets-now-3.false w.if-buckets-now.false)
-    ] in
+    let twice = twice_as_many g (goal.at.invariant_of-self-2 g c).After-double in
     let room = ap (λ (u : Contents g.row.N.Denot). u.room) c.self.view_is in
     let exact = c.in_ok-block.ensures.exact in
     let size : length new.slots ≡ c.args.buckets = omega (arith, twice, doubled.len, c.len-now.ensures) in

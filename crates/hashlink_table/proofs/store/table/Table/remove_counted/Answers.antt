@@ -1,4 +1,4 @@
-use Rattle.std.proofs.Common.{◌∷◌, ◌++◌, true, length, sym, ap, ◌∙◌, subst, arith}
+use Rattle.std.proofs.Common.{◌∷◌, ◌++◌, true, length, sym, ap, ◌∙◌, subst}
 use Rattle.std.specs.Prelude.{IsPermutation}
 use Rattle.std.proofs.lemmas.Option.{same_Some}
 use Rattle.std.proofs.lemmas.List.{with_items_is}
@@ -14,9 +14,8 @@ seek-requires-clause-arranged g c = rw c.deref.ensures.value (c.self.inside.free
 
 pub seek-requires-clause-callable : goal.seek-requires-clause-callable
 seek-requires-clause-callable g c =
-    let s = c.self.invariant in
-    rw c.deref.ensures.value (can_ask s c.self.view_is c.args.hash _ c.requires.callable
-    (omega (arith, c.if-self-eq0.false, s.held, s.sizes.headed)))
+    rw c.deref.ensures.value
+    (can_ask c.self.invariant c.self.view_is c.args.hash _ c.requires.callable c.if-self-eq0.false)
 
 pub seek-requires-clause-telling : goal.seek-requires-clause-telling
 seek-requires-clause-telling g c =
@@ -29,8 +28,7 @@ returns-in-None-clause-none g c =
 
 pub returns-in-None-clause-cost : goal.returns-in-None-clause-cost
 returns-in-None-clause-cost g c =
-    let s = c.self.invariant in
-    search_cost s c.self.view_is c.args.hash _ _ (omega (arith, c.if-self-eq0.false, s.held, s.sizes.headed))
+    search_cost c.self.invariant c.self.view_is c.args.hash _ _ c.if-self-eq0.false
     (rw c.deref.ensures.value at c.seek.ensures.cost)
 
 pub take-kept-requires-clause-arranged : goal.take-kept-requires-clause-arranged
@@ -65,8 +63,7 @@ returns-clause-removed g c =
 
 pub returns-clause-cost : goal.returns-clause-cost
 returns-clause-cost g c =
-    let s = c.self.invariant in
-    search_cost s c.self.view_is c.args.hash _ _ (omega (arith, c.if-self-eq0.false, s.held, s.sizes.headed))
+    search_cost c.self.invariant c.self.view_is c.args.hash _ _ c.if-self-eq0.false
     (rw c.deref.ensures.value at c.seek.ensures.cost)
 
 pub returns-then-self-eq0-clause-cost : goal.returns-then-self-eq0-clause-cost
