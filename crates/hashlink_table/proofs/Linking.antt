@@ -167,4 +167,4 @@ module _ {N : Type 0} where
       take_next (starts slots free) (next_at cells) (next_at (set cells p c)) (chain_at (length slots) cells)
       now p i t leads (next_at-set cells p c within ∙ cut) (next_at-set_other cells p c) ne on
       (λ b h. off b (omega (arith, h, length-starts slots free)))
-      (λ j ne'. same j ne' ∙ chain_at-set_same (length slots) cells p c within alike j)
+      (λ j ne'. same j ne' ∙ chain_at-set_same (length slots) cells p c alike j)

@@ -4,7 +4,6 @@ use Rattle.std.proofs.Common.{replicate, take, drop, true, Option, Some, None, i
 use Rattle.std.proofs.Common.{subst, arith, append_assoc}
 use Rattle.std.specs.Prelude.{Contains, IsPermutation}
 use Rattle.std.proofs.lemmas.List.{get_or_default, take_more, take-append-drop, length-append}
-use Rattle.std.proofs.lemmas.Option.{same_Some}
 use Rattle.std.proofs.lemmas.List.Sorted.{IsPermutation-refl, IsPermutation-trans, IsPermutation-cons}
 use Rattle.std.proofs.lemmas.List.Sorted.{IsPermutation-middle, IsPermutation-to_front}
 use Rattle.hashlink_table.specs.declared.hashed.Hashed.{Hashed}
@@ -159,7 +158,3 @@ module _ {N : Type 0} where
       by rest None is there = let r = rest there in (suc r.0, r.1)
       by rest (Some j) is (zero, h, e) = (zero, is ∙ ap Some e)
       by rest (Some j) is (suc n, h, e) = let r = rest (n, omega arith, e) in (suc r.0, r.1)
-
-  -- a cell has one node
-  pub same_node : (j k : Hashed N) → Some j ≡ Some k → j.node ≡ k.node
-  same_node j k e = ap (λ (m : Hashed N). m.node) (same_Some j k e)

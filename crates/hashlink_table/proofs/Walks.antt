@@ -144,8 +144,7 @@ module _ {N : Type 0} where
       (ne_eqb m b (λ e. omega arith))
       (λ j i. let e = c.inside j i in
       eq-eqb _ b (sym (chain_at_within m cells j (within_by_chain m cells j b e (omega arith))) ∙ e)) in
-      let short = count_by-le-length (λ (d : Cell N). eqb (chain_of m d.kept) b) cells in
-      (
+      let short = count_by-le-length (λ (d : Cell N). eqb (chain_of m d.kept) b) cells in (
         record { path = c.path; linked = path; inside = c.inside; short = omega (arith, few, short) },
         c.whole,
         few,

@@ -86,20 +86,32 @@ returns-in-None-clause-none g c =
 
 pub returns-in-Some-clause-cost : goal.returns-in-Some-clause-cost
 returns-in-Some-clause-cost g c =
-    omega (arith, looked_at c.args.slots.now c.args.cells.now c.args.hash _ c.requires.masked c.requires.whole
-    c.requires.arranged.1.in_place (group_is c.args.hash _ _ _ c.len-buckets.ensures c.base_of-base.ensures))
+    omega (
+      arith,
+      looked_at c.args.slots.now c.args.cells.now c.args.hash _ c.requires.masked c.requires.whole
+          c.requires.arranged.1.in_place (group_is c.args.hash _ _ _ c.len-buckets.ensures c.base_of-base.ensures),
+    )
 
 pub returns-then-free-ne0-clause-cost : goal.returns-then-free-ne0-clause-cost
 returns-then-free-ne0-clause-cost g c =
-    omega (arith, looked_at c.args.slots.now c.args.cells.now c.args.hash _ c.requires.masked c.requires.whole
-    c.requires.arranged.1.in_place (group_is c.args.hash _ _ _ c.len-buckets.ensures c.base_of-base.ensures))
+    omega (
+      arith,
+      looked_at c.args.slots.now c.args.cells.now c.args.hash _ c.requires.masked c.requires.whole
+          c.requires.arranged.1.in_place (group_is c.args.hash _ _ _ c.len-buckets.ensures c.base_of-base.ensures),
+    )
 
 pub returns-in-Some-seek_overflow-clause-cost : goal.returns-in-Some-seek_overflow-clause-cost
 returns-in-Some-seek_overflow-clause-cost g c =
-    omega (arith, looked_at c.args.slots.now c.args.cells.now c.args.hash _ c.requires.masked c.requires.whole
-    c.requires.arranged.1.in_place (group_is c.args.hash _ _ _ c.len-buckets.ensures c.base_of-base.ensures))
+    omega (
+      arith,
+      looked_at c.args.slots.now c.args.cells.now c.args.hash _ c.requires.masked c.requires.whole
+          c.requires.arranged.1.in_place (group_is c.args.hash _ _ _ c.len-buckets.ensures c.base_of-base.ensures),
+    )
 
 pub returns-in-None-clause-cost : goal.returns-in-None-clause-cost
 returns-in-None-clause-cost g c =
-    omega (arith, looked_at c.args.slots.now c.args.cells.now c.args.hash _ c.requires.masked c.requires.whole
-    c.requires.arranged.1.in_place (group_is c.args.hash _ _ _ c.len-buckets.ensures c.base_of-base.ensures))
+    omega (
+      arith,
+      looked_at c.args.slots.now c.args.cells.now c.args.hash _ c.requires.masked c.requires.whole
+          c.requires.arranged.1.in_place (group_is c.args.hash _ _ _ c.len-buckets.ensures c.base_of-base.ensures),
+    )
