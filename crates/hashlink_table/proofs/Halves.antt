@@ -1,10 +1,9 @@
 -- Where the buckets are doubled: a cell in parts, and all cells, one after the other.
-use Rattle.std.proofs.Common.{◌≡◌, ℕ, suc, ◌+◌, ◌-◌, ◌*◌, ◌%◌, ◌<◌, ◌≤◌, ◌⊎◌, inl, inr, Bool, true, false, cond}
+use Rattle.std.proofs.Common.{◌≡◌, ℕ, suc, ◌+◌, ◌-◌, ◌*◌, ◌%◌, ◌<◌, inl, Bool, true, false, cond}
 use Rattle.std.proofs.Common.{ltb, List, [], ◌∷◌, ◌++◌, length, map, take, drop, get_or, set, replicate, Some}
 use Rattle.std.proofs.Common.{Option, None, refl, sym, ap, ◌∙◌, arith, append_assoc}
 use Rattle.std.specs.Int.{IsPowerOfTwo}
 use Rattle.std.proofs.Math.Nat.{pow-succ'}
-use Rattle.std.proofs.lemmas.Bool.{lt-ltb, le-ltb}
 use Rattle.std.proofs.lemmas.List.{append-nil, drop_all, drop_more, get_or_append_left, get_or-append_right}
 use Rattle.std.proofs.lemmas.List.{get_or-drop, get_or-map, length-take-le}
 use Rattle.std.proofs.lemmas.List.{length-append, length-drop, length-map, length-replicate, length-take}
@@ -23,24 +22,14 @@ pub twice_power : (n : ℕ) → IsPowerOfTwo n → IsPowerOfTwo (2 * n)
 twice_power n power = (suc power.0, ap (λ (m : ℕ). 2 * m) power.1 ∙ sym (pow-succ' 2 power.0))
 
 -- the tags of both halves, where the node stays, or goes to the upper one
-abbrev pub IsApart : (count hash tag low high : ℕ) → Type 0
-IsApart count hash tag low high =
-    ((ltb (hash % (2 * count)) count ≡ true) × (low ≡ tag) × (high ≡ 0))
-    ⊎ ((ltb (hash % (2 * count)) count ≡ false) × (low ≡ 0) × (high ≡ tag))
-
-module _ (count hash tag bucket : ℕ) (halves : ℕ × ℕ) (is : bucket ≡ hash % (2 * count)) where
-  pub low_apart : bucket < count → halves ≡ (tag, 0) → IsApart count hash tag halves.0 halves.1
-  low_apart low e =
-      inl (lt-ltb (hash % (2 * count)) count (omega (arith, low, is)), ap (λ h. h.0) e, ap (λ h. h.1) e)
-
-  pub high_apart : count ≤ bucket → halves ≡ (0, tag) → IsApart count hash tag halves.0 halves.1
-  high_apart high e =
-      inr (le-ltb (hash % (2 * count)) count (omega (arith, high, is)), ap (λ h. h.0) e, ap (λ h. h.1) e)
+abbrev pub IsApart : (count hash tag : ℕ) → ℕ × ℕ → Type 0
+IsApart count hash tag tags =
+    (low : Bool) × (ltb (hash % (2 * count)) count ≡ low) × (tags ≡ cond low (tag, 0) (0, tag))
 
 -- one cell is doubled
 module _ {N : Type 0} {ts : List ℕ} {ns : List N} {rs : List Rest} (tagged : IsTagged ts ns rs)
-    (at count : ℕ) (within : at < length (cells_in ts ns rs)) (d : Rest) (low high : ℕ)
-    (parts : IsApart count (get_or rs at d).hash (get_or ts at 0) low high) where
+    (at count : ℕ) (within : at < length (cells_in ts ns rs)) (d : Rest) (tags : ℕ × ℕ)
+    (parts : IsApart count (get_or rs at d).hash (get_or ts at 0) tags) where
   was : Row N
   was = row tagged refl at within
 
@@ -64,8 +53,8 @@ module _ {N : Type 0} {ts : List ℕ} {ns : List N} {rs : List Rest} (tagged : I
   high_if false true is = refl
   high_if b false is = rw is refl
 
-  halves : IsStored (half low) × IsStored (half high) × (low_half count (slot was) ≡ slot (half low))
-      × (high_half count (slot was) ≡ slot (half high))
+  halves : IsStored (half tags.0) × IsStored (half tags.1) × (low_half count (slot was) ≡ slot (half tags.0))
+      × (high_half count (slot was) ≡ slot (half tags.1))
   unfolding was
   halves = by (rw (tag_at tagged refl at within 0, rest_at tagged refl at within d) at parts)
     where
@@ -78,16 +67,14 @@ module _ {N : Type 0} {ts : List ℕ} {ns : List N} {rs : List Rest} (tagged : I
       cell : Option (Hashed N) → Cell N
       cell kept = record { kept = kept; hash = was.rest.hash; next = END }
 
-      by : IsApart count was.rest.hash was.tag low high
-          → IsStored (half low) × IsStored (half high) × (low_half count (slot was) ≡ slot (half low))
-          × (high_half count (slot was) ≡ slot (half high))
-      by (inl h) =
-          rw (h.1, h.2) (full, empty, ap cell (low_if true _ h.0), ap cell (high_if true _ h.0))
-      by (inr h) =
-          rw (h.1, h.2) (empty, full, ap cell (low_if false _ h.0), ap cell (high_if false _ h.0))
+      by : IsApart count was.rest.hash was.tag tags
+          → IsStored (half tags.0) × IsStored (half tags.1) × (low_half count (slot was) ≡ slot (half tags.0))
+          × (high_half count (slot was) ≡ slot (half tags.1))
+      by (true, test, e) = rw e (full, empty, ap cell (low_if true _ test), ap cell (high_if true _ test))
+      by (false, test, e) = rw e (empty, full, ap cell (low_if false _ test), ap cell (high_if false _ test))
 
   pub parted_in : (n : N) → n ≡ get_or ns at n → (r : Rest) → r ≡ record (get_or rs at d) { link = END }
-      → AreCells (set (set ts at low) (at + count) high) (set ns (at + count) n)
+      → AreCells (set (set ts at tags.0) (at + count) tags.1) (set ns (at + count) n)
       (set (set rs at r) (at + count) r) (parted (cells_in ts ns rs) at count)
   unfolding was
   parted_in n at_n r is =
@@ -95,10 +82,10 @@ module _ {N : Type 0} {ts : List ℕ} {ns : List N} {rs : List Rest} (tagged : I
       let rest : r ≡ record was.rest { link = END }
       = is ∙ ap (λ (s : Rest). record s { link = END }) (rest_at tagged refl at within d) in
       let cell : get_or (cells_in ts ns rs) at bare_cell ≡ slot was = cell_at tagged refl at within in
-      let first = written tagged refl at (half low) (set ts at low) ns (set rs at r)
+      let first = written tagged refl at (half tags.0) (set ts at tags.0) ns (set rs at r)
       (low_half count (get_or (cells_in ts ns rs) at bare_cell)) halves.0 refl
       (node_stays tagged refl at within) (ap (set rs at) rest) (ap (low_half count) cell ∙ halves.2) in
-      written first.0 first.1 (at + count) (half high) _ _ _ _ halves.1 refl (ap (set ns (at + count)) node)
+      written first.0 first.1 (at + count) (half tags.1) _ _ _ _ halves.1 refl (ap (set ns (at + count)) node)
       (ap (set (set rs at r) (at + count)) rest) (ap (high_half count) cell ∙ halves.3)
 
 -- the first so many of a list, and then those of another list

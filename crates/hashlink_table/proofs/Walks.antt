@@ -65,8 +65,7 @@ pub walk_goes : {next chain : ℕ → ℕ} {b at most : ℕ} (w : IsWalk next ch
 walk_goes {next} {at = at} w j m = begun next at w.path w.linked j m
 
 -- a walk of a chain that has passed over cells which are not what is sought: where none of those to come is,
--- none of the
--- chain is. It took a step for each cell
+-- none of the chain is. It took a step for each cell
 pub record IsSearch (next chain : ℕ → ℕ) (b at most : ℕ) (IsOther : ℕ → Type 0)
     (all before now : ℕ) : Type 0 where
   pub walk : IsWalk next chain b at most

@@ -1,4 +1,4 @@
-use Rattle.std.proofs.Common.{◌≡◌, ◌*◌, ◌++◌, List, length, sym, ap, ◌∙◌, subst, arith}
+use Rattle.std.proofs.Common.{◌≡◌, ◌+◌, ◌*◌, ◌++◌, List, length, sym, ap, ◌∙◌, subst, arith}
 use Rattle.std.specs.Prelude.{IsPermutation}
 use Rattle.std.proofs.lemmas.Bool.{eqb-true, not-false}
 use Rattle.std.proofs.lemmas.List.{append-nil, length-append}
@@ -8,19 +8,27 @@ use Rattle.hashlink_table.specs.Contents.{Contents}
 use Rattle.hashlink_table.specs.Chains.{nodes_in}
 use Rattle.hashlink_table.proofs.Sound.{sound-doubled, sound-moved}
 use Rattle.hashlink_table.proofs.store.table.Table.grow.Goals as goal
-use Rattle.hashlink_table.proofs.store.table.Table.grow.Goals.{then-buckets-now, else-buckets-now, After-double}
+use Rattle.hashlink_table.proofs.store.table.Table.grow.Goals.{then-buckets-now, else-buckets-now, After-double, In_ok-chained}
 use Rattle.hashlink_table.proofs.store.table.Table.grow.Given as given
+
+-- no node is lost where the buckets double
+counted : (g : given.Over) (c : In_ok-chained g)
+    → length (nodes_in c.double.new.slots) + length c.in_ok-chained.chained.items ≡ c.self.inside.len
+counted g c =
+    omega (
+      arith,
+      c.self.invariant.counted,
+      length_permutation _ _ c.in_ok-chained.ensures.nodes,
+      length-append (nodes_in c.double.new.slots) c.in_ok-chained.chained.items,
+    )
 
 pub overflow_sub-self : goal.overflow_sub-self
 overflow_sub-self g c =
-    let later = c.double.new.slots in let taken = c.in_ok-chained.chained in
     omega (
       arith,
       c.len.ensures,
-      taken.ok.0,
-      c.self.invariant.counted,
-      length_permutation _ _ c.in_ok-chained.ensures.nodes,
-      length-append (nodes_in later) taken.items,
+      c.in_ok-chained.chained.ok.0,
+      counted g (goal.at.overflow_sub-self g c).In_ok-chained,
     )
 
 -- the buckets are neither as many as before nor of another number
@@ -72,18 +80,14 @@ invariant_of-self-2 g c =
 
 pub insert_all-requires : goal.insert_all-requires
 insert_all-requires g c =
-    let later = c.double.new.slots in let taken = c.in_ok-chained.chained in let less =
-    c.double.new.cells.items in
     omega (
       arith,
       c.requires.more,
       ap (λ (u : Contents g.row.N.Denot). u.room) c.self.view_is,
-      c.self.invariant.counted,
       c.self.invariant.held,
       ap length c.deref.ensures.value,
-      length_permutation _ _ c.in_ok-chained.ensures.nodes,
-      length-append (nodes_in later) taken.items,
-      length-append (nodes_in later) (nodes_in less),
+      counted g (goal.at.insert_all-requires g c).In_ok-chained,
+      length-append (nodes_in c.double.new.slots) (nodes_in c.double.new.cells.items),
       ap (λ (cs : List (Cell g.row.N.Denot)). length (nodes_in cs)) c.in_ok-chained.ensures.no_overflow,
     )
 
